@@ -1,0 +1,25 @@
+-- The count of trailing zeros is the place of the least set bit.
+use Rattle.std.proofs.Common.{ap, sym, ◌∙◌, slice_get, arith}
+use Rattle.std.specs.Int.{w64}
+use Rattle.std.proofs.lemmas.Nat.Bits.{bit_at-trailing_zeros}
+use Rattle.hd_mask.specs.Mask.{set_bits}
+use Rattle.hd_mask.proofs.SetBits.{set_bits-zero, first-set_bits}
+use Rattle.hd_mask.proofs.lowest.Goals as goal
+
+pub returns-then-mask-eq0-clause-first : goal.returns-then-mask-eq0-clause-first
+returns-then-mask-eq0-clause-first c =
+    let zero = ap set_bits c.if-mask-eq0.true ∙ set_bits-zero in
+    sym (ap (λ xs. slice_get xs 0) zero)
+
+pub returns-else-mask-eq0-clause-first : goal.returns-else-mask-eq0-clause-first
+returns-else-mask-eq0-clause-first c =
+    let least = bit_at-trailing_zeros w64 c.args.mask (omega arith) (omega arith) in
+    sym (first-set_bits c.args.mask _ least.1 least.2 least.0)
+
+pub returns-else-mask-eq0-clause-set : goal.returns-else-mask-eq0-clause-set
+returns-else-mask-eq0-clause-set c =
+    (bit_at-trailing_zeros w64 c.args.mask (omega arith) (omega arith)).1
+
+pub returns-else-mask-eq0-clause-least : goal.returns-else-mask-eq0-clause-least
+returns-else-mask-eq0-clause-least c =
+    (bit_at-trailing_zeros w64 c.args.mask (omega arith) (omega arith)).2
