@@ -1,0 +1,80 @@
+-- Where the 256 cells of a region hold its objects. The layout is this project's own.
+-- An object takes its identity, the number of its fields with its registration, its value, and its
+-- fields, in this order. A gap is one or several removed objects: a 0, and then its length.
+use Rattle.std.specs.Prelude.{◌≡◌, ◌≢◌, ℕ, zero, suc, ◌+◌, ◌%◌, ◌^◌, ◌<◌, ◌≤◌, if◌then◌else◌, ◌==◌, nat_le, List, [], ◌∷◌, take, drop, slice_index}
+use Rattle.std.specs.FinMap as map
+use Rattle.hd_cells.specs.Object.{Object}
+use Rattle.hd_cells.specs.Region.{Contents}
+
+-- what cell k holds
+abbrev pub cell : List ℕ → ℕ → ℕ
+cell cells k = slice_index cells k
+
+-- the number of fields of the object whose first cell is `at`
+abbrev pub count_at : List ℕ → ℕ → ℕ
+count_at cells at = cell cells (at + 1) % 256
+
+-- the object whose first cell is `at`; 256 is added to the number of fields of a registered one
+unfoldable pub object_in : List ℕ → ℕ → Object
+object_in cells at = record {
+  identity = cell cells at;
+  fields = take (count_at cells at) (drop (at + 3) cells);
+  value = cell cells (at + 2);
+  registered = nat_le 256 (cell cells (at + 1));
+}
+
+-- how many cells are taken by what begins at `at`, which is 0 where nothing was put
+unfoldable pub extent_at : List ℕ → ℕ → ℕ
+extent_at cells at = if cell cells at == 0 then cell cells (at + 1) else count_at cells at + 3
+
+-- the objects from `at` on, each with its offset, among the next n objects and gaps
+unfoldable pub objects_from : ℕ → List ℕ → ℕ → List (ℕ × Object)
+objects_from zero cells at = []
+objects_from (suc n) cells at =
+    let behind = objects_from n cells (at + extent_at cells at) in
+    if cell cells at == 0 then behind else (at, object_in cells at) ∷ behind
+
+-- where the next n objects and gaps from `at` on end; past the last of them nothing is taken
+unfoldable pub end_from : ℕ → List ℕ → ℕ → ℕ
+end_from zero cells at = at
+end_from (suc n) cells at = end_from n cells (at + extent_at cells at)
+
+-- the objects of a region, which has fewer objects and gaps than cells
+abbrev pub objects_of : List ℕ → List (ℕ × Object)
+objects_of cells = objects_from 256 cells 0
+
+-- its fill
+abbrev pub fill_of : List ℕ → ℕ
+fill_of cells = end_from 256 cells 0
+
+-- the region as its callers see it
+abbrev pub contents_of : List ℕ → Contents
+contents_of cells = record { objects = map.from_entries (objects_of cells); fill = fill_of cells }
+
+-- an object lies at `at`; its limit of 61 fields is this project's own
+pub record IsBody (cells : List ℕ) (at : ℕ) : Type 0 where
+  pub identified : cell cells at ≢ 0
+  pub shaped : cell cells (at + 1) < 512
+  pub few_fields : count_at cells at ≤ 61
+  pub addresses : (i : ℕ) → i < count_at cells at → cell cells (at + 3 + i) < 2 ^ 32
+
+-- a gap lies at `at`
+pub record IsGap (cells : List ℕ) (at : ℕ) : Type 0 where
+  pub unnamed : cell cells at ≡ 0
+  pub long : 3 ≤ cell cells (at + 1)
+
+-- objects and gaps follow one another from an offset up to `stop`, and these are the objects
+pub data IsTiled (cells : List ℕ) (stop : ℕ) : ℕ → List (ℕ × Object) → Type 0 where
+  ended : IsTiled cells stop stop []
+  gap : {at : ℕ} {os : List (ℕ × Object)} → IsGap cells at → IsTiled cells stop (at + extent_at cells at) os → IsTiled cells stop at os
+  body : {at : ℕ} {os : List (ℕ × Object)} → IsBody cells at → IsTiled cells stop (at + extent_at cells at) os → IsTiled cells stop at ((at, object_in cells at) ∷ os)
+
+-- these are the fill and the objects of a region with these cells; a cell in which nothing was put is 0
+pub record IsLaid (cells : List ℕ) (fill : ℕ) (os : List (ℕ × Object)) : Type 0 where
+  pub tiled : IsTiled cells fill 0 os
+  pub within : fill ≤ 256
+  pub unused : (k : ℕ) → fill ≤ k → cell cells k ≡ 0
+
+-- what every region keeps
+abbrev pub IsRegion : List ℕ → Type 0
+IsRegion cells = IsLaid cells (fill_of cells) (objects_of cells)

@@ -1,0 +1,3 @@
+pub mod Object
+pub mod Region
+pub mod Cells

@@ -1,0 +1,12 @@
+//! One region of a garbage-collected heap: 256 cells of 64 bits that hold objects.
+//!
+//! An object takes three cells and one for each field. Objects and gaps follow one another from
+//! offset 0 up to the region's fill. Nothing here takes memory.
+#![tactic(auto)]
+
+mod cells;
+mod region;
+#[cfg(test)]
+mod tests;
+
+pub use region::Region;

@@ -1,0 +1,163 @@
+// A region, seen by its callers as a map from offset to object and a fill.
+ghost use Rattle.std.specs.Prelude.{◌≡◌, ◌≢◌, ◌+◌, ◌<◌, ◌≤◌, length, slice_index};
+ghost use Rattle.std.specs.FinMap as map;
+ghost use Rattle.hd_cells.specs.Object.{new_object, with_field, with_registered, with_value};
+ghost use Rattle.hd_cells.specs.Region.{empty_region, IsFirstFrom, IsLaidOut, IsObject};
+ghost use Rattle.hd_cells.specs.Region.{fields_at, object_at, with_object, with_put};
+
+use crate::cells::{CELLS, FIELDS, REGISTERED, SHAPE, VALUE, blank, extent, shape};
+use std::marker::Model;
+use std::mem::size_of;
+
+/// A region of 256 cells of 64 bits, which is 2 KiB. Offsets and sizes are in cells.
+///
+/// The fill is not kept: it is where the objects and gaps end, and finding it, like a walk, takes
+/// time by their number.
+#[derive(Drop)]
+pub struct Region {
+    cells: [u64; CELLS],
+}
+
+// Callers see the objects by their offsets and the fill, and no cell and no gap.
+impl Model for Region {
+    ghost use Rattle.hd_cells.specs.Region.{Contents, contents_code};
+    ghost use Rattle.hd_cells.specs.Cells.{IsRegion, contents_of};
+
+    ghost Value = { Contents };
+
+    ghost coded = { contents_code };
+
+    ghost view = { λ r. contents_of r.cells };
+
+    ghost invariant = { λ r. IsRegion r.cells };
+}
+
+const _: () = prove!(size_of::<Region>() == 2048);
+
+impl Region {
+    /// A region without objects.
+    pub fn empty() -> Region
+        ensures { result ≡ empty_region }
+    {
+        Region { cells: blank() }
+    }
+
+    /// The first cell after the last object put. It never falls.
+    pub fn fill(&self) -> u32
+        ensures value { result ≡ self.now.fill }
+        ensures laid_out { IsLaidOut self.now }
+    {
+        let cells = &self.cells;
+        let mut at = 0;
+        while let Some(size) = extent(cells, at) {
+            at += size;
+        }
+        at as u32
+    }
+
+    /// Puts an object with null fields and value 0 behind all others, and answers its offset. It
+    /// takes three cells more than it has fields.
+    pub fn put_object(&mut self, id: u64, fields: u32, registered: bool) -> u32
+        requires identified { id ≢ 0 }
+        requires few_fields { fields ≤ 61 }
+        requires room { self.old.fill + fields + 3 ≤ 256 }
+        ensures offset { result ≡ self.old.fill }
+        ensures was_free { map.get self.old.objects result ≡ None }
+        ensures put { self.new ≡ with_put self.old (new_object id fields registered) }
+    {
+        let at = self.fill();
+        self.cells[at as usize] = id;
+        self.cells[at as usize + SHAPE] = shape(u64::from(fields), registered);
+        at
+    }
+
+    /// The identity of the object at `at`.
+    pub fn id(&self, at: u32) -> u64
+        requires { IsObject self.now at }
+        ensures identity { result ≡ (object_at self.now at).identity }
+        ensures never_zero { result ≢ 0 }
+    {
+        self.cells[at as usize]
+    }
+
+    /// The number of fields of the object at `at`.
+    pub fn fields(&self, at: u32) -> u32
+        requires { IsObject self.now at }
+        ensures count { result ≡ length (fields_at self.now at) }
+        ensures few { result ≤ 61 }
+    {
+        (self.cells[at as usize + SHAPE] % REGISTERED) as u32
+    }
+
+    /// The value of the object at `at`.
+    pub fn value(&self, at: u32) -> u64
+        requires { IsObject self.now at }
+        ensures { result ≡ (object_at self.now at).value }
+    {
+        self.cells[at as usize + VALUE]
+    }
+
+    /// Gives the object at `at` another value.
+    pub fn set_value(&mut self, at: u32, v: u64)
+        requires { IsObject self.old at }
+        ensures { self.new ≡ with_object self.old at (with_value (object_at self.old at) v) }
+    {
+        let place = at as usize + VALUE;
+        self.cells[place] = v;
+    }
+
+    /// Whether the object at `at` is registered for finalisation.
+    pub fn registered(&self, at: u32) -> bool
+        requires { IsObject self.now at }
+        ensures { result ≡ (object_at self.now at).registered }
+    {
+        self.cells[at as usize + SHAPE] >= REGISTERED
+    }
+
+    /// Registers the object at `at` for finalisation, or takes its registration away, also where it
+    /// stands so already.
+    pub fn set_registered(&mut self, at: u32, on: bool)
+        requires { IsObject self.old at }
+        ensures { self.new ≡ with_object self.old at (with_registered (object_at self.old at) on) }
+    {
+        let place = at as usize + SHAPE;
+        let fields = self.cells[place] % REGISTERED;
+        self.cells[place] = shape(fields, on);
+    }
+
+    /// Field `i` of the object at `at`, counted from 0: an address, or 0 for null.
+    pub fn field(&self, at: u32, i: u32) -> u32
+        requires object { IsObject self.now at }
+        requires within { i < length (fields_at self.now at) }
+        ensures { result ≡ slice_index (fields_at self.now at) i }
+    {
+        self.cells[at as usize + FIELDS + i as usize] as u32
+    }
+
+    /// Writes an address, or 0 for null, into field `i` of the object at `at`. The address is not
+    /// looked at.
+    pub fn set_field(&mut self, at: u32, i: u32, v: u32)
+        requires object { IsObject self.old at }
+        requires within { i < length (fields_at self.old at) }
+        ensures { self.new ≡ with_object self.old at (with_field (object_at self.old at) i v) }
+    {
+        let place = at as usize + FIELDS + i as usize;
+        self.cells[place] = u64::from(v);
+    }
+
+    /// The offset of the first object at or after `from`, which may be any number.
+    pub fn walk(&self, from: u32) -> Option<u32>
+        ensures first { IsFirstFrom self.now from result }
+        ensures laid_out { IsLaidOut self.now }
+    {
+        let cells = &self.cells;
+        let mut at = 0;
+        while let Some(size) = extent(cells, at) {
+            if at >= from as usize && cells[at] != 0 {
+                return Some(at as u32);
+            }
+            at += size;
+        }
+        None
+    }
+}
