@@ -1,0 +1,13 @@
+pub mod Places
+pub mod Keeps
+pub mod Outcomes
+pub mod Effects
+pub mod Chains
+pub mod WellFormed
+pub mod Serials
+pub mod OneState
+pub mod Counts
+pub mod Kept
+pub mod ReadBack
+pub mod Growth
+pub mod Solo

@@ -1,0 +1,5 @@
+use Rattle.hd_model.proofs.Solo.{solo_runs_are_one}
+use Rattle.hd_model.proofs.laws.solo_runs_are_one.Goals as goal
+
+pub returns : goal.returns
+returns c = solo_runs_are_one

@@ -1,0 +1,112 @@
+-- How a state is stored as plain data, by which a proof tells two states apart. Nothing else is said here.
+use Rattle.std.specs.Prelude.{◌≡◌, ℕ, Bool, List, Option, ◌⊎◌, refl}
+use mathlib.Core.Logic.{inl, inr}
+use base.Stored.{coded_unit}
+use Rattle.std.specs.Coded.{Coded, code_by, coded×, coded⊎, coded_ℕ, coded_bool, coded_list, coded_option}
+use Rattle.std.specs.FinMap.{FinMap}
+use Rattle.std.specs.FinMap as map
+use Rattle.std.specs.Ordering.{nat_cmp}
+use Rattle.hd_model.specs.declared.data.Id.{Id}
+use Rattle.hd_model.specs.declared.data.Slot.{Slot}
+use Rattle.hd_model.specs.declared.data.Kind.{Kind}
+use Rattle.hd_model.specs.declared.data.Strength.{Strength}
+use Rattle.hd_model.specs.declared.data.Entry.{Entry}
+use Rattle.hd_model.specs.contracts.data.Id as id_contract
+use Rattle.hd_model.specs.contracts.data.Slot as slot_contract
+use Rattle.hd_model.specs.contracts.data.Kind as kind_contract
+use Rattle.hd_model.specs.contracts.data.Strength as strength_contract
+use Rattle.hd_model.specs.contracts.data.Entry as entry_contract
+use Rattle.hd_model.specs.State.{Numbers, Object, Extra, nothing, strength, secondary, Handle, BlockUse, handles_of, extra_data, State}
+
+abbrev pub id_code : Coded Id
+id_code = id_contract.the_row.coded
+
+abbrev pub slot_code : Coded Slot
+slot_code = slot_contract.the_row.coded
+
+abbrev pub kind_code : Coded Kind
+kind_code = kind_contract.the_row.coded
+
+abbrev pub entry_code : Coded Entry
+entry_code = entry_contract.the_row.coded
+
+abbrev pub numbers_code : Coded Numbers
+numbers_code =
+    code_by (ℕ × (ℕ × ℕ)) (coded× coded_ℕ (coded× coded_ℕ coded_ℕ)) (λ n. (n.heap, (n.blocks, n.callers)))
+    (λ p. record { heap = p.0; blocks = p.1.0; callers = p.1.1 }) (λ _. refl)
+
+abbrev pub object_code : Coded Object
+object_code =
+    code_by (List (Option Id) × (ℕ × (ℕ × Bool))) (coded× (coded_list (coded_option id_code)) (coded× coded_ℕ (coded× coded_ℕ coded_bool)))
+    (λ o. (o.fields, (o.value, (o.generation, o.registered))))
+    (λ p. record { fields = p.0; value = p.1.0; generation = p.1.1.0; registered = p.1.1.1 }) (λ _. refl)
+
+abbrev extra_parts : Extra → Unit {0} ⊎ (Strength ⊎ Option Id)
+extra_parts nothing = inl tt
+extra_parts (strength s) = inr (inl s)
+extra_parts (secondary o) = inr (inr o)
+
+abbrev extra_from : Unit {0} ⊎ (Strength ⊎ Option Id) → Extra
+extra_from (inl _) = nothing
+extra_from (inr (inl s)) = strength s
+extra_from (inr (inr o)) = secondary o
+
+pub extra_again : (e : Extra) → extra_from (extra_parts e) ≡ e
+extra_again nothing = refl
+extra_again (strength s) = refl
+extra_again (secondary o) = refl
+
+abbrev pub extra_code : Coded Extra
+extra_code =
+    code_by (Unit {0} ⊎ (Strength ⊎ Option Id)) (coded⊎ coded_unit (coded⊎ strength_contract.the_row.coded (coded_option id_code)))
+    extra_parts extra_from extra_again
+
+abbrev pub handle_code : Coded Handle
+handle_code =
+    code_by (Kind × (Option Id × Extra)) (coded× kind_code (coded× (coded_option id_code) extra_code)) (λ h. (h.kind, (h.target, h.extra)))
+    (λ p. record { kind = p.0; target = p.1.0; extra = p.1.1 }) (λ _. refl)
+
+abbrev use_parts : BlockUse → Kind ⊎ Unit {0}
+use_parts (handles_of kind) = inl kind
+use_parts extra_data = inr tt
+
+abbrev use_from : Kind ⊎ Unit {0} → BlockUse
+use_from (inl kind) = handles_of kind
+use_from (inr _) = extra_data
+
+pub use_again : (u : BlockUse) → use_from (use_parts u) ≡ u
+use_again (handles_of kind) = refl
+use_again extra_data = refl
+
+abbrev pub use_code : Coded BlockUse
+use_code = code_by (Kind ⊎ Unit {0}) (coded⊎ kind_code coded_unit) use_parts use_from use_again
+
+-- the parts of a state, two maps and two lists of registers first
+abbrev Parts : Type 0
+Parts =
+    FinMap nat_cmp Object × (FinMap nat_cmp Handle × (List (List (Option Id)) × (List (List (Option Slot)) × (List (Option Id)
+    × (List (Option Slot) × (List Id × (FinMap nat_cmp ℕ × (FinMap nat_cmp BlockUse × List ℕ))))))))
+
+abbrev parts_code : Coded Parts
+parts_code =
+    coded× (map.code coded_ℕ object_code) (coded× (map.code coded_ℕ handle_code) (coded× (coded_list (coded_list (coded_option id_code)))
+    (coded× (coded_list (coded_list (coded_option slot_code))) (coded× (coded_list (coded_option id_code)) (coded× (coded_list (coded_option slot_code))
+    (coded× (coded_list id_code) (coded× (map.code coded_ℕ coded_ℕ) (coded× (map.code coded_ℕ use_code) (coded_list coded_ℕ)))))))))
+
+abbrev pub state_code : Coded State
+state_code =
+    code_by Parts parts_code
+    (λ s. (s.objects, (s.handles, (s.registers, (s.handle_registers, (s.statics, (s.board, (s.queue, (s.places, (s.blocks, s.serials))))))))))
+    (λ p. record {
+      objects = p.0;
+      handles = p.1.0;
+      registers = p.1.1.0;
+      handle_registers = p.1.1.1.0;
+      statics = p.1.1.1.1.0;
+      board = p.1.1.1.1.1.0;
+      queue = p.1.1.1.1.1.1.0;
+      places = p.1.1.1.1.1.1.1.0;
+      blocks = p.1.1.1.1.1.1.1.1.0;
+      serials = p.1.1.1.1.1.1.1.1.1;
+    })
+    (λ _. refl)

@@ -1,0 +1,233 @@
+-- The grammar of a script: bytes as lines, lines as words, words as what they say, and the commands of each caller. It is this
+-- project's own format.
+use Rattle.std.specs.Prelude.{◌≡◌, ℕ, ◌+◌, ◌-◌, ◌*◌, ◌≤◌, max, Bool, true, false, ◌&&◌, ◌||◌, not, ◌==◌, nat_lt, nat_le, if◌then◌else◌, List, [], ◌∷◌, ◌++◌, map, length, fold, filter, sum_by, All, codes, bytes_eq, Option, Some, None, option_map, option_to_list, Result, Ok, Err}
+use Rattle.std.specs.Char.{is_ascii_digit}
+use Rattle.std.specs.List.{slice_split, before_first, list_all, range_with_len}
+use Rattle.std.specs.Str.Lines.{strip_carriage_return}
+use Rattle.hd_model.specs.declared.data.Strength.{Strength}
+use Rattle.hd_model.specs.declared.data.Strength.TheVariants as strength
+use Rattle.hd_model.specs.declared.data.Make.{Make}
+use Rattle.hd_model.specs.declared.data.Make.TheVariants as make
+use Rattle.hd_model.specs.declared.command.Cmd.{Cmd}
+use Rattle.hd_model.specs.declared.command.Cmd.TheVariants as cmd
+use Rattle.hd_model.specs.Valid.{IsValid}
+
+-- byte 10 ends a line
+abbrev pub is_line_end : ℕ → Bool
+is_line_end b = b == 10
+
+-- what stands behind the last line end is a line only where it has a byte
+abbrev pub without_empty_last : List (List ℕ) → List (List ℕ)
+without_empty_last [] = []
+without_empty_last (line ∷ []) = if length line == 0 then [] else line ∷ []
+without_empty_last (line ∷ next ∷ lines) = line ∷ without_empty_last (next ∷ lines)
+
+-- the lines, without their ends. A line ends at byte 10 or at the end of the input.
+unfoldable pub lines_in : List ℕ → List (List ℕ)
+lines_in bytes = without_empty_last (slice_split is_line_end bytes)
+
+-- `#` begins a comment
+abbrev pub is_hash : ℕ → Bool
+is_hash b = b == 35
+
+-- words stand between spaces and tabs
+abbrev pub is_blank : ℕ → Bool
+is_blank b = (b == 32) || (b == 9)
+
+-- the words of bytes: the parts between blanks that have a byte
+unfoldable pub words_in : List ℕ → List (List ℕ)
+words_in bytes = filter (λ word. nat_lt 0 (length word)) (slice_split is_blank bytes)
+
+-- the words of a line. One carriage return directly before its end is dropped, and then a comment.
+unfoldable pub words_of : List ℕ → List (List ℕ)
+words_of line = words_in (before_first is_hash (strip_carriage_return line))
+
+-- what decimal digits are worth
+unfoldable pub value_of : List ℕ → ℕ
+value_of digits = fold (λ n b. n * 10 + (b - 48)) 0 digits
+
+-- a number: one or more decimal digits, of any length, whose value is at most a limit
+unfoldable pub number_of : ℕ → List ℕ → Option ℕ
+number_of most word = if nat_lt 0 (length word) && list_all is_ascii_digit word && nat_le (value_of word) most then Some (value_of word) else None
+
+-- a register: its letter, and directly behind it a number from 0 to 15
+unfoldable pub register_of : ℕ → List ℕ → Option ℕ
+register_of letter [] = None
+register_of letter (b ∷ digits) = if b == letter then number_of 15 digits else None
+
+-- an object register, as `r7`
+abbrev pub object_of : List ℕ → Option ℕ
+object_of word = register_of 114 word
+
+-- a handle register, as `h7`
+abbrev pub handle_of : List ℕ → Option ℕ
+handle_of word = register_of 104 word
+
+-- the first row of a table that begins with the word says what it means; without one it means nothing
+abbrev pub look_up : {A : Type 0} → List ℕ → List (List ℕ × Option A) → Option A
+look_up word [] = None
+look_up word (row ∷ rows) = if bytes_eq word row.0 then row.1 else look_up word rows
+
+-- the strength of a variable handle
+unfoldable pub strength_of : List ℕ → Option Strength
+strength_of word = look_up word (
+    (codes "short", Some strength.Short)
+    ∷ (codes "long", Some strength.Long)
+    ∷ (codes "strong", Some strength.Strong)
+    ∷ (codes "pinned", Some strength.Pinned)
+    ∷ [])
+
+-- a kind of handle that needs no more than its target
+unfoldable pub make_of : List ℕ → Option Make
+make_of word = look_up word (
+    (codes "short", Some make.Short)
+    ∷ (codes "long", Some make.Long)
+    ∷ (codes "strong", Some make.Strong)
+    ∷ (codes "pinned", Some make.Pinned)
+    ∷ [])
+
+-- `fin` registers a new object for finalisation
+unfoldable pub fin_of : List ℕ → Option Bool
+fin_of word = look_up word ((codes "fin", Some true) ∷ [])
+
+-- a command of one, two or three parts, where each of them has a reading
+abbrev pub one : {A : Type 0} → (A → Cmd) → Option A → Option Cmd
+one f None = None
+one f (Some a) = Some (f a)
+
+abbrev pub two : {A B : Type 0} → (A → B → Cmd) → Option A → Option B → Option Cmd
+two f None b = None
+two f (Some a) b = one (f a) b
+
+abbrev pub three : {A B C : Type 0} → (A → B → C → Cmd) → Option A → Option B → Option C → Option Cmd
+three f None b c = None
+three f (Some a) b c = two (f a) b c
+
+-- a command of two words
+unfoldable pub two_words : List ℕ → List ℕ → Option Cmd
+two_words word a = look_up word (
+    (codes "read", one cmd.Read (object_of a))
+    ∷ (codes "drop", one cmd.Clear (object_of a))
+    ∷ (codes "gen", one cmd.Gen (object_of a))
+    ∷ (codes "suppress", one cmd.Suppress (object_of a))
+    ∷ (codes "reregister", one cmd.Reregister (object_of a))
+    ∷ (codes "final", one cmd.Final (object_of a))
+    ∷ (codes "collect", one cmd.Collect (number_of 2 a))
+    ∷ (codes "hfree", one cmd.HFree (handle_of a))
+    ∷ (codes "addr", one cmd.AddrOf (handle_of a))
+    ∷ [])
+
+-- a command of three words
+unfoldable pub three_words : List ℕ → List ℕ → List ℕ → Option Cmd
+three_words word a b = look_up word (
+    (codes "new", two (λ d fields. cmd.New d fields false) (object_of a) (number_of 61 b))
+    ∷ (codes "val", two cmd.Val (object_of a) (number_of 18446744073709551615 b))
+    ∷ (codes "copy", two cmd.Copy (object_of a) (object_of b))
+    ∷ (codes "sput", two cmd.SPut (number_of 15 a) (object_of b))
+    ∷ (codes "sget", two cmd.SGet (object_of a) (number_of 15 b))
+    ∷ (codes "hget", two cmd.HGet (object_of a) (handle_of b))
+    ∷ (codes "hset", two cmd.HSet (handle_of a) (object_of b))
+    ∷ (codes "hsec", two cmd.HSec (handle_of a) (object_of b))
+    ∷ (codes "hdep", two cmd.HDep (object_of a) (handle_of b))
+    ∷ (codes "hvar", two cmd.HVar (handle_of a) (strength_of b))
+    ∷ (codes "hput", two cmd.HPut (number_of 15 a) (handle_of b))
+    ∷ (codes "hpick", two cmd.HPick (handle_of a) (number_of 15 b))
+    ∷ [])
+
+-- a command of four words
+unfoldable pub four_words : List ℕ → List ℕ → List ℕ → List ℕ → Option Cmd
+four_words word a b c = look_up word (
+    (codes "new", three cmd.New (object_of a) (number_of 61 b) (fin_of c))
+    ∷ (codes "set", three cmd.Set (object_of a) (number_of 255 b) (object_of c))
+    ∷ (codes "get", three cmd.Get (object_of a) (object_of b) (number_of 255 c))
+    ∷ (codes "hnew", three cmd.HNew (handle_of a) (make_of b) (object_of c))
+    ∷ [])
+
+-- `hnew hD var rT STRENGTH` and `hnew hD dep rT rS`
+unfoldable pub hnew_of : List ℕ → List ℕ → List ℕ → List ℕ → Option Cmd
+hnew_of a kind c d = look_up kind (
+    (codes "var", three (λ h t s. cmd.HNew h (make.Variable s) t) (handle_of a) (object_of c) (strength_of d))
+    ∷ (codes "dep", three (λ h t s. cmd.HNew h (make.Dependent s) t) (handle_of a) (object_of c) (object_of d))
+    ∷ [])
+
+-- a command of five words
+unfoldable pub five_words : List ℕ → List ℕ → List ℕ → List ℕ → List ℕ → Option Cmd
+five_words word a b c d = look_up word ((codes "hnew", hnew_of a b c d) ∷ [])
+
+-- what a line says: nothing, whose commands follow, or a command
+pub data Reading : Type 0 where
+  blank : Reading
+  caller : ℕ → Reading
+  command : Cmd → Reading
+
+-- what the words of a line say, or none where they have no reading
+unfoldable pub reading_of : List (List ℕ) → Option Reading
+reading_of [] = Some blank
+reading_of (word ∷ []) = None
+reading_of (word ∷ a ∷ []) =
+    if bytes_eq word (codes "caller") then option_map caller (number_of 15 a) else option_map command (two_words word a)
+reading_of (word ∷ a ∷ b ∷ []) = option_map command (three_words word a b)
+reading_of (word ∷ a ∷ b ∷ c ∷ []) = option_map command (four_words word a b c)
+reading_of (word ∷ a ∷ b ∷ c ∷ d ∷ []) = option_map command (five_words word a b c d)
+reading_of (word ∷ a ∷ b ∷ c ∷ d ∷ e ∷ words) = None
+
+-- what each line says
+unfoldable pub readings_of : List ℕ → List (Option Reading)
+readings_of bytes = map (λ line. reading_of (words_of line)) (lines_in bytes)
+
+-- whose commands follow a line: those of the caller that it names, else of the one that was
+abbrev pub caller_after : ℕ → Option Reading → ℕ
+caller_after now (Some (caller n)) = n
+caller_after now _ = now
+
+-- the command of a line that is one
+abbrev pub command_in : Option Reading → Option Cmd
+command_in (Some (command c)) = Some c
+command_in _ = None
+
+-- the commands of one caller, in the order of their lines, where the first line is one of caller `now`
+abbrev pub commands_of : ℕ → ℕ → List (Option Reading) → List Cmd
+commands_of wanted now [] = []
+commands_of wanted now (reading ∷ rest) =
+    (if now == wanted then option_to_list (command_in reading) else []) ++ commands_of wanted (caller_after now reading) rest
+
+-- the number of callers: they are 0 to the largest number that a line names, and 0 alone where none does
+abbrev pub callers_of : List (Option Reading) → ℕ
+callers_of [] = 1
+callers_of (reading ∷ rest) = max (caller_after 0 reading + 1) (callers_of rest)
+
+-- the list of each caller. Before a line names one, the commands are those of caller 0.
+unfoldable pub lists_of : List (Option Reading) → List (List Cmd)
+lists_of readings = map (λ wanted. commands_of wanted 0 readings) (range_with_len 0 (callers_of readings))
+
+-- the most commands that a script may have
+abbrev pub most_commands : ℕ
+most_commands = 100000
+
+-- the first line that has no reading or holds a command too many, where the lines are numbered from `line` and `before` commands
+-- stand before them
+abbrev pub first_fault : ℕ → ℕ → List (Option Reading) → Option ℕ
+first_fault line before [] = None
+first_fault line before (None ∷ rest) = Some line
+first_fault line before (Some (command c) ∷ rest) = if nat_lt before most_commands then first_fault (line + 1) (before + 1) rest else Some line
+first_fault line before (Some _ ∷ rest) = first_fault (line + 1) before rest
+
+-- the lists, unless a line is at fault
+abbrev pub unless_fault : Option ℕ → List (List Cmd) → Result (List (List Cmd)) ℕ
+unless_fault None lists = Ok lists
+unless_fault (Some line) lists = Err line
+
+-- a script: the list of commands of each caller, or the number, from 1, of the first line that is at fault
+unfoldable pub script_of : List ℕ → Result (List (List Cmd)) ℕ
+script_of bytes = unless_fault (first_fault 1 0 (readings_of bytes)) (lists_of (readings_of bytes))
+
+-- the bytes are a script with these lists
+abbrev pub IsScript : List ℕ → List (List Cmd) → Type 0
+IsScript bytes lists = script_of bytes ≡ Ok lists
+
+-- what is true of the lists of each script: 1 to 16 callers, valid commands, and at most 100,000 of them
+pub record AreLists (lists : List (List Cmd)) : Type 0 where
+  pub least : 1 ≤ length lists
+  pub most : length lists ≤ 16
+  pub valid : All (λ list. All IsValid list) lists
+  pub total : sum_by length lists ≤ most_commands

@@ -1,0 +1,11 @@
+pub mod State
+pub mod Valid
+pub mod Journal
+pub mod Command
+pub mod Step
+pub mod Run
+pub mod Text
+pub mod WellFormed
+pub mod Code
+pub mod Laws
+pub mod Grammar

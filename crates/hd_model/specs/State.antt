@@ -1,0 +1,157 @@
+-- The state of the plain handle machine: objects by identity, handles by slot, and what names them. It has no cells, addresses,
+-- regions, masks or threads.
+use Rattle.std.specs.Prelude.{ℕ, ◌+◌, ◌*◌, ◌/◌, ◌^◌, Bool, false, List, [], replicate, length, sum_by, slice_index, slice_index_or, slice_set, Option, None, unwrap_or}
+use Rattle.std.specs.FinMap.{FinMap, get, insert, remove, empty, values, len}
+use Rattle.std.specs.Ordering.{nat_cmp}
+use Rattle.hd_model.specs.declared.data.Id.{Id}
+use Rattle.hd_model.specs.declared.data.Slot.{Slot}
+use Rattle.hd_model.specs.declared.data.Kind.{Kind}
+use Rattle.hd_model.specs.declared.data.Strength.{Strength}
+
+-- the numbers of a run, which no command changes: the limit of the heap in cells, the blocks and the callers
+pub record Numbers : Type 0 where
+  pub heap : ℕ
+  pub blocks : ℕ
+  pub callers : ℕ
+
+-- an object: its fields, each an identity or null, its value, its generation, and whether it is registered for finalisation
+-- (.NET's generations and finalisers)
+pub record Object : Type 0 where
+  pub fields : List (Option Id)
+  pub value : ℕ
+  pub generation : ℕ
+  pub registered : Bool
+
+-- what a handle has beside its target: a variable one its strength, a dependent one its secondary (CoreCLR's extra info of a handle)
+pub data Extra : Type 0 where
+  nothing : Extra
+  strength : Strength → Extra
+  secondary : Option Id → Extra
+
+-- a handle: its kind, the object that it names or null, and its extra (.NET's GCHandle and DependentHandle)
+pub record Handle : Type 0 where
+  pub kind : Kind
+  pub target : Option Id
+  pub extra : Extra
+
+-- what a block of the table is used for: handles of one kind, or the extra data of a block of handles
+pub data BlockUse : Type 0 where
+  handles_of : Kind → BlockUse
+  extra_data : BlockUse
+
+-- the state of a run: objects by the number of their identity, handles by the number of their slot, registers by caller and number, the
+-- statics and the board that all callers share, the finalisation queue, the addresses that were answered, the use of each block that has
+-- one, and each caller's last serial
+pub record State : Type 0 where
+  pub objects : FinMap nat_cmp Object
+  pub handles : FinMap nat_cmp Handle
+  pub registers : List (List (Option Id))
+  pub handle_registers : List (List (Option Slot))
+  pub statics : List (Option Id)
+  pub board : List (Option Slot)
+  pub queue : List Id
+  pub places : FinMap nat_cmp ℕ
+  pub blocks : FinMap nat_cmp BlockUse
+  pub serials : List ℕ
+
+-- nothing is made yet: each register, static and board place is null or empty, and no caller has made an object
+abbrev pub start_of : Numbers → State
+start_of n = record {
+  objects = empty;
+  handles = empty;
+  registers = replicate n.callers (replicate 16 None);
+  handle_registers = replicate n.callers (replicate 16 None);
+  statics = replicate 16 None;
+  board = replicate 16 None;
+  queue = [];
+  places = empty;
+  blocks = empty;
+  serials = replicate n.callers 0;
+}
+
+-- what a caller's object register names: an object, or null
+abbrev pub register_of : State → ℕ → ℕ → Option Id
+register_of s caller d = slice_index_or (slice_index_or s.registers caller []) d None
+
+-- what a caller's handle register has: a slot, or nothing
+abbrev pub handle_register_of : State → ℕ → ℕ → Option Slot
+handle_register_of s caller d = slice_index_or (slice_index_or s.handle_registers caller []) d None
+
+-- what a static names
+abbrev pub static_of : State → ℕ → Option Id
+static_of s k = slice_index_or s.statics k None
+
+-- what a place of the board has
+abbrev pub board_of : State → ℕ → Option Slot
+board_of s k = slice_index_or s.board k None
+
+-- the serial of the last object that a caller made, 0 where it made none
+abbrev pub last_serial : State → ℕ → ℕ
+last_serial s caller = slice_index s.serials caller
+
+-- the object with an identity. Each identity that a register, static, field or handle has is that of an object.
+abbrev pub object_at : State → Id → Object
+object_at s id = unwrap_or (get s.objects id.0) (record { fields = []; value = 0; generation = 0; registered = false })
+
+-- the field of an object: an identity, or null
+abbrev pub field_of : Object → ℕ → Option Id
+field_of object i = slice_index_or object.fields i None
+
+-- the handle in a slot, if the slot is live
+abbrev pub handle_at : State → Slot → Option Handle
+handle_at s slot = get s.handles slot.0
+
+-- the use of a block, if it has one
+abbrev pub use_of : State → ℕ → Option BlockUse
+use_of s block = get s.blocks block
+
+-- the size of an object in cells: its fields and three more
+abbrev pub size_of : Object → ℕ
+size_of object = length object.fields + 3
+
+-- the cells that all objects take together, reachable or not
+abbrev pub used_of : State → ℕ
+used_of s = sum_by size_of (values s.objects)
+
+-- the number of blocks that have a use
+abbrev pub given_of : State → ℕ
+given_of s = len s.blocks
+
+-- the block of a slot, and the first slot of a block: a block has 64 slots (this project's own number)
+abbrev pub block_of : Slot → ℕ
+block_of slot = slot.0 / 64
+
+abbrev pub first_slot : ℕ → Slot
+first_slot block = record { 0 = block * 64 }
+
+-- an identity, of a caller and a serial, and the two that it is of
+abbrev pub identity_of : ℕ → ℕ → Id
+identity_of caller serial = record { 0 = caller * 2 ^ 32 + serial }
+
+-- the state with another value in one place
+abbrev pub with_register : State → ℕ → ℕ → Option Id → State
+with_register s caller d v = record s { registers = slice_set s.registers caller (slice_set (slice_index_or s.registers caller []) d v) }
+
+abbrev pub with_handle_register : State → ℕ → ℕ → Option Slot → State
+with_handle_register s caller d v = record s { handle_registers = slice_set s.handle_registers caller (slice_set (slice_index_or s.handle_registers caller []) d v) }
+
+abbrev pub with_static : State → ℕ → Option Id → State
+with_static s k v = record s { statics = slice_set s.statics k v }
+
+abbrev pub with_board : State → ℕ → Option Slot → State
+with_board s k v = record s { board = slice_set s.board k v }
+
+abbrev pub with_object : State → Id → Object → State
+with_object s id object = record s { objects = insert s.objects id.0 object }
+
+abbrev pub with_handle : State → Slot → Handle → State
+with_handle s slot handle = record s { handles = insert s.handles slot.0 handle }
+
+abbrev pub without_handle : State → Slot → State
+without_handle s slot = record s { handles = remove s.handles slot.0 }
+
+abbrev pub with_use : State → ℕ → BlockUse → State
+with_use s block given = record s { blocks = insert s.blocks block given }
+
+abbrev pub with_serial : State → ℕ → ℕ → State
+with_serial s caller serial = record s { serials = slice_set s.serials caller serial }

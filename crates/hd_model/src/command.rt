@@ -1,0 +1,89 @@
+ghost use Rattle.std.specs.Prelude.{◌≡◌, ◌↔◌, IsTrue};
+ghost use Rattle.hd_model.specs.Valid.{takes_memory, is_built};
+
+use super::{Make, Strength};
+
+/// A command of a script. The registers and places of a valid one are below 16, its number of
+/// fields is at most 61, and its generation at most 2.
+#[derive(Clone, Copy, Debug, PartialEq, Eq)]
+pub enum Cmd {
+    /// `new rD F` or `new rD F fin`: makes an object with F null fields, with `fin` registered for
+    /// finalisation.
+    New { d: u8, fields: u8, fin: bool },
+    /// `set rO i rV`: field i of rO gets rV.
+    Set { o: u8, i: u8, v: u8 },
+    /// `get rD rO i`: rD gets field i of rO.
+    Get { d: u8, o: u8, i: u8 },
+    /// `val rO n`: the value of rO becomes n.
+    Val { o: u8, n: u64 },
+    /// `read rO`: answers the value of rO.
+    Read { o: u8 },
+    /// `copy rD rS`: rD gets rS.
+    Copy { d: u8, s: u8 },
+    /// `drop rD`: rD becomes null.
+    Clear { d: u8 },
+    /// `sput k rS`: static k gets rS.
+    SPut { k: u8, s: u8 },
+    /// `sget rD k`: rD gets static k.
+    SGet { d: u8, k: u8 },
+    /// `gen rS`: answers the generation of rS.
+    Gen { s: u8 },
+    /// `suppress rS`: rS is registered for finalisation no more, as by `GC.SuppressFinalize`.
+    Suppress { s: u8 },
+    /// `reregister rS`: rS is registered for finalisation, as by `GC.ReRegisterForFinalize`.
+    Reregister { s: u8 },
+    /// `final rD`: takes the first object off the finalisation queue into rD.
+    Final { d: u8 },
+    /// `collect n`: collects the generations 0 to n, as `GC.Collect`.
+    Collect { n: u8 },
+    /// `hnew hD KIND rT ..`: makes a handle with target rT, as `GCHandle.Alloc`; hD gets its slot.
+    HNew { d: u8, make: Make, t: u8 },
+    /// `hget rD hS`: rD gets the target.
+    HGet { d: u8, s: u8 },
+    /// `hset hS rT`: the target becomes rT.
+    HSet { s: u8, t: u8 },
+    /// `hsec hS rS`: the secondary of a dependent handle becomes rS.
+    HSec { h: u8, s: u8 },
+    /// `hdep rD hS`: rD gets the secondary of a dependent handle.
+    HDep { d: u8, s: u8 },
+    /// `hvar hS STRENGTH`: the strength of a variable handle changes.
+    HVar { s: u8, strength: Strength },
+    /// `hfree hS`: the handle is no more, as after `GCHandle.Free`; hS becomes empty.
+    HFree { s: u8 },
+    /// `hput k hS`: board place k gets what hS has.
+    HPut { k: u8, s: u8 },
+    /// `hpick hD k`: hD gets what board place k has.
+    HPick { d: u8, k: u8 },
+    /// `addr hS`: answers the address of the target of a handle that pins it.
+    AddrOf { s: u8 },
+}
+
+impl Cmd {
+    /// Whether the command may take memory: to make an object, or to collect.
+    pub fn takes_memory(&self) -> bool
+        ensures { result ≡ takes_memory self.now }
+    {
+        matches!(self, Cmd::New { .. } | Cmd::Collect { .. })
+    }
+
+    /// Whether the machine has the command yet. Finalisation, collections, generations, addresses,
+    /// and variable and dependent handles are still to come.
+    pub fn built(&self) -> bool
+        ensures { result ≡ is_built self.now }
+    {
+        match self {
+            Cmd::New { fin, .. } => !*fin,
+            Cmd::HNew { make, .. } => !matches!(make, Make::Variable(_) | Make::Dependent(_)),
+            Cmd::Gen { .. }
+            | Cmd::Suppress { .. }
+            | Cmd::Reregister { .. }
+            | Cmd::Final { .. }
+            | Cmd::Collect { .. }
+            | Cmd::HSec { .. }
+            | Cmd::HDep { .. }
+            | Cmd::HVar { .. }
+            | Cmd::AddrOf { .. } => false,
+            _ => true,
+        }
+    }
+}

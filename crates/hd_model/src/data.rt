@@ -1,0 +1,146 @@
+ghost use Rattle.std.specs.Prelude.{◌≡◌};
+ghost use Rattle.hd_model.specs.Command.{kind_of};
+
+/// The identity of an object: its caller's number times 2^32, plus a serial of that caller, from 1.
+/// It is never 0, and no object gets one that another had.
+#[derive(Clone, Copy, Debug, PartialEq, Eq)]
+pub struct Id(pub u64);
+
+/// The address of an object, in cells: its region times 256, plus the offset of its first cell. It
+/// is never 0.
+#[derive(Clone, Copy, Debug, PartialEq, Eq)]
+pub struct Addr(pub u32);
+
+/// The slot of a handle: its block, from 1, times 64, plus its row. It is never 0.
+#[derive(Clone, Copy, Debug, PartialEq, Eq)]
+pub struct Slot(pub u32);
+
+/// Want of memory.
+#[derive(Clone, Copy, Debug, PartialEq, Eq)]
+pub struct Memory;
+
+/// The kinds of handle, after the handle types of CoreCLR.
+#[derive(Clone, Copy, Debug, PartialEq, Eq)]
+pub enum Kind {
+    /// A weak handle that is cleared when its target is found unreachable, before finalisation.
+    Short,
+    /// A weak handle that keeps its target while finalisation keeps the object alive.
+    Long,
+    /// A handle that keeps its target alive.
+    Strong,
+    /// A strong handle whose target does not move.
+    Pinned,
+    /// A handle that carries its strength.
+    Variable,
+    /// A handle whose secondary lives as long as its target, which it does not keep alive.
+    Dependent,
+}
+
+/// The strength of a variable handle.
+#[derive(Clone, Copy, Debug, PartialEq, Eq)]
+pub enum Strength {
+    Short,
+    Long,
+    Strong,
+    Pinned,
+}
+
+/// What a command makes: a kind of handle with what that kind needs, for a dependent one the
+/// register of its secondary.
+#[derive(Clone, Copy, Debug, PartialEq, Eq)]
+pub enum Make {
+    Short,
+    Long,
+    Strong,
+    Pinned,
+    Variable(Strength),
+    Dependent(u8),
+}
+
+impl Make {
+    /// The kind that is made.
+    pub fn kind(self) -> Kind
+        ensures { result ≡ kind_of self }
+    {
+        match self {
+            Make::Short => Kind::Short,
+            Make::Long => Kind::Long,
+            Make::Strong => Kind::Strong,
+            Make::Pinned => Kind::Pinned,
+            Make::Variable(_) => Kind::Variable,
+            Make::Dependent(_) => Kind::Dependent,
+        }
+    }
+}
+
+/// The blocks by which the table grew: none, a block of handles, or a block of handles and its data
+/// block.
+#[derive(Clone, Copy, Debug, PartialEq, Eq)]
+pub enum Grown {
+    Zero,
+    One(u32),
+    Two(u32, u32),
+}
+
+/// What a collection did, in objects and in handles.
+#[derive(Clone, Copy, Debug, PartialEq, Eq)]
+pub struct Report {
+    /// The objects of the condemned generations that stay.
+    pub kept: u32,
+    /// The objects that go.
+    pub removed: u32,
+    /// The weak short handles whose target became null.
+    pub short: u32,
+    /// The weak long handles whose target became null.
+    pub long: u32,
+    /// The dependent handles whose two parts became null.
+    pub dep: u32,
+    /// The objects that joined the finalisation queue.
+    pub revived: u32,
+}
+
+/// Why a command was refused. Where several causes hold, the first of these is answered:
+/// empty register, slot that is not live, wrong kind, null, bad field, full heap, full table.
+#[derive(Clone, Copy, Debug, PartialEq, Eq)]
+pub enum Refusal {
+    /// The register, or the handle's target, is null.
+    Null,
+    /// The object has no such field.
+    BadField,
+    /// The sizes of all objects, in cells, and the size that was asked for are together over the
+    /// limit.
+    HeapFull { used: u32, size: u32 },
+    /// Too few blocks are without a kind. `given` is the number of blocks that have one.
+    TableFull { given: u32 },
+    /// The slot holds no handle.
+    NotLive,
+    /// The handle's kind does not allow the command.
+    WrongKind,
+    /// The handle register is empty.
+    EmptyRegister,
+}
+
+/// What a command answers.
+#[derive(Clone, Copy, Debug, PartialEq, Eq)]
+pub enum Reply {
+    Done,
+    Object(Id),
+    Nothing,
+    Value(u64),
+    Generation(u8),
+    Place(u32),
+    Report(Report),
+    NoneQueued,
+    Refused(Refusal),
+}
+
+/// One command of one caller with its reply. `slot` is the slot that was given or freed, and
+/// `grown` the blocks by which the table grew.
+#[derive(Clone, Copy, Debug, PartialEq, Eq)]
+pub struct Entry {
+    pub caller: u32,
+    pub cmd: super::Cmd,
+    pub slot: Option<Slot>,
+    pub grown: Grown,
+    pub reply: Reply,
+}

@@ -1,0 +1,162 @@
+use super::*;
+use std::test::Fail;
+
+fn entry(caller: u32, cmd: Cmd, reply: Reply) -> Entry {
+    Entry {
+        caller,
+        cmd,
+        slot: None,
+        grown: Grown::Zero,
+        reply,
+    }
+}
+
+#[test]
+fn a_journal_keeps_entries_in_their_order(rt: HostRuntime) -> Result<(), Fail> {
+    let read = entry(1, Cmd::Read { o: 3 }, Reply::Refused(Refusal::Null));
+    let clear = entry(0, Cmd::Clear { d: 15 }, Reply::Done);
+    let mut journal = Journal::open(rt.alloc(), 3)?;
+    assert!(rt; journal.is_empty());
+    assert_eq!(rt; journal.spare(), 3);
+    journal.push(read);
+    journal.push(clear);
+    assert_eq!(rt; (journal.len(), journal.spare()), (2, 1));
+    assert!(rt; !journal.is_empty());
+    assert_eq!(rt; journal.entry(0), read);
+    assert_eq!(rt; journal.entry(1), clear);
+    Ok(())
+}
+
+#[test]
+fn a_made_handle_has_its_kind(rt: HostRuntime) {
+    let rows = [
+        (Make::Short, Kind::Short),
+        (Make::Long, Kind::Long),
+        (Make::Strong, Kind::Strong),
+        (Make::Pinned, Kind::Pinned),
+        (Make::Variable(Strength::Short), Kind::Variable),
+        (Make::Dependent(2), Kind::Dependent),
+    ];
+    for (make, want) in rows {
+        assert_eq!(rt; make.kind(), want);
+    }
+}
+
+// Each command, whether it may take memory, and whether it is built.
+const COMMANDS: [(Cmd, bool, bool); 30] = [
+    (
+        Cmd::New {
+            d: 0,
+            fields: 2,
+            fin: false,
+        },
+        true,
+        true,
+    ),
+    (
+        Cmd::New {
+            d: 0,
+            fields: 2,
+            fin: true,
+        },
+        true,
+        false,
+    ),
+    (Cmd::Set { o: 0, i: 1, v: 2 }, false, true),
+    (Cmd::Get { d: 0, o: 1, i: 2 }, false, true),
+    (Cmd::Val { o: 0, n: 7 }, false, true),
+    (Cmd::Read { o: 0 }, false, true),
+    (Cmd::Copy { d: 0, s: 1 }, false, true),
+    (Cmd::Clear { d: 0 }, false, true),
+    (Cmd::SPut { k: 0, s: 1 }, false, true),
+    (Cmd::SGet { d: 0, k: 1 }, false, true),
+    (Cmd::Gen { s: 0 }, false, false),
+    (Cmd::Suppress { s: 0 }, false, false),
+    (Cmd::Reregister { s: 0 }, false, false),
+    (Cmd::Final { d: 0 }, false, false),
+    (Cmd::Collect { n: 2 }, true, false),
+    (
+        Cmd::HNew {
+            d: 0,
+            make: Make::Short,
+            t: 1,
+        },
+        false,
+        true,
+    ),
+    (
+        Cmd::HNew {
+            d: 0,
+            make: Make::Long,
+            t: 1,
+        },
+        false,
+        true,
+    ),
+    (
+        Cmd::HNew {
+            d: 0,
+            make: Make::Strong,
+            t: 1,
+        },
+        false,
+        true,
+    ),
+    (
+        Cmd::HNew {
+            d: 0,
+            make: Make::Pinned,
+            t: 1,
+        },
+        false,
+        true,
+    ),
+    (
+        Cmd::HNew {
+            d: 0,
+            make: Make::Variable(Strength::Long),
+            t: 1,
+        },
+        false,
+        false,
+    ),
+    (
+        Cmd::HNew {
+            d: 0,
+            make: Make::Dependent(2),
+            t: 1,
+        },
+        false,
+        false,
+    ),
+    (Cmd::HGet { d: 0, s: 1 }, false, true),
+    (Cmd::HSet { s: 0, t: 1 }, false, true),
+    (Cmd::HSec { h: 0, s: 1 }, false, false),
+    (Cmd::HDep { d: 0, s: 1 }, false, false),
+    (
+        Cmd::HVar {
+            s: 0,
+            strength: Strength::Pinned,
+        },
+        false,
+        false,
+    ),
+    (Cmd::HFree { s: 0 }, false, true),
+    (Cmd::HPut { k: 0, s: 1 }, false, true),
+    (Cmd::HPick { d: 0, k: 1 }, false, true),
+    (Cmd::AddrOf { s: 0 }, false, false),
+];
+
+#[test]
+fn only_new_and_collect_take_memory(rt: HostRuntime) {
+    for (cmd, takes_memory, _) in COMMANDS {
+        assert_eq!(rt; cmd.takes_memory(), takes_memory);
+    }
+}
+
+#[test]
+fn commands_without_a_collector_are_built(rt: HostRuntime) {
+    for (cmd, _, built) in COMMANDS {
+        assert_eq!(rt; cmd.built(), built);
+    }
+}
