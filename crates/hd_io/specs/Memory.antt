@@ -1,0 +1,37 @@
+-- A source and a sink in memory, as contracts see them.
+use Rattle.std.specs.Prelude.{ℕ, ◌+◌, List, ◌++◌, length, drop, Option, None, Some, nat_le, if◌then◌else◌}
+use Rattle.hd_io.specs.Calls.{Calls, after_call}
+
+-- a source: what it has left, how many bytes it has given, and its calls
+pub record Reading : Type 0 where
+  pub left : List ℕ
+  pub given : ℕ
+  pub calls : Calls
+
+-- the source behind a read that took n bytes
+abbrev pub after_read : Reading → ℕ → Reading
+after_read source n = record {
+  left = drop n source.left;
+  given = source.given + n;
+  calls = after_call source.calls;
+}
+
+-- a sink: what is written, which it tells while all of it had room, its room, and its calls
+pub record Writing : Type 0 where
+  pub written : Option (List ℕ)
+  pub room : ℕ
+  pub calls : Calls
+
+-- what is told as written behind a piece that was taken: it is kept where it fits into the room
+abbrev pub with_piece : ℕ → Option (List ℕ) → List ℕ → Option (List ℕ)
+with_piece room None piece = None
+with_piece room (Some bytes) piece =
+    if nat_le (length bytes + length piece) room then Some (bytes ++ piece) else None
+
+-- the sink behind a write that took this piece
+abbrev pub after_write : Writing → List ℕ → Writing
+after_write sink piece = record {
+  written = with_piece sink.room sink.written piece;
+  room = sink.room;
+  calls = after_call sink.calls;
+}

@@ -1,0 +1,124 @@
+// What no clause says: that the calls succeed while memory lasts. Faults in mid-stream are told.
+use crate::{
+    Failed, MemorySink, MemorySource, NoPace, Pace, ReadFault, Sink, Source, StdSink, StdSource,
+    read_all, write_all,
+};
+use std::test::Fail;
+
+#[test]
+fn all_is_read_up_to_the_limit(rt: HostRuntime) -> Result<(), Fail> {
+    let alloc = rt.alloc();
+    for (most, want) in [(4, true), (3, true), (2, false), (0, false)] {
+        let mut source = MemorySource::open(alloc, b"abc", &[])?;
+        match read_all(alloc, &mut source, most) {
+            Ok(bytes) => {
+                assert!(rt; want, "at {most}");
+                assert_eq!(rt; bytes.as_slice(), b"abc".as_slice());
+            }
+            Err(fault) => {
+                assert!(rt; !want, "at {most}");
+                assert_eq!(rt; fault, ReadFault::TooLong);
+            }
+        }
+    }
+    let mut nothing = MemorySource::open(alloc, &[], &[])?;
+    assert_eq!(rt; read_all(alloc, &mut nothing, 0)?.len(), 0);
+    Ok(())
+}
+
+#[test]
+fn a_read_fails_in_mid_stream(rt: HostRuntime) -> Result<(), Fail> {
+    let alloc = rt.alloc();
+    let bytes = vec![in alloc; 7u8; 5000]?;
+    let mut source = MemorySource::open(alloc, &bytes, &[2, 4])?;
+    assert_eq!(rt;
+        read_all(alloc, &mut source, 9000).err(),
+        Some(ReadFault::Failed)
+    );
+    // The first read took 4,096 bytes. The third takes the rest, and the fourth fails.
+    assert_eq!(rt;
+        read_all(alloc, &mut source, 9000).err(),
+        Some(ReadFault::Failed)
+    );
+    assert_eq!(rt; read_all(alloc, &mut source, 9000)?.len(), 0);
+    Ok(())
+}
+
+#[test]
+fn a_read_takes_what_fits(rt: HostRuntime) -> Result<(), Fail> {
+    let alloc = rt.alloc();
+    let mut source = MemorySource::open(alloc, b"abc", &[2])?;
+    let mut two = [0; 2];
+    assert_eq!(rt; source.read(&mut two), Ok(2));
+    assert_eq!(rt; two.as_slice(), b"ab".as_slice());
+    assert_eq!(rt; source.read(&mut two), Err(Failed));
+    assert_eq!(rt; source.read(&mut two), Ok(1));
+    assert_eq!(rt; two[0], b'c');
+    assert_eq!(rt; source.read(&mut two), Ok(0));
+    Ok(())
+}
+
+#[test]
+fn a_write_fails_in_mid_stream(rt: HostRuntime) -> Result<(), Fail> {
+    let mut sink = MemorySink::open(rt.alloc(), 6, &[2])?;
+    assert_eq!(rt; write_all(&mut sink, b"ab"), Ok(()));
+    assert_eq!(rt; write_all(&mut sink, b"cd"), Err(Failed));
+    assert_eq!(rt; write_all(&mut sink, b"ef"), Ok(()));
+    assert_eq!(rt; write_all(&mut sink, b""), Ok(()));
+    assert_eq!(rt; sink.written(), Some(b"abef".as_slice()));
+    Ok(())
+}
+
+#[test]
+fn what_has_no_room_is_told_no_more(rt: HostRuntime) -> Result<(), Fail> {
+    let mut sink = MemorySink::open(rt.alloc(), 3, &[])?;
+    assert_eq!(rt; sink.write(b"abc"), Ok(3));
+    assert_eq!(rt; sink.written(), Some(b"abc".as_slice()));
+    assert_eq!(rt; sink.write(b"d"), Ok(1));
+    assert_eq!(rt; sink.written(), None);
+    assert_eq!(rt; sink.write(b"e"), Ok(1));
+    assert_eq!(rt; sink.written(), None);
+    Ok(())
+}
+
+#[test]
+fn readers_and_writers_of_std_serve(rt: HostRuntime) -> Result<(), Fail> {
+    let alloc = rt.alloc();
+    let mut source = StdSource::over(b"abcde".as_slice());
+    assert_eq!(rt;
+        read_all(alloc, &mut source, 5)?.as_slice(),
+        b"abcde".as_slice()
+    );
+    assert_eq!(rt; read_all(alloc, &mut source, 5)?.len(), 0);
+
+    let mut bytes = Vec::new(alloc);
+    let mut sink = StdSink::over(&mut bytes);
+    assert_eq!(rt; write_all(&mut sink, b"ab"), Ok(()));
+    assert_eq!(rt; write_all(&mut sink, b"cd"), Ok(()));
+    assert_eq!(rt; bytes.as_slice(), b"abcd".as_slice());
+    Ok(())
+}
+
+#[test]
+fn a_writer_that_takes_no_more_is_a_fault(rt: HostRuntime) -> Result<(), Fail> {
+    let mut room = [0; 3];
+    let mut sink = StdSink::over(room.as_mut_slice());
+    assert_eq!(rt; write_all(&mut sink, b"abcd"), Err(Failed));
+    assert_eq!(rt; room.as_slice(), b"abc".as_slice());
+    Ok(())
+}
+
+// How many commands a caller at this pace has come to.
+fn commands_begun<P: Pace>(pace: &P, commands: u64) -> u64 {
+    let mut begun = 0;
+    for step in 0..commands {
+        pace.at(1, step + 1);
+        begun = step + 1;
+    }
+    begun
+}
+
+#[test]
+fn no_pace_holds_nobody_back(rt: HostRuntime) {
+    assert_eq!(rt; commands_begun(&NoPace, 3), 3);
+}
