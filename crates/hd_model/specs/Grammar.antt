@@ -1,6 +1,7 @@
 -- The grammar of a script: bytes as lines, lines as words, words as what they say, and the commands of each caller. It is this
 -- project's own format.
 use Rattle.std.specs.Prelude.{◌≡◌, ℕ, ◌+◌, ◌-◌, ◌*◌, ◌≤◌, max, Bool, true, false, ◌&&◌, ◌||◌, not, ◌==◌, nat_lt, nat_le, if◌then◌else◌, List, [], ◌∷◌, ◌++◌, map, length, fold, filter, sum_by, All, codes, bytes_eq, Option, Some, None, option_map, option_to_list, Result, Ok, Err}
+use Rattle.std.specs.Option.{option_or}
 use Rattle.std.specs.Char.{is_ascii_digit}
 use Rattle.std.specs.List.{slice_split, before_first, list_all, range_with_len}
 use Rattle.std.specs.Str.Lines.{strip_carriage_return}
@@ -117,15 +118,20 @@ two_words word a = look_up word (
     ∷ (codes "addr", one cmd.AddrOf (handle_of a))
     ∷ [])
 
--- a command of three words
-unfoldable pub three_words : List ℕ → List ℕ → List ℕ → Option Cmd
-three_words word a b = look_up word (
+-- a command of three words on objects
+unfoldable pub three_on_objects : List ℕ → List ℕ → List ℕ → Option Cmd
+three_on_objects word a b = look_up word (
     (codes "new", two (λ d fields. cmd.New d fields false) (object_of a) (number_of 61 b))
     ∷ (codes "val", two cmd.Val (object_of a) (number_of 18446744073709551615 b))
     ∷ (codes "copy", two cmd.Copy (object_of a) (object_of b))
     ∷ (codes "sput", two cmd.SPut (number_of 15 a) (object_of b))
     ∷ (codes "sget", two cmd.SGet (object_of a) (number_of 15 b))
-    ∷ (codes "hget", two cmd.HGet (object_of a) (handle_of b))
+    ∷ [])
+
+-- a command of three words on handles
+unfoldable pub three_on_handles : List ℕ → List ℕ → List ℕ → Option Cmd
+three_on_handles word a b = look_up word (
+    (codes "hget", two cmd.HGet (object_of a) (handle_of b))
     ∷ (codes "hset", two cmd.HSet (handle_of a) (object_of b))
     ∷ (codes "hsec", two cmd.HSec (handle_of a) (object_of b))
     ∷ (codes "hdep", two cmd.HDep (object_of a) (handle_of b))
@@ -133,6 +139,10 @@ three_words word a b = look_up word (
     ∷ (codes "hput", two cmd.HPut (number_of 15 a) (handle_of b))
     ∷ (codes "hpick", two cmd.HPick (handle_of a) (number_of 15 b))
     ∷ [])
+
+-- a command of three words. No first word is in both tables.
+unfoldable pub three_words : List ℕ → List ℕ → List ℕ → Option Cmd
+three_words word a b = option_or (three_on_objects word a b) (three_on_handles word a b)
 
 -- a command of four words
 unfoldable pub four_words : List ℕ → List ℕ → List ℕ → List ℕ → Option Cmd

@@ -1,0 +1,62 @@
+// The lines of a journal.
+ghost use Rattle.std.specs.Prelude.{◌≡◌, ◌+◌, ◌^◌, ◌<◌, ◌≤◌, slice_index, slice_set, All, OnOk, OnErr};
+ghost use Rattle.hd_io.specs.Counts.{Rose};
+ghost use Rattle.hd_io.specs.Written.{Appends, AppendsFront};
+ghost use Rattle.hd_model.specs.Text.{entry_text, lines_of};
+
+use crate::Line;
+use crate::reply::push_reply;
+use hd_io::{Failed, Sink, write_all};
+use hd_model::{Entry, Journal};
+
+/// How many callers may write to one journal. They are numbered from 0.
+pub const CALLERS: usize = 16;
+
+/// The line of an entry: its caller, its number among that caller's entries, and its reply.
+pub fn entry_line(entry: Entry, number: u32) -> Line
+    ensures { result ≡ entry_text entry number }
+{
+    let mut line = Line::new();
+    line.push_number(entry.caller);
+    line.push_str(" ");
+    line.push_number(number);
+    line.push_str(" ");
+    push_reply(&mut line, entry.reply);
+    line.push_str("\n");
+    line
+}
+
+// Counts one more entry of a caller, and answers its number.
+fn count_entry(counts: &mut [u32; CALLERS], caller: u32) -> u32
+    requires known { caller < CALLERS }
+    requires fits { slice_index counts.old caller + 1 < 2 ^ 32 }
+    ensures number { result ≡ slice_index counts.old caller + 1 }
+    ensures counted { counts.new ≡ slice_set counts.old caller result }
+{
+    let count = &mut counts[caller as usize];
+    *count += 1;
+    *count
+}
+
+/// Writes the line of each entry, in the journal's order. Each line goes to the sink as one piece.
+/// Where a write fails, what was written is a front of these lines.
+pub fn write_entries<K: Sink>(journal: &Journal, sink: &mut K) -> Result<(), Failed>
+    requires { All (λ e. e.caller < CALLERS) journal.now.entries }
+    ensures all { let lines = lines_of journal.now.entries in
+        OnOk result (Appends (K.written sink.old) (K.written sink.new) lines) }
+    ensures front { let lines = lines_of journal.now.entries in
+        OnErr result (AppendsFront (K.written sink.old) (K.written sink.new) lines) }
+
+    // A failure has a cause, and no cause is forgotten.
+    ensures failed { OnErr result (Rose (K.faults sink.old) (K.faults sink.new)) }
+    ensures never_falls { K.faults sink.old ≤ K.faults sink.new }
+{
+    let mut counts = [0; CALLERS];
+    for i in 0..journal.len() {
+        let entry = journal.entry(i);
+        let number = count_entry(&mut counts, entry.caller);
+        let line = entry_line(entry, number);
+        write_all(sink, line.as_bytes())?;
+    }
+    Ok(())
+}

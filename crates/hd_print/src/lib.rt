@@ -1,0 +1,15 @@
+//! Replies, journal entries and the end of a run as lines of text, and a whole journal to a sink.
+//! Nothing here takes memory.
+#![tactic(auto)]
+
+mod end;
+mod entries;
+mod line;
+mod reply;
+
+pub use end::end_line;
+pub use entries::{CALLERS, entry_line, write_entries};
+pub use line::Line;
+
+#[cfg(test)]
+mod tests;

@@ -1,0 +1,79 @@
+// A line of text that takes no memory.
+ghost use Rattle.std.specs.Prelude.{◌≡◌, ◌==◌, ◌+◌, ◌≤◌, [], ◌++◌, length};
+
+use itoa::{Buffer, Integer};
+use std::marker::Model;
+
+/// A line of text, seen as its bytes. It takes no memory, and has room for 160 bytes.
+#[derive(Debug, Drop)]
+pub struct Line {
+    bytes: [u8; Line::CAPACITY],
+    len: usize,
+}
+
+impl Model for Line {
+    ghost use Rattle.std.specs.Prelude.{ℕ, ◌≤◌, List, take};
+
+    ghost Value = { List ℕ };
+
+    ghost view = { λ line. take line.len line.bytes };
+
+    ghost invariant = { λ line. line.len ≤ 160 };
+}
+
+impl Line {
+    /// How many bytes a line has room for: more than the longest one needs.
+    pub const CAPACITY: usize = 160;
+
+    /// A line with nothing in it yet.
+    pub fn new() -> Line
+        ensures { result ≡ [] }
+    {
+        Line {
+            bytes: [0; Line::CAPACITY],
+            len: 0,
+        }
+    }
+
+    /// The number of bytes.
+    pub fn len(&self) -> usize
+        ensures value { result ≡ length self.now }
+        ensures fits { result ≤ Line.CAPACITY }
+    {
+        self.len
+    }
+
+    /// Whether nothing is in it.
+    pub fn is_empty(&self) -> bool
+        ensures { result ≡ (length self.now == 0) }
+    {
+        self.len == 0
+    }
+
+    /// The bytes.
+    pub fn as_bytes(&self) -> &[u8]
+        ensures { result.now ≡ self.now }
+    {
+        &self.bytes[..self.len]
+    }
+
+    /// Appends a text, for which there is room.
+    pub fn push_str(&mut self, text: &str)
+        requires { length self.old + length text.now ≤ Line.CAPACITY }
+        ensures { self.new ≡ self.old ++ text.now }
+    {
+        let end = self.len + text.len();
+        self.bytes[self.len..end].copy_from_slice(text.as_bytes());
+        self.len = end;
+    }
+
+    /// Appends a number in decimal, for which there is room.
+    pub fn push_number<I: Integer>(&mut self, number: I)
+        requires { length self.old + I.MAX_STR_LEN ≤ Line.CAPACITY }
+        ensures text { self.new ≡ self.old ++ I.text number }
+        ensures short { length self.new ≤ length self.old + I.MAX_STR_LEN }
+    {
+        let mut buffer = Buffer::new();
+        self.push_str(buffer.format(number));
+    }
+}

@@ -1,0 +1,101 @@
+// The texts of replies.
+ghost use Rattle.std.specs.Prelude.{◌≡◌, ◌+◌, ◌≤◌, ◌++◌, length};
+ghost use Rattle.hd_model.specs.Text.{reply_text, refusal_text, identity_text, report_text};
+
+use crate::Line;
+use hd_model::{Id, Refusal, Reply, Report};
+
+/// How many bytes the longest identity takes: two numbers of ten digits and a dot.
+const LONGEST_IDENTITY: usize = 21;
+
+/// How many bytes the longest reply takes: a report of six numbers of ten digits, with their words.
+const LONGEST_REPLY: usize = 101;
+
+// Appends an identity as its caller and its serial.
+fn push_identity(line: &mut Line, id: Id)
+    requires { length line.old + LONGEST_IDENTITY ≤ Line.CAPACITY }
+    ensures text { line.new ≡ line.old ++ identity_text id }
+    ensures short { length line.new ≤ length line.old + LONGEST_IDENTITY }
+{
+    let caller = (id.0 >> 32) as u32;
+    let serial = (id.0 & 0xffff_ffff) as u32;
+    line.push_number(caller);
+    line.push_str(".");
+    line.push_number(serial);
+}
+
+// Appends what a collection did.
+fn push_report(line: &mut Line, report: Report)
+    requires { length line.old + LONGEST_REPLY ≤ Line.CAPACITY }
+    ensures text { line.new ≡ line.old ++ report_text report }
+    ensures short { length line.new ≤ length line.old + LONGEST_REPLY }
+{
+    line.push_str("kept ");
+    line.push_number(report.kept);
+    line.push_str(" removed ");
+    line.push_number(report.removed);
+    line.push_str(" short ");
+    line.push_number(report.short);
+    line.push_str(" long ");
+    line.push_number(report.long);
+    line.push_str(" dep ");
+    line.push_number(report.dep);
+    line.push_str(" revived ");
+    line.push_number(report.revived);
+}
+
+// Appends why a command was refused.
+fn push_refusal(line: &mut Line, refusal: Refusal)
+    requires { length line.old + LONGEST_REPLY ≤ Line.CAPACITY }
+    ensures text { line.new ≡ line.old ++ refusal_text refusal }
+    ensures short { length line.new ≤ length line.old + LONGEST_REPLY }
+{
+    match refusal {
+        Refusal::Null => line.push_str("nullref"),
+        Refusal::BadField => line.push_str("badfield"),
+        Refusal::HeapFull { used, size } => {
+            line.push_str("heapfull ");
+            line.push_number(used);
+            line.push_str(" ");
+            line.push_number(size);
+        }
+        Refusal::TableFull { given } => {
+            line.push_str("tablefull ");
+            line.push_number(given);
+        }
+        Refusal::NotLive => line.push_str("notlive"),
+        Refusal::WrongKind => line.push_str("wrongkind"),
+        Refusal::EmptyRegister => line.push_str("empty"),
+    }
+}
+
+// Appends a reply.
+pub(crate) fn push_reply(line: &mut Line, reply: Reply)
+    requires { length line.old + LONGEST_REPLY ≤ Line.CAPACITY }
+    ensures text { line.new ≡ line.old ++ reply_text reply }
+    ensures short { length line.new ≤ length line.old + LONGEST_REPLY }
+{
+    match reply {
+        Reply::Done => line.push_str("ok"),
+        Reply::Object(id) => {
+            line.push_str("obj ");
+            push_identity(line, id);
+        }
+        Reply::Nothing => line.push_str("null"),
+        Reply::Value(n) => {
+            line.push_str("value ");
+            line.push_number(n);
+        }
+        Reply::Generation(g) => {
+            line.push_str("gen ");
+            line.push_number(g);
+        }
+        Reply::Place(p) => {
+            line.push_str("addr ");
+            line.push_number(p);
+        }
+        Reply::Report(report) => push_report(line, report),
+        Reply::NoneQueued => line.push_str("none"),
+        Reply::Refused(refusal) => push_refusal(line, refusal),
+    }
+}

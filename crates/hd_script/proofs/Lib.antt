@@ -1,0 +1,9 @@
+pub mod Cutting
+pub mod Digits
+pub mod Saying
+pub mod Listing
+pub mod Following
+pub mod Whole
+pub mod Speakers
+pub mod SameWords
+pub mod FirstFault

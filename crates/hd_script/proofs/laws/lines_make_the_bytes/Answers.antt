@@ -1,0 +1,5 @@
+use Rattle.hd_script.proofs.Whole as laws
+use Rattle.hd_script.proofs.laws.lines_make_the_bytes.Goals as goal
+
+pub returns : goal.returns
+returns c = laws.lines_make_the_bytes

@@ -1,0 +1,14 @@
+use Rattle.std.proofs.Common.{◌≡◌, ◌<◌, drop, length, fold}
+use Rattle.std.specs.List.{list_all}
+use Rattle.std.specs.Char.{is_ascii_digit}
+use Rattle.hd_model.specs.Grammar.{value_of}
+use Rattle.hd_script.proofs.Digits.{with_digit}
+use Rattle.hd_script.proofs.numbers.number.Given as goal
+
+-- the digits that are left make of the value so far what the word is worth
+abbrev pub invariant-loop-b : goal.invariant-loop-b
+invariant-loop-b l = record {
+  worth : fold with_digit l.value (drop l.b-index l.word) ≡ value_of l.word;
+  digits : list_all is_ascii_digit (drop l.b-index l.word) ≡ list_all is_ascii_digit l.word;
+  some : 0 < length l.word;
+}

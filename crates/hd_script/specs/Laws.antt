@@ -1,0 +1,68 @@
+-- What is true of every script, whoever reads it.
+use Rattle.std.specs.Prelude.{◌≡◌, ◌≢◌, ℕ, ◌+◌, ◌<◌, ◌≤◌, ◌==◌, Bool, true, false, if◌then◌else◌, List, [], ◌∷◌, ◌++◌, map, length, take, fold, filter, filter_map, flat_map, slice_index_or, All, count_by, Option, Some, None, Ok, Err, ◌⊎◌}
+use Rattle.std.specs.List.{enumerate_from}
+use Rattle.hd_model.specs.declared.command.Cmd.{Cmd}
+use Rattle.hd_model.specs.Grammar.{Reading, lines_in, words_of, readings_of, blank, command, caller_after, command_in, most_commands, script_of}
+
+-- the bytes are lines that each end at a byte 10, and behind them a last one without an end, which is a line where it has a byte
+pub record AreLinesOf (bytes : List ℕ) (found : List (List ℕ)) : Type 0 where
+  pub ended : List (List ℕ)
+  pub last : List ℕ
+  pub whole : bytes ≡ flat_map (λ line. line ++ 10 ∷ []) ended ++ last
+  pub no_end_within : All (λ line. All (λ b. b ≢ 10) line) ended
+  pub no_end_in_last : All (λ b. b ≢ 10) last
+  pub lines : found ≡ ended ++ (if length last == 0 then [] else last ∷ [])
+
+-- the lines and their ends together are the bytes
+abbrev pub LinesMakeTheBytes : Type 0
+LinesMakeTheBytes = (bytes : List ℕ) → AreLinesOf bytes (lines_in bytes)
+
+-- whose line it is that stands behind others: that of the caller whom the nearest `caller` line above names, or of caller 0
+abbrev pub caller_behind : List (Option Reading) → ℕ
+caller_behind above = fold caller_after 0 above
+
+-- the command of a line, which goes by its place and what it says, where it is a command of this caller
+abbrev pub command_for : List (Option Reading) → ℕ → ℕ × Option Reading → Option Cmd
+command_for readings wanted line = if caller_behind (take line.0 readings) == wanted then command_in line.1 else None
+
+-- each caller's list is the commands of its lines, in their order
+abbrev pub ListsFollowTheLines : Type 0
+ListsFollowTheLines = (bytes : List ℕ) (lists : List (List Cmd)) → script_of bytes ≡ Ok lists → (wanted : ℕ) → wanted < length lists →
+    slice_index_or lists wanted [] ≡ filter_map (command_for (readings_of bytes) wanted) (enumerate_from 0 (readings_of bytes))
+
+-- whether a line has words
+abbrev pub has_words : List (List ℕ) → Bool
+has_words [] = false
+has_words (word ∷ words) = true
+
+-- the words of the lines that have some
+abbrev pub words_of_lines : List ℕ → List (List (List ℕ))
+words_of_lines bytes = filter has_words (map words_of (lines_in bytes))
+
+-- two scripts whose lines have the same words, lines without words left out, have the same lists
+abbrev pub WordsDecide : Type 0
+WordsDecide = (one other : List ℕ) (lists : List (List Cmd)) → words_of_lines one ≡ words_of_lines other →
+    script_of one ≡ Ok lists → script_of other ≡ Ok lists
+
+-- whether a line is a command
+abbrev pub is_command : Option Reading → Bool
+is_command (Some (command c)) = true
+is_command _ = false
+
+-- a line, by its place from 0, is at fault: it has no reading, or it is a command and too many stand above it
+pub record IsAtFault (readings : List (Option Reading)) (place : ℕ) : Type 0 where
+  pub within : place < length readings
+  pub why : (slice_index_or readings place (Some blank) ≡ None)
+      ⊎ ((is_command (slice_index_or readings place None) ≡ true) × (most_commands ≤ count_by is_command (take place readings)))
+
+-- a line, by its number from 1, is the first that is at fault
+pub record IsFirstAtFault (readings : List (Option Reading)) (line : ℕ) : Type 0 where
+  pub place : ℕ
+  pub number : line ≡ place + 1
+  pub fault : IsAtFault readings place
+  pub first : (other : ℕ) → other < place → IsAtFault readings other → ⊥
+
+-- a script is refused for its first line at fault, and no script has one
+pub record FaultsComeFirst : Type 0 where
+  pub refused : (bytes : List ℕ) (line : ℕ) → script_of bytes ≡ Err line → IsFirstAtFault (readings_of bytes) line
+  pub accepted : (bytes : List ℕ) (lists : List (List Cmd)) → script_of bytes ≡ Ok lists → (place : ℕ) → IsAtFault (readings_of bytes) place → ⊥

@@ -1,0 +1,5 @@
+pub mod Words
+pub mod Said
+pub mod Lists
+pub mod Fault
+pub mod Laws

@@ -1,0 +1,18 @@
+-- What the code's readings say, in the words of the grammar.
+use Rattle.std.specs.Prelude.{◌<◌}
+use Rattle.hd_model.specs.Grammar.{Reading as Said, blank, caller, command}
+use Rattle.hd_model.specs.Valid.{IsValid}
+use Rattle.hd_script.specs.declared.reading.Reading.{Reading}
+use Rattle.hd_script.specs.declared.reading.Reading.TheVariants.{Blank, Caller, Command}
+
+-- what a reading says
+abbrev pub seen : Reading → Said
+seen Blank = blank
+seen (Caller n) = caller n
+seen (Command c) = command c
+
+-- a caller is one of the 16, and a command is valid
+abbrev pub IsValidReading : Reading → Type 0
+IsValidReading Blank = Unit {0}
+IsValidReading (Caller n) = n < 16
+IsValidReading (Command c) = IsValid c

@@ -1,0 +1,18 @@
+//! The scripts: texts of lines, each with a command of a caller. They are read into one list of
+//! commands per caller.
+#![tactic(auto)]
+
+mod fault;
+mod laws;
+mod numbers;
+mod parsing;
+mod reading;
+mod scripts;
+#[cfg(test)]
+mod tests;
+mod text;
+
+pub use fault::ScriptFault;
+pub use laws::{faults_come_first, lines_make_the_bytes, lists_follow_the_lines, words_decide};
+pub use parsing::parse;
+pub use scripts::Scripts;

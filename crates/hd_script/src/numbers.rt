@@ -1,0 +1,61 @@
+// Numbers and registers, as words.
+ghost use Rattle.std.specs.Prelude.{◌≡◌, ◌≤◌, IfSome};
+ghost use Rattle.hd_model.specs.Grammar.{number_of, register_of, object_of, handle_of};
+
+/// The number that a word writes, where it is at most `most`.
+#[tactic(auto, unfolding(hd_model::specs::Grammar::number_of))]
+pub fn number(word: &[u8], most: u64) -> Option<u64>
+    ensures value { result ≡ number_of most word.now }
+    ensures bound { IfSome result (λ n. n ≤ most) }
+{
+    if word.is_empty() {
+        return None;
+    }
+    let mut value: u64 = 0;
+    for b in word {
+        if !b.is_ascii_digit() {
+            return None;
+        }
+        value = value.checked_mul(10)?.checked_add(u64::from(*b - b'0'))?;
+    }
+    if value <= most { Some(value) } else { None }
+}
+
+/// The same of a number that fits a byte.
+pub fn small(word: &[u8], most: u8) -> Option<u8>
+    ensures value { result ≡ number_of most word.now }
+    ensures bound { IfSome result (λ n. n ≤ most) }
+{
+    let value = number(word, u64::from(most))?;
+    Some(value as u8)
+}
+
+/// The register that a word names, by its letter.
+#[tactic(auto, unfolding(hd_model::specs::Grammar::register_of))]
+fn register(word: &[u8], letter: u8) -> Option<u8>
+    ensures value { result ≡ register_of letter word.now }
+    ensures bound { IfSome result (λ n. n ≤ 15) }
+{
+    let (first, digits) = word.split_first()?;
+    if *first == letter {
+        small(digits, 15)
+    } else {
+        None
+    }
+}
+
+/// The object register that a word names.
+pub fn object(word: &[u8]) -> Option<u8>
+    ensures value { result ≡ object_of word.now }
+    ensures bound { IfSome result (λ n. n ≤ 15) }
+{
+    register(word, b'r')
+}
+
+/// The handle register that a word names.
+pub fn handle(word: &[u8]) -> Option<u8>
+    ensures value { result ≡ handle_of word.now }
+    ensures bound { IfSome result (λ n. n ≤ 15) }
+{
+    register(word, b'h')
+}

@@ -1,0 +1,46 @@
+ghost use Rattle.std.specs.Prelude.{◌≡◌, ◌≤◌, length, IfOk, IfErr};
+ghost use Rattle.hd_model.specs.Grammar.{IsScript, AreLists};
+ghost use Rattle.hd_script.specs.Fault.{IsFaultOf};
+
+use super::fault::ScriptFault;
+use super::reading::{Reading, read_line};
+use super::scripts::{MOST_COMMANDS, Scripts};
+use super::text::first_line;
+use std::alloc::Global;
+
+/// Reads a script of at most 8,388,608 bytes. A line is one command, a comment, or `caller N`,
+/// which says whose commands follow.
+pub fn parse(alloc: Global, bytes: &[u8]) -> Result<Scripts, ScriptFault>
+    requires { length bytes.now ≤ 8388608 }
+
+    // `Ok` has the lists of the script, and `Line` the first line that has no reading or holds a
+    // command too many.
+    ensures ok { IfOk result (IsScript bytes.now) }
+    ensures line { IfErr result (IsFaultOf bytes.now) }
+    ensures lists { IfOk result AreLists }
+{
+    let mut scripts = Scripts::new(alloc)?;
+    let mut caller = 0;
+    let mut number = 0;
+    let mut rest = bytes;
+    'lines: while !rest.is_empty() {
+        let (line, behind) = first_line(rest);
+        rest = behind;
+        number += 1;
+        match read_line(line) {
+            None => return Err(ScriptFault::Line(number)),
+            Some(Reading::Blank) => {}
+            Some(Reading::Caller(named)) => {
+                scripts.open(alloc, named)?;
+                caller = named;
+            }
+            Some(Reading::Command(cmd)) => {
+                if scripts.total() == MOST_COMMANDS {
+                    return Err(ScriptFault::Line(number));
+                }
+                scripts.add(caller, cmd)?;
+            }
+        }
+    }
+    Ok(scripts)
+}

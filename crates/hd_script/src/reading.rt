@@ -1,0 +1,274 @@
+// What a line says. Each table is one function per number of words.
+ghost use Rattle.std.specs.Prelude.{◌≡◌, IfSome, bytes_eq, option_map};
+ghost use Rattle.hd_model.specs.Grammar as grammar;
+ghost use Rattle.hd_model.specs.Valid.{IsValid, IsValidMake};
+ghost use Rattle.hd_script.specs.Said.{seen, IsValidReading};
+
+use super::numbers::{handle, number, object, small};
+use super::text::{content, next_word};
+use hd_model::{Cmd, Make, Strength};
+
+/// What a line says.
+#[derive(Clone, Copy)]
+pub enum Reading {
+    /// It has no words.
+    Blank,
+    /// The commands of this caller follow.
+    Caller(u8),
+    Command(Cmd),
+}
+
+/// What a line says, or none where it has no reading.
+#[tactic(auto, unfolding(hd_model::specs::Grammar::words_of))]
+pub fn read_line(line: &[u8]) -> Option<Reading>
+    ensures exact { option_map seen result ≡ grammar.reading_of (grammar.words_of line.now) }
+    ensures valid { IfSome result IsValidReading }
+{
+    read_words(content(line))
+}
+
+// What words say.
+fn read_words(bytes: &[u8]) -> Option<Reading>
+    ensures exact { option_map seen result ≡ grammar.reading_of (grammar.words_in bytes.now) }
+    ensures valid { IfSome result IsValidReading }
+{
+    let Some((word, rest)) = next_word(bytes) else {
+        return Some(Reading::Blank);
+    };
+    let (a, rest) = next_word(rest)?;
+    let Some((b, rest)) = next_word(rest) else {
+        return if spells(word, "caller") {
+            Some(Reading::Caller(small(a, 15)?))
+        } else {
+            Some(Reading::Command(two_words(word, a)?))
+        };
+    };
+    let Some((c, rest)) = next_word(rest) else {
+        return Some(Reading::Command(three_words(word, a, b)?));
+    };
+    let Some((d, rest)) = next_word(rest) else {
+        return Some(Reading::Command(four_words(word, a, b, c)?));
+    };
+    if next_word(rest).is_some() {
+        return None;
+    }
+    Some(Reading::Command(five_words(word, a, b, c, d)?))
+}
+
+// A command of two words.
+#[tactic(auto, unfolding(hd_model::specs::Grammar::two_words))]
+fn two_words(word: &[u8], a: &[u8]) -> Option<Cmd>
+    ensures exact { result ≡ grammar.two_words word.now a.now }
+    ensures valid { IfSome result IsValid }
+{
+    if spells(word, "read") {
+        Some(Cmd::Read { o: object(a)? })
+    } else if spells(word, "drop") {
+        Some(Cmd::Clear { d: object(a)? })
+    } else if spells(word, "gen") {
+        Some(Cmd::Gen { s: object(a)? })
+    } else if spells(word, "suppress") {
+        Some(Cmd::Suppress { s: object(a)? })
+    } else if spells(word, "reregister") {
+        Some(Cmd::Reregister { s: object(a)? })
+    } else if spells(word, "final") {
+        Some(Cmd::Final { d: object(a)? })
+    } else if spells(word, "collect") {
+        Some(Cmd::Collect { n: small(a, 2)? })
+    } else if spells(word, "hfree") {
+        Some(Cmd::HFree { s: handle(a)? })
+    } else if spells(word, "addr") {
+        Some(Cmd::AddrOf { s: handle(a)? })
+    } else {
+        None
+    }
+}
+
+// A command of three words.
+#[tactic(auto, unfolding(hd_model::specs::Grammar::three_words))]
+fn three_words(word: &[u8], a: &[u8], b: &[u8]) -> Option<Cmd>
+    ensures exact { result ≡ grammar.three_words word.now a.now b.now }
+    ensures valid { IfSome result IsValid }
+{
+    match three_on_objects(word, a, b) {
+        Some(cmd) => Some(cmd),
+        None => three_on_handles(word, a, b),
+    }
+}
+
+#[tactic(auto, unfolding(hd_model::specs::Grammar::three_on_objects))]
+fn three_on_objects(word: &[u8], a: &[u8], b: &[u8]) -> Option<Cmd>
+    ensures exact { result ≡ grammar.three_on_objects word.now a.now b.now }
+    ensures valid { IfSome result IsValid }
+{
+    if spells(word, "new") {
+        let (d, fields) = (object(a)?, small(b, 61)?);
+        Some(Cmd::New {
+            d,
+            fields,
+            fin: false,
+        })
+    } else if spells(word, "val") {
+        let (o, n) = (object(a)?, number(b, u64::MAX)?);
+        Some(Cmd::Val { o, n })
+    } else if spells(word, "copy") {
+        let (d, s) = (object(a)?, object(b)?);
+        Some(Cmd::Copy { d, s })
+    } else if spells(word, "sput") {
+        let (k, s) = (small(a, 15)?, object(b)?);
+        Some(Cmd::SPut { k, s })
+    } else if spells(word, "sget") {
+        let (d, k) = (object(a)?, small(b, 15)?);
+        Some(Cmd::SGet { d, k })
+    } else {
+        None
+    }
+}
+
+#[tactic(auto, unfolding(hd_model::specs::Grammar::three_on_handles))]
+fn three_on_handles(word: &[u8], a: &[u8], b: &[u8]) -> Option<Cmd>
+    ensures exact { result ≡ grammar.three_on_handles word.now a.now b.now }
+    ensures valid { IfSome result IsValid }
+{
+    if spells(word, "hget") {
+        let (d, s) = (object(a)?, handle(b)?);
+        Some(Cmd::HGet { d, s })
+    } else if spells(word, "hset") {
+        let (s, t) = (handle(a)?, object(b)?);
+        Some(Cmd::HSet { s, t })
+    } else if spells(word, "hsec") {
+        let (h, s) = (handle(a)?, object(b)?);
+        Some(Cmd::HSec { h, s })
+    } else if spells(word, "hdep") {
+        let (d, s) = (object(a)?, handle(b)?);
+        Some(Cmd::HDep { d, s })
+    } else if spells(word, "hvar") {
+        let (s, strength) = (handle(a)?, strength(b)?);
+        Some(Cmd::HVar { s, strength })
+    } else if spells(word, "hput") {
+        let (k, s) = (small(a, 15)?, handle(b)?);
+        Some(Cmd::HPut { k, s })
+    } else if spells(word, "hpick") {
+        let (d, k) = (handle(a)?, small(b, 15)?);
+        Some(Cmd::HPick { d, k })
+    } else {
+        None
+    }
+}
+
+// A command of four words.
+#[tactic(auto, unfolding(hd_model::specs::Grammar::four_words))]
+fn four_words(word: &[u8], a: &[u8], b: &[u8], c: &[u8]) -> Option<Cmd>
+    ensures exact { result ≡ grammar.four_words word.now a.now b.now c.now }
+    ensures valid { IfSome result IsValid }
+{
+    if spells(word, "new") {
+        let (d, fields, fin) = (object(a)?, small(b, 61)?, fin(c)?);
+        Some(Cmd::New { d, fields, fin })
+    } else if spells(word, "set") {
+        let (o, i, v) = (object(a)?, small(b, 255)?, object(c)?);
+        Some(Cmd::Set { o, i, v })
+    } else if spells(word, "get") {
+        let (d, o, i) = (object(a)?, object(b)?, small(c, 255)?);
+        Some(Cmd::Get { d, o, i })
+    } else if spells(word, "hnew") {
+        let (d, make, t) = (handle(a)?, make(b)?, object(c)?);
+        Some(Cmd::HNew { d, make, t })
+    } else {
+        None
+    }
+}
+
+// A command of five words.
+#[tactic(auto, unfolding(hd_model::specs::Grammar::five_words))]
+fn five_words(word: &[u8], a: &[u8], b: &[u8], c: &[u8], d: &[u8]) -> Option<Cmd>
+    ensures exact { result ≡ grammar.five_words word.now a.now b.now c.now d.now }
+    ensures valid { IfSome result IsValid }
+{
+    if spells(word, "hnew") {
+        hnew(a, b, c, d)
+    } else {
+        None
+    }
+}
+
+// A handle whose kind needs more than its target.
+#[tactic(auto, unfolding(hd_model::specs::Grammar::hnew_of))]
+fn hnew(a: &[u8], kind: &[u8], c: &[u8], d: &[u8]) -> Option<Cmd>
+    ensures exact { result ≡ grammar.hnew_of a.now kind.now c.now d.now }
+    ensures valid { IfSome result IsValid }
+{
+    if spells(kind, "var") {
+        let (register, t) = (handle(a)?, object(c)?);
+        Some(Cmd::HNew {
+            d: register,
+            make: Make::Variable(strength(d)?),
+            t,
+        })
+    } else if spells(kind, "dep") {
+        let (register, t) = (handle(a)?, object(c)?);
+        Some(Cmd::HNew {
+            d: register,
+            make: Make::Dependent(object(d)?),
+            t,
+        })
+    } else {
+        None
+    }
+}
+
+// The strength of a variable handle.
+#[tactic(auto, unfolding(hd_model::specs::Grammar::strength_of))]
+fn strength(word: &[u8]) -> Option<Strength>
+    ensures { result ≡ grammar.strength_of word.now }
+{
+    if spells(word, "short") {
+        Some(Strength::Short)
+    } else if spells(word, "long") {
+        Some(Strength::Long)
+    } else if spells(word, "strong") {
+        Some(Strength::Strong)
+    } else if spells(word, "pinned") {
+        Some(Strength::Pinned)
+    } else {
+        None
+    }
+}
+
+// A kind of handle that needs no more than its target.
+#[tactic(auto, unfolding(hd_model::specs::Grammar::make_of))]
+fn make(word: &[u8]) -> Option<Make>
+    ensures exact { result ≡ grammar.make_of word.now }
+    ensures valid { IfSome result IsValidMake }
+{
+    if spells(word, "short") {
+        Some(Make::Short)
+    } else if spells(word, "long") {
+        Some(Make::Long)
+    } else if spells(word, "strong") {
+        Some(Make::Strong)
+    } else if spells(word, "pinned") {
+        Some(Make::Pinned)
+    } else {
+        None
+    }
+}
+
+// `fin`, which registers a new object for finalisation.
+#[tactic(auto, unfolding(hd_model::specs::Grammar::fin_of))]
+fn fin(word: &[u8]) -> Option<bool>
+    ensures { result ≡ grammar.fin_of word.now }
+{
+    if spells(word, "fin") {
+        Some(true)
+    } else {
+        None
+    }
+}
+
+// Whether a word is this text.
+fn spells(word: &[u8], text: &str) -> bool
+    ensures { result ≡ bytes_eq word.now text.now }
+{
+    word == text.as_bytes()
+}

@@ -1,0 +1,314 @@
+use crate::{
+    ScriptFault, Scripts, faults_come_first, lines_make_the_bytes, lists_follow_the_lines, parse,
+    words_decide,
+};
+use hd_model::{Cmd, Make, Strength};
+use std::alloc::{AllocError, Global};
+use std::test::Fail;
+
+// The commands of one caller, in their order.
+fn commands(alloc: Global, scripts: &Scripts, caller: u32) -> Result<Vec<Cmd>, AllocError> {
+    let mut found = Vec::new(alloc);
+    if caller < scripts.callers() {
+        for i in 0..scripts.len(caller) {
+            found.push(scripts.cmd(caller, i))?;
+        }
+    }
+    Ok(found)
+}
+
+// The text of `count` lines, each with one command.
+fn reads(alloc: Global, count: u32) -> Result<Vec<u8>, AllocError> {
+    let mut text = Vec::new(alloc);
+    for _ in 0..count {
+        text.extend_from_slice(b"read r1\n")?;
+    }
+    Ok(text)
+}
+
+#[test]
+fn each_command_has_its_line(rt: HostRuntime) -> Result<(), Fail> {
+    let table = [
+        (
+            "new r0 0",
+            Cmd::New {
+                d: 0,
+                fields: 0,
+                fin: false,
+            },
+        ),
+        (
+            "new r15 61 fin",
+            Cmd::New {
+                d: 15,
+                fields: 61,
+                fin: true,
+            },
+        ),
+        ("set r1 255 r2", Cmd::Set { o: 1, i: 255, v: 2 }),
+        ("get r3 r4 0", Cmd::Get { d: 3, o: 4, i: 0 }),
+        (
+            "val r0 18446744073709551615",
+            Cmd::Val {
+                o: 0,
+                n: 18446744073709551615,
+            },
+        ),
+        ("read r5", Cmd::Read { o: 5 }),
+        ("copy r6 r7", Cmd::Copy { d: 6, s: 7 }),
+        ("drop r8", Cmd::Clear { d: 8 }),
+        ("sput 15 r9", Cmd::SPut { k: 15, s: 9 }),
+        ("sget r10 0", Cmd::SGet { d: 10, k: 0 }),
+        ("gen r11", Cmd::Gen { s: 11 }),
+        ("suppress r12", Cmd::Suppress { s: 12 }),
+        ("reregister r13", Cmd::Reregister { s: 13 }),
+        ("final r14", Cmd::Final { d: 14 }),
+        ("collect 2", Cmd::Collect { n: 2 }),
+        (
+            "hnew h0 short r1",
+            Cmd::HNew {
+                d: 0,
+                make: Make::Short,
+                t: 1,
+            },
+        ),
+        (
+            "hnew h0 long r1",
+            Cmd::HNew {
+                d: 0,
+                make: Make::Long,
+                t: 1,
+            },
+        ),
+        (
+            "hnew h0 strong r1",
+            Cmd::HNew {
+                d: 0,
+                make: Make::Strong,
+                t: 1,
+            },
+        ),
+        (
+            "hnew h0 pinned r1",
+            Cmd::HNew {
+                d: 0,
+                make: Make::Pinned,
+                t: 1,
+            },
+        ),
+        (
+            "hnew h1 var r2 long",
+            Cmd::HNew {
+                d: 1,
+                make: Make::Variable(Strength::Long),
+                t: 2,
+            },
+        ),
+        (
+            "hnew h2 dep r3 r4",
+            Cmd::HNew {
+                d: 2,
+                make: Make::Dependent(4),
+                t: 3,
+            },
+        ),
+        ("hget r1 h2", Cmd::HGet { d: 1, s: 2 }),
+        ("hset h3 r4", Cmd::HSet { s: 3, t: 4 }),
+        ("hsec h5 r6", Cmd::HSec { h: 5, s: 6 }),
+        ("hdep r7 h8", Cmd::HDep { d: 7, s: 8 }),
+        (
+            "hvar h9 pinned",
+            Cmd::HVar {
+                s: 9,
+                strength: Strength::Pinned,
+            },
+        ),
+        (
+            "hvar h9 short",
+            Cmd::HVar {
+                s: 9,
+                strength: Strength::Short,
+            },
+        ),
+        (
+            "hvar h9 strong",
+            Cmd::HVar {
+                s: 9,
+                strength: Strength::Strong,
+            },
+        ),
+        ("hfree h10", Cmd::HFree { s: 10 }),
+        ("hput 0 h11", Cmd::HPut { k: 0, s: 11 }),
+        ("hpick h12 15", Cmd::HPick { d: 12, k: 15 }),
+        ("addr h13", Cmd::AddrOf { s: 13 }),
+        ("\tcopy \t r1   r2 \t", Cmd::Copy { d: 1, s: 2 }),
+        (
+            "new r0007 00000000000000000000061",
+            Cmd::New {
+                d: 7,
+                fields: 61,
+                fin: false,
+            },
+        ),
+        ("read r1#new r0 0", Cmd::Read { o: 1 }),
+        ("read r1 # a comment\r\n", Cmd::Read { o: 1 }),
+        ("read r1\r", Cmd::Read { o: 1 }),
+    ];
+    for (text, want) in table {
+        assert!(rt; text.len() < 1_000);
+        let scripts = parse(rt.alloc(), text.as_bytes())?;
+        assert_eq!(rt;
+            commands(rt.alloc(), &scripts, 0)?.as_slice(),
+            [want].as_slice(),
+            "{text}"
+        );
+        assert_eq!(rt; (scripts.callers(), scripts.total()), (1, 1), "{text}");
+    }
+    Ok(())
+}
+
+#[test]
+fn other_lines_have_no_reading(rt: HostRuntime) {
+    let table = [
+        "hgett r0 h0",
+        "new r0 62",
+        "collect 3",
+        "val r0 18446744073709551616",
+        "val r0 100000000000000000000000000000000",
+        "val r0 +1",
+        "val r0 -1",
+        "val r0 1x",
+        "val r0 0x1",
+        "set r0 256 r1",
+        "sput 16 r0",
+        "read r16",
+        "read r",
+        "read r-1",
+        "read 1",
+        "read h1",
+        "read R1",
+        "Read r1",
+        "read",
+        "read r1 r2",
+        "new r0",
+        "new r0 1 Fin",
+        "new r0 1 fin fin",
+        "hnew h0 var r1",
+        "hnew h0 var r1 weak",
+        "hnew h0 short r1 r2",
+        "hnew h0 dep r1 r2 r3",
+        "caller",
+        "caller 016",
+        "caller 1 2",
+        "caller 0 read r1",
+        "read\rr1",
+        "read r1\r\r",
+        "read r1\r# a comment",
+        "read\u{a0}r1",
+    ];
+    for text in table {
+        assert!(rt; text.len() < 1_000);
+        let found = parse(rt.alloc(), text.as_bytes()).err();
+        assert_eq!(rt; found, Some(ScriptFault::Line(1)), "{text}");
+    }
+}
+
+#[test]
+fn lines_without_words_are_skipped(rt: HostRuntime) -> Result<(), Fail> {
+    let none = parse(rt.alloc(), b"")?;
+    assert_eq!(rt; (none.callers(), none.total()), (1, 0));
+    let blank = parse(rt.alloc(), b"\n\r\n \t\r\n# read r1\xff\x00\r\r\n#\r")?;
+    assert_eq!(rt; (blank.callers(), blank.total()), (1, 0));
+    let fault = parse(rt.alloc(), b"\n\r\n# a comment\nread").err();
+    assert_eq!(rt; fault, Some(ScriptFault::Line(4)));
+    Ok(())
+}
+
+#[test]
+fn a_last_line_needs_no_end(rt: HostRuntime) -> Result<(), Fail> {
+    let misspelt = parse(rt.alloc(), b"new r0 0\nhnew h0 strong r0\nhgett r0 h0\n").err();
+    assert_eq!(rt; misspelt, Some(ScriptFault::Line(3)));
+    let one = parse(rt.alloc(), b"new r0 0")?;
+    let made = Cmd::New {
+        d: 0,
+        fields: 0,
+        fin: false,
+    };
+    assert_eq!(rt;
+        commands(rt.alloc(), &one, 0)?.as_slice(),
+        [made].as_slice()
+    );
+    Ok(())
+}
+
+#[test]
+fn the_largest_values_are_read(rt: HostRuntime) -> Result<(), Fail> {
+    let text =
+        b"new r0 61\nset r0 60 r0\nval r0 18446744073709551615\nread r0\ncollect 0\nget r1 r0 60\n";
+    let scripts = parse(rt.alloc(), text)?;
+    let want = [
+        Cmd::New {
+            d: 0,
+            fields: 61,
+            fin: false,
+        },
+        Cmd::Set { o: 0, i: 60, v: 0 },
+        Cmd::Val {
+            o: 0,
+            n: 18446744073709551615,
+        },
+        Cmd::Read { o: 0 },
+        Cmd::Collect { n: 0 },
+        Cmd::Get { d: 1, o: 0, i: 60 },
+    ];
+    assert_eq!(rt;
+        commands(rt.alloc(), &scripts, 0)?.as_slice(),
+        want.as_slice()
+    );
+    Ok(())
+}
+
+#[test]
+fn commands_follow_their_caller(rt: HostRuntime) -> Result<(), Fail> {
+    let text = b"read r9\ncaller 3\nread r1\ncaller 0\nread r2\n\ncaller 3\nread r3\ncaller 01\n";
+    let scripts = parse(rt.alloc(), text)?;
+    let read = |o: u8| Cmd::Read { o };
+    assert_eq!(rt; scripts.callers(), 4);
+    assert_eq!(rt; scripts.total(), 4);
+    assert_eq!(rt;
+        commands(rt.alloc(), &scripts, 0)?.as_slice(),
+        [read(9), read(2)].as_slice()
+    );
+    assert_eq!(rt; commands(rt.alloc(), &scripts, 1)?.len(), 0);
+    assert_eq!(rt; commands(rt.alloc(), &scripts, 2)?.len(), 0);
+    assert_eq!(rt;
+        commands(rt.alloc(), &scripts, 3)?.as_slice(),
+        [read(1), read(3)].as_slice()
+    );
+    assert_eq!(rt; parse(rt.alloc(), b"caller 015")?.callers(), 16);
+    Ok(())
+}
+
+#[test]
+fn a_command_too_many_is_a_fault(rt: HostRuntime) -> Result<(), Fail> {
+    let mut text = reads(rt.alloc(), 100_000)?;
+    assert_eq!(rt; text.len(), 800_000);
+    let all = parse(rt.alloc(), &text)?;
+    assert_eq!(rt; (all.total(), all.callers()), (100_000, 1));
+    assert_eq!(rt; all.len(0), 100_000);
+    text.extend_from_slice(b"# a comment\ncaller 1\nread r1\nhgett r1 h1\n")?;
+    assert!(rt; text.len() < 1_000_000);
+    assert_eq!(rt;
+        parse(rt.alloc(), &text).err(),
+        Some(ScriptFault::Line(100_003))
+    );
+    Ok(())
+}
+
+#[test]
+fn the_laws_are_called() {
+    lines_make_the_bytes();
+    lists_follow_the_lines();
+    words_decide();
+    faults_come_first();
+}
