@@ -1,0 +1,5 @@
+pub mod Places
+pub mod Tables
+pub mod Identities
+pub mod Sums
+pub mod Rows

@@ -1,0 +1,5 @@
+pub mod Numbered
+pub mod Inside
+pub mod World
+pub mod Store
+pub mod Answer

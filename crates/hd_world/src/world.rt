@@ -1,0 +1,173 @@
+ghost use Rattle.std.specs.Prelude.{◌≡◌, ◌+◌, ◌<◌, ◌≤◌, ◌^◌, [], ◌∷◌, ◌++◌, length, IsTrue, IfOk};
+ghost use Rattle.std.specs.Prelude.{OnOk, OnErr};
+ghost use Rattle.std.specs.Option.{ForSome};
+ghost use Rattle.std.specs.Bool.{OnTrue};
+ghost use Rattle.std.specs.FinMap.{len};
+ghost use Rattle.hd_model.specs.State.{Numbers, start_of};
+ghost use Rattle.hd_model.specs.Step.{Step};
+ghost use Rattle.hd_model.specs.Run.{Run, IsFree};
+ghost use Rattle.hd_model.specs.Valid.{IsValid, is_built, takes_memory};
+ghost use Rattle.hd_model.specs.Text.{collections_of, is_collect};
+ghost use Rattle.hd_world.specs.World.{IsOffer, GrowsWithout, Takes, FitsHeap};
+
+use crate::commands;
+use crate::store::Store;
+#[cfg(test)]
+use hd_model::Kind;
+use hd_model::{Cmd, Entry, Journal, Memory, Slot};
+use std::alloc::Global;
+use std::marker::Model;
+
+/// A world of objects and handles, seen as its numbers, its state, its journal, and for how many
+/// more entries there is room. The journal is a run of the machine that leads to the state. A
+/// world is made by `open` alone, and its journal grows by `apply` alone.
+#[derive(Drop)]
+pub struct World {
+    store: Store,
+    journal: Journal,
+}
+
+impl Model for World {
+    ghost use Rattle.hd_model.specs.Run.{Run};
+    ghost use Rattle.hd_world.specs.World.{Standing, standing_code};
+
+    ghost Value = { Standing };
+
+    ghost coded = { standing_code };
+
+    ghost view = { λ w. record {
+      numbers = w.store.numbers;
+      state = w.store.state;
+      journal = w.journal.entries;
+      spare = w.journal.spare;
+    } };
+
+    ghost invariant = { λ w. Run w.store.numbers w.journal.entries w.store.state };
+}
+
+impl World {
+    /// An empty world over a heap of at most `heap` cells and `blocks` blocks, for `callers`
+    /// callers, with room in its journal for `lines` entries. All room but that of objects is
+    /// taken here.
+    pub fn open(
+        alloc: Global,
+        heap: u32,
+        blocks: u32,
+        callers: u32,
+        lines: u32,
+    ) -> Result<World, Memory>
+        requires heap { (3 ≤ heap) × (heap ≤ 1000000) }
+        requires blocks { (1 ≤ blocks) × (blocks ≤ 256) }
+        requires callers { (1 ≤ callers) × (callers ≤ 16) }
+        ensures numbers { let n : Numbers = record { heap = heap; blocks = blocks; callers = callers } in
+            IfOk result (λ w. w.numbers ≡ n) }
+        ensures empty { IfOk result (λ w. w.journal ≡ []) }
+        ensures state { IfOk result (λ w. w.state ≡ start_of w.numbers) }
+        ensures room { IfOk result (λ w. lines ≤ w.spare) }
+    {
+        let store = Store::open(alloc, heap, blocks, callers)?;
+        let journal = Journal::open(alloc, lines)?;
+        Ok(World { store, journal })
+    }
+
+    /// Does a command of a caller and appends its entry to the journal. A slot may be offered for
+    /// `hnew` alone: one that is not live, in a block of the kind. Want of memory changes nothing.
+    pub fn apply(&mut self, caller: u32, cmd: Cmd, offer: Option<Slot>) -> Result<Entry, Memory>
+        requires room { 1 ≤ self.old.spare }
+        requires caller { caller < self.old.numbers.callers }
+        requires valid { IsValid cmd }
+        requires built { IsTrue (is_built cmd) }
+        requires offer { IsOffer self.old.state cmd offer }
+        // The answered entry is of this command and is appended. It is a step from the state
+        // before to the one after.
+        ensures command { IfOk result (λ e. (e.caller ≡ caller) × (e.cmd ≡ cmd)) }
+        ensures journal { IfOk result (λ e. self.new.journal ≡ self.old.journal ++ e ∷ []) }
+        ensures spare { OnOk result (self.new.spare + 1 ≡ self.old.spare) }
+        ensures step { IfOk result (λ e. Step self.old.numbers self.old.state e self.new.state) }
+        ensures numbers { self.new.numbers ≡ self.old.numbers }
+        // An offer is taken. Without one `hnew` grows, or finds the table full exactly where too
+        // few blocks are without a use.
+        ensures offer { IfOk result (λ e. ForSome offer (Takes e)) }
+        ensures growth { IfOk result (λ e. GrowsWithout self.old cmd offer e) }
+        // Want of memory comes for commands that may take it. A full heap is answered first.
+        ensures memory { OnErr result (IsTrue (takes_memory cmd)) }
+        ensures fits { OnErr result (FitsHeap self.old.numbers self.old.state cmd) }
+        ensures unchanged { OnErr result (self.new ≡ self.old) }
+    {
+        // The journal's length bounds the serials.
+        let _room = self.journal.spare();
+        let answer = commands::run(&mut self.store, caller, cmd, offer)?;
+        let entry = Entry {
+            caller,
+            cmd,
+            slot: answer.slot,
+            grown: answer.grown,
+            reply: answer.reply,
+        };
+        self.journal.push(entry);
+        Ok(entry)
+    }
+
+    /// The journal.
+    pub fn journal(&self) -> &Journal
+        ensures entries { result.now.entries ≡ self.now.journal }
+        ensures spare { result.now.spare ≡ self.now.spare }
+        ensures run { Run self.now.numbers self.now.journal self.now.state }
+    {
+        &self.journal
+    }
+
+    /// For how many more entries the journal has room.
+    pub fn spare(&self) -> u32
+        ensures value { result ≡ self.now.spare }
+        ensures small { length self.now.journal + result < 2 ^ 32 }
+    {
+        self.journal.spare()
+    }
+
+    /// The number of live handles.
+    pub fn live(&self) -> u32
+        ensures { result ≡ len self.now.state.handles }
+    {
+        self.store.live()
+    }
+
+    /// The number of objects, reachable or not.
+    pub fn objects(&self) -> u32
+        ensures { result ≡ len self.now.state.objects }
+    {
+        self.store.objects()
+    }
+
+    /// The number of collections that the journal has.
+    pub fn collections(&self) -> u32
+        ensures { result ≡ collections_of self.now.journal }
+    {
+        let mut count = 0;
+        for i in 0..self.journal.len() {
+            let cmd = self.journal.entry(i).cmd;
+            if is_collect(cmd) {
+                count += 1;
+            }
+        }
+        count
+    }
+}
+
+#[cfg(test)]
+impl World {
+    /// Whether a slot is free in a block of a kind, and so may be offered.
+    pub fn is_free(&self, kind: Kind, slot: Slot) -> bool
+        ensures { OnTrue result (IsFree self.now.state kind slot) }
+    {
+        let vacant = self.store.handle(slot).is_none();
+        vacant && self.store.kind_of(slot) == Some(kind)
+    }
+}
+
+/// Whether a command is a collection.
+fn is_collect(cmd: Cmd) -> bool
+    ensures { result ≡ is_collect cmd }
+{
+    matches!(cmd, Cmd::Collect { .. })
+}
