@@ -1,0 +1,32 @@
+//! `hdt`: runs a script on the handle table.
+#![tactic(auto)]
+
+use hd_io::{StdSink, StdSource};
+use hd_run::top;
+use std::alloc::{AllocError, Global};
+use std::env;
+use std::io::ErrorKind;
+use std::process::ExitCode;
+use std::rt::Env;
+
+/// The status of a call whose words could not be collected for want of memory. Nothing is written then.
+const NO_MEMORY: u8 = 6;
+
+/// The words of the command line, the program's name first. Words that are no text count as none.
+fn words(rt: &(impl Env + AllocGlobal)) -> Result<Vec<String>, AllocError> {
+    match env::args(rt) {
+        Ok(args) => args.collect(rt.alloc()),
+        Err(error) if error.kind() == ErrorKind::OutOfMemory => Err(AllocError),
+        Err(_) => Ok(Vec::new(rt.alloc())),
+    }
+}
+
+fn main(rt: HostRuntime) -> ExitCode {
+    let Ok(words) = words(&rt) else {
+        return ExitCode::from(NO_MEMORY);
+    };
+    let mut source = StdSource::over(rt.stdin());
+    let mut sink = StdSink::over(rt.stdout());
+    let outcome = top(rt.alloc(), &words, &mut source, &mut sink);
+    ExitCode::from(outcome.status)
+}
