@@ -1,97 +1,263 @@
--- What each command does where it is not refused, one case for each command.
-use Rattle.std.proofs.Common.{◌≡◌, ℕ, ◌<◌, ◌+◌, ◌^◌, Bool, nat_lt, length, set, replicate, Option, Some, None, refl, sym, ap, ◌∙◌, subst, nat_cmp, ⊎_elim}
-use Rattle.std.specs.FinMap.{FinMap}
+-- What each command does where it is not refused, one case for each way.
+use Rattle.std.proofs.Common.{◌≡◌, ℕ, ◌<◌, ◌+◌, ◌-◌, ◌^◌, ◌==◌, ◌&&◌, Bool, true, false, nat_lt, length, set, Option, Some, None, is_some, IsSome, cond, List, [], ◌∷◌, refl, sym, ap, ◌∙◌, subst, ⊎_elim}
+use Rattle.std.specs.Prelude.{option_and_then}
 use Rattle.hd_model.specs.declared.data.Id.{Id}
 use Rattle.hd_model.specs.declared.data.Slot.{Slot}
 use Rattle.hd_model.specs.declared.data.Entry.{Entry}
 use Rattle.hd_model.specs.declared.data.Kind.{Kind}
+use Rattle.hd_model.specs.declared.data.Kind.TheVariants as kind
 use Rattle.hd_model.specs.declared.data.Make.{Make}
+use Rattle.hd_model.specs.declared.data.Strength.{Strength}
 use Rattle.hd_model.specs.declared.data.Grown.{Grown}
-use Rattle.hd_model.specs.declared.data.Grown.TheVariants.{Zero, One, Two}
+use Rattle.hd_model.specs.declared.data.Grown.TheVariants.{Zero, One, Two, Back}
 use Rattle.hd_model.specs.declared.data.Refusal.{Refusal}
 use Rattle.hd_model.specs.declared.data.Reply.TheVariants as reply
 use Rattle.hd_model.specs.declared.command.Cmd.{Cmd}
 use Rattle.hd_model.specs.declared.command.Cmd.TheVariants as cmd
-use Rattle.hd_model.specs.State.{Numbers, Object, Handle, BlockUse, State, register_of, handle_register_of, static_of, board_of, last_serial, object_at, field_of, handle_at, used_of, identity_of, with_register, with_handle_register, with_static, with_board, with_object, with_handle, without_handle, with_serial}
-use Rattle.hd_model.specs.Command.{Outcome, refuses, loaded, kind_of, made_handle}
-use Rattle.hd_model.specs.Step.{IsOutcome, with_growth, MakesHandle, StepOf, Step}
-use Rattle.hd_model.proofs.Outcomes.{test_cases, on_object_cases, on_field_cases, on_handle_cases}
+use Rattle.hd_model.specs.Kinds.{kind_of, is_kind}
+use Rattle.hd_model.specs.State.{Numbers, Object, Extra, strength, secondary, count, Handle, State, secondary_of, count_of, without_secondary, register_of, handle_register_of, static_of, board_of, last_serial, object_at, field_of, handle_at, used_of, identity_of, IsAllFree}
+use Rattle.hd_model.specs.State.{with_register, with_handle_register, with_static, with_board, with_object, with_handle, without_handle, without_use, with_queue, with_place, with_serial}
+use Rattle.hd_model.specs.Role.{pins}
+use Rattle.hd_model.specs.Places.{MayAnswer}
+use Rattle.hd_model.specs.Command.{Outcome, refuses, loaded, on_handle, on_handle_of, fresh_object, take_first, set_registered, made_handle}
+use Rattle.hd_model.specs.Step.{IsOutcome, MayGive, with_growth, MakesHandle, pinned_by, AnswersPlace, DoesCollect, GivesBack, StepOf, Step}
+use Rattle.hd_model.proofs.Outcomes.{option_cases, test_cases, on_object_cases, on_field_cases, on_handle_cases, on_handle_of_cases}
 
--- the identity and the object that a `new` makes
+-- the identity that a `new` gives
 abbrev pub next_identity : State → ℕ → Id
 next_identity s c = identity_of c (last_serial s c + 1)
 
-abbrev pub made_object : ℕ → Bool → Object
-made_object fields fin = record { fields = replicate fields None; value = 0; generation = 0; registered = fin }
-
 -- the object with another field
-abbrev pub with_field : Object → ℕ → Option Id → Object
+abbrev pub with_field : Object Id → ℕ → Option Id → Object Id
 with_field object i v = record object { fields = set object.fields i v }
 
+-- a handle register that has a slot with a handle
+pub record Finds (s : State) (caller h : ℕ) (slot : Slot) (handle : Handle Id) : Type 0 where
+  pub names : handle_register_of s caller h ≡ Some slot
+  pub live : handle_at s slot ≡ Some handle
+
+-- such a handle with another extra
+abbrev pub with_extra : State → Slot → Handle Id → Extra Id → State
+with_extra s slot handle extra = with_handle s slot (record handle { extra = extra })
+
+-- the state with a new handle, as a write to each part of the state
+abbrev pub with_made_parts : State → ℕ → Grown → ℕ → Make → ℕ → Slot → State
+with_made_parts s caller grown d given t slot =
+    with_handle_register
+    (with_handle (record s { blocks = (with_growth s (kind_of given) grown).blocks }) slot
+    (made_handle s caller given t))
+    caller d (Some slot)
+
 -- what an entry of a command does to a state
-pub data Effect (s : State) (e : Entry) : Cmd → State → Type 0 where
-  is_refused : {c : Cmd} {r : Refusal} → e.reply ≡ reply.Refused r → Effect s e c s
-  makes_object : {d fields : ℕ} {fin : Bool} → last_serial s e.caller + 1 < 2 ^ 32 → e.reply ≡ reply.Object (next_identity s e.caller) → Effect s e (cmd.New d fields fin) (with_register (with_serial (with_object s (next_identity s e.caller) (made_object fields fin)) e.caller (last_serial s e.caller + 1)) e.caller d (Some (next_identity s e.caller)))
-  sets_field : {o i v : ℕ} (id : Id) → register_of s e.caller o ≡ Some id → i < length (object_at s id).fields → e.reply ≡ reply.Done → Effect s e (cmd.Set o i v) (with_object s id (with_field (object_at s id) i (register_of s e.caller v)))
-  gets_field : {d o i : ℕ} (id : Id) → register_of s e.caller o ≡ Some id → i < length (object_at s id).fields → e.reply ≡ loaded (field_of (object_at s id) i) → Effect s e (cmd.Get d o i) (with_register s e.caller d (field_of (object_at s id) i))
-  sets_value : {o v : ℕ} (id : Id) → register_of s e.caller o ≡ Some id → e.reply ≡ reply.Done → Effect s e (cmd.Val o v) (with_object s id (record (object_at s id) { value = v }))
-  reads_value : {o : ℕ} (id : Id) → register_of s e.caller o ≡ Some id → e.reply ≡ reply.Value (object_at s id).value → Effect s e (cmd.Read o) s
-  copies : {d r : ℕ} → e.reply ≡ reply.Done → Effect s e (cmd.Copy d r) (with_register s e.caller d (register_of s e.caller r))
-  clears : {d : ℕ} → e.reply ≡ reply.Done → Effect s e (cmd.Clear d) (with_register s e.caller d None)
-  sets_static : {k r : ℕ} → e.reply ≡ reply.Done → Effect s e (cmd.SPut k r) (with_static s k (register_of s e.caller r))
-  gets_static : {d k : ℕ} → e.reply ≡ loaded (static_of s k) → Effect s e (cmd.SGet d k) (with_register s e.caller d (static_of s k))
-  makes_handle : {d t : ℕ} {make : Make} (slot : Slot) (blocks : FinMap nat_cmp BlockUse) → e.slot ≡ Some slot → handle_at s slot ≡ None → e.reply ≡ reply.Done → Effect s e (cmd.HNew d make t) (with_handle_register (with_handle (record s { blocks = blocks }) slot (made_handle s e.caller make t)) e.caller d (Some slot))
-  gets_target : {d h : ℕ} (slot : Slot) (handle : Handle) → handle_register_of s e.caller h ≡ Some slot → handle_at s slot ≡ Some handle → e.reply ≡ loaded handle.target → Effect s e (cmd.HGet d h) (with_register s e.caller d handle.target)
-  sets_target : {h t : ℕ} (slot : Slot) (handle : Handle) → handle_register_of s e.caller h ≡ Some slot → handle_at s slot ≡ Some handle → e.reply ≡ reply.Done → Effect s e (cmd.HSet h t) (with_handle s slot (record handle { target = register_of s e.caller t }))
-  frees_handle : {h : ℕ} (slot : Slot) (handle : Handle) → handle_register_of s e.caller h ≡ Some slot → handle_at s slot ≡ Some handle → e.reply ≡ reply.Done → Effect s e (cmd.HFree h) (with_handle_register (without_handle s slot) e.caller h None)
-  puts_board : {k h : ℕ} → e.reply ≡ reply.Done → Effect s e (cmd.HPut k h) (with_board s k (handle_register_of s e.caller h))
-  picks_board : {d k : ℕ} → e.reply ≡ reply.Done → Effect s e (cmd.HPick d k) (with_handle_register s e.caller d (board_of s k))
+pub data Effect (n : Numbers) (s : State) (e : Entry) : Cmd → State → Type 0 where
+  refused : {c : Cmd} {r : Refusal} → e.reply ≡ reply.Refused r → Effect n s e c s
+  makes_object : {d fields : ℕ} {fin : Bool} → last_serial s e.caller + 1 < 2 ^ 32
+      → e.reply ≡ reply.Object (next_identity s e.caller)
+      → Effect n s e (cmd.New d fields fin) (with_register
+      (with_serial (with_object s (next_identity s e.caller) (fresh_object fields fin)) e.caller
+      (last_serial s e.caller + 1)) e.caller d (Some (next_identity s e.caller)))
+  sets_field : {o i v : ℕ} (id : Id) → register_of s e.caller o ≡ Some id → i < length (object_at s id).fields
+      → e.reply ≡ reply.Done → Effect n s e (cmd.Set o i v)
+      (with_object s id (with_field (object_at s id) i (register_of s e.caller v)))
+  gets_field : {d o i : ℕ} (id : Id) → register_of s e.caller o ≡ Some id → i < length (object_at s id).fields
+      → e.reply ≡ loaded (field_of (object_at s id) i)
+      → Effect n s e (cmd.Get d o i) (with_register s e.caller d (field_of (object_at s id) i))
+  sets_value : {o v : ℕ} (id : Id) → register_of s e.caller o ≡ Some id → e.reply ≡ reply.Done
+      → Effect n s e (cmd.Val o v) (with_object s id (record (object_at s id) { value = v }))
+  reads_value : {o : ℕ} (id : Id) → register_of s e.caller o ≡ Some id
+      → e.reply ≡ reply.Value (object_at s id).value → Effect n s e (cmd.Read o) s
+  copies : {d r : ℕ} → e.reply ≡ reply.Done → Effect n s e (cmd.Copy d r)
+      (with_register s e.caller d (register_of s e.caller r))
+  clears : {d : ℕ} → e.reply ≡ reply.Done → Effect n s e (cmd.Clear d) (with_register s e.caller d None)
+  puts_static : {k r : ℕ} → e.reply ≡ reply.Done
+      → Effect n s e (cmd.SPut k r) (with_static s k (register_of s e.caller r))
+  gets_static : {d k : ℕ} → e.reply ≡ loaded (static_of s k)
+      → Effect n s e (cmd.SGet d k) (with_register s e.caller d (static_of s k))
+  reads_generation : {o : ℕ} (id : Id) → register_of s e.caller o ≡ Some id
+      → e.reply ≡ reply.Generation (object_at s id).generation → Effect n s e (cmd.Gen o) s
+  suppresses : {o : ℕ} (id : Id) → register_of s e.caller o ≡ Some id → e.reply ≡ reply.Done
+      → Effect n s e (cmd.Suppress o) (with_object s id (record (object_at s id) { registered = false }))
+  reregisters : {o : ℕ} (id : Id) → register_of s e.caller o ≡ Some id → e.reply ≡ reply.Done
+      → Effect n s e (cmd.Reregister o) (with_object s id (record (object_at s id) { registered = true }))
+  finds_none : {d : ℕ} → e.reply ≡ reply.NoneQueued
+      → Effect n s e (cmd.Final d) (with_register s e.caller d None)
+  takes_first : {d : ℕ} (id : Id) (rest : List Id) → s.queue ≡ id ∷ rest → e.reply ≡ reply.Object id
+      → Effect n s e (cmd.Final d) (with_register (with_queue s rest) e.caller d (Some id))
+  collects : {k : ℕ} {t : State} → DoesCollect s e t k → Effect n s e (cmd.Collect k) t
+  makes_handle : {d t : ℕ} {given : Make} (slot : Slot) → e.slot ≡ Some slot
+      → MayGive n s (kind_of given) e.grown slot → e.reply ≡ reply.Done
+      → Effect n s e (cmd.HNew d given t) (with_made_parts s e.caller e.grown d given t slot)
+  gets_target : {d h : ℕ} (slot : Slot) (handle : Handle Id) → Finds s e.caller h slot handle
+      → e.reply ≡ loaded handle.target → Effect n s e (cmd.HGet d h)
+      (with_register s e.caller d handle.target)
+  sets_target : {h t : ℕ} (slot : Slot) (handle : Handle Id) → Finds s e.caller h slot handle
+      → e.reply ≡ reply.Done → Effect n s e (cmd.HSet h t)
+      (with_handle s slot (record handle {
+        target = register_of s e.caller t;
+        extra =
+            without_secondary handle.extra;
+      }))
+  sets_secondary : {h r : ℕ} (slot : Slot) (handle : Handle Id) → Finds s e.caller h slot handle
+      → is_kind handle.kind kind.Dependent ≡ true → IsSome handle.target → e.reply ≡ reply.Done
+      → Effect n s e (cmd.HSec h r) (with_extra s slot handle (secondary (register_of s e.caller r)))
+  gets_secondary : {d h : ℕ} (slot : Slot) (handle : Handle Id) → Finds s e.caller h slot handle
+      → e.reply ≡ loaded (secondary_of handle.extra)
+      → Effect n s e (cmd.HDep d h) (with_register s e.caller d (secondary_of handle.extra))
+  sets_strength : {h : ℕ} {given : Strength} (slot : Slot) (handle : Handle Id)
+      → Finds s e.caller h slot handle → is_kind handle.kind kind.Variable ≡ true → e.reply ≡ reply.Done
+      → Effect n s e (cmd.HVar h given) (with_extra s slot handle (strength given))
+  raises_count : {h : ℕ} (slot : Slot) (handle : Handle Id) → Finds s e.caller h slot handle
+      → is_kind handle.kind kind.Counted ≡ true → e.reply ≡ reply.Value (count_of handle.extra + 1)
+      → Effect n s e (cmd.HUp h) (with_extra s slot handle (count (count_of handle.extra + 1)))
+  lowers_count : {h : ℕ} (slot : Slot) (handle : Handle Id) → Finds s e.caller h slot handle
+      → is_kind handle.kind kind.Counted ≡ true → e.reply ≡ reply.Value (count_of handle.extra - 1)
+      → Effect n s e (cmd.HDown h) (with_extra s slot handle (count (count_of handle.extra - 1)))
+  frees_handle : {h : ℕ} (slot : Slot) (handle : Handle Id) → Finds s e.caller h slot handle
+      → e.reply ≡ reply.Done → e.slot ≡ Some slot → Effect n s e (cmd.HFree h)
+      (with_handle_register (without_handle s slot) e.caller h None)
+  puts_board : {k h : ℕ} → e.reply ≡ reply.Done
+      → Effect n s e (cmd.HPut k h) (with_board s k (handle_register_of s e.caller h))
+  picks_board : {d k : ℕ} → e.reply ≡ reply.Done
+      → Effect n s e (cmd.HPick d k) (with_handle_register s e.caller d (board_of s k))
+  answers_place : {h : ℕ} (slot : Slot) (handle : Handle Id) (id : Id) (p : ℕ)
+      → Finds s e.caller h slot handle → handle.target ≡ Some id → MayAnswer s id p → e.reply ≡ reply.Place p
+      → Effect n s e (cmd.AddrOf h) (with_place s id p)
+  gives_back : {given : Kind} (block : ℕ) → IsAllFree s given block → e.reply ≡ reply.Value 1
+      → Effect n s e (cmd.Trim given) (without_use s block)
+  gives_none : {given : Kind} → e.reply ≡ reply.Value 0 → Effect n s e (cmd.Trim given) s
 
--- growth gives blocks a use and does nothing else
-growth_is : (s : State) (kind : Kind) (grown : Grown) → with_growth s kind grown ≡ record s { blocks = (with_growth s kind grown).blocks }
-growth_is s kind Zero = refl
-growth_is s kind (One block) = refl
-growth_is s kind (Two block other) = refl
+-- growth changes the use of blocks and nothing else
+pub growth_is : (s : State) (given : Kind) (grown : Grown)
+    → with_growth s given grown ≡ record s { blocks = (with_growth s given grown).blocks }
+growth_is s given Zero = refl
+growth_is s given (One block) = refl
+growth_is s given (Two block other) = refl
+growth_is s given (Back block) = refl
 
-module _ (s : State) (e : Entry) (t : State) where
+module _ (n : Numbers) (s : State) (e : Entry) (t : State) where
   -- an outcome with this reply and this state
-  comes : (c : Cmd) (r : Outcome) → (e.reply ≡ r.reply → Effect s e c r.after) → IsOutcome e r t → Effect s e c t
-  comes c r does o = subst (Effect s e c) (sym o.after) (does o.reply)
+  comes : (c : Cmd) (r : Outcome) → (e.reply ≡ r.reply → e.slot ≡ r.slot → Effect n s e c r.after)
+      → IsOutcome e r t → Effect n s e c t
+  comes c r does o = subst (Effect n s e c) (sym o.after) (does o.reply o.slot)
 
-  refuses_it : (c : Cmd) (r : Refusal) → IsOutcome e (refuses r s) t → Effect s e c t
-  refuses_it c r = comes c (refuses r s) is_refused
+  refuses_it : (c : Cmd) (r : Refusal) → IsOutcome e (refuses r s) t → Effect n s e c t
+  refuses_it c r = comes c (refuses r s) (λ p _. refused p)
 
-  makes_it : (n : Numbers) (d : ℕ) (make : Make) (r : ℕ) → MakesHandle n s e t d make r → Effect s e (cmd.HNew d make r) t
-  makes_it n d make r m =
-      subst (Effect s e (cmd.HNew d make r))
-      (sym (m.after ∙ ap (λ (x : State). with_handle_register (with_handle x m.slot (made_handle s e.caller make r)) e.caller d (Some m.slot)) (growth_is s (kind_of make) e.grown)))
-      (makes_handle m.slot _ m.given m.vacant m.reply)
+  abbrev Comes : Cmd → Outcome → Type 0
+  Comes c r = IsOutcome e r t → Effect n s e c t
 
-  command_effect : (n : Numbers) (c : Cmd) → StepOf n s e t c → Effect s e c t
-  command_effect n (cmd.New d fields fin) h =
-      test_cases (λ r. IsOutcome e r t → Effect s e (cmd.New d fields fin) t) (nat_lt n.heap (used_of s + (fields + 3))) _ _ (λ _. refuses_it _ _) (λ _. comes _ _ (makes_object h.0)) h.1
-  command_effect n (cmd.Set o i v) h =
-      on_field_cases (λ r. IsOutcome e r t → Effect s e (cmd.Set o i v) t) s e.caller o i _ (λ _. refuses_it _ _) (λ _ _ _. refuses_it _ _) (λ id f l. comes _ _ (sets_field id f l)) h
-  command_effect n (cmd.Get d o i) h =
-      on_field_cases (λ r. IsOutcome e r t → Effect s e (cmd.Get d o i) t) s e.caller o i _ (λ _. refuses_it _ _) (λ _ _ _. refuses_it _ _) (λ id f l. comes _ _ (gets_field id f l)) h
-  command_effect n (cmd.Val o v) h =
-      on_object_cases (λ r. IsOutcome e r t → Effect s e (cmd.Val o v) t) s e.caller o _ (λ _. refuses_it _ _) (λ id f. comes _ _ (sets_value id f)) h
-  command_effect n (cmd.Read o) h =
-      on_object_cases (λ r. IsOutcome e r t → Effect s e (cmd.Read o) t) s e.caller o _ (λ _. refuses_it _ _) (λ id f. comes _ _ (reads_value id f)) h
-  command_effect n (cmd.Copy d r) h = comes _ _ copies h
-  command_effect n (cmd.Clear d) h = comes _ _ clears h
-  command_effect n (cmd.SPut k r) h = comes _ _ sets_static h
-  command_effect n (cmd.SGet d k) h = comes _ _ gets_static h
-  command_effect n (cmd.HNew d make r) h = ⊎_elim (makes_it n d make r) (λ full. refuses_it _ _ full.refused) h
-  command_effect n (cmd.HGet d r) h =
-      on_handle_cases (λ o. IsOutcome e o t → Effect s e (cmd.HGet d r) t) s e.caller r _ (λ _. refuses_it _ _) (λ _ _ _. refuses_it _ _) (λ slot handle f g. comes _ _ (gets_target slot handle f g)) h
-  command_effect n (cmd.HSet r v) h =
-      on_handle_cases (λ o. IsOutcome e o t → Effect s e (cmd.HSet r v) t) s e.caller r _ (λ _. refuses_it _ _) (λ _ _ _. refuses_it _ _) (λ slot handle f g. comes _ _ (sets_target slot handle f g)) h
-  command_effect n (cmd.HFree r) h =
-      on_handle_cases (λ o. IsOutcome e o t → Effect s e (cmd.HFree r) t) s e.caller r _ (λ _. refuses_it _ _) (λ _ _ _. refuses_it _ _) (λ slot handle f g. comes _ _ (frees_handle slot handle f g)) h
-  command_effect n (cmd.HPut k r) h = comes _ _ puts_board h
-  command_effect n (cmd.HPick d k) h = comes _ _ picks_board h
-  command_effect n _ h = absurd h
+  makes_it : (d : ℕ) (given : Make) (r : ℕ) → MakesHandle n s e t d given r
+      → Effect n s e (cmd.HNew d given r) t
+  makes_it d given r m =
+      subst (Effect n s e (cmd.HNew d given r))
+      (sym (m.after ∙ ap (λ (x : State). with_handle_register
+      (with_handle x m.slot (made_handle s e.caller given r)) e.caller d (Some m.slot))
+      (growth_is s (kind_of given) e.grown)))
+      (makes_handle m.slot m.given m.may m.reply)
 
-  pub effect : (n : Numbers) → Step n s e t → Effect s e e.cmd t
-  effect n step = command_effect n e.cmd step.2
+  registers_it : (c : Cmd) (o : ℕ) (registered : Bool)
+      → ((id : Id) → register_of s e.caller o ≡ Some id → e.reply ≡ reply.Done
+      → Effect n s e c (with_object s id (record (object_at s id) { registered = registered })))
+      → IsOutcome e (set_registered s e.caller o registered) t → Effect n s e c t
+  registers_it c o registered does =
+      on_object_cases (Comes c) s e.caller o _ (λ _. refuses_it _ _) (λ id f. comes _ _ (λ p _. does id f p))
+
+  takes_it : (d : ℕ) (queue : List Id) → s.queue ≡ queue → IsOutcome e (take_first s e.caller d queue) t
+      → Effect n s e (cmd.Final d) t
+  takes_it d [] is = comes _ _ (λ p _. finds_none p)
+  takes_it d (id ∷ rest) is = comes _ _ (λ p _. takes_first id rest is p)
+
+  answers_it : (h : ℕ) → AnswersPlace s e t h → Effect n s e (cmd.AddrOf h) t
+  answers_it h a =
+      on_handle_cases (Comes (cmd.AddrOf h)) s e.caller h _ (λ _. refuses_it _ _) (λ _ _ _. refuses_it _ _)
+      (λ slot handle f g. test_cases (Comes (cmd.AddrOf h)) (pins handle) _ _
+      (λ same. option_cases (Comes (cmd.AddrOf h)) _ handle.target _ (λ _. refuses_it _ _)
+      (λ id target. comes _ _ (λ p _. answers_place slot handle id a.place
+      (record { names = f; live = g }) target (a.may id (found slot handle id f g same target)) p)))
+      (λ _. refuses_it _ _)) a.outcome
+    where
+      found : (slot : Slot) (handle : Handle Id) (id : Id) → handle_register_of s e.caller h ≡ Some slot
+          → handle_at s slot ≡ Some handle → pins handle ≡ true → handle.target ≡ Some id
+          → option_and_then (λ x. pinned_by (handle_at s x)) (handle_register_of s e.caller h) ≡ Some id
+      found slot handle id f g same target =
+          ap (option_and_then (λ x. pinned_by (handle_at s x))) f ∙ ap pinned_by g
+          ∙ ap (λ b. cond b handle.target None) same ∙ target
+
+  -- a command on a handle of one kind
+  works_on : (c : Cmd) (h : ℕ) (wanted : Kind) (act : Slot → Handle Id → Outcome)
+      → ((slot : Slot) (handle : Handle Id) → Finds s e.caller h slot handle
+      → is_kind handle.kind wanted ≡ true → Comes c (act slot handle))
+      → Comes c (on_handle_of s e.caller h wanted act)
+  works_on c h wanted act does =
+      on_handle_of_cases (Comes c) s e.caller h wanted act (λ _. refuses_it _ _) (λ _ _ _. refuses_it _ _)
+      (λ _ _ _ _ _. refuses_it _ _)
+      (λ slot handle f g same. does slot handle (record { names = f; live = g }) same)
+
+  -- a command on a handle
+  works : (c : Cmd) (h : ℕ) (act : Slot → Handle Id → Outcome)
+      → ((slot : Slot) (handle : Handle Id) → Finds s e.caller h slot handle → Comes c (act slot handle))
+      → Comes c (on_handle s e.caller h act)
+  works c h act does =
+      on_handle_cases (Comes c) s e.caller h act (λ _. refuses_it _ _) (λ _ _ _. refuses_it _ _)
+      (λ slot handle f g. does slot handle (record { names = f; live = g }))
+
+  command_effect : (c : Cmd) → StepOf n s e t c → Effect n s e c t
+  command_effect (cmd.New d fields fin) h =
+      test_cases (Comes (cmd.New d fields fin)) (nat_lt n.heap (used_of s + (fields + 3))) _ _
+      (λ _. refuses_it _ _) (λ _. comes _ _ (λ p _. makes_object h.0 p)) h.1
+  command_effect (cmd.Set o i v) h =
+      on_field_cases (Comes (cmd.Set o i v)) s e.caller o i _ (λ _. refuses_it _ _) (λ _ _ _. refuses_it _ _)
+      (λ id f l. comes _ _ (λ p _. sets_field id f l p)) h
+  command_effect (cmd.Get d o i) h =
+      on_field_cases (Comes (cmd.Get d o i)) s e.caller o i _ (λ _. refuses_it _ _) (λ _ _ _. refuses_it _ _)
+      (λ id f l. comes _ _ (λ p _. gets_field id f l p)) h
+  command_effect (cmd.Val o v) h =
+      on_object_cases (Comes (cmd.Val o v)) s e.caller o _ (λ _. refuses_it _ _)
+      (λ id f. comes _ _ (λ p _. sets_value id f p)) h
+  command_effect (cmd.Read o) h =
+      on_object_cases (Comes (cmd.Read o)) s e.caller o _ (λ _. refuses_it _ _)
+      (λ id f. comes _ _ (λ p _. reads_value id f p)) h
+  command_effect (cmd.Copy d r) h = comes _ _ (λ p _. copies p) h
+  command_effect (cmd.Clear d) h = comes _ _ (λ p _. clears p) h
+  command_effect (cmd.SPut k r) h = comes _ _ (λ p _. puts_static p) h
+  command_effect (cmd.SGet d k) h = comes _ _ (λ p _. gets_static p) h
+  command_effect (cmd.Gen o) h =
+      on_object_cases (Comes (cmd.Gen o)) s e.caller o _ (λ _. refuses_it _ _)
+      (λ id f. comes _ _ (λ p _. reads_generation id f p)) h
+  command_effect (cmd.Suppress o) h = registers_it _ o false (λ id f p. suppresses id f p) h
+  command_effect (cmd.Reregister o) h = registers_it _ o true (λ id f p. reregisters id f p) h
+  command_effect (cmd.Final d) h = takes_it d s.queue refl h
+  command_effect (cmd.Collect k) h = collects h
+  command_effect (cmd.HNew d given r) h = ⊎_elim (makes_it d given r) (λ full. refuses_it _ _ full.refused) h
+  command_effect (cmd.HGet d r) h = works _ r _
+      (λ slot handle f. comes _ _ (λ p _. gets_target slot handle f p)) h
+  command_effect (cmd.HSet r v) h =
+      works (cmd.HSet r v) r _
+      (λ slot handle f. test_cases (Comes (cmd.HSet r v))
+      (is_kind handle.kind kind.Dependent && is_some (register_of s e.caller v)) _ _ (λ _. refuses_it _ _)
+      (λ _. comes _ _ (λ p _. sets_target slot handle f p))) h
+  command_effect (cmd.HSec r v) h =
+      works_on (cmd.HSec r v) r kind.Dependent _
+      (λ slot handle f same. option_cases (Comes (cmd.HSec r v)) _ handle.target _ (λ _. refuses_it _ _)
+      (λ id target. comes _ _ (λ p _. sets_secondary slot handle f same (ap is_some target) p))) h
+  command_effect (cmd.HDep d r) h = works_on _ r kind.Dependent _
+      (λ slot handle f same. comes _ _ (λ p _. gets_secondary slot handle f p)) h
+  command_effect (cmd.HVar r given) h = works_on _ r kind.Variable _
+      (λ slot handle f same. comes _ _ (λ p _. sets_strength slot handle f same p)) h
+  command_effect (cmd.HFree r) h = works _ r _ (λ slot handle f. comes _ _
+      (λ p q. frees_handle slot handle f p q)) h
+  command_effect (cmd.HPut k r) h = comes _ _ (λ p _. puts_board p) h
+  command_effect (cmd.HPick d k) h = comes _ _ (λ p _. picks_board p) h
+  command_effect (cmd.AddrOf r) h = answers_it r h
+  command_effect (cmd.HUp r) h = works_on _ r kind.Counted _
+      (λ slot handle f same. comes _ _ (λ p _. raises_count slot handle f same p)) h
+  command_effect (cmd.HDown r) h =
+      works_on (cmd.HDown r) r kind.Counted _
+      (λ slot handle f same. test_cases (Comes (cmd.HDown r)) (count_of handle.extra == 0) _ _
+      (λ _. refuses_it _ _) (λ _. comes _ _ (λ p _. lowers_count slot handle f same p))) h
+  command_effect (cmd.Trim given) h =
+      ⊎_elim (λ (g : GivesBack s e t given). subst (Effect n s e (cmd.Trim given)) (sym g.after)
+      (gives_back g.block g.free g.reply)) (comes _ _ (λ p _. gives_none p)) h
+
+  pub effect : Step n s e t → Effect n s e e.cmd t
+  effect step = command_effect e.cmd step.does

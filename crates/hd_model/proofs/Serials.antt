@@ -1,28 +1,118 @@
--- A caller has made at most as many objects as the journal has entries.
-use Rattle.std.proofs.Common.{ℕ, ◌≤◌, ◌+◌, List, length, subst, sym, arith, le_refl}
+-- A caller has made at most as many objects, and a count is at most as high, as the journal has entries.
+use Rattle.std.proofs.Common.{ℕ, ◌≤◌, ◌+◌, List, length, get_or, subst, sym, arith, le_refl, ◌∙◌, ◌≡◌, ◌&&◌, Bool, true, false, cond, Option, Some, None, IsSomeAnd, nat_cmp}
+use Rattle.std.specs.FinMap.{get, get-empty}
+use Rattle.std.proofs.lemmas.Option.{none-some}
+use Rattle.hd_model.specs.declared.data.Id.{Id}
+use Rattle.hd_model.specs.declared.data.Slot.{Slot}
+use Rattle.hd_model.specs.declared.data.Make.{Make}
+use Rattle.hd_model.specs.declared.data.Make.TheVariants as make
 use Rattle.hd_model.specs.declared.data.Entry.{Entry}
 use Rattle.hd_model.specs.declared.command.Cmd.{Cmd}
-use Rattle.hd_model.specs.State.{Numbers, State, start_of, last_serial}
+use Rattle.hd_model.specs.State.{Numbers, Extra, nothing, strength, secondary, count, Handle, State, count_of, without_secondary, start_of, last_serial, handle_at}
+use Rattle.hd_model.specs.Role.{role}
+use Rattle.hd_model.specs.Collect.{is_lost, is_attaching}
+use Rattle.hd_model.specs.Command.{extra_of}
+use Rattle.hd_model.specs.WellFormed.{IsWellFormed}
+use Rattle.hd_model.proofs.WellFormed.{step_keeps, start_is_well_formed}
+use Rattle.hd_model.proofs.Kept.{HandleChange, handle_stays, is_made, target_is_set, secondary_is_set, strength_is_set, count_is_raised, count_is_lowered, is_freed, is_collected, handle_change}
 use Rattle.hd_model.specs.Step.{Step}
 use Rattle.hd_model.specs.Run.{Chain, stay, link, Run}
-use Rattle.hd_model.proofs.Places.{set_cases, replicate_cases}
-use Rattle.hd_model.proofs.Effects.{Effect, makes_object, effect}
+use Rattle.hd_model.proofs.Written.{set_cases, replicate_cases}
+use Rattle.hd_model.proofs.Effects.{Effect, makes_object, collects, effect}
 
 -- a step raises a serial by at most one
-serial_step : (s : State) (e : Entry) (c : Cmd) (t : State) (k : ℕ) → Effect s e c t → last_serial t k ≤ last_serial s k + 1
-serial_step s e c t k (makes_object small replies) =
-    set_cases (λ x. x ≤ last_serial s k + 1) s.serials e.caller k (last_serial s e.caller + 1) 0 (λ same. subst (λ j. last_serial s e.caller + 1 ≤ last_serial s j + 1) (sym same) (le_refl _)) (omega arith)
-serial_step s e c t k _ = omega arith
+serial_step : (n : Numbers) (s : State) (e : Entry) (c : Cmd) (t : State) (k : ℕ) → Effect n s e c t
+    → last_serial t k ≤ last_serial s k + 1
+serial_step n s e c t k (makes_object small replies) =
+    set_cases (λ x. x ≤ last_serial s k + 1) s.serials e.caller k (last_serial s e.caller + 1) 0
+    (λ same. subst (λ j. last_serial s e.caller + 1 ≤ last_serial s j + 1) (sym same) (le_refl _))
+    (omega arith)
+serial_step n s e c t k (collects did) = subst (λ (x : List ℕ). get_or x k 0 ≤ last_serial s k + 1)
+    (sym did.collects.serials) (omega arith)
+serial_step n s e c t k _ = omega arith
 
-serials_grow : (n : Numbers) (k : ℕ) {s t : State} {es : List Entry} → Chain (Step n) s es t → last_serial t k ≤ last_serial s k + length es
+serials_grow : (n : Numbers) (k : ℕ) {s t : State} {es : List Entry} → Chain (Step n) s es t
+    → last_serial t k ≤ last_serial s k + length es
 serials_grow n k stay = omega arith
 serials_grow n k (link {s = s} {t = t} {e = e} step rest) =
-    let first : last_serial t k ≤ last_serial s k + 1 = serial_step s e e.cmd t k (effect s e t n step) in
+    let first : last_serial t k ≤ last_serial s k + 1 = serial_step n s e e.cmd t k (effect n s e t step) in
     let others = serials_grow n k rest in
     omega arith
 
-pub last_serial-le : (n : Numbers) (journal : List Entry) (s : State) (c : ℕ) → Run n journal s → last_serial s c ≤ length journal
+pub last_serial-le : (n : Numbers) (journal : List Entry) (s : State) (c : ℕ) → Run n journal s
+    → last_serial s c ≤ length journal
 last_serial-le n journal s c run =
-    let none : last_serial (start_of n) c ≤ 0 = replicate_cases (λ x. x ≤ 0) n.callers c 0 0 (le_refl 0) (le_refl 0) in
+    let none : last_serial (start_of n) c ≤ 0 = replicate_cases (λ x. x ≤ 0) n.callers c 0 0 (le_refl 0)
+    (le_refl 0) in
     let grown = serials_grow n c run in
+    omega arith
+
+-- each count is at most k
+abbrev CountsWithin : ℕ → State → Type 0
+CountsWithin k s = (slot : Slot) (handle : Handle Id) → get s.handles slot.0 ≡ Some handle
+    → count_of handle.extra ≤ k
+
+made_count : (s : State) (caller : ℕ) (given : Make) (t : ℕ) → count_of (extra_of s caller given t) ≤ 1
+made_count s caller make.Short t = omega arith
+made_count s caller make.Long t = omega arith
+made_count s caller make.Strong t = omega arith
+made_count s caller make.Pinned t = omega arith
+made_count s caller (make.Variable x) t = omega arith
+made_count s caller make.Counted t = omega arith
+made_count s caller (make.Dependent r) t = omega arith
+
+without_count : (x : Extra Id) → count_of (without_secondary x) ≤ count_of x
+without_count nothing = omega arith
+without_count (strength x) = omega arith
+without_count (secondary o) = omega arith
+without_count (count c) = omega arith
+
+cleared_count : (b : Bool) (x : Extra Id) → count_of (cond b (secondary None) x) ≤ count_of x
+cleared_count true x = omega arith
+cleared_count false x = omega arith
+
+-- a step raises a count by at most one
+module _ (k : ℕ) (s : State) (e : Entry) (slot : Slot) (within : CountsWithin k s) where
+  there : (o : Option (Handle Id)) (P : Handle Id → Type 0) → IsSomeAnd o P → (handle : Handle Id)
+      → o ≡ Some handle → P handle
+  there o P h handle is = subst (λ x. IsSomeAnd x P) is h
+
+  count_after : (c : Cmd) (o : Option (Handle Id)) → HandleChange s e slot c o → (handle : Handle Id)
+      → o ≡ Some handle → count_of handle.extra ≤ k + 1
+  count_after c o handle_stays handle is = let low = within slot handle is in omega arith
+  count_after c o (is_made {t = r} {given = given} given_is done none) handle' is =
+      there _ (λ h. count_of h.extra ≤ k + 1) (let low = made_count s e.caller given r in omega arith) handle'
+      is
+  count_after c o (target_is_set handle f done) handle' is =
+      there _ (λ h. count_of h.extra ≤ k + 1) (let low = within slot handle f.live in let less =
+      without_count handle.extra in omega arith) handle' is
+  count_after c o (secondary_is_set handle f same done) handle' is =
+      there _ (λ h. count_of h.extra ≤ k + 1) (omega arith) handle' is
+  count_after c o (strength_is_set handle f same done) handle' is =
+      there _ (λ h. count_of h.extra ≤ k + 1) (omega arith) handle' is
+  count_after c o (count_is_raised handle f same done) handle' is =
+      there _ (λ h. count_of h.extra ≤ k + 1) (let low = within slot handle f.live in omega arith) handle' is
+  count_after c o (count_is_lowered handle f same done) handle' is =
+      there _ (λ h. count_of h.extra ≤ k + 1) (let low = within slot handle f.live in omega arith) handle' is
+  count_after c o (is_freed handle f done) handle' is = absurd (none-some handle' is)
+  count_after c o (is_collected reach kept handle live) handle' is =
+      there _ (λ h. count_of h.extra ≤ k + 1) (let low = within slot handle live in let less =
+      cleared_count (is_attaching (role handle) && is_lost kept handle.target) handle.extra in omega arith)
+      handle' is
+
+counts_grow : (n : Numbers) (k : ℕ) {s t : State} {es : List Entry} → IsWellFormed n s → CountsWithin k s
+    → Chain (Step n) s es t → CountsWithin (k + length es) t
+counts_grow n k w within stay = λ slot handle is. let low = within slot handle is in omega arith
+counts_grow n k w within (link {s = s} {t = t} {u = u} {e = e} {es = es} step rest) =
+    let first : CountsWithin (k + 1) t = λ slot. count_after k s e slot within e.cmd (get t.handles slot.0)
+    (handle_change n s w e slot e.cmd t (effect n s e t step)) in
+    let others : CountsWithin ((k + 1) + length es) u =
+    counts_grow n (k + 1) (step_keeps n s t e w step) first rest in
+    λ slot handle is. let low = others slot handle is in omega arith
+
+pub count-le : (n : Numbers) (journal : List Entry) (s : State) (slot : Slot) (handle : Handle Id)
+    → Run n journal s → handle_at s slot ≡ Some handle → count_of handle.extra ≤ length journal
+count-le n journal s slot handle run is =
+    let low = counts_grow n 0 (start_is_well_formed n)
+    (λ x h e. absurd (none-some h (sym (get-empty nat_cmp x.0) ∙ e))) run slot handle is in
     omega arith

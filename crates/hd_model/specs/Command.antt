@@ -1,28 +1,35 @@
--- What each command answers, and the state that it leaves. These follow .NET's GCHandle (Alloc, Target, Free) and plain loads and stores of
--- fields, statics and locals; texts, refusals and their order are this project's own.
-use Rattle.std.specs.Prelude.{ℕ, ◌+◌, Bool, nat_lt, if◌then◌else◌, replicate, length, slice_set, Option, Some, None, option_and_then}
+-- What each command answers, and the state that it leaves. These follow .NET's GCHandle (Alloc, Target,
+-- Free), DependentHandle, GC (GetGeneration, SuppressFinalize, ReRegisterForFinalize) and plain loads and
+-- stores of fields, statics and locals; texts, refusals and their order are this project's own.
+use Rattle.std.specs.Prelude.{ℕ, ◌+◌, ◌-◌, ◌==◌, ◌&&◌, Bool, nat_lt, if◌then◌else◌, List, [], ◌∷◌, replicate, length, slice_set, Option, Some, None, is_some, option_and_then}
 use Rattle.std.specs.Option.{option_map_or}
 use Rattle.hd_model.specs.declared.data.Id.{Id}
 use Rattle.hd_model.specs.declared.data.Slot.{Slot}
 use Rattle.hd_model.specs.declared.data.Kind.{Kind}
 use Rattle.hd_model.specs.declared.data.Kind.TheVariants as kind
+use Rattle.hd_model.specs.declared.data.Strength.{Strength}
 use Rattle.hd_model.specs.declared.data.Make.{Make}
 use Rattle.hd_model.specs.declared.data.Make.TheVariants as make
 use Rattle.hd_model.specs.declared.data.Refusal.{Refusal}
 use Rattle.hd_model.specs.declared.data.Refusal.TheVariants as refusal
 use Rattle.hd_model.specs.declared.data.Reply.{Reply}
 use Rattle.hd_model.specs.declared.data.Reply.TheVariants as reply
-use Rattle.hd_model.specs.State.{Numbers, Object, Extra, nothing, strength, secondary, Handle, State, register_of, handle_register_of, last_serial, object_at, field_of, handle_at, used_of, identity_of, with_register, with_handle_register, with_object, with_handle, without_handle, with_serial}
+use Rattle.hd_model.specs.Kinds.{kind_of, is_kind}
+use Rattle.hd_model.specs.State.{Numbers, Object, Extra, nothing, strength, secondary, count, Handle, State, secondary_of, count_of, without_secondary}
+use Rattle.hd_model.specs.State.{register_of, handle_register_of, static_of, board_of, last_serial, object_at, field_of, handle_at, used_of, identity_of}
+use Rattle.hd_model.specs.State.{with_register, with_handle_register, with_static, with_board, with_object, with_handle, without_handle, with_queue, with_place, with_serial}
+use Rattle.hd_model.specs.Role.{pins}
 
--- what a command comes to where the state decides it: its reply, the slot that it frees, and the state after it
+-- what a command comes to where the state decides it: its reply, the slot that it gives or frees, and the
+-- state after it
 pub record Outcome : Type 0 where
   pub reply : Reply
-  pub freed : Option Slot
+  pub slot : Option Slot
   pub after : State
 
--- a command that frees nothing
+-- a command that gives and frees no slot
 abbrev pub answers : Reply → State → Outcome
-answers reply after = record { reply = reply; freed = None; after = after }
+answers reply after = record { reply = reply; slot = None; after = after }
 
 -- a refused command leaves the state as it was
 abbrev pub refuses : Refusal → State → Outcome
@@ -40,72 +47,189 @@ on_object s caller o act = option_map_or act (register_of s caller o) (refuses r
 -- on field i of the object in register o, which is refused where the object has no such field
 abbrev pub on_field : State → ℕ → ℕ → ℕ → (Id → Outcome) → Outcome
 on_field s caller o i act =
-    on_object s caller o (λ id. if nat_lt i (length (object_at s id).fields) then act id else refuses refusal.BadField s)
+    on_object s caller o
+    (λ id. if nat_lt i (length (object_at s id).fields) then act id else refuses refusal.BadField s)
 
--- on the handle in handle register h, which is refused where the register is empty and where its slot is not live
-abbrev pub on_handle : State → ℕ → ℕ → (Slot → Handle → Outcome) → Outcome
+-- on the handle in handle register h, which is refused where the register is empty and where its slot is not
+-- live
+abbrev pub on_handle : State → ℕ → ℕ → (Slot → Handle Id → Outcome) → Outcome
 on_handle s caller h act =
-    option_map_or (λ slot. option_map_or (act slot) (handle_at s slot) (refuses refusal.NotLive s)) (handle_register_of s caller h) (refuses refusal.EmptyRegister s)
+    option_map_or (λ slot. option_map_or (act slot) (handle_at s slot) (refuses refusal.NotLive s))
+    (handle_register_of s caller h) (refuses refusal.EmptyRegister s)
 
--- `new rD F`: an object of generation 0 with F null fields and value 0 gets the caller's next serial, unless the heap would pass its limit
+-- on such a handle, which is refused where it is of another kind than this one
+abbrev pub on_handle_of : State → ℕ → ℕ → Kind → (Slot → Handle Id → Outcome) → Outcome
+on_handle_of s caller h wanted act =
+    on_handle s caller h
+    (λ slot handle. if is_kind handle.kind wanted then act slot handle else refuses refusal.WrongKind s)
+
+-- a new object: its fields are null and its value is 0
+abbrev pub fresh_object : ℕ → Bool → Object Id
+fresh_object fields fin =
+    record { fields = replicate fields None; value = 0; generation = 0; registered = fin }
+
+-- `new rD F`, `new rD F fin`: an object of generation 0 with F null fields and value 0 gets the caller's next
+-- serial, unless the heap would pass its limit. With `fin` it is registered for finalisation.
 abbrev pub new_object : Numbers → State → ℕ → ℕ → ℕ → Bool → Outcome
 new_object n s caller d fields fin =
     if nat_lt n.heap (used_of s + (fields + 3)) then refuses (refusal.HeapFull (used_of s) (fields + 3)) s
     else (
     let serial = last_serial s caller + 1 in
     let id = identity_of caller serial in
-    let object : Object = record { fields = replicate fields None; value = 0; generation = 0; registered = fin } in
-    answers (reply.Object id) (with_register (with_serial (with_object s id object) caller serial) caller d (Some id)))
+    let made = with_serial (with_object s id (fresh_object fields fin)) caller serial in
+    answers (reply.Object id) (with_register made caller d (Some id)))
 
 -- `set rO i rV`: field i of rO names what rV names
 abbrev pub set_field : State → ℕ → ℕ → ℕ → ℕ → Outcome
 set_field s caller o i v =
     on_field s caller o i (λ id.
     let object = object_at s id in
-    answers reply.Done (with_object s id (record object { fields = slice_set object.fields i (register_of s caller v) })))
+    answers reply.Done
+    (with_object s id (record object { fields = slice_set object.fields i (register_of s caller v) })))
 
 -- `get rD rO i`: rD names what field i of rO names
 abbrev pub get_field : State → ℕ → ℕ → ℕ → ℕ → Outcome
 get_field s caller d o i =
-    on_field s caller o i (λ id. let v = field_of (object_at s id) i in answers (loaded v) (with_register s caller d v))
+    on_field s caller o i
+    (λ id. let v = field_of (object_at s id) i in answers (loaded v) (with_register s caller d v))
 
 -- `val rO n`: the value of rO becomes n
 abbrev pub set_value : State → ℕ → ℕ → ℕ → Outcome
-set_value s caller o v = on_object s caller o (λ id. answers reply.Done (with_object s id (record (object_at s id) { value = v })))
+set_value s caller o v =
+    on_object s caller o
+    (λ id. answers reply.Done (with_object s id (record (object_at s id) { value = v })))
 
 -- `read rO`: the value of rO
 abbrev pub read_value : State → ℕ → ℕ → Outcome
 read_value s caller o = on_object s caller o (λ id. answers (reply.Value (object_at s id).value) s)
 
+-- `copy rD rS`: rD names what rS names
+abbrev pub copy_register : State → ℕ → ℕ → ℕ → Outcome
+copy_register s caller d r = answers reply.Done (with_register s caller d (register_of s caller r))
+
+-- `drop rD`: rD is null
+abbrev pub clear_register : State → ℕ → ℕ → Outcome
+clear_register s caller d = answers reply.Done (with_register s caller d None)
+
+-- `sput k rS`: static k names what rS names
+abbrev pub put_static : State → ℕ → ℕ → ℕ → Outcome
+put_static s caller k r = answers reply.Done (with_static s k (register_of s caller r))
+
+-- `sget rD k`: rD names what static k names
+abbrev pub get_static : State → ℕ → ℕ → ℕ → Outcome
+get_static s caller d k = answers (loaded (static_of s k)) (with_register s caller d (static_of s k))
+
+-- `gen rS`: the generation of rS
+abbrev pub read_generation : State → ℕ → ℕ → Outcome
+read_generation s caller o =
+    on_object s caller o (λ id. answers (reply.Generation (object_at s id).generation) s)
+
+-- `suppress rS` and `reregister rS`: rS is registered for finalisation no more, or again
+abbrev pub set_registered : State → ℕ → ℕ → Bool → Outcome
+set_registered s caller o registered =
+    on_object s caller o
+    (λ id. answers reply.Done (with_object s id (record (object_at s id) { registered = registered })))
+
+-- `final rD`: rD names the first object of the finalisation queue, which leaves it; where it is empty, rD is
+-- null (.NET's finaliser thread takes objects in turn; here a command does)
+abbrev pub take_first : State → ℕ → ℕ → List Id → Outcome
+take_first s caller d [] = answers reply.NoneQueued (with_register s caller d None)
+take_first s caller d (id ∷ rest) =
+    answers (reply.Object id) (with_register (with_queue s rest) caller d (Some id))
+
+abbrev pub take_queued : State → ℕ → ℕ → Outcome
+take_queued s caller d = take_first s caller d s.queue
+
 -- `hget rD hS`: rD names the target, which is null where it was never set or is cleared
 abbrev pub get_target : State → ℕ → ℕ → ℕ → Outcome
-get_target s caller d h = on_handle s caller h (λ slot handle. answers (loaded handle.target) (with_register s caller d handle.target))
+get_target s caller d h =
+    on_handle s caller h
+    (λ slot handle. answers (loaded handle.target) (with_register s caller d handle.target))
 
--- `hset hS rT`: the target becomes what rT names
+-- `hset hS rT`: the target becomes what rT names. A dependent handle may get null alone, and then its
+-- secondary is null too (the setter of .NET's DependentHandle.Target takes null alone).
 abbrev pub set_target : State → ℕ → ℕ → ℕ → Outcome
 set_target s caller h t =
-    on_handle s caller h (λ slot handle. answers reply.Done (with_handle s slot (record handle { target = register_of s caller t })))
+    on_handle s caller h (λ slot handle.
+    let target = register_of s caller t in
+    if is_kind handle.kind kind.Dependent && is_some target then refuses refusal.WrongKind s
+    else answers reply.Done
+    (with_handle s slot (record handle { target = target; extra = without_secondary handle.extra })))
+
+-- `hsec hS rS`: the secondary of a dependent handle, whose target is not null, becomes what rS names (.NET's
+-- DependentHandle.Dependent)
+abbrev pub set_secondary : State → ℕ → ℕ → ℕ → Outcome
+set_secondary s caller h r =
+    on_handle_of s caller h kind.Dependent (λ slot handle.
+    let after = with_handle s slot (record handle { extra = secondary (register_of s caller r) }) in
+    option_map_or (λ _. answers reply.Done after) handle.target (refuses refusal.Null s))
+
+-- `hdep rD hS`: rD names the secondary of a dependent handle
+abbrev pub get_secondary : State → ℕ → ℕ → ℕ → Outcome
+get_secondary s caller d h =
+    on_handle_of s caller h kind.Dependent (λ slot handle.
+    let v = secondary_of handle.extra in answers (loaded v) (with_register s caller d v))
+
+-- `hvar hS STRENGTH`: a variable handle gets the strength
+abbrev pub set_strength : State → ℕ → ℕ → Strength → Outcome
+set_strength s caller h given =
+    on_handle_of s caller h kind.Variable
+    (λ slot handle. answers reply.Done (with_handle s slot (record handle { extra = strength given })))
+
+-- a ref-counted handle gets a count, which is answered
+abbrev pub with_count : State → Slot → Handle Id → ℕ → Outcome
+with_count s slot handle c = answers (reply.Value c) (with_handle s slot (record handle { extra = count c }))
+
+-- `hup hS`: the count of a ref-counted handle rises by one (CoreCLR's ref-counted handles ask their object's
+-- count; a count in the handle is this project's own)
+abbrev pub raise_count : State → ℕ → ℕ → Outcome
+raise_count s caller h =
+    on_handle_of s caller h kind.Counted (λ slot handle. with_count s slot handle (count_of handle.extra + 1))
+
+-- `hdown hS`: the count of a ref-counted handle falls by one, which is refused where it is 0
+abbrev pub lower_count : State → ℕ → ℕ → Outcome
+lower_count s caller h =
+    on_handle_of s caller h kind.Counted (λ slot handle.
+    if count_of handle.extra == 0 then refuses refusal.CountZero s
+    else with_count s slot handle (count_of handle.extra - 1))
 
 -- `hfree hS`: the handle is no more and hS is empty. Copies of the slot that stand elsewhere stay.
 abbrev pub free_handle : State → ℕ → ℕ → Outcome
 free_handle s caller h =
-    on_handle s caller h (λ slot handle. record { reply = reply.Done; freed = Some slot; after = with_handle_register (without_handle s slot) caller h None })
+    on_handle s caller h (λ slot handle. record {
+      reply = reply.Done;
+      slot = Some slot;
+      after = with_handle_register (without_handle s slot) caller h None;
+    })
 
--- the kind of a made handle
-abbrev pub kind_of : Make → Kind
-kind_of make.Short = kind.Short
-kind_of make.Long = kind.Long
-kind_of make.Strong = kind.Strong
-kind_of make.Pinned = kind.Pinned
-kind_of (make.Variable _) = kind.Variable
-kind_of (make.Dependent _) = kind.Dependent
+-- `hput k hS`: board place k has what hS has
+abbrev pub put_board : State → ℕ → ℕ → ℕ → Outcome
+put_board s caller k h = answers reply.Done (with_board s k (handle_register_of s caller h))
+
+-- `hpick hD k`: hD has what board place k has
+abbrev pub pick_board : State → ℕ → ℕ → ℕ → Outcome
+pick_board s caller d k = answers reply.Done (with_handle_register s caller d (board_of s k))
+
+-- `addr hS` where p is the place of the object that the handle pins: the object keeps it
+abbrev pub answer_place : State → ℕ → ℕ → ℕ → Outcome
+answer_place s caller h p =
+    on_handle s caller h (λ slot handle.
+    if pins handle then (
+    option_map_or (λ id. answers (reply.Place p) (with_place s id p)) handle.target (refuses refusal.Null s))
+    else refuses refusal.WrongKind s)
 
 -- the extra of a made handle. Without a target a dependent handle has no secondary either.
-abbrev pub extra_of : State → ℕ → Make → ℕ → Extra
+abbrev pub extra_of : State → ℕ → Make → ℕ → Extra Id
+extra_of s caller make.Short t = nothing
+extra_of s caller make.Long t = nothing
+extra_of s caller make.Strong t = nothing
+extra_of s caller make.Pinned t = nothing
 extra_of s caller (make.Variable given) t = strength given
-extra_of s caller (make.Dependent r) t = secondary (option_and_then (λ _. register_of s caller r) (register_of s caller t))
-extra_of s caller _ t = nothing
+extra_of s caller make.Counted t = count 1
+extra_of s caller (make.Dependent r) t =
+    secondary (option_and_then (λ _. register_of s caller r) (register_of s caller t))
 
 -- a made handle, which names what rT names
-abbrev pub made_handle : State → ℕ → Make → ℕ → Handle
-made_handle s caller make t = record { kind = kind_of make; target = register_of s caller t; extra = extra_of s caller make t }
+abbrev pub made_handle : State → ℕ → Make → ℕ → Handle Id
+made_handle s caller make t =
+    record { kind = kind_of make; target = register_of s caller t; extra = extra_of s caller make t }

@@ -1,10 +1,13 @@
--- The grammar of a script: bytes as lines, lines as words, words as what they say, and the commands of each caller. It is this
--- project's own format.
-use Rattle.std.specs.Prelude.{◌≡◌, ℕ, ◌+◌, ◌-◌, ◌*◌, ◌≤◌, max, Bool, true, false, ◌&&◌, ◌||◌, not, ◌==◌, nat_lt, nat_le, if◌then◌else◌, List, [], ◌∷◌, ◌++◌, map, length, fold, filter, sum_by, All, codes, bytes_eq, Option, Some, None, option_map, option_to_list, Result, Ok, Err}
+-- The grammar of a script: bytes as lines, lines as words, words as what they say, and the commands of each
+-- caller. It is this project's own format.
+use Rattle.std.specs.Prelude.{◌≡◌, ℕ, ◌+◌, ◌-◌, ◌*◌, ◌≤◌, max, Bool, true, false, ◌&&◌, ◌||◌, ◌==◌, nat_lt, nat_le, if◌then◌else◌, List, [], ◌∷◌, ◌++◌, map, length, fold, filter, sum_by, All, codes, bytes_eq, Option, Some, None, option_map, option_to_list, Result, Ok, Err}
 use Rattle.std.specs.Option.{option_or}
 use Rattle.std.specs.Char.{is_ascii_digit}
 use Rattle.std.specs.List.{slice_split, before_first, list_all, range_with_len}
 use Rattle.std.specs.Str.Lines.{strip_carriage_return}
+use Rattle.hd_model.specs.declared.limits.TheConstants.{CALLERS, REGISTERS, FIELDS, OLDEST, MOST_COMMANDS}
+use Rattle.hd_model.specs.declared.data.Kind.{Kind}
+use Rattle.hd_model.specs.declared.data.Kind.TheVariants as kind
 use Rattle.hd_model.specs.declared.data.Strength.{Strength}
 use Rattle.hd_model.specs.declared.data.Strength.TheVariants as strength
 use Rattle.hd_model.specs.declared.data.Make.{Make}
@@ -17,7 +20,7 @@ use Rattle.hd_model.specs.Valid.{IsValid}
 abbrev pub is_line_end : ℕ → Bool
 is_line_end b = b == 10
 
--- what stands behind the last line end is a line only where it has a byte
+-- what stands after the last line end is a line only where it has a byte
 abbrev pub without_empty_last : List (List ℕ) → List (List ℕ)
 without_empty_last [] = []
 without_empty_last (line ∷ []) = if length line == 0 then [] else line ∷ []
@@ -49,20 +52,22 @@ value_of digits = fold (λ n b. n * 10 + (b - 48)) 0 digits
 
 -- a number: one or more decimal digits, of any length, whose value is at most a limit
 unfoldable pub number_of : ℕ → List ℕ → Option ℕ
-number_of most word = if nat_lt 0 (length word) && list_all is_ascii_digit word && nat_le (value_of word) most then Some (value_of word) else None
+number_of most word =
+    if nat_lt 0 (length word) && list_all is_ascii_digit word && nat_le (value_of word) most
+    then Some (value_of word) else None
 
--- a register: its letter, and directly behind it a number from 0 to 15
-unfoldable pub register_of : ℕ → List ℕ → Option ℕ
-register_of letter [] = None
-register_of letter (b ∷ digits) = if b == letter then number_of 15 digits else None
+-- a register: its letter, and directly after it a number from 0 to 15
+unfoldable pub register_in : ℕ → List ℕ → Option ℕ
+register_in letter [] = None
+register_in letter (b ∷ digits) = if b == letter then number_of (REGISTERS - 1) digits else None
 
 -- an object register, as `r7`
-abbrev pub object_of : List ℕ → Option ℕ
-object_of word = register_of 114 word
+abbrev pub object_register_in : List ℕ → Option ℕ
+object_register_in word = register_in 114 word
 
 -- a handle register, as `h7`
-abbrev pub handle_of : List ℕ → Option ℕ
-handle_of word = register_of 104 word
+abbrev pub handle_register_in : List ℕ → Option ℕ
+handle_register_in word = register_in 104 word
 
 -- the first row of a table that begins with the word says what it means; without one it means nothing
 abbrev pub look_up : {A : Type 0} → List ℕ → List (List ℕ × Option A) → Option A
@@ -85,6 +90,16 @@ make_of word = look_up word (
     ∷ (codes "long", Some make.Long)
     ∷ (codes "strong", Some make.Strong)
     ∷ (codes "pinned", Some make.Pinned)
+    ∷ (codes "ref", Some make.Counted)
+    ∷ [])
+
+-- a kind of handle whose blocks can be given back: one without extra data
+unfoldable pub trimmed_kind_of : List ℕ → Option Kind
+trimmed_kind_of word = look_up word (
+    (codes "short", Some kind.Short)
+    ∷ (codes "long", Some kind.Long)
+    ∷ (codes "strong", Some kind.Strong)
+    ∷ (codes "pinned", Some kind.Pinned)
     ∷ [])
 
 -- `fin` registers a new object for finalisation
@@ -107,37 +122,40 @@ three f (Some a) b c = two (f a) b c
 -- a command of two words
 unfoldable pub two_words : List ℕ → List ℕ → Option Cmd
 two_words word a = look_up word (
-    (codes "read", one cmd.Read (object_of a))
-    ∷ (codes "drop", one cmd.Clear (object_of a))
-    ∷ (codes "gen", one cmd.Gen (object_of a))
-    ∷ (codes "suppress", one cmd.Suppress (object_of a))
-    ∷ (codes "reregister", one cmd.Reregister (object_of a))
-    ∷ (codes "final", one cmd.Final (object_of a))
-    ∷ (codes "collect", one cmd.Collect (number_of 2 a))
-    ∷ (codes "hfree", one cmd.HFree (handle_of a))
-    ∷ (codes "addr", one cmd.AddrOf (handle_of a))
+    (codes "read", one cmd.Read (object_register_in a))
+    ∷ (codes "drop", one cmd.Clear (object_register_in a))
+    ∷ (codes "gen", one cmd.Gen (object_register_in a))
+    ∷ (codes "suppress", one cmd.Suppress (object_register_in a))
+    ∷ (codes "reregister", one cmd.Reregister (object_register_in a))
+    ∷ (codes "final", one cmd.Final (object_register_in a))
+    ∷ (codes "collect", one cmd.Collect (number_of OLDEST a))
+    ∷ (codes "hfree", one cmd.HFree (handle_register_in a))
+    ∷ (codes "addr", one cmd.AddrOf (handle_register_in a))
+    ∷ (codes "hup", one cmd.HUp (handle_register_in a))
+    ∷ (codes "hdown", one cmd.HDown (handle_register_in a))
+    ∷ (codes "trim", one cmd.Trim (trimmed_kind_of a))
     ∷ [])
 
 -- a command of three words on objects
 unfoldable pub three_on_objects : List ℕ → List ℕ → List ℕ → Option Cmd
 three_on_objects word a b = look_up word (
-    (codes "new", two (λ d fields. cmd.New d fields false) (object_of a) (number_of 61 b))
-    ∷ (codes "val", two cmd.Val (object_of a) (number_of 18446744073709551615 b))
-    ∷ (codes "copy", two cmd.Copy (object_of a) (object_of b))
-    ∷ (codes "sput", two cmd.SPut (number_of 15 a) (object_of b))
-    ∷ (codes "sget", two cmd.SGet (object_of a) (number_of 15 b))
+    (codes "new", two (λ d fields. cmd.New d fields false) (object_register_in a) (number_of FIELDS b))
+    ∷ (codes "val", two cmd.Val (object_register_in a) (number_of 18446744073709551615 b))
+    ∷ (codes "copy", two cmd.Copy (object_register_in a) (object_register_in b))
+    ∷ (codes "sput", two cmd.SPut (number_of (REGISTERS - 1) a) (object_register_in b))
+    ∷ (codes "sget", two cmd.SGet (object_register_in a) (number_of (REGISTERS - 1) b))
     ∷ [])
 
 -- a command of three words on handles
 unfoldable pub three_on_handles : List ℕ → List ℕ → List ℕ → Option Cmd
 three_on_handles word a b = look_up word (
-    (codes "hget", two cmd.HGet (object_of a) (handle_of b))
-    ∷ (codes "hset", two cmd.HSet (handle_of a) (object_of b))
-    ∷ (codes "hsec", two cmd.HSec (handle_of a) (object_of b))
-    ∷ (codes "hdep", two cmd.HDep (object_of a) (handle_of b))
-    ∷ (codes "hvar", two cmd.HVar (handle_of a) (strength_of b))
-    ∷ (codes "hput", two cmd.HPut (number_of 15 a) (handle_of b))
-    ∷ (codes "hpick", two cmd.HPick (handle_of a) (number_of 15 b))
+    (codes "hget", two cmd.HGet (object_register_in a) (handle_register_in b))
+    ∷ (codes "hset", two cmd.HSet (handle_register_in a) (object_register_in b))
+    ∷ (codes "hsec", two cmd.HSec (handle_register_in a) (object_register_in b))
+    ∷ (codes "hdep", two cmd.HDep (object_register_in a) (handle_register_in b))
+    ∷ (codes "hvar", two cmd.HVar (handle_register_in a) (strength_of b))
+    ∷ (codes "hput", two cmd.HPut (number_of (REGISTERS - 1) a) (handle_register_in b))
+    ∷ (codes "hpick", two cmd.HPick (handle_register_in a) (number_of (REGISTERS - 1) b))
     ∷ [])
 
 -- a command of three words. No first word is in both tables.
@@ -147,17 +165,24 @@ three_words word a b = option_or (three_on_objects word a b) (three_on_handles w
 -- a command of four words
 unfoldable pub four_words : List ℕ → List ℕ → List ℕ → List ℕ → Option Cmd
 four_words word a b c = look_up word (
-    (codes "new", three cmd.New (object_of a) (number_of 61 b) (fin_of c))
-    ∷ (codes "set", three cmd.Set (object_of a) (number_of 255 b) (object_of c))
-    ∷ (codes "get", three cmd.Get (object_of a) (object_of b) (number_of 255 c))
-    ∷ (codes "hnew", three cmd.HNew (handle_of a) (make_of b) (object_of c))
+    (codes "new", three cmd.New (object_register_in a) (number_of FIELDS b) (fin_of c))
+    ∷ (codes "set", three cmd.Set (object_register_in a) (number_of 255 b) (object_register_in c))
+    ∷ (codes "get", three cmd.Get (object_register_in a) (object_register_in b) (number_of 255 c))
+    ∷ (codes "hnew", three cmd.HNew (handle_register_in a) (make_of b) (object_register_in c))
     ∷ [])
 
 -- `hnew hD var rT STRENGTH` and `hnew hD dep rT rS`
 unfoldable pub hnew_of : List ℕ → List ℕ → List ℕ → List ℕ → Option Cmd
-hnew_of a kind c d = look_up kind (
-    (codes "var", three (λ h t s. cmd.HNew h (make.Variable s) t) (handle_of a) (object_of c) (strength_of d))
-    ∷ (codes "dep", three (λ h t s. cmd.HNew h (make.Dependent s) t) (handle_of a) (object_of c) (object_of d))
+hnew_of a kind c d = look_up kind ((
+  codes "var",
+  three (λ h t s. cmd.HNew h (make.Variable s) t)
+      (handle_register_in a) (object_register_in c) (strength_of d),
+)
+    ∷ (
+      codes "dep",
+      three (λ h t s. cmd.HNew h (make.Dependent s) t)
+          (handle_register_in a) (object_register_in c) (object_register_in d),
+    )
     ∷ [])
 
 -- a command of five words
@@ -175,7 +200,8 @@ unfoldable pub reading_of : List (List ℕ) → Option Reading
 reading_of [] = Some blank
 reading_of (word ∷ []) = None
 reading_of (word ∷ a ∷ []) =
-    if bytes_eq word (codes "caller") then option_map caller (number_of 15 a) else option_map command (two_words word a)
+    if bytes_eq word (codes "caller") then option_map caller (number_of (CALLERS - 1) a)
+    else option_map command (two_words word a)
 reading_of (word ∷ a ∷ b ∷ []) = option_map command (three_words word a b)
 reading_of (word ∷ a ∷ b ∷ c ∷ []) = option_map command (four_words word a b c)
 reading_of (word ∷ a ∷ b ∷ c ∷ d ∷ []) = option_map command (five_words word a b c d)
@@ -196,10 +222,11 @@ command_in (Some (command c)) = Some c
 command_in _ = None
 
 -- the commands of one caller, in the order of their lines, where the first line is one of caller `now`
-abbrev pub commands_of : ℕ → ℕ → List (Option Reading) → List Cmd
-commands_of wanted now [] = []
-commands_of wanted now (reading ∷ rest) =
-    (if now == wanted then option_to_list (command_in reading) else []) ++ commands_of wanted (caller_after now reading) rest
+abbrev pub commands_for : ℕ → ℕ → List (Option Reading) → List Cmd
+commands_for wanted now [] = []
+commands_for wanted now (reading ∷ rest) =
+    (if now == wanted then option_to_list (command_in reading) else [])
+    ++ commands_for wanted (caller_after now reading) rest
 
 -- the number of callers: they are 0 to the largest number that a line names, and 0 alone where none does
 abbrev pub callers_of : List (Option Reading) → ℕ
@@ -208,18 +235,16 @@ callers_of (reading ∷ rest) = max (caller_after 0 reading + 1) (callers_of res
 
 -- the list of each caller. Before a line names one, the commands are those of caller 0.
 unfoldable pub lists_of : List (Option Reading) → List (List Cmd)
-lists_of readings = map (λ wanted. commands_of wanted 0 readings) (range_with_len 0 (callers_of readings))
+lists_of readings = map (λ wanted. commands_for wanted 0 readings) (range_with_len 0 (callers_of readings))
 
--- the most commands that a script may have
-abbrev pub most_commands : ℕ
-most_commands = 100000
-
--- the first line that has no reading or holds a command too many, where the lines are numbered from `line` and `before` commands
--- stand before them
+-- the first line that has no reading or holds a command too many, where the lines are numbered from `line`
+-- and
+-- `before` commands stand before them
 abbrev pub first_fault : ℕ → ℕ → List (Option Reading) → Option ℕ
 first_fault line before [] = None
 first_fault line before (None ∷ rest) = Some line
-first_fault line before (Some (command c) ∷ rest) = if nat_lt before most_commands then first_fault (line + 1) (before + 1) rest else Some line
+first_fault line before (Some (command c) ∷ rest) =
+    if nat_lt before MOST_COMMANDS then first_fault (line + 1) (before + 1) rest else Some line
 first_fault line before (Some _ ∷ rest) = first_fault (line + 1) before rest
 
 -- the lists, unless a line is at fault
@@ -238,6 +263,6 @@ IsScript bytes lists = script_of bytes ≡ Ok lists
 -- what is true of the lists of each script: 1 to 16 callers, valid commands, and at most 100,000 of them
 pub record AreLists (lists : List (List Cmd)) : Type 0 where
   pub least : 1 ≤ length lists
-  pub most : length lists ≤ 16
+  pub most : length lists ≤ CALLERS
   pub valid : All (λ list. All IsValid list) lists
-  pub total : sum_by length lists ≤ most_commands
+  pub total : sum_by length lists ≤ MOST_COMMANDS

@@ -1,47 +1,89 @@
 -- Journals as runs of the machine.
-use Rattle.std.specs.Prelude.{◌≡◌, ℕ, ◌≤◌, ◌⊎◌, ◌==◌, List, [], ◌∷◌, Some, None, filter, map}
+use Rattle.std.specs.Prelude.{◌≡◌, ℕ, ◌≤◌, ◌⊎◌, ◌==◌, List, [], ◌∷◌, Some, filter, map}
 use Rattle.std.specs.List.Sorted.{IsNonDecreasingBy}
 use Rattle.hd_model.specs.declared.data.Entry.{Entry}
-use Rattle.hd_model.specs.declared.data.Grown.TheVariants.{Zero}
+use Rattle.hd_model.specs.declared.data.Grown.TheVariants.{Zero, Back}
 use Rattle.hd_model.specs.declared.data.Kind.{Kind}
 use Rattle.hd_model.specs.declared.data.Slot.{Slot}
 use Rattle.hd_model.specs.declared.command.Cmd.{Cmd}
 use Rattle.hd_model.specs.declared.command.Cmd.TheVariants as cmd
-use Rattle.hd_model.specs.State.{Numbers, State, handles_of, start_of, handle_at, use_of, block_of}
-use Rattle.hd_model.specs.Command.{kind_of}
+use Rattle.hd_model.specs.State.{Numbers, State, start_of, IsFree, IsAllFree}
+use Rattle.hd_model.specs.Kinds.{kind_of}
 use Rattle.hd_model.specs.Step.{Step}
 
 -- entries one after another, each a step from the state that the one before left
-pub data Chain (R : State → Entry → State → Type 0) : State → List Entry → State → Type 0 where
-  stay : {s : State} → Chain R s [] s
-  link : {s t u : State} {e : Entry} {es : List Entry} → R s e t → Chain R t es u → Chain R s (e ∷ es) u
+pub data Chain {S : Type 0} (R : S → Entry → S → Type 0) : S → List Entry → S → Type 0 where
+  stay : {s : S} → Chain R s [] s
+  link : {s t u : S} {e : Entry} {es : List Entry} → R s e t → Chain R t es u → Chain R s (e ∷ es) u
 
 -- a journal is a run that replays to a state: its entries lead there from the start
 abbrev pub Run : Numbers → List Entry → State → Type 0
 Run n journal s = Chain (Step n) (start_of n) journal s
 
--- a slot that holds no handle, in a block of the kind
-abbrev pub IsFree : State → Kind → Slot → Type 0
-IsFree s kind slot = (handle_at s slot ≡ None) × (use_of s (block_of slot) ≡ Some (handles_of kind))
+-- the least free slot of a kind
+pub record IsLeastFree (s : State) (kind : Kind) (slot : Slot) : Type 0 where
+  pub free : IsFree s kind slot
+  pub least : (other : Slot) → IsFree s kind other → slot.0 ≤ other.0
 
 -- no slot of the kind is free
 abbrev pub NoneFree : State → Kind → Type 0
 NoneFree s kind = (slot : Slot) → IsFree s kind slot → ⊥
 
--- the least free slot of the kind
-pub record IsLeastFree (s : State) (kind : Kind) (slot : Slot) : Type 0 where
-  pub free : IsFree s kind slot
-  pub least : (other : Slot) → IsFree s kind other → slot.0 ≤ other.0
+-- the least block of a kind whose slots are all free
+pub record IsLeastAllFree (s : State) (kind : Kind) (block : ℕ) : Type 0 where
+  pub free : IsAllFree s kind block
+  pub least : (other : ℕ) → IsAllFree s kind other → block ≤ other
 
--- a new handle takes the least free slot of its kind without growth; only where there is none does the table grow, or is found full
+-- in each block of the kind some slot is not free
+abbrev pub NoneAllFree : State → Kind → Type 0
+NoneAllFree s kind = (block : ℕ) → IsAllFree s kind block → ⊥
+
+-- `hnew` gives the least free slot of the kind without growth; only where there is none does the table grow,
+-- or is found full
+abbrev pub GivesLeast : State → Entry → Kind → Type 0
+GivesLeast s e kind =
+    ((slot : Slot) × IsLeastFree s kind slot × (e.slot ≡ Some slot) × (e.grown ≡ Zero)) ⊎ NoneFree s kind
+
+-- `trim` gives back the least block of the kind whose slots are all free; only where there is none does it
+-- give back none
+abbrev pub GivesBackLeast : State → Entry → Kind → Type 0
+GivesBackLeast s e kind =
+    ((block : ℕ) × IsLeastAllFree s kind block × (e.grown ≡ Back block)) ⊎ NoneAllFree s kind
+
+-- what the one thread of a solo run chooses, where a step leaves a choice
 abbrev pub TakesLeast : State → Entry → Cmd → Type 0
-TakesLeast s e (cmd.HNew d make t) =
-    ((slot : Slot) × IsLeastFree s (kind_of make) slot × (e.slot ≡ Some slot) × (e.grown ≡ Zero)) ⊎ NoneFree s (kind_of make)
-TakesLeast s e _ = Unit {0}
+TakesLeast s e (cmd.HNew d make t) = GivesLeast s e (kind_of make)
+TakesLeast s e (cmd.Trim kind) = GivesBackLeast s e kind
+TakesLeast s e (cmd.New d fields fin) = Unit {0}
+TakesLeast s e (cmd.Set o i v) = Unit {0}
+TakesLeast s e (cmd.Get d o i) = Unit {0}
+TakesLeast s e (cmd.Val o v) = Unit {0}
+TakesLeast s e (cmd.Read o) = Unit {0}
+TakesLeast s e (cmd.Copy d r) = Unit {0}
+TakesLeast s e (cmd.Clear d) = Unit {0}
+TakesLeast s e (cmd.SPut k r) = Unit {0}
+TakesLeast s e (cmd.SGet d k) = Unit {0}
+TakesLeast s e (cmd.Gen o) = Unit {0}
+TakesLeast s e (cmd.Suppress o) = Unit {0}
+TakesLeast s e (cmd.Reregister o) = Unit {0}
+TakesLeast s e (cmd.Final d) = Unit {0}
+TakesLeast s e (cmd.Collect n) = Unit {0}
+TakesLeast s e (cmd.HGet d h) = Unit {0}
+TakesLeast s e (cmd.HSet h t) = Unit {0}
+TakesLeast s e (cmd.HSec h r) = Unit {0}
+TakesLeast s e (cmd.HDep d h) = Unit {0}
+TakesLeast s e (cmd.HVar h given) = Unit {0}
+TakesLeast s e (cmd.HFree h) = Unit {0}
+TakesLeast s e (cmd.HPut k h) = Unit {0}
+TakesLeast s e (cmd.HPick d k) = Unit {0}
+TakesLeast s e (cmd.AddrOf h) = Unit {0}
+TakesLeast s e (cmd.HUp h) = Unit {0}
+TakesLeast s e (cmd.HDown h) = Unit {0}
 
--- a step of one thread, which gives the least slot
-abbrev pub SoloStep : Numbers → State → Entry → State → Type 0
-SoloStep n old e new = Step n old e new × TakesLeast old e e.cmd
+-- a step of one thread
+pub record SoloStep (n : Numbers) (old : State) (e : Entry) (new : State) : Type 0 where
+  pub step : Step n old e new
+  pub least : TakesLeast old e e.cmd
 
 -- a run of callers taken one after another, in rising number
 pub record SoloRun (n : Numbers) (journal : List Entry) (s : State) : Type 0 where

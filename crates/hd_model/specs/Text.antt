@@ -5,11 +5,11 @@ use Rattle.hd_model.specs.declared.data.Id.{Id}
 use Rattle.hd_model.specs.declared.data.Report.{Report as CollectionReport}
 use Rattle.hd_model.specs.declared.data.Entry.{Entry}
 use Rattle.hd_model.specs.declared.data.Refusal.{Refusal}
-use Rattle.hd_model.specs.declared.data.Refusal.TheVariants.{Null, BadField, HeapFull, TableFull, NotLive, WrongKind, EmptyRegister}
+use Rattle.hd_model.specs.declared.data.Refusal.TheVariants.{Null, BadField, HeapFull, TableFull, NotLive, WrongKind, EmptyRegister, CountZero}
 use Rattle.hd_model.specs.declared.data.Reply.{Reply}
 use Rattle.hd_model.specs.declared.data.Reply.TheVariants.{Done, Object, Nothing, Value, Generation, Place, Report, NoneQueued, Refused}
 use Rattle.hd_model.specs.declared.command.Cmd.{Cmd}
-use Rattle.hd_model.specs.declared.command.Cmd.TheVariants.{Collect}
+use Rattle.hd_model.specs.declared.command.Cmd.TheVariants as cmd
 use Rattle.hd_model.specs.State.{State}
 
 -- a refusal in one word, with its numbers
@@ -21,6 +21,7 @@ refusal_text (TableFull given) = codes "tablefull " ++ decimal given
 refusal_text NotLive = codes "notlive"
 refusal_text WrongKind = codes "wrongkind"
 refusal_text EmptyRegister = codes "empty"
+refusal_text CountZero = codes "countzero"
 
 -- an identity as its caller and its serial
 abbrev pub identity_text : Id → List ℕ
@@ -29,8 +30,9 @@ identity_text id = decimal (id.0 / 2 ^ 32) ++ codes "." ++ decimal (id.0 % 2 ^ 3
 -- the six numbers of a collection
 abbrev pub report_text : CollectionReport → List ℕ
 report_text r =
-    codes "kept " ++ decimal r.kept ++ codes " removed " ++ decimal r.removed ++ codes " short " ++ decimal r.short
-    ++ codes " long " ++ decimal r.long ++ codes " dep " ++ decimal r.dep ++ codes " revived " ++ decimal r.revived
+    codes "kept " ++ decimal r.kept ++ codes " removed " ++ decimal r.removed
+    ++ codes " short " ++ decimal r.short ++ codes " long " ++ decimal r.long
+    ++ codes " dep " ++ decimal r.dep ++ codes " revived " ++ decimal r.revived
 
 -- a reply
 abbrev pub reply_text : Reply → List ℕ
@@ -50,26 +52,55 @@ newline = 10 ∷ []
 
 -- the line of an entry: its caller, its number among that caller's entries, and its reply
 abbrev pub entry_text : Entry → ℕ → List ℕ
-entry_text e number = decimal e.caller ++ codes " " ++ decimal number ++ codes " " ++ reply_text e.reply ++ newline
+entry_text e number =
+    decimal e.caller ++ codes " " ++ decimal number ++ codes " " ++ reply_text e.reply ++ newline
 
--- the lines of entries that stand behind others. A caller's entries are numbered from 1.
-abbrev pub lines_behind : List Entry → List Entry → List ℕ
-lines_behind before [] = []
-lines_behind before (e ∷ es) = entry_text e (count_by (λ (other : Entry). other.caller == e.caller) before + 1) ++ lines_behind (before ++ e ∷ []) es
+-- the lines of entries that come after others. A caller's entries are numbered from 1.
+abbrev pub lines_after : List Entry → List Entry → List ℕ
+lines_after before [] = []
+lines_after before (e ∷ es) =
+    entry_text e (count_by (λ (other : Entry). other.caller == e.caller) before + 1)
+    ++ lines_after (before ++ e ∷ []) es
 
 -- the lines of a journal
 abbrev pub lines_of : List Entry → List ℕ
-lines_of journal = lines_behind [] journal
+lines_of journal = lines_after [] journal
 
 -- the last line: the live handles, the objects, reachable or not, and the collections
 abbrev pub end_text : ℕ → ℕ → ℕ → List ℕ
 end_text handles objects collections =
-    codes "end handles " ++ decimal handles ++ codes " objects " ++ decimal objects ++ codes " collections " ++ decimal collections ++ newline
+    codes "end handles " ++ decimal handles ++ codes " objects " ++ decimal objects
+    ++ codes " collections " ++ decimal collections ++ newline
 
 -- whether a command is a collection
 abbrev pub is_collect : Cmd → Bool
-is_collect (Collect n) = true
-is_collect _ = false
+is_collect (cmd.New d fields fin) = false
+is_collect (cmd.Set o i v) = false
+is_collect (cmd.Get d o i) = false
+is_collect (cmd.Val o v) = false
+is_collect (cmd.Read o) = false
+is_collect (cmd.Copy d r) = false
+is_collect (cmd.Clear d) = false
+is_collect (cmd.SPut k r) = false
+is_collect (cmd.SGet d k) = false
+is_collect (cmd.Gen o) = false
+is_collect (cmd.Suppress o) = false
+is_collect (cmd.Reregister o) = false
+is_collect (cmd.Final d) = false
+is_collect (cmd.Collect n) = true
+is_collect (cmd.HNew d make t) = false
+is_collect (cmd.HGet d h) = false
+is_collect (cmd.HSet h t) = false
+is_collect (cmd.HSec h r) = false
+is_collect (cmd.HDep d h) = false
+is_collect (cmd.HVar h given) = false
+is_collect (cmd.HFree h) = false
+is_collect (cmd.HPut k h) = false
+is_collect (cmd.HPick d k) = false
+is_collect (cmd.AddrOf h) = false
+is_collect (cmd.HUp h) = false
+is_collect (cmd.HDown h) = false
+is_collect (cmd.Trim kind) = false
 
 -- the number of collections of a journal
 abbrev pub collections_of : List Entry → ℕ

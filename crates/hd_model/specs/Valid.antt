@@ -1,65 +1,109 @@
 -- Which commands a script can have, and which the machine has.
-use Rattle.std.specs.Prelude.{◌<◌, ◌≤◌, ◌^◌, Bool, true, false, not}
+use Rattle.std.specs.Prelude.{◌≡◌, ◌<◌, ◌≤◌, ◌^◌, Bool, true, false}
 use Rattle.hd_model.specs.declared.data.Make.{Make}
 use Rattle.hd_model.specs.declared.data.Make.TheVariants as make
+use Rattle.hd_model.specs.Kinds.{is_paired}
+use Rattle.hd_model.specs.declared.limits.TheConstants.{REGISTERS, FIELDS, OLDEST}
 use Rattle.hd_model.specs.declared.command.Cmd.{Cmd}
 use Rattle.hd_model.specs.declared.command.Cmd.TheVariants as cmd
 
 -- the register of a dependent handle's secondary is one of the 16
 abbrev pub IsValidMake : Make → Type 0
-IsValidMake (make.Dependent s) = s < 16
-IsValidMake _ = Unit {0}
+IsValidMake make.Short = Unit {0}
+IsValidMake make.Long = Unit {0}
+IsValidMake make.Strong = Unit {0}
+IsValidMake make.Pinned = Unit {0}
+IsValidMake (make.Variable strength) = Unit {0}
+IsValidMake make.Counted = Unit {0}
+IsValidMake (make.Dependent s) = s < REGISTERS
 
--- registers and places are below 16, fields at most 61, a generation at most 2, and numbers below the end of their type
+-- registers and places are below 16, fields at most 61, a generation at most 2, numbers below the end of
+-- their type, and the kind of a `trim` has no extra data
 abbrev pub IsValid : Cmd → Type 0
-IsValid (cmd.New d fields fin) = (d < 16) × (fields ≤ 61)
-IsValid (cmd.Set o i v) = (o < 16) × (i < 256) × (v < 16)
-IsValid (cmd.Get d o i) = (d < 16) × (o < 16) × (i < 256)
-IsValid (cmd.Val o n) = (o < 16) × (n < 2 ^ 64)
-IsValid (cmd.Read o) = o < 16
-IsValid (cmd.Copy d s) = (d < 16) × (s < 16)
-IsValid (cmd.Clear d) = d < 16
-IsValid (cmd.SPut k s) = (k < 16) × (s < 16)
-IsValid (cmd.SGet d k) = (d < 16) × (k < 16)
-IsValid (cmd.Gen s) = s < 16
-IsValid (cmd.Suppress s) = s < 16
-IsValid (cmd.Reregister s) = s < 16
-IsValid (cmd.Final d) = d < 16
-IsValid (cmd.Collect n) = n ≤ 2
-IsValid (cmd.HNew d make t) = (d < 16) × IsValidMake make × (t < 16)
-IsValid (cmd.HGet d s) = (d < 16) × (s < 16)
-IsValid (cmd.HSet s t) = (s < 16) × (t < 16)
-IsValid (cmd.HSec h s) = (h < 16) × (s < 16)
-IsValid (cmd.HDep d s) = (d < 16) × (s < 16)
-IsValid (cmd.HVar s strength) = s < 16
-IsValid (cmd.HFree s) = s < 16
-IsValid (cmd.HPut k s) = (k < 16) × (s < 16)
-IsValid (cmd.HPick d k) = (d < 16) × (k < 16)
-IsValid (cmd.AddrOf s) = s < 16
+IsValid (cmd.New d fields fin) = (d < REGISTERS) × (fields ≤ FIELDS)
+IsValid (cmd.Set o i v) = (o < REGISTERS) × (i < 256) × (v < REGISTERS)
+IsValid (cmd.Get d o i) = (d < REGISTERS) × (o < REGISTERS) × (i < 256)
+IsValid (cmd.Val o n) = (o < REGISTERS) × (n < 2 ^ 64)
+IsValid (cmd.Read o) = o < REGISTERS
+IsValid (cmd.Copy d s) = (d < REGISTERS) × (s < REGISTERS)
+IsValid (cmd.Clear d) = d < REGISTERS
+IsValid (cmd.SPut k s) = (k < REGISTERS) × (s < REGISTERS)
+IsValid (cmd.SGet d k) = (d < REGISTERS) × (k < REGISTERS)
+IsValid (cmd.Gen s) = s < REGISTERS
+IsValid (cmd.Suppress s) = s < REGISTERS
+IsValid (cmd.Reregister s) = s < REGISTERS
+IsValid (cmd.Final d) = d < REGISTERS
+IsValid (cmd.Collect n) = n ≤ OLDEST
+IsValid (cmd.HNew d make t) = (d < REGISTERS) × IsValidMake make × (t < REGISTERS)
+IsValid (cmd.HGet d s) = (d < REGISTERS) × (s < REGISTERS)
+IsValid (cmd.HSet s t) = (s < REGISTERS) × (t < REGISTERS)
+IsValid (cmd.HSec h s) = (h < REGISTERS) × (s < REGISTERS)
+IsValid (cmd.HDep d s) = (d < REGISTERS) × (s < REGISTERS)
+IsValid (cmd.HVar s strength) = s < REGISTERS
+IsValid (cmd.HFree s) = s < REGISTERS
+IsValid (cmd.HPut k s) = (k < REGISTERS) × (s < REGISTERS)
+IsValid (cmd.HPick d k) = (d < REGISTERS) × (k < REGISTERS)
+IsValid (cmd.AddrOf s) = s < REGISTERS
+IsValid (cmd.HUp s) = s < REGISTERS
+IsValid (cmd.HDown s) = s < REGISTERS
+IsValid (cmd.Trim kind) = is_paired kind ≡ false
 
 -- the commands that may take memory: an object is made, or a collection moves objects
 abbrev pub takes_memory : Cmd → Bool
 takes_memory (cmd.New d fields fin) = true
+takes_memory (cmd.Set o i v) = false
+takes_memory (cmd.Get d o i) = false
+takes_memory (cmd.Val o v) = false
+takes_memory (cmd.Read o) = false
+takes_memory (cmd.Copy d r) = false
+takes_memory (cmd.Clear d) = false
+takes_memory (cmd.SPut k r) = false
+takes_memory (cmd.SGet d k) = false
+takes_memory (cmd.Gen o) = false
+takes_memory (cmd.Suppress o) = false
+takes_memory (cmd.Reregister o) = false
+takes_memory (cmd.Final d) = false
 takes_memory (cmd.Collect n) = true
-takes_memory _ = false
+takes_memory (cmd.HNew d make t) = false
+takes_memory (cmd.HGet d h) = false
+takes_memory (cmd.HSet h t) = false
+takes_memory (cmd.HSec h r) = false
+takes_memory (cmd.HDep d h) = false
+takes_memory (cmd.HVar h given) = false
+takes_memory (cmd.HFree h) = false
+takes_memory (cmd.HPut k h) = false
+takes_memory (cmd.HPick d k) = false
+takes_memory (cmd.AddrOf h) = false
+takes_memory (cmd.HUp h) = false
+takes_memory (cmd.HDown h) = false
+takes_memory (cmd.Trim kind) = false
 
--- weak, strong and pinned handles are built; variable and dependent ones are not yet
-abbrev pub is_built_make : Make → Bool
-is_built_make (make.Variable strength) = false
-is_built_make (make.Dependent s) = false
-is_built_make _ = true
-
--- the commands that the machine has: those that need no collector
+-- the commands that the world has: all but those of the collector and its queue, and addresses
 abbrev pub is_built : Cmd → Bool
-is_built (cmd.New d fields fin) = not fin
-is_built (cmd.HNew d make t) = is_built_make make
-is_built (cmd.Gen s) = false
-is_built (cmd.Suppress s) = false
-is_built (cmd.Reregister s) = false
+is_built (cmd.New d fields fin) = true
+is_built (cmd.Set o i v) = true
+is_built (cmd.Get d o i) = true
+is_built (cmd.Val o n) = true
+is_built (cmd.Read o) = true
+is_built (cmd.Copy d s) = true
+is_built (cmd.Clear d) = true
+is_built (cmd.SPut k s) = true
+is_built (cmd.SGet d k) = true
+is_built (cmd.Gen s) = true
+is_built (cmd.Suppress s) = true
+is_built (cmd.Reregister s) = true
 is_built (cmd.Final d) = false
 is_built (cmd.Collect n) = false
-is_built (cmd.HSec h s) = false
-is_built (cmd.HDep d s) = false
-is_built (cmd.HVar s strength) = false
+is_built (cmd.HNew d make t) = true
+is_built (cmd.HGet d s) = true
+is_built (cmd.HSet s t) = true
+is_built (cmd.HSec h s) = true
+is_built (cmd.HDep d s) = true
+is_built (cmd.HVar s strength) = true
+is_built (cmd.HFree s) = true
+is_built (cmd.HPut k s) = true
+is_built (cmd.HPick d k) = true
 is_built (cmd.AddrOf s) = false
-is_built _ = true
+is_built (cmd.HUp s) = true
+is_built (cmd.HDown s) = true
+is_built (cmd.Trim kind) = true

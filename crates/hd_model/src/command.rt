@@ -1,7 +1,7 @@
 ghost use Rattle.std.specs.Prelude.{◌≡◌, ◌↔◌, IsTrue};
 ghost use Rattle.hd_model.specs.Valid.{takes_memory, is_built};
 
-use super::{Make, Strength};
+use super::{Kind, Make, Strength};
 
 /// A command of a script. The registers and places of a valid one are below 16, its number of
 /// fields is at most 61, and its generation at most 2.
@@ -56,6 +56,13 @@ pub enum Cmd {
     HPick { d: u8, k: u8 },
     /// `addr hS`: answers the address of the target of a handle that pins it.
     AddrOf { s: u8 },
+    /// `hup hS`: the count of a ref-counted handle rises by one; answers the new count.
+    HUp { s: u8 },
+    /// `hdown hS`: the count of a ref-counted handle falls by one; answers the new count.
+    HDown { s: u8 },
+    /// `trim KIND`: gives back at most one block of the kind whose 64 slots are all free. The kind is
+    /// short, long, strong or pinned.
+    Trim { kind: Kind },
 }
 
 impl Cmd {
@@ -66,24 +73,37 @@ impl Cmd {
         matches!(self, Cmd::New { .. } | Cmd::Collect { .. })
     }
 
-    /// Whether the machine has the command yet. Finalisation, collections, generations, addresses,
-    /// and variable and dependent handles are still to come.
+    /// Whether the world has the command yet. Collections, the queue that they fill, and addresses are
+    /// still to come.
     pub fn built(&self) -> bool
         ensures { result ≡ is_built self.now }
     {
         match self {
-            Cmd::New { fin, .. } => !*fin,
-            Cmd::HNew { make, .. } => !matches!(make, Make::Variable(_) | Make::Dependent(_)),
-            Cmd::Gen { .. }
+            Cmd::Final { .. } | Cmd::Collect { .. } | Cmd::AddrOf { .. } => false,
+            Cmd::New { .. }
+            | Cmd::Set { .. }
+            | Cmd::Get { .. }
+            | Cmd::Val { .. }
+            | Cmd::Read { .. }
+            | Cmd::Copy { .. }
+            | Cmd::Clear { .. }
+            | Cmd::SPut { .. }
+            | Cmd::SGet { .. }
+            | Cmd::Gen { .. }
             | Cmd::Suppress { .. }
             | Cmd::Reregister { .. }
-            | Cmd::Final { .. }
-            | Cmd::Collect { .. }
+            | Cmd::HNew { .. }
+            | Cmd::HGet { .. }
+            | Cmd::HSet { .. }
             | Cmd::HSec { .. }
             | Cmd::HDep { .. }
             | Cmd::HVar { .. }
-            | Cmd::AddrOf { .. } => false,
-            _ => true,
+            | Cmd::HFree { .. }
+            | Cmd::HPut { .. }
+            | Cmd::HPick { .. }
+            | Cmd::HUp { .. }
+            | Cmd::HDown { .. }
+            | Cmd::Trim { .. } => true,
         }
     }
 }

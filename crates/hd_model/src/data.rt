@@ -1,5 +1,5 @@
-ghost use Rattle.std.specs.Prelude.{◌≡◌};
-ghost use Rattle.hd_model.specs.Command.{kind_of};
+ghost use Rattle.std.specs.Prelude.{◌≡◌, ◌<◌};
+ghost use Rattle.hd_model.specs.Kinds.{kind_of, kind_number, is_paired};
 
 /// The identity of an object: its caller's number times 2^32, plus a serial of that caller, from 1.
 /// It is never 0, and no object gets one that another had.
@@ -32,8 +32,40 @@ pub enum Kind {
     Pinned,
     /// A handle that carries its strength.
     Variable,
+    /// A handle with a count: strong while the count is above 0, and else as a weak long one, after
+    /// CoreCLR's ref-counted handles.
+    Counted,
     /// A handle whose secondary lives as long as its target, which it does not keep alive.
     Dependent,
+}
+
+impl Kind {
+    /// The number of the kind. The words and cells of the custody table, and the chains of blocks,
+    /// stand in this order.
+    pub fn number(self) -> u32
+        ensures value { result ≡ kind_number self }
+        ensures small { result < 7 }
+    {
+        match self {
+            Kind::Short => 0,
+            Kind::Long => 1,
+            Kind::Strong => 2,
+            Kind::Pinned => 3,
+            Kind::Variable => 4,
+            Kind::Counted => 5,
+            Kind::Dependent => 6,
+        }
+    }
+
+    /// Whether a handle of this kind has extra data, which stands in a data block beside its block.
+    pub fn paired(self) -> bool
+        ensures { result ≡ is_paired self }
+    {
+        match self {
+            Kind::Short | Kind::Long | Kind::Strong | Kind::Pinned => false,
+            Kind::Variable | Kind::Counted | Kind::Dependent => true,
+        }
+    }
 }
 
 /// The strength of a variable handle.
@@ -54,6 +86,8 @@ pub enum Make {
     Strong,
     Pinned,
     Variable(Strength),
+    /// Its count is 1 at first.
+    Counted,
     Dependent(u8),
 }
 
@@ -68,18 +102,20 @@ impl Make {
             Make::Strong => Kind::Strong,
             Make::Pinned => Kind::Pinned,
             Make::Variable(_) => Kind::Variable,
+            Make::Counted => Kind::Counted,
             Make::Dependent(_) => Kind::Dependent,
         }
     }
 }
 
-/// The blocks by which the table grew: none, a block of handles, or a block of handles and its data
-/// block.
+/// How the blocks in use changed: not at all, by a new block of handles, by a new block of handles
+/// and its data block, or by a block that was given back.
 #[derive(Clone, Copy, Debug, PartialEq, Eq)]
 pub enum Grown {
     Zero,
     One(u32),
     Two(u32, u32),
+    Back(u32),
 }
 
 /// What a collection did, in objects and in handles.
@@ -91,7 +127,7 @@ pub struct Report {
     pub removed: u32,
     /// The weak short handles whose target became null.
     pub short: u32,
-    /// The weak long handles whose target became null.
+    /// The weak long handles, and the ref-counted ones, whose target became null.
     pub long: u32,
     /// The dependent handles whose two parts became null.
     pub dep: u32,
@@ -100,7 +136,8 @@ pub struct Report {
 }
 
 /// Why a command was refused. Where several causes hold, the first of these is answered:
-/// empty register, slot that is not live, wrong kind, null, bad field, full heap, full table.
+/// empty register, slot that is not live, wrong kind, count of 0, null, bad field, full heap, full
+/// table.
 #[derive(Clone, Copy, Debug, PartialEq, Eq)]
 pub enum Refusal {
     /// The register, or the handle's target, is null.
@@ -118,6 +155,8 @@ pub enum Refusal {
     WrongKind,
     /// The handle register is empty.
     EmptyRegister,
+    /// The count of the ref-counted handle is 0 already.
+    CountZero,
 }
 
 /// What a command answers.
@@ -135,7 +174,7 @@ pub enum Reply {
 }
 
 /// One command of one caller with its reply. `slot` is the slot that was given or freed, and
-/// `grown` the blocks by which the table grew.
+/// `grown` how the blocks in use changed.
 #[derive(Clone, Copy, Debug, PartialEq, Eq)]
 pub struct Entry {
     pub caller: u32,

@@ -1,10 +1,12 @@
 ghost use Rattle.hd_model.specs.Laws.{OneStateAfter, StepsKeepWellFormed, RunsAreWellFormed};
-ghost use Rattle.hd_model.specs.Laws.{HandlesAreMadeLessFreed, ObjectsAreMade};
-ghost use Rattle.hd_model.specs.Laws.{FieldIsReadBack, NewFieldIsNull, ValueIsReadBack};
+ghost use Rattle.hd_model.specs.Laws.{UntouchedStays, AgedRunsAreRuns, RunsHaveAges};
+ghost use Rattle.hd_model.specs.Laws.{HandlesAreMadeLessFreed, ObjectsAreMadeLessRemoved};
+ghost use Rattle.hd_model.specs.Laws.{FieldIsReadBack, ValueIsReadBack, NewFieldIsNull};
 ghost use Rattle.hd_model.specs.Laws.{NewValueIsZero, StaticIsReadBack, BoardIsReadBack};
 ghost use Rattle.hd_model.specs.Laws.{RegisterIsReadBack, HandleRegisterIsReadBack};
-ghost use Rattle.hd_model.specs.Laws.{TargetIsReadBack, FreedIsNotLive};
-ghost use Rattle.hd_model.specs.Laws.{SoloRunsAreOne, SoloTextIsOne};
+ghost use Rattle.hd_model.specs.Laws.{TargetIsReadBack, SecondaryIsReadBack, StrengthIsKept};
+ghost use Rattle.hd_model.specs.Laws.{CountIsReadBack, FreedIsNotLive, SoloRunsAreOne};
+ghost use Rattle.hd_model.specs.Laws.{SoloTextIsOne};
 
 /// From one state, an entry leaves at most one state.
 pub fn one_state_after()
@@ -21,17 +23,33 @@ pub fn runs_are_well_formed()
     ensures { RunsAreWellFormed }
 {}
 
+/// A step changes no part of the state that its command does not touch.
+pub fn untouched_stays()
+    ensures { UntouchedStays }
+{}
+
+/// A run with the ages of the clumps is a run.
+pub fn aged_runs_are_runs()
+    ensures { AgedRunsAreRuns }
+{}
+
+/// Every run has its ages.
+pub fn runs_have_ages()
+    ensures { RunsHaveAges }
+{}
+
 /// The live handles are the handles that were made, less those that were freed.
 pub fn handles_are_made_less_freed()
     ensures { HandlesAreMadeLessFreed }
 {}
 
-/// The objects are those that were made, since none goes before there is a collector.
-pub fn objects_are_made()
-    ensures { ObjectsAreMade }
+/// The objects are those that were made, less those that collections removed.
+pub fn objects_are_made_less_removed()
+    ensures { ObjectsAreMadeLessRemoved }
 {}
 
 /// What a done `set` stores in a field, `get` answers until another done `set` of that field.
+/// Collections leave fields.
 pub fn field_is_read_back()
     ensures { FieldIsReadBack }
 {}
@@ -74,9 +92,26 @@ pub fn handle_register_is_read_back()
 {}
 
 /// The target that a done `hset` or `hnew` gives a handle, `hget` answers until a done `hset` or
-/// `hfree` of it.
+/// `hfree` of it, or a collection that clears it.
 pub fn target_is_read_back()
     ensures { TargetIsReadBack }
+{}
+
+/// The secondary that a done `hsec` or `hnew` gives a handle, `hdep` answers until a done `hsec`,
+/// `hset` or `hfree` of it, or a collection that clears it.
+pub fn secondary_is_read_back()
+    ensures { SecondaryIsReadBack }
+{}
+
+/// A variable handle has the strength that a done `hvar` or `hnew` gave it until another done
+/// `hvar` or an `hfree` of it.
+pub fn strength_is_kept()
+    ensures { StrengthIsKept }
+{}
+
+/// `hup` answers one more than the last count that `hup`, `hdown` or `hnew` gave the handle.
+pub fn count_is_read_back()
+    ensures { CountIsReadBack }
 {}
 
 /// After a done `hfree` each command on the slot answers that it is not live, until a done `hnew`

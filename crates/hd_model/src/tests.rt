@@ -35,6 +35,7 @@ fn a_made_handle_has_its_kind(rt: HostRuntime) {
         (Make::Strong, Kind::Strong),
         (Make::Pinned, Kind::Pinned),
         (Make::Variable(Strength::Short), Kind::Variable),
+        (Make::Counted, Kind::Counted),
         (Make::Dependent(2), Kind::Dependent),
     ];
     for (make, want) in rows {
@@ -42,8 +43,27 @@ fn a_made_handle_has_its_kind(rt: HostRuntime) {
     }
 }
 
+#[test]
+fn kinds_with_extra_data_come_last(rt: HostRuntime) {
+    let kinds = [
+        Kind::Short,
+        Kind::Long,
+        Kind::Strong,
+        Kind::Pinned,
+        Kind::Variable,
+        Kind::Counted,
+        Kind::Dependent,
+    ];
+    let mut number = 0;
+    for kind in kinds {
+        assert_eq!(rt; kind.number(), number);
+        assert_eq!(rt; kind.paired(), number > 3);
+        number += 1;
+    }
+}
+
 // Each command, whether it may take memory, and whether it is built.
-const COMMANDS: [(Cmd, bool, bool); 30] = [
+const COMMANDS: [(Cmd, bool, bool); 34] = [
     (
         Cmd::New {
             d: 0,
@@ -60,7 +80,7 @@ const COMMANDS: [(Cmd, bool, bool); 30] = [
             fin: true,
         },
         true,
-        false,
+        true,
     ),
     (Cmd::Set { o: 0, i: 1, v: 2 }, false, true),
     (Cmd::Get { d: 0, o: 1, i: 2 }, false, true),
@@ -70,9 +90,9 @@ const COMMANDS: [(Cmd, bool, bool); 30] = [
     (Cmd::Clear { d: 0 }, false, true),
     (Cmd::SPut { k: 0, s: 1 }, false, true),
     (Cmd::SGet { d: 0, k: 1 }, false, true),
-    (Cmd::Gen { s: 0 }, false, false),
-    (Cmd::Suppress { s: 0 }, false, false),
-    (Cmd::Reregister { s: 0 }, false, false),
+    (Cmd::Gen { s: 0 }, false, true),
+    (Cmd::Suppress { s: 0 }, false, true),
+    (Cmd::Reregister { s: 0 }, false, true),
     (Cmd::Final { d: 0 }, false, false),
     (Cmd::Collect { n: 2 }, true, false),
     (
@@ -118,7 +138,16 @@ const COMMANDS: [(Cmd, bool, bool); 30] = [
             t: 1,
         },
         false,
+        true,
+    ),
+    (
+        Cmd::HNew {
+            d: 0,
+            make: Make::Counted,
+            t: 1,
+        },
         false,
+        true,
     ),
     (
         Cmd::HNew {
@@ -127,24 +156,27 @@ const COMMANDS: [(Cmd, bool, bool); 30] = [
             t: 1,
         },
         false,
-        false,
+        true,
     ),
     (Cmd::HGet { d: 0, s: 1 }, false, true),
     (Cmd::HSet { s: 0, t: 1 }, false, true),
-    (Cmd::HSec { h: 0, s: 1 }, false, false),
-    (Cmd::HDep { d: 0, s: 1 }, false, false),
+    (Cmd::HSec { h: 0, s: 1 }, false, true),
+    (Cmd::HDep { d: 0, s: 1 }, false, true),
     (
         Cmd::HVar {
             s: 0,
             strength: Strength::Pinned,
         },
         false,
-        false,
+        true,
     ),
     (Cmd::HFree { s: 0 }, false, true),
     (Cmd::HPut { k: 0, s: 1 }, false, true),
     (Cmd::HPick { d: 0, k: 1 }, false, true),
     (Cmd::AddrOf { s: 0 }, false, false),
+    (Cmd::HUp { s: 0 }, false, true),
+    (Cmd::HDown { s: 0 }, false, true),
+    (Cmd::Trim { kind: Kind::Short }, false, true),
 ];
 
 #[test]

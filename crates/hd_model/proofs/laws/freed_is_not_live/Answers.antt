@@ -1,4 +1,4 @@
-use Rattle.hd_model.proofs.ReadBack.{freed_is_not_live}
+use Rattle.hd_model.proofs.HandleParts.{freed_is_not_live}
 use Rattle.hd_model.proofs.laws.freed_is_not_live.Goals as goal
 
 pub returns : goal.returns

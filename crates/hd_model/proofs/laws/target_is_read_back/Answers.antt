@@ -1,4 +1,4 @@
-use Rattle.hd_model.proofs.ReadBack.{target_is_read_back}
+use Rattle.hd_model.proofs.HandleParts.{target_is_read_back}
 use Rattle.hd_model.proofs.laws.target_is_read_back.Goals as goal
 
 pub returns : goal.returns

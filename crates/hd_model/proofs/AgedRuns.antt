@@ -1,0 +1,260 @@
+-- The ages that a run leaves are sound: a step lowers or raises them as the machine changes what they tell.
+use Rattle.std.proofs.Common.{◌≡◌, ℕ, ◌≤◌, true, false, cond, List, Option, Some, None, is_some, IsSome, refl, sym, ap, ◌∙◌, subst, ⊎_elim, inl, inr, ◌⊎◌, arith, le_trans, nat_cmp}
+use Rattle.std.specs.FinMap.{FinMap, get, insert, remove, empty, get-empty}
+use Rattle.std.specs.Prelude.{unwrap_or}
+use Rattle.std.proofs.lemmas.Bool.{true≢false}
+use Rattle.std.proofs.lemmas.Option.{none-some, same_Some}
+use Rattle.hd_model.specs.declared.data.Id.{Id}
+use Rattle.hd_model.specs.declared.data.Slot.{Slot}
+use Rattle.hd_model.specs.declared.data.Entry.{Entry}
+use Rattle.hd_model.specs.declared.data.Make.{Make}
+use Rattle.hd_model.specs.declared.data.Make.TheVariants as make
+use Rattle.hd_model.specs.declared.data.Reply.{Reply}
+use Rattle.hd_model.specs.declared.command.Cmd.{Cmd}
+use Rattle.hd_model.specs.State.{Numbers, State, Object, Extra, nothing, strength, secondary, count, Handle, secondary_of, without_secondary, register_of, object_at}
+use Rattle.hd_model.specs.Command.{loaded, made_handle, fresh_object}
+use Rattle.hd_model.specs.Scene.{Objects, scene_of, generation_in, generation_at}
+use Rattle.hd_model.specs.Ages.{age_of, lowered, HasSoundAges}
+use Rattle.hd_model.specs.Aging.{is_refused, lowered_at, lowered_to, lowered_by_new, aged_by_command, Aged, AgedStep}
+use Rattle.hd_model.specs.WellFormed.{IsWellFormed}
+use Rattle.hd_model.specs.Run.{Chain, stay, link}
+use Rattle.hd_model.specs.CollectionLaws.{AgesOfRunsAreSound}
+use Rattle.hd_model.proofs.Written.{insert_cases, remove_all}
+use Rattle.hd_model.proofs.Whole.{whole_scene}
+use Rattle.hd_model.proofs.Effects.{Effect, next_identity, effect, refused, makes_object, sets_field, gets_field, sets_value, reads_value, copies, clears, puts_static, gets_static, reads_generation, suppresses, reregisters, finds_none, takes_first, collects, makes_handle, gets_target, sets_target, sets_secondary, gets_secondary, sets_strength, raises_count, lowers_count, frees_handle, puts_board, picks_board, answers_place, gives_back, gives_none}
+use Rattle.hd_model.proofs.Ages.{lowered_below, lowered_here, grown_sound}
+use Rattle.hd_model.proofs.Counts.{fresh}
+use Rattle.hd_model.proofs.WellFormed.{step_keeps, start_is_well_formed}
+
+-- the ages of a state's clumps are sound
+abbrev pub IsSound : State → List ℕ → Type 0
+IsSound s ages = HasSoundAges (scene_of s).object (scene_of s).handle ages
+
+-- what a row is after one is written: one that was there, or the new one
+row_cases : {X : Type 0} (m : FinMap nat_cmp X) (k : ℕ) (v : X) (q : ℕ) (x : X)
+    → get (insert m k v) q ≡ Some x
+    → (get m q ≡ Some x) ⊎ ((q ≡ k) × (v ≡ x))
+row_cases m k v q x =
+    insert_cases m k (λ j o. o ≡ Some x → (get m j ≡ Some x) ⊎ ((j ≡ k) × (v ≡ x))) v q
+    (λ e. inr (refl, same_Some v x e)) (λ _ e. inl e)
+
+module _ (s : State) (ages : List ℕ) (sound : IsSound s ages) where
+  -- a row may be written where its clump's age comes to be at most the generation of what it names
+  written : (later : List ℕ) (slot : Slot) (new : Handle Id) → ((q : ℕ) → age_of later q ≤ age_of ages q)
+      → ((x : Id) → new.target ≡ Some x → age_of later slot.0 ≤ generation_at (scene_of s).object x)
+      → ((x : Id) → secondary_of new.extra ≡ Some x
+      → age_of later slot.0 ≤ generation_at (scene_of s).object x)
+      → HasSoundAges (scene_of s).object (λ q. get (insert s.handles slot.0 new) q) later
+  written later slot new below target second = record {
+    targets = λ q h x stands e.
+        ⊎_elim (λ was. le_trans (below q) (sound.targets q h x was e))
+        (λ here. subst (λ k. age_of later k ≤ generation_at (scene_of s).object x) (sym here.0)
+        (target x (ap (λ (g : Handle Id). g.target) here.1 ∙ e)))
+        (row_cases s.handles slot.0 new q h stands);
+    secondaries = λ q h x stands e.
+        ⊎_elim (λ was. le_trans (below q) (sound.secondaries q h x was e))
+        (λ here. subst (λ k. age_of later k ≤ generation_at (scene_of s).object x) (sym here.0)
+        (second x (ap (λ (g : Handle Id). secondary_of g.extra) here.1 ∙ e)))
+        (row_cases s.handles slot.0 new q h stands);
+  }
+
+  same_ages : (q : ℕ) → age_of ages q ≤ age_of ages q
+  same_ages q = omega arith
+
+  -- a row that names nothing new
+  same_names : (slot : Slot) (old new : Handle Id) → get s.handles slot.0 ≡ Some old → new.target ≡ old.target
+      → secondary_of new.extra ≡ None
+      → HasSoundAges (scene_of s).object (λ q. get (insert s.handles slot.0 new) q) ages
+  same_names slot old new stands same none =
+      written ages slot new same_ages (λ x e. sound.targets slot.0 old x stands (sym same ∙ e))
+      (λ x e. absurd (none-some x (sym none ∙ e)))
+
+  -- a row whose target is stored
+  stored : (slot : Slot) (new : Handle Id) (v : Option Id) → new.target ≡ v → secondary_of new.extra ≡ None
+      → HasSoundAges (scene_of s).object (λ q. get (insert s.handles slot.0 new) q)
+      (lowered_to s ages (Some slot) v)
+  stored slot new None at none =
+      written ages slot new same_ages (λ x e. absurd (none-some x (sym at ∙ e)))
+      (λ x e. absurd (none-some x (sym none ∙ e)))
+  stored slot new (Some y) at none =
+      let g : ℕ = generation_at (scene_of s).object y in
+      written (lowered ages slot.0 g) slot new (lowered_below ages slot.0 g)
+      (λ x e. subst (λ z. age_of (lowered ages slot.0 g) slot.0 ≤ generation_at (scene_of s).object z)
+      (same_Some y x (sym at ∙ e)) (lowered_here ages slot.0 g))
+      (λ x e. absurd (none-some x (sym none ∙ e)))
+
+  zero_low : (slot : Slot) (k : ℕ) → age_of (lowered ages slot.0 0) slot.0 ≤ k
+  zero_low slot k = let here : age_of (lowered ages slot.0 0) slot.0 ≤ 0 = lowered_here ages slot.0 0 in
+      omega arith
+
+  -- a row whose clump gets age 0 may name anything
+  zeroed : (slot : Slot) (new : Handle Id)
+      → HasSoundAges (scene_of s).object (λ q. get (insert s.handles slot.0 new) q) (lowered ages slot.0 0)
+  zeroed slot new =
+      written (lowered ages slot.0 0) slot new (lowered_below ages slot.0 0) (λ x e. zero_low slot _)
+      (λ x e. zero_low slot _)
+
+  made : (c : ℕ) (given : Make) (t : ℕ) (slot : Slot)
+      → HasSoundAges (scene_of s).object (λ q. get (insert s.handles slot.0 (made_handle s c given t)) q)
+      (lowered_by_new s ages (Some slot) given (register_of s c t))
+  made c make.Short t slot = stored slot _ (register_of s c t) refl refl
+  made c make.Long t slot = stored slot _ (register_of s c t) refl refl
+  made c make.Strong t slot = stored slot _ (register_of s c t) refl refl
+  made c make.Pinned t slot = stored slot _ (register_of s c t) refl refl
+  made c (make.Variable given) t slot = stored slot _ (register_of s c t) refl refl
+  made c make.Counted t slot = stored slot _ (register_of s c t) refl refl
+  made c (make.Dependent r) t slot = zeroed slot _
+
+  freed : (slot : Slot) → HasSoundAges (scene_of s).object (λ q. get (remove s.handles slot.0) q) ages
+  freed slot = record {
+    targets = λ q h x stands e. remove_all s.handles slot.0
+        (λ j g. g.target ≡ Some x → age_of ages j ≤ generation_at (scene_of s).object x)
+        (λ j g was at. sound.targets j g x was at) q h stands e;
+    secondaries = λ q h x stands e. remove_all s.handles slot.0
+        (λ j g. secondary_of g.extra ≡ Some x → age_of ages j ≤ generation_at (scene_of s).object x)
+        (λ j g was at. sound.secondaries j g x was at) q h stands e;
+  }
+
+  -- objects may change where what is named keeps its generation
+  regrouped : (o : Objects Id) → ((x : Id) → IsSome (get s.objects x.0)
+      → generation_at o x ≡ generation_at (scene_of s).object x)
+      → (n : Numbers) → IsWellFormed n s → HasSoundAges o (scene_of s).handle ages
+  regrouped o same n w = record {
+    targets = λ q h x stands e. subst (λ g. age_of ages q ≤ g)
+        (sym (same x ((whole_scene n s w).targets q h x stands e))) (sound.targets q h x stands e);
+    secondaries = λ q h x stands e. subst (λ g. age_of ages q ≤ g)
+        (sym (same x ((whole_scene n s w).secondaries q h x stands e))) (sound.secondaries q h x stands e);
+  }
+
+without_none : (x : Extra Id) → secondary_of (without_secondary x) ≡ None
+without_none nothing = refl
+without_none (strength given) = refl
+without_none (secondary o) = refl
+without_none (count c) = refl
+
+not_refused : (o : Option Id) → is_refused (loaded o) ≡ false
+not_refused None = refl
+not_refused (Some x) = refl
+
+unwrapped : (o : Option (Object Id)) (d : Object Id) → IsSome o → (unwrap_or o d).generation ≡ generation_in o
+unwrapped None d h = absurd (true≢false (sym h))
+unwrapped (Some p) d h = refl
+
+-- a write that keeps an object's generation, and a new object, leave the generation of each object
+rewritten : (s : State) (id : Id) (new : Object Id) → new.generation ≡ (object_at s id).generation → (x : Id)
+    → IsSome (get s.objects x.0)
+    → generation_in (get (insert s.objects id.0 new) x.0) ≡ generation_in (get s.objects x.0)
+rewritten s id new same x some =
+    insert_cases s.objects id.0 (λ j o. IsSome (get s.objects j)
+    → generation_in o ≡ generation_in (get s.objects j)) new x.0
+    (λ here. same ∙ unwrapped (get s.objects id.0) _ here) (λ _ _. refl) some
+
+renewed : (s : State) (id : Id) (new : Object Id) → get s.objects id.0 ≡ None → (x : Id)
+    → IsSome (get s.objects x.0)
+    → generation_in (get (insert s.objects id.0 new) x.0) ≡ generation_in (get s.objects x.0)
+renewed s id new none x some =
+    insert_cases s.objects id.0 (λ j o. IsSome (get s.objects j)
+    → generation_in o ≡ generation_in (get s.objects j)) new x.0
+    (λ here. absurd (true≢false (sym here ∙ ap is_some none))) (λ _ _. refl) some
+
+module _ (n : Numbers) (s : State) (e : Entry) (ages : List ℕ) (w : IsWellFormed n s)
+    (sound : IsSound s ages) where
+  abbrev After : Cmd → State → Type 0
+  After c t = IsSound t (cond (is_refused e.reply) ages (aged_by_command s e.caller e.slot ages c))
+
+  -- what a command that is not refused does to the ages, and what a refused one does
+  does : (c : Cmd) (t : State) (r : Reply) → e.reply ≡ r → is_refused r ≡ false
+      → IsSound t (aged_by_command s e.caller e.slot ages c) → After c t
+  does c t r p done h =
+      subst (λ b. IsSound t (cond b ages (aged_by_command s e.caller e.slot ages c)))
+      (sym (ap is_refused p ∙ done)) h
+
+  refuses_to : (c : Cmd) (t : State) (r : Reply) → e.reply ≡ r → is_refused r ≡ true → IsSound t ages
+      → After c t
+  refuses_to c t r p done h =
+      subst (λ b. IsSound t (cond b ages (aged_by_command s e.caller e.slot ages c)))
+      (sym (ap is_refused p ∙ done)) h
+
+  writes : (id : Id) (new : Object Id) → new.generation ≡ (object_at s id).generation
+      → HasSoundAges (λ (x : Id). get (insert s.objects id.0 new) x.0) (scene_of s).handle ages
+  writes id new same = regrouped s ages sound (λ (x : Id). get (insert s.objects id.0 new) x.0)
+      (rewritten s id new same) n w
+
+  by_effect : (c : Cmd) (t : State) → Effect n s e c t → After c t
+  by_effect c t (refused p) = refuses_to c t _ p refl sound
+  by_effect c t (makes_object {fields = fields} {fin = fin} small p) =
+      does c t _ p refl
+      (regrouped s ages sound (λ (x : Id). get
+      (insert s.objects (next_identity s e.caller).0 (fresh_object fields fin)) x.0)
+      (renewed s (next_identity s e.caller) (fresh_object fields fin) (fresh n s e.caller w small)) n w)
+  by_effect c t (sets_field {o = o} {i = i} {v = v} id f l p) = does c t _ p refl (writes id _ refl)
+  by_effect c t (gets_field id f l p) = does c t _ p (not_refused _) sound
+  by_effect c t (sets_value id f p) = does c t _ p refl (writes id _ refl)
+  by_effect c t (reads_value id f p) = does c t _ p refl sound
+  by_effect c t (copies p) = does c t _ p refl sound
+  by_effect c t (clears p) = does c t _ p refl sound
+  by_effect c t (puts_static p) = does c t _ p refl sound
+  by_effect c t (gets_static p) = does c t _ p (not_refused _) sound
+  by_effect c t (reads_generation id f p) = does c t _ p refl sound
+  by_effect c t (suppresses id f p) = does c t _ p refl (writes id _ refl)
+  by_effect c t (reregisters id f p) = does c t _ p refl (writes id _ refl)
+  by_effect c t (finds_none p) = does c t _ p refl sound
+  by_effect c t (takes_first id rest is p) = does c t _ p refl sound
+  by_effect c t (collects {k = k} did) =
+      does c t _ did.reply refl
+      (grown_sound (λ (x : Id). x.0) k (scene_of s) (scene_of t) did.report
+      (whole_scene n s w) did.collects.scene ages sound)
+  by_effect c t (makes_handle {d = d} {t = r} {given = given} slot at may p) =
+      does c t _ p refl
+      (subst (λ o. HasSoundAges (scene_of s).object
+      (λ q. get (insert s.handles slot.0 (made_handle s e.caller given r)) q)
+      (lowered_by_new s ages o given (register_of s e.caller r)))
+      (sym at) (made s ages sound e.caller given r slot))
+  by_effect c t (gets_target slot handle f p) = does c t _ p (not_refused _) sound
+  by_effect c t (sets_target {h = h} {t = r} slot handle f p) =
+      does c t _ p refl
+      (subst (λ o. HasSoundAges (scene_of s).object
+      (λ q. get (insert s.handles slot.0
+      (record handle { target = register_of s e.caller r; extra = without_secondary handle.extra })) q)
+      (lowered_to s ages o (register_of s e.caller r)))
+      (sym f.names) (stored s ages sound slot _ (register_of s e.caller r) refl (without_none handle.extra)))
+  by_effect c t (sets_secondary {h = h} {r = r} slot handle f k l p) =
+      does c t _ p refl
+      (subst (λ o. HasSoundAges (scene_of s).object
+      (λ q. get (insert s.handles slot.0 (record handle { extra = secondary (register_of s e.caller r) }))
+      q) (lowered_at ages o 0))
+      (sym f.names) (zeroed s ages sound slot _))
+  by_effect c t (gets_secondary slot handle f p) = does c t _ p (not_refused _) sound
+  by_effect c t (sets_strength slot handle f k p) =
+      does c t _ p refl (same_names s ages sound slot handle _ f.live refl refl)
+  by_effect c t (raises_count slot handle f k p) =
+      does c t _ p refl (same_names s ages sound slot handle _ f.live refl refl)
+  by_effect c t (lowers_count slot handle f k p) =
+      does c t _ p refl (same_names s ages sound slot handle _ f.live refl refl)
+  by_effect c t (frees_handle slot handle f p q) = does c t _ p refl (freed s ages sound slot)
+  by_effect c t (puts_board p) = does c t _ p refl sound
+  by_effect c t (picks_board p) = does c t _ p refl sound
+  by_effect c t (answers_place slot handle id place f target may p) = does c t _ p refl sound
+  by_effect c t (gives_back block free p) = does c t _ p refl sound
+  by_effect c t (gives_none p) = does c t _ p refl sound
+
+nothing_at : {A : Type 0} (q : ℕ) (x : A) → get (empty {X = A} {R = nat_cmp}) q ≡ Some x → ⊥
+nothing_at q x e = none-some x (sym (get-empty nat_cmp q) ∙ e)
+
+-- a chain of steps with ages keeps states well formed and ages sound
+chain_sound : (n : Numbers) {x y : Aged} {journal : List Entry} → IsWellFormed n x.state
+    → IsSound x.state x.ages → Chain (AgedStep n) x journal y → IsSound y.state y.ages
+chain_sound n w sound stay = sound
+chain_sound n w sound (link {s = x} {t = y} {e = e} step rest) =
+    chain_sound n (step_keeps n x.state y.state e w step.step)
+    (subst (IsSound y.state) (sym step.ages)
+    (by_effect n x.state e x.ages w sound e.cmd y.state (effect n x.state e y.state step.step))) rest
+
+pub ages_of_runs_are_sound : AgesOfRunsAreSound
+ages_of_runs_are_sound n journal s ages run =
+    chain_sound n (start_is_well_formed n)
+    (record {
+      targets = λ q h x stands e. absurd (nothing_at q h stands);
+      secondaries =
+          λ q h x stands e. absurd (nothing_at q h stands);
+    }) run

@@ -1,0 +1,106 @@
+-- The laws of collections, from what is proved of scenes.
+use Rattle.std.proofs.Common.{◌≡◌, ℕ, ◌<◌, Bool, true, false, not, ◌&&◌, Some, refl, sym, ap, ◌∙◌, subst, ⊎_elim, inl, inr}
+use Rattle.std.specs.Cmp.{nat_cmp_total}
+use Rattle.std.specs.FinMap.{same_map, nat_cmp-IsAntisymmetric}
+use Rattle.std.proofs.lemmas.Bool.{cases_Bool}
+use Rattle.hd_model.specs.declared.data.Id.{Id}
+use Rattle.hd_model.specs.State.{Object, State}
+use Rattle.hd_model.specs.Scene.{scene_of, generation_in}
+use Rattle.hd_model.specs.Reach.{IsRoot, named, queued, held, older}
+use Rattle.hd_model.specs.Collect.{survivor}
+use Rattle.hd_model.specs.CollectionLaws.{CollectionsKeepWellFormed, IsUsed, in_register, in_static, in_queue, by_handle, UsedObjectsStay, NoneDanglesAfter, OlderObjectsStay, SecondCollectionIsIdle, ReadingsKeepWhatIsKept, LoweredAgesAreSound, GrownAgesAreSound}
+use Rattle.hd_model.proofs.Surviving.{collection_keeps_well_formed}
+use Rattle.hd_model.proofs.Collecting.{keeps_root, still_object, object_after, root_reached}
+use Rattle.hd_model.proofs.Whole.{whole_scene, register_named, static_named}
+use Rattle.hd_model.proofs.Idle.{raised_older, idle_removed, idle_short, idle_long, idle_dep, idle_revived, idle_handles, idle_queue}
+use Rattle.hd_model.proofs.Naming.{reached_read, reached_same, revived_read, revived_same, kept_read, kept_same}
+use Rattle.hd_model.proofs.Ages.{lowered_sound, grown_sound}
+
+pub collections_keep_well_formed : CollectionsKeepWellFormed
+collections_keep_well_formed m n s t r h = collection_keeps_well_formed m n s t r h.well_formed h.collects
+
+-- what is used is a root of any generation
+used_root : (n : ℕ) (s : State) (x : Id) → IsUsed s x → IsRoot (scene_of s) n x
+used_root n s x (in_register c d e) = named (register_named s c d x e)
+used_root n s x (in_static k e) = named (static_named s k x e)
+used_root n s x (in_queue h) = queued h
+used_root n s x (by_handle slot h stands holding e) =
+    held (record { slot = slot; handle = h; stands = stands; holds = holding; target = e })
+
+pub used_objects_stay : UsedObjectsStay
+used_objects_stay m n s t r x h used =
+    let w = whole_scene m s h.well_formed in
+    let rank : Id → ℕ = λ y. y.0 in
+    still_object rank n (scene_of s) (scene_of t) r w h.collects.scene x
+    (keeps_root rank n (scene_of s) (scene_of t) r w h.collects.scene x (used_root n s x used))
+
+pub none_dangles_after : NoneDanglesAfter
+none_dangles_after m n s t r h =
+    let w = collection_keeps_well_formed m n s t r h.well_formed h.collects in
+    record { registers = w.names.registers; statics = w.names.statics }
+
+unregistered : (a b : Bool) → b ≡ false → (a && not b) ≡ a
+unregistered true b e = ap not e
+unregistered false b e = refl
+
+-- an older object that is not revived stays as it was
+survivor_same : (n : ℕ) (revived : Bool) (o : Object Id) → n < o.generation → revived ≡ false
+    → survivor n revived o ≡ o
+survivor_same n revived o l e = λ i. record {
+  fields = o.fields;
+  value = o.value;
+  generation = raised_older n o.generation l i;
+  registered = unregistered o.registered revived e i;
+}
+
+pub older_objects_stay : OlderObjectsStay
+older_objects_stay m n s t r id o h stands above =
+    let w = whole_scene m s h.well_formed in
+    let rank : Id → ℕ = λ y. y.0 in
+    let c = h.collects.scene in
+    let x : Id = record { 0 = id } in
+    let root : IsRoot (scene_of s) n x = older (subst (λ g. n < g) (sym (ap generation_in stands)) above) in
+    let not_revived : c.revived x ≡ false =
+    ⊎_elim (λ yes. absurd (((c.revived_is x).0 yes).lost (root_reached n (scene_of s) x root))) (λ no. no)
+    (cases_Bool (c.revived x)) in
+    object_after rank n (scene_of s) (scene_of t) r w c x o
+    (keeps_root rank n (scene_of s) (scene_of t) r w c x root) stands
+    ∙ ap (λ p. Some p) (survivor_same n (c.revived x) o above not_revived)
+
+pub second_collection_is_idle : SecondCollectionIsIdle
+second_collection_is_idle m n s t u r q h again =
+    let w = whole_scene m s h.well_formed in
+    let rank : Id → ℕ = λ y. y.0 in
+    let c = h.collects.scene in
+    let d = again.scene in
+    record {
+      removed = idle_removed rank n (scene_of s) (scene_of t) (scene_of u) r q w c d;
+      short = idle_short rank n (scene_of s) (scene_of t) (scene_of u) r q w c d;
+      long = idle_long rank n (scene_of s) (scene_of t) (scene_of u) r q w c d;
+      dep = idle_dep rank n (scene_of s) (scene_of t) (scene_of u) r q w c d;
+      revived = idle_revived rank n (scene_of s) (scene_of t) (scene_of u) r q w c d;
+      handles =
+          same_map nat_cmp_total nat_cmp-IsAntisymmetric u.handles t.handles
+          (idle_handles rank n (scene_of s) (scene_of t) (scene_of u) r q w c d);
+      queue = idle_queue rank n (scene_of s) (scene_of t) (scene_of u) r q w c d;
+    }
+
+pub readings_keep_what_is_kept : ReadingsKeepWhatIsKept
+readings_keep_what_is_kept f n s t x w g h = record {
+  reached = (reached_read f n s t w g x, reached_same f n s t w g x h);
+  revived = (revived_read f n s t w g x, revived_same f n s t w g x h);
+  kept = (kept_read f n s t w g x, kept_same f n s t w g x h);
+}
+
+pub lowered_ages_are_sound : LoweredAgesAreSound
+lowered_ages_are_sound o old new ages slot g sound stores =
+    lowered_sound o old new ages slot g sound
+    (λ other h x stands e. ⊎_elim (λ was. inl was) (λ here. inr (here.0, here.1.target x e))
+    (stores.rows other h stands))
+    (λ other h x stands e. ⊎_elim (λ was. inl was) (λ here. inr (here.0, here.1.secondary x e))
+    (stores.rows other h stands))
+
+pub grown_ages_are_sound : GrownAgesAreSound
+grown_ages_are_sound m n s t r ages h sound =
+    grown_sound (λ (x : Id). x.0) n (scene_of s) (scene_of t) r
+    (whole_scene m s h.well_formed) h.collects.scene ages sound

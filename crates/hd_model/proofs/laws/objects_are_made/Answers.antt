@@ -1,5 +1,0 @@
-use Rattle.hd_model.proofs.Counts.{objects_are_made}
-use Rattle.hd_model.proofs.laws.objects_are_made.Goals as goal
-
-pub returns : goal.returns
-returns c = objects_are_made

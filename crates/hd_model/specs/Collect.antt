@@ -1,0 +1,132 @@
+-- A collection of generation n, by what stands before it and what stands after it. What is cleared when
+-- follows CoreCLR's collector: weak short handles by what is reached, then revival, then weak long and
+-- dependent handles by what is kept.
+use Rattle.std.specs.Prelude.{◌≡◌, ℕ, ◌<◌, ◌&&◌, not, cond, Bool, true, false, List, ◌++◌, Option, Some, None, option_map, Contains, AllPairs}
+use Rattle.std.specs.Bool.{Decides}
+use Rattle.std.specs.FinMap.{get}
+use Rattle.hd_model.specs.declared.data.Id.{Id}
+use Rattle.hd_model.specs.declared.data.Report.{Report}
+use Rattle.hd_model.specs.State.{Object, secondary, Handle, State}
+use Rattle.hd_model.specs.Role.{Role, holds, short, long, attaches, role}
+use Rattle.hd_model.specs.Counting.{Counts}
+use Rattle.hd_model.specs.Scene.{Scene, scene_of, is_object, IsCondemned}
+use Rattle.hd_model.specs.Ages.{raised}
+use Rattle.hd_model.specs.Reach.{IsReached, IsRevived, IsKept}
+use Rattle.hd_model.specs.Places.{is_pinned}
+
+-- whether a target is outside a set; null is outside none
+abbrev pub is_lost : {N : Type 0} → (N → Bool) → Option N → Bool
+is_lost p None = false
+is_lost p (Some x) = not (p x)
+
+-- whether a handle of a role loses its target (.NET's WeakReference: a short one does so before finalisation,
+-- a long one, by trackResurrection, only once the object is not kept)
+abbrev pub loses_by : {N : Type 0} → Role → (reach kept : N → Bool) → Option N → Bool
+loses_by holds reach kept o = false
+loses_by short reach kept o = is_lost reach o
+loses_by long reach kept o = is_lost kept o
+loses_by attaches reach kept o = is_lost kept o
+
+-- whether a handle loses its target
+abbrev pub loses : {N : Type 0} → (reach kept : N → Bool) → Handle N → Bool
+loses reach kept h = loses_by (role h) reach kept h.target
+
+-- whether a role is that of dependent handles
+abbrev pub is_attaching : Role → Bool
+is_attaching holds = false
+is_attaching short = false
+is_attaching long = false
+is_attaching attaches = true
+
+-- a handle after the collection: its target is null where it loses it, and a dependent one loses its
+-- secondary with it
+abbrev pub cleared : {N : Type 0} → (reach kept : N → Bool) → Handle N → Handle N
+cleared reach kept h = record {
+  kind = h.kind;
+  target = cond (loses reach kept h) None h.target;
+  extra = cond (is_attaching (role h) && is_lost kept h.target) (secondary None) h.extra;
+}
+
+-- a kept object after the collection: its generation is raised (a survivor's promotion), and a revived one is
+-- registered no more, as a finalizer runs once
+abbrev pub survivor : {N : Type 0} → ℕ → Bool → Object N → Object N
+survivor n revived o = record {
+  fields = o.fields;
+  value = o.value;
+  generation = raised n o.generation;
+  registered = o.registered && not revived;
+}
+
+-- the slot's handle has a role and loses its target
+pub record LosesAs {N : Type 0} (s : Scene N) (reach kept : N → Bool) (wanted : Role)
+    (slot : ℕ) : Type 0 where
+  pub handle : Handle N
+  pub stands : s.handle slot ≡ Some handle
+  pub role_is : role handle ≡ wanted
+  pub loses : loses reach kept handle ≡ true
+
+-- a condemned object that stays, and an object that goes
+pub record IsSurviving {N : Type 0} (n : ℕ) (s : Scene N) (kept : N → Bool) (x : N) : Type 0 where
+  pub condemned : IsCondemned s.object n x
+  pub stays : kept x ≡ true
+
+pub record IsRemoved {N : Type 0} (s : Scene N) (kept : N → Bool) (x : N) : Type 0 where
+  pub object : is_object s.object x ≡ true
+  pub lost : kept x ≡ false
+
+-- the numbers of a report (this project's own): condemned objects that stay, objects that go, handles that
+-- lose their target by their role, and revived objects
+pub record IsReport {N : Type 0} (n : ℕ) (s : Scene N) (in_reach in_revived in_kept : N → Bool)
+    (report : Report) : Type 0 where
+  pub kept : Counts (IsSurviving n s in_kept) report.kept
+  pub removed : Counts (IsRemoved s in_kept) report.removed
+  pub short : Counts (LosesAs s in_reach in_kept short) report.short
+  pub long : Counts (LosesAs s in_reach in_kept long) report.long
+  pub dep : Counts (LosesAs s in_reach in_kept attaches) report.dep
+  pub revived : Counts (λ x. in_revived x ≡ true) report.revived
+
+-- what a collection of n of s goes by: what is reached, revived and kept, the revived in the order of `rank`,
+-- the number of their identity, and the report
+pub record GoesBy {N : Type 0} (rank : N → ℕ) (n : ℕ) (s : Scene N) (reach revived kept : N → Bool)
+    (joins : List N) (report : Report) : Type 0 where
+  pub reach_is : (x : N) → Decides (reach x) (IsReached s n x)
+  pub revived_is : (x : N) → Decides (revived x) (IsRevived s n x)
+  pub kept_is : (x : N) → Decides (kept x) (IsKept s n x)
+  pub joins_are : (x : N) → Decides (revived x) (Contains joins x)
+  pub rising : AllPairs (λ x y. rank x < rank y) joins
+  pub report_is : IsReport n s reach revived kept report
+
+-- the scene that it leaves: what is kept stays, handles are cleared, what registers and statics name is as it
+-- was, and the revived join the queue's end
+abbrev pub left_by : {N : Type 0} → ℕ → (reach revived kept : N → Bool) → List N → Scene N → Scene N
+left_by n reach revived kept joins s = record {
+  object = λ x. cond (kept x) (option_map (survivor n (revived x)) (s.object x)) None;
+  handle = λ slot. option_map (cleared reach kept) (s.handle slot);
+  named = s.named;
+  queue = s.queue ++ joins;
+}
+
+-- a collection of n leads from scene s to scene t
+pub record Collects {N : Type 0} (rank : N → ℕ) (n : ℕ) (s t : Scene N) (report : Report) : Type 0 where
+  pub reach : N → Bool
+  pub revived : N → Bool
+  pub kept : N → Bool
+  pub joins : List N
+  pub goes_by : GoesBy rank n s reach revived kept joins report
+  pub open goes_by use *
+  pub objects : (x : N) → t.object x ≡ (left_by n reach revived kept joins s).object x
+  pub handles : (slot : ℕ) → t.handle slot ≡ (left_by n reach revived kept joins s).handle slot
+  pub named : t.named ≡ s.named
+  pub queue : t.queue ≡ s.queue ++ joins
+
+-- `collect n` leads from state s to state t: besides, the places of pinned objects stay and no others, and
+-- all that a scene does not have is as it was
+pub record CollectsState (n : ℕ) (s t : State) (report : Report) : Type 0 where
+  pub scene : Collects (λ (x : Id). x.0) n (scene_of s) (scene_of t) report
+  pub places : (x : ℕ) → get t.places x ≡ cond (is_pinned s.handles x) (get s.places x) None
+  pub registers : t.registers ≡ s.registers
+  pub statics : t.statics ≡ s.statics
+  pub handle_registers : t.handle_registers ≡ s.handle_registers
+  pub board : t.board ≡ s.board
+  pub blocks : t.blocks ≡ s.blocks
+  pub serials : t.serials ≡ s.serials

@@ -1,0 +1,101 @@
+-- A heap as its users see it: objects by address, in regions that have generations. Regions and cards are this project's own.
+use Rattle.std.specs.Prelude.{◌≡◌, ℕ, ◌+◌, ◌/◌, ◌<◌, Bool, true, false, List, [], length, sum_by, Option, Some, None, unwrap_or, option_map}
+use Rattle.std.specs.FinMap.{FinMap, get, values, contains_key}
+use Rattle.std.specs.FinSet as set
+use Rattle.std.specs.Ordering.{nat_cmp}
+use Rattle.hd_model.specs.declared.data.Id.{Id}
+use Rattle.hd_model.specs.declared.data.Addr.{Addr}
+use Rattle.hd_model.specs.State.{Object}
+use Rattle.hd_model.specs.Scene.{Objects, is_object}
+
+-- an object as it stands at an address: the identity in its header, its fields, each an address or null, its value, and whether it is
+-- registered for finalisation. Its generation is that of its region.
+pub record Placed : Type 0 where
+  pub id : Id
+  pub fields : List (Option Addr)
+  pub value : ℕ
+  pub registered : Bool
+
+-- a held region: its generation, and the first cell after the last object put, in cells
+pub record Region : Type 0 where
+  pub generation : ℕ
+  pub fill : ℕ
+
+-- the objects by the number of their address, the held regions by number, the numbers of the spare regions in the order in which they will
+-- be held, the limit of the sizes of all objects in cells, and the set cards by number
+pub record Heap : Type 0 where
+  pub objects : FinMap nat_cmp Placed
+  pub regions : FinMap nat_cmp Region
+  pub spare : List ℕ
+  pub limit : ℕ
+  pub cards : set.FinSet nat_cmp
+
+-- the region of an address, and its card: a region is 256 cells, a card 32
+unfoldable pub region_of : Addr → ℕ
+region_of a = a.0 / 256
+
+unfoldable pub card_of : Addr → ℕ
+card_of a = a.0 / 32
+
+-- whether a region is held, and what it is; one that is not held is read as an empty one of generation 0
+abbrev pub is_held : Heap → ℕ → Bool
+is_held h r = contains_key h.regions r
+
+abbrev pub region_at : Heap → ℕ → Region
+region_at h r = unwrap_or (get h.regions r) (record { generation = 0; fill = 0 })
+
+-- the generation of a region
+abbrev pub region_generation : Heap → ℕ → ℕ
+region_generation h r = (region_at h r).generation
+
+-- an object with its generation
+abbrev pub object_in : ℕ → Placed → Object Addr
+object_in generation p = record { fields = p.fields; value = p.value; generation = generation; registered = p.registered }
+
+-- the object at an address, if there is one
+abbrev pub object_at : Heap → Objects Addr
+object_at h a = option_map (object_in (region_generation h (region_of a))) (get h.objects a.0)
+
+-- whether an object stands at an address
+abbrev pub has_object : Heap → Addr → Bool
+has_object h a = is_object (object_at h) a
+
+-- what stands at the address of an object
+abbrev pub placed_at : Heap → Addr → Placed
+placed_at h a = unwrap_or (get h.objects a.0) (record { id = record { 0 = 0 }; fields = []; value = 0; registered = false })
+
+-- the identity in the header of the object at an address, 0 where there is none
+abbrev pub id_in : Option Placed → Id
+id_in None = record { 0 = 0 }
+id_in (Some p) = p.id
+
+abbrev pub id_at : Heap → Addr → Id
+id_at h a = id_in (get h.objects a.0)
+
+-- whether a card is set, by its number, and whether that of an address is
+abbrev pub is_set : Heap → ℕ → Bool
+is_set h card = set.contains h.cards card
+
+abbrev pub is_carded : Heap → Addr → Bool
+is_carded h a = is_set h (card_of a)
+
+-- the cells that an object takes: three more than its fields
+abbrev pub cells_of : Placed → ℕ
+cells_of p = length p.fields + 3
+
+-- the cells that all objects take together
+abbrev pub used_of : Heap → ℕ
+used_of h = sum_by cells_of (values h.objects)
+
+-- no two objects have one identity
+abbrev pub HasIdentities : Heap → Type 0
+HasIdentities h = (a b : ℕ) (p q : Placed) → get h.objects a ≡ Some p → get h.objects b ≡ Some q → p.id ≡ q.id → a ≡ b
+
+-- a heap that is collected, and the generation up to which it is
+pub record Basis : Type 0 where
+  pub heap : Heap
+  pub condemned : ℕ
+
+-- the objects of a basis
+abbrev pub objects_of : Basis → Objects Addr
+objects_of g = object_at g.heap

@@ -1,0 +1,25 @@
+-- What a marker and a forwarding promise, whatever they are made of. They are this project's own, after the
+-- mark and the plan phase of CoreCLR's collector.
+use Rattle.std.specs.Prelude.{◌≡◌, ℕ, ◌<◌, ◌⊎◌, Bool, true}
+use Rattle.hd_model.specs.Leads.{IsClosed}
+use Rattle.hd_model.specs.Scene.{Objects, is_object, generation_at, IsYoungField}
+
+-- what is promoted: objects alone, all of an older generation, closed under the fields of condemned objects
+pub record IsSettled {N : Type 0} (o : Objects N) (n : ℕ) (promoted : N → Bool) : Type 0 where
+  pub objects : (x : N) → promoted x ≡ true → is_object o x ≡ true
+  pub older : (x : N) → n < generation_at o x → promoted x ≡ true
+  pub closed : IsClosed (IsYoungField o n) promoted
+
+-- what is kept, and where it goes: objects alone, all of an older generation and in place, and no two to one
+-- place
+pub record IsKeeping {N : Type 0} (o : Objects N) (n : ℕ) (kept : N → Bool) (place : N → N) : Type 0 where
+  pub objects : (x : N) → kept x ≡ true → is_object o x ≡ true
+  pub older : (x : N) → n < generation_at o x → kept x ≡ true
+  pub in_place : (x : N) → n < generation_at o x → place x ≡ x
+  pub apart : (x y : N) → kept x ≡ true → kept y ≡ true → place x ≡ place y → x ≡ y
+
+-- q is p with one member more, and no other
+pub record Gains {N : Type 0} (at : N) (p q : N → Bool) : Type 0 where
+  pub keeps : (x : N) → p x ≡ true → q x ≡ true
+  pub joins : q at ≡ true
+  pub only : (x : N) → q x ≡ true → (p x ≡ true) ⊎ (x ≡ at)

@@ -1,0 +1,62 @@
+-- What a collection of generation n keeps, after the mark phase of CoreCLR's collector.
+use Rattle.std.specs.Prelude.{◌≡◌, ℕ, ◌<◌, ◌≤◌, ◌⊎◌, true, Some, Contains}
+use Rattle.hd_model.specs.State.{Object, Handle, secondary_of}
+use Rattle.hd_model.specs.Role.{holds, attaches, role, pins}
+use Rattle.hd_model.specs.Leads.{Leads}
+use Rattle.hd_model.specs.Scene.{Scene, Objects, Rows, IsField, generation_at}
+
+-- some dependent handle has target x and secondary y (.NET's DependentHandle and ConditionalWeakTable)
+pub record IsAttached {N : Type 0} (rows : Rows N) (x y : N) : Type 0 where
+  pub slot : ℕ
+  pub handle : Handle N
+  pub stands : rows slot ≡ Some handle
+  pub attaches : role handle ≡ attaches
+  pub target : handle.target ≡ Some x
+  pub secondary : secondary_of handle.extra ≡ Some y
+
+-- an arrow from x to y, along which a collection keeps y where it keeps x: y stands in a field of x, or a
+-- dependent handle attaches y to x (DependentHandle: the dependent lives while the target does)
+abbrev pub IsArrow : {N : Type 0} → Objects N → Rows N → N → N → Type 0
+IsArrow o rows x y = IsField o x y ⊎ IsAttached rows x y
+
+-- some handle that holds its target has the target x (GCHandleType.Normal and its kin)
+pub record IsHeld {N : Type 0} (rows : Rows N) (x : N) : Type 0 where
+  pub slot : ℕ
+  pub handle : Handle N
+  pub stands : rows slot ≡ Some handle
+  pub holds : role handle ≡ holds
+  pub target : handle.target ≡ Some x
+
+-- some handle that pins has the target x (GCHandleType.Pinned and its kin)
+pub record IsPinned {N : Type 0} (rows : Rows N) (x : N) : Type 0 where
+  pub slot : ℕ
+  pub handle : Handle N
+  pub stands : rows slot ≡ Some handle
+  pub pins : pins handle ≡ true
+  pub target : handle.target ≡ Some x
+
+-- a root of n: what registers and statics name, what waits for finalisation, what a handle holds, and every
+-- object of a generation above n (.NET keeps older generations whole; taking each of their objects as a root
+-- says so)
+pub data IsRoot {N : Type 0} (s : Scene N) (n : ℕ) (x : N) : Type 0 where
+  named : Contains s.named (Some x) → IsRoot s n x
+  queued : Contains s.queue x → IsRoot s n x
+  held : IsHeld s.handle x → IsRoot s n x
+  older : n < generation_at s.object x → IsRoot s n x
+
+-- a chain of arrows leads to x from a root
+abbrev pub IsReached : {N : Type 0} → Scene N → ℕ → N → Type 0
+IsReached {N} s n x = (r : N) × (IsRoot s n r × Leads (IsArrow s.object s.handle) r x)
+
+-- x is revived: it is registered for finalisation, condemned and not reached (.NET's finalisation: such an
+-- object is made reachable again, to be finalised)
+pub record IsRevived {N : Type 0} (s : Scene N) (n : ℕ) (x : N) : Type 0 where
+  pub object : Object N
+  pub stands : s.object x ≡ Some object
+  pub registered : object.registered ≡ true
+  pub young : object.generation ≤ n
+  pub lost : IsReached s n x → ⊥
+
+-- a chain of arrows leads to x from what is reached or revived
+abbrev pub IsKept : {N : Type 0} → Scene N → ℕ → N → Type 0
+IsKept {N} s n x = (r : N) × ((IsReached s n r ⊎ IsRevived s n r) × Leads (IsArrow s.object s.handle) r x)
