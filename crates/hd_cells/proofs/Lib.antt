@@ -4,3 +4,4 @@ pub mod Contents
 pub mod Writes
 pub mod Walks
 pub mod Laws
+pub mod Starts

@@ -5,7 +5,7 @@ use Rattle.std.proofs.lemmas.Option.{none-some, same_Some}
 use Rattle.std.specs.Ordering.{nat_cmp, eq_by_cmp}
 use Rattle.std.specs.FinMap.{find}
 use Rattle.hd_cells.specs.Object.{Object}
-use Rattle.hd_cells.specs.Cells.{cell, count_at, object_in, extent_at, objects_from, end_from, IsBody, IsGap, IsTiled, ended, gap, body}
+use Rattle.hd_cells.specs.Cells.{cell, count_at, object_in, extent_at, objects_from, IsBody, IsGap, IsTiled, ended, gap, body}
 use Rattle.hd_cells.proofs.Finding.{find_here, find_behind, asked_twice, either_order, tied_same, tied, untied}
 
 -- the cells from one offset up to another are as they were
@@ -242,30 +242,23 @@ changed_tiling {c} {stop} {from} {os = (k, x) ∷ os} (body b t) at o e d w tile
     ]
 
 -- where nothing was put, nothing is read
-unused_read : (n : ℕ) (c : List ℕ) (at : ℕ) → cell c at ≡ 0 → cell c (at + 1) ≡ 0 → (objects_from n c at ≡ []) × (end_from n c at ≡ at)
-unfolding objects_from end_from
-unused_read zero c at e f = (refl, refl)
+unused_read : (n : ℕ) (c : List ℕ) (at : ℕ) → cell c at ≡ 0 → cell c (at + 1) ≡ 0 → objects_from n c at ≡ []
+unfolding objects_from
+unused_read zero c at e f = refl
 unused_read (suc n) c at e f =
     let stays : at + extent_at c at ≡ at = ap (λ (x : ℕ). at + x) (extent_at-unused c at e f) ∙ add-zero at in
-    let rest = unused_read n c at e f in (
-      cond-true (eqb (cell c at) 0) _ _ (eq-eqb (cell c at) 0 e) ∙ ap (objects_from n c) stays ∙ rest.0,
-      ap (end_from n c) stays ∙ rest.1,
-    )
+    cond-true (eqb (cell c at) 0) _ _ (eq-eqb (cell c at) 0 e) ∙ ap (objects_from n c) stays ∙ unused_read n c at e f
 
 -- the cells are read as they are tiled
-pub tiling_read : {c : List ℕ} {stop at : ℕ} {os : List (ℕ × Object)} → IsTiled c stop at os → (n : ℕ) → stop ≤ at + n → cell c stop ≡ 0 → cell c (stop + 1) ≡ 0 → (objects_from n c at ≡ os) × (end_from n c at ≡ stop)
-unfolding objects_from end_from
+pub tiling_read : {c : List ℕ} {stop at : ℕ} {os : List (ℕ × Object)} → IsTiled c stop at os → (n : ℕ) → stop ≤ at + n → cell c stop ≡ 0 → cell c (stop + 1) ≡ 0 → objects_from n c at ≡ os
+unfolding objects_from
 tiling_read {c} {stop} ended n most e f = unused_read n c stop e f
 tiling_read (gap g t) zero most e f = absurd (omega (arith, tiled_upwards t, extent_at-gap g, g.long))
 tiling_read {c} {stop} {at} (gap g t) (suc n) most e f =
     let reach = extent_at-gap g in
     let long = g.long in
-    let rest = tiling_read t n (omega arith) e f in
-    (cond-true (eqb (cell c at) 0) _ _ (eq-eqb (cell c at) 0 g.unnamed) ∙ rest.0, rest.1)
+    cond-true (eqb (cell c at) 0) _ _ (eq-eqb (cell c at) 0 g.unnamed) ∙ tiling_read t n (omega arith) e f
 tiling_read (body b t) zero most e f = absurd (omega (arith, tiled_upwards t, extent_at-body b))
 tiling_read {c} {stop} {at} (body b t) (suc n) most e f =
     let reach = extent_at-body b in
-    let rest = tiling_read t n (omega arith) e f in (
-      cond-false (eqb (cell c at) 0) _ _ (ne_eqb (cell c at) 0 b.identified) ∙ ap (λ (os : List (ℕ × Object)). (at, object_in c at) ∷ os) rest.0,
-      rest.1,
-    )
+    cond-false (eqb (cell c at) 0) _ _ (ne_eqb (cell c at) 0 b.identified) ∙ ap (λ (os : List (ℕ × Object)). (at, object_in c at) ∷ os) (tiling_read t n (omega arith) e f)

@@ -6,10 +6,10 @@ use Rattle.std.specs.Ordering.{nat_cmp}
 use Rattle.std.specs.Cmp.{nat_cmp_total}
 use Rattle.std.specs.FinMap as map
 use Rattle.hd_cells.specs.Object.{Object, with_value, with_registered, with_field, new_object}
-use Rattle.hd_cells.specs.Region.{Contents, IsObject, object_at, fields_at, with_object, with_put, empty_region}
-use Rattle.hd_cells.specs.Cells.{cell, count_at, object_in, extent_at, objects_of, fill_of, contents_of, IsBody, IsTiled, ended, IsLaid, IsRegion}
-use Rattle.hd_cells.proofs.Tiling.{extent_at-body, same_fields, longer_tiling, none_behind}
-use Rattle.hd_cells.proofs.Contents.{laid_region, laid_contents, get-objects, held, IsRegionOf, rewritten_region}
+use Rattle.hd_cells.specs.Region.{Contents, IsObject, object_at, fields_at, with_object, with_put, without_object, empty_region}
+use Rattle.hd_cells.specs.Cells.{cell, count_at, object_in, extent_at, objects_of, contents_of, IsBody, IsGap, IsTiled, ended, IsLaid, IsRegion}
+use Rattle.hd_cells.proofs.Tiling.{extent_at-body, extent_at-gap, same_fields, longer_tiling, none_behind, as_gap}
+use Rattle.hd_cells.proofs.Contents.{laid_region, laid_contents, get-objects, held, IsRegionOf, changed_region, rewritten_region}
 
 -- what the second cell of an object says
 shape_parts : (n : ℕ) (on : Bool) (s : ℕ) → n < 256 → s ≡ cond on (n + 256) n → (s % 256 ≡ n) × (s < 512) × (leb 256 s ≡ on)
@@ -20,11 +20,11 @@ shape_parts n false s few e = (omega (arith, e), omega (arith, e), lt-leb 256 s 
 other_cells : (c : List ℕ) (j v k : ℕ) → (k ≡ j → ⊥) → cell (set c j v) k ≡ cell c k
 other_cells c j v k ne = get_or-set_other c j k v 0 ne
 
-module _ (c : List ℕ) (r : Contents) (len : length c ≡ 256) (laid : IsRegion c) (view : contents_of c ≡ r) (at : ℕ) (is : IsObject r at) where
+module _ (c : List ℕ) (fill : ℕ) (r : Contents) (len : length c ≡ 256) (laid : IsRegion c fill) (view : contents_of c fill ≡ r) (at : ℕ) (is : IsObject r at) where
   -- a write behind the identity of an object, which stays an object of its length
   one_cell_body : (j v : ℕ) → at < j → j < 256 → cell (set c j v) (at + 1) < 512 → count_at (set c j v) at ≡ count_at c at → (at + 3 ≤ j → v < 2 ^ 32) → IsBody (set c j v) at
   one_cell_body j v low inside shaped counts fits =
-      let b = (held c r len laid view at is).is_body in
+      let b = (held c fill r len laid view at is).is_body in
       record {
         identified = λ e. b.identified (sym (other_cells c j v at (λ e. omega (arith, e))) ∙ e);
         shaped = shaped;
@@ -41,15 +41,15 @@ module _ (c : List ℕ) (r : Contents) (len : length c ≡ 256) (laid : IsRegion
         ];
       }
 
-  pub one_cell_written : (j v : ℕ) (o : Object) → at < j → j < at + (count_at c at + 3) → cell (set c j v) (at + 1) < 512 → count_at (set c j v) at ≡ count_at c at → (at + 3 ≤ j → v < 2 ^ 32) → object_in (set c j v) at ≡ o → IsRegionOf (set c j v) (with_object r at o)
+  pub one_cell_written : (j v : ℕ) (o : Object) → at < j → j < at + (count_at c at + 3) → cell (set c j v) (at + 1) < 512 → count_at (set c j v) at ≡ count_at c at → (at + 3 ≤ j → v < 2 ^ 32) → object_in (set c j v) at ≡ o → IsRegionOf (set c j v) fill (with_object r at o)
   one_cell_written j v o low high shaped counts fits e =
-      let h = held c r len laid view at is in
+      let h = held c fill r len laid view at is in
       let reach = h.reach in
       let end = h.high in
       let within = h.within in
       let new = one_cell_body j v low (omega arith) shaped counts fits in
       let new_reach = extent_at-body new in
-      rewritten_region c (set c j v) r at o laid view h
+      rewritten_region c (set c j v) fill r at o laid view h
       (record {
         lengths = length-set c j v;
         before = λ k below. other_cells c j v k (λ e. omega (arith, e));
@@ -59,10 +59,10 @@ module _ (c : List ℕ) (r : Contents) (len : length c ≡ 256) (laid : IsRegion
       new e
 
   -- the value
-  pub value_written : (v : ℕ) → IsRegionOf (set c (at + 2) v) (with_object r at (with_value (object_at r at) v))
+  pub value_written : (v : ℕ) → IsRegionOf (set c (at + 2) v) fill (with_object r at (with_value (object_at r at) v))
   unfolding object_in
   value_written v =
-      let h = held c r len laid view at is in
+      let h = held c fill r len laid view at is in
       let end = h.high in
       let within = h.within in
       let first = other_cells c (at + 2) v at (λ e. omega (arith, e)) in
@@ -80,10 +80,10 @@ module _ (c : List ℕ) (r : Contents) (len : length c ≡ 256) (laid : IsRegion
       (λ i. record { identity = identities i; fields = fields i; value = values i; registered = flags i })
 
   -- the registration
-  pub registration_written : (on : Bool) (s : ℕ) → s ≡ cond on (count_at c at + 256) (count_at c at) → IsRegionOf (set c (at + 1) s) (with_object r at (with_registered (object_at r at) on))
+  pub registration_written : (on : Bool) (s : ℕ) → s ≡ cond on (count_at c at + 256) (count_at c at) → IsRegionOf (set c (at + 1) s) fill (with_object r at (with_registered (object_at r at) on))
   unfolding object_in
   registration_written on s is_shape =
-      let h = held c r len laid view at is in
+      let h = held c fill r len laid view at is in
       let end = h.high in
       let within = h.within in
       let b = h.is_body in
@@ -106,7 +106,7 @@ module _ (c : List ℕ) (r : Contents) (len : length c ≡ 256) (laid : IsRegion
   -- the fields after a write to one of them
   fields_written : (i v : ℕ) → i < count_at c at → (m : ℕ) → m ≡ count_at c at → take m (drop (at + 3) (set c (at + 3 + i) v)) ≡ set (fields_at r at) i v
   fields_written i v below m e =
-      let h = held c r len laid view at is in
+      let h = held c fill r len laid view at is in
       let end = h.high in
       let within = h.within in
       let count = h.count in
@@ -129,10 +129,10 @@ module _ (c : List ℕ) (r : Contents) (len : length c ≡ 256) (laid : IsRegion
       ])
 
   -- a field
-  pub field_written : (i v : ℕ) → i < length (fields_at r at) → v < 2 ^ 32 → IsRegionOf (set c (at + 3 + i) v) (with_object r at (with_field (object_at r at) i v))
+  pub field_written : (i v : ℕ) → i < length (fields_at r at) → v < 2 ^ 32 → IsRegionOf (set c (at + 3 + i) v) fill (with_object r at (with_field (object_at r at) i v))
   unfolding object_in
   field_written i v below fits =
-      let h = held c r len laid view at is in
+      let h = held c fill r len laid view at is in
       let end = h.high in
       let within = h.within in
       let count = h.count in
@@ -150,70 +150,94 @@ module _ (c : List ℕ) (r : Contents) (len : length c ≡ 256) (laid : IsRegion
       (λ j. record { identity = identities j; fields = fields j; value = values j; registered = flags j })
 
 -- cells in which nothing was put are an empty region
-pub blank_region : (c : List ℕ) → ((k : ℕ) → get_or c k 0 ≡ 0) → IsRegionOf c empty_region
+pub blank_region : (c : List ℕ) → ((k : ℕ) → get_or c k 0 ≡ 0) → IsRegionOf c 0 empty_region
 blank_region c blank =
     let laid : IsLaid c 0 [] = record { tiled = ended; within = omega arith; unused = λ k past. blank k } in
     record { region = laid_region laid; contents = laid_contents laid map.empty refl }
 
 -- an object put at the fill
-module _ (c : List ℕ) (r : Contents) (len : length c ≡ 256) (laid : IsRegion c) (view : contents_of c ≡ r) where
-  put_cells : (k id s : ℕ) → (k ≡ r.fill → ⊥) → (k ≡ r.fill + 1 → ⊥) → cell (set (set c r.fill id) (r.fill + 1) s) k ≡ cell c k
-  put_cells k id s first second = other_cells (set c r.fill id) (r.fill + 1) s k second ∙ other_cells c r.fill id k first
+module _ (c : List ℕ) (fill : ℕ) (len : length c ≡ 256) (laid : IsRegion c fill) where
+  put_cells : (k id s : ℕ) → (k ≡ fill → ⊥) → (k ≡ fill + 1 → ⊥) → cell (set (set c fill id) (fill + 1) s) k ≡ cell c k
+  put_cells k id s first second = other_cells (set c fill id) (fill + 1) s k second ∙ other_cells c fill id k first
 
-  put_at_fill : (id n : ℕ) (on : Bool) (s : ℕ) → id ≢ 0 → n ≤ 61 → r.fill + n + 3 ≤ 256 → s ≡ cond on (n + 256) n → IsRegionOf (set (set c r.fill id) (r.fill + 1) s) (with_put r (new_object id n on))
+  put_at_fill : (id n : ℕ) (on : Bool) (s : ℕ) → id ≢ 0 → n ≤ 61 → fill + n + 3 ≤ 256 → s ≡ cond on (n + 256) n → IsRegionOf (set (set c fill id) (fill + 1) s) (fill + n + 3) (with_put (contents_of c fill) (new_object id n on))
   unfolding object_in
   put_at_fill id n on s identified few room is_shape =
-      let at = r.fill in
-      let fill : fill_of c ≡ at = ap (λ (x : Contents). x.fill) view in
-      let d = set (set c at id) (at + 1) s in
+      let d = set (set c fill id) (fill + 1) s in
       let parts = shape_parts n on s (omega arith) is_shape in
-      let length_set = length-set c at id in
-      let length_d : length d ≡ length c = length-set (set c at id) (at + 1) s ∙ length_set in
-      let shape : cell d (at + 1) ≡ s = get_or-set_same (set c at id) (at + 1) s 0 (omega arith) in
-      let first : cell d at ≡ id = other_cells (set c at id) (at + 1) s at (λ e. omega (arith, e)) ∙ get_or-set_same c at id 0 (omega arith) in
-      let unused : (k : ℕ) → at + 2 ≤ k → cell d k ≡ 0 = λ k past. put_cells k id s (λ e. omega (arith, e)) (λ e. omega (arith, e)) ∙ laid.unused k (omega arith) in
-      let count : count_at d at ≡ n = ap (λ (x : ℕ). x % 256) shape ∙ parts.0 in
-      let new : IsBody d at = record {
+      let length_set = length-set c fill id in
+      let length_d : length d ≡ length c = length-set (set c fill id) (fill + 1) s ∙ length_set in
+      let shape : cell d (fill + 1) ≡ s = get_or-set_same (set c fill id) (fill + 1) s 0 (omega arith) in
+      let first : cell d fill ≡ id = other_cells (set c fill id) (fill + 1) s fill (λ e. omega (arith, e)) ∙ get_or-set_same c fill id 0 (omega arith) in
+      let unused : (k : ℕ) → fill + 2 ≤ k → cell d k ≡ 0 = λ k past. put_cells k id s (λ e. omega (arith, e)) (λ e. omega (arith, e)) ∙ laid.unused k (omega arith) in
+      let count : count_at d fill ≡ n = ap (λ (x : ℕ). x % 256) shape ∙ parts.0 in
+      let new : IsBody d fill = record {
         identified = λ e. identified (sym first ∙ e);
         shaped = rw shape parts.1;
         few_fields = rw count few;
-        addresses = λ i below. let null : cell d (at + 3 + i) ≡ 0 = unused (at + 3 + i) (omega arith) in omega (arith, null);
+        addresses = λ i below. let null : cell d (fill + 3 + i) ≡ 0 = unused (fill + 3 + i) (omega arith) in omega (arith, null);
       } in
       let reach = extent_at-body new in
-      let fields : take (count_at d at) (drop (at + 3) d) ≡ replicate n 0 =
+      let fields : take (count_at d fill) (drop (fill + 3) d) ≡ replicate n 0 =
       let zero_here : ℕ = 0 in
-      let length_new = length-take (count_at d at) (drop (at + 3) d) in
-      let length_rest = length-drop (at + 3) d in
+      let length_new = length-take (count_at d fill) (drop (fill + 3) d) in
+      let length_rest = length-drop (fill + 3) d in
       let length_nulls = length-replicate n zero_here in
       ext_get_or 0 _ _ (omega arith) (λ i short.
-      get_or-take (count_at d at) (drop (at + 3) d) i 0 (omega arith) ∙ get_or-drop (at + 3) d i 0
-      ∙ unused (at + 3 + i) (omega arith)
+      get_or-take (count_at d fill) (drop (fill + 3) d) i 0 (omega arith) ∙ get_or-drop (fill + 3) d i 0
+      ∙ unused (fill + 3 + i) (omega arith)
       ∙ sym (get_or-replicate n i zero_here 0 (omega arith))) in
-      let values : cell d (at + 2) ≡ 0 = unused (at + 2) (omega arith) in
-      let flags : leb 256 (cell d (at + 1)) ≡ on = ap (leb 256) shape ∙ parts.2 in
-      let object : object_in d at ≡ new_object id n on = λ i. record { identity = first i; fields = fields i; value = values i; registered = flags i } in
-      let P : ℕ → Type 0 = λ m. IsTiled c m 0 (objects_of c) in
-      let longer = longer_tiling (subst P fill laid.tiled) d length_d (λ k low below. put_cells k id s (λ e. omega (arith, e)) (λ e. omega (arith, e))) new in
-      let size : extent_at d at ≡ length (replicate n (let z : ℕ = 0 in z)) + 3 = reach ∙ ap (λ (x : ℕ). x + 3) (count ∙ sym (length-replicate n (let z : ℕ = 0 in z))) in
-      let now : IsLaid d (at + extent_at d at) (objects_of c ++ (at, object_in d at) ∷ []) = record {
-        tiled = longer;
+      let values : cell d (fill + 2) ≡ 0 = unused (fill + 2) (omega arith) in
+      let flags : leb 256 (cell d (fill + 1)) ≡ on = ap (leb 256) shape ∙ parts.2 in
+      let object : object_in d fill ≡ new_object id n on = λ i. record { identity = first i; fields = fields i; value = values i; registered = flags i } in
+      let longer = longer_tiling laid.tiled d length_d (λ k low below. put_cells k id s (λ e. omega (arith, e)) (λ e. omega (arith, e))) new in
+      let end : fill + extent_at d fill ≡ fill + n + 3 = omega (arith, reach, count) in
+      let P : ℕ → Type 0 = λ m. IsTiled d m 0 (objects_of c ++ (fill, object_in d fill) ∷ []) in
+      let now : IsLaid d (fill + n + 3) (objects_of c ++ (fill, object_in d fill) ∷ []) = record {
+        tiled = subst P end longer;
         within = omega arith;
         unused = λ k past. unused k (omega arith);
       } in
-      let absent : map.find nat_cmp at (objects_of c) ≡ None = none_behind (subst P fill laid.tiled) at (omega arith) in
-      let maps : map.from_entries (objects_of c ++ (at, object_in d at) ∷ []) ≡ map.insert r.objects at (new_object id n on) =
-      map.from_entries_push nat_cmp_total map.nat_cmp-IsAntisymmetric (objects_of c) at (object_in d at) absent
-      ∙ (λ i. map.insert (view i).objects at (object i)) in
-      let seen = laid_contents now (map.insert r.objects at (new_object id n on)) maps in
-      record { region = laid_region now; contents = seen ∙ (λ i. record { objects = map.insert r.objects at (new_object id n on); fill = at + size i }) }
+      let absent : map.find nat_cmp fill (objects_of c) ≡ None = none_behind laid.tiled fill (omega arith) in
+      let maps : map.from_entries (objects_of c ++ (fill, object_in d fill) ∷ []) ≡ map.insert (contents_of c fill).objects fill (new_object id n on) =
+      map.from_entries_push nat_cmp_total map.nat_cmp-IsAntisymmetric (objects_of c) fill (object_in d fill) absent
+      ∙ (λ i. map.insert (contents_of c fill).objects fill (object i)) in
+      let seen = laid_contents now (map.insert (contents_of c fill).objects fill (new_object id n on)) maps in
+      let size : fill + n + 3 ≡ fill + (length (replicate n (let z : ℕ = 0 in z)) + 3) = omega (arith, length-replicate n (let z : ℕ = 0 in z)) in
+      record { region = laid_region now; contents = seen ∙ (λ i. record { objects = map.insert (contents_of c fill).objects fill (new_object id n on); fill = size i }) }
 
-  pub object_put : (at id n : ℕ) (on : Bool) (s : ℕ) → at ≡ r.fill → id ≢ 0 → n ≤ 61 → r.fill + n + 3 ≤ 256 → s ≡ cond on (n + 256) n → IsRegionOf (set (set c at id) (at + 1) s) (with_put r (new_object id n on))
-  object_put at id n on s at_fill identified few room is_shape =
-      let P : ℕ → Type 0 = λ k. IsRegionOf (set (set c k id) (k + 1) s) (with_put r (new_object id n on)) in
-      subst P (sym at_fill) (put_at_fill id n on s identified few room is_shape)
+  pub object_put : (r : Contents) → contents_of c fill ≡ r → (id n : ℕ) (on : Bool) (s : ℕ) → id ≢ 0 → n ≤ 61 → r.fill + n + 3 ≤ 256 → s ≡ cond on (n + 256) n → IsRegionOf (set (set c fill id) (fill + 1) s) (fill + n + 3) (with_put r (new_object id n on))
+  object_put r view id n on s identified few room is_shape =
+      let P : Contents → Type 0 = λ x. x.fill + n + 3 ≤ 256 → IsRegionOf (set (set c fill id) (fill + 1) s) (fill + n + 3) (with_put x (new_object id n on)) in
+      subst P view (λ fits. put_at_fill id n on s identified few fits is_shape) room
 
   -- no object is where the next one is put
-  pub get-fill : (at : ℕ) → at ≡ r.fill → map.get r.objects at ≡ None
-  get-fill at at_fill =
-      let fill : at ≡ fill_of c = at_fill ∙ ap (λ (x : Contents). x.fill) (sym view) in
-      ap (λ (x : Contents). map.get x.objects at) (sym view) ∙ get-objects c at ∙ none_behind laid.tiled at (omega arith)
+  pub get-fill : (r : Contents) → contents_of c fill ≡ r → map.get r.objects fill ≡ None
+  get-fill r view = ap (λ (x : Contents). map.get x.objects fill) (sym view) ∙ get-objects c fill fill ∙ none_behind laid.tiled fill (omega arith)
+
+-- an object becomes a gap
+module _ (c : List ℕ) (fill : ℕ) (r : Contents) (len : length c ≡ 256) (laid : IsRegion c fill) (view : contents_of c fill ≡ r) (at : ℕ) (is : IsObject r at) where
+  pub object_removed : IsRegionOf (set (set c at 0) (at + 1) (count_at c at + 3)) fill (without_object r at)
+  object_removed =
+      let h = held c fill r len laid view at is in
+      let high = h.high in
+      let within = h.within in
+      let fills : r.fill ≡ fill = ap (λ (x : Contents). x.fill) (sym view) in
+      let d = set (set c at 0) (at + 1) (count_at c at + 3) in
+      let lengths : length d ≡ length c = length-set (set c at 0) (at + 1) (count_at c at + 3) ∙ length-set c at 0 in
+      let length_first = length-set c at 0 in
+      let first : cell d at ≡ 0 = other_cells (set c at 0) (at + 1) (count_at c at + 3) at (λ e. omega (arith, e)) ∙ get_or-set_same c at 0 0 (omega arith) in
+      let second : cell d (at + 1) ≡ count_at c at + 3 = get_or-set_same (set c at 0) (at + 1) (count_at c at + 3) 0 (omega arith) in
+      let gap : IsGap d at = record { unnamed = first; long = omega arith } in
+      let reach = extent_at-gap gap in
+      let old_reach = h.reach in
+      let others : (k : ℕ) → (k ≡ at → ⊥) → (k ≡ at + 1 → ⊥) → cell d k ≡ cell c k = λ k one two. other_cells (set c at 0) (at + 1) (count_at c at + 3) k two ∙ other_cells c at 0 k one in
+      changed_region c d fill r at None (map.remove r.objects at) laid view h
+      (record {
+        lengths = lengths;
+        before = λ k below. others k (λ e. omega (arith, e)) (λ e. omega (arith, e));
+        behind = λ k past. others k (λ e. omega (arith, e)) (λ e. omega (arith, e));
+        reach = omega arith;
+      })
+      (as_gap gap)
+      (λ q. map.get-remove nat_cmp_total r.objects at q)

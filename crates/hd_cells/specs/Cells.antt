@@ -1,7 +1,8 @@
 -- Where the 256 cells of a region hold its objects. The layout is this project's own.
 -- An object takes its identity, the number of its fields with its registration, its value, and its
 -- fields, in this order. A gap is one or several removed objects: a 0, and then its length.
-use Rattle.std.specs.Prelude.{◌≡◌, ◌≢◌, ℕ, zero, suc, ◌+◌, ◌%◌, ◌^◌, ◌<◌, ◌≤◌, if◌then◌else◌, ◌==◌, nat_le, List, [], ◌∷◌, take, drop, slice_index}
+use Rattle.std.specs.Prelude.{◌≡◌, ◌≢◌, ℕ, zero, suc, ◌+◌, ◌/◌, ◌%◌, ◌^◌, ◌<◌, ◌≤◌, if◌then◌else◌, ◌==◌, nat_le, List, [], ◌∷◌, take, drop, slice_index, Option, Some, None, MatchOption}
+use Rattle.std.specs.Ordering.{nat_cmp}
 use Rattle.std.specs.FinMap as map
 use Rattle.hd_cells.specs.Object.{Object}
 use Rattle.hd_cells.specs.Region.{Contents}
@@ -34,22 +35,13 @@ objects_from (suc n) cells at =
     let behind = objects_from n cells (at + extent_at cells at) in
     if cell cells at == 0 then behind else (at, object_in cells at) ∷ behind
 
--- where the next n objects and gaps from `at` on end; past the last of them nothing is taken
-unfoldable pub end_from : ℕ → List ℕ → ℕ → ℕ
-end_from zero cells at = at
-end_from (suc n) cells at = end_from n cells (at + extent_at cells at)
-
 -- the objects of a region, which has fewer objects and gaps than cells
 abbrev pub objects_of : List ℕ → List (ℕ × Object)
 objects_of cells = objects_from 256 cells 0
 
--- its fill
-abbrev pub fill_of : List ℕ → ℕ
-fill_of cells = end_from 256 cells 0
-
--- the region as its callers see it
-abbrev pub contents_of : List ℕ → Contents
-contents_of cells = record { objects = map.from_entries (objects_of cells); fill = fill_of cells }
+-- a region with these cells and this fill as its callers see it
+abbrev pub contents_of : List ℕ → ℕ → Contents
+contents_of cells fill = record { objects = map.from_entries (objects_of cells); fill = fill }
 
 -- an object lies at `at`; its limit of 61 fields is this project's own
 pub record IsBody (cells : List ℕ) (at : ℕ) : Type 0 where
@@ -75,6 +67,28 @@ pub record IsLaid (cells : List ℕ) (fill : ℕ) (os : List (ℕ × Object)) : 
   pub within : fill ≤ 256
   pub unused : (k : ℕ) → fill ≤ k → cell cells k ≡ 0
 
+-- these are the cells and the fill of a region
+abbrev pub IsRegion : List ℕ → ℕ → Type 0
+IsRegion cells fill = IsLaid cells fill (objects_of cells)
+
+-- where objects begin: an object takes three cells and more, so at most one begins among cells 3 k to 3 k + 2, and entry k is its offset
+-- (an object-start map, as other collectors have)
+abbrev pub IsIndexed : List ℕ → Contents → Type 0
+IsIndexed starts r = (q : ℕ) → q < 254 → (slice_index starts (q / 3) == q) ≡ map.contains_key r.objects q
+
 -- what every region keeps
-abbrev pub IsRegion : List ℕ → Type 0
-IsRegion cells = IsLaid cells (fill_of cells) (objects_of cells)
+pub record IsWhole (cells : List ℕ) (fill : ℕ) (starts : List ℕ) : Type 0 where
+  pub region : IsRegion cells fill
+  pub indexed : IsIndexed starts (contents_of cells fill)
+
+-- an object or a gap begins at this offset, or nothing was put from it on; and each object at or after `from` lies in the rest from there on
+pub record IsReached (cells : List ℕ) (fill from at : ℕ) : Type 0 where
+  pub rest : List (ℕ × Object)
+  pub tiled : IsTiled cells fill at rest
+  pub skipped : (q : ℕ) → from ≤ q → map.find nat_cmp q (objects_of cells) ≡ map.find nat_cmp q rest
+
+-- the first object of the cells at or after `from`
+abbrev pub IsFirstIn : List ℕ → ℕ → Option ℕ → Type 0
+IsFirstIn cells from answer = MatchOption answer
+    ((q : ℕ) → from ≤ q → map.find nat_cmp q (objects_of cells) ≡ None)
+    (λ at. (from ≤ at) × (map.find nat_cmp at (objects_of cells) ≡ Some (object_in cells at)) × ((q : ℕ) → from ≤ q → q < at → map.find nat_cmp q (objects_of cells) ≡ None))

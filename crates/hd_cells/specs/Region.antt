@@ -40,6 +40,10 @@ with_object r at o = record r { objects = map.insert r.objects at o }
 abbrev pub with_put : Contents → Object → Contents
 with_put r o = record { objects = map.insert r.objects r.fill o; fill = r.fill + size_of o }
 
+-- the region with no object at this offset, and all else as it was
+abbrev pub without_object : Contents → ℕ → Contents
+without_object r at = record r { objects = map.remove r.objects at }
+
 -- the offset of the first object at or after `from`, or None where there is none
 abbrev pub IsFirstFrom : Contents → ℕ → Option ℕ → Type 0
 IsFirstFrom r from answer = MatchOption answer

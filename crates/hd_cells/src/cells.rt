@@ -1,11 +1,17 @@
 // The cells of a region: where the parts of an object lie, and how far what stands there reaches.
 
-ghost use Rattle.std.specs.Prelude.{◌≡◌, ℕ, ◌+◌, ◌<◌, if◌then◌else◌, slice_index};
-ghost use Rattle.std.specs.Prelude.{IfNone, IfSome};
-ghost use Rattle.hd_cells.specs.Cells.{extent_at};
+ghost use Rattle.std.specs.Prelude.{◌≡◌, ℕ, ◌+◌, ◌/◌, ◌<◌, ◌≤◌, if◌then◌else◌, slice_index};
+ghost use Rattle.hd_cells.specs.Cells.{extent_at, IsReached, IsFirstIn};
 
 /// The cells of a region.
-pub(crate) const CELLS: usize = 256;
+pub const CELLS: usize = 256;
+
+/// The parts of a region in each of which at most one object begins, since an object takes three
+/// cells and more.
+pub(crate) const PARTS: usize = 86;
+
+/// That no object begins in a part.
+pub(crate) const NONE: u8 = 255;
 
 /// From an object's first cell, which is its identity, to the cell with the number of its fields
 /// and its registration. In a gap that cell is the gap's length.
@@ -14,8 +20,8 @@ pub(crate) const SHAPE: usize = 1;
 /// From an object's first cell to its value.
 pub(crate) const VALUE: usize = 2;
 
-/// From an object's first cell to its first field.
-pub(crate) const FIELDS: usize = 3;
+/// From an object's first cell to its first field: the cells that an object takes beside its fields.
+pub const FIELDS: usize = 3;
 
 /// What is added to the number of fields where the object is registered for finalisation.
 pub(crate) const REGISTERED: u64 = 256;
@@ -25,6 +31,20 @@ pub(crate) fn blank() -> [u64; CELLS]
     ensures { (k : ℕ) → slice_index result k ≡ 0 }
 {
     [0; CELLS]
+}
+
+/// The part of a region in which a cell lies.
+pub(crate) fn part_of(at: usize) -> usize
+    ensures { result ≡ at / 3 }
+{
+    at / FIELDS
+}
+
+/// No object begins anywhere.
+pub(crate) fn no_starts() -> [u8; PARTS]
+    ensures { (k : ℕ) → k < 86 → slice_index result k ≡ 255 }
+{
+    [NONE; PARTS]
 }
 
 /// The number of fields and the registration of an object, as one cell.
@@ -39,21 +59,32 @@ pub(crate) fn shape(fields: u64, registered: bool) -> u64
     }
 }
 
-/// How many cells are taken by what begins at `at`, or None where nothing was put.
-pub(crate) fn extent(cells: &[u64; CELLS], at: usize) -> Option<usize>
-    ensures unused { IfNone result (at + 2 < 256 → extent_at cells.now at ≡ 0) }
-    ensures used { IfSome result (λ n. (at + 2 < 256) × (0 < n) × (n ≡ extent_at cells.now at)) }
+/// How many cells are taken by the object or gap that begins at `at`.
+pub(crate) fn extent(cells: &[u64; CELLS], at: usize) -> usize
+    requires { at + 1 < 256 }
+    ensures { result ≡ extent_at cells.now at }
 {
-    if at > CELLS - FIELDS {
-        return None;
-    }
     let shape = cells[at + SHAPE];
-    if cells[at] != 0 {
-        return Some((shape % REGISTERED) as usize + FIELDS);
-    }
-    if shape == 0 {
-        None
+    if cells[at] == 0 {
+        shape as usize
     } else {
-        Some(shape as usize)
+        (shape % REGISTERED) as usize + FIELDS
     }
+}
+
+/// The offset of the first object at or after `from`. The search begins at `start`, where an object
+/// or gap begins and before which there is no such object, and goes on by whole objects and gaps.
+pub(crate) fn first_from(cells: &[u64; CELLS], fill: u32, start: usize, from: usize) -> Option<u32>
+    requires within { fill ≤ 256 }
+    requires reached { IsReached cells.now fill from start }
+    ensures { IsFirstIn cells.now from result }
+{
+    let mut at = start;
+    while at < fill as usize {
+        if at >= from && cells[at] != 0 {
+            return Some(at as u32);
+        }
+        at += extent(cells, at);
+    }
+    None
 }

@@ -9,4 +9,5 @@ mod region;
 #[cfg(test)]
 mod tests;
 
+pub use cells::{CELLS, FIELDS};
 pub use region::Region;

@@ -1,45 +1,51 @@
 // A region, seen by its callers as a map from offset to object and a fill.
-ghost use Rattle.std.specs.Prelude.{◌≡◌, ◌≢◌, ◌+◌, ◌<◌, ◌≤◌, length, slice_index};
+ghost use Rattle.std.specs.Prelude.{◌≡◌, ◌≢◌, ◌↔◌, ◌+◌, ◌<◌, ◌≤◌, IsTrue, length, slice_index};
 ghost use Rattle.std.specs.FinMap as map;
 ghost use Rattle.hd_cells.specs.Object.{new_object, with_field, with_registered, with_value};
 ghost use Rattle.hd_cells.specs.Region.{empty_region, IsFirstFrom, IsLaidOut, IsObject};
 ghost use Rattle.hd_cells.specs.Region.{fields_at, object_at, with_object, with_put};
+ghost use Rattle.hd_cells.specs.Region.{without_object};
 
-use crate::cells::{CELLS, FIELDS, REGISTERED, SHAPE, VALUE, blank, extent, shape};
+use crate::cells::{
+    CELLS, FIELDS, NONE, PARTS, REGISTERED, SHAPE, VALUE, blank, extent, first_from, no_starts,
+    part_of, shape,
+};
 use std::marker::Model;
-use std::mem::size_of;
 
-/// A region of 256 cells of 64 bits, which is 2 KiB. Offsets and sizes are in cells.
-///
-/// The fill is not kept: it is where the objects and gaps end, and finding it, like a walk, takes
-/// time by their number.
+/// A region of 256 cells of 64 bits, which are 2 KiB, with its fill, and with the offset of the
+/// object that begins in each three cells. Offsets and sizes are in cells.
 #[derive(Drop)]
 pub struct Region {
     cells: [u64; CELLS],
+    starts: [u8; PARTS],
+    fill: u32,
 }
 
 // Callers see the objects by their offsets and the fill, and no cell and no gap.
 impl Model for Region {
     ghost use Rattle.hd_cells.specs.Region.{Contents, contents_code};
-    ghost use Rattle.hd_cells.specs.Cells.{IsRegion, contents_of};
+    ghost use Rattle.hd_cells.specs.Cells.{IsWhole, contents_of};
 
     ghost Value = { Contents };
 
     ghost coded = { contents_code };
 
-    ghost view = { λ r. contents_of r.cells };
+    ghost view = { λ r. contents_of r.cells r.fill };
 
-    ghost invariant = { λ r. IsRegion r.cells };
+    ghost invariant = { λ r. IsWhole r.cells r.fill r.starts };
 }
-
-const _: () = prove!(size_of::<Region>() == 2048);
 
 impl Region {
     /// A region without objects.
     pub fn empty() -> Region
-        ensures { result ≡ empty_region }
+        ensures empty { result ≡ empty_region }
+        ensures laid_out { IsLaidOut result }
     {
-        Region { cells: blank() }
+        Region {
+            cells: blank(),
+            starts: no_starts(),
+            fill: 0,
+        }
     }
 
     /// The first cell after the last object put. It never falls.
@@ -47,12 +53,7 @@ impl Region {
         ensures value { result ≡ self.now.fill }
         ensures laid_out { IsLaidOut self.now }
     {
-        let cells = &self.cells;
-        let mut at = 0;
-        while let Some(size) = extent(cells, at) {
-            at += size;
-        }
-        at as u32
+        self.fill
     }
 
     /// Puts an object with null fields and value 0 behind all others, and answers its offset. It
@@ -64,11 +65,26 @@ impl Region {
         ensures offset { result ≡ self.old.fill }
         ensures was_free { map.get self.old.objects result ≡ None }
         ensures put { self.new ≡ with_put self.old (new_object id fields registered) }
+        ensures laid_out { IsLaidOut self.new }
     {
-        let at = self.fill();
+        let at = self.fill;
         self.cells[at as usize] = id;
         self.cells[at as usize + SHAPE] = shape(u64::from(fields), registered);
+        self.starts[part_of(at as usize)] = at as u8;
+        self.fill = at + fields + FIELDS as u32;
         at
+    }
+
+    /// Whether an object begins at `at`, which may be any number.
+    pub fn is_object(&self, at: u32) -> bool
+        ensures { IsTrue result ↔ IsObject self.now at }
+    {
+        let starts = &self.starts;
+        let at = at as usize;
+        if at > CELLS - FIELDS {
+            return false;
+        }
+        usize::from(starts[part_of(at)]) == at
     }
 
     /// The identity of the object at `at`.
@@ -100,7 +116,8 @@ impl Region {
     /// Gives the object at `at` another value.
     pub fn set_value(&mut self, at: u32, v: u64)
         requires { IsObject self.old at }
-        ensures { self.new ≡ with_object self.old at (with_value (object_at self.old at) v) }
+        ensures written { self.new ≡ with_object self.old at (with_value (object_at self.old at) v) }
+        ensures laid_out { IsLaidOut self.new }
     {
         let place = at as usize + VALUE;
         self.cells[place] = v;
@@ -118,7 +135,9 @@ impl Region {
     /// stands so already.
     pub fn set_registered(&mut self, at: u32, on: bool)
         requires { IsObject self.old at }
-        ensures { self.new ≡ with_object self.old at (with_registered (object_at self.old at) on) }
+        ensures written { let after = with_registered (object_at self.old at) on in
+            self.new ≡ with_object self.old at after }
+        ensures laid_out { IsLaidOut self.new }
     {
         let place = at as usize + SHAPE;
         let fields = self.cells[place] % REGISTERED;
@@ -139,25 +158,43 @@ impl Region {
     pub fn set_field(&mut self, at: u32, i: u32, v: u32)
         requires object { IsObject self.old at }
         requires within { i < length (fields_at self.old at) }
-        ensures { self.new ≡ with_object self.old at (with_field (object_at self.old at) i v) }
+        ensures written { let after = with_field (object_at self.old at) i v in
+            self.new ≡ with_object self.old at after }
+        ensures laid_out { IsLaidOut self.new }
     {
         let place = at as usize + FIELDS + i as usize;
         self.cells[place] = u64::from(v);
     }
 
-    /// The offset of the first object at or after `from`, which may be any number.
+    /// Takes the object at `at` away. Its cells become a gap, which is never used again.
+    pub fn remove(&mut self, at: u32)
+        requires { IsObject self.old at }
+        ensures removed { self.new ≡ without_object self.old at }
+        ensures laid_out { IsLaidOut self.new }
+    {
+        let at = at as usize;
+        let fields = self.cells[at + SHAPE] % REGISTERED;
+        self.cells[at] = 0;
+        self.cells[at + SHAPE] = fields + FIELDS as u64;
+        self.starts[part_of(at)] = NONE;
+    }
+
+    /// The offset of the first object at or after `from`, which may be any number. Takes time by the
+    /// objects and gaps before it.
     pub fn walk(&self, from: u32) -> Option<u32>
         ensures first { IsFirstFrom self.now from result }
         ensures laid_out { IsLaidOut self.now }
     {
-        let cells = &self.cells;
-        let mut at = 0;
-        while let Some(size) = extent(cells, at) {
-            if at >= from as usize && cells[at] != 0 {
-                return Some(at as u32);
-            }
-            at += size;
-        }
-        None
+        first_from(&self.cells, self.fill, 0, from as usize)
+    }
+
+    /// The offset of the first object after the one at `at`. Takes time by the gaps between them.
+    pub fn after(&self, at: u32) -> Option<u32>
+        requires { IsObject self.now at }
+        ensures first { IsFirstFrom self.now (at + 1) result }
+        ensures laid_out { IsLaidOut self.now }
+    {
+        let next = at as usize + extent(&self.cells, at as usize);
+        first_from(&self.cells, self.fill, next, at as usize + 1)
     }
 }

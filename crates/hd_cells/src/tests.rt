@@ -37,3 +37,27 @@ fn an_object_keeps_what_is_written(rt: HostRuntime) {
     assert_eq!(rt; [region.id(other), region.id(at)], [7, 4_294_967_297]);
     assert_eq!(rt; region.fill(), 8);
 }
+
+#[test]
+fn a_removed_object_is_a_gap_that_is_passed(rt: HostRuntime) {
+    let mut region = Region::empty();
+    let first = region.put_object(1, 0, false);
+    let second = region.put_object(2, 3, true);
+    let third = region.put_object(3, 1, false);
+    assert_eq!(rt; [first, second, third], [0, 3, 9]);
+    assert!(rt; region.is_object(second));
+    region.remove(second);
+    assert_eq!(rt;
+        [region.walk(0), region.walk(1)],
+        [Some(first), Some(third)]
+    );
+    assert!(rt; region.is_object(first) && region.is_object(third));
+    assert_eq!(rt;
+        [region.after(first), region.after(third)],
+        [Some(third), None]
+    );
+    assert_eq!(rt; region.fill(), 13);
+    for at in [0, 3, 9, 253, 254, 300, u32::MAX] {
+        assert_eq!(rt; region.is_object(at), at == first || at == third, "at {at}");
+    }
+}

@@ -1,0 +1,12 @@
+pub mod Places
+pub mod Sums
+pub mod Areas
+pub mod Wanted
+pub mod Reading
+pub mod Writes
+pub mod Changes
+pub mod Sound
+pub mod Regions
+pub mod Walking
+pub mod Spares
+pub mod Values

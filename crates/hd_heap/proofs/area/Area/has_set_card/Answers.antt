@@ -1,0 +1,10 @@
+use Rattle.std.proofs.Common.{false, inl, inr, arith}
+use Rattle.std.proofs.lemmas.Bool.{cases_lt}
+use Rattle.std.proofs.lemmas.List.{get_or_past}
+use Rattle.hd_heap.proofs.area.Area.has_set_card.Goals as goal
+
+pub returns : goal.returns
+returns c = λ _ card. elim (cases_lt card 8) [
+  | inl within ↦ c.loop-set.invariant card (omega (arith, c.loop-set-test.false))
+  | inr past ↦ get_or_past c.args.self.now.cards card false (omega (arith, c.requires.eight))
+]

@@ -1,0 +1,6 @@
+use Rattle.std.proofs.Common.{arith}
+use Rattle.hd_heap.proofs.Wanted.{object_below}
+use Rattle.hd_heap.proofs.area.Area.is_wanted.Goals as goal
+
+pub bounds-self-at : goal.bounds-self-at
+bounds-self-at c = omega (arith, object_below c.args.self.now c.requires.area c.args.at c.requires.object, c.requires.area.eight)

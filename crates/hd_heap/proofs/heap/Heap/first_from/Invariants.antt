@@ -1,0 +1,7 @@
+use Rattle.std.proofs.Common.{◌≡◌, ◌+◌, ◌*◌, ◌≤◌, true}
+use Rattle.hd_model.specs.declared.data.Addr.{Addr}
+use Rattle.hd_heap.specs.Steps.{is_wanted}
+use Rattle.hd_heap.proofs.heap.Heap.first_from.Given as goal
+
+abbrev pub invariant-loop-place : goal.invariant-loop-place
+invariant-loop-place l = (b : Addr) → is_wanted l.self l.above b ≡ true → (l.fn.first + 1) * 256 ≤ b.0 → (l.place + 1) * 256 ≤ b.0

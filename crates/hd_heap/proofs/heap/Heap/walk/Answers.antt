@@ -1,0 +1,11 @@
+use Rattle.std.proofs.Common.{Option, sym, subst}
+use Rattle.hd_model.specs.declared.data.Addr.{Addr}
+use Rattle.hd_heap.specs.Calls.{IsWalk}
+use Rattle.hd_heap.specs.Steps.{is_wanted}
+use Rattle.hd_heap.proofs.Walking.{walk_from, wanted_high}
+use Rattle.hd_heap.proofs.heap.Heap.walk.Goals as goal
+
+pub returns-in_default-clause-walk : goal.returns-in_default-clause-walk
+returns-in_default-clause-walk c =
+    subst (λ (o : Option Addr). IsWalk (is_wanted c.args.self.now c.args.above) o c.first_from.result) (sym c.in_default.is)
+    (walk_from (is_wanted c.args.self.now c.args.above) c.first_from.result c.first_from.ensures.first (λ b want. wanted_high c.args.self.now c.args.above b c.first_from.ensures.sound want))

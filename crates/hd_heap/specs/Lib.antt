@@ -1,0 +1,6 @@
+pub mod Sound
+pub mod Calls
+pub mod Places
+pub mod Areas
+pub mod Kept
+pub mod Steps

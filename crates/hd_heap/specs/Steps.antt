@@ -1,0 +1,63 @@
+-- What the private steps of a heap do.
+use Rattle.std.specs.Prelude.{◌≡◌, ◌≢◌, ℕ, ◌+◌, ◌/◌, ◌<◌, ◌≤◌, ◌&&◌, ◌⊎◌, Bool, true, false, nat_lt, Option, Some, None, MatchOption}
+use Rattle.std.specs.FinMap.{contains_key}
+use Rattle.hd_model.specs.declared.data.Addr.{Addr}
+use Rattle.hd_model.specs.Heap.{Heap, has_object, is_held, region_at, region_generation}
+use Rattle.hd_heap.specs.declared.area.Area.{Area}
+use Rattle.hd_cells.specs.Region.{IsObject, object_at, without_object}
+use Rattle.hd_cells.specs.Object.{size_of}
+use Rattle.hd_heap.specs.Areas.{contents, card_in}
+use Rattle.hd_heap.specs.Calls.{is_old_carded, with_fresh}
+
+-- a held region of generation 0 with so many cells left
+pub record HasRoom (h : Heap) (region cells : ℕ) : Type 0 where
+  pub held : is_held h region ≡ true
+  pub young : region_generation h region ≡ 0
+  pub room : (region_at h region).fill + cells ≤ 256
+
+-- there is such a region, which was held or is the first spare one, and it is held now; with none spare, memory was taken for one
+pub record IsRoom (old new : Heap) (region cells : ℕ) : Type 0 where
+  pub room : HasRoom new region cells
+  pub how : ((new ≡ old) × (is_held old region ≡ true)) ⊎ ((is_held old region ≡ false) × (new ≡ with_fresh old region 0))
+
+-- an object that a walk gives: any one, or one of a generation above n that starts in a set card
+abbrev pub is_wanted : Heap → Option ℕ → Addr → Bool
+is_wanted h None = has_object h
+is_wanted h (Some n) = is_old_carded h n
+
+-- the same of an offset in a region
+abbrev pub wants : Option ℕ → Area → ℕ → Bool
+wants None a k = contains_key (contents a).objects k
+wants (Some n) a k = contains_key (contents a).objects k && nat_lt n a.generation && card_in (Some a) (k / 32)
+
+-- the least offset from a place on of which p holds, or None
+abbrev pub IsFirstAt : (ℕ → Bool) → ℕ → Option ℕ → Type 0
+IsFirstAt p from answer = MatchOption answer
+    ((q : ℕ) → from ≤ q → p q ≡ false)
+    (λ at. (p at ≡ true) × (from ≤ at) × ((q : ℕ) → from ≤ q → q < at → p q ≡ false))
+
+-- the same from an offset on that may be none
+abbrev pub IsFirstSince : (ℕ → Bool) → Option ℕ → Option ℕ → Type 0
+IsFirstSince p first answer = MatchOption first (answer ≡ None) (λ at. IsFirstAt p at answer)
+
+-- the least address from a place on of which p holds; None where there is none, or none below another place
+abbrev pub IsLeastBetween : (Addr → Bool) → ℕ → ℕ → Option Addr → Type 0
+IsLeastBetween p low high answer = MatchOption answer
+    ((a : Addr) → p a ≡ true → low ≤ a.0 → high ≤ a.0)
+    (λ a. (p a ≡ true) × (low ≤ a.0) × ((b : Addr) → p b ≡ true → low ≤ b.0 → a.0 ≤ b.0))
+
+abbrev pub IsLeastFrom : (Addr → Bool) → ℕ → Option Addr → Type 0
+IsLeastFrom p low answer = MatchOption answer
+    ((a : Addr) → p a ≡ true → a.0 < low)
+    (λ a. (p a ≡ true) × (low ≤ a.0) × ((b : Addr) → p b ≡ true → low ≤ b.0 → a.0 ≤ b.0))
+
+-- an object of a region is gone, and its card is clear unless another one begins in it
+pub record IsTaken (old new : Area) (at cells : ℕ) : Type 0 where
+  pub removed : contents new ≡ without_object (contents old) at
+  pub size : cells ≡ size_of (object_at (contents old) at)
+  pub live : new.live + cells ≡ old.live
+  pub held : new.held ≡ old.held
+  pub generation : new.generation ≡ old.generation
+  pub others : (c : ℕ) → c ≢ at / 32 → card_in (Some new) c ≡ card_in (Some old) c
+  pub shared : (k : ℕ) → IsObject (contents new) k → k / 32 ≡ at / 32 → card_in (Some new) (at / 32) ≡ card_in (Some old) (at / 32)
+  pub last : ((k : ℕ) → IsObject (contents new) k → k / 32 ≢ at / 32) → card_in (Some new) (at / 32) ≡ false

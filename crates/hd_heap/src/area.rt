@@ -1,0 +1,216 @@
+// A region of a heap, with what the heap keeps of it.
+ghost use Rattle.std.specs.Prelude.{◌≡◌, ◌≢◌, ℕ, ◌+◌, ◌/◌, ◌<◌, ◌≤◌, ◌&&◌, ◌⊎◌, true, false, nat_lt, nat_eq, not};
+ghost use Rattle.std.specs.Prelude.{Some, None, IfSome, IsTrue, length};
+ghost use Rattle.std.specs.FinMap as map;
+ghost use Rattle.hd_cells.specs.Object.{new_object};
+ghost use Rattle.hd_cells.specs.Region.{IsFirstFrom, IsLaidOut, IsObject, empty_region, with_put};
+ghost use Rattle.hd_heap.specs.Areas.{contents, card_in, BeginsIn, IsArea};
+ghost use Rattle.hd_heap.specs.Steps.{wants, IsFirstAt, IsFirstSince, IsTaken};
+
+use hd_cells::{FIELDS, Region};
+use std::boxed::Box;
+
+/// The cards of a region.
+pub(crate) const CARDS: usize = 8;
+
+/// The cells of a card.
+pub(crate) const CARD: u32 = 32;
+
+/// A region of a heap, held or spare: its objects, its generation, whether each of its cards is set,
+/// and the cells that its objects take.
+#[derive(Drop)]
+pub(crate) struct Area {
+    pub(crate) region: Box<Region>,
+    pub(crate) held: bool,
+    pub(crate) generation: u8,
+    pub(crate) cards: [bool; CARDS],
+    pub(crate) live: u32,
+}
+
+/// The offset of the first object behind an offset, in time by the gaps between where an object
+/// begins there.
+fn offset_after(region: &Region, offset: u32) -> Option<u32>
+    requires { offset < 256 }
+    ensures { IsFirstFrom region.now (offset + 1) result }
+{
+    if region.is_object(offset) {
+        region.after(offset)
+    } else {
+        region.walk(offset + 1)
+    }
+}
+
+impl Area {
+    /// A spare region without objects.
+    pub(crate) fn spare(region: Box<Region>) -> Area
+        requires empty { region.value ≡ empty_region }
+        requires laid_out { IsLaidOut region.value }
+        ensures area { IsArea result }
+        ensures held { result.held ≡ false }
+        ensures contents { contents result ≡ empty_region }
+        ensures live { result.live ≡ 0 }
+    {
+        Area {
+            region,
+            held: false,
+            generation: 0,
+            cards: [false; CARDS],
+            live: 0,
+        }
+    }
+
+    /// Holds a spare region.
+    pub(crate) fn hold(&mut self, generation: u8)
+        requires area { IsArea self.old }
+        requires generation { generation ≤ 2 }
+        ensures area { IsArea self.new }
+        ensures held { self.new ≡ record self.old { held = true; generation = generation } }
+    {
+        self.held = true;
+        self.generation = generation;
+    }
+
+    /// Makes a region without objects spare. What its cells held is gone.
+    pub(crate) fn give_up(&mut self)
+        requires area { IsArea self.old }
+        requires no_object { (k : ℕ) → ¬ (IsObject (contents self.old) k) }
+        ensures area { IsArea self.new }
+        ensures held { self.new.held ≡ false }
+        ensures contents { contents self.new ≡ empty_region }
+        ensures live { self.new.live ≡ self.old.live }
+    {
+        *self.region = Region::empty();
+        self.held = false;
+    }
+
+    /// Puts an object behind all others, and answers its offset.
+    pub(crate) fn put(&mut self, id: u64, fields: u32, registered: bool) -> u32
+        requires area { IsArea self.old }
+        requires held { self.old.held ≡ true }
+        requires identified { id ≢ 0 }
+        requires few_fields { fields ≤ 61 }
+        requires room { (contents self.old).fill + (fields + 3) ≤ 256 }
+        ensures area { IsArea self.new }
+        ensures offset { result ≡ (contents self.old).fill }
+        ensures was_free { map.get (contents self.old).objects result ≡ None }
+        ensures put { let object = new_object id fields registered in
+            contents self.new ≡ with_put (contents self.old) object }
+        ensures held { self.new.held ≡ true }
+        ensures generation { self.new.generation ≡ self.old.generation }
+        ensures cards { self.new.cards ≡ self.old.cards }
+        ensures live { self.new.live ≡ self.old.live + (fields + 3) }
+    {
+        self.live += fields + FIELDS as u32;
+        self.region.put_object(id, fields, registered)
+    }
+
+    /// Takes an object away, and answers its size. Its card is clear where no other object starts.
+    pub(crate) fn remove(&mut self, at: u32) -> u32
+        requires area { IsArea self.old }
+        requires object { IsObject (contents self.old) at }
+        ensures area { IsArea self.new }
+        ensures taken { IsTaken self.old self.new at result }
+    {
+        let cells = self.region.fields(at) + FIELDS as u32;
+        self.region.remove(at);
+        self.live -= cells;
+        let card = at / CARD;
+        if self.cards[card as usize] {
+            self.cards[card as usize] = self.starts_in(card);
+        }
+        cells
+    }
+
+    /// Whether an object starts in a card.
+    fn starts_in(&self, card: u32) -> bool
+        requires { card < 8 }
+        ensures some { result ≡ true → BeginsIn (contents self.now) card }
+        ensures none { result ≡ false → (k : ℕ) → IsObject (contents self.now) k → k / 32 ≢ card }
+    {
+        match self.region.walk(card * CARD) {
+            Some(first) => first / CARD == card,
+            None => false,
+        }
+    }
+
+    /// The offset of the first object that is wanted: any one, or one that starts in a set card of a
+    /// region of a generation above a number. Where there can be none, no object is looked at.
+    pub(crate) fn first_wanted(&self, above: Option<u8>) -> Option<u32>
+        requires { IsArea self.now }
+        ensures { IsFirstAt (wants above self.now) 0 result }
+    {
+        if self.may_have(above) {
+            self.wanted_from(self.region.walk(0), above)
+        } else {
+            None
+        }
+    }
+
+    /// The same, behind an offset.
+    pub(crate) fn wanted_after(&self, offset: u32, above: Option<u8>) -> Option<u32>
+        requires area { IsArea self.now }
+        requires offset { offset < 256 }
+        ensures { IsFirstAt (wants above self.now) (offset + 1) result }
+    {
+        if self.may_have(above) {
+            self.wanted_from(offset_after(&self.region, offset), above)
+        } else {
+            None
+        }
+    }
+
+    /// Whether there may be an object that is wanted, as far as can be said without a look at any.
+    fn may_have(&self, above: Option<u8>) -> bool
+        requires { IsArea self.now }
+        ensures none { result ≡ false → (k : ℕ) → wants above self.now k ≡ false }
+        ensures old { result ≡ true → IfSome above (λ n. n < self.now.generation) }
+    {
+        match above {
+            None => self.live != 0,
+            Some(n) => self.generation > n && self.has_set_card(),
+        }
+    }
+
+    /// Whether some card is set.
+    fn has_set_card(&self) -> bool
+        requires { IsArea self.now }
+        ensures { result ≡ false → (card : ℕ) → card_in (Some self.now) card ≡ false }
+    {
+        for set in self.cards {
+            if set {
+                return true;
+            }
+        }
+        false
+    }
+
+    /// Whether an object is wanted, in a region of a generation that is.
+    fn is_wanted(&self, at: u32, above: Option<u8>) -> bool
+        requires area { IsArea self.now }
+        requires object { IsObject (contents self.now) at }
+        requires old { IfSome above (λ n. n < self.now.generation) }
+        ensures { result ≡ wants above self.now at }
+    {
+        match above {
+            None => true,
+            Some(_) => self.cards[(at / CARD) as usize],
+        }
+    }
+
+    /// From an object on, the first one that is wanted.
+    fn wanted_from(&self, first: Option<u32>, above: Option<u8>) -> Option<u32>
+        requires area { IsArea self.now }
+        requires object { IfSome first (λ at. IsObject (contents self.now) at) }
+        requires old { IfSome above (λ n. n < self.now.generation) }
+        ensures { IsFirstSince (wants above self.now) first result }
+    {
+        let mut next = first;
+        while let Some(at) = next {
+            if self.is_wanted(at, above) {
+                return next;
+            }
+            next = self.region.after(at);
+        }
+        None
+    }
+}

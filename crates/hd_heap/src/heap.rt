@@ -1,0 +1,560 @@
+// A heap, seen by its callers as maps from addresses to objects and from numbers to held regions.
+ghost use Rattle.std.specs.Prelude.{◌≡◌, ◌≢◌, ℕ, ◌+◌, ◌*◌, ◌/◌, ◌%◌, ◌^◌, ◌<◌, ◌≤◌, ◌++◌, ◌∷◌, []};
+ghost use Rattle.std.specs.Prelude.{Bool, true, false, length, max, take, replicate};
+ghost use Rattle.std.specs.Prelude.{slice_index, slice_index_or};
+ghost use Rattle.std.specs.Prelude.{None, Some, IfOk, IfSome, OnOk, OnErr, MatchResult};
+ghost use Rattle.std.specs.FinMap as map;
+ghost use Rattle.hd_model.specs.Scene.{fields_at, generation_at};
+ghost use Rattle.hd_model.specs.Heap.{has_object, object_at, placed_at, cells_of, used_of};
+ghost use Rattle.hd_model.specs.Heap.{is_held, region_at, region_of, region_generation, card_of};
+ghost use Rattle.hd_heap.specs.Sound.{IsSound};
+ghost use Rattle.hd_heap.specs.Calls.{empty_heap, new_object, with_object, with_put, with_field};
+ghost use Rattle.hd_heap.specs.Calls.{IsMade, IsRefused};
+ghost use Rattle.hd_heap.specs.Calls.{stored, is_younger, with_card, IsWalk, is_old_carded};
+ghost use Rattle.hd_heap.specs.Calls.{with_fresh, with_copy, IsRemoved, with_generation};
+ghost use Rattle.hd_heap.specs.Areas.{number};
+ghost use Rattle.hd_heap.specs.Steps.{HasRoom, IsRoom, is_wanted, IsLeastBetween, IsLeastFrom};
+
+use crate::NewFault;
+use crate::area::{Area, CARD};
+use hd_cells::Region;
+use hd_model::{Addr, Id, Memory};
+use std::alloc::Global;
+use std::boxed::Box;
+use std::collections::VecDeque;
+use std::marker::Model;
+
+/// The cells of a region.
+const CELLS: u32 = hd_cells::CELLS as u32;
+
+/// The cells of an object beside its fields.
+const HEADER: u32 = hd_cells::FIELDS as u32;
+
+/// The numbers of regions, from 1, end before this one, with which no address would fit 32 bits.
+const NUMBERS: usize = 1 << 24;
+
+/// The objects of a program by address, in regions, with the set cards. A region's memory is kept
+/// for another one where it is given up.
+#[derive(Drop)]
+pub struct Heap {
+    alloc: Global,
+    areas: Vec<Area>,
+    spare: VecDeque<u32>,
+    limit: u32,
+    used: u32,
+    count: u32,
+    held: u32,
+    current: u32,
+}
+
+impl Model for Heap {
+    ghost use Rattle.hd_model.specs.Heap.{Heap as HeapValue};
+    ghost use Rattle.hd_model.specs.Code.{heap_code};
+
+    ghost Value = { HeapValue };
+
+    ghost coded = { heap_code };
+
+    ghost use Rattle.std.specs.VecDeque.{deque_capacity};
+    ghost use Rattle.hd_heap.specs.Areas.{heap_of};
+    ghost use Rattle.hd_heap.specs.Kept.{IsKept};
+
+    ghost view = { λ h. heap_of h.areas.items h.spare.items h.limit };
+
+    ghost invariant = { λ h. IsKept h.areas.items h.spare.items (deque_capacity h.spare)
+        h.used h.count h.held };
+}
+
+/// The place in the heap's list of the region in which an address lies.
+fn place_of(at: Addr) -> usize
+    requires { 256 ≤ at.0 }
+    ensures { result + 1 ≡ at.0 / 256 }
+{
+    (at.0 / CELLS - 1) as usize
+}
+
+/// The first cell of an address in its region.
+fn offset_of(at: Addr) -> u32
+    ensures { result ≡ at.0 % 256 }
+{
+    at.0 % CELLS
+}
+
+/// The address of a cell of a region.
+fn address_in(region: u32, offset: u32) -> Addr
+    requires region { region < 2 ^ 24 }
+    requires offset { offset < 256 }
+    ensures { result.0 ≡ region * 256 + offset }
+{
+    Addr(region * CELLS + offset)
+}
+
+/// A field as it stands in a cell: 0 for null.
+fn number_of(v: Option<Addr>) -> u32
+    ensures { result ≡ number v }
+{
+    match v {
+        Some(at) => at.0,
+        None => 0,
+    }
+}
+
+impl Heap {
+    /// An empty heap. `limit` bounds the sizes of all objects together, in cells.
+    pub fn open(alloc: Global, limit: u32) -> Result<Heap, Memory>
+        ensures { IfOk result (λ h. h ≡ empty_heap limit) }
+    {
+        Ok(Heap {
+            alloc,
+            areas: Vec::new(alloc),
+            spare: VecDeque::new(alloc),
+            limit,
+            used: 0,
+            count: 0,
+            held: 0,
+            current: 0,
+        })
+    }
+
+    /// Makes an object of generation 0 with null fields and value 0. Room within the limit is asked
+    /// for before memory, and after a refusal nothing is changed.
+    pub fn new_object(&mut self, id: Id, fields: u32, registered: bool) -> Result<Addr, NewFault>
+        requires identified { id.0 ≢ 0 }
+        requires few_fields { fields ≤ 61 }
+        ensures { MatchResult result
+            (λ at. IsMade self.old self.new at (new_object id fields registered))
+            (λ fault. IsRefused self.old self.new (fields + 3) fault) }
+    {
+        let size = fields + HEADER;
+        if u64::from(self.used) + u64::from(size) > u64::from(self.limit) {
+            return Err(NewFault::Full {
+                used: self.used,
+                size,
+            });
+        }
+        match self.room_for(size) {
+            Ok(region) => Ok(self.put(region, id, fields, registered)),
+            Err(Memory) => Err(NewFault::Memory),
+        }
+    }
+
+    /// The identity of the object at `at`.
+    pub fn id(&self, at: Addr) -> Id
+        requires { has_object self.now at ≡ true }
+        ensures identity { result ≡ (placed_at self.now at).id }
+        ensures never_zero { result.0 ≢ 0 }
+    {
+        Id(self.areas[place_of(at)].region.id(offset_of(at)))
+    }
+
+    /// The number of fields of the object at `at`.
+    pub fn fields(&self, at: Addr) -> u32
+        requires { has_object self.now at ≡ true }
+        ensures count { result ≡ length (fields_at (object_at self.now) at) }
+        ensures few { result ≤ 61 }
+    {
+        self.areas[place_of(at)].region.fields(offset_of(at))
+    }
+
+    /// The value of the object at `at`.
+    pub fn value(&self, at: Addr) -> u64
+        requires { has_object self.now at ≡ true }
+        ensures { result ≡ (placed_at self.now at).value }
+    {
+        self.areas[place_of(at)].region.value(offset_of(at))
+    }
+
+    /// Gives the object at `at` another value.
+    pub fn set_value(&mut self, at: Addr, v: u64)
+        requires { has_object self.old at ≡ true }
+        ensures { let after = record (placed_at self.old at) { value = v } in
+            self.new ≡ with_object self.old at after }
+    {
+        self.areas[place_of(at)].region.set_value(offset_of(at), v);
+    }
+
+    /// Whether the object at `at` is registered for finalisation.
+    pub fn registered(&self, at: Addr) -> bool
+        requires { has_object self.now at ≡ true }
+        ensures { result ≡ (placed_at self.now at).registered }
+    {
+        self.areas[place_of(at)].region.registered(offset_of(at))
+    }
+
+    /// Registers the object at `at` for finalisation, or takes its registration away, also where it
+    /// stands so already.
+    pub fn set_registered(&mut self, at: Addr, on: bool)
+        requires { has_object self.old at ≡ true }
+        ensures { let after = record (placed_at self.old at) { registered = on } in
+            self.new ≡ with_object self.old at after }
+    {
+        self.areas[place_of(at)]
+            .region
+            .set_registered(offset_of(at), on);
+    }
+
+    /// The generation of the object at `at`, which is that of its region: 0, 1 or 2.
+    pub fn generation(&self, at: Addr) -> u8
+        requires { has_object self.now at ≡ true }
+        ensures value { result ≡ generation_at (object_at self.now) at }
+        ensures few { result ≤ 2 }
+    {
+        self.areas[place_of(at)].generation
+    }
+
+    /// Field `i` of the object at `at`: an address, or None for null.
+    pub fn load(&self, at: Addr, i: u32) -> Option<Addr>
+        requires object { has_object self.now at ≡ true }
+        requires within { i < length (fields_at (object_at self.now) at) }
+        ensures { result ≡ slice_index_or (fields_at (object_at self.now) at) i None }
+    {
+        let cell = self.areas[place_of(at)].region.field(offset_of(at), i);
+        if cell == 0 { None } else { Some(Addr(cell)) }
+    }
+
+    /// Field `i` of the object at `at` becomes `v`, an object or null. Where `v` is of a younger
+    /// generation, the card of `at` is set: this is the write barrier.
+    pub fn store(&mut self, at: Addr, i: u32, v: Option<Addr>)
+        requires object { has_object self.old at ≡ true }
+        requires within { i < length (fields_at (object_at self.old) at) }
+        requires target { IfSome v (λ y. has_object self.old y ≡ true) }
+        ensures { self.new ≡ stored self.old at i v }
+    {
+        let younger = self.is_younger(at, v);
+        self.write_field(at, i, v);
+        if younger {
+            self.set_card(at, true);
+        }
+    }
+
+    /// Makes the card in which the object at `at` starts set or clear.
+    pub fn set_card(&mut self, at: Addr, on: bool)
+        requires { has_object self.old at ≡ true }
+        ensures { self.new ≡ with_card self.old (card_of at) on }
+    {
+        let card = (offset_of(at) / CARD) as usize;
+        self.areas[place_of(at)].cards[card] = on;
+    }
+
+    /// The sizes of all objects together, in cells.
+    pub fn used(&self) -> u32
+        ensures value { result ≡ used_of self.now }
+        ensures sound { IsSound self.now }
+    {
+        self.used
+    }
+
+    /// The number of objects.
+    pub fn count(&self) -> u32
+        ensures value { result ≡ map.len self.now.objects }
+        ensures sound { IsSound self.now }
+    {
+        self.count
+    }
+
+    /// The number of held regions.
+    pub fn regions(&self) -> u32
+        ensures value { result ≡ map.len self.now.regions }
+        ensures sound { IsSound self.now }
+    {
+        self.held
+    }
+
+    /// The first object behind `after`, which may be any address, or the first of all. A region
+    /// without objects is passed at once.
+    pub fn next(&self, after: Option<Addr>) -> Option<Addr>
+        ensures walk { IsWalk (has_object self.now) after result }
+        ensures sound { IsSound self.now }
+    {
+        self.walk(after, None)
+    }
+
+    /// The first object behind `after`, which may be any address, that is of a generation above `n`
+    /// and starts in a set card. A region of another generation or without set cards is passed at
+    /// once.
+    pub fn next_carded(&self, after: Option<Addr>, n: u8) -> Option<Addr>
+        ensures walk { IsWalk (is_old_carded self.now n) after result }
+        ensures sound { IsSound self.now }
+    {
+        self.walk(after, Some(n))
+    }
+
+    /// Takes memory for spare regions, so that there are at least `count`. Where there is none left,
+    /// those that were taken stay spare.
+    pub fn reserve_regions(&mut self, count: u32) -> Result<(), Memory>
+        ensures same { self.new ≡ record self.old { spare = self.new.spare } }
+        ensures kept { take (length self.old.spare) self.new.spare ≡ self.old.spare }
+        ensures enough { MatchResult result
+            (λ _. length self.new.spare ≡ max count (length self.old.spare))
+            (λ _. length self.new.spare < count) }
+    {
+        while self.spare_len() < count {
+            self.add_spare()?;
+        }
+        Ok(())
+    }
+
+    /// The number of the region that the `i`-th later `fresh` gives, from 0.
+    pub fn spare_number(&self, i: u32) -> u32
+        requires { i < length self.now.spare }
+        ensures { result ≡ slice_index self.now.spare i }
+    {
+        self.spare[i as usize]
+    }
+
+    /// Holds the first spare region, which has no object and no set card, and answers its number.
+    pub fn fresh(&mut self, generation: u8) -> u32
+        requires spare { 0 < length self.old.spare }
+        requires generation { generation ≤ 2 }
+        ensures number { result ≡ slice_index self.old.spare 0 }
+        ensures was_free { is_held self.old result ≡ false }
+        ensures held { self.new ≡ with_fresh self.old result generation }
+    {
+        let number = self.spare[0];
+        let _ = self.spare.pop_front();
+        self.areas[number as usize - 1].hold(generation);
+        self.held += 1;
+        number
+    }
+
+    /// Copies the object at `from` behind all others of a region. It stands twice from then on.
+    pub fn copy_into(&mut self, from: Addr, region: u32) -> Addr
+        requires object { has_object self.old from ≡ true }
+        requires held { is_held self.old region ≡ true }
+        requires room { let fill = (region_at self.old region).fill in
+            fill + cells_of (placed_at self.old from) ≤ 256 }
+        ensures place { result.0 ≡ region * 256 + (region_at self.old region).fill }
+        ensures was_free { has_object self.old result ≡ false }
+        ensures copied { self.new ≡ with_copy self.old from region }
+    {
+        let fields = self.fields(from);
+        let copy = self.put(region, self.id(from), fields, self.registered(from));
+        self.set_value(copy, self.value(from));
+        self.copy_fields(from, copy, fields);
+        copy
+    }
+
+    /// Takes the object at `at` away. Fields that name it stay as they are.
+    pub fn remove(&mut self, at: Addr)
+        requires { has_object self.old at ≡ true }
+        ensures { IsRemoved self.old self.new at }
+    {
+        let cells = self.areas[place_of(at)].remove(offset_of(at));
+        self.used -= cells;
+        self.count -= 1;
+    }
+
+    /// Gives a held region, and with it its objects, another generation.
+    pub fn set_generation(&mut self, region: u32, generation: u8)
+        requires held { is_held self.old region ≡ true }
+        requires generation { generation ≤ 2 }
+        ensures { self.new ≡ with_generation self.old region generation }
+    {
+        self.areas[region as usize - 1].generation = generation;
+    }
+
+    /// Gives up a held region without objects. It becomes the last spare one.
+    pub fn release(&mut self, region: u32)
+        requires held { is_held self.old region ≡ true }
+        requires no_object { (a : Addr) → has_object self.old a ≡ true → region_of a ≢ region }
+        ensures { self.new ≡ record self.old {
+          regions = map.remove self.old.regions region;
+          spare = self.old.spare ++ region ∷ [];
+        } }
+    {
+        self.areas[region as usize - 1].give_up();
+        self.held -= 1;
+        self.spare.push_back_reserved(region);
+    }
+
+    /// The number of spare regions.
+    fn spare_len(&self) -> u32
+        ensures { result ≡ length self.now.spare }
+    {
+        self.spare.len() as u32
+    }
+
+    /// Takes memory for one spare region more.
+    fn add_spare(&mut self) -> Result<(), Memory>
+        ensures ok { OnOk result ((n : ℕ) × (self.new ≡ record self.old {
+          spare = self.old.spare ++ n ∷ [];
+        })) }
+        ensures err { OnErr result (self.new ≡ self.old) }
+    {
+        let number = self.areas.len() + 1;
+        if number >= NUMBERS {
+            return Err(Memory);
+        }
+        if self.areas.reserve(1).is_err() {
+            return Err(Memory);
+        }
+        if self.spare.reserve(number - self.spare.len()).is_err() {
+            return Err(Memory);
+        }
+        let Ok(region) = Box::new(self.alloc, Region::empty()) else {
+            return Err(Memory);
+        };
+        self.areas.push_reserved(Area::spare(region));
+        self.spare.push_back_reserved(number as u32);
+        Ok(())
+    }
+
+    /// A held region of generation 0 with so many cells left: the one in which the last object was
+    /// made, or a fresh one.
+    fn room_for(&mut self, size: u32) -> Result<u32, Memory>
+        requires { size ≤ 64 }
+        ensures ok { IfOk result (λ region. IsRoom self.old self.new region size) }
+        ensures err { OnErr result (self.new ≡ self.old) }
+    {
+        let current = self.current;
+        if self.has_room(current, size) {
+            return Ok(current);
+        }
+        self.reserve_regions(1)?;
+        let region = self.fresh(0);
+        self.current = region;
+        Ok(region)
+    }
+
+    /// Whether this is the number of a held region of generation 0 with so many cells left.
+    fn has_room(&self, region: u32, size: u32) -> bool
+        requires { size ≤ 64 }
+        ensures { result ≡ true → HasRoom self.now region size }
+    {
+        if region == 0 || region as usize > self.areas.len() {
+            return false;
+        }
+        let area = &self.areas[region as usize - 1];
+        if !area.held {
+            return false;
+        }
+        if area.generation != 0 {
+            return false;
+        }
+        area.region.fill() + size <= CELLS
+    }
+
+    /// Puts an object behind all others of a held region.
+    fn put(&mut self, region: u32, id: Id, fields: u32, registered: bool) -> Addr
+        requires identified { id.0 ≢ 0 }
+        requires few_fields { fields ≤ 61 }
+        requires held { is_held self.old region ≡ true }
+        requires room { (region_at self.old region).fill + (fields + 3) ≤ 256 }
+        ensures place { result.0 ≡ region * 256 + (region_at self.old region).fill }
+        ensures region { region_of result ≡ region }
+        ensures was_free { has_object self.old result ≡ false }
+        ensures put { let generation = region_generation self.old region in
+            self.new ≡ with_put self.old region generation (new_object id fields registered) }
+    {
+        let offset = self.areas[region as usize - 1].put(id.0, fields, registered);
+        self.used += fields + HEADER;
+        self.count += 1;
+        address_in(region, offset)
+    }
+
+    /// Whether an object, or null, is of a younger generation than the object at `at`.
+    fn is_younger(&self, at: Addr, v: Option<Addr>) -> bool
+        requires object { has_object self.now at ≡ true }
+        requires target { IfSome v (λ y. has_object self.now y ≡ true) }
+        ensures { result ≡ is_younger self.now at v }
+    {
+        match v {
+            Some(target) => self.generation(target) < self.generation(at),
+            None => false,
+        }
+    }
+
+    /// Writes a field, and looks at no card.
+    fn write_field(&mut self, at: Addr, i: u32, v: Option<Addr>)
+        requires object { has_object self.old at ≡ true }
+        requires within { i < length (fields_at (object_at self.old) at) }
+        requires target { IfSome v (λ y. has_object self.old y ≡ true) }
+        ensures { let after = with_field (placed_at self.old at) i v in
+            self.new ≡ with_object self.old at after }
+    {
+        self.areas[place_of(at)]
+            .region
+            .set_field(offset_of(at), i, number_of(v));
+    }
+
+    /// Copies one field of an object into another object.
+    fn copy_field(&mut self, from: Addr, copy: Addr, i: u32)
+        requires from { has_object self.old from ≡ true }
+        requires within { i < length (fields_at (object_at self.old) from) }
+        requires copy { has_object self.old copy ≡ true }
+        requires room { i < length (fields_at (object_at self.old) copy) }
+        ensures { let field = slice_index_or (fields_at (object_at self.old) from) i None in
+            let after = with_field (placed_at self.old copy) i field in
+            self.new ≡ with_object self.old copy after }
+    {
+        let field = self.areas[place_of(from)].region.field(offset_of(from), i);
+        self.areas[place_of(copy)]
+            .region
+            .set_field(offset_of(copy), i, field);
+    }
+
+    /// Copies the fields of one object into another one, which has as many.
+    fn copy_fields(&mut self, from: Addr, copy: Addr, fields: u32)
+        requires from { has_object self.old from ≡ true }
+        requires copy { has_object self.old copy ≡ true }
+        requires apart { from.0 ≢ copy.0 }
+        requires many { fields ≡ length (placed_at self.old from).fields }
+        requires same { length (placed_at self.old copy).fields ≡ fields }
+        ensures { let after = record (placed_at self.old copy) {
+          fields = (placed_at self.old from).fields;
+        } in
+            self.new ≡ with_object self.old copy after }
+    {
+        for i in 0..fields {
+            self.copy_field(from, copy, i);
+        }
+    }
+
+    /// The first object behind `after` that is wanted: any one, or one of a generation above a number
+    /// that starts in a set card.
+    fn walk(&self, after: Option<Addr>, above: Option<u8>) -> Option<Addr>
+        ensures walk { IsWalk (is_wanted self.now above) after result }
+        ensures sound { IsSound self.now }
+    {
+        let Some(at) = after else {
+            return self.first_from(0, above);
+        };
+        if let Some(found) = self.next_in_region(at, above) {
+            return Some(found);
+        }
+        self.first_from((at.0 / CELLS) as usize, above)
+    }
+
+    /// The first object that is wanted behind an address in the same region.
+    fn next_in_region(&self, at: Addr, above: Option<u8>) -> Option<Addr>
+        ensures next { let end = (at.0 / 256 + 1) * 256 in
+            IsLeastBetween (is_wanted self.now above) (at.0 + 1) end result }
+        ensures sound { IsSound self.now }
+    {
+        let regions = self.areas.len();
+        if at.0 < CELLS {
+            return None;
+        }
+        let place = place_of(at);
+        if place >= regions {
+            return None;
+        }
+        match self.areas[place].wanted_after(offset_of(at), above) {
+            Some(offset) => Some(address_in(at.0 / CELLS, offset)),
+            None => None,
+        }
+    }
+
+    /// The first object that is wanted in the regions from a place of the list on.
+    fn first_from(&self, first: usize, above: Option<u8>) -> Option<Addr>
+        ensures first { IsLeastFrom (is_wanted self.now above) ((first + 1) * 256) result }
+        ensures sound { IsSound self.now }
+    {
+        for place in first..self.areas.len() {
+            if let Some(offset) = self.areas[place].first_wanted(above) {
+                return Some(address_in(place as u32 + 1, offset));
+            }
+        }
+        None
+    }
+}

@@ -1,0 +1,12 @@
+//! A garbage-collected heap: objects in regions of 256 cells, each of one generation, with cards
+//! that tell where older objects name younger ones.
+#![tactic(auto)]
+
+mod area;
+mod fault;
+mod heap;
+#[cfg(test)]
+mod tests;
+
+pub use fault::NewFault;
+pub use heap::Heap;
