@@ -1,0 +1,2 @@
+pub mod Clumps
+pub mod Word

@@ -1,0 +1,24 @@
+-- Four ages as one word. Bit c says that clump c is of age 1 or more, and bit c + 4 that it is of age 2. This
+-- project's own format.
+use Rattle.std.specs.Prelude.{ℕ, ◌+◌, ◌<◌, ◌≤◌, ◌^◌, List, [], ◌∷◌}
+use Rattle.std.specs.Int.{bit_at}
+
+-- the age of a clump, and all four
+abbrev pub age_in : ℕ → ℕ → ℕ
+age_in word clump = bit_at word clump + bit_at word (clump + 4)
+
+abbrev pub ages_in : ℕ → List ℕ
+ages_in word = age_in word 0 ∷ age_in word 1 ∷ age_in word 2 ∷ age_in word 3 ∷ []
+
+-- the ages of all blocks, in their order
+abbrev pub ages_of : List ℕ → List ℕ
+ages_of [] = []
+ages_of (word ∷ words) = age_in word 0 ∷ age_in word 1 ∷ age_in word 2 ∷ age_in word 3 ∷ ages_of words
+
+-- a clump of age 2 is of age 1 or more
+pub record IsWord (word : ℕ) : Type 0 where
+  pub small : word < 2 ^ 8
+  pub first : bit_at word 4 ≤ bit_at word 0
+  pub second : bit_at word 5 ≤ bit_at word 1
+  pub third : bit_at word 6 ≤ bit_at word 2
+  pub fourth : bit_at word 7 ≤ bit_at word 3

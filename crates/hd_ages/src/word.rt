@@ -1,0 +1,72 @@
+// The four ages of a block in one word. Bit `c` says that clump `c` is of age 1 or more, and bit
+// `c + 4` that it is of age 2.
+
+ghost use Rattle.std.specs.Prelude.{◌≡◌, ℕ, ◌<◌, ◌≤◌, cond, nat_le, min, slice_set};
+ghost use Rattle.std.specs.Int.{bit_at};
+ghost use Rattle.hd_ages.specs.Word.{IsWord, age_in, ages_in};
+ghost use Rattle.hd_model.specs.Ages.{grown};
+
+/// The word of four ages of 2.
+pub const OLDEST: u8 = 0xff;
+
+/// The bits that say that a clump is of age 1 or more.
+const SOME: u8 = 0x0f;
+
+/// From the bit that says that a clump is of age 1 or more to the one that says that it is of age
+/// 2.
+const TWO: u32 = 4;
+
+/// The bits of the age of clump 0.
+const AGE: u8 = 0x11;
+
+/// The bit that says that clump 0 is of age 2.
+const OLD: u8 = 0x10;
+
+/// The age of a clump.
+pub fn age(word: u8, clump: u32) -> u8
+    requires { clump < 4 }
+    ensures value { result ≡ age_in word clump }
+    ensures small { result ≤ 2 }
+{
+    (word >> clump & 1) + (word >> (clump + TWO) & 1)
+}
+
+/// The word after the age of a clump was lowered to `g`, where it was above.
+pub fn lower(word: u8, clump: u32, g: u8) -> u8
+    requires word { IsWord word }
+    requires clump { clump < 4 }
+    ensures ages { ages_in result ≡ slice_set (ages_in word) clump (min (age_in word clump) g) }
+    ensures after { IsWord result }
+{
+    match g {
+        0 => word & !(AGE << clump),
+        1 => word & !(OLD << clump),
+        _ => word,
+    }
+}
+
+/// A bit for each clump that is of age `n` or less.
+pub fn due(word: u8, n: u8) -> u8
+    requires { IsWord word }
+    ensures bits { (clump : ℕ) → clump < 4 →
+        bit_at result clump ≡ cond (nat_le (age_in word clump) n) 1 0 }
+    ensures small { result < 16 }
+{
+    match n {
+        0 => !word & SOME,
+        1 => !(word >> TWO) & SOME,
+        _ => SOME,
+    }
+}
+
+/// The word in which each age up to `n` is raised by one, at most to 2.
+pub fn grow(word: u8, n: u8) -> u8
+    requires { IsWord word }
+    ensures ages { ages_in result ≡ grown n (ages_in word) }
+    ensures after { IsWord result }
+{
+    match n {
+        0 => word | SOME,
+        _ => word | (word & SOME) << TWO | SOME,
+    }
+}

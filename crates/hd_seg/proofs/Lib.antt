@@ -1,0 +1,10 @@
+pub mod Maps
+pub mod Linking
+pub mod Adding
+pub mod Removing
+pub mod Rows
+pub mod Changing
+pub mod Putting
+pub mod Giving
+pub mod Reading
+pub mod Laws

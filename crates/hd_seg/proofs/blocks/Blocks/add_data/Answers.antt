@@ -1,0 +1,111 @@
+use Rattle.std.proofs.Common.{◌≡◌, ℕ, ◌+◌, ◌<◌, ◌≤◌, List, length, set, sym, ap, ◌∙◌, subst, arith, Some, None, IsSome, inl, inr}
+use Rattle.std.specs.Prelude.{is_some}
+use Rattle.std.specs.FinMap.{get}
+use Rattle.std.proofs.lemmas.Bool.{cases_lt}
+use Rattle.std.proofs.lemmas.List.{get_or_read, length-set}
+use Rattle.hd_model.specs.Table.{IsLeastWithout}
+use Rattle.hd_seg.specs.declared.block.Block.{Block}
+use Rattle.hd_seg.specs.Blocks.{Uses, HasUnused, use_at, block_at}
+use Rattle.hd_seg.proofs.Linking.{is_table, few_of, one_left, none_is_some, use_is}
+use Rattle.hd_seg.proofs.Adding.{blocks-with_data, view-with_data, least_is}
+use Rattle.hd_seg.proofs.blocks.Blocks.add_data.Goals as goal
+use Rattle.hd_seg.proofs.blocks.Blocks.add_data.Goals.{After-deref, After-self-3-1}
+
+-- each block up to this one has a use
+used : (c : After-deref) → (b : ℕ) → 1 ≤ b → b ≤ c.args.block → IsSome (use_at c.self.inside.table.items b)
+used c b low high =
+    let last : b ≤ c.self.inside.number =
+    omega (arith, c.requires.high, ap (λ (u : Uses). u.table.blocks) c.self.view_is) in
+    ap is_some (sym (use_is c.self.inside.number _ c.self.inside.table.items _ c.self.invariant.0 b low last)
+    ∙ ap (λ (u : Uses). get u.table.uses b) c.self.view_is) ∙ c.requires.used b low high
+
+past : (c : After-deref) (found : HasUnused c.self.inside.table.items 1) → c.args.block + 1 ≤ found.number
+past c found =
+    elim (cases_lt c.args.block found.number) [
+      | inl above ↦ omega arith
+      | inr below ↦ absurd (none_is_some _ found.unused (used c found.number found.low below))
+    ]
+
+pub least_unused-data-requires : goal.least_unused-data-requires
+least_unused-data-requires c =
+    let found : HasUnused c.self.inside.table.items 1 =
+    one_left c.self.inside.number _ c.self.inside.table.items _ c.self.invariant.0
+    (few_of c.self.inside.number c.self.inside.table.items _ c.args.self.now c.self.view_is
+    c.requires.room) in
+    subst (λ (xs : List Block). HasUnused xs (c.args.block + 1)) (sym c.deref.ensures.value)
+    (record { number = found.number; low = past c found; high = found.high; unused = found.unused })
+
+-- the block that was found
+inside : (c : After-self-3-1) → c.least_unused-data.result < length c.self.inside.table.items
+inside c = omega (arith, c.least_unused-data.ensures.high, c.deref.ensures.len, c.self.inside.table.ok.0)
+
+unused : (c : After-self-3-1) → use_at c.self.inside.table.items c.least_unused-data.result ≡ None
+unused c = ap (λ xs. use_at xs c.least_unused-data.result) (sym c.deref.ensures.value)
+    ∙ c.least_unused-data.ensures.unused
+
+of_is : (c : After-self-3-1) → c.index_mut-of.result.now ≡ block_at c.self.inside.table.items c.args.block
+of_is c = get_or_read c.self.inside.table.items c.args.block c.index_mut-of.result.now
+    (omega (arith, inside c, c.least_unused-data.ensures.low)) c.index_mut-of.ensures.value _
+
+at_is : (c : After-self-3-1) → c.index_mut-extras.result.now
+    ≡ block_at (set c.self.inside.table.items c.args.block
+    (record {
+      kind = c.index_mut-of.result.now.kind;
+      place = c.index_mut-of.result.now.place;
+      extras =
+          Some c.least_unused-data.result;
+    })) c.least_unused-data.result
+at_is c =
+    let first : List Block =
+    set c.self.inside.table.items c.args.block
+    (record {
+      kind = c.index_mut-of.result.now.kind;
+      place = c.index_mut-of.result.now.place;
+      extras =
+          Some c.least_unused-data.result;
+    }) in
+    let lt : c.least_unused-data.result < length first =
+    omega (
+      arith,
+      inside c,
+      length-set c.self.inside.table.items c.args.block
+          (record {
+            kind = c.index_mut-of.result.now.kind;
+            place = c.index_mut-of.result.now.place;
+            extras =
+                Some c.least_unused-data.result;
+          }),
+    ) in
+    get_or_read first c.least_unused-data.result c.index_mut-extras.result.now lt
+    c.index_mut-extras.ensures.value _
+
+below : (c : After-self-3-1) → c.args.block < c.least_unused-data.result
+below c = omega (arith, c.least_unused-data.ensures.low)
+
+pub invariant_of-self : goal.invariant_of-self
+invariant_of-self c = (
+  blocks-with_data c.self.inside.number c.self.inside.given c.self.inside.table.items _ c.self.invariant.0
+      c.args.block c.least_unused-data.result c.requires.low (below c) (inside c) (unused c)
+      (used (goal.at.invariant_of-self c).After-deref c.args.block c.requires.low (omega arith))
+      c.index_mut-of.result.now c.index_mut-extras.result.now (of_is c) (at_is c),
+  c.self.invariant.1,
+)
+
+pub returns-clause-least : goal.returns-clause-least
+returns-clause-least c =
+    subst (λ (u : Uses). IsLeastWithout u.table (c.args.block + 1) c.least_unused-data.result) c.self.view_is
+    (least_is c.self.inside.number _ c.self.inside.table.items _ c.self.invariant.0 (c.args.block + 1)
+    c.least_unused-data.result (omega arith) c.least_unused-data.ensures.low (inside c) (unused c)
+    (λ q low above. subst (λ (xs : List Block). IsSome (use_at xs q)) c.deref.ensures.value
+    (c.least_unused-data.ensures.least q low above)))
+
+pub returns-clause-after : goal.returns-clause-after
+returns-clause-after c =
+    view-with_data c.self.inside.number c.self.inside.given c.self.inside.table.items _ c.self.invariant.0
+    c.args.block c.least_unused-data.result c.requires.low (below c) (inside c) (unused c)
+    (used (goal.at.invariant_of-self c).After-deref c.args.block c.requires.low (omega arith))
+    c.index_mut-of.result.now c.index_mut-extras.result.now (of_is c) (at_is c) c.args.self.now
+    c.self.view_is
+
+pub returns-clause-table : goal.returns-clause-table
+returns-clause-table c = is_table c.self.inside.number _ _ _ (invariant_of-self c).0

@@ -1,0 +1,35 @@
+use Rattle.std.proofs.Common.{◌+◌, ◌<◌, ◌≤◌, ◌⊎◌, length, sym, ap, ◌∙◌, arith, inl, inr}
+use Rattle.std.specs.FinMap.{get}
+use Rattle.hd_seg.specs.declared.block.Block.{Block}
+use Rattle.hd_seg.specs.Blocks.{Uses, extras_at}
+use Rattle.hd_seg.proofs.Maps.{get-mapped_out}
+use Rattle.hd_seg.proofs.Linking.{extras_is}
+use Rattle.std.proofs.lemmas.List.{get_or_read}
+use Rattle.hd_seg.proofs.blocks.Blocks.extras.Goals as goal
+use Rattle.hd_seg.proofs.blocks.Blocks.extras.Goals.{then-block-eq0-via-then-block-eq0, then-block-eq0-via-else-block-eq0+then-block-self, Joined-then-block-eq0}
+
+out : (c : Joined-then-block-eq0) → (c.args.block < 1) ⊎ (1 + c.self.inside.number ≤ c.args.block)
+out c =
+    elim c.then-block-eq0.branch [
+      | then-block-eq0-via-then-block-eq0 w ↦ inl (omega (arith, w.if-block-eq0.true))
+      | then-block-eq0-via-else-block-eq0+then-block-self w ↦ inr (omega (arith, w.if-block-self.true))
+    ]
+
+pub returns-then-block-eq0 : goal.returns-then-block-eq0
+returns-then-block-eq0 c = record {
+  value = sym (get-mapped_out 1 c.self.inside.number (extras_at c.self.inside.table.items) c.args.block
+      (out c)) ∙ ap (λ (u : Uses). get u.extras c.args.block) c.self.view_is;
+}
+
+pub returns : goal.returns
+returns c =
+    let inside : c.args.block < length c.self.inside.table.items =
+    omega (arith, c.if-block-self.false, c.self.invariant.0.size) in
+    record {
+      value =
+          ap (λ (b : Block). b.extras)
+          (get_or_read c.self.inside.table.items c.args.block c.index.result.now inside c.index.ensures _)
+          ∙ sym (extras_is c.self.inside.number _ c.self.inside.table.items _ c.self.invariant.0 c.args.block
+          (omega (arith, c.if-block-eq0.false)) c.if-block-self.false)
+          ∙ ap (λ (u : Uses). get u.extras c.args.block) c.self.view_is;
+    }

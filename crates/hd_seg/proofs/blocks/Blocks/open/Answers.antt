@@ -1,0 +1,29 @@
+use Rattle.std.proofs.Common.{ℕ, ◌+◌, map, replicate, sym, ap, ◌∙◌, subst, Vec, Global, None}
+use Rattle.hd_seg.specs.declared.row.BlockKind.TheVariants as block
+use Rattle.hd_seg.specs.Blocks.{uses_in, IsBlocks}
+use Rattle.hd_seg.proofs.Linking.{is_table}
+use Rattle.hd_seg.proofs.Adding.{blocks-none, view-none}
+use Rattle.hd_seg.proofs.blocks.Blocks.open.Goals as goal
+
+-- no block has a use, and no chain a block
+pub invariant_of-result : goal.invariant_of-result
+invariant_of-result c = (
+  subst (λ xs. IsBlocks c.args.number 0 xs (map (λ (v : Vec ℕ Global). v.items) c.in-Ok.chains.items))
+      (sym c.in_ok-table.ensures)
+      (subst (λ cs. IsBlocks c.args.number 0
+      (replicate (c.args.number + 1) (record { kind = block.Unused; place = 0; extras = None })) cs)
+      (sym c.in-Ok.ensures.chains) (blocks-none c.args.number c.requires)),
+  c.in-Ok.ensures.rooms,
+)
+
+pub returns-clause-none : goal.returns-clause-none
+returns-clause-none c =
+    ap (λ xs. uses_in c.args.number xs (map (λ (v : Vec ℕ Global). v.items) c.in-Ok.chains.items))
+    c.in_ok-table.ensures
+    ∙ ap (uses_in c.args.number
+    (replicate (c.args.number + 1) (record { kind = block.Unused; place = 0; extras = None })))
+    c.in-Ok.ensures.chains
+    ∙ view-none c.args.number
+
+pub returns-clause-table : goal.returns-clause-table
+returns-clause-table c = is_table c.args.number _ _ _ (invariant_of-result c).0

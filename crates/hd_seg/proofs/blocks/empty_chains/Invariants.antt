@@ -1,0 +1,11 @@
+use Rattle.std.proofs.Common.{◌≡◌, ◌≤◌, [], map, replicate, vec_capacity, vec_len, All}
+use Rattle.hd_seg.proofs.blocks.empty_chains.Given as goal
+
+-- so many empty chains with room
+abbrev pub invariant-loop-kind : goal.invariant-loop-kind
+invariant-loop-kind l = record {
+  number : vec_len l.chains ≡ l._kind;
+  chains : map (λ v. v.items) l.chains.items ≡ replicate l._kind [];
+  rooms : All (λ v. l.room ≤ vec_capacity v) l.chains.items;
+  space : 7 ≤ vec_capacity l.chains;
+}

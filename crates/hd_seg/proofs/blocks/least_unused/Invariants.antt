@@ -1,0 +1,14 @@
+use Rattle.std.proofs.Common.{ℕ, ◌-◌, ◌<◌, ◌≤◌, length, IsSome}
+use Rattle.hd_seg.specs.Blocks.{HasUnused, use_at}
+use Rattle.hd_seg.proofs.blocks.least_unused.Given as goal
+
+-- all blocks so far have a use, and one that follows has none
+abbrev pub invariant-loop-at : goal.invariant-loop-at
+invariant-loop-at l = record {
+  low : l.from ≤ l.at;
+  unused : HasUnused l.table l.at;
+  used : (b : ℕ) → l.from ≤ b → b < l.at → IsSome (use_at l.table b);
+}
+
+abbrev pub decreases-loop-at : goal.decreases-loop-at
+decreases-loop-at l = length l.table - l.at

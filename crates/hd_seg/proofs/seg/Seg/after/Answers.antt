@@ -1,0 +1,27 @@
+use Rattle.std.proofs.Common.{◌≡◌, ℕ, List, ◌++◌, ◌∷◌, subst}
+use Rattle.std.specs.Prelude.{slice_get}
+use Rattle.hd_model.specs.Table.{Table, IsTable, chain_of, kind_at}
+use Rattle.hd_seg.proofs.Rows.{is_table}
+use Rattle.hd_seg.proofs.Reading.{after_kind, after_within}
+use Rattle.hd_seg.proofs.seg.Seg.after.Goals as goal
+use Rattle.hd_seg.proofs.seg.Seg.after.Goals.{After-after}
+
+sound : (c : After-after) → IsTable c.args.self.now
+sound c = subst (λ (t : Table). IsTable t) c.self.view_is (is_table _ _ _ _ c.self.invariant)
+
+pub returns-clause-table : goal.returns-clause-table
+returns-clause-table c = sound c
+
+followed : (c : After-after) (before after : List ℕ)
+    → chain_of c.args.self.now (kind_at c.args.self.now c.args.block) ≡ before ++ c.args.block ∷ after
+    → c.after.result ≡ slice_get after 0
+followed c = subst (λ (t : Table). (before after : List ℕ) → chain_of t (kind_at t c.args.block)
+    ≡ before ++ c.args.block ∷ after → c.after.result ≡ slice_get after 0) c.self.view_is c.after.ensures
+
+pub returns-clause-within : goal.returns-clause-within
+returns-clause-within c = after_within c.args.self.now (sound c) c.args.block c.requires c.after.result
+    (followed c)
+
+pub returns-clause-of_kind : goal.returns-clause-of_kind
+returns-clause-of_kind c = after_kind c.args.self.now (sound c) c.args.block c.requires c.after.result
+    (followed c)

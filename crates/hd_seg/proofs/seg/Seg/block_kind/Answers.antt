@@ -1,0 +1,7 @@
+use Rattle.std.proofs.Common.{subst}
+use Rattle.hd_model.specs.Table.{Table, IsTable}
+use Rattle.hd_seg.proofs.Rows.{is_table}
+use Rattle.hd_seg.proofs.seg.Seg.block_kind.Goals as goal
+
+pub returns-clause-table : goal.returns-clause-table
+returns-clause-table c = subst (λ (t : Table). IsTable t) c.self.view_is (is_table _ _ _ _ c.self.invariant)

@@ -1,0 +1,130 @@
+use Rattle.std.proofs.Common.{◌≡◌, ◌+◌, ◌≤◌, sym, ap, ◌∙◌, subst, arith, cond, inl, inr}
+use Rattle.std.specs.Prelude.{is_some}
+use Rattle.std.specs.FinMap.{get, len, insert}
+use Rattle.std.proofs.lemmas.Bool.{cases_eq, true≢false}
+use Rattle.hd_model.specs.State.{handles_of}
+use Rattle.hd_model.specs.Table.{Table, IsTable, IsLeastWithout, with_block, with_data}
+use Rattle.hd_seg.specs.Blocks.{Uses}
+use Rattle.hd_seg.specs.Cells.{table_in, IsSeg}
+use Rattle.hd_seg.proofs.Maps.{get-insert_same, get-insert_other, len-insert_new}
+use Rattle.hd_seg.proofs.Rows.{is_table}
+use Rattle.hd_seg.proofs.Giving.{one-seg, one-view, two-seg, two-view}
+use Rattle.hd_seg.proofs.Reading.{with_rows_least, next_least}
+use Rattle.hd_seg.proofs.seg.Seg.give_block.Goals as goal
+use Rattle.hd_seg.proofs.seg.Seg.give_block.Goals.{then-paired, else-paired, After-add_data-arg-1, After-add_data-data}
+
+pub returns-then-unused-needed-clause-table : goal.returns-then-unused-needed-clause-table
+returns-then-unused-needed-clause-table c =
+    subst (λ (t : Table). IsTable t) c.self.view_is (is_table _ _ _ _ c.self.invariant)
+
+-- ---- one block
+
+pub invariant_of-self : goal.invariant_of-self
+invariant_of-self c =
+    subst (λ u. IsSeg u c.self.inside.cells.items c.self.inside.masks.items c.self.inside.live)
+    (sym c.add-block.ensures.after)
+    (one-seg c.self.inside.blocks c.self.inside.cells.items c.self.inside.masks.items c.self.inside.live
+    c.self.invariant c.args.kind c.add-block.result c.add-block.ensures.least.unused
+    c.add-block.ensures.plain (sym c.if-not-paired.ensures)
+    (subst (λ (u : Uses). IsTable u.table) c.add-block.ensures.after c.add-block.ensures.table))
+
+pub returns-then-not-paired-clause-after : goal.returns-then-not-paired-clause-after
+returns-then-not-paired-clause-after c =
+    ap (λ u. table_in u c.self.inside.cells.items) c.add-block.ensures.after
+    ∙ one-view c.self.inside.blocks c.self.inside.cells.items c.self.inside.masks.items c.self.inside.live
+    c.self.invariant c.args.kind c.add-block.result c.add-block.ensures.least.unused
+    c.add-block.ensures.plain c.args.self.now c.self.view_is
+
+pub returns-then-not-paired-clause-table : goal.returns-then-not-paired-clause-table
+returns-then-not-paired-clause-table c =
+    is_table c.add-block.new.self c.self.inside.cells.items c.self.inside.masks.items c.self.inside.live
+    (invariant_of-self c)
+
+-- ---- two blocks
+
+-- two blocks were needed
+two_needed : (c : After-add_data-arg-1) → 2 ≤ c.unused.result
+two_needed c =
+    elim c.if-paired.branch [
+      | then-paired w ↦ omega (arith, w.needed-is, c.if-unused-needed.false)
+      | else-paired w ↦ absurd
+          (true≢false (sym c.if-not-paired.false ∙ c.paired-2.ensures ∙ sym c.paired.ensures
+          ∙ w.if-paired.false))
+    ]
+
+pub add_data-data-requires-clause-room : goal.add_data-data-requires-clause-room
+add_data-data-requires-clause-room c =
+    omega (
+      arith,
+      two_needed c,
+      c.unused.ensures.value,
+      ap (λ (u : Uses). len u.table.uses) c.add-block.ensures.after,
+      ap (λ (u : Uses). u.table.blocks) c.add-block.ensures.after,
+      len-insert_new c.self.inside.blocks.table.uses c.add-block.result (handles_of c.args.kind)
+          c.add-block.ensures.least.unused,
+    )
+
+pub add_data-data-requires-clause-used : goal.add_data-data-requires-clause-used
+add_data-data-requires-clause-used c q low high =
+    ap is_some (ap (λ (u : Uses). get u.table.uses q) c.add-block.ensures.after)
+    ∙ elim (cases_eq q c.add-block.result) [
+      | inl same ↦ ap is_some
+          (get-insert_same c.self.inside.blocks.table.uses c.add-block.result (handles_of c.args.kind) q same)
+      | inr apart ↦ ap is_some
+          (get-insert_other c.self.inside.blocks.table.uses c.add-block.result (handles_of c.args.kind) q apart)
+          ∙ c.add-block.ensures.least.least q low (omega arith)
+    ]
+
+-- the data block
+data_least : (c : After-add_data-data) → IsLeastWithout c.self.inside.blocks.table (c.add-block.result + 1)
+    c.add_data-data.result
+data_least c =
+    next_least c.self.inside.blocks.table c.args.kind c.add-block.result c.add_data-data.result
+    (subst (λ (u : Uses). IsLeastWithout u.table (c.add-block.result + 1) c.add_data-data.result)
+    c.add-block.ensures.after c.add_data-data.ensures.least)
+
+both : (c : After-add_data-data) → c.add_data-data.new.self
+    ≡ record {
+      table = with_data (with_block c.self.inside.blocks.table c.args.kind c.add-block.result)
+          c.add_data-data.result;
+      extras =
+          insert c.self.inside.blocks.extras c.add-block.result c.add_data-data.result;
+    }
+both c =
+    c.add_data-data.ensures.after
+    ∙ ap (λ (u : Uses). let v : Uses =
+    record {
+      table = with_data u.table c.add_data-data.result;
+      extras =
+          insert u.extras c.add-block.result c.add_data-data.result;
+    } in v) c.add-block.ensures.after
+
+pub invariant_of-self-2 : goal.invariant_of-self-2
+invariant_of-self-2 c =
+    subst (λ u. IsSeg u c.self.inside.cells.items c.self.inside.masks.items c.self.inside.live) (sym (both c))
+    (two-seg c.self.inside.blocks c.self.inside.cells.items c.self.inside.masks.items c.self.inside.live
+    c.self.invariant c.args.kind c.add-block.result c.add-block.ensures.least.unused
+    c.add-block.ensures.plain c.add_data-data.result (data_least c).unused
+    (λ same. absurd (omega (arith, (data_least c).low))) (data_least c).high (sym c.if-not-paired.ensures)
+    (subst (λ (u : Uses). IsTable u.table) (both c) c.add_data-data.ensures.table))
+
+pub returns-clause-grown : goal.returns-clause-grown
+returns-clause-grown c = (
+  ap (λ b. cond b 2 1) (sym c.if-not-paired.ensures),
+  with_rows_least c.self.inside.blocks c.self.inside.cells.items c.args.self.now c.self.view_is 1
+      c.add-block.result c.add-block.ensures.least,
+  with_rows_least c.self.inside.blocks c.self.inside.cells.items c.args.self.now c.self.view_is
+      (c.add-block.result + 1) c.add_data-data.result (data_least c),
+)
+
+pub returns-clause-after : goal.returns-clause-after
+returns-clause-after c =
+    ap (λ u. table_in u c.self.inside.cells.items) (both c)
+    ∙ two-view c.self.inside.blocks c.self.inside.cells.items c.self.inside.masks.items c.self.inside.live
+    c.self.invariant c.args.kind c.add-block.result c.add-block.ensures.least.unused
+    c.add-block.ensures.plain c.add_data-data.result (data_least c).unused
+    (λ same. absurd (omega (arith, (data_least c).low))) (data_least c).high c.args.self.now c.self.view_is
+
+pub returns-clause-table : goal.returns-clause-table
+returns-clause-table c = is_table c.add_data-data.new.self c.self.inside.cells.items c.self.inside.masks.items
+    c.self.inside.live (invariant_of-self-2 c)

@@ -1,0 +1,4 @@
+pub mod Row
+pub mod Mapped
+pub mod Blocks
+pub mod Cells

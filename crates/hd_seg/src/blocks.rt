@@ -1,0 +1,240 @@
+// Which blocks have a use, and in which order those of a kind follow one another.
+
+ghost use Rattle.std.specs.Prelude.{◌≡◌, ℕ, ◌+◌, ◌<◌, ◌≤◌, ◌++◌, ◌∷◌, List, [], Some, None, All, true, IsSome};
+ghost use Rattle.std.specs.Prelude.{drop, length, map, replicate, slice_get, slice_index, slice_index_or, vec_capacity};
+ghost use Rattle.std.specs.Prelude.{is_some, option_map, IfOk, IfSome, IsTrue};
+ghost use Rattle.std.specs.FinMap.{get, insert, len, empty};
+ghost use Rattle.hd_model.specs.Table.{empty_table, chain_of, has_handles, IsLeastWithout, is_single, kind_at};
+ghost use Rattle.hd_model.specs.Table.{with_block, with_data, without_block};
+ghost use Rattle.hd_model.specs.Table.{IsTable};
+ghost use Rattle.hd_seg.specs.Row.{block_kind_of};
+ghost use Rattle.hd_seg.specs.Blocks.{use_of, use_at, HasUnused, numbered};
+
+use crate::block::{Block, UNUSED};
+use crate::filled::filled;
+use crate::row::BlockKind;
+use hd_model::{Kind, Memory};
+use std::alloc::{AllocError, Global};
+use std::marker::Model;
+
+/// The number of kinds.
+const KINDS: usize = 7;
+
+/// The blocks of a table. Their numbers are from 1.
+#[derive(Drop)]
+pub struct Blocks {
+    number: u32,
+    given: u32,
+    table: Vec<Block>,
+    chains: Vec<Vec<u32>>,
+}
+
+impl Model for Blocks {
+    ghost use Rattle.std.specs.Prelude.{◌≤◌, All, map, vec_capacity};
+    ghost use Rattle.hd_seg.specs.Blocks.{Uses, uses_code, uses_in, IsBlocks};
+
+    ghost Value = { Uses };
+
+    ghost coded = { uses_code };
+
+    ghost view = { λ b. uses_in b.number b.table.items (map (λ v. v.items) b.chains.items) };
+
+    ghost invariant = { λ b. IsBlocks b.number b.given b.table.items
+        (map (λ v. v.items) b.chains.items) × All (λ v. b.number ≤ vec_capacity v) b.chains.items };
+}
+
+impl Block {
+    /// Whether the block is used for something.
+    fn has_use(&self) -> bool
+        ensures { result ≡ is_some (use_of self.now.kind) }
+    {
+        match self.kind {
+            BlockKind::Unused => false,
+            BlockKind::Rows(_) | BlockKind::Extras => true,
+        }
+    }
+}
+
+/// The least block from `from` on that has no use.
+fn least_unused(table: &[Block], from: usize) -> usize
+    requires { HasUnused table.now from }
+    ensures low { from ≤ result }
+    ensures high { result < length table.now }
+    ensures unused { use_at table.now result ≡ None }
+    ensures least { (b : ℕ) → from ≤ b → b < result → IsSome (use_at table.now b) }
+{
+    let mut at = from;
+    while table[at].has_use() {
+        at += 1;
+    }
+    at
+}
+
+/// An empty chain for each kind, with room for all blocks.
+fn empty_chains(alloc: Global, room: usize) -> Result<Vec<Vec<u32>>, AllocError>
+    ensures chains { IfOk result (λ chains. map (λ v. v.items) chains.items ≡ replicate 7 []) }
+    ensures rooms { IfOk result (λ chains. All (λ v. room ≤ vec_capacity v) chains.items) }
+{
+    let mut chains = Vec::with_capacity(alloc, KINDS)?;
+    for _kind in 0..KINDS {
+        chains.push_reserved(Vec::with_capacity(alloc, room)?);
+    }
+    Ok(chains)
+}
+
+/// Writes the place of each block of a chain from a place on.
+fn renumber(table: &mut [Block], chain: &[u32], from: usize)
+    requires blocks { (i : ℕ) → i < length chain.now → slice_index chain.now i < length table.old }
+    requires few { length chain.now ≤ 256 }
+    ensures { table.new ≡ numbered from (drop from chain.now) table.old }
+{
+    for place in from..chain.len() {
+        let block = &mut table[chain[place] as usize];
+        block.place = place as u32;
+    }
+}
+
+impl Blocks {
+    /// So many blocks, none of which has a use.
+    pub fn open(alloc: Global, number: u32) -> Result<Blocks, Memory>
+        requires { number ≤ 256 }
+        ensures none { IfOk result (λ uses.
+            uses ≡ record { table = empty_table number; extras = empty }) }
+        ensures table { IfOk result (λ uses. IsTable uses.table) }
+    {
+        let table = filled(alloc, UNUSED, number + 1)?;
+        let Ok(chains) = empty_chains(alloc, number as usize) else {
+            return Err(Memory);
+        };
+        Ok(Blocks {
+            number,
+            given: 0,
+            table,
+            chains,
+        })
+    }
+
+    /// The number of blocks without a use.
+    pub fn unused(&self) -> u32
+        ensures value { result + len self.now.table.uses ≡ self.now.table.blocks }
+    {
+        self.number - self.given
+    }
+
+    /// The number of blocks with a use.
+    pub fn given(&self) -> u32
+        ensures value { result ≡ len self.now.table.uses }
+        ensures table { IsTable self.now.table }
+    {
+        self.given
+    }
+
+    /// What a block is used for.
+    pub fn kind(&self, block: u32) -> BlockKind
+        requires low { 1 ≤ block }
+        requires high { block ≤ self.now.table.blocks }
+        ensures { result ≡ block_kind_of (get self.now.table.uses block) }
+    {
+        self.table[block as usize].kind
+    }
+
+    /// The block with the extras of a block's rows, if they have any. The block may be any number.
+    pub fn extras(&self, block: u32) -> Option<u32>
+        ensures value { result ≡ get self.now.extras block }
+    {
+        if block == 0 || block > self.number {
+            return None;
+        }
+        self.table[block as usize].extras
+    }
+
+    /// Gives the least block without a use to a kind, at the end of its chain.
+    pub fn add(&mut self, kind: Kind) -> u32
+        requires { len self.old.table.uses < self.old.table.blocks }
+        ensures least { IsLeastWithout self.old.table 1 result }
+        ensures plain { get self.old.extras result ≡ None }
+        ensures after { let table = with_block self.old.table kind result in
+            self.new ≡ record self.old { table = table } }
+        ensures table { IsTable self.new.table }
+    {
+        let block = least_unused(&self.table, 1);
+        let chain = &mut self.chains[kind.number() as usize];
+        let place = chain.len() as u32;
+        chain.push_reserved(block as u32);
+        self.table[block] = Block {
+            kind: BlockKind::Rows(kind),
+            place,
+            extras: None,
+        };
+        self.given += 1;
+        block as u32
+    }
+
+    /// Gives the least block after `block` that has no use to the extras of its rows.
+    pub fn add_data(&mut self, block: u32) -> u32
+        requires room { len self.old.table.uses < self.old.table.blocks }
+        requires used { (b : ℕ) → 1 ≤ b → b ≤ block → IsSome (get self.old.table.uses b) }
+        requires low { 1 ≤ block }
+        requires high { block ≤ self.old.table.blocks }
+        ensures least { IsLeastWithout self.old.table (block + 1) result }
+        ensures after { self.new ≡ record {
+          table = with_data self.old.table result;
+          extras = insert self.old.extras block result;
+        } }
+        ensures table { IsTable self.new.table }
+    {
+        let data = least_unused(&self.table, block as usize + 1);
+        let of = &mut self.table[block as usize];
+        of.extras = Some(data as u32);
+        let extras = &mut self.table[data];
+        extras.kind = BlockKind::Extras;
+        self.given += 1;
+        data as u32
+    }
+
+    /// Takes a block of handles from its kind.
+    pub fn remove(&mut self, block: u32)
+        requires handles { has_handles (get self.old.table.uses block) ≡ true }
+        requires plain { get self.old.extras block ≡ None }
+        ensures after { let kind = kind_at self.old.table block in
+            self.new ≡ record self.old { table = without_block self.old.table kind block } }
+        ensures table { IsTable self.new.table }
+    {
+        let at = self.table[block as usize];
+        match at.kind {
+            BlockKind::Unused | BlockKind::Extras => unreachable!(),
+            BlockKind::Rows(kind) => {
+                self.table[block as usize] = UNUSED;
+                let chain = &mut self.chains[kind.number() as usize];
+                chain.remove(at.place as usize);
+                renumber(&mut self.table, chain, at.place as usize);
+                self.given -= 1;
+            }
+        }
+    }
+
+    /// The first block of the chain of a kind.
+    pub fn first(&self, kind: Kind) -> Option<u32>
+        ensures { result ≡ slice_get (chain_of self.now.table kind) 0 }
+    {
+        let chain = &self.chains[kind.number() as usize];
+        chain.first().copied()
+    }
+
+    /// The block after a block of handles in its chain.
+    pub fn after(&self, block: u32) -> Option<u32>
+        requires { has_handles (get self.now.table.uses block) ≡ true }
+        ensures { let kind = kind_at self.now.table block in
+            (before after : List ℕ) → chain_of self.now.table kind ≡ before ++ block ∷ after →
+            result ≡ slice_get after 0 }
+    {
+        let at = self.table[block as usize];
+        match at.kind {
+            BlockKind::Unused | BlockKind::Extras => unreachable!(),
+            BlockKind::Rows(kind) => {
+                let chain = &self.chains[kind.number() as usize];
+                chain.get(at.place as usize + 1).copied()
+            }
+        }
+    }
+}

@@ -1,0 +1,15 @@
+// The cells of blocks. A block has 64 of them, for the targets of its rows or for their extras.
+
+use crate::row::Extra;
+use hd_model::Addr;
+
+/// One cell of a block.
+#[derive(Clone, Copy)]
+pub enum Cell {
+    /// There is no live row here.
+    Empty,
+    /// The target of a live row.
+    Target(Option<Addr>),
+    /// The extra of the live row that stands in this place of the block beside this one.
+    Extra(Extra),
+}

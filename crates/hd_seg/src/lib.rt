@@ -1,0 +1,19 @@
+//! The table of handles: blocks of 64 rows, one kind of handle to a block, and for each kind the
+//! chain of its blocks.
+//!
+//! The extra of a row, its strength, count or secondary, stands in a data block beside its block.
+//! All memory is taken when a table is opened.
+#![tactic(auto)]
+
+mod block;
+mod blocks;
+mod cells;
+mod filled;
+mod row;
+mod seg;
+#[cfg(test)]
+mod tests;
+mod writes;
+
+pub use row::{BlockKind, Extra, Full, Row};
+pub use seg::Seg;

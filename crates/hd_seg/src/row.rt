@@ -1,0 +1,33 @@
+use hd_model::{Addr, Kind, Strength};
+
+/// What a row has beside its target.
+#[derive(Clone, Copy, Debug, PartialEq, Eq)]
+pub enum Extra {
+    Nothing,
+    Strength(Strength),
+    Secondary(Option<Addr>),
+    Count(u32),
+}
+
+/// A live row: the address that its handle names, or null, and its extra.
+#[derive(Clone, Copy, Debug, PartialEq, Eq)]
+pub struct Row {
+    pub target: Option<Addr>,
+    pub extra: Extra,
+}
+
+/// What a block is used for.
+#[derive(Clone, Copy, Debug, PartialEq, Eq)]
+pub enum BlockKind {
+    Unused,
+    /// Rows of one kind of handle.
+    Rows(Kind),
+    /// The extras of the rows of another block.
+    Extras,
+}
+
+/// Too few blocks are unused. `given` is the number of blocks that have a use.
+#[derive(Clone, Copy, Debug, PartialEq, Eq)]
+pub struct Full {
+    pub given: u32,
+}

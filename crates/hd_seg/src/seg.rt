@@ -1,0 +1,232 @@
+ghost use Rattle.std.specs.Prelude.{◌≡◌, ℕ, ◌+◌, ◌*◌, ◌/◌, ◌<◌, ◌≤◌, ◌++◌, ◌∷◌, List, Bool, true, cond, Some, None};
+ghost use Rattle.std.specs.Prelude.{option_map, slice_get, IfOk, IfErr, OnOk, OnErr, IfSome, IsSome};
+ghost use Rattle.std.specs.FinMap.{get, len, contains_key};
+ghost use Rattle.std.specs.Int.{bit_at};
+ghost use Rattle.hd_model.specs.State.{handles_of};
+ghost use Rattle.hd_model.specs.Step.{blocks_needed};
+ghost use Rattle.hd_model.specs.Table.{IsTable, IsGrowth, chain_of, empty_table, fits, fits_in, grown_by};
+ghost use Rattle.hd_model.specs.Table.{has_handles, is_single, kind_at, live_at, with_row, without_row};
+ghost use Rattle.hd_model.specs.Table.{without_block};
+ghost use Rattle.hd_seg.specs.Row.{extra_of, handle_of, row_of, block_kind_of};
+
+use crate::blocks::Blocks;
+use crate::cells::Cell;
+use crate::filled::filled;
+use crate::row::{BlockKind, Extra, Full, Row};
+use crate::writes::{cell_of, extra_in, extra_place, write_cell};
+use hd_mask::bit;
+use hd_model::limits::{CLUMPS, ROWS};
+use hd_model::{Addr, Grown, Kind, Memory, Slot};
+use std::alloc::Global;
+use std::marker::Model;
+
+/// The rows of a clump.
+const CLUMP_ROWS: u32 = ROWS / CLUMPS;
+
+/// The lowest rows, as many as a clump has.
+const CLUMP_MASK: u64 = 0xffff;
+
+/// The table of handles.
+///
+/// A mask has a bit for each live row of a block. Cells and masks of block 0 are not used.
+#[derive(Drop)]
+pub struct Seg {
+    blocks: Blocks,
+    cells: Vec<Cell>,
+    masks: Vec<u64>,
+    live: u32,
+}
+
+impl Model for Seg {
+    ghost use Rattle.hd_model.specs.Table.{Table};
+    ghost use Rattle.hd_model.specs.Code.{table_code};
+    ghost use Rattle.hd_seg.specs.Cells.{table_in, IsSeg};
+
+    ghost Value = { Table };
+
+    ghost coded = { table_code };
+
+    ghost view = { λ s. table_in s.blocks s.cells.items };
+
+    ghost invariant = { λ s. IsSeg s.blocks s.cells.items s.masks.items s.live };
+}
+
+impl Seg {
+    /// A table of so many blocks, none of which has a use. All memory is taken here.
+    pub fn open(alloc: Global, blocks: u32) -> Result<Seg, Memory>
+        requires { blocks ≤ 256 }
+        ensures { IfOk result (λ table. table ≡ empty_table blocks) }
+    {
+        let cells = filled(alloc, Cell::Empty, ROWS * (blocks + 1))?;
+        let masks = filled(alloc, 0, blocks + 1)?;
+        let blocks = Blocks::open(alloc, blocks)?;
+        Ok(Seg {
+            blocks,
+            cells,
+            masks,
+            live: 0,
+        })
+    }
+
+    /// Gives a block to a kind, at the end of its chain, and a data block beside it where the kind
+    /// has extra data. After a refusal nothing is changed.
+    pub fn give_block(&mut self, kind: Kind) -> Result<Grown, Full>
+        ensures grown { IfOk result (IsGrowth self.old kind) }
+        ensures after { IfOk result (λ grown. self.new ≡ grown_by self.old kind grown) }
+        ensures room { OnOk result (len self.old.uses + blocks_needed kind ≤ self.old.blocks) }
+        ensures full { OnErr result (self.old.blocks < len self.old.uses + blocks_needed kind) }
+        ensures given { IfErr result (λ full. full.given ≡ len self.old.uses) }
+        ensures kept { OnErr result (self.new ≡ self.old) }
+        ensures table { IsTable self.new }
+    {
+        let needed = if kind.paired() { 2 } else { 1 };
+        if self.blocks.unused() < needed {
+            let given = self.blocks.given();
+            return Err(Full { given });
+        }
+        let block = self.blocks.add(kind);
+        if !kind.paired() {
+            return Ok(Grown::One(block));
+        }
+        let data = self.blocks.add_data(block);
+        Ok(Grown::Two(block, data))
+    }
+
+    /// Takes a block without live rows from a kind without extra data. Other blocks of the chain
+    /// keep their order.
+    pub fn take_back(&mut self, block: u32)
+        requires single { is_single (get self.old.uses block) ≡ true }
+        requires vacant { (slot : ℕ) → slot / 64 ≡ block → get self.old.rows slot ≡ None }
+        ensures { self.new ≡ without_block self.old (kind_at self.old block) block }
+    {
+        self.blocks.remove(block);
+    }
+
+    /// What a block is used for.
+    pub fn block_kind(&self, block: u32) -> BlockKind
+        requires low { 1 ≤ block }
+        requires high { block ≤ self.now.blocks }
+        ensures value { result ≡ block_kind_of (get self.now.uses block) }
+        ensures table { IsTable self.now }
+    {
+        self.blocks.kind(block)
+    }
+
+    /// The number of blocks that have a use.
+    pub fn given(&self) -> u32
+        ensures value { result ≡ len self.now.uses }
+        ensures table { IsTable self.now }
+    {
+        self.blocks.given()
+    }
+
+    /// The number of live rows.
+    pub fn live(&self) -> u32
+        ensures value { result ≡ len self.now.rows }
+        ensures table { IsTable self.now }
+    {
+        self.live
+    }
+
+    /// The row of a slot, if the slot is live. The slot may be any number.
+    pub fn row(&self, slot: Slot) -> Option<Row>
+        ensures value { result ≡ option_map row_of (get self.now.rows slot.0) }
+        ensures table { IsTable self.now }
+    {
+        match cell_of(&self.cells, slot) {
+            Cell::Empty | Cell::Extra(_) => None,
+            Cell::Target(target) => {
+                let extra = extra_in(&self.cells, extra_place(&self.blocks, slot));
+                Some(Row { target, extra })
+            }
+        }
+    }
+
+    /// Puts a row into a slot that is not live.
+    pub fn put_row(&mut self, slot: Slot, row: Row)
+        requires vacant { get self.old.rows slot.0 ≡ None }
+        requires fitting { fits_in (get self.old.uses (slot.0 / 64)) (extra_of row.extra) ≡ true }
+        ensures { let kind = kind_at self.old (slot.0 / 64) in
+            self.new ≡ with_row self.old slot.0 (handle_of kind row) }
+    {
+        let place = extra_place(&self.blocks, slot);
+        let block = (slot.0 / ROWS) as usize;
+        self.cells[slot.0 as usize] = Cell::Target(row.target);
+        write_cell(&mut self.cells, place, Cell::Extra(row.extra));
+        self.masks[block] |= bit(slot.0 % ROWS);
+        self.live += 1;
+    }
+
+    /// Ends a live slot. Nothing of its row stays.
+    pub fn take_row(&mut self, slot: Slot)
+        requires { IsSome (get self.old.rows slot.0) }
+        ensures { self.new ≡ without_row self.old slot.0 }
+    {
+        let place = extra_place(&self.blocks, slot);
+        let block = (slot.0 / ROWS) as usize;
+        self.cells[slot.0 as usize] = Cell::Empty;
+        write_cell(&mut self.cells, place, Cell::Empty);
+        self.masks[block] ^= bit(slot.0 % ROWS);
+        self.live -= 1;
+    }
+
+    /// Gives a live row another target.
+    pub fn set_row(&mut self, slot: Slot, target: Option<Addr>)
+        requires { IsSome (get self.old.rows slot.0) }
+        ensures { let handle = live_at self.old slot.0 in
+            self.new ≡ with_row self.old slot.0 (record handle { target = target }) }
+    {
+        self.cells[slot.0 as usize] = Cell::Target(target);
+    }
+
+    /// Gives a live row another extra.
+    pub fn set_extra(&mut self, slot: Slot, extra: Extra)
+        requires live { IsSome (get self.old.rows slot.0) }
+        requires fitting { fits (live_at self.old slot.0).kind (extra_of extra) ≡ true }
+        ensures { let handle = live_at self.old slot.0 in
+            self.new ≡ with_row self.old slot.0 (record handle { extra = extra_of extra }) }
+    {
+        let place = extra_place(&self.blocks, slot);
+        write_cell(&mut self.cells, place, Cell::Extra(extra));
+    }
+
+    /// The first block of the chain of a kind, if it has one.
+    pub fn first(&self, kind: Kind) -> Option<u32>
+        ensures value { result ≡ slice_get (chain_of self.now kind) 0 }
+        ensures within { IfSome result (λ block. (1 ≤ block) × (block ≤ self.now.blocks)) }
+        ensures of_kind { IfSome result (λ block.
+            get self.now.uses block ≡ Some (handles_of kind)) }
+        ensures table { IsTable self.now }
+    {
+        self.blocks.first(kind)
+    }
+
+    /// The block after a block of handles in its chain, if there is one.
+    pub fn after(&self, block: u32) -> Option<u32>
+        requires { has_handles (get self.now.uses block) ≡ true }
+        ensures value { let kind = kind_at self.now block in
+            (before after : List ℕ) → chain_of self.now kind ≡ before ++ block ∷ after →
+            result ≡ slice_get after 0 }
+        ensures within { IfSome result (λ next. (1 ≤ next) × (next ≤ self.now.blocks)) }
+        ensures of_kind { let kind = kind_at self.now block in
+            IfSome result (λ next. get self.now.uses next ≡ Some (handles_of kind)) }
+        ensures table { IsTable self.now }
+    {
+        self.blocks.after(block)
+    }
+
+    /// The live rows of a clump of sixteen, by bits, for a clump from 0 to 3 of a block. Bit `i` is
+    /// the clump's row `i`.
+    pub fn clump(&self, block: u32, clump: u32) -> u16
+        requires low { 1 ≤ block }
+        requires high { block ≤ self.now.blocks }
+        requires clump { clump < 4 }
+        ensures bits { let first = 64 * block + 16 * clump in
+            (i : ℕ) → i < 16 →
+            bit_at result i ≡ cond (contains_key self.now.rows (first + i)) 1 0 }
+        ensures table { IsTable self.now }
+    {
+        let mask = self.masks[block as usize];
+        (mask >> (CLUMP_ROWS * clump) & CLUMP_MASK) as u16
+    }
+}

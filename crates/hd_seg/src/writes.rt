@@ -1,0 +1,50 @@
+ghost use Rattle.std.specs.Prelude.{◌≡◌, ℕ, ◌<◌, ◌≤◌, Some, length};
+ghost use Rattle.std.specs.FinMap.{get};
+ghost use Rattle.std.specs.Option.{ForSome};
+ghost use Rattle.hd_seg.specs.Cells.{cell_at, cell_in, extra_held, extra_place, with_cell};
+
+use crate::blocks::Blocks;
+use crate::cells::Cell;
+use crate::row::Extra;
+use hd_model::Slot;
+use hd_model::limits::ROWS;
+
+/// Where the extra of a slot's row stands, if its block has a data block.
+pub fn extra_place(blocks: &Blocks, slot: Slot) -> Option<usize>
+    requires { (b d : ℕ) → get blocks.now.extras b ≡ Some d → d ≤ 256 }
+    ensures { result ≡ extra_place blocks.now slot.0 }
+{
+    let data = blocks.extras(slot.0 / ROWS)?;
+    Some((data * ROWS + slot.0 % ROWS) as usize)
+}
+
+/// The cell of a slot, which may be any number.
+pub fn cell_of(cells: &[Cell], slot: Slot) -> Cell
+    ensures { result ≡ cell_at cells.now slot.0 }
+{
+    cells.get(slot.0 as usize).copied().unwrap_or(Cell::Empty)
+}
+
+/// The extra in a cell, where there is one.
+pub fn extra_in(cells: &[Cell], place: Option<usize>) -> Extra
+    requires { ForSome place (λ q. q < length cells.now) }
+    ensures { result ≡ extra_held (cell_in cells.now place) }
+{
+    let Some(place) = place else {
+        return Extra::Nothing;
+    };
+    match cells[place] {
+        Cell::Extra(extra) => extra,
+        Cell::Empty | Cell::Target(_) => Extra::Nothing,
+    }
+}
+
+/// Writes a cell, where there is one.
+pub fn write_cell(cells: &mut [Cell], place: Option<usize>, cell: Cell)
+    requires { ForSome place (λ q. q < length cells.old) }
+    ensures { cells.new ≡ with_cell cells.old place cell }
+{
+    if let Some(place) = place {
+        cells[place] = cell;
+    }
+}
