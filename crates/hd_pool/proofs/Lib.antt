@@ -1,0 +1,4 @@
+pub mod Places
+pub mod Sets
+pub mod Marks
+pub mod Pools

@@ -1,0 +1,154 @@
+-- Members of sets of numbers after one change, and of runs of numbers.
+use Rattle.std.proofs.Common.{◌≡◌, ◌≢◌, ◌⊎◌, ℕ, zero, suc, ◌+◌, ◌*◌, ◌/◌, ◌<◌, ◌≤◌, Bool, true, false, not, cond, ◌||◌, ◌&&◌, List, ◌∷◌, filter, inl, inr, refl, ap, ◌∙◌, arith}
+use Rattle.std.specs.Prelude.{nat_eq}
+use Rattle.std.specs.List.{list_any, range_with_len}
+use Rattle.std.specs.Ordering.{nat_cmp, eq_by_cmp}
+use Rattle.std.specs.Cmp.{nat_cmp_total, unsigned_tied}
+use Rattle.std.specs.FinSet.{FinSet, contains, insert, remove, union, difference, contains-empty, contains-insert, contains-remove, contains-union, contains-difference, contains-from_list_nat}
+use Rattle.std.specs.FinMap.{get-insert, get-remove, get-empty}
+use Rattle.std.proofs.lemmas.Bool.{eq-eqb, ne_eqb, cases_eq}
+use Rattle.hd_pool.specs.Masks.{numbers_of}
+
+or-true : (a : Bool) → (a || true) ≡ true
+or-true true = refl
+or-true false = refl
+
+or-false : (a : Bool) → (a || false) ≡ a
+or-false true = refl
+or-false false = refl
+
+and-true : (a : Bool) → (a && true) ≡ a
+and-true true = refl
+and-true false = refl
+
+and-false : (a : Bool) → (a && false) ≡ false
+and-false true = refl
+and-false false = refl
+
+-- ---- one number
+
+module _ (s : FinSet nat_cmp) (k q : ℕ) where
+  pub insert_same : q ≡ k → contains (insert s k) q ≡ true
+  insert_same e = contains-insert nat_cmp_total s k q ∙ ap (λ b. b || contains s q)
+      (unsigned_tied q k ∙ eq-eqb q k e)
+
+  pub insert_other : q ≢ k → contains (insert s k) q ≡ contains s q
+  insert_other apart = contains-insert nat_cmp_total s k q ∙ ap (λ b. b || contains s q)
+      (unsigned_tied q k ∙ ne_eqb q k apart)
+
+  pub insert_keeps : contains s q ≡ true → contains (insert s k) q ≡ true
+  insert_keeps member = contains-insert nat_cmp_total s k q ∙ ap (λ b. eq_by_cmp nat_cmp q k || b) member ∙
+      or-true _
+
+  pub remove_same : q ≡ k → contains (remove s k) q ≡ false
+  remove_same e = contains-remove nat_cmp_total s k q ∙ ap (λ b. not b && contains s q)
+      (unsigned_tied q k ∙ eq-eqb q k e)
+
+  pub remove_other : q ≢ k → contains (remove s k) q ≡ contains s q
+  remove_other apart = contains-remove nat_cmp_total s k q ∙ ap (λ b. not b && contains s q)
+      (unsigned_tied q k ∙ ne_eqb q k apart)
+
+-- ---- a run of numbers
+
+module _ (q : ℕ) where
+  any_at : (a : ℕ) (rest : List ℕ) (b : Bool) → list_any (λ y. nat_eq y q) rest ≡ b → a ≢ q → list_any
+      (λ y. nat_eq y q) (a ∷ rest) ≡ b
+  any_at a rest b is apart = ap (λ t. t || list_any (λ y. nat_eq y q) rest) (ne_eqb a q apart) ∙ is
+
+  any_here : (a : ℕ) (rest : List ℕ) → a ≡ q → list_any (λ y. nat_eq y q) (a ∷ rest) ≡ true
+  any_here a rest e = ap (λ t. t || list_any (λ y. nat_eq y q) rest) (eq-eqb a q e)
+
+  pub run_in : (n a : ℕ) → a ≤ q → q < a + n → list_any (λ y. nat_eq y q) (range_with_len a n) ≡ true
+  run_in zero a low high = absurd (omega arith)
+  run_in (suc n) a low high =
+      elim (cases_eq a q) [
+        | inl e ↦ any_here a _ e
+        | inr apart ↦ any_at a _ true (run_in n (a + 1) (omega arith) (omega arith)) apart
+      ]
+
+  pub run_outside : (n a : ℕ) → (q < a) ⊎ (a + n ≤ q) → list_any (λ y. nat_eq y q) (range_with_len a n) ≡
+      false
+  run_outside zero a out = refl
+  run_outside (suc n) a (inl low) = any_at a _ false (run_outside n (a + 1) (inl (omega arith)))
+      (λ e. omega arith)
+  run_outside (suc n) a (inr high) = any_at a _ false (run_outside n (a + 1) (inr (omega arith)))
+      (λ e. omega arith)
+
+  -- the numbers of a run that pass a test
+  module _ (p : ℕ → Bool) where
+    kept_at : (a : ℕ) (rest : List ℕ) (b : Bool) → list_any (λ y. nat_eq y q) rest ≡ b → a ≢ q → (t : Bool) →
+        list_any (λ y. nat_eq y q) (cond t (a ∷ rest) rest) ≡ b
+    kept_at a rest b is apart true = any_at a rest b is apart
+    kept_at a rest b is apart false = is
+
+    pub kept_outside : (n a : ℕ) → (q < a) ⊎ (a + n ≤ q) → list_any (λ y. nat_eq y q)
+        (filter p (range_with_len a n)) ≡ false
+    kept_outside zero a out = refl
+    kept_outside (suc n) a (inl low) = kept_at a _ false (kept_outside n (a + 1) (inl (omega arith)))
+        (λ e. omega arith) (p a)
+    kept_outside (suc n) a (inr high) = kept_at a _ false (kept_outside n (a + 1) (inr (omega arith)))
+        (λ e. omega arith) (p a)
+
+    kept_here : (a : ℕ) (rest : List ℕ) → a ≡ q → list_any (λ y. nat_eq y q) rest ≡ false → (t : Bool) →
+        list_any (λ y. nat_eq y q) (cond t (a ∷ rest) rest) ≡ t
+    kept_here a rest e none true = any_here a rest e
+    kept_here a rest e none false = none
+
+    pub kept_in : (n a : ℕ) → a ≤ q → q < a + n → list_any (λ y. nat_eq y q) (filter p (range_with_len a n)) ≡
+        p q
+    kept_in zero a low high = absurd (omega arith)
+    kept_in (suc n) a low high =
+        elim (cases_eq a q) [
+          | inl e ↦ kept_here a _ e (kept_outside n (a + 1) (inl (omega arith))) (p a) ∙ ap p e
+          | inr apart ↦ kept_at a _ (p q) (kept_in n (a + 1) (omega arith) (omega arith)) apart (p a)
+        ]
+
+-- ---- the numbers of one mask
+
+module _ (mask q : ℕ) where
+  pub numbers_same : q / 64 ≡ mask → contains (numbers_of mask) q ≡ true
+  unfolding numbers_of
+  numbers_same e = contains-from_list_nat (range_with_len (64 * mask) 64) q ∙ run_in q 64 (64 * mask)
+      (omega arith) (omega arith)
+
+  out : q / 64 ≢ mask → (q < 64 * mask) ⊎ (64 * mask + 64 ≤ q)
+  out apart =
+      elim (Rattle.std.proofs.lemmas.Bool.cases_order (q / 64) mask) [
+        | inl e ↦ absurd (apart e)
+        | inr (inl less) ↦ inl (omega arith)
+        | inr (inr more) ↦ inr (omega arith)
+      ]
+
+  pub numbers_other : q / 64 ≢ mask → contains (numbers_of mask) q ≡ false
+  unfolding numbers_of
+  numbers_other apart = contains-from_list_nat (range_with_len (64 * mask) 64) q ∙ run_outside q 64
+      (64 * mask) (out apart)
+
+  module _ (s : FinSet nat_cmp) where
+    pub union_same : q / 64 ≡ mask → contains (union s (numbers_of mask)) q ≡ true
+    union_same e = contains-union nat_cmp_total s (numbers_of mask) q ∙ ap (λ b. contains s q || b)
+        (numbers_same e) ∙ or-true _
+
+    pub union_other : q / 64 ≢ mask → contains (union s (numbers_of mask)) q ≡ contains s q
+    union_other apart = contains-union nat_cmp_total s (numbers_of mask) q ∙ ap (λ b. contains s q || b)
+        (numbers_other apart) ∙ or-false _
+
+    pub difference_same : q / 64 ≡ mask → contains (difference s (numbers_of mask)) q ≡ false
+    difference_same e = contains-difference nat_cmp_total s (numbers_of mask) q ∙ ap
+        (λ b. contains s q && not b) (numbers_same e) ∙ and-false _
+
+    pub difference_other : q / 64 ≢ mask → contains (difference s (numbers_of mask)) q ≡ contains s q
+    difference_other apart = contains-difference nat_cmp_total s (numbers_of mask) q ∙ ap
+        (λ b. contains s q && not b) (numbers_other apart) ∙ and-true _
+
+-- for `grind`: what a pool has after its calls
+pub ruleset pooled = (
+  get-insert,
+  get-remove,
+  get-empty,
+  contains-insert,
+  contains-remove,
+  contains-union,
+  contains-empty,
+  nat_cmp_total,
+)

@@ -1,0 +1,16 @@
+use Rattle.std.proofs.Common.{◌≡◌, ◌/◌, ◌<◌, length, get_or, ap, ◌∙◌, arith, bit_or}
+use Rattle.std.specs.FinSet.{insert}
+use Rattle.std.proofs.lemmas.Grind.{get_or_default_zero}
+use Rattle.hd_pool.proofs.Marks.{room_is, inserted, written}
+use Rattle.hd_pool.proofs.masks.MaskSet.insert.Goals as goal
+
+pub returns : goal.returns
+returns c =
+    let masks = c.self.inside.masks.items in
+    let i = c.args.i in
+    let mask = c.index-mask.result.now in
+    let within : i / 64 < length masks = omega (arith, room_is masks c.args.self.now c.self.view_is) in
+    let read : mask ≡ get_or masks (i / 64) 0 = c.index-mask.ensures ∙ get_or_default_zero masks (i / 64) mask
+    within in
+    written masks c.args.self.now c.self.view_is (i / 64) (bit_or mask c.bit.result) (λ s. insert s i)
+    (inserted masks i mask within read (bit_or mask c.bit.result) (ap (bit_or mask) c.bit.ensures.value))

@@ -1,0 +1,26 @@
+use Rattle.std.proofs.Common.{◌≡◌, ◌<◌, length, get_or, ap, ◌∙◌, arith}
+use Rattle.std.specs.Prelude.{is_some}
+use Rattle.std.proofs.lemmas.Grind.{get_or_default_zero}
+use Rattle.hd_pool.proofs.Marks.{room_is, found, none_more}
+use Rattle.hd_pool.proofs.masks.MaskSet.least_between.Goals as goal
+
+pub returns-in-Some-clause-found : goal.returns-in-Some-clause-found
+returns-in-Some-clause-found c =
+    let masks = c.self.inside.masks.items in
+    let at = c.loop-at.at in
+    let mask = c.index.result.now in
+    let within : at < length masks = omega (arith, room_is masks c.args.self.now c.self.view_is) in
+    let read : mask ≡ get_or masks at 0 = c.index.ensures ∙ get_or_default_zero masks at mask within in
+    found masks c.args.self.now c.self.view_is at mask read c.args.from c.args.to c.loop-at.invariant
+    c.in-Some.row
+    (omega arith) (omega arith) c.in-Some.ensures.within c.in-Some.ensures.set c.in-Some.ensures.least
+
+pub loop-at-preserved : goal.loop-at-preserved
+loop-at-preserved c =
+    let masks = c.self.inside.masks.items in
+    let at = c.loop-at.at in
+    let mask = c.index.result.now in
+    let within : at < length masks = omega (arith, room_is masks c.args.self.now c.self.view_is) in
+    let read : mask ≡ get_or masks at 0 = c.index.ensures ∙ get_or_default_zero masks at mask within in
+    none_more masks c.args.self.now c.self.view_is at mask read c.args.from c.loop-at.invariant
+    (c.lowest.ensures.none.0 (ap is_some c.in_default.is))

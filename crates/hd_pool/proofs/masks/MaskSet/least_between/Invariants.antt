@@ -1,0 +1,6 @@
+use Rattle.std.proofs.Common.{◌*◌}
+use Rattle.hd_pool.specs.Masks.{HasNoneBetween}
+use Rattle.hd_pool.proofs.masks.MaskSet.least_between.Given as goal
+
+abbrev pub invariant-loop-at : goal.invariant-loop-at
+invariant-loop-at l = HasNoneBetween l.self.members (64 * l.from) (64 * l.at)

@@ -1,0 +1,19 @@
+use Rattle.std.proofs.Common.{◌≡◌, ◌/◌, ◌^◌, ◌<◌, length, get_or, ap, ◌∙◌, arith, bit_and}
+use Rattle.std.specs.FinSet.{remove}
+use Rattle.std.specs.Int.{bit_not, w64}
+use Rattle.std.proofs.lemmas.Grind.{get_or_default_zero}
+use Rattle.hd_pool.proofs.Marks.{room_is, removed, written}
+use Rattle.hd_pool.proofs.masks.MaskSet.remove.Goals as goal
+
+pub returns : goal.returns
+returns c =
+    let masks = c.self.inside.masks.items in
+    let i = c.args.i in
+    let mask = c.index-mask.result.now in
+    let word = bit_and mask (bit_not w64 c.bit.result) in
+    let within : i / 64 < length masks = omega (arith, room_is masks c.args.self.now c.self.view_is) in
+    let fits : mask < 2 ^ 64 = omega arith in
+    let read : mask ≡ get_or masks (i / 64) 0 = c.index-mask.ensures ∙ get_or_default_zero masks (i / 64) mask
+    within in
+    written masks c.args.self.now c.self.view_is (i / 64) word (λ s. remove s i)
+    (removed masks i mask within read fits word (ap (λ b. bit_and mask (bit_not w64 b)) c.bit.ensures.value))

@@ -1,0 +1,37 @@
+use Rattle.std.proofs.Common.{◌≡◌, ◌+◌, ◌*◌, ◌-◌, ℕ, None, length, replicate, get_or, sym, ap, ◌∙◌, arith, rules}
+use Rattle.std.specs.FinSet.{empty}
+use Rattle.hd_pool.specs.Masks.{Held}
+use Rattle.hd_pool.specs.Inside.{kind_at}
+use Rattle.hd_pool.proofs.Places.{by_place-empty, get_or-replicate_None}
+use Rattle.hd_pool.proofs.Pools.{opened_empty}
+use Rattle.hd_pool.proofs.pool.Pool.open.Goals as goal
+use Rattle.hd_pool.proofs.pool.Pool.open.Goals.{After-vec}
+
+all : (c : goal.In-Ok) → c.in-Ok.kinds.items ≡ replicate (c.args.blocks + 1) None
+all c = search rules
+
+none : (c : goal.In-Ok) (b : ℕ) → kind_at c.in-Ok.kinds.items b ≡ None
+none c b = ap (λ xs. get_or xs b None) (all c) ∙ get_or-replicate_None (c.args.blocks + 1) b
+
+long : (c : goal.In-Ok) → length c.in-Ok.kinds.items ≡ c.args.blocks + 1
+long c = omega (arith, c.in-Ok.ensures.len, c.in-Ok.kinds.ok.0)
+
+room : (c : goal.In-Ok) → ◌≡◌ {A = Held} (record { room = 64 * (c.args.blocks + 1); members = empty })
+    (record { room = 64 * length c.in-Ok.kinds.items; members = empty })
+room c = ap (λ n. record { room = 64 * n; members = empty }) (sym (long c))
+
+pub invariant_of-result : goal.invariant_of-result
+invariant_of-result c =
+    opened_empty c.in-Ok.kinds.items c.in_ok-free.free c.in_ok-ready.ready (none c) (omega (arith, long c))
+    (omega (arith, long c, c.requires))
+    (c.in_ok-free.ensures ∙ room c) c.in_ok-ready.ensures
+
+pub returns-in-Ok : goal.returns-in-Ok
+returns-in-Ok c =
+    let blocks : length c.in-Ok.kinds.items - 1 ≡ c.args.blocks = omega (arith, long c) in
+    λ i. record {
+      blocks = blocks i;
+      kinds = by_place-empty c.in-Ok.kinds.items (none c) i;
+      free = ap
+          (λ (s : Held). s.members) c.in_ok-free.ensures i;
+    }

@@ -1,0 +1,46 @@
+use Rattle.std.proofs.Common.{◌≡◌, Some, arith, refl, rules, below_more}
+use Rattle.std.proofs.lemmas.Bool.{true≢false, both_ways}
+use Rattle.hd_pool.specs.Inside.{kind_at}
+use Rattle.hd_pool.proofs.Pools.{is_whole, whole_kind, whole_all, whole_within, least_whole}
+use Rattle.hd_pool.proofs.pool.Pool.whole.Goals as goal
+use Rattle.hd_pool.proofs.pool.Pool.whole.Goals.{else-eq-via-then-eq+else-is_full, else-eq-via-else-eq}
+
+pub returns-then-is_full-clause-least : goal.returns-then-is_full-clause-least
+returns-then-is_full-clause-least c =
+    let kinds = c.self.inside.kinds.items in
+    let of_kind : kind_at kinds c.loop-block.block ≡ Some c.args.kind = search rules in
+    least_whole kinds c.self.inside.free c.args.self.now c.self.view_is c.args.kind c.loop-block.block
+    (is_whole kinds c.self.inside.free c.args.self.now c.self.view_is c.args.kind c.loop-block.block of_kind
+    (c.is_full.ensures.0 c.if-is_full.true)) c.loop-block.invariant
+
+pub returns-then-is_full-clause-none : goal.returns-then-is_full-clause-none
+returns-then-is_full-clause-none c = let l = returns-then-is_full-clause-least c in
+    (λ e. absurd (true≢false e), λ none. absurd (none c.loop-block.block l.whole))
+
+pub loop-block-preserved : goal.loop-block-preserved
+loop-block-preserved c =
+    below_more _ _ c.loop-block.invariant (λ whole. elim c.else-eq.branch [
+      | else-eq-via-then-eq+else-is_full w ↦ both_ways w.is_full.result w.if-is_full.false
+          (w.is_full.ensures.1 (whole_all c.self.inside.kinds.items c.self.inside.free c.args.self.now
+          c.self.view_is c.args.kind c.loop-block.block whole))
+      | else-eq-via-else-eq w ↦
+          let is : kind_at c.self.inside.kinds.items c.loop-block.block ≡ Some c.args.kind = whole_kind
+          c.self.inside.kinds.items c.self.inside.free c.args.self.now c.self.view_is c.args.kind
+          c.loop-block.block whole in
+          let isnt : kind_at c.self.inside.kinds.items c.loop-block.block ≡ Some c.args.kind → ⊥ = search
+          rules in isnt is
+    ])
+
+pub returns-clause-none : goal.returns-clause-none
+returns-clause-none c = (
+  λ _ block whole. c.loop-block.invariant block
+      (omega (
+        arith,
+        c.loop-block-test.false,
+        c.deref-given-items.ensures.len,
+        c.self.inside.kinds.ok.0,
+        whole_within c.self.inside.kinds.items c.self.inside.free c.args.self.now c.self.view_is c.args.kind
+            block whole,
+      )) whole,
+  λ _. refl,
+)

@@ -1,0 +1,6 @@
+use Rattle.std.proofs.Common.{ℕ, ◌<◌}
+use Rattle.hd_pool.specs.Pool.{IsWholeOf}
+use Rattle.hd_pool.proofs.pool.Pool.whole.Given as goal
+
+abbrev pub invariant-loop-block : goal.invariant-loop-block
+invariant-loop-block l = (b : ℕ) → b < l.block → ¬ (IsWholeOf l.self l.kind b)

@@ -1,0 +1,45 @@
+-- What is always true of the fields of a pool.
+use Rattle.std.specs.Prelude.{◌≡◌, ℕ, ◌+◌, ◌*◌, ◌/◌, ◌<◌, ◌≤◌, true, List, [], ◌∷◌, length, slice_index_or, Option, Some, None, IsSome}
+use Rattle.std.specs.FinMap.{FinMap, from_entries}
+use Rattle.std.specs.FinSet.{contains}
+use Rattle.std.specs.Ordering.{nat_cmp}
+use Rattle.hd_model.specs.declared.data.Kind.{Kind}
+use Rattle.hd_model.specs.Kinds.{kind_number}
+use Rattle.hd_pool.specs.Masks.{Held}
+
+-- the items that are there, each with its place, counted from a number on
+abbrev pub numbered : {A : Type 0} → ℕ → List (Option A) → List (ℕ × A)
+numbered i [] = []
+numbered i (None ∷ xs) = numbered (i + 1) xs
+numbered i (Some x ∷ xs) = (i, x) ∷ numbered (i + 1) xs
+
+-- the map from places to the items that are there
+abbrev pub by_place : {A : Type 0} → List (Option A) → FinMap nat_cmp A
+by_place xs = from_entries (numbered 0 xs)
+
+-- the kind of a block, if it was added
+abbrev pub kind_at : List (Option Kind) → ℕ → Option Kind
+kind_at kinds block = slice_index_or kinds block None
+
+-- where a block of a kind stands among the blocks with a free slot: each kind has 320 numbers
+abbrev pub place_of : Kind → ℕ → ℕ
+place_of kind block = kind_number kind * 320 + block
+
+-- some slot of a block is free
+pub record HasFree (s : Held) (block : ℕ) : Type 0 where
+  pub slot : ℕ
+  pub of_block : slot / 64 ≡ block
+  pub free : contains s.members slot ≡ true
+
+-- only slots of added blocks are free, and the blocks with a free slot stand under their kinds
+pub record IsPool (kinds : List (Option Kind)) (free ready : Held) : Type 0 where
+  pub some : 1 ≤ length kinds
+  pub limit : length kinds ≤ 257
+  pub room : free.room ≡ 64 * length kinds
+  pub ready_room : ready.room ≡ 2240
+  pub added : (slot : ℕ) → contains free.members slot ≡ true → IsSome (kind_at kinds (slot / 64))
+  pub opened : (kind : Kind) (slot : ℕ) → kind_at kinds (slot / 64) ≡ Some kind → contains free.members slot ≡
+      true
+      → contains ready.members (place_of kind (slot / 64)) ≡ true
+  pub has_free : (kind : Kind) (block : ℕ) → block < 320 → contains ready.members (place_of kind block) ≡ true
+      → (kind_at kinds block ≡ Some kind) × HasFree free block

@@ -1,0 +1,44 @@
+-- Sets of numbers, kept by masks: numbers 64 * k to 64 * k + 63 stand in mask k. This project's own format.
+use Rattle.std.specs.Prelude.{◌≡◌, ℕ, ◌*◌, ◌/◌, ◌%◌, ◌<◌, ◌≤◌, ◌==◌, Bool, true, false, List, length, filter, slice_index, refl}
+use Rattle.std.specs.Coded.{Coded, code_by, coded×, coded_ℕ}
+use Rattle.std.specs.FinSet.{FinSet, code, contains, from_list}
+use Rattle.std.specs.Int.{bit_at}
+use Rattle.std.specs.List.{range_with_len}
+use Rattle.std.specs.Ordering.{nat_cmp}
+
+-- a set of numbers below a number, its room
+pub record Held : Type 0 where
+  pub room : ℕ
+  pub members : FinSet nat_cmp
+
+abbrev pub held_code : Coded Held
+held_code =
+    code_by (ℕ × FinSet nat_cmp) (coded× coded_ℕ (code coded_ℕ)) (λ s. (s.room, s.members))
+    (λ p. record { room = p.0; members = p.1 }) (λ _. refl)
+
+-- whether masks say that a number is in their set
+abbrev pub is_marked : List ℕ → ℕ → Bool
+is_marked masks i = bit_at (slice_index masks (i / 64)) (i % 64) == 1
+
+-- the set of numbers that masks say
+unfoldable pub set_of : List ℕ → FinSet nat_cmp
+set_of masks = from_list (filter (is_marked masks) (range_with_len 0 (64 * length masks)))
+
+-- the 64 numbers of one mask
+unfoldable pub numbers_of : ℕ → FinSet nat_cmp
+numbers_of mask = from_list (range_with_len (64 * mask) 64)
+
+-- the least member from a number on and below another
+pub record IsLeastBetween (s : FinSet nat_cmp) (from to i : ℕ) : Type 0 where
+  pub low : from ≤ i
+  pub high : i < to
+  pub member : contains s i ≡ true
+  pub least : (k : ℕ) → from ≤ k → k < i → contains s k ≡ false
+
+-- there is no member from a number on and below another
+abbrev pub HasNoneBetween : FinSet nat_cmp → ℕ → ℕ → Type 0
+HasNoneBetween s from to = (k : ℕ) → from ≤ k → k < to → contains s k ≡ false
+
+-- all 64 numbers of a mask are members
+abbrev pub HasAllOf : FinSet nat_cmp → ℕ → Type 0
+HasAllOf s mask = (i : ℕ) → i / 64 ≡ mask → contains s i ≡ true

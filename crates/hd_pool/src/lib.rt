@@ -1,0 +1,11 @@
+//! The free slots of a table of handles, for one thread: the least free slot of a kind, and the
+//! blocks whose slots are all free.
+#![tactic(auto)]
+
+mod masks;
+mod pool;
+
+pub use pool::Pool;
+
+#[cfg(test)]
+mod tests;
