@@ -1,0 +1,167 @@
+-- The table at its start and at its end.
+use Rattle.std.proofs.Common.{◌≡◌, ◌≢◌, ◌⊎◌, ℕ, zero, suc, ◌+◌, ◌/◌, ◌<◌, ◌≤◌, ◌==◌, false, cond, List, [], ◌∷◌, length, get_or, replicate, Option, Some, inl, inr, sym, ap, subst, refl, ◌∙◌, arith}
+use Rattle.std.proofs.lemmas.Bool.{cases_eq, cases_lt}
+use Rattle.std.proofs.Math.ListN.{length-replicate}
+use mathlib.Core.Option.{some, some-injective, some-ne-none}
+use lib.ListN.{get_elem?}
+use Rattle.atomic_table.specs.Table.{State, Final, Seen, opening}
+use Rattle.hd_model.specs.declared.held.Held.{Ghosts}
+use Rattle.hd_model.specs.declared.data.Entry.{Entry}
+use Rattle.hd_model.specs.State.{Numbers}
+use Rattle.hd_model.specs.Run.{part_of}
+use Rattle.hd_custody.specs.declared.view.View.{View}
+use Rattle.hd_custody.specs.Counts.{one_if, weight, kind_word}
+use Rattle.hd_custody.specs.Views.{starting}
+use Rattle.hd_custody.specs.Rule.{tally, Fits, HasNumber, Custodied, Divided, IsUnused}
+use Rattle.hd_custody.proofs.Totals.{total_two, total_at_none}
+use Rattle.hd_custody.proofs.Hands.{true_false}
+use Rattle.hd_custody.proofs.Weights.{weight_zero, kind_word_is, kind_word_out, named_none}
+
+-- ---- the table at its start
+
+most : (n : ℕ) → n + 0 ≤ n
+most n = omega arith
+
+nothing : (a b d k : ℕ) → a ≡ 0 → b ≡ 0 → d ≡ 0 → k ≡ 0 → a + b + d ≡ k
+nothing a b d k ea eb ed ek = omega arith
+
+abbrev pub zero_words : List ℕ
+zero_words = replicate 1402 0
+
+module _ {W : Type 0} (m : Ghosts W) (world : W) (unused : IsUnused m world) where
+  abbrev firstly : View W
+  firstly = starting (m.spare world) (m.numbers world)
+
+  zeros : (i : ℕ) → get_or zero_words i 0 ≡ 0
+  zeros = at 1402
+    where
+      at : (n i : ℕ) → get_or (replicate {A = ℕ} n 0) i 0 ≡ 0
+      at zero i = refl
+      at (suc n) zero = refl
+      at (suc n) (suc i) = at n i
+
+  no_kind : (b : ℕ) → kind_word (zero_words) b ≡ 0
+  no_kind b = elim (cases_lt b 257) [
+    | inl lt ↦ kind_word_is (zero_words) b lt ∙ zeros b
+    | inr le ↦ kind_word_out (zero_words) b le
+  ]
+
+  only : (j : ℕ) (u : View W) → get_elem? (firstly ∷ []) j ≡ some u → (j ≡ 0) × (firstly ≡ u)
+  only zero u e = (refl, some-injective firstly u e)
+  only (suc j) u e = absurd (some-ne-none u (sym e))
+
+  first_fits : Fits 1 (λ n. cond (n == 0) 1 0) (m.journal world) (m.numbers world) 0 firstly
+  first_fits = record {
+    low = omega arith;
+    owned = refl;
+    own_part = sym (ap (λ j. part_of j 0) unused.no_entries);
+    knows = λ _. refl;
+    alone = λ _. refl;
+    ended_parts = λ k e at. absurd (some-ne-none e (sym at));
+    sized = refl;
+  }
+
+  pub starts : Custodied m (m.numbers world) (opening (zero_words) (Some world ∷ []) firstly)
+  starts = record {
+    world = world;
+    holder = 0;
+    changes = [];
+    made = 1;
+    owner = λ n. cond (n == 0) 1 0;
+    wide = length-replicate {A = ℕ} 1402 0;
+    sized = refl;
+    gate = record {
+      free_or_held = inl (zeros 0, refl, refl);
+      holding = λ j u at alive has. absurd (true_false u.has_gate has (ap (λ (z : View W). z.has_gate)
+          (sym (only j u at).1)));
+    };
+    seats = record {
+      each = λ j u at alive. (let o = only j u at in subst (λ z. Fits 1 (λ n. cond (n == 0) 1 0)
+          (m.journal world) (m.numbers world) j z) o.1
+          (subst (λ i. Fits 1 (λ n. cond (n == 0) 1 0) (m.journal world) (m.numbers world) i firstly)
+          (sym o.0) first_fits));
+      begun = omega arith;
+      unmade = λ n le. ap (λ j. part_of j n) unused.no_entries;
+      counted = refl;
+      kept = λ n lt. (0, firstly, refl, (refl, inl (omega arith)));
+      roomy = most (m.spare world);
+    };
+    kinds = λ b real lt. zeros b ∙ sym (unused.no_kinds b);
+    slots = record {
+      in_one_place = λ x real. nothing _ _ _ _ (total_at_none (weight x) 1402 0 (λ i. weight_zero x i real))
+          refl
+          (ap one_if (unused.nothing_live x)) (named_none _ (no_kind (x / 64)));
+      cells = λ i le ne. absurd (ne (zeros i));
+      hands = λ j u at alive n p e. absurd (some-ne-none p
+          (sym (ap (λ (z : View W). get_elem? z.hand n) (only j u at).1 ∙ e)));
+      masks = λ i le lt. subst (λ n. n < 18446744073709551616) (sym (zeros i)) (omega arith);
+      empty_masks = λ b real lt none. zeros (256 + b);
+    };
+  }
+
+-- ---- the table at its end, where all seats that were made have ended in the first
+
+module _ {W : Type 0} (m : Ghosts W) (numbers : Numbers) (id : ℕ) (v : View W) (lives : v.is_spent ≡ false)
+    (first : v.number ≡ 0) (gateless : v.has_gate ≡ false)
+    (all : length v.ended + 1 ≡ v.made) (s : State (Option W) (View W)) (c : Custodied m numbers s)
+    (there : get_elem? s.views id ≡ some v) where
+  own : Fits c.made c.owner (m.journal c.world) numbers id v
+  own = c.seats.each id v there lives
+
+  others_spent : (j : ℕ) (u : View W) → get_elem? s.views j ≡ some u → u.is_spent ≡ false → j ≢ id → ⊥
+  others_spent j u at alive far =
+      let two = total_two tally s.views j id u v at there far in
+      let d = c.seats.counted in
+      let made = own.knows first in
+      let tv : tally v ≡ length v.ended + 1 = ap (λ t. cond t 0 (length v.ended + 1)) lives in
+      let tu : tally u ≡ length u.ended + 1 = ap (λ t. cond t 0 (length u.ended + 1)) alive in
+      omega arith
+
+  home : s.homes ≡ some (Some c.world) ∷ []
+  home = elim c.gate.free_or_held [
+    | inl free ↦ free.1
+    | inr held ↦ absurd (elim (cases_eq c.holder id) [
+      | inl here ↦ (
+          let same : held.1.view ≡ v = some-injective held.1.view v (sym held.1.there
+          ∙ ap (get_elem? s.views) here ∙ there) in
+          true_false v.has_gate (ap (λ (z : View W). z.has_gate) (sym same) ∙ held.1.has) gateless)
+      | inr far ↦ others_spent c.holder held.1.view held.1.there held.1.lives far
+    ])
+  ]
+
+  numbered : (n j : ℕ) (u : View W) → get_elem? s.views j ≡ some u → HasNumber n u → (j ≡ id) ⊎ (j ≢ id)
+      → (n ≡ 0) ⊎ ((k : ℕ) × (p : List Entry) × (get_elem? v.ended k ≡ some (n, p)))
+  numbered n j u at has (inl here) =
+      let same : u ≡ v = some-injective u v (sym at ∙ ap (get_elem? s.views) here ∙ there) in
+      let mine : HasNumber n v = subst (λ z. HasNumber n z) same has in
+      elim mine.1 [
+        | inl is ↦ inl (sym is ∙ first)
+        | inr e ↦ inr e
+      ]
+  numbered n j u at has (inr far) = absurd (others_spent j u at has.0 far)
+
+  pub divides : Divided m v c.world
+  divides =
+      let made = own.knows first in record {
+        sized = c.sized ∙ sym own.sized;
+        own_part = ap (part_of (m.journal c.world)) (sym first) ∙ sym own.own_part;
+        ended_parts = λ k e at. sym (own.ended_parts k e at).2;
+        each = λ n lt. (let a = c.seats.kept n (omega arith) in numbered n a.0 a.1 a.2 a.3 (cases_eq a.0 id));
+        others = λ n le. c.seats.unmade n (omega arith);
+      }
+
+module _ {W : Type 0} (m : Ghosts W) (numbers : Numbers) (id : ℕ) (v : View W) (lives : v.is_spent ≡ false)
+    (first : v.number ≡ 0) (gateless : v.has_gate ≡ false)
+    (all : length v.ended + 1 ≡ v.made) (ws : List ℕ) (xs : List (Option W)) where
+  -- what the table's slot has at the end
+  pub ends : Final (Seen (Custodied m numbers) id v) ws xs → (world : W)
+      × (get_elem? xs 0 ≡ some (Some world)) × Divided m v world
+  ends f =
+      let s = f.0 in
+      let c = f.1.0 in
+      let at = f.1.1 in (
+        c.world,
+        f.4 0 (Some c.world) (ap (λ hs. get_elem? hs 0) (home m numbers id v lives first gateless all s c
+            at)),
+        divides m numbers id v lives first gateless all s c at,
+      )

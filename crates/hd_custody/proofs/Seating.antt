@@ -1,0 +1,273 @@
+-- Seats that come: the views that a split changes, and what is alike for a join.
+use Rattle.std.proofs.Common.{◌≡◌, ◌≢◌, ◌⊎◌, ℕ, zero, suc, ◌+◌, ◌-◌, ◌<◌, ◌≤◌, ◌==◌, Bool, false, cond, List, [], ◌∷◌, ◌++◌, length, set, Option, inl, inr, sym, ap, subst, refl, ◌∙◌, eq-eqb, ne_eqb, arith}
+use Rattle.std.proofs.lemmas.Bool.{cases_eq}
+use Rattle.std.proofs.Math.ListN.{length-set}
+use mathlib.Core.Option.{some, none, some-injective, some-ne-none}
+use mathlib.Core.Option as maybe
+use lib.ListN.{get_elem?}
+use Rattle.atomic_table.proofs.Lists.{at_set, set_else, at_longer}
+use Rattle.atomic_table.specs.Table.{State}
+use Rattle.hd_model.specs.declared.held.Held.{Ghosts}
+use Rattle.hd_model.specs.State.{Numbers}
+use Rattle.hd_custody.specs.declared.view.View.{View}
+use Rattle.hd_custody.specs.Counts.{total}
+use Rattle.hd_custody.specs.Views.{shared_out, given}
+use Rattle.hd_custody.specs.Rule.{tally, room_of, held_by, Fits, HasNumber, Slots, Out, Gate, Custodied}
+use Rattle.hd_custody.proofs.Totals.{total_set, total_snoc}
+use Rattle.hd_custody.proofs.Hands.{true_false}
+use Rattle.hd_custody.proofs.Alike.{place_there}
+
+pub at_end : {A : Type 0} (l : List A) (a b : A) (j : ℕ) → get_elem? (l ++ a ∷ []) j ≡ some b
+    → ((j < length l) × (get_elem? l j ≡ some b)) ⊎ ((j ≡ length l) × (a ≡ b))
+at_end [] a b zero e = inr (refl, some-injective a b e)
+at_end [] a b (suc j) e = absurd (some-ne-none b (sym e))
+at_end (x ∷ xs) a b zero e = inl (omega arith, e)
+at_end (x ∷ xs) a b (suc j) e = elim (at_end xs a b j e) [
+  | inl h ↦ inl (omega (arith, h.0), h.1)
+  | inr h ↦ inr (ap suc h.0, h.1)
+]
+
+pub at_last : {A : Type 0} (l : List A) (a : A) (n : ℕ) → n ≡ length l → get_elem? (l ++ a ∷ []) n ≡ some a
+at_last l a n e = Rattle.atomic_table.proofs.Lists.at_last l a n (sym e)
+
+-- ---- views that change in what neither the gate nor slots are told by
+
+module _ {W : Type 0} (views views' : List (View W)) where
+  -- each seat is as it was in this, or new
+  abbrev pub Related : Type 0
+  Related = (j : ℕ) (u : View W) → get_elem? views' j ≡ some u → u.is_spent ≡ false
+      → ((z : View W) × (get_elem? views j ≡ some z) × (z.is_spent ≡ false) × (u.has_gate ≡ z.has_gate)
+      × (u.taken ≡ z.taken) × (u.changes ≡ z.changes) × (u.hand ≡ z.hand))
+      ⊎ ((u.has_gate ≡ false) × (u.hand ≡ []))
+
+  module _ (related : Related) where
+    pub gate_related : (world : W) (holder : ℕ) (changes : List (ℕ × ℕ)) (words : List ℕ)
+        (homes : List (maybe.Option (Option W)))
+        → Gate world holder changes words homes views
+        → (Out world holder homes views → Out world holder homes views')
+        → Gate world holder changes words homes views'
+    gate_related world holder changes words homes g out = record {
+      free_or_held = elim g.free_or_held [
+        | inl free ↦ inl free
+        | inr held ↦ inr (held.0, out held.1)
+      ];
+      holding = λ j u at alive has. elim (related j u at alive) [
+        | inl was ↦ (
+            let h = g.holding j was.0 was.1 was.2 (sym was.3 ∙ has) in
+            (h.0, h.1, was.4 ∙ h.2, was.5 ∙ h.3)
+            )
+        | inr new ↦ absurd (true_false u.has_gate has new.0)
+      ];
+    }
+
+    pub slots_related : (live : ℕ → Bool) (words : List ℕ) → Slots live words views
+        → ((x : ℕ) → total (held_by x) views' ≡ total (held_by x) views) → Slots live words views'
+    slots_related live words s same = record {
+      in_one_place = λ x real. (let one = s.in_one_place x real in let e = same x in omega arith);
+      cells = s.cells;
+      hands = λ j u at alive n p e. elim (related j u at alive) [
+        | inl was ↦ s.hands j was.0 was.1 was.2 n p (ap (λ h. get_elem? h n) (sym was.6) ∙ e)
+        | inr new ↦ absurd (some-ne-none p (sym (ap (λ h. get_elem? h n) (sym new.1) ∙ e)))
+      ];
+      masks = s.masks;
+      empty_masks = s.empty_masks;
+    }
+
+-- ---- a split
+
+module _ {W : Type 0} (m : Ghosts W) (numbers : Numbers) (id share : ℕ) (v : View W)
+    (lives : v.is_spent ≡ false) (first : v.number ≡ 0) (enough : share ≤ v.room)
+    (s : State (Option W) (View W)) (c : Custodied m numbers s) (there : get_elem? s.views id ≡ some v) where
+  abbrev left : View W
+  left = shared_out share v
+
+  abbrev new : View W
+  new = given share v
+
+  abbrev cut : List (View W)
+  cut = set s.views id left
+
+  abbrev more : List (View W)
+  more = cut ++ new ∷ []
+
+  abbrev owner' : ℕ → ℕ
+  owner' n = cond (n == c.made) (suc (length s.views)) (c.owner n)
+
+  own : Fits c.made c.owner (m.journal c.world) numbers id v
+  own = c.seats.each id v there lives
+
+  made_is : v.made ≡ c.made
+  made_is = own.knows first
+
+  some_made : 0 < c.made
+  some_made = let low = own.low in omega arith
+
+  old_owner : (n : ℕ) → n < c.made → owner' n ≡ c.owner n
+  old_owner n lt = ap (λ b. cond b (suc (length s.views)) (c.owner n)) (ne_eqb n c.made (λ e. omega arith))
+
+  abbrev Case : ℕ → View W → Type 0
+  Case j u = ((j ≡ id) × (left ≡ u)) ⊎ (((j ≢ id) × (get_elem? s.views j ≡ some u))
+      ⊎ ((j ≡ length s.views) × (new ≡ u)))
+
+  case_of : (j : ℕ) (u : View W) → get_elem? more j ≡ some u → Case j u
+  case_of j u at = elim (at_end cut new u j at) [
+    | inl h ↦ elim (at_set s.views id j left u h.1) [
+      | inl a ↦ inl a
+      | inr b ↦ inr (inl b)
+    ]
+    | inr h ↦ inr (inr (h.0 ∙ length-set s.views id left, h.1))
+  ]
+
+  fits_at : (j : ℕ) (u : View W) → u.is_spent ≡ false → Case j u
+      → Fits (c.made + 1) owner' (m.journal c.world) numbers j u
+  fits_at j u alive (inl here) =
+      let mine : Fits (c.made + 1) owner' (m.journal c.world) numbers id left = record {
+        low = (let low = own.low in omega arith);
+        owned = old_owner v.number own.low ∙ own.owned;
+        own_part = own.own_part;
+        knows = λ _. ap (λ n. n + 1) made_is;
+        alone = own.alone;
+        ended_parts = λ k e at. (let h = own.ended_parts k e at in (
+          omega (arith, h.0),
+          old_owner e.0 h.0
+              ∙ h.1,
+          h.2,
+        ));
+        sized = own.sized;
+      } in
+      subst (λ z. Fits (c.made + 1) owner' (m.journal c.world) numbers j z) here.1
+      (subst (λ i. Fits (c.made + 1) owner' (m.journal c.world) numbers i left) (sym here.0) mine)
+  fits_at j u alive (inr (inl other)) =
+      let h = c.seats.each j u other.1 alive in record {
+        low = (let low = h.low in omega arith);
+        owned = old_owner u.number h.low ∙ h.owned;
+        own_part = h.own_part;
+        knows = λ z. absurd (other.0 (let a = ap c.owner (z ∙ sym first) in let b = h.owned in let d =
+            own.owned in omega arith));
+        alone = h.alone;
+        ended_parts = λ k e at. (let g = h.ended_parts k e at in (
+          omega (arith, g.0),
+          old_owner e.0 g.0
+              ∙ g.1,
+          g.2,
+        ));
+        sized = h.sized;
+      }
+  fits_at j u alive (inr (inr last)) =
+      let mine : Fits (c.made + 1) owner' (m.journal c.world) numbers (length s.views) new = record {
+        low = omega (arith, made_is);
+        owned = ap (λ b. cond b (suc (length s.views)) (c.owner v.made)) (eq-eqb v.made c.made made_is);
+        own_part = sym (c.seats.unmade v.made (omega (arith, made_is)));
+        knows = λ z. absurd (let some_now = some_made in omega (arith, made_is));
+        alone = λ _. refl;
+        ended_parts = λ k e at. absurd (some-ne-none e (sym at));
+        sized = own.sized;
+      } in
+      subst (λ z. Fits (c.made + 1) owner' (m.journal c.world) numbers j z) last.1
+      (subst (λ i. Fits (c.made + 1) owner' (m.journal c.world) numbers i new) (sym last.0) mine)
+
+  kept_at : (n i : ℕ) (u : View W) → get_elem? s.views i ≡ some u → HasNumber n u → (i ≡ id) ⊎ (i ≢ id)
+      → (j : ℕ) × (z : View W) × (get_elem? more j ≡ some z) × HasNumber n z
+  kept_at n i u at his (inl here) =
+      let same : u ≡ v = some-injective u v (sym at ∙ ap (get_elem? s.views) here ∙ there) in
+      let mine : HasNumber n v = subst (λ z. HasNumber n z) same his in
+      (id, left, at_longer cut (new ∷ []) id left (place_there s.views id v left there), mine)
+  kept_at n i u at his (inr other) = (
+    i,
+    u,
+    at_longer cut (new ∷ []) i u (set_else s.views id i left other
+        ∙ at),
+    his,
+  )
+
+  kept_all : (n : ℕ) → n < c.made + 1 → (n ≡ c.made) ⊎ (n ≢ c.made) → (j : ℕ) × (z : View W)
+      × (get_elem? more j ≡ some z) × HasNumber n z
+  kept_all n lt (inl same) = (
+    length s.views,
+    new,
+    at_last cut new (length s.views) (sym (length-set s.views id left)),
+    (refl, inl (made_is ∙ sym same)),
+  )
+  kept_all n lt (inr other) = let a = c.seats.kept n (omega arith) in kept_at n a.0 a.1 a.2 a.3
+      (cases_eq a.0 id)
+
+  related : Related s.views more
+  related j u at alive = at_case (case_of j u at)
+    where
+      at_case : Case j u → ((z : View W) × (get_elem? s.views j ≡ some z) × (z.is_spent ≡ false)
+          × (u.has_gate ≡ z.has_gate) × (u.taken ≡ z.taken) × (u.changes ≡ z.changes) × (u.hand ≡ z.hand))
+          ⊎ ((u.has_gate ≡ false) × (u.hand ≡ []))
+      at_case (inl here) = inl (
+        v,
+        ap (get_elem? s.views) here.0
+            ∙ there,
+        lives,
+        ap (λ (z : View W). z.has_gate) (sym here.1),
+        ap (λ (z : View W). z.taken)
+            (sym here.1),
+        ap (λ (z : View W). z.changes) (sym here.1),
+        ap (λ (z : View W). z.hand) (sym here.1),
+      )
+      at_case (inr (inl other)) = inl (u, other.1, alive, refl, refl, refl, refl)
+      at_case (inr (inr last)) = inr (
+        ap (λ (z : View W). z.has_gate) (sym last.1),
+        ap
+            (λ (z : View W). z.hand) (sym last.1),
+      )
+
+  out_at : (o : Out c.world c.holder s.homes s.views) → (c.holder ≡ id) ⊎ (c.holder ≢ id)
+      → Out c.world c.holder s.homes more
+  out_at o (inl here) =
+      let same : o.view ≡ v = some-injective o.view v (sym o.there ∙ ap (get_elem? s.views) here
+      ∙ there) in record {
+        view = left;
+        gone = o.gone;
+        there = ap (get_elem? more) here ∙ at_longer cut (new ∷ []) id left
+            (place_there s.views id v left there);
+        lives = lives;
+        has = ap (λ (z : View W). z.has_gate) (sym same) ∙ o.has;
+      }
+  out_at o (inr other) = record {
+    view = o.view;
+    gone = o.gone;
+    there = at_longer cut (new ∷ []) c.holder o.view (set_else s.views id c.holder left other ∙ o.there);
+    lives = o.lives;
+    has = o.has;
+  }
+
+  pub splits : Custodied m numbers (record { words = s.words; homes = s.homes; views = more })
+  splits = record {
+    world = c.world;
+    holder = c.holder;
+    changes = c.changes;
+    made = c.made + 1;
+    owner = owner';
+    wide = c.wide;
+    sized = c.sized;
+    gate = gate_related s.views more related c.world c.holder c.changes s.words s.homes c.gate
+        (λ o. out_at o (cases_eq c.holder id));
+    seats = record {
+      each = λ j u at alive. fits_at j u alive (case_of j u at);
+      begun = omega arith;
+      unmade = λ n le. c.seats.unmade n (omega arith);
+      counted = (
+          let a = total_snoc tally cut new in
+          let b = total_set tally s.views id v left there in
+          let d = c.seats.counted in
+          omega arith);
+      kept = λ n lt. kept_all n lt (cases_eq n c.made);
+      roomy = (
+          let a = total_snoc room_of cut new in
+          let b = total_set room_of s.views id v left there in
+          let is : room_of v ≡ v.room = ap (λ t. cond t 0 v.room) lives in
+          let now : room_of left ≡ v.room - share = ap (λ t. cond t 0 (v.room - share)) lives in
+          let d = c.seats.roomy in
+          omega arith);
+    };
+    kinds = c.kinds;
+    slots = slots_related s.views more related (m.live c.world) s.words c.slots (λ x.
+        let a = total_snoc (held_by x) cut new in
+        let b = total_set (held_by x) s.views id v left there in
+        let e : held_by x left ≡ held_by x v = refl in
+        omega arith);
+  }

@@ -1,0 +1,14 @@
+use Rattle.std.proofs.Common.{ℕ, ◌+◌, ◌*◌, List, sym, ap, subst}
+use Rattle.std.proofs.lemmas.Nat.Bits.{bit_at_ones}
+use Rattle.hd_custody.specs.declared.view.View.{View}
+use Rattle.hd_custody.specs.declared.tests.Blocks.{Blocks}
+use Rattle.hd_custody.specs.Counts.{Has}
+use Rattle.hd_custody.specs.Traces.{every_row}
+use Rattle.hd_custody.proofs.Canon.{row_has}
+use Rattle.hd_custody.proofs.tests.a_gathered_block_gets_another_kind.Goals as goal
+
+pub shrink-requires-clause-all : goal.shrink-requires-clause-all
+shrink-requires-clause-all g c r lt =
+    subst (λ (h : List (ℕ × ℕ)). Has (64 * c.in-Some.block + r) h)
+    (sym (ap (λ (v : View Blocks). v.hand) c.in-Some.ensures.done.view))
+    (row_has c.in-Some.block every_row 3 r c.release.new.seat.view.hand lt (bit_at_ones 64 r lt))

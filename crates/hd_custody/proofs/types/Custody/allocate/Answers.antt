@@ -1,0 +1,25 @@
+use Rattle.std.proofs.Common.{◌≡◌, sym, ◌∙◌, ap, subst, arith}
+use Rattle.hd_custody.specs.declared.view.View.{View}
+use Rattle.hd_custody.specs.Views.{Named, Known}
+use Rattle.hd_custody.specs.Calls.{slot_number, Allocates}
+use Rattle.hd_custody.proofs.Ends.{answer, answer_none, answer_some, allocates}
+use Rattle.hd_custody.proofs.types.Custody.allocate.Goals as goal
+use Rattle.hd_custody.proofs.types.Custody.allocate.Goals.{then-slot-eq0, else-slot-eq0}
+
+pub returns-clause-done : goal.returns-clause-done
+returns-clause-done g c =
+    let W = g.row.W.Denot in
+    let blocks = c.args.self.now.blocks in
+    let size : c.self.inside.blocks ≡ blocks = ap (λ (n : Named). n.blocks) c.self.view_is in
+    let answers : slot_number c.if-slot-eq0.result ≡ answer c.find-slot.result = elim c.if-slot-eq0.branch [
+      | then-slot-eq0 w ↦ (ap slot_number w.result-is
+          ∙ sym (answer_none c.find-slot.result w.if-slot-eq0.true))
+      | else-slot-eq0 w ↦ (ap slot_number w.result-is
+          ∙ sym (answer_some c.find-slot.result w.if-slot-eq0.false))
+    ] in
+    subst (λ k. Allocates k blocks (slot_number c.if-slot-eq0.result) c.args.seat.now.view
+    c.find-slot.new.place.me.0) c.number.ensures.value
+    (subst (λ (v : View W). Allocates c.number.result blocks (slot_number c.if-slot-eq0.result) v
+    c.find-slot.new.place.me.0) (ap (λ (k : Known W). k.view) c.seat.view_is)
+    (allocates c.number.result blocks (omega (arith, size, c.self.invariant)) c.seat.inside.place.me
+    c.find-slot.new.place.me c.find-slot.result _ answers c.find-slot.ensures.made))

@@ -1,0 +1,117 @@
+-- Slots in words and in hands, counted; the words of the table; and what a kind word names. All of it is this
+-- project's own. A slot is 64 times its block, from 1 to 256, and its row, from 0 to 63. A hand is a list of
+-- slots, each with a kind word: 1 more than the number of its kind, or 0 while the slot has no kind yet. Kind
+-- words: 0 no kind, 1 to 7 handles, 8 extra data.
+use Rattle.std.specs.Prelude.{◌≡◌, ℕ, zero, suc, ◌+◌, ◌-◌, ◌*◌, ◌/◌, ◌%◌, ◌≤◌, Bool, true, false, cond, not, nat_lt}
+use Rattle.std.specs.Prelude.{◌==◌, ◌&&◌, List, [], ◌∷◌, filter, map, slice_index}
+use mathlib.Core.Option.{some}
+use lib.ListN.{get_elem?}
+use Rattle.std.specs.Int.{bit_at}
+
+-- the sum of f over a list
+abbrev pub total : {V : Type 0} → (V → ℕ) → List V → ℕ
+total f [] = 0
+total f (v ∷ vs) = f v + total f vs
+
+-- the sum of f over the words, each with its number, from i on
+abbrev pub total_at : (ℕ → ℕ → ℕ) → ℕ → List ℕ → ℕ
+total_at f i [] = 0
+total_at f i (w ∷ ws) = f i w + total_at f (suc i) ws
+
+-- 1 for true, 0 for false
+abbrev pub one_if : Bool → ℕ
+one_if b = cond b 1 0
+
+-- How often the slot x stands in word i, which has w: as a set bit of its block's mask, words 257 to 512, or
+-- as the whole of a quick word or cell, the words from 513 on. The gate and the kind words hold no slot.
+unfoldable pub weight : ℕ → ℕ → ℕ → ℕ
+weight x i w =
+    cond (nat_lt i 257) 0 (cond (nat_lt i 513) (cond (x / 64 + 256 == i) (bit_at w (x % 64)) 0)
+    (one_if (w == x)))
+
+-- how often it stands in a hand
+abbrev pub in_hand : ℕ → List (ℕ × ℕ) → ℕ
+in_hand x hand = total (λ p. one_if (p.0 == x)) hand
+
+-- the kind word of block b, which is word b; there are 256 blocks, from 1 on
+unfoldable pub kind_word : List ℕ → ℕ → ℕ
+kind_word words b = cond (nat_lt b 257) (slice_index words b) 0
+
+-- 1 where the kind word names a kind of handle, and 0 else
+abbrev pub named : ℕ → ℕ
+named k = cond (nat_lt 0 k && nat_lt k 8) 1 0
+
+-- the number of the kind whose quick word or cell word i is: each kind has 127 of them in a row
+abbrev pub kind_at : ℕ → ℕ
+kind_at i = (i - 513) / 127
+
+-- the kind words f with what was stored since, each store a block and its new kind word, the last one first
+abbrev pub changed : List (ℕ × ℕ) → (ℕ → ℕ) → ℕ → ℕ
+changed [] f b = f b
+changed (p ∷ cs) f b = cond (p.0 == b) p.1 (changed cs f b)
+
+-- of the n numbers from base on, base + r where keep r, with the kind word kind r; the last one first
+unfoldable pub picks : ℕ → (ℕ → Bool) → ℕ → (ℕ → ℕ) → List (ℕ × ℕ)
+picks zero keep base kind = []
+picks (suc r) keep base kind = cond (keep r) ((base + r, kind r) ∷ picks r keep base kind)
+    (picks r keep base kind)
+
+-- the slots of block b whose rows the mask m has, with the kind word k
+abbrev pub rows : ℕ → ℕ → ℕ → List (ℕ × ℕ)
+rows b m k = picks 64 (λ r. bit_at m r == 1) (64 * b) (λ _. k)
+
+-- all of the block's slots
+abbrev pub whole : ℕ → ℕ → List (ℕ × ℕ)
+whole b k = picks 64 (λ _. true) (64 * b) (λ _. k)
+
+-- how many slots there are in 256 blocks, the first of which is slot 64
+unfoldable pub slot_count : ℕ
+slot_count = 16384
+
+-- the hand without a slot
+abbrev pub without : ℕ → List (ℕ × ℕ) → List (ℕ × ℕ)
+without x hand = filter (λ p. not (p.0 == x)) hand
+
+-- the hand without the slots of block b whose rows the mask m has
+abbrev pub without_rows : ℕ → ℕ → List (ℕ × ℕ) → List (ℕ × ℕ)
+without_rows b m hand = filter (λ p. not ((p.0 / 64 == b) && (bit_at m (p.0 % 64) == 1))) hand
+
+-- the hand without the slots of block b
+abbrev pub without_block : ℕ → List (ℕ × ℕ) → List (ℕ × ℕ)
+without_block b hand = filter (λ p. not (p.0 / 64 == b)) hand
+
+-- the hand once x was put into a word: 0 is no slot, and leaves it as it was
+abbrev pub put_out : ℕ → List (ℕ × ℕ) → List (ℕ × ℕ)
+put_out zero hand = hand
+put_out (suc x) hand = without (suc x) hand
+
+-- the hand with a slot of the kind word k on top: 0 is no slot
+abbrev pub with_slot : ℕ → ℕ → List (ℕ × ℕ) → List (ℕ × ℕ)
+with_slot zero k hand = hand
+with_slot (suc x) k hand = (suc x, k) ∷ hand
+
+-- a slot once the kind word of block b was seen to be k: where it is of that block and has no kind, it gets
+-- that one
+abbrev pub named_by : ℕ → ℕ → ℕ × ℕ → ℕ × ℕ
+named_by b k p = (p.0, cond ((p.0 / 64 == b) && (p.1 == 0)) k p.1)
+
+-- the hand once the kind word of block b was seen to be k
+abbrev pub naming : ℕ → ℕ → List (ℕ × ℕ) → List (ℕ × ℕ)
+naming b k hand = map (named_by b k) hand
+
+-- there is nothing in the hand
+abbrev pub is_nil : List (ℕ × ℕ) → Bool
+is_nil [] = true
+is_nil (x ∷ xs) = false
+
+-- P holds of each slot of the hand with its kind word
+abbrev pub Every : (ℕ × ℕ → Type 0) → List (ℕ × ℕ) → Type 0
+Every P hand = (n : ℕ) (p : ℕ × ℕ) → get_elem? hand n ≡ some p → P p
+
+-- the hand has the slot x
+abbrev pub Has : ℕ → List (ℕ × ℕ) → Type 0
+Has x hand = 1 ≤ in_hand x hand
+
+-- the hand has this slot with this kind word
+abbrev pub HasAs : ℕ × ℕ → List (ℕ × ℕ) → Type 0
+HasAs p hand = (n : ℕ) × (get_elem? hand n ≡ some p)

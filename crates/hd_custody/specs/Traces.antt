@@ -1,0 +1,137 @@
+-- What steps the calls make, in what order: each is decided by the values found so far. The order is this
+-- project's own.
+use Rattle.std.specs.Prelude.{◌≡◌, ℕ, ◌+◌, ◌-◌, ◌*◌, ◌/◌, ◌%◌, ◌^◌, cond, nat_lt, ◌==◌, ◌&&◌, bit_or, bit_xor, List, [], ◌∷◌}
+use Rattle.std.specs.Prelude.{slice_index, Option, Some, None}
+use Rattle.hd_mask.specs.Mask.{set_bits}
+
+-- a step: the word, what was found there, and what is there after
+abbrev pub Did : Type 0
+Did = ℕ × ℕ × ℕ
+
+-- The words of the kind with number k: its quick word, its reserve cells 0 to 62, its free cells 0 to 62. The
+-- word that the n-th probe of `allocate` exchanges: the quick word, the reserve cells from the last down, the
+-- free ones so.
+unfoldable pub probe_word : ℕ → ℕ → ℕ
+probe_word k n = cond (n == 0) (513 + 127 * k) (cond (nat_lt n 64) (577 + 127 * k - n) (703 + 127 * k - n))
+
+-- the word that the n-th exchange of `gather` takes: all of them upwards
+unfoldable pub sweep_word : ℕ → ℕ → ℕ
+sweep_word k n = 513 + 127 * k + n
+
+-- the word of the n-th exchange of `release`: the quick word, then the free cells from the first up
+unfoldable pub push_word : ℕ → ℕ → ℕ
+push_word k n = cond (n == 0) (513 + 127 * k) (576 + 127 * k + n)
+
+-- the least row of a mask, the first of its set bits
+abbrev pub lowest : ℕ → ℕ
+lowest m = slice_index (set_bits m) 0
+
+-- the mask without it
+abbrev pub next_rows : ℕ → ℕ
+next_rows m = bit_xor m (2 ^ lowest m)
+
+-- the mask of all 64 rows
+abbrev pub every_row : ℕ
+every_row = 18446744073709551615
+
+-- where a call stands before its next step
+pub data Phase : Type 0 where
+  -- allocate: the n-th exchange of the cache
+  probe : ℕ → Phase
+  -- block b: the load of its kind word, the exchange of its mask with 0, the second load of its kind word
+  look : ℕ → Phase
+  drain : ℕ → Phase
+  again : ℕ → ℕ → Phase
+  -- the rows m, all that came, go back
+  back : ℕ → ℕ → Phase
+  -- x is the answer, and reserve cell i is offered the least of the rows m that are left
+  bank : ℕ → ℕ → ℕ → ℕ → Phase
+  -- what is left of them after the last cell goes back
+  rest : ℕ → ℕ → ℕ → Phase
+  -- gather: the n-th exchange of the cache; slot x, which came of it, goes to its mask; block b as for
+  -- `allocate`
+  sweep : ℕ → Phase
+  settle : ℕ → ℕ → Phase
+  look_whole : ℕ → Phase
+  drain_whole : ℕ → Phase
+  again_whole : ℕ → Phase
+  back_part : ℕ → ℕ → Phase
+  -- release: the n-th exchange puts x; x goes to its mask
+  push : ℕ → ℕ → Phase
+  last : ℕ → Phase
+  -- the call has ended: with a slot, a block, or 0 where the call answers nothing; with none
+  found : ℕ → Phase
+  missed : Phase
+  -- no step of the call is this
+  wrong : Phase
+
+-- p, where the step is on word i and leaves z there
+abbrev pub is_step : Did → ℕ → ℕ → Phase → Phase
+is_step t i z p = cond ((t.0 == i) && (t.2 == z)) p wrong
+
+-- the rows m of block b are left, and reserve cell i is next
+abbrev pub to_bank : ℕ → ℕ → ℕ → ℕ → Phase
+to_bank b x i m = cond (m == 0) (found x) (cond (nat_lt i 63) (bank b x i m) (rest b x m))
+
+-- the slot x is left, and the n-th word is next
+abbrev pub to_push : ℕ → ℕ → Phase
+to_push n x = cond (nat_lt n 64) (push n x) (last x)
+
+module _ (blocks : ℕ) where
+  -- block b is next, where there is one
+  abbrev pub to_look : ℕ → Phase
+  to_look b = cond (nat_lt blocks b) missed (look b)
+
+  abbrev pub to_look_whole : ℕ → Phase
+  to_look_whole b = cond (nat_lt blocks b) missed (look_whole b)
+
+  -- the n-th word of the cache is next, where there is one
+  abbrev pub to_probe : ℕ → Phase
+  to_probe n = cond (nat_lt n 127) (probe n) (to_look 1)
+
+  abbrev pub to_sweep : ℕ → Phase
+  to_sweep n = cond (nat_lt n 127) (sweep n) (to_look_whole 1)
+
+module _ (k blocks : ℕ) where
+  -- where the call stands after the step t, of a kind with number k and a table with so many blocks
+  abbrev pub after : Phase → Did → Phase
+  after (probe n) t = is_step t (probe_word k n) 0 (cond (t.1 == 0) (to_probe blocks (n + 1)) (found t.1))
+  after (look b) t = is_step t b t.1 (cond (t.1 == k + 1) (drain b) (to_look blocks (b + 1)))
+  after (drain b) t = is_step t (256 + b) 0 (cond (t.1 == 0) (to_look blocks (b + 1)) (again b t.1))
+  after (again b m) t =
+      is_step t b t.1 (cond (t.1 == k + 1) (to_bank b (64 * b + lowest m) 0 (next_rows m)) (back b m))
+  after (back b m) t = is_step t (256 + b) (bit_or t.1 m) (to_look blocks (b + 1))
+  after (bank b x i m) t =
+      is_step t (514 + 127 * k + i) (cond (t.1 == 0) (64 * b + lowest m) t.1)
+      (to_bank b x (i + 1) (cond (t.1 == 0) (next_rows m) m))
+  after (rest b x m) t = is_step t (256 + b) (bit_or t.1 m) (found x)
+  after (sweep n) t = is_step t (sweep_word k n) 0 (cond (t.1 == 0) (to_sweep blocks (n + 1)) (settle n t.1))
+  after (settle n x) t = is_step t (256 + x / 64) (bit_or t.1 (2 ^ (x % 64))) (to_sweep blocks (n + 1))
+  after (look_whole b) t = is_step t b t.1 (cond (t.1 == k + 1) (drain_whole b)
+      (to_look_whole blocks (b + 1)))
+  after (drain_whole b) t =
+      is_step t (256 + b) 0
+      (cond (t.1 == 0) (to_look_whole blocks (b + 1)) (cond (t.1 == every_row) (again_whole b)
+      (back_part b t.1)))
+  after (again_whole b) t = is_step t b t.1 (cond (t.1 == k + 1) (found b) (back_part b every_row))
+  after (back_part b m) t = is_step t (256 + b) (bit_or t.1 m) (to_look_whole blocks (b + 1))
+  after (push n x) t = is_step t (push_word k n) x (cond (t.1 == 0) (found 0) (to_push (n + 1) t.1))
+  after (last x) t = is_step t (256 + x / 64) (bit_or t.1 (2 ^ (x % 64))) (found 0)
+  after (found x) t = wrong
+  after missed t = wrong
+  after wrong t = wrong
+
+  -- and after all these steps
+  abbrev pub follow : Phase → List Did → Phase
+  follow p [] = p
+  follow p (t ∷ ts) = follow (after p t) ts
+
+-- how a call ends that may answer none
+abbrev pub ending : Option ℕ → Phase
+ending (Some x) = found x
+ending None = missed
+
+-- A whole Miss of the kind k: every quick word and cell of it gave 0, the kind word of each block was loaded,
+-- and each mask whose block was then of the kind gave 0, or the kind word loaded after it was another.
+abbrev pub WholeMiss : ℕ → ℕ → List Did → Type 0
+WholeMiss k blocks trace = follow k blocks (probe 0) trace ≡ missed

@@ -1,0 +1,300 @@
+//! Opening and closing, seats, the gate, and what its holder may do.
+ghost use Rattle.std.specs.Prelude.{◌≡◌, ◌≢◌, ℕ, ◌+◌, ◌*◌, ◌<◌, ◌≤◌, true, false, [], ◌∷◌, length, replicate};
+ghost use Rattle.std.specs.Prelude.{IfOk, IfSome, OnSome, IfNone, Some};
+ghost use Rattle.hd_model.specs.Kinds.{kind_number, is_paired};
+ghost use Rattle.hd_custody.specs.Counts.{in_hand, changed, Has};
+ghost use Rattle.hd_custody.specs.Views.{starting, shared_out, given, joined, took, opened, closed, granted, gave_back, with_data};
+ghost use Rattle.hd_custody.specs.Views.{Follows, MayGrant, GrowsFor, handle_block, extra_block};
+ghost use Rattle.hd_custody.specs.Rule.{Entered, Divided, IsUnused};
+
+use crate::plays::{Assign, Clear, Cut, Ends, Enter, Leave, Share};
+use crate::rule::{Board, Place};
+use crate::types::{Custody, Seat};
+use atomic_table::{Refused, Table};
+use hd_model::{Grown, Held, Kind, Memory};
+use std::alloc::{AllocError, Global};
+use std::marker::Brand;
+use std::snapshot::Snapshot;
+use std::sync::Wait;
+
+// The number of words of a table.
+const WORDS: usize = 1402;
+
+// All rows of a block but row 0.
+const ROWS_AFTER_FIRST: u64 = u64::MAX - 1;
+
+// How often a caller that lost the gate looks whether it is free before it sleeps.
+const LOOKS: u32 = 64;
+
+fn zeros(alloc: Global) -> Result<Vec<u64>, AllocError>
+    ensures { IfOk result (λ v. v.items ≡ replicate 1402 0) }
+{
+    Vec::from_elem(alloc, 0, WORDS)
+}
+
+fn single<W: Held>(alloc: Global, world: W) -> Result<Vec<Option<W>>, AllocError>
+    ensures { IfOk result (λ v. v.items ≡ Some world ∷ []) }
+{
+    let mut slots = Vec::with_capacity(alloc, 1)?;
+    slots.push_reserved(Some(world));
+    Ok(slots)
+}
+
+impl<W: Held> Custody<W> {
+    /// A table over a world in which nothing is live or done yet. It has `blocks` blocks, none with
+    /// a kind, and this first seat, number 0, which may add as many entries as the world has room
+    /// for. After `Memory` the world was dropped.
+    pub fn open(alloc: Global, blocks: u32, world: W) -> Result<(Custody<W>, Seat<W>), Memory>
+        requires blocks { (1 ≤ blocks) × (blocks ≤ 256) }
+        requires unused { IsUnused W.Held world }
+        ensures table { IfOk result (λ r. (r.0.blocks ≡ blocks) × (r.0.numbers ≡ W.numbers world)) }
+        ensures seat { IfOk result (λ r. (r.1.table ≡ r.0.table)
+            × (r.1.view ≡ starting (W.spare world) (W.numbers world))) }
+    {
+        let about = Snapshot::of(&world);
+        let Ok(words) = zeros(alloc) else {
+            return Err(Memory);
+        };
+        let Ok(slots) = single(alloc, world) else {
+            return Err(Memory);
+        };
+        match Table::new(alloc, words.as_slice(), slots, &about) {
+            Ok((table, place)) => Ok((Custody { table, blocks }, Seat { place })),
+            Err(Refused { slots: _ }) => Err(Memory),
+        }
+    }
+
+    /// A seat for one caller more, with the next number and nothing in its hand. Of the entries that
+    /// seat 0 may still add, it gets `share`.
+    pub fn split(&self, first: &mut Seat<W>, share: u32) -> Seat<W>
+        requires seat { first.old.table ≡ self.now.table }
+        requires first { first.old.view.number ≡ 0 }
+        requires share { share ≤ first.old.view.room }
+        ensures first { first.new ≡ record first.old { view = shared_out share first.old.view } }
+        ensures new { result ≡ record {
+          table = self.now.table;
+          view =
+              given share first.old.view;
+        } }
+    {
+        self.cut::<Brand>(first, share)
+    }
+
+    fn cut<N: Share>(&self, first: &mut Seat<W>, _share: u32) -> Seat<W>
+        requires picked { N.share ≡ _share }
+        requires seat { first.old.table ≡ self.now.table }
+        requires first { first.old.view.number ≡ 0 }
+        requires share { _share ≤ first.old.view.room }
+        ensures first { first.new ≡ record first.old { view = shared_out _share first.old.view } }
+        ensures new { result ≡ record {
+          table = self.now.table;
+          view =
+              given _share first.old.view;
+        } }
+    {
+        let _blocks = self.blocks;
+        let place = self.table.shared.split_seat::<Cut<N>>(&mut first.place);
+        Seat { place }
+    }
+
+    /// Ends a seat whose hand is empty and which has not got the gate. Its part is kept with seat 0,
+    /// which also gets the entries that it might still have added.
+    pub fn join(&self, first: &mut Seat<W>, ended: Seat<W>)
+        requires seat { first.old.table ≡ self.now.table }
+        requires other { ended.table ≡ self.now.table }
+        requires first { first.old.view.number ≡ 0 }
+        requires empty { ended.view.hand ≡ [] }
+        requires gate { ended.view.has_gate ≡ false }
+        ensures first { first.new ≡ record first.old { view = joined first.old.view ended.view } }
+    {
+        let _blocks = self.blocks;
+        let Seat { place } = ended;
+        self.table.shared.join_seat::<Ends>(&mut first.place, place);
+    }
+
+    /// The world, once all other seats were joined to seat 0. Its journal has of each caller exactly
+    /// that caller's part.
+    pub fn close(self, first: Seat<W>) -> W
+        requires seat { first.table ≡ self.table }
+        requires first { first.view.number ≡ 0 }
+        requires gate { first.view.has_gate ≡ false }
+        requires all { length first.view.ended + 1 ≡ first.view.made }
+        ensures world { Divided W.Held first.view result }
+    {
+        let Custody { table, blocks: _ } = self;
+        let Seat { place } = first;
+        home(table, place)
+    }
+
+    // The world, where the gate was free.
+    fn try_enter(&self, seat: &mut Seat<W>) -> Option<W>
+        requires seat { seat.old.table ≡ self.now.table }
+        requires gate { seat.old.view.has_gate ≡ false }
+        ensures lost { IfNone result (seat.new ≡ seat.old) }
+        ensures won { IfSome result (λ w. seat.new ≡ record seat.old {
+          view =
+              took w seat.old.view;
+        }) }
+        ensures entered { IfSome result (Entered W.Held seat.old.view) }
+    {
+        let _blocks = self.blocks;
+        if self.table.shared.swap::<Enter>(&mut seat.place, 0, 1) != 0 {
+            return None;
+        }
+        self.table.shared.exchange(&mut seat.place, 0, None)
+    }
+
+    // Whether the gate was free at one of a few looks. It tells nothing for certain.
+    fn looks_free(&self) -> bool {
+        let _blocks = self.blocks;
+        for _look in 0..LOOKS {
+            if self.table.shared.peek(0) == 0 {
+                return true;
+            }
+        }
+        false
+    }
+
+    /// Takes the gate, and with it the world. It may wait for whoever has it. No slot of the hand is
+    /// live in that world, each that has a kind is there in a block of that kind, its journal has of
+    /// this caller exactly the seat's part, and it has room for the entries that the seat may still
+    /// add.
+    pub fn enter<R: Wait>(&self, rt: &R, seat: &mut Seat<W>) -> W
+        requires seat { seat.old.table ≡ self.now.table }
+        requires gate { seat.old.view.has_gate ≡ false }
+        ensures view { seat.new ≡ record seat.old { view = took result seat.old.view } }
+        ensures entered { Entered W.Held seat.old.view result }
+    {
+        for _try in rt.forever() {
+            if let Some(world) = self.try_enter(seat) {
+                return world;
+            }
+            if !self.looks_free() {
+                let _blocks = self.blocks;
+                self.table.shared.park(rt, 0, 1);
+            }
+        }
+        unreachable!()
+    }
+
+    /// Gives the gate back with the world, and wakes a caller that may wait for it. Slots that became
+    /// live leave the hand, and slots that are live no more come into it, each with its block's kind.
+    pub fn leave(&self, seat: &mut Seat<W>, world: W)
+        requires seat { seat.old.table ≡ self.now.table }
+        requires gate { seat.old.view.has_gate ≡ true }
+        requires follows { (u : W) × (seat.old.view.taken ≡ Some u)
+            × Follows W.Held u world seat.old.view }
+        ensures view { (u : W) → seat.old.view.taken ≡ Some u
+            → seat.new ≡ record seat.old { view = gave_back W.Held u world seat.old.view } }
+    {
+        let _blocks = self.blocks;
+        let shared = &self.table.shared;
+        shared.exchange(&mut seat.place, 0, Some(world));
+        shared.store::<Leave>(&mut seat.place, 0, 0);
+        shared.wake_one(0);
+    }
+
+    // Stores the kind word of a block that has no kind.
+    fn assign(&self, place: &mut Place<W>, block: usize, kind: u64)
+        requires seat { (place.old.table_id ≡ self.now.table) × (place.old.me.0.is_spent ≡ false) }
+        requires gate { place.old.me.0.has_gate ≡ true }
+        requires block { (0 < block) × (block < 257) × (0 < kind) }
+        requires no_kind { (u : W) × (place.old.me.0.taken ≡ Some u)
+            × (changed place.old.me.0.changes (W.kind u) block ≡ 0) }
+        ensures table { place.new.table_id ≡ place.old.table_id }
+        ensures view { place.new.me ≡ (opened block kind place.old.me.0, place.old.me.1) }
+        ensures apart { (r : ℕ) → r < 64 → in_hand (64 * block + r) place.old.me.0.hand ≡ 0 }
+    {
+        let _blocks = self.blocks;
+        self.table.shared.store::<Assign>(place, block, kind);
+    }
+
+    /// Gives a kind to a block without one, and for a paired kind makes another its data block. Slot 0
+    /// of the block stays in the hand, and the others go into its mask.
+    pub fn grant(&self, seat: &mut Seat<W>, kind: Kind, grown: Grown)
+        requires seat { seat.old.table ≡ self.now.table }
+        requires gate { seat.old.view.has_gate ≡ true }
+        requires grows { GrowsFor (is_paired kind) grown }
+        requires blocks { MayGrant W.Held self.now.blocks (handle_block grown) (extra_block grown)
+            seat.old.view }
+        ensures view { seat.new ≡ record seat.old {
+          view = granted (kind_number kind) (handle_block grown) (extra_block grown) seat.old.view;
+        } }
+    {
+        let _blocks = self.blocks;
+        match grown {
+            Grown::Zero => unreachable!(),
+            Grown::One(block) => self.give(&mut seat.place, kind.number(), block, 0),
+            Grown::Two(block, extra) => self.give(&mut seat.place, kind.number(), block, extra),
+            Grown::Back(_) => unreachable!(),
+        }
+    }
+
+    // Makes a block without a kind a data block. Block 0 is none.
+    fn assign_data(&self, place: &mut Place<W>, block: u32)
+        requires seat { (place.old.table_id ≡ self.now.table) × (place.old.me.0.is_spent ≡ false) }
+        requires gate { place.old.me.0.has_gate ≡ true }
+        requires block { block < 257 }
+        requires no_kind { (u : W) × (place.old.me.0.taken ≡ Some u)
+            × (block ≢ 0 → changed place.old.me.0.changes (W.kind u) block ≡ 0) }
+        ensures table { place.new.table_id ≡ place.old.table_id }
+        ensures view { place.new.me ≡ (
+          record place.old.me.0 {
+            changes =
+                with_data block place.old.me.0.changes;
+          },
+          place.old.me.1,
+        ) }
+    {
+        if block != 0 {
+            self.assign(place, block as usize, 8);
+        }
+    }
+
+    // The stores of a grant, by the number of the kind. Block 0 is no data block.
+    fn give(&self, place: &mut Place<W>, kind: u32, block: u32, extra: u32)
+        requires seat { (place.old.table_id ≡ self.now.table) × (place.old.me.0.is_spent ≡ false) }
+        requires gate { place.old.me.0.has_gate ≡ true }
+        requires kind { kind < 7 }
+        requires blocks { MayGrant W.Held self.now.blocks block extra place.old.me.0 }
+        ensures table { place.new.table_id ≡ place.old.table_id }
+        ensures view { place.new.me ≡ (granted kind block extra place.old.me.0, place.old.me.1) }
+    {
+        let _blocks = self.blocks;
+        self.assign(place, block as usize, kind as u64 + 1);
+        self.assign_data(place, extra);
+        self.fill(place, 256 + block as usize, ROWS_AFTER_FIRST);
+    }
+
+    /// Takes the kind of a block whose 64 slots are all in the hand, which they leave.
+    pub fn withdraw(&self, seat: &mut Seat<W>, block: u32)
+        requires seat { seat.old.table ≡ self.now.table }
+        requires gate { seat.old.view.has_gate ≡ true }
+        requires block { (0 < block) × (block ≤ self.now.blocks) }
+        requires all { (r : ℕ) → r < 64 → Has (64 * block + r) seat.old.view.hand }
+        ensures view { seat.new ≡ record seat.old { view = closed block seat.old.view } }
+    {
+        let _blocks = self.blocks;
+        self.table
+            .shared
+            .store::<Clear>(&mut seat.place, block as usize, 0);
+    }
+}
+
+// What the slot of a table has at its end.
+fn home<W: Held>(table: Board<W>, place: Place<W>) -> W
+    requires seat { place.table_id ≡ table.shared.table_id }
+    requires slots { table.shared.table_id.slots ≡ 1 }
+    requires first { (place.me.0.is_spent ≡ false) × (place.me.0.number ≡ 0)
+        × (place.me.0.has_gate ≡ false) }
+    requires all { length place.me.0.ended + 1 ≡ place.me.0.made }
+    ensures { Divided W.Held place.me.0 result }
+{
+    let mut closed = table.close_with(place);
+    let world = closed.take(0);
+    closed.free();
+    match world {
+        Some(world) => world,
+        None => unreachable!(),
+    }
+}

@@ -1,0 +1,26 @@
+//! The rule of the table. Its words: 0 is the gate, 1 to 256 are the kind words of the blocks, 257
+//! to 512 their masks, and from 513 on each kind has a quick word, 63 reserve cells and 63 free
+//! cells. Its one slot has the world.
+use crate::view::View;
+use atomic_table::{Seat, Shared, Table, TableRule};
+use hd_model::Held;
+use std::alloc::Global;
+use std::snapshot::Snapshot;
+
+/// What holds between any two steps. No value of it is made.
+pub struct Law;
+
+impl<W: Held> TableRule<Option<W>, View<W>, Snapshot<W>> for Law {
+    ghost use Rattle.hd_custody.specs.Views.{starting};
+    ghost use Rattle.hd_custody.specs.Rule.{Custodied};
+
+    ghost holds = { λ about s. Custodied W.Held (W.numbers about.value) s };
+
+    ghost first = { λ about. starting (W.spare about.value) (W.numbers about.value) };
+}
+
+pub(crate) type Board<W> = Table<Option<W>, View<W>, Snapshot<W>, Law, Global>;
+
+pub(crate) type Words<W> = Shared<Option<W>, View<W>, Snapshot<W>, Law>;
+
+pub(crate) type Place<W> = Seat<Option<W>, View<W>>;

@@ -1,0 +1,108 @@
+//! The single steps on the words, each by a seat whose view says what it may do.
+ghost use Rattle.std.specs.Prelude.{◌≡◌, ◌≢◌, ℕ, ◌+◌, ◌-◌, ◌*◌, ◌/◌, ◌<◌, ◌≤◌, false};
+ghost use Rattle.std.specs.Int.{bit_at};
+ghost use Rattle.hd_custody.specs.Counts.{kind_at, Has, HasAs};
+ghost use Rattle.hd_custody.specs.Views.{begun, swapped, banked, looked, drained, restored, put_in, Fresh, KindIs};
+
+use crate::plays::{Bank, Begin, Drain, Exchange, Look, PutIn, Return};
+use crate::rule::Place;
+use crate::types::Custody;
+use hd_model::Held;
+
+impl<W: Held> Custody<W> {
+    // The first step of a call: an exchange of a quick word or cell.
+    pub(crate) fn begin(&self, place: &mut Place<W>, word: usize, new: u64) -> u64
+        requires seat { (place.old.table_id ≡ self.now.table) × (place.old.me.0.is_spent ≡ false) }
+        requires cell { (513 ≤ word) × (word < 1402) }
+        requires slot { new ≢ 0 → HasAs (new, kind_at word + 1) place.old.me.0.hand }
+        ensures table { place.new.table_id ≡ place.old.table_id }
+        ensures view { place.new.me ≡ (
+          swapped word result new (begun place.old.me.0),
+          place.old.me.1,
+        ) }
+        ensures fresh { result ≢ 0 → Fresh W.Held place.old.me.0 result }
+        ensures kind { result ≢ 0 → KindIs W.Held place.old.me.0 (result / 64) (kind_at word + 1) }
+    {
+        let _blocks = self.blocks;
+        self.table.shared.swap::<Begin>(place, word, new)
+    }
+
+    // An exchange of a quick word or cell.
+    pub(crate) fn exchange(&self, place: &mut Place<W>, word: usize, new: u64) -> u64
+        requires seat { (place.old.table_id ≡ self.now.table) × (place.old.me.0.is_spent ≡ false) }
+        requires cell { (513 ≤ word) × (word < 1402) }
+        requires slot { new ≢ 0 → HasAs (new, kind_at word + 1) place.old.me.0.hand }
+        ensures table { place.new.table_id ≡ place.old.table_id }
+        ensures view { place.new.me ≡ (swapped word result new place.old.me.0, place.old.me.1) }
+        ensures fresh { result ≢ 0 → Fresh W.Held place.old.me.0 result }
+        ensures kind { result ≢ 0 → KindIs W.Held place.old.me.0 (result / 64) (kind_at word + 1) }
+    {
+        let _blocks = self.blocks;
+        self.table.shared.swap::<Exchange>(place, word, new)
+    }
+
+    // A compare-exchange of a cell from 0 to a slot.
+    pub(crate) fn bank(&self, place: &mut Place<W>, word: usize, new: u64) -> u64
+        requires seat { (place.old.table_id ≡ self.now.table) × (place.old.me.0.is_spent ≡ false) }
+        requires cell { (513 ≤ word) × (word < 1402) }
+        requires slot { new ≢ 0 → HasAs (new, kind_at word + 1) place.old.me.0.hand }
+        ensures table { place.new.table_id ≡ place.old.table_id }
+        ensures view { place.new.me ≡ (banked word result new place.old.me.0, place.old.me.1) }
+    {
+        let _blocks = self.blocks;
+        self.table
+            .shared
+            .compare_exchange::<Bank>(place, word, 0, new)
+    }
+
+    // A load of the kind word of a block, whose slots in the hand then have that kind.
+    pub(crate) fn look(&self, place: &mut Place<W>, block: usize) -> u64
+        requires seat { (place.old.table_id ≡ self.now.table) × (place.old.me.0.is_spent ≡ false) }
+        requires block { (0 < block) × (block < 257) }
+        ensures table { place.new.table_id ≡ place.old.table_id }
+        ensures view { place.new.me ≡ (looked block result place.old.me.0, place.old.me.1) }
+        ensures kind { KindIs W.Held place.old.me.0 block result }
+    {
+        let _blocks = self.blocks;
+        self.table.shared.load::<Look>(place, block)
+    }
+
+    // An exchange of a mask with 0, whose slots come to the hand without a kind.
+    pub(crate) fn drain(&self, place: &mut Place<W>, word: usize) -> u64
+        requires seat { (place.old.table_id ≡ self.now.table) × (place.old.me.0.is_spent ≡ false) }
+        requires mask { (257 ≤ word) × (word < 513) }
+        ensures table { place.new.table_id ≡ place.old.table_id }
+        ensures view { place.new.me ≡ (drained word result place.old.me.0, place.old.me.1) }
+        ensures fresh { (r : ℕ) → r < 64 → bit_at result r ≡ 1
+            → Fresh W.Held place.old.me.0 (64 * (word - 256) + r) }
+    {
+        let _blocks = self.blocks;
+        self.table.shared.swap::<Drain>(place, word, 0)
+    }
+
+    // A fetch-or of rows into the mask of their block.
+    pub(crate) fn put_back(&self, place: &mut Place<W>, word: usize, rows: u64) -> u64
+        requires seat { (place.old.table_id ≡ self.now.table) × (place.old.me.0.is_spent ≡ false) }
+        requires mask { (257 ≤ word) × (word < 513) }
+        requires slots { (r : ℕ) → r < 64 → bit_at rows r ≡ 1
+            → Has (64 * (word - 256) + r) place.old.me.0.hand }
+        ensures table { place.new.table_id ≡ place.old.table_id }
+        ensures view { place.new.me ≡ (restored word rows result place.old.me.0, place.old.me.1) }
+    {
+        let _blocks = self.blocks;
+        self.table.shared.fetch_or::<Return>(place, word, rows)
+    }
+
+    // The same without a trace.
+    pub(crate) fn fill(&self, place: &mut Place<W>, word: usize, rows: u64)
+        requires seat { (place.old.table_id ≡ self.now.table) × (place.old.me.0.is_spent ≡ false) }
+        requires mask { (257 ≤ word) × (word < 513) }
+        requires slots { (r : ℕ) → r < 64 → bit_at rows r ≡ 1
+            → Has (64 * (word - 256) + r) place.old.me.0.hand }
+        ensures table { place.new.table_id ≡ place.old.table_id }
+        ensures view { place.new.me ≡ (put_in word rows place.old.me.0, place.old.me.1) }
+    {
+        let _blocks = self.blocks;
+        self.table.shared.fetch_or::<PutIn>(place, word, rows);
+    }
+}

@@ -1,0 +1,44 @@
+use crate::rule::{Board, Place};
+use hd_model::Held;
+use std::marker::Model;
+
+/// A caller's token at a table. It has no bytes. Contracts see the table and what the caller knows.
+#[derive(Drop)]
+pub struct Seat<W: Held> {
+    pub(crate) place: Place<W>,
+}
+
+impl<W: Held> Model for Seat<W> {
+    ghost use Rattle.hd_custody.specs.Views.{Known, IsSeated};
+
+    ghost Value = { Known W };
+
+    ghost view = { λ s. record { table = s.place.table_id; view = s.place.me.0 } };
+
+    ghost invariant = { λ s. IsSeated s.place.me };
+}
+
+/// The words that callers share, and the world under its gate. Contracts see the table, its number
+/// of blocks, and the numbers of the world.
+#[derive(Drop)]
+pub struct Custody<W: Held> {
+    pub(crate) table: Board<W>,
+    pub(crate) blocks: u32,
+}
+
+impl<W: Held> Model for Custody<W> {
+    ghost use Rattle.std.specs.Prelude.{◌≡◌, ◌≤◌};
+    ghost use Rattle.hd_custody.specs.Views.{Named};
+
+    ghost Value = { Named };
+
+    ghost view = { λ c. record {
+      table = c.table.shared.table_id;
+      blocks = c.blocks;
+      numbers = W.numbers c.table.shared.key.value;
+    } };
+
+    ghost invariant = { λ c. (c.table.shared.table_id.words ≡ 1402)
+        × (c.table.shared.table_id.slots ≡ 1)
+        × (1 ≤ c.blocks) × (c.blocks ≤ 256) };
+}
