@@ -2,8 +2,7 @@
 use Rattle.std.proofs.Common.{◌≡◌, ◌≤◌, ◌+◌, ℕ, List, [], ◌++◌, length, take, arith, length-take, Option, None, Some, refl, sym, ◌∙◌, ap, subst, append_assoc, length-append}
 use Rattle.std.specs.Io.KnownBytes.{Consumes}
 use Rattle.hd_io.specs.Counts.{RoseBy}
-use Rattle.hd_io.specs.Left.{Gave}
-use Rattle.hd_io.proofs.Counting.{rose_by_none, rose_by_more}
+use Rattle.hd_io.specs.Source.{SourceView, Gave, GaveCount}
 
 consumes_none : (w : Option (List ℕ)) → Consumes w w []
 consumes_none None = tt
@@ -17,23 +16,31 @@ consumes_more (Some xs) (Some ys) None p q first then = absurd then
 consumes_more (Some xs) (Some ys) (Some zs) p q first then =
     first ∙ ap (λ v. p ++ v) then ∙ sym (append_assoc p q zs)
 
--- how many bytes there are with the first n of a buffer behind them
-pub length_with_read : (p buf : List ℕ) (n : ℕ) → n ≤ length buf →
-    length (p ++ take n buf) ≡ length p + n
-length_with_read p buf n fits = omega (arith, length-append p (take n buf), length-take n buf)
+rose_by_more : (a b c m n : ℕ) → RoseBy a b m → RoseBy b c n → RoseBy a c (m + n)
+rose_by_more a b c m n first then = grind arith
 
-module _ {S : Type 0} (left : S → Option (List ℕ)) (given : S → ℕ) where
-  -- where nothing was read, nothing was given
-  pub gave_none : (a : S) → Gave left given a a []
-  gave_none a = record { told = consumes_none (left a); counted = rose_by_none (given a) }
+-- where nothing was read, nothing was given
+pub gave_none : (a : SourceView) → Gave a a []
+gave_none a = record { told = consumes_none a.left; counted = grind arith; unfailed = refl }
 
-  -- these bytes and then those are both as one
-  pub gave_more : (a b c : S) (p q : List ℕ) →
-      Gave left given a b p → Gave left given b c q → Gave left given a c (p ++ q)
-  gave_more a b c p q first then =
-      let rose : RoseBy (given a) (given c) (length p + length q) =
-      rose_by_more (given a) (given b) (given c) _ _ first.counted then.counted in
-      record {
-        told = consumes_more (left a) (left b) (left c) p q first.told then.told;
-        counted = subst (λ n. RoseBy (given a) (given c) n) (sym (length-append p q)) rose;
-      }
+-- these bytes and then those are both as one
+pub gave_more : (a b c : SourceView) (p q : List ℕ) → Gave a b p → Gave b c q → Gave a c (p ++ q)
+gave_more a b c p q first then = record {
+  told = consumes_more a.left b.left c.left p q first.told then.told;
+  counted = subst (λ n. RoseBy a.given c.given n) (sym (length-append p q))
+      (rose_by_more a.given b.given c.given _ _ first.counted then.counted);
+  unfailed = then.unfailed ∙ first.unfailed;
+}
+
+-- and so with the first n bytes of a buffer, whose number is known
+pub gave_count : (a b c : SourceView) (p buf : List ℕ) (n : ℕ) (IsCount : ℕ → Type 0) →
+    Gave a b p → Gave b c (take n buf) → n ≤ length buf → IsCount (length p + n) →
+    GaveCount a c IsCount
+gave_count a b c p buf n IsCount first then fits count =
+    let long : length p + n ≡ length (p ++ take n buf) =
+    omega (arith, length-append p (take n buf), length-take n buf) in
+    record {
+      bytes = p ++ take n buf;
+      gave = gave_more a b c p (take n buf) first then;
+      count = subst IsCount long count;
+    }

@@ -1,5 +1,5 @@
 -- The calls of a source or a sink in memory, some of which are to fail.
-use Rattle.std.specs.Prelude.{ℕ, ◌+◌, ◌-◌, ◌^◌, min, List, Bool, nat_eq, if◌then◌else◌}
+use Rattle.std.specs.Prelude.{ℕ, List, Bool, nat_eq, if◌then◌else◌}
 use Rattle.std.specs.List.{list_any}
 use Rattle.hd_io.specs.Counts.{count_up}
 
@@ -17,10 +17,10 @@ no_calls failing = record { failing = failing; next = 1; faults = 0 }
 abbrev pub fails_next : Calls → Bool
 fails_next calls = list_any (λ number. nat_eq number calls.next) calls.failing
 
--- behind one more call: its number stands still at the end of a u32
+-- after one more call: its number stands still at the end of a u64
 abbrev pub after_call : Calls → Calls
 after_call calls = record {
   failing = calls.failing;
-  next = min (calls.next + 1) (2 ^ 32 - 1);
+  next = count_up calls.next 1;
   faults = if fails_next calls then count_up calls.faults 1 else calls.faults;
 }

@@ -5,9 +5,9 @@ use Rattle.std.specs.Prelude.{◌≡◌, ℕ, ◌+◌, ◌-◌, ◌^◌, ◌<◌
 abbrev pub last_count : ℕ
 last_count = 2 ^ 64 - 1
 
--- the count rose, or stands at its end
+-- the count rose, or stands still at its end
 abbrev pub Rose : ℕ → ℕ → Type 0
-Rose old new = (old < new) ⊎ (last_count ≤ new)
+Rose old new = (old < new) ⊎ ((new ≡ old) × (last_count ≤ old))
 
 -- the count rose by n, or stands at its end
 abbrev pub RoseBy : ℕ → ℕ → ℕ → Type 0

@@ -1,6 +1,6 @@
 pub mod Counts
-pub mod Left
-pub mod Written
+pub mod Source
+pub mod Sink
 pub mod Calls
 pub mod Memory
 pub mod Stream

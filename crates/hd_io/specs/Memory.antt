@@ -1,6 +1,8 @@
 -- A source and a sink in memory, as contracts see them.
 use Rattle.std.specs.Prelude.{ℕ, ◌+◌, List, ◌++◌, length, drop, Option, None, Some, nat_le, if◌then◌else◌}
 use Rattle.hd_io.specs.Calls.{Calls, after_call}
+use Rattle.hd_io.specs.Source.{SourceView}
+use Rattle.hd_io.specs.Sink.{SinkView}
 
 -- a source: what it has left, how many bytes it has given, and its calls
 pub record Reading : Type 0 where
@@ -8,7 +10,11 @@ pub record Reading : Type 0 where
   pub given : ℕ
   pub calls : Calls
 
--- the source behind a read that took n bytes
+-- what is seen of it as a source
+abbrev pub reading_view : Reading → SourceView
+reading_view s = record { left = Some s.left; given = s.given; faults = s.calls.faults }
+
+-- the source after a read that took n bytes
 abbrev pub after_read : Reading → ℕ → Reading
 after_read source n = record {
   left = drop n source.left;
@@ -22,13 +28,17 @@ pub record Writing : Type 0 where
   pub room : ℕ
   pub calls : Calls
 
--- what is told as written behind a piece that was taken: it is kept where it fits into the room
+-- what is seen of it as a sink
+abbrev pub writing_view : Writing → SinkView
+writing_view s = record { written = s.written; faults = s.calls.faults }
+
+-- what is told as written after a piece that was taken: it is kept where it fits into the room
 abbrev pub with_piece : ℕ → Option (List ℕ) → List ℕ → Option (List ℕ)
 with_piece room None piece = None
 with_piece room (Some bytes) piece =
     if nat_le (length bytes + length piece) room then Some (bytes ++ piece) else None
 
--- the sink behind a write that took this piece
+-- the sink after a write that took this piece
 abbrev pub after_write : Writing → List ℕ → Writing
 after_write sink piece = record {
   written = with_piece sink.room sink.written piece;

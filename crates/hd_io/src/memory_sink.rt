@@ -1,8 +1,9 @@
 // A sink in memory. Each of its calls fails or succeeds as was said when it was opened.
-ghost use Rattle.std.specs.Prelude.{◌≡◌, [], ◌<◌, ◌≤◌, length, Some, IfOk, OnOk, OnErr, option_copied};
+ghost use Rattle.std.specs.Prelude.{◌≡◌, [], ◌<◌, length, Some, IfOk, OnOk, OnErr, option_copied};
 ghost use Rattle.std.specs.Result.{is_err};
+ghost use Rattle.hd_io.specs.Counts.{Rose};
 ghost use Rattle.hd_io.specs.Calls.{no_calls, fails_next, after_call};
-ghost use Rattle.hd_io.specs.Memory.{after_write};
+ghost use Rattle.hd_io.specs.Memory.{writing_view, after_write};
 
 use crate::calls::CallCount;
 use crate::{Failed, Sink};
@@ -69,9 +70,7 @@ impl MemorySink {
 }
 
 impl Sink for MemorySink {
-    ghost written = { λ s. s.written };
-
-    ghost faults = { λ s. s.calls.faults };
+    ghost seen = { writing_view };
 
     fn write(&mut self, piece: &[u8]) -> Result<usize, Failed>
         requires { 0 < length piece.now }
@@ -80,7 +79,8 @@ impl Sink for MemorySink {
         ensures ok { OnOk result (self.new ≡ after_write self.old piece.now) }
         ensures err { OnErr result
             (self.new ≡ record self.old { calls = after_call self.old.calls }) }
-        ensures never_falls { self.old.calls.faults ≤ self.new.calls.faults }
+        ensures unfailed { OnOk result (self.new.calls.faults ≡ self.old.calls.faults) }
+        ensures failed { OnErr result (Rose self.old.calls.faults self.new.calls.faults) }
     {
         self.calls.count_one()?;
         if piece.len() > self.room - self.bytes.len() {

@@ -1,8 +1,9 @@
 // A source in memory. Each of its calls fails or succeeds as was said when it was opened.
-ghost use Rattle.std.specs.Prelude.{◌≡◌, ◌<◌, ◌≤◌, min, length, take, Some, IfOk, OnErr};
+ghost use Rattle.std.specs.Prelude.{◌≡◌, ◌<◌, min, length, take, IfOk, OnOk, OnErr};
 ghost use Rattle.std.specs.Result.{is_err};
+ghost use Rattle.hd_io.specs.Counts.{Rose};
 ghost use Rattle.hd_io.specs.Calls.{no_calls, fails_next, after_call};
-ghost use Rattle.hd_io.specs.Memory.{after_read};
+ghost use Rattle.hd_io.specs.Memory.{reading_view, after_read};
 
 use crate::calls::CallCount;
 use crate::{Failed, Source};
@@ -50,11 +51,7 @@ impl MemorySource {
 }
 
 impl Source for MemorySource {
-    ghost left = { λ s. Some s.left };
-
-    ghost given = { λ s. s.given };
-
-    ghost faults = { λ s. s.calls.faults };
+    ghost seen = { reading_view };
 
     fn read(&mut self, buf: &mut [u8]) -> Result<usize, Failed>
         requires { 0 < length buf.old }
@@ -64,7 +61,8 @@ impl Source for MemorySource {
         ensures ok { IfOk result (λ n. self.new ≡ after_read self.old n) }
         ensures err { OnErr result
             (self.new ≡ record self.old { calls = after_call self.old.calls }) }
-        ensures never_falls { self.old.calls.faults ≤ self.new.calls.faults }
+        ensures unfailed { OnOk result (self.new.calls.faults ≡ self.old.calls.faults) }
+        ensures failed { OnErr result (Rose self.old.calls.faults self.new.calls.faults) }
     {
         self.calls.count_one()?;
         let rest = &self.bytes[self.at..];

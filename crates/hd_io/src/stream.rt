@@ -1,8 +1,8 @@
 // Readers and writers of the standard library as a source and a sink: the edge of what is proved.
 ghost use Rattle.std.specs.Prelude.{◌≡◌, ◌<◌, ◌≤◌, length, None, IfOk, OnOk, OnErr};
 ghost use Rattle.std.specs.Io.KnownBytes.{ReadConsumes, WriteAppends};
-ghost use Rattle.hd_io.specs.Counts.{count_up};
-ghost use Rattle.hd_io.specs.Stream.{reader_of, given_by, read_faults, writer_of, write_faults};
+ghost use Rattle.hd_io.specs.Counts.{Rose, count_up};
+ghost use Rattle.hd_io.specs.Stream.{reader_of, source_view, writer_of, sink_view};
 
 use crate::{Failed, Sink, Source};
 use std::io::{Read, Write};
@@ -19,8 +19,7 @@ pub struct StdSource<R> {
 impl<R: Read> StdSource<R> {
     pub fn over(reader: R) -> StdSource<R>
         ensures reader { reader_of result ≡ reader }
-        ensures given { given_by result ≡ 0 }
-        ensures faults { read_faults result ≡ 0 }
+        ensures seen { source_view result ≡ record { left = None; given = 0; faults = 0 } }
     {
         StdSource {
             reader,
@@ -31,20 +30,16 @@ impl<R: Read> StdSource<R> {
 }
 
 impl<R: Read> Source for StdSource<R> {
-    ghost left = { λ _. None };
-
-    ghost given = { given_by };
-
-    ghost faults = { read_faults };
+    ghost seen = { source_view };
 
     fn read(&mut self, buf: &mut [u8]) -> Result<usize, Failed>
         ensures count { IfOk result (λ n. n ≤ length buf.new) }
-        ensures given { IfOk result (λ n. given_by self.new ≡ count_up (given_by self.old) n) }
-        ensures given_err { OnErr result (given_by self.new ≡ given_by self.old) }
-        ensures faults { OnOk result (read_faults self.new ≡ read_faults self.old) }
-        ensures faults_err { OnErr result
-            (read_faults self.new ≡ count_up (read_faults self.old) 1) }
-        ensures never_falls { read_faults self.old ≤ read_faults self.new }
+        ensures gave { IfOk result (λ n. let old = source_view self.old in
+            source_view self.new ≡ record old { given = count_up old.given n }) }
+        ensures err { let old = source_view self.old in OnErr result
+            (source_view self.new ≡ record old { faults = count_up old.faults 1 }) }
+        ensures rose { OnErr result
+            (Rose (source_view self.old).faults (source_view self.new).faults) }
 
         // Where it is known what the reader has left, these bytes are taken off there.
         ensures bytes { ReadConsumes (R.remaining (reader_of self.old))
@@ -74,24 +69,22 @@ pub struct StdSink<W> {
 impl<W: Write> StdSink<W> {
     pub fn over(writer: W) -> StdSink<W>
         ensures writer { writer_of result ≡ writer }
-        ensures faults { write_faults result ≡ 0 }
+        ensures seen { sink_view result ≡ record { written = None; faults = 0 } }
     {
         StdSink { writer, faults: 0 }
     }
 }
 
 impl<W: Write> Sink for StdSink<W> {
-    ghost written = { λ _. None };
-
-    ghost faults = { write_faults };
+    ghost seen = { sink_view };
 
     fn write(&mut self, piece: &[u8]) -> Result<usize, Failed>
         ensures some { IfOk result (λ n. 0 < n) }
         ensures count { IfOk result (λ n. n ≤ length piece.now) }
-        ensures faults { OnOk result (write_faults self.new ≡ write_faults self.old) }
-        ensures faults_err { OnErr result
-            (write_faults self.new ≡ count_up (write_faults self.old) 1) }
-        ensures never_falls { write_faults self.old ≤ write_faults self.new }
+        ensures took { OnOk result (sink_view self.new ≡ sink_view self.old) }
+        ensures err { let old = sink_view self.old in OnErr result
+            (sink_view self.new ≡ record old { faults = count_up old.faults 1 }) }
+        ensures rose { OnErr result (Rose (sink_view self.old).faults (sink_view self.new).faults) }
 
         // Where it is known what the writer holds, these bytes are added there.
         ensures bytes { WriteAppends (W.contents (writer_of self.old))

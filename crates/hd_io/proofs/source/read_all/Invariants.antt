@@ -1,16 +1,15 @@
 use Rattle.std.proofs.Common.{◌-◌, ◌≤◌, ◌≡◌, length}
-use Rattle.hd_io.specs.Left.{Gave}
+use Rattle.hd_io.specs.Source.{Gave}
 use Rattle.hd_io.proofs.source.read_all.Given as goal
 
 -- the bytes so far are the ones that were read in this call, and not too many
 abbrev pub invariant-reading : goal.invariant-reading
 invariant-reading g l =
-    let source = g.S.Source in
+    let seen = g.S.Source.seen in
     record {
-      gave : Gave source.left source.given l.fn.source l.source l.bytes.items;
+      gave : Gave (seen l.fn.source) (seen l.source) l.bytes.items;
       within : length l.bytes.items ≤ l.fn.most;
       limit : l.limit ≡ l.fn.most;
-      never_falls : source.faults l.fn.source ≤ source.faults l.source;
     }
 
 abbrev pub decreases-reading : goal.decreases-reading
