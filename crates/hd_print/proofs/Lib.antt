@@ -1,1 +1,5 @@
 pub mod Lines
+pub mod Joining
+pub mod Words
+pub mod Numerals
+pub mod ReadBack

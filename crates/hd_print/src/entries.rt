@@ -1,16 +1,16 @@
 // The lines of a journal.
-ghost use Rattle.std.specs.Prelude.{◌≡◌, ◌+◌, ◌^◌, ◌<◌, ◌≤◌, slice_index, slice_set, All, OnOk, OnErr};
-ghost use Rattle.hd_io.specs.Counts.{Rose};
-ghost use Rattle.hd_io.specs.Written.{Appends, AppendsFront};
+ghost use Rattle.std.specs.Prelude.{◌≡◌, ◌+◌, ◌^◌, ◌<◌, slice_index, slice_set, All, OnOk, OnErr};
+ghost use Rattle.hd_io.specs.Sink.{Took, WriteBrokeOff};
 ghost use Rattle.hd_model.specs.Text.{entry_text, lines_of};
 
-use crate::Line;
+use crate::line::Line;
 use crate::reply::push_reply;
 use hd_io::{Failed, Sink, write_all};
+use hd_model::limits::CALLERS;
 use hd_model::{Entry, Journal};
 
-/// How many callers may write to one journal. They are numbered from 0.
-pub const CALLERS: usize = 16;
+// A count for each caller.
+const COUNTS: usize = CALLERS as usize;
 
 /// The line of an entry: its caller, its number among that caller's entries, and its reply.
 pub fn entry_line(entry: Entry, number: u32) -> Line
@@ -27,7 +27,7 @@ pub fn entry_line(entry: Entry, number: u32) -> Line
 }
 
 // Counts one more entry of a caller, and answers its number.
-fn count_entry(counts: &mut [u32; CALLERS], caller: u32) -> u32
+fn count_entry(counts: &mut [u32; COUNTS], caller: u32) -> u32
     requires known { caller < CALLERS }
     requires fits { slice_index counts.old caller + 1 < 2 ^ 32 }
     ensures number { result ≡ slice_index counts.old caller + 1 }
@@ -39,19 +39,15 @@ fn count_entry(counts: &mut [u32; CALLERS], caller: u32) -> u32
 }
 
 /// Writes the line of each entry, in the journal's order. Each line goes to the sink as one piece.
-/// Where a write fails, what was written is a front of these lines.
+/// A write that failed is its last, and a prefix of these lines was written then.
 pub fn write_entries<K: Sink>(journal: &Journal, sink: &mut K) -> Result<(), Failed>
     requires { All (λ e. e.caller < CALLERS) journal.now.entries }
-    ensures all { let lines = lines_of journal.now.entries in
-        OnOk result (Appends (K.written sink.old) (K.written sink.new) lines) }
-    ensures front { let lines = lines_of journal.now.entries in
-        OnErr result (AppendsFront (K.written sink.old) (K.written sink.new) lines) }
-
-    // A failure has a cause, and no cause is forgotten.
-    ensures failed { OnErr result (Rose (K.faults sink.old) (K.faults sink.new)) }
-    ensures never_falls { K.faults sink.old ≤ K.faults sink.new }
+    ensures all { OnOk result
+        (Took (K.seen sink.old) (K.seen sink.new) (lines_of journal.now.entries)) }
+    ensures broke_off { OnErr result
+        (WriteBrokeOff (K.seen sink.old) (K.seen sink.new) (lines_of journal.now.entries)) }
 {
-    let mut counts = [0; CALLERS];
+    let mut counts = [0; COUNTS];
     for i in 0..journal.len() {
         let entry = journal.entry(i);
         let number = count_entry(&mut counts, entry.caller);

@@ -2,13 +2,15 @@
 //! Nothing here takes memory.
 #![tactic(auto)]
 
+mod command;
 mod end;
 mod entries;
 mod line;
 mod reply;
 
-pub use end::end_line;
-pub use entries::{CALLERS, entry_line, write_entries};
+pub use command::command_line;
+pub use end::{end_line, load_line};
+pub use entries::{entry_line, write_entries};
 pub use line::Line;
 
 #[cfg(test)]

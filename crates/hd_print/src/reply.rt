@@ -2,13 +2,13 @@
 ghost use Rattle.std.specs.Prelude.{◌≡◌, ◌+◌, ◌≤◌, ◌++◌, length};
 ghost use Rattle.hd_model.specs.Text.{reply_text, refusal_text, identity_text, report_text};
 
-use crate::Line;
+use crate::line::Line;
 use hd_model::{Id, Refusal, Reply, Report};
 
-/// How many bytes the longest identity takes: two numbers of ten digits and a dot.
+// How many bytes the longest identity takes: two numbers of ten digits and a dot.
 const LONGEST_IDENTITY: usize = 21;
 
-/// How many bytes the longest reply takes: a report of six numbers of ten digits, with their words.
+// How many bytes the longest reply takes: a report of six numbers of ten digits, with their words.
 const LONGEST_REPLY: usize = 101;
 
 // Appends an identity as its caller and its serial.
@@ -66,10 +66,11 @@ fn push_refusal(line: &mut Line, refusal: Refusal)
         Refusal::NotLive => line.push_str("notlive"),
         Refusal::WrongKind => line.push_str("wrongkind"),
         Refusal::EmptyRegister => line.push_str("empty"),
+        Refusal::CountZero => line.push_str("countzero"),
     }
 }
 
-// Appends a reply.
+/// Appends a reply.
 pub(crate) fn push_reply(line: &mut Line, reply: Reply)
     requires { length line.old + LONGEST_REPLY ≤ Line.CAPACITY }
     ensures text { line.new ≡ line.old ++ reply_text reply }

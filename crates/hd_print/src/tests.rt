@@ -1,9 +1,9 @@
 // The texts as a user reads them, and that the calls succeed.
 ghost use Rattle.std.specs.Prelude.{◌≡◌, ◌<◌, All, IfOk};
 
-use crate::{Line, end_line, entry_line, write_entries};
+use crate::{Line, command_line, end_line, entry_line, load_line, write_entries};
 use hd_io::{Failed, MemorySink};
-use hd_model::{Cmd, Entry, Grown, Id, Journal, Memory, Refusal, Reply, Report};
+use hd_model::{Cmd, Entry, Grown, Id, Journal, Make, Memory, Refusal, Reply, Report};
 use std::alloc::Global;
 use std::test::Fail;
 
@@ -58,6 +58,7 @@ fn each_reply_has_its_text(rt: HostRuntime) {
         (Reply::Refused(Refusal::NotLive), "7 12 notlive\n"),
         (Reply::Refused(Refusal::WrongKind), "7 12 wrongkind\n"),
         (Reply::Refused(Refusal::EmptyRegister), "7 12 empty\n"),
+        (Reply::Refused(Refusal::CountZero), "7 12 countzero\n"),
     ];
     for (reply, want) in table {
         let line = entry_line(entry_of(7, reply), 12);
@@ -73,6 +74,26 @@ fn the_end_line_names_its_numbers(rt: HostRuntime) {
         line.as_bytes(),
         "end handles 1 objects 20 collections 300\n".as_bytes()
     );
+}
+
+#[test]
+fn the_load_line_names_its_numbers(rt: HostRuntime) {
+    assert_eq!(rt;
+        load_line(516, 64, 0, 4, 544).as_bytes(),
+        "load callers 4 commands 516 made 64 live 0 collections 4 sum 544\n".as_bytes()
+    );
+}
+
+#[test]
+fn a_command_has_its_line(rt: HostRuntime) {
+    let make = Make::Dependent(4);
+    let made = Cmd::HNew { d: 15, make, t: 0 };
+    let set = Cmd::Set { o: 1, i: 255, v: 2 };
+    assert_eq!(rt;
+        command_line(made).as_bytes(),
+        "hnew h15 dep r0 r4\n".as_bytes()
+    );
+    assert_eq!(rt; command_line(set).as_bytes(), "set r1 255 r2\n".as_bytes());
 }
 
 #[test]

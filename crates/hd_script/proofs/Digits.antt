@@ -6,7 +6,7 @@ use Rattle.std.proofs.lemmas.Bool.{cond-true, cond-false, and_left, and_right, a
 use Rattle.std.proofs.lemmas.List.{at_drop_more}
 use Rattle.hd_model.specs.Grammar.{value_of, number_of}
 
--- one more digit behind those of a number
+-- one more digit after those of a number
 abbrev pub with_digit : ℕ → ℕ → ℕ
 with_digit n b = n * 10 + (b - 48)
 
@@ -16,31 +16,45 @@ worth_grows n [] = omega arith
 worth_grows n (b ∷ bs) = omega (arith, worth_grows (with_digit n b) bs)
 
 -- the three tests of a number
-pub refused : (most : ℕ) (word : List ℕ) → (ltb 0 (length word) && list_all is_ascii_digit word && leb (value_of word) most) ≡ false → number_of most word ≡ None
+pub refused : (most : ℕ) (word : List ℕ)
+    → (ltb 0 (length word) && list_all is_ascii_digit word && leb (value_of word) most) ≡ false
+    → number_of most word ≡ None
 unfolding number_of
-refused most word h = cond-false (ltb 0 (length word) && list_all is_ascii_digit word && leb (value_of word) most) (Some (value_of word)) None h
+refused most word h = cond-false
+    (ltb 0 (length word) && list_all is_ascii_digit word && leb (value_of word) most) (Some (value_of word))
+    None h
 
 pub refused_empty : (most : ℕ) (word : List ℕ) → length word ≡ 0 → number_of most word ≡ None
 refused_empty most word h =
-    refused most word (and_left (ltb 0 (length word) && list_all is_ascii_digit word) (leb (value_of word) most) (and_left (ltb 0 (length word)) (list_all is_ascii_digit word) (le-ltb 0 (length word) (omega arith))))
+    refused most word (and_left (ltb 0 (length word) && list_all is_ascii_digit word)
+    (leb (value_of word) most) (and_left (ltb 0 (length word)) (list_all is_ascii_digit word)
+    (le-ltb 0 (length word) (omega arith))))
 
-pub refused_digit : (most : ℕ) (word : List ℕ) → list_all is_ascii_digit word ≡ false → number_of most word ≡ None
+pub refused_digit : (most : ℕ) (word : List ℕ) → list_all is_ascii_digit word ≡ false
+    → number_of most word ≡ None
 refused_digit most word h =
-    refused most word (and_left (ltb 0 (length word) && list_all is_ascii_digit word) (leb (value_of word) most) (and_right (ltb 0 (length word)) (list_all is_ascii_digit word) h))
+    refused most word (and_left (ltb 0 (length word) && list_all is_ascii_digit word)
+    (leb (value_of word) most) (and_right (ltb 0 (length word)) (list_all is_ascii_digit word) h))
 
 pub refused_high : (most : ℕ) (word : List ℕ) → most < value_of word → number_of most word ≡ None
 refused_high most word h =
-    refused most word (and_right (ltb 0 (length word) && list_all is_ascii_digit word) (leb (value_of word) most) (lt-leb (value_of word) most h))
+    refused most word (and_right (ltb 0 (length word) && list_all is_ascii_digit word)
+    (leb (value_of word) most) (lt-leb (value_of word) most h))
 
-pub accepted : (most : ℕ) (word : List ℕ) → 0 < length word → list_all is_ascii_digit word ≡ true → value_of word ≤ most → number_of most word ≡ Some (value_of word)
+pub accepted : (most : ℕ) (word : List ℕ) → 0 < length word → list_all is_ascii_digit word ≡ true
+    → value_of word ≤ most → number_of most word ≡ Some (value_of word)
 unfolding number_of
 accepted most word some digits within =
-    let both = and_from (ltb 0 (length word)) (list_all is_ascii_digit word) (lt-ltb 0 (length word) some) digits in
-    let all = and_from (ltb 0 (length word) && list_all is_ascii_digit word) (leb (value_of word) most) both (le-leb (value_of word) most within) in
-    cond-true (ltb 0 (length word) && list_all is_ascii_digit word && leb (value_of word) most) (Some (value_of word)) None all
+    let both = and_from (ltb 0 (length word)) (list_all is_ascii_digit word) (lt-ltb 0 (length word) some)
+    digits in
+    let all = and_from (ltb 0 (length word) && list_all is_ascii_digit word) (leb (value_of word) most) both
+    (le-leb (value_of word) most within) in
+    cond-true (ltb 0 (length word) && list_all is_ascii_digit word && leb (value_of word) most)
+    (Some (value_of word)) None all
 
 -- the next digit is part of what the word is worth
-pub next_digit : (word : List ℕ) (i value : ℕ) → i < length word → fold with_digit value (drop i word) ≡ value_of word → with_digit value (get_or word i 0) ≤ value_of word
+pub next_digit : (word : List ℕ) (i value : ℕ) → i < length word
+    → fold with_digit value (drop i word) ≡ value_of word → with_digit value (get_or word i 0) ≤ value_of word
 next_digit word i value within worth =
     let step = at_drop_more (fold with_digit value) word i 0 within in
     omega (arith, worth_grows (with_digit value (get_or word i 0)) (drop (i + 1) word), sym step ∙ worth)

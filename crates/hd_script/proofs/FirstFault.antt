@@ -4,17 +4,21 @@ use Rattle.std.proofs.lemmas.Bool.{ltb-true, ltb-false, both_ways, cond_both}
 use Rattle.std.proofs.lemmas.List.{append-nil, take_at, length_push, get_or_at}
 use Rattle.std.proofs.lemmas.List.Sums.{sum_by_push}
 use Rattle.hd_model.specs.declared.command.Cmd.{Cmd}
-use Rattle.hd_model.specs.Grammar.{Reading, blank, caller, command, readings_of, lists_of, first_fault, unless_fault, most_commands, script_of}
+use Rattle.hd_model.specs.Grammar.{Reading, blank, caller, command, readings_of, lists_of, first_fault, unless_fault, script_of}
+use Rattle.hd_model.specs.declared.limits.TheConstants.{MOST_COMMANDS}
 use Rattle.hd_script.proofs.Speakers.{parts_of_script}
 use Rattle.hd_script.specs.Laws.{is_command, IsAtFault, IsFirstAtFault, FaultsComeFirst}
 
 -- why a line is at fault, by what it says and the lines above it
 abbrev Why : Option Reading → List (Option Reading) → Type 0
-Why reading above = (reading ≡ None) ⊎ ((is_command reading ≡ true) × (most_commands ≤ count_by is_command above))
+Why reading above = (reading ≡ None)
+    ⊎ ((is_command reading ≡ true) × (MOST_COMMANDS ≤ count_by is_command above))
 
-module _ (above rest all : List (Option Reading)) (reading : Option Reading) (e : all ≡ above ++ reading ∷ rest) where
+module _ (above rest all : List (Option Reading)) (reading : Option Reading)
+    (e : all ≡ above ++ reading ∷ rest) where
   at_here : (d : Option Reading) → get_or all (length above) d ≡ reading
-  at_here d = ap (λ (rs : List (Option Reading)). get_or rs (length above) d) e ∙ get_or_at above reading rest d (length above) refl
+  at_here d = ap (λ (rs : List (Option Reading)). get_or rs (length above) d) e
+      ∙ get_or_at above reading rest d (length above) refl
 
   above_here : take (length above) all ≡ above
   above_here = ap (take (length above)) e ∙ take_at above (reading ∷ rest) (length above) refl
@@ -47,12 +51,18 @@ Settles all None = (place : ℕ) → IsAtFault all place → ⊥
 Settles all (Some line) = IsFirstAtFault all line
 
 -- the same of the next line
-next_clean : (above rest all : List (Option Reading)) (reading : Option Reading) → all ≡ above ++ reading ∷ rest → IsClean all (length above) → (Why reading above → ⊥) → IsClean all (length (above ++ reading ∷ []))
+next_clean : (above rest all : List (Option Reading)) (reading : Option Reading)
+    → all ≡ above ++ reading ∷ rest → IsClean all (length above) → (Why reading above → ⊥)
+    → IsClean all (length (above ++ reading ∷ []))
 next_clean above rest all reading e clean fine =
-    let more : IsClean all (length above + 1) = below_more (λ place. IsAtFault all place → ⊥) (length above) clean (λ fault. fine (why_here above rest all reading e fault)) in
+    let more : IsClean all (length above + 1) =
+    below_more (λ place. IsAtFault all place → ⊥) (length above) clean
+    (λ fault. fine (why_here above rest all reading e fault)) in
     subst (λ (n : ℕ). IsClean all n) (sym (length_push above reading)) more
 
-found_here : (above rest all : List (Option Reading)) (reading : Option Reading) → all ≡ above ++ reading ∷ rest → IsClean all (length above) → Why reading above → IsFirstAtFault all (length above + 1)
+found_here : (above rest all : List (Option Reading)) (reading : Option Reading)
+    → all ≡ above ++ reading ∷ rest → IsClean all (length above) → Why reading above
+    → IsFirstAtFault all (length above + 1)
 found_here above rest all reading e clean why = record {
   place = length above;
   number = refl;
@@ -60,53 +70,73 @@ found_here above rest all reading e clean why = record {
   first = clean;
 }
 
--- behind a line that is not at fault
-on : (above rest all : List (Option Reading)) (reading : Option Reading) (count : ℕ) → all ≡ above ++ reading ∷ rest → count_by is_command (above ++ reading ∷ []) ≡ count →
-    Settles all (first_fault (length (above ++ reading ∷ []) + 1) (count_by is_command (above ++ reading ∷ [])) rest) → Settles all (first_fault (length above + 1 + 1) count rest)
+-- after a line that is not at fault
+on : (above rest all : List (Option Reading)) (reading : Option Reading) (count : ℕ)
+    → all ≡ above ++ reading ∷ rest → count_by is_command (above ++ reading ∷ []) ≡ count →
+    Settles all (first_fault (length (above ++ reading ∷ []) + 1)
+    (count_by is_command (above ++ reading ∷ [])) rest)
+    → Settles all (first_fault (length above + 1 + 1) count rest)
 on above rest all reading count e number h =
     subst (λ (n : ℕ). Settles all (first_fault (n + 1) count rest)) (length_push above reading)
     (subst (λ (n : ℕ). Settles all (first_fault (length (above ++ reading ∷ []) + 1) n rest)) number h)
 
 -- a line that is no command is at fault only where it has no reading
-fine : (reading : Reading) (above : List (Option Reading)) → is_command (Some reading) ≡ false → Why (Some reading) above → ⊥
+fine : (reading : Reading) (above : List (Option Reading)) → is_command (Some reading) ≡ false
+    → Why (Some reading) above → ⊥
 fine reading above none why =
     ⊎_elim {C = ⊥} (λ unread. absurd cc) (λ many. both_ways (is_command (Some reading)) none many.0) why
 
-settled : (above rest all : List (Option Reading)) → all ≡ above ++ rest → IsClean all (length above) → Settles all (first_fault (length above + 1) (count_by is_command above) rest)
-settled above [] all e clean = λ place fault. clean place (omega (arith, fault.within, ap length (e ∙ append-nil above))) fault
+settled : (above rest all : List (Option Reading)) → all ≡ above ++ rest → IsClean all (length above)
+    → Settles all (first_fault (length above + 1) (count_by is_command above) rest)
+settled above [] all e clean =
+    λ place fault. clean place (omega (arith, fault.within, ap length (e ∙ append-nil above))) fault
 settled above (None ∷ rest) all e clean = found_here above rest all None e clean (inl refl)
 settled above (Some blank ∷ rest) all e clean =
     let r : Option Reading = Some blank in
-    let deeper = settled (above ++ r ∷ []) rest all (e ∙ sym (append_assoc above (r ∷ []) rest)) (next_clean above rest all r e clean (fine blank above refl)) in
-    on above rest all r (count_by is_command above) e (omega (arith, sum_by_push (λ q. cond (is_command q) 1 0) above r)) deeper
+    let deeper = settled (above ++ r ∷ []) rest all (e ∙ sym (append_assoc above (r ∷ []) rest))
+    (next_clean above rest all r e clean (fine blank above refl)) in
+    on above rest all r (count_by is_command above) e
+    (omega (arith, sum_by_push (λ q. cond (is_command q) 1 0) above r)) deeper
 settled above (Some (caller n) ∷ rest) all e clean =
     let r : Option Reading = Some (caller n) in
-    let deeper = settled (above ++ r ∷ []) rest all (e ∙ sym (append_assoc above (r ∷ []) rest)) (next_clean above rest all r e clean (fine (caller n) above refl)) in
-    on above rest all r (count_by is_command above) e (omega (arith, sum_by_push (λ q. cond (is_command q) 1 0) above r)) deeper
+    let deeper = settled (above ++ r ∷ []) rest all (e ∙ sym (append_assoc above (r ∷ []) rest))
+    (next_clean above rest all r e clean (fine (caller n) above refl)) in
+    on above rest all r (count_by is_command above) e
+    (omega (arith, sum_by_push (λ q. cond (is_command q) 1 0) above r)) deeper
 settled above (Some (command c) ∷ rest) all e clean =
     let r : Option Reading = Some (command c) in
     let count = count_by is_command above in
-    cond_both (ltb count most_commands) (first_fault (length above + 1 + 1) (count + 1) rest) (Some (length above + 1)) (Settles all)
+    cond_both (ltb count MOST_COMMANDS) (first_fault (length above + 1 + 1) (count + 1) rest)
+    (Some (length above + 1)) (Settles all)
     (λ few.
-    let below : count < most_commands = ltb-true count most_commands few in
-    let right : Why r above → ⊥ = λ why. ⊎_elim {C = ⊥} (λ unread. absurd cc) (λ many. absurd (omega (arith, below, many.1))) why in
-    let deeper = settled (above ++ r ∷ []) rest all (e ∙ sym (append_assoc above (r ∷ []) rest)) (next_clean above rest all r e clean right) in
-    on above rest all r (count + 1) e (omega (arith, sum_by_push (λ q. cond (is_command q) 1 0) above r)) deeper)
-    (λ many. found_here above rest all r e clean (inr (refl, ltb-false count most_commands many)))
+    let below : count < MOST_COMMANDS = ltb-true count MOST_COMMANDS few in
+    let right : Why r above → ⊥ = λ why. ⊎_elim {C = ⊥} (λ unread. absurd cc)
+    (λ many. absurd (omega (arith, below, many.1))) why in
+    let deeper = settled (above ++ r ∷ []) rest all (e ∙ sym (append_assoc above (r ∷ []) rest))
+    (next_clean above rest all r e clean right) in
+    on above rest all r (count + 1) e (omega (arith, sum_by_push (λ q. cond (is_command q) 1 0) above r))
+    deeper)
+    (λ many. found_here above rest all r e clean (inr (refl, ltb-false count MOST_COMMANDS many)))
 
 settles : (readings : List (Option Reading)) → Settles readings (first_fault 1 0 readings)
 settles readings = settled [] readings readings refl (λ place below fault. omega (arith, below))
 
-as_refused : (fault : Option ℕ) (lists : List (List Cmd)) (line : ℕ) → unless_fault fault lists ≡ Err line → fault ≡ Some line
+as_refused : (fault : Option ℕ) (lists : List (List Cmd)) (line : ℕ) → unless_fault fault lists ≡ Err line
+    → fault ≡ Some line
 as_refused None lists line e = absurd cc
 as_refused (Some other) lists line e = cc
 
-refused_at : (bytes : List ℕ) (line : ℕ) → script_of bytes ≡ Err line → first_fault 1 0 (readings_of bytes) ≡ Some line
+refused_at : (bytes : List ℕ) (line : ℕ) → script_of bytes ≡ Err line
+    → first_fault 1 0 (readings_of bytes) ≡ Some line
 unfolding script_of
-refused_at bytes line e = as_refused (first_fault 1 0 (readings_of bytes)) (lists_of (readings_of bytes)) line e
+refused_at bytes line e = as_refused (first_fault 1 0 (readings_of bytes)) (lists_of (readings_of bytes))
+    line e
 
 pub faults_come_first : FaultsComeFirst
 faults_come_first = record {
-  refused = λ bytes line script. subst (Settles (readings_of bytes)) (refused_at bytes line script) (settles (readings_of bytes));
-  accepted = λ bytes lists script. subst (Settles (readings_of bytes)) (parts_of_script bytes lists script).0 (settles (readings_of bytes));
+  refused = λ bytes line script.
+      subst (Settles (readings_of bytes)) (refused_at bytes line script) (settles (readings_of bytes));
+  accepted = λ bytes lists script.
+      subst (Settles (readings_of bytes)) (parts_of_script bytes lists script).0
+      (settles (readings_of bytes));
 }

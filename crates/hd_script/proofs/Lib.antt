@@ -7,3 +7,10 @@ pub mod Whole
 pub mod Speakers
 pub mod SameWords
 pub mod FirstFault
+pub mod Rounds
+pub mod LoadPlace
+pub mod LoadFrame
+pub mod LoadStep
+pub mod LoadRun
+pub mod LoadCount
+pub mod LoadLine

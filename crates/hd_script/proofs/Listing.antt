@@ -1,37 +1,46 @@
 -- The lists of callers: a command more, callers more, and what lines that follow add.
-use Rattle.std.proofs.Common.{◌≡◌, ℕ, suc, zero, ◌+◌, ◌<◌, ◌≤◌, List, [], ◌∷◌, ◌++◌, length, get_or, set, All, sum_by, refl, sym, ap, ◌∙◌, arith, Vec, length-set}
+use Rattle.std.proofs.Common.{◌≡◌, ℕ, suc, zero, ◌+◌, ◌<◌, ◌≤◌, List, [], ◌∷◌, ◌++◌, length, take, get_or, set, All, sum_by, refl, sym, ap, ◌∙◌, arith, Vec, length-set}
 use Rattle.std.specs.declared.alloc.Global.{Global}
-use Rattle.std.proofs.lemmas.List.{get_or-map, map-set, map_push, set-get_or, length_push, length-map}
+use Rattle.std.proofs.lemmas.List.{take_all, get_or-map, map-set, map_push, set-get_or, length_push, length-map}
 use Rattle.std.proofs.lemmas.List.Elements.{All-set, All-push, All-get_or, All-nil}
-use Rattle.std.proofs.lemmas.List.Sums.{sum_by-set, sum_by_push, get_or-le-sum_by}
+use Rattle.std.proofs.lemmas.List.Sums.{sum_by-set, sum_by_push, get_or-le-sum_by, sum_by_more, sum_by-take-le}
 use Rattle.hd_model.specs.declared.command.Cmd.{Cmd}
 use Rattle.hd_model.specs.Valid.{IsValid}
-use Rattle.hd_model.specs.Grammar.{AreLists, most_commands}
+use Rattle.hd_model.specs.Grammar.{AreLists}
+use Rattle.hd_model.specs.declared.limits.TheConstants.{MOST_COMMANDS}
 use Rattle.hd_script.specs.Lists.{contents, AreCounted}
 
 -- the list of a caller, as it lies in memory and as it is seen
-pub listed : (lists : List (Vec Cmd Global)) (caller : ℕ) (list : Vec Cmd Global) → caller < length lists → list ≡ get_or lists caller list → list.items ≡ get_or (contents lists) caller []
+pub listed : (lists : List (Vec Cmd Global)) (caller : ℕ) (list : Vec Cmd Global) → caller < length lists
+    → list ≡ get_or lists caller list → list.items ≡ get_or (contents lists) caller []
 listed lists caller list within e =
-    ap (λ (v : Vec Cmd Global). v.items) e ∙ sym (get_or-map (λ (v : Vec Cmd Global). v.items) lists caller list [] within)
+    ap (λ (v : Vec Cmd Global). v.items) e
+    ∙ sym (get_or-map (λ (v : Vec Cmd Global). v.items) lists caller list [] within)
 
 -- lists as they lie in memory, with one of them written
-pub contents_set : (lists : List (Vec Cmd Global)) (caller : ℕ) (list : Vec Cmd Global) → contents (set lists caller list) ≡ set (contents lists) caller list.items
+pub contents_set : (lists : List (Vec Cmd Global)) (caller : ℕ) (list : Vec Cmd Global)
+    → contents (set lists caller list) ≡ set (contents lists) caller list.items
 contents_set lists caller list = map-set (λ (v : Vec Cmd Global). v.items) lists caller list
 
 -- no list is longer than all together
-pub list_fits : (lists : List (List Cmd)) (caller : ℕ) → AreLists lists → caller < length lists → length (get_or lists caller []) ≤ most_commands
+pub list_fits : (lists : List (List Cmd)) (caller : ℕ) → AreLists lists → caller < length lists
+    → length (get_or lists caller []) ≤ MOST_COMMANDS
 list_fits lists caller are within = omega (arith, get_or-le-sum_by length lists caller [] within, are.total)
 
 -- a command more at the end of a caller's list
-pub command_added : (lists : List (List Cmd)) (caller : ℕ) (cmd : Cmd) → AreLists lists → caller < length lists → IsValid cmd → sum_by length lists < most_commands →
+pub command_added : (lists : List (List Cmd)) (caller : ℕ) (cmd : Cmd) → AreLists lists
+    → caller < length lists → IsValid cmd → sum_by length lists < MOST_COMMANDS →
     AreCounted (set lists caller (get_or lists caller [] ++ cmd ∷ [])) (sum_by length lists + 1)
 command_added lists caller cmd are within valid room =
     let old = get_or lists caller [] in
     let new = old ++ cmd ∷ [] in
     let P : List Cmd → Type 0 = λ list. All IsValid list in
-    let all_valid : All P (set lists caller new) = All-set P lists caller new (All-push IsValid old cmd (All-get_or P lists caller [] within are.valid) valid) are.valid in
+    let all_valid : All P (set lists caller new) =
+    All-set P lists caller new (All-push IsValid old cmd (All-get_or P lists caller [] within are.valid)
+    valid) are.valid in
     let sums = sum_by-set length lists caller new [] within in
-    let total : sum_by length lists + 1 ≡ sum_by length (set lists caller new) = omega (arith, sums, length_push old cmd) in
+    let total : sum_by length lists + 1 ≡ sum_by length (set lists caller new) =
+    omega (arith, sums, length_push old cmd) in
     let right : AreLists (set lists caller new) = record {
       least = omega (arith, length-set lists caller new, are.least);
       most = omega (arith, length-set lists caller new, are.most);
@@ -40,40 +49,78 @@ command_added lists caller cmd are within valid room =
     } in
     record { right = right; total = total }
 
-module _ (lists : List (Vec Cmd Global)) (caller : ℕ) (old new : Vec Cmd Global) (within : caller < length (contents lists)) (place : old ≡ get_or lists caller old) where
+module _ (lists : List (Vec Cmd Global)) (caller : ℕ) (old new : Vec Cmd Global)
+    (within : caller < length (contents lists)) (place : old ≡ get_or lists caller old) where
   item_of : old.items ≡ get_or (contents lists) caller []
-  item_of = listed lists caller old (omega (arith, length-map lists (λ (v : Vec Cmd Global). v.items), within)) place
+  item_of = listed lists caller old
+      (omega (arith, length-map lists (λ (v : Vec Cmd Global). v.items), within)) place
 
   -- a caller's list in memory got a command
-  pub written : (cmd : Cmd) → new.items ≡ old.items ++ cmd ∷ [] → contents (set lists caller new) ≡ set (contents lists) caller (get_or (contents lists) caller [] ++ cmd ∷ [])
-  written cmd e = contents_set lists caller new ∙ ap (set (contents lists) caller) (e ∙ ap (λ (items : List Cmd). items ++ cmd ∷ []) item_of)
+  pub written : (cmd : Cmd) → new.items ≡ old.items ++ cmd ∷ []
+      → contents (set lists caller new)
+      ≡ set (contents lists) caller (get_or (contents lists) caller [] ++ cmd ∷ [])
+  written cmd e = contents_set lists caller new
+      ∙ ap (set (contents lists) caller) (e ∙ ap (λ (items : List Cmd). items ++ cmd ∷ []) item_of)
 
   -- or it stayed
   pub unwritten : new.items ≡ old.items → contents (set lists caller new) ≡ contents lists
-  unwritten e = contents_set lists caller new ∙ ap (set (contents lists) caller) (e ∙ item_of) ∙ set-get_or (contents lists) caller []
+  unwritten e = contents_set lists caller new ∙ ap (set (contents lists) caller) (e ∙ item_of)
+      ∙ set-get_or (contents lists) caller []
 
   -- and they are counted as before, or with one command more
-  pub written_counted : (cmd : Cmd) (count : ℕ) → new.items ≡ old.items ++ cmd ∷ [] → AreCounted (contents lists) count → IsValid cmd → sum_by length (contents lists) < most_commands → AreCounted (contents (set lists caller new)) (count + 1)
-  written_counted cmd count e are valid room = rw (written cmd e, are.total) (command_added (contents lists) caller cmd are.right within valid room)
+  pub written_counted : (cmd : Cmd) (count : ℕ) → new.items ≡ old.items ++ cmd ∷ []
+      → AreCounted (contents lists) count → IsValid cmd → sum_by length (contents lists) < MOST_COMMANDS
+      → AreCounted (contents (set lists caller new)) (count + 1)
+  written_counted cmd count e are valid room =
+      rw (written cmd e, are.total) (command_added (contents lists) caller cmd are.right within valid room)
 
-  pub unwritten_counted : (count : ℕ) → new.items ≡ old.items → AreCounted (contents lists) count → AreCounted (contents (set lists caller new)) count
+  pub unwritten_counted : (count : ℕ) → new.items ≡ old.items → AreCounted (contents lists) count
+      → AreCounted (contents (set lists caller new)) count
   unwritten_counted count e are = rw (unwritten e) are
 
 -- a caller more, without commands
-pub caller_added : (lists : List (List Cmd)) → AreLists lists → length lists < 16 → AreLists (lists ++ [] ∷ [])
+pub caller_added : (lists : List (List Cmd)) → AreLists lists → length lists < 16
+    → AreLists (lists ++ [] ∷ [])
 caller_added lists are room = record {
   least = omega (arith, length_push lists []);
   most = omega (arith, length_push lists []);
-  valid = let P : List Cmd → Type 0 = λ list. All IsValid list in All-push P lists [] are.valid (All-nil IsValid);
+  valid = let P : List Cmd → Type 0 = λ list. All IsValid list in
+      All-push P lists [] are.valid (All-nil IsValid);
   total = omega (arith, sum_by_push length lists [], are.total);
 }
 
-pub same_lists_padded : (lists : List (List Cmd)) (wanted : ℕ) → get_or (lists ++ [] ∷ []) wanted [] ≡ get_or lists wanted []
+pub same_lists_padded : (lists : List (List Cmd)) (wanted : ℕ)
+    → get_or (lists ++ [] ∷ []) wanted [] ≡ get_or lists wanted []
 same_lists_padded [] zero = refl
 same_lists_padded [] (suc wanted) = refl
 same_lists_padded (list ∷ lists) zero = refl
 same_lists_padded (list ∷ lists) (suc wanted) = same_lists_padded lists wanted
 
 -- the same of lists as they lie in memory
-pub contents_pushed : (lists : List (Vec Cmd Global)) (list : Vec Cmd Global) → list.items ≡ [] → contents (lists ++ list ∷ []) ≡ contents lists ++ [] ∷ []
-contents_pushed lists list e = map_push (λ (v : Vec Cmd Global). v.items) lists list ∙ ap (λ (items : List Cmd). contents lists ++ items ∷ []) e
+pub contents_pushed : (lists : List (Vec Cmd Global)) (list : Vec Cmd Global) → list.items ≡ []
+    → contents (lists ++ list ∷ []) ≡ contents lists ++ [] ∷ []
+contents_pushed lists list e = map_push (λ (v : Vec Cmd Global). v.items) lists list
+    ∙ ap (λ (items : List Cmd). contents lists ++ items ∷ []) e
+
+-- one list more is counted
+pub counted_more : (lists : List (Vec Cmd Global)) (i : ℕ) (list : Vec Cmd Global) → i < length lists
+    → list ≡ get_or lists i list →
+    sum_by length (take (i + 1) (contents lists))
+    ≡ sum_by length (take i (contents lists)) + length list.items
+counted_more lists i list within place =
+    sum_by_more length (contents lists) i []
+    (omega (arith, length-map lists (λ (v : Vec Cmd Global). v.items), within))
+    ∙ ap (λ (items : List Cmd). sum_by length (take i (contents lists)) + length items)
+    (sym (listed lists i list within place))
+
+-- and what is counted is not over all of them
+pub counted_fits : (lists : List (Vec Cmd Global)) (i : ℕ) (list : Vec Cmd Global) → i < length lists
+    → list ≡ get_or lists i list →
+    sum_by length (take i (contents lists)) + length list.items ≤ sum_by length (contents lists)
+counted_fits lists i list within place =
+    let more = counted_more lists i list within place in
+    omega (arith, more, sum_by-take-le length (contents lists) (i + 1))
+
+pub all_counted : (lists : List (List Cmd)) (n : ℕ) → length lists ≤ n
+    → sum_by length (take n lists) ≡ sum_by length lists
+all_counted lists n all = ap (sum_by length) (take_all n lists all)

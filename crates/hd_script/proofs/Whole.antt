@@ -22,7 +22,8 @@ record AreParts (bytes : List ℕ) : Type 0 where
   parts : slice_split is_line_end bytes ≡ ended ++ last ∷ []
 
 -- a byte before the parts of the rest
-before : (x : ℕ) (xs : List ℕ) → x ≢ 10 → (ended : List (List ℕ)) (last : List ℕ) → xs ≡ flat_map with_end ended ++ last → All IsOpen ended → IsOpen last →
+before : (x : ℕ) (xs : List ℕ) → x ≢ 10 → (ended : List (List ℕ)) (last : List ℕ)
+    → xs ≡ flat_map with_end ended ++ last → All IsOpen ended → IsOpen last →
     slice_split is_line_end (x ∷ xs) ≡ onto_first x (ended ++ last ∷ []) → AreParts (x ∷ xs)
 before x xs apart [] last whole within unended parts = record {
   ended = [];
@@ -36,7 +37,9 @@ before x xs apart (line ∷ ended) last whole within unended parts = record {
   ended = (x ∷ line) ∷ ended;
   last = last;
   whole = ap (λ (bytes : List ℕ). x ∷ bytes) whole;
-  no_end_within = All-cons IsOpen (x ∷ line) ended (All-cons (λ b. b ≢ 10) x line apart (All-head IsOpen line ended within)) (All-tail IsOpen line ended within);
+  no_end_within = All-cons IsOpen (x ∷ line) ended
+      (All-cons (λ b. b ≢ 10) x line apart (All-head IsOpen line ended within))
+      (All-tail IsOpen line ended within);
   no_end_in_last = unended;
   parts = parts;
 }
@@ -51,7 +54,8 @@ step x xs are true is = record {
   parts = rw (is, are.parts) refl;
 }
 step x xs are false is =
-    before x xs (eqb-false x 10 is) are.ended are.last are.whole are.no_end_within are.no_end_in_last (rw (is, are.parts) refl)
+    before x xs (eqb-false x 10 is) are.ended are.last are.whole are.no_end_within are.no_end_in_last
+    (rw (is, are.parts) refl)
 
 parts_of : (bytes : List ℕ) → AreParts bytes
 parts_of [] = record {
@@ -65,7 +69,8 @@ parts_of [] = record {
 parts_of (x ∷ xs) = step x xs (parts_of xs) (is_line_end x) refl
 
 -- the last part is a line where it has a byte
-kept : (ended : List (List ℕ)) (last : List ℕ) → without_empty_last (ended ++ last ∷ []) ≡ ended ++ cond (eqb (length last) 0) [] (last ∷ [])
+kept : (ended : List (List ℕ)) (last : List ℕ)
+    → without_empty_last (ended ++ last ∷ []) ≡ ended ++ cond (eqb (length last) 0) [] (last ∷ [])
 kept [] last = refl
 kept (line ∷ []) last = ap (λ (lines : List (List ℕ)). line ∷ lines) (kept [] last)
 kept (line ∷ next ∷ ended) last = ap (λ (lines : List (List ℕ)). line ∷ lines) (kept (next ∷ ended) last)

@@ -2,9 +2,11 @@
 use Rattle.std.specs.Prelude.{◌≡◌, ◌≢◌, ℕ, ◌+◌, ◌<◌, ◌≤◌, ◌==◌, Bool, true, false, if◌then◌else◌, List, [], ◌∷◌, ◌++◌, map, length, take, fold, filter, filter_map, flat_map, slice_index_or, All, count_by, Option, Some, None, Ok, Err, ◌⊎◌}
 use Rattle.std.specs.List.{enumerate_from}
 use Rattle.hd_model.specs.declared.command.Cmd.{Cmd}
-use Rattle.hd_model.specs.Grammar.{Reading, lines_in, words_of, readings_of, blank, command, caller_after, command_in, most_commands, script_of}
+use Rattle.hd_model.specs.Grammar.{Reading, lines_in, words_of, readings_of, blank, command, caller_after, command_in, script_of}
+use Rattle.hd_model.specs.declared.limits.TheConstants.{MOST_COMMANDS}
 
--- the bytes are lines that each end at a byte 10, and behind them a last one without an end, which is a line where it has a byte
+-- the bytes are lines that each end at a byte 10, and after them a last one without an end, which is a line
+-- where it has a byte
 pub record AreLinesOf (bytes : List ℕ) (found : List (List ℕ)) : Type 0 where
   pub ended : List (List ℕ)
   pub last : List ℕ
@@ -17,18 +19,22 @@ pub record AreLinesOf (bytes : List ℕ) (found : List (List ℕ)) : Type 0 wher
 abbrev pub LinesMakeTheBytes : Type 0
 LinesMakeTheBytes = (bytes : List ℕ) → AreLinesOf bytes (lines_in bytes)
 
--- whose line it is that stands behind others: that of the caller whom the nearest `caller` line above names, or of caller 0
-abbrev pub caller_behind : List (Option Reading) → ℕ
-caller_behind above = fold caller_after 0 above
+-- whose line it is that stands after others: that of the caller whom the nearest `caller` line above names,
+-- or of caller 0
+abbrev pub caller_after_lines : List (Option Reading) → ℕ
+caller_after_lines above = fold caller_after 0 above
 
 -- the command of a line, which goes by its place and what it says, where it is a command of this caller
 abbrev pub command_for : List (Option Reading) → ℕ → ℕ × Option Reading → Option Cmd
-command_for readings wanted line = if caller_behind (take line.0 readings) == wanted then command_in line.1 else None
+command_for readings wanted line =
+    if caller_after_lines (take line.0 readings) == wanted then command_in line.1 else None
 
 -- each caller's list is the commands of its lines, in their order
 abbrev pub ListsFollowTheLines : Type 0
-ListsFollowTheLines = (bytes : List ℕ) (lists : List (List Cmd)) → script_of bytes ≡ Ok lists → (wanted : ℕ) → wanted < length lists →
-    slice_index_or lists wanted [] ≡ filter_map (command_for (readings_of bytes) wanted) (enumerate_from 0 (readings_of bytes))
+ListsFollowTheLines = (bytes : List ℕ) (lists : List (List Cmd)) → script_of bytes ≡ Ok lists → (wanted : ℕ)
+    → wanted < length lists →
+    slice_index_or lists wanted []
+    ≡ filter_map (command_for (readings_of bytes) wanted) (enumerate_from 0 (readings_of bytes))
 
 -- whether a line has words
 abbrev pub has_words : List (List ℕ) → Bool
@@ -53,7 +59,8 @@ is_command _ = false
 pub record IsAtFault (readings : List (Option Reading)) (place : ℕ) : Type 0 where
   pub within : place < length readings
   pub why : (slice_index_or readings place (Some blank) ≡ None)
-      ⊎ ((is_command (slice_index_or readings place None) ≡ true) × (most_commands ≤ count_by is_command (take place readings)))
+      ⊎ ((is_command (slice_index_or readings place None) ≡ true)
+      × (MOST_COMMANDS ≤ count_by is_command (take place readings)))
 
 -- a line, by its number from 1, is the first that is at fault
 pub record IsFirstAtFault (readings : List (Option Reading)) (line : ℕ) : Type 0 where
@@ -64,5 +71,7 @@ pub record IsFirstAtFault (readings : List (Option Reading)) (line : ℕ) : Type
 
 -- a script is refused for its first line at fault, and no script has one
 pub record FaultsComeFirst : Type 0 where
-  pub refused : (bytes : List ℕ) (line : ℕ) → script_of bytes ≡ Err line → IsFirstAtFault (readings_of bytes) line
-  pub accepted : (bytes : List ℕ) (lists : List (List Cmd)) → script_of bytes ≡ Ok lists → (place : ℕ) → IsAtFault (readings_of bytes) place → ⊥
+  pub refused : (bytes : List ℕ) (line : ℕ) → script_of bytes ≡ Err line
+      → IsFirstAtFault (readings_of bytes) line
+  pub accepted : (bytes : List ℕ) (lists : List (List Cmd)) → script_of bytes ≡ Ok lists → (place : ℕ)
+      → IsAtFault (readings_of bytes) place → ⊥

@@ -3,3 +3,4 @@ pub mod Said
 pub mod Lists
 pub mod Fault
 pub mod Laws
+pub mod Load

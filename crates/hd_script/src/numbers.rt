@@ -1,10 +1,15 @@
 // Numbers and registers, as words.
-ghost use Rattle.std.specs.Prelude.{◌≡◌, ◌≤◌, IfSome};
-ghost use Rattle.hd_model.specs.Grammar.{number_of, register_of, object_of, handle_of};
+ghost use Rattle.std.specs.Prelude.{◌≡◌, ◌<◌, ◌≤◌, IfSome};
+ghost use Rattle.hd_model.specs.Grammar.{number_of, register_in, object_register_in, handle_register_in};
+
+use hd_model::limits::REGISTERS;
+
+/// The last number of a register, of a static and of a place of the board.
+pub(crate) const LAST_REGISTER: u8 = REGISTERS as u8 - 1;
 
 /// The number that a word writes, where it is at most `most`.
 #[tactic(auto, unfolding(hd_model::specs::Grammar::number_of))]
-pub fn number(word: &[u8], most: u64) -> Option<u64>
+pub(crate) fn number(word: &[u8], most: u64) -> Option<u64>
     ensures value { result ≡ number_of most word.now }
     ensures bound { IfSome result (λ n. n ≤ most) }
 {
@@ -22,7 +27,7 @@ pub fn number(word: &[u8], most: u64) -> Option<u64>
 }
 
 /// The same of a number that fits a byte.
-pub fn small(word: &[u8], most: u8) -> Option<u8>
+pub(crate) fn small(word: &[u8], most: u8) -> Option<u8>
     ensures value { result ≡ number_of most word.now }
     ensures bound { IfSome result (λ n. n ≤ most) }
 {
@@ -30,32 +35,32 @@ pub fn small(word: &[u8], most: u8) -> Option<u8>
     Some(value as u8)
 }
 
-/// The register that a word names, by its letter.
-#[tactic(auto, unfolding(hd_model::specs::Grammar::register_of))]
+// The register that a word names, by its letter.
+#[tactic(auto, unfolding(hd_model::specs::Grammar::register_in))]
 fn register(word: &[u8], letter: u8) -> Option<u8>
-    ensures value { result ≡ register_of letter word.now }
-    ensures bound { IfSome result (λ n. n ≤ 15) }
+    ensures value { result ≡ register_in letter word.now }
+    ensures bound { IfSome result (λ n. n < REGISTERS) }
 {
     let (first, digits) = word.split_first()?;
     if *first == letter {
-        small(digits, 15)
+        small(digits, LAST_REGISTER)
     } else {
         None
     }
 }
 
 /// The object register that a word names.
-pub fn object(word: &[u8]) -> Option<u8>
-    ensures value { result ≡ object_of word.now }
-    ensures bound { IfSome result (λ n. n ≤ 15) }
+pub(crate) fn object(word: &[u8]) -> Option<u8>
+    ensures value { result ≡ object_register_in word.now }
+    ensures bound { IfSome result (λ n. n < REGISTERS) }
 {
     register(word, b'r')
 }
 
 /// The handle register that a word names.
-pub fn handle(word: &[u8]) -> Option<u8>
-    ensures value { result ≡ handle_of word.now }
-    ensures bound { IfSome result (λ n. n ≤ 15) }
+pub(crate) fn handle(word: &[u8]) -> Option<u8>
+    ensures value { result ≡ handle_register_in word.now }
+    ensures bound { IfSome result (λ n. n < REGISTERS) }
 {
     register(word, b'h')
 }

@@ -2,16 +2,17 @@ ghost use Rattle.std.specs.Prelude.{◌≡◌, ◌≤◌, length, IfOk, IfErr};
 ghost use Rattle.hd_model.specs.Grammar.{IsScript, AreLists};
 ghost use Rattle.hd_script.specs.Fault.{IsFaultOf};
 
-use super::fault::ScriptFault;
-use super::reading::{Reading, read_line};
-use super::scripts::{MOST_COMMANDS, Scripts};
-use super::text::first_line;
+use crate::fault::ScriptFault;
+use crate::reading::{Reading, read_line};
+use crate::scripts::Scripts;
+use crate::text::first_line;
+use hd_model::limits::{MOST_BYTES, MOST_COMMANDS};
 use std::alloc::Global;
 
 /// Reads a script of at most 8,388,608 bytes. A line is one command, a comment, or `caller N`,
 /// which says whose commands follow.
 pub fn parse(alloc: Global, bytes: &[u8]) -> Result<Scripts, ScriptFault>
-    requires { length bytes.now ≤ 8388608 }
+    requires { length bytes.now ≤ MOST_BYTES }
 
     // `Ok` has the lists of the script, and `Line` the first line that has no reading or holds a
     // command too many.
@@ -24,8 +25,8 @@ pub fn parse(alloc: Global, bytes: &[u8]) -> Result<Scripts, ScriptFault>
     let mut number = 0;
     let mut rest = bytes;
     'lines: while !rest.is_empty() {
-        let (line, behind) = first_line(rest);
-        rest = behind;
+        let (line, after) = first_line(rest);
+        rest = after;
         number += 1;
         match read_line(line) {
             None => return Err(ScriptFault::Line(number)),

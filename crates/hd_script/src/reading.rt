@@ -1,16 +1,23 @@
 // What a line says. Each table is one function per number of words.
-ghost use Rattle.std.specs.Prelude.{◌≡◌, IfSome, bytes_eq, option_map};
+ghost use Rattle.std.specs.Prelude.{◌≡◌, false, IfSome, bytes_eq, option_map};
 ghost use Rattle.hd_model.specs.Grammar as grammar;
+ghost use Rattle.hd_model.specs.Kinds.{is_paired};
 ghost use Rattle.hd_model.specs.Valid.{IsValid, IsValidMake};
 ghost use Rattle.hd_script.specs.Said.{seen, IsValidReading};
 
-use super::numbers::{handle, number, object, small};
-use super::text::{content, next_word};
-use hd_model::{Cmd, Make, Strength};
+use crate::numbers::{LAST_REGISTER, handle, number, object, small};
+use crate::text::{content, next_word};
+use hd_model::limits::{CALLERS, FIELDS, OLDEST};
+use hd_model::{Cmd, Kind, Make, Strength};
+
+// The last number of a caller, and the most fields of an object, as numbers that fit a byte.
+const LAST_CALLER: u8 = CALLERS as u8 - 1;
+
+const MOST_FIELDS: u8 = FIELDS as u8;
 
 /// What a line says.
 #[derive(Clone, Copy)]
-pub enum Reading {
+pub(crate) enum Reading {
     /// It has no words.
     Blank,
     /// The commands of this caller follow.
@@ -20,7 +27,7 @@ pub enum Reading {
 
 /// What a line says, or none where it has no reading.
 #[tactic(auto, unfolding(hd_model::specs::Grammar::words_of))]
-pub fn read_line(line: &[u8]) -> Option<Reading>
+pub(crate) fn read_line(line: &[u8]) -> Option<Reading>
     ensures exact { option_map seen result ≡ grammar.reading_of (grammar.words_of line.now) }
     ensures valid { IfSome result IsValidReading }
 {
@@ -38,7 +45,7 @@ fn read_words(bytes: &[u8]) -> Option<Reading>
     let (a, rest) = next_word(rest)?;
     let Some((b, rest)) = next_word(rest) else {
         return if spells(word, "caller") {
-            Some(Reading::Caller(small(a, 15)?))
+            Some(Reading::Caller(small(a, LAST_CALLER)?))
         } else {
             Some(Reading::Command(two_words(word, a)?))
         };
@@ -74,11 +81,21 @@ fn two_words(word: &[u8], a: &[u8]) -> Option<Cmd>
     } else if spells(word, "final") {
         Some(Cmd::Final { d: object(a)? })
     } else if spells(word, "collect") {
-        Some(Cmd::Collect { n: small(a, 2)? })
+        Some(Cmd::Collect {
+            n: small(a, OLDEST)?,
+        })
     } else if spells(word, "hfree") {
         Some(Cmd::HFree { s: handle(a)? })
     } else if spells(word, "addr") {
         Some(Cmd::AddrOf { s: handle(a)? })
+    } else if spells(word, "hup") {
+        Some(Cmd::HUp { s: handle(a)? })
+    } else if spells(word, "hdown") {
+        Some(Cmd::HDown { s: handle(a)? })
+    } else if spells(word, "trim") {
+        Some(Cmd::Trim {
+            kind: trimmed_kind(a)?,
+        })
     } else {
         None
     }
@@ -102,7 +119,7 @@ fn three_on_objects(word: &[u8], a: &[u8], b: &[u8]) -> Option<Cmd>
     ensures valid { IfSome result IsValid }
 {
     if spells(word, "new") {
-        let (d, fields) = (object(a)?, small(b, 61)?);
+        let (d, fields) = (object(a)?, small(b, MOST_FIELDS)?);
         Some(Cmd::New {
             d,
             fields,
@@ -115,10 +132,10 @@ fn three_on_objects(word: &[u8], a: &[u8], b: &[u8]) -> Option<Cmd>
         let (d, s) = (object(a)?, object(b)?);
         Some(Cmd::Copy { d, s })
     } else if spells(word, "sput") {
-        let (k, s) = (small(a, 15)?, object(b)?);
+        let (k, s) = (small(a, LAST_REGISTER)?, object(b)?);
         Some(Cmd::SPut { k, s })
     } else if spells(word, "sget") {
-        let (d, k) = (object(a)?, small(b, 15)?);
+        let (d, k) = (object(a)?, small(b, LAST_REGISTER)?);
         Some(Cmd::SGet { d, k })
     } else {
         None
@@ -146,10 +163,10 @@ fn three_on_handles(word: &[u8], a: &[u8], b: &[u8]) -> Option<Cmd>
         let (s, strength) = (handle(a)?, strength(b)?);
         Some(Cmd::HVar { s, strength })
     } else if spells(word, "hput") {
-        let (k, s) = (small(a, 15)?, handle(b)?);
+        let (k, s) = (small(a, LAST_REGISTER)?, handle(b)?);
         Some(Cmd::HPut { k, s })
     } else if spells(word, "hpick") {
-        let (d, k) = (handle(a)?, small(b, 15)?);
+        let (d, k) = (handle(a)?, small(b, LAST_REGISTER)?);
         Some(Cmd::HPick { d, k })
     } else {
         None
@@ -163,7 +180,7 @@ fn four_words(word: &[u8], a: &[u8], b: &[u8], c: &[u8]) -> Option<Cmd>
     ensures valid { IfSome result IsValid }
 {
     if spells(word, "new") {
-        let (d, fields, fin) = (object(a)?, small(b, 61)?, fin(c)?);
+        let (d, fields, fin) = (object(a)?, small(b, MOST_FIELDS)?, fin(c)?);
         Some(Cmd::New { d, fields, fin })
     } else if spells(word, "set") {
         let (o, i, v) = (object(a)?, small(b, 255)?, object(c)?);
@@ -249,6 +266,27 @@ fn make(word: &[u8]) -> Option<Make>
         Some(Make::Strong)
     } else if spells(word, "pinned") {
         Some(Make::Pinned)
+    } else if spells(word, "ref") {
+        Some(Make::Counted)
+    } else {
+        None
+    }
+}
+
+// A kind of handle whose blocks can be given back: one without extra data.
+#[tactic(auto, unfolding(hd_model::specs::Grammar::trimmed_kind_of))]
+fn trimmed_kind(word: &[u8]) -> Option<Kind>
+    ensures exact { result ≡ grammar.trimmed_kind_of word.now }
+    ensures valid { IfSome result (λ kind. is_paired kind ≡ false) }
+{
+    if spells(word, "short") {
+        Some(Kind::Short)
+    } else if spells(word, "long") {
+        Some(Kind::Long)
+    } else if spells(word, "strong") {
+        Some(Kind::Strong)
+    } else if spells(word, "pinned") {
+        Some(Kind::Pinned)
     } else {
         None
     }

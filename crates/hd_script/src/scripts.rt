@@ -1,14 +1,12 @@
 ghost use Rattle.std.specs.Prelude.{◌≡◌, ◌+◌, ◌<◌, ◌≤◌, max, [], ◌∷◌, ◌++◌, length, sum_by, slice_get, slice_index_or, slice_set, Some, IfOk, OnOk};
 ghost use Rattle.hd_model.specs.Valid.{IsValid};
-ghost use Rattle.hd_model.specs.Grammar.{most_commands, AreLists};
+ghost use Rattle.hd_model.specs.Grammar.{AreLists};
 ghost use Rattle.hd_script.specs.Lists.{contents, IsOpened};
 
 use hd_model::Cmd;
+use hd_model::limits::{CALLERS, MOST_COMMANDS};
 use std::alloc::{AllocError, Global};
 use std::marker::Model;
-
-/// The most commands that a script may have.
-pub const MOST_COMMANDS: u32 = 100_000;
 
 /// The commands of a script: a list for each of its 1 to 16 callers, at most 100,000 in all.
 #[derive(Drop)]
@@ -34,7 +32,7 @@ impl Scripts {
     pub fn callers(&self) -> u32
         ensures value { result ≡ length self.now }
         ensures least { 1 ≤ result }
-        ensures most { result ≤ 16 }
+        ensures most { result ≤ CALLERS }
         ensures lists { AreLists self.now }
     {
         self.lists.len() as u32
@@ -44,7 +42,7 @@ impl Scripts {
     pub fn len(&self, caller: u32) -> u32
         requires { caller < length self.now }
         ensures value { result ≡ length (slice_index_or self.now caller []) }
-        ensures most { result ≤ 100000 }
+        ensures most { result ≤ MOST_COMMANDS }
     {
         self.lists[caller as usize].len() as u32
     }
@@ -62,9 +60,18 @@ impl Scripts {
     /// The number of commands of all callers.
     pub fn total(&self) -> u32
         ensures value { result ≡ sum_by length self.now }
-        ensures most { result ≤ 100000 }
+        ensures most { result ≤ MOST_COMMANDS }
     {
         self.total
+    }
+
+    /// The scripts of lists that are those of a script.
+    pub(crate) fn from_lists(lists: Vec<Vec<Cmd>>) -> Scripts
+        requires { AreLists (contents lists.items) }
+        ensures { result ≡ contents lists.items }
+    {
+        let total = count(&lists);
+        Scripts { lists, total }
     }
 
     /// One caller without commands.
@@ -79,7 +86,7 @@ impl Scripts {
 
     /// Makes `caller` one of the callers, and each one below it.
     pub(crate) fn open(&mut self, alloc: Global, caller: u8) -> Result<(), AllocError>
-        requires { caller < 16 }
+        requires { caller < CALLERS }
         ensures lists { AreLists self.new }
         ensures total { sum_by length self.new ≡ sum_by length self.old }
         ensures opened { OnOk result (IsOpened self.old self.new (caller + 1)) }
@@ -91,7 +98,7 @@ impl Scripts {
     pub(crate) fn add(&mut self, caller: u8, cmd: Cmd) -> Result<(), AllocError>
         requires caller { caller < length self.old }
         requires valid { IsValid cmd }
-        requires room { sum_by length self.old < most_commands }
+        requires room { sum_by length self.old < MOST_COMMANDS }
         ensures lists { AreLists self.new }
         ensures added { OnOk result (self.new
             ≡ slice_set self.old caller (slice_index_or self.old caller [] ++ cmd ∷ [])) }
@@ -104,7 +111,7 @@ impl Scripts {
 
 // Appends empty lists until there are `callers` of them.
 fn pad(alloc: Global, lists: &mut Vec<Vec<Cmd>>, callers: usize) -> Result<(), AllocError>
-    requires callers { callers ≤ 16 }
+    requires callers { callers ≤ CALLERS }
     requires lists { AreLists (contents lists.old.items) }
     ensures lists { AreLists (contents lists.new.items) }
     ensures total { sum_by length (contents lists.new.items)
@@ -116,4 +123,16 @@ fn pad(alloc: Global, lists: &mut Vec<Vec<Cmd>>, callers: usize) -> Result<(), A
         lists.push(Vec::new(alloc))?;
     }
     Ok(())
+}
+
+// The number of commands of all lists.
+fn count(lists: &[Vec<Cmd>]) -> u32
+    requires { AreLists (contents lists.now) }
+    ensures { result ≡ sum_by length (contents lists.now) }
+{
+    let mut total = 0;
+    for list in lists {
+        total += list.len() as u32;
+    }
+    total
 }

@@ -1,8 +1,8 @@
 use crate::{
-    ScriptFault, Scripts, faults_come_first, lines_make_the_bytes, lists_follow_the_lines, parse,
-    words_decide,
+    ScriptFault, Scripts, faults_come_first, generate, lines_make_the_bytes,
+    lists_follow_the_lines, loads_have_their_line, parse, words_decide,
 };
-use hd_model::{Cmd, Make, Strength};
+use hd_model::{Cmd, Kind, Make, Strength};
 use std::alloc::{AllocError, Global};
 use std::test::Fail;
 
@@ -141,6 +141,20 @@ fn each_command_has_its_line(rt: HostRuntime) -> Result<(), Fail> {
         ("hput 0 h11", Cmd::HPut { k: 0, s: 11 }),
         ("hpick h12 15", Cmd::HPick { d: 12, k: 15 }),
         ("addr h13", Cmd::AddrOf { s: 13 }),
+        (
+            "hnew h15 ref r14",
+            Cmd::HNew {
+                d: 15,
+                make: Make::Counted,
+                t: 14,
+            },
+        ),
+        ("hup h14", Cmd::HUp { s: 14 }),
+        ("hdown h15", Cmd::HDown { s: 15 }),
+        ("trim short", Cmd::Trim { kind: Kind::Short }),
+        ("trim long", Cmd::Trim { kind: Kind::Long }),
+        ("trim strong", Cmd::Trim { kind: Kind::Strong }),
+        ("trim pinned", Cmd::Trim { kind: Kind::Pinned }),
         ("\tcopy \t r1   r2 \t", Cmd::Copy { d: 1, s: 2 }),
         (
             "new r0007 00000000000000000000061",
@@ -305,10 +319,64 @@ fn a_command_too_many_is_a_fault(rt: HostRuntime) -> Result<(), Fail> {
     Ok(())
 }
 
+// The commands of rounds 1, 16 and 17 of a caller, in a load of 17 rounds.
+fn shown_rounds(alloc: Global, scripts: &Scripts, caller: u32) -> Result<Vec<Cmd>, AllocError> {
+    let mut found = Vec::new(alloc);
+    if caller < scripts.callers() {
+        for i in 0..scripts.len(caller) {
+            if i < 8 || i >= 120 {
+                found.push(scripts.cmd(caller, i))?;
+            }
+        }
+    }
+    Ok(found)
+}
+
+const CALLER_0: &str =
+    "new r0 1\nhnew h0 pinned r0\nval r0 1\nhget r1 h0\nread r0\ndrop r0\ndrop r1\nhfree h0\n\
+new r0 0\nhnew h0 dep r0 r0\nval r0 16\nhget r1 h0\nread r0\ndrop r0\ndrop r1\nhfree h0\ncollect 1\n\
+new r0 1\nhnew h0 var r0 strong\nval r0 17\nhget r1 h0\nread r0\ndrop r0\ndrop r1\nhfree h0\n";
+
+const CALLER_1: &str =
+    "new r0 2\nhnew h0 pinned r0\nval r0 1\nhget r1 h0\nread r0\ndrop r0\ndrop r1\nhfree h0\n\
+new r0 1\nhnew h0 dep r0 r0\nval r0 16\nhget r1 h0\nread r0\ndrop r0\ndrop r1\nhfree h0\ncollect 1\n\
+new r0 2\nhnew h0 var r0 strong\nval r0 17\nhget r1 h0\nread r0\ndrop r0\ndrop r1\nhfree h0\n";
+
+const CALLER_2: &str =
+    "new r0 3\nhnew h0 pinned r0\nval r0 1\nhget r1 h0\nread r0\ndrop r0\ndrop r1\nhfree h0\n\
+new r0 2\nhnew h0 dep r0 r0\nval r0 16\nhget r1 h0\nread r0\ndrop r0\ndrop r1\nhfree h0\ncollect 1\n\
+new r0 3\nhnew h0 var r0 strong\nval r0 17\nhget r1 h0\nread r0\ndrop r0\ndrop r1\nhfree h0\n";
+
+const CALLER_3: &str =
+    "new r0 4\nhnew h0 pinned r0\nval r0 1\nhget r1 h0\nread r0\ndrop r0\ndrop r1\nhfree h0\n\
+new r0 3\nhnew h0 dep r0 r0\nval r0 16\nhget r1 h0\nread r0\ndrop r0\ndrop r1\nhfree h0\ncollect 1\n\
+new r0 4\nhnew h0 var r0 strong\nval r0 17\nhget r1 h0\nread r0\ndrop r0\ndrop r1\nhfree h0\n";
+
+#[test]
+fn each_caller_of_a_load_has_its_rounds(rt: HostRuntime) -> Result<(), Fail> {
+    let scripts = generate(rt.alloc(), 17)?;
+    assert_eq!(rt; (scripts.callers(), scripts.total()), (4, 548));
+    for (caller, text) in [(0, CALLER_0), (1, CALLER_1), (2, CALLER_2), (3, CALLER_3)] {
+        assert!(rt; text.len() < 1_000);
+        let want = commands(rt.alloc(), &parse(rt.alloc(), text.as_bytes())?, 0)?;
+        let found = shown_rounds(rt.alloc(), &scripts, caller)?;
+        assert_eq!(rt; found.as_slice(), want.as_slice(), "caller {caller}");
+    }
+    Ok(())
+}
+
+#[test]
+fn the_longest_load_is_within_the_limit(rt: HostRuntime) -> Result<(), Fail> {
+    let scripts = generate(rt.alloc(), 3_000)?;
+    assert_eq!(rt; (scripts.callers(), scripts.total()), (4, 96_748));
+    Ok(())
+}
+
 #[test]
 fn the_laws_are_called() {
     lines_make_the_bytes();
     lists_follow_the_lines();
     words_decide();
     faults_come_first();
+    loads_have_their_line();
 }

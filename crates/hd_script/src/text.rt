@@ -5,8 +5,8 @@ ghost use Rattle.std.specs.Str.Lines.{strip_carriage_return};
 ghost use Rattle.hd_model.specs.Grammar.{is_line_end, is_hash, is_blank, lines_in, words_in};
 ghost use Rattle.hd_script.specs.Words.{is_word_byte, BeginsWord};
 
-/// The first line, without its end, and what stands behind it.
-pub fn first_line(bytes: &[u8]) -> (&[u8], &[u8])
+/// The first line, without its end, and what stands after it.
+pub(crate) fn first_line(bytes: &[u8]) -> (&[u8], &[u8])
     requires { 0 < length bytes.now }
     ensures lines { lines_in bytes.now ≡ result.0.now ∷ lines_in result.1.now }
     ensures shorter { length result.1.now < length bytes.now }
@@ -25,7 +25,7 @@ fn line_end(bytes: &[u8]) -> Option<usize>
 }
 
 /// What a line has beside the carriage return at its end and its comment.
-pub fn content(line: &[u8]) -> &[u8]
+pub(crate) fn content(line: &[u8]) -> &[u8]
     ensures { result.now ≡ before_first is_hash (strip_carriage_return line.now) }
 {
     let line = without_return(line);
@@ -54,8 +54,8 @@ fn without_return(line: &[u8]) -> &[u8]
     }
 }
 
-/// The first word, and what stands behind it.
-pub fn next_word(bytes: &[u8]) -> Option<(&[u8], &[u8])>
+/// The first word, and what stands after it.
+pub(crate) fn next_word(bytes: &[u8]) -> Option<(&[u8], &[u8])>
     ensures { MatchOption result (words_in bytes.now ≡ [])
         (λ found. words_in bytes.now ≡ found.0.now ∷ words_in found.1.now) }
 {
@@ -85,7 +85,7 @@ fn word_start(bytes: &[u8]) -> Option<usize>
     bytes.iter().position(|b| *b != b' ' && *b != b'\t')
 }
 
-// The word with which the bytes begin, and what stands behind it.
+// The word with which the bytes begin, and what stands after it.
 fn first_word(bytes: &[u8]) -> (&[u8], &[u8])
     requires some { 0 < length bytes.now }
     requires word { BeginsWord bytes.now }

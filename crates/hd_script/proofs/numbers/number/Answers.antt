@@ -14,12 +14,15 @@ loop-b-init c = record {
 
 pub returns-in_err-checked_mul-clause-value : goal.returns-in_err-checked_mul-clause-value
 returns-in_err-checked_mul-clause-value c =
-    let digit = next_digit c.args.word.now c.loop-b.b-index c.loop-b.value (omega arith) c.loop-b.invariant.worth in
+    let digit = next_digit c.args.word.now c.loop-b.b-index c.loop-b.value (omega arith)
+    c.loop-b.invariant.worth in
     let high : c.args.most < value_of c.args.word.now = omega (arith, digit, c.in_err-checked_mul.ensures) in
     c.from_residual.ensures ∙ sym (refused_high c.args.most c.args.word.now high)
 
 pub returns-in_err-value-clause-value : goal.returns-in_err-value-clause-value
 returns-in_err-value-clause-value c =
-    let digit = next_digit c.args.word.now c.loop-b.b-index c.loop-b.value (omega arith) c.loop-b.invariant.worth in
-    let high : c.args.most < value_of c.args.word.now = omega (arith, digit, c.in_err-value.ensures, c.in_ok-checked_mul.ensures, c.from.ensures) in
+    let digit = next_digit c.args.word.now c.loop-b.b-index c.loop-b.value (omega arith)
+    c.loop-b.invariant.worth in
+    let high : c.args.most < value_of c.args.word.now =
+    omega (arith, digit, c.in_err-value.ensures, c.in_ok-checked_mul.ensures, c.from.ensures) in
     c.from_residual-in_err-value.ensures ∙ sym (refused_high c.args.most c.args.word.now high)

@@ -8,7 +8,8 @@ abbrev pub invariant-loop-alloc : goal.invariant-loop-alloc
 invariant-loop-alloc l = record {
   lists : AreLists (contents l.lists.items);
   total : sum_by length (contents l.lists.items) ≡ sum_by length (contents l.fn.lists.items);
-  same : (wanted : ℕ) → get_or (contents l.lists.items) wanted [] ≡ get_or (contents l.fn.lists.items) wanted [];
+  same : (wanted : ℕ) → get_or (contents l.lists.items) wanted []
+      ≡ get_or (contents l.fn.lists.items) wanted [];
   longer : length l.fn.lists.items ≤ length l.lists.items;
   wanted : length l.lists.items ≤ max (length l.fn.lists.items) l.callers;
 }

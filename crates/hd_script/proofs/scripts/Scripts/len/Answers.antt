@@ -1,18 +1,24 @@
 use Rattle.std.proofs.Common.{◌≡◌, ◌<◌, ◌≤◌, length, ap, arith}
 use Rattle.std.proofs.lemmas.List.{length-map}
-use Rattle.hd_model.specs.Grammar.{most_commands}
+use Rattle.hd_model.specs.declared.limits.TheConstants.{MOST_COMMANDS}
 use Rattle.hd_script.specs.Lists.{contents}
 use Rattle.hd_script.proofs.Listing.{listed, list_fits}
 use Rattle.hd_script.proofs.scripts.Scripts.len.Goals as goal
 
-few : (c : goal.After-len) → c.len.result ≤ most_commands
+few : (c : goal.After-len) → c.len.result ≤ MOST_COMMANDS
 few c =
     let lists = c.self.inside.lists.items in
     let list = c.index.result.now in
     let seen : contents lists ≡ c.args.self.now = c.self.view_is in
     let within : c.args.caller < length (contents lists) = rw seen c.requires in
     let placed : c.args.caller < length lists = omega (arith, length-map lists (λ v. v.items), within) in
-    omega (arith, c.len.ensures, list.ok.0, ap length (listed lists c.args.caller list placed c.index.ensures), list_fits (contents lists) c.args.caller c.self.invariant.right within)
+    omega (
+      arith,
+      c.len.ensures,
+      list.ok.0,
+      ap length (listed lists c.args.caller list placed c.index.ensures),
+      list_fits (contents lists) c.args.caller c.self.invariant.right within,
+    )
 
 pub overflow_cast-result : goal.overflow_cast-result
 overflow_cast-result c = omega (arith, few c)

@@ -1,0 +1,48 @@
+-- Decimal numerals, read again.
+use Rattle.std.proofs.Common.{rules, ◌≡◌, ℕ, ◌+◌, ◌-◌, ◌*◌, ◌<◌, ◌≤◌, ◌^◌, true, ltb, leb, ◌&&◌, None, List, length, get_or, Some, ap, ◌∙◌, arith, fold}
+use Rattle.std.specs.Prelude.{decimal}
+use Rattle.std.specs.List.{list_all}
+use Rattle.std.specs.Char.{is_ascii_digit}
+use Rattle.std.proofs.lemmas.Bool.{cond-true, and_from, lt-ltb, le-leb}
+use Rattle.std.proofs.lemmas.Fmt.{decimal_nonempty, digits_decimal, digits_value-decimal}
+use Rattle.std.proofs.lemmas.List.Elements.{All-from_get_or}
+use Rattle.std.proofs.lemmas.List.Sums.{list_all-from_AllPass}
+use Rattle.std.proofs.lemmas.Str.Parse.{IsNumeralModel, IsDigitsTest, FoldsDigits, numerals_by_fold, numerals_by_value, tells_by_index}
+use Rattle.hd_model.specs.Grammar.{value_of, number_of}
+
+-- what digits are worth after those of a number
+abbrev worth : ℕ → List ℕ → ℕ
+worth n digits = fold (λ m b. m * 10 + (b - 48)) n digits
+
+tells : IsDigitsTest (λ ds. list_all is_ascii_digit ds ≡ true)
+tells = search rules
+
+folds : FoldsDigits worth
+folds = search rules
+
+model : IsNumeralModel (λ ds. list_all is_ascii_digit ds ≡ true) (worth 0)
+model = numerals_by_fold _ tells worth folds
+
+-- a number up to a limit is read from its numeral
+pub number_again : (most n : ℕ) → n ≤ most → most < 2 ^ 64 → number_of most (decimal n) ≡ Some n
+unfolding number_of value_of
+number_again most n within small =
+    let word = decimal n in
+    let fits : n < 2 ^ 64 = omega arith in
+    let value : worth 0 word ≡ n = digits_value-decimal model n fits in
+    let digits : list_all is_ascii_digit word ≡ true = digits_decimal model n fits in
+    let both = and_from (ltb 0 (length word)) (list_all is_ascii_digit word)
+    (lt-ltb 0 (length word) (decimal_nonempty n fits)) digits in
+    let low : leb (worth 0 word) most ≡ true = le-leb (worth 0 word) most (omega (arith, value)) in
+    let all = and_from (ltb 0 (length word) && list_all is_ascii_digit word) (leb (worth 0 word) most) both
+    low in
+    cond-true (ltb 0 (length word) && list_all is_ascii_digit word && leb (worth 0 word) most)
+    (Some (worth 0 word)) None all ∙ ap Some value
+
+-- each byte of a numeral is a digit
+pub digit_bytes : (n : ℕ) → n < 2 ^ 64 → list_all (λ b. leb 48 b) (decimal n) ≡ true
+digit_bytes n fits =
+    let digits = digits_decimal (numerals_by_value _ tells_by_index) n fits in
+    list_all-from_AllPass (λ b. leb 48 b) (decimal n)
+    (All-from_get_or (λ b. leb 48 b ≡ true) (decimal n) 0
+    (λ i h. le-leb 48 (get_or (decimal n) i 0) (digits i h).0))

@@ -1,0 +1,97 @@
+-- The callers that do not move stand as before.
+use Rattle.std.proofs.Common.{◌≡◌, ℕ, ◌+◌, ◌*◌, ◌<◌, ◌≤◌, ◌⊎◌, List, length, length-set, set, Some, None, is_some, IsSome, sym, ap, ◌∙◌, subst, ⊎_elim, arith}
+use Rattle.std.proofs.lemmas.Bool.{cases_eq, false≢true}
+use Rattle.std.proofs.lemmas.List.{get_or-set_same, get_or-set_other}
+use Rattle.std.proofs.lemmas.List.Sums.{sum_by-set}
+use Rattle.hd_model.specs.declared.data.Slot.{Slot}
+use Rattle.hd_model.specs.State.{State, handle_register_of, handle_at, used_of}
+use Rattle.hd_model.specs.WellFormed.{IsWellFormed}
+use Rattle.hd_model.specs.Generated.{load_numbers}
+use Rattle.hd_script.proofs.LoadPlace.{Line, news, hnews, vals, hgets, reads, drops, others, frees, collects, Place, Owns, AnyValue, OwnsBy, Stands, Frame, nowhere, at, left_of, Fits}
+
+module _ (s t : State) (c d : ℕ) (frame : Frame s t c) (apart : d ≡ c → ⊥) where
+  owns_stays : (V : ℕ → Type 0) → Owns s d V → Owns t d V
+  owns_stays V o = record {
+    id = o.id;
+    names = frame.registers d apart ∙ o.names;
+    own = o.own;
+    value = subst V (sym (frame.values d o.id apart o.names o.own)) o.value;
+  }
+
+  owns_by_stays : (line : Line) (j : ℕ) → OwnsBy s d line j → OwnsBy t d line j
+  owns_by_stays news j o = tt
+  owns_by_stays hnews j o = owns_stays AnyValue o
+  owns_by_stays vals j o = owns_stays AnyValue o
+  owns_by_stays hgets j o = owns_stays (λ v. v ≡ j) o
+  owns_by_stays reads j o = owns_stays (λ v. v ≡ j) o
+  owns_by_stays drops j o = tt
+  owns_by_stays others j o = tt
+  owns_by_stays frees j o = tt
+  owns_by_stays collects j o = tt
+
+  pub stands_stays : (p : Place) → ((x : Slot) → p.held ≡ Some x → handle_register_of s c 0 ≡ Some x → ⊥)
+      → Stands s d p → Stands t d p
+  stands_stays p mine stands = record {
+    owns = owns_by_stays p.line p.round stands.owns;
+    held = frame.handle_registers d apart ∙ stands.held;
+    empty = stands.empty;
+    live = λ x e. frame.live x (mine x e) (stands.live x e);
+  }
+
+-- one caller moves to its next place
+module _ (s t : State) (places : List Place) (c : ℕ) (next : Place) (fits : Fits s places) (small : c < 4)
+    (frame : Frame s t c) where
+  within : c < length places
+  within = omega (arith, fits.four)
+
+  here : at (set places c next) c ≡ next
+  here = get_or-set_same places c next nowhere within
+
+  beside : (d : ℕ) → (d ≡ c → ⊥) → at (set places c next) d ≡ at places d
+  beside d apart = get_or-set_other places c d next nowhere apart
+
+  -- what the caller holds then it held before, or nobody did
+  abbrev IsFresh : Type 0
+  IsFresh = (x : Slot) → next.held ≡ Some x → ((at places c).held ≡ Some x) ⊎ (handle_at s x ≡ None)
+
+  not_live : (x : Slot) → IsSome (handle_at s x) → handle_at s x ≡ None → ⊥
+  not_live x live none = false≢true (sym (ap is_some none) ∙ live)
+
+  apart_from : IsFresh → (d : ℕ) → d < 4 → (d ≡ c → ⊥) → (x : Slot) → next.held ≡ Some x
+      → (at places d).held ≡ Some x → ⊥
+  apart_from fresh d small_d apart x new old =
+      ⊎_elim (λ (kept : (at places c).held ≡ Some x). fits.apart d c small_d small apart x old kept)
+      (λ (none : handle_at s x ≡ None). not_live x ((fits.stands d small_d).live x old) none) (fresh x new)
+
+  pub fits_moved : IsWellFormed load_numbers t → Stands t c next
+      → used_of t + 10 * next.left ≤ used_of s + 10 * (at places c).left
+      → IsFresh → Fits t (set places c next)
+  fits_moved well stands room fresh = record {
+    four = length-set places c next ∙ fits.four;
+    well = well;
+    room = omega (arith, sum_by-set left_of places c next nowhere within, fits.room, room);
+    stands = λ d small_d. ⊎_elim
+        (λ (e : d ≡ c). subst (λ (k : ℕ). Stands t k (at (set places c next) k)) (sym e)
+        (subst (Stands t c) (sym here) stands))
+        (λ (ne : d ≡ c → ⊥). subst (Stands t d) (sym (beside d ne))
+        (stands_stays s t c d frame ne (at places d)
+        (λ x e g. fits.apart d c small_d small ne x e (sym (fits.stands c small).held ∙ g))
+        (fits.stands d small_d)))
+        (cases_eq d c);
+    apart = λ b d small_b small_d ne x e g. ⊎_elim
+        (λ (mine : b ≡ c). ⊎_elim
+        (λ (too : d ≡ c). ne (mine ∙ sym too))
+        (λ (other : d ≡ c → ⊥). apart_from fresh d small_d other x
+        (sym (ap (λ (p : Place). p.held) (ap (at (set places c next)) mine ∙ here)) ∙ e)
+        (sym (ap (λ (p : Place). p.held) (beside d other)) ∙ g))
+        (cases_eq d c))
+        (λ (other : b ≡ c → ⊥). ⊎_elim
+        (λ (mine : d ≡ c). apart_from fresh b small_b other x
+        (sym (ap (λ (p : Place). p.held) (ap (at (set places c next)) mine ∙ here)) ∙ g)
+        (sym (ap (λ (p : Place). p.held) (beside b other)) ∙ e))
+        (λ (others : d ≡ c → ⊥). fits.apart b d small_b small_d ne x
+        (sym (ap (λ (p : Place). p.held) (beside b other)) ∙ e)
+        (sym (ap (λ (p : Place). p.held) (beside d others)) ∙ g))
+        (cases_eq d c))
+        (cases_eq b c);
+  }

@@ -1,0 +1,168 @@
+-- The line of a load.
+use Rattle.std.proofs.Common.{◌≡◌, ℕ, ◌+◌, ◌*◌, ◌/◌, ◌<◌, ◌≤◌, List, [], length, map, get_or, replicate, Option, None, refl, sym, ap, ◌∙◌, arith, nat_cmp}
+use Rattle.std.specs.Prelude.{sum_by}
+use Rattle.std.specs.FinMap.{empty, entries, len, len-empty, len-entries}
+use Rattle.std.proofs.lemmas.Option.{none-some}
+use Rattle.std.proofs.lemmas.List.{get_or-replicate, length-replicate, nil_from_length}
+use Rattle.std.proofs.lemmas.List.Folds.{sum_by-replicate}
+use Rattle.hd_model.specs.declared.data.Id.{Id}
+use Rattle.hd_model.specs.declared.data.Slot.{Slot}
+use Rattle.hd_model.specs.declared.data.Entry.{Entry}
+use Rattle.hd_model.specs.declared.command.Cmd.{Cmd}
+use Rattle.hd_model.specs.State.{Object, State, start_of, handle_register_of, used_of, size_of}
+use Rattle.hd_model.specs.Run.{part_of, commands_of}
+use Rattle.hd_model.specs.Text.{is_collect, collections_of}
+use Rattle.hd_model.specs.Touched.{touched_by}
+use Rattle.hd_model.specs.Laws.{makes_object, count_entries}
+use Rattle.hd_model.specs.Generated.{load_numbers, load_text, value_told}
+use Rattle.hd_model.proofs.WellFormed.{start_is_well_formed}
+use Rattle.hd_model.proofs.Written.{replicate_cases}
+use Rattle.hd_model.proofs.Counts.{handles_are_made_less_freed}
+use Rattle.hd_script.specs.Load.{IsLoadRun, LoadsHaveTheirLine}
+use Rattle.hd_script.proofs.Rounds.{rounds_of, rounds_length}
+use Rattle.hd_script.proofs.LoadPlace.{news, Place, left_at, pending, holding, Stands, nowhere, at, left_of, Fits}
+use Rattle.hd_script.proofs.LoadStep.{bit, written, place}
+use Rattle.hd_script.proofs.LoadRun.{Totals, totals}
+use Rattle.hd_script.proofs.LoadCount.{by_parts, callers_small, sum_ones, list_of_caller, collects_in, news_in, written_in}
+
+-- ---- the start
+
+start : State
+start = start_of load_numbers
+
+nothing_used : used_of (start_of load_numbers) ≡ 0
+nothing_used =
+    let none : length (entries (empty {X = Object Id} {R = nat_cmp})) ≡ 0 = sym (len-entries empty)
+    ∙ len-empty nat_cmp (Object Id) in
+    ap (λ (es : List (ℕ × Object Id)). sum_by size_of (map (λ e. e.1) es))
+    (nil_from_length (entries (empty {X = Object Id} {R = nat_cmp})) none)
+
+nothing_held : (c : ℕ) → handle_register_of (start_of load_numbers) c 0 ≡ None
+nothing_held c =
+    replicate_cases (λ (row : List (Option Slot)). get_or row 0 None ≡ None) 4 c (replicate 16 None) []
+    (replicate_cases (λ (o : Option Slot). o ≡ None) 16 0 None None refl refl) refl
+
+stands_first : (c j m : ℕ) → Stands (start_of load_numbers) c (place news j m None)
+stands_first c j m = record {
+  owns = tt;
+  held = nothing_held c;
+  empty = refl;
+  live =
+      λ x h. absurd (none-some x h);
+}
+
+abbrev first : ℕ → Place
+first rounds = place news 1 rounds None
+
+abbrev all_first : ℕ → List Place
+all_first rounds = replicate 4 (first rounds)
+
+fits_first : (rounds : ℕ) → rounds ≤ 3000 → Fits (start_of load_numbers) (all_first rounds)
+fits_first rounds few = record {
+  four = length-replicate 4 (first rounds);
+  well = start_is_well_formed load_numbers;
+  room = omega (arith, nothing_used, sum_by-replicate left_of 4 (first rounds));
+  stands = λ c small. replicate_cases (Stands (start_of load_numbers) c) 4 c (first rounds) nowhere
+      (stands_first c 1 rounds) (stands_first c 0 0);
+  apart = λ b c small_b small_c ne x e g.
+      none-some x (sym (replicate_cases (λ (p : Place). p.held ≡ None) 4 b (first rounds) nowhere refl refl)
+      ∙ e);
+}
+
+-- ---- the numbers
+
+module _ (rounds : ℕ) (journal : List Entry) (s : State) (few : rounds ≤ 3000)
+    (is : IsLoadRun rounds journal s) where
+  part : (c : ℕ) → c < 4 → commands_of (part_of journal c) ≡ rounds_of c rounds
+  part c small = is.parts c ∙ list_of_caller rounds c small
+
+  follow : (c : ℕ) → c < 4 → left_at c (at (all_first rounds) c) ≡ commands_of (part_of journal c)
+  follow c small = ap (left_at c) (get_or-replicate 4 c (first rounds) nowhere small) ∙ sym (part c small)
+
+  -- a sum over the commands is one over the four lists
+  over_lists : (f : Cmd → ℕ) → sum_by (λ (e : Entry). f e.cmd) journal
+      ≡ sum_by f (rounds_of 0 rounds) + sum_by f (rounds_of 1 rounds) + sum_by f
+      (rounds_of 2 rounds) + sum_by f (rounds_of 3 rounds)
+  over_lists f =
+      by_parts f journal (callers_small is.run)
+      ∙ (λ i. sum_by f (part 0 (omega arith) i) + sum_by f (part 1 (omega arith) i) + sum_by f
+      (part 2 (omega arith) i) + sum_by f (part 3 (omega arith) i))
+
+  commands : length journal ≡ 32 * rounds + 4 * (rounds / 16)
+  commands =
+      omega (
+        arith,
+        sum_ones journal,
+        over_lists (λ _. 1),
+        sum_ones (rounds_of 0 rounds),
+        sum_ones (rounds_of 1 rounds),
+        sum_ones (rounds_of 2 rounds),
+        sum_ones (rounds_of 3 rounds),
+        rounds_length 0 rounds,
+        rounds_length 1 rounds,
+        rounds_length 2 rounds,
+        rounds_length 3 rounds,
+      )
+
+  collections : sum_by (λ (e : Entry). bit (is_collect e.cmd)) journal ≡ 4 * (rounds / 16)
+  collections =
+      omega (
+        arith,
+        over_lists (λ x. bit (is_collect x)),
+        collects_in 0 rounds,
+        collects_in 1 rounds,
+        collects_in 2 rounds,
+        collects_in 3 rounds,
+      )
+
+  news_in_all : sum_by (λ (e : Entry). bit (touched_by e.cmd).makes_object) journal ≡ 4 * rounds
+  news_in_all =
+      omega (
+        arith,
+        over_lists (λ x. bit (touched_by x).makes_object),
+        news_in 0 rounds,
+        news_in 1 rounds,
+        news_in 2 rounds,
+        news_in 3 rounds,
+      )
+
+  written_in_all : sum_by (λ (e : Entry). written e.cmd) journal ≡ 2 * (rounds * (rounds + 1))
+  written_in_all =
+      omega (
+        arith,
+        over_lists written,
+        written_in 0 rounds,
+        written_in 1 rounds,
+        written_in 2 rounds,
+        written_in 3 rounds,
+      )
+
+  all : Totals journal (all_first rounds)
+  all = totals is.run (all_first rounds) (fits_first rounds few) follow
+
+  made : count_entries makes_object journal ≡ 4 * rounds
+  made = all.made ∙ news_in_all
+
+  live : len s.handles ≡ 0
+  live =
+      omega (
+        arith,
+        handles_are_made_less_freed load_numbers journal s is.run,
+        all.handles,
+        sum_by-replicate holding 4 (first rounds),
+      )
+
+  told : sum_by (λ (e : Entry). value_told e.reply) journal ≡ 2 * rounds * (rounds + 1)
+  told =
+      let double : 2 * (rounds * (rounds + 1)) ≡ 2 * rounds * (rounds + 1) = grind arith in
+      omega (arith, all.told, written_in_all, sum_by-replicate pending 4 (first rounds), double)
+
+  pub its_line : load_text (length journal) (count_entries makes_object journal) (len s.handles)
+      (collections_of journal)
+      (sum_by (λ (e : Entry). value_told e.reply) journal)
+      ≡ load_text (32 * rounds + 4 * (rounds / 16)) (4 * rounds) 0 (4 * (rounds / 16))
+      (2 * rounds * (rounds + 1))
+  its_line = λ i. load_text (commands i) (made i) (live i) (collections i) (told i)
+
+pub loads_have_their_line : LoadsHaveTheirLine
+loads_have_their_line rounds journal s some few is = its_line rounds journal s few is

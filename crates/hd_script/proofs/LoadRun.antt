@@ -1,0 +1,194 @@
+-- What a run of a load comes to, from any state that it reaches.
+use Rattle.std.proofs.Common.{◌≡◌, ℕ, suc, zero, ◌+◌, ◌*◌, ◌<◌, ◌≤◌, eqb, List, [], ◌∷◌, length, set, Option, Some, None, refl, sym, ap, ◌∙◌, subst, ⊎_elim, arith}
+use Rattle.std.specs.Prelude.{sum_by}
+use Rattle.std.proofs.lemmas.Bool.{cases_eq, cond-true, cond-false, eq-eqb, ne_eqb}
+use Rattle.std.proofs.lemmas.List.{get_or-set_same, get_or-set_other}
+use Rattle.std.proofs.lemmas.Option.{none-some}
+use Rattle.std.proofs.lemmas.List.Sums.{sum_by-cons, sum_by-set, get_or-le-sum_by}
+use Rattle.hd_model.specs.declared.data.Slot.{Slot}
+use Rattle.hd_model.specs.declared.data.Entry.{Entry}
+use Rattle.hd_model.specs.declared.command.Cmd.{Cmd}
+use Rattle.hd_model.specs.State.{State, used_of}
+use Rattle.hd_model.specs.WellFormed.{IsWellFormed}
+use Rattle.hd_model.specs.Step.{StepOf, Step}
+use Rattle.hd_model.specs.Run.{Chain, stay, link, part_of, commands_of}
+use Rattle.hd_model.specs.Touched.{touched_by}
+use Rattle.hd_model.specs.Laws.{makes_object, makes_handle, frees_handle, count_entries}
+use Rattle.hd_model.specs.Generated.{value_told, load_numbers}
+use Rattle.hd_model.proofs.WellFormed.{step_keeps}
+use Rattle.hd_script.proofs.LoadPlace.{Line, news, hnews, vals, hgets, reads, drops, others, frees, collects, Place, left_by, left_at, pending, one_if_some, holding, Stands, nowhere, at, left_of, Fits}
+use Rattle.hd_script.proofs.LoadFrame.{fits_moved}
+use Rattle.hd_script.proofs.LoadStep.{bit, written, place, Does, does_new, does_hnew, does_val, does_hget, does_read, does_drop, does_other, does_free, does_collect}
+
+same_head : (x y : Cmd) (xs ys : List Cmd) → x ∷ xs ≡ y ∷ ys → x ≡ y
+same_head x y xs ys e = cc
+
+same_tail : (x y : Cmd) (xs ys zs : List Cmd) → zs ≡ x ∷ xs → zs ≡ x ∷ ys → xs ≡ ys
+same_tail x y xs ys zs e g = cc
+
+-- ---- the next step of a caller
+
+module _ (s t : State) (e : Entry) (c : ℕ) (is : e.caller ≡ c) (small : c < 4)
+    (well : IsWellFormed load_numbers s) (rest : List Cmd) (step : StepOf load_numbers s e t e.cmd) where
+  -- where the next command is x
+  by_command : (p : Place) (x : Cmd) (xs : List Cmd) → x ∷ xs ≡ e.cmd ∷ rest
+      → (StepOf load_numbers s e t x → Does s t c p x e.reply) → Does s t c p e.cmd e.reply
+  by_command p x xs next does =
+      let same : x ≡ e.cmd = same_head x e.cmd xs rest next in
+      subst (λ (y : Cmd). Does s t c p y e.reply) same
+      (does (subst (StepOf load_numbers s e t) (sym same) step))
+
+  by_line : (line : Line) (j m : ℕ) (h : Option Slot) → Stands s c (place line j m h)
+      → used_of s + 10 * m ≤ 120000 → left_by c line j m ≡ e.cmd ∷ rest
+      → Does s t c (place line j m h) e.cmd e.reply
+  by_line news j zero h stands room next = absurd cc
+  by_line news j (suc m) None stands room next =
+      by_command _ _ _ next (does_new s c small well j m t e is stands room)
+  by_line news j (suc m) (Some slot) stands room next = absurd (none-some slot (sym stands.empty))
+  by_line hnews j m None stands room next = by_command _ _ _ next (does_hnew s c small well j m t e is stands)
+  by_line hnews j m (Some slot) stands room next = absurd (none-some slot (sym stands.empty))
+  by_line vals j m h stands room next = by_command _ _ _ next (does_val s c small well j m t e h is stands)
+  by_line hgets j m h stands room next = by_command _ _ _ next (does_hget s c small well j m t e h is stands)
+  by_line reads j m h stands room next = by_command _ _ _ next (does_read s c small well j m t e h is stands)
+  by_line drops j m h stands room next = by_command _ _ _ next (does_drop s c small well j m t e h is stands)
+  by_line others j m h stands room next =
+      by_command _ _ _ next (does_other s c small well j m t e h is stands)
+  by_line frees j m h stands room next = by_command _ _ _ next (does_free s c small well j m t e h is stands)
+  by_line collects j m None stands room next =
+      by_command _ _ _ next (does_collect s c small well j m t e is stands)
+  by_line collects j m (Some slot) stands room next = absurd (none-some slot (sym stands.empty))
+
+-- ---- at the end
+
+ended : (s : State) (c : ℕ) (line : Line) (j m : ℕ) (h : Option Slot) → Stands s c (place line j m h)
+    → left_by c line j m ≡ []
+    → (pending (place line j m h) ≡ 0) × (holding (place line j m h) ≡ 0)
+ended s c news j m h stands none = (refl, ap one_if_some stands.empty)
+ended s c hnews j m h stands none = absurd cc
+ended s c vals j m h stands none = absurd cc
+ended s c hgets j m h stands none = absurd cc
+ended s c reads j m h stands none = absurd cc
+ended s c drops j m h stands none = absurd cc
+ended s c others j m h stands none = absurd cc
+ended s c frees j m h stands none = absurd cc
+ended s c collects j m h stands none = absurd cc
+
+sum_none : (f : Place → ℕ) (places : List Place) → ((i : ℕ) → i < length places → f (at places i) ≡ 0)
+    → sum_by f places ≡ 0
+sum_none f [] zero_each = refl
+sum_none f (p ∷ places) zero_each =
+    omega (
+      arith,
+      sum_by-cons f p places,
+      zero_each 0 (omega arith),
+      sum_none f places (λ i h. zero_each (suc i) (omega arith)),
+    )
+
+-- ---- the whole way
+
+pub record Totals (es : List Entry) (places : List Place) : Type 0 where
+  pub told : sum_by (λ (e : Entry). value_told e.reply) es
+      ≡ sum_by (λ (e : Entry). written e.cmd) es + sum_by pending places
+  pub made : count_entries makes_object es ≡ sum_by (λ (e : Entry). bit (touched_by e.cmd).makes_object) es
+  pub handles : count_entries makes_handle es + sum_by holding places ≡ count_entries frees_handle es
+
+abbrev Follow : List Entry → List Place → Type 0
+Follow es places = (c : ℕ) → c < 4 → left_at c (at places c) ≡ commands_of (part_of es c)
+
+-- the first entry is one of its caller's part, and of no other
+own_first : (e : Entry) (es : List Entry)
+    → commands_of (part_of (e ∷ es) e.caller) ≡ e.cmd ∷ commands_of (part_of es e.caller)
+own_first e es = ap commands_of
+    (cond-true (eqb e.caller e.caller) (e ∷ part_of es e.caller) (part_of es e.caller)
+    (eq-eqb e.caller e.caller refl))
+
+other_first : (e : Entry) (es : List Entry) (d : ℕ) → (d ≡ e.caller → ⊥)
+    → commands_of (part_of (e ∷ es) d) ≡ commands_of (part_of es d)
+other_first e es d apart =
+    ap commands_of (cond-false (eqb e.caller d) (e ∷ part_of es d) (part_of es d)
+    (ne_eqb e.caller d (λ same. apart (sym same))))
+
+module _ (s t : State) (e : Entry) (es : List Entry) (places : List Place) (fits : Fits s places)
+    (follow : Follow (e ∷ es) places)
+    (step : Step load_numbers s e t) where
+  within : e.caller < length places
+  within = omega (arith, fits.four, step.caller)
+
+  -- the step leads its caller on
+  goes : Does s t e.caller (at places e.caller) e.cmd e.reply
+  goes =
+      let p = at places e.caller in
+      by_line s t e e.caller refl step.caller fits.well (commands_of (part_of es e.caller)) step.does p.line
+      p.round p.left p.held
+      (fits.stands e.caller step.caller)
+      (omega (arith, fits.room, get_or-le-sum_by left_of places e.caller nowhere within))
+      (follow e.caller step.caller ∙ own_first e es)
+
+  after : List Place
+  after = set places e.caller goes.next
+
+  fits_after : Fits t after
+  unfolding after
+  fits_after =
+      fits_moved s t places e.caller goes.next fits step.caller goes.frame
+      (step_keeps load_numbers s t e fits.well step)
+      goes.stands goes.room goes.fresh
+
+  follow_after : Follow es after
+  unfolding after
+  follow_after d small =
+      ⊎_elim
+      (λ (mine : d ≡ e.caller).
+      let here : at after e.caller ≡ goes.next = get_or-set_same places e.caller goes.next nowhere within in
+      let next : left_at e.caller goes.next ≡ commands_of (part_of es e.caller) =
+      same_tail e.cmd e.cmd _ _ _ goes.rest (follow e.caller step.caller ∙ own_first e es) in
+      ap (λ (k : ℕ). left_at k (at after k)) mine ∙ ap (left_at e.caller) here ∙ next
+      ∙ ap (λ (k : ℕ). commands_of (part_of es k)) (sym mine))
+      (λ (apart : d ≡ e.caller → ⊥).
+      ap (left_at d) (get_or-set_other places e.caller d goes.next nowhere apart) ∙ follow d small
+      ∙ other_first e es d apart)
+      (cases_eq d e.caller)
+
+  more : Totals es after → Totals (e ∷ es) places
+  unfolding after
+  more rest = record {
+    told = omega (
+      arith,
+      rest.told,
+      goes.told,
+      sum_by-cons (λ (x : Entry). value_told x.reply) e es,
+      sum_by-cons (λ (x : Entry). written x.cmd) e es,
+      sum_by-set pending places e.caller goes.next nowhere within,
+    );
+    made = omega (
+      arith,
+      rest.made,
+      ap bit goes.made,
+      sum_by-cons (λ (x : Entry). bit (makes_object x.cmd x.reply)) e es,
+      sum_by-cons (λ (x : Entry). bit (touched_by x.cmd).makes_object) e es,
+    );
+    handles = omega (
+      arith,
+      rest.handles,
+      goes.handles,
+      sum_by-cons (λ (x : Entry). bit (makes_handle x.cmd x.reply)) e es,
+      sum_by-cons (λ (x : Entry). bit (frees_handle x.cmd x.reply)) e es,
+      sum_by-set holding places e.caller goes.next nowhere within,
+    );
+  }
+
+-- from wherever the callers stand, a run of the commands that are left comes to these numbers
+pub totals : {s t : State} {es : List Entry} → Chain (Step load_numbers) s es t → (places : List Place)
+    → Fits s places → Follow es places → Totals es places
+totals (stay {s = s}) places fits follow =
+    let at_end : (i : ℕ) → i < 4 → (pending (at places i) ≡ 0) × (holding (at places i) ≡ 0) =
+    λ i small. let p = at places i in
+    ended s i p.line p.round p.left p.held (fits.stands i small) (follow i small) in
+    record {
+      told = omega (arith, sum_none pending places (λ i h. (at_end i (omega (arith, fits.four))).0));
+      made = refl;
+      handles = omega (arith, sum_none holding places (λ i h. (at_end i (omega (arith, fits.four))).1));
+    }
+totals (link {s = s} {t = t} {e = e} {es = es} step rest) places fits follow =
+    more s t e es places fits follow step (totals rest (after s t e es places fits follow step)
+    (fits_after s t e es places fits follow step) (follow_after s t e es places fits follow step))

@@ -1,0 +1,590 @@
+-- What the step of each command of a load does.
+use Rattle.std.proofs.Common.{◌≡◌, ℕ, suc, ◌+◌, ◌*◌, ◌/◌, ◌%◌, ◌^◌, ◌<◌, ◌≤◌, ◌⊎◌, Bool, true, false, cond, eqb, ltb, List, [], ◌∷◌, ◌++◌, length, get_or, set, Option, Some, None, is_some, IsSome, refl, sym, ap, ◌∙◌, subst, inl, inr, ⊎_elim, arith}
+use Rattle.std.specs.Prelude.{unwrap_or, option_map, Contains}
+use Rattle.std.specs.FinMap.{get, insert}
+use Rattle.std.proofs.lemmas.Bool.{ltb-true, false≢true}
+use Rattle.std.proofs.lemmas.List.{get_or-set_same, get_or-set_other, length-replicate}
+use Rattle.std.proofs.lemmas.Option.{none-some, same_Some}
+use Rattle.hd_model.specs.declared.data.Id.{Id}
+use Rattle.hd_model.specs.declared.data.Slot.{Slot}
+use Rattle.hd_model.specs.declared.data.Entry.{Entry}
+use Rattle.hd_model.specs.declared.data.Grown.{Grown}
+use Rattle.hd_model.specs.declared.data.Refusal.{Refusal}
+use Rattle.hd_model.specs.declared.data.Refusal.TheVariants as refusal
+use Rattle.hd_model.specs.declared.data.Reply.{Reply}
+use Rattle.hd_model.specs.declared.data.Reply.TheVariants as reply
+use Rattle.hd_model.specs.declared.command.Cmd.{Cmd}
+use Rattle.hd_model.specs.declared.command.Cmd.TheVariants as cmd
+use Rattle.hd_model.specs.Kinds.{kind_of}
+use Rattle.hd_model.specs.State.{Object, State, register_of, handle_register_of, last_serial, object_at, handle_at, used_of, size_of, identity_of, with_register, with_handle_register, with_object, with_handle, without_handle, with_serial}
+use Rattle.hd_model.specs.WellFormed.{IsWellFormed}
+use Rattle.hd_model.specs.Command.{Outcome, loaded, fresh_object, new_object, set_value, read_value, clear_register, get_target, free_handle, made_handle}
+use Rattle.hd_model.specs.Step.{IsOutcome, with_growth, with_made, MakesHandle, FindsTableFull, DoesCollect, StepOf}
+use Rattle.hd_model.specs.Scene.{scene_of}
+use Rattle.hd_model.specs.Reach.{named}
+use Rattle.hd_model.specs.Collect.{cleared, survivor}
+use Rattle.hd_model.specs.Touched.{touched_by}
+use Rattle.hd_model.specs.Laws.{makes_object, makes_handle, frees_handle}
+use Rattle.hd_model.specs.Generated.{make_of_round, value_told, load_numbers}
+use Rattle.hd_model.proofs.Effects.{growth_is}
+use Rattle.hd_model.proofs.Whole.{register_named, whole_scene}
+use Rattle.hd_model.proofs.Collecting.{keeps_root, object_after}
+use Rattle.hd_model.proofs.Outcomes.{test_cases, on_object_cases, on_handle_cases}
+use Rattle.hd_model.proofs.WellFormed.{has}
+use Rattle.hd_model.proofs.Counts.{fresh, given_vacant}
+use Rattle.hd_model.proofs.Sums.{share, sum-insert, sum-le}
+use Rattle.hd_model.proofs.Written.{cell_here, get_inserted, get_beside, get_left, still_some}
+use Rattle.hd_script.proofs.LoadPlace.{Line, news, hnews, vals, hgets, reads, drops, others, frees, collects, Place, rounds_from, left_at, after_round, left_after_round, pending, one_if_some, holding, Owns, Stands, Frame}
+
+-- 1 for a test that passes
+abbrev pub bit : Bool → ℕ
+bit b = cond b 1 0
+
+-- the value that a command writes
+abbrev pub written : Cmd → ℕ
+written (cmd.Val o n) = n
+written _ = 0
+
+abbrev pub place : Line → ℕ → ℕ → Option Slot → Place
+place line j m h = record { line = line; round = j; left = m; held = h }
+
+-- a step by command x with reply r leads the caller from place p to the next one
+pub record Does (s t : State) (c : ℕ) (p : Place) (x : Cmd) (r : Reply) : Type 0 where
+  pub next : Place
+  pub rest : left_at c p ≡ x ∷ left_at c next
+  pub frame : Frame s t c
+  pub stands : Stands t c next
+  pub room : used_of t + 10 * next.left ≤ used_of s + 10 * p.left
+  pub fresh : (y : Slot) → next.held ≡ Some y → (p.held ≡ Some y) ⊎ (handle_at s y ≡ None)
+  pub told : value_told r + pending next ≡ written x + pending p
+  pub made : makes_object x r ≡ (touched_by x).makes_object
+  pub handles : bit (makes_handle x r) + holding p ≡ bit (frees_handle x r) + holding next
+
+-- ---- frames
+
+frame_same : (s : State) (c : ℕ) → Frame s s c
+frame_same s c = record {
+  registers = λ d apart. refl;
+  handle_registers = λ d apart. refl;
+  values = λ d id apart names own. refl;
+  live = λ x mine h. h;
+}
+
+register_beside : (s : State) (c k : ℕ) (v : Option Id) (d : ℕ) → (d ≡ c → ⊥)
+    → register_of (with_register s c k v) d 0 ≡ register_of s d 0
+register_beside s c k v d apart =
+    ap (λ (row : List (Option Id)). get_or row 0 None)
+    (get_or-set_other s.registers c d (set (get_or s.registers c []) k v) [] apart)
+
+handle_register_beside : (s : State) (c k : ℕ) (v : Option Slot) (d : ℕ) → (d ≡ c → ⊥)
+    → handle_register_of (with_handle_register s c k v) d 0 ≡ handle_register_of s d 0
+handle_register_beside s c k v d apart =
+    ap (λ (row : List (Option Slot)). get_or row 0 None)
+    (get_or-set_other s.handle_registers c d (set (get_or s.handle_registers c []) k v) [] apart)
+
+frame_register : (s : State) (c k : ℕ) (v : Option Id) → Frame s (with_register s c k v) c
+frame_register s c k v = record {
+  registers = register_beside s c k v;
+  handle_registers = λ d apart. refl;
+  values = λ d id apart names own. refl;
+  live = λ x mine h. h;
+}
+
+-- another object of a caller's has the value of one that is not this caller's
+value_beside : (s : State) (c : ℕ) (id : Id) (object : Object Id) → id.0 / 2 ^ 32 ≡ c → (d : ℕ) (other : Id)
+    → (d ≡ c → ⊥)
+    → other.0 / 2 ^ 32 ≡ d → (object_at (with_object s id object) other).value ≡ (object_at s other).value
+value_beside s c id object own d other apart owner =
+    ap (λ (o : Option (Object Id)).
+    (unwrap_or {T = Object Id} o (record
+    { fields = []; value = 0; generation = 0; registered = false })).value)
+    (get_beside s.objects id.0 object other.0
+    (λ same. apart (sym owner ∙ ap (λ (k : ℕ). k / 2 ^ 32) same ∙ own)))
+
+-- ---- the caller's own registers
+
+module _ (s : State) (c : ℕ) (small : c < 4) (well : IsWellFormed load_numbers s) where
+  in_rows : c < length s.registers
+  in_rows = omega (arith, well.shape.registers)
+
+  in_handle_rows : c < length s.handle_registers
+  in_handle_rows = omega (arith, well.shape.handle_registers)
+
+  register_here : (v : Option Id) → register_of (with_register s c 0 v) c 0 ≡ v
+  register_here v = cell_here s.registers c 0 v None in_rows
+      (omega (arith, well.shape.each_registers c small))
+
+  handle_register_here : (v : Option Slot) → handle_register_of (with_handle_register s c 0 v) c 0 ≡ v
+  handle_register_here v =
+      cell_here s.handle_registers c 0 v None in_handle_rows
+      (omega (arith, well.shape.each_handle_registers c small))
+
+  -- register r1 is another one
+  register_kept : (v : Option Id) → register_of (with_register s c 1 v) c 0 ≡ register_of s c 0
+  register_kept v =
+      let row = get_or s.registers c [] in
+      ap (λ (r : List (Option Id)). get_or r 0 None) (get_or-set_same s.registers c (set row 1 v) [] in_rows)
+      ∙ get_or-set_other row 1 0 v None (λ e. omega arith)
+
+  owns_kept : (v : Option Id) (V : ℕ → Type 0) → Owns s c V → Owns (with_register s c 1 v) c V
+  owns_kept v V o = record { id = o.id; names = register_kept v ∙ o.names; own = o.own; value = o.value }
+
+-- ---- a step by each line
+
+-- what an outcome does, its step does
+carry : (s t : State) (e : Entry) (c : ℕ) (p : Place) (x : Cmd) (w : Outcome) → Does s w.after c p x w.reply
+    → IsOutcome e w t → Does s t c p x e.reply
+carry s t e c p x w does o =
+    subst (λ (r : Reply). Does s t c p x r) (sym o.reply)
+    (subst (λ (u : State). Does s u c p x w.reply) (sym o.after) does)
+
+some_object : (s : State) (id : Id) → IsSome (get s.objects id.0) → get s.objects id.0 ≡ Some (object_at s id)
+some_object s id there = by (get s.objects id.0) there
+  where
+    by : (o : Option (Object Id)) → IsSome o
+        → o ≡ Some (unwrap_or o (record { fields = []; value = 0; generation = 0; registered = false }))
+    by None h = absurd (false≢true h)
+    by (Some object) h = refl
+
+module _ (s : State) (c : ℕ) (small : c < 4) (well : IsWellFormed load_numbers s) (j m : ℕ) where
+  -- `new`: r0 names a new object
+  made_new : Stands s c (place news j (suc m) None) → last_serial s c + 1 < 2 ^ 32 →
+      (let id = identity_of c (last_serial s c + 1) in
+      let made = with_serial (with_object s id (fresh_object ((c + j) % 8) false)) c
+      (last_serial s c + 1) in
+      Does s (with_register made c 0 (Some id)) c (place news j (suc m) None) (cmd.New 0 ((c + j) % 8) false)
+      (reply.Object id))
+  made_new stands serial =
+      let id = identity_of c (last_serial s c + 1) in
+      let object = fresh_object ((c + j) % 8) false in
+      let own : id.0 / 2 ^ 32 ≡ c = omega arith in
+      let unused : get s.objects id.0 ≡ None = fresh load_numbers s c well serial in
+      let cells = sum-insert size_of s.objects id.0 object in
+      record {
+        next = place hnews j m None;
+        rest = refl;
+        frame = record {
+          registers = register_beside s c 0 (Some id);
+          handle_registers = λ d apart. refl;
+          values = λ d other apart names owner. value_beside s c id object own d other apart owner;
+          live = λ x mine h. h;
+        };
+        stands = record {
+          owns = record { id = id; names = register_here s c small well (Some id); own = own; value = tt };
+          held = stands.held;
+          empty = refl;
+          live = stands.live;
+        };
+        room = omega (arith, cells, ap (share size_of) unused, length_replicate ((c + j) % 8));
+        fresh = λ y h. inl h;
+        told = refl;
+        made = refl;
+        handles = refl;
+      }
+    where
+      length_replicate : (k : ℕ) → size_of (fresh_object k false) ≡ k + 3
+      length_replicate k = ap (λ (n : ℕ). n + 3) (length-replicate k None)
+
+  pub does_new : (t : State) (e : Entry) → e.caller ≡ c → Stands s c (place news j (suc m) None)
+      → used_of s + 10 * suc m ≤ 120000 →
+      StepOf load_numbers s e t (cmd.New 0 ((c + j) % 8) false)
+      → Does s t c (place news j (suc m) None) (cmd.New 0 ((c + j) % 8) false) e.reply
+  does_new t e is stands room step =
+      let x = cmd.New 0 ((c + j) % 8) false in
+      let p = place news j (suc m) None in
+      let outcome : IsOutcome e (new_object load_numbers s c 0 ((c + j) % 8) false) t =
+      subst (λ (k : ℕ). IsOutcome e (new_object load_numbers s k 0 ((c + j) % 8) false) t) is step.1 in
+      let serial : last_serial s c + 1 < 2 ^ 32 = subst (λ (k : ℕ). last_serial s k + 1 < 2 ^ 32) is step.0 in
+      test_cases (λ o. IsOutcome e o t → Does s t c p x e.reply)
+      (ltb 1000000 (used_of s + ((c + j) % 8 + 3))) _ _
+      (λ full. let over = ltb-true 1000000 (used_of s + ((c + j) % 8 + 3)) full in absurd (omega arith))
+      (λ fits o. carry s t e c p x _ (made_new stands serial) o) outcome
+
+  -- `hnew`: h0 has a new slot, or the table is full and h0 stays empty
+  not_made : (why : Refusal) → Stands s c (place hnews j m None)
+      → Does s s c (place hnews j m None) (cmd.HNew 0 (make_of_round j) 0) (reply.Refused why)
+  not_made why stands = record {
+    next = place vals j m None;
+    rest = refl;
+    frame = frame_same s c;
+    stands = record { owns = stands.owns; held = stands.held; empty = tt; live = stands.live };
+    room = omega arith;
+    fresh = λ y h. inl h;
+    told = refl;
+    made = refl;
+    handles = refl;
+  }
+
+  abbrev with_slot : State → Grown → Slot → State
+  with_slot u grown slot =
+      with_handle_register
+      (with_handle (record u { blocks = (with_growth u (kind_of (make_of_round j)) grown).blocks }) slot
+      (made_handle u c (make_of_round j) 0))
+      c 0 (Some slot)
+
+  made_handle_in : (grown : Grown) (slot : Slot) → handle_at s slot ≡ None → Stands s c (place hnews j m None)
+      → Does s (with_slot s grown slot) c (place hnews j m None) (cmd.HNew 0 (make_of_round j) 0) reply.Done
+  made_handle_in grown slot vacant stands =
+      let handle = made_handle s c (make_of_round j) 0 in
+      record {
+        next = place vals j m (Some slot);
+        rest = refl;
+        frame = record {
+          registers = λ d apart. refl;
+          handle_registers = handle_register_beside s c 0 (Some slot);
+          values = λ d id apart names own. refl;
+          live = λ x mine h. still_some s.handles slot.0 handle x.0 h;
+        };
+        stands = record {
+          owns = let o = stands.owns in record { id = o.id; names = o.names; own = o.own; value = tt };
+          held = handle_register_here s c small well (Some slot);
+          empty = tt;
+          live = λ x h. subst (λ (y : Slot). IsSome (get (insert s.handles slot.0 handle) y.0))
+              (same_Some slot x h)
+              (ap is_some (get_inserted s.handles slot.0 handle));
+        };
+        room = omega arith;
+        fresh = λ y h. inr (subst (λ (x : Slot). handle_at s x ≡ None) (same_Some slot y h) vacant);
+        told = refl;
+        made = refl;
+        handles = refl;
+      }
+
+  pub does_hnew : (t : State) (e : Entry) → e.caller ≡ c → Stands s c (place hnews j m None) →
+      StepOf load_numbers s e t (cmd.HNew 0 (make_of_round j) 0)
+      → Does s t c (place hnews j m None) (cmd.HNew 0 (make_of_round j) 0) e.reply
+  does_hnew t e is stands step =
+      let x = cmd.HNew 0 (make_of_round j) 0 in
+      let p = place hnews j m None in
+      ⊎_elim
+      (λ (made : MakesHandle load_numbers s e t 0 (make_of_round j) 0).
+      let vacant = given_vacant load_numbers s well (kind_of (make_of_round j)) e.grown made.slot made.may in
+      let after : t ≡ with_slot s e.grown made.slot =
+      made.after ∙ ap (λ (k : ℕ). with_made s k e.grown 0 (make_of_round j) 0 made.slot) is
+      ∙ ap (λ (u : State). with_handle_register
+      (with_handle u made.slot (made_handle s c (make_of_round j) 0)) c 0 (Some made.slot))
+      (growth_is s (kind_of (make_of_round j)) e.grown) in
+      subst (λ (r : Reply). Does s t c p x r) (sym made.reply)
+      (subst (λ (u : State). Does s u c p x reply.Done) (sym after)
+      (made_handle_in e.grown made.slot vacant stands)))
+      (λ (full : FindsTableFull load_numbers s e t (kind_of (make_of_round j))).
+      carry s t e c p x _ (not_made _ stands) full.refused)
+      step
+
+  -- `val`: the value of r0's object is the number of the round
+  set_to : (h : Option Slot) → Stands s c (place vals j m h) → (id : Id) → register_of s c 0 ≡ Some id
+      → id.0 / 2 ^ 32 ≡ c
+      → IsSome (get s.objects id.0) → Does s (with_object s id (record (object_at s id) { value = j })) c
+      (place vals j m h) (cmd.Val 0 j) reply.Done
+  set_to h stands id names own there =
+      let object : Object Id = record (object_at s id) { value = j } in
+      let cells = sum-insert size_of s.objects id.0 object in
+      let before : share size_of (get s.objects id.0) ≡ size_of object =
+      ap (share size_of) (some_object s id there) in
+      record {
+        next = place hgets j m h;
+        rest = refl;
+        frame = record {
+          registers = λ d apart. refl;
+          handle_registers = λ d apart. refl;
+          values = λ d other apart named owner. value_beside s c id object own d other apart owner;
+          live = λ x mine l. l;
+        };
+        stands = record {
+          owns = record {
+            id = id;
+            names = names;
+            own = own;
+            value = ap (λ (o : Option (Object Id)).
+                (unwrap_or {T = Object Id} o (record
+                { fields = []; value = 0; generation = 0; registered = false })).value)
+                (get_inserted s.objects id.0 object);
+          };
+          held = stands.held;
+          empty = tt;
+          live = stands.live;
+        };
+        room = omega (arith, cells, before);
+        fresh = λ y l. inl l;
+        told = omega arith;
+        made = refl;
+        handles = omega arith;
+      }
+
+  pub does_val : (t : State) (e : Entry) (h : Option Slot) → e.caller ≡ c → Stands s c (place vals j m h) →
+      StepOf load_numbers s e t (cmd.Val 0 j) → Does s t c (place vals j m h) (cmd.Val 0 j) e.reply
+  does_val t e h is stands step =
+      let p = place vals j m h in
+      let outcome : IsOutcome e (set_value s c 0 j) t =
+      subst (λ (k : ℕ). IsOutcome e (set_value s k 0 j) t) is step in
+      let o = stands.owns in
+      on_object_cases (λ w. IsOutcome e w t → Does s t c p (cmd.Val 0 j) e.reply) s c 0 _
+      (λ none. absurd (none-some o.id (sym none ∙ o.names)))
+      (λ id names. carry s t e c p (cmd.Val 0 j) _
+      (set_to h stands id names (subst
+      (λ (i : Id). i.0 / 2 ^ 32 ≡ c) (same_Some o.id id (sym o.names ∙ names)) o.own)
+      (has load_numbers s c 0 id well names)))
+      outcome
+
+  -- `hget`: r1 gets the target, or nothing where h0 is empty; r0 stays
+  pub does_hget : (t : State) (e : Entry) (h : Option Slot) → e.caller ≡ c → Stands s c (place hgets j m h) →
+      StepOf load_numbers s e t (cmd.HGet 1 0) → Does s t c (place hgets j m h) (cmd.HGet 1 0) e.reply
+  does_hget t e h is stands step =
+      let p = place hgets j m h in
+      let outcome : IsOutcome e (get_target s c 1 0) t =
+      subst (λ (k : ℕ). IsOutcome e (get_target s k 1 0) t) is step in
+      on_handle_cases (λ w. IsOutcome e w t → Does s t c p (cmd.HGet 1 0) e.reply) s c 0 _
+      (λ empty. carry s t e c p (cmd.HGet 1 0) _ (stays refusal.EmptyRegister))
+      (λ slot has gone. carry s t e c p (cmd.HGet 1 0) _ (stays refusal.NotLive))
+      (λ slot handle has live. carry s t e c p (cmd.HGet 1 0) _ (gets handle.target))
+      outcome
+    where
+      stays : (why : Refusal) → Does s s c (place hgets j m h) (cmd.HGet 1 0) (reply.Refused why)
+      stays why = record {
+        next = place reads j m h;
+        rest = refl;
+        frame = frame_same s c;
+        stands = record { owns = stands.owns; held = stands.held; empty = tt; live = stands.live };
+        room = omega arith;
+        fresh = λ y l. inl l;
+        told = refl;
+        made = refl;
+        handles = omega arith;
+      }
+
+      untold : (v : Option Id) → value_told (loaded v) ≡ 0
+      untold None = refl
+      untold (Some id) = refl
+
+      gets : (v : Option Id) → Does s (with_register s c 1 v) c (place hgets j m h) (cmd.HGet 1 0) (loaded v)
+      gets v = record {
+        next = place reads j m h;
+        rest = refl;
+        frame = frame_register s c 1 v;
+        stands = record {
+          owns = owns_kept s c small well v (λ w. w ≡ j) stands.owns;
+          held = stands.held;
+          empty = tt;
+          live = stands.live;
+        };
+        room = omega arith;
+        fresh = λ y l. inl l;
+        told = omega (arith, untold v);
+        made = refl;
+        handles = omega arith;
+      }
+
+  -- `read`: the number of the round is told
+  pub does_read : (t : State) (e : Entry) (h : Option Slot) → e.caller ≡ c → Stands s c (place reads j m h) →
+      StepOf load_numbers s e t (cmd.Read 0) → Does s t c (place reads j m h) (cmd.Read 0) e.reply
+  does_read t e h is stands step =
+      let p = place reads j m h in
+      let outcome : IsOutcome e (read_value s c 0) t =
+      subst (λ (k : ℕ). IsOutcome e (read_value s k 0) t) is step in
+      let o = stands.owns in
+      on_object_cases (λ w. IsOutcome e w t → Does s t c p (cmd.Read 0) e.reply) s c 0 _
+      (λ none. absurd (none-some o.id (sym none ∙ o.names)))
+      (λ id names. carry s t e c p (cmd.Read 0) _
+      (tells id (subst (λ (i : Id). (object_at s i).value ≡ j) (same_Some o.id id (sym o.names ∙ names))
+      o.value)))
+      outcome
+    where
+      tells : (id : Id) → (object_at s id).value ≡ j
+          → Does s s c (place reads j m h) (cmd.Read 0) (reply.Value (object_at s id).value)
+      tells id value = record {
+        next = place drops j m h;
+        rest = refl;
+        frame = frame_same s c;
+        stands = record { owns = tt; held = stands.held; empty = tt; live = stands.live };
+        room = omega arith;
+        fresh = λ y l. inl l;
+        told = omega (arith, value);
+        made = refl;
+        handles = omega arith;
+      }
+
+  -- `drop r0` and `drop r1`
+  pub does_drop : (t : State) (e : Entry) (h : Option Slot) → e.caller ≡ c → Stands s c (place drops j m h) →
+      StepOf load_numbers s e t (cmd.Clear 0) → Does s t c (place drops j m h) (cmd.Clear 0) e.reply
+  does_drop t e h is stands step =
+      carry s t e c (place drops j m h) (cmd.Clear 0) (clear_register s c 0)
+      (record {
+        next = place others j m h;
+        rest = refl;
+        frame = frame_register s c 0 None;
+        stands = record { owns = tt; held = stands.held; empty = tt; live = stands.live };
+        room = omega arith;
+        fresh = λ y l. inl l;
+        told = refl;
+        made = refl;
+        handles = omega arith;
+      })
+      (subst (λ (k : ℕ). IsOutcome e (clear_register s k 0) t) is step)
+
+  pub does_other : (t : State) (e : Entry) (h : Option Slot) → e.caller ≡ c → Stands s c (place others j m h)
+      →
+      StepOf load_numbers s e t (cmd.Clear 1) → Does s t c (place others j m h) (cmd.Clear 1) e.reply
+  does_other t e h is stands step =
+      carry s t e c (place others j m h) (cmd.Clear 1) (clear_register s c 1)
+      (record {
+        next = place frees j m h;
+        rest = refl;
+        frame = frame_register s c 1 None;
+        stands = record { owns = tt; held = stands.held; empty = tt; live = stands.live };
+        room = omega arith;
+        fresh = λ y l. inl l;
+        told = refl;
+        made = refl;
+        handles = omega arith;
+      })
+      (subst (λ (k : ℕ). IsOutcome e (clear_register s k 1) t) is step)
+
+  -- `hfree`: h0 is empty, whether it had a slot or not
+  after_left : (b : Bool) → (after_round b j m).left ≡ m
+  after_left true = refl
+  after_left false = refl
+
+  after_held : (b : Bool) → (after_round b j m).held ≡ None
+  after_held true = refl
+  after_held false = refl
+
+  after_pending : (b : Bool) → pending (after_round b j m) ≡ 0
+  after_pending true = refl
+  after_pending false = refl
+
+  stands_after : (u : State) (b : Bool) → handle_register_of u c 0 ≡ None → Stands u c (after_round b j m)
+  stands_after u true none = record {
+    owns = tt;
+    held = none;
+    empty = refl;
+    live =
+        λ x h. absurd (none-some x h);
+  }
+  stands_after u false none = record {
+    owns = tt;
+    held = none;
+    empty = refl;
+    live =
+        λ x h. absurd (none-some x h);
+  }
+
+  goes_on : (t : State) (h : Option Slot) (r : Reply) (b : Bool) → eqb (j % 16) 0 ≡ b → Frame s t c
+      → handle_register_of t c 0 ≡ None → used_of t ≤ used_of s
+      → value_told r ≡ 0 → bit (makes_handle (cmd.HFree 0) r) + one_if_some h
+      ≡ bit (frees_handle (cmd.HFree 0) r)
+      → Does s t c (place frees j m h) (cmd.HFree 0) r
+  goes_on t h r b is frame none room told handles = record {
+    next = after_round b j m;
+    rest = ap (λ (rest : List Cmd). cmd.HFree 0 ∷ rest)
+        (ap (λ (q : Bool). cond q (cmd.Collect (j % 3) ∷ []) [] ++ rounds_from c (j + 1) m) is
+        ∙ left_after_round c j m b);
+    frame = frame;
+    stands = stands_after t b none;
+    room = omega (arith, after_left b, room);
+    fresh = λ y l. absurd (none-some y (sym (after_held b) ∙ l));
+    told = omega (arith, told, after_pending b);
+    made = refl;
+    handles = omega (arith, handles, ap one_if_some (after_held b));
+  }
+
+  pub does_free : (t : State) (e : Entry) (h : Option Slot) → e.caller ≡ c → Stands s c (place frees j m h) →
+      StepOf load_numbers s e t (cmd.HFree 0) → Does s t c (place frees j m h) (cmd.HFree 0) e.reply
+  does_free t e h is stands step =
+      let p = place frees j m h in
+      let outcome : IsOutcome e (free_handle s c 0) t =
+      subst (λ (k : ℕ). IsOutcome e (free_handle s k 0) t) is step in
+      on_handle_cases (λ w. IsOutcome e w t → Does s t c p (cmd.HFree 0) e.reply) s c 0 _
+      (λ empty. carry s t e c p (cmd.HFree 0) _
+      (goes_on s h _ (eqb (j % 16) 0) refl (frame_same s c) empty (omega arith) refl
+      (omega (arith, ap one_if_some (sym stands.held ∙ empty)))))
+      (λ slot has gone. absurd (false≢true
+      (sym (ap is_some gone) ∙ stands.live slot (sym stands.held ∙ has))))
+      (λ slot handle has live. carry s t e c p (cmd.HFree 0) _ (freed slot has))
+      outcome
+    where
+      freed : (slot : Slot) → handle_register_of s c 0 ≡ Some slot
+          → Does s (with_handle_register (without_handle s slot) c 0 None) c (place frees j m h)
+          (cmd.HFree 0) reply.Done
+      freed slot has =
+          goes_on _ h reply.Done (eqb (j % 16) 0) refl
+          (record {
+            registers = λ d apart. refl;
+            handle_registers = handle_register_beside s c 0 None;
+            values = λ d id apart names own. refl;
+            live = λ x mine l. subst IsSome
+                (sym (get_left s.handles slot.0 x.0
+                (λ (same : x.0 ≡ slot.0). mine
+                (has ∙ ap (λ (k : ℕ). Some (record { 0 = k })) (sym same))))) l;
+          })
+          (handle_register_here s c small well None) (omega arith) refl
+          (omega (arith, ap one_if_some (sym stands.held ∙ has)))
+
+  -- `collect`: what registers name is kept with its value, no live slot ends, and no object grows
+  pub does_collect : (t : State) (e : Entry) → e.caller ≡ c → Stands s c (place collects j m None) →
+      StepOf load_numbers s e t (cmd.Collect (j % 3))
+      → Does s t c (place collects j m None) (cmd.Collect (j % 3)) e.reply
+  does_collect t e is stands did =
+      let scene = did.collects.scene in
+      let same_rows : (d : ℕ) → handle_register_of t d 0 ≡ handle_register_of s d 0 =
+      λ d. ap (λ (rows : List (List (Option Slot))). get_or (get_or rows d []) 0 None)
+      did.collects.handle_registers in
+      let live : (x : Slot) → IsSome (handle_at s x) → IsSome (handle_at t x) =
+      λ x l. subst IsSome (sym (scene.handles x.0))
+      (mapped_some (cleared scene.reach scene.kept) (get s.handles x.0) l) in
+      subst (λ (r : Reply). Does s t c (place collects j m None) (cmd.Collect (j % 3)) r) (sym did.reply)
+      (record {
+        next = place news (j + 1) m None;
+        rest = refl;
+        frame = record {
+          registers = λ d apart. ap (λ (rows : List (List (Option Id))). get_or (get_or rows d []) 0 None)
+              did.collects.registers;
+          handle_registers = λ d apart. same_rows d;
+          values = λ d id apart names own.
+              kept_value did id (has load_numbers s d 0 id well names) (register_named s d 0 id names);
+          live = λ x mine l. live x l;
+        };
+        stands = record {
+          owns = tt;
+          held = same_rows c ∙ stands.held;
+          empty = refl;
+          live =
+              λ x h. absurd (none-some x h);
+        };
+        room = omega (arith, no_more did);
+        fresh = λ y h. absurd (none-some y h);
+        told = refl;
+        made = refl;
+        handles = refl;
+      })
+    where
+      mapped_some : {A B : Type 0} (f : A → B) (o : Option A) → IsSome o → IsSome (option_map f o)
+      mapped_some f None h = h
+      mapped_some f (Some x) h = refl
+
+      kept_value : (does : DoesCollect s e t (j % 3)) (id : Id) → IsSome (get s.objects id.0)
+          → Contains (scene_of s).named (Some id)
+          → (object_at t id).value ≡ (object_at s id).value
+      kept_value does id there is_named =
+          let scene = does.collects.scene in
+          let whole = whole_scene load_numbers s well in
+          let kept = keeps_root (λ (x : Id). x.0) (j % 3) (scene_of s) (scene_of t) does.report whole scene
+          id (named is_named) in
+          let after = object_after (λ (x : Id). x.0) (j % 3) (scene_of s) (scene_of t) does.report whole
+          scene id (object_at s id) kept (some_object s id there) in
+          ap (λ (o : Option (Object Id)).
+          (unwrap_or {T = Object Id} o (record
+          { fields = []; value = 0; generation = 0; registered = false })).value) after
+
+      smaller : (k : ℕ) (b r : Bool) (o : Option (Object Id))
+          → share size_of (cond b (option_map (survivor k r) o) None) ≤ share size_of o
+      smaller k true r None = omega arith
+      smaller k true r (Some object) = omega arith
+      smaller k false r o = omega arith
+
+      no_more : DoesCollect s e t (j % 3) → used_of t ≤ used_of s
+      no_more does =
+          let scene = does.collects.scene in
+          sum-le size_of t.objects s.objects (λ q.
+          let x : Id = record { 0 = q } in
+          subst (λ o. share size_of o ≤ share size_of (get s.objects q)) (sym (scene.objects x))
+          (smaller (j % 3) (scene.kept x) (scene.revived x) (get s.objects q)))

@@ -1,0 +1,19 @@
+use Rattle.std.proofs.Common.{◌≡◌, ℕ, map, ap, ◌∙◌, arith}
+use Rattle.std.specs.List.{range_with_len}
+use Rattle.hd_model.specs.Generated.{generated_list}
+use Rattle.hd_script.specs.Lists.{contents}
+use Rattle.hd_script.proofs.Rounds.{caller_more, all_callers}
+use Rattle.hd_script.proofs.generated.all_lists.Goals as goal
+
+pub loop-caller-preserved : goal.loop-caller-preserved
+loop-caller-preserved c =
+    ap contents c.in_ok-push.ensures.items
+    ∙ caller_more c.loop-caller.lists.items c.in_ok-list_of.field-0 c.args.rounds c.loop-caller.caller
+    c.loop-caller.invariant c.in_ok-list_of.ensures
+
+pub returns : goal.returns
+returns c =
+    let rounds = c.args.rounds in
+    let four : c.loop-caller.caller ≡ 4 = omega arith in
+    all_callers (contents c.loop-caller.lists.items) rounds
+    (c.loop-caller.invariant ∙ ap (λ (n : ℕ). map (generated_list rounds) (range_with_len 0 n)) four)
