@@ -1,5 +1,22 @@
-pub mod Places
-pub mod Tables
-pub mod Identities
-pub mod Sums
-pub mod Rows
+mod Maps
+mod Readings
+mod Agreeing
+mod Adding
+mod Roots
+mod Sums
+mod Standing
+mod Inside
+mod Writes
+mod Barrier
+mod Naming
+mod Totals
+mod Counted
+mod Rowing
+mod Aging
+mod Living
+mod Newborn
+mod Finding
+mod Placing
+mod Lowering
+mod Applying
+mod Opened

@@ -9,7 +9,7 @@ use Rattle.std.specs.declared.cmp.Ordering.TheVariants.{Less, Equal, Greater}
 use Rattle.std.specs.Cmp.{nat_cmp_total}
 use Rattle.std.proofs.lemmas.Bool.{lt-ltb, le-ltb, eq-eqb, ne_eqb, cases_order}
 use Rattle.std.proofs.lemmas.List.Sums.{sum_by-cons}
-use Rattle.hd_world.proofs.Places.{found_first, found_later}
+use Rattle.hd_world.proofs.Maps.{found_first, found_later}
 
 -- what a value that may be there adds
 abbrev pub share : {A : Type 0} → (A → ℕ) → Option A → ℕ

@@ -1,5 +1,11 @@
-pub mod Numbered
-pub mod Inside
-pub mod World
+pub mod Rows
+pub mod Reading
+pub mod Stored
 pub mod Store
-pub mod Answer
+pub mod Objects
+pub mod Handles
+pub mod Growth
+pub mod Commands
+pub mod Counts
+pub mod Making
+pub mod World

@@ -1,16 +1,15 @@
-//! The world of objects and handles: the state of the machine under the journal that led to it.
+//! The world of objects and handles: what the commands of a script do to the heap, the table and the
+//! registers, with the journal of all that was done.
 #![tactic(auto)]
 
-mod answer;
 mod commands;
-mod filled;
-mod object;
+mod handles;
+mod making;
 mod objects;
+mod on_handles;
+mod on_objects;
+mod order;
 mod store;
-mod table;
 mod world;
 
 pub use world::World;
-
-#[cfg(test)]
-mod tests;

@@ -1,144 +1,131 @@
-ghost use Rattle.std.specs.Prelude.{◌≡◌, ℕ, ◌+◌, ◌<◌, ◌≤◌, ◌/◌, ◌%◌, ◌^◌, length, replicate};
-ghost use Rattle.std.specs.Prelude.{slice_index, slice_set, Some, None, IsSome, IfOk, OnOk, OnErr};
-ghost use Rattle.std.specs.FinMap.{get, insert, empty, len};
-ghost use Rattle.hd_model.specs.State.{field_of, identity_of};
-ghost use Rattle.hd_world.specs.Store.{Made, object_in, cells_in, fresh_object};
+// What a store does with objects.
+ghost use Rattle.std.specs.Prelude.{◌≡◌, ◌≢◌, ℕ, ◌+◌, ◌<◌, ◌≤◌, ◌^◌, length, slice_set};
+ghost use Rattle.std.specs.Prelude.{Some, None, IsSome, IfOk, IfErr, OnOk};
+ghost use Rattle.std.specs.FinMap.{get, insert};
+ghost use Rattle.hd_model.specs.State.{object_at, field_of, last_serial, identity_of, used_of};
+ghost use Rattle.hd_model.specs.State.{with_object, with_serial};
+ghost use Rattle.hd_world.specs.Reading.{name_in, named_in, IsNamed};
+ghost use Rattle.hd_world.specs.Objects.{object_named, fresh_object, IsRefused};
 
-use crate::object::{Object, Row};
-use hd_model::{Id, Memory};
-use std::alloc::Global;
-use std::marker::Model;
+use crate::store::Store;
+use hd_heap::NewFault;
+use hd_model::{Addr, Id};
 
-/// The serials of a caller, as a part of an identity.
-const SERIALS: u64 = 1 << 32;
-
-/// The objects that were made, by caller and serial, seen as the map from identities and each
-/// caller's last serial. No object goes yet.
-#[derive(Drop)]
-pub struct Objects {
-    alloc: Global,
-    rows: Vec<Row>,
-    used: u32,
-    count: u32,
-}
-
-impl Model for Objects {
-    ghost use Rattle.std.specs.Prelude.{map, length};
-    ghost use Rattle.hd_world.specs.Store.{Made, made_code};
-
-    ghost Value = { Made };
-
-    ghost coded = { made_code };
-
-    ghost use Rattle.hd_world.specs.Numbered.{by_identity};
-    ghost use Rattle.hd_world.specs.Inside.{IsCounted};
-
-    ghost view = { λ a. record {
-      objects = by_identity a.rows.items;
-      serials = map length a.rows.items;
-    } };
-
-    ghost invariant = { λ a. IsCounted a.rows.items a.used a.count };
-}
-
-/// The caller that made an object, and the object's serial.
-fn parts_of(id: Id) -> (usize, usize)
-    ensures caller { result.0 ≡ id.0 / 2 ^ 32 }
-    ensures serial { result.1 ≡ id.0 % 2 ^ 32 }
+/// The identity of a caller's object with a serial.
+fn identity(caller: u32, serial: u32) -> Id
+    requires { 1 ≤ serial }
+    ensures value { result ≡ identity_of caller serial }
+    ensures not_zero { result.0 ≢ 0 }
 {
-    ((id.0 / SERIALS) as usize, (id.0 % SERIALS) as usize)
+    Id(u64::from(caller) * (1 << 32) + u64::from(serial))
 }
 
-impl Objects {
-    /// No object of any caller.
-    pub fn open(alloc: Global, callers: u32) -> Result<Objects, Memory>
-        ensures made { let none : Made = record { objects = empty; serials = replicate callers 0 } in
-            IfOk result (λ o. o ≡ none) }
-        ensures cells { IfOk result (λ o. cells_in o.objects ≡ 0) }
+impl Store {
+    /// The identity of the object at an address.
+    pub(crate) fn id(&self, at: Addr) -> Id
+        requires { IsSome (get self.now.names at.0) }
+        ensures { result ≡ name_in self.now.names at }
     {
-        let Ok(mut rows) = Vec::with_capacity(alloc, callers as usize) else {
-            return Err(Memory);
-        };
-        for _ in 0..callers {
-            rows.push_reserved(Row::empty(alloc));
-        }
-        Ok(Objects {
-            alloc,
-            rows,
-            used: 0,
-            count: 0,
-        })
+        self.heap.id(at)
     }
 
-    /// The cells that all objects take.
-    pub fn used(&self) -> u32
-        ensures { result ≡ cells_in self.now.objects }
+    /// The number of its fields.
+    pub(crate) fn fields(&self, at: Addr) -> u32
+        requires { IsSome (get self.now.names at.0) }
+        ensures { result ≡ length (object_named self.now at).fields }
     {
-        self.used
+        self.heap.fields(at)
     }
 
-    /// The number of objects.
-    pub fn len(&self) -> u32
-        ensures { result ≡ len self.now.objects }
+    /// Field `i` of it.
+    pub(crate) fn field(&self, at: Addr, i: u8) -> Option<Addr>
+        requires known { IsSome (get self.now.names at.0) }
+        requires field { i < length (object_named self.now at).fields }
+        ensures value { named_in self.now.names result ≡ field_of (object_named self.now at) i }
+        ensures named { IsNamed self.now.names result }
     {
-        self.count
+        self.heap.load(at, u32::from(i))
     }
 
-    /// An object.
-    pub fn object(&self, id: Id) -> &Object
-        requires { IsSome (get self.now.objects id.0) }
-        ensures { result.now ≡ object_in self.now.objects id }
+    /// Field `i` of it names `v`.
+    pub(crate) fn set_field(&mut self, at: Addr, i: u8, v: Option<Addr>)
+        requires known { IsSome (get self.old.names at.0) }
+        requires field { i < length (object_named self.old at).fields }
+        requires named { IsNamed self.old.names v }
+        ensures { let object = object_named self.old at in
+            let fields = slice_set object.fields i (named_in self.old.names v) in
+            let after = record object { fields = fields } in
+            self.new ≡ record self.old { state = with_object self.old.state (name_in self.old.names at) after } }
     {
-        let (caller, serial) = parts_of(id);
-        self.rows[caller].object(serial - 1)
+        self.heap.store(at, u32::from(i), v);
     }
 
-    /// Field `i` of an object names `target`.
-    pub fn set_field(&mut self, id: Id, i: u8, target: Option<Id>)
-        requires known { IsSome (get self.old.objects id.0) }
-        requires field { i < length (object_in self.old.objects id).fields }
-        ensures changed { let object = object_in self.old.objects id in
-            let after = record object { fields = slice_set object.fields i target } in
-            self.new ≡ record self.old { objects = insert self.old.objects id.0 after } }
-        ensures cells { cells_in self.new.objects ≡ cells_in self.old.objects }
+    /// The value of it.
+    pub(crate) fn value(&self, at: Addr) -> u64
+        requires { IsSome (get self.now.names at.0) }
+        ensures { result ≡ (object_named self.now at).value }
     {
-        let (caller, serial) = parts_of(id);
-        self.rows[caller].set_field(serial - 1, i, target);
+        self.heap.value(at)
     }
 
-    /// The value of an object becomes `value`.
-    pub fn set_value(&mut self, id: Id, value: u64)
-        requires { IsSome (get self.old.objects id.0) }
-        ensures changed { let after = record (object_in self.old.objects id) { value = value } in
-            self.new ≡ record self.old { objects = insert self.old.objects id.0 after } }
-        ensures cells { cells_in self.new.objects ≡ cells_in self.old.objects }
+    /// Its value becomes `v`.
+    pub(crate) fn set_value(&mut self, at: Addr, v: u64)
+        requires { IsSome (get self.old.names at.0) }
+        ensures { let after = record (object_named self.old at) { value = v } in
+            self.new ≡ record self.old { state = with_object self.old.state (name_in self.old.names at) after } }
     {
-        let (caller, serial) = parts_of(id);
-        self.rows[caller].set_value(serial - 1, value);
+        self.heap.set_value(at, v);
     }
 
-    /// Makes an object of `caller` with its next serial.
-    pub fn add(&mut self, caller: u32, fields: u8) -> Result<Id, Memory>
-        requires caller { caller < length self.old.serials }
-        requires serial { slice_index self.old.serials caller + 1 < 2 ^ 32 }
+    /// Its generation.
+    pub(crate) fn generation(&self, at: Addr) -> u8
+        requires { IsSome (get self.now.names at.0) }
+        ensures { result ≡ (object_named self.now at).generation }
+    {
+        self.heap.generation(at)
+    }
+
+    /// It is registered for finalisation, or no more.
+    pub(crate) fn set_registered(&mut self, at: Addr, on: bool)
+        requires { IsSome (get self.old.names at.0) }
+        ensures { let after = record (object_named self.old at) { registered = on } in
+            self.new ≡ record self.old { state = with_object self.old.state (name_in self.old.names at) after } }
+    {
+        self.heap.set_registered(at, on);
+    }
+
+    /// Makes an object with the next serial of a caller. A full heap is answered before memory is
+    /// asked for, and after a refusal nothing is changed.
+    pub(crate) fn add_object(
+        &mut self,
+        caller: u32,
+        fields: u8,
+        fin: bool,
+    ) -> Result<Addr, NewFault>
+        requires caller { caller < self.old.numbers.callers }
+        requires serial { last_serial self.old.state caller + 1 < 2 ^ 32 }
         requires fields { fields ≤ 61 }
-        requires cells { cells_in self.old.objects + (fields + 3) < 2 ^ 32 }
-        ensures id { let serial = slice_index self.old.serials caller + 1 in
-            IfOk result (λ id. id ≡ identity_of caller serial) }
-        ensures after { IfOk result (λ id. self.new ≡ record {
-          objects = insert self.old.objects id.0 (fresh_object fields);
-          serials = slice_set self.old.serials caller (slice_index self.old.serials caller + 1);
-        }) }
-        ensures cells { let size = fields + 3 in
-            OnOk result (cells_in self.new.objects ≡ cells_in self.old.objects + size) }
-        ensures unchanged { OnErr result (self.new ≡ self.old) }
+        requires fresh { let serial = last_serial self.old.state caller + 1 in
+            get self.old.state.objects (identity_of caller serial).0 ≡ None }
+        ensures made { let serial = last_serial self.old.state caller + 1 in
+            let id = identity_of caller serial in
+            let made = with_object self.old.state id (fresh_object fields fin) in
+            IfOk result (λ at. self.new ≡ record self.old {
+              state = with_serial made caller serial;
+              names = insert self.old.names at.0 id;
+            }) }
+        ensures fits { OnOk result (used_of self.old.state + (fields + 3) ≤ self.old.numbers.heap) }
+        ensures known { IfOk result (λ at. IsSome (get self.new.names at.0)) }
+        ensures refused { IfErr result (IsRefused self.old self.new (fields + 3)) }
     {
-        let object = Object::make(self.alloc, fields)?;
-        let row = &mut self.rows[caller as usize];
-        row.push(object)?;
-        let serial = row.len() as u64;
-        self.used += u32::from(fields) + 3;
-        self.count += 1;
-        Ok(Id(u64::from(caller) * SERIALS + serial))
+        let serial = self.serials[caller as usize] + 1;
+        let id = identity(caller, serial);
+        match self.heap.new_object(id, u32::from(fields), fin) {
+            Ok(at) => {
+                self.serials[caller as usize] = serial;
+                Ok(at)
+            }
+            Err(fault) => Err(fault),
+        }
     }
 }

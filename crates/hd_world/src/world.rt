@@ -1,26 +1,27 @@
 ghost use Rattle.std.specs.Prelude.{◌≡◌, ◌+◌, ◌<◌, ◌≤◌, ◌^◌, [], ◌∷◌, ◌++◌, length, IsTrue, IfOk};
 ghost use Rattle.std.specs.Prelude.{OnOk, OnErr};
 ghost use Rattle.std.specs.Option.{ForSome};
-ghost use Rattle.std.specs.Bool.{OnTrue};
 ghost use Rattle.std.specs.FinMap.{len};
-ghost use Rattle.hd_model.specs.State.{Numbers, start_of};
+ghost use Rattle.hd_model.specs.State.{Numbers, start_of, use_of, block_of};
 ghost use Rattle.hd_model.specs.Step.{Step};
-ghost use Rattle.hd_model.specs.Run.{Run, IsFree};
+ghost use Rattle.hd_model.specs.Run.{Run};
+ghost use Rattle.hd_model.specs.Aging.{AgedRun, aged_by};
 ghost use Rattle.hd_model.specs.Valid.{IsValid, is_built, takes_memory};
 ghost use Rattle.hd_model.specs.Text.{collections_of, is_collect};
+ghost use Rattle.hd_world.specs.Growth.{kind_in_use};
 ghost use Rattle.hd_world.specs.World.{IsOffer, GrowsWithout, Takes, FitsHeap};
 
 use crate::commands;
+use crate::order::Order;
 use crate::store::Store;
-#[cfg(test)]
-use hd_model::Kind;
-use hd_model::{Cmd, Entry, Journal, Memory, Slot};
+use hd_model::{Cmd, Entry, Journal, Kind, Memory, Slot};
 use std::alloc::Global;
 use std::marker::Model;
 
-/// A world of objects and handles, seen as its numbers, its state, its journal, and for how many
-/// more entries there is room. The journal is a run of the machine that leads to the state. A
-/// world is made by `open` alone, and its journal grows by `apply` alone.
+/// A world of objects and handles, seen as its numbers, its state, the ages of its clumps, its
+/// journal, and for how many more entries there is room. The journal is a run of the machine that
+/// leads to the state and leaves the ages. A world is made by `open` alone, and its journal grows by
+/// `apply` alone.
 #[derive(Drop)]
 pub struct World {
     store: Store,
@@ -28,7 +29,7 @@ pub struct World {
 }
 
 impl Model for World {
-    ghost use Rattle.hd_model.specs.Run.{Run};
+    ghost use Rattle.hd_model.specs.Aging.{AgedRun};
     ghost use Rattle.hd_world.specs.World.{Standing, standing_code};
 
     ghost Value = { Standing };
@@ -38,11 +39,12 @@ impl Model for World {
     ghost view = { λ w. record {
       numbers = w.store.numbers;
       state = w.store.state;
+      ages = w.store.ages;
       journal = w.journal.entries;
       spare = w.journal.spare;
     } };
 
-    ghost invariant = { λ w. Run w.store.numbers w.journal.entries w.store.state };
+    ghost invariant = { λ w. AgedRun w.store.numbers w.journal.entries w.store.state w.store.ages };
 }
 
 impl World {
@@ -70,8 +72,9 @@ impl World {
         Ok(World { store, journal })
     }
 
-    /// Does a command of a caller and appends its entry to the journal. A slot may be offered for
-    /// `hnew` alone: one that is not live, in a block of the kind. Want of memory changes nothing.
+    /// Does a command of a caller and appends its entry to the journal. To `hnew` a free slot of its
+    /// kind may be offered, to `trim` the first slot of a block of its kind whose slots are all free,
+    /// and to no other command anything. Want of memory changes nothing.
     pub fn apply(&mut self, caller: u32, cmd: Cmd, offer: Option<Slot>) -> Result<Entry, Memory>
         requires room { 1 ≤ self.old.spare }
         requires caller { caller < self.old.numbers.callers }
@@ -79,31 +82,25 @@ impl World {
         requires built { IsTrue (is_built cmd) }
         requires offer { IsOffer self.old.state cmd offer }
         // The answered entry is of this command and is appended. It is a step from the state
-        // before to the one after.
+        // before to the one after, and ages the clumps.
         ensures command { IfOk result (λ e. (e.caller ≡ caller) × (e.cmd ≡ cmd)) }
         ensures journal { IfOk result (λ e. self.new.journal ≡ self.old.journal ++ e ∷ []) }
         ensures spare { OnOk result (self.new.spare + 1 ≡ self.old.spare) }
         ensures step { IfOk result (λ e. Step self.old.numbers self.old.state e self.new.state) }
+        ensures ages { IfOk result (λ e. self.new.ages ≡ aged_by self.old.state e self.old.ages) }
         ensures numbers { self.new.numbers ≡ self.old.numbers }
         // An offer is taken. Without one `hnew` grows, or finds the table full exactly where too
-        // few blocks are without a use.
-        ensures offer { IfOk result (λ e. ForSome offer (Takes e)) }
+        // few blocks are without a use, and `trim` gives nothing back.
+        ensures offer { IfOk result (λ e. ForSome offer (Takes e cmd)) }
         ensures growth { IfOk result (λ e. GrowsWithout self.old cmd offer e) }
         // Want of memory comes for commands that may take it. A full heap is answered first.
         ensures memory { OnErr result (IsTrue (takes_memory cmd)) }
         ensures fits { OnErr result (FitsHeap self.old.numbers self.old.state cmd) }
         ensures unchanged { OnErr result (self.new ≡ self.old) }
     {
-        // The journal's length bounds the serials.
+        // The journal's length bounds the serials and the counts.
         let _room = self.journal.spare();
-        let answer = commands::run(&mut self.store, caller, cmd, offer)?;
-        let entry = Entry {
-            caller,
-            cmd,
-            slot: answer.slot,
-            grown: answer.grown,
-            reply: answer.reply,
-        };
+        let entry = commands::run(&mut self.store, Order { caller, cmd }, offer)?;
         self.journal.push(entry);
         Ok(entry)
     }
@@ -113,6 +110,7 @@ impl World {
         ensures entries { result.now.entries ≡ self.now.journal }
         ensures spare { result.now.spare ≡ self.now.spare }
         ensures run { Run self.now.numbers self.now.journal self.now.state }
+        ensures ages { AgedRun self.now.numbers self.now.journal self.now.state self.now.ages }
     {
         &self.journal
     }
@@ -123,6 +121,13 @@ impl World {
         ensures small { length self.now.journal + result < 2 ^ 32 }
     {
         self.journal.spare()
+    }
+
+    /// The kind of the block of a slot, if it has handles. The slot may be any number.
+    pub fn kind_of(&self, slot: Slot) -> Option<Kind>
+        ensures { result ≡ kind_in_use (use_of self.now.state (block_of slot)) }
+    {
+        self.store.kind_of(slot)
     }
 
     /// The number of live handles.
@@ -151,17 +156,6 @@ impl World {
             }
         }
         count
-    }
-}
-
-#[cfg(test)]
-impl World {
-    /// Whether a slot is free in a block of a kind, and so may be offered.
-    pub fn is_free(&self, kind: Kind, slot: Slot) -> bool
-        ensures { OnTrue result (IsFree self.now.state kind slot) }
-    {
-        let vacant = self.store.handle(slot).is_none();
-        vacant && self.store.kind_of(slot) == Some(kind)
     }
 }
 

@@ -1,0 +1,41 @@
+-- Objects, rows and cells are as many by identity as by address.
+use Rattle.std.proofs.Common.{◌≡◌, ℕ, ◌+◌, ◌*◌, List, [], ◌∷◌, map, length, Option, Some, None, refl, sym, ap, ◌∙◌, arith}
+use Rattle.std.specs.Prelude.{sum_by, option_map}
+use Rattle.std.specs.FinMap.{FinMap, get, len, entries, values, from_entries}
+use Rattle.std.specs.Ordering.{nat_cmp}
+use Rattle.std.proofs.lemmas.List.{length-map}
+use Rattle.std.proofs.lemmas.List.Sums.{sum_by-cons}
+use Rattle.hd_model.specs.declared.data.Id.{Id}
+use Rattle.hd_model.specs.declared.data.Addr.{Addr}
+use Rattle.hd_model.specs.State.{Object, Handle, State, size_of, used_of as machine_used, rename_handle}
+use Rattle.hd_model.specs.Heap.{Placed, Heap, id_at, cells_of, used_of, HasIdentities}
+use Rattle.hd_world.specs.Reading.{read_object, objects_by_id, rows_by_id}
+use Rattle.hd_world.proofs.Maps.{rekeyed}
+use Rattle.hd_world.proofs.Totals.{sum-fresh, fresh-rekeyed, len-rekeyed, len-mapped}
+use Rattle.hd_world.proofs.Readings.{apart_by_number}
+
+pub len-objects : (h : Heap) → HasIdentities h → len (objects_by_id h) ≡ len h.objects
+unfolding objects_by_id
+len-objects h identities = len-rekeyed (λ (p : Placed). p.id.0) (read_object h) h.objects (apart_by_number h identities)
+
+pub len-rows : (h : Heap) (rows : FinMap nat_cmp (Handle Addr)) → len (rows_by_id h rows) ≡ len rows
+unfolding rows_by_id
+len-rows h rows = len-mapped (λ slot row. rename_handle (id_at h) row) rows
+
+read_size : (h : Heap) (a : ℕ) (p : Placed) → size_of (read_object h a p) ≡ cells_of p
+read_size h a p = ap (λ n. n + 3) (length-map p.fields (option_map (id_at h)))
+
+sum_read : (h : Heap) (es : List (ℕ × Placed)) → sum_by size_of (map (λ e. e.1) (rekeyed (λ (p : Placed). p.id.0) (read_object h) es)) ≡ sum_by cells_of (map (λ e. e.1) es)
+sum_read h [] = refl
+sum_read h (e ∷ es) =
+    let rest = sum_read h es in
+    let same = read_size h e.0 e.1 in
+    let new = sum_by-cons size_of (read_object h e.0 e.1) (map (λ w. w.1) (rekeyed (λ (p : Placed). p.id.0) (read_object h) es)) in
+    let old = sum_by-cons cells_of e.1 (map (λ w. w.1) es) in
+    omega (arith, rest, same, new, old)
+
+pub used-is : (h : Heap) → HasIdentities h → sum_by size_of (values (objects_by_id h)) ≡ used_of h
+unfolding objects_by_id
+used-is h identities =
+    sum-fresh size_of (rekeyed (λ (p : Placed). p.id.0) (read_object h) (entries h.objects)) (fresh-rekeyed (λ (p : Placed). p.id.0) (read_object h) h.objects (apart_by_number h identities))
+    ∙ sum_read h (entries h.objects)

@@ -1,0 +1,38 @@
+-- What is known of the live handle that a command found.
+use Rattle.std.proofs.Common.{◌≡◌, ℕ, Option, Some, None, refl, sym, ap, ◌∙◌, T, subst, inl, inr}
+use Rattle.std.specs.Prelude.{Result, Ok, Err, is_ok}
+use Rattle.std.specs.Option.{option_map_or}
+use Rattle.hd_model.specs.declared.data.Id.{Id}
+use Rattle.hd_model.specs.declared.data.Slot.{Slot}
+use Rattle.hd_model.specs.declared.data.Refusal.{Refusal}
+use Rattle.hd_model.specs.declared.data.Refusal.TheVariants as refusal
+use Rattle.hd_model.specs.State.{State, Handle, handle_register_of, handle_at}
+use Rattle.hd_world.specs.Commands.{live_in}
+
+abbrev ok_or : {A : Type 0} → A → Result A Refusal → A
+ok_or d (Ok a) = a
+ok_or d (Err r) = d
+
+abbrev is_found : {A : Type 0} → Result A Refusal → Type 0
+is_found (Ok a) = Unit {0}
+is_found (Err r) = ⊥
+
+abbrev by_slot : State → Option Slot → Result (Slot × Handle Id) Refusal
+by_slot s o = option_map_or (λ slot. option_map_or (λ handle. Ok (slot, handle)) (handle_at s slot) (Err refusal.NotLive)) o (Err refusal.EmptyRegister)
+
+abbrev by_handle : Slot → Option (Handle Id) → Result (Slot × Handle Id) Refusal
+by_handle slot o = option_map_or (λ handle. Ok (slot, handle)) o (Err refusal.NotLive)
+
+-- the handle stands in the slot that was found
+pub stands_found : (s : State) (caller h : ℕ) (slot : Slot) (handle : Handle Id) → Ok (slot, handle) ≡ live_in s caller h → handle_at s slot ≡ Some handle
+stands_found s caller h slot handle is = first (handle_register_of s caller h) is
+  where
+    second : (at : Slot) (o : Option (Handle Id)) → handle_at s at ≡ o → Ok (slot, handle) ≡ by_handle at o → handle_at s slot ≡ Some handle
+    second at None stands is = absurd (subst is_found is tt)
+    second at (Some found) stands is =
+        let pair : (slot, handle) ≡ (at, found) = ap (ok_or (slot, handle)) is in
+        ap (handle_at s) (ap (λ p. p.0) pair) ∙ stands ∙ ap Some (sym (ap (λ p. p.1) pair))
+
+    first : (o : Option Slot) → Ok (slot, handle) ≡ by_slot s o → handle_at s slot ≡ Some handle
+    first None is = absurd (subst is_found is tt)
+    first (Some at) is = second at (handle_at s at) refl is

@@ -1,0 +1,14 @@
+-- The fields of a store as the parts of which its lemmas speak.
+use Rattle.hd_world.specs.declared.store.Store.TheInside.{Inside}
+use Rattle.hd_world.specs.Stored.{Parts}
+
+abbrev pub parts : Inside → Parts
+parts i = record {
+  heap = i.heap;
+  table = i.table;
+  ages = i.ages;
+  roots = i.roots.items;
+  handle_registers = i.handle_registers.items;
+  board = i.board;
+  serials = i.serials.items;
+}

@@ -1,0 +1,230 @@
+-- A new object of a store: what the machine sees, and that the store keeps what it keeps.
+use Rattle.std.proofs.Common.{◌≡◌, ℕ, zero, suc, ◌+◌, ◌*◌, ◌<◌, ◌≤◌, Bool, true, false, cond, List, [], ◌∷◌, map, length, get_or, replicate, set, Option, Some, None, refl, sym, ap, ◌∙◌, ◌⊎◌, subst, inl, inr, arith}
+use Rattle.std.specs.Prelude.{option_map, unwrap_or, is_some, IsSome, Contains, T, sum_by}
+use Rattle.std.specs.FinMap.{FinMap, get, insert, values}
+use Rattle.std.specs.Ordering.{nat_cmp}
+use Rattle.std.proofs.lemmas.Bool.{cases_eq}
+use Rattle.std.proofs.lemmas.List.{length-set, length-replicate}
+use Rattle.hd_model.specs.declared.data.Id.{Id}
+use Rattle.hd_model.specs.declared.data.Addr.{Addr}
+use Rattle.hd_model.specs.State.{Object, State, last_serial, identity_of, with_object, with_serial, secondary_of, used_of as machine_used}
+use Rattle.hd_model.specs.Scene.{is_object, fields_in, generation_in, fields_at, generation_at, IsField}
+use Rattle.hd_model.specs.Heap.{Placed, Region, Heap, region_of, region_at, region_generation, object_in, object_at, has_object, is_carded, cells_of, used_of, id_at}
+use Rattle.hd_model.specs.Ages.{age_of}
+use Rattle.hd_heap.specs.Calls.{new_object, with_put, IsMade, IsRefused as IsRefusedBy}
+use Rattle.hd_heap.specs.declared.fault.NewFault.{NewFault}
+use Rattle.hd_heap.specs.declared.fault.NewFault.TheVariants.{Full, Memory}
+use Rattle.hd_world.specs.Rows.{rows_of, rest_of}
+use Rattle.hd_world.specs.Reading.{names_of, read_object, objects_by_id}
+use Rattle.hd_world.specs.Stored.{Parts, callers_of, state_of, IsStored}
+use Rattle.hd_world.specs.Store.{Machine, machine_of}
+use Rattle.hd_world.specs.Objects.{fresh_object, IsRefused}
+use Rattle.hd_world.proofs.Counted.{used-is}
+use Rattle.hd_world.proofs.Maps.{get-put, get-put_other}
+use Rattle.hd_world.proofs.Sums.{share, sum-insert}
+use Rattle.hd_world.proofs.Readings.{no_some, objects-get}
+use Rattle.hd_world.proofs.Standing.{has-placed}
+use Rattle.hd_world.proofs.Adding.{Adds, placed, id-add, names-add, identities-add, roots-add, rows-add, objects-add}
+
+none_at : {A : Type 0} (n k : ℕ) (x : A) → k < n → get_or (replicate n None) k (Some x) ≡ Some x → ⊥
+none_at zero k x within is = absurd (omega arith)
+none_at (suc n) zero x within is = no_some x (sym is)
+none_at (suc n) (suc k) x within is = none_at n k x (omega arith) is
+
+pub no_names : {A : Type 0} (n : ℕ) (x : A) → Contains (replicate n None) (Some x) → ⊥
+no_names {A} n x c = none_at n c.0 x (subst (λ size. c.0 < size) (length-replicate n None) c.1) c.2
+
+abbrev region_of_option : Option Region → ℕ
+region_of_option o = (unwrap_or {T = Region} o (record { generation = 0; fill = 0 })).generation
+
+absent : (o : Option Placed) → is_some o ≡ false → o ≡ None
+absent None e = refl
+absent (Some p) e = absurd (subst T e tt)
+
+module _ (f : Parts) (k : Heap) (at : Addr) (id : Id) (count : ℕ) (fin : Bool) (stored : IsStored f) (made : IsMade f.heap k at (new_object id count fin)) (vacant : get (objects_by_id f.heap) id.0 ≡ None) where
+  h : Heap
+  h = f.heap
+
+  new : Placed
+  new = new_object id count fin
+
+  put_at : k.objects ≡ insert f.heap.objects at.0 (new_object id count fin)
+  put_at = ap (λ (g : Heap). g.objects) made.made ∙ ap (λ a. insert f.heap.objects a (new_object id count fin)) (sym made.place)
+
+  -- an object that was there keeps its generation
+  kept_generation : (b : Addr) → region_generation k (region_of b) ≡ region_generation f.heap (region_of b)
+  kept_generation b =
+      ap (λ (g : Heap). region_generation g (region_of b)) made.made
+      ∙ elim (cases_eq (region_of b) (region_of at)) [
+        | inl same ↦ ap (λ (o : Option Region). region_of_option o)
+            (ap (get (insert f.heap.regions (region_of at) put_region)) same ∙ get-put f.heap.regions (region_of at) put_region)
+            ∙ sym made.young ∙ ap (region_generation f.heap) (sym same)
+        | inr apart ↦ ap (λ (o : Option Region). region_of_option o) (get-put_other f.heap.regions (region_of at) put_region (region_of b) apart)
+      ]
+    where
+      put_region : Region
+      put_region = record { generation = 0; fill = (region_at f.heap (region_of at)).fill + cells_of (new_object id count fin) }
+
+  was_none : get f.heap.objects at.0 ≡ None
+  was_none = absent (get f.heap.objects at.0) (sym (has-placed f.heap at) ∙ made.was_free)
+
+  pub adds : Adds f.heap k at.0 (new_object id count fin)
+  adds = record {
+    vacant = was_none;
+    fresh = λ b p is same. no_some (read_object f.heap b p) (sym (objects-get f.heap stored.identities b p is) ∙ ap (get (objects_by_id f.heap)) same ∙ vacant);
+    objects = put_at;
+    generations = λ b there. kept_generation b;
+  }
+
+  there : get k.objects at.0 ≡ Some (new_object id count fin)
+  there = ap (λ m. get m at.0) put_at ∙ get-put f.heap.objects at.0 (new_object id count fin)
+
+  elsewhere : (x : Addr) → (x.0 ≡ at.0 → ⊥) → get k.objects x.0 ≡ get f.heap.objects x.0
+  elsewhere x apart = ap (λ m. get m x.0) put_at ∙ get-put_other f.heap.objects at.0 (new_object id count fin) x.0 apart
+
+  object_same : (x : Addr) → (x.0 ≡ at.0 → ⊥) → object_at k x ≡ object_at f.heap x
+  object_same x apart =
+      ap (option_map (object_in (region_generation k (region_of x)))) (elsewhere x apart)
+      ∙ ap (λ g. option_map (object_in g) (get f.heap.objects x.0)) (kept_generation x)
+
+  not_there : (x : Addr) → is_object (object_at f.heap) x ≡ true → x.0 ≡ at.0 → ⊥
+  not_there x is same =
+      subst T (sym (placed f.heap x is) ∙ ap (λ b. is_some (get f.heap.objects b)) same ∙ ap is_some was_none) tt
+
+  still : (x : Addr) → is_object (object_at f.heap) x ≡ true → is_object (object_at k) x ≡ true
+  still x is = ap is_some (object_same x (not_there x is)) ∙ is
+
+  generation_same : (x : Addr) → is_object (object_at f.heap) x ≡ true → generation_at (object_at k) x ≡ generation_at (object_at f.heap) x
+  generation_same x is = ap generation_in (object_same x (not_there x is))
+
+  same_address : (x y : Addr) → x.0 ≡ y.0 → x ≡ y
+  same_address x y e = λ i. record { 0 = e i }
+
+  -- a field of the heap after was one before
+  field_was : (x y : Addr) → IsField (object_at k) x y → (x.0 ≡ at.0 → ⊥) × IsField (object_at f.heap) x y
+  field_was x y field =
+      elim (cases_eq x.0 at.0) [
+        | inl same ↦ absurd (no_names count y (subst (λ o. Contains (fields_in o) (Some y))
+            (ap (object_at k) (same_address x at same) ∙ ap (option_map (object_in (region_generation k (region_of at)))) there) field))
+        | inr apart ↦ (apart, subst (λ o. Contains (fields_in o) (Some y)) (object_same x apart) field)
+      ]
+
+  is_there : (x y : Addr) → IsField (object_at f.heap) x y → is_object (object_at f.heap) x ≡ true
+  is_there x y field = by (object_at f.heap x) refl
+    where
+      by : (o : Option (Object Addr)) → object_at f.heap x ≡ o → is_object (object_at f.heap) x ≡ true
+      by None is = let none = subst (λ o. Contains (fields_in o) (Some y)) is field in let low = none.1 in absurd (omega arith)
+      by (Some o) is = ap is_some is
+
+  used_more : used_of k ≡ used_of f.heap + (count + 3)
+  used_more =
+      let sum = sum-insert cells_of f.heap.objects at.0 (new_object id count fin) in
+      let none : share cells_of (get f.heap.objects at.0) ≡ 0 = ap (share cells_of) was_none in
+      let is : used_of k ≡ sum_by cells_of (values (insert f.heap.objects at.0 (new_object id count fin))) = ap (λ m. sum_by cells_of (values m)) put_at in
+      let size : cells_of (new_object id count fin) ≡ count + 3 = ap (λ n. n + 3) (length-replicate count None) in
+      omega (arith, sum, none, is, size)
+
+  limit_same : k.limit ≡ f.heap.limit
+  limit_same = ap (λ (g : Heap). g.limit) made.made
+
+  cards_same : (x : Addr) → is_carded k x ≡ is_carded f.heap x
+  cards_same x = ap (λ (g : Heap). is_carded g x) made.made
+
+  -- the parts with the new object and another last serial
+  abbrev pub made_parts : List ℕ → Parts
+  made_parts serials = record f { heap = k; serials = serials }
+
+  pub stored-made : (serials : List ℕ) → length serials ≡ length f.serials → IsStored (made_parts serials)
+  stored-made serials size = record {
+    whole = record {
+      fields = λ x y field. still y (stored.whole.fields x y (field_was x y field).1);
+      named = λ x c. still x (stored.whole.named x c);
+      queue = λ x c. still x (stored.whole.queue x c);
+      targets = λ slot row x is e. still x (stored.whole.targets slot row x is e);
+      secondaries = λ slot row x is e. still x (stored.whole.secondaries slot row x is e);
+      paired = stored.whole.paired;
+      fits = stored.whole.fits;
+    };
+    identities = identities-add f.heap k at.0 (new_object id count fin) adds stored.identities;
+    ages = record {
+      targets = λ slot row x is e. subst (λ g. age_of f.ages slot ≤ g) (sym (generation_same x (stored.whole.targets slot row x is e))) (stored.ages.targets slot row x is e);
+      secondaries = λ slot row x is e. subst (λ g. age_of f.ages slot ≤ g) (sym (generation_same x (stored.whole.secondaries slot row x is e))) (stored.ages.secondaries slot row x is e);
+    };
+    cards = λ x y field younger.
+        let was = field_was x y field in
+        let before = generation_same y (stored.whole.fields x y was.1) in
+        let here = generation_same x (is_there x y was.1) in
+        cards_same x ∙ stored.cards x y was.1 (omega arith);
+    within = let size : cells_of (new_object id count fin) ≡ count + 3 = ap (λ n. n + 3) (length-replicate count None) in omega (arith, used_more, limit_same, made.fits, size);
+    limit = omega (arith, limit_same, stored.limit);
+    roots = stored.roots;
+    serials = size ∙ stored.serials;
+    clumps = stored.clumps;
+    blocks = stored.blocks;
+    uses = stored.uses;
+  }
+
+  map_none : (g : Addr → Id) (n : ℕ) → map (option_map g) (replicate n None) ≡ replicate n None
+  map_none g zero = refl
+  map_none g (suc n) = ap (λ xs. None ∷ xs) (map_none g n)
+
+  read_new : read_object k at.0 (new_object id count fin) ≡ fresh_object count fin
+  read_new = λ i. record {
+    fields = map_none (id_at k) count i;
+    value = 0;
+    generation = (kept_generation at ∙ made.young) i;
+    registered = fin;
+  }
+
+  pub machine-made : (serials : List ℕ) → machine_of (made_parts serials) ≡ record (machine_of f) { state = record (with_object (state_of f) id (fresh_object count fin)) { serials = serials }; names = insert (names_of f.heap) at.0 id }
+  machine-made serials = λ i. record {
+    numbers = record { heap = limit_same i; blocks = f.table.blocks; callers = callers_of f };
+    state = record {
+      objects = (objects-add f.heap k at.0 (new_object id count fin) adds stored.identities stored.whole.fields ∙ ap (insert (objects_by_id f.heap) id.0) read_new) i;
+      handles = rows-add f.heap k at.0 (new_object id count fin) adds f.table.rows stored.whole.targets stored.whole.secondaries i;
+      registers = rows_of (callers_of f) (roots-add f.heap k at.0 (new_object id count fin) adds f.roots stored.whole.named i);
+      handle_registers = f.handle_registers;
+      statics = rest_of (callers_of f) (roots-add f.heap k at.0 (new_object id count fin) adds f.roots stored.whole.named i);
+      board = f.board;
+      queue = (state_of f).queue;
+      places = (state_of f).places;
+      blocks = f.table.uses;
+      serials = serials;
+    };
+    names = names-add f.heap k at.0 (new_object id count fin) adds i;
+    ages = f.ages;
+  }
+
+-- an object with a caller's next serial
+module _ (f : Parts) (m : Machine) (view : machine_of f ≡ m) (stored : IsStored f) (k : Heap) (at : Addr) (id : Id) (count : ℕ) (fin : Bool) (made : IsMade f.heap k at (new_object id count fin)) (caller serial : ℕ) (last : serial ≡ last_serial m.state caller + 1) (id_is : id ≡ identity_of caller serial) (vacant : get m.state.objects (identity_of caller (last_serial m.state caller + 1)).0 ≡ None) where
+  free : get (objects_by_id f.heap) id.0 ≡ None
+  free =
+      ap (λ (i : Id). get (objects_by_id f.heap) i.0) (id_is ∙ ap (identity_of caller) last)
+      ∙ ap (λ (n : Machine). get n.state.objects (identity_of caller (last_serial m.state caller + 1)).0) view ∙ vacant
+
+  pub stored-next : IsStored (record f { heap = k; serials = set f.serials caller serial })
+  stored-next = stored-made f k at id count fin stored made free (set f.serials caller serial) (length-set f.serials caller serial)
+
+  pub machine-next : machine_of (record f { heap = k; serials = set f.serials caller serial }) ≡ record m {
+    state = with_serial (with_object m.state (identity_of caller (last_serial m.state caller + 1)) (fresh_object count fin)) caller (last_serial m.state caller + 1);
+    names = insert m.names at.0 (identity_of caller (last_serial m.state caller + 1));
+  }
+  machine-next =
+      machine-made f k at id count fin stored made free (set f.serials caller serial)
+      ∙ (λ i. record (view i) {
+        state = with_serial (with_object (view i).state ((id_is ∙ ap (identity_of caller) last) i) (fresh_object count fin)) caller (last i);
+        names = insert (view i).names at.0 ((id_is ∙ ap (identity_of caller) last) i);
+      })
+
+-- a refused object, in the words of the machine
+pub refused-next : (f : Parts) (m : Machine) → machine_of f ≡ m → IsStored f → (k : Heap) (cells : ℕ) (fault : NewFault) → IsRefusedBy f.heap k cells fault → IsRefused m (machine_of (record f { heap = k })) cells fault
+refused-next f m view stored k cells (Full used size) refused =
+    let same : machine_of (record f { heap = k }) ≡ m = ap (λ h. machine_of (record f { heap = h })) refused.0 ∙ view in
+    let cells_are : used_of f.heap ≡ machine_used m.state = sym (used-is f.heap stored.identities) ∙ ap (λ (n : Machine). machine_used n.state) view in
+    let limit_is : f.heap.limit ≡ m.numbers.heap = ap (λ (n : Machine). n.numbers.heap) view in
+    (same, refused.1 ∙ cells_are, refused.2, omega (arith, refused.3, cells_are, limit_is))
+refused-next f m view stored k cells Memory refused =
+    let same : machine_of (record f { heap = k }) ≡ m = ap (λ h. machine_of (record f { heap = h })) refused.0 ∙ view in
+    let cells_are : used_of f.heap ≡ machine_used m.state = sym (used-is f.heap stored.identities) ∙ ap (λ (n : Machine). machine_used n.state) view in
+    let limit_is : f.heap.limit ≡ m.numbers.heap = ap (λ (n : Machine). n.numbers.heap) view in
+    (same, omega (arith, refused.1, cells_are, limit_is))

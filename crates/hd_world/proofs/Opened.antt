@@ -1,0 +1,135 @@
+-- A store at first: nothing is made, and each register, static and board place is null or empty.
+use Rattle.std.proofs.Common.{◌≡◌, ℕ, zero, suc, ◌+◌, ◌*◌, ◌<◌, ◌≤◌, true, List, [], ◌∷◌, map, length, replicate, Option, Some, None, refl, sym, ap, ◌∙◌, subst, arith}
+use Rattle.std.specs.Prelude.{option_map, is_some, IsSome, Contains, T, sum_by}
+use Rattle.std.specs.FinMap.{FinMap, get, empty, entries, values, from_entries, get-empty, len-empty, len-entries}
+use Rattle.std.specs.Ordering.{nat_cmp}
+use Rattle.std.proofs.lemmas.List.{length-replicate}
+use Rattle.hd_model.specs.declared.data.Id.{Id}
+use Rattle.hd_model.specs.declared.data.Addr.{Addr}
+use Rattle.hd_model.specs.State.{Object, Handle, State, rename_handle, start_of}
+use Rattle.hd_model.specs.Scene.{fields_in}
+use Rattle.hd_model.specs.Heap.{Placed, region_of, region_generation, object_in, object_at, cells_of, id_at}
+use Rattle.hd_model.specs.Table.{empty_table}
+use Rattle.hd_model.proofs.Members.{not_in_none}
+use Rattle.hd_heap.specs.Calls.{empty_heap}
+use Rattle.hd_world.specs.Rows.{rows_of, rest_of}
+use Rattle.hd_world.specs.Reading.{names_of, read_object, objects_by_id, rows_by_id}
+use Rattle.hd_world.specs.Stored.{Parts, callers_of, state_of, numbers_of, IsStored}
+use Rattle.hd_world.proofs.Newborn.{no_names}
+use Rattle.hd_world.proofs.Readings.{no_some}
+use Rattle.hd_world.proofs.Roots.{rows-first, rest-first}
+
+nothing_at : {A : Type 0} (q : ℕ) (x : A) → get (empty {X = A} {R = nat_cmp}) q ≡ Some x → ⊥
+nothing_at q x e = no_some x (sym e ∙ get-empty nat_cmp q)
+
+nothing_mapped : {A B : Type 0} (f : A → B) (n : ℕ) → map (option_map f) (replicate n None) ≡ replicate n None
+nothing_mapped f zero = refl
+nothing_mapped f (suc n) = ap (λ xs. None ∷ xs) (nothing_mapped f n)
+
+no_entries : {A : Type 0} → entries (empty {X = A} {R = nat_cmp}) ≡ []
+no_entries {A} = by (entries (empty {X = A} {R = nat_cmp})) (sym (len-entries (empty {X = A} {R = nat_cmp})) ∙ len-empty nat_cmp A)
+  where
+    by : (es : List (ℕ × A)) → length es ≡ 0 → es ≡ []
+    by [] none = refl
+    by (e ∷ es) none = absurd (omega (arith, none))
+
+module _ (limit blocks callers : ℕ) where
+  abbrev pub opened : Parts
+  opened = record {
+    heap = empty_heap limit;
+    table = empty_table blocks;
+    ages = replicate (4 * blocks) 2;
+    roots = replicate (16 * callers + 16) None;
+    handle_registers = replicate callers (replicate 16 None);
+    board = replicate 16 None;
+    serials = replicate callers 0;
+  }
+
+  no_field : (x y : Addr) → Contains (fields_in (object_at (empty_heap limit) x)) (Some y) → ⊥
+  no_field x y field =
+      let none : object_at (empty_heap limit) x ≡ None =
+      ap (option_map (object_in (region_generation (empty_heap limit) (region_of x)))) (get-empty nat_cmp x.0) in
+      not_in_none (Some y) (subst (λ (o : Option (Object Addr)). Contains (fields_in o) (Some y)) none field)
+
+  -- parts are those of an opened store where each is as it was made
+  pub are_opened :
+      (f : Parts) → f.heap ≡ empty_heap limit → f.table ≡ empty_table blocks → f.ages ≡ replicate (4 * blocks) 2
+      → f.roots ≡ replicate (16 * callers + 16) None → f.handle_registers ≡ replicate callers (replicate 16 None)
+      → f.board ≡ replicate 16 None → f.serials ≡ replicate callers 0 → opened ≡ f
+  are_opened f heap table ages roots handle_registers board serials = λ i. record {
+    heap = sym heap i;
+    table = sym table i;
+    ages = sym ages i;
+    roots = sym roots i;
+    handle_registers = sym handle_registers i;
+    board = sym board i;
+    serials = sym serials i;
+  }
+
+  pub stored-opened : limit ≤ 1000000 → blocks ≤ 256 → IsStored opened
+  stored-opened small few = record {
+    whole = record {
+      fields = λ x y field. absurd (no_field x y field);
+      named = λ x named. absurd (no_names (16 * callers + 16) x named);
+      queue = λ x queued. absurd (not_in_none x queued);
+      targets = λ slot h x row at. absurd (nothing_at slot h row);
+      secondaries = λ slot h x row at. absurd (nothing_at slot h row);
+      paired = λ slot h row at. absurd (nothing_at slot h row);
+      fits = λ slot h x row at. absurd (nothing_at slot h row);
+    };
+    identities = λ a b p q there other same. absurd (nothing_at a p there);
+    ages = record {
+      targets = λ slot h x row at. absurd (nothing_at slot h row);
+      secondaries = λ slot h x row at. absurd (nothing_at slot h row);
+    };
+    cards = λ x y field younger. absurd (no_field x y field);
+    within = let none : sum_by cells_of (values (empty {X = Placed} {R = nat_cmp})) ≡ 0 = ap (λ (es : List (ℕ × Placed)). sum_by cells_of (map (λ e. e.1) es)) no_entries in omega (arith, none);
+    limit = small;
+    roots = ap (λ n. 16 * n + 16) (length-replicate callers (replicate 16 None)) ∙ sym (length-replicate (16 * callers + 16) None);
+    serials = length-replicate callers 0 ∙ sym (length-replicate callers (replicate 16 None));
+    clumps = sym (length-replicate (4 * blocks) 2);
+    blocks = few;
+    uses = λ block is. absurd (subst T (sym (subst IsSome (get-empty nat_cmp block) is)) tt);
+  }
+
+  pub names-opened : names_of (empty_heap limit) ≡ empty
+  unfolding names_of
+  names-opened = ap (λ (es : List (ℕ × Placed)). from_entries {R = nat_cmp} (map (λ e. (e.0, e.1.id)) es)) no_entries
+
+  objects-opened : objects_by_id (empty_heap limit) ≡ empty
+  unfolding objects_by_id
+  objects-opened = ap (λ (es : List (ℕ × Placed)). from_entries {R = nat_cmp} (map (λ e. (e.1.id.0, read_object (empty_heap limit) e.0 e.1)) es)) no_entries
+
+  rows-opened : rows_by_id (empty_heap limit) empty ≡ empty
+  unfolding rows_by_id
+  rows-opened = ap (λ (es : List (ℕ × Handle Addr)). from_entries {R = nat_cmp} (map (λ e. (e.0, rename_handle (id_at (empty_heap limit)) e.1)) es)) no_entries
+
+  none_named : map (option_map (id_at (empty_heap limit))) opened.roots ≡ replicate (16 * callers + 16) None
+  none_named = nothing_mapped (id_at (empty_heap limit)) (16 * callers + 16)
+
+  size : callers_of opened ≡ callers
+  size = length-replicate callers (replicate 16 None)
+
+  registers-opened : rows_of (callers_of opened) (map (option_map (id_at (empty_heap limit))) opened.roots) ≡ replicate (callers_of opened) (replicate 16 None)
+  registers-opened =
+      ap (rows_of (callers_of opened)) none_named
+      ∙ rows-first (callers_of opened) 16 (16 * callers + 16) None (ap (λ n. 16 * n + 16) (sym size))
+
+  statics-opened : rest_of (callers_of opened) (map (option_map (id_at (empty_heap limit))) opened.roots) ≡ replicate 16 None
+  statics-opened =
+      ap (rest_of (callers_of opened)) none_named
+      ∙ rest-first (callers_of opened) 16 (16 * callers + 16) None (ap (λ n. 16 * n + 16) (sym size))
+
+  pub state-opened : state_of opened ≡ start_of (numbers_of opened)
+  state-opened = λ i. record {
+    objects = objects-opened i;
+    handles = rows-opened i;
+    registers = registers-opened i;
+    handle_registers = ap (λ n. replicate n (replicate 16 None)) (sym size) i;
+    statics = statics-opened i;
+    board = replicate 16 None;
+    queue = [];
+    places = empty;
+    blocks = empty;
+    serials = ap (λ n. replicate n 0) (sym size) i;
+  }

@@ -1,0 +1,69 @@
+-- A new handle's slot in a block that has just come into use.
+use Rattle.std.proofs.Common.{◌≡◌, ◌≢◌, ℕ, ◌+◌, ◌*◌, ◌/◌, ◌≤◌, true, false, Option, Some, None, refl, sym, ap, ◌∙◌, subst, arith, T}
+use Rattle.std.specs.FinMap.{FinMap, get, insert}
+use Rattle.hd_model.specs.declared.data.Id.{Id}
+use Rattle.hd_model.specs.declared.data.Slot.{Slot}
+use Rattle.hd_model.specs.declared.data.Kind.{Kind}
+use Rattle.hd_model.specs.declared.data.Grown.{Grown}
+use Rattle.hd_model.specs.declared.data.Grown.TheVariants.{Zero, One, Two, Back}
+use Rattle.hd_model.specs.State.{Handle, BlockUse, handles_of, extra_data, State, given_of, block_of, first_slot, handle_at, use_of, with_use, IsFree}
+use Rattle.hd_model.specs.Kinds.{is_paired}
+use Rattle.hd_model.specs.Step.{blocks_needed, IsLeastUnused}
+use Rattle.hd_model.specs.WellFormed.{HasHandles}
+use Rattle.hd_model.specs.Step.{with_growth}
+use Rattle.hd_world.specs.Growth.{GrowsBy}
+use Rattle.hd_world.specs.Making.{IsPlace}
+use Rattle.hd_world.specs.Store.{Machine}
+use Rattle.hd_world.proofs.Maps.{get-put, get-put_other}
+use Rattle.hd_world.proofs.Readings.{no_some}
+
+abbrev is_growth : Grown → Type 0
+is_growth Zero = ⊥
+is_growth (One b) = Unit {0}
+is_growth (Two b d) = Unit {0}
+is_growth (Back b) = Unit {0}
+
+first_block : (block : ℕ) → block * 64 / 64 ≡ block
+first_block block = omega arith
+
+-- no handle stands in a block without a use
+pub vacant_first : (m : Machine) (block : ℕ) → HasHandles m.numbers m.state → use_of m.state block ≡ None → handle_at m.state (first_slot block) ≡ None
+vacant_first m block handles unused = by (handle_at m.state (first_slot block)) refl
+  where
+    by : (o : Option (Handle Id)) → handle_at m.state (first_slot block) ≡ o → handle_at m.state (first_slot block) ≡ None
+    by None is = is
+    by (Some h) is =
+        absurd (no_some (handles_of h.kind) (sym (handles.kinds (block * 64) h is) ∙ ap (use_of m.state) (first_block block) ∙ unused))
+
+module _ (old new : Machine) (kind : Kind) (slot : Slot) (handles : HasHandles old.numbers old.state) (block : ℕ) (at : slot ≡ first_slot block) (least : IsLeastUnused old.numbers old.state 1 block) where
+  block_is : block_of slot ≡ block
+  block_is = ap block_of at ∙ first_block block
+
+  vacant : handle_at old.state slot ≡ None
+  vacant = ap (handle_at old.state) at ∙ vacant_first old block handles least.unused
+
+  use_is : get (insert old.state.blocks block (handles_of kind)) (block_of slot) ≡ Some (handles_of kind)
+  use_is = ap (get (insert old.state.blocks block (handles_of kind))) block_is ∙ get-put old.state.blocks block (handles_of kind)
+
+  pub placed_one : is_paired kind ≡ false → new ≡ record old { state = with_growth old.state kind (One block) } → given_of old.state + blocks_needed kind ≤ old.numbers.blocks → IsPlace old new kind None slot (One block)
+  placed_one single store room = record {
+    may = (single, least, at);
+    store = store;
+    free = subst (λ (m : Machine). IsFree m.state kind slot) (sym store) (vacant, use_is);
+    low = subst (λ b. 1 ≤ b) (sym block_is) least.low;
+    high = subst (λ b. b ≤ old.numbers.blocks) (sym block_is) least.high;
+    offered = tt;
+    grows = λ _. (λ same. subst is_growth same tt, room);
+  }
+
+  pub placed_two : (other : ℕ) → is_paired kind ≡ true → IsLeastUnused old.numbers old.state (block + 1) other → new ≡ record old { state = with_growth old.state kind (Two block other) } → given_of old.state + blocks_needed kind ≤ old.numbers.blocks → IsPlace old new kind None slot (Two block other)
+  placed_two other double next store room = record {
+    may = (double, least, next, at);
+    store = store;
+    free = subst (λ (m : Machine). IsFree m.state kind slot) (sym store)
+        (vacant, get-put_other (insert old.state.blocks block (handles_of kind)) other extra_data (block_of slot) (λ same. let low = next.low in let is = block_is in absurd (omega arith)) ∙ use_is);
+    low = subst (λ b. 1 ≤ b) (sym block_is) least.low;
+    high = subst (λ b. b ≤ old.numbers.blocks) (sym block_is) least.high;
+    offered = tt;
+    grows = λ _. (λ same. subst is_growth same tt, room);
+  }

@@ -1,0 +1,171 @@
+-- How a heap, its rows and its roots read by identity, and how that changes with the heap.
+use Rattle.std.proofs.Common.{◌≡◌, ℕ, ◌+◌, ◌<◌, ◌≤◌, Bool, true, false, cond, List, [], ◌∷◌, map, Option, Some, None, refl, sym, ap, ◌∙◌, subst, inl, inr, arith}
+use Rattle.std.specs.Prelude.{option_map, unwrap_or, is_some, IsSome, Contains, T}
+use Rattle.std.specs.FinMap.{FinMap, get, insert}
+use Rattle.std.specs.Ordering.{nat_cmp}
+use Rattle.std.proofs.lemmas.Bool.{cases_eq}
+use Rattle.hd_model.specs.declared.data.Id.{Id}
+use Rattle.hd_model.specs.declared.data.Addr.{Addr}
+use Rattle.hd_model.specs.State.{Object, Handle, rename_object, rename_handle}
+use Rattle.hd_model.specs.Heap.{Placed, Heap, region_generation, region_of, object_in, object_at, id_in, id_at, HasIdentities}
+use Rattle.hd_world.specs.Reading.{names_of, read_object, objects_by_id, rows_by_id, name_in, named_in}
+use Rattle.hd_world.proofs.Maps.{get-put, get-put_other, same_numbers, some_same, get-mapped, Under, AreApart, under, get-rekeyed}
+
+pub no_some : {A : Type 0} (x : A) → Some x ≡ None → ⊥
+no_some x e = subst T (ap is_some e) tt
+
+pub same_id : (x y : Id) → x.0 ≡ y.0 → x ≡ y
+same_id x y e = λ i. record { 0 = e i }
+
+-- the identities of the addresses
+pub names-get : (h : Heap) (a : ℕ) → get (names_of h) a ≡ option_map (λ (p : Placed). p.id) (get h.objects a)
+unfolding names_of
+names-get h a = get-mapped (λ a p. p.id) h.objects a
+
+by_id : (o : Option Placed) → unwrap_or (option_map (λ (p : Placed). p.id) o) (record { 0 = 0 }) ≡ id_in o
+by_id None = refl
+by_id (Some p) = refl
+
+pub name-is : (h : Heap) (a : Addr) → name_in (names_of h) a ≡ id_at h a
+name-is h a = ap (λ o. unwrap_or o (record { 0 = 0 })) (names-get h a.0) ∙ by_id (get h.objects a.0)
+
+pub names-are : (h : Heap) → name_in (names_of h) ≡ id_at h
+names-are h = λ i a. name-is h a i
+
+pub named-is : (h : Heap) (o : Option Addr) → named_in (names_of h) o ≡ option_map (id_at h) o
+named-is h o = ap (λ f. option_map f o) (names-are h)
+
+-- the rows by identity
+pub rows-get : (h : Heap) (rows : FinMap nat_cmp (Handle Addr)) (slot : ℕ) → get (rows_by_id h rows) slot ≡ option_map (rename_handle (id_at h)) (get rows slot)
+unfolding rows_by_id
+rows-get h rows slot = get-mapped (λ slot row. rename_handle (id_at h) row) rows slot
+
+-- the objects by identity
+pub apart_by_number : (h : Heap) → HasIdentities h → AreApart (λ (p : Placed). p.id.0) h.objects
+apart_by_number h identities a b p q first second same = identities a b p q first second (same_id p.id q.id same)
+
+pub objects-get : (h : Heap) → HasIdentities h → (a : ℕ) (p : Placed) → get h.objects a ≡ Some p → get (objects_by_id h) p.id.0 ≡ Some (read_object h a p)
+unfolding objects_by_id
+objects-get h identities a p is = get-rekeyed (λ (p : Placed). p.id.0) (read_object h) h.objects (apart_by_number h identities) a p is
+
+pub objects-under : (h : Heap) (x : ℕ) (o : Object Id) → get (objects_by_id h) x ≡ Some o → Under (λ (p : Placed). p.id.0) (read_object h) h.objects x o
+unfolding objects_by_id
+objects-under h x o is = under (λ (p : Placed). p.id.0) (read_object h) h.objects x o is
+
+-- an object with an identity
+pub record Stands (h : Heap) (x : ℕ) : Type 0 where
+  pub at : ℕ
+  pub value : Placed
+  pub stands : get h.objects at ≡ Some value
+  pub named : value.id.0 ≡ x
+
+-- a map with each object's reading at its identity, and at no other key, is the objects by identity
+pub objects-are : (h : Heap) (m : FinMap nat_cmp (Object Id)) → HasIdentities h → ((a : ℕ) (p : Placed) → get h.objects a ≡ Some p → get m p.id.0 ≡ Some (read_object h a p)) → ((x : ℕ) (o : Object Id) → get m x ≡ Some o → Stands h x) → objects_by_id h ≡ m
+objects-are h m identities each only = same_numbers (objects_by_id h) m (λ x. by x (get (objects_by_id h) x) (get m x) refl refl)
+  where
+    by : (x : ℕ) (o p : Option (Object Id)) → get (objects_by_id h) x ≡ o → get m x ≡ p → get (objects_by_id h) x ≡ get m x
+    by x None None first second = first ∙ sym second
+    by x None (Some p) first second =
+        let s = only x p second in
+        absurd (no_some (read_object h s.at s.value) (sym (objects-get h identities s.at s.value s.stands) ∙ ap (get (objects_by_id h)) s.named ∙ first))
+    by x (Some o) p first second =
+        let u = objects-under h x o first in
+        first ∙ ap Some u.is ∙ sym (each u.at u.value u.stands) ∙ ap (get m) u.keyed
+
+-- the readings of two heaps with the same identities and regions
+read_same : (h k : Heap) → id_at k ≡ id_at h → k.regions ≡ h.regions → read_object k ≡ read_object h
+read_same h k ids regions = λ i a p. rename_object (ids i) (object_in ((unwrap_or (get (regions i) (region_of (record { 0 = a }))) (record { generation = 0; fill = 0 })).generation) p)
+
+-- the heap k is h with another object of the same identity at an address
+pub record Replaces (h k : Heap) (a : ℕ) (old new : Placed) : Type 0 where
+  pub was : get h.objects a ≡ Some old
+  pub same : new.id ≡ old.id
+  pub objects : k.objects ≡ insert h.objects a new
+  pub regions : k.regions ≡ h.regions
+
+module _ (h k : Heap) (a : ℕ) (old new : Placed) (r : Replaces h k a old new) where
+  at_it : get k.objects a ≡ Some new
+  at_it = ap (λ m. get m a) r.objects ∙ get-put h.objects a new
+
+  elsewhere : (b : ℕ) → (b ≡ a → ⊥) → get k.objects b ≡ get h.objects b
+  elsewhere b apart = ap (λ m. get m b) r.objects ∙ get-put_other h.objects a new b apart
+
+  id_same : (b : ℕ) → id_in (get k.objects b) ≡ id_in (get h.objects b)
+  id_same b =
+      elim (cases_eq b a) [
+        | inl is ↦ ap (λ c. id_in (get k.objects c)) is ∙ ap id_in at_it ∙ r.same ∙ sym (ap id_in r.was) ∙ ap (λ c. id_in (get h.objects c)) (sym is)
+        | inr apart ↦ ap id_in (elsewhere b apart)
+      ]
+
+  -- every address has the identity that it had
+  pub ids-replace : id_at k ≡ id_at h
+  ids-replace = λ i b. id_same b.0 i
+
+  name_same : (b : ℕ) → option_map (λ (p : Placed). p.id) (get k.objects b) ≡ option_map (λ (p : Placed). p.id) (get h.objects b)
+  name_same b =
+      elim (cases_eq b a) [
+        | inl is ↦ ap (λ c. option_map (λ (p : Placed). p.id) (get k.objects c)) is ∙ ap (option_map (λ (p : Placed). p.id)) at_it ∙ ap Some r.same
+            ∙ sym (ap (option_map (λ (p : Placed). p.id)) r.was) ∙ ap (λ c. option_map (λ (p : Placed). p.id) (get h.objects c)) (sym is)
+        | inr apart ↦ ap (option_map (λ (p : Placed). p.id)) (elsewhere b apart)
+      ]
+
+  pub names-replace : names_of k ≡ names_of h
+  names-replace = same_numbers (names_of k) (names_of h) (λ b. names-get k b ∙ name_same b ∙ sym (names-get h b))
+
+  pub rows-replace : (rows : FinMap nat_cmp (Handle Addr)) → rows_by_id k rows ≡ rows_by_id h rows
+  rows-replace rows =
+      same_numbers (rows_by_id k rows) (rows_by_id h rows) (λ slot.
+      rows-get k rows slot ∙ ap (λ f. option_map (rename_handle f) (get rows slot)) ids-replace ∙ sym (rows-get h rows slot))
+
+  -- an object of k was one of h with the same identity
+  was_there : (b : ℕ) (p : Placed) → get k.objects b ≡ Some p → (q : Placed) × ((get h.objects b ≡ Some q) × (q.id ≡ p.id))
+  was_there b p is =
+      elim (cases_eq b a) [
+        | inl here ↦ (old, (ap (get h.objects) here ∙ r.was, sym r.same ∙ ap (λ (q : Placed). q.id) (some_same new p (sym at_it ∙ ap (get k.objects) (sym here) ∙ is))))
+        | inr apart ↦ (p, (sym (elsewhere b apart) ∙ is, refl))
+      ]
+
+  pub identities-replace : HasIdentities h → HasIdentities k
+  identities-replace identities b c p q first second same =
+      let u = was_there b p first in
+      let v = was_there c q second in
+      identities b c u.0 v.0 u.1.0 v.1.0 (u.1.1 ∙ same ∙ sym v.1.1)
+
+  -- and the objects by identity have the new one in the place of the old
+  pub objects-replace : HasIdentities h → objects_by_id k ≡ insert (objects_by_id h) old.id.0 (read_object h a new)
+  objects-replace identities = objects-are k (insert (objects_by_id h) old.id.0 (read_object h a new)) (identities-replace identities) each only
+    where
+      m : FinMap nat_cmp (Object Id)
+      m = insert (objects_by_id h) old.id.0 (read_object h a new)
+
+      read : read_object k ≡ read_object h
+      read = read_same h k ids-replace r.regions
+
+      each : (b : ℕ) (p : Placed) → get k.objects b ≡ Some p → get (insert (objects_by_id h) old.id.0 (read_object h a new)) p.id.0 ≡ Some (read_object k b p)
+      each b p is =
+          elim (cases_eq b a) [
+            | inl here ↦
+                let it : new ≡ p = some_same new p (sym at_it ∙ ap (get k.objects) (sym here) ∙ is) in
+                ap (λ (q : Placed). get (insert (objects_by_id h) old.id.0 (read_object h a new)) q.id.0) (sym it)
+                ∙ ap (λ (x : Id). get (insert (objects_by_id h) old.id.0 (read_object h a new)) x.0) r.same
+                ∙ get-put (objects_by_id h) old.id.0 (read_object h a new)
+                ∙ ap Some (ap (λ f. f a new) (sym read) ∙ ap (λ c. read_object k c new) (sym here) ∙ ap (read_object k b) it)
+            | inr apart ↦
+                let before : get h.objects b ≡ Some p = sym (elsewhere b apart) ∙ is in
+                get-put_other (objects_by_id h) old.id.0 (read_object h a new) p.id.0 (λ same. apart (identities b a p old before r.was (same_id p.id old.id same)))
+                ∙ objects-get h identities b p before ∙ ap Some (ap (λ f. f b p) (sym read))
+          ]
+
+      only : (x : ℕ) (o : Object Id) → get (insert (objects_by_id h) old.id.0 (read_object h a new)) x ≡ Some o → Stands k x
+      only x o is =
+          elim (cases_eq x old.id.0) [
+            | inl here ↦ record { at = a; value = new; stands = at_it; named = ap (λ (i : Id). i.0) r.same ∙ sym here }
+            | inr apart ↦
+                let u = objects-under h x o (sym (get-put_other (objects_by_id h) old.id.0 (read_object h a new) x apart) ∙ is) in
+                record {
+                  at = u.at;
+                  value = u.value;
+                  stands = elsewhere u.at (λ here. apart (sym u.keyed ∙ ap (λ (p : Placed). p.id.0) (some_same u.value old (sym u.stands ∙ ap (get h.objects) here ∙ r.was)))) ∙ u.stands;
+                  named = u.keyed;
+                }
+          ]

@@ -1,0 +1,327 @@
+-- Rows of a store that change: what the machine sees, and that the store keeps what it keeps.
+use Rattle.std.proofs.Common.{◌≡◌, ℕ, ◌+◌, ◌*◌, ◌/◌, ◌<◌, ◌≤◌, Bool, true, false, not, cond, List, [], map, length, get_or, Option, Some, None, refl, sym, ap, ◌∙◌, subst, inl, inr, arith}
+use Rattle.std.specs.Prelude.{option_map, unwrap_or, IsSome, IfSome, is_some, T, Contains, Result, Ok, Err, IfOk, OnErr}
+use Rattle.std.specs.FinMap.{FinMap, get, insert, remove, get-remove}
+use Rattle.std.specs.Ordering.{nat_cmp, eq_by_cmp}
+use Rattle.std.specs.Cmp.{nat_cmp_total}
+use Rattle.std.proofs.lemmas.Bool.{cases_eq}
+use Rattle.hd_model.specs.declared.data.Id.{Id}
+use Rattle.hd_model.specs.declared.data.Addr.{Addr}
+use Rattle.hd_model.specs.declared.data.Slot.{Slot}
+use Rattle.hd_model.specs.declared.data.Kind.{Kind}
+use Rattle.hd_model.specs.declared.data.Kind.TheVariants as kind
+use Rattle.hd_model.specs.declared.data.Grown.{Grown}
+use Rattle.hd_model.specs.declared.data.Grown.TheVariants.{Zero, One, Two, Back}
+use Rattle.hd_seg.specs.declared.row.Full.{Full}
+use Rattle.hd_model.specs.State.{Extra, nothing, strength, secondary, count, Handle, BlockUse, handles_of, extra_data, State, handle_at, use_of, block_of, secondary_of, rename_handle, with_handle, without_handle}
+use Rattle.hd_model.specs.Role.{role, attaches}
+use Rattle.hd_model.specs.Scene.{is_object, generation_at}
+use Rattle.hd_model.specs.Ages.{age_of}
+use Rattle.hd_model.specs.Heap.{Heap, object_at, has_object, id_at}
+use Rattle.hd_model.specs.Table.{Table, fits, kind_in, kind_at, live_at, is_single, grown_by, IsGrowth, without_block, with_row, without_row}
+use Rattle.hd_seg.specs.declared.row.Row.{Row}
+use Rattle.hd_seg.specs.Row.{handle_of, extra_of}
+use Rattle.hd_world.specs.Reading.{names_of, name_in, rows_by_id, IsNamed}
+use Rattle.hd_world.specs.Stored.{Parts, state_of, IsStored}
+use Rattle.hd_world.specs.Store.{Machine, machine_of}
+use Rattle.hd_world.specs.Objects.{object_named}
+use Rattle.hd_world.specs.Growth.{kind_in_use}
+use Rattle.hd_model.specs.Kinds.{is_paired}
+use Rattle.hd_world.specs.Handles.{handle_named, MayStand}
+use Rattle.hd_world.proofs.Maps.{tied, untied, get-put, get-put_other, same_numbers, some_same}
+use Rattle.hd_world.proofs.Readings.{no_some, rows-get, names-are}
+use Rattle.hd_world.proofs.Standing.{named_objects, known_object, generation-is}
+
+-- the parts with another table
+abbrev pub with_table : Parts → Table → Parts
+with_table f t = record f { table = t }
+
+-- a row may stand in a slot of these parts
+pub record Stands (f : Parts) (slot : ℕ) (row : Handle Addr) : Type 0 where
+  pub target : (x : Addr) → row.target ≡ Some x → is_object (object_at f.heap) x ≡ true
+  pub second : (x : Addr) → secondary_of row.extra ≡ Some x → is_object (object_at f.heap) x ≡ true
+  pub paired : row.target ≡ None → secondary_of row.extra ≡ None
+  pub attaching : (x : Addr) → secondary_of row.extra ≡ Some x → role row ≡ attaches
+  pub target_age : (x : Addr) → row.target ≡ Some x → age_of f.ages slot ≤ generation_at (object_at f.heap) x
+  pub second_age : (x : Addr) → secondary_of row.extra ≡ Some x → age_of f.ages slot ≤ generation_at (object_at f.heap) x
+
+-- each row of a store may stand where it does
+pub stands : (f : Parts) → IsStored f → (slot : ℕ) (row : Handle Addr) → get f.table.rows slot ≡ Some row → Stands f slot row
+stands f stored slot row is = record {
+  target = λ x e. stored.whole.targets slot row x is e;
+  second = λ x e. stored.whole.secondaries slot row x is e;
+  paired = stored.whole.paired slot row is;
+  attaching = λ x e. stored.whole.fits slot row x is e;
+  target_age = λ x e. stored.ages.targets slot row x is e;
+  second_age = λ x e. stored.ages.secondaries slot row x is e;
+}
+
+-- a table whose rows may all stand
+-- what a use of a block says
+abbrev pub IsWithin : Table → Type 0
+IsWithin t = (block : ℕ) → IsSome (get t.uses block) → (1 ≤ block) × (block ≤ t.blocks)
+
+pub stored-table : (f : Parts) (t : Table) → IsStored f → t.blocks ≡ f.table.blocks → IsWithin t → ((slot : ℕ) (row : Handle Addr) → get t.rows slot ≡ Some row → Stands f slot row) → IsStored (with_table f t)
+stored-table f t stored blocks uses each = record {
+  whole = record {
+    fields = stored.whole.fields;
+    named = stored.whole.named;
+    queue = stored.whole.queue;
+    targets = λ slot row x is e. (each slot row is).target x e;
+    secondaries = λ slot row x is e. (each slot row is).second x e;
+    paired = λ slot row is. (each slot row is).paired;
+    fits = λ slot row x is e. (each slot row is).attaching x e;
+  };
+  identities = stored.identities;
+  ages = record {
+    targets = λ slot row x is e. (each slot row is).target_age x e;
+    secondaries = λ slot row x is e. (each slot row is).second_age x e;
+  };
+  cards = stored.cards;
+  within = stored.within;
+  limit = stored.limit;
+  roots = stored.roots;
+  serials = stored.serials;
+  clumps = ap (λ n. 4 * n) blocks ∙ stored.clumps;
+  blocks = omega (arith, blocks, stored.blocks);
+  uses = uses;
+}
+
+pub stored-put : (f : Parts) (slot : ℕ) (row : Handle Addr) → IsStored f → Stands f slot row → IsStored (with_table f (with_row f.table slot row))
+stored-put f slot row stored may =
+    stored-table f (with_row f.table slot row) stored refl stored.uses (λ s r is.
+    elim (cases_eq s slot) [
+      | inl same ↦
+          let it : row ≡ r = some_same row r (sym (get-put f.table.rows slot row) ∙ ap (get (insert f.table.rows slot row)) (sym same) ∙ is) in
+          subst (Stands f s) it (subst (λ k. Stands f k row) (sym same) may)
+      | inr apart ↦ stands f stored s r (sym (get-put_other f.table.rows slot row s apart) ∙ is)
+    ])
+
+without_other : (b : Bool) (o : Option (Handle Addr)) (r : Handle Addr) → cond b None o ≡ Some r → o ≡ Some r
+without_other true o r is = absurd (no_some r (sym is))
+without_other false o r is = is
+
+pub stored-end : (f : Parts) (slot : ℕ) → IsStored f → IsStored (with_table f (without_row f.table slot))
+stored-end f slot stored =
+    stored-table f (without_row f.table slot) stored refl stored.uses (λ s r is.
+    stands f stored s r (without_other (eq_by_cmp nat_cmp s slot) (get f.table.rows s) r (sym (get-remove nat_cmp_total f.table.rows slot s) ∙ is)))
+
+-- the rows by identity
+pub rows-put : (h : Heap) (rows : FinMap nat_cmp (Handle Addr)) (slot : ℕ) (row : Handle Addr) → rows_by_id h (insert rows slot row) ≡ insert (rows_by_id h rows) slot (rename_handle (id_at h) row)
+rows-put h rows slot row =
+    same_numbers (rows_by_id h (insert rows slot row)) (insert (rows_by_id h rows) slot (rename_handle (id_at h) row)) (λ s.
+    rows-get h (insert rows slot row) s
+    ∙ elim (cases_eq s slot) [
+      | inl same ↦ ap (λ k. option_map (rename_handle (id_at h)) (get (insert rows slot row) k)) same
+          ∙ ap (option_map (rename_handle (id_at h))) (get-put rows slot row)
+          ∙ sym (get-put (rows_by_id h rows) slot (rename_handle (id_at h) row))
+          ∙ ap (get (insert (rows_by_id h rows) slot (rename_handle (id_at h) row))) (sym same)
+      | inr apart ↦ ap (option_map (rename_handle (id_at h))) (get-put_other rows slot row s apart) ∙ sym (rows-get h rows s)
+          ∙ sym (get-put_other (rows_by_id h rows) slot (rename_handle (id_at h) row) s apart)
+    ])
+
+none_mapped : (g : Handle Addr → Handle Id) (b : Bool) (o : Option (Handle Addr)) → option_map g (cond b None o) ≡ cond b None (option_map g o)
+none_mapped g true o = refl
+none_mapped g false o = refl
+
+pub rows-end : (h : Heap) (rows : FinMap nat_cmp (Handle Addr)) (slot : ℕ) → rows_by_id h (remove rows slot) ≡ remove (rows_by_id h rows) slot
+rows-end h rows slot =
+    same_numbers (rows_by_id h (remove rows slot)) (remove (rows_by_id h rows) slot) (λ s.
+    rows-get h (remove rows slot) s ∙ ap (option_map (rename_handle (id_at h))) (get-remove nat_cmp_total rows slot s)
+    ∙ none_mapped (rename_handle (id_at h)) (eq_by_cmp nat_cmp s slot) (get rows s)
+    ∙ ap (cond (eq_by_cmp nat_cmp s slot) None) (sym (rows-get h rows s))
+    ∙ sym (get-remove nat_cmp_total (rows_by_id h rows) slot s))
+
+module _ (f : Parts) (m : Machine) (view : machine_of f ≡ m) where
+  pub machine-put : (slot : Slot) (kind : Kind) (row : Row) → machine_of (with_table f (with_row f.table slot.0 (handle_of kind row))) ≡ record m { state = with_handle m.state slot (handle_named m kind row) }
+  machine-put slot kind row =
+      (λ i. record (machine_of f) {
+        state = record (state_of f) {
+          handles = (rows-put f.heap f.table.rows slot.0 (handle_of kind row)
+              ∙ ap (λ g. insert (rows_by_id f.heap f.table.rows) slot.0 (rename_handle g (handle_of kind row))) (sym (names-are f.heap))) i;
+        };
+      })
+      ∙ ap (λ (n : Machine). record n { state = with_handle n.state slot (handle_named n kind row) }) view
+
+  pub machine-end : (slot : Slot) → machine_of (with_table f (without_row f.table slot.0)) ≡ record m { state = without_handle m.state slot }
+  machine-end slot =
+      (λ i. record (machine_of f) { state = record (state_of f) { handles = rows-end f.heap f.table.rows slot.0 i } })
+      ∙ ap (λ (n : Machine). record n { state = without_handle n.state slot }) view
+
+-- a secondary stands only in a dependent row
+attaching : (k : Kind) (e : Extra Addr) (target : Option Addr) (x : Addr) → fits k e ≡ true → secondary_of e ≡ Some x → role (record { kind = k; target = target; extra = e }) ≡ attaches
+attaching kind.Dependent e target x fit is = refl
+attaching k nothing target x fit is = absurd (no_some x (sym is))
+attaching k (strength s) target x fit is = absurd (no_some x (sym is))
+attaching k (count c) target x fit is = absurd (no_some x (sym is))
+attaching kind.Short (secondary o) target x fit is = absurd (subst T (sym fit) tt)
+attaching kind.Long (secondary o) target x fit is = absurd (subst T (sym fit) tt)
+attaching kind.Strong (secondary o) target x fit is = absurd (subst T (sym fit) tt)
+attaching kind.Pinned (secondary o) target x fit is = absurd (subst T (sym fit) tt)
+attaching kind.Variable (secondary o) target x fit is = absurd (subst T (sym fit) tt)
+attaching kind.Counted (secondary o) target x fit is = absurd (subst T (sym fit) tt)
+
+-- a row that may stand in the words of the store may stand in its parts
+module _ (f : Parts) (m : Machine) (view : machine_of f ≡ m) (stored : IsStored f) where
+  is_there : (o : Option Addr) (x : Addr) → IsNamed m.names o → o ≡ Some x → IsSome (get m.names x.0)
+  is_there o x named is = subst (IsNamed m.names) is named
+
+  aged : (slot : ℕ) (o : Option Addr) (x : Addr) → IsNamed m.names o → IfSome o (λ a. age_of m.ages slot ≤ (object_named m a).generation) → o ≡ Some x → age_of f.ages slot ≤ generation_at (object_at f.heap) x
+  aged slot o x named low is =
+      let known = is_there o x named is in
+      let here : age_of m.ages slot ≤ (object_named m x).generation = subst (λ p. IfSome p (λ a. age_of m.ages slot ≤ (object_named m a).generation)) is low in
+      subst (λ g. age_of f.ages slot ≤ g) (sym (generation-is f m view stored x known))
+      (subst (λ ages. age_of ages slot ≤ (object_named m x).generation) (sym (ap (λ (n : Machine). n.ages) view)) here)
+
+  object : (o : Option Addr) (x : Addr) → IsNamed m.names o → o ≡ Some x → is_object (object_at f.heap) x ≡ true
+  object o x named is = known_object f.heap x (subst (λ (n : Machine). IsSome (get n.names x.0)) (sym view) (is_there o x named is))
+
+  pub may-stand : (slot : Slot) (kind : Kind) (row : Row) → MayStand m slot kind row → Stands f slot.0 (handle_of kind row)
+  may-stand slot kind row may = record {
+    target = λ x is. object row.target x may.target is;
+    second = λ x is. object (secondary_of (extra_of row.extra)) x may.secondary is;
+    paired = may.paired;
+    attaching = λ x is. attaching kind (extra_of row.extra) row.target x may.fits is;
+    target_age = λ x is. aged slot.0 row.target x may.target may.target_age is;
+    second_age = λ x is. aged slot.0 (secondary_of (extra_of row.extra)) x may.secondary may.secondary_age is;
+  }
+
+-- a live slot has a row
+mapped_some : (g : Handle Addr → Handle Id) (o : Option (Handle Addr)) → is_some (option_map g o) ≡ is_some o
+mapped_some g None = refl
+mapped_some g (Some row) = refl
+
+module _ (f : Parts) (m : Machine) (view : machine_of f ≡ m) where
+  pub row-read : (slot : Slot) → handle_at m.state slot ≡ option_map (rename_handle (id_at f.heap)) (get f.table.rows slot.0)
+  row-read slot = ap (λ (n : Machine). handle_at n.state slot) (sym view) ∙ rows-get f.heap f.table.rows slot.0
+
+  pub live-row : (slot : Slot) → IsSome (handle_at m.state slot) → IsSome (get f.table.rows slot.0)
+  live-row slot live = sym (mapped_some (rename_handle (id_at f.heap)) (get f.table.rows slot.0)) ∙ sym (ap is_some (row-read slot)) ∙ live
+
+  none_from : (o : Option (Handle Addr)) → option_map (rename_handle (id_at f.heap)) o ≡ None → o ≡ None
+  none_from None is = refl
+  none_from (Some row) is = absurd (no_some (rename_handle (id_at f.heap) row) is)
+
+  pub vacant-row : (slot : Slot) → handle_at m.state slot ≡ None → get f.table.rows slot.0 ≡ None
+  vacant-row slot none = none_from (get f.table.rows slot.0) (sym (row-read slot) ∙ none)
+
+  -- the use of a block
+  pub use-read : (block : ℕ) (u : Option BlockUse) → use_of m.state block ≡ u → get f.table.uses block ≡ u
+  use-read block u is = ap (λ (n : Machine). use_of n.state block) view ∙ is
+
+  pub kind-read : (slot : Slot) (kind : Kind) → use_of m.state (block_of slot) ≡ Some (handles_of kind) → kind_at f.table (slot.0 / 64) ≡ kind
+  kind-read slot kind is = ap kind_in (use-read (slot.0 / 64) (Some (handles_of kind)) is)
+
+-- blocks come into use, or go out of it, and the rows stay
+grown_rows : (t : Table) (k : Kind) (g : Grown) → (grown_by t k g).rows ≡ t.rows
+grown_rows t k Zero = refl
+grown_rows t k (One b) = refl
+grown_rows t k (Two b d) = refl
+grown_rows t k (Back b) = refl
+
+grown_blocks : (t : Table) (k : Kind) (g : Grown) → (grown_by t k g).blocks ≡ t.blocks
+grown_blocks t k Zero = refl
+grown_blocks t k (One b) = refl
+grown_blocks t k (Two b d) = refl
+grown_blocks t k (Back b) = refl
+
+pub stored-same : (f : Parts) (t : Table) → IsStored f → t.rows ≡ f.table.rows → t.blocks ≡ f.table.blocks → IsWithin t → IsStored (with_table f t)
+stored-same f t stored rows blocks uses = stored-table f t stored blocks uses (λ slot row is. stands f stored slot row (sym (ap (λ m. get m slot) rows) ∙ is))
+
+within_insert : {A : Type 0} (m : FinMap nat_cmp A) (k most : ℕ) (v : A) → (1 ≤ k) × (k ≤ most) → ((b : ℕ) → IsSome (get m b) → (1 ≤ b) × (b ≤ most)) → (b : ℕ) → IsSome (get (insert m k v) b) → (1 ≤ b) × (b ≤ most)
+within_insert m k most v new old b is =
+    elim (cases_eq b k) [
+      | inl same ↦ subst (λ j. (1 ≤ j) × (j ≤ most)) (sym same) new
+      | inr apart ↦ old b (sym (ap is_some (get-put_other m k v b apart)) ∙ is)
+    ]
+
+grown_within : (t : Table) (k : Kind) (g : Grown) → IsGrowth t k g → IsWithin t → IsWithin (grown_by t k g)
+grown_within t k Zero grows uses = elim grows [ ]
+grown_within t k (One b) grows uses = within_insert t.uses b t.blocks (handles_of k) (grows.1.low, grows.1.high) uses
+grown_within t k (Two b d) grows uses =
+    within_insert (insert t.uses b (handles_of k)) d t.blocks extra_data (omega (arith, grows.2.low), grows.2.high)
+    (within_insert t.uses b t.blocks (handles_of k) (grows.1.low, grows.1.high) uses)
+grown_within t k (Back b) grows uses = elim grows [ ]
+
+pub stored-grown : (f : Parts) (t : Table) (k : Kind) → IsStored f → (r : Result Grown Full) → IfOk r (IsGrowth f.table k) → IfOk r (λ g. t ≡ grown_by f.table k g) → OnErr r (t ≡ f.table) → IsStored (with_table f t)
+stored-grown f t k stored (Ok g) grows after kept =
+    stored-same f t stored (ap (λ (s : Table). s.rows) after ∙ grown_rows f.table k g) (ap (λ (s : Table). s.blocks) after ∙ grown_blocks f.table k g)
+    (subst IsWithin (sym after) (grown_within f.table k g grows stored.uses))
+stored-grown f t k stored (Err e) grows after kept =
+    stored-same f t stored (ap (λ (s : Table). s.rows) kept) (ap (λ (s : Table). s.blocks) kept) (subst IsWithin (sym kept) stored.uses)
+
+-- a block without a kind any more
+back_within : (m : FinMap nat_cmp BlockUse) (k most : ℕ) → ((b : ℕ) → IsSome (get m b) → (1 ≤ b) × (b ≤ most)) → (b : ℕ) → IsSome (get (remove m k) b) → (1 ≤ b) × (b ≤ most)
+back_within m k most old b is = old b (left (eq_by_cmp nat_cmp b k) (get m b) (sym (ap is_some (get-remove nat_cmp_total m k b)) ∙ is))
+  where
+    left : (c : Bool) (o : Option BlockUse) → IsSome (cond c None o) → IsSome o
+    left true o e = absurd (subst T (sym e) tt)
+    left false o e = e
+
+pub stored-back : (f : Parts) (t : Table) (k : Kind) (block : ℕ) → IsStored f → t ≡ without_block f.table k block → IsStored (with_table f t)
+stored-back f t k block stored is =
+    subst (λ u. IsStored (with_table f u)) (sym is)
+    (stored-same f (without_block f.table k block) stored refl refl (back_within f.table.uses block f.table.blocks stored.uses))
+
+-- what a use is of: a block that is none of the table's has none
+no_use : (o : Option BlockUse) → (IsSome o → ⊥) → o ≡ None
+no_use None out = refl
+no_use (Some u) out = absurd (out refl)
+
+pub kind-outside : (f : Parts) (m : Machine) → machine_of f ≡ m → IsStored f → (block : ℕ) → ((1 ≤ block) × (block ≤ f.table.blocks) → ⊥) → None ≡ kind_in_use (use_of m.state block)
+kind-outside f m view stored block out =
+    sym (ap kind_in_use (no_use (get f.table.uses block) (λ is. out (stored.uses block is))))
+    ∙ ap (λ (n : Machine). kind_in_use (use_of n.state block)) view
+
+single_kind : (k : Kind) → is_paired k ≡ false → is_single (Some (handles_of k)) ≡ true
+single_kind k is = ap not is
+
+-- all slots of a block are free
+pub block-single : (f : Parts) (m : Machine) → machine_of f ≡ m → (k : Kind) (block : ℕ) → is_paired k ≡ false → use_of m.state block ≡ Some (handles_of k) → is_single (get f.table.uses block) ≡ true
+block-single f m view k block single is =
+    ap (λ (n : Machine). is_single (use_of n.state block)) view ∙ ap is_single is ∙ single_kind k single
+
+-- a row is put twice into one slot
+pub put_again : (t : Table) (slot : ℕ) (a b : Handle Addr) → with_row (with_row t slot a) slot b ≡ with_row t slot b
+put_again t slot a b =
+    ap (λ rows. record t { rows = rows })
+    (same_numbers (insert (insert t.rows slot a) slot b) (insert t.rows slot b) (λ s.
+    elim (cases_eq s slot) [
+      | inl same ↦ ap (get (insert (insert t.rows slot a) slot b)) same ∙ get-put (insert t.rows slot a) slot b ∙ sym (get-put t.rows slot b)
+          ∙ ap (get (insert t.rows slot b)) (sym same)
+      | inr apart ↦ get-put_other (insert t.rows slot a) slot b s apart ∙ get-put_other t.rows slot a s apart ∙ sym (get-put_other t.rows slot b s apart)
+    ]))
+
+row_there : (o : Option (Handle Addr)) (d : Handle Addr) → is_some o ≡ true → o ≡ Some (unwrap_or o d)
+row_there None d e = absurd (subst T (sym e) tt)
+row_there (Some row) d e = refl
+
+pub live-is : (t : Table) (slot : ℕ) → IsSome (get t.rows slot) → get t.rows slot ≡ Some (live_at t slot)
+live-is t slot live = row_there (get t.rows slot) (record { kind = kind.Short; target = None; extra = nothing }) live
+
+pub live-put : (t : Table) (slot : ℕ) (row : Handle Addr) → live_at (with_row t slot row) slot ≡ row
+live-put t slot row = ap (λ o. unwrap_or o (record { kind = kind.Short; target = None; extra = nothing })) (get-put t.rows slot row)
+
+kind_mapped : (g : Addr → Id) (o : Option (Handle Addr)) → option_map (λ (h : Handle Id). h.kind) (option_map (rename_handle g) o) ≡ option_map (λ (h : Handle Addr). h.kind) o
+kind_mapped g None = refl
+kind_mapped g (Some row) = refl
+
+some_kind : (x y : Kind) → Some x ≡ Some y → x ≡ y
+some_kind x y e = some_same x y e
+
+module _ (f : Parts) (m : Machine) (view : machine_of f ≡ m) (slot : Slot) (k : Kind) (live : option_map (λ (h : Handle Id). h.kind) (handle_at m.state slot) ≡ Some k) where
+  kinds : option_map (λ (h : Handle Addr). h.kind) (get f.table.rows slot.0) ≡ Some k
+  kinds =
+      sym (kind_mapped (id_at f.heap) (get f.table.rows slot.0)) ∙ ap (option_map (λ (h : Handle Id). h.kind)) (sym (row-read f m view slot)) ∙ live
+
+  there_from : (o : Option (Handle Addr)) → option_map (λ (h : Handle Addr). h.kind) o ≡ Some k → IsSome o
+  there_from None e = absurd (no_some k (sym e))
+  there_from (Some row) e = refl
+
+  pub live-kinded : IsSome (get f.table.rows slot.0)
+  live-kinded = there_from (get f.table.rows slot.0) kinds
+
+  pub live-kind : (live_at f.table slot.0).kind ≡ k
+  live-kind =
+      some_kind (live_at f.table slot.0).kind k
+      (sym (ap (option_map (λ (h : Handle Addr). h.kind)) (live-is f.table slot.0 live-kinded)) ∙ kinds)

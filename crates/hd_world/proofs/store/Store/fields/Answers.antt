@@ -1,0 +1,11 @@
+use Rattle.std.proofs.Common.{◌≡◌, ◌<◌, length, None, get_or, sym, ap, ◌∙◌, subst}
+use Rattle.hd_world.specs.Store.{Machine}
+use Rattle.hd_world.proofs.Inside.{parts}
+use Rattle.hd_world.proofs.Standing.{in_heap, count-is}
+use Rattle.hd_world.proofs.store.Store.fields.Goals as goal
+
+pub fields-requires : goal.fields-requires
+fields-requires c = in_heap (parts c.self.inside) c.args.self.now c.self.view_is c.self.invariant c.args.at c.requires
+
+pub returns : goal.returns
+returns c = c.fields.ensures.count ∙ count-is (parts c.self.inside) c.args.self.now c.self.view_is c.self.invariant c.args.at c.requires

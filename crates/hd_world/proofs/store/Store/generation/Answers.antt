@@ -1,0 +1,11 @@
+use Rattle.std.proofs.Common.{◌≡◌, ◌<◌, length, None, get_or, sym, ap, ◌∙◌, subst}
+use Rattle.hd_world.specs.Store.{Machine}
+use Rattle.hd_world.proofs.Inside.{parts}
+use Rattle.hd_world.proofs.Standing.{in_heap, generation-is}
+use Rattle.hd_world.proofs.store.Store.generation.Goals as goal
+
+pub generation-requires : goal.generation-requires
+generation-requires c = in_heap (parts c.self.inside) c.args.self.now c.self.view_is c.self.invariant c.args.at c.requires
+
+pub returns : goal.returns
+returns c = c.generation.ensures.value ∙ generation-is (parts c.self.inside) c.args.self.now c.self.view_is c.self.invariant c.args.at c.requires

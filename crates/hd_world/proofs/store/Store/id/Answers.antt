@@ -1,0 +1,11 @@
+use Rattle.std.proofs.Common.{◌≡◌, ◌<◌, length, None, get_or, sym, ap, ◌∙◌, subst}
+use Rattle.hd_world.specs.Store.{Machine}
+use Rattle.hd_world.proofs.Inside.{parts}
+use Rattle.hd_world.proofs.Standing.{in_heap, identity-is}
+use Rattle.hd_world.proofs.store.Store.id.Goals as goal
+
+pub id-requires : goal.id-requires
+id-requires c = in_heap (parts c.self.inside) c.args.self.now c.self.view_is c.self.invariant c.args.at c.requires
+
+pub returns : goal.returns
+returns c = c.id.ensures.identity ∙ identity-is (parts c.self.inside) c.args.self.now c.self.view_is c.self.invariant c.args.at c.requires

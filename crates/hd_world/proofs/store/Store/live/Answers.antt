@@ -1,0 +1,10 @@
+use Rattle.std.proofs.Common.{sym, ap, ◌∙◌}
+use Rattle.std.specs.FinMap.{len}
+use Rattle.hd_world.specs.Store.{Machine}
+use Rattle.hd_world.proofs.Inside.{parts}
+use Rattle.hd_world.proofs.Counted.{len-rows}
+use Rattle.hd_world.proofs.store.Store.live.Goals as goal
+
+pub returns : goal.returns
+returns c =
+    c.live.ensures.value ∙ sym (len-rows c.self.inside.heap c.self.inside.table.rows) ∙ ap (λ (m : Machine). len m.state.handles) c.self.view_is

@@ -1,0 +1,32 @@
+use Rattle.std.proofs.Common.{rules, refl, ap, subst, ◌∙◌, ◌≡◌, ℕ, ◌+◌, ◌*◌, ◌<◌, ◌≤◌, ◌^◌, replicate, None, IfOk, ◌-◌, length, ◌/◌, ◌%◌, Bool, true, false, nat_eq, nat_lt, List, [], ◌∷◌, ◌++◌, slice_index_or, slice_set, bit_and, bit_or, Fits, w8, w32, w64, Bor, MutBor}
+use Rattle.std.specs.FinMap.{len, empty}
+use Rattle.hd_model.specs.State.{Numbers, start_of, register_of, handle_register_of, static_of, board_of, used_of, with_register, with_handle_register, with_static, with_board}
+use Rattle.hd_world.specs.Reading.{names_of}
+use Rattle.hd_world.specs.Stored.{IsStored, state_of, numbers_of}
+use Rattle.hd_world.proofs.Opened.{opened, are_opened, stored-opened, names-opened, state-opened}
+use Rattle.hd_world.proofs.store.Store.open.Goals as goal
+
+-- the parts are as they were made
+made : (c : goal.In_ok-filled-3) → opened c.args.heap c.args.blocks c.args.callers ≡ (record {
+  heap = c.in_ok-open.field-0;
+  table = c.in_ok-open-2.field-0;
+  ages = c.in_ok-open-3.field-0;
+  roots = c.in_ok-filled.field-0.items;
+  handle_registers = c.in_ok-filled-2.field-0.items;
+  board = replicate 16 None;
+  serials = c.in_ok-filled-3.field-0.items;
+})
+made c =
+    are_opened c.args.heap c.args.blocks c.args.callers _ c.in_ok-open.ensures c.in_ok-open-2.ensures c.in_ok-open-3.ensures
+    c.in_ok-filled.ensures c.in_ok-filled-2.ensures refl c.in_ok-filled-3.ensures
+
+pub invariant_of-result : goal.invariant_of-result
+invariant_of-result c =
+    subst IsStored (made c) (stored-opened c.args.heap c.args.blocks c.args.callers c.requires.heap c.requires.blocks)
+
+pub returns-clause-state : goal.returns-clause-state
+returns-clause-state c =
+    subst (λ f. state_of f ≡ start_of (numbers_of f)) (made c) (state-opened c.args.heap c.args.blocks c.args.callers)
+
+pub returns-clause-names : goal.returns-clause-names
+returns-clause-names c = ap names_of c.in_ok-open.ensures ∙ names-opened c.args.heap c.args.blocks c.args.callers

@@ -1,0 +1,19 @@
+use Rattle.std.proofs.Common.{◌≡◌, sym, ap, ◌∙◌, subst}
+use Rattle.std.specs.Prelude.{IsSome}
+use Rattle.hd_model.specs.State.{handle_at}
+use Rattle.hd_world.specs.Stored.{IsStored}
+use Rattle.hd_world.specs.Store.{Machine, machine_of}
+use Rattle.hd_world.proofs.Inside.{parts}
+use Rattle.hd_world.proofs.Rowing.{with_table, stored-end, machine-end, live-row}
+use Rattle.hd_world.proofs.store.Store.take_row.Goals as goal
+
+pub take_row-requires : goal.take_row-requires
+take_row-requires c = live-row (parts c.self.inside) c.args.self.now c.self.view_is c.args.slot c.requires
+
+pub invariant_of-self : goal.invariant_of-self
+invariant_of-self c = subst (λ t. IsStored (with_table (parts c.self.inside) t)) (sym c.take_row.ensures) (stored-end (parts c.self.inside) c.args.slot.0 c.self.invariant)
+
+pub returns : goal.returns
+returns c =
+    ap (λ t. machine_of (with_table (parts c.self.inside) t)) c.take_row.ensures
+    ∙ machine-end (parts c.self.inside) c.args.self.now c.self.view_is c.args.slot

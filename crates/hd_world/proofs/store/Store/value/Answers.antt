@@ -1,0 +1,12 @@
+use Rattle.std.proofs.Common.{◌≡◌, ◌<◌, length, None, get_or, sym, ap, ◌∙◌, subst}
+use Rattle.hd_world.specs.Store.{Machine}
+use Rattle.hd_world.proofs.Inside.{parts}
+use Rattle.hd_world.proofs.Writes.{stored-write, machine-write}
+use Rattle.hd_world.proofs.Standing.{in_heap, value-is}
+use Rattle.hd_world.proofs.store.Store.value.Goals as goal
+
+pub value-requires : goal.value-requires
+value-requires c = in_heap (parts c.self.inside) c.args.self.now c.self.view_is c.self.invariant c.args.at c.requires
+
+pub returns : goal.returns
+returns c = c.value.ensures ∙ value-is (parts c.self.inside) c.args.self.now c.self.view_is c.self.invariant c.args.at c.requires

@@ -1,0 +1,64 @@
+-- The parts of a store by address, the state of the machine that they stand for, and what is always true of them.
+use Rattle.std.specs.Prelude.{◌≡◌, ℕ, ◌+◌, ◌*◌, ◌<◌, ◌≤◌, ◌^◌, List, [], length, map, Option, option_map, IsSome}
+use Rattle.std.specs.FinMap.{get, empty, len}
+use Rattle.hd_model.specs.declared.data.Id.{Id}
+use Rattle.hd_model.specs.declared.data.Addr.{Addr}
+use Rattle.hd_model.specs.declared.data.Slot.{Slot}
+use Rattle.hd_model.specs.State.{Numbers, State}
+use Rattle.hd_model.specs.Scene.{Scene, IsWhole}
+use Rattle.hd_model.specs.Ages.{HasSoundAges, HasSoundCards}
+use Rattle.hd_model.specs.Heap.{Heap, object_at, id_at, is_carded, used_of, HasIdentities}
+use Rattle.hd_model.specs.Table.{Table, row_at}
+use Rattle.hd_world.specs.Rows.{rows_of, rest_of}
+use Rattle.hd_world.specs.Reading.{objects_by_id, rows_by_id}
+
+-- the parts of a store: the heap, the table and the ages of its clumps; what the registers of all callers and then the statics name; what the
+-- handle registers and the board have; and each caller's last serial
+pub record Parts : Type 0 where
+  pub heap : Heap
+  pub table : Table
+  pub ages : List ℕ
+  pub roots : List (Option Addr)
+  pub handle_registers : List (List (Option Slot))
+  pub board : List (Option Slot)
+  pub serials : List ℕ
+
+abbrev pub callers_of : Parts → ℕ
+callers_of f = length f.handle_registers
+
+abbrev pub numbers_of : Parts → Numbers
+numbers_of f = record { heap = f.heap.limit; blocks = f.table.blocks; callers = callers_of f }
+
+-- what a collection looks at
+abbrev pub scene_of_parts : Parts → Scene Addr
+scene_of_parts f = record { object = object_at f.heap; handle = row_at f.table; named = f.roots; queue = [] }
+
+-- the state of the machine, by identity. Nothing is queued and no place is kept yet.
+abbrev pub state_of : Parts → State
+state_of f = record {
+  objects = objects_by_id f.heap;
+  handles = rows_by_id f.heap f.table.rows;
+  registers = rows_of (callers_of f) (map (option_map (id_at f.heap)) f.roots);
+  handle_registers = f.handle_registers;
+  statics = rest_of (callers_of f) (map (option_map (id_at f.heap)) f.roots);
+  board = f.board;
+  queue = [];
+  places = empty;
+  blocks = f.table.uses;
+  serials = f.serials;
+}
+
+-- what a store keeps, which is also what a collection asks for: every name is that of an object, no two objects have one identity, ages and
+-- cards are sound, the objects take no more cells than the limit, and a block with a use is one of the table's
+pub record IsStored (f : Parts) : Type 0 where
+  pub whole : IsWhole (scene_of_parts f)
+  pub identities : HasIdentities f.heap
+  pub ages : HasSoundAges (object_at f.heap) (row_at f.table) f.ages
+  pub cards : HasSoundCards (object_at f.heap) (is_carded f.heap)
+  pub within : used_of f.heap ≤ f.heap.limit
+  pub limit : f.heap.limit ≤ 1000000
+  pub roots : 16 * callers_of f + 16 ≡ length f.roots
+  pub serials : length f.serials ≡ callers_of f
+  pub clumps : 4 * f.table.blocks ≡ length f.ages
+  pub blocks : f.table.blocks ≤ 256
+  pub uses : (block : ℕ) → IsSome (get f.table.uses block) → (1 ≤ block) × (block ≤ f.table.blocks)

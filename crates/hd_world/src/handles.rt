@@ -1,0 +1,114 @@
+// What a store does with rows, blocks and ages.
+ghost use Rattle.std.specs.Prelude.{◌≡◌, ℕ, ◌+◌, ◌*◌, ◌/◌, ◌<◌, ◌≤◌, false};
+ghost use Rattle.std.specs.Prelude.{Some, None, IsSome, IfOk, IfErr, OnOk, OnErr, OnSome, IfSome, option_map};
+ghost use Rattle.hd_model.specs.State.{handle_at, use_of, given_of, without_handle, without_use};
+ghost use Rattle.hd_model.specs.State.{with_handle, block_of, IsFree, IsAllFree};
+ghost use Rattle.hd_model.specs.Kinds.{is_paired};
+ghost use Rattle.hd_model.specs.Step.{blocks_needed, with_growth};
+ghost use Rattle.hd_model.specs.Ages.{lowered};
+ghost use Rattle.hd_world.specs.Handles.{handle_named, MayStand};
+ghost use Rattle.hd_world.specs.Growth.{GrowsBy, kind_in_use};
+
+use crate::store::Store;
+use hd_model::{Grown, Kind, Slot};
+use hd_seg::{BlockKind, Full, Row};
+
+/// A live handle: its kind and its row.
+#[derive(Clone, Copy)]
+pub(crate) struct Live {
+    pub(crate) kind: Kind,
+    pub(crate) row: Row,
+}
+
+impl Store {
+    /// The kind of the block of a slot, if it has handles. The slot may be any number.
+    pub(crate) fn kind_of(&self, slot: Slot) -> Option<Kind>
+        ensures { result ≡ kind_in_use (use_of self.now.state (block_of slot)) }
+    {
+        let block = slot.0 / 64;
+        if block == 0 || block > self.ages.blocks() {
+            return None;
+        }
+        match self.table.block_kind(block) {
+            BlockKind::Rows(kind) => Some(kind),
+            BlockKind::Unused | BlockKind::Extras => None,
+        }
+    }
+
+    /// The handle in a slot, if the slot is live.
+    pub(crate) fn handle(&self, slot: Slot) -> Option<Live>
+        ensures value { let named = option_map (λ live. handle_named self.now live.kind live.row) result in
+            handle_at self.now.state slot ≡ named }
+        ensures may { IfSome result (λ live. MayStand self.now slot live.kind live.row) }
+        ensures within { OnSome result
+            ((1 ≤ block_of slot) × (block_of slot ≤ self.now.numbers.blocks)) }
+    {
+        let row = self.table.row(slot)?;
+        let kind = self.kind_of(slot)?;
+        Some(Live { kind, row })
+    }
+
+    /// The age of a slot's clump is lowered to `g`, where it was above.
+    pub(crate) fn lower_age(&mut self, slot: Slot, g: u8)
+        requires low { 1 ≤ block_of slot }
+        requires high { block_of slot ≤ self.old.numbers.blocks }
+        ensures { self.new ≡ record self.old { ages = lowered self.old.ages slot.0 g } }
+    {
+        self.ages.lower(slot.0 / 64, slot.0 / 16 % 4, g);
+    }
+
+    /// Puts a row into a free slot.
+    pub(crate) fn put_row(&mut self, slot: Slot, kind: Kind, row: Row)
+        requires free { IsFree self.old.state kind slot }
+        requires may { MayStand self.old slot kind row }
+        ensures { let after = with_handle self.old.state slot (handle_named self.old kind row) in
+            self.new ≡ record self.old { state = after } }
+    {
+        self.table.put_row(slot, row);
+    }
+
+    /// Puts another row into a live slot.
+    pub(crate) fn set_row(&mut self, slot: Slot, kind: Kind, row: Row)
+        requires live { option_map (λ handle. handle.kind) (handle_at self.old.state slot) ≡ Some kind }
+        requires may { MayStand self.old slot kind row }
+        ensures { let after = with_handle self.old.state slot (handle_named self.old kind row) in
+            self.new ≡ record self.old { state = after } }
+    {
+        self.table.set_row(slot, row.target);
+        self.table.set_extra(slot, row.extra);
+    }
+
+    /// A live slot has no handle any more.
+    pub(crate) fn take_row(&mut self, slot: Slot)
+        requires { IsSome (handle_at self.old.state slot) }
+        ensures { self.new ≡ record self.old { state = without_handle self.old.state slot } }
+    {
+        self.table.take_row(slot);
+    }
+
+    /// Brings the least unused block into use for a kind, with the next one for its extra data where
+    /// it has some. After a refusal nothing is changed.
+    pub(crate) fn grow(&mut self, kind: Kind) -> Result<Grown, Full>
+        ensures grown { IfOk result (GrowsBy self.old.numbers self.old.state kind) }
+        ensures after { IfOk result (λ grown.
+            self.new ≡ record self.old { state = with_growth self.old.state kind grown }) }
+        ensures room { OnOk result
+            (given_of self.old.state + blocks_needed kind ≤ self.old.numbers.blocks) }
+        ensures full { OnErr result
+            (self.old.numbers.blocks < given_of self.old.state + blocks_needed kind) }
+        ensures given { IfErr result (λ full. full.given ≡ given_of self.old.state) }
+        ensures kept { OnErr result (self.new ≡ self.old) }
+        ensures few { self.old.numbers.blocks ≤ 256 }
+    {
+        self.table.give_block(kind)
+    }
+
+    /// A block without live slots has no use any more.
+    pub(crate) fn take_back(&mut self, kind: Kind, block: u32)
+        requires single { is_paired kind ≡ false }
+        requires free { IsAllFree self.old.state kind block }
+        ensures { self.new ≡ record self.old { state = without_use self.old.state block } }
+    {
+        self.table.take_back(block);
+    }
+}

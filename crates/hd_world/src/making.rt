@@ -1,0 +1,174 @@
+// `hnew` and `trim`: handles are made, and blocks come into use and go out of it.
+ghost use Rattle.std.specs.Prelude.{◌≡◌, ℕ, ◌+◌, ◌*◌, ◌<◌, ◌≤◌, Some, None, false};
+ghost use Rattle.std.specs.Prelude.{IfOk, IfErr, IfSome, OnErr, OnSome};
+ghost use Rattle.hd_model.specs.declared.command.Cmd.TheVariants as cmds;
+ghost use Rattle.hd_model.specs.Kinds.{kind_of, is_paired};
+ghost use Rattle.hd_model.specs.State.{given_of, block_of, first_slot, IsFree, IsAllFree};
+ghost use Rattle.hd_model.specs.Step.{blocks_needed, StepOf};
+ghost use Rattle.hd_model.specs.Valid.{IsValidMake};
+ghost use Rattle.hd_model.specs.WellFormed.{HasHandles};
+ghost use Rattle.hd_model.specs.Aging.{aged_by, lowered_by_new};
+ghost use Rattle.hd_world.specs.Reading.{named_in, IsNamed};
+ghost use Rattle.hd_world.specs.Making.{IsPlace, IsMadeRow};
+ghost use Rattle.hd_world.specs.World.{GrowsUnoffered, IsOffer, Takes};
+ghost use Rattle.std.specs.Option.{ForSome};
+
+use crate::on_handles::lower_to;
+use crate::order::Order;
+use crate::store::Store;
+use hd_model::{Addr, Entry, Grown, Kind, Make, Refusal, Reply, Slot};
+use hd_seg::{Extra, Full, Row};
+
+/// The first slot of a block.
+fn first_slot(block: u32) -> Slot
+    requires { block ≤ 256 }
+    ensures { result ≡ first_slot block }
+{
+    Slot(block * 64)
+}
+
+/// The first slot of a new block. Where there is no block left, nothing is changed.
+fn new_place(store: &mut Store, kind: Kind) -> Result<(Slot, Grown), Full>
+    requires handles { HasHandles store.old.numbers store.old.state }
+    ensures place { IfOk result (λ place. IsPlace store.old store.new kind None place.0 place.1) }
+    ensures given { IfErr result (λ full. full.given ≡ given_of store.old.state) }
+    ensures full { OnErr result
+        (store.old.numbers.blocks < given_of store.old.state + blocks_needed kind) }
+    ensures kept { OnErr result (store.new ≡ store.old) }
+{
+    match store.grow(kind) {
+        Ok(Grown::One(block)) => Ok((first_slot(block), Grown::One(block))),
+        Ok(Grown::Two(block, extras)) => Ok((first_slot(block), Grown::Two(block, extras))),
+        Ok(Grown::Zero | Grown::Back(_)) => unreachable!(),
+        Err(full) => Err(full),
+    }
+}
+
+/// Where a new handle is to stand: in the offered slot or, without one, in the first slot of a new
+/// block.
+fn place(store: &mut Store, kind: Kind, offer: Option<Slot>) -> Result<(Slot, Grown), Full>
+    requires handles { HasHandles store.old.numbers store.old.state }
+    requires offer { IfSome offer (IsFree store.old.state kind) }
+    ensures place { IfOk result (λ place.
+        IsPlace store.old store.new kind offer place.0 place.1) }
+    ensures given { IfErr result (λ full. full.given ≡ given_of store.old.state) }
+    ensures full { OnErr result
+        (store.old.numbers.blocks < given_of store.old.state + blocks_needed kind) }
+    ensures unoffered { OnErr result (offer ≡ None) }
+    ensures kept { OnErr result (store.new ≡ store.old) }
+{
+    match offer {
+        Some(slot) => Ok((slot, Grown::Zero)),
+        None => new_place(store, kind),
+    }
+}
+
+/// What a made handle has beside its target. Without a target a dependent handle has no secondary
+/// either.
+fn made_row(store: &Store, caller: u32, make: Make, t: u8) -> Row
+    requires caller { caller < store.now.numbers.callers }
+    requires register { t < 16 }
+    requires make { IsValidMake make }
+    ensures { IsMadeRow store.now caller make t result }
+{
+    let target = store.register(caller, t);
+    let extra = match make {
+        Make::Short | Make::Long | Make::Strong | Make::Pinned => Extra::Nothing,
+        Make::Variable(strength) => Extra::Strength(strength),
+        Make::Counted => Extra::Count(1),
+        Make::Dependent(r) => {
+            let secondary = store.register(caller, r);
+            Extra::Secondary(target.and(secondary))
+        }
+    };
+    Row { target, extra }
+}
+
+/// Lowers the age of a slot's clump for a handle that is made there. A dependent one, which may get
+/// any secondary, makes it 0.
+fn lower_for(store: &mut Store, slot: Slot, make: Make, target: Option<Addr>)
+    requires low { 1 ≤ block_of slot }
+    requires high { block_of slot ≤ store.old.numbers.blocks }
+    requires named { IsNamed store.old.names target }
+    ensures { let named = named_in store.old.names target in
+        let ages = lowered_by_new store.old.state store.old.ages (Some slot) make named in
+        store.new ≡ record store.old { ages = ages } }
+{
+    match make {
+        Make::Short
+        | Make::Long
+        | Make::Strong
+        | Make::Pinned
+        | Make::Variable(_)
+        | Make::Counted => lower_to(store, slot, target),
+        Make::Dependent(_) => store.lower_age(slot, 0),
+    }
+}
+
+/// `hnew hD KIND rT ..`: takes the offered slot or, without one, the first slot of a new block.
+pub(crate) fn new_handle(
+    store: &mut Store,
+    order: Order,
+    d: u8,
+    make: Make,
+    t: u8,
+    offer: Option<Slot>,
+) -> Entry
+    requires handles { HasHandles store.old.numbers store.old.state }
+    requires command { order.cmd ≡ cmds.HNew d make t }
+    requires caller { order.caller < store.old.numbers.callers }
+    requires registers { (d < 16) × (t < 16) }
+    requires make { IsValidMake make }
+    requires offer { IfSome offer (IsFree store.old.state (kind_of make)) }
+    ensures caller { result.caller ≡ order.caller }
+    ensures command { result.cmd ≡ order.cmd }
+    ensures step { let cmd = cmds.HNew d make t in
+        StepOf store.old.numbers store.old.state result store.new.state cmd }
+    ensures numbers { store.new.numbers ≡ store.old.numbers }
+    ensures ages { store.new.ages ≡ aged_by store.old.state result store.old.ages }
+    ensures offer { let cmd = cmds.HNew d make t in
+        ForSome offer (Takes result cmd) }
+    ensures growth { let cmd = cmds.HNew d make t in
+        GrowsUnoffered store.old.numbers store.old.state cmd offer result }
+{
+    let row = made_row(store, order.caller, make, t);
+    let (slot, grown) = match place(store, make.kind(), offer) {
+        Ok(place) => place,
+        Err(full) => return order.refuse(Refusal::TableFull { given: full.given }),
+    };
+    lower_for(store, slot, make, row.target);
+    store.put_row(slot, make.kind(), row);
+    store.set_handle_register(order.caller, d, Some(slot));
+    Entry {
+        slot: Some(slot),
+        grown,
+        ..order.reply(Reply::Done)
+    }
+}
+
+/// `trim KIND`: gives back the block of the offered slot or, without one, none.
+pub(crate) fn trim(store: &mut Store, order: Order, kind: Kind, offer: Option<Slot>) -> Entry
+    requires command { order.cmd ≡ cmds.Trim kind }
+    requires single { is_paired kind ≡ false }
+    requires offer { IsOffer store.old.state (cmds.Trim kind) offer }
+    ensures caller { result.caller ≡ order.caller }
+    ensures command { result.cmd ≡ order.cmd }
+    ensures step { let cmd = cmds.Trim kind in
+        StepOf store.old.numbers store.old.state result store.new.state cmd }
+    ensures numbers { store.new.numbers ≡ store.old.numbers }
+    ensures ages { store.new.ages ≡ aged_by store.old.state result store.old.ages }
+    ensures offer { let cmd = cmds.Trim kind in
+        ForSome offer (Takes result cmd) }
+    ensures growth { let cmd = cmds.Trim kind in
+        GrowsUnoffered store.old.numbers store.old.state cmd offer result }
+{
+    let Some(slot) = offer else {
+        return order.reply(Reply::Value(0));
+    };
+    let block = slot.0 / 64;
+    store.take_back(kind, block);
+    Entry {
+        grown: Grown::Back(block),
+        ..order.reply(Reply::Value(1))
+    }
+}
