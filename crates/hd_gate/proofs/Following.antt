@@ -1,0 +1,540 @@
+-- Over every step the pool after it is tied to the state after it.
+use Rattle.std.proofs.Common.{◌≡◌, ◌≢◌, ◌⊎◌, ◌↔◌, ℕ, ◌+◌, ◌<◌, Bool, true, false, ◌&&◌, Option, Some, None, inl, inr, refl, sym, ap, ◌∙◌, subst, arith}
+use Rattle.std.specs.Prelude.{is_some, is_none, option_map, IfSome}
+use Rattle.std.specs.Option.{ForSome}
+use Rattle.std.specs.FinMap as map
+use Rattle.std.specs.FinMap.{get}
+use Rattle.std.specs.FinSet as set
+use Rattle.std.specs.FinSet.{contains}
+use Rattle.std.proofs.lemmas.Bool.{cases_eq, and_right}
+use Rattle.hd_model.specs.declared.data.Id.{Id}
+use Rattle.hd_model.specs.declared.data.Entry.{Entry}
+use Rattle.hd_model.specs.declared.data.Grown.{Grown}
+use Rattle.hd_model.specs.declared.data.Grown.TheVariants.{Zero, One, Two, Back}
+use Rattle.hd_model.specs.declared.data.Kind.{Kind}
+use Rattle.hd_model.specs.declared.data.Make.{Make}
+use Rattle.hd_model.specs.declared.data.Slot.{Slot}
+use Rattle.hd_model.specs.declared.data.Refusal.{Refusal}
+use Rattle.hd_model.specs.declared.data.Refusal.TheVariants as refusal
+use Rattle.hd_model.specs.declared.data.Reply.TheVariants as reply
+use Rattle.hd_model.specs.declared.command.Cmd.{Cmd}
+use Rattle.hd_model.specs.declared.command.Cmd.TheVariants as cmd
+use Rattle.hd_model.specs.State.{Numbers, State, Handle, handles_of, extra_data, use_of, handle_at, block_of, first_slot, given_of, with_handle_register, without_handle, without_use}
+use Rattle.hd_model.specs.Kinds.{kind_of}
+use Rattle.hd_model.specs.Command.{refuses, made_handle, free_handle}
+use Rattle.hd_model.specs.Step.{IsOutcome, IsLeastUnused, MayGive, with_made, MakesHandle, blocks_needed, StepOf, Step}
+use Rattle.hd_model.specs.Run.{NoneFree, NoneAllFree, TakesLeast}
+use Rattle.hd_model.proofs.Effects.{Effect, refused, makes_object, sets_field, gets_field, sets_value, reads_value, copies, clears, puts_static, gets_static, reads_generation, suppresses, reregisters, finds_none, takes_first, collects, makes_handle, gets_target, sets_target, sets_secondary, gets_secondary, sets_strength, raises_count, lowers_count, frees_handle, puts_board, picks_board, answers_place, gives_back, gives_none, effect}
+use Rattle.hd_model.proofs.Outcomes.{on_handle_cases}
+use Rattle.hd_model.proofs.Written.{get_inserted, get_beside, get_removed, get_left, write_cases}
+use Rattle.hd_model.proofs.WellFormed.{step_keeps}
+use Rattle.hd_pool.specs.Pool.{FreeSlots, slots_of, IsFreeFor, IsLeastFreeFor, HasNoneFor, IsLeastWholeOf}
+use Rattle.hd_pool.proofs.Sets.{insert_same, insert_other, remove_same, remove_other, union_same, union_other, difference_same, difference_other}
+use Rattle.hd_world.specs.World.{IsOffer, GrowsUnoffered, Takes as TakesOffer}
+use Rattle.hd_gate.specs.declared.change.Change.{Change}
+use Rattle.hd_gate.specs.declared.change.Change.TheVariants.{Takes, Frees, GivesBack as Gives, Keeps}
+use Rattle.hd_gate.specs.Change.{change_of, Offers, grown_by, without_block, noted, MayGrow, MayNote}
+use Rattle.hd_gate.specs.Tied.{kind_in_use, kind_of_block, is_free, IsTied}
+use Rattle.hd_gate.proofs.Tying.{in_pool, in_state, least_in_state, none_in_state, whole_in_state, least_whole_in_state, none_whole_in_state, live_not_free, live_added, unused_not_live}
+
+same_slot : (a b : Slot) → a.0 ≡ b.0 → a ≡ b
+same_slot a b e i = record { 0 = e i }
+
+Some-injective : {A : Type 0} (a b : A) → Some a ≡ Some b → a ≡ b
+Some-injective a b e = cc
+
+kept : {A : Type 0} (f : A → A) (o : Option A) → is_none (option_map f o) ≡ is_none o
+kept f None = refl
+kept f (Some x) = refl
+
+zero_is_not_one : reply.Value 0 ≡ reply.Value 1 → ⊥
+zero_is_not_one e = let numbers : ◌≡◌ {A = ℕ} 0 1 = cc in absurd (omega (arith, numbers))
+
+module _ (n : Numbers) (s : State) (p : FreeSlots) (tied : IsTied n s p) (e : Entry) (t : State)
+    (step : Step n s e t) where
+  well : Rattle.hd_model.specs.WellFormed.IsWellFormed n t
+  well = step_keeps n s t e tied.well_formed step
+
+  -- a state with handles in the same slots, and the same uses of blocks
+  stays : (u : State) → ((slot : ℕ) → is_none (get u.handles slot) ≡ is_none (get s.handles slot)) → u.blocks
+      ≡ s.blocks → u ≡ t → IsTied n t p
+  stays u slots blocks is = record {
+    blocks = tied.blocks;
+    kinds = λ block. tied.kinds block ∙ sym (ap (λ m. kind_in_use (get m block)) blocks) ∙ ap
+        (λ (x : State). kind_of_block x block) is;
+    free = λ slot. tied.free slot
+        ∙ sym (λ i. slots slot.0 i && is_some (kind_in_use (get (blocks i) (block_of slot))))
+        ∙ ap (λ (x : State). is_free x slot) is;
+    well_formed = well;
+  }
+
+  -- one handle is replaced by another
+  replaced : (slot : ℕ) (old new : Handle Id) → get s.handles slot ≡ Some old → (q : ℕ) → is_none
+      (get (map.insert s.handles slot new) q) ≡ is_none (get s.handles q)
+  replaced slot old new live q =
+      write_cases s.handles slot (λ o. is_none o ≡ is_none (get s.handles q)) new q
+      (λ same. sym (ap is_none (ap (get s.handles) same ∙ live))) refl
+
+  abbrev Keeping : Cmd → Type 0
+  Keeping c = change_of c ≡ Keeps
+
+  by_other : (c : Cmd) (u : State) → Effect n s e c u → Keeping c → u ≡ t → IsTied n t p
+  by_other c u (refused replies) keeps is = stays u (λ _. refl) refl is
+  by_other c u (makes_object small replies) keeps is = stays u (λ _. refl) refl is
+  by_other c u (sets_field id names within replies) keeps is = stays u (λ _. refl) refl is
+  by_other c u (gets_field id names within replies) keeps is = stays u (λ _. refl) refl is
+  by_other c u (sets_value id names replies) keeps is = stays u (λ _. refl) refl is
+  by_other c u (reads_value id names replies) keeps is = stays u (λ _. refl) refl is
+  by_other c u (copies replies) keeps is = stays u (λ _. refl) refl is
+  by_other c u (clears replies) keeps is = stays u (λ _. refl) refl is
+  by_other c u (puts_static replies) keeps is = stays u (λ _. refl) refl is
+  by_other c u (gets_static replies) keeps is = stays u (λ _. refl) refl is
+  by_other c u (reads_generation id names replies) keeps is = stays u (λ _. refl) refl is
+  by_other c u (suppresses id names replies) keeps is = stays u (λ _. refl) refl is
+  by_other c u (reregisters id names replies) keeps is = stays u (λ _. refl) refl is
+  by_other c u (finds_none replies) keeps is = stays u (λ _. refl) refl is
+  by_other c u (takes_first id rest queued replies) keeps is = stays u (λ _. refl) refl is
+  by_other c u (collects did) keeps is =
+      stays u (λ slot. ap is_none (did.collects.scene.handles slot) ∙ kept _ (get s.handles slot))
+      did.collects.blocks is
+  by_other c u (makes_handle slot given may replies) keeps is = cc
+  by_other c u (gets_target slot handle finds replies) keeps is = stays u (λ _. refl) refl is
+  by_other c u (sets_target slot handle finds replies) keeps is = stays u
+      (replaced slot.0 handle _ finds.live) refl is
+  by_other c u (sets_secondary slot handle finds same some replies) keeps is = stays u
+      (replaced slot.0 handle _ finds.live) refl is
+  by_other c u (gets_secondary slot handle finds replies) keeps is = stays u (λ _. refl) refl is
+  by_other c u (sets_strength slot handle finds same replies) keeps is = stays u
+      (replaced slot.0 handle _ finds.live) refl is
+  by_other c u (raises_count slot handle finds same replies) keeps is = stays u
+      (replaced slot.0 handle _ finds.live) refl is
+  by_other c u (lowers_count slot handle finds same replies) keeps is = stays u
+      (replaced slot.0 handle _ finds.live) refl is
+  by_other c u (frees_handle slot handle finds replies freed) keeps is = cc
+  by_other c u (puts_board replies) keeps is = stays u (λ _. refl) refl is
+  by_other c u (picks_board replies) keeps is = stays u (λ _. refl) refl is
+  by_other c u (answers_place slot handle id place finds target may replies) keeps is = stays u (λ _. refl)
+      refl is
+  by_other c u (gives_back block free replies) keeps is = cc
+  by_other c u (gives_none replies) keeps is = cc
+
+  -- what is true of the pool after a step: the entry may be noted, and the pool is then tied to the state
+  -- after it
+  abbrev Follows : FreeSlots → Change → Option Slot → Grown → Type 0
+  Follows q change slot grown = MayNote q change slot grown × IsTied n t (noted q change slot grown)
+
+  -- ---- `hnew`
+
+  module _ (kind : Kind) (handle : Handle Id) (slot : Slot) where
+    -- a handle was made in a slot that was free
+    made_free : (q : FreeSlots) → q ≡ record p { free = set.remove p.free slot.0 } → (u : State)
+        → u.handles ≡ map.insert s.handles slot.0 handle → u.blocks ≡ s.blocks → u ≡ t → IsTied n t q
+    made_free q q_is u handles blocks is = subst (IsTied n t) (sym q_is) (record {
+      blocks = tied.blocks;
+      kinds = λ block. tied.kinds block ∙ sym (ap (λ m. kind_in_use (get m block)) blocks) ∙ ap
+          (λ (x : State). kind_of_block x block) is;
+      free = λ other. at other (cases_eq other.0 slot.0)
+          ∙ sym (λ i. is_none (get (handles i) other.0) && is_some
+          (kind_in_use (get (blocks i) (block_of other))))
+          ∙ ap (λ (x : State). is_free x other) is;
+      well_formed = well;
+    })
+      where
+        at : (other : Slot) → (other.0 ≡ slot.0) ⊎ (other.0 ≢ slot.0)
+            → contains (set.remove p.free slot.0) other.0 ≡
+            (is_none (get (map.insert s.handles slot.0 handle) other.0) && is_some
+            (kind_of_block s (block_of other)))
+        at other (inl same) =
+            remove_same p.free slot.0 other.0 same
+            ∙ sym (ap (λ o. is_none o && is_some (kind_of_block s (block_of other)))
+            (ap (get (map.insert s.handles slot.0 handle)) same ∙ get_inserted s.handles slot.0 handle))
+        at other (inr apart) =
+            remove_other p.free slot.0 other.0 apart ∙ tied.free other
+            ∙ sym (ap (λ o. is_none o && is_some (kind_of_block s (block_of other)))
+            (get_beside s.handles slot.0 handle other.0 apart))
+
+    -- a handle was made in the first slot of a block by which the table grew
+    module _ (block : ℕ) (unused : use_of s block ≡ None) (first : slot ≡ first_slot block) (u : State)
+        (handles : u.handles ≡ map.insert s.handles slot.0 handle)
+        (has : use_of u block ≡ Some (handles_of kind))
+        (others : (other : ℕ) → other ≢ block → kind_of_block u other ≡ kind_of_block s other) (is : u ≡ t)
+      where
+        made_grown : IsTied n t (grown_by p kind block)
+        made_grown = record {
+          blocks = tied.blocks;
+          kinds = λ other. kind_at other (cases_eq other block)
+              ∙ ap (λ (x : State). kind_of_block x other) is;
+          free = λ other. at other (cases_eq other.0 (first_slot block).0) (cases_eq (block_of other) block) ∙
+              ap (λ (x : State). is_free x other) is;
+          well_formed = well;
+        }
+          where
+            place : slot.0 ≡ (first_slot block).0
+            place = ap (λ (x : Slot). x.0) first
+
+            kind_at : (other : ℕ) → (other ≡ block) ⊎ (other ≢ block) → get (map.insert p.kinds block kind)
+                other ≡ kind_of_block u other
+            kind_at other (inl same) =
+                ap (get (map.insert p.kinds block kind)) same ∙ get_inserted p.kinds block kind ∙ sym
+                (ap kind_in_use (ap (use_of u) same ∙ has))
+            kind_at other (inr apart) = get_beside p.kinds block kind other apart ∙ tied.kinds other ∙ sym
+                (others other apart)
+
+            free_in : (x : Slot) (a b : Bool) → is_none (get (map.insert s.handles slot.0 handle) x.0) ≡ a →
+                is_some (kind_of_block u (block_of x)) ≡ b → (a && b) ≡ is_free u x
+            free_in x a b a_is b_is = sym (λ i. (ap (λ h. is_none (get h x.0)) handles ∙ a_is) i && b_is i)
+
+            at : (other : Slot) → (other.0 ≡ (first_slot block).0) ⊎ (other.0 ≢ (first_slot block).0) →
+                (block_of other ≡ block) ⊎ (block_of other ≢ block)
+                → contains (set.remove (set.union p.free (slots_of block)) (first_slot block).0) other.0 ≡
+                is_free u other
+            at other (inl same) _ =
+                remove_same (set.union p.free (slots_of block)) (first_slot block).0 other.0 same
+                ∙ free_in other false _ (ap is_none (ap (get (map.insert s.handles slot.0 handle))
+                (same ∙ sym place) ∙ get_inserted s.handles slot.0 handle)) refl
+            at other (inr apart) (inl here) =
+                remove_other (set.union p.free (slots_of block)) (first_slot block).0 other.0 apart
+                ∙ union_same block other.0 p.free here
+                ∙ free_in other true true
+                (ap is_none (get_beside s.handles slot.0 handle other.0 (λ e'. apart (e' ∙ place)) ∙
+                unused_not_live n s p tied block unused other here))
+                (ap (λ k. is_some (kind_in_use k)) (ap (use_of u) here ∙ has))
+            at other (inr apart) (inr away) =
+                remove_other (set.union p.free (slots_of block)) (first_slot block).0 other.0 apart
+                ∙ union_other block other.0 p.free away
+                ∙ tied.free other
+                ∙ free_in other (is_none (get s.handles other.0)) (is_some (kind_of_block s (block_of other)))
+                (ap is_none (get_beside s.handles slot.0 handle other.0 (λ e'. apart (e' ∙ place))))
+                (ap is_some (others (block_of other) away))
+
+  may_grow : (kind : Kind) (block : ℕ) → HasNoneFor p kind → IsLeastUnused n s 1 block → MayGrow p kind block
+  may_grow kind block none least = record {
+    low = least.low;
+    high = omega (arith, least.high, tied.blocks);
+    new = tied.kinds block ∙ ap kind_in_use least.unused;
+    none = none;
+  }
+
+  -- no slot was offered, since none is free
+  module _ (d : ℕ) (make : Make) (r : ℕ) (none : HasNoneFor p (kind_of make)) where
+    by_growth : (m : MakesHandle n s e t d make r) (grown : Grown) → e.grown ≡ grown → MayGive n s
+        (kind_of make) grown m.slot
+        → t ≡ with_made s e.caller grown d make r m.slot → Follows p (Takes (kind_of make)) e.slot grown
+    by_growth m Zero grown_is may after = absurd (none m.slot (in_pool n s p tied (kind_of make) m.slot may))
+    by_growth m (One block) grown_is may after =
+        let u = with_made s e.caller (One block) d make r m.slot in (
+          may_grow (kind_of make) block none may.1,
+          made_grown (kind_of make) (made_handle s e.caller make r) m.slot block may.1.unused may.2 u refl
+              (get_inserted s.blocks block (handles_of (kind_of make)))
+              (λ other apart. ap kind_in_use (get_beside s.blocks block (handles_of (kind_of make)) other
+              apart)) (sym after),
+        )
+    by_growth m (Two block data_block) grown_is may after =
+        let u = with_made s e.caller (Two block data_block) d make r m.slot in
+        let mid = map.insert s.blocks block (handles_of (kind_of make)) in
+        let apart_blocks : block ≢ data_block = λ same. absurd (omega (arith, same, may.2.low)) in (
+          may_grow (kind_of make) block none may.1,
+          made_grown (kind_of make) (made_handle s e.caller make r) m.slot block may.1.unused may.3 u refl
+              (get_beside mid data_block extra_data block apart_blocks ∙ get_inserted s.blocks block
+              (handles_of (kind_of make)))
+              (λ other apart. elim (cases_eq other data_block) [
+                | inl same ↦ ap kind_in_use (ap (get (map.insert mid data_block extra_data)) same ∙
+                    get_inserted mid data_block extra_data)
+                    ∙ sym (ap kind_in_use (ap (use_of s) same ∙ may.2.unused))
+                | inr away ↦ ap kind_in_use (get_beside mid data_block extra_data other away ∙ get_beside
+                    s.blocks block (handles_of (kind_of make)) other apart)
+              ]) (sym after),
+        )
+    by_growth m (Back block) grown_is may after = absurd may
+
+  by_new : (d : ℕ) (make : Make) (r : ℕ) (q : FreeSlots) (o : Option Slot) → Offers p q (Takes (kind_of make))
+      o
+      → ForSome o (TakesOffer e (cmd.HNew d make r)) → StepOf n s e t (cmd.HNew d make r) → Follows q
+      (Takes (kind_of make)) e.slot e.grown
+  by_new d make r q None offers taken (inl m) =
+      subst (λ x. Follows x (Takes (kind_of make)) e.slot e.grown) (sym offers.1)
+      (by_growth d make r offers.0 m e.grown refl m.may m.after)
+  by_new d make r q None offers taken (inr full) =
+      let grown = full.refused.grown in
+      subst (λ x. Follows x (Takes (kind_of make)) e.slot e.grown) (sym offers.1)
+      (subst (Follows p (Takes (kind_of make)) e.slot) (sym grown)
+      (tt, stays s (λ _. refl) refl (sym full.refused.after)))
+  by_new d make r q (Some slot) offers taken (inl m) =
+      let takes = taken slot refl in
+      let same : m.slot ≡ slot = Some-injective m.slot slot (sym m.given ∙ takes.0) in
+      let after : t ≡ with_made s e.caller Zero d make r slot = m.after ∙
+      (λ i. with_made s e.caller (takes.1 i) d make r (same i)) in
+      let u = with_made s e.caller Zero d make r slot in
+      subst (Follows q (Takes (kind_of make)) e.slot) (sym takes.1)
+      (tt, made_free (kind_of make) (made_handle s e.caller make r) slot q offers.1 u refl refl (sym after))
+  by_new d make r q (Some slot) offers taken (inr full) =
+      let takes = taken slot refl in
+      let clash = sym takes.2 ∙ full.refused.reply in
+      cc
+
+  -- ---- `hfree`
+
+  by_freed : (h : ℕ) → IsOutcome e (free_handle s e.caller h) t → Follows p Frees e.slot e.grown
+  by_freed h o =
+      on_handle_cases (λ r. IsOutcome e r t → Follows p Frees e.slot e.grown) s e.caller h _
+      (λ _. nothing) (λ _ _ _. nothing) (λ slot handle _ live. freed slot handle live) o
+    where
+      nothing : {r : Refusal} → IsOutcome e (refuses r s) t → Follows p Frees e.slot e.grown
+      nothing o = subst (λ x. Follows p Frees x e.grown) (sym o.slot)
+          (tt, stays s (λ _. refl) refl (sym o.after))
+
+      freed : (slot : Slot) (handle : Handle Id) → handle_at s slot ≡ Some handle
+          → IsOutcome e (record {
+            reply = reply.Done;
+            slot = Some slot;
+            after = with_handle_register
+                (without_handle s slot) e.caller h None;
+          }) t
+          → Follows p Frees e.slot e.grown
+      freed slot handle live o = subst (λ x. Follows p Frees x e.grown) (sym o.slot) (
+        record {
+          added = ap is_some (live_added n s p tied slot handle live);
+          taken = live_not_free n s p tied
+              slot handle live;
+        },
+        record {
+          blocks = tied.blocks;
+          kinds = λ block. tied.kinds block ∙ ap (λ (x : State). kind_of_block x block) (sym o.after);
+          free = λ other. at other (cases_eq other.0 slot.0) ∙ ap (λ (x : State). is_free x other)
+              (sym o.after);
+          well_formed = well;
+        },
+      )
+        where
+          used : is_some (kind_of_block s (block_of slot)) ≡ true
+          used = ap is_some (sym (tied.kinds (block_of slot)) ∙ live_added n s p tied slot handle live)
+
+          at : (other : Slot) → (other.0 ≡ slot.0) ⊎ (other.0 ≢ slot.0)
+              → contains (set.insert p.free slot.0) other.0 ≡
+              (is_none (get (map.remove s.handles slot.0) other.0) && is_some
+              (kind_of_block s (block_of other)))
+          at other (inl same) =
+              insert_same p.free slot.0 other.0 same
+              ∙ sym (λ i. is_none ((ap (get (map.remove s.handles slot.0)) same ∙ get_removed s.handles
+              slot.0) i)
+              && (ap (λ (x : Slot). is_some (kind_of_block s (block_of x))) (same_slot other slot same) ∙
+              used) i)
+          at other (inr apart) =
+              insert_other p.free slot.0 other.0 apart ∙ tied.free other
+              ∙ sym (ap (λ o. is_none o && is_some (kind_of_block s (block_of other)))
+              (get_left s.handles slot.0 other.0 apart))
+
+  -- ---- `trim`
+
+  dropped : (kind : Kind) (block : ℕ) → IsLeastWholeOf p kind block → t ≡ without_use s block → IsTied n t
+      (without_block p block)
+  dropped kind block least after = record {
+    blocks = tied.blocks;
+    kinds = λ other. kind_at other (cases_eq other block) ∙ ap (λ (x : State). kind_of_block x other)
+        (sym after);
+    free = λ other. at other (cases_eq (block_of other) block) ∙ ap (λ (x : State). is_free x other)
+        (sym after);
+    well_formed = well;
+  }
+    where
+      kind_at : (other : ℕ) → (other ≡ block) ⊎ (other ≢ block) → get (map.remove p.kinds block) other ≡
+          kind_in_use (get (map.remove s.blocks block) other)
+      kind_at other (inl same) =
+          ap (get (map.remove p.kinds block)) same ∙ get_removed p.kinds block
+          ∙ sym (ap kind_in_use (ap (get (map.remove s.blocks block)) same ∙ get_removed s.blocks block))
+      kind_at other (inr apart) = get_left p.kinds block other apart ∙ tied.kinds other ∙ sym
+          (ap kind_in_use (get_left s.blocks block other apart))
+
+      at : (other : Slot) → (block_of other ≡ block) ⊎ (block_of other ≢ block) → contains
+          (set.difference p.free (slots_of block)) other.0 ≡ is_free (without_use s block) other
+      at other (inl here) =
+          difference_same block other.0 p.free here
+          ∙ sym (and_right _ _ (ap (λ u. is_some (kind_in_use u))
+          (ap (get (map.remove s.blocks block)) here ∙ get_removed s.blocks block)))
+      at other (inr away) =
+          difference_other block other.0 p.free away ∙ tied.free other
+          ∙ sym (ap (λ u. is_none (handle_at s other) && is_some (kind_in_use u))
+          (get_left s.blocks block (block_of other) away))
+
+  by_trim : (kind : Kind) (q : FreeSlots) (o : Option Slot) → Offers p q (Gives kind) o → ForSome o
+      (TakesOffer e (cmd.Trim kind))
+      → GrowsUnoffered n s (cmd.Trim kind) o e → StepOf n s e t (cmd.Trim kind) → Follows q (Gives kind)
+      e.slot e.grown
+  by_trim kind q None offers taken grows (inl g) = absurd (zero_is_not_one (sym grows ∙ g.reply))
+  by_trim kind q None offers taken grows (inr none) =
+      let grown = none.grown in
+      subst (λ x. Follows x (Gives kind) e.slot e.grown) (sym offers.1)
+      (subst (Follows p (Gives kind) e.slot) (sym grown) (tt, stays s (λ _. refl) refl (sym none.after)))
+  by_trim kind q (Some slot) offers taken grows (inl g) =
+      let takes = taken slot refl in
+      let back : Back g.block ≡ Back (block_of slot) = sym g.grown ∙ takes.1 in
+      let same : g.block ≡ block_of slot = cc in
+      let whole = offers.1.whole in
+      subst (λ x. Follows x (Gives kind) e.slot e.grown) (sym offers.2)
+      (subst (Follows p (Gives kind) e.slot) (sym takes.1) (
+        record { added = ap is_some whole.added; whole = whole.whole },
+        dropped kind (block_of slot) offers.1
+            (g.after ∙ ap (without_use s) same),
+      ))
+  by_trim kind q (Some slot) offers taken grows (inr none) = absurd
+      (zero_is_not_one (sym none.reply ∙ (taken slot refl).0))
+
+  -- ---- every command
+
+  by_command : (c : Cmd) (q : FreeSlots) (o : Option Slot) → Offers p q (change_of c) o → ForSome o
+      (TakesOffer e c) → GrowsUnoffered n s c o e
+      → StepOf n s e t c → Effect n s e c t → Follows q (change_of c) e.slot e.grown
+  by_command (cmd.HNew d make r) q o offers taken grows does did = by_new d make r q o offers taken does
+  by_command (cmd.HFree h) q o offers taken grows does did = subst (λ x. Follows x Frees e.slot e.grown)
+      (sym offers.1) (by_freed h does)
+  by_command (cmd.Trim kind) q o offers taken grows does did = by_trim kind q o offers taken grows does
+  by_command c q o offers taken grows does did = (
+    tt,
+    subst (IsTied n t) (sym offers.1)
+        (by_other c t did refl refl),
+  )
+
+  pub follows : (c : Cmd) → e.cmd ≡ c → (q : FreeSlots) (o : Option Slot) → Offers p q (change_of c) o →
+      ForSome o (TakesOffer e c) → GrowsUnoffered n s c o e
+      → Follows q (change_of e.cmd) e.slot e.grown
+  follows c is q o offers taken grows =
+      subst (λ x. Follows q (change_of x) e.slot e.grown) (sym is)
+      (by_command c q o offers taken grows (subst (StepOf n s e t) is step.does)
+      (subst (λ x. Effect n s e x t) is (effect n s e t step)))
+
+-- what is offered may be offered
+pub may_offer : (n : Numbers) (s : State) (p q : FreeSlots) → IsTied n s p → (c : Cmd) (o : Option Slot) →
+    Offers p q (change_of c) o → IsOffer s c o
+may_offer n s p q tied (cmd.HNew d make r) None offers = tt
+may_offer n s p q tied (cmd.HNew d make r) (Some slot) offers = in_state n s p tied (kind_of make) slot
+    offers.0.free
+may_offer n s p q tied (cmd.Trim kind) None offers = tt
+may_offer n s p q tied (cmd.Trim kind) (Some slot) offers =
+    (offers.0, whole_in_state n s p tied kind (block_of slot) offers.1.whole)
+may_offer n s p q tied (cmd.HFree h) None offers = tt
+may_offer n s p q tied (cmd.HFree h) (Some slot) offers = let clash = offers.0 in cc
+may_offer n s p q tied c None offers = tt
+may_offer n s p q tied c (Some slot) offers = let clash = offers.0 in cc
+
+module _ (n : Numbers) (s : State) (p q : FreeSlots) (tied : IsTied n s p) (e : Entry) where
+  -- an entry that takes what is offered takes the least
+  takes_least_of : (c : Cmd) (o : Option Slot) → Offers p q (change_of c) o → ForSome o (TakesOffer e c) →
+      TakesLeast s e c
+  takes_least_of (cmd.HNew d make r) None offers taken = inr
+      (none_in_state n s p tied (kind_of make) offers.0)
+  takes_least_of (cmd.HNew d make r) (Some slot) offers taken =
+      let takes = taken slot refl in inl (
+        slot,
+        least_in_state n s p tied (kind_of make) slot offers.0,
+        takes.0,
+        takes.1,
+      )
+  takes_least_of (cmd.Trim kind) None offers taken = inr (none_whole_in_state n s p tied kind offers.0)
+  takes_least_of (cmd.Trim kind) (Some slot) offers taken =
+      let takes = taken slot refl in inl (
+        block_of slot,
+        least_whole_in_state n s p tied kind (block_of slot)
+            offers.1,
+        takes.1,
+      )
+  takes_least_of c o offers taken = tt
+
+  pub takes_least : (c : Cmd) → e.cmd ≡ c → (o : Option Slot) → Offers p q (change_of c) o → ForSome o
+      (TakesOffer e c) → TakesLeast s e e.cmd
+  takes_least c is o offers taken = subst (TakesLeast s e) (sym is) (takes_least_of c o offers taken)
+
+  -- a full table is answered exactly where no slot is free and too few blocks are without a use
+  finds_full : (t : State) (d : ℕ) (make : Make) (r : ℕ) (o : Option Slot) → Offers p q (Takes (kind_of make))
+      o → ForSome o (TakesOffer e (cmd.HNew d make r))
+      → GrowsUnoffered n s (cmd.HNew d make r) o e → StepOf n s e t (cmd.HNew d make r)
+      → (e.reply ≡ reply.Refused (refusal.TableFull (given_of s)))
+      ↔ (NoneFree s (kind_of make) × (n.blocks < given_of s + blocks_needed (kind_of make)))
+  finds_full t d make r None offers taken grows (inl m) =
+      (λ is. let clash = sym m.reply ∙ is in cc, λ both. grows.full both.1)
+  finds_full t d make r None offers taken grows (inr full) =
+      (λ is. (none_in_state n s p tied (kind_of make) offers.0, full.few), λ both. full.refused.reply)
+  finds_full t d make r (Some slot) offers taken grows does = (
+    λ is. let clash = sym (taken slot refl).2 ∙ is in cc,
+    λ both. absurd (both.0 slot (in_state n s p tied (kind_of make) slot offers.0.free)),
+  )
+
+  -- `trim` answers 0 exactly where no block may go, and else 1
+  trims_none : (kind : Kind) (o : Option Slot) → Offers p q (Gives kind) o → ForSome o
+      (TakesOffer e (cmd.Trim kind)) → GrowsUnoffered n s (cmd.Trim kind) o e
+      → (e.reply ≡ reply.Value 0) ↔ NoneAllFree s kind
+  trims_none kind None offers taken grows = (λ _. none_whole_in_state n s p tied kind offers.0, λ _. grows)
+  trims_none kind (Some slot) offers taken grows = (
+    λ is. absurd (zero_is_not_one (sym is ∙ (taken slot refl).0)),
+    λ none. absurd (none (block_of slot) (whole_in_state n s p tied kind (block_of slot) offers.1.whole)),
+  )
+
+  trims_some : (kind : Kind) (o : Option Slot) → Offers p q (Gives kind) o → ForSome o
+      (TakesOffer e (cmd.Trim kind)) → ¬ (NoneAllFree s kind)
+      → e.reply ≡ reply.Value 1
+  trims_some kind None offers taken some = absurd (some (none_whole_in_state n s p tied kind offers.0))
+  trims_some kind (Some slot) offers taken some = (taken slot refl).0
+
+  -- the same of a command that is one of these
+  module _ (c : Cmd) (o : Option Slot) (offers : Offers p q (change_of c) o)
+      (taken : ForSome o (TakesOffer e c)) (grows : GrowsUnoffered n s c o e) where
+    pub full_exactly : (t : State) → StepOf n s e t c → (d : ℕ) (make : Make) (r : ℕ) → c ≡ cmd.HNew d make r
+        → (e.reply ≡ reply.Refused (refusal.TableFull (given_of s)))
+        ↔ (NoneFree s (kind_of make) × (n.blocks < given_of s + blocks_needed (kind_of make)))
+    full_exactly t does d make r is =
+        finds_full t d make r o (subst (λ x. Offers p q (change_of x) o) is offers)
+        (subst (λ x. ForSome o (TakesOffer e x)) is taken)
+        (subst (λ x. GrowsUnoffered n s x o e) is grows) (subst (StepOf n s e t) is does)
+
+    pub none_exactly : (kind : Kind) → c ≡ cmd.Trim kind → (e.reply ≡ reply.Value 0) ↔ NoneAllFree s kind
+    none_exactly kind is =
+        trims_none kind o (subst (λ x. Offers p q (change_of x) o) is offers)
+        (subst (λ x. ForSome o (TakesOffer e x)) is taken)
+        (subst (λ x. GrowsUnoffered n s x o e) is grows)
+
+    pub some_else : (kind : Kind) → c ≡ cmd.Trim kind → ¬ (NoneAllFree s kind) → e.reply ≡ reply.Value 1
+    some_else kind is =
+        trims_some kind o (subst (λ x. Offers p q (change_of x) o) is offers)
+        (subst (λ x. ForSome o (TakesOffer e x)) is taken)
+
+-- a block that is added to a pool without a free slot of its kind, and the slot that is taken then
+module _ (p : FreeSlots) (kind : Kind) (block : ℕ) (none : HasNoneFor p kind) (mid : FreeSlots)
+    (mid_is : mid ≡ record p {
+      kinds = map.insert p.kinds block kind;
+      free = set.union p.free (slots_of block);
+    }) where
+  free_is : (x : ℕ) → contains mid.free x ≡ contains (set.union p.free (slots_of block)) x
+  free_is x = ap (λ (m : FreeSlots). contains m.free x) mid_is
+
+  kind_is : (x : ℕ) → get mid.kinds x ≡ get (map.insert p.kinds block kind) x
+  kind_is x = ap (λ (m : FreeSlots). get m.kinds x) mid_is
+
+  first_free : IsFreeFor mid kind (first_slot block)
+  first_free =
+      let here : block_of (first_slot block) ≡ block = omega arith in (
+        free_is (first_slot block).0 ∙ union_same block (first_slot block).0 p.free here,
+        kind_is (block_of (first_slot block)) ∙ ap (get (map.insert p.kinds block kind)) here ∙ get_inserted
+            p.kinds block kind,
+      )
+
+  least_is_first : (slot : Slot) → IsLeastFreeFor mid kind slot → slot.0 ≡ (first_slot block).0
+  least_is_first slot least = at (cases_eq (block_of slot) block)
+    where
+      at : (block_of slot ≡ block) ⊎ (block_of slot ≢ block) → slot.0 ≡ (first_slot block).0
+      at (inl here) = omega (arith, least.least (first_slot block) first_free)
+      at (inr away) = absurd (none slot (
+        sym (union_other block slot.0 p.free away) ∙ sym (free_is slot.0) ∙ least.free.0,
+        sym (get_beside p.kinds block kind (block_of slot) away) ∙ sym (kind_is (block_of slot)) ∙
+            least.free.1,
+      ))
+
+  pub grows : (o : Option Slot) (after : FreeSlots) → IfSome o (IsLeastFreeFor mid kind)
+      → IfSome o (λ slot. after ≡ record mid { free = set.remove mid.free slot.0 }) →
+      (is_some o ≡ false → HasNoneFor mid kind) → after ≡ grown_by p kind block
+  grows None after least taken empty = absurd (empty refl (first_slot block) first_free)
+  grows (Some slot) after least taken empty =
+      taken ∙ (λ i. record {
+        blocks = (mid_is i).blocks;
+        kinds = (mid_is i).kinds;
+        free = set.remove
+            (mid_is i).free (least_is_first slot least i);
+      })

@@ -1,0 +1,120 @@
+-- A pool that is tied to a state tells which slots and blocks are free there.
+use Rattle.std.proofs.Common.{◌≡◌, ℕ, true, false, ◌&&◌, Option, Some, None, refl, sym, ap, ◌∙◌, subst, arith}
+use Rattle.std.specs.Prelude.{is_some, is_none}
+use Rattle.std.specs.FinMap as map
+use Rattle.std.specs.FinMap.{get, get-empty}
+use Rattle.std.specs.FinSet as set
+use Rattle.std.specs.FinSet.{contains, contains-empty}
+use Rattle.std.specs.Ordering.{nat_cmp}
+use Rattle.std.proofs.lemmas.Bool.{and_parts, and_right}
+use Rattle.hd_model.specs.declared.data.Id.{Id}
+use Rattle.hd_model.specs.declared.data.Kind.{Kind}
+use Rattle.hd_model.specs.declared.data.Slot.{Slot}
+use Rattle.hd_model.specs.State.{Numbers, State, Handle, BlockUse, handles_of, extra_data, use_of, handle_at, block_of, first_slot, start_of, IsFree, IsAllFree}
+use Rattle.hd_model.specs.Run.{IsLeastFree, NoneFree, IsLeastAllFree, NoneAllFree}
+use Rattle.hd_model.proofs.WellFormed.{start_is_well_formed}
+use Rattle.hd_pool.specs.Pool.{FreeSlots, IsFreeFor, IsLeastFreeFor, HasNoneFor, IsWholeOf, IsLeastWholeOf, HasNoWholeOf}
+use Rattle.hd_gate.specs.Tied.{kind_in_use, kind_of_block, IsTied}
+
+-- a use with a kind is that of handles of the kind
+pub use_of_kind : (u : Option BlockUse) (kind : Kind) → kind_in_use u ≡ Some kind → u ≡ Some (handles_of kind)
+use_of_kind None kind e = cc
+use_of_kind (Some extra_data) kind e = cc
+use_of_kind (Some (handles_of k)) kind e = cc
+
+none_there : {A : Type 0} (o : Option A) → is_none o ≡ true → o ≡ None
+none_there None e = refl
+none_there (Some x) e = cc
+
+-- an empty pool is tied to the first state
+pub tied_at_start : (n : Numbers) (s : State) (p : FreeSlots) → s ≡ start_of n → p ≡ record
+    { blocks = n.blocks; kinds = map.empty; free = set.empty }
+    → IsTied n s p
+tied_at_start n s p begins is = subst (λ (x : State). IsTied n x p) (sym begins) (record {
+  blocks = ap (λ (q : FreeSlots). q.blocks) is;
+  kinds = λ block. ap (λ (q : FreeSlots). get q.kinds block) is ∙ get-empty nat_cmp block ∙ ap kind_in_use
+      (sym (get-empty nat_cmp block));
+  free = λ slot. ap (λ (q : FreeSlots). contains q.free slot.0) is ∙ contains-empty nat_cmp slot.0
+      ∙ sym (and_right (is_none (handle_at (start_of n) slot))
+      (is_some (kind_of_block (start_of n) (block_of slot)))
+      (ap (λ u. is_some (kind_in_use u)) (get-empty nat_cmp (block_of slot))));
+  well_formed = start_is_well_formed n;
+})
+
+module _ (n : Numbers) (s : State) (p : FreeSlots) (tied : IsTied n s p) where
+  -- a slot is free in the pool exactly where it is free in the state
+  pub in_pool : (kind : Kind) (slot : Slot) → IsFree s kind slot → IsFreeFor p kind slot
+  in_pool kind slot free =
+      let of_kind : kind_of_block s (block_of slot) ≡ Some kind = ap kind_in_use free.1 in (
+        tied.free slot ∙ ap (λ o. is_none o && is_some (kind_of_block s (block_of slot))) free.0 ∙ ap is_some
+            of_kind,
+        tied.kinds (block_of slot) ∙ of_kind,
+      )
+
+  pub in_state : (kind : Kind) (slot : Slot) → IsFreeFor p kind slot → IsFree s kind slot
+  in_state kind slot free =
+      let parts = and_parts _ _ (sym (tied.free slot) ∙ free.0) in (
+        none_there (handle_at s slot) parts.0,
+        use_of_kind (use_of s (block_of slot)) kind (sym (tied.kinds (block_of slot)) ∙ free.1),
+      )
+
+  pub least_in_state : (kind : Kind) (slot : Slot) → IsLeastFreeFor p kind slot → IsLeastFree s kind slot
+  least_in_state kind slot h = record {
+    free = in_state kind slot h.free;
+    least = λ other free. h.least other (in_pool kind other free);
+  }
+
+  pub none_in_state : (kind : Kind) → HasNoneFor p kind → NoneFree s kind
+  none_in_state kind none slot free = none slot (in_pool kind slot free)
+
+  -- and so a block of a kind, all of whose slots are
+  pub whole_in_pool : (kind : Kind) (block : ℕ) → IsAllFree s kind block → IsWholeOf p kind block
+  whole_in_pool kind block all =
+      let first : block_of (first_slot block) ≡ block = omega arith in
+      record {
+        added = ap (get p.kinds) (sym first) ∙ (in_pool kind (first_slot block)
+            (all (first_slot block) first)).1;
+        whole = λ slot of_block. (in_pool kind slot (all slot of_block)).0;
+      }
+
+  pub whole_in_state : (kind : Kind) (block : ℕ) → IsWholeOf p kind block → IsAllFree s kind block
+  whole_in_state kind block whole slot of_block =
+      in_state kind slot (whole.whole slot of_block, ap (get p.kinds) of_block ∙ whole.added)
+
+  pub least_whole_in_state : (kind : Kind) (block : ℕ) → IsLeastWholeOf p kind block → IsLeastAllFree s kind
+      block
+  least_whole_in_state kind block h = record {
+    free = whole_in_state kind block h.whole;
+    least = λ other free. h.least other (whole_in_pool kind other free);
+  }
+
+  pub none_whole_in_state : (kind : Kind) → HasNoWholeOf p kind → NoneAllFree s kind
+  none_whole_in_state kind none block free = none block (whole_in_pool kind block free)
+
+  -- a block with a kind is a block of the pool
+  pub block_added : (block : ℕ) (kind : Kind) → use_of s block ≡ Some (handles_of kind) → get p.kinds block ≡
+      Some kind
+  block_added block kind used = tied.kinds block ∙ ap kind_in_use used
+
+  -- a live slot is not free, and stands in a block of the pool
+  pub live_not_free : (slot : Slot) (handle : Handle Id) → handle_at s slot ≡ Some handle → contains p.free
+      slot.0 ≡ false
+  live_not_free slot handle live = tied.free slot ∙ ap
+      (λ o. is_none o && is_some (kind_of_block s (block_of slot))) live
+
+  pub live_added : (slot : Slot) (handle : Handle Id) → handle_at s slot ≡ Some handle → get p.kinds
+      (block_of slot) ≡ Some handle.kind
+  live_added slot handle live = block_added (block_of slot) handle.kind
+      (tied.well_formed.handles.kinds slot.0 handle live)
+
+  -- no slot of a block without a use is live
+  pub unused_not_live : (block : ℕ) → use_of s block ≡ None → (slot : Slot) → block_of slot ≡ block →
+      handle_at s slot ≡ None
+  unused_not_live block unused slot of_block = at (handle_at s slot) refl
+    where
+      at : (o : Option (Handle Id)) → handle_at s slot ≡ o → o ≡ None
+      at None is = refl
+      at (Some handle) is =
+          let used : None ≡ Some (handles_of handle.kind) = sym unused ∙ ap (use_of s) (sym of_block) ∙
+          tied.well_formed.handles.kinds slot.0 handle is in
+          cc

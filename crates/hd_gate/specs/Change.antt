@@ -1,0 +1,121 @@
+-- What the gate of one thread does to its pool of free slots, command by command.
+use Rattle.std.specs.Prelude.{◌≡◌, ℕ, ◌≤◌, false, Option, Some, None, IsSome}
+use Rattle.std.specs.FinMap.{get}
+use Rattle.std.specs.FinMap as map
+use Rattle.std.specs.FinSet.{contains}
+use Rattle.std.specs.FinSet as set
+use Rattle.hd_model.specs.declared.data.Kind.{Kind}
+use Rattle.hd_model.specs.declared.data.Slot.{Slot}
+use Rattle.hd_model.specs.declared.data.Grown.{Grown}
+use Rattle.hd_model.specs.declared.data.Grown.TheVariants.{Zero, One, Two, Back}
+use Rattle.hd_model.specs.declared.command.Cmd.{Cmd}
+use Rattle.hd_model.specs.declared.command.Cmd.TheVariants as cmd
+use Rattle.hd_model.specs.State.{block_of, first_slot}
+use Rattle.hd_model.specs.Kinds.{kind_of}
+use Rattle.hd_pool.specs.Pool.{FreeSlots, slots_of, IsLeastFreeFor, HasNoneFor, IsWhole, IsLeastWholeOf, HasNoWholeOf}
+use Rattle.hd_gate.specs.declared.change.Change.{Change}
+use Rattle.hd_gate.specs.declared.change.Change.TheVariants.{Takes, Frees, GivesBack, Keeps}
+
+-- what a command does to the free slots: `hnew` takes one of its kind, `hfree` frees one, and `trim` gives a
+-- whole block of its kind back
+abbrev pub change_of : Cmd → Change
+change_of (cmd.New d fields fin) = Keeps
+change_of (cmd.Set o i v) = Keeps
+change_of (cmd.Get d o i) = Keeps
+change_of (cmd.Val o n) = Keeps
+change_of (cmd.Read o) = Keeps
+change_of (cmd.Copy d s) = Keeps
+change_of (cmd.Clear d) = Keeps
+change_of (cmd.SPut k s) = Keeps
+change_of (cmd.SGet d k) = Keeps
+change_of (cmd.Gen s) = Keeps
+change_of (cmd.Suppress s) = Keeps
+change_of (cmd.Reregister s) = Keeps
+change_of (cmd.Final d) = Keeps
+change_of (cmd.Collect n) = Keeps
+change_of (cmd.HNew d make t) = Takes (kind_of make)
+change_of (cmd.HGet d s) = Keeps
+change_of (cmd.HSet s t) = Keeps
+change_of (cmd.HSec h s) = Keeps
+change_of (cmd.HDep d s) = Keeps
+change_of (cmd.HVar s strength) = Keeps
+change_of (cmd.HFree s) = Frees
+change_of (cmd.HPut k s) = Keeps
+change_of (cmd.HPick d k) = Keeps
+change_of (cmd.AddrOf s) = Keeps
+change_of (cmd.HUp s) = Keeps
+change_of (cmd.HDown s) = Keeps
+change_of (cmd.Trim kind) = GivesBack kind
+
+-- what is offered from a pool p, which is q then: the least free slot of the kind, or the first slot of the
+-- least block of the kind whose slots are all free
+abbrev pub Offers : FreeSlots → FreeSlots → Change → Option Slot → Type 0
+Offers p q (Takes kind) None = HasNoneFor p kind × (q ≡ p)
+Offers p q (Takes kind) (Some slot) = IsLeastFreeFor p kind slot ×
+    (q ≡ record p { free = set.remove p.free slot.0 })
+Offers p q Frees o = (o ≡ None) × (q ≡ p)
+Offers p q (GivesBack kind) None = HasNoWholeOf p kind × (q ≡ p)
+Offers p q (GivesBack kind) (Some slot) = (slot ≡ first_slot (block_of slot)) × IsLeastWholeOf p kind
+    (block_of slot) × (q ≡ p)
+Offers p q Keeps o = (o ≡ None) × (q ≡ p)
+
+-- a pool with a block more, whose first slot is taken
+abbrev pub grown_by : FreeSlots → Kind → ℕ → FreeSlots
+grown_by q kind block = record q {
+  kinds = map.insert q.kinds block kind;
+  free = set.remove (set.union q.free (slots_of block)) (first_slot block).0;
+}
+
+-- a pool without a block
+abbrev pub without_block : FreeSlots → ℕ → FreeSlots
+without_block q block = record q {
+  kinds = map.remove q.kinds block;
+  free = set.difference q.free
+      (slots_of block);
+}
+
+-- a pool after an entry: a block by which the table grew is added, a freed slot is free, and a block that was
+-- given back is dropped
+abbrev pub noted : FreeSlots → Change → Option Slot → Grown → FreeSlots
+noted q (Takes kind) slot Zero = q
+noted q (Takes kind) slot (One block) = grown_by q kind block
+noted q (Takes kind) slot (Two block other) = grown_by q kind block
+noted q (Takes kind) slot (Back block) = q
+noted q Frees None grown = q
+noted q Frees (Some slot) grown = record q { free = set.insert q.free slot.0 }
+noted q (GivesBack kind) slot Zero = q
+noted q (GivesBack kind) slot (One block) = q
+noted q (GivesBack kind) slot (Two block other) = q
+noted q (GivesBack kind) slot (Back block) = without_block q block
+noted q Keeps slot grown = q
+
+-- a block may be added, and its first slot is then the least of its kind
+pub record MayGrow (q : FreeSlots) (kind : Kind) (block : ℕ) : Type 0 where
+  pub low : 1 ≤ block
+  pub high : block ≤ q.blocks
+  pub new : get q.kinds block ≡ None
+  pub none : HasNoneFor q kind
+
+-- a slot may be put back
+pub record MayPut (q : FreeSlots) (slot : Slot) : Type 0 where
+  pub added : IsSome (get q.kinds (block_of slot))
+  pub taken : contains q.free slot.0 ≡ false
+
+-- a block may be dropped
+pub record MayDrop (q : FreeSlots) (block : ℕ) : Type 0 where
+  pub added : IsSome (get q.kinds block)
+  pub whole : IsWhole q block
+
+-- an entry may be noted in a pool
+abbrev pub MayNote : FreeSlots → Change → Option Slot → Grown → Type 0
+MayNote q (Takes kind) slot Zero = Unit {0}
+MayNote q (Takes kind) slot (One block) = MayGrow q kind block
+MayNote q (Takes kind) slot (Two block other) = MayGrow q kind block
+MayNote q (Takes kind) slot (Back block) = Unit {0}
+MayNote q Frees None grown = Unit {0}
+MayNote q Frees (Some slot) grown = MayPut q slot
+MayNote q (GivesBack kind) slot Zero = Unit {0}
+MayNote q (GivesBack kind) slot (One block) = Unit {0}
+MayNote q (GivesBack kind) slot (Two block other) = Unit {0}
+MayNote q (GivesBack kind) slot (Back block) = MayDrop q block
+MayNote q Keeps slot grown = Unit {0}

@@ -1,0 +1,29 @@
+-- How a pool is tied to the state of a world.
+use Rattle.std.specs.Prelude.{◌≡◌, ℕ, ◌&&◌, Bool, Option, Some, None, is_some, is_none}
+use Rattle.std.specs.FinMap.{get}
+use Rattle.std.specs.FinSet.{contains}
+use Rattle.hd_model.specs.declared.data.Kind.{Kind}
+use Rattle.hd_model.specs.declared.data.Slot.{Slot}
+use Rattle.hd_model.specs.State.{Numbers, State, BlockUse, handles_of, extra_data, use_of, handle_at, block_of}
+use Rattle.hd_model.specs.WellFormed.{IsWellFormed}
+use Rattle.hd_pool.specs.Pool.{FreeSlots}
+
+-- the kind of the handles of a block that has a use
+abbrev pub kind_in_use : Option BlockUse → Option Kind
+kind_in_use None = None
+kind_in_use (Some extra_data) = None
+kind_in_use (Some (handles_of kind)) = Some kind
+
+abbrev pub kind_of_block : State → ℕ → Option Kind
+kind_of_block s block = kind_in_use (use_of s block)
+
+-- whether a slot is free: it holds no handle, and its block has handles of some kind
+abbrev pub is_free : State → Slot → Bool
+is_free s slot = is_none (handle_at s slot) && is_some (kind_of_block s (block_of slot))
+
+-- the pool has the blocks of handles with their kinds, and the slots that are free in the state
+pub record IsTied (n : Numbers) (s : State) (p : FreeSlots) : Type 0 where
+  pub blocks : p.blocks ≡ n.blocks
+  pub kinds : (block : ℕ) → get p.kinds block ≡ kind_of_block s block
+  pub free : (slot : Slot) → contains p.free slot.0 ≡ is_free s slot
+  pub well_formed : IsWellFormed n s
