@@ -1,4 +1,4 @@
-use hd_io::{MemorySink, MemorySource};
+use hd_io::{MemorySink, MemorySource, NoPace};
 use hd_run::top;
 use std::alloc::{AllocError, Global};
 use std::process::Abort;
@@ -46,7 +46,7 @@ fn run(rt: &(impl Abort + AllocGlobal), row: &Row) -> Result<(), Fail> {
     let words = words_of(rt.alloc(), row.words)?;
     let mut source = MemorySource::open(rt.alloc(), row.input.as_bytes(), row.read_fails)?;
     let mut sink = MemorySink::open(rt.alloc(), ROOM, row.write_fails)?;
-    let outcome = top(rt.alloc(), &words, &mut source, &mut sink);
+    let outcome = top(rt.alloc(), &words, &mut source, &mut sink, &NoPace);
     assert_eq!(rt;
         sink.written(),
         Some(row.text.as_bytes()),
@@ -112,8 +112,60 @@ fn whole_runs() -> [Row; 8] {
     ]
 }
 
+/// Scripts of handles of each kind, of marks for finalisation, and of blocks that are given back.
+fn kinds_of_handles() -> [Row; 6] {
+    [
+        // Commands that do not fit the kind of the handle, or the object.
+        runs(
+            "set r0 0 r1\nnew r0 2\nset r0 2 r0\nhnew h0 strong r0\nhsec h0 r0\nhvar h0 long\n\
+             hfree h1\ngen r1\n",
+            0,
+            "0 1 nullref\n0 2 obj 0.1\n0 3 badfield\n0 4 ok\n0 5 wrongkind\n0 6 wrongkind\n\
+             0 7 empty\n0 8 nullref\nend handles 1 objects 1 collections 0\n",
+        ),
+        // A dependent handle's target may become null and nothing else; it then has no secondary.
+        runs(
+            "new r0 0\nnew r1 0\nhnew h0 dep r0 r1\nhset h0 r1\nhset h0 r2\nhdep r3 h0\n\
+             hsec h0 r1\nhnew h1 dep r2 r1\nhdep r3 h1\n",
+            0,
+            "0 1 obj 0.1\n0 2 obj 0.2\n0 3 ok\n0 4 wrongkind\n0 5 ok\n0 6 null\n0 7 nullref\n\
+             0 8 ok\n0 9 null\nend handles 2 objects 2 collections 0\n",
+        ),
+        // The count of a ref-counted handle begins at 1, and does not fall below 0.
+        runs(
+            "new r0 0\nhnew h0 ref r0\nhup h0\nhdown h0\nhdown h0\nhdown h0\n\
+             hnew h1 strong r0\nhup h1\n",
+            0,
+            "0 1 obj 0.1\n0 2 ok\n0 3 value 2\n0 4 value 1\n0 5 value 0\n0 6 countzero\n\
+             0 7 ok\n0 8 wrongkind\nend handles 2 objects 1 collections 0\n",
+        ),
+        // A block goes back only when its slots are all free.
+        runs(
+            "hnew h0 strong r0\ntrim strong\nhfree h0\ntrim strong\ntrim strong\n\
+             hnew h1 short r0\n",
+            0,
+            "0 1 ok\n0 2 value 0\n0 3 ok\n0 4 value 1\n0 5 value 0\n0 6 ok\n\
+             end handles 1 objects 0 collections 0\n",
+        ),
+        // A variable handle changes its strength and keeps its target.
+        runs(
+            "new r0 0\nhnew h0 var r0 strong\nhvar h0 short\nhget r1 h0\n",
+            0,
+            "0 1 obj 0.1\n0 2 ok\n0 3 ok\n0 4 obj 0.1\nend handles 1 objects 1 collections 0\n",
+        ),
+        // An object without `fin` may be marked too, and null may not.
+        runs(
+            "new r0 1 fin\ngen r0\nsuppress r0\nreregister r0\nnew r1 0\nreregister r1\n\
+             suppress r2\nreregister r2\n",
+            0,
+            "0 1 obj 0.1\n0 2 gen 0\n0 3 ok\n0 4 ok\n0 5 obj 0.2\n0 6 ok\n0 7 nullref\n\
+             0 8 nullref\nend handles 0 objects 2 collections 0\n",
+        ),
+    ]
+}
+
 /// Scripts, words and streams that are refused or fail.
-fn faults() -> [Row; 11] {
+fn faults() -> [Row; 12] {
     let usage = "usage: hdt solo|run|load [--heap CELLS] [--blocks COUNT] [--rounds N]\n";
     [
         // No script, at its first line that has no reading.
@@ -126,8 +178,9 @@ fn faults() -> [Row; 11] {
         runs("collect 3\n", 3, "fault line 1\n"),
         runs("val r0 18446744073709551616\n", 3, "fault line 1\n"),
         // In the grammar, but not built yet.
-        runs("new r0 0 fin\n", 3, "fault later\n"),
         runs("new r0 0\ncollect 2\n", 3, "fault later\n"),
+        runs("new r0 0 fin\nfinal r0\n", 3, "fault later\n"),
+        runs("hnew h0 pinned r0\naddr h0\n", 3, "fault later\n"),
         Row {
             words: &[],
             ..runs("new r0 0\n", 2, usage)
@@ -160,6 +213,9 @@ fn faults() -> [Row; 11] {
 #[test]
 fn runs_come_to_what_they_must(rt: HostRuntime) -> Result<(), Fail> {
     for row in &whole_runs() {
+        run(&rt, row)?;
+    }
+    for row in &kinds_of_handles() {
         run(&rt, row)?;
     }
     for row in &faults() {

@@ -1,7 +1,5 @@
-pub mod Planned
+pub mod Rising
 pub mod Turning
 pub mod Parts
-pub mod Ends
 pub mod Causes
 pub mod Claimed
-pub mod Following

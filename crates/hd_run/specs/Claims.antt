@@ -1,61 +1,49 @@
--- What a call promises, in the words of a user. Each follows from the ending, its cause and its
--- report. The statuses are this project's own.
-use Rattle.std.specs.Prelude.{◌≡◌, ◌≢◌, ℕ, ◌<◌, ◌⊎◌, List, [], ◌∷◌, ◌++◌, length, Contains, Option, Some, Ok, IsErr, String}
-use Rattle.std.specs.declared.alloc.Global.{Global}
+-- What a call promises, in the words of a user. Each claim follows from the ending, its cause and
+-- its report. The statuses are this project's own.
+use Rattle.std.specs.Prelude.{◌≡◌, ◌≢◌, ℕ, ◌+◌, ◌<◌, ◌≤◌, ◌⊎◌, List, [], ◌∷◌, ◌++◌, length, Contains, Option, None, Some, IsSome, IfSome, IsSomeAnd, MatchOption, IsErr}
+use Rattle.std.specs.FinMap.{len}
 use Rattle.hd_model.specs.declared.command.Cmd.{Cmd}
+use Rattle.hd_model.specs.declared.limits.TheConstants.{MOST_BYTES}
 use Rattle.hd_model.specs.Grammar.{script_of}
+use Rattle.hd_model.specs.Run.{SoloRun}
+use Rattle.hd_model.specs.Laws.{count_entries, makes_handle, frees_handle}
 use Rattle.hd_model.specs.Text.{lines_of, text_of}
 use Rattle.hd_io.specs.Counts.{Rose}
-use Rattle.hd_io.specs.Left.{Gave}
-use Rattle.hd_io.specs.Written.{Appends}
-use Rattle.hd_run.specs.declared.Kept.{Kept}
-use Rattle.hd_run.specs.declared.Kept.TheVariants.{Nothing}
-use Rattle.hd_run.specs.declared.ending.Ending.TheVariants.{ShortOfMemory}
-use Rattle.hd_run.specs.Words.{IsLawful}
-use Rattle.hd_run.specs.Plan.{IsAllBuilt, RanWhole, StoppedAt}
-use Rattle.hd_run.specs.Report.{line_of}
-use Rattle.hd_run.specs.Ending.{ReadWhole, ReadScript, Keeps, journal_of, most_bytes}
+use Rattle.hd_io.specs.Source.{SourceView, GaveCount}
+use Rattle.hd_io.specs.Sink.{SinkView, Took}
+use Rattle.hd_run.specs.declared.ending.Ending.{Ending}
+use Rattle.hd_run.specs.declared.outcome.Kept.{Kept}
+use Rattle.hd_run.specs.declared.outcome.Kept.TheVariants.{Nothing}
+use Rattle.hd_run.specs.declared.outcome.Outcome.{Outcome}
+use Rattle.hd_run.specs.declared.request.Request.{Request}
+use Rattle.hd_run.specs.Turns.{numbers_for, RanWhole, StoppedAt}
+use Rattle.hd_run.specs.Ending.{world_of, journal_in, ReadWhole, ReadProgram, IsUnbuilt, Cause}
+use Rattle.hd_run.specs.Report.{memory_text, Reports}
 
--- The source was read to its end and gave a script. A world is kept that ran all of it, callers in
--- rising number, and the text of its journal is what was written.
-abbrev pub RunsWhole : {S K : Type 0} → (S → Option (List ℕ)) → (S → ℕ) → S → S →
-    (K → Option (List ℕ)) → K → K → Kept → Type 0
-RunsWhole left given source_old source_new written sink_old sink_new kept =
-    (lists : List (List Cmd)) × ReadScript left given source_old source_new lists
-    × Keeps kept (λ w. RanWhole lists w
-    × Appends (written sink_old) (written sink_new) (text_of w.journal w.state))
+-- The source was read to its end and gave a program. A world is kept that ran all of it, and the
+-- text of its journal is what was written.
+abbrev pub RunsWhole : Option Request → SourceView → SourceView → SinkView → SinkView → Kept → Type 0
+RunsWhole asked old new before after kept = IsSomeAnd asked (λ r.
+    (lists : List (List Cmd)) × ReadProgram old new lists × IsSomeAnd (world_of kept) (λ w.
+    RanWhole (numbers_for r lists) lists w × Took before after (text_of w.journal w.state)))
 
--- No command was done; or the source was read to its end and gave a script, and a world is kept
--- that ran a front of it, up to a command that wants memory. The lines of the entries so far and
--- the fault line are what was written.
-abbrev pub RunsOutOfMemory : {S K : Type 0} → (S → Option (List ℕ)) → (S → ℕ) → S → S →
-    (K → Option (List ℕ)) → K → K → Kept → Type 0
-RunsOutOfMemory left given source_old source_new written sink_old sink_new kept =
-    Appends (written sink_old) (written sink_new)
-    (lines_of (journal_of kept) ++ line_of ShortOfMemory)
-    × ((kept ≡ Nothing) ⊎ ((lists : List (List Cmd))
-    × ReadScript left given source_old source_new lists × Keeps kept (StoppedAt lists)))
+-- No command was done, and at most the limit of bytes was read; or the source was read to its end
+-- and gave a program, and a world is kept that ran it up to a command that wants memory.
+abbrev pub StopsForMemory : Option Request → SourceView → SourceView → Kept → Type 0
+StopsForMemory asked old new kept = MatchOption (world_of kept)
+    (GaveCount old new (λ n. n ≤ MOST_BYTES))
+    (λ w. IsSomeAnd asked (λ r. (lists : List (List Cmd)) × ReadProgram old new lists
+    × StoppedAt (numbers_for r lists) lists w))
 
--- the words are not lawful, and nothing was read or kept
-abbrev pub RefusesWords : {S : Type 0} → List (String Global) → S → S → Kept → Type 0
-RefusesWords words old new kept = ¬ (IsLawful words) × (new ≡ old) × (kept ≡ Nothing)
-
--- bytes that no run is made of: no script, or one with a command that the machine does not have yet
+-- bytes that are no program: no script, or one with a command that the machine doesn't have yet
 abbrev pub IsNoProgram : List ℕ → Type 0
-IsNoProgram bytes =
-    IsErr (script_of bytes)
-    ⊎ ((lists : List (List Cmd)) × (script_of bytes ≡ Ok lists) × ¬ (IsAllBuilt lists))
+IsNoProgram bytes = IsErr (script_of bytes) ⊎ IsUnbuilt bytes
 
--- the source gave too many bytes, or was read to its end and they are no program; nothing was run
-abbrev pub RefusesScript : {S : Type 0} → (S → Option (List ℕ)) → (S → ℕ) → S → S → Kept → Type 0
-RefusesScript left given old new kept =
-    (kept ≡ Nothing) × ((bytes : List ℕ) × Gave left given old new bytes
-    × ((most_bytes < length bytes) ⊎ (ReadWhole left given old new bytes × IsNoProgram bytes)))
-
--- Words that are not lawful are refused, though that may fail to be written. Nothing is read.
-abbrev pub AnswersUsage : {S : Type 0} → List (String Global) → S → S → ℕ → Type 0
-AnswersUsage words old new status =
-    ¬ (IsLawful words) → (new ≡ old) × ((status ≡ 2) ⊎ (status ≡ 5))
+-- the source gave one byte more than the limit, or was read to its end and they are no program
+abbrev pub RefusesScript : SourceView → SourceView → Type 0
+RefusesScript old new =
+    GaveCount old new (λ n. n ≡ MOST_BYTES + 1)
+    ⊎ ((bytes : List ℕ) × ReadWhole old new bytes × IsNoProgram bytes)
 
 -- the statuses that a call answers
 abbrev pub IsStatus : ℕ → Type 0
@@ -63,17 +51,49 @@ IsStatus status = Contains (0 ∷ 2 ∷ 3 ∷ 4 ∷ 5 ∷ 6 ∷ []) status
 
 -- bytes that are refused: too many, or no program
 abbrev pub IsRefused : List ℕ → Type 0
-IsRefused bytes = (most_bytes < length bytes) ⊎ IsNoProgram bytes
+IsRefused bytes = (MOST_BYTES < length bytes) ⊎ IsNoProgram bytes
 
--- neither the source nor the sink failed in the call
-abbrev pub HasNoFault : {S K : Type 0} → (S → ℕ) → S → S → (K → ℕ) → K → K → Type 0
-HasNoFault source_faults source_old source_new sink_faults sink_old sink_new =
-    ¬ (Rose (source_faults source_old) (source_faults source_new))
-    × ¬ (Rose (sink_faults sink_old) (sink_faults sink_new))
+-- of bytes that were left the status is 3 where they are refused, and else 0, unless memory ran out
+abbrev pub Answers : List ℕ → ℕ → Type 0
+Answers bytes status =
+    status ≢ 6 → ((status ≡ 3) × IsRefused bytes) ⊎ ((status ≡ 0) × ¬ (IsRefused bytes))
 
--- where the words are lawful, and the source tells its bytes, the status is 3 exactly where they
--- are refused, and else 0, unless memory runs out
-abbrev pub Answers : List (String Global) → Option (List ℕ) → ℕ → Type 0
-Answers words left status =
-    IsLawful words → (bytes : List ℕ) → left ≡ Some bytes → status ≢ 6 →
-    ((status ≡ 3) × IsRefused bytes) ⊎ ((status ≡ 0) × ¬ (IsRefused bytes))
+-- What a call promises, for what its words ask (`None`: they are not lawful), by what was seen of
+-- the source and the sink before it and after it.
+pub record Promise {S K : Type 0} (seen : S → SourceView) (shown : K → SinkView)
+    (asked : Option Request) (source_old source_new : S) (sink_old sink_new : K)
+    (o : Outcome) : Type 0 where
+  -- whatever the words and the bytes: the work ended with a cause, and its ending is reported
+  pub work : (ending : Ending) × Cause asked (seen source_old) (seen source_new) ending
+      × Reports (shown sink_old) (shown sink_new) ending o
+  -- on status 0 the script was read whole and run whole, and its text is written
+  pub whole : o.status ≡ 0 → RunsWhole asked (seen source_old) (seen source_new) (shown sink_old)
+      (shown sink_new) o.kept
+  -- each other status has a cause, and no other is answered
+  pub usage : o.status ≡ 2 → (asked ≡ None) × (o.kept ≡ Nothing)
+  pub script : o.status ≡ 3 → RefusesScript (seen source_old) (seen source_new)
+      × (o.kept ≡ Nothing)
+  pub read : o.status ≡ 4 → Rose (seen source_old).faults (seen source_new).faults
+      × (o.kept ≡ Nothing)
+  pub write : o.status ≡ 5 → Rose (shown sink_old).faults (shown sink_new).faults
+  pub memory : o.status ≡ 6 → StopsForMemory asked (seen source_old) (seen source_new) o.kept
+      × Took (shown sink_old) (shown sink_new) (lines_of (journal_in (world_of o.kept))
+      ++ memory_text)
+  pub statuses : IsStatus o.status
+  -- no fault of the source or the sink is passed over
+  pub source_faults : o.status ≢ 4 → o.status ≢ 5 →
+      (seen source_new).faults ≡ (seen source_old).faults
+  pub sink_faults : o.status ≢ 5 → (shown sink_new).faults ≡ (shown sink_old).faults
+  -- words that are not lawful are refused, though that may fail to be written, and nothing is read
+  pub words : asked ≡ None → (source_new ≡ source_old) × ((o.status ≡ 2) ⊎ (o.status ≡ 5))
+  -- of lawful words, where nothing failed and the source tells its bytes
+  pub answers : IsSome asked →
+      ¬ (Rose (seen source_old).faults (seen source_new).faults) →
+      ¬ (Rose (shown sink_old).faults (shown sink_new).faults) →
+      (bytes : List ℕ) → (seen source_old).left ≡ Some bytes → Answers bytes o.status
+  -- whatever the status: the journal of a world that is kept is a run of callers in turn, and its
+  -- live handles are those that were made, less those that were freed
+  pub journal : IfSome (world_of o.kept) (λ w. SoloRun w.numbers w.journal w.state)
+  pub handles : IfSome (world_of o.kept) (λ w.
+      len w.state.handles + count_entries frees_handle w.journal
+      ≡ count_entries makes_handle w.journal)

@@ -1,8 +1,6 @@
 pub mod Words
-pub mod Plan
+pub mod Turns
 pub mod Ending
 pub mod Report
 pub mod Claims
-pub mod Bytes
-pub mod Free
-pub mod Turns
+pub mod Laws

@@ -1,65 +1,61 @@
 -- What a call writes and answers. The texts and the statuses are this project's own.
-use Rattle.std.specs.Prelude.{◌≡◌, ℕ, List, [], ◌++◌, ◌⊎◌, codes, decimal, Option, Result, MatchResult, All, ◌<◌}
+use Rattle.std.specs.Prelude.{◌≡◌, ℕ, ◌<◌, List, ◌++◌, ◌⊎◌, codes, decimal, Result, MatchResult, All}
 use Rattle.hd_model.specs.declared.data.Entry.{Entry}
+use Rattle.hd_model.specs.declared.limits.TheConstants.{CALLERS}
 use Rattle.hd_model.specs.Text.{newline, lines_of, text_of}
-use Rattle.hd_io.specs.Counts.{Rose}
-use Rattle.hd_io.specs.Written.{Appends, AppendsFront}
-use Rattle.hd_run.specs.declared.Kept.{Kept}
-use Rattle.hd_run.specs.declared.Kept.TheVariants.{Nothing, Alone}
+use Rattle.hd_io.specs.Sink.{SinkView, Took, WriteBrokeOff}
+use Rattle.hd_run.specs.declared.ending.Fault.{Fault}
+use Rattle.hd_run.specs.declared.ending.Fault.TheVariants.{Usage, Unread, OverSize, BadLine, Later}
 use Rattle.hd_run.specs.declared.ending.Ending.{Ending}
-use Rattle.hd_run.specs.declared.ending.Ending.TheVariants.{Usage, Unread, OverSize, BadLine, Later, ShortOfMemory, Done}
-use Rattle.hd_run.specs.Ending.{journal_of}
+use Rattle.hd_run.specs.declared.ending.Ending.TheVariants.{Refused, Stopped, Done}
+use Rattle.hd_run.specs.declared.outcome.Outcome.{Outcome}
+use Rattle.hd_run.specs.Ending.{journal_in, kept_of}
 
--- the status of each ending
+-- the status of each fault, and of each ending
+abbrev pub fault_status : Fault → ℕ
+fault_status Usage = 2
+fault_status Unread = 4
+fault_status OverSize = 3
+fault_status (BadLine k) = 3
+fault_status Later = 3
+
 abbrev pub status_of : Ending → ℕ
-status_of Usage = 2
-status_of Unread = 4
-status_of OverSize = 3
-status_of (BadLine k) = 3
-status_of Later = 3
-status_of ShortOfMemory = 6
-status_of Done = 0
+status_of (Refused fault) = fault_status fault
+status_of (Stopped world) = 6
+status_of (Done w) = 0
 
--- the line of each ending but that of a whole run
-abbrev pub line_of : Ending → List ℕ
-line_of Usage =
+-- the line of each fault, and of want of memory
+abbrev pub fault_text : Fault → List ℕ
+fault_text Usage =
     codes "usage: hdt solo|run|load [--heap CELLS] [--blocks COUNT] [--rounds N]" ++ newline
-line_of Unread = codes "fault read" ++ newline
-line_of OverSize = codes "fault size" ++ newline
-line_of (BadLine k) = codes "fault line " ++ decimal k ++ newline
-line_of Later = codes "fault later" ++ newline
-line_of ShortOfMemory = codes "fault memory" ++ newline
-line_of Done = []
+fault_text Unread = codes "fault read" ++ newline
+fault_text OverSize = codes "fault size" ++ newline
+fault_text (BadLine k) = codes "fault line " ++ decimal k ++ newline
+fault_text Later = codes "fault later" ++ newline
 
--- what is written after a whole run
-abbrev pub kept_text : Kept → List ℕ
-kept_text Nothing = []
-kept_text (Alone w) = text_of w.journal w.state
+abbrev pub memory_text : List ℕ
+memory_text = codes "fault memory" ++ newline
 
 -- what each ending writes: where memory ran out, the entries so far and its line; after a whole
 -- run, the text of its journal
-abbrev pub text_for : Kept → Ending → List ℕ
-text_for kept ShortOfMemory = lines_of (journal_of kept) ++ line_of ShortOfMemory
-text_for kept Done = kept_text kept
-text_for kept ending = line_of ending
+abbrev pub text_for : Ending → List ℕ
+text_for (Refused fault) = fault_text fault
+text_for (Stopped world) = lines_of (journal_in world) ++ memory_text
+text_for (Done w) = text_of w.journal w.state
 
--- all of a text was written; or the sink failed, and a front of it was
-abbrev pub Writes : {K T E : Type 0} → (K → Option (List ℕ)) → (K → ℕ) → K → K → List ℕ →
-    Result T E → Type 0
-Writes written faults old new text result =
-    MatchResult result
-    (λ _. Appends (written old) (written new) text)
-    (λ _. Rose (faults old) (faults new) × AppendsFront (written old) (written new) text)
+-- the sink took all of a text; or a write failed, after a prefix of it
+abbrev pub Writes : {T E : Type 0} → SinkView → SinkView → List ℕ → Result T E → Type 0
+Writes old new text result =
+    MatchResult result (λ _. Took old new text) (λ _. WriteBrokeOff old new text)
 
--- the numbers of callers are below 16
+-- the numbers of callers are below their limit
 abbrev pub HasFewCallers : List Entry → Type 0
-HasFewCallers journal = All (λ (e : Entry). e.caller < 16) journal
+HasFewCallers journal = All (λ (e : Entry). e.caller < CALLERS) journal
 
--- the ending is reported: all of its text is written and its status answered; or the sink failed, a
--- front of the text is written, and the status is 5
-abbrev pub Reports : {K : Type 0} → (K → Option (List ℕ)) → (K → ℕ) → K → K → Kept → Ending → ℕ →
-    Type 0
-Reports written faults old new kept ending status =
-    ((status ≡ status_of ending) × Appends (written old) (written new) (text_for kept ending))
-    ⊎ ((status ≡ 5) × Rose (faults old) (faults new)
-    × AppendsFront (written old) (written new) (text_for kept ending))
+-- The ending is reported, and what it keeps is kept: all of its text is written and its status
+-- answered; or a write failed after a prefix of the text, and the status is 5.
+pub record Reports (old new : SinkView) (ending : Ending) (o : Outcome) : Type 0 where
+  pub kept : o.kept ≡ kept_of ending
+  pub written :
+      ((o.status ≡ status_of ending) × Took old new (text_for ending))
+      ⊎ ((o.status ≡ 5) × WriteBrokeOff old new (text_for ending))

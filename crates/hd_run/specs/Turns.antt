@@ -1,38 +1,65 @@
--- Runs of callers one after another, as lists of commands with their callers.
-use Rattle.std.specs.Prelude.{◌≡◌, ℕ, ◌+◌, List, [], ◌∷◌, ◌++◌, map, length, IsTrue}
+-- Runs of callers one after another, as lists of turns: a caller and a command. That callers are
+-- taken so is this project's own.
+use Rattle.std.specs.Prelude.{◌≡◌, ℕ, ◌+◌, ◌≤◌, List, [], ◌∷◌, ◌++◌, map, filter, length, slice_index_or, ◌==◌, IsTrue, All}
 use Rattle.hd_model.specs.declared.command.Cmd.{Cmd}
 use Rattle.hd_model.specs.declared.data.Entry.{Entry}
-use Rattle.hd_model.specs.Valid.{takes_memory}
-use Rattle.hd_model.specs.Run.{Chain, SoloStep}
+use Rattle.hd_model.specs.State.{Numbers}
+use Rattle.hd_model.specs.Run.{SoloRun}
+use Rattle.hd_model.specs.Valid.{takes_memory, is_built}
 use Rattle.hd_world.specs.World.{Standing}
+use Rattle.hd_run.specs.declared.request.Request.{Request}
 
--- the commands of one caller
+-- the commands of a caller in a script
+abbrev pub list_of : List (List Cmd) → ℕ → List Cmd
+list_of lists caller = slice_index_or lists caller []
+
+-- every command of a script is one that the machine has
+abbrev pub IsAllBuilt : List (List Cmd) → Type 0
+IsAllBuilt lists = All (λ commands. All (λ cmd. IsTrue (is_built cmd)) commands) lists
+
+-- the numbers of a run of a script: the limits, and as many callers as the script has lists
+abbrev pub numbers_for : Request → List (List Cmd) → Numbers
+numbers_for request lists =
+    record { heap = request.heap; blocks = request.blocks; callers = length lists }
+
+-- the turns of one caller
 abbrev pub turns_of : ℕ → List Cmd → List (ℕ × Cmd)
 turns_of caller commands = map (λ cmd. (caller, cmd)) commands
 
--- the commands of callers one after another, where the first list is that of a number
+-- the turns of callers one after another in rising number, where the first list is that of a number
 abbrev pub turns_from : ℕ → List (List Cmd) → List (ℕ × Cmd)
 turns_from caller [] = []
 turns_from caller (commands ∷ lists) = turns_of caller commands ++ turns_from (caller + 1) lists
 
--- the caller and the command of an entry
+-- the turn of an entry
 abbrev pub turn_of : Entry → ℕ × Cmd
 turn_of e = (e.caller, e.cmd)
 
--- between two states of a world these commands were done, each by a step that gives the least slot
-pub record Does (old new : Standing) (commands : List (ℕ × Cmd)) : Type 0 where
-  pub entries : List Entry
-  pub journal : new.journal ≡ old.journal ++ entries
-  pub turns : map turn_of entries ≡ commands
-  pub steps : Chain (SoloStep old.numbers) old.state entries new.state
-  pub numbers : new.numbers ≡ old.numbers
-  pub spare : new.spare + length entries ≡ old.spare
+-- the commands of a caller's turns
+abbrev pub taken_by : ℕ → List (ℕ × Cmd) → List Cmd
+taken_by caller turns = map (λ (p : ℕ × Cmd). p.1) (filter (λ (p : ℕ × Cmd). p.0 == caller) turns)
 
--- of these commands those before one were done, and that one may take memory
-pub record Stops (old new : Standing) (commands : List (ℕ × Cmd)) : Type 0 where
-  pub before : List (ℕ × Cmd)
+-- A world that ran a script from the start, and has these turns left: its journal is a solo run,
+-- whose turns are a prefix of all turns of the script, and the ones that are left come after it.
+pub record RanUpTo (n : Numbers) (lists : List (List Cmd)) (left : List (ℕ × Cmd))
+    (w : Standing) : Type 0 where
+  pub numbers : w.numbers ≡ n
+  pub run : SoloRun n w.journal w.state
+  pub turns : turns_from 0 lists ≡ map turn_of w.journal ++ left
+
+-- the whole script was run: no turn is left
+abbrev pub RanWhole : Numbers → List (List Cmd) → Standing → Type 0
+RanWhole n lists w = RanUpTo n lists [] w
+
+-- the run stopped at a command that may take memory: that of the first turn which is left
+pub record StoppedAt (n : Numbers) (lists : List (List Cmd)) (w : Standing) : Type 0 where
   pub next : ℕ × Cmd
   pub rest : List (ℕ × Cmd)
-  pub split : commands ≡ before ++ next ∷ rest
-  pub does : Does old new before
+  pub ran : RanUpTo n lists (next ∷ rest) w
   pub wants : IsTrue (takes_memory next.1)
+
+-- a world that has turns left, and room for their entries
+pub record IsReadyFor (n : Numbers) (lists : List (List Cmd)) (left : List (ℕ × Cmd))
+    (w : Standing) : Type 0 where
+  pub ran : RanUpTo n lists left w
+  pub room : length left ≤ w.spare

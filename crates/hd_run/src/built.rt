@@ -1,6 +1,6 @@
 ghost use Rattle.std.specs.Prelude.{◌<◌, ◌↔◌, length, IsTrue, All};
 ghost use Rattle.hd_model.specs.Valid.{is_built};
-ghost use Rattle.hd_run.specs.Plan.{list_of, IsAllBuilt};
+ghost use Rattle.hd_run.specs.Turns.{list_of, IsAllBuilt};
 
 use hd_script::Scripts;
 

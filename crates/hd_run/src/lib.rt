@@ -1,142 +1,73 @@
 //! Runs a script, from its bytes to the text of its journal.
 #![tactic(auto)]
 
-ghost use Rattle.std.specs.Prelude.{◌≡◌, ◌+◌};
-ghost use Rattle.std.specs.FinMap.{len};
-ghost use Rattle.hd_model.specs.Run.{SoloRun};
-ghost use Rattle.hd_model.specs.Laws.{count_entries, makes_handle, frees_handle};
-ghost use Rattle.hd_io.specs.Counts.{Rose};
-ghost use Rattle.hd_run.specs.declared.ending.Ending.{Ending};
-ghost use Rattle.hd_run.specs.Ending.{Cause, IfKept};
-ghost use Rattle.hd_run.specs.Report.{Reports};
-ghost use Rattle.hd_run.specs.Claims.{RunsWhole, RefusesWords, RefusesScript, RunsOutOfMemory};
-ghost use Rattle.hd_run.specs.Claims.{IsStatus, AnswersUsage, HasNoFault, Answers};
+ghost use Rattle.std.specs.Prelude.{IfSome};
+ghost use Rattle.hd_run.specs.Words.{request_of, solo_of, IsInLimits};
+ghost use Rattle.hd_run.specs.Claims.{Promise};
 
 mod built;
 mod ending;
-mod free;
+mod laws;
+mod outcome;
 mod report;
+mod request;
 mod turns;
-mod words;
 mod work;
 
-use hd_io::{Sink, Source};
-use hd_world::World;
+use ending::{Ending, Fault};
+use hd_io::{Pace, Sink, Source};
+pub use laws::parts_follow_the_turns;
+pub use outcome::{Kept, Outcome};
 use report::report;
+use request::{Request, read_solo_words, read_words};
 use std::alloc::Global;
 use work::work;
 
-/// What is kept of a run: the world that ran it, if there is one.
-#[derive(Drop)]
-pub enum Kept {
-    Nothing,
-    Alone(World),
-}
-
-/// How a call ended: its status, and what it keeps. The status is 0 after a whole run, 2 for words
-/// that are not lawful, 3 for bytes that are no script, 4 for a fault of the source, 5 for one of
-/// the sink, and 6 where memory ran out.
-#[derive(Drop)]
-pub struct Outcome {
-    pub status: u8,
-    pub kept: Kept,
-}
-
 /// The program: reads its words, the program's name first, and does what they say. It has one mode,
-/// which `solo` does.
-pub fn top<S: Source, K: Sink>(
+/// `solo`. The pace is that of callers in threads, which this mode has none of.
+pub fn top<S: Source, K: Sink, P: Pace>(
     alloc: Global,
     words: &[String],
     source: &mut S,
     sink: &mut K,
+    _pace: &P,
 ) -> Outcome
-    // Whatever the words and the bytes: the work ended with a cause, and its ending is reported.
-    ensures work { (ending : Ending)
-        × Cause S.left S.given S.faults words.now source.old source.new result.kept ending
-        × Reports K.written K.faults sink.old sink.new result.kept ending result.status }
-
-    // On status 0 the script was read whole and run whole, and its text is written.
-    ensures whole { result.status ≡ 0 →
-        RunsWhole S.left S.given source.old source.new K.written sink.old sink.new result.kept }
-
-    // Each other status has a cause, and no other is answered.
-    ensures usage { result.status ≡ 2 →
-        RefusesWords words.now source.old source.new result.kept }
-    ensures script { result.status ≡ 3 →
-        RefusesScript S.left S.given source.old source.new result.kept }
-    ensures read { result.status ≡ 4 → Rose (S.faults source.old) (S.faults source.new) }
-    ensures write { result.status ≡ 5 → Rose (K.faults sink.old) (K.faults sink.new) }
-    ensures memory { result.status ≡ 6 →
-        RunsOutOfMemory S.left S.given source.old source.new
-        K.written sink.old sink.new result.kept }
-    ensures statuses { IsStatus result.status }
-
-    // Words that are not lawful are refused. Where nothing fails, of lawful ones only bytes that
-    // are no script are.
-    ensures words { AnswersUsage words.now source.old source.new result.status }
-    ensures answers { HasNoFault S.faults source.old source.new K.faults sink.old sink.new →
-        Answers words.now (S.left source.old) result.status }
-
-    // Whatever the status: the journal of a world that is kept is a run of callers in turn, and its
-    // live handles are those that were made, less those that were freed.
-    ensures journal { IfKept result.kept (λ w. SoloRun w.numbers w.journal w.state) }
-    ensures handles { IfKept result.kept (λ w.
-        len w.state.handles + count_entries frees_handle w.journal
-        ≡ count_entries makes_handle w.journal) }
+    ensures { Promise S.seen K.seen (request_of words.now) source.old source.new
+        sink.old sink.new result }
 {
-    solo(alloc, words, source, sink)
+    answer(alloc, read_words(words), source, sink)
 }
 
 /// Runs the script that the source gives, of at most 8,388,608 bytes and 100,000 commands, over a
 /// heap of 1,000,000 cells and a table of 256 blocks. Its callers are taken one after another in
 /// rising number, each to its end. A line for each command and a last line are written, each as one
-/// piece.
+/// piece. Words that don't name the mode `solo` are refused.
 pub fn solo<S: Source, K: Sink>(
     alloc: Global,
     words: &[String],
     source: &mut S,
     sink: &mut K,
 ) -> Outcome
-    // Whatever the words and the bytes: the work ended with a cause, and its ending is reported.
-    ensures work { (ending : Ending)
-        × Cause S.left S.given S.faults words.now source.old source.new result.kept ending
-        × Reports K.written K.faults sink.old sink.new result.kept ending result.status }
-
-    // On status 0 the script was read whole and run whole, and its text is written.
-    ensures whole { result.status ≡ 0 →
-        RunsWhole S.left S.given source.old source.new K.written sink.old sink.new result.kept }
-
-    // Each other status has a cause, and no other is answered.
-    ensures usage { result.status ≡ 2 →
-        RefusesWords words.now source.old source.new result.kept }
-    ensures script { result.status ≡ 3 →
-        RefusesScript S.left S.given source.old source.new result.kept }
-    ensures read { result.status ≡ 4 → Rose (S.faults source.old) (S.faults source.new) }
-    ensures write { result.status ≡ 5 → Rose (K.faults sink.old) (K.faults sink.new) }
-    ensures memory { result.status ≡ 6 →
-        RunsOutOfMemory S.left S.given source.old source.new
-        K.written sink.old sink.new result.kept }
-    ensures statuses { IsStatus result.status }
-
-    // Words that are not lawful are refused. Where nothing fails, of lawful ones only bytes that
-    // are no script are.
-    ensures words { AnswersUsage words.now source.old source.new result.status }
-    ensures answers { HasNoFault S.faults source.old source.new K.faults sink.old sink.new →
-        Answers words.now (S.left source.old) result.status }
-
-    // Whatever the status: the journal of a world that is kept is a run of callers in turn, and its
-    // live handles are those that were made, less those that were freed.
-    ensures journal { IfKept result.kept (λ w. SoloRun w.numbers w.journal w.state) }
-    ensures handles { IfKept result.kept (λ w.
-        len w.state.handles + count_entries frees_handle w.journal
-        ≡ count_entries makes_handle w.journal) }
+    ensures { Promise S.seen K.seen (solo_of (request_of words.now)) source.old source.new
+        sink.old sink.new result }
 {
-    let worked = work(alloc, words, source);
-    let status = report(sink, worked.ending, &worked.kept);
-    Outcome {
-        status,
-        kept: worked.kept,
-    }
+    answer(alloc, read_solo_words(words), source, sink)
+}
+
+// Does what was asked, and reports it.
+fn answer<S: Source, K: Sink>(
+    alloc: Global,
+    asked: Option<Request>,
+    source: &mut S,
+    sink: &mut K,
+) -> Outcome
+    requires { IfSome asked IsInLimits }
+    ensures { Promise S.seen K.seen asked source.old source.new sink.old sink.new result }
+{
+    let Some(request) = asked else {
+        return report(sink, Ending::Refused(Fault::Usage));
+    };
+    report(sink, work(alloc, request, source))
 }
 
 #[cfg(test)]

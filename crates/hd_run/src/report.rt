@@ -1,10 +1,10 @@
 ghost use Rattle.std.specs.Prelude.{◌≡◌, ◌++◌};
 ghost use Rattle.hd_model.specs.Text.{lines_of};
-ghost use Rattle.hd_run.specs.Ending.{journal_of};
-ghost use Rattle.hd_run.specs.Report.{Reports, Writes, HasFewCallers, text_for, kept_text, line_of};
+ghost use Rattle.hd_run.specs.Ending.{world_of, journal_in, kept_of};
+ghost use Rattle.hd_run.specs.Report.{Reports, Writes, HasFewCallers, text_for, fault_text};
 
-use crate::Kept;
-use crate::ending::Ending;
+use crate::Outcome;
+use crate::ending::{Ending, Fault};
 use hd_io::{Failed, Sink, write_all};
 use hd_model::Journal;
 use hd_print::{Line, end_line, write_entries};
@@ -12,78 +12,58 @@ use hd_print::{Line, end_line, write_entries};
 // The status where the sink failed.
 const WRITE_FAULT: u8 = 5;
 
-// Writes what an ending has to say, and answers the status.
-pub(crate) fn report<K: Sink>(sink: &mut K, ending: Ending, kept: &Kept) -> u8
-    requires { HasFewCallers (journal_of kept.now) }
-    ensures { Reports K.written K.faults sink.old sink.new kept.now ending result }
+const MEMORY: &str = "fault memory\n";
+
+// Writes what an ending has to say, and answers its status and what it keeps.
+pub(crate) fn report<K: Sink>(sink: &mut K, ending: Ending) -> Outcome
+    requires { HasFewCallers (journal_in (world_of (kept_of ending))) }
+    ensures { Reports (K.seen sink.old) (K.seen sink.new) ending result }
 {
-    match write_text(sink, ending, kept) {
+    let status = match write_text(sink, &ending) {
         Ok(()) => ending.status(),
-        Err(_) => WRITE_FAULT,
+        Err(Failed) => WRITE_FAULT,
+    };
+    Outcome {
+        status,
+        kept: ending.kept(),
     }
 }
 
-fn write_text<K: Sink>(sink: &mut K, ending: Ending, kept: &Kept) -> Result<(), Failed>
-    requires { HasFewCallers (journal_of kept.now) }
-    ensures { Writes K.written K.faults sink.old sink.new (text_for kept.now ending) result }
+fn write_text<K: Sink>(sink: &mut K, ending: &Ending) -> Result<(), Failed>
+    requires { HasFewCallers (journal_in (world_of (kept_of ending.now))) }
+    ensures { Writes (K.seen sink.old) (K.seen sink.new) (text_for ending.now) result }
 {
     match ending {
-        Ending::Done => write_whole(sink, kept),
-        Ending::ShortOfMemory => write_stopped(sink, kept),
-        _ => write_all(sink, fault_line(ending).as_bytes()),
+        Ending::Refused(fault) => write_all(sink, fault_line(*fault).as_bytes()),
+        Ending::Stopped(None) => write_all(sink, MEMORY.as_bytes()),
+        Ending::Stopped(Some(world)) => write_lines(sink, world.journal(), MEMORY.as_bytes()),
+        Ending::Done(world) => {
+            let line = end_line(world.live(), world.objects(), world.collections());
+            write_lines(sink, world.journal(), line.as_bytes())
+        }
     }
-}
-
-// The entries so far, and that memory ran out.
-fn write_stopped<K: Sink>(sink: &mut K, kept: &Kept) -> Result<(), Failed>
-    requires { HasFewCallers (journal_of kept.now) }
-    ensures { Writes K.written K.faults sink.old sink.new
-        (text_for kept.now Ending.ShortOfMemory) result }
-{
-    let line = fault_line(Ending::ShortOfMemory);
-    match kept {
-        Kept::Nothing => write_all(sink, line.as_bytes()),
-        Kept::Alone(world) => write_lines(sink, world.journal(), line.as_bytes()),
-    }
-}
-
-// All entries, and the end line.
-fn write_whole<K: Sink>(sink: &mut K, kept: &Kept) -> Result<(), Failed>
-    requires { HasFewCallers (journal_of kept.now) }
-    ensures { Writes K.written K.faults sink.old sink.new (kept_text kept.now) result }
-{
-    let Kept::Alone(world) = kept else {
-        return Ok(());
-    };
-    let line = end_line(world.live(), world.objects(), world.collections());
-    write_lines(sink, world.journal(), line.as_bytes())
 }
 
 // The lines of a journal, and then a last one.
-#[tactic(auto, using(hd_io::proofs::Appending::appending, hd_io::proofs::Counting::rose_after))]
+#[tactic(auto, using(hd_io::proofs::Appending::appending))]
 fn write_lines<K: Sink>(sink: &mut K, journal: &Journal, last: &[u8]) -> Result<(), Failed>
     requires { HasFewCallers journal.now.entries }
-    ensures { Writes K.written K.faults sink.old sink.new
+    ensures { Writes (K.seen sink.old) (K.seen sink.new)
         (lines_of journal.now.entries ++ last.now) result }
 {
     write_entries(journal, sink)?;
     write_all(sink, last)
 }
 
-// The line of an ending that is no whole run.
-fn fault_line(ending: Ending) -> Line
-    ensures { result ≡ line_of ending }
+fn fault_line(fault: Fault) -> Line
+    ensures { result ≡ fault_text fault }
 {
-    let text = match ending {
-        Ending::Usage => {
-            "usage: hdt solo|run|load [--heap CELLS] [--blocks COUNT] [--rounds N]\n"
-        }
-        Ending::Unread => "fault read\n",
-        Ending::OverSize => "fault size\n",
-        Ending::BadLine(number) => return bad_line(number),
-        Ending::Later => "fault later\n",
-        Ending::ShortOfMemory => "fault memory\n",
-        Ending::Done => "",
+    let text = match fault {
+        Fault::Usage => "usage: hdt solo|run|load [--heap CELLS] [--blocks COUNT] [--rounds N]\n",
+        Fault::Unread => "fault read\n",
+        Fault::OverSize => "fault size\n",
+        Fault::BadLine(number) => return bad_line(number),
+        Fault::Later => "fault later\n",
     };
     let mut line = Line::new();
     line.push_str(text);
@@ -91,7 +71,7 @@ fn fault_line(ending: Ending) -> Line
 }
 
 fn bad_line(number: u32) -> Line
-    ensures { result ≡ line_of (Ending.BadLine number) }
+    ensures { result ≡ fault_text (Fault.BadLine number) }
 {
     let mut line = Line::new();
     line.push_str("fault line ");

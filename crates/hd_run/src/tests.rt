@@ -1,6 +1,6 @@
 // What no clause says: that calls succeed while memory lasts, and the texts as a user reads them.
 use crate::{Kept, solo, top};
-use hd_io::{MemorySink, MemorySource};
+use hd_io::{MemorySink, MemorySource, NoPace};
 use std::alloc::{AllocError, Global};
 use std::test::Fail;
 
@@ -37,7 +37,7 @@ fn call(
     }
     let mut source = MemorySource::open(alloc, &bytes, unread)?;
     let mut sink = MemorySink::open(alloc, 4096, unwritten)?;
-    let outcome = top(alloc, &list, &mut source, &mut sink);
+    let outcome = top(alloc, &list, &mut source, &mut sink, &NoPace);
     let entries = match &outcome.kept {
         Kept::Nothing => None,
         Kept::Alone(world) => Some(world.journal().len()),
@@ -106,7 +106,8 @@ fn a_script_that_is_refused_is_not_run(rt: HostRuntime) -> Result<(), Fail> {
     let table = [
         ("new r0 0; hnew h0 strong r0; hgett r0 h0", "fault line 3\n"),
         ("new r0 0; collect 0", "fault later\n"),
-        ("caller 1; hnew h0 dep r0 r1", "fault later\n"),
+        ("caller 1; new r0 0 fin; final r1", "fault later\n"),
+        ("hnew h0 pinned r0; addr h0", "fault later\n"),
     ];
     for (script, want) in table {
         let came = call(rt.alloc(), &["hdt", "solo"], script, &[], &[])?;

@@ -1,7 +1,7 @@
 //! `hdt`: runs a script on the handle table.
 #![tactic(auto)]
 
-use hd_io::{StdSink, StdSource};
+use hd_io::{NoPace, StdSink, StdSource};
 use hd_run::top;
 use std::alloc::{AllocError, Global};
 use std::env;
@@ -27,6 +27,6 @@ fn main(rt: HostRuntime) -> ExitCode {
     };
     let mut source = StdSource::over(rt.stdin());
     let mut sink = StdSink::over(rt.stdout());
-    let outcome = top(rt.alloc(), &words, &mut source, &mut sink);
+    let outcome = top(rt.alloc(), &words, &mut source, &mut sink, &NoPace);
     ExitCode::from(outcome.status)
 }

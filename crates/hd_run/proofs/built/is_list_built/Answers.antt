@@ -3,7 +3,7 @@ use Rattle.std.proofs.lemmas.List.Elements.{All-more}
 use Rattle.std.proofs.lemmas.Option.{get_or_from_slice_get}
 use Rattle.hd_model.specs.declared.command.Cmd.{Cmd}
 use Rattle.hd_model.specs.Valid.{is_built}
-use Rattle.hd_run.specs.Plan.{list_of}
+use Rattle.hd_run.specs.Turns.{list_of}
 use Rattle.hd_run.proofs.built.is_list_built.Goals as goal
 
 pub commands-preserved : goal.commands-preserved

@@ -1,0 +1,12 @@
+use Rattle.std.proofs.Common.{◌≡◌, ◌+◌, ◌++◌, drop}
+use Rattle.hd_run.specs.Turns.{IsReadyFor, list_of, turns_of, turns_from}
+use Rattle.hd_run.proofs.turns.take_turns_of.Given as goal
+
+-- this caller's commands from this one on are left, and those of the callers after it
+abbrev pub invariant-commands : goal.invariant-commands
+invariant-commands l = record {
+  ready : IsReadyFor l.fn.alone.numbers l.scripts
+      (turns_of l.caller (drop l.i (list_of l.scripts l.caller))
+      ++ turns_from (l.caller + 1) (drop (l.caller + 1) l.scripts)) l.alone;
+  numbers : l.alone.numbers ≡ l.fn.alone.numbers;
+}

@@ -1,0 +1,17 @@
+use hd_world::World;
+
+/// What is kept of a run: the world that ran it, if there is one.
+#[derive(Drop)]
+pub enum Kept {
+    Nothing,
+    Alone(World),
+}
+
+/// How a call ended: its status, and what it keeps. The status is 0 after a whole run, 2 for words
+/// that are not lawful, 3 for bytes that are no script, 4 for a fault of the source, 5 for one of
+/// the sink, and 6 where memory ran out.
+#[derive(Drop)]
+pub struct Outcome {
+    pub status: u8,
+    pub kept: Kept,
+}
