@@ -10,6 +10,8 @@ mod on_handles;
 mod on_objects;
 mod order;
 mod store;
+#[cfg(test)]
+mod tests;
 mod world;
 
 pub use world::World;
