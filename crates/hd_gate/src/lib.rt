@@ -4,5 +4,7 @@
 
 mod alone;
 mod change;
+#[cfg(test)]
+mod tests;
 
 pub use alone::Alone;
