@@ -19,11 +19,13 @@ pub mod Counting
 pub mod Collect
 pub mod Ages
 pub mod Marking
+pub mod Names
 pub mod Moving
 pub mod CollectionLaws
 pub mod CollectionExamples
 pub mod Heap
 pub mod Table
+pub mod Visits
 pub mod Code
 pub mod Grammar
 pub mod CommandText

@@ -3,7 +3,7 @@ ghost use Rattle.hd_model.specs.State.{Numbers};
 ghost use Rattle.hd_model.specs.declared.data.Entry.{Entry};
 
 /// What one caller at a time holds: a table of handles with the journal of what was done. It has no
-/// calls, and four meanings.
+/// calls: what is declared here is seen by contracts alone.
 pub trait Held: Drop {
     /// The numbers of the run, which no call changes.
     ghost numbers: { Self → Numbers };

@@ -20,6 +20,9 @@ pub const HEAP: u32 = 1_000_000;
 /// The blocks of a table, where a run names no number; and the most that it may name.
 pub const BLOCKS: u32 = 256;
 
+/// The kinds of handle.
+pub const KINDS: u32 = 7;
+
 /// The slots of a block.
 pub const ROWS: u32 = 64;
 
@@ -31,3 +34,6 @@ pub const MOST_BYTES: u32 = 8_388_608;
 
 /// The commands of a script, at most.
 pub const MOST_COMMANDS: u32 = 100_000;
+
+/// The rounds of a load, at most. Its commands are then 96,748.
+pub const MOST_ROUNDS: u32 = 3_000;

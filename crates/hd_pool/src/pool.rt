@@ -8,13 +8,10 @@ ghost use Rattle.hd_pool.specs.Inside.{place_of};
 ghost use Rattle.hd_pool.specs.Pool.{slots_of, IsLeastFreeFor, HasNoneFor, IsWhole, IsLeastWholeOf, HasNoWholeOf};
 
 use crate::masks::MaskSet;
-use hd_model::limits::{BLOCKS, ROWS};
+use hd_model::limits::{BLOCKS, KINDS, ROWS};
 use hd_model::{Kind, Memory, Slot};
 use std::alloc::Global;
 use std::marker::Model;
-
-// The kinds of handle.
-const KINDS: u32 = 7;
 
 // The masks that have a bit for each number of a block, 0 to 256.
 const MASKS: u32 = 5;

@@ -1,7 +1,7 @@
 -- What every run of a generated script prints.
 use Rattle.std.specs.Prelude.{◌≡◌, ℕ, ◌+◌, ◌*◌, ◌/◌, ◌≤◌, List, [], slice_index_or}
 use Rattle.hd_model.specs.declared.data.Entry.{Entry}
-use Rattle.hd_script.specs.declared.generated.TheConstants.{MOST_ROUNDS}
+use Rattle.hd_model.specs.declared.limits.TheConstants.{MOST_ROUNDS}
 use Rattle.hd_model.specs.State.{State}
 use Rattle.hd_model.specs.Run.{Run, part_of, commands_of}
 use Rattle.hd_model.specs.Generated.{load_numbers, generated_lists, load_text, load_text_of}

@@ -4,14 +4,12 @@ ghost use Rattle.hd_model.specs.Generated.{collection_after, round_of, generated
 ghost use Rattle.hd_script.specs.Lists.{contents};
 
 use crate::scripts::Scripts;
+use hd_model::limits::MOST_ROUNDS;
 use hd_model::{Cmd, Make, Memory, Strength};
 use std::alloc::{AllocError, Global};
 
 // The callers of a load.
 const LOAD_CALLERS: u32 = 4;
-
-/// The most rounds of a load. Its commands are then 96,748.
-pub const MOST_ROUNDS: u32 = 3_000;
 
 // A collection follows each round whose number this divides.
 const ROUNDS_TO_COLLECTION: u32 = 16;

@@ -15,7 +15,7 @@ mod tests;
 mod text;
 
 pub use fault::ScriptFault;
-pub use generated::{MOST_ROUNDS, generate};
+pub use generated::generate;
 pub use laws::{faults_come_first, lines_make_the_bytes, lists_follow_the_lines, words_decide};
 pub use load::loads_have_their_line;
 pub use parsing::parse;

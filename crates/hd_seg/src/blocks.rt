@@ -13,12 +13,10 @@ ghost use Rattle.hd_seg.specs.Blocks.{use_of, use_at, HasUnused, numbered};
 use crate::block::{Block, UNUSED};
 use crate::filled::filled;
 use crate::row::BlockKind;
+use hd_model::limits::KINDS;
 use hd_model::{Kind, Memory};
 use std::alloc::{AllocError, Global};
 use std::marker::Model;
-
-/// The number of kinds.
-const KINDS: usize = 7;
 
 /// The blocks of a table. Their numbers are from 1.
 #[derive(Drop)]
@@ -75,7 +73,7 @@ fn empty_chains(alloc: Global, room: usize) -> Result<Vec<Vec<u32>>, AllocError>
     ensures chains { IfOk result (λ chains. map (λ v. v.items) chains.items ≡ replicate 7 []) }
     ensures rooms { IfOk result (λ chains. All (λ v. room ≤ vec_capacity v) chains.items) }
 {
-    let mut chains = Vec::with_capacity(alloc, KINDS)?;
+    let mut chains = Vec::with_capacity(alloc, KINDS as usize)?;
     for _kind in 0..KINDS {
         chains.push_reserved(Vec::with_capacity(alloc, room)?);
     }
