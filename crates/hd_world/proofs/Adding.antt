@@ -1,6 +1,6 @@
 -- One object more in a heap: the readings of all else stay.
-use Rattle.std.proofs.Common.{◌≡◌, ℕ, ◌+◌, ◌<◌, ◌≤◌, Bool, true, false, cond, List, [], ◌∷◌, map, Option, Some, None, refl, sym, ap, ◌∙◌, subst, inl, inr, arith}
-use Rattle.std.specs.Prelude.{option_map, unwrap_or, is_some, IsSome, Contains, T}
+use Rattle.std.proofs.Common.{◌≡◌, ℕ, true, List, map, Option, Some, None, refl, sym, ap, ◌∙◌, subst, inl, inr}
+use Rattle.std.specs.Prelude.{option_map, is_some, IsSome, Contains, T}
 use Rattle.std.specs.FinMap.{FinMap, get, insert}
 use Rattle.std.specs.Ordering.{nat_cmp}
 use Rattle.std.proofs.lemmas.Bool.{cases_eq}
@@ -12,7 +12,7 @@ use Rattle.hd_model.specs.Heap.{Placed, Heap, region_generation, region_of, obje
 use Rattle.hd_world.specs.Reading.{names_of, read_object, objects_by_id, rows_by_id}
 use Rattle.hd_world.proofs.Maps.{get-put, get-put_other, same_numbers, some_same}
 use Rattle.hd_world.proofs.Agreeing.{names_agree, object_agrees, handle_agrees}
-use Rattle.hd_world.proofs.Readings.{no_some, same_id, names-get, rows-get, objects-get, objects-under, Stands, objects-are}
+use Rattle.hd_world.proofs.Readings.{names-get, rows-get, objects-get, objects-under, Stands, objects-are}
 
 -- the heap k is h with one object more, whose identity none has
 pub record Adds (h k : Heap) (a : ℕ) (new : Placed) : Type 0 where

@@ -1,7 +1,7 @@
 -- An age of a store is lowered.
-use Rattle.std.proofs.Common.{◌≡◌, ℕ, ◌≤◌, List, length, sym, ◌∙◌, arith}
+use Rattle.std.proofs.Common.{ℕ, List, sym, ◌∙◌, arith}
 use Rattle.std.proofs.lemmas.List.{length-set}
-use Rattle.hd_model.specs.Ages.{age_of, clump_of, lowered}
+use Rattle.hd_model.specs.Ages.{clump_of, lowered}
 use Rattle.hd_model.proofs.Ages.{lowered_below}
 use Rattle.hd_world.specs.Stored.{Parts, IsStored}
 

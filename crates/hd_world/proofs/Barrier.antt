@@ -1,6 +1,6 @@
 -- A field of an object of a store is written through the barrier.
-use Rattle.std.proofs.Common.{◌≡◌, ℕ, ◌+◌, ◌<◌, ◌≤◌, Bool, true, false, ◌||◌, cond, List, [], ◌∷◌, map, length, get_or, set, Option, Some, None, refl, sym, ap, ◌∙◌, ◌⊎◌, subst, inl, inr, arith}
-use Rattle.std.specs.Prelude.{option_map, unwrap_or, is_some, IsSome, IfSome, Contains, T, nat_lt, if◌then◌else◌}
+use Rattle.std.proofs.Common.{◌≡◌, ℕ, ◌<◌, Bool, true, false, ◌||◌, List, map, length, get_or, set, Option, Some, refl, sym, ap, ◌∙◌, ◌⊎◌, subst, inl, inr, arith}
+use Rattle.std.specs.Prelude.{option_map, IfSome, Contains, T, if◌then◌else◌}
 use Rattle.std.specs.FinSet as set
 use Rattle.std.specs.Ordering.{nat_cmp, eq_by_cmp}
 use Rattle.std.specs.Cmp.{nat_cmp_total}
@@ -8,14 +8,14 @@ use Rattle.std.proofs.lemmas.Bool.{cases_eq, lt-ltb}
 use Rattle.std.proofs.lemmas.List.{map-set, length-set, get_or-set_same, get_or-set_other}
 use Rattle.hd_model.specs.declared.data.Id.{Id}
 use Rattle.hd_model.specs.declared.data.Addr.{Addr}
-use Rattle.hd_model.specs.State.{Object, rename_object}
-use Rattle.hd_model.specs.Scene.{is_object, fields_in, fields_at, generation_at, IsField}
-use Rattle.hd_model.specs.Heap.{Placed, Heap, card_of, object_at, has_object, placed_at, id_at, is_carded}
+use Rattle.hd_model.specs.State.{Object}
+use Rattle.hd_model.specs.Scene.{fields_in, generation_at, IsField}
+use Rattle.hd_model.specs.Heap.{Placed, Heap, card_of, object_at, has_object, placed_at, id_at}
 use Rattle.hd_heap.specs.Calls.{stored as with_stored, with_field, is_younger}
 use Rattle.hd_world.specs.Reading.{read_object, named_in}
 use Rattle.hd_world.specs.Stored.{Parts, IsStored}
 use Rattle.hd_world.specs.Store.{Machine, machine_of}
-use Rattle.hd_world.proofs.Maps.{tied, some_same}
+use Rattle.hd_world.proofs.Maps.{tied}
 use Rattle.hd_world.proofs.Readings.{named-is}
 use Rattle.hd_world.proofs.Standing.{placed_is, object_is}
 use Rattle.hd_world.proofs.Writes.{Writes}

@@ -1,13 +1,12 @@
 -- Objects, rows and cells are as many by identity as by address.
-use Rattle.std.proofs.Common.{◌≡◌, ℕ, ◌+◌, ◌*◌, List, [], ◌∷◌, map, length, Option, Some, None, refl, sym, ap, ◌∙◌, arith}
+use Rattle.std.proofs.Common.{◌≡◌, ℕ, ◌+◌, List, [], ◌∷◌, map, refl, ap, ◌∙◌, arith}
 use Rattle.std.specs.Prelude.{sum_by, option_map}
-use Rattle.std.specs.FinMap.{FinMap, get, len, entries, values, from_entries}
+use Rattle.std.specs.FinMap.{FinMap, len, entries, values}
 use Rattle.std.specs.Ordering.{nat_cmp}
 use Rattle.std.proofs.lemmas.List.{length-map}
 use Rattle.std.proofs.lemmas.List.Sums.{sum_by-cons}
-use Rattle.hd_model.specs.declared.data.Id.{Id}
 use Rattle.hd_model.specs.declared.data.Addr.{Addr}
-use Rattle.hd_model.specs.State.{Object, Handle, State, size_of, used_of as machine_used, rename_handle}
+use Rattle.hd_model.specs.State.{Handle, size_of, rename_handle}
 use Rattle.hd_model.specs.Heap.{Placed, Heap, id_at, cells_of, used_of, HasIdentities}
 use Rattle.hd_world.specs.Reading.{read_object, objects_by_id, rows_by_id}
 use Rattle.hd_world.proofs.Maps.{rekeyed}

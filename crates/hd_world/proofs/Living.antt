@@ -1,19 +1,18 @@
 -- The handle in a slot of a store, as commands find it.
-use Rattle.std.proofs.Common.{◌≡◌, ℕ, ◌/◌, ◌*◌, ◌+◌, ◌<◌, ◌≤◌, true, Option, Some, None, refl, sym, ap, ◌∙◌, subst, arith}
-use Rattle.std.specs.Prelude.{option_map, IsSome, IfSome, is_some, T}
+use Rattle.std.proofs.Common.{◌≡◌, ◌≤◌, true, Option, Some, None, refl, sym, ap, ◌∙◌, subst, arith}
+use Rattle.std.specs.Prelude.{option_map, IfSome}
 use Rattle.std.specs.FinMap.{get}
 use Rattle.hd_model.specs.declared.data.Addr.{Addr}
-use Rattle.hd_model.specs.declared.data.Id.{Id}
 use Rattle.hd_model.specs.declared.data.Slot.{Slot}
 use Rattle.hd_model.specs.declared.data.Kind.{Kind}
-use Rattle.hd_model.specs.State.{Extra, nothing, strength, secondary, count, Handle, handles_of, secondary_of, handle_at, use_of, block_of, rename_handle}
+use Rattle.hd_model.specs.State.{Extra, nothing, strength, secondary, count, Handle, secondary_of, handle_at, use_of, block_of, rename_handle}
 use Rattle.hd_model.specs.Scene.{is_object, generation_at}
 use Rattle.hd_model.specs.Ages.{age_of}
-use Rattle.hd_model.specs.Heap.{object_at, has_object, id_at}
+use Rattle.hd_model.specs.Heap.{object_at, id_at}
 use Rattle.hd_model.specs.Table.{IsTable, fits}
 use Rattle.hd_seg.specs.declared.row.Row.{Row}
 use Rattle.hd_seg.specs.Row.{extra_of, extra_from, handle_of, row_of}
-use Rattle.hd_world.specs.Reading.{name_in, IsNamed}
+use Rattle.hd_world.specs.Reading.{IsNamed}
 use Rattle.hd_world.specs.Growth.{kind_in_use}
 use Rattle.hd_world.specs.Stored.{Parts, IsStored}
 use Rattle.hd_world.specs.Store.{Machine, machine_of}

@@ -6,14 +6,13 @@ use Rattle.hd_model.specs.declared.data.Id.{Id}
 use Rattle.hd_model.specs.declared.data.Addr.{Addr}
 use Rattle.hd_model.specs.declared.data.Slot.{Slot}
 use Rattle.hd_model.specs.declared.data.Kind.{Kind}
-use Rattle.hd_model.specs.declared.data.Kind.TheVariants as kind
 use Rattle.hd_model.specs.declared.data.Make.{Make}
 use Rattle.hd_model.specs.declared.data.Make.TheVariants as make
 use Rattle.hd_model.specs.declared.data.Grown.{Grown}
 use Rattle.hd_model.specs.declared.data.Grown.TheVariants.{Zero, One, Two, Back}
 use Rattle.hd_model.specs.State.{Object, Extra, nothing, strength, secondary, count, State, secondary_of, object_at}
 use Rattle.hd_model.specs.Scene.{scene_of, generation_in, generation_at}
-use Rattle.hd_model.specs.Ages.{age_of, lowered}
+use Rattle.hd_model.specs.Ages.{age_of}
 use Rattle.hd_model.specs.Aging.{lowered_to, lowered_by_new}
 use Rattle.hd_model.specs.Kinds.{kind_of}
 use Rattle.hd_model.specs.Step.{with_growth}

@@ -1,12 +1,10 @@
 -- What the roots of a store name: registers and statics read and written.
-use Rattle.std.proofs.Common.{◌≡◌, ℕ, ◌+◌, ◌*◌, ◌<◌, ◌≤◌, true, List, [], map, length, get_or, set, Option, Some, None, refl, sym, ap, ◌∙◌, subst, inl, inr, arith}
+use Rattle.std.proofs.Common.{◌≡◌, ℕ, ◌+◌, ◌*◌, ◌<◌, true, map, length, get_or, set, Option, Some, None, refl, sym, ap, ◌∙◌, subst, inl, inr, arith}
 use Rattle.std.specs.Prelude.{option_map, Contains, IfSome}
 use Rattle.std.proofs.lemmas.List.{map-set, length-set, get_or_default}
 use Rattle.hd_model.specs.declared.data.Addr.{Addr}
-use Rattle.hd_model.specs.declared.data.Id.{Id}
-use Rattle.hd_model.specs.State.{State, register_of, static_of, with_register, with_static}
-use Rattle.hd_model.specs.Scene.{is_object}
-use Rattle.hd_model.specs.Heap.{object_at, has_object, id_at}
+use Rattle.hd_model.specs.State.{register_of, static_of, with_register, with_static}
+use Rattle.hd_model.specs.Heap.{has_object, id_at}
 use Rattle.hd_world.specs.Rows.{rows_of, rest_of}
 use Rattle.hd_world.specs.Reading.{named_in, IsNamed}
 use Rattle.hd_world.specs.Stored.{Parts, callers_of, state_of, IsStored}

@@ -1,30 +1,30 @@
 -- A new object of a store: what the machine sees, and that the store keeps what it keeps.
-use Rattle.std.proofs.Common.{◌≡◌, ℕ, zero, suc, ◌+◌, ◌*◌, ◌<◌, ◌≤◌, Bool, true, false, cond, List, [], ◌∷◌, map, length, get_or, replicate, set, Option, Some, None, refl, sym, ap, ◌∙◌, ◌⊎◌, subst, inl, inr, arith}
-use Rattle.std.specs.Prelude.{option_map, unwrap_or, is_some, IsSome, Contains, T, sum_by}
-use Rattle.std.specs.FinMap.{FinMap, get, insert, values}
-use Rattle.std.specs.Ordering.{nat_cmp}
+use Rattle.std.proofs.Common.{◌≡◌, ℕ, zero, suc, ◌+◌, ◌<◌, ◌≤◌, Bool, true, false, List, ◌∷◌, map, length, get_or, replicate, set, Option, Some, None, refl, sym, ap, ◌∙◌, subst, inl, inr, arith}
+use Rattle.std.specs.Prelude.{option_map, unwrap_or, is_some, Contains, T, sum_by}
+use Rattle.std.specs.FinMap.{get, insert, values}
 use Rattle.std.proofs.lemmas.Bool.{cases_eq}
 use Rattle.std.proofs.lemmas.List.{length-set, length-replicate}
 use Rattle.hd_model.specs.declared.data.Id.{Id}
 use Rattle.hd_model.specs.declared.data.Addr.{Addr}
-use Rattle.hd_model.specs.State.{Object, State, last_serial, identity_of, with_object, with_serial, secondary_of, used_of as machine_used}
-use Rattle.hd_model.specs.Scene.{is_object, fields_in, generation_in, fields_at, generation_at, IsField}
-use Rattle.hd_model.specs.Heap.{Placed, Region, Heap, region_of, region_at, region_generation, object_in, object_at, has_object, is_carded, cells_of, used_of, id_at}
+use Rattle.hd_model.specs.State.{Object, last_serial, identity_of, with_object, with_serial, used_of as machine_used}
+use Rattle.hd_model.specs.Scene.{is_object, fields_in, generation_in, generation_at, IsField}
+use Rattle.hd_model.specs.Heap.{Placed, Region, Heap, region_of, region_at, region_generation, object_in, object_at, is_carded, cells_of, used_of, id_at}
 use Rattle.hd_model.specs.Ages.{age_of}
-use Rattle.hd_heap.specs.Calls.{new_object, with_put, IsMade, IsRefused as IsRefusedBy}
+use Rattle.hd_heap.specs.Calls.{new_object, IsMade, IsRefused as IsRefusedBy}
 use Rattle.hd_heap.specs.declared.fault.NewFault.{NewFault}
 use Rattle.hd_heap.specs.declared.fault.NewFault.TheVariants.{Full, Memory}
 use Rattle.hd_world.specs.Rows.{rows_of, rest_of}
 use Rattle.hd_world.specs.Reading.{names_of, read_object, objects_by_id}
 use Rattle.hd_world.specs.Stored.{Parts, callers_of, state_of, IsStored}
 use Rattle.hd_world.specs.Store.{Machine, machine_of}
-use Rattle.hd_world.specs.Objects.{fresh_object, IsRefused}
+use Rattle.hd_model.specs.Command.{fresh_object}
+use Rattle.hd_world.specs.Objects.{IsRefused}
 use Rattle.hd_world.proofs.Counted.{used-is}
 use Rattle.hd_world.proofs.Maps.{get-put, get-put_other}
 use Rattle.hd_world.proofs.Sums.{share, sum-insert}
 use Rattle.hd_world.proofs.Readings.{no_some, objects-get}
 use Rattle.hd_world.proofs.Standing.{has-placed}
-use Rattle.hd_world.proofs.Adding.{Adds, placed, id-add, names-add, identities-add, roots-add, rows-add, objects-add}
+use Rattle.hd_world.proofs.Adding.{Adds, placed, names-add, identities-add, roots-add, rows-add, objects-add}
 
 none_at : {A : Type 0} (n k : ℕ) (x : A) → k < n → get_or (replicate n None) k (Some x) ≡ Some x → ⊥
 none_at zero k x within is = absurd (omega arith)

@@ -1,12 +1,11 @@
 -- A store at first: nothing is made, and each register, static and board place is null or empty.
-use Rattle.std.proofs.Common.{◌≡◌, ℕ, zero, suc, ◌+◌, ◌*◌, ◌<◌, ◌≤◌, true, List, [], ◌∷◌, map, length, replicate, Option, Some, None, refl, sym, ap, ◌∙◌, subst, arith}
-use Rattle.std.specs.Prelude.{option_map, is_some, IsSome, Contains, T, sum_by}
-use Rattle.std.specs.FinMap.{FinMap, get, empty, entries, values, from_entries, get-empty, len-empty, len-entries}
+use Rattle.std.proofs.Common.{◌≡◌, ℕ, zero, suc, ◌+◌, ◌*◌, ◌≤◌, List, [], ◌∷◌, map, length, replicate, Option, Some, None, refl, sym, ap, ◌∙◌, subst, arith}
+use Rattle.std.specs.Prelude.{option_map, IsSome, Contains, T, sum_by}
+use Rattle.std.specs.FinMap.{get, empty, entries, values, from_entries, get-empty, len-empty, len-entries}
 use Rattle.std.specs.Ordering.{nat_cmp}
 use Rattle.std.proofs.lemmas.List.{length-replicate}
-use Rattle.hd_model.specs.declared.data.Id.{Id}
 use Rattle.hd_model.specs.declared.data.Addr.{Addr}
-use Rattle.hd_model.specs.State.{Object, Handle, State, rename_handle, start_of}
+use Rattle.hd_model.specs.State.{Object, Handle, rename_handle, start_of}
 use Rattle.hd_model.specs.Scene.{fields_in}
 use Rattle.hd_model.specs.Heap.{Placed, region_of, region_generation, object_in, object_at, cells_of, id_at}
 use Rattle.hd_model.specs.Table.{empty_table}

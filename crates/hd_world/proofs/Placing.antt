@@ -1,17 +1,16 @@
 -- A new handle's slot in a block that has just come into use.
-use Rattle.std.proofs.Common.{◌≡◌, ◌≢◌, ℕ, ◌+◌, ◌*◌, ◌/◌, ◌≤◌, true, false, Option, Some, None, refl, sym, ap, ◌∙◌, subst, arith, T}
-use Rattle.std.specs.FinMap.{FinMap, get, insert}
+use Rattle.std.proofs.Common.{◌≡◌, ℕ, ◌+◌, ◌*◌, ◌/◌, ◌≤◌, true, false, Option, Some, None, refl, sym, ap, ◌∙◌, subst, arith}
+use Rattle.std.specs.FinMap.{get, insert}
 use Rattle.hd_model.specs.declared.data.Id.{Id}
 use Rattle.hd_model.specs.declared.data.Slot.{Slot}
 use Rattle.hd_model.specs.declared.data.Kind.{Kind}
 use Rattle.hd_model.specs.declared.data.Grown.{Grown}
 use Rattle.hd_model.specs.declared.data.Grown.TheVariants.{Zero, One, Two, Back}
-use Rattle.hd_model.specs.State.{Handle, BlockUse, handles_of, extra_data, State, given_of, block_of, first_slot, handle_at, use_of, with_use, IsFree}
+use Rattle.hd_model.specs.State.{Handle, handles_of, extra_data, given_of, block_of, first_slot, handle_at, use_of, IsFree}
 use Rattle.hd_model.specs.Kinds.{is_paired}
 use Rattle.hd_model.specs.Step.{blocks_needed, IsLeastUnused}
 use Rattle.hd_model.specs.WellFormed.{HasHandles}
 use Rattle.hd_model.specs.Step.{with_growth}
-use Rattle.hd_world.specs.Growth.{GrowsBy}
 use Rattle.hd_world.specs.Making.{IsPlace}
 use Rattle.hd_world.specs.Store.{Machine}
 use Rattle.hd_world.proofs.Maps.{get-put, get-put_other}

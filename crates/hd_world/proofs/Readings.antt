@@ -1,13 +1,13 @@
 -- How a heap, its rows and its roots read by identity, and how that changes with the heap.
-use Rattle.std.proofs.Common.{◌≡◌, ℕ, ◌+◌, ◌<◌, ◌≤◌, Bool, true, false, cond, List, [], ◌∷◌, map, Option, Some, None, refl, sym, ap, ◌∙◌, subst, inl, inr, arith}
-use Rattle.std.specs.Prelude.{option_map, unwrap_or, is_some, IsSome, Contains, T}
+use Rattle.std.proofs.Common.{◌≡◌, ℕ, Option, Some, None, refl, sym, ap, ◌∙◌, subst, inl, inr}
+use Rattle.std.specs.Prelude.{option_map, unwrap_or, is_some, T}
 use Rattle.std.specs.FinMap.{FinMap, get, insert}
 use Rattle.std.specs.Ordering.{nat_cmp}
 use Rattle.std.proofs.lemmas.Bool.{cases_eq}
 use Rattle.hd_model.specs.declared.data.Id.{Id}
 use Rattle.hd_model.specs.declared.data.Addr.{Addr}
 use Rattle.hd_model.specs.State.{Object, Handle, rename_object, rename_handle}
-use Rattle.hd_model.specs.Heap.{Placed, Heap, region_generation, region_of, object_in, object_at, id_in, id_at, HasIdentities}
+use Rattle.hd_model.specs.Heap.{Placed, Heap, region_of, object_in, id_in, id_at, HasIdentities}
 use Rattle.hd_world.specs.Reading.{names_of, read_object, objects_by_id, rows_by_id, name_in, named_in}
 use Rattle.hd_world.proofs.Maps.{get-put, get-put_other, same_numbers, some_same, get-mapped, Under, AreApart, under, get-rekeyed}
 

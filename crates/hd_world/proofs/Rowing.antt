@@ -1,6 +1,6 @@
 -- Rows of a store that change: what the machine sees, and that the store keeps what it keeps.
-use Rattle.std.proofs.Common.{◌≡◌, ℕ, ◌+◌, ◌*◌, ◌/◌, ◌<◌, ◌≤◌, Bool, true, false, not, cond, List, [], map, length, get_or, Option, Some, None, refl, sym, ap, ◌∙◌, subst, inl, inr, arith}
-use Rattle.std.specs.Prelude.{option_map, unwrap_or, IsSome, IfSome, is_some, T, Contains, Result, Ok, Err, IfOk, OnErr}
+use Rattle.std.proofs.Common.{◌≡◌, ℕ, ◌*◌, ◌/◌, ◌≤◌, Bool, true, false, not, cond, Option, Some, None, refl, sym, ap, ◌∙◌, subst, inl, inr, arith}
+use Rattle.std.specs.Prelude.{option_map, unwrap_or, IsSome, IfSome, is_some, T, Result, Ok, Err, IfOk, OnErr}
 use Rattle.std.specs.FinMap.{FinMap, get, insert, remove, get-remove}
 use Rattle.std.specs.Ordering.{nat_cmp, eq_by_cmp}
 use Rattle.std.specs.Cmp.{nat_cmp_total}
@@ -13,24 +13,24 @@ use Rattle.hd_model.specs.declared.data.Kind.TheVariants as kind
 use Rattle.hd_model.specs.declared.data.Grown.{Grown}
 use Rattle.hd_model.specs.declared.data.Grown.TheVariants.{Zero, One, Two, Back}
 use Rattle.hd_seg.specs.declared.row.Full.{Full}
-use Rattle.hd_model.specs.State.{Extra, nothing, strength, secondary, count, Handle, BlockUse, handles_of, extra_data, State, handle_at, use_of, block_of, secondary_of, rename_handle, with_handle, without_handle}
+use Rattle.hd_model.specs.State.{Extra, nothing, strength, secondary, count, Handle, BlockUse, handles_of, extra_data, handle_at, use_of, block_of, secondary_of, rename_handle, with_handle, without_handle}
 use Rattle.hd_model.specs.Role.{role, attaches}
 use Rattle.hd_model.specs.Scene.{is_object, generation_at}
 use Rattle.hd_model.specs.Ages.{age_of}
-use Rattle.hd_model.specs.Heap.{Heap, object_at, has_object, id_at}
+use Rattle.hd_model.specs.Heap.{Heap, object_at, id_at}
 use Rattle.hd_model.specs.Table.{Table, fits, kind_in, kind_at, live_at, is_single, grown_by, IsGrowth, without_block, with_row, without_row}
 use Rattle.hd_seg.specs.declared.row.Row.{Row}
 use Rattle.hd_seg.specs.Row.{handle_of, extra_of}
-use Rattle.hd_world.specs.Reading.{names_of, name_in, rows_by_id, IsNamed}
+use Rattle.hd_world.specs.Reading.{rows_by_id, IsNamed}
 use Rattle.hd_world.specs.Stored.{Parts, state_of, IsStored}
 use Rattle.hd_world.specs.Store.{Machine, machine_of}
 use Rattle.hd_world.specs.Objects.{object_named}
 use Rattle.hd_world.specs.Growth.{kind_in_use}
 use Rattle.hd_model.specs.Kinds.{is_paired}
 use Rattle.hd_world.specs.Handles.{handle_named, MayStand}
-use Rattle.hd_world.proofs.Maps.{tied, untied, get-put, get-put_other, same_numbers, some_same}
+use Rattle.hd_world.proofs.Maps.{get-put, get-put_other, same_numbers, some_same}
 use Rattle.hd_world.proofs.Readings.{no_some, rows-get, names-are}
-use Rattle.hd_world.proofs.Standing.{named_objects, known_object, generation-is}
+use Rattle.hd_world.proofs.Standing.{known_object, generation-is}
 
 -- the parts with another table
 abbrev pub with_table : Parts → Table → Parts

@@ -1,16 +1,15 @@
 -- What the calls of a heap answer, in the words of the store.
-use Rattle.std.proofs.Common.{◌≡◌, ℕ, zero, suc, ◌+◌, ◌<◌, ◌≤◌, Bool, true, false, cond, List, [], ◌∷◌, map, length, get_or, Option, Some, None, refl, sym, ap, ◌∙◌, subst, inl, inr, arith}
+use Rattle.std.proofs.Common.{◌≡◌, ℕ, zero, suc, ◌<◌, true, false, List, [], ◌∷◌, map, length, get_or, Option, Some, None, refl, sym, ap, ◌∙◌, subst}
 use Rattle.std.specs.Prelude.{option_map, unwrap_or, is_some, IsSome, IfSome, Contains, T}
 use Rattle.std.proofs.lemmas.List.{length-map}
 use Rattle.std.proofs.lemmas.List.Elements.{Contains-get_or}
-use Rattle.std.specs.FinMap.{FinMap, get, insert}
-use Rattle.std.specs.Ordering.{nat_cmp}
+use Rattle.std.specs.FinMap.{get}
 use Rattle.hd_model.specs.declared.data.Id.{Id}
 use Rattle.hd_model.specs.declared.data.Addr.{Addr}
-use Rattle.hd_model.specs.State.{Object, State, object_at as machine_object, field_of, rename_object}
-use Rattle.hd_model.specs.Scene.{is_object, fields_in, generation_in, fields_at, generation_at}
-use Rattle.hd_model.specs.Heap.{Placed, Heap, region_generation, region_of, object_in, object_at, has_object, placed_at, id_in, id_at, HasIdentities}
-use Rattle.hd_world.specs.Reading.{names_of, read_object, objects_by_id, name_in, named_in, IsNamed}
+use Rattle.hd_model.specs.State.{Object, object_at as machine_object, field_of}
+use Rattle.hd_model.specs.Scene.{fields_in, generation_in, fields_at, generation_at}
+use Rattle.hd_model.specs.Heap.{Placed, Heap, region_generation, region_of, object_in, object_at, has_object, placed_at, id_in, id_at}
+use Rattle.hd_world.specs.Reading.{names_of, read_object, name_in, named_in, IsNamed}
 use Rattle.hd_world.specs.Stored.{Parts, state_of, IsStored}
 use Rattle.hd_world.specs.Store.{Machine, machine_of}
 use Rattle.hd_world.specs.Objects.{object_named}

@@ -1,27 +1,24 @@
 -- Another object with the same identity at an address of a store: what the machine sees, and that the store keeps what it keeps.
-use Rattle.std.proofs.Common.{◌≡◌, ℕ, zero, suc, ◌+◌, ◌*◌, ◌<◌, ◌≤◌, Bool, true, false, cond, List, [], ◌∷◌, map, length, get_or, set, Option, Some, None, refl, sym, ap, ◌∙◌, ◌⊎◌, subst, inl, inr, arith}
-use Rattle.std.specs.Prelude.{option_map, unwrap_or, is_some, IsSome, IfSome, Contains, T, sum_by}
-use Rattle.std.specs.FinMap.{FinMap, get, insert, values}
-use Rattle.std.specs.FinSet as set
-use Rattle.std.specs.Ordering.{nat_cmp}
+use Rattle.std.proofs.Common.{◌≡◌, ◌<◌, ◌≤◌, true, map, length, Some, refl, sym, ap, ◌∙◌, ◌⊎◌, subst, inl, inr, arith}
+use Rattle.std.specs.Prelude.{option_map, is_some, IsSome, Contains, sum_by}
+use Rattle.std.specs.FinMap.{get, insert, values}
 use Rattle.std.proofs.lemmas.Bool.{cases_eq}
 use Rattle.hd_model.specs.declared.data.Id.{Id}
 use Rattle.hd_model.specs.declared.data.Addr.{Addr}
-use Rattle.hd_model.specs.State.{Object, Handle, State, with_object, secondary_of}
-use Rattle.hd_model.specs.Scene.{Objects, is_object, fields_in, generation_in, fields_at, generation_at, IsField, IsWhole}
-use Rattle.hd_model.specs.Heap.{Placed, Heap, region_generation, region_of, object_in, object_at, has_object, placed_at, cells_of, id_at, is_carded, used_of, HasIdentities}
-use Rattle.hd_model.specs.Ages.{HasSoundAges, HasSoundCards, age_of}
-use Rattle.hd_model.specs.Table.{row_at}
+use Rattle.hd_model.specs.State.{Object, with_object}
+use Rattle.hd_model.specs.Scene.{is_object, fields_in, generation_in, generation_at, IsField}
+use Rattle.hd_model.specs.Heap.{Placed, Heap, region_generation, region_of, object_in, object_at, has_object, placed_at, cells_of, is_carded, used_of}
+use Rattle.hd_model.specs.Ages.{HasSoundCards, age_of}
 use Rattle.hd_world.specs.Rows.{rows_of, rest_of}
-use Rattle.hd_world.specs.Reading.{names_of, read_object, objects_by_id, rows_by_id, name_in}
+use Rattle.hd_world.specs.Reading.{read_object, name_in}
 use Rattle.hd_world.specs.Stored.{Parts, callers_of, state_of, IsStored}
 use Rattle.hd_world.specs.Store.{Machine, machine_of}
 use Rattle.hd_world.specs.Objects.{object_named}
 use Rattle.hd_heap.specs.Calls.{with_object as with_placed}
 use Rattle.hd_world.proofs.Standing.{placed_is, object_is, identity-is, named_object}
-use Rattle.hd_world.proofs.Maps.{get-put, get-put_other, some_same}
+use Rattle.hd_world.proofs.Maps.{get-put, get-put_other}
 use Rattle.hd_world.proofs.Sums.{share, sum-insert}
-use Rattle.hd_world.proofs.Readings.{Replaces, same_id, ids-replace, names-replace, rows-replace, identities-replace, objects-replace}
+use Rattle.hd_world.proofs.Readings.{Replaces, ids-replace, names-replace, rows-replace, identities-replace, objects-replace}
 
 -- the heap k is h with another object of the same size at an address, which names objects, and with the cards that it needs
 pub record Writes (h k : Heap) (at : Addr) (old new : Placed) : Type 0 where

@@ -16,7 +16,8 @@ use Rattle.hd_world.specs.Store.{Machine}
 
 -- the entry of a caller's command that comes to an outcome
 abbrev pub entry_of : ℕ → Cmd → Outcome → Entry
-entry_of caller cmd wanted = record { caller = caller; cmd = cmd; slot = wanted.slot; grown = Zero; reply = wanted.reply }
+entry_of caller cmd wanted =
+    record { caller = caller; cmd = cmd; slot = wanted.slot; grown = Zero; reply = wanted.reply }
 
 -- the store with the state of an outcome
 abbrev pub after : Machine → Outcome → Machine
@@ -25,7 +26,9 @@ after m wanted = record m { state = wanted.after }
 -- the slot in a handle register with its handle, or why there is none
 abbrev pub live_in : State → ℕ → ℕ → Result (Slot × Handle Id) Refusal
 live_in s caller h =
-    option_map_or (λ slot. option_map_or (λ handle. Ok (slot, handle)) (handle_at s slot) (Err refusal.NotLive)) (handle_register_of s caller h) (Err refusal.EmptyRegister)
+    option_map_or
+    (λ slot. option_map_or (λ handle. Ok (slot, handle)) (handle_at s slot) (Err refusal.NotLive))
+    (handle_register_of s caller h) (Err refusal.EmptyRegister)
 
 -- the live handle that a command finds, as the machine has it
 abbrev pub as_found : Machine → Result (Slot × Live) Refusal → Result (Slot × Handle Id) Refusal

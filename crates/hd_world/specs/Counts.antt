@@ -6,4 +6,5 @@ use Rattle.hd_model.specs.State.{Handle, State, count_of}
 
 -- no count is at the end of its type
 abbrev pub HasSmallCounts : State → Type 0
-HasSmallCounts s = (slot : ℕ) (handle : Handle Id) → get s.handles slot ≡ Some handle → count_of handle.extra + 1 < 2 ^ 32
+HasSmallCounts s =
+    (slot : ℕ) (handle : Handle Id) → get s.handles slot ≡ Some handle → count_of handle.extra + 1 < 2 ^ 32

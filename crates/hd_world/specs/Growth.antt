@@ -1,5 +1,5 @@
 -- By which blocks a table grows, in the words of the machine.
-use Rattle.std.specs.Prelude.{◌≡◌, ℕ, ◌+◌, true, false, Option, Some, None}
+use Rattle.std.specs.Prelude.{◌≡◌, ◌+◌, true, false, Option, Some, None}
 use Rattle.hd_model.specs.declared.data.Kind.{Kind}
 use Rattle.hd_model.specs.declared.data.Grown.{Grown}
 use Rattle.hd_model.specs.declared.data.Grown.TheVariants.{Zero, One, Two, Back}
@@ -11,7 +11,8 @@ use Rattle.hd_model.specs.Step.{IsLeastUnused}
 abbrev pub GrowsBy : Numbers → State → Kind → Grown → Type 0
 GrowsBy n s kind Zero = ⊥
 GrowsBy n s kind (One block) = (is_paired kind ≡ false) × IsLeastUnused n s 1 block
-GrowsBy n s kind (Two block other) = (is_paired kind ≡ true) × IsLeastUnused n s 1 block × IsLeastUnused n s (block + 1) other
+GrowsBy n s kind (Two block other) =
+    (is_paired kind ≡ true) × IsLeastUnused n s 1 block × IsLeastUnused n s (block + 1) other
 GrowsBy n s kind (Back block) = ⊥
 
 -- the kind of the handles of a block, if it has handles

@@ -1,7 +1,6 @@
 -- Rows of a store, in the words of the machine.
-use Rattle.std.specs.Prelude.{◌≡◌, ℕ, ◌≤◌, true, Option, Some, None, IfSome}
+use Rattle.std.specs.Prelude.{◌≡◌, ◌≤◌, true, None, IfSome}
 use Rattle.hd_model.specs.declared.data.Id.{Id}
-use Rattle.hd_model.specs.declared.data.Addr.{Addr}
 use Rattle.hd_model.specs.declared.data.Slot.{Slot}
 use Rattle.hd_model.specs.declared.data.Kind.{Kind}
 use Rattle.hd_model.specs.State.{Handle, secondary_of, rename_handle}
@@ -17,12 +16,13 @@ use Rattle.hd_world.specs.Objects.{object_named}
 abbrev pub handle_named : Machine → Kind → Row → Handle Id
 handle_named m kind row = rename_handle (name_in m.names) (handle_of kind row)
 
--- a row may stand in a slot of a kind: its extra is one of the kind, what it names are objects, a row without a target has no secondary, and
--- the age of the slot's clump is at most the generation of what it names
+-- a row may stand in a slot of a kind: its extra is one of the kind, what it names are objects, a row without
+-- a target has no secondary, and the age of the slot's clump is at most the generation of what it names
 pub record MayStand (m : Machine) (slot : Slot) (kind : Kind) (row : Row) : Type 0 where
   pub fits : fits kind (extra_of row.extra) ≡ true
   pub target : IsNamed m.names row.target
   pub secondary : IsNamed m.names (secondary_of (extra_of row.extra))
   pub paired : row.target ≡ None → secondary_of (extra_of row.extra) ≡ None
   pub target_age : IfSome row.target (λ a. age_of m.ages slot.0 ≤ (object_named m a).generation)
-  pub secondary_age : IfSome (secondary_of (extra_of row.extra)) (λ a. age_of m.ages slot.0 ≤ (object_named m a).generation)
+  pub secondary_age :
+      IfSome (secondary_of (extra_of row.extra)) (λ a. age_of m.ages slot.0 ≤ (object_named m a).generation)

@@ -1,5 +1,5 @@
 -- Where a new handle is to stand, and what its row is.
-use Rattle.std.specs.Prelude.{◌≡◌, ◌≢◌, ℕ, ◌+◌, ◌≤◌, true, Option, Some, None, OnSome, IfSome}
+use Rattle.std.specs.Prelude.{◌≡◌, ◌≢◌, ℕ, ◌+◌, ◌≤◌, true, Option, None, IfSome}
 use Rattle.hd_model.specs.declared.data.Slot.{Slot}
 use Rattle.hd_model.specs.declared.data.Kind.{Kind}
 use Rattle.hd_model.specs.declared.data.Make.{Make}
@@ -16,8 +16,10 @@ use Rattle.hd_world.specs.Reading.{named_in, IsNamed}
 use Rattle.hd_world.specs.Store.{Machine}
 use Rattle.hd_world.specs.Handles.{handle_named}
 
--- a slot that a new handle may get, which is free once the table has grown; an offered one is taken without growth
-pub record IsPlace (old new : Machine) (kind : Kind) (offer : Option Slot) (slot : Slot) (grown : Grown) : Type 0 where
+-- a slot that a new handle may get, which is free once the table has grown; an offered one is taken without
+-- growth
+pub record IsPlace (old new : Machine) (kind : Kind) (offer : Option Slot)
+    (slot : Slot) (grown : Grown) : Type 0 where
   pub may : MayGive old.numbers old.state kind grown slot
   pub store : new ≡ record old { state = with_growth old.state kind grown }
   pub free : IsFree new.state kind slot

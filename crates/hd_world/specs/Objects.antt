@@ -1,5 +1,5 @@
 -- Objects of a store, by the address at which they stand.
-use Rattle.std.specs.Prelude.{◌≡◌, ℕ, ◌+◌, ◌<◌, ◌≤◌, Bool, replicate, None}
+use Rattle.std.specs.Prelude.{◌≡◌, ℕ, ◌+◌, ◌<◌, ◌≤◌}
 use Rattle.hd_model.specs.declared.data.Id.{Id}
 use Rattle.hd_model.specs.declared.data.Addr.{Addr}
 use Rattle.hd_heap.specs.declared.fault.NewFault.{NewFault}
@@ -12,11 +12,9 @@ use Rattle.hd_world.specs.Reading.{name_in}
 abbrev pub object_named : Machine → Addr → Object Id
 object_named m at = object_at m.state (name_in m.names at)
 
--- a new object: null fields and value 0, in generation 0
-abbrev pub fresh_object : ℕ → Bool → Object Id
-fresh_object fields fin = record { fields = replicate fields None; value = 0; generation = 0; registered = fin }
-
 -- nothing is changed, and the heap is full exactly where the limit does not allow so many cells more
 abbrev pub IsRefused : Machine → Machine → ℕ → NewFault → Type 0
-IsRefused old new cells (Full used size) = (new ≡ old) × (used ≡ used_of old.state) × (size ≡ cells) × (old.numbers.heap < used_of old.state + cells)
+IsRefused old new cells (Full used size) =
+    (new ≡ old) × (used ≡ used_of old.state) × (size ≡ cells)
+    × (old.numbers.heap < used_of old.state + cells)
 IsRefused old new cells Memory = (new ≡ old) × (used_of old.state + cells ≤ old.numbers.heap)

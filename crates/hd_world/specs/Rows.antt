@@ -1,12 +1,13 @@
--- One list of names, read as the 16 registers of each caller and then the statics.
+-- One list of names, read as the registers of each caller and then the statics.
 use Rattle.std.specs.Prelude.{ℕ, zero, suc, List, [], ◌∷◌, take, drop}
+use Rattle.hd_model.specs.declared.limits.TheConstants.{REGISTERS}
 
--- the registers of the first callers, 16 for each
+-- the registers of the first callers, REGISTERS for each
 unfoldable pub rows_of : {A : Type 0} → ℕ → List A → List (List A)
 rows_of zero names = []
-rows_of (suc callers) names = take 16 names ∷ rows_of callers (drop 16 names)
+rows_of (suc callers) names = take REGISTERS names ∷ rows_of callers (drop REGISTERS names)
 
 -- what follows them
 unfoldable pub rest_of : {A : Type 0} → ℕ → List A → List A
 rest_of zero names = names
-rest_of (suc callers) names = rest_of callers (drop 16 names)
+rest_of (suc callers) names = rest_of callers (drop REGISTERS names)

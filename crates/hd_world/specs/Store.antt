@@ -1,5 +1,5 @@
 -- What contracts see of a store.
-use Rattle.std.specs.Prelude.{◌≡◌, ℕ, List, refl}
+use Rattle.std.specs.Prelude.{ℕ, List, refl}
 use Rattle.std.specs.Coded.{Coded, code_by, coded×, coded_ℕ, coded_list}
 use Rattle.std.specs.FinMap.{FinMap}
 use Rattle.std.specs.FinMap as map
@@ -10,7 +10,8 @@ use Rattle.hd_model.specs.Code.{numbers_code, state_code, id_code}
 use Rattle.hd_world.specs.Stored.{Parts, numbers_of, state_of}
 use Rattle.hd_world.specs.Reading.{names_of}
 
--- the numbers of a run, the state of its machine, the identity at each address that has an object, and the ages of the clumps
+-- the numbers of a run, the state of its machine, the identity at each address that has an object, and the ages
+-- of the clumps
 pub record Machine : Type 0 where
   pub numbers : Numbers
   pub state : State
@@ -22,5 +23,7 @@ machine_of f = record { numbers = numbers_of f; state = state_of f; names = name
 
 abbrev pub machine_code : Coded Machine
 machine_code =
-    code_by (Numbers × (State × (FinMap nat_cmp Id × List ℕ))) (coded× numbers_code (coded× state_code (coded× (map.code coded_ℕ id_code) (coded_list coded_ℕ))))
-    (λ m. (m.numbers, (m.state, (m.names, m.ages)))) (λ p. record { numbers = p.0; state = p.1.0; names = p.1.1.0; ages = p.1.1.1 }) (λ _. refl)
+    code_by (Numbers × (State × (FinMap nat_cmp Id × List ℕ)))
+    (coded× numbers_code (coded× state_code (coded× (map.code coded_ℕ id_code) (coded_list coded_ℕ))))
+    (λ m. (m.numbers, (m.state, (m.names, m.ages))))
+    (λ p. record { numbers = p.0; state = p.1.0; names = p.1.1.0; ages = p.1.1.1 }) (λ _. refl)

@@ -1,9 +1,10 @@
--- The parts of a store by address, the state of the machine that they stand for, and what is always true of them.
-use Rattle.std.specs.Prelude.{◌≡◌, ℕ, ◌+◌, ◌*◌, ◌<◌, ◌≤◌, ◌^◌, List, [], length, map, Option, option_map, IsSome}
-use Rattle.std.specs.FinMap.{get, empty, len}
-use Rattle.hd_model.specs.declared.data.Id.{Id}
+-- The parts of a store by address, the state of the machine that they stand for, and what is always true of
+-- them.
+use Rattle.std.specs.Prelude.{◌≡◌, ℕ, ◌+◌, ◌*◌, ◌≤◌, List, [], length, map, Option, option_map, IsSome}
+use Rattle.std.specs.FinMap.{get, empty}
 use Rattle.hd_model.specs.declared.data.Addr.{Addr}
 use Rattle.hd_model.specs.declared.data.Slot.{Slot}
+use Rattle.hd_model.specs.declared.limits.TheConstants.{HEAP, BLOCKS, CLUMPS, REGISTERS}
 use Rattle.hd_model.specs.State.{Numbers, State}
 use Rattle.hd_model.specs.Scene.{Scene, IsWhole}
 use Rattle.hd_model.specs.Ages.{HasSoundAges, HasSoundCards}
@@ -12,8 +13,8 @@ use Rattle.hd_model.specs.Table.{Table, row_at}
 use Rattle.hd_world.specs.Rows.{rows_of, rest_of}
 use Rattle.hd_world.specs.Reading.{objects_by_id, rows_by_id}
 
--- the parts of a store: the heap, the table and the ages of its clumps; what the registers of all callers and then the statics name; what the
--- handle registers and the board have; and each caller's last serial
+-- the parts of a store: the heap, the table and the ages of its clumps; what the registers of all callers and
+-- then the statics name; what the handle registers and the board have; and each caller's last serial
 pub record Parts : Type 0 where
   pub heap : Heap
   pub table : Table
@@ -48,17 +49,18 @@ state_of f = record {
   serials = f.serials;
 }
 
--- what a store keeps, which is also what a collection asks for: every name is that of an object, no two objects have one identity, ages and
--- cards are sound, the objects take no more cells than the limit, and a block with a use is one of the table's
+-- what a store keeps, which is also what a collection asks for: every name is that of an object, no two objects
+-- have one identity, ages and cards are sound, the objects take no more cells than the limit, and a block with
+-- a use is one of the table's
 pub record IsStored (f : Parts) : Type 0 where
   pub whole : IsWhole (scene_of_parts f)
   pub identities : HasIdentities f.heap
   pub ages : HasSoundAges (object_at f.heap) (row_at f.table) f.ages
   pub cards : HasSoundCards (object_at f.heap) (is_carded f.heap)
   pub within : used_of f.heap ≤ f.heap.limit
-  pub limit : f.heap.limit ≤ 1000000
-  pub roots : 16 * callers_of f + 16 ≡ length f.roots
+  pub limit : f.heap.limit ≤ HEAP
+  pub roots : REGISTERS * callers_of f + REGISTERS ≡ length f.roots
   pub serials : length f.serials ≡ callers_of f
-  pub clumps : 4 * f.table.blocks ≡ length f.ages
-  pub blocks : f.table.blocks ≤ 256
+  pub clumps : CLUMPS * f.table.blocks ≡ length f.ages
+  pub blocks : f.table.blocks ≤ BLOCKS
   pub uses : (block : ℕ) → IsSome (get f.table.uses block) → (1 ≤ block) × (block ≤ f.table.blocks)

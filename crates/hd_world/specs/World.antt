@@ -3,6 +3,7 @@ use Rattle.std.specs.Prelude.{◌≡◌, ◌≢◌, ℕ, ◌+◌, ◌<◌, ◌�
 use Rattle.std.specs.Coded.{Coded, code_by, coded×, coded_ℕ, coded_list}
 use Rattle.hd_model.specs.declared.data.Entry.{Entry}
 use Rattle.hd_model.specs.declared.data.Slot.{Slot}
+use Rattle.hd_model.specs.declared.data.Kind.{Kind}
 use Rattle.hd_model.specs.declared.data.Grown.TheVariants.{Zero, Back}
 use Rattle.hd_model.specs.declared.data.Refusal.TheVariants as refusal
 use Rattle.hd_model.specs.declared.data.Reply.TheVariants as reply
@@ -13,7 +14,8 @@ use Rattle.hd_model.specs.Kinds.{kind_of}
 use Rattle.hd_model.specs.Step.{blocks_needed}
 use Rattle.hd_model.specs.Code.{numbers_code, state_code, entry_code}
 
--- a world: its numbers, its state, the ages of the clumps, the journal that led there, and for how many more entries there is room
+-- a world: its numbers, its state, the ages of the clumps, the journal that led there, and for how many more
+-- entries there is room
 pub record Standing : Type 0 where
   pub numbers : Numbers
   pub state : State
@@ -24,40 +26,104 @@ pub record Standing : Type 0 where
 abbrev pub standing_code : Coded Standing
 standing_code =
     code_by (Numbers × (State × (List ℕ × (List Entry × ℕ))))
-    (coded× numbers_code (coded× state_code (coded× (coded_list coded_ℕ) (coded× (coded_list entry_code) coded_ℕ))))
+    (coded× numbers_code (coded× state_code
+    (coded× (coded_list coded_ℕ) (coded× (coded_list entry_code) coded_ℕ))))
     (λ w. (w.numbers, (w.state, (w.ages, (w.journal, w.spare)))))
-    (λ p. record { numbers = p.0; state = p.1.0; ages = p.1.1.0; journal = p.1.1.1.0; spare = p.1.1.1.1 }) (λ _. refl)
+    (λ p. record { numbers = p.0; state = p.1.0; ages = p.1.1.0; journal = p.1.1.1.0; spare = p.1.1.1.1 })
+    (λ _. refl)
 
--- what may be offered: to `hnew` a free slot of its kind, and to `trim` the first slot of a block of its kind all of whose slots are free
-abbrev pub IsOfferFor : State → Cmd → Slot → Type 0
-IsOfferFor s (cmd.HNew d make t) slot = IsFree s (kind_of make) slot
-IsOfferFor s (cmd.Trim kind) slot = (slot ≡ first_slot (block_of slot)) × IsAllFree s kind (block_of slot)
-IsOfferFor s _ slot = ⊥
+-- what a command asks of the heap and of the table: room for an object of so many fields, a slot for a handle
+-- of a kind, that a block of a kind goes back, or nothing
+pub data Asks : Type 0 where
+  object_room : ℕ → Asks
+  handle_slot : Kind → Asks
+  block_back : Kind → Asks
+  no_room : Asks
+
+abbrev pub asks_of : Cmd → Asks
+asks_of (cmd.New d fields fin) = object_room fields
+asks_of (cmd.Set o i v) = no_room
+asks_of (cmd.Get d o i) = no_room
+asks_of (cmd.Val o v) = no_room
+asks_of (cmd.Read o) = no_room
+asks_of (cmd.Copy d r) = no_room
+asks_of (cmd.Clear d) = no_room
+asks_of (cmd.SPut k r) = no_room
+asks_of (cmd.SGet d k) = no_room
+asks_of (cmd.Gen o) = no_room
+asks_of (cmd.Suppress o) = no_room
+asks_of (cmd.Reregister o) = no_room
+asks_of (cmd.Final d) = no_room
+asks_of (cmd.Collect n) = no_room
+asks_of (cmd.HNew d make t) = handle_slot (kind_of make)
+asks_of (cmd.HGet d h) = no_room
+asks_of (cmd.HSet h t) = no_room
+asks_of (cmd.HSec h r) = no_room
+asks_of (cmd.HDep d h) = no_room
+asks_of (cmd.HVar h given) = no_room
+asks_of (cmd.HFree h) = no_room
+asks_of (cmd.HPut k h) = no_room
+asks_of (cmd.HPick d k) = no_room
+asks_of (cmd.AddrOf h) = no_room
+asks_of (cmd.HUp h) = no_room
+asks_of (cmd.HDown h) = no_room
+asks_of (cmd.Trim kind) = block_back kind
+
+-- what may be offered: to `hnew` a free slot of its kind, and to `trim` the first slot of a block of its kind
+-- all of whose slots are free
+abbrev pub MayOffer : State → Asks → Slot → Type 0
+MayOffer s (object_room fields) slot = ⊥
+MayOffer s (handle_slot kind) slot = IsFree s kind slot
+MayOffer s (block_back kind) slot =
+    (slot ≡ first_slot (block_of slot)) × IsAllFree s kind (block_of slot)
+MayOffer s no_room slot = ⊥
 
 abbrev pub IsOffer : State → Cmd → Option Slot → Type 0
 IsOffer s c None = Unit {0}
-IsOffer s c (Some slot) = IsOfferFor s c slot
+IsOffer s c (Some slot) = MayOffer s (asks_of c) slot
 
--- without an offer `hnew` grows, or finds the table full exactly where fewer blocks are without a use than the kind needs
+-- without an offer `hnew` grows, or finds the table full exactly where fewer blocks are without a use than
+-- the kind needs
 pub record GrowsOrIsFull (n : Numbers) (s : State) (needed : ℕ) (e : Entry) : Type 0 where
   pub full : n.blocks < given_of s + needed → e.reply ≡ reply.Refused (refusal.TableFull (given_of s))
   pub grows : given_of s + needed ≤ n.blocks → (e.reply ≡ reply.Done) × (e.grown ≢ Zero)
 
 -- without an offer `trim` gives nothing back
+abbrev pub GrowsFor : Numbers → State → Asks → Option Slot → Entry → Type 0
+GrowsFor n s (object_room fields) o e = Unit {0}
+GrowsFor n s (handle_slot kind) None e = GrowsOrIsFull n s (blocks_needed kind) e
+GrowsFor n s (handle_slot kind) (Some slot) e = Unit {0}
+GrowsFor n s (block_back kind) None e = e.reply ≡ reply.Value 0
+GrowsFor n s (block_back kind) (Some slot) e = Unit {0}
+GrowsFor n s no_room o e = Unit {0}
+
 abbrev pub GrowsUnoffered : Numbers → State → Cmd → Option Slot → Entry → Type 0
-GrowsUnoffered n s (cmd.HNew d make t) None e = GrowsOrIsFull n s (blocks_needed (kind_of make)) e
-GrowsUnoffered n s (cmd.Trim kind) None e = e.reply ≡ reply.Value 0
-GrowsUnoffered n s _ _ e = Unit {0}
+GrowsUnoffered n s c offer e = GrowsFor n s (asks_of c) offer e
 
 abbrev pub GrowsWithout : Standing → Cmd → Option Slot → Entry → Type 0
 GrowsWithout w c offer e = GrowsUnoffered w.numbers w.state c offer e
 
--- an offered slot was taken, and an offered block given back
-abbrev pub Takes : Entry → Cmd → Slot → Type 0
-Takes e (cmd.Trim kind) slot = (e.reply ≡ reply.Value 1) × (e.grown ≡ Back (block_of slot))
-Takes e _ slot = (e.slot ≡ Some slot) × (e.grown ≡ Zero) × (e.reply ≡ reply.Done)
+-- an offered slot was taken without growth
+abbrev pub TakesSlot : Entry → Slot → Type 0
+TakesSlot e slot = (e.slot ≡ Some slot) × (e.grown ≡ Zero) × (e.reply ≡ reply.Done)
 
--- a full heap is answered before memory is taken: the heap has room for the object of a `new` that finds no memory
+-- an offered slot was taken, and an offered block given back
+abbrev pub TakesFor : Entry → Asks → Slot → Type 0
+TakesFor e (object_room fields) slot = TakesSlot e slot
+TakesFor e (handle_slot kind) slot = TakesSlot e slot
+TakesFor e (block_back kind) slot = (e.reply ≡ reply.Value 1) × (e.grown ≡ Back (block_of slot))
+TakesFor e no_room slot = TakesSlot e slot
+
+abbrev pub Takes : Entry → Cmd → Slot → Type 0
+Takes e c slot = TakesFor e (asks_of c) slot
+
+-- a full heap is answered before memory is taken: the heap has room for the object of a `new` that finds no
+-- memory
+abbrev pub HasRoom : Numbers → State → Asks → Type 0
+HasRoom n s (object_room fields) = used_of s + (fields + 3) ≤ n.heap
+HasRoom n s (handle_slot kind) = Unit {0}
+HasRoom n s (block_back kind) = Unit {0}
+HasRoom n s no_room = Unit {0}
+
 abbrev pub FitsHeap : Numbers → State → Cmd → Type 0
-FitsHeap n s (cmd.New d fields fin) = used_of s + (fields + 3) ≤ n.heap
-FitsHeap n s _ = Unit {0}
+FitsHeap n s c = HasRoom n s (asks_of c)

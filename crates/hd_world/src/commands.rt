@@ -17,7 +17,11 @@ use hd_model::{Cmd, Entry, Memory, Slot};
 
 /// Does a command of a caller. Its entry and the state after it are a step of the machine. An
 /// offered slot or block is taken. Without one a new handle makes the table grow, or finds it full.
-pub(crate) fn run(store: &mut Store, order: Order, offer: Option<Slot>) -> Result<Entry, Memory>
+pub(crate) fn carry_out(
+    store: &mut Store,
+    order: Order,
+    offer: Option<Slot>,
+) -> Result<Entry, Memory>
     requires well { IsWellFormed store.old.numbers store.old.state }
     requires caller { order.caller < store.old.numbers.callers }
     requires serial { last_serial store.old.state order.caller + 1 < 2 ^ 32 }

@@ -10,8 +10,12 @@ ghost use Rattle.hd_world.specs.Handles.{handle_named, MayStand};
 ghost use Rattle.hd_world.specs.Growth.{GrowsBy, kind_in_use};
 
 use crate::store::Store;
+use hd_model::limits::{BLOCKS, CLUMPS, ROWS};
 use hd_model::{Grown, Kind, Slot};
 use hd_seg::{BlockKind, Full, Row};
+
+// The slots of a clump.
+const CLUMP_ROWS: u32 = ROWS / CLUMPS;
 
 /// A live handle: its kind and its row.
 #[derive(Clone, Copy)]
@@ -25,7 +29,7 @@ impl Store {
     pub(crate) fn kind_of(&self, slot: Slot) -> Option<Kind>
         ensures { result ≡ kind_in_use (use_of self.now.state (block_of slot)) }
     {
-        let block = slot.0 / 64;
+        let block = slot.0 / ROWS;
         if block == 0 || block > self.ages.blocks() {
             return None;
         }
@@ -54,7 +58,8 @@ impl Store {
         requires high { block_of slot ≤ self.old.numbers.blocks }
         ensures { self.new ≡ record self.old { ages = lowered self.old.ages slot.0 g } }
     {
-        self.ages.lower(slot.0 / 64, slot.0 / 16 % 4, g);
+        self.ages
+            .lower(slot.0 / ROWS, slot.0 / CLUMP_ROWS % CLUMPS, g);
     }
 
     /// Puts a row into a free slot.
@@ -98,7 +103,7 @@ impl Store {
             (self.old.numbers.blocks < given_of self.old.state + blocks_needed kind) }
         ensures given { IfErr result (λ full. full.given ≡ given_of self.old.state) }
         ensures kept { OnErr result (self.new ≡ self.old) }
-        ensures few { self.old.numbers.blocks ≤ 256 }
+        ensures few { self.old.numbers.blocks ≤ BLOCKS }
     {
         self.table.give_block(kind)
     }

@@ -16,18 +16,19 @@ ghost use Rattle.std.specs.Option.{ForSome};
 use crate::on_handles::lower_to;
 use crate::order::Order;
 use crate::store::Store;
+use hd_model::limits::{BLOCKS, REGISTERS, ROWS};
 use hd_model::{Addr, Entry, Grown, Kind, Make, Refusal, Reply, Slot};
 use hd_seg::{Extra, Full, Row};
 
-/// The first slot of a block.
+// The first slot of a block.
 fn first_slot(block: u32) -> Slot
-    requires { block ≤ 256 }
+    requires { block ≤ BLOCKS }
     ensures { result ≡ first_slot block }
 {
-    Slot(block * 64)
+    Slot(block * ROWS)
 }
 
-/// The first slot of a new block. Where there is no block left, nothing is changed.
+// The first slot of a new block. Where there is no block left, nothing is changed.
 fn new_place(store: &mut Store, kind: Kind) -> Result<(Slot, Grown), Full>
     requires handles { HasHandles store.old.numbers store.old.state }
     ensures place { IfOk result (λ place. IsPlace store.old store.new kind None place.0 place.1) }
@@ -44,8 +45,8 @@ fn new_place(store: &mut Store, kind: Kind) -> Result<(Slot, Grown), Full>
     }
 }
 
-/// Where a new handle is to stand: in the offered slot or, without one, in the first slot of a new
-/// block.
+// Where a new handle is to stand: in the offered slot or, without one, in the first slot of a new
+// block.
 fn place(store: &mut Store, kind: Kind, offer: Option<Slot>) -> Result<(Slot, Grown), Full>
     requires handles { HasHandles store.old.numbers store.old.state }
     requires offer { IfSome offer (IsFree store.old.state kind) }
@@ -63,11 +64,11 @@ fn place(store: &mut Store, kind: Kind, offer: Option<Slot>) -> Result<(Slot, Gr
     }
 }
 
-/// What a made handle has beside its target. Without a target a dependent handle has no secondary
-/// either.
+// What a made handle has beside its target. Without a target a dependent handle has no secondary
+// either.
 fn made_row(store: &Store, caller: u32, make: Make, t: u8) -> Row
     requires caller { caller < store.now.numbers.callers }
-    requires register { t < 16 }
+    requires register { t < REGISTERS }
     requires make { IsValidMake make }
     ensures { IsMadeRow store.now caller make t result }
 {
@@ -84,8 +85,8 @@ fn made_row(store: &Store, caller: u32, make: Make, t: u8) -> Row
     Row { target, extra }
 }
 
-/// Lowers the age of a slot's clump for a handle that is made there. A dependent one, which may get
-/// any secondary, makes it 0.
+// Lowers the age of a slot's clump for a handle that is made there. A dependent one, which may get
+// any secondary, makes it 0.
 fn lower_for(store: &mut Store, slot: Slot, make: Make, target: Option<Addr>)
     requires low { 1 ≤ block_of slot }
     requires high { block_of slot ≤ store.old.numbers.blocks }
@@ -117,7 +118,7 @@ pub(crate) fn new_handle(
     requires handles { HasHandles store.old.numbers store.old.state }
     requires command { order.cmd ≡ cmds.HNew d make t }
     requires caller { order.caller < store.old.numbers.callers }
-    requires registers { (d < 16) × (t < 16) }
+    requires registers { (d < REGISTERS) × (t < REGISTERS) }
     requires make { IsValidMake make }
     requires offer { IfSome offer (IsFree store.old.state (kind_of make)) }
     ensures caller { result.caller ≡ order.caller }
@@ -165,7 +166,7 @@ pub(crate) fn trim(store: &mut Store, order: Order, kind: Kind, offer: Option<Sl
     let Some(slot) = offer else {
         return order.reply(Reply::Value(0));
     };
-    let block = slot.0 / 64;
+    let block = slot.0 / ROWS;
     store.take_back(kind, block);
     Entry {
         grown: Grown::Back(block),

@@ -5,13 +5,15 @@ ghost use Rattle.std.specs.FinMap.{get, insert};
 ghost use Rattle.hd_model.specs.State.{object_at, field_of, last_serial, identity_of, used_of};
 ghost use Rattle.hd_model.specs.State.{with_object, with_serial};
 ghost use Rattle.hd_world.specs.Reading.{name_in, named_in, IsNamed};
-ghost use Rattle.hd_world.specs.Objects.{object_named, fresh_object, IsRefused};
+ghost use Rattle.hd_model.specs.Command.{fresh_object};
+ghost use Rattle.hd_world.specs.Objects.{object_named, IsRefused};
 
 use crate::store::Store;
 use hd_heap::NewFault;
+use hd_model::limits::FIELDS;
 use hd_model::{Addr, Id};
 
-/// The identity of a caller's object with a serial.
+// The identity of a caller's object with a serial.
 fn identity(caller: u32, serial: u32) -> Id
     requires { 1 ≤ serial }
     ensures value { result ≡ identity_of caller serial }
@@ -104,7 +106,7 @@ impl Store {
     ) -> Result<Addr, NewFault>
         requires caller { caller < self.old.numbers.callers }
         requires serial { last_serial self.old.state caller + 1 < 2 ^ 32 }
-        requires fields { fields ≤ 61 }
+        requires fields { fields ≤ FIELDS }
         requires fresh { let serial = last_serial self.old.state caller + 1 in
             get self.old.state.objects (identity_of caller serial).0 ≡ None }
         ensures made { let serial = last_serial self.old.state caller + 1 in

@@ -21,14 +21,15 @@ use crate::handles::Live;
 use crate::on_objects::loaded;
 use crate::order::Order;
 use crate::store::Store;
+use hd_model::limits::REGISTERS;
 use hd_model::{Addr, Entry, Refusal, Reply, Slot, Strength};
 use hd_seg::{Extra, Row};
 
-/// The slot in a handle register with its handle, which is refused where the register is empty and
-/// where the slot is not live.
+// The slot in a handle register with its handle, which is refused where the register is empty and
+// where the slot is not live.
 fn live_in(store: &Store, caller: u32, h: u8) -> Result<(Slot, Live), Refusal>
     requires caller { caller < store.now.numbers.callers }
-    requires register { h < 16 }
+    requires register { h < REGISTERS }
     ensures value { as_found store.now result ≡ live_in store.now.state caller h }
     ensures may { IfOk result (λ found. MayStand store.now found.0 found.1.kind found.1.row) }
     ensures low { IfOk result (λ found. 1 ≤ block_of found.0) }
@@ -46,7 +47,7 @@ fn live_in(store: &Store, caller: u32, h: u8) -> Result<(Slot, Live), Refusal>
 /// `hget rD hS`.
 pub(crate) fn get_target(store: &mut Store, order: Order, d: u8, s: u8) -> Entry
     requires caller { order.caller < store.old.numbers.callers }
-    requires registers { (d < 16) × (s < 16) }
+    requires registers { (d < REGISTERS) × (s < REGISTERS) }
     ensures entry { let wanted = get_target store.old.state order.caller d s in
         result ≡ entry_of order.caller order.cmd wanted }
     ensures store { let wanted = get_target store.old.state order.caller d s in
@@ -65,7 +66,7 @@ pub(crate) fn get_target(store: &mut Store, order: Order, d: u8, s: u8) -> Entry
 /// `hdep rD hS`.
 pub(crate) fn get_secondary(store: &mut Store, order: Order, d: u8, s: u8) -> Entry
     requires caller { order.caller < store.old.numbers.callers }
-    requires registers { (d < 16) × (s < 16) }
+    requires registers { (d < REGISTERS) × (s < REGISTERS) }
     ensures entry { let wanted = get_secondary store.old.state order.caller d s in
         result ≡ entry_of order.caller order.cmd wanted }
     ensures store { let wanted = get_secondary store.old.state order.caller d s in
@@ -86,7 +87,7 @@ pub(crate) fn get_secondary(store: &mut Store, order: Order, d: u8, s: u8) -> En
 /// `hvar hS STRENGTH`.
 pub(crate) fn set_strength(store: &mut Store, order: Order, s: u8, strength: Strength) -> Entry
     requires caller { order.caller < store.old.numbers.callers }
-    requires register { s < 16 }
+    requires register { s < REGISTERS }
     ensures entry { let wanted = set_strength store.old.state order.caller s strength in
         result ≡ entry_of order.caller order.cmd wanted }
     ensures store { let wanted = set_strength store.old.state order.caller s strength in
@@ -107,7 +108,7 @@ pub(crate) fn set_strength(store: &mut Store, order: Order, s: u8, strength: Str
 /// `hfree hS`.
 pub(crate) fn free_handle(store: &mut Store, order: Order, s: u8) -> Entry
     requires caller { order.caller < store.old.numbers.callers }
-    requires register { s < 16 }
+    requires register { s < REGISTERS }
     ensures entry { let wanted = free_handle store.old.state order.caller s in
         result ≡ entry_of order.caller order.cmd wanted }
     ensures store { let wanted = free_handle store.old.state order.caller s in
@@ -128,7 +129,7 @@ pub(crate) fn free_handle(store: &mut Store, order: Order, s: u8) -> Entry
 /// `hput k hS`.
 pub(crate) fn put_board(store: &mut Store, order: Order, k: u8, s: u8) -> Entry
     requires caller { order.caller < store.old.numbers.callers }
-    requires registers { (k < 16) × (s < 16) }
+    requires registers { (k < REGISTERS) × (s < REGISTERS) }
     ensures entry { let wanted = put_board store.old.state order.caller k s in
         result ≡ entry_of order.caller order.cmd wanted }
     ensures store { let wanted = put_board store.old.state order.caller k s in
@@ -142,7 +143,7 @@ pub(crate) fn put_board(store: &mut Store, order: Order, k: u8, s: u8) -> Entry
 /// `hpick hD k`.
 pub(crate) fn pick_board(store: &mut Store, order: Order, d: u8, k: u8) -> Entry
     requires caller { order.caller < store.old.numbers.callers }
-    requires registers { (d < 16) × (k < 16) }
+    requires registers { (d < REGISTERS) × (k < REGISTERS) }
     ensures entry { let wanted = pick_board store.old.state order.caller d k in
         result ≡ entry_of order.caller order.cmd wanted }
     ensures store { let wanted = pick_board store.old.state order.caller d k in
@@ -169,8 +170,8 @@ pub(crate) fn lower_to(store: &mut Store, slot: Slot, target: Option<Addr>)
     store.lower_age(slot, generation);
 }
 
-/// What a handle has beside its target once that is another one: a dependent handle may get null
-/// alone, and then its secondary is null too.
+// What a handle has beside its target once that is another one: a dependent handle may get null
+// alone, and then its secondary is null too.
 fn extra_beside(extra: Extra, target: Option<Addr>) -> Result<Extra, Refusal>
     ensures { let names = is_some target in
         MatchResult result
@@ -187,7 +188,7 @@ fn extra_beside(extra: Extra, target: Option<Addr>) -> Result<Extra, Refusal>
 /// `hset hS rT`.
 pub(crate) fn set_target(store: &mut Store, order: Order, s: u8, t: u8) -> Entry
     requires caller { order.caller < store.old.numbers.callers }
-    requires registers { (s < 16) × (t < 16) }
+    requires registers { (s < REGISTERS) × (t < REGISTERS) }
     ensures entry { let wanted = set_target store.old.state order.caller s t in
         result ≡ entry_of order.caller order.cmd wanted }
     ensures store { let wanted = set_target store.old.state order.caller s t in
@@ -214,7 +215,7 @@ pub(crate) fn set_target(store: &mut Store, order: Order, s: u8, t: u8) -> Entry
 /// `hsec hS rS`.
 pub(crate) fn set_secondary(store: &mut Store, order: Order, h: u8, s: u8) -> Entry
     requires caller { order.caller < store.old.numbers.callers }
-    requires registers { (h < 16) × (s < 16) }
+    requires registers { (h < REGISTERS) × (s < REGISTERS) }
     ensures entry { let wanted = set_secondary store.old.state order.caller h s in
         result ≡ entry_of order.caller order.cmd wanted }
     ensures store { let wanted = set_secondary store.old.state order.caller h s in
@@ -238,7 +239,7 @@ pub(crate) fn set_secondary(store: &mut Store, order: Order, h: u8, s: u8) -> En
     order.reply(Reply::Done)
 }
 
-/// A ref-counted handle gets a count, which is answered.
+// A ref-counted handle gets a count, which is answered.
 fn set_count(store: &mut Store, order: Order, slot: Slot, live: Live, count: u32) -> Entry
     requires live { let named = handle_named store.old live.kind live.row in
         handle_at store.old.state slot ≡ Some named }
@@ -257,7 +258,7 @@ fn set_count(store: &mut Store, order: Order, slot: Slot, live: Live, count: u32
 /// `hup hS`.
 pub(crate) fn raise_count(store: &mut Store, order: Order, s: u8) -> Entry
     requires caller { order.caller < store.old.numbers.callers }
-    requires register { s < 16 }
+    requires register { s < REGISTERS }
     requires small { HasSmallCounts store.old.state }
     ensures entry { let wanted = raise_count store.old.state order.caller s in
         result ≡ entry_of order.caller order.cmd wanted }
@@ -277,7 +278,7 @@ pub(crate) fn raise_count(store: &mut Store, order: Order, s: u8) -> Entry
 /// `hdown hS`.
 pub(crate) fn lower_count(store: &mut Store, order: Order, s: u8) -> Entry
     requires caller { order.caller < store.old.numbers.callers }
-    requires register { s < 16 }
+    requires register { s < REGISTERS }
     ensures entry { let wanted = lower_count store.old.state order.caller s in
         result ≡ entry_of order.caller order.cmd wanted }
     ensures store { let wanted = lower_count store.old.state order.caller s in

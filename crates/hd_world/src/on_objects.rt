@@ -14,6 +14,7 @@ ghost use Rattle.hd_world.specs.Commands.{entry_of, after};
 use crate::order::Order;
 use crate::store::Store;
 use hd_heap::NewFault;
+use hd_model::limits::{FIELDS, REGISTERS};
 use hd_model::{Addr, Entry, Memory, Refusal, Reply};
 
 /// The reply of a load: the object, or null.
@@ -27,10 +28,10 @@ pub(crate) fn loaded(store: &Store, v: Option<Addr>) -> Reply
     }
 }
 
-/// The object in an object register, which is refused where it is null.
+// The object in an object register, which is refused where it is null.
 fn object_in(store: &Store, caller: u32, o: u8) -> Result<Addr, Refusal>
     requires caller { caller < store.now.numbers.callers }
-    requires register { o < 16 }
+    requires register { o < REGISTERS }
     ensures value { MatchResult result
         (λ at. register_of store.now.state caller o ≡ Some (name_in store.now.names at))
         (λ refused. (register_of store.now.state caller o ≡ None) × (refused ≡ refusal.Null)) }
@@ -51,8 +52,8 @@ pub(crate) fn new_object(
     fin: bool,
 ) -> Result<Entry, Memory>
     requires caller { order.caller < store.old.numbers.callers }
-    requires register { d < 16 }
-    requires fields { fields ≤ 61 }
+    requires register { d < REGISTERS }
+    requires fields { fields ≤ FIELDS }
     requires serial { last_serial store.old.state order.caller + 1 < 2 ^ 32 }
     requires fresh { let serial = last_serial store.old.state order.caller + 1 in
         get store.old.state.objects (identity_of order.caller serial).0 ≡ None }
@@ -80,7 +81,7 @@ pub(crate) fn new_object(
 /// `set rO i rV`.
 pub(crate) fn set_field(store: &mut Store, order: Order, o: u8, i: u8, v: u8) -> Entry
     requires caller { order.caller < store.old.numbers.callers }
-    requires registers { (o < 16) × (v < 16) }
+    requires registers { (o < REGISTERS) × (v < REGISTERS) }
     ensures entry { let wanted = set_field store.old.state order.caller o i v in
         result ≡ entry_of order.caller order.cmd wanted }
     ensures store { let wanted = set_field store.old.state order.caller o i v in
@@ -101,7 +102,7 @@ pub(crate) fn set_field(store: &mut Store, order: Order, o: u8, i: u8, v: u8) ->
 /// `get rD rO i`.
 pub(crate) fn get_field(store: &mut Store, order: Order, d: u8, o: u8, i: u8) -> Entry
     requires caller { order.caller < store.old.numbers.callers }
-    requires registers { (d < 16) × (o < 16) }
+    requires registers { (d < REGISTERS) × (o < REGISTERS) }
     ensures entry { let wanted = get_field store.old.state order.caller d o i in
         result ≡ entry_of order.caller order.cmd wanted }
     ensures store { let wanted = get_field store.old.state order.caller d o i in
@@ -123,7 +124,7 @@ pub(crate) fn get_field(store: &mut Store, order: Order, d: u8, o: u8, i: u8) ->
 /// `val rO n`.
 pub(crate) fn set_value(store: &mut Store, order: Order, o: u8, value: u64) -> Entry
     requires caller { order.caller < store.old.numbers.callers }
-    requires register { o < 16 }
+    requires register { o < REGISTERS }
     ensures entry { let wanted = set_value store.old.state order.caller o value in
         result ≡ entry_of order.caller order.cmd wanted }
     ensures store { let wanted = set_value store.old.state order.caller o value in
@@ -140,7 +141,7 @@ pub(crate) fn set_value(store: &mut Store, order: Order, o: u8, value: u64) -> E
 /// `read rO`.
 pub(crate) fn read_value(store: &Store, order: Order, o: u8) -> Entry
     requires caller { order.caller < store.now.numbers.callers }
-    requires register { o < 16 }
+    requires register { o < REGISTERS }
     ensures { let wanted = read_value store.now.state order.caller o in
         result ≡ entry_of order.caller order.cmd wanted }
 {
@@ -153,7 +154,7 @@ pub(crate) fn read_value(store: &Store, order: Order, o: u8) -> Entry
 /// `gen rS`.
 pub(crate) fn read_generation(store: &Store, order: Order, o: u8) -> Entry
     requires caller { order.caller < store.now.numbers.callers }
-    requires register { o < 16 }
+    requires register { o < REGISTERS }
     ensures { let wanted = read_generation store.now.state order.caller o in
         result ≡ entry_of order.caller order.cmd wanted }
 {
@@ -166,7 +167,7 @@ pub(crate) fn read_generation(store: &Store, order: Order, o: u8) -> Entry
 /// `suppress rS` and `reregister rS`.
 pub(crate) fn set_registered(store: &mut Store, order: Order, o: u8, on: bool) -> Entry
     requires caller { order.caller < store.old.numbers.callers }
-    requires register { o < 16 }
+    requires register { o < REGISTERS }
     ensures entry { let wanted = set_registered store.old.state order.caller o on in
         result ≡ entry_of order.caller order.cmd wanted }
     ensures store { let wanted = set_registered store.old.state order.caller o on in
@@ -183,7 +184,7 @@ pub(crate) fn set_registered(store: &mut Store, order: Order, o: u8, on: bool) -
 /// `copy rD rS`.
 pub(crate) fn copy_register(store: &mut Store, order: Order, d: u8, s: u8) -> Entry
     requires caller { order.caller < store.old.numbers.callers }
-    requires registers { (d < 16) × (s < 16) }
+    requires registers { (d < REGISTERS) × (s < REGISTERS) }
     ensures entry { let wanted = copy_register store.old.state order.caller d s in
         result ≡ entry_of order.caller order.cmd wanted }
     ensures store { let wanted = copy_register store.old.state order.caller d s in
@@ -197,7 +198,7 @@ pub(crate) fn copy_register(store: &mut Store, order: Order, d: u8, s: u8) -> En
 /// `drop rD`.
 pub(crate) fn clear_register(store: &mut Store, order: Order, d: u8) -> Entry
     requires caller { order.caller < store.old.numbers.callers }
-    requires register { d < 16 }
+    requires register { d < REGISTERS }
     ensures entry { let wanted = clear_register store.old.state order.caller d in
         result ≡ entry_of order.caller order.cmd wanted }
     ensures store { let wanted = clear_register store.old.state order.caller d in
@@ -210,7 +211,7 @@ pub(crate) fn clear_register(store: &mut Store, order: Order, d: u8) -> Entry
 /// `sput k rS`.
 pub(crate) fn put_static(store: &mut Store, order: Order, k: u8, s: u8) -> Entry
     requires caller { order.caller < store.old.numbers.callers }
-    requires registers { (k < 16) × (s < 16) }
+    requires registers { (k < REGISTERS) × (s < REGISTERS) }
     ensures entry { let wanted = put_static store.old.state order.caller k s in
         result ≡ entry_of order.caller order.cmd wanted }
     ensures store { let wanted = put_static store.old.state order.caller k s in
@@ -224,7 +225,7 @@ pub(crate) fn put_static(store: &mut Store, order: Order, k: u8, s: u8) -> Entry
 /// `sget rD k`.
 pub(crate) fn get_static(store: &mut Store, order: Order, d: u8, k: u8) -> Entry
     requires caller { order.caller < store.old.numbers.callers }
-    requires registers { (d < 16) × (k < 16) }
+    requires registers { (d < REGISTERS) × (k < REGISTERS) }
     ensures entry { let wanted = get_static store.old.state order.caller d k in
         result ≡ entry_of order.caller order.cmd wanted }
     ensures store { let wanted = get_static store.old.state order.caller d k in

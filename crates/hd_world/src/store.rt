@@ -9,10 +9,14 @@ ghost use Rattle.hd_world.specs.Reading.{named_in, IsNamed};
 
 use hd_ages::AgeMap;
 use hd_heap::Heap;
+use hd_model::limits::{BLOCKS, CALLERS, CLUMPS, HEAP, OLDEST, REGISTERS};
 use hd_model::{Addr, Memory, Slot};
 use hd_seg::Seg;
 use std::alloc::Global;
 use std::marker::Model;
+
+// The registers of a caller of either sort, and so the statics and the places of the board.
+const PLACES: usize = REGISTERS as usize;
 
 /// The state of the machine, with the ages of the clumps. Objects are named by their addresses.
 #[derive(Drop)]
@@ -20,10 +24,10 @@ pub(crate) struct Store {
     pub(crate) heap: Heap,
     pub(crate) table: Seg,
     pub(crate) ages: AgeMap,
-    /// What the object registers of all callers name, 16 for each, and then the statics.
+    // What the object registers of all callers name, those of each in turn, and then the statics.
     roots: Vec<Option<Addr>>,
-    handle_registers: Vec<[Option<Slot>; 16]>,
-    board: [Option<Slot>; 16],
+    handle_registers: Vec<[Option<Slot>; PLACES]>,
+    board: [Option<Slot>; PLACES],
     pub(crate) serials: Vec<u32>,
 }
 
@@ -56,7 +60,7 @@ impl Model for Store {
     }) };
 }
 
-/// So many copies of a value.
+// So many copies of a value.
 fn filled<T: Copy + Drop>(alloc: Global, value: T, count: u32) -> Result<Vec<T>, Memory>
     ensures { IfOk result (λ items. items.items ≡ replicate count value) }
 {
@@ -70,22 +74,22 @@ fn filled<T: Copy + Drop>(alloc: Global, value: T, count: u32) -> Result<Vec<T>,
 impl Store {
     /// The state in which nothing is made yet. All room but that of objects is taken here.
     pub(crate) fn open(alloc: Global, heap: u32, blocks: u32, callers: u32) -> Result<Store, Memory>
-        requires heap { heap ≤ 1000000 }
-        requires blocks { blocks ≤ 256 }
-        requires callers { callers ≤ 16 }
+        requires heap { heap ≤ HEAP }
+        requires blocks { blocks ≤ BLOCKS }
+        requires callers { callers ≤ CALLERS }
         ensures numbers { let n : Numbers = record { heap = heap; blocks = blocks; callers = callers } in
             IfOk result (λ s. s.numbers ≡ n) }
         ensures state { IfOk result (λ s. s.state ≡ start_of s.numbers) }
         ensures names { IfOk result (λ s. s.names ≡ empty) }
-        ensures ages { IfOk result (λ s. s.ages ≡ replicate (4 * blocks) 2) }
+        ensures ages { IfOk result (λ s. s.ages ≡ replicate (CLUMPS * blocks) OLDEST) }
     {
         Ok(Store {
             heap: Heap::open(alloc, heap)?,
             table: Seg::open(alloc, blocks)?,
             ages: AgeMap::open(alloc, blocks)?,
-            roots: filled(alloc, None, 16 * callers + 16)?,
-            handle_registers: filled(alloc, [None; 16], callers)?,
-            board: [None; 16],
+            roots: filled(alloc, None, REGISTERS * callers + REGISTERS)?,
+            handle_registers: filled(alloc, [None; PLACES], callers)?,
+            board: [None; PLACES],
             serials: filled(alloc, 0, callers)?,
         })
     }
@@ -93,48 +97,48 @@ impl Store {
     /// What an object register names.
     pub(crate) fn register(&self, caller: u32, d: u8) -> Option<Addr>
         requires caller { caller < self.now.numbers.callers }
-        requires register { d < 16 }
+        requires register { d < REGISTERS }
         ensures value { named_in self.now.names result ≡ register_of self.now.state caller d }
         ensures named { IsNamed self.now.names result }
     {
-        self.roots[16 * caller as usize + d as usize]
+        self.roots[PLACES * caller as usize + d as usize]
     }
 
     /// An object register names `v`.
     pub(crate) fn set_register(&mut self, caller: u32, d: u8, v: Option<Addr>)
         requires caller { caller < self.old.numbers.callers }
-        requires register { d < 16 }
+        requires register { d < REGISTERS }
         requires named { IsNamed self.old.names v }
         ensures { let after = with_register self.old.state caller d (named_in self.old.names v) in
             self.new ≡ record self.old { state = after } }
     {
-        self.roots[16 * caller as usize + d as usize] = v;
+        self.roots[PLACES * caller as usize + d as usize] = v;
     }
 
     /// What a static names.
     pub(crate) fn static_at(&self, k: u8) -> Option<Addr>
-        requires { k < 16 }
+        requires { k < REGISTERS }
         ensures value { named_in self.now.names result ≡ static_of self.now.state k }
         ensures named { IsNamed self.now.names result }
     {
-        self.roots[16 * self.handle_registers.len() + k as usize]
+        self.roots[PLACES * self.handle_registers.len() + k as usize]
     }
 
     /// A static names `v`.
     pub(crate) fn set_static(&mut self, k: u8, v: Option<Addr>)
-        requires known { k < 16 }
+        requires known { k < REGISTERS }
         requires named { IsNamed self.old.names v }
         ensures { let after = with_static self.old.state k (named_in self.old.names v) in
             self.new ≡ record self.old { state = after } }
     {
-        let place = 16 * self.handle_registers.len() + k as usize;
+        let place = PLACES * self.handle_registers.len() + k as usize;
         self.roots[place] = v;
     }
 
     /// What a handle register has.
     pub(crate) fn handle_register(&self, caller: u32, d: u8) -> Option<Slot>
         requires caller { caller < self.now.numbers.callers }
-        requires register { d < 16 }
+        requires register { d < REGISTERS }
         ensures { result ≡ handle_register_of self.now.state caller d }
     {
         let row = &self.handle_registers[caller as usize];
@@ -144,7 +148,7 @@ impl Store {
     /// A handle register gets `v`.
     pub(crate) fn set_handle_register(&mut self, caller: u32, d: u8, v: Option<Slot>)
         requires caller { caller < self.old.numbers.callers }
-        requires register { d < 16 }
+        requires register { d < REGISTERS }
         ensures { let after = with_handle_register self.old.state caller d v in
             self.new ≡ record self.old { state = after } }
     {
@@ -154,7 +158,7 @@ impl Store {
 
     /// What a place of the board has.
     pub(crate) fn board_at(&self, k: u8) -> Option<Slot>
-        requires { k < 16 }
+        requires { k < REGISTERS }
         ensures { result ≡ board_of self.now.state k }
     {
         self.board[k as usize]
@@ -162,7 +166,7 @@ impl Store {
 
     /// A place of the board gets `v`.
     pub(crate) fn set_board(&mut self, k: u8, v: Option<Slot>)
-        requires { k < 16 }
+        requires { k < REGISTERS }
         ensures { self.new ≡ record self.old { state = with_board self.old.state k v } }
     {
         self.board[k as usize] = v;

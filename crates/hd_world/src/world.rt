@@ -14,6 +14,7 @@ ghost use Rattle.hd_world.specs.World.{IsOffer, GrowsWithout, Takes, FitsHeap};
 use crate::commands;
 use crate::order::Order;
 use crate::store::Store;
+use hd_model::limits::{BLOCKS, CALLERS, HEAP};
 use hd_model::{Cmd, Entry, Journal, Kind, Memory, Slot};
 use std::alloc::Global;
 use std::marker::Model;
@@ -58,9 +59,9 @@ impl World {
         callers: u32,
         lines: u32,
     ) -> Result<World, Memory>
-        requires heap { (3 ≤ heap) × (heap ≤ 1000000) }
-        requires blocks { (1 ≤ blocks) × (blocks ≤ 256) }
-        requires callers { (1 ≤ callers) × (callers ≤ 16) }
+        requires heap { (3 ≤ heap) × (heap ≤ HEAP) }
+        requires blocks { (1 ≤ blocks) × (blocks ≤ BLOCKS) }
+        requires callers { (1 ≤ callers) × (callers ≤ CALLERS) }
         ensures numbers { let n : Numbers = record { heap = heap; blocks = blocks; callers = callers } in
             IfOk result (λ w. w.numbers ≡ n) }
         ensures empty { IfOk result (λ w. w.journal ≡ []) }
@@ -100,7 +101,7 @@ impl World {
     {
         // The journal's length bounds the serials and the counts.
         let _room = self.journal.spare();
-        let entry = commands::run(&mut self.store, Order { caller, cmd }, offer)?;
+        let entry = commands::carry_out(&mut self.store, Order { caller, cmd }, offer)?;
         self.journal.push(entry);
         Ok(entry)
     }
@@ -159,7 +160,7 @@ impl World {
     }
 }
 
-/// Whether a command is a collection.
+// Whether a command is a collection.
 fn is_collect(cmd: Cmd) -> bool
     ensures { result ≡ is_collect cmd }
 {

@@ -1,6 +1,5 @@
-use Rattle.std.proofs.Common.{◌≡◌, sym, ap, subst}
+use Rattle.std.proofs.Common.{◌≡◌, subst}
 use Rattle.hd_world.specs.Growth.{GrowsBy}
-use Rattle.hd_world.specs.Store.{Machine}
 use Rattle.hd_model.specs.Step.{with_growth}
 use Rattle.hd_world.proofs.Placing.{placed_one, placed_two}
 use Rattle.hd_world.proofs.making.new_place.Goals as goal

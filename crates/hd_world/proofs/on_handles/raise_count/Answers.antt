@@ -1,4 +1,4 @@
-use Rattle.std.proofs.Common.{◌≡◌, ◌+◌, ◌<◌, ◌^◌, sym, ap, subst, arith}
+use Rattle.std.proofs.Common.{◌≡◌, ◌+◌, ◌<◌, ◌^◌, ap, arith}
 use Rattle.hd_model.specs.State.{count_of, rename_extra}
 use Rattle.hd_seg.specs.Row.{extra_of}
 use Rattle.hd_world.specs.Reading.{name_in}

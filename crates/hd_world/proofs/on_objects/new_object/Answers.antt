@@ -1,16 +1,13 @@
-use Rattle.std.proofs.Common.{◌≡◌, ◌+◌, Bool, true, false, nat_lt, Some, replicate, None, sym, ap, ◌∙◌, subst}
+use Rattle.std.proofs.Common.{◌≡◌, ◌+◌, false, nat_lt, Some, sym, ap, ◌∙◌}
 use Rattle.std.specs.Prelude.{if◌then◌else◌, unwrap_or}
-use Rattle.std.specs.FinMap.{get, insert}
 use Rattle.std.proofs.lemmas.Bool.{le-ltb}
-use Rattle.hd_model.specs.declared.data.Id.{Id}
 use Rattle.hd_model.specs.declared.data.Refusal.TheVariants as refusal
 use Rattle.hd_model.specs.declared.data.Reply.TheVariants as reply
-use Rattle.hd_model.specs.State.{State, last_serial, identity_of, used_of, with_register, with_serial, with_object}
-use Rattle.hd_model.specs.Command.{Outcome, refuses, answers}
+use Rattle.hd_model.specs.State.{last_serial, identity_of, used_of, with_register, with_serial, with_object}
+use Rattle.hd_model.specs.Command.{Outcome, refuses, answers, fresh_object}
 use Rattle.hd_world.specs.Store.{Machine}
-use Rattle.hd_world.specs.Objects.{fresh_object}
 use Rattle.hd_world.specs.Commands.{entry_of}
-use Rattle.hd_world.specs.Reading.{name_in, named_in}
+use Rattle.hd_world.specs.Reading.{name_in}
 use Rattle.hd_world.proofs.Maps.{get-put}
 use Rattle.hd_world.proofs.on_objects.new_object.Goals as goal
 use Rattle.hd_world.proofs.on_objects.new_object.Goals.{In-Ok}

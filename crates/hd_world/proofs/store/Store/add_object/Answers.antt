@@ -1,10 +1,9 @@
-use Rattle.std.proofs.Common.{◌≡◌, ℕ, ◌+◌, ◌<◌, None, length, refl, sym, ap, ◌∙◌, subst, arith}
+use Rattle.std.proofs.Common.{◌≡◌, ◌+◌, ◌<◌, None, length, sym, ap, ◌∙◌, subst, arith}
 use Rattle.std.specs.FinMap.{get}
 use Rattle.std.proofs.lemmas.Grind.{get_or_default_zero}
 use Rattle.hd_model.specs.State.{last_serial, identity_of}
 use Rattle.hd_heap.specs.Calls.{new_object, IsMade}
 use Rattle.hd_world.specs.Store.{Machine}
-use Rattle.hd_world.specs.Objects.{IsRefused}
 use Rattle.std.specs.Prelude.{Option, is_some}
 use Rattle.hd_model.specs.declared.data.Addr.{Addr}
 use Rattle.std.proofs.lemmas.List.{length-replicate}

@@ -1,5 +1,4 @@
-use Rattle.std.proofs.Common.{◌≡◌, ◌<◌, length, None, get_or, sym, ap, ◌∙◌, subst}
-use Rattle.hd_world.specs.Store.{Machine}
+use Rattle.std.proofs.Common.{◌<◌, length, sym, ap, ◌∙◌, subst}
 use Rattle.hd_world.proofs.Inside.{parts}
 use Rattle.hd_model.specs.State.{field_of}
 use Rattle.hd_world.specs.Reading.{named_in, IsNamed}

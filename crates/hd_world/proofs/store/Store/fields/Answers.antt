@@ -1,5 +1,4 @@
-use Rattle.std.proofs.Common.{◌≡◌, ◌<◌, length, None, get_or, sym, ap, ◌∙◌, subst}
-use Rattle.hd_world.specs.Store.{Machine}
+use Rattle.std.proofs.Common.{◌∙◌}
 use Rattle.hd_world.proofs.Inside.{parts}
 use Rattle.hd_world.proofs.Standing.{in_heap, count-is}
 use Rattle.hd_world.proofs.store.Store.fields.Goals as goal

@@ -1,4 +1,4 @@
-use Rattle.std.proofs.Common.{◌≡◌, ◌/◌, ◌≤◌, ap, arith}
+use Rattle.std.proofs.Common.{◌/◌, arith}
 use Rattle.hd_world.proofs.Inside.{parts}
 use Rattle.hd_world.proofs.Rowing.{kind-outside}
 use Rattle.hd_world.proofs.store.Store.kind_of.Goals as goal

@@ -1,6 +1,5 @@
-use Rattle.std.proofs.Common.{◌≡◌, ◌*◌, ◌/◌, ◌≤◌, length, sym, ap, ◌∙◌, subst, refl, arith}
+use Rattle.std.proofs.Common.{◌≡◌, sym, ap, ◌∙◌, subst, refl, arith}
 use Rattle.hd_model.specs.Ages.{lowered}
-use Rattle.hd_ages.specs.Clumps.{IsSlotOf}
 use Rattle.hd_world.specs.Stored.{IsStored}
 use Rattle.hd_world.specs.Store.{Machine, machine_of}
 use Rattle.hd_world.proofs.Inside.{parts}

@@ -1,8 +1,6 @@
 use Rattle.std.proofs.Common.{sym, ap, ◌∙◌}
 use Rattle.std.specs.FinMap.{len}
 use Rattle.hd_world.specs.Store.{Machine}
-use Rattle.hd_world.proofs.Inside.{parts}
-use Rattle.hd_world.proofs.Totals.{len-fresh}
 use Rattle.hd_world.proofs.Counted.{len-objects}
 use Rattle.hd_world.proofs.store.Store.objects.Goals as goal
 

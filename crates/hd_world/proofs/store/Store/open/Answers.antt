@@ -1,6 +1,5 @@
-use Rattle.std.proofs.Common.{rules, refl, ap, subst, ◌∙◌, ◌≡◌, ℕ, ◌+◌, ◌*◌, ◌<◌, ◌≤◌, ◌^◌, replicate, None, IfOk, ◌-◌, length, ◌/◌, ◌%◌, Bool, true, false, nat_eq, nat_lt, List, [], ◌∷◌, ◌++◌, slice_index_or, slice_set, bit_and, bit_or, Fits, w8, w32, w64, Bor, MutBor}
-use Rattle.std.specs.FinMap.{len, empty}
-use Rattle.hd_model.specs.State.{Numbers, start_of, register_of, handle_register_of, static_of, board_of, used_of, with_register, with_handle_register, with_static, with_board}
+use Rattle.std.proofs.Common.{refl, ap, subst, ◌∙◌, ◌≡◌, replicate, None}
+use Rattle.hd_model.specs.State.{start_of}
 use Rattle.hd_world.specs.Reading.{names_of}
 use Rattle.hd_world.specs.Stored.{IsStored, state_of, numbers_of}
 use Rattle.hd_world.proofs.Opened.{opened, are_opened, stored-opened, names-opened, state-opened}

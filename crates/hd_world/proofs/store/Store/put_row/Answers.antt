@@ -1,6 +1,6 @@
 use Rattle.std.proofs.Common.{◌≡◌, ◌/◌, true, Some, sym, ap, ◌∙◌, subst}
-use Rattle.hd_model.specs.State.{BlockUse, handles_of}
-use Rattle.hd_model.specs.Table.{Table, with_row, fits_in}
+use Rattle.hd_model.specs.State.{handles_of}
+use Rattle.hd_model.specs.Table.{with_row, fits_in}
 use Rattle.hd_seg.specs.Row.{handle_of, extra_of}
 use Rattle.hd_world.specs.Stored.{IsStored}
 use Rattle.hd_world.specs.Store.{machine_of}

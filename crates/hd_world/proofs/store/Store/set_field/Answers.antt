@@ -1,8 +1,7 @@
-use Rattle.std.proofs.Common.{◌≡◌, ◌<◌, length, slice_set, refl, sym, ap, ◌∙◌, subst}
+use Rattle.std.proofs.Common.{◌≡◌, ◌<◌, length, slice_set, sym, ap, ◌∙◌, subst}
 use Rattle.std.specs.Prelude.{IfSome, true}
-use Rattle.hd_model.specs.Heap.{Heap, Placed, placed_at, has_object}
+use Rattle.hd_model.specs.Heap.{placed_at, has_object}
 use Rattle.hd_model.specs.State.{Object}
-use Rattle.hd_model.specs.declared.data.Id.{Id}
 use Rattle.hd_heap.specs.Calls.{stored}
 use Rattle.hd_world.specs.Reading.{named_in, IsNamed}
 use Rattle.hd_world.specs.Stored.{IsStored}

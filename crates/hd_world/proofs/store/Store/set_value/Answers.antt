@@ -1,7 +1,5 @@
-use Rattle.std.proofs.Common.{◌≡◌, refl, sym, ap, ◌∙◌, subst}
-use Rattle.hd_model.specs.Heap.{Heap, Placed, placed_at}
-use Rattle.hd_model.specs.State.{Object}
-use Rattle.hd_model.specs.declared.data.Id.{Id}
+use Rattle.std.proofs.Common.{refl, sym, ap, ◌∙◌, subst}
+use Rattle.hd_model.specs.Heap.{Placed, placed_at}
 use Rattle.hd_heap.specs.Calls.{with_object}
 use Rattle.hd_world.specs.Stored.{IsStored}
 use Rattle.hd_world.specs.Store.{machine_of}

@@ -1,4 +1,4 @@
-use Rattle.std.proofs.Common.{◌≡◌, ◌*◌, Some, sym, ap, ◌∙◌, subst, arith}
+use Rattle.std.proofs.Common.{◌≡◌, ◌*◌, Some, ap, ◌∙◌, subst, arith}
 use Rattle.hd_model.specs.State.{handles_of, use_of, without_use}
 use Rattle.hd_model.specs.Table.{kind_at}
 use Rattle.hd_world.specs.Store.{Machine, machine_of}

@@ -1,7 +1,5 @@
-use Rattle.std.proofs.Common.{◌≡◌, ◌<◌, length, None, get_or, sym, ap, ◌∙◌, subst}
-use Rattle.hd_world.specs.Store.{Machine}
+use Rattle.std.proofs.Common.{◌∙◌}
 use Rattle.hd_world.proofs.Inside.{parts}
-use Rattle.hd_world.proofs.Writes.{stored-write, machine-write}
 use Rattle.hd_world.proofs.Standing.{in_heap, value-is}
 use Rattle.hd_world.proofs.store.Store.value.Goals as goal
 

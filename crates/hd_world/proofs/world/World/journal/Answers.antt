@@ -1,4 +1,4 @@
-use Rattle.std.proofs.Common.{◌≡◌, ap, subst}
+use Rattle.std.proofs.Common.{subst}
 use Rattle.hd_model.specs.Run.{Run}
 use Rattle.hd_model.proofs.Chains.{aged_run_is_run}
 use Rattle.hd_world.specs.World.{Standing}
