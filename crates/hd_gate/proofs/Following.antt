@@ -1,6 +1,6 @@
 -- Over every step the pool after it is tied to the state after it.
 use Rattle.std.proofs.Common.{◌≡◌, ◌≢◌, ◌⊎◌, ◌↔◌, ℕ, ◌+◌, ◌<◌, Bool, true, false, ◌&&◌, Option, Some, None, inl, inr, refl, sym, ap, ◌∙◌, subst, arith}
-use Rattle.std.specs.Prelude.{is_some, is_none, option_map, IfSome}
+use Rattle.std.specs.Prelude.{is_some, is_none, IfSome}
 use Rattle.std.specs.Option.{ForSome}
 use Rattle.std.specs.FinMap as map
 use Rattle.std.specs.FinMap.{get}
@@ -24,9 +24,12 @@ use Rattle.hd_model.specs.Kinds.{kind_of}
 use Rattle.hd_model.specs.Command.{refuses, made_handle, free_handle}
 use Rattle.hd_model.specs.Step.{IsOutcome, IsLeastUnused, MayGive, with_made, MakesHandle, blocks_needed, StepOf, Step}
 use Rattle.hd_model.specs.Run.{NoneFree, NoneAllFree, TakesLeast}
-use Rattle.hd_model.proofs.Effects.{Effect, refused, makes_object, sets_field, gets_field, sets_value, reads_value, copies, clears, puts_static, gets_static, reads_generation, suppresses, reregisters, finds_none, takes_first, collects, makes_handle, gets_target, sets_target, sets_secondary, gets_secondary, sets_strength, raises_count, lowers_count, frees_handle, puts_board, picks_board, answers_place, gives_back, gives_none, effect}
+use Rattle.hd_model.specs.Touched.{touched_by}
+use Rattle.hd_model.proofs.Effects.{effect}
+use Rattle.hd_model.proofs.Frames.{untouched_stays}
+use Rattle.hd_model.proofs.Kept.{HandleChange, handle_stays, is_made, target_is_set, secondary_is_set, strength_is_set, count_is_raised, count_is_lowered, is_freed, is_collected, handle_change}
 use Rattle.hd_model.proofs.Outcomes.{on_handle_cases}
-use Rattle.hd_model.proofs.Written.{get_inserted, get_beside, get_removed, get_left, write_cases}
+use Rattle.hd_model.proofs.Written.{get_inserted, get_beside, get_removed, get_left}
 use Rattle.hd_model.proofs.WellFormed.{step_keeps}
 use Rattle.hd_pool.specs.Pool.{FreeSlots, slots_of, IsFreeFor, IsLeastFreeFor, HasNoneFor, IsLeastWholeOf}
 use Rattle.hd_pool.proofs.Sets.{insert_same, insert_other, remove_same, remove_other, union_same, union_other, difference_same, difference_other}
@@ -34,7 +37,8 @@ use Rattle.hd_world.specs.World.{IsOffer, GrowsUnoffered, Takes as TakesOffer}
 use Rattle.hd_gate.specs.declared.change.Change.{Change}
 use Rattle.hd_gate.specs.declared.change.Change.TheVariants.{Takes, Frees, GivesBack as Gives, Keeps}
 use Rattle.hd_gate.specs.Change.{change_of, Offers, grown_by, without_block, noted, MayGrow, MayNote}
-use Rattle.hd_gate.specs.Tied.{kind_in_use, kind_of_block, is_free, IsTied}
+use Rattle.hd_world.specs.Growth.{kind_in_use}
+use Rattle.hd_gate.specs.Tied.{kind_of_block, is_free, IsTied}
 use Rattle.hd_gate.proofs.Tying.{in_pool, in_state, least_in_state, none_in_state, whole_in_state, least_whole_in_state, none_whole_in_state, live_not_free, live_added, unused_not_live}
 
 same_slot : (a b : Slot) → a.0 ≡ b.0 → a ≡ b
@@ -42,10 +46,6 @@ same_slot a b e i = record { 0 = e i }
 
 Some-injective : {A : Type 0} (a b : A) → Some a ≡ Some b → a ≡ b
 Some-injective a b e = cc
-
-kept : {A : Type 0} (f : A → A) (o : Option A) → is_none (option_map f o) ≡ is_none o
-kept f None = refl
-kept f (Some x) = refl
 
 zero_is_not_one : reply.Value 0 ≡ reply.Value 1 → ⊥
 zero_is_not_one e = let numbers : ◌≡◌ {A = ℕ} 0 1 = cc in absurd (omega (arith, numbers))
@@ -68,55 +68,31 @@ module _ (n : Numbers) (s : State) (p : FreeSlots) (tied : IsTied n s p) (e : En
     well_formed = well;
   }
 
-  -- one handle is replaced by another
-  replaced : (slot : ℕ) (old new : Handle Id) → get s.handles slot ≡ Some old → (q : ℕ) → is_none
-      (get (map.insert s.handles slot new) q) ≡ is_none (get s.handles q)
-  replaced slot old new live q =
-      write_cases s.handles slot (λ o. is_none o ≡ is_none (get s.handles q)) new q
-      (λ same. sym (ap is_none (ap (get s.handles) same ∙ live))) refl
+  -- a command that leaves the free slots as they are leaves live what was live, and no other slot
+  live_stays : (slot : Slot) (c : Cmd) (o : Option (Handle Id)) → HandleChange s e slot c o → change_of c ≡ Keeps
+      → is_none o ≡ is_none (get s.handles slot.0)
+  live_stays slot c o handle_stays keeps = refl
+  live_stays slot c o (is_made given replies free) keeps = cc
+  live_stays slot c o (target_is_set handle finds replies) keeps = sym (ap is_none finds.live)
+  live_stays slot c o (secondary_is_set handle finds same replies) keeps = sym (ap is_none finds.live)
+  live_stays slot c o (strength_is_set handle finds same replies) keeps = sym (ap is_none finds.live)
+  live_stays slot c o (count_is_raised handle finds same replies) keeps = sym (ap is_none finds.live)
+  live_stays slot c o (count_is_lowered handle finds same replies) keeps = sym (ap is_none finds.live)
+  live_stays slot c o (is_freed handle finds replies) keeps = cc
+  live_stays slot c o (is_collected reach kept handle live) keeps = sym (ap is_none live)
 
-  abbrev Keeping : Cmd → Type 0
-  Keeping c = change_of c ≡ Keeps
+  -- and it brings no block into use or out of it
+  blocks_stay : (c : Cmd) → change_of c ≡ Keeps → (touched_by c).blocks ≡ false
+  blocks_stay (cmd.HNew d make r) keeps = cc
+  blocks_stay (cmd.Trim kind) keeps = cc
+  blocks_stay c keeps = refl
 
-  by_other : (c : Cmd) (u : State) → Effect n s e c u → Keeping c → u ≡ t → IsTied n t p
-  by_other c u (refused replies) keeps is = stays u (λ _. refl) refl is
-  by_other c u (makes_object small replies) keeps is = stays u (λ _. refl) refl is
-  by_other c u (sets_field id names within replies) keeps is = stays u (λ _. refl) refl is
-  by_other c u (gets_field id names within replies) keeps is = stays u (λ _. refl) refl is
-  by_other c u (sets_value id names replies) keeps is = stays u (λ _. refl) refl is
-  by_other c u (reads_value id names replies) keeps is = stays u (λ _. refl) refl is
-  by_other c u (copies replies) keeps is = stays u (λ _. refl) refl is
-  by_other c u (clears replies) keeps is = stays u (λ _. refl) refl is
-  by_other c u (puts_static replies) keeps is = stays u (λ _. refl) refl is
-  by_other c u (gets_static replies) keeps is = stays u (λ _. refl) refl is
-  by_other c u (reads_generation id names replies) keeps is = stays u (λ _. refl) refl is
-  by_other c u (suppresses id names replies) keeps is = stays u (λ _. refl) refl is
-  by_other c u (reregisters id names replies) keeps is = stays u (λ _. refl) refl is
-  by_other c u (finds_none replies) keeps is = stays u (λ _. refl) refl is
-  by_other c u (takes_first id rest queued replies) keeps is = stays u (λ _. refl) refl is
-  by_other c u (collects did) keeps is =
-      stays u (λ slot. ap is_none (did.collects.scene.handles slot) ∙ kept _ (get s.handles slot))
-      did.collects.blocks is
-  by_other c u (makes_handle slot given may replies) keeps is = cc
-  by_other c u (gets_target slot handle finds replies) keeps is = stays u (λ _. refl) refl is
-  by_other c u (sets_target slot handle finds replies) keeps is = stays u
-      (replaced slot.0 handle _ finds.live) refl is
-  by_other c u (sets_secondary slot handle finds same some replies) keeps is = stays u
-      (replaced slot.0 handle _ finds.live) refl is
-  by_other c u (gets_secondary slot handle finds replies) keeps is = stays u (λ _. refl) refl is
-  by_other c u (sets_strength slot handle finds same replies) keeps is = stays u
-      (replaced slot.0 handle _ finds.live) refl is
-  by_other c u (raises_count slot handle finds same replies) keeps is = stays u
-      (replaced slot.0 handle _ finds.live) refl is
-  by_other c u (lowers_count slot handle finds same replies) keeps is = stays u
-      (replaced slot.0 handle _ finds.live) refl is
-  by_other c u (frees_handle slot handle finds replies freed) keeps is = cc
-  by_other c u (puts_board replies) keeps is = stays u (λ _. refl) refl is
-  by_other c u (picks_board replies) keeps is = stays u (λ _. refl) refl is
-  by_other c u (answers_place slot handle id place finds target may replies) keeps is = stays u (λ _. refl)
-      refl is
-  by_other c u (gives_back block free replies) keeps is = cc
-  by_other c u (gives_none replies) keeps is = cc
+  by_keeping : change_of e.cmd ≡ Keeps → IsTied n t p
+  by_keeping keeps = stays t
+      (λ slot. let at : Slot = record { 0 = slot } in
+      live_stays at e.cmd (get t.handles slot)
+      (handle_change n s tied.well_formed e at e.cmd t (effect n s e t step)) keeps)
+      ((untouched_stays n s t e step).blocks (blocks_stay e.cmd keeps)) refl
 
   -- what is true of the pool after a step: the entry may be noted, and the pool is then tied to the state
   -- after it
@@ -383,15 +359,14 @@ module _ (n : Numbers) (s : State) (p : FreeSlots) (tied : IsTied n s p) (e : En
 
   by_command : (c : Cmd) (q : FreeSlots) (o : Option Slot) → Offers p q (change_of c) o → ForSome o
       (TakesOffer e c) → GrowsUnoffered n s c o e
-      → StepOf n s e t c → Effect n s e c t → Follows q (change_of c) e.slot e.grown
-  by_command (cmd.HNew d make r) q o offers taken grows does did = by_new d make r q o offers taken does
-  by_command (cmd.HFree h) q o offers taken grows does did = subst (λ x. Follows x Frees e.slot e.grown)
+      → StepOf n s e t c → (change_of c ≡ Keeps → IsTied n t p) → Follows q (change_of c) e.slot e.grown
+  by_command (cmd.HNew d make r) q o offers taken grows does stays_tied = by_new d make r q o offers taken does
+  by_command (cmd.HFree h) q o offers taken grows does stays_tied = subst (λ x. Follows x Frees e.slot e.grown)
       (sym offers.1) (by_freed h does)
-  by_command (cmd.Trim kind) q o offers taken grows does did = by_trim kind q o offers taken grows does
-  by_command c q o offers taken grows does did = (
+  by_command (cmd.Trim kind) q o offers taken grows does stays_tied = by_trim kind q o offers taken grows does
+  by_command c q o offers taken grows does stays_tied = (
     tt,
-    subst (IsTied n t) (sym offers.1)
-        (by_other c t did refl refl),
+    subst (IsTied n t) (sym offers.1) (stays_tied refl),
   )
 
   pub follows : (c : Cmd) → e.cmd ≡ c → (q : FreeSlots) (o : Option Slot) → Offers p q (change_of c) o →
@@ -400,7 +375,7 @@ module _ (n : Numbers) (s : State) (p : FreeSlots) (tied : IsTied n s p) (e : En
   follows c is q o offers taken grows =
       subst (λ x. Follows q (change_of x) e.slot e.grown) (sym is)
       (by_command c q o offers taken grows (subst (StepOf n s e t) is step.does)
-      (subst (λ x. Effect n s e x t) is (effect n s e t step)))
+      (λ keeps. by_keeping (ap change_of is ∙ keeps)))
 
 -- what is offered may be offered
 pub may_offer : (n : Numbers) (s : State) (p q : FreeSlots) → IsTied n s p → (c : Cmd) (o : Option Slot) →

@@ -14,7 +14,8 @@ use Rattle.hd_model.specs.State.{Numbers, State, Handle, BlockUse, handles_of, e
 use Rattle.hd_model.specs.Run.{IsLeastFree, NoneFree, IsLeastAllFree, NoneAllFree}
 use Rattle.hd_model.proofs.WellFormed.{start_is_well_formed}
 use Rattle.hd_pool.specs.Pool.{FreeSlots, IsFreeFor, IsLeastFreeFor, HasNoneFor, IsWholeOf, IsLeastWholeOf, HasNoWholeOf}
-use Rattle.hd_gate.specs.Tied.{kind_in_use, kind_of_block, IsTied}
+use Rattle.hd_world.specs.Growth.{kind_in_use}
+use Rattle.hd_gate.specs.Tied.{kind_of_block, IsTied}
 
 -- a use with a kind is that of handles of the kind
 pub use_of_kind : (u : Option BlockUse) (kind : Kind) → kind_in_use u ≡ Some kind → u ≡ Some (handles_of kind)

@@ -1,19 +1,15 @@
 -- How a pool is tied to the state of a world.
-use Rattle.std.specs.Prelude.{◌≡◌, ℕ, ◌&&◌, Bool, Option, Some, None, is_some, is_none}
+use Rattle.std.specs.Prelude.{◌≡◌, ℕ, ◌&&◌, Bool, Option, is_some, is_none}
 use Rattle.std.specs.FinMap.{get}
 use Rattle.std.specs.FinSet.{contains}
 use Rattle.hd_model.specs.declared.data.Kind.{Kind}
 use Rattle.hd_model.specs.declared.data.Slot.{Slot}
-use Rattle.hd_model.specs.State.{Numbers, State, BlockUse, handles_of, extra_data, use_of, handle_at, block_of}
+use Rattle.hd_model.specs.State.{Numbers, State, use_of, handle_at, block_of}
 use Rattle.hd_model.specs.WellFormed.{IsWellFormed}
 use Rattle.hd_pool.specs.Pool.{FreeSlots}
+use Rattle.hd_world.specs.Growth.{kind_in_use}
 
--- the kind of the handles of a block that has a use
-abbrev pub kind_in_use : Option BlockUse → Option Kind
-kind_in_use None = None
-kind_in_use (Some extra_data) = None
-kind_in_use (Some (handles_of kind)) = Some kind
-
+-- the kind of the handles of a block, if it has handles
 abbrev pub kind_of_block : State → ℕ → Option Kind
 kind_of_block s block = kind_in_use (use_of s block)
 

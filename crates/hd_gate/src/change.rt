@@ -8,13 +8,13 @@ use hd_pool::Pool;
 // What a command does to the free slots.
 #[derive(Clone, Copy)]
 enum Change {
-    /// It takes one of a kind.
+    // It takes one of a kind.
     Takes(Kind),
-    /// It frees one.
+    // It frees one.
     Frees,
-    /// It gives a block of a kind back, all of whose slots are free.
+    // It gives a block of a kind back, all of whose slots are free.
     GivesBack(Kind),
-    /// It leaves them as they are.
+    // It leaves them as they are.
     Keeps,
 }
 
