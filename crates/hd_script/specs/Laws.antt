@@ -2,7 +2,7 @@
 use Rattle.std.specs.Prelude.{◌≡◌, ◌≢◌, ℕ, ◌+◌, ◌<◌, ◌≤◌, ◌==◌, Bool, true, false, if◌then◌else◌, List, [], ◌∷◌, ◌++◌, map, length, take, fold, filter, filter_map, flat_map, slice_index_or, All, count_by, Option, Some, None, Ok, Err, ◌⊎◌}
 use Rattle.std.specs.List.{enumerate_from}
 use Rattle.hd_model.specs.declared.command.Cmd.{Cmd}
-use Rattle.hd_model.specs.Grammar.{Reading, lines_in, words_of, readings_of, blank, command, caller_after, command_in, script_of}
+use Rattle.hd_model.specs.Grammar.{Reading, lines_in, words_of, readings_of, blank, caller, command, caller_after, command_in, script_of}
 use Rattle.hd_model.specs.declared.limits.TheConstants.{MOST_COMMANDS}
 
 -- the bytes are lines that each end at a byte 10, and after them a last one without an end, which is a line
@@ -52,8 +52,10 @@ WordsDecide = (one other : List ℕ) (lists : List (List Cmd)) → words_of_line
 
 -- whether a line is a command
 abbrev pub is_command : Option Reading → Bool
+is_command None = false
+is_command (Some blank) = false
+is_command (Some (caller n)) = false
 is_command (Some (command c)) = true
-is_command _ = false
 
 -- a line, by its place from 0, is at fault: it has no reading, or it is a command and too many stand above it
 pub record IsAtFault (readings : List (Option Reading)) (place : ℕ) : Type 0 where

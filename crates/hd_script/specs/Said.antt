@@ -1,6 +1,7 @@
 -- What the code's readings say, in the words of the grammar.
 use Rattle.std.specs.Prelude.{◌<◌}
 use Rattle.hd_model.specs.Grammar.{Reading as Said, blank, caller, command}
+use Rattle.hd_model.specs.declared.limits.TheConstants.{CALLERS}
 use Rattle.hd_model.specs.Valid.{IsValid}
 use Rattle.hd_script.specs.declared.reading.Reading.{Reading}
 use Rattle.hd_script.specs.declared.reading.Reading.TheVariants.{Blank, Caller, Command}
@@ -11,8 +12,8 @@ seen Blank = blank
 seen (Caller n) = caller n
 seen (Command c) = command c
 
--- a caller is one of the 16, and a command is valid
+-- a caller is below the limit, and a command is valid
 abbrev pub IsValidReading : Reading → Type 0
 IsValidReading Blank = Unit {0}
-IsValidReading (Caller n) = n < 16
+IsValidReading (Caller n) = n < CALLERS
 IsValidReading (Command c) = IsValid c
