@@ -38,7 +38,7 @@ impl CallCount {
         })
     }
 
-    // Counts one more call, which fails where its number is among those that are to fail.
+    /// Counts one more call, which fails where its number is among those that are to fail.
     pub(crate) fn count_one(&mut self) -> Result<(), Failed>
         ensures fails { is_err result ≡ fails_next self.old }
         ensures counted { self.new ≡ after_call self.old }

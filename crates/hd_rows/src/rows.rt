@@ -4,8 +4,8 @@ use std::alloc::{AllocError, Global};
 use std::process::Abort;
 use std::test::Fail;
 
-/// One run of the program: the words behind its name, the input, the numbers of the reads and
-/// writes that fail, from 1, and the status and the text that must come of it.
+// One run of the program: the words after its name, the input, the numbers of the reads and
+// writes that fail, from 1, and the status and the text that must come of it.
 #[derive(Clone, Copy)]
 struct Row {
     words: &'static [&'static str],
@@ -16,10 +16,10 @@ struct Row {
     text: &'static str,
 }
 
-/// The room for what a row writes, in bytes.
+// The room for what a row writes, in bytes.
 const ROOM: u32 = 4096;
 
-/// A run of `hdt solo` in which nothing fails.
+// A run of `hdt solo` in which nothing fails.
 fn runs(input: &'static str, status: u8, text: &'static str) -> Row {
     Row {
         words: &["solo"],
@@ -31,7 +31,7 @@ fn runs(input: &'static str, status: u8, text: &'static str) -> Row {
     }
 }
 
-/// The words of a command line, the program's name first.
+// The words of a command line, the program's name first.
 fn words_of(alloc: Global, words: &[&str]) -> Result<Vec<String>, AllocError> {
     let mut all = Vec::new(alloc);
     all.push(String::from_str(alloc, "hdt")?)?;
@@ -41,8 +41,8 @@ fn words_of(alloc: Global, words: &[&str]) -> Result<Vec<String>, AllocError> {
     Ok(all)
 }
 
-/// Runs a row and compares what comes of it.
-fn run(rt: &(impl Abort + AllocGlobal), row: &Row) -> Result<(), Fail> {
+// Runs a row and compares what comes of it.
+fn assert_row(rt: &(impl Abort + AllocGlobal), row: &Row) -> Result<(), Fail> {
     let words = words_of(rt.alloc(), row.words)?;
     let mut source = MemorySource::open(rt.alloc(), row.input.as_bytes(), row.read_fails)?;
     let mut sink = MemorySink::open(rt.alloc(), ROOM, row.write_fails)?;
@@ -57,7 +57,7 @@ fn run(rt: &(impl Abort + AllocGlobal), row: &Row) -> Result<(), Fail> {
     Ok(())
 }
 
-/// Scripts that run to their end.
+// Scripts that run to their end.
 fn whole_runs() -> [Row; 8] {
     [
         runs("", 0, "end handles 0 objects 0 collections 0\n"),
@@ -112,7 +112,7 @@ fn whole_runs() -> [Row; 8] {
     ]
 }
 
-/// Scripts of handles of each kind, of marks for finalisation, and of blocks that are given back.
+// Scripts of handles of each kind, of marks for finalisation, and of blocks that are given back.
 fn kinds_of_handles() -> [Row; 6] {
     [
         // Commands that do not fit the kind of the handle, or the object.
@@ -164,7 +164,7 @@ fn kinds_of_handles() -> [Row; 6] {
     ]
 }
 
-/// Scripts, words and streams that are refused or fail.
+// Scripts, words and streams that are refused or fail.
 fn faults() -> [Row; 12] {
     let usage = "usage: hdt solo|run|load [--heap CELLS] [--blocks COUNT] [--rounds N]\n";
     [
@@ -213,13 +213,13 @@ fn faults() -> [Row; 12] {
 #[test]
 fn runs_come_to_what_they_must(rt: HostRuntime) -> Result<(), Fail> {
     for row in &whole_runs() {
-        run(&rt, row)?;
+        assert_row(&rt, row)?;
     }
     for row in &kinds_of_handles() {
-        run(&rt, row)?;
+        assert_row(&rt, row)?;
     }
     for row in &faults() {
-        run(&rt, row)?;
+        assert_row(&rt, row)?;
     }
     Ok(())
 }

@@ -4,7 +4,7 @@ ghost use Rattle.hd_run.specs.Turns.{list_of, IsAllBuilt};
 
 use hd_script::Scripts;
 
-// Whether the machine has every command of a script.
+/// Whether the machine has every command of a script.
 pub(crate) fn is_all_built(scripts: &Scripts) -> bool
     ensures { IsTrue result ↔ IsAllBuilt scripts.now }
 {

@@ -8,7 +8,7 @@ use hd_model::Memory;
 use hd_script::ScriptFault;
 use hd_world::World;
 
-// Why nothing was run.
+/// Why nothing was run.
 #[derive(Clone, Copy)]
 pub(crate) enum Fault {
     Usage,
@@ -18,11 +18,11 @@ pub(crate) enum Fault {
     Later,
 }
 
-// How the work of a call ends, before its report is written, and what it keeps.
+/// How the work of a call ends, before its report is written, and what it keeps.
 #[derive(Drop)]
 pub(crate) enum Ending {
     Refused(Fault),
-    // Memory ran out.
+    /// Memory ran out.
     Stopped(Option<World>),
     Done(World),
 }
@@ -60,7 +60,7 @@ impl Ending {
     }
 }
 
-// Not all was read.
+/// Not all was read.
 pub(crate) fn unread(fault: ReadFault) -> Ending
     ensures { result ≡ unread_ending fault }
 {
@@ -71,7 +71,7 @@ pub(crate) fn unread(fault: ReadFault) -> Ending
     }
 }
 
-// No script was made of the bytes.
+/// No script was made of the bytes.
 pub(crate) fn unparsed(fault: ScriptFault) -> Ending
     ensures { result ≡ unparsed_ending fault }
 {
@@ -81,7 +81,7 @@ pub(crate) fn unparsed(fault: ScriptFault) -> Ending
     }
 }
 
-// A run came to its end, or stopped for want of memory.
+/// A run came to its end, or stopped for want of memory.
 pub(crate) fn ran(taken: Result<(), Memory>, world: World) -> Ending
     ensures { result ≡ ran_ending taken world }
 {

@@ -14,14 +14,14 @@ mod request;
 mod turns;
 mod work;
 
-use ending::{Ending, Fault};
+use crate::ending::{Ending, Fault};
+use crate::report::report;
+use crate::request::{Request, read_solo_words, read_words};
+use crate::work::work;
 use hd_io::{Pace, Sink, Source};
 pub use laws::parts_follow_the_turns;
 pub use outcome::{Kept, Outcome};
-use report::report;
-use request::{Request, read_solo_words, read_words};
 use std::alloc::Global;
-use work::work;
 
 /// The program: reads its words, the program's name first, and does what they say. It has one mode,
 /// `solo`. The pace is that of callers in threads, which this mode has none of.

@@ -14,7 +14,7 @@ const WRITE_FAULT: u8 = 5;
 
 const MEMORY: &str = "fault memory\n";
 
-// Writes what an ending has to say, and answers its status and what it keeps.
+/// Writes what an ending has to say, and answers its status and what it keeps.
 pub(crate) fn report<K: Sink>(sink: &mut K, ending: Ending) -> Outcome
     requires { HasFewCallers (journal_in (world_of (kept_of ending))) }
     ensures { Reports (K.seen sink.old) (K.seen sink.new) ending result }

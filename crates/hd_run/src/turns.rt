@@ -9,7 +9,7 @@ use hd_script::Scripts;
 use hd_world::World;
 use std::alloc::Global;
 
-// An empty world for a script, with all turns left.
+/// An empty world for a script, with all turns left.
 pub(crate) fn open(alloc: Global, request: Request, scripts: &Scripts) -> Result<Alone, Memory>
     requires { IsInLimits request }
     ensures numbers { IfOk result (λ w. w.numbers ≡ numbers_for request scripts.now) }
@@ -26,8 +26,8 @@ pub(crate) fn open(alloc: Global, request: Request, scripts: &Scripts) -> Result
     Alone::open(alloc, world, request.blocks)
 }
 
-// Takes all turns, those of the callers one after another in rising number, each to its end, up to
-// one that finds no memory.
+/// Takes all turns, those of the callers one after another in rising number, each to its end, up to
+/// one that finds no memory.
 pub(crate) fn take_turns(alone: &mut Alone, scripts: &Scripts) -> Result<(), Memory>
     requires ready { IsReadyFor alone.old.numbers scripts.now (turns_from 0 scripts.now) alone.old }
     requires callers { alone.old.numbers.callers ≡ length scripts.now }

@@ -11,7 +11,7 @@ use hd_model::limits::MOST_BYTES;
 use hd_script::parse;
 use std::alloc::Global;
 
-// Does what was asked: reading, the grammar, running.
+/// Does what was asked: reading, the grammar, running.
 pub(crate) fn work<S: Source>(alloc: Global, request: Request, source: &mut S) -> Ending
     requires { IsInLimits request }
     ensures cause { RequestCause request (S.seen source.old) (S.seen source.new) result }
