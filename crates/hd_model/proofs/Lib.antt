@@ -24,6 +24,7 @@ pub mod Keeps
 pub mod Effects
 pub mod Frames
 pub mod OneState
+pub mod Placed
 pub mod Chains
 pub mod KindTests
 pub mod WellFormed

@@ -42,3 +42,7 @@ is_target x (Some y) = y.0 == x
 -- whether some handle pins the object with an identity, by its number
 abbrev pub is_pinned : FinMap nat_cmp (Handle Id) → ℕ → Bool
 is_pinned handles x = list_any (λ h. pins h && is_target x h.target) (values handles)
+
+-- the state with other places
+abbrev pub with_places : State → FinMap nat_cmp ℕ → State
+with_places s places = record s { places = places }
