@@ -4,7 +4,7 @@ use Rattle.std.specs.Prelude.{Contains, is_some, ⊤}
 use Rattle.std.proofs.lemmas.Bool.{cases_eq, cases_lt, both_ways, lt-ltb, le-ltb}
 use Rattle.std.proofs.lemmas.List.{get_or-set_same, get_or-set_other, length-set}
 use Rattle.hd_model.specs.declared.data.Addr.{Addr}
-use Rattle.hd_model.specs.Heap.{Heap, region_of}
+use Rattle.hd_model.specs.Heap.{Heap, region_of, has_object}
 use Rattle.hd_model.proofs.Members.{first_in, later_in}
 use Rattle.hd_heap.specs.Calls.{is_after, is_condemned, IsNext}
 use Rattle.hd_heap.specs.Sound.{IsSound}
@@ -88,22 +88,35 @@ module _ (h : Heap) (n : ℕ) where
     last = tt;
   }
 
+-- an object has an address from 256 to 2 ^ 32
+pub addressed : (h : Heap) → IsSound h → (a : Addr) → has_object h a ≡ true → (256 ≤ a.0) × (a.0 < 2 ^ 32)
+unfolding region_of
+addressed h sound a there =
+    let numbers = sound.numbers (a.0 / 256) (sound.held a there) in
+    let low = numbers.0 in
+    let high = numbers.1 in
+    (omega arith, omega arith)
+
+-- a walk comes nearer to its end
+pub walk_falls : (h : Heap) → IsSound h → (p : Addr → Bool) → ((a : Addr) → p a ≡ true → has_object h a ≡ true)
+    → (after : Option Addr) (at : Addr) → IsNext p after at → 2 ^ 32 - at.0 < 2 ^ 32 - last_of after
+walk_falls h sound p there after at next =
+    let range = addressed h sound at (there at next.member) in
+    let low = range.0 in
+    let high = range.1 in
+    let more = rises after at next.behind low in
+    omega arith
+
 module _ (h : Heap) (n : ℕ) (sound : IsSound h) where
-  -- an object has an address from 256 to 2 ^ 32
-  addressed : (a : Addr) → is_condemned h n a ≡ true → (256 ≤ a.0) × (a.0 < 2 ^ 32)
-  unfolding region_of
-  addressed a condemned =
-      let numbers = sound.numbers (a.0 / 256) (sound.held a (first_true _ _ condemned)) in
-      let low = numbers.0 in
-      let high = numbers.1 in
-      (omega arith, omega arith)
+  there : (a : Addr) → is_condemned h n a ≡ true → has_object h a ≡ true
+  there a condemned = first_true _ _ condemned
 
   -- ---- the count
 
   module _ (after : Option Addr) (objects : ℕ) (is : IsCounted h n after objects) where
     module _ (at : Addr) (next : IsNext (is_condemned h n) after at) where
       up : last_of after < at.0
-      up = rises after at next.behind (addressed at next.member).0
+      up = rises after at next.behind (addressed h sound at (there at next.member)).0
 
       counted_all : (a : Addr) → is_condemned h n a ≡ true → is_after (Some at) a ≡ false
           → Contains (at.0 ∷ is.members) a.0
@@ -122,11 +135,11 @@ module _ (h : Heap) (n : ℕ) (sound : IsSound h) where
         number = (let number = is.number in omega arith);
         all = counted_all;
         few = (let few = is.few in let more = up in omega arith);
-        low = (addressed at next.member).1;
+        low = (addressed h sound at (there at next.member)).1;
       }
 
       pub counting_falls : 2 ^ 32 - at.0 < 2 ^ 32 - last_of after
-      counting_falls = (let more = up in let low = is.low in omega arith)
+      counting_falls = walk_falls h sound (is_condemned h n) there after at next
 
     pub counting_fits : objects < 2 ^ 32
     counting_fits = (let few = is.few in let low = is.low in omega arith)
