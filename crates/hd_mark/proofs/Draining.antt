@@ -55,52 +55,70 @@ marked_young m x h condemned =
     ⊎_elim (λ older. absurd (both_ways _ (young_test m.basis x condemned.young) older)) (λ marked. marked)
     (promoted_how m x h)
 
--- ---- a push
+-- ---- pushes
 
-module _ (S : Addr → Type 0) (m n : MarksOf) (p : Pushes S m n) (t : IsTraced m)
-    (object : (x : Addr) → S x → is_object (objects_of m.basis) x ≡ true) where
-  kept_fields : HasClosedFields (objects_of n.basis)
-  kept_fields = subst (λ (b : Basis). HasClosedFields (objects_of b)) (sym p.basis) t.fields
-
-  pub kept_condemned : (x : Addr) → contains n.marks x.0 ≡ true
-      → IsCondemned (objects_of m.basis) m.basis.condemned x
-  kept_condemned x h =
-      ⊎_elim (λ old. t.marked x old)
-      (λ (new : S x × (Contains n.stacked x × (is_older m.basis x ≡ false))).
-      record { object = object x new.0; young = is_young m.basis x new.1.1 }) (p.only x h)
-
-  kept_marked : (x : Addr) → contains n.marks x.0 ≡ true
+-- pushes keep what is true between calls, where what was marked and is not stacked was scanned
+module _ (S : Addr → Type 0) (m n : MarksOf) (p : Pushes S m n)
+    (object : (x : Addr) → S x → is_object (objects_of m.basis) x ≡ true)
+    (fields : HasClosedFields (objects_of m.basis))
+    (marked : (x : Addr) → contains m.marks x.0 ≡ true → IsCondemned (objects_of m.basis) m.basis.condemned x)
+    (stacked : (x : Addr) → Contains m.stacked x → contains m.marks x.0 ≡ true)
+    (scanned_before : (x : Addr) → contains m.marks x.0 ≡ true → Contains m.stacked x
+    ⊎ ((y : Addr) → IsField (objects_of m.basis) x y → promoted_in n y ≡ true)) where
+  marked_after : (x : Addr) → contains n.marks x.0 ≡ true
       → IsCondemned (objects_of n.basis) n.basis.condemned x
-  kept_marked x h =
-      subst (λ (b : Basis). IsCondemned (objects_of b) b.condemned x) (sym p.basis) (kept_condemned x h)
+  marked_after x h =
+      subst (λ (b : Basis). IsCondemned (objects_of b) b.condemned x) (sym p.basis)
+      (⊎_elim (λ old. marked x old)
+      (λ (new : S x × (Contains n.stacked x × (is_older m.basis x ≡ false))).
+      record { object = object x new.0; young = is_young m.basis x new.1.1 }) (p.only x h))
 
-  kept_stacked : (x : Addr) → Contains n.stacked x → contains n.marks x.0 ≡ true
-  kept_stacked x h =
-      ⊎_elim (λ old. p.keeps x (t.stacked x old)) (λ (new : S x × (contains n.marks x.0 ≡ true)). new.1)
+  stacked_after : (x : Addr) → Contains n.stacked x → contains n.marks x.0 ≡ true
+  stacked_after x h =
+      ⊎_elim (λ old. p.keeps x (stacked x old)) (λ (new : S x × (contains n.marks x.0 ≡ true)). new.1)
       (p.stacks x h)
 
-  -- what was scanned stays so, and what is new is stacked
-  kept_scanned : (x : Addr) → contains n.marks x.0 ≡ true → Contains n.stacked x
+  scanned_after : (x : Addr) → contains n.marks x.0 ≡ true → Contains n.stacked x
       ⊎ ((y : Addr) → IsField (objects_of n.basis) x y → promoted_in n y ≡ true)
-  kept_scanned x h =
+  scanned_after x h =
       ⊎_elim
       (λ old. ⊎_elim (λ on. inl (p.stays x on))
-      (λ (done : (y : Addr) → IsField (objects_of m.basis) x y → promoted_in m y ≡ true).
-      inr (λ y f. stays_promoted S m n p y (done y (subst (λ (b : Basis). IsField (objects_of b) x y) p.basis f))))
-      (t.scanned x old))
+      (λ (done : (y : Addr) → IsField (objects_of m.basis) x y → promoted_in n y ≡ true).
+      inr (λ y f. done y (subst (λ (b : Basis). IsField (objects_of b) x y) p.basis f)))
+      (scanned_before x old))
       (λ (new : S x × (Contains n.stacked x × (is_older m.basis x ≡ false))). inl new.1.0) (p.only x h)
 
   pub traced_on : IsTraced n
-  traced_on = record { fields = kept_fields; marked = kept_marked; stacked = kept_stacked; scanned = kept_scanned }
+  traced_on = record {
+    fields = subst (λ (b : Basis). HasClosedFields (objects_of b)) (sym p.basis) fields;
+    marked = marked_after;
+    stacked = stacked_after;
+    scanned = scanned_after;
+  }
 
--- a push of an object keeps what is true between calls
+-- what the fields of an object name is promoted afterwards, or the object is stacked
+still : (S : Addr → Type 0) (m n : MarksOf) → Pushes S m n → (x : Addr) → Contains m.stacked x
+    ⊎ ((y : Addr) → IsField (objects_of m.basis) x y → promoted_in m y ≡ true)
+    → Contains m.stacked x ⊎ ((y : Addr) → IsField (objects_of m.basis) x y → promoted_in n y ≡ true)
+still S m n p x (inl on) = inl on
+still S m n p x (inr done) = inr (λ y f. stays_promoted S m n p y (done y f))
+
 pub push_traced : (m : MarksOf) (a : Addr) → IsTraced m → is_object (objects_of m.basis) a ≡ true
     → IsTraced (pushed m a)
 push_traced m a t object =
-    traced_on (λ x. x ≡ a) m (pushed m a) (pushes_one (λ x. x ≡ a) m a refl object) t
-    (λ x e. ap (is_object (objects_of m.basis)) e ∙ object)
+    let p : Pushes (λ x. x ≡ a) m (pushed m a) = pushes_one (λ x. x ≡ a) m a refl object in
+    traced_on (λ x. x ≡ a) m (pushed m a) p (λ x e. ap (is_object (objects_of m.basis)) e ∙ object) t.fields
+    t.marked t.stacked (λ x h. still (λ z. z ≡ a) m (pushed m a) p x (t.scanned x h))
 
 -- ---- a drain
+
+-- an arrow of a collection: a field of a condemned object
+abbrev Arrow : MarksOf → Addr → Addr → Type 0
+Arrow m = IsYoungField (objects_of m.basis) m.basis.condemned
+
+-- arrows lead to x from what is stacked
+abbrev IsLed : MarksOf → Addr → Type 0
+IsLed m x = (r : Addr) × (Contains m.stacked r × Leads (Arrow m) r x)
 
 -- how far a drain has come from m
 pub record IsDraining (m n : MarksOf) : Type 0 where
@@ -109,9 +127,9 @@ pub record IsDraining (m n : MarksOf) : Type 0 where
   pub traced : IsTraced n
   pub keeps : (x : Addr) → promoted_in m x ≡ true → promoted_in n x ≡ true
   pub only : (x : Addr) → promoted_in n x ≡ true → (promoted_in m x ≡ true)
-      ⊎ ((r : Addr) × (Contains m.stacked r × Leads (IsYoungField (objects_of m.basis) m.basis.condemned) r x))
+      ⊎ IsLed m x
   pub led : (x : Addr) → Contains n.stacked x
-      → (r : Addr) × (Contains m.stacked r × Leads (IsYoungField (objects_of m.basis) m.basis.condemned) r x)
+      → IsLed m x
 
 pub draining_start : (m : MarksOf) → IsTraced m → IsDraining m m
 draining_start m t = record {
@@ -152,47 +170,28 @@ module _ (m n : MarksOf) (d : IsDraining m n) (x : Addr) (rest : List Addr) (top
 
   -- what the object names is led to
   named : (y : Addr) → IsField (objects_of n.basis) x y
-      → (r : Addr) × (Contains m.stacked r × Leads (IsYoungField (objects_of m.basis) m.basis.condemned) r y)
+      → IsLed m y
   named y f =
       let (r, chain) = d.led x on_top in
-      let arrow : IsYoungField (objects_of m.basis) m.basis.condemned x y =
+      let arrow : Arrow m x y =
       subst (λ (b : Basis). IsYoungField (objects_of b) b.condemned x y) d.basis
       (record { condemned = d.traced.marked x x_marked; field = f }) in
       (r, (chain.0, Leads.more chain.1 arrow))
 
-  after_marked : (z : Addr) → contains after.marks z.0 ≡ true
-      → IsCondemned (objects_of after.basis) after.basis.condemned z
-  after_marked z h =
-      subst (λ (b : Basis). IsCondemned (objects_of b) b.condemned z) (sym scan.0.basis)
-      (⊎_elim (λ old. d.traced.marked z old)
-      (λ (new : Start z × (Contains after.stacked z × (is_older n.basis z ≡ false))).
-      record { object = d.traced.fields x z new.0; young = is_young n.basis z new.1.1 }) (scan.0.only z h))
-
-  after_stacked : (z : Addr) → Contains after.stacked z → contains after.marks z.0 ≡ true
-  after_stacked z h =
-      ⊎_elim (λ old. scan.0.keeps z (d.traced.stacked z (below z old)))
-      (λ (new : Start z × (contains after.marks z.0 ≡ true)). new.1) (scan.0.stacks z h)
-
-  field_before : (z y : Addr) → IsField (objects_of after.basis) z y → IsField (objects_of n.basis) z y
-  field_before z y f = subst (λ (b : Basis). IsField (objects_of b) z y) scan.0.basis f
-
-  after_scanned : (z : Addr) → contains after.marks z.0 ≡ true → Contains after.stacked z
-      ⊎ ((y : Addr) → IsField (objects_of after.basis) z y → promoted_in after y ≡ true)
-  after_scanned z h =
-      ⊎_elim
-      (λ old. ⊎_elim
-      (λ on. ⊎_elim
-      (λ (e : x ≡ z). inr (λ y f. scan.1 y (subst (λ w. IsField (objects_of n.basis) w y) (sym e) (field_before z y f))))
-      (λ later. inl (scan.0.stays z later))
-      (member_cases x rest z (subst (λ (xs : List Addr). Contains xs z) top on)))
-      (λ (done : (y : Addr) → IsField (objects_of n.basis) z y → promoted_in n y ≡ true).
-      inr (λ y f. stays_promoted Start popped after scan.0 y (done y (field_before z y f))))
-      (d.traced.scanned z old))
-      (λ (new : Start z × (Contains after.stacked z × (is_older n.basis z ≡ false))). inl new.1.0)
-      (scan.0.only z h)
+  -- it was scanned now
+  scanned_now : (z : Addr) → contains n.marks z.0 ≡ true → Contains rest z
+      ⊎ ((y : Addr) → IsField (objects_of n.basis) z y → promoted_in after y ≡ true)
+  scanned_now z h = by (d.traced.scanned z h)
+    where
+      by : Contains n.stacked z ⊎ ((y : Addr) → IsField (objects_of n.basis) z y → promoted_in n y ≡ true)
+          → Contains rest z ⊎ ((y : Addr) → IsField (objects_of n.basis) z y → promoted_in after y ≡ true)
+      by (inl on) =
+          ⊎_elim (λ (e : x ≡ z). inr (λ y f. scan.1 y (subst (λ w. IsField (objects_of n.basis) w y) (sym e) f)))
+          (λ later. inl later) (member_cases x rest z (subst (λ (xs : List Addr). Contains xs z) top on))
+      by (inr done) = inr (λ y f. stays_promoted Start popped after scan.0 y (done y f))
 
   after_only : (z : Addr) → promoted_in after z ≡ true → (promoted_in m z ≡ true)
-      ⊎ ((r : Addr) × (Contains m.stacked r × Leads (IsYoungField (objects_of m.basis) m.basis.condemned) r z))
+      ⊎ IsLed m z
   after_only z h =
       ⊎_elim
       (λ older. d.only z (left_or _ _ (ap (λ (b : Basis). is_older b z) (sym scan.0.basis) ∙ older)))
@@ -204,12 +203,8 @@ module _ (m n : MarksOf) (d : IsDraining m n) (x : Addr) (rest : List Addr) (top
   draining_on = record {
     basis = scan.0.basis ∙ d.basis;
     pins = scan.0.pins ∙ d.pins;
-    traced = record {
-      fields = subst (λ (b : Basis). HasClosedFields (objects_of b)) (sym scan.0.basis) d.traced.fields;
-      marked = after_marked;
-      stacked = after_stacked;
-      scanned = after_scanned;
-    };
+    traced = traced_on Start popped after scan.0 (d.traced.fields x) d.traced.fields d.traced.marked
+        (λ z h. d.traced.stacked z (below z h)) scanned_now;
     keeps = λ z h. stays_promoted Start popped after scan.0 z (d.keeps z h);
     only = after_only;
     led = λ z h. ⊎_elim (λ old. d.led z (below z old))
@@ -241,7 +236,7 @@ settled_empty m t empty = record {
   };
 }
 
-pub drained : (m n : MarksOf) → IsTraced m → IsDraining m n → Grows (IsYoungField (objects_of m.basis) m.basis.condemned)
+pub drained : (m n : MarksOf) → IsTraced m → IsDraining m n → Grows (Arrow m)
     (λ x. Contains m.stacked x) (promoted_in m) (promoted_in n)
 drained m n start d = record {
   keeps = d.keeps;
@@ -306,14 +301,14 @@ pin_gains m a =
 pub promote_grows : (m k : MarksOf) (a : Addr) → IsSettledMarks m
     → Grows (IsYoungField (objects_of (pushed m a).basis) (pushed m a).basis.condemned)
     (λ x. Contains (pushed m a).stacked x) (promoted_in (pushed m a)) (promoted_in k)
-    → Grows (IsYoungField (objects_of m.basis) m.basis.condemned) (λ x. x ≡ a) (promoted_in m) (promoted_in k)
+    → Grows (Arrow m) (λ x. x ≡ a) (promoted_in m) (promoted_in k)
 promote_grows m k a s = push_cases Follows m a old new
   where
     Follows : MarksOf → Type 0
     Follows n =
         Grows (IsYoungField (objects_of n.basis) n.basis.condemned) (λ x. Contains n.stacked x) (promoted_in n)
         (promoted_in k)
-        → Grows (IsYoungField (objects_of m.basis) m.basis.condemned) (λ x. x ≡ a) (promoted_in m)
+        → Grows (Arrow m) (λ x. x ≡ a) (promoted_in m)
         (promoted_in k)
 
     none : (r : Addr) → Contains m.stacked r → ⊥
@@ -324,7 +319,7 @@ promote_grows m k a s = push_cases Follows m a old new
       keeps = g.keeps;
       joins = λ x same. g.keeps x (ap (promoted_in m) same ∙ e);
       only = λ x h. ⊎_elim (λ before. inl before)
-          (λ (w : (r : Addr) × (Contains m.stacked r × Leads (IsYoungField (objects_of m.basis) m.basis.condemned) r x)).
+          (λ (w : IsLed m x).
           absurd (none w.0 w.1.0)) (g.only x h);
     }
 
@@ -336,7 +331,7 @@ promote_grows m k a s = push_cases Follows m a old new
       only = λ x h. ⊎_elim
           (λ before. ⊎_elim (λ was. inl was) (λ (same : x ≡ a). inr (x, (same, Leads.here)))
           (joined_only (is_older m.basis x) m.marks a x before))
-          (λ (w : (r : Addr) × (Contains (a ∷ m.stacked) r × Leads (IsYoungField (objects_of m.basis) m.basis.condemned) r x)).
+          (λ (w : (r : Addr) × (Contains (a ∷ m.stacked) r × Leads (Arrow m) r x)).
           ⊎_elim (λ (same : a ≡ w.0). inr (w.0, (sym same, w.1.1))) (λ later. absurd (none w.0 later))
           (member_cases a m.stacked w.0 w.1.0)) (g.only x h);
     }
