@@ -7,7 +7,7 @@ use Rattle.hd_model.specs.declared.data.Id.{Id}
 use Rattle.hd_model.specs.declared.data.Slot.{Slot}
 use Rattle.hd_model.specs.declared.limits.TheConstants.{REGISTERS, FIELDS, OLDEST, ROWS}
 use Rattle.hd_model.specs.State.{Numbers, Object, Handle, BlockUse, handles_of, secondary_of, State, last_serial, field_of, use_of, with_register, with_handle_register, with_static, with_board, with_object, with_handle, without_handle, with_use, without_use, with_queue, with_place, with_serial}
-use Rattle.hd_model.specs.WellFormed.{Names, HasShape, NamesObjects, HasObjects, HasSerials, FitsKind, HasHandles, IsWellFormed}
+use Rattle.hd_model.specs.WellFormed.{Names, HasShape, NamesStand, HasObjects, HasSerials, FitsKind, HasHandles, IsWellFormed}
 use Rattle.hd_model.proofs.Members.{later_in}
 use Rattle.hd_model.proofs.Written.{set_cases, cell_cases, rows_keep, insert_all, remove_all, still_some, some_cases, insert_cases, remove_cases}
 
@@ -35,8 +35,8 @@ shape_again n s t r h k b c w = record {
 }
 
 names_again : (s : State) (handle_registers : List (List (Option Slot))) (board : List (Option Slot))
-    (blocks : FinMap nat_cmp BlockUse) (serials : List ℕ) → NamesObjects s
-    → NamesObjects (record s {
+    (blocks : FinMap nat_cmp BlockUse) (serials : List ℕ) → NamesStand s
+    → NamesStand (record s {
       handle_registers = handle_registers;
       board = board;
       blocks = blocks;

@@ -1,5 +1,5 @@
 -- What a command does depends on no place, but for `addr` and `collect`.
-use Rattle.std.proofs.Common.{◌≡◌, ℕ, ◌⊎◌, inl, inr, ⊎_elim, Bool, true, false, true≢false, if◌then◌else◌, nat_lt, length, is_some, ◌+◌, ◌&&◌, List, [], ◌∷◌, Option, Some, None, refl, sym, ap, ◌∙◌, subst}
+use Rattle.std.proofs.Common.{◌≡◌, ℕ, inl, inr, ⊎_elim, Bool, true, false, true≢false, if◌then◌else◌, nat_lt, length, is_some, ◌+◌, ◌&&◌, List, [], ◌∷◌, Option, Some, None, refl, sym, ap, ◌∙◌}
 use Rattle.std.specs.Option.{option_map_or}
 use Rattle.std.specs.Prelude.{◌==◌}
 use Rattle.std.specs.FinMap.{FinMap, get}
@@ -21,7 +21,7 @@ use Rattle.hd_model.specs.Touched.{touched_by}
 use Rattle.hd_model.specs.Kinds.{kind_of, is_kind}
 use Rattle.hd_model.specs.declared.data.Refusal.TheVariants as refusal
 use Rattle.hd_model.specs.declared.data.Kind.TheVariants as kind
-use Rattle.hd_model.specs.Command.{Outcome, refuses, on_object, on_field, on_handle, on_handle_of, new_object, set_field, get_field, set_value, read_value, read_generation, set_registered, take_first, take_queued, get_target, set_target, set_secondary, get_secondary, set_strength, raise_count, lower_count, free_handle, extra_of}
+use Rattle.hd_model.specs.Command.{Outcome, refuses, on_object, on_field, on_handle, on_handle_of, new_object, set_field, get_field, set_value, read_value, read_generation, set_registered, take_first, get_target, set_target, set_secondary, get_secondary, set_strength, raise_count, lower_count, free_handle, extra_of}
 use Rattle.hd_model.specs.Step.{with_growth, IsLeastUnused, IsOutcome, MayGive, MakesHandle, FindsTableFull, GivesBack, with_made, StepOf, Step}
 
 module _ (p : FinMap nat_cmp ℕ) where

@@ -9,7 +9,7 @@ use Rattle.std.proofs.lemmas.Option.{none-some}
 use Rattle.hd_model.specs.declared.data.Id.{Id}
 use Rattle.hd_model.specs.State.{Numbers, Object, State, secondary_of, register_of, static_of, field_of}
 use Rattle.hd_model.specs.Scene.{scene_of, joined, fields_in, IsField, IsWhole}
-use Rattle.hd_model.specs.WellFormed.{NamesObjects, IsWellFormed}
+use Rattle.hd_model.specs.WellFormed.{NamesStand, IsWellFormed}
 use Rattle.hd_model.proofs.Members.{not_in_none, member_at, joined_in, joined_from}
 use Rattle.hd_model.proofs.Fitting.{fits_secondary}
 
@@ -57,7 +57,7 @@ module _ (s : State) where
       subst (λ (o : Option (Object Id)). Contains (fields_in o) (Some y)) (sym stands)
       (named_at object.fields i y e)
 
-module _ (s : State) (w : NamesObjects s) where
+module _ (s : State) (w : NamesStand s) where
   field_object : (x y : Id) (o : Option (Object Id)) → get s.objects x.0 ≡ o → Contains (fields_in o) (Some y)
       → IsSome (get s.objects y.0)
   field_object x y None e h = absurd (not_in_none (Some y) h)
@@ -96,7 +96,7 @@ whole_scene n s w = record {
 
 -- a state with a whole scene, whose places are those of objects, names objects
 pub names_of_whole : (s : State) → IsWhole (scene_of s)
-    → ((id : ℕ) → IsSome (get s.places id) → IsSome (get s.objects id)) → NamesObjects s
+    → ((id : ℕ) → IsSome (get s.places id) → IsSome (get s.objects id)) → NamesStand s
 names_of_whole s w places = record {
   fields = λ id object stands i.
       if_some_from (λ (x : Id). IsSome (get s.objects x.0)) (field_of object i)

@@ -28,14 +28,14 @@ strength_word strength.Strong = codes "strong"
 strength_word strength.Pinned = codes "pinned"
 
 -- a kind of handle
-abbrev pub kind_word : Kind → List ℕ
-kind_word kind.Short = codes "short"
-kind_word kind.Long = codes "long"
-kind_word kind.Strong = codes "strong"
-kind_word kind.Pinned = codes "pinned"
-kind_word kind.Variable = codes "var"
-kind_word kind.Counted = codes "ref"
-kind_word kind.Dependent = codes "dep"
+abbrev pub kind_name : Kind → List ℕ
+kind_name kind.Short = codes "short"
+kind_name kind.Long = codes "long"
+kind_name kind.Strong = codes "strong"
+kind_name kind.Pinned = codes "pinned"
+kind_name kind.Variable = codes "var"
+kind_name kind.Counted = codes "ref"
+kind_name kind.Dependent = codes "dep"
 
 -- what a kind needs beside the target: a variable handle its strength, a dependent one the register of its
 -- secondary
@@ -70,7 +70,7 @@ command_words (cmd.Reregister s) = codes "reregister" ∷ object_word s ∷ []
 command_words (cmd.Final d) = codes "final" ∷ object_word d ∷ []
 command_words (cmd.Collect n) = codes "collect" ∷ decimal n ∷ []
 command_words (cmd.HNew d make t) =
-    codes "hnew" ∷ handle_word d ∷ kind_word (kind_of make) ∷ object_word t ∷ extra_words make
+    codes "hnew" ∷ handle_word d ∷ kind_name (kind_of make) ∷ object_word t ∷ extra_words make
 command_words (cmd.HGet d s) = codes "hget" ∷ object_word d ∷ handle_word s ∷ []
 command_words (cmd.HSet s t) = codes "hset" ∷ handle_word s ∷ object_word t ∷ []
 command_words (cmd.HSec h s) = codes "hsec" ∷ handle_word h ∷ object_word s ∷ []
@@ -82,7 +82,7 @@ command_words (cmd.HPick d k) = codes "hpick" ∷ handle_word d ∷ decimal k �
 command_words (cmd.AddrOf s) = codes "addr" ∷ handle_word s ∷ []
 command_words (cmd.HUp s) = codes "hup" ∷ handle_word s ∷ []
 command_words (cmd.HDown s) = codes "hdown" ∷ handle_word s ∷ []
-command_words (cmd.Trim kind) = codes "trim" ∷ kind_word kind ∷ []
+command_words (cmd.Trim kind) = codes "trim" ∷ kind_name kind ∷ []
 
 -- the text of a command: its words with one blank, byte 32, between each two
 abbrev pub command_text : Cmd → List ℕ

@@ -1,6 +1,6 @@
 -- The script of a load, which is made and not read: four callers that each make, use and free a handle a
 -- round, with a collection every 16 rounds. It is this project's own.
-use Rattle.std.specs.Prelude.{ℕ, ◌+◌, ◌%◌, ◌==◌, false, if◌then◌else◌, List, [], ◌∷◌, ◌++◌, map, length, sum_by, count_by, flat_map, slice_index_or, codes, decimal, Bool, true}
+use Rattle.std.specs.Prelude.{ℕ, ◌+◌, ◌%◌, ◌==◌, false, if◌then◌else◌, List, [], ◌∷◌, ◌++◌, map, length, sum_by, flat_map, slice_index_or, codes, decimal}
 use Rattle.std.specs.List.{range_with_len}
 use Rattle.std.specs.FinMap.{len}
 use Rattle.hd_model.specs.declared.data.Entry.{Entry}

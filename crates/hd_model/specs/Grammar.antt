@@ -214,12 +214,16 @@ readings_of bytes = map (λ line. reading_of (words_of line)) (lines_in bytes)
 -- whose commands follow a line: those of the caller that it names, else of the one that was
 abbrev pub caller_after : ℕ → Option Reading → ℕ
 caller_after now (Some (caller n)) = n
-caller_after now _ = now
+caller_after now (Some blank) = now
+caller_after now (Some (command c)) = now
+caller_after now None = now
 
 -- the command of a line that is one
 abbrev pub command_in : Option Reading → Option Cmd
 command_in (Some (command c)) = Some c
-command_in _ = None
+command_in (Some blank) = None
+command_in (Some (caller n)) = None
+command_in None = None
 
 -- the commands of one caller, in the order of their lines, where the first line is one of caller `now`
 abbrev pub commands_for : ℕ → ℕ → List (Option Reading) → List Cmd
@@ -238,14 +242,14 @@ unfoldable pub lists_of : List (Option Reading) → List (List Cmd)
 lists_of readings = map (λ wanted. commands_for wanted 0 readings) (range_with_len 0 (callers_of readings))
 
 -- the first line that has no reading or holds a command too many, where the lines are numbered from `line`
--- and
--- `before` commands stand before them
+-- and `before` commands stand before them
 abbrev pub first_fault : ℕ → ℕ → List (Option Reading) → Option ℕ
 first_fault line before [] = None
 first_fault line before (None ∷ rest) = Some line
 first_fault line before (Some (command c) ∷ rest) =
     if nat_lt before MOST_COMMANDS then first_fault (line + 1) (before + 1) rest else Some line
-first_fault line before (Some _ ∷ rest) = first_fault (line + 1) before rest
+first_fault line before (Some blank ∷ rest) = first_fault (line + 1) before rest
+first_fault line before (Some (caller n) ∷ rest) = first_fault (line + 1) before rest
 
 -- the lists, unless a line is at fault
 abbrev pub unless_fault : Option ℕ → List (List Cmd) → Result (List (List Cmd)) ℕ

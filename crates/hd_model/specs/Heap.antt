@@ -1,5 +1,5 @@
 -- A heap as its users see it: objects by address, in regions that have generations. Regions and cards are this project's own.
-use Rattle.std.specs.Prelude.{◌≡◌, ℕ, ◌+◌, ◌/◌, ◌<◌, Bool, true, false, List, [], length, sum_by, Option, Some, None, unwrap_or, option_map}
+use Rattle.std.specs.Prelude.{◌≡◌, ℕ, ◌+◌, ◌/◌, Bool, false, List, [], length, sum_by, Option, Some, None, unwrap_or, option_map}
 use Rattle.std.specs.FinMap.{FinMap, get, values, contains_key}
 use Rattle.std.specs.FinSet as set
 use Rattle.std.specs.Ordering.{nat_cmp}

@@ -1,7 +1,7 @@
 -- The table of handles as its users see it: rows by slot, blocks, and chains of blocks by kind; and the
 -- finalisation queue. Blocks of 64,
 -- their chains and their numbers are this project's own, after CoreCLR's segments in outline.
-use Rattle.std.specs.Prelude.{◌≡◌, ◌≢◌, ◌↔◌, ℕ, ◌+◌, ◌*◌, ◌/◌, ◌^◌, ◌<◌, ◌≤◌, ◌==◌, not, Bool, true, false, List, [], ◌∷◌, ◌++◌, length, replicate, filter, slice_index_or, slice_set, Option, Some, None, IsSome, unwrap_or, Contains, AllPairs}
+use Rattle.std.specs.Prelude.{◌≡◌, ◌≢◌, ◌↔◌, ℕ, ◌+◌, ◌*◌, ◌/◌, ◌<◌, ◌≤◌, ◌==◌, not, Bool, true, false, List, [], ◌∷◌, ◌++◌, length, replicate, filter, slice_index_or, slice_set, Option, Some, None, IsSome, unwrap_or, Contains, AllPairs}
 use Rattle.std.specs.FinMap.{FinMap, get, insert, remove, empty, len}
 use Rattle.std.specs.Ordering.{nat_cmp}
 use Rattle.hd_model.specs.declared.data.Addr.{Addr}

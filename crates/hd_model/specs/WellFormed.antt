@@ -26,7 +26,7 @@ pub record HasShape (n : Numbers) (s : State) : Type 0 where
 
 -- all that has an identity names an object: fields, registers, statics, the targets and secondaries of
 -- handles, the queue and the places
-pub record NamesObjects (s : State) : Type 0 where
+pub record NamesStand (s : State) : Type 0 where
   pub fields :
       (id : ℕ) (object : Object Id) → get s.objects id ≡ Some object → (i : ℕ) → Names s (field_of object i)
   pub registers : (c d : ℕ) → Names s (register_of s c d)
@@ -74,7 +74,7 @@ pub record HasHandles (n : Numbers) (s : State) : Type 0 where
 -- a state that a run may reach
 pub record IsWellFormed (n : Numbers) (s : State) : Type 0 where
   pub shape : HasShape n s
-  pub names : NamesObjects s
+  pub names : NamesStand s
   pub objects : HasObjects s
   pub serials : HasSerials s
   pub handles : HasHandles n s

@@ -1,7 +1,7 @@
 ghost use Rattle.std.specs.Prelude.{◌≡◌, ◌↔◌, IsTrue};
 ghost use Rattle.hd_model.specs.Valid.{takes_memory, is_built};
 
-use super::{Kind, Make, Strength};
+use crate::data::{Kind, Make, Strength};
 
 /// A command of a script. The registers and places of a valid one are below 16, its number of
 /// fields is at most 61, and its generation at most 2.

@@ -1,6 +1,8 @@
 ghost use Rattle.std.specs.Prelude.{◌≡◌, ◌<◌};
 ghost use Rattle.hd_model.specs.Kinds.{kind_of, kind_number, is_paired};
 
+use crate::command::Cmd;
+
 /// The identity of an object: its caller's number times 2^32, plus a serial of that caller, from 1.
 /// It is never 0, and no object gets one that another had.
 #[derive(Clone, Copy, Debug, PartialEq, Eq)]
@@ -178,7 +180,7 @@ pub enum Reply {
 #[derive(Clone, Copy, Debug, PartialEq, Eq)]
 pub struct Entry {
     pub caller: u32,
-    pub cmd: super::Cmd,
+    pub cmd: Cmd,
     pub slot: Option<Slot>,
     pub grown: Grown,
     pub reply: Reply,

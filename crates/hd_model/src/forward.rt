@@ -2,7 +2,7 @@ ghost use Rattle.std.specs.Prelude.{◌≡◌, Bool, true};
 ghost use Rattle.hd_model.specs.Heap.{Basis, objects_of};
 ghost use Rattle.hd_model.specs.Marking.{IsKeeping};
 
-use super::Addr;
+use crate::data::Addr;
 
 /// The new places of the objects that a collection keeps.
 pub trait Forward {

@@ -1,6 +1,6 @@
 ghost use Rattle.std.specs.Prelude.{◌≡◌, ◌==◌, ◌+◌, ◌^◌, ◌<◌, ◌≤◌, [], ◌∷◌, ◌++◌, length, slice_get, Some, IfOk};
 
-use super::{Entry, Memory};
+use crate::data::{Entry, Memory};
 use std::alloc::Global;
 use std::marker::Model;
 

@@ -4,7 +4,7 @@ ghost use Rattle.hd_model.specs.Scene.{is_object, IsYoungField};
 ghost use Rattle.hd_model.specs.Leads.{Grows};
 ghost use Rattle.hd_model.specs.Marking.{IsSettled, Gains};
 
-use super::Addr;
+use crate::data::Addr;
 
 /// What a collection keeps of one heap and one condemned generation. What is promoted is kept, and
 /// what is pinned does not move. Nothing is ever taken back.

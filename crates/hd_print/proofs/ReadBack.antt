@@ -15,7 +15,7 @@ use Rattle.hd_model.specs.declared.command.Cmd.{Cmd}
 use Rattle.hd_model.specs.declared.command.Cmd.TheVariants as cmd
 use Rattle.hd_model.specs.Kinds.{kind_of, is_paired}
 use Rattle.hd_model.specs.Valid.{IsValid, IsValidMake}
-use Rattle.hd_model.specs.CommandText.{object_word, handle_word, strength_word, kind_word, extra_words, command_words, command_text}
+use Rattle.hd_model.specs.CommandText.{object_word, handle_word, strength_word, kind_name, extra_words, command_words, command_text}
 use Rattle.hd_model.specs.Grammar.{Reading, command, words_of, reading_of, readings_of, lists_of, first_fault, unless_fault, script_of, register_in, object_register_in, handle_register_in, strength_of, make_of, trimmed_kind_of, fin_of}
 use Rattle.hd_model.specs.Grammar.{one, two, three, two_words, three_words, three_on_objects, three_on_handles, four_words, five_words, hnew_of}
 use Rattle.hd_print.proofs.Numerals.{number_again, digit_bytes}
@@ -38,7 +38,7 @@ strength_again strength.Long = refl
 strength_again strength.Strong = refl
 strength_again strength.Pinned = refl
 
-trimmed_again : (k : Kind) → is_paired k ≡ false → trimmed_kind_of (kind_word k) ≡ Some k
+trimmed_again : (k : Kind) → is_paired k ≡ false → trimmed_kind_of (kind_name k) ≡ Some k
 unfolding trimmed_kind_of
 trimmed_again kind.Short h = refl
 trimmed_again kind.Long h = refl
@@ -177,7 +177,7 @@ strength_is strength.Long = literal (codes "long") refl refl
 strength_is strength.Strong = literal (codes "strong") refl refl
 strength_is strength.Pinned = literal (codes "pinned") refl refl
 
-kind_is : (k : Kind) → IsWord (kind_word k)
+kind_is : (k : Kind) → IsWord (kind_name k)
 kind_is kind.Short = literal (codes "short") refl refl
 kind_is kind.Long = literal (codes "long") refl refl
 kind_is kind.Strong = literal (codes "strong") refl refl

@@ -1,7 +1,7 @@
 // The lines of commands, as a script has them.
 ghost use Rattle.std.specs.Prelude.{◌≡◌, ◌+◌, ◌*◌, ◌≤◌, ◌∷◌, [], ◌++◌, length, map, codes, Ok};
 ghost use Rattle.std.specs.List.{join_with_byte};
-ghost use Rattle.hd_model.specs.CommandText.{command_text, kind_word, strength_word};
+ghost use Rattle.hd_model.specs.CommandText.{command_text, kind_name, strength_word};
 ghost use Rattle.hd_model.specs.Grammar.{script_of};
 ghost use Rattle.hd_model.specs.Text.{newline};
 ghost use Rattle.hd_model.specs.Valid.{IsValid};
@@ -170,7 +170,7 @@ fn strength_name(strength: Strength) -> &'static str
 
 // The word for a kind of handle.
 fn kind_name(kind: Kind) -> &'static str
-    ensures word { result.now ≡ kind_word kind }
+    ensures word { result.now ≡ kind_name kind }
     ensures short { length result.now ≤ 6 }
 {
     match kind {
