@@ -1,0 +1,12 @@
+use Rattle.std.proofs.Common.{◌≡◌, vec_capacity}
+use Rattle.std.specs.VecDeque.{deque_capacity}
+use Rattle.hd_final.proofs.Relocating.{IsPartMoved}
+use Rattle.hd_final.proofs.queue.Final.relocate.Given as goal
+
+abbrev pub invariant-loop-i : goal.invariant-loop-i
+invariant-loop-i g l =
+    (IsPartMoved (g.F.Forward.place l.forward) l.initial.self-inside.waiting.items l.i
+    l.self-inside.waiting.items)
+    × (deque_capacity l.self-inside.waiting ≡ deque_capacity l.initial.self-inside.waiting)
+    × (l.self-inside.room ≡ l.initial.self-inside.room)
+    × (vec_capacity l.self-inside.joiners ≡ vec_capacity l.initial.self-inside.joiners)

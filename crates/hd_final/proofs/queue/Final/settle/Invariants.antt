@@ -1,0 +1,6 @@
+use Rattle.std.proofs.Common.{◌-◌, take, drop}
+use Rattle.hd_final.specs.Settling.{Unregisters}
+use Rattle.hd_final.proofs.queue.Final.settle.Given as goal
+
+abbrev pub invariant-loop-i : goal.invariant-loop-i
+invariant-loop-i l = Unregisters (take (l.i - l.from) (drop l.from l.self.waiting)) l.initial.heap l.heap

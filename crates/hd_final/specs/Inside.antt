@@ -1,0 +1,11 @@
+-- What is always true of the fields of a finalisation queue.
+use Rattle.std.specs.Prelude.{◌≢◌, ℕ, ◌^◌, ◌<◌, ◌≤◌, List, length, AllPairs}
+use Rattle.hd_model.specs.declared.data.Addr.{Addr}
+
+-- nothing waits twice, no more wait than there is room for, and both lists can hold as many without memory
+pub record IsKept (waiting : List Addr) (room capacity spare : ℕ) : Type 0 where
+  pub once : AllPairs (λ x y. x ≢ y) waiting
+  pub fits : length waiting ≤ room
+  pub low : room < 2 ^ 32
+  pub held : room ≤ capacity
+  pub joiners : room ≤ spare

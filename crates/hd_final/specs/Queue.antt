@@ -1,0 +1,9 @@
+-- What the type of a finalisation queue keeps.
+use Rattle.std.specs.Prelude.{◌≢◌, ◌^◌, ◌<◌, ◌≤◌, length, AllPairs}
+use Rattle.hd_model.specs.Table.{Queue}
+
+-- nothing waits twice, and no more wait than there is room for
+pub record IsQueue (q : Queue) : Type 0 where
+  pub once : AllPairs (λ x y. x ≢ y) q.waiting
+  pub fits : length q.waiting ≤ q.room
+  pub low : q.room < 2 ^ 32

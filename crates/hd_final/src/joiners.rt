@@ -1,0 +1,81 @@
+// Those that join the queue in one collection: all are found before any is promoted, since what one
+// leads to joins too.
+ghost use Rattle.std.specs.Prelude.{◌≡◌, ◌+◌, ◌≤◌, ◌++◌, true, length, Contains, not, ◌&&◌, vec_len, vec_capacity};
+ghost use Rattle.std.specs.FinMap as map;
+ghost use Rattle.std.specs.List.Sorted.{IsPermutation, IsNonDecreasingBy};
+ghost use Rattle.std.specs.VecDeque.{deque_len, deque_capacity};
+ghost use Rattle.hd_model.specs.Heap.{Basis, has_object, objects_of, placed_at};
+ghost use Rattle.hd_model.specs.Leads.{Grows};
+ghost use Rattle.hd_model.specs.Scene.{is_object, IsYoungField};
+ghost use Rattle.hd_final.specs.declared.joiners.Joiner.{Joiner as JoinerValue};
+ghost use Rattle.hd_final.specs.Joiners.{IsFound, places};
+
+use hd_heap::Heap;
+use hd_model::{Addr, Id, Marker};
+use std::collections::VecDeque;
+
+/// An object that is to join, with its identity.
+#[derive(Clone, Copy)]
+pub(crate) struct Joiner {
+    pub(crate) id: Id,
+    pub(crate) at: Addr,
+}
+
+/// Collects the registered condemned objects that are not promoted, in the order of addresses.
+pub(crate) fn find<M: Marker>(joiners: &mut Vec<Joiner>, heap: &Heap, marker: &M, n: u8)
+    requires settled { M.settled marker.now }
+    requires basis { M.basis marker.now ≡ record { heap = heap.now; condemned = n } }
+    requires room { map.len heap.now.objects ≤ vec_capacity joiners.old }
+    ensures found { IsFound heap.now n (M.promoted marker.now) joiners.new.items }
+    ensures capacity { vec_capacity joiners.new ≡ vec_capacity joiners.old }
+{
+    joiners.clear();
+    let mut after = None;
+    while let Some(at) = heap.next_condemned(after, n) {
+        if is_out(heap, marker, at) {
+            let id = heap.id(at);
+            joiners.push_reserved(Joiner { id, at });
+        }
+        after = Some(at);
+    }
+}
+
+/// Whether an object is registered and not promoted.
+fn is_out<M: Marker>(heap: &Heap, marker: &M, at: Addr) -> bool
+    requires settled { M.settled marker.now }
+    requires object { has_object heap.now at ≡ true }
+    requires basis { (M.basis marker.now).heap ≡ heap.now }
+    ensures { result ≡ ((placed_at heap.now at).registered && not (M.promoted marker.now at)) }
+{
+    heap.registered(at) && !marker.promoted(at)
+}
+
+/// Puts them in the order of their identities.
+pub(crate) fn sort(joiners: &mut Vec<Joiner>)
+    ensures permutation { IsPermutation joiners.old.items joiners.new.items }
+    ensures rising { IsNonDecreasingBy (λ (j : JoinerValue). j.id.0) joiners.new.items }
+    ensures capacity { vec_capacity joiners.new ≡ vec_capacity joiners.old }
+{
+    joiners.sort_unstable_by_key(|joiner| joiner.id.0);
+}
+
+/// Promotes them, and puts them behind those that wait.
+pub(crate) fn join<M: Marker>(joiners: &[Joiner], waiting: &mut VecDeque<Addr>, marker: &mut M)
+    requires settled { M.settled marker.old }
+    requires objects { (a : _) → Contains (places joiners.now) a →
+        is_object (objects_of (M.basis marker.old)) a ≡ true }
+    requires room { deque_len waiting.old + length joiners.now ≤ deque_capacity waiting.old }
+    ensures settled { M.settled marker.new }
+    ensures basis { M.basis marker.new ≡ M.basis marker.old }
+    ensures pinned { M.pinned marker.new ≡ M.pinned marker.old }
+    ensures grows { let b = M.basis marker.old in
+        Grows (IsYoungField (objects_of b) b.condemned) (λ a. Contains (places joiners.now) a)
+        (M.promoted marker.old) (M.promoted marker.new) }
+    ensures waiting { waiting.new.items ≡ waiting.old.items ++ places joiners.now }
+    ensures capacity { deque_capacity waiting.new ≡ deque_capacity waiting.old }
+{
+    for joiner in joiners {
+        waiting.push_back_reserved(joiner.at);
+        marker.promote(joiner.at);
+    }
+}

@@ -1,0 +1,153 @@
+// The queue, seen by its callers as the list of the addresses that wait and its room.
+ghost use Rattle.std.specs.Prelude.{◌≡◌, ℕ, ◌<◌, ◌≤◌, true, [], ◌∷◌, length, drop, map, max, slice_index_or, Contains};
+ghost use Rattle.std.specs.Prelude.{IfOk, MatchOption, MatchResult};
+ghost use Rattle.std.specs.FinMap as map;
+ghost use Rattle.hd_model.specs.Counting.{Counts};
+ghost use Rattle.hd_model.specs.Heap.{HasIdentities, has_object, id_at, object_at};
+ghost use Rattle.hd_model.specs.declared.data.Addr.{Addr};
+ghost use Rattle.hd_final.specs.Queue.{IsQueue};
+ghost use Rattle.hd_final.specs.Revival.{IsOut, Revives};
+ghost use Rattle.hd_final.specs.Settling.{Unregisters};
+
+use crate::joiners;
+use crate::joiners::Joiner;
+use hd_heap::Heap;
+use hd_model::{Addr, Forward, Marker, Memory};
+use std::alloc::Global;
+use std::collections::VecDeque;
+use std::marker::Model;
+
+/// The objects that wait for their finalizers, the first to go first, with room for as many as may
+/// join in a collection. Nothing waits twice.
+#[derive(Drop)]
+pub struct Final {
+    waiting: VecDeque<Addr>,
+    // Those that joined in the last collection.
+    joiners: Vec<Joiner>,
+    room: u32,
+}
+
+impl Model for Final {
+    ghost use Rattle.std.specs.Prelude.{vec_capacity};
+    ghost use Rattle.std.specs.VecDeque.{deque_capacity};
+    ghost use Rattle.hd_model.specs.Table.{Queue};
+    ghost use Rattle.hd_model.specs.Code.{queue_code};
+    ghost use Rattle.hd_final.specs.Inside.{IsKept};
+
+    ghost Value = { Queue };
+
+    ghost coded = { queue_code };
+
+    ghost view = { λ q. record { waiting = q.waiting.items; room = q.room } };
+
+    ghost invariant = { λ q. IsKept q.waiting.items q.room (deque_capacity q.waiting)
+        (vec_capacity q.joiners) };
+}
+
+impl Final {
+    /// An empty queue without room.
+    pub fn open(alloc: Global) -> Result<Final, Memory>
+        ensures { IfOk result (λ q. q ≡ record { waiting = []; room = 0 }) }
+    {
+        Ok(Final {
+            waiting: VecDeque::new(alloc),
+            joiners: Vec::new(alloc),
+            room: 0,
+        })
+    }
+
+    /// Takes memory, so that there is room for at least so many objects. `revive` asks for as much
+    /// room as the heap has objects, and takes none.
+    pub fn reserve(&mut self, objects: u32) -> Result<(), Memory>
+        ensures { MatchResult result
+            (λ _. self.new ≡ record self.old { room = max objects self.old.room })
+            (λ _. (self.new ≡ self.old) × (self.old.room < objects)) }
+    {
+        if objects <= self.room {
+            return Ok(());
+        }
+        let count = objects as usize;
+        if self.waiting.reserve(count - self.waiting.len()).is_err() {
+            return Err(Memory);
+        }
+        self.joiners.clear();
+        if self.joiners.reserve(count).is_err() {
+            return Err(Memory);
+        }
+        self.room = objects;
+        Ok(())
+    }
+
+    /// Promotes the registered condemned objects that are not promoted, and puts them behind those
+    /// that wait, in the order of their identities. Answers how many. No older object is looked at.
+    pub fn revive<M: Marker>(&mut self, heap: &Heap, marker: &mut M, n: u8) -> u32
+        requires settled { M.settled marker.old }
+        requires basis { M.basis marker.old ≡ record { heap = heap.now; condemned = n } }
+        requires room { map.len heap.now.objects ≤ self.old.room }
+        requires objects { (a : Addr) → Contains self.old.waiting a → has_object heap.now a ≡ true }
+        requires promoted { (a : Addr) → Contains self.old.waiting a →
+            M.promoted marker.old a ≡ true }
+        requires identities { HasIdentities heap.now }
+        ensures settled { M.settled marker.new }
+        ensures basis { M.basis marker.new ≡ M.basis marker.old }
+        ensures pinned { M.pinned marker.new ≡ M.pinned marker.old }
+        ensures room { self.new.room ≡ self.old.room }
+        ensures revives { Revives (λ a. (id_at heap.now a).0) (object_at heap.now) n
+            (M.promoted marker.old) (M.promoted marker.new) self.old.waiting self.new.waiting }
+        ensures count { Counts (IsOut (object_at heap.now) n (M.promoted marker.old)) result }
+    {
+        joiners::find(&mut self.joiners, heap, marker, n);
+        joiners::sort(&mut self.joiners);
+        joiners::join(&self.joiners, &mut self.waiting, marker);
+        self.joiners.len() as u32
+    }
+
+    /// Takes the registrations of those away that wait from place `from` on: the ones that joined
+    /// last, since an object that waits may be registered again.
+    pub fn settle(&self, heap: &mut Heap, from: u32)
+        requires { (a : Addr) → Contains self.now.waiting a → has_object heap.old a ≡ true }
+        ensures { Unregisters (drop from self.now.waiting) heap.old heap.new }
+    {
+        for i in from as usize..self.waiting.len() {
+            heap.set_registered(self.waiting[i], false);
+        }
+    }
+
+    /// Each one that waits stands at its new place.
+    pub fn relocate<F: Forward>(&mut self, forward: &F)
+        requires laid { F.laid forward.now }
+        requires kept { (a : Addr) → Contains self.old.waiting a → F.kept forward.now a ≡ true }
+        ensures { self.new ≡ record self.old {
+          waiting = map (F.place forward.now) self.old.waiting;
+        } }
+    {
+        for i in 0..self.waiting.len() {
+            self.waiting[i] = forward.moved(self.waiting[i]);
+        }
+    }
+
+    /// Takes the first one that waits, in constant time.
+    pub fn pop(&mut self) -> Option<Addr>
+        ensures { MatchOption result
+            ((self.old.waiting ≡ []) × (self.new ≡ self.old))
+            (λ at. self.old ≡ record self.new { waiting = at ∷ self.new.waiting }) }
+    {
+        self.waiting.pop_front()
+    }
+
+    /// How many wait.
+    pub fn len(&self) -> u32
+        ensures value { result ≡ length self.now.waiting }
+        ensures queue { IsQueue self.now }
+    {
+        self.waiting.len() as u32
+    }
+
+    /// The one that waits at place `i`, from 0.
+    pub fn at(&self, i: u32) -> Addr
+        requires { i < length self.now.waiting }
+        ensures { (d : Addr) → result ≡ slice_index_or self.now.waiting i d }
+    {
+        self.waiting[i as usize]
+    }
+}

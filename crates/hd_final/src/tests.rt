@@ -1,0 +1,159 @@
+ghost use Rattle.std.specs.Prelude.{◌≡◌, true, [], Contains, IfOk};
+ghost use Rattle.hd_model.specs.declared.data.Addr.{Addr};
+ghost use Rattle.hd_model.specs.Heap.{has_object};
+ghost use Rattle.hd_final.specs.Bare.{IsBare};
+
+use super::*;
+use crate::marks::{Marks, Mirror};
+use hd_heap::Heap;
+use hd_model::{Id, Marker, Memory};
+use std::alloc::Global;
+use std::process::Abort;
+use std::test::Fail;
+
+// An object without fields for each flag, registered or not. Identities fall to 1, so that they
+// stand in another order than addresses.
+fn heap_of(alloc: Global, registered: &[bool]) -> Result<Heap, Memory>
+    ensures { IfOk result (λ h. IsBare h 0) }
+{
+    let mut heap = Heap::open(alloc, 1_000)?;
+    let mut serial = registered.len() as u64;
+    for on in registered {
+        let Ok(_) = heap.new_object(Id(serial), 0, *on) else {
+            return Err(Memory);
+        };
+        serial -= 1;
+    }
+    Ok(heap)
+}
+
+// Revives for an empty queue. The first object of the heap may be promoted before.
+fn revive(
+    alloc: Global,
+    heap: &Heap,
+    queue: &mut Final,
+    n: u8,
+    keeps_first: bool,
+) -> Result<u32, Memory>
+    requires bare { IsBare heap.now 0 }
+    requires empty { queue.old.waiting ≡ [] }
+    ensures objects { IfOk result (λ _. (a : Addr) → Contains queue.new.waiting a →
+        has_object heap.now a ≡ true) }
+{
+    queue.reserve(heap.count())?;
+    let mut marks = Marks::start(alloc, heap, n)?;
+    if keeps_first {
+        promote_first(heap, &mut marks);
+    }
+    Ok(queue.revive(heap, &mut marks, n))
+}
+
+// Promotes the first object of a heap.
+fn promote_first<M: Marker>(heap: &Heap, marker: &mut M)
+    requires settled { M.settled marker.old }
+    requires basis { (M.basis marker.old).heap ≡ heap.now }
+    ensures settled { M.settled marker.new }
+    ensures basis { M.basis marker.new ≡ M.basis marker.old }
+{
+    if let Some(first) = heap.next(None) {
+        marker.promote(first);
+    }
+}
+
+// Gives the first region generation 1.
+fn age(heap: &mut Heap)
+    requires { IsBare heap.old 0 }
+    ensures { IsBare heap.new 0 }
+{
+    if let Some(first) = heap.next(None) {
+        heap.set_generation(first.0 / 256, 1);
+    }
+}
+
+// Takes the registrations away of those that wait from a place on.
+fn settle(heap: &mut Heap, queue: &Final, from: u32)
+    requires { (a : Addr) → Contains queue.now.waiting a → has_object heap.old a ≡ true }
+    ensures { (a : Addr) → Contains queue.now.waiting a → has_object heap.new a ≡ true }
+{
+    queue.settle(heap, from);
+}
+
+// Takes all that wait, which have these identities, in this order, and are registered or not.
+fn take_all(rt: &impl Abort, heap: &Heap, queue: &mut Final, ids: &[(u64, bool)])
+    requires { (a : Addr) → Contains queue.old.waiting a → has_object heap.now a ≡ true }
+{
+    assert_eq!(rt; queue.len() as usize, ids.len());
+    for (id, registered) in ids {
+        let Some(at) = queue.pop() else {
+            return;
+        };
+        assert_eq!(rt; heap.id(at), Id(*id));
+        assert_eq!(rt; heap.registered(at), *registered);
+    }
+    assert_eq!(rt; queue.pop(), None);
+}
+
+#[test]
+fn an_empty_queue_gives_nothing_whatever_its_room(rt: HostRuntime) -> Result<(), Fail> {
+    let mut queue = Final::open(rt.alloc())?;
+    assert_eq!(rt; queue.pop(), None);
+    for room in [3, 1000, 2] {
+        queue.reserve(room)?;
+        assert_eq!(rt; queue.len(), 0);
+        assert_eq!(rt; queue.pop(), None);
+    }
+    Ok(())
+}
+
+#[test]
+fn registered_objects_join_in_the_order_of_their_identities(rt: HostRuntime) -> Result<(), Fail> {
+    let heap = heap_of(rt.alloc(), &[true, false, true, true])?;
+    let mut queue = Final::open(rt.alloc())?;
+    assert_eq!(rt; revive(rt.alloc(), &heap, &mut queue, 2, false)?, 3);
+    take_all(&rt, &heap, &mut queue, &[(1, true), (2, true), (4, true)]);
+    Ok(())
+}
+
+#[test]
+fn a_promoted_object_does_not_join(rt: HostRuntime) -> Result<(), Fail> {
+    let heap = heap_of(rt.alloc(), &[true, false, true, true])?;
+    let mut queue = Final::open(rt.alloc())?;
+    assert_eq!(rt; revive(rt.alloc(), &heap, &mut queue, 2, true)?, 2);
+    take_all(&rt, &heap, &mut queue, &[(1, true), (2, true)]);
+    Ok(())
+}
+
+#[test]
+fn older_objects_do_not_join(rt: HostRuntime) -> Result<(), Fail> {
+    let mut heap = heap_of(rt.alloc(), &[true, true, false])?;
+    age(&mut heap);
+    for (n, count) in [(0, 0), (1, 2), (2, 2)] {
+        let mut queue = Final::open(rt.alloc())?;
+        assert_eq!(rt; revive(rt.alloc(), &heap, &mut queue, n, false)?, count);
+    }
+    Ok(())
+}
+
+#[test]
+fn settling_spares_those_before_a_place(rt: HostRuntime) -> Result<(), Fail> {
+    let mut heap = heap_of(rt.alloc(), &[true, true, true])?;
+    let mut queue = Final::open(rt.alloc())?;
+    assert_eq!(rt; revive(rt.alloc(), &heap, &mut queue, 2, false)?, 3);
+    settle(&mut heap, &queue, 3);
+    settle(&mut heap, &queue, 1);
+    take_all(&rt, &heap, &mut queue, &[(1, true), (2, false), (3, false)]);
+    Ok(())
+}
+
+#[test]
+fn each_that_waits_goes_to_its_new_place(rt: HostRuntime) -> Result<(), Fail> {
+    let heap = heap_of(rt.alloc(), &[true, true])?;
+    let mut queue = Final::open(rt.alloc())?;
+    assert_eq!(rt; revive(rt.alloc(), &heap, &mut queue, 2, false)?, 2);
+    assert_eq!(rt; queue.len(), 2);
+    let before = (queue.at(0), queue.at(1));
+    queue.relocate(&Mirror::of(&heap));
+    assert_eq!(rt; queue.at(0).0, u32::MAX - before.0.0);
+    assert_eq!(rt; queue.at(1).0, u32::MAX - before.1.0);
+    Ok(())
+}
