@@ -1,7 +1,7 @@
 -- What is true while a stack is drained, and what it comes to.
 use Rattle.std.proofs.Common.{◌≡◌, ℕ, ◌+◌, ◌<◌, ◌≤◌, Bool, true, false, ◌||◌, ◌⊎◌, List, [], ◌∷◌, length, Option, Some, None, inl, inr, refl, sym, ap, ◌∙◌, subst, ⊎_elim, arith}
 use Rattle.std.specs.Prelude.{Contains, is_some, if◌then◌else◌}
-use Rattle.std.specs.FinSet.{FinSet, contains, insert, contains-empty}
+use Rattle.std.specs.FinSet.{FinSet, contains, insert, empty, contains-empty}
 use Rattle.std.specs.Ordering.{nat_cmp}
 use Rattle.std.proofs.lemmas.Bool.{cases_eq, cases_lt, both_ways, lt-ltb, le-ltb}
 use Rattle.hd_model.specs.declared.data.Addr.{Addr}
@@ -12,7 +12,7 @@ use Rattle.hd_model.specs.Leads.{Leads, Grows}
 use Rattle.hd_model.specs.Marking.{Gains}
 use Rattle.hd_model.specs.Names.{HasClosedFields}
 use Rattle.hd_model.proofs.Members.{not_in_none, first_in, later_in, member_cases}
-use Rattle.hd_mark.specs.Marks.{MarksOf, is_older, promoted_in, pinned_in, pushed, pinned_also, first_marks, IsSettledMarks}
+use Rattle.hd_mark.specs.Marks.{MarksOf, is_older, promoted_in, pinned_in, pushed, pinned_also, first_marks, HasNoneYet, IsSettledMarks}
 use Rattle.hd_mark.specs.Steps.{scanned, IsTraced}
 use Rattle.hd_mark.proofs.Setting.{insert_here, insert_elsewhere, insert_keeps}
 use Rattle.hd_mark.proofs.Pushing.{Pushes, work, pushes_one, scan_pushes, stays_promoted, promoted_how, push_cases, same_address, either, left_or, right_or}
@@ -186,7 +186,8 @@ module _ (m n : MarksOf) (d : IsDraining m n) (x : Addr) (rest : List Addr) (top
       by : Contains n.stacked z ⊎ ((y : Addr) → IsField (objects_of n.basis) z y → promoted_in n y ≡ true)
           → Contains rest z ⊎ ((y : Addr) → IsField (objects_of n.basis) z y → promoted_in after y ≡ true)
       by (inl on) =
-          ⊎_elim (λ (e : x ≡ z). inr (λ y f. scan.1 y (subst (λ w. IsField (objects_of n.basis) w y) (sym e) f)))
+          ⊎_elim (λ (e : x ≡ z). inr (λ y f. scan.1 y (subst (λ w. IsField (objects_of n.basis) w y) (sym e)
+          f)))
           (λ later. inl later) (member_cases x rest z (subst (λ (xs : List Addr). Contains xs z) top on))
       by (inr done) = inr (λ y f. stays_promoted Start popped after scan.0 y (done y f))
 
@@ -217,7 +218,8 @@ module _ (m n : MarksOf) (d : IsDraining m n) (x : Addr) (rest : List Addr) (top
   work_falls =
       let less = scan.0.work in
       let long : length n.stacked ≡ length rest + 1 = ap length top ∙ omega arith in
-      let same : work after.basis.heap after.marks after.stacked ≡ work n.basis.heap after.marks after.stacked =
+      let same : work after.basis.heap after.marks after.stacked ≡ work n.basis.heap after.marks
+      after.stacked =
       ap (λ (b : Basis). work b.heap after.marks after.stacked) scan.0.basis in
       omega arith
 
@@ -255,6 +257,16 @@ first_traced h n closed = record {
   scanned = λ x h. absurd (both_ways _ (contains-empty nat_cmp x.0) h);
 }
 
+no_member : (b : Basis) (x : Addr) → IsCondemned (objects_of b) b.condemned x
+    → (is_older b x || contains (empty {R = nat_cmp}) x.0) ≡ false
+no_member b x condemned =
+    ap (λ t. t || contains (empty {R = nat_cmp}) x.0) (young_test b x condemned.young)
+    ∙ contains-empty nat_cmp x.0
+
+pub first_none : (h : Heap) (n : ℕ) → HasNoneYet (first_marks h n)
+first_none h n = λ x condemned.
+    let none = no_member (record { heap = h; condemned = n }) x condemned in (none, none)
+
 -- a pin is one of two things
 pin_cases : (P : MarksOf → Type 0) (m : MarksOf) (a : Addr) → (is_older m.basis a ≡ true → P m)
     → (is_older m.basis a ≡ false → P (record m { pins = insert m.pins a.0 })) → P (pinned_also m a)
@@ -264,13 +276,14 @@ pin_cases P m a old new = by (is_older m.basis a) refl
     by true e = old e
     by false e = new e
 
-pub pin_traced : (m : MarksOf) (a : Addr) → IsTraced m → IsTraced (pinned_also m a)
+pin_traced : (m : MarksOf) (a : Addr) → IsTraced m → IsTraced (pinned_also m a)
 pin_traced m a t =
     pin_cases IsTraced m a (λ e. t)
     (λ e. record { fields = t.fields; marked = t.marked; stacked = t.stacked; scanned = t.scanned })
 
 pub pin_settled : (m : MarksOf) (a : Addr) → IsSettledMarks m → IsSettledMarks (pinned_also m a)
-pin_settled m a s = pin_cases IsSettledMarks m a (λ e. s) (λ e. record { empty = s.empty; settled = s.settled })
+pin_settled m a s = pin_cases IsSettledMarks m a (λ e. s)
+    (λ e. record { empty = s.empty; settled = s.settled })
 
 -- what a set of an address more has
 joined_only : (b : Bool) (s : FinSet nat_cmp) (a x : Addr) → (b || contains (insert s a.0) x.0) ≡ true
@@ -285,7 +298,8 @@ joined_only b s a x h =
 joined_keeps : (b : Bool) (s : FinSet nat_cmp) (a x : Addr) → (b || contains s x.0) ≡ true
     → (b || contains (insert s a.0) x.0) ≡ true
 joined_keeps b s a x h =
-    ⊎_elim (λ older. left_or b _ older) (λ member. right_or b _ (insert_keeps s a.0 x.0 member)) (either b _ h)
+    ⊎_elim (λ older. left_or b _ older) (λ member. right_or b _ (insert_keeps s a.0 x.0 member))
+    (either b _ h)
 
 pub pin_gains : (m : MarksOf) (a : Addr) → Gains a (pinned_in m) (pinned_in (pinned_also m a))
 pin_gains m a =
@@ -298,18 +312,19 @@ pin_gains m a =
     })
 
 -- a push and a drain of settled marks
-pub promote_grows : (m k : MarksOf) (a : Addr) → IsSettledMarks m
+promote_grows : (m : MarksOf) (q : Addr → Bool) (a : Addr) → IsSettledMarks m
     → Grows (IsYoungField (objects_of (pushed m a).basis) (pushed m a).basis.condemned)
-    (λ x. Contains (pushed m a).stacked x) (promoted_in (pushed m a)) (promoted_in k)
-    → Grows (Arrow m) (λ x. x ≡ a) (promoted_in m) (promoted_in k)
-promote_grows m k a s = push_cases Follows m a old new
+    (λ x. Contains (pushed m a).stacked x) (promoted_in (pushed m a)) q
+    → Grows (Arrow m) (λ x. x ≡ a) (promoted_in m) q
+promote_grows m q a s = push_cases Follows m a old new
   where
     Follows : MarksOf → Type 0
     Follows n =
-        Grows (IsYoungField (objects_of n.basis) n.basis.condemned) (λ x. Contains n.stacked x) (promoted_in n)
-        (promoted_in k)
+        Grows (IsYoungField (objects_of n.basis) n.basis.condemned) (λ x. Contains n.stacked x)
+        (promoted_in n)
+        q
         → Grows (Arrow m) (λ x. x ≡ a) (promoted_in m)
-        (promoted_in k)
+        q
 
     none : (r : Addr) → Contains m.stacked r → ⊥
     none r h = not_in_none r (subst (λ (xs : List Addr). Contains xs r) s.empty h)
@@ -335,3 +350,18 @@ promote_grows m k a s = push_cases Follows m a old new
           ⊎_elim (λ (same : a ≡ w.0). inr (w.0, (sym same, w.1.1))) (λ later. absurd (none w.0 later))
           (member_cases a m.stacked w.0 w.1.0)) (g.only x h);
     }
+
+-- ---- for the answers
+
+pub pinned_traced : (m k : MarksOf) (a : Addr) → k ≡ pinned_also m a → IsTraced m → IsTraced k
+pinned_traced m k a is t = subst IsTraced (sym is) (pin_traced m a t)
+
+pub promoted_grows : (m j : MarksOf) (q : Addr → Bool) (a : Addr) → j ≡ pushed m a → IsSettledMarks m
+    → Grows (Arrow j) (λ x. Contains j.stacked x) (promoted_in j) q
+    → Grows (Arrow m) (λ x. x ≡ a) (promoted_in m) q
+promoted_grows m j q a is s =
+    subst (λ (i : MarksOf). Grows (Arrow i) (λ x. Contains i.stacked x) (promoted_in i) q
+    → Grows (Arrow m) (λ x. x ≡ a) (promoted_in m) q) (sym is) (promote_grows m q a s)
+
+-- for `grind`: what a pin does to settled marks
+pub ruleset pins_settled = (pin_settled, pin_gains)

@@ -47,81 +47,83 @@ module _ (h : Heap) (n : ℕ) (places : List (Option ℕ)) (regions : ℕ) (mark
     pub has_place : is_some (place_at places (at.0 / 256)) ≡ true
     has_place = t.covers at condemned_here
 
-    module _ (bit : ℕ) (bit_is : IfSome (place_at places (at.0 / 256)) (λ p. bit ≡ p * 256 + at.0 % 256)) where
-      -- its bits say whether an object is promoted and pinned
-      pub promoted_read : is_set marks bit ≡ promoted_in m at
-      promoted_read =
-          bit_read places marks at.0 bit has_place bit_is ∙ ap (λ (k : MarksOf). contains k.marks at.0) view
-          ∙ sym (ap (λ b. b || contains m.marks at.0) not_older)
+    module _ (bit : ℕ) (bit_is : IfSome (place_at places (at.0 / 256)) (λ p. bit ≡ p * 256 + at.0 % 256))
+      where
+        -- its bits say whether an object is promoted and pinned
+        pub promoted_read : is_set marks bit ≡ promoted_in m at
+        promoted_read =
+            bit_read places marks at.0 bit has_place bit_is ∙ ap (λ (k : MarksOf). contains k.marks at.0) view
+            ∙ sym (ap (λ b. b || contains m.marks at.0) not_older)
 
-      pub pinned_read : is_set pins bit ≡ pinned_in m at
-      pinned_read =
-          bit_read places pins at.0 bit has_place bit_is ∙ ap (λ (k : MarksOf). contains k.pins at.0) view
-          ∙ sym (ap (λ b. b || contains m.pins at.0) not_older)
+        pub pinned_read : is_set pins bit ≡ pinned_in m at
+        pinned_read =
+            bit_read places pins at.0 bit has_place bit_is ∙ ap (λ (k : MarksOf). contains k.pins at.0) view
+            ∙ sym (ap (λ b. b || contains m.pins at.0) not_older)
 
-      module _ (after : List ℕ) (joins : is_set after bit ≡ true) where
-        -- it is pinned
-        pub pin_seen : ((k : ℕ) → k ≢ bit → is_set after k ≡ is_set pins k)
-            → seen marks after stack ≡ pinned_also m at
-        pin_seen others =
-            let more : set_of places after ≡ insert (set_of places pins) at.0 =
-            bit_joins places regions pins after at.0 bit t.table has_place bit_is joins others in
-            let one : seen marks after stack ≡ record (seen marks pins stack) {
-              pins = insert (set_of places pins) at.0;
-            } =
-            λ i. record (seen marks pins stack) { pins = more i } in
-            one ∙ ap (λ (k : MarksOf). record k { pins = insert k.pins at.0 }) view
-            ∙ sym
-            (ap (λ b. if b then m else (record m { pins = insert m.pins at.0 })) not_older)
+        module _ (after : List ℕ) (joins : is_set after bit ≡ true) where
+          -- it is pinned
+          pub pin_seen : ((k : ℕ) → k ≢ bit → is_set after k ≡ is_set pins k)
+              → seen marks after stack ≡ pinned_also m at
+          pin_seen others =
+              let more : set_of places after ≡ insert (set_of places pins) at.0 =
+              bit_joins places regions pins after at.0 bit t.table has_place bit_is joins others in
+              let one : seen marks after stack ≡ record (seen marks pins stack) {
+                pins = insert (set_of places pins) at.0;
+              } =
+              λ i. record (seen marks pins stack) { pins = more i } in
+              one ∙ ap (λ (k : MarksOf). record k { pins = insert k.pins at.0 }) view
+              ∙ sym
+              (ap (λ b. if b then m else (record m { pins = insert m.pins at.0 })) not_older)
 
-        -- it is marked and stacked, and had room there
-        module _ (others : (k : ℕ) → k ≢ bit → is_set after k ≡ is_set marks k)
-            (unmarked : promoted_in m at ≡ false) where
-          marks_more : set_of places after ≡ insert (set_of places marks) at.0
-          marks_more = bit_joins places regions marks after at.0 bit t.table has_place bit_is joins others
+          -- it is marked and stacked, and had room there
+          module _ (others : (k : ℕ) → k ≢ bit → is_set after k ≡ is_set marks k)
+              (unmarked : promoted_in m at ≡ false) where
+            marks_more : set_of places after ≡ insert (set_of places marks) at.0
+            marks_more = bit_joins places regions marks after at.0 bit t.table has_place bit_is joins others
 
-          fewer_left : left (set_of places after) t.members + 1 ≤ left (set_of places marks) t.members
-          fewer_left =
-              let out : contains (set_of places marks) at.0 ≡ false =
-              ap (λ (k : MarksOf). contains k.marks at.0) view ∙ (neither _ _ unmarked).1 in
-              subst (λ (s : FinSet nat_cmp). left s t.members + 1 ≤ left (set_of places marks) t.members)
-              (sym marks_more)
-              (left_falls (set_of places marks) at.0 t.members out (t.all at condemned_here))
+            fewer_left : left (set_of places after) t.members + 1 ≤ left (set_of places marks) t.members
+            fewer_left =
+                let out : contains (set_of places marks) at.0 ≡ false =
+                ap (λ (k : MarksOf). contains k.marks at.0) view ∙ (neither _ _ unmarked).1 in
+                subst (λ (s : FinSet nat_cmp). left s t.members + 1 ≤ left (set_of places marks) t.members)
+                (sym marks_more)
+                (left_falls (set_of places marks) at.0 t.members out (t.all at condemned_here))
 
-          pub push_room : length stack < room
-          push_room = let fewer = fewer_left in let enough = t.room_left in omega arith
+            pub push_room : length stack < room
+            push_room = let fewer = fewer_left in let enough = t.room_left in omega arith
 
-          module _ (longer : List Addr) (longer_is : longer ≡ stack ++ at ∷ []) where
-            pub push_kept : length after ≡ length marks
-                → IsTrace h n places regions after pins longer room
-            push_kept same = record {
-              table = t.table;
-              few = t.few;
-              covers = t.covers;
-              marks_long = same ∙ t.marks_long;
-              pins_long = t.pins_long;
-              members = t.members;
-              all = t.all;
-              room_left =
-                  let fewer = fewer_left in
-                  let enough = t.room_left in
-                  let one = ap length longer_is ∙ length-append stack (at ∷ []) in
-                  omega arith;
-            }
+            module _ (longer : List Addr) (longer_is : longer ≡ stack ++ at ∷ []) where
+              pub push_kept : length after ≡ length marks
+                  → IsTrace h n places regions after pins longer room
+              push_kept same = record {
+                table = t.table;
+                few = t.few;
+                covers = t.covers;
+                marks_long = same ∙ t.marks_long;
+                pins_long = t.pins_long;
+                members = t.members;
+                all = t.all;
+                room_left =
+                    let fewer = fewer_left in
+                    let enough = t.room_left in
+                    let one = ap length longer_is ∙ length-append stack (at ∷ []) in
+                    omega arith;
+              }
 
-            pub push_seen : seen after pins longer ≡ pushed m at
-            push_seen =
-                let top : reverse longer ≡ at ∷ reverse stack =
-                ap reverse longer_is ∙ reverse-append stack (at ∷ []) in
-                let one : seen after pins longer ≡ record (seen marks pins stack) {
-                  marks = insert (set_of places marks) at.0;
-                  stacked = at ∷ reverse stack;
-                } =
-                λ i. record (seen marks pins stack) { marks = marks_more i; stacked = top i } in
-                one
-                ∙ ap (λ (k : MarksOf). record k { marks = insert k.marks at.0; stacked = at ∷ k.stacked }) view
-                ∙ sym
-                (ap (λ b. if b then m else (record m {
-                  marks = insert m.marks at.0;
-                  stacked = at ∷ m.stacked;
-                })) unmarked)
+              pub push_seen : seen after pins longer ≡ pushed m at
+              push_seen =
+                  let top : reverse longer ≡ at ∷ reverse stack =
+                  ap reverse longer_is ∙ reverse-append stack (at ∷ []) in
+                  let one : seen after pins longer ≡ record (seen marks pins stack) {
+                    marks = insert (set_of places marks) at.0;
+                    stacked = at ∷ reverse stack;
+                  } =
+                  λ i. record (seen marks pins stack) { marks = marks_more i; stacked = top i } in
+                  one
+                  ∙ ap (λ (k : MarksOf). record k { marks = insert k.marks at.0; stacked = at ∷ k.stacked })
+                  view
+                  ∙ sym
+                  (ap (λ b. if b then m else (record m {
+                    marks = insert m.marks at.0;
+                    stacked = at ∷ m.stacked;
+                  })) unmarked)

@@ -98,7 +98,8 @@ addressed h sound a there =
     (omega arith, omega arith)
 
 -- a walk comes nearer to its end
-pub walk_falls : (h : Heap) → IsSound h → (p : Addr → Bool) → ((a : Addr) → p a ≡ true → has_object h a ≡ true)
+pub walk_falls : (h : Heap) → IsSound h → (p : Addr → Bool) →
+    ((a : Addr) → p a ≡ true → has_object h a ≡ true)
     → (after : Option Addr) (at : Addr) → IsNext p after at → 2 ^ 32 - at.0 < 2 ^ 32 - last_of after
 walk_falls h sound p there after at next =
     let range = addressed h sound at (there at next.member) in
@@ -165,7 +166,8 @@ module _ (h : Heap) (n : ℕ) (sound : IsSound h) where
 
   -- ---- the places
 
-  module _ (after : Option Addr) (places : List (Option ℕ)) (regions : ℕ) (is : IsPlaced h n after places regions)
+  module _ (after : Option Addr) (places : List (Option ℕ)) (regions : ℕ)
+      (is : IsPlaced h n after places regions)
       (at : Addr) (next : IsNext (is_condemned h n) after at) (within : at.0 / 256 < length places) where
     abbrev with_place : List (Option ℕ)
     with_place = set places (at.0 / 256) (Some regions)
@@ -229,7 +231,8 @@ module _ (h : Heap) (n : ℕ) (sound : IsSound h) where
           by : a.0 / 256 ≢ at.0 / 256 → (t : Bool) → is_after after a ≡ t
               → is_some (place_at with_place (a.0 / 256)) ≡ true
           by other true late =
-              let low = next.least a condemned late in let high = up_to last a e in absurd (other (omega arith))
+              let low = next.least a condemned late in let high = up_to last a e in absurd
+              (other (omega arith))
           by other false early = ap is_some (elsewhere (a.0 / 256) other) ∙ is.covers a condemned early
 
       new_low : (r : ℕ) → is_some (place_at with_place r) ≡ true → r < end_of (Some last)

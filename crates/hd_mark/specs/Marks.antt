@@ -1,11 +1,11 @@
 -- The value of marks: what a collection has promoted and pinned, and what is still to be scanned. They are
 -- this project's own, after the mark bits and the mark stack of CoreCLR's collector in outline.
-use Rattle.std.specs.Prelude.{◌≡◌, ℕ, ◌||◌, Bool, nat_lt, if◌then◌else◌, List, [], ◌∷◌, refl}
+use Rattle.std.specs.Prelude.{◌≡◌, ℕ, ◌||◌, Bool, false, nat_lt, if◌then◌else◌, List, [], ◌∷◌, refl}
 use Rattle.std.specs.Coded.{Coded, code_by, coded×, coded_ℕ, coded_list}
 use Rattle.std.specs.FinSet as set
 use Rattle.std.specs.Ordering.{nat_cmp}
 use Rattle.hd_model.specs.declared.data.Addr.{Addr}
-use Rattle.hd_model.specs.Scene.{generation_at}
+use Rattle.hd_model.specs.Scene.{generation_at, IsCondemned}
 use Rattle.hd_model.specs.Heap.{Heap, Basis, objects_of}
 use Rattle.hd_model.specs.Marking.{IsSettled}
 use Rattle.hd_model.specs.Code.{addr_code, basis_code}
@@ -41,6 +41,12 @@ pinned_in m a = is_older m.basis a || set.contains m.pins a.0
 pub record IsSettledMarks (m : MarksOf) : Type 0 where
   pub empty : m.stacked ≡ []
   pub settled : IsSettled (objects_of m.basis) m.basis.condemned (promoted_in m)
+
+-- no condemned object is promoted or pinned yet
+abbrev pub HasNoneYet : MarksOf → Type 0
+HasNoneYet m =
+    (a : Addr) → IsCondemned (objects_of m.basis) m.basis.condemned a → (promoted_in m a ≡ false)
+    × (pinned_in m a ≡ false)
 
 -- the marks at first
 abbrev pub first_marks : Heap → ℕ → MarksOf

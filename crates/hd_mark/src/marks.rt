@@ -4,7 +4,8 @@ ghost use Rattle.hd_model.specs.Leads.{Grows};
 ghost use Rattle.hd_model.specs.Scene.{is_object, IsYoungField};
 ghost use Rattle.hd_model.specs.Heap.{object_at, objects_of};
 ghost use Rattle.hd_model.specs.Names.{HasClosedFields};
-ghost use Rattle.hd_mark.specs.Marks.{first_marks, pushed, promoted_in, IsSettledMarks};
+ghost use Rattle.hd_mark.specs.Marks.{first_marks, pushed, promoted_in};
+ghost use Rattle.hd_mark.specs.Marks.{HasNoneYet, IsSettledMarks};
 
 use crate::trace::Trace;
 use hd_heap::Heap;
@@ -12,11 +13,12 @@ use hd_model::{Addr, Marker, Memory};
 use std::alloc::Global;
 use std::marker::Model;
 
-/// What a collection of a heap has promoted and pinned, and a stack of what is promoted and still to
-/// be scanned. It has bits for condemned regions alone: an older object is promoted and pinned from
-/// the start, as a collector that does not compact older generations keeps it in place.
+/// What a collection of a heap has promoted and pinned, and a stack of what is promoted and still
+/// to be scanned. It has bits for condemned regions alone: an older object is promoted and pinned
+/// from the start, since no collection of younger generations takes or moves it.
 ///
-/// `promote` takes time for what it promotes and its fields, the others but `drain` constant time.
+/// `promote` and `drain` take time by what they promote and the fields of what they scan, the other
+/// calls but `start` constant time.
 #[derive(Drop)]
 pub struct Marks<'h> {
     trace: Trace<'h>,
@@ -36,12 +38,13 @@ impl<'h> Model for Marks<'h> {
 }
 
 impl<'h> Marks<'h> {
-    /// The marks of a collection of generation `n` before its roots. All memory is taken here, in time
-    /// by the condemned objects and the number of regions.
+    /// The marks of a collection of generation `n` before its roots. All memory is taken here, in
+    /// time by the condemned objects and the number of regions.
     pub fn start(alloc: Global, heap: &'h Heap, n: u8) -> Result<Marks<'h>, Memory>
         requires fields { HasClosedFields (object_at heap.now) }
         ensures marks { IfOk result (λ m. m ≡ first_marks heap.now n) }
         ensures settled { IfOk result IsSettledMarks }
+        ensures none { IfOk result HasNoneYet }
     {
         let trace = Trace::start(alloc, heap, n)?;
         Ok(Marks { trace })
@@ -55,7 +58,7 @@ impl<'h> Marks<'h> {
         self.trace.push(at);
     }
 
-    /// Scans until nothing is stacked, in time by what it promotes and the fields of what it scans.
+    /// Scans until nothing is stacked.
     pub fn drain(&mut self)
         ensures settled { IsSettledMarks self.new }
         ensures basis { self.new.basis ≡ self.old.basis }
@@ -93,6 +96,7 @@ impl<'h> Marker for Marks<'h> {
         self.trace.pinned(at)
     }
 
+    #[tactic(auto, using(crate::proofs::Draining::pins_settled))]
     fn pin(&mut self, at: Addr) {
         self.trace.pin(at);
     }

@@ -57,8 +57,8 @@ fn end_of(last: Option<Addr>) -> u32
 }
 
 impl Places {
-    /// Gives a place to each region that has an object of no generation above `n`, with a look at the
-    /// first of its objects alone.
+    /// Gives a place to each region that has an object of no generation above `n`, with a look at
+    /// the first of its objects alone.
     pub(crate) fn of(alloc: Global, heap: &Heap, n: u8, end: u32) -> Result<Places, Memory>
         requires end { (a : Addr) → is_condemned heap.now n a ≡ true → a.0 / 256 < end }
         requires small { end ≤ 2 ^ 24 }

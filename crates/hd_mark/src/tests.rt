@@ -1,7 +1,7 @@
 ghost use Rattle.std.specs.Prelude.{◌≡◌, ◌≤◌, true, IfOk};
-ghost use Rattle.hd_model.specs.Heap.{has_object, object_at};
+ghost use Rattle.hd_model.specs.Heap.{has_object, object_at, objects_of};
 ghost use Rattle.hd_model.specs.Names.{HasClosedFields};
-ghost use Rattle.hd_model.specs.Scene.{IsField};
+ghost use Rattle.hd_model.specs.Scene.{IsField, is_object};
 ghost use Rattle.hd_mark.specs.Marks.{IsSettledMarks};
 
 use super::*;
@@ -121,6 +121,16 @@ fn shows(rt: &impl Abort, heap: &Heap, marks: &Marks, promoted: &[u32], pinned: 
     }
 }
 
+/// Promotes an object of any marker.
+fn promote_by<M: Marker>(marker: &mut M, at: Addr)
+    requires settled { M.settled marker.old }
+    requires object { is_object (objects_of (M.basis marker.old)) at ≡ true }
+    ensures settled { M.settled marker.new }
+    ensures basis { M.basis marker.new ≡ M.basis marker.old }
+{
+    marker.promote(at);
+}
+
 /// Promotes objects by number.
 fn promote(rt: &impl Abort, heap: &Heap, marks: &mut Marks, objects: &[u32])
     requires settled { IsSettledMarks marks.old }
@@ -129,7 +139,7 @@ fn promote(rt: &impl Abort, heap: &Heap, marks: &mut Marks, objects: &[u32])
     ensures basis { marks.new.basis ≡ marks.old.basis }
 {
     for k in objects {
-        marks.promote(object(rt, heap, *k));
+        promote_by(marks, object(rt, heap, *k));
     }
 }
 

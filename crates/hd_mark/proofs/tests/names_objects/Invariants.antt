@@ -6,4 +6,5 @@ use Rattle.hd_model.specs.Scene.{fields_at}
 use Rattle.hd_mark.proofs.tests.names_objects.Given as goal
 
 abbrev pub invariant-loop-i : goal.invariant-loop-i
-invariant-loop-i l = (k : ℕ) → k < l.i → (y : Addr) → slice_index_or (fields_at (object_at l.heap) l.at) k None ≡ Some y → has_object l.heap y ≡ true
+invariant-loop-i l = (k : ℕ) → k < l.i → (y : Addr) → slice_index_or (fields_at (object_at l.heap) l.at) k
+    None ≡ Some y → has_object l.heap y ≡ true

@@ -23,15 +23,20 @@ loop-at-smaller c =
     let m = c.loop-at.self-inside.trace in
     let rest = c.pop.new.self.stacked in
     let falls = work_falls c.args.self.now m c.loop-at.invariant c.in-Some.at rest c.in-Some.ensures.0 in
-    let is : c.scan.new.self ≡ scanned (record m { stacked = rest }) (fields_at (objects_of m.basis) c.in-Some.at) =
-    c.scan.ensures ∙ ap (λ (p : MarksOf). scanned p (fields_at (objects_of p.basis) c.in-Some.at)) c.in-Some.ensures.1 in
-    subst (λ (p : MarksOf). work p.basis.heap p.marks p.stacked < work m.basis.heap m.marks m.stacked) (sym is) falls
+    let is : c.scan.new.self ≡ scanned (record m { stacked = rest })
+    (fields_at (objects_of m.basis) c.in-Some.at) =
+    c.scan.ensures ∙ ap (λ (p : MarksOf). scanned p (fields_at (objects_of p.basis) c.in-Some.at))
+    c.in-Some.ensures.1 in
+    subst (λ (p : MarksOf). work p.basis.heap p.marks p.stacked < work m.basis.heap m.marks m.stacked)
+    (sym is) falls
 
 pub loop-at-preserved : goal.loop-at-preserved
 loop-at-preserved c =
     let m = c.loop-at.self-inside.trace in
     let rest = c.pop.new.self.stacked in
-    let is : c.scan.new.self ≡ scanned (record m { stacked = rest }) (fields_at (objects_of m.basis) c.in-Some.at) =
-    c.scan.ensures ∙ ap (λ (p : MarksOf). scanned p (fields_at (objects_of p.basis) c.in-Some.at)) c.in-Some.ensures.1 in
+    let is : c.scan.new.self ≡ scanned (record m { stacked = rest })
+    (fields_at (objects_of m.basis) c.in-Some.at) =
+    c.scan.ensures ∙ ap (λ (p : MarksOf). scanned p (fields_at (objects_of p.basis) c.in-Some.at))
+    c.in-Some.ensures.1 in
     subst (λ (p : MarksOf). IsDraining c.args.self.now p) (sym is)
     (draining_on c.args.self.now m c.loop-at.invariant c.in-Some.at rest c.in-Some.ensures.0)

@@ -6,4 +6,5 @@ abbrev pub invariant-loop-at : goal.invariant-loop-at
 invariant-loop-at l = IsDraining l.fn.self l.self-inside.trace
 
 abbrev pub decreases-loop-at : goal.decreases-loop-at
-decreases-loop-at l = work l.self-inside.trace.basis.heap l.self-inside.trace.marks l.self-inside.trace.stacked
+decreases-loop-at l = work l.self-inside.trace.basis.heap l.self-inside.trace.marks
+    l.self-inside.trace.stacked

@@ -10,4 +10,5 @@ pub invariant_of-self : goal.invariant_of-self
 invariant_of-self c =
     subst IsTraced (sym c.push.ensures)
     (push_traced c.self.inside.trace c.args.at c.self.invariant
-    (subst (λ (m : MarksOf). is_object (objects_of m.basis) c.args.at ≡ true) (sym c.self.view_is) c.requires))
+    (subst (λ (m : MarksOf). is_object (objects_of m.basis) c.args.at ≡ true) (sym c.self.view_is)
+    c.requires))
