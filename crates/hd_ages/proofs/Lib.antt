@@ -1,3 +1,11 @@
 pub mod Words
 pub mod Blocks
 pub mod Laws
+pub mod Masks
+pub mod Chains
+pub mod Standing
+pub mod Slots
+pub mod Frames
+pub mod Underway
+pub mod Counted
+pub mod Changing

@@ -1,2 +1,4 @@
 pub mod Clumps
 pub mod Word
+pub mod Walk
+pub mod Rows

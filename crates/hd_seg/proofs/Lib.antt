@@ -8,3 +8,4 @@ pub mod Putting
 pub mod Giving
 pub mod Reading
 pub mod Laws
+pub mod Rewriting

@@ -2,3 +2,4 @@ pub mod Row
 pub mod Mapped
 pub mod Blocks
 pub mod Cells
+pub mod Rewriting

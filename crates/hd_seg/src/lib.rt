@@ -8,6 +8,7 @@
 mod block;
 mod blocks;
 mod cells;
+mod change;
 mod filled;
 mod row;
 mod seg;
@@ -15,5 +16,6 @@ mod seg;
 mod tests;
 mod writes;
 
+pub use change::rewrite_row;
 pub use row::{BlockKind, Extra, Full, Row};
 pub use seg::Seg;

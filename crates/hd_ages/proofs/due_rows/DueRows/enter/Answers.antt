@@ -1,0 +1,11 @@
+use Rattle.std.proofs.Common.{◌+◌, ◌*◌, ap, ◌∙◌, arith}
+use Rattle.std.specs.Int.{bit_at}
+use Rattle.hd_ages.specs.Clumps.{clump_at}
+use Rattle.hd_ages.proofs.Masks.{rows_by_bits}
+use Rattle.hd_ages.proofs.due_rows.DueRows.enter.Goals as goal
+
+pub returns-clause-rows : goal.returns-clause-rows
+returns-clause-rows c =
+    rows_by_bits c.args.seg.now c.from-self.result (64 * c.args.block + 16 * c.args.clump)
+    (clump_at c.args.block c.args.clump) (omega arith) (omega arith)
+    (λ i lt. ap (λ m. bit_at m i) c.from-self.ensures ∙ c.clump.ensures.bits i lt)

@@ -1,0 +1,13 @@
+use Rattle.std.proofs.Common.{ℕ, ap, ◌∙◌, arith}
+use Rattle.std.specs.Int.{bit_at}
+use Rattle.std.proofs.lemmas.Nat.Bits.{bit_at_above, bit_at-zero}
+use Rattle.hd_ages.proofs.due_rows.DueRows.go_to.Goals as goal
+use Rattle.hd_ages.proofs.due_rows.DueRows.go_to.Goals.{in-Some, in-None}
+
+pub returns-clause-small : goal.returns-clause-small
+returns-clause-small c = λ i le.
+    elim c.match-block.branch [
+      | in-Some w ↦ ap (λ (m : ℕ). bit_at m i) w.self-is
+          ∙ bit_at_above w.from-self.result 4 i (omega (arith, w.from-self.ensures, w.due.ensures.small)) le
+      | in-None w ↦ ap (λ (m : ℕ). bit_at m i) w.self-is ∙ bit_at-zero i
+    ]

@@ -1,0 +1,28 @@
+use Rattle.std.proofs.Common.{ℕ, ◌+◌, List, length, sym, ap, ◌∙◌, arith}
+use Rattle.std.specs.Int.{bit_at}
+use Rattle.hd_ages.specs.declared.due_rows.DueRows.{DueRows}
+use Rattle.hd_ages.proofs.Standing.{gives, same_clumps}
+use Rattle.hd_ages.proofs.due_rows.DueRows.next.Goals as goal
+
+pub returns-clause-on : goal.returns-clause-on
+returns-clause-on g c =
+    let same = c.take_row.ensures.after in
+    let on = c.loop-self.invariant.on in
+    record {
+      block = λ b e. on.block b (sym (ap (λ (w : DueRows). w.block) same) ∙ e);
+      clumps = λ i le. ap (λ (w : DueRows). bit_at w.clumps i) same ∙ on.clumps i le;
+      first = omega (arith, on.first, ap (λ (w : DueRows). w.first) same);
+    }
+
+pub returns-clause-row : goal.returns-clause-row
+returns-clause-row g c = record {
+  slots = sym c.loop-self.invariant.slots
+      ∙ gives c.args.seg.now c.args.ages.now c.loop-self.self c.take_row.new.self c.take_row.result
+      c.take_row.ensures.after c.take_row.ensures.rows;
+}
+
+pub returns-clause-steps : goal.returns-clause-steps
+returns-clause-steps g c =
+    let clumps = same_clumps c.args.seg.now c.args.ages.now c.loop-self.self c.take_row.new.self
+    c.take_row.ensures.after in
+    ap (λ (xs : List ℕ). c.loop-self.steps + length xs) clumps ∙ c.loop-self.invariant.steps

@@ -1,0 +1,3 @@
+pub mod Detaching
+pub mod Spreading
+pub mod Rounds

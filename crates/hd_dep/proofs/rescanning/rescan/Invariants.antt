@@ -1,0 +1,32 @@
+use Rattle.std.proofs.Common.{◌≡◌, ◌+◌, cond, true, false, ℕ, Some}
+use Rattle.hd_model.specs.declared.data.Addr.{Addr}
+use Rattle.hd_model.specs.declared.data.Kind.TheVariants as kind
+use Rattle.hd_model.specs.State.{Handle}
+use Rattle.hd_model.specs.Role.{attaches, role}
+use Rattle.hd_model.specs.Ages.{is_due}
+use Rattle.hd_model.specs.Heap.{objects_of}
+use Rattle.hd_model.specs.Reach.{IsArrow}
+use Rattle.hd_model.specs.Table.{row_at}
+use Rattle.hd_model.specs.Visits.{visits_of}
+use Rattle.hd_dep.specs.Rescan.{IsFollowed, Spreads}
+use Rattle.hd_dep.proofs.Rounds.{HasPassed, left_in}
+use Rattle.hd_dep.proofs.rescanning.rescan.Given as goal
+
+abbrev pub invariant-loop-more : goal.invariant-loop-more
+invariant-loop-more g l = record {
+  settled : g.M.Marker.settled l.marker;
+  basis : g.M.Marker.basis l.marker ≡ g.M.Marker.basis l.initial.marker;
+  pinned : g.M.Marker.pinned l.marker ≡ g.M.Marker.pinned l.initial.marker;
+  spreads :
+      Spreads (IsArrow (objects_of (g.M.Marker.basis l.initial.marker)) (row_at l.seg))
+      (g.M.Marker.promoted l.initial.marker) (g.M.Marker.promoted l.marker);
+  passed :
+      HasPassed (g.M.Marker.basis l.initial.marker).heap (visits_of l.seg l.ages l.n kind.Dependent)
+      (g.M.Marker.promoted l.initial.marker) (g.M.Marker.promoted l.marker) l.initial.steps l.steps l.more;
+  followed : l.more ≡ false → (slot : ℕ) (h : Handle Addr) → row_at l.seg slot ≡ Some h → role h ≡ attaches
+      → is_due l.ages l.n slot ≡ true → IsFollowed h (g.M.Marker.promoted l.marker);
+}
+
+abbrev pub decreases-loop-more : goal.decreases-loop-more
+decreases-loop-more g l = left_in (g.M.Marker.basis l.initial.marker).heap (g.M.Marker.promoted l.marker)
+    + cond l.more 1 0

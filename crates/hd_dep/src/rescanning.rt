@@ -1,0 +1,133 @@
+ghost use Rattle.std.specs.Prelude.{◌≡◌, ◌+◌, ◌*◌, ◌&&◌, not, length, true, Some};
+ghost use Rattle.std.specs.Prelude.{IsSome, IfSome, IfNone, MatchBool};
+ghost use Rattle.std.specs.FinMap.{get};
+ghost use Rattle.hd_model.specs.declared.data.Addr.{Addr};
+ghost use Rattle.hd_model.specs.declared.data.Kind.TheVariants as kind;
+ghost use Rattle.hd_model.specs.Heap.{objects_of};
+ghost use Rattle.hd_model.specs.Leads.{IsClosed, IsClosure};
+ghost use Rattle.hd_model.specs.State.{secondary_of};
+ghost use Rattle.hd_model.specs.Scene.{IsField, is_object};
+ghost use Rattle.hd_model.specs.Reach.{IsArrow};
+ghost use Rattle.hd_model.specs.Table.{live_at, row_at};
+ghost use Rattle.hd_model.specs.Names.{NamesObjects};
+ghost use Rattle.hd_model.specs.Visits.{visits_of};
+ghost use Rattle.hd_model.specs.Ages.{HasSoundAges};
+ghost use Rattle.hd_seg.specs.Row.{extra_of};
+ghost use Rattle.hd_dep.specs.Rescan.{RescanSteps, Spreads, Gained, IsSpread, IsSpreadRow};
+
+use hd_ages::{AgeMap, DueRows};
+use hd_model::{Addr, Kind, Marker, Slot, Steps};
+use hd_seg::{Extra, Row, Seg};
+use std::sync::ledger::Ledger;
+
+/// Promotes the secondary of each dependent handle whose target is promoted, and all that it leads
+/// to, until nothing more is to be promoted: what is promoted is then closed under fields and under
+/// dependent handles.
+///
+/// It goes over the due clumps again as long as that promoted something. Each visit is one step.
+pub fn rescan<M: Marker, L: Ledger>(
+    seg: &Seg,
+    ages: &AgeMap,
+    marker: &mut M,
+    n: u8,
+    steps: &mut Steps<L>,
+)
+    requires settled { M.settled marker.old }
+    requires generation { (M.basis marker.old).condemned ≡ n }
+    requires names { NamesObjects (objects_of (M.basis marker.old)) (row_at seg.now) }
+    requires blocks { length ages.now ≡ 4 * seg.now.blocks }
+    requires fields { IsClosed (IsField (objects_of (M.basis marker.old))) (M.promoted marker.old) }
+    requires ages_sound { HasSoundAges (objects_of (M.basis marker.old)) (row_at seg.now) ages.now }
+    ensures settled { M.settled marker.new }
+    ensures basis { M.basis marker.new ≡ M.basis marker.old }
+    ensures pinned { M.pinned marker.new ≡ M.pinned marker.old }
+    ensures closure { IsClosure (IsArrow (objects_of (M.basis marker.old)) (row_at seg.now))
+        (M.promoted marker.old) (M.promoted marker.new) }
+    ensures steps { RescanSteps (visits_of seg.now ages.now n kind.Dependent)
+        (M.promoted marker.old) (M.promoted marker.new) steps.old steps.new }
+{
+    let mut more = true;
+    while more {
+        more = spread(seg, ages, marker, n, steps);
+    }
+}
+
+/// One pass over the due clumps. It answers whether it promoted something.
+fn spread<M: Marker, L: Ledger>(
+    seg: &Seg,
+    ages: &AgeMap,
+    marker: &mut M,
+    n: u8,
+    steps: &mut Steps<L>,
+) -> bool
+    requires settled { M.settled marker.old }
+    requires names { NamesObjects (objects_of (M.basis marker.old)) (row_at seg.now) }
+    requires blocks { length ages.now ≡ 4 * seg.now.blocks }
+    ensures settled { M.settled marker.new }
+    ensures basis { M.basis marker.new ≡ M.basis marker.old }
+    ensures pinned { M.pinned marker.new ≡ M.pinned marker.old }
+    ensures spreads { Spreads (IsArrow (objects_of (M.basis marker.old)) (row_at seg.now))
+        (M.promoted marker.old) (M.promoted marker.new) }
+    ensures more { MatchBool result (Gained (M.promoted marker.old) (M.promoted marker.new))
+        (IsSpread (row_at seg.now) ages.now n (M.promoted marker.old) (M.promoted marker.new)) }
+    ensures steps { steps.new ≡ steps.old + visits_of seg.now ages.now n kind.Dependent }
+{
+    let mut more = false;
+    let mut rows = DueRows::start(seg, ages, Kind::Dependent, n);
+    while let Some(slot) = rows.next(seg, ages, steps) {
+        more |= spread_row(seg, slot, marker);
+    }
+    more
+}
+
+/// Promotes the secondary of a dependent handle, if its target is promoted and it is not. It answers
+/// whether it did.
+fn spread_row<M: Marker>(seg: &Seg, slot: Slot, marker: &mut M) -> bool
+    requires live { IsSome (get seg.now.rows slot.0) }
+    requires of_kind { (live_at seg.now slot.0).kind ≡ kind.Dependent }
+    requires settled { M.settled marker.old }
+    requires names { NamesObjects (objects_of (M.basis marker.old)) (row_at seg.now) }
+    ensures settled { M.settled marker.new }
+    ensures basis { M.basis marker.new ≡ M.basis marker.old }
+    ensures pinned { M.pinned marker.new ≡ M.pinned marker.old }
+    ensures spreads { Spreads (IsArrow (objects_of (M.basis marker.old)) (row_at seg.now))
+        (M.promoted marker.old) (M.promoted marker.new) }
+    ensures more { MatchBool result (Gained (M.promoted marker.old) (M.promoted marker.new))
+        (IsSpreadRow (live_at seg.now slot.0) (M.promoted marker.old) (M.promoted marker.new)) }
+{
+    let Some(row) = seg.row(slot) else {
+        return false;
+    };
+    let Some((target, secondary)) = parts(row) else {
+        return false;
+    };
+    if !is_left_behind(target, secondary, marker) {
+        return false;
+    }
+    marker.promote(secondary);
+    true
+}
+
+/// The target and the secondary of a row that has both.
+fn parts(row: Row) -> Option<(Addr, Addr)>
+    ensures both { IfSome result (λ parts. (row.target ≡ Some parts.0)
+        × (secondary_of (extra_of row.extra) ≡ Some parts.1)) }
+    ensures none { IfNone result ((x y : Addr) → row.target ≡ Some x →
+        secondary_of (extra_of row.extra) ≡ Some y → ⊥) }
+{
+    let target = row.target?;
+    match row.extra {
+        Extra::Secondary(Some(secondary)) => Some((target, secondary)),
+        Extra::Secondary(None) | Extra::Nothing | Extra::Strength(_) | Extra::Count(_) => None,
+    }
+}
+
+/// Whether a target is promoted and its secondary is not.
+fn is_left_behind<M: Marker>(target: Addr, secondary: Addr, marker: &M) -> bool
+    requires settled { M.settled marker.now }
+    requires target { is_object (objects_of (M.basis marker.now)) target ≡ true }
+    requires secondary { is_object (objects_of (M.basis marker.now)) secondary ≡ true }
+    ensures { result ≡ (M.promoted marker.now target && not (M.promoted marker.now secondary)) }
+{
+    marker.promoted(target) && !marker.promoted(secondary)
+}

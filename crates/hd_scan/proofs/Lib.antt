@@ -1,0 +1,3 @@
+pub mod Sweeping
+pub mod Relocating
+pub mod Rooting

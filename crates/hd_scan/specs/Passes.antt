@@ -1,0 +1,96 @@
+-- What a pass does in the slots that it visits: those whose clump is due.
+use Rattle.std.specs.Prelude.{◌≡◌, ℕ, ◌⊎◌, Bool, true, List, Some, option_map, MatchBool}
+use Rattle.hd_model.specs.declared.data.Addr.{Addr}
+use Rattle.hd_model.specs.State.{Handle}
+use Rattle.hd_model.specs.Role.{pins}
+use Rattle.hd_model.specs.Scene.{Objects, Rows, IsYoungField}
+use Rattle.hd_model.specs.Leads.{Grows}
+use Rattle.hd_model.specs.Ages.{is_due}
+use Rattle.hd_model.specs.Collect.{is_lost}
+use Rattle.hd_model.specs.Counting.{Counts}
+use Rattle.hd_model.specs.Table.{Table, row_at}
+use Rattle.hd_model.specs.Visits.{IsSameTable}
+use Rattle.hd_scan.specs.declared.task.Task.{Task}
+use Rattle.hd_scan.specs.Tasks.{is_clearing, takes, swept}
+
+-- a task takes a handle with the target x
+pub record IsTargetBy {N : Type 0} (task : Task) (handle : Handle N) (x : N) : Type 0 where
+  pub takes : takes task handle ≡ true
+  pub target : handle.target ≡ Some x
+
+-- of the targets of one handle, the task pins that of one which it takes and which pins
+pub record PinsBy {N : Type 0} (task : Task) (handle : Handle N) (before after : N → Bool) : Type 0 where
+  pub keeps : (x : N) → before x ≡ true → after x ≡ true
+  pub joins : (x : N) → IsTargetBy task handle x → pins handle ≡ true → after x ≡ true
+  pub only : (x : N) → after x ≡ true
+      → (before x ≡ true) ⊎ (IsTargetBy task handle x × (pins handle ≡ true))
+
+-- a handle that a task takes, in a visited slot, has the target x
+pub record IsTaken {N : Type 0} (rows : Rows N) (ages : List ℕ) (n : ℕ) (task : Task) (x : N) : Type 0 where
+  pub slot : ℕ
+  pub handle : Handle N
+  pub stands : rows slot ≡ Some handle
+  pub due : is_due ages n slot ≡ true
+  pub takes : takes task handle ≡ true
+  pub target : handle.target ≡ Some x
+
+-- a visited slot from whose handle a task promotes
+pub record IsRootAt {N : Type 0} (rows : Rows N) (ages : List ℕ) (n : ℕ) (task : Task) (slot : ℕ)
+    : Type 0 where
+  pub handle : Handle N
+  pub object : N
+  pub stands : rows slot ≡ Some handle
+  pub due : is_due ages n slot ≡ true
+  pub takes : takes task handle ≡ true
+  pub target : handle.target ≡ Some object
+
+-- a visited slot whose handle a clearing task clears
+pub record IsSweptAt {N : Type 0} (rows : Rows N) (ages : List ℕ) (n : ℕ) (task : Task) (p : N → Bool)
+    (slot : ℕ) : Type 0 where
+  pub handle : Handle N
+  pub stands : rows slot ≡ Some handle
+  pub due : is_due ages n slot ≡ true
+  pub takes : takes task handle ≡ true
+  pub lost : is_lost p handle.target ≡ true
+
+-- the rows after a clearing task
+abbrev pub IsSwept : {N : Type 0} → List ℕ → ℕ → Task → (N → Bool) → (before after : Rows N) → Type 0
+IsSwept ages n task p before after =
+    (slot : ℕ) → after slot ≡ option_map (swept (is_due ages n slot) task p) (before slot)
+
+-- x is the target of a handle that a task takes, in a visited slot, and that pins
+pub record IsPinnedBy {N : Type 0} (rows : Rows N) (ages : List ℕ) (n : ℕ) (task : Task) (x : N)
+    : Type 0 where
+  pub taken : IsTaken rows ages n task x
+  pub pins : pins taken.handle ≡ true
+
+-- a task pins the targets of these handles and no others
+pub record Pins {N : Type 0} (rows : Rows N) (ages : List ℕ) (n : ℕ) (task : Task) (before after : N → Bool)
+    : Type 0 where
+  pub keeps : (x : N) → before x ≡ true → after x ≡ true
+  pub joins : (x : N) → IsPinnedBy rows ages n task x → after x ≡ true
+  pub only : (x : N) → after x ≡ true → (before x ≡ true) ⊎ IsPinnedBy rows ages n task x
+
+-- a root task promotes and pins, and leaves the table
+pub record RootPass (o : Objects Addr) (old new : Table) (ages : List ℕ) (n : ℕ) (task : Task)
+    (p q pin pin2 : Addr → Bool) (answer : ℕ) : Type 0 where
+  pub table : new ≡ old
+  pub promotes : Grows (IsYoungField o n) (IsTaken (row_at old) ages n task) p q
+  pub pins : Pins (row_at old) ages n task pin pin2
+  pub count : Counts (IsRootAt (row_at old) ages n task) answer
+
+-- a clearing task nulls targets, and leaves what is promoted and pinned
+pub record ClearPass (old new : Table) (ages : List ℕ) (n : ℕ) (task : Task) (p q pin pin2 : Addr → Bool)
+    (answer : ℕ) : Type 0 where
+  pub table : IsSameTable old new
+  pub promotes : q ≡ p
+  pub pins : pin2 ≡ pin
+  pub swept : IsSwept ages n task p (row_at old) (row_at new)
+  pub count : Counts (IsSweptAt (row_at old) ages n task p) answer
+
+-- what a pass does: p and q are promoted, pin and pin2 pinned before and after it
+abbrev pub Passed : Objects Addr → Table → Table → List ℕ → ℕ → Task → (p q pin pin2 : Addr → Bool) → ℕ
+    → Type 0
+Passed o old new ages n task p q pin pin2 answer =
+    MatchBool (is_clearing task) (ClearPass old new ages n task p q pin pin2 answer)
+    (RootPass o old new ages n task p q pin pin2 answer)

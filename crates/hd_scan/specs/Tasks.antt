@@ -1,0 +1,79 @@
+-- The tasks of a pass: each takes the handles of one kind that have one role.
+use Rattle.std.specs.Prelude.{ℕ, ◌&&◌, ◌==◌, Bool, true, false, cond, None}
+use Rattle.hd_model.specs.declared.data.Kind.{Kind}
+use Rattle.hd_model.specs.declared.data.Kind.TheVariants as kind
+use Rattle.hd_model.specs.State.{Handle}
+use Rattle.hd_model.specs.Kinds.{is_kind}
+use Rattle.hd_model.specs.Role.{Role, holds, short, long, attaches, role}
+use Rattle.hd_model.specs.Collect.{is_lost}
+use Rattle.hd_scan.specs.declared.task.Task.{Task}
+use Rattle.hd_scan.specs.declared.task.Task.TheVariants as task
+use Rattle.hd_scan.specs.declared.task.Role.{Role as Named}
+use Rattle.hd_scan.specs.declared.task.Role.TheVariants as named
+
+-- the kind of handle that a task goes over
+abbrev pub task_kind : Task → Kind
+task_kind task.Strong = kind.Strong
+task_kind task.Pinned = kind.Pinned
+task_kind task.VariableRoots = kind.Variable
+task_kind task.CountedRoots = kind.Counted
+task_kind task.ClearShort = kind.Short
+task_kind task.ClearLong = kind.Long
+task_kind task.ClearVariableShort = kind.Variable
+task_kind task.ClearVariableLong = kind.Variable
+task_kind task.ClearCounted = kind.Counted
+
+-- the role of the handles that it takes: those that hold their target are roots, weak short ones are cleared
+-- before finalisation, weak long ones after it
+abbrev pub task_role : Task → Role
+task_role task.Strong = holds
+task_role task.Pinned = holds
+task_role task.VariableRoots = holds
+task_role task.CountedRoots = holds
+task_role task.ClearShort = short
+task_role task.ClearLong = long
+task_role task.ClearVariableShort = short
+task_role task.ClearVariableLong = long
+task_role task.ClearCounted = long
+
+-- whether a task clears handles, where the others promote their targets
+abbrev pub is_clearing : Task → Bool
+is_clearing task.Strong = false
+is_clearing task.Pinned = false
+is_clearing task.VariableRoots = false
+is_clearing task.CountedRoots = false
+is_clearing task.ClearShort = true
+is_clearing task.ClearLong = true
+is_clearing task.ClearVariableShort = true
+is_clearing task.ClearVariableLong = true
+is_clearing task.ClearCounted = true
+
+-- the number of a role, and whether two roles are the same one
+abbrev pub role_number : Role → ℕ
+role_number holds = 0
+role_number short = 1
+role_number long = 2
+role_number attaches = 3
+
+abbrev pub is_role : Role → Role → Bool
+is_role a b = role_number a == role_number b
+
+-- a role, by its name in the code
+abbrev pub role_from : Named → Role
+role_from named.Holds = holds
+role_from named.Short = short
+role_from named.Long = long
+role_from named.Attaches = attaches
+
+-- whether a task takes a handle
+abbrev pub takes : {N : Type 0} → Task → Handle N → Bool
+takes t h = is_kind (task_kind t) h.kind && is_role (task_role t) (role h)
+
+-- a handle after a clearing task, which visits its slot or does not: its target is null where the task takes
+-- it and the target is not promoted
+abbrev pub swept : {N : Type 0} → Bool → Task → (N → Bool) → Handle N → Handle N
+swept due t p h = record {
+  kind = h.kind;
+  target = cond (takes t h && (due && is_lost p h.target)) None h.target;
+  extra = h.extra;
+}

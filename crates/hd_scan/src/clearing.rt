@@ -1,0 +1,83 @@
+ghost use Rattle.std.specs.Prelude.{◌≡◌, ◌+◌, ◌*◌, ◌&&◌, ◌≤◌, length, IsSome, true};
+ghost use Rattle.std.specs.Option.{ForSome};
+ghost use Rattle.std.specs.FinMap.{get};
+ghost use Rattle.hd_model.specs.Heap.{objects_of};
+ghost use Rattle.hd_model.specs.Scene.{is_object};
+ghost use Rattle.hd_model.specs.Table.{live_at, row_at};
+ghost use Rattle.hd_model.specs.Names.{NamesObjects};
+ghost use Rattle.hd_model.specs.Visits.{visits_of};
+ghost use Rattle.hd_model.specs.Ages.{HasSoundAges};
+ghost use Rattle.hd_model.specs.Collect.{is_lost};
+ghost use Rattle.hd_seg.specs.Rewriting.{Rewrites};
+ghost use Rattle.hd_scan.specs.Tasks.{task_kind, takes, swept};
+ghost use Rattle.hd_scan.specs.Passes.{ClearPass};
+ghost use Rattle.hd_scan.specs.Whole.{WholeClear};
+
+use crate::task::Task;
+use hd_ages::{AgeMap, DueRows};
+use hd_model::{Addr, Marker, Slot, Steps};
+use hd_seg::Seg;
+use std::sync::ledger::Ledger;
+
+/// Clears the handles that a clearing task takes, where their target is not promoted. The answer is
+/// their number.
+pub fn clear<M: Marker, L: Ledger>(
+    seg: &mut Seg,
+    ages: &AgeMap,
+    task: Task,
+    marker: &M,
+    n: u8,
+    steps: &mut Steps<L>,
+) -> u32
+    requires settled { M.settled marker.now }
+    requires generation { (M.basis marker.now).condemned ≡ n }
+    requires names { NamesObjects (objects_of (M.basis marker.now)) (row_at seg.old) }
+    requires blocks { length ages.now ≡ 4 * seg.old.blocks }
+    ensures passed { ClearPass seg.old seg.new ages.now n task (M.promoted marker.now)
+        (M.promoted marker.now) (M.pinned marker.now) (M.pinned marker.now) result }
+    ensures steps { steps.new ≡ steps.old + visits_of seg.old ages.now n (task_kind task) }
+    ensures few { result ≤ 16384 }
+    ensures whole { HasSoundAges (objects_of (M.basis marker.now)) (row_at seg.old) ages.now →
+        WholeClear (row_at seg.old) (row_at seg.new) task (M.promoted marker.now) result }
+{
+    let mut cleared = 0;
+    let mut rows = DueRows::start(seg, ages, task.kind(), n);
+    while let Some(slot) = rows.next(seg, ages, steps) {
+        cleared += u32::from(clear_row(seg, slot, task, marker));
+    }
+    cleared
+}
+
+/// Clears a handle of the task's kind, if the task takes it and its target is not promoted.
+fn clear_row<M: Marker>(seg: &mut Seg, slot: Slot, task: Task, marker: &M) -> bool
+    requires live { IsSome (get seg.old.rows slot.0) }
+    requires of_kind { (live_at seg.old slot.0).kind ≡ task_kind task }
+    requires settled { M.settled marker.now }
+    requires object { ForSome (live_at seg.old slot.0).target
+        (λ x. is_object (objects_of (M.basis marker.now)) x ≡ true) }
+    ensures row { let handle = live_at seg.old slot.0 in
+        Rewrites slot.0 (swept true task (M.promoted marker.now) handle) seg.old seg.new }
+    ensures lost { let handle = live_at seg.old slot.0 in
+        result ≡ (takes task handle && is_lost (M.promoted marker.now) handle.target) }
+{
+    let Some(row) = seg.row(slot) else {
+        return false;
+    };
+    let lost = task.takes(row.extra) && is_lost(row.target, marker);
+    if lost {
+        seg.set_row(slot, None);
+    }
+    lost
+}
+
+/// Whether a target is not promoted. Null is not lost.
+fn is_lost<M: Marker>(target: Option<Addr>, marker: &M) -> bool
+    requires settled { M.settled marker.now }
+    requires object { ForSome target (λ x. is_object (objects_of (M.basis marker.now)) x ≡ true) }
+    ensures { result ≡ is_lost (M.promoted marker.now) target }
+{
+    match target {
+        Some(at) => !marker.promoted(at),
+        None => false,
+    }
+}

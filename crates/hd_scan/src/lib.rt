@@ -1,0 +1,18 @@
+//! A pass of a collection over the handles of one kind: what holds its target promotes it, what is
+//! weak loses a target that is not promoted, and what names a moved object gets its new place.
+//!
+//! A pass visits the clumps whose age is at most the collected generation, one step each. What else
+//! there is names older objects alone, which are kept where they are.
+#![tactic(auto)]
+
+mod clearing;
+mod passes;
+mod relocation;
+mod roots;
+mod task;
+#[cfg(test)]
+mod tests;
+
+pub use passes::pass;
+pub use relocation::relocate;
+pub use task::Task;

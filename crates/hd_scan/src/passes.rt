@@ -1,0 +1,57 @@
+ghost use Rattle.std.specs.Prelude.{◌≡◌, ◌+◌, ◌*◌, ◌≤◌, length};
+ghost use Rattle.hd_model.specs.Heap.{objects_of};
+ghost use Rattle.hd_model.specs.Table.{row_at};
+ghost use Rattle.hd_model.specs.Names.{NamesObjects};
+ghost use Rattle.hd_model.specs.Visits.{visits_of};
+ghost use Rattle.hd_model.specs.Ages.{HasSoundAges};
+ghost use Rattle.hd_scan.specs.Tasks.{task_kind};
+ghost use Rattle.hd_scan.specs.Passes.{Passed};
+ghost use Rattle.hd_scan.specs.Whole.{WholePass};
+
+use crate::clearing::clear;
+use crate::roots::promote;
+use crate::task::Task;
+use hd_ages::AgeMap;
+use hd_model::{Marker, Steps};
+use hd_seg::Seg;
+use std::sync::ledger::Ledger;
+
+/// One task of a collection of generation `n`, over the clumps of the task's kind that are due. Each
+/// of them is one step. The answer is the number of visited handles from which it promoted, or which
+/// it cleared.
+///
+/// A handle that holds its target is a root, as a `GCHandle` of type `Normal` or `Pinned` is. A weak
+/// one of type `Weak` is cleared by what is promoted before finalisation, one of type
+/// `WeakTrackResurrection` by what is promoted after it.
+pub fn pass<M: Marker, L: Ledger>(
+    seg: &mut Seg,
+    ages: &AgeMap,
+    task: Task,
+    marker: &mut M,
+    n: u8,
+    steps: &mut Steps<L>,
+) -> u32
+    requires settled { M.settled marker.old }
+    requires generation { (M.basis marker.old).condemned ≡ n }
+    requires names { NamesObjects (objects_of (M.basis marker.old)) (row_at seg.old) }
+    requires blocks { length ages.now ≡ 4 * seg.old.blocks }
+    ensures settled { M.settled marker.new }
+    ensures basis { M.basis marker.new ≡ M.basis marker.old }
+    ensures passed { Passed (objects_of (M.basis marker.old)) seg.old seg.new ages.now n task
+        (M.promoted marker.old) (M.promoted marker.new) (M.pinned marker.old)
+        (M.pinned marker.new) result }
+    ensures steps { steps.new ≡ steps.old + visits_of seg.old ages.now n (task_kind task) }
+    ensures few { result ≤ 16384 }
+
+    // Where the ages are sound, it is as if the task had looked at all rows.
+    ensures whole { HasSoundAges (objects_of (M.basis marker.old)) (row_at seg.old) ages.now →
+        WholePass (objects_of (M.basis marker.old)) (row_at seg.old) (row_at seg.new) n task
+        (M.promoted marker.old) (M.promoted marker.new) (M.pinned marker.old)
+        (M.pinned marker.new) result }
+{
+    if task.clears() {
+        clear(seg, ages, task, marker, n, steps)
+    } else {
+        promote(seg, ages, task, marker, n, steps)
+    }
+}

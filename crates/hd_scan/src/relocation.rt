@@ -1,0 +1,86 @@
+ghost use Rattle.std.specs.Prelude.{◌≡◌, ◌+◌, ◌*◌, length, option_map, IsSome, true};
+ghost use Rattle.std.specs.Option.{ForSome};
+ghost use Rattle.std.specs.FinMap.{get};
+ghost use Rattle.hd_model.specs.State.{rename_extra, secondary_of};
+ghost use Rattle.hd_model.specs.Heap.{objects_of};
+ghost use Rattle.hd_model.specs.Table.{live_at, row_at};
+ghost use Rattle.hd_model.specs.Visits.{IsSameTable, visits_of};
+ghost use Rattle.hd_model.specs.Ages.{HasSoundAges};
+ghost use Rattle.hd_seg.specs.Row.{extra_of};
+ghost use Rattle.hd_seg.specs.Rewriting.{Rewrites};
+ghost use Rattle.hd_scan.specs.Relocation.{CanRelocate, KeepsNames, Relocates, RelocatesAll, relocated};
+
+use hd_ages::{AgeMap, DueRows};
+use hd_model::{Addr, Forward, Kind, Slot, Steps};
+use hd_seg::{Extra, Row, Seg, rewrite_row};
+use std::sync::ledger::Ledger;
+
+/// Gives the rows of a kind the new places of what they name, in the clumps that a collection of
+/// generation `n` visits. Each of them is one step.
+pub fn relocate<F: Forward, L: Ledger>(
+    seg: &mut Seg,
+    ages: &AgeMap,
+    kind: Kind,
+    forward: &F,
+    n: u8,
+    steps: &mut Steps<L>,
+)
+    requires laid { F.laid forward.now }
+    requires kept { CanRelocate (F.kept forward.now) ages.now n kind seg.old }
+    requires blocks { length ages.now ≡ 4 * seg.old.blocks }
+    ensures relocates { Relocates (F.place forward.now) ages.now n kind seg.old seg.new }
+    ensures table { IsSameTable seg.old seg.new }
+    ensures steps { steps.new ≡ steps.old + visits_of seg.old ages.now n kind }
+
+    // Where the ages are sound, no other row of the kind names what moves.
+    ensures whole { (F.basis forward.now).condemned ≡ n →
+        HasSoundAges (objects_of (F.basis forward.now)) (row_at seg.old) ages.now →
+        RelocatesAll (F.place forward.now) kind seg.old seg.new }
+{
+    let mut rows = DueRows::start(seg, ages, kind, n);
+    while let Some(slot) = rows.next(seg, ages, steps) {
+        relocate_row(seg, slot, forward);
+    }
+}
+
+/// Gives a row the new places of what it names.
+fn relocate_row<F: Forward>(seg: &mut Seg, slot: Slot, forward: &F)
+    requires live { IsSome (get seg.old.rows slot.0) }
+    requires laid { F.laid forward.now }
+    requires kept { KeepsNames (F.kept forward.now) (live_at seg.old slot.0) }
+    ensures { let handle = live_at seg.old slot.0 in
+        Rewrites slot.0 (relocated true (F.place forward.now) handle) seg.old seg.new }
+{
+    let Some(row) = seg.row(slot) else {
+        return;
+    };
+    let moved = Row {
+        target: moved_name(row.target, forward),
+        extra: moved_extra(row.extra, forward),
+    };
+    rewrite_row(seg, slot, moved);
+}
+
+/// An extra with the new place of its secondary, if it has one.
+fn moved_extra<F: Forward>(extra: Extra, forward: &F) -> Extra
+    requires laid { F.laid forward.now }
+    requires kept { ForSome (secondary_of (extra_of extra)) (λ x. F.kept forward.now x ≡ true) }
+    ensures { extra_of result ≡ rename_extra (F.place forward.now) (extra_of extra) }
+{
+    match extra {
+        Extra::Secondary(secondary) => Extra::Secondary(moved_name(secondary, forward)),
+        Extra::Nothing | Extra::Strength(_) | Extra::Count(_) => extra,
+    }
+}
+
+/// The new place of what a name names, or null.
+fn moved_name<F: Forward>(name: Option<Addr>, forward: &F) -> Option<Addr>
+    requires laid { F.laid forward.now }
+    requires kept { ForSome name (λ x. F.kept forward.now x ≡ true) }
+    ensures { result ≡ option_map (F.place forward.now) name }
+{
+    match name {
+        Some(at) => Some(forward.moved(at)),
+        None => None,
+    }
+}

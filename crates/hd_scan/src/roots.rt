@@ -1,0 +1,85 @@
+ghost use Rattle.std.specs.Prelude.{◌≡◌, ◌+◌, ◌*◌, ◌&&◌, ◌≤◌, length, is_some, IsSome};
+ghost use Rattle.std.specs.FinMap.{get};
+ghost use Rattle.hd_model.specs.Heap.{objects_of};
+ghost use Rattle.hd_model.specs.Leads.{Grows};
+ghost use Rattle.hd_model.specs.Scene.{IsYoungField};
+ghost use Rattle.hd_model.specs.Table.{live_at, row_at};
+ghost use Rattle.hd_model.specs.Names.{NamesObjects};
+ghost use Rattle.hd_model.specs.Visits.{visits_of};
+ghost use Rattle.hd_model.specs.Ages.{HasSoundAges};
+ghost use Rattle.hd_scan.specs.Tasks.{task_kind, takes};
+ghost use Rattle.hd_scan.specs.Passes.{IsTargetBy, PinsBy, RootPass};
+ghost use Rattle.hd_scan.specs.Whole.{WholeRoots};
+
+use crate::task::{Task, pins};
+use hd_ages::{AgeMap, DueRows};
+use hd_model::{Marker, Slot, Steps};
+use hd_seg::Seg;
+use std::sync::ledger::Ledger;
+
+/// Promotes the targets of the handles that a root task takes, and pins those of the ones that pin.
+/// The answer is the number of these handles that have a target.
+pub fn promote<M: Marker, L: Ledger>(
+    seg: &Seg,
+    ages: &AgeMap,
+    task: Task,
+    marker: &mut M,
+    n: u8,
+    steps: &mut Steps<L>,
+) -> u32
+    requires settled { M.settled marker.old }
+    requires generation { (M.basis marker.old).condemned ≡ n }
+    requires names { NamesObjects (objects_of (M.basis marker.old)) (row_at seg.now) }
+    requires blocks { length ages.now ≡ 4 * seg.now.blocks }
+    ensures settled { M.settled marker.new }
+    ensures basis { M.basis marker.new ≡ M.basis marker.old }
+    ensures passed { RootPass (objects_of (M.basis marker.old)) seg.now seg.now ages.now n task
+        (M.promoted marker.old) (M.promoted marker.new) (M.pinned marker.old)
+        (M.pinned marker.new) result }
+    ensures steps { steps.new ≡ steps.old + visits_of seg.now ages.now n (task_kind task) }
+    ensures few { result ≤ 16384 }
+    ensures whole { HasSoundAges (objects_of (M.basis marker.old)) (row_at seg.now) ages.now →
+        WholeRoots (objects_of (M.basis marker.old)) (row_at seg.now) n task
+        (M.promoted marker.old) (M.promoted marker.new) (M.pinned marker.old)
+        (M.pinned marker.new) }
+{
+    let mut held = 0;
+    let mut rows = DueRows::start(seg, ages, task.kind(), n);
+    while let Some(slot) = rows.next(seg, ages, steps) {
+        held += u32::from(promote_row(seg, slot, task, marker));
+    }
+    held
+}
+
+/// Promotes the target of a handle of the task's kind, if the task takes it and it has one, and pins
+/// it if the handle pins.
+fn promote_row<M: Marker>(seg: &Seg, slot: Slot, task: Task, marker: &mut M) -> bool
+    requires live { IsSome (get seg.now.rows slot.0) }
+    requires of_kind { (live_at seg.now slot.0).kind ≡ task_kind task }
+    requires settled { M.settled marker.old }
+    requires names { NamesObjects (objects_of (M.basis marker.old)) (row_at seg.now) }
+    ensures settled { M.settled marker.new }
+    ensures basis { M.basis marker.new ≡ M.basis marker.old }
+    ensures promotes { let basis = M.basis marker.old in
+        Grows (IsYoungField (objects_of basis) basis.condemned)
+        (IsTargetBy task (live_at seg.now slot.0)) (M.promoted marker.old) (M.promoted marker.new) }
+    ensures pins { PinsBy task (live_at seg.now slot.0) (M.pinned marker.old)
+        (M.pinned marker.new) }
+    ensures answer { let handle = live_at seg.now slot.0 in
+        result ≡ (takes task handle && is_some handle.target) }
+{
+    let Some(row) = seg.row(slot) else {
+        return false;
+    };
+    let Some(at) = row.target else {
+        return false;
+    };
+    if !task.takes(row.extra) {
+        return false;
+    }
+    marker.promote(at);
+    if pins(task.kind(), row.extra) {
+        marker.pin(at);
+    }
+    true
+}

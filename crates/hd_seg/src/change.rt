@@ -1,0 +1,19 @@
+ghost use Rattle.std.specs.Prelude.{◌≡◌, true, IsSome};
+ghost use Rattle.std.specs.FinMap.{get};
+ghost use Rattle.hd_model.specs.Table.{fits, live_at};
+ghost use Rattle.hd_seg.specs.Row.{extra_of, handle_of};
+ghost use Rattle.hd_seg.specs.Rewriting.{Rewrites};
+
+use crate::row::Row;
+use crate::seg::Seg;
+use hd_model::Slot;
+
+/// Gives a live row another target and another extra.
+pub fn rewrite_row(seg: &mut Seg, slot: Slot, row: Row)
+    requires live { IsSome (get seg.old.rows slot.0) }
+    requires fitting { fits (live_at seg.old slot.0).kind (extra_of row.extra) ≡ true }
+    ensures { Rewrites slot.0 (handle_of (live_at seg.old slot.0).kind row) seg.old seg.new }
+{
+    seg.set_row(slot, row.target);
+    seg.set_extra(slot, row.extra);
+}
