@@ -206,7 +206,7 @@ impl<W: Held> Custody<W> {
             return left;
         };
         let slot = 64 * block as u64 + next as u64;
-        if self.bank(place, reserved(kind, i), slot) != 0 {
+        if !self.bank(place, reserved(kind, i), slot) {
             return left;
         }
         left ^ bit(next)
