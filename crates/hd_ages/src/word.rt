@@ -32,6 +32,7 @@ pub(crate) fn age(word: u8, clump: u32) -> u8
 }
 
 /// The word after the age of a clump was lowered to `g`, where it was above.
+#[tactic(auto, using(crate::proofs::Words::lows))]
 pub(crate) fn lower(word: u8, clump: u32, g: u8) -> u8
     requires word { IsWord word }
     requires clump { clump < 4 }
@@ -46,6 +47,7 @@ pub(crate) fn lower(word: u8, clump: u32, g: u8) -> u8
 }
 
 /// A bit for each clump that is of age `n` or less.
+#[tactic(auto, using(crate::proofs::Words::dues))]
 pub(crate) fn due(word: u8, n: u8) -> u8
     requires { IsWord word }
     ensures bits { (clump : ℕ) → clump < 4 →
@@ -60,6 +62,7 @@ pub(crate) fn due(word: u8, n: u8) -> u8
 }
 
 /// The word in which each age up to `n` is raised by one, at most to 2.
+#[tactic(auto, using(crate::proofs::Words::grows))]
 pub(crate) fn grow(word: u8, n: u8) -> u8
     requires { IsWord word }
     ensures ages { ages_in result ≡ grown n (ages_in word) }
