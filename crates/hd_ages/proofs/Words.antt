@@ -293,3 +293,9 @@ module _ (w : ℕ) (is : IsWord w) where
       (let b : HasBits w c = bits_of w is c lt in omega (arith, b.one, b.two)) in
       each_clump (λ c. ages_in w ≡ set (ages_in w) c (age_in w c)) refl refl refl refl c lt
       ∙ ap (set (ages_in w) c) (sym keeps)
+
+pub ruleset dues = (due-none, due-one, due-all)
+
+pub ruleset lows = (ages-low_zero, word-low_zero, ages-low_one, word-low_one, ages-same)
+
+pub ruleset grows = (ages-grown_none, word-grown_none, ages-grown_some, word-grown_some)

@@ -7,23 +7,23 @@ ghost use Rattle.hd_ages.specs.Word.{IsWord, age_in, ages_in};
 ghost use Rattle.hd_model.specs.Ages.{grown};
 
 /// The word of four ages of 2.
-pub const OLDEST: u8 = 0xff;
+pub(crate) const OLDEST: u8 = 0xff;
 
-/// The bits that say that a clump is of age 1 or more.
+// The bits that say that a clump is of age 1 or more.
 const SOME: u8 = 0x0f;
 
-/// From the bit that says that a clump is of age 1 or more to the one that says that it is of age
-/// 2.
+// From the bit that says that a clump is of age 1 or more to the one that says that it is of age
+// 2.
 const TWO: u32 = 4;
 
-/// The bits of the age of clump 0.
+// The bits of the age of clump 0.
 const AGE: u8 = 0x11;
 
-/// The bit that says that clump 0 is of age 2.
+// The bit that says that clump 0 is of age 2.
 const OLD: u8 = 0x10;
 
 /// The age of a clump.
-pub fn age(word: u8, clump: u32) -> u8
+pub(crate) fn age(word: u8, clump: u32) -> u8
     requires { clump < 4 }
     ensures value { result ≡ age_in word clump }
     ensures small { result ≤ 2 }
@@ -32,7 +32,8 @@ pub fn age(word: u8, clump: u32) -> u8
 }
 
 /// The word after the age of a clump was lowered to `g`, where it was above.
-pub fn lower(word: u8, clump: u32, g: u8) -> u8
+#[tactic(auto, using(crate::proofs::Words::lows))]
+pub(crate) fn lower(word: u8, clump: u32, g: u8) -> u8
     requires word { IsWord word }
     requires clump { clump < 4 }
     ensures ages { ages_in result ≡ slice_set (ages_in word) clump (min (age_in word clump) g) }
@@ -46,7 +47,8 @@ pub fn lower(word: u8, clump: u32, g: u8) -> u8
 }
 
 /// A bit for each clump that is of age `n` or less.
-pub fn due(word: u8, n: u8) -> u8
+#[tactic(auto, using(crate::proofs::Words::dues))]
+pub(crate) fn due(word: u8, n: u8) -> u8
     requires { IsWord word }
     ensures bits { (clump : ℕ) → clump < 4 →
         bit_at result clump ≡ cond (nat_le (age_in word clump) n) 1 0 }
@@ -60,7 +62,8 @@ pub fn due(word: u8, n: u8) -> u8
 }
 
 /// The word in which each age up to `n` is raised by one, at most to 2.
-pub fn grow(word: u8, n: u8) -> u8
+#[tactic(auto, using(crate::proofs::Words::grows))]
+pub(crate) fn grow(word: u8, n: u8) -> u8
     requires { IsWord word }
     ensures ages { ages_in result ≡ grown n (ages_in word) }
     ensures after { IsWord result }

@@ -60,6 +60,7 @@ pub(crate) fn shape(fields: u64, registered: bool) -> u64
 }
 
 /// How many cells are taken by the object or gap that begins at `at`.
+#[tactic(auto, unfolding(crate::specs::Cells::extent_at))]
 pub(crate) fn extent(cells: &[u64; CELLS], at: usize) -> usize
     requires { at + 1 < 256 }
     ensures { result ≡ extent_at cells.now at }

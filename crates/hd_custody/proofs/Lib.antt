@@ -13,9 +13,11 @@ pub mod Seated
 pub mod Canon
 pub mod Phases
 pub mod Numbered
+pub mod Misses
 pub mod Probing
 pub mod Sweeping
 pub mod Bounds
 pub mod Shown
 pub mod Ends
 pub mod Left
+pub mod Once

@@ -1,6 +1,7 @@
 -- A call, step by step: the phase that each step leads to, and the hand that it leaves.
 use Rattle.std.proofs.Common.{◌≡◌, ◌≢◌, ℕ, zero, suc, ◌+◌, ◌-◌, ◌<◌, ◌≤◌, ◌==◌, Bool, true, false, cond, bit_or, List, [], ◌∷◌, ◌++◌, Option, ap, refl, ◌∙◌, eq-eqb, ne_eqb, arith}
 use Rattle.std.specs.Prelude.{◌&&◌, nat_lt}
+use Rattle.std.specs.Bool.{OnTrue, OnFalse}
 use Rattle.std.proofs.lemmas.Bool.{lt-ltb, le-ltb}
 use Rattle.atomic_table.specs.Table.{Me}
 use Rattle.hd_custody.specs.declared.view.View.{View}
@@ -22,6 +23,14 @@ when false x y e = cc
 pub unless : {A : Type 0} (b : Bool) (x y : A) → b ≡ false → cond b x y ≡ y
 unless true x y e = cc
 unless false x y e = refl
+
+pub if_true : (b : Bool) (P : Type 0) → b ≡ true → OnTrue b P → P
+if_true true P e h = h
+if_true false P e h = cc
+
+pub if_false : (b : Bool) (P : Type 0) → b ≡ false → OnFalse b P → P
+if_false true P e h = cc
+if_false false P e h = h
 
 pub zero_is : {A : Type 0} (n : ℕ) (x y : A) → n ≡ 0 → cond (n == 0) x y ≡ x
 zero_is n x y e = when (n == 0) x y (eq-eqb n 0 e)

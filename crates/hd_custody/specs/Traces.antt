@@ -130,8 +130,3 @@ module _ (k blocks : ℕ) where
 abbrev pub ending : Option ℕ → Phase
 ending (Some x) = found x
 ending None = missed
-
--- A whole Miss of the kind k: every quick word and cell of it gave 0, the kind word of each block was loaded,
--- and each mask whose block was then of the kind gave 0, or the kind word loaded after it was another.
-abbrev pub WholeMiss : ℕ → ℕ → List Did → Type 0
-WholeMiss k blocks trace = follow k blocks (probe 0) trace ≡ missed

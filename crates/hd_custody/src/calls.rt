@@ -6,7 +6,8 @@ ghost use Rattle.hd_model.specs.Kinds.{kind_number};
 ghost use Rattle.hd_custody.specs.Counts.{in_hand, HasAs, Has, with_slot, without, rows};
 ghost use Rattle.hd_custody.specs.Views.{Kinded, Fresh, KindIs};
 ghost use Rattle.hd_custody.specs.Traces.{probe, look, sweep, push, found, missed, to_look, to_bank, to_sweep, to_push, to_look_whole};
-ghost use Rattle.hd_custody.specs.Traces.{every_row, look_whole, back_part, WholeMiss};
+ghost use Rattle.hd_custody.specs.Traces.{every_row, look_whole, back_part};
+ghost use Rattle.hd_custody.specs.Misses.{WholeMiss, FoundNone};
 ghost use Rattle.hd_custody.specs.Calls.{held, Apart, At, Made, Began, told, slot_number, Allocates, Releases, Gathers, Offers, with_block, swept_to, drained_to};
 
 use crate::rule::Place;
@@ -28,6 +29,8 @@ impl<W: Held> Custody<W> {
         ensures done { Allocates (kind_number kind) self.now.blocks (slot_number result)
             seat.old.view seat.new.view }
         ensures none { IsNone result ↔ WholeMiss (kind_number kind) self.now.blocks
+            seat.new.view.trace }
+        ensures each_word { IsNone result → FoundNone (kind_number kind) self.now.blocks
             seat.new.view.trace }
         ensures fresh { IfSome result (λ slot. Fresh W.Held seat.old.view slot.0) }
         ensures kind { IfSome result (λ slot. KindIs W.Held seat.old.view (slot.0 / 64)
@@ -203,7 +206,7 @@ impl<W: Held> Custody<W> {
             return left;
         };
         let slot = 64 * block as u64 + next as u64;
-        if self.bank(place, reserved(kind, i), slot) != 0 {
+        if !self.bank(place, reserved(kind, i), slot) {
             return left;
         }
         left ^ bit(next)

@@ -1,6 +1,7 @@
 //! Opening and closing, seats, the gate, and what its holder may do.
 ghost use Rattle.std.specs.Prelude.{◌≡◌, ◌≢◌, ℕ, ◌+◌, ◌*◌, ◌<◌, ◌≤◌, true, false, [], ◌∷◌, length, replicate};
 ghost use Rattle.std.specs.Prelude.{IfOk, IfSome, OnSome, IfNone, Some};
+ghost use Rattle.std.specs.Bool.{OnTrue, OnFalse};
 ghost use Rattle.hd_model.specs.Kinds.{kind_number, is_paired};
 ghost use Rattle.hd_custody.specs.Counts.{in_hand, changed, Has};
 ghost use Rattle.hd_custody.specs.Views.{starting, shared_out, given, joined, took, opened, closed, granted, gave_back, with_data};
@@ -126,6 +127,20 @@ impl<W: Held> Custody<W> {
         home(table, place)
     }
 
+    // An exchange of the gate word with 1: whether the gate was free, and is this seat's now.
+    fn win(&self, place: &mut Place<W>) -> bool
+        requires seat { (place.old.table_id ≡ self.now.table) × (place.old.me.0.is_spent ≡ false) }
+        ensures table { place.new.table_id ≡ place.old.table_id }
+        ensures won { OnTrue result ((w : W)
+            × (place.new.me ≡ (took w place.old.me.0, (0, Some w) ∷ place.old.me.1))
+            × Entered W.Held place.old.me.0 w) }
+        ensures lost { OnFalse result (place.new.me ≡ place.old.me) }
+    {
+        let shared = &self.table.shared;
+        let _blocks = self.blocks;
+        shared.swap::<Enter>(place, 0, 1) == 0
+    }
+
     // The world, where the gate was free.
     fn try_enter(&self, seat: &mut Seat<W>) -> Option<W>
         requires seat { seat.old.table ≡ self.now.table }
@@ -137,8 +152,7 @@ impl<W: Held> Custody<W> {
         }) }
         ensures entered { IfSome result (Entered W.Held seat.old.view) }
     {
-        let _blocks = self.blocks;
-        if self.table.shared.swap::<Enter>(&mut seat.place, 0, 1) != 0 {
+        if !self.win(&mut seat.place) {
             return None;
         }
         self.table.shared.exchange(&mut seat.place, 0, None)

@@ -8,6 +8,7 @@
 
 mod calls;
 mod gate;
+mod laws;
 mod plays;
 mod rule;
 mod steps;
@@ -17,5 +18,6 @@ mod types;
 mod view;
 mod words;
 
+pub use laws::slots_stand_once;
 pub use types::{Custody, Seat};
 pub use view::{Limits, View};

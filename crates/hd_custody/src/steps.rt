@@ -1,5 +1,6 @@
 //! The single steps on the words, each by a seat whose view says what it may do.
 ghost use Rattle.std.specs.Prelude.{◌≡◌, ◌≢◌, ℕ, ◌+◌, ◌-◌, ◌*◌, ◌/◌, ◌<◌, ◌≤◌, false};
+ghost use Rattle.std.specs.Bool.{OnTrue, OnFalse};
 ghost use Rattle.std.specs.Int.{bit_at};
 ghost use Rattle.hd_custody.specs.Counts.{kind_at, Has, HasAs};
 ghost use Rattle.hd_custody.specs.Views.{begun, swapped, banked, looked, drained, restored, put_in, Fresh, KindIs};
@@ -41,18 +42,22 @@ impl<W: Held> Custody<W> {
         self.table.shared.swap::<Exchange>(place, word, new)
     }
 
-    // A compare-exchange of a cell from 0 to a slot.
-    pub(crate) fn bank(&self, place: &mut Place<W>, word: usize, new: u64) -> u64
+    // A compare-exchange of a cell from 0 to a slot: whether the cell has it now.
+    pub(crate) fn bank(&self, place: &mut Place<W>, word: usize, new: u64) -> bool
         requires seat { (place.old.table_id ≡ self.now.table) × (place.old.me.0.is_spent ≡ false) }
         requires cell { (513 ≤ word) × (word < 1402) }
         requires slot { new ≢ 0 → HasAs (new, kind_at word + 1) place.old.me.0.hand }
         ensures table { place.new.table_id ≡ place.old.table_id }
-        ensures view { place.new.me ≡ (banked word result new place.old.me.0, place.old.me.1) }
+        ensures won { OnTrue result (place.new.me ≡ (
+          banked word 0 new place.old.me.0,
+          place.old.me.1,
+        )) }
+        ensures lost { OnFalse result ((there : ℕ) × (there ≢ 0)
+            × (place.new.me ≡ (banked word there new place.old.me.0, place.old.me.1))) }
     {
+        let shared = &self.table.shared;
         let _blocks = self.blocks;
-        self.table
-            .shared
-            .compare_exchange::<Bank>(place, word, 0, new)
+        shared.compare_exchange::<Bank>(place, word, 0, new) == 0
     }
 
     // A load of the kind word of a block, whose slots in the hand then have that kind.

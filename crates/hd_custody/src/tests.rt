@@ -141,6 +141,17 @@ fn word(custody: &Custody<Blocks>, number: usize) -> u64
 }
 
 #[test]
+fn a_slot_is_taken_and_given_back(rt: HostRuntime) -> Result<(), Fail> {
+    let (custody, mut seat) = open(rt.alloc(), 1)?;
+    assert!(rt; grow(&rt, &custody, &mut seat, Kind::Strong, 1));
+    let slot = custody.allocate(&mut seat, Kind::Strong).ok_or("no slot")?;
+    assert_eq!(rt; slot, Slot(65));
+    custody.release(&mut seat, Kind::Strong, slot);
+    assert!(rt; custody.allocate(&mut seat, Kind::Strong) == Some(slot));
+    Ok(())
+}
+
+#[test]
 fn the_other_rows_go_into_reserve_cells(rt: HostRuntime) -> Result<(), Fail> {
     let (custody, mut seat) = open(rt.alloc(), 1)?;
     assert!(rt; grow(&rt, &custody, &mut seat, Kind::Strong, 1));

@@ -1,6 +1,6 @@
 ghost use Rattle.std.specs.Prelude.{◌≡◌, ◌<◌, ◌≤◌, length, IfOk};
 ghost use Rattle.std.specs.Bool.{OnTrue};
-ghost use Rattle.hd_model.specs.Valid.{IsValid};
+ghost use Rattle.hd_model.specs.Valid.{IsValid, IsValidMake};
 
 use super::Alone;
 use hd_model::limits::BLOCKS;
@@ -41,13 +41,28 @@ const STRONG: Line = (
 
 const TRIM_STRONG: Cmd = Cmd::Trim { kind: Kind::Strong };
 
+// Whether the register that a new handle's secondary comes from is one that a caller has.
+fn is_valid_make(make: Make) -> bool
+    ensures { OnTrue result (IsValidMake make) }
+{
+    match make {
+        Make::Dependent(s) => s < 16,
+        Make::Short
+        | Make::Long
+        | Make::Strong
+        | Make::Pinned
+        | Make::Variable(_)
+        | Make::Counted => true,
+    }
+}
+
 // Whether a command is one that these tests use, with registers that a caller has.
 fn is_valid(cmd: Cmd) -> bool
     ensures { OnTrue result (IsValid cmd) }
 {
     match cmd {
         Cmd::New { d, fields, .. } => d < 16 && fields <= 61,
-        Cmd::HNew { d, make, t } => d < 16 && t < 16 && !matches!(make, Make::Dependent(_)),
+        Cmd::HNew { d, make, t } => d < 16 && is_valid_make(make) && t < 16,
         Cmd::HGet { d, s } => d < 16 && s < 16,
         Cmd::HFree { s } => s < 16,
         Cmd::HPut { k, s } => k < 16 && s < 16,
@@ -86,7 +101,18 @@ fn a_table_of_one_block_is_full_at_the_65th_handle(rt: HostRuntime) -> Result<()
     lines[64].1 = Reply::Refused(Refusal::TableFull { given: 1 });
     let mut alone = open(rt.alloc(), 1, 65)?;
     play(&rt, &mut alone, &lines)?;
-    let _world = alone.finish();
+    let world = alone.finish();
+    assert_eq!(rt; (world.live(), world.objects()), (64, 0));
+    Ok(())
+}
+
+#[test]
+fn a_dependent_handle_finds_a_table_of_one_block_full(rt: HostRuntime) -> Result<(), Fail> {
+    let full = Reply::Refused(Refusal::TableFull { given: 0 });
+    let mut alone = open(rt.alloc(), 1, 1)?;
+    play(&rt, &mut alone, &[(hnew(0, Make::Dependent(1), 0), full)])?;
+    let world = alone.finish();
+    assert_eq!(rt; world.live(), 0);
     Ok(())
 }
 

@@ -11,6 +11,9 @@ use std::marker::Model;
 // The numbers of one mask.
 const BITS: u32 = 64;
 
+// The mask of all its numbers.
+const FULL: u64 = u64::MAX;
+
 /// A set of numbers, each below a room that is given at the opening. All memory is taken there.
 #[derive(Drop)]
 pub(crate) struct MaskSet {
@@ -71,7 +74,7 @@ impl MaskSet {
         ensures { self.new ≡
             record self.old { members = union self.old.members (numbers_of mask) } }
     {
-        self.masks[mask as usize] = u64::MAX;
+        self.masks[mask as usize] = FULL;
     }
 
     /// The 64 numbers of a mask leave.
@@ -88,7 +91,7 @@ impl MaskSet {
         requires { 64 * mask < self.now.room }
         ensures { IsTrue result ↔ HasAllOf self.now.members mask }
     {
-        self.masks[mask as usize] == u64::MAX
+        self.masks[mask as usize] == FULL
     }
 
     /// The least member in the masks from `from` on and below `to`.

@@ -20,7 +20,7 @@ use std::marker::Model;
 
 /// The blocks of a table. Their numbers are from 1.
 #[derive(Drop)]
-pub struct Blocks {
+pub(crate) struct Blocks {
     number: u32,
     given: u32,
     table: Vec<Block>,
@@ -42,7 +42,7 @@ impl Model for Blocks {
 }
 
 impl Block {
-    /// Whether the block is used for something.
+    // Whether the block is used for something.
     fn has_use(&self) -> bool
         ensures { result ≡ is_some (use_of self.now.kind) }
     {
@@ -53,7 +53,7 @@ impl Block {
     }
 }
 
-/// The least block from `from` on that has no use.
+// The least block from `from` on that has no use.
 fn least_unused(table: &[Block], from: usize) -> usize
     requires { HasUnused table.now from }
     ensures low { from ≤ result }
@@ -68,7 +68,7 @@ fn least_unused(table: &[Block], from: usize) -> usize
     at
 }
 
-/// An empty chain for each kind, with room for all blocks.
+// An empty chain for each kind, with room for all blocks.
 fn empty_chains(alloc: Global, room: usize) -> Result<Vec<Vec<u32>>, AllocError>
     ensures chains { IfOk result (λ chains. map (λ v. v.items) chains.items ≡ replicate 7 []) }
     ensures rooms { IfOk result (λ chains. All (λ v. room ≤ vec_capacity v) chains.items) }
@@ -80,7 +80,7 @@ fn empty_chains(alloc: Global, room: usize) -> Result<Vec<Vec<u32>>, AllocError>
     Ok(chains)
 }
 
-/// Writes the place of each block of a chain from a place on.
+// Writes the place of each block of a chain from a place on.
 fn renumber(table: &mut [Block], chain: &[u32], from: usize)
     requires blocks { (i : ℕ) → i < length chain.now → slice_index chain.now i < length table.old }
     requires few { length chain.now ≤ 256 }
@@ -94,7 +94,7 @@ fn renumber(table: &mut [Block], chain: &[u32], from: usize)
 
 impl Blocks {
     /// So many blocks, none of which has a use.
-    pub fn open(alloc: Global, number: u32) -> Result<Blocks, Memory>
+    pub(crate) fn open(alloc: Global, number: u32) -> Result<Blocks, Memory>
         requires { number ≤ 256 }
         ensures none { IfOk result (λ uses.
             uses ≡ record { table = empty_table number; extras = empty }) }
@@ -113,14 +113,14 @@ impl Blocks {
     }
 
     /// The number of blocks without a use.
-    pub fn unused(&self) -> u32
+    pub(crate) fn unused(&self) -> u32
         ensures value { result + len self.now.table.uses ≡ self.now.table.blocks }
     {
         self.number - self.given
     }
 
     /// The number of blocks with a use.
-    pub fn given(&self) -> u32
+    pub(crate) fn given(&self) -> u32
         ensures value { result ≡ len self.now.table.uses }
         ensures table { IsTable self.now.table }
     {
@@ -128,7 +128,7 @@ impl Blocks {
     }
 
     /// What a block is used for.
-    pub fn kind(&self, block: u32) -> BlockKind
+    pub(crate) fn kind(&self, block: u32) -> BlockKind
         requires low { 1 ≤ block }
         requires high { block ≤ self.now.table.blocks }
         ensures { result ≡ block_kind_of (get self.now.table.uses block) }
@@ -137,7 +137,7 @@ impl Blocks {
     }
 
     /// The block with the extras of a block's rows, if they have any. The block may be any number.
-    pub fn extras(&self, block: u32) -> Option<u32>
+    pub(crate) fn extras(&self, block: u32) -> Option<u32>
         ensures value { result ≡ get self.now.extras block }
     {
         if block == 0 || block > self.number {
@@ -147,7 +147,7 @@ impl Blocks {
     }
 
     /// Gives the least block without a use to a kind, at the end of its chain.
-    pub fn add(&mut self, kind: Kind) -> u32
+    pub(crate) fn add(&mut self, kind: Kind) -> u32
         requires { len self.old.table.uses < self.old.table.blocks }
         ensures least { IsLeastWithout self.old.table 1 result }
         ensures plain { get self.old.extras result ≡ None }
@@ -169,7 +169,7 @@ impl Blocks {
     }
 
     /// Gives the least block after `block` that has no use to the extras of its rows.
-    pub fn add_data(&mut self, block: u32) -> u32
+    pub(crate) fn add_data(&mut self, block: u32) -> u32
         requires room { len self.old.table.uses < self.old.table.blocks }
         requires used { (b : ℕ) → 1 ≤ b → b ≤ block → IsSome (get self.old.table.uses b) }
         requires low { 1 ≤ block }
@@ -191,7 +191,7 @@ impl Blocks {
     }
 
     /// Takes a block of handles from its kind.
-    pub fn remove(&mut self, block: u32)
+    pub(crate) fn remove(&mut self, block: u32)
         requires handles { has_handles (get self.old.table.uses block) ≡ true }
         requires plain { get self.old.extras block ≡ None }
         ensures after { let kind = kind_at self.old.table block in
@@ -212,7 +212,7 @@ impl Blocks {
     }
 
     /// The first block of the chain of a kind.
-    pub fn first(&self, kind: Kind) -> Option<u32>
+    pub(crate) fn first(&self, kind: Kind) -> Option<u32>
         ensures { result ≡ slice_get (chain_of self.now.table kind) 0 }
     {
         let chain = &self.chains[kind.number() as usize];
@@ -220,7 +220,7 @@ impl Blocks {
     }
 
     /// The block after a block of handles in its chain.
-    pub fn after(&self, block: u32) -> Option<u32>
+    pub(crate) fn after(&self, block: u32) -> Option<u32>
         requires { has_handles (get self.now.table.uses block) ≡ true }
         ensures { let kind = kind_at self.now.table block in
             (before after : List ℕ) → chain_of self.now.table kind ≡ before ++ block ∷ after →

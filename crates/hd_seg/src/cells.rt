@@ -5,7 +5,7 @@ use hd_model::Addr;
 
 /// One cell of a block.
 #[derive(Clone, Copy)]
-pub enum Cell {
+pub(crate) enum Cell {
     /// There is no live row here.
     Empty,
     /// The target of a live row.

@@ -4,7 +4,7 @@ use hd_model::Memory;
 use std::alloc::Global;
 
 /// A list of `count` times the same value.
-pub fn filled<T: Copy + Drop>(alloc: Global, value: T, count: u32) -> Result<Vec<T>, Memory>
+pub(crate) fn filled<T: Copy + Drop>(alloc: Global, value: T, count: u32) -> Result<Vec<T>, Memory>
     ensures { IfOk result (λ v. v.items ≡ replicate count value) }
 {
     let mut list = Vec::new(alloc);

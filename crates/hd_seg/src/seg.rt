@@ -20,10 +20,10 @@ use hd_model::{Addr, Grown, Kind, Memory, Slot};
 use std::alloc::Global;
 use std::marker::Model;
 
-/// The rows of a clump.
+// The rows of a clump.
 const CLUMP_ROWS: u32 = ROWS / CLUMPS;
 
-/// The lowest rows, as many as a clump has.
+// The lowest rows, as many as a clump has.
 const CLUMP_MASK: u64 = 0xffff;
 
 /// The table of handles.

@@ -10,7 +10,7 @@ fn one_block_is_too_few_for_extras(rt: HostRuntime) -> Result<(), Memory> {
     Ok(())
 }
 
-/// The second and third block of a chain, from its first on.
+// The second and third block of a chain, from its first on.
 fn second_and_third(seg: &Seg, kind: Kind) -> (Option<u32>, Option<u32>) {
     let Some(first) = seg.first(kind) else {
         return (None, None);

@@ -10,7 +10,7 @@ use hd_model::Slot;
 use hd_model::limits::ROWS;
 
 /// Where the extra of a slot's row stands, if its block has a data block.
-pub fn extra_place(blocks: &Blocks, slot: Slot) -> Option<usize>
+pub(crate) fn extra_place(blocks: &Blocks, slot: Slot) -> Option<usize>
     requires { (b d : ℕ) → get blocks.now.extras b ≡ Some d → d ≤ 256 }
     ensures { result ≡ extra_place blocks.now slot.0 }
 {
@@ -19,14 +19,14 @@ pub fn extra_place(blocks: &Blocks, slot: Slot) -> Option<usize>
 }
 
 /// The cell of a slot, which may be any number.
-pub fn cell_of(cells: &[Cell], slot: Slot) -> Cell
+pub(crate) fn cell_of(cells: &[Cell], slot: Slot) -> Cell
     ensures { result ≡ cell_at cells.now slot.0 }
 {
     cells.get(slot.0 as usize).copied().unwrap_or(Cell::Empty)
 }
 
 /// The extra in a cell, where there is one.
-pub fn extra_in(cells: &[Cell], place: Option<usize>) -> Extra
+pub(crate) fn extra_in(cells: &[Cell], place: Option<usize>) -> Extra
     requires { ForSome place (λ q. q < length cells.now) }
     ensures { result ≡ extra_held (cell_in cells.now place) }
 {
@@ -40,7 +40,7 @@ pub fn extra_in(cells: &[Cell], place: Option<usize>) -> Extra
 }
 
 /// Writes a cell, where there is one.
-pub fn write_cell(cells: &mut [Cell], place: Option<usize>, cell: Cell)
+pub(crate) fn write_cell(cells: &mut [Cell], place: Option<usize>, cell: Cell)
     requires { ForSome place (λ q. q < length cells.old) }
     ensures { cells.new ≡ with_cell cells.old place cell }
 {

@@ -73,6 +73,7 @@ module _ (f : Parts) (m : Machine) (view : machine_of f ≡ m) (stored : IsStore
         identities = stored.identities;
         ages = stored.ages;
         cards = stored.cards;
+        regions = stored.regions;
         within = stored.within;
         limit = stored.limit;
         roots = stored.roots ∙ sym (length-set f.roots i v);

@@ -8,14 +8,14 @@ use Rattle.hd_model.specs.declared.data.Id.{Id}
 use Rattle.hd_model.specs.declared.data.Addr.{Addr}
 use Rattle.hd_model.specs.State.{Object, last_serial, identity_of, with_object, with_serial, used_of as machine_used}
 use Rattle.hd_model.specs.Scene.{is_object, fields_in, generation_in, generation_at, IsField}
-use Rattle.hd_model.specs.Heap.{Placed, Region, Heap, region_of, region_at, region_generation, object_in, object_at, is_carded, cells_of, used_of, id_at}
+use Rattle.hd_model.specs.Heap.{Placed, Region, Heap, region_of, region_at, region_generation, object_in, object_at, is_carded, cells_of, used_of, id_at, is_held}
 use Rattle.hd_model.specs.Ages.{age_of}
 use Rattle.hd_heap.specs.Calls.{new_object, IsMade, IsRefused as IsRefusedBy}
 use Rattle.hd_heap.specs.declared.fault.NewFault.{NewFault}
 use Rattle.hd_heap.specs.declared.fault.NewFault.TheVariants.{Full, Memory}
 use Rattle.hd_world.specs.Rows.{rows_of, rest_of}
 use Rattle.hd_world.specs.Reading.{names_of, read_object, objects_by_id}
-use Rattle.hd_world.specs.Stored.{Parts, callers_of, state_of, IsStored}
+use Rattle.hd_world.specs.Stored.{Parts, callers_of, state_of, HasNoIdleRegion, IsStored}
 use Rattle.hd_world.specs.Store.{Machine, machine_of}
 use Rattle.hd_model.specs.Command.{fresh_object}
 use Rattle.hd_world.specs.Objects.{IsRefused}
@@ -130,6 +130,17 @@ module _ (f : Parts) (k : Heap) (at : Addr) (id : Id) (count : ℕ) (fin : Bool)
   cards_same : (x : Addr) → is_carded k x ≡ is_carded f.heap x
   cards_same x = ap (λ (g : Heap). is_carded g x) made.made
 
+  held_was : (region : ℕ) → (region ≡ region_of at → ⊥) → is_held k region ≡ true → is_held f.heap region ≡ true
+  held_was region apart held =
+      sym (ap is_some (get-put_other f.heap.regions (region_of at) (record { generation = 0; fill = (region_at f.heap (region_of at)).fill + cells_of (new_object id count fin) }) region apart))
+      ∙ sym (ap (λ (g : Heap). is_held g region) made.made) ∙ held
+
+  region_has : HasNoIdleRegion k
+  region_has region held = elim (cases_eq region (region_of at)) [
+    | inl same ↦ (at, ap (λ o. is_some (option_map (object_in (region_generation k (region_of at))) o)) there, sym same)
+    | inr apart ↦ (let was = stored.regions region (held_was region apart held) in (was.0, still was.0 was.1, was.2))
+  ]
+
   -- the parts with the new object and another last serial
   abbrev pub made_parts : List ℕ → Parts
   made_parts serials = record f { heap = k; serials = serials }
@@ -155,6 +166,7 @@ module _ (f : Parts) (k : Heap) (at : Addr) (id : Id) (count : ℕ) (fin : Bool)
         let before = generation_same y (stored.whole.fields x y was.1) in
         let here = generation_same x (is_there x y was.1) in
         cards_same x ∙ stored.cards x y was.1 (omega arith);
+    regions = region_has;
     within = let size : cells_of (new_object id count fin) ≡ count + 3 = ap (λ n. n + 3) (length-replicate count None) in omega (arith, used_more, limit_same, made.fits, size);
     limit = omega (arith, limit_same, stored.limit);
     roots = stored.roots;

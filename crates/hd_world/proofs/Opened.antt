@@ -1,13 +1,13 @@
 -- A store at first: nothing is made, and each register, static and board place is null or empty.
-use Rattle.std.proofs.Common.{◌≡◌, ℕ, zero, suc, ◌+◌, ◌*◌, ◌≤◌, List, [], ◌∷◌, map, length, replicate, Option, Some, None, refl, sym, ap, ◌∙◌, subst, arith}
-use Rattle.std.specs.Prelude.{option_map, IsSome, Contains, T, sum_by}
-use Rattle.std.specs.FinMap.{get, empty, entries, values, from_entries, get-empty, len-empty, len-entries}
+use Rattle.std.proofs.Common.{◌≡◌, ℕ, zero, suc, ◌+◌, ◌*◌, ◌≤◌, List, [], ◌∷◌, map, length, replicate, Option, Some, None, refl, sym, ap, ◌∙◌, subst, arith, true}
+use Rattle.std.specs.Prelude.{option_map, IsSome, Contains, T, sum_by, is_some}
+use Rattle.std.specs.FinMap.{get, empty, entries, values, from_entries, get-empty, len-empty, len-entries, contains_key}
 use Rattle.std.specs.Ordering.{nat_cmp}
 use Rattle.std.proofs.lemmas.List.{length-replicate}
 use Rattle.hd_model.specs.declared.data.Addr.{Addr}
 use Rattle.hd_model.specs.State.{Object, Handle, rename_handle, start_of}
 use Rattle.hd_model.specs.Scene.{fields_in}
-use Rattle.hd_model.specs.Heap.{Placed, region_of, region_generation, object_in, object_at, cells_of, id_at}
+use Rattle.hd_model.specs.Heap.{Placed, Region, region_of, region_generation, object_in, object_at, cells_of, id_at}
 use Rattle.hd_model.specs.Table.{empty_table}
 use Rattle.hd_model.proofs.Members.{not_in_none}
 use Rattle.hd_heap.specs.Calls.{empty_heap}
@@ -20,6 +20,9 @@ use Rattle.hd_world.proofs.Roots.{rows-first, rest-first}
 
 nothing_at : {A : Type 0} (q : ℕ) (x : A) → get (empty {X = A} {R = nat_cmp}) q ≡ Some x → ⊥
 nothing_at q x e = no_some x (sym e ∙ get-empty nat_cmp q)
+
+none_held : (region : ℕ) → contains_key (empty {X = Region} {R = nat_cmp}) region ≡ true → ⊥
+none_held region held = subst T (sym (ap is_some (sym (get-empty nat_cmp region)) ∙ held)) tt
 
 nothing_mapped : {A B : Type 0} (f : A → B) (n : ℕ) → map (option_map f) (replicate n None) ≡ replicate n None
 nothing_mapped f zero = refl
@@ -82,6 +85,7 @@ module _ (limit blocks callers : ℕ) where
       secondaries = λ slot h x row at. absurd (nothing_at slot h row);
     };
     cards = λ x y field younger. absurd (no_field x y field);
+    regions = λ region held. absurd (none_held region held);
     within = let none : sum_by cells_of (values (empty {X = Placed} {R = nat_cmp})) ≡ 0 = ap (λ (es : List (ℕ × Placed)). sum_by cells_of (map (λ e. e.1) es)) no_entries in omega (arith, none);
     limit = small;
     roots = ap (λ n. 16 * n + 16) (length-replicate callers (replicate 16 None)) ∙ sym (length-replicate (16 * callers + 16) None);

@@ -1,7 +1,7 @@
 -- Another object with the same identity at an address of a store: what the machine sees, and that the store keeps what it keeps.
 use Rattle.std.proofs.Common.{◌≡◌, ◌<◌, ◌≤◌, true, map, length, Some, refl, sym, ap, ◌∙◌, ◌⊎◌, subst, inl, inr, arith}
 use Rattle.std.specs.Prelude.{option_map, is_some, IsSome, Contains, sum_by}
-use Rattle.std.specs.FinMap.{get, insert, values}
+use Rattle.std.specs.FinMap.{get, insert, values, contains_key}
 use Rattle.std.proofs.lemmas.Bool.{cases_eq}
 use Rattle.hd_model.specs.declared.data.Id.{Id}
 use Rattle.hd_model.specs.declared.data.Addr.{Addr}
@@ -130,6 +130,9 @@ module _ (f : Parts) (k : Heap) (at : Addr) (old new : Placed) (w : Writes f.hea
           secondaries = λ slot row x is second. subst (λ g. age_of f.ages slot ≤ g) (sym (generation-same h k at old new w x)) (stored.ages.secondaries slot row x is second);
         };
         cards = cards-sound h k at old new w stored.cards;
+        regions = λ region held.
+            let was = stored.regions region (ap (λ rs. contains_key rs region) (sym w.replaces.regions) ∙ held) in
+            (was.0, is-object h k at old new w was.0 ∙ was.1, was.2);
         within = omega (arith, used-same h k at old new w, w.limit, stored.within);
         limit = omega (arith, w.limit, stored.limit);
         roots = stored.roots;

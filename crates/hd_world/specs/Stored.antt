@@ -1,6 +1,6 @@
 -- The parts of a store by address, the state of the machine that they stand for, and what is always true of
 -- them.
-use Rattle.std.specs.Prelude.{◌≡◌, ℕ, ◌+◌, ◌*◌, ◌≤◌, List, [], length, map, Option, option_map, IsSome}
+use Rattle.std.specs.Prelude.{◌≡◌, ℕ, ◌+◌, ◌*◌, ◌≤◌, List, [], length, map, Option, option_map, IsSome, true}
 use Rattle.std.specs.FinMap.{get, empty}
 use Rattle.hd_model.specs.declared.data.Addr.{Addr}
 use Rattle.hd_model.specs.declared.data.Slot.{Slot}
@@ -8,7 +8,7 @@ use Rattle.hd_model.specs.declared.limits.TheConstants.{HEAP, BLOCKS, CLUMPS, RE
 use Rattle.hd_model.specs.State.{Numbers, State}
 use Rattle.hd_model.specs.Scene.{Scene, IsWhole}
 use Rattle.hd_model.specs.Ages.{HasSoundAges, HasSoundCards}
-use Rattle.hd_model.specs.Heap.{Heap, object_at, id_at, is_carded, used_of, HasIdentities}
+use Rattle.hd_model.specs.Heap.{Heap, object_at, has_object, id_at, is_carded, is_held, region_of, used_of, HasIdentities}
 use Rattle.hd_model.specs.Table.{Table, row_at}
 use Rattle.hd_world.specs.Rows.{rows_of, rest_of}
 use Rattle.hd_world.specs.Reading.{objects_by_id, rows_by_id}
@@ -49,14 +49,20 @@ state_of f = record {
   serials = f.serials;
 }
 
+-- no held region is without an object
+abbrev pub HasNoIdleRegion : Heap → Type 0
+HasNoIdleRegion h = (region : ℕ) → is_held h region ≡ true
+    → (a : Addr) × (has_object h a ≡ true) × (region_of a ≡ region)
+
 -- what a store keeps, which is also what a collection asks for: every name is that of an object, no two objects
--- have one identity, ages and cards are sound, the objects take no more cells than the limit, and a block with
--- a use is one of the table's
+-- have one identity, ages and cards are sound, each held region has an object, the objects take no more cells
+-- than the limit, and a block with a use is one of the table's
 pub record IsStored (f : Parts) : Type 0 where
   pub whole : IsWhole (scene_of_parts f)
   pub identities : HasIdentities f.heap
   pub ages : HasSoundAges (object_at f.heap) (row_at f.table) f.ages
   pub cards : HasSoundCards (object_at f.heap) (is_carded f.heap)
+  pub regions : HasNoIdleRegion f.heap
   pub within : used_of f.heap ≤ f.heap.limit
   pub limit : f.heap.limit ≤ HEAP
   pub roots : REGISTERS * callers_of f + REGISTERS ≡ length f.roots

@@ -3,6 +3,7 @@ use Rattle.hd_custody.specs.declared.view.View.{View}
 use Rattle.hd_custody.specs.Views.{Named, Known}
 use Rattle.hd_custody.specs.Calls.{slot_number, Allocates}
 use Rattle.hd_custody.proofs.Ends.{answer, answer_none, answer_some, allocates}
+use Rattle.hd_custody.proofs.Misses.{none_is_whole, none_found_none}
 use Rattle.hd_custody.proofs.types.Custody.allocate.Goals as goal
 use Rattle.hd_custody.proofs.types.Custody.allocate.Goals.{then-slot-eq0, else-slot-eq0}
 
@@ -23,3 +24,11 @@ returns-clause-done g c =
     c.find-slot.new.place.me.0) (ap (λ (k : Known W). k.view) c.seat.view_is)
     (allocates c.number.result blocks (omega (arith, size, c.self.invariant)) c.seat.inside.place.me
     c.find-slot.new.place.me c.find-slot.result _ answers c.find-slot.ensures.made))
+
+pub returns-clause-none : goal.returns-clause-none
+returns-clause-none g c =
+    none_is_whole _ _ c.if-slot-eq0.result c.find-slot.new.place.me.0.trace (returns-clause-done g c).steps
+
+pub returns-clause-each_word : goal.returns-clause-each_word
+returns-clause-each_word g c =
+    none_found_none _ _ c.if-slot-eq0.result c.find-slot.new.place.me.0.trace (returns-clause-done g c).steps

@@ -1,9 +1,10 @@
-use Rattle.std.proofs.Common.{ℕ, ◌+◌, ◌*◌, ◌≤◌, bit_xor, ◌++◌, sym, ap, subst, arith}
+use Rattle.std.proofs.Common.{ℕ, ◌+◌, ◌*◌, ◌≤◌, bit_xor, ◌++◌, refl, sym, ap, subst, rules, arith}
 use Rattle.std.specs.Int.{bit_at}
 use Rattle.hd_custody.specs.Counts.{HasAs}
 use Rattle.hd_custody.specs.Traces.{probe, to_bank}
 use Rattle.hd_custody.specs.Calls.{Made, held}
 use Rattle.hd_custody.proofs.Canon.{in_held}
+use Rattle.hd_custody.proofs.Phases.{if_true, if_false}
 use Rattle.hd_custody.proofs.Probing.{bank_full, bank_put, flip_within, set_real}
 use Rattle.hd_custody.proofs.types.Custody.offer.Goals as goal
 
@@ -16,14 +17,15 @@ bank-requires-clause-slot g c _ =
     (in_held c.args.block c.args.row c.args.left (c.args.kind + 1) c.in-Some.next c.requires.hand.0
     c.in-Some.ensures.within c.in-Some.ensures.set))
 
-pub returns-then-bank-ne0-clause-made : goal.returns-then-bank-ne0-clause-made
-returns-then-bank-ne0-clause-made g c h is apart =
+pub returns-then-not-bank-clause-made : goal.returns-then-not-bank-clause-made
+returns-then-not-bank-clause-made g c h is apart =
+    let lost = if_false c.bank.result _ (search rules) c.bank.ensures.lost in
     bank_full c.args.kind c.args.self.now.blocks c.args.place.now.me c.args.block c.args.row
     c.requires.block.0 c.requires.block.1 c.requires.row.0
     c.args.left c.args.i c.requires.kind.1 c.requires.row.1 h is apart c.requires.due
-    c.in-Some.next c.reserved.result c.bank.result (set_real c.args.left c.in-Some.next c.in-Some.ensures.set)
+    c.in-Some.next c.reserved.result lost.0 (set_real c.args.left c.in-Some.next c.in-Some.ensures.set)
     c.in-Some.ensures.set c.in-Some.ensures.within c.in-Some.ensures.first
-    c.reserved.ensures.value c.bank.new.place.me c.bank.ensures.view c.if-bank-ne0.true
+    c.reserved.ensures.value c.bank.new.place.me lost.2 lost.1
 
 pub returns-clause-row : goal.returns-clause-row
 returns-clause-row g c =
@@ -45,6 +47,7 @@ returns-clause-made g c h is apart =
     (bank_put c.args.kind c.args.self.now.blocks c.args.place.now.me c.args.block c.args.row
     c.requires.block.0 c.requires.block.1 c.requires.row.0
     c.args.left c.args.i c.requires.kind.1 c.requires.row.1 h is apart c.requires.due
-    c.in-Some.next c.reserved.result c.bank.result (set_real c.args.left c.in-Some.next c.in-Some.ensures.set)
+    c.in-Some.next c.reserved.result 0 (set_real c.args.left c.in-Some.next c.in-Some.ensures.set)
     c.in-Some.ensures.set c.in-Some.ensures.within c.in-Some.ensures.first
-    c.reserved.ensures.value c.bank.new.place.me c.bank.ensures.view c.if-bank-ne0.false)
+    c.reserved.ensures.value c.bank.new.place.me
+    (if_true c.bank.result _ (search rules) c.bank.ensures.won) refl)

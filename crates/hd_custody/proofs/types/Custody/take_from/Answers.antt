@@ -72,7 +72,7 @@ returns-then-again-kind-clause-made g c =
     let apart = mask_apart g.W.Held c.look.new.place.me.0 block c.drain-mask.result a.0.hand
     (hand_is k blocks (probe 0) _ _ a c.look.new.place.me _ _ first) c.drain-mask.ensures.fresh in
     gone_back k blocks a block real low c.requires.kinded c.look-again.new.place.me c.put_back.new.place.me
-    c.drain-mask.result c.look-again.result c.put_back.result c.if-again-kind.true apart third
+    c.drain-mask.result c.look-again.result c.put_back.result (λ e. omega (arith, e, c.if-again-kind.true)) apart third
     c.put_back.ensures.view
 
 pub share_out-requires-clause-row : goal.share_out-requires-clause-row
@@ -99,7 +99,7 @@ share_out-requires-clause-hand g c =
     c.look-again.new.place.me mask c.look-again.result
     (set_real mask row c.in-Some.ensures.set) second c.look-again.ensures.view in
     let rows_left = shared k blocks a block real low c.requires.kinded c.look-again.new.place.me mask row
-    c.look-again.result c.if-again-kind.false c.in-Some.ensures.set c.in-Some.ensures.first third in
+    c.look-again.result (omega (arith, c.if-again-kind.false)) c.in-Some.ensures.set c.in-Some.ensures.first third in
     let apart = mask_apart g.W.Held c.look.new.place.me.0 block mask a.0.hand
     (hand_is k blocks (probe 0) _ _ a c.look.new.place.me _ _ first) c.drain-mask.ensures.fresh in
     let hand : c.look-again.new.place.me.0.hand ≡ held block row (bit_xor mask c.bit.result)
@@ -130,7 +130,7 @@ share_out-requires-clause-due g c =
     c.look-again.new.place.me mask c.look-again.result
     (set_real mask row c.in-Some.ensures.set) second c.look-again.ensures.view in
     let rows_left = shared k blocks a block real low c.requires.kinded c.look-again.new.place.me mask row
-    c.look-again.result c.if-again-kind.false c.in-Some.ensures.set c.in-Some.ensures.first third in
+    c.look-again.result (omega (arith, c.if-again-kind.false)) c.in-Some.ensures.set c.in-Some.ensures.first third in
     now_at k blocks (probe 0) _ _ a c.look-again.new.place.me _ _ rows_left
     ∙ ap (λ m. to_bank block (64 * block + row) 0 (bit_xor mask m)) (sym c.bit.ensures.value)
 
@@ -152,7 +152,7 @@ returns-clause-made g c =
     c.look-again.new.place.me mask c.look-again.result
     (set_real mask row c.in-Some.ensures.set) second c.look-again.ensures.view in
     let rows_left = shared k blocks a block real low c.requires.kinded c.look-again.new.place.me mask row
-    c.look-again.result c.if-again-kind.false c.in-Some.ensures.set c.in-Some.ensures.first third in
+    c.look-again.result (omega (arith, c.if-again-kind.false)) c.in-Some.ensures.set c.in-Some.ensures.first third in
     let apart = mask_apart g.W.Held c.look.new.place.me.0 block mask a.0.hand
     (hand_is k blocks (probe 0) _ _ a c.look.new.place.me _ _ first) c.drain-mask.ensures.fresh in
     let hand : c.look-again.new.place.me.0.hand ≡ held block row (bit_xor mask c.bit.result)
@@ -189,8 +189,8 @@ returns-clause-offers g c =
     c.look-again.new.place.me mask c.look-again.result
     (set_real mask row c.in-Some.ensures.set) second c.look-again.ensures.view in
     let rows_left = shared k blocks a block real low c.requires.kinded c.look-again.new.place.me mask row
-    c.look-again.result c.if-again-kind.false c.in-Some.ensures.set c.in-Some.ensures.first third in
+    c.look-again.result (omega (arith, c.if-again-kind.false)) c.in-Some.ensures.set c.in-Some.ensures.first third in
     row_offers g.W.Held k blocks (probe 0) _ _ a c.look.new.place.me c.drain-mask.new.place.me block row
     c.look-again.result _ c.in-Some.ensures.within first second
     (c.drain-mask.ensures.fresh row c.in-Some.ensures.within c.in-Some.ensures.set) c.look-again.ensures.kind
-    c.if-again-kind.false
+    (omega (arith, c.if-again-kind.false))

@@ -1,6 +1,7 @@
-use Rattle.std.proofs.Common.{◌≡◌, ◌<◌, length, get_or, ap, ◌∙◌, arith}
+use Rattle.std.proofs.Common.{◌≡◌, ◌*◌, ◌<◌, length, get_or, ap, subst, ◌∙◌, arith}
 use Rattle.std.specs.Prelude.{is_some}
 use Rattle.std.proofs.lemmas.Grind.{get_or_default_zero}
+use Rattle.hd_pool.specs.Masks.{IsLeastBetween}
 use Rattle.hd_pool.proofs.Marks.{room_is, found, none_more}
 use Rattle.hd_pool.proofs.masks.MaskSet.least_between.Goals as goal
 
@@ -11,9 +12,10 @@ returns-in-Some-clause-found c =
     let mask = c.index.result.now in
     let within : at < length masks = omega (arith, room_is masks c.args.self.now c.self.view_is) in
     let read : mask ≡ get_or masks at 0 = c.index.ensures ∙ get_or_default_zero masks at mask within in
-    found masks c.args.self.now c.self.view_is at mask read c.args.from c.args.to c.loop-at.invariant
+    subst (IsLeastBetween c.args.self.now.members (64 * c.args.from) (64 * c.args.to)) (omega arith)
+    (found masks c.args.self.now c.self.view_is at mask read c.args.from c.args.to c.loop-at.invariant
     c.in-Some.row
-    (omega arith) (omega arith) c.in-Some.ensures.within c.in-Some.ensures.set c.in-Some.ensures.least
+    (omega arith) (omega arith) c.in-Some.ensures.within c.in-Some.ensures.set c.in-Some.ensures.least)
 
 pub loop-at-preserved : goal.loop-at-preserved
 loop-at-preserved c =
