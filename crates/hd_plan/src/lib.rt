@@ -3,8 +3,12 @@
 
 mod commits;
 mod lay;
+mod list;
 mod moves;
+mod places;
 mod plan;
+mod seats;
+mod survey;
 mod walk;
 
 pub use commits::commit;
