@@ -14,7 +14,6 @@ use crate::list::list_moves;
 use crate::moves::{Move, Way};
 use crate::plan::Plan;
 use crate::seats::Seats;
-use crate::walk::next_condemned;
 use hd_heap::Heap;
 use hd_model::{Addr, Marker};
 
@@ -58,7 +57,7 @@ fn lay_moves<M: Marker>(heap: &Heap, marker: &M, n: u8, moves: &mut Vec<Move>)
 {
     let mut seats = Seats::new();
     let mut after = None;
-    'walk: while let Some(at) = next_condemned(heap, after, n) {
+    'walk: while let Some(at) = heap.next_condemned(after, n) {
         let object = lay_one(heap, marker, n, at, &mut seats);
         moves.push_reserved(object);
         after = Some(at);

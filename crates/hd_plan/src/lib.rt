@@ -9,7 +9,6 @@ mod places;
 mod plan;
 mod seats;
 mod survey;
-mod walk;
 
 pub use commits::commit;
 pub use moves::{Condemned, Move, Way};

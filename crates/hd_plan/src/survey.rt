@@ -1,7 +1,6 @@
 ghost use Rattle.std.specs.Prelude.{◌≡◌, ◌≤◌};
 ghost use Rattle.hd_plan.specs.Laying.{IsSurvey};
 
-use crate::walk::next_condemned;
 use hd_heap::Heap;
 use hd_model::Addr;
 
@@ -26,7 +25,7 @@ pub(crate) fn count_condemned(heap: &Heap, n: u8) -> Survey
         last: 0,
     };
     let mut after = None;
-    'walk: while let Some(at) = next_condemned(heap, after, n) {
+    'walk: while let Some(at) = heap.next_condemned(after, n) {
         found.objects += 1;
         found.cells += u64::from(heap.fields(at)) + 3;
         let region = at.0 / 256;
