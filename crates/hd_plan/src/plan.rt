@@ -123,7 +123,7 @@ impl Forward for Plan {
         self.places.place(at)
     }
 
-    ghost keeps = { ? };
+    ghost keeps = { λ p laid. laid.keeping };
 }
 
 // How many moves keep their object.
