@@ -5,3 +5,5 @@ pub mod Keeping
 pub mod Seating
 pub mod Weights
 pub mod Stepping
+pub mod Listing
+pub mod Placing
