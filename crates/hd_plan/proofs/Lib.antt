@@ -7,3 +7,4 @@ pub mod Weights
 pub mod Stepping
 pub mod Listing
 pub mod Placing
+pub mod Surveying
