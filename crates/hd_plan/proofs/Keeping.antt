@@ -123,10 +123,10 @@ module _ (h : Heap) (n : ℕ) (sound : IsSound h) where
       let young : generation_at (object_at h) a ≤ n = subst (λ (x : Addr). generation_at (object_at h) x ≤ n) same (is_condemned_at k within).young in
       absurd (omega arith))
 
-    abbrev kept : Addr → Bool
+    abbrev pub kept : Addr → Bool
     kept a = nat_lt n (generation_at (object_at h) a) || is_kept_by (find_move ms a)
 
-    abbrev place : Addr → Addr
+    abbrev pub place : Addr → Addr
     place a = place_by (find_move ms a) a
 
     pub older_kept : (a : Addr) → n < generation_at (object_at h) a → kept a ≡ true

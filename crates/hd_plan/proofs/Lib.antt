@@ -8,3 +8,4 @@ pub mod Stepping
 pub mod Listing
 pub mod Placing
 pub mod Surveying
+pub mod Laid

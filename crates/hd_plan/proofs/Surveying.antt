@@ -179,3 +179,19 @@ module _ (h : Heap) (n : ℕ) where
         last = λ a c. let low = passed_below a after (none a (condemned_is h n a c)) in omega (arith, is.last);
         small = is.small;
       }
+
+-- spare regions do not count
+pub survey_spare : (h : Heap) (n : ℕ) (spare : List ℕ) (s : Survey) → IsSurvey h n s → IsSurvey (record h { spare = spare }) n s
+survey_spare h n spare s is = record {
+  objects = is.objects;
+  cells = record {
+    members = is.cells.members;
+    apart = is.cells.apart;
+    each = is.cells.each;
+    all = is.cells.all;
+    sum = is.cells.sum;
+  };
+  regions = is.regions;
+  last = is.last;
+  small = is.small;
+}
