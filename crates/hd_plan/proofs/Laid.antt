@@ -1,5 +1,5 @@
 -- All that is condemned has a move, and all regions are listed: the plan is laid.
-use Rattle.std.proofs.Common.{◌≡◌, ◌≢◌, ℕ, suc, ◌+◌, ◌<◌, ◌≤◌, Bool, true, false, ◌&&◌, List, length, Option, Some, None, refl, sym, ap, ◌∙◌, subst, arith, inl, inr, ◌⊎◌, ⊎_elim, true≢false}
+use Rattle.std.proofs.Common.{◌≡◌, ◌≢◌, ℕ, zero, suc, ◌+◌, ◌-◌, ◌^◌, ◌<◌, ◌≤◌, Bool, true, false, not, cond, ◌&&◌, List, [], ◌∷◌, length, Option, Some, None, refl, sym, ap, ◌∙◌, subst, arith, inl, inr, ◌⊎◌, ⊎_elim, true≢false}
 use Rattle.std.specs.Prelude.{is_some, option_map, count_by}
 use Rattle.hd_model.specs.declared.data.Addr.{Addr}
 use Rattle.hd_model.specs.Ages.{raised}
@@ -22,6 +22,8 @@ use Rattle.hd_plan.proofs.Keeping.{is_condemned_at, kept, place, older_kept, old
 use Rattle.hd_plan.proofs.Weights.{counts_moves, stays_counted}
 use Rattle.hd_plan.proofs.Placing.{place_none, place_some}
 use Rattle.hd_model.proofs.Counting.{counts_like}
+use Rattle.hd_plan.proofs.Stepping.{address_low}
+use Rattle.std.proofs.lemmas.List.Sums.{sum_by-cons}
 use Rattle.std.proofs.lemmas.Bool.{cases_eq}
 
 generation_there : (g : ℕ) (o : Option Placed) → is_some (option_map (object_in g) o) ≡ true → generation_in (option_map (object_in g) o) ≡ g
@@ -32,6 +34,19 @@ generation_there g (Some p) e = refl
 pub generation_is : (h : Heap) (a : Addr) → has_object h a ≡ true → generation_at (object_at h) a ≡ region_generation h (region_of a)
 generation_is h a is = generation_there (region_generation h (region_of a)) _ is
 
+not_true : (a : Bool) → not a ≡ true → a ≡ false
+not_true true e = absurd (true≢false (sym e))
+not_true false e = refl
+
+one_of : (b : Bool) → cond {A = ℕ} b 1 0 + cond {A = ℕ} (not b) 1 0 ≡ 1
+one_of true = refl
+one_of false = refl
+
+-- all pass a test or its opposite
+passing_or_not : {A : Type 0} (p : A → Bool) (xs : List A) → count_by p xs + count_by (λ x. not (p x)) xs ≡ length xs
+passing_or_not p [] = refl
+passing_or_not p (x ∷ xs) =
+    omega (arith, sum_by-cons (λ y. cond (p y) 1 0) x xs, sum_by-cons (λ y. cond (not (p y)) 1 0) x xs, passing_or_not p xs, one_of (p x))
 staying_is : (w : Way) → is_staying w ≡ true → is_moving w ≡ false
 staying_is Gone e = absurd (true≢false (sym e))
 staying_is Stays e = refl
@@ -97,15 +112,15 @@ module _ (h : Heap) (n : ℕ) (sound : IsSound h) (ms : List Move) (moves : AreM
     pub closed_kept : IsClosed (IsField (object_at h)) promoted → IsClosed (IsField (object_at h)) (kept h n sound ms moves)
     closed_kept closed a y is field = kept_is y ∙ closed a y (sym (kept_is a) ∙ is) field
 
-    pub stays_are : Counts (λ a. IsCondemned (object_at h) n a × ((promoted a ≡ true) × (pinned a ≡ true))) (stays_among ms)
+    pub stays_are : Counts (λ a. IsCondemned (object_at h) n a × (promoted a ≡ true) × (pinned a ≡ true)) (stays_among ms)
     stays_are =
-        subst (λ (c : ℕ). Counts (λ a. IsCondemned (object_at h) n a × ((promoted a ≡ true) × (pinned a ≡ true))) c) (sym (stays_counted ms))
-        (counts_moves ms moves.rising (λ m. is_staying m.way) (λ a. IsCondemned (object_at h) n a × ((promoted a ≡ true) × (pinned a ≡ true)))
+        subst (λ (c : ℕ). Counts (λ a. IsCondemned (object_at h) n a × (promoted a ≡ true) × (pinned a ≡ true)) c) (sym (stays_counted ms))
+        (counts_moves ms moves.rising (λ m. is_staying m.way) (λ a. IsCondemned (object_at h) n a × (promoted a ≡ true) × (pinned a ≡ true))
         (λ k low stays. let (p, q) = both_true (promoted (move_at ms k).from) (pinned (move_at ms k).from) (sym (chosen.stays k low) ∙ stays) in
-          (is_condemned_at h n sound ms moves k low, (p, q)))
+          (is_condemned_at h n sound ms moves k low, p, q))
         (λ a is.
           let (k, at) = moves.all a (condemned_is h n a is.0) in
-          (k, (at.0, (at.1, chosen.stays k at.0 ∙ both_hold _ _ (ap promoted at.1 ∙ is.1.0) (ap pinned at.1 ∙ is.1.1))))))
+          (k, (at.0, (at.1, chosen.stays k at.0 ∙ both_hold _ _ (ap promoted at.1 ∙ is.1) (ap pinned at.1 ∙ is.2))))))
 
 -- a plan of these parts is laid
 pub laid_plan : (p : PlanOf) → IsSound p.basis.heap → p.basis.condemned ≤ 2 → AreMoves p.basis.heap p.basis.condemned p.moves → (promoted pinned : Addr → Bool) → AreChosen promoted pinned p.moves
@@ -161,3 +176,85 @@ place_found p room_ms room_cs firsts cells laid is a kept_is =
           ∙ is.places.places j k by.within at.0 at.1
           ∙ sym (move_place h n laid.sound p.moves laid.moves j by.within))
     ]
+
+-- the moves are fewer than there are addresses
+rising_far : (h : Heap) (n : ℕ) → IsSound h → (ms : List Move) → AreMoves h n ms → (k : ℕ) → k < length ms → k + 256 ≤ (move_at ms k).from.0
+rising_far h n sound ms moves zero low = (address_low h sound (move_at ms 0).from (is_condemned_at h n sound ms moves 0 low).object).0
+rising_far h n sound ms moves (suc k) low =
+    let before = rising_far h n sound ms moves k (omega arith) in let up = moves.rising k (suc k) (omega arith) low in omega arith
+
+pub few_moves : (h : Heap) (n : ℕ) → IsSound h → (ms : List Move) → AreMoves h n ms → length ms < 2 ^ 32
+few_moves h n sound ms moves = elim (cases_eq (length ms) 0) [
+  | inl none ↦ omega arith
+  | inr some ↦
+      let last : length ms - 1 < length ms = omega arith in
+      let far = rising_far h n sound ms moves (length ms - 1) last in
+      let low = (address_low h sound (move_at ms (length ms - 1)).from (is_condemned_at h n sound ms moves (length ms - 1) last).object).1 in
+      omega arith
+]
+
+module _ (h : Heap) (n : ℕ) (sound : IsSound h) (ms : List Move) (moves : AreMoves h n ms) where
+  -- the moves that keep are those of what is kept
+  pub kept_counted : Counts (λ a. IsCondemned (object_at h) n a × (kept h n sound ms moves a ≡ true)) (count_by (λ m. is_kept_way m.way) ms)
+  kept_counted =
+      counts_moves ms moves.rising (λ m. is_kept_way m.way) (λ a. IsCondemned (object_at h) n a × (kept h n sound ms moves a ≡ true))
+      (λ k low is. (is_condemned_at h n sound ms moves k low, move_kept h n sound ms moves k low ∙ is))
+      (λ a is.
+        let (k, at) = moves.all a (condemned_is h n a is.0) in
+        (k, (at.0, (at.1, sym (move_kept h n sound ms moves k at.0) ∙ ap (kept h n sound ms moves) at.1 ∙ is.1))))
+
+  -- and all others are of what goes
+  gone_counted : Counts (λ a. (has_object h a ≡ true) × (kept h n sound ms moves a ≡ false)) (count_by (λ m. not (is_kept_way m.way)) ms)
+  gone_counted =
+      counts_moves ms moves.rising (λ m. not (is_kept_way m.way)) (λ a. (has_object h a ≡ true) × (kept h n sound ms moves a ≡ false))
+      (λ k low is. ((is_condemned_at h n sound ms moves k low).object, move_kept h n sound ms moves k low ∙ not_true (is_kept_way (move_at ms k).way) is))
+      (λ a is. elim (older_or_young h n a is.0) [
+        | inl older ↦ absurd (true≢false (sym (older_kept h n sound ms moves a older) ∙ is.1))
+        | inr young ↦
+            let (k, at) = moves.all a young in
+            (k, (at.0, (at.1, ap not (sym (move_kept h n sound ms moves k at.0) ∙ ap (kept h n sound ms moves) at.1 ∙ is.1))))
+      ])
+
+  pub removed_counted : (kept_ones removed : ℕ) → kept_ones ≡ count_by (λ m. is_kept_way m.way) ms → removed ≡ length ms - kept_ones
+      → Counts (λ a. (has_object h a ≡ true) × (kept h n sound ms moves a ≡ false)) removed
+  removed_counted kept_ones removed e f =
+      subst (λ (c : ℕ). Counts (λ a. (has_object h a ≡ true) × (kept h n sound ms moves a ≡ false)) c)
+      (sym (f ∙ omega (arith, e, passing_or_not (λ (m : Move). is_kept_way m.way) ms))) gone_counted
+
+-- what a laid plan was laid from
+pub record IsLaidFrom (p : PlanOf) (promoted pinned : Addr → Bool) : Type 0 where
+  pub sound : IsSound p.basis.heap
+  pub generation : p.basis.condemned ≤ 2
+  pub moves : AreMoves p.basis.heap p.basis.condemned p.moves
+  pub chosen : AreChosen promoted pinned p.moves
+  pub settled : IsSettled (objects_of p.basis) p.basis.condemned promoted
+  pub closed : IsClosed (IsField (objects_of p.basis)) promoted
+  pub full : HasNoEmptyCondemned p.basis.heap p.basis.condemned
+  pub listed : AreListedTo p.moves p.regions (length p.moves)
+
+pub from_heap : (p : PlanOf) (promoted pinned : Addr → Bool) (h : Heap) → p.basis.heap ≡ h → IsSound h → p.basis.condemned ≤ 2 → AreMoves h p.basis.condemned p.moves → AreChosen promoted pinned p.moves
+    → IsSettled (objects_of p.basis) p.basis.condemned promoted → IsClosed (IsField (objects_of p.basis)) promoted → HasNoEmptyCondemned h p.basis.condemned
+    → AreListedTo p.moves p.regions (length p.moves) → IsLaidFrom p promoted pinned
+from_heap p promoted pinned h same sound generation moves chosen settled closed full listed = record {
+  sound = subst IsSound (sym same) sound;
+  generation = generation;
+  moves = subst (λ (x : Heap). AreMoves x p.basis.condemned p.moves) (sym same) moves;
+  chosen = chosen;
+  settled = settled;
+  closed = closed;
+  full = subst (λ (x : Heap). HasNoEmptyCondemned x p.basis.condemned) (sym same) full;
+  listed = listed;
+}
+
+module _ (p : PlanOf) (promoted pinned : Addr → Bool) (from : IsLaidFrom p promoted pinned) where
+  pub laid_from : IsLaid p
+  laid_from = laid_plan p from.sound from.generation from.moves promoted pinned from.chosen from.settled from.closed from.full from.listed
+
+  pub kept_from : (a : Addr) → kept_in p a ≡ promoted a
+  kept_from = kept_is p.basis.heap p.basis.condemned from.sound p.moves from.moves promoted pinned from.chosen from.settled
+
+  pub pinned_from : (a : Addr) → promoted a ≡ true → pinned a ≡ true → place_in p a ≡ a
+  pinned_from = pinned_stays p.basis.heap p.basis.condemned from.sound p.moves from.moves promoted pinned from.chosen from.settled
+
+  pub stays_from : Counts (λ a. IsCondemned (objects_of p.basis) p.basis.condemned a × (promoted a ≡ true) × (pinned a ≡ true)) (stays_in p)
+  stays_from = stays_are p.basis.heap p.basis.condemned from.sound p.moves from.moves promoted pinned from.chosen from.settled
