@@ -39,7 +39,8 @@ pub raised_young : (n g : ℕ) → g ≤ n → raised n g ≡ min (g + 1) 2
 raised_young n g low = ap (λ b. cond b g (min (g + 1) 2)) (le-ltb n g low)
 
 -- an object is condemned or older, and not both
-pub older_or_young : (h : Heap) (n : ℕ) (a : Addr) → has_object h a ≡ true → (n < generation_at (object_at h) a) ⊎ (is_condemned h n a ≡ true)
+pub older_or_young : (h : Heap) (n : ℕ) (a : Addr) → has_object h a ≡ true
+    → (n < generation_at (object_at h) a) ⊎ (is_condemned h n a ≡ true)
 older_or_young h n a object = elim (cases_lt n (generation_at (object_at h) a)) [
   | inl older ↦ inl older
   | inr young ↦ inr (condemned_is h n a (record { object = object; young = young }))

@@ -24,4 +24,5 @@ walk-preserved c =
     }
 
 pub returns : goal.returns
-returns c = survey_end c.args.heap.now c.args.n c.walk.found c.walk.after c.walk.invariant.found c.in_default.ensures.walk
+returns c = survey_end c.args.heap.now c.args.n c.walk.found c.walk.after c.walk.invariant.found
+    c.in_default.ensures.walk

@@ -15,14 +15,18 @@ pub returns : goal.returns
 returns c =
     let laid = subst IsLaid (sym c.self.view_is) c.requires in
     subst
-    (λ (p : PlanOf). Counts (λ a. IsCondemned (objects_of p.basis) p.basis.condemned a × (kept_in p a ≡ true)) c.count_kept.result)
+    (λ (p : PlanOf). Counts (λ a. IsCondemned (objects_of p.basis) p.basis.condemned a × (kept_in p a ≡ true))
+    c.count_kept.result)
     c.self.view_is
     (subst
-    (λ (k : ℕ). Counts (λ a. IsCondemned (objects_of (record { heap = c.self.inside.heap.value; condemned = c.self.inside.condemned })) c.self.inside.condemned a
-      × (kept_in (record {
-        basis = record { heap = c.self.inside.heap.value; condemned = c.self.inside.condemned };
-        moves = c.self.inside.moves.items;
-        regions = c.self.inside.regions.items;
-      }) a ≡ true)) k)
+    (λ (k : ℕ). Counts (λ a. IsCondemned
+    (objects_of (record { heap = c.self.inside.heap.value; condemned = c.self.inside.condemned }))
+    c.self.inside.condemned a
+    × (kept_in (record {
+      basis = record { heap = c.self.inside.heap.value; condemned = c.self.inside.condemned };
+      moves = c.self.inside.moves.items;
+      regions = c.self.inside.regions.items;
+    }) a ≡ true)) k)
     (sym c.count_kept.ensures)
-    (kept_counted c.self.inside.heap.value c.self.inside.condemned laid.sound c.self.inside.moves.items laid.moves))
+    (kept_counted c.self.inside.heap.value c.self.inside.condemned laid.sound c.self.inside.moves.items
+    laid.moves))

@@ -14,13 +14,15 @@ use Rattle.hd_plan.proofs.plan.Plan.lay.Given.{Over}
 
 pub list_moves-requires-clause-room : goal.list_moves-requires-clause-room
 list_moves-requires-clause-room g c =
-    let same : c.self.inside.heap.value ≡ c.args.heap.now = ap (λ (p : PlanOf). p.basis.heap) c.self.view_is ∙ c.requires.heap in
+    let same : c.self.inside.heap.value ≡ c.args.heap.now = ap (λ (p : PlanOf). p.basis.heap) c.self.view_is
+    ∙ c.requires.heap in
     region_room c.args.heap.now c.self.inside.condemned (vec_capacity c.self.inside.regions)
     (length c.self.inside.places.cells.items) c.lay_moves.ensures.sound c.lay_moves.new.moves.items
     c.lay_moves.ensures.laid
     (subst
-    (λ (h : Heap). HasRegionRoom (HasCondemned (object_at h) c.self.inside.condemned) (vec_capacity c.self.inside.regions)
-      (length c.self.inside.places.cells.items))
+    (λ (h : Heap). HasRegionRoom (HasCondemned (object_at h) c.self.inside.condemned)
+    (vec_capacity c.self.inside.regions)
+    (length c.self.inside.places.cells.items))
     same c.self.invariant.regions)
 
 -- the plan that is laid
@@ -36,7 +38,8 @@ from : (g : Over) (c : After-list_moves g)
 from g c =
     let promoted = g.M.Marker.promoted c.args.marker.now in
     let pinned = g.M.Marker.pinned c.args.marker.now in
-    let basis : c.args.self.now.basis ≡ (laid_of g c).basis = sym (ap (λ (p : PlanOf). p.basis) c.self.view_is) in
+    let basis : c.args.self.now.basis ≡ (laid_of g c).basis =
+    sym (ap (λ (p : PlanOf). p.basis) c.self.view_is) in
     let same : c.self.inside.heap.value ≡ c.args.heap.now =
     ap (λ (p : PlanOf). p.basis.heap) c.self.view_is ∙ c.requires.heap in
     from_heap (laid_of g c) promoted pinned c.args.heap.now same c.lay_moves.ensures.sound
@@ -61,5 +64,6 @@ pub returns-clause-stays : goal.returns-clause-stays
 returns-clause-stays g c =
     subst
     (λ (b : Basis). Counts (λ a. IsCondemned (objects_of b) b.condemned a
-      × (g.M.Marker.promoted c.args.marker.now a ≡ true) × (g.M.Marker.pinned c.args.marker.now a ≡ true)) (stays_in (laid_of g c)))
+    × (g.M.Marker.promoted c.args.marker.now a ≡ true) × (g.M.Marker.pinned c.args.marker.now a ≡ true))
+    (stays_in (laid_of g c)))
     (ap (λ (p : PlanOf). p.basis) c.self.view_is) (stays_from (laid_of g c) _ _ (from g c))

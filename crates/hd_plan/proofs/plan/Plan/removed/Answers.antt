@@ -23,8 +23,10 @@ pub returns : goal.returns
 returns c =
     let laid = subst IsLaid (sym c.self.view_is) c.requires in
     subst
-    (λ (p : PlanOf). Counts (λ a. (is_object (objects_of p.basis) a ≡ true) × (kept_in p a ≡ false)) (c.len.result - c.count_kept.result))
+    (λ (p : PlanOf). Counts (λ a. (is_object (objects_of p.basis) a ≡ true) × (kept_in p a ≡ false))
+    (c.len.result - c.count_kept.result))
     c.self.view_is
-    (removed_counted c.self.inside.heap.value c.self.inside.condemned laid.sound c.self.inside.moves.items laid.moves
+    (removed_counted c.self.inside.heap.value c.self.inside.condemned laid.sound c.self.inside.moves.items
+    laid.moves
     c.count_kept.result (c.len.result - c.count_kept.result) c.count_kept.ensures
     (ap (λ n. n - c.count_kept.result) (c.len.ensures ∙ c.self.inside.moves.ok.0)))
