@@ -21,13 +21,6 @@ same_spot : (a b : Addr) → region_of a ≡ region_of b → a.0 % 256 ≡ b.0 %
 unfolding region_of
 same_spot a b region offset = addr_is a b (omega arith)
 
--- what was read from the list at an address
-pub first_read : (firsts : List ℕ) (a : Addr) (r x n : ℕ) → x ≡ get_or firsts r x → r ≡ region_of a → r < n
-    → n ≡ length firsts → first_at firsts (region_of a) ≡ x
-first_read firsts a r x n read region low long =
-    sym (get_or_read_under firsts (region_of a) n x 0 (read ∙ ap (λ y. get_or firsts y x) region)
-    (omega arith) long)
-
 -- a move that was read
 pub move_read : (ms : List Move) (k n : ℕ) (x : Move) → x ≡ get_or ms k x → k < n → n ≡ length ms
     → x ≡ move_at ms k

@@ -14,7 +14,9 @@ use crate::list::list_moves;
 use crate::moves::{Move, Way};
 use crate::plan::Plan;
 use crate::seats::Seats;
+use crate::survey::HEADER;
 use hd_heap::Heap;
+use hd_model::limits::OLDEST;
 use hd_model::{Addr, Marker};
 
 impl Plan {
@@ -75,7 +77,7 @@ fn lay_one<M: Marker>(heap: &Heap, marker: &M, n: u8, at: Addr, seats: &mut Seat
     ensures { IsMoveOf heap.now n (M.promoted marker.now at) (M.pinned marker.now at) seats.old
         seats.new at result }
 {
-    let generation = (heap.generation(at) + 1).min(2);
+    let generation = (heap.generation(at) + 1).min(OLDEST);
     let from = at;
     if !marker.promoted(at) {
         return Move {
@@ -93,7 +95,7 @@ fn lay_one<M: Marker>(heap: &Heap, marker: &M, n: u8, at: Addr, seats: &mut Seat
             way: Way::Stays,
         };
     }
-    let (way, to) = seats.put(heap, generation, heap.fields(at) + 3);
+    let (way, to) = seats.put(heap, generation, heap.fields(at) + HEADER);
     Move {
         from,
         to,

@@ -2,10 +2,13 @@ ghost use Rattle.std.specs.Prelude.{◌≡◌, ◌≢◌, ◌+◌, ◌*◌, ◌^
 ghost use Rattle.std.specs.Prelude.{length, replicate, slice_set, IfOk};
 ghost use Rattle.hd_model.specs.Heap.{region_of};
 ghost use Rattle.hd_plan.specs.Laying.{first_at};
-ghost use Rattle.hd_plan.specs.Table.{place_among, spot_of};
+ghost use Rattle.hd_plan.specs.Table.{place_among, spot_in, spot_of};
 
 use hd_model::{Addr, Memory};
 use std::alloc::Global;
+
+/// The cells of a region.
+pub(crate) const CELLS: u32 = hd_cells::CELLS as u32;
 
 /// New places by old ones, found at once: each region that is listed has 256 cells, one for each of
 /// its addresses.
@@ -21,7 +24,14 @@ pub(crate) struct Places {
 pub(crate) fn region_number(at: Addr) -> u32
     ensures { result ≡ region_of at }
 {
-    at.0 / 256
+    at.0 / CELLS
+}
+
+// The cell of an address in a region, by the place of the region in the list.
+fn spot(place: u32, at: Addr) -> usize
+    ensures { result ≡ spot_in place at }
+{
+    hd_cells::CELLS * place as usize + (at.0 % CELLS) as usize
 }
 
 impl Places {
@@ -33,7 +43,7 @@ impl Places {
         let Ok(firsts) = vec![in alloc; 0; last as usize + 1] else {
             return Err(Memory);
         };
-        match vec![in alloc; Addr(0); 256 * regions as usize] {
+        match vec![in alloc; Addr(0); hd_cells::CELLS * regions as usize] {
             Ok(cells) => Ok(Places { firsts, cells }),
             Err(_) => Err(Memory),
         }
@@ -58,8 +68,8 @@ impl Places {
         ensures cells { let spot = spot_of self.old.firsts.items at in
             self.new.cells.items ≡ slice_set self.old.cells.items spot to }
     {
-        let first = self.firsts[region_number(at) as usize] as usize - 1;
-        self.cells[256 * first + (at.0 % 256) as usize] = to;
+        let first = self.firsts[region_number(at) as usize] - 1;
+        self.cells[spot(first, at)] = to;
     }
 
     /// The new place of an address in a listed region; another address itself.
@@ -72,10 +82,10 @@ impl Places {
         if region >= self.firsts.len() {
             return at;
         }
-        let first = self.firsts[region] as usize;
+        let first = self.firsts[region];
         if first == 0 {
             return at;
         }
-        self.cells[256 * (first - 1) + (at.0 % 256) as usize]
+        self.cells[spot(first - 1, at)]
     }
 }

@@ -15,6 +15,12 @@ use std::alloc::Global;
 use std::marker::Model;
 use std::snapshot::Snapshot;
 
+// The cells that are taken at least in a region that is left, as the largest object has 64.
+const LEFT: u64 = 193;
+
+// More than there are rows of regions that may end in one with fewer cells taken.
+const OPEN: u32 = 3;
+
 /// Where each condemned object of one heap goes, and what becomes of each condemned region.
 #[derive(Drop)]
 pub struct Plan {
@@ -60,7 +66,7 @@ impl Plan {
         }) }
     {
         let found = count_condemned(heap, n);
-        heap.reserve_regions((found.cells / 193) as u32 + 3)?;
+        heap.reserve_regions((found.cells / LEFT) as u32 + OPEN)?;
         Plan::with_room(alloc, heap, n, &found)
     }
 

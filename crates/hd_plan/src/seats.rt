@@ -4,6 +4,7 @@ ghost use Rattle.hd_plan.specs.Laying.{seat_of, with_seat, CanPut, IsSeated};
 ghost use Rattle.hd_plan.specs.Layout.{is_moving};
 
 use crate::moves::Way;
+use crate::places::CELLS;
 use hd_heap::Heap;
 use hd_model::Addr;
 
@@ -74,10 +75,10 @@ impl Seats {
         ensures moves { is_moving result.0 ≡ true }
     {
         let seat = self.seat(generation);
-        if seat.region != 0 && seat.fill + cells <= 256 {
+        if seat.region != 0 && seat.fill + cells <= CELLS {
             let fill = seat.fill + cells;
             self.set(generation, Seat { fill, ..seat });
-            return (Way::Follows, Addr(seat.region * 256 + seat.fill));
+            return (Way::Follows, Addr(seat.region * CELLS + seat.fill));
         }
         let region = heap.spare_number(self.opened);
         self.set(
@@ -88,6 +89,6 @@ impl Seats {
             },
         );
         self.opened += 1;
-        (Way::Opens, Addr(region * 256))
+        (Way::Opens, Addr(region * CELLS))
     }
 }

@@ -5,6 +5,9 @@ use crate::places::region_number;
 use hd_heap::Heap;
 use hd_model::Addr;
 
+/// The cells of an object beside its fields.
+pub(crate) const HEADER: u32 = hd_cells::FIELDS as u32;
+
 /// What there is to lay: the condemned objects, their cells, the regions in which they stand, and
 /// the last of these regions.
 #[derive(Clone, Copy)]
@@ -44,7 +47,7 @@ pub(crate) fn count_condemned(heap: &Heap, n: u8) -> Survey
     };
     let mut after = None;
     'walk: while let Some(at) = heap.next_condemned(after, n) {
-        found.add(heap.fields(at) + 3, region_number(at));
+        found.add(heap.fields(at) + HEADER, region_number(at));
         after = Some(at);
     }
     found
