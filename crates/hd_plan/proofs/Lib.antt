@@ -9,3 +9,4 @@ pub mod Listing
 pub mod Placing
 pub mod Surveying
 pub mod Laid
+pub mod Filled

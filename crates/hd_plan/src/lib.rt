@@ -9,6 +9,8 @@ mod places;
 mod plan;
 mod seats;
 mod survey;
+#[cfg(test)]
+mod tests;
 
 pub use commits::commit;
 pub use moves::{Condemned, Move, Way};
