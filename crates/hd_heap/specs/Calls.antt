@@ -1,5 +1,5 @@
 -- What the calls of a heap answer, and how they leave it.
-use Rattle.std.specs.Prelude.{◌≡◌, ◌≢◌, ℕ, ◌+◌, ◌*◌, ◌<◌, ◌≤◌, ◌&&◌, Bool, true, false, if◌then◌else◌, [], drop, replicate, slice_set, nat_lt, Option, Some, None, MatchOption}
+use Rattle.std.specs.Prelude.{◌≡◌, ◌≢◌, ℕ, ◌+◌, ◌*◌, ◌<◌, ◌≤◌, ◌&&◌, Bool, true, false, if◌then◌else◌, [], drop, replicate, slice_set, nat_lt, nat_le, Option, Some, None, MatchOption}
 use Rattle.std.specs.FinMap as map
 use Rattle.std.specs.FinSet as set
 use Rattle.hd_model.specs.declared.data.Id.{Id}
@@ -78,6 +78,10 @@ IsWalk p after answer = MatchOption answer ((a : Addr) → p a ≡ true → is_a
 -- an object of a generation above n that starts in a set card
 abbrev pub is_old_carded : Heap → ℕ → Addr → Bool
 is_old_carded h n a = has_object h a && nat_lt n (generation_at (object_at h) a) && is_carded h a
+
+-- a condemned object: of generation n or a younger one
+abbrev pub is_condemned : Heap → ℕ → Addr → Bool
+is_condemned h n a = has_object h a && nat_le (generation_at (object_at h) a) n
 
 -- a spare region is held, without objects
 abbrev pub with_fresh : Heap → ℕ → ℕ → Heap

@@ -1,0 +1,1 @@
+-- How a plan is laid, object by object.

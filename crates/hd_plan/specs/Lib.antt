@@ -1,0 +1,5 @@
+pub mod Layout
+pub mod Packing
+pub mod Plan
+pub mod Laying
+pub mod Commit
