@@ -3,3 +3,4 @@ pub mod Packing
 pub mod Plan
 pub mod Laying
 pub mod Commit
+pub mod CommitSteps

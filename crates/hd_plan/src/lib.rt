@@ -1,10 +1,14 @@
 //! Where the objects that a collection keeps go, and the moving.
 #![tactic(auto)]
 
+mod carding;
 mod commits;
+mod copying;
 mod lay;
 mod moves;
 mod plan;
+mod releasing;
+mod rewriting;
 mod walk;
 
 pub use commits::commit;
