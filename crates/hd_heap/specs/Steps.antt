@@ -1,13 +1,15 @@
 -- What the private steps of a heap do.
-use Rattle.std.specs.Prelude.{◌≡◌, ◌≢◌, ℕ, ◌+◌, ◌/◌, ◌<◌, ◌≤◌, ◌&&◌, ◌⊎◌, Bool, true, false, nat_lt, Option, Some, None, MatchOption}
+use Rattle.std.specs.Prelude.{◌≡◌, ◌≢◌, ℕ, ◌+◌, ◌/◌, ◌<◌, ◌≤◌, ◌&&◌, ◌⊎◌, Bool, true, false, nat_lt, nat_le, ⊤, Option, Some, None, MatchOption}
 use Rattle.std.specs.FinMap.{contains_key}
 use Rattle.hd_model.specs.declared.data.Addr.{Addr}
 use Rattle.hd_model.specs.Heap.{Heap, has_object, is_held, region_at, region_generation}
 use Rattle.hd_heap.specs.declared.area.Area.{Area}
+use Rattle.hd_heap.specs.declared.area.Wanted.{Wanted}
+use Rattle.hd_heap.specs.declared.area.Wanted.TheVariants.{Any, Carded, Condemned}
 use Rattle.hd_cells.specs.Region.{IsObject, object_at, without_object}
 use Rattle.hd_cells.specs.Object.{size_of}
 use Rattle.hd_heap.specs.Areas.{contents, card_in}
-use Rattle.hd_heap.specs.Calls.{is_old_carded, with_fresh}
+use Rattle.hd_heap.specs.Calls.{is_old_carded, with_fresh, is_condemned}
 
 -- a held region of generation 0 with so many cells left
 pub record HasRoom (h : Heap) (region cells : ℕ) : Type 0 where
@@ -20,15 +22,23 @@ pub record IsRoom (old new : Heap) (region cells : ℕ) : Type 0 where
   pub room : HasRoom new region cells
   pub how : ((new ≡ old) × (is_held old region ≡ true)) ⊎ ((is_held old region ≡ false) × (new ≡ with_fresh old region 0))
 
--- an object that a walk gives: any one, or one of a generation above n that starts in a set card
-abbrev pub is_wanted : Heap → Option ℕ → Addr → Bool
-is_wanted h None = has_object h
-is_wanted h (Some n) = is_old_carded h n
+-- an object that a walk gives: any one, one of a generation above n that starts in a set card, or one of no generation above n
+abbrev pub is_wanted : Heap → Wanted → Addr → Bool
+is_wanted h Any = has_object h
+is_wanted h (Carded n) = is_old_carded h n
+is_wanted h (Condemned n) = is_condemned h n
 
 -- the same of an offset in a region
-abbrev pub wants : Option ℕ → Area → ℕ → Bool
-wants None a k = contains_key (contents a).objects k
-wants (Some n) a k = contains_key (contents a).objects k && nat_lt n a.generation && card_in (Some a) (k / 32)
+abbrev pub wants : Wanted → Area → ℕ → Bool
+wants Any a k = contains_key (contents a).objects k
+wants (Carded n) a k = contains_key (contents a).objects k && nat_lt n a.generation && card_in (Some a) (k / 32)
+wants (Condemned n) a k = contains_key (contents a).objects k && nat_le a.generation n
+
+-- a generation that is asked for
+abbrev pub IsAsked : Wanted → ℕ → Type 0
+IsAsked Any generation = ⊤
+IsAsked (Carded n) generation = n < generation
+IsAsked (Condemned n) generation = generation ≤ n
 
 -- the least offset from a place on of which p holds, or None
 abbrev pub IsFirstAt : (ℕ → Bool) → ℕ → Option ℕ → Type 0

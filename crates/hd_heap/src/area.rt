@@ -5,7 +5,7 @@ ghost use Rattle.std.specs.FinMap as map;
 ghost use Rattle.hd_cells.specs.Object.{new_object};
 ghost use Rattle.hd_cells.specs.Region.{IsFirstFrom, IsLaidOut, IsObject, empty_region, with_put};
 ghost use Rattle.hd_heap.specs.Areas.{contents, card_in, BeginsIn, IsArea};
-ghost use Rattle.hd_heap.specs.Steps.{wants, IsFirstAt, IsFirstSince, IsTaken};
+ghost use Rattle.hd_heap.specs.Steps.{wants, IsAsked, IsFirstAt, IsFirstSince, IsTaken};
 
 use hd_cells::{FIELDS, Region};
 use std::boxed::Box;
@@ -25,6 +25,15 @@ pub(crate) struct Area {
     pub(crate) generation: u8,
     pub(crate) cards: [bool; CARDS],
     pub(crate) live: u32,
+}
+
+/// What a walk gives: any object, one of a generation above a number that starts in a set card, or
+/// one of no generation above a number.
+#[derive(Clone, Copy)]
+pub(crate) enum Wanted {
+    Any,
+    Carded(u8),
+    Condemned(u8),
 }
 
 /// The offset of the first object behind an offset, in time by the gaps between where an object
@@ -133,41 +142,41 @@ impl Area {
         }
     }
 
-    /// The offset of the first object that is wanted: any one, or one that starts in a set card of a
-    /// region of a generation above a number. Where there can be none, no object is looked at.
-    pub(crate) fn first_wanted(&self, above: Option<u8>) -> Option<u32>
+    /// The offset of the first object that is wanted. Where there can be none, no object is looked at.
+    pub(crate) fn first_wanted(&self, wanted: Wanted) -> Option<u32>
         requires { IsArea self.now }
-        ensures { IsFirstAt (wants above self.now) 0 result }
+        ensures { IsFirstAt (wants wanted self.now) 0 result }
     {
-        if self.may_have(above) {
-            self.wanted_from(self.region.walk(0), above)
+        if self.may_have(wanted) {
+            self.wanted_from(self.region.walk(0), wanted)
         } else {
             None
         }
     }
 
     /// The same, behind an offset.
-    pub(crate) fn wanted_after(&self, offset: u32, above: Option<u8>) -> Option<u32>
+    pub(crate) fn wanted_after(&self, offset: u32, wanted: Wanted) -> Option<u32>
         requires area { IsArea self.now }
         requires offset { offset < 256 }
-        ensures { IsFirstAt (wants above self.now) (offset + 1) result }
+        ensures { IsFirstAt (wants wanted self.now) (offset + 1) result }
     {
-        if self.may_have(above) {
-            self.wanted_from(offset_after(&self.region, offset), above)
+        if self.may_have(wanted) {
+            self.wanted_from(offset_after(&self.region, offset), wanted)
         } else {
             None
         }
     }
 
     /// Whether there may be an object that is wanted, as far as can be said without a look at any.
-    fn may_have(&self, above: Option<u8>) -> bool
+    fn may_have(&self, wanted: Wanted) -> bool
         requires { IsArea self.now }
-        ensures none { result ≡ false → (k : ℕ) → wants above self.now k ≡ false }
-        ensures old { result ≡ true → IfSome above (λ n. n < self.now.generation) }
+        ensures none { result ≡ false → (k : ℕ) → wants wanted self.now k ≡ false }
+        ensures old { result ≡ true → IsAsked wanted self.now.generation }
     {
-        match above {
-            None => self.live != 0,
-            Some(n) => self.generation > n && self.has_set_card(),
+        match wanted {
+            Wanted::Any => self.live != 0,
+            Wanted::Carded(n) => self.generation > n && self.has_set_card(),
+            Wanted::Condemned(n) => self.generation <= n && self.live != 0,
         }
     }
 
@@ -185,28 +194,28 @@ impl Area {
     }
 
     /// Whether an object is wanted, in a region of a generation that is.
-    fn is_wanted(&self, at: u32, above: Option<u8>) -> bool
+    fn is_wanted(&self, at: u32, wanted: Wanted) -> bool
         requires area { IsArea self.now }
         requires object { IsObject (contents self.now) at }
-        requires old { IfSome above (λ n. n < self.now.generation) }
-        ensures { result ≡ wants above self.now at }
+        requires old { IsAsked wanted self.now.generation }
+        ensures { result ≡ wants wanted self.now at }
     {
-        match above {
-            None => true,
-            Some(_) => self.cards[(at / CARD) as usize],
+        match wanted {
+            Wanted::Any | Wanted::Condemned(_) => true,
+            Wanted::Carded(_) => self.cards[(at / CARD) as usize],
         }
     }
 
     /// From an object on, the first one that is wanted.
-    fn wanted_from(&self, first: Option<u32>, above: Option<u8>) -> Option<u32>
+    fn wanted_from(&self, first: Option<u32>, wanted: Wanted) -> Option<u32>
         requires area { IsArea self.now }
         requires object { IfSome first (λ at. IsObject (contents self.now) at) }
-        requires old { IfSome above (λ n. n < self.now.generation) }
-        ensures { IsFirstSince (wants above self.now) first result }
+        requires old { IsAsked wanted self.now.generation }
+        ensures { IsFirstSince (wants wanted self.now) first result }
     {
         let mut next = first;
         while let Some(at) = next {
-            if self.is_wanted(at, above) {
+            if self.is_wanted(at, wanted) {
                 return next;
             }
             next = self.region.after(at);

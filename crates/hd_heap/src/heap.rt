@@ -10,13 +10,13 @@ ghost use Rattle.hd_model.specs.Heap.{is_held, region_at, region_of, region_gene
 ghost use Rattle.hd_heap.specs.Sound.{IsSound};
 ghost use Rattle.hd_heap.specs.Calls.{empty_heap, new_object, with_object, with_put, with_field};
 ghost use Rattle.hd_heap.specs.Calls.{IsMade, IsRefused};
-ghost use Rattle.hd_heap.specs.Calls.{stored, is_younger, with_card, IsWalk, is_old_carded};
+ghost use Rattle.hd_heap.specs.Calls.{stored, is_younger, with_card, IsWalk, is_old_carded, is_condemned};
 ghost use Rattle.hd_heap.specs.Calls.{with_fresh, with_copy, IsRemoved, with_generation};
 ghost use Rattle.hd_heap.specs.Areas.{number};
 ghost use Rattle.hd_heap.specs.Steps.{HasRoom, IsRoom, is_wanted, IsLeastBetween, IsLeastFrom};
 
 use crate::NewFault;
-use crate::area::{Area, CARD};
+use crate::area::{Area, CARD, Wanted};
 use hd_cells::Region;
 use hd_model::{Addr, Id, Memory};
 use std::alloc::Global;
@@ -266,7 +266,7 @@ impl Heap {
         ensures walk { IsWalk (has_object self.now) after result }
         ensures sound { IsSound self.now }
     {
-        self.walk(after, None)
+        self.walk(after, Wanted::Any)
     }
 
     /// The first object behind `after`, which may be any address, that is of a generation above `n`
@@ -276,7 +276,16 @@ impl Heap {
         ensures walk { IsWalk (is_old_carded self.now n) after result }
         ensures sound { IsSound self.now }
     {
-        self.walk(after, Some(n))
+        self.walk(after, Wanted::Carded(n))
+    }
+
+    /// The first object behind `after`, which may be any address, that is of no generation above `n`.
+    /// A region of an older generation or without objects is passed at once.
+    pub fn next_condemned(&self, after: Option<Addr>, n: u8) -> Option<Addr>
+        ensures walk { IsWalk (is_condemned self.now n) after result }
+        ensures sound { IsSound self.now }
+    {
+        self.walk(after, Wanted::Condemned(n))
     }
 
     /// Takes memory for spare regions, so that there are at least `count`. Where there is none left,
@@ -510,25 +519,24 @@ impl Heap {
         }
     }
 
-    /// The first object behind `after` that is wanted: any one, or one of a generation above a number
-    /// that starts in a set card.
-    fn walk(&self, after: Option<Addr>, above: Option<u8>) -> Option<Addr>
-        ensures walk { IsWalk (is_wanted self.now above) after result }
+    /// The first object behind `after` that is wanted.
+    fn walk(&self, after: Option<Addr>, wanted: Wanted) -> Option<Addr>
+        ensures walk { IsWalk (is_wanted self.now wanted) after result }
         ensures sound { IsSound self.now }
     {
         let Some(at) = after else {
-            return self.first_from(0, above);
+            return self.first_from(0, wanted);
         };
-        if let Some(found) = self.next_in_region(at, above) {
+        if let Some(found) = self.next_in_region(at, wanted) {
             return Some(found);
         }
-        self.first_from((at.0 / CELLS) as usize, above)
+        self.first_from((at.0 / CELLS) as usize, wanted)
     }
 
     /// The first object that is wanted behind an address in the same region.
-    fn next_in_region(&self, at: Addr, above: Option<u8>) -> Option<Addr>
+    fn next_in_region(&self, at: Addr, wanted: Wanted) -> Option<Addr>
         ensures next { let end = (at.0 / 256 + 1) * 256 in
-            IsLeastBetween (is_wanted self.now above) (at.0 + 1) end result }
+            IsLeastBetween (is_wanted self.now wanted) (at.0 + 1) end result }
         ensures sound { IsSound self.now }
     {
         let regions = self.areas.len();
@@ -539,19 +547,19 @@ impl Heap {
         if place >= regions {
             return None;
         }
-        match self.areas[place].wanted_after(offset_of(at), above) {
+        match self.areas[place].wanted_after(offset_of(at), wanted) {
             Some(offset) => Some(address_in(at.0 / CELLS, offset)),
             None => None,
         }
     }
 
     /// The first object that is wanted in the regions from a place of the list on.
-    fn first_from(&self, first: usize, above: Option<u8>) -> Option<Addr>
-        ensures first { IsLeastFrom (is_wanted self.now above) ((first + 1) * 256) result }
+    fn first_from(&self, first: usize, wanted: Wanted) -> Option<Addr>
+        ensures first { IsLeastFrom (is_wanted self.now wanted) ((first + 1) * 256) result }
         ensures sound { IsSound self.now }
     {
         for place in first..self.areas.len() {
-            if let Some(offset) = self.areas[place].first_wanted(above) {
+            if let Some(offset) = self.areas[place].first_wanted(wanted) {
                 return Some(address_in(place as u32 + 1, offset));
             }
         }

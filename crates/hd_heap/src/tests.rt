@@ -132,6 +132,27 @@ fn a_card_is_set_by_a_younger_object_and_goes_with_its_last(rt: HostRuntime) -> 
 }
 
 #[test]
+fn a_walk_of_condemned_objects_passes_an_older_region(rt: HostRuntime) -> Result<(), Fail> {
+    let mut heap = Heap::open(rt.alloc(), 1_000)?;
+    for serial in 1..5 {
+        let _ = heap.new_object(Id(serial), 61, false)?;
+    }
+    let old = heap.new_object(Id(5), 0, false)?;
+    assert!(rt; stands(&heap, old));
+    raise(&mut heap, old, 1);
+    let last = heap.new_object(Id(6), 0, false)?;
+    assert_eq!(rt; [old.0, last.0], [512, 768]);
+
+    assert_eq!(rt; heap.next_condemned(None, 0), Some(Addr(256)));
+    assert_eq!(rt; heap.next_condemned(Some(Addr(256)), 0), Some(Addr(320)));
+    for (n, next) in [(0, last), (1, old), (2, old)] {
+        assert_eq!(rt; heap.next_condemned(Some(Addr(448)), n), Some(next));
+    }
+    assert_eq!(rt; heap.next_condemned(Some(last), 2), None);
+    Ok(())
+}
+
+#[test]
 fn a_region_that_is_held_again_has_no_old_cells(rt: HostRuntime) -> Result<(), Fail> {
     let mut heap = Heap::open(rt.alloc(), 1_000)?;
     let old = heap.new_object(Id(1), 2, true)?;

@@ -19,8 +19,9 @@ use Rattle.hd_heap.proofs.Places.{tied, untied}
 use Rattle.hd_plan.specs.declared.moves.Move.{Move}
 use Rattle.hd_plan.specs.Layout.{move_at, is_kept_way}
 use Rattle.hd_plan.specs.Commit.{NeedsCard}
+use Rattle.hd_plan.proofs.Tests.{addr_is}
 use Rattle.hd_plan.specs.CommitSteps.{AreCarded, IsKeptAt, NamesYounger, starts_in, AreUnneeding, IsBefore, AreExactTo, IsExactBehind, next_to, left_from}
-use Rattle.hd_plan.proofs.CommitEnds.{same_address, ends_more, ends_cases, ends_skip}
+use Rattle.hd_plan.proofs.CommitEnds.{ends_more, ends_cases, ends_skip}
 
 same_some : (x y : Addr) → Some x ≡ Some y → x ≡ y
 same_some x y e = cc
@@ -137,7 +138,7 @@ module _ (h : Heap) (card : ℕ) (place : Option Addr) (at : Addr) (is : place �
       -- up to this object
       through : (b : Addr) → starts_in h card b ≡ true → b.0 ≤ at.0 → NamesYounger h b → ⊥
       through b starts le n = elim (cases_eq b.0 at.0) [
-        | inl same ↦ none (subst (NamesYounger h) (same_address b at same) n)
+        | inl same ↦ none (subst (NamesYounger h) (addr_is b at same) n)
         | inr apart ↦ r.before b starts (subst (λ o. IsBefore o b) (sym is) (omega arith)) n
       ]
 

@@ -16,8 +16,9 @@ use Rattle.hd_plan.specs.declared.moves.Way.TheVariants.{Gone, Stays, Opens, Fol
 use Rattle.hd_plan.specs.declared.moves.Move.{Move}
 use Rattle.hd_plan.specs.Layout.{Room, move_at, is_moving, put_way, put_move, room_at, region_in, filled, Fits, FitsMove, Opened, Followed}
 use Rattle.hd_plan.specs.Packing.{IsRoom, IsFresh}
+use Rattle.hd_plan.proofs.Tests.{addr_is}
 use Rattle.hd_plan.specs.CommitSteps.{HasEnd, IsCopiedTo, CanCopy, MayGo, HasGone, AreCopied}
-use Rattle.hd_plan.proofs.CommitEnds.{same_address, ends_more, ends_here}
+use Rattle.hd_plan.proofs.CommitEnds.{ends_more, ends_here}
 
 abbrev no_placed : Placed
 no_placed = record { id = record { 0 = 0 }; fields = []; value = 0; registered = false }
@@ -166,15 +167,15 @@ module _ (old h : Heap) (ms : List Move) (i : ℕ) (can : CanCopy old ms) (low :
       let same_at : (a : Addr) → a.0 ≡ m.to.0 → fin.get new.objects a.0 ≡ Some p = λ a e. ap (λ (x : Heap). fin.get x.objects a.0) step ∙ get_same h.objects m.to.0 a.0 p e in
       let kept_at : (a : Addr) → a.0 ≢ m.to.0 → fin.get new.objects a.0 ≡ fin.get h.objects a.0 = λ a apart. ap (λ (x : Heap). fin.get x.objects a.0) step ∙ get_other h.objects m.to.0 a.0 p apart in
       record {
-        objects = λ a is. kept_at a (λ e. both_ways _ fresh.new (subst (λ (x : Addr). is_held old (region_of x) ≡ true) (same_address a m.to e) (can.sound.held a is))) ∙ r.objects a is;
+        objects = λ a is. kept_at a (λ e. both_ways _ fresh.new (subst (λ (x : Addr). is_held old (region_of x) ≡ true) (addr_is a m.to e) (can.sound.held a is))) ∙ r.objects a is;
         copies = λ k before moving. elim (cases_lt k i) [
-          | inl below ↦ kept_at (move_at ms k).to (λ e. put.apart k i below (omega arith) moving moves (same_address (move_at ms k).to m.to e)) ∙ r.copies k below moving
+          | inl below ↦ kept_at (move_at ms k).to (λ e. put.apart k i below (omega arith) moving moves (addr_is (move_at ms k).to m.to e)) ∙ r.copies k below moving
           | inr high ↦
               let same : k ≡ i = omega arith in
               subst (λ j. fin.get new.objects (move_at ms j).to.0 ≡ fin.get old.objects (move_at ms j).from.0) (sym same) (same_at m.to refl ∙ sym (get_placed old m.from (can.objects i low)))
         ];
         only = λ b is. elim (cases_eq b.0 m.to.0) [
-          | inl same ↦ inr (ends_here is_moving (λ x. x.to) ms b i moves (sym (same_address b m.to same)))
+          | inl same ↦ inr (ends_here is_moving (λ x. x.to) ms b i moves (sym (addr_is b m.to same)))
           | inr apart ↦ elim (r.only b (sym (has_alike h new b (kept_at b apart)) ∙ is)) [
               | inl was ↦ inl was
               | inr e ↦ inr (ends_more is_moving (λ x. x.to) ms b i (i + 1) (omega arith) e)

@@ -6,6 +6,7 @@ use Rattle.hd_plan.specs.declared.moves.Way.{Way}
 use Rattle.hd_plan.specs.declared.moves.Way.TheVariants.{Gone, Stays, Opens, Follows}
 use Rattle.hd_plan.specs.declared.moves.Move.{Move}
 use Rattle.hd_plan.specs.Layout.{move_at, is_kept_way, is_staying}
+use Rattle.hd_plan.proofs.Tests.{addr_is}
 use Rattle.hd_plan.specs.CommitSteps.{HasEnd}
 
 -- the ways of an object that is kept, and of one that is left
@@ -18,9 +19,6 @@ pub left_way : (w : Way) → (w ≡ Gone) ⊎ ((w ≡ Opens) ⊎ (w ≡ Follows)
 left_way w (inl is) = ap (λ v. not (is_staying v)) is
 left_way w (inr (inl is)) = ap (λ v. not (is_staying v)) is
 left_way w (inr (inr is)) = ap (λ v. not (is_staying v)) is
-
-pub same_address : (x y : Addr) → x.0 ≡ y.0 → x ≡ y
-same_address x y e = λ i. record { 0 = e i }
 
 module _ (way : Way → Bool) (end : Move → Addr) (ms : List Move) (a : Addr) where
   pub ends_none : HasEnd way end ms 0 a → ⊥
@@ -50,7 +48,7 @@ module _ (way : Way → Bool) (end : Move → Addr) (ms : List Move) (a : Addr) 
 
   decided_by : (i : ℕ) (b : Bool) → way (move_at ms i).way ≡ b → ((end (move_at ms i)).0 ≡ a.0) ⊎ ((end (move_at ms i)).0 ≡ a.0 → ⊥) → (HasEnd way end ms i a → ⊥)
       → HasEnd way end ms (suc i) a ⊎ (HasEnd way end ms (suc i) a → ⊥)
-  decided_by i true goes (inl same) none = inl (subst (λ k. HasEnd way end ms k a) (add-one i) (ends_here i goes (same_address (end (move_at ms i)) a same)))
+  decided_by i true goes (inl same) none = inl (subst (λ k. HasEnd way end ms k a) (add-one i) (ends_here i goes (addr_is (end (move_at ms i)) a same)))
   decided_by i true goes (inr apart) none = inr (λ e. elim (ends_cases i (subst (λ k. HasEnd way end ms k a) (sym (add-one i)) e)) [
     | inl was ↦ none was
     | inr new ↦ apart (ap (λ (x : Addr). x.0) new.1)

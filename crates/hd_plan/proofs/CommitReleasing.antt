@@ -14,8 +14,9 @@ use Rattle.hd_heap.proofs.Values.{get_same, get_other}
 use Rattle.hd_plan.specs.declared.moves.Move.{Move}
 use Rattle.hd_plan.specs.declared.moves.Condemned.{Condemned}
 use Rattle.hd_plan.specs.Layout.{move_at, condemned_at, is_staying}
+use Rattle.hd_plan.proofs.Tests.{addr_is}
 use Rattle.hd_plan.specs.CommitSteps.{IsLeft, AreRemoved, AreSettled}
-use Rattle.hd_plan.proofs.CommitEnds.{same_address, ends_more, ends_here, ends_cases, ends_skip}
+use Rattle.hd_plan.proofs.CommitEnds.{ends_more, ends_here, ends_cases, ends_skip}
 use Rattle.hd_plan.proofs.CommitCopying.{has_alike}
 
 -- what a map has where something was taken out, and elsewhere
@@ -48,7 +49,7 @@ module _ (old h : Heap) (ms : List Move) (i : ℕ) (r : AreRemoved old h ms i) w
             ]
         ];
         others = λ a none.
-            beside a (λ same. none (ends_here (λ w. not (is_staying w)) (λ m. m.from) ms a i left (sym (same_address a at same))))
+            beside a (λ same. none (ends_here (λ w. not (is_staying w)) (λ m. m.from) ms a i left (sym (addr_is a at same))))
             ∙ r.others a (λ e. none (ends_more (λ w. not (is_staying w)) (λ m. m.from) ms a i (i + 1) (omega arith) e));
         same = step.removed ∙ ap (λ (x : Heap). record x { objects = fin.remove h.objects at.0; cards = new.cards }) r.same
             ∙ ap (λ os. record old { objects = os; cards = new.cards }) (sym (ap (λ (x : Heap). x.objects) step.removed));

@@ -18,8 +18,9 @@ use Rattle.hd_heap.proofs.Places.{untied}
 use Rattle.hd_heap.proofs.Values.{get_same, get_other, has_with_object, placed_with_object, write_twice, write_same, fields_placed}
 use Rattle.hd_plan.specs.declared.moves.Move.{Move}
 use Rattle.hd_plan.specs.Layout.{move_at, is_kept_way}
+use Rattle.hd_plan.proofs.Tests.{addr_is}
 use Rattle.hd_plan.specs.CommitSteps.{rewritten, MoreCards, SameCards, IsRewritten, AreFieldsRewritten, AreRewritten, IsCardedTo, IsKeptAt, next_to}
-use Rattle.hd_plan.proofs.CommitEnds.{same_address, ends_more, ends_here, ends_cases, ends_skip, ends_decided}
+use Rattle.hd_plan.proofs.CommitEnds.{ends_more, ends_here, ends_cases, ends_skip, ends_decided}
 use Rattle.hd_plan.proofs.CommitCarding.{address_fits}
 use Rattle.hd_plan.proofs.CommitCopying.{get_placed, has_alike}
 
@@ -185,7 +186,7 @@ module _ (Those : Addr → Type 0) (place : Addr → Addr) (old h : Heap) (r : A
               | inr same ↦ absurd (apart same)
             ]
         ];
-        others = λ a none. beside a (λ same. none (subst Next (sym (same_address a x same)) joins)) ∙ r.others a (λ those. none (keeps a those));
+        others = λ a none. beside a (λ same. none (subst Next (sym (addr_is a x same)) joins)) ∙ r.others a (λ those. none (keeps a those));
         same = step.object ∙ ap (λ (k : Heap). record (with_object k x p) { cards = new.cards }) r.same
             ∙ ap (λ os. record old { objects = os; cards = new.cards }) (ap (λ os. map_of.insert os x.0 p) refl ∙ sym (ap (λ (k : Heap). k.objects) step.object));
         more = λ c set. step.more c (r.more c set);

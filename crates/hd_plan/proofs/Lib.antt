@@ -3,3 +3,10 @@ pub mod CommitCarding
 pub mod CommitCopying
 pub mod CommitRewriting
 pub mod CommitReleasing
+pub mod Finding
+pub mod Tests
+pub mod Rooms
+pub mod Keeping
+pub mod Seating
+pub mod Weights
+pub mod Stepping

@@ -4,3 +4,4 @@ pub mod Plan
 pub mod Laying
 pub mod Commit
 pub mod CommitSteps
+pub mod Table

@@ -4,6 +4,7 @@ use Rattle.std.specs.Coded.{Coded, code_by, coded×, coded_list}
 use Rattle.hd_model.specs.declared.data.Addr.{Addr}
 use Rattle.hd_model.specs.Code.{basis_code}
 use Rattle.hd_model.specs.Leads.{IsClosed}
+use Rattle.hd_model.specs.Marking.{IsKeeping}
 use Rattle.hd_model.specs.Scene.{is_object, generation_at, IsField, IsCondemned}
 use Rattle.hd_model.specs.Heap.{Heap, Basis, objects_of, object_at, placed_at, cells_of, is_held, region_of, has_object}
 use Rattle.hd_heap.specs.Sound.{IsSound}
@@ -38,12 +39,13 @@ place_in p a = place_by (find_move p.moves a) a
 abbrev pub stays_in : PlanOf → ℕ
 stays_in p = stays_among p.moves
 
--- the places of all kept objects are given, and fields of kept objects name kept ones
+-- the places of all kept objects are given, no two to one place, and fields of kept objects name kept ones
 pub record IsLaid (p : PlanOf) : Type 0 where
   pub sound : IsSound p.basis.heap
   pub generation : p.basis.condemned ≤ 2
   pub moves : AreMoves p.basis.heap p.basis.condemned p.moves
   pub regions : AreRegions p.basis.heap p.basis.condemned p.moves p.regions
+  pub keeping : IsKeeping (objects_of p.basis) p.basis.condemned (kept_in p) (place_in p)
   pub closed : IsClosed (IsField (objects_of p.basis)) (kept_in p)
 
 -- the objects of a property take together so many cells

@@ -5,11 +5,14 @@ mod carding;
 mod commits;
 mod copying;
 mod lay;
+mod list;
 mod moves;
+mod places;
 mod plan;
 mod releasing;
 mod rewriting;
-mod walk;
+mod seats;
+mod survey;
 
 pub use commits::commit;
 pub use moves::{Condemned, Move, Way};

@@ -7,7 +7,7 @@ use Rattle.hd_heap.proofs.Wanted.{IsOn, left, on_start, on_next, on_found, on_en
 use Rattle.hd_heap.proofs.area.Area.wanted_from.Goals as goal
 
 pub loop-next-init : goal.loop-next-init
-loop-next-init c = (on_start c.args.self.now c.args.above c.args.first, c.requires.object)
+loop-next-init c = (on_start c.args.self.now c.args.wanted c.args.first, c.requires.object)
 
 pub is_wanted-requires : goal.is_wanted-requires
 is_wanted-requires c = record {
@@ -18,8 +18,8 @@ is_wanted-requires c = record {
 
 pub returns-then-is_wanted : goal.returns-then-is_wanted
 returns-then-is_wanted c =
-    let on : IsOn c.args.self.now c.args.above c.args.first (Some c.in-Some.at) = subst (IsOn c.args.self.now c.args.above c.args.first) c.in-Some.is c.loop-next.invariant.0 in
-    on_found c.args.self.now c.args.above c.args.first c.in-Some.at on (sym c.is_wanted.ensures ∙ c.if-is_wanted.true)
+    let on : IsOn c.args.self.now c.args.wanted c.args.first (Some c.in-Some.at) = subst (IsOn c.args.self.now c.args.wanted c.args.first) c.in-Some.is c.loop-next.invariant.0 in
+    on_found c.args.self.now c.args.wanted c.args.first c.in-Some.at on (sym c.is_wanted.ensures ∙ c.if-is_wanted.true)
 
 pub after-next-requires : goal.after-next-requires
 after-next-requires c =
@@ -34,11 +34,11 @@ loop-next-smaller c =
 
 pub loop-next-preserved : goal.loop-next-preserved
 loop-next-preserved c =
-    let on : IsOn c.args.self.now c.args.above c.args.first (Some c.in-Some.at) = subst (IsOn c.args.self.now c.args.above c.args.first) c.in-Some.is c.loop-next.invariant.0 in
+    let on : IsOn c.args.self.now c.args.wanted c.args.first (Some c.in-Some.at) = subst (IsOn c.args.self.now c.args.wanted c.args.first) c.in-Some.is c.loop-next.invariant.0 in
     let first = subst (λ (r : Contents). IsFirstFrom r (c.in-Some.at + 1) c.after-next.result) c.deref.ensures c.after-next.ensures.first in (
-      on_next c.args.self.now c.args.above c.args.first c.in-Some.at c.after-next.result on (sym c.is_wanted.ensures ∙ c.if-is_wanted.false) first,
+      on_next c.args.self.now c.args.wanted c.args.first c.in-Some.at c.after-next.result on (sym c.is_wanted.ensures ∙ c.if-is_wanted.false) first,
       first_object c.args.self.now (c.in-Some.at + 1) c.after-next.result first,
     )
 
 pub returns : goal.returns
-returns c = on_end c.args.self.now c.args.above c.args.first (subst (IsOn c.args.self.now c.args.above c.args.first) c.in_default.is c.loop-next.invariant.0)
+returns c = on_end c.args.self.now c.args.wanted c.args.first (subst (IsOn c.args.self.now c.args.wanted c.args.first) c.in_default.is c.loop-next.invariant.0)
