@@ -133,8 +133,8 @@ generation_of : (g : ℕ) (o : Option Placed) → generation_in (option_map (obj
 generation_of g None = refl
 generation_of g (Some p) = refl
 
-pub fields_alike : (h k : Heap) (a : Addr) → map_of.get k.objects a.0 ≡ map_of.get h.objects a.0 → fields_at (object_at k) a ≡ fields_at (object_at h) a
-fields_alike h k a same = by (region_generation k (region_of a)) (region_generation h (region_of a)) (map_of.get k.objects a.0) (map_of.get h.objects a.0) same
+pub fields_alike : (h k : Heap) (a b : Addr) → map_of.get k.objects b.0 ≡ map_of.get h.objects a.0 → fields_at (object_at k) b ≡ fields_at (object_at h) a
+fields_alike h k a b same = by (region_generation k (region_of b)) (region_generation h (region_of a)) (map_of.get k.objects b.0) (map_of.get h.objects a.0) same
   where
     fields_of : (g f : ℕ) (o : Option Placed) → fields_in (option_map (object_in g) o) ≡ fields_in (option_map (object_in f) o)
     fields_of g f None = refl
@@ -166,7 +166,7 @@ module _ (Those : Addr → Type 0) (place : Addr → Addr) (old h : Heap) (r : A
   rewritten_generation a either = generation_alike old h a (rewritten_has a either) (ap (λ (x : Heap). region_generation x (region_of a)) r.same)
 
   pub rewritten_field : (a y : Addr) → (Those a → ⊥) → IsField (object_at h) a y → IsField (object_at old) a y
-  rewritten_field a y other field = member_same (fields_at (object_at h) a) (fields_at (object_at old) a) (fields_alike old h a (r.others a other)) (Some y) field
+  rewritten_field a y other field = member_same (fields_at (object_at h) a) (fields_at (object_at old) a) (fields_alike old h a a (r.others a other)) (Some y) field
 
   pub rewritten_more : (Next : Addr → Type 0) (new : Heap) (x : Addr) → IsRewritten h new place x → has_object old x ≡ true → (Those x → ⊥) → Next x
       → ((a : Addr) → Those a → Next a) → ((a : Addr) → Next a → Those a ⊎ (a.0 ≡ x.0)) → AreRewritten Next place old new

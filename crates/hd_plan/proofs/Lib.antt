@@ -10,3 +10,7 @@ pub mod Keeping
 pub mod Seating
 pub mod Weights
 pub mod Stepping
+pub mod CommitShape
+pub mod CommitImage
+pub mod CommitGenerations
+pub mod CommitEnding
