@@ -14,3 +14,5 @@ pub mod CommitShape
 pub mod CommitImage
 pub mod CommitGenerations
 pub mod CommitEnding
+pub mod Listing
+pub mod Placing

@@ -26,6 +26,16 @@ begun_most s = elim (cases_eq s.region 0) [
   | inr some ↦ omega (arith, begun_some s some)
 ]
 
+-- no seat yet
+pub seats_start : (h : Heap) → AreSeats h (room_of h) (record { first = record { region = 0; fill = 0 }; second = record { region = 0; fill = 0 }; opened = 0 })
+unfolding room_start
+seats_start h = record {
+  room = room_start h;
+  first = record { region = refl; fill = λ some. absurd (some refl); empty = λ e. refl; fits = omega arith };
+  second = record { region = refl; fill = λ some. absurd (some refl); empty = λ e. refl; fits = omega arith };
+  opened = refl;
+}
+
 module _ (h : Heap) (sound : IsSound h) where
   -- a generation that puts has its seat at the end
   seat_here : (q p : Room) (opened g r fill : ℕ) → Puts h q p opened g r fill → IsSeat p g (record { region = r; fill = fill })
@@ -142,16 +152,6 @@ module _ (h : Heap) (sound : IsSound h) where
           (ap (λ x. x.second) is.seat ∙ ap (λ x. (with_seat old g x).second) there);
       }
 
-  -- no seat yet
-  pub seats_start : AreSeats h (room_of h) (record { first = record { region = 0; fill = 0 }; second = record { region = 0; fill = 0 }; opened = 0 })
-  unfolding room_start
-  seats_start = record {
-    room = room_start h;
-    first = record { region = refl; fill = λ some. absurd (some refl); empty = λ e. refl; fits = omega arith };
-    second = record { region = refl; fill = λ some. absurd (some refl); empty = λ e. refl; fits = omega arith };
-    opened = refl;
-  }
-
   current_low : (q : Room) → IsRoom h q → (g : ℕ) → (q.current g ≡ 0) ⊎ IsFresh h q g (q.current g) → q.current g < 2 ^ 24
   current_low q room g (inl none) = omega (arith, none)
   current_low q room g (inr fresh) = fresh_below h sound q room (q.current g) fresh.held
@@ -160,11 +160,12 @@ module _ (h : Heap) (sound : IsSound h) where
   seat_low q room g s seat = (subst (λ (x : ℕ). x < 2 ^ 24) (sym seat.region) (current_low q room g (room.current g)), seat.fits)
 
   -- there is room for one object more
-  pub can_put : (q : Room) (s : Seats) → AreSeats h q s → (laid cells : ℕ) → HasSlack s laid → laid ≤ cells → cells / 193 + 3 ≤ length h.spare → CanPut h s
-  can_put q s are laid cells slack within enough = record {
+  pub can_put : (q : Room) (s : Seats) → AreSeats h q s → (laid cells : ℕ) → HasSlack s laid → laid ≤ cells → cells < 2 ^ 38 → cells / 193 + 3 ≤ length h.spare → CanPut h s
+  can_put q s are laid cells slack within small enough = record {
     first = seat_low q are.room 1 s.first are.first;
     second = seat_low q are.room 2 s.second are.second;
     spare = omega (arith, begun_most s.first, begun_most s.second);
+    few = omega (arith, begun_most s.first, begun_most s.second);
   }
 
   -- the slack of the seats after one of them has another place
@@ -224,3 +225,10 @@ module _ (h : Heap) (sound : IsSound h) where
   slack_on Follows q old new are from to g cells laid young small spare is slack =
       slack_after old new g (seat_of old g).region ((seat_of old g).fill + cells) laid cells 0 young (let b = is.begun in omega arith)
       (ap (λ x. x.first) is.seat) (ap (λ x. x.second) is.seat) (ap (λ x. x.opened) is.seat ∙ omega arith) (omega (arith, begun_some (seat_of old g) is.begun)) slack
+
+-- the bounds of a seat
+pub seat_bounds : (h : Heap) (s : Seats) → CanPut h s → (g : ℕ) → ((seat_of s g).region < 2 ^ 24) × ((seat_of s g).fill ≤ 256)
+seat_bounds h s can g = elim (cases_eq g 1) [
+  | inl one ↦ subst (λ (x : Seat). (x.region < 2 ^ 24) × (x.fill ≤ 256)) (sym (ap (λ b. cond b s.first s.second) (eq-eqb g 1 one))) can.first
+  | inr other ↦ subst (λ (x : Seat). (x.region < 2 ^ 24) × (x.fill ≤ 256)) (sym (ap (λ b. cond b s.first s.second) (ne_eqb g 1 other))) can.second
+]

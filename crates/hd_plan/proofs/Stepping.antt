@@ -18,6 +18,7 @@ use Rattle.hd_plan.specs.Plan.{Takes, HasSpare}
 use Rattle.hd_plan.specs.Laying.{AreMovesTo, AreChosen, AreSeats, HasSlack, IsMoveOf, IsSeated, CanPut, HasMoveRoom, cells_laid}
 use Rattle.hd_plan.proofs.Tests.{condemned_of, addr_is}
 use Rattle.hd_plan.proofs.Keeping.{raised_some, cells_some}
+use Rattle.hd_plan.proofs.Rooms.{region_low, region_high}
 use Rattle.hd_plan.proofs.Seating.{sits, Sits, slack_on, can_put, seats_start}
 use Rattle.hd_plan.proofs.Weights.{moves_fit, cells_fit}
 
@@ -134,23 +135,38 @@ pub record IsLaying (h : Heap) (n : ℕ) (promoted pinned : Addr → Bool) (ms :
   pub seats_are : AreSeats h (room_at h ms (length ms)) seats
   pub slack : HasSlack seats (cells_laid h ms)
 
-module _ (h : Heap) (n : ℕ) (sound : IsSound h) (promoted pinned : Addr → Bool) where
-  pub laying_start : IsLaying h n promoted pinned [] (record { first = record { region = 0; fill = 0 }; second = record { region = 0; fill = 0 }; opened = 0 }) None
-  laying_start = record {
-    to = to_start h n;
-    chosen = chosen_start promoted pinned;
-    seats_are = subst (λ (q : Room). AreSeats h q (record { first = record { region = 0; fill = 0 }; second = record { region = 0; fill = 0 }; opened = 0 }))
-        (sym (room_none h)) (seats_start h sound);
-    slack = omega arith;
-  }
+pub laying_start : (h : Heap) (n : ℕ) (promoted pinned : Addr → Bool) → IsLaying h n promoted pinned [] (record { first = record { region = 0; fill = 0 }; second = record { region = 0; fill = 0 }; opened = 0 }) None
+laying_start h n promoted pinned = record {
+  to = to_start h n;
+  chosen = chosen_start promoted pinned;
+  seats_are = subst (λ (q : Room). AreSeats h q (record { first = record { region = 0; fill = 0 }; second = record { region = 0; fill = 0 }; opened = 0 }))
+      (sym (room_none h)) (seats_start h);
+  slack = omega arith;
+}
 
+-- how far a walk is: the first address that it has not passed
+abbrev pub reach_of : Option Addr → ℕ
+reach_of None = 0
+reach_of (Some a) = a.0 + 1
+
+pub reach_on : (after : Option Addr) (at : Addr) → is_after after at ≡ true → reach_of after ≤ at.0
+reach_on None at e = omega arith
+reach_on (Some b) at e = let l = ltb-true b.0 at.0 e in omega arith
+
+-- addresses of objects have 32 bits
+pub address_low : (h : Heap) → IsSound h → (a : Addr) → has_object h a ≡ true → (256 ≤ a.0) × (a.0 < 2 ^ 32)
+address_low h sound a is =
+    let number = sound.numbers (region_of a) (sound.held a is) in
+    (let some = number.0 in omega (arith, region_low a), let low = number.1 in omega (arith, region_high a))
+
+module _ (h : Heap) (n : ℕ) (sound : IsSound h) (promoted pinned : Addr → Bool) where
   laid_condemned : (ms : List Move) (after : Option Addr) → AreMovesTo h n ms after → (k : ℕ) → k < length ms → IsCondemned (object_at h) n (move_at ms k).from
   laid_condemned ms after to k low = condemned_of h n (move_at ms k).from (to.condemned k low)
 
   pub may_put : (ms : List Move) (seats : Seats) (after : Option Addr) → IsLaying h n promoted pinned ms seats after → HasSpare h n → CanPut h seats
   may_put ms seats after laying spare =
       can_put h sound (room_at h ms (length ms)) seats laying.seats_are (cells_laid h ms) spare.cells laying.slack
-      (cells_fit ms laying.to.rising h n (laid_condemned ms after laying.to) spare.cells spare.cells_are) spare.enough
+      (cells_fit ms laying.to.rising h n (laid_condemned ms after laying.to) spare.cells spare.cells_are) spare.small spare.enough
 
   laying_from : (ms : List Move) (old new : Seats) (after : Option Addr) (m : Move) → IsLaying h n promoted pinned ms old after → HasSpare h n → IsNext (is_condemned h n) after m.from
       → IsMoveOf h n (promoted m.from) (pinned m.from) old new m.from m → IsLaying h n promoted pinned (ms ++ m ∷ []) new (Some m.from)

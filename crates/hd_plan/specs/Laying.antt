@@ -158,6 +158,7 @@ pub record CanPut (h : Heap) (s : Seats) : Type 0 where
   pub first : (s.first.region < 2 ^ 24) × (s.first.fill ≤ 256)
   pub second : (s.second.region < 2 ^ 24) × (s.second.fill ≤ 256)
   pub spare : s.opened < length h.spare
+  pub few : s.opened < 2 ^ 31
 
 -- the regions of the first i moves are listed
 pub record AreListedTo (ms : List Move) (cs : List Condemned) (i : ℕ) : Type 0 where

@@ -1,5 +1,5 @@
 -- The value of a plan, what it keeps and where, and what a laid one tells.
-use Rattle.std.specs.Prelude.{◌≡◌, ℕ, ◌+◌, ◌/◌, ◌≤◌, ◌||◌, Bool, true, false, List, [], length, nat_lt, sum_by, map, AllPairs, Contains, ◌≢◌, refl}
+use Rattle.std.specs.Prelude.{◌≡◌, ℕ, ◌+◌, ◌/◌, ◌^◌, ◌<◌, ◌≤◌, ◌||◌, Bool, true, false, List, [], length, nat_lt, sum_by, map, AllPairs, Contains, ◌≢◌, refl}
 use Rattle.std.specs.Coded.{Coded, code_by, coded×, coded_list}
 use Rattle.hd_model.specs.declared.data.Addr.{Addr}
 use Rattle.hd_model.specs.Code.{basis_code}
@@ -60,6 +60,7 @@ pub record Takes (h : Heap) (P : Addr → Type 0) (cells : ℕ) : Type 0 where
 pub record HasSpare (h : Heap) (n : ℕ) : Type 0 where
   pub cells : ℕ
   pub cells_are : Takes h (IsCondemned (object_at h) n) cells
+  pub small : cells < 2 ^ 38
   pub enough : cells / 193 + 3 ≤ length h.spare
 
 -- nothing is laid yet, and there is room for all that is condemned

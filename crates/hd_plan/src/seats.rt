@@ -1,4 +1,4 @@
-ghost use Rattle.std.specs.Prelude.{◌≡◌, ◌≤◌, true};
+ghost use Rattle.std.specs.Prelude.{◌≡◌, ◌<◌, ◌≤◌, true};
 ghost use Rattle.hd_heap.specs.Sound.{IsSound};
 ghost use Rattle.hd_plan.specs.Laying.{seat_of, with_seat, CanPut, IsSeated};
 ghost use Rattle.hd_plan.specs.Layout.{is_moving};
@@ -67,7 +67,7 @@ impl Seats {
     /// spare region where it does not fit there.
     pub(crate) fn put(&mut self, heap: &Heap, generation: u8, cells: u32) -> (Way, Addr)
         requires sound { IsSound heap.now }
-        requires cells { cells ≤ 64 }
+        requires cells { (0 < cells) × (cells ≤ 64) }
         requires can_put { CanPut heap.now self.old }
         ensures seated { IsSeated result.0 heap.now.spare generation cells self.old self.new
             (record { 0 = 0 }) result.1 }
