@@ -16,3 +16,4 @@ pub mod CommitGenerations
 pub mod CommitEnding
 pub mod Listing
 pub mod Placing
+pub mod Compactness

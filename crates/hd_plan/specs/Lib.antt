@@ -1,5 +1,6 @@
 pub mod Layout
 pub mod Packing
+pub mod Compactness
 pub mod Plan
 pub mod Laying
 pub mod Commit
