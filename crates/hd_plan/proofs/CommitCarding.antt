@@ -278,3 +278,7 @@ module _ (old h : Heap) (after : Option Addr) (sound : IsSound h) (grown : (a : 
     ]),
     λ n. r.cards.kept c (needs_like old h c same n),
   )
+
+-- cards alone were changed, and changed again
+pub cards_alone : (old h new : Heap) → h ≡ record old { cards = h.cards } → new ≡ record h { cards = new.cards } → new ≡ record old { cards = new.cards }
+cards_alone old h new same step = step ∙ ap (λ (x : Heap). record x { cards = new.cards }) same

@@ -1,27 +1,95 @@
 -- The heap after the moving.
 use Rattle.std.proofs.Common.{◌≡◌, ◌≢◌, ℕ, zero, suc, ◌+◌, ◌*◌, ◌/◌, ◌<◌, ◌≤◌, inl, inr, ◌⊎◌, Bool, true, false, not, List, length, map, Option, Some, None, refl, sym, ap, ◌∙◌, subst, arith, true≢false}
 use Rattle.std.specs.Prelude.{is_some, unwrap_or, option_map, Contains, ◌↔◌, ◌||◌}
-use Rattle.std.proofs.lemmas.Bool.{cases_Bool, both_ways, cases_lt}
+use Rattle.std.proofs.lemmas.Bool.{cases_Bool, cases_eq, both_ways, cases_lt}
+use Rattle.std.proofs.lemmas.List.{length-map}
+use Rattle.std.specs.Ordering.{nat_cmp}
 use Rattle.std.specs.FinMap as fin
 use Rattle.hd_model.specs.declared.data.Addr.{Addr}
 use Rattle.hd_model.specs.Ages.{raised, HasSoundCards}
 use Rattle.hd_model.specs.Names.{HasClosedFields}
 use Rattle.hd_model.specs.Scene.{fields_at, fields_in, generation_at, IsField}
-use Rattle.hd_model.specs.Heap.{Placed, Region, Heap, region_of, card_of, region_at, region_generation, is_held, has_object, object_at, object_in, placed_at, id_in, id_at, is_set, is_carded, used_of}
+use Rattle.hd_model.specs.Heap.{Placed, Region, Heap, region_of, card_of, region_at, region_generation, is_held, has_object, object_at, object_in, placed_at, cells_of, id_in, id_at, is_set, is_carded, used_of}
 use Rattle.hd_model.proofs.Members.{member_same, mapped_from}
+use Rattle.hd_model.proofs.Sums.{share}
 use Rattle.hd_heap.specs.Calls.{is_old_carded}
 use Rattle.hd_heap.specs.Sound.{IsSound}
-use Rattle.hd_heap.proofs.Reading.{has-get}
-use Rattle.hd_plan.specs.Layout.{move_at, is_kept_way, is_moving, room_at, IsCondemnedRegion, HasStay}
+use Rattle.hd_heap.proofs.Values.{get_other}
+use Rattle.hd_plan.specs.declared.moves.Way.{Way}
+use Rattle.hd_plan.specs.declared.moves.Way.TheVariants.{Gone, Stays, Opens, Follows}
+use Rattle.hd_plan.specs.declared.moves.Move.{Move}
+use Rattle.hd_plan.specs.Layout.{Room, move_at, condemned_at, is_kept_way, is_moving, put_way, room_at, has_region, region_in, Fits, AreMoves, IsCondemnedRegion, HasStay}
+use Rattle.hd_plan.specs.Packing.{IsFresh}
+use Rattle.hd_plan.specs.Compactness.{is_opening, IsOpenedBy}
 use Rattle.hd_plan.specs.Plan.{PlanOf, kept_in, place_in, stays_in, StartsInRegion, HasNoEmptyRegion}
 use Rattle.hd_plan.specs.Commit.{moved_object, NeedsCard, ChangesRegions, Commits}
 use Rattle.hd_plan.specs.CommitSteps.{IsKeptAt, SameCards, AreCopied, rewritten, AreRewritten, AreRemoved, AreSettled, AreCarded}
+use Rattle.hd_plan.proofs.Tests.{addr_is}
+use Rattle.hd_plan.proofs.Rooms.{region_is}
+use Rattle.hd_plan.proofs.Keeping.{are_put, all_put, moving_kept}
+use Rattle.hd_plan.proofs.Compactness.{compact}
 use Rattle.hd_plan.proofs.CommitCarding.{has_from}
+use Rattle.hd_plan.proofs.CommitUsed.{sum-stands}
 use Rattle.hd_plan.proofs.CommitCopying.{get_placed, has_got, has_alike}
 use Rattle.hd_plan.proofs.CommitRewriting.{fields_alike}
-use Rattle.hd_plan.proofs.CommitShape.{IsCommitting, moves_now, closed_now}
-use Rattle.hd_plan.proofs.CommitImage.{kept_by, kept_older, place_older, kept_move, place_move, kept_object, image_at, image_only}
-use Rattle.hd_plan.proofs.CommitGenerations.{raised_above, raised_some, raised_older, generation_region, place_generation, region_kept, region_older, region_raised, region_given_up}
+use Rattle.hd_plan.proofs.CommitShape.{IsCommitting, moves_now, regions_now, closed_now}
+use Rattle.hd_plan.proofs.CommitImage.{kept_by, kept_older, place_older, kept_move, place_move, kept_object, from_condemned, stays_there, way_stays, way_rests, image_at, image_only}
+use Rattle.hd_plan.proofs.CommitGenerations.{raised_above, raised_some, raised_older, generation_region, place_generation, regions_room, region_kept, region_older, region_raised, region_given_up}
+
+some_placed : (a b : Placed) → Some a ≡ Some b → a ≡ b
+some_placed a b e = cc
+
+opening_moves : (w : Way) → is_opening w ≡ true → is_moving w ≡ true
+opening_moves Gone e = absurd (true≢false (sym e))
+opening_moves Stays e = absurd (true≢false (sym e))
+opening_moves Opens e = refl
+opening_moves Follows e = refl
+
+-- a fresh region was opened by a move
+opened_there : (rs : fin.FinMap nat_cmp Region) (n r : ℕ) (x : Region) → fin.contains_key (fin.insert rs n x) r ≡ true → (r ≡ n) ⊎ (fin.contains_key rs r ≡ true)
+opened_there rs n r x there = elim (cases_eq r n) [
+  | inl same ↦ inl same
+  | inr apart ↦ inr (ap is_some (sym (get_other rs n r x apart)) ∙ there)
+]
+
+module _ (h : Heap) (n : ℕ) (sound : IsSound h) (ms : List Move) (moves : AreMoves h n ms) where
+  module _ (i : ℕ) (low : i < length ms) (r : ℕ) (before : has_region (room_at h ms i).regions r ≡ true → IsOpenedBy ms r) where
+    here : is_opening (move_at ms i).way ≡ true → r ≡ region_of (move_at ms i).to → IsOpenedBy ms r
+    here opens same = record { at = i; within = low; opens = opens; region = sym same }
+
+    -- the region into which an object follows is there
+    followed : {g : ℕ} → ((room_at h ms i).current g ≡ 0) ⊎ IsFresh h (room_at h ms i) g ((room_at h ms i).current g) → (room_at h ms i).current g ≢ 0
+        → has_region (room_at h ms i).regions ((room_at h ms i).current g) ≡ true
+    followed (inl none) begun = absurd (begun none)
+    followed (inr fresh) begun = fresh.held
+
+    opened_by_way : (w : Way) → (move_at ms i).way ≡ w → Fits w (room_at h ms i) (move_at ms i).from (move_at ms i).to (move_at ms i).generation (cells_of (placed_at h (move_at ms i).from))
+        → has_region (put_way w (room_at h ms i) (move_at ms i).to (move_at ms i).generation (cells_of (placed_at h (move_at ms i).from))).regions r ≡ true → IsOpenedBy ms r
+    opened_by_way Gone is f was = before was
+    opened_by_way Stays is f was = before was
+    opened_by_way Opens is f was = elim (opened_there _ (region_of (move_at ms i).to) r _ was) [
+      | inl same ↦ here (ap is_opening is) same
+      | inr more ↦ elim (opened_there _ (region_of (move_at ms i).to) r _ more) [
+          | inl same ↦ here (ap is_opening is) same
+          | inr old ↦ before old
+        ]
+    ]
+    opened_by_way Follows is f was = elim (opened_there _ (region_of (move_at ms i).to) r _ was) [
+      | inl same ↦
+          let g = (move_at ms i).generation in
+          let current = (room_at h ms i).current g in
+          let fits = f.room in
+          let into : region_of (move_at ms i).to ≡ current = region_is (move_at ms i).to current (region_in (room_at h ms i).regions current).fill f.place (omega arith) in
+          before (ap (has_region (room_at h ms i).regions) (same ∙ into) ∙ followed ((are_put h n sound ms moves i (omega arith)).room.current g) f.begun)
+      | inr old ↦ before old
+    ]
+
+  opened_by : (i : ℕ) → i ≤ length ms → (r : ℕ) → has_region (room_at h ms i).regions r ≡ true → is_held h r ≡ false → IsOpenedBy ms r
+  unfolding room_at
+  opened_by zero low r there new = absurd (both_ways _ new there)
+  opened_by (suc i) low r there new =
+      let within : i < length ms = omega arith in
+      opened_by_way i within r (λ was. opened_by i (omega arith) r was new) (move_at ms i).way refl (moves.fits i within) there
 
 -- a field that was rewritten
 pub record IsRenamed (place : Addr → Addr) (fs : List (Option Addr)) (y : Addr) : Type 0 where
@@ -145,3 +213,120 @@ module _ (p : PlanOf) (old : Heap) (c : IsCommitting p old) (h1 : Heap) (c1 : Ar
             let first : is_carded h1 a ≡ true = ap (λ (x : Heap). is_set x (card_of a)) c1.same ∙ set in
             let third : is_carded h3 a ≡ true = r3.more (card_of a) (k2 (card_of a) ∙ first) in
             r6.more (card_of a) (ap (λ (x : Heap). is_set x (card_of a)) r5.same ∙ r4.cards a fourth ∙ third)
+
+  -- and so the whole
+  module _ (h7 : Heap) (same7 : h7 ≡ record h5 { cards = h7.cards }) where
+    region_now : (r : ℕ) → fin.get h7.regions r ≡ fin.get h5.regions r
+    region_now r = ap (λ (x : Heap). fin.get x.regions r) same7
+
+    region_held : (r : ℕ) (g : Region) → fin.get h5.regions r ≡ Some g → (is_held h7 r ≡ true) × (region_at h7 r ≡ g)
+    region_held r g got = (ap is_some (region_now r ∙ got), ap (λ (o : Option Region). unwrap_or o (record { generation = 0; fill = 0 })) (region_now r ∙ got))
+
+    changes : ChangesRegions p old h7
+    changes = record {
+      older = λ r held older.
+          let same = region_now r ∙ region_older p old c h1 c1 h2 r2 h3 r3 h4 r4 h5 r5 r (λ is. let low = is.young in omega arith) ∙ region_kept p old c h1 c1 h2 r2 h3 r3 h4 r4 r held in
+          (ap is_some same ∙ held, ap (λ (o : Option Region). unwrap_or o (record { generation = 0; fill = 0 })) same);
+      stays = λ r young stay. region_held r _ (region_raised p old c h1 c1 h2 r2 h3 r3 h4 r4 h5 r5 r young stay);
+      given_up = λ r young none. ap is_some (region_now r ∙ region_given_up p old c h1 c1 h2 r2 h3 r3 h4 r4 h5 r5 r young none);
+    }
+
+    -- a held region has an object that stays, or was opened, or is older
+    held_stays : (r : ℕ) → is_held h7 r ≡ true → IsCondemnedRegion old p.basis.condemned r → HasStay p.moves r
+    held_stays r held young =
+        let (k, listed) = (regions_now p old c).all r young in
+        elim (cases_Bool (condemned_at p.regions k).pinned) [
+          | inl pinned ↦ subst (HasStay p.moves) listed.1 (((regions_now p old c).pinned k listed.0).0 pinned)
+          | inr unpinned ↦
+              let gone = changes.given_up r young (λ stay. both_ways _ unpinned (((regions_now p old c).pinned k listed.0).1 (subst (HasStay p.moves) (sym listed.1) stay))) in
+              absurd (both_ways _ gone held)
+        ]
+
+    held_opened : (r : ℕ) → is_held h7 r ≡ true → is_held old r ≡ false → IsOpenedBy p.moves r
+    held_opened r held new =
+        let got : fin.get h7.regions r ≡ fin.get (room_at old p.moves (length p.moves)).regions r =
+            region_now r ∙ region_older p old c h1 c1 h2 r2 h3 r3 h4 r4 h5 r5 r (λ is. both_ways _ new is.held)
+            ∙ ap (λ rs. fin.get rs r) (regions_room p old c h1 c1 h2 r2 h3 r3 h4 r4) in
+        opened_by old p.basis.condemned c.sound p.moves (moves_now p old c) (length p.moves) (omega arith) r (ap is_some (sym got) ∙ held) new
+
+    full : HasNoEmptyRegion old → HasNoEmptyRegion h7
+    full some r held = elim (cases_Bool (is_held old r)) [
+      | inl was ↦ elim (cases_lt p.basis.condemned (region_generation old r)) [
+          | inl older ↦
+              let s = some r was in
+              let above : p.basis.condemned < generation_at (object_at old) s.at =
+                  subst (λ g. p.basis.condemned < g) (ap (region_generation old) (sym s.region) ∙ sym (generation_region old s.at s.object)) older in
+              let kept = kept_older p old c s.at above in
+              let place = place_older p old c s.at above in
+              record { at = s.at; object = ap (has_object h7) (sym place) ∙ ending_object h7 same7 s.at kept; region = s.region }
+          | inr young ↦
+              let s = held_stays r held (record { held = was; young = young }) in
+              let from = (move_at p.moves s.at).from in
+              let kept = kept_move p old c s.at s.within (way_stays (move_at p.moves s.at).way s.stays) in
+              let place = place_move p old c s.at s.within ∙ stays_there p old c s.at s.within (way_rests (move_at p.moves s.at).way s.stays) in
+              record { at = from; object = ap (has_object h7) (sym place) ∙ ending_object h7 same7 from kept; region = s.region }
+        ]
+      | inr new ↦
+          let o = held_opened r held new in
+          let from = (move_at p.moves o.at).from in
+          let kept = kept_move p old c o.at o.within (moving_kept (move_at p.moves o.at).way (opening_moves (move_at p.moves o.at).way o.opens)) in
+          record { at = (move_at p.moves o.at).to; object = ap (has_object h7) (sym (place_move p old c o.at o.within)) ∙ ending_object h7 same7 from kept; region = o.region }
+    ]
+
+    -- a new object stands for the one that it was
+    record StandsFor (q r : ℕ) : Type 0 where
+      was : Addr
+      number : was.0 ≡ r
+      place : (place_in p was).0 ≡ q
+
+    used : used_of h7 ≤ used_of old
+    used = sum-stands cells_of StandsFor
+        (λ q s r a b. sym a.place ∙ ap (λ (x : Addr). (place_in p x).0) (addr_is a.was b.was (a.number ∙ sym b.number)) ∙ b.place)
+        h7.objects old.objects
+        (λ q v got.
+        let b : Addr = record { 0 = q } in
+        let (a, is) = ending_only h7 same7 b (has_got h7 b v got) in
+        let there = get_placed old a (kept_object p old c a is.0) in
+        let now : Some (rewritten (place_in p) (placed_at old a)) ≡ Some v =
+            sym (ending_at h7 same7 a is.0 ∙ ap (option_map (rewritten (place_in p))) there) ∙ ap (λ (x : Addr). fin.get h7.objects x.0) is.1 ∙ got in
+        let cells : cells_of (rewritten (place_in p) (placed_at old a)) ≡ cells_of v = ap cells_of (some_placed _ _ now) in
+        let long = length-map (placed_at old a).fields (option_map (place_in p)) in
+        let stands : StandsFor q a.0 = record { was = a; number = refl; place = ap (λ (x : Addr). x.0) is.1 } in
+        let size : share cells_of (fin.get old.objects a.0) ≡ cells_of (placed_at old a) = ap (share cells_of) there in
+        (a.0, (stands, omega arith)))
+
+    compact_now : p.basis.condemned ≡ 2 → fin.len h7.regions ≤ used_of h7 / 193 + 3 + stays_in p
+    compact_now all =
+        let moves = moves_now p old c in
+        compact old c.sound p.basis.condemned p.moves moves (λ k low. (are_put old p.basis.condemned c.sound p.moves moves k low).room) h7
+        (λ j within moving.
+        let m = move_at p.moves j in
+        let kept = kept_move p old c j within (moving_kept m.way moving) in
+        let there = get_placed old m.from (from_condemned p old c j within).object in
+        let now : fin.get h7.objects m.to.0 ≡ Some (rewritten (place_in p) (placed_at old m.from)) =
+            ap (λ (x : Addr). fin.get h7.objects x.0) (sym (place_move p old c j within)) ∙ ending_at h7 same7 m.from kept ∙ ap (option_map (rewritten (place_in p))) there in
+        (rewritten (place_in p) (placed_at old m.from), (now, ap (λ n. n + 3) (length-map (placed_at old m.from).fields (option_map (place_in p))))))
+        (λ i j less within moving_i moving_j same.
+        (all_put old p.basis.condemned c.sound p.moves moves).apart i j less within moving_i moving_j (addr_is (move_at p.moves i).to (move_at p.moves j).to same))
+        (λ r held. elim (cases_Bool (is_held old r)) [
+          | inl was ↦ inl (held_stays r held (record { held = was; young = (let most = c.sound.generations r was in omega arith) }))
+          | inr new ↦ inr (held_opened r held new)
+        ])
+
+    pub ended : ((card : ℕ) → (is_set h7 card ≡ true) ↔ NeedsCard h7 card) → Commits p old h7
+    ended exact = record {
+      objects = λ a kept.
+          ap (option_map (object_in (region_generation h7 (region_of (place_in p a))))) (ending_at h7 same7 a kept)
+          ∙ object_of_rewritten (place_in p) p.basis.condemned (region_generation h7 (region_of (place_in p a))) (region_generation old (region_of a)) (fin.get old.objects a.0)
+            (ending_region h7 same7 a kept ∙ ap (raised p.basis.condemned) (generation_region old a (kept_object p old c a kept)));
+      ids = λ a kept. ap id_in (ending_at h7 same7 a kept) ∙ id_of_rewritten (place_in p) (fin.get old.objects a.0);
+      only = ending_only h7 same7;
+      regions = changes;
+      cards = exact;
+      limit =
+          ap (λ (x : Heap). x.limit) same7 ∙ ap (λ (x : Heap). x.limit) r5.same ∙ ap (λ (x : Heap). x.limit) r4.same ∙ ap (λ (x : Heap). x.limit) r3.same
+          ∙ ap (λ (x : Heap). x.limit) r2.same ∙ ap (λ (x : Heap). x.limit) c1.same;
+      used = used;
+      full = full;
+      compact = compact_now;
+    }

@@ -30,13 +30,13 @@ use Rattle.hd_plan.proofs.CommitShape.{IsCommitting, moves_now, kept_now, closed
 staying_of : (w : Way) → w ≡ Stays → is_staying w ≡ true
 staying_of w e = ap is_staying e
 
-way_stays : (w : Way) → is_staying w ≡ true → is_kept_way w ≡ true
+pub way_stays : (w : Way) → is_staying w ≡ true → is_kept_way w ≡ true
 way_stays Gone e = absurd (true≢false (sym e))
 way_stays Stays e = refl
 way_stays Opens e = absurd (true≢false (sym e))
 way_stays Follows e = absurd (true≢false (sym e))
 
-way_rests : (w : Way) → is_staying w ≡ true → is_moving w ≡ false
+pub way_rests : (w : Way) → is_staying w ≡ true → is_moving w ≡ false
 way_rests Gone e = absurd (true≢false (sym e))
 way_rests Stays e = refl
 way_rests Opens e = absurd (true≢false (sym e))

@@ -13,6 +13,7 @@ pub mod Stepping
 pub mod CommitShape
 pub mod CommitImage
 pub mod CommitGenerations
+pub mod CommitUsed
 pub mod CommitEnding
 pub mod Listing
 pub mod Placing

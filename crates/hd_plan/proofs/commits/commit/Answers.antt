@@ -9,7 +9,8 @@ use Rattle.hd_plan.specs.CommitSteps.{AreRewritten, IsKeptAt}
 use Rattle.hd_plan.proofs.CommitShape.{committing, can_copy}
 use Rattle.hd_plan.proofs.CommitImage.{carded_kept, place_there, second_there, kept_there, kept_apart, kept_fields, from_there}
 use Rattle.hd_plan.proofs.CommitGenerations.{settled_held, settled_generations, settled_empty}
-use Rattle.hd_plan.proofs.CommitEnding.{settled_there, ending_closed, ending_cards, ending_grown}
+use Rattle.hd_plan.proofs.CommitEnding.{settled_there, ending_closed, ending_cards, ending_grown, ended}
+use Rattle.hd_plan.proofs.CommitCarding.{cards_alone}
 use Rattle.hd_plan.proofs.commits.commit.Goals as goal
 
 -- the plan, by its parts
@@ -204,4 +205,13 @@ pub returns-clause-plan : goal.returns-clause-plan
 returns-clause-plan c = refl
 
 pub returns-clause-commits : goal.returns-clause-commits
-returns-clause-commits c = ?
+returns-clause-commits c =
+    let base =
+        committing c.args.plan.now (record { heap = c.plan.inside.heap.value; condemned = c.plan.inside.condemned }) c.deref-moves.result.now _ c.deref-regions.result.now _ c.args.heap.now
+        c.deref-moves.ensures.value c.deref-regions.ensures.value c.plan.view_is c.requires.laid c.requires.same c.requires.cards c.regions-regions.ensures.sound in
+    let old = c.args.heap.now in
+    let p = plan_of c.plan.inside.heap.value c.plan.inside.condemned c.deref-moves.result.now c.deref-regions.result.now in
+    let carded = subst (λ (q : PlanOf). AreRewritten (λ a. is_old_carded c.copy_moves.new.heap c.plan.inside.condemned a ≡ true) (place_in q) c.copy_moves.new.heap c.rewrite_carded.new.heap) (sym base.0) c.rewrite_carded.ensures.objects in
+    let kept = subst (λ (q : PlanOf). AreRewritten (IsKeptAt p.moves (length p.moves)) (place_in q) c.rewrite_carded.new.heap c.rewrite_kept.new.heap) (sym base.0) c.rewrite_kept.ensures in
+    subst (λ (q : PlanOf). Commits q old c.clear_unneeded.new.heap) base.0
+    (ended p old base.1 c.copy_moves.new.heap c.copy_moves.ensures c.rewrite_carded.new.heap carded c.rewrite_carded.ensures.cards c.rewrite_kept.new.heap kept c.remove_left.new.heap c.remove_left.ensures c.settle_regions.new.heap c.settle_regions.ensures c.clear_unneeded.new.heap (cards_alone c.settle_regions.new.heap c.card_kept.new.heap c.clear_unneeded.new.heap c.card_kept.ensures.same c.clear_unneeded.ensures.same) c.clear_unneeded.ensures.exact)
