@@ -18,3 +18,4 @@ pub mod CommitEnding
 pub mod Listing
 pub mod Placing
 pub mod Compactness
+pub mod Surveying

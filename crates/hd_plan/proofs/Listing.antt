@@ -14,7 +14,7 @@ use Rattle.hd_plan.specs.declared.moves.Condemned.{Condemned}
 use Rattle.hd_plan.specs.Layout.{move_at, condemned_at, is_staying, HasStay, IsRising}
 use Rattle.hd_plan.specs.Laying.{HasMove, HasRegionRoom, AreListedTo, last_of, is_last, IsJoined, IsAdded}
 
-region_rises : (a b : Addr) → a.0 ≤ b.0 → region_of a ≤ region_of b
+pub region_rises : (a b : Addr) → a.0 ≤ b.0 → region_of a ≤ region_of b
 unfolding region_of
 region_rises a b le = omega arith
 

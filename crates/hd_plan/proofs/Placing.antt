@@ -1,16 +1,16 @@
 -- The table of new places, as it is filled and read.
-use Rattle.std.proofs.Common.{◌≡◌, ◌≢◌, ℕ, zero, suc, ◌+◌, ◌-◌, ◌*◌, ◌/◌, ◌%◌, ◌<◌, ◌≤◌, List, [], ◌∷◌, ◌++◌, length, set, get_or, Option, Some, None, refl, sym, ap, ◌∙◌, subst, arith, inl, inr, ◌⊎◌, ⊎_elim, length-set, get_or-set_same, get_or-set_other}
+use Rattle.std.proofs.Common.{◌≡◌, ◌≢◌, ℕ, zero, suc, ◌+◌, ◌-◌, ◌*◌, ◌/◌, ◌%◌, ◌^◌, ◌<◌, ◌≤◌, false, List, [], ◌∷◌, ◌++◌, length, set, get_or, Option, Some, None, refl, sym, ap, ◌∙◌, subst, arith, inl, inr, ◌⊎◌, ⊎_elim, length-set, get_or-set_same, get_or-set_other}
 use Rattle.std.proofs.lemmas.Bool.{cases_eq, cases_lt}
-use Rattle.std.proofs.lemmas.List.{get_or_past}
+use Rattle.std.proofs.lemmas.List.{get_or_past, get_or_read_under}
 use Rattle.hd_model.specs.declared.data.Addr.{Addr}
 use Rattle.hd_model.specs.Heap.{region_of}
 use Rattle.hd_plan.specs.declared.moves.Move.{Move}
 use Rattle.hd_plan.specs.declared.moves.Condemned.{Condemned}
-use Rattle.hd_plan.specs.Layout.{move_at, condemned_at, IsRising}
-use Rattle.hd_plan.specs.Laying.{first_at, cell_at, HasPlaces, AreListedTo, IsJoined, IsAdded}
+use Rattle.hd_plan.specs.Layout.{move_at, condemned_at, is_staying, IsRising}
+use Rattle.hd_plan.specs.Laying.{first_at, cell_at, is_last, HasMove, HasRegionRoom, HasPlaces, AreListedTo, IsJoined, IsAdded}
 use Rattle.hd_plan.specs.Table.{spot_in, spot_of, place_from, place_among}
 use Rattle.hd_plan.proofs.Tests.{addr_is}
-use Rattle.hd_plan.proofs.Listing.{region_once, below_region, joined_region, joined_length, added_length, added_before, added_last}
+use Rattle.hd_plan.proofs.Listing.{region_once, below_region, joined_region, joined_length, added_length, added_before, added_last, listed_added, listed_fit, listed_next}
 
 pub region_is_quotient : (a : Addr) → region_of a ≡ a.0 / 256
 unfolding region_of
@@ -20,6 +20,14 @@ region_is_quotient a = refl
 same_spot : (a b : Addr) → region_of a ≡ region_of b → a.0 % 256 ≡ b.0 % 256 → a ≡ b
 unfolding region_of
 same_spot a b region offset = addr_is a b (omega arith)
+
+-- what was read from the list at an address
+pub first_read : (firsts : List ℕ) (a : Addr) (r x n : ℕ) → x ≡ get_or firsts r x → r ≡ region_of a → r < n → n ≡ length firsts → first_at firsts (region_of a) ≡ x
+first_read firsts a r x n read region low long = sym (get_or_read_under firsts (region_of a) n x 0 (read ∙ ap (λ y. get_or firsts y x) region) (omega arith) long)
+
+-- a move that was read
+pub move_read : (ms : List Move) (k n : ℕ) (x : Move) → x ≡ get_or ms k x → k < n → n ≡ length ms → x ≡ move_at ms k
+move_read ms k n x read low long = get_or_read_under ms k n x _ read low long
 
 pub place_none : (firsts : List ℕ) (cells : List Addr) (a : Addr) → first_at firsts (region_of a) ≡ 0 → place_among firsts cells a ≡ a
 place_none firsts cells a e = ap (λ x. place_from x cells a) e
@@ -37,6 +45,10 @@ places_start ms firsts cells none = record {
   spots = omega arith;
   places = λ j k low. absurd (omega arith);
 }
+
+-- room stays room
+pub room_along : (P : ℕ → Type 0) (room cells more wide : ℕ) → HasRegionRoom P room cells → more ≡ room → wide ≡ cells → HasRegionRoom P more wide
+room_along P room cells more wide is e f = subst (λ (n : ℕ). HasRegionRoom P n wide) (sym e) (subst (λ (n : ℕ). HasRegionRoom P room n) (sym f) is)
 
 module _ (ms : List Move) (rising : IsRising ms) where
   -- one region more is listed, or the last one again
@@ -119,3 +131,33 @@ module _ (ms : List Move) (rising : IsRising ms) where
               ∙ ap (λ y. (move_at ms y).to) (sym is)
         ];
       }
+
+  -- one move more is listed
+  pub record IsNoted (cs : List Condemned) (i : ℕ) (firsts : List ℕ) (cells : List Addr) : Type 0 where
+    pub listed : AreListedTo ms cs (i + 1)
+    pub places : HasPlaces ms cs i firsts cells
+    pub room : 256 * first_at firsts (region_of (move_at ms i).from) ≤ length cells
+
+  pub room_next : (cs : List Condemned) (i room cells : ℕ) → AreListedTo ms cs i → i < length ms → HasRegionRoom (HasMove ms) room cells
+      → is_last cs (region_of (move_at ms i).from) ≡ false → (length cs < room) × (length cs + 1 < 2 ^ 32)
+  room_next cs i room cells listed within is other =
+      let m : Move = move_at ms i in
+      let x : Condemned = record { region = region_of m.from; generation = m.generation; pinned = is_staying m.way } in
+      let fit : length (cs ++ x ∷ []) ≤ is.count = listed_fit ms rising (cs ++ x ∷ []) (i + 1) is.count (listed_added ms rising cs i listed within other) (omega arith) is.count_is in
+      let long : length (cs ++ x ∷ []) ≡ suc (length cs) = added_length cs x in
+      let enough = is.enough in
+      let small = is.small in
+      (omega arith, omega arith)
+
+  pub noted : (cs ds : List Condemned) (i room : ℕ) (firsts firsts2 : List ℕ) (cells : List Addr) → AreListedTo ms cs i → i < length ms → HasPlaces ms cs i firsts cells
+      → HasRegionRoom (HasMove ms) room (length cells) → region_of (move_at ms i).from < length firsts
+      → IsJoined cs ds (move_at ms i) firsts firsts2 ⊎ IsAdded cs ds (move_at ms i) firsts firsts2 → IsNoted ds i firsts2 cells
+  noted cs ds i room firsts firsts2 cells listed within places is span way =
+      let next : AreListedTo ms ds (i + 1) = listed_next ms rising cs ds i firsts firsts2 listed within way in
+      let fit = listed_fit ms rising ds (i + 1) is.count next (omega arith) is.count_is in
+      let table = is.table in
+      let spots : 256 * length ds ≤ length cells = omega arith in
+      let after : HasPlaces ms ds i firsts2 cells = places_listed cs ds i firsts firsts2 cells listed within places span spots way in
+      let (q, at) = next.all i (omega arith) in
+      let first : first_at firsts2 (region_of (move_at ms i).from) ≡ q + 1 = ap (first_at firsts2) (sym at.1) ∙ after.listed q at.0 in
+      record { listed = next; places = after; room = let low = at.0 in omega arith }

@@ -64,7 +64,7 @@ pushed P ms m each last k low = elim (cases_eq k (length ms)) [
 ]
 
 -- an address behind a place, and one that was reached
-after_past : (after : Option Addr) (at : Addr) → is_after after at ≡ true → (a : Addr) → is_after after a ≡ false → a.0 < at.0
+pub after_past : (after : Option Addr) (at : Addr) → is_after after at ≡ true → (a : Addr) → is_after after a ≡ false → a.0 < at.0
 after_past None at e a reached = absurd (true≢false reached)
 after_past (Some b) at e a reached = let l = ltb-true b.0 at.0 e in let r = ltb-false b.0 a.0 reached in omega arith
 

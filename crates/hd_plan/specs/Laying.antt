@@ -29,6 +29,15 @@ pub record IsSurvey (h : Heap) (n : ℕ) (s : Survey) : Type 0 where
   pub last : (a : Addr) → IsCondemned (object_at h) n a → region_of a ≤ s.last
   pub small : s.cells ≤ 64 * s.objects
 
+-- what was found with one object more, of so many cells, in the last region or in a later one
+abbrev pub with_object : Survey → ℕ → ℕ → Survey
+with_object s cells region = record {
+  objects = s.objects + 1;
+  cells = s.cells + cells;
+  regions = s.regions + cond (nat_eq region s.last) 0 1;
+  last = region;
+}
+
 -- there is room for one move for each condemned object
 pub record HasMoveRoom (o : Objects Addr) (n room : ℕ) : Type 0 where
   pub count : ℕ

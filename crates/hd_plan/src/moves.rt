@@ -1,3 +1,6 @@
+ghost use Rattle.std.specs.Prelude.{◌≡◌};
+ghost use Rattle.hd_plan.specs.Layout.{is_kept_way, is_staying};
+
 use hd_model::Addr;
 
 /// What becomes of a condemned object.
@@ -11,6 +14,28 @@ pub enum Way {
     Opens,
     /// It is copied behind the one before of its generation.
     Follows,
+}
+
+impl Way {
+    /// Whether the object is kept.
+    pub fn is_kept(self) -> bool
+        ensures { result ≡ is_kept_way self }
+    {
+        match self {
+            Way::Gone => false,
+            Way::Stays | Way::Opens | Way::Follows => true,
+        }
+    }
+
+    /// Whether the object is kept and stays where it is.
+    pub fn stays(self) -> bool
+        ensures { result ≡ is_staying self }
+    {
+        match self {
+            Way::Stays => true,
+            Way::Gone | Way::Opens | Way::Follows => false,
+        }
+    }
 }
 
 /// One condemned object: where it stands and where it goes, the same place where it is not kept or

@@ -16,6 +16,13 @@ pub(crate) struct Places {
     pub(crate) cells: Vec<Addr>,
 }
 
+/// The number of the region of an address.
+pub(crate) fn region_number(at: Addr) -> u32
+    ensures { result ≡ region_of at }
+{
+    at.0 / 256
+}
+
 impl Places {
     /// Room for so many regions, with numbers up to `last`. None is listed.
     pub(crate) fn open(alloc: Global, regions: u32, last: u32) -> Result<Places, Memory>
@@ -50,7 +57,7 @@ impl Places {
         ensures cells { let spot = spot_of self.old.firsts.items at in
             self.new.cells.items ≡ slice_set self.old.cells.items spot to }
     {
-        let first = self.firsts[(at.0 / 256) as usize] as usize - 1;
+        let first = self.firsts[region_number(at) as usize] as usize - 1;
         self.cells[256 * first + (at.0 % 256) as usize] = to;
     }
 
@@ -60,7 +67,7 @@ impl Places {
             ≤ length self.now.cells.items }
         ensures { result ≡ place_among self.now.firsts.items self.now.cells.items at }
     {
-        let region = (at.0 / 256) as usize;
+        let region = region_number(at) as usize;
         if region >= self.firsts.len() {
             return at;
         }

@@ -6,7 +6,7 @@ ghost use Rattle.hd_plan.specs.Laying.{IsSurvey};
 ghost use Rattle.hd_plan.specs.Layout.{is_kept_way};
 ghost use Rattle.hd_plan.specs.Plan.{IsTakenPlan, IsLaid, kept_in, place_in, HasSpare};
 
-use crate::moves::{Condemned, Move, Way};
+use crate::moves::{Condemned, Move};
 use crate::places::Places;
 use crate::survey::{Survey, count_condemned};
 use hd_heap::Heap;
@@ -133,7 +133,7 @@ fn count_kept(moves: &Vec<Move>) -> u32
 {
     let mut kept = 0;
     for object in moves {
-        if object.way != Way::Gone {
+        if object.way.is_kept() {
             kept += 1;
         }
     }

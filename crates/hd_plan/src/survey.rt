@@ -1,6 +1,7 @@
-ghost use Rattle.std.specs.Prelude.{◌≡◌, ◌≤◌};
-ghost use Rattle.hd_plan.specs.Laying.{IsSurvey};
+ghost use Rattle.std.specs.Prelude.{◌≡◌, ◌+◌, ◌^◌, ◌<◌, ◌≤◌};
+ghost use Rattle.hd_plan.specs.Laying.{IsSurvey, with_object};
 
+use crate::places::region_number;
 use hd_heap::Heap;
 use hd_model::Addr;
 
@@ -12,6 +13,23 @@ pub(crate) struct Survey {
     pub(crate) cells: u64,
     pub(crate) regions: u32,
     pub(crate) last: u32,
+}
+
+impl Survey {
+    // One object more, of so many cells, in the last region that was met or in a later one.
+    fn add(&mut self, cells: u32, region: u32)
+        requires objects { self.old.objects + 1 < 2 ^ 32 }
+        requires regions { self.old.regions ≤ self.old.objects }
+        requires cells { self.old.cells + cells < 2 ^ 64 }
+        ensures { self.new ≡ with_object self.old cells region }
+    {
+        self.objects += 1;
+        self.cells += u64::from(cells);
+        if region != self.last {
+            self.regions += 1;
+        }
+        self.last = region;
+    }
 }
 
 /// Counts what is condemned, by one walk over it.
@@ -26,13 +44,7 @@ pub(crate) fn count_condemned(heap: &Heap, n: u8) -> Survey
     };
     let mut after = None;
     'walk: while let Some(at) = heap.next_condemned(after, n) {
-        found.objects += 1;
-        found.cells += u64::from(heap.fields(at)) + 3;
-        let region = at.0 / 256;
-        if region != found.last {
-            found.regions += 1;
-            found.last = region;
-        }
+        found.add(heap.fields(at) + 3, region_number(at));
         after = Some(at);
     }
     found
