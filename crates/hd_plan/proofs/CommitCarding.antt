@@ -123,6 +123,7 @@ unneeding_starts h first is least = record {
   here = λ a e. subst (λ (x : Addr). starts_in h (card_of first) x ≡ true) (same_some first a e) (starts_from h (card_of first) first is refl);
   before = λ b starts low needs. (let high = least b starts in absurd (omega arith));
 }
+
 module _ (h : Heap) (card : ℕ) (place : Option Addr) (at : Addr) (is : place ≡ Some at) (r : AreUnneeding h card place) where
   pub unneeding_object : has_object h at ≡ true
   unneeding_object = (starts_parts h card at (r.here at is)).0

@@ -105,8 +105,7 @@ module _ (old h : Heap) (ms : List Move) (i : ℕ) (can : CanCopy old ms) (low :
   may_by Stays f = tt
   may_by Opens f =
       let few = can.sound.few_fields (move_at ms i).from (can.objects i low) in
-      let cells = cells_same in
-      (
+      let cells = cells_same in (
         from_has,
         can.generations i low,
         omega arith,
@@ -119,14 +118,14 @@ module _ (old h : Heap) (ms : List Move) (i : ℕ) (can : CanCopy old ms) (low :
       let fits = f.room in
       let region : region_of (move_at ms i).to ≡ current = region_from (move_at ms i).to current (region_in q.regions current).fill f.place (omega arith) in
       let P : ℕ → Type 0 =
-          λ n. (is_held h n ≡ true) × ((move_at ms i).to.0 ≡ n * 256 + (region_at h n).fill) × ((region_at h n).fill + cells_of (placed_at h (move_at ms i).from) ≤ 256) in
+      λ n. (is_held h n ≡ true) × ((move_at ms i).to.0 ≡ n * 256 + (region_at h n).fill) × ((region_at h n).fill + cells_of (placed_at h (move_at ms i).from) ≤ 256) in
       let fill : (region_at h current).fill ≡ (region_in q.regions current).fill = ap (λ rs. (region_in rs current).fill) regions_now in
       let cells = cells_same in
       let all : P (region_of (move_at ms i).to) = subst P (sym region) (
-          ap (λ rs. fin.contains_key rs current) regions_now ∙ held ((can.put i (omega arith)).room.current (move_at ms i).generation) f.begun,
-          f.place ∙ ap (λ n. current * 256 + n) (sym fill),
-          omega arith,
-        ) in
+        ap (λ rs. fin.contains_key rs current) regions_now ∙ held ((can.put i (omega arith)).room.current (move_at ms i).generation) f.begun,
+        f.place ∙ ap (λ n. current * 256 + n) (sym fill),
+        omega arith,
+      ) in
       (from_has, all.0, all.1, all.2)
     where
       held : {g : ℕ} → ((room_at old ms i).current g ≡ 0) ⊎ IsFresh old (room_at old ms i) g ((room_at old ms i).current g) → (room_at old ms i).current g ≢ 0
@@ -177,9 +176,9 @@ module _ (old h : Heap) (ms : List Move) (i : ℕ) (can : CanCopy old ms) (low :
         only = λ b is. elim (cases_eq b.0 m.to.0) [
           | inl same ↦ inr (ends_here is_moving (λ x. x.to) ms b i moves (sym (addr_is b m.to same)))
           | inr apart ↦ elim (r.only b (sym (has_alike h new b (kept_at b apart)) ∙ is)) [
-              | inl was ↦ inl was
-              | inr e ↦ inr (ends_more is_moving (λ x. x.to) ms b i (i + 1) (omega arith) e)
-            ]
+            | inl was ↦ inl was
+            | inr e ↦ inr (ends_more is_moving (λ x. x.to) ms b i (i + 1) (omega arith) e)
+          ]
         ];
         same = step ∙ ap (λ (x : Heap). record x { objects = fin.insert h.objects m.to.0 p; regions = (room_at old ms (i + 1)).regions; spare = (room_at old ms (i + 1)).spare }) r.same
             ∙ ap (λ os. record old { objects = os; regions = (room_at old ms (i + 1)).regions; spare = (room_at old ms (i + 1)).spare }) (sym (ap (λ (x : Heap). x.objects) step));
@@ -199,14 +198,14 @@ module _ (old h : Heap) (ms : List Move) (i : ℕ) (can : CanCopy old ms) (low :
       let empty : (region_at opened n).fill ≡ 0 = ap (λ (x : Region). x.fill) (ap (λ o. unwrap_or o no_region) (get_same h.regions n n start refl)) in
       let key : n * 256 + (region_at opened n).fill ≡ m.to.0 = omega (arith, empty, region_start m.to (slice_index h.spare 0) may.4) in
       let room : room_at old ms (i + 1) ≡ put_way Opens q m.to m.generation (cells_of (placed_at old m.from)) =
-          room_step old ms i ∙ ap (λ w. put_way w q m.to m.generation (cells_of (placed_at old m.from))) is in
+      room_step old ms i ∙ ap (λ w. put_way w q m.to m.generation (cells_of (placed_at old m.from))) is in
       moves_on new (ap is_moving is) (
-        gone
-        ∙ ap (λ k. record h { objects = fin.insert h.objects k (placed_at h m.from); regions = filled (fin.insert h.regions n start) n (cells_of (placed_at h m.from)); spare = drop 1 h.spare }) key
-        ∙ ap (λ (p : Placed). record h { objects = fin.insert h.objects m.to.0 p; regions = filled (fin.insert h.regions n start) n (cells_of p); spare = drop 1 h.spare }) (placed_alike old h m.from from_same)
-        ∙ ap (λ rs. record h { objects = fin.insert h.objects m.to.0 (placed_at old m.from); regions = filled (fin.insert rs n start) n (cells_of (placed_at old m.from)); spare = drop 1 h.spare }) regions_now
-        ∙ ap (λ ns. record h { objects = fin.insert h.objects m.to.0 (placed_at old m.from); regions = filled (fin.insert q.regions n start) n (cells_of (placed_at old m.from)); spare = drop 1 ns }) spare_now
-        ∙ ap (λ (x : Room). record h { objects = fin.insert h.objects m.to.0 (placed_at old m.from); regions = x.regions; spare = x.spare }) (sym room)
+      gone
+      ∙ ap (λ k. record h { objects = fin.insert h.objects k (placed_at h m.from); regions = filled (fin.insert h.regions n start) n (cells_of (placed_at h m.from)); spare = drop 1 h.spare }) key
+      ∙ ap (λ (p : Placed). record h { objects = fin.insert h.objects m.to.0 p; regions = filled (fin.insert h.regions n start) n (cells_of p); spare = drop 1 h.spare }) (placed_alike old h m.from from_same)
+      ∙ ap (λ rs. record h { objects = fin.insert h.objects m.to.0 (placed_at old m.from); regions = filled (fin.insert rs n start) n (cells_of (placed_at old m.from)); spare = drop 1 h.spare }) regions_now
+      ∙ ap (λ ns. record h { objects = fin.insert h.objects m.to.0 (placed_at old m.from); regions = filled (fin.insert q.regions n start) n (cells_of (placed_at old m.from)); spare = drop 1 ns }) spare_now
+      ∙ ap (λ (x : Room). record h { objects = fin.insert h.objects m.to.0 (placed_at old m.from); regions = x.regions; spare = x.spare }) (sym room)
       )
   step_by Follows new is may gone =
       let m = move_at ms i in
@@ -214,14 +213,14 @@ module _ (old h : Heap) (ms : List Move) (i : ℕ) (can : CanCopy old ms) (low :
       let n = region_of m.to in
       let place : m.to.0 ≡ n * 256 + (region_at h n).fill = may.2 in
       let room : room_at old ms (i + 1) ≡ put_way Follows q m.to m.generation (cells_of (placed_at old m.from)) =
-          room_step old ms i ∙ ap (λ w. put_way w q m.to m.generation (cells_of (placed_at old m.from))) is in
+      room_step old ms i ∙ ap (λ w. put_way w q m.to m.generation (cells_of (placed_at old m.from))) is in
       moves_on new (ap is_moving is) (
-        gone
-        ∙ ap (λ k. record h { objects = fin.insert h.objects k (placed_at h m.from); regions = filled h.regions n (cells_of (placed_at h m.from)) }) (sym place)
-        ∙ ap (λ (p : Placed). record h { objects = fin.insert h.objects m.to.0 p; regions = filled h.regions n (cells_of p) }) (placed_alike old h m.from from_same)
-        ∙ ap (λ rs. record h { objects = fin.insert h.objects m.to.0 (placed_at old m.from); regions = filled rs n (cells_of (placed_at old m.from)) }) regions_now
-        ∙ ap (λ ns. record h { objects = fin.insert h.objects m.to.0 (placed_at old m.from); regions = filled q.regions n (cells_of (placed_at old m.from)); spare = ns }) spare_now
-        ∙ ap (λ (x : Room). record h { objects = fin.insert h.objects m.to.0 (placed_at old m.from); regions = x.regions; spare = x.spare }) (sym room)
+      gone
+      ∙ ap (λ k. record h { objects = fin.insert h.objects k (placed_at h m.from); regions = filled h.regions n (cells_of (placed_at h m.from)) }) (sym place)
+      ∙ ap (λ (p : Placed). record h { objects = fin.insert h.objects m.to.0 p; regions = filled h.regions n (cells_of p) }) (placed_alike old h m.from from_same)
+      ∙ ap (λ rs. record h { objects = fin.insert h.objects m.to.0 (placed_at old m.from); regions = filled rs n (cells_of (placed_at old m.from)) }) regions_now
+      ∙ ap (λ ns. record h { objects = fin.insert h.objects m.to.0 (placed_at old m.from); regions = filled q.regions n (cells_of (placed_at old m.from)); spare = ns }) spare_now
+      ∙ ap (λ (x : Room). record h { objects = fin.insert h.objects m.to.0 (placed_at old m.from); regions = x.regions; spare = x.spare }) (sym room)
       )
 
   pub copied_step : (new : Heap) → HasGone (move_at ms i).way h new (move_at ms i) → AreCopied old new ms (i + 1)

@@ -34,7 +34,7 @@ use Rattle.hd_plan.proofs.CommitCopying.{get_placed, has_got, has_alike}
 use Rattle.hd_plan.proofs.CommitRewriting.{fields_alike}
 use Rattle.hd_plan.proofs.CommitShape.{IsCommitting, moves_now, regions_now, closed_now}
 use Rattle.hd_plan.proofs.CommitImage.{kept_by, kept_older, place_older, kept_move, place_move, kept_object, from_condemned, stays_there, way_stays, way_rests, image_at, image_only}
-use Rattle.hd_plan.proofs.CommitGenerations.{raised_above, raised_some, raised_older, generation_region, place_generation, regions_room, region_kept, region_older, region_raised, region_given_up}
+use Rattle.hd_plan.proofs.CommitGenerations.{AreMoved, raised_above, raised_some, raised_older, generation_region, place_generation, regions_room, region_kept, region_older, region_raised, region_given_up}
 
 some_placed : (a b : Placed) → Some a ≡ Some b → a ≡ b
 some_placed a b e = cc
@@ -70,9 +70,9 @@ module _ (h : Heap) (n : ℕ) (sound : IsSound h) (ms : List Move) (moves : AreM
     opened_by_way Opens is f was = elim (opened_there _ (region_of (move_at ms i).to) r _ was) [
       | inl same ↦ here (ap is_opening is) same
       | inr more ↦ elim (opened_there _ (region_of (move_at ms i).to) r _ more) [
-          | inl same ↦ here (ap is_opening is) same
-          | inr old ↦ before old
-        ]
+        | inl same ↦ here (ap is_opening is) same
+        | inr old ↦ before old
+      ]
     ]
     opened_by_way Follows is f was = elim (opened_there _ (region_of (move_at ms i).to) r _ was) [
       | inl same ↦
@@ -120,15 +120,15 @@ id_of_rewritten : (place : Addr → Addr) (o : Option Placed) → id_in (option_
 id_of_rewritten place None = refl
 id_of_rewritten place (Some q) = refl
 
-module _ (p : PlanOf) (old : Heap) (c : IsCommitting p old) (h1 : Heap) (c1 : AreCopied old h1 p.moves (length p.moves))
-    (h2 : Heap) (r2 : AreRewritten (λ a. is_old_carded h1 p.basis.condemned a ≡ true) (place_in p) h1 h2) (k2 : SameCards h1 h2)
-    (h3 : Heap) (r3 : AreRewritten (IsKeptAt p.moves (length p.moves)) (place_in p) h2 h3) (h4 : Heap) (r4 : AreRemoved h3 h4 p.moves (length p.moves))
-    (h5 : Heap) (r5 : AreSettled h4 h5 p.regions (length p.regions)) where
+module _ (p : PlanOf) (old h1 h2 h3 h4 : Heap) (m : AreMoved p old h1 h2 h3 h4) (h5 : Heap) (r5 : AreSettled h4 h5 p.regions (length p.regions)) where
+  c : IsCommitting p old
+  c = m.committing
+
   object_same : (b : Addr) → fin.get h5.objects b.0 ≡ fin.get h4.objects b.0
   object_same b = ap (λ (x : Heap). fin.get x.objects b.0) r5.same
 
   pub settled_at : (a : Addr) → kept_in p a ≡ true → fin.get h5.objects (place_in p a).0 ≡ option_map (rewritten (place_in p)) (fin.get old.objects a.0)
-  settled_at a kept = object_same (place_in p a) ∙ image_at p old c h1 c1 h2 r2 h3 r3 h4 r4 a kept
+  settled_at a kept = object_same (place_in p a) ∙ image_at p old c h1 m.copied h2 m.carded h3 m.kept h4 m.removed a kept
 
   settled_object : (a : Addr) → kept_in p a ≡ true → has_object h5 (place_in p a) ≡ true
   settled_object a kept =
@@ -140,7 +140,7 @@ module _ (p : PlanOf) (old : Heap) (c : IsCommitting p old) (h1 : Heap) (c1 : Ar
       ap (has_object h5) (sym e.is ∙ sym (place_move p old c e.at e.before)) ∙ settled_object (move_at p.moves e.at).from (kept_move p old c e.at e.before e.goes)
 
   settled_only : (b : Addr) → has_object h5 b ≡ true → (a : Addr) × ((kept_in p a ≡ true) × (place_in p a ≡ b))
-  settled_only b there = image_only p old c h1 c1 h2 r2 h3 r3 h4 r4 b (sym (has_alike h4 h5 b (object_same b)) ∙ there)
+  settled_only b there = image_only p old c h1 m.copied h2 m.carded h3 m.kept h4 m.removed b (sym (has_alike h4 h5 b (object_same b)) ∙ there)
 
   -- heaps with other cards
   module _ (h6 : Heap) (same6 : h6 ≡ record h5 { cards = h6.cards }) where
@@ -154,7 +154,7 @@ module _ (p : PlanOf) (old : Heap) (c : IsCommitting p old) (h1 : Heap) (c1 : Ar
     ending_only b there = settled_only b (sym (ap (λ (x : Heap). has_object x b) same6) ∙ there)
 
     pub ending_region : (a : Addr) → kept_in p a ≡ true → region_generation h6 (region_of (place_in p a)) ≡ raised p.basis.condemned (generation_at (object_at old) a)
-    ending_region a kept = ap (λ (x : Heap). region_generation x (region_of (place_in p a))) same6 ∙ place_generation p old c h1 c1 h2 r2 h3 r3 h4 r4 h5 r5 a kept
+    ending_region a kept = ap (λ (x : Heap). region_generation x (region_of (place_in p a))) same6 ∙ place_generation p old h1 h2 h3 h4 m h5 r5 a kept
 
     pub ending_generation : (a : Addr) → kept_in p a ≡ true → generation_at (object_at h6) (place_in p a) ≡ raised p.basis.condemned (generation_at (object_at old) a)
     ending_generation a kept = generation_region h6 (place_in p a) (ending_object a kept) ∙ ending_region a kept
@@ -170,8 +170,8 @@ module _ (p : PlanOf) (old : Heap) (c : IsCommitting p old) (h1 : Heap) (c1 : Ar
     ending_field : (a y : Addr) → kept_in p a ≡ true → IsField (object_at h6) (place_in p a) y → IsRenamed (place_in p) (fields_at (object_at old) a) y
     ending_field a y kept field =
         let fields : fields_at (object_at h6) (place_in p a) ≡ map (option_map (place_in p)) (fields_at (object_at old) a) =
-            ap (λ o. fields_in (option_map (object_in (region_generation h6 (region_of (place_in p a)))) o)) (ending_at a kept)
-            ∙ fields_of_rewritten (place_in p) (region_generation h6 (region_of (place_in p a))) (region_generation old (region_of a)) (fin.get old.objects a.0) in
+        ap (λ o. fields_in (option_map (object_in (region_generation h6 (region_of (place_in p a)))) o)) (ending_at a kept)
+        ∙ fields_of_rewritten (place_in p) (region_generation h6 (region_of (place_in p a))) (region_generation old (region_of a)) (fin.get old.objects a.0) in
         renamed (place_in p) (fields_at (object_at old) a) y (member_same (fields_at (object_at h6) (place_in p a)) (map (option_map (place_in p)) (fields_at (object_at old) a)) fields (Some y) field)
 
     pub ending_closed : HasClosedFields (object_at h6)
@@ -194,12 +194,12 @@ module _ (p : PlanOf) (old : Heap) (c : IsCommitting p old) (h1 : Heap) (c1 : Ar
               let from = ending_generation h6 r6.same a is.0 in
               let to = ending_generation h6 r6.same f.was kept in
               let less : generation_at (object_at h6) (place_in p f.was) < generation_at (object_at h6) (place_in p a) =
-                  subst (λ (z : Addr). generation_at (object_at h6) (place_in p f.was) < generation_at (object_at h6) z) (sym is.1)
-                  (subst (λ (z : Addr). generation_at (object_at h6) z < generation_at (object_at h6) x) (sym f.is) younger) in
+              subst (λ (z : Addr). generation_at (object_at h6) (place_in p f.was) < generation_at (object_at h6) z) (sym is.1)
+              (subst (λ (z : Addr). generation_at (object_at h6) z < generation_at (object_at h6) x) (sym f.is) younger) in
               let same = raised_older p.basis.condemned (generation_at (object_at old) a) older in
               let fits : generation_at (object_at old) f.was ≤ 2 =
-                  (let g = generation_region old f.was (kept_object p old c f.was kept) in
-                  let most = c.sound.generations (region_of f.was) (c.sound.held f.was (kept_object p old c f.was kept)) in omega arith) in
+              (let g = generation_region old f.was (kept_object p old c f.was kept) in
+              let most = c.sound.generations (region_of f.was) (c.sound.held f.was (kept_object p old c f.was kept)) in omega arith) in
               let above = raised_above p.basis.condemned (generation_at (object_at old) f.was) fits in
               ap (is_carded h6) here ∙ carded_still a (sym (ap (has_object h6) here) ∙ there) (c.cards a f.was f.field (omega arith))
           | inr (k, by) ↦
@@ -210,9 +210,9 @@ module _ (p : PlanOf) (old : Heap) (c : IsCommitting p old) (h1 : Heap) (c1 : Ar
         carded_still : (a : Addr) → has_object h6 a ≡ true → is_carded old a ≡ true → is_carded h6 a ≡ true
         carded_still a there set =
             let fourth : has_object h4 a ≡ true = sym (has_alike h4 h5 a (object_same a)) ∙ sym (ap (λ (x : Heap). has_object x a) r6.same) ∙ there in
-            let first : is_carded h1 a ≡ true = ap (λ (x : Heap). is_set x (card_of a)) c1.same ∙ set in
-            let third : is_carded h3 a ≡ true = r3.more (card_of a) (k2 (card_of a) ∙ first) in
-            r6.more (card_of a) (ap (λ (x : Heap). is_set x (card_of a)) r5.same ∙ r4.cards a fourth ∙ third)
+            let first : is_carded h1 a ≡ true = ap (λ (x : Heap). is_set x (card_of a)) m.copied.same ∙ set in
+            let third : is_carded h3 a ≡ true = m.kept.more (card_of a) (m.same (card_of a) ∙ first) in
+            r6.more (card_of a) (ap (λ (x : Heap). is_set x (card_of a)) r5.same ∙ m.removed.cards a fourth ∙ third)
 
   -- and so the whole
   module _ (h7 : Heap) (same7 : h7 ≡ record h5 { cards = h7.cards }) where
@@ -225,10 +225,10 @@ module _ (p : PlanOf) (old : Heap) (c : IsCommitting p old) (h1 : Heap) (c1 : Ar
     changes : ChangesRegions p old h7
     changes = record {
       older = λ r held older.
-          let same = region_now r ∙ region_older p old c h1 c1 h2 r2 h3 r3 h4 r4 h5 r5 r (λ is. let low = is.young in omega arith) ∙ region_kept p old c h1 c1 h2 r2 h3 r3 h4 r4 r held in
+          let same = region_now r ∙ region_older p old h1 h2 h3 h4 m h5 r5 r (λ is. let low = is.young in omega arith) ∙ region_kept p old h1 h2 h3 h4 m r held in
           (ap is_some same ∙ held, ap (λ (o : Option Region). unwrap_or o (record { generation = 0; fill = 0 })) same);
-      stays = λ r young stay. region_held r _ (region_raised p old c h1 c1 h2 r2 h3 r3 h4 r4 h5 r5 r young stay);
-      given_up = λ r young none. ap is_some (region_now r ∙ region_given_up p old c h1 c1 h2 r2 h3 r3 h4 r4 h5 r5 r young none);
+      stays = λ r young stay. region_held r _ (region_raised p old h1 h2 h3 h4 m h5 r5 r young stay);
+      given_up = λ r young none. ap is_some (region_now r ∙ region_given_up p old h1 h2 h3 h4 m h5 r5 r young none);
     }
 
     -- a held region has an object that stays, or was opened, or is older
@@ -245,27 +245,27 @@ module _ (p : PlanOf) (old : Heap) (c : IsCommitting p old) (h1 : Heap) (c1 : Ar
     held_opened : (r : ℕ) → is_held h7 r ≡ true → is_held old r ≡ false → IsOpenedBy p.moves r
     held_opened r held new =
         let got : fin.get h7.regions r ≡ fin.get (room_at old p.moves (length p.moves)).regions r =
-            region_now r ∙ region_older p old c h1 c1 h2 r2 h3 r3 h4 r4 h5 r5 r (λ is. both_ways _ new is.held)
-            ∙ ap (λ rs. fin.get rs r) (regions_room p old c h1 c1 h2 r2 h3 r3 h4 r4) in
+        region_now r ∙ region_older p old h1 h2 h3 h4 m h5 r5 r (λ is. both_ways _ new is.held)
+        ∙ ap (λ rs. fin.get rs r) (regions_room p old h1 h2 h3 h4 m) in
         opened_by old p.basis.condemned c.sound p.moves (moves_now p old c) (length p.moves) (omega arith) r (ap is_some (sym got) ∙ held) new
 
     full : HasNoEmptyRegion old → HasNoEmptyRegion h7
     full some r held = elim (cases_Bool (is_held old r)) [
       | inl was ↦ elim (cases_lt p.basis.condemned (region_generation old r)) [
-          | inl older ↦
-              let s = some r was in
-              let above : p.basis.condemned < generation_at (object_at old) s.at =
-                  subst (λ g. p.basis.condemned < g) (ap (region_generation old) (sym s.region) ∙ sym (generation_region old s.at s.object)) older in
-              let kept = kept_older p old c s.at above in
-              let place = place_older p old c s.at above in
-              record { at = s.at; object = ap (has_object h7) (sym place) ∙ ending_object h7 same7 s.at kept; region = s.region }
-          | inr young ↦
-              let s = held_stays r held (record { held = was; young = young }) in
-              let from = (move_at p.moves s.at).from in
-              let kept = kept_move p old c s.at s.within (way_stays (move_at p.moves s.at).way s.stays) in
-              let place = place_move p old c s.at s.within ∙ stays_there p old c s.at s.within (way_rests (move_at p.moves s.at).way s.stays) in
-              record { at = from; object = ap (has_object h7) (sym place) ∙ ending_object h7 same7 from kept; region = s.region }
-        ]
+        | inl older ↦
+            let s = some r was in
+            let above : p.basis.condemned < generation_at (object_at old) s.at =
+            subst (λ g. p.basis.condemned < g) (ap (region_generation old) (sym s.region) ∙ sym (generation_region old s.at s.object)) older in
+            let kept = kept_older p old c s.at above in
+            let place = place_older p old c s.at above in
+            record { at = s.at; object = ap (has_object h7) (sym place) ∙ ending_object h7 same7 s.at kept; region = s.region }
+        | inr young ↦
+            let s = held_stays r held (record { held = was; young = young }) in
+            let from = (move_at p.moves s.at).from in
+            let kept = kept_move p old c s.at s.within (way_stays (move_at p.moves s.at).way s.stays) in
+            let place = place_move p old c s.at s.within ∙ stays_there p old c s.at s.within (way_rests (move_at p.moves s.at).way s.stays) in
+            record { at = from; object = ap (has_object h7) (sym place) ∙ ending_object h7 same7 from kept; region = s.region }
+      ]
       | inr new ↦
           let o = held_opened r held new in
           let from = (move_at p.moves o.at).from in
@@ -288,7 +288,7 @@ module _ (p : PlanOf) (old : Heap) (c : IsCommitting p old) (h1 : Heap) (c1 : Ar
         let (a, is) = ending_only h7 same7 b (has_got h7 b v got) in
         let there = get_placed old a (kept_object p old c a is.0) in
         let now : Some (rewritten (place_in p) (placed_at old a)) ≡ Some v =
-            sym (ending_at h7 same7 a is.0 ∙ ap (option_map (rewritten (place_in p))) there) ∙ ap (λ (x : Addr). fin.get h7.objects x.0) is.1 ∙ got in
+        sym (ending_at h7 same7 a is.0 ∙ ap (option_map (rewritten (place_in p))) there) ∙ ap (λ (x : Addr). fin.get h7.objects x.0) is.1 ∙ got in
         let cells : cells_of (rewritten (place_in p) (placed_at old a)) ≡ cells_of v = ap cells_of (some_placed _ _ now) in
         let long = length-map (placed_at old a).fields (option_map (place_in p)) in
         let stands : StandsFor q a.0 = record { was = a; number = refl; place = ap (λ (x : Addr). x.0) is.1 } in
@@ -300,12 +300,12 @@ module _ (p : PlanOf) (old : Heap) (c : IsCommitting p old) (h1 : Heap) (c1 : Ar
         let moves = moves_now p old c in
         compact old c.sound p.basis.condemned p.moves moves (λ k low. (are_put old p.basis.condemned c.sound p.moves moves k low).room) h7
         (λ j within moving.
-        let m = move_at p.moves j in
-        let kept = kept_move p old c j within (moving_kept m.way moving) in
-        let there = get_placed old m.from (from_condemned p old c j within).object in
-        let now : fin.get h7.objects m.to.0 ≡ Some (rewritten (place_in p) (placed_at old m.from)) =
-            ap (λ (x : Addr). fin.get h7.objects x.0) (sym (place_move p old c j within)) ∙ ending_at h7 same7 m.from kept ∙ ap (option_map (rewritten (place_in p))) there in
-        (rewritten (place_in p) (placed_at old m.from), (now, ap (λ n. n + 3) (length-map (placed_at old m.from).fields (option_map (place_in p))))))
+        let o = move_at p.moves j in
+        let kept = kept_move p old c j within (moving_kept o.way moving) in
+        let there = get_placed old o.from (from_condemned p old c j within).object in
+        let now : fin.get h7.objects o.to.0 ≡ Some (rewritten (place_in p) (placed_at old o.from)) =
+        ap (λ (x : Addr). fin.get h7.objects x.0) (sym (place_move p old c j within)) ∙ ending_at h7 same7 o.from kept ∙ ap (option_map (rewritten (place_in p))) there in
+        (rewritten (place_in p) (placed_at old o.from), (now, ap (λ n. n + 3) (length-map (placed_at old o.from).fields (option_map (place_in p))))))
         (λ i j less within moving_i moving_j same.
         (all_put old p.basis.condemned c.sound p.moves moves).apart i j less within moving_i moving_j (addr_is (move_at p.moves i).to (move_at p.moves j).to same))
         (λ r held. elim (cases_Bool (is_held old r)) [
@@ -318,14 +318,14 @@ module _ (p : PlanOf) (old : Heap) (c : IsCommitting p old) (h1 : Heap) (c1 : Ar
       objects = λ a kept.
           ap (option_map (object_in (region_generation h7 (region_of (place_in p a))))) (ending_at h7 same7 a kept)
           ∙ object_of_rewritten (place_in p) p.basis.condemned (region_generation h7 (region_of (place_in p a))) (region_generation old (region_of a)) (fin.get old.objects a.0)
-            (ending_region h7 same7 a kept ∙ ap (raised p.basis.condemned) (generation_region old a (kept_object p old c a kept)));
+          (ending_region h7 same7 a kept ∙ ap (raised p.basis.condemned) (generation_region old a (kept_object p old c a kept)));
       ids = λ a kept. ap id_in (ending_at h7 same7 a kept) ∙ id_of_rewritten (place_in p) (fin.get old.objects a.0);
       only = ending_only h7 same7;
       regions = changes;
       cards = exact;
       limit =
-          ap (λ (x : Heap). x.limit) same7 ∙ ap (λ (x : Heap). x.limit) r5.same ∙ ap (λ (x : Heap). x.limit) r4.same ∙ ap (λ (x : Heap). x.limit) r3.same
-          ∙ ap (λ (x : Heap). x.limit) r2.same ∙ ap (λ (x : Heap). x.limit) c1.same;
+          ap (λ (x : Heap). x.limit) same7 ∙ ap (λ (x : Heap). x.limit) r5.same ∙ ap (λ (x : Heap). x.limit) m.removed.same ∙ ap (λ (x : Heap). x.limit) m.kept.same
+          ∙ ap (λ (x : Heap). x.limit) m.carded.same ∙ ap (λ (x : Heap). x.limit) m.copied.same;
       used = used;
       full = full;
       compact = compact_now;

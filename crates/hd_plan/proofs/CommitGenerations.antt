@@ -51,16 +51,40 @@ generation_region h a there = by (fin.get h.objects a.0) (sym (has-get h a) ∙ 
 abbrev no_region : Region
 no_region = record { generation = 0; fill = 0 }
 
-module _ (p : PlanOf) (old : Heap) (c : IsCommitting p old) (h1 : Heap) (c1 : AreCopied old h1 p.moves (length p.moves))
-    (h2 : Heap) (r2 : AreRewritten (λ a. is_old_carded h1 p.basis.condemned a ≡ true) (place_in p) h1 h2)
-    (h3 : Heap) (r3 : AreRewritten (IsKeptAt p.moves (length p.moves)) (place_in p) h2 h3) (h4 : Heap) (r4 : AreRemoved h3 h4 p.moves (length p.moves)) where
+-- the steps that move the objects of a heap, one after another
+pub record AreMoved (p : PlanOf) (old h1 h2 h3 h4 : Heap) : Type 0 where
+  pub committing : IsCommitting p old
+  pub copied : AreCopied old h1 p.moves (length p.moves)
+  pub carded : AreRewritten (λ a. is_old_carded h1 p.basis.condemned a ≡ true) (place_in p) h1 h2
+  pub same : SameCards h1 h2
+  pub kept : AreRewritten (IsKeptAt p.moves (length p.moves)) (place_in p) h2 h3
+  pub removed : AreRemoved h3 h4 p.moves (length p.moves)
+
+-- they, for a plan that was read part by part
+pub are_moved : (p q : PlanOf) (old h1 h2 h3 h4 : Heap) → q ≡ p → IsCommitting q old → AreCopied old h1 q.moves (length q.moves)
+    → AreRewritten (λ a. is_old_carded h1 q.basis.condemned a ≡ true) (place_in p) h1 h2 → SameCards h1 h2
+    → AreRewritten (IsKeptAt q.moves (length q.moves)) (place_in p) h2 h3 → AreRemoved h3 h4 q.moves (length q.moves) → AreMoved q old h1 h2 h3 h4
+are_moved p q old h1 h2 h3 h4 e base copied carded same kept removed = record {
+  committing = base;
+  copied = copied;
+  carded = subst (λ (x : PlanOf). AreRewritten (λ a. is_old_carded h1 q.basis.condemned a ≡ true) (place_in x) h1 h2) (sym e) carded;
+  same = same;
+  kept = subst (λ (x : PlanOf). AreRewritten (IsKeptAt q.moves (length q.moves)) (place_in x) h2 h3) (sym e) kept;
+  removed = removed;
+}
+
+module _ (p : PlanOf) (old h1 h2 h3 h4 : Heap) (m : AreMoved p old h1 h2 h3 h4) where
+  c : IsCommitting p old
+  c = m.committing
+
   room : IsRoom old (room_at old p.moves (length p.moves))
   room = (all_put old p.basis.condemned c.sound p.moves (moves_now p old c)).room
 
   -- the regions are those of the room
   pub regions_room : h4.regions ≡ (room_at old p.moves (length p.moves)).regions
   regions_room =
-      ap (λ (x : Heap). x.regions) r4.same ∙ ap (λ (x : Heap). x.regions) r3.same ∙ ap (λ (x : Heap). x.regions) r2.same ∙ ap (λ (x : Heap). x.regions) c1.same
+      ap (λ (x : Heap). x.regions) m.removed.same ∙ ap (λ (x : Heap). x.regions) m.kept.same ∙ ap (λ (x : Heap). x.regions) m.carded.same
+      ∙ ap (λ (x : Heap). x.regions) m.copied.same
 
   pub region_kept : (r : ℕ) → is_held old r ≡ true → fin.get h4.regions r ≡ fin.get old.regions r
   region_kept r held = ap (λ rs. fin.get rs r) regions_room ∙ room.old r held
@@ -92,17 +116,17 @@ module _ (p : PlanOf) (old : Heap) (c : IsCommitting p old) (h1 : Heap) (c1 : Ar
         elim (moving_or_staying (move_at p.moves k).way by.kept) [
           | inl moving ↦ absurd (both_ways _ (to_put p old c k by.within moving).fresh.new (subst (λ q. is_held old q ≡ true) (sym region) young.held))
           | inr stays ↦ record {
-              at = k;
-              within = by.within;
-              stays = ap is_staying stays;
-              region = ap region_of (sym (stays_there p old c k by.within (ap is_moving stays))) ∙ region;
-            }
+            at = k;
+            within = by.within;
+            stays = ap is_staying stays;
+            region = ap region_of (sym (stays_there p old c k by.within (ap is_moving stays))) ∙ region;
+          }
         ]
   ]
 
   pub settled_empty : (k : ℕ) (a : Addr) → k < length p.regions → (condemned_at p.regions k).pinned ≡ false → has_object h4 a ≡ true → region_of a ≢ (condemned_at p.regions k).region
   settled_empty k a within unpinned there same =
-      let (x, is) = image_only p old c h1 c1 h2 r2 h3 r3 h4 r4 a there in
+      let (x, is) = image_only p old c h1 m.copied h2 m.carded h3 m.kept h4 m.removed a there in
       let young = (regions_now p old c).condemned k within in
       let stay = stays_in_region x (condemned_at p.regions k).region is.0 young (ap region_of is.1 ∙ same) in
       both_ways _ unpinned (((regions_now p old c).pinned k within).1 stay)
@@ -128,7 +152,7 @@ module _ (p : PlanOf) (old : Heap) (c : IsCommitting p old) (h1 : Heap) (c1 : Ar
     region_given_up r young none =
         let (k, listed) = (regions_now p old c).all r young in
         let unpinned : (condemned_at p.regions k).pinned ≡ false =
-            false_from_ne_true _ (λ pinned. none (subst (HasStay p.moves) listed.1 (((regions_now p old c).pinned k listed.0).0 pinned))) in
+        false_from_ne_true _ (λ pinned. none (subst (HasStay p.moves) listed.1 (((regions_now p old c).pinned k listed.0).0 pinned))) in
         ap (fin.get h5.regions) (sym listed.1) ∙ r5.given_up k listed.0 unpinned
 
     -- each kept object has its generation raised
@@ -141,21 +165,20 @@ module _ (p : PlanOf) (old : Heap) (c : IsCommitting p old) (h1 : Heap) (c1 : Ar
           ∙ ap (λ (o : Option Region). (unwrap_or o no_region).generation) (region_older (region_of a) (λ is. let low = is.young in omega arith) ∙ region_kept (region_of a) (c.sound.held a there))
           ∙ sym same ∙ sym (raised_older p.basis.condemned (generation_at (object_at old) a) older)
       | inr (k, by) ↦
-          let m = move_at p.moves k in
-          let to : place_in p a ≡ m.to = ap (place_in p) (sym by.from) ∙ place_move p old c k by.within in
+          let to : place_in p a ≡ (move_at p.moves k).to = ap (place_in p) (sym by.from) ∙ place_move p old c k by.within in
           ap (λ (x : Addr). region_generation h5 (region_of x)) to
-          ∙ elim (moving_or_staying m.way by.kept) [
-              | inl moving ↦
-                  let put = (to_put p old c k by.within moving).fresh in
-                  ap (λ (o : Option Region). (unwrap_or o no_region).generation) (region_older (region_of m.to) (λ is. both_ways _ put.new is.held) ∙ ap (λ rs. fin.get rs (region_of m.to)) regions_room)
-                  ∙ put.generation ∙ (moves_now p old c).generations k by.within ∙ ap (λ (x : Addr). raised p.basis.condemned (generation_at (object_at old) x)) by.from
-              | inr stays ↦
-                  let is = from_condemned p old c k by.within in
-                  let r = region_of m.from in
-                  let same = generation_region old m.from is.object in
-                  let young : IsCondemnedRegion old p.basis.condemned r = record { held = c.sound.held m.from is.object; young = subst (λ g. g ≤ p.basis.condemned) same is.young } in
-                  ap (λ (x : Addr). region_generation h5 (region_of x)) (stays_there p old c k by.within (ap is_moving stays))
-                  ∙ ap (λ (o : Option Region). (unwrap_or o no_region).generation) (region_raised r young (record { at = k; within = by.within; stays = ap is_staying stays; region = refl }))
-                  ∙ ap (raised p.basis.condemned) (sym same) ∙ ap (λ (x : Addr). raised p.basis.condemned (generation_at (object_at old) x)) by.from
-            ]
+          ∙ elim (moving_or_staying (move_at p.moves k).way by.kept) [
+            | inl moving ↦
+                let put = (to_put p old c k by.within moving).fresh in
+                ap (λ (o : Option Region). (unwrap_or o no_region).generation) (region_older (region_of (move_at p.moves k).to) (λ is. both_ways _ put.new is.held) ∙ ap (λ rs. fin.get rs (region_of (move_at p.moves k).to)) regions_room)
+                ∙ put.generation ∙ (moves_now p old c).generations k by.within ∙ ap (λ (x : Addr). raised p.basis.condemned (generation_at (object_at old) x)) by.from
+            | inr stays ↦
+                let is = from_condemned p old c k by.within in
+                let r = region_of (move_at p.moves k).from in
+                let same = generation_region old (move_at p.moves k).from is.object in
+                let young : IsCondemnedRegion old p.basis.condemned r = record { held = c.sound.held (move_at p.moves k).from is.object; young = subst (λ g. g ≤ p.basis.condemned) same is.young } in
+                ap (λ (x : Addr). region_generation h5 (region_of x)) (stays_there p old c k by.within (ap is_moving stays))
+                ∙ ap (λ (o : Option Region). (unwrap_or o no_region).generation) (region_raised r young (record { at = k; within = by.within; stays = ap is_staying stays; region = refl }))
+                ∙ ap (raised p.basis.condemned) (sym same) ∙ ap (λ (x : Addr). raised p.basis.condemned (generation_at (object_at old) x)) by.from
+          ]
     ]

@@ -167,7 +167,7 @@ module _ (p : PlanOf) (old : Heap) (c : IsCommitting p old) where
       | inr (k, by) ↦
           ap (λ (x : Addr). has_object h1 (place_in p x)) (sym by.from) ∙ ap (has_object h1) (place_move k by.within)
           ∙ has_got h1 (move_at p.moves k).to (placed_at old (move_at p.moves k).from)
-            (copied_there k by.within by.kept ∙ get_placed old (move_at p.moves k).from (from_condemned k by.within).object)
+          (copied_there k by.within by.kept ∙ get_placed old (move_at p.moves k).from (from_condemned k by.within).object)
     ]
 
     -- the older objects in set cards were rewritten
@@ -228,11 +228,11 @@ module _ (p : PlanOf) (old : Heap) (c : IsCommitting p old) where
             let q = placed_at old a in
             let got = get_placed old a there in
             let still : (y : Addr) → Contains q.fields (Some y) → place_in p y ≡ y = λ y field.
-                let named : IsField (object_at old) a y = member_same q.fields (fields_at (object_at old) a) (sym (fields_placed old a there)) (Some y) field in
-                elim (cases_lt (generation_at (object_at old) y) (generation_at (object_at old) a)) [
-                  | inl younger ↦ absurd (both_ways _ clear (c.cards a y named younger))
-                  | inr not_younger ↦ place_older y (omega arith)
-                ] in
+            let named : IsField (object_at old) a y = member_same q.fields (fields_at (object_at old) a) (sym (fields_placed old a there)) (Some y) field in
+            elim (cases_lt (generation_at (object_at old) y) (generation_at (object_at old) a)) [
+              | inl younger ↦ absurd (both_ways _ clear (c.cards a y named younger))
+              | inr not_younger ↦ place_older y (omega arith)
+            ] in
             ap (option_map (rewritten (place_in p))) got ∙ ap (λ fs. Some (record q { fields = fs })) (unchanged (place_in p) q.fields still) ∙ sym got
 
         pub third_at : (a : Addr) → kept_in p a ≡ true → fin.get h3.objects (place_in p a).0 ≡ option_map (rewritten (place_in p)) (fin.get old.objects a.0)
@@ -242,11 +242,11 @@ module _ (p : PlanOf) (old : Heap) (c : IsCommitting p old) where
               ap (λ (x : Addr). fin.get h3.objects x.0) (place_older a older)
               ∙ r3.others a (older_apart a older there)
               ∙ elim (cases_Bool (is_carded old a)) [
-                  | inl set ↦ r2.done a (carded_again a there older set) ∙ ap (option_map (rewritten (place_in p))) (c1.objects a there)
-                  | inr clear ↦
-                      r2.others a (λ carded. both_ways _ clear (was_carded a carded).2)
-                      ∙ c1.objects a there ∙ sym (older_same a there older clear)
-                ]
+                | inl set ↦ r2.done a (carded_again a there older set) ∙ ap (option_map (rewritten (place_in p))) (c1.objects a there)
+                | inr clear ↦
+                    r2.others a (λ carded. both_ways _ clear (was_carded a carded).2)
+                    ∙ c1.objects a there ∙ sym (older_same a there older clear)
+              ]
           | inr (k, by) ↦
               let to : place_in p a ≡ (move_at p.moves k).to = ap (place_in p) (sym by.from) ∙ place_move k by.within in
               ap (λ (x : Addr). fin.get h3.objects x.0) to
@@ -288,14 +288,14 @@ module _ (p : PlanOf) (old : Heap) (c : IsCommitting p old) where
                 let third : has_object h3 b ≡ true = sym (has_alike h3 h4 b (r4.others b none)) ∙ there in
                 elim (c1.only b (sym (has_second b) ∙ sym (has_third b) ∙ third)) [
                   | inl was ↦ elim (older_or_young old p.basis.condemned b was) [
-                      | inl older ↦ (b, (kept_older b older, place_older b older))
-                      | inr young ↦
-                          let (k, listed) = (moves_now p old c).all b young in
-                          elim (cases_Bool (is_staying (move_at p.moves k).way)) [
-                            | inl stays ↦ stays_put b k listed.0 listed.1 stays
-                            | inr goes ↦ absurd (none (record { at = k; before = listed.0; goes = ap not goes; is = listed.1 }))
-                          ]
-                    ]
+                    | inl older ↦ (b, (kept_older b older, place_older b older))
+                    | inr young ↦
+                        let (k, listed) = (moves_now p old c).all b young in
+                        elim (cases_Bool (is_staying (move_at p.moves k).way)) [
+                          | inl stays ↦ stays_put b k listed.0 listed.1 stays
+                          | inr goes ↦ absurd (none (record { at = k; before = listed.0; goes = ap not goes; is = listed.1 }))
+                        ]
+                  ]
                   | inr e ↦ ((move_at p.moves e.at).from, (kept_move e.at e.before (moving_kept _ e.goes), place_move e.at e.before ∙ e.is))
                 ]
           ]

@@ -44,9 +44,9 @@ module _ (old h : Heap) (ms : List Move) (i : ℕ) (r : AreRemoved old h ms i) w
         gone = λ a e. elim (cases_eq a.0 at.0) [
           | inl same ↦ here a same
           | inr apart ↦ beside a apart ∙ elim (ends_cases (λ w. not (is_staying w)) (λ m. m.from) ms a i e) [
-              | inl was ↦ r.gone a was
-              | inr new_one ↦ absurd (apart (ap (λ (x : Addr). x.0) (sym new_one.1)))
-            ]
+            | inl was ↦ r.gone a was
+            | inr new_one ↦ absurd (apart (ap (λ (x : Addr). x.0) (sym new_one.1)))
+          ]
         ];
         others = λ a none.
             beside a (λ same. none (ends_here (λ w. not (is_staying w)) (λ m. m.from) ms a i left (sym (addr_is a at same))))

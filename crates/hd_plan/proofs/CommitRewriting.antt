@@ -174,17 +174,17 @@ module _ (Those : Addr → Type 0) (place : Addr → Addr) (old h : Heap) (r : A
       let p = rewritten place (placed_at h x) in
       let was : map_of.get h.objects x.0 ≡ map_of.get old.objects x.0 = r.others x fresh in
       let here : (a : Addr) → a.0 ≡ x.0 → map_of.get new.objects a.0 ≡ option_map (rewritten place) (map_of.get old.objects a.0) = λ a e.
-          ap (λ (k : Heap). map_of.get k.objects a.0) step.object ∙ get_same h.objects x.0 a.0 p e
-          ∙ ap (option_map (rewritten place)) (sym (get_placed h x (has_alike old h x was ∙ there)) ∙ was ∙ ap (map_of.get old.objects) (sym e)) in
+      ap (λ (k : Heap). map_of.get k.objects a.0) step.object ∙ get_same h.objects x.0 a.0 p e
+      ∙ ap (option_map (rewritten place)) (sym (get_placed h x (has_alike old h x was ∙ there)) ∙ was ∙ ap (map_of.get old.objects) (sym e)) in
       let beside : (a : Addr) → a.0 ≢ x.0 → map_of.get new.objects a.0 ≡ map_of.get h.objects a.0 = λ a apart.
-          ap (λ (k : Heap). map_of.get k.objects a.0) step.object ∙ get_other h.objects x.0 a.0 p apart in
+      ap (λ (k : Heap). map_of.get k.objects a.0) step.object ∙ get_other h.objects x.0 a.0 p apart in
       record {
         done = λ a next. elim (cases_eq a.0 x.0) [
           | inl same ↦ here a same
           | inr apart ↦ elim (only a next) [
-              | inl those ↦ beside a apart ∙ r.done a those
-              | inr same ↦ absurd (apart same)
-            ]
+            | inl those ↦ beside a apart ∙ r.done a those
+            | inr same ↦ absurd (apart same)
+          ]
         ];
         others = λ a none. beside a (λ same. none (subst Next (sym (addr_is a x same)) joins)) ∙ r.others a (λ those. none (keeps a those));
         same = step.object ∙ ap (λ (k : Heap). record (with_object k x p) { cards = new.cards }) r.same
@@ -197,9 +197,9 @@ module _ (place : Addr → Addr) (old h : Heap) (n : ℕ) (after : Option Addr) 
   decided : (a : Addr) → IsCardedTo old n after a ⊎ (IsCardedTo old n after a → ⊥)
   decided a = elim (cases_Bool (is_old_carded old n a)) [
     | inl carded ↦ elim (cases_Bool (is_after after a)) [
-        | inl above ↦ inr (λ t. both_ways _ t.1 above)
-        | inr up ↦ inl (carded, up)
-      ]
+      | inl above ↦ inr (λ t. both_ways _ t.1 above)
+      | inr up ↦ inl (carded, up)
+    ]
     | inr other ↦ inr (λ t. both_ways _ other t.0)
   ]
 
@@ -241,10 +241,13 @@ module _ (place : Addr → Addr) (old h : Heap) (n : ℕ) (after : Option Addr) 
         (λ a t. (t.0, le-ltb at.0 a.0 (before a after t.1 found.behind)))
         (λ a t. elim (cases_eq a.0 at.0) [
           | inl same ↦ inr same
-          | inr apart ↦ inl (t.0, false_from_ne_true (is_after after a) (λ above.
-              let least = found.least a (carded_same a ∙ t.0) above in
-              let up = ltb-false at.0 a.0 t.1 in
-              apart (omega arith)))
+          | inr apart ↦ inl (
+            t.0,
+            false_from_ne_true (is_after after a) (λ above.
+                let least = found.least a (carded_same a ∙ t.0) above in
+                let up = ltb-false at.0 a.0 t.1 in
+                apart (omega arith)),
+          )
         ])
       where
         before : (a : Addr) (o : Option Addr) → is_after o a ≡ false → is_after o at ≡ true → a.0 ≤ at.0

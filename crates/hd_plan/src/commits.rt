@@ -15,7 +15,6 @@ use hd_heap::Heap;
 /// Moves the objects that the plan keeps to their places, rewrites the fields that name them, and
 /// takes all other condemned objects away. It looks at condemned objects and at older ones in set
 /// cards, and at no other object.
-#[tactic(none)]
 pub fn commit(heap: &mut Heap, plan: &mut Plan)
     requires laid { IsLaid plan.old }
     requires same { IsSameShape plan.old.basis.heap heap.old }
