@@ -46,25 +46,31 @@ opening_moves Opens e = refl
 opening_moves Follows e = refl
 
 -- a fresh region was opened by a move
-opened_there : (rs : fin.FinMap nat_cmp Region) (n r : ℕ) (x : Region) → fin.contains_key (fin.insert rs n x) r ≡ true → (r ≡ n) ⊎ (fin.contains_key rs r ≡ true)
+opened_there : (rs : fin.FinMap nat_cmp Region) (n r : ℕ) (x : Region)
+    → fin.contains_key (fin.insert rs n x) r ≡ true → (r ≡ n) ⊎ (fin.contains_key rs r ≡ true)
 opened_there rs n r x there = elim (cases_eq r n) [
   | inl same ↦ inl same
   | inr apart ↦ inr (ap is_some (sym (get_other rs n r x apart)) ∙ there)
 ]
 
 module _ (h : Heap) (n : ℕ) (sound : IsSound h) (ms : List Move) (moves : AreMoves h n ms) where
-  module _ (i : ℕ) (low : i < length ms) (r : ℕ) (before : has_region (room_at h ms i).regions r ≡ true → IsOpenedBy ms r) where
+  module _ (i : ℕ) (low : i < length ms) (r : ℕ) (before : has_region (room_at h ms i).regions r ≡ true
+      → IsOpenedBy ms r) where
     here : is_opening (move_at ms i).way ≡ true → r ≡ region_of (move_at ms i).to → IsOpenedBy ms r
     here opens same = record { at = i; within = low; opens = opens; region = sym same }
 
     -- the region into which an object follows is there
-    followed : {g : ℕ} → ((room_at h ms i).current g ≡ 0) ⊎ IsFresh h (room_at h ms i) g ((room_at h ms i).current g) → (room_at h ms i).current g ≢ 0
+    followed : {g : ℕ} → ((room_at h ms i).current g ≡ 0) ⊎ IsFresh h (room_at h ms i) g
+        ((room_at h ms i).current g) → (room_at h ms i).current g ≢ 0
         → has_region (room_at h ms i).regions ((room_at h ms i).current g) ≡ true
     followed (inl none) begun = absurd (begun none)
     followed (inr fresh) begun = fresh.held
 
-    opened_by_way : (w : Way) → (move_at ms i).way ≡ w → Fits w (room_at h ms i) (move_at ms i).from (move_at ms i).to (move_at ms i).generation (cells_of (placed_at h (move_at ms i).from))
-        → has_region (put_way w (room_at h ms i) (move_at ms i).to (move_at ms i).generation (cells_of (placed_at h (move_at ms i).from))).regions r ≡ true → IsOpenedBy ms r
+    opened_by_way : (w : Way) → (move_at ms i).way ≡ w
+        → Fits w (room_at h ms i) (move_at ms i).from (move_at ms i).to (move_at ms i).generation
+        (cells_of (placed_at h (move_at ms i).from))
+        → has_region (put_way w (room_at h ms i) (move_at ms i).to (move_at ms i).generation
+        (cells_of (placed_at h (move_at ms i).from))).regions r ≡ true → IsOpenedBy ms r
     opened_by_way Gone is f was = before was
     opened_by_way Stays is f was = before was
     opened_by_way Opens is f was = elim (opened_there _ (region_of (move_at ms i).to) r _ was) [
@@ -79,17 +85,22 @@ module _ (h : Heap) (n : ℕ) (sound : IsSound h) (ms : List Move) (moves : AreM
           let g = (move_at ms i).generation in
           let current = (room_at h ms i).current g in
           let fits = f.room in
-          let into : region_of (move_at ms i).to ≡ current = region_is (move_at ms i).to current (region_in (room_at h ms i).regions current).fill f.place (omega arith) in
-          before (ap (has_region (room_at h ms i).regions) (same ∙ into) ∙ followed ((are_put h n sound ms moves i (omega arith)).room.current g) f.begun)
+          let into : region_of (move_at ms i).to ≡ current =
+          region_is (move_at ms i).to current (region_in (room_at h ms i).regions current).fill f.place
+          (omega arith) in
+          before (ap (has_region (room_at h ms i).regions) (same ∙ into)
+          ∙ followed ((are_put h n sound ms moves i (omega arith)).room.current g) f.begun)
       | inr old ↦ before old
     ]
 
-  opened_by : (i : ℕ) → i ≤ length ms → (r : ℕ) → has_region (room_at h ms i).regions r ≡ true → is_held h r ≡ false → IsOpenedBy ms r
+  opened_by : (i : ℕ) → i ≤ length ms → (r : ℕ) → has_region (room_at h ms i).regions r ≡ true
+      → is_held h r ≡ false → IsOpenedBy ms r
   unfolding room_at
   opened_by zero low r there new = absurd (both_ways _ new there)
   opened_by (suc i) low r there new =
       let within : i < length ms = omega arith in
-      opened_by_way i within r (λ was. opened_by i (omega arith) r was new) (move_at ms i).way refl (moves.fits i within) there
+      opened_by_way i within r (λ was. opened_by i (omega arith) r was new) (move_at ms i).way refl
+      (moves.fits i within) there
 
 -- a field that was rewritten
 pub record IsRenamed (place : Addr → Addr) (fs : List (Option Addr)) (y : Addr) : Type 0 where
@@ -97,7 +108,8 @@ pub record IsRenamed (place : Addr → Addr) (fs : List (Option Addr)) (y : Addr
   pub field : Contains fs (Some was)
   pub is : place was ≡ y
 
-renamed : (place : Addr → Addr) (fs : List (Option Addr)) (y : Addr) → Contains (map (option_map place) fs) (Some y) → IsRenamed place fs y
+renamed : (place : Addr → Addr) (fs : List (Option Addr)) (y : Addr)
+    → Contains (map (option_map place) fs) (Some y) → IsRenamed place fs y
 renamed place fs y field = let f = mapped_from (option_map place) fs (Some y) field in by f.0 f.1.0 f.1.1
   where
     some_is : (a b : Addr) → Some a ≡ Some b → a ≡ b
@@ -107,57 +119,82 @@ renamed place fs y field = let f = mapped_from (option_map place) fs (Some y) fi
     by None f e = absurd (cc e)
     by (Some z) f e = record { was = z; field = f; is = some_is (place z) y e }
 
-fields_of_rewritten : (place : Addr → Addr) (g f : ℕ) (o : Option Placed) → fields_in (option_map (object_in g) (option_map (rewritten place) o)) ≡ map (option_map place) (fields_in (option_map (object_in f) o))
+fields_of_rewritten : (place : Addr → Addr) (g f : ℕ) (o : Option Placed)
+    → fields_in (option_map (object_in g) (option_map (rewritten place) o)) ≡ map (option_map place)
+    (fields_in (option_map (object_in f) o))
 fields_of_rewritten place g f None = refl
 fields_of_rewritten place g f (Some q) = refl
 
 object_of_rewritten : (place : Addr → Addr) (n g f : ℕ) (o : Option Placed) → g ≡ raised n f
-    → option_map (object_in g) (option_map (rewritten place) o) ≡ option_map (moved_object place n) (option_map (object_in f) o)
+    → option_map (object_in g) (option_map (rewritten place) o) ≡ option_map (moved_object place n)
+    (option_map (object_in f) o)
 object_of_rewritten place n g f None e = refl
-object_of_rewritten place n g f (Some q) e = ap (λ x. Some (record { fields = map (option_map place) q.fields; value = q.value; generation = x; registered = q.registered })) e
+object_of_rewritten place n g f (Some q) e =
+    ap (λ x. Some (record {
+      fields = map (option_map place) q.fields;
+      value = q.value;
+      generation = x;
+      registered = q.registered;
+    })) e
 
 id_of_rewritten : (place : Addr → Addr) (o : Option Placed) → id_in (option_map (rewritten place) o) ≡ id_in o
 id_of_rewritten place None = refl
 id_of_rewritten place (Some q) = refl
 
-module _ (p : PlanOf) (old h1 h2 h3 h4 : Heap) (m : AreMoved p old h1 h2 h3 h4) (h5 : Heap) (r5 : AreSettled h4 h5 p.regions (length p.regions)) where
+module _ (p : PlanOf) (old h1 h2 h3 h4 : Heap) (m : AreMoved p old h1 h2 h3 h4) (h5 : Heap)
+    (r5 : AreSettled h4 h5 p.regions (length p.regions)) where
   c : IsCommitting p old
   c = m.committing
 
   object_same : (b : Addr) → fin.get h5.objects b.0 ≡ fin.get h4.objects b.0
   object_same b = ap (λ (x : Heap). fin.get x.objects b.0) r5.same
 
-  pub settled_at : (a : Addr) → kept_in p a ≡ true → fin.get h5.objects (place_in p a).0 ≡ option_map (rewritten (place_in p)) (fin.get old.objects a.0)
-  settled_at a kept = object_same (place_in p a) ∙ image_at p old c h1 m.copied h2 m.carded h3 m.kept h4 m.removed a kept
+  pub settled_at : (a : Addr) → kept_in p a ≡ true
+      → fin.get h5.objects (place_in p a).0 ≡ option_map (rewritten (place_in p)) (fin.get old.objects a.0)
+  settled_at a kept = object_same (place_in p a)
+      ∙ image_at p old c h1 m.copied h2 m.carded h3 m.kept h4 m.removed a kept
 
   settled_object : (a : Addr) → kept_in p a ≡ true → has_object h5 (place_in p a) ≡ true
   settled_object a kept =
       has_got h5 (place_in p a) (rewritten (place_in p) (placed_at old a))
-      (settled_at a kept ∙ ap (option_map (rewritten (place_in p))) (get_placed old a (kept_object p old c a kept)))
+      (settled_at a kept ∙ ap (option_map (rewritten (place_in p)))
+      (get_placed old a (kept_object p old c a kept)))
 
   pub settled_there : (a : Addr) → IsKeptAt p.moves (length p.moves) a → has_object h5 a ≡ true
   settled_there a e =
-      ap (has_object h5) (sym e.is ∙ sym (place_move p old c e.at e.before)) ∙ settled_object (move_at p.moves e.at).from (kept_move p old c e.at e.before e.goes)
+      ap (has_object h5) (sym e.is ∙ sym (place_move p old c e.at e.before))
+      ∙ settled_object (move_at p.moves e.at).from (kept_move p old c e.at e.before e.goes)
 
-  settled_only : (b : Addr) → has_object h5 b ≡ true → (a : Addr) × ((kept_in p a ≡ true) × (place_in p a ≡ b))
-  settled_only b there = image_only p old c h1 m.copied h2 m.carded h3 m.kept h4 m.removed b (sym (has_alike h4 h5 b (object_same b)) ∙ there)
+  settled_only : (b : Addr) → has_object h5 b ≡ true
+      → (a : Addr) × ((kept_in p a ≡ true) × (place_in p a ≡ b))
+  settled_only b there =
+      image_only p old c h1 m.copied h2 m.carded h3 m.kept h4 m.removed b
+      (sym (has_alike h4 h5 b (object_same b)) ∙ there)
 
   -- heaps with other cards
   module _ (h6 : Heap) (same6 : h6 ≡ record h5 { cards = h6.cards }) where
-    pub ending_at : (a : Addr) → kept_in p a ≡ true → fin.get h6.objects (place_in p a).0 ≡ option_map (rewritten (place_in p)) (fin.get old.objects a.0)
+    pub ending_at : (a : Addr) → kept_in p a ≡ true
+        → fin.get h6.objects (place_in p a).0 ≡ option_map (rewritten (place_in p)) (fin.get old.objects a.0)
     ending_at a kept = ap (λ (x : Heap). fin.get x.objects (place_in p a).0) same6 ∙ settled_at a kept
 
     pub ending_object : (a : Addr) → kept_in p a ≡ true → has_object h6 (place_in p a) ≡ true
     ending_object a kept = ap (λ (x : Heap). has_object x (place_in p a)) same6 ∙ settled_object a kept
 
-    pub ending_only : (b : Addr) → has_object h6 b ≡ true → (a : Addr) × ((kept_in p a ≡ true) × (place_in p a ≡ b))
+    pub ending_only : (b : Addr) → has_object h6 b ≡ true
+        → (a : Addr) × ((kept_in p a ≡ true) × (place_in p a ≡ b))
     ending_only b there = settled_only b (sym (ap (λ (x : Heap). has_object x b) same6) ∙ there)
 
-    pub ending_region : (a : Addr) → kept_in p a ≡ true → region_generation h6 (region_of (place_in p a)) ≡ raised p.basis.condemned (generation_at (object_at old) a)
-    ending_region a kept = ap (λ (x : Heap). region_generation x (region_of (place_in p a))) same6 ∙ place_generation p old h1 h2 h3 h4 m h5 r5 a kept
+    pub ending_region : (a : Addr) → kept_in p a ≡ true
+        → region_generation h6 (region_of (place_in p a)) ≡ raised p.basis.condemned
+        (generation_at (object_at old) a)
+    ending_region a kept = ap (λ (x : Heap). region_generation x (region_of (place_in p a))) same6
+        ∙ place_generation p old h1 h2 h3 h4 m h5 r5 a kept
 
-    pub ending_generation : (a : Addr) → kept_in p a ≡ true → generation_at (object_at h6) (place_in p a) ≡ raised p.basis.condemned (generation_at (object_at old) a)
-    ending_generation a kept = generation_region h6 (place_in p a) (ending_object a kept) ∙ ending_region a kept
+    pub ending_generation : (a : Addr) → kept_in p a ≡ true
+        → generation_at (object_at h6) (place_in p a) ≡ raised p.basis.condemned
+        (generation_at (object_at old) a)
+    ending_generation a kept = generation_region h6 (place_in p a) (ending_object a kept)
+        ∙ ending_region a kept
 
     pub ending_grown : (b : Addr) → has_object h6 b ≡ true → 0 < generation_at (object_at h6) b
     ending_grown b there =
@@ -167,18 +204,25 @@ module _ (p : PlanOf) (old h1 h2 h3 h4 : Heap) (m : AreMoved p old h1 h2 h3 h4) 
         subst (λ (x : Addr). 0 < generation_at (object_at h6) x) is.1 (omega (arith, e, some))
 
     -- a field of an object names the new place of what it named
-    ending_field : (a y : Addr) → kept_in p a ≡ true → IsField (object_at h6) (place_in p a) y → IsRenamed (place_in p) (fields_at (object_at old) a) y
+    ending_field : (a y : Addr) → kept_in p a ≡ true → IsField (object_at h6) (place_in p a) y
+        → IsRenamed (place_in p) (fields_at (object_at old) a) y
     ending_field a y kept field =
-        let fields : fields_at (object_at h6) (place_in p a) ≡ map (option_map (place_in p)) (fields_at (object_at old) a) =
-        ap (λ o. fields_in (option_map (object_in (region_generation h6 (region_of (place_in p a)))) o)) (ending_at a kept)
-        ∙ fields_of_rewritten (place_in p) (region_generation h6 (region_of (place_in p a))) (region_generation old (region_of a)) (fin.get old.objects a.0) in
-        renamed (place_in p) (fields_at (object_at old) a) y (member_same (fields_at (object_at h6) (place_in p a)) (map (option_map (place_in p)) (fields_at (object_at old) a)) fields (Some y) field)
+        let fields : fields_at (object_at h6) (place_in p a) ≡ map (option_map (place_in p))
+        (fields_at (object_at old) a) =
+        ap (λ o. fields_in (option_map (object_in (region_generation h6 (region_of (place_in p a)))) o))
+        (ending_at a kept)
+        ∙ fields_of_rewritten (place_in p) (region_generation h6 (region_of (place_in p a)))
+        (region_generation old (region_of a)) (fin.get old.objects a.0) in
+        renamed (place_in p) (fields_at (object_at old) a) y
+        (member_same (fields_at (object_at h6) (place_in p a))
+        (map (option_map (place_in p)) (fields_at (object_at old) a)) fields (Some y) field)
 
     pub ending_closed : HasClosedFields (object_at h6)
     ending_closed x y field =
         let (a, is) = ending_only x (has_from h6 x y field) in
         let f = ending_field a y is.0 (subst (λ (z : Addr). IsField (object_at h6) z y) (sym is.1) field) in
-        subst (λ (z : Addr). has_object h6 z ≡ true) f.is (ending_object f.was (closed_now p old c a f.was is.0 f.field))
+        subst (λ (z : Addr). has_object h6 z ≡ true) f.is
+        (ending_object f.was (closed_now p old c a f.was is.0 f.field))
 
   -- the cards of kept objects are set
   module _ (h6 : Heap) (r6 : AreCarded h5 h6 p.moves (length p.moves)) where
@@ -189,46 +233,64 @@ module _ (p : PlanOf) (old h1 h2 h3 h4 : Heap) (m : AreMoved p old h1 h2 h3 h4) 
         elim (kept_by p old c a is.0) [
           | inl older ↦
               let here : x ≡ a = sym is.1 ∙ place_older p old c a older in
-              let f = ending_field h6 r6.same a y is.0 (subst (λ (z : Addr). IsField (object_at h6) z y) (sym is.1) field) in
+              let f = ending_field h6 r6.same a y is.0
+              (subst (λ (z : Addr). IsField (object_at h6) z y) (sym is.1) field) in
               let kept = closed_now p old c a f.was is.0 f.field in
               let from = ending_generation h6 r6.same a is.0 in
               let to = ending_generation h6 r6.same f.was kept in
-              let less : generation_at (object_at h6) (place_in p f.was) < generation_at (object_at h6) (place_in p a) =
-              subst (λ (z : Addr). generation_at (object_at h6) (place_in p f.was) < generation_at (object_at h6) z) (sym is.1)
-              (subst (λ (z : Addr). generation_at (object_at h6) z < generation_at (object_at h6) x) (sym f.is) younger) in
+              let less : generation_at (object_at h6) (place_in p f.was) < generation_at (object_at h6)
+              (place_in p a) =
+              subst (λ (z : Addr). generation_at (object_at h6) (place_in p f.was) < generation_at
+              (object_at h6) z) (sym is.1)
+              (subst (λ (z : Addr). generation_at (object_at h6) z < generation_at (object_at h6) x)
+              (sym f.is) younger) in
               let same = raised_older p.basis.condemned (generation_at (object_at old) a) older in
               let fits : generation_at (object_at old) f.was ≤ 2 =
               (let g = generation_region old f.was (kept_object p old c f.was kept) in
-              let most = c.sound.generations (region_of f.was) (c.sound.held f.was (kept_object p old c f.was kept)) in omega arith) in
+              let most = c.sound.generations (region_of f.was)
+              (c.sound.held f.was (kept_object p old c f.was kept)) in omega arith) in
               let above = raised_above p.basis.condemned (generation_at (object_at old) f.was) fits in
-              ap (is_carded h6) here ∙ carded_still a (sym (ap (has_object h6) here) ∙ there) (c.cards a f.was f.field (omega arith))
+              ap (is_carded h6) here
+              ∙ carded_still a (sym (ap (has_object h6) here) ∙ there)
+              (c.cards a f.was f.field (omega arith))
           | inr (k, by) ↦
-              let to : (move_at p.moves k).to ≡ x = sym (ap (place_in p) (sym by.from) ∙ place_move p old c k by.within) ∙ is.1 in
+              let to : (move_at p.moves k).to ≡ x =
+              sym (ap (place_in p) (sym by.from) ∙ place_move p old c k by.within) ∙ is.1 in
               r6.done x (record { at = k; before = by.within; goes = by.kept; is = to })
         ]
       where
         carded_still : (a : Addr) → has_object h6 a ≡ true → is_carded old a ≡ true → is_carded h6 a ≡ true
         carded_still a there set =
-            let fourth : has_object h4 a ≡ true = sym (has_alike h4 h5 a (object_same a)) ∙ sym (ap (λ (x : Heap). has_object x a) r6.same) ∙ there in
+            let fourth : has_object h4 a ≡ true = sym (has_alike h4 h5 a (object_same a))
+            ∙ sym (ap (λ (x : Heap). has_object x a) r6.same) ∙ there in
             let first : is_carded h1 a ≡ true = ap (λ (x : Heap). is_set x (card_of a)) m.copied.same ∙ set in
             let third : is_carded h3 a ≡ true = m.kept.more (card_of a) (m.same (card_of a) ∙ first) in
-            r6.more (card_of a) (ap (λ (x : Heap). is_set x (card_of a)) r5.same ∙ m.removed.cards a fourth ∙ third)
+            r6.more (card_of a) (ap (λ (x : Heap). is_set x (card_of a)) r5.same ∙ m.removed.cards a fourth
+            ∙ third)
 
   -- and so the whole
   module _ (h7 : Heap) (same7 : h7 ≡ record h5 { cards = h7.cards }) where
     region_now : (r : ℕ) → fin.get h7.regions r ≡ fin.get h5.regions r
     region_now r = ap (λ (x : Heap). fin.get x.regions r) same7
 
-    region_held : (r : ℕ) (g : Region) → fin.get h5.regions r ≡ Some g → (is_held h7 r ≡ true) × (region_at h7 r ≡ g)
-    region_held r g got = (ap is_some (region_now r ∙ got), ap (λ (o : Option Region). unwrap_or o (record { generation = 0; fill = 0 })) (region_now r ∙ got))
+    region_held : (r : ℕ) (g : Region) → fin.get h5.regions r ≡ Some g
+        → (is_held h7 r ≡ true) × (region_at h7 r ≡ g)
+    region_held r g got = (
+      ap is_some (region_now r ∙ got),
+      ap (λ (o : Option Region). unwrap_or o (record { generation = 0; fill = 0 })) (region_now r ∙ got),
+    )
 
     changes : ChangesRegions p old h7
     changes = record {
       older = λ r held older.
-          let same = region_now r ∙ region_older p old h1 h2 h3 h4 m h5 r5 r (λ is. let low = is.young in omega arith) ∙ region_kept p old h1 h2 h3 h4 m r held in
-          (ap is_some same ∙ held, ap (λ (o : Option Region). unwrap_or o (record { generation = 0; fill = 0 })) same);
+          let same = region_now r ∙ region_older p old h1 h2 h3 h4 m h5 r5 r (λ is. let low = is.young in
+          omega arith) ∙ region_kept p old h1 h2 h3 h4 m r held in (
+            ap is_some same ∙ held,
+            ap (λ (o : Option Region). unwrap_or o (record { generation = 0; fill = 0 })) same,
+          );
       stays = λ r young stay. region_held r _ (region_raised p old h1 h2 h3 h4 m h5 r5 r young stay);
-      given_up = λ r young none. ap is_some (region_now r ∙ region_given_up p old h1 h2 h3 h4 m h5 r5 r young none);
+      given_up = λ r young none.
+          ap is_some (region_now r ∙ region_given_up p old h1 h2 h3 h4 m h5 r5 r young none);
     }
 
     -- a held region has an object that stays, or was opened, or is older
@@ -238,7 +300,10 @@ module _ (p : PlanOf) (old h1 h2 h3 h4 : Heap) (m : AreMoved p old h1 h2 h3 h4) 
         elim (cases_Bool (condemned_at p.regions k).pinned) [
           | inl pinned ↦ subst (HasStay p.moves) listed.1 (((regions_now p old c).pinned k listed.0).0 pinned)
           | inr unpinned ↦
-              let gone = changes.given_up r young (λ stay. both_ways _ unpinned (((regions_now p old c).pinned k listed.0).1 (subst (HasStay p.moves) (sym listed.1) stay))) in
+              let gone = changes.given_up r young
+              (λ stay. both_ways _ unpinned
+              (((regions_now p old c).pinned k listed.0).1
+              (subst (HasStay p.moves) (sym listed.1) stay))) in
               absurd (both_ways _ gone held)
         ]
 
@@ -247,7 +312,8 @@ module _ (p : PlanOf) (old h1 h2 h3 h4 : Heap) (m : AreMoved p old h1 h2 h3 h4) 
         let got : fin.get h7.regions r ≡ fin.get (room_at old p.moves (length p.moves)).regions r =
         region_now r ∙ region_older p old h1 h2 h3 h4 m h5 r5 r (λ is. both_ways _ new is.held)
         ∙ ap (λ rs. fin.get rs r) (regions_room p old h1 h2 h3 h4 m) in
-        opened_by old p.basis.condemned c.sound p.moves (moves_now p old c) (length p.moves) (omega arith) r (ap is_some (sym got) ∙ held) new
+        opened_by old p.basis.condemned c.sound p.moves (moves_now p old c) (length p.moves) (omega arith) r
+        (ap is_some (sym got) ∙ held) new
 
     full : HasNoEmptyRegion old → HasNoEmptyRegion h7
     full some r held = elim (cases_Bool (is_held old r)) [
@@ -255,22 +321,38 @@ module _ (p : PlanOf) (old h1 h2 h3 h4 : Heap) (m : AreMoved p old h1 h2 h3 h4) 
         | inl older ↦
             let s = some r was in
             let above : p.basis.condemned < generation_at (object_at old) s.at =
-            subst (λ g. p.basis.condemned < g) (ap (region_generation old) (sym s.region) ∙ sym (generation_region old s.at s.object)) older in
+            subst (λ g. p.basis.condemned < g) (ap (region_generation old) (sym s.region)
+            ∙ sym (generation_region old s.at s.object)) older in
             let kept = kept_older p old c s.at above in
             let place = place_older p old c s.at above in
-            record { at = s.at; object = ap (has_object h7) (sym place) ∙ ending_object h7 same7 s.at kept; region = s.region }
+            record {
+              at = s.at;
+              object = ap (has_object h7) (sym place) ∙ ending_object h7 same7 s.at kept;
+              region = s.region;
+            }
         | inr young ↦
             let s = held_stays r held (record { held = was; young = young }) in
             let from = (move_at p.moves s.at).from in
             let kept = kept_move p old c s.at s.within (way_stays (move_at p.moves s.at).way s.stays) in
-            let place = place_move p old c s.at s.within ∙ stays_there p old c s.at s.within (way_rests (move_at p.moves s.at).way s.stays) in
-            record { at = from; object = ap (has_object h7) (sym place) ∙ ending_object h7 same7 from kept; region = s.region }
+            let place = place_move p old c s.at s.within
+            ∙ stays_there p old c s.at s.within (way_rests (move_at p.moves s.at).way s.stays) in
+            record {
+              at = from;
+              object = ap (has_object h7) (sym place) ∙ ending_object h7 same7 from kept;
+              region = s.region;
+            }
       ]
       | inr new ↦
           let o = held_opened r held new in
           let from = (move_at p.moves o.at).from in
-          let kept = kept_move p old c o.at o.within (moving_kept (move_at p.moves o.at).way (opening_moves (move_at p.moves o.at).way o.opens)) in
-          record { at = (move_at p.moves o.at).to; object = ap (has_object h7) (sym (place_move p old c o.at o.within)) ∙ ending_object h7 same7 from kept; region = o.region }
+          let kept = kept_move p old c o.at o.within
+          (moving_kept (move_at p.moves o.at).way (opening_moves (move_at p.moves o.at).way o.opens)) in
+          record {
+            at = (move_at p.moves o.at).to;
+            object = ap (has_object h7) (sym (place_move p old c o.at o.within))
+                ∙ ending_object h7 same7 from kept;
+            region = o.region;
+          }
     ]
 
     -- a new object stands for the one that it was
@@ -281,50 +363,67 @@ module _ (p : PlanOf) (old h1 h2 h3 h4 : Heap) (m : AreMoved p old h1 h2 h3 h4) 
 
     used : used_of h7 ≤ used_of old
     used = sum-stands cells_of StandsFor
-        (λ q s r a b. sym a.place ∙ ap (λ (x : Addr). (place_in p x).0) (addr_is a.was b.was (a.number ∙ sym b.number)) ∙ b.place)
+        (λ q s r a b. sym a.place
+        ∙ ap (λ (x : Addr). (place_in p x).0) (addr_is a.was b.was (a.number ∙ sym b.number)) ∙ b.place)
         h7.objects old.objects
         (λ q v got.
         let b : Addr = record { 0 = q } in
         let (a, is) = ending_only h7 same7 b (has_got h7 b v got) in
         let there = get_placed old a (kept_object p old c a is.0) in
         let now : Some (rewritten (place_in p) (placed_at old a)) ≡ Some v =
-        sym (ending_at h7 same7 a is.0 ∙ ap (option_map (rewritten (place_in p))) there) ∙ ap (λ (x : Addr). fin.get h7.objects x.0) is.1 ∙ got in
-        let cells : cells_of (rewritten (place_in p) (placed_at old a)) ≡ cells_of v = ap cells_of (some_placed _ _ now) in
+        sym (ending_at h7 same7 a is.0 ∙ ap (option_map (rewritten (place_in p))) there)
+        ∙ ap (λ (x : Addr). fin.get h7.objects x.0) is.1 ∙ got in
+        let cells : cells_of (rewritten (place_in p) (placed_at old a)) ≡ cells_of v =
+        ap cells_of (some_placed _ _ now) in
         let long = length-map (placed_at old a).fields (option_map (place_in p)) in
-        let stands : StandsFor q a.0 = record { was = a; number = refl; place = ap (λ (x : Addr). x.0) is.1 } in
-        let size : share cells_of (fin.get old.objects a.0) ≡ cells_of (placed_at old a) = ap (share cells_of) there in
+        let stands : StandsFor q a.0 =
+        record { was = a; number = refl; place = ap (λ (x : Addr). x.0) is.1 } in
+        let size : share cells_of (fin.get old.objects a.0) ≡ cells_of (placed_at old a) =
+        ap (share cells_of) there in
         (a.0, (stands, omega arith)))
 
     compact_now : p.basis.condemned ≡ 2 → fin.len h7.regions ≤ used_of h7 / 193 + 3 + stays_in p
     compact_now all =
         let moves = moves_now p old c in
-        compact old c.sound p.basis.condemned p.moves moves (λ k low. (are_put old p.basis.condemned c.sound p.moves moves k low).room) h7
+        compact old c.sound p.basis.condemned p.moves moves
+        (λ k low. (are_put old p.basis.condemned c.sound p.moves moves k low).room) h7
         (λ j within moving.
         let o = move_at p.moves j in
         let kept = kept_move p old c j within (moving_kept o.way moving) in
         let there = get_placed old o.from (from_condemned p old c j within).object in
         let now : fin.get h7.objects o.to.0 ≡ Some (rewritten (place_in p) (placed_at old o.from)) =
-        ap (λ (x : Addr). fin.get h7.objects x.0) (sym (place_move p old c j within)) ∙ ending_at h7 same7 o.from kept ∙ ap (option_map (rewritten (place_in p))) there in
-        (rewritten (place_in p) (placed_at old o.from), (now, ap (λ n. n + 3) (length-map (placed_at old o.from).fields (option_map (place_in p))))))
+        ap (λ (x : Addr). fin.get h7.objects x.0) (sym (place_move p old c j within))
+        ∙ ending_at h7 same7 o.from kept ∙ ap (option_map (rewritten (place_in p))) there in (
+          rewritten (place_in p) (placed_at old o.from),
+          (now, ap (λ n. n + 3) (length-map (placed_at old o.from).fields (option_map (place_in p)))),
+        ))
         (λ i j less within moving_i moving_j same.
-        (all_put old p.basis.condemned c.sound p.moves moves).apart i j less within moving_i moving_j (addr_is (move_at p.moves i).to (move_at p.moves j).to same))
+        (all_put old p.basis.condemned c.sound p.moves moves).apart i j less within moving_i moving_j
+        (addr_is (move_at p.moves i).to (move_at p.moves j).to same))
         (λ r held. elim (cases_Bool (is_held old r)) [
-          | inl was ↦ inl (held_stays r held (record { held = was; young = (let most = c.sound.generations r was in omega arith) }))
+          | inl was ↦ inl (held_stays r held
+              (record { held = was; young = (let most = c.sound.generations r was in omega arith) }))
           | inr new ↦ inr (held_opened r held new)
         ])
 
     pub ended : ((card : ℕ) → (is_set h7 card ≡ true) ↔ NeedsCard h7 card) → Commits p old h7
     ended exact = record {
       objects = λ a kept.
-          ap (option_map (object_in (region_generation h7 (region_of (place_in p a))))) (ending_at h7 same7 a kept)
-          ∙ object_of_rewritten (place_in p) p.basis.condemned (region_generation h7 (region_of (place_in p a))) (region_generation old (region_of a)) (fin.get old.objects a.0)
-          (ending_region h7 same7 a kept ∙ ap (raised p.basis.condemned) (generation_region old a (kept_object p old c a kept)));
-      ids = λ a kept. ap id_in (ending_at h7 same7 a kept) ∙ id_of_rewritten (place_in p) (fin.get old.objects a.0);
+          ap (option_map (object_in (region_generation h7 (region_of (place_in p a)))))
+          (ending_at h7 same7 a kept)
+          ∙ object_of_rewritten (place_in p) p.basis.condemned
+          (region_generation h7 (region_of (place_in p a))) (region_generation old (region_of a))
+          (fin.get old.objects a.0)
+          (ending_region h7 same7 a kept
+          ∙ ap (raised p.basis.condemned) (generation_region old a (kept_object p old c a kept)));
+      ids = λ a kept. ap id_in (ending_at h7 same7 a kept)
+          ∙ id_of_rewritten (place_in p) (fin.get old.objects a.0);
       only = ending_only h7 same7;
       regions = changes;
       cards = exact;
       limit =
-          ap (λ (x : Heap). x.limit) same7 ∙ ap (λ (x : Heap). x.limit) r5.same ∙ ap (λ (x : Heap). x.limit) m.removed.same ∙ ap (λ (x : Heap). x.limit) m.kept.same
+          ap (λ (x : Heap). x.limit) same7 ∙ ap (λ (x : Heap). x.limit) r5.same
+          ∙ ap (λ (x : Heap). x.limit) m.removed.same ∙ ap (λ (x : Heap). x.limit) m.kept.same
           ∙ ap (λ (x : Heap). x.limit) m.carded.same ∙ ap (λ (x : Heap). x.limit) m.copied.same;
       used = used;
       full = full;

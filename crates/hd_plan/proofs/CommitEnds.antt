@@ -25,35 +25,47 @@ module _ (way : Way → Bool) (end : Move → Addr) (ms : List Move) (a : Addr) 
   ends_none e = (let low = e.before in omega arith)
 
   pub ends_more : (i j : ℕ) → i ≤ j → HasEnd way end ms i a → HasEnd way end ms j a
-  ends_more i j le e = record { at = e.at; before = (let low = e.before in omega arith); goes = e.goes; is = e.is }
+  ends_more i j le e =
+      record { at = e.at; before = (let low = e.before in omega arith); goes = e.goes; is = e.is }
 
-  pub ends_here : (i : ℕ) → way (move_at ms i).way ≡ true → end (move_at ms i) ≡ a → HasEnd way end ms (i + 1) a
+  pub ends_here : (i : ℕ) → way (move_at ms i).way ≡ true → end (move_at ms i) ≡ a
+      → HasEnd way end ms (i + 1) a
   ends_here i goes is = record { at = i; before = omega arith; goes = goes; is = is }
 
-  pub ends_cases : (i : ℕ) → HasEnd way end ms (i + 1) a → HasEnd way end ms i a ⊎ ((way (move_at ms i).way ≡ true) × (end (move_at ms i) ≡ a))
+  pub ends_cases : (i : ℕ) → HasEnd way end ms (i + 1) a
+      → HasEnd way end ms i a ⊎ ((way (move_at ms i).way ≡ true) × (end (move_at ms i) ≡ a))
   ends_cases i e = elim (cases_lt e.at i) [
     | inl low ↦ inl (record { at = e.at; before = low; goes = e.goes; is = e.is })
     | inr high ↦
         let below = e.before in
         let same : e.at ≡ i = omega arith in
-        inr (subst (λ k. way (move_at ms k).way ≡ true) same e.goes, subst (λ k. end (move_at ms k) ≡ a) same e.is)
+        inr (
+          subst (λ k. way (move_at ms k).way ≡ true) same e.goes,
+          subst (λ k. end (move_at ms k) ≡ a) same e.is,
+        )
   ]
 
   -- a move of another way has no such end
-  pub ends_skip : (i : ℕ) → way (move_at ms i).way ≡ false → HasEnd way end ms (i + 1) a → HasEnd way end ms i a
+  pub ends_skip : (i : ℕ) → way (move_at ms i).way ≡ false → HasEnd way end ms (i + 1) a
+      → HasEnd way end ms i a
   ends_skip i other e = elim (ends_cases i e) [
     | inl was ↦ was
     | inr new ↦ absurd (both_ways _ other new.0)
   ]
 
-  decided_by : (i : ℕ) (b : Bool) → way (move_at ms i).way ≡ b → ((end (move_at ms i)).0 ≡ a.0) ⊎ ((end (move_at ms i)).0 ≡ a.0 → ⊥) → (HasEnd way end ms i a → ⊥)
+  decided_by : (i : ℕ) (b : Bool) → way (move_at ms i).way ≡ b
+      → ((end (move_at ms i)).0 ≡ a.0) ⊎ ((end (move_at ms i)).0 ≡ a.0 → ⊥) → (HasEnd way end ms i a → ⊥)
       → HasEnd way end ms (suc i) a ⊎ (HasEnd way end ms (suc i) a → ⊥)
-  decided_by i true goes (inl same) none = inl (subst (λ k. HasEnd way end ms k a) (add-one i) (ends_here i goes (addr_is (end (move_at ms i)) a same)))
-  decided_by i true goes (inr apart) none = inr (λ e. elim (ends_cases i (subst (λ k. HasEnd way end ms k a) (sym (add-one i)) e)) [
-    | inl was ↦ none was
-    | inr new ↦ apart (ap (λ (x : Addr). x.0) new.1)
-  ])
-  decided_by i false other same none = inr (λ e. none (ends_skip i other (subst (λ k. HasEnd way end ms k a) (sym (add-one i)) e)))
+  decided_by i true goes (inl same) none =
+      inl (subst (λ k. HasEnd way end ms k a) (add-one i)
+      (ends_here i goes (addr_is (end (move_at ms i)) a same)))
+  decided_by i true goes (inr apart) none =
+      inr (λ e. elim (ends_cases i (subst (λ k. HasEnd way end ms k a) (sym (add-one i)) e)) [
+        | inl was ↦ none was
+        | inr new ↦ apart (ap (λ (x : Addr). x.0) new.1)
+      ])
+  decided_by i false other same none =
+      inr (λ e. none (ends_skip i other (subst (λ k. HasEnd way end ms k a) (sym (add-one i)) e)))
 
   -- whether there is one can be told
   pub ends_decided : (i : ℕ) → HasEnd way end ms i a ⊎ (HasEnd way end ms i a → ⊥)

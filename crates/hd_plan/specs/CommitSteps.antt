@@ -21,7 +21,8 @@ pub record HasEnd (way : Way → Bool) (end : Move → Addr) (ms : List Move) (i
   pub goes : way (move_at ms at).way ≡ true
   pub is : end (move_at ms at) ≡ a
 
--- an address to which an object was copied, at which a kept object stands, and from which an object was removed
+-- an address to which an object was copied, at which a kept object stands, and from which an object was
+-- removed
 abbrev pub IsCopiedTo : List Move → ℕ → Addr → Type 0
 IsCopiedTo = HasEnd is_moving (λ m. m.to)
 
@@ -38,7 +39,8 @@ MoreCards old h = (c : ℕ) → is_set old c ≡ true → is_set h c ≡ true
 abbrev pub SameCards : Heap → Heap → Type 0
 SameCards old h = (c : ℕ) → is_set h c ≡ is_set old c
 
--- the moves may be carried out: their objects are there, each has a place in the room, and no two have the same
+-- the moves may be carried out: their objects are there, each has a place in the room, and no two have the
+-- same
 pub record CanCopy (h : Heap) (ms : List Move) : Type 0 where
   pub sound : IsSound h
   pub objects : (k : ℕ) → k < length ms → has_object h (move_at ms k).from ≡ true
@@ -51,7 +53,8 @@ abbrev pub MayGo : Way → Heap → Move → Type 0
 MayGo Gone h m = Unit {0}
 MayGo Stays h m = Unit {0}
 MayGo Opens h m =
-    (has_object h m.from ≡ true) × (m.generation ≤ 2) × (cells_of (placed_at h m.from) ≤ 256) × (0 < length h.spare)
+    (has_object h m.from ≡ true) × (m.generation ≤ 2) × (cells_of (placed_at h m.from) ≤ 256) ×
+    (0 < length h.spare)
     × (m.to.0 ≡ slice_index h.spare 0 * 256)
 MayGo Follows h m =
     (has_object h m.from ≡ true) × (is_held h (region_of m.to) ≡ true)
@@ -91,7 +94,8 @@ pub record IsRewritten (old h : Heap) (place : Addr → Addr) (x : Addr) : Type 
 -- the first i fields of one object are rewritten
 pub record AreFieldsRewritten (old h : Heap) (place : Addr → Addr) (x : Addr) (i : ℕ) : Type 0 where
   pub fields : List (Option Addr)
-  pub object : h ≡ record (with_object old x (record (placed_at old x) { fields = fields })) { cards = h.cards }
+  pub object : h ≡ record
+      (with_object old x (record (placed_at old x) { fields = fields })) { cards = h.cards }
   pub number : length fields ≡ length (placed_at old x).fields
   pub below : (j : ℕ) → j < i
       → slice_index_or fields j None ≡ option_map place (slice_index_or (placed_at old x).fields j None)
@@ -101,7 +105,8 @@ pub record AreFieldsRewritten (old h : Heap) (place : Addr → Addr) (x : Addr) 
 
 -- these objects are rewritten and no others, and no card is cleared
 pub record AreRewritten (Those : Addr → Type 0) (place : Addr → Addr) (old h : Heap) : Type 0 where
-  pub done : (a : Addr) → Those a → map.get h.objects a.0 ≡ option_map (rewritten place) (map.get old.objects a.0)
+  pub done : (a : Addr) → Those a
+      → map.get h.objects a.0 ≡ option_map (rewritten place) (map.get old.objects a.0)
   pub others : (a : Addr) → (Those a → ⊥) → map.get h.objects a.0 ≡ map.get old.objects a.0
   pub same : h ≡ record old { objects = h.objects; cards = h.cards }
   pub more : MoreCards old h
@@ -121,10 +126,14 @@ pub record AreRemoved (old h : Heap) (ms : List Move) (i : ℕ) : Type 0 where
 pub record AreSettled (old h : Heap) (cs : List Condemned) (i : ℕ) : Type 0 where
   pub raised : (k : ℕ) → k < i → (condemned_at cs k).pinned ≡ true
       → map.get h.regions (condemned_at cs k).region
-      ≡ Some (record { generation = (condemned_at cs k).generation; fill = (region_at old (condemned_at cs k).region).fill })
+      ≡ Some (record {
+        generation = (condemned_at cs k).generation;
+        fill = (region_at old (condemned_at cs k).region).fill;
+      })
   pub given_up : (k : ℕ) → k < i → (condemned_at cs k).pinned ≡ false
       → map.get h.regions (condemned_at cs k).region ≡ None
-  pub others : (r : ℕ) → ((k : ℕ) → k < i → (condemned_at cs k).region ≢ r) → map.get h.regions r ≡ map.get old.regions r
+  pub others : (r : ℕ) → ((k : ℕ) → k < i → (condemned_at cs k).region ≢ r)
+      → map.get h.regions r ≡ map.get old.regions r
   pub same : h ≡ record old { regions = h.regions; spare = h.spare }
 
 -- the cards of the first i kept objects are set, at their new places

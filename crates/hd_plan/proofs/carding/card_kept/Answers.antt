@@ -13,6 +13,9 @@ loop-object-preserved c =
     let ms = c.args.moves.now in
     let i = c.loop-object.object-index in
     elim c.match-object.branch [
-      | in-Gone w ↦ subst (λ (h : Heap). AreCarded old h ms (i + 1)) (sym w.heap-is) (carded_gone old c.loop-object.heap ms i c.loop-object.invariant (ap is_kept_way w.in-Gone.is))
-      | in-Stays w ↦ subst (λ (h : Heap). AreCarded old h ms (i + 1)) (sym w.heap-is) (carded_kept old c.loop-object.heap ms i c.loop-object.invariant w.set_card.new.self (kept_way _ w.in-Stays.is) w.set_card.ensures)
+      | in-Gone w ↦ subst (λ (h : Heap). AreCarded old h ms (i + 1)) (sym w.heap-is)
+          (carded_gone old c.loop-object.heap ms i c.loop-object.invariant (ap is_kept_way w.in-Gone.is))
+      | in-Stays w ↦ subst (λ (h : Heap). AreCarded old h ms (i + 1)) (sym w.heap-is)
+          (carded_kept old c.loop-object.heap ms i c.loop-object.invariant w.set_card.new.self
+          (kept_way _ w.in-Stays.is) w.set_card.ensures)
     ]

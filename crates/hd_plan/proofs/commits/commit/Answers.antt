@@ -14,7 +14,8 @@ use Rattle.hd_plan.proofs.commits.commit.Goals as goal
 pub copy_moves-requires : goal.copy_moves-requires
 copy_moves-requires c =
     let base =
-    committing c.args.plan.now (record { heap = c.plan.inside.heap.value; condemned = c.plan.inside.condemned })
+    committing c.args.plan.now
+    (record { heap = c.plan.inside.heap.value; condemned = c.plan.inside.condemned })
     c.deref-moves.result.now c.plan.inside.moves.items c.deref-regions.result.now c.plan.inside.regions.items
     c.args.heap.now c.deref-moves.ensures.value c.deref-regions.ensures.value c.plan.view_is c.requires.laid
     c.requires.same c.requires.cards c.regions-regions.ensures.sound in
@@ -23,7 +24,8 @@ copy_moves-requires c =
 pub rewrite_carded-requires-clause-kept : goal.rewrite_carded-requires-clause-kept
 rewrite_carded-requires-clause-kept c =
     let base =
-    committing c.args.plan.now (record { heap = c.plan.inside.heap.value; condemned = c.plan.inside.condemned })
+    committing c.args.plan.now
+    (record { heap = c.plan.inside.heap.value; condemned = c.plan.inside.condemned })
     c.deref-moves.result.now c.plan.inside.moves.items c.deref-regions.result.now c.plan.inside.regions.items
     c.args.heap.now c.deref-moves.ensures.value c.deref-regions.ensures.value c.plan.view_is c.requires.laid
     c.requires.same c.requires.cards c.regions-regions.ensures.sound in
@@ -34,7 +36,8 @@ rewrite_carded-requires-clause-kept c =
 pub rewrite_carded-requires-clause-there : goal.rewrite_carded-requires-clause-there
 rewrite_carded-requires-clause-there c =
     let base =
-    committing c.args.plan.now (record { heap = c.plan.inside.heap.value; condemned = c.plan.inside.condemned })
+    committing c.args.plan.now
+    (record { heap = c.plan.inside.heap.value; condemned = c.plan.inside.condemned })
     c.deref-moves.result.now c.plan.inside.moves.items c.deref-regions.result.now c.plan.inside.regions.items
     c.args.heap.now c.deref-moves.ensures.value c.deref-regions.ensures.value c.plan.view_is c.requires.laid
     c.requires.same c.requires.cards c.regions-regions.ensures.sound in
@@ -46,39 +49,48 @@ rewrite_carded-requires-clause-there c =
 pub rewrite_kept-requires-clause-objects : goal.rewrite_kept-requires-clause-objects
 rewrite_kept-requires-clause-objects c =
     let base =
-    committing c.args.plan.now (record { heap = c.plan.inside.heap.value; condemned = c.plan.inside.condemned })
+    committing c.args.plan.now
+    (record { heap = c.plan.inside.heap.value; condemned = c.plan.inside.condemned })
     c.deref-moves.result.now c.plan.inside.moves.items c.deref-regions.result.now c.plan.inside.regions.items
     c.args.heap.now c.deref-moves.ensures.value c.deref-regions.ensures.value c.plan.view_is c.requires.laid
     c.requires.same c.requires.cards c.regions-regions.ensures.sound in
     let carded =
-    subst (λ (q : PlanOf). AreRewritten (λ a. is_old_carded c.copy_moves.new.heap c.plan.inside.condemned a ≡ true)
-    (place_in q) c.copy_moves.new.heap c.rewrite_carded.new.heap) (sym base.0) c.rewrite_carded.ensures.objects in
+    subst (λ (q : PlanOf).
+    AreRewritten (λ a. is_old_carded c.copy_moves.new.heap c.plan.inside.condemned a ≡ true)
+    (place_in q) c.copy_moves.new.heap c.rewrite_carded.new.heap)
+    (sym base.0) c.rewrite_carded.ensures.objects in
     kept_there _ c.args.heap.now base.1 c.copy_moves.new.heap c.copy_moves.ensures
     c.rewrite_carded.new.heap carded
 
 pub rewrite_kept-requires-clause-apart : goal.rewrite_kept-requires-clause-apart
 rewrite_kept-requires-clause-apart c =
     let base =
-    committing c.args.plan.now (record { heap = c.plan.inside.heap.value; condemned = c.plan.inside.condemned })
+    committing c.args.plan.now
+    (record { heap = c.plan.inside.heap.value; condemned = c.plan.inside.condemned })
     c.deref-moves.result.now c.plan.inside.moves.items c.deref-regions.result.now c.plan.inside.regions.items
     c.args.heap.now c.deref-moves.ensures.value c.deref-regions.ensures.value c.plan.view_is c.requires.laid
     c.requires.same c.requires.cards c.regions-regions.ensures.sound in
     let carded =
-    subst (λ (q : PlanOf). AreRewritten (λ a. is_old_carded c.copy_moves.new.heap c.plan.inside.condemned a ≡ true)
-    (place_in q) c.copy_moves.new.heap c.rewrite_carded.new.heap) (sym base.0) c.rewrite_carded.ensures.objects in
+    subst (λ (q : PlanOf).
+    AreRewritten (λ a. is_old_carded c.copy_moves.new.heap c.plan.inside.condemned a ≡ true)
+    (place_in q) c.copy_moves.new.heap c.rewrite_carded.new.heap)
+    (sym base.0) c.rewrite_carded.ensures.objects in
     kept_apart _ c.args.heap.now base.1 c.copy_moves.new.heap c.copy_moves.ensures
     c.rewrite_carded.new.heap carded
 
 pub rewrite_kept-requires-clause-kept : goal.rewrite_kept-requires-clause-kept
 rewrite_kept-requires-clause-kept c =
     let base =
-    committing c.args.plan.now (record { heap = c.plan.inside.heap.value; condemned = c.plan.inside.condemned })
+    committing c.args.plan.now
+    (record { heap = c.plan.inside.heap.value; condemned = c.plan.inside.condemned })
     c.deref-moves.result.now c.plan.inside.moves.items c.deref-regions.result.now c.plan.inside.regions.items
     c.args.heap.now c.deref-moves.ensures.value c.deref-regions.ensures.value c.plan.view_is c.requires.laid
     c.requires.same c.requires.cards c.regions-regions.ensures.sound in
     let carded =
-    subst (λ (q : PlanOf). AreRewritten (λ a. is_old_carded c.copy_moves.new.heap c.plan.inside.condemned a ≡ true)
-    (place_in q) c.copy_moves.new.heap c.rewrite_carded.new.heap) (sym base.0) c.rewrite_carded.ensures.objects in
+    subst (λ (q : PlanOf).
+    AreRewritten (λ a. is_old_carded c.copy_moves.new.heap c.plan.inside.condemned a ≡ true)
+    (place_in q) c.copy_moves.new.heap c.rewrite_carded.new.heap)
+    (sym base.0) c.rewrite_carded.ensures.objects in
     λ x y e field.
     subst (λ (q : PlanOf). kept_in q y ≡ true) base.0
     (kept_fields _ c.args.heap.now base.1 c.copy_moves.new.heap c.copy_moves.ensures
@@ -87,13 +99,16 @@ rewrite_kept-requires-clause-kept c =
 pub rewrite_kept-requires-clause-there : goal.rewrite_kept-requires-clause-there
 rewrite_kept-requires-clause-there c =
     let base =
-    committing c.args.plan.now (record { heap = c.plan.inside.heap.value; condemned = c.plan.inside.condemned })
+    committing c.args.plan.now
+    (record { heap = c.plan.inside.heap.value; condemned = c.plan.inside.condemned })
     c.deref-moves.result.now c.plan.inside.moves.items c.deref-regions.result.now c.plan.inside.regions.items
     c.args.heap.now c.deref-moves.ensures.value c.deref-regions.ensures.value c.plan.view_is c.requires.laid
     c.requires.same c.requires.cards c.regions-regions.ensures.sound in
     let carded =
-    subst (λ (q : PlanOf). AreRewritten (λ a. is_old_carded c.copy_moves.new.heap c.plan.inside.condemned a ≡ true)
-    (place_in q) c.copy_moves.new.heap c.rewrite_carded.new.heap) (sym base.0) c.rewrite_carded.ensures.objects in
+    subst (λ (q : PlanOf).
+    AreRewritten (λ a. is_old_carded c.copy_moves.new.heap c.plan.inside.condemned a ≡ true)
+    (place_in q) c.copy_moves.new.heap c.rewrite_carded.new.heap)
+    (sym base.0) c.rewrite_carded.ensures.objects in
     λ x y e field.
     subst (λ (q : PlanOf). has_object c.rewrite_carded.new.heap (place_in q y) ≡ true) base.0
     (second_there _ c.args.heap.now base.1 c.copy_moves.new.heap c.copy_moves.ensures
@@ -104,13 +119,16 @@ rewrite_kept-requires-clause-there c =
 pub remove_left-requires-clause-objects : goal.remove_left-requires-clause-objects
 remove_left-requires-clause-objects c =
     let base =
-    committing c.args.plan.now (record { heap = c.plan.inside.heap.value; condemned = c.plan.inside.condemned })
+    committing c.args.plan.now
+    (record { heap = c.plan.inside.heap.value; condemned = c.plan.inside.condemned })
     c.deref-moves.result.now c.plan.inside.moves.items c.deref-regions.result.now c.plan.inside.regions.items
     c.args.heap.now c.deref-moves.ensures.value c.deref-regions.ensures.value c.plan.view_is c.requires.laid
     c.requires.same c.requires.cards c.regions-regions.ensures.sound in
     let carded =
-    subst (λ (q : PlanOf). AreRewritten (λ a. is_old_carded c.copy_moves.new.heap c.plan.inside.condemned a ≡ true)
-    (place_in q) c.copy_moves.new.heap c.rewrite_carded.new.heap) (sym base.0) c.rewrite_carded.ensures.objects in
+    subst (λ (q : PlanOf).
+    AreRewritten (λ a. is_old_carded c.copy_moves.new.heap c.plan.inside.condemned a ≡ true)
+    (place_in q) c.copy_moves.new.heap c.rewrite_carded.new.heap)
+    (sym base.0) c.rewrite_carded.ensures.objects in
     let kept =
     subst (λ (q : PlanOf). AreRewritten (IsKeptAt c.deref-moves.result.now (length c.deref-moves.result.now))
     (place_in q) c.rewrite_carded.new.heap c.rewrite_kept.new.heap) (sym base.0) c.rewrite_kept.ensures in
@@ -121,7 +139,8 @@ remove_left-requires-clause-objects c =
 pub remove_left-requires-clause-rising : goal.remove_left-requires-clause-rising
 remove_left-requires-clause-rising c =
     let base =
-    committing c.args.plan.now (record { heap = c.plan.inside.heap.value; condemned = c.plan.inside.condemned })
+    committing c.args.plan.now
+    (record { heap = c.plan.inside.heap.value; condemned = c.plan.inside.condemned })
     c.deref-moves.result.now c.plan.inside.moves.items c.deref-regions.result.now c.plan.inside.regions.items
     c.args.heap.now c.deref-moves.ensures.value c.deref-regions.ensures.value c.plan.view_is c.requires.laid
     c.requires.same c.requires.cards c.regions-regions.ensures.sound in
@@ -130,7 +149,8 @@ remove_left-requires-clause-rising c =
 pub settle_regions-requires-clause-held : goal.settle_regions-requires-clause-held
 settle_regions-requires-clause-held c =
     let base =
-    committing c.args.plan.now (record { heap = c.plan.inside.heap.value; condemned = c.plan.inside.condemned })
+    committing c.args.plan.now
+    (record { heap = c.plan.inside.heap.value; condemned = c.plan.inside.condemned })
     c.deref-moves.result.now c.plan.inside.moves.items c.deref-regions.result.now c.plan.inside.regions.items
     c.args.heap.now c.deref-moves.ensures.value c.deref-regions.ensures.value c.plan.view_is c.requires.laid
     c.requires.same c.requires.cards c.regions-regions.ensures.sound in
@@ -142,7 +162,8 @@ settle_regions-requires-clause-held c =
 pub settle_regions-requires-clause-rising : goal.settle_regions-requires-clause-rising
 settle_regions-requires-clause-rising c =
     let base =
-    committing c.args.plan.now (record { heap = c.plan.inside.heap.value; condemned = c.plan.inside.condemned })
+    committing c.args.plan.now
+    (record { heap = c.plan.inside.heap.value; condemned = c.plan.inside.condemned })
     c.deref-moves.result.now c.plan.inside.moves.items c.deref-regions.result.now c.plan.inside.regions.items
     c.args.heap.now c.deref-moves.ensures.value c.deref-regions.ensures.value c.plan.view_is c.requires.laid
     c.requires.same c.requires.cards c.regions-regions.ensures.sound in
@@ -151,7 +172,8 @@ settle_regions-requires-clause-rising c =
 pub settle_regions-requires-clause-generations : goal.settle_regions-requires-clause-generations
 settle_regions-requires-clause-generations c =
     let base =
-    committing c.args.plan.now (record { heap = c.plan.inside.heap.value; condemned = c.plan.inside.condemned })
+    committing c.args.plan.now
+    (record { heap = c.plan.inside.heap.value; condemned = c.plan.inside.condemned })
     c.deref-moves.result.now c.plan.inside.moves.items c.deref-regions.result.now c.plan.inside.regions.items
     c.args.heap.now c.deref-moves.ensures.value c.deref-regions.ensures.value c.plan.view_is c.requires.laid
     c.requires.same c.requires.cards c.regions-regions.ensures.sound in
@@ -163,7 +185,8 @@ settle_regions-requires-clause-generations c =
 pub settle_regions-requires-clause-empty : goal.settle_regions-requires-clause-empty
 settle_regions-requires-clause-empty c =
     let base =
-    committing c.args.plan.now (record { heap = c.plan.inside.heap.value; condemned = c.plan.inside.condemned })
+    committing c.args.plan.now
+    (record { heap = c.plan.inside.heap.value; condemned = c.plan.inside.condemned })
     c.deref-moves.result.now c.plan.inside.moves.items c.deref-regions.result.now c.plan.inside.regions.items
     c.args.heap.now c.deref-moves.ensures.value c.deref-regions.ensures.value c.plan.view_is c.requires.laid
     c.requires.same c.requires.cards c.regions-regions.ensures.sound in
@@ -175,7 +198,8 @@ settle_regions-requires-clause-empty c =
 pub card_kept-requires : goal.card_kept-requires
 card_kept-requires c =
     let base =
-    committing c.args.plan.now (record { heap = c.plan.inside.heap.value; condemned = c.plan.inside.condemned })
+    committing c.args.plan.now
+    (record { heap = c.plan.inside.heap.value; condemned = c.plan.inside.condemned })
     c.deref-moves.result.now c.plan.inside.moves.items c.deref-regions.result.now c.plan.inside.regions.items
     c.args.heap.now c.deref-moves.ensures.value c.deref-regions.ensures.value c.plan.view_is c.requires.laid
     c.requires.same c.requires.cards c.regions-regions.ensures.sound in
@@ -187,7 +211,8 @@ card_kept-requires c =
 pub clear_unneeded-requires-clause-fields : goal.clear_unneeded-requires-clause-fields
 clear_unneeded-requires-clause-fields c =
     let base =
-    committing c.args.plan.now (record { heap = c.plan.inside.heap.value; condemned = c.plan.inside.condemned })
+    committing c.args.plan.now
+    (record { heap = c.plan.inside.heap.value; condemned = c.plan.inside.condemned })
     c.deref-moves.result.now c.plan.inside.moves.items c.deref-regions.result.now c.plan.inside.regions.items
     c.args.heap.now c.deref-moves.ensures.value c.deref-regions.ensures.value c.plan.view_is c.requires.laid
     c.requires.same c.requires.cards c.regions-regions.ensures.sound in
@@ -200,7 +225,8 @@ clear_unneeded-requires-clause-fields c =
 pub clear_unneeded-requires-clause-cards : goal.clear_unneeded-requires-clause-cards
 clear_unneeded-requires-clause-cards c =
     let base =
-    committing c.args.plan.now (record { heap = c.plan.inside.heap.value; condemned = c.plan.inside.condemned })
+    committing c.args.plan.now
+    (record { heap = c.plan.inside.heap.value; condemned = c.plan.inside.condemned })
     c.deref-moves.result.now c.plan.inside.moves.items c.deref-regions.result.now c.plan.inside.regions.items
     c.args.heap.now c.deref-moves.ensures.value c.deref-regions.ensures.value c.plan.view_is c.requires.laid
     c.requires.same c.requires.cards c.regions-regions.ensures.sound in
@@ -213,7 +239,8 @@ clear_unneeded-requires-clause-cards c =
 pub clear_unneeded-requires-clause-grown : goal.clear_unneeded-requires-clause-grown
 clear_unneeded-requires-clause-grown c =
     let base =
-    committing c.args.plan.now (record { heap = c.plan.inside.heap.value; condemned = c.plan.inside.condemned })
+    committing c.args.plan.now
+    (record { heap = c.plan.inside.heap.value; condemned = c.plan.inside.condemned })
     c.deref-moves.result.now c.plan.inside.moves.items c.deref-regions.result.now c.plan.inside.regions.items
     c.args.heap.now c.deref-moves.ensures.value c.deref-regions.ensures.value c.plan.view_is c.requires.laid
     c.requires.same c.requires.cards c.regions-regions.ensures.sound in
@@ -226,7 +253,8 @@ clear_unneeded-requires-clause-grown c =
 pub returns-clause-commits : goal.returns-clause-commits
 returns-clause-commits c =
     let base =
-    committing c.args.plan.now (record { heap = c.plan.inside.heap.value; condemned = c.plan.inside.condemned })
+    committing c.args.plan.now
+    (record { heap = c.plan.inside.heap.value; condemned = c.plan.inside.condemned })
     c.deref-moves.result.now c.plan.inside.moves.items c.deref-regions.result.now c.plan.inside.regions.items
     c.args.heap.now c.deref-moves.ensures.value c.deref-regions.ensures.value c.plan.view_is c.requires.laid
     c.requires.same c.requires.cards c.regions-regions.ensures.sound in
@@ -235,5 +263,6 @@ returns-clause-commits c =
     c.rewrite_carded.ensures.cards c.rewrite_kept.ensures c.remove_left.ensures in
     subst (λ (q : PlanOf). Commits q c.args.heap.now c.clear_unneeded.new.heap) base.0
     (ended _ _ _ _ _ _ moved c.settle_regions.new.heap c.settle_regions.ensures c.clear_unneeded.new.heap
-    (cards_alone c.settle_regions.new.heap c.card_kept.new.heap c.clear_unneeded.new.heap c.card_kept.ensures.same
+    (cards_alone c.settle_regions.new.heap c.card_kept.new.heap c.clear_unneeded.new.heap
+    c.card_kept.ensures.same
     c.clear_unneeded.ensures.same) c.clear_unneeded.ensures.exact)

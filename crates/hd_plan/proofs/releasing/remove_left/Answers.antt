@@ -15,8 +15,10 @@ loop-object-preserved c =
     elim c.match-object.branch [
       | in-Stays w ↦
           subst (λ (h : Heap). AreRemoved old h ms (i + 1)) (sym w.heap-is)
-          (removed_stays old c.loop-object.heap ms i c.loop-object.invariant (ap (λ v. not (is_staying v)) w.in-Stays.is))
+          (removed_stays old c.loop-object.heap ms i c.loop-object.invariant
+          (ap (λ v. not (is_staying v)) w.in-Stays.is))
       | in-Gone w ↦
           subst (λ (h : Heap). AreRemoved old h ms (i + 1)) (sym w.heap-is)
-          (removed_one old c.loop-object.heap ms i c.loop-object.invariant w.remove.new.self (left_way (move_at ms i).way w.in-Gone.is) w.remove.ensures)
+          (removed_one old c.loop-object.heap ms i c.loop-object.invariant w.remove.new.self
+          (left_way (move_at ms i).way w.in-Gone.is) w.remove.ensures)
     ]

@@ -13,8 +13,10 @@ loop-condemned-preserved c =
     elim c.if-condemned.branch [
       | then-condemned w ↦
           subst (λ (h : Heap). AreSettled old h cs (i + 1)) (sym w.heap-is)
-          (settled_raised old c.loop-condemned.heap cs i c.loop-condemned-test.true c.requires.rising c.loop-condemned.invariant w.set_generation.new.self w.if-condemned.true w.set_generation.ensures)
+          (settled_raised old c.loop-condemned.heap cs i c.loop-condemned-test.true c.requires.rising
+          c.loop-condemned.invariant w.set_generation.new.self w.if-condemned.true w.set_generation.ensures)
       | else-condemned w ↦
           subst (λ (h : Heap). AreSettled old h cs (i + 1)) (sym w.heap-is)
-          (settled_given_up old c.loop-condemned.heap cs i c.loop-condemned-test.true c.requires.rising c.loop-condemned.invariant w.release.new.self _ w.if-condemned.false w.release.ensures)
+          (settled_given_up old c.loop-condemned.heap cs i c.loop-condemned-test.true c.requires.rising
+          c.loop-condemned.invariant w.release.new.self _ w.if-condemned.false w.release.ensures)
     ]
