@@ -16,11 +16,13 @@ use Rattle.hd_model.proofs.Members.{member_at}
 use Rattle.hd_heap.specs.Calls.{with_card, is_after, is_old_carded, IsWalk, IsNext}
 use Rattle.hd_heap.specs.Sound.{IsSound, StartsIn}
 use Rattle.hd_heap.proofs.Places.{tied, untied}
+use Rattle.hd_plan.specs.declared.moves.Way.{Way}
+use Rattle.hd_plan.specs.declared.moves.Way.TheVariants.{Gone, Stays, Opens, Follows}
 use Rattle.hd_plan.specs.declared.moves.Move.{Move}
 use Rattle.hd_plan.specs.Layout.{move_at, is_kept_way}
 use Rattle.hd_plan.specs.Commit.{NeedsCard}
 use Rattle.hd_plan.proofs.Tests.{addr_is}
-use Rattle.hd_plan.specs.CommitSteps.{AreCarded, IsKeptAt, NamesYounger, starts_in, AreUnneeding, IsBefore, AreExactTo, IsExactBehind, next_to, left_from}
+use Rattle.hd_plan.specs.CommitSteps.{HasCard, AreCarded, IsExactAt, IsKeptAt, NamesYounger, starts_in, AreUnneeding, IsBefore, AreExactTo, IsExactBehind, next_to, left_from}
 use Rattle.hd_plan.proofs.CommitEnds.{ends_more, ends_cases, ends_skip}
 
 same_some : (x y : Addr) → Some x ≡ Some y → x ≡ y
@@ -49,14 +51,14 @@ card_beside h new k c false apart step = ap (λ (x : Heap). is_set x c) step
 
 -- the cards of kept objects, one more
 module _ (old h : Heap) (ms : List Move) (i : ℕ) (r : AreCarded old h ms i) where
-  pub carded_gone : is_kept_way (move_at ms i).way ≡ false → AreCarded old h ms (i + 1)
+  carded_gone : is_kept_way (move_at ms i).way ≡ false → AreCarded old h ms (i + 1)
   carded_gone gone = record {
     same = r.same;
     more = r.more;
     done = λ b e. r.done b (ends_skip is_kept_way (λ m. m.to) ms b i gone e);
   }
 
-  pub carded_kept : (new : Heap) → is_kept_way (move_at ms i).way ≡ true
+  carded_kept : (new : Heap) → is_kept_way (move_at ms i).way ≡ true
       → new ≡ with_card h (card_of (move_at ms i).to) true → AreCarded old new ms (i + 1)
   carded_kept new kept step =
       let k = card_of (move_at ms i).to in
@@ -72,6 +74,17 @@ module _ (old h : Heap) (ms : List Move) (i : ℕ) (r : AreCarded old h ms i) wh
           | inr here ↦ ap (λ x. is_set new (card_of x)) (sym here.1) ∙ card_here h new k true step
         ];
       }
+
+  carded_by : (w : Way) (new : Heap) → (move_at ms i).way ≡ w → HasCard w h new (move_at ms i)
+      → AreCarded old new ms (i + 1)
+  carded_by Gone new is same =
+      subst (λ (x : Heap). AreCarded old x ms (i + 1)) (sym same) (carded_gone (ap is_kept_way is))
+  carded_by Stays new is set = carded_kept new (ap is_kept_way is) set
+  carded_by Opens new is set = carded_kept new (ap is_kept_way is) set
+  carded_by Follows new is set = carded_kept new (ap is_kept_way is) set
+
+  pub carded_step : (new : Heap) → HasCard (move_at ms i).way h new (move_at ms i) → AreCarded old new ms (i + 1)
+  carded_step new set = carded_by (move_at ms i).way new refl set
 
 -- the fields of an object, one after another
 pub field_read : (xs : List (Option Addr)) (i : ℕ) (y : Addr) → i < length xs → Some y ≡ get_or xs i None
@@ -276,7 +289,7 @@ module _ (old h : Heap) (after : Option Addr) (sound : IsSound h) (grown : (a : 
         (let place = r.is in let up = above in let low = address_fits h at sound parts.0 in
         let card = card_is at in omega arith)
 
-    pub exact_next : (new : Heap) (needed : Bool) (last : Addr) → last.0 + 1 ≡ (card_of at + 1) * 32
+    exact_next : (new : Heap) (needed : Bool) (last : Addr) → last.0 + 1 ≡ (card_of at + 1) * 32
         → ((needed ≡ true) ↔ NeedsCard h (card_of at)) → new ≡ with_card h (card_of at) needed
         → IsExactBehind old new (Some last)
     exact_next new needed last is tells step = record {
@@ -316,6 +329,10 @@ module _ (old h : Heap) (after : Option Addr) (sound : IsSound h) (grown : (a : 
               let order = card_order at s.at least in
               absurd (omega arith)
         ]
+
+    pub exact_step : (new : Heap) (last : Addr) → last.0 + 1 ≡ (card_of at + 1) * 32
+        → IsExactAt h new (card_of at) → IsExactBehind old new (Some last)
+    exact_step new last is exact = exact_next new exact.needed last is exact.tells exact.is
 
   pub exact_ends : ((a : Addr) → is_old_carded h 0 a ≡ true → is_after after a ≡ false) → (c : ℕ)
       → (is_set h c ≡ true) ↔ NeedsCard h c

@@ -11,11 +11,13 @@ use Rattle.hd_heap.specs.Calls.{IsRemoved, with_generation}
 use Rattle.hd_heap.proofs.Places.{found_first, found_later}
 use Rattle.hd_heap.proofs.Reading.{has-get}
 use Rattle.hd_heap.proofs.Values.{get_same, get_other}
+use Rattle.hd_plan.specs.declared.moves.Way.{Way}
+use Rattle.hd_plan.specs.declared.moves.Way.TheVariants.{Gone, Stays, Opens, Follows}
 use Rattle.hd_plan.specs.declared.moves.Move.{Move}
 use Rattle.hd_plan.specs.declared.moves.Condemned.{Condemned}
 use Rattle.hd_plan.specs.Layout.{move_at, condemned_at, is_staying}
 use Rattle.hd_plan.proofs.Tests.{addr_is}
-use Rattle.hd_plan.specs.CommitSteps.{IsLeft, AreRemoved, AreSettled}
+use Rattle.hd_plan.specs.CommitSteps.{IsLeft, HasLeft, AreRemoved, HasSettled, AreSettled}
 use Rattle.hd_plan.proofs.CommitEnds.{ends_more, ends_here, ends_cases, ends_skip}
 use Rattle.hd_plan.proofs.CommitCopying.{has_alike}
 
@@ -28,7 +30,7 @@ pub get_left : {A : Type 0} (m : fin.FinMap nat_cmp A) (k q : ℕ) → q ≢ k
 get_left m k q apart = fin.get-remove nat_cmp_total m k q ∙ found_later q k None (fin.get m q) apart
 
 module _ (old h : Heap) (ms : List Move) (i : ℕ) (r : AreRemoved old h ms i) where
-  pub removed_stays : not (is_staying (move_at ms i).way) ≡ false → AreRemoved old h ms (i + 1)
+  removed_stays : not (is_staying (move_at ms i).way) ≡ false → AreRemoved old h ms (i + 1)
   removed_stays stays = record {
     gone = λ a e. r.gone a (ends_skip (λ w. not (is_staying w)) (λ m. m.from) ms a i stays e);
     others = λ a none. r.others a
@@ -37,7 +39,7 @@ module _ (old h : Heap) (ms : List Move) (i : ℕ) (r : AreRemoved old h ms i) w
     cards = r.cards;
   }
 
-  pub removed_one : (new : Heap) → not (is_staying (move_at ms i).way) ≡ true
+  removed_one : (new : Heap) → not (is_staying (move_at ms i).way) ≡ true
       → IsRemoved h new (move_at ms i).from → AreRemoved old new ms (i + 1)
   removed_one new left step =
       let at = (move_at ms i).from in
@@ -76,6 +78,18 @@ module _ (old h : Heap) (ms : List Move) (i : ℕ) (r : AreRemoved old h ms i) w
             ];
       }
 
+  removed_by : (w : Way) (new : Heap) → (move_at ms i).way ≡ w → HasLeft w h new (move_at ms i)
+      → AreRemoved old new ms (i + 1)
+  removed_by Gone new is left = removed_one new (ap (λ v. not (is_staying v)) is) left
+  removed_by Stays new is same =
+      subst (λ (x : Heap). AreRemoved old x ms (i + 1)) (sym same)
+      (removed_stays (ap (λ v. not (is_staying v)) is))
+  removed_by Opens new is left = removed_one new (ap (λ v. not (is_staying v)) is) left
+  removed_by Follows new is left = removed_one new (ap (λ v. not (is_staying v)) is) left
+
+  pub removed_step : (new : Heap) → HasLeft (move_at ms i).way h new (move_at ms i) → AreRemoved old new ms (i + 1)
+  removed_step new left = removed_by (move_at ms i).way new refl left
+
 -- the regions, one after another
 module _ (old h : Heap) (cs : List Condemned) (i : ℕ) (low : i < length cs) (rising : (j k : ℕ) → j < k
     → k < length cs → (condemned_at cs j).region < (condemned_at cs k).region)
@@ -83,7 +97,7 @@ module _ (old h : Heap) (cs : List Condemned) (i : ℕ) (low : i < length cs) (r
   region_apart : (k : ℕ) → k < i → (condemned_at cs k).region ≢ (condemned_at cs i).region
   region_apart k below same = (let less = rising k i below low in omega arith)
 
-  pub settled_on : (new : Heap) (g : Option Region)
+  settled_on : (new : Heap) (g : Option Region)
       → ((q : ℕ) → q ≡ (condemned_at cs i).region → fin.get new.regions q ≡ g)
       → ((q : ℕ) → q ≢ (condemned_at cs i).region → fin.get new.regions q ≡ fin.get h.regions q)
       → ((condemned_at cs i).pinned ≡ true
@@ -120,7 +134,7 @@ module _ (old h : Heap) (cs : List Condemned) (i : ℕ) (low : i < length cs) (r
     same = step ∙ ap (λ (x : Heap). record x { regions = new.regions; spare = new.spare }) r.same;
   }
 
-  pub settled_raised : (new : Heap) → (condemned_at cs i).pinned ≡ true
+  settled_raised : (new : Heap) → (condemned_at cs i).pinned ≡ true
       → new ≡ with_generation h (condemned_at cs i).region (condemned_at cs i).generation
       → AreSettled old new cs (i + 1)
   settled_raised new pinned step =
@@ -139,7 +153,7 @@ module _ (old h : Heap) (cs : List Condemned) (i : ℕ) (low : i < length cs) (r
       (step ∙ ap (λ rs. record h { regions = rs }) (sym (ap (λ (x : Heap). x.regions) step))
       ∙ ap (λ ns. record h { regions = new.regions; spare = ns }) (sym (ap (λ (x : Heap). x.spare) step)))
 
-  pub settled_given_up : (new : Heap) (spare : List ℕ) → (condemned_at cs i).pinned ≡ false
+  settled_given_up : (new : Heap) (spare : List ℕ) → (condemned_at cs i).pinned ≡ false
       → new ≡ record h { regions = fin.remove h.regions (condemned_at cs i).region; spare = spare }
       → AreSettled old new cs (i + 1)
   settled_given_up new spare unpinned step =
@@ -151,3 +165,12 @@ module _ (old h : Heap) (cs : List Condemned) (i : ℕ) (low : i < length cs) (r
       (λ p. refl)
       (step ∙ ap (λ rs. record h { regions = rs; spare = spare }) (sym (ap (λ (x : Heap). x.regions) step))
       ∙ ap (λ ns. record h { regions = new.regions; spare = ns }) (sym (ap (λ (x : Heap). x.spare) step)))
+
+  settled_by : (b : Bool) (new : Heap) → (condemned_at cs i).pinned ≡ b → HasSettled b h new (condemned_at cs i)
+      → AreSettled old new cs (i + 1)
+  settled_by true new is settled = settled_raised new is settled
+  settled_by false new is settled = settled_given_up new _ is settled
+
+  pub settled_step : (new : Heap) → HasSettled (condemned_at cs i).pinned h new (condemned_at cs i)
+      → AreSettled old new cs (i + 1)
+  settled_step new settled = settled_by (condemned_at cs i).pinned new refl settled

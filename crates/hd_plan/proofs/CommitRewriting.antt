@@ -19,7 +19,7 @@ use Rattle.hd_heap.proofs.Values.{get_same, get_other, has_with_object, placed_w
 use Rattle.hd_plan.specs.declared.moves.Move.{Move}
 use Rattle.hd_plan.specs.Layout.{move_at, is_kept_way}
 use Rattle.hd_plan.proofs.Tests.{addr_is}
-use Rattle.hd_plan.specs.CommitSteps.{rewritten, MoreCards, SameCards, IsRewritten, AreFieldsRewritten, AreRewritten, IsCardedTo, IsKeptAt, next_to}
+use Rattle.hd_plan.specs.CommitSteps.{HasRenamed, rewritten, MoreCards, SameCards, IsRewritten, AreFieldsRewritten, AreRewritten, IsCardedTo, IsKeptAt, next_to}
 use Rattle.hd_plan.proofs.CommitEnds.{ends_more, ends_here, ends_cases, ends_skip, ends_decided}
 use Rattle.hd_plan.proofs.CommitCarding.{address_fits}
 use Rattle.hd_plan.proofs.CommitCopying.{get_placed, has_alike}
@@ -81,7 +81,7 @@ module _ (old h : Heap) (place : Addr
       member_at (fields_at (object_at old) x) i None (Some y) within there
 
   -- a null field stays
-  pub rewriting_null : None ≡ get_or (fields_at (object_at h) x) i None
+  rewriting_null : None ≡ get_or (fields_at (object_at h) x) i None
       → AreFieldsRewritten old h place x (i + 1)
   rewriting_null read = record {
     fields = r.fields;
@@ -101,7 +101,7 @@ module _ (old h : Heap) (place : Addr
   }
 
   -- a field is written
-  pub rewriting_written : (new : Heap) (y : Addr) → i < length (fields_at (object_at old) x)
+  rewriting_written : (new : Heap) (y : Addr) → i < length (fields_at (object_at old) x)
       → Some y ≡ get_or (fields_at (object_at h) x) i None → new ≡ stored h x i (Some (place y))
       → AreFieldsRewritten old new place x (i + 1)
   rewriting_written new y within read written =
@@ -134,6 +134,18 @@ module _ (old h : Heap) (place : Addr
         others = λ c apart. ap (λ cs. set_of.contains cs c) cards
             ∙ insert_other (is_younger h x v) h.cards (card_of x) c apart ∙ r.others c apart;
       }
+
+  rewriting_by : (v : Option Addr) (new : Heap) → i < length (fields_at (object_at old) x)
+      → get_or (fields_at (object_at h) x) i None ≡ v → HasRenamed v place h new x i
+      → AreFieldsRewritten old new place x (i + 1)
+  rewriting_by None new within read same =
+      subst (λ (k : Heap). AreFieldsRewritten old k place x (i + 1)) (sym same) (rewriting_null (sym read))
+  rewriting_by (Some y) new within read written = rewriting_written new y within (sym read) written
+
+  pub rewriting_step : (new : Heap) → i < length (fields_at (object_at old) x)
+      → HasRenamed (get_or (fields_at (object_at h) x) i None) place h new x i
+      → AreFieldsRewritten old new place x (i + 1)
+  rewriting_step new within done = rewriting_by (get_or (fields_at (object_at h) x) i None) new within refl done
 
   -- all are
   pub rewriting_ends : length (fields_at (object_at old) x) ≤ i → IsRewritten old h place x

@@ -1,10 +1,10 @@
 -- What each step of the moving leaves of a heap.
-use Rattle.std.specs.Prelude.{◌≡◌, ◌≢◌, ℕ, ◌+◌, ◌*◌, ◌^◌, ◌-◌, ◌<◌, ◌≤◌, ◌⊎◌, ◌&&◌, Bool, true, false, not, List, length, Option, Some, None, option_map, map as list_map, slice_index, slice_index_or, nat_eq}
+use Rattle.std.specs.Prelude.{◌≡◌, ◌≢◌, ℕ, ◌+◌, ◌*◌, ◌^◌, ◌-◌, ◌<◌, ◌≤◌, ◌⊎◌, ◌↔◌, ◌&&◌, Bool, true, false, not, List, [], ◌∷◌, ◌++◌, length, Option, Some, None, option_map, map as list_map, slice_index, slice_index_or, nat_eq}
 use Rattle.std.specs.FinMap as map
 use Rattle.hd_model.specs.declared.data.Addr.{Addr}
 use Rattle.hd_model.specs.Scene.{IsField, generation_at}
 use Rattle.hd_model.specs.Heap.{Placed, Heap, region_of, card_of, region_at, region_generation, is_held, has_object, object_at, placed_at, cells_of, is_set, is_carded}
-use Rattle.hd_heap.specs.Calls.{with_object, with_fresh, with_copy, is_after, is_old_carded}
+use Rattle.hd_heap.specs.Calls.{with_object, with_fresh, with_copy, with_card, with_generation, stored, IsRemoved, is_after, is_old_carded}
 use Rattle.hd_heap.specs.Sound.{IsSound}
 use Rattle.hd_plan.specs.declared.moves.Way.{Way}
 use Rattle.hd_plan.specs.declared.moves.Way.TheVariants.{Gone, Stays, Opens, Follows}
@@ -115,12 +115,32 @@ pub record AreRewritten (Those : Addr → Type 0) (place : Addr → Addr) (old h
 abbrev pub IsCardedTo : Heap → ℕ → Option Addr → Addr → Type 0
 IsCardedTo h n after a = (is_old_carded h n a ≡ true) × (is_after after a ≡ false)
 
+-- field i of an object is rewritten: a null one stays null
+abbrev pub HasRenamed : Option Addr → (place : Addr → Addr) → Heap → Heap → Addr → ℕ → Type 0
+HasRenamed None place old h x i = h ≡ old
+HasRenamed (Some y) place old h x i = h ≡ stored old x i (Some (place y))
+
+-- an object that does not stay is gone from its old place
+abbrev pub HasLeft : Way → Heap → Heap → Move → Type 0
+HasLeft Gone old h m = IsRemoved old h m.from
+HasLeft Stays old h m = h ≡ old
+HasLeft Opens old h m = IsRemoved old h m.from
+HasLeft Follows old h m = IsRemoved old h m.from
+
 -- the first i objects that do not stay are gone from their old places, and cards of objects are as they were
 pub record AreRemoved (old h : Heap) (ms : List Move) (i : ℕ) : Type 0 where
   pub gone : (a : Addr) → IsLeft ms i a → map.get h.objects a.0 ≡ None
   pub others : (a : Addr) → (IsLeft ms i a → ⊥) → map.get h.objects a.0 ≡ map.get old.objects a.0
   pub same : h ≡ record old { objects = h.objects; cards = h.cards }
   pub cards : (a : Addr) → has_object h a ≡ true → is_carded h a ≡ is_carded old a
+
+-- a condemned region in which an object stays has its new generation, and another one is given up
+abbrev pub HasSettled : (pinned : Bool) → Heap → Heap → Condemned → Type 0
+HasSettled true old h r = h ≡ with_generation old r.region r.generation
+HasSettled false old h r = h ≡ record old {
+  regions = map.remove old.regions r.region;
+  spare = old.spare ++ r.region ∷ [];
+}
 
 -- the first i condemned regions have their new generation, or are given up
 pub record AreSettled (old h : Heap) (cs : List Condemned) (i : ℕ) : Type 0 where
@@ -136,6 +156,13 @@ pub record AreSettled (old h : Heap) (cs : List Condemned) (i : ℕ) : Type 0 wh
       → map.get h.regions r ≡ map.get old.regions r
   pub same : h ≡ record old { regions = h.regions; spare = h.spare }
 
+-- the card of a kept object is set, at its new place
+abbrev pub HasCard : Way → Heap → Heap → Move → Type 0
+HasCard Gone old h m = h ≡ old
+HasCard Stays old h m = h ≡ with_card old (card_of m.to) true
+HasCard Opens old h m = h ≡ with_card old (card_of m.to) true
+HasCard Follows old h m = h ≡ with_card old (card_of m.to) true
+
 -- the cards of the first i kept objects are set, at their new places
 pub record AreCarded (old h : Heap) (ms : List Move) (i : ℕ) : Type 0 where
   pub same : h ≡ record old { cards = h.cards }
@@ -147,6 +174,12 @@ pub record NamesYounger (h : Heap) (a : Addr) : Type 0 where
   pub target : Addr
   pub field : IsField (object_at h) a target
   pub younger : generation_at (object_at h) target < generation_at (object_at h) a
+
+-- one card is set where an object needs it, and clear otherwise
+pub record IsExactAt (old h : Heap) (card : ℕ) : Type 0 where
+  pub needed : Bool
+  pub tells : (needed ≡ true) ↔ NeedsCard old card
+  pub is : h ≡ with_card old card needed
 
 -- an object that starts in a card
 abbrev pub starts_in : Heap → ℕ → Addr → Bool

@@ -6,8 +6,10 @@ ghost use Rattle.hd_model.specs.Scene.{generation_at};
 ghost use Rattle.hd_model.specs.Heap.{has_object, object_at, card_of, is_set, is_carded};
 ghost use Rattle.hd_heap.specs.Calls.{IsWalk};
 ghost use Rattle.hd_heap.specs.Sound.{IsSound};
+ghost use Rattle.hd_plan.specs.Layout.{is_kept_way};
 ghost use Rattle.hd_plan.specs.Commit.{NeedsCard};
-ghost use Rattle.hd_plan.specs.CommitSteps.{AreCarded, IsKeptAt, NamesYounger, starts_in};
+ghost use Rattle.hd_plan.specs.CommitSteps.{HasCard, AreCarded, IsKeptAt};
+ghost use Rattle.hd_plan.specs.CommitSteps.{NamesYounger, IsExactAt, starts_in};
 
 use crate::moves::{Move, Way};
 use hd_heap::Heap;
@@ -22,10 +24,18 @@ pub(crate) fn card_kept(heap: &mut Heap, moves: &[Move])
     ensures { AreCarded heap.old heap.new moves.now (length moves.now) }
 {
     for object in moves {
-        match object.way {
-            Way::Gone => {}
-            Way::Stays | Way::Opens | Way::Follows => heap.set_card(object.to, true),
-        }
+        card_if_kept(heap, *object);
+    }
+}
+
+/// Sets the card of one object if it is kept.
+fn card_if_kept(heap: &mut Heap, object: Move)
+    requires { is_kept_way object.way ≡ true → has_object heap.old object.to ≡ true }
+    ensures { HasCard object.way heap.old heap.new object }
+{
+    match object.way {
+        Way::Gone => {}
+        Way::Stays | Way::Opens | Way::Follows => heap.set_card(object.to, true),
     }
 }
 
@@ -40,10 +50,21 @@ pub(crate) fn clear_unneeded(heap: &mut Heap)
 {
     let mut after = None;
     while let Some(at) = heap.next_carded(after, 0) {
-        let needed = is_needed(heap, at);
-        heap.set_card(at, needed);
+        make_exact(heap, at);
         after = Some(last_cell(at));
     }
+}
+
+/// Sets the card in which an object starts where it is needed, and clears it otherwise. The first
+/// that starts in the card is given.
+fn make_exact(heap: &mut Heap, first: Addr)
+    requires object { has_object heap.old first ≡ true }
+    requires first { (b : Addr) → starts_in heap.old (card_of first) b ≡ true → first.0 ≤ b.0 }
+    requires fields { HasClosedFields (object_at heap.old) }
+    ensures { IsExactAt heap.old heap.new (card_of first) }
+{
+    let needed = is_needed(heap, first);
+    heap.set_card(first, needed);
 }
 
 /// The last cell of the card in which an address is.

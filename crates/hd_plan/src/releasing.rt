@@ -2,7 +2,7 @@
 ghost use Rattle.std.specs.Prelude.{◌≡◌, ◌≢◌, ◌<◌, ◌≤◌, ℕ, true, false, length};
 ghost use Rattle.hd_model.specs.Heap.{has_object, is_held, region_of};
 ghost use Rattle.hd_plan.specs.Layout.{move_at, condemned_at, is_staying, IsRising};
-ghost use Rattle.hd_plan.specs.CommitSteps.{AreRemoved, AreSettled};
+ghost use Rattle.hd_plan.specs.CommitSteps.{HasLeft, AreRemoved, HasSettled, AreSettled};
 
 use crate::moves::{Condemned, Move, Way};
 use hd_heap::Heap;
@@ -16,10 +16,18 @@ pub(crate) fn remove_left(heap: &mut Heap, moves: &[Move])
     ensures { AreRemoved heap.old heap.new moves.now (length moves.now) }
 {
     for object in moves {
-        match object.way {
-            Way::Stays => {}
-            Way::Gone | Way::Opens | Way::Follows => heap.remove(object.from),
-        }
+        remove_if_left(heap, *object);
+    }
+}
+
+/// Takes one object away at its old place, unless it stays.
+fn remove_if_left(heap: &mut Heap, object: Move)
+    requires { has_object heap.old object.from ≡ true }
+    ensures { HasLeft object.way heap.old heap.new object }
+{
+    match object.way {
+        Way::Stays => {}
+        Way::Gone | Way::Opens | Way::Follows => heap.remove(object.from),
     }
 }
 
@@ -37,10 +45,21 @@ pub(crate) fn settle_regions(heap: &mut Heap, regions: &[Condemned])
     ensures { AreSettled heap.old heap.new regions.now (length regions.now) }
 {
     for condemned in regions {
-        if condemned.pinned {
-            heap.set_generation(condemned.region, condemned.generation);
-        } else {
-            heap.release(condemned.region);
-        }
+        settle_region(heap, *condemned);
+    }
+}
+
+/// Raises one condemned region or gives it up.
+fn settle_region(heap: &mut Heap, condemned: Condemned)
+    requires held { is_held heap.old condemned.region ≡ true }
+    requires generation { condemned.generation ≤ 2 }
+    requires empty { condemned.pinned ≡ false → (a : Addr) → has_object heap.old a ≡ true
+        → region_of a ≢ condemned.region }
+    ensures { HasSettled condemned.pinned heap.old heap.new condemned }
+{
+    if condemned.pinned {
+        heap.set_generation(condemned.region, condemned.generation);
+    } else {
+        heap.release(condemned.region);
     }
 }
