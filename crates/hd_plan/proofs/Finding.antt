@@ -17,7 +17,8 @@ found_later : (m : Move) (o : Option Move) (x a : ℕ) → x ≢ a → cond (nat
 found_later m o x a apart = ap (λ b. cond b (Some m) o) (ne_eqb x a apart)
 
 -- the k-th move is found by its address
-pub find_at : (ms : List Move) (k : ℕ) → IsRising ms → k < length ms → find_move ms (move_at ms k).from ≡ Some (move_at ms k)
+pub find_at : (ms : List Move) (k : ℕ) → IsRising ms → k < length ms
+    → find_move ms (move_at ms k).from ≡ Some (move_at ms k)
 unfolding find_move
 find_at [] k rising within = absurd (omega arith)
 find_at (m ∷ ms) zero rising within = found_first m _ m.from.0 m.from.0 refl
@@ -27,7 +28,8 @@ find_at (m ∷ ms) (suc k) rising within =
     ∙ find_at ms k (rising_rest m ms rising) (omega arith)
 
 -- of an address that no move is of, none is found
-pub find_none : (ms : List Move) (a : Addr) → ((k : ℕ) → k < length ms → (move_at ms k).from ≢ a) → find_move ms a ≡ None
+pub find_none : (ms : List Move) (a : Addr) → ((k : ℕ) → k < length ms → (move_at ms k).from ≢ a)
+    → find_move ms a ≡ None
 unfolding find_move
 find_none [] a none = refl
 find_none (m ∷ ms) a none =
@@ -42,7 +44,8 @@ pub record IsFound (ms : List Move) (a : Addr) (m : Move) : Type 0 where
   pub from : (move_at ms at).from ≡ a
 
 found_more : (m x : Move) (ms : List Move) (a : Addr) → IsFound ms a x → IsFound (m ∷ ms) a x
-found_more m x ms a f = record { at = suc f.at; within = let w = f.within in omega arith; move = f.move; from = f.from }
+found_more m x ms a f =
+    record { at = suc f.at; within = let w = f.within in omega arith; move = f.move; from = f.from }
 
 some_is : (x y : Move) → Some x ≡ Some y → x ≡ y
 some_is x y e = cc
@@ -52,10 +55,11 @@ unfolding find_move
 find_some [] a x e = absurd (cc e)
 find_some (m ∷ ms) a x e = elim (cases_eq m.from.0 a.0) [
   | inl same ↦ record {
-      at = 0;
-      within = omega arith;
-      move = some_is m x (sym (found_first m (find_move ms a) m.from.0 a.0 same) ∙ e);
-      from = addr_is m.from a same;
-    }
-  | inr apart ↦ found_more m x ms a (find_some ms a x (sym (found_later m (find_move ms a) m.from.0 a.0 apart) ∙ e))
+    at = 0;
+    within = omega arith;
+    move = some_is m x (sym (found_first m (find_move ms a) m.from.0 a.0 same) ∙ e);
+    from = addr_is m.from a same;
+  }
+  | inr apart ↦ found_more m x ms a
+      (find_some ms a x (sym (found_later m (find_move ms a) m.from.0 a.0 apart) ∙ e))
 ]

@@ -19,3 +19,4 @@ pub mod Listing
 pub mod Placing
 pub mod Compactness
 pub mod Surveying
+pub mod Laid

@@ -12,9 +12,15 @@ use Rattle.hd_heap.specs.Calls.{is_condemned}
 pub addr_is : (a b : Addr) → a.0 ≡ b.0 → a ≡ b
 addr_is a b e = ap {B = Addr} (λ n. record { 0 = n }) e
 
-both_true : (a b : Bool) → (a && b) ≡ true → (a ≡ true) × (b ≡ true)
+pub both_true : (a b : Bool) → (a && b) ≡ true → (a ≡ true) × (b ≡ true)
 both_true true b e = (refl, e)
 both_true false b e = absurd (cc e)
+
+-- two tests that pass alike are one
+pub same_tests : (a b : Bool) → (a ≡ true → b ≡ true) → (b ≡ true → a ≡ true) → a ≡ b
+same_tests true b to back = sym (to refl)
+same_tests false true to back = back refl
+same_tests false false to back = refl
 
 pub both_hold : (a b : Bool) → a ≡ true → b ≡ true → (a && b) ≡ true
 both_hold a b p q = rw (p, q)
@@ -33,7 +39,8 @@ pub raised_young : (n g : ℕ) → g ≤ n → raised n g ≡ min (g + 1) 2
 raised_young n g low = ap (λ b. cond b g (min (g + 1) 2)) (le-ltb n g low)
 
 -- an object is condemned or older, and not both
-pub older_or_young : (h : Heap) (n : ℕ) (a : Addr) → has_object h a ≡ true → (n < generation_at (object_at h) a) ⊎ (is_condemned h n a ≡ true)
+pub older_or_young : (h : Heap) (n : ℕ) (a : Addr) → has_object h a ≡ true
+    → (n < generation_at (object_at h) a) ⊎ (is_condemned h n a ≡ true)
 older_or_young h n a object = elim (cases_lt n (generation_at (object_at h) a)) [
   | inl older ↦ inl older
   | inr young ↦ inr (condemned_is h n a (record { object = object; young = young }))

@@ -21,7 +21,8 @@ use Rattle.hd_plan.specs.Packing.{IsRoom}
 abbrev pub HasCondemned : Objects Addr → ℕ → ℕ → Type 0
 HasCondemned o n r = (a : Addr) × (IsCondemned o n a × (region_of a ≡ r))
 
--- what a walk over all condemned objects found: their number, their cells, the number of their regions and the last of these
+-- what a walk over all condemned objects found: their number, their cells, the number of their regions and
+-- the last of these
 pub record IsSurvey (h : Heap) (n : ℕ) (s : Survey) : Type 0 where
   pub objects : Counts (IsCondemned (object_at h) n) s.objects
   pub cells : Takes h (IsCondemned (object_at h) n) s.cells
@@ -64,17 +65,21 @@ first_at firsts r = slice_index_or firsts r 0
 abbrev pub cell_at : List Addr → ℕ → Addr
 cell_at cells i = slice_index_or cells i (record { 0 = 0 })
 
--- the table of new places: each listed region has 256 cells, the k-th from 256 k on, and in the cell of an object that moves or stays is
+-- the table of new places: each listed region has 256 cells, the k-th from 256 k on, and in the cell of an
+-- object that moves or stays is
 -- its new place
-pub record HasPlaces (ms : List Move) (cs : List Condemned) (i : ℕ) (firsts : List ℕ) (cells : List Addr) : Type 0 where
+pub record HasPlaces (ms : List Move) (cs : List Condemned) (i : ℕ) (firsts : List ℕ)
+    (cells : List Addr) : Type 0 where
   pub listed : (k : ℕ) → k < length cs → first_at firsts (condemned_at cs k).region ≡ k + 1
-  pub others : (r : ℕ) → first_at firsts r ≢ 0 → (k : ℕ) × ((k < length cs) × ((condemned_at cs k).region ≡ r))
+  pub others : (r : ℕ) → first_at firsts r ≢ 0 → (k : ℕ)
+      × ((k < length cs) × ((condemned_at cs k).region ≡ r))
   pub spots : 256 * length cs ≤ length cells
   pub places : (j k : ℕ) → j < i → k < length cs → (condemned_at cs k).region ≡ region_of (move_at ms j).from
       → cell_at cells (256 * k + (move_at ms j).from.0 % 256) ≡ (move_at ms j).to
 
 -- what a plan's parts keep: room for all that is condemned, and the table of new places
-pub record IsPlan (b : Basis) (ms : List Move) (cs : List Condemned) (room_ms room_cs : ℕ) (firsts : List ℕ) (cells : List Addr)
+pub record IsPlan (b : Basis) (ms : List Move) (cs : List Condemned) (room_ms room_cs : ℕ) (firsts : List ℕ)
+    (cells : List Addr)
     : Type 0 where
   pub moves : HasMoveRoom (objects_of b) b.condemned room_ms
   pub regions : HasRegionRoom (HasCondemned (objects_of b) b.condemned) room_cs (length cells)
@@ -109,9 +114,11 @@ pub record AreSeats (h : Heap) (q : Room) (s : Seats) : Type 0 where
 abbrev pub begun : Seat → ℕ
 begun s = cond (nat_eq s.region 0) 0 1
 
--- the regions that are opened, against the cells that were laid: each but the last one of a generation is left with at least 193 cells taken
+-- the regions that are opened, against the cells that were laid: each but the last one of a generation is
+-- left with at least 193 cells taken
 abbrev pub HasSlack : Seats → ℕ → Type 0
-HasSlack s laid = 193 * s.opened + (s.first.fill + s.second.fill) ≤ laid + 193 * (begun s.first + begun s.second)
+HasSlack s laid = 193 * s.opened + (s.first.fill + s.second.fill) ≤ laid + 193 *
+    (begun s.first + begun s.second)
 
 -- the cells of the objects of these moves
 abbrev pub cells_laid : Heap → List Move → ℕ
@@ -130,14 +137,16 @@ pub record AreMovesTo (h : Heap) (n : ℕ) (ms : List Move) (after : Option Addr
 
 -- another seat of a generation
 abbrev pub with_seat : Seats → ℕ → Seat → Seats
-with_seat s g seat = record s { first = cond (nat_eq g 1) seat s.first; second = cond (nat_eq g 1) s.second seat }
+with_seat s g seat =
+    record s { first = cond (nat_eq g 1) seat s.first; second = cond (nat_eq g 1) s.second seat }
 
 -- an object goes behind the one before of its generation
 pub record IsBehind (g cells : ℕ) (old new : Seats) (to : Addr) : Type 0 where
   pub begun : (seat_of old g).region ≢ 0
   pub room : (seat_of old g).fill + cells ≤ 256
   pub place : to.0 ≡ (seat_of old g).region * 256 + (seat_of old g).fill
-  pub seat : new ≡ with_seat old g (record { region = (seat_of old g).region; fill = (seat_of old g).fill + cells })
+  pub seat : new ≡ with_seat old g
+      (record { region = (seat_of old g).region; fill = (seat_of old g).fill + cells })
 
 -- an object opens a spare region, since it does not fit behind the one before of its generation
 pub record IsOpening (spare : List ℕ) (g cells : ℕ) (old new : Seats) (to : Addr) : Type 0 where
@@ -155,14 +164,16 @@ IsSeated Opens spare g cells old new from to = IsOpening spare g cells old new t
 IsSeated Follows spare g cells old new from to = IsBehind g cells old new to
 
 -- one object is laid
-pub record IsMoveOf (h : Heap) (n : ℕ) (promoted pinned : Bool) (old new : Seats) (at : Addr) (m : Move) : Type 0 where
+pub record IsMoveOf (h : Heap) (n : ℕ) (promoted pinned : Bool) (old new : Seats) (at : Addr)
+    (m : Move) : Type 0 where
   pub from : m.from ≡ at
   pub generation : m.generation ≡ raised n (generation_at (object_at h) at)
   pub kept : is_kept_way m.way ≡ promoted
   pub stays : is_staying m.way ≡ (promoted && pinned)
   pub seated : IsSeated m.way h.spare m.generation (cells_of (placed_at h at)) old new at m.to
 
--- no seat is over full, each is in a region whose addresses have 32 bits, and there is a spare region for one object more
+-- no seat is over full, each is in a region whose addresses have 32 bits, and there is a spare region for
+-- one object more
 pub record CanPut (h : Heap) (s : Seats) : Type 0 where
   pub first : (s.first.region < 2 ^ 24) × (s.first.fill ≤ 256)
   pub second : (s.second.region < 2 ^ 24) × (s.second.fill ≤ 256)
@@ -175,8 +186,10 @@ pub record AreListedTo (ms : List Move) (cs : List Condemned) (i : ℕ) : Type 0
       → (j : ℕ) × ((j < i) × ((region_of (move_at ms j).from ≡ (condemned_at cs k).region)
       × ((condemned_at cs k).generation ≡ (move_at ms j).generation)))
   pub rising : (j k : ℕ) → j < k → k < length cs → (condemned_at cs j).region < (condemned_at cs k).region
-  pub all : (j : ℕ) → j < i → (k : ℕ) × ((k < length cs) × ((condemned_at cs k).region ≡ region_of (move_at ms j).from))
-  pub pinned : (k : ℕ) → k < length cs → (condemned_at cs k).pinned ≡ true → HasStay ms (condemned_at cs k).region
+  pub all : (j : ℕ) → j < i → (k : ℕ)
+      × ((k < length cs) × ((condemned_at cs k).region ≡ region_of (move_at ms j).from))
+  pub pinned : (k : ℕ) → k < length cs → (condemned_at cs k).pinned ≡ true
+      → HasStay ms (condemned_at cs k).region
   pub stays : (j k : ℕ) → j < i → k < length cs → is_staying (move_at ms j).way ≡ true
       → (condemned_at cs k).region ≡ region_of (move_at ms j).from → (condemned_at cs k).pinned ≡ true
 
@@ -190,11 +203,17 @@ is_last cs r = nat_lt 0 (length cs) && nat_eq (last_of cs).region r
 -- a region that is the last one already, with one move more
 pub record IsJoined (old new : List Condemned) (m : Move) (firsts firsts2 : List ℕ) : Type 0 where
   pub last : is_last old (region_of m.from) ≡ true
-  pub joined : new ≡ slice_set old (length old - 1) (record (last_of old) { pinned = (last_of old).pinned || is_staying m.way })
+  pub joined : new ≡ slice_set old (length old - 1)
+      (record (last_of old) { pinned = (last_of old).pinned || is_staying m.way })
   pub table : firsts2 ≡ firsts
 
 -- a region more, with its first move
 pub record IsAdded (old new : List Condemned) (m : Move) (firsts firsts2 : List ℕ) : Type 0 where
   pub other : is_last old (region_of m.from) ≡ false
-  pub added : new ≡ old ++ record { region = region_of m.from; generation = m.generation; pinned = is_staying m.way } ∷ []
+  pub added : new ≡ old ++ record {
+    region = region_of m.from;
+    generation = m.generation;
+    pinned =
+        is_staying m.way;
+  } ∷ []
   pub table : firsts2 ≡ slice_set firsts (region_of m.from) (length old + 1)

@@ -1,5 +1,7 @@
--- Where the objects of a collection go: one move for each condemned object, in rising address, and one entry for each condemned region.
--- Kept objects are copied into fresh regions, one row of regions for each generation, but for those that stay because they are pinned.
+-- Where the objects of a collection go: one move for each condemned object, in rising address, and one entry
+-- for each condemned region.
+-- Kept objects are copied into fresh regions, one row of regions for each generation, but for those that
+-- stay because they are pinned.
 -- Regions are this project's own, after the plan and the compact phase of CoreCLR's collector in outline.
 use Rattle.std.specs.Prelude.{◌≡◌, ◌≢◌, ℕ, zero, suc, ◌+◌, ◌*◌, ◌<◌, ◌≤◌, ◌⊎◌, ◌↔◌, Bool, true, false, cond, List, [], ◌∷◌, length, Option, Some, None, unwrap_or, slice_index, slice_index_or, nat_eq, drop}
 use Rattle.std.specs.Ordering.{nat_cmp}
@@ -16,7 +18,8 @@ use Rattle.hd_plan.specs.declared.moves.Condemned.{Condemned}
 
 -- the k-th move, and the k-th condemned region
 abbrev pub move_at : List Move → ℕ → Move
-move_at ms k = slice_index_or ms k (record { from = record { 0 = 0 }; to = record { 0 = 0 }; generation = 0; way = Gone })
+move_at ms k = slice_index_or ms k
+    (record { from = record { 0 = 0 }; to = record { 0 = 0 }; generation = 0; way = Gone })
 
 abbrev pub condemned_at : List Condemned → ℕ → Condemned
 condemned_at cs k = slice_index_or cs k (record { region = 0; generation = 0; pinned = false })
@@ -40,7 +43,8 @@ is_staying Stays = true
 is_staying Opens = false
 is_staying Follows = false
 
--- while objects are put: the regions that are held and spare then, and for each generation the region into which it puts, or 0
+-- while objects are put: the regions that are held and spare then, and for each generation the region into
+-- which it puts, or 0
 pub record Room : Type 0 where
   pub regions : map.FinMap nat_cmp Region
   pub spare : List ℕ
@@ -58,7 +62,9 @@ region_in rs r = unwrap_or (map.get rs r) (record { generation = 0; fill = 0 })
 
 -- so many cells more are filled in a region
 abbrev pub filled : map.FinMap nat_cmp Region → ℕ → ℕ → map.FinMap nat_cmp Region
-filled rs r cells = map.insert rs r (record { generation = (region_in rs r).generation; fill = (region_in rs r).fill + cells })
+filled rs r cells =
+    map.insert rs r (record
+    { generation = (region_in rs r).generation; fill = (region_in rs r).fill + cells })
 
 -- a generation puts into another region from now on
 abbrev pub with_current : (ℕ → ℕ) → ℕ → ℕ → ℕ → ℕ
@@ -69,7 +75,8 @@ abbrev pub put_way : Way → Room → Addr → ℕ → ℕ → Room
 put_way Gone q to g cells = q
 put_way Stays q to g cells = q
 put_way Opens q to g cells = record {
-  regions = filled (map.insert q.regions (region_of to) (record { generation = g; fill = 0 })) (region_of to) cells;
+  regions = filled (map.insert q.regions (region_of to) (record { generation = g; fill = 0 })) (region_of to)
+      cells;
   spare = drop 1 q.spare;
   current = with_current q.current g (region_of to);
 }
@@ -83,7 +90,8 @@ unfoldable pub room_at : Heap → List Move → ℕ → Room
 room_at h ms zero = room_of h
 room_at h ms (suc k) = put_move h (room_at h ms k) (move_at ms k)
 
--- the first spare region is opened: the one before of its generation, if there is one, has no room for so many cells more
+-- the first spare region is opened: the one before of its generation, if there is one, has no room for so
+-- many cells more
 pub record Opened (q : Room) (to : Addr) (g cells : ℕ) : Type 0 where
   pub spare : 0 < length q.spare
   pub place : to.0 ≡ slice_index q.spare 0 * 256
@@ -124,7 +132,8 @@ is_kept_by (Some m) = is_kept_way m.way
 abbrev pub IsRising : List Move → Type 0
 IsRising ms = (j k : ℕ) → j < k → k < length ms → (move_at ms j).from.0 < (move_at ms k).from.0
 
--- one move for each condemned object, in rising address, with the generation to which it is promoted; each goes where the room allows it
+-- one move for each condemned object, in rising address, with the generation to which it is promoted; each
+-- goes where the room allows it
 pub record AreMoves (h : Heap) (n : ℕ) (ms : List Move) : Type 0 where
   pub condemned : (k : ℕ) → k < length ms → is_condemned h n (move_at ms k).from ≡ true
   pub rising : IsRising ms
@@ -145,14 +154,16 @@ pub record IsCondemnedRegion (h : Heap) (n r : ℕ) : Type 0 where
   pub held : is_held h r ≡ true
   pub young : region_generation h r ≤ n
 
--- the condemned regions in rising number, with the generation that each gets if it stays: one stays just where an object in it does
+-- the condemned regions in rising number, with the generation that each gets if it stays: one stays just
+-- where an object in it does
 pub record AreRegions (h : Heap) (n : ℕ) (ms : List Move) (cs : List Condemned) : Type 0 where
   pub condemned : (k : ℕ) → k < length cs → IsCondemnedRegion h n (condemned_at cs k).region
   pub rising : (j k : ℕ) → j < k → k < length cs → (condemned_at cs j).region < (condemned_at cs k).region
   pub all : (r : ℕ) → IsCondemnedRegion h n r → (k : ℕ) × ((k < length cs) × ((condemned_at cs k).region ≡ r))
   pub generations : (k : ℕ) → k < length cs
       → (condemned_at cs k).generation ≡ raised n (region_generation h (condemned_at cs k).region)
-  pub pinned : (k : ℕ) → k < length cs → ((condemned_at cs k).pinned ≡ true) ↔ HasStay ms (condemned_at cs k).region
+  pub pinned : (k : ℕ) → k < length cs
+      → ((condemned_at cs k).pinned ≡ true) ↔ HasStay ms (condemned_at cs k).region
 
 -- how many of these moves leave a kept object in place
 unfoldable pub stays_among : List Move → ℕ

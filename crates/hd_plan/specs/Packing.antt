@@ -19,7 +19,8 @@ pub record IsFresh (h : Heap) (q : Room) (g r : ℕ) : Type 0 where
   pub new : is_held h r ≡ false
   pub generation : (region_in q.regions r).generation ≡ g
 
--- so many spare regions were opened and nothing else was touched; each fresh region is the current one of its generation, or has fewer than
+-- so many spare regions were opened and nothing else was touched; each fresh region is the current one of
+-- its generation, or has fewer than
 -- 64 cells left
 pub record IsRoom (h : Heap) (q : Room) : Type 0 where
   pub opened : ℕ
@@ -44,6 +45,8 @@ pub record IsPut (h : Heap) (q : Room) (to : Addr) (g cells : ℕ) : Type 0 wher
 pub record ArePut (h : Heap) (ms : List Move) (i : ℕ) : Type 0 where
   pub room : IsRoom h (room_at h ms i)
   pub put : (k : ℕ) → k < i → is_moving (move_at ms k).way ≡ true
-      → IsPut h (room_at h ms i) (move_at ms k).to (move_at ms k).generation (cells_of (placed_at h (move_at ms k).from))
-  pub apart : (j k : ℕ) → j < k → k < i → is_moving (move_at ms j).way ≡ true → is_moving (move_at ms k).way ≡ true
+      → IsPut h (room_at h ms i) (move_at ms k).to (move_at ms k).generation
+      (cells_of (placed_at h (move_at ms k).from))
+  pub apart : (j k : ℕ) → j < k → k < i → is_moving (move_at ms j).way ≡ true
+      → is_moving (move_at ms k).way ≡ true
       → (move_at ms j).to ≢ (move_at ms k).to

@@ -23,8 +23,10 @@ pub record PlanOf : Type 0 where
 abbrev pub plan_code : Coded PlanOf
 plan_code =
     code_by (Basis × (List Move × List Condemned))
-    (coded× basis_code (coded× (coded_list move_contract.the_row.coded) (coded_list condemned_contract.the_row.coded)))
-    (λ p. (p.basis, (p.moves, p.regions))) (λ q. record { basis = q.0; moves = q.1.0; regions = q.1.1 }) (λ _. refl)
+    (coded× basis_code (coded× (coded_list move_contract.the_row.coded)
+    (coded_list condemned_contract.the_row.coded)))
+    (λ p. (p.basis, (p.moves, p.regions))) (λ q. record { basis = q.0; moves = q.1.0; regions = q.1.1 })
+    (λ _. refl)
 
 -- what is kept: all that is older, and what a move keeps
 abbrev pub kept_in : PlanOf → Addr → Bool
@@ -56,7 +58,8 @@ pub record Takes (h : Heap) (P : Addr → Type 0) (cells : ℕ) : Type 0 where
   pub all : (a : Addr) → P a → Contains members a
   pub sum : sum_by (λ a. cells_of (placed_at h a)) members ≡ cells
 
--- there are spare regions for all condemned objects: each but the last one of a generation is left with at least 193 cells taken
+-- there are spare regions for all condemned objects: each but the last one of a generation is left with at
+-- least 193 cells taken
 pub record HasSpare (h : Heap) (n : ℕ) : Type 0 where
   pub cells : ℕ
   pub cells_are : Takes h (IsCondemned (object_at h) n) cells

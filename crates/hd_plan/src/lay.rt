@@ -35,7 +35,8 @@ impl Plan {
             → M.pinned marker.now a ≡ true → place_in self.new a ≡ a }
         ensures stays { let of = self.old.basis in
             Counts (λ a. IsCondemned (objects_of of) of.condemned a
-            × (M.promoted marker.now a ≡ true) × (M.pinned marker.now a ≡ true)) (stays_in self.new) }
+            × (M.promoted marker.now a ≡ true) × (M.pinned marker.now a ≡ true))
+            (stays_in self.new) }
     {
         lay_moves(heap, marker, self.condemned, &mut self.moves);
         list_moves(&self.moves, &mut self.regions, &mut self.places);

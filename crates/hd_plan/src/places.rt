@@ -1,6 +1,7 @@
-ghost use Rattle.std.specs.Prelude.{◌≡◌, ◌≢◌, ℕ, ◌+◌, ◌*◌, ◌%◌, ◌-◌, ◌^◌, ◌<◌, ◌≤◌, length, replicate, slice_set, IfOk};
+ghost use Rattle.std.specs.Prelude.{◌≡◌, ◌≢◌, ◌+◌, ◌*◌, ◌^◌, ◌<◌, ◌≤◌};
+ghost use Rattle.std.specs.Prelude.{length, replicate, slice_set, IfOk};
 ghost use Rattle.hd_model.specs.Heap.{region_of};
-ghost use Rattle.hd_plan.specs.Laying.{first_at, cell_at};
+ghost use Rattle.hd_plan.specs.Laying.{first_at};
 ghost use Rattle.hd_plan.specs.Table.{place_among, spot_of};
 
 use hd_model::{Addr, Memory};
@@ -10,8 +11,8 @@ use std::alloc::Global;
 /// its addresses.
 #[derive(Drop)]
 pub(crate) struct Places {
-    // By its number, where the cells of a region begin: 1 for the first region that is listed, and so
-    // on; 0 where a region has none.
+    // By its number, where the cells of a region stand: 1 for the first region that is listed, and
+    // so on; 0 for a region that is not listed.
     pub(crate) firsts: Vec<u32>,
     pub(crate) cells: Vec<Addr>,
 }

@@ -95,7 +95,8 @@ impl Plan {
     pub fn kept(&self) -> u32
         requires { IsLaid self.now }
         ensures { let of = self.now.basis in
-            Counts (λ a. IsCondemned (objects_of of) of.condemned a × (kept_in self.now a ≡ true)) result }
+            Counts (λ a. IsCondemned (objects_of of) of.condemned a
+            × (kept_in self.now a ≡ true)) result }
     {
         count_kept(&self.moves)
     }
@@ -104,7 +105,8 @@ impl Plan {
     pub fn removed(&self) -> u32
         requires { IsLaid self.now }
         ensures { let of = self.now.basis in
-            Counts (λ a. (is_object (objects_of of) a ≡ true) × (kept_in self.now a ≡ false)) result }
+            Counts (λ a. (is_object (objects_of of) a ≡ true)
+            × (kept_in self.now a ≡ false)) result }
     {
         self.moves.len() as u32 - count_kept(&self.moves)
     }

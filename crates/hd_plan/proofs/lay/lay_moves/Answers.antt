@@ -12,7 +12,8 @@ walk-init g c =
     let pinned = g.M.Marker.pinned c.args.marker.now in
     record {
       laying =
-          subst (λ (ms : List Move). IsLaying h c.args.n promoted pinned ms c.new-seats.result None) (sym c.requires.none)
+          subst (λ (ms : List Move). IsLaying h c.args.n promoted pinned ms c.new-seats.result None)
+          (sym c.requires.none)
           (subst (λ (s : Seats). IsLaying h c.args.n promoted pinned [] s None) (sym c.new-seats.ensures)
           (laying_start h c.args.n promoted pinned));
       capacity = refl;
@@ -21,7 +22,8 @@ walk-init g c =
 pub lay_one-object-requires-clause-can_put : goal.lay_one-object-requires-clause-can_put
 lay_one-object-requires-clause-can_put g c =
     may_put c.args.heap.now c.args.n c.in-Some.ensures.sound (g.M.Marker.promoted c.args.marker.now)
-    (g.M.Marker.pinned c.args.marker.now) c.walk.moves.items c.walk.seats c.walk.after c.walk.invariant.laying c.requires.spare
+    (g.M.Marker.pinned c.args.marker.now) c.walk.moves.items c.walk.seats c.walk.after c.walk.invariant.laying
+    c.requires.spare
 
 pub push_reserved-requires : goal.push_reserved-requires
 push_reserved-requires g c =
@@ -31,7 +33,8 @@ push_reserved-requires g c =
     one_more c.args.heap.now c.args.n c.in-Some.ensures.sound promoted pinned
     (c.walk.moves.items ++ c.lay_one-object.result ∷ []) c.lay_one-object.new.seats (Some c.in-Some.at)
     (vec_capacity c.args.moves.now)
-    (laying_next c.args.heap.now c.args.n c.in-Some.ensures.sound promoted pinned c.walk.moves.items c.walk.seats
+    (laying_next c.args.heap.now c.args.n c.in-Some.ensures.sound promoted pinned c.walk.moves.items
+    c.walk.seats
     c.lay_one-object.new.seats c.walk.after c.in-Some.at c.lay_one-object.result c.walk.invariant.laying
     c.requires.spare c.in-Some.ensures.walk c.lay_one-object.ensures)
     c.requires.room in
@@ -49,7 +52,8 @@ walk-preserved g c =
     record {
       laying =
           subst
-          (λ (ms : List Move). IsLaying c.args.heap.now c.args.n promoted pinned ms c.lay_one-object.new.seats (Some c.in-Some.at))
+          (λ (ms : List Move). IsLaying c.args.heap.now c.args.n promoted pinned ms c.lay_one-object.new.seats
+          (Some c.in-Some.at))
           (sym c.push_reserved.ensures.items)
           (laying_next c.args.heap.now c.args.n c.in-Some.ensures.sound promoted pinned c.walk.moves.items
           c.walk.seats c.lay_one-object.new.seats c.walk.after c.in-Some.at c.lay_one-object.result

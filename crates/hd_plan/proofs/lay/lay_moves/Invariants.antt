@@ -4,7 +4,8 @@ use Rattle.hd_plan.proofs.lay.lay_moves.Given as goal
 
 abbrev pub invariant-walk : goal.invariant-walk
 invariant-walk g l = record {
-  laying : IsLaying l.heap l.n (g.M.Marker.promoted l.marker) (g.M.Marker.pinned l.marker) l.moves.items l.seats l.after;
+  laying : IsLaying l.heap l.n (g.M.Marker.promoted l.marker) (g.M.Marker.pinned l.marker) l.moves.items
+      l.seats l.after;
   capacity : vec_capacity l.moves ≡ vec_capacity l.fn.moves;
 }
 

@@ -18,7 +18,13 @@ pub returns-then-region-len : goal.returns-then-region-len
 returns-then-region-len c =
     sym (place_none c.args.self.now.firsts.items c.args.self.now.cells.items c.args.at
     (get_or_past c.args.self.now.firsts.items (region_of c.args.at) 0
-    (omega (arith, c.region_number-region.ensures, c.len.ensures, c.if-region-len.true, c.args.self.now.firsts.ok.0))))
+    (omega (
+      arith,
+      c.region_number-region.ensures,
+      c.len.ensures,
+      c.if-region-len.true,
+      c.args.self.now.firsts.ok.0,
+    ))))
 
 pub returns-then-first-eq0 : goal.returns-then-first-eq0
 returns-then-first-eq0 c =
@@ -27,7 +33,13 @@ returns-then-first-eq0 c =
 
 pub index-requires-2 : goal.index-requires-2
 index-requires-2 c =
-    omega (arith, first (goal.at.index-requires-2 c).After-index, c.requires, c.if-first-eq0.false, c.args.self.now.cells.ok.0)
+    omega (
+      arith,
+      first (goal.at.index-requires-2 c).After-index,
+      c.requires,
+      c.if-first-eq0.false,
+      c.args.self.now.cells.ok.0,
+    )
 
 pub returns : goal.returns
 returns c =
@@ -36,4 +48,5 @@ returns c =
     get_or_read_under c.args.self.now.cells.items (spot_in (c.index.result.now - 1) c.args.at)
     (length c.args.self.now.cells.items) c.index-2.result.now _ c.index-2.ensures
     (omega (arith, at, c.requires, c.if-first-eq0.false)) (omega arith)
-    ∙ sym (place_some c.args.self.now.firsts.items c.args.self.now.cells.items c.args.at (c.index.result.now - 1) at)
+    ∙ sym (place_some c.args.self.now.firsts.items c.args.self.now.cells.items c.args.at
+    (c.index.result.now - 1) at)

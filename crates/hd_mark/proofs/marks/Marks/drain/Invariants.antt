@@ -1,0 +1,9 @@
+use Rattle.hd_mark.proofs.Draining.{IsDraining}
+use Rattle.hd_mark.proofs.Pushing.{work}
+use Rattle.hd_mark.proofs.marks.Marks.drain.Given as goal
+
+abbrev pub invariant-loop-at : goal.invariant-loop-at
+invariant-loop-at l = IsDraining l.fn.self l.self-inside.trace
+
+abbrev pub decreases-loop-at : goal.decreases-loop-at
+decreases-loop-at l = work l.self-inside.trace.basis.heap l.self-inside.trace.marks l.self-inside.trace.stacked

@@ -1,0 +1,23 @@
+use Rattle.std.proofs.Common.{◌≡◌, ◌<◌, true, take, length, List, Option, Some, None, ap, sym, ◌∙◌, subst, arith}
+use Rattle.std.specs.Prelude.{Contains}
+use Rattle.hd_model.specs.declared.data.Addr.{Addr}
+use Rattle.hd_model.specs.Heap.{Basis, object_at, objects_of}
+use Rattle.hd_model.specs.Names.{HasClosedFields}
+use Rattle.hd_model.specs.Scene.{fields_at, is_object}
+use Rattle.hd_model.proofs.Members.{member_at}
+use Rattle.hd_mark.specs.Marks.{MarksOf}
+use Rattle.hd_mark.proofs.Pushing.{scanned_basis}
+use Rattle.hd_mark.proofs.trace.Trace.scan.Goals as goal
+
+pub push-requires : goal.push-requires
+push-requires c =
+    let fields : List (Option Addr) = fields_at (object_at c.self.inside.heap.now) c.args.at in
+    let within : c.loop-i.i < length fields = omega (arith, c.loop-i-test.true, c.fields-i-end.ensures.count) in
+    let named : Contains fields (Some c.in-Some.y) = member_at fields c.loop-i.i None (Some c.in-Some.y) within (sym c.in-Some.ensures) in
+    let closed : HasClosedFields (object_at c.self.inside.heap.now) =
+    subst (λ (m : MarksOf). HasClosedFields (objects_of m.basis)) (sym c.self.view_is) c.requires.fields in
+    let there : is_object (object_at c.self.inside.heap.now) c.in-Some.y ≡ true = closed c.args.at c.in-Some.y named in
+    let basis : c.args.self.now.basis ≡ c.loop-i.self.basis =
+    sym (ap (λ (m : MarksOf). m.basis) c.loop-i.invariant ∙ scanned_basis (take c.loop-i.i fields) c.args.self.now) in
+    subst (λ (b : Basis). is_object (objects_of b) c.in-Some.y ≡ true) basis
+    (subst (λ (m : MarksOf). is_object (objects_of m.basis) c.in-Some.y ≡ true) c.self.view_is there)

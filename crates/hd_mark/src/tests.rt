@@ -1,0 +1,225 @@
+ghost use Rattle.std.specs.Prelude.{◌≡◌, ◌≤◌, true, IfOk};
+ghost use Rattle.hd_model.specs.Heap.{has_object, object_at};
+ghost use Rattle.hd_model.specs.Names.{HasClosedFields};
+ghost use Rattle.hd_model.specs.Scene.{IsField};
+ghost use Rattle.hd_mark.specs.Marks.{IsSettledMarks};
+
+use super::*;
+use hd_heap::Heap;
+use hd_model::{Addr, Id, Marker, Memory};
+use std::alloc::Global;
+use std::process::Abort;
+use std::test::Fail;
+
+/// The address of an object by number, from 0: each has 61 fields, and a region has four.
+fn address(k: u32) -> Addr
+    requires { k ≤ 11 }
+{
+    Addr(256 + 64 * k)
+}
+
+/// Whether an object stands at an address.
+fn stands(heap: &Heap, at: Addr) -> bool
+    ensures { result ≡ true → has_object heap.now at ≡ true }
+{
+    let before = if at.0 == 0 {
+        None
+    } else {
+        Some(Addr(at.0 - 1))
+    };
+    match heap.next(before) {
+        Some(found) => found.0 == at.0,
+        None => false,
+    }
+}
+
+/// The address of an object by number, which stands there.
+fn object(rt: &impl Abort, heap: &Heap, k: u32) -> Addr
+    ensures { has_object heap.now result ≡ true }
+{
+    assert!(rt; k < 12);
+    let at = address(k);
+    assert!(rt; stands(heap, at));
+    at
+}
+
+/// Whether the fields of an object name objects alone.
+fn names_objects(heap: &Heap, at: Addr) -> bool
+    requires { has_object heap.now at ≡ true }
+    ensures { result ≡ true → (y : Addr) → IsField (object_at heap.now) at y →
+        has_object heap.now y ≡ true }
+{
+    for i in 0..heap.fields(at) {
+        if let Some(y) = heap.load(at, i) {
+            if !stands(heap, y) {
+                return false;
+            }
+        }
+    }
+    true
+}
+
+/// Whether all fields name objects alone.
+fn is_closed(heap: &Heap) -> bool
+    ensures { result ≡ true → HasClosedFields (object_at heap.now) }
+{
+    let mut after = None;
+    while let Some(at) = heap.next(after) {
+        if !names_objects(heap, at) {
+            return false;
+        }
+        after = Some(at);
+    }
+    true
+}
+
+/// Stores an object into a field of another one, each by number.
+fn store(rt: &impl Abort, heap: &mut Heap, from: u32, i: u32, to: u32) {
+    let at = object(rt, heap, from);
+    let target = object(rt, heap, to);
+    assert!(rt; i < heap.fields(at));
+    heap.store(at, i, Some(target));
+}
+
+/// Gives the region of an object another generation.
+fn raise(heap: &mut Heap, at: Addr, generation: u8)
+    requires object { has_object heap.old at ≡ true }
+    requires generation { generation ≤ 2 }
+{
+    let _ = heap.regions();
+    heap.set_generation(at.0 / 256, generation);
+}
+
+/// Twelve objects in three regions, the second of which is of generation 1. Field `.1` of object
+/// `.0` names object `.2`.
+fn graph(rt: &impl Abort, alloc: Global, arrows: &[(u32, u32, u32)]) -> Result<Heap, Memory>
+    ensures { IfOk result (λ h. HasClosedFields (object_at h)) }
+{
+    let mut heap = Heap::open(alloc, 1_000)?;
+    for k in 0..12 {
+        let at = heap.new_object(Id(u64::from(k) + 1), 61, false);
+        assert!(rt; at == Ok(address(k)));
+    }
+    for (from, i, to) in arrows {
+        store(rt, &mut heap, *from, *i, *to);
+    }
+    let old = object(rt, &heap, 4);
+    raise(&mut heap, old, 1);
+    assert!(rt; is_closed(&heap));
+    Ok(heap)
+}
+
+/// The numbers of the promoted objects, and of the pinned ones, are these.
+fn shows(rt: &impl Abort, heap: &Heap, marks: &Marks, promoted: &[u32], pinned: &[u32])
+    requires settled { IsSettledMarks marks.now }
+    requires heap { marks.now.basis.heap ≡ heap.now }
+{
+    for k in 0..12 {
+        let at = object(rt, heap, k);
+        assert!(rt; marks.promoted(at) == promoted.contains(&k), "promoted {k}");
+        assert!(rt; marks.pinned(at) == pinned.contains(&k), "pinned {k}");
+    }
+}
+
+/// Promotes objects by number.
+fn promote(rt: &impl Abort, heap: &Heap, marks: &mut Marks, objects: &[u32])
+    requires settled { IsSettledMarks marks.old }
+    requires heap { marks.old.basis.heap ≡ heap.now }
+    ensures settled { IsSettledMarks marks.new }
+    ensures basis { marks.new.basis ≡ marks.old.basis }
+{
+    for k in objects {
+        marks.promote(object(rt, heap, *k));
+    }
+}
+
+#[test]
+fn what_fields_of_condemned_objects_lead_to_is_promoted(rt: HostRuntime) -> Result<(), Fail> {
+    // A cycle with a tail, a diamond, a chain by way of other regions, and an older object's field.
+    let arrows = [
+        (0, 0, 1),
+        (1, 5, 2),
+        (2, 60, 0),
+        (2, 59, 3),
+        (8, 0, 9),
+        (8, 1, 10),
+        (9, 7, 11),
+        (10, 7, 11),
+        (3, 2, 4),
+        (4, 2, 8),
+    ];
+    let heap = graph(&rt, rt.alloc(), &arrows)?;
+    let cases: [(u8, &[u32], &[u32]); 6] = [
+        (0, &[], &[4, 5, 6, 7]),
+        (0, &[4], &[4, 5, 6, 7]),
+        (0, &[1], &[0, 1, 2, 3, 4, 5, 6, 7]),
+        (0, &[8], &[4, 5, 6, 7, 8, 9, 10, 11]),
+        (1, &[], &[]),
+        (1, &[3], &[3, 4, 8, 9, 10, 11]),
+    ];
+    for (n, roots, promoted) in cases {
+        let mut marks = Marks::start(rt.alloc(), &heap, n)?;
+        promote(&rt, &heap, &mut marks, roots);
+        promote(&rt, &heap, &mut marks, roots);
+        let older: &[u32] = if n == 0 { &[4, 5, 6, 7] } else { &[] };
+        shows(&rt, &heap, &marks, promoted, older);
+    }
+    Ok(())
+}
+
+/// Pins objects by number.
+fn pin(rt: &impl Abort, heap: &Heap, marks: &mut Marks, objects: &[u32])
+    requires settled { IsSettledMarks marks.old }
+    requires heap { marks.old.basis.heap ≡ heap.now }
+    ensures settled { IsSettledMarks marks.new }
+    ensures basis { marks.new.basis ≡ marks.old.basis }
+{
+    for k in objects {
+        marks.pin(object(rt, heap, *k));
+    }
+}
+
+#[test]
+fn a_pinned_object_is_not_promoted_for_that(rt: HostRuntime) -> Result<(), Fail> {
+    let heap = graph(&rt, rt.alloc(), &[(0, 0, 1)])?;
+    let mut marks = Marks::start(rt.alloc(), &heap, 0)?;
+    pin(&rt, &heap, &mut marks, &[0, 11, 5]);
+    shows(&rt, &heap, &marks, &[4, 5, 6, 7], &[0, 4, 5, 6, 7, 11]);
+    promote(&rt, &heap, &mut marks, &[0]);
+    shows(
+        &rt,
+        &heap,
+        &marks,
+        &[0, 1, 4, 5, 6, 7],
+        &[0, 4, 5, 6, 7, 11],
+    );
+    Ok(())
+}
+
+/// Pushes objects by number.
+fn push(rt: &impl Abort, heap: &Heap, marks: &mut Marks, objects: &[u32])
+    requires heap { marks.old.basis.heap ≡ heap.now }
+    ensures basis { marks.new.basis ≡ marks.old.basis }
+{
+    for k in objects {
+        marks.push(object(rt, heap, *k));
+    }
+}
+
+#[test]
+fn what_is_pushed_is_scanned_by_a_drain(rt: HostRuntime) -> Result<(), Fail> {
+    let heap = graph(
+        &rt,
+        rt.alloc(),
+        &[(0, 0, 1), (1, 0, 8), (5, 0, 9), (10, 3, 0)],
+    )?;
+    let mut marks = Marks::start(rt.alloc(), &heap, 0)?;
+    marks.drain();
+    shows(&rt, &heap, &marks, &[4, 5, 6, 7], &[4, 5, 6, 7]);
+    push(&rt, &heap, &mut marks, &[1, 5, 1, 0]);
+    marks.drain();
+    shows(&rt, &heap, &marks, &[0, 1, 4, 5, 6, 7, 8], &[4, 5, 6, 7]);
+    marks.drain();
+    shows(&rt, &heap, &marks, &[0, 1, 4, 5, 6, 7, 8], &[4, 5, 6, 7]);
+    Ok(())
+}
