@@ -1,7 +1,7 @@
 -- Lemmas on cards that are set and cleared.
-use Rattle.std.proofs.Common.{◌≡◌, ◌≢◌, ℕ, ◌+◌, ◌*◌, ◌/◌, ◌^◌, ◌<◌, ◌≤◌, inl, inr, ◌⊎◌, Bool, true, false, not, ◌&&◌, List, length, get_or, Option, Some, None, refl, sym, ap, ◌∙◌, subst, arith}
-use Rattle.std.specs.Prelude.{◌||◌, is_some, ◌-◌, ◌↔◌, nat_lt, nat_eq, Contains}
-use Rattle.std.proofs.lemmas.Bool.{cases_eq, cases_lt, both_ways, and_parts, and_from, and_left, or_left, lt-ltb, le-ltb, ltb-true, ltb-false, eq-eqb, eqb-true, false_from_ne_true}
+use Rattle.std.proofs.Common.{◌≡◌, ◌≢◌, ℕ, ◌+◌, ◌*◌, ◌/◌, ◌^◌, ◌<◌, ◌≤◌, inl, inr, Bool, true, false, not, ◌&&◌, List, length, get_or, Option, Some, None, refl, sym, ap, ◌∙◌, subst, arith}
+use Rattle.std.specs.Prelude.{◌||◌, is_some, ◌-◌, ◌↔◌, nat_lt, Contains}
+use Rattle.std.proofs.lemmas.Bool.{cases_eq, cases_lt, both_ways, and_parts, and_from, and_left, or_left, lt-ltb, ltb-true, ltb-false, eq-eqb, eqb-true, false_from_ne_true}
 use Rattle.std.proofs.lemmas.List.{get_or_default}
 use Rattle.std.specs.Ordering.{nat_cmp, eq_by_cmp}
 use Rattle.std.specs.Cmp.{nat_cmp_total}
@@ -14,7 +14,7 @@ use Rattle.hd_model.specs.Scene.{fields_at, fields_in, generation_at, IsField}
 use Rattle.hd_model.specs.Heap.{Heap, region_of, card_of, has_object, object_at, is_set, is_carded}
 use Rattle.hd_model.proofs.Members.{member_at}
 use Rattle.hd_heap.specs.Calls.{with_card, is_after, is_old_carded, IsWalk, IsNext}
-use Rattle.hd_heap.specs.Sound.{IsSound, StartsIn}
+use Rattle.hd_heap.specs.Sound.{IsSound}
 use Rattle.hd_heap.proofs.Places.{tied, untied}
 use Rattle.hd_plan.specs.declared.moves.Way.{Way}
 use Rattle.hd_plan.specs.declared.moves.Way.TheVariants.{Gone, Stays, Opens, Follows}
@@ -22,8 +22,8 @@ use Rattle.hd_plan.specs.declared.moves.Move.{Move}
 use Rattle.hd_plan.specs.Layout.{move_at, is_kept_way}
 use Rattle.hd_plan.specs.Commit.{NeedsCard}
 use Rattle.hd_plan.proofs.Tests.{addr_is}
-use Rattle.hd_plan.specs.CommitSteps.{HasCard, AreCarded, IsExactAt, IsKeptAt, NamesYounger, starts_in, AreUnneeding, IsBefore, AreExactTo, IsExactBehind, next_to, left_from}
-use Rattle.hd_plan.proofs.CommitEnds.{ends_more, ends_cases, ends_skip}
+use Rattle.hd_plan.specs.CommitSteps.{HasCard, AreCarded, IsExactAt, NamesYounger, starts_in, AreUnneeding, IsBefore, IsExactBehind, next_to, left_from}
+use Rattle.hd_plan.proofs.CommitEnds.{ends_cases, ends_skip}
 
 same_some : (x y : Addr) → Some x ≡ Some y → x ≡ y
 same_some x y e = cc

@@ -1,23 +1,21 @@
 -- Lemmas on the copying of objects.
-use Rattle.std.proofs.Common.{◌≡◌, ◌≢◌, ℕ, suc, ◌+◌, ◌*◌, ◌/◌, ◌<◌, ◌≤◌, inl, inr, ◌⊎◌, Bool, true, false, List, [], length, drop, Option, Some, None, refl, sym, ap, ◌∙◌, subst, arith, add-one}
+use Rattle.std.proofs.Common.{◌≡◌, ◌≢◌, ℕ, ◌+◌, ◌*◌, ◌<◌, ◌≤◌, inl, inr, ◌⊎◌, true, false, List, [], length, drop, Some, refl, sym, ap, ◌∙◌, subst, arith, add-one}
 use Rattle.std.specs.Prelude.{is_some, unwrap_or, slice_index}
 use Rattle.std.proofs.lemmas.Bool.{cases_eq, cases_lt, both_ways}
-use Rattle.std.specs.Ordering.{nat_cmp}
 use Rattle.std.specs.FinMap as fin
 use Rattle.hd_model.specs.declared.data.Addr.{Addr}
 use Rattle.hd_model.specs.Heap.{Placed, Region, Heap, region_of, region_at, is_held, has_object, placed_at, cells_of}
 use Rattle.hd_heap.specs.Calls.{with_fresh, with_copy}
-use Rattle.hd_heap.specs.Sound.{IsSound}
 use Rattle.hd_heap.proofs.Reading.{has-get}
 use Rattle.hd_heap.proofs.Areas.{some_of}
 use Rattle.hd_heap.proofs.Values.{get_same, get_other}
 use Rattle.hd_plan.specs.declared.moves.Way.{Way}
 use Rattle.hd_plan.specs.declared.moves.Way.TheVariants.{Gone, Stays, Opens, Follows}
 use Rattle.hd_plan.specs.declared.moves.Move.{Move}
-use Rattle.hd_plan.specs.Layout.{Room, move_at, is_moving, put_way, put_move, room_at, region_in, filled, Fits, FitsMove, Opened, Followed}
-use Rattle.hd_plan.specs.Packing.{IsRoom, IsFresh}
+use Rattle.hd_plan.specs.Layout.{Room, move_at, is_moving, put_way, put_move, room_at, region_in, filled, Fits}
+use Rattle.hd_plan.specs.Packing.{IsFresh}
 use Rattle.hd_plan.proofs.Tests.{addr_is}
-use Rattle.hd_plan.specs.CommitSteps.{HasEnd, IsCopiedTo, CanCopy, MayGo, HasGone, AreCopied}
+use Rattle.hd_plan.specs.CommitSteps.{CanCopy, MayGo, HasGone, AreCopied}
 use Rattle.hd_plan.proofs.CommitEnds.{ends_more, ends_here}
 
 abbrev no_placed : Placed

@@ -1,6 +1,6 @@
 -- The heap after the moving.
-use Rattle.std.proofs.Common.{◌≡◌, ◌≢◌, ℕ, zero, suc, ◌+◌, ◌*◌, ◌/◌, ◌<◌, ◌≤◌, inl, inr, ◌⊎◌, Bool, true, false, not, List, length, map, Option, Some, None, refl, sym, ap, ◌∙◌, subst, arith, true≢false}
-use Rattle.std.specs.Prelude.{is_some, unwrap_or, option_map, Contains, ◌↔◌, ◌||◌}
+use Rattle.std.proofs.Common.{◌≡◌, ◌≢◌, ℕ, zero, suc, ◌+◌, ◌/◌, ◌<◌, ◌≤◌, inl, inr, ◌⊎◌, true, false, List, length, map, Option, Some, None, refl, sym, ap, ◌∙◌, subst, arith, true≢false}
+use Rattle.std.specs.Prelude.{is_some, unwrap_or, option_map, Contains, ◌↔◌}
 use Rattle.std.proofs.lemmas.Bool.{cases_Bool, cases_eq, both_ways, cases_lt}
 use Rattle.std.proofs.lemmas.List.{length-map}
 use Rattle.std.specs.Ordering.{nat_cmp}
@@ -9,21 +9,20 @@ use Rattle.hd_model.specs.declared.data.Addr.{Addr}
 use Rattle.hd_model.specs.Ages.{raised, HasSoundCards}
 use Rattle.hd_model.specs.Names.{HasClosedFields}
 use Rattle.hd_model.specs.Scene.{fields_at, fields_in, generation_at, IsField}
-use Rattle.hd_model.specs.Heap.{Placed, Region, Heap, region_of, card_of, region_at, region_generation, is_held, has_object, object_at, object_in, placed_at, cells_of, id_in, id_at, is_set, is_carded, used_of}
+use Rattle.hd_model.specs.Heap.{Placed, Region, Heap, region_of, card_of, region_at, region_generation, is_held, has_object, object_at, object_in, placed_at, cells_of, id_in, is_set, is_carded, used_of}
 use Rattle.hd_model.proofs.Members.{member_same, mapped_from}
 use Rattle.hd_model.proofs.Sums.{share}
-use Rattle.hd_heap.specs.Calls.{is_old_carded}
 use Rattle.hd_heap.specs.Sound.{IsSound}
 use Rattle.hd_heap.proofs.Values.{get_other}
 use Rattle.hd_plan.specs.declared.moves.Way.{Way}
 use Rattle.hd_plan.specs.declared.moves.Way.TheVariants.{Gone, Stays, Opens, Follows}
 use Rattle.hd_plan.specs.declared.moves.Move.{Move}
-use Rattle.hd_plan.specs.Layout.{Room, move_at, condemned_at, is_kept_way, is_moving, put_way, room_at, has_region, region_in, Fits, AreMoves, IsCondemnedRegion, HasStay}
+use Rattle.hd_plan.specs.Layout.{move_at, condemned_at, is_moving, put_way, room_at, has_region, region_in, Fits, AreMoves, IsCondemnedRegion, HasStay}
 use Rattle.hd_plan.specs.Packing.{IsFresh}
 use Rattle.hd_plan.specs.Compactness.{is_opening, IsOpenedBy}
-use Rattle.hd_plan.specs.Plan.{PlanOf, kept_in, place_in, stays_in, StartsInRegion, HasNoEmptyRegion}
+use Rattle.hd_plan.specs.Plan.{PlanOf, kept_in, place_in, stays_in, HasNoEmptyRegion}
 use Rattle.hd_plan.specs.Commit.{moved_object, NeedsCard, ChangesRegions, Commits}
-use Rattle.hd_plan.specs.CommitSteps.{IsKeptAt, SameCards, AreCopied, rewritten, AreRewritten, AreRemoved, AreSettled, AreCarded}
+use Rattle.hd_plan.specs.CommitSteps.{IsKeptAt, rewritten, AreSettled, AreCarded}
 use Rattle.hd_plan.proofs.Tests.{addr_is}
 use Rattle.hd_plan.proofs.Rooms.{region_is}
 use Rattle.hd_plan.proofs.Keeping.{are_put, all_put, moving_kept}
@@ -31,7 +30,6 @@ use Rattle.hd_plan.proofs.Compactness.{compact}
 use Rattle.hd_plan.proofs.CommitCarding.{has_from}
 use Rattle.hd_plan.proofs.CommitUsed.{sum-stands}
 use Rattle.hd_plan.proofs.CommitCopying.{get_placed, has_got, has_alike}
-use Rattle.hd_plan.proofs.CommitRewriting.{fields_alike}
 use Rattle.hd_plan.proofs.CommitShape.{IsCommitting, moves_now, regions_now, closed_now}
 use Rattle.hd_plan.proofs.CommitImage.{kept_by, kept_older, place_older, kept_move, place_move, kept_object, from_condemned, stays_there, way_stays, way_rests, image_at, image_only}
 use Rattle.hd_plan.proofs.CommitGenerations.{AreMoved, raised_above, raised_some, raised_older, generation_region, place_generation, regions_room, region_kept, region_older, region_raised, region_given_up}

@@ -1,25 +1,21 @@
 -- The regions and the cards after the moving: what its last steps leave.
-use Rattle.std.proofs.Common.{◌≡◌, ◌≢◌, ℕ, zero, suc, ◌+◌, ◌*◌, ◌/◌, ◌<◌, ◌≤◌, inl, inr, ◌⊎◌, Bool, true, false, not, cond, ◌||◌, ◌&&◌, List, length, Option, Some, None, refl, sym, ap, ◌∙◌, subst, arith, true≢false, min}
-use Rattle.std.specs.Prelude.{nat_lt, is_some, unwrap_or, option_map, Contains, map}
-use Rattle.std.proofs.lemmas.Bool.{cases_Bool, both_ways, cases_lt, cases_eq, le-ltb, lt-ltb, cond-true, cond-false, false_from_ne_true}
+use Rattle.std.proofs.Common.{◌≡◌, ◌≢◌, ℕ, ◌+◌, ◌<◌, ◌≤◌, inl, inr, true, false, length, Option, Some, None, refl, sym, ap, ◌∙◌, subst, arith, true≢false, min}
+use Rattle.std.specs.Prelude.{nat_lt, is_some, unwrap_or, option_map}
+use Rattle.std.proofs.lemmas.Bool.{both_ways, cases_lt, le-ltb, lt-ltb, cond-true, cond-false, false_from_ne_true}
 use Rattle.std.specs.FinMap as fin
 use Rattle.hd_model.specs.declared.data.Addr.{Addr}
-use Rattle.hd_model.specs.Ages.{raised, HasSoundCards}
-use Rattle.hd_model.specs.Names.{HasClosedFields}
-use Rattle.hd_model.specs.Scene.{fields_at, generation_at, generation_in, IsField, IsCondemned}
+use Rattle.hd_model.specs.Ages.{raised}
+use Rattle.hd_model.specs.Scene.{generation_at, generation_in}
 use Rattle.hd_model.specs.Heap.{Placed, Region, Heap, region_of, card_of, region_at, region_generation, is_held, has_object, object_at, placed_at, is_set, is_carded}
 use Rattle.hd_heap.specs.Calls.{is_old_carded}
-use Rattle.hd_heap.specs.Sound.{IsSound}
 use Rattle.hd_heap.proofs.Reading.{has-get}
-use Rattle.hd_plan.specs.declared.moves.Move.{Move}
-use Rattle.hd_plan.specs.declared.moves.Condemned.{Condemned}
-use Rattle.hd_plan.specs.Layout.{move_at, condemned_at, is_kept_way, is_moving, is_staying, room_at, region_in, has_region, IsCondemnedRegion, HasStay}
+use Rattle.hd_plan.specs.Layout.{move_at, condemned_at, is_moving, is_staying, room_at, IsCondemnedRegion, HasStay}
 use Rattle.hd_plan.specs.Packing.{IsRoom}
 use Rattle.hd_plan.specs.Plan.{PlanOf, kept_in, place_in}
-use Rattle.hd_plan.specs.CommitSteps.{IsKeptAt, SameCards, AreCopied, rewritten, AreRewritten, AreRemoved, AreSettled, AreCarded}
-use Rattle.hd_plan.proofs.Keeping.{IsKeptBy, moving_or_staying, all_put}
-use Rattle.hd_plan.proofs.CommitShape.{IsCommitting, moves_now, regions_now, closed_now}
-use Rattle.hd_plan.proofs.CommitImage.{kept_by, kept_older, place_older, kept_move, place_move, kept_object, from_condemned, stays_there, to_put, same_move, image_at, image_only}
+use Rattle.hd_plan.specs.CommitSteps.{IsKeptAt, SameCards, AreCopied, AreRewritten, AreRemoved, AreSettled}
+use Rattle.hd_plan.proofs.Keeping.{moving_or_staying, all_put}
+use Rattle.hd_plan.proofs.CommitShape.{IsCommitting, moves_now, regions_now}
+use Rattle.hd_plan.proofs.CommitImage.{kept_by, place_older, place_move, kept_object, from_condemned, stays_there, to_put, image_only}
 
 -- the generation of what is not condemned stays, and no generation falls
 pub raised_older : (n g : ℕ) → n < g → raised n g ≡ g

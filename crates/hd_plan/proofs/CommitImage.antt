@@ -1,30 +1,26 @@
 -- The kept objects at their new places: what each step leaves for the next.
-use Rattle.std.proofs.Common.{◌≡◌, ◌≢◌, ℕ, ◌+◌, ◌*◌, ◌/◌, ◌<◌, ◌≤◌, inl, inr, ◌⊎◌, Bool, true, false, not, cond, ◌||◌, ◌&&◌, List, [], ◌∷◌, map, length, Option, Some, None, refl, sym, ap, ◌∙◌, subst, arith, true≢false}
-use Rattle.std.specs.Prelude.{nat_lt, is_some, unwrap_or, option_map, Contains}
+use Rattle.std.proofs.Common.{◌≡◌, ◌≢◌, ℕ, ◌<◌, ◌≤◌, inl, inr, ◌⊎◌, true, false, not, List, [], ◌∷◌, map, length, Option, Some, None, refl, sym, ap, ◌∙◌, subst, arith, true≢false}
+use Rattle.std.specs.Prelude.{is_some, unwrap_or, option_map, Contains}
 use Rattle.std.proofs.lemmas.Bool.{cases_Bool, cases_order, both_ways, and_parts, and_from, ltb-true, lt-ltb, cases_lt}
 use Rattle.std.specs.FinMap as fin
 use Rattle.hd_model.specs.declared.data.Addr.{Addr}
-use Rattle.hd_model.specs.Ages.{raised}
 use Rattle.hd_model.specs.Scene.{fields_at, generation_at, IsField, IsCondemned}
-use Rattle.hd_model.specs.Heap.{Placed, Region, Heap, region_of, card_of, region_at, region_generation, is_held, has_object, object_at, placed_at, cells_of, is_set, is_carded}
+use Rattle.hd_model.specs.Heap.{Region, Heap, region_of, card_of, region_generation, is_held, has_object, object_at, placed_at, cells_of, is_set, is_carded}
 use Rattle.hd_model.proofs.Members.{member_same, first_in, later_in}
 use Rattle.hd_heap.specs.Calls.{is_old_carded}
-use Rattle.hd_heap.specs.Sound.{IsSound}
 use Rattle.hd_heap.proofs.Reading.{has-get}
 use Rattle.hd_heap.proofs.Values.{fields_placed}
 use Rattle.hd_plan.specs.declared.moves.Way.{Way}
 use Rattle.hd_plan.specs.declared.moves.Way.TheVariants.{Gone, Stays, Opens, Follows}
-use Rattle.hd_plan.specs.declared.moves.Move.{Move}
-use Rattle.hd_plan.specs.Layout.{move_at, is_kept_way, is_moving, is_staying, room_at, find_move, is_kept_by, AreMoves, HasStay}
+use Rattle.hd_plan.specs.Layout.{move_at, is_kept_way, is_moving, is_staying, room_at}
 use Rattle.hd_plan.specs.Packing.{IsPut}
 use Rattle.hd_plan.specs.Plan.{PlanOf, kept_in, place_in}
-use Rattle.hd_plan.specs.CommitSteps.{IsCopiedTo, IsKeptAt, IsLeft, SameCards, AreCopied, rewritten, AreRewritten, AreRemoved}
-use Rattle.hd_plan.proofs.Tests.{addr_is, condemned_of, older_or_young}
+use Rattle.hd_plan.specs.CommitSteps.{IsKeptAt, IsLeft, AreCopied, rewritten, AreRewritten, AreRemoved}
+use Rattle.hd_plan.proofs.Tests.{addr_is, older_or_young}
 use Rattle.hd_plan.proofs.Keeping.{IsKeptBy, moving_or_staying, moving_kept, unmoved, kept_cases, older_kept, older_place, move_kept, move_place, put_new, all_put, is_condemned_at}
 use Rattle.hd_plan.proofs.CommitEnds.{ends_decided}
-use Rattle.hd_plan.proofs.CommitCarding.{card_is, has_from}
 use Rattle.hd_plan.proofs.CommitCopying.{get_placed, has_got, has_alike}
-use Rattle.hd_plan.proofs.CommitRewriting.{fields_alike, generation_alike, rewritten_has, rewritten_field}
+use Rattle.hd_plan.proofs.CommitRewriting.{fields_alike, generation_alike, rewritten_has}
 use Rattle.hd_plan.proofs.CommitShape.{IsCommitting, moves_now, kept_now, closed_now}
 
 staying_of : (w : Way) → w ≡ Stays → is_staying w ≡ true

@@ -1,12 +1,12 @@
 -- Lemmas on what is taken away.
-use Rattle.std.proofs.Common.{◌≡◌, ◌≢◌, ℕ, ◌+◌, ◌<◌, ◌≤◌, inl, inr, ◌⊎◌, Bool, true, false, not, List, length, Option, Some, None, refl, sym, ap, ◌∙◌, subst, arith}
+use Rattle.std.proofs.Common.{◌≡◌, ◌≢◌, ℕ, ◌+◌, ◌<◌, inl, inr, Bool, true, false, not, List, length, Option, Some, None, refl, sym, ap, ◌∙◌, subst, arith}
 use Rattle.std.specs.Prelude.{is_some, unwrap_or}
 use Rattle.std.proofs.lemmas.Bool.{cases_eq, cases_lt, both_ways, false≢true}
 use Rattle.std.specs.Ordering.{nat_cmp}
 use Rattle.std.specs.Cmp.{nat_cmp_total}
 use Rattle.std.specs.FinMap as fin
 use Rattle.hd_model.specs.declared.data.Addr.{Addr}
-use Rattle.hd_model.specs.Heap.{Placed, Region, Heap, card_of, region_at, has_object, is_set, is_carded}
+use Rattle.hd_model.specs.Heap.{Region, Heap, card_of, region_at, has_object, is_set}
 use Rattle.hd_heap.specs.Calls.{IsRemoved, with_generation}
 use Rattle.hd_heap.proofs.Places.{found_first, found_later}
 use Rattle.hd_heap.proofs.Reading.{has-get}
@@ -17,7 +17,7 @@ use Rattle.hd_plan.specs.declared.moves.Move.{Move}
 use Rattle.hd_plan.specs.declared.moves.Condemned.{Condemned}
 use Rattle.hd_plan.specs.Layout.{move_at, condemned_at, is_staying}
 use Rattle.hd_plan.proofs.Tests.{addr_is}
-use Rattle.hd_plan.specs.CommitSteps.{IsLeft, HasLeft, AreRemoved, HasSettled, AreSettled}
+use Rattle.hd_plan.specs.CommitSteps.{HasLeft, AreRemoved, HasSettled, AreSettled}
 use Rattle.hd_plan.proofs.CommitEnds.{ends_more, ends_here, ends_cases, ends_skip}
 use Rattle.hd_plan.proofs.CommitCopying.{has_alike}
 

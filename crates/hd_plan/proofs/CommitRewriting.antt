@@ -1,6 +1,6 @@
 -- Lemmas on the rewriting of fields.
 use Rattle.std.proofs.Common.{◌≡◌, ◌≢◌, ℕ, ◌+◌, ◌-◌, ◌^◌, ◌<◌, ◌≤◌, inl, inr, ◌⊎◌, Bool, ◌&&◌, true, false, cond, List, map, length, set, get_or, Option, Some, None, refl, sym, ap, ◌∙◌, subst, arith, length-set, get_or-set_same, get_or-set_other, ext_get_or}
-use Rattle.std.specs.Prelude.{option_map, unwrap_or, is_some, nat_lt, ◌||◌}
+use Rattle.std.specs.Prelude.{option_map, is_some, nat_lt, ◌||◌}
 use Rattle.std.proofs.lemmas.Bool.{cases_eq, cases_lt, cases_Bool, both_ways, and_parts, or_right, le-ltb, ltb-true, ltb-false, false_from_ne_true}
 use Rattle.std.proofs.lemmas.List.{get_or-map, length-map}
 use Rattle.std.specs.Ordering.{nat_cmp, eq_by_cmp}
@@ -19,7 +19,7 @@ use Rattle.hd_heap.proofs.Values.{get_same, get_other, has_with_object, placed_w
 use Rattle.hd_plan.specs.declared.moves.Move.{Move}
 use Rattle.hd_plan.specs.Layout.{move_at, is_kept_way}
 use Rattle.hd_plan.proofs.Tests.{addr_is}
-use Rattle.hd_plan.specs.CommitSteps.{HasRenamed, rewritten, MoreCards, SameCards, IsRewritten, AreFieldsRewritten, AreRewritten, IsCardedTo, IsKeptAt, next_to}
+use Rattle.hd_plan.specs.CommitSteps.{HasRenamed, rewritten, SameCards, IsRewritten, AreFieldsRewritten, AreRewritten, IsCardedTo, IsKeptAt, next_to}
 use Rattle.hd_plan.proofs.CommitEnds.{ends_more, ends_here, ends_cases, ends_skip, ends_decided}
 use Rattle.hd_plan.proofs.CommitCarding.{address_fits}
 use Rattle.hd_plan.proofs.CommitCopying.{get_placed, has_alike}

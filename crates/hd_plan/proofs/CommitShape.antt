@@ -1,20 +1,19 @@
 -- A plan stands for each heap of the same shape as the one for which it was laid.
-use Rattle.std.proofs.Common.{◌≡◌, ◌≢◌, ℕ, zero, suc, ◌+◌, ◌*◌, ◌<◌, ◌≤◌, inl, inr, ◌⊎◌, Bool, true, false, cond, ◌||◌, ◌&&◌, List, length, Option, Some, None, refl, sym, ap, ◌∙◌, subst, arith}
-use Rattle.std.specs.Prelude.{nat_lt, nat_le, Contains}
+use Rattle.std.proofs.Common.{◌≡◌, ℕ, zero, suc, ◌+◌, ◌≤◌, true, ◌||◌, ◌&&◌, List, length, Some, sym, ap, ◌∙◌, subst}
+use Rattle.std.specs.Prelude.{nat_lt, nat_le}
 use Rattle.std.specs.FinMap as fin
 use Rattle.hd_model.specs.declared.data.Addr.{Addr}
 use Rattle.hd_model.specs.Ages.{raised, HasSoundCards}
-use Rattle.hd_model.specs.Leads.{IsClosed}
 use Rattle.hd_model.specs.Scene.{fields_at, generation_at, IsField}
-use Rattle.hd_model.specs.Heap.{Placed, Heap, Basis, region_of, region_generation, is_held, has_object, object_at, placed_at, cells_of, is_carded}
+use Rattle.hd_model.specs.Heap.{Heap, Basis, region_of, region_generation, is_held, object_at, placed_at, cells_of, is_carded}
 use Rattle.hd_model.proofs.Members.{member_same}
 use Rattle.hd_heap.specs.Calls.{is_condemned}
 use Rattle.hd_heap.specs.Sound.{IsSound}
 use Rattle.hd_heap.proofs.Values.{fields_placed}
 use Rattle.hd_plan.specs.declared.moves.Move.{Move}
 use Rattle.hd_plan.specs.declared.moves.Condemned.{Condemned}
-use Rattle.hd_plan.specs.Layout.{Room, move_at, condemned_at, is_kept_way, is_moving, is_kept_by, find_move, room_at, put_move, put_way, FitsMove, Fits, AreMoves, AreRegions, IsCondemnedRegion}
-use Rattle.hd_plan.specs.Plan.{PlanOf, kept_in, place_in, IsLaid}
+use Rattle.hd_plan.specs.Layout.{Room, move_at, condemned_at, is_kept_by, find_move, room_at, put_move, put_way, Fits, AreMoves, AreRegions}
+use Rattle.hd_plan.specs.Plan.{PlanOf, kept_in, IsLaid}
 use Rattle.hd_plan.specs.Commit.{IsSameShape}
 use Rattle.hd_plan.specs.CommitSteps.{CanCopy}
 use Rattle.hd_plan.proofs.CommitRewriting.{generation_alike}

@@ -3,7 +3,7 @@ use Rattle.std.specs.Prelude.{◌≡◌, ◌≢◌, ℕ, ◌+◌, ◌*◌, ◌^�
 use Rattle.std.specs.FinMap as map
 use Rattle.hd_model.specs.declared.data.Addr.{Addr}
 use Rattle.hd_model.specs.Scene.{IsField, generation_at}
-use Rattle.hd_model.specs.Heap.{Placed, Heap, region_of, card_of, region_at, region_generation, is_held, has_object, object_at, placed_at, cells_of, is_set, is_carded}
+use Rattle.hd_model.specs.Heap.{Placed, Heap, region_of, card_of, region_at, is_held, has_object, object_at, placed_at, cells_of, is_set, is_carded}
 use Rattle.hd_heap.specs.Calls.{with_object, with_fresh, with_copy, with_card, with_generation, stored, IsRemoved, is_after, is_old_carded}
 use Rattle.hd_heap.specs.Sound.{IsSound}
 use Rattle.hd_plan.specs.declared.moves.Way.{Way}

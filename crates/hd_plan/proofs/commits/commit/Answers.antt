@@ -1,5 +1,5 @@
 use Rattle.std.proofs.Common.{◌≡◌, true, length, sym, subst}
-use Rattle.hd_model.specs.Heap.{Heap, has_object}
+use Rattle.hd_model.specs.Heap.{has_object}
 use Rattle.hd_heap.specs.Calls.{is_old_carded}
 use Rattle.hd_plan.specs.Plan.{PlanOf, kept_in, place_in}
 use Rattle.hd_plan.specs.Commit.{Commits}

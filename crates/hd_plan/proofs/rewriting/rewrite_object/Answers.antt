@@ -1,4 +1,4 @@
-use Rattle.std.proofs.Common.{◌∙◌, arith, sym}
+use Rattle.std.proofs.Common.{arith, sym}
 use Rattle.hd_plan.proofs.CommitRewriting.{rewriting_starts, rewriting_has, rewriting_number, rewriting_field, rewriting_step, rewriting_ends}
 use Rattle.hd_plan.proofs.rewriting.rewrite_object.Goals as goal
 
