@@ -76,6 +76,9 @@ gone_opens old h new m r may first fresh copied =
     copied ∙ ap (λ (x : Heap). with_copy x m.from r) fresh
     ∙ ap (λ n. with_copy (with_fresh old n m.generation) m.from n) (sym region)
 
+-- what a copy into a region that was just held needs, and leaves
+pub ruleset copies = (fresh_held, fresh_room, gone_opens)
+
 -- one step of the room
 room_step : (h : Heap) (ms : List Move) (k : ℕ)
     → room_at h ms (k + 1) ≡ put_move h (room_at h ms k) (move_at ms k)

@@ -15,7 +15,7 @@ use crate::moves::{Move, Way};
 use hd_heap::Heap;
 use hd_model::Addr;
 
-/// The cells of a card.
+// The cells of a card.
 const CARD: u32 = 32;
 
 /// Sets the card of each kept object of these moves, at its new place.
@@ -28,7 +28,7 @@ pub(crate) fn card_kept(heap: &mut Heap, moves: &[Move])
     }
 }
 
-/// Sets the card of one object if it is kept.
+// Sets the card of one object if it is kept.
 fn card_if_kept(heap: &mut Heap, object: Move)
     requires { is_kept_way object.way ≡ true → has_object heap.old object.to ≡ true }
     ensures { HasCard object.way heap.old heap.new object }
@@ -55,8 +55,8 @@ pub(crate) fn clear_unneeded(heap: &mut Heap)
     }
 }
 
-/// Sets the card in which an object starts where it is needed, and clears it otherwise. The first
-/// that starts in the card is given.
+// Sets the card in which an object starts where it is needed, and clears it otherwise. The first
+// that starts in the card is given.
 fn make_exact(heap: &mut Heap, first: Addr)
     requires object { has_object heap.old first ≡ true }
     requires first { (b : Addr) → starts_in heap.old (card_of first) b ≡ true → first.0 ≤ b.0 }
@@ -67,15 +67,15 @@ fn make_exact(heap: &mut Heap, first: Addr)
     heap.set_card(first, needed);
 }
 
-/// The last cell of the card in which an address is.
+// The last cell of the card in which an address is.
 fn last_cell(at: Addr) -> Addr
     ensures { result.0 + 1 ≡ (card_of at + 1) * 32 }
 {
     Addr(at.0 / CARD * CARD + (CARD - 1))
 }
 
-/// Whether an object that starts in a card has a field to a younger one. The first that starts in
-/// the card is given.
+// Whether an object that starts in a card has a field to a younger one. The first that starts in
+// the card is given.
 fn is_needed(heap: &Heap, first: Addr) -> bool
     requires object { has_object heap.now first ≡ true }
     requires first { (b : Addr) → starts_in heap.now (card_of first) b ≡ true → first.0 ≤ b.0 }
@@ -92,7 +92,7 @@ fn is_needed(heap: &Heap, first: Addr) -> bool
     false
 }
 
-/// The next object that starts in the same card.
+// The next object that starts in the same card.
 fn next_in_card(heap: &Heap, at: Addr) -> Option<Addr>
     ensures walk { IsWalk (starts_in heap.now (card_of at)) (Some at) result }
     ensures sound { IsSound heap.now }
@@ -105,7 +105,7 @@ fn next_in_card(heap: &Heap, at: Addr) -> Option<Addr>
     }
 }
 
-/// Whether an object has a field to one of a younger generation.
+// Whether an object has a field to one of a younger generation.
 fn names_younger(heap: &Heap, at: Addr) -> bool
     requires object { has_object heap.now at ≡ true }
     requires fields { HasClosedFields (object_at heap.now) }

@@ -15,8 +15,8 @@ pub(crate) fn copy_moves(heap: &mut Heap, moves: &[Move])
     }
 }
 
-/// Copies one object if it moves.
-#[tactic(auto, using(crate::proofs::CommitCopying::fresh_held, crate::proofs::CommitCopying::fresh_room, crate::proofs::CommitCopying::gone_opens))]
+// Copies one object if it moves.
+#[tactic(auto, using(crate::proofs::CommitCopying::copies))]
 fn copy_move(heap: &mut Heap, object: Move)
     requires { MayGo object.way heap.old object }
     ensures { HasGone object.way heap.old heap.new object }

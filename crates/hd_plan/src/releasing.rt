@@ -20,7 +20,7 @@ pub(crate) fn remove_left(heap: &mut Heap, moves: &[Move])
     }
 }
 
-/// Takes one object away at its old place, unless it stays.
+// Takes one object away at its old place, unless it stays.
 fn remove_if_left(heap: &mut Heap, object: Move)
     requires { has_object heap.old object.from ≡ true }
     ensures { HasLeft object.way heap.old heap.new object }
@@ -49,7 +49,7 @@ pub(crate) fn settle_regions(heap: &mut Heap, regions: &[Condemned])
     }
 }
 
-/// Raises one condemned region or gives it up.
+// Raises one condemned region or gives it up.
 fn settle_region(heap: &mut Heap, condemned: Condemned)
     requires held { is_held heap.old condemned.region ≡ true }
     requires generation { condemned.generation ≤ 2 }

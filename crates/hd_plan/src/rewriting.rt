@@ -13,7 +13,7 @@ use crate::moves::{Move, Way};
 use hd_heap::Heap;
 use hd_model::{Addr, Forward};
 
-/// Rewrites the fields of one object.
+// Rewrites the fields of one object.
 fn rewrite_object<F: Forward>(heap: &mut Heap, forward: &F, at: Addr)
     requires laid { F.laid forward.now }
     requires object { has_object heap.old at ≡ true }
@@ -27,7 +27,7 @@ fn rewrite_object<F: Forward>(heap: &mut Heap, forward: &F, at: Addr)
     }
 }
 
-/// Rewrites one field of an object.
+// Rewrites one field of an object.
 fn rewrite_field<F: Forward>(heap: &mut Heap, forward: &F, at: Addr, i: u32)
     requires laid { F.laid forward.now }
     requires object { has_object heap.old at ≡ true }
