@@ -82,7 +82,7 @@ room_made old mid new r size same kept long free fresh small =
       how = inr (sym (ap (λ (h : Heap). is_held h r) same) ∙ free, is);
     }
 
-not_there : {A : Type 0} (o : Option A) → is_some o ≡ false → o ≡ None
+pub not_there : {A : Type 0} (o : Option A) → is_some o ≡ false → o ≡ None
 not_there None e = refl
 not_there (Some x) e = absurd (cc e)
 
@@ -129,7 +129,7 @@ pub record IsCopying (old now : Heap) (from copy : Addr) (count i : ℕ) : Type 
   pub many : length fields ≡ count
   pub done : (j : ℕ) → j < i → get_or fields j None ≡ get_or (placed_at old from).fields j None
 
-write_same : (h : Heap) (a : Addr) → has_object h a ≡ true → h ≡ with_object h a (placed_at h a)
+pub write_same : (h : Heap) (a : Addr) → has_object h a ≡ true → h ≡ with_object h a (placed_at h a)
 write_same h a is =
     let some = some_of (fin.get h.objects a.0) (sym (has-get h a) ∙ is) in
     let got : fin.get h.objects a.0 ≡ Some (placed_at h a) = some.1 ∙ ap Some (sym (ap (λ o. unwrap_or o no_placed) some.1)) in

@@ -8,7 +8,7 @@ use Rattle.std.proofs.lemmas.List.{length-map}
 
 module _ {A : Type 0} where
   -- members that are apart and stand in another list are at most as many as that has
-  fewer : (xs ys : List A) → AllPairs (λ x y. x ≢ y) xs → ((x : A) → Contains xs x → Contains ys x)
+  pub fewer : (xs ys : List A) → AllPairs (λ x y. x ≢ y) xs → ((x : A) → Contains xs x → Contains ys x)
       → length xs ≤ length ys
   fewer [] ys apart within = omega arith
   fewer (x ∷ xs) ys apart within =

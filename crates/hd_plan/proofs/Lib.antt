@@ -1,3 +1,8 @@
+pub mod CommitEnds
+pub mod CommitCarding
+pub mod CommitCopying
+pub mod CommitRewriting
+pub mod CommitReleasing
 pub mod Finding
 pub mod Tests
 pub mod Rooms
@@ -5,8 +10,14 @@ pub mod Keeping
 pub mod Seating
 pub mod Weights
 pub mod Stepping
+pub mod CommitShape
+pub mod CommitImage
+pub mod CommitGenerations
+pub mod CommitUsed
+pub mod CommitEnding
 pub mod Listing
 pub mod Placing
+pub mod Compactness
 pub mod Surveying
 pub mod Laid
 pub mod Filled

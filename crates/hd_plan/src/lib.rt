@@ -1,12 +1,16 @@
 //! Where the objects that a collection keeps go, and the moving.
 #![tactic(auto)]
 
+mod carding;
 mod commits;
+mod copying;
 mod lay;
 mod list;
 mod moves;
 mod places;
 mod plan;
+mod releasing;
+mod rewriting;
 mod seats;
 mod survey;
 #[cfg(test)]
