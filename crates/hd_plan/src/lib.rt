@@ -2,6 +2,8 @@
 #![tactic(auto)]
 
 mod carding;
+#[cfg(test)]
+mod commit_tests;
 mod commits;
 mod copying;
 mod lay;

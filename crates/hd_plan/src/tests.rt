@@ -28,7 +28,7 @@ struct Case<'a> {
 }
 
 // Whether an object stands at an address.
-fn stands(heap: &Heap, at: Addr) -> bool
+pub(crate) fn stands(heap: &Heap, at: Addr) -> bool
     ensures { result ≡ true → has_object heap.now at ≡ true }
 {
     if at.0 == 0 {
@@ -68,7 +68,7 @@ fn is_bare(heap: &Heap) -> bool
 }
 
 // Makes an object.
-fn add(rt: &impl Abort, heap: &mut Heap, id: u64, cells: u32)
+pub(crate) fn add(rt: &impl Abort, heap: &mut Heap, id: u64, cells: u32)
     requires full { HasNoEmptyRegion heap.old }
     ensures full { HasNoEmptyRegion heap.new }
 {
@@ -80,7 +80,7 @@ fn add(rt: &impl Abort, heap: &mut Heap, id: u64, cells: u32)
 }
 
 // Gives the region of an object another generation.
-fn raise(rt: &impl Abort, heap: &mut Heap, at: Addr, generation: u8)
+pub(crate) fn raise(rt: &impl Abort, heap: &mut Heap, at: Addr, generation: u8)
     requires full { HasNoEmptyRegion heap.old }
     ensures full { HasNoEmptyRegion heap.new }
 {
