@@ -21,7 +21,7 @@ use Rattle.hd_plan.specs.declared.moves.Way.TheVariants.{Gone, Stays, Opens, Fol
 use Rattle.hd_plan.specs.declared.moves.Move.{Move}
 use Rattle.hd_plan.specs.Layout.{move_at, is_kept_way}
 use Rattle.hd_plan.specs.Commit.{NeedsCard}
-use Rattle.hd_plan.proofs.Tests.{addr_is}
+use Rattle.hd_plan.proofs.Addresses.{addr_is}
 use Rattle.hd_plan.specs.CommitSteps.{HasCard, AreCarded, IsExactAt, NamesYounger, starts_in, AreUnneeding, IsBefore, IsExactBehind, next_to, left_from}
 use Rattle.hd_plan.proofs.CommitEnds.{ends_cases, ends_skip}
 

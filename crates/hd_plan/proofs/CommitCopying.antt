@@ -14,7 +14,7 @@ use Rattle.hd_plan.specs.declared.moves.Way.TheVariants.{Gone, Stays, Opens, Fol
 use Rattle.hd_plan.specs.declared.moves.Move.{Move}
 use Rattle.hd_plan.specs.Layout.{Room, move_at, is_moving, put_way, put_move, room_at, region_in, filled, Fits}
 use Rattle.hd_plan.specs.Packing.{IsFresh}
-use Rattle.hd_plan.proofs.Tests.{addr_is}
+use Rattle.hd_plan.proofs.Addresses.{addr_is}
 use Rattle.hd_plan.specs.CommitSteps.{CanCopy, MayGo, HasGone, AreCopied}
 use Rattle.hd_plan.proofs.CommitEnds.{ends_more, ends_here}
 

@@ -23,7 +23,7 @@ use Rattle.hd_plan.specs.Compactness.{is_opening, IsOpenedBy}
 use Rattle.hd_plan.specs.Plan.{PlanOf, kept_in, place_in, stays_in, HasNoEmptyRegion}
 use Rattle.hd_plan.specs.Commit.{moved_object, NeedsCard, ChangesRegions, Commits}
 use Rattle.hd_plan.specs.CommitSteps.{IsKeptAt, rewritten, AreSettled, AreCarded}
-use Rattle.hd_plan.proofs.Tests.{addr_is}
+use Rattle.hd_plan.proofs.Addresses.{addr_is}
 use Rattle.hd_plan.proofs.Rooms.{region_is}
 use Rattle.hd_plan.proofs.Keeping.{are_put, all_put, moving_kept}
 use Rattle.hd_plan.proofs.Compactness.{compact}

@@ -6,7 +6,7 @@ use Rattle.hd_plan.specs.declared.moves.Way.{Way}
 use Rattle.hd_plan.specs.declared.moves.Way.TheVariants.{Gone, Stays, Opens, Follows}
 use Rattle.hd_plan.specs.declared.moves.Move.{Move}
 use Rattle.hd_plan.specs.Layout.{move_at, is_kept_way, is_staying}
-use Rattle.hd_plan.proofs.Tests.{addr_is}
+use Rattle.hd_plan.proofs.Addresses.{addr_is}
 use Rattle.hd_plan.specs.CommitSteps.{HasEnd}
 
 -- the ways of an object that is kept, and of one that is left

@@ -16,7 +16,7 @@ use Rattle.hd_plan.specs.Layout.{move_at, is_kept_way, is_moving, is_staying, ro
 use Rattle.hd_plan.specs.Packing.{IsPut}
 use Rattle.hd_plan.specs.Plan.{PlanOf, kept_in, place_in}
 use Rattle.hd_plan.specs.CommitSteps.{IsKeptAt, IsLeft, AreCopied, rewritten, AreRewritten, AreRemoved}
-use Rattle.hd_plan.proofs.Tests.{addr_is, older_or_young}
+use Rattle.hd_plan.proofs.Addresses.{addr_is, older_or_young}
 use Rattle.hd_plan.proofs.Keeping.{IsKeptBy, moving_or_staying, moving_kept, unmoved, kept_cases, older_kept, older_place, move_kept, move_place, put_new, all_put, is_condemned_at}
 use Rattle.hd_plan.proofs.CommitEnds.{ends_decided}
 use Rattle.hd_plan.proofs.CommitCopying.{get_placed, has_got, has_alike}

@@ -16,7 +16,7 @@ use Rattle.hd_plan.specs.declared.moves.Way.TheVariants.{Gone, Stays, Opens, Fol
 use Rattle.hd_plan.specs.declared.moves.Move.{Move}
 use Rattle.hd_plan.specs.declared.moves.Condemned.{Condemned}
 use Rattle.hd_plan.specs.Layout.{move_at, condemned_at, is_staying}
-use Rattle.hd_plan.proofs.Tests.{addr_is}
+use Rattle.hd_plan.proofs.Addresses.{addr_is}
 use Rattle.hd_plan.specs.CommitSteps.{HasLeft, AreRemoved, HasSettled, AreSettled}
 use Rattle.hd_plan.proofs.CommitEnds.{ends_more, ends_here, ends_cases, ends_skip}
 use Rattle.hd_plan.proofs.CommitCopying.{has_alike}

@@ -18,7 +18,7 @@ use Rattle.hd_heap.proofs.Places.{untied}
 use Rattle.hd_heap.proofs.Values.{get_same, get_other, has_with_object, placed_with_object, write_twice, write_same, fields_placed}
 use Rattle.hd_plan.specs.declared.moves.Move.{Move}
 use Rattle.hd_plan.specs.Layout.{move_at, is_kept_way}
-use Rattle.hd_plan.proofs.Tests.{addr_is}
+use Rattle.hd_plan.proofs.Addresses.{addr_is}
 use Rattle.hd_plan.specs.CommitSteps.{HasRenamed, rewritten, SameCards, IsRewritten, AreFieldsRewritten, AreRewritten, IsCardedTo, IsKeptAt, next_to}
 use Rattle.hd_plan.proofs.CommitEnds.{ends_more, ends_here, ends_cases, ends_skip, ends_decided}
 use Rattle.hd_plan.proofs.CommitCarding.{address_fits}

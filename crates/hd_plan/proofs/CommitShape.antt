@@ -19,7 +19,7 @@ use Rattle.hd_plan.specs.CommitSteps.{CanCopy}
 use Rattle.hd_plan.proofs.CommitRewriting.{generation_alike}
 use Rattle.hd_plan.proofs.CommitCarding.{has_from}
 use Rattle.hd_plan.proofs.Keeping.{generation_some, are_put}
-use Rattle.hd_plan.proofs.Tests.{condemned_of}
+use Rattle.hd_plan.proofs.Addresses.{condemned_of}
 
 module _ (h k : Heap) (s : IsSameShape h k) where
   pub shape_generation : (a : Addr) → generation_at (object_at k) a ≡ generation_at (object_at h) a

@@ -5,7 +5,7 @@ use Rattle.std.proofs.lemmas.Bool.{eq-eqb, ne_eqb, cases_eq}
 use Rattle.hd_model.specs.declared.data.Addr.{Addr}
 use Rattle.hd_plan.specs.declared.moves.Move.{Move}
 use Rattle.hd_plan.specs.Layout.{move_at, find_move, IsRising}
-use Rattle.hd_plan.proofs.Tests.{addr_is}
+use Rattle.hd_plan.proofs.Addresses.{addr_is}
 
 rising_rest : (m : Move) (ms : List Move) → IsRising (m ∷ ms) → IsRising ms
 rising_rest m ms rising j k less within = rising (suc j) (suc k) (omega arith) (omega arith)

@@ -17,7 +17,7 @@ use Rattle.hd_plan.specs.declared.moves.Move.{Move}
 use Rattle.hd_plan.specs.Layout.{Room, room_at, FitsMove, Fits, move_at, is_moving, is_kept_way, is_staying, find_move, place_by, is_kept_by, AreMoves}
 use Rattle.hd_plan.specs.Packing.{IsRoom, IsPut, ArePut}
 use Rattle.hd_plan.specs.Plan.{PlanOf, kept_in, place_in, IsLaid}
-use Rattle.hd_plan.proofs.Tests.{condemned_of, raised_young, older_or_young}
+use Rattle.hd_plan.proofs.Addresses.{condemned_of, raised_young, older_or_young}
 use Rattle.hd_plan.proofs.Finding.{find_at, find_none, find_some, IsFound}
 use Rattle.hd_plan.proofs.Rooms.{room_start, goes, Goes}
 

@@ -17,7 +17,7 @@ use Rattle.hd_plan.specs.Layout.{move_at, condemned_at, room_at, is_kept_way, is
 use Rattle.hd_plan.specs.Laying.{AreChosen, AreListedTo, HasMove, HasRegionRoom, HasCondemned, IsPlan, first_at}
 use Rattle.hd_plan.specs.Table.{place_among}
 use Rattle.hd_plan.specs.Plan.{PlanOf, kept_in, place_in, stays_in, IsLaid, HasNoEmptyCondemned, StartsInRegion}
-use Rattle.hd_plan.proofs.Tests.{condemned_is, older_or_young, both_hold, both_true, same_tests}
+use Rattle.hd_plan.proofs.Addresses.{condemned_is, older_or_young, both_hold, both_true, same_tests}
 use Rattle.hd_plan.proofs.Keeping.{is_condemned_at, kept, place, older_kept, older_place, move_kept, move_place, kept_cases, keeps_objects, keeping, unmoved}
 use Rattle.hd_plan.proofs.Weights.{counts_moves, stays_counted}
 use Rattle.hd_plan.proofs.Placing.{place_none, place_some}

@@ -4,7 +4,7 @@ pub mod CommitCopying
 pub mod CommitRewriting
 pub mod CommitReleasing
 pub mod Finding
-pub mod Tests
+pub mod Addresses
 pub mod Rooms
 pub mod Keeping
 pub mod Seating

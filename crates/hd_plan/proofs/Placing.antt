@@ -9,7 +9,7 @@ use Rattle.hd_plan.specs.declared.moves.Condemned.{Condemned}
 use Rattle.hd_plan.specs.Layout.{move_at, condemned_at, is_staying, IsRising}
 use Rattle.hd_plan.specs.Laying.{first_at, cell_at, is_last, HasMove, HasRegionRoom, HasPlaces, AreListedTo, IsJoined, IsAdded}
 use Rattle.hd_plan.specs.Table.{spot_in, spot_of, place_from, place_among}
-use Rattle.hd_plan.proofs.Tests.{addr_is}
+use Rattle.hd_plan.proofs.Addresses.{addr_is}
 use Rattle.hd_plan.proofs.Listing.{region_once, below_region, joined_region, joined_length, added_length, added_before, added_last, listed_added, listed_fit, listed_next}
 
 pub region_is_quotient : (a : Addr) → region_of a ≡ a.0 / 256

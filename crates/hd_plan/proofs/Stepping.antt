@@ -16,7 +16,7 @@ use Rattle.hd_plan.specs.declared.seats.Seats.{Seats}
 use Rattle.hd_plan.specs.Layout.{Room, room_at, room_of, put_move, FitsMove, move_at, is_kept_way, is_staying, IsRising, AreMoves}
 use Rattle.hd_plan.specs.Plan.{Takes, HasSpare}
 use Rattle.hd_plan.specs.Laying.{AreMovesTo, AreChosen, AreSeats, HasSlack, IsMoveOf, IsSeated, CanPut, HasMoveRoom, cells_laid}
-use Rattle.hd_plan.proofs.Tests.{condemned_of, addr_is}
+use Rattle.hd_plan.proofs.Addresses.{condemned_of, addr_is}
 use Rattle.hd_plan.proofs.Keeping.{raised_some, cells_some}
 use Rattle.hd_plan.proofs.Rooms.{region_low, region_high}
 use Rattle.hd_plan.proofs.Seating.{sits, Sits, slack_on, can_put, seats_start}

@@ -14,7 +14,7 @@ use Rattle.hd_heap.specs.Sound.{IsSound}
 use Rattle.hd_plan.specs.declared.survey.Survey.{Survey}
 use Rattle.hd_plan.specs.Plan.{Takes}
 use Rattle.hd_plan.specs.Laying.{HasCondemned, IsSurvey, with_object}
-use Rattle.hd_plan.proofs.Tests.{condemned_of, condemned_is, addr_is}
+use Rattle.hd_plan.proofs.Addresses.{condemned_of, condemned_is, addr_is}
 use Rattle.hd_plan.proofs.Keeping.{cells_some}
 use Rattle.hd_plan.proofs.Listing.{region_rises}
 use Rattle.hd_plan.proofs.Stepping.{reach_of, reach_on, address_low, after_past}

@@ -3,7 +3,7 @@ use Rattle.hd_model.specs.Heap.{region_of, placed_at, cells_of}
 use Rattle.hd_heap.proofs.Values.{fields_placed}
 use Rattle.hd_plan.specs.declared.survey.Survey.{Survey}
 use Rattle.hd_plan.specs.Laying.{with_object}
-use Rattle.hd_plan.proofs.Tests.{condemned_of}
+use Rattle.hd_plan.proofs.Addresses.{condemned_of}
 use Rattle.hd_plan.proofs.Stepping.{address_low}
 use Rattle.hd_plan.proofs.Surveying.{IsSurveyTo, survey_next, survey_end}
 use Rattle.hd_plan.proofs.survey.count_condemned.Goals as goal
