@@ -21,3 +21,4 @@ pub mod Compactness
 pub mod Surveying
 pub mod Laid
 pub mod Filled
+pub mod CommitWalks

@@ -55,7 +55,7 @@ fn names_objects(heap: &Heap, at: Addr) -> bool
 }
 
 // Whether all fields name objects alone.
-fn is_closed(heap: &Heap) -> bool
+pub(crate) fn is_closed(heap: &Heap) -> bool
     ensures { result ≡ true → HasClosedFields (object_at heap.now) }
 {
     let mut after = None;
@@ -116,7 +116,7 @@ fn names_promoted(heap: &Heap, marks: &Marks, at: Addr) -> bool
 }
 
 // Whether the fields of promoted objects name promoted ones alone.
-fn is_promoted_closed(heap: &Heap, marks: &Marks) -> bool
+pub(crate) fn is_promoted_closed(heap: &Heap, marks: &Marks) -> bool
     requires settled { IsSettledMarks marks.now }
     requires basis { marks.now.basis.heap ≡ heap.now }
     requires fields { HasClosedFields (object_at heap.now) }
@@ -157,9 +157,8 @@ fn heap_of(rt: &impl Abort, alloc: Global, case: &Case) -> Result<Heap, Memory>
     ensures full { IfOk result HasNoEmptyRegion }
 {
     let mut heap = Heap::open(alloc, 10_000)?;
-    let mut id = 0;
     for cells in case.cells {
-        id += 1;
+        let id = u64::from(heap.count()) + 1;
         add(rt, &mut heap, id, *cells);
     }
     for (at, generation) in case.raised {
