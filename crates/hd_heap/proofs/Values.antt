@@ -20,14 +20,14 @@ abbrev no_placed : Placed
 no_placed = record { id = record { 0 = 0 }; fields = []; value = 0; registered = false }
 
 -- what a map has where something was put, and elsewhere
-get_same : {A : Type 0} (m : fin.FinMap nat_cmp A) (k q : ℕ) (x : A) → q ≡ k → fin.get (fin.insert m k x) q ≡ Some x
+pub get_same : {A : Type 0} (m : fin.FinMap nat_cmp A) (k q : ℕ) (x : A) → q ≡ k → fin.get (fin.insert m k x) q ≡ Some x
 get_same m k q x e = fin.get-insert nat_cmp_total m k x q ∙ found_first q k (Some x) (fin.get m q) e
 
-get_other : {A : Type 0} (m : fin.FinMap nat_cmp A) (k q : ℕ) (x : A) → q ≢ k → fin.get (fin.insert m k x) q ≡ fin.get m q
+pub get_other : {A : Type 0} (m : fin.FinMap nat_cmp A) (k q : ℕ) (x : A) → q ≢ k → fin.get (fin.insert m k x) q ≡ fin.get m q
 get_other m k q x apart = fin.get-insert nat_cmp_total m k x q ∙ found_later q k (Some x) (fin.get m q) apart
 
 -- what is put a second time stands alone
-put_twice : {A : Type 0} (m : fin.FinMap nat_cmp A) (k : ℕ) (x y : A) → fin.insert (fin.insert m k x) k y ≡ fin.insert m k y
+pub put_twice : {A : Type 0} (m : fin.FinMap nat_cmp A) (k : ℕ) (x y : A) → fin.insert (fin.insert m k x) k y ≡ fin.insert m k y
 put_twice m k x y = fin.same_map nat_cmp_total fin.nat_cmp-IsAntisymmetric _ _ (λ q. elim (cases_eq q k) [
   | inl same ↦ get_same (fin.insert m k x) k q y same ∙ sym (get_same m k q y same)
   | inr apart ↦ get_other (fin.insert m k x) k q y apart ∙ get_other m k q x apart ∙ sym (get_other m k q y apart)
@@ -82,7 +82,7 @@ room_made old mid new r size same kept long free fresh small =
       how = inr (sym (ap (λ (h : Heap). is_held h r) same) ∙ free, is);
     }
 
-not_there : {A : Type 0} (o : Option A) → is_some o ≡ false → o ≡ None
+pub not_there : {A : Type 0} (o : Option A) → is_some o ≡ false → o ≡ None
 not_there None e = refl
 not_there (Some x) e = absurd (cc e)
 
@@ -129,7 +129,7 @@ pub record IsCopying (old now : Heap) (from copy : Addr) (count i : ℕ) : Type 
   pub many : length fields ≡ count
   pub done : (j : ℕ) → j < i → get_or fields j None ≡ get_or (placed_at old from).fields j None
 
-write_same : (h : Heap) (a : Addr) → has_object h a ≡ true → h ≡ with_object h a (placed_at h a)
+pub write_same : (h : Heap) (a : Addr) → has_object h a ≡ true → h ≡ with_object h a (placed_at h a)
 write_same h a is =
     let some = some_of (fin.get h.objects a.0) (sym (has-get h a) ∙ is) in
     let got : fin.get h.objects a.0 ≡ Some (placed_at h a) = some.1 ∙ ap Some (sym (ap (λ o. unwrap_or o no_placed) some.1)) in

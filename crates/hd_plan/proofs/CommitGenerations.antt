@@ -1,0 +1,239 @@
+-- The regions and the cards after the moving: what its last steps leave.
+use Rattle.std.proofs.Common.{◌≡◌, ◌≢◌, ℕ, ◌+◌, ◌<◌, ◌≤◌, inl, inr, true, false, length, Option, Some, None, refl, sym, ap, ◌∙◌, subst, arith, true≢false, min}
+use Rattle.std.specs.Prelude.{nat_lt, is_some, unwrap_or, option_map}
+use Rattle.std.proofs.lemmas.Bool.{both_ways, cases_lt, le-ltb, lt-ltb, cond-true, cond-false, false_from_ne_true}
+use Rattle.std.specs.FinMap as fin
+use Rattle.hd_model.specs.declared.data.Addr.{Addr}
+use Rattle.hd_model.specs.Ages.{raised}
+use Rattle.hd_model.specs.Scene.{generation_at, generation_in}
+use Rattle.hd_model.specs.Heap.{Placed, Region, Heap, region_of, card_of, region_at, region_generation, is_held, has_object, object_at, placed_at, is_set, is_carded}
+use Rattle.hd_heap.specs.Calls.{is_old_carded}
+use Rattle.hd_heap.proofs.Reading.{has-get}
+use Rattle.hd_plan.specs.Layout.{move_at, condemned_at, is_moving, is_staying, room_at, IsCondemnedRegion, HasStay}
+use Rattle.hd_plan.specs.Packing.{IsRoom}
+use Rattle.hd_plan.specs.Plan.{PlanOf, kept_in, place_in}
+use Rattle.hd_plan.specs.CommitSteps.{IsKeptAt, SameCards, AreCopied, AreRewritten, AreRemoved, AreSettled}
+use Rattle.hd_plan.proofs.Keeping.{moving_or_staying, all_put}
+use Rattle.hd_plan.proofs.CommitShape.{IsCommitting, moves_now, regions_now}
+use Rattle.hd_plan.proofs.CommitImage.{kept_by, place_older, place_move, kept_object, from_condemned, stays_there, to_put, image_only}
+
+-- the generation of what is not condemned stays, and no generation falls
+pub raised_older : (n g : ℕ) → n < g → raised n g ≡ g
+raised_older n g older = cond-true (nat_lt n g) g (min (g + 1) 2) (lt-ltb n g older)
+
+pub raised_above : (n g : ℕ) → g ≤ 2 → g ≤ raised n g
+raised_above n g low = elim (cases_lt n g) [
+  | inl older ↦ (let e = raised_older n g older in omega arith)
+  | inr young ↦ (let e : raised n g ≡ min (g + 1) 2 = cond-false (nat_lt n g) g (min (g + 1) 2)
+      (le-ltb n g young) in omega arith)
+]
+
+raised_most : (n g : ℕ) → g ≤ n → (0 < raised n g) × (raised n g ≤ 2)
+raised_most n g young =
+    (let e : raised n g ≡ min (g + 1) 2 = cond-false (nat_lt n g) g (min (g + 1) 2) (le-ltb n g young) in
+    (omega arith, omega arith))
+
+pub raised_some : (n g : ℕ) → 0 < raised n g
+raised_some n g = elim (cases_lt n g) [
+  | inl older ↦ (let e = raised_older n g older in omega arith)
+  | inr young ↦ (raised_most n g young).0
+]
+
+-- the generation of an object is that of its region
+pub generation_region : (h : Heap) (a : Addr) → has_object h a ≡ true
+    → generation_at (object_at h) a ≡ region_generation h (region_of a)
+generation_region h a there = by (fin.get h.objects a.0) (sym (has-get h a) ∙ there)
+  where
+    by : (o : Option Placed) → is_some o ≡ true
+        → generation_in (option_map
+        (Rattle.hd_model.specs.Heap.object_in (region_generation h (region_of a))) o) ≡ region_generation h
+        (region_of a)
+    by None e = absurd (true≢false (sym e))
+    by (Some q) e = refl
+
+abbrev no_region : Region
+no_region = record { generation = 0; fill = 0 }
+
+-- the steps that move the objects of a heap, one after another
+pub record AreMoved (p : PlanOf) (old h1 h2 h3 h4 : Heap) : Type 0 where
+  pub committing : IsCommitting p old
+  pub copied : AreCopied old h1 p.moves (length p.moves)
+  pub carded : AreRewritten (λ a. is_old_carded h1 p.basis.condemned a ≡ true) (place_in p) h1 h2
+  pub same : SameCards h1 h2
+  pub kept : AreRewritten (IsKeptAt p.moves (length p.moves)) (place_in p) h2 h3
+  pub removed : AreRemoved h3 h4 p.moves (length p.moves)
+
+-- they, for a plan that was read part by part
+pub are_moved : (p q : PlanOf) (old h1 h2 h3 h4 : Heap) → q ≡ p → IsCommitting q old
+    → AreCopied old h1 q.moves (length q.moves)
+    → AreRewritten (λ a. is_old_carded h1 q.basis.condemned a ≡ true) (place_in p) h1 h2 → SameCards h1 h2
+    → AreRewritten (IsKeptAt q.moves (length q.moves)) (place_in p) h2 h3
+    → AreRemoved h3 h4 q.moves (length q.moves) → AreMoved q old h1 h2 h3 h4
+are_moved p q old h1 h2 h3 h4 e base copied carded same kept removed = record {
+  committing = base;
+  copied = copied;
+  carded = subst (λ (x : PlanOf). AreRewritten (λ a. is_old_carded h1 q.basis.condemned a ≡ true)
+      (place_in x) h1 h2) (sym e) carded;
+  same = same;
+  kept = subst (λ (x : PlanOf). AreRewritten (IsKeptAt q.moves (length q.moves)) (place_in x) h2 h3)
+      (sym e) kept;
+  removed = removed;
+}
+
+module _ (p : PlanOf) (old h1 h2 h3 h4 : Heap) (m : AreMoved p old h1 h2 h3 h4) where
+  c : IsCommitting p old
+  c = m.committing
+
+  room : IsRoom old (room_at old p.moves (length p.moves))
+  room = (all_put old p.basis.condemned c.sound p.moves (moves_now p old c)).room
+
+  -- the regions are those of the room
+  pub regions_room : h4.regions ≡ (room_at old p.moves (length p.moves)).regions
+  regions_room =
+      ap (λ (x : Heap). x.regions) m.removed.same ∙ ap (λ (x : Heap). x.regions) m.kept.same
+      ∙ ap (λ (x : Heap). x.regions) m.carded.same
+      ∙ ap (λ (x : Heap). x.regions) m.copied.same
+
+  pub region_kept : (r : ℕ) → is_held old r ≡ true → fin.get h4.regions r ≡ fin.get old.regions r
+  region_kept r held = ap (λ rs. fin.get rs r) regions_room ∙ room.old r held
+
+  pub settled_held : (k : ℕ) → k < length p.regions → is_held h4 (condemned_at p.regions k).region ≡ true
+  settled_held k within =
+      let is = (regions_now p old c).condemned k within in
+      ap is_some (region_kept (condemned_at p.regions k).region is.held) ∙ is.held
+
+  pub settled_generations : (k : ℕ) → k < length p.regions → (condemned_at p.regions k).generation ≤ 2
+  settled_generations k within =
+      let is = (regions_now p old c).condemned k within in
+      let e = (regions_now p old c).generations k within in
+      let most = (raised_most p.basis.condemned
+      (region_generation old (condemned_at p.regions k).region) is.young).1 in
+      (omega arith)
+
+  -- a kept object in a condemned region stays there
+  stays_in_region : (a : Addr) (r : ℕ) → kept_in p a ≡ true → IsCondemnedRegion old p.basis.condemned r
+      → region_of (place_in p a) ≡ r → HasStay p.moves r
+  stays_in_region a r kept young in_region = elim (kept_by p old c a kept) [
+    | inl older ↦
+        let there = kept_object p old c a kept in
+        let region : region_of a ≡ r = ap region_of (sym (place_older p old c a older)) ∙ in_region in
+        let low : region_generation old (region_of a) ≤ p.basis.condemned =
+        subst (λ q. region_generation old q ≤ p.basis.condemned) (sym region) young.young in
+        let same = generation_region old a there in
+        absurd (omega arith)
+    | inr (k, by) ↦
+        let to : place_in p a ≡ (move_at p.moves k).to =
+        ap (place_in p) (sym by.from) ∙ place_move p old c k by.within in
+        let region : region_of (move_at p.moves k).to ≡ r = ap region_of (sym to) ∙ in_region in
+        elim (moving_or_staying (move_at p.moves k).way by.kept) [
+          | inl moving ↦ absurd
+              (both_ways _ (to_put p old c k by.within moving).fresh.new
+              (subst (λ q. is_held old q ≡ true) (sym region) young.held))
+          | inr stays ↦ record {
+            at = k;
+            within = by.within;
+            stays = ap is_staying stays;
+            region = ap region_of (sym (stays_there p old c k by.within (ap is_moving stays))) ∙ region;
+          }
+        ]
+  ]
+
+  pub settled_empty : (k : ℕ) (a : Addr) → k < length p.regions → (condemned_at p.regions k).pinned ≡ false
+      → has_object h4 a ≡ true → region_of a ≢ (condemned_at p.regions k).region
+  settled_empty k a within unpinned there same =
+      let (x, is) = image_only p old c h1 m.copied h2 m.carded h3 m.kept h4 m.removed a there in
+      let young = (regions_now p old c).condemned k within in
+      let stay = stays_in_region x (condemned_at p.regions k).region is.0 young (ap region_of is.1 ∙ same) in
+      both_ways _ unpinned (((regions_now p old c).pinned k within).1 stay)
+
+  module _ (h5 : Heap) (r5 : AreSettled h4 h5 p.regions (length p.regions)) where
+    -- a region that is not condemned, one that stays, and one that is given up
+    pub region_older : (r : ℕ) → (IsCondemnedRegion old p.basis.condemned r → ⊥)
+        → fin.get h5.regions r ≡ fin.get h4.regions r
+    region_older r other =
+        r5.others r (λ k within same.
+        other (subst (IsCondemnedRegion old p.basis.condemned) same
+        ((regions_now p old c).condemned k within)))
+
+    pub region_raised : (r : ℕ) → IsCondemnedRegion old p.basis.condemned r → HasStay p.moves r
+        → fin.get h5.regions r ≡ Some
+        (record {
+          generation = raised p.basis.condemned (region_at old r).generation;
+          fill = (region_at old r).fill;
+        })
+    region_raised r young stay =
+        let (k, listed) = (regions_now p old c).all r young in
+        let n = (condemned_at p.regions k).region in
+        let pinned = ((regions_now p old c).pinned k listed.0).1
+        (subst (HasStay p.moves) (sym listed.1) stay) in
+        let was : region_at h4 n ≡ region_at old n =
+        ap (λ (o : Option Region). unwrap_or o no_region)
+        (region_kept n ((regions_now p old c).condemned k listed.0).held) in
+        ap (fin.get h5.regions) (sym listed.1) ∙ r5.raised k listed.0 pinned
+        ∙ ap (λ g. Some (record { generation = g; fill = (region_at h4 n).fill }))
+        ((regions_now p old c).generations k listed.0)
+        ∙ ap (λ (x : Region).
+        Some (record { generation = raised p.basis.condemned (region_at old n).generation; fill = x.fill }))
+        was
+        ∙ ap (λ q. Some (record {
+          generation = raised p.basis.condemned (region_at old q).generation;
+          fill = (region_at old q).fill;
+        })) listed.1
+
+    pub region_given_up : (r : ℕ) → IsCondemnedRegion old p.basis.condemned r → (HasStay p.moves r → ⊥)
+        → fin.get h5.regions r ≡ None
+    region_given_up r young none =
+        let (k, listed) = (regions_now p old c).all r young in
+        let unpinned : (condemned_at p.regions k).pinned ≡ false =
+        false_from_ne_true _
+        (λ pinned. none (subst (HasStay p.moves) listed.1
+        (((regions_now p old c).pinned k listed.0).0 pinned))) in
+        ap (fin.get h5.regions) (sym listed.1) ∙ r5.given_up k listed.0 unpinned
+
+    -- each kept object has its generation raised
+    pub place_generation : (a : Addr) → kept_in p a ≡ true
+        → region_generation h5 (region_of (place_in p a)) ≡ raised p.basis.condemned
+        (generation_at (object_at old) a)
+    place_generation a kept = elim (kept_by p old c a kept) [
+      | inl older ↦
+          let there = kept_object p old c a kept in
+          let same = generation_region old a there in
+          ap (λ (x : Addr). region_generation h5 (region_of x)) (place_older p old c a older)
+          ∙ ap (λ (o : Option Region). (unwrap_or o no_region).generation)
+          (region_older (region_of a) (λ is. let low = is.young in omega arith)
+          ∙ region_kept (region_of a) (c.sound.held a there))
+          ∙ sym same ∙ sym (raised_older p.basis.condemned (generation_at (object_at old) a) older)
+      | inr (k, by) ↦
+          let to : place_in p a ≡ (move_at p.moves k).to =
+          ap (place_in p) (sym by.from) ∙ place_move p old c k by.within in
+          ap (λ (x : Addr). region_generation h5 (region_of x)) to
+          ∙ elim (moving_or_staying (move_at p.moves k).way by.kept) [
+            | inl moving ↦
+                let put = (to_put p old c k by.within moving).fresh in
+                ap (λ (o : Option Region). (unwrap_or o no_region).generation)
+                (region_older (region_of (move_at p.moves k).to) (λ is. both_ways _ put.new is.held)
+                ∙ ap (λ rs. fin.get rs (region_of (move_at p.moves k).to)) regions_room)
+                ∙ put.generation ∙ (moves_now p old c).generations k by.within
+                ∙ ap (λ (x : Addr). raised p.basis.condemned (generation_at (object_at old) x)) by.from
+            | inr stays ↦
+                let is = from_condemned p old c k by.within in
+                let r = region_of (move_at p.moves k).from in
+                let same = generation_region old (move_at p.moves k).from is.object in
+                let young : IsCondemnedRegion old p.basis.condemned r =
+                record {
+                  held = c.sound.held (move_at p.moves k).from is.object;
+                  young = subst (λ g. g ≤ p.basis.condemned) same is.young;
+                } in
+                ap (λ (x : Addr). region_generation h5 (region_of x))
+                (stays_there p old c k by.within (ap is_moving stays))
+                ∙ ap (λ (o : Option Region). (unwrap_or o no_region).generation)
+                (region_raised r young (record {
+                  at = k;
+                  within = by.within;
+                  stays = ap is_staying stays;
+                  region = refl;
+                }))
+                ∙ ap (raised p.basis.condemned) (sym same)
+                ∙ ap (λ (x : Addr). raised p.basis.condemned (generation_at (object_at old) x)) by.from
+          ]
+    ]

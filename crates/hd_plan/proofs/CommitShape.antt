@@ -1,0 +1,140 @@
+-- A plan stands for each heap of the same shape as the one for which it was laid.
+use Rattle.std.proofs.Common.{◌≡◌, ℕ, zero, suc, ◌+◌, ◌≤◌, true, ◌||◌, ◌&&◌, List, length, Some, sym, ap, ◌∙◌, subst}
+use Rattle.std.specs.Prelude.{nat_lt, nat_le}
+use Rattle.std.specs.FinMap as fin
+use Rattle.hd_model.specs.declared.data.Addr.{Addr}
+use Rattle.hd_model.specs.Ages.{raised, HasSoundCards}
+use Rattle.hd_model.specs.Scene.{fields_at, generation_at, IsField}
+use Rattle.hd_model.specs.Heap.{Heap, Basis, region_of, region_generation, is_held, object_at, placed_at, cells_of, is_carded}
+use Rattle.hd_model.proofs.Members.{member_same}
+use Rattle.hd_heap.specs.Calls.{is_condemned}
+use Rattle.hd_heap.specs.Sound.{IsSound}
+use Rattle.hd_heap.proofs.Values.{fields_placed}
+use Rattle.hd_plan.specs.declared.moves.Move.{Move}
+use Rattle.hd_plan.specs.declared.moves.Condemned.{Condemned}
+use Rattle.hd_plan.specs.Layout.{Room, move_at, condemned_at, is_kept_by, find_move, room_at, put_move, put_way, Fits, AreMoves, AreRegions}
+use Rattle.hd_plan.specs.Plan.{PlanOf, kept_in, IsLaid}
+use Rattle.hd_plan.specs.Commit.{IsSameShape}
+use Rattle.hd_plan.specs.CommitSteps.{CanCopy}
+use Rattle.hd_plan.proofs.CommitRewriting.{generation_alike}
+use Rattle.hd_plan.proofs.CommitCarding.{has_from}
+use Rattle.hd_plan.proofs.Keeping.{generation_some, are_put}
+use Rattle.hd_plan.proofs.Addresses.{condemned_of}
+
+module _ (h k : Heap) (s : IsSameShape h k) where
+  pub shape_generation : (a : Addr) → generation_at (object_at k) a ≡ generation_at (object_at h) a
+  shape_generation a =
+      generation_alike h k a (s.objects a)
+      (ap (λ rs. region_generation (record h { regions = rs }) (region_of a)) s.regions)
+
+  shape_condemned : (n : ℕ) (a : Addr) → is_condemned k n a ≡ is_condemned h n a
+  shape_condemned n a =
+      (let there = s.objects a in let generation = shape_generation a in
+      λ i. there i && nat_le (generation i) n)
+
+  shape_cells : (a : Addr) → cells_of (placed_at k a) ≡ cells_of (placed_at h a)
+  shape_cells a = ap (λ fs. length fs + 3) (s.fields a)
+
+  shape_room : (ms : List Move) (i : ℕ) → room_at k ms i ≡ room_at h ms i
+  unfolding room_at
+  shape_room ms zero = λ i. record { regions = s.regions i; spare = s.spare i; current = λ _. 0 }
+  shape_room ms (suc i) =
+      let m = move_at ms i in
+      ap (λ q. put_move k q m) (shape_room ms i)
+      ∙ ap (put_way m.way (room_at h ms i) m.to m.generation) (shape_cells m.from)
+
+  shape_moves : (n : ℕ) (ms : List Move) → AreMoves h n ms → AreMoves k n ms
+  shape_moves n ms moves = record {
+    condemned = λ j within. shape_condemned n (move_at ms j).from ∙ moves.condemned j within;
+    rising = moves.rising;
+    all = λ a is. moves.all a (sym (shape_condemned n a) ∙ is);
+    generations = λ j within. moves.generations j within
+        ∙ ap (raised n) (sym (shape_generation (move_at ms j).from));
+    fits = λ j within.
+        let m = move_at ms j in
+        let P : Room → ℕ → Type 0 = λ q cells. Fits m.way q m.from m.to m.generation cells in
+        subst (λ cells. P (room_at k ms j) cells) (sym (shape_cells m.from))
+        (subst (λ q. P q (cells_of (placed_at h m.from))) (sym (shape_room ms j)) (moves.fits j within));
+  }
+
+  region_alike : (r : ℕ) → region_generation k r ≡ region_generation h r
+  region_alike r = ap (λ rs. region_generation (record h { regions = rs }) r) s.regions
+
+  held_alike : (r : ℕ) → is_held k r ≡ is_held h r
+  held_alike r = ap (λ rs. fin.contains_key rs r) s.regions
+
+  shape_regions : (n : ℕ) (ms : List Move) (cs : List Condemned) → AreRegions h n ms cs → AreRegions k n ms cs
+  shape_regions n ms cs regions = record {
+    condemned = λ j within.
+        let r = (condemned_at cs j).region in
+        let is = regions.condemned j within in
+        record { held = held_alike r ∙ is.held; young = subst (λ g. g ≤ n) (sym (region_alike r)) is.young };
+    rising = regions.rising;
+    all = λ r is. regions.all r
+        (record {
+          held = sym (held_alike r) ∙ is.held;
+          young = subst (λ g. g ≤ n) (region_alike r) is.young;
+        });
+    generations = λ j within. regions.generations j within
+        ∙ ap (raised n) (sym (region_alike (condemned_at cs j).region));
+    pinned = regions.pinned;
+  }
+
+  shape_field : (a y : Addr) → IsField (object_at k) a y → IsField (object_at h) a y
+  shape_field a y field =
+      let there = has_from k a y field in
+      member_same (fields_at (object_at k) a) (fields_at (object_at h) a)
+      (fields_placed k a there ∙ s.fields a ∙ sym (fields_placed h a (sym (s.objects a) ∙ there)))
+      (Some y) field
+
+-- a plan is carried out on a heap
+pub record IsCommitting (p : PlanOf) (old : Heap) : Type 0 where
+  pub laid : IsLaid p
+  pub same : IsSameShape p.basis.heap old
+  pub cards : HasSoundCards (object_at old) (is_carded old)
+  pub sound : IsSound old
+
+module _ (p : PlanOf) (old : Heap) (c : IsCommitting p old) where
+  pub moves_now : AreMoves old p.basis.condemned p.moves
+  moves_now = shape_moves p.basis.heap old c.same p.basis.condemned p.moves c.laid.moves
+
+  pub regions_now : AreRegions old p.basis.condemned p.moves p.regions
+  regions_now = shape_regions p.basis.heap old c.same p.basis.condemned p.moves p.regions c.laid.regions
+
+  -- what is kept, read in this heap
+  pub kept_now : (a : Addr)
+      → kept_in p a ≡ (nat_lt p.basis.condemned (generation_at (object_at old) a) || is_kept_by
+      (find_move p.moves a))
+  kept_now a = ap (λ g. nat_lt p.basis.condemned g || is_kept_by (find_move p.moves a))
+      (sym (shape_generation p.basis.heap old c.same a))
+
+  pub closed_now : (a y : Addr) → kept_in p a ≡ true → IsField (object_at old) a y → kept_in p y ≡ true
+  closed_now a y kept field = c.laid.closed a y kept (shape_field p.basis.heap old c.same a y field)
+
+  pub can_copy : CanCopy old p.moves
+  can_copy = record {
+    sound = c.sound;
+    objects = λ k within.
+        (condemned_of old p.basis.condemned (move_at p.moves k).from (moves_now.condemned k within)).object;
+    generations = λ k within. (generation_some old p.basis.condemned c.sound p.moves moves_now k within).1;
+    fits = moves_now.fits;
+    put = are_put old p.basis.condemned c.sound p.moves moves_now;
+  }
+
+-- the parts of a plan were read one by one
+pub committing : (p : PlanOf) (b : Basis) (ms ns : List Move) (cs ds : List Condemned) (old : Heap) → ms ≡ ns
+    → cs ≡ ds → record { basis = b; moves = ns; regions = ds } ≡ p
+    → IsLaid p → IsSameShape p.basis.heap old → HasSoundCards (object_at old) (is_carded old) → IsSound old
+    → (record { basis = b; moves = ms; regions = cs } ≡ p) × IsCommitting
+    (record { basis = b; moves = ms; regions = cs }) old
+committing p b ms ns cs ds old moves regions is laid same cards sound =
+    let e : record { basis = b; moves = ms; regions = cs } ≡ p =
+    (λ i. record { basis = b; moves = moves i; regions = regions i }) ∙ is in (
+      e,
+      record {
+        laid = subst IsLaid (sym e) laid;
+        same = subst (λ (x : PlanOf). IsSameShape x.basis.heap old) (sym e) same;
+        cards = cards;
+        sound = sound;
+      },
+    )

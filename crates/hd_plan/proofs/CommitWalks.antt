@@ -1,0 +1,68 @@
+-- Lemmas on walks over a heap, and on what keeps each held region with an object: for tests.
+use Rattle.std.proofs.Common.{◌≡◌, ◌≢◌, ℕ, ◌+◌, ◌<◌, ◌≤◌, inl, inr, ◌⊎◌, Bool, true, false, List, length, get_or, Option, Some, None, refl, sym, ap, ◌∙◌, subst, arith}
+use Rattle.std.specs.Prelude.{is_some, Contains}
+use Rattle.std.proofs.lemmas.Bool.{cases_eq, both_ways, false≢true, ltb-false, false_from_ne_true}
+use Rattle.std.proofs.lemmas.List.{get_or_default}
+use Rattle.std.specs.FinMap as fin
+use Rattle.std.specs.Ordering.{nat_cmp}
+use Rattle.hd_model.specs.declared.data.Addr.{Addr}
+use Rattle.hd_model.specs.Leads.{IsClosed}
+use Rattle.hd_model.specs.Names.{HasClosedFields}
+use Rattle.hd_model.specs.Scene.{fields_at, IsField}
+use Rattle.hd_model.specs.Heap.{Heap, Basis, objects_of, Region, has_object, object_at, is_held, is_carded, placed_at}
+use Rattle.hd_heap.specs.Calls.{with_object, with_field, with_card, stored, is_after, IsNext}
+use Rattle.hd_heap.proofs.Values.{has_with_object}
+use Rattle.hd_plan.specs.Plan.{HasNoEmptyRegion, StartsInRegion}
+use Rattle.hd_plan.specs.CommitSteps.{NamesYounger}
+use Rattle.hd_plan.proofs.Addresses.{addr_is}
+
+-- what a walk has come to: this object, or one that it had come to before
+pub walked_on : (p : Addr → Bool) (after : Option Addr) (at x : Addr) → IsNext p after at → p x ≡ true →
+    is_after (Some at) x ≡ false
+    → (x ≡ at) ⊎ (is_after after x ≡ false)
+walked_on p after at x next is up = elim (cases_eq x.0 at.0) [
+  | inl same ↦ inl (addr_is x at same)
+  | inr apart ↦ inr (false_from_ne_true (is_after after x) (λ behind.
+      let low = next.least x is behind in
+      let high = ltb-false at.0 x.0 up in
+      apart (omega arith)))
+]
+
+-- a property of all objects that a walk has come to, and one more
+pub walked_more : (P : Addr → Type 0) (h : Heap) (after : Option Addr) (at : Addr) → IsNext (has_object h)
+    after at
+    → ((x : Addr) → has_object h x ≡ true → is_after after x ≡ false → P x) → P at
+    → (x : Addr) → has_object h x ≡ true → is_after (Some at) x ≡ false → P x
+walked_more P h after at next before here x is up = elim (walked_on (has_object h) after at x next is up) [
+  | inl same ↦ subst P (sym same) here
+  | inr was ↦ before x is was
+]
+
+-- a property of each field that is read one after another
+pub each_field : (P : Addr → Type 0) (xs : List (Option Addr)) (i : ℕ) → length xs ≤ i
+    → ((k : ℕ) → k < i → (y : Addr) → get_or xs k None ≡ Some y → P y) → (y : Addr) → Contains xs (Some y) →
+    P y
+each_field P xs i all read y field =
+    let within = field.1 in
+    read field.0 (omega arith) y (get_or_default xs field.0 None (Some y) field.1 ∙ field.2)
+
+-- what is read in a heap is read in a basis that has it
+pub closed_basis : (b : Basis) (h : Heap) (p : Addr → Bool) → b.heap ≡ h → IsClosed (IsField (object_at h))
+    p → IsClosed (IsField (objects_of b)) p
+closed_basis b h p same closed = subst (λ (k : Heap). IsClosed (IsField (object_at k)) p) (sym same) closed
+
+-- each held region has an object after a store, and after a card is set
+pub filled_stored : (h : Heap) (at : Addr) (i : ℕ) (v : Option Addr) → HasNoEmptyRegion h → HasNoEmptyRegion
+    (stored h at i v)
+filled_stored h at i v full r held =
+    let s = full r held in
+    record {
+      at = s.at;
+      object = has_with_object h at s.at (with_field (placed_at h at) i v) s.object;
+      region = s.region;
+    }
+
+pub filled_carded : (h : Heap) (card : ℕ) (on : Bool) → HasNoEmptyRegion h → HasNoEmptyRegion
+    (with_card h card on)
+filled_carded h card on full r held = (let s = full r held in record
+    { at = s.at; object = s.object; region = s.region })

@@ -1,0 +1,6 @@
+use Rattle.std.proofs.Common.{arith}
+use Rattle.hd_plan.proofs.CommitCarding.{card_is}
+use Rattle.hd_plan.proofs.carding.last_cell.Goals as goal
+
+pub returns : goal.returns
+returns c = let is = card_is c.args.at in omega arith

@@ -1,0 +1,14 @@
+use Rattle.hd_plan.specs.Plan.{HasNoEmptyRegion}
+use Rattle.hd_plan.proofs.commit_tests.heap_of.Given as goal
+
+abbrev pub invariant-loop-cells : goal.invariant-loop-cells
+invariant-loop-cells g l = HasNoEmptyRegion l.heap
+
+abbrev pub invariant-loop-at : goal.invariant-loop-at
+invariant-loop-at g l = HasNoEmptyRegion l.heap
+
+abbrev pub invariant-loop-from : goal.invariant-loop-from
+invariant-loop-from g l = HasNoEmptyRegion l.heap
+
+abbrev pub invariant-loop-at-2 : goal.invariant-loop-at-2
+invariant-loop-at-2 g l = HasNoEmptyRegion l.heap

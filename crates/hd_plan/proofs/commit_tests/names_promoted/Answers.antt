@@ -1,0 +1,19 @@
+use Rattle.std.proofs.Common.{◌≡◌, true, arith, sym, subst}
+use Rattle.hd_model.specs.Heap.{Heap, has_object, object_at}
+use Rattle.hd_model.specs.Scene.{fields_at}
+use Rattle.hd_mark.specs.Marks.{promoted_in}
+use Rattle.hd_plan.proofs.CommitCarding.{field_read}
+use Rattle.hd_plan.proofs.CommitWalks.{each_field}
+use Rattle.hd_plan.proofs.commit_tests.names_promoted.Goals as goal
+
+pub promoted-requires-clause-object : goal.promoted-requires-clause-object
+promoted-requires-clause-object c =
+    subst (λ (h : Heap). has_object h c.in-Some.y ≡ true) (sym c.requires.basis)
+    (c.requires.fields c.args.at c.in-Some.y
+    (field_read (fields_at (object_at c.args.heap.now) c.args.at) c.loop-i.i c.in-Some.y
+    (omega (arith, c.fields-i-end.ensures.count, c.loop-i-test.true)) c.in-Some.ensures))
+
+pub returns : goal.returns
+returns c = λ e.
+    each_field (λ y. promoted_in c.args.marks.now y ≡ true) (fields_at (object_at c.args.heap.now) c.args.at)
+    c.loop-i.i (omega (arith, c.fields-i-end.ensures.count, c.loop-i-test.false)) c.loop-i.invariant

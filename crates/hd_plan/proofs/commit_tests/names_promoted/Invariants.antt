@@ -1,0 +1,12 @@
+use Rattle.std.proofs.Common.{◌≡◌, ◌<◌, ℕ, true, Some, None}
+use Rattle.std.specs.Prelude.{slice_index_or}
+use Rattle.hd_model.specs.declared.data.Addr.{Addr}
+use Rattle.hd_model.specs.Heap.{object_at}
+use Rattle.hd_model.specs.Scene.{fields_at}
+use Rattle.hd_mark.specs.Marks.{promoted_in}
+use Rattle.hd_plan.proofs.commit_tests.names_promoted.Given as goal
+
+abbrev pub invariant-loop-i : goal.invariant-loop-i
+invariant-loop-i l =
+    (k : ℕ) → k < l.i → (y : Addr) → slice_index_or (fields_at (object_at l.heap) l.at) k None ≡ Some y
+    → promoted_in l.marks y ≡ true

@@ -1,0 +1,9 @@
+use Rattle.std.proofs.Common.{sym, subst}
+use Rattle.hd_plan.specs.Plan.{HasNoEmptyRegion}
+use Rattle.hd_plan.proofs.CommitWalks.{filled_stored}
+use Rattle.hd_plan.proofs.commit_tests.store.Goals as goal
+
+pub returns : goal.returns
+returns g c = record {
+  full = subst HasNoEmptyRegion (sym c.store.ensures) (filled_stored c.args.heap.now _ _ _ c.requires.full);
+}

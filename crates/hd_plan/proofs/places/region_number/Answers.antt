@@ -1,0 +1,6 @@
+use Rattle.std.proofs.Common.{◌≡◌, sym}
+use Rattle.hd_plan.proofs.Placing.{region_is_quotient}
+use Rattle.hd_plan.proofs.places.region_number.Goals as goal
+
+pub returns : goal.returns
+returns c = sym (region_is_quotient c.args.at)

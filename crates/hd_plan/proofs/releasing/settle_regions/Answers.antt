@@ -1,0 +1,8 @@
+use Rattle.hd_plan.proofs.CommitReleasing.{settled_step}
+use Rattle.hd_plan.proofs.releasing.settle_regions.Goals as goal
+
+pub loop-condemned-preserved : goal.loop-condemned-preserved
+loop-condemned-preserved c =
+    settled_step c.args.heap.now c.loop-condemned.heap c.args.regions.now c.loop-condemned.condemned-index
+    c.loop-condemned-test.true c.requires.rising c.loop-condemned.invariant c.settle_region.new.heap
+    c.settle_region.ensures

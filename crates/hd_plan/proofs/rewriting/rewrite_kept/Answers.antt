@@ -1,0 +1,53 @@
+use Rattle.std.proofs.Common.{◌+◌, sym, ap, ◌∙◌, subst}
+use Rattle.hd_model.specs.Heap.{Heap}
+use Rattle.hd_plan.specs.Layout.{move_at, is_kept_way}
+use Rattle.hd_plan.specs.CommitSteps.{AreRewritten, IsKeptAt}
+use Rattle.hd_plan.proofs.CommitEnds.{kept_way}
+use Rattle.hd_plan.proofs.CommitRewriting.{kept_gone, kept_has, kept_here, kept_field, kept_next}
+use Rattle.hd_plan.proofs.rewriting.rewrite_kept.Goals as goal
+use Rattle.hd_plan.proofs.rewriting.rewrite_kept.Goals.{in-Gone, in-Stays}
+
+pub rewrite_object-requires : goal.rewrite_object-requires
+rewrite_object-requires g c =
+    let place = g.F.Forward.place c.args.forward.now in
+    let old = c.args.heap.now in
+    let h = c.loop-object.heap in
+    let ms = c.args.moves.now in
+    let i = c.loop-object.object-index in
+    let kept = kept_way (move_at ms i).way c.in-Stays.is in
+    let here = kept_here place old h ms i c.loop-object-test.true c.loop-object.invariant c.requires.apart
+    kept in
+    record {
+      laid = c.requires.laid;
+      object = kept_has place old h ms i c.loop-object-test.true c.loop-object.invariant c.requires.apart
+          (move_at ms i).to ∙ c.requires.objects (move_at ms i).to here;
+      kept = λ y field. c.requires.kept (move_at ms i).to y here
+          (kept_field place old h ms i c.loop-object-test.true c.loop-object.invariant c.requires.apart kept
+          y field);
+      there = λ y field.
+          kept_has place old h ms i c.loop-object-test.true c.loop-object.invariant c.requires.apart (place y)
+          ∙ c.requires.there (move_at ms i).to y here
+          (kept_field place old h ms i c.loop-object-test.true c.loop-object.invariant c.requires.apart kept
+          y field);
+    }
+
+pub loop-object-preserved : goal.loop-object-preserved
+loop-object-preserved g c =
+    let place = g.F.Forward.place c.args.forward.now in
+    let old = c.args.heap.now in
+    let ms = c.args.moves.now in
+    let i = c.loop-object.object-index in
+    elim c.match-object.branch [
+      | in-Gone w ↦
+          subst (λ (h : Heap). AreRewritten (IsKeptAt ms (i + 1)) place old h) (sym w.heap-is)
+          (kept_gone place old c.loop-object.heap ms i c.loop-object-test.true c.loop-object.invariant
+          c.requires.apart (ap is_kept_way w.in-Gone.is))
+      | in-Stays w ↦
+          let kept = kept_way (move_at ms i).way w.in-Stays.is in
+          let here = kept_here place old c.loop-object.heap ms i c.loop-object-test.true
+          c.loop-object.invariant c.requires.apart kept in
+          subst (λ (h : Heap). AreRewritten (IsKeptAt ms (i + 1)) place old h) (sym w.heap-is)
+          (kept_next place old c.loop-object.heap ms i c.loop-object-test.true c.loop-object.invariant
+          c.requires.apart kept w.rewrite_object.new.heap
+          (c.requires.objects (move_at ms i).to here) w.rewrite_object.ensures)
+    ]

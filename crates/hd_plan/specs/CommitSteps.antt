@@ -1,0 +1,218 @@
+-- What each step of the moving leaves of a heap.
+use Rattle.std.specs.Prelude.{◌≡◌, ◌≢◌, ℕ, ◌+◌, ◌*◌, ◌^◌, ◌-◌, ◌<◌, ◌≤◌, ◌⊎◌, ◌↔◌, ◌&&◌, Bool, true, false, not, List, [], ◌∷◌, ◌++◌, length, Option, Some, None, option_map, map as list_map, slice_index, slice_index_or, nat_eq}
+use Rattle.std.specs.FinMap as map
+use Rattle.hd_model.specs.declared.data.Addr.{Addr}
+use Rattle.hd_model.specs.Scene.{IsField, generation_at}
+use Rattle.hd_model.specs.Heap.{Placed, Heap, region_of, card_of, region_at, is_held, has_object, object_at, placed_at, cells_of, is_set, is_carded}
+use Rattle.hd_heap.specs.Calls.{with_object, with_fresh, with_copy, with_card, with_generation, stored, IsRemoved, is_after, is_old_carded}
+use Rattle.hd_heap.specs.Sound.{IsSound}
+use Rattle.hd_plan.specs.declared.moves.Way.{Way}
+use Rattle.hd_plan.specs.declared.moves.Way.TheVariants.{Gone, Stays, Opens, Follows}
+use Rattle.hd_plan.specs.declared.moves.Move.{Move}
+use Rattle.hd_plan.specs.declared.moves.Condemned.{Condemned}
+use Rattle.hd_plan.specs.Layout.{move_at, condemned_at, is_kept_way, is_moving, is_staying, room_at, FitsMove}
+use Rattle.hd_plan.specs.Packing.{ArePut}
+use Rattle.hd_plan.specs.Commit.{NeedsCard}
+
+-- one of the first i moves goes such a way, and has this end
+pub record HasEnd (way : Way → Bool) (end : Move → Addr) (ms : List Move) (i : ℕ) (a : Addr) : Type 0 where
+  pub at : ℕ
+  pub before : at < i
+  pub goes : way (move_at ms at).way ≡ true
+  pub is : end (move_at ms at) ≡ a
+
+-- an address to which an object was copied, at which a kept object stands, and from which an object was
+-- removed
+abbrev pub IsCopiedTo : List Move → ℕ → Addr → Type 0
+IsCopiedTo = HasEnd is_moving (λ m. m.to)
+
+abbrev pub IsKeptAt : List Move → ℕ → Addr → Type 0
+IsKeptAt = HasEnd is_kept_way (λ m. m.to)
+
+abbrev pub IsLeft : List Move → ℕ → Addr → Type 0
+IsLeft = HasEnd (λ w. not (is_staying w)) (λ m. m.from)
+
+-- set cards stay set; no card changes
+abbrev pub MoreCards : Heap → Heap → Type 0
+MoreCards old h = (c : ℕ) → is_set old c ≡ true → is_set h c ≡ true
+
+abbrev pub SameCards : Heap → Heap → Type 0
+SameCards old h = (c : ℕ) → is_set h c ≡ is_set old c
+
+-- the moves may be carried out: their objects are there, each has a place in the room, and no two have the
+-- same
+pub record CanCopy (h : Heap) (ms : List Move) : Type 0 where
+  pub sound : IsSound h
+  pub objects : (k : ℕ) → k < length ms → has_object h (move_at ms k).from ≡ true
+  pub generations : (k : ℕ) → k < length ms → (move_at ms k).generation ≤ 2
+  pub fits : (k : ℕ) → k < length ms → FitsMove h (room_at h ms k) (move_at ms k)
+  pub put : (i : ℕ) → i ≤ length ms → ArePut h ms i
+
+-- one object may be copied as its move says
+abbrev pub MayGo : Way → Heap → Move → Type 0
+MayGo Gone h m = Unit {0}
+MayGo Stays h m = Unit {0}
+MayGo Opens h m =
+    (has_object h m.from ≡ true) × (m.generation ≤ 2) × (cells_of (placed_at h m.from) ≤ 256) ×
+    (0 < length h.spare)
+    × (m.to.0 ≡ slice_index h.spare 0 * 256)
+MayGo Follows h m =
+    (has_object h m.from ≡ true) × (is_held h (region_of m.to) ≡ true)
+    × (m.to.0 ≡ region_of m.to * 256 + (region_at h (region_of m.to)).fill)
+    × ((region_at h (region_of m.to)).fill + cells_of (placed_at h m.from) ≤ 256)
+
+-- it is copied, and its place was free
+abbrev pub HasGone : Way → Heap → Heap → Move → Type 0
+HasGone Gone old h m = h ≡ old
+HasGone Stays old h m = h ≡ old
+HasGone Opens old h m =
+    h ≡ with_copy (with_fresh old (region_of m.to) m.generation) m.from (region_of m.to)
+HasGone Follows old h m = h ≡ with_copy old m.from (region_of m.to)
+
+-- the first i moves are copied, and their objects stand twice
+pub record AreCopied (old h : Heap) (ms : List Move) (i : ℕ) : Type 0 where
+  pub objects : (a : Addr) → has_object old a ≡ true → map.get h.objects a.0 ≡ map.get old.objects a.0
+  pub copies : (k : ℕ) → k < i → is_moving (move_at ms k).way ≡ true
+      → map.get h.objects (move_at ms k).to.0 ≡ map.get old.objects (move_at ms k).from.0
+  pub only : (b : Addr) → has_object h b ≡ true → (has_object old b ≡ true) ⊎ IsCopiedTo ms i b
+  pub same : h ≡ record old {
+    objects = h.objects;
+    regions = (room_at old ms i).regions;
+    spare = (room_at old ms i).spare;
+  }
+
+-- an object whose fields name the new places
+abbrev pub rewritten : (Addr → Addr) → Placed → Placed
+rewritten place p = record p { fields = list_map (option_map place) p.fields }
+
+-- one object is rewritten, and no card but its own is set
+pub record IsRewritten (old h : Heap) (place : Addr → Addr) (x : Addr) : Type 0 where
+  pub object : h ≡ record (with_object old x (rewritten place (placed_at old x))) { cards = h.cards }
+  pub more : MoreCards old h
+  pub others : (c : ℕ) → c ≢ card_of x → is_set h c ≡ is_set old c
+
+-- the first i fields of one object are rewritten
+pub record AreFieldsRewritten (old h : Heap) (place : Addr → Addr) (x : Addr) (i : ℕ) : Type 0 where
+  pub fields : List (Option Addr)
+  pub object : h ≡ record
+      (with_object old x (record (placed_at old x) { fields = fields })) { cards = h.cards }
+  pub number : length fields ≡ length (placed_at old x).fields
+  pub below : (j : ℕ) → j < i
+      → slice_index_or fields j None ≡ option_map place (slice_index_or (placed_at old x).fields j None)
+  pub above : (j : ℕ) → i ≤ j → slice_index_or fields j None ≡ slice_index_or (placed_at old x).fields j None
+  pub more : MoreCards old h
+  pub others : (c : ℕ) → c ≢ card_of x → is_set h c ≡ is_set old c
+
+-- these objects are rewritten and no others, and no card is cleared
+pub record AreRewritten (Those : Addr → Type 0) (place : Addr → Addr) (old h : Heap) : Type 0 where
+  pub done : (a : Addr) → Those a
+      → map.get h.objects a.0 ≡ option_map (rewritten place) (map.get old.objects a.0)
+  pub others : (a : Addr) → (Those a → ⊥) → map.get h.objects a.0 ≡ map.get old.objects a.0
+  pub same : h ≡ record old { objects = h.objects; cards = h.cards }
+  pub more : MoreCards old h
+
+-- an object of a generation above n in a set card, up to a place
+abbrev pub IsCardedTo : Heap → ℕ → Option Addr → Addr → Type 0
+IsCardedTo h n after a = (is_old_carded h n a ≡ true) × (is_after after a ≡ false)
+
+-- field i of an object is rewritten: a null one stays null
+abbrev pub HasRenamed : Option Addr → (place : Addr → Addr) → Heap → Heap → Addr → ℕ → Type 0
+HasRenamed None place old h x i = h ≡ old
+HasRenamed (Some y) place old h x i = h ≡ stored old x i (Some (place y))
+
+-- an object that does not stay is gone from its old place
+abbrev pub HasLeft : Way → Heap → Heap → Move → Type 0
+HasLeft Gone old h m = IsRemoved old h m.from
+HasLeft Stays old h m = h ≡ old
+HasLeft Opens old h m = IsRemoved old h m.from
+HasLeft Follows old h m = IsRemoved old h m.from
+
+-- the first i objects that do not stay are gone from their old places, and cards of objects are as they were
+pub record AreRemoved (old h : Heap) (ms : List Move) (i : ℕ) : Type 0 where
+  pub gone : (a : Addr) → IsLeft ms i a → map.get h.objects a.0 ≡ None
+  pub others : (a : Addr) → (IsLeft ms i a → ⊥) → map.get h.objects a.0 ≡ map.get old.objects a.0
+  pub same : h ≡ record old { objects = h.objects; cards = h.cards }
+  pub cards : (a : Addr) → has_object h a ≡ true → is_carded h a ≡ is_carded old a
+
+-- a condemned region in which an object stays has its new generation, and another one is given up
+abbrev pub HasSettled : (pinned : Bool) → Heap → Heap → Condemned → Type 0
+HasSettled true old h r = h ≡ with_generation old r.region r.generation
+HasSettled false old h r = h ≡ record old {
+  regions = map.remove old.regions r.region;
+  spare = old.spare ++ r.region ∷ [];
+}
+
+-- the first i condemned regions have their new generation, or are given up
+pub record AreSettled (old h : Heap) (cs : List Condemned) (i : ℕ) : Type 0 where
+  pub raised : (k : ℕ) → k < i → (condemned_at cs k).pinned ≡ true
+      → map.get h.regions (condemned_at cs k).region
+      ≡ Some (record {
+        generation = (condemned_at cs k).generation;
+        fill = (region_at old (condemned_at cs k).region).fill;
+      })
+  pub given_up : (k : ℕ) → k < i → (condemned_at cs k).pinned ≡ false
+      → map.get h.regions (condemned_at cs k).region ≡ None
+  pub others : (r : ℕ) → ((k : ℕ) → k < i → (condemned_at cs k).region ≢ r)
+      → map.get h.regions r ≡ map.get old.regions r
+  pub same : h ≡ record old { regions = h.regions; spare = h.spare }
+
+-- the card of a kept object is set, at its new place
+abbrev pub HasCard : Way → Heap → Heap → Move → Type 0
+HasCard Gone old h m = h ≡ old
+HasCard Stays old h m = h ≡ with_card old (card_of m.to) true
+HasCard Opens old h m = h ≡ with_card old (card_of m.to) true
+HasCard Follows old h m = h ≡ with_card old (card_of m.to) true
+
+-- the cards of the first i kept objects are set, at their new places
+pub record AreCarded (old h : Heap) (ms : List Move) (i : ℕ) : Type 0 where
+  pub same : h ≡ record old { cards = h.cards }
+  pub more : MoreCards old h
+  pub done : (b : Addr) → IsKeptAt ms i b → is_carded h b ≡ true
+
+-- an object has a field to one of a younger generation
+pub record NamesYounger (h : Heap) (a : Addr) : Type 0 where
+  pub target : Addr
+  pub field : IsField (object_at h) a target
+  pub younger : generation_at (object_at h) target < generation_at (object_at h) a
+
+-- one card is set where an object needs it, and clear otherwise
+pub record IsExactAt (old h : Heap) (card : ℕ) : Type 0 where
+  pub needed : Bool
+  pub tells : (needed ≡ true) ↔ NeedsCard old card
+  pub is : h ≡ with_card old card needed
+
+-- an object that starts in a card
+abbrev pub starts_in : Heap → ℕ → Addr → Bool
+starts_in h card a = has_object h a && nat_eq (card_of a) card
+
+-- the first address behind a place
+abbrev pub next_to : Option Addr → ℕ
+next_to None = 0
+next_to (Some a) = a.0 + 1
+
+-- the addresses of 32 bits from a place on; none where there is no place
+abbrev pub left_from : Option Addr → ℕ
+left_from None = 0
+left_from (Some a) = 2 ^ 32 - a.0
+
+-- the objects of a card that stand before a place need no card, all of them where there is no place
+abbrev pub IsBefore : Option Addr → Addr → Type 0
+IsBefore None b = Unit {0}
+IsBefore (Some a) b = b.0 < a.0
+
+pub record AreUnneeding (h : Heap) (card : ℕ) (place : Option Addr) : Type 0 where
+  pub here : (a : Addr) → place ≡ Some a → starts_in h card a ≡ true
+  pub before : (b : Addr) → starts_in h card b ≡ true → IsBefore place b → NamesYounger h b → ⊥
+
+-- the cards up to a number are exact, set just where an object needs them; behind them nothing has changed
+pub record AreExactTo (old h : Heap) (end : ℕ) : Type 0 where
+  pub same : h ≡ record old { cards = h.cards }
+  pub needed : (c : ℕ) → c < end → is_set h c ≡ true → NeedsCard old c
+  pub kept : (c : ℕ) → NeedsCard old c → is_set h c ≡ true
+  pub rest : (c : ℕ) → end ≤ c → is_set h c ≡ is_set old c
+
+-- cards are exact up to the end of the card in which a place is
+pub record IsExactBehind (old h : Heap) (after : Option Addr) : Type 0 where
+  pub end : ℕ
+  pub cards : AreExactTo old h end
+  pub is : next_to after ≡ end * 32

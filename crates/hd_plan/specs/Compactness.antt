@@ -1,0 +1,52 @@
+-- How many regions a laid plan needs: sums over its moves.
+use Rattle.std.specs.Prelude.{◌≡◌, ℕ, zero, suc, ◌+◌, ◌*◌, ◌<◌, ◌≤◌, cond, Bool, true, false, List, [], ◌∷◌, length, nat_eq}
+use Rattle.hd_model.specs.Heap.{Heap, region_of, placed_at, cells_of}
+use Rattle.hd_plan.specs.declared.moves.Way.{Way}
+use Rattle.hd_plan.specs.declared.moves.Way.TheVariants.{Gone, Stays, Opens, Follows}
+use Rattle.hd_plan.specs.declared.moves.Move.{Move}
+use Rattle.hd_plan.specs.Layout.{Room, region_in, move_at, is_moving}
+
+-- whether a way opens a region
+abbrev pub is_opening : Way → Bool
+is_opening Gone = false
+is_opening Stays = false
+is_opening Opens = true
+is_opening Follows = false
+
+-- how many of the first k moves open a region, and the cells of those of them that move
+unfoldable pub opens_to : List Move → ℕ → ℕ
+opens_to ms zero = 0
+opens_to ms (suc k) = opens_to ms k + cond (is_opening (move_at ms k).way) 1 0
+
+unfoldable pub cells_to : Heap → List Move → ℕ → ℕ
+cells_to h ms zero = 0
+cells_to h ms (suc k) = cells_to h ms k + cond (is_moving (move_at ms k).way) (cells_of (placed_at h (move_at ms k).from)) 0
+
+-- an object of these moves opens a region
+pub record IsOpenedBy (ms : List Move) (r : ℕ) : Type 0 where
+  pub at : ℕ
+  pub within : at < length ms
+  pub opens : is_opening (move_at ms at).way ≡ true
+  pub region : region_of (move_at ms at).to ≡ r
+
+-- the regions in which an object stays, and those that an object opens, one for each such object
+abbrev pub region_by : Way → Move → List ℕ → List ℕ
+region_by Gone m rs = rs
+region_by Stays m rs = region_of m.from ∷ rs
+region_by Opens m rs = region_of m.to ∷ rs
+region_by Follows m rs = rs
+
+unfoldable pub regions_of : List Move → List ℕ
+regions_of [] = []
+regions_of (m ∷ ms) = region_by m.way m (regions_of ms)
+
+-- the fill of the region into which a generation puts, and 1 where there is one
+abbrev pub fill_in : Room → ℕ → ℕ
+fill_in q g = cond (nat_eq (q.current g) 0) 0 (region_in q.regions (q.current g)).fill
+
+abbrev pub begun : Room → ℕ → ℕ
+begun q g = cond (nat_eq (q.current g) 0) 0 1
+
+-- so many regions were opened for so many cells: each but the two that are put into now has 193 of them
+abbrev pub IsSlack : Room → (opened cells : ℕ) → Type 0
+IsSlack q opened cells = 193 * opened + (fill_in q 1 + fill_in q 2) ≤ cells + 193 * (begun q 1 + begun q 2)

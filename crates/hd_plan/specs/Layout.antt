@@ -1,0 +1,171 @@
+-- Where the objects of a collection go: one move for each condemned object, in rising address, and one entry
+-- for each condemned region.
+-- Kept objects are copied into fresh regions, one row of regions for each generation, but for those that
+-- stay because they are pinned.
+-- Regions are this project's own, after the plan and the compact phase of CoreCLR's collector in outline.
+use Rattle.std.specs.Prelude.{◌≡◌, ◌≢◌, ℕ, zero, suc, ◌+◌, ◌*◌, ◌<◌, ◌≤◌, ◌⊎◌, ◌↔◌, Bool, true, false, cond, List, [], ◌∷◌, length, Option, Some, None, unwrap_or, slice_index, slice_index_or, nat_eq, drop}
+use Rattle.std.specs.Ordering.{nat_cmp}
+use Rattle.std.specs.FinMap as map
+use Rattle.hd_model.specs.declared.data.Addr.{Addr}
+use Rattle.hd_model.specs.Ages.{raised}
+use Rattle.hd_model.specs.Scene.{generation_at}
+use Rattle.hd_model.specs.Heap.{Heap, Region, region_of, region_generation, is_held, object_at, placed_at, cells_of}
+use Rattle.hd_heap.specs.Calls.{is_condemned}
+use Rattle.hd_plan.specs.declared.moves.Way.{Way}
+use Rattle.hd_plan.specs.declared.moves.Way.TheVariants.{Gone, Stays, Opens, Follows}
+use Rattle.hd_plan.specs.declared.moves.Move.{Move}
+use Rattle.hd_plan.specs.declared.moves.Condemned.{Condemned}
+
+-- the k-th move, and the k-th condemned region
+abbrev pub move_at : List Move → ℕ → Move
+move_at ms k = slice_index_or ms k
+    (record { from = record { 0 = 0 }; to = record { 0 = 0 }; generation = 0; way = Gone })
+
+abbrev pub condemned_at : List Condemned → ℕ → Condemned
+condemned_at cs k = slice_index_or cs k (record { region = 0; generation = 0; pinned = false })
+
+-- a way of an object that is kept, of one that is kept and moves, and of one that is kept and does not
+abbrev pub is_kept_way : Way → Bool
+is_kept_way Gone = false
+is_kept_way Stays = true
+is_kept_way Opens = true
+is_kept_way Follows = true
+
+abbrev pub is_moving : Way → Bool
+is_moving Gone = false
+is_moving Stays = false
+is_moving Opens = true
+is_moving Follows = true
+
+abbrev pub is_staying : Way → Bool
+is_staying Gone = false
+is_staying Stays = true
+is_staying Opens = false
+is_staying Follows = false
+
+-- while objects are put: the regions that are held and spare then, and for each generation the region into
+-- which it puts, or 0
+pub record Room : Type 0 where
+  pub regions : map.FinMap nat_cmp Region
+  pub spare : List ℕ
+  pub current : ℕ → ℕ
+
+abbrev pub room_of : Heap → Room
+room_of h = record { regions = h.regions; spare = h.spare; current = λ _. 0 }
+
+-- whether a region is among these, and what it is
+abbrev pub has_region : map.FinMap nat_cmp Region → ℕ → Bool
+has_region rs r = map.contains_key rs r
+
+abbrev pub region_in : map.FinMap nat_cmp Region → ℕ → Region
+region_in rs r = unwrap_or (map.get rs r) (record { generation = 0; fill = 0 })
+
+-- so many cells more are filled in a region
+abbrev pub filled : map.FinMap nat_cmp Region → ℕ → ℕ → map.FinMap nat_cmp Region
+filled rs r cells =
+    map.insert rs r (record
+    { generation = (region_in rs r).generation; fill = (region_in rs r).fill + cells })
+
+-- a generation puts into another region from now on
+abbrev pub with_current : (ℕ → ℕ) → ℕ → ℕ → ℕ → ℕ
+with_current current g r x = cond (nat_eq x g) r (current x)
+
+-- the room after an object of so many cells went its way
+abbrev pub put_way : Way → Room → Addr → ℕ → ℕ → Room
+put_way Gone q to g cells = q
+put_way Stays q to g cells = q
+put_way Opens q to g cells = record {
+  regions = filled (map.insert q.regions (region_of to) (record { generation = g; fill = 0 })) (region_of to)
+      cells;
+  spare = drop 1 q.spare;
+  current = with_current q.current g (region_of to);
+}
+put_way Follows q to g cells = record q { regions = filled q.regions (region_of to) cells }
+
+abbrev pub put_move : Heap → Room → Move → Room
+put_move h q m = put_way m.way q m.to m.generation (cells_of (placed_at h m.from))
+
+-- the room after the first k moves
+unfoldable pub room_at : Heap → List Move → ℕ → Room
+room_at h ms zero = room_of h
+room_at h ms (suc k) = put_move h (room_at h ms k) (move_at ms k)
+
+-- the first spare region is opened: the one before of its generation, if there is one, has no room for so
+-- many cells more
+pub record Opened (q : Room) (to : Addr) (g cells : ℕ) : Type 0 where
+  pub spare : 0 < length q.spare
+  pub place : to.0 ≡ slice_index q.spare 0 * 256
+  pub left : (q.current g ≡ 0) ⊎ (256 < (region_in q.regions (q.current g)).fill + cells)
+
+-- the object goes behind all others of the region into which its generation puts
+pub record Followed (q : Room) (to : Addr) (g cells : ℕ) : Type 0 where
+  pub begun : q.current g ≢ 0
+  pub place : to.0 ≡ q.current g * 256 + (region_in q.regions (q.current g)).fill
+  pub room : (region_in q.regions (q.current g)).fill + cells ≤ 256
+
+-- an object may go this way from a room
+abbrev pub Fits : Way → Room → (from to : Addr) → (g cells : ℕ) → Type 0
+Fits Gone q from to g cells = to ≡ from
+Fits Stays q from to g cells = to ≡ from
+Fits Opens q from to g cells = Opened q to g cells
+Fits Follows q from to g cells = Followed q to g cells
+
+abbrev pub FitsMove : Heap → Room → Move → Type 0
+FitsMove h q m = Fits m.way q m.from m.to m.generation (cells_of (placed_at h m.from))
+
+-- the move of an address
+unfoldable pub find_move : List Move → Addr → Option Move
+find_move [] a = None
+find_move (m ∷ ms) a = cond (nat_eq m.from.0 a.0) (Some m) (find_move ms a)
+
+-- where a move puts an address, and itself where there is none
+abbrev pub place_by : Option Move → Addr → Addr
+place_by None a = a
+place_by (Some m) a = m.to
+
+-- whether a move keeps its object
+abbrev pub is_kept_by : Option Move → Bool
+is_kept_by None = false
+is_kept_by (Some m) = is_kept_way m.way
+
+-- each move is of a higher address than the ones before
+abbrev pub IsRising : List Move → Type 0
+IsRising ms = (j k : ℕ) → j < k → k < length ms → (move_at ms j).from.0 < (move_at ms k).from.0
+
+-- one move for each condemned object, in rising address, with the generation to which it is promoted; each
+-- goes where the room allows it
+pub record AreMoves (h : Heap) (n : ℕ) (ms : List Move) : Type 0 where
+  pub condemned : (k : ℕ) → k < length ms → is_condemned h n (move_at ms k).from ≡ true
+  pub rising : IsRising ms
+  pub all : (a : Addr) → is_condemned h n a ≡ true → (k : ℕ) × ((k < length ms) × ((move_at ms k).from ≡ a))
+  pub generations : (k : ℕ) → k < length ms
+      → (move_at ms k).generation ≡ raised n (generation_at (object_at h) (move_at ms k).from)
+  pub fits : (k : ℕ) → k < length ms → FitsMove h (room_at h ms k) (move_at ms k)
+
+-- an object of a region stays where it is
+pub record HasStay (ms : List Move) (r : ℕ) : Type 0 where
+  pub at : ℕ
+  pub within : at < length ms
+  pub stays : is_staying (move_at ms at).way ≡ true
+  pub region : region_of (move_at ms at).from ≡ r
+
+-- a held region of generation n or below
+pub record IsCondemnedRegion (h : Heap) (n r : ℕ) : Type 0 where
+  pub held : is_held h r ≡ true
+  pub young : region_generation h r ≤ n
+
+-- the condemned regions in rising number, with the generation that each gets if it stays: one stays just
+-- where an object in it does
+pub record AreRegions (h : Heap) (n : ℕ) (ms : List Move) (cs : List Condemned) : Type 0 where
+  pub condemned : (k : ℕ) → k < length cs → IsCondemnedRegion h n (condemned_at cs k).region
+  pub rising : (j k : ℕ) → j < k → k < length cs → (condemned_at cs j).region < (condemned_at cs k).region
+  pub all : (r : ℕ) → IsCondemnedRegion h n r → (k : ℕ) × ((k < length cs) × ((condemned_at cs k).region ≡ r))
+  pub generations : (k : ℕ) → k < length cs
+      → (condemned_at cs k).generation ≡ raised n (region_generation h (condemned_at cs k).region)
+  pub pinned : (k : ℕ) → k < length cs
+      → ((condemned_at cs k).pinned ≡ true) ↔ HasStay ms (condemned_at cs k).region
+
+-- how many of these moves leave a kept object in place
+unfoldable pub stays_among : List Move → ℕ
+stays_among [] = 0
+stays_among (m ∷ ms) = cond (is_staying m.way) 1 0 + stays_among ms

@@ -1,0 +1,88 @@
+-- The value of a plan, what it keeps and where, and what a laid one tells.
+use Rattle.std.specs.Prelude.{◌≡◌, ℕ, ◌+◌, ◌/◌, ◌^◌, ◌<◌, ◌≤◌, ◌||◌, Bool, true, false, List, [], length, nat_lt, sum_by, map, AllPairs, Contains, ◌≢◌, refl}
+use Rattle.std.specs.Coded.{Coded, code_by, coded×, coded_list}
+use Rattle.hd_model.specs.declared.data.Addr.{Addr}
+use Rattle.hd_model.specs.Code.{basis_code}
+use Rattle.hd_model.specs.Leads.{IsClosed}
+use Rattle.hd_model.specs.Marking.{IsKeeping}
+use Rattle.hd_model.specs.Scene.{is_object, generation_at, IsField, IsCondemned}
+use Rattle.hd_model.specs.Heap.{Heap, Basis, objects_of, object_at, placed_at, cells_of, is_held, region_of, has_object}
+use Rattle.hd_heap.specs.Sound.{IsSound}
+use Rattle.hd_plan.specs.declared.moves.Move.{Move}
+use Rattle.hd_plan.specs.declared.moves.Condemned.{Condemned}
+use Rattle.hd_plan.specs.contracts.moves.Move as move_contract
+use Rattle.hd_plan.specs.contracts.moves.Condemned as condemned_contract
+use Rattle.hd_plan.specs.Layout.{find_move, place_by, is_kept_by, stays_among, AreMoves, AreRegions, IsCondemnedRegion}
+
+-- what it was taken for, a move for each condemned object, and what becomes of each condemned region
+pub record PlanOf : Type 0 where
+  pub basis : Basis
+  pub moves : List Move
+  pub regions : List Condemned
+
+abbrev pub plan_code : Coded PlanOf
+plan_code =
+    code_by (Basis × (List Move × List Condemned))
+    (coded× basis_code (coded× (coded_list move_contract.the_row.coded)
+    (coded_list condemned_contract.the_row.coded)))
+    (λ p. (p.basis, (p.moves, p.regions))) (λ q. record { basis = q.0; moves = q.1.0; regions = q.1.1 })
+    (λ _. refl)
+
+-- what is kept: all that is older, and what a move keeps
+abbrev pub kept_in : PlanOf → Addr → Bool
+kept_in p a =
+    nat_lt p.basis.condemned (generation_at (objects_of p.basis) a) || is_kept_by (find_move p.moves a)
+
+-- where an object goes; one without a move stays where it is
+abbrev pub place_in : PlanOf → Addr → Addr
+place_in p a = place_by (find_move p.moves a) a
+
+-- how many objects stay in place because they are pinned
+abbrev pub stays_in : PlanOf → ℕ
+stays_in p = stays_among p.moves
+
+-- the places of all kept objects are given, no two to one place, and fields of kept objects name kept ones
+pub record IsLaid (p : PlanOf) : Type 0 where
+  pub sound : IsSound p.basis.heap
+  pub generation : p.basis.condemned ≤ 2
+  pub moves : AreMoves p.basis.heap p.basis.condemned p.moves
+  pub regions : AreRegions p.basis.heap p.basis.condemned p.moves p.regions
+  pub keeping : IsKeeping (objects_of p.basis) p.basis.condemned (kept_in p) (place_in p)
+  pub closed : IsClosed (IsField (objects_of p.basis)) (kept_in p)
+
+-- the objects of a property take together so many cells
+pub record Takes (h : Heap) (P : Addr → Type 0) (cells : ℕ) : Type 0 where
+  pub members : List Addr
+  pub apart : AllPairs (λ x y. x ≢ y) members
+  pub each : (a : Addr) → Contains members a → P a
+  pub all : (a : Addr) → P a → Contains members a
+  pub sum : sum_by (λ a. cells_of (placed_at h a)) members ≡ cells
+
+-- there are spare regions for all condemned objects: each but the last one of a generation is left with at
+-- least 193 cells taken
+pub record HasSpare (h : Heap) (n : ℕ) : Type 0 where
+  pub cells : ℕ
+  pub cells_are : Takes h (IsCondemned (object_at h) n) cells
+  pub small : cells < 2 ^ 38
+  pub enough : cells / 193 + 3 ≤ length h.spare
+
+-- nothing is laid yet, and there is room for all that is condemned
+pub record IsTakenPlan (p : PlanOf) : Type 0 where
+  pub generation : p.basis.condemned ≤ 2
+  pub moves : p.moves ≡ []
+  pub regions : p.regions ≡ []
+  pub spare : HasSpare p.basis.heap p.basis.condemned
+
+-- some object starts in this region
+pub record StartsInRegion (h : Heap) (r : ℕ) : Type 0 where
+  pub at : Addr
+  pub object : has_object h at ≡ true
+  pub region : region_of at ≡ r
+
+-- each condemned region has an object
+abbrev pub HasNoEmptyCondemned : Heap → ℕ → Type 0
+HasNoEmptyCondemned h n = (r : ℕ) → IsCondemnedRegion h n r → StartsInRegion h r
+
+-- each held region has an object
+abbrev pub HasNoEmptyRegion : Heap → Type 0
+HasNoEmptyRegion h = (r : ℕ) → is_held h r ≡ true → StartsInRegion h r

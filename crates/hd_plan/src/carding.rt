@@ -1,0 +1,123 @@
+// Cards are set just where an object that starts in them has a field to a younger one.
+ghost use Rattle.std.specs.Prelude.{◌≡◌, ◌≢◌, ◌+◌, ◌*◌, ◌/◌, ◌<◌, ◌≤◌, ◌↔◌, ℕ, Bool, true, length};
+ghost use Rattle.hd_model.specs.Names.{HasClosedFields};
+ghost use Rattle.hd_model.specs.Ages.{HasSoundCards};
+ghost use Rattle.hd_model.specs.Scene.{generation_at};
+ghost use Rattle.hd_model.specs.Heap.{has_object, object_at, card_of, is_set, is_carded};
+ghost use Rattle.hd_heap.specs.Calls.{IsWalk};
+ghost use Rattle.hd_heap.specs.Sound.{IsSound};
+ghost use Rattle.hd_plan.specs.Layout.{is_kept_way};
+ghost use Rattle.hd_plan.specs.Commit.{NeedsCard};
+ghost use Rattle.hd_plan.specs.CommitSteps.{HasCard, AreCarded, IsKeptAt};
+ghost use Rattle.hd_plan.specs.CommitSteps.{NamesYounger, IsExactAt, starts_in};
+
+use crate::moves::{Move, Way};
+use hd_heap::Heap;
+use hd_model::Addr;
+
+// The cells of a card.
+const CARD: u32 = 32;
+
+/// Sets the card of each kept object of these moves, at its new place.
+pub(crate) fn card_kept(heap: &mut Heap, moves: &[Move])
+    requires { (a : Addr) → IsKeptAt moves.now (length moves.now) a → has_object heap.old a ≡ true }
+    ensures { AreCarded heap.old heap.new moves.now (length moves.now) }
+{
+    for object in moves {
+        card_if_kept(heap, *object);
+    }
+}
+
+// Sets the card of one object if it is kept.
+fn card_if_kept(heap: &mut Heap, object: Move)
+    requires { is_kept_way object.way ≡ true → has_object heap.old object.to ≡ true }
+    ensures { HasCard object.way heap.old heap.new object }
+{
+    match object.way {
+        Way::Gone => {}
+        Way::Stays | Way::Opens | Way::Follows => heap.set_card(object.to, true),
+    }
+}
+
+/// Clears each set card that no object needs.
+pub(crate) fn clear_unneeded(heap: &mut Heap)
+    requires fields { HasClosedFields (object_at heap.old) }
+    requires cards { HasSoundCards (object_at heap.old) (is_carded heap.old) }
+    requires grown { (a : Addr) → has_object heap.old a ≡ true
+        → 0 < generation_at (object_at heap.old) a }
+    ensures same { heap.new ≡ record heap.old { cards = heap.new.cards } }
+    ensures exact { (card : ℕ) → (is_set heap.new card ≡ true) ↔ NeedsCard heap.new card }
+{
+    let mut after = None;
+    while let Some(at) = heap.next_carded(after, 0) {
+        make_exact(heap, at);
+        after = Some(last_cell(at));
+    }
+}
+
+// Sets the card in which an object starts where it is needed, and clears it otherwise. The first
+// that starts in the card is given.
+fn make_exact(heap: &mut Heap, first: Addr)
+    requires object { has_object heap.old first ≡ true }
+    requires first { (b : Addr) → starts_in heap.old (card_of first) b ≡ true → first.0 ≤ b.0 }
+    requires fields { HasClosedFields (object_at heap.old) }
+    ensures { IsExactAt heap.old heap.new (card_of first) }
+{
+    let needed = is_needed(heap, first);
+    heap.set_card(first, needed);
+}
+
+// The last cell of the card in which an address is.
+fn last_cell(at: Addr) -> Addr
+    ensures { result.0 + 1 ≡ (card_of at + 1) * 32 }
+{
+    Addr(at.0 / CARD * CARD + (CARD - 1))
+}
+
+// Whether an object that starts in a card has a field to a younger one. The first that starts in
+// the card is given.
+fn is_needed(heap: &Heap, first: Addr) -> bool
+    requires object { has_object heap.now first ≡ true }
+    requires first { (b : Addr) → starts_in heap.now (card_of first) b ≡ true → first.0 ≤ b.0 }
+    requires fields { HasClosedFields (object_at heap.now) }
+    ensures { (result ≡ true) ↔ NeedsCard heap.now (card_of first) }
+{
+    let mut next = Some(first);
+    while let Some(at) = next {
+        if names_younger(heap, at) {
+            return true;
+        }
+        next = next_in_card(heap, at);
+    }
+    false
+}
+
+// The next object that starts in the same card.
+fn next_in_card(heap: &Heap, at: Addr) -> Option<Addr>
+    ensures walk { IsWalk (starts_in heap.now (card_of at)) (Some at) result }
+    ensures sound { IsSound heap.now }
+{
+    let next = heap.next(Some(at))?;
+    if next.0 / CARD == at.0 / CARD {
+        Some(next)
+    } else {
+        None
+    }
+}
+
+/// Whether an object has a field to one of a younger generation.
+pub(crate) fn names_younger(heap: &Heap, at: Addr) -> bool
+    requires object { has_object heap.now at ≡ true }
+    requires fields { HasClosedFields (object_at heap.now) }
+    ensures { (result ≡ true) ↔ NamesYounger heap.now at }
+{
+    let generation = heap.generation(at);
+    for i in 0..heap.fields(at) {
+        if let Some(target) = heap.load(at, i) {
+            if heap.generation(target) < generation {
+                return true;
+            }
+        }
+    }
+    false
+}

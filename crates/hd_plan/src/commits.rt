@@ -1,0 +1,35 @@
+ghost use Rattle.std.specs.Prelude.{◌≡◌};
+ghost use Rattle.hd_model.specs.Ages.{HasSoundCards};
+ghost use Rattle.hd_model.specs.Heap.{object_at, is_carded};
+ghost use Rattle.hd_plan.specs.Plan.{IsLaid};
+ghost use Rattle.hd_plan.specs.Commit.{IsSameShape, Commits};
+
+use crate::carding::{card_kept, clear_unneeded};
+use crate::copying::copy_moves;
+use crate::moves::{Condemned, Move};
+use crate::plan::Plan;
+use crate::releasing::{remove_left, settle_regions};
+use crate::rewriting::{rewrite_carded, rewrite_kept};
+use hd_heap::Heap;
+
+/// Moves the objects that the plan keeps to their places, rewrites the fields that name them, and
+/// takes all other condemned objects away. It looks at condemned objects and at older ones in set
+/// cards, and at no other object.
+pub fn commit(heap: &mut Heap, plan: &mut Plan)
+    requires laid { IsLaid plan.old }
+    requires same { IsSameShape plan.old.basis.heap heap.old }
+    requires cards { HasSoundCards (object_at heap.old) (is_carded heap.old) }
+    ensures plan { plan.new ≡ plan.old }
+    ensures commits { Commits plan.old heap.old heap.new }
+{
+    let _regions = heap.regions();
+    let moves: &[Move] = &plan.moves;
+    let regions: &[Condemned] = &plan.regions;
+    copy_moves(heap, moves);
+    rewrite_carded(heap, &*plan, plan.condemned);
+    rewrite_kept(heap, &*plan, moves);
+    remove_left(heap, moves);
+    settle_regions(heap, regions);
+    card_kept(heap, moves);
+    clear_unneeded(heap);
+}

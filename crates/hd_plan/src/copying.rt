@@ -1,0 +1,34 @@
+// The objects that move are copied to their new places.
+ghost use Rattle.std.specs.Prelude.{◌≡◌, ◌/◌, length};
+ghost use Rattle.hd_plan.specs.CommitSteps.{CanCopy, AreCopied, MayGo, HasGone};
+
+use crate::moves::{Move, Way};
+use hd_heap::Heap;
+
+/// Copies each object that moves to its new place. It stands twice from then on.
+pub(crate) fn copy_moves(heap: &mut Heap, moves: &[Move])
+    requires { CanCopy heap.old moves.now }
+    ensures { AreCopied heap.old heap.new moves.now (length moves.now) }
+{
+    for object in moves {
+        copy_move(heap, *object);
+    }
+}
+
+// Copies one object if it moves.
+#[tactic(auto, using(crate::proofs::CommitCopying::copies))]
+fn copy_move(heap: &mut Heap, object: Move)
+    requires { MayGo object.way heap.old object }
+    ensures { HasGone object.way heap.old heap.new object }
+{
+    match object.way {
+        Way::Gone | Way::Stays => {}
+        Way::Opens => {
+            let region = heap.fresh(object.generation);
+            heap.copy_into(object.from, region);
+        }
+        Way::Follows => {
+            heap.copy_into(object.from, object.to.0 / 256);
+        }
+    }
+}

@@ -1,0 +1,105 @@
+ghost use Rattle.std.specs.Prelude.{◌≡◌, ◌&&◌, ◌^◌, ◌<◌, ◌≤◌, [], true, vec_capacity};
+ghost use Rattle.hd_model.specs.Counting.{Counts};
+ghost use Rattle.hd_model.specs.Leads.{IsClosed};
+ghost use Rattle.hd_model.specs.Scene.{IsField, IsCondemned};
+ghost use Rattle.hd_model.specs.Heap.{objects_of, object_at};
+ghost use Rattle.hd_heap.specs.Calls.{is_condemned};
+ghost use Rattle.hd_heap.specs.Sound.{IsSound};
+ghost use Rattle.hd_plan.specs.Layout.{AreMoves};
+ghost use Rattle.hd_plan.specs.Laying.{HasMoveRoom, AreChosen, CanPut, IsMoveOf};
+ghost use Rattle.hd_plan.specs.Plan.{IsTakenPlan, IsLaid, HasSpare, HasNoEmptyCondemned};
+ghost use Rattle.hd_plan.specs.Plan.{kept_in, place_in, stays_in};
+
+use crate::list::list_moves;
+use crate::moves::{Move, Way};
+use crate::plan::Plan;
+use crate::seats::Seats;
+use crate::survey::HEADER;
+use hd_heap::Heap;
+use hd_model::limits::OLDEST;
+use hd_model::{Addr, Marker};
+
+impl Plan {
+    /// Gives each promoted object its place: what is pinned stays, and all else goes into fresh
+    /// regions, one row of them for each generation, in rising address. A region is left only
+    /// where the next object does not fit.
+    pub fn lay<M: Marker>(&mut self, heap: &Heap, marker: &M)
+        requires taken { IsTakenPlan self.old }
+        requires heap { self.old.basis.heap ≡ heap.now }
+        requires marker { M.basis marker.now ≡ self.old.basis }
+        requires settled { M.settled marker.now }
+        requires closed { IsClosed (IsField (objects_of self.old.basis)) (M.promoted marker.now) }
+        requires full { HasNoEmptyCondemned heap.now self.old.basis.condemned }
+        ensures laid { IsLaid self.new }
+        ensures basis { self.new.basis ≡ self.old.basis }
+        ensures kept { (a : Addr) → kept_in self.new a ≡ M.promoted marker.now a }
+        ensures pinned { (a : Addr) → M.promoted marker.now a ≡ true
+            → M.pinned marker.now a ≡ true → place_in self.new a ≡ a }
+        ensures stays { let of = self.old.basis in
+            Counts (λ a. IsCondemned (objects_of of) of.condemned a
+            × (M.promoted marker.now a ≡ true) × (M.pinned marker.now a ≡ true))
+            (stays_in self.new) }
+    {
+        lay_moves(heap, marker, self.condemned, &mut self.moves);
+        list_moves(&self.moves, &mut self.regions, &mut self.places);
+    }
+}
+
+// Lists the condemned objects with their places.
+fn lay_moves<M: Marker>(heap: &Heap, marker: &M, n: u8, moves: &mut Vec<Move>)
+    requires generation { n ≤ 2 }
+    requires marker { M.basis marker.now ≡ record { heap = heap.now; condemned = n } }
+    requires settled { M.settled marker.now }
+    requires none { moves.old.items ≡ [] }
+    requires room { HasMoveRoom (object_at heap.now) n (vec_capacity moves.old) }
+    requires spare { HasSpare heap.now n }
+    ensures laid { AreMoves heap.now n moves.new.items }
+    ensures chosen { AreChosen (M.promoted marker.now) (M.pinned marker.now) moves.new.items }
+    ensures sound { IsSound heap.now }
+    ensures capacity { vec_capacity moves.new ≡ vec_capacity moves.old }
+{
+    let mut seats = Seats::new();
+    let mut after = None;
+    'walk: while let Some(at) = heap.next_condemned(after, n) {
+        let object = lay_one(heap, marker, n, at, &mut seats);
+        moves.push_reserved(object);
+        after = Some(at);
+    }
+}
+
+// Gives one condemned object its place.
+fn lay_one<M: Marker>(heap: &Heap, marker: &M, n: u8, at: Addr, seats: &mut Seats) -> Move
+    requires marker { M.basis marker.now ≡ record { heap = heap.now; condemned = n } }
+    requires settled { M.settled marker.now }
+    requires sound { IsSound heap.now }
+    requires condemned { is_condemned heap.now n at ≡ true }
+    requires can_put { CanPut heap.now seats.old }
+    ensures { IsMoveOf heap.now n (M.promoted marker.now at) (M.pinned marker.now at) seats.old
+        seats.new at result }
+{
+    let generation = (heap.generation(at) + 1).min(OLDEST);
+    let from = at;
+    if !marker.promoted(at) {
+        return Move {
+            from,
+            to: at,
+            generation,
+            way: Way::Gone,
+        };
+    }
+    if marker.pinned(at) {
+        return Move {
+            from,
+            to: at,
+            generation,
+            way: Way::Stays,
+        };
+    }
+    let (way, to) = seats.put(heap, generation, heap.fields(at) + HEADER);
+    Move {
+        from,
+        to,
+        generation,
+        way,
+    }
+}

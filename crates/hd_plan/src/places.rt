@@ -1,0 +1,91 @@
+ghost use Rattle.std.specs.Prelude.{◌≡◌, ◌≢◌, ◌+◌, ◌*◌, ◌^◌, ◌<◌, ◌≤◌};
+ghost use Rattle.std.specs.Prelude.{length, replicate, slice_set, IfOk};
+ghost use Rattle.hd_model.specs.Heap.{region_of};
+ghost use Rattle.hd_plan.specs.Laying.{first_at};
+ghost use Rattle.hd_plan.specs.Table.{place_among, spot_in, spot_of};
+
+use hd_model::{Addr, Memory};
+use std::alloc::Global;
+
+/// The cells of a region.
+pub(crate) const CELLS: u32 = hd_cells::CELLS as u32;
+
+/// New places by old ones, found at once: each region that is listed has 256 cells, one for each of
+/// its addresses.
+#[derive(Drop)]
+pub(crate) struct Places {
+    // By its number, where the cells of a region stand: 1 for the first region that is listed, and
+    // so on; 0 for a region that is not listed.
+    pub(crate) firsts: Vec<u32>,
+    pub(crate) cells: Vec<Addr>,
+}
+
+/// The number of the region of an address.
+pub(crate) fn region_number(at: Addr) -> u32
+    ensures { result ≡ region_of at }
+{
+    at.0 / CELLS
+}
+
+// The cell of an address in a region, by the place of the region in the list.
+fn spot(place: u32, at: Addr) -> usize
+    ensures { result ≡ spot_in place at }
+{
+    hd_cells::CELLS * place as usize + (at.0 % CELLS) as usize
+}
+
+impl Places {
+    /// Room for so many regions, with numbers up to `last`. None is listed.
+    pub(crate) fn open(alloc: Global, regions: u32, last: u32) -> Result<Places, Memory>
+        ensures firsts { IfOk result (λ p. p.firsts.items ≡ replicate (last + 1) 0) }
+        ensures cells { IfOk result (λ p. length p.cells.items ≡ 256 * regions) }
+    {
+        let Ok(firsts) = vec![in alloc; 0; last as usize + 1] else {
+            return Err(Memory);
+        };
+        match vec![in alloc; Addr(0); hd_cells::CELLS * regions as usize] {
+            Ok(cells) => Ok(Places { firsts, cells }),
+            Err(_) => Err(Memory),
+        }
+    }
+
+    /// Lists a region as the `k`-th, from 0.
+    pub(crate) fn list(&mut self, region: u32, k: u32)
+        requires within { region < length self.old.firsts.items }
+        requires number { k + 1 < 2 ^ 32 }
+        ensures firsts { self.new.firsts.items ≡ slice_set self.old.firsts.items region (k + 1) }
+        ensures cells { self.new.cells.items ≡ self.old.cells.items }
+    {
+        self.firsts[region as usize] = k + 1;
+    }
+
+    /// Gives an address in a listed region a new place.
+    pub(crate) fn put(&mut self, at: Addr, to: Addr)
+        requires listed { first_at self.old.firsts.items (region_of at) ≢ 0 }
+        requires room { 256 * first_at self.old.firsts.items (region_of at)
+            ≤ length self.old.cells.items }
+        ensures firsts { self.new.firsts.items ≡ self.old.firsts.items }
+        ensures cells { let spot = spot_of self.old.firsts.items at in
+            self.new.cells.items ≡ slice_set self.old.cells.items spot to }
+    {
+        let first = self.firsts[region_number(at) as usize] - 1;
+        self.cells[spot(first, at)] = to;
+    }
+
+    /// The new place of an address in a listed region; another address itself.
+    pub(crate) fn place(&self, at: Addr) -> Addr
+        requires room { 256 * first_at self.now.firsts.items (region_of at)
+            ≤ length self.now.cells.items }
+        ensures { result ≡ place_among self.now.firsts.items self.now.cells.items at }
+    {
+        let region = region_number(at) as usize;
+        if region >= self.firsts.len() {
+            return at;
+        }
+        let first = self.firsts[region];
+        if first == 0 {
+            return at;
+        }
+        self.cells[spot(first - 1, at)]
+    }
+}

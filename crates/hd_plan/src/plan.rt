@@ -1,0 +1,149 @@
+ghost use Rattle.std.specs.Prelude.{◌≡◌, ◌^◌, ◌<◌, ◌≤◌, true, false, length, count_by, IfOk};
+ghost use Rattle.hd_model.specs.Counting.{Counts};
+ghost use Rattle.hd_model.specs.Scene.{is_object, IsCondemned};
+ghost use Rattle.hd_model.specs.Heap.{objects_of};
+ghost use Rattle.hd_plan.specs.Laying.{IsSurvey};
+ghost use Rattle.hd_plan.specs.Layout.{is_kept_way};
+ghost use Rattle.hd_plan.specs.Plan.{IsTakenPlan, IsLaid, kept_in, place_in, HasSpare};
+
+use crate::moves::{Condemned, Move};
+use crate::places::Places;
+use crate::survey::{Survey, count_condemned};
+use hd_heap::Heap;
+use hd_model::{Addr, Forward, Memory};
+use std::alloc::Global;
+use std::marker::Model;
+use std::snapshot::Snapshot;
+
+// The cells that are taken at least in a region that is left, as the largest object has 64.
+const LEFT: u64 = 193;
+
+// More than there are rows of regions that may end in one with fewer cells taken.
+const OPEN: u32 = 3;
+
+/// Where each condemned object of one heap goes, and what becomes of each condemned region.
+#[derive(Drop)]
+pub struct Plan {
+    // The heap for which the plan is, for clauses alone.
+    pub(crate) heap: Snapshot<Heap>,
+    pub(crate) condemned: u8,
+    pub(crate) moves: Vec<Move>,
+    pub(crate) regions: Vec<Condemned>,
+    pub(crate) places: Places,
+}
+
+impl Model for Plan {
+    ghost use Rattle.std.specs.Prelude.{vec_capacity};
+    ghost use Rattle.hd_plan.specs.Plan.{PlanOf, plan_code};
+
+    ghost Value = { PlanOf };
+
+    ghost coded = { plan_code };
+
+    ghost use Rattle.hd_plan.specs.Laying.{IsPlan};
+
+    ghost view = { λ p. record {
+      basis = record { heap = p.heap.value; condemned = p.condemned };
+      moves = p.moves.items;
+      regions = p.regions.items;
+    } };
+
+    ghost invariant = { λ p. IsPlan (record { heap = p.heap.value; condemned = p.condemned })
+        p.moves.items p.regions.items (vec_capacity p.moves) (vec_capacity p.regions)
+        p.places.firsts.items p.places.cells.items };
+}
+
+impl Plan {
+    /// Takes memory for a plan of generation `n` and below, and spare regions for what it may keep.
+    /// Spare regions that were taken stay spare where there is too little memory for the rest.
+    pub fn take(alloc: Global, heap: &mut Heap, n: u8) -> Result<Plan, Memory>
+        requires generation { n ≤ 2 }
+        ensures same { heap.new ≡ record heap.old { spare = heap.new.spare } }
+        ensures taken { IfOk result (λ plan. IsTakenPlan plan) }
+        ensures basis { IfOk result (λ plan. plan.basis ≡ record {
+          heap = heap.new;
+          condemned = n;
+        }) }
+    {
+        let found = count_condemned(heap, n);
+        heap.reserve_regions((found.cells / LEFT) as u32 + OPEN)?;
+        Plan::with_room(alloc, heap, n, &found)
+    }
+
+    /// An empty plan with room for what was found.
+    fn with_room(alloc: Global, heap: &Heap, n: u8, found: &Survey) -> Result<Plan, Memory>
+        requires found { IsSurvey heap.now n found.now }
+        requires generation { n ≤ 2 }
+        requires spare { HasSpare heap.now n }
+        ensures taken { IfOk result (λ plan. IsTakenPlan plan) }
+        ensures basis { IfOk result (λ plan. plan.basis ≡ record {
+          heap = heap.now;
+          condemned = n;
+        }) }
+    {
+        let places = Places::open(alloc, found.regions, found.last)?;
+        let Ok(moves) = Vec::with_capacity(alloc, found.objects as usize) else {
+            return Err(Memory);
+        };
+        match Vec::with_capacity(alloc, found.regions as usize) {
+            Ok(regions) => Ok(Plan {
+                heap: Snapshot::of(heap),
+                condemned: n,
+                moves,
+                regions,
+                places,
+            }),
+            Err(_) => Err(Memory),
+        }
+    }
+
+    /// How many condemned objects are kept.
+    pub fn kept(&self) -> u32
+        requires { IsLaid self.now }
+        ensures { let of = self.now.basis in
+            Counts (λ a. IsCondemned (objects_of of) of.condemned a
+            × (kept_in self.now a ≡ true)) result }
+    {
+        count_kept(&self.moves)
+    }
+
+    /// How many objects are not kept.
+    pub fn removed(&self) -> u32
+        requires { IsLaid self.now }
+        ensures { let of = self.now.basis in
+            Counts (λ a. (is_object (objects_of of) a ≡ true)
+            × (kept_in self.now a ≡ false)) result }
+    {
+        self.moves.len() as u32 - count_kept(&self.moves)
+    }
+}
+
+impl Forward for Plan {
+    ghost basis = { λ p. p.basis };
+
+    ghost laid = { IsLaid };
+
+    ghost kept = { kept_in };
+
+    ghost place = { place_in };
+
+    fn moved(&self, at: Addr) -> Addr {
+        self.places.place(at)
+    }
+
+    ghost keeps = { λ p laid. laid.keeping };
+}
+
+// How many moves keep their object.
+fn count_kept(moves: &Vec<Move>) -> u32
+    requires { length moves.now.items < 2 ^ 32 }
+    ensures { result ≡ count_by (λ m. is_kept_way m.way) moves.now.items }
+{
+    let mut kept = 0;
+    for object in moves {
+        if object.way.is_kept() {
+            kept += 1;
+        }
+    }
+    kept
+}

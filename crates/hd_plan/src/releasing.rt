@@ -1,0 +1,65 @@
+// What is not kept is taken away, and regions without objects are given up.
+ghost use Rattle.std.specs.Prelude.{◌≡◌, ◌≢◌, ◌<◌, ◌≤◌, ℕ, true, false, length};
+ghost use Rattle.hd_model.specs.Heap.{has_object, is_held, region_of};
+ghost use Rattle.hd_plan.specs.Layout.{move_at, condemned_at, is_staying, IsRising};
+ghost use Rattle.hd_plan.specs.CommitSteps.{HasLeft, AreRemoved, HasSettled, AreSettled};
+
+use crate::moves::{Condemned, Move, Way};
+use hd_heap::Heap;
+use hd_model::Addr;
+
+/// Takes away the objects of these moves at their old places, but for those that stay.
+pub(crate) fn remove_left(heap: &mut Heap, moves: &[Move])
+    requires objects { (k : ℕ) → k < length moves.now
+        → has_object heap.old (move_at moves.now k).from ≡ true }
+    requires rising { IsRising moves.now }
+    ensures { AreRemoved heap.old heap.new moves.now (length moves.now) }
+{
+    for object in moves {
+        remove_if_left(heap, *object);
+    }
+}
+
+// Takes one object away at its old place, unless it stays.
+fn remove_if_left(heap: &mut Heap, object: Move)
+    requires { has_object heap.old object.from ≡ true }
+    ensures { HasLeft object.way heap.old heap.new object }
+{
+    match object.way {
+        Way::Stays => {}
+        Way::Gone | Way::Opens | Way::Follows => heap.remove(object.from),
+    }
+}
+
+/// Gives a condemned region its new generation if an object in it stays, and gives it up otherwise.
+pub(crate) fn settle_regions(heap: &mut Heap, regions: &[Condemned])
+    requires held { (k : ℕ) → k < length regions.now
+        → is_held heap.old (condemned_at regions.now k).region ≡ true }
+    requires rising { (j k : ℕ) → j < k → k < length regions.now
+        → (condemned_at regions.now j).region < (condemned_at regions.now k).region }
+    requires generations { (k : ℕ) → k < length regions.now
+        → (condemned_at regions.now k).generation ≤ 2 }
+    requires empty { (k : ℕ) (a : Addr) → k < length regions.now
+        → (condemned_at regions.now k).pinned ≡ false → has_object heap.old a ≡ true
+        → region_of a ≢ (condemned_at regions.now k).region }
+    ensures { AreSettled heap.old heap.new regions.now (length regions.now) }
+{
+    for condemned in regions {
+        settle_region(heap, *condemned);
+    }
+}
+
+// Raises one condemned region or gives it up.
+fn settle_region(heap: &mut Heap, condemned: Condemned)
+    requires held { is_held heap.old condemned.region ≡ true }
+    requires generation { condemned.generation ≤ 2 }
+    requires empty { condemned.pinned ≡ false → (a : Addr) → has_object heap.old a ≡ true
+        → region_of a ≢ condemned.region }
+    ensures { HasSettled condemned.pinned heap.old heap.new condemned }
+{
+    if condemned.pinned {
+        heap.set_generation(condemned.region, condemned.generation);
+    } else {
+        heap.release(condemned.region);
+    }
+}
