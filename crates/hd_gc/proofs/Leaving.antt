@@ -1,0 +1,111 @@
+-- The scene that a collection leaves in place, by what was found: what it names is kept.
+use Rattle.std.proofs.Common.{◌≡◌, ℕ, Bool, true, false, cond, ◌++◌, List, Option, Some, None, is_some, refl, sym, ap, ◌∙◌, subst, ⊎_elim}
+use Rattle.std.specs.Prelude.{option_map, Contains}
+use Rattle.std.proofs.lemmas.Bool.{cond-true}
+use Rattle.hd_model.specs.declared.data.Addr.{Addr}
+use Rattle.hd_model.specs.declared.data.Report.{Report}
+use Rattle.hd_model.specs.State.{Object, Handle}
+use Rattle.hd_model.specs.Role.{short, long, attaches}
+use Rattle.hd_model.specs.Counting.{Counts}
+use Rattle.hd_model.specs.Scene.{Scene, is_object, IsCondemned, IsWhole}
+use Rattle.hd_model.specs.Collect.{survivor, GoesBy, left_by, Collects, LosesAs, IsSurviving, IsRemoved, IsReport}
+use Rattle.hd_model.specs.Heap.{Heap, Basis, object_at, objects_of, id_at}
+use Rattle.hd_model.specs.Table.{Table, Queue, row_at}
+use Rattle.hd_model.proofs.Counting.{counts_like}
+use Rattle.hd_model.proofs.Entries.{some_value}
+use Rattle.hd_model.proofs.Collecting.{left_from, whole_after}
+use Rattle.hd_plan.specs.Plan.{PlanOf, kept_in, place_in}
+use Rattle.hd_gc.specs.declared.sift.Found.{Found}
+use Rattle.hd_gc.specs.Ready.{scene_at, IsReady}
+use Rattle.hd_gc.specs.Sifting.{Sifts, Sifted, Reports}
+use Rattle.hd_gc.specs.Shifting.{NamesKept}
+
+module _ (h : Heap) (t t2 : Table) (ages : List ℕ) (q q2 : Queue) (roots : List (Option Addr)) (n : ℕ)
+    (plan : PlanOf) (found : Found) (report : Report) (s0 s1 : ℕ) (ready : IsReady h t ages q roots)
+    (sf : Sifted h t t2 ages q q2 roots n plan found s0 s1) (rp : Reports plan found report) where
+  abbrev S : Scene Addr
+  S = scene_at h t roots q.waiting
+
+  abbrev Left : Scene Addr
+  Left = left_by n sf.sifts.reach sf.sifts.revived sf.sifts.kept sf.sifts.joins S
+
+  abbrev Rank : Addr → ℕ
+  Rank x = (id_at h x).0
+
+  kept_number : Counts (IsSurviving n S sf.sifts.kept) report.kept
+  kept_number =
+      counts_like (λ a. IsCondemned (object_at h) n a × (kept_in plan a ≡ true))
+      (IsSurviving n S sf.sifts.kept) report.kept
+      (λ a w. record { condemned = w.0; stays = sym (sf.plan_kept a) ∙ w.1 })
+      (λ a w. (w.condemned, sf.plan_kept a ∙ w.stays))
+      (subst (λ (g : Basis). Counts (λ a. IsCondemned (objects_of g) g.condemned a × (kept_in plan a ≡ true))
+      report.kept) sf.basis rp.kept)
+
+  removed_number : Counts (IsRemoved S sf.sifts.kept) report.removed
+  removed_number =
+      counts_like (λ a. (is_object (object_at h) a ≡ true) × (kept_in plan a ≡ false))
+      (IsRemoved S sf.sifts.kept) report.removed
+      (λ a w. record { object = w.0; lost = sym (sf.plan_kept a) ∙ w.1 })
+      (λ a w. (w.object, sf.plan_kept a ∙ w.lost))
+      (subst (λ (g : Basis). Counts (λ a. (is_object (objects_of g) a ≡ true) × (kept_in plan a ≡ false))
+      report.removed) sf.basis rp.removed)
+
+  pub goes_by : GoesBy Rank n S sf.sifts.reach sf.sifts.revived sf.sifts.kept sf.sifts.joins report
+  goes_by = record {
+    reach_is = sf.sifts.reach_is;
+    revived_is = sf.sifts.revived_is;
+    kept_is = sf.sifts.kept_is;
+    joins_are = sf.sifts.joins_are;
+    rising = sf.sifts.rising;
+    report_is = record {
+      kept = kept_number;
+      removed = removed_number;
+      short =
+          subst (λ k. Counts (LosesAs S sf.sifts.reach sf.sifts.kept short) k) (sym rp.short) sf.sifts.short;
+      long =
+          subst (λ k. Counts (LosesAs S sf.sifts.reach sf.sifts.kept long) k) (sym rp.long) sf.sifts.long;
+      dep =
+          subst (λ k. Counts (LosesAs S sf.sifts.reach sf.sifts.kept attaches) k) (sym rp.dep) sf.sifts.dep;
+      revived = subst (λ k. Counts (λ x. sf.sifts.revived x ≡ true) k) (sym rp.revived) sf.sifts.revivals;
+    };
+  }
+
+  pub whole_left : IsWhole Left
+  whole_left =
+      whole_after Rank n S Left report ready.whole
+      (record {
+        reach = sf.sifts.reach;
+        revived = sf.sifts.revived;
+        kept = sf.sifts.kept;
+        joins = sf.sifts.joins;
+        goes_by = goes_by;
+        objects = λ x. refl;
+        handles = λ slot. refl;
+        named = refl;
+        queue = refl;
+      })
+
+  -- what stands in that scene is kept
+  pub left_kept : (x : Addr) → is_object Left.object x ≡ true → kept_in plan x ≡ true
+  left_kept x e =
+      let (o, at) = some_value (Left.object x) e in
+      sf.plan_kept x
+      ∙ (left_from (sf.sifts.kept x) (survivor n (sf.sifts.revived x)) (object_at h x) o at).0
+
+  pub rows_kept : NamesKept (kept_in plan) (row_at t2)
+  rows_kept = record {
+    targets = λ slot g x stands e. left_kept x (whole_left.targets slot g x (sym (sf.rows slot) ∙ stands) e);
+    secondaries = λ slot g x stands e.
+        left_kept x (whole_left.secondaries slot g x (sym (sf.rows slot) ∙ stands) e);
+  }
+
+  pub waiting_kept : (x : Addr) → Contains q2.waiting x → kept_in plan x ≡ true
+  waiting_kept x waits =
+      left_kept x (whole_left.queue x
+      (subst (λ (p : Queue). Contains p.waiting x) sf.queue waits))
+
+  pub waiting_objects : (x : Addr) → Contains q2.waiting x → is_object (object_at h) x ≡ true
+  waiting_objects x waits = sf.keeping.objects x (waiting_kept x waits)
+
+  pub roots_kept : (x : Addr) → Contains roots (Some x) → kept_in plan x ≡ true
+  roots_kept x names = left_kept x (whole_left.named x names)

@@ -1,0 +1,86 @@
+-- A list whose first members are mapped, and the ages of whose first blocks are raised.
+use Rattle.std.proofs.Common.{◌≡◌, ℕ, zero, suc, ◌+◌, ◌-◌, ◌*◌, ◌<◌, ◌≤◌, List, [], ◌∷◌, ◌++◌, length, get_or, set, take, drop, map, refl, sym, ap, ◌∙◌, subst, arith, add-one, append-nil}
+use Rattle.std.proofs.Math.Seq.{take-length, drop-length, take-add, take-append_seam, drop-append_seam, drop-append-add}
+use Rattle.std.proofs.lemmas.List.{length-map, length-take, map-append, drop-drop}
+use Rattle.hd_model.specs.Ages.{raised, grown}
+use Rattle.hd_ages.specs.Clumps.{grown_at}
+
+-- the first i members are mapped
+abbrev pub mapped_to : {A : Type 0} → (A → A) → ℕ → List A → List A
+mapped_to f i xs = map f (take i xs) ++ drop i xs
+
+module _ {A : Type 0} (f : A → A) where
+  pub mapped_none : (xs : List A) → mapped_to f 0 xs ≡ xs
+  mapped_none [] = refl
+  mapped_none (x ∷ xs) = refl
+
+  pub mapped_all : (xs : List A) (i : ℕ) → i ≡ length xs → mapped_to f i xs ≡ map f xs
+  mapped_all xs i e =
+      ap (λ k. mapped_to f k xs) e
+      ∙ (λ j. map f (take-length xs j) ++ drop-length xs j) ∙ append-nil (map f xs)
+
+  next_by : (xs : List A) (i : ℕ) (d : A) → i < length xs
+      → set (mapped_to f i xs) i (f (get_or xs i d)) ≡ mapped_to f (suc i) xs
+  next_by [] i d l = absurd (omega arith)
+  next_by (x ∷ xs) zero d l = refl
+  next_by (x ∷ xs) (suc i) d l = ap (λ ys. f x ∷ ys) (next_by xs i d (omega arith))
+
+  pub mapped_next : (xs : List A) (i : ℕ) (d : A) → i < length xs
+      → set (mapped_to f i xs) i (f (get_or xs i d)) ≡ mapped_to f (i + 1) xs
+  mapped_next xs i d l = next_by xs i d l ∙ ap (λ k. mapped_to f k xs) (sym (add-one i))
+
+  pub mapped_at : (xs : List A) (i : ℕ) (d : A) → i < length xs → get_or (mapped_to f i xs) i d ≡ get_or xs i d
+  mapped_at [] i d l = absurd (omega arith)
+  mapped_at (x ∷ xs) zero d l = refl
+  mapped_at (x ∷ xs) (suc i) d l = mapped_at xs i d (omega arith)
+
+  pub length-mapped_to : (xs : List A) (i : ℕ) → length (mapped_to f i xs) ≡ length xs
+  length-mapped_to [] zero = refl
+  length-mapped_to [] (suc i) = refl
+  length-mapped_to (x ∷ xs) zero = refl
+  length-mapped_to (x ∷ xs) (suc i) = ap suc (length-mapped_to xs i)
+
+-- with the ages of one block more
+module _ (n k : ℕ) (ages : List ℕ) (l : k + 4 ≤ length ages) where
+  abbrev First : List ℕ
+  First = map (raised n) (take k ages)
+
+  first_length : length First ≡ k
+  first_length = length-map (take k ages) (raised n) ∙ omega (arith, length-take k ages)
+
+  taken : take k (mapped_to (raised n) k ages) ≡ First
+  taken = subst (λ j. take j (First ++ drop k ages) ≡ First) first_length (take-append_seam First (drop k ages))
+
+  dropped : drop k (mapped_to (raised n) k ages) ≡ drop k ages
+  dropped =
+      subst (λ j. drop j (First ++ drop k ages) ≡ drop k ages) first_length
+      (drop-append_seam First (drop k ages))
+
+  rest : drop (k + 4) (mapped_to (raised n) k ages) ≡ drop (k + 4) ages
+  rest =
+      subst (λ j. drop (j + 4) (First ++ drop k ages) ≡ drop 4 (drop k ages)) first_length
+      (drop-append-add First (drop k ages) 4) ∙ drop-drop 4 k ages
+
+  one_more : take k (mapped_to (raised n) k ages) ++ grown n (take 4 (drop k (mapped_to (raised n) k ages)))
+      ++ drop (k + 4) (mapped_to (raised n) k ages)
+      ≡ mapped_to (raised n) (k + 4) ages
+  one_more =
+      let parts : take k (mapped_to (raised n) k ages) ++ grown n (take 4 (drop k (mapped_to (raised n) k ages)))
+      ++ drop (k + 4) (mapped_to (raised n) k ages)
+      ≡ First ++ map (raised n) (take 4 (drop k ages)) ++ drop (k + 4) ages =
+      λ i. taken i ++ grown n (take 4 (dropped i)) ++ rest i in
+      parts ∙ ap (λ ys. ys ++ drop (k + 4) ages)
+      (sym (map-append (raised n) (take k ages) (take 4 (drop k ages)))
+      ∙ ap (map (raised n)) (sym (take-add k 4 ages)))
+
+pub grown_next : (n block : ℕ) (ages : List ℕ) → 4 * (block + 1) ≤ length ages
+    → grown_at n (block + 1) (mapped_to (raised n) (4 * block) ages)
+    ≡ mapped_to (raised n) (4 * (block + 1)) ages
+grown_next n block ages l =
+    let low : 4 * (block + 1) - 4 ≡ 4 * block = omega arith in
+    let high : 4 * (block + 1) ≡ 4 * block + 4 = omega arith in
+    let M : List ℕ = mapped_to (raised n) (4 * block) ages in
+    let places : grown_at n (block + 1) M
+    ≡ take (4 * block) M ++ grown n (take 4 (drop (4 * block) M)) ++ drop (4 * block + 4) M =
+    λ i. take (low i) M ++ grown n (take 4 (drop (low i) M)) ++ drop (high i) M in
+    places ∙ one_more n (4 * block) ages (omega arith) ∙ ap (λ k. mapped_to (raised n) k ages) (sym high)

@@ -1,0 +1,48 @@
+use Rattle.std.proofs.Common.{◌≡◌, ◌+◌, true, Some, sym, subst, ap, take, length, arith}
+use Rattle.std.specs.Prelude.{Contains}
+use Rattle.std.proofs.lemmas.List.Elements.{Contains-get_or}
+use Rattle.hd_model.specs.declared.data.Addr.{Addr}
+use Rattle.hd_model.specs.Heap.{Basis, objects_of}
+use Rattle.hd_model.specs.Scene.{is_object}
+use Rattle.hd_mark.specs.Marks.{MarksOf}
+use Rattle.hd_gc.specs.Growing.{Promotes}
+use Rattle.hd_gc.proofs.Promoting.{promotes_none, promoted_next, promoted_all, none_taken}
+use Rattle.hd_gc.proofs.marking.promote_queue.Goals as goal
+
+pub loop-i-init : goal.loop-i-init
+loop-i-init c =
+    promotes_none (λ x. Contains (take 0 c.args.fin.now.waiting) x) c.args.marks.now c.requires.settled
+    (λ x. none_taken c.args.fin.now.waiting x)
+
+pub at-requires : goal.at-requires
+at-requires c = omega (arith, c.len-i-end.ensures.value)
+
+pub promote-requires-clause-settled : goal.promote-requires-clause-settled
+promote-requires-clause-settled c = c.loop-i.invariant.settled
+
+pub promote-requires-clause-object : goal.promote-requires-clause-object
+promote-requires-clause-object c =
+    subst (λ (g : Basis). is_object (objects_of g) c.at.result ≡ true) (sym c.loop-i.invariant.basis)
+    (c.requires.objects c.at.result
+    (subst (λ (x : Addr). Contains c.args.fin.now.waiting x) (sym (c.at.ensures c.at.result))
+    (Contains-get_or c.args.fin.now.waiting c.loop-i.i c.at.result
+    (omega (arith, c.len-i-end.ensures.value)))))
+
+pub loop-i-preserved : goal.loop-i-preserved
+loop-i-preserved c =
+    let waiting = c.args.fin.now.waiting in
+    let i = c.loop-i.i in
+    promoted_next (λ x. x) (λ x y e. e) waiting i c.at.result (omega (arith, c.len-i-end.ensures.value))
+    c.args.marks.now c.loop-i.marks c.loop-i.invariant c.at.result c.promote.new.self
+    (sym (c.at.ensures c.at.result))
+    (record {
+      settled = c.promote.ensures.settled;
+      basis = c.promote.ensures.basis;
+      pinned = c.promote.ensures.pinned;
+      grows = c.promote.ensures.grows;
+    })
+
+pub returns : goal.returns
+returns c =
+    promoted_all (λ x. x) c.args.fin.now.waiting c.loop-i.i c.args.marks.now c.loop-i.marks
+    (omega (arith, c.len-i-end.ensures.value)) c.loop-i.invariant

@@ -1,0 +1,6 @@
+use Rattle.std.specs.Prelude.{take, Contains}
+use Rattle.hd_gc.specs.Growing.{Promotes}
+use Rattle.hd_gc.proofs.marking.promote_queue.Given as goal
+
+abbrev pub invariant-loop-i : goal.invariant-loop-i
+invariant-loop-i l = Promotes (λ x. Contains (take l.i l.fin.waiting) x) l.fn.marks l.marks

@@ -1,0 +1,28 @@
+use Rattle.std.proofs.Common.{◌≡◌, ◌+◌, ◌*◌, length, sym, ap, ◌∙◌, arith}
+use Rattle.hd_model.specs.Ages.{raised}
+use Rattle.hd_ages.specs.Clumps.{grown_at}
+use Rattle.hd_gc.proofs.Mapping.{mapped_none, mapped_all, length-mapped_to, grown_next}
+use Rattle.hd_gc.proofs.moving.grow.Goals as goal
+
+pub loop-block-init : goal.loop-block-init
+loop-block-init c = sym (mapped_none (raised c.args.n) c.args.ages.now)
+
+pub grow-requires-clause-high : goal.grow-requires-clause-high
+grow-requires-clause-high c =
+    omega (
+      arith,
+      c.blocks-block-end.ensures.value,
+      ap length c.loop-block.invariant,
+      length-mapped_to (raised c.args.n) c.args.ages.now (4 * c.loop-block.block),
+    )
+
+pub loop-block-preserved : goal.loop-block-preserved
+loop-block-preserved c =
+    c.grow.ensures ∙ ap (grown_at c.args.n (c.loop-block.block + 1)) c.loop-block.invariant
+    ∙ grown_next c.args.n c.loop-block.block c.args.ages.now (omega (arith, c.blocks-block-end.ensures.value))
+
+pub returns : goal.returns
+returns c =
+    c.loop-block.invariant
+    ∙ mapped_all (raised c.args.n) c.args.ages.now (4 * c.loop-block.block)
+    (omega (arith, c.blocks-block-end.ensures.value))

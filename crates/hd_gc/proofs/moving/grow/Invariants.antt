@@ -1,0 +1,7 @@
+use Rattle.std.proofs.Common.{◌≡◌, ◌*◌}
+use Rattle.hd_model.specs.Ages.{raised}
+use Rattle.hd_gc.proofs.Mapping.{mapped_to}
+use Rattle.hd_gc.proofs.moving.grow.Given as goal
+
+abbrev pub invariant-loop-block : goal.invariant-loop-block
+invariant-loop-block l = l.ages ≡ mapped_to (raised l.n) (4 * l.block) l.fn.ages

@@ -1,0 +1,8 @@
+use Rattle.std.proofs.Common.{◌≡◌}
+use Rattle.std.specs.Prelude.{option_map}
+use Rattle.hd_plan.specs.Plan.{place_in}
+use Rattle.hd_gc.proofs.Mapping.{mapped_to}
+use Rattle.hd_gc.proofs.moving.relocate_roots.Given as goal
+
+abbrev pub invariant-loop-root : goal.invariant-loop-root
+invariant-loop-root l = l.roots ≡ mapped_to (option_map (place_in l.plan)) l.root-index l.fn.roots

@@ -1,0 +1,50 @@
+-- What is promoted from where, before and after each part of the marking.
+use Rattle.std.specs.Prelude.{◌≡◌, ◌↔◌, ◌⊎◌, ℕ, ◌+◌, ◌-◌, ◌^◌, Bool, true, false, List, Option, Some, None, take, Contains}
+use Rattle.hd_model.specs.declared.data.Addr.{Addr}
+use Rattle.hd_model.specs.Leads.{Grows}
+use Rattle.hd_model.specs.Scene.{Objects, Rows, generation_at, IsField, IsYoungField, IsCondemned}
+use Rattle.hd_model.specs.Reach.{IsHeld, IsPinned}
+use Rattle.hd_model.specs.Heap.{Heap, object_at, is_carded, objects_of}
+use Rattle.hd_heap.specs.Calls.{is_old_carded, is_after}
+use Rattle.hd_mark.specs.Marks.{MarksOf, promoted_in, pinned_in, IsSettledMarks}
+
+-- marks that promoted some objects, with what these lead to, and pinned nothing
+pub record Promotes (Start : Addr → Type 0) (old new : MarksOf) : Type 0 where
+  pub settled : IsSettledMarks new
+  pub basis : new.basis ≡ old.basis
+  pub pinned : pinned_in new ≡ pinned_in old
+  pub grows : Grows (IsYoungField (objects_of old.basis) old.basis.condemned) Start (promoted_in old)
+      (promoted_in new)
+
+-- y stands in a field of an older object in a set card
+pub record IsOldField (h : Heap) (n : ℕ) (y : Addr) : Type 0 where
+  pub from : Addr
+  pub carded : is_old_carded h n from ≡ true
+  pub field : IsField (object_at h) from y
+
+-- y stands in a field of such an object up to a place
+pub record IsOldFieldUpTo (h : Heap) (n : ℕ) (after : Option Addr) (y : Addr) : Type 0 where
+  pub old : IsOldField h n y
+  pub done : is_after after old.from ≡ false
+
+-- all that a handle holds is promoted, with what it leads to; of condemned objects, what a handle pins is
+-- pinned, and no other
+pub record Holds (rows : Rows Addr) (old new : MarksOf) : Type 0 where
+  pub settled : IsSettledMarks new
+  pub basis : new.basis ≡ old.basis
+  pub grows : Grows (IsYoungField (objects_of old.basis) old.basis.condemned) (IsHeld rows) (promoted_in old)
+      (promoted_in new)
+  pub pins : (x : Addr) → IsCondemned (objects_of old.basis) old.basis.condemned x
+      → (pinned_in new x ≡ true) ↔ ((pinned_in old x ≡ true) ⊎ IsPinned rows x)
+
+-- marks of the same heap that promote and pin the same
+pub record SameMarks (old new : MarksOf) : Type 0 where
+  pub settled : IsSettledMarks new
+  pub basis : new.basis ≡ old.basis
+  pub promoted : promoted_in new ≡ promoted_in old
+  pub pinned : pinned_in new ≡ pinned_in old
+
+-- how far a place may still rise
+abbrev pub left_to : Option Addr → ℕ
+left_to None = 2 ^ 32 + 1
+left_to (Some a) = 2 ^ 32 - a.0

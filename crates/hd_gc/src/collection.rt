@@ -1,0 +1,68 @@
+// A whole collection.
+ghost use Rattle.std.specs.Prelude.{◌≡◌, ◌≤◌, MatchResult};
+ghost use Rattle.hd_gc.specs.Ready.{IsReady};
+ghost use Rattle.hd_gc.specs.Collected.{Collected};
+ghost use Rattle.hd_gc.specs.Sifting.{Reports};
+ghost use Rattle.hd_plan.specs.Plan.{IsLaid};
+
+use crate::moving::shift;
+use crate::sift::{Found, sift};
+use hd_ages::AgeMap;
+use hd_final::Final;
+use hd_heap::Heap;
+use hd_model::{Addr, Memory, Report, Steps};
+use hd_plan::Plan;
+use hd_seg::Seg;
+use std::alloc::Global;
+use std::sync::ledger::Ledger;
+
+/// Collects generation `n` and all younger ones, as `GC.Collect(n)` does with what no thread uses
+/// meanwhile. `roots` is what registers and statics name.
+///
+/// What is reached stays, and what it leads to; a registered object that is not reached is put into
+/// the queue and stays too, with what it leads to; what else is condemned goes. What stays moves
+/// into the next generation, up to 2, and to another place unless a handle pins it. A step is one
+/// clump of handles that a pass visits.
+///
+/// Where there is too little memory, nothing is done, but spare regions that were taken stay.
+pub fn collect<L: Ledger>(
+    alloc: Global,
+    heap: &mut Heap,
+    seg: &mut Seg,
+    ages: &mut AgeMap,
+    fin: &mut Final,
+    roots: &mut [Option<Addr>],
+    n: u8,
+    steps: &mut Steps<L>,
+) -> Result<Report, Memory>
+    requires generation { n ≤ 2 }
+    requires ready { IsReady heap.old seg.old ages.old fin.old roots.old }
+    ensures { MatchResult result
+        (λ report. Collected heap.old heap.new seg.old seg.new ages.old ages.new fin.old fin.new
+        roots.old roots.new n report steps.old steps.new)
+        (λ _. (heap.new ≡ record heap.old { spare = heap.new.spare }) × (seg.new ≡ seg.old)
+        × (ages.new ≡ ages.old) × (fin.new ≡ fin.old) × (roots.new ≡ roots.old)
+        × (steps.new ≡ steps.old)) }
+{
+    let mut plan = Plan::take(alloc, heap, n)?;
+    let joined = fin.len();
+    let found = sift(alloc, heap, seg, ages, fin, roots, &mut plan, n, steps)?;
+    let report = report(&plan, found);
+    shift(heap, seg, ages, fin, roots, &mut plan, joined, n, steps);
+    Ok(report)
+}
+
+// The report of what a plan keeps and does not, and of what was found.
+fn report(plan: &Plan, found: Found) -> Report
+    requires { IsLaid plan.now }
+    ensures { Reports plan.now found result }
+{
+    Report {
+        kept: plan.kept(),
+        removed: plan.removed(),
+        short: found.short,
+        long: found.long,
+        dep: found.dep,
+        revived: found.revived,
+    }
+}

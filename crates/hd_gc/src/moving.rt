@@ -1,0 +1,91 @@
+// The moving of what is kept, and of all names.
+ghost use Rattle.std.specs.Prelude.{◌≡◌, ◌+◌, ◌*◌, true, Some, length, map, option_map, Contains};
+ghost use Rattle.hd_model.specs.Heap.{has_object, is_carded, object_at};
+ghost use Rattle.hd_model.specs.Table.{row_at};
+ghost use Rattle.hd_model.specs.Ages.{grown, HasSoundCards};
+ghost use Rattle.hd_model.specs.Visits.{IsSameTable};
+ghost use Rattle.hd_plan.specs.Plan.{IsLaid, kept_in, place_in};
+ghost use Rattle.hd_gc.specs.Shifting.{NamesKept, IsRenamed, Shifted};
+ghost use Rattle.hd_gc.specs.Steps.{moving_visits};
+
+use hd_ages::AgeMap;
+use hd_final::Final;
+use hd_heap::Heap;
+use hd_model::{Addr, Forward, Kind, Steps};
+use hd_plan::{Plan, commit};
+use hd_scan::relocate;
+use hd_seg::Seg;
+use std::sync::ledger::Ledger;
+
+// Gives the rows of every kind the new places, in the clumps that are visited.
+fn relocate_rows<L: Ledger>(seg: &mut Seg, ages: &AgeMap, plan: &Plan, n: u8, steps: &mut Steps<L>)
+    requires laid { IsLaid plan.now }
+    requires names { NamesKept (kept_in plan.now) (row_at seg.old) }
+    requires clumps { length ages.now ≡ 4 * seg.old.blocks }
+    ensures rows { IsRenamed ages.now n (place_in plan.now) (row_at seg.old) (row_at seg.new) }
+    ensures table { IsSameTable seg.old seg.new }
+    ensures steps { steps.new ≡ steps.old + moving_visits seg.old ages.now n }
+{
+    relocate(seg, ages, Kind::Short, plan, n, steps);
+    relocate(seg, ages, Kind::Long, plan, n, steps);
+    relocate(seg, ages, Kind::Strong, plan, n, steps);
+    relocate(seg, ages, Kind::Pinned, plan, n, steps);
+    relocate(seg, ages, Kind::Variable, plan, n, steps);
+    relocate(seg, ages, Kind::Counted, plan, n, steps);
+    relocate(seg, ages, Kind::Dependent, plan, n, steps);
+}
+
+// Gives the roots the new places.
+fn relocate_roots(roots: &mut [Option<Addr>], plan: &Plan)
+    requires laid { IsLaid plan.now }
+    requires kept { (x : Addr) → Contains roots.old (Some x) → kept_in plan.now x ≡ true }
+    ensures { roots.new ≡ map (option_map (place_in plan.now)) roots.old }
+{
+    for root in roots.iter_mut() {
+        if let Some(at) = *root {
+            *root = Some(plan.moved(at));
+        }
+    }
+}
+
+// Raises the ages of all clumps.
+fn grow(ages: &mut AgeMap, n: u8)
+    ensures { ages.new ≡ grown n ages.old }
+{
+    for block in 0..ages.blocks() {
+        ages.grow(block + 1, n);
+    }
+}
+
+/// Moves the objects that a plan keeps, gives all that names them the new places, and raises the
+/// ages. Those that wait from place `joined` on are registered no more.
+pub(crate) fn shift<L: Ledger>(
+    heap: &mut Heap,
+    seg: &mut Seg,
+    ages: &mut AgeMap,
+    fin: &mut Final,
+    roots: &mut [Option<Addr>],
+    plan: &mut Plan,
+    joined: u32,
+    n: u8,
+    steps: &mut Steps<L>,
+)
+    requires laid { IsLaid plan.old }
+    requires heap { plan.old.basis.heap ≡ heap.old }
+    requires cards { HasSoundCards (object_at heap.old) (is_carded heap.old) }
+    requires clumps { length ages.old ≡ 4 * seg.old.blocks }
+    requires rows { NamesKept (kept_in plan.old) (row_at seg.old) }
+    requires waiting { (x : Addr) → Contains fin.old.waiting x → kept_in plan.old x ≡ true }
+    requires objects { (x : Addr) → Contains fin.old.waiting x → has_object heap.old x ≡ true }
+    requires roots { (x : Addr) → Contains roots.old (Some x) → kept_in plan.old x ≡ true }
+    ensures plan { plan.new ≡ plan.old }
+    ensures shifted { Shifted heap.old heap.new seg.old seg.new ages.old ages.new fin.old fin.new
+        roots.old roots.new plan.old joined n steps.old steps.new }
+{
+    fin.settle(heap, joined);
+    relocate_rows(seg, ages, plan, n, steps);
+    fin.relocate(plan);
+    relocate_roots(roots, plan);
+    commit(heap, plan);
+    grow(ages, n);
+}
