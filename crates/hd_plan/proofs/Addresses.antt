@@ -1,10 +1,10 @@
 -- Tests of addresses and of what is condemned.
-use Rattle.std.proofs.Common.{◌≡◌, ◌≢◌, ℕ, ◌+◌, ◌<◌, ◌≤◌, Bool, true, false, not, ◌&&◌, Option, Some, None, refl, sym, ap, ◌∙◌, subst, arith, inl, inr, ◌⊎◌, min, cond}
-use Rattle.std.specs.Prelude.{nat_lt, nat_le, nat_eq, is_some}
-use Rattle.std.proofs.lemmas.Bool.{lt-ltb, le-ltb, eq-eqb, ne_eqb, ltb-true, ltb-false, leb-true, le-leb, cases_lt}
+use Rattle.std.proofs.Common.{◌≡◌, ℕ, ◌+◌, ◌<◌, ◌≤◌, Bool, true, false, ◌&&◌, refl, sym, ap, inl, inr, ◌⊎◌, min, cond}
+use Rattle.std.specs.Prelude.{nat_le}
+use Rattle.std.proofs.lemmas.Bool.{le-ltb, leb-true, le-leb, cases_lt}
 use Rattle.hd_model.specs.declared.data.Addr.{Addr}
 use Rattle.hd_model.specs.Ages.{raised}
-use Rattle.hd_model.specs.Scene.{Objects, is_object, generation_at, IsCondemned}
+use Rattle.hd_model.specs.Scene.{generation_at, IsCondemned}
 use Rattle.hd_model.specs.Heap.{Heap, has_object, object_at}
 use Rattle.hd_heap.specs.Calls.{is_condemned}
 

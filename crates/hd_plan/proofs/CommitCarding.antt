@@ -11,7 +11,7 @@ use Rattle.hd_model.specs.Names.{HasClosedFields}
 use Rattle.hd_model.specs.Ages.{HasSoundCards}
 use Rattle.hd_model.specs.State.{Object}
 use Rattle.hd_model.specs.Scene.{fields_at, fields_in, generation_at, IsField}
-use Rattle.hd_model.specs.Heap.{Heap, region_of, card_of, has_object, object_at, is_set, is_carded}
+use Rattle.hd_model.specs.Heap.{Heap, card_of, has_object, object_at, is_set, is_carded}
 use Rattle.hd_model.proofs.Members.{member_at}
 use Rattle.hd_heap.specs.Calls.{with_card, is_after, is_old_carded, IsWalk, IsNext}
 use Rattle.hd_heap.specs.Sound.{IsSound}
@@ -23,6 +23,7 @@ use Rattle.hd_plan.specs.Layout.{move_at, is_kept_way}
 use Rattle.hd_plan.specs.Commit.{NeedsCard}
 use Rattle.hd_plan.proofs.Addresses.{addr_is}
 use Rattle.hd_plan.specs.CommitSteps.{HasCard, AreCarded, IsExactAt, NamesYounger, starts_in, AreUnneeding, IsBefore, IsExactBehind, next_to, left_from}
+use Rattle.hd_plan.proofs.Stepping.{address_low}
 use Rattle.hd_plan.proofs.CommitEnds.{ends_cases, ends_skip}
 
 same_some : (x y : Addr) → Some x ≡ Some y → x ≡ y
@@ -83,7 +84,8 @@ module _ (old h : Heap) (ms : List Move) (i : ℕ) (r : AreCarded old h ms i) wh
   carded_by Opens new is set = carded_kept new (ap is_kept_way is) set
   carded_by Follows new is set = carded_kept new (ap is_kept_way is) set
 
-  pub carded_step : (new : Heap) → HasCard (move_at ms i).way h new (move_at ms i) → AreCarded old new ms (i + 1)
+  pub carded_step : (new : Heap) → HasCard (move_at ms i).way h new (move_at ms i)
+      → AreCarded old new ms (i + 1)
   carded_step new set = carded_by (move_at ms i).way new refl set
 
 -- the fields of an object, one after another
@@ -103,12 +105,7 @@ none_younger h a i all older n =
     let young = n.younger in
     omega arith
 
--- an address has 32 bits, and what has a field is an object
-pub address_fits : (h : Heap) (a : Addr) → IsSound h → has_object h a ≡ true → a.0 < 2 ^ 32
-unfolding region_of
-address_fits h a sound is =
-    (let numbers = sound.numbers (a.0 / 256) (sound.held a is) in let high = numbers.1 in omega arith)
-
+-- what has a field is an object
 pub has_from : (h : Heap) (x y : Addr) → IsField (object_at h) x y → has_object h x ≡ true
 has_from h x y field = by (object_at h x) field
   where
@@ -209,9 +206,9 @@ module _ (h : Heap) (card : ℕ) (place : Option Addr) (at : Addr) (is : place �
     where
       by : (o : Option Addr) → IsWalk (starts_in h (card_of at)) (Some at) o
           → left_from o < left_from (Some at)
-      by None w = (let low = address_fits h at sound unneeding_object in omega arith)
+      by None w = (let low = (address_low h sound at unneeding_object).1 in omega arith)
       by (Some x) w = (let up = ltb-true at.0 x.0 w.behind in
-          let low = address_fits h at sound unneeding_object in omega arith)
+          let low = (address_low h sound at unneeding_object).1 in omega arith)
 
 pub unneeding_ends : (h : Heap) (card : ℕ) → AreUnneeding h card None → NeedsCard h card → ⊥
 unneeding_ends h card r n =
@@ -286,7 +283,7 @@ module _ (old h : Heap) (after : Option Addr) (sound : IsSound h) (grown : (a : 
     pub exact_less : (last : Addr) → last.0 + 1 ≡ (card_of at + 1) * 32
         → 2 ^ 32 - next_to (Some last) < 2 ^ 32 - next_to after
     exact_less last is =
-        (let place = r.is in let up = above in let low = address_fits h at sound parts.0 in
+        (let place = r.is in let up = above in let low = (address_low h sound at parts.0).1 in
         let card = card_is at in omega arith)
 
     exact_next : (new : Heap) (needed : Bool) (last : Addr) → last.0 + 1 ≡ (card_of at + 1) * 32

@@ -3,12 +3,11 @@ use Rattle.std.proofs.Common.{◌≡◌, ◌≢◌, ℕ, ◌+◌, ◌<◌, inl, 
 use Rattle.std.specs.Prelude.{is_some, unwrap_or}
 use Rattle.std.proofs.lemmas.Bool.{cases_eq, cases_lt, both_ways, false≢true}
 use Rattle.std.specs.Ordering.{nat_cmp}
-use Rattle.std.specs.Cmp.{nat_cmp_total}
 use Rattle.std.specs.FinMap as fin
 use Rattle.hd_model.specs.declared.data.Addr.{Addr}
 use Rattle.hd_model.specs.Heap.{Region, Heap, card_of, region_at, has_object, is_set}
+use Rattle.hd_model.proofs.Written.{get_removed, get_left}
 use Rattle.hd_heap.specs.Calls.{IsRemoved, with_generation}
-use Rattle.hd_heap.proofs.Places.{found_first, found_later}
 use Rattle.hd_heap.proofs.Reading.{has-get}
 use Rattle.hd_heap.proofs.Values.{get_same, get_other}
 use Rattle.hd_plan.specs.declared.moves.Way.{Way}
@@ -21,13 +20,9 @@ use Rattle.hd_plan.specs.CommitSteps.{HasLeft, AreRemoved, HasSettled, AreSettle
 use Rattle.hd_plan.proofs.CommitEnds.{ends_more, ends_here, ends_cases, ends_skip}
 use Rattle.hd_plan.proofs.CommitCopying.{has_alike}
 
--- what a map has where something was taken out, and elsewhere
-pub get_gone : {A : Type 0} (m : fin.FinMap nat_cmp A) (k q : ℕ) → q ≡ k → fin.get (fin.remove m k) q ≡ None
-get_gone m k q same = fin.get-remove nat_cmp_total m k q ∙ found_first q k None (fin.get m q) same
-
-pub get_left : {A : Type 0} (m : fin.FinMap nat_cmp A) (k q : ℕ) → q ≢ k
-    → fin.get (fin.remove m k) q ≡ fin.get m q
-get_left m k q apart = fin.get-remove nat_cmp_total m k q ∙ found_later q k None (fin.get m q) apart
+-- what a map has where something was taken out
+get_gone : {A : Type 0} (m : fin.FinMap nat_cmp A) (k q : ℕ) → q ≡ k → fin.get (fin.remove m k) q ≡ None
+get_gone m k q same = ap (fin.get (fin.remove m k)) same ∙ get_removed m k
 
 module _ (old h : Heap) (ms : List Move) (i : ℕ) (r : AreRemoved old h ms i) where
   removed_stays : not (is_staying (move_at ms i).way) ≡ false → AreRemoved old h ms (i + 1)
@@ -87,7 +82,8 @@ module _ (old h : Heap) (ms : List Move) (i : ℕ) (r : AreRemoved old h ms i) w
   removed_by Opens new is left = removed_one new (ap (λ v. not (is_staying v)) is) left
   removed_by Follows new is left = removed_one new (ap (λ v. not (is_staying v)) is) left
 
-  pub removed_step : (new : Heap) → HasLeft (move_at ms i).way h new (move_at ms i) → AreRemoved old new ms (i + 1)
+  pub removed_step : (new : Heap) → HasLeft (move_at ms i).way h new (move_at ms i)
+      → AreRemoved old new ms (i + 1)
   removed_step new left = removed_by (move_at ms i).way new refl left
 
 -- the regions, one after another
@@ -166,7 +162,8 @@ module _ (old h : Heap) (cs : List Condemned) (i : ℕ) (low : i < length cs) (r
       (step ∙ ap (λ rs. record h { regions = rs; spare = spare }) (sym (ap (λ (x : Heap). x.regions) step))
       ∙ ap (λ ns. record h { regions = new.regions; spare = ns }) (sym (ap (λ (x : Heap). x.spare) step)))
 
-  settled_by : (b : Bool) (new : Heap) → (condemned_at cs i).pinned ≡ b → HasSettled b h new (condemned_at cs i)
+  settled_by : (b : Bool) (new : Heap) → (condemned_at cs i).pinned ≡ b
+      → HasSettled b h new (condemned_at cs i)
       → AreSettled old new cs (i + 1)
   settled_by true new is settled = settled_raised new is settled
   settled_by false new is settled = settled_given_up new _ is settled

@@ -21,7 +21,7 @@ use Rattle.hd_plan.specs.Layout.{move_at, is_kept_way}
 use Rattle.hd_plan.proofs.Addresses.{addr_is}
 use Rattle.hd_plan.specs.CommitSteps.{HasRenamed, rewritten, SameCards, IsRewritten, AreFieldsRewritten, AreRewritten, IsCardedTo, IsKeptAt, next_to}
 use Rattle.hd_plan.proofs.CommitEnds.{ends_more, ends_here, ends_cases, ends_skip, ends_decided}
-use Rattle.hd_plan.proofs.CommitCarding.{address_fits}
+use Rattle.hd_plan.proofs.Stepping.{address_low}
 use Rattle.hd_plan.proofs.CommitCopying.{get_placed, has_alike}
 
 abbrev Cards : Type 0
@@ -145,7 +145,8 @@ module _ (old h : Heap) (place : Addr
   pub rewriting_step : (new : Heap) → i < length (fields_at (object_at old) x)
       → HasRenamed (get_or (fields_at (object_at h) x) i None) place h new x i
       → AreFieldsRewritten old new place x (i + 1)
-  rewriting_step new within done = rewriting_by (get_or (fields_at (object_at h) x) i None) new within refl done
+  rewriting_step new within done =
+      rewriting_by (get_or (fields_at (object_at h) x) i None) new within refl done
 
   -- all are
   pub rewriting_ends : length (fields_at (object_at old) x) ≤ i → IsRewritten old h place x
@@ -332,8 +333,8 @@ module _ (place : Addr
     carded_less sound = by after found.behind
       where
         by : (o : Option Addr) → is_after o at ≡ true → 2 ^ 32 - next_to (Some at) < 2 ^ 32 - next_to o
-        by None b = (let low = address_fits h at sound carded_there in omega arith)
-        by (Some a) b = (let low = address_fits h at sound carded_there in let up = ltb-true a.0 at.0 b in
+        by None b = (let low = (address_low h sound at carded_there).1 in omega arith)
+        by (Some a) b = (let low = (address_low h sound at carded_there).1 in let up = ltb-true a.0 at.0 b in
             omega arith)
 
 -- the kept objects of the first moves, one after another

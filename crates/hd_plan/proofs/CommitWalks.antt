@@ -1,19 +1,15 @@
 -- Lemmas on walks over a heap, and on what keeps each held region with an object: for tests.
-use Rattle.std.proofs.Common.{◌≡◌, ◌≢◌, ℕ, ◌+◌, ◌<◌, ◌≤◌, inl, inr, ◌⊎◌, Bool, true, false, List, length, get_or, Option, Some, None, refl, sym, ap, ◌∙◌, subst, arith}
-use Rattle.std.specs.Prelude.{is_some, Contains}
-use Rattle.std.proofs.lemmas.Bool.{cases_eq, both_ways, false≢true, ltb-false, false_from_ne_true}
+use Rattle.std.proofs.Common.{◌≡◌, ℕ, ◌<◌, ◌≤◌, inl, inr, ◌⊎◌, Bool, true, false, List, length, get_or, Option, Some, None, sym, ◌∙◌, subst, arith}
+use Rattle.std.specs.Prelude.{Contains}
+use Rattle.std.proofs.lemmas.Bool.{cases_eq, ltb-false, false_from_ne_true}
 use Rattle.std.proofs.lemmas.List.{get_or_default}
-use Rattle.std.specs.FinMap as fin
-use Rattle.std.specs.Ordering.{nat_cmp}
 use Rattle.hd_model.specs.declared.data.Addr.{Addr}
 use Rattle.hd_model.specs.Leads.{IsClosed}
-use Rattle.hd_model.specs.Names.{HasClosedFields}
-use Rattle.hd_model.specs.Scene.{fields_at, IsField}
-use Rattle.hd_model.specs.Heap.{Heap, Basis, objects_of, Region, has_object, object_at, is_held, is_carded, placed_at}
-use Rattle.hd_heap.specs.Calls.{with_object, with_field, with_card, stored, is_after, IsNext}
+use Rattle.hd_model.specs.Scene.{IsField}
+use Rattle.hd_model.specs.Heap.{Heap, Basis, objects_of, has_object, object_at, placed_at}
+use Rattle.hd_heap.specs.Calls.{with_field, with_card, stored, is_after, IsNext}
 use Rattle.hd_heap.proofs.Values.{has_with_object}
-use Rattle.hd_plan.specs.Plan.{HasNoEmptyRegion, StartsInRegion}
-use Rattle.hd_plan.specs.CommitSteps.{NamesYounger}
+use Rattle.hd_plan.specs.Plan.{HasNoEmptyRegion}
 use Rattle.hd_plan.proofs.Addresses.{addr_is}
 
 -- what a walk has come to: this object, or one that it had come to before

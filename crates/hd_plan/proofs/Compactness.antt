@@ -1,7 +1,7 @@
 -- A laid heap of generation 2 is compact: each fresh region but the last two has 193 of its cells taken, and a condemned one is held only
 -- where an object stays in it.
-use Rattle.std.proofs.Common.{◌≡◌, ◌≢◌, ℕ, zero, suc, ◌+◌, ◌-◌, ◌*◌, ◌/◌, ◌<◌, ◌≤◌, ◌⊎◌, inl, inr, ⊎_elim, Bool, true, false, cond, List, [], ◌∷◌, ◌++◌, map, length, slice_index, Option, Some, None, is_some, IsSome, refl, sym, ap, ◌∙◌, subst, arith}
-use Rattle.std.specs.Prelude.{nat_eq, nat_lt, min, unwrap_or, sum_by, Contains, drop}
+use Rattle.std.proofs.Common.{◌≡◌, ◌≢◌, ℕ, zero, suc, ◌+◌, ◌*◌, ◌/◌, ◌<◌, ◌≤◌, ◌⊎◌, inl, inr, ⊎_elim, true, cond, List, [], ◌∷◌, length, slice_index, Some, is_some, refl, sym, ap, ◌∙◌, subst, arith}
+use Rattle.std.specs.Prelude.{nat_eq, min, unwrap_or, sum_by, Contains}
 use Rattle.std.proofs.lemmas.Bool.{cases_eq, cases_Bool, eq-eqb, ne_eqb, le-ltb, leb-true, and_parts}
 use Rattle.std.specs.FinMap as fin
 use Rattle.std.specs.Ordering.{nat_cmp}
@@ -9,8 +9,7 @@ use Rattle.hd_model.specs.declared.data.Addr.{Addr}
 use Rattle.hd_model.specs.Heap.{Heap, Placed, Region, region_of, is_held, has_object, object_at, placed_at, cells_of, used_of}
 use Rattle.hd_model.specs.Ages.{raised}
 use Rattle.hd_model.specs.Scene.{generation_at}
-use Rattle.hd_heap.specs.Calls.{is_condemned}
-use Rattle.hd_model.proofs.Members.{first_in, later_in, member_same}
+use Rattle.hd_model.proofs.Members.{first_in, later_in}
 use Rattle.hd_model.proofs.Counting.{fewer}
 use Rattle.hd_model.proofs.Entries.{counts_keys}
 use Rattle.hd_heap.specs.Sound.{IsSound}
@@ -19,7 +18,7 @@ use Rattle.hd_model.proofs.Sums.{share, sum-remove}
 use Rattle.hd_plan.specs.declared.moves.Way.{Way}
 use Rattle.hd_plan.specs.declared.moves.Way.TheVariants.{Gone, Stays, Opens, Follows}
 use Rattle.hd_plan.specs.declared.moves.Move.{Move}
-use Rattle.hd_plan.specs.Layout.{Room, room_of, has_region, region_in, filled, with_current, put_way, put_move, room_at, Opened, Followed, Fits, FitsMove, move_at, is_moving, is_staying, stays_among, HasStay, AreMoves}
+use Rattle.hd_plan.specs.Layout.{Room, has_region, region_in, filled, put_way, room_at, Opened, Followed, Fits, move_at, is_moving, is_staying, stays_among, HasStay, AreMoves}
 use Rattle.hd_plan.specs.Packing.{IsRoom, IsFresh}
 use Rattle.hd_plan.specs.Compactness.{is_opening, opens_to, cells_to, IsOpenedBy, region_by, regions_of, fill_in, begun, IsSlack}
 

@@ -1,23 +1,21 @@
 -- What is kept by moves, and where it goes: objects alone, all that is older and in place, and no two to one
 -- place.
-use Rattle.std.proofs.Common.{◌≡◌, ◌≢◌, ℕ, zero, suc, ◌+◌, ◌*◌, ◌<◌, ◌≤◌, Bool, true, false, cond, ◌||◌, List, length, Option, Some, None, refl, sym, ap, ◌∙◌, subst, arith, inl, inr, ◌⊎◌, ⊎_elim, min, true≢false}
-use Rattle.std.specs.Prelude.{nat_lt, nat_le, is_some}
-use Rattle.std.proofs.lemmas.Bool.{lt-ltb, le-ltb, ltb-true, cases_eq, cases_order, cases_Bool, cases_lt}
+use Rattle.std.proofs.Common.{◌≡◌, ◌≢◌, ℕ, zero, suc, ◌+◌, ◌<◌, ◌≤◌, Bool, true, false, ◌||◌, List, length, Option, Some, None, refl, sym, ap, ◌∙◌, subst, arith, inl, inr, ◌⊎◌, min, true≢false}
+use Rattle.std.specs.Prelude.{nat_lt, is_some}
+use Rattle.std.proofs.lemmas.Bool.{lt-ltb, le-ltb, ltb-true, cases_eq, cases_order, cases_Bool}
 use Rattle.hd_model.specs.declared.data.Addr.{Addr}
 use Rattle.hd_model.specs.Ages.{raised}
 use Rattle.hd_model.specs.Marking.{IsKeeping}
 use Rattle.hd_model.specs.State.{Object}
-use Rattle.hd_model.specs.Scene.{is_object, generation_at, generation_in, IsCondemned}
-use Rattle.hd_model.specs.Heap.{Heap, region_of, is_held, has_object, object_at, objects_of, placed_at, cells_of}
-use Rattle.hd_heap.specs.Calls.{is_condemned}
+use Rattle.hd_model.specs.Scene.{generation_at, generation_in, IsCondemned}
+use Rattle.hd_model.specs.Heap.{Heap, has_object, object_at, placed_at, cells_of}
 use Rattle.hd_heap.specs.Sound.{IsSound}
 use Rattle.hd_plan.specs.declared.moves.Way.{Way}
 use Rattle.hd_plan.specs.declared.moves.Way.TheVariants.{Gone, Stays, Opens, Follows}
 use Rattle.hd_plan.specs.declared.moves.Move.{Move}
-use Rattle.hd_plan.specs.Layout.{Room, room_at, FitsMove, Fits, move_at, is_moving, is_kept_way, is_staying, find_move, place_by, is_kept_by, AreMoves}
+use Rattle.hd_plan.specs.Layout.{Room, room_at, Fits, move_at, is_moving, is_kept_way, find_move, place_by, is_kept_by, AreMoves}
 use Rattle.hd_plan.specs.Packing.{IsRoom, IsPut, ArePut}
-use Rattle.hd_plan.specs.Plan.{PlanOf, kept_in, place_in, IsLaid}
-use Rattle.hd_plan.proofs.Addresses.{condemned_of, raised_young, older_or_young}
+use Rattle.hd_plan.proofs.Addresses.{condemned_of, raised_young}
 use Rattle.hd_plan.proofs.Finding.{find_at, find_none, find_some, IsFound}
 use Rattle.hd_plan.proofs.Rooms.{room_start, goes, Goes}
 
@@ -27,10 +25,6 @@ either_true false b e = inr e
 
 left_true : (a b : Bool) → a ≡ true → (a || b) ≡ true
 left_true a b e = ap (λ x. x || b) e
-
-right_true : (a b : Bool) → b ≡ true → (a || b) ≡ true
-right_true true b e = refl
-right_true false b e = e
 
 no_generation : (o : Option (Object Addr)) → is_some o ≡ false → generation_in o ≡ 0
 no_generation None e = refl

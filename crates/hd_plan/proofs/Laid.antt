@@ -1,5 +1,5 @@
 -- All that is condemned has a move, and all regions are listed: the plan is laid.
-use Rattle.std.proofs.Common.{◌≡◌, ◌≢◌, ℕ, zero, suc, ◌+◌, ◌-◌, ◌^◌, ◌<◌, ◌≤◌, Bool, true, false, not, cond, ◌&&◌, List, [], ◌∷◌, length, Option, Some, None, refl, sym, ap, ◌∙◌, subst, arith, inl, inr, ◌⊎◌, ⊎_elim, true≢false}
+use Rattle.std.proofs.Common.{◌≡◌, ℕ, zero, suc, ◌+◌, ◌-◌, ◌^◌, ◌<◌, ◌≤◌, Bool, true, false, not, cond, List, [], ◌∷◌, length, Option, Some, None, refl, sym, ap, ◌∙◌, subst, arith, inl, inr, true≢false}
 use Rattle.std.specs.Prelude.{is_some, option_map, count_by}
 use Rattle.hd_model.specs.declared.data.Addr.{Addr}
 use Rattle.hd_model.specs.Ages.{raised}
@@ -7,18 +7,18 @@ use Rattle.hd_model.specs.Counting.{Counts}
 use Rattle.hd_model.specs.Leads.{IsClosed}
 use Rattle.hd_model.specs.Marking.{IsSettled}
 use Rattle.hd_model.specs.Scene.{generation_at, generation_in, IsCondemned, IsField}
-use Rattle.hd_model.specs.Heap.{Heap, Placed, Basis, region_of, region_generation, is_held, has_object, object_at, object_in, objects_of}
+use Rattle.hd_model.specs.Heap.{Heap, Placed, region_of, region_generation, is_held, has_object, object_at, object_in, objects_of}
 use Rattle.hd_heap.specs.Sound.{IsSound}
 use Rattle.hd_plan.specs.declared.moves.Way.{Way}
 use Rattle.hd_plan.specs.declared.moves.Way.TheVariants.{Gone, Stays, Opens, Follows}
 use Rattle.hd_plan.specs.declared.moves.Move.{Move}
 use Rattle.hd_plan.specs.declared.moves.Condemned.{Condemned}
-use Rattle.hd_plan.specs.Layout.{move_at, condemned_at, room_at, is_kept_way, is_moving, is_staying, stays_among, HasStay, IsCondemnedRegion, AreMoves, AreRegions}
+use Rattle.hd_plan.specs.Layout.{move_at, room_at, is_kept_way, is_moving, is_staying, stays_among, AreMoves, AreRegions}
 use Rattle.hd_plan.specs.Laying.{AreChosen, AreListedTo, HasMove, HasRegionRoom, HasCondemned, IsPlan, first_at}
 use Rattle.hd_plan.specs.Table.{place_among}
-use Rattle.hd_plan.specs.Plan.{PlanOf, kept_in, place_in, stays_in, IsLaid, HasNoEmptyCondemned, StartsInRegion}
+use Rattle.hd_plan.specs.Plan.{PlanOf, kept_in, place_in, stays_in, IsLaid, HasNoEmptyCondemned}
 use Rattle.hd_plan.proofs.Addresses.{condemned_is, older_or_young, both_hold, both_true, same_tests}
-use Rattle.hd_plan.proofs.Keeping.{is_condemned_at, kept, place, older_kept, older_place, move_kept, move_place, kept_cases, keeps_objects, keeping, unmoved}
+use Rattle.hd_plan.proofs.Keeping.{is_condemned_at, kept, place, older_kept, older_place, move_kept, move_place, kept_cases, keeping, unmoved}
 use Rattle.hd_plan.proofs.Weights.{counts_moves, stays_counted}
 use Rattle.hd_plan.proofs.Placing.{place_none, place_some}
 use Rattle.hd_model.proofs.Counting.{counts_like}

@@ -1,18 +1,17 @@
 -- The regions of moves are listed one after another.
-use Rattle.std.proofs.Common.{◌≡◌, ◌≢◌, ℕ, zero, suc, ◌+◌, ◌-◌, ◌*◌, ◌/◌, ◌%◌, ◌<◌, ◌≤◌, Bool, true, false, ◌&&◌, ◌||◌, cond, List, [], ◌∷◌, ◌++◌, map, length, set, get_or, refl, sym, ap, ◌∙◌, subst, arith, inl, inr, ◌⊎◌, ⊎_elim, true≢false, length-append, length-set, get_or-set_same, get_or-set_other}
-use Rattle.std.specs.Prelude.{nat_eq, nat_lt, Contains, AllPairs}
-use Rattle.std.proofs.lemmas.Bool.{lt-ltb, le-ltb, ltb-true, eqb-true, eq-eqb, cases_eq, cases_lt, cases_order, cases_Bool}
+use Rattle.std.proofs.Common.{◌≡◌, ◌≢◌, ℕ, suc, ◌+◌, ◌-◌, ◌<◌, ◌≤◌, Bool, true, false, ◌&&◌, ◌||◌, List, [], ◌∷◌, ◌++◌, map, length, set, refl, sym, ap, ◌∙◌, subst, arith, inl, inr, ◌⊎◌, true≢false, length-append, length-set, get_or-set_same, get_or-set_other}
+use Rattle.std.specs.Prelude.{nat_eq, nat_lt, Contains}
+use Rattle.std.proofs.lemmas.Bool.{lt-ltb, ltb-true, eqb-true, eq-eqb, cases_eq, cases_lt, cases_order}
 use Rattle.std.proofs.lemmas.List.{get_or_append_left, get_or_at, get_or-map, length-map, get_or_default}
 use Rattle.hd_model.specs.declared.data.Addr.{Addr}
 use Rattle.hd_model.specs.Counting.{Counts}
 use Rattle.hd_model.specs.Heap.{region_of}
 use Rattle.hd_model.proofs.Counting.{counts_le}
 use Rattle.hd_model.proofs.Members.{mapped_from}
-use Rattle.hd_plan.specs.declared.moves.Way.{Way}
 use Rattle.hd_plan.specs.declared.moves.Move.{Move}
 use Rattle.hd_plan.specs.declared.moves.Condemned.{Condemned}
 use Rattle.hd_plan.specs.Layout.{move_at, condemned_at, is_staying, HasStay, IsRising}
-use Rattle.hd_plan.specs.Laying.{HasMove, HasRegionRoom, AreListedTo, last_of, is_last, IsJoined, IsAdded}
+use Rattle.hd_plan.specs.Laying.{HasMove, AreListedTo, last_of, is_last, IsJoined, IsAdded}
 
 pub region_rises : (a b : Addr) → a.0 ≤ b.0 → region_of a ≤ region_of b
 unfolding region_of
@@ -33,15 +32,6 @@ added_last cs x k e = get_or_at cs x [] _ k (sym e)
 
 pub added_length : (cs : List Condemned) (x : Condemned) → length (cs ++ x ∷ []) ≡ suc (length cs)
 added_length cs x = length-append cs (x ∷ []) ∙ omega arith
-
-pub listed_start : (ms : List Move) → AreListedTo ms [] 0
-listed_start ms = record {
-  named = λ k low. absurd (omega arith);
-  rising = λ j k less low. absurd (omega arith);
-  all = λ j low. absurd (omega arith);
-  pinned = λ k low. absurd (omega arith);
-  stays = λ j k low. absurd (omega arith);
-}
 
 module _ (ms : List Move) (rising : IsRising ms) where
   -- listed regions have different numbers

@@ -1,7 +1,7 @@
 -- The table of new places, as it is filled and read.
-use Rattle.std.proofs.Common.{◌≡◌, ◌≢◌, ℕ, zero, suc, ◌+◌, ◌-◌, ◌*◌, ◌/◌, ◌%◌, ◌^◌, ◌<◌, ◌≤◌, false, List, [], ◌∷◌, ◌++◌, length, set, get_or, Option, Some, None, refl, sym, ap, ◌∙◌, subst, arith, inl, inr, ◌⊎◌, ⊎_elim, length-set, get_or-set_same, get_or-set_other}
+use Rattle.std.proofs.Common.{◌≡◌, ◌≢◌, ℕ, suc, ◌+◌, ◌*◌, ◌/◌, ◌%◌, ◌^◌, ◌<◌, ◌≤◌, false, List, [], ◌∷◌, ◌++◌, length, set, get_or, refl, sym, ap, ◌∙◌, subst, arith, inl, inr, ◌⊎◌, length-set, get_or-set_same, get_or-set_other}
 use Rattle.std.proofs.lemmas.Bool.{cases_eq, cases_lt}
-use Rattle.std.proofs.lemmas.List.{get_or_past, get_or_read_under}
+use Rattle.std.proofs.lemmas.List.{get_or_read_under}
 use Rattle.hd_model.specs.declared.data.Addr.{Addr}
 use Rattle.hd_model.specs.Heap.{region_of}
 use Rattle.hd_plan.specs.declared.moves.Move.{Move}
@@ -37,15 +37,6 @@ place_some firsts cells a k e = ap (λ x. place_from x cells a) e
 pub spot_at : (firsts : List ℕ) (a : Addr) (k : ℕ) → first_at firsts (region_of a) ≡ k + 1
     → spot_of firsts a ≡ spot_in k a
 spot_at firsts a k e = ap (λ x. spot_in x a) (omega (arith, e))
-
-pub places_start : (ms : List Move) (firsts : List ℕ) (cells : List Addr) → ((r : ℕ) → first_at firsts r ≡ 0)
-    → HasPlaces ms [] 0 firsts cells
-places_start ms firsts cells none = record {
-  listed = λ k low. absurd (omega arith);
-  others = λ r some. absurd (some (none r));
-  spots = omega arith;
-  places = λ j k low. absurd (omega arith);
-}
 
 -- room stays room
 pub room_along : (P : ℕ → Type 0) (room cells more wide : ℕ) → HasRegionRoom P room cells → more ≡ room

@@ -1,19 +1,18 @@
 -- The room while objects are put: each way of an object keeps what is true of it.
-use Rattle.std.proofs.Common.{◌≡◌, ◌≢◌, ℕ, zero, suc, ◌+◌, ◌*◌, ◌/◌, ◌^◌, ◌<◌, ◌≤◌, Bool, true, false, cond, List, [], ◌∷◌, length, drop, get_or, Option, Some, None, refl, sym, ap, ◌∙◌, subst, arith, inl, inr, ◌⊎◌, ⊎_elim, length-drop, true≢false}
-use Rattle.std.specs.Prelude.{nat_eq, is_some, unwrap_or, slice_index}
+use Rattle.std.proofs.Common.{◌≡◌, ◌≢◌, ℕ, ◌+◌, ◌*◌, ◌^◌, ◌<◌, ◌≤◌, Bool, true, false, cond, length, Option, Some, refl, sym, ap, ◌∙◌, subst, arith, inl, inr, ◌⊎◌, ⊎_elim, length-drop, true≢false}
+use Rattle.std.specs.Prelude.{is_some, unwrap_or, slice_index}
 use Rattle.std.proofs.lemmas.Bool.{eq-eqb, ne_eqb, cases_eq}
 use Rattle.std.proofs.lemmas.List.{get_or-drop}
 use Rattle.std.specs.Ordering.{nat_cmp}
 use Rattle.std.specs.FinMap as map
 use Rattle.hd_model.specs.declared.data.Addr.{Addr}
-use Rattle.hd_model.specs.Heap.{Heap, Region, region_of, is_held, placed_at, cells_of}
+use Rattle.hd_model.specs.Heap.{Heap, Region, region_of, is_held}
 use Rattle.hd_heap.specs.Sound.{IsSound}
 use Rattle.hd_heap.proofs.Values.{get_same, get_other}
 use Rattle.hd_plan.specs.declared.moves.Way.{Way}
 use Rattle.hd_plan.specs.declared.moves.Way.TheVariants.{Gone, Stays, Opens, Follows}
-use Rattle.hd_plan.specs.declared.moves.Move.{Move}
-use Rattle.hd_plan.specs.Layout.{Room, room_of, room_at, has_region, region_in, filled, with_current, put_way, put_move, Opened, Followed, FitsMove, Fits, move_at, is_moving}
-use Rattle.hd_plan.specs.Packing.{WasSpare, IsFresh, IsRoom, IsPut, ArePut}
+use Rattle.hd_plan.specs.Layout.{Room, room_of, has_region, region_in, filled, put_way, Opened, Followed, Fits, is_moving}
+use Rattle.hd_plan.specs.Packing.{WasSpare, IsFresh, IsRoom, IsPut}
 
 abbrev Regions : Type 0
 Regions = map.FinMap nat_cmp Region

@@ -1,9 +1,9 @@
 -- The seats tell the room while objects are put, and there are spare regions enough.
-use Rattle.std.proofs.Common.{◌≡◌, ◌≢◌, ℕ, zero, suc, ◌+◌, ◌*◌, ◌/◌, ◌^◌, ◌<◌, ◌≤◌, Bool, true, false, cond, List, length, Option, Some, None, refl, sym, ap, ◌∙◌, subst, arith, inl, inr, ◌⊎◌, ⊎_elim, true≢false}
-use Rattle.std.specs.Prelude.{nat_eq, slice_index}
+use Rattle.std.proofs.Common.{◌≡◌, ◌≢◌, ℕ, ◌+◌, ◌*◌, ◌/◌, ◌^◌, ◌<◌, ◌≤◌, cond, length, refl, sym, ap, ◌∙◌, subst, arith, inl, inr, ◌⊎◌, ⊎_elim}
+use Rattle.std.specs.Prelude.{slice_index}
 use Rattle.std.proofs.lemmas.Bool.{eq-eqb, ne_eqb, cases_eq}
 use Rattle.hd_model.specs.declared.data.Addr.{Addr}
-use Rattle.hd_model.specs.Heap.{Heap, Region, region_of, is_held}
+use Rattle.hd_model.specs.Heap.{Heap, Region, region_of}
 use Rattle.hd_heap.specs.Sound.{IsSound}
 use Rattle.hd_plan.specs.declared.moves.Way.{Way}
 use Rattle.hd_plan.specs.declared.moves.Way.TheVariants.{Gone, Stays, Opens, Follows}
@@ -11,7 +11,7 @@ use Rattle.hd_plan.specs.declared.seats.Seat.{Seat}
 use Rattle.hd_plan.specs.declared.seats.Seats.{Seats}
 use Rattle.hd_plan.specs.Layout.{Room, room_of, region_in, has_region, put_way, Fits, Opened, Followed}
 use Rattle.hd_plan.specs.Packing.{IsRoom, IsFresh}
-use Rattle.hd_plan.specs.Laying.{seat_of, with_seat, IsSeat, AreSeats, IsSeated, IsOpening, IsBehind, CanPut, HasSlack, begun}
+use Rattle.hd_plan.specs.Laying.{seat_of, with_seat, IsSeat, AreSeats, IsSeated, CanPut, HasSlack, begun}
 use Rattle.hd_plan.proofs.Rooms.{Puts, opens_puts, follows_puts, put_room, room_start, fresh_below, region_is, region_there, region_same}
 
 begun_none : (s : Seat) → s.region ≡ 0 → begun s ≡ 0

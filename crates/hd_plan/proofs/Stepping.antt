@@ -1,21 +1,19 @@
 -- One object more is laid, and at the end all are.
-use Rattle.std.proofs.Common.{◌≡◌, ◌≢◌, ℕ, zero, suc, ◌+◌, ◌*◌, ◌/◌, ◌^◌, ◌<◌, ◌≤◌, Bool, true, false, ◌&&◌, cond, List, [], ◌∷◌, ◌++◌, length, get_or, Option, Some, None, refl, sym, ap, ◌∙◌, subst, arith, inl, inr, ◌⊎◌, ⊎_elim, true≢false, length-append}
-use Rattle.std.specs.Prelude.{nat_lt, MatchOption, sum_by}
-use Rattle.std.proofs.lemmas.Bool.{lt-ltb, le-ltb, ltb-true, ltb-false, cases_eq, cases_lt, cases_Bool}
+use Rattle.std.proofs.Common.{◌≡◌, ℕ, zero, suc, ◌+◌, ◌^◌, ◌<◌, ◌≤◌, Bool, true, false, ◌&&◌, List, [], ◌∷◌, ◌++◌, length, Option, Some, None, refl, sym, ap, ◌∙◌, subst, arith, inl, inr, ◌⊎◌, true≢false, length-append}
+use Rattle.std.proofs.lemmas.Bool.{le-ltb, ltb-true, ltb-false, cases_eq, cases_Bool}
 use Rattle.std.proofs.lemmas.List.{get_or_append_left, get_or_at}
 use Rattle.std.proofs.lemmas.List.Sums.{sum_by_push}
 use Rattle.hd_model.specs.declared.data.Addr.{Addr}
 use Rattle.hd_model.specs.Scene.{generation_at, IsCondemned}
 use Rattle.hd_model.specs.Heap.{Heap, has_object, object_at, region_of, placed_at, cells_of}
 use Rattle.hd_model.specs.Ages.{raised}
-use Rattle.hd_heap.specs.Calls.{is_condemned, is_after, IsNext, IsWalk}
+use Rattle.hd_heap.specs.Calls.{is_condemned, is_after, IsNext}
 use Rattle.hd_heap.specs.Sound.{IsSound}
-use Rattle.hd_plan.specs.declared.moves.Way.{Way}
 use Rattle.hd_plan.specs.declared.moves.Move.{Move}
 use Rattle.hd_plan.specs.declared.seats.Seats.{Seats}
-use Rattle.hd_plan.specs.Layout.{Room, room_at, room_of, put_move, FitsMove, move_at, is_kept_way, is_staying, IsRising, AreMoves}
-use Rattle.hd_plan.specs.Plan.{Takes, HasSpare}
-use Rattle.hd_plan.specs.Laying.{AreMovesTo, AreChosen, AreSeats, HasSlack, IsMoveOf, IsSeated, CanPut, HasMoveRoom, cells_laid}
+use Rattle.hd_plan.specs.Layout.{Room, room_at, room_of, put_move, FitsMove, move_at, is_kept_way, is_staying}
+use Rattle.hd_plan.specs.Plan.{HasSpare}
+use Rattle.hd_plan.specs.Laying.{AreMovesTo, AreChosen, AreSeats, HasSlack, IsMoveOf, CanPut, HasMoveRoom, cells_laid}
 use Rattle.hd_plan.proofs.Addresses.{condemned_of, addr_is}
 use Rattle.hd_plan.proofs.Keeping.{raised_some, cells_some}
 use Rattle.hd_plan.proofs.Rooms.{region_low, region_high}
@@ -80,6 +78,16 @@ after_past (Some b) at e a reached = let l = ltb-true b.0 at.0 e in let r = ltb-
 reached_upto : (at a : Addr) → a.0 ≤ at.0 → is_after (Some at) a ≡ false
 reached_upto at a le = le-ltb at.0 a.0 le
 
+-- what was reached up to the next is the next itself, or was reached before
+pub reached_cases : (p : Addr → Bool) (after : Option Addr) (at x : Addr) → IsNext p after at → p x ≡ true
+    → is_after (Some at) x ≡ false → (is_after after x ≡ false) ⊎ (x ≡ at)
+reached_cases p after at x next is reached = elim (cases_Bool (is_after after x)) [
+  | inl later ↦
+      inr (addr_is x at (let low = next.least x is later in let up = ltb-false at.0 x.0 reached in
+      omega arith))
+  | inr before ↦ inl before
+]
+
 module _ (h : Heap) (n : ℕ) where
   pub to_start : AreMovesTo h n [] None
   to_start = record {
@@ -137,17 +145,7 @@ module _ (h : Heap) (n : ℕ) where
         (to.fits k low))
         (subst (λ (q : Room). FitsMove h q m) (sym (push_room h ms m (length ms) (omega arith))) fits);
   }
-
   -- where none is left, all that is condemned has a move
-  pub to_end : (ms : List Move) (after : Option Addr) → AreMovesTo h n ms after
-      → ((a : Addr) → is_condemned h n a ≡ true → is_after after a ≡ false) → AreMoves h n ms
-  to_end ms after to none = record {
-    condemned = to.condemned;
-    rising = to.rising;
-    all = λ a is. to.all a is (none a is);
-    generations = to.generations;
-    fits = to.fits;
-  }
 
 -- the choices
 pub chosen_start : (promoted pinned : Addr → Bool) → AreChosen promoted pinned []

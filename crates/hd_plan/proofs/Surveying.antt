@@ -1,23 +1,23 @@
 -- What a walk over all that is condemned counts.
-use Rattle.std.proofs.Common.{◌≡◌, ◌≢◌, ℕ, zero, suc, ◌+◌, ◌*◌, ◌^◌, ◌<◌, ◌≤◌, Bool, true, false, cond, List, [], ◌∷◌, length, Option, Some, None, refl, sym, ap, ◌∙◌, subst, arith, inl, inr, ◌⊎◌, ⊎_elim, true≢false}
-use Rattle.std.specs.Prelude.{sum_by, Contains, AllPairs, IfSome, nat_eq}
-use Rattle.std.proofs.lemmas.Bool.{ltb-true, ltb-false, le-ltb, eq-eqb, ne_eqb, cases_eq, cases_lt, cases_Bool}
+use Rattle.std.proofs.Common.{◌≡◌, ◌≢◌, ℕ, ◌+◌, ◌*◌, ◌<◌, ◌≤◌, true, false, cond, List, ◌∷◌, Option, Some, None, refl, sym, ap, ◌∙◌, subst, arith, inl, inr, ◌⊎◌, ⊎_elim, true≢false}
+use Rattle.std.specs.Prelude.{Contains, IfSome}
+use Rattle.std.proofs.lemmas.Bool.{ltb-true, ltb-false, le-ltb, eq-eqb, ne_eqb, cases_eq, cases_Bool}
 use Rattle.std.proofs.lemmas.List.Sums.{sum_by-cons}
 use Rattle.hd_model.specs.declared.data.Addr.{Addr}
 use Rattle.hd_model.specs.Counting.{Counts}
 use Rattle.hd_model.specs.Scene.{IsCondemned}
 use Rattle.hd_model.specs.Heap.{Heap, object_at, region_of, placed_at, cells_of}
-use Rattle.hd_model.proofs.Members.{not_in_none, first_in, later_in, member_cases, pairs_none, pairs_cons}
-use Rattle.hd_model.proofs.Counting.{counts_like, counts_none}
+use Rattle.hd_model.proofs.Members.{first_in, later_in, member_cases, pairs_cons}
+use Rattle.hd_model.proofs.Counting.{counts_like}
 use Rattle.hd_heap.specs.Calls.{is_condemned, is_after, IsNext}
 use Rattle.hd_heap.specs.Sound.{IsSound}
 use Rattle.hd_plan.specs.declared.survey.Survey.{Survey}
 use Rattle.hd_plan.specs.Plan.{Takes}
-use Rattle.hd_plan.specs.Laying.{HasCondemned, IsSurvey, with_object}
+use Rattle.hd_plan.specs.Laying.{HasCondemned, IsSurvey, counted_also}
 use Rattle.hd_plan.proofs.Addresses.{condemned_of, condemned_is, addr_is}
 use Rattle.hd_plan.proofs.Keeping.{cells_some}
 use Rattle.hd_plan.proofs.Listing.{region_rises}
-use Rattle.hd_plan.proofs.Stepping.{reach_of, reach_on, address_low, after_past}
+use Rattle.hd_plan.proofs.Stepping.{reach_of, reach_on, after_past}
 
 -- a property has one thing more
 pub counts_more : {A : Type 0} (P Q : A → Type 0) (x : A) (c : ℕ) → (P x → ⊥) → Q x → ((y : A) → P y → Q y)
@@ -77,27 +77,6 @@ last_below None at e = omega arith
 last_below (Some b) at e = region_rises b at (let l = ltb-true b.0 at.0 e in omega arith)
 
 module _ (h : Heap) (n : ℕ) where
-  none_passed : (a : Addr) → Passed h n None a → ⊥
-  none_passed a p = true≢false p.1
-
-  pub survey_start : IsSurveyTo h n (record { objects = 0; cells = 0; regions = 0; last = 0 }) None
-  survey_start = record {
-    objects = counts_none (Passed h n None) none_passed;
-    cells = record {
-      members = [];
-      apart = pairs_none (λ x y. x ≢ y);
-      each = λ a h. absurd (not_in_none a h);
-      all = λ a p. absurd (none_passed a p);
-      sum = refl;
-    };
-    regions = counts_none (PassedRegion h n None) (λ r p. none_passed p.0 p.1.0);
-    last = refl;
-    here = tt;
-    small = omega arith;
-    few = omega arith;
-    few_regions = omega arith;
-  }
-
   module _ (sound : IsSound h) (after : Option Addr) (at : Addr) (next : IsNext (is_condemned h n) after at)
     where
       condemned : IsCondemned (object_at h) n at
@@ -155,7 +134,7 @@ module _ (h : Heap) (n : ℕ) where
           (only_region r p)) counts
 
       pub survey_next : (s : Survey) → IsSurveyTo h n s after
-          → IsSurveyTo h n (with_object s (cells_of (placed_at h at)) (region_of at)) (Some at)
+          → IsSurveyTo h n (counted_also s (cells_of (placed_at h at)) (region_of at)) (Some at)
       survey_next s is =
           let small : (0 < cells_of (placed_at h at)) × (cells_of (placed_at h at) ≤ 64) =
           cells_some h n sound at condemned.object in

@@ -1,5 +1,5 @@
 -- How many moves there are, and the cells of their objects, against all that is condemned.
-use Rattle.std.proofs.Common.{◌≡◌, ◌≢◌, ℕ, zero, suc, ◌+◌, ◌*◌, ◌<◌, ◌≤◌, Bool, true, false, cond, List, [], ◌∷◌, ◌++◌, map, length, get_or, refl, sym, ap, ◌∙◌, subst, arith, inl, inr, ◌⊎◌, ⊎_elim, length-append}
+use Rattle.std.proofs.Common.{◌≡◌, ◌≢◌, ℕ, ◌+◌, ◌<◌, ◌≤◌, Bool, true, cond, List, [], ◌∷◌, ◌++◌, map, length, get_or, refl, sym, ap, ◌∙◌, subst, arith, inl, inr, ⊎_elim}
 use Rattle.std.specs.Prelude.{sum_by, count_by, filter, Contains, AllPairs}
 use Rattle.std.proofs.lemmas.Bool.{cases_order}
 use Rattle.std.proofs.lemmas.List.{get_or-map, length-map, get_or_default}
@@ -9,11 +9,10 @@ use Rattle.hd_model.specs.declared.data.Addr.{Addr}
 use Rattle.hd_model.specs.Counting.{Counts}
 use Rattle.hd_model.specs.Scene.{IsCondemned}
 use Rattle.hd_model.specs.Heap.{Heap, object_at, placed_at, cells_of}
-use Rattle.hd_model.proofs.Members.{first_in, later_in, member_cases, member_same, member_at, split_at, pairs_first, pairs_rest, mapped_from, passing_from, passing_in, pairs_passing}
+use Rattle.hd_model.proofs.Members.{first_in, later_in, member_cases, member_same, split_at, pairs_first, pairs_rest, mapped_from, passing_from, passing_in, pairs_passing}
 use Rattle.hd_model.proofs.Counting.{counts_le, counts_named}
-use Rattle.hd_plan.specs.declared.moves.Way.{Way}
 use Rattle.hd_plan.specs.declared.moves.Move.{Move}
-use Rattle.hd_plan.specs.Layout.{move_at, is_staying, is_kept_way, stays_among, IsRising}
+use Rattle.hd_plan.specs.Layout.{move_at, is_staying, stays_among, IsRising}
 use Rattle.hd_plan.specs.Plan.{Takes}
 use Rattle.hd_plan.specs.Laying.{cells_laid}
 

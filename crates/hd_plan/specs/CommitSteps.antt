@@ -21,26 +21,27 @@ pub record HasEnd (way : Way → Bool) (end : Move → Addr) (ms : List Move) (i
   pub goes : way (move_at ms at).way ≡ true
   pub is : end (move_at ms at) ≡ a
 
--- an address to which an object was copied, at which a kept object stands, and from which an object was
--- removed
+-- an address to which an object was copied
 abbrev pub IsCopiedTo : List Move → ℕ → Addr → Type 0
 IsCopiedTo = HasEnd is_moving (λ m. m.to)
 
+-- the new place of a kept object
 abbrev pub IsKeptAt : List Move → ℕ → Addr → Type 0
 IsKeptAt = HasEnd is_kept_way (λ m. m.to)
 
+-- the old place of an object that does not stay
 abbrev pub IsLeft : List Move → ℕ → Addr → Type 0
 IsLeft = HasEnd (λ w. not (is_staying w)) (λ m. m.from)
 
--- set cards stay set; no card changes
+-- a card that is set stays set
 abbrev pub MoreCards : Heap → Heap → Type 0
 MoreCards old h = (c : ℕ) → is_set old c ≡ true → is_set h c ≡ true
 
+-- no card changes
 abbrev pub SameCards : Heap → Heap → Type 0
 SameCards old h = (c : ℕ) → is_set h c ≡ is_set old c
 
--- the moves may be carried out: their objects are there, each has a place in the room, and no two have the
--- same
+-- the moves may be carried out: their objects are there, each has a place, and no two have the same one
 pub record CanCopy (h : Heap) (ms : List Move) : Type 0 where
   pub sound : IsSound h
   pub objects : (k : ℕ) → k < length ms → has_object h (move_at ms k).from ≡ true
@@ -53,15 +54,14 @@ abbrev pub MayGo : Way → Heap → Move → Type 0
 MayGo Gone h m = Unit {0}
 MayGo Stays h m = Unit {0}
 MayGo Opens h m =
-    (has_object h m.from ≡ true) × (m.generation ≤ 2) × (cells_of (placed_at h m.from) ≤ 256) ×
-    (0 < length h.spare)
-    × (m.to.0 ≡ slice_index h.spare 0 * 256)
+    (has_object h m.from ≡ true) × (m.generation ≤ 2) × (cells_of (placed_at h m.from) ≤ 256)
+    × (0 < length h.spare) × (m.to.0 ≡ slice_index h.spare 0 * 256)
 MayGo Follows h m =
     (has_object h m.from ≡ true) × (is_held h (region_of m.to) ≡ true)
     × (m.to.0 ≡ region_of m.to * 256 + (region_at h (region_of m.to)).fill)
     × ((region_at h (region_of m.to)).fill + cells_of (placed_at h m.from) ≤ 256)
 
--- it is copied, and its place was free
+-- it is copied if it moves, into a fresh region where it opens one
 abbrev pub HasGone : Way → Heap → Heap → Move → Type 0
 HasGone Gone old h m = h ≡ old
 HasGone Stays old h m = h ≡ old
@@ -94,8 +94,8 @@ pub record IsRewritten (old h : Heap) (place : Addr → Addr) (x : Addr) : Type 
 -- the first i fields of one object are rewritten
 pub record AreFieldsRewritten (old h : Heap) (place : Addr → Addr) (x : Addr) (i : ℕ) : Type 0 where
   pub fields : List (Option Addr)
-  pub object : h ≡ record
-      (with_object old x (record (placed_at old x) { fields = fields })) { cards = h.cards }
+  pub object : h
+      ≡ record (with_object old x (record (placed_at old x) { fields = fields })) { cards = h.cards }
   pub number : length fields ≡ length (placed_at old x).fields
   pub below : (j : ℕ) → j < i
       → slice_index_or fields j None ≡ option_map place (slice_index_or (placed_at old x).fields j None)
@@ -195,11 +195,12 @@ abbrev pub left_from : Option Addr → ℕ
 left_from None = 0
 left_from (Some a) = 2 ^ 32 - a.0
 
--- the objects of a card that stand before a place need no card, all of them where there is no place
+-- an address before a place; each is before the end, where there is none
 abbrev pub IsBefore : Option Addr → Addr → Type 0
 IsBefore None b = Unit {0}
 IsBefore (Some a) b = b.0 < a.0
 
+-- no object of a card that stands before a place has a field to a younger one
 pub record AreUnneeding (h : Heap) (card : ℕ) (place : Option Addr) : Type 0 where
   pub here : (a : Addr) → place ≡ Some a → starts_in h card a ≡ true
   pub before : (b : Addr) → starts_in h card b ≡ true → IsBefore place b → NamesYounger h b → ⊥

@@ -1,5 +1,5 @@
 -- How a plan is taken and laid, object by object.
-use Rattle.std.specs.Prelude.{◌≡◌, ◌≢◌, ℕ, ◌+◌, ◌*◌, ◌^◌, ◌/◌, ◌%◌, ◌<◌, ◌≤◌, ◌⊎◌, ◌-◌, ◌&&◌, ◌||◌, ◌++◌, Bool, true, false, not, cond, nat_eq, nat_lt, slice_set, List, [], ◌∷◌, length, Option, Some, None, IfSome, slice_index, slice_index_or, sum_by, Contains, AllPairs}
+use Rattle.std.specs.Prelude.{◌≡◌, ◌≢◌, ℕ, ◌+◌, ◌*◌, ◌^◌, ◌%◌, ◌<◌, ◌≤◌, ◌⊎◌, ◌-◌, ◌&&◌, ◌||◌, ◌++◌, Bool, true, false, cond, nat_eq, nat_lt, slice_set, List, [], ◌∷◌, length, Option, slice_index, slice_index_or, sum_by}
 use Rattle.hd_model.specs.declared.data.Addr.{Addr}
 use Rattle.hd_model.specs.Ages.{raised}
 use Rattle.hd_model.specs.Counting.{Counts}
@@ -31,8 +31,8 @@ pub record IsSurvey (h : Heap) (n : ℕ) (s : Survey) : Type 0 where
   pub small : s.cells ≤ 64 * s.objects
 
 -- what was found with one object more, of so many cells, in the last region or in a later one
-abbrev pub with_object : Survey → ℕ → ℕ → Survey
-with_object s cells region = record {
+abbrev pub counted_also : Survey → ℕ → ℕ → Survey
+counted_also s cells region = record {
   objects = s.objects + 1;
   cells = s.cells + cells;
   regions = s.regions + cond (nat_eq region s.last) 0 1;
@@ -66,8 +66,7 @@ abbrev pub cell_at : List Addr → ℕ → Addr
 cell_at cells i = slice_index_or cells i (record { 0 = 0 })
 
 -- the table of new places: each listed region has 256 cells, the k-th from 256 k on, and in the cell of an
--- object that moves or stays is
--- its new place
+-- object of the first i moves is its place
 pub record HasPlaces (ms : List Move) (cs : List Condemned) (i : ℕ) (firsts : List ℕ)
     (cells : List Addr) : Type 0 where
   pub listed : (k : ℕ) → k < length cs → first_at firsts (condemned_at cs k).region ≡ k + 1
@@ -79,8 +78,7 @@ pub record HasPlaces (ms : List Move) (cs : List Condemned) (i : ℕ) (firsts : 
 
 -- what a plan's parts keep: room for all that is condemned, and the table of new places
 pub record IsPlan (b : Basis) (ms : List Move) (cs : List Condemned) (room_ms room_cs : ℕ) (firsts : List ℕ)
-    (cells : List Addr)
-    : Type 0 where
+    (cells : List Addr) : Type 0 where
   pub moves : HasMoveRoom (objects_of b) b.condemned room_ms
   pub regions : HasRegionRoom (HasCondemned (objects_of b) b.condemned) room_cs (length cells)
   pub span : (a : Addr) → IsCondemned (objects_of b) b.condemned a → region_of a < length firsts

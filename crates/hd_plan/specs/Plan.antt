@@ -1,11 +1,11 @@
 -- The value of a plan, what it keeps and where, and what a laid one tells.
-use Rattle.std.specs.Prelude.{◌≡◌, ℕ, ◌+◌, ◌/◌, ◌^◌, ◌<◌, ◌≤◌, ◌||◌, Bool, true, false, List, [], length, nat_lt, sum_by, map, AllPairs, Contains, ◌≢◌, refl}
+use Rattle.std.specs.Prelude.{◌≡◌, ℕ, ◌+◌, ◌/◌, ◌^◌, ◌<◌, ◌≤◌, ◌||◌, Bool, true, List, [], length, nat_lt, sum_by, AllPairs, Contains, ◌≢◌, refl}
 use Rattle.std.specs.Coded.{Coded, code_by, coded×, coded_list}
 use Rattle.hd_model.specs.declared.data.Addr.{Addr}
 use Rattle.hd_model.specs.Code.{basis_code}
 use Rattle.hd_model.specs.Leads.{IsClosed}
 use Rattle.hd_model.specs.Marking.{IsKeeping}
-use Rattle.hd_model.specs.Scene.{is_object, generation_at, IsField, IsCondemned}
+use Rattle.hd_model.specs.Scene.{generation_at, IsField, IsCondemned}
 use Rattle.hd_model.specs.Heap.{Heap, Basis, objects_of, object_at, placed_at, cells_of, is_held, region_of, has_object}
 use Rattle.hd_heap.specs.Sound.{IsSound}
 use Rattle.hd_plan.specs.declared.moves.Move.{Move}

@@ -1,8 +1,9 @@
 // The objects that move are copied to their new places.
-ghost use Rattle.std.specs.Prelude.{◌≡◌, ◌/◌, length};
+ghost use Rattle.std.specs.Prelude.{◌≡◌, length};
 ghost use Rattle.hd_plan.specs.CommitSteps.{CanCopy, AreCopied, MayGo, HasGone};
 
 use crate::moves::{Move, Way};
+use crate::places::region_number;
 use hd_heap::Heap;
 
 /// Copies each object that moves to its new place. It stands twice from then on.
@@ -28,7 +29,7 @@ fn copy_move(heap: &mut Heap, object: Move)
             heap.copy_into(object.from, region);
         }
         Way::Follows => {
-            heap.copy_into(object.from, object.to.0 / 256);
+            heap.copy_into(object.from, region_number(object.to));
         }
     }
 }

@@ -1,4 +1,4 @@
-ghost use Rattle.std.specs.Prelude.{◌≡◌, ◌^◌, ◌<◌, ◌≤◌, true, false, length, count_by, IfOk};
+ghost use Rattle.std.specs.Prelude.{◌≡◌, ◌^◌, ◌<◌, ◌≤◌, true, false, length, take, count_by, IfOk};
 ghost use Rattle.hd_model.specs.Counting.{Counts};
 ghost use Rattle.hd_model.specs.Scene.{is_object, IsCondemned};
 ghost use Rattle.hd_model.specs.Heap.{objects_of};
@@ -59,6 +59,7 @@ impl Plan {
     pub fn take(alloc: Global, heap: &mut Heap, n: u8) -> Result<Plan, Memory>
         requires generation { n ≤ 2 }
         ensures same { heap.new ≡ record heap.old { spare = heap.new.spare } }
+        ensures spare { take (length heap.old.spare) heap.new.spare ≡ heap.old.spare }
         ensures taken { IfOk result (λ plan. IsTakenPlan plan) }
         ensures basis { IfOk result (λ plan. plan.basis ≡ record {
           heap = heap.new;

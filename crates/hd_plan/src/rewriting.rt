@@ -48,10 +48,10 @@ fn rewrite_field<F: Forward>(heap: &mut Heap, forward: &F, at: Addr, i: u32)
 /// object. No card changes.
 pub(crate) fn rewrite_carded<F: Forward>(heap: &mut Heap, forward: &F, n: u8)
     requires laid { F.laid forward.now }
-    requires kept { (x y : Addr) → is_old_carded heap.old n x ≡ true → IsField (object_at heap.old) x y
-        → F.kept forward.now y ≡ true }
-    requires there { (x y : Addr) → is_old_carded heap.old n x ≡ true → IsField (object_at heap.old) x y
-        → has_object heap.old (F.place forward.now y) ≡ true }
+    requires kept { (x y : Addr) → is_old_carded heap.old n x ≡ true
+        → IsField (object_at heap.old) x y → F.kept forward.now y ≡ true }
+    requires there { (x y : Addr) → is_old_carded heap.old n x ≡ true
+        → IsField (object_at heap.old) x y → has_object heap.old (F.place forward.now y) ≡ true }
     ensures objects { AreRewritten (λ a. is_old_carded heap.old n a ≡ true) (F.place forward.now)
         heap.old heap.new }
     ensures cards { SameCards heap.old heap.new }
@@ -69,7 +69,8 @@ pub(crate) fn rewrite_kept<F: Forward>(heap: &mut Heap, forward: &F, moves: &[Mo
     requires objects { (a : Addr) → IsKeptAt moves.now (length moves.now) a
         → has_object heap.old a ≡ true }
     requires apart { (j k : ℕ) → j < k → k < length moves.now
-        → is_kept_way (move_at moves.now j).way ≡ true → is_kept_way (move_at moves.now k).way ≡ true
+        → is_kept_way (move_at moves.now j).way ≡ true
+        → is_kept_way (move_at moves.now k).way ≡ true
         → (move_at moves.now j).to.0 ≢ (move_at moves.now k).to.0 }
     requires kept { (x y : Addr) → IsKeptAt moves.now (length moves.now) x
         → IsField (object_at heap.old) x y → F.kept forward.now y ≡ true }

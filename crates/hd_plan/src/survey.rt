@@ -1,5 +1,5 @@
 ghost use Rattle.std.specs.Prelude.{◌≡◌, ◌+◌, ◌^◌, ◌<◌, ◌≤◌};
-ghost use Rattle.hd_plan.specs.Laying.{IsSurvey, with_object};
+ghost use Rattle.hd_plan.specs.Laying.{IsSurvey, counted_also};
 
 use crate::places::region_number;
 use hd_heap::Heap;
@@ -24,7 +24,7 @@ impl Survey {
         requires objects { self.old.objects + 1 < 2 ^ 32 }
         requires regions { self.old.regions ≤ self.old.objects }
         requires cells { self.old.cells + cells < 2 ^ 64 }
-        ensures { self.new ≡ with_object self.old cells region }
+        ensures { self.new ≡ counted_also self.old cells region }
     {
         self.objects += 1;
         self.cells += u64::from(cells);

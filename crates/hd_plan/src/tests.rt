@@ -1,10 +1,11 @@
-ghost use Rattle.std.specs.Prelude.{◌≡◌, ◌<◌, ◌≤◌, true, IfOk};
+ghost use Rattle.std.specs.Prelude.{◌≡◌, ◌≤◌, true, IfOk};
 ghost use Rattle.hd_model.specs.Heap.{has_object, object_at};
 ghost use Rattle.hd_model.specs.Scene.{IsField};
 ghost use Rattle.hd_mark.specs.Marks.{IsSettledMarks};
-ghost use Rattle.hd_plan.specs.Plan.{HasNoEmptyRegion};
+ghost use Rattle.hd_plan.specs.Plan.{IsTakenPlan, IsLaid, HasNoEmptyRegion};
 
 use super::*;
+use crate::places::region_number;
 use hd_heap::Heap;
 use hd_mark::Marks;
 use hd_model::{Addr, Forward, Id, Marker, Memory};
@@ -67,6 +68,13 @@ fn is_bare(heap: &Heap) -> bool
     true
 }
 
+// All fields are null.
+fn assert_bare(rt: &impl Abort, heap: &Heap)
+    ensures { (x y : Addr) → IsField (object_at heap.now) x y → ⊥ }
+{
+    assert!(rt; is_bare(heap));
+}
+
 // Makes an object.
 pub(crate) fn add(rt: &impl Abort, heap: &mut Heap, id: u64, cells: u32)
     requires full { HasNoEmptyRegion heap.old }
@@ -75,8 +83,9 @@ pub(crate) fn add(rt: &impl Abort, heap: &mut Heap, id: u64, cells: u32)
     assert!(rt; id > 0);
     assert!(rt; cells > 2);
     assert!(rt; cells < 65);
-    let made = heap.new_object(Id(id), cells - 3, false);
-    assert!(rt; made.is_ok());
+    let Ok(_) = heap.new_object(Id(id), cells - 3, false) else {
+        panic!(rt; "no room");
+    };
 }
 
 // Gives the region of an object another generation.
@@ -86,8 +95,18 @@ pub(crate) fn raise(rt: &impl Abort, heap: &mut Heap, at: Addr, generation: u8)
 {
     assert!(rt; generation < 3);
     assert!(rt; stands(heap, at));
+    give(heap, at, generation);
+}
+
+// The same, of an object that is there.
+fn give(heap: &mut Heap, at: Addr, generation: u8)
+    requires object { has_object heap.old at ≡ true }
+    requires generation { generation ≤ 2 }
+    requires full { HasNoEmptyRegion heap.old }
+    ensures full { HasNoEmptyRegion heap.new }
+{
     let _ = heap.regions();
-    heap.set_generation(at.0 / 256, generation);
+    heap.set_generation(region_number(at), generation);
 }
 
 // The heap of a case.
@@ -95,9 +114,8 @@ fn heap_of(rt: &impl Abort, alloc: Global, case: &Case) -> Result<Heap, Memory>
     ensures full { IfOk result HasNoEmptyRegion }
 {
     let mut heap = Heap::open(alloc, 10_000)?;
-    let mut id = 0;
     for cells in case.cells {
-        id += 1;
+        let id = u64::from(heap.count()) + 1;
         add(rt, &mut heap, id, *cells);
     }
     for (at, generation) in case.raised {
@@ -112,8 +130,14 @@ fn marks_of<'h>(
     alloc: Global,
     heap: &'h Heap,
     case: &Case,
-) -> Result<Marks<'h>, Memory> {
-    assert!(rt; is_bare(heap));
+) -> Result<Marks<'h>, Memory>
+    requires bare { (x y : Addr) → IsField (object_at heap.now) x y → ⊥ }
+    ensures settled { IfOk result IsSettledMarks }
+    ensures basis { IfOk result (λ m. m.basis ≡ record {
+      heap = heap.now;
+      condemned = case.now.condemned;
+    }) }
+{
     let mut marks = Marks::start(alloc, heap, case.condemned)?;
     for (at, _) in case.moved {
         assert!(rt; stands(heap, Addr(*at)));
@@ -126,19 +150,40 @@ fn marks_of<'h>(
     Ok(marks)
 }
 
-// Lays a case, and looks at what comes of it.
+// Lays the plan of a case, and looks at the places that it gives.
+fn lay(
+    rt: &impl Abort,
+    alloc: Global,
+    heap: &Heap,
+    plan: &mut Plan,
+    case: &Case,
+) -> Result<(), Memory>
+    requires taken { IsTakenPlan plan.old }
+    requires basis { plan.old.basis ≡ record {
+      heap = heap.now;
+      condemned = case.now.condemned;
+    } }
+    requires bare { (x y : Addr) → IsField (object_at heap.now) x y → ⊥ }
+    requires full { HasNoEmptyRegion heap.now }
+    ensures laid { IfOk result (λ _. IsLaid plan.new) }
+{
+    let marks = marks_of(rt, alloc, heap, case)?;
+    plan.lay(heap, &marks);
+    for (from, to) in case.moved {
+        assert!(rt; stands(heap, Addr(*from)));
+        assert!(rt; marks.promoted(Addr(*from)));
+        assert!(rt; plan.moved(Addr(*from)) == Addr(*to), "{from} to {to}");
+    }
+    Ok(())
+}
+
+// Lays a case, and counts.
 fn lays(rt: &impl Abort, alloc: Global, case: &Case) -> Result<(), Memory> {
     let mut heap = heap_of(rt, alloc, case)?;
     assert!(rt; case.condemned < 3);
     let mut plan = Plan::take(alloc, &mut heap, case.condemned)?;
-    assert!(rt; is_bare(&heap));
-    let marks = marks_of(rt, alloc, &heap, case)?;
-    plan.lay(&heap, &marks);
-    for (from, to) in case.moved {
-        assert!(rt; stands(&heap, Addr(*from)));
-        assert!(rt; marks.promoted(Addr(*from)));
-        assert!(rt; plan.moved(Addr(*from)) == Addr(*to), "{from} to {to}");
-    }
+    assert_bare(rt, &heap);
+    lay(rt, alloc, &heap, &mut plan, case)?;
     assert!(rt; plan.kept() == case.kept);
     assert!(rt; plan.removed() == case.removed);
     Ok(())

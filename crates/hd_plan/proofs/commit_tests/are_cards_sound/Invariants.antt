@@ -1,7 +1,6 @@
-use Rattle.std.proofs.Common.{◌≡◌, ◌<◌, ◌-◌, ◌^◌, false, true}
+use Rattle.std.proofs.Common.{◌≡◌, ◌-◌, ◌^◌, false, true}
 use Rattle.hd_model.specs.declared.data.Addr.{Addr}
-use Rattle.hd_model.specs.Heap.{has_object, object_at, is_carded}
-use Rattle.hd_model.specs.Scene.{generation_at, IsField}
+use Rattle.hd_model.specs.Heap.{has_object, is_carded}
 use Rattle.hd_heap.specs.Calls.{is_after}
 use Rattle.hd_plan.specs.CommitSteps.{NamesYounger}
 use Rattle.hd_plan.proofs.Stepping.{reach_of}

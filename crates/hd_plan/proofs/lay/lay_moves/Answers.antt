@@ -1,8 +1,7 @@
-use Rattle.std.proofs.Common.{◌≡◌, ◌∷◌, ◌++◌, [], ◌<◌, ◌≤◌, List, length, Some, None, refl, sym, ◌∙◌, subst, vec_capacity, arith}
+use Rattle.std.proofs.Common.{◌∷◌, ◌++◌, [], ◌≤◌, List, length, Some, None, refl, sym, ◌∙◌, subst, vec_capacity, arith}
 use Rattle.hd_plan.specs.declared.moves.Move.{Move}
 use Rattle.hd_plan.specs.declared.seats.Seats.{Seats}
-use Rattle.hd_plan.proofs.Stepping.{IsLaying, laying_start, laying_next, may_put, one_more, to_end, push_length, address_low, reach_on}
-use Rattle.hd_plan.proofs.Addresses.{condemned_of}
+use Rattle.hd_plan.proofs.Stepping.{IsLaying, laying_start, laying_next, may_put, one_more, push_length}
 use Rattle.hd_plan.proofs.lay.lay_moves.Goals as goal
 
 pub walk-init : goal.walk-init

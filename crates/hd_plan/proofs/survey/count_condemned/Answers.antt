@@ -1,8 +1,8 @@
-use Rattle.std.proofs.Common.{◌≡◌, ◌+◌, ◌≤◌, ℕ, Some, length, refl, sym, ap, ◌∙◌, subst, arith}
-use Rattle.hd_model.specs.Heap.{region_of, placed_at, cells_of}
+use Rattle.std.proofs.Common.{◌≡◌, ◌+◌, Some, length, sym, ap, ◌∙◌, subst, arith}
+use Rattle.hd_model.specs.Heap.{placed_at, cells_of}
 use Rattle.hd_heap.proofs.Values.{fields_placed}
 use Rattle.hd_plan.specs.declared.survey.Survey.{Survey}
-use Rattle.hd_plan.specs.Laying.{with_object}
+use Rattle.hd_plan.specs.Laying.{counted_also}
 use Rattle.hd_plan.proofs.Addresses.{condemned_of}
 use Rattle.hd_plan.proofs.Stepping.{address_low}
 use Rattle.hd_plan.proofs.Surveying.{IsSurveyTo, survey_next, survey_end}
@@ -17,7 +17,7 @@ walk-preserved c =
     record {
       found =
           subst (λ (s : Survey). IsSurveyTo h c.args.n s (Some c.in-Some.at))
-          (sym (c.add.ensures ∙ (λ i. with_object c.walk.found (cells i) (c.region_number.ensures i))))
+          (sym (c.add.ensures ∙ (λ i. counted_also c.walk.found (cells i) (c.region_number.ensures i))))
           (survey_next h c.args.n c.in-Some.ensures.sound c.walk.after c.in-Some.at c.in-Some.ensures.walk
           c.walk.found c.walk.invariant.found);
       low = let low = (address_low h c.in-Some.ensures.sound c.in-Some.at object).1 in omega arith;

@@ -8,7 +8,8 @@ use Rattle.hd_plan.proofs.tests.is_bare.Given as goal
 
 abbrev pub invariant-loop-at : goal.invariant-loop-at
 invariant-loop-at l =
-    (x y : Addr) → has_object l.heap x ≡ true → is_after l.after x ≡ false → IsField (object_at l.heap) x y → ⊥
+    (x y : Addr) → has_object l.heap x ≡ true → is_after l.after x ≡ false → IsField (object_at l.heap) x y
+    → ⊥
 
 abbrev pub decreases-loop-at : goal.decreases-loop-at
 decreases-loop-at l = 2 ^ 32 - reach_of l.after

@@ -1,4 +1,4 @@
-use Rattle.std.proofs.Common.{◌≡◌, ◌<◌, ℕ, Some, None}
+use Rattle.std.proofs.Common.{◌≡◌, ◌<◌, ℕ, None}
 use Rattle.std.specs.Prelude.{slice_index_or}
 use Rattle.hd_model.specs.Heap.{object_at}
 use Rattle.hd_model.specs.Scene.{fields_at}

@@ -1,4 +1,4 @@
-use Rattle.std.proofs.Common.{◌≡◌, sym, subst}
+use Rattle.std.proofs.Common.{sym, subst}
 use Rattle.hd_model.specs.Heap.{Heap}
 use Rattle.hd_plan.specs.Laying.{IsSurvey}
 use Rattle.hd_plan.proofs.Surveying.{survey_spare}

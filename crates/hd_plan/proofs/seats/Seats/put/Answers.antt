@@ -1,5 +1,4 @@
-use Rattle.std.proofs.Common.{◌≡◌, ℕ, ◌+◌, ◌*◌, ◌^◌, ◌<◌, ◌≤◌, ap, arith}
-use Rattle.hd_plan.specs.Laying.{seat_of}
+use Rattle.std.proofs.Common.{ℕ, ap, arith}
 use Rattle.hd_plan.proofs.Seating.{seat_bounds}
 use Rattle.hd_plan.proofs.seats.Seats.put.Goals as goal
 

@@ -1,0 +1,12 @@
+use Rattle.std.proofs.Common.{sym, subst}
+use Rattle.hd_model.specs.Heap.{Basis, objects_of}
+use Rattle.hd_model.specs.Leads.{IsClosed}
+use Rattle.hd_model.specs.Scene.{IsField}
+use Rattle.hd_mark.specs.Marks.{promoted_in}
+use Rattle.hd_plan.proofs.tests.lay.Goals as goal
+
+pub lay-requires-clause-closed : goal.lay-requires-clause-closed
+lay-requires-clause-closed g c =
+    subst (λ (b : Basis). IsClosed (IsField (objects_of b)) (promoted_in c.in_ok-marks.marks))
+    (sym c.requires.basis)
+    (λ x y is field. absurd (c.requires.bare x y field))

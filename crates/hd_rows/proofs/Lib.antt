@@ -1,0 +1,5 @@
+pub mod Settling
+pub mod Walks
+pub mod Handles
+pub mod Readiness
+pub mod Made

@@ -1,0 +1,68 @@
+-- No held region is empty at first, nor after an object is made.
+use Rattle.std.proofs.Common.{◌≡◌, ℕ, ◌+◌, ◌*◌, Bool, true, Option, Some, None, is_some, nat_cmp, refl, sym, ap, ◌∙◌, subst, inl, inr}
+use Rattle.std.specs.Prelude.{option_map}
+use Rattle.std.specs.FinMap as map
+use Rattle.std.proofs.lemmas.Bool.{cases_eq, false≢true}
+use Rattle.hd_model.specs.declared.data.Addr.{Addr}
+use Rattle.hd_model.specs.Heap.{Heap, Placed, Region, has_object, object_in, region_at, region_of, region_generation, is_held, cells_of}
+use Rattle.hd_model.proofs.Written.{get_inserted, get_beside}
+use Rattle.hd_heap.specs.Calls.{empty_heap, with_put, IsMade}
+use Rattle.hd_plan.specs.Plan.{HasNoEmptyRegion, StartsInRegion}
+
+pub full_empty : (h : Heap) (limit : ℕ) → h ≡ empty_heap limit → HasNoEmptyRegion h
+full_empty h limit e r held =
+    absurd (false≢true (sym (ap is_some (map.get-empty {X = Region} nat_cmp r))
+    ∙ subst (λ (g : Heap). is_held g r ≡ true) e held))
+
+-- whether something stands does not depend on its generation
+stands_in : (g : ℕ) (o : Option Placed) → is_some (option_map (object_in g) o) ≡ is_some o
+stands_in g None = refl
+stands_in g (Some p) = refl
+
+module _ (old new : Heap) (at : Addr) (o : Placed) (m : IsMade old new at o)
+    (full : HasNoEmptyRegion old) where
+  abbrev Key : ℕ
+  Key = region_of at * 256 + (region_at old (region_of at)).fill
+
+  objects_are : new.objects ≡ map.insert old.objects Key o
+  objects_are = ap (λ (h : Heap). h.objects) m.made
+
+  abbrev Held : Region
+  Held = record { generation = 0; fill = (region_at old (region_of at)).fill + cells_of o }
+
+  regions_are : new.regions ≡ map.insert old.regions (region_of at) Held
+  regions_are = ap (λ (h : Heap). h.regions) m.made
+
+  stands_now : (a : Addr) → is_some (map.get new.objects a.0) ≡ true → has_object new a ≡ true
+  stands_now a e = stands_in (region_generation new (region_of a)) (map.get new.objects a.0) ∙ e
+
+  made_stands : has_object new at ≡ true
+  made_stands =
+      stands_now at
+      (ap (λ k. is_some (map.get new.objects k)) m.place
+      ∙ ap (λ (os : map.FinMap nat_cmp Placed). is_some (map.get os Key)) objects_are
+      ∙ ap is_some (get_inserted old.objects Key o))
+
+  still_stands : (a : Addr) → has_object old a ≡ true → has_object new a ≡ true
+  still_stands a e =
+      let was : is_some (map.get old.objects a.0) ≡ true =
+      sym (stands_in (region_generation old (region_of a)) (map.get old.objects a.0)) ∙ e in
+      stands_now a
+      (ap (λ (os : map.FinMap nat_cmp Placed). is_some (map.get os a.0)) objects_are
+      ∙ elim (cases_eq a.0 Key) [
+        | inl same ↦ ap (λ k. is_some (map.get (map.insert old.objects Key o) k)) same
+            ∙ ap is_some (get_inserted old.objects Key o)
+        | inr other ↦ ap is_some (get_beside old.objects Key o a.0 other) ∙ was
+      ])
+
+  pub full_made : HasNoEmptyRegion new
+  full_made r held =
+      elim (cases_eq r (region_of at)) [
+        | inl same ↦ record { at = at; object = made_stands; region = sym same }
+        | inr other ↦
+            let was : is_held old r ≡ true =
+            sym (ap is_some (get_beside old.regions (region_of at) Held r other))
+            ∙ sym (ap (λ (rs : map.FinMap nat_cmp Region). is_some (map.get rs r)) regions_are) ∙ held in
+            let start : StartsInRegion old r = full r was in
+            record { at = start.at; object = still_stands start.at start.object; region = start.region }
+      ]

@@ -1,0 +1,187 @@
+ghost use Rattle.std.specs.Prelude.{◌≡◌, ◌<◌, length};
+ghost use Rattle.hd_model.specs.Marking.{IsSettled};
+ghost use Rattle.hd_model.specs.Heap.{objects_of};
+ghost use Rattle.hd_rows.specs.Toy.{toy_basis, is_in};
+
+use crate::table::{block, is_young, lower, names_objects, put};
+use crate::toy::Toy;
+use hd_ages::AgeMap;
+use hd_dep::{clear, rescan};
+use hd_model::{Addr, Kind, Slot, Steps, Strength};
+use hd_scan::{Task, pass};
+use hd_seg::{Extra, Row, Seg};
+use std::alloc::Global;
+use std::marker::Brand;
+use std::process::Abort;
+use std::sync::ledger::{Blank, Ledger};
+use std::test::Fail;
+
+/// What a pass of a task answers.
+fn passed_by<L: Ledger>(
+    rt: &impl Abort,
+    seg: &mut Seg,
+    ages: &AgeMap,
+    toy: &mut Toy,
+    task: Task,
+    blank: Blank,
+) -> u32
+    requires blank { (L.name ≡ blank.name) × (L.parts ≡ blank.parts) × (0 < blank.parts) }
+    requires blocks { seg.old.blocks ≡ 12 }
+    requires ages { length ages.now ≡ 48 }
+    ensures { seg.new.blocks ≡ 12 }
+{
+    let mut steps = Steps::<L>::open(blank);
+    assert!(rt; names_objects(seg, toy));
+    let n = toy.generation();
+    pass(seg, ages, task, toy, n, &mut steps)
+}
+
+/// The same, with a counter that nothing reads.
+fn passed(rt: &impl Abort, seg: &mut Seg, ages: &AgeMap, toy: &mut Toy, task: Task) -> u32
+    requires blocks { seg.old.blocks ≡ 12 }
+    requires ages { length ages.now ≡ 48 }
+    ensures { seg.new.blocks ≡ 12 }
+{
+    passed_by::<Brand>(rt, seg, ages, toy, task, Blank::new(1))
+}
+
+/// Promotes what the dependent handles say, and then clears them. The answer is the number of those
+/// that were cleared.
+fn followed_by<L: Ledger>(
+    rt: &impl Abort,
+    seg: &mut Seg,
+    ages: &AgeMap,
+    toy: &mut Toy,
+    blank: Blank,
+) -> u32
+    requires blank { (L.name ≡ blank.name) × (L.parts ≡ blank.parts) × (0 < blank.parts) }
+    requires blocks { seg.old.blocks ≡ 12 }
+    requires ages { length ages.now ≡ 48 }
+    ensures { seg.new.blocks ≡ 12 }
+{
+    let mut steps = Steps::<L>::open(blank);
+    assert!(rt; names_objects(seg, toy));
+    assert!(rt; is_young(ages));
+    let n = toy.generation();
+    rescan(seg, ages, toy, n, &mut steps);
+    clear(seg, ages, toy, n, &mut steps)
+}
+
+/// The same, with a counter that nothing reads.
+fn followed(rt: &impl Abort, seg: &mut Seg, ages: &AgeMap, toy: &mut Toy) -> u32
+    requires blocks { seg.old.blocks ≡ 12 }
+    requires ages { length ages.now ≡ 48 }
+    ensures { seg.new.blocks ≡ 12 }
+{
+    followed_by::<Brand>(rt, seg, ages, toy, Blank::new(1))
+}
+
+#[test]
+fn a_pass_goes_over_the_clumps_up_to_its_generation(rt: HostRuntime) -> Result<(), Fail> {
+    let mut seg = Seg::open(rt.alloc(), 12)?;
+    let mut ages = AgeMap::open(rt.alloc(), 12)?;
+    let mut toy = Toy::open(rt.alloc(), 16, 1)?;
+    let first = block(&rt, &mut seg, Kind::Pinned);
+    for (row, target) in [(15, Some(1)), (16, Some(2)), (31, None), (47, Some(3))] {
+        put(&rt, &mut seg, first + row, target, Extra::Nothing);
+    }
+    lower(&mut ages, 1, 0, 0);
+    lower(&mut ages, 1, 1, 1);
+    assert_eq!(rt; passed(&rt, &mut seg, &ages, &mut toy, Task::Pinned), 2);
+    assert_eq!(rt; toy.masks(), (0b110, 0b110));
+    Ok(())
+}
+
+#[test]
+fn a_handle_holds_by_its_strength_and_by_its_count(rt: HostRuntime) -> Result<(), Fail> {
+    let mut seg = Seg::open(rt.alloc(), 12)?;
+    let mut ages = AgeMap::open(rt.alloc(), 12)?;
+    let mut toy = Toy::open(rt.alloc(), 16, 2)?;
+    let variable = block(&rt, &mut seg, Kind::Variable);
+    let strengths = [
+        Strength::Short,
+        Strength::Long,
+        Strength::Strong,
+        Strength::Pinned,
+    ];
+    for (row, strength) in strengths.iter().enumerate() {
+        let target = Some(row as u32);
+        let extra = Extra::Strength(*strength);
+        put(&rt, &mut seg, variable + row as u32, target, extra);
+    }
+    let counted = block(&rt, &mut seg, Kind::Counted);
+    for count in 0..3 {
+        put(
+            &rt,
+            &mut seg,
+            counted + count,
+            Some(4 + count),
+            Extra::Count(count),
+        );
+    }
+    for (task, answer) in [
+        (Task::VariableRoots, 2),
+        (Task::CountedRoots, 2),
+        (Task::ClearVariableShort, 1),
+        (Task::ClearVariableLong, 1),
+        (Task::ClearCounted, 1),
+        (Task::ClearCounted, 0),
+    ] {
+        assert_eq!(rt; passed(&rt, &mut seg, &ages, &mut toy, task), answer);
+    }
+    assert_eq!(rt; toy.masks(), (0b110_1100, 0b1000));
+    Ok(())
+}
+
+/// Dependent handles join 13 objects in a row, from object 0 on. The slots of three blocks rise
+/// with the row, or fall: then each pass but the last promotes one object.
+fn follows(rt: &impl Abort, alloc: Global, rising: bool) -> Result<(), Fail> {
+    let mut seg = Seg::open(alloc, 12)?;
+    let mut ages = AgeMap::open(alloc, 12)?;
+    let mut toy = Toy::open(alloc, 16, 0)?;
+    for b in 1..13 {
+        for clump in 0..4 {
+            lower(&mut ages, b, clump, 0);
+        }
+    }
+    let strong = block(rt, &mut seg, Kind::Strong);
+    put(rt, &mut seg, strong, Some(0), Extra::Nothing);
+    for third in 0..3 {
+        let first = block(rt, &mut seg, Kind::Dependent);
+        for row in 0..4 {
+            let place = 4 * third + row;
+            let from = if rising { place } else { 11 - place };
+            let extra = Extra::Secondary(Some(Addr(from + 1)));
+            put(rt, &mut seg, first + 16 * row, Some(from), extra);
+        }
+    }
+    let lost = block(rt, &mut seg, Kind::Dependent);
+    put(
+        rt,
+        &mut seg,
+        lost,
+        Some(14),
+        Extra::Secondary(Some(Addr(1))),
+    );
+    assert_eq!(rt; passed(rt, &mut seg, &ages, &mut toy, Task::Strong), 1);
+    assert_eq!(rt; followed(rt, &mut seg, &ages, &mut toy), 1);
+    assert_eq!(rt; toy.masks(), (0b1_1111_1111_1111, 0));
+    assert!(rt;
+        seg.row(Slot(lost))
+            == Some(Row {
+                target: None,
+                extra: Extra::Secondary(None)
+            })
+    );
+    Ok(())
+}
+
+#[test]
+fn dependents_are_followed_in_rising_order(rt: HostRuntime) -> Result<(), Fail> {
+    follows(&rt, rt.alloc(), true)
+}
+
+#[test]
+fn dependents_are_followed_in_falling_order(rt: HostRuntime) -> Result<(), Fail> {
+    follows(&rt, rt.alloc(), false)
+}

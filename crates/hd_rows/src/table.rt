@@ -1,0 +1,126 @@
+// Tables for tests, and whether they meet what a pass asks of them.
+
+ghost use Rattle.std.specs.Prelude.{◌≡◌, ℕ, ◌*◌, ◌<◌, ◌≤◌, true, false, length, slice_index, Some};
+ghost use Rattle.std.specs.Option.{ForSome};
+ghost use Rattle.hd_model.specs.State.{secondary_of};
+ghost use Rattle.hd_model.specs.Heap.{objects_of};
+ghost use Rattle.hd_model.specs.Names.{NamesObjects};
+ghost use Rattle.hd_model.specs.Table.{row_at};
+ghost use Rattle.hd_seg.specs.Row.{extra_of};
+ghost use Rattle.hd_rows.specs.Toy.{NamesBelow, fits_by, toy_basis};
+
+use crate::toy::Toy;
+use hd_ages::AgeMap;
+use hd_model::{Addr, Grown, Kind, Slot};
+use hd_seg::{BlockKind, Extra, Row, Seg};
+use std::process::Abort;
+
+/// Gives a kind a block, and answers its first slot.
+pub fn block(rt: &impl Abort, seg: &mut Seg, kind: Kind) -> u32
+    ensures blocks { seg.new.blocks ≡ seg.old.blocks }
+    ensures few { result ≤ 16384 }
+{
+    match seg.give_block(kind) {
+        Ok(Grown::One(block) | Grown::Two(block, _)) => {
+            assert!(rt; block <= 256);
+            64 * block
+        }
+        _ => panic!(rt; "no block is left"),
+    }
+}
+
+/// Whether an extra is one of a kind.
+fn is_of_kind(kind: BlockKind, extra: Extra) -> bool
+    ensures { result ≡ fits_by kind (extra_of extra) }
+{
+    match kind {
+        BlockKind::Rows(Kind::Variable) => matches!(extra, Extra::Strength(_)),
+        BlockKind::Rows(Kind::Counted) => matches!(extra, Extra::Count(_)),
+        BlockKind::Rows(Kind::Dependent) => matches!(extra, Extra::Secondary(_)),
+        BlockKind::Rows(_) => matches!(extra, Extra::Nothing),
+        BlockKind::Unused | BlockKind::Extras => false,
+    }
+}
+
+/// Puts a handle into a slot of a block of its kind.
+pub fn put(rt: &impl Abort, seg: &mut Seg, slot: u32, target: Option<u32>, extra: Extra)
+    requires { seg.old.blocks ≡ 12 }
+    ensures { seg.new.blocks ≡ seg.old.blocks }
+{
+    assert!(rt; 64 <= slot && slot < 64 * 13);
+    assert!(rt; seg.row(Slot(slot)).is_none());
+    assert!(rt; is_of_kind(seg.block_kind(slot / 64), extra));
+    let target = target.map(Addr);
+    seg.put_row(Slot(slot), Row { target, extra });
+}
+
+/// Whether a name is the number of an object.
+fn is_below(name: Option<Addr>, size: usize) -> bool
+    ensures { result ≡ true → ForSome name (λ x. x.0 < size) }
+{
+    match name {
+        Some(at) => (at.0 as usize) < size,
+        None => true,
+    }
+}
+
+/// The secondary of an extra.
+fn secondary_in(extra: Extra) -> Option<Addr>
+    ensures { result ≡ secondary_of (extra_of extra) }
+{
+    match extra {
+        Extra::Secondary(secondary) => secondary,
+        Extra::Nothing | Extra::Strength(_) | Extra::Count(_) => None,
+    }
+}
+
+/// Whether a row names numbers of objects alone.
+fn is_named(row: Row, size: usize) -> bool
+    ensures { result ≡ true → NamesBelow size row }
+{
+    is_below(row.target, size) && is_below(secondary_in(row.extra), size)
+}
+
+/// Whether the rows of a table name objects alone.
+pub fn names_objects(seg: &Seg, toy: &Toy) -> bool
+    requires { seg.now.blocks ≡ 12 }
+    ensures { result ≡ true →
+        NamesObjects (objects_of (toy_basis (length toy.now.marks.items) toy.now.n))
+        (row_at seg.now) }
+{
+    let _given = seg.given();
+    let size = toy.size();
+    for slot in 64..64 * 13 {
+        if let Some(row) = seg.row(Slot(slot)) {
+            if !is_named(row, size) {
+                return false;
+            }
+        }
+    }
+    true
+}
+
+/// Lowers the age of a block's clump.
+pub fn lower(ages: &mut AgeMap, block: u32, clump: u32, g: u8)
+    requires ages { length ages.old ≡ 48 }
+    requires low { 1 ≤ block }
+    requires high { block ≤ 12 }
+    requires clump { clump < 4 }
+    ensures { length ages.new ≡ 48 }
+{
+    ages.lower(block, clump, g);
+}
+
+/// Whether each age is 0.
+pub fn is_young(ages: &AgeMap) -> bool
+    requires { length ages.now ≡ 48 }
+    ensures { result ≡ true → (clump : ℕ) → slice_index ages.now clump ≡ 0 }
+{
+    for clump in 0..48 {
+        let age = ages.age(clump / 4 + 1, clump % 4);
+        if age != 0 {
+            return false;
+        }
+    }
+    true
+}
