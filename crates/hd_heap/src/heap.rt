@@ -236,6 +236,13 @@ impl Heap {
         self.areas[place_of(at)].cards[card] = on;
     }
 
+    /// What the sizes of all objects together may be at most, in cells.
+    pub fn limit(&self) -> u32
+        ensures { result ≡ self.now.limit }
+    {
+        self.limit
+    }
+
     /// The sizes of all objects together, in cells.
     pub fn used(&self) -> u32
         ensures value { result ≡ used_of self.now }

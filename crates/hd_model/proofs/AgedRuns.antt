@@ -238,7 +238,7 @@ module _ (n : Numbers) (s : State) (e : Entry) (ages : List ℕ) (w : IsWellForm
   by_effect c t (gives_back block free p) = does c t _ p refl sound
   by_effect c t (gives_none p) = does c t _ p refl sound
 
-nothing_at : {A : Type 0} (q : ℕ) (x : A) → get (empty {X = A} {R = nat_cmp}) q ≡ Some x → ⊥
+pub nothing_at : {A : Type 0} (q : ℕ) (x : A) → get (empty {X = A} {R = nat_cmp}) q ≡ Some x → ⊥
 nothing_at q x e = none-some x (sym (get-empty nat_cmp q) ∙ e)
 
 -- a chain of steps with ages keeps states well formed and ages sound

@@ -25,6 +25,7 @@ pub mod Effects
 pub mod Frames
 pub mod OneState
 pub mod Placed
+pub mod Journals
 pub mod Chains
 pub mod KindTests
 pub mod WellFormed

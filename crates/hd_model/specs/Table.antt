@@ -9,6 +9,7 @@ use Rattle.hd_model.specs.declared.data.Kind.{Kind}
 use Rattle.hd_model.specs.declared.data.Kind.TheVariants as kind
 use Rattle.hd_model.specs.declared.data.Grown.{Grown}
 use Rattle.hd_model.specs.declared.data.Grown.TheVariants.{Zero, One, Two, Back}
+use Rattle.hd_model.specs.declared.limits.TheConstants.{BLOCKS, KINDS, ROWS}
 use Rattle.hd_model.specs.State.{Extra, nothing, strength, secondary, count, Handle, BlockUse, handles_of, extra_data}
 use Rattle.hd_model.specs.Kinds.{kind_number, is_paired}
 use Rattle.hd_model.specs.Scene.{Rows}
@@ -39,7 +40,7 @@ pub record Queue : Type 0 where
 
 -- the table at first: no block has a use
 abbrev pub empty_table : ℕ → Table
-empty_table blocks = record { rows = empty; chains = replicate 7 []; uses = empty; blocks = blocks }
+empty_table blocks = record { rows = empty; chains = replicate KINDS []; uses = empty; blocks = blocks }
 
 -- whether an extra is nothing, a strength, a count or a secondary
 abbrev pub is_nothing : {N : Type 0} → Extra N → Bool
@@ -166,21 +167,21 @@ grown_by t k (Back block) = t
 
 -- a live row stands in a block of its kind and has an extra of that kind
 pub record IsPlacedRow (t : Table) (slot : ℕ) (h : Handle Addr) : Type 0 where
-  pub block : get t.uses (slot / 64) ≡ Some (handles_of h.kind)
+  pub block : get t.uses (slot / ROWS) ≡ Some (handles_of h.kind)
   pub fits : fits h.kind h.extra ≡ true
-  pub low : 64 ≤ slot
-  pub high : slot < 64 * (t.blocks + 1)
+  pub low : ROWS ≤ slot
+  pub high : slot < ROWS * (t.blocks + 1)
 
 -- what is true of every table: each live row is in a block of its kind and has an extra of that kind; a block
 -- with a use is one of the
 -- table's; each chain has exactly the blocks of its kind, each once
 pub record IsTable (t : Table) : Type 0 where
-  pub limit : t.blocks ≤ 256
+  pub limit : t.blocks ≤ BLOCKS
   pub rows : (slot : ℕ) (h : Handle Addr) → get t.rows slot ≡ Some h → IsPlacedRow t slot h
   pub uses : (block : ℕ) → IsSome (get t.uses block) → (1 ≤ block) × (block ≤ t.blocks)
   pub given : len t.uses ≤ t.blocks
-  pub live : len t.rows ≤ 64 * t.blocks
-  pub kinds : length t.chains ≡ 7
+  pub live : len t.rows ≤ ROWS * t.blocks
+  pub kinds : length t.chains ≡ KINDS
   pub once : (k : Kind) → AllPairs (λ x y. x ≢ y) (chain_of t k)
   pub chained : (k : Kind) (block : ℕ)
       → Contains (chain_of t k) block ↔ (get t.uses block ≡ Some (handles_of k))

@@ -77,33 +77,3 @@ takes_memory (cmd.AddrOf h) = false
 takes_memory (cmd.HUp h) = false
 takes_memory (cmd.HDown h) = false
 takes_memory (cmd.Trim kind) = false
-
--- the commands that the world has: all but those of the collector and its queue, and addresses
-abbrev pub is_built : Cmd → Bool
-is_built (cmd.New d fields fin) = true
-is_built (cmd.Set o i v) = true
-is_built (cmd.Get d o i) = true
-is_built (cmd.Val o n) = true
-is_built (cmd.Read o) = true
-is_built (cmd.Copy d s) = true
-is_built (cmd.Clear d) = true
-is_built (cmd.SPut k s) = true
-is_built (cmd.SGet d k) = true
-is_built (cmd.Gen s) = true
-is_built (cmd.Suppress s) = true
-is_built (cmd.Reregister s) = true
-is_built (cmd.Final d) = false
-is_built (cmd.Collect n) = false
-is_built (cmd.HNew d make t) = true
-is_built (cmd.HGet d s) = true
-is_built (cmd.HSet s t) = true
-is_built (cmd.HSec h s) = true
-is_built (cmd.HDep d s) = true
-is_built (cmd.HVar s strength) = true
-is_built (cmd.HFree s) = true
-is_built (cmd.HPut k s) = true
-is_built (cmd.HPick d k) = true
-is_built (cmd.AddrOf s) = false
-is_built (cmd.HUp s) = true
-is_built (cmd.HDown s) = true
-is_built (cmd.Trim kind) = true

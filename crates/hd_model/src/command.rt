@@ -1,5 +1,5 @@
 ghost use Rattle.std.specs.Prelude.{◌≡◌, ◌↔◌, IsTrue};
-ghost use Rattle.hd_model.specs.Valid.{takes_memory, is_built};
+ghost use Rattle.hd_model.specs.Valid.{takes_memory};
 
 use crate::data::{Kind, Make, Strength};
 
@@ -71,39 +71,5 @@ impl Cmd {
         ensures { result ≡ takes_memory self.now }
     {
         matches!(self, Cmd::New { .. } | Cmd::Collect { .. })
-    }
-
-    /// Whether the world has the command yet. Collections, the queue that they fill, and addresses are
-    /// still to come.
-    pub fn built(&self) -> bool
-        ensures { result ≡ is_built self.now }
-    {
-        match self {
-            Cmd::Final { .. } | Cmd::Collect { .. } | Cmd::AddrOf { .. } => false,
-            Cmd::New { .. }
-            | Cmd::Set { .. }
-            | Cmd::Get { .. }
-            | Cmd::Val { .. }
-            | Cmd::Read { .. }
-            | Cmd::Copy { .. }
-            | Cmd::Clear { .. }
-            | Cmd::SPut { .. }
-            | Cmd::SGet { .. }
-            | Cmd::Gen { .. }
-            | Cmd::Suppress { .. }
-            | Cmd::Reregister { .. }
-            | Cmd::HNew { .. }
-            | Cmd::HGet { .. }
-            | Cmd::HSet { .. }
-            | Cmd::HSec { .. }
-            | Cmd::HDep { .. }
-            | Cmd::HVar { .. }
-            | Cmd::HFree { .. }
-            | Cmd::HPut { .. }
-            | Cmd::HPick { .. }
-            | Cmd::HUp { .. }
-            | Cmd::HDown { .. }
-            | Cmd::Trim { .. } => true,
-        }
     }
 }

@@ -1,5 +1,6 @@
 ghost use Rattle.std.specs.Prelude.{◌≡◌, ◌<◌};
 ghost use Rattle.hd_model.specs.Kinds.{kind_of, kind_number, is_paired};
+ghost use Rattle.hd_model.specs.declared.limits.TheConstants.{KINDS};
 
 use crate::command::Cmd;
 
@@ -46,7 +47,7 @@ impl Kind {
     /// stand in this order.
     pub fn number(self) -> u32
         ensures value { result ≡ kind_number self }
-        ensures small { result < 7 }
+        ensures small { result < KINDS }
     {
         match self {
             Kind::Short => 0,

@@ -62,15 +62,14 @@ fn kinds_with_extra_data_come_last(rt: HostRuntime) {
     }
 }
 
-// Each command, whether it may take memory, and whether it is built.
-const COMMANDS: [(Cmd, bool, bool); 34] = [
+// Each command, and whether it may take memory.
+const COMMANDS: [(Cmd, bool); 34] = [
     (
         Cmd::New {
             d: 0,
             fields: 2,
             fin: false,
         },
-        true,
         true,
     ),
     (
@@ -80,21 +79,20 @@ const COMMANDS: [(Cmd, bool, bool); 34] = [
             fin: true,
         },
         true,
-        true,
     ),
-    (Cmd::Set { o: 0, i: 1, v: 2 }, false, true),
-    (Cmd::Get { d: 0, o: 1, i: 2 }, false, true),
-    (Cmd::Val { o: 0, n: 7 }, false, true),
-    (Cmd::Read { o: 0 }, false, true),
-    (Cmd::Copy { d: 0, s: 1 }, false, true),
-    (Cmd::Clear { d: 0 }, false, true),
-    (Cmd::SPut { k: 0, s: 1 }, false, true),
-    (Cmd::SGet { d: 0, k: 1 }, false, true),
-    (Cmd::Gen { s: 0 }, false, true),
-    (Cmd::Suppress { s: 0 }, false, true),
-    (Cmd::Reregister { s: 0 }, false, true),
-    (Cmd::Final { d: 0 }, false, false),
-    (Cmd::Collect { n: 2 }, true, false),
+    (Cmd::Set { o: 0, i: 1, v: 2 }, false),
+    (Cmd::Get { d: 0, o: 1, i: 2 }, false),
+    (Cmd::Val { o: 0, n: 7 }, false),
+    (Cmd::Read { o: 0 }, false),
+    (Cmd::Copy { d: 0, s: 1 }, false),
+    (Cmd::Clear { d: 0 }, false),
+    (Cmd::SPut { k: 0, s: 1 }, false),
+    (Cmd::SGet { d: 0, k: 1 }, false),
+    (Cmd::Gen { s: 0 }, false),
+    (Cmd::Suppress { s: 0 }, false),
+    (Cmd::Reregister { s: 0 }, false),
+    (Cmd::Final { d: 0 }, false),
+    (Cmd::Collect { n: 2 }, true),
     (
         Cmd::HNew {
             d: 0,
@@ -102,7 +100,6 @@ const COMMANDS: [(Cmd, bool, bool); 34] = [
             t: 1,
         },
         false,
-        true,
     ),
     (
         Cmd::HNew {
@@ -111,7 +108,6 @@ const COMMANDS: [(Cmd, bool, bool); 34] = [
             t: 1,
         },
         false,
-        true,
     ),
     (
         Cmd::HNew {
@@ -120,7 +116,6 @@ const COMMANDS: [(Cmd, bool, bool); 34] = [
             t: 1,
         },
         false,
-        true,
     ),
     (
         Cmd::HNew {
@@ -129,7 +124,6 @@ const COMMANDS: [(Cmd, bool, bool); 34] = [
             t: 1,
         },
         false,
-        true,
     ),
     (
         Cmd::HNew {
@@ -138,7 +132,6 @@ const COMMANDS: [(Cmd, bool, bool); 34] = [
             t: 1,
         },
         false,
-        true,
     ),
     (
         Cmd::HNew {
@@ -147,7 +140,6 @@ const COMMANDS: [(Cmd, bool, bool); 34] = [
             t: 1,
         },
         false,
-        true,
     ),
     (
         Cmd::HNew {
@@ -156,39 +148,30 @@ const COMMANDS: [(Cmd, bool, bool); 34] = [
             t: 1,
         },
         false,
-        true,
     ),
-    (Cmd::HGet { d: 0, s: 1 }, false, true),
-    (Cmd::HSet { s: 0, t: 1 }, false, true),
-    (Cmd::HSec { h: 0, s: 1 }, false, true),
-    (Cmd::HDep { d: 0, s: 1 }, false, true),
+    (Cmd::HGet { d: 0, s: 1 }, false),
+    (Cmd::HSet { s: 0, t: 1 }, false),
+    (Cmd::HSec { h: 0, s: 1 }, false),
+    (Cmd::HDep { d: 0, s: 1 }, false),
     (
         Cmd::HVar {
             s: 0,
             strength: Strength::Pinned,
         },
         false,
-        true,
     ),
-    (Cmd::HFree { s: 0 }, false, true),
-    (Cmd::HPut { k: 0, s: 1 }, false, true),
-    (Cmd::HPick { d: 0, k: 1 }, false, true),
-    (Cmd::AddrOf { s: 0 }, false, false),
-    (Cmd::HUp { s: 0 }, false, true),
-    (Cmd::HDown { s: 0 }, false, true),
-    (Cmd::Trim { kind: Kind::Short }, false, true),
+    (Cmd::HFree { s: 0 }, false),
+    (Cmd::HPut { k: 0, s: 1 }, false),
+    (Cmd::HPick { d: 0, k: 1 }, false),
+    (Cmd::AddrOf { s: 0 }, false),
+    (Cmd::HUp { s: 0 }, false),
+    (Cmd::HDown { s: 0 }, false),
+    (Cmd::Trim { kind: Kind::Short }, false),
 ];
 
 #[test]
 fn only_new_and_collect_take_memory(rt: HostRuntime) {
-    for (cmd, takes_memory, _) in COMMANDS {
+    for (cmd, takes_memory) in COMMANDS {
         assert_eq!(rt; cmd.takes_memory(), takes_memory);
-    }
-}
-
-#[test]
-fn commands_without_a_collector_are_built(rt: HostRuntime) {
-    for (cmd, _, built) in COMMANDS {
-        assert_eq!(rt; cmd.built(), built);
     }
 }
