@@ -93,7 +93,6 @@ impl<W: Held> Custody<W> {
               given _share first.old.view;
         } }
     {
-        let _blocks = self.blocks;
         let place = self.table.shared.split_seat::<Cut<N>>(&mut first.place);
         Seat { place }
     }
@@ -108,7 +107,6 @@ impl<W: Held> Custody<W> {
         requires gate { ended.view.has_gate ≡ false }
         ensures first { first.new ≡ record first.old { view = joined first.old.view ended.view } }
     {
-        let _blocks = self.blocks;
         let Seat { place } = ended;
         self.table.shared.join_seat::<Ends>(&mut first.place, place);
     }
@@ -137,7 +135,6 @@ impl<W: Held> Custody<W> {
         ensures lost { OnFalse result (place.new.me ≡ place.old.me) }
     {
         let shared = &self.table.shared;
-        let _blocks = self.blocks;
         shared.swap::<Enter>(place, 0, 1) == 0
     }
 
@@ -160,7 +157,6 @@ impl<W: Held> Custody<W> {
 
     // Whether the gate was free at one of a few looks. It tells nothing for certain.
     fn looks_free(&self) -> bool {
-        let _blocks = self.blocks;
         for _look in 0..LOOKS {
             if self.table.shared.peek(0) == 0 {
                 return true;
@@ -184,7 +180,6 @@ impl<W: Held> Custody<W> {
                 return world;
             }
             if !self.looks_free() {
-                let _blocks = self.blocks;
                 self.table.shared.park(rt, 0, 1);
             }
         }
@@ -201,7 +196,6 @@ impl<W: Held> Custody<W> {
         ensures view { (u : W) → seat.old.view.taken ≡ Some u
             → seat.new ≡ record seat.old { view = gave_back W.Held u world seat.old.view } }
     {
-        let _blocks = self.blocks;
         let shared = &self.table.shared;
         shared.exchange(&mut seat.place, 0, Some(world));
         shared.store::<Leave>(&mut seat.place, 0, 0);
@@ -219,7 +213,6 @@ impl<W: Held> Custody<W> {
         ensures view { place.new.me ≡ (opened block kind place.old.me.0, place.old.me.1) }
         ensures apart { (r : ℕ) → r < 64 → in_hand (64 * block + r) place.old.me.0.hand ≡ 0 }
     {
-        let _blocks = self.blocks;
         self.table.shared.store::<Assign>(place, block, kind);
     }
 
@@ -235,7 +228,6 @@ impl<W: Held> Custody<W> {
           view = granted (kind_number kind) (handle_block grown) (extra_block grown) seat.old.view;
         } }
     {
-        let _blocks = self.blocks;
         match grown {
             Grown::Zero => unreachable!(),
             Grown::One(block) => self.give(&mut seat.place, kind.number(), block, 0),
@@ -274,6 +266,7 @@ impl<W: Held> Custody<W> {
         ensures table { place.new.table_id ≡ place.old.table_id }
         ensures view { place.new.me ≡ (granted kind block extra place.old.me.0, place.old.me.1) }
     {
+        // Read for the proof alone: there are at most 256 blocks.
         let _blocks = self.blocks;
         self.assign(place, block as usize, kind as u64 + 1);
         self.assign_data(place, extra);
@@ -288,7 +281,6 @@ impl<W: Held> Custody<W> {
         requires all { (r : ℕ) → r < 64 → Has (64 * block + r) seat.old.view.hand }
         ensures view { seat.new ≡ record seat.old { view = closed block seat.old.view } }
     {
-        let _blocks = self.blocks;
         self.table
             .shared
             .store::<Clear>(&mut seat.place, block as usize, 0);

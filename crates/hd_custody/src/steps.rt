@@ -24,7 +24,6 @@ impl<W: Held> Custody<W> {
         ensures fresh { result ≢ 0 → Fresh W.Held place.old.me.0 result }
         ensures kind { result ≢ 0 → KindIs W.Held place.old.me.0 (result / 64) (kind_at word + 1) }
     {
-        let _blocks = self.blocks;
         self.table.shared.swap::<Begin>(place, word, new)
     }
 
@@ -38,7 +37,6 @@ impl<W: Held> Custody<W> {
         ensures fresh { result ≢ 0 → Fresh W.Held place.old.me.0 result }
         ensures kind { result ≢ 0 → KindIs W.Held place.old.me.0 (result / 64) (kind_at word + 1) }
     {
-        let _blocks = self.blocks;
         self.table.shared.swap::<Exchange>(place, word, new)
     }
 
@@ -56,7 +54,6 @@ impl<W: Held> Custody<W> {
             × (place.new.me ≡ (banked word there new place.old.me.0, place.old.me.1))) }
     {
         let shared = &self.table.shared;
-        let _blocks = self.blocks;
         shared.compare_exchange::<Bank>(place, word, 0, new) == 0
     }
 
@@ -68,7 +65,6 @@ impl<W: Held> Custody<W> {
         ensures view { place.new.me ≡ (looked block result place.old.me.0, place.old.me.1) }
         ensures kind { KindIs W.Held place.old.me.0 block result }
     {
-        let _blocks = self.blocks;
         self.table.shared.load::<Look>(place, block)
     }
 
@@ -81,7 +77,6 @@ impl<W: Held> Custody<W> {
         ensures fresh { (r : ℕ) → r < 64 → bit_at result r ≡ 1
             → Fresh W.Held place.old.me.0 (64 * (word - 256) + r) }
     {
-        let _blocks = self.blocks;
         self.table.shared.swap::<Drain>(place, word, 0)
     }
 
@@ -94,7 +89,6 @@ impl<W: Held> Custody<W> {
         ensures table { place.new.table_id ≡ place.old.table_id }
         ensures view { place.new.me ≡ (restored word rows result place.old.me.0, place.old.me.1) }
     {
-        let _blocks = self.blocks;
         self.table.shared.fetch_or::<Return>(place, word, rows)
     }
 
@@ -107,7 +101,6 @@ impl<W: Held> Custody<W> {
         ensures table { place.new.table_id ≡ place.old.table_id }
         ensures view { place.new.me ≡ (put_in word rows place.old.me.0, place.old.me.1) }
     {
-        let _blocks = self.blocks;
         self.table.shared.fetch_or::<PutIn>(place, word, rows);
     }
 }

@@ -136,7 +136,6 @@ fn hold(custody: &Custody<Blocks>, seat: &mut Seat<Blocks>, kind: Kind, n: u32) 
 fn word(custody: &Custody<Blocks>, number: usize) -> u64
     requires { number < 1402 }
 {
-    let _blocks = custody.blocks;
     custody.table.shared.peek(number)
 }
 
