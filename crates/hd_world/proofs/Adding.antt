@@ -11,7 +11,7 @@ use Rattle.hd_model.specs.Scene.{is_object, fields_in, IsField}
 use Rattle.hd_model.specs.Heap.{Placed, Heap, region_generation, region_of, object_in, object_at, id_in, id_at, HasIdentities}
 use Rattle.hd_world.specs.Reading.{names_of, read_object, objects_by_id, rows_by_id}
 use Rattle.hd_world.proofs.Maps.{get-put, get-put_other, same_numbers, some_same}
-use Rattle.hd_world.proofs.Agreeing.{names_agree, object_agrees, handle_agrees}
+use Rattle.hd_world.proofs.Agreeing.{map_agrees, names_agree, object_agrees, handle_agrees}
 use Rattle.hd_world.proofs.Readings.{names-get, rows-get, objects-get, objects-under, Stands, objects-are}
 
 -- the heap k is h with one object more, whose identity none has
@@ -75,6 +75,9 @@ module _ (h k : Heap) (a : ℕ) (new : Placed) (r : Adds h k a new) where
   -- names that are objects of h are read as they were
   pub roots-add : (names : List (Option Addr)) → ((x : Addr) → Contains names (Some x) → is_object (object_at h) x ≡ true) → map (option_map (id_at k)) names ≡ map (option_map (id_at h)) names
   roots-add names whole = names_agree (id_at k) (id_at h) names (λ x c. id-add x (placed h x (whole x c)))
+
+  pub queue-add : (names : List Addr) → ((x : Addr) → Contains names x → is_object (object_at h) x ≡ true) → map (id_at k) names ≡ map (id_at h) names
+  queue-add names whole = map_agrees (id_at k) (id_at h) names (λ x c. id-add x (placed h x (whole x c)))
 
   row_same : (o : Option (Handle Addr)) → ((row : Handle Addr) (x : Addr) → o ≡ Some row → row.target ≡ Some x → is_object (object_at h) x ≡ true) → ((row : Handle Addr) (x : Addr) → o ≡ Some row → secondary_of row.extra ≡ Some x → is_object (object_at h) x ≡ true) → option_map (rename_handle (id_at k)) o ≡ option_map (rename_handle (id_at h)) o
   row_same None targets seconds = refl

@@ -18,7 +18,8 @@ stored-lowered f slot g stored = record {
     secondaries = λ s row x is e. let low = lowered_below f.ages slot g s in let was = stored.ages.secondaries s row x is e in omega arith;
   };
   cards = stored.cards;
-  regions = stored.regions;
+  full = stored.full;
+  room = stored.room;
   within = stored.within;
   limit = stored.limit;
   roots = stored.roots;

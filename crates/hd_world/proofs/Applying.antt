@@ -1,47 +1,119 @@
--- What a world's journal tells before a command, and that it is a run after it.
-use Rattle.std.proofs.Common.{◌≡◌, ℕ, ◌<◌, ◌+◌, ◌^◌, List, ◌++◌, ◌∷◌, [], length, sym, subst, arith}
-use Rattle.std.specs.FinMap.{get}
-use Rattle.std.specs.Prelude.{None}
+-- What a world's journal tells before a command, and that it is a run after it. Of places only the state of the
+-- machine tells.
+use Rattle.std.proofs.Common.{◌≡◌, ℕ, ◌<◌, ◌+◌, ◌*◌, ◌^◌, List, ◌++◌, ◌∷◌, [], length, replicate, None, sym, ap, ◌∙◌, subst, arith}
+use Rattle.std.specs.FinMap.{FinMap, get, empty}
+use Rattle.std.specs.Ordering.{nat_cmp}
 use Rattle.hd_model.specs.declared.data.Entry.{Entry}
-use Rattle.hd_model.specs.declared.command.Cmd.{Cmd}
-use Rattle.hd_model.specs.State.{Numbers, State, last_serial, identity_of}
-use Rattle.hd_model.specs.Valid.{IsValid}
-use Rattle.hd_model.specs.Step.{StepOf}
-use Rattle.hd_model.specs.Run.{Run}
+use Rattle.hd_model.specs.State.{Numbers, State, start_of, last_serial, identity_of}
+use Rattle.hd_model.specs.Places.{with_places}
+use Rattle.hd_model.specs.Step.{Step}
+use Rattle.hd_model.specs.Run.{Run, stay}
 use Rattle.hd_model.specs.Aging.{AgedRun, aged_by}
-use Rattle.hd_model.specs.WellFormed.{IsWellFormed}
+use Rattle.hd_model.specs.WellFormed.{IsWellFormed, HasHandles}
+use Rattle.hd_model.proofs.AgedRuns.{nothing_at}
 use Rattle.hd_model.proofs.Chains.{aged_run_is_run, push}
 use Rattle.hd_model.proofs.Counts.{fresh}
 use Rattle.hd_model.proofs.Serials.{last_serial-le, count-le}
 use Rattle.hd_model.proofs.WellFormed.{run_is_well_formed}
 use Rattle.hd_world.specs.Counts.{HasSmallCounts}
+use Rattle.hd_world.specs.Store.{Machine}
+use Rattle.hd_world.specs.Places.{KeepsPlaces, Moves}
+use Rattle.hd_world.specs.Visited.{TakesSteps}
+use Rattle.hd_world.specs.Placed.{IsTrueRun, Placed, same_places}
 
-module _ (n : Numbers) (journal : List Entry) (s : State) (ages : List ℕ) (aged : AgedRun n journal s ages) where
-  pub run_of : Run n journal s
-  run_of = aged_run_is_run n journal s ages aged
+-- what steps an entry takes does not depend on places
+pub steps_placed : (s : State) (p : FinMap nat_cmp ℕ) (ages : List ℕ) (e : Entry) (before after : ℕ)
+    → TakesSteps s ages e before after → TakesSteps (with_places s p) ages e before after
+steps_placed s p ages e before after is = record {
+  others = is.others;
+  collects = λ n report c answer.
+      let did = is.collects n report c answer in
+      record { passes = did.passes; least = did.least; most = did.most; steps_are = did.steps_are };
+}
 
-  pub well_of : IsWellFormed n s
-  well_of = run_is_well_formed n journal s run_of
+-- what is true with the places that a journal answered is true of whatever places are told to be those
+pub at_places : (m : Machine) (journal : List Entry) (p q : FinMap nat_cmp ℕ)
+    (P : FinMap nat_cmp ℕ → Type 0) → IsTrueRun m journal p → ∥ IsTrueRun m journal q ∥₁ → P p → P q
+at_places m journal p q P is told x = subst P (same_places m journal p q ∣ is ∣₁ told) x
+
+module _ (m : Machine) (journal : List Entry) (p : FinMap nat_cmp ℕ) (is : IsTrueRun m journal p) where
+  pub run_of : Run m.numbers journal (with_places m.state p)
+  run_of = aged_run_is_run m.numbers journal (with_places m.state p) m.ages is.run
+
+  well_of : IsWellFormed m.numbers (with_places m.state p)
+  well_of = run_is_well_formed m.numbers journal (with_places m.state p) run_of
+
+  pub handles_of : HasHandles m.numbers m.state
+  handles_of =
+      let h = well_of.handles in
+      record { kinds = h.kinds; extras = h.extras; dependents = h.dependents; blocks = h.blocks }
 
   -- where the journal has room for one entry more
   module _ (room : length journal + 1 < 2 ^ 32) where
-    pub small_of : (caller : ℕ) → last_serial s caller + 1 < 2 ^ 32
-    small_of caller = omega (arith, last_serial-le n journal s caller run_of, room)
+    pub small_of : (caller : ℕ) → last_serial m.state caller + 1 < 2 ^ 32
+    small_of caller =
+        omega (arith, last_serial-le m.numbers journal (with_places m.state p) caller run_of, room)
 
-    pub fresh_of : (caller : ℕ) → get s.objects (identity_of caller (last_serial s caller + 1)).0 ≡ None
-    fresh_of caller = fresh n s caller well_of (small_of caller)
+    pub fresh_of : (caller : ℕ)
+        → get m.state.objects (identity_of caller (last_serial m.state caller + 1)).0 ≡ None
+    fresh_of caller = fresh m.numbers (with_places m.state p) caller well_of (small_of caller)
 
-    pub counts_of : HasSmallCounts s
-    counts_of = λ slot handle is. omega (arith, count-le n journal s (record { 0 = slot }) handle run_of is, room)
+    pub counts_of : HasSmallCounts m.state
+    counts_of = λ slot handle stands.
+        omega (arith, count-le m.numbers journal (with_places m.state p) (record { 0 = slot }) handle run_of stands, room)
 
-  pub goes_on : (m : Numbers) (e : Entry) (c : Cmd) (caller : ℕ) (t : State) (after : List ℕ) → m ≡ n → e.caller ≡ caller → e.cmd ≡ c → caller < n.callers → IsValid c → StepOf n s e t c → after ≡ aged_by s e ages → AgedRun m (journal ++ e ∷ []) t after
-  goes_on m e c caller t after same mine its known valid does older =
-      subst (λ k. AgedRun k (journal ++ e ∷ []) t after) (sym same)
-      (push aged (record {
-        step = record {
-          caller = subst (λ k. k < n.callers) (sym mine) known;
-          valid = subst IsValid (sym its) valid;
-          does = subst (StepOf n s e t) (sym its) does;
-        };
-        ages = older;
-      }))
+  -- where a command keeps places and the journal gets its entry
+  module _ (next : Machine) (e : Entry) (entries : List Entry) (keeps : KeepsPlaces m e next)
+      (same : next.numbers ≡ m.numbers) (longer : entries ≡ journal ++ e ∷ []) where
+    moved : Moves m e next p
+    moved = keeps p is.addresses
+
+    goes_on : IsTrueRun next entries moved.places
+    goes_on = record {
+      run = subst (λ es. AgedRun next.numbers es (with_places next.state moved.places) next.ages) (sym longer)
+          (subst (λ k. AgedRun k (journal ++ e ∷ []) (with_places next.state moved.places) next.ages) (sym same)
+          (push is.run (record { step = moved.step; ages = moved.ages })));
+      addresses = moved.addresses;
+    }
+
+    -- there are places with which it leads on
+    pub placed_on : Placed next entries
+    placed_on = (moved.places, ∣ goes_on ∣₁)
+
+    -- and with whatever places are told to be those it does
+    at_next : (P : FinMap nat_cmp ℕ → Type 0) → P moved.places → (q : Placed next entries) → P q.0
+    at_next P x q = at_places next entries moved.places q.0 P goes_on q.1 x
+
+    pub run_on : (q : Placed next entries) → IsTrueRun next entries q.0
+    run_on q = at_next (λ r. IsTrueRun next entries r) goes_on q
+
+    pub step_on : (q : Placed next entries)
+        → Step m.numbers (with_places m.state p) e (with_places next.state q.0)
+    step_on q =
+        at_next (λ r. Step m.numbers (with_places m.state p) e (with_places next.state r)) moved.step q
+
+    pub ages_on : next.ages ≡ aged_by (with_places m.state p) e m.ages
+    ages_on = moved.ages
+
+module _ (m : Machine) (entries : List Entry) (first : m.state ≡ start_of m.numbers)
+    (oldest : m.ages ≡ replicate (4 * m.numbers.blocks) 2) (none : entries ≡ []) where
+  -- at first there is no place
+  begins : IsTrueRun m entries empty
+  begins = record {
+    run = subst (λ es. AgedRun m.numbers es (with_places m.state empty) m.ages) (sym none)
+        (subst (λ s. AgedRun m.numbers [] (with_places s empty) m.ages) (sym first)
+        (subst (λ ages. AgedRun m.numbers [] (start_of m.numbers) ages) (sym oldest) stay));
+    addresses = λ x at found. absurd (nothing_at x at found);
+  }
+
+  pub placed_first : Placed m entries
+  placed_first = (empty, ∣ begins ∣₁)
+
+  at_first : (P : FinMap nat_cmp ℕ → Type 0) → P empty → (q : Placed m entries) → P q.0
+  at_first P x q = at_places m entries empty q.0 P begins q.1 x
+
+  pub run_first : (q : Placed m entries) → IsTrueRun m entries q.0
+  run_first q = at_first (λ r. IsTrueRun m entries r) begins q
+
+  pub state_first : (q : Placed m entries) → with_places m.state q.0 ≡ start_of m.numbers
+  state_first q = at_first (λ r. with_places m.state r ≡ start_of m.numbers) (ap (λ s. with_places s empty) first) q

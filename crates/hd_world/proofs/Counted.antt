@@ -21,14 +21,14 @@ pub len-rows : (h : Heap) (rows : FinMap nat_cmp (Handle Addr)) → len (rows_by
 unfolding rows_by_id
 len-rows h rows = len-mapped (λ slot row. rename_handle (id_at h) row) rows
 
-read_size : (h : Heap) (a : ℕ) (p : Placed) → size_of (read_object h a p) ≡ cells_of p
-read_size h a p = ap (λ n. n + 3) (length-map p.fields (option_map (id_at h)))
+pub read-size : (h : Heap) (a : ℕ) (p : Placed) → size_of (read_object h a p) ≡ cells_of p
+read-size h a p = ap (λ n. n + 3) (length-map p.fields (option_map (id_at h)))
 
 sum_read : (h : Heap) (es : List (ℕ × Placed)) → sum_by size_of (map (λ e. e.1) (rekeyed (λ (p : Placed). p.id.0) (read_object h) es)) ≡ sum_by cells_of (map (λ e. e.1) es)
 sum_read h [] = refl
 sum_read h (e ∷ es) =
     let rest = sum_read h es in
-    let same = read_size h e.0 e.1 in
+    let same = read-size h e.0 e.1 in
     let new = sum_by-cons size_of (read_object h e.0 e.1) (map (λ w. w.1) (rekeyed (λ (p : Placed). p.id.0) (read_object h) es)) in
     let old = sum_by-cons cells_of e.1 (map (λ w. w.1) es) in
     omega (arith, rest, same, new, old)

@@ -20,3 +20,10 @@ mod Placing
 mod Lowering
 mod Applying
 mod Opened
+mod Sizes
+mod Queued
+mod Gathered
+mod Visited
+mod Gathering
+mod Addresses
+mod Moved

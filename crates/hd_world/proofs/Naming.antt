@@ -73,7 +73,8 @@ module _ (f : Parts) (m : Machine) (view : machine_of f ≡ m) (stored : IsStore
         identities = stored.identities;
         ages = stored.ages;
         cards = stored.cards;
-        regions = stored.regions;
+        full = stored.full;
+        room = stored.room;
         within = stored.within;
         limit = stored.limit;
         roots = stored.roots ∙ sym (length-set f.roots i v);

@@ -1,30 +1,35 @@
 -- A new object of a store: what the machine sees, and that the store keeps what it keeps.
-use Rattle.std.proofs.Common.{◌≡◌, ℕ, zero, suc, ◌+◌, ◌<◌, ◌≤◌, Bool, true, false, List, ◌∷◌, map, length, get_or, replicate, set, Option, Some, None, refl, sym, ap, ◌∙◌, subst, inl, inr, arith}
-use Rattle.std.specs.Prelude.{option_map, unwrap_or, is_some, Contains, T, sum_by}
-use Rattle.std.specs.FinMap.{get, insert, values}
+use Rattle.std.proofs.Common.{◌≡◌, ℕ, zero, suc, ◌+◌, ◌<◌, ◌≤◌, Bool, true, false, cond, List, ◌∷◌, map, length, get_or, replicate, set, Option, Some, None, refl, sym, ap, ◌∙◌, subst, inl, inr, arith}
+use Rattle.std.specs.Prelude.{option_map, unwrap_or, is_some, Contains, T, sum_by, max, ◌⊎◌}
+use Rattle.std.specs.FinMap.{get, insert, values, len, len-insert}
+use Rattle.std.specs.Cmp.{nat_cmp_total}
 use Rattle.std.proofs.lemmas.Bool.{cases_eq}
 use Rattle.std.proofs.lemmas.List.{length-set, length-replicate}
 use Rattle.hd_model.specs.declared.data.Id.{Id}
 use Rattle.hd_model.specs.declared.data.Addr.{Addr}
 use Rattle.hd_model.specs.State.{Object, last_serial, identity_of, with_object, with_serial, used_of as machine_used}
 use Rattle.hd_model.specs.Scene.{is_object, fields_in, generation_in, generation_at, IsField}
-use Rattle.hd_model.specs.Heap.{Placed, Region, Heap, region_of, region_at, region_generation, object_in, object_at, is_carded, cells_of, used_of, id_at, is_held}
+use Rattle.hd_model.specs.Heap.{Placed, Region, Heap, region_of, region_at, region_generation, is_held, object_in, object_at, is_carded, cells_of, used_of, id_at}
 use Rattle.hd_model.specs.Ages.{age_of}
+use Rattle.hd_model.specs.Table.{Queue}
 use Rattle.hd_heap.specs.Calls.{new_object, IsMade, IsRefused as IsRefusedBy}
 use Rattle.hd_heap.specs.declared.fault.NewFault.{NewFault}
 use Rattle.hd_heap.specs.declared.fault.NewFault.TheVariants.{Full, Memory}
 use Rattle.hd_world.specs.Rows.{rows_of, rest_of}
 use Rattle.hd_world.specs.Reading.{names_of, read_object, objects_by_id}
-use Rattle.hd_world.specs.Stored.{Parts, callers_of, state_of, HasNoIdleRegion, IsStored}
-use Rattle.hd_world.specs.Store.{Machine, machine_of}
+use Rattle.hd_world.specs.Stored.{Parts, callers_of, state_of, IsStored}
+use Rattle.hd_plan.specs.Plan.{HasNoEmptyRegion}
+use Rattle.hd_world.specs.Store.{Machine, machine_of, without_spare}
 use Rattle.hd_model.specs.Command.{fresh_object}
 use Rattle.hd_world.specs.Objects.{IsRefused}
+use Rattle.std.proofs.Math.Nat.{le-max_left, le-max_right}
 use Rattle.hd_world.proofs.Counted.{used-is}
 use Rattle.hd_world.proofs.Maps.{get-put, get-put_other}
 use Rattle.hd_world.proofs.Sums.{share, sum-insert}
-use Rattle.hd_world.proofs.Readings.{no_some, objects-get}
+use Rattle.hd_world.specs.Places.{KeepsNames}
+use Rattle.hd_world.proofs.Readings.{no_some, names-get, objects-get}
 use Rattle.hd_world.proofs.Standing.{has-placed}
-use Rattle.hd_world.proofs.Adding.{Adds, placed, names-add, identities-add, roots-add, rows-add, objects-add}
+use Rattle.hd_world.proofs.Adding.{Adds, placed, names-add, identities-add, roots-add, queue-add, rows-add, objects-add}
 
 none_at : {A : Type 0} (n k : ℕ) (x : A) → k < n → get_or (replicate n None) k (Some x) ≡ Some x → ⊥
 none_at zero k x within is = absurd (omega arith)
@@ -130,27 +135,35 @@ module _ (f : Parts) (k : Heap) (at : Addr) (id : Id) (count : ℕ) (fin : Bool)
   cards_same : (x : Addr) → is_carded k x ≡ is_carded f.heap x
   cards_same x = ap (λ (g : Heap). is_carded g x) made.made
 
-  held_was : (region : ℕ) → (region ≡ region_of at → ⊥) → is_held k region ≡ true → is_held f.heap region ≡ true
-  held_was region apart held =
-      sym (ap is_some (get-put_other f.heap.regions (region_of at) (record { generation = 0; fill = (region_at f.heap (region_of at)).fill + cells_of (new_object id count fin) }) region apart))
-      ∙ sym (ap (λ (g : Heap). is_held g region) made.made) ∙ held
+  len_more : len k.objects ≡ len f.heap.objects + 1
+  len_more =
+      ap len put_at ∙ len-insert nat_cmp_total f.heap.objects at.0 (new_object id count fin)
+      ∙ ap (λ o. cond (is_some o) (len f.heap.objects) (len f.heap.objects + 1)) was_none
 
-  region_has : HasNoIdleRegion k
-  region_has region held = elim (cases_eq region (region_of at)) [
-    | inl same ↦ (at, ap (λ o. is_some (option_map (object_in (region_generation k (region_of at))) o)) there, sym same)
-    | inr apart ↦ (let was = stored.regions region (held_was region apart held) in (was.0, still was.0 was.1, was.2))
-  ]
+  held_was : (r : ℕ) → (r ≡ region_of at → ⊥) → is_held k r ≡ true → is_held f.heap r ≡ true
+  held_was r apart held =
+      ap is_some (sym (get-put_other f.heap.regions (region_of at)
+      (record { generation = 0; fill = (region_at f.heap (region_of at)).fill + cells_of (new_object id count fin) }) r apart))
+      ∙ sym (ap (λ (g : Heap). is_held g r) made.made) ∙ held
 
-  -- the parts with the new object and another last serial
-  abbrev pub made_parts : List ℕ → Parts
-  made_parts serials = record f { heap = k; serials = serials }
+  -- each held region has an object still
+  full_made : HasNoEmptyRegion k
+  full_made r held =
+      elim (cases_eq r (region_of at)) [
+        | inl same ↦ record { at = at; object = ap (λ o. is_some (option_map (object_in (region_generation k (region_of at))) o)) there; region = sym same }
+        | inr apart ↦ let s = stored.full r (held_was r apart held) in record { at = s.at; object = still s.at s.object; region = s.region }
+      ]
 
-  pub stored-made : (serials : List ℕ) → length serials ≡ length f.serials → IsStored (made_parts serials)
-  stored-made serials size = record {
+  -- the parts with the new object, another last serial and room for one more that waits
+  abbrev pub made_parts : List ℕ → Queue → Parts
+  made_parts serials q = record f { heap = k; serials = serials; queue = q }
+
+  pub stored-made : (serials : List ℕ) (q : Queue) → length serials ≡ length f.serials → q.waiting ≡ f.queue.waiting → len f.heap.objects + 1 ≤ q.room → IsStored (made_parts serials q)
+  stored-made serials q size waits enough = record {
     whole = record {
       fields = λ x y field. still y (stored.whole.fields x y (field_was x y field).1);
       named = λ x c. still x (stored.whole.named x c);
-      queue = λ x c. still x (stored.whole.queue x c);
+      queue = λ x c. still x (stored.whole.queue x (subst (λ xs. Contains xs x) waits c));
       targets = λ slot row x is e. still x (stored.whole.targets slot row x is e);
       secondaries = λ slot row x is e. still x (stored.whole.secondaries slot row x is e);
       paired = stored.whole.paired;
@@ -166,7 +179,8 @@ module _ (f : Parts) (k : Heap) (at : Addr) (id : Id) (count : ℕ) (fin : Bool)
         let before = generation_same y (stored.whole.fields x y was.1) in
         let here = generation_same x (is_there x y was.1) in
         cards_same x ∙ stored.cards x y was.1 (omega arith);
-    regions = region_has;
+    full = full_made;
+    room = omega (arith, len_more, enough);
     within = let size : cells_of (new_object id count fin) ≡ count + 3 = ap (λ n. n + 3) (length-replicate count None) in omega (arith, used_more, limit_same, made.fits, size);
     limit = omega (arith, limit_same, stored.limit);
     roots = stored.roots;
@@ -188,8 +202,8 @@ module _ (f : Parts) (k : Heap) (at : Addr) (id : Id) (count : ℕ) (fin : Bool)
     registered = fin;
   }
 
-  pub machine-made : (serials : List ℕ) → machine_of (made_parts serials) ≡ record (machine_of f) { state = record (with_object (state_of f) id (fresh_object count fin)) { serials = serials }; names = insert (names_of f.heap) at.0 id }
-  machine-made serials = λ i. record {
+  pub machine-made : (serials : List ℕ) (q : Queue) → q.waiting ≡ f.queue.waiting → machine_of (made_parts serials q) ≡ record (machine_of f) { state = record (with_object (state_of f) id (fresh_object count fin)) { serials = serials }; names = insert (names_of f.heap) at.0 id; heap = without_spare k }
+  machine-made serials q waits = λ i. record {
     numbers = record { heap = limit_same i; blocks = f.table.blocks; callers = callers_of f };
     state = record {
       objects = (objects-add f.heap k at.0 (new_object id count fin) adds stored.identities stored.whole.fields ∙ ap (insert (objects_by_id f.heap) id.0) read_new) i;
@@ -198,45 +212,107 @@ module _ (f : Parts) (k : Heap) (at : Addr) (id : Id) (count : ℕ) (fin : Bool)
       handle_registers = f.handle_registers;
       statics = rest_of (callers_of f) (roots-add f.heap k at.0 (new_object id count fin) adds f.roots stored.whole.named i);
       board = f.board;
-      queue = (state_of f).queue;
+      queue = (ap (map (id_at k)) waits ∙ queue-add f.heap k at.0 (new_object id count fin) adds f.queue.waiting stored.whole.queue) i;
       places = (state_of f).places;
       blocks = f.table.uses;
       serials = serials;
     };
     names = names-add f.heap k at.0 (new_object id count fin) adds i;
     ages = f.ages;
+    heap = without_spare k;
   }
 
 -- an object with a caller's next serial
-module _ (f : Parts) (m : Machine) (view : machine_of f ≡ m) (stored : IsStored f) (k : Heap) (at : Addr) (id : Id) (count : ℕ) (fin : Bool) (made : IsMade f.heap k at (new_object id count fin)) (caller serial : ℕ) (last : serial ≡ last_serial m.state caller + 1) (id_is : id ≡ identity_of caller serial) (vacant : get m.state.objects (identity_of caller (last_serial m.state caller + 1)).0 ≡ None) where
+module _ (f : Parts) (m : Machine) (view : machine_of f ≡ m) (stored : IsStored f) (k : Heap) (at : Addr) (id : Id) (count : ℕ) (fin : Bool) (made : IsMade f.heap k at (new_object id count fin)) (caller serial : ℕ) (last : serial ≡ last_serial m.state caller + 1) (id_is : id ≡ identity_of caller serial) (vacant : get m.state.objects (identity_of caller (last_serial m.state caller + 1)).0 ≡ None) (q : Queue) (waits : q.waiting ≡ f.queue.waiting) (enough : len f.heap.objects + 1 ≤ q.room) where
   free : get (objects_by_id f.heap) id.0 ≡ None
   free =
       ap (λ (i : Id). get (objects_by_id f.heap) i.0) (id_is ∙ ap (identity_of caller) last)
       ∙ ap (λ (n : Machine). get n.state.objects (identity_of caller (last_serial m.state caller + 1)).0) view ∙ vacant
 
-  pub stored-next : IsStored (record f { heap = k; serials = set f.serials caller serial })
-  stored-next = stored-made f k at id count fin stored made free (set f.serials caller serial) (length-set f.serials caller serial)
+  pub stored-next : IsStored (record f { heap = k; serials = set f.serials caller serial; queue = q })
+  stored-next = stored-made f k at id count fin stored made free (set f.serials caller serial) q (length-set f.serials caller serial) waits enough
 
-  pub machine-next : machine_of (record f { heap = k; serials = set f.serials caller serial }) ≡ record m {
+  -- the address of the new object had no name
+  pub names-next : KeepsNames m.names (insert m.names at.0 (identity_of caller (last_serial m.state caller + 1)))
+  names-next a x is =
+      elim (cases_eq a at.0) [
+        | inl same ↦ absurd (no_some x (sym is ∙ ap (get m.names) same ∙ ap (λ (n : Machine). get n.names at.0) (sym view)
+            ∙ names-get f.heap at.0 ∙ ap (option_map (λ (p : Placed). p.id)) (adds f k at id count fin stored made free).vacant))
+        | inr apart ↦ get-put_other m.names at.0 (identity_of caller (last_serial m.state caller + 1)) a apart ∙ is
+      ]
+
+  pub machine-next : machine_of (record f { heap = k; serials = set f.serials caller serial; queue = q }) ≡ record m {
     state = with_serial (with_object m.state (identity_of caller (last_serial m.state caller + 1)) (fresh_object count fin)) caller (last_serial m.state caller + 1);
     names = insert m.names at.0 (identity_of caller (last_serial m.state caller + 1));
+    heap = without_spare k;
   }
   machine-next =
-      machine-made f k at id count fin stored made free (set f.serials caller serial)
+      machine-made f k at id count fin stored made free (set f.serials caller serial) q waits
       ∙ (λ i. record (view i) {
         state = with_serial (with_object (view i).state ((id_is ∙ ap (identity_of caller) last) i) (fresh_object count fin)) caller (last i);
         names = insert (view i).names at.0 ((id_is ∙ ap (identity_of caller) last) i);
+        heap = without_spare k;
       })
 
+-- the queue with more room, or as it was
+abbrev pub IsRoomier : Queue → Queue → Type 0
+IsRoomier old new = (new.waiting ≡ old.waiting) × (old.room ≤ new.room)
+
+pub roomier : (q w : Queue) (n : ℕ) → w ≡ record q { room = max n q.room } → IsRoomier q w
+roomier q w n is = let same = ap (λ (v : Queue). v.room) is in let most = le-max_right n q.room in (ap (λ (v : Queue). v.waiting) is, omega (arith, same, most))
+
+pub room_enough : (q w : Queue) (n : ℕ) → w ≡ record q { room = max n q.room } → n ≤ w.room
+room_enough q w n is = let same = ap (λ (v : Queue). v.room) is in let most = le-max_left n q.room in omega (arith, same, most)
+
+pub either_roomier : (q w : Queue) (n : ℕ) → (w ≡ q) ⊎ (w ≡ record q { room = max n q.room }) → IsRoomier q w
+either_roomier q w n is =
+    elim is [
+      | inl same ↦ let room = ap (λ (v : Queue). v.room) same in (ap (λ (v : Queue). v.waiting) same, omega (arith, room))
+      | inr more ↦ roomier q w n more
+    ]
+
+-- more room in the queue changes nothing else
+module _ (f : Parts) (m : Machine) (view : machine_of f ≡ m) (stored : IsStored f) (k : Heap) (same : k ≡ f.heap) (q : Queue) (more : IsRoomier f.queue q) where
+  pub machine-room : machine_of (record f { heap = k; queue = q }) ≡ m
+  machine-room =
+      (λ i. machine_of (record f { heap = same i; queue = record q { waiting = more.0 i } })) ∙ view
+
+  pub stored-room : IsStored (record f { heap = k; queue = q })
+  stored-room =
+      subst (λ h. IsStored (record f { heap = h; queue = q })) (sym same)
+      (subst (λ waiting. IsStored (record f { queue = record { waiting = waiting; room = q.room } })) (sym more.0) (record {
+        whole = stored.whole;
+        identities = stored.identities;
+        ages = stored.ages;
+        cards = stored.cards;
+        full = stored.full;
+        room = omega (arith, stored.room, more.1);
+        within = stored.within;
+        limit = stored.limit;
+        roots = stored.roots;
+        serials = stored.serials;
+        clumps = stored.clumps;
+        blocks = stored.blocks;
+        uses = stored.uses;
+      }))
+
 -- a refused object, in the words of the machine
-pub refused-next : (f : Parts) (m : Machine) → machine_of f ≡ m → IsStored f → (k : Heap) (cells : ℕ) (fault : NewFault) → IsRefusedBy f.heap k cells fault → IsRefused m (machine_of (record f { heap = k })) cells fault
-refused-next f m view stored k cells (Full used size) refused =
-    let same : machine_of (record f { heap = k }) ≡ m = ap (λ h. machine_of (record f { heap = h })) refused.0 ∙ view in
-    let cells_are : used_of f.heap ≡ machine_used m.state = sym (used-is f.heap stored.identities) ∙ ap (λ (n : Machine). machine_used n.state) view in
-    let limit_is : f.heap.limit ≡ m.numbers.heap = ap (λ (n : Machine). n.numbers.heap) view in
-    (same, refused.1 ∙ cells_are, refused.2, omega (arith, refused.3, cells_are, limit_is))
-refused-next f m view stored k cells Memory refused =
-    let same : machine_of (record f { heap = k }) ≡ m = ap (λ h. machine_of (record f { heap = h })) refused.0 ∙ view in
-    let cells_are : used_of f.heap ≡ machine_used m.state = sym (used-is f.heap stored.identities) ∙ ap (λ (n : Machine). machine_used n.state) view in
-    let limit_is : f.heap.limit ≡ m.numbers.heap = ap (λ (n : Machine). n.numbers.heap) view in
-    (same, omega (arith, refused.1, cells_are, limit_is))
+module _ (f : Parts) (m : Machine) (view : machine_of f ≡ m) (stored : IsStored f) (k : Heap) (q : Queue) (more : IsRoomier f.queue q) where
+  cells_are : used_of f.heap ≡ machine_used m.state
+  cells_are = sym (used-is f.heap stored.identities) ∙ ap (λ (n : Machine). machine_used n.state) view
+
+  limit_is : f.heap.limit ≡ m.numbers.heap
+  limit_is = ap (λ (n : Machine). n.numbers.heap) view
+
+  pub refused-next : (cells : ℕ) (fault : NewFault) → IsRefusedBy f.heap k cells fault → IsRefused m (machine_of (record f { heap = k; queue = q })) cells fault
+  refused-next cells (Full used size) refused =
+      (machine-room f m view stored k refused.0 q more, refused.1 ∙ cells_are, refused.2, omega (arith, refused.3, cells_are, limit_is))
+  refused-next cells Memory refused =
+      (machine-room f m view stored k refused.0 q more, omega (arith, refused.1, cells_are, limit_is))
+
+  refused_same : (cells : ℕ) (fault : NewFault) → IsRefusedBy f.heap k cells fault → k ≡ f.heap
+  refused_same cells (Full used size) refused = refused.0
+  refused_same cells Memory refused = refused.0
+
+  pub stored-refused : (cells : ℕ) (fault : NewFault) → IsRefusedBy f.heap k cells fault → IsStored (record f { heap = k; queue = q })
+  stored-refused cells fault refused = stored-room f m view stored k (refused_same cells fault refused) q more

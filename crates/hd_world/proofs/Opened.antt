@@ -1,13 +1,13 @@
 -- A store at first: nothing is made, and each register, static and board place is null or empty.
-use Rattle.std.proofs.Common.{◌≡◌, ℕ, zero, suc, ◌+◌, ◌*◌, ◌≤◌, List, [], ◌∷◌, map, length, replicate, Option, Some, None, refl, sym, ap, ◌∙◌, subst, arith, true}
-use Rattle.std.specs.Prelude.{option_map, IsSome, Contains, T, sum_by, is_some}
-use Rattle.std.specs.FinMap.{get, empty, entries, values, from_entries, get-empty, len-empty, len-entries, contains_key}
+use Rattle.std.proofs.Common.{◌≡◌, ℕ, zero, suc, ◌+◌, ◌*◌, ◌≤◌, List, [], ◌∷◌, map, length, replicate, Option, Some, None, refl, sym, ap, ◌∙◌, subst, arith}
+use Rattle.std.specs.Prelude.{option_map, IsSome, Contains, T, sum_by, is_some, true}
+use Rattle.std.specs.FinMap.{get, empty, entries, values, from_entries, get-empty, len-empty, len-entries}
 use Rattle.std.specs.Ordering.{nat_cmp}
 use Rattle.std.proofs.lemmas.List.{length-replicate}
 use Rattle.hd_model.specs.declared.data.Addr.{Addr}
 use Rattle.hd_model.specs.State.{Object, Handle, rename_handle, start_of}
 use Rattle.hd_model.specs.Scene.{fields_in}
-use Rattle.hd_model.specs.Heap.{Placed, Region, region_of, region_generation, object_in, object_at, cells_of, id_at}
+use Rattle.hd_model.specs.Heap.{Placed, Region, is_held, region_of, region_generation, object_in, object_at, cells_of, id_at}
 use Rattle.hd_model.specs.Table.{empty_table}
 use Rattle.hd_model.proofs.Members.{not_in_none}
 use Rattle.hd_heap.specs.Calls.{empty_heap}
@@ -20,9 +20,6 @@ use Rattle.hd_world.proofs.Roots.{rows-first, rest-first}
 
 nothing_at : {A : Type 0} (q : ℕ) (x : A) → get (empty {X = A} {R = nat_cmp}) q ≡ Some x → ⊥
 nothing_at q x e = no_some x (sym e ∙ get-empty nat_cmp q)
-
-none_held : (region : ℕ) → contains_key (empty {X = Region} {R = nat_cmp}) region ≡ true → ⊥
-none_held region held = subst T (sym (ap is_some (sym (get-empty nat_cmp region)) ∙ held)) tt
 
 nothing_mapped : {A B : Type 0} (f : A → B) (n : ℕ) → map (option_map f) (replicate n None) ≡ replicate n None
 nothing_mapped f zero = refl
@@ -41,6 +38,7 @@ module _ (limit blocks callers : ℕ) where
     heap = empty_heap limit;
     table = empty_table blocks;
     ages = replicate (4 * blocks) 2;
+    queue = record { waiting = []; room = 0 };
     roots = replicate (16 * callers + 16) None;
     handle_registers = replicate callers (replicate 16 None);
     board = replicate 16 None;
@@ -53,15 +51,19 @@ module _ (limit blocks callers : ℕ) where
       ap (option_map (object_in (region_generation (empty_heap limit) (region_of x)))) (get-empty nat_cmp x.0) in
       not_in_none (Some y) (subst (λ (o : Option (Object Addr)). Contains (fields_in o) (Some y)) none field)
 
+  no_region : (r : ℕ) → is_held (empty_heap limit) r ≡ true → ⊥
+  no_region r held = subst T (sym (sym (ap is_some (get-empty {X = Region} nat_cmp r)) ∙ held)) tt
+
   -- parts are those of an opened store where each is as it was made
   pub are_opened :
       (f : Parts) → f.heap ≡ empty_heap limit → f.table ≡ empty_table blocks → f.ages ≡ replicate (4 * blocks) 2
-      → f.roots ≡ replicate (16 * callers + 16) None → f.handle_registers ≡ replicate callers (replicate 16 None)
+      → f.queue ≡ record { waiting = []; room = 0 } → f.roots ≡ replicate (16 * callers + 16) None → f.handle_registers ≡ replicate callers (replicate 16 None)
       → f.board ≡ replicate 16 None → f.serials ≡ replicate callers 0 → opened ≡ f
-  are_opened f heap table ages roots handle_registers board serials = λ i. record {
+  are_opened f heap table ages queue roots handle_registers board serials = λ i. record {
     heap = sym heap i;
     table = sym table i;
     ages = sym ages i;
+    queue = sym queue i;
     roots = sym roots i;
     handle_registers = sym handle_registers i;
     board = sym board i;
@@ -85,7 +87,8 @@ module _ (limit blocks callers : ℕ) where
       secondaries = λ slot h x row at. absurd (nothing_at slot h row);
     };
     cards = λ x y field younger. absurd (no_field x y field);
-    regions = λ region held. absurd (none_held region held);
+    full = λ r held. absurd (no_region r held);
+    room = let none = len-empty nat_cmp Placed in omega (arith, none);
     within = let none : sum_by cells_of (values (empty {X = Placed} {R = nat_cmp})) ≡ 0 = ap (λ (es : List (ℕ × Placed)). sum_by cells_of (map (λ e. e.1) es)) no_entries in omega (arith, none);
     limit = small;
     roots = ap (λ n. 16 * n + 16) (length-replicate callers (replicate 16 None)) ∙ sym (length-replicate (16 * callers + 16) None);

@@ -78,7 +78,8 @@ stored-table f t stored blocks uses each = record {
     secondaries = λ slot row x is e. (each slot row is).second_age x e;
   };
   cards = stored.cards;
-  regions = stored.regions;
+  full = stored.full;
+  room = stored.room;
   within = stored.within;
   limit = stored.limit;
   roots = stored.roots;

@@ -1,18 +1,20 @@
 -- Another object with the same identity at an address of a store: what the machine sees, and that the store keeps what it keeps.
-use Rattle.std.proofs.Common.{◌≡◌, ◌<◌, ◌≤◌, true, map, length, Some, refl, sym, ap, ◌∙◌, ◌⊎◌, subst, inl, inr, arith}
+use Rattle.std.proofs.Common.{◌≡◌, ℕ, ◌+◌, ◌<◌, ◌≤◌, true, cond, map, length, Some, refl, sym, ap, ◌∙◌, ◌⊎◌, subst, inl, inr, arith}
 use Rattle.std.specs.Prelude.{option_map, is_some, IsSome, Contains, sum_by}
-use Rattle.std.specs.FinMap.{get, insert, values, contains_key}
+use Rattle.std.specs.FinMap.{get, insert, values, len, len-insert}
+use Rattle.std.specs.Cmp.{nat_cmp_total}
 use Rattle.std.proofs.lemmas.Bool.{cases_eq}
 use Rattle.hd_model.specs.declared.data.Id.{Id}
 use Rattle.hd_model.specs.declared.data.Addr.{Addr}
 use Rattle.hd_model.specs.State.{Object, with_object}
 use Rattle.hd_model.specs.Scene.{is_object, fields_in, generation_in, generation_at, IsField}
-use Rattle.hd_model.specs.Heap.{Placed, Heap, region_generation, region_of, object_in, object_at, has_object, placed_at, cells_of, is_carded, used_of}
+use Rattle.hd_model.specs.Heap.{Placed, Heap, region_generation, region_of, is_held, object_in, object_at, has_object, placed_at, cells_of, is_carded, used_of}
 use Rattle.hd_model.specs.Ages.{HasSoundCards, age_of}
 use Rattle.hd_world.specs.Rows.{rows_of, rest_of}
 use Rattle.hd_world.specs.Reading.{read_object, name_in}
 use Rattle.hd_world.specs.Stored.{Parts, callers_of, state_of, IsStored}
-use Rattle.hd_world.specs.Store.{Machine, machine_of}
+use Rattle.hd_plan.specs.Plan.{HasNoEmptyRegion}
+use Rattle.hd_world.specs.Store.{Machine, machine_of, without_spare}
 use Rattle.hd_world.specs.Objects.{object_named}
 use Rattle.hd_heap.specs.Calls.{with_object as with_placed}
 use Rattle.hd_world.proofs.Standing.{placed_is, object_is, identity-is, named_object}
@@ -111,6 +113,19 @@ abbrev pub with_heap : Parts → Heap → Parts
 with_heap f k = record f { heap = k }
 
 module _ (f : Parts) (k : Heap) (at : Addr) (old new : Placed) (w : Writes f.heap k at old new) (stored : IsStored f) where
+  held_same : (r : ℕ) → is_held k r ≡ is_held f.heap r
+  held_same r = ap (λ rs. is_held (record f.heap { regions = rs }) r) w.replaces.regions
+
+  full_write : HasNoEmptyRegion k
+  full_write r held =
+      let s = stored.full r (sym (held_same r) ∙ held) in
+      record { at = s.at; object = is-object f.heap k at old new w s.at ∙ s.object; region = s.region }
+
+  len_same : len k.objects ≡ len f.heap.objects
+  len_same =
+      ap len w.replaces.objects ∙ len-insert nat_cmp_total f.heap.objects at.0 new
+      ∙ ap (λ o. cond (is_some o) (len f.heap.objects) (len f.heap.objects + 1)) w.replaces.was
+
   pub stored-write : IsStored (with_heap f k)
   stored-write =
       let h = f.heap in
@@ -130,9 +145,8 @@ module _ (f : Parts) (k : Heap) (at : Addr) (old new : Placed) (w : Writes f.hea
           secondaries = λ slot row x is second. subst (λ g. age_of f.ages slot ≤ g) (sym (generation-same h k at old new w x)) (stored.ages.secondaries slot row x is second);
         };
         cards = cards-sound h k at old new w stored.cards;
-        regions = λ region held.
-            let was = stored.regions region (ap (λ rs. contains_key rs region) (sym w.replaces.regions) ∙ held) in
-            (was.0, is-object h k at old new w was.0 ∙ was.1, was.2);
+        full = full_write;
+        room = omega (arith, len_same, stored.room);
         within = omega (arith, used-same h k at old new w, w.limit, stored.within);
         limit = omega (arith, w.limit, stored.limit);
         roots = stored.roots;
@@ -143,7 +157,7 @@ module _ (f : Parts) (k : Heap) (at : Addr) (old new : Placed) (w : Writes f.hea
       }
 
   -- the machine sees another object with that identity, and nothing else
-  pub machine-write : machine_of (with_heap f k) ≡ record (machine_of f) { state = with_object (state_of f) old.id (read_object f.heap at.0 new) }
+  pub machine-write : machine_of (with_heap f k) ≡ record (machine_of f) { state = with_object (state_of f) old.id (read_object f.heap at.0 new); heap = without_spare k }
   machine-write =
       let h = f.heap in
       λ i. record {
@@ -155,22 +169,24 @@ module _ (f : Parts) (k : Heap) (at : Addr) (old new : Placed) (w : Writes f.hea
           handle_registers = f.handle_registers;
           statics = rest_of (callers_of f) (map (option_map (ids-replace h k at.0 old new w.replaces i)) f.roots);
           board = f.board;
-          queue = (state_of f).queue;
+          queue = map (ids-replace h k at.0 old new w.replaces i) f.queue.waiting;
           places = (state_of f).places;
           blocks = f.table.uses;
           serials = f.serials;
         };
         names = names-replace h k at.0 old new w.replaces i;
         ages = f.ages;
+        heap = without_spare k;
       }
 
 -- the machine sees the object at an address changed
-pub written : (f : Parts) (m : Machine) (view : machine_of f ≡ m) (stored : IsStored f) (at : Addr) (known : IsSome (get m.names at.0)) (k : Heap) (new : Placed) → Writes f.heap k at (placed_at f.heap at) new → (change : Object Id → Object Id) → read_object f.heap at.0 new ≡ change (read_object f.heap at.0 (placed_at f.heap at)) → machine_of (with_heap f k) ≡ record m { state = with_object m.state (name_in m.names at) (change (object_named m at)) }
+pub written : (f : Parts) (m : Machine) (view : machine_of f ≡ m) (stored : IsStored f) (at : Addr) (known : IsSome (get m.names at.0)) (k : Heap) (new : Placed) → Writes f.heap k at (placed_at f.heap at) new → (change : Object Id → Object Id) → read_object f.heap at.0 new ≡ change (read_object f.heap at.0 (placed_at f.heap at)) → machine_of (with_heap f k) ≡ record m { state = with_object m.state (name_in m.names at) (change (object_named m at)); heap = without_spare k }
 written f m view stored at known k new w change is =
     machine-write f k at (placed_at f.heap at) new w stored
     ∙ (λ i. record (view i) {
       state = with_object (view i).state (identity-is f m view stored at known i)
           ((is ∙ ap change (sym (named_object f m view stored at known))) i);
+      heap = without_spare k;
     })
 
 -- a write that leaves the fields and the cards

@@ -2,10 +2,13 @@ pub mod Rows
 pub mod Reading
 pub mod Stored
 pub mod Store
+pub mod Places
+pub mod Visited
 pub mod Objects
 pub mod Handles
 pub mod Growth
 pub mod Commands
 pub mod Counts
+pub mod Placed
 pub mod Making
 pub mod World

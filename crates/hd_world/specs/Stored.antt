@@ -1,24 +1,27 @@
 -- The parts of a store by address, the state of the machine that they stand for, and what is always true of
 -- them.
-use Rattle.std.specs.Prelude.{◌≡◌, ℕ, ◌+◌, ◌*◌, ◌≤◌, List, [], length, map, Option, option_map, IsSome, true}
-use Rattle.std.specs.FinMap.{get, empty}
+use Rattle.std.specs.Prelude.{◌≡◌, ℕ, ◌+◌, ◌*◌, ◌≤◌, List, length, map, Option, option_map, IsSome}
+use Rattle.std.specs.FinMap.{get, empty, len}
 use Rattle.hd_model.specs.declared.data.Addr.{Addr}
 use Rattle.hd_model.specs.declared.data.Slot.{Slot}
 use Rattle.hd_model.specs.declared.limits.TheConstants.{HEAP, BLOCKS, CLUMPS, REGISTERS}
 use Rattle.hd_model.specs.State.{Numbers, State}
 use Rattle.hd_model.specs.Scene.{Scene, IsWhole}
 use Rattle.hd_model.specs.Ages.{HasSoundAges, HasSoundCards}
-use Rattle.hd_model.specs.Heap.{Heap, object_at, has_object, id_at, is_carded, is_held, region_of, used_of, HasIdentities}
-use Rattle.hd_model.specs.Table.{Table, row_at}
+use Rattle.hd_model.specs.Heap.{Heap, object_at, id_at, is_carded, used_of, HasIdentities}
+use Rattle.hd_model.specs.Table.{Table, Queue, row_at}
+use Rattle.hd_plan.specs.Plan.{HasNoEmptyRegion}
 use Rattle.hd_world.specs.Rows.{rows_of, rest_of}
 use Rattle.hd_world.specs.Reading.{objects_by_id, rows_by_id}
 
--- the parts of a store: the heap, the table and the ages of its clumps; what the registers of all callers and
--- then the statics name; what the handle registers and the board have; and each caller's last serial
+-- the parts of a store: the heap, the table and the ages of its clumps; the finalisation queue; what the
+-- registers of all callers and then the statics name; what the handle registers and the board have; and each
+-- caller's last serial
 pub record Parts : Type 0 where
   pub heap : Heap
   pub table : Table
   pub ages : List ℕ
+  pub queue : Queue
   pub roots : List (Option Addr)
   pub handle_registers : List (List (Option Slot))
   pub board : List (Option Slot)
@@ -32,9 +35,14 @@ numbers_of f = record { heap = f.heap.limit; blocks = f.table.blocks; callers = 
 
 -- what a collection looks at
 abbrev pub scene_of_parts : Parts → Scene Addr
-scene_of_parts f = record { object = object_at f.heap; handle = row_at f.table; named = f.roots; queue = [] }
+scene_of_parts f = record {
+  object = object_at f.heap;
+  handle = row_at f.table;
+  named = f.roots;
+  queue = f.queue.waiting;
+}
 
--- the state of the machine, by identity. Nothing is queued and no place is kept yet.
+-- the state of the machine, by identity, without the places that were answered: a store keeps none
 abbrev pub state_of : Parts → State
 state_of f = record {
   objects = objects_by_id f.heap;
@@ -43,26 +51,22 @@ state_of f = record {
   handle_registers = f.handle_registers;
   statics = rest_of (callers_of f) (map (option_map (id_at f.heap)) f.roots);
   board = f.board;
-  queue = [];
+  queue = map (id_at f.heap) f.queue.waiting;
   places = empty;
   blocks = f.table.uses;
   serials = f.serials;
 }
 
--- no held region is without an object
-abbrev pub HasNoIdleRegion : Heap → Type 0
-HasNoIdleRegion h = (region : ℕ) → is_held h region ≡ true
-    → (a : Addr) × (has_object h a ≡ true) × (region_of a ≡ region)
-
--- what a store keeps, which is also what a collection asks for: every name is that of an object, no two objects
--- have one identity, ages and cards are sound, each held region has an object, the objects take no more cells
--- than the limit, and a block with a use is one of the table's
+-- what a store keeps, which is also what a collection asks for: every name is that of an object, no two
+-- objects have one identity, ages and cards are sound, each held region has an object, the queue has room for
+-- all objects, the objects take no more cells than the limit, and a block with a use is one of the table's
 pub record IsStored (f : Parts) : Type 0 where
   pub whole : IsWhole (scene_of_parts f)
   pub identities : HasIdentities f.heap
   pub ages : HasSoundAges (object_at f.heap) (row_at f.table) f.ages
   pub cards : HasSoundCards (object_at f.heap) (is_carded f.heap)
-  pub regions : HasNoIdleRegion f.heap
+  pub full : HasNoEmptyRegion f.heap
+  pub room : len f.heap.objects ≤ f.queue.room
   pub within : used_of f.heap ≤ f.heap.limit
   pub limit : f.heap.limit ≤ HEAP
   pub roots : REGISTERS * callers_of f + REGISTERS ≡ length f.roots

@@ -12,24 +12,33 @@ use Rattle.hd_model.specs.declared.command.Cmd.TheVariants as cmd
 use Rattle.hd_model.specs.State.{Numbers, State, given_of, used_of, block_of, first_slot, IsFree, IsAllFree}
 use Rattle.hd_model.specs.Kinds.{kind_of}
 use Rattle.hd_model.specs.Step.{blocks_needed}
-use Rattle.hd_model.specs.Code.{numbers_code, state_code, entry_code}
+use Rattle.hd_model.specs.Code.{numbers_code, state_code, entry_code, heap_code}
+use Rattle.hd_model.specs.Heap.{Heap}
 
--- a world: its numbers, its state, the ages of the clumps, the journal that led there, and for how many more
--- entries there is room
+-- a world: its numbers, its state, the ages of the clumps, the heap by address without its spare regions, the
+-- journal that led there, and for how many more entries there is room
 pub record Standing : Type 0 where
   pub numbers : Numbers
   pub state : State
   pub ages : List ℕ
+  pub heap : Heap
   pub journal : List Entry
   pub spare : ℕ
 
 abbrev pub standing_code : Coded Standing
 standing_code =
-    code_by (Numbers × (State × (List ℕ × (List Entry × ℕ))))
+    code_by (Numbers × (State × (List ℕ × (Heap × (List Entry × ℕ)))))
     (coded× numbers_code (coded× state_code
-    (coded× (coded_list coded_ℕ) (coded× (coded_list entry_code) coded_ℕ))))
-    (λ w. (w.numbers, (w.state, (w.ages, (w.journal, w.spare)))))
-    (λ p. record { numbers = p.0; state = p.1.0; ages = p.1.1.0; journal = p.1.1.1.0; spare = p.1.1.1.1 })
+    (coded× (coded_list coded_ℕ) (coded× heap_code (coded× (coded_list entry_code) coded_ℕ)))))
+    (λ w. (w.numbers, (w.state, (w.ages, (w.heap, (w.journal, w.spare))))))
+    (λ p. record {
+      numbers = p.0;
+      state = p.1.0;
+      ages = p.1.1.0;
+      heap = p.1.1.1.0;
+      journal = p.1.1.1.1.0;
+      spare = p.1.1.1.1.1;
+    })
     (λ _. refl)
 
 -- what a command asks of the heap and of the table: room for an object of so many fields, a slot for a handle

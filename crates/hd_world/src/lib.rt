@@ -2,6 +2,7 @@
 //! registers, with the journal of all that was done.
 #![tactic(auto)]
 
+mod collection;
 mod commands;
 mod handles;
 mod making;
@@ -9,6 +10,7 @@ mod objects;
 mod on_handles;
 mod on_objects;
 mod order;
+mod places;
 mod store;
 #[cfg(test)]
 mod tests;

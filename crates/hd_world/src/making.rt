@@ -126,6 +126,7 @@ pub(crate) fn new_handle(
     ensures step { let cmd = cmds.HNew d make t in
         StepOf store.old.numbers store.old.state result store.new.state cmd }
     ensures numbers { store.new.numbers ≡ store.old.numbers }
+    ensures names { store.new.names ≡ store.old.names }
     ensures ages { store.new.ages ≡ aged_by store.old.state result store.old.ages }
     ensures offer { let cmd = cmds.HNew d make t in
         ForSome offer (Takes result cmd) }
@@ -157,6 +158,7 @@ pub(crate) fn trim(store: &mut Store, order: Order, kind: Kind, offer: Option<Sl
     ensures step { let cmd = cmds.Trim kind in
         StepOf store.old.numbers store.old.state result store.new.state cmd }
     ensures numbers { store.new.numbers ≡ store.old.numbers }
+    ensures names { store.new.names ≡ store.old.names }
     ensures ages { store.new.ages ≡ aged_by store.old.state result store.old.ages }
     ensures offer { let cmd = cmds.Trim kind in
         ForSome offer (Takes result cmd) }

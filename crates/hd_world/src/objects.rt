@@ -1,17 +1,23 @@
 // What a store does with objects.
 ghost use Rattle.std.specs.Prelude.{◌≡◌, ◌≢◌, ℕ, ◌+◌, ◌<◌, ◌≤◌, ◌^◌, length, slice_set};
-ghost use Rattle.std.specs.Prelude.{Some, None, IsSome, IfOk, IfErr, OnOk};
-ghost use Rattle.std.specs.FinMap.{get, insert};
+ghost use Rattle.std.specs.Prelude.{Some, None, IsSome, IfOk, IfErr, OnOk, MatchResult, MatchOption, max, ◌⊎◌, [], ◌∷◌};
+ghost use Rattle.std.specs.FinMap.{get, insert, len};
+ghost use Rattle.hd_heap.specs.Calls.{IsMade, new_object, IsRefused as IsRefusedBy};
 ghost use Rattle.hd_model.specs.State.{object_at, field_of, last_serial, identity_of, used_of};
-ghost use Rattle.hd_model.specs.State.{with_object, with_serial};
+ghost use Rattle.hd_model.specs.State.{with_object, with_serial, with_queue};
 ghost use Rattle.hd_world.specs.Reading.{name_in, named_in, IsNamed};
 ghost use Rattle.hd_model.specs.Command.{fresh_object};
 ghost use Rattle.hd_world.specs.Objects.{object_named, IsRefused};
+ghost use Rattle.hd_world.specs.Places.{KeepsNames};
 
 use crate::store::Store;
-use hd_heap::NewFault;
+use hd_final::Final;
+use hd_heap::{Heap, NewFault};
 use hd_model::limits::FIELDS;
-use hd_model::{Addr, Id};
+use hd_model::{Addr, Id, Memory};
+
+// The cells of an object beside its fields.
+const HEADER: u32 = 3;
 
 // The identity of a caller's object with a serial.
 fn identity(caller: u32, serial: u32) -> Id
@@ -20,6 +26,50 @@ fn identity(caller: u32, serial: u32) -> Id
     ensures not_zero { result.0 ≢ 0 }
 {
     Id(u64::from(caller) * (1 << 32) + u64::from(serial))
+}
+
+// Takes room in the queue for an object more of so many fields. A full heap is answered first.
+fn reserve_for(heap: &Heap, queue: &mut Final, fields: u32) -> Result<(), NewFault>
+    requires few { len heap.now.objects + 1 < 2 ^ 32 }
+    requires fields { fields ≤ FIELDS }
+    ensures { MatchResult result
+        (λ _. queue.new ≡ record queue.old { room = max (len heap.now.objects + 1) queue.old.room })
+        (λ fault. (queue.new ≡ queue.old) × IsRefusedBy heap.now heap.now (fields + 3) fault) }
+{
+    let size = fields + HEADER;
+    let used = heap.used();
+    if u64::from(used) + u64::from(size) > u64::from(heap.limit()) {
+        return Err(NewFault::Full { used, size });
+    }
+    match queue.reserve(heap.count() + 1) {
+        Ok(()) => Ok(()),
+        Err(Memory) => Err(NewFault::Memory),
+    }
+}
+
+// Makes an object, with room for it in the queue.
+fn make(
+    heap: &mut Heap,
+    queue: &mut Final,
+    id: Id,
+    fields: u32,
+    fin: bool,
+) -> Result<Addr, NewFault>
+    requires identified { id.0 ≢ 0 }
+    requires few { len heap.old.objects + 1 < 2 ^ 32 }
+    requires fields { fields ≤ FIELDS }
+    ensures heap { MatchResult result
+        (λ at. IsMade heap.old heap.new at (new_object id fields fin))
+        (IsRefusedBy heap.old heap.new (fields + 3)) }
+    ensures queue { MatchResult result
+        (λ _. queue.new ≡ record queue.old { room = max (len heap.old.objects + 1) queue.old.room })
+        (λ _. (queue.new ≡ queue.old) ⊎
+        (queue.new ≡ record queue.old { room = max (len heap.old.objects + 1) queue.old.room })) }
+{
+    match reserve_for(heap, queue, fields) {
+        Ok(()) => heap.new_object(id, fields, fin),
+        Err(fault) => Err(fault),
+    }
 }
 
 impl Store {
@@ -57,7 +107,8 @@ impl Store {
         ensures { let object = object_named self.old at in
             let fields = slice_set object.fields i (named_in self.old.names v) in
             let after = record object { fields = fields } in
-            self.new ≡ record self.old { state = with_object self.old.state (name_in self.old.names at) after } }
+            let state = with_object self.old.state (name_in self.old.names at) after in
+            self.new ≡ record self.old { state = state; heap = self.new.heap } }
     {
         self.heap.store(at, u32::from(i), v);
     }
@@ -74,7 +125,8 @@ impl Store {
     pub(crate) fn set_value(&mut self, at: Addr, v: u64)
         requires { IsSome (get self.old.names at.0) }
         ensures { let after = record (object_named self.old at) { value = v } in
-            self.new ≡ record self.old { state = with_object self.old.state (name_in self.old.names at) after } }
+            let state = with_object self.old.state (name_in self.old.names at) after in
+            self.new ≡ record self.old { state = state; heap = self.new.heap } }
     {
         self.heap.set_value(at, v);
     }
@@ -91,7 +143,8 @@ impl Store {
     pub(crate) fn set_registered(&mut self, at: Addr, on: bool)
         requires { IsSome (get self.old.names at.0) }
         ensures { let after = record (object_named self.old at) { registered = on } in
-            self.new ≡ record self.old { state = with_object self.old.state (name_in self.old.names at) after } }
+            let state = with_object self.old.state (name_in self.old.names at) after in
+            self.new ≡ record self.old { state = state; heap = self.new.heap } }
     {
         self.heap.set_registered(at, on);
     }
@@ -115,19 +168,32 @@ impl Store {
             IfOk result (λ at. self.new ≡ record self.old {
               state = with_serial made caller serial;
               names = insert self.old.names at.0 id;
+              heap = self.new.heap;
             }) }
         ensures fits { OnOk result (used_of self.old.state + (fields + 3) ≤ self.old.numbers.heap) }
         ensures known { IfOk result (λ at. IsSome (get self.new.names at.0)) }
+        ensures kept { OnOk result (KeepsNames self.old.names self.new.names) }
         ensures refused { IfErr result (IsRefused self.old self.new (fields + 3)) }
     {
         let serial = self.serials[caller as usize] + 1;
         let id = identity(caller, serial);
-        match self.heap.new_object(id, u32::from(fields), fin) {
+        match make(&mut self.heap, &mut self.queue, id, u32::from(fields), fin) {
             Ok(at) => {
                 self.serials[caller as usize] = serial;
                 Ok(at)
             }
             Err(fault) => Err(fault),
         }
+    }
+
+    /// Takes the first object that waits for its finalizer out of the queue.
+    pub(crate) fn next_queued(&mut self) -> Option<Addr>
+        ensures queue { MatchOption result
+            ((self.old.state.queue ≡ []) × (self.new ≡ self.old))
+            (λ at. (self.old.state.queue ≡ name_in self.old.names at ∷ self.new.state.queue) ×
+            (self.new ≡ record self.old { state = with_queue self.old.state self.new.state.queue })) }
+        ensures named { IsNamed self.new.names result }
+    {
+        self.queue.pop()
     }
 }

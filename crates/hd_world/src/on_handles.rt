@@ -25,9 +25,9 @@ use hd_model::limits::REGISTERS;
 use hd_model::{Addr, Entry, Refusal, Reply, Slot, Strength};
 use hd_seg::{Extra, Row};
 
-// The slot in a handle register with its handle, which is refused where the register is empty and
-// where the slot is not live.
-fn live_in(store: &Store, caller: u32, h: u8) -> Result<(Slot, Live), Refusal>
+/// The slot in a handle register with its handle, which is refused where the register is empty and
+/// where the slot is not live.
+pub(crate) fn live_in(store: &Store, caller: u32, h: u8) -> Result<(Slot, Live), Refusal>
     requires caller { caller < store.now.numbers.callers }
     requires register { h < REGISTERS }
     ensures value { as_found store.now result ≡ live_in store.now.state caller h }

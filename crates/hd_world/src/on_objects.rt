@@ -6,9 +6,10 @@ ghost use Rattle.hd_model.specs.declared.data.Refusal.TheVariants as refusal;
 ghost use Rattle.hd_model.specs.State.{register_of, last_serial, identity_of, used_of};
 ghost use Rattle.hd_model.specs.Command.{loaded, new_object, set_field, get_field, set_value};
 ghost use Rattle.hd_model.specs.Command.{read_value, copy_register, clear_register, put_static};
-ghost use Rattle.hd_model.specs.Command.{get_static, read_generation, set_registered};
+ghost use Rattle.hd_model.specs.Command.{get_static, read_generation, set_registered, take_queued};
 ghost use Rattle.hd_world.specs.Reading.{name_in, named_in, IsNamed};
 ghost use Rattle.hd_world.specs.Objects.{object_named};
+ghost use Rattle.hd_world.specs.Places.{KeepsNames};
 ghost use Rattle.hd_world.specs.Commands.{entry_of, after};
 
 use crate::order::Order;
@@ -65,6 +66,7 @@ pub(crate) fn new_object(
         IfOk result (λ e. store.new.state ≡ wanted.after) }
     ensures numbers { store.new.numbers ≡ store.old.numbers }
     ensures ages { store.new.ages ≡ store.old.ages }
+    ensures names { KeepsNames store.old.names store.new.names }
     ensures fits { OnErr result (used_of store.old.state + (fields + 3) ≤ store.old.numbers.heap) }
     ensures unchanged { OnErr result (store.new ≡ store.old) }
 {
@@ -85,7 +87,7 @@ pub(crate) fn set_field(store: &mut Store, order: Order, o: u8, i: u8, v: u8) ->
     ensures entry { let wanted = set_field store.old.state order.caller o i v in
         result ≡ entry_of order.caller order.cmd wanted }
     ensures store { let wanted = set_field store.old.state order.caller o i v in
-        store.new ≡ after store.old wanted }
+        store.new ≡ record (after store.old wanted) { heap = store.new.heap } }
 {
     let at = match object_in(store, order.caller, o) {
         Ok(at) => at,
@@ -128,7 +130,7 @@ pub(crate) fn set_value(store: &mut Store, order: Order, o: u8, value: u64) -> E
     ensures entry { let wanted = set_value store.old.state order.caller o value in
         result ≡ entry_of order.caller order.cmd wanted }
     ensures store { let wanted = set_value store.old.state order.caller o value in
-        store.new ≡ after store.old wanted }
+        store.new ≡ record (after store.old wanted) { heap = store.new.heap } }
 {
     let at = match object_in(store, order.caller, o) {
         Ok(at) => at,
@@ -171,7 +173,7 @@ pub(crate) fn set_registered(store: &mut Store, order: Order, o: u8, on: bool) -
     ensures entry { let wanted = set_registered store.old.state order.caller o on in
         result ≡ entry_of order.caller order.cmd wanted }
     ensures store { let wanted = set_registered store.old.state order.caller o on in
-        store.new ≡ after store.old wanted }
+        store.new ≡ record (after store.old wanted) { heap = store.new.heap } }
 {
     let at = match object_in(store, order.caller, o) {
         Ok(at) => at,
@@ -235,4 +237,21 @@ pub(crate) fn get_static(store: &mut Store, order: Order, d: u8, k: u8) -> Entry
     let reply = loaded(store, target);
     store.set_register(order.caller, d, target);
     order.reply(reply)
+}
+
+/// `final rD`.
+pub(crate) fn take_queued(store: &mut Store, order: Order, d: u8) -> Entry
+    requires caller { order.caller < store.old.numbers.callers }
+    requires register { d < REGISTERS }
+    ensures entry { let wanted = take_queued store.old.state order.caller d in
+        result ≡ entry_of order.caller order.cmd wanted }
+    ensures store { let wanted = take_queued store.old.state order.caller d in
+        store.new ≡ after store.old wanted }
+{
+    let first = store.next_queued();
+    store.set_register(order.caller, d, first);
+    match first {
+        Some(at) => order.reply(Reply::Object(store.id(at))),
+        None => order.reply(Reply::NoneQueued),
+    }
 }

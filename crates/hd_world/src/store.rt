@@ -8,6 +8,7 @@ ghost use Rattle.hd_model.specs.State.{with_board};
 ghost use Rattle.hd_world.specs.Reading.{named_in, IsNamed};
 
 use hd_ages::AgeMap;
+use hd_final::Final;
 use hd_heap::Heap;
 use hd_model::limits::{BLOCKS, CALLERS, CLUMPS, HEAP, OLDEST, REGISTERS};
 use hd_model::{Addr, Memory, Slot};
@@ -21,11 +22,13 @@ const PLACES: usize = REGISTERS as usize;
 /// The state of the machine, with the ages of the clumps. Objects are named by their addresses.
 #[derive(Drop)]
 pub(crate) struct Store {
+    pub(crate) alloc: Global,
     pub(crate) heap: Heap,
     pub(crate) table: Seg,
     pub(crate) ages: AgeMap,
+    pub(crate) queue: Final,
     // What the object registers of all callers name, those of each in turn, and then the statics.
-    roots: Vec<Option<Addr>>,
+    pub(crate) roots: Vec<Option<Addr>>,
     handle_registers: Vec<[Option<Slot>; PLACES]>,
     board: [Option<Slot>; PLACES],
     pub(crate) serials: Vec<u32>,
@@ -43,6 +46,7 @@ impl Model for Store {
       heap = s.heap;
       table = s.table;
       ages = s.ages;
+      queue = s.queue;
       roots = s.roots.items;
       handle_registers = s.handle_registers.items;
       board = s.board;
@@ -53,6 +57,7 @@ impl Model for Store {
       heap = s.heap;
       table = s.table;
       ages = s.ages;
+      queue = s.queue;
       roots = s.roots.items;
       handle_registers = s.handle_registers.items;
       board = s.board;
@@ -84,9 +89,11 @@ impl Store {
         ensures ages { IfOk result (λ s. s.ages ≡ replicate (CLUMPS * blocks) OLDEST) }
     {
         Ok(Store {
+            alloc,
             heap: Heap::open(alloc, heap)?,
             table: Seg::open(alloc, blocks)?,
             ages: AgeMap::open(alloc, blocks)?,
+            queue: Final::open(alloc)?,
             roots: filled(alloc, None, REGISTERS * callers + REGISTERS)?,
             handle_registers: filled(alloc, [None; PLACES], callers)?,
             board: [None; PLACES],

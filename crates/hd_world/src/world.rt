@@ -6,31 +6,38 @@ ghost use Rattle.hd_model.specs.State.{Numbers, start_of, use_of, block_of};
 ghost use Rattle.hd_model.specs.Step.{Step};
 ghost use Rattle.hd_model.specs.Run.{Run};
 ghost use Rattle.hd_model.specs.Aging.{AgedRun, aged_by};
-ghost use Rattle.hd_model.specs.Valid.{IsValid, is_built, takes_memory};
+ghost use Rattle.hd_model.specs.Valid.{IsValid, takes_memory};
 ghost use Rattle.hd_model.specs.Text.{collections_of, is_collect};
 ghost use Rattle.hd_world.specs.Growth.{kind_in_use};
+ghost use Rattle.hd_world.specs.Placed.{Placed, Placed-prop};
 ghost use Rattle.hd_world.specs.World.{IsOffer, GrowsWithout, Takes, FitsHeap};
+ghost use Rattle.hd_world.specs.Places.{LeavesHeap};
+ghost use Rattle.hd_world.specs.Visited.{TakesSteps};
 
 use crate::commands;
 use crate::order::Order;
 use crate::store::Store;
 use hd_model::limits::{BLOCKS, CALLERS, HEAP};
-use hd_model::{Cmd, Entry, Journal, Kind, Memory, Slot};
+use hd_model::{Cmd, Entry, Held, Journal, Kind, Memory, Slot, Steps};
 use std::alloc::Global;
 use std::marker::Model;
+use std::sync::ledger::Ledger;
 
-/// A world of objects and handles, seen as its numbers, its state, the ages of its clumps, its
-/// journal, and for how many more entries there is room. The journal is a run of the machine that
+/// A world of objects and handles, seen as its numbers, its state, the ages of its clumps, its heap,
+/// its journal, and for how many more entries there is room. The journal is a run of the machine that
 /// leads to the state and leaves the ages. A world is made by `open` alone, and its journal grows by
 /// `apply` alone.
 #[derive(Drop)]
 pub struct World {
     store: Store,
     journal: Journal,
+    // The places that the journal answered, which the program keeps nowhere.
+    ghost placed: { Placed store journal.entries } by { Placed-prop store journal.entries },
 }
 
 impl Model for World {
-    ghost use Rattle.hd_model.specs.Aging.{AgedRun};
+    ghost use Rattle.hd_model.specs.Places.{with_places};
+    ghost use Rattle.hd_world.specs.Placed.{IsTrueRun};
     ghost use Rattle.hd_world.specs.World.{Standing, standing_code};
 
     ghost Value = { Standing };
@@ -39,13 +46,31 @@ impl Model for World {
 
     ghost view = { λ w. record {
       numbers = w.store.numbers;
-      state = w.store.state;
+      state = with_places w.store.state w.placed.0;
       ages = w.store.ages;
+      heap = w.store.heap;
       journal = w.journal.entries;
       spare = w.journal.spare;
     } };
 
-    ghost invariant = { λ w. AgedRun w.store.numbers w.journal.entries w.store.state w.store.ages };
+    ghost invariant = { λ w. IsTrueRun w.store w.journal.entries w.placed.0 };
+}
+
+impl Held for World {
+    ghost use Rattle.std.specs.Prelude.{is_some};
+    ghost use Rattle.std.specs.FinMap.{get};
+    ghost use Rattle.hd_model.specs.State.{use_of};
+    ghost use Rattle.hd_model.specs.Table.{kind_word};
+
+    ghost numbers = { λ w. w.numbers };
+
+    ghost journal = { λ w. w.journal };
+
+    ghost spare = { λ w. w.spare };
+
+    ghost live = { λ w slot. is_some (get w.state.handles slot) };
+
+    ghost kind = { λ w block. kind_word (use_of w.state block) };
 }
 
 impl World {
@@ -76,11 +101,16 @@ impl World {
     /// Does a command of a caller and appends its entry to the journal. To `hnew` a free slot of its
     /// kind may be offered, to `trim` the first slot of a block of its kind whose slots are all free,
     /// and to no other command anything. Want of memory changes nothing.
-    pub fn apply(&mut self, caller: u32, cmd: Cmd, offer: Option<Slot>) -> Result<Entry, Memory>
+    pub fn apply<L: Ledger>(
+        &mut self,
+        caller: u32,
+        cmd: Cmd,
+        offer: Option<Slot>,
+        steps: &mut Steps<L>,
+    ) -> Result<Entry, Memory>
         requires room { 1 ≤ self.old.spare }
         requires caller { caller < self.old.numbers.callers }
         requires valid { IsValid cmd }
-        requires built { IsTrue (is_built cmd) }
         requires offer { IsOffer self.old.state cmd offer }
         // The answered entry is of this command and is appended. It is a step from the state
         // before to the one after, and ages the clumps.
@@ -98,10 +128,17 @@ impl World {
         ensures memory { OnErr result (IsTrue (takes_memory cmd)) }
         ensures fits { OnErr result (FitsHeap self.old.numbers self.old.state cmd) }
         ensures unchanged { OnErr result (self.new ≡ self.old) }
+        // A collection leaves just the cards set that are needed, and one of generation 2 leaves
+        // the heap compact. It takes a step for each visit of a due clump; no other command takes
+        // one.
+        ensures heap { IfOk result (λ e. LeavesHeap e self.new.state.handles self.new.heap) }
+        ensures steps { let s = self.old.state in let ages = self.old.ages in
+            IfOk result (λ e. TakesSteps s ages e steps.old steps.new) }
+        ensures unstepped { OnErr result (steps.new ≡ steps.old) }
     {
         // The journal's length bounds the serials and the counts.
         let _room = self.journal.spare();
-        let entry = commands::carry_out(&mut self.store, Order { caller, cmd }, offer)?;
+        let entry = commands::run(&mut self.store, Order { caller, cmd }, offer, steps)?;
         self.journal.push(entry);
         Ok(entry)
     }

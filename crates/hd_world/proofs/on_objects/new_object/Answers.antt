@@ -1,4 +1,4 @@
-use Rattle.std.proofs.Common.{◌≡◌, ◌+◌, false, nat_lt, Some, sym, ap, ◌∙◌}
+use Rattle.std.proofs.Common.{◌≡◌, ◌+◌, false, nat_lt, Some, sym, ap, ◌∙◌, subst}
 use Rattle.std.specs.Prelude.{if◌then◌else◌, unwrap_or}
 use Rattle.std.proofs.lemmas.Bool.{le-ltb}
 use Rattle.hd_model.specs.declared.data.Refusal.TheVariants as refusal
@@ -6,6 +6,7 @@ use Rattle.hd_model.specs.declared.data.Reply.TheVariants as reply
 use Rattle.hd_model.specs.State.{last_serial, identity_of, used_of, with_register, with_serial, with_object}
 use Rattle.hd_model.specs.Command.{Outcome, refuses, answers, fresh_object}
 use Rattle.hd_world.specs.Store.{Machine}
+use Rattle.hd_world.specs.Places.{KeepsNames}
 use Rattle.hd_world.specs.Commands.{entry_of}
 use Rattle.hd_world.specs.Reading.{name_in}
 use Rattle.hd_world.proofs.Maps.{get-put}
@@ -49,3 +50,6 @@ returns-in-Ok-clause-state c =
     ap (λ (m : Machine). m.state) c.set_register.ensures
     ∙ (λ i. with_register (c.in-Ok.ensures.made i).state c.args.order.caller c.args.d (Some (name at i)))
     ∙ ap (λ b. (if b then full at else made at).after) (sym (has_room at))
+
+pub returns-in-Ok-clause-names : goal.returns-in-Ok-clause-names
+returns-in-Ok-clause-names c = subst (λ (m : Machine). KeepsNames c.args.store.now.names m.names) (sym c.set_register.ensures) c.in-Ok.ensures.kept

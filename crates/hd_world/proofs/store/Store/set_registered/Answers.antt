@@ -1,31 +1,34 @@
-use Rattle.std.proofs.Common.{refl, sym, ap, ◌∙◌, subst}
+use Rattle.std.proofs.Common.{refl, sym, subst}
 use Rattle.hd_model.specs.Heap.{Placed, placed_at}
-use Rattle.hd_heap.specs.Calls.{with_object}
-use Rattle.hd_world.specs.Stored.{IsStored}
-use Rattle.hd_world.specs.Store.{machine_of}
 use Rattle.hd_world.proofs.Inside.{parts}
 use Rattle.hd_world.proofs.Standing.{in_heap}
-use Rattle.hd_world.proofs.Writes.{Writes, with_heap, stored-write, written, writes_beside}
+use Rattle.hd_world.proofs.Writes.{Writes, stored-write, written, writes_beside}
 use Rattle.hd_world.proofs.store.Store.set_registered.Goals as goal
 use Rattle.hd_world.proofs.store.Store.set_registered.Goals.{After-set_registered}
 
 pub set_registered-requires : goal.set_registered-requires
-set_registered-requires c = in_heap (parts c.self.inside) c.args.self.now c.self.view_is c.self.invariant c.args.at c.requires
+set_registered-requires c = in_heap (parts c.self.inside) c.args.self.now c.self.view_is c.self.invariant
+    c.args.at c.requires
 
 abbrev new : After-set_registered → Placed
 new c = record (placed_at c.self.inside.heap c.args.at) { registered = c.args.on }
 
-writes : (c : After-set_registered) → Writes c.self.inside.heap (with_object c.self.inside.heap c.args.at (new c)) c.args.at (placed_at c.self.inside.heap c.args.at) (new c)
+writes : (c : After-set_registered) → Writes c.self.inside.heap c.set_registered.new.self c.args.at
+    (placed_at c.self.inside.heap c.args.at) (new c)
 writes c =
-    writes_beside (parts c.self.inside) c.self.invariant c.args.at
-    (in_heap (parts c.self.inside) c.args.self.now c.self.view_is c.self.invariant c.args.at c.requires) (new c) refl refl
+    subst (λ h. Writes c.self.inside.heap h c.args.at (placed_at c.self.inside.heap c.args.at) (new c))
+    (sym c.set_registered.ensures)
+    (writes_beside (parts c.self.inside) c.self.invariant c.args.at
+    (in_heap (parts c.self.inside) c.args.self.now c.self.view_is c.self.invariant c.args.at c.requires)
+    (new c) refl refl)
 
 pub invariant_of-self : goal.invariant_of-self
 invariant_of-self c =
-    subst (λ h. IsStored (with_heap (parts c.self.inside) h)) (sym c.set_registered.ensures)
-    (stored-write (parts c.self.inside) (with_object c.self.inside.heap c.args.at (new c)) c.args.at (placed_at c.self.inside.heap c.args.at) (new c) (writes c) c.self.invariant)
+    stored-write (parts c.self.inside) c.set_registered.new.self c.args.at
+    (placed_at c.self.inside.heap c.args.at) (new c) (writes c) c.self.invariant
 
 pub returns : goal.returns
 returns c =
-    ap (λ h. machine_of (with_heap (parts c.self.inside) h)) c.set_registered.ensures
-    ∙ written (parts c.self.inside) c.args.self.now c.self.view_is c.self.invariant c.args.at c.requires (with_object c.self.inside.heap c.args.at (new c)) (new c) (writes c) (λ o. record o { registered = c.args.on }) refl
+    written (parts c.self.inside) c.args.self.now c.self.view_is c.self.invariant c.args.at c.requires
+    c.set_registered.new.self (new c) (writes c)
+    (λ o. record o { registered = c.args.on }) refl

@@ -1,33 +1,126 @@
-use Rattle.std.proofs.Common.{◌<◌, ◌+◌, ◌^◌, List, length, sym, ap, subst, arith}
+use Rattle.std.proofs.Common.{◌≡◌, ℕ, ◌<◌, ◌+◌, ◌^◌, List, ◌++◌, ◌∷◌, [], length, refl, sym, ap, ◌∙◌, subst, arith}
+use Rattle.std.specs.Prelude.{Result, Ok, Err, OnErr}
+use Rattle.std.specs.FinMap.{FinMap}
+use Rattle.std.specs.Ordering.{nat_cmp}
 use Rattle.hd_model.specs.declared.data.Entry.{Entry}
-use Rattle.hd_model.specs.Aging.{AgedRun}
+use Rattle.hd_model.specs.Places.{with_places}
+use Rattle.hd_model.specs.Step.{Step}
+use Rattle.hd_model.specs.Aging.{aged_by}
+use Rattle.hd_world.specs.Store.{Machine}
+use Rattle.hd_world.specs.Placed.{IsTrueRun, Placed}
+use Rattle.hd_world.specs.Visited.{TakesSteps}
 use Rattle.hd_world.specs.World.{Standing}
-use Rattle.hd_world.proofs.Applying.{well_of, small_of, fresh_of, counts_of, goes_on}
+use Rattle.hd_world.proofs.Applying.{handles_of, small_of, fresh_of, counts_of, steps_placed, at_places, placed_on, run_on, step_on, ages_on}
+use Rattle.hd_model.specs.Journal.{Recorded}
 use Rattle.hd_world.proofs.world.World.apply.Goals as goal
 
-pub carry_out-requires-clause-well : goal.carry_out-requires-clause-well
-carry_out-requires-clause-well c =
-    well_of c.self.inside.store.numbers c.self.inside.journal.entries c.self.inside.store.state c.self.inside.store.ages c.self.invariant
+-- the journal has room for one entry more
+has_room : (g : _) (c : goal.After-run-arg-2-1 g) → length c.self.inside.journal.entries + 1 < 2 ^ 32
+has_room g c = omega (arith, c.spare-room.ensures.small, c.spare-room.ensures.value, ap (λ (w : Standing). w.spare) c.self.view_is, c.requires.room)
 
-pub carry_out-requires-clause-serial : goal.carry_out-requires-clause-serial
-carry_out-requires-clause-serial c =
-    let room : length c.self.inside.journal.entries + 1 < 2 ^ 32 = omega (arith, c.spare-room.ensures.small, c.spare-room.ensures.value, ap (λ (w : Standing). w.spare) c.self.view_is, c.requires.room) in
-    small_of c.self.inside.store.numbers c.self.inside.journal.entries c.self.inside.store.state c.self.inside.store.ages c.self.invariant room c.args.caller
+pub run-requires-clause-handles : goal.run-requires-clause-handles
+run-requires-clause-handles g c =
+    handles_of c.self.inside.store c.self.inside.journal.entries c.self.inside.placed.0 c.self.invariant
 
-pub carry_out-requires-clause-fresh : goal.carry_out-requires-clause-fresh
-carry_out-requires-clause-fresh c =
-    let room : length c.self.inside.journal.entries + 1 < 2 ^ 32 = omega (arith, c.spare-room.ensures.small, c.spare-room.ensures.value, ap (λ (w : Standing). w.spare) c.self.view_is, c.requires.room) in
-    fresh_of c.self.inside.store.numbers c.self.inside.journal.entries c.self.inside.store.state c.self.inside.store.ages c.self.invariant room c.args.caller
+pub run-requires-clause-serial : goal.run-requires-clause-serial
+run-requires-clause-serial g c =
+    small_of c.self.inside.store c.self.inside.journal.entries c.self.inside.placed.0 c.self.invariant
+    (has_room g c) c.args.caller
 
-pub carry_out-requires-clause-counts : goal.carry_out-requires-clause-counts
-carry_out-requires-clause-counts c =
-    let room : length c.self.inside.journal.entries + 1 < 2 ^ 32 = omega (arith, c.spare-room.ensures.small, c.spare-room.ensures.value, ap (λ (w : Standing). w.spare) c.self.view_is, c.requires.room) in
-    counts_of c.self.inside.store.numbers c.self.inside.journal.entries c.self.inside.store.state c.self.inside.store.ages c.self.invariant room
+pub run-requires-clause-fresh : goal.run-requires-clause-fresh
+run-requires-clause-fresh g c =
+    fresh_of c.self.inside.store c.self.inside.journal.entries c.self.inside.placed.0 c.self.invariant
+    (has_room g c) c.args.caller
+
+pub run-requires-clause-counts : goal.run-requires-clause-counts
+run-requires-clause-counts g c =
+    counts_of c.self.inside.store c.self.inside.journal.entries c.self.inside.placed.0 c.self.invariant
+    (has_room g c)
+
+-- the world as it was, where memory was wanting
+pub invariant_of-self-inside : goal.invariant_of-self-inside
+invariant_of-self-inside g c =
+    subst (λ m. Placed m c.self.inside.journal.entries × Unit {0}) (sym c.in_err-entry.ensures.unchanged.0)
+    (c.self.inside.placed, tt)
+
+pub invariant_of-self : goal.invariant_of-self
+invariant_of-self g c =
+    let entries = c.self.inside.journal.entries in
+    let before : IsTrueRun c.run.new.store entries c.self.inside.placed.0 =
+    subst (λ m. IsTrueRun m entries c.self.inside.placed.0) (sym c.in_err-entry.ensures.unchanged.0) c.self.invariant in
+    let at : (q : Placed c.run.new.store entries) → IsTrueRun c.run.new.store entries q.0 =
+    λ q. at_places c.run.new.store entries c.self.inside.placed.0 q.0
+    (λ r. IsTrueRun c.run.new.store entries r) before q.1 before in
+    search at
+
+-- a world with its parts
+abbrev seen : Machine → Recorded → FinMap nat_cmp ℕ → Standing
+seen m j p = record {
+  numbers = m.numbers;
+  state = with_places m.state p;
+  ages = m.ages;
+  heap = m.heap;
+  journal = j.entries;
+  spare = j.spare;
+}
+
+on_err : {A B : Type 0} (r : Result A B) (P : Type 0) → P → OnErr r P
+on_err (Ok a) P x = tt
+on_err (Err b) P x = x
+
+pub returns-in_err-entry-clause-unchanged : goal.returns-in_err-entry-clause-unchanged
+returns-in_err-entry-clause-unchanged g c =
+    let j = c.self.inside.journal in
+    let m = c.run.new.store in
+    let p = c.self.inside.placed.0 in
+    let before : IsTrueRun m j.entries p = subst (λ x. IsTrueRun x j.entries p) (sym c.in_err-entry.ensures.unchanged.0) c.self.invariant in
+    let at : (q : Placed m j.entries) → OnErr c.from_residual.result (seen m j q.0 ≡ c.args.self.now) =
+    λ q. on_err c.from_residual.result (seen m j q.0 ≡ c.args.self.now)
+    (at_places m j.entries p q.0 (λ r. seen m j r ≡ c.args.self.now) before q.1
+    (ap (λ x. seen x j p) c.in_err-entry.ensures.unchanged.0 ∙ c.self.view_is)) in
+    search at
+
+pub invariant_of-self-inside-2 : goal.invariant_of-self-inside-2
+invariant_of-self-inside-2 g c =
+    let w = c.self.inside in (
+      placed_on w.store w.journal.entries w.placed.0 c.self.invariant c.run.new.store
+          c.in_ok-entry.entry c.push.new.self.entries c.in_ok-entry.ensures.moves
+          c.in_ok-entry.ensures.numbers c.push.ensures.entries,
+      tt,
+    )
 
 pub invariant_of-self-2 : goal.invariant_of-self-2
-invariant_of-self-2 c =
-    let n = c.self.inside.store.numbers in
-    let known : c.args.caller < n.callers = subst (λ (w : Standing). c.args.caller < w.numbers.callers) (sym c.self.view_is) c.requires.caller in
-    subst (λ (journal : List Entry). AgedRun c.carry_out.new.store.numbers journal c.carry_out.new.store.state c.carry_out.new.store.ages) (sym c.push.ensures.entries)
-    (goes_on n c.self.inside.journal.entries c.self.inside.store.state c.self.inside.store.ages c.self.invariant c.carry_out.new.store.numbers c.in_ok-entry.entry c.args.cmd c.args.caller c.carry_out.new.store.state
-    c.carry_out.new.store.ages c.in_ok-entry.ensures.numbers c.in_ok-entry.ensures.caller c.in_ok-entry.ensures.command known c.requires.valid c.in_ok-entry.ensures.step c.in_ok-entry.ensures.ages)
+invariant_of-self-2 g c =
+    let w = c.self.inside in
+    let at = run_on w.store w.journal.entries w.placed.0 c.self.invariant c.run.new.store
+    c.in_ok-entry.entry c.push.new.self.entries c.in_ok-entry.ensures.moves c.in_ok-entry.ensures.numbers
+    c.push.ensures.entries in
+    search at
+
+pub returns-clause-step : goal.returns-clause-step
+returns-clause-step g c =
+    let w = c.self.inside in
+    let next = c.run.new.store in
+    let at : (q : Placed next c.push.new.self.entries) → Step c.args.self.now.numbers c.args.self.now.state c.in_ok-entry.entry (with_places next.state q.0) =
+    λ q. subst (λ (v : Standing). Step v.numbers v.state c.in_ok-entry.entry (with_places next.state q.0)) c.self.view_is
+    (step_on w.store w.journal.entries w.placed.0 c.self.invariant next
+    c.in_ok-entry.entry c.push.new.self.entries c.in_ok-entry.ensures.moves c.in_ok-entry.ensures.numbers
+    c.push.ensures.entries q) in
+    search at
+
+pub returns-clause-ages : goal.returns-clause-ages
+returns-clause-ages g c =
+    let w = c.self.inside in
+    subst (λ (v : Standing). c.run.new.store.ages ≡ aged_by v.state c.in_ok-entry.entry v.ages) c.self.view_is
+    (ages_on w.store w.journal.entries w.placed.0 c.self.invariant c.run.new.store
+    c.in_ok-entry.entry c.push.new.self.entries c.in_ok-entry.ensures.moves c.in_ok-entry.ensures.numbers
+    c.push.ensures.entries)
+
+pub returns-clause-steps : goal.returns-clause-steps
+returns-clause-steps g c =
+    let w = c.self.inside in
+    subst
+    (λ (v : Standing). TakesSteps v.state v.ages c.in_ok-entry.entry c.args.steps.now c.run.new.steps)
+    c.self.view_is
+    (steps_placed w.store.state w.placed.0 w.store.ages c.in_ok-entry.entry c.args.steps.now
+    c.run.new.steps c.in_ok-entry.ensures.steps)

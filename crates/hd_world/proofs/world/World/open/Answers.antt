@@ -1,14 +1,30 @@
-use Rattle.std.proofs.Common.{◌*◌, ◌∙◌, [], replicate, sym, ap, subst}
-use Rattle.hd_model.specs.State.{Numbers, start_of}
-use Rattle.hd_model.specs.Run.{stay}
-use Rattle.hd_model.specs.Aging.{AgedRun}
+use Rattle.std.proofs.Common.{◌≡◌, ◌*◌, ◌∙◌, replicate, sym, ap}
+use Rattle.hd_model.specs.State.{Numbers}
+use Rattle.hd_world.proofs.Applying.{placed_first, run_first, state_first}
 use Rattle.hd_world.proofs.world.World.open.Goals as goal
+use Rattle.hd_world.proofs.world.World.open.Goals.{In_ok-journal}
+
+-- each clump is as old as it may be
+oldest : (c : In_ok-journal) → c.in_ok-store.store.ages ≡ replicate (4 * c.in_ok-store.store.numbers.blocks) 2
+oldest c =
+    c.in_ok-store.ensures.ages
+    ∙ sym (ap (λ (m : Numbers). replicate (4 * m.blocks) 2) c.in_ok-store.ensures.numbers)
 
 pub invariant_of-result : goal.invariant_of-result
-invariant_of-result c =
-    let n = c.in_ok-store.store.numbers in
-    let oldest = ap (λ (m : Numbers). replicate (4 * m.blocks) 2) c.in_ok-store.ensures.numbers ∙ sym c.in_ok-store.ensures.ages in
-    let first : AgedRun n [] (start_of n) (replicate (4 * n.blocks) 2) = stay in
-    subst (λ es. AgedRun n es c.in_ok-store.store.state c.in_ok-store.store.ages) (sym c.in_ok-journal.ensures.empty)
-    (subst (λ s. AgedRun n [] s c.in_ok-store.store.ages) (sym c.in_ok-store.ensures.state)
-    (subst (λ ages. AgedRun n [] (start_of n) ages) oldest first))
+invariant_of-result c = (
+  placed_first c.in_ok-store.store c.in_ok-journal.journal.entries c.in_ok-store.ensures.state (oldest c)
+      c.in_ok-journal.ensures.empty,
+  tt,
+)
+
+pub invariant_of-result-2 : goal.invariant_of-result-2
+invariant_of-result-2 c =
+    let at = run_first c.in_ok-store.store c.in_ok-journal.journal.entries c.in_ok-store.ensures.state
+    (oldest ((goal.at.invariant_of-result-2 c).In_ok-journal)) c.in_ok-journal.ensures.empty in
+    search at
+
+pub returns-clause-state : goal.returns-clause-state
+returns-clause-state c =
+    let at = state_first c.in_ok-store.store c.in_ok-journal.journal.entries c.in_ok-store.ensures.state
+    (oldest ((goal.at.returns-clause-state c).In_ok-journal)) c.in_ok-journal.ensures.empty in
+    search at

@@ -1,0 +1,139 @@
+-- The address of an object is a place that may be answered for it.
+use Rattle.std.proofs.Common.{◌≡◌, ℕ, ◌<◌, ◌^◌, true, Option, Some, None, refl, sym, ap, ◌∙◌, subst, inl, inr, arith}
+use Rattle.std.specs.Prelude.{option_map, is_some, IsSome}
+use Rattle.std.specs.Option.{MatchOption}
+use Rattle.std.specs.FinMap.{FinMap, get, insert}
+use Rattle.std.specs.Ordering.{nat_cmp}
+use Rattle.std.proofs.lemmas.Bool.{cases_eq}
+use Rattle.hd_model.specs.declared.data.Id.{Id}
+use Rattle.hd_model.specs.declared.data.Addr.{Addr}
+use Rattle.hd_model.specs.State.{object_at as machine_object, size_of}
+use Rattle.hd_model.specs.Places.{range_at, Meet, IsFreePlace, MayAnswer, with_places}
+use Rattle.hd_model.specs.Heap.{Placed, region_of, has_object, placed_at, cells_of}
+use Rattle.hd_heap.specs.Sound.{IsSound}
+use Rattle.hd_world.specs.Reading.{names_of, name_in}
+use Rattle.hd_world.specs.Stored.{Parts, state_of, IsStored}
+use Rattle.hd_world.specs.Store.{Machine, machine_of}
+use Rattle.hd_world.specs.Objects.{object_named}
+use Rattle.hd_world.specs.Places.{AreAddresses, HasPlace}
+use Rattle.hd_world.proofs.Maps.{get-put, get-put_other, some_same}
+use Rattle.hd_world.proofs.Readings.{no_some, names-get}
+use Rattle.hd_world.proofs.Standing.{object-named, known_object}
+use Rattle.hd_world.proofs.Counted.{read-size}
+
+-- an address with a name
+named_there : {A : Type 0} (o : Option A) (x : A) → o ≡ Some x → IsSome o
+named_there o x is = subst IsSome (sym is) refl
+
+module _ (f : Parts) (stored : IsStored f) (sound : IsSound f.heap) where
+  abbrev m : Machine
+  m = machine_of f
+
+  -- the size of an object is that of what stands at its address
+  size_is : (x : Addr) → has_object f.heap x ≡ true
+      → size_of (object_named (machine_of f) x) ≡ cells_of (placed_at f.heap x)
+  size_is x is = ap size_of (object-named f stored x is) ∙ read-size f.heap x.0 (placed_at f.heap x)
+
+  low : (x : Addr) → has_object f.heap x ≡ true → x.0 < 2 ^ 32
+  unfolding region_of
+  low x is =
+      let held = sound.held x is in
+      let number = sound.numbers (region_of x) held in
+      omega (arith, number.1)
+
+  meets_none : (x y : Addr) → has_object f.heap x ≡ true → has_object f.heap y ≡ true → (x.0 ≡ y.0 → ⊥)
+      → Meet (range_at x.0 (object_named (machine_of f) x)) (range_at y.0 (object_named (machine_of f) y)) → ⊥
+  meets_none x y here there apart meet =
+      let mine = size_is x here in
+      let yours = size_is y there in
+      elim (Rattle.std.proofs.lemmas.Bool.cases_order x.0 y.0) [
+        | inl same ↦ apart same
+        | inr (inl less) ↦ let gap = sound.apart x y here there less in omega (arith, gap, meet.right, mine)
+        | inr (inr more) ↦ let gap = sound.apart y x there here more in omega (arith, gap, meet.left, yours)
+      ]
+
+  -- two addresses with one name are one
+  one_address : (a b : ℕ) (x : Id) → get (names_of f.heap) a ≡ Some x → get (names_of f.heap) b ≡ Some x
+      → a ≡ b
+  one_address a b x first second = by (get f.heap.objects a) (get f.heap.objects b) refl refl
+    where
+      by : (o p : Option Placed) → get f.heap.objects a ≡ o → get f.heap.objects b ≡ p → a ≡ b
+      by None p e k = absurd (no_some x (sym first ∙ names-get f.heap a
+          ∙ ap (option_map (λ (w : Placed). w.id)) e))
+      by (Some o) None e k = absurd (no_some x
+          (sym second ∙ names-get f.heap b ∙ ap (option_map (λ (w : Placed). w.id)) k))
+      by (Some o) (Some p) e k =
+          stored.identities a b o p e k
+          (some_same o.id x (sym (ap (option_map (λ (w : Placed). w.id)) e) ∙ sym (names-get f.heap a)
+          ∙ first)
+          ∙ sym (some_same p.id x (sym (ap (option_map (λ (w : Placed). w.id)) k) ∙ sym (names-get f.heap b)
+          ∙ second)))
+
+  module _ (at : Addr) (known : IsSome (get (names_of f.heap) at.0)) where
+    abbrev id : Id
+    id = name_in (names_of f.heap) at
+
+    here : has_object f.heap at ≡ true
+    here = known_object f.heap at known
+
+    name_there : (o : Option Id) → IsSome o
+        → o ≡ Some (Rattle.std.specs.Prelude.unwrap_or o (record { 0 = 0 }))
+    name_there None is = absurd (subst Rattle.std.specs.Prelude.T (sym is) tt)
+    name_there (Some x) is = refl
+
+    name_at : get (names_of f.heap) at.0 ≡ Some (name_in (names_of f.heap) at)
+    name_at = name_there (get (names_of f.heap) at.0) known
+
+    name_from : (a : ℕ) (y : Id) → get (names_of f.heap) a ≡ Some y
+        → name_in (names_of f.heap) (record { 0 = a }) ≡ y
+    name_from a y is = ap (λ o. Rattle.std.specs.Prelude.unwrap_or o (record { 0 = 0 })) is
+
+    module _ (p : FinMap nat_cmp ℕ) (are : AreAddresses (names_of f.heap) p) where
+      free_place : get p (name_in (names_of f.heap) at).0 ≡ None
+          → IsFreePlace (with_places (state_of f) p) (name_in (names_of f.heap) at) at.0
+      free_place none = record {
+        small = low at here;
+        apart = λ y other is meet.
+            let there : Addr = record { 0 = other } in
+            let name = are y.0 other is in
+            let object = known_object f.heap there
+            (named_there (get (names_of f.heap) other) (record { 0 = y.0 }) name) in
+            let mine = name_from other (record { 0 = y.0 }) name in
+            meets_none at there here object
+            (λ same. no_some other (sym is ∙ ap (λ (i : Id). get p i.0)
+            (some_same y (name_in (names_of f.heap) at)
+            (sym name ∙ ap (get (names_of f.heap)) (sym same) ∙ name_at)) ∙ none))
+            (subst (λ i. Meet (range_at at.0 (machine_object (state_of f) (name_in (names_of f.heap) at)))
+            (range_at other (machine_object (state_of f) i))) (sym mine) meet);
+      }
+
+      may_answer : MayAnswer (with_places (state_of f) p) (name_in (names_of f.heap) at) at.0
+      may_answer = by (get p (name_in (names_of f.heap) at).0) refl
+        where
+          by : (o : Option ℕ) → get p (name_in (names_of f.heap) at).0 ≡ o
+              → MatchOption o (IsFreePlace (with_places (state_of f) p) (name_in (names_of f.heap) at) at.0)
+              (λ own. at.0 ≡ own)
+          by None e = free_place e
+          by (Some own) e = one_address at.0 own (name_in (names_of f.heap) at) name_at
+              (are (name_in (names_of f.heap) at).0 own e)
+
+      addresses_with : AreAddresses (names_of f.heap) (insert p (name_in (names_of f.heap) at).0 at.0)
+      addresses_with x a is =
+          elim (cases_eq x (name_in (names_of f.heap) at).0) [
+            | inl same ↦
+                let it : at.0 ≡ a = some_same at.0 a
+                (sym (get-put p (name_in (names_of f.heap) at).0 at.0)
+                ∙ ap (get (insert p (name_in (names_of f.heap) at).0 at.0)) (sym same) ∙ is) in
+                ap (get (names_of f.heap)) (sym it) ∙ name_at ∙ (λ i. Some (record { 0 = sym same i }))
+            | inr apart ↦ are x a (sym (get-put_other p (name_in (names_of f.heap) at).0 at.0 x apart) ∙ is)
+          ]
+
+pub has-place : (f : Parts) (m : Machine) → machine_of f ≡ m → IsStored f → IsSound f.heap → (at : Addr)
+    → IsSome (get m.names at.0) → HasPlace m at
+has-place f m view stored sound at known =
+    subst (λ (n : Machine). HasPlace n at) view (record {
+      may = λ p are. may_answer f stored sound at
+          (subst (λ (n : Machine). IsSome (get n.names at.0)) (sym view) known) p are;
+      addresses = λ p are. addresses_with f stored sound at
+          (subst (λ (n : Machine). IsSome (get n.names at.0)) (sym view) known) p are;
+    })

@@ -1,0 +1,70 @@
+-- The state of a store is a reading of what its collection looks at.
+use Rattle.std.proofs.Common.{◌≡◌, ℕ, zero, suc, ◌++◌, true, List, map, take, drop, Option, Some, None, refl, sym, ap, ◌∙◌, subst}
+use Rattle.std.specs.Prelude.{option_map, is_some, T}
+use Rattle.std.specs.FinMap.{get}
+use Rattle.std.proofs.lemmas.List.{take-append-drop, append_assoc}
+use Rattle.hd_model.specs.declared.data.Id.{Id}
+use Rattle.hd_model.specs.declared.data.Addr.{Addr}
+use Rattle.hd_model.specs.State.{rename_object}
+use Rattle.hd_model.specs.Scene.{scene_of, joined, is_object, IsReading}
+use Rattle.hd_model.specs.Heap.{Placed, region_of, region_generation, object_in, object_at, has_object, placed_at, id_in, id_at, HasIdentities}
+use Rattle.hd_world.specs.Rows.{rows_of, rest_of}
+use Rattle.hd_world.specs.Reading.{objects_by_id}
+use Rattle.hd_world.specs.Stored.{Parts, callers_of, state_of, scene_of_parts}
+use Rattle.hd_world.proofs.Readings.{same_id, rows-get, objects-get, objects-under}
+use Rattle.hd_world.proofs.Standing.{placed_is, object_is}
+
+-- all registers and then the statics are the roots
+pub rows-all : {A : Type 0} (n : ℕ) (xs : List A) → joined (rows_of n xs) ++ rest_of n xs ≡ xs
+unfolding rows_of rest_of
+rows-all zero xs = refl
+rows-all (suc n) xs =
+    append_assoc (take 16 xs) (joined (rows_of n (drop 16 xs))) (rest_of n (drop 16 xs))
+    ∙ ap (λ ys. take 16 xs ++ ys) (rows-all n (drop 16 xs)) ∙ take-append-drop 16 xs
+
+-- something that is there
+pub found : {A : Type 0} (o : Option A) → is_some o ≡ true → (x : A) × (o ≡ Some x)
+found None e = absurd (subst T (sym e) tt)
+found (Some x) e = (x, refl)
+
+module _ (f : Parts) (identities : HasIdentities f.heap) where
+  id_here : (x : Addr) → has_object f.heap x ≡ true → id_at f.heap x ≡ (placed_at f.heap x).id
+  id_here x is = ap id_in (placed_is f.heap x is)
+
+  read_here : (x : Addr) → has_object f.heap x ≡ true
+      → get (objects_by_id f.heap) (id_at f.heap x).0 ≡ option_map (rename_object (id_at f.heap))
+      (object_at f.heap x)
+  read_here x is =
+      ap (λ (i : Id). get (objects_by_id f.heap) i.0) (id_here x is)
+      ∙ objects-get f.heap identities x.0 (placed_at f.heap x) (placed_is f.heap x is)
+      ∙ sym (ap (option_map (rename_object (id_at f.heap))) (object_is f.heap x is))
+
+  has_it : (a : ℕ) (p : Placed) → get f.heap.objects a ≡ Some p → has_object f.heap (record { 0 = a }) ≡ true
+  has_it a p stands = ap (λ o. is_some
+      (option_map (object_in (region_generation f.heap (region_of (record { 0 = a })))) o)) stands
+
+  -- an identity that has an object is the one at some address
+  pub address_of : (y : Id) → is_object (scene_of (state_of f)).object y ≡ true → (x : Addr)
+      × ((has_object f.heap x ≡ true) × (id_at f.heap x ≡ y))
+  address_of y is =
+      let (o, there) = found (get (objects_by_id f.heap) y.0) is in
+      let u = objects-under f.heap y.0 o there in
+      (record { 0 = u.at }, (has_it u.at u.value u.stands, ap id_in u.stands ∙ same_id u.value.id y u.keyed))
+
+  pub apart_here : (x y : Addr) → has_object f.heap x ≡ true → has_object f.heap y ≡ true
+      → id_at f.heap x ≡ id_at f.heap y → x ≡ y
+  apart_here x y here there same =
+      let e = identities x.0 y.0 (placed_at f.heap x) (placed_at f.heap y) (placed_is f.heap x here)
+      (placed_is f.heap y there)
+      (sym (id_here x here) ∙ same ∙ id_here y there) in
+      λ i. record { 0 = e i }
+
+  pub state-reads : IsReading (id_at f.heap) (scene_of_parts f) (scene_of (state_of f))
+  state-reads = record {
+    objects = read_here;
+    only = address_of;
+    apart = apart_here;
+    handles = λ slot. rows-get f.heap f.table.rows slot;
+    named = rows-all (callers_of f) (map (option_map (id_at f.heap)) f.roots);
+    queue = refl;
+  }

@@ -1,0 +1,92 @@
+-- The first object that waits is taken out of a store's queue.
+use Rattle.std.proofs.Common.{◌≡◌, suc, map, ◌∷◌, [], Option, Some, None, refl, sym, ap, ◌∙◌, subst, arith}
+use Rattle.std.specs.Prelude.{Contains, MatchOption}
+use Rattle.hd_model.specs.declared.data.Addr.{Addr}
+use Rattle.hd_model.specs.State.{with_queue}
+use Rattle.hd_model.specs.Heap.{id_at}
+use Rattle.hd_model.specs.Table.{Queue}
+use Rattle.hd_world.specs.Reading.{names_of, name_in, IsNamed}
+use Rattle.hd_world.specs.Stored.{Parts, IsStored}
+use Rattle.hd_world.specs.Store.{Machine, machine_of}
+use Rattle.hd_world.proofs.Readings.{name-is}
+use Rattle.hd_world.proofs.Standing.{objects_named}
+
+-- the parts with another queue
+abbrev pub with_waiting : Parts → Queue → Parts
+with_waiting f q = record f { queue = q }
+
+module _ (f : Parts) (m : Machine) (view : machine_of f ≡ m) (q : Queue) where
+  pub queue-none : f.queue.waiting ≡ [] → m.state.queue ≡ []
+  queue-none none = ap (λ (n : Machine). n.state.queue) (sym view) ∙ ap (map (id_at f.heap)) none
+
+  pub machine-queue : machine_of (with_waiting f q) ≡ record m
+      { state = with_queue m.state (map (id_at f.heap) q.waiting) }
+  machine-queue = ap (λ (n : Machine). record n { state = with_queue n.state (map (id_at f.heap) q.waiting) })
+      view
+
+  module _ (at : Addr) (is : f.queue ≡ record q { waiting = at ∷ q.waiting }) where
+    pub queue-first : m.state.queue ≡ name_in m.names at ∷ map (id_at f.heap) q.waiting
+    queue-first =
+        ap (λ (n : Machine). n.state.queue) (sym view) ∙ ap (λ (w : Queue). map (id_at f.heap) w.waiting) is
+        ∙ ap (λ x. x ∷ map (id_at f.heap) q.waiting)
+        (sym (name-is f.heap at) ∙ ap (λ (n : Machine). name_in n.names at) view)
+
+    waits : (x : Addr) → Contains (at ∷ q.waiting) x → Contains f.queue.waiting x
+    waits x c = subst (λ (w : Queue). Contains w.waiting x) (sym is) c
+
+    pub first-named : IsStored f → IsNamed m.names (Some at)
+    first-named stored =
+        subst (λ (n : Machine). IsNamed n.names (Some at)) view
+        (objects_named f.heap (Some at) (λ y same. stored.whole.queue y
+        (waits y (subst (Contains (at ∷ q.waiting)) (some_is y same) (0, omega arith, refl)))))
+      where
+        some_is : (y : Addr) → Some at ≡ Some y → at ≡ y
+        some_is y same = Rattle.hd_world.proofs.Maps.some_same at y same
+
+    pub stored-queue : IsStored f → IsStored (with_waiting f q)
+    stored-queue stored = record {
+      whole = record {
+        fields = stored.whole.fields;
+        named = stored.whole.named;
+        queue = λ x c. stored.whole.queue x (waits x (let within = c.1 in (suc c.0, omega arith, c.2)));
+        targets = stored.whole.targets;
+        secondaries = stored.whole.secondaries;
+        paired = stored.whole.paired;
+        fits = stored.whole.fits;
+      };
+      identities = stored.identities;
+      ages = stored.ages;
+      cards = stored.cards;
+      full = stored.full;
+      room = let same = ap (λ (w : Queue). w.room) is in omega (arith, stored.room, same);
+      within = stored.within;
+      limit = stored.limit;
+      roots = stored.roots;
+      serials = stored.serials;
+      clumps = stored.clumps;
+      blocks = stored.blocks;
+      uses = stored.uses;
+    }
+
+-- what the queue answers, whether something waits or not
+abbrev pub IsPop : Parts → Queue → Option Addr → Type 0
+IsPop f q r = MatchOption r ((f.queue.waiting ≡ []) × (q ≡ f.queue))
+    (λ at. f.queue ≡ record q { waiting = at ∷ q.waiting })
+
+module _ (f : Parts) (m : Machine) (view : machine_of f ≡ m) (stored : IsStored f) (q : Queue) where
+  pub stored-popped : (r : Option Addr) → IsPop f q r → IsStored (with_waiting f q)
+  stored-popped None is = subst (λ w. IsStored (with_waiting f w)) (sym is.1) stored
+  stored-popped (Some at) is = stored-queue f m view q at is stored
+
+  pub machine-popped : (r : Option Addr) → IsPop f q r
+      → MatchOption r ((m.state.queue ≡ []) × (machine_of (with_waiting f q) ≡ m))
+      (λ at. (m.state.queue ≡ name_in m.names at ∷ (machine_of (with_waiting f q)).state.queue)
+      × (machine_of (with_waiting f q) ≡ record m
+      { state = with_queue m.state (machine_of (with_waiting f q)).state.queue }))
+  machine-popped None is = (queue-none f m view q is.0, ap (λ w. machine_of (with_waiting f w)) is.1 ∙ view)
+  machine-popped (Some at) is = (queue-first f m view q at is, machine-queue f m view q)
+
+  pub named-popped : (r : Option Addr) → IsPop f q r → IsNamed (names_of f.heap) r
+  named-popped None is = tt
+  named-popped (Some at) is = subst (λ (n : Machine). IsNamed n.names (Some at)) (sym view)
+      (first-named f m view q at is stored)

@@ -1,0 +1,14 @@
+-- How many objects a heap can have: each takes three cells at least.
+use Rattle.std.proofs.Common.{ℕ, ◌*◌, ◌≤◌, List, [], ◌∷◌, map, length, arith}
+use Rattle.std.specs.Prelude.{sum_by}
+use Rattle.std.specs.FinMap.{len, entries, len-entries}
+use Rattle.std.proofs.lemmas.List.Sums.{sum_by-cons}
+use Rattle.hd_model.specs.Heap.{Placed, Heap, cells_of, used_of}
+
+cells_least : (es : List (ℕ × Placed)) → 3 * length es ≤ sum_by cells_of (map (λ e. e.1) es)
+cells_least [] = omega arith
+cells_least (e ∷ es) = let sum = sum_by-cons cells_of e.1 (map (λ w. w.1) es) in omega
+    (arith, sum, cells_least es)
+
+pub few_objects : (h : Heap) → 3 * len h.objects ≤ used_of h
+few_objects h = let long = len-entries h.objects in omega (arith, long, cells_least (entries h.objects))

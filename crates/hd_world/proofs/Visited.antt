@@ -1,0 +1,144 @@
+-- The chain of a kind has as many due clumps as the blocks of the kind in any order.
+use Rattle.std.proofs.Common.{◌≡◌, ◌≢◌, ℕ, ◌+◌, ◌*◌, ◌<◌, ◌≤◌, ◌&&◌, T, Bool, true, false, List, [], ◌∷◌, ◌++◌, map, length, Option, Some, None, refl, sym, ap, ◌∙◌, subst, arith, ⊎_elim, length-append, nat_le}
+use Rattle.std.specs.Prelude.{sum_by, filter, Contains, AllPairs, slice_index}
+use Rattle.std.specs.FinMap.{FinMap, get, keys, entries, entries_sorted, is_sorted}
+use Rattle.std.specs.FinMap.Entries.{below_all}
+use Rattle.std.specs.Ordering.{nat_cmp, is_lt}
+use Rattle.std.proofs.lemmas.Bool.Decides.{nat_tests}
+use Rattle.std.proofs.lemmas.Bool.{eq-eqb, false≢true}
+use Rattle.std.proofs.lemmas.List.Elements.{Contains-append_left, Contains-append_right, Contains-append_cases}
+use Rattle.std.proofs.lemmas.List.Sums.{sum_by-cons, sum_by-append}
+use Rattle.hd_model.specs.declared.data.Kind.{Kind}
+use Rattle.hd_model.specs.declared.data.Kind.TheVariants as kind
+use Rattle.hd_model.specs.Kinds.{kind_number}
+use Rattle.hd_model.specs.Ages.{clumps_of, visits}
+use Rattle.hd_model.specs.State.{State, BlockUse, handles_of, extra_data}
+use Rattle.hd_model.specs.Table.{Table, IsTable, chain_of}
+use Rattle.hd_model.specs.Visits.{visits_of}
+use Rattle.hd_model.proofs.Members.{not_in_none, pairs_none, pairs_cons, mapped_in, mapped_from, first_in, later_in, member_cases, member_same, split_at, pairs_first, pairs_rest, passing_from, passing_in, pairs_passing}
+use Rattle.hd_model.proofs.Entries.{entry_of}
+use Rattle.hd_model.proofs.KindTests.{same_kind}
+use Rattle.hd_gc.specs.Steps.{CollectSteps}
+use Rattle.hd_world.specs.Visited.{has_kind, blocks_of, due_in, CollectedSteps}
+
+-- members that are apart and stand in another list weigh at most as much as all of that
+lighter : {A : Type 0} (w : A → ℕ) (xs ys : List A) → AllPairs (λ x y. x ≢ y) xs
+    → ((x : A) → Contains xs x → Contains ys x) → sum_by w xs ≤ sum_by w ys
+lighter w [] ys apart within = omega arith
+lighter {A} w (x ∷ xs) ys apart within =
+    let (before, rest) = split_at ys x (within x (first_in x xs)) in
+    let after = rest.0 in
+    let others : (z : A) → Contains xs z → Contains (before ++ after) z =
+    λ z h. ⊎_elim (λ early. Contains-append_left before after z early)
+    (λ late. ⊎_elim (λ e. absurd (pairs_first (λ a b. a ≢ b) x xs apart z h e))
+    (λ beyond. Contains-append_right before after z beyond)
+    (member_cases x after z late))
+    (Contains-append_cases before (x ∷ after) z
+    (member_same ys (before ++ x ∷ after) rest.1 z (within z (later_in x xs z h)))) in
+    let short : sum_by w xs ≤ sum_by w (before ++ after) =
+    lighter w xs (before ++ after) (pairs_rest (λ a b. a ≢ b) x xs apart) others in
+    let whole : sum_by w ys ≡ sum_by w (before ++ x ∷ after) = ap (sum_by w) rest.1 in
+    omega (
+      arith,
+      sum_by-cons w x xs,
+      sum_by-append w before after,
+      sum_by-append w before (x ∷ after),
+      sum_by-cons w x after,
+    )
+
+-- the due clumps of a block
+abbrev due_of : List ℕ → ℕ → ℕ → ℕ
+due_of ages n b = length (filter (λ c. nat_le (slice_index ages c) n) (clumps_of b))
+
+visits_sum : (ages : List ℕ) (n : ℕ) (chain : List ℕ) → visits ages n chain ≡ sum_by (due_of ages n) chain
+visits_sum ages n [] = refl
+visits_sum ages n (b ∷ chain) =
+    let rest = visits_sum ages n chain in
+    let sum = sum_by-cons (due_of ages n) b chain in
+    let long = length-append (filter (λ c. nat_le (slice_index ages c) n) (clumps_of b))
+    (Rattle.hd_model.specs.Ages.due_clumps ages n chain) in
+    long ∙ omega (arith, rest, sum)
+
+-- two lists of blocks, each once, with the same members
+visits_alike : (ages : List ℕ) (n : ℕ) (xs ys : List ℕ) → AllPairs (λ x y. x ≢ y) xs
+    → AllPairs (λ x y. x ≢ y) ys
+    → ((x : ℕ) → Contains xs x → Contains ys x) → ((x : ℕ) → Contains ys x → Contains xs x)
+    → visits ages n xs ≡ visits ages n ys
+visits_alike ages n xs ys first second to back =
+    omega (
+      arith,
+      visits_sum ages n xs,
+      visits_sum ages n ys,
+      lighter (due_of ages n) xs ys first to,
+      lighter
+          (due_of ages n) ys xs second back,
+    )
+
+both : (a b : Bool) → T (a && b) → T a × T b
+both true b p = (tt, p)
+both false b p = absurd p
+
+less : (x y : ℕ) → T (is_lt (nat_cmp x y)) → x < y
+less x y h = grind (arith, nat_tests)
+
+-- no key stands twice
+module _ {A : Type 0} where
+  below : (x : ℕ) (es : List (ℕ × A)) → T (below_all nat_cmp x es) → (e : ℕ × A) → Contains es e → x < e.0
+  below x [] h e c = absurd (not_in_none e c)
+  below x (f ∷ es) h e c =
+      let parts : T (is_lt (nat_cmp x f.0)) × T (below_all nat_cmp x es) = both _ _ h in
+      ⊎_elim (λ same. subst (λ (g : ℕ × A). x < g.0) same (less x f.0 parts.0))
+      (λ later. below x es parts.1 e later) (member_cases f es e c)
+
+  keys_once : (es : List (ℕ × A)) → T (is_sorted nat_cmp es)
+      → AllPairs (λ x y. x ≢ y) (map (λ (e : ℕ × A). e.0) es)
+  keys_once [] h = pairs_none (λ x y. x ≢ y)
+  keys_once (f ∷ es) h =
+      let parts : T (below_all nat_cmp f.0 es) × T (is_sorted nat_cmp es) = both _ _ h in
+      pairs_cons (λ x y. x ≢ y) f.0 (map (λ (e : ℕ × A). e.0) es)
+      (λ y c same. let (e, rest) = mapped_from (λ (g : ℕ × A). g.0) es y c in
+      let above : f.0 < e.0 = below f.0 es parts.0 e rest.0 in let at : e.0 ≡ y = rest.1 in
+      absurd (omega arith))
+      (keys_once es parts.1)
+
+kind_from : (k : Kind) (o : Option BlockUse) → has_kind k o ≡ true → o ≡ Some (handles_of k)
+kind_from k None h = absurd (false≢true h)
+kind_from k (Some (handles_of j)) h = ap (λ i. Some (handles_of i)) (same_kind j k h)
+kind_from k (Some extra_data) h = absurd (false≢true h)
+
+module _ (m : FinMap nat_cmp BlockUse) where
+  keys_apart : AllPairs (λ x y. x ≢ y) (keys m)
+  keys_apart = keys_once (entries m) (entries_sorted m)
+
+  key_in : (b : ℕ) (u : BlockUse) → get m b ≡ Some u → Contains (keys m) b
+  key_in b u there = mapped_in (λ (e : ℕ × BlockUse). e.0) (entries m) (b, u) (entry_of m b u there)
+
+module _ (s : State) (t : Table) (uses : t.uses ≡ s.blocks) (table : IsTable t) (ages : List ℕ) (n : ℕ) where
+  visits_same : (k : Kind) → visits_of t ages n k ≡ due_in s ages n k
+  visits_same k =
+      visits_alike ages n (chain_of t k) (blocks_of s k) (table.once k)
+      (pairs_passing (λ block. has_kind k (get s.blocks block)) (λ x y. x ≢ y) (keys s.blocks)
+      (keys_apart s.blocks))
+      (λ b c.
+      let is : get s.blocks b ≡ Some (handles_of k) = ap (λ m. get m b) (sym uses)
+      ∙ (table.chained k b).0 c in
+      passing_in (λ block. has_kind k (get s.blocks block)) (keys s.blocks) b
+      (key_in s.blocks b (handles_of k) is)
+      (ap (has_kind k) is ∙ eq-eqb (kind_number k) (kind_number k) refl))
+      (λ b c.
+      let in_it = passing_from (λ block. has_kind k (get s.blocks block)) (keys s.blocks) b c in
+      (table.chained k b).1 (ap (λ m. get m b) uses ∙ kind_from k (get s.blocks b) in_it.1))
+
+  pub steps-collected : (kept before after : ℕ) → CollectSteps t ages n kept before after
+      → CollectedSteps s ages n kept before after
+  steps-collected kept before after steps = record {
+    passes = steps.passes;
+    least = steps.least;
+    most = steps.most;
+    steps_are =
+        steps.steps_are ∙ (λ i. before
+        + 2 * (visits_same kind.Short i + visits_same kind.Long i + visits_same kind.Strong i + visits_same
+        kind.Pinned i)
+        + 4 * visits_same kind.Variable i + 3 * visits_same kind.Counted i + steps.passes * visits_same
+        kind.Dependent i);
+  }

@@ -1,0 +1,33 @@
+-- The places of a world: those that its journal answered, which are one map.
+use Rattle.std.specs.Prelude.{◌≡◌, ℕ, List}
+use Rattle.std.specs.Coded.{Coded-set, coded_ℕ}
+use Rattle.std.specs.FinMap.{FinMap}
+use Rattle.std.specs.FinMap as map
+use Rattle.std.specs.Ordering.{nat_cmp}
+use mathlib.Core.HLevel.{Σ_prop_path}
+use Rattle.std.proofs.Math.Logic.{∥∥₁_prop, ∥∥₁_elim}
+use Rattle.hd_model.specs.declared.data.Entry.{Entry}
+use Rattle.hd_model.specs.Places.{with_places}
+use Rattle.hd_model.specs.Aging.{AgedRun}
+use Rattle.hd_model.proofs.Journals.{one_places}
+use Rattle.hd_world.specs.Store.{Machine}
+use Rattle.hd_world.specs.Places.{AreAddresses}
+
+-- with these places a journal leads to the state of a store and leaves its ages, and each is an address
+pub record IsTrueRun (m : Machine) (journal : List Entry) (places : FinMap nat_cmp ℕ) : Type 0 where
+  pub run : AgedRun m.numbers journal (with_places m.state places) m.ages
+  pub addresses : AreAddresses m.names places
+
+-- the places with which a journal leads to a store
+abbrev pub Placed : Machine → List Entry → Type 0
+Placed m journal = (places : FinMap nat_cmp ℕ) × ∥ IsTrueRun m journal places ∥₁
+
+pub same_places : (m : Machine) (journal : List Entry) (p q : FinMap nat_cmp ℕ) → ∥ IsTrueRun m journal p ∥₁
+    → ∥ IsTrueRun m journal q ∥₁ → p ≡ q
+same_places m journal p q a b =
+    let alike = Coded-set (map.code coded_ℕ coded_ℕ) p q in
+    ∥∥₁_elim a alike (λ x. ∥∥₁_elim b alike (λ y. one_places m.numbers journal m.state m.ages p q x.run y.run))
+
+-- there is at most one such map, since a journal leads to one state
+pub Placed-prop : (m : Machine) (journal : List Entry) → IsProp (Placed m journal)
+Placed-prop m journal x y = Σ_prop_path (λ p. ∥∥₁_prop) (same_places m journal x.0 y.0 x.1 y.1)

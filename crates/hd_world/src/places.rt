@@ -1,0 +1,87 @@
+// `addr`: the place of a pinned object is its address, since a collection leaves it there.
+ghost use Rattle.std.specs.Prelude.{◌≡◌, ◌<◌, IsSome, IfOk, true, false};
+ghost use Rattle.std.specs.FinMap.{FinMap, get};
+ghost use Rattle.std.specs.Ordering.{nat_cmp};
+ghost use Rattle.hd_model.specs.declared.command.Cmd.TheVariants as cmds;
+ghost use Rattle.hd_model.specs.Role.{pins_by, pins_by_strength};
+ghost use Rattle.hd_model.specs.Aging.{aged_by};
+ghost use Rattle.hd_seg.specs.Row.{extra_of};
+ghost use Rattle.hd_world.specs.Places.{HasPlace, KeepsPlaces};
+ghost use Rattle.hd_world.specs.Commands.{pinned_in, as_pinned};
+
+use crate::on_handles::live_in;
+use crate::order::Order;
+use crate::store::Store;
+use hd_model::limits::REGISTERS;
+use hd_model::{Addr, Entry, Kind, Refusal, Reply, Strength};
+use hd_seg::Extra;
+
+// Whether a strength pins.
+fn pins_by_strength(strength: Strength) -> bool
+    ensures { result ≡ pins_by_strength strength }
+{
+    match strength {
+        Strength::Short | Strength::Long | Strength::Strong => false,
+        Strength::Pinned => true,
+    }
+}
+
+// Whether a handle of a kind with an extra pins its target.
+fn pins(kind: Kind, extra: Extra) -> bool
+    ensures { result ≡ pins_by kind (extra_of extra) }
+{
+    match kind {
+        Kind::Pinned => true,
+        Kind::Variable => match extra {
+            Extra::Strength(strength) => pins_by_strength(strength),
+            Extra::Nothing | Extra::Secondary(_) | Extra::Count(_) => false,
+        },
+        Kind::Short | Kind::Long | Kind::Strong | Kind::Counted | Kind::Dependent => false,
+    }
+}
+
+impl Store {
+    /// The place of an object: its address.
+    fn place(&self, at: Addr) -> u32
+        requires { IsSome (get self.now.names at.0) }
+        ensures value { result ≡ at.0 }
+        ensures place { HasPlace self.now at }
+    {
+        // Objects lie apart, below 2^32.
+        let _objects = self.heap.count();
+        at.0
+    }
+}
+
+// What the handle in a handle register pins, or why it pins nothing.
+fn pinned_in(store: &Store, caller: u32, h: u8) -> Result<Addr, Refusal>
+    requires caller { caller < store.now.numbers.callers }
+    requires register { h < REGISTERS }
+    ensures value { as_pinned store.now result ≡ pinned_in store.now.state caller h }
+    ensures known { IfOk result (λ at. IsSome (get store.now.names at.0)) }
+{
+    let (_, live) = live_in(store, caller, h)?;
+    if !pins(live.kind, live.row.extra) {
+        return Err(Refusal::WrongKind);
+    }
+    match live.row.target {
+        Some(at) => Ok(at),
+        None => Err(Refusal::Null),
+    }
+}
+
+/// `addr hS`.
+pub(crate) fn answer_place(store: &Store, order: Order, h: u8) -> Entry
+    requires command { order.cmd ≡ cmds.AddrOf h }
+    requires caller { order.caller < store.now.numbers.callers }
+    requires register { h < REGISTERS }
+    ensures caller { result.caller ≡ order.caller }
+    ensures command { result.cmd ≡ order.cmd }
+    ensures moves { KeepsPlaces store.now result store.now }
+    ensures ages { store.now.ages ≡ aged_by store.now.state result store.now.ages }
+{
+    match pinned_in(store, order.caller, h) {
+        Ok(at) => order.reply(Reply::Place(store.place(at))),
+        Err(refusal) => order.refuse(refusal),
+    }
+}
