@@ -24,10 +24,6 @@ use Rattle.hd_model.specs.Kinds.{kind_of}
 use Rattle.hd_model.specs.Command.{refuses, made_handle, free_handle}
 use Rattle.hd_model.specs.Step.{IsOutcome, IsLeastUnused, MayGive, with_made, MakesHandle, blocks_needed, StepOf, Step}
 use Rattle.hd_model.specs.Run.{NoneFree, NoneAllFree, TakesLeast}
-use Rattle.hd_model.specs.Touched.{touched_by}
-use Rattle.hd_model.proofs.Effects.{effect}
-use Rattle.hd_model.proofs.Frames.{untouched_stays}
-use Rattle.hd_model.proofs.Kept.{HandleChange, handle_stays, is_made, target_is_set, secondary_is_set, strength_is_set, count_is_raised, count_is_lowered, is_freed, is_collected, handle_change}
 use Rattle.hd_model.proofs.Outcomes.{on_handle_cases}
 use Rattle.hd_model.proofs.Written.{get_inserted, get_beside, get_removed, get_left}
 use Rattle.hd_model.proofs.WellFormed.{step_keeps}
@@ -39,16 +35,18 @@ use Rattle.hd_gate.specs.declared.change.Change.TheVariants.{Takes, Frees, Gives
 use Rattle.hd_gate.specs.Change.{change_of, Offers, grown_by, without_block, noted, MayGrow, MayNote}
 use Rattle.hd_world.specs.Growth.{kind_in_use}
 use Rattle.hd_gate.specs.Tied.{kind_of_block, is_free, IsTied}
+use Rattle.hd_gate.proofs.Living.{Some-injective, zero_is_not_one, keeps_live, keeps_blocks}
 use Rattle.hd_gate.proofs.Tying.{in_pool, in_state, least_in_state, none_in_state, whole_in_state, least_whole_in_state, none_whole_in_state, live_not_free, live_added, unused_not_live}
 
 same_slot : (a b : Slot) → a.0 ≡ b.0 → a ≡ b
 same_slot a b e i = record { 0 = e i }
 
-Some-injective : {A : Type 0} (a b : A) → Some a ≡ Some b → a ≡ b
-Some-injective a b e = cc
-
-zero_is_not_one : reply.Value 0 ≡ reply.Value 1 → ⊥
-zero_is_not_one e = let numbers : ◌≡◌ {A = ℕ} 0 1 = cc in absurd (omega (arith, numbers))
+-- both are nothing, or none is
+same_none : {A : Type 0} (a b : Option A) → is_some a ≡ is_some b → is_none a ≡ is_none b
+same_none None None e = refl
+same_none None (Some y) e = cc
+same_none (Some x) None e = cc
+same_none (Some x) (Some y) e = refl
 
 module _ (n : Numbers) (s : State) (p : FreeSlots) (tied : IsTied n s p) (e : Entry) (t : State)
     (step : Step n s e t) where
@@ -68,31 +66,10 @@ module _ (n : Numbers) (s : State) (p : FreeSlots) (tied : IsTied n s p) (e : En
     well_formed = well;
   }
 
-  -- a command that leaves the free slots as they are leaves live what was live, and no other slot
-  live_stays : (slot : Slot) (c : Cmd) (o : Option (Handle Id)) → HandleChange s e slot c o → change_of c ≡ Keeps
-      → is_none o ≡ is_none (get s.handles slot.0)
-  live_stays slot c o handle_stays keeps = refl
-  live_stays slot c o (is_made given replies free) keeps = cc
-  live_stays slot c o (target_is_set handle finds replies) keeps = sym (ap is_none finds.live)
-  live_stays slot c o (secondary_is_set handle finds same replies) keeps = sym (ap is_none finds.live)
-  live_stays slot c o (strength_is_set handle finds same replies) keeps = sym (ap is_none finds.live)
-  live_stays slot c o (count_is_raised handle finds same replies) keeps = sym (ap is_none finds.live)
-  live_stays slot c o (count_is_lowered handle finds same replies) keeps = sym (ap is_none finds.live)
-  live_stays slot c o (is_freed handle finds replies) keeps = cc
-  live_stays slot c o (is_collected reach kept handle live) keeps = sym (ap is_none live)
-
-  -- and it brings no block into use or out of it
-  blocks_stay : (c : Cmd) → change_of c ≡ Keeps → (touched_by c).blocks ≡ false
-  blocks_stay (cmd.HNew d make r) keeps = cc
-  blocks_stay (cmd.Trim kind) keeps = cc
-  blocks_stay c keeps = refl
-
   by_keeping : change_of e.cmd ≡ Keeps → IsTied n t p
   by_keeping keeps = stays t
-      (λ slot. let at : Slot = record { 0 = slot } in
-      live_stays at e.cmd (get t.handles slot)
-      (handle_change n s tied.well_formed e at e.cmd t (effect n s e t step)) keeps)
-      ((untouched_stays n s t e step).blocks (blocks_stay e.cmd keeps)) refl
+      (λ x. same_none (get t.handles x) (get s.handles x) (keeps_live n s tied.well_formed e t step keeps x))
+      (keeps_blocks n s tied.well_formed e t step keeps) refl
 
   -- what is true of the pool after a step: the entry may be noted, and the pool is then tied to the state
   -- after it
@@ -360,9 +337,10 @@ module _ (n : Numbers) (s : State) (p : FreeSlots) (tied : IsTied n s p) (e : En
   by_command : (c : Cmd) (q : FreeSlots) (o : Option Slot) → Offers p q (change_of c) o → ForSome o
       (TakesOffer e c) → GrowsUnoffered n s c o e
       → StepOf n s e t c → (change_of c ≡ Keeps → IsTied n t p) → Follows q (change_of c) e.slot e.grown
-  by_command (cmd.HNew d make r) q o offers taken grows does stays_tied = by_new d make r q o offers taken does
-  by_command (cmd.HFree h) q o offers taken grows does stays_tied = subst (λ x. Follows x Frees e.slot e.grown)
-      (sym offers.1) (by_freed h does)
+  by_command (cmd.HNew d make r) q o offers taken grows does stays_tied =
+      by_new d make r q o offers taken does
+  by_command (cmd.HFree h) q o offers taken grows does stays_tied =
+      subst (λ x. Follows x Frees e.slot e.grown) (sym offers.1) (by_freed h does)
   by_command (cmd.Trim kind) q o offers taken grows does stays_tied = by_trim kind q o offers taken grows does
   by_command c q o offers taken grows does stays_tied = (
     tt,

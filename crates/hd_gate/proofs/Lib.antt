@@ -1,2 +1,12 @@
 pub mod Tying
 pub mod Following
+pub mod Beginnings
+pub mod Same
+pub mod Living
+pub mod Plain
+pub mod Granting
+pub mod Freeing
+pub mod Trimming
+pub mod Leaving
+pub mod Looking
+pub mod Endings

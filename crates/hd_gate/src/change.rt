@@ -7,7 +7,7 @@ use hd_pool::Pool;
 
 // What a command does to the free slots.
 #[derive(Clone, Copy)]
-enum Change {
+pub(crate) enum Change {
     // It takes one of a kind.
     Takes(Kind),
     // It frees one.
@@ -19,7 +19,7 @@ enum Change {
 }
 
 // What a command does to the free slots.
-fn change_of(cmd: Cmd) -> Change
+pub(crate) fn change_of(cmd: Cmd) -> Change
     ensures { result ≡ change_of cmd }
 {
     match cmd {

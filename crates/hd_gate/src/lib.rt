@@ -1,10 +1,16 @@
 //! The gate before a world: one caller at a time does a command, and is offered the slot that a new
-//! handle takes.
+//! handle takes. `Alone` is for one thread, `Shared` for callers in threads of their own.
 #![tactic(auto)]
 
 mod alone;
+mod callers;
 mod change;
+mod opening;
+mod shared;
 #[cfg(test)]
 mod tests;
+mod turns;
 
 pub use alone::Alone;
+pub use callers::{Caller, Callers};
+pub use shared::{Closed, Shared};

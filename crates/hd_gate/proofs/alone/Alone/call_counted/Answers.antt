@@ -5,16 +5,16 @@ use Rattle.hd_world.specs.World.{Standing}
 use Rattle.hd_gate.specs.Tied.{IsTied}
 use Rattle.hd_gate.specs.Alone.{HasCalled, FindsFullExactly, TrimsExactly}
 use Rattle.hd_gate.proofs.Following.{follows, may_offer, takes_least, full_exactly, none_exactly, some_else}
-use Rattle.hd_gate.proofs.alone.Alone.call.Goals as goal
+use Rattle.hd_gate.proofs.alone.Alone.call_counted.Goals as goal
 
 pub apply-requires-clause-offer : goal.apply-requires-clause-offer
-apply-requires-clause-offer c =
+apply-requires-clause-offer g c =
     let w = c.self.inside.world in
     may_offer w.numbers w.state c.self.inside.pool c.offer-offered.new.pool c.self.invariant c.args.cmd
     c.offer-offered.result c.offer-offered.ensures
 
 pub note-requires : goal.note-requires
-note-requires c =
+note-requires g c =
     let w = c.self.inside.world in
     let e = c.in_ok-entry.entry in
     let says = c.in_ok-entry.ensures in
@@ -23,7 +23,7 @@ note-requires c =
     c.offer-offered.new.pool c.offer-offered.result c.offer-offered.ensures says.offer says.growth).0
 
 pub invariant_of-self-2 : goal.invariant_of-self-2
-invariant_of-self-2 c =
+invariant_of-self-2 g c =
     let w = c.self.inside.world in
     let e = c.in_ok-entry.entry in
     let says = c.in_ok-entry.ensures in
@@ -35,7 +35,7 @@ invariant_of-self-2 c =
     (subst (IsTied w.numbers next.state) (sym c.note.ensures) tied)
 
 pub returns-clause-done : goal.returns-clause-done
-returns-clause-done c =
+returns-clause-done g c =
     let w = c.self.inside.world in
     let e = c.in_ok-entry.entry in
     let says = c.in_ok-entry.ensures in
@@ -57,7 +57,7 @@ returns-clause-done c =
     })
 
 pub returns-clause-full : goal.returns-clause-full
-returns-clause-full c =
+returns-clause-full g c =
     let w = c.self.inside.world in
     let e = c.in_ok-entry.entry in
     let says = c.in_ok-entry.ensures in
@@ -68,7 +68,7 @@ returns-clause-full c =
     c.offer-offered.ensures says.offer says.growth c.apply.new.self.state does)
 
 pub returns-clause-trims : goal.returns-clause-trims
-returns-clause-trims c =
+returns-clause-trims g c =
     let w = c.self.inside.world in
     let e = c.in_ok-entry.entry in
     let says = c.in_ok-entry.ensures in

@@ -1,0 +1,81 @@
+-- Callers as they end, one after another.
+use Rattle.std.proofs.Common.{◌≡◌, ℕ, zero, suc, drop, ◌+◌, ◌<◌, List, [], ◌∷◌, ◌++◌, length, length-append, inl, inr, sym, ap, ◌∙◌, subst, arith}
+use Rattle.std.specs.Prelude.{slice_index_or}
+use Rattle.std.proofs.Math.ListN.{get_or-append}
+use Rattle.std.proofs.lemmas.List.{get_or-drop}
+use Rattle.std.proofs.Math.Seq.{get_or-append_seam}
+use Rattle.hd_model.specs.declared.data.Entry.{Entry}
+use Rattle.hd_custody.specs.declared.view.View.{View}
+use Rattle.hd_custody.specs.Views.{joined}
+use Rattle.hd_custody.proofs.Seating.{at_end}
+use Rattle.hd_custody.specs.Rule.{Divided}
+use Rattle.hd_world.specs.World.{Standing}
+use Rattle.hd_world.specs.contracts.world.WorldHeld.TheImpl.{ghosts}
+use Rattle.hd_model.specs.Run.{part_of}
+use Rattle.hd_gate.specs.Shared.{Party, HasParts}
+use Rattle.hd_gate.specs.Opening.{HasEnded}
+
+-- one more has ended
+pub one_more_ended : (others : List Party) (ended : List (ℕ × List Entry)) (e : ℕ × List Entry) (c : ℕ)
+    → HasEnded others ended → c < length others → e.0 ≡ c + 1
+    → ((d : Party) → e.1 ≡ (slice_index_or others c d).part) → HasEnded others (ended ++ e ∷ [])
+one_more_ended others ended e c has below number part = record {
+  each = λ k f at. elim (at_end ended e f k at) [
+    | inl there ↦ has.each k f there.1
+    | inr last ↦ subst (λ (g : ℕ × List Entry). (n : ℕ) × (n < length others) × (g.0 ≡ n + 1) ×
+        ((d : Party) → g.1 ≡ (slice_index_or others n d).part)) last.1 (c, below, number, part)
+  ];
+}
+
+-- the seat in which it ended is else as it was
+pub ends_in : {W : Type 0} (begun v w n : View W) → v ≡ record begun { room = v.room; ended = v.ended }
+    → n ≡ joined v w → n ≡ record begun { room = n.room; ended = n.ended }
+ends_in {W = W} begun v w n seat is = subst (λ (x : View W). x
+    ≡ record begun { room = x.room; ended = x.ended })
+    (sym is)
+    (ap (λ (x : View W). record x {
+      room = v.room + w.room;
+      ended = v.ended ++
+          (w.number, w.part) ∷ [];
+    }) seat)
+
+-- the last of those who are left
+module _ (all xs ys : List Party) (x : Party) (popped : xs ≡ ys ++ x ∷ [])
+    (rest : (k : ℕ) (d : Party) → k < length xs → slice_index_or xs k d ≡ slice_index_or all k d) where
+  pub shorter : length xs ≡ length ys + 1
+  shorter = omega (arith, ap length popped, length-append ys (x ∷ []))
+
+  pub rest_less : (k : ℕ) (d : Party) → k < length ys → slice_index_or ys k d ≡ slice_index_or all k d
+  rest_less k d below =
+      sym (get_or-append ys (x ∷ []) d k below) ∙ ap (λ l. slice_index_or l k d) (sym popped)
+      ∙ rest k d (omega (arith, shorter, below))
+
+  pub is_last : (d : Party) → x ≡ slice_index_or all (length ys) d
+  is_last d =
+      sym (get_or-append_seam ys x [] d) ∙ ap (λ l. slice_index_or l (length ys) d) (sym popped)
+      ∙ rest (length ys) d (omega (arith, shorter))
+
+-- the journal of a world that all have left has of each exactly its part
+module _ (callers : List Party) (first : View Standing) (w : Standing) (divided : Divided ghosts first w)
+    (made : first.made ≡ length callers)
+    (part : (d : Party) → first.part ≡ (slice_index_or callers 0 d).part)
+    (ended : HasEnded (drop 1 callers) first.ended) where
+  part_at : (c : ℕ) (d : Party) → c < length callers → part_of w.journal c ≡ (slice_index_or callers c d).part
+  part_at zero d below = divided.own_part ∙ part d
+  part_at (suc k) d below = elim (divided.each (suc k) (omega (arith, made, below))) [
+    | inl none ↦ absurd (omega (arith, none))
+    | inr at ↦ (
+        let has = ended.each at.0 (suc k, at.1) at.2 in
+        let same : has.0 ≡ k = omega (arith, has.2) in
+        let next : 1 + k ≡ suc k = omega arith in
+        divided.ended_parts at.0 (suc k, at.1) at.2 ∙ has.3 d
+        ∙ ap (λ j. (slice_index_or (drop 1 callers) j d).part) same
+        ∙ ap (λ (p : Party). p.part) (get_or-drop 1 callers k d)
+        ∙ ap (λ j. (slice_index_or callers j d).part) next)
+  ]
+
+  pub has_parts : HasParts callers w.journal
+  has_parts = record {
+    each = part_at;
+    others = λ c above. divided.others c (omega (arith, made, above));
+  }

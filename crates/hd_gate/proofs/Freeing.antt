@@ -1,0 +1,165 @@
+-- `hfree`: what its caller has once it left the gate, and once it let the slot go.
+use Rattle.std.proofs.Common.{◌≡◌, ◌≢◌, ℕ, ◌+◌, ◌-◌, ◌/◌, ◌≤◌, true, false, not, cond, [], ◌∷◌, Option, Some, None, inl, inr, refl, sym, ap, ◌∙◌, subst, eq-eqb, arith}
+use Rattle.std.specs.Prelude.{is_some, IfSome, option_map}
+use Rattle.std.specs.FinMap as map
+use Rattle.std.specs.FinMap.{get}
+use Rattle.std.proofs.lemmas.Bool.{cases_eq}
+use lib.ListN.{get_elem?}
+use Rattle.atomic_table.specs.Seated.{TableId}
+use Rattle.hd_model.specs.declared.data.Id.{Id}
+use Rattle.hd_model.specs.declared.data.Entry.{Entry}
+use Rattle.hd_model.specs.declared.data.Kind.{Kind}
+use Rattle.hd_model.specs.declared.data.Slot.{Slot}
+use Rattle.hd_model.specs.declared.command.Cmd.{Cmd}
+use Rattle.hd_model.specs.declared.command.Cmd.TheVariants as cmd
+use Rattle.hd_model.specs.State.{Numbers, Handle, handles_of, use_of, block_of}
+use Rattle.hd_model.specs.Kinds.{kind_number}
+use Rattle.hd_model.specs.Step.{StepOf}
+use Rattle.hd_model.specs.Table.{kind_word}
+use Rattle.hd_model.proofs.Written.{get_removed, get_left}
+use Rattle.hd_custody.specs.declared.view.View.{View}
+use Rattle.hd_custody.specs.Counts.{HasAs, without}
+use Rattle.hd_custody.specs.Views.{Follows, gave_back, took}
+use Rattle.hd_custody.specs.Rule.{Entered}
+use Rattle.hd_world.specs.World.{Standing, asks_of}
+use Rattle.hd_world.specs.Growth.{kind_in_use}
+use Rattle.hd_world.specs.contracts.world.WorldHeld.TheImpl.{ghosts}
+use Rattle.hd_gate.specs.declared.change.Change.TheVariants.{Frees}
+use Rattle.hd_gate.specs.Change.{change_of}
+use Rattle.hd_gate.specs.Shared.{Party, LookedFor, HasDone}
+use Rattle.hd_gate.specs.Idle.{IsIdle}
+use Rattle.hd_gate.specs.Turns.{party_of, Stepped, freed_in, LetsGo}
+use Rattle.hd_gate.proofs.Living.{FreesAt, frees_at}
+use Rattle.hd_gate.proofs.Leaving.{idle_of, goes_on, done_after, hand_stays, hand_ends}
+
+-- a command that frees a slot is `hfree`
+is_free : (c : Cmd) → change_of c ≡ Frees → (h : ℕ) × (c ≡ cmd.HFree h)
+is_free (cmd.HFree h) frees = (h, refl)
+is_free c frees = cc
+
+module _ (number : ℕ) (command : Cmd) (frees : change_of command ≡ Frees) (u w : Standing) (v : View Standing)
+    (idle : IsIdle v number) (some_room : 1 ≤ v.room) (few : v.limits.blocks ≤ 256)
+    (entered : Entered ghosts v u) (e : Entry) (stepped : Stepped u w number command None e) where
+  abbrev busy : View Standing
+  busy = took u v
+
+  abbrev left : View Standing
+  left = gave_back ghosts u w busy
+
+  looks_for_none : (old new : Party) → LookedFor (asks_of command) old new e
+  looks_for_none old new =
+      let is = is_free command frees in
+      subst (λ (c : Cmd). LookedFor (asks_of c) old new e) (sym is.1) tt
+
+  -- the caller once it let go what was freed
+  pub record Freed (freed : Option (Slot × Kind)) : Type 0 where
+    pub follows : Follows ghosts u w busy
+    pub has : IfSome freed (λ f. HasAs (f.0.0, kind_number f.1 + 1) left.hand)
+    pub stays_idle : (blocks : ℕ) (n : View Standing) → LetsGo blocks freed left n → IsIdle n number
+    pub done : (blocks : ℕ) (n : View Standing) → LetsGo blocks freed left n → (t : TableId)
+        → HasDone (party_of (record { table = t; view = v }) number v.room)
+        (party_of (record { table = t; view = n }) number n.room) command e.reply
+    pub limits : (blocks : ℕ) (n : View Standing) → LetsGo blocks freed left n → n.limits ≡ v.limits
+
+  follows_from : ((x : ℕ) → ghosts.live w x ≡ true → ghosts.live u x ≡ true) → w.state.blocks ≡ u.state.blocks
+      → Follows ghosts u w busy
+  follows_from lives blocks = record {
+    kinds = λ b _ _. ap (λ m. kind_word (get m b)) blocks;
+    sized = stepped.numbers ∙ entered.sized;
+    lives = λ x _ on. inl (lives x on);
+    goes_on = goes_on number command None u w e stepped v busy idle some_room entered.part
+        (refl, refl, refl, refl, refl, refl);
+  }
+
+  done_at : (n : View Standing) → n.part ≡ left.part → n.room ≡ left.room → (t : TableId)
+      → HasDone (party_of (record { table = t; view = v }) number v.room)
+      (party_of (record { table = t; view = n }) number n.room) command e.reply
+  done_at n part room t = done_after number command None u w e stepped v busy idle some_room entered.part
+      (refl, refl, refl, refl, refl, refl) t n part room (looks_for_none _ _)
+
+  -- nothing was freed
+  kept : w.state.handles ≡ u.state.handles → w.state.blocks ≡ u.state.blocks → Freed None
+  kept handles blocks =
+      let same : (x : ℕ) → ghosts.live w x ≡ ghosts.live u x = λ x. ap (λ m. is_some (get m x)) handles in
+      let hand = hand_stays u w busy same idle.hand in
+      record {
+        follows = follows_from (λ x on. sym (same x) ∙ on) blocks;
+        has = tt;
+        stays_idle = λ b n is. idle_of v n number idle
+            (ap (λ (x : View Standing). x.number) is) (ap (λ (x : View Standing). x.limits) is)
+            (ap (λ (x : View Standing). x.ended) is) (ap (λ (x : View Standing). x.made) is)
+            (ap (λ (x : View Standing). x.hand) is ∙ hand) (ap (λ (x : View Standing). x.has_gate) is);
+        done = λ b n is. done_at n (ap (λ (x : View Standing). x.part) is)
+            (ap (λ (x : View Standing). x.room) is);
+        limits = λ b n is. ap (λ (x : View Standing). x.limits) is;
+      }
+
+  -- a slot was freed
+  module _ (slot : Slot) (handle : Handle Id) (live : get u.state.handles slot.0 ≡ Some handle)
+      (handles : w.state.handles ≡ map.remove u.state.handles slot.0)
+      (blocks : w.state.blocks ≡ u.state.blocks) where
+    used : use_of u.state (block_of slot) ≡ Some (handles_of handle.kind)
+    used = stepped.well_formed.handles.kinds slot.0 handle live
+
+    used' : use_of w.state (block_of slot) ≡ Some (handles_of handle.kind)
+    used' = ap (λ m. get m (block_of slot)) blocks ∙ used
+
+    off : ghosts.live w slot.0 ≡ false
+    off = ap (λ m. is_some (get m slot.0)) handles ∙ ap is_some (get_removed u.state.handles slot.0)
+
+    others : (y : ℕ) → y ≢ slot.0 → ghosts.live w y ≡ ghosts.live u y
+    others y apart = ap (λ m. is_some (get m y)) handles
+        ∙ ap is_some (get_left u.state.handles slot.0 y apart)
+
+    inside : (1 ≤ block_of slot) × (block_of slot ≤ u.numbers.blocks)
+    inside = stepped.well_formed.handles.blocks (block_of slot) (ap is_some used)
+
+    limit : u.numbers.blocks ≤ 256
+    limit = subst (λ (n : Numbers). n.blocks ≤ 256) (sym entered.sized) few
+
+    place : 64 + (slot.0 - 64) ≡ slot.0
+    place = omega (arith, inside.0)
+
+    hand : left.hand ≡ (slot.0, kind_number handle.kind + 1) ∷ []
+    hand =
+        hand_ends u w busy (slot.0 - 64) (omega (arith, inside.0, inside.1, limit)) idle.hand
+        (ap (ghosts.live u) place ∙ ap is_some live) (ap (ghosts.live w) place ∙ off)
+        (λ y apart. others y (λ is. apart (is ∙ sym place)))
+        ∙ ap (λ x. (x, ghosts.kind w (x / 64)) ∷ []) place
+        ∙ ap (λ o. (slot.0, kind_word o) ∷ []) used'
+
+    gone : without slot.0 left.hand ≡ []
+    gone = ap (without slot.0) hand
+        ∙ ap (λ b. cond (not b) ((slot.0, kind_number handle.kind + 1) ∷ []) []) (eq-eqb slot.0 slot.0 refl)
+
+    freed : Freed (Some (slot, handle.kind))
+    freed = record {
+      follows = follows_from (λ x on. elim (cases_eq x slot.0) [
+        | inl here ↦ (ap (ghosts.live u) here ∙ ap is_some live)
+        | inr apart ↦ (sym (others x apart) ∙ on)
+      ]) blocks;
+      has = (0, ap (λ h. get_elem? h 0) hand);
+      stays_idle = λ b n is. idle_of v n number idle
+          (ap (λ (x : View Standing). x.number) is.view) (ap (λ (x : View Standing). x.limits) is.view)
+          (ap (λ (x : View Standing). x.ended) is.view) (ap (λ (x : View Standing). x.made) is.view)
+          (ap (λ (x : View Standing). x.hand) is.view ∙ gone)
+          (ap (λ (x : View Standing). x.has_gate) is.view);
+      done = λ b n is. done_at n (ap (λ (x : View Standing). x.part) is.view)
+          (ap (λ (x : View Standing). x.room) is.view);
+      limits = λ b n is. ap (λ (x : View Standing). x.limits) is.view;
+    }
+
+    found : freed_in w.state (Some slot) ≡ Some (slot, handle.kind)
+    found = ap (λ o. option_map (λ (k : Kind). (slot, k)) (kind_in_use o)) used'
+
+  freed_at : (o : Option Slot)
+      → FreesAt u.numbers u.state stepped.well_formed e w.state stepped.step o → Freed (freed_in w.state o)
+  freed_at None at = kept at.0 at.1
+  freed_at (Some slot) at = subst Freed (sym (found slot at.0 at.1 at.2 at.3))
+      (freed slot at.0 at.1 at.2 at.3)
+
+  pub frees_slot : Freed (freed_in w.state e.slot)
+  frees_slot =
+      let is = is_free command frees in
+      freed_at e.slot (frees_at u.numbers u.state stepped.well_formed e w.state stepped.step is.0
+      (subst (StepOf u.numbers u.state e w.state) (stepped.command_is ∙ is.1) stepped.step.does))

@@ -1,0 +1,203 @@
+-- What a seat is once its caller took a step under the gate and left.
+use Rattle.std.proofs.Common.{◌≡◌, ◌≢◌, ◌⊎◌, ℕ, ◌+◌, ◌/◌, ◌<◌, ◌≤◌, Bool, true, false, not, ◌&&◌, cond, List, [], ◌∷◌, ◌++◌, length, filter, Option, inl, inr, refl, sym, ap, ◌∙◌, subst, eq-eqb, ne_eqb, length-append, arith}
+use Rattle.std.specs.Prelude.{◌==◌}
+use Rattle.std.proofs.lemmas.Bool.{cases_eq}
+use mathlib.Core.Option.{some-ne-none}
+use Rattle.atomic_table.specs.Seated.{TableId}
+use Rattle.hd_model.specs.declared.data.Entry.{Entry}
+use Rattle.hd_model.specs.declared.data.Slot.{Slot}
+use Rattle.hd_model.specs.declared.command.Cmd.{Cmd}
+use Rattle.hd_model.specs.Run.{part_of}
+use Rattle.hd_custody.specs.declared.view.View.{View}
+use Rattle.hd_custody.specs.declared.view.Limits.{Limits}
+use Rattle.hd_custody.specs.Counts.{Every, Has, changed, picks, slot_count}
+use Rattle.hd_custody.specs.Views.{Continues, Follows, numbers_of, gave_back}
+use Rattle.hd_custody.proofs.Canon.{picks_none, picks_one}
+use Rattle.hd_custody.proofs.Left.{none_ended}
+use Rattle.hd_world.specs.World.{Standing, asks_of}
+use Rattle.hd_world.specs.contracts.world.WorldHeld.TheImpl.{ghosts}
+use Rattle.hd_gate.specs.Shared.{LookedFor, HasDone}
+use Rattle.hd_gate.specs.Idle.{IsIdle}
+use Rattle.hd_gate.specs.Turns.{party_of, Stepped}
+
+-- a view is that of the same seat, which has the same part and may add as many entries
+abbrev pub SameSeat : View Standing → View Standing → Type 0
+SameSeat v w =
+    (w.number ≡ v.number) × (w.limits ≡ v.limits) × (w.part ≡ v.part) × (w.room ≡ v.room)
+    × (w.ended ≡ v.ended) × (w.made ≡ v.made)
+
+pub same_seat : (v w : View Standing) → v ≡ w → SameSeat w v
+same_seat v w e = (
+  ap (λ (x : View Standing). x.number) e,
+  ap (λ (x : View Standing). x.limits) e,
+  ap (λ (x : View Standing). x.part) e,
+  ap (λ (x : View Standing). x.room) e,
+  ap (λ (x : View Standing). x.ended) e,
+  ap (λ (x : View Standing). x.made) e,
+)
+
+-- such a seat is idle where it has no slot and not the gate
+pub idle_of : (v n : View Standing) (number : ℕ) → IsIdle v number → n.number ≡ v.number → n.limits ≡ v.limits
+    → n.ended ≡ v.ended → n.made ≡ v.made → n.hand ≡ [] → n.has_gate ≡ false → IsIdle n number
+idle_of v n number idle same limits ended made hand gate =
+    let callers = ap (λ (l : Limits). l.callers) limits in
+    record {
+      number = same ∙ idle.number;
+      known = subst (λ c. number < c) (sym callers) idle.known;
+      hand = hand;
+      gate = gate;
+      ended = ended ∙ idle.ended;
+      made = λ first. made ∙ idle.made first ∙ sym callers;
+    }
+
+-- the part of the caller of the last entry
+one_more : (e : Entry) (journal : List Entry) → part_of (journal ++ e ∷ []) e.caller
+    ≡ part_of journal e.caller ++ e ∷ []
+one_more e [] = ap (λ b. cond b (e ∷ []) []) (eq-eqb e.caller e.caller refl)
+one_more e (x ∷ xs) = at (x.caller == e.caller) (one_more e xs)
+  where
+    at : (b : Bool) → part_of (xs ++ e ∷ []) e.caller ≡ part_of xs e.caller ++ e ∷ []
+        → cond b (x ∷ part_of (xs ++ e ∷ []) e.caller) (part_of (xs ++ e ∷ []) e.caller)
+        ≡ cond b (x ∷ part_of xs e.caller) (part_of xs e.caller) ++ e ∷ []
+    at true rest = ap (λ l. x ∷ l) rest
+    at false rest = rest
+
+-- the gate may be left with the world w, and the caller is then idle and its command done
+pub record Leaves (number : ℕ) (command : Cmd) (u w : Standing) (e : Entry)
+    (v busy : View Standing) : Type 0 where
+  pub follows : Follows ghosts u w busy
+  pub idle : IsIdle (gave_back ghosts u w busy) number
+  pub done : (t : TableId) → HasDone (party_of (record { table = t; view = v }) number v.room)
+      (party_of (record { table = t; view = gave_back ghosts u w busy }) number
+      (gave_back ghosts u w busy).room) command e.reply
+
+module _ (number : ℕ) (command : Cmd) (offer : Option Slot) (u w : Standing) (e : Entry)
+    (stepped : Stepped u w number command offer e)
+    (v busy : View Standing) (idle : IsIdle v number) (some : 1 ≤ v.room)
+    (entered : part_of u.journal v.number ≡ v.part) (same : SameSeat v busy) where
+  abbrev after : View Standing
+  after = gave_back ghosts u w busy
+
+  pub goes_on : Continues busy.number busy.room u.journal u.spare w.journal w.spare
+  goes_on = inr (
+    e,
+    stepped.journal,
+    stepped.caller_is ∙ sym (same.0 ∙ idle.number),
+    stepped.spare,
+    omega (arith, some, same.3),
+  )
+
+  part_after : after.part ≡ v.part ++ e ∷ []
+  part_after =
+      let of : e.caller ≡ busy.number = stepped.caller_is ∙ sym (same.0 ∙ idle.number) in
+      ap (λ j. part_of j busy.number) stepped.journal
+      ∙ subst (λ n. part_of (u.journal ++ e ∷ []) n ≡ part_of u.journal n ++ e ∷ []) of
+      (one_more e u.journal)
+      ∙ ap (λ n. part_of u.journal n ++ e ∷ []) same.0
+      ∙ ap (λ p. p ++ e ∷ []) entered
+
+  room_after : after.room + 1 ≡ v.room
+  room_after =
+      let longer = ap length stepped.journal ∙ length-append u.journal (e ∷ []) in
+      omega (arith, longer, some, same.3)
+
+  -- the seat is idle again, where its hand is empty
+  pub idle_after : after.hand ≡ [] → IsIdle after number
+  idle_after empty = idle_of v after number idle same.0 same.1 same.4 same.5 empty refl
+
+  -- and the command was done, where what it looked for is told
+  pub done_after : (t : TableId) (n : View Standing) → n.part ≡ after.part → n.room ≡ after.room
+      → LookedFor (asks_of command) (party_of (record { table = t; view = v }) number v.room)
+      (party_of (record { table = t; view = n }) number n.room) e
+      → HasDone (party_of (record { table = t; view = v }) number v.room)
+      (party_of (record { table = t; view = n }) number n.room) command e.reply
+  done_after t n part room looked_for = record {
+    entry = e;
+    caller_is = stepped.caller_is;
+    command_is = stepped.command_is;
+    answer_is = refl;
+    part = part ∙ part_after;
+    room = omega (arith, room, room_after);
+    looked_for = looked_for;
+  }
+
+  -- so the gate may be left, and the call is then done
+  pub leaves : ((b : ℕ) → 0 < b → b < 257 → ghosts.kind w b ≡ changed busy.changes (ghosts.kind u) b)
+      → u.numbers ≡ numbers_of v.limits
+      → ((x : ℕ) → 64 ≤ x → ghosts.live w x ≡ true → (ghosts.live u x ≡ true) ⊎ Has x busy.hand)
+      → after.hand ≡ []
+      → ((t : TableId) → LookedFor (asks_of command) (party_of (record { table = t; view = v }) number v.room)
+      (party_of (record { table = t; view = after }) number after.room) e)
+      → Leaves number command u w e v busy
+  leaves kinds sized lives hand looked_for = record {
+    follows = record {
+      kinds = kinds;
+      sized = stepped.numbers ∙ sized ∙ sym (ap numbers_of same.1);
+      lives = lives;
+      goes_on = goes_on;
+    };
+    idle = idle_after hand;
+    done = λ t. done_after t after refl refl (looked_for t);
+  }
+
+-- ---- hands
+
+pub every_nil : (P : ℕ × ℕ → Type 0) → Every P []
+every_nil P n p e = absurd (some-ne-none p (sym e))
+
+both_off : (b : Bool) → (b && not b) ≡ false
+both_off true = refl
+both_off false = refl
+
+live_off : (a b : Bool) → b ≡ true → (a && not b) ≡ false
+live_off true b e = ap not e
+live_off false b e = refl
+
+module _ (u w : Standing) (v : View Standing) where
+  -- what ended, of the n slots from slot 64 on
+  ended : ℕ → List (ℕ × ℕ)
+  ended n = picks n (λ r. ghosts.live u (64 + r) && not (ghosts.live w (64 + r))) 64
+      (λ r. ghosts.kind w ((64 + r) / 64))
+
+  -- no slot became live and none ended
+  pub hand_stays : ((x : ℕ) → ghosts.live w x ≡ ghosts.live u x) → v.hand ≡ []
+      → (gave_back ghosts u w v).hand ≡ []
+  hand_stays same empty =
+      none_ended ghosts u w v (λ x _. same x)
+      (subst (Every (λ p. ghosts.live w p.0 ≡ false)) (sym empty) (every_nil _)) ∙ empty
+
+  -- one became live, which was the hand
+  module _ (x k : ℕ) (only : v.hand ≡ (x, k) ∷ []) (on : ghosts.live w x ≡ true)
+      (others : (y : ℕ) → y ≢ x → ghosts.live w y ≡ ghosts.live u y) where
+    none_ends : (y : ℕ) → (ghosts.live u y && not (ghosts.live w y)) ≡ false
+    none_ends y = elim (cases_eq y x) [
+      | inl here ↦ live_off (ghosts.live u y) (ghosts.live w y) (ap (ghosts.live w) here ∙ on)
+      | inr apart ↦ (
+          ap (λ b. ghosts.live u y && not b) (others y apart) ∙ both_off (ghosts.live u y))
+    ]
+
+    pub hand_lives : (gave_back ghosts u w v).hand ≡ []
+    unfolding ended
+    hand_lives =
+        ap (λ h. filter (λ (p : ℕ × ℕ). not (ghosts.live w p.0)) h ++ ended slot_count) only
+        ∙ ap (λ b. cond (not b) ((x, k) ∷ []) [] ++ ended slot_count) on
+        ∙ picks_none slot_count (λ r. ghosts.live u (64 + r) && not (ghosts.live w (64 + r))) 64
+        (λ r. ghosts.kind w ((64 + r) / 64)) (λ r _. none_ends (64 + r))
+
+  -- one ended, and comes to the hand
+  pub hand_ends : (a : ℕ) → a < 16384 → v.hand ≡ [] → ghosts.live u (64 + a) ≡ true
+      → ghosts.live w (64 + a) ≡ false → ((y : ℕ) → y ≢ 64 + a → ghosts.live w y ≡ ghosts.live u y)
+      → (gave_back ghosts u w v).hand ≡ (64 + a, ghosts.kind w ((64 + a) / 64)) ∷ []
+  unfolding ended slot_count
+  hand_ends a low empty was off others =
+      ap (λ h. filter (λ (p : ℕ × ℕ). not (ghosts.live w p.0)) h ++ ended slot_count) empty
+      ∙ picks_one slot_count a (λ r. ghosts.live u (64 + r) && not (ghosts.live w (64 + r))) 64
+      (λ r. ghosts.kind w ((64 + r) / 64)) low
+      (λ r _. elim (cases_eq r a) [
+        | inl here ↦ (
+            ap (λ q. ghosts.live u (64 + q) && not (ghosts.live w (64 + q))) here
+            ∙ ap (λ b. b && not (ghosts.live w (64 + a))) was ∙ ap not off ∙ sym (eq-eqb r a here))
+        | inr apart ↦ (
+            ap (λ b. ghosts.live u (64 + r) && not b) (others (64 + r) (λ e. apart (omega (arith, e))))
+            ∙ both_off (ghosts.live u (64 + r)) ∙ sym (ne_eqb r a apart))
+      ])

@@ -1,0 +1,49 @@
+-- What a call looked for.
+use Rattle.std.proofs.Common.{◌≡◌, ℕ, ◌+◌}
+use Rattle.hd_model.specs.declared.data.Entry.{Entry}
+use Rattle.hd_model.specs.declared.data.Kind.{Kind}
+use Rattle.hd_model.specs.declared.data.Reply.{Reply}
+use Rattle.hd_model.specs.declared.command.Cmd.{Cmd}
+use Rattle.hd_world.specs.World.{Asks, object_room, handle_slot, block_back, no_room, asks_of}
+use Rattle.hd_gate.specs.Shared.{Party, OwnSteps, OwnMiss, OwnSweep, LookedFor, HasDone}
+
+-- it does not depend on the rooms
+module _ (old new : Party) (before after : ℕ) where
+  abbrev old' : Party
+  old' = record old { room = before }
+
+  abbrev new' : Party
+  new' = record new { room = after }
+
+  own_steps : OwnSteps old new → OwnSteps old' new'
+  own_steps o = record { later = o.later; began_empty = o.began_empty }
+
+  own_miss : (kind : Kind) → OwnMiss kind old new → OwnMiss kind old' new'
+  own_miss kind o = record { own = own_steps o.own; miss = o.miss }
+
+  own_sweep : (kind : Kind) → OwnSweep kind old new → OwnSweep kind old' new'
+  own_sweep kind o = record { own = own_steps o.own; ended = o.ended; none = o.none }
+
+  looked_for : (asks : Asks) (e : Entry) → LookedFor asks old new e → LookedFor asks old' new' e
+  looked_for (object_room fields) e l = tt
+  looked_for (handle_slot kind) e l = record {
+    grows = λ grown. own_miss kind (l.grows grown);
+    full = λ given says. own_miss kind (l.full given says);
+    few = λ given says. l.few given says;
+  }
+  looked_for (block_back kind) e l = λ says. own_sweep kind (l says)
+  looked_for no_room e l = tt
+
+  -- a call that was done, told with the rooms of its caller
+  pub done_with : (command : Cmd) (answer : Reply) → after + 1 ≡ before → HasDone old new command answer
+      → HasDone
+      old' new' command answer
+  done_with command answer less d = record {
+    entry = d.entry;
+    caller_is = d.caller_is;
+    command_is = d.command_is;
+    answer_is = d.answer_is;
+    part = d.part;
+    room = less;
+    looked_for = looked_for (asks_of command) d.entry d.looked_for;
+  }

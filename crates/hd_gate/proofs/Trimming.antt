@@ -1,0 +1,226 @@
+-- `trim`: what its caller has under the gate, and once it left.
+use Rattle.std.proofs.Common.{◌≡◌, ℕ, ◌+◌, ◌*◌, ◌/◌, ◌%◌, ◌<◌, ◌≤◌, ◌==◌, ◌&&◌, Bool, true, false, not, cond, List, [], ◌++◌, Option, Some, None, inl, inr, refl, sym, ap, ◌∙◌, subst, eq-eqb, ne_eqb, arith}
+use Rattle.std.specs.Prelude.{is_some, IfSome, option_map}
+use Rattle.std.specs.Int.{bit_at}
+use Rattle.std.specs.FinMap as map
+use Rattle.std.specs.FinMap.{get}
+use Rattle.std.specs.Ordering.{nat_cmp}
+use Rattle.std.proofs.lemmas.Bool.{cases_eq}
+use Rattle.std.proofs.lemmas.Nat.Bits.{bit_at_ones}
+use mathlib.Core.Option.{some}
+use lib.ListN.{get_elem?}
+use Rattle.atomic_table.specs.Seated.{TableId}
+use Rattle.hd_model.specs.declared.data.Entry.{Entry}
+use Rattle.hd_model.specs.declared.data.Grown.TheVariants.{Back}
+use Rattle.hd_model.specs.declared.data.Kind.{Kind}
+use Rattle.hd_model.specs.declared.data.Reply.TheVariants as reply
+use Rattle.hd_model.specs.declared.command.Cmd.{Cmd}
+use Rattle.hd_model.specs.declared.command.Cmd.TheVariants as cmd
+use Rattle.hd_model.specs.Run.{part_of}
+use Rattle.hd_model.specs.State.{State, BlockUse, use_of, first_slot, without_use}
+use Rattle.hd_model.specs.Kinds.{kind_number}
+use Rattle.hd_model.specs.Step.{StepOf}
+use Rattle.hd_model.specs.Table.{kind_word}
+use Rattle.hd_model.proofs.WellFormed.{first_block}
+use Rattle.hd_model.proofs.Written.{get_removed, get_left}
+use Rattle.hd_custody.specs.declared.view.View.{View}
+use Rattle.hd_custody.specs.declared.view.Limits.{Limits}
+use Rattle.hd_custody.specs.Counts.{Has, Every, rows, is_nil, without_block}
+use Rattle.hd_custody.specs.Views.{called, closed, numbers_of, gave_back, took}
+use Rattle.hd_custody.specs.Calls.{gathered, Gathers, ShowsNone}
+use Rattle.hd_custody.specs.Traces.{every_row, follow, sweep, missed, ending}
+use Rattle.hd_custody.specs.Rule.{Entered}
+use Rattle.hd_custody.proofs.Canon.{row_has, filter_append, filter_picks, picks_none}
+use Rattle.hd_custody.proofs.Hands.{member_at, every_append, every_picks}
+use Rattle.hd_world.specs.World.{Standing, IsOffer, GrowsUnoffered, Takes as TakesOffer, asks_of}
+use Rattle.hd_world.specs.contracts.world.WorldHeld.TheImpl.{ghosts}
+use Rattle.hd_gate.specs.declared.change.Change.TheVariants.{GivesBack as Gives}
+use Rattle.hd_gate.specs.Change.{change_of}
+use Rattle.hd_gate.specs.Shared.{LookedFor}
+use Rattle.hd_gate.specs.Idle.{IsIdle}
+use Rattle.hd_gate.specs.Turns.{party_of, Stepped, without_gathered}
+use Rattle.hd_gate.proofs.Granting.{free_in_hand}
+use Rattle.hd_gate.proofs.Living.{zero_is_not_one}
+use Rattle.hd_gate.proofs.Leaving.{SameSeat, same_seat, Leaves, leaves, every_nil, hand_stays}
+
+Gives-injective : (j k : Kind) → Gives j ≡ Gives k → j ≡ k
+Gives-injective j k e = cc
+
+-- a command that gives a block back is `trim`
+is_trim : (kind : Kind) (c : Cmd) → change_of c ≡ Gives kind → c ≡ cmd.Trim kind
+is_trim kind (cmd.Trim j) gives = ap cmd.Trim (Gives-injective j kind gives)
+is_trim kind c gives = cc
+
+-- ---- the 64 slots of a block
+
+module _ (k block : ℕ) where
+  abbrev all : List (ℕ × ℕ)
+  all = rows block every_row (k + 1) ++ []
+
+  pub all_has : (r : ℕ) → r < 64 → Has (64 * block + r) all
+  all_has r lt = row_has block every_row (k + 1) r [] lt (bit_at_ones 64 r lt)
+
+  of_kind : Every (λ p. p.1 ≡ k + 1) all
+  of_kind = every_append (λ p. p.1 ≡ k + 1) (rows block every_row (k + 1)) []
+      (every_picks (λ p. p.1 ≡ k + 1) 64 (λ r. bit_at every_row r == 1) (64 * block) (λ _. k + 1)
+      (λ r lt on. refl)) (every_nil (λ p. p.1 ≡ k + 1))
+
+  -- one of them, as the hand has it
+  pub there : (x : ℕ) → x / 64 ≡ block → (n : ℕ) × (get_elem? all n ≡ some (x, k + 1))
+  there x of =
+      let has : Has x all = subst (λ y. Has y all) (omega (arith, of)) (all_has (x % 64) (omega arith)) in
+      let at = member_at x all has in
+      let kind = of_kind at.0 at.1 at.2 in
+      (at.0, at.2 ∙ ap some (λ i. (at.3 i, kind i)))
+
+  pub all_go : without_block block all ≡ []
+  all_go =
+      filter_append (λ p. not (p.0 / 64 == block)) (rows block every_row (k + 1)) []
+      ∙ ap (λ ps. ps ++ [])
+      (filter_picks (λ x. not (x / 64 == block)) 64 (λ r. bit_at every_row r == 1) (64 * block) (λ _. k + 1)
+      ∙ picks_none 64 (λ r. (bit_at every_row r == 1) && not ((64 * block + r) / 64 == block)) (64 * block)
+      (λ _. k + 1) (λ r lt. ap (λ b. (bit_at every_row r == 1) && not b)
+      (eq-eqb ((64 * block + r) / 64) block (omega (arith, lt))) ∙ none (bit_at every_row r == 1)))
+    where
+      none : (b : Bool) → (b && false) ≡ false
+      none true = refl
+      none false = refl
+
+-- what was gathered may be offered
+module _ (u : Standing) (v : View Standing) (kind : Kind) (entered : Entered ghosts v u) where
+  pub may_offer : (c : Cmd) → change_of c ≡ Gives kind → (o : Option ℕ) → v.hand
+      ≡ gathered (kind_number kind) o []
+      → IsOffer u.state c (option_map first_slot o)
+  may_offer c gives None hand = tt
+  may_offer c gives (Some block) hand =
+      subst (λ (x : Cmd). IsOffer u.state x (Some (first_slot block))) (sym (is_trim kind c gives)) (
+        ap first_slot (sym (first_block block)),
+        (λ slot of. let at = there (kind_number kind) block slot.0 (of ∙ first_block block) in
+            free_in_hand u v kind entered at.0 slot (ap (λ h. get_elem? h at.0) hand ∙ at.1)),
+      )
+
+closed_kind : (s t : map.FinMap nat_cmp BlockUse) (block : ℕ) → t ≡ map.remove s block → (c : ℕ)
+    → kind_word (get t c) ≡ cond (block == c) 0 (kind_word (get s c))
+closed_kind s t block is c = ap (λ m. kind_word (get m c)) is ∙ elim (cases_eq block c) [
+  | inl same ↦ (
+      ap (λ n. kind_word (get (map.remove s block) n)) (sym same) ∙ ap kind_word (get_removed s block)
+      ∙ sym (ap (λ b. cond b 0 (kind_word (get s c))) (eq-eqb block c same)))
+  | inr apart ↦ (
+      ap kind_word (get_left s block c (λ e. apart (sym e)))
+      ∙ sym (ap (λ b. cond b 0 (kind_word (get s c))) (ne_eqb block c apart)))
+]
+
+Back-injective : (a b : ℕ) → Back a ≡ Back b → a ≡ b
+Back-injective a b e = cc
+
+module _ (number : ℕ) (command : Cmd) (kind : Kind) (gives : change_of command ≡ Gives kind) (u w : Standing)
+    (v v' : View Standing) (idle : IsIdle v number) (some_room : 1 ≤ v.room) (o : Option ℕ)
+    (blocks : ℕ) (are : blocks ≡ v.limits.blocks)
+    (found : Gathers (kind_number kind) blocks o v v')
+    (entered : Entered ghosts v' u) (e : Entry)
+    (stepped : Stepped u w number command (option_map first_slot o) e) where
+  abbrev K : ℕ
+  K = kind_number kind
+
+  same : SameSeat v v'
+  same = same_seat v' (called (gathered K o v.hand) v'.trace v) found.view
+
+  own : part_of u.journal v.number ≡ v.part
+  own = ap (part_of u.journal) (sym same.0) ∙ entered.part ∙ same.2
+
+  sized : u.numbers ≡ numbers_of v.limits
+  sized = entered.sized ∙ ap numbers_of same.1
+
+  hand : v'.hand ≡ gathered K o []
+  hand = ap (λ (x : View Standing). x.hand) found.view ∙ ap (gathered K o) idle.hand
+
+  does : StepOf u.numbers u.state e w.state (cmd.Trim kind)
+  does = subst (StepOf u.numbers u.state e w.state) (stepped.command_is ∙ is_trim kind command gives)
+      stepped.step.does
+
+  looked_for : (t : TableId) (n : View Standing) → n.limits ≡ v.limits → n.trace ≡ v'.trace
+      → n.trace_number ≡ v'.trace_number → n.began_empty ≡ v'.began_empty → (e.reply ≡ reply.Value 0 → o
+      ≡ None)
+      → LookedFor (asks_of command) (party_of (record { table = t; view = v }) number v.room)
+      (party_of (record { table = t; view = n }) number n.room) e
+  looked_for t n limits trace count began only =
+      let calls = ap (λ (x : View Standing). x.trace_number) found.view in
+      subst (λ (c : Cmd). LookedFor (asks_of c) (party_of (record { table = t; view = v }) number v.room)
+      (party_of (record { table = t; view = n }) number n.room) e) (sym (is_trim kind command gives))
+      (λ says. record {
+        own = record {
+          later = omega (arith, count, calls);
+          began_empty = began ∙ ap (λ (x : View Standing). x.began_empty) found.view ∙ ap is_nil idle.hand;
+        };
+        ended = subst (λ (l : Limits). follow K l.blocks (sweep 0) n.trace ≡ missed) (sym limits)
+            (subst (λ b. follow K b (sweep 0) n.trace ≡ missed) are
+            (ap (follow K blocks (sweep 0)) trace ∙ found.steps ∙ ap ending (only says)));
+        none = subst (ShowsNone K) (sym trace) (found.none (only says));
+      })
+
+  -- nothing was gathered, and nothing is given back
+  kept : o ≡ None → Leaves number command u w e v (took u v')
+  kept none =
+      let grows : e.reply ≡ reply.Value 0 = subst (λ (c : Cmd). GrowsUnoffered u.numbers u.state c None e)
+      (is_trim kind command gives)
+      (subst (λ (p : Option ℕ). GrowsUnoffered u.numbers u.state command (option_map first_slot p) e) none
+      stepped.grows) in
+      elim does [
+        | inl m ↦ absurd (zero_is_not_one (sym grows ∙ m.reply))
+        | inr out ↦ leaves number command (option_map first_slot o) u w e stepped v
+            (took u v') idle some_room own
+            same (λ b _ _. ap (λ (s : State). kind_word (use_of s b)) out.after) sized
+            (λ x _ on. inl (sym (ap (λ (s : State). is_some (get s.handles x)) out.after) ∙ on))
+            (hand_stays u w (took u v') (λ x. ap (λ (s : State). is_some (get s.handles x)) out.after)
+            (hand ∙ ap (λ p. gathered K p []) none))
+            (λ t. looked_for t (gave_back ghosts u w (took u v')) same.1 refl refl refl (λ _. none))
+      ]
+
+  -- a block was gathered, and is given back
+  given : (block : ℕ) → o ≡ Some block → Leaves number command u w e v (closed block (took u v'))
+  given block is =
+      let busy = closed block (took u v') in
+      let takes : TakesOffer e (cmd.Trim kind) (first_slot block) = subst
+      (λ (c : Cmd). TakesOffer e c (first_slot block)) (is_trim kind command gives)
+      (stepped.takes (first_slot block) (ap (option_map first_slot) is)) in
+      elim does [
+        | inl m ↦ (
+            let which : m.block ≡ block = Back-injective m.block block
+            (sym m.grown ∙ takes.1 ∙ ap Back (first_block block)) in
+            let after : w.state ≡ without_use u.state block = m.after ∙ ap (without_use u.state) which in
+            leaves number command (option_map first_slot o) u w e stepped v busy idle some_room own same
+            (λ b _ _. closed_kind u.state.blocks w.state.blocks block
+            (ap (λ (s : State). s.blocks) after) b) sized
+            (λ x _ on. inl (sym (ap (λ (s : State). is_some (get s.handles x)) after) ∙ on))
+            (hand_stays u w busy (λ x. ap (λ (s : State). is_some (get s.handles x)) after)
+            (ap (without_block block) (hand ∙ ap (λ p. gathered K p []) is) ∙ all_go K block))
+            (λ t. looked_for t (gave_back ghosts u w busy) same.1 refl refl refl
+            (λ says. absurd (zero_is_not_one (sym says ∙ m.reply)))))
+        | inr out ↦ absurd (zero_is_not_one (sym out.reply ∙ takes.0))
+      ]
+
+  leaves_at : (p : Option ℕ) → o ≡ p → Leaves number command u w e v (without_gathered p (took u v'))
+  leaves_at None is = kept is
+  leaves_at (Some block) is = given block is
+
+  pub trim_leaves : Leaves number command u w e v (without_gathered o (took u v'))
+  trim_leaves = leaves_at o refl
+
+-- what `gather` answered may be withdrawn
+pub may_withdraw : (k blocks : ℕ) (o : Option ℕ) (held : List (ℕ × ℕ)) → held ≡ gathered k o []
+    → IfSome o (λ b. (0 < b) × (b ≤ blocks) × (b < 257))
+    → IfSome o (λ b. (0 < b) × (b ≤ blocks) × ((r : ℕ) → r < 64 → Has (64 * b + r) held))
+may_withdraw k blocks None held is real = tt
+may_withdraw k blocks (Some block) held is real = (
+  real.0,
+  real.1,
+  (λ r lt. subst (λ h. Has (64 * block + r) h) (sym is) (all_has k block r lt)),
+)
+
+pub withdrawn_taken : (o : Option ℕ) (v : View Standing) → (without_gathered o v).taken ≡ v.taken
+withdrawn_taken None v = refl
+withdrawn_taken (Some block) v = refl
+
+pub withdrawn_limits : (o : Option ℕ) (v : View Standing) → (without_gathered o v).limits ≡ v.limits
+withdrawn_limits None v = refl
+withdrawn_limits (Some block) v = refl

@@ -1,0 +1,18 @@
+use Rattle.std.proofs.Common.{◌≡◌, ℕ, ◌+◌, ◌<◌, length}
+use Rattle.std.specs.Prelude.{slice_index_or}
+use Rattle.hd_gate.specs.Shared.{Party}
+use Rattle.hd_gate.specs.Opening.{HasEnded}
+use Rattle.hd_gate.proofs.opening.join_all.Given as goal
+
+abbrev pub invariant-loop-caller : goal.invariant-loop-caller
+invariant-loop-caller l = record {
+  table : l.seat.table ≡ l.initial.seat.table;
+  seat : l.seat.view ≡ record l.initial.seat.view { room = l.seat.view.room; ended = l.seat.view.ended };
+  count : length l.seat.view.ended + length l.list.items + 1 ≡ l.custody.numbers.callers;
+  rest : (k : ℕ) (d : Party) → k < length l.list.items
+      → slice_index_or l.list.items k d ≡ slice_index_or l.initial.list.items k d;
+  ended : HasEnded l.initial.list.items l.seat.view.ended;
+}
+
+abbrev pub decreases-loop-caller : goal.decreases-loop-caller
+decreases-loop-caller l = length l.list.items

@@ -1,0 +1,91 @@
+-- What a turn does: what the world under the gate is after it, and what its seat is.
+use Rattle.std.specs.Prelude.{◌≡◌, ℕ, ◌+◌, ◌≤◌, [], ◌∷◌, ◌++◌, Option, Some, None, option_map}
+use Rattle.std.specs.Option.{ForSome}
+use Rattle.hd_model.specs.declared.data.Entry.{Entry}
+use Rattle.hd_model.specs.declared.data.Grown.{Grown}
+use Rattle.hd_model.specs.declared.data.Grown.TheVariants.{Zero, One, Two, Back}
+use Rattle.hd_model.specs.declared.data.Kind.{Kind}
+use Rattle.hd_model.specs.declared.data.Reply.{Reply}
+use Rattle.hd_model.specs.declared.data.Slot.{Slot}
+use Rattle.hd_model.specs.declared.limits.TheConstants.{BLOCKS}
+use Rattle.hd_model.specs.declared.command.Cmd.{Cmd}
+use Rattle.hd_model.specs.Kinds.{kind_number}
+use Rattle.hd_model.specs.State.{State, use_of, block_of}
+use Rattle.hd_model.specs.Step.{Step}
+use Rattle.hd_model.specs.WellFormed.{IsWellFormed}
+use Rattle.hd_world.specs.World.{Standing, GrowsWithout, Takes}
+use Rattle.hd_custody.specs.declared.view.View.{View}
+use Rattle.hd_custody.specs.Views.{Named, Known, numbers_of, granted, closed}
+use Rattle.hd_custody.specs.Calls.{Releases}
+use Rattle.hd_world.specs.Growth.{kind_in_use}
+use Rattle.hd_gate.specs.Shared.{Party, HasDone}
+use Rattle.hd_gate.specs.Idle.{IsIdle}
+
+-- a seat, as what its caller is to others
+abbrev pub party_of : {W : Type 0} → Known W → ℕ → ℕ → Party
+party_of seat number room = record {
+  table = seat.table;
+  numbers = numbers_of seat.view.limits;
+  number = number;
+  part = seat.view.part;
+  room = room;
+  trace = seat.view.trace;
+  trace_number = seat.view.trace_number;
+  began_empty = seat.view.began_empty;
+}
+
+-- a seat may take its turn: it is one of this table, idle, and has room for an entry
+pub record MayTurn (custody : Named) (seat : Known Standing) (caller : ℕ) : Type 0 where
+  pub table : seat.table ≡ custody.table
+  pub blocks : custody.blocks ≡ seat.view.limits.blocks
+  pub few : custody.blocks ≤ BLOCKS
+  pub idle : IsIdle seat.view caller
+  pub room : 1 ≤ seat.view.room
+
+-- it took its turn: it is idle again, and its command was done
+pub record Turned (old new : Known Standing) (caller : ℕ) (command : Cmd) (answer : Reply) : Type 0 where
+  pub table : new.table ≡ old.table
+  pub limits : new.view.limits ≡ old.view.limits
+  pub idle : IsIdle new.view caller
+  pub done : HasDone (party_of old caller old.view.room) (party_of new caller new.view.room) command answer
+
+-- it found no memory: it is idle again, and its caller is as it was
+pub record Stayed (old new : Known Standing) (caller : ℕ) : Type 0 where
+  pub idle : IsIdle new.view caller
+  pub party : party_of new caller new.view.room ≡ party_of old caller old.view.room
+
+-- Under the gate a command of a caller took one step of the machine, from the world u to the world w, and its
+-- entry is the one more of the journal. An offer was taken; without one the table grew, or was found full.
+pub record Stepped (u w : Standing) (number : ℕ) (command : Cmd) (offer : Option Slot) (e : Entry) : Type 0
+  where
+    pub caller_is : e.caller ≡ number
+    pub command_is : e.cmd ≡ command
+    pub journal : w.journal ≡ u.journal ++ e ∷ []
+    pub spare : w.spare + 1 ≡ u.spare
+    pub numbers : w.numbers ≡ u.numbers
+    pub well_formed : IsWellFormed u.numbers u.state
+    pub step : Step u.numbers u.state e w.state
+    pub takes : ForSome offer (Takes e command)
+    pub grows : GrowsWithout u command offer e
+
+-- the seat once the words know by which blocks the table grew for the kind with number k
+abbrev pub with_grown : {W : Type 0} → ℕ → Grown → View W → View W
+with_grown k Zero v = v
+with_grown k (One block) v = granted k block 0 v
+with_grown k (Two block other) v = granted k block other v
+with_grown k (Back block) v = v
+
+-- the seat once a gathered block lost its kind
+abbrev pub without_gathered : {W : Type 0} → Option ℕ → View W → View W
+without_gathered None v = v
+without_gathered (Some block) v = closed block v
+
+-- a slot that was freed, with the kind of its block
+abbrev pub freed_in : State → Option Slot → Option (Slot × Kind)
+freed_in s None = None
+freed_in s (Some slot) = option_map (λ kind. (slot, kind)) (kind_in_use (use_of s (block_of slot)))
+
+-- a freed slot was let go
+abbrev pub LetsGo : {W : Type 0} → ℕ → Option (Slot × Kind) → View W → View W → Type 0
+LetsGo blocks None v w = w ≡ v
+LetsGo blocks (Some f) v w = Releases (kind_number f.1) blocks f.0.0 v w
