@@ -1,5 +1,12 @@
 pub mod Rising
 pub mod Turning
 pub mod Parts
-pub mod Causes
-pub mod Claimed
+mod Options
+mod Asking
+mod Playing
+mod Summing
+mod Sharing
+mod Causes
+mod Claimed
+mod Modes
+mod Joined

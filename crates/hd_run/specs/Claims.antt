@@ -1,43 +1,57 @@
 -- What a call promises, in the words of a user. Each claim follows from the ending, its cause and
 -- its report. The statuses are this project's own.
-use Rattle.std.specs.Prelude.{◌≡◌, ◌≢◌, ℕ, ◌+◌, ◌<◌, ◌≤◌, ◌⊎◌, List, [], ◌∷◌, ◌++◌, length, Contains, Option, None, Some, IsSome, IfSome, IsSomeAnd, MatchOption, IsErr}
+use Rattle.std.specs.Prelude.{◌≡◌, ◌≢◌, ℕ, ◌+◌, ◌*◌, ◌/◌, ◌<◌, ◌≤◌, ◌⊎◌, List, [], ◌∷◌, length, Contains, Option, None, Some, IfSome, IsSomeAnd, IsErr}
 use Rattle.std.specs.FinMap.{len}
 use Rattle.hd_model.specs.declared.command.Cmd.{Cmd}
 use Rattle.hd_model.specs.declared.limits.TheConstants.{MOST_BYTES}
+use Rattle.hd_model.specs.Generated.{load_text}
 use Rattle.hd_model.specs.Grammar.{script_of}
-use Rattle.hd_model.specs.Run.{SoloRun}
+use Rattle.hd_model.specs.Run.{Run, SoloRun}
+use Rattle.hd_model.specs.State.{Numbers}
 use Rattle.hd_model.specs.Laws.{count_entries, makes_handle, frees_handle}
-use Rattle.hd_model.specs.Text.{lines_of, text_of}
 use Rattle.hd_io.specs.Counts.{Rose}
 use Rattle.hd_io.specs.Source.{SourceView, GaveCount}
 use Rattle.hd_io.specs.Sink.{SinkView, Took}
+use Rattle.hd_world.specs.World.{Standing}
 use Rattle.hd_run.specs.declared.ending.Ending.{Ending}
+use Rattle.hd_run.specs.declared.ending.Fault.TheVariants.{NoMemory}
+use Rattle.hd_run.specs.declared.ending.Ran.{Ran}
 use Rattle.hd_run.specs.declared.outcome.Kept.{Kept}
-use Rattle.hd_run.specs.declared.outcome.Kept.TheVariants.{Nothing}
+use Rattle.hd_run.specs.declared.outcome.Kept.TheVariants.{Nothing, Alone, Shared}
 use Rattle.hd_run.specs.declared.outcome.Outcome.{Outcome}
+use Rattle.hd_run.specs.declared.report.Form.{Form}
+use Rattle.hd_run.specs.declared.request.Mode.{Mode}
+use Rattle.hd_run.specs.declared.request.Mode.TheVariants as mode
 use Rattle.hd_run.specs.declared.request.Request.{Request}
-use Rattle.hd_run.specs.Turns.{numbers_for, RanWhole, StoppedAt}
-use Rattle.hd_run.specs.Ending.{world_of, journal_in, ReadWhole, ReadProgram, IsUnbuilt, Cause}
-use Rattle.hd_run.specs.Report.{memory_text, Reports}
+use Rattle.hd_run.specs.Together.{RanAllTogether, StoppedTogether}
+use Rattle.hd_run.specs.Ending.{world_of, kept_that, ReadWhole, ScriptBy, RanBy, StoppedBy, RefusedBy, RunCause, numbers_by, journal_in, Cause}
+use Rattle.hd_run.specs.Report.{whole_text, stopped_text, form_of, form_for, Reports}
 
--- The source was read to its end and gave a program. A world is kept that ran all of it, and the
--- text of its journal is what was written.
+-- There was a script, read whole or made. What ran all of it, as its mode does, is kept, and its text was
+-- written.
 abbrev pub RunsWhole : Option Request → SourceView → SourceView → SinkView → SinkView → Kept → Type 0
 RunsWhole asked old new before after kept = IsSomeAnd asked (λ r.
-    (lists : List (List Cmd)) × ReadProgram old new lists × IsSomeAnd (world_of kept) (λ w.
-    RanWhole (numbers_for r lists) lists w × Took before after (text_of w.journal w.state)))
+    (lists : List (List Cmd)) × ScriptBy r.mode r old new lists
+    × (run : Ran) × (kept ≡ kept_that run) × RanBy r.mode (numbers_by r.mode r lists) lists run
+    × IsSomeAnd (world_of kept) (λ w. Took before after (whole_text (form_of r.mode) w)))
 
--- No command was done, and at most the limit of bytes was read; or the source was read to its end
--- and gave a program, and a world is kept that ran it up to a command that wants memory.
+-- nothing was run: at most the limit of bytes was read, and nothing where no mode asks for it
+abbrev pub NotBegun : Option Request → SourceView → SourceView → Type 0
+NotBegun None old new = new ≡ old
+NotBegun (Some r) old new = RefusedBy r.mode old new NoMemory
+
+-- Nothing was run, and nothing is kept; or there was a script, and what is kept ran it up to commands that
+-- may
+-- take memory.
 abbrev pub StopsForMemory : Option Request → SourceView → SourceView → Kept → Type 0
-StopsForMemory asked old new kept = MatchOption (world_of kept)
-    (GaveCount old new (λ n. n ≤ MOST_BYTES))
-    (λ w. IsSomeAnd asked (λ r. (lists : List (List Cmd)) × ReadProgram old new lists
-    × StoppedAt (numbers_for r lists) lists w))
+StopsForMemory asked old new kept =
+    (NotBegun asked old new × (kept ≡ Nothing))
+    ⊎ IsSomeAnd asked (λ r. (lists : List (List Cmd)) × ScriptBy r.mode r old new lists
+    × (run : Ran) × (kept ≡ kept_that run) × StoppedBy r.mode (numbers_by r.mode r lists) lists run)
 
--- bytes that are no program: no script, or one with a command that the machine doesn't have yet
+-- bytes that are no program
 abbrev pub IsNoProgram : List ℕ → Type 0
-IsNoProgram bytes = IsErr (script_of bytes) ⊎ IsUnbuilt bytes
+IsNoProgram bytes = IsErr (script_of bytes)
 
 -- the source gave one byte more than the limit, or was read to its end and they are no program
 abbrev pub RefusesScript : SourceView → SourceView → Type 0
@@ -49,6 +63,20 @@ RefusesScript old new =
 abbrev pub IsStatus : ℕ → Type 0
 IsStatus status = Contains (0 ∷ 2 ∷ 3 ∷ 4 ∷ 5 ∷ 6 ∷ []) status
 
+-- the modes that read the source
+abbrev pub Reads : Mode → Type 0
+Reads mode.Solo = Unit {0}
+Reads mode.Run = Unit {0}
+Reads mode.Load = ⊥
+
+-- words that are lawful and name a mode that reads
+abbrev pub AsksToRead : Option Request → Type 0
+AsksToRead asked = IsSomeAnd asked (λ r. Reads r.mode)
+
+-- words that are lawful and name `load`
+abbrev pub AsksForLoad : Option Request → Type 0
+AsksForLoad asked = IsSomeAnd asked (λ r. r.mode ≡ mode.Load)
+
 -- bytes that are refused: too many, or no program
 abbrev pub IsRefused : List ℕ → Type 0
 IsRefused bytes = (MOST_BYTES < length bytes) ⊎ IsNoProgram bytes
@@ -58,6 +86,27 @@ abbrev pub Answers : List ℕ → ℕ → Type 0
 Answers bytes status =
     status ≢ 6 → ((status ≡ 3) × IsRefused bytes) ⊎ ((status ≡ 0) × ¬ (IsRefused bytes))
 
+-- what is kept has a journal that is a run, and of callers in turn where one thread ran it
+abbrev pub KeepsRun : Kept → Type 0
+KeepsRun Nothing = Unit {0}
+KeepsRun (Alone w) = SoloRun w.numbers w.journal w.state
+KeepsRun (Shared w) = Run w.numbers w.journal w.state
+
+-- its live handles are those that were made, less those that were freed
+abbrev pub KeepsCount : Kept → Type 0
+KeepsCount kept = IfSome (world_of kept) (λ w.
+    len w.state.handles + count_entries frees_handle w.journal
+    ≡ count_entries makes_handle w.journal)
+
+-- the line of a load of so many rounds, in whatever order its callers came
+abbrev pub line_of_rounds : ℕ → List ℕ
+line_of_rounds rounds = load_text (32 * rounds + 4 * (rounds / 16)) (4 * rounds) 0
+    (4 * (rounds / 16)) (2 * rounds * (rounds + 1))
+
+-- on status 0 it was written
+abbrev pub HasLine : ℕ → SinkView → SinkView → ℕ → Type 0
+HasLine rounds before after status = status ≡ 0 → Took before after (line_of_rounds rounds)
+
 -- What a call promises, for what its words ask (`None`: they are not lawful), by what was seen of
 -- the source and the sink before it and after it.
 pub record Promise {S K : Type 0} (seen : S → SourceView) (shown : K → SinkView)
@@ -65,35 +114,62 @@ pub record Promise {S K : Type 0} (seen : S → SourceView) (shown : K → SinkV
     (o : Outcome) : Type 0 where
   -- whatever the words and the bytes: the work ended with a cause, and its ending is reported
   pub work : (ending : Ending) × Cause asked (seen source_old) (seen source_new) ending
-      × Reports (shown sink_old) (shown sink_new) ending o
-  -- on status 0 the script was read whole and run whole, and its text is written
+      × Reports (shown sink_old) (shown sink_new) (form_for asked) ending o
+  -- on status 0 the script was run whole, and its text is written
   pub whole : o.status ≡ 0 → RunsWhole asked (seen source_old) (seen source_new) (shown sink_old)
       (shown sink_new) o.kept
   -- each other status has a cause, and no other is answered
   pub usage : o.status ≡ 2 → (asked ≡ None) × (o.kept ≡ Nothing)
-  pub script : o.status ≡ 3 → RefusesScript (seen source_old) (seen source_new)
-      × (o.kept ≡ Nothing)
-  pub read : o.status ≡ 4 → Rose (seen source_old).faults (seen source_new).faults
-      × (o.kept ≡ Nothing)
+  pub script : o.status ≡ 3 → AsksToRead asked
+      × RefusesScript (seen source_old) (seen source_new) × (o.kept ≡ Nothing)
+  pub read : o.status ≡ 4 → AsksToRead asked
+      × Rose (seen source_old).faults (seen source_new).faults × (o.kept ≡ Nothing)
   pub write : o.status ≡ 5 → Rose (shown sink_old).faults (shown sink_new).faults
   pub memory : o.status ≡ 6 → StopsForMemory asked (seen source_old) (seen source_new) o.kept
-      × Took (shown sink_old) (shown sink_new) (lines_of (journal_in (world_of o.kept))
-      ++ memory_text)
+      × Took (shown sink_old) (shown sink_new) (stopped_text (form_for asked)
+      (journal_in (world_of o.kept)))
   pub statuses : IsStatus o.status
   -- no fault of the source or the sink is passed over
   pub source_faults : o.status ≢ 4 → o.status ≢ 5 →
       (seen source_new).faults ≡ (seen source_old).faults
   pub sink_faults : o.status ≢ 5 → (shown sink_new).faults ≡ (shown sink_old).faults
-  -- words that are not lawful are refused, though that may fail to be written, and nothing is read
-  pub words : asked ≡ None → (source_new ≡ source_old) × ((o.status ≡ 2) ⊎ (o.status ≡ 5))
-  -- of lawful words, where nothing failed and the source tells its bytes
-  pub answers : IsSome asked →
+  -- words that are not lawful are refused, though that may fail to be written, and nothing is read; memory
+  -- may run out before
+  pub words : asked ≡ None →
+      (source_new ≡ source_old) × ((o.status ≡ 2) ⊎ (o.status ≡ 5) ⊎ (o.status ≡ 6))
+  -- a load reads nothing, and its line is known; where the sink does not fail its status is 0 or 6
+  pub load : AsksForLoad asked → source_new ≡ source_old
+  pub line : IfSome asked (λ r. r.mode ≡ mode.Load →
+      HasLine r.rounds (shown sink_old) (shown sink_new) o.status)
+  pub goes_on : AsksForLoad asked → ¬ (Rose (shown sink_old).faults (shown sink_new).faults) →
+      (o.status ≡ 0) ⊎ (o.status ≡ 6)
+  -- of lawful words for a mode that reads, where nothing failed and the source tells its bytes
+  pub answers : AsksToRead asked →
       ¬ (Rose (seen source_old).faults (seen source_new).faults) →
       ¬ (Rose (shown sink_old).faults (shown sink_new).faults) →
       (bytes : List ℕ) → (seen source_old).left ≡ Some bytes → Answers bytes o.status
-  -- whatever the status: the journal of a world that is kept is a run of callers in turn, and its
-  -- live handles are those that were made, less those that were freed
-  pub journal : IfSome (world_of o.kept) (λ w. SoloRun w.numbers w.journal w.state)
-  pub handles : IfSome (world_of o.kept) (λ w.
-      len w.state.handles + count_entries frees_handle w.journal
-      ≡ count_entries makes_handle w.journal)
+  -- whatever the status: the journal of what is kept is a run, and its live handles are those that were made,
+  -- less those that were freed
+  pub journal : KeepsRun o.kept
+  pub handles : KeepsCount o.kept
+
+-- What `run` promises of callers in threads over these lists, and so does `load`, which writes one line.
+pub record Together {K : Type 0} (shown : K → SinkView) (form : Form) (n : Numbers)
+    (lists : List (List Cmd)) (sink_old sink_new : K) (o : Outcome) : Type 0 where
+  -- whatever happens: the run ended with a cause, and its ending is reported
+  pub work : (ending : Ending) × RunCause mode.Run n lists ending
+      × Reports (shown sink_old) (shown sink_new) form ending o
+  -- on status 0 each caller did its whole list, in the journal of one run, and its text is written
+  pub whole : o.status ≡ 0 → (w : Standing) × (o.kept ≡ Shared w) × RanAllTogether n lists w
+      × Took (shown sink_old) (shown sink_new) (whole_text form w)
+  -- each other status has a cause, and no other is answered
+  pub write : o.status ≡ 5 → Rose (shown sink_old).faults (shown sink_new).faults
+  pub memory : o.status ≡ 6 →
+      ((o.kept ≡ Nothing) ⊎ ((w : Standing) × (o.kept ≡ Shared w) × StoppedTogether n lists w))
+      × Took (shown sink_old) (shown sink_new) (stopped_text form (journal_in (world_of o.kept)))
+  pub statuses : Contains (0 ∷ 5 ∷ 6 ∷ []) o.status
+  pub sink_faults : o.status ≢ 5 → (shown sink_new).faults ≡ (shown sink_old).faults
+  -- whatever the status: the journal of what is kept is a run, and its live handles are those that were made,
+  -- less those that were freed
+  pub journal : KeepsRun o.kept
+  pub handles : KeepsCount o.kept

@@ -1,12 +1,14 @@
 -- How the work of a call ends before its report is written, and the cause of each ending. The work
 -- goes in this order: the words, reading, the size, the grammar, running. All this is the project's
 -- own.
-use Rattle.std.specs.Prelude.{◌≡◌, ℕ, ◌+◌, ◌≤◌, List, [], length, Option, None, Some, Result, Ok, Err}
+use Rattle.std.specs.Prelude.{◌≡◌, ◌⊎◌, ℕ, ◌+◌, ◌≤◌, List, [], length, Option, None, Some, Result, Ok, Err}
 use Rattle.hd_model.specs.declared.command.Cmd.{Cmd}
 use Rattle.hd_model.specs.declared.data.Entry.{Entry}
 use Rattle.hd_model.specs.declared.data.Memory.{Memory}
 use Rattle.hd_model.specs.declared.limits.TheConstants.{MOST_BYTES}
+use Rattle.hd_model.specs.Generated.{load_numbers, generated_lists}
 use Rattle.hd_model.specs.Grammar.{script_of, AreLists}
+use Rattle.hd_model.specs.State.{Numbers}
 use Rattle.hd_io.specs.declared.source.ReadFault.{ReadFault}
 use Rattle.hd_io.specs.declared.source.ReadFault.TheVariants as read_fault
 use Rattle.hd_io.specs.Source.{SourceView, GaveAll, GaveCount, ReadBrokeOff}
@@ -14,65 +16,71 @@ use Rattle.hd_script.specs.declared.fault.ScriptFault.{ScriptFault}
 use Rattle.hd_script.specs.declared.fault.ScriptFault.TheVariants as script_fault
 use Rattle.hd_world.specs.World.{Standing}
 use Rattle.hd_run.specs.declared.ending.Fault.{Fault}
-use Rattle.hd_run.specs.declared.ending.Fault.TheVariants.{Usage, Unread, OverSize, BadLine, Later}
+use Rattle.hd_run.specs.declared.ending.Fault.TheVariants.{Usage, Unread, OverSize, BadLine, NoMemory}
+use Rattle.hd_run.specs.declared.ending.Ran.{Ran}
+use Rattle.hd_run.specs.declared.ending.Ran.TheVariants as ran
 use Rattle.hd_run.specs.declared.ending.Ending.{Ending}
 use Rattle.hd_run.specs.declared.ending.Ending.TheVariants.{Refused, Stopped, Done}
 use Rattle.hd_run.specs.declared.outcome.Kept.{Kept}
-use Rattle.hd_run.specs.declared.outcome.Kept.TheVariants.{Nothing, Alone}
+use Rattle.hd_run.specs.declared.outcome.Kept.TheVariants.{Nothing, Alone, Shared}
+use Rattle.hd_run.specs.declared.request.Mode.{Mode}
+use Rattle.hd_run.specs.declared.request.Mode.TheVariants.{Solo, Run, Load}
 use Rattle.hd_run.specs.declared.request.Request.{Request}
-use Rattle.hd_run.specs.Turns.{IsAllBuilt, numbers_for, RanWhole, StoppedAt}
+use Rattle.hd_run.specs.Turns.{RanWhole, StoppedAt}
+use Rattle.hd_run.specs.Together.{RanAllTogether, StoppedTogether}
 
 -- the world of what is kept
 abbrev pub world_of : Kept → Option Standing
 world_of Nothing = None
 world_of (Alone w) = Some w
+world_of (Shared w) = Some w
 
 -- the journal of a world, if there is one
 abbrev pub journal_in : Option Standing → List Entry
 journal_in None = []
 journal_in (Some w) = w.journal
 
--- what is kept of a world, if there is one
-abbrev pub kept_if : Option Standing → Kept
-kept_if None = Nothing
-kept_if (Some w) = Alone w
+-- the world that ran a script
+abbrev pub world_that : Ran → Standing
+world_that (ran.Alone w) = w
+world_that (ran.Shared w) = w
+
+-- what is kept of a run
+abbrev pub kept_that : Ran → Kept
+kept_that (ran.Alone w) = Alone w
+kept_that (ran.Shared w) = Shared w
 
 -- what an ending keeps
 abbrev pub kept_of : Ending → Kept
 kept_of (Refused fault) = Nothing
-kept_of (Stopped world) = kept_if world
-kept_of (Done w) = Alone w
+kept_of (Stopped run) = kept_that run
+kept_of (Done run) = kept_that run
 
--- the ending where not all was read
-abbrev pub unread_ending : ReadFault → Ending
-unread_ending read_fault.Failed = Refused Unread
-unread_ending read_fault.TooLong = Refused OverSize
-unread_ending read_fault.Memory = Stopped None
+-- why nothing was run, where not all was read
+abbrev pub unread_fault : ReadFault → Fault
+unread_fault read_fault.Failed = Unread
+unread_fault read_fault.TooLong = OverSize
+unread_fault read_fault.Memory = NoMemory
 
--- the ending where no script was made of the bytes
-abbrev pub unparsed_ending : ScriptFault → Ending
-unparsed_ending (script_fault.Line k) = Refused (BadLine k)
-unparsed_ending script_fault.Memory = Stopped None
+-- and where no script was made of the bytes
+abbrev pub unparsed_fault : ScriptFault → Fault
+unparsed_fault (script_fault.Line k) = BadLine k
+unparsed_fault script_fault.Memory = NoMemory
 
--- the ending of a run, which keeps its world: it took all turns, or stopped for want of memory
+-- the ending of a run of one thread, which keeps its world: it took all turns, or stopped for want of memory
 abbrev pub ran_ending : Result (Unit {0}) Memory → Standing → Ending
-ran_ending (Ok all) w = Done w
-ran_ending (Err memory) w = Stopped (Some w)
+ran_ending (Ok all) w = Done (ran.Alone w)
+ran_ending (Err memory) w = Stopped (ran.Alone w)
 
 -- the source was read to its end, within the limit, and gave these bytes
 pub record ReadWhole (old new : SourceView) (bytes : List ℕ) : Type 0 where
   pub all : GaveAll old new bytes
   pub within : length bytes ≤ MOST_BYTES
 
--- the bytes are a program with these lists: a script whose commands the machine has
+-- the bytes are a program with these lists
 pub record IsProgram (bytes : List ℕ) (lists : List (List Cmd)) : Type 0 where
   pub script : script_of bytes ≡ Ok lists
   pub shape : AreLists lists
-  pub built : IsAllBuilt lists
-
--- the bytes are a script with a command that the machine doesn't have yet
-abbrev pub IsUnbuilt : List ℕ → Type 0
-IsUnbuilt bytes = (lists : List (List Cmd)) × (script_of bytes ≡ Ok lists) × ¬ (IsAllBuilt lists)
 
 -- the source was read to its end, and its bytes are a program with these lists
 pub record ReadProgram (old new : SourceView) (lists : List (List Cmd)) : Type 0 where
@@ -80,26 +88,73 @@ pub record ReadProgram (old new : SourceView) (lists : List (List Cmd)) : Type 0
   pub read : ReadWhole old new bytes
   pub program : IsProgram bytes lists
 
--- the cause of each fault for what was asked
+-- the numbers of a run of a script: the limits, and as many callers as the script has lists
+abbrev pub numbers_for : ℕ → ℕ → List (List Cmd) → Numbers
+numbers_for heap blocks lists = record { heap = heap; blocks = blocks; callers = length lists }
+
+-- the numbers of a run by mode: `load` has those of every load
+abbrev pub numbers_by : Mode → Request → List (List Cmd) → Numbers
+numbers_by Solo r lists = numbers_for r.heap r.blocks lists
+numbers_by Run r lists = numbers_for r.heap r.blocks lists
+numbers_by Load r lists = load_numbers
+
+-- the lists that are run: those of the bytes that were read; `load` reads nothing, and runs those of its
+-- rounds
+abbrev pub ScriptBy : Mode → Request → SourceView → SourceView → List (List Cmd) → Type 0
+ScriptBy Solo r old new lists = ReadProgram old new lists
+ScriptBy Run r old new lists = ReadProgram old new lists
+ScriptBy Load r old new lists = (new ≡ old) × (lists ≡ generated_lists r.rounds)
+
+-- the whole script was run: by one thread in `solo`, and else by callers in threads
+abbrev pub RanBy : Mode → Numbers → List (List Cmd) → Ran → Type 0
+RanBy Solo n lists (ran.Alone w) = RanWhole n lists w
+RanBy Solo n lists (ran.Shared w) = ⊥
+RanBy Run n lists (ran.Alone w) = ⊥
+RanBy Run n lists (ran.Shared w) = RanAllTogether n lists w
+RanBy Load n lists (ran.Alone w) = ⊥
+RanBy Load n lists (ran.Shared w) = RanAllTogether n lists w
+
+-- the run stopped at commands that may take memory
+abbrev pub StoppedBy : Mode → Numbers → List (List Cmd) → Ran → Type 0
+StoppedBy Solo n lists (ran.Alone w) = StoppedAt n lists w
+StoppedBy Solo n lists (ran.Shared w) = ⊥
+StoppedBy Run n lists (ran.Alone w) = ⊥
+StoppedBy Run n lists (ran.Shared w) = StoppedTogether n lists w
+StoppedBy Load n lists (ran.Alone w) = ⊥
+StoppedBy Load n lists (ran.Shared w) = StoppedTogether n lists w
+
+-- The cause of each fault of reading. Want of memory is free.
 abbrev pub FaultCause : SourceView → SourceView → Fault → Type 0
 FaultCause old new Usage = ⊥
 FaultCause old new Unread = ReadBrokeOff old new MOST_BYTES
 FaultCause old new OverSize = GaveCount old new (λ n. n ≡ MOST_BYTES + 1)
 FaultCause old new (BadLine k) =
     (bytes : List ℕ) × ReadWhole old new bytes × (script_of bytes ≡ Err k)
-FaultCause old new Later = (bytes : List ℕ) × ReadWhole old new bytes × IsUnbuilt bytes
+FaultCause old new NoMemory = GaveCount old new (λ n. n ≤ MOST_BYTES)
 
--- The cause of each ending of a request, and what it keeps. Want of memory is free as long as no
--- command was done.
-abbrev pub RequestCause : Request → SourceView → SourceView → Ending → Type 0
-RequestCause r old new (Refused fault) = FaultCause old new fault
-RequestCause r old new (Stopped None) = GaveCount old new (λ n. n ≤ MOST_BYTES)
-RequestCause r old new (Stopped (Some w)) =
-    (lists : List (List Cmd)) × ReadProgram old new lists × StoppedAt (numbers_for r lists) lists w
-RequestCause r old new (Done w) =
-    (lists : List (List Cmd)) × ReadProgram old new lists × RanWhole (numbers_for r lists) lists w
+-- why nothing was run, by mode: `load` reads nothing, and nothing but want of memory keeps it from running
+abbrev pub RefusedBy : Mode → SourceView → SourceView → Fault → Type 0
+RefusedBy Solo old new fault = FaultCause old new fault
+RefusedBy Run old new fault = FaultCause old new fault
+RefusedBy Load old new fault = (fault ≡ NoMemory) × (new ≡ old)
 
--- the cause of each ending, by what the words ask for: words that aren't lawful are refused unread
+-- the cause of each ending of a request by mode, and what it keeps
+abbrev pub CauseBy : Mode → Request → SourceView → SourceView → Ending → Type 0
+CauseBy mode r old new (Refused fault) = RefusedBy mode old new fault
+CauseBy mode r old new (Stopped run) = (lists : List (List Cmd)) × ScriptBy mode r old new lists
+    × StoppedBy mode (numbers_by mode r lists) lists run
+CauseBy mode r old new (Done run) = (lists : List (List Cmd)) × ScriptBy mode r old new lists
+    × RanBy mode (numbers_by mode r lists) lists run
+
+-- The cause of each ending, by what the words ask for. Words that aren't lawful are refused unread; memory
+-- may
+-- run out as they are read.
 abbrev pub Cause : Option Request → SourceView → SourceView → Ending → Type 0
-Cause None old new ending = (ending ≡ Refused Usage) × (new ≡ old)
-Cause (Some r) old new ending = RequestCause r old new ending
+Cause None old new ending = ((ending ≡ Refused Usage) ⊎ (ending ≡ Refused NoMemory)) × (new ≡ old)
+Cause (Some r) old new ending = CauseBy r.mode r old new ending
+
+-- The cause of each ending of a run of these lists. Want of memory is free as long as no command was done.
+abbrev pub RunCause : Mode → Numbers → List (List Cmd) → Ending → Type 0
+RunCause mode n lists (Refused fault) = fault ≡ NoMemory
+RunCause mode n lists (Stopped run) = StoppedBy mode n lists run
+RunCause mode n lists (Done run) = RanBy mode n lists run

@@ -1,5 +1,6 @@
 pub mod Words
 pub mod Turns
+pub mod Together
 pub mod Ending
 pub mod Report
 pub mod Claims

@@ -1,15 +1,22 @@
 -- What a call writes and answers. The texts and the statuses are this project's own.
-use Rattle.std.specs.Prelude.{◌≡◌, ℕ, ◌<◌, List, ◌++◌, ◌⊎◌, codes, decimal, Result, MatchResult, All}
+use Rattle.std.specs.Prelude.{◌≡◌, ℕ, ◌^◌, ◌<◌, sum_by, List, ◌++◌, ◌⊎◌, codes, decimal, Option, None, Some, Result, MatchResult, All}
 use Rattle.hd_model.specs.declared.data.Entry.{Entry}
 use Rattle.hd_model.specs.declared.limits.TheConstants.{CALLERS}
+use Rattle.hd_model.specs.Generated.{load_text_of, value_told}
 use Rattle.hd_model.specs.Text.{newline, lines_of, text_of}
 use Rattle.hd_io.specs.Sink.{SinkView, Took, WriteBrokeOff}
+use Rattle.hd_world.specs.World.{Standing}
 use Rattle.hd_run.specs.declared.ending.Fault.{Fault}
-use Rattle.hd_run.specs.declared.ending.Fault.TheVariants.{Usage, Unread, OverSize, BadLine, Later}
+use Rattle.hd_run.specs.declared.ending.Fault.TheVariants.{Usage, Unread, OverSize, BadLine, NoMemory}
 use Rattle.hd_run.specs.declared.ending.Ending.{Ending}
 use Rattle.hd_run.specs.declared.ending.Ending.TheVariants.{Refused, Stopped, Done}
 use Rattle.hd_run.specs.declared.outcome.Outcome.{Outcome}
-use Rattle.hd_run.specs.Ending.{journal_in, kept_of}
+use Rattle.hd_run.specs.declared.report.Form.{Form}
+use Rattle.hd_run.specs.declared.report.Form.TheVariants.{Lines, Summary}
+use Rattle.hd_run.specs.declared.request.Mode.{Mode}
+use Rattle.hd_run.specs.declared.request.Mode.TheVariants.{Solo, Run, Load}
+use Rattle.hd_run.specs.declared.request.Request.{Request}
+use Rattle.hd_run.specs.Ending.{world_that, kept_of}
 
 -- the status of each fault, and of each ending
 abbrev pub fault_status : Fault → ℕ
@@ -17,31 +24,50 @@ fault_status Usage = 2
 fault_status Unread = 4
 fault_status OverSize = 3
 fault_status (BadLine k) = 3
-fault_status Later = 3
+fault_status NoMemory = 6
 
 abbrev pub status_of : Ending → ℕ
 status_of (Refused fault) = fault_status fault
-status_of (Stopped world) = 6
-status_of (Done w) = 0
+status_of (Stopped run) = 6
+status_of (Done run) = 0
 
--- the line of each fault, and of want of memory
+-- the line of each fault
+abbrev pub memory_text : List ℕ
+memory_text = codes "fault memory" ++ newline
+
 abbrev pub fault_text : Fault → List ℕ
 fault_text Usage =
     codes "usage: hdt solo|run|load [--heap CELLS] [--blocks COUNT] [--rounds N]" ++ newline
 fault_text Unread = codes "fault read" ++ newline
 fault_text OverSize = codes "fault size" ++ newline
 fault_text (BadLine k) = codes "fault line " ++ decimal k ++ newline
-fault_text Later = codes "fault later" ++ newline
+fault_text NoMemory = memory_text
 
-abbrev pub memory_text : List ℕ
-memory_text = codes "fault memory" ++ newline
+-- what is written where memory ran out: the entries so far and its line, or its line alone
+abbrev pub stopped_text : Form → List Entry → List ℕ
+stopped_text Lines journal = lines_of journal ++ memory_text
+stopped_text Summary journal = memory_text
 
--- what each ending writes: where memory ran out, the entries so far and its line; after a whole
--- run, the text of its journal
-abbrev pub text_for : Ending → List ℕ
-text_for (Refused fault) = fault_text fault
-text_for (Stopped world) = lines_of (journal_in world) ++ memory_text
-text_for (Done w) = text_of w.journal w.state
+-- what is written of a whole run: the text of its journal, or the line of a load
+abbrev pub whole_text : Form → Standing → List ℕ
+whole_text Lines w = text_of w.journal w.state
+whole_text Summary w = load_text_of w.journal w.state
+
+-- what each ending writes
+abbrev pub text_for : Form → Ending → List ℕ
+text_for form (Refused fault) = fault_text fault
+text_for form (Stopped run) = stopped_text form (world_that run).journal
+text_for form (Done run) = whole_text form (world_that run)
+
+-- how each mode writes a run, and how words are answered that name none
+abbrev pub form_of : Mode → Form
+form_of Solo = Lines
+form_of Run = Lines
+form_of Load = Summary
+
+abbrev pub form_for : Option Request → Form
+form_for None = Lines
+form_for (Some r) = form_of r.mode
 
 -- the sink took all of a text; or a write failed, after a prefix of it
 abbrev pub Writes : {T E : Type 0} → SinkView → SinkView → List ℕ → Result T E → Type 0
@@ -52,10 +78,20 @@ Writes old new text result =
 abbrev pub HasFewCallers : List Entry → Type 0
 HasFewCallers journal = All (λ (e : Entry). e.caller < CALLERS) journal
 
+-- the sum that a load tells fits in 64 bits
+abbrev pub HasSum : Form → Standing → Type 0
+HasSum Lines w = Unit {0}
+HasSum Summary w = sum_by (λ (e : Entry). value_told e.reply) w.journal < 2 ^ 64
+
+abbrev pub IsWritable : Form → Ending → Type 0
+IsWritable form (Refused fault) = Unit {0}
+IsWritable form (Stopped run) = Unit {0}
+IsWritable form (Done run) = HasSum form (world_that run)
+
 -- The ending is reported, and what it keeps is kept: all of its text is written and its status
 -- answered; or a write failed after a prefix of the text, and the status is 5.
-pub record Reports (old new : SinkView) (ending : Ending) (o : Outcome) : Type 0 where
+pub record Reports (old new : SinkView) (form : Form) (ending : Ending) (o : Outcome) : Type 0 where
   pub kept : o.kept ≡ kept_of ending
   pub written :
-      ((o.status ≡ status_of ending) × Took old new (text_for ending))
-      ⊎ ((o.status ≡ 5) × WriteBrokeOff old new (text_for ending))
+      ((o.status ≡ status_of ending) × Took old new (text_for form ending))
+      ⊎ ((o.status ≡ 5) × WriteBrokeOff old new (text_for form ending))

@@ -1,26 +1,16 @@
 -- Runs of callers one after another, as lists of turns: a caller and a command. That callers are
 -- taken so is this project's own.
-use Rattle.std.specs.Prelude.{◌≡◌, ℕ, ◌+◌, ◌≤◌, List, [], ◌∷◌, ◌++◌, map, filter, length, slice_index_or, ◌==◌, IsTrue, All}
+use Rattle.std.specs.Prelude.{◌≡◌, ℕ, ◌+◌, ◌≤◌, List, [], ◌∷◌, ◌++◌, map, filter, length, slice_index_or, ◌==◌, IsTrue}
 use Rattle.hd_model.specs.declared.command.Cmd.{Cmd}
 use Rattle.hd_model.specs.declared.data.Entry.{Entry}
 use Rattle.hd_model.specs.State.{Numbers}
 use Rattle.hd_model.specs.Run.{SoloRun}
-use Rattle.hd_model.specs.Valid.{takes_memory, is_built}
+use Rattle.hd_model.specs.Valid.{takes_memory}
 use Rattle.hd_world.specs.World.{Standing}
-use Rattle.hd_run.specs.declared.request.Request.{Request}
 
 -- the commands of a caller in a script
 abbrev pub list_of : List (List Cmd) → ℕ → List Cmd
 list_of lists caller = slice_index_or lists caller []
-
--- every command of a script is one that the machine has
-abbrev pub IsAllBuilt : List (List Cmd) → Type 0
-IsAllBuilt lists = All (λ commands. All (λ cmd. IsTrue (is_built cmd)) commands) lists
-
--- the numbers of a run of a script: the limits, and as many callers as the script has lists
-abbrev pub numbers_for : Request → List (List Cmd) → Numbers
-numbers_for request lists =
-    record { heap = request.heap; blocks = request.blocks; callers = length lists }
 
 -- the turns of one caller
 abbrev pub turns_of : ℕ → List Cmd → List (ℕ × Cmd)

@@ -1,47 +1,62 @@
 //! Runs a script, from its bytes to the text of its journal.
 #![tactic(auto)]
 
-ghost use Rattle.std.specs.Prelude.{IfSome};
+ghost use Rattle.std.specs.Prelude.{◌≡◌, ◌≤◌, Some};
+ghost use Rattle.hd_model.specs.Generated.{load_numbers, generated_lists};
+ghost use Rattle.hd_run.specs.declared.report.Form.TheVariants.{Lines, Summary};
+ghost use Rattle.hd_run.specs.declared.request.TheConstants.{LEAST_HEAP};
 ghost use Rattle.hd_run.specs.Words.{request_of, solo_of, IsInLimits};
-ghost use Rattle.hd_run.specs.Claims.{Promise};
+ghost use Rattle.hd_run.specs.Ending.{numbers_for};
+ghost use Rattle.hd_run.specs.Claims.{Promise, Together, HasLine};
 
-mod built;
 mod ending;
 mod laws;
 mod outcome;
 mod report;
 mod request;
+mod summary;
+mod threads;
 mod turns;
 mod work;
 
 use crate::ending::{Ending, Fault};
-use crate::report::report;
-use crate::request::{Request, read_solo_words, read_words};
-use crate::work::work;
+use crate::report::{Form, report};
+use crate::request::{Mode, Request, read_solo_words, read_words};
+use crate::threads::run_callers;
+use crate::work::{read_script, run_alone};
 use hd_io::{Pace, Sink, Source};
+use hd_model::limits::{BLOCKS, HEAP, MOST_ROUNDS};
+use hd_script::{Scripts, generate};
 pub use laws::parts_follow_the_turns;
 pub use outcome::{Kept, Outcome};
 use std::alloc::Global;
+use std::sync::Wait;
+use std::thread::Threads;
 
-/// The program: reads its words, the program's name first, and does what they say. It has one mode,
-/// `solo`. The pace is that of callers in threads, which this mode has none of.
-pub fn top<S: Source, K: Sink, P: Pace>(
+/// The program: reads its words, the program's name first, and does what they say, in the mode that
+/// they name: `solo`, `run` or `load`. It may start threads and wait for them, so what it promises
+/// is promised where it returns.
+pub fn top<R: Threads + Wait + Sync, S: Source, K: Sink, P: Pace>(
+    rt: &R,
     alloc: Global,
     words: &[String],
     source: &mut S,
     sink: &mut K,
-    _pace: &P,
+    pace: &P,
 ) -> Outcome
     ensures { Promise S.seen K.seen (request_of words.now) source.old source.new
         sink.old sink.new result }
 {
-    answer(alloc, read_words(words), source, sink)
+    match read_words(alloc, words) {
+        Ok(request) => answer(rt, alloc, request, source, sink, pace),
+        Err(fault) => report(sink, Form::Lines, Ending::Refused(fault)),
+    }
 }
 
 /// Runs the script that the source gives, of at most 8,388,608 bytes and 100,000 commands, over a
-/// heap of 1,000,000 cells and a table of 256 blocks. Its callers are taken one after another in
-/// rising number, each to its end. A line for each command and a last line are written, each as one
-/// piece. Words that don't name the mode `solo` are refused.
+/// heap and a table as the words have it. Its callers are taken one after another in rising number,
+/// each to its end. A line for each command and a last line are written, each as one piece. Words
+/// that don't name the mode `solo` are refused.
 pub fn solo<S: Source, K: Sink>(
     alloc: Global,
     words: &[String],
@@ -51,23 +66,113 @@ pub fn solo<S: Source, K: Sink>(
     ensures { Promise S.seen K.seen (solo_of (request_of words.now)) source.old source.new
         sink.old sink.new result }
 {
-    answer(alloc, read_solo_words(words), source, sink)
+    match read_solo_words(alloc, words) {
+        Ok(request) => answer_solo(alloc, request, source, sink),
+        Err(fault) => report(sink, Form::Lines, Ending::Refused(fault)),
+    }
 }
 
-// Does what was asked, and reports it.
-fn answer<S: Source, K: Sink>(
+/// Runs a script by a thread for each of its callers, over a heap of at most `heap` cells, 3 to
+/// 1,000,000, and a table of `blocks` blocks, 1 to 256, and writes what `solo` would write of its
+/// journal. A caller that finds no memory stops, and the others go on.
+pub fn run<R: Threads + Wait + Sync, K: Sink, P: Pace>(
+    rt: &R,
     alloc: Global,
-    asked: Option<Request>,
+    scripts: &Scripts,
+    heap: u32,
+    blocks: u32,
+    sink: &mut K,
+    pace: &P,
+) -> Outcome
+    requires heap { (LEAST_HEAP ≤ heap) × (heap ≤ HEAP) }
+    requires blocks { (1 ≤ blocks) × (blocks ≤ BLOCKS) }
+    ensures { Together K.seen Lines (numbers_for heap blocks scripts.now) scripts.now
+        sink.old sink.new result }
+{
+    let ending = run_callers(rt, alloc, scripts, heap, blocks, pace);
+    report(sink, Form::Lines, ending)
+}
+
+/// Runs the script of a load of 1 to 3,000 rounds as `run` does, and writes one line.
+pub fn load<R: Threads + Wait + Sync, K: Sink, P: Pace>(
+    rt: &R,
+    alloc: Global,
+    rounds: u32,
+    sink: &mut K,
+    pace: &P,
+) -> Outcome
+    requires { (1 ≤ rounds) × (rounds ≤ MOST_ROUNDS) }
+    ensures promise { Together K.seen Summary load_numbers (generated_lists rounds)
+        sink.old sink.new result }
+    ensures line { HasLine rounds (K.seen sink.old) (K.seen sink.new) result.status }
+{
+    let Ok(scripts) = generate(alloc, rounds) else {
+        return report(sink, Form::Summary, Ending::Refused(Fault::NoMemory));
+    };
+    let ending = run_callers(rt, alloc, &scripts, HEAP, BLOCKS, pace);
+    report(sink, Form::Summary, ending)
+}
+
+// Does what was asked.
+fn answer<R: Threads + Wait + Sync, S: Source, K: Sink, P: Pace>(
+    rt: &R,
+    alloc: Global,
+    request: Request,
+    source: &mut S,
+    sink: &mut K,
+    pace: &P,
+) -> Outcome
+    requires { IsInLimits request }
+    ensures { Promise S.seen K.seen (Some request) source.old source.new sink.old sink.new result }
+{
+    match request.mode {
+        Mode::Solo => answer_solo(alloc, request, source, sink),
+        Mode::Run => answer_run(rt, alloc, request, source, sink, pace),
+        Mode::Load => load(rt, alloc, request.rounds, sink, pace),
+    }
+}
+
+fn answer_solo<S: Source, K: Sink>(
+    alloc: Global,
+    request: Request,
     source: &mut S,
     sink: &mut K,
 ) -> Outcome
-    requires { IfSome asked IsInLimits }
-    ensures { Promise S.seen K.seen asked source.old source.new sink.old sink.new result }
+    requires limits { IsInLimits request }
+    requires mode { request.mode ≡ Mode.Solo }
+    ensures { Promise S.seen K.seen (Some request) source.old source.new sink.old sink.new result }
 {
-    let Some(request) = asked else {
-        return report(sink, Ending::Refused(Fault::Usage));
+    let ending = match read_script(alloc, source) {
+        Ok(scripts) => run_alone(alloc, &scripts, request.heap, request.blocks),
+        Err(fault) => Ending::Refused(fault),
     };
-    report(sink, work(alloc, request, source))
+    report(sink, Form::Lines, ending)
+}
+
+fn answer_run<R: Threads + Wait + Sync, S: Source, K: Sink, P: Pace>(
+    rt: &R,
+    alloc: Global,
+    request: Request,
+    source: &mut S,
+    sink: &mut K,
+    pace: &P,
+) -> Outcome
+    requires limits { IsInLimits request }
+    requires mode { request.mode ≡ Mode.Run }
+    ensures { Promise S.seen K.seen (Some request) source.old source.new sink.old sink.new result }
+{
+    match read_script(alloc, source) {
+        Ok(scripts) => run(
+            rt,
+            alloc,
+            &scripts,
+            request.heap,
+            request.blocks,
+            sink,
+            pace,
+        ),
+        Err(fault) => report(sink, Form::Lines, Ending::Refused(fault)),
+    }
 }
 
 #[cfg(test)]

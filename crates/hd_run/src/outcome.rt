@@ -1,10 +1,13 @@
+use hd_gate::Closed;
 use hd_world::World;
 
-/// What is kept of a run: the world that ran it, if there is one.
+/// What is kept of a run, if anything was run: the world of one thread, or one that callers in
+/// threads shared.
 #[derive(Drop)]
 pub enum Kept {
     Nothing,
     Alone(World),
+    Shared(Closed),
 }
 
 /// How a call ended: its status, and what it keeps. The status is 0 after a whole run, 2 for words

@@ -1,25 +1,36 @@
 ghost use Rattle.std.specs.Prelude.{◌≡◌, ◌++◌};
 ghost use Rattle.hd_model.specs.Text.{lines_of};
 ghost use Rattle.hd_run.specs.Ending.{world_of, journal_in, kept_of};
-ghost use Rattle.hd_run.specs.Report.{Reports, Writes, HasFewCallers, text_for, fault_text};
+ghost use Rattle.hd_run.specs.Report.{Reports, Writes, HasFewCallers, HasSum, IsWritable};
+ghost use Rattle.hd_run.specs.Report.{text_for, stopped_text, whole_text, fault_text};
 
 use crate::Outcome;
 use crate::ending::{Ending, Fault};
+use crate::summary::summary;
 use hd_io::{Failed, Sink, write_all};
 use hd_model::Journal;
 use hd_print::{Line, end_line, write_entries};
+use hd_world::World;
 
 // The status where the sink failed.
 const WRITE_FAULT: u8 = 5;
 
 const MEMORY: &str = "fault memory\n";
 
+/// How a run is written: a line for each entry and one for its end, or one line for all.
+#[derive(Clone, Copy)]
+pub(crate) enum Form {
+    Lines,
+    Summary,
+}
+
 /// Writes what an ending has to say, and answers its status and what it keeps.
-pub(crate) fn report<K: Sink>(sink: &mut K, ending: Ending) -> Outcome
-    requires { HasFewCallers (journal_in (world_of (kept_of ending))) }
-    ensures { Reports (K.seen sink.old) (K.seen sink.new) ending result }
+pub(crate) fn report<K: Sink>(sink: &mut K, form: Form, ending: Ending) -> Outcome
+    requires callers { HasFewCallers (journal_in (world_of (kept_of ending))) }
+    requires sum { IsWritable form ending }
+    ensures { Reports (K.seen sink.old) (K.seen sink.new) form ending result }
 {
-    let status = match write_text(sink, &ending) {
+    let status = match write_text(sink, form, &ending) {
         Ok(()) => ending.status(),
         Err(Failed) => WRITE_FAULT,
     };
@@ -29,18 +40,42 @@ pub(crate) fn report<K: Sink>(sink: &mut K, ending: Ending) -> Outcome
     }
 }
 
-fn write_text<K: Sink>(sink: &mut K, ending: &Ending) -> Result<(), Failed>
-    requires { HasFewCallers (journal_in (world_of (kept_of ending.now))) }
-    ensures { Writes (K.seen sink.old) (K.seen sink.new) (text_for ending.now) result }
+fn write_text<K: Sink>(sink: &mut K, form: Form, ending: &Ending) -> Result<(), Failed>
+    requires callers { HasFewCallers (journal_in (world_of (kept_of ending.now))) }
+    requires sum { IsWritable form ending.now }
+    ensures { Writes (K.seen sink.old) (K.seen sink.new) (text_for form ending.now) result }
 {
     match ending {
         Ending::Refused(fault) => write_all(sink, fault_line(*fault).as_bytes()),
-        Ending::Stopped(None) => write_all(sink, MEMORY.as_bytes()),
-        Ending::Stopped(Some(world)) => write_lines(sink, world.journal(), MEMORY.as_bytes()),
-        Ending::Done(world) => {
+        Ending::Stopped(ran) => write_stopped(sink, form, ran.world().journal()),
+        Ending::Done(ran) => write_whole(sink, form, ran.world()),
+    }
+}
+
+// What is written where memory ran out.
+fn write_stopped<K: Sink>(sink: &mut K, form: Form, journal: &Journal) -> Result<(), Failed>
+    requires { HasFewCallers journal.now.entries }
+    ensures { Writes (K.seen sink.old) (K.seen sink.new) (stopped_text form journal.now.entries)
+        result }
+{
+    match form {
+        Form::Lines => write_lines(sink, journal, MEMORY.as_bytes()),
+        Form::Summary => write_all(sink, MEMORY.as_bytes()),
+    }
+}
+
+// What is written of a whole run.
+fn write_whole<K: Sink>(sink: &mut K, form: Form, world: &World) -> Result<(), Failed>
+    requires callers { HasFewCallers world.now.journal }
+    requires sum { HasSum form world.now }
+    ensures { Writes (K.seen sink.old) (K.seen sink.new) (whole_text form world.now) result }
+{
+    match form {
+        Form::Lines => {
             let line = end_line(world.live(), world.objects(), world.collections());
             write_lines(sink, world.journal(), line.as_bytes())
         }
+        Form::Summary => write_all(sink, summary(world).as_bytes()),
     }
 }
 
@@ -62,8 +97,8 @@ fn fault_line(fault: Fault) -> Line
         Fault::Usage => "usage: hdt solo|run|load [--heap CELLS] [--blocks COUNT] [--rounds N]\n",
         Fault::Unread => "fault read\n",
         Fault::OverSize => "fault size\n",
+        Fault::NoMemory => MEMORY,
         Fault::BadLine(number) => return bad_line(number),
-        Fault::Later => "fault later\n",
     };
     let mut line = Line::new();
     line.push_str(text);

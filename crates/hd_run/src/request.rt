@@ -1,45 +1,129 @@
-ghost use Rattle.std.specs.Prelude.{◌≡◌, IfSome};
-ghost use Rattle.hd_run.specs.Words.{request_of, solo_of, IsInLimits};
+ghost use Rattle.std.specs.Prelude.{◌≡◌, ◌≢◌, ◌⊎◌, false, Some, ◌^◌, ◌-◌, IfOk, IfErr, IfSome};
+ghost use Rattle.clap.specs.Words.{app_of, rule_of, found_of, kind_of, rows_of};
+ghost use Rattle.hd_run.specs.Words.{request_of, solo_of, asked_by, number_rule, program, mode_of, number_of};
+ghost use Rattle.hd_run.specs.Words.{IsFaultOfWords, IsInLimits, GivesNumbers, GivesNumber};
 
-use hd_model::limits::{BLOCKS, HEAP};
+use crate::ending::Fault;
+use clap::builder::ValueParser;
+use clap::error::ErrorKind;
+use clap::{Arg, ArgMatches, Command, Error};
+use hd_model::limits::{BLOCKS, HEAP, MOST_ROUNDS};
+use std::alloc::{AllocError, Global};
+
+// The cells of a heap, at least: those of an object without fields.
+const LEAST_HEAP: u32 = 3;
+
+// The rounds of a load where the words name no number.
+const ROUNDS: u32 = 100;
 
 /// The modes of the program.
 #[derive(Clone, Copy)]
 pub(crate) enum Mode {
     Solo,
+    Run,
+    Load,
 }
 
-/// What the words ask for: a mode with its limits, in cells and in blocks.
+/// What the words ask for: a mode, its limits, in cells and in blocks, and the rounds of a load.
 #[derive(Clone, Copy)]
 pub(crate) struct Request {
     pub(crate) mode: Mode,
     pub(crate) heap: u32,
     pub(crate) blocks: u32,
+    pub(crate) rounds: u32,
 }
 
-/// What the words ask for, where they are lawful: the program's name, which is never tested, and a
-/// mode.
-pub(crate) fn read_words(words: &[String]) -> Option<Request>
-    ensures value { result ≡ request_of words.now }
-    ensures limits { IfSome result IsInLimits }
+/// What the words ask for, where they are lawful.
+pub(crate) fn read_words(alloc: Global, words: &[String]) -> Result<Request, Fault>
+    ensures value { IfOk result (λ r. Some r ≡ request_of words.now) }
+    ensures limits { IfOk result IsInLimits }
+    ensures fault { IfErr result (IsFaultOfWords (request_of words.now)) }
 {
-    match words {
-        [_, mode] if mode.as_str() == "solo" => Some(Request {
-            mode: Mode::Solo,
-            heap: HEAP,
-            blocks: BLOCKS,
-        }),
-        _ => None,
+    let Ok(command) = command(alloc) else {
+        return Err(Fault::NoMemory);
+    };
+    match command.try_get_matches_from(words) {
+        Ok(matches) => asked_by(&matches).ok_or(Fault::Usage),
+        Err(error) => Err(refusal(&error)),
     }
 }
 
 /// What the words ask for, where they are lawful and name the mode `solo`.
-pub(crate) fn read_solo_words(words: &[String]) -> Option<Request>
-    ensures value { result ≡ solo_of (request_of words.now) }
+pub(crate) fn read_solo_words(alloc: Global, words: &[String]) -> Result<Request, Fault>
+    ensures value { IfOk result (λ r. Some r ≡ solo_of (request_of words.now)) }
+    ensures limits { IfOk result IsInLimits }
+    ensures fault { IfErr result (IsFaultOfWords (solo_of (request_of words.now))) }
+{
+    let request = read_words(alloc, words)?;
+    match request.mode {
+        Mode::Solo => Ok(request),
+        Mode::Run | Mode::Load => Err(Fault::Usage),
+    }
+}
+
+// Words that the command does not take are not lawful.
+fn refusal(error: &Error) -> Fault
+    ensures { (result ≡ Fault.NoMemory)
+        ⊎ ((result ≡ Fault.Usage) × (kind_of error.now ≢ ErrorKind.OutOfMemory)) }
+{
+    match error.kind() {
+        ErrorKind::OutOfMemory => Fault::NoMemory,
+        _ => Fault::Usage,
+    }
+}
+
+// The command: a mode, and options with a number each.
+fn command<'a>(alloc: Global) -> Result<Command<'a>, AllocError>
+    ensures { IfOk result (λ c. app_of c ≡ program) }
+{
+    Command::new(alloc, "hdt")
+        .arg(Arg::new(alloc, "mode").required(true))?
+        .arg(number(alloc, "heap", LEAST_HEAP, HEAP))?
+        .arg(number(alloc, "blocks", 1, BLOCKS))?
+        .arg(number(alloc, "rounds", 1, MOST_ROUNDS))
+}
+
+// An option with a whole number from `least` to `most`.
+fn number<'a>(alloc: Global, name: &'a str, least: u32, most: u32) -> Arg<'a>
+    ensures rule { rule_of result ≡ number_rule name.entry.now least most }
+    ensures local { result.global ≡ false }
+{
+    Arg::new(alloc, name)
+        .long(name)
+        .value_parser(ValueParser::unsigned(u64::from(least), u64::from(most)))
+}
+
+// What the matches ask for.
+fn asked_by(matches: &ArgMatches) -> Option<Request>
+    requires { GivesNumbers (found_of matches.now) }
+    ensures value { result ≡ asked_by (rows_of (found_of matches.now)) }
     ensures limits { IfSome result IsInLimits }
 {
-    let request = read_words(words)?;
-    match request.mode {
-        Mode::Solo => Some(request),
+    let mode = mode_of(matches.get_str("mode")?)?;
+    Some(Request {
+        mode,
+        heap: number_of(matches, "heap", HEAP),
+        blocks: number_of(matches, "blocks", BLOCKS),
+        rounds: number_of(matches, "rounds", ROUNDS),
+    })
+}
+
+// The mode of a name.
+fn mode_of(name: &str) -> Option<Mode>
+    ensures { result ≡ mode_of name.now }
+{
+    match name {
+        "solo" => Some(Mode::Solo),
+        "run" => Some(Mode::Run),
+        "load" => Some(Mode::Load),
+        _ => None,
     }
+}
+
+// The number of an option, or its default where the words name none.
+fn number_of(matches: &ArgMatches, name: &str, default: u32) -> u32
+    requires { GivesNumber (found_of matches.now) name.now 0 (2 ^ 32 - 1) }
+    ensures { result ≡ number_of (rows_of (found_of matches.now)) name.now default }
+{
+    matches.get_one::<u32>(name).unwrap_or(default)
 }

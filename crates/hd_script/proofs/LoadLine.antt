@@ -152,7 +152,7 @@ module _ (rounds : ℕ) (journal : List Entry) (s : State) (few : rounds ≤ 300
         sum_by-replicate holding 4 (first rounds),
       )
 
-  told : sum_by (λ (e : Entry). value_told e.reply) journal ≡ 2 * rounds * (rounds + 1)
+  pub told : sum_by (λ (e : Entry). value_told e.reply) journal ≡ 2 * rounds * (rounds + 1)
   told =
       let double : 2 * (rounds * (rounds + 1)) ≡ 2 * rounds * (rounds + 1) = grind arith in
       omega (arith, all.told, written_in_all, sum_by-replicate pending 4 (first rounds), double)

@@ -27,6 +27,6 @@ fn main(rt: HostRuntime) -> ExitCode {
     };
     let mut source = StdSource::over(rt.stdin());
     let mut sink = StdSink::over(rt.stdout());
-    let outcome = top(rt.alloc(), &words, &mut source, &mut sink, &NoPace);
+    let outcome = top(&rt, rt.alloc(), &words, &mut source, &mut sink, &NoPace);
     ExitCode::from(outcome.status)
 }

@@ -1,16 +1,22 @@
-use Rattle.std.proofs.Common.{Option, sym, subst}
-use Rattle.hd_run.specs.declared.request.Request.{Request}
-use Rattle.hd_run.specs.Ending.{Cause}
+use Rattle.std.proofs.Common.{◌≡◌, ◌∙◌, Some, sym, ap, subst, refl}
+use Rattle.hd_run.specs.declared.report.Form.{Form}
+use Rattle.hd_run.specs.declared.request.Mode.{Mode}
+use Rattle.hd_run.specs.Ending.{CauseBy}
+use Rattle.hd_run.specs.Report.{Reports, form_of}
 use Rattle.hd_run.proofs.Claimed.{promise}
+use Rattle.hd_run.proofs.Modes.{load_cause}
 use Rattle.hd_run.proofs.answer.Goals as goal
 
-pub returns : goal.returns
-returns g c =
-    let old = g.S.Source.seen c.args.source.now in
-    let new = g.S.Source.seen c.work.new.source in
-    let cause : Cause c.args.asked old new c.work.result =
-    subst (λ (asked : Option Request). Cause asked old new c.work.result) (sym c.in-Some.is)
-    c.work.ensures.cause in
-    promise g.S.Source.seen g.K.Sink.seen c.args.asked c.args.source.now c.work.new.source
-    c.args.sink.now c.report-2.new.sink c.work.result c.report-2.result cause c.report-2.ensures
-    (λ none. cc (none, c.in-Some.is))
+pub returns-in-Load : goal.returns-in-Load
+returns-in-Load g c =
+    let seen = g.S.Source.seen c.args.source.now in
+    let r = c.args.request in
+    let work = c.load.ensures.promise.work in
+    let cause = subst (λ (m : Mode). CauseBy m r seen seen work.0) (sym c.in-Load.is)
+    (load_cause r seen work.0 work.1) in
+    let reports = subst (λ (f : Form). Reports (g.K.Sink.seen c.args.sink.now)
+    (g.K.Sink.seen c.load.new.sink) f
+    work.0 c.load.result) (sym (ap form_of c.in-Load.is)) work.2 in
+    promise g.S.Source.seen g.K.Sink.seen (Some r) c.args.source.now c.args.source.now
+    c.args.sink.now c.load.new.sink work.0 c.load.result cause reports (λ unread. refl)
+    (λ load. c.load.ensures.line)

@@ -1,0 +1,24 @@
+use Rattle.std.proofs.Common.{rules, ◌≡◌, ◌++◌, sym, subst, ℕ, List}
+use Rattle.hd_model.specs.Text.{lines_of}
+use Rattle.hd_run.specs.declared.report.Form.{Form}
+use Rattle.hd_run.specs.Report.{Writes, stopped_text, memory_text}
+use Rattle.hd_run.proofs.report.write_stopped.Goals as goal
+
+pub returns-in-Lines : goal.returns-in-Lines
+returns-in-Lines g c =
+    let text : c.as_bytes.result.now ≡ memory_text = c.as_bytes.ensures.value in
+    let old = g.K.Sink.seen c.args.sink.now in
+    let new = g.K.Sink.seen c.write_lines.new.sink in
+    let journal = c.args.journal.now.entries in
+    subst (λ (f : Form). Writes old new (stopped_text f journal) c.write_lines.result) (sym c.in-Lines.is)
+    (subst (λ (t : List ℕ). Writes old new (lines_of journal ++ t) c.write_lines.result) text
+    c.write_lines.ensures)
+
+pub returns-in-Summary : goal.returns-in-Summary
+returns-in-Summary g c =
+    let text : c.as_bytes-in-Summary.result.now ≡ memory_text = c.as_bytes-in-Summary.ensures.value in
+    let old = g.K.Sink.seen c.args.sink.now in
+    let new = g.K.Sink.seen c.write_all.new.sink in
+    let wrote : Writes old new c.as_bytes-in-Summary.result.now c.write_all.result = search rules in
+    subst (λ (f : Form). Writes old new (stopped_text f c.args.journal.now.entries) c.write_all.result)
+    (sym c.in-Summary.is) (subst (λ (t : List ℕ). Writes old new t c.write_all.result) text wrote)

@@ -1,0 +1,6 @@
+use Rattle.std.proofs.Common.{◌≡◌, map, take, length}
+use Rattle.hd_run.proofs.threads.rooms.Given as goal
+
+-- the rooms of the callers below this one
+abbrev pub invariant-loop-caller : goal.invariant-loop-caller
+invariant-loop-caller l = l.rooms.items ≡ map length (take l.caller l.scripts)

@@ -1,0 +1,147 @@
+// The callers of a script in threads of their own.
+ghost use Rattle.std.specs.Prelude.{◌≡◌, ◌<◌, ◌≤◌, [], length, map, All, Any, IfOk, MatchBool};
+ghost use Rattle.hd_gate.specs.Shared.{AreAll, Begin};
+ghost use Rattle.hd_run.specs.declared.request.TheConstants.{LEAST_HEAP};
+ghost use Rattle.hd_run.specs.declared.request.Mode.TheVariants.{Run};
+ghost use Rattle.hd_run.specs.Ending.{RunCause, numbers_for, world_of, kept_of, journal_in};
+ghost use Rattle.hd_run.specs.Report.{HasFewCallers};
+ghost use Rattle.hd_run.specs.Together.{IsReadyToPlay, HasPlayed, HavePlayed};
+ghost use Rattle.hd_run.specs.Turns.{list_of};
+
+use crate::ending::{Ending, Fault, Ran};
+use hd_gate::{Caller, Callers, Shared};
+use hd_io::Pace;
+use hd_model::Memory;
+use hd_model::limits::{BLOCKS, CALLERS, HEAP};
+use hd_script::Scripts;
+use hd_world::World;
+use std::alloc::{AllocError, Global};
+use std::sync::Wait;
+use std::thread;
+use std::thread::Threads;
+
+/// Runs a script by a thread for each of its callers. A caller that finds no memory stops, and the
+/// others go on.
+pub(crate) fn run_callers<R: Threads + Wait + Sync, P: Pace>(
+    rt: &R,
+    alloc: Global,
+    scripts: &Scripts,
+    heap: u32,
+    blocks: u32,
+    pace: &P,
+) -> Ending
+    requires heap { (LEAST_HEAP ≤ heap) × (heap ≤ HEAP) }
+    requires blocks { (1 ≤ blocks) × (blocks ≤ BLOCKS) }
+    ensures cause { RunCause Run (numbers_for heap blocks scripts.now) scripts.now result }
+    ensures callers { HasFewCallers (journal_in (world_of (kept_of result))) }
+{
+    let Ok((shared, mut callers)) = share(alloc, scripts, heap, blocks) else {
+        return Ending::Refused(Fault::NoMemory);
+    };
+    let done = play_all(rt, &shared, &mut callers, scripts, pace);
+    let ran = Ran::Shared(shared.close(callers));
+    if done {
+        Ending::Done(ran)
+    } else {
+        Ending::Stopped(ran)
+    }
+}
+
+// An empty world that is shared, with a caller for each list, which has room for it.
+fn share(
+    alloc: Global,
+    scripts: &Scripts,
+    heap: u32,
+    blocks: u32,
+) -> Result<(Shared, Callers), Memory>
+    requires heap { (LEAST_HEAP ≤ heap) × (heap ≤ HEAP) }
+    requires blocks { (1 ≤ blocks) × (blocks ≤ BLOCKS) }
+    ensures numbers { IfOk result (λ r. r.0.numbers ≡ numbers_for heap blocks scripts.now) }
+    ensures few { IfOk result (λ r. length scripts.now ≤ CALLERS) }
+    ensures all { IfOk result (λ r. AreAll r.0 r.1) }
+    ensures begin { IfOk result (λ r. Begin (map length scripts.now) r.1) }
+{
+    let Ok(rooms) = rooms(alloc, scripts) else {
+        return Err(Memory);
+    };
+    let world = World::open(alloc, heap, blocks, scripts.callers(), scripts.total())?;
+    Shared::open(alloc, world, blocks, &rooms)
+}
+
+// The number of commands of each caller.
+fn rooms(alloc: Global, scripts: &Scripts) -> Result<Vec<u32>, AllocError>
+    ensures { IfOk result (λ rooms. rooms.items ≡ map length scripts.now) }
+{
+    let mut rooms = Vec::new(alloc);
+    for caller in 0..scripts.callers() {
+        rooms.push(scripts.len(caller))?;
+    }
+    Ok(rooms)
+}
+
+// Has each caller do its list, in a thread of its own, and tells whether all went to their ends.
+fn play_all<R: Threads + Wait + Sync, P: Pace>(
+    rt: &R,
+    shared: &Shared,
+    callers: &mut Callers,
+    scripts: &Scripts,
+    pace: &P,
+) -> bool
+    requires some { 0 < length callers.old }
+    requires ready { All (IsReadyToPlay shared.now scripts.now) callers.old }
+    ensures played { HavePlayed scripts.now callers.old callers.new }
+    ensures done { MatchBool result (All (λ p. p.room ≡ 0) callers.new)
+        (Any (λ p. 1 ≤ p.room) callers.new) }
+{
+    let list = callers.all();
+    play_each(rt, shared, list, scripts, pace);
+    all_are_done(list)
+}
+
+fn play_each<R: Threads + Wait + Sync, P: Pace>(
+    rt: &R,
+    shared: &Shared,
+    callers: &mut [Caller],
+    scripts: &Scripts,
+    pace: &P,
+)
+    requires some { 0 < length callers.old }
+    requires ready { All (IsReadyToPlay shared.now scripts.now) callers.old }
+    ensures { HavePlayed scripts.now callers.old callers.new }
+{
+    let threads = callers.len();
+    let turn = |_: usize, caller: &mut Caller|
+        requires { IsReadyToPlay shared.now scripts.now caller.now }
+        ensures { HasPlayed (list_of scripts.entry.now caller.entry.now.number) caller.entry.now
+            caller.exit.now }
+    { play(rt, shared, caller, scripts, pace) };
+    thread::for_each_mut(rt, callers, threads, &turn);
+}
+
+// Does the commands of a caller one after another, up to one that finds no memory.
+fn play<R: Wait, P: Pace>(rt: &R, shared: &Shared, caller: &mut Caller, scripts: &Scripts, pace: &P)
+    requires { IsReadyToPlay shared.now scripts.now caller.old }
+    ensures { HasPlayed (list_of scripts.now caller.old.number) caller.old caller.new }
+{
+    let number = caller.number();
+    'commands: for i in 0..scripts.len(number) {
+        pace.at(number, u64::from(i) + 1);
+        match shared.call(rt, caller, scripts.cmd(number, i)) {
+            Ok(_) => {}
+            Err(Memory) => return,
+        }
+    }
+}
+
+// Whether each caller has done all that it had room for.
+fn all_are_done(callers: &[Caller]) -> bool
+    ensures { MatchBool result (All (λ p. p.room ≡ 0) callers.now)
+        (Any (λ p. 1 ≤ p.room) callers.now) }
+{
+    for caller in callers {
+        if caller.room() > 0 {
+            return false;
+        }
+    }
+    true
+}
