@@ -8,7 +8,7 @@ use Rattle.std.proofs.lemmas.Option.{none-some}
 use Rattle.hd_model.specs.declared.data.Addr.{Addr}
 use Rattle.hd_model.specs.State.{Object}
 use Rattle.hd_model.specs.Scene.{fields_at, fields_in, is_object, IsField}
-use Rattle.hd_model.specs.Heap.{Heap, Placed, has_object, object_at, object_in, id_at, id_in, region_generation, region_of}
+use Rattle.hd_model.specs.Heap.{Heap, HasIdentities, Placed, has_object, object_at, object_in, id_at, id_in, region_generation, region_of}
 use Rattle.hd_model.specs.Table.{Table, Queue, row_at}
 use Rattle.hd_model.proofs.Members.{not_in_none}
 use Rattle.hd_plan.specs.Plan.{HasNoEmptyRegion}
@@ -36,6 +36,15 @@ same_placed h a b p q alone at_a at_b same low =
     (ap (λ o. is_some (option_map (object_in (region_generation h (region_of y))) o)) at_b) low
     (ap id_in at_a ∙ same ∙ sym (ap id_in at_b))
 
+-- identities of objects that are alone differ
+pub identities_differ : (h : Heap) → AreAlone h → HasIdentities h
+identities_differ h alone a b p q at_a at_b same =
+    elim (cases_order a b) [
+      | inl e ↦ e
+      | inr (inl low) ↦ absurd (same_placed h a b p q alone at_a at_b same low)
+      | inr (inr high) ↦ absurd (same_placed h b a q p alone at_b at_a (sym same) high)
+    ]
+
 pub is_ready : (h : Heap) (t : Table) (ages : List ℕ) (q : Queue) (roots : List (Option Addr))
     → HasNoEmptyRegion h → length ages ≡ 4 * t.blocks → len h.objects ≤ q.room → IsBare h → AreAlone h
     → ArePlain h t ages → ((x : Addr) → Contains roots (Some x) → has_object h x ≡ true)
@@ -50,12 +59,7 @@ is_ready h t ages q roots full clumps room bare alone plain named empty = record
     paired = λ slot g stands none. (plain slot g stands).alone;
     fits = λ slot g x stands e. absurd (none-some x (sym (plain slot g stands).alone ∙ e));
   };
-  identities = λ a b p r at_a at_b same.
-      elim (cases_order a b) [
-        | inl e ↦ e
-        | inr (inl low) ↦ absurd (same_placed h a b p r alone at_a at_b same low)
-        | inr (inr high) ↦ absurd (same_placed h b a r p alone at_b at_a (sym same) high)
-      ];
+  identities = identities_differ h alone;
   ages_sound = record {
     targets = λ slot g x stands e. (plain slot g stands).age x e;
     secondaries = λ slot g x stands e. absurd (none-some x (sym (plain slot g stands).alone ∙ e));

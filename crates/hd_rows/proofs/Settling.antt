@@ -1,18 +1,22 @@
 -- The marks of objects without fields are settled, and grow by what is promoted.
-use Rattle.std.proofs.Common.{◌≡◌, ◌⊎◌, ℕ, ◌<◌, Bool, true, false, List, [], length, get_or, set, Some, is_some, refl, sym, ap, ◌∙◌, subst, arith, ⊎_elim, inl, inr}
+use Rattle.std.proofs.Common.{◌≡◌, ◌⊎◌, ℕ, ◌-◌, ◌<◌, Bool, true, false, List, [], length, get_or, set, Some, is_some, refl, sym, ap, ◌∙◌, subst, arith, ⊎_elim, inl, inr}
 use Rattle.std.specs.Prelude.{option_map, unwrap_or, Contains}
 use Rattle.std.specs.FinMap.{get-empty}
 use Rattle.std.specs.Ordering.{nat_cmp}
-use Rattle.std.proofs.lemmas.Bool.{cases_lt, cases_eq, false≢true}
+use Rattle.std.proofs.lemmas.Bool.{cases_lt, cases_eq, false≢true, ltb-true, lt-ltb}
 use Rattle.std.proofs.lemmas.List.{get_or_past, get_or-set_same, get_or-set_other}
 use Rattle.hd_model.specs.declared.data.Addr.{Addr}
+use Rattle.hd_model.specs.declared.data.Kind.{Kind}
 use Rattle.hd_model.specs.Heap.{Region, object_in, object_at, objects_of, region_of, region_generation}
+use Rattle.hd_model.specs.Table.{Table, row_at}
+use Rattle.hd_model.specs.Names.{NamesObjects}
 use Rattle.hd_model.specs.Leads.{Leads, IsClosed, Grows}
-use Rattle.hd_model.specs.Marking.{IsSettled, Gains}
+use Rattle.hd_model.specs.Marking.{IsSettled, IsKeeping, Gains}
 use Rattle.hd_model.specs.Scene.{is_object, fields_in, fields_at, generation_in, generation_at, IsField, IsYoungField}
 use Rattle.hd_model.proofs.Members.{not_in_none}
 use Rattle.hd_seg.proofs.Maps.{get-mapped, get-mapped_out}
-use Rattle.hd_rows.specs.Toy.{toy_heap, toy_basis, is_in}
+use Rattle.hd_scan.specs.Relocation.{CanRelocate}
+use Rattle.hd_rows.specs.Toy.{toy_heap, toy_basis, is_in, is_below, turned}
 
 module _ (size : ℕ) where
   -- an object is one whose number is below their number, and has no fields and generation 0
@@ -108,3 +112,30 @@ module _ (size : ℕ) where
       only =
           marked_by;
     }
+
+-- the objects of a toy heap, each at the place that counts from the end
+pub turned_keeps : (size : ℕ) → IsKeeping (object_at (toy_heap size)) 2 (is_below size) (turned size)
+turned_keeps size = record {
+  objects = λ x k. object_below size x (ltb-true x.0 size k);
+  older = λ x up. absurd (none_older x up);
+  in_place = λ x up. absurd (none_older x up);
+  apart = λ x y k l same. same_number x y
+      (let low_x = ltb-true x.0 size k in
+      let low_y = ltb-true y.0 size l in
+      let e = ap (λ (a : Addr). a.0) same in
+      omega arith);
+}
+  where
+    none_older : (x : Addr) → 2 < generation_at (object_at (toy_heap size)) x → ⊥
+    none_older x up = let zero_is = youngest size x in omega arith
+
+    same_number : (x y : Addr) → x.0 ≡ y.0 → x ≡ y
+    same_number x y e i = record { 0 = e i }
+
+-- what rows name is kept where all of it are objects
+pub named_kept : (size n : ℕ) (t : Table) (ages : List ℕ) (m : ℕ) (kind : Kind)
+    → NamesObjects (objects_of (toy_basis size n)) (row_at t) → CanRelocate (is_below size) ages m kind t
+named_kept size n t ages m kind named slot h stands due = record {
+  target = λ x e. lt-ltb x.0 size (below_object size x (named.targets slot h x stands e));
+  secondary = λ x e. lt-ltb x.0 size (below_object size x (named.secondaries slot h x stands e));
+}

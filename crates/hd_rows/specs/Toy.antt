@@ -1,5 +1,5 @@
 -- A heap of objects without fields, for tests: they are numbered from 0, and are of generation 0.
-use Rattle.std.specs.Prelude.{◌≡◌, ℕ, ◌<◌, Bool, false, List, [], Some, slice_index_or}
+use Rattle.std.specs.Prelude.{◌≡◌, ℕ, ◌-◌, ◌<◌, nat_lt, Bool, false, List, [], Some, slice_index_or}
 use Rattle.std.specs.FinMap.{empty}
 use Rattle.std.specs.FinSet as set
 use Rattle.hd_model.specs.declared.data.Addr.{Addr}
@@ -40,3 +40,10 @@ abbrev pub fits_by : BlockKind → Extra Addr → Bool
 fits_by block.Unused e = false
 fits_by (block.Rows k) e = fits k e
 fits_by block.Extras e = false
+
+-- whether a number is that of one of so many objects, and its place where they stand the other way round
+abbrev pub is_below : ℕ → Addr → Bool
+is_below size a = nat_lt a.0 size
+
+abbrev pub turned : ℕ → Addr → Addr
+turned size a = record { 0 = size - 1 - a.0 }

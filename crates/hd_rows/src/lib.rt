@@ -7,6 +7,10 @@ mod checks;
 #[cfg(test)]
 mod passes;
 #[cfg(test)]
+mod relocations;
+#[cfg(test)]
+mod revivals;
+#[cfg(test)]
 mod rounds;
 #[cfg(test)]
 mod rows;
@@ -16,3 +20,5 @@ mod state;
 mod table;
 #[cfg(test)]
 mod toy;
+#[cfg(test)]
+mod world;

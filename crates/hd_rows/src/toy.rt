@@ -1,7 +1,9 @@
 ghost use Rattle.std.specs.Prelude.{◌≡◌, ◌<◌, true, length, slice_set, IfOk};
-ghost use Rattle.hd_rows.specs.Toy.{is_in};
+ghost use Rattle.hd_model.specs.Heap.{object_at};
+ghost use Rattle.hd_model.specs.Marking.{IsKeeping};
+ghost use Rattle.hd_rows.specs.Toy.{is_in, is_below, toy_heap, turned};
 
-use hd_model::{Addr, Marker, Memory};
+use hd_model::{Addr, Forward, Marker, Memory};
 use std::alloc::Global;
 
 /// Which of some objects without fields are promoted, and which are pinned.
@@ -112,4 +114,42 @@ impl Marker for Toy {
     }
 
     ghost settles = { λ m s. s };
+}
+
+/// Keeps all of some objects, and gives the first the place of the last, and so on.
+#[derive(Drop)]
+pub struct Turned {
+    objects: u32,
+}
+
+impl Turned {
+    /// New places for so many objects.
+    pub fn of(objects: u32) -> Turned
+        ensures size { result.objects ≡ objects }
+        ensures laid { IsKeeping (object_at (toy_heap objects)) 2 (is_below objects)
+            (turned objects) }
+    {
+        Turned { objects }
+    }
+}
+
+impl Forward for Turned {
+    ghost use Rattle.hd_model.specs.Heap.{object_at};
+    ghost use Rattle.hd_model.specs.Marking.{IsKeeping};
+    ghost use Rattle.hd_rows.specs.Toy.{is_below, toy_basis, toy_heap, turned};
+
+    ghost basis = { λ f. toy_basis f.objects 2 };
+
+    ghost laid = { λ f. IsKeeping (object_at (toy_heap f.objects)) 2 (is_below f.objects)
+        (turned f.objects) };
+
+    ghost kept = { λ f. is_below f.objects };
+
+    ghost place = { λ f. turned f.objects };
+
+    ghost keeps = { λ f laid. laid };
+
+    fn moved(&self, at: Addr) -> Addr {
+        Addr(self.objects - 1 - at.0)
+    }
 }

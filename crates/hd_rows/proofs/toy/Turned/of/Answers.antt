@@ -1,0 +1,5 @@
+use Rattle.hd_rows.proofs.Settling.{turned_keeps}
+use Rattle.hd_rows.proofs.toy.Turned.of.Goals as goal
+
+pub returns-clause-laid : goal.returns-clause-laid
+returns-clause-laid c = turned_keeps c.args.objects

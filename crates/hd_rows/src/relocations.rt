@@ -1,0 +1,121 @@
+ghost use Rattle.std.specs.Prelude.{◌≡◌, ◌<◌, length};
+ghost use Rattle.hd_model.specs.Table.{row_at};
+ghost use Rattle.hd_rows.specs.Toy.{is_below, turned};
+
+use crate::table::{block, lower, names_objects, put};
+use crate::toy::{Toy, Turned};
+use hd_ages::AgeMap;
+use hd_model::{Addr, Kind, Slot, Steps};
+use hd_scan::relocate;
+use hd_seg::{Extra, Row, Seg};
+use std::marker::Brand;
+use std::process::Abort;
+use std::sync::ledger::{Blank, Ledger};
+use std::test::Fail;
+
+/// Turns the places of what the rows of a kind name, of 16 objects, in the clumps of generation 1
+/// and below.
+fn relocate_by<L: Ledger>(
+    rt: &impl Abort,
+    seg: &mut Seg,
+    ages: &AgeMap,
+    toy: &Toy,
+    kind: Kind,
+    blank: Blank,
+)
+    requires blank { (L.name ≡ blank.name) × (L.parts ≡ blank.parts) × (0 < blank.parts) }
+    requires blocks { seg.old.blocks ≡ 12 }
+    requires ages { length ages.now ≡ 48 }
+    requires toy { length toy.now.marks.items ≡ 16 }
+    ensures { seg.new.blocks ≡ 12 }
+{
+    let mut steps = Steps::<L>::open(blank);
+    assert!(rt; names_objects(seg, toy));
+    relocate(seg, ages, kind, &Turned::of(16), 1, &mut steps);
+}
+
+/// The same, with a counter that nothing reads.
+fn turn(rt: &impl Abort, seg: &mut Seg, ages: &AgeMap, toy: &Toy, kind: Kind)
+    requires blocks { seg.old.blocks ≡ 12 }
+    requires ages { length ages.now ≡ 48 }
+    requires toy { length toy.now.marks.items ≡ 16 }
+    ensures { seg.new.blocks ≡ 12 }
+{
+    relocate_by::<Brand>(rt, seg, ages, toy, kind, Blank::new(1));
+}
+
+/// What slots of a table name.
+fn shows(rt: &impl Abort, seg: &Seg, rows: &[(u32, Option<u32>, Extra)]) {
+    for (slot, target, extra) in rows {
+        let row = Row {
+            target: target.map(Addr),
+            extra: *extra,
+        };
+        assert!(rt; seg.row(Slot(*slot)) == Some(row), "{slot}");
+    }
+}
+
+#[test]
+fn a_relocation_goes_over_the_clumps_up_to_its_generation(rt: HostRuntime) -> Result<(), Fail> {
+    let mut seg = Seg::open(rt.alloc(), 12)?;
+    let mut ages = AgeMap::open(rt.alloc(), 12)?;
+    let toy = Toy::open(rt.alloc(), 16, 1)?;
+    let first = block(&rt, &mut seg, Kind::Strong);
+    for (row, target) in [
+        (0, Some(0)),
+        (1, None),
+        (15, Some(7)),
+        (31, Some(2)),
+        (32, Some(3)),
+    ] {
+        put(&rt, &mut seg, first + row, target, Extra::Nothing);
+    }
+    lower(&mut ages, 1, 0, 0);
+    lower(&mut ages, 1, 1, 1);
+    turn(&rt, &mut seg, &ages, &toy, Kind::Strong);
+    shows(
+        &rt,
+        &seg,
+        &[
+            (first, Some(15), Extra::Nothing),
+            (first + 1, None, Extra::Nothing),
+            (first + 15, Some(8), Extra::Nothing),
+            (first + 31, Some(13), Extra::Nothing),
+            (first + 32, Some(3), Extra::Nothing),
+        ],
+    );
+    Ok(())
+}
+
+#[test]
+fn a_relocation_gives_rows_of_its_kind_alone_new_names(rt: HostRuntime) -> Result<(), Fail> {
+    let mut seg = Seg::open(rt.alloc(), 12)?;
+    let mut ages = AgeMap::open(rt.alloc(), 12)?;
+    let toy = Toy::open(rt.alloc(), 16, 1)?;
+    for block in 1..13 {
+        lower(&mut ages, block, 0, 0);
+    }
+    let weak = block(&rt, &mut seg, Kind::Short);
+    put(&rt, &mut seg, weak, Some(4), Extra::Nothing);
+    let dependent = block(&rt, &mut seg, Kind::Dependent);
+    let both = Extra::Secondary(Some(Addr(6)));
+    put(&rt, &mut seg, dependent, Some(5), both);
+    put(
+        &rt,
+        &mut seg,
+        dependent + 1,
+        Some(5),
+        Extra::Secondary(None),
+    );
+    turn(&rt, &mut seg, &ages, &toy, Kind::Dependent);
+    shows(
+        &rt,
+        &seg,
+        &[
+            (weak, Some(4), Extra::Nothing),
+            (dependent, Some(10), Extra::Secondary(Some(Addr(9)))),
+            (dependent + 1, Some(10), Extra::Secondary(None)),
+        ],
+    );
+    Ok(())
+}
