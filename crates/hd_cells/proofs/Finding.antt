@@ -14,12 +14,14 @@ pub untied : (x y : ℕ) → (x ≡ y → ⊥) → eq_by_cmp nat_cmp x y ≡ fal
 untied x y ne = unsigned_tied x y ∙ ne_eqb x y ne
 
 -- the first entry is the one that is looked for
-pub find_here : (q k : ℕ) (o : Object) (os : List (ℕ × Object)) → q ≡ k → find nat_cmp q ((k, o) ∷ os) ≡ Some o
+pub find_here : (q k : ℕ) (o : Object) (os : List (ℕ × Object)) → q ≡ k
+    → find nat_cmp q ((k, o) ∷ os) ≡ Some o
 find_here q k o os e = ap (λ (b : Bool). cond b (Some o) (find nat_cmp q os)) (tied q k e)
 
 -- the first entry is another one
-pub find_behind : (q k : ℕ) (o : Object) (os : List (ℕ × Object)) → (q ≡ k → ⊥) → find nat_cmp q ((k, o) ∷ os) ≡ find nat_cmp q os
-find_behind q k o os ne = ap (λ (b : Bool). cond b (Some o) (find nat_cmp q os)) (untied q k ne)
+pub find_beyond : (q k : ℕ) (o : Object) (os : List (ℕ × Object)) → (q ≡ k → ⊥)
+    → find nat_cmp q ((k, o) ∷ os) ≡ find nat_cmp q os
+find_beyond q k o os ne = ap (λ (b : Bool). cond b (Some o) (find nat_cmp q os)) (untied q k ne)
 
 -- a test made twice is answered the first time
 pub asked_twice : (b : Bool) (x y z : Option Object) → cond b x z ≡ cond b x (cond b y z)
@@ -27,7 +29,8 @@ asked_twice true x y z = refl
 asked_twice false x y z = refl
 
 -- two tests that do not both hold may be made in either order
-pub either_order : (a b : Bool) (x y z : Option Object) → (a ≡ true → b ≡ true → ⊥) → cond a x (cond b y z) ≡ cond b y (cond a x z)
+pub either_order : (a b : Bool) (x y z : Option Object) → (a ≡ true → b ≡ true → ⊥)
+    → cond a x (cond b y z) ≡ cond b y (cond a x z)
 either_order true true x y z apart = absurd (apart refl refl)
 either_order true false x y z apart = refl
 either_order false b x y z apart = refl

@@ -10,40 +10,57 @@ use Rattle.hd_cells.specs.Region.{Contents, IsObject, object_at, with_object, wi
 use Rattle.hd_cells.proofs.Finding.{tied, untied}
 
 -- what a map has at the offset that was inserted, and at another
-get_inserted : (m : map.FinMap nat_cmp Object) (at q : ℕ) (o : Object) → q ≡ at → map.get (map.insert m at o) q ≡ Some o
-get_inserted m at q o e = map.get-insert nat_cmp_total m at o q ∙ cond-true (eq_by_cmp nat_cmp q at) (Some o) (map.get m q) (tied q at e)
+get_inserted : (m : map.FinMap nat_cmp Object) (at q : ℕ) (o : Object) → q ≡ at
+    → map.get (map.insert m at o) q ≡ Some o
+get_inserted m at q o e = map.get-insert nat_cmp_total m at o q ∙ cond-true (eq_by_cmp nat_cmp q at) (Some o)
+    (map.get m q) (tied q at e)
 
-get_kept : (m : map.FinMap nat_cmp Object) (at q : ℕ) (o : Object) → (q ≡ at → ⊥) → map.get (map.insert m at o) q ≡ map.get m q
-get_kept m at q o ne = map.get-insert nat_cmp_total m at o q ∙ cond-false (eq_by_cmp nat_cmp q at) (Some o) (map.get m q) (untied q at ne)
+get_kept : (m : map.FinMap nat_cmp Object) (at q : ℕ) (o : Object) → (q ≡ at → ⊥)
+    → map.get (map.insert m at o) q ≡ map.get m q
+get_kept m at q o ne = map.get-insert nat_cmp_total m at o q ∙ cond-false (eq_by_cmp nat_cmp q at) (Some o)
+    (map.get m q) (untied q at ne)
 
 -- an insertion takes no object away
-has_kept : (m : map.FinMap nat_cmp Object) (at q : ℕ) (o : Object) → is_some (map.get m q) ≡ true → is_some (map.get (map.insert m at o) q) ≡ true
-has_kept m at q o is = elim (cases_eq q at) [ inl e ↦ ap is_some (get_inserted m at q o e) | inr ne ↦ ap is_some (get_kept m at q o ne) ∙ is ]
+has_kept : (m : map.FinMap nat_cmp Object) (at q : ℕ) (o : Object) → is_some (map.get m q) ≡ true
+    → is_some (map.get (map.insert m at o) q) ≡ true
+has_kept m at q o is = elim (cases_eq q at) [
+  | inl e ↦ ap is_some (get_inserted m at q o e)
+  | inr ne ↦
+      ap is_some (get_kept m at q o ne) ∙ is
+]
 
 -- after a change of the object at an offset
 module _ (r s : Contents) (at : ℕ) (o : Object) (changed : s ≡ with_object r at o) where
   pub IsObject-with_object : IsObject s at
-  IsObject-with_object = let P : Contents → Type 0 = λ x. IsObject x at in subst P (sym changed) (ap is_some (get_inserted r.objects at at o refl))
+  IsObject-with_object = let P : Contents → Type 0 = λ x. IsObject x at in
+      subst P (sym changed) (ap is_some (get_inserted r.objects at at o refl))
 
   pub IsObject-with_object_kept : (q : ℕ) → IsObject r q → IsObject s q
-  IsObject-with_object_kept q is = let P : Contents → Type 0 = λ x. IsObject x q in subst P (sym changed) (has_kept r.objects at q o is)
+  IsObject-with_object_kept q is = let P : Contents → Type 0 = λ x. IsObject x q in
+      subst P (sym changed) (has_kept r.objects at q o is)
 
   pub object_at-with_object : object_at s at ≡ o
-  object_at-with_object = ap (λ (x : Contents). object_at x at) changed ∙ ap (λ (x : Option Object). unwrap_or x no_object) (get_inserted r.objects at at o refl)
+  object_at-with_object = ap (λ (x : Contents). object_at x at) changed
+      ∙ ap (λ (x : Option Object). unwrap_or x no_object) (get_inserted r.objects at at o refl)
 
   pub object_at-with_object_kept : (q : ℕ) → (q ≡ at → ⊥) → object_at s q ≡ object_at r q
-  object_at-with_object_kept q ne = ap (λ (x : Contents). object_at x q) changed ∙ ap (λ (x : Option Object). unwrap_or x no_object) (get_kept r.objects at q o ne)
+  object_at-with_object_kept q ne = ap (λ (x : Contents). object_at x q) changed
+      ∙ ap (λ (x : Option Object). unwrap_or x no_object) (get_kept r.objects at q o ne)
 
 -- after an object was put
 module _ (r s : Contents) (o : Object) (put : s ≡ with_put r o) where
   pub IsObject-with_put : (at : ℕ) → at ≡ r.fill → IsObject s at
-  IsObject-with_put at e = let P : Contents → Type 0 = λ x. IsObject x at in subst P (sym put) (ap is_some (get_inserted r.objects r.fill at o e))
+  IsObject-with_put at e = let P : Contents → Type 0 = λ x. IsObject x at in
+      subst P (sym put) (ap is_some (get_inserted r.objects r.fill at o e))
 
   pub IsObject-with_put_kept : (q : ℕ) → IsObject r q → IsObject s q
-  IsObject-with_put_kept q is = let P : Contents → Type 0 = λ x. IsObject x q in subst P (sym put) (has_kept r.objects r.fill q o is)
+  IsObject-with_put_kept q is = let P : Contents → Type 0 = λ x. IsObject x q in
+      subst P (sym put) (has_kept r.objects r.fill q o is)
 
   pub object_at-with_put : (at : ℕ) → at ≡ r.fill → object_at s at ≡ o
-  object_at-with_put at e = ap (λ (x : Contents). object_at x at) put ∙ ap (λ (x : Option Object). unwrap_or x no_object) (get_inserted r.objects r.fill at o e)
+  object_at-with_put at e = ap (λ (x : Contents). object_at x at) put
+      ∙ ap (λ (x : Option Object). unwrap_or x no_object) (get_inserted r.objects r.fill at o e)
 
   pub object_at-with_put_kept : (q : ℕ) → (q ≡ r.fill → ⊥) → object_at s q ≡ object_at r q
-  object_at-with_put_kept q ne = ap (λ (x : Contents). object_at x q) put ∙ ap (λ (x : Option Object). unwrap_or x no_object) (get_kept r.objects r.fill q o ne)
+  object_at-with_put_kept q ne = ap (λ (x : Contents). object_at x q) put
+      ∙ ap (λ (x : Option Object). unwrap_or x no_object) (get_kept r.objects r.fill q o ne)

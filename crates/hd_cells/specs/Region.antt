@@ -3,6 +3,7 @@ use Rattle.std.specs.Prelude.{◌≢◌, ℕ, ◌+◌, ◌^◌, ◌<◌, ◌≤�
 use Rattle.std.specs.Ordering.{nat_cmp}
 use Rattle.std.specs.FinMap as map
 use Rattle.std.specs.Coded.{Coded, code_by, coded×, coded_ℕ}
+use Rattle.hd_cells.specs.declared.cells.TheConstants.{CELLS, FIELDS}
 use Rattle.hd_cells.specs.Object.{Object, object_code, no_object, size_of}
 
 -- the objects by offset, and the first cell after the last object put
@@ -36,7 +37,7 @@ fields_at r at = (object_at r at).fields
 abbrev pub with_object : Contents → ℕ → Object → Contents
 with_object r at o = record r { objects = map.insert r.objects at o }
 
--- the region with an object put behind all others
+-- the region with an object put after all others
 abbrev pub with_put : Contents → Object → Contents
 with_put r o = record { objects = map.insert r.objects r.fill o; fill = r.fill + size_of o }
 
@@ -54,12 +55,12 @@ IsFirstFrom r from answer = MatchOption answer
 -- an address, which is below 2 ^ 32
 pub record IsWellFormed (o : Object) : Type 0 where
   pub identified : o.identity ≢ 0
-  pub few_fields : length o.fields ≤ 61
+  pub few_fields : length o.fields ≤ FIELDS
   pub addresses : All (λ f. f < 2 ^ 32) o.fields
 
--- objects lie below the fill, one behind another, and the fill is at most a region's 256 cells
+-- objects lie below the fill, one after another, and the fill is at most a region's cells
 pub record IsLaidOut (r : Contents) : Type 0 where
-  pub within_region : r.fill ≤ 256
+  pub within_region : r.fill ≤ CELLS
   pub well_formed : (at : ℕ) → IsObject r at → IsWellFormed (object_at r at)
   pub below_fill : (at : ℕ) → IsObject r at → at + size_of (object_at r at) ≤ r.fill
   pub apart : (a b : ℕ) → IsObject r a → IsObject r b → a < b → a + size_of (object_at r a) ≤ b

@@ -6,6 +6,12 @@ ghost use Rattle.hd_cells.specs.Cells.{extent_at, IsReached, IsFirstIn};
 /// The cells of a region.
 pub const CELLS: usize = 256;
 
+/// The fields of an object, at most.
+pub const FIELDS: u32 = 61;
+
+/// The cells of an object beside its fields, which come after them.
+pub const HEADER: usize = 3;
+
 /// The parts of a region in each of which at most one object begins, since an object takes three
 /// cells and more.
 pub(crate) const PARTS: usize = 86;
@@ -20,9 +26,6 @@ pub(crate) const SHAPE: usize = 1;
 /// From an object's first cell to its value.
 pub(crate) const VALUE: usize = 2;
 
-/// From an object's first cell to its first field: the cells that an object takes beside its fields.
-pub const FIELDS: usize = 3;
-
 /// What is added to the number of fields where the object is registered for finalisation.
 pub(crate) const REGISTERED: u64 = 256;
 
@@ -35,22 +38,22 @@ pub(crate) fn blank() -> [u64; CELLS]
 
 /// The part of a region in which a cell lies.
 pub(crate) fn part_of(at: usize) -> usize
-    ensures { result ≡ at / 3 }
+    ensures { result ≡ at / HEADER }
 {
-    at / FIELDS
+    at / HEADER
 }
 
 /// No object begins anywhere.
 pub(crate) fn no_starts() -> [u8; PARTS]
-    ensures { (k : ℕ) → k < 86 → slice_index result k ≡ 255 }
+    ensures { (k : ℕ) → k < PARTS → slice_index result k ≡ NONE }
 {
     [NONE; PARTS]
 }
 
 /// The number of fields and the registration of an object, as one cell.
 pub(crate) fn shape(fields: u64, registered: bool) -> u64
-    requires { fields < 256 }
-    ensures { result ≡ (if registered then fields + 256 else fields) }
+    requires { fields < REGISTERED }
+    ensures { result ≡ (if registered then fields + REGISTERED else fields) }
 {
     if registered {
         fields + REGISTERED
@@ -62,21 +65,21 @@ pub(crate) fn shape(fields: u64, registered: bool) -> u64
 /// How many cells are taken by the object or gap that begins at `at`.
 #[tactic(auto, unfolding(crate::specs::Cells::extent_at))]
 pub(crate) fn extent(cells: &[u64; CELLS], at: usize) -> usize
-    requires { at + 1 < 256 }
+    requires { at + SHAPE < CELLS }
     ensures { result ≡ extent_at cells.now at }
 {
     let shape = cells[at + SHAPE];
     if cells[at] == 0 {
         shape as usize
     } else {
-        (shape % REGISTERED) as usize + FIELDS
+        (shape % REGISTERED) as usize + HEADER
     }
 }
 
 /// The offset of the first object at or after `from`. The search begins at `start`, where an object
 /// or gap begins and before which there is no such object, and goes on by whole objects and gaps.
 pub(crate) fn first_from(cells: &[u64; CELLS], fill: u32, start: usize, from: usize) -> Option<u32>
-    requires within { fill ≤ 256 }
+    requires within { fill ≤ CELLS }
     requires reached { IsReached cells.now fill from start }
     ensures { IsFirstIn cells.now from result }
 {

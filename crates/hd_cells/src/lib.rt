@@ -9,5 +9,5 @@ mod region;
 #[cfg(test)]
 mod tests;
 
-pub use cells::{CELLS, FIELDS};
+pub use cells::{CELLS, FIELDS, HEADER};
 pub use region::Region;

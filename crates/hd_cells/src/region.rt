@@ -7,8 +7,8 @@ ghost use Rattle.hd_cells.specs.Region.{fields_at, object_at, with_object, with_
 ghost use Rattle.hd_cells.specs.Region.{without_object};
 
 use crate::cells::{
-    CELLS, FIELDS, NONE, PARTS, REGISTERED, SHAPE, VALUE, blank, extent, first_from, no_starts,
-    part_of, shape,
+    CELLS, FIELDS, HEADER, NONE, PARTS, REGISTERED, SHAPE, VALUE, blank, extent, first_from,
+    no_starts, part_of, shape,
 };
 use std::marker::Model;
 
@@ -56,12 +56,12 @@ impl Region {
         self.fill
     }
 
-    /// Puts an object with null fields and value 0 behind all others, and answers its offset. It
+    /// Puts an object with null fields and value 0 after all others, and answers its offset. It
     /// takes three cells more than it has fields.
     pub fn put_object(&mut self, id: u64, fields: u32, registered: bool) -> u32
         requires identified { id ≢ 0 }
-        requires few_fields { fields ≤ 61 }
-        requires room { self.old.fill + fields + 3 ≤ 256 }
+        requires few_fields { fields ≤ FIELDS }
+        requires room { self.old.fill + fields + HEADER ≤ CELLS }
         ensures offset { result ≡ self.old.fill }
         ensures was_free { map.get self.old.objects result ≡ None }
         ensures put { self.new ≡ with_put self.old (new_object id fields registered) }
@@ -71,7 +71,7 @@ impl Region {
         self.cells[at as usize] = id;
         self.cells[at as usize + SHAPE] = shape(u64::from(fields), registered);
         self.starts[part_of(at as usize)] = at as u8;
-        self.fill = at + fields + FIELDS as u32;
+        self.fill = at + fields + HEADER as u32;
         at
     }
 
@@ -79,9 +79,10 @@ impl Region {
     pub fn is_object(&self, at: u32) -> bool
         ensures { IsTrue result ↔ IsObject self.now at }
     {
+        // Borrowed first for the proof: it brings the invariant to hand where `at` is too large.
         let starts = &self.starts;
         let at = at as usize;
-        if at > CELLS - FIELDS {
+        if at > CELLS - HEADER {
             return false;
         }
         usize::from(starts[part_of(at)]) == at
@@ -100,7 +101,7 @@ impl Region {
     pub fn fields(&self, at: u32) -> u32
         requires { IsObject self.now at }
         ensures count { result ≡ length (fields_at self.now at) }
-        ensures few { result ≤ 61 }
+        ensures few { result ≤ FIELDS }
     {
         (self.cells[at as usize + SHAPE] % REGISTERED) as u32
     }
@@ -150,7 +151,7 @@ impl Region {
         requires within { i < length (fields_at self.now at) }
         ensures { result ≡ slice_index (fields_at self.now at) i }
     {
-        self.cells[at as usize + FIELDS + i as usize] as u32
+        self.cells[at as usize + HEADER + i as usize] as u32
     }
 
     /// Writes an address, or 0 for null, into field `i` of the object at `at`. The address is not
@@ -162,7 +163,7 @@ impl Region {
             self.new ≡ with_object self.old at after }
         ensures laid_out { IsLaidOut self.new }
     {
-        let place = at as usize + FIELDS + i as usize;
+        let place = at as usize + HEADER + i as usize;
         self.cells[place] = u64::from(v);
     }
 
@@ -175,7 +176,7 @@ impl Region {
         let at = at as usize;
         let fields = self.cells[at + SHAPE] % REGISTERED;
         self.cells[at] = 0;
-        self.cells[at + SHAPE] = fields + FIELDS as u64;
+        self.cells[at + SHAPE] = fields + HEADER as u64;
         self.starts[part_of(at)] = NONE;
     }
 

@@ -11,7 +11,7 @@ use Rattle.hd_heap.specs.declared.area.Area.{Area}
 use Rattle.hd_heap.specs.Areas.{contents, card_in, BeginsIn, IsArea}
 use Rattle.hd_heap.specs.Steps.{IsTaken}
 use Rattle.hd_heap.proofs.Places.{found_first, found_later}
-use Rattle.hd_heap.proofs.Sums.{share, sum-insert, sum-remove, sum-at}
+use Rattle.hd_model.proofs.Sums.{share, sum-insert, sum-taken, sum-at}
 
 -- the object that stands at an offset
 pub some_of : {A : Type 0} (o : Option A) → is_some o ≡ true → (x : A) × (o ≡ Some x)
@@ -28,21 +28,28 @@ pub none_in_empty : (k : ℕ) → IsObject empty_region k → ⊥
 none_in_empty k is = both_ways _ (ap is_some (map.get-empty {X = Object} nat_cmp k)) is
 
 -- an object that begins in a card stays in it where no other one goes
-pub begins_kept : (r s : Contents) (card : ℕ) → ((k : ℕ) → IsObject r k → IsObject s k) → BeginsIn r card → BeginsIn s card
+pub begins_kept : (r s : Contents) (card : ℕ) → ((k : ℕ) → IsObject r k → IsObject s k) → BeginsIn r card
+    → BeginsIn s card
 begins_kept r s card keeps b = record { at = b.at; object = keeps b.at b.object; in_card = b.in_card }
 
 object_put : (r : Contents) (o : Object) (k : ℕ) → IsObject r k → IsObject (with_put r o) k
 object_put r o k is = elim (cases_eq k r.fill) [
-  | inl same ↦ ap is_some (map.get-insert nat_cmp_total r.objects r.fill o k ∙ found_first k r.fill (Some o) (map.get r.objects k) same)
-  | inr apart ↦ ap is_some (map.get-insert nat_cmp_total r.objects r.fill o k ∙ found_later k r.fill (Some o) (map.get r.objects k) apart) ∙ is
+  | inl same ↦ ap is_some (map.get-insert nat_cmp_total r.objects r.fill o k
+      ∙ found_first k r.fill (Some o) (map.get r.objects k) same)
+  | inr apart ↦ ap is_some (map.get-insert nat_cmp_total r.objects r.fill o k
+      ∙ found_later k r.fill (Some o) (map.get r.objects k) apart) ∙ is
 ]
 
 -- an object is put
-pub area_put : (a b : Area) (o : Object) → IsArea a → a.held ≡ true → map.get (contents a).objects (contents a).fill ≡ None → contents b ≡ with_put (contents a) o → IsLaidOut (contents b) → b.live ≡ a.live + size_of o → b.held ≡ a.held → b.generation ≡ a.generation → b.cards ≡ a.cards → IsArea b
+pub area_put : (a b : Area) (o : Object) → IsArea a → a.held ≡ true
+    → map.get (contents a).objects (contents a).fill ≡ None → contents b ≡ with_put (contents a) o
+    → IsLaidOut (contents b) → b.live ≡ a.live + size_of o → b.held ≡ a.held → b.generation ≡ a.generation
+    → b.cards ≡ a.cards → IsArea b
 area_put a b o is held free put laid live held_same generation cards =
     let sum = sum-insert size_of (contents a).objects (contents a).fill o in
     let none : share size_of (map.get (contents a).objects (contents a).fill) ≡ 0 = ap (share size_of) free in
-    let total : sum_by size_of (map.values (contents b).objects) ≡ sum_by size_of (map.values (map.insert (contents a).objects (contents a).fill o)) =
+    let total : sum_by size_of (map.values (contents b).objects) ≡ sum_by size_of
+    (map.values (map.insert (contents a).objects (contents a).fill o)) =
     ap (λ (r : Contents). sum_by size_of (map.values r.objects)) put in
     let old = is.live in
     let fill : (contents b).fill ≡ (contents a).fill + size_of o = ap (λ (r : Contents). r.fill) put in
@@ -53,10 +60,13 @@ area_put a b o is held free put laid live held_same generation cards =
       live = omega arith;
       within = omega arith;
       generation = omega arith;
-      eight = ap length cards ∙ is.eight;
+      card_count = ap length cards ∙ is.card_count;
       cards = λ card set.
-          let was : card_in (Some a) card ≡ true = sym (ap (λ (bs : List Bool). get_or bs card false) cards) ∙ set in
-          subst (λ (r : Contents). BeginsIn r card) (sym put) (begins_kept (contents a) (with_put (contents a) o) card (object_put (contents a) o) (is.cards card was));
+          let was : card_in (Some a) card ≡ true = sym (ap (λ (bs : List Bool). get_or bs card false) cards)
+          ∙ set in
+          subst (λ (r : Contents). BeginsIn r card) (sym put)
+          (begins_kept (contents a) (with_put (contents a) o) card (object_put (contents a) o)
+          (is.cards card was));
       spare = λ not_held. absurd (both_ways b.held not_held (held_same ∙ held));
     }
 
@@ -68,7 +78,8 @@ no_length (x ∷ es) e = absurd (omega arith)
 sum_none : sum_by size_of (map.values (map.empty {X = Object} {R = nat_cmp})) ≡ 0
 sum_none =
     let nothing : map.entries (map.empty {X = Object} {R = nat_cmp}) ≡ [] =
-    no_length _ (sym (map.len-entries (map.empty {X = Object} {R = nat_cmp})) ∙ map.len-empty nat_cmp Object) in
+    no_length _ (sym (map.len-entries (map.empty {X = Object} {R = nat_cmp}))
+    ∙ map.len-empty nat_cmp Object) in
     ap (λ (es : List (ℕ × Object)). sum_by size_of (each (λ e. e.1) es)) nothing
 
 pub absent : (r : Contents) (k : ℕ) → ¬ (IsObject r k) → map.get r.objects k ≡ None
@@ -85,55 +96,69 @@ falses (suc n) zero = refl
 falses (suc n) (suc k) = falses n k
 
 -- a region without objects and set cards
-pub area_empty : (b : Area) → contents b ≡ empty_region → IsLaidOut (contents b) → b.live ≡ 0 → b.generation ≤ 2 → length b.cards ≡ 8 → ((card : ℕ) → card_in (Some b) card ≡ false) → IsArea b
-area_empty b empty laid live few eight clear =
-    let none : sum_by size_of (map.values (contents b).objects) ≡ sum_by size_of (map.values (map.empty {X = Object} {R = nat_cmp})) = ap (λ (r : Contents). sum_by size_of (map.values r.objects)) empty in
+pub area_empty : (b : Area) → contents b ≡ empty_region → IsLaidOut (contents b) → b.live ≡ 0
+    → b.generation ≤ 2 → length b.cards ≡ 8 → ((card : ℕ) → card_in (Some b) card ≡ false) → IsArea b
+area_empty b empty laid live few card_count clear =
+    let none : sum_by size_of (map.values (contents b).objects) ≡ sum_by size_of
+    (map.values (map.empty {X = Object} {R = nat_cmp})) =
+    ap (λ (r : Contents). sum_by size_of (map.values r.objects)) empty in
     let zero_sum : sum_by size_of (map.values (map.empty {X = Object} {R = nat_cmp})) ≡ 0 = sum_none in
     record {
       laid_out = laid;
       live = omega arith;
       within = omega arith;
       generation = few;
-      eight = eight;
+      card_count = card_count;
       cards = λ card set. absurd (both_ways _ (clear card) set);
       spare = λ _. empty;
     }
 
 -- no card is set where there is no object
-pub no_cards : (a : Area) → IsArea a → ((k : ℕ) → ¬ (IsObject (contents a) k)) → (card : ℕ) → card_in (Some a) card ≡ false
+pub no_cards : (a : Area) → IsArea a → ((k : ℕ) → ¬ (IsObject (contents a) k)) → (card : ℕ)
+    → card_in (Some a) card ≡ false
 no_cards a is none card = false_from_ne_true _ (λ set. let b = is.cards card set in none b.at b.object)
 
 -- no object takes cells where none are taken
 pub none_live : (a : Area) → IsArea a → a.live ≡ 0 → (k : ℕ) → ¬ (IsObject (contents a) k)
 none_live a is zero_live k there =
-    let low = sum-at size_of (contents a).objects k (object_at (contents a) k) (object_there (contents a) k there) in
+    let low = sum-at size_of (contents a).objects k (object_at (contents a) k)
+    (object_there (contents a) k there) in
     let live = is.live in
     omega arith
 
 -- and none are taken where there is none
 pub live_none : (a : Area) → IsArea a → ((k : ℕ) → ¬ (IsObject (contents a) k)) → a.live ≡ 0
 live_none a is none =
-    let nothing : (contents a).objects ≡ map.empty = map.same_map nat_cmp_total map.nat_cmp-IsAntisymmetric _ _ (λ q. absent (contents a) q (none q) ∙ sym (map.get-empty nat_cmp q)) in
+    let nothing : (contents a).objects ≡ map.empty =
+    map.same_map nat_cmp_total map.nat_cmp-IsAntisymmetric _ _ (λ q. absent (contents a) q (none q)
+    ∙ sym (map.get-empty nat_cmp q)) in
     is.live ∙ ap (λ (m : map.FinMap nat_cmp Object). sum_by size_of (map.values m)) nothing ∙ sum_none
 
 -- an object's size is taken
-pub live_at : (a : Area) → IsArea a → (k : ℕ) → IsObject (contents a) k → size_of (object_at (contents a) k) ≤ a.live
+pub live_at : (a : Area) → IsArea a → (k : ℕ) → IsObject (contents a) k
+    → size_of (object_at (contents a) k) ≤ a.live
 live_at a is k there =
-    let low = sum-at size_of (contents a).objects k (object_at (contents a) k) (object_there (contents a) k there) in
+    let low = sum-at size_of (contents a).objects k (object_at (contents a) k)
+    (object_there (contents a) k there) in
     let live = is.live in
     omega arith
 
 object_left : (r : Contents) (at k : ℕ) → IsObject (without_object r at) k → (k ≢ at) × IsObject r k
 object_left r at k is = (
-  (λ same. both_ways _ (ap is_some (map.get-remove nat_cmp_total r.objects at k ∙ found_first k at None (map.get r.objects k) same)) is),
+  (λ same. both_ways _ (ap is_some (map.get-remove nat_cmp_total r.objects at k
+      ∙ found_first k at None (map.get r.objects k) same)) is),
   elim (cases_eq k at) [
-    | inl same ↦ absurd (both_ways _ (ap is_some (map.get-remove nat_cmp_total r.objects at k ∙ found_first k at None (map.get r.objects k) same)) is)
-    | inr apart ↦ sym (ap is_some (map.get-remove nat_cmp_total r.objects at k ∙ found_later k at None (map.get r.objects k) apart)) ∙ is
+    | inl same ↦ absurd (both_ways _
+        (ap is_some (map.get-remove nat_cmp_total r.objects at k
+        ∙ found_first k at None (map.get r.objects k) same)) is)
+    | inr apart ↦ sym (ap is_some (map.get-remove nat_cmp_total r.objects at k
+        ∙ found_later k at None (map.get r.objects k) apart)) ∙ is
   ],
 )
 
 object_stays : (r : Contents) (at k : ℕ) → (k ≢ at) → IsObject r k → IsObject (without_object r at) k
-object_stays r at k apart is = ap is_some (map.get-remove nat_cmp_total r.objects at k ∙ found_later k at None (map.get r.objects k) apart) ∙ is
+object_stays r at k apart is = ap is_some (map.get-remove nat_cmp_total r.objects at k
+    ∙ found_later k at None (map.get r.objects k) apart) ∙ is
 
 -- an object is taken, and what its card says afterwards is known
 pub record IsRest (a b : Area) (at cells : ℕ) : Type 0 where
@@ -145,18 +170,21 @@ pub record IsRest (a b : Area) (at cells : ℕ) : Type 0 where
   pub held : b.held ≡ a.held
   pub generation : b.generation ≤ 2
   pub same : b.generation ≡ a.generation
-  pub eight : length b.cards ≡ 8
+  pub card_count : length b.cards ≡ 8
   pub others : (c : ℕ) → c ≢ at / 32 → card_in (Some b) c ≡ card_in (Some a) c
   pub begins : card_in (Some b) (at / 32) ≡ true → BeginsIn (contents b) (at / 32)
   pub kept : BeginsIn (contents b) (at / 32) → card_in (Some b) (at / 32) ≡ card_in (Some a) (at / 32)
 
-pub area_taken : (a b : Area) (at cells : ℕ) → IsArea a → IsRest a b at cells → IsArea b × IsTaken a b at cells
+pub area_taken : (a b : Area) (at cells : ℕ) → IsArea a → IsRest a b at cells → IsArea b
+    × IsTaken a b at cells
 area_taken a b at cells is t =
     let there = t.there in
     let sizes = t.size in
-    let size = sum-remove size_of (contents a).objects at (object_at (contents a) at) (object_there (contents a) at there) in
+    let size = sum-taken size_of (contents a).objects at (object_at (contents a) at)
+    (object_there (contents a) at there) in
     let taken = live_at a is at there in
-    let total : sum_by size_of (map.values (contents b).objects) ≡ sum_by size_of (map.values (map.remove (contents a).objects at)) =
+    let total : sum_by size_of (map.values (contents b).objects) ≡ sum_by size_of
+    (map.values (map.remove (contents a).objects at)) =
     ap (λ (r : Contents). sum_by size_of (map.values r.objects)) t.removed in
     let live = t.live in
     let old = is.live in
@@ -167,18 +195,21 @@ area_taken a b at cells is t =
         live = omega arith;
         within = omega arith;
         generation = t.generation;
-        eight = t.eight;
+        card_count = t.card_count;
         cards = λ card set. elim (cases_eq card (at / 32)) [
-          | inl same ↦ subst (λ (c : ℕ). BeginsIn (contents b) c) (sym same) (t.begins (subst (λ (c : ℕ). card_in (Some b) c ≡ true) same set))
+          | inl same ↦ subst (λ (c : ℕ). BeginsIn (contents b) c) (sym same)
+              (t.begins (subst (λ (c : ℕ). card_in (Some b) c ≡ true) same set))
           | inr apart ↦
               let was = is.cards card (sym (t.others card apart) ∙ set) in
               subst (λ (r : Contents). BeginsIn r card) (sym t.removed) record {
                 at = was.at;
-                object = object_stays (contents a) at was.at (λ e. apart (sym was.in_card ∙ ap (λ (n : ℕ). n / 32) e)) was.object;
+                object = object_stays (contents a) at was.at
+                    (λ e. apart (sym was.in_card ∙ ap (λ (n : ℕ). n / 32) e)) was.object;
                 in_card = was.in_card;
               }
         ];
-        spare = λ not_held. absurd (let none = is.spare (sym t.held ∙ not_held) in none_in_empty at (subst (λ (r : Contents). IsObject r at) none there));
+        spare = λ not_held. absurd (let none = is.spare (sym t.held ∙ not_held) in
+            none_in_empty at (subst (λ (r : Contents). IsObject r at) none there));
       },
       record {
         removed = t.removed;

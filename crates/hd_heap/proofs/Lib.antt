@@ -1,5 +1,4 @@
 pub mod Places
-pub mod Sums
 pub mod Areas
 pub mod Wanted
 pub mod Reading

@@ -23,19 +23,24 @@ found_first q i x o same = ap (λ b. cond b x o) (tied q i same)
 pub found_later : {A : Type 0} (q i : ℕ) (x o : Option A) → (q ≡ i → ⊥) → cond (eq_by_cmp nat_cmp q i) x o ≡ o
 found_later q i x o apart = ap (λ b. cond b x o) (untied q i apart)
 
-find-numbered_below : {A : Type 0} (i q : ℕ) (xs : List (Option A)) → q < i → find nat_cmp q (numbered i xs) ≡ None
+find-numbered_below : {A : Type 0} (i q : ℕ) (xs : List (Option A)) → q < i
+    → find nat_cmp q (numbered i xs) ≡ None
 find-numbered_below i q [] below = refl
 find-numbered_below i q (None ∷ xs) below = find-numbered_below (i + 1) q xs (omega arith)
 find-numbered_below i q (Some x ∷ xs) below =
-    found_later q i (Some x) (find nat_cmp q (numbered (i + 1) xs)) (λ same. omega arith) ∙ find-numbered_below (i + 1) q xs (omega arith)
+    found_later q i (Some x) (find nat_cmp q (numbered (i + 1) xs)) (λ same. omega arith)
+    ∙ find-numbered_below (i + 1) q xs (omega arith)
 
-find-numbered : {A : Type 0} (i j q : ℕ) (xs : List (Option A)) → q ≡ i + j → find nat_cmp q (numbered i xs) ≡ get_or xs j None
+find-numbered : {A : Type 0} (i j q : ℕ) (xs : List (Option A)) → q ≡ i + j
+    → find nat_cmp q (numbered i xs) ≡ get_or xs j None
 find-numbered i j q [] at = refl
 find-numbered i zero q (None ∷ xs) at = find-numbered_below (i + 1) q xs (omega arith)
 find-numbered i (suc j) q (None ∷ xs) at = find-numbered (i + 1) j q xs (omega arith)
-find-numbered i zero q (Some x ∷ xs) at = found_first q i (Some x) (find nat_cmp q (numbered (i + 1) xs)) (omega arith)
+find-numbered i zero q (Some x ∷ xs) at = found_first q i (Some x) (find nat_cmp q (numbered (i + 1) xs))
+    (omega arith)
 find-numbered i (suc j) q (Some x ∷ xs) at =
-    found_later q i (Some x) (find nat_cmp q (numbered (i + 1) xs)) (λ same. omega arith) ∙ find-numbered (i + 1) j q xs (omega arith)
+    found_later q i (Some x) (find nat_cmp q (numbered (i + 1) xs)) (λ same. omega arith)
+    ∙ find-numbered (i + 1) j q xs (omega arith)
 
 -- a read by place
 pub get-by_place : {A : Type 0} (xs : List (Option A)) (k : ℕ) → get (by_place xs) k ≡ get_or xs k None
@@ -45,19 +50,24 @@ any-flagged_below : (i q : ℕ) (bs : List Bool) → q < i → list_any (eq_by_c
 any-flagged_below i q [] below = refl
 any-flagged_below i q (false ∷ bs) below = any-flagged_below (i + 1) q bs (omega arith)
 any-flagged_below i q (true ∷ bs) below =
-    ap (λ b. b || list_any (eq_by_cmp nat_cmp q) (flagged (i + 1) bs)) (untied q i (λ same. omega arith)) ∙ any-flagged_below (i + 1) q bs (omega arith)
+    ap (λ b. b || list_any (eq_by_cmp nat_cmp q) (flagged (i + 1) bs)) (untied q i (λ same. omega arith))
+    ∙ any-flagged_below (i + 1) q bs (omega arith)
 
-any-flagged : (i j q : ℕ) (bs : List Bool) → q ≡ i + j → list_any (eq_by_cmp nat_cmp q) (flagged i bs) ≡ get_or bs j false
+any-flagged : (i j q : ℕ) (bs : List Bool) → q ≡ i + j → list_any (eq_by_cmp nat_cmp q) (flagged i bs)
+    ≡ get_or bs j false
 any-flagged i j q [] at = refl
 any-flagged i zero q (false ∷ bs) at = any-flagged_below (i + 1) q bs (omega arith)
 any-flagged i (suc j) q (false ∷ bs) at = any-flagged (i + 1) j q bs (omega arith)
-any-flagged i zero q (true ∷ bs) at = ap (λ b. b || list_any (eq_by_cmp nat_cmp q) (flagged (i + 1) bs)) (tied q i (omega arith))
+any-flagged i zero q (true ∷ bs) at = ap (λ b. b || list_any (eq_by_cmp nat_cmp q) (flagged (i + 1) bs))
+    (tied q i (omega arith))
 any-flagged i (suc j) q (true ∷ bs) at =
-    ap (λ b. b || list_any (eq_by_cmp nat_cmp q) (flagged (i + 1) bs)) (untied q i (λ same. omega arith)) ∙ any-flagged (i + 1) j q bs (omega arith)
+    ap (λ b. b || list_any (eq_by_cmp nat_cmp q) (flagged (i + 1) bs)) (untied q i (λ same. omega arith))
+    ∙ any-flagged (i + 1) j q bs (omega arith)
 
 -- a place is in the set where what stands there is true
 pub contains-places_of : (bs : List Bool) (q : ℕ) → set.contains (places_of bs) q ≡ get_or bs q false
-contains-places_of bs q = set.contains-from_list nat_cmp_total (flagged 0 bs) q ∙ any-flagged 0 q q bs (omega arith)
+contains-places_of bs q = set.contains-from_list nat_cmp_total (flagged 0 bs) q
+    ∙ any-flagged 0 q q bs (omega arith)
 
 length-table : {A : Type 0} (n : ℕ) (f : ℕ → A) → length (table n f) ≡ n
 unfolding table
@@ -71,7 +81,9 @@ get_or-table (suc n) f zero d below = refl
 get_or-table (suc n) f (suc k) d below = get_or-table n (λ j. f (suc j)) k d (omega arith)
 
 -- a read of the tables of a list: the item's table has it, or there is no such item
-get_or-tables_at : {A B : Type 0} (n : ℕ) (f : Option A → ℕ → B) (d : B) → ((k : ℕ) → f None k ≡ d) → (os : List (Option A)) (i j q : ℕ) → q ≡ i * n + j → j < n → get_or (tables n f os) q d ≡ f (get_or os i None) j
+get_or-tables_at : {A B : Type 0} (n : ℕ) (f : Option A → ℕ → B) (d : B) → ((k : ℕ) → f None k ≡ d)
+    → (os : List (Option A)) (i j q : ℕ) → q ≡ i * n + j → j < n → get_or (tables n f os) q d ≡ f
+    (get_or os i None) j
 unfolding tables
 get_or-tables_at n f d none [] i j q at below = sym (none j)
 get_or-tables_at n f d none (o ∷ os) zero j q at below =
@@ -89,8 +101,11 @@ get_or-tables_at n f d none (o ∷ os) (suc i) j q at below =
     let is : q ≡ length (table n (f o)) + (i * n + j) = omega arith in
     let less : length (table n (f o)) + (i * n + j) - n ≡ i * n + j = omega arith in
     ap (λ k. get_or (table n (f o) ++ tables n f os) k d) is
-    ∙ get_or-append_right (table n (f o)) (tables n f os) n (length (table n (f o)) + (i * n + j)) d short (omega arith)
+    ∙ get_or-append_right (table n (f o)) (tables n f os) n (length (table n (f o)) + (i * n + j)) d short
+    (omega arith)
     ∙ ap (λ k. get_or (tables n f os) k d) less ∙ rest
 
-pub get_or-tables : {A B : Type 0} (n : ℕ) (f : Option A → ℕ → B) (d : B) → ((k : ℕ) → f None k ≡ d) → (os : List (Option A)) (q i j : ℕ) → q ≡ i * n + j → j < n → get_or (tables n f os) q d ≡ f (get_or os i None) j
+pub get_or-tables : {A B : Type 0} (n : ℕ) (f : Option A → ℕ → B) (d : B) → ((k : ℕ) → f None k ≡ d)
+    → (os : List (Option A)) (q i j : ℕ) → q ≡ i * n + j → j < n → get_or (tables n f os) q d ≡ f
+    (get_or os i None) j
 get_or-tables n f d none os q i j at below = get_or-tables_at n f d none os i j q at below

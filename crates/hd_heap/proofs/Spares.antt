@@ -19,16 +19,24 @@ take_more : (xs : List ℕ) (n y : ℕ) → n ≤ length xs → take n (xs ++ y 
 take_more xs n y low = take-append-le n xs (y ∷ []) low
 
 pub same_length : (h : Heap) (count : ℕ) → IsLonger h h count
-same_length h count = record { same = refl; kept = take_whole h.spare; more = omega arith; most = omega arith }
+same_length h count = record {
+  same = refl;
+  kept = take_whole h.spare;
+  more = omega arith;
+  most = omega arith;
+}
 
-pub one_longer : (old now new : Heap) (count n : ℕ) → IsLonger old now count → length now.spare < count → new ≡ record now { spare = now.spare ++ n ∷ [] } → IsLonger old new count
+pub one_longer : (old now new : Heap) (count n : ℕ) → IsLonger old now count → length now.spare < count
+    → new ≡ record now { spare = now.spare ++ n ∷ [] } → IsLonger old new count
 one_longer old now new count n is below added =
     let spares : new.spare ≡ now.spare ++ n ∷ [] = ap (λ (h : Heap). h.spare) added in
-    let lengths : length new.spare ≡ length now.spare + 1 = ap length spares ∙ length-append now.spare (n ∷ []) in
+    let lengths : length new.spare ≡ length now.spare + 1 = ap length spares
+    ∙ length-append now.spare (n ∷ []) in
     let more = is.more in
     let most = is.most in
     record {
-      same = added ∙ ap (λ (h : Heap). record h { spare = now.spare ++ n ∷ [] }) is.same ∙ ap (λ ns. record old { spare = ns }) (sym spares);
+      same = added ∙ ap (λ (h : Heap). record h { spare = now.spare ++ n ∷ [] }) is.same
+          ∙ ap (λ ns. record old { spare = ns }) (sym spares);
       kept = ap (take (length old.spare)) spares ∙ take_more now.spare (length old.spare) n is.more ∙ is.kept;
       more = omega arith;
       most = omega arith;

@@ -26,9 +26,11 @@ first_of_two : (b c : Bool) → (b && c) ≡ true → b ≡ true
 first_of_two true c e = refl
 first_of_two false c e = absurd (cc e)
 
-module _ (areas : List Area) (spare : List ℕ) (limit : ℕ) (h : Heap) (view : heap_of areas spare limit ≡ h) (capacity cells objects holds : ℕ) (kept : IsKept areas spare capacity cells objects holds) where
+module _ (areas : List Area) (spare : List ℕ) (limit : ℕ) (h : Heap) (view : heap_of areas spare limit ≡ h)
+    (capacity cells objects holds : ℕ) (kept : IsKept areas spare capacity cells objects holds) where
   -- what is wanted of the heap is wanted of its region
-  pub wanted_in : (w : Wanted) (at : Addr) (a : Area) → area_at areas (at.0 / 256) ≡ Some a → is_wanted h w at ≡ wants w a (at.0 % 256)
+  pub wanted_in : (w : Wanted) (at : Addr) (a : Area) → area_at areas (at.0 / 256) ≡ Some a
+      → is_wanted h w at ≡ wants w a (at.0 % 256)
   unfolding card_of
   wanted_in Any at a here = has_there areas spare limit h view at a here
   wanted_in (Carded n) at a here = by_object (fin.contains_key (contents a).objects (at.0 % 256)) refl
@@ -36,11 +38,15 @@ module _ (areas : List Area) (spare : List ℕ) (limit : ℕ) (h : Heap) (view :
       has : has_object h at ≡ fin.contains_key (contents a).objects (at.0 % 256)
       has = has_there areas spare limit h view at a here
 
-      by_object : (b : Bool) → fin.contains_key (contents a).objects (at.0 % 256) ≡ b → is_wanted h (Carded n) at ≡ wants (Carded n) a (at.0 % 256)
+      by_object : (b : Bool) → fin.contains_key (contents a).objects (at.0 % 256) ≡ b
+          → is_wanted h (Carded n) at ≡ wants (Carded n) a (at.0 % 256)
       by_object true there =
-          let generation = generation_here areas spare limit h view capacity cells objects holds kept at (has ∙ there) a here in
+          let generation = generation_here areas spare limit h view capacity cells objects holds kept at
+          (has ∙ there) a here in
           let card : is_set h (at.0 / 32) ≡ card_in (Some a) ((at.0 % 256) / 32) =
-          set_at areas spare limit h view (at.0 / 32) ∙ ap (λ k. card_in (area_at areas k) ((at.0 / 32) % 8)) (omega arith) ∙ ap (λ o. card_in o ((at.0 / 32) % 8)) here ∙ ap (card_in (Some a)) (omega arith) in
+          set_at areas spare limit h view (at.0 / 32) ∙ ap (λ k. card_in (area_at areas k) ((at.0 / 32) % 8))
+          (omega arith) ∙ ap (λ o. card_in o ((at.0 / 32) % 8)) here
+          ∙ ap (card_in (Some a)) (omega arith) in
           λ i. has i && nat_lt n (generation i) && card i
       by_object false none =
           ap (λ b. b && nat_lt n (generation_at (object_at h) at) && is_carded h at) (has ∙ none)
@@ -50,12 +56,15 @@ module _ (areas : List Area) (spare : List ℕ) (limit : ℕ) (h : Heap) (view :
       has : has_object h at ≡ fin.contains_key (contents a).objects (at.0 % 256)
       has = has_there areas spare limit h view at a here
 
-      by_object : (b : Bool) → fin.contains_key (contents a).objects (at.0 % 256) ≡ b → is_wanted h (Condemned n) at ≡ wants (Condemned n) a (at.0 % 256)
+      by_object : (b : Bool) → fin.contains_key (contents a).objects (at.0 % 256) ≡ b
+          → is_wanted h (Condemned n) at ≡ wants (Condemned n) a (at.0 % 256)
       by_object true there =
-          let generation = generation_here areas spare limit h view capacity cells objects holds kept at (has ∙ there) a here in
+          let generation = generation_here areas spare limit h view capacity cells objects holds kept at
+          (has ∙ there) a here in
           λ i. has i && nat_le (generation i) n
       by_object false none =
-          ap (λ b. b && nat_le (generation_at (object_at h) at) n) (has ∙ none) ∙ sym (ap (λ b. b && nat_le a.generation n) none)
+          ap (λ b. b && nat_le (generation_at (object_at h) at) n) (has ∙ none)
+          ∙ sym (ap (λ b. b && nat_le a.generation n) none)
 
   -- what is wanted stands in some region
   pub wanted_has : (w : Wanted) (at : Addr) → is_wanted h w at ≡ true → has_object h at ≡ true
@@ -63,7 +72,8 @@ module _ (areas : List Area) (spare : List ℕ) (limit : ℕ) (h : Heap) (view :
   wanted_has (Carded n) at is = first_of _ _ _ is
   wanted_has (Condemned n) at is = first_of_two _ _ is
 
-  pub wanted_place : (w : Wanted) (at : Addr) → is_wanted h w at ≡ true → (k : ℕ) × (at.0 / 256 ≡ suc k) × (k < length areas)
+  pub wanted_place : (w : Wanted) (at : Addr) → is_wanted h w at ≡ true → (k : ℕ) × (at.0 / 256 ≡ suc k)
+      × (k < length areas)
   wanted_place w at is =
       let f = found areas spare limit h view at (wanted_has w at is) in
       let i = f.is_at in
@@ -76,10 +86,14 @@ module _ (areas : List Area) (spare : List ℕ) (limit : ℕ) (h : Heap) (view :
   pub wants_low : (w : Wanted) (a : Area) (off : ℕ) → IsArea a → wants w a off ≡ true → off < 256
   wants_low w a off is want = elim (cases_lt off 256) [
     | inl low ↦ low
-    | inr high ↦ absurd (both_ways _ (unwanted w a off (λ there. let fits = is.laid_out.below_fill off there in let within = is.laid_out.within_region in omega arith)) want)
+    | inr high ↦ absurd (both_ways _
+        (unwanted w a off (λ there. let fits = is.laid_out.below_fill off there in let within =
+        is.laid_out.within_region in omega arith)) want)
   ]
 
-  pub given : (w : Wanted) (r k from off : ℕ) (a : Area) (x : Addr) → r ≡ suc k → k < length areas → a ≡ get_or areas k a → IsFirstAt (wants w a) from (Some off) → x.0 ≡ r * 256 + off → (is_wanted h w x ≡ true) × ((b : Addr) → is_wanted h w b ≡ true → r * 256 + from ≤ b.0 → x.0 ≤ b.0)
+  pub given : (w : Wanted) (r k from off : ℕ) (a : Area) (x : Addr) → r ≡ suc k → k < length areas
+      → a ≡ get_or areas k a → IsFirstAt (wants w a) from (Some off) → x.0 ≡ r * 256 + off
+      → (is_wanted h w x ≡ true) × ((b : Addr) → is_wanted h w b ≡ true → r * 256 + from ≤ b.0 → x.0 ≤ b.0)
   given w r k from off a x number within read first is =
       let here = area_read areas r k a number within read in
       let area = kept.each r a here in
@@ -90,9 +104,11 @@ module _ (areas : List Area) (spare : List ℕ) (limit : ℕ) (h : Heap) (view :
         wanted_in w x a (ap (area_at areas) in_region ∙ here) ∙ ap (wants w a) offset ∙ first.0,
         λ b want after. elim (cases_eq (b.0 / 256) r) [
           | inl same ↦
-              let want_here : wants w a (b.0 % 256) ≡ true = sym (wanted_in w b a (ap (area_at areas) same ∙ here)) ∙ want in
+              let want_here : wants w a (b.0 % 256) ≡ true =
+              sym (wanted_in w b a (ap (area_at areas) same ∙ here)) ∙ want in
               elim (cases_lt (b.0 % 256) off) [
-                | inl before ↦ absurd (both_ways _ (first.2 (b.0 % 256) (omega (arith, same, after)) before) want_here)
+                | inl before ↦ absurd (both_ways _ (first.2 (b.0 % 256) (omega (arith, same, after)) before)
+                    want_here)
                 | inr past ↦ omega (arith, same, is, past)
               ]
           | inr other ↦ (let up = first.1 in omega (arith, other, after, is, low))
@@ -100,10 +116,13 @@ module _ (areas : List Area) (spare : List ℕ) (limit : ℕ) (h : Heap) (view :
       )
 
   -- a region that gives nothing has nothing
-  pub given_none : (w : Wanted) (r k from : ℕ) (a : Area) → r ≡ suc k → k < length areas → a ≡ get_or areas k a → IsFirstAt (wants w a) from None → (b : Addr) → is_wanted h w b ≡ true → r * 256 + from ≤ b.0 → b.0 / 256 ≢ r
+  pub given_none : (w : Wanted) (r k from : ℕ) (a : Area) → r ≡ suc k → k < length areas
+      → a ≡ get_or areas k a → IsFirstAt (wants w a) from None → (b : Addr) → is_wanted h w b ≡ true
+      → r * 256 + from ≤ b.0 → b.0 / 256 ≢ r
   given_none w r k from a number within read none b want after same =
       let here = area_read areas r k a number within read in
-      both_ways _ (none (b.0 % 256) (omega (arith, same, after))) (sym (wanted_in w b a (ap (area_at areas) same ∙ here)) ∙ want)
+      both_ways _ (none (b.0 % 256) (omega (arith, same, after)))
+      (sym (wanted_in w b a (ap (area_at areas) same ∙ here)) ∙ want)
 
 -- what a test of the order says
 after_is : (m n : ℕ) → nat_lt m n ≡ true → m + 1 ≤ n
@@ -112,27 +131,35 @@ after_is m n e = elim (cases_lt m n) [
   | inr past ↦ absurd (both_ways _ (le-ltb m n past) e)
 ]
 
--- one step of a walk from the least address behind a place
-pub walk_from : (p : Addr → Bool) (answer : Option Addr) → IsLeastFrom p 256 answer → ((b : Addr) → p b ≡ true → 256 ≤ b.0) → IsWalk p None answer
+-- one step of a walk from the least address after a place
+pub walk_from : (p : Addr → Bool) (answer : Option Addr) → IsLeastFrom p 256 answer
+    → ((b : Addr) → p b ≡ true → 256 ≤ b.0) → IsWalk p None answer
 walk_from p None none low = λ a want. absurd (let up = none a want in let high = low a want in omega arith)
-walk_from p (Some x) least low = record { member = least.0; behind = refl; least = λ b want after. least.2 b want (low b want) }
+walk_from p (Some x) least low = record {
+  member = least.0;
+  beyond = refl;
+  least = λ b want after. least.2 b want (low b want);
+}
 
-pub walk_within : (p : Addr → Bool) (at x : Addr) (high : ℕ) → IsLeastBetween p (at.0 + 1) high (Some x) → IsWalk p (Some at) (Some x)
+pub walk_within : (p : Addr → Bool) (at x : Addr) (high : ℕ) → IsLeastBetween p (at.0 + 1) high (Some x)
+    → IsWalk p (Some at) (Some x)
 walk_within p at x high least = record {
   member = least.0;
-  behind = lt-ltb at.0 x.0 (let up = least.1 in omega arith);
+  beyond = lt-ltb at.0 x.0 (let up = least.1 in omega arith);
   least = λ b want after. least.2 b want (after_is at.0 b.0 after);
 }
 
-pub walk_beyond : (p : Addr → Bool) (at : Addr) (high : ℕ) (answer : Option Addr) → IsLeastBetween p (at.0 + 1) high None → at.0 + 1 ≤ high → IsLeastFrom p high answer → IsWalk p (Some at) answer
-walk_beyond p at high None none past beyond = λ a want. false_from_ne_true _ (λ after.
+pub walk_beyond : (p : Addr → Bool) (at : Addr) (high : ℕ) (answer : Option Addr)
+    → IsLeastBetween p (at.0 + 1) high None → at.0 + 1 ≤ high → IsLeastFrom p high answer
+    → IsWalk p (Some at) answer
+walk_beyond p at high None none past further = λ a want. false_from_ne_true _ (λ after.
     let up = none a want (after_is at.0 a.0 after) in
-    let down = beyond a want in
+    let down = further a want in
     omega arith)
-walk_beyond p at high (Some x) none past beyond = record {
-  member = beyond.0;
-  behind = lt-ltb at.0 x.0 (let up = beyond.1 in omega arith);
-  least = λ b want after. beyond.2 b want (none b want (after_is at.0 b.0 after));
+walk_beyond p at high (Some x) none past further = record {
+  member = further.0;
+  beyond = lt-ltb at.0 x.0 (let up = further.1 in omega arith);
+  least = λ b want after. further.2 b want (none b want (after_is at.0 b.0 after));
 }
 
 -- what is wanted has an address in a region

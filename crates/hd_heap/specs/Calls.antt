@@ -2,6 +2,7 @@
 use Rattle.std.specs.Prelude.{◌≡◌, ◌≢◌, ℕ, ◌+◌, ◌*◌, ◌<◌, ◌≤◌, ◌&&◌, Bool, true, false, if◌then◌else◌, [], drop, replicate, slice_set, nat_lt, nat_le, Option, Some, None, MatchOption}
 use Rattle.std.specs.FinMap as map
 use Rattle.std.specs.FinSet as set
+use Rattle.hd_model.specs.declared.limits.TheConstants.{REGION}
 use Rattle.hd_model.specs.declared.data.Id.{Id}
 use Rattle.hd_model.specs.declared.data.Addr.{Addr}
 use Rattle.hd_model.specs.Scene.{generation_at}
@@ -11,35 +12,56 @@ use Rattle.hd_heap.specs.declared.fault.NewFault.TheVariants.{Full, Memory}
 
 -- a heap without objects, and with no region held or spare
 abbrev pub empty_heap : ℕ → Heap
-empty_heap limit = record { objects = map.empty; regions = map.empty; spare = []; limit = limit; cards = set.empty }
+empty_heap limit = record {
+  objects = map.empty;
+  regions = map.empty;
+  spare = [];
+  limit = limit;
+  cards = set.empty;
+}
 
 -- an object as it begins: its fields are null and its value is 0
 abbrev pub new_object : Id → ℕ → Bool → Placed
-new_object id count registered = record { id = id; fields = replicate count None; value = 0; registered = registered }
+new_object id count registered = record {
+  id = id;
+  fields = replicate count None;
+  value = 0;
+  registered = registered;
+}
 
 -- the heap with another object at an address
 abbrev pub with_object : Heap → Addr → Placed → Heap
 with_object h a o = record h { objects = map.insert h.objects a.0 o }
 
--- the objects and fills of a heap with an object put behind all others of a region
+-- the objects and fills of a heap with an object put after all others of a region
 abbrev pub with_put : Heap → ℕ → ℕ → Placed → Heap
 with_put h r generation o = record h {
-  objects = map.insert h.objects (r * 256 + (region_at h r).fill) o;
-  regions = map.insert h.regions r (record { generation = generation; fill = (region_at h r).fill + cells_of o });
+  objects = map.insert h.objects (r * REGION + (region_at h r).fill) o;
+  regions = map.insert h.regions r
+      (record { generation = generation; fill = (region_at h r).fill + cells_of o });
 }
 
--- one object more, in a region of generation 0, which was held or is the first spare one; with none spare, memory is taken for one
+-- one object more, in a region of generation 0, which was held or is the first spare one; with none spare,
+-- memory is taken for one
 pub record IsMade (old new : Heap) (at : Addr) (o : Placed) : Type 0 where
   pub fits : used_of old + cells_of o ≤ old.limit
-  pub place : at.0 ≡ region_of at * 256 + (region_at old (region_of at)).fill
+  pub place : at.0 ≡ region_of at * REGION + (region_at old (region_of at)).fill
   pub was_free : has_object old at ≡ false
   pub young : region_generation old (region_of at) ≡ 0
-  pub made : new ≡ record (with_put old (region_of at) 0 o) { spare = if is_held old (region_of at) then old.spare else drop 1 old.spare }
+  pub made : new ≡ record (with_put old (region_of at) 0 o) {
+    spare = if is_held old (region_of at) then old.spare else drop 1 old.spare;
+  }
 
 -- nothing is changed; the heap is full just where the limit does not allow so many cells more
 abbrev pub IsRefused : Heap → Heap → ℕ → NewFault → Type 0
-IsRefused old new cells (Full used size) = (new ≡ old) × (used ≡ used_of old) × (size ≡ cells) × (old.limit < used_of old + cells)
+IsRefused old new cells (Full used size) = (new ≡ old) × (used ≡ used_of old) × (size ≡ cells)
+    × (old.limit < used_of old + cells)
 IsRefused old new cells Memory = (new ≡ old) × (used_of old + cells ≤ old.limit)
+
+-- memory is asked for only where no region is spare
+abbrev pub LacksSpare : Heap → NewFault → Type 0
+LacksSpare h (Full used size) = Unit {0}
+LacksSpare h Memory = h.spare ≡ []
 
 -- the object with another reference in field i
 abbrev pub with_field : Placed → ℕ → Option Addr → Placed
@@ -50,7 +72,8 @@ abbrev pub is_younger : Heap → Addr → Option Addr → Bool
 is_younger h at None = false
 is_younger h at (Some v) = nat_lt (generation_at (object_at h) v) (generation_at (object_at h) at)
 
--- the write barrier: a field is written, and the card of its object is set where it now names a younger object (as CoreCLR's)
+-- the write barrier: a field is written, and the card of its object is set where it now names a younger
+-- object (as CoreCLR's)
 abbrev pub stored : Heap → Addr → ℕ → Option Addr → Heap
 stored h at i v = record (with_object h at (with_field (placed_at h at) i v)) {
   cards = if is_younger h at v then set.insert h.cards (card_of at) else h.cards;
@@ -60,20 +83,21 @@ stored h at i v = record (with_object h at (with_field (placed_at h at) i v)) {
 abbrev pub with_card : Heap → ℕ → Bool → Heap
 with_card h card on = record h { cards = if on then set.insert h.cards card else set.remove h.cards card }
 
--- an address behind this place; each is behind none
+-- an address after this place; each is after none
 abbrev pub is_after : Option Addr → Addr → Bool
 is_after None a = true
 is_after (Some b) a = nat_lt b.0 a.0
 
--- the least address behind a place of which p holds
+-- the least address after a place of which p holds
 pub record IsNext (p : Addr → Bool) (after : Option Addr) (a : Addr) : Type 0 where
   pub member : p a ≡ true
-  pub behind : is_after after a ≡ true
+  pub beyond : is_after after a ≡ true
   pub least : (b : Addr) → p b ≡ true → is_after after b ≡ true → a.0 ≤ b.0
 
 -- one step of a walk: that address, or None where there is none
 abbrev pub IsWalk : (Addr → Bool) → Option Addr → Option Addr → Type 0
-IsWalk p after answer = MatchOption answer ((a : Addr) → p a ≡ true → is_after after a ≡ false) (λ a. IsNext p after a)
+IsWalk p after answer = MatchOption answer ((a : Addr) → p a ≡ true → is_after after a ≡ false)
+    (λ a. IsNext p after a)
 
 -- an object of a generation above n that starts in a set card
 abbrev pub is_old_carded : Heap → ℕ → Addr → Bool
@@ -85,9 +109,12 @@ is_condemned h n a = has_object h a && nat_le (generation_at (object_at h) a) n
 
 -- a spare region is held, without objects
 abbrev pub with_fresh : Heap → ℕ → ℕ → Heap
-with_fresh h r generation = record h { regions = map.insert h.regions r (record { generation = generation; fill = 0 }); spare = drop 1 h.spare }
+with_fresh h r generation = record h {
+  regions = map.insert h.regions r (record { generation = generation; fill = 0 });
+  spare = drop 1 h.spare;
+}
 
--- an object stands a second time, behind all others of a region
+-- an object stands a second time, after all others of a region
 abbrev pub with_copy : Heap → Addr → ℕ → Heap
 with_copy h from r = with_put h r (region_generation h r) (placed_at h from)
 
@@ -95,9 +122,12 @@ with_copy h from r = with_put h r (region_generation h r) (placed_at h from)
 pub record IsRemoved (old new : Heap) (at : Addr) : Type 0 where
   pub removed : new ≡ record old { objects = map.remove old.objects at.0; cards = new.cards }
   pub others : (c : ℕ) → c ≢ card_of at → is_set new c ≡ is_set old c
-  pub shared : (b : Addr) → has_object new b ≡ true → card_of b ≡ card_of at → is_carded new at ≡ is_carded old at
+  pub shared : (b : Addr) → has_object new b ≡ true → card_of b ≡ card_of at
+      → is_carded new at ≡ is_carded old at
   pub last : ((b : Addr) → has_object new b ≡ true → card_of b ≢ card_of at) → is_carded new at ≡ false
 
 -- the heap with another generation of a region
 abbrev pub with_generation : Heap → ℕ → ℕ → Heap
-with_generation h r generation = record h { regions = map.insert h.regions r (record { generation = generation; fill = (region_at h r).fill }) }
+with_generation h r generation = record h {
+  regions = map.insert h.regions r (record { generation = generation; fill = (region_at h r).fill });
+}

@@ -1,6 +1,7 @@
 -- What is always true of the fields of a heap.
-use Rattle.std.specs.Prelude.{◌≡◌, ◌≢◌, ℕ, ◌+◌, ◌^◌, ◌<◌, ◌≤◌, List, length, sum_by, slice_index, Some, None}
+use Rattle.std.specs.Prelude.{◌≡◌, ◌≢◌, ℕ, ◌+◌, ◌<◌, ◌≤◌, List, length, sum_by, slice_index, Some, None}
 use Rattle.std.specs.FinMap.{len, values}
+use Rattle.hd_model.specs.declared.limits.TheConstants.{REGIONS}
 use Rattle.hd_model.specs.Heap.{cells_of}
 use Rattle.hd_heap.specs.declared.area.Area.{Area}
 use Rattle.hd_heap.specs.Areas.{area_at, region_in, objects_in, regions_in, IsArea}
@@ -11,10 +12,11 @@ pub record IsSpare (areas : List Area) (n : ℕ) : Type 0 where
   pub high : n ≤ length areas
   pub free : region_in (area_at areas n) ≡ None
 
--- the cells, objects and held regions are counted; each region is held or stands once in the list of spare ones, which has room for all
+-- the cells, objects and held regions are counted; each region is held or stands once in the list of spare
+-- ones, which has room for all
 pub record IsKept (areas : List Area) (spares : List ℕ) (capacity cells objects holds : ℕ) : Type 0 where
   pub each : (r : ℕ) (a : Area) → area_at areas r ≡ Some a → IsArea a
-  pub few : length areas < 2 ^ 24
+  pub few : length areas < REGIONS
   pub used : cells ≡ sum_by cells_of (values (objects_in areas))
   pub lives : cells ≡ sum_by (λ (a : Area). a.live) areas
   pub count : objects ≡ len (objects_in areas)

@@ -33,7 +33,7 @@ unfoldable pub table : {A : Type 0} → ℕ → (ℕ → A) → List A
 table zero f = []
 table (suc n) f = f 0 ∷ table n (λ k. f (suc k))
 
--- a table of n values for each item, one behind another
+-- a table of n values for each item, one after another
 unfoldable pub tables : {A B : Type 0} → ℕ → (A → ℕ → B) → List A → List B
 tables n f [] = []
 tables n f (x ∷ xs) = table n (f x) ++ tables n f xs

@@ -1,6 +1,7 @@
 -- What the private steps of a heap do.
 use Rattle.std.specs.Prelude.{◌≡◌, ◌≢◌, ℕ, ◌+◌, ◌/◌, ◌<◌, ◌≤◌, ◌&&◌, ◌⊎◌, Bool, true, false, nat_lt, nat_le, ⊤, Option, Some, None, MatchOption}
 use Rattle.std.specs.FinMap.{contains_key}
+use Rattle.hd_model.specs.declared.limits.TheConstants.{REGION, CARD}
 use Rattle.hd_model.specs.declared.data.Addr.{Addr}
 use Rattle.hd_model.specs.Heap.{Heap, has_object, is_held, region_at, region_generation}
 use Rattle.hd_heap.specs.declared.area.Area.{Area}
@@ -15,14 +16,17 @@ use Rattle.hd_heap.specs.Calls.{is_old_carded, with_fresh, is_condemned}
 pub record HasRoom (h : Heap) (region cells : ℕ) : Type 0 where
   pub held : is_held h region ≡ true
   pub young : region_generation h region ≡ 0
-  pub room : (region_at h region).fill + cells ≤ 256
+  pub room : (region_at h region).fill + cells ≤ REGION
 
--- there is such a region, which was held or is the first spare one, and it is held now; with none spare, memory was taken for one
+-- there is such a region, which was held or is the first spare one, and it is held now; with none spare,
+-- memory was taken for one
 pub record IsRoom (old new : Heap) (region cells : ℕ) : Type 0 where
   pub room : HasRoom new region cells
-  pub how : ((new ≡ old) × (is_held old region ≡ true)) ⊎ ((is_held old region ≡ false) × (new ≡ with_fresh old region 0))
+  pub how : ((new ≡ old) × (is_held old region ≡ true))
+      ⊎ ((is_held old region ≡ false) × (new ≡ with_fresh old region 0))
 
--- an object that a walk gives: any one, one of a generation above n that starts in a set card, or one of no generation above n
+-- an object that a walk gives: any one, one of a generation above n that starts in a set card, or one of no
+-- generation above n
 abbrev pub is_wanted : Heap → Wanted → Addr → Bool
 is_wanted h Any = has_object h
 is_wanted h (Carded n) = is_old_carded h n
@@ -31,7 +35,8 @@ is_wanted h (Condemned n) = is_condemned h n
 -- the same of an offset in a region
 abbrev pub wants : Wanted → Area → ℕ → Bool
 wants Any a k = contains_key (contents a).objects k
-wants (Carded n) a k = contains_key (contents a).objects k && nat_lt n a.generation && card_in (Some a) (k / 32)
+wants (Carded n) a k =
+    contains_key (contents a).objects k && nat_lt n a.generation && card_in (Some a) (k / CARD)
 wants (Condemned n) a k = contains_key (contents a).objects k && nat_le a.generation n
 
 -- a generation that is asked for
@@ -68,6 +73,8 @@ pub record IsTaken (old new : Area) (at cells : ℕ) : Type 0 where
   pub live : new.live + cells ≡ old.live
   pub held : new.held ≡ old.held
   pub generation : new.generation ≡ old.generation
-  pub others : (c : ℕ) → c ≢ at / 32 → card_in (Some new) c ≡ card_in (Some old) c
-  pub shared : (k : ℕ) → IsObject (contents new) k → k / 32 ≡ at / 32 → card_in (Some new) (at / 32) ≡ card_in (Some old) (at / 32)
-  pub last : ((k : ℕ) → IsObject (contents new) k → k / 32 ≢ at / 32) → card_in (Some new) (at / 32) ≡ false
+  pub others : (c : ℕ) → c ≢ at / CARD → card_in (Some new) c ≡ card_in (Some old) c
+  pub shared : (k : ℕ) → IsObject (contents new) k → k / CARD ≡ at / CARD
+      → card_in (Some new) (at / CARD) ≡ card_in (Some old) (at / CARD)
+  pub last : ((k : ℕ) → IsObject (contents new) k → k / CARD ≢ at / CARD)
+      → card_in (Some new) (at / CARD) ≡ false

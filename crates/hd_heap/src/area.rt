@@ -7,14 +7,12 @@ ghost use Rattle.hd_cells.specs.Region.{IsFirstFrom, IsLaidOut, IsObject, empty_
 ghost use Rattle.hd_heap.specs.Areas.{contents, card_in, BeginsIn, IsArea};
 ghost use Rattle.hd_heap.specs.Steps.{wants, IsAsked, IsFirstAt, IsFirstSince, IsTaken};
 
-use hd_cells::{FIELDS, Region};
+use hd_cells::Region;
+use hd_model::limits::{CARD, FIELDS, HEADER, OLDEST, REGION};
 use std::boxed::Box;
 
 /// The cards of a region.
-pub(crate) const CARDS: usize = 8;
-
-/// The cells of a card.
-pub(crate) const CARD: u32 = 32;
+pub(crate) const CARDS: usize = (REGION / CARD) as usize;
 
 /// A region of a heap, held or spare: its objects, its generation, whether each of its cards is set,
 /// and the cells that its objects take.
@@ -36,10 +34,10 @@ pub(crate) enum Wanted {
     Condemned(u8),
 }
 
-/// The offset of the first object behind an offset, in time by the gaps between where an object
+/// The offset of the first object after an offset, in time by the gaps between where an object
 /// begins there.
 fn offset_after(region: &Region, offset: u32) -> Option<u32>
-    requires { offset < 256 }
+    requires { offset < REGION }
     ensures { IsFirstFrom region.now (offset + 1) result }
 {
     if region.is_object(offset) {
@@ -71,7 +69,7 @@ impl Area {
     /// Holds a spare region.
     pub(crate) fn hold(&mut self, generation: u8)
         requires area { IsArea self.old }
-        requires generation { generation ≤ 2 }
+        requires generation { generation ≤ OLDEST }
         ensures area { IsArea self.new }
         ensures held { self.new ≡ record self.old { held = true; generation = generation } }
     {
@@ -92,13 +90,13 @@ impl Area {
         self.held = false;
     }
 
-    /// Puts an object behind all others, and answers its offset.
+    /// Puts an object after all others, and answers its offset.
     pub(crate) fn put(&mut self, id: u64, fields: u32, registered: bool) -> u32
         requires area { IsArea self.old }
         requires held { self.old.held ≡ true }
         requires identified { id ≢ 0 }
-        requires few_fields { fields ≤ 61 }
-        requires room { (contents self.old).fill + (fields + 3) ≤ 256 }
+        requires few_fields { fields ≤ FIELDS }
+        requires room { (contents self.old).fill + (fields + HEADER) ≤ REGION }
         ensures area { IsArea self.new }
         ensures offset { result ≡ (contents self.old).fill }
         ensures was_free { map.get (contents self.old).objects result ≡ None }
@@ -107,9 +105,9 @@ impl Area {
         ensures held { self.new.held ≡ true }
         ensures generation { self.new.generation ≡ self.old.generation }
         ensures cards { self.new.cards ≡ self.old.cards }
-        ensures live { self.new.live ≡ self.old.live + (fields + 3) }
+        ensures live { self.new.live ≡ self.old.live + (fields + HEADER) }
     {
-        self.live += fields + FIELDS as u32;
+        self.live += fields + HEADER;
         self.region.put_object(id, fields, registered)
     }
 
@@ -120,7 +118,7 @@ impl Area {
         ensures area { IsArea self.new }
         ensures taken { IsTaken self.old self.new at result }
     {
-        let cells = self.region.fields(at) + FIELDS as u32;
+        let cells = self.region.fields(at) + HEADER;
         self.region.remove(at);
         self.live -= cells;
         let card = at / CARD;
@@ -132,9 +130,9 @@ impl Area {
 
     /// Whether an object starts in a card.
     fn starts_in(&self, card: u32) -> bool
-        requires { card < 8 }
+        requires { card < CARDS }
         ensures some { result ≡ true → BeginsIn (contents self.now) card }
-        ensures none { result ≡ false → (k : ℕ) → IsObject (contents self.now) k → k / 32 ≢ card }
+        ensures none { result ≡ false → (k : ℕ) → IsObject (contents self.now) k → k / CARD ≢ card }
     {
         match self.region.walk(card * CARD) {
             Some(first) => first / CARD == card,
@@ -154,10 +152,10 @@ impl Area {
         }
     }
 
-    /// The same, behind an offset.
+    /// The same, after an offset.
     pub(crate) fn wanted_after(&self, offset: u32, wanted: Wanted) -> Option<u32>
         requires area { IsArea self.now }
-        requires offset { offset < 256 }
+        requires offset { offset < REGION }
         ensures { IsFirstAt (wants wanted self.now) (offset + 1) result }
     {
         if self.may_have(wanted) {

@@ -1,37 +1,29 @@
 // A heap, seen by its callers as maps from addresses to objects and from numbers to held regions.
-ghost use Rattle.std.specs.Prelude.{◌≡◌, ◌≢◌, ℕ, ◌+◌, ◌*◌, ◌/◌, ◌%◌, ◌^◌, ◌<◌, ◌≤◌, ◌++◌, ◌∷◌, []};
+ghost use Rattle.std.specs.Prelude.{◌≡◌, ◌≢◌, ℕ, ◌+◌, ◌*◌, ◌/◌, ◌%◌, ◌<◌, ◌≤◌, ◌++◌, ◌∷◌, []};
 ghost use Rattle.std.specs.Prelude.{Bool, true, false, length, max, take, replicate};
 ghost use Rattle.std.specs.Prelude.{slice_index, slice_index_or};
-ghost use Rattle.std.specs.Prelude.{None, Some, IfOk, IfSome, OnOk, OnErr, MatchResult};
+ghost use Rattle.std.specs.Prelude.{None, Some, IfOk, IfErr, IfSome, OnOk, OnErr, MatchResult};
 ghost use Rattle.std.specs.FinMap as map;
 ghost use Rattle.hd_model.specs.Scene.{fields_at, generation_at};
 ghost use Rattle.hd_model.specs.Heap.{has_object, object_at, placed_at, cells_of, used_of};
-ghost use Rattle.hd_model.specs.Heap.{is_held, region_at, region_of, region_generation, card_of};
+ghost use Rattle.hd_model.specs.Heap.{is_held, region_at, region_of, offset_of, region_generation, card_of};
 ghost use Rattle.hd_heap.specs.Sound.{IsSound};
 ghost use Rattle.hd_heap.specs.Calls.{empty_heap, new_object, with_object, with_put, with_field};
-ghost use Rattle.hd_heap.specs.Calls.{IsMade, IsRefused};
+ghost use Rattle.hd_heap.specs.Calls.{IsMade, IsRefused, LacksSpare};
 ghost use Rattle.hd_heap.specs.Calls.{stored, is_younger, with_card, IsWalk, is_old_carded, is_condemned};
 ghost use Rattle.hd_heap.specs.Calls.{with_fresh, with_copy, IsRemoved, with_generation};
 ghost use Rattle.hd_heap.specs.Areas.{number};
 ghost use Rattle.hd_heap.specs.Steps.{HasRoom, IsRoom, is_wanted, IsLeastBetween, IsLeastFrom};
 
 use crate::NewFault;
-use crate::area::{Area, CARD, Wanted};
+use crate::area::{Area, Wanted};
 use hd_cells::Region;
+use hd_model::limits::{CARD, FIELDS, HEADER, OLDEST, REGION, REGIONS};
 use hd_model::{Addr, Id, Memory};
 use std::alloc::Global;
 use std::boxed::Box;
 use std::collections::VecDeque;
 use std::marker::Model;
-
-/// The cells of a region.
-const CELLS: u32 = hd_cells::CELLS as u32;
-
-/// The cells of an object beside its fields.
-const HEADER: u32 = hd_cells::FIELDS as u32;
-
-/// The numbers of regions, from 1, end before this one, with which no address would fit 32 bits.
-const NUMBERS: usize = 1 << 24;
 
 /// The objects of a program by address, in regions, with the set cards. A region's memory is kept
 /// for another one where it is given up.
@@ -67,26 +59,26 @@ impl Model for Heap {
 
 /// The place in the heap's list of the region in which an address lies.
 fn place_of(at: Addr) -> usize
-    requires { 256 ≤ at.0 }
-    ensures { result + 1 ≡ at.0 / 256 }
+    requires { REGION ≤ at.0 }
+    ensures { result + 1 ≡ at.0 / REGION }
 {
-    (at.0 / CELLS - 1) as usize
+    (at.0 / REGION - 1) as usize
 }
 
 /// The first cell of an address in its region.
 fn offset_of(at: Addr) -> u32
-    ensures { result ≡ at.0 % 256 }
+    ensures { result ≡ offset_of at }
 {
-    at.0 % CELLS
+    at.0 % REGION
 }
 
 /// The address of a cell of a region.
 fn address_in(region: u32, offset: u32) -> Addr
-    requires region { region < 2 ^ 24 }
-    requires offset { offset < 256 }
-    ensures { result.0 ≡ region * 256 + offset }
+    requires region { region < REGIONS }
+    requires offset { offset < REGION }
+    ensures { result.0 ≡ region * REGION + offset }
 {
-    Addr(region * CELLS + offset)
+    Addr(region * REGION + offset)
 }
 
 /// A field as it stands in a cell: 0 for null.
@@ -120,10 +112,11 @@ impl Heap {
     /// for before memory, and after a refusal nothing is changed.
     pub fn new_object(&mut self, id: Id, fields: u32, registered: bool) -> Result<Addr, NewFault>
         requires identified { id.0 ≢ 0 }
-        requires few_fields { fields ≤ 61 }
-        ensures { MatchResult result
+        requires few_fields { fields ≤ FIELDS }
+        ensures made { MatchResult result
             (λ at. IsMade self.old self.new at (new_object id fields registered))
-            (λ fault. IsRefused self.old self.new (fields + 3) fault) }
+            (λ fault. IsRefused self.old self.new (fields + HEADER) fault) }
+        ensures spare { IfErr result (LacksSpare self.old) }
     {
         let size = fields + HEADER;
         if u64::from(self.used) + u64::from(size) > u64::from(self.limit) {
@@ -151,7 +144,7 @@ impl Heap {
     pub fn fields(&self, at: Addr) -> u32
         requires { has_object self.now at ≡ true }
         ensures count { result ≡ length (fields_at (object_at self.now) at) }
-        ensures few { result ≤ 61 }
+        ensures few { result ≤ FIELDS }
     {
         self.areas[place_of(at)].region.fields(offset_of(at))
     }
@@ -197,7 +190,7 @@ impl Heap {
     pub fn generation(&self, at: Addr) -> u8
         requires { has_object self.now at ≡ true }
         ensures value { result ≡ generation_at (object_at self.now) at }
-        ensures few { result ≤ 2 }
+        ensures few { result ≤ OLDEST }
     {
         self.areas[place_of(at)].generation
     }
@@ -267,7 +260,7 @@ impl Heap {
         self.held
     }
 
-    /// The first object behind `after`, which may be any address, or the first of all. A region
+    /// The first object past `after`, which may be any address, or the first of all. A region
     /// without objects is passed at once.
     pub fn next(&self, after: Option<Addr>) -> Option<Addr>
         ensures walk { IsWalk (has_object self.now) after result }
@@ -276,7 +269,7 @@ impl Heap {
         self.walk(after, Wanted::Any)
     }
 
-    /// The first object behind `after`, which may be any address, that is of a generation above `n`
+    /// The first object past `after`, which may be any address, that is of a generation above `n`
     /// and starts in a set card. A region of another generation or without set cards is passed at
     /// once.
     pub fn next_carded(&self, after: Option<Addr>, n: u8) -> Option<Addr>
@@ -286,7 +279,7 @@ impl Heap {
         self.walk(after, Wanted::Carded(n))
     }
 
-    /// The first object behind `after`, which may be any address, that is of no generation above `n`.
+    /// The first object past `after`, which may be any address, that is of no generation above `n`.
     /// A region of an older generation or without objects is passed at once.
     pub fn next_condemned(&self, after: Option<Addr>, n: u8) -> Option<Addr>
         ensures walk { IsWalk (is_condemned self.now n) after result }
@@ -321,7 +314,7 @@ impl Heap {
     /// Holds the first spare region, which has no object and no set card, and answers its number.
     pub fn fresh(&mut self, generation: u8) -> u32
         requires spare { 0 < length self.old.spare }
-        requires generation { generation ≤ 2 }
+        requires generation { generation ≤ OLDEST }
         ensures number { result ≡ slice_index self.old.spare 0 }
         ensures was_free { is_held self.old result ≡ false }
         ensures held { self.new ≡ with_fresh self.old result generation }
@@ -333,13 +326,13 @@ impl Heap {
         number
     }
 
-    /// Copies the object at `from` behind all others of a region. It stands twice from then on.
+    /// Copies the object at `from` after all others of a region. It stands twice from then on.
     pub fn copy_into(&mut self, from: Addr, region: u32) -> Addr
         requires object { has_object self.old from ≡ true }
         requires held { is_held self.old region ≡ true }
         requires room { let fill = (region_at self.old region).fill in
-            fill + cells_of (placed_at self.old from) ≤ 256 }
-        ensures place { result.0 ≡ region * 256 + (region_at self.old region).fill }
+            fill + cells_of (placed_at self.old from) ≤ REGION }
+        ensures place { result.0 ≡ region * REGION + (region_at self.old region).fill }
         ensures was_free { has_object self.old result ≡ false }
         ensures copied { self.new ≡ with_copy self.old from region }
     {
@@ -363,7 +356,7 @@ impl Heap {
     /// Gives a held region, and with it its objects, another generation.
     pub fn set_generation(&mut self, region: u32, generation: u8)
         requires held { is_held self.old region ≡ true }
-        requires generation { generation ≤ 2 }
+        requires generation { generation ≤ OLDEST }
         ensures { self.new ≡ with_generation self.old region generation }
     {
         self.areas[region as usize - 1].generation = generation;
@@ -398,7 +391,7 @@ impl Heap {
         ensures err { OnErr result (self.new ≡ self.old) }
     {
         let number = self.areas.len() + 1;
-        if number >= NUMBERS {
+        if number >= REGIONS as usize {
             return Err(Memory);
         }
         if self.areas.reserve(1).is_err() {
@@ -418,9 +411,10 @@ impl Heap {
     /// A held region of generation 0 with so many cells left: the one in which the last object was
     /// made, or a fresh one.
     fn room_for(&mut self, size: u32) -> Result<u32, Memory>
-        requires { size ≤ 64 }
+        requires { size ≤ FIELDS + HEADER }
         ensures ok { IfOk result (λ region. IsRoom self.old self.new region size) }
         ensures err { OnErr result (self.new ≡ self.old) }
+        ensures none { OnErr result (self.old.spare ≡ []) }
     {
         let current = self.current;
         if self.has_room(current, size) {
@@ -434,7 +428,7 @@ impl Heap {
 
     /// Whether this is the number of a held region of generation 0 with so many cells left.
     fn has_room(&self, region: u32, size: u32) -> bool
-        requires { size ≤ 64 }
+        requires { size ≤ FIELDS + HEADER }
         ensures { result ≡ true → HasRoom self.now region size }
     {
         if region == 0 || region as usize > self.areas.len() {
@@ -447,16 +441,16 @@ impl Heap {
         if area.generation != 0 {
             return false;
         }
-        area.region.fill() + size <= CELLS
+        area.region.fill() + size <= REGION
     }
 
-    /// Puts an object behind all others of a held region.
+    /// Puts an object after all others of a held region.
     fn put(&mut self, region: u32, id: Id, fields: u32, registered: bool) -> Addr
         requires identified { id.0 ≢ 0 }
-        requires few_fields { fields ≤ 61 }
+        requires few_fields { fields ≤ FIELDS }
         requires held { is_held self.old region ≡ true }
-        requires room { (region_at self.old region).fill + (fields + 3) ≤ 256 }
-        ensures place { result.0 ≡ region * 256 + (region_at self.old region).fill }
+        requires room { (region_at self.old region).fill + (fields + HEADER) ≤ REGION }
+        ensures place { result.0 ≡ region * REGION + (region_at self.old region).fill }
         ensures region { region_of result ≡ region }
         ensures was_free { has_object self.old result ≡ false }
         ensures put { let generation = region_generation self.old region in
@@ -526,7 +520,7 @@ impl Heap {
         }
     }
 
-    /// The first object behind `after` that is wanted.
+    /// The first object past `after` that is wanted.
     fn walk(&self, after: Option<Addr>, wanted: Wanted) -> Option<Addr>
         ensures walk { IsWalk (is_wanted self.now wanted) after result }
         ensures sound { IsSound self.now }
@@ -537,17 +531,18 @@ impl Heap {
         if let Some(found) = self.next_in_region(at, wanted) {
             return Some(found);
         }
-        self.first_from((at.0 / CELLS) as usize, wanted)
+        self.first_from((at.0 / REGION) as usize, wanted)
     }
 
-    /// The first object that is wanted behind an address in the same region.
+    /// The first object that is wanted after an address in the same region.
     fn next_in_region(&self, at: Addr, wanted: Wanted) -> Option<Addr>
-        ensures next { let end = (at.0 / 256 + 1) * 256 in
+        ensures next { let end = (at.0 / REGION + 1) * REGION in
             IsLeastBetween (is_wanted self.now wanted) (at.0 + 1) end result }
         ensures sound { IsSound self.now }
     {
+        // Read first for the proof: it brings the invariant to hand where the answer is early.
         let regions = self.areas.len();
-        if at.0 < CELLS {
+        if at.0 < REGION {
             return None;
         }
         let place = place_of(at);
@@ -555,14 +550,14 @@ impl Heap {
             return None;
         }
         match self.areas[place].wanted_after(offset_of(at), wanted) {
-            Some(offset) => Some(address_in(at.0 / CELLS, offset)),
+            Some(offset) => Some(address_in(at.0 / REGION, offset)),
             None => None,
         }
     }
 
     /// The first object that is wanted in the regions from a place of the list on.
     fn first_from(&self, first: usize, wanted: Wanted) -> Option<Addr>
-        ensures first { IsLeastFrom (is_wanted self.now wanted) ((first + 1) * 256) result }
+        ensures first { IsLeastFrom (is_wanted self.now wanted) ((first + 1) * REGION) result }
         ensures sound { IsSound self.now }
     {
         for place in first..self.areas.len() {

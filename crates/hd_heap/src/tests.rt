@@ -2,6 +2,7 @@ ghost use Rattle.std.specs.Prelude.{◌≡◌, ◌≤◌, true};
 ghost use Rattle.hd_model.specs.Heap.{has_object};
 
 use super::*;
+use hd_model::limits::{OLDEST, REGION};
 use hd_model::{Addr, Id};
 use std::process::Abort;
 use std::test::Fail;
@@ -83,21 +84,23 @@ fn set_card(rt: &impl Abort, heap: &mut Heap, at: Addr, on: bool) {
 /// Gives the region of an object another generation.
 fn raise(heap: &mut Heap, at: Addr, generation: u8)
     requires object { has_object heap.old at ≡ true }
-    requires generation { generation ≤ 2 }
+    requires generation { generation ≤ OLDEST }
 {
+    // A read for the proof: it tells that the heap is sound, so that the region is held.
     let _ = heap.regions();
-    heap.set_generation(at.0 / 256, generation);
+    heap.set_generation(at.0 / REGION, generation);
 }
 
 /// Takes the last object of all away, and gives its region up.
 fn give_up(rt: &impl Abort, heap: &mut Heap, last: Addr)
     requires { has_object heap.old last ≡ true }
 {
+    // A read for the proof: it tells that the heap is sound, so that the region is held.
     let _ = heap.regions();
     heap.remove(last);
     let next = heap.next(None);
     assert!(rt; next.is_none());
-    heap.release(last.0 / 256);
+    heap.release(last.0 / REGION);
 }
 
 #[test]

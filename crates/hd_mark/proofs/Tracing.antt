@@ -1,12 +1,12 @@
 -- What a trace keeps of its bits and its stack.
-use Rattle.std.proofs.Common.{◌≡◌, ◌≢◌, ℕ, ◌+◌, ◌*◌, ◌/◌, ◌%◌, ◌<◌, ◌≤◌, Bool, true, false, ◌&&◌, ◌||◌, List, [], ◌∷◌, ◌++◌, length, Option, refl, sym, ap, ◌∙◌, subst, length-append, arith}
+use Rattle.std.proofs.Common.{◌≡◌, ◌≢◌, ℕ, ◌+◌, ◌*◌, ◌%◌, ◌<◌, ◌≤◌, Bool, true, false, ◌&&◌, ◌||◌, List, [], ◌∷◌, ◌++◌, length, Option, refl, sym, ap, ◌∙◌, subst, length-append, arith}
 use Rattle.std.specs.Prelude.{IfSome, is_some, reverse, if◌then◌else◌}
 use Rattle.std.specs.FinSet.{FinSet, contains, insert}
 use Rattle.std.specs.Ordering.{nat_cmp}
 use Rattle.std.proofs.lemmas.Bool.{le-leb}
 use Rattle.std.proofs.lemmas.List.{reverse-append}
 use Rattle.hd_model.specs.declared.data.Addr.{Addr}
-use Rattle.hd_model.specs.Heap.{Heap, has_object, object_at, objects_of}
+use Rattle.hd_model.specs.Heap.{Heap, region_of, has_object, object_at, objects_of}
 use Rattle.hd_model.specs.Scene.{is_object, generation_at}
 use Rattle.hd_heap.specs.Calls.{is_condemned}
 use Rattle.hd_mark.specs.Inside.{is_set, place_at, set_of, left, IsTrace}
@@ -44,18 +44,20 @@ module _ (h : Heap) (n : ℕ) (places : List (Option ℕ)) (regions : ℕ) (mark
         (is_young (record { heap = h; condemned = n }) at
         (subst (λ (k : MarksOf). is_older k.basis at ≡ false) (sym view) not_older)))
 
-    pub has_place : is_some (place_at places (at.0 / 256)) ≡ true
+    pub has_place : is_some (place_at places (region_of at)) ≡ true
     has_place = t.covers at condemned_here
 
-    module _ (bit : ℕ) (bit_is : IfSome (place_at places (at.0 / 256)) (λ p. bit ≡ p * 256 + at.0 % 256))
+    module _ (bit : ℕ) (bit_is : IfSome (place_at places (region_of at)) (λ p. bit ≡ p * 256 + at.0 % 256))
       where
         -- its bits say whether an object is promoted and pinned
         pub promoted_read : is_set marks bit ≡ promoted_in m at
+        unfolding region_of
         promoted_read =
             bit_read places marks at.0 bit has_place bit_is ∙ ap (λ (k : MarksOf). contains k.marks at.0) view
             ∙ sym (ap (λ b. b || contains m.marks at.0) not_older)
 
         pub pinned_read : is_set pins bit ≡ pinned_in m at
+        unfolding region_of
         pinned_read =
             bit_read places pins at.0 bit has_place bit_is ∙ ap (λ (k : MarksOf). contains k.pins at.0) view
             ∙ sym (ap (λ b. b || contains m.pins at.0) not_older)
@@ -64,6 +66,7 @@ module _ (h : Heap) (n : ℕ) (places : List (Option ℕ)) (regions : ℕ) (mark
           -- it is pinned
           pub pin_seen : ((k : ℕ) → k ≢ bit → is_set after k ≡ is_set pins k)
               → seen marks after stack ≡ pinned_also m at
+          unfolding region_of
           pin_seen others =
               let more : set_of places after ≡ insert (set_of places pins) at.0 =
               bit_joins places regions pins after at.0 bit t.table has_place bit_is joins others in
@@ -79,6 +82,7 @@ module _ (h : Heap) (n : ℕ) (places : List (Option ℕ)) (regions : ℕ) (mark
           module _ (others : (k : ℕ) → k ≢ bit → is_set after k ≡ is_set marks k)
               (unmarked : promoted_in m at ≡ false) where
             marks_more : set_of places after ≡ insert (set_of places marks) at.0
+            unfolding region_of
             marks_more = bit_joins places regions marks after at.0 bit t.table has_place bit_is joins others
 
             fewer_left : left (set_of places after) t.members + 1 ≤ left (set_of places marks) t.members

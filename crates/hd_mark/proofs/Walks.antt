@@ -11,8 +11,8 @@ use Rattle.hd_heap.specs.Sound.{IsSound}
 use Rattle.hd_mark.specs.Inside.{place_at, end_of, IsTable, HasMembers}
 
 -- what a test of the order says
-behind : (at b : Addr) → is_after (Some at) b ≡ true → at.0 < b.0
-behind at b e =
+beyond : (at b : Addr) → is_after (Some at) b ≡ true → at.0 < b.0
+beyond at b e =
     elim (cases_lt at.0 b.0) [
       | inl less ↦ less
       | inr le ↦ absurd (both_ways _ (le-ltb at.0 b.0 le) e)
@@ -36,9 +36,10 @@ last_of (Some a) = a.0
 
 rises : (after : Option Addr) (at : Addr) → is_after after at ≡ true → 256 ≤ at.0 → last_of after < at.0
 rises None at e high = omega arith
-rises (Some b) at e high = behind b at e
+rises (Some b) at e high = beyond b at e
 
-region_within : (after : Option Addr) (a : Addr) → is_after after a ≡ false → a.0 / 256 < end_of after
+region_within : (after : Option Addr) (a : Addr) → is_after after a ≡ false → region_of a < end_of after
+unfolding region_of
 region_within None a e = absurd (cc e)
 region_within (Some b) a e = let le = up_to b a e in omega arith
 
@@ -105,7 +106,7 @@ walk_falls h sound p there after at next =
     let range = addressed h sound at (there at next.member) in
     let low = range.0 in
     let high = range.1 in
-    let more = rises after at next.behind low in
+    let more = rises after at next.beyond low in
     omega arith
 
 module _ (h : Heap) (n : ℕ) (sound : IsSound h) where
@@ -117,7 +118,7 @@ module _ (h : Heap) (n : ℕ) (sound : IsSound h) where
   module _ (after : Option Addr) (objects : ℕ) (is : IsCounted h n after objects) where
     module _ (at : Addr) (next : IsNext (is_condemned h n) after at) where
       up : last_of after < at.0
-      up = rises after at next.behind (addressed h sound at (there at next.member)).0
+      up = rises after at next.beyond (addressed h sound at (there at next.member)).0
 
       counted_all : (a : Addr) → is_condemned h n a ≡ true → is_after (Some at) a ≡ false
           → Contains (at.0 ∷ is.members) a.0
@@ -154,10 +155,11 @@ module _ (h : Heap) (n : ℕ) (sound : IsSound h) where
         number = is.number;
       }
 
-      pub counted_end : (a : Addr) → is_condemned h n a ≡ true → a.0 / 256 < end_of after
+      pub counted_end : (a : Addr) → is_condemned h n a ≡ true → region_of a < end_of after
       counted_end a condemned = region_within after a (none a condemned)
 
     pub counted_small : end_of after ≤ 2 ^ 24
+    unfolding region_of
     counted_small = by after is.low
       where
         by : (o : Option Addr) → last_of o < 2 ^ 32 → end_of o ≤ 2 ^ 24
@@ -174,11 +176,12 @@ module _ (h : Heap) (n : ℕ) (sound : IsSound h) where
 
     -- its region is a new one
     new_region : end_of after ≤ at.0 / 256
-    new_region = by after next.behind is.last
+    unfolding region_of
+    new_region = by after next.beyond is.last
       where
         by : (o : Option Addr) → is_after o at ≡ true → IsLast o → end_of o ≤ at.0 / 256
         by None e last = omega arith
-        by (Some b) e last = let more = behind b at e in omega arith
+        by (Some b) e last = let more = beyond b at e in omega arith
 
     here : (q : ℕ) → q ≡ at.0 / 256 → place_at with_place q ≡ Some regions
     here q e =
@@ -236,6 +239,7 @@ module _ (h : Heap) (n : ℕ) (sound : IsSound h) where
           by other false early = ap is_some (elsewhere (a.0 / 256) other) ∙ is.covers a condemned early
 
       new_low : (r : ℕ) → is_some (place_at with_place r) ≡ true → r < end_of (Some last)
+      unfolding region_of
       new_low r some =
           elim (cases_eq r (at.0 / 256)) [
             | inl e ↦ omega arith
@@ -245,6 +249,7 @@ module _ (h : Heap) (n : ℕ) (sound : IsSound h) where
           ]
 
       pub placed_on : IsPlaced h n (Some last) with_place (regions + 1)
+      unfolding region_of
       placed_on = record {
         table = record { within = new_within; apart = new_apart };
         covers = new_covers;
@@ -255,5 +260,6 @@ module _ (h : Heap) (n : ℕ) (sound : IsSound h) where
       }
 
       pub placing_falls : length with_place - end_of (Some last) < length places - end_of after
+      unfolding region_of
       placing_falls =
           let long = length-set places (at.0 / 256) (Some regions) in let new = new_region in omega arith

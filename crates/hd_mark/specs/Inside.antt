@@ -1,29 +1,32 @@
 -- How marks and pins stand in bits, and what is always true of the fields of a trace.
-use Rattle.std.specs.Prelude.{◌≡◌, ℕ, ◌+◌, ◌*◌, ◌/◌, ◌%◌, ◌^◌, ◌<◌, ◌≤◌, ◌==◌, not, Bool, true, false, List, length, filter, slice_index, slice_index_or, Contains, Option, Some, None, IsSome}
+use Rattle.std.specs.Prelude.{◌≡◌, ℕ, ◌+◌, ◌*◌, ◌/◌, ◌%◌, ◌<◌, ◌≤◌, ◌==◌, not, Bool, true, false, List, length, filter, slice_index, slice_index_or, Contains, Option, Some, None, IsSome}
 use Rattle.std.specs.Int.{bit_at}
 use Rattle.std.specs.FinSet.{FinSet, contains}
 use Rattle.std.specs.Ordering.{nat_cmp}
+use Rattle.hd_model.specs.declared.limits.TheConstants.{REGION, REGIONS}
 use Rattle.hd_model.specs.declared.data.Addr.{Addr}
-use Rattle.hd_model.specs.Heap.{Heap}
+use Rattle.hd_model.specs.Heap.{Heap, region_of}
 use Rattle.hd_heap.specs.Calls.{is_condemned}
 use Rattle.hd_heap.specs.Places.{places_of, tables}
+use Rattle.hd_mark.specs.declared.bits.TheConstants.{BITS, WORDS}
 
--- whether the bit of a number is set: number i has bit i % 64 of word i / 64
+-- whether the bit of a number is set: number i has bit i % BITS of word i / BITS
 abbrev pub is_set : List ℕ → ℕ → Bool
-is_set words i = bit_at (slice_index words (i / 64)) (i % 64) == 1
+is_set words i = bit_at (slice_index words (i / BITS)) (i % BITS) == 1
 
 -- the place of a region among the condemned ones, if it is one
 abbrev pub place_at : List (Option ℕ) → ℕ → Option ℕ
 place_at places r = slice_index_or places r None
 
--- whether a cell of a region is marked: a condemned region has 256 bits from 256 times its place on
+-- whether a cell of a region is marked: a condemned region has a bit for each cell, from REGION times its
+-- place on
 abbrev pub is_set_in : List ℕ → Option ℕ → ℕ → Bool
 is_set_in words None k = false
-is_set_in words (Some p) k = is_set words (p * 256 + k)
+is_set_in words (Some p) k = is_set words (p * REGION + k)
 
 -- the addresses that are marked
 unfoldable pub set_of : List (Option ℕ) → List ℕ → FinSet nat_cmp
-set_of places words = places_of (tables 256 (is_set_in words) places)
+set_of places words = places_of (tables REGION (is_set_in words) places)
 
 -- places are below the number of condemned regions, and no two regions have one
 pub record IsTable (places : List (Option ℕ)) (regions : ℕ) : Type 0 where
@@ -32,12 +35,12 @@ pub record IsTable (places : List (Option ℕ)) (regions : ℕ) : Type 0 where
 
 -- the region of each condemned object has a place
 abbrev pub Covers : Heap → ℕ → List (Option ℕ) → Type 0
-Covers h n places = (a : Addr) → is_condemned h n a ≡ true → IsSome (place_at places (a.0 / 256))
+Covers h n places = (a : Addr) → is_condemned h n a ≡ true → IsSome (place_at places (region_of a))
 
 -- the number after that of the region of an address; 0 for none
 abbrev pub end_of : Option Addr → ℕ
 end_of None = 0
-end_of (Some a) = a.0 / 256 + 1
+end_of (Some a) = region_of a + 1
 
 -- at most so many addresses pass a test: they stand in a list of that length
 pub record HasMembers (p : Addr → Bool) (count : ℕ) : Type 0 where
@@ -53,10 +56,10 @@ left s members = length (filter (λ k. not (contains s k)) members)
 pub record IsTrace (h : Heap) (n : ℕ) (places : List (Option ℕ)) (regions : ℕ) (marks pins : List ℕ)
     (stack : List Addr) (room : ℕ) : Type 0 where
   pub table : IsTable places regions
-  pub few : regions ≤ 2 ^ 24
+  pub few : regions ≤ REGIONS
   pub covers : Covers h n places
-  pub marks_long : length marks ≡ 4 * regions
-  pub pins_long : length pins ≡ 4 * regions
+  pub marks_long : length marks ≡ WORDS * regions
+  pub pins_long : length pins ≡ WORDS * regions
   pub members : List ℕ
   pub all : (a : Addr) → is_condemned h n a ≡ true → Contains members a.0
   pub room_left : length stack + left (set_of places marks) members ≤ room

@@ -1,28 +1,29 @@
 // Sets of small numbers, a bit for each.
-ghost use Rattle.std.specs.Prelude.{◌≡◌, ◌≢◌, ℕ, ◌*◌, ◌^◌, ◌<◌, ◌≤◌, true, false, length, IfOk};
+ghost use Rattle.std.specs.Prelude.{◌≡◌, ◌≢◌, ℕ, ◌*◌, ◌<◌, ◌≤◌, true, false, length, IfOk};
 ghost use Rattle.hd_mark.specs.Inside.{is_set};
 
 use hd_mask::bit;
 use hd_model::Memory;
+use hd_model::limits::{REGION, REGIONS};
 use std::alloc::Global;
 
 // The numbers of one word.
 const BITS: u32 = 64;
 
-// The words of one region: 256 numbers.
-const WORDS: u32 = 4;
+// The words of one region: a bit for each of its cells.
+const WORDS: u32 = REGION / BITS;
 
-/// A set of numbers, each below 64 times the number of words.
+/// A set of numbers, each below BITS times the number of words.
 #[derive(Drop)]
 pub(crate) struct Bits {
     pub(crate) words: Vec<u64>,
 }
 
 impl Bits {
-    /// The empty set, with room for 256 numbers for each region.
+    /// The empty set, with room for a number for each cell of so many regions.
     pub(crate) fn open(alloc: Global, regions: u32) -> Result<Bits, Memory>
-        requires { regions ≤ 2 ^ 24 }
-        ensures long { IfOk result (λ b. length b.words.items ≡ 4 * regions) }
+        requires { regions ≤ REGIONS }
+        ensures long { IfOk result (λ b. length b.words.items ≡ WORDS * regions) }
         ensures empty { IfOk result (λ b. (i : ℕ) → is_set b.words.items i ≡ false) }
     {
         match vec![in alloc; 0; (WORDS * regions) as usize] {
@@ -34,7 +35,7 @@ impl Bits {
     /// Whether a number is a member.
     #[tactic(auto, using(hd_mask::proofs::Bits::mask_bits))]
     pub(crate) fn has(&self, i: u32) -> bool
-        requires { i < 64 * length self.now.words.items }
+        requires { i < BITS * length self.now.words.items }
         ensures { result ≡ is_set self.now.words.items i }
     {
         self.words[(i / BITS) as usize] & bit(i % BITS) != 0
@@ -43,7 +44,7 @@ impl Bits {
     /// A number joins.
     #[tactic(auto, using(hd_mask::proofs::Bits::mask_bits))]
     pub(crate) fn insert(&mut self, i: u32)
-        requires { i < 64 * length self.old.words.items }
+        requires { i < BITS * length self.old.words.items }
         ensures long { length self.new.words.items ≡ length self.old.words.items }
         ensures joins { is_set self.new.words.items i ≡ true }
         ensures others { (k : ℕ) → k ≢ i →

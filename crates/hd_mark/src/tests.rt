@@ -6,6 +6,7 @@ ghost use Rattle.hd_mark.specs.Marks.{IsSettledMarks};
 
 use super::*;
 use hd_heap::Heap;
+use hd_model::limits::{OLDEST, REGION};
 use hd_model::{Addr, Id, Marker, Memory};
 use std::alloc::Global;
 use std::process::Abort;
@@ -84,10 +85,11 @@ fn store(rt: &impl Abort, heap: &mut Heap, from: u32, i: u32, to: u32) {
 /// Gives the region of an object another generation.
 fn raise(heap: &mut Heap, at: Addr, generation: u8)
     requires object { has_object heap.old at ≡ true }
-    requires generation { generation ≤ 2 }
+    requires generation { generation ≤ OLDEST }
 {
+    // A read for the proof: it tells that the heap is sound, so that the region is held.
     let _ = heap.regions();
-    heap.set_generation(at.0 / 256, generation);
+    heap.set_generation(at.0 / REGION, generation);
 }
 
 /// Twelve objects in three regions, the second of which is of generation 1. Field `.1` of object

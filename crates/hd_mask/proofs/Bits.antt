@@ -236,4 +236,15 @@ module _ (n t : ℕ) (set : bit_at n t ≡ 1) (least : (i : ℕ) → i < t → b
           omega (arith, both, less_above i lt, bit_at-pow_other t i other)
 
 -- for `grind`: what setting, clearing and testing bits do
-pub ruleset mask_bits = (set_same, set_other, clear_same, clear_other, flip_set, flip_clear, and_bit_zero, and_bit_some, or_apart_at, bits_of_zero)
+pub ruleset mask_bits = (
+  set_same,
+  set_other,
+  clear_same,
+  clear_other,
+  flip_set,
+  flip_clear,
+  and_bit_zero,
+  and_bit_some,
+  or_apart_at,
+  bits_of_zero,
+)

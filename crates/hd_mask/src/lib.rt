@@ -13,6 +13,9 @@ ghost use Rattle.hd_mask.specs.Mask.{set_bits};
 #[cfg(test)]
 mod tests;
 
+/// The bits of a mask.
+pub const BITS: u32 = 64;
+
 /// The least set bit of `mask`, from 0 to 63.
 pub fn lowest(mask: u64) -> Option<u32>
     ensures first { result ≡ slice_get (set_bits mask) 0 }
@@ -32,14 +35,14 @@ pub fn lowest(mask: u64) -> Option<u32>
 pub fn count(mask: u64) -> u32
     ensures ones { result ≡ count_ones mask }
     ensures number { result ≡ length (set_bits mask) }
-    ensures bound { result ≤ 64 }
+    ensures bound { result ≤ BITS }
 {
     mask.count_ones()
 }
 
 /// The mask of row `i` alone, for `i` from 0 to 63.
 pub fn bit(i: u32) -> u64
-    requires { i < 64 }
+    requires { i < BITS }
     ensures value { result ≡ 2 ^ i }
     ensures alone { set_bits result ≡ i ∷ [] }
     ensures set { bit_at result i ≡ 1 }

@@ -11,7 +11,7 @@ use Rattle.hd_model.specs.declared.data.Make.{Make}
 use Rattle.hd_model.specs.declared.data.Make.TheVariants as make
 use Rattle.hd_model.specs.declared.data.Reply.{Reply}
 use Rattle.hd_model.specs.declared.command.Cmd.{Cmd}
-use Rattle.hd_model.specs.State.{Numbers, State, Object, Extra, nothing, strength, secondary, count, Handle, secondary_of, without_secondary, register_of, object_at}
+use Rattle.hd_model.specs.State.{Numbers, State, Object, Extra, nothing, strength, secondary, count, Handle, secondary_of, without_secondary, register_of, object_by_id}
 use Rattle.hd_model.specs.Command.{loaded, made_handle, fresh_object}
 use Rattle.hd_model.specs.Scene.{Objects, scene_of, generation_in, generation_at}
 use Rattle.hd_model.specs.Ages.{age_of, lowered, HasSoundAges}
@@ -141,7 +141,7 @@ unwrapped None d h = absurd (true≢false (sym h))
 unwrapped (Some p) d h = refl
 
 -- a write that keeps an object's generation, and a new object, leave the generation of each object
-rewritten : (s : State) (id : Id) (new : Object Id) → new.generation ≡ (object_at s id).generation → (x : Id)
+rewritten : (s : State) (id : Id) (new : Object Id) → new.generation ≡ (object_by_id s id).generation → (x : Id)
     → IsSome (get s.objects x.0)
     → generation_in (get (insert s.objects id.0 new) x.0) ≡ generation_in (get s.objects x.0)
 rewritten s id new same x some =
@@ -175,7 +175,7 @@ module _ (n : Numbers) (s : State) (e : Entry) (ages : List ℕ) (w : IsWellForm
       subst (λ b. IsSound t (cond b ages (aged_by_command s e.caller e.slot ages c)))
       (sym (ap is_refused p ∙ done)) h
 
-  writes : (id : Id) (new : Object Id) → new.generation ≡ (object_at s id).generation
+  writes : (id : Id) (new : Object Id) → new.generation ≡ (object_by_id s id).generation
       → HasSoundAges (λ (x : Id). get (insert s.objects id.0 new) x.0) (scene_of s).handle ages
   writes id new same = regrouped s ages sound (λ (x : Id). get (insert s.objects id.0 new) x.0)
       (rewritten s id new same) n w

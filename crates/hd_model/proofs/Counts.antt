@@ -15,7 +15,7 @@ use Rattle.hd_model.specs.declared.data.Refusal.{Refusal}
 use Rattle.hd_model.specs.declared.data.Reply.{Reply}
 use Rattle.hd_model.specs.declared.data.Reply.TheVariants as reply
 use Rattle.hd_model.specs.declared.command.Cmd.{Cmd}
-use Rattle.hd_model.specs.State.{Numbers, Object, Handle, State, start_of, register_of, last_serial, object_at, handle_at, field_of, use_of, first_slot, handles_of, with_handle}
+use Rattle.hd_model.specs.State.{Numbers, Object, Handle, State, start_of, register_of, last_serial, object_by_id, handle_at, field_of, use_of, first_slot, handles_of, with_handle}
 use Rattle.hd_model.specs.Command.{loaded, fresh_object, made_handle}
 use Rattle.hd_model.specs.Scene.{scene_of}
 use Rattle.hd_model.specs.Collect.{cleared}
@@ -178,22 +178,22 @@ module _ (n : Numbers) (s : State) (e : Entry) (w : IsWellFormed n s) where
       omega arith
   removes c t (sets_field {o = o} {i = i} {v = v} id f l p) =
       let zero_is = ap removed_in p in
-      let same = len_again s.objects id.0 (with_field (object_at s id) i (register_of s e.caller v))
+      let same = len_again s.objects id.0 (with_field (object_by_id s id) i (register_of s e.caller v))
       (has n s e.caller o id w f) in
       omega arith
   removes c t (sets_value {o = o} {v = v} id f p) =
       let zero_is = ap removed_in p in
-      let same = len_again s.objects id.0 (record (object_at s id) { value = v })
+      let same = len_again s.objects id.0 (record (object_by_id s id) { value = v })
       (has n s e.caller o id w f) in
       omega arith
   removes c t (suppresses {o = o} id f p) =
       let zero_is = ap removed_in p in
-      let same = len_again s.objects id.0 (record (object_at s id) { registered = false })
+      let same = len_again s.objects id.0 (record (object_by_id s id) { registered = false })
       (has n s e.caller o id w f) in
       omega arith
   removes c t (reregisters {o = o} id f p) =
       let zero_is = ap removed_in p in
-      let same = len_again s.objects id.0 (record (object_at s id) { registered = true })
+      let same = len_again s.objects id.0 (record (object_by_id s id) { registered = true })
       (has n s e.caller o id w f) in
       omega arith
   removes c t (collects {k = k} did) =
@@ -201,7 +201,7 @@ module _ (n : Numbers) (s : State) (e : Entry) (w : IsWellFormed n s) where
       let told = ap removed_in did.reply in
       omega arith
   removes c t (gets_field {i = i} id f l p) = ap (λ x. len s.objects + x)
-      (ap removed_in p ∙ loaded_removes (field_of (object_at s id) i))
+      (ap removed_in p ∙ loaded_removes (field_of (object_by_id s id) i))
   removes c t (reads_value id f p) = ap (λ x. len s.objects + removed_in x) p
   removes c t (copies p) = ap (λ x. len s.objects + removed_in x) p
   removes c t (clears p) = ap (λ x. len s.objects + removed_in x) p

@@ -15,7 +15,7 @@ use Rattle.hd_model.specs.declared.data.Reply.TheVariants as reply
 use Rattle.hd_model.specs.declared.command.Cmd.{Cmd}
 use Rattle.hd_model.specs.declared.command.Cmd.TheVariants as cmd
 use Rattle.hd_model.specs.Kinds.{kind_of, is_kind}
-use Rattle.hd_model.specs.State.{Numbers, Object, Extra, strength, secondary, count, Handle, State, secondary_of, count_of, without_secondary, register_of, handle_register_of, static_of, board_of, last_serial, object_at, field_of, handle_at, used_of, identity_of, IsAllFree}
+use Rattle.hd_model.specs.State.{Numbers, Object, Extra, strength, secondary, count, Handle, State, secondary_of, count_of, without_secondary, register_of, handle_register_of, static_of, board_of, last_serial, object_by_id, field_of, handle_at, total_size, identity_of, IsAllFree}
 use Rattle.hd_model.specs.State.{with_register, with_handle_register, with_static, with_board, with_object, with_handle, without_handle, without_use, with_queue, with_place, with_serial}
 use Rattle.hd_model.specs.Role.{pins}
 use Rattle.hd_model.specs.Places.{MayAnswer}
@@ -56,16 +56,16 @@ pub data Effect (n : Numbers) (s : State) (e : Entry) : Cmd → State → Type 0
       → Effect n s e (cmd.New d fields fin) (with_register
       (with_serial (with_object s (next_identity s e.caller) (fresh_object fields fin)) e.caller
       (last_serial s e.caller + 1)) e.caller d (Some (next_identity s e.caller)))
-  sets_field : {o i v : ℕ} (id : Id) → register_of s e.caller o ≡ Some id → i < length (object_at s id).fields
+  sets_field : {o i v : ℕ} (id : Id) → register_of s e.caller o ≡ Some id → i < length (object_by_id s id).fields
       → e.reply ≡ reply.Done → Effect n s e (cmd.Set o i v)
-      (with_object s id (with_field (object_at s id) i (register_of s e.caller v)))
-  gets_field : {d o i : ℕ} (id : Id) → register_of s e.caller o ≡ Some id → i < length (object_at s id).fields
-      → e.reply ≡ loaded (field_of (object_at s id) i)
-      → Effect n s e (cmd.Get d o i) (with_register s e.caller d (field_of (object_at s id) i))
+      (with_object s id (with_field (object_by_id s id) i (register_of s e.caller v)))
+  gets_field : {d o i : ℕ} (id : Id) → register_of s e.caller o ≡ Some id → i < length (object_by_id s id).fields
+      → e.reply ≡ loaded (field_of (object_by_id s id) i)
+      → Effect n s e (cmd.Get d o i) (with_register s e.caller d (field_of (object_by_id s id) i))
   sets_value : {o v : ℕ} (id : Id) → register_of s e.caller o ≡ Some id → e.reply ≡ reply.Done
-      → Effect n s e (cmd.Val o v) (with_object s id (record (object_at s id) { value = v }))
+      → Effect n s e (cmd.Val o v) (with_object s id (record (object_by_id s id) { value = v }))
   reads_value : {o : ℕ} (id : Id) → register_of s e.caller o ≡ Some id
-      → e.reply ≡ reply.Value (object_at s id).value → Effect n s e (cmd.Read o) s
+      → e.reply ≡ reply.Value (object_by_id s id).value → Effect n s e (cmd.Read o) s
   copies : {d r : ℕ} → e.reply ≡ reply.Done → Effect n s e (cmd.Copy d r)
       (with_register s e.caller d (register_of s e.caller r))
   clears : {d : ℕ} → e.reply ≡ reply.Done → Effect n s e (cmd.Clear d) (with_register s e.caller d None)
@@ -74,11 +74,11 @@ pub data Effect (n : Numbers) (s : State) (e : Entry) : Cmd → State → Type 0
   gets_static : {d k : ℕ} → e.reply ≡ loaded (static_of s k)
       → Effect n s e (cmd.SGet d k) (with_register s e.caller d (static_of s k))
   reads_generation : {o : ℕ} (id : Id) → register_of s e.caller o ≡ Some id
-      → e.reply ≡ reply.Generation (object_at s id).generation → Effect n s e (cmd.Gen o) s
+      → e.reply ≡ reply.Generation (object_by_id s id).generation → Effect n s e (cmd.Gen o) s
   suppresses : {o : ℕ} (id : Id) → register_of s e.caller o ≡ Some id → e.reply ≡ reply.Done
-      → Effect n s e (cmd.Suppress o) (with_object s id (record (object_at s id) { registered = false }))
+      → Effect n s e (cmd.Suppress o) (with_object s id (record (object_by_id s id) { registered = false }))
   reregisters : {o : ℕ} (id : Id) → register_of s e.caller o ≡ Some id → e.reply ≡ reply.Done
-      → Effect n s e (cmd.Reregister o) (with_object s id (record (object_at s id) { registered = true }))
+      → Effect n s e (cmd.Reregister o) (with_object s id (record (object_by_id s id) { registered = true }))
   finds_none : {d : ℕ} → e.reply ≡ reply.NoneQueued
       → Effect n s e (cmd.Final d) (with_register s e.caller d None)
   takes_first : {d : ℕ} (id : Id) (rest : List Id) → s.queue ≡ id ∷ rest → e.reply ≡ reply.Object id
@@ -157,7 +157,7 @@ module _ (n : Numbers) (s : State) (e : Entry) (t : State) where
 
   registers_it : (c : Cmd) (o : ℕ) (registered : Bool)
       → ((id : Id) → register_of s e.caller o ≡ Some id → e.reply ≡ reply.Done
-      → Effect n s e c (with_object s id (record (object_at s id) { registered = registered })))
+      → Effect n s e c (with_object s id (record (object_by_id s id) { registered = registered })))
       → IsOutcome e (set_registered s e.caller o registered) t → Effect n s e c t
   registers_it c o registered does =
       on_object_cases (Comes c) s e.caller o _ (λ _. refuses_it _ _) (λ id f. comes _ _ (λ p _. does id f p))
@@ -203,7 +203,7 @@ module _ (n : Numbers) (s : State) (e : Entry) (t : State) where
 
   command_effect : (c : Cmd) → StepOf n s e t c → Effect n s e c t
   command_effect (cmd.New d fields fin) h =
-      test_cases (Comes (cmd.New d fields fin)) (nat_lt n.heap (used_of s + (fields + 3))) _ _
+      test_cases (Comes (cmd.New d fields fin)) (nat_lt n.heap (total_size s + (fields + 3))) _ _
       (λ _. refuses_it _ _) (λ _. comes _ _ (λ p _. makes_object h.0 p)) h.1
   command_effect (cmd.Set o i v) h =
       on_field_cases (Comes (cmd.Set o i v)) s e.caller o i _ (λ _. refuses_it _ _) (λ _ _ _. refuses_it _ _)

@@ -1,5 +1,5 @@
 -- A journal leads to one state, and to one map of places. Ages depend on no place.
-use Rattle.std.proofs.Common.{◌≡◌, ℕ, cond, List, [], ◌∷◌, Option, Some, None, refl, sym, ap, ◌∙◌, subst}
+use Rattle.std.proofs.Common.{◌≡◌, ℕ, cond, List, Option, Some, None, refl, sym, ap, ◌∙◌, subst}
 use Rattle.std.specs.FinMap.{FinMap}
 use Rattle.std.specs.Ordering.{nat_cmp}
 use Rattle.hd_model.specs.declared.data.Slot.{Slot}
@@ -11,8 +11,8 @@ use Rattle.hd_model.specs.declared.command.Cmd.{Cmd}
 use Rattle.hd_model.specs.declared.command.Cmd.TheVariants as cmd
 use Rattle.hd_model.specs.State.{Numbers, State, register_of}
 use Rattle.hd_model.specs.Places.{with_places}
-use Rattle.hd_model.specs.Run.{Chain, stay, link, Run}
-use Rattle.hd_model.specs.Aging.{Aged, AgedStep, aged_by_command, aged_by, aged_start, AgedRun, is_refused, lowered_to, lowered_by_new}
+use Rattle.hd_model.specs.Run.{Chain, stay, link}
+use Rattle.hd_model.specs.Aging.{Aged, AgedStep, aged_by_command, aged_by, AgedRun, is_refused, lowered_to, lowered_by_new}
 use Rattle.hd_model.proofs.OneState.{one_state_after}
 
 -- where each entry leaves at most one state, a list of entries does

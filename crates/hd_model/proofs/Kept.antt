@@ -13,7 +13,7 @@ use Rattle.hd_model.specs.declared.data.Reply.TheVariants as reply
 use Rattle.hd_model.specs.declared.command.Cmd.{Cmd}
 use Rattle.hd_model.specs.declared.command.Cmd.TheVariants as cmd
 use Rattle.hd_model.specs.Kinds.{is_kind}
-use Rattle.hd_model.specs.State.{Numbers, Object, strength, secondary, count, Handle, State, count_of, without_secondary, register_of, handle_register_of, static_of, board_of, last_serial, object_at, handle_at}
+use Rattle.hd_model.specs.State.{Numbers, Object, strength, secondary, count, Handle, State, count_of, without_secondary, register_of, handle_register_of, static_of, board_of, last_serial, object_by_id, handle_at}
 use Rattle.hd_model.specs.Command.{loaded, fresh_object, made_handle}
 use Rattle.hd_model.specs.Collect.{cleared, survivor}
 use Rattle.hd_model.specs.Touched.{touched_by}
@@ -59,13 +59,13 @@ pub data ObjectChange (s : State) (e : Entry) (id : Id) : Cmd → Option (Object
   is_new : {d fields : ℕ} {fin : Bool} → last_serial s e.caller + 1 < 2 ^ 32 → get s.objects id.0 ≡ None
       → id ≡ next_identity s e.caller → ObjectChange s e id (cmd.New d fields fin)
       (Some (fresh_object fields fin))
-  field_is_set : {o i v : ℕ} → register_of s e.caller o ≡ Some id → i < length (object_at s id).fields
+  field_is_set : {o i v : ℕ} → register_of s e.caller o ≡ Some id → i < length (object_by_id s id).fields
       → e.reply ≡ reply.Done → ObjectChange s e id (cmd.Set o i v)
-      (Some (with_field (object_at s id) i (register_of s e.caller v)))
+      (Some (with_field (object_by_id s id) i (register_of s e.caller v)))
   value_is_set : {o v : ℕ} → register_of s e.caller o ≡ Some id → e.reply ≡ reply.Done
-      → ObjectChange s e id (cmd.Val o v) (Some (record (object_at s id) { value = v }))
+      → ObjectChange s e id (cmd.Val o v) (Some (record (object_by_id s id) { value = v }))
   registration_is_set : {c : Cmd} (registered : Bool) → IsSome (get s.objects id.0)
-      → ObjectChange s e id c (Some (record (object_at s id) { registered = registered }))
+      → ObjectChange s e id c (Some (record (object_by_id s id) { registered = registered }))
   survives : {k : ℕ} (revived : Bool) (object : Object Id) → get s.objects id.0 ≡ Some object
       → ObjectChange s e id (cmd.Collect k) (Some (survivor k revived object))
   goes : {k : ℕ} → ObjectChange s e id (cmd.Collect k) None
@@ -93,19 +93,19 @@ module _ (n : Numbers) (s : State) (w : IsWellFormed n s) (e : Entry) where
       (λ same. is_new small (ap (λ (x : Id). get s.objects x.0) same ∙ fresh n s e.caller w small) same)
   object_change c t id (sets_field {o = o} {i = i} {v = v} other f l p) =
       object_written _ id other _ (λ same. subst (λ x. ObjectChange s e id (cmd.Set o i v)
-      (Some (with_field (object_at s x) i (register_of s e.caller v)))) same
-      (field_is_set (f ∙ ap Some (sym same)) (subst (λ x. i < length (object_at s x).fields) (sym same) l)
+      (Some (with_field (object_by_id s x) i (register_of s e.caller v)))) same
+      (field_is_set (f ∙ ap Some (sym same)) (subst (λ x. i < length (object_by_id s x).fields) (sym same) l)
       p))
   object_change c t id (sets_value {o = o} {v = v} other f p) =
       object_written _ id other _ (λ same. subst (λ x. ObjectChange s e id (cmd.Val o v)
-      (Some (record (object_at s x) { value = v }))) same (value_is_set (f ∙ ap Some (sym same)) p))
+      (Some (record (object_by_id s x) { value = v }))) same (value_is_set (f ∙ ap Some (sym same)) p))
   object_change c t id (suppresses {o = o} other f p) =
       object_written _ id other _ (λ same. subst (λ x. ObjectChange s e id (cmd.Suppress o)
-      (Some (record (object_at s x) { registered = false }))) same
+      (Some (record (object_by_id s x) { registered = false }))) same
       (registration_is_set false (has n s e.caller o id w (f ∙ ap Some (sym same)))))
   object_change c t id (reregisters {o = o} other f p) =
       object_written _ id other _ (λ same. subst (λ x. ObjectChange s e id (cmd.Reregister o)
-      (Some (record (object_at s x) { registered = true }))) same
+      (Some (record (object_by_id s x) { registered = true }))) same
       (registration_is_set true (has n s e.caller o id w (f ∙ ap Some (sym same)))))
   object_change c t id (collects {k = k} did) =
       subst (ObjectChange s e id (cmd.Collect k)) (sym (did.collects.scene.objects id))
@@ -164,10 +164,10 @@ module _ (n : Numbers) (s : State) (w : IsWellFormed n s) (e : Entry) (id : Id) 
 
   live_stays : (c : Cmd) (o : Option (Object Id)) → ObjectChange s e id c o
       → ((r j v : ℕ) → c ≡ cmd.Set r j v → register_of s e.caller r ≡ Some id
-      → j < length (object_at s id).fields → e.reply ≡ reply.Done → P (object_at s id)
-      → P (with_field (object_at s id) j (register_of s e.caller v)))
+      → j < length (object_by_id s id).fields → e.reply ≡ reply.Done → P (object_by_id s id)
+      → P (with_field (object_by_id s id) j (register_of s e.caller v)))
       → ((r v : ℕ) → c ≡ cmd.Val r v → register_of s e.caller r ≡ Some id → e.reply ≡ reply.Done
-      → P (object_at s id) → P (record (object_at s id) { value = v }))
+      → P (object_by_id s id) → P (record (object_by_id s id) { value = v }))
       → IsSomeAnd (get s.objects id.0) P → (o ≡ None) ⊎ IsSomeAnd o P
   live_stays c o object_stays field value had = inr had
   live_stays c o (is_new small none same) field value had = absurd (not_none P _ none had)
@@ -176,17 +176,17 @@ module _ (n : Numbers) (s : State) (w : IsWellFormed n s) (e : Entry) (id : Id) 
   live_stays c o (value_is_set {o = r} {v = v} f p) field value had =
       inr (value r v refl f p (at_some P (get s.objects id.0) _ had))
   live_stays c o (registration_is_set registered there) field value had =
-      inr (alike (object_at s id) _ refl refl (at_some P (get s.objects id.0) _ had))
+      inr (alike (object_by_id s id) _ refl refl (at_some P (get s.objects id.0) _ had))
   live_stays c o (survives revived object is) field value had =
       inr (alike object _ refl refl (subst (λ x. IsSomeAnd x P) is had))
   live_stays c o goes field value had = inl refl
 
   pub object_kept : (c : Cmd) (t : State) → Effect n s e c t
       → ((r j v : ℕ) → c ≡ cmd.Set r j v → register_of s e.caller r ≡ Some id
-      → j < length (object_at s id).fields → e.reply ≡ reply.Done → P (object_at s id)
-      → P (with_field (object_at s id) j (register_of s e.caller v)))
+      → j < length (object_by_id s id).fields → e.reply ≡ reply.Done → P (object_by_id s id)
+      → P (with_field (object_by_id s id) j (register_of s e.caller v)))
       → ((r v : ℕ) → c ≡ cmd.Val r v → register_of s e.caller r ≡ Some id → e.reply ≡ reply.Done
-      → P (object_at s id) → P (record (object_at s id) { value = v }))
+      → P (object_by_id s id) → P (record (object_by_id s id) { value = v }))
       → OrGone s id P → OrGone t id P
   object_kept c t does field value had =
       let change : ObjectChange s e id c (get t.objects id.0) = object_change n s w e c t id does in
@@ -203,7 +203,7 @@ module _ (n : Numbers) (s : State) (w : IsWellFormed n s) (e : Entry) (id : Id) 
 
 -- the object that a register names is not gone
 pub named_has : (n : Numbers) (s : State) (c o : ℕ) (id : Id) (P : Object Id → Type 0) → IsWellFormed n s
-    → register_of s c o ≡ Some id → OrGone s id P → P (object_at s id)
+    → register_of s c o ≡ Some id → OrGone s id P → P (object_by_id s id)
 named_has n s c o id P w named had =
     ⊎_elim (λ gone. absurd (gone_some s id gone (has n s c o id w named)))
     (λ live. at_some P (get s.objects id.0) _ live) had

@@ -1,5 +1,5 @@
 -- What tests of kinds tell, and the extra that fits a kind.
-use Rattle.std.proofs.Common.{◌≡◌, ℕ, zero, suc, true, refl, sym, ap, ◌∙◌, None}
+use Rattle.std.proofs.Common.{◌≡◌, ℕ, zero, suc, ◌<◌, true, refl, sym, ap, ◌∙◌, None, lit<}
 use Rattle.std.proofs.lemmas.Bool.{eqb-true}
 use Rattle.hd_model.specs.declared.data.Kind.{Kind}
 use Rattle.hd_model.specs.declared.data.Kind.TheVariants as kind
@@ -30,10 +30,21 @@ kind_again kind.Variable = refl
 kind_again kind.Counted = refl
 kind_again kind.Dependent = refl
 
--- two kinds that the test finds the same are
+-- two kinds with the same number are the same, and so are two that the test finds the same
+pub same_number : (a b : Kind) → kind_number a ≡ kind_number b → a ≡ b
+same_number a b e = sym (kind_again a) ∙ ap kind_from e ∙ kind_again b
+
 pub same_kind : (a b : Kind) → is_kind a b ≡ true → a ≡ b
-same_kind a b e =
-    sym (kind_again a) ∙ ap kind_from (eqb-true (kind_number a) (kind_number b) e) ∙ kind_again b
+same_kind a b e = same_number a b (eqb-true (kind_number a) (kind_number b) e)
+
+pub few_kinds : (k : Kind) → kind_number k < 7
+few_kinds kind.Short = lit< tt
+few_kinds kind.Long = lit< tt
+few_kinds kind.Strong = lit< tt
+few_kinds kind.Pinned = lit< tt
+few_kinds kind.Variable = lit< tt
+few_kinds kind.Counted = lit< tt
+few_kinds kind.Dependent = lit< tt
 
 -- an extra without its secondary fits the same kind, and has none
 pub without_secondary_fits : {N : Type 0} (k : Kind) (x : Extra N) → FitsKind k x

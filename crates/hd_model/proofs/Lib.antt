@@ -1,11 +1,17 @@
 pub mod Members
 pub mod Counting
+pub mod Weighing
 pub mod Entries
 pub mod Leading
+pub mod Within
 pub mod Fitting
 pub mod Pinning
+pub mod PinsRenamed
+pub mod PinnedTargets
 pub mod Whole
 pub mod Collecting
+pub mod Fading
+pub mod Again
 pub mod Collections
 pub mod Surviving
 pub mod Idle

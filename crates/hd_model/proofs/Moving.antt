@@ -17,9 +17,8 @@ use Rattle.hd_model.proofs.Ages.{grown_sound}
 use Rattle.hd_model.proofs.Readings.{reading_on, reading_like, whole_read, ages_read}
 use Rattle.hd_model.proofs.ReadCollections.{IsBack, collects_read}
 
-module _ {N : Type 0} (rank : N → ℕ) (n : ℕ) (s t : Scene N) (reach revived kept : N → Bool) (joins : List N)
-    (r : Report) (place : N → N) (w : IsWhole s) (d : GoesBy rank n s reach revived kept joins r)
-    (m : IsMoved n reach revived kept joins place s t) where
+module _ {N : Type 0} (rank : N → ℕ) (n : ℕ) (s : Scene N) (reach revived kept : N → Bool) (joins : List N)
+    (r : Report) (w : IsWhole s) (d : GoesBy rank n s reach revived kept joins r) where
   -- in place, it is a collection as it stands
   pub collects_in_place : Collects rank n s (left_by n reach revived kept joins s) r
   collects_in_place = record {
@@ -34,17 +33,25 @@ module _ {N : Type 0} (rank : N → ℕ) (n : ℕ) (s t : Scene N) (reach revive
     queue = refl;
   }
 
-  whole_in_place : IsWhole (left_by n reach revived kept joins s)
+  pub whole_in_place : IsWhole (left_by n reach revived kept joins s)
   whole_in_place = whole_after rank n s (left_by n reach revived kept joins s) r w collects_in_place
 
+-- moved, too, the scene is whole and the ages are sound
+module _ {N : Type 0} (rank : N → ℕ) (n : ℕ) (s t : Scene N) (reach revived kept : N → Bool) (joins : List N)
+    (r : Report) (place : N → N) (w : IsWhole s) (d : GoesBy rank n s reach revived kept joins r)
+    (m : IsMoved n reach revived kept joins place s t) where
   pub moved_whole : IsWhole t
-  moved_whole = whole_read place (left_by n reach revived kept joins s) t whole_in_place m
+  moved_whole =
+      whole_read place (left_by n reach revived kept joins s) t
+      (whole_in_place rank n s reach revived kept joins r w d) m
 
   pub moved_ages : (ages : List ℕ) → HasSoundAges s.object s.handle ages
       → HasSoundAges t.object t.handle (grown n ages)
   moved_ages ages sound =
-      ages_read place (left_by n reach revived kept joins s) t whole_in_place m (grown n ages)
-      (grown_sound rank n s (left_by n reach revived kept joins s) r w collects_in_place ages sound)
+      ages_read place (left_by n reach revived kept joins s) t
+      (whole_in_place rank n s reach revived kept joins r w d) m (grown n ages)
+      (grown_sound rank n s (left_by n reach revived kept joins s) r w
+      (collects_in_place rank n s reach revived kept joins r w d) ages sound)
 
 -- where each kept object has the same identity at its new place, it is a collection by identity
 module _ {N M : Type 0} (f g : N → M) (back : M → Option N) (rank : M → ℕ) (n : ℕ) (s t : Scene N)
@@ -56,9 +63,9 @@ module _ {N M : Type 0} (f g : N → M) (back : M → Option N) (rank : M → �
   moved_collects w fs gt b d m same =
       let in_place = left_by n reach revived kept joins s in
       let c : Collects (λ x. rank (f x)) n s in_place r =
-      collects_in_place (λ x. rank (f x)) n s t reach revived kept joins r place w d m in
+      collects_in_place (λ x. rank (f x)) n s reach revived kept joins r w d in
       let whole : IsWhole in_place =
-      whole_in_place (λ x. rank (f x)) n s t reach revived kept joins r place w d m in
+      whole_in_place (λ x. rank (f x)) n s reach revived kept joins r w d in
       let after : IsReading (λ x. g (place x)) in_place v = reading_on place g in_place t v whole m gt in
       let after_f : IsReading f in_place v =
       reading_like (λ x. g (place x)) f in_place v whole after

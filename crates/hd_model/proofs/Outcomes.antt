@@ -6,7 +6,7 @@ use Rattle.hd_model.specs.declared.data.Slot.{Slot}
 use Rattle.hd_model.specs.declared.data.Kind.{Kind}
 use Rattle.hd_model.specs.declared.data.Refusal.TheVariants as refusal
 use Rattle.hd_model.specs.Kinds.{is_kind}
-use Rattle.hd_model.specs.State.{Handle, State, register_of, handle_register_of, object_at, handle_at}
+use Rattle.hd_model.specs.State.{Handle, State, register_of, handle_register_of, object_by_id, handle_at}
 use Rattle.hd_model.specs.Command.{Outcome, refuses, on_object, on_field, on_handle, on_handle_of}
 
 pub option_cases : {A B : Type 0} (P : B → Type 0) (act : A → B) (o : Option A) (r : B) → (o ≡ None → P r)
@@ -26,11 +26,11 @@ module _ (P : Outcome → Type 0) (s : State) (c : ℕ) where
 
   pub on_field_cases : (o i : ℕ) (act : Id → Outcome)
       → (register_of s c o ≡ None → P (refuses refusal.Null s))
-      → ((id : Id) → register_of s c o ≡ Some id → length (object_at s id).fields ≤ i
+      → ((id : Id) → register_of s c o ≡ Some id → length (object_by_id s id).fields ≤ i
       → P (refuses refusal.BadField s)) → ((id : Id) → register_of s c o ≡ Some id
-      → i < length (object_at s id).fields → P (act id)) → P (on_field s c o i act)
+      → i < length (object_by_id s id).fields → P (act id)) → P (on_field s c o i act)
   on_field_cases o i act none past some =
-      on_object_cases o _ none (λ id e. test_cases P (nat_lt i (length (object_at s id).fields)) (act id)
+      on_object_cases o _ none (λ id e. test_cases P (nat_lt i (length (object_by_id s id).fields)) (act id)
       (refuses refusal.BadField s) (λ b. some id e (ltb-true _ _ b)) (λ b. past id e (ltb-false _ _ b)))
 
   pub on_handle_cases : (h : ℕ) (act : Slot → Handle Id → Outcome)

@@ -15,7 +15,7 @@ use Rattle.hd_model.specs.declared.data.Entry.{Entry}
 use Rattle.hd_model.specs.declared.data.Id.{Id}
 use Rattle.hd_model.specs.declared.command.Cmd.{Cmd}
 use Rattle.hd_model.specs.declared.command.Cmd.TheVariants as cmd
-use Rattle.hd_model.specs.State.{with_handle_register, with_handle, Numbers, Extra, Handle, State, register_of, handle_register_of, object_at, used_of, count_of}
+use Rattle.hd_model.specs.State.{with_handle_register, with_handle, Numbers, Extra, Handle, State, register_of, handle_register_of, object_by_id, total_size, count_of}
 use Rattle.hd_model.specs.Places.{with_places}
 use Rattle.hd_model.specs.Touched.{touched_by}
 use Rattle.hd_model.specs.Kinds.{kind_of, is_kind}
@@ -57,7 +57,7 @@ module _ (p : FinMap nat_cmp ℕ) where
         → P (on_field at c o i f) (on_field s c o i g)
     field_placed o i f g each =
         object_placed o _ _ (λ id. by_test P leaf (f id) (g id) (refuses refusal.BadField at) (refuses refusal.BadField s)
-        (nat_lt i (length (object_at s id).fields)) (each id) (leaf _))
+        (nat_lt i (length (object_by_id s id).fields)) (each id) (leaf _))
 
     handle_placed : (h : ℕ) (f g : Slot → Handle Id → Outcome) → ((slot : Slot) (x : Handle Id) → P (f slot x) (g slot x))
         → P (on_handle at c h f) (on_handle s c h g)
@@ -73,7 +73,7 @@ module _ (p : FinMap nat_cmp ℕ) where
         (refuses refusal.WrongKind s) (is_kind x.kind k) (each slot x) (leaf _))
 
     new_placed : (n : Numbers) (d f : ℕ) (fin : Bool) → P (new_object n at c d f fin) (new_object n s c d f fin)
-    new_placed n d f fin = by_test P leaf _ _ _ _ (nat_lt n.heap (used_of s + (f + 3))) (leaf _) (leaf _)
+    new_placed n d f fin = by_test P leaf _ _ _ _ (nat_lt n.heap (total_size s + (f + 3))) (leaf _) (leaf _)
 
     set_placed : (o i v : ℕ) → P (set_field at c o i v) (set_field s c o i v)
     set_placed o i v = field_placed o i _ _ (λ id. leaf _)

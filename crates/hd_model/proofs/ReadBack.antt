@@ -15,7 +15,7 @@ use Rattle.hd_model.specs.declared.command.Cmd.{Cmd}
 use Rattle.hd_model.specs.declared.command.Cmd.TheVariants as cmd
 use Rattle.hd_model.specs.declared.limits.TheConstants.{REGISTERS}
 use Rattle.hd_model.specs.Valid.{IsValid}
-use Rattle.hd_model.specs.State.{Numbers, Object, State, register_of, handle_register_of, static_of, board_of, object_at, field_of}
+use Rattle.hd_model.specs.State.{Numbers, Object, State, register_of, handle_register_of, static_of, board_of, object_by_id, field_of}
 use Rattle.hd_model.specs.Command.{Outcome, refuses, loaded, fresh_object, on_object, on_field}
 use Rattle.hd_model.specs.Touched.{touched_by}
 use Rattle.hd_model.specs.Step.{IsOutcome, StepOf, Step}
@@ -45,10 +45,10 @@ module _ (s : State) (c : ℕ) where
   on_object_is o act id names = ap (λ r. option_map_or act r (refuses refusal.Null s)) names
 
   on_field_is : (o i : ℕ) (act : Id → Outcome) (id : Id) → register_of s c o ≡ Some id
-      → i < length (object_at s id).fields → on_field s c o i act ≡ act id
+      → i < length (object_by_id s id).fields → on_field s c o i act ≡ act id
   on_field_is o i act id names within =
       on_object_is o _ id names ∙ ap (λ b. if b then act id else refuses refusal.BadField s)
-      (lt-ltb i (length (object_at s id).fields) within)
+      (lt-ltb i (length (object_by_id s id).fields) within)
 
 -- an object has field i, and it names v
 abbrev FieldIs : ℕ → Option Id → Object Id → Type 0
@@ -64,7 +64,7 @@ field_put : (n : Numbers) (s : State) (e : Entry) (o i v : ℕ) (t : State) (id 
     → OrGone t id (FieldIs i (register_of s e.caller v))
 field_put n s e o i v t id (refused p) done names = absurd (done_or_refused done p)
 field_put n s e o i v t id (sets_field other named within p) done names =
-    let object : Object Id = object_at s other in
+    let object : Object Id = object_by_id s other in
     let x : Option Id = register_of s e.caller v in
     subst (λ y. OrGone t y (FieldIs i x)) (same_Some other id (sym named ∙ names))
     (inr (subst (λ y. IsSomeAnd y (FieldIs i x)) (sym
@@ -81,7 +81,7 @@ field_since : (n : Numbers) (id : Id) (i : ℕ) (v : Option Id) (s : State) (e :
 field_since n id i v s e t w does apart had =
     object_kept n s w e id (FieldIs i v) (fields_alike i v) e.cmd t does
     (λ r j x is named within done h.
-    let object : Object Id = object_at s id in
+    let object : Object Id = object_by_id s id in
     let y : Option Id = register_of s e.caller x in (
       subst (λ l. i < l) (sym (length-set object.fields j y)) h.0,
       get_or-set_other object.fields j i y None (λ here. apart
@@ -101,7 +101,7 @@ field_reads : (n : Numbers) (s : State) (e : Entry) (t : State) (id : Id) (d p i
     → IsWellFormed n s → Step n s e t → e.cmd ≡ cmd.Get d p i → register_of s e.caller p ≡ Some id
     → OrGone s id (FieldIs i x) → e.reply ≡ loaded x
 field_reads n s e t id d p i x w step gets named is =
-    let there : FieldIs i x (object_at s id) = named_has n s e.caller p id (FieldIs i x) w named is in
+    let there : FieldIs i x (object_by_id s id) = named_has n s e.caller p id (FieldIs i x) w named is in
     let comes : IsOutcome e _ t = step_of n s e t (cmd.Get d p i) step gets in
     comes.reply ∙ ap (λ (r : Outcome). r.reply) (on_field_is s e.caller p i _ id named there.0)
     ∙ ap loaded there.1
@@ -154,7 +154,7 @@ value_put n s e o v t id (refused p) done names = absurd (done_or_refused done p
 value_put n s e o v t id (sets_value other named p) done names =
     subst (λ y. OrGone t y (ValueIs v)) (same_Some other id (sym named ∙ names))
     (inr (subst (λ y. IsSomeAnd y (ValueIs v)) (sym
-    (get_inserted s.objects other.0 (record (object_at s other) { value = v }))) refl))
+    (get_inserted s.objects other.0 (record (object_by_id s other) { value = v }))) refl))
 
 -- a value stays until it is written
 value_since : (n : Numbers) (id : Id) (v : ℕ) (s : State) (e : Entry) (t : State) → IsWellFormed n s
@@ -170,7 +170,7 @@ value_reads : (n : Numbers) (s : State) (e : Entry) (t : State) (id : Id) (p v :
     → Step n s e t → e.cmd ≡ cmd.Read p → register_of s e.caller p ≡ Some id → OrGone s id (ValueIs v)
     → e.reply ≡ reply.Value v
 value_reads n s e t id p v w step reads named is =
-    let there : ValueIs v (object_at s id) = named_has n s e.caller p id (ValueIs v) w named is in
+    let there : ValueIs v (object_by_id s id) = named_has n s e.caller p id (ValueIs v) w named is in
     let comes : IsOutcome e _ t = step_of n s e t (cmd.Read p) step reads in
     comes.reply ∙ ap (λ (r : Outcome). r.reply) (on_object_is s e.caller p _ id named) ∙ ap reply.Value there
 

@@ -1,7 +1,7 @@
 -- The sum over the values of a map whose keys are numbers.
-use Rattle.std.proofs.Common.{◌≡◌, ◌≢◌, ℕ, ◌+◌, ◌<◌, ◌≤◌, Bool, true, false, ◌&&◌, T, List, [], ◌∷◌, map, Option, Some, None, refl, sym, ap, ◌∙◌, subst, inl, inr, arith, ⊎_elim}
+use Rattle.std.proofs.Common.{◌≡◌, ◌≢◌, ℕ, suc, ◌+◌, ◌*◌, ◌<◌, ◌≤◌, Bool, true, false, ◌&&◌, T, List, [], ◌∷◌, map, length, Option, Some, None, refl, sym, ap, ◌∙◌, subst, inl, inr, arith, ⊎_elim}
 use Rattle.std.specs.Prelude.{sum_by}
-use Rattle.std.specs.FinMap.{FinMap, get, insert, remove, find, put, is_sorted, entries, values, entries_sorted, entries-insert, get-entries, same_map, nat_cmp-IsAntisymmetric}
+use Rattle.std.specs.FinMap.{FinMap, get, insert, remove, find, put, is_sorted, entries, values, entries_sorted, entries-insert, get-entries, len, len-entries, same_map, nat_cmp-IsAntisymmetric}
 use Rattle.std.specs.FinMap.Entries.{below_all, by_order}
 use Rattle.std.specs.Ordering.{nat_cmp, is_lt}
 use Rattle.std.specs.declared.cmp.Ordering.{Ordering}
@@ -151,3 +151,32 @@ pub sum-le : {A : Type 0} (f : A → ℕ) (m k : FinMap nat_cmp A)
 sum-le f m k below =
     total-le f (entries m) k (entries_sorted m)
     (λ q. subst (λ o. share f o ≤ share f (get k q)) (get-entries m q) (below q))
+
+-- a value that is there is taken out
+pub sum-taken : {A : Type 0} (f : A → ℕ) (m : FinMap nat_cmp A) (k : ℕ) (v : A) → get m k ≡ Some v
+    → sum_by f (values (remove m k)) + f v ≡ sum_by f (values m)
+sum-taken f m k v is =
+    let taken = sum-remove f m k in let here : share f (get m k) ≡ f v = ap (share f) is in omega arith
+
+-- a value that is there adds no more than the sum
+pub sum-at : {A : Type 0} (f : A → ℕ) (m : FinMap nat_cmp A) (k : ℕ) (v : A) → get m k ≡ Some v
+    → f v ≤ sum_by f (values m)
+sum-at f m k v is = let taken = sum-taken f m k v is in omega arith
+
+total-many : {A : Type 0} (f : A → ℕ) (least : ℕ) → ((x : A) → least ≤ f x) → (es : List (ℕ × A))
+    → least * length es ≤ total f es
+total-many f least each [] = omega arith
+total-many {A} f least each (e ∷ es) =
+    let rest = total-many f least each es in
+    let here = each e.1 in
+    let more = sum_by-cons f e.1 (map (λ w. w.1) es) in
+    let times : least * suc (length es) ≡ least + least * length es = omega arith in
+    omega arith
+
+-- where each adds so much
+pub sum-many : {A : Type 0} (f : A → ℕ) (least : ℕ) → ((x : A) → least ≤ f x) → (m : FinMap nat_cmp A)
+    → least * len m ≤ sum_by f (values m)
+sum-many f least each m =
+    let lens : len m ≡ length (entries m) = len-entries m in
+    let P : ℕ → Type 0 = λ n. least * n ≤ sum_by f (values m) in
+    subst P (sym lens) (total-many f least each (entries m))

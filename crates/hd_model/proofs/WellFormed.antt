@@ -17,7 +17,7 @@ use Rattle.hd_model.specs.declared.command.Cmd.{Cmd}
 use Rattle.hd_model.specs.declared.limits.TheConstants.{REGISTERS, FIELDS, OLDEST, ROWS}
 use Rattle.hd_model.specs.Kinds.{kind_of}
 use Rattle.hd_model.specs.Valid.{IsValid}
-use Rattle.hd_model.specs.State.{Numbers, Object, Extra, Handle, handles_of, extra_data, secondary_of, State, start_of, register_of, last_serial, object_at, field_of, use_of, first_slot, with_register, with_handle_register, with_object, with_serial, with_handle, without_handle, with_use, with_queue}
+use Rattle.hd_model.specs.State.{Numbers, Object, Extra, Handle, handles_of, extra_data, secondary_of, State, start_of, register_of, last_serial, object_by_id, field_of, use_of, first_slot, with_register, with_handle_register, with_object, with_serial, with_handle, without_handle, with_use, with_queue}
 use Rattle.hd_model.specs.Command.{fresh_object, extra_of, made_handle}
 use Rattle.hd_model.specs.Step.{MayGive, with_growth, Step}
 use Rattle.hd_model.specs.Run.{Run}
@@ -35,7 +35,7 @@ or_else None d h = cc
 or_else (Some x) d h = refl
 
 -- an identity that names an object names the object at it
-some_at : (s : State) (id : Id) → IsSome (get s.objects id.0) → get s.objects id.0 ≡ Some (object_at s id)
+some_at : (s : State) (id : Id) → IsSome (get s.objects id.0) → get s.objects id.0 ≡ Some (object_by_id s id)
 some_at s id h = or_else (get s.objects id.0) _ h
 
 -- a register that names an object of a well formed state
@@ -102,24 +102,24 @@ growth_keeps n s w given (Two block other) slot may =
 growth_keeps n s w given (Back block) slot may = absurd may
 
 module _ (n : Numbers) (s : State) (w : IsWellFormed n s) (e : Entry) (l : e.caller < n.callers) where
-  field_named : (id : Id) → IsSome (get s.objects id.0) → (i : ℕ) → Names s (field_of (object_at s id) i)
-  field_named id h i = w.names.fields id.0 (object_at s id) (some_at s id h) i
+  field_named : (id : Id) → IsSome (get s.objects id.0) → (i : ℕ) → Names s (field_of (object_by_id s id) i)
+  field_named id h i = w.names.fields id.0 (object_by_id s id) (some_at s id h) i
 
   -- another object of the same size and generation in the place of one
   write_keeps : (o : ℕ) (id : Id) (object : Object Id) → register_of s e.caller o ≡ Some id
-      → ((i : ℕ) → Names s (field_of object i)) → length object.fields ≡ length (object_at s id).fields
-      → object.generation ≡ (object_at s id).generation → IsWellFormed n (with_object s id object)
+      → ((i : ℕ) → Names s (field_of object i)) → length object.fields ≡ length (object_by_id s id).fields
+      → object.generation ≡ (object_by_id s id).generation → IsWellFormed n (with_object s id object)
   write_keeps o id object named fields size same =
       let h : IsSome (get s.objects id.0) = has n s e.caller o id w named in
       object_keeps n s w id object (λ i. names_more s (with_object s id object)
       (still_some s.objects id.0 object) _ (fields i))
-      (subst (λ g. g ≤ FIELDS) (sym size) (w.objects.sizes id.0 (object_at s id) (some_at s id h)))
-      (subst (λ g. g ≤ OLDEST) (sym same) (w.objects.generations id.0 (object_at s id) (some_at s id h)))
+      (subst (λ g. g ≤ FIELDS) (sym size) (w.objects.sizes id.0 (object_by_id s id) (some_at s id h)))
+      (subst (λ g. g ≤ OLDEST) (sym same) (w.objects.generations id.0 (object_by_id s id) (some_at s id h)))
       (w.serials.from_one id.0 h) (w.serials.to_last id.0 h)
 
   -- the same object but for its value and its registration
   rewrite_keeps : (o : ℕ) (id : Id) (v : ℕ) (registered : Bool) → register_of s e.caller o ≡ Some id
-      → IsWellFormed n (with_object s id (record (object_at s id) { value = v; registered = registered }))
+      → IsWellFormed n (with_object s id (record (object_by_id s id) { value = v; registered = registered }))
   rewrite_keeps o id v registered named =
       write_keeps o id _ named (field_named id (has n s e.caller o id w named)) refl refl
 
@@ -178,12 +178,12 @@ module _ (n : Numbers) (s : State) (w : IsWellFormed n s) (e : Entry) (l : e.cal
       new_keeps d fields fin v.1 small
   effect_keeps c t v (sets_field {o = o} {i = i} {v = r} id f within p) =
       write_keeps o id _ f
-      (λ j. set_cases (Names s) (object_at s id).fields i j (register_of s e.caller r) None
+      (λ j. set_cases (Names s) (object_by_id s id).fields i j (register_of s e.caller r) None
       (λ _. w.names.registers e.caller r) (field_named id (has n s e.caller o id w f) j))
-      (length-set (object_at s id).fields i (register_of s e.caller r)) refl
+      (length-set (object_by_id s id).fields i (register_of s e.caller r)) refl
   effect_keeps c t v (gets_field {d = d} {o = o} {i = i} id f within p) =
       register_keeps n s w e.caller d _ l (field_named id (has n s e.caller o id w f) i)
-  effect_keeps c t v (sets_value {o = o} {v = x} id f p) = rewrite_keeps o id x (object_at s id).registered f
+  effect_keeps c t v (sets_value {o = o} {v = x} id f p) = rewrite_keeps o id x (object_by_id s id).registered f
   effect_keeps c t v (reads_value id f p) = w
   effect_keeps c t v (copies {d = d} {r = r} p) =
       register_keeps n s w e.caller d _ l (w.names.registers e.caller r)
@@ -191,8 +191,8 @@ module _ (n : Numbers) (s : State) (w : IsWellFormed n s) (e : Entry) (l : e.cal
   effect_keeps c t v (puts_static {k = k} {r = r} p) = static_keeps n s w k _ (w.names.registers e.caller r)
   effect_keeps c t v (gets_static {d = d} {k = k} p) = register_keeps n s w e.caller d _ l (w.names.statics k)
   effect_keeps c t v (reads_generation id f p) = w
-  effect_keeps c t v (suppresses {o = o} id f p) = rewrite_keeps o id (object_at s id).value false f
-  effect_keeps c t v (reregisters {o = o} id f p) = rewrite_keeps o id (object_at s id).value true f
+  effect_keeps c t v (suppresses {o = o} id f p) = rewrite_keeps o id (object_by_id s id).value false f
+  effect_keeps c t v (reregisters {o = o} id f p) = rewrite_keeps o id (object_by_id s id).value true f
   effect_keeps c t v (finds_none {d = d} p) = register_keeps n s w e.caller d None l tt
   effect_keeps c t v (takes_first {d = d} id rest is p) =
       register_keeps n (with_queue s rest) (queue_keeps n s w id rest is) e.caller d (Some id) l

@@ -2,17 +2,19 @@
 -- After CoreCLR's handle table, in which clumps have ages, and its card table; the numbers are this project's
 -- own.
 use Rattle.std.specs.Prelude.{◌≡◌, ℕ, ◌+◌, ◌*◌, ◌-◌, ◌<◌, ◌≤◌, ◌/◌, Bool, true, cond, min, nat_lt, nat_le, List, [], ◌∷◌, ◌++◌, length, map, filter, slice_set, slice_index, Some}
+use Rattle.std.specs.List.{range_with_len}
+use Rattle.hd_model.specs.declared.limits.TheConstants.{CLUMP, CLUMPS, OLDEST}
 use Rattle.hd_model.specs.State.{Handle, secondary_of}
 use Rattle.hd_model.specs.Scene.{Objects, Rows, IsField, generation_at}
 
 -- a generation or an age after a collection of generation n: one up to n is raised by one, at most to 2
 abbrev pub raised : ℕ → ℕ → ℕ
-raised n g = cond (nat_lt n g) g (min (g + 1) 2)
+raised n g = cond (nat_lt n g) g (min (g + 1) OLDEST)
 
 -- sixteen slots share an age, and are a clump. The ages stand in a list by clump, which begins with block 1
 -- and has four for a block.
 abbrev pub clump_of : ℕ → ℕ
-clump_of slot = slot / 16 - 4
+clump_of slot = slot / CLUMP - CLUMPS
 
 -- the age of a slot's clump
 abbrev pub age_of : List ℕ → ℕ → ℕ
@@ -46,7 +48,7 @@ grown n ages = map (raised n) ages
 
 -- the clumps of a block, in their order
 abbrev pub clumps_of : ℕ → List ℕ
-clumps_of b = (4 * b - 4) ∷ (4 * b - 3) ∷ (4 * b - 2) ∷ (4 * b - 1) ∷ []
+clumps_of b = range_with_len (CLUMPS * b - CLUMPS) CLUMPS
 
 -- the clumps that a collection of generation n visits in a chain of blocks, in order
 abbrev pub due_clumps : List ℕ → ℕ → List ℕ → List ℕ

@@ -9,6 +9,7 @@ use Rattle.hd_model.specs.declared.data.Reply.{Reply}
 use Rattle.hd_model.specs.declared.data.Reply.TheVariants as reply
 use Rattle.hd_model.specs.declared.command.Cmd.{Cmd}
 use Rattle.hd_model.specs.declared.command.Cmd.TheVariants as cmd
+use Rattle.hd_model.specs.declared.limits.TheConstants.{CLUMPS, OLDEST}
 use Rattle.hd_model.specs.State.{Numbers, State, start_of, register_of, handle_register_of}
 use Rattle.hd_model.specs.Scene.{scene_of, generation_at}
 use Rattle.hd_model.specs.Ages.{lowered, grown}
@@ -96,7 +97,7 @@ pub record AgedStep (n : Numbers) (old : Aged) (e : Entry) (new : Aged) : Type 0
 
 -- at the start each age is 2
 abbrev pub aged_start : Numbers → Aged
-aged_start n = record { state = start_of n; ages = replicate (4 * n.blocks) 2 }
+aged_start n = record { state = start_of n; ages = replicate (CLUMPS * n.blocks) OLDEST }
 
 -- a journal is a run that replays to a state and leaves these ages
 abbrev pub AgedRun : Numbers → List Entry → State → List ℕ → Type 0

@@ -16,7 +16,7 @@ use Rattle.hd_model.specs.declared.data.Reply.{Reply}
 use Rattle.hd_model.specs.declared.data.Reply.TheVariants as reply
 use Rattle.hd_model.specs.Kinds.{kind_of, is_kind}
 use Rattle.hd_model.specs.State.{Numbers, Object, Extra, nothing, strength, secondary, count, Handle, State, secondary_of, count_of, without_secondary}
-use Rattle.hd_model.specs.State.{register_of, handle_register_of, static_of, board_of, last_serial, object_at, field_of, handle_at, used_of, identity_of}
+use Rattle.hd_model.specs.State.{register_of, handle_register_of, static_of, board_of, last_serial, object_by_id, field_of, handle_at, total_size, identity_of}
 use Rattle.hd_model.specs.State.{with_register, with_handle_register, with_static, with_board, with_object, with_handle, without_handle, with_queue, with_place, with_serial}
 use Rattle.hd_model.specs.Role.{pins}
 
@@ -48,7 +48,7 @@ on_object s caller o act = option_map_or act (register_of s caller o) (refuses r
 abbrev pub on_field : State → ℕ → ℕ → ℕ → (Id → Outcome) → Outcome
 on_field s caller o i act =
     on_object s caller o
-    (λ id. if nat_lt i (length (object_at s id).fields) then act id else refuses refusal.BadField s)
+    (λ id. if nat_lt i (length (object_by_id s id).fields) then act id else refuses refusal.BadField s)
 
 -- on the handle in handle register h, which is refused where the register is empty and where its slot is not
 -- live
@@ -72,7 +72,7 @@ fresh_object fields fin =
 -- serial, unless the heap would pass its limit. With `fin` it is registered for finalisation.
 abbrev pub new_object : Numbers → State → ℕ → ℕ → ℕ → Bool → Outcome
 new_object n s caller d fields fin =
-    if nat_lt n.heap (used_of s + (fields + 3)) then refuses (refusal.HeapFull (used_of s) (fields + 3)) s
+    if nat_lt n.heap (total_size s + (fields + 3)) then refuses (refusal.HeapFull (total_size s) (fields + 3)) s
     else (
     let serial = last_serial s caller + 1 in
     let id = identity_of caller serial in
@@ -83,7 +83,7 @@ new_object n s caller d fields fin =
 abbrev pub set_field : State → ℕ → ℕ → ℕ → ℕ → Outcome
 set_field s caller o i v =
     on_field s caller o i (λ id.
-    let object = object_at s id in
+    let object = object_by_id s id in
     answers reply.Done
     (with_object s id (record object { fields = slice_set object.fields i (register_of s caller v) })))
 
@@ -91,17 +91,17 @@ set_field s caller o i v =
 abbrev pub get_field : State → ℕ → ℕ → ℕ → ℕ → Outcome
 get_field s caller d o i =
     on_field s caller o i
-    (λ id. let v = field_of (object_at s id) i in answers (loaded v) (with_register s caller d v))
+    (λ id. let v = field_of (object_by_id s id) i in answers (loaded v) (with_register s caller d v))
 
 -- `val rO n`: the value of rO becomes n
 abbrev pub set_value : State → ℕ → ℕ → ℕ → Outcome
 set_value s caller o v =
     on_object s caller o
-    (λ id. answers reply.Done (with_object s id (record (object_at s id) { value = v })))
+    (λ id. answers reply.Done (with_object s id (record (object_by_id s id) { value = v })))
 
 -- `read rO`: the value of rO
 abbrev pub read_value : State → ℕ → ℕ → Outcome
-read_value s caller o = on_object s caller o (λ id. answers (reply.Value (object_at s id).value) s)
+read_value s caller o = on_object s caller o (λ id. answers (reply.Value (object_by_id s id).value) s)
 
 -- `copy rD rS`: rD names what rS names
 abbrev pub copy_register : State → ℕ → ℕ → ℕ → Outcome
@@ -122,13 +122,13 @@ get_static s caller d k = answers (loaded (static_of s k)) (with_register s call
 -- `gen rS`: the generation of rS
 abbrev pub read_generation : State → ℕ → ℕ → Outcome
 read_generation s caller o =
-    on_object s caller o (λ id. answers (reply.Generation (object_at s id).generation) s)
+    on_object s caller o (λ id. answers (reply.Generation (object_by_id s id).generation) s)
 
 -- `suppress rS` and `reregister rS`: rS is registered for finalisation no more, or again
 abbrev pub set_registered : State → ℕ → ℕ → Bool → Outcome
 set_registered s caller o registered =
     on_object s caller o
-    (λ id. answers reply.Done (with_object s id (record (object_at s id) { registered = registered })))
+    (λ id. answers reply.Done (with_object s id (record (object_by_id s id) { registered = registered })))
 
 -- `final rD`: rD names the first object of the finalisation queue, which leaves it; where it is empty, rD is
 -- null (.NET's finaliser thread takes objects in turn; here a command does)

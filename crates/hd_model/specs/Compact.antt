@@ -1,17 +1,18 @@
--- How many regions a heap may hold after a collection. Regions of 256 cells are this project's own, after
+-- How many regions a heap may hold after a collection of generation 2. Regions of 256 cells are this project's own, after
 -- CoreCLR's in outline.
 use Rattle.std.specs.Prelude.{ℕ, ◌+◌, ◌/◌, ◌≤◌}
 use Rattle.std.specs.FinMap.{len}
 use Rattle.hd_model.specs.declared.data.Addr.{Addr}
+use Rattle.hd_model.specs.declared.limits.TheConstants.{LEFT, OPEN}
 use Rattle.hd_model.specs.Scene.{Rows}
 use Rattle.hd_model.specs.Reach.{IsPinned}
 use Rattle.hd_model.specs.Counting.{Counts}
 use Rattle.hd_model.specs.Heap.{Heap, used_of}
 
 -- the regions held are at most used / 193 + 3, and one more for each pinned object. An object has at most 64
--- cells, so a region is left for the next of its generation only where 193 of its 256 cells are taken; three
--- generations may each have one that is not full, and what is pinned holds its region.
+-- cells, so a region is left for the next of its generation only where 193 of its 256 cells are taken (LEFT);
+-- three generations may each have one that is not full (OPEN), and what is pinned holds its region.
 pub record IsCompact (h : Heap) (rows : Rows Addr) : Type 0 where
   pub pinned : ℕ
   pub pinned_is : Counts (IsPinned rows) pinned
-  pub regions : len h.regions ≤ used_of h / 193 + 3 + pinned
+  pub regions : len h.regions ≤ used_of h / LEFT + OPEN + pinned

@@ -11,18 +11,14 @@ use Rattle.hd_model.specs.declared.data.Reply.TheVariants.{Done, Object, Nothing
 use Rattle.hd_model.specs.declared.data.Strength.TheVariants as strength
 use Rattle.hd_model.specs.declared.command.Cmd.{Cmd}
 use Rattle.hd_model.specs.declared.command.Cmd.TheVariants as cmd
-use Rattle.hd_model.specs.declared.limits.TheConstants.{HEAP, BLOCKS}
+use Rattle.hd_model.specs.declared.limits.TheConstants.{HEAP, BLOCKS, LOAD_CALLERS, ROUNDS_TO_COLLECTION}
 use Rattle.hd_model.specs.State.{Numbers, State}
 use Rattle.hd_model.specs.Laws.{makes_object, count_entries}
 use Rattle.hd_model.specs.Text.{newline, collections_of}
 
--- the callers of a load
-abbrev pub load_callers : ℕ
-load_callers = 4
-
 -- the numbers of a load: the heap and the table that a run has where it names none
 abbrev pub load_numbers : Numbers
-load_numbers = record { heap = HEAP; blocks = BLOCKS; callers = load_callers }
+load_numbers = record { heap = HEAP; blocks = BLOCKS; callers = LOAD_CALLERS }
 
 -- what the rounds make in turn: of each kind that has no count, a variable handle of strength strong
 abbrev pub makes_in_turn : List Make
@@ -35,7 +31,7 @@ make_of_round round = slice_index_or makes_in_turn (round % 6) make.Strong
 
 -- the collection after each 16th round, of the generation that is the rest of its number by 3
 abbrev pub collection_after : ℕ → List Cmd
-collection_after round = if round % 16 == 0 then cmd.Collect (round % 3) ∷ [] else []
+collection_after round = if round % ROUNDS_TO_COLLECTION == 0 then cmd.Collect (round % 3) ∷ [] else []
 
 -- the commands of a caller in one round: make an object and a handle of it, write and read through them, and
 -- let both go
@@ -57,7 +53,7 @@ generated_list rounds caller = flat_map (round_of caller) (range_with_len 1 roun
 
 -- the list of each caller
 unfoldable pub generated_lists : ℕ → List (List Cmd)
-generated_lists rounds = map (generated_list rounds) (range_with_len 0 load_callers)
+generated_lists rounds = map (generated_list rounds) (range_with_len 0 LOAD_CALLERS)
 
 -- the line of a load: its commands, the objects that were made, the live handles, the collections, and the
 -- sum of the values read

@@ -1,10 +1,11 @@
 -- A heap as its users see it: objects by address, in regions that have generations. Regions and cards are this project's own.
-use Rattle.std.specs.Prelude.{◌≡◌, ℕ, ◌+◌, ◌/◌, Bool, false, List, [], length, sum_by, Option, Some, None, unwrap_or, option_map}
+use Rattle.std.specs.Prelude.{◌≡◌, ℕ, ◌+◌, ◌/◌, ◌%◌, Bool, false, List, [], length, sum_by, Option, Some, None, unwrap_or, option_map}
 use Rattle.std.specs.FinMap.{FinMap, get, values, contains_key}
 use Rattle.std.specs.FinSet as set
 use Rattle.std.specs.Ordering.{nat_cmp}
 use Rattle.hd_model.specs.declared.data.Id.{Id}
 use Rattle.hd_model.specs.declared.data.Addr.{Addr}
+use Rattle.hd_model.specs.declared.limits.TheConstants.{HEADER, REGION, CARD}
 use Rattle.hd_model.specs.State.{Object}
 use Rattle.hd_model.specs.Scene.{Objects, is_object}
 
@@ -30,12 +31,15 @@ pub record Heap : Type 0 where
   pub limit : ℕ
   pub cards : set.FinSet nat_cmp
 
--- the region of an address, and its card: a region is 256 cells, a card 32
+-- the region of an address, the offset of an address in its region, and the card of an address
 unfoldable pub region_of : Addr → ℕ
-region_of a = a.0 / 256
+region_of a = a.0 / REGION
+
+abbrev pub offset_of : Addr → ℕ
+offset_of a = a.0 % REGION
 
 unfoldable pub card_of : Addr → ℕ
-card_of a = a.0 / 32
+card_of a = a.0 / CARD
 
 -- whether a region is held, and what it is; one that is not held is read as an empty one of generation 0
 abbrev pub is_held : Heap → ℕ → Bool
@@ -81,7 +85,7 @@ is_carded h a = is_set h (card_of a)
 
 -- the cells that an object takes: three more than its fields
 abbrev pub cells_of : Placed → ℕ
-cells_of p = length p.fields + 3
+cells_of p = length p.fields + HEADER
 
 -- the cells that all objects take together
 abbrev pub used_of : Heap → ℕ

@@ -29,6 +29,8 @@ pub mod Visits
 pub mod Code
 pub mod Grammar
 pub mod CommandText
+pub mod RootText
+pub mod RootExamples
 pub mod Laws
 pub mod StepExamples
 pub mod Generated

@@ -6,7 +6,7 @@ use Rattle.std.specs.Option.{MatchOption}
 use Rattle.std.specs.FinMap.{FinMap, get, values}
 use Rattle.std.specs.Ordering.{nat_cmp}
 use Rattle.hd_model.specs.declared.data.Id.{Id}
-use Rattle.hd_model.specs.State.{Object, Handle, State, object_at, size_of}
+use Rattle.hd_model.specs.State.{Object, Handle, State, object_by_id, size_of}
 use Rattle.hd_model.specs.Role.{pins}
 
 -- the cells of an object that begins at a place: the first one, and the first one after them (this project's
@@ -28,7 +28,7 @@ pub record IsFreePlace (s : State) (x : Id) (place : ℕ) : Type 0 where
   pub small : place < 2 ^ 32
   pub apart :
       (y : Id) (other : ℕ) → get s.places y.0 ≡ Some other
-      → Meet (range_at place (object_at s x)) (range_at other (object_at s y)) → ⊥
+      → Meet (range_at place (object_by_id s x)) (range_at other (object_by_id s y)) → ⊥
 
 -- what `addr` may answer for an object: its place where it has one, and else a free place
 abbrev pub MayAnswer : State → Id → ℕ → Type 0

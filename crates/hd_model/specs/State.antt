@@ -7,7 +7,7 @@ use Rattle.hd_model.specs.declared.data.Id.{Id}
 use Rattle.hd_model.specs.declared.data.Slot.{Slot}
 use Rattle.hd_model.specs.declared.data.Kind.{Kind}
 use Rattle.hd_model.specs.declared.data.Strength.{Strength}
-use Rattle.hd_model.specs.declared.limits.TheConstants.{REGISTERS, ROWS}
+use Rattle.hd_model.specs.declared.limits.TheConstants.{HEADER, REGISTERS, ROWS}
 
 -- the numbers of a run, which no command changes: the limit of the heap in cells, the blocks and the callers
 pub record Numbers : Type 0 where
@@ -137,8 +137,8 @@ last_serial s caller = slice_index s.serials caller
 
 -- the object with an identity. Each identity that a register, static, field or handle has is that of an
 -- object.
-abbrev pub object_at : State → Id → Object Id
-object_at s id =
+abbrev pub object_by_id : State → Id → Object Id
+object_by_id s id =
     unwrap_or (get s.objects id.0) (record { fields = []; value = 0; generation = 0; registered = false })
 
 -- the field of an object: an identity, or null
@@ -155,11 +155,11 @@ use_of s block = get s.blocks block
 
 -- the size of an object in cells: its fields and three more
 abbrev pub size_of : {N : Type 0} → Object N → ℕ
-size_of object = length object.fields + 3
+size_of object = length object.fields + HEADER
 
 -- the cells that all objects take together, reachable or not
-abbrev pub used_of : State → ℕ
-used_of s = sum_by size_of (values s.objects)
+abbrev pub total_size : State → ℕ
+total_size s = sum_by size_of (values s.objects)
 
 -- the number of blocks that have a use
 abbrev pub given_of : State → ℕ

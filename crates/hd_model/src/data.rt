@@ -18,6 +18,14 @@ pub struct Addr(pub u32);
 #[derive(Clone, Copy, Debug, PartialEq, Eq)]
 pub struct Slot(pub u32);
 
+/// A handle that holds its target, as a root does: its slot, its kind, and the object that it holds.
+#[derive(Clone, Copy, Debug, PartialEq, Eq)]
+pub struct RootId {
+    pub slot: Slot,
+    pub kind: Kind,
+    pub id: Id,
+}
+
 /// Want of memory.
 #[derive(Clone, Copy, Debug, PartialEq, Eq)]
 pub struct Memory;

@@ -21,7 +21,7 @@ pub use collection_laws::{
 };
 pub use command::Cmd;
 pub use data::{
-    Addr, Entry, Grown, Id, Kind, Make, Memory, Refusal, Reply, Report, Slot, Strength,
+    Addr, Entry, Grown, Id, Kind, Make, Memory, Refusal, Reply, Report, RootId, Slot, Strength,
 };
 pub use forward::Forward;
 pub use held::Held;
@@ -34,5 +34,5 @@ pub use laws::{
     solo_runs_are_one, solo_text_is_one, static_is_read_back, steps_keep_well_formed,
     strength_is_kept, target_is_read_back, untouched_stays, value_is_read_back,
 };
-pub use marker::Marker;
+pub use marker::{Marker, is_lost};
 pub use steps::Steps;

@@ -3,6 +3,8 @@ ghost use Rattle.hd_model.specs.Heap.{Basis, objects_of};
 ghost use Rattle.hd_model.specs.Scene.{is_object, IsYoungField};
 ghost use Rattle.hd_model.specs.Leads.{Grows};
 ghost use Rattle.hd_model.specs.Marking.{IsSettled, Gains};
+ghost use Rattle.hd_model.specs.Collect.{is_lost};
+ghost use Rattle.std.specs.Option.{ForSome};
 
 use crate::data::Addr;
 
@@ -56,4 +58,16 @@ pub trait Marker {
     /// Where it is settled, only objects are promoted, all older ones are, and it is closed.
     ghost settles: { (m : Self) → settled m →
         IsSettled (objects_of (basis m)) (basis m).condemned (promoted m) };
+}
+
+/// Whether a target is not promoted. Null is not lost.
+pub fn is_lost<M: Marker>(target: Option<Addr>, marker: &M) -> bool
+    requires settled { M.settled marker.now }
+    requires object { ForSome target (λ x. is_object (objects_of (M.basis marker.now)) x ≡ true) }
+    ensures { result ≡ is_lost (M.promoted marker.now) target }
+{
+    match target {
+        Some(at) => !marker.promoted(at),
+        None => false,
+    }
 }

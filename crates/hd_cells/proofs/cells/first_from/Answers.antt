@@ -12,7 +12,8 @@ early c named = elim c.else-at-from.branch [
 ]
 
 step : (c : goal.Joined-else-at-from) → IsPassed c.args.cells.now c.args.fill c.args.from c.loop-at.at
-step c = passed c.args.cells.now c.args.fill c.args.from c.loop-at.at c.loop-at.invariant (omega (arith, c.loop-at-test.true)) (early c)
+step c = passed c.args.cells.now c.args.fill c.args.from c.loop-at.at c.loop-at.invariant
+    (omega (arith, c.loop-at-test.true)) (early c)
 
 early_after : (c : goal.After-extent-at) → cell c.args.cells.now c.loop-at.at ≢ 0 → c.loop-at.at < c.args.from
 early_after c named = elim c.else-at-from.branch [
@@ -21,7 +22,8 @@ early_after c named = elim c.else-at-from.branch [
 ]
 
 step_after : (c : goal.After-extent-at) → IsPassed c.args.cells.now c.args.fill c.args.from c.loop-at.at
-step_after c = passed c.args.cells.now c.args.fill c.args.from c.loop-at.at c.loop-at.invariant (omega (arith, c.loop-at-test.true)) (early_after c)
+step_after c = passed c.args.cells.now c.args.fill c.args.from c.loop-at.at c.loop-at.invariant
+    (omega (arith, c.loop-at-test.true)) (early_after c)
 
 pub extent-at-requires : goal.extent-at-requires
 extent-at-requires c = let s = step c in omega (arith, s.long, s.within, c.requires.within)
@@ -35,11 +37,14 @@ loop-at-preserved c =
     subst P (sym c.extent-at.ensures) (step_after c).reached
 
 pub loop-at-smaller : goal.loop-at-smaller
-loop-at-smaller c = let s = step_after c in omega (arith, s.long, s.within, c.extent-at.ensures, c.loop-at-test.true)
+loop-at-smaller c = let s = step_after c in
+    omega (arith, s.long, s.within, c.extent-at.ensures, c.loop-at-test.true)
 
 pub returns-then-cells-at-ne0 : goal.returns-then-cells-at-ne0
 returns-then-cells-at-ne0 c =
-    object_reached c.args.cells.now c.args.fill c.args.from c.loop-at.at c.loop-at.invariant (omega (arith, c.loop-at-test.true)) (omega (arith, c.if-at-from.true)) c.if-cells-at-ne0.true
+    object_reached c.args.cells.now c.args.fill c.args.from c.loop-at.at c.loop-at.invariant
+    (omega (arith, c.loop-at-test.true)) (omega (arith, c.if-at-from.true)) c.if-cells-at-ne0.true
 
 pub returns : goal.returns
-returns c = none_reached c.args.cells.now c.args.fill c.args.from c.loop-at.at c.loop-at.invariant (omega (arith, c.loop-at-test.false))
+returns c = none_reached c.args.cells.now c.args.fill c.args.from c.loop-at.at c.loop-at.invariant
+    (omega (arith, c.loop-at-test.false))

@@ -4,10 +4,12 @@ use Rattle.hd_cells.proofs.region.Region.registered.Goals as goal
 
 pub bounds-self-inside-at : goal.bounds-self-inside-at
 bounds-self-inside-at c =
-    let h = held c.self.inside.cells c.self.inside.fill c.args.self.now c.self.told.0 c.self.invariant.region c.self.view_is c.args.at c.requires in
+    let h = held c.self.inside.cells c.self.inside.fill c.args.self.now c.self.told.0 c.self.invariant.region
+    c.self.view_is c.args.at c.requires in
     omega (arith, h.high, h.within)
 
 pub returns : goal.returns
 returns c =
-    let h = held c.self.inside.cells c.self.inside.fill c.args.self.now c.self.told.0 c.self.invariant.region c.self.view_is c.args.at c.requires in
+    let h = held c.self.inside.cells c.self.inside.fill c.args.self.now c.self.told.0 c.self.invariant.region
+    c.self.view_is c.args.at c.requires in
     sym h.registered

@@ -8,15 +8,23 @@ use Rattle.hd_cells.proofs.region.Region.set_value.Goals as goal
 
 pub bounds-self-inside-place : goal.bounds-self-inside-place
 bounds-self-inside-place c =
-    let h = held c.self.inside.cells c.self.inside.fill c.args.self.now c.self.told.0 c.self.invariant.region c.self.view_is c.args.at c.requires in
+    let h = held c.self.inside.cells c.self.inside.fill c.args.self.now c.self.told.0 c.self.invariant.region
+    c.self.view_is c.args.at c.requires in
     omega (arith, h.high, h.within)
 
 pub returns : goal.returns
 returns c =
-    let made = value_written c.self.inside.cells c.self.inside.fill c.args.self.now c.self.told.0 c.self.invariant.region c.self.view_is c.args.at c.requires c.args.v in
-    record { written = made.contents; laid_out = of_laid_out _ c.self.inside.fill _ (length-set c.self.inside.cells _ c.args.v ∙ c.self.told.0) made }
+    let made = value_written c.self.inside.cells c.self.inside.fill c.args.self.now c.self.told.0
+    c.self.invariant.region c.self.view_is c.args.at c.requires c.args.v in
+    record {
+      written = made.contents;
+      laid_out = of_laid_out _ c.self.inside.fill _
+          (length-set c.self.inside.cells _ c.args.v ∙ c.self.told.0) made;
+    }
 
 pub invariant_of-self : goal.invariant_of-self
 invariant_of-self c =
-    whole_written c.self.inside.cells c.self.inside.fill c.self.inside.starts c.args.self.now c.self.told.1 c.self.invariant c.self.view_is _ c.args.at _ c.requires
-    (value_written c.self.inside.cells c.self.inside.fill c.args.self.now c.self.told.0 c.self.invariant.region c.self.view_is c.args.at c.requires c.args.v)
+    whole_written c.self.inside.cells c.self.inside.fill c.self.inside.starts c.args.self.now c.self.told.1
+    c.self.invariant c.self.view_is _ c.args.at _ c.requires
+    (value_written c.self.inside.cells c.self.inside.fill c.args.self.now c.self.told.0
+    c.self.invariant.region c.self.view_is c.args.at c.requires c.args.v)

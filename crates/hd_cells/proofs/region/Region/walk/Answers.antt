@@ -10,6 +10,8 @@ first_from-requires c = record {
 
 pub returns : goal.returns
 returns c = record {
-  first = first_seen c.self.inside.cells c.self.inside.fill c.args.self.now c.args.from c.first_from.result c.self.view_is c.first_from.ensures;
-  laid_out = laid_out c.self.inside.cells c.self.inside.fill c.args.self.now c.self.told.0 c.self.invariant.region c.self.view_is;
+  first = first_seen c.self.inside.cells c.self.inside.fill c.args.self.now c.args.from c.first_from.result
+      c.self.view_is c.first_from.ensures;
+  laid_out = laid_out c.self.inside.cells c.self.inside.fill c.args.self.now c.self.told.0
+      c.self.invariant.region c.self.view_is;
 }

@@ -11,6 +11,9 @@ returns-clause-area c =
     let was = c.deref_mut.ensures.value in
     let object = new_object c.args.id c.args.fields c.args.registered in
     area_put c.args.self.now _ object c.requires.area c.requires.held
-    (subst (λ (r : Contents). get r.objects r.fill ≡ None) was (subst (λ (k : ℕ). get c.deref_mut.result.now.objects k ≡ None) c.put_object.ensures.offset c.put_object.ensures.was_free))
+    (subst (λ (r : Contents). get r.objects r.fill ≡ None) was
+    (subst (λ (k : ℕ). get c.deref_mut.result.now.objects k ≡ None) c.put_object.ensures.offset
+    c.put_object.ensures.was_free))
     (c.put_object.ensures.put ∙ ap (λ (r : Contents). with_put r object) was) c.put_object.ensures.laid_out
-    (ap (λ (n : ℕ). c.args.self.now.live + (n + 3)) (sym (length-replicate c.args.fields (let z : ℕ = 0 in z)))) refl refl refl
+    (ap (λ (n : ℕ). c.args.self.now.live + (n + 3))
+    (sym (length-replicate c.args.fields (let z : ℕ = 0 in z)))) refl refl refl

@@ -8,28 +8,39 @@ use Rattle.hd_heap.proofs.area.Area.remove.Goals as goal
 
 pub overflow_sub-self : goal.overflow_sub-self
 overflow_sub-self c =
-    let size : c.fields.result + 3 ≡ size_of (object_at (contents c.args.self.now) c.args.at) =
-    ap (λ (n : ℕ). n + 3) (c.fields.ensures.count ∙ ap (λ (r : Contents). length (object_at r c.args.at).fields) c.deref.ensures) in
+    let size : c.fields-cells.result + 3 ≡ size_of (object_at (contents c.args.self.now) c.args.at) =
+    ap (λ (n : ℕ). n + 3) (c.fields-cells.ensures.count
+    ∙ ap (λ (r : Contents). length (object_at r c.args.at).fields) c.deref.ensures) in
     omega (arith, live_at c.args.self.now c.requires.area c.args.at c.requires.object)
 
 pub returns-then-self-card : goal.returns-then-self-card
 returns-then-self-card c =
     let a = c.args.self.now in
     let card = c.args.at / 32 in
-    let now : get_or (set a.cards card c.starts_in.result) card false ≡ c.starts_in.result = get_or-set_same a.cards card c.starts_in.result false (omega (arith, c.requires.area.eight, c.requires.area.laid_out.within_region, c.requires.area.laid_out.below_fill c.args.at c.requires.object)) in
-    let both = area_taken a _ c.args.at (c.fields.result + 3) c.requires.area (record {
+    let now : get_or (set a.cards card c.starts_in.result) card false ≡ c.starts_in.result =
+    get_or-set_same a.cards card c.starts_in.result false
+    (omega (
+      arith,
+      c.requires.area.card_count,
+      c.requires.area.laid_out.within_region,
+      c.requires.area.laid_out.below_fill c.args.at c.requires.object,
+    )) in
+    let both = area_taken a _ c.args.at (c.fields-cells.result + 3) c.requires.area (record {
       there = c.requires.object;
-      removed = c.remove.ensures.removed ∙ ap (λ (r : Contents). without_object r c.args.at) c.deref_mut.ensures.value;
+      removed = c.remove.ensures.removed
+          ∙ ap (λ (r : Contents). without_object r c.args.at) c.deref_mut.ensures.value;
       laid_out = c.remove.ensures.laid_out;
-      size = ap (λ (n : ℕ). n + 3) (c.fields.ensures.count ∙ ap (λ (r : Contents). length (object_at r c.args.at).fields) c.deref.ensures);
+      size = ap (λ (n : ℕ). n + 3) (c.fields-cells.ensures.count
+          ∙ ap (λ (r : Contents). length (object_at r c.args.at).fields) c.deref.ensures);
       live = refl;
       held = refl;
       generation = c.requires.area.generation;
       same = refl;
-      eight = length-set a.cards card c.starts_in.result ∙ c.requires.area.eight;
+      card_count = length-set a.cards card c.starts_in.result ∙ c.requires.area.card_count;
       others = λ k apart. get_or-set_other a.cards card k c.starts_in.result false apart;
       begins = λ is. c.starts_in.ensures.some (sym now ∙ is);
-      kept = λ b. now ∙ begun c.starts_in.result (λ none. c.starts_in.ensures.none none b.at b.object b.in_card) ∙ sym c.if-self-card.true;
+      kept = λ b. now ∙ begun c.starts_in.result
+          (λ none. c.starts_in.ensures.none none b.at b.object b.in_card) ∙ sym c.if-self-card.true;
     }) in
     record { area = both.0; taken = both.1 }
   where
@@ -40,16 +51,18 @@ returns-then-self-card c =
 pub returns-else-self-card : goal.returns-else-self-card
 returns-else-self-card c =
     let a = c.args.self.now in
-    let both = area_taken a _ c.args.at (c.fields.result + 3) c.requires.area (record {
+    let both = area_taken a _ c.args.at (c.fields-cells.result + 3) c.requires.area (record {
       there = c.requires.object;
-      removed = c.remove.ensures.removed ∙ ap (λ (r : Contents). without_object r c.args.at) c.deref_mut.ensures.value;
+      removed = c.remove.ensures.removed
+          ∙ ap (λ (r : Contents). without_object r c.args.at) c.deref_mut.ensures.value;
       laid_out = c.remove.ensures.laid_out;
-      size = ap (λ (n : ℕ). n + 3) (c.fields.ensures.count ∙ ap (λ (r : Contents). length (object_at r c.args.at).fields) c.deref.ensures);
+      size = ap (λ (n : ℕ). n + 3) (c.fields-cells.ensures.count
+          ∙ ap (λ (r : Contents). length (object_at r c.args.at).fields) c.deref.ensures);
       live = refl;
       held = refl;
       generation = c.requires.area.generation;
       same = refl;
-      eight = c.requires.area.eight;
+      card_count = c.requires.area.card_count;
       others = λ k apart. refl;
       begins = λ is. absurd (both_ways _ c.if-self-card.false is);
       kept = λ b. refl;

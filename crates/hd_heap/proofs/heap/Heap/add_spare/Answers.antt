@@ -9,34 +9,53 @@ use Rattle.hd_heap.proofs.Regions.{kept_roomy, region_added}
 use Rattle.hd_heap.proofs.heap.Heap.add_spare.Goals as goal
 
 -- the lists as they were, after more room was taken
-roomy : (areas areas2 : List Area) (spares spares2 : List ℕ) (capacity cells objects holds : ℕ) → areas2 ≡ areas → spares2 ≡ spares → IsKept areas spares capacity cells objects holds → IsKept areas2 spares2 capacity cells objects holds
+roomy : (areas areas2 : List Area) (spares spares2 : List ℕ) (capacity cells objects holds : ℕ)
+    → areas2 ≡ areas → spares2 ≡ spares → IsKept areas spares capacity cells objects holds
+    → IsKept areas2 spares2 capacity cells objects holds
 roomy areas areas2 spares spares2 capacity cells objects holds e f kept =
-    subst (λ (xs : List Area). IsKept xs spares2 capacity cells objects holds) (sym e) (subst (λ (ns : List ℕ). IsKept areas ns capacity cells objects holds) (sym f) kept)
+    subst (λ (xs : List Area). IsKept xs spares2 capacity cells objects holds) (sym e)
+    (subst (λ (ns : List ℕ). IsKept areas ns capacity cells objects holds) (sym f) kept)
 
 pub invariant_of-self-then-is_err-2 : goal.invariant_of-self-then-is_err-2
-invariant_of-self-then-is_err-2 c = roomy _ _ _ _ _ _ _ _ c.reserve.ensures.items c.reserve-2.ensures.items (kept_roomy c.self.inside.areas.items c.self.inside.spare.items c.self.inside.limit _ _ _ _ c.args.self.now c.self.view_is c.self.invariant (deque_capacity c.reserve-2.new.self) c.reserve-2.ensures.capacity)
+invariant_of-self-then-is_err-2 c = roomy _ _ _ _ _ _ _ _ c.reserve.ensures.items c.reserve-2.ensures.items
+    (kept_roomy c.self.inside.areas.items c.self.inside.spare.items c.self.inside.limit _ _ _ _
+    c.args.self.now c.self.view_is c.self.invariant (deque_capacity c.reserve-2.new.self)
+    c.reserve-2.ensures.capacity)
 
 pub invariant_of-self-in_default : goal.invariant_of-self-in_default
-invariant_of-self-in_default c = roomy _ _ _ _ _ _ _ _ c.reserve.ensures.items c.reserve-2.ensures.items (kept_roomy c.self.inside.areas.items c.self.inside.spare.items c.self.inside.limit _ _ _ _ c.args.self.now c.self.view_is c.self.invariant (deque_capacity c.reserve-2.new.self) c.reserve-2.ensures.capacity)
+invariant_of-self-in_default c = roomy _ _ _ _ _ _ _ _ c.reserve.ensures.items c.reserve-2.ensures.items
+    (kept_roomy c.self.inside.areas.items c.self.inside.spare.items c.self.inside.limit _ _ _ _
+    c.args.self.now c.self.view_is c.self.invariant (deque_capacity c.reserve-2.new.self)
+    c.reserve-2.ensures.capacity)
 
 -- what is said of a success
 from_ok : {A E : Type 0} (r : Result A E) (P : Type 0) → is_err r ≡ false → OnOk r P → P
 from_ok (Ok x) P e p = p
 from_ok (Err x) P e p = absurd (cc e)
 
-added : (c : goal.After-push_back_reserved) → IsHeap c.push_reserved.new.self.items c.push_back_reserved.new.self.items c.self.inside.limit (deque_capacity c.push_back_reserved.new.self) c.self.inside.used c.self.inside.count c.self.inside.held (record c.args.self.now { spare = c.args.self.now.spare ++ (c.len-number.result + 1) ∷ [] })
+added : (c : goal.After-push_back_reserved)
+    → IsHeap c.push_reserved.new.self.items c.push_back_reserved.new.self.items c.self.inside.limit
+    (deque_capacity c.push_back_reserved.new.self) c.self.inside.used c.self.inside.count c.self.inside.held
+    (record c.args.self.now { spare = c.args.self.now.spare ++ (c.len-number.result + 1) ∷ [] })
 added c =
     let n = c.len-number.result + 1 in
     let number_is = c.len-number.ensures in
-    let small = c.if-number-ge-NUMBERS.false in
-    let room = from_ok c.reserve-2.result _ (sym c.is_err-2.ensures.value ∙ c.if-is_err-2.false) c.reserve-2.ensures.ok in
+    let small = c.if-number.false in
+    let room = from_ok c.reserve-2.result _ (sym c.is_err-2.ensures.value ∙ c.if-is_err-2.false)
+    c.reserve-2.ensures.ok in
     let length_spare = c.reserve-2.ensures.len in
     let length_new = c.push_back_reserved.ensures.capacity in
     let length_one = c.len.ensures in
-    region_added c.self.inside.areas.items c.self.inside.spare.items c.self.inside.limit (deque_capacity c.reserve-2.new.self) _ _ _ c.args.self.now c.self.view_is (kept_roomy c.self.inside.areas.items c.self.inside.spare.items c.self.inside.limit _ _ _ _ c.args.self.now c.self.view_is c.self.invariant (deque_capacity c.reserve-2.new.self) c.reserve-2.ensures.capacity)
-    c.spare.result c.push_reserved.new.self.items c.push_back_reserved.new.self.items (deque_capacity c.push_back_reserved.new.self) n
+    region_added c.self.inside.areas.items c.self.inside.spare.items c.self.inside.limit
+    (deque_capacity c.reserve-2.new.self) _ _ _ c.args.self.now c.self.view_is
+    (kept_roomy c.self.inside.areas.items c.self.inside.spare.items c.self.inside.limit _ _ _ _
+    c.args.self.now c.self.view_is c.self.invariant (deque_capacity c.reserve-2.new.self)
+    c.reserve-2.ensures.capacity)
+    c.spare.result c.push_reserved.new.self.items c.push_back_reserved.new.self.items
+    (deque_capacity c.push_back_reserved.new.self) n
     c.spare.ensures.area c.spare.ensures.held c.spare.ensures.contents c.spare.ensures.live
-    (c.push_reserved.ensures.items ∙ ap (λ (xs : List Area). xs ++ c.spare.result ∷ []) c.reserve.ensures.items)
+    (c.push_reserved.ensures.items
+    ∙ ap (λ (xs : List Area). xs ++ c.spare.result ∷ []) c.reserve.ensures.items)
     (omega arith) (omega arith)
     (c.push_back_reserved.ensures.items ∙ ap (λ (xs : List ℕ). xs ++ n ∷ []) c.reserve-2.ensures.items)
     (omega arith)

@@ -6,11 +6,14 @@ use Rattle.hd_heap.specs.Calls.{new_object}
 use Rattle.hd_heap.proofs.Values.{made}
 use Rattle.hd_heap.proofs.heap.Heap.new_object.Goals as goal
 
-pub returns-in-Ok : goal.returns-in-Ok
-returns-in-Ok c =
-    let used : c.self.inside.used ≡ used_of c.args.self.now = c.self.invariant.used ∙ ap used_of c.self.view_is in
+pub returns-in-Ok-clause-made : goal.returns-in-Ok-clause-made
+returns-in-Ok-clause-made c =
+    let used : c.self.inside.used ≡ used_of c.args.self.now = c.self.invariant.used
+    ∙ ap used_of c.self.view_is in
     let limit = ap (λ (h : Heap). h.limit) c.self.view_is in
     let null : Option Addr = None in
     let nulls = length-replicate c.args.fields null in
-    made c.args.self.now c.room_for.new.self c.put.new.self c.in-Ok.region (c.args.fields + 3) c.put.result (new_object c.args.id c.args.fields c.args.registered)
-    (omega arith) c.in-Ok.ensures.ok c.put.ensures.place c.put.ensures.region c.put.ensures.was_free c.put.ensures.put
+    made c.args.self.now c.room_for.new.self c.put.new.self c.in-Ok.region (c.args.fields + 3) c.put.result
+    (new_object c.args.id c.args.fields c.args.registered)
+    (omega arith) c.in-Ok.ensures.ok c.put.ensures.place c.put.ensures.region c.put.ensures.was_free
+    c.put.ensures.put

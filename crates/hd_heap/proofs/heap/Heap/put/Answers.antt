@@ -8,14 +8,24 @@ use Rattle.hd_heap.proofs.Sound.{cells_small, objects_small}
 use Rattle.hd_heap.proofs.heap.Heap.put.Goals as goal
 
 pub overflow_sub-region : goal.overflow_sub-region
-overflow_sub-region c = (held_place c.self.inside.areas.items c.self.inside.spare.items c.self.inside.limit _ _ _ _ c.args.self.now c.self.view_is c.self.invariant c.args.region c.requires.held).0
+overflow_sub-region c = (held_place c.self.inside.areas.items c.self.inside.spare.items c.self.inside.limit _
+    _ _ _ c.args.self.now c.self.view_is c.self.invariant c.args.region c.requires.held).0
 
 pub index_mut-requires : goal.index_mut-requires
-index_mut-requires c = let low = (held_place c.self.inside.areas.items c.self.inside.spare.items c.self.inside.limit _ _ _ _ c.args.self.now c.self.view_is c.self.invariant c.args.region c.requires.held).0 in let high = (held_place c.self.inside.areas.items c.self.inside.spare.items c.self.inside.limit _ _ _ _ c.args.self.now c.self.view_is c.self.invariant c.args.region c.requires.held).1 in omega arith
+index_mut-requires c = let low =
+    (held_place c.self.inside.areas.items c.self.inside.spare.items c.self.inside.limit _ _ _ _
+    c.args.self.now c.self.view_is c.self.invariant c.args.region c.requires.held).0 in let high =
+    (held_place c.self.inside.areas.items c.self.inside.spare.items c.self.inside.limit _ _ _ _
+    c.args.self.now c.self.view_is c.self.invariant c.args.region c.requires.held).1 in omega arith
 
 pub put-offset-requires : goal.put-offset-requires
 put-offset-requires c =
-    let h = (held_at c.self.inside.areas.items c.self.inside.spare.items c.self.inside.limit _ _ _ _ c.args.self.now c.self.view_is c.self.invariant c.args.region (c.args.region - 1) c.index_mut.result.now c.requires.held (let low = (held_place c.self.inside.areas.items c.self.inside.spare.items c.self.inside.limit _ _ _ _ c.args.self.now c.self.view_is c.self.invariant c.args.region c.requires.held).0 in omega arith) c.index_mut.ensures.value) in
+    let h = (held_at c.self.inside.areas.items c.self.inside.spare.items c.self.inside.limit _ _ _ _
+    c.args.self.now c.self.view_is c.self.invariant c.args.region
+    (c.args.region - 1) c.index_mut.result.now c.requires.held
+    (let low = (held_place c.self.inside.areas.items c.self.inside.spare.items c.self.inside.limit _ _ _ _
+    c.args.self.now c.self.view_is c.self.invariant c.args.region c.requires.held).0 in
+    omega arith) c.index_mut.ensures.value) in
     let g = ap (λ (x : Region). x.fill) h.region in
     let room = c.requires.room in
     record {
@@ -28,24 +38,34 @@ put-offset-requires c =
 
 pub overflow_add-self-2 : goal.overflow_add-self-2
 overflow_add-self-2 c =
-    let small = cells_small c.self.inside.areas.items c.self.inside.spare.items c.self.inside.limit _ _ _ _ c.self.invariant in
+    let small = cells_small c.self.inside.areas.items c.self.inside.spare.items c.self.inside.limit _ _ _ _
+    c.self.invariant in
     let few = c.self.invariant.few in
     let fields = c.requires.few_fields in
     omega arith
 
 pub overflow_add-self-3 : goal.overflow_add-self-3
 overflow_add-self-3 c =
-    let small = cells_small c.self.inside.areas.items c.self.inside.spare.items c.self.inside.limit _ _ _ _ c.self.invariant in
-    let many = objects_small c.self.inside.areas.items c.self.inside.spare.items c.self.inside.limit _ _ _ _ c.self.invariant in
+    let small = cells_small c.self.inside.areas.items c.self.inside.spare.items c.self.inside.limit _ _ _ _
+    c.self.invariant in
+    let many = objects_small c.self.inside.areas.items c.self.inside.spare.items c.self.inside.limit _ _ _ _
+    c.self.invariant in
     let few = c.self.invariant.few in
     omega arith
 
 pub address_in-requires : goal.address_in-requires
 address_in-requires c =
-    let low = (held_place c.self.inside.areas.items c.self.inside.spare.items c.self.inside.limit _ _ _ _ c.args.self.now c.self.view_is c.self.invariant c.args.region c.requires.held).0 in
-    let high = (held_place c.self.inside.areas.items c.self.inside.spare.items c.self.inside.limit _ _ _ _ c.args.self.now c.self.view_is c.self.invariant c.args.region c.requires.held).1 in
+    let low = (held_place c.self.inside.areas.items c.self.inside.spare.items c.self.inside.limit _ _ _ _
+    c.args.self.now c.self.view_is c.self.invariant c.args.region c.requires.held).0 in
+    let high = (held_place c.self.inside.areas.items c.self.inside.spare.items c.self.inside.limit _ _ _ _
+    c.args.self.now c.self.view_is c.self.invariant c.args.region c.requires.held).1 in
     let few = c.self.invariant.few in
-    let h = (held_at c.self.inside.areas.items c.self.inside.spare.items c.self.inside.limit _ _ _ _ c.args.self.now c.self.view_is c.self.invariant c.args.region (c.args.region - 1) c.index_mut.result.now c.requires.held (let low = (held_place c.self.inside.areas.items c.self.inside.spare.items c.self.inside.limit _ _ _ _ c.args.self.now c.self.view_is c.self.invariant c.args.region c.requires.held).0 in omega arith) c.index_mut.ensures.value) in
+    let h = (held_at c.self.inside.areas.items c.self.inside.spare.items c.self.inside.limit _ _ _ _
+    c.args.self.now c.self.view_is c.self.invariant c.args.region
+    (c.args.region - 1) c.index_mut.result.now c.requires.held
+    (let low = (held_place c.self.inside.areas.items c.self.inside.spare.items c.self.inside.limit _ _ _ _
+    c.args.self.now c.self.view_is c.self.invariant c.args.region c.requires.held).0 in
+    omega arith) c.index_mut.ensures.value) in
     let g = ap (λ (x : Region). x.fill) h.region in
     let room = c.requires.room in
     let fill = c.put-offset.ensures.offset in
@@ -53,29 +73,50 @@ address_in-requires c =
 
 pub invariant_of-self : goal.invariant_of-self
 invariant_of-self c =
-    let h = (held_at c.self.inside.areas.items c.self.inside.spare.items c.self.inside.limit _ _ _ _ c.args.self.now c.self.view_is c.self.invariant c.args.region (c.args.region - 1) c.index_mut.result.now c.requires.held (let low = (held_place c.self.inside.areas.items c.self.inside.spare.items c.self.inside.limit _ _ _ _ c.args.self.now c.self.view_is c.self.invariant c.args.region c.requires.held).0 in omega arith) c.index_mut.ensures.value) in
-    (object_put c.self.inside.areas.items c.self.inside.spare.items c.self.inside.limit _ _ _ _ c.args.self.now c.self.view_is c.self.invariant c.args.region (c.args.region - 1) c.index_mut.result.now c.put-offset.new.self c.put-offset.result c.args.id.0 c.args.fields _ _ c.args.registered
+    let h = (held_at c.self.inside.areas.items c.self.inside.spare.items c.self.inside.limit _ _ _ _
+    c.args.self.now c.self.view_is c.self.invariant c.args.region
+    (c.args.region - 1) c.index_mut.result.now c.requires.held
+    (let low = (held_place c.self.inside.areas.items c.self.inside.spare.items c.self.inside.limit _ _ _ _
+    c.args.self.now c.self.view_is c.self.invariant c.args.region c.requires.held).0 in
+    omega arith) c.index_mut.ensures.value) in
+    (object_put c.self.inside.areas.items c.self.inside.spare.items c.self.inside.limit _ _ _ _
+    c.args.self.now c.self.view_is c.self.invariant c.args.region
+    (c.args.region - 1) c.index_mut.result.now c.put-offset.new.self c.put-offset.result c.args.id.0
+    c.args.fields _ _ c.args.registered
     h c.put-offset.ensures.area c.put-offset.ensures.offset c.put-offset.ensures.was_free
     (let g = ap (λ (x : Region). x.fill) h.region in let room = c.requires.room in omega arith)
-    c.put-offset.ensures.put c.put-offset.ensures.held c.put-offset.ensures.generation c.put-offset.ensures.cards c.put-offset.ensures.live refl refl).0.keeps
+    c.put-offset.ensures.put c.put-offset.ensures.held c.put-offset.ensures.generation
+    c.put-offset.ensures.cards c.put-offset.ensures.live refl refl).0.keeps
 
 pub returns : goal.returns
 unfolding region_of
 returns c =
-    let low = (held_place c.self.inside.areas.items c.self.inside.spare.items c.self.inside.limit _ _ _ _ c.args.self.now c.self.view_is c.self.invariant c.args.region c.requires.held).0 in
-    let h = (held_at c.self.inside.areas.items c.self.inside.spare.items c.self.inside.limit _ _ _ _ c.args.self.now c.self.view_is c.self.invariant c.args.region (c.args.region - 1) c.index_mut.result.now c.requires.held (let low = (held_place c.self.inside.areas.items c.self.inside.spare.items c.self.inside.limit _ _ _ _ c.args.self.now c.self.view_is c.self.invariant c.args.region c.requires.held).0 in omega arith) c.index_mut.ensures.value) in
-    let made = object_put c.self.inside.areas.items c.self.inside.spare.items c.self.inside.limit _ _ _ _ c.args.self.now c.self.view_is c.self.invariant c.args.region (c.args.region - 1) c.index_mut.result.now c.put-offset.new.self c.put-offset.result c.args.id.0 c.args.fields _ _ c.args.registered
+    let low = (held_place c.self.inside.areas.items c.self.inside.spare.items c.self.inside.limit _ _ _ _
+    c.args.self.now c.self.view_is c.self.invariant c.args.region c.requires.held).0 in
+    let h = (held_at c.self.inside.areas.items c.self.inside.spare.items c.self.inside.limit _ _ _ _
+    c.args.self.now c.self.view_is c.self.invariant c.args.region
+    (c.args.region - 1) c.index_mut.result.now c.requires.held
+    (let low = (held_place c.self.inside.areas.items c.self.inside.spare.items c.self.inside.limit _ _ _ _
+    c.args.self.now c.self.view_is c.self.invariant c.args.region c.requires.held).0 in
+    omega arith) c.index_mut.ensures.value) in
+    let made = object_put c.self.inside.areas.items c.self.inside.spare.items c.self.inside.limit _ _ _ _
+    c.args.self.now c.self.view_is c.self.invariant c.args.region
+    (c.args.region - 1) c.index_mut.result.now c.put-offset.new.self c.put-offset.result c.args.id.0
+    c.args.fields _ _ c.args.registered
     h c.put-offset.ensures.area c.put-offset.ensures.offset c.put-offset.ensures.was_free
     (let g = ap (λ (x : Region). x.fill) h.region in let room = c.requires.room in omega arith)
-    c.put-offset.ensures.put c.put-offset.ensures.held c.put-offset.ensures.generation c.put-offset.ensures.cards c.put-offset.ensures.live refl refl in
+    c.put-offset.ensures.put c.put-offset.ensures.held c.put-offset.ensures.generation
+    c.put-offset.ensures.cards c.put-offset.ensures.live refl refl in
     let g = ap (λ (x : Region). x.fill) h.region in
     let fill = c.put-offset.ensures.offset in
     let room = c.requires.room in
     let at = c.address_in.ensures in
-    let place : c.address_in.result.0 ≡ c.args.region * 256 + (region_at c.args.self.now c.args.region).fill = omega arith in
+    let place : c.address_in.result.0 ≡ c.args.region * 256 + (region_at c.args.self.now c.args.region).fill =
+    omega arith in
     record {
       place = place;
       region = omega arith;
-      was_free = has-get c.args.self.now c.address_in.result ∙ ap (λ k. is_some (get c.args.self.now.objects k)) place ∙ ap is_some made.1;
+      was_free = has-get c.args.self.now c.address_in.result
+          ∙ ap (λ k. is_some (get c.args.self.now.objects k)) place ∙ ap is_some made.1;
       put = made.0.views;
     }

@@ -12,19 +12,35 @@ use Rattle.hd_heap.proofs.Regions.{region_given_up, held_counted}
 use Rattle.hd_heap.proofs.heap.Heap.release.Goals as goal
 
 pub overflow_sub-region : goal.overflow_sub-region
-overflow_sub-region c = (held_place c.self.inside.areas.items c.self.inside.spare.items c.self.inside.limit _ _ _ _ c.args.self.now c.self.view_is c.self.invariant c.args.region c.requires.held).0
+overflow_sub-region c = (held_place c.self.inside.areas.items c.self.inside.spare.items c.self.inside.limit _
+    _ _ _ c.args.self.now c.self.view_is c.self.invariant c.args.region c.requires.held).0
 
 pub index_mut-requires : goal.index_mut-requires
-index_mut-requires c = let low = (held_place c.self.inside.areas.items c.self.inside.spare.items c.self.inside.limit _ _ _ _ c.args.self.now c.self.view_is c.self.invariant c.args.region c.requires.held).0 in let high = (held_place c.self.inside.areas.items c.self.inside.spare.items c.self.inside.limit _ _ _ _ c.args.self.now c.self.view_is c.self.invariant c.args.region c.requires.held).1 in omega arith
+index_mut-requires c = let low =
+    (held_place c.self.inside.areas.items c.self.inside.spare.items c.self.inside.limit _ _ _ _
+    c.args.self.now c.self.view_is c.self.invariant c.args.region c.requires.held).0 in let high =
+    (held_place c.self.inside.areas.items c.self.inside.spare.items c.self.inside.limit _ _ _ _
+    c.args.self.now c.self.view_is c.self.invariant c.args.region c.requires.held).1 in omega arith
 
 pub give_up-requires-clause-area : goal.give_up-requires-clause-area
-give_up-requires-clause-area c = let h = (held_at c.self.inside.areas.items c.self.inside.spare.items c.self.inside.limit _ _ _ _ c.args.self.now c.self.view_is c.self.invariant c.args.region (c.args.region - 1) c.index_mut.result.now c.requires.held (let low = (held_place c.self.inside.areas.items c.self.inside.spare.items c.self.inside.limit _ _ _ _ c.args.self.now c.self.view_is c.self.invariant c.args.region c.requires.held).0 in omega arith) c.index_mut.ensures.value) in c.self.invariant.each c.args.region c.index_mut.result.now h.here
+give_up-requires-clause-area c = let h =
+    (held_at c.self.inside.areas.items c.self.inside.spare.items c.self.inside.limit _ _ _ _ c.args.self.now
+    c.self.view_is c.self.invariant c.args.region (c.args.region - 1) c.index_mut.result.now c.requires.held
+    (let low = (held_place c.self.inside.areas.items c.self.inside.spare.items c.self.inside.limit _ _ _ _
+    c.args.self.now c.self.view_is c.self.invariant c.args.region c.requires.held).0 in
+    omega arith) c.index_mut.ensures.value) in
+    c.self.invariant.each c.args.region c.index_mut.result.now h.here
 
 -- the region has no object
 bare : (c : goal.After-push_back_reserved) → (k : ℕ) → ¬ (IsObject (contents c.index_mut.result.now) k)
 unfolding region_of
 bare c = λ k there.
-    let h = (held_at c.self.inside.areas.items c.self.inside.spare.items c.self.inside.limit _ _ _ _ c.args.self.now c.self.view_is c.self.invariant c.args.region (c.args.region - 1) c.index_mut.result.now c.requires.held (let low = (held_place c.self.inside.areas.items c.self.inside.spare.items c.self.inside.limit _ _ _ _ c.args.self.now c.self.view_is c.self.invariant c.args.region c.requires.held).0 in omega arith) c.index_mut.ensures.value) in
+    let h = (held_at c.self.inside.areas.items c.self.inside.spare.items c.self.inside.limit _ _ _ _
+    c.args.self.now c.self.view_is c.self.invariant c.args.region
+    (c.args.region - 1) c.index_mut.result.now c.requires.held
+    (let low = (held_place c.self.inside.areas.items c.self.inside.spare.items c.self.inside.limit _ _ _ _
+    c.args.self.now c.self.view_is c.self.invariant c.args.region c.requires.held).0 in
+    omega arith) c.index_mut.ensures.value) in
     let area = c.self.invariant.each c.args.region c.index_mut.result.now h.here in
     let low = area.laid_out.below_fill k there in
     let fill = area.laid_out.within_region in
@@ -32,13 +48,20 @@ bare c = λ k there.
     let number_is : x.0 / 256 ≡ c.args.region = omega arith in
     let offset_is : x.0 % 256 ≡ k = omega arith in
     c.requires.no_object x
-    (has_there c.self.inside.areas.items c.self.inside.spare.items c.self.inside.limit c.args.self.now c.self.view_is x c.index_mut.result.now (ap (area_at c.self.inside.areas.items) number_is ∙ h.here) ∙ ap (λ j. is_some (get (contents c.index_mut.result.now).objects j)) offset_is ∙ there)
+    (has_there c.self.inside.areas.items c.self.inside.spare.items c.self.inside.limit c.args.self.now
+    c.self.view_is x c.index_mut.result.now (ap (area_at c.self.inside.areas.items) number_is ∙ h.here)
+    ∙ ap (λ j. is_some (get (contents c.index_mut.result.now).objects j)) offset_is ∙ there)
     number_is
 
 pub give_up-requires-clause-no_object : goal.give_up-requires-clause-no_object
 unfolding region_of
 give_up-requires-clause-no_object c = λ k there.
-    let h = (held_at c.self.inside.areas.items c.self.inside.spare.items c.self.inside.limit _ _ _ _ c.args.self.now c.self.view_is c.self.invariant c.args.region (c.args.region - 1) c.index_mut.result.now c.requires.held (let low = (held_place c.self.inside.areas.items c.self.inside.spare.items c.self.inside.limit _ _ _ _ c.args.self.now c.self.view_is c.self.invariant c.args.region c.requires.held).0 in omega arith) c.index_mut.ensures.value) in
+    let h = (held_at c.self.inside.areas.items c.self.inside.spare.items c.self.inside.limit _ _ _ _
+    c.args.self.now c.self.view_is c.self.invariant c.args.region
+    (c.args.region - 1) c.index_mut.result.now c.requires.held
+    (let low = (held_place c.self.inside.areas.items c.self.inside.spare.items c.self.inside.limit _ _ _ _
+    c.args.self.now c.self.view_is c.self.invariant c.args.region c.requires.held).0 in
+    omega arith) c.index_mut.ensures.value) in
     let area = c.self.invariant.each c.args.region c.index_mut.result.now h.here in
     let low = area.laid_out.below_fill k there in
     let fill = area.laid_out.within_region in
@@ -46,23 +69,46 @@ give_up-requires-clause-no_object c = λ k there.
     let number_is : x.0 / 256 ≡ c.args.region = omega arith in
     let offset_is : x.0 % 256 ≡ k = omega arith in
     c.requires.no_object x
-    (has_there c.self.inside.areas.items c.self.inside.spare.items c.self.inside.limit c.args.self.now c.self.view_is x c.index_mut.result.now (ap (area_at c.self.inside.areas.items) number_is ∙ h.here) ∙ ap (λ j. is_some (get (contents c.index_mut.result.now).objects j)) offset_is ∙ there)
+    (has_there c.self.inside.areas.items c.self.inside.spare.items c.self.inside.limit c.args.self.now
+    c.self.view_is x c.index_mut.result.now (ap (area_at c.self.inside.areas.items) number_is ∙ h.here)
+    ∙ ap (λ j. is_some (get (contents c.index_mut.result.now).objects j)) offset_is ∙ there)
     number_is
 
 pub overflow_sub-self : goal.overflow_sub-self
-overflow_sub-self c = held_counted c.self.inside.areas.items c.self.inside.spare.items c.self.inside.limit _ _ _ _ c.args.self.now c.self.view_is c.self.invariant c.args.region c.requires.held
+overflow_sub-self c = held_counted c.self.inside.areas.items c.self.inside.spare.items c.self.inside.limit _ _
+    _ _ c.args.self.now c.self.view_is c.self.invariant c.args.region c.requires.held
 
 pub push_back_reserved-requires : goal.push_back_reserved-requires
 push_back_reserved-requires c =
-    let one = held_counted c.self.inside.areas.items c.self.inside.spare.items c.self.inside.limit _ _ _ _ c.args.self.now c.self.view_is c.self.invariant c.args.region c.requires.held in
+    let one = held_counted c.self.inside.areas.items c.self.inside.spare.items c.self.inside.limit _ _ _ _
+    c.args.self.now c.self.view_is c.self.invariant c.args.region c.requires.held in
     let parted = c.self.invariant.parted in
     let room = c.self.invariant.room in
     omega arith
 
 pub invariant_of-self : goal.invariant_of-self
-invariant_of-self c = (region_given_up c.self.inside.areas.items c.self.inside.spare.items c.self.inside.limit _ _ _ _ c.args.self.now c.self.view_is c.self.invariant c.args.region (c.args.region - 1) c.index_mut.result.now c.give_up.new.self c.push_back_reserved.new.self.items _ (c.self.inside.held - 1)
-    (held_at c.self.inside.areas.items c.self.inside.spare.items c.self.inside.limit _ _ _ _ c.args.self.now c.self.view_is c.self.invariant c.args.region (c.args.region - 1) c.index_mut.result.now c.requires.held (let low = (held_place c.self.inside.areas.items c.self.inside.spare.items c.self.inside.limit _ _ _ _ c.args.self.now c.self.view_is c.self.invariant c.args.region c.requires.held).0 in omega arith) c.index_mut.ensures.value) c.give_up.ensures.area (bare c) c.give_up.ensures.contents c.give_up.ensures.held c.give_up.ensures.live c.push_back_reserved.ensures.items c.push_back_reserved.ensures.capacity refl).keeps
+invariant_of-self c = (region_given_up c.self.inside.areas.items c.self.inside.spare.items c.self.inside.limit
+    _ _ _ _ c.args.self.now c.self.view_is c.self.invariant c.args.region
+    (c.args.region - 1) c.index_mut.result.now c.give_up.new.self c.push_back_reserved.new.self.items _
+    (c.self.inside.held - 1)
+    (held_at c.self.inside.areas.items c.self.inside.spare.items c.self.inside.limit _ _ _ _ c.args.self.now
+    c.self.view_is c.self.invariant c.args.region (c.args.region - 1) c.index_mut.result.now
+    c.requires.held (let low =
+    (held_place c.self.inside.areas.items c.self.inside.spare.items c.self.inside.limit _ _ _ _
+    c.args.self.now c.self.view_is c.self.invariant c.args.region c.requires.held).0 in
+    omega arith) c.index_mut.ensures.value) c.give_up.ensures.area
+    (bare c) c.give_up.ensures.contents c.give_up.ensures.held c.give_up.ensures.live
+    c.push_back_reserved.ensures.items c.push_back_reserved.ensures.capacity refl).keeps
 
 pub returns : goal.returns
-returns c = (region_given_up c.self.inside.areas.items c.self.inside.spare.items c.self.inside.limit _ _ _ _ c.args.self.now c.self.view_is c.self.invariant c.args.region (c.args.region - 1) c.index_mut.result.now c.give_up.new.self c.push_back_reserved.new.self.items _ (c.self.inside.held - 1)
-    (held_at c.self.inside.areas.items c.self.inside.spare.items c.self.inside.limit _ _ _ _ c.args.self.now c.self.view_is c.self.invariant c.args.region (c.args.region - 1) c.index_mut.result.now c.requires.held (let low = (held_place c.self.inside.areas.items c.self.inside.spare.items c.self.inside.limit _ _ _ _ c.args.self.now c.self.view_is c.self.invariant c.args.region c.requires.held).0 in omega arith) c.index_mut.ensures.value) c.give_up.ensures.area (bare c) c.give_up.ensures.contents c.give_up.ensures.held c.give_up.ensures.live c.push_back_reserved.ensures.items c.push_back_reserved.ensures.capacity refl).views
+returns c = (region_given_up c.self.inside.areas.items c.self.inside.spare.items c.self.inside.limit _ _ _ _
+    c.args.self.now c.self.view_is c.self.invariant c.args.region (c.args.region - 1) c.index_mut.result.now
+    c.give_up.new.self c.push_back_reserved.new.self.items _ (c.self.inside.held - 1)
+    (held_at c.self.inside.areas.items c.self.inside.spare.items c.self.inside.limit _ _ _ _ c.args.self.now
+    c.self.view_is c.self.invariant c.args.region (c.args.region - 1) c.index_mut.result.now
+    c.requires.held (let low =
+    (held_place c.self.inside.areas.items c.self.inside.spare.items c.self.inside.limit _ _ _ _
+    c.args.self.now c.self.view_is c.self.invariant c.args.region c.requires.held).0 in
+    omega arith) c.index_mut.ensures.value) c.give_up.ensures.area
+    (bare c) c.give_up.ensures.contents c.give_up.ensures.held c.give_up.ensures.live
+    c.push_back_reserved.ensures.items c.push_back_reserved.ensures.capacity refl).views

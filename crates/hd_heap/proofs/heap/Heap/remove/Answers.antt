@@ -7,43 +7,76 @@ use Rattle.hd_heap.proofs.Changes.{object_removed}
 use Rattle.hd_heap.proofs.heap.Heap.remove.Goals as goal
 
 pub place_of-requires : goal.place_of-requires
-place_of-requires c = low_place c.self.inside.areas.items c.self.inside.spare.items c.self.inside.limit c.args.self.now c.self.view_is c.args.at c.requires
+place_of-requires c = low_place c.self.inside.areas.items c.self.inside.spare.items c.self.inside.limit
+    c.args.self.now c.self.view_is c.args.at c.requires
 
 pub index_mut-requires : goal.index_mut-requires
-index_mut-requires c = omega (arith, place_within c.self.inside.areas.items c.self.inside.spare.items c.self.inside.limit c.args.self.now c.self.view_is c.args.at c.requires c.place_of.result c.place_of.ensures)
+index_mut-requires c = omega (
+  arith,
+  place_within c.self.inside.areas.items c.self.inside.spare.items c.self.inside.limit
+      c.args.self.now c.self.view_is c.args.at c.requires c.place_of.result c.place_of.ensures,
+)
 
 pub remove-cells-requires : goal.remove-cells-requires
 remove-cells-requires c =
-    let s = seen c.self.inside.areas.items c.self.inside.spare.items c.self.inside.limit c.args.self.now c.self.view_is c.args.at c.requires
-    c.place_of.result c.index_mut.result.now (contents c.index_mut.result.now) c.offset_of.result c.place_of.ensures c.index_mut.ensures.value refl c.offset_of.ensures in
+    let s = seen c.self.inside.areas.items c.self.inside.spare.items c.self.inside.limit c.args.self.now
+    c.self.view_is c.args.at c.requires
+    c.place_of.result c.index_mut.result.now (contents c.index_mut.result.now) c.offset_of.result
+    c.place_of.ensures c.index_mut.ensures.value refl c.offset_of.ensures in
     record { area = c.self.invariant.each _ c.index_mut.result.now s.here; object = s.object }
 
 pub overflow_sub-self : goal.overflow_sub-self
 overflow_sub-self c =
-    let s = seen c.self.inside.areas.items c.self.inside.spare.items c.self.inside.limit c.args.self.now c.self.view_is c.args.at c.requires
-    c.place_of.result c.index_mut.result.now (contents c.index_mut.result.now) c.offset_of.result c.place_of.ensures c.index_mut.ensures.value refl c.offset_of.ensures in
-    (counted c.self.inside.areas.items c.self.inside.spare.items c.self.inside.limit _ _ _ _ c.args.self.now c.self.view_is c.self.invariant c.args.at c.place_of.result c.index_mut.result.now c.remove-cells.new.self c.offset_of.result c.remove-cells.result s c.remove-cells.ensures.taken).0
+    let s = seen c.self.inside.areas.items c.self.inside.spare.items c.self.inside.limit c.args.self.now
+    c.self.view_is c.args.at c.requires
+    c.place_of.result c.index_mut.result.now (contents c.index_mut.result.now) c.offset_of.result
+    c.place_of.ensures c.index_mut.ensures.value refl c.offset_of.ensures in
+    (counted c.self.inside.areas.items c.self.inside.spare.items c.self.inside.limit _ _ _ _ c.args.self.now
+    c.self.view_is c.self.invariant c.args.at c.place_of.result c.index_mut.result.now
+    c.remove-cells.new.self c.offset_of.result c.remove-cells.result s c.remove-cells.ensures.taken).0
 
 pub overflow_sub-self-2 : goal.overflow_sub-self-2
 overflow_sub-self-2 c =
-    let s = seen c.self.inside.areas.items c.self.inside.spare.items c.self.inside.limit c.args.self.now c.self.view_is c.args.at c.requires
-    c.place_of.result c.index_mut.result.now (contents c.index_mut.result.now) c.offset_of.result c.place_of.ensures c.index_mut.ensures.value refl c.offset_of.ensures in
-    (counted c.self.inside.areas.items c.self.inside.spare.items c.self.inside.limit _ _ _ _ c.args.self.now c.self.view_is c.self.invariant c.args.at c.place_of.result c.index_mut.result.now c.remove-cells.new.self c.offset_of.result c.remove-cells.result s c.remove-cells.ensures.taken).1
+    let s = seen c.self.inside.areas.items c.self.inside.spare.items c.self.inside.limit c.args.self.now
+    c.self.view_is c.args.at c.requires
+    c.place_of.result c.index_mut.result.now (contents c.index_mut.result.now) c.offset_of.result
+    c.place_of.ensures c.index_mut.ensures.value refl c.offset_of.ensures in
+    (counted c.self.inside.areas.items c.self.inside.spare.items c.self.inside.limit _ _ _ _ c.args.self.now
+    c.self.view_is c.self.invariant c.args.at c.place_of.result c.index_mut.result.now
+    c.remove-cells.new.self c.offset_of.result c.remove-cells.result s c.remove-cells.ensures.taken).1
 
 pub returns : goal.returns
 returns c =
-    let s = seen c.self.inside.areas.items c.self.inside.spare.items c.self.inside.limit c.args.self.now c.self.view_is c.args.at c.requires
-    c.place_of.result c.index_mut.result.now (contents c.index_mut.result.now) c.offset_of.result c.place_of.ensures c.index_mut.ensures.value refl c.offset_of.ensures in
-    let f = found c.self.inside.areas.items c.self.inside.spare.items c.self.inside.limit c.args.self.now c.self.view_is c.args.at c.requires in
-    let same : f.area ≡ c.index_mut.result.now = (let one : Some f.area ≡ Some c.index_mut.result.now = sym f.is_area ∙ s.here in cc one) in
-    let held : c.index_mut.result.now.held ≡ true = sym (ap (λ (x : Area). x.held) same) ∙ object_held c.self.inside.areas.items c.self.inside.spare.items c.self.inside.limit c.args.self.now c.self.view_is _ _ _ _ c.self.invariant c.args.at f in
-    (object_removed c.self.inside.areas.items c.self.inside.spare.items c.self.inside.limit _ _ _ _ c.args.self.now c.self.view_is c.self.invariant c.args.at c.place_of.result c.index_mut.result.now c.remove-cells.new.self c.offset_of.result c.remove-cells.result _ _ s held c.offset_of.ensures c.remove-cells.ensures.area c.remove-cells.ensures.taken refl refl).removed
+    let s = seen c.self.inside.areas.items c.self.inside.spare.items c.self.inside.limit c.args.self.now
+    c.self.view_is c.args.at c.requires
+    c.place_of.result c.index_mut.result.now (contents c.index_mut.result.now) c.offset_of.result
+    c.place_of.ensures c.index_mut.ensures.value refl c.offset_of.ensures in
+    let f = found c.self.inside.areas.items c.self.inside.spare.items c.self.inside.limit c.args.self.now
+    c.self.view_is c.args.at c.requires in
+    let same : f.area ≡ c.index_mut.result.now = (let one : Some f.area ≡ Some c.index_mut.result.now =
+    sym f.is_area ∙ s.here in cc one) in
+    let held : c.index_mut.result.now.held ≡ true = sym (ap (λ (x : Area). x.held) same)
+    ∙ object_held c.self.inside.areas.items c.self.inside.spare.items c.self.inside.limit c.args.self.now
+    c.self.view_is _ _ _ _ c.self.invariant c.args.at f in
+    (object_removed c.self.inside.areas.items c.self.inside.spare.items c.self.inside.limit _ _ _ _
+    c.args.self.now c.self.view_is c.self.invariant c.args.at c.place_of.result c.index_mut.result.now
+    c.remove-cells.new.self c.offset_of.result c.remove-cells.result _ _ s held c.offset_of.ensures
+    c.remove-cells.ensures.area c.remove-cells.ensures.taken refl refl).removed
 
 pub invariant_of-self : goal.invariant_of-self
 invariant_of-self c =
-    let s = seen c.self.inside.areas.items c.self.inside.spare.items c.self.inside.limit c.args.self.now c.self.view_is c.args.at c.requires
-    c.place_of.result c.index_mut.result.now (contents c.index_mut.result.now) c.offset_of.result c.place_of.ensures c.index_mut.ensures.value refl c.offset_of.ensures in
-    let f = found c.self.inside.areas.items c.self.inside.spare.items c.self.inside.limit c.args.self.now c.self.view_is c.args.at c.requires in
-    let same : f.area ≡ c.index_mut.result.now = (let one : Some f.area ≡ Some c.index_mut.result.now = sym f.is_area ∙ s.here in cc one) in
-    let held : c.index_mut.result.now.held ≡ true = sym (ap (λ (x : Area). x.held) same) ∙ object_held c.self.inside.areas.items c.self.inside.spare.items c.self.inside.limit c.args.self.now c.self.view_is _ _ _ _ c.self.invariant c.args.at f in
-    (object_removed c.self.inside.areas.items c.self.inside.spare.items c.self.inside.limit _ _ _ _ c.args.self.now c.self.view_is c.self.invariant c.args.at c.place_of.result c.index_mut.result.now c.remove-cells.new.self c.offset_of.result c.remove-cells.result _ _ s held c.offset_of.ensures c.remove-cells.ensures.area c.remove-cells.ensures.taken refl refl).keeps
+    let s = seen c.self.inside.areas.items c.self.inside.spare.items c.self.inside.limit c.args.self.now
+    c.self.view_is c.args.at c.requires
+    c.place_of.result c.index_mut.result.now (contents c.index_mut.result.now) c.offset_of.result
+    c.place_of.ensures c.index_mut.ensures.value refl c.offset_of.ensures in
+    let f = found c.self.inside.areas.items c.self.inside.spare.items c.self.inside.limit c.args.self.now
+    c.self.view_is c.args.at c.requires in
+    let same : f.area ≡ c.index_mut.result.now = (let one : Some f.area ≡ Some c.index_mut.result.now =
+    sym f.is_area ∙ s.here in cc one) in
+    let held : c.index_mut.result.now.held ≡ true = sym (ap (λ (x : Area). x.held) same)
+    ∙ object_held c.self.inside.areas.items c.self.inside.spare.items c.self.inside.limit c.args.self.now
+    c.self.view_is _ _ _ _ c.self.invariant c.args.at f in
+    (object_removed c.self.inside.areas.items c.self.inside.spare.items c.self.inside.limit _ _ _ _
+    c.args.self.now c.self.view_is c.self.invariant c.args.at c.place_of.result c.index_mut.result.now
+    c.remove-cells.new.self c.offset_of.result c.remove-cells.result _ _ s held c.offset_of.ensures
+    c.remove-cells.ensures.area c.remove-cells.ensures.taken refl refl).keeps

@@ -9,12 +9,14 @@ loop-self-init c = same_length c.args.self.now c.args.count
 pub loop-self-preserved : goal.loop-self-preserved
 loop-self-preserved c =
     let added = c.in_ok-add_spare.ensures.ok in
-    one_longer c.args.self.now c.loop-self.self c.add_spare.new.self c.args.count added.0 c.loop-self.invariant (omega (arith, c.loop-self-test.true, c.spare_len.ensures)) added.1
+    one_longer c.args.self.now c.loop-self.self c.add_spare.new.self c.args.count added.0
+    c.loop-self.invariant (omega (arith, c.loop-self-test.true, c.spare_len.ensures)) added.1
 
 pub loop-self-smaller : goal.loop-self-smaller
 loop-self-smaller c =
     let added = c.in_ok-add_spare.ensures.ok in
-    let lengths = ap (λ (h : Heap). length h.spare) added.1 ∙ length-append c.loop-self.self.spare (added.0 ∷ []) in
+    let lengths = ap (λ (h : Heap). length h.spare) added.1 ∙ length-append c.loop-self.self.spare
+    (added.0 ∷ []) in
     omega (arith, lengths, c.loop-self-test.true, c.spare_len.ensures)
 
 pub returns-clause-same : goal.returns-clause-same

@@ -8,25 +8,43 @@ use Rattle.hd_heap.proofs.Writes.{rewritten}
 use Rattle.hd_heap.proofs.heap.Heap.set_value.Goals as goal
 
 pub place_of-requires : goal.place_of-requires
-place_of-requires c = low_place c.self.inside.areas.items c.self.inside.spare.items c.self.inside.limit c.args.self.now c.self.view_is c.args.at c.requires
+place_of-requires c = low_place c.self.inside.areas.items c.self.inside.spare.items c.self.inside.limit
+    c.args.self.now c.self.view_is c.args.at c.requires
 
 pub index_mut-requires : goal.index_mut-requires
-index_mut-requires c = omega (arith, place_within c.self.inside.areas.items c.self.inside.spare.items c.self.inside.limit c.args.self.now c.self.view_is c.args.at c.requires c.place_of.result c.place_of.ensures)
+index_mut-requires c = omega (
+  arith,
+  place_within c.self.inside.areas.items c.self.inside.spare.items c.self.inside.limit
+      c.args.self.now c.self.view_is c.args.at c.requires c.place_of.result c.place_of.ensures,
+)
 
 pub set_value-requires : goal.set_value-requires
 set_value-requires c =
-    (seen c.self.inside.areas.items c.self.inside.spare.items c.self.inside.limit c.args.self.now c.self.view_is c.args.at c.requires
-    c.place_of.result c.index_mut.result.now c.deref_mut.result.now c.offset_of.result c.place_of.ensures c.index_mut.ensures.value c.deref_mut.ensures.value c.offset_of.ensures).object
+    (seen c.self.inside.areas.items c.self.inside.spare.items c.self.inside.limit c.args.self.now
+    c.self.view_is c.args.at c.requires
+    c.place_of.result c.index_mut.result.now c.deref_mut.result.now c.offset_of.result c.place_of.ensures
+    c.index_mut.ensures.value c.deref_mut.ensures.value c.offset_of.ensures).object
 
 pub invariant_of-self : goal.invariant_of-self
 invariant_of-self c =
-    (rewritten c.self.inside.areas.items c.self.inside.spare.items c.self.inside.limit _ _ _ _ c.args.self.now c.self.view_is c.self.invariant c.args.at c.place_of.result c.index_mut.result.now _ c.deref_mut.result.now c.set_value.new.self c.offset_of.result
-    (with_value (object_in_region c.deref_mut.result.now c.offset_of.result) c.args.v) c.requires c.place_of.ensures c.index_mut.ensures.value c.deref_mut.ensures.value c.offset_of.ensures c.set_value.ensures.written c.set_value.ensures.laid_out refl refl refl refl refl refl).keeps
+    (rewritten c.self.inside.areas.items c.self.inside.spare.items c.self.inside.limit _ _ _ _ c.args.self.now
+    c.self.view_is c.self.invariant c.args.at c.place_of.result c.index_mut.result.now _
+    c.deref_mut.result.now c.set_value.new.self c.offset_of.result
+    (with_value (object_in_region c.deref_mut.result.now c.offset_of.result) c.args.v) c.requires
+    c.place_of.ensures c.index_mut.ensures.value c.deref_mut.ensures.value c.offset_of.ensures
+    c.set_value.ensures.written c.set_value.ensures.laid_out refl refl refl refl refl refl).keeps
 
 pub returns : goal.returns
 returns c =
-    let s = seen c.self.inside.areas.items c.self.inside.spare.items c.self.inside.limit c.args.self.now c.self.view_is c.args.at c.requires
-    c.place_of.result c.index_mut.result.now c.deref_mut.result.now c.offset_of.result c.place_of.ensures c.index_mut.ensures.value c.deref_mut.ensures.value c.offset_of.ensures in
-    (rewritten c.self.inside.areas.items c.self.inside.spare.items c.self.inside.limit _ _ _ _ c.args.self.now c.self.view_is c.self.invariant c.args.at c.place_of.result c.index_mut.result.now _ c.deref_mut.result.now c.set_value.new.self c.offset_of.result
-    (with_value (object_in_region c.deref_mut.result.now c.offset_of.result) c.args.v) c.requires c.place_of.ensures c.index_mut.ensures.value c.deref_mut.ensures.value c.offset_of.ensures c.set_value.ensures.written c.set_value.ensures.laid_out refl refl refl refl refl refl).views
-    ∙ ap (λ (p : Placed). with_object c.args.self.now c.args.at (record p { value = c.args.v })) (sym s.placed)
+    let s = seen c.self.inside.areas.items c.self.inside.spare.items c.self.inside.limit c.args.self.now
+    c.self.view_is c.args.at c.requires
+    c.place_of.result c.index_mut.result.now c.deref_mut.result.now c.offset_of.result c.place_of.ensures
+    c.index_mut.ensures.value c.deref_mut.ensures.value c.offset_of.ensures in
+    (rewritten c.self.inside.areas.items c.self.inside.spare.items c.self.inside.limit _ _ _ _ c.args.self.now
+    c.self.view_is c.self.invariant c.args.at c.place_of.result c.index_mut.result.now _
+    c.deref_mut.result.now c.set_value.new.self c.offset_of.result
+    (with_value (object_in_region c.deref_mut.result.now c.offset_of.result) c.args.v) c.requires
+    c.place_of.ensures c.index_mut.ensures.value c.deref_mut.ensures.value c.offset_of.ensures
+    c.set_value.ensures.written c.set_value.ensures.laid_out refl refl refl refl refl refl).views
+    ∙ ap (λ (p : Placed). with_object c.args.self.now c.args.at (record p { value = c.args.v }))
+    (sym s.placed)
