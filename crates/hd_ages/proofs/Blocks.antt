@@ -8,6 +8,7 @@ use Rattle.hd_mask.specs.Mask.{set_bits}
 use Rattle.hd_model.specs.Ages.{grown, clump_of, clumps_of}
 use Rattle.hd_ages.specs.Word.{IsWord, age_in, ages_in, ages_of}
 use Rattle.hd_ages.specs.Clumps.{clump_at, IsSlotOf}
+use Rattle.hd_ages.proofs.Masks.{is_one}
 use Rattle.hd_ages.proofs.Words.{each_clump, age_small}
 
 pub length-ages_of : (ws : List ℕ) → length (ages_of ws) ≡ 4 * length ws
@@ -103,10 +104,6 @@ map-picked f (p ∷ ps) = at p.1 ∙ (λ i. cond p.1 (f p.0 ∷ map-picked f ps 
     at true = refl
     at false = refl
 
-is_one : (t : Bool) (x : ℕ) → x ≡ cond t 1 0 → (x == 1) ≡ t
-is_one true x is = ap (λ y. y == 1) is
-is_one false x is = ap (λ y. y == 1) is
-
 none_from : (m k x : ℕ) → m < 2 ^ 4 → 4 ≤ x → filter (λ i. bit_at m i == 1) (range_with_len x k) ≡ []
 none_from m zero x small le = refl
 none_from m (suc k) x small le =
@@ -139,14 +136,13 @@ clumps_due m block n ages small low bits =
     λ c k lt place. is_one (nat_le (get_or ages k 0) n) (bit_at m c)
     (bits c lt ∙ ap (λ q. cond (nat_le (get_or ages q 0) n) 1 0) place) in
     let p0 : clump_at block 0 ≡ 4 * block - 4 = omega arith in
-    let p1 : clump_at block 1 ≡ 4 * block - 3 = omega arith in
-    let p2 : clump_at block 2 ≡ 4 * block - 2 = omega arith in
-    let p3 : clump_at block 3 ≡ 4 * block - 1 = omega arith in
+    let p1 : clump_at block 1 ≡ 4 * block - 4 + 1 = omega arith in
+    let p2 : clump_at block 2 ≡ 4 * block - 4 + 1 + 1 = omega arith in
+    let p3 : clump_at block 3 ≡ 4 * block - 4 + 1 + 1 + 1 = omega arith in
     ap (map (clump_at block)) (four_bits m small)
     ∙ map-picked (clump_at block)
     ((0, bit_at m 0 == 1) ∷ (1, bit_at m 1 == 1) ∷ (2, bit_at m 2 == 1) ∷ (3, bit_at m 3 == 1) ∷ [])
-    ∙ (λ i. picked ((p0 i, at 0 (4 * block - 4) (lit< tt) p0 i) ∷ (
-      p1 i,
-      at 1 (4 * block - 3) (lit< tt) p1
-          i,
-    ) ∷ (p2 i, at 2 (4 * block - 2) (lit< tt) p2 i) ∷ (p3 i, at 3 (4 * block - 1) (lit< tt) p3 i) ∷ []) [])
+    ∙ (λ i. picked
+    ((p0 i, at 0 (4 * block - 4) (lit< tt) p0 i) ∷ (p1 i, at 1 (4 * block - 4 + 1) (lit< tt) p1 i)
+    ∷ (p2 i, at 2 (4 * block - 4 + 1 + 1) (lit< tt) p2 i)
+    ∷ (p3 i, at 3 (4 * block - 4 + 1 + 1 + 1) (lit< tt) p3 i) ∷ []) [])

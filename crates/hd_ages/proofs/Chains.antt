@@ -11,7 +11,7 @@ after_here b c cs same = ap (λ t. cond t cs (after_first b cs)) (eq-eqb c b sam
 after_later : (b c : ℕ) (cs : List ℕ) → (c ≡ b → ⊥) → after_first b (c ∷ cs) ≡ after_first b cs
 after_later b c cs apart = ap (λ t. cond t cs (after_first b cs)) (ne_eqb c b apart)
 
--- a block of the chain has what stands after it behind it
+-- a block of the chain has what stands after it after it
 abbrev IsSplit : ℕ → List ℕ → Type 0
 IsSplit b cs = (before : List ℕ) × (cs ≡ before ++ b ∷ after_first b cs)
 
@@ -20,7 +20,8 @@ split_after b [] h = absurd (not_in_none b h)
 split_after b (c ∷ cs) h =
     ⊎_elim
     (λ same. let split : IsSplit b (c ∷ cs) = ([], λ i. same i ∷ sym (after_here b c cs same) i) in split)
-    (λ apart. let later : Contains cs b = ⊎_elim (λ same. absurd (apart same)) (λ l. l) (member_cases c cs b h) in
+    (λ apart. let later : Contains cs b =
+    ⊎_elim (λ same. absurd (apart same)) (λ l. l) (member_cases c cs b h) in
     let (before, is) = split_after b cs later in
     let split : IsSplit b (c ∷ cs) =
     (c ∷ before, λ i. c ∷ (is ∙ ap (λ xs. before ++ b ∷ xs) (sym (after_later b c cs apart))) i) in split)

@@ -18,7 +18,8 @@ use Rattle.hd_seg.specs.Rewriting.{Rewrites}
 use Rattle.hd_ages.proofs.Underway.{IsUnderway, begins, all_to_come, few_to_come, row_due, row_live, row_past, fewer_left, goes_on, all_past, steps_at_end, to_come_same, rewritten, IsUpdated, updated_start, updated_more, updated_end}
 use Rattle.hd_ages.proofs.Counted.{IsPastWith, counted_start, counted_end, counted_more, counted_else}
 
-module _ (t : Table) (ages : List ℕ) (n : ℕ) (k : Kind) (f : ℕ → Handle Addr → Handle Addr) (P : ℕ → Type 0) where
+module _ (t : Table) (ages : List ℕ) (n : ℕ) (k : Kind) (f : ℕ → Handle Addr → Handle Addr)
+    (P : ℕ → Type 0) where
   -- each row that is past is as f makes it, and of those slots so many are counted
   pub record IsChanging (now : Table) (w : DueRows) (before steps count : ℕ) : Type 0 where
     pub under : IsUnderway t ages n k now w before steps
@@ -30,7 +31,8 @@ module _ (t : Table) (ages : List ℕ) (n : ℕ) (k : Kind) (f : ℕ → Handle 
       (slots : slots_to_come t ages w ≡ due_slots t ages n k)
       (clumps : clumps_to_come t ages w ≡ due_clumps ages n (chain_of t k)) where
     pub change_start :
-        ((slot : ℕ) (h : Handle Addr) → row_at t slot ≡ Some h → (IsDueRow t ages n k slot → ⊥) → f slot h ≡ h)
+        ((slot : ℕ) (h : Handle Addr) → row_at t slot ≡ Some h → (IsDueRow t ages n k slot → ⊥)
+        → f slot h ≡ h)
         → ((slot : ℕ) → P slot → IsDueRow t ages n k slot) → IsChanging t w before before 0
     change_start others due = record {
       under = begins t ages n k is w slots before on clumps;
@@ -68,7 +70,8 @@ module _ (t : Table) (ages : List ℕ) (n : ℕ) (k : Kind) (f : ℕ → Handle 
     more count' few counts = record {
       under = rewritten t ages n k now next new slot.0 before after (f slot.0 due.handle) goes live r past;
       updated = subst (λ xs. IsUpdated f xs t next) (sym left)
-          (updated_more f (slots_to_come now ages old) (slots_to_come now ages new) t now next slot.0 due.handle
+          (updated_more f (slots_to_come now ages old) (slots_to_come now ages new) t now next slot.0
+          due.handle
           gives.slots past s.updated due.stands r);
       counted = subst (λ xs. Counts (IsPastWith P xs) count') (sym left) counts;
       few = let e = ap length gives.slots in let l = ap length left in let f = s.few in omega arith;
@@ -81,13 +84,15 @@ module _ (t : Table) (ages : List ℕ) (n : ℕ) (k : Kind) (f : ℕ → Handle 
         more (count + one) (omega arith)
         (subst (λ c. Counts (IsPastWith P (slots_to_come now ages new)) c)
         (let c : count + 1 ≡ count + one = omega arith in c)
-        (counted_more P (slots_to_come now ages old) (slots_to_come now ages new) slot.0 count gives.slots past
+        (counted_more P (slots_to_come now ages old) (slots_to_come now ages new) slot.0 count gives.slots
+        past
         (has refl) s.counted))
     change_row false one has hasnt e =
         more (count + one) (omega arith)
         (subst (λ c. Counts (IsPastWith P (slots_to_come now ages new)) c)
         (let c : count ≡ count + one = omega arith in c)
-        (counted_else P (slots_to_come now ages old) (slots_to_come now ages new) slot.0 count gives.slots past
+        (counted_else P (slots_to_come now ages old) (slots_to_come now ages new) slot.0 count gives.slots
+        past
         (hasnt refl) s.counted))
 
     pub change_smaller : length (slots_to_come next ages new) < length (slots_to_come now ages old)
@@ -108,6 +113,7 @@ module _ (t : Table) (ages : List ℕ) (n : ℕ) (k : Kind) (f : ℕ → Handle 
         counted_end P (slots_to_come now ages old) count
         (all_past t ages n k now old new before steps after s.under ends) s.counted
 
-    pub changed_steps : after + length (clumps_to_come now ages new) ≡ steps + length (clumps_to_come now ages old)
+    pub changed_steps : after + length (clumps_to_come now ages new)
+        ≡ steps + length (clumps_to_come now ages old)
         → after ≡ before + visits_of t ages n k
     changed_steps counted = steps_at_end t ages n k now old new before steps after s.under ends counted

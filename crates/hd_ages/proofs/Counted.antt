@@ -45,7 +45,8 @@ module _ (P : ℕ → Type 0) where
         (λ e. (subst P (sym e) has, λ h. past (subst (Contains rest) e h))))
         (λ x h. ⊎_elim (λ e. inr e) (λ ne. inl (h.0, past_before x ne h.1)) (cases_eq x slot))
         (counts_join (IsPastWith P left) (λ x. x ≡ slot) c 1
-        (λ x h e. h.1 (member_same _ _ (sym is) x (subst (Contains (slot ∷ rest)) (sym e) (first_in slot rest))))
+        (λ x h e. h.1 (member_same _ _ (sym is) x
+        (subst (Contains (slot ∷ rest)) (sym e) (first_in slot rest))))
         counts (one_slot slot))
 
     -- no more

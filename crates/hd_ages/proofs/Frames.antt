@@ -29,7 +29,8 @@ rewrites_live old new slot h live r = λ other.
 module _ (old new : Table) (same : IsSameTable old new) (ages : List ℕ) where
   blocks_same : (o : Option ℕ) → blocks_after new o ≡ blocks_after old o
   blocks_same None = refl
-  blocks_same (Some b) = λ i. blocks_after (record new { chains = same.chains i; uses = same.uses i }) (Some b)
+  blocks_same (Some b) = λ i. blocks_after (record new { chains = same.chains i; uses = same.uses i })
+      (Some b)
 
   pub clumps_same : (w : DueRows) → clumps_to_come new ages w ≡ clumps_to_come old ages w
   unfolding clumps_to_come

@@ -2,7 +2,7 @@
 use Rattle.std.proofs.Common.{◌≡◌, ℕ, zero, suc, ◌+◌, ◌*◌, ◌^◌, ◌<◌, ◌≤◌, ◌==◌, Bool, true, false, cond, List, [], ◌∷◌, map, filter, slice_get, drop, Some, None, refl, sym, ap, ◌∙◌, arith}
 use Rattle.std.specs.Int.{bit_at}
 use Rattle.std.specs.List.{range_with_len}
-use Rattle.std.proofs.lemmas.Nat.Bits.{bit_at_above, bit_at-zero}
+use Rattle.std.proofs.lemmas.Nat.Bits.{bit_at_above}
 use Rattle.std.specs.FinMap.{contains_key}
 use Rattle.hd_mask.specs.Mask.{set_bits}
 use Rattle.hd_model.specs.Table.{Table}
@@ -39,13 +39,15 @@ moved_from : (test : ℕ → Bool) (m first k x : ℕ)
     → map (λ row. first + row) (set_from m k x) ≡ filter test (range_with_len (first + x) k)
 moved_from test m first zero x same = refl
 moved_from test m first (suc k) x same =
-    let rest : map (λ row. first + row) (set_from m k (x + 1)) ≡ filter test (range_with_len (first + x + 1) k) =
+    let rest : map (λ row. first + row) (set_from m k (x + 1))
+    ≡ filter test (range_with_len (first + x + 1) k) =
     moved_from test m first k (x + 1) (λ i le lt. same i (omega arith) (omega arith))
-    ∙ ap (λ n. filter test (range_with_len n k)) (let e : first + (x + 1) ≡ first + x + 1 = omega arith in e) in
+    ∙ ap (λ n. filter test (range_with_len n k))
+    (let e : first + (x + 1) ≡ first + x + 1 = omega arith in e) in
     map-cond (λ row. first + row) (bit_at m x == 1) x (set_from m k (x + 1))
     ∙ (λ i. cond (same x (omega arith) (omega arith) i) ((first + x) ∷ rest i) (rest i))
 
-is_one : (t : Bool) (x : ℕ) → x ≡ cond t 1 0 → (x == 1) ≡ t
+pub is_one : (t : Bool) (x : ℕ) → x ≡ cond t 1 0 → (x == 1) ≡ t
 is_one true x is = ap (λ y. y == 1) is
 is_one false x is = ap (λ y. y == 1) is
 
@@ -59,10 +61,6 @@ rows_by_bits t m first clump small is bits =
     ap (map (λ row. first + row)) (few_from m 16 48 0 (λ i le. bit_at_above m 16 i small (omega arith)))
     ∙ moved_from test m first 16 0 (λ i le lt. is_one (test (first + i)) (bit_at m i) (bits i (omega arith)))
     ∙ ap (λ n. filter test (range_with_len n 16)) (let e : first + 0 ≡ 16 * clump + 64 = omega arith in e)
-
-pub no_bits : set_bits 0 ≡ []
-unfolding set_bits
-no_bits = none_from 0 64 0 (λ i le. bit_at-zero i)
 
 -- a list by its first and its rest
 pub first_and_rest : (xs ys : List ℕ) (x : ℕ) → slice_get xs 0 ≡ Some x → ys ≡ drop 1 xs → xs ≡ x ∷ ys

@@ -9,7 +9,7 @@ use Rattle.hd_model.specs.declared.data.Kind.{Kind}
 use Rattle.hd_model.specs.State.{handles_of}
 use Rattle.hd_model.specs.Ages.{clump_of, clumps_of, due_clumps}
 use Rattle.hd_model.specs.Table.{Table, IsTable, chain_of}
-use Rattle.hd_model.proofs.Members.{not_in_none, first_in, later_in, member_cases, member_same, pairs_first, pairs_rest, pairs_none, pairs_cons, pairs_append, passing_from, passing_in, pairs_passing}
+use Rattle.hd_model.proofs.Members.{not_in_none, first_in, later_in, member_cases, pairs_first, pairs_rest, pairs_none, pairs_cons, pairs_append, passing_from, passing_in, pairs_passing}
 use Rattle.hd_model.proofs.Entries.{some_value, counts_keys}
 use Rattle.hd_model.proofs.Counting.{counts_le}
 use Rattle.hd_ages.specs.Walk.{slots_in, slots_of, due_slots}
@@ -44,7 +44,8 @@ module _ (t : Table) where
       → (contains_key t.rows slot ≡ true) × ((64 ≤ slot) × (clump_of slot ≡ c))
   unfolding slots_in
   in_clump c slot h =
-      let (inside, live) = passing_from (λ s. contains_key t.rows s) (range_with_len (16 * c + 64) 16) slot h in
+      let (inside, live) = passing_from (λ s. contains_key t.rows s) (range_with_len (16 * c + 64) 16) slot
+      h in
       let (low, high) = in_range (16 * c + 64) 16 slot inside in
       (live, (omega arith, omega arith))
 
@@ -91,26 +92,19 @@ module _ (t : Table) where
 
 -- ---- the due clumps of a chain
 
-clumps_range : (b : ℕ) → 1 ≤ b → clumps_of b ≡ range_with_len (4 * b - 4) 4
-clumps_range b low =
-    let p1 : 4 * b - 3 ≡ 4 * b - 4 + 1 = omega arith in
-    let p2 : 4 * b - 2 ≡ 4 * b - 4 + 1 + 1 = omega arith in
-    let p3 : 4 * b - 1 ≡ 4 * b - 4 + 1 + 1 + 1 = omega arith in
-    λ i. (4 * b - 4) ∷ p1 i ∷ p2 i ∷ p3 i ∷ []
-
 module _ (ages : List ℕ) (n : ℕ) where
   abbrev is_young : ℕ → Bool
   is_young c = nat_le (slice_index ages c) n
 
-  in_due : (chain : List ℕ) (c : ℕ) → ((b : ℕ) → Contains chain b → 1 ≤ b) → Contains (due_clumps ages n chain) c
+  in_due : (chain : List ℕ) (c : ℕ) → ((b : ℕ) → Contains chain b → 1 ≤ b)
+      → Contains (due_clumps ages n chain) c
       → Contains chain (c / 4 + 1) × (is_young c ≡ true)
   in_due [] c low h = absurd (not_in_none c h)
   in_due (b ∷ chain) c low h =
       ⊎_elim
       (λ here. let one = low b (first_in b chain) in
       let (inside, young) = passing_from is_young (clumps_of b) c here in
-      let (from, to) = in_range (4 * b - 4) 4 c
-      (member_same (clumps_of b) (range_with_len (4 * b - 4) 4) (clumps_range b one) c inside) in
+      let (from, to) = in_range (4 * b - 4) 4 c inside in
       let e : b ≡ c / 4 + 1 = omega arith in
       (subst (λ d. Contains (b ∷ chain) d) e (first_in b chain), young))
       (λ later. let (inside, young) = in_due chain c (λ d k. low d (later_in b chain d k)) later in
@@ -122,11 +116,8 @@ module _ (ages : List ℕ) (n : ℕ) where
   of_due [] c h young = absurd (not_in_none (c / 4 + 1) h)
   of_due (b ∷ chain) c h young =
       ⊎_elim
-      (λ e. let one : 1 ≤ b = omega arith in
-      Contains-append_left (filter is_young (clumps_of b)) (due_clumps ages n chain) c
-      (passing_in is_young (clumps_of b) c
-      (member_same (range_with_len (4 * b - 4) 4) (clumps_of b) (sym (clumps_range b one)) c
-      (of_range (4 * b - 4) 4 c (omega arith) (omega arith))) young))
+      (λ e. Contains-append_left (filter is_young (clumps_of b)) (due_clumps ages n chain) c
+      (passing_in is_young (clumps_of b) c (of_range (4 * b - 4) 4 c (omega arith) (omega arith)) young))
       (λ later. Contains-append_right (filter is_young (clumps_of b)) (due_clumps ages n chain) c
       (of_due chain c later young))
       (member_cases b chain (c / 4 + 1) h)
@@ -138,12 +129,10 @@ module _ (ages : List ℕ) (n : ℕ) where
       let one = low b (first_in b chain) in
       let low_rest : (d : ℕ) → Contains chain d → 1 ≤ d = λ d k. low d (later_in b chain d k) in
       pairs_append (λ x y. x ≢ y) (filter is_young (clumps_of b)) (due_clumps ages n chain)
-      (pairs_passing is_young (λ x y. x ≢ y) (clumps_of b)
-      (subst (AllPairs (λ x y. x ≢ y)) (sym (clumps_range b one)) (range_apart (4 * b - 4) 4)))
+      (pairs_passing is_young (λ x y. x ≢ y) (clumps_of b) (range_apart (4 * b - 4) 4))
       (due_apart chain low_rest (pairs_rest (λ x y. x ≢ y) b chain apart))
       (λ x y h k e. let (from, to) = in_range (4 * b - 4) 4 x
-      (member_same (clumps_of b) (range_with_len (4 * b - 4) 4) (clumps_range b one) x
-      (passing_from is_young (clumps_of b) x h).0) in
+      (passing_from is_young (clumps_of b) x h).0 in
       let there : Contains chain (y / 4 + 1) = (in_due chain y low_rest k).0 in
       let same : b ≡ y / 4 + 1 = omega arith in
       pairs_first (λ p q. p ≢ q) b chain apart (y / 4 + 1) there same)
@@ -163,7 +152,8 @@ module _ (t : Table) (is : IsTable t) (ages : List ℕ) (n : ℕ) (k : Kind) whe
       let e : clump_of slot / 4 + 1 ≡ slot / 64 = omega arith in
       let here : get t.uses (slot / 64) ≡ Some (handles_of k) =
       ap (get t.uses) (sym e) ∙ (is.chained k (clump_of slot / 4 + 1)).0 inside in
-      let there : get t.uses (slot / 64) ≡ Some (handles_of handle.kind) = (is.rows slot handle stands).block in
+      let there : get t.uses (slot / 64) ≡ Some (handles_of handle.kind) =
+      (is.rows slot handle stands).block in
       record { handle = handle; stands = stands; of_kind = cc; due = due }
 
   all_due : (slot : ℕ) → IsDueRow t ages n k slot → Contains (due_slots t ages n k) slot

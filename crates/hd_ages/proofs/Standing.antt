@@ -12,7 +12,7 @@ use Rattle.hd_model.proofs.Members.{first_in, member_same}
 use Rattle.hd_ages.specs.Clumps.{clump_at}
 use Rattle.hd_ages.specs.declared.due_rows.DueRows.{DueRows}
 use Rattle.hd_ages.specs.Walk.{slots_in, slots_of, due_slots, after_first, blocks_after, blocks_from, clumps_by, due_in, clumps_to_come, slots_to_come, Advances, IsOver}
-use Rattle.hd_ages.proofs.Masks.{no_bits}
+use Rattle.hd_mask.proofs.SetBits.{set_bits-zero}
 use Rattle.hd_ages.proofs.Chains.{after_here, split_after, within_after, after_next}
 
 -- the kind of a block with handles
@@ -30,9 +30,11 @@ module _ (t : Table) (is : IsTable t) where
   chained_here b h = (is.chained (kind_at t b) b).1 (handles_kind (get t.uses b) h)
 
   -- what stands after the first block of a chain, and after the next one
-  pub first_after : (k : Kind) (b : ℕ) (rest : List ℕ) → chain_of t k ≡ b ∷ rest → blocks_after t (Some b) ≡ rest
+  pub first_after : (k : Kind) (b : ℕ) (rest : List ℕ) → chain_of t k ≡ b ∷ rest
+      → blocks_after t (Some b) ≡ rest
   first_after k b rest e =
-      let inside : Contains (chain_of t k) b = member_same (b ∷ rest) (chain_of t k) (sym e) b (first_in b rest) in
+      let inside : Contains (chain_of t k) b =
+      member_same (b ∷ rest) (chain_of t k) (sym e) b (first_in b rest) in
       ap (λ kind. after_first b (chain_of t kind)) (kind_here k b inside)
       ∙ ap (after_first b) e ∙ after_here b b rest refl
 
@@ -61,7 +63,7 @@ module _ (t : Table) (ages : List ℕ) where
   between : (w : DueRows) → w.rows ≡ 0 → slots_to_come t ages w ≡ slots_of t (clumps_to_come t ages w)
   between w e = slots_are w
       ∙ ap (λ rows. map (λ row. w.first + row) rows ++ slots_of t (clumps_to_come t ages w))
-      (ap set_bits e ∙ no_bits)
+      (ap set_bits e ∙ set_bits-zero)
 
   -- before the first of some blocks of a chain
   at_block : (bs : List ℕ) (n : ℕ) (block : Option ℕ) (mask : ℕ) → block ≡ slice_get bs 0
@@ -96,7 +98,8 @@ module _ (t : Table) (ages : List ℕ) where
 
   -- on to the next due clump of the block
   pub new_clump : (old new : DueRows) (b clump before after : ℕ) → after ≡ before + 1 → old.block ≡ Some b
-      → old.rows ≡ 0 → set_bits old.clumps ≡ clump ∷ set_bits new.clumps → new.block ≡ old.block → new.n ≡ old.n
+      → old.rows ≡ 0 → set_bits old.clumps ≡ clump ∷ set_bits new.clumps → new.block ≡ old.block
+      → new.n ≡ old.n
       → map (λ row. new.first + row) (set_bits new.rows) ≡ slots_in t (clump_at b clump)
       → Advances t ages old new before after
   new_clump old new b clump before after more here none bits block n rows =
@@ -116,7 +119,8 @@ module _ (t : Table) (ages : List ℕ) where
         less = omega (arith, ap length whole, ap (λ o. length (blocks_from t o)) block);
       }
 
-  fewer_blocks : (bs : List ℕ) (b : ℕ) (next : Option ℕ) → next ≡ slice_get bs 0 → bs ≡ blocks_after t (Some b)
+  fewer_blocks : (bs : List ℕ) (b : ℕ) (next : Option ℕ) → next ≡ slice_get bs 0
+      → bs ≡ blocks_after t (Some b)
       → ((c : ℕ) (rest : List ℕ) → bs ≡ c ∷ rest → blocks_after t (Some c) ≡ rest)
       → length (blocks_from t next) < length (blocks_from t (Some b))
   fewer_blocks [] b next first is after = omega (arith, ap (λ o. length (blocks_from t o)) first)
@@ -140,7 +144,8 @@ module _ (t : Table) (ages : List ℕ) where
       ∙ ap (λ xs. map (clump_at b) xs ++ due_clumps ages old.n bs) bits in
       let new_clumps : clumps_to_come t ages new ≡ due_clumps ages old.n bs =
       clumps_are new
-      ∙ (λ i. clumps_by (same i).block new.clumps ++ due_clumps ages (same i).n (blocks_after t (same i).block))
+      ∙ (λ i. clumps_by (same i).block new.clumps ++ due_clumps ages (same i).n
+      (blocks_after t (same i).block))
       ∙ at_block bs old.n next new.clumps first due (next_after t is b) in
       let clumps : clumps_to_come t ages new ≡ clumps_to_come t ages old = new_clumps ∙ sym old_clumps in
       let new_none : new.rows ≡ 0 = ap (λ (w : DueRows). w.rows) same ∙ none in
@@ -160,7 +165,8 @@ module _ (t : Table) (ages : List ℕ) where
 module _ (t : Table) (ages : List ℕ) where
   -- a row is the first to come
   pub gives : (old new : DueRows) (slot : Slot) → new ≡ record old { rows = new.rows }
-      → map (λ row. old.first + row) (set_bits old.rows) ≡ slot.0 ∷ map (λ row. old.first + row) (set_bits new.rows)
+      → map (λ row. old.first + row) (set_bits old.rows)
+      ≡ slot.0 ∷ map (λ row. old.first + row) (set_bits new.rows)
       → slots_to_come t ages old ≡ slot.0 ∷ slots_to_come t ages new
   unfolding slots_to_come clumps_to_come
   gives old new slot same rows =

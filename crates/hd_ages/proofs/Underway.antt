@@ -118,7 +118,8 @@ module _ (t : Table) (ages : List ℕ) (n : ℕ) (k : Kind) where
           }
 
     -- the walk is at its end
-    module _ (steps after : ℕ) (u : IsUnderway t ages n k now old before steps) (e : Ends now ages old new) where
+    module _ (steps after : ℕ) (u : IsUnderway t ages n k now old before steps)
+        (e : Ends now ages old new) where
       pub all_past : (slot : ℕ) → Contains (slots_to_come now ages old) slot → ⊥
       all_past slot h = not_in_none slot (member_same _ _ e.slots slot h)
 

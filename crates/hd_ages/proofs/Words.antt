@@ -7,6 +7,7 @@ use Rattle.std.proofs.lemmas.Nat.{or_lt, and_le_l}
 use Rattle.std.proofs.lemmas.Nat.Bits.{bit_at_and, bit_at_or, bit_at_not, bit_at-lt, bit_at_ones, bit_at_cat_high}
 use Rattle.hd_mask.proofs.Bits.{bit_at-shr, bit_at-mod}
 use Rattle.hd_model.specs.Ages.{raised, grown}
+use Rattle.hd_model.proofs.Idle.{raised_older}
 use Rattle.hd_ages.specs.Word.{IsWord, age_in, ages_in}
 
 -- the clumps of a block
@@ -65,16 +66,13 @@ raised_none (suc (suc a)) b small le = absurd (omega arith)
 raised_up : (n g : ℕ) → g ≤ n → raised n g ≡ min (g + 1) 2
 raised_up n g le = ap (λ t. cond t g (min (g + 1) 2)) (lt-leb (suc n) g (omega arith))
 
-raised_above : (n g : ℕ) → n < g → raised n g ≡ g
-raised_above n g lt = ap (λ t. cond t g (min (g + 1) 2)) (le-leb (suc n) g (omega arith))
-
 -- from generation 1 on each age is raised that can be
 raised_some : (n a b : ℕ) → 1 ≤ n → a < 2 → b ≤ a → 1 + a ≡ raised n (a + b)
 raised_some n zero zero some small le = sym (raised_up n 0 (omega arith))
 raised_some n zero (suc b) some small le = absurd (omega arith)
 raised_some n (suc zero) zero some small le = sym (raised_up n 1 some)
 raised_some n (suc zero) (suc zero) some small le =
-    elim (cases_lt n 2) [ inl below ↦ sym (raised_above n 2 below) | inr most ↦ sym (raised_up n 2 most) ]
+    elim (cases_lt n 2) [ inl below ↦ sym (raised_older n 2 below) | inr most ↦ sym (raised_up n 2 most) ]
 raised_some n (suc zero) (suc (suc b)) some small le = absurd (omega arith)
 raised_some n (suc (suc a)) b some small le = absurd (omega arith)
 

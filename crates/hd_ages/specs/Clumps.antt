@@ -1,17 +1,23 @@
 -- Clumps by their block, and what happens to the ages of one block.
-use Rattle.std.specs.Prelude.{◌≡◌, ℕ, ◌+◌, ◌-◌, ◌*◌, ◌/◌, ◌%◌, List, ◌++◌, take, drop}
+use Rattle.std.specs.Prelude.{◌≡◌, ℕ, ◌+◌, ◌-◌, ◌*◌, ◌/◌, ◌%◌, List, ◌++◌, length, take, drop}
+use Rattle.hd_model.specs.declared.limits.TheConstants.{CLUMP, CLUMPS, ROWS}
 use Rattle.hd_model.specs.Ages.{grown}
+use Rattle.hd_model.specs.Table.{Table}
+
+-- an age for each clump of the table's blocks
+abbrev pub CoversTable : List ℕ → Table → Type 0
+CoversTable ages t = length ages ≡ CLUMPS * t.blocks
 
 -- the place of a block's clump, from 0 to 3, in the list of ages
 abbrev pub clump_at : ℕ → ℕ → ℕ
-clump_at block clump = 4 * block + clump - 4
+clump_at block clump = CLUMPS * block + clump - CLUMPS
 
 -- a slot is one of the block's clump
 pub record IsSlotOf (block clump slot : ℕ) : Type 0 where
-  pub in_block : slot / 64 ≡ block
-  pub in_clump : slot % 64 / 16 ≡ clump
+  pub in_block : slot / ROWS ≡ block
+  pub in_clump : slot % ROWS / CLUMP ≡ clump
 
 -- the ages after a collection of generation n has come to one block
 abbrev pub grown_at : ℕ → ℕ → List ℕ → List ℕ
-grown_at n block ages = take (4 * block - 4) ages ++ grown n (take 4 (drop (4 * block - 4) ages)) ++ drop
-    (4 * block) ages
+grown_at n block ages = let first = CLUMPS * block - CLUMPS in
+    take first ages ++ grown n (take CLUMPS (drop first ages)) ++ drop (CLUMPS * block) ages

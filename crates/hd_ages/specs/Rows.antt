@@ -5,7 +5,6 @@ use Rattle.hd_model.specs.declared.data.Kind.{Kind}
 use Rattle.hd_model.specs.State.{Handle}
 use Rattle.hd_model.specs.Ages.{is_due}
 use Rattle.hd_model.specs.Table.{Table, row_at}
-use Rattle.hd_model.specs.Visits.{IsSameTable}
 
 -- a live slot of a kind in a clump that is due
 pub record IsDueRow (t : Table) (ages : List ℕ) (n : ℕ) (kind : Kind) (slot : ℕ) : Type 0 where

@@ -7,6 +7,7 @@ use Rattle.std.specs.FinMap.{get, contains_key}
 use Rattle.hd_mask.specs.Mask.{set_bits}
 use Rattle.hd_model.specs.declared.data.Kind.{Kind}
 use Rattle.hd_model.specs.declared.data.Slot.{Slot}
+use Rattle.hd_model.specs.declared.limits.TheConstants.{BLOCKS, CLUMP, CLUMPS, ROWS}
 use Rattle.hd_model.specs.Ages.{clumps_of, due_clumps}
 use Rattle.hd_model.specs.Table.{Table, chain_of, has_handles, kind_at}
 use Rattle.hd_ages.specs.Clumps.{clump_at}
@@ -14,7 +15,7 @@ use Rattle.hd_ages.specs.declared.due_rows.DueRows.{DueRows}
 
 -- the live slots of a clump, by its place among the ages, in rising order; and those of several clumps
 unfoldable pub slots_in : Table → ℕ → List ℕ
-slots_in t clump = filter (λ slot. contains_key t.rows slot) (range_with_len (16 * clump + 64) 16)
+slots_in t clump = filter (λ slot. contains_key t.rows slot) (range_with_len (CLUMP * clump + ROWS) CLUMP)
 
 abbrev pub slots_of : Table → List ℕ → List ℕ
 slots_of t [] = []
@@ -64,10 +65,10 @@ pub record IsHandleBlock (t : Table) (block : ℕ) : Type 0 where
 -- a walk stands in a block of handles of the table, or at its end
 pub record IsOn (t : Table) (w : DueRows) : Type 0 where
   pub block : ForSome w.block (IsHandleBlock t)
-  pub clumps : (i : ℕ) → 4 ≤ i → bit_at w.clumps i ≡ 0
-  pub first : w.first ≤ 16448
+  pub clumps : (i : ℕ) → CLUMPS ≤ i → bit_at w.clumps i ≡ 0
+  pub first : w.first ≤ ROWS * (BLOCKS + 1)
 
--- a walk has gone on without coming to a row: nothing is lost, each clump that it left behind is a step, and
+-- a walk has gone on without coming to a row: nothing is lost, each clump that it passed is a step, and
 -- less is to come
 pub record Advances (t : Table) (ages : List ℕ) (old new : DueRows) (before after : ℕ) : Type 0 where
   pub slots : slots_to_come t ages new ≡ slots_to_come t ages old
@@ -80,9 +81,10 @@ pub record IsOver (t : Table) (ages : List ℕ) (w : DueRows) : Type 0 where
   pub slots : slots_to_come t ages w ≡ []
   pub clumps : clumps_to_come t ages w ≡ []
 
--- no row was to come, and now no clump is either
+-- no row was to come, and now neither a row nor a clump is
 pub record Ends (t : Table) (ages : List ℕ) (old new : DueRows) : Type 0 where
   pub slots : slots_to_come t ages old ≡ []
+  pub done : slots_to_come t ages new ≡ []
   pub clumps : clumps_to_come t ages new ≡ []
 
 -- a slot was the first to come, and now those after it are

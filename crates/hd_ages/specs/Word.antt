@@ -2,10 +2,11 @@
 -- project's own format.
 use Rattle.std.specs.Prelude.{ℕ, ◌+◌, ◌<◌, ◌≤◌, ◌^◌, List, [], ◌∷◌}
 use Rattle.std.specs.Int.{bit_at}
+use Rattle.hd_model.specs.declared.limits.TheConstants.{CLUMPS}
 
 -- the age of a clump, and all four
 abbrev pub age_in : ℕ → ℕ → ℕ
-age_in word clump = bit_at word clump + bit_at word (clump + 4)
+age_in word clump = bit_at word clump + bit_at word (clump + CLUMPS)
 
 abbrev pub ages_in : ℕ → List ℕ
 ages_in word = age_in word 0 ∷ age_in word 1 ∷ age_in word 2 ∷ age_in word 3 ∷ []

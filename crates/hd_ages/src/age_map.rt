@@ -1,4 +1,4 @@
-ghost use Rattle.std.specs.Prelude.{◌≡◌, ℕ, ◌+◌, ◌-◌, ◌*◌, ◌<◌, ◌≤◌, List, cond, nat_le, length, map, filter};
+ghost use Rattle.std.specs.Prelude.{◌≡◌, ℕ, ◌+◌, ◌-◌, ◌*◌, ◌<◌, ◌≤◌, ◌^◌, List, cond, nat_le, length, map, filter};
 ghost use Rattle.std.specs.Prelude.{replicate, slice_index, All, IfOk};
 ghost use Rattle.std.specs.Int.{bit_at};
 ghost use Rattle.hd_mask.specs.Mask.{set_bits};
@@ -6,8 +6,9 @@ ghost use Rattle.hd_model.specs.Ages.{clumps_of, lowered};
 ghost use Rattle.hd_ages.specs.Clumps.{IsSlotOf, clump_at, grown_at};
 
 use crate::word;
-use crate::word::OLDEST;
+use crate::word::ALL_OLDEST;
 use hd_model::Memory;
+use hd_model::limits::{BLOCKS, CLUMPS, OLDEST};
 use std::alloc::Global;
 use std::marker::Model;
 
@@ -19,23 +20,24 @@ pub struct AgeMap {
 
 impl Model for AgeMap {
     ghost use Rattle.std.specs.Prelude.{ℕ, List, All, length, ◌≤◌};
+    ghost use Rattle.hd_model.specs.declared.limits.TheConstants.{BLOCKS};
     ghost use Rattle.hd_ages.specs.Word.{IsWord, ages_of};
 
     ghost Value = { List ℕ };
 
     ghost view = { λ a. ages_of a.words.items };
 
-    ghost invariant = { λ a. (length a.words.items ≤ 256) × All IsWord a.words.items };
+    ghost invariant = { λ a. (length a.words.items ≤ BLOCKS) × All IsWord a.words.items };
 }
 
 impl AgeMap {
     /// The ages of a table of so many blocks: each is 2. All memory is taken here.
     pub fn open(alloc: Global, blocks: u32) -> Result<AgeMap, Memory>
-        requires { blocks ≤ 256 }
-        ensures { IfOk result (λ ages. ages ≡ replicate (4 * blocks) 2) }
+        requires { blocks ≤ BLOCKS }
+        ensures { IfOk result (λ ages. ages ≡ replicate (CLUMPS * blocks) OLDEST) }
     {
         let mut words = Vec::new(alloc);
-        match words.resize(blocks as usize, OLDEST) {
+        match words.resize(blocks as usize, ALL_OLDEST) {
             Ok(()) => Ok(AgeMap { words }),
             Err(_) => Err(Memory),
         }
@@ -43,9 +45,9 @@ impl AgeMap {
 
     /// The number of blocks.
     pub fn blocks(&self) -> u32
-        ensures value { length self.now ≡ 4 * result }
-        ensures few { result ≤ 256 }
-        ensures ages { All (λ age. age ≤ 2) self.now }
+        ensures value { length self.now ≡ CLUMPS * result }
+        ensures few { result ≤ BLOCKS }
+        ensures ages { All (λ age. age ≤ OLDEST) self.now }
     {
         self.words.len() as u32
     }
@@ -53,10 +55,10 @@ impl AgeMap {
     /// The age of a block's clump, from 0 to 2. The clump is from 0 to 3.
     pub fn age(&self, block: u32, clump: u32) -> u8
         requires low { 1 ≤ block }
-        requires high { 4 * block ≤ length self.now }
-        requires clump { clump < 4 }
+        requires high { CLUMPS * block ≤ length self.now }
+        requires clump { clump < CLUMPS }
         ensures value { result ≡ slice_index self.now (clump_at block clump) }
-        ensures small { result ≤ 2 }
+        ensures small { result ≤ OLDEST }
     {
         word::age(self.words[block as usize - 1], clump)
     }
@@ -64,8 +66,8 @@ impl AgeMap {
     /// Lowers the age of a block's clump to `g`. An age that is not above it stays.
     pub fn lower(&mut self, block: u32, clump: u32, g: u8)
         requires low { 1 ≤ block }
-        requires high { 4 * block ≤ length self.old }
-        requires clump { clump < 4 }
+        requires high { CLUMPS * block ≤ length self.old }
+        requires clump { clump < CLUMPS }
         ensures { (slot : ℕ) → IsSlotOf block clump slot → self.new ≡ lowered self.old slot g }
     {
         let place = block as usize - 1;
@@ -76,13 +78,13 @@ impl AgeMap {
     /// visits these clumps and no other.
     pub fn due(&self, block: u32, n: u8) -> u8
         requires low { 1 ≤ block }
-        requires high { 4 * block ≤ length self.now }
-        ensures bits { (clump : ℕ) → clump < 4 →
+        requires high { CLUMPS * block ≤ length self.now }
+        ensures bits { (clump : ℕ) → clump < CLUMPS →
             bit_at result clump
             ≡ cond (nat_le (slice_index self.now (clump_at block clump)) n) 1 0 }
         ensures clumps { map (clump_at block) (set_bits result)
             ≡ filter (λ clump. nat_le (slice_index self.now clump) n) (clumps_of block) }
-        ensures small { result < 16 }
+        ensures small { result < 2 ^ CLUMPS }
     {
         word::due(self.words[block as usize - 1], n)
     }
@@ -90,7 +92,7 @@ impl AgeMap {
     /// Raises each age of a block that is at most `n` by one, at most to 2.
     pub fn grow(&mut self, block: u32, n: u8)
         requires low { 1 ≤ block }
-        requires high { 4 * block ≤ length self.old }
+        requires high { CLUMPS * block ≤ length self.old }
         ensures { self.new ≡ grown_at n block self.old }
     {
         let place = block as usize - 1;

@@ -5,19 +5,16 @@ ghost use Rattle.std.specs.Option.{ForSome};
 ghost use Rattle.hd_mask.specs.Mask.{set_bits};
 ghost use Rattle.hd_model.specs.Ages.{due_clumps};
 ghost use Rattle.hd_model.specs.Table.{IsTable, chain_of};
-ghost use Rattle.hd_ages.specs.Clumps.{clump_at};
+ghost use Rattle.hd_ages.specs.Clumps.{CoversTable, clump_at};
 ghost use Rattle.hd_ages.specs.Walk.{IsOn, Advances, IsOver, Ends, Gives};
 ghost use Rattle.hd_ages.specs.Walk.{clumps_by, due_in, clumps_to_come, slots_in, slots_to_come, due_slots};
 
 use crate::age_map::AgeMap;
 use hd_mask::{lowest, take_lowest};
-use hd_model::limits::ROWS;
+use hd_model::limits::{BLOCKS, CLUMP, CLUMPS, ROWS};
 use hd_model::{Kind, Slot, Steps};
 use hd_seg::Seg;
 use std::sync::ledger::Ledger;
-
-/// The rows of a clump.
-const CLUMP_ROWS: u32 = 16;
 
 /// A walk over the live rows of one kind in the clumps that a collection visits.
 ///
@@ -40,7 +37,7 @@ impl DueRows {
     /// A walk over the rows of a kind that a collection of generation `n` visits, in the order of
     /// their blocks in the chain.
     pub fn start(seg: &Seg, ages: &AgeMap, kind: Kind, n: u8) -> DueRows
-        requires blocks { length ages.now ≡ 4 * seg.now.blocks }
+        requires blocks { CoversTable ages.now seg.now }
         ensures on { IsOn seg.now result }
         ensures slots { slots_to_come seg.now ages.now result
             ≡ due_slots seg.now ages.now n kind }
@@ -67,7 +64,7 @@ impl DueRows {
         steps: &mut Steps<L>,
     ) -> Option<Slot>
         requires on { IsOn seg.now self.old }
-        requires blocks { length ages.now ≡ 4 * seg.now.blocks }
+        requires blocks { CoversTable ages.now seg.now }
         ensures on { IsOn seg.now self.new }
         ensures row { MatchOption result (Ends seg.now ages.now self.old self.new)
             (λ slot. Gives seg.now ages.now self.old self.new slot) }
@@ -82,10 +79,10 @@ impl DueRows {
 
     // Goes to a block, before its due clumps. None is the end of a chain.
     fn go_to(&mut self, block: Option<u32>, ages: &AgeMap)
-        requires { ForSome block (λ b. (1 ≤ b) × (4 * b ≤ length ages.now)) }
+        requires { ForSome block (λ b. (1 ≤ b) × (CLUMPS * b ≤ length ages.now)) }
         ensures after { self.new ≡ record self.old { block = block; clumps = self.new.clumps } }
         ensures due { clumps_by block self.new.clumps ≡ due_in ages.now self.old.n block }
-        ensures small { (i : ℕ) → 4 ≤ i → bit_at self.new.clumps i ≡ 0 }
+        ensures small { (i : ℕ) → CLUMPS ≤ i → bit_at self.new.clumps i ≡ 0 }
     {
         self.block = block;
         self.clumps = match block {
@@ -97,7 +94,7 @@ impl DueRows {
     // Goes on to the next due clump of the block, which is a step, or else to the next block.
     fn advance<L: Ledger>(&mut self, seg: &Seg, ages: &AgeMap, steps: &mut Steps<L>) -> Option<()>
         requires on { IsOn seg.now self.old }
-        requires blocks { length ages.now ≡ 4 * seg.now.blocks }
+        requires blocks { CoversTable ages.now seg.now }
         requires none { self.old.rows ≡ 0 }
         ensures on { IsOn seg.now self.new }
         ensures goes { MatchOption result (IsOver seg.now ages.now self.old)
@@ -120,25 +117,25 @@ impl DueRows {
     fn enter(&mut self, seg: &Seg, block: u32, clump: u32)
         requires low { 1 ≤ block }
         requires high { block ≤ seg.now.blocks }
-        requires clump { clump < 4 }
+        requires clump { clump < CLUMPS }
         ensures block { self.new.block ≡ self.old.block }
         ensures n { self.new.n ≡ self.old.n }
-        ensures first { self.new.first ≡ 64 * block + 16 * clump }
+        ensures first { self.new.first ≡ ROWS * block + CLUMP * clump }
         ensures clumps { set_bits self.new.clumps ≡ drop 1 (set_bits self.old.clumps) }
         ensures fewer { (i : ℕ) → bit_at self.new.clumps i ≤ bit_at self.old.clumps i }
-        ensures rows { map (λ row. 64 * block + 16 * clump + row) (set_bits self.new.rows)
+        ensures rows { map (λ row. ROWS * block + CLUMP * clump + row) (set_bits self.new.rows)
             ≡ slots_in seg.now (clump_at block clump) }
         ensures table { IsTable seg.now }
     {
         self.clumps = take_lowest(self.clumps, 1).1;
         self.rows = u64::from(seg.clump(block, clump));
-        self.first = ROWS * block + CLUMP_ROWS * clump;
+        self.first = ROWS * block + CLUMP * clump;
     }
 
     // The lowest row of the clump that is to come.
     fn take_row(&mut self) -> Slot
         requires some { self.old.rows ≢ 0 }
-        requires first { self.old.first ≤ 16448 }
+        requires first { self.old.first ≤ ROWS * (BLOCKS + 1) }
         ensures after { self.new ≡ record self.old { rows = self.new.rows } }
         ensures rows { map (λ row. self.old.first + row) (set_bits self.old.rows)
             ≡ result.0 ∷ map (λ row. self.old.first + row) (set_bits self.new.rows) }

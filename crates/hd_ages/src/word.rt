@@ -1,20 +1,22 @@
 // The four ages of a block in one word. Bit `c` says that clump `c` is of age 1 or more, and bit
 // `c + 4` that it is of age 2.
 
-ghost use Rattle.std.specs.Prelude.{◌≡◌, ℕ, ◌<◌, ◌≤◌, cond, nat_le, min, slice_set};
+ghost use Rattle.std.specs.Prelude.{◌≡◌, ℕ, ◌<◌, ◌≤◌, ◌^◌, cond, nat_le, min, slice_set};
 ghost use Rattle.std.specs.Int.{bit_at};
 ghost use Rattle.hd_ages.specs.Word.{IsWord, age_in, ages_in};
 ghost use Rattle.hd_model.specs.Ages.{grown};
 
+use hd_model::limits::{CLUMPS, OLDEST};
+
 /// The word of four ages of 2.
-pub(crate) const OLDEST: u8 = 0xff;
+pub(crate) const ALL_OLDEST: u8 = 0xff;
 
 // The bits that say that a clump is of age 1 or more.
 const SOME: u8 = 0x0f;
 
 // From the bit that says that a clump is of age 1 or more to the one that says that it is of age
 // 2.
-const TWO: u32 = 4;
+const TWO: u32 = CLUMPS;
 
 // The bits of the age of clump 0.
 const AGE: u8 = 0x11;
@@ -24,9 +26,9 @@ const OLD: u8 = 0x10;
 
 /// The age of a clump.
 pub(crate) fn age(word: u8, clump: u32) -> u8
-    requires { clump < 4 }
+    requires { clump < CLUMPS }
     ensures value { result ≡ age_in word clump }
-    ensures small { result ≤ 2 }
+    ensures small { result ≤ OLDEST }
 {
     (word >> clump & 1) + (word >> (clump + TWO) & 1)
 }
@@ -35,7 +37,7 @@ pub(crate) fn age(word: u8, clump: u32) -> u8
 #[tactic(auto, using(crate::proofs::Words::lows))]
 pub(crate) fn lower(word: u8, clump: u32, g: u8) -> u8
     requires word { IsWord word }
-    requires clump { clump < 4 }
+    requires clump { clump < CLUMPS }
     ensures ages { ages_in result ≡ slice_set (ages_in word) clump (min (age_in word clump) g) }
     ensures after { IsWord result }
 {
@@ -50,9 +52,9 @@ pub(crate) fn lower(word: u8, clump: u32, g: u8) -> u8
 #[tactic(auto, using(crate::proofs::Words::dues))]
 pub(crate) fn due(word: u8, n: u8) -> u8
     requires { IsWord word }
-    ensures bits { (clump : ℕ) → clump < 4 →
+    ensures bits { (clump : ℕ) → clump < CLUMPS →
         bit_at result clump ≡ cond (nat_le (age_in word clump) n) 1 0 }
-    ensures small { result < 16 }
+    ensures small { result < 2 ^ CLUMPS }
 {
     match n {
         0 => !word & SOME,

@@ -14,7 +14,7 @@ use Rattle.hd_model.specs.Marking.{IsSettled}
 use Rattle.hd_model.specs.Ages.{is_due, HasSoundAges}
 use Rattle.hd_model.specs.Collect.{is_attaching, is_lost}
 use Rattle.hd_model.specs.Counting.{Counts}
-use Rattle.hd_model.specs.Table.{Table, row_at}
+use Rattle.hd_model.specs.Table.{Table, row_at, fits}
 use Rattle.hd_model.proofs.Counting.{counts_like}
 use Rattle.hd_model.proofs.Idle.{kept_target}
 use Rattle.hd_model.proofs.Marking.{undue_target}
@@ -71,6 +71,17 @@ module _ {N : Type 0} (p : N → Bool) (h : Handle N) where
     extra = ap (λ b. cond b (secondary None) h.extra) kept i;
   }
 
+-- the row of a dependent handle, written without its target and secondary, where it is lost
+pub detached_written : (p : Addr → Bool) (h : Handle Addr) (slot : ℕ) (old new : Table)
+    → h.kind ≡ kind.Dependent → is_lost p h.target ≡ true
+    → Rewrites slot (record { kind = h.kind; target = None; extra = secondary None }) old new
+    → Rewrites slot (detached true p h) old new
+detached_written p h slot old new dependent lost written =
+    subst (λ (q : Handle Addr). Rewrites slot q old new) (detached_lost p h dependent lost) written
+
+pub dependent_fits : (k : Kind) → k ≡ kind.Dependent → fits {N = Addr} k (secondary None) ≡ true
+dependent_fits k dependent = ap (λ (k : Kind). fits {N = Addr} k (secondary None)) dependent
+
 pub attaches_by : {N : Type 0} (h : Handle N) → h.kind ≡ kind.Dependent → role h ≡ attaches
 attaches_by h e = ap (λ k. role_of k h.extra) e
 
@@ -83,7 +94,8 @@ module _ (t : Table) (ages : List ℕ) (n : ℕ) (p : Addr → Bool) where
   IsDetaching = IsChanging t ages n kind.Dependent detach (IsDetachedAt (row_at t) ages n p)
 
   -- it is to come to all that it clears, and what it is not to come to stays as it is
-  pub detached_due : (slot : ℕ) → IsDetachedAt (row_at t) ages n p slot → IsDueRow t ages n kind.Dependent slot
+  pub detached_due : (slot : ℕ) → IsDetachedAt (row_at t) ages n p slot
+      → IsDueRow t ages n kind.Dependent slot
   detached_due slot r = record {
     handle = r.handle;
     stands = r.stands;
@@ -110,7 +122,8 @@ module _ (t : Table) (ages : List ℕ) (n : ℕ) (p : Addr → Bool) where
       (cases_Bool (is_attaching (role h))))
 
   -- the row that it comes to
-  module _ (slot : ℕ) (due : IsDueRow t ages n kind.Dependent slot) (g : Handle Addr) (same : g ≡ due.handle) where
+  module _ (slot : ℕ) (due : IsDueRow t ages n kind.Dependent slot) (g : Handle Addr)
+      (same : g ≡ due.handle) where
     pub detached_row : (now next : Table) → Rewrites slot (detached true p g) now next
         → Rewrites slot (detach slot due.handle) now next
     detached_row now next r =
@@ -127,11 +140,13 @@ module _ (t : Table) (ages : List ℕ) (n : ℕ) (p : Addr → Bool) where
 
     pub detached_hasnt : is_lost p g.target ≡ false → IsDetachedAt (row_at t) ages n p slot → ⊥
     detached_hasnt kept q =
-        let e : q.handle ≡ g = same_Some q.handle g (sym q.stands ∙ due.stands ∙ ap (λ h. Some h) (sym same)) in
+        let e : q.handle ≡ g =
+        same_Some q.handle g (sym q.stands ∙ due.stands ∙ ap (λ h. Some h) (sym same)) in
         both_ways (is_lost p g.target) kept (ap (λ (h : Handle Addr). is_lost p h.target) (sym e) ∙ q.lost)
 
 -- where ages are sound, the rows that are not visited have lost nothing
-module _ (o : Objects Addr) (t now : Table) (ages : List ℕ) (n : ℕ) (p : Addr → Bool) (settled : IsSettled o n p)
+module _ (o : Objects Addr) (t now : Table) (ages : List ℕ) (n : ℕ) (p : Addr → Bool)
+    (settled : IsSettled o n p)
     (sound : HasSoundAges o (row_at t) ages) where
   undue_found : (slot : ℕ) (h : Handle Addr) → row_at t slot ≡ Some h → is_due ages n slot ≡ false
       → is_lost p h.target ≡ false

@@ -39,7 +39,8 @@ module _ {A : Type 0} (f g : A → Bool) (within : (x : A) → f x ≡ true → 
   here_more x xs ys le a b e d =
       let l : length (cond a (x ∷ xs) xs) ≡ length xs = ap (λ t. length (cond t (x ∷ xs) xs)) e in
       let r : length (cond b (x ∷ ys) ys) ≡ length ys + 1 =
-      ap (λ t. length (cond t (x ∷ ys) ys)) d ∙ (let s : length (x ∷ ys) ≡ length ys + 1 = omega arith in s) in
+      ap (λ t. length (cond t (x ∷ ys) ys)) d
+      ∙ (let s : length (x ∷ ys) ≡ length ys + 1 = omega arith in s) in
       omega (arith, l, r)
 
   later_more : (x : A) (xs ys : List A) → length xs < length ys → (a b : Bool) → (a ≡ true → b ≡ true)
@@ -54,14 +55,17 @@ module _ {A : Type 0} (f g : A → Bool) (within : (x : A) → f x ≡ true → 
   more_by_one [] y inside fails passes = absurd (not_in_none y inside)
   more_by_one (x ∷ xs) y inside fails passes =
       ⊎_elim
-      (λ e. here_more x (filter f xs) (filter g xs) (no_fewer xs) (f x) (g x) (ap f e ∙ fails) (ap g e ∙ passes))
-      (λ later. later_more x (filter f xs) (filter g xs) (more_by_one xs y later fails passes) (f x) (g x) (within x))
+      (λ e. here_more x (filter f xs) (filter g xs) (no_fewer xs) (f x) (g x) (ap f e ∙ fails)
+      (ap g e ∙ passes))
+      (λ later. later_more x (filter f xs) (filter g xs) (more_by_one xs y later fails passes) (f x) (g x)
+      (within x))
       (member_cases x xs y inside)
 
 -- ---- the objects of a heap, in a list
 
 pub keys_of : (h : Heap) → Counts (λ (x : Addr). IsSome (get h.objects x.0)) (len h.objects)
-keys_of h = counts_keys h.objects (λ k. let a : Addr = record { 0 = k } in a) (λ a. a.0) (λ k. refl) (λ a. refl)
+keys_of h = counts_keys h.objects (λ k. let a : Addr = record { 0 = k } in a) (λ a. a.0) (λ k. refl)
+    (λ a. refl)
 
 abbrev pub addresses : Heap → List Addr
 addresses h = (keys_of h).members
@@ -71,7 +75,8 @@ some_object g None = refl
 some_object g (Some p) = refl
 
 pub listed : (h : Heap) (x : Addr) → is_object (object_at h) x ≡ true → Contains (addresses h) x
-listed h x e = (keys_of h).all x (sym (some_object (region_generation h (region_of x)) (get h.objects x.0)) ∙ e)
+listed h x e = (keys_of h).all x (sym (some_object (region_generation h (region_of x)) (get h.objects x.0))
+    ∙ e)
 
 -- ---- the passes
 
@@ -95,19 +100,22 @@ module _ (h : Heap) (n : ℕ) (p0 p q : Addr → Bool) (settled : IsSettled (obj
   pub more_new : new_in h p0 p < new_in h p0 q
   more_new =
       more_by_one (is_new p0 p) (is_new p0 q)
-      (λ x e. let parts = and_parts (p x) (not (p0 x)) e in and_from (q x) (not (p0 x)) (keeps x parts.0) parts.1)
+      (λ x e. let parts = and_parts (p x) (not (p0 x)) e in and_from (q x) (not (p0 x))
+      (keeps x parts.0) parts.1)
       (addresses h) gained.member gained_listed
       (ap (λ b. b && not (p0 gained.member)) gained.old)
       (and_from (q gained.member) (not (p0 gained.member)) gained.new
       (not_from_false (p0 gained.member)
-      (⊎_elim (λ was. absurd (both_ways (p gained.member) gained.old (before gained.member was))) (λ wasnt. wasnt)
+      (⊎_elim (λ was. absurd (both_ways (p gained.member) gained.old (before gained.member was)))
+      (λ wasnt. wasnt)
       (cases_Bool (p0 gained.member)))))
 
   pub fewer_left : left_in h q < left_in h p
   fewer_left =
       more_by_one (λ x. not (q x)) (λ x. not (p x))
       (λ x e. not_from_false (p x)
-      (⊎_elim (λ is. absurd (both_ways (q x) (not-true (q x) e) (keeps x is))) (λ isnt. isnt) (cases_Bool (p x))))
+      (⊎_elim (λ is. absurd (both_ways (q x) (not-true (q x) e) (keeps x is))) (λ isnt. isnt)
+      (cases_Bool (p x))))
       (addresses h) gained.member gained_listed (not_from_true (q gained.member) gained.new)
       (not_from_false (p gained.member) gained.old)
 
@@ -126,7 +134,8 @@ none_passed h visits p0 old = record {
   least = λ e. absurd (true≢false e);
 }
 
-module _ (h : Heap) (n visits : ℕ) (p0 p q : Addr → Bool) (old mid new : ℕ) (settled : IsSettled (object_at h) n q)
+module _ (h : Heap) (n visits : ℕ) (p0 p q : Addr → Bool) (old mid new : ℕ)
+    (settled : IsSettled (object_at h) n q)
     (before : (x : Addr) → p0 x ≡ true → p x ≡ true) (keeps : (x : Addr) → p x ≡ true → q x ≡ true) where
   one_pass : (k : ℕ) → mid ≡ old + k * visits → new ≡ mid + visits → new ≡ old + (k + 1) * visits
   one_pass k was is = grind arith
@@ -188,7 +197,8 @@ module _ (o : Objects Addr) (n : ℕ) (rows : Rows Addr) (ages : List ℕ) (p0 p
 
   attached_closed : (x y : Addr) → p x ≡ true → IsAttached rows x y → p y ≡ true
   attached_closed x y promoted a =
-      ⊎_elim (λ due. (followed a.slot a.handle a.stands a.attaches due).follows x y a.target a.secondary promoted)
+      ⊎_elim (λ due. (followed a.slot a.handle a.stands a.attaches due).follows x y a.target a.secondary
+      promoted)
       (λ undue. settled.older y
       (undue_secondary o n rows ages sound a.slot a.handle a.stands undue y a.secondary))
       (cases_Bool (is_due ages n a.slot))

@@ -39,19 +39,20 @@ module _ {N : Type 0} (E : N → N → Type 0) where
   gained_on p q r g s = record { member = g.member; new = s.keeps g.member g.new; old = g.old }
 
 -- fields of condemned objects are arrows
-pub young_arrows : {N : Type 0} (o : Objects N) (n : ℕ) (rows : Rows N) {x y : N} → Leads (IsYoungField o n) x y
+pub young_arrows : {N : Type 0} (o : Objects N) (n : ℕ) (rows : Rows N) {x y : N}
+    → Leads (IsYoungField o n) x y
     → Leads (IsArrow o rows) x y
 young_arrows o n rows Leads.here = Leads.here
 young_arrows o n rows (Leads.more chain e) = Leads.more (young_arrows o n rows chain) (inl e.field)
 
 module _ (o : Objects Addr) (n : ℕ) (t : Table) where
   -- the secondary of a handle is promoted with its target
-  pub promoted_behind : (slot : ℕ) (h : Handle Addr) (x y : Addr) (p q : Addr → Bool) → row_at t slot ≡ Some h
+  pub promoted_beyond : (slot : ℕ) (h : Handle Addr) (x y : Addr) (p q : Addr → Bool) → row_at t slot ≡ Some h
       → h.kind ≡ kind.Dependent → h.target ≡ Some x → secondary_of h.extra ≡ Some y
       → (p x && not (p y)) ≡ true → Grows (IsYoungField o n) (λ z. z ≡ y) p q
       → Spreads (IsArrow o (row_at t)) p q × Gained p q
-  promoted_behind slot h x y p q stands dependent target secondary behind grows =
-      let parts = and_parts (p x) (not (p y)) behind in
+  promoted_beyond slot h x y p q stands dependent target secondary beyond grows =
+      let parts = and_parts (p x) (not (p y)) beyond in
       let arrow : IsArrow o (row_at t) x y =
       inr (record {
         slot = slot;
@@ -70,7 +71,8 @@ module _ (o : Objects Addr) (n : ℕ) (t : Table) where
                 (
                   parts.0,
                   leads_on (IsArrow o (row_at t)) (one_arrow (IsArrow o (row_at t)) arrow)
-                      (subst (λ r. Leads (IsArrow o (row_at t)) r z) w.1.0 (young_arrows o n (row_at t) w.1.1)),
+                      (subst (λ r. Leads (IsArrow o (row_at t)) r z) w.1.0
+                      (young_arrows o n (row_at t) w.1.1)),
                 ),
               ))
               (grows.only z h);
@@ -78,15 +80,15 @@ module _ (o : Objects Addr) (n : ℕ) (t : Table) where
         record { member = y; new = grows.joins y refl; old = not-true (p y) parts.1 },
       )
 
-  -- a handle whose secondary is not left behind is followed
+  -- a handle whose secondary is not left out is followed
   pub followed_by : (h : Handle Addr) (x y : Addr) (p : Addr → Bool) → h.target ≡ Some x
       → secondary_of h.extra ≡ Some y → (p x && not (p y)) ≡ false → IsFollowed h p
-  followed_by h x y p target secondary not_behind = record {
+  followed_by h x y p target secondary not_beyond = record {
     follows = λ a b at there promoted.
         let first : a ≡ x = same_Some a x (sym at ∙ target) in
         let second : b ≡ y = same_Some b y (sym there ∙ secondary) in
         ⊎_elim (λ is. ap p second ∙ is)
-        (λ isnt. absurd (both_ways (p x && not (p y)) not_behind
+        (λ isnt. absurd (both_ways (p x && not (p y)) not_beyond
         (and_from (p x) (not (p y)) (ap p (sym first) ∙ promoted) (not_from_false (p y) isnt))))
         (cases_Bool (p y));
   }
@@ -126,7 +128,8 @@ module _ (o : Objects Addr) (n : ℕ) (t : Table) where
         };
       }
 
-    module _ (old new : DueRows) (slot : Slot) (before steps after : ℕ) (p q : Addr → Bool) (more row_more : Bool)
+    module _ (old new : DueRows) (slot : Slot) (before steps after : ℕ) (p q : Addr → Bool)
+        (more row_more : Bool)
         (s : IsSpreading old before steps p more) (gives : Gives t ages old new slot) (on : IsOn t new)
         (counted : after + length (clumps_to_come t ages new) ≡ steps + length (clumps_to_come t ages old))
         (spreads : Spreads A p q)
@@ -181,6 +184,8 @@ module _ (o : Objects Addr) (n : ℕ) (t : Table) where
       pub spread_end : MatchBool more (Gained p0 p) (IsSpread (row_at t) ages n p0 p)
       spread_end = at_end more s.found
 
-      pub spread_steps : after + length (clumps_to_come t ages new) ≡ steps + length (clumps_to_come t ages old)
+      pub spread_steps : after + length (clumps_to_come t ages new)
+          ≡ steps + length (clumps_to_come t ages old)
           → after ≡ before + visits_of t ages n kind.Dependent
-      spread_steps counted = steps_at_end t ages n kind.Dependent t old new before steps after s.under ends counted
+      spread_steps counted =
+          steps_at_end t ages n kind.Dependent t old new before steps after s.under ends counted

@@ -11,10 +11,12 @@ ghost use Rattle.hd_model.specs.Ages.{HasSoundAges};
 ghost use Rattle.hd_model.specs.Collect.{is_lost};
 ghost use Rattle.hd_model.specs.Counting.{Counts};
 ghost use Rattle.hd_seg.specs.Rewriting.{Rewrites};
+ghost use Rattle.hd_ages.specs.Clumps.{CoversTable};
 ghost use Rattle.hd_dep.specs.Clearing.{IsDetached, IsAllDetached, IsDetachedAt, IsLostAt, detached};
 
 use hd_ages::{AgeMap, DueRows};
-use hd_model::{Addr, Kind, Marker, Slot, Steps};
+use hd_model::limits::{BLOCKS, ROWS};
+use hd_model::{Kind, Marker, Slot, Steps, is_lost};
 use hd_seg::{Extra, Row, Seg, rewrite_row};
 use std::sync::ledger::Ledger;
 
@@ -30,14 +32,14 @@ pub fn clear<M: Marker, L: Ledger>(
     requires settled { M.settled marker.now }
     requires generation { (M.basis marker.now).condemned ≡ n }
     requires names { NamesObjects (objects_of (M.basis marker.now)) (row_at seg.old) }
-    requires blocks { length ages.now ≡ 4 * seg.old.blocks }
+    requires blocks { CoversTable ages.now seg.old }
     requires ages_sound { HasSoundAges (objects_of (M.basis marker.now)) (row_at seg.old) ages.now }
     ensures detached { IsDetached ages.now n (M.promoted marker.now) (row_at seg.old)
         (row_at seg.new) }
     ensures table { IsSameTable seg.old seg.new }
     ensures count { Counts (IsDetachedAt (row_at seg.old) ages.now n (M.promoted marker.now))
         result }
-    ensures few { result ≤ 16384 }
+    ensures few { result ≤ BLOCKS * ROWS }
     ensures steps { steps.new ≡ steps.old + visits_of seg.old ages.now n kind.Dependent }
 
     // The handles that are not visited would have stayed as they are.
@@ -53,6 +55,7 @@ pub fn clear<M: Marker, L: Ledger>(
 }
 
 /// Clears a dependent handle, if its target is not promoted.
+#[tactic(auto, using(crate::proofs::Detaching::detached_written, crate::proofs::Detaching::dependent_fits))]
 fn clear_row<M: Marker>(seg: &mut Seg, slot: Slot, marker: &M) -> bool
     requires live { IsSome (get seg.old.rows slot.0) }
     requires of_kind { (live_at seg.old slot.0).kind ≡ kind.Dependent }
@@ -76,16 +79,4 @@ fn clear_row<M: Marker>(seg: &mut Seg, slot: Slot, marker: &M) -> bool
         rewrite_row(seg, slot, cleared);
     }
     lost
-}
-
-/// Whether a target is not promoted. Null is not lost.
-fn is_lost<M: Marker>(target: Option<Addr>, marker: &M) -> bool
-    requires settled { M.settled marker.now }
-    requires object { ForSome target (λ x. is_object (objects_of (M.basis marker.now)) x ≡ true) }
-    ensures { result ≡ is_lost (M.promoted marker.now) target }
-{
-    match target {
-        Some(at) => !marker.promoted(at),
-        None => false,
-    }
 }

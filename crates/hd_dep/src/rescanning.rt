@@ -13,6 +13,7 @@ ghost use Rattle.hd_model.specs.Names.{NamesObjects};
 ghost use Rattle.hd_model.specs.Visits.{visits_of};
 ghost use Rattle.hd_model.specs.Ages.{HasSoundAges};
 ghost use Rattle.hd_seg.specs.Row.{extra_of};
+ghost use Rattle.hd_ages.specs.Clumps.{CoversTable};
 ghost use Rattle.hd_dep.specs.Rescan.{RescanSteps, Spreads, Gained, IsSpread, IsSpreadRow};
 
 use hd_ages::{AgeMap, DueRows};
@@ -35,7 +36,7 @@ pub fn rescan<M: Marker, L: Ledger>(
     requires settled { M.settled marker.old }
     requires generation { (M.basis marker.old).condemned ≡ n }
     requires names { NamesObjects (objects_of (M.basis marker.old)) (row_at seg.now) }
-    requires blocks { length ages.now ≡ 4 * seg.now.blocks }
+    requires blocks { CoversTable ages.now seg.now }
     requires fields { IsClosed (IsField (objects_of (M.basis marker.old))) (M.promoted marker.old) }
     requires ages_sound { HasSoundAges (objects_of (M.basis marker.old)) (row_at seg.now) ages.now }
     ensures settled { M.settled marker.new }
@@ -62,7 +63,7 @@ fn spread<M: Marker, L: Ledger>(
 ) -> bool
     requires settled { M.settled marker.old }
     requires names { NamesObjects (objects_of (M.basis marker.old)) (row_at seg.now) }
-    requires blocks { length ages.now ≡ 4 * seg.now.blocks }
+    requires blocks { CoversTable ages.now seg.now }
     ensures settled { M.settled marker.new }
     ensures basis { M.basis marker.new ≡ M.basis marker.old }
     ensures pinned { M.pinned marker.new ≡ M.pinned marker.old }
@@ -101,7 +102,7 @@ fn spread_row<M: Marker>(seg: &Seg, slot: Slot, marker: &mut M) -> bool
     let Some((target, secondary)) = parts(row) else {
         return false;
     };
-    if !is_left_behind(target, secondary, marker) {
+    if !is_left_out(target, secondary, marker) {
         return false;
     }
     marker.promote(secondary);
@@ -123,7 +124,7 @@ fn parts(row: Row) -> Option<(Addr, Addr)>
 }
 
 /// Whether a target is promoted and its secondary is not.
-fn is_left_behind<M: Marker>(target: Addr, secondary: Addr, marker: &M) -> bool
+fn is_left_out<M: Marker>(target: Addr, secondary: Addr, marker: &M) -> bool
     requires settled { M.settled marker.now }
     requires target { is_object (objects_of (M.basis marker.now)) target ≡ true }
     requires secondary { is_object (objects_of (M.basis marker.now)) secondary ≡ true }

@@ -1,5 +1,5 @@
 -- What each call of a pool does to its fields, and what it tells of the free slots.
-use Rattle.std.proofs.Common.{◌≡◌, ◌≢◌, ◌⊎◌, ℕ, zero, suc, ◌+◌, ◌*◌, ◌-◌, ◌/◌, ◌<◌, ◌≤◌, Bool, true, false, List, length, get_or, set, Option, Some, None, IsSome, inl, inr, refl, sym, ap, ◌∙◌, subst, arith}
+use Rattle.std.proofs.Common.{◌≡◌, ◌≢◌, ◌⊎◌, ℕ, ◌+◌, ◌*◌, ◌-◌, ◌/◌, ◌<◌, ◌≤◌, Bool, true, false, List, length, get_or, set, Option, Some, None, IsSome, inl, inr, refl, sym, ap, ◌∙◌, subst, arith}
 use Rattle.std.specs.Prelude.{is_some, IfSome, IfNone}
 use Rattle.std.specs.FinMap as map
 use Rattle.std.specs.FinMap.{get}
@@ -8,53 +8,20 @@ use Rattle.std.specs.Ordering.{nat_cmp}
 use Rattle.std.proofs.lemmas.Bool.{cases_eq, cases_lt, both_ways}
 use Rattle.std.proofs.lemmas.List.{get_or_past, get_or-set_same, get_or-set_other, get_or_read, length-set}
 use Rattle.hd_model.specs.declared.data.Kind.{Kind}
-use Rattle.hd_model.specs.declared.data.Kind.TheVariants as kind
 use Rattle.hd_model.specs.declared.data.Slot.{Slot}
 use Rattle.hd_model.specs.Kinds.{kind_number}
+use Rattle.hd_model.proofs.KindTests.{same_number, few_kinds}
 use Rattle.hd_pool.specs.Masks.{Held, numbers_of, IsLeastBetween, HasNoneBetween, HasAllOf}
 use Rattle.hd_pool.specs.Inside.{by_place, kind_at, place_of, HasFree, IsPool}
 use Rattle.hd_pool.specs.Pool.{FreeSlots, IsFreeFor, IsLeastFreeFor, HasNoneFor, IsWholeOf, IsLeastWholeOf}
 use Rattle.hd_pool.proofs.Places.{get-by_place, by_place-put, by_place-clear}
 use Rattle.hd_pool.proofs.Sets.{insert_same, insert_other, insert_keeps, remove_same, remove_other, union_same, union_other, difference_same, difference_other}
 
--- ---- kinds by their numbers
-
-kind_from : ℕ → Kind
-kind_from zero = kind.Short
-kind_from (suc zero) = kind.Long
-kind_from (suc (suc zero)) = kind.Strong
-kind_from (suc (suc (suc zero))) = kind.Pinned
-kind_from (suc (suc (suc (suc zero)))) = kind.Variable
-kind_from (suc (suc (suc (suc (suc zero))))) = kind.Counted
-kind_from (suc (suc (suc (suc (suc (suc n)))))) = kind.Dependent
-
-kind_again : (k : Kind) → kind_from (kind_number k) ≡ k
-unfolding kind_from
-kind_again kind.Short = refl
-kind_again kind.Long = refl
-kind_again kind.Strong = refl
-kind_again kind.Pinned = refl
-kind_again kind.Variable = refl
-kind_again kind.Counted = refl
-kind_again kind.Dependent = refl
-
-same_kind : (j k : Kind) → kind_number j ≡ kind_number k → j ≡ k
-same_kind j k e = sym (kind_again j) ∙ ap kind_from e ∙ kind_again k
-
-pub few_kinds : (k : Kind) → kind_number k < 7
-few_kinds kind.Short = omega arith
-few_kinds kind.Long = omega arith
-few_kinds kind.Strong = omega arith
-few_kinds kind.Pinned = omega arith
-few_kinds kind.Variable = omega arith
-few_kinds kind.Counted = omega arith
-few_kinds kind.Dependent = omega arith
-
 -- two places are one only for one kind and one block
 same_place : (j k : Kind) (a b : ℕ) → a < 320 → b < 320 → place_of j a ≡ place_of k b → (j ≡ k) × (a ≡ b)
 same_place j k a b small small' e =
     let number : kind_number j ≡ kind_number k = omega arith in
-    (same_kind j k number, omega arith)
+    (same_number j k number, omega arith)
 
 Some-injective : (j k : Kind) → Some j ≡ Some k → j ≡ k
 Some-injective j k e = cc
@@ -397,6 +364,12 @@ along {kinds} {free} {ready} {free'} {ready'} e f inv =
     subst (λ (s : Held). IsPool kinds s ready') (sym e)
     (subst (λ (s : Held). IsPool kinds free s) (sym f) inv)
 
+-- a pool by what was written in the place of a block
+pub with_left : (kinds : List (Option Kind)) {free ready : Held} (block : ℕ) (left : Option Kind)
+    → left ≡ None → IsPool (set kinds block None) free ready → IsPool (set kinds block left) free ready
+with_left kinds {free} {ready} block left none inv =
+    subst (λ (o : Option Kind). IsPool (set kinds block o) free ready) (sym none) inv
+
 module _ (kinds : List (Option Kind)) (free : Held) (v : FreeSlots) (is : seen kinds free ≡ v) where
   pub blocks_is : length kinds - 1 ≡ v.blocks
   blocks_is = ap (λ (u : FreeSlots). u.blocks) is
@@ -442,6 +415,13 @@ module _ (kinds : List (Option Kind)) (free : Held) (v : FreeSlots) (is : seen k
       } in
       ap (seen (set kinds block None)) e ∙ now ∙ ap
       (λ (u : FreeSlots). record u { kinds = map.remove u.kinds block; free = f u.free }) is
+
+  -- the same, by what was written in the block's place
+  pub seen_left : (left : Option Kind) → left ≡ None → (block : ℕ) (f : FinSet nat_cmp → FinSet nat_cmp)
+      (after : Held) → after ≡ record free { members = f free.members }
+      → seen (set kinds block left) after ≡ record v { kinds = map.remove v.kinds block; free = f v.free }
+  seen_left left none block f after e =
+      ap (λ (o : Option Kind). seen (set kinds block o) after) none ∙ seen_clear block f after e
 
   -- ---- a block that was added
 

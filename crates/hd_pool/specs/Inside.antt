@@ -3,8 +3,11 @@ use Rattle.std.specs.Prelude.{◌≡◌, ℕ, ◌+◌, ◌*◌, ◌/◌, ◌<◌
 use Rattle.std.specs.FinMap.{FinMap, from_entries}
 use Rattle.std.specs.FinSet.{contains}
 use Rattle.std.specs.Ordering.{nat_cmp}
+use Rattle.hd_mask.specs.declared.TheConstants.{BITS}
 use Rattle.hd_model.specs.declared.data.Kind.{Kind}
+use Rattle.hd_model.specs.declared.limits.TheConstants.{BLOCKS, KINDS, ROWS}
 use Rattle.hd_model.specs.Kinds.{kind_number}
+use Rattle.hd_pool.specs.declared.pool.TheConstants.{MASKS}
 use Rattle.hd_pool.specs.Masks.{Held}
 
 -- the items that are there, each with its place, counted from a number on
@@ -21,25 +24,26 @@ by_place xs = from_entries (numbered 0 xs)
 abbrev pub kind_at : List (Option Kind) → ℕ → Option Kind
 kind_at kinds block = slice_index_or kinds block None
 
--- where a block of a kind stands among the blocks with a free slot: each kind has 320 numbers
+-- where a block of a kind stands among the blocks with a free slot: each kind has the numbers of MASKS masks
 abbrev pub place_of : Kind → ℕ → ℕ
-place_of kind block = kind_number kind * 320 + block
+place_of kind block = kind_number kind * (MASKS * BITS) + block
 
 -- some slot of a block is free
 pub record HasFree (s : Held) (block : ℕ) : Type 0 where
   pub slot : ℕ
-  pub of_block : slot / 64 ≡ block
+  pub of_block : slot / ROWS ≡ block
   pub free : contains s.members slot ≡ true
 
 -- only slots of added blocks are free, and the blocks with a free slot stand under their kinds
 pub record IsPool (kinds : List (Option Kind)) (free ready : Held) : Type 0 where
   pub some : 1 ≤ length kinds
-  pub limit : length kinds ≤ 257
-  pub room : free.room ≡ 64 * length kinds
-  pub ready_room : ready.room ≡ 2240
-  pub added : (slot : ℕ) → contains free.members slot ≡ true → IsSome (kind_at kinds (slot / 64))
-  pub opened : (kind : Kind) (slot : ℕ) → kind_at kinds (slot / 64) ≡ Some kind → contains free.members slot ≡
-      true
-      → contains ready.members (place_of kind (slot / 64)) ≡ true
-  pub has_free : (kind : Kind) (block : ℕ) → block < 320 → contains ready.members (place_of kind block) ≡ true
+  pub limit : length kinds ≤ BLOCKS + 1
+  pub room : free.room ≡ ROWS * length kinds
+  pub ready_room : ready.room ≡ KINDS * (MASKS * BITS)
+  pub added : (slot : ℕ) → contains free.members slot ≡ true → IsSome (kind_at kinds (slot / ROWS))
+  pub opened : (kind : Kind) (slot : ℕ) → kind_at kinds (slot / ROWS) ≡ Some kind
+      → contains free.members slot ≡ true
+      → contains ready.members (place_of kind (slot / ROWS)) ≡ true
+  pub has_free : (kind : Kind) (block : ℕ) → block < MASKS * BITS
+      → contains ready.members (place_of kind block) ≡ true
       → (kind_at kinds block ≡ Some kind) × HasFree free block

@@ -1,10 +1,11 @@
--- Sets of numbers, kept by masks: numbers 64 * k to 64 * k + 63 stand in mask k. This project's own format.
+-- Sets of numbers, kept by masks: number i is bit i % 64 of mask i / 64. This project's own format.
 use Rattle.std.specs.Prelude.{◌≡◌, ℕ, ◌*◌, ◌/◌, ◌%◌, ◌<◌, ◌≤◌, ◌==◌, Bool, true, false, List, length, filter, slice_index, refl}
 use Rattle.std.specs.Coded.{Coded, code_by, coded×, coded_ℕ}
 use Rattle.std.specs.FinSet.{FinSet, code, contains, from_list}
 use Rattle.std.specs.Int.{bit_at}
 use Rattle.std.specs.List.{range_with_len}
 use Rattle.std.specs.Ordering.{nat_cmp}
+use Rattle.hd_mask.specs.declared.TheConstants.{BITS}
 
 -- a set of numbers below a number, its room
 pub record Held : Type 0 where
@@ -18,15 +19,15 @@ held_code =
 
 -- whether masks say that a number is in their set
 abbrev pub is_marked : List ℕ → ℕ → Bool
-is_marked masks i = bit_at (slice_index masks (i / 64)) (i % 64) == 1
+is_marked masks i = bit_at (slice_index masks (i / BITS)) (i % BITS) == 1
 
 -- the set of numbers that masks say
 unfoldable pub set_of : List ℕ → FinSet nat_cmp
-set_of masks = from_list (filter (is_marked masks) (range_with_len 0 (64 * length masks)))
+set_of masks = from_list (filter (is_marked masks) (range_with_len 0 (BITS * length masks)))
 
--- the 64 numbers of one mask
+-- the numbers of one mask
 unfoldable pub numbers_of : ℕ → FinSet nat_cmp
-numbers_of mask = from_list (range_with_len (64 * mask) 64)
+numbers_of mask = from_list (range_with_len (BITS * mask) BITS)
 
 -- the least member from a number on and below another
 pub record IsLeastBetween (s : FinSet nat_cmp) (from to i : ℕ) : Type 0 where
@@ -39,6 +40,6 @@ pub record IsLeastBetween (s : FinSet nat_cmp) (from to i : ℕ) : Type 0 where
 abbrev pub HasNoneBetween : FinSet nat_cmp → ℕ → ℕ → Type 0
 HasNoneBetween s from to = (k : ℕ) → from ≤ k → k < to → contains s k ≡ false
 
--- all 64 numbers of a mask are members
+-- all numbers of a mask are members
 abbrev pub HasAllOf : FinSet nat_cmp → ℕ → Type 0
-HasAllOf s mask = (i : ℕ) → i / 64 ≡ mask → contains s i ≡ true
+HasAllOf s mask = (i : ℕ) → i / BITS ≡ mask → contains s i ≡ true

@@ -1,15 +1,12 @@
-// Sets of small numbers, by masks of 64.
+// Sets of small numbers, by masks.
 ghost use Rattle.std.specs.Prelude.{◌≡◌, ◌↔◌, ℕ, ◌*◌, ◌^◌, ◌<◌, ◌≤◌, IfOk, IfSome, IfNone, IsTrue};
 ghost use Rattle.std.specs.FinSet.{contains, insert, remove, empty, union, difference};
 ghost use Rattle.hd_pool.specs.Masks.{numbers_of, IsLeastBetween, HasNoneBetween, HasAllOf};
 
-use hd_mask::{bit, lowest};
+use hd_mask::{BITS, bit, lowest};
 use hd_model::Memory;
 use std::alloc::Global;
 use std::marker::Model;
-
-// The numbers of one mask.
-const BITS: u32 = 64;
 
 // The mask of all its numbers.
 const FULL: u64 = u64::MAX;
@@ -22,6 +19,7 @@ pub(crate) struct MaskSet {
 
 impl Model for MaskSet {
     ghost use Rattle.std.specs.Prelude.{◌*◌, ◌^◌, ◌<◌, length};
+    ghost use Rattle.hd_mask.specs.declared.TheConstants.{BITS};
     ghost use Rattle.hd_pool.specs.Masks.{Held, held_code, set_of};
 
     ghost Value = { Held };
@@ -29,18 +27,18 @@ impl Model for MaskSet {
     ghost coded = { held_code };
 
     ghost view = { λ s. record {
-      room = 64 * length s.masks.items;
+      room = BITS * length s.masks.items;
       members = set_of s.masks.items;
     } };
 
-    ghost invariant = { λ s. 64 * length s.masks.items < 2 ^ 32 };
+    ghost invariant = { λ s. BITS * length s.masks.items < 2 ^ 32 };
 }
 
 impl MaskSet {
-    /// The empty set, with room for 64 numbers for each of `masks` masks.
+    /// The empty set, with room for the numbers of `masks` masks.
     pub(crate) fn open(alloc: Global, masks: u32) -> Result<MaskSet, Memory>
-        requires { 64 * masks < 2 ^ 32 }
-        ensures { IfOk result (λ s. s ≡ record { room = 64 * masks; members = empty }) }
+        requires { BITS * masks < 2 ^ 32 }
+        ensures { IfOk result (λ s. s ≡ record { room = BITS * masks; members = empty }) }
     {
         match vec![in alloc; 0; masks as usize] {
             Ok(masks) => Ok(MaskSet { masks }),
@@ -68,27 +66,27 @@ impl MaskSet {
         self.masks[at] = mask & !bit(i % BITS);
     }
 
-    /// The 64 numbers of a mask join.
+    /// The numbers of a mask join.
     pub(crate) fn fill(&mut self, mask: u32)
-        requires { 64 * mask < self.old.room }
+        requires { BITS * mask < self.old.room }
         ensures { self.new ≡
             record self.old { members = union self.old.members (numbers_of mask) } }
     {
         self.masks[mask as usize] = FULL;
     }
 
-    /// The 64 numbers of a mask leave.
+    /// The numbers of a mask leave.
     pub(crate) fn clear(&mut self, mask: u32)
-        requires { 64 * mask < self.old.room }
+        requires { BITS * mask < self.old.room }
         ensures { self.new ≡
             record self.old { members = difference self.old.members (numbers_of mask) } }
     {
         self.masks[mask as usize] = 0;
     }
 
-    /// Whether the 64 numbers of a mask are all members.
+    /// Whether the numbers of a mask are all members.
     pub(crate) fn is_full(&self, mask: u32) -> bool
-        requires { 64 * mask < self.now.room }
+        requires { BITS * mask < self.now.room }
         ensures { IsTrue result ↔ HasAllOf self.now.members mask }
     {
         self.masks[mask as usize] == FULL
@@ -96,9 +94,9 @@ impl MaskSet {
 
     /// The least member in the masks from `from` on and below `to`.
     pub(crate) fn least_between(&self, from: u32, to: u32) -> Option<u32>
-        requires { 64 * to ≤ self.now.room }
-        ensures found { IfSome result (IsLeastBetween self.now.members (64 * from) (64 * to)) }
-        ensures none { IfNone result (HasNoneBetween self.now.members (64 * from) (64 * to)) }
+        requires { BITS * to ≤ self.now.room }
+        ensures found { IfSome result (IsLeastBetween self.now.members (BITS * from) (BITS * to)) }
+        ensures none { IfNone result (HasNoneBetween self.now.members (BITS * from) (BITS * to)) }
     {
         for at in from..to {
             if let Some(row) = lowest(self.masks[at as usize]) {

@@ -8,6 +8,7 @@ ghost use Rattle.hd_pool.specs.Inside.{place_of};
 ghost use Rattle.hd_pool.specs.Pool.{slots_of, IsLeastFreeFor, HasNoneFor, IsWhole, IsLeastWholeOf, HasNoWholeOf};
 
 use crate::masks::MaskSet;
+use hd_mask::BITS;
 use hd_model::limits::{BLOCKS, KINDS, ROWS};
 use hd_model::{Kind, Memory, Slot};
 use std::alloc::Global;
@@ -142,5 +143,5 @@ fn place(kind: Kind, block: u32) -> u32
     requires { block ≤ BLOCKS }
     ensures { result ≡ place_of kind block }
 {
-    kind.number() * MASKS * ROWS + block
+    kind.number() * MASKS * BITS + block
 }

@@ -1,5 +1,5 @@
 -- A block comes into use: for handles, at the end of a chain, or for the extras of another block's rows.
-use Rattle.std.proofs.Common.{◌≡◌, ◌≢◌, ◌⊎◌, ℕ, zero, suc, ◌+◌, ◌<◌, ◌≤◌, cond, nat_eq, List, [], ◌∷◌, ◌++◌, length, get_or, set, replicate, sum_by, Option, Some, None, IsSome, refl, sym, ap, ◌∙◌, subst, inl, inr, arith, lit<}
+use Rattle.std.proofs.Common.{◌≡◌, ◌≢◌, ◌⊎◌, ℕ, zero, suc, ◌+◌, ◌<◌, ◌≤◌, List, [], ◌∷◌, ◌++◌, length, get_or, set, replicate, sum_by, Option, Some, None, IsSome, refl, sym, ap, ◌∙◌, subst, inl, inr, arith}
 use Rattle.std.specs.Prelude.{is_some}
 use Rattle.std.specs.FinMap.{get, len, insert, empty, len-empty}
 use Rattle.std.specs.Ordering.{nat_cmp}
@@ -11,6 +11,7 @@ use Rattle.hd_model.specs.declared.data.Kind.TheVariants as kind
 use Rattle.hd_model.specs.State.{BlockUse, handles_of, extra_data}
 use Rattle.hd_model.specs.Kinds.{kind_number}
 use Rattle.hd_model.specs.Table.{kind_in, with_block, with_data, empty_table, IsLeastWithout}
+use Rattle.hd_model.proofs.KindTests.{same_number, few_kinds}
 use Rattle.hd_seg.specs.declared.row.BlockKind.TheVariants as block
 use Rattle.hd_seg.specs.declared.block.Block.{Block}
 use Rattle.hd_seg.specs.Blocks.{Uses, use_of, block_at, use_at, extras_at, uses_in, IsListed, IsBlocks}
@@ -19,36 +20,12 @@ use Rattle.hd_seg.proofs.Maps.{mapped-insert, mapped-same, mapped-empty, len-ins
 use Rattle.hd_seg.proofs.Linking.{none_is_some, some_of, use_is}
 
 -- kinds are told apart by their numbers
-kind_from : ℕ → Kind
-kind_from n = cond (nat_eq n 0) kind.Short
-    (cond (nat_eq n 1) kind.Long (cond (nat_eq n 2) kind.Strong (cond (nat_eq n 3) kind.Pinned
-    (cond (nat_eq n 4) kind.Variable (cond (nat_eq n 5) kind.Counted kind.Dependent)))))
-
-from-number : (k : Kind) → kind_from (kind_number k) ≡ k
-unfolding kind_from
-from-number kind.Short = refl
-from-number kind.Long = refl
-from-number kind.Strong = refl
-from-number kind.Pinned = refl
-from-number kind.Variable = refl
-from-number kind.Counted = refl
-from-number kind.Dependent = refl
-
 pub cases_kind : (j k : Kind) → (j ≡ k) ⊎ (kind_number j ≢ kind_number k)
 cases_kind j k =
     elim (cases_eq (kind_number j) (kind_number k)) [
-      | inl same ↦ inl (sym (from-number j) ∙ ap kind_from same ∙ from-number k)
+      | inl same ↦ inl (same_number j k same)
       | inr apart ↦ inr apart
     ]
-
-pub kind_small : (k : Kind) → kind_number k < 7
-kind_small kind.Short = lit< tt
-kind_small kind.Long = lit< tt
-kind_small kind.Strong = lit< tt
-kind_small kind.Pinned = lit< tt
-kind_small kind.Variable = lit< tt
-kind_small kind.Counted = lit< tt
-kind_small kind.Dependent = lit< tt
 
 -- two uses of one block are of one kind
 pub one_kind : (o : Option BlockUse) (j k : Kind) → o ≡ Some (handles_of j) → o ≡ Some (handles_of k) → j ≡ k
@@ -124,7 +101,7 @@ module _ (number given : ℕ) (table : List Block) (chains : List (List ℕ))
   -- the chain of the kind, and the others
   its_chain : get_or with_chain (kind_number k) [] ≡ get_or chains (kind_number k) [] ++ b ∷ []
   its_chain = get_or-set_same chains (kind_number k) (get_or chains (kind_number k) [] ++ b ∷ []) []
-      (omega (arith, kind_small k, inv.linked.kinds))
+      (omega (arith, few_kinds k, inv.linked.kinds))
 
   its_length : length (get_or with_chain (kind_number k) []) ≡ length (get_or chains (kind_number k) []) + 1
   its_length = ap length its_chain ∙ length_push (get_or chains (kind_number k) []) b
@@ -251,7 +228,7 @@ module _ (number given : ℕ) (table : List Block) (chains : List (List ℕ))
       omega (
         arith,
         sum_by-set length chains (kind_number k) (get_or chains (kind_number k) [] ++ b ∷ []) []
-            (omega (arith, kind_small k, inv.linked.kinds)),
+            (omega (arith, few_kinds k, inv.linked.kinds)),
         length_push (get_or chains (kind_number k) []) b,
         inv.spare,
       )
@@ -367,15 +344,19 @@ module _ (number given : ℕ) (table : List Block) (chains : List (List ℕ))
     is_d q same = block_same first d (record { kind = block.Extras; place = at.place; extras = at.extras })
         within_first q same
 
-    is_a : (q : ℕ) → q ≡ a → block_at with_both q ≡ record { kind = of.kind; place = of.place; extras = Some d }
+    is_a : (q : ℕ) → q ≡ a
+        → block_at with_both q ≡ record { kind = of.kind; place = of.place; extras = Some d }
     is_a q same =
-        block_other first d (record { kind = block.Extras; place = at.place; extras = at.extras }) within_first
+        block_other first d (record { kind = block.Extras; place = at.place; extras = at.extras })
+        within_first
         q (λ other. omega arith)
-        ∙ block_same table a (record { kind = of.kind; place = of.place; extras = Some d }) (omega arith) q same
+        ∙ block_same table a (record { kind = of.kind; place = of.place; extras = Some d })
+        (omega arith) q same
 
     is_other : (q : ℕ) → q ≢ d → q ≢ a → block_at with_both q ≡ block_at table q
     is_other q not_d not_a =
-        block_other first d (record { kind = block.Extras; place = at.place; extras = at.extras }) within_first
+        block_other first d (record { kind = block.Extras; place = at.place; extras = at.extras })
+        within_first
         q not_d
         ∙ block_other table a (record { kind = of.kind; place = of.place; extras = Some d }) (omega arith) q
         not_a
@@ -386,7 +367,8 @@ module _ (number given : ℕ) (table : List Block) (chains : List (List ℕ))
     use_other : (q : ℕ) → q ≢ d → use_at with_both q ≡ use_at table q
     use_other q not_d =
         elim (cases_eq q a) [
-          | inl same ↦ ap (λ (x : Block). use_of x.kind) (is_a q same) ∙ ap (λ (x : Block). use_of x.kind) of_is
+          | inl same ↦ ap (λ (x : Block). use_of x.kind) (is_a q same)
+              ∙ ap (λ (x : Block). use_of x.kind) of_is
               ∙ ap (use_at table) (sym same)
           | inr apart ↦ ap (λ (x : Block). use_of x.kind) (is_other q not_d apart)
         ]
@@ -448,7 +430,8 @@ module _ (number given : ℕ) (table : List Block) (chains : List (List ℕ))
             (arith, place_same q, inv.linked.within k q first last (rows_before k q is));
         standing = λ k q first last is. ap (λ n. get_or (get_or chains (kind_number k) []) n 0) (place_same q)
             ∙ inv.linked.standing k q first last (rows_before k q is);
-        listed = λ k i lt. let it : IsListed number table k (get_or (get_or chains (kind_number k) []) i 0) i =
+        listed = λ k i lt. let it : IsListed number table k (get_or (get_or chains (kind_number k) []) i 0)
+            i =
             inv.linked.listed k i lt in
             let apart : get_or (get_or chains (kind_number k) []) i 0 ≢ d =
             λ same. none_is_some _ unused (some_of _ _ (ap (use_at table) (sym same) ∙ it.use_is)) in

@@ -142,7 +142,8 @@ module _ (u : Uses) (cells : List Cell) (masks : List ℕ) (live : ℕ) (inv : I
       place_other q not_b = ap (λ o. place_in o (q % 64)) (get-insert_other u.extras b d (q / 64) not_b)
 
       pub two_rows : (q : ℕ)
-          → row_in (record { table = with_data (with_block u.table k b) d; extras = insert u.extras b d }) cells
+          → row_in (record { table = with_data (with_block u.table k b) d; extras = insert u.extras b d })
+          cells
           q ≡ row_in u cells q
       two_rows q =
           elim (cases_eq (q / 64) b) [
@@ -242,7 +243,8 @@ module _ (u : Uses) (cells : List Cell) (masks : List ℕ) (live : ℕ) (inv : I
       }
 
       pub two-seg : is_paired k ≡ true → IsTable (with_data (with_block u.table k b) d)
-          → IsSeg (record { table = with_data (with_block u.table k b) d; extras = insert u.extras b d }) cells
+          → IsSeg (record { table = with_data (with_block u.table k b) d; extras = insert u.extras b d })
+          cells
           masks live
       two-seg paired table = seg-same two refl two_rows table two_vacant two_targets two_cleared
           (two_paired paired)

@@ -13,6 +13,7 @@ use Rattle.hd_model.specs.declared.data.Addr.{Addr}
 use Rattle.hd_model.specs.declared.data.Kind.{Kind}
 use Rattle.hd_model.specs.State.{Handle, BlockUse, handles_of}
 use Rattle.hd_model.specs.Table.{Table, IsTable, IsLeastWithout, empty_table, chain_of, kind_at, kind_in, has_handles, with_block}
+use Rattle.hd_model.proofs.Whole.{if_some_from}
 use Rattle.hd_seg.specs.declared.row.Extra.{Extra}
 use Rattle.hd_seg.specs.declared.row.Row.{Row}
 use Rattle.hd_seg.specs.declared.cells.Cell.{Cell}
@@ -43,10 +44,6 @@ split_at : (xs : List ℕ) (i x : ℕ) → i < length xs → get_or xs i x ≡ x
 split_at xs i x lt is = sym (take-append-drop i xs)
     ∙ ap (λ ys. take i xs ++ ys) (drop_more xs i x lt ∙ ap (λ y. y ∷ drop (i + 1) xs) is)
 
-if_some : {A : Type 0} (P : A → Type 0) (o : Option A) → ((x : A) → o ≡ Some x → P x) → IfSome o P
-if_some P None f = tt
-if_some P (Some x) f = f x refl
-
 -- ---- chains
 
 -- a block of a chain
@@ -56,13 +53,13 @@ module _ (t : Table) (is : IsTable t) (k : Kind) where
 
   pub first_kind : (o : Option ℕ) → o ≡ slice_get (chain_of t k) 0
       → IfSome o (λ b. get t.uses b ≡ Some (handles_of k))
-  first_kind o at = if_some (λ b. get t.uses b ≡ Some (handles_of k)) o
+  first_kind o at = if_some_from (λ b. get t.uses b ≡ Some (handles_of k)) o
       (λ b here. in_use b (contained (chain_of t k) 0 b (sym at ∙ here)))
 
   pub first_within : (o : Option ℕ) → o ≡ slice_get (chain_of t k) 0
       → IfSome o (λ b. (1 ≤ b) × (b ≤ t.blocks))
   first_within o at =
-      if_some (λ b. (1 ≤ b) × (b ≤ t.blocks)) o (λ b here.
+      if_some_from (λ b. (1 ≤ b) × (b ≤ t.blocks)) o (λ b here.
       is.uses b (some_of _ _ (in_use b (contained (chain_of t k) 0 b (sym at ∙ here)))))
 
 module _ (t : Table) (is : IsTable t) (b : ℕ) (handles : has_handles (get t.uses b) ≡ true) (o : Option ℕ)
@@ -80,10 +77,10 @@ module _ (t : Table) (is : IsTable t) (b : ℕ) (handles : has_handles (get t.us
         (sym (next ∙ slice_get-drop (chain_of t (kind_at t b)) (has.0 + 1)) ∙ here))
 
     pub after_kind : IfSome o (λ x. get t.uses x ≡ Some (handles_of (kind_at t b)))
-    after_kind = if_some (λ x. get t.uses x ≡ Some (handles_of (kind_at t b))) o followed
+    after_kind = if_some_from (λ x. get t.uses x ≡ Some (handles_of (kind_at t b))) o followed
 
     pub after_within : IfSome o (λ x. (1 ≤ x) × (x ≤ t.blocks))
-    after_within = if_some (λ x. (1 ≤ x) × (x ≤ t.blocks)) o
+    after_within = if_some_from (λ x. (1 ≤ x) × (x ≤ t.blocks)) o
         (λ x here. is.uses x (some_of _ _ (followed x here)))
 
 -- ---- rows

@@ -12,13 +12,14 @@ use Rattle.hd_model.specs.declared.data.Kind.{Kind}
 use Rattle.hd_model.specs.State.{handles_of}
 use Rattle.hd_model.specs.Kinds.{kind_number}
 use Rattle.hd_model.specs.Table.{without_block}
+use Rattle.hd_model.proofs.KindTests.{few_kinds}
 use Rattle.hd_seg.specs.declared.row.BlockKind.TheVariants as block
 use Rattle.hd_seg.specs.declared.block.Block.{Block}
 use Rattle.hd_seg.specs.Blocks.{Uses, use_of, block_at, use_at, extras_at, uses_in, IsListed, IsBlocks, numbered}
 use Rattle.hd_seg.specs.Mapped.{mapped}
 use Rattle.hd_seg.proofs.Maps.{mapped-remove, mapped-same, len-mapped_le}
 use Rattle.hd_seg.proofs.Linking.{none_is_some, some_of, listed_use, place_at, chain_short}
-use Rattle.hd_seg.proofs.Adding.{cases_kind, kind_small, one_kind, block_same, block_other}
+use Rattle.hd_seg.proofs.Adding.{cases_kind, one_kind, block_same, block_other}
 
 -- ---- places written one after another
 
@@ -131,7 +132,8 @@ module _ (number given : ℕ) (table : List Block) (chains : List (List ℕ))
 
   abbrev pub moved : List Block
   moved = numbered (block_at table b).place
-      (drop (block_at table b).place (list.remove (get_or chains (kind_number k) []) (block_at table b).place))
+      (drop (block_at table b).place
+      (list.remove (get_or chains (kind_number k) []) (block_at table b).place))
       (set table b (record { kind = block.Unused; place = 0; extras = None }))
 
   abbrev pub with_short : List (List ℕ)
@@ -330,7 +332,7 @@ module _ (number given : ℕ) (table : List Block) (chains : List (List ℕ))
       sym (use_other q apart) ∙ now
 
   its_chain : get_or with_short (kind_number k) [] ≡ short
-  its_chain = get_or-set_same chains (kind_number k) short [] (omega (arith, kind_small k, inv.linked.kinds))
+  its_chain = get_or-set_same chains (kind_number k) short [] (omega (arith, few_kinds k, inv.linked.kinds))
 
   other_chain : (j : Kind) → kind_number j ≢ kind_number k → get_or with_short (kind_number j) []
       ≡ get_or chains (kind_number j) []
@@ -381,7 +383,8 @@ module _ (number given : ℕ) (table : List Block) (chains : List (List ℕ))
             (standing_here q first last) now
         | inr apart ↦ ap (λ xs. get_or xs (block_at moved q).place 0) (other_chain j apart)
             ∙ ap (λ n. get_or (get_or chains (kind_number j) []) n 0)
-            (place_other j q apart (other_was j q now)) ∙ inv.linked.standing j q first last (other_was j q now)
+            (place_other j q apart (other_was j q now))
+            ∙ inv.linked.standing j q first last (other_was j q now)
       ]
 
   listed_other : (j : Kind) (i : ℕ) → kind_number j ≢ kind_number k
@@ -423,7 +426,7 @@ module _ (number given : ℕ) (table : List Block) (chains : List (List ℕ))
     spare = omega (
       arith,
       sum_by-set length chains (kind_number k) short []
-          (omega (arith, kind_small k, inv.linked.kinds)),
+          (omega (arith, few_kinds k, inv.linked.kinds)),
       length-short,
       inv.spare,
     );
@@ -466,7 +469,7 @@ module _ (number given : ℕ) (table : List Block) (chains : List (List ℕ))
   one_used = omega (
     arith,
     sum_by-set length chains (kind_number k) [] []
-        (omega (arith, kind_small k, inv.linked.kinds)),
+        (omega (arith, few_kinds k, inv.linked.kinds)),
     fits,
     inv.spare,
   )
@@ -481,7 +484,7 @@ module _ (number given : ℕ) (table : List Block) (chains : List (List ℕ))
   short_few = omega (
     arith,
     length-short,
-    chain_short number given table chains inv k (kind_small k),
+    chain_short number given table chains inv k (few_kinds k),
     inv.counted,
     len-mapped_le 1 number (use_at table),
     inv.limit,

@@ -55,7 +55,8 @@ module _ (t : Table) (slot : ℕ) where
   -- one that is written
   pub put_row : (h g : Handle Addr) (new : Table) → new ≡ with_row t slot g → g ≡ h → Rewrites slot h t new
   put_row h g new is same = record {
-    at = ap (λ (u : Table). get u.rows slot) is ∙ get-insert_same t.rows slot g slot refl ∙ ap (λ q. Some q) same;
+    at = ap (λ (u : Table). get u.rows slot) is ∙ get-insert_same t.rows slot g slot refl
+        ∙ ap (λ q. Some q) same;
     others = λ other ne.
         ap (λ (u : Table). get u.rows other) is ∙ get-insert_other t.rows slot g other ne;
     table = record {

@@ -7,6 +7,7 @@ use Rattle.std.specs.FinMap as map
 use Rattle.std.specs.FinMap.{FinMap, empty, len}
 use Rattle.std.specs.Ordering.{nat_cmp}
 use Rattle.hd_model.specs.declared.data.Kind.{Kind}
+use Rattle.hd_model.specs.declared.limits.TheConstants.{BLOCKS, KINDS}
 use Rattle.hd_model.specs.State.{BlockUse, handles_of, extra_data}
 use Rattle.hd_model.specs.Kinds.{kind_number}
 use Rattle.hd_model.specs.Table.{Table}
@@ -66,7 +67,7 @@ pub record IsListed (number : ℕ) (table : List Block) (k : Kind) (b at : ℕ) 
 
 -- the chains have exactly the blocks of handles, each at its place
 pub record IsLinked (number : ℕ) (table : List Block) (chains : List (List ℕ)) : Type 0 where
-  pub kinds : length chains ≡ 7
+  pub kinds : length chains ≡ KINDS
   pub within : (k : Kind) (b : ℕ) → 1 ≤ b → b ≤ number → use_at table b ≡ Some (handles_of k)
       → (block_at table b).place < length (slice_index_or chains (kind_number k) [])
   pub standing : (k : Kind) (b : ℕ) → 1 ≤ b → b ≤ number → use_at table b ≡ Some (handles_of k)
@@ -76,7 +77,7 @@ pub record IsLinked (number : ℕ) (table : List Block) (chains : List (List ℕ
 
 -- what all blocks keep; what has no use has no data block
 pub record IsBlocks (number given : ℕ) (table : List Block) (chains : List (List ℕ)) : Type 0 where
-  pub limit : number ≤ 256
+  pub limit : number ≤ BLOCKS
   pub size : length table ≡ number + 1
   pub counted : given ≡ len (mapped 1 number (use_at table))
   pub spare : sum_by length chains ≤ given

@@ -6,6 +6,7 @@ use Rattle.std.specs.FinMap.{get, len}
 use Rattle.std.specs.Int.{bit_at}
 use Rattle.hd_model.specs.declared.data.Addr.{Addr}
 use Rattle.hd_model.specs.declared.data.Kind.{Kind}
+use Rattle.hd_model.specs.declared.limits.TheConstants.{ROWS}
 use Rattle.hd_model.specs.State.{Handle, BlockUse, handles_of, extra_data}
 use Rattle.hd_model.specs.Kinds.{is_paired}
 use Rattle.hd_model.specs.Table.{Table, IsTable, fits, has_handles}
@@ -39,11 +40,11 @@ extra_held (cell.Extra e) = e
 -- where the extra of row i stands, by the data block
 abbrev pub place_in : Option ℕ → ℕ → Option ℕ
 place_in None i = None
-place_in (Some d) i = Some (d * 64 + i)
+place_in (Some d) i = Some (d * ROWS + i)
 
 -- where the extra of a slot's row stands
 abbrev pub extra_place : Uses → ℕ → Option ℕ
-extra_place u slot = place_in (get u.extras (slot / 64)) (slot % 64)
+extra_place u slot = place_in (get u.extras (slot / ROWS)) (slot % ROWS)
 
 -- the handle of a live row, by the use of its block, its cell and the cell with its extra
 abbrev pub row_by : Option BlockUse → Cell → Cell → Option (Handle Addr)
@@ -55,12 +56,12 @@ row_by (Some (handles_of k)) (cell.Target t) x =
     Some (record { kind = k; target = t; extra = extra_of (extra_held x) })
 
 abbrev pub row_in : Uses → List Cell → ℕ → Option (Handle Addr)
-row_in u cells slot = row_by (get u.table.uses (slot / 64)) (cell_at cells slot)
+row_in u cells slot = row_by (get u.table.uses (slot / ROWS)) (cell_at cells slot)
     (cell_in cells (extra_place u slot))
 
 -- the table as its users see it
 abbrev pub table_in : Uses → List Cell → Table
-table_in u cells = record u.table { rows = mapped 64 (64 * u.table.blocks) (row_in u cells) }
+table_in u cells = record u.table { rows = mapped ROWS (ROWS * u.table.blocks) (row_in u cells) }
 
 -- a block of handles has a data block exactly where its kind has extras, and no two have the same
 pub record IsPaired (u : Uses) : Type 0 where
@@ -75,15 +76,15 @@ pub record IsPaired (u : Uses) : Type 0 where
 -- in blocks of handles alone
 pub record IsSeg (u : Uses) (cells : List Cell) (masks : List ℕ) (live : ℕ) : Type 0 where
   pub table : IsTable u.table
-  pub room : length cells ≡ 64 * (u.table.blocks + 1)
+  pub room : length cells ≡ ROWS * (u.table.blocks + 1)
   pub words : length masks ≡ u.table.blocks + 1
-  pub counted : live ≡ len (mapped 64 (64 * u.table.blocks) (row_in u cells))
-  pub bits : (b i : ℕ) → b ≤ u.table.blocks → i < 64 → bit_at (slice_index masks b) i
-      ≡ cond (is_some (row_in u cells (64 * b + i))) 1 0
+  pub counted : live ≡ len (mapped ROWS (ROWS * u.table.blocks) (row_in u cells))
+  pub bits : (b i : ℕ) → b ≤ u.table.blocks → i < ROWS → bit_at (slice_index masks b) i
+      ≡ cond (is_some (row_in u cells (ROWS * b + i))) 1 0
   pub fitting : (slot : ℕ) (h : Handle Addr) → row_in u cells slot ≡ Some h → fits h.kind h.extra ≡ true
-  pub vacant : (q : ℕ) → row_in u cells q ≡ None → (get u.table.uses (q / 64) ≡ Some extra_data → ⊥)
+  pub vacant : (q : ℕ) → row_in u cells q ≡ None → (get u.table.uses (q / ROWS) ≡ Some extra_data → ⊥)
       → cell_at cells q ≡ cell.Empty
   pub targets : (q : ℕ) (t : Option Addr) → cell_at cells q ≡ cell.Target t
-      → has_handles (get u.table.uses (q / 64)) ≡ true
+      → has_handles (get u.table.uses (q / ROWS)) ≡ true
   pub cleared : (q : ℕ) → row_in u cells q ≡ None → cell_in cells (extra_place u q) ≡ cell.Empty
   pub paired : IsPaired u

@@ -13,7 +13,7 @@ ghost use Rattle.hd_seg.specs.Blocks.{use_of, use_at, HasUnused, numbered};
 use crate::block::{Block, UNUSED};
 use crate::filled::filled;
 use crate::row::BlockKind;
-use hd_model::limits::KINDS;
+use hd_model::limits::{BLOCKS, KINDS};
 use hd_model::{Kind, Memory};
 use std::alloc::{AllocError, Global};
 use std::marker::Model;
@@ -70,7 +70,7 @@ fn least_unused(table: &[Block], from: usize) -> usize
 
 // An empty chain for each kind, with room for all blocks.
 fn empty_chains(alloc: Global, room: usize) -> Result<Vec<Vec<u32>>, AllocError>
-    ensures chains { IfOk result (λ chains. map (λ v. v.items) chains.items ≡ replicate 7 []) }
+    ensures chains { IfOk result (λ chains. map (λ v. v.items) chains.items ≡ replicate KINDS []) }
     ensures rooms { IfOk result (λ chains. All (λ v. room ≤ vec_capacity v) chains.items) }
 {
     let mut chains = Vec::with_capacity(alloc, KINDS as usize)?;
@@ -83,7 +83,7 @@ fn empty_chains(alloc: Global, room: usize) -> Result<Vec<Vec<u32>>, AllocError>
 // Writes the place of each block of a chain from a place on.
 fn renumber(table: &mut [Block], chain: &[u32], from: usize)
     requires blocks { (i : ℕ) → i < length chain.now → slice_index chain.now i < length table.old }
-    requires few { length chain.now ≤ 256 }
+    requires few { length chain.now ≤ BLOCKS }
     ensures { table.new ≡ numbered from (drop from chain.now) table.old }
 {
     for place in from..chain.len() {
@@ -95,7 +95,7 @@ fn renumber(table: &mut [Block], chain: &[u32], from: usize)
 impl Blocks {
     /// So many blocks, none of which has a use.
     pub(crate) fn open(alloc: Global, number: u32) -> Result<Blocks, Memory>
-        requires { number ≤ 256 }
+        requires { number ≤ BLOCKS }
         ensures none { IfOk result (λ uses.
             uses ≡ record { table = empty_table number; extras = empty }) }
         ensures table { IfOk result (λ uses. IsTable uses.table) }

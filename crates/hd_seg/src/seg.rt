@@ -2,7 +2,7 @@ ghost use Rattle.std.specs.Prelude.{◌≡◌, ℕ, ◌+◌, ◌*◌, ◌/◌, �
 ghost use Rattle.std.specs.Prelude.{option_map, slice_get, IfOk, IfErr, OnOk, OnErr, IfSome, IsSome};
 ghost use Rattle.std.specs.FinMap.{get, len, contains_key};
 ghost use Rattle.std.specs.Int.{bit_at};
-ghost use Rattle.hd_model.specs.State.{handles_of};
+ghost use Rattle.hd_model.specs.State.{block_of, handles_of};
 ghost use Rattle.hd_model.specs.Step.{blocks_needed};
 ghost use Rattle.hd_model.specs.Table.{IsTable, IsGrowth, chain_of, empty_table, fits, fits_in, grown_by};
 ghost use Rattle.hd_model.specs.Table.{has_handles, is_single, kind_at, live_at, with_row, without_row};
@@ -15,13 +15,10 @@ use crate::filled::filled;
 use crate::row::{BlockKind, Extra, Full, Row};
 use crate::writes::{cell_of, extra_in, extra_place, write_cell};
 use hd_mask::bit;
-use hd_model::limits::{CLUMPS, ROWS};
+use hd_model::limits::{BLOCKS, CLUMP, CLUMPS, ROWS};
 use hd_model::{Addr, Grown, Kind, Memory, Slot};
 use std::alloc::Global;
 use std::marker::Model;
-
-// The rows of a clump.
-const CLUMP_ROWS: u32 = ROWS / CLUMPS;
 
 // The lowest rows, as many as a clump has.
 const CLUMP_MASK: u64 = 0xffff;
@@ -54,7 +51,7 @@ impl Model for Seg {
 impl Seg {
     /// A table of so many blocks, none of which has a use. All memory is taken here.
     pub fn open(alloc: Global, blocks: u32) -> Result<Seg, Memory>
-        requires { blocks ≤ 256 }
+        requires { blocks ≤ BLOCKS }
         ensures { IfOk result (λ table. table ≡ empty_table blocks) }
     {
         let cells = filled(alloc, Cell::Empty, ROWS * (blocks + 1))?;
@@ -96,7 +93,7 @@ impl Seg {
     /// keep their order.
     pub fn take_back(&mut self, block: u32)
         requires single { is_single (get self.old.uses block) ≡ true }
-        requires vacant { (slot : ℕ) → slot / 64 ≡ block → get self.old.rows slot ≡ None }
+        requires vacant { (slot : ℕ) → slot / ROWS ≡ block → get self.old.rows slot ≡ None }
         ensures { self.new ≡ without_block self.old (kind_at self.old block) block }
     {
         self.blocks.remove(block);
@@ -145,8 +142,8 @@ impl Seg {
     /// Puts a row into a slot that is not live.
     pub fn put_row(&mut self, slot: Slot, row: Row)
         requires vacant { get self.old.rows slot.0 ≡ None }
-        requires fitting { fits_in (get self.old.uses (slot.0 / 64)) (extra_of row.extra) ≡ true }
-        ensures { let kind = kind_at self.old (slot.0 / 64) in
+        requires fitting { fits_in (get self.old.uses (block_of slot)) (extra_of row.extra) ≡ true }
+        ensures { let kind = kind_at self.old (block_of slot) in
             self.new ≡ with_row self.old slot.0 (handle_of kind row) }
     {
         let place = extra_place(&self.blocks, slot);
@@ -220,13 +217,13 @@ impl Seg {
     pub fn clump(&self, block: u32, clump: u32) -> u16
         requires low { 1 ≤ block }
         requires high { block ≤ self.now.blocks }
-        requires clump { clump < 4 }
-        ensures bits { let first = 64 * block + 16 * clump in
-            (i : ℕ) → i < 16 →
+        requires clump { clump < CLUMPS }
+        ensures bits { let first = ROWS * block + CLUMP * clump in
+            (i : ℕ) → i < CLUMP →
             bit_at result i ≡ cond (contains_key self.now.rows (first + i)) 1 0 }
         ensures table { IsTable self.now }
     {
         let mask = self.masks[block as usize];
-        (mask >> (CLUMP_ROWS * clump) & CLUMP_MASK) as u16
+        (mask >> (CLUMP * clump) & CLUMP_MASK) as u16
     }
 }

@@ -7,11 +7,11 @@ use crate::blocks::Blocks;
 use crate::cells::Cell;
 use crate::row::Extra;
 use hd_model::Slot;
-use hd_model::limits::ROWS;
+use hd_model::limits::{BLOCKS, ROWS};
 
 /// Where the extra of a slot's row stands, if its block has a data block.
 pub(crate) fn extra_place(blocks: &Blocks, slot: Slot) -> Option<usize>
-    requires { (b d : ℕ) → get blocks.now.extras b ≡ Some d → d ≤ 256 }
+    requires { (b d : ℕ) → get blocks.now.extras b ≡ Some d → d ≤ BLOCKS }
     ensures { result ≡ extra_place blocks.now slot.0 }
 {
     let data = blocks.extras(slot.0 / ROWS)?;

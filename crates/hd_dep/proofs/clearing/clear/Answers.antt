@@ -20,19 +20,22 @@ loop-slot-init g c =
 pub clear_row-requires-clause-live : goal.clear_row-requires-clause-live
 clear_row-requires-clause-live g c =
     row_live c.args.seg.now c.args.ages.now c.args.n kind.Dependent c.loop-slot.seg c.loop-slot.rows
-    c.next.new.self c.args.steps.now c.in-Some.slot c.loop-slot.steps c.next.new.steps c.loop-slot.invariant.under
+    c.next.new.self c.args.steps.now c.in-Some.slot c.loop-slot.steps c.next.new.steps
+    c.loop-slot.invariant.under
     c.in-Some.ensures.row
 
 pub clear_row-requires-clause-of_kind : goal.clear_row-requires-clause-of_kind
 clear_row-requires-clause-of_kind g c =
     row_of_kind c.args.seg.now c.args.ages.now c.args.n kind.Dependent c.loop-slot.seg c.loop-slot.rows
-    c.next.new.self c.args.steps.now c.in-Some.slot c.loop-slot.steps c.next.new.steps c.loop-slot.invariant.under
+    c.next.new.self c.args.steps.now c.in-Some.slot c.loop-slot.steps c.next.new.steps
+    c.loop-slot.invariant.under
     c.in-Some.ensures.row
 
 pub clear_row-requires-clause-object : goal.clear_row-requires-clause-object
 clear_row-requires-clause-object g c =
     row_target c.args.seg.now c.args.ages.now c.args.n kind.Dependent c.loop-slot.seg c.loop-slot.rows
-    c.next.new.self c.args.steps.now c.in-Some.slot c.loop-slot.steps c.next.new.steps c.loop-slot.invariant.under
+    c.next.new.self c.args.steps.now c.in-Some.slot c.loop-slot.steps c.next.new.steps
+    c.loop-slot.invariant.under
     c.in-Some.ensures.row (objects_of (g.M.Marker.basis c.args.marker.now)) c.requires.names
 
 pub loop-slot-smaller : goal.loop-slot-smaller
@@ -40,9 +43,11 @@ loop-slot-smaller g c =
     let t : Table = c.args.seg.now in
     let under = c.loop-slot.invariant.under in
     let due = row_due t c.args.ages.now c.args.n kind.Dependent c.loop-slot.seg c.loop-slot.rows
-    c.next.new.self c.args.steps.now c.in-Some.slot c.loop-slot.steps c.next.new.steps under c.in-Some.ensures.row in
+    c.next.new.self c.args.steps.now c.in-Some.slot c.loop-slot.steps c.next.new.steps under
+    c.in-Some.ensures.row in
     let same = row_same t c.args.ages.now c.args.n kind.Dependent c.loop-slot.seg c.loop-slot.rows
-    c.next.new.self c.args.steps.now c.in-Some.slot c.loop-slot.steps c.next.new.steps under c.in-Some.ensures.row in
+    c.next.new.self c.args.steps.now c.in-Some.slot c.loop-slot.steps c.next.new.steps under
+    c.in-Some.ensures.row in
     change_smaller t c.args.ages.now c.args.n kind.Dependent
     (detach t c.args.ages.now c.args.n (g.M.Marker.promoted c.args.marker.now)) _
     c.loop-slot.seg c.clear_row.new.seg c.loop-slot.rows c.next.new.self c.in-Some.slot c.args.steps.now
@@ -57,9 +62,11 @@ loop-slot-preserved g c =
     let p : Addr → Bool = g.M.Marker.promoted c.args.marker.now in
     let under = c.loop-slot.invariant.under in
     let due = row_due t c.args.ages.now c.args.n kind.Dependent c.loop-slot.seg c.loop-slot.rows
-    c.next.new.self c.args.steps.now c.in-Some.slot c.loop-slot.steps c.next.new.steps under c.in-Some.ensures.row in
+    c.next.new.self c.args.steps.now c.in-Some.slot c.loop-slot.steps c.next.new.steps under
+    c.in-Some.ensures.row in
     let same = row_same t c.args.ages.now c.args.n kind.Dependent c.loop-slot.seg c.loop-slot.rows
-    c.next.new.self c.args.steps.now c.in-Some.slot c.loop-slot.steps c.next.new.steps under c.in-Some.ensures.row in
+    c.next.new.self c.args.steps.now c.in-Some.slot c.loop-slot.steps c.next.new.steps under
+    c.in-Some.ensures.row in
     change_row t c.args.ages.now c.args.n kind.Dependent
     (detach t c.args.ages.now c.args.n p) _ c.loop-slot.seg c.clear_row.new.seg c.loop-slot.rows
     c.next.new.self c.in-Some.slot c.args.steps.now c.loop-slot.steps c.next.new.steps c.loop-slot.cleared
@@ -76,13 +83,15 @@ loop-slot-preserved g c =
 pub returns-clause-detached : goal.returns-clause-detached
 returns-clause-detached g c =
     changed c.args.seg.now c.args.ages.now c.args.n kind.Dependent _ _ c.loop-slot.seg c.loop-slot.rows
-    c.next.new.self c.args.steps.now c.loop-slot.steps c.next.new.steps c.loop-slot.cleared c.loop-slot.invariant
+    c.next.new.self c.args.steps.now c.loop-slot.steps c.next.new.steps c.loop-slot.cleared
+    c.loop-slot.invariant
     c.in_default.ensures.row
 
 pub returns-clause-count : goal.returns-clause-count
 returns-clause-count g c =
     changed_count c.args.seg.now c.args.ages.now c.args.n kind.Dependent _ _ c.loop-slot.seg c.loop-slot.rows
-    c.next.new.self c.args.steps.now c.loop-slot.steps c.next.new.steps c.loop-slot.cleared c.loop-slot.invariant
+    c.next.new.self c.args.steps.now c.loop-slot.steps c.next.new.steps c.loop-slot.cleared
+    c.loop-slot.invariant
     c.in_default.ensures.row
 
 pub returns-clause-steps : goal.returns-clause-steps
@@ -96,7 +105,8 @@ returns-clause-whole g c =
     let o = objects_of (g.M.Marker.basis c.args.marker.now) in
     let p : Addr → Bool = g.M.Marker.promoted c.args.marker.now in
     detached_whole o c.args.seg.now c.loop-slot.seg c.args.ages.now c.args.n p
-    (subst (λ n. IsSettled o n p) c.requires.generation (g.met.M.Marker.settles c.args.marker.now c.requires.settled))
+    (subst (λ n. IsSettled o n p) c.requires.generation
+    (g.met.M.Marker.settles c.args.marker.now c.requires.settled))
     c.requires.ages_sound (returns-clause-detached g c)
 
 pub returns-clause-whole_count : goal.returns-clause-whole_count
@@ -104,5 +114,6 @@ returns-clause-whole_count g c =
     let o = objects_of (g.M.Marker.basis c.args.marker.now) in
     let p : Addr → Bool = g.M.Marker.promoted c.args.marker.now in
     detached_whole_count o c.args.seg.now c.loop-slot.seg c.args.ages.now c.args.n p
-    (subst (λ n. IsSettled o n p) c.requires.generation (g.met.M.Marker.settles c.args.marker.now c.requires.settled))
+    (subst (λ n. IsSettled o n p) c.requires.generation
+    (g.met.M.Marker.settles c.args.marker.now c.requires.settled))
     c.requires.ages_sound c.loop-slot.cleared (returns-clause-count g c)

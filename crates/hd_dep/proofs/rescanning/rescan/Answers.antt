@@ -39,19 +39,23 @@ loop-more-preserved g c =
     subst (λ (a : Basis). IsSettled (objects_of a) a.condemned q) basis
     (g.met.M.Marker.settles c.spread-more.new.marker c.spread-more.ensures.settled) in
     let spreads : Spreads (IsArrow (objects_of b) (row_at c.args.seg.now)) p q =
-    subst (λ (a : Basis). Spreads (IsArrow (objects_of a) (row_at c.args.seg.now)) p q) c.loop-more.invariant.basis
+    subst (λ (a : Basis). Spreads (IsArrow (objects_of a) (row_at c.args.seg.now)) p q)
+    c.loop-more.invariant.basis
     c.spread-more.ensures.spreads in
     let passed : HasPassed b.heap visits p0 p c.args.steps.now c.loop-more.steps true =
-    subst (λ (m : Bool). HasPassed b.heap visits p0 p c.args.steps.now c.loop-more.steps m) c.loop-more-test.true
+    subst (λ (m : Bool). HasPassed b.heap visits p0 p c.args.steps.now c.loop-more.steps m)
+    c.loop-more-test.true
     c.loop-more.invariant.passed in
     record {
       settled = c.spread-more.ensures.settled;
       basis = basis;
       pinned = c.spread-more.ensures.pinned ∙ c.loop-more.invariant.pinned;
-      spreads = spreads_on (IsArrow (objects_of b) (row_at c.args.seg.now)) p0 p q c.loop-more.invariant.spreads
+      spreads = spreads_on (IsArrow (objects_of b) (row_at c.args.seg.now)) p0 p q
+          c.loop-more.invariant.spreads
           spreads;
       passed = passed_more b.heap b.condemned visits p0 p q c.args.steps.now c.loop-more.steps
-          c.spread-more.new.steps settled c.loop-more.invariant.spreads.keeps spreads.keeps c.spread-more.result
+          c.spread-more.new.steps settled c.loop-more.invariant.spreads.keeps spreads.keeps
+          c.spread-more.result
           passed c.spread-more.ensures.steps
           (gained_or_same (row_at c.args.seg.now) c.args.ages.now c.args.n p q c.spread-more.result
           c.spread-more.ensures.more);
@@ -89,8 +93,10 @@ returns-clause-closure g c =
     subst (λ n. IsSettled (objects_of b) n p) c.requires.generation
     (subst (λ (a : Basis). IsSettled (objects_of a) a.condemned p) c.loop-more.invariant.basis
     (g.met.M.Marker.settles c.loop-more.marker c.loop-more.invariant.settled)) in
-    rescan_closure (objects_of b) c.args.n (row_at c.args.seg.now) c.args.ages.now p0 p first last c.requires.fields
-    c.requires.ages_sound c.loop-more.invariant.spreads (c.loop-more.invariant.followed c.loop-more-test.false)
+    rescan_closure (objects_of b) c.args.n (row_at c.args.seg.now) c.args.ages.now p0 p first last
+    c.requires.fields
+    c.requires.ages_sound c.loop-more.invariant.spreads
+    (c.loop-more.invariant.followed c.loop-more-test.false)
 
 pub returns-clause-steps : goal.returns-clause-steps
 returns-clause-steps g c =
@@ -101,5 +107,6 @@ returns-clause-steps g c =
     rescan_steps b.heap b.condemned visits p0 p c.args.steps.now c.loop-more.steps
     (subst (λ (a : Basis). IsSettled (objects_of a) a.condemned p) c.loop-more.invariant.basis
     (g.met.M.Marker.settles c.loop-more.marker c.loop-more.invariant.settled))
-    (subst (λ (m : Bool). HasPassed b.heap visits p0 p c.args.steps.now c.loop-more.steps m) c.loop-more-test.false
+    (subst (λ (m : Bool). HasPassed b.heap visits p0 p c.args.steps.now c.loop-more.steps m)
+    c.loop-more-test.false
     c.loop-more.invariant.passed)

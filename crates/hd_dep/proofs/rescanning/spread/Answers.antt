@@ -17,13 +17,15 @@ loop-slot-init g c =
       basis = refl;
       pinned = refl;
       spreading = spread_start (objects_of b) c.args.n c.args.seg.now c.args.ages.now
-          (g.M.Marker.promoted c.args.marker.now) c.start-rows.ensures.table c.start-rows.result c.args.steps.now
+          (g.M.Marker.promoted c.args.marker.now) c.start-rows.ensures.table c.start-rows.result
+          c.args.steps.now
           c.start-rows.ensures.on c.start-rows.ensures.slots c.start-rows.ensures.clumps;
     }
 
 pub spread_row-more-requires-clause-live : goal.spread_row-more-requires-clause-live
 spread_row-more-requires-clause-live g c =
-    row_live c.args.seg.now c.args.ages.now c.args.n kind.Dependent c.args.seg.now c.loop-slot.rows c.next.new.self
+    row_live c.args.seg.now c.args.ages.now c.args.n kind.Dependent c.args.seg.now c.loop-slot.rows
+    c.next.new.self
     c.args.steps.now c.in-Some.slot c.loop-slot.steps c.next.new.steps c.loop-slot.invariant.spreading.under
     c.in-Some.ensures.row
 
@@ -39,14 +41,16 @@ loop-slot-preserved g c =
     let p : Addr → Bool = g.M.Marker.promoted c.loop-slot.marker in
     let q : Addr → Bool = g.M.Marker.promoted c.spread_row-more.new.marker in
     let spreads : Spreads (IsArrow (objects_of b) (row_at c.args.seg.now)) p q =
-    subst (λ (a : Basis). Spreads (IsArrow (objects_of a) (row_at c.args.seg.now)) p q) c.loop-slot.invariant.basis
+    subst (λ (a : Basis). Spreads (IsArrow (objects_of a) (row_at c.args.seg.now)) p q)
+    c.loop-slot.invariant.basis
     c.spread_row-more.ensures.spreads in
     record {
       settled = c.spread_row-more.ensures.settled;
       basis = c.spread_row-more.ensures.basis ∙ c.loop-slot.invariant.basis;
       pinned = c.spread_row-more.ensures.pinned ∙ c.loop-slot.invariant.pinned;
       spreading = spread_row (objects_of b) c.args.n c.args.seg.now c.args.ages.now
-          (g.M.Marker.promoted c.args.marker.now) c.loop-slot.rows c.next.new.self c.in-Some.slot c.args.steps.now
+          (g.M.Marker.promoted c.args.marker.now) c.loop-slot.rows c.next.new.self c.in-Some.slot
+          c.args.steps.now
           c.loop-slot.steps c.next.new.steps p q c.loop-slot.more c.spread_row-more.result
           c.loop-slot.invariant.spreading c.in-Some.ensures.row c.next.ensures.on c.next.ensures.steps spreads
           c.spread_row-more.ensures.more;
@@ -55,6 +59,7 @@ loop-slot-preserved g c =
 pub returns-clause-more : goal.returns-clause-more
 returns-clause-more g c =
     spread_end (objects_of (g.M.Marker.basis c.args.marker.now)) c.args.n c.args.seg.now c.args.ages.now
-    (g.M.Marker.promoted c.args.marker.now) c.loop-slot.rows c.next.new.self c.args.steps.now c.loop-slot.steps
+    (g.M.Marker.promoted c.args.marker.now) c.loop-slot.rows c.next.new.self c.args.steps.now
+    c.loop-slot.steps
     c.next.new.steps (g.M.Marker.promoted c.loop-slot.marker) c.loop-slot.more c.loop-slot.invariant.spreading
     c.in_default.ensures.row

@@ -11,7 +11,8 @@ invariant-loop-slot g l = record {
   pinned : g.M.Marker.pinned l.marker ≡ g.M.Marker.pinned l.initial.marker;
   spreading :
       IsSpreading (objects_of (g.M.Marker.basis l.initial.marker)) l.n l.seg l.ages
-      (g.M.Marker.promoted l.initial.marker) l.rows l.initial.steps l.steps (g.M.Marker.promoted l.marker) l.more;
+      (g.M.Marker.promoted l.initial.marker) l.rows l.initial.steps l.steps (g.M.Marker.promoted l.marker)
+      l.more;
 }
 
 abbrev pub decreases-loop-slot : goal.decreases-loop-slot

@@ -9,7 +9,7 @@ use Rattle.hd_model.specs.Table.{Table, live_at, row_at}
 use Rattle.hd_seg.specs.Row.{extra_of, row_of}
 use Rattle.hd_seg.specs.declared.row.Row.{Row}
 use Rattle.hd_seg.proofs.Rewriting.{extra_again, live_row}
-use Rattle.hd_dep.proofs.Spreading.{spreads_none, promoted_behind}
+use Rattle.hd_dep.proofs.Spreading.{spreads_none, promoted_beyond}
 use Rattle.hd_dep.proofs.rescanning.spread_row.Goals as goal
 
 pub returns-in_default-parts-clause-spreads : goal.returns-in_default-parts-clause-spreads
@@ -17,8 +17,8 @@ returns-in_default-parts-clause-spreads g c =
     spreads_none (IsArrow (objects_of (g.M.Marker.basis c.args.marker.now)) (row_at c.args.seg.now))
     (g.M.Marker.promoted c.args.marker.now)
 
-pub returns-then-not-is_left_behind-clause-spreads : goal.returns-then-not-is_left_behind-clause-spreads
-returns-then-not-is_left_behind-clause-spreads g c =
+pub returns-then-not-is_left_out-clause-spreads : goal.returns-then-not-is_left_out-clause-spreads
+returns-then-not-is_left_out-clause-spreads g c =
     spreads_none (IsArrow (objects_of (g.M.Marker.basis c.args.marker.now)) (row_at c.args.seg.now))
     (g.M.Marker.promoted c.args.marker.now)
 
@@ -31,9 +31,10 @@ returns-clause-spreads g c =
     same_Some _ _ (sym c.in-Some.is ∙ c.row.ensures.value ∙ ap (option_map row_of) stands) in
     let extra : h.extra ≡ extra_of c.in-Some.row.extra =
     sym (extra_again h.extra) ∙ ap (λ (r : Row). extra_of r.extra) (sym stood) in
-    (promoted_behind (objects_of (g.M.Marker.basis c.args.marker.now)) (g.M.Marker.basis c.args.marker.now).condemned t
+    (promoted_beyond (objects_of (g.M.Marker.basis c.args.marker.now))
+    (g.M.Marker.basis c.args.marker.now).condemned t
     c.args.slot.0 h c.in-Some-parts.target c.in-Some-parts.secondary (g.M.Marker.promoted c.args.marker.now)
     (g.M.Marker.promoted c.promote.new.self) stands c.requires.of_kind
     (ap (λ (r : Row). r.target) (sym stood) ∙ c.in-Some-parts.ensures.both.0)
     (ap secondary_of extra ∙ c.in-Some-parts.ensures.both.1)
-    (sym c.is_left_behind.ensures ∙ c.if-not-is_left_behind.false) c.promote.ensures.grows).0
+    (sym c.is_left_out.ensures ∙ c.if-not-is_left_out.false) c.promote.ensures.grows).0

@@ -23,4 +23,5 @@ returns c =
     let written = put_row t c.args.slot.0 _ _ c.set_row.new.self c.set_row.ensures refl in
     again t c.args.slot.0 c.set_row.new.self c.set_extra.new.self _ _ written
     (put_row c.set_row.new.self c.args.slot.0 _ _ c.set_extra.new.self c.set_extra.ensures
-    (ap (λ (q : Handle Addr). record q { extra = extra_of c.args.row.extra }) (live_after t c.args.slot.0 _ _ written)))
+    (ap (λ (q : Handle Addr). record q { extra = extra_of c.args.row.extra })
+    (live_after t c.args.slot.0 _ _ written)))

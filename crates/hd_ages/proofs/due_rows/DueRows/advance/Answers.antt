@@ -10,7 +10,8 @@ use Rattle.hd_ages.proofs.due_rows.DueRows.advance.Goals as goal
 pub returns-in_err-block-clause-goes : goal.returns-in_err-block-clause-goes
 returns-in_err-block-clause-goes g c =
     subst (λ (r : Option (Unit {0})). MatchOption r (IsOver c.args.seg.now c.args.ages.now c.args.self.now)
-    (λ x. Advances c.args.seg.now c.args.ages.now c.args.self.now c.args.self.now c.args.steps.now c.args.steps.now))
+    (λ x. Advances c.args.seg.now c.args.ages.now c.args.self.now c.args.self.now c.args.steps.now
+    c.args.steps.now))
     (sym c.from_residual.ensures)
     (over c.args.seg.now c.args.ages.now c.args.self.now c.in_err-block.was c.requires.none)
 
@@ -22,7 +23,8 @@ enter-requires-clause-high g c = (c.requires.on.block c.in_ok-block.block c.in_o
 
 pub returns-in-Some-clause-on : goal.returns-in-Some-clause-on
 returns-in-Some-clause-on g c = let few : c.in-Some.clump < 4 =
-    ⊎_elim (λ l. l) (λ le. absurd (omega (arith, c.in-Some.ensures.set, c.requires.on.clumps c.in-Some.clump le)))
+    ⊎_elim (λ l. l) (λ le. absurd
+    (omega (arith, c.in-Some.ensures.set, c.requires.on.clumps c.in-Some.clump le)))
     (cases_lt c.in-Some.clump 4) in record {
       block = λ b e. c.requires.on.block b (sym c.enter.ensures.block ∙ e);
       clumps = λ i le. omega (arith, c.enter.ensures.fewer i, c.requires.on.clumps i le);
@@ -32,7 +34,8 @@ returns-in-Some-clause-on g c = let few : c.in-Some.clump < 4 =
 
 pub returns-in-Some-clause-goes : goal.returns-in-Some-clause-goes
 returns-in-Some-clause-goes g c =
-    new_clump c.args.seg.now c.args.ages.now c.args.self.now c.enter.new.self c.in_ok-block.block c.in-Some.clump
+    new_clump c.args.seg.now c.args.ages.now c.args.self.now c.enter.new.self c.in_ok-block.block
+    c.in-Some.clump
     c.args.steps.now c.tick.new.self c.tick.ensures c.in_ok-block.was c.requires.none
     (first_and_rest _ _ c.in-Some.clump (sym c.lowest.ensures.first ∙ c.in-Some.is) c.enter.ensures.clumps)
     c.enter.ensures.block c.enter.ensures.n

@@ -11,4 +11,5 @@ invariant-loop-self g l = record {
 }
 
 abbrev pub decreases-loop-self : goal.decreases-loop-self
-decreases-loop-self g l = length (clumps_to_come l.seg l.ages l.self) + length (blocks_from l.seg l.self.block)
+decreases-loop-self g l =
+    length (clumps_to_come l.seg l.ages l.self) + length (blocks_from l.seg l.self.block)

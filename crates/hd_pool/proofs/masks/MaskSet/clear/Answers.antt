@@ -1,4 +1,4 @@
-use Rattle.std.proofs.Common.{◌<◌, length, refl, arith}
+use Rattle.std.proofs.Common.{◌<◌, length, arith}
 use Rattle.std.specs.FinSet.{difference}
 use Rattle.hd_pool.specs.Masks.{numbers_of}
 use Rattle.hd_pool.proofs.Marks.{room_is, cleared, written}
@@ -8,5 +8,5 @@ pub returns : goal.returns
 returns c =
     let masks = c.self.inside.masks.items in
     let within : c.args.mask < length masks = omega (arith, room_is masks c.args.self.now c.self.view_is) in
-    written masks c.args.self.now c.self.view_is c.args.mask 0 (λ s. difference s (numbers_of c.args.mask))
-    (cleared masks c.args.mask 0 within refl)
+    written masks c.args.self.now c.self.view_is c.args.mask _ (λ s. difference s (numbers_of c.args.mask))
+    (cleared masks c.args.mask _ within (omega arith))

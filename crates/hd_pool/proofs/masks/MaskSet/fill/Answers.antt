@@ -1,4 +1,4 @@
-use Rattle.std.proofs.Common.{◌<◌, length, refl, arith}
+use Rattle.std.proofs.Common.{◌<◌, length, arith}
 use Rattle.std.specs.FinSet.{union}
 use Rattle.hd_pool.specs.Masks.{numbers_of}
 use Rattle.hd_pool.proofs.Marks.{room_is, filled, written}
@@ -8,6 +8,6 @@ pub returns : goal.returns
 returns c =
     let masks = c.self.inside.masks.items in
     let within : c.args.mask < length masks = omega (arith, room_is masks c.args.self.now c.self.view_is) in
-    written masks c.args.self.now c.self.view_is c.args.mask 18446744073709551615
+    written masks c.args.self.now c.self.view_is c.args.mask _
     (λ s. union s (numbers_of c.args.mask))
-    (filled masks c.args.mask 18446744073709551615 within refl)
+    (filled masks c.args.mask _ within (omega arith))

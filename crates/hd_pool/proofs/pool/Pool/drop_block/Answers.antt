@@ -2,7 +2,7 @@ use Rattle.std.proofs.Common.{◌≡◌, sym, ap, ◌∙◌, arith, Some}
 use Rattle.std.specs.FinSet.{remove, difference}
 use Rattle.hd_pool.specs.Masks.{numbers_of}
 use Rattle.hd_pool.specs.Inside.{kind_at}
-use Rattle.hd_pool.proofs.Pools.{dropped, along, in_list, low, has_room, has_place, read_kind, read_some, seen_clear}
+use Rattle.hd_pool.proofs.Pools.{dropped, along, in_list, low, has_room, has_place, read_kind, read_some, seen_left, with_left}
 use Rattle.hd_pool.proofs.pool.Pool.drop_block.Goals as goal
 
 pub index-requires : goal.index-requires
@@ -53,12 +53,13 @@ invariant_of-self c =
     sym (read_kind kinds c.self.inside.free c.args.self.now c.self.view_is c.self.inside.ready
     c.self.invariant c.args.block c.requires.added c.index.result.now c.index.ensures)
     ∙ c.unwrap-kind.ensures in
-    along c.clear.ensures (c.remove.ensures ∙ ap (λ n. record c.self.inside.ready
+    with_left kinds c.args.block _ (cc)
+    (along c.clear.ensures (c.remove.ensures ∙ ap (λ n. record c.self.inside.ready
     { members = remove c.self.inside.ready.members n }) c.place.ensures)
     (dropped kinds c.self.inside.free c.self.inside.ready c.self.invariant c.args.block c.unwrap-kind.result
-    of_kind)
+    of_kind))
 
 pub returns : goal.returns
 returns c =
-    seen_clear c.self.inside.kinds.items c.self.inside.free c.args.self.now c.self.view_is c.args.block
+    seen_left c.self.inside.kinds.items c.self.inside.free c.args.self.now c.self.view_is _ (cc) c.args.block
     (λ s. difference s (numbers_of c.args.block)) c.clear.new.self c.clear.ensures

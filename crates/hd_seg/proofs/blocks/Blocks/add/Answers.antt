@@ -4,11 +4,12 @@ use Rattle.std.proofs.lemmas.List.{map-set, length-map}
 use Rattle.std.proofs.lemmas.List.Elements.{All-set}
 use Rattle.hd_model.specs.Kinds.{kind_number}
 use Rattle.hd_model.specs.Table.{IsLeastWithout}
+use Rattle.hd_model.proofs.KindTests.{few_kinds}
 use Rattle.hd_seg.specs.declared.block.Block.{Block}
 use Rattle.hd_seg.specs.Blocks.{Uses, HasUnused, use_at}
 use Rattle.hd_seg.specs.Mapped.{mapped}
 use Rattle.hd_seg.proofs.Linking.{is_table, few_of, one_left, chain_read, chain_short, room_read, extras_is}
-use Rattle.hd_seg.proofs.Adding.{blocks-added, view-added, kind_small, least_is}
+use Rattle.hd_seg.proofs.Adding.{blocks-added, view-added, least_is}
 use Rattle.hd_seg.proofs.blocks.Blocks.add.Goals as goal
 use Rattle.hd_seg.proofs.blocks.Blocks.add.Goals.{After-len-place, After-push_reserved, After-self-3-1}
 
@@ -46,7 +47,7 @@ short c =
       arith,
       ap length (chain_is c),
       chain_short c.self.inside.number _ c.self.inside.table.items _
-          c.self.invariant.0 c.args.kind (kind_small c.args.kind),
+          c.self.invariant.0 c.args.kind (few_kinds c.args.kind),
       few c,
       c.self.invariant.0.counted,
     )
@@ -62,7 +63,8 @@ push_reserved-requires c =
       short c,
       c.index_mut-chain.result.now.ok.0,
       room_read c.self.inside.number
-          c.self.inside.chains.items c.number.result c.index_mut-chain.result.now c.index_mut-chain.ensures.value
+          c.self.inside.chains.items c.number.result c.index_mut-chain.result.now
+          c.index_mut-chain.ensures.value
           (number_in c) c.self.invariant.1,
     )
 

@@ -203,7 +203,8 @@ chains_are c =
 pub invariant_of-self : goal.invariant_of-self
 invariant_of-self c = (
   subst (λ xs. IsBlocks c.self.inside.number (c.self.inside.given - 1) xs
-      (map (λ (v : Vec ℕ Global). v.items) (set c.self.inside.chains.items c.number.result c.remove.new.self)))
+      (map (λ (v : Vec ℕ Global). v.items)
+      (set c.self.inside.chains.items c.number.result c.remove.new.self)))
       (sym (table_is c _))
       (subst (λ cs. IsBlocks c.self.inside.number (c.self.inside.given - 1)
       (moved c.self.inside.number c.self.inside.given c.self.inside.table.items _ c.self.invariant.0

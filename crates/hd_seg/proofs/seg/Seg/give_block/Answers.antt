@@ -71,7 +71,8 @@ add_data-data-requires-clause-used c q low high =
       | inl same ↦ ap is_some
           (get-insert_same c.self.inside.blocks.table.uses c.add-block.result (handles_of c.args.kind) q same)
       | inr apart ↦ ap is_some
-          (get-insert_other c.self.inside.blocks.table.uses c.add-block.result (handles_of c.args.kind) q apart)
+          (get-insert_other c.self.inside.blocks.table.uses c.add-block.result (handles_of c.args.kind) q
+          apart)
           ∙ c.add-block.ensures.least.least q low (omega arith)
     ]
 

@@ -7,7 +7,8 @@ index_mut-requires c =
     omega (
       arith,
       aim_slot c.self.inside.blocks c.self.inside.cells.items c.self.inside.masks.items
-          c.self.inside.live c.self.invariant c.args.slot.0 c.args.self.now c.self.view_is c.requires c.args.target,
+          c.self.inside.live c.self.invariant c.args.slot.0 c.args.self.now c.self.view_is c.requires
+          c.args.target,
       c.self.inside.cells.ok.0,
     )
 
