@@ -58,18 +58,18 @@ module _ (h : Heap) (n : ℕ) (p : Addr → Bool) where
       (next : IsNext (is_condemned h n) after at) where
     -- each one found so far stands before it
     before : (j : Joiner) → Contains js j → j.at.0 < at.0
-    before j k = passed_on after at j.at next.behind (found.passed j k)
+    before j k = passed_on after at j.at next.beyond (found.passed j k)
 
     passed_now : (b : Addr) → b.0 ≤ at.0 → is_after (Some at) b ≡ false
     passed_now b low = le-ltb at.0 b.0 low
 
-    -- one outside that is not behind it was found, or it is this one
+    -- one outside that is not after it was found, or it is this one
     known : (a : Addr) → IsOut (object_at h) n p a → is_after (Some at) a ≡ false
         → Contains (places js) a ⊎ (a ≡ at)
-    known a out not_behind =
+    known a out not_beyond =
         ⊎_elim
-        (λ behind. let low = ltb-false at.0 a.0 not_behind in
-        let high = next.least a (out_condemned a out) behind in
+        (λ beyond. let low = ltb-false at.0 a.0 not_beyond in
+        let high = next.least a (out_condemned a out) beyond in
         inr (address_is a at (omega arith)))
         (λ passed. inl (found.all a out passed)) (cases_Bool (is_after after a))
 
@@ -114,12 +114,12 @@ module _ (h : Heap) (n : ℕ) (p : Addr → Bool) where
           passed = λ j k. passed_now j.at (⊎_elim (λ early. let low = before j early in omega arith)
               (λ same. let e = ap (λ (i : Joiner). i.at.0) same in omega arith)
               (Contains-push_cases js new j k));
-          all = λ a is not_behind.
+          all = λ a is not_beyond.
               subst (λ xs. Contains xs a) (sym joined)
               (⊎_elim (λ early. Contains-append_left (places js) (at ∷ []) a early)
               (λ same. subst (λ b. Contains (places js ++ at ∷ []) b) (sym same)
               (Contains-push (places js) at))
-              (known a is not_behind));
+              (known a is not_beyond));
         }
 
     pub found_past : is_out h p at ≡ false → IsFoundUpTo h n p (Some at) js
@@ -128,8 +128,8 @@ module _ (h : Heap) (n : ℕ) (p : Addr → Bool) where
       outside = found.outside;
       identified = found.identified;
       passed = λ j k. passed_now j.at (let low = before j k in omega arith);
-      all = λ a is not_behind.
+      all = λ a is not_beyond.
           ⊎_elim (λ early. early)
           (λ same. absurd (both_ways _ inside (out_is at (subst (λ b. IsOut (object_at h) n p b) same is))))
-          (known a is not_behind);
+          (known a is not_beyond);
     }

@@ -11,7 +11,7 @@ abbrev pub places : List Joiner → List Addr
 places js = map (λ (j : Joiner). j.at) js
 
 -- who was found up to a place of the walk: objects outside p with their identities, each once, and all that
--- are not behind the place
+-- are not after the place
 pub record IsFoundUpTo (h : Heap) (n : ℕ) (p : Addr → Bool) (after : Option Addr) (js : List Joiner) : Type 0
   where
     pub once : AllPairs (λ x y. x ≢ y) (places js)
@@ -27,7 +27,7 @@ pub record IsFound (h : Heap) (n : ℕ) (p : Addr → Bool) (js : List Joiner) :
   pub identified : (j : Joiner) → Contains js j → j.id ≡ id_at h j.at
   pub all : (a : Addr) → IsOut (object_at h) n p a → Contains (places js) a
 
--- the addresses behind a place of the walk
+-- the addresses after a place of the walk
 abbrev pub left_of : Option Addr → ℕ
 left_of None = 2 ^ 32 + 1
 left_of (Some a) = 2 ^ 32 - a.0

@@ -59,7 +59,7 @@ pub(crate) fn sort(joiners: &mut Vec<Joiner>)
     joiners.sort_unstable_by_key(|joiner| joiner.id.0);
 }
 
-/// Promotes them, and puts them behind those that wait.
+/// Promotes them, and puts them after those that wait.
 pub(crate) fn join<M: Marker>(joiners: &[Joiner], waiting: &mut VecDeque<Addr>, marker: &mut M)
     requires settled { M.settled marker.old }
     requires objects { (a : _) → Contains (places joiners.now) a →

@@ -1,5 +1,5 @@
 //! The finalisation queue: the objects that wait for their finalizers. A collection keeps a
-//! registered object that is no longer reached, with all that it leads to, and puts it behind those
+//! registered object that is no longer reached, with all that it leads to, and puts it after those
 //! that wait.
 #![tactic(auto)]
 

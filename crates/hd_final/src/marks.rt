@@ -7,6 +7,7 @@ ghost use Rattle.hd_model.specs.Marking.{IsKeeping};
 ghost use Rattle.hd_final.specs.Bare.{IsBare, IsList, IsReady, is_in, is_promoted, mirrored};
 
 use hd_heap::Heap;
+use hd_model::limits::OLDEST;
 use hd_model::{Addr, Forward, Marker, Memory};
 use std::alloc::Global;
 
@@ -107,21 +108,23 @@ impl<'h> Mirror<'h> {
     /// New places for all objects of a heap.
     pub(crate) fn of(heap: &'h Heap) -> Mirror<'h>
         ensures same { result.heap.now ≡ heap.now }
-        ensures laid { IsKeeping (object_at heap.now) 2 (has_object heap.now) mirrored }
+        ensures laid { IsKeeping (object_at heap.now) OLDEST (has_object heap.now) mirrored }
     {
+        // The answer is not used: the call tells the proof that the heap is sound.
         let _count = heap.count();
         Mirror { heap }
     }
 }
 
 impl<'h> Forward for Mirror<'h> {
+    ghost use Rattle.hd_model.specs.declared.limits.TheConstants.{OLDEST};
     ghost use Rattle.hd_model.specs.Heap.{has_object, object_at};
     ghost use Rattle.hd_model.specs.Marking.{IsKeeping};
     ghost use Rattle.hd_final.specs.Bare.{mirrored};
 
-    ghost basis = { λ m. record { heap = m.heap.now; condemned = 2 } };
+    ghost basis = { λ m. record { heap = m.heap.now; condemned = OLDEST } };
 
-    ghost laid = { λ m. IsKeeping (object_at m.heap.now) 2 (has_object m.heap.now) mirrored };
+    ghost laid = { λ m. IsKeeping (object_at m.heap.now) OLDEST (has_object m.heap.now) mirrored };
 
     ghost kept = { λ m. has_object m.heap.now };
 

@@ -78,7 +78,7 @@ impl Final {
         Ok(())
     }
 
-    /// Promotes the registered condemned objects that are not promoted, and puts them behind those
+    /// Promotes the registered condemned objects that are not promoted, and puts them after those
     /// that wait, in the order of their identities. Answers how many. No older object is looked at.
     pub fn revive<M: Marker>(&mut self, heap: &Heap, marker: &mut M, n: u8) -> u32
         requires settled { M.settled marker.old }

@@ -1,50 +1,49 @@
 -- The scene that a collection leaves, by address: what was left, at its new places.
-use Rattle.std.proofs.Common.{◌≡◌, ℕ, ◌+◌, ◌*◌, ◌/◌, ◌<◌, ◌≤◌, Bool, true, false, cond, not, ◌&&◌, ◌++◌, List, Option, Some, None, IsSome, is_some, length, drop, map, refl, sym, ap, ◌∙◌, subst, ⊎_elim, arith, add-mul, le_trans}
-use Rattle.std.specs.Prelude.{option_map, Contains, ◌↔◌}
+use Rattle.std.proofs.Common.{◌<◌, ◌≡◌, ℕ, ◌+◌, ◌*◌, ◌/◌, ◌≤◌, Bool, true, false, cond, ◌&&◌, List, Option, Some, None, is_some, length, drop, map, refl, sym, ap, ◌∙◌, subst, arith, add-mul, le_trans}
+use Rattle.std.specs.Prelude.{option_map}
 use Rattle.std.specs.FinMap.{get, len}
-use Rattle.std.proofs.lemmas.Bool.{cond-true, cases_Bool, true≢false}
+use Rattle.std.proofs.lemmas.Bool.{cond-true, true≢false}
 use Rattle.std.proofs.Math.Bool.{and-false, and-true}
 use Rattle.std.proofs.Math.Seq.{drop-append_seam}
 use Rattle.std.proofs.lemmas.List.{length-map}
 use Rattle.hd_model.specs.declared.data.Id.{Id}
 use Rattle.hd_model.specs.declared.data.Addr.{Addr}
-use Rattle.hd_model.specs.declared.data.Kind.{Kind}
 use Rattle.hd_model.specs.declared.data.Kind.TheVariants as kind
 use Rattle.hd_model.specs.declared.data.Report.{Report}
-use Rattle.hd_model.specs.State.{Object, Extra, nothing, strength, secondary, count, Handle, rename_object, rename_handle, rename_extra}
-use Rattle.hd_model.specs.Role.{holds, attaches, role, pins, pins_by}
+use Rattle.hd_model.specs.State.{Object, Handle, rename_object, rename_handle}
+use Rattle.hd_model.specs.Role.{holds, role}
 use Rattle.hd_model.specs.Counting.{Counts}
-use Rattle.hd_model.specs.Scene.{Scene, is_object, generation_at, IsWhole, IsReading}
-use Rattle.hd_model.specs.Reach.{IsPinned, IsReached, held}
+use Rattle.hd_model.specs.Scene.{Scene, is_object, IsWhole, IsReading, generation_at}
+use Rattle.hd_model.specs.Reach.{IsPinned, held}
 use Rattle.hd_model.specs.Collect.{is_lost, loses_by, loses, is_attaching, survivor, cleared, left_by, Collects}
 use Rattle.hd_model.specs.Moving.{IsMoved}
-use Rattle.hd_model.specs.Ages.{is_due, raised, grown, HasSoundAges}
+use Rattle.hd_model.specs.Ages.{is_due, raised, HasSoundAges}
 use Rattle.hd_model.specs.Heap.{Heap, Basis, Placed, object_at, object_in, region_generation, region_of, has_object, id_at, is_set, is_carded, used_of, HasIdentities}
 use Rattle.hd_model.specs.Compact.{IsCompact}
 use Rattle.hd_model.specs.Table.{Table, Queue, row_at}
 use Rattle.hd_model.specs.Visits.{visits_of, IsSameTable}
 use Rattle.hd_model.proofs.Counting.{counts_le, counts_once, counts_where, counts_named}
-use Rattle.hd_model.proofs.Entries.{some_value}
 use Rattle.hd_model.proofs.Fitting.{pins_hold}
 use Rattle.hd_model.proofs.Pinning.{pinned_held}
+use Rattle.hd_model.proofs.PinsRenamed.{pins_renamed}
 use Rattle.hd_model.proofs.Collecting.{root_reached, reached_kept}
 use Rattle.hd_model.proofs.Idle.{cleared_same}
 use Rattle.hd_model.proofs.Naming.{is_object_read}
 use Rattle.hd_model.proofs.Moving.{moved_whole, moved_ages, moved_by_identity}
 use Rattle.hd_model.proofs.Marking.{undue_in_place}
 use Rattle.hd_final.specs.Settling.{unregistered, Unregisters}
-use Rattle.hd_plan.specs.Plan.{PlanOf, kept_in, place_in, stays_in, HasNoEmptyRegion}
-use Rattle.hd_plan.specs.Commit.{moved_object, NeedsCard, Commits}
+use Rattle.hd_plan.specs.Plan.{PlanOf, kept_in, place_in, stays_in}
+use Rattle.hd_plan.specs.Commit.{moved_object}
 use Rattle.hd_gc.specs.declared.sift.Found.{Found}
 use Rattle.hd_gc.specs.Ready.{scene_at, IsReady}
 use Rattle.hd_gc.specs.Steps.{SiftSteps, CollectSteps, moving_visits}
 use Rattle.hd_gc.specs.Sifting.{Sifted, Reports}
 use Rattle.hd_gc.specs.Shifting.{Shifted}
 use Rattle.hd_gc.specs.Collected.{Collected}
-use Rattle.hd_gc.proofs.Again.{visits_same, same_table_on}
-use Rattle.hd_gc.proofs.Fading.{fades_cleared, faded_ages}
-use Rattle.hd_gc.proofs.Settled.{in_or_out, same_used, same_full}
-use Rattle.hd_gc.proofs.PinnedTargets.{counts_objects, pinned_count}
+use Rattle.hd_model.proofs.Again.{visits_same, same_table_on}
+use Rattle.hd_model.proofs.Fading.{fades_cleared, faded_ages}
+use Rattle.hd_gc.proofs.Settled.{same_used, same_full}
+use Rattle.hd_model.proofs.PinnedTargets.{counts_objects, pinned_count}
 use Rattle.hd_gc.proofs.Leaving.{goes_by, left_kept}
 
 -- an object that was revived loses its registration before it moves
@@ -70,19 +69,6 @@ moved_survivor place n false (Some o) = λ i. Some (record {
   generation = raised n o.generation;
   registered = sym (and-true o.registered) i;
 })
-
--- whether a handle pins does not depend on names
-pins_renamed : (f : Addr → Addr) (k : Kind) (e : Extra Addr) → pins_by k (rename_extra f e) ≡ pins_by k e
-pins_renamed f kind.Short e = refl
-pins_renamed f kind.Long e = refl
-pins_renamed f kind.Strong e = refl
-pins_renamed f kind.Pinned e = refl
-pins_renamed f kind.Variable nothing = refl
-pins_renamed f kind.Variable (strength given) = refl
-pins_renamed f kind.Variable (secondary o) = refl
-pins_renamed f kind.Variable (count c) = refl
-pins_renamed f kind.Counted e = refl
-pins_renamed f kind.Dependent e = refl
 
 -- an object that stands at an address is an entry there
 placed : (h : Heap) (x : Addr) → is_object (object_at h) x ≡ true → (p : Placed)
@@ -138,7 +124,8 @@ module _ (h h2 : Heap) (t t2 t3 : Table) (ages ages2 : List ℕ) (q q2 q3 : Queu
   object_moved : (x : Addr) → is_object Left.object x ≡ true
       → T.object (Place x) ≡ option_map (rename_object Place) (Left.object x)
   object_moved x e =
-      let kept : kept_in plan x ≡ true = left_kept h t t2 ages q q2 roots n plan found report s0 s1 ready sf rp x e
+      let kept : kept_in plan x
+      ≡ true = left_kept h t t2 ages q q2 roots n plan found report s0 s1 ready sf rp x e
       in
       sh.commits.objects x kept
       ∙ (λ i. option_map (moved_object Place (generation_is i)) (object_middle x i))
@@ -212,10 +199,12 @@ module _ (h h2 : Heap) (t t2 t3 : Table) (ages ages2 : List ℕ) (q q2 q3 : Queu
   identities_after a b p r at_a at_b same =
       let left : (x : Addr) × ((kept_in plan x ≡ true) × (Place x ≡ record { 0 = a })) =
       sh.commits.only (record { 0 = a })
-      (ap (λ o. is_some (option_map (object_in (region_generation h2 (region_of (record { 0 = a })))) o)) at_a) in
+      (ap (λ o. is_some (option_map (object_in (region_generation h2 (region_of (record { 0 = a })))) o))
+      at_a) in
       let right : (y : Addr) × ((kept_in plan y ≡ true) × (Place y ≡ record { 0 = b })) =
       sh.commits.only (record { 0 = b })
-      (ap (λ o. is_some (option_map (object_in (region_generation h2 (region_of (record { 0 = b })))) o)) at_b) in
+      (ap (λ o. is_some (option_map (object_in (region_generation h2 (region_of (record { 0 = b })))) o))
+      at_b) in
       let x : Addr = left.0 in
       let y : Addr = right.0 in
       let (px, at_x) = placed h x (sf.keeping.objects x left.1.0) in
@@ -237,7 +226,8 @@ module _ (h h2 : Heap) (t t2 t3 : Table) (ages ages2 : List ℕ) (q q2 q3 : Queu
   few_objects : len h2.objects ≤ len h.objects
   few_objects =
       let (k, of_k) =
-      counts_where (λ x. is_object (object_at h) x ≡ true) (kept_in plan) (len h.objects) (counts_objects h) in
+      counts_where (λ x. is_object (object_at h) x ≡ true) (kept_in plan) (len h.objects) (counts_objects h)
+      in
       let arrived : Counts (λ x. is_object (object_at h2) x ≡ true) k =
       counts_named Place (λ x. (is_object (object_at h) x ≡ true) × (kept_in plan x ≡ true))
       (λ x. is_object (object_at h2) x ≡ true) k (λ x y a b e. sf.keeping.apart x y a.1 b.1 e)
@@ -291,6 +281,16 @@ module _ (h h2 : Heap) (t t2 t3 : Table) (ages ages2 : List ℕ) (q q2 q3 : Queu
         subst (λ (y : Addr). id_at h2 y ≡ id_at h x) here (same_id x kept),
       )
 
+  older_stays : (x : Addr) → n < generation_at (object_at h) x
+      → (has_object h2 x ≡ true) × (id_at h2 x ≡ id_at h x)
+  older_stays x old =
+      let kept : kept_in plan x ≡ true = sf.keeping.older x old in
+      let here : Place x ≡ x = sf.keeping.in_place x old in (
+        subst (λ (y : Addr). has_object h2 y ≡ true) here
+            (is_object_read Place Left T moved x (in_left x kept)),
+        subst (λ (y : Addr). id_at h2 y ≡ id_at h x) here (same_id x kept),
+      )
+
   -- a handle that pins still pins the same object
   still_pinned : (x : Addr) → IsPinned (row_at t) x → IsPinned (row_at t3) x
   still_pinned x p =
@@ -309,7 +309,7 @@ module _ (h h2 : Heap) (t t2 t3 : Table) (ages ages2 : List ℕ) (q q2 q3 : Queu
             ∙ ap (λ o. option_map (rename_handle Place) (option_map (cleared sf.sifts.reach sf.sifts.kept) o))
             p.stands
             ∙ ap (λ g. Some (rename_handle Place g)) same;
-        pins = pins_renamed Place p.handle.kind p.handle.extra ∙ p.pins;
+        pins = pins_renamed Place p.handle ∙ p.pins;
         target = ap (option_map Place) p.target ∙ ap (λ y. Some y) (sf.pinned x p);
       }
 
@@ -319,7 +319,8 @@ module _ (h h2 : Heap) (t t2 t3 : Table) (ages ages2 : List ℕ) (q q2 q3 : Queu
       let (b, after) =
       pinned_count h2 t3 (λ x p. whole_after.targets p.slot p.handle x p.stands p.target) in
       let few : stays_in plan ≤ a = sf.stays a before in
-      let more : a ≤ b = counts_le (IsPinned (row_at t)) (IsPinned (row_at t3)) a b still_pinned before after in
+      let more : a ≤ b = counts_le (IsPinned (row_at t)) (IsPinned (row_at t3)) a b still_pinned before after
+      in
       let regions : len h2.regions ≤ used_of h2 / 193 + 3 + stays_in plan =
       sh.commits.compact (generation_is ∙ two) in
       record { pinned = b; pinned_is = after; regions = omega arith }
@@ -341,7 +342,8 @@ module _ (h h2 : Heap) (t t2 t3 : Table) (ages ages2 : List ℕ) (q q2 q3 : Queu
   steps_after : CollectSteps t ages n report.kept s0 s2
   steps_after =
       let first : SiftSteps t ages n report.kept s0 s1 =
-      sf.steps report.kept (goes_by h t t2 ages q q2 roots n plan found report s0 s1 ready sf rp).report_is.kept in
+      sf.steps report.kept
+      (goes_by h t t2 ages q q2 roots n plan found report s0 s1 ready sf rp).report_is.kept in
       let v : ℕ = visits_of t ages n kind.Dependent in
       let product : (first.passes + 2) * v ≡ first.passes * v + 2 * v = add-mul first.passes 2 v in
       record {
@@ -356,6 +358,7 @@ module _ (h h2 : Heap) (t t2 t3 : Table) (ages ages2 : List ℕ) (q q2 q3 : Queu
     collects = collects;
     ready = ready_after;
     pinned = pinned_stays;
+    older = older_stays;
     aged = sh.aged;
     cards = sh.commits.cards;
     used = le_trans sh.commits.used (same_used sf.sifts.joins h sh.middle unregisters);

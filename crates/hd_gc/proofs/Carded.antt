@@ -1,11 +1,11 @@
 -- The walk over the older objects in set cards.
-use Rattle.std.proofs.Common.{◌≡◌, ℕ, ◌+◌, ◌-◌, ◌*◌, ◌/◌, ◌^◌, ◌<◌, ◌≤◌, Bool, true, false, ◌&&◌, Option, Some, None, refl, sym, ap, ◌∙◌, subst, ⊎_elim, inl, inr, ◌⊎◌, arith}
+use Rattle.std.proofs.Common.{◌≡◌, ℕ, ◌/◌, ◌^◌, ◌<◌, ◌≤◌, true, false, Option, Some, None, refl, sym, ◌∙◌, subst, ⊎_elim, inl, inr, ◌⊎◌, arith}
 use Rattle.std.specs.Prelude.{nat_lt}
 use Rattle.std.proofs.lemmas.Bool.{and_parts, and_from, cases_Bool, lt-ltb, true≢false, ltb-true, ltb-false, le-ltb}
 use Rattle.std.proofs.lemmas.Bool.Decides.{nat_tests}
 use Rattle.hd_model.specs.declared.data.Addr.{Addr}
 use Rattle.hd_model.specs.Scene.{IsField, generation_at}
-use Rattle.hd_model.specs.Heap.{Heap, object_at, has_object, region_of, is_held, is_carded}
+use Rattle.hd_model.specs.Heap.{Heap, object_at, has_object, region_of, is_carded}
 use Rattle.hd_heap.specs.Calls.{is_old_carded, is_after, IsNext}
 use Rattle.hd_heap.specs.Sound.{IsSound}
 use Rattle.hd_mark.specs.Marks.{MarksOf, IsSettledMarks}
@@ -31,10 +31,10 @@ pub carded_by : (h : Heap) (n : ℕ) (a : Addr) → has_object h a ≡ true → 
 carded_by h n a object above carded =
     and_from _ _ (and_from _ _ object (lt-ltb n (generation_at (object_at h) a) above)) carded
 
--- what is behind one that is behind a place is behind the place
-behind_on : (after : Option Addr) (a b : Addr) → is_after after a ≡ true → a.0 < b.0 → is_after after b ≡ true
-behind_on None a b h l = refl
-behind_on (Some c) a b h l = grind (arith, nat_tests)
+-- what is after one that is after a place is after the place
+beyond_on : (after : Option Addr) (a b : Addr) → is_after after a ≡ true → a.0 < b.0 → is_after after b ≡ true
+beyond_on None a b h l = refl
+beyond_on (Some c) a b h l = grind (arith, nat_tests)
 
 -- a place that a walk reaches is nearer to the end
 pub left_less : (h : Heap) (n : ℕ) (after : Option Addr) (a : Addr) → IsSound h
@@ -42,7 +42,7 @@ pub left_less : (h : Heap) (n : ℕ) (after : Option Addr) (a : Addr) → IsSoun
 left_less h n None a sound next = omega arith
 left_less h n (Some b) a sound next =
     let fits : a.0 < 2 ^ 32 = object_fits h a sound (carded_object h n a next.member) in
-    let above : nat_lt b.0 a.0 ≡ true = next.behind in
+    let above : nat_lt b.0 a.0 ≡ true = next.beyond in
     grind (arith, nat_tests)
 
 module _ (h : Heap) (n : ℕ) (m : MarksOf) where
@@ -58,7 +58,7 @@ module _ (h : Heap) (n : ℕ) (m : MarksOf) where
           old = u.old;
           done =
               ⊎_elim
-              (λ above. absurd (true≢false (sym (behind_on after a u.old.from next.behind
+              (λ above. absurd (true≢false (sym (beyond_on after a u.old.from next.beyond
               (ltb-true a.0 u.old.from.0 above)) ∙ u.done)))
               (λ e. e) (cases_Bool (nat_lt a.0 u.old.from.0));
         })
@@ -71,8 +71,8 @@ module _ (h : Heap) (n : ℕ) (m : MarksOf) where
         → IsOldFieldUpTo h n after y ⊎ IsField (object_at h) a y
     back a y next u =
         ⊎_elim
-        (λ behind.
-        let up : a.0 ≤ u.old.from.0 = next.least u.old.from u.old.carded behind in
+        (λ beyond.
+        let up : a.0 ≤ u.old.from.0 = next.least u.old.from u.old.carded beyond in
         let down : u.old.from.0 ≤ a.0 = ltb-false a.0 u.old.from.0 u.done in
         let same : u.old.from.0 ≡ a.0 = omega arith in
         inr (subst (λ (x : Addr). IsField (object_at h) x y) (λ i. record { 0 = same i }) u.old.field))

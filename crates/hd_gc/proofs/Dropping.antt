@@ -1,11 +1,11 @@
 -- Two tasks clear the short handles, and three the long ones: each by its kind.
 use Rattle.std.proofs.Common.{◌≡◌, ℕ, ◌+◌, Bool, true, false, Option, Some, None, refl, sym, ap, ◌∙◌, subst, ⊎_elim, inl, inr, ◌⊎◌}
 use Rattle.std.specs.Prelude.{option_map}
-use Rattle.std.proofs.lemmas.Bool.{true≢false, cases_Bool}
+use Rattle.std.proofs.lemmas.Bool.{true≢false}
 use Rattle.std.proofs.lemmas.Option.{same_Some}
 use Rattle.hd_model.specs.Kinds.{is_kind}
 use Rattle.hd_model.specs.State.{Handle}
-use Rattle.hd_model.specs.Role.{Role, short, long, role}
+use Rattle.hd_model.specs.Role.{Role, short, long}
 use Rattle.hd_model.specs.Counting.{Counts}
 use Rattle.hd_model.specs.Scene.{Rows}
 use Rattle.hd_model.specs.Collect.{is_lost}
@@ -48,14 +48,16 @@ module _ {N : Type 0} (p : N → Bool) where
       → r3 slot ≡ option_map (dropped long p) (r0 slot)
   long_rows r0 r1 r2 r3 a b c slot =
       c slot ∙ ap (option_map (swept true task.ClearCounted p)) (b slot)
-      ∙ ap (λ o. option_map (swept true task.ClearCounted p) (option_map (swept true task.ClearVariableLong p) o))
+      ∙ ap (λ o. option_map (swept true task.ClearCounted p)
+      (option_map (swept true task.ClearVariableLong p) o))
       (a slot)
       ∙ ap (option_map (swept true task.ClearCounted p))
       (mapped_twice (swept true task.ClearLong p) (swept true task.ClearVariableLong p) (r0 slot))
       ∙ mapped_twice (λ h. swept true task.ClearVariableLong p (swept true task.ClearLong p h))
       (swept true task.ClearCounted p) (r0 slot)
       ∙ mapped_like
-      (λ h. swept true task.ClearCounted p (swept true task.ClearVariableLong p (swept true task.ClearLong p h)))
+      (λ h. swept true task.ClearCounted p
+      (swept true task.ClearVariableLong p (swept true task.ClearLong p h)))
       (dropped long p) (long_swept p) (r0 slot)
 
   -- what a task clears after a task of another kind, it clears before it

@@ -1,73 +1,27 @@
--- Rows of which each names no more than before: names and ages stay as they should be.
-use Rattle.std.proofs.Common.{◌≡◌, ℕ, Bool, true, false, cond, Option, Some, None, refl, sym, ap, ◌∙◌, subst}
-use Rattle.std.specs.Prelude.{option_map, List}
+-- Rows of which the passes of the clearing took targets away.
+use Rattle.std.proofs.Common.{◌≡◌, ℕ, Bool, true, false, cond, Option, Some, None}
+use Rattle.std.specs.Prelude.{option_map}
 use Rattle.std.proofs.lemmas.Option.{none-some}
-use Rattle.hd_model.specs.State.{Extra, secondary, Handle, secondary_of}
 use Rattle.hd_model.specs.Role.{Role}
-use Rattle.hd_model.specs.Scene.{Objects, Rows, is_object}
-use Rattle.hd_model.specs.Ages.{HasSoundAges}
-use Rattle.hd_model.specs.Names.{NamesObjects}
-use Rattle.hd_model.specs.Collect.{cleared}
-use Rattle.hd_model.proofs.Collecting.{mapped_value, cleared_target, cleared_secondary}
+use Rattle.hd_model.specs.Scene.{Rows}
+use Rattle.hd_model.proofs.Fading.{Fades, fades_by}
 use Rattle.hd_scan.specs.declared.task.Task.{Task}
 use Rattle.hd_scan.specs.Tasks.{swept}
 use Rattle.hd_gc.specs.Clearing.{dropped}
-
--- each name in a row stood in the row before
-pub record Fades {N : Type 0} (before after : Rows N) : Type 0 where
-  pub targets :
-      (slot : ℕ) (h : Handle N) (x : N) → after slot ≡ Some h → h.target ≡ Some x → (g : Handle N)
-      × ((before slot ≡ Some g) × (g.target ≡ Some x))
-  pub secondaries :
-      (slot : ℕ) (h : Handle N) (x : N) → after slot ≡ Some h → secondary_of h.extra ≡ Some x → (g : Handle N)
-      × ((before slot ≡ Some g) × (secondary_of g.extra ≡ Some x))
 
 pub still_target : {N : Type 0} (b : Bool) (o : Option N) (x : N) → cond b None o ≡ Some x → o ≡ Some x
 still_target true o x e = absurd (none-some x e)
 still_target false o x e = e
 
 module _ {N : Type 0} (before after : Rows N) where
-  -- rows that a map gives which takes names away alone
-  fades_by : (f : Handle N → Handle N) → ((slot : ℕ) → after slot ≡ option_map f (before slot))
-      → ((h : Handle N) (x : N) → (f h).target ≡ Some x → h.target ≡ Some x)
-      → ((h : Handle N) (x : N) → secondary_of (f h).extra ≡ Some x → secondary_of h.extra ≡ Some x)
+  pub fades_swept : (t : Task) (p : N → Bool)
+      → ((slot : ℕ) → after slot ≡ option_map (swept true t p) (before slot))
       → Fades before after
-  fades_by f rows target second = record {
-    targets = λ slot h x stands e.
-        let (g, both) = mapped_value f (before slot) h (sym (rows slot) ∙ stands) in
-        (g, (both.0, target g x (ap (λ (q : Handle N). q.target) both.1 ∙ e)));
-    secondaries = λ slot h x stands e.
-        let (g, both) = mapped_value f (before slot) h (sym (rows slot) ∙ stands) in
-        (g, (both.0, second g x (ap (λ (q : Handle N). secondary_of q.extra) both.1 ∙ e)));
-  }
+  fades_swept t p rows = fades_by before after (swept true t p) rows (λ h x e. still_target _ h.target x e)
+      (λ h x e. e)
 
-  pub fades_swept : (t : Task) (p : N → Bool) → ((slot : ℕ) → after slot ≡ option_map (swept true t p) (before slot))
+  pub fades_dropped : (r : Role) (p : N → Bool)
+      → ((slot : ℕ) → after slot ≡ option_map (dropped r p) (before slot))
       → Fades before after
-  fades_swept t p rows = fades_by (swept true t p) rows (λ h x e. still_target _ h.target x e) (λ h x e. e)
-
-  pub fades_dropped : (r : Role) (p : N → Bool) → ((slot : ℕ) → after slot ≡ option_map (dropped r p) (before slot))
-      → Fades before after
-  fades_dropped r p rows = fades_by (dropped r p) rows (λ h x e. still_target _ h.target x e) (λ h x e. e)
-
-  pub fades_cleared : (reach kept : N → Bool)
-      → ((slot : ℕ) → after slot ≡ option_map (cleared reach kept) (before slot)) → Fades before after
-  fades_cleared reach kept rows =
-      fades_by (cleared reach kept) rows (λ h x e. (cleared_target reach kept h x e).1)
-      (λ h x e. (cleared_secondary reach kept h x e).1)
-
-  module _ (o : Objects N) (f : Fades before after) where
-    pub faded_names : NamesObjects o before → NamesObjects o after
-    faded_names w = record {
-      targets = λ slot h x stands e.
-          let (g, both) = f.targets slot h x stands e in w.targets slot g x both.0 both.1;
-      secondaries = λ slot h x stands e.
-          let (g, both) = f.secondaries slot h x stands e in w.secondaries slot g x both.0 both.1;
-    }
-
-    pub faded_ages : (ages : List ℕ) → HasSoundAges o before ages → HasSoundAges o after ages
-    faded_ages ages w = record {
-      targets = λ slot h x stands e.
-          let (g, both) = f.targets slot h x stands e in w.targets slot g x both.0 both.1;
-      secondaries = λ slot h x stands e.
-          let (g, both) = f.secondaries slot h x stands e in w.secondaries slot g x both.0 both.1;
-    }
+  fades_dropped r p rows =
+      fades_by before after (dropped r p) rows (λ h x e. still_target _ h.target x e) (λ h x e. e)

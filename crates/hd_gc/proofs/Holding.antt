@@ -1,10 +1,8 @@
 -- The four tasks that promote what handles hold come to all handles that hold their target.
-use Rattle.std.proofs.Common.{◌≡◌, ℕ, Bool, true, Some, refl, sym, ap, ◌∙◌, subst, ⊎_elim, inl, inr, ◌⊎◌}
+use Rattle.std.proofs.Common.{◌≡◌, ℕ, true, refl, sym, ◌∙◌, subst, ⊎_elim, inl, inr, ◌⊎◌}
 use Rattle.hd_model.specs.declared.data.Addr.{Addr}
-use Rattle.hd_model.specs.State.{Handle}
-use Rattle.hd_model.specs.Role.{holds, role}
-use Rattle.hd_model.specs.Leads.{Grows}
-use Rattle.hd_model.specs.Scene.{Objects, Rows, IsCondemned, IsYoungField}
+use Rattle.hd_model.specs.Role.{holds}
+use Rattle.hd_model.specs.Scene.{Rows, IsYoungField}
 use Rattle.hd_model.specs.Reach.{IsHeld, IsPinned}
 use Rattle.hd_model.specs.Heap.{Basis, objects_of}
 use Rattle.hd_model.specs.Table.{Table, row_at}

@@ -1,23 +1,22 @@
 -- The scene that a collection leaves in place, by what was found: what it names is kept.
-use Rattle.std.proofs.Common.{◌≡◌, ℕ, Bool, true, false, cond, ◌++◌, List, Option, Some, None, is_some, refl, sym, ap, ◌∙◌, subst, ⊎_elim}
-use Rattle.std.specs.Prelude.{option_map, Contains}
-use Rattle.std.proofs.lemmas.Bool.{cond-true}
+use Rattle.std.proofs.Common.{◌≡◌, ℕ, true, false, List, Option, Some, sym, ◌∙◌, subst}
+use Rattle.std.specs.Prelude.{Contains}
 use Rattle.hd_model.specs.declared.data.Addr.{Addr}
 use Rattle.hd_model.specs.declared.data.Report.{Report}
-use Rattle.hd_model.specs.State.{Object, Handle}
 use Rattle.hd_model.specs.Role.{short, long, attaches}
 use Rattle.hd_model.specs.Counting.{Counts}
 use Rattle.hd_model.specs.Scene.{Scene, is_object, IsCondemned, IsWhole}
-use Rattle.hd_model.specs.Collect.{survivor, GoesBy, left_by, Collects, LosesAs, IsSurviving, IsRemoved, IsReport}
+use Rattle.hd_model.specs.Collect.{survivor, GoesBy, left_by, LosesAs, IsSurviving, IsRemoved}
 use Rattle.hd_model.specs.Heap.{Heap, Basis, object_at, objects_of, id_at}
 use Rattle.hd_model.specs.Table.{Table, Queue, row_at}
 use Rattle.hd_model.proofs.Counting.{counts_like}
 use Rattle.hd_model.proofs.Entries.{some_value}
-use Rattle.hd_model.proofs.Collecting.{left_from, whole_after}
-use Rattle.hd_plan.specs.Plan.{PlanOf, kept_in, place_in}
+use Rattle.hd_model.proofs.Collecting.{left_from}
+use Rattle.hd_model.proofs.Moving.{whole_in_place}
+use Rattle.hd_plan.specs.Plan.{PlanOf, kept_in}
 use Rattle.hd_gc.specs.declared.sift.Found.{Found}
 use Rattle.hd_gc.specs.Ready.{scene_at, IsReady}
-use Rattle.hd_gc.specs.Sifting.{Sifts, Sifted, Reports}
+use Rattle.hd_gc.specs.Sifting.{Sifted, Reports}
 use Rattle.hd_gc.specs.Shifting.{NamesKept}
 
 module _ (h : Heap) (t t2 : Table) (ages : List ℕ) (q q2 : Queue) (roots : List (Option Addr)) (n : ℕ)
@@ -72,18 +71,8 @@ module _ (h : Heap) (t t2 : Table) (ages : List ℕ) (q q2 : Queue) (roots : Lis
 
   pub whole_left : IsWhole Left
   whole_left =
-      whole_after Rank n S Left report ready.whole
-      (record {
-        reach = sf.sifts.reach;
-        revived = sf.sifts.revived;
-        kept = sf.sifts.kept;
-        joins = sf.sifts.joins;
-        goes_by = goes_by;
-        objects = λ x. refl;
-        handles = λ slot. refl;
-        named = refl;
-        queue = refl;
-      })
+      whole_in_place Rank n S sf.sifts.reach sf.sifts.revived sf.sifts.kept sf.sifts.joins report ready.whole
+      goes_by
 
   -- what stands in that scene is kept
   pub left_kept : (x : Addr) → is_object Left.object x ≡ true → kept_in plan x ≡ true

@@ -5,7 +5,6 @@ pub mod Tracing
 pub mod Promoting
 pub mod Carded
 pub mod Holding
-pub mod Again
 pub mod Traces
 pub mod Dropping
 pub mod Surviving
@@ -14,7 +13,6 @@ pub mod Sifts
 pub mod Renaming
 pub mod Mapping
 pub mod Settled
-pub mod PinnedTargets
 pub mod Leaving
 pub mod Arriving
 pub mod Spared

@@ -1,8 +1,7 @@
 -- The three parts of the clearing come to the whole, and what each clears is what loses its target.
-use Rattle.std.proofs.Common.{◌≡◌, ℕ, Bool, true, false, Option, Some, None, refl, sym, ap, ◌∙◌, subst}
+use Rattle.std.proofs.Common.{◌≡◌, ℕ, Bool, true, sym, ap, ◌∙◌}
 use Rattle.std.specs.Prelude.{option_map}
-use Rattle.hd_model.specs.State.{Handle}
-use Rattle.hd_model.specs.Role.{Role, short, long, attaches, role}
+use Rattle.hd_model.specs.Role.{short, long, attaches}
 use Rattle.hd_model.specs.Counting.{Counts}
 use Rattle.hd_model.specs.Scene.{Scene, Rows}
 use Rattle.hd_model.specs.Collect.{loses_by, cleared, LosesAs}

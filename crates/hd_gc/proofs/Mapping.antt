@@ -29,7 +29,8 @@ module _ {A : Type 0} (f : A → A) where
       → set (mapped_to f i xs) i (f (get_or xs i d)) ≡ mapped_to f (i + 1) xs
   mapped_next xs i d l = next_by xs i d l ∙ ap (λ k. mapped_to f k xs) (sym (add-one i))
 
-  pub mapped_at : (xs : List A) (i : ℕ) (d : A) → i < length xs → get_or (mapped_to f i xs) i d ≡ get_or xs i d
+  pub mapped_at : (xs : List A) (i : ℕ) (d : A) → i < length xs
+      → get_or (mapped_to f i xs) i d ≡ get_or xs i d
   mapped_at [] i d l = absurd (omega arith)
   mapped_at (x ∷ xs) zero d l = refl
   mapped_at (x ∷ xs) (suc i) d l = mapped_at xs i d (omega arith)
@@ -49,7 +50,8 @@ module _ (n k : ℕ) (ages : List ℕ) (l : k + 4 ≤ length ages) where
   first_length = length-map (take k ages) (raised n) ∙ omega (arith, length-take k ages)
 
   taken : take k (mapped_to (raised n) k ages) ≡ First
-  taken = subst (λ j. take j (First ++ drop k ages) ≡ First) first_length (take-append_seam First (drop k ages))
+  taken = subst (λ j. take j (First ++ drop k ages) ≡ First) first_length
+      (take-append_seam First (drop k ages))
 
   dropped : drop k (mapped_to (raised n) k ages) ≡ drop k ages
   dropped =
@@ -65,7 +67,8 @@ module _ (n k : ℕ) (ages : List ℕ) (l : k + 4 ≤ length ages) where
       ++ drop (k + 4) (mapped_to (raised n) k ages)
       ≡ mapped_to (raised n) (k + 4) ages
   one_more =
-      let parts : take k (mapped_to (raised n) k ages) ++ grown n (take 4 (drop k (mapped_to (raised n) k ages)))
+      let parts : take k (mapped_to (raised n) k ages)
+      ++ grown n (take 4 (drop k (mapped_to (raised n) k ages)))
       ++ drop (k + 4) (mapped_to (raised n) k ages)
       ≡ First ++ map (raised n) (take 4 (drop k ages)) ++ drop (k + 4) ages =
       λ i. taken i ++ grown n (take 4 (dropped i)) ++ rest i in

@@ -1,16 +1,15 @@
 -- Marks that promote from one set after another, and from the members of a list one by one.
-use Rattle.std.proofs.Common.{◌≡◌, ℕ, ◌+◌, ◌<◌, ◌≤◌, Bool, true, false, List, [], length, get_or, take, Option, Some, None, refl, sym, ap, ◌∙◌, subst, ⊎_elim, inl, inr, ◌⊎◌, arith}
+use Rattle.std.proofs.Common.{◌≡◌, ℕ, ◌+◌, ◌<◌, List, length, get_or, take, Option, Some, None, refl, sym, ap, ◌∙◌, subst, ⊎_elim, inl, inr, ◌⊎◌}
 use Rattle.std.specs.Prelude.{Contains}
 use Rattle.std.proofs.Math.Seq.{take-length}
 use Rattle.hd_model.specs.declared.data.Addr.{Addr}
 use Rattle.hd_model.specs.Leads.{Grows}
-use Rattle.hd_model.specs.Scene.{IsField, IsYoungField}
-use Rattle.hd_model.specs.Heap.{Heap, Basis, objects_of, object_at}
+use Rattle.hd_model.specs.Scene.{IsYoungField}
+use Rattle.hd_model.specs.Heap.{Basis, objects_of}
 use Rattle.hd_model.proofs.Leading.{grows_on, grows_none, grows_like}
 use Rattle.hd_model.proofs.Members.{not_in_none}
-use Rattle.hd_heap.specs.Calls.{is_old_carded, is_after, IsNext}
 use Rattle.hd_mark.specs.Marks.{MarksOf, promoted_in, IsSettledMarks}
-use Rattle.hd_gc.specs.Growing.{Promotes, IsOldField, IsOldFieldUpTo}
+use Rattle.hd_gc.specs.Growing.{Promotes}
 use Rattle.hd_gc.proofs.Growths.{taken_more, taken_from}
 
 pub promotes_none : (S : Addr → Type 0) (m : MarksOf) → IsSettledMarks m → ((x : Addr) → S x → ⊥)
@@ -42,7 +41,8 @@ promotes_on S T m k o a b = record {
   grows =
       grows_on (IsYoungField (objects_of m.basis) m.basis.condemned) S T (promoted_in m) (promoted_in k)
       (promoted_in o) a.grows
-      (subst (λ (g : Basis). Grows (IsYoungField (objects_of g) g.condemned) T (promoted_in k) (promoted_in o))
+      (subst (λ (g : Basis). Grows (IsYoungField (objects_of g) g.condemned) T (promoted_in k)
+      (promoted_in o))
       a.basis b.grows);
 }
 

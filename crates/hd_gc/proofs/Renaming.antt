@@ -7,7 +7,6 @@ use Rattle.hd_model.specs.declared.data.Kind.{Kind}
 use Rattle.hd_model.specs.declared.data.Kind.TheVariants as kind
 use Rattle.hd_model.specs.Kinds.{is_kind}
 use Rattle.hd_model.specs.State.{Extra, Handle, rename_handle}
-use Rattle.hd_model.specs.Scene.{Rows}
 use Rattle.hd_model.specs.Ages.{is_due}
 use Rattle.hd_model.specs.Table.{Table, row_at}
 use Rattle.hd_model.proofs.Collecting.{mapped_value}
@@ -98,7 +97,8 @@ module _ (kept : Addr → Bool) where
       → is_kind j k ≡ false → Relocates place ages n j t u → IsFresh kept t k → IsFresh kept u k
   fresh_after place ages n j k t u apart moves w = record {
     names = λ slot h stands same.
-        let (g, both) = mapped_value (by_kind place ages n slot j) (row_at t slot) h (sym (moves slot) ∙ stands)
+        let (g, both) =
+        mapped_value (by_kind place ages n slot j) (row_at t slot) h (sym (moves slot) ∙ stands)
         in
         let of_kind : is_kind k g.kind ≡ true = ap (λ (q : Handle Addr). is_kind k q.kind) both.1 ∙ same in
         let other : is_kind j g.kind ≡ false = ap (is_kind j) (sym (same_kind k g.kind of_kind)) ∙ apart in

@@ -1,14 +1,13 @@
 -- Handles by their task and by their role: what a clearing does to them.
-use Rattle.std.proofs.Common.{◌≡◌, ℕ, zero, suc, Bool, true, false, cond, ◌&&◌, Option, Some, None, refl, sym, ap, ◌∙◌, subst, ⊎_elim, inl, inr, ◌⊎◌}
-use Rattle.std.specs.Prelude.{option_map}
-use Rattle.std.proofs.lemmas.Bool.{and_parts, and_from, eqb-true, eq-eqb, cond-false, cases_Bool, true≢false}
+use Rattle.std.proofs.Common.{◌≡◌, ℕ, zero, suc, Bool, true, false, cond, ◌&&◌, Option, None, refl, sym, ap, ◌∙◌, inl, inr, ◌⊎◌}
+use Rattle.std.proofs.lemmas.Bool.{and_parts, eqb-true, eq-eqb, cond-false}
 use Rattle.hd_model.specs.declared.data.Kind.{Kind}
 use Rattle.hd_model.specs.declared.data.Kind.TheVariants as kind
 use Rattle.hd_model.specs.declared.data.Strength.TheVariants as strength_of
 use Rattle.hd_model.specs.Kinds.{kind_number, is_kind}
 use Rattle.hd_model.specs.State.{Extra, nothing, strength, secondary, count, Handle}
 use Rattle.hd_model.specs.Role.{Role, holds, short, long, attaches, role_of, role}
-use Rattle.hd_model.specs.Collect.{is_lost, loses_by, loses, is_attaching, cleared}
+use Rattle.hd_model.specs.Collect.{is_lost, loses_by, is_attaching, cleared}
 use Rattle.hd_model.proofs.KindTests.{same_kind}
 use Rattle.hd_scan.specs.declared.task.Task.{Task}
 use Rattle.hd_scan.specs.declared.task.Task.TheVariants as task
@@ -124,7 +123,8 @@ module _ {N : Type 0} where
       ≡ dropped long p h
   long_swept p h = long_by p h.kind h.target h.extra
 
-  -- a short handle is taken by one of two tasks, a long one by one of three, and one that holds by one of four
+  -- a short handle is taken by one of two tasks, a long one by one of three, and one that holds by one of
+  -- four
   short_taken_by : (k : Kind) (o : Option N) (e : Extra N) → role_of k e ≡ short
       → (takes task.ClearShort (record { kind = k; target = o; extra = e }) ≡ true)
       ⊎ (takes task.ClearVariableShort (record { kind = k; target = o; extra = e }) ≡ true)

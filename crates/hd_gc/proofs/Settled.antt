@@ -1,14 +1,14 @@
 -- A heap that lost registrations is the same to all but those who ask for them.
-use Rattle.std.proofs.Common.{◌≡◌, ℕ, ◌+◌, ◌≤◌, ◌<◌, Bool, true, false, List, [], ◌∷◌, length, Option, Some, None, is_some, refl, sym, ap, ◌∙◌, subst, ⊎_elim, inl, inr, ◌⊎◌, arith, le_trans}
+use Rattle.std.proofs.Common.{◌≡◌, ℕ, ◌+◌, ◌≤◌, ◌<◌, true, false, List, [], ◌∷◌, length, Option, Some, None, is_some, refl, sym, ap, ◌∙◌, subst, ⊎_elim, inl, inr, ◌⊎◌, arith}
 use Rattle.std.specs.Prelude.{option_map, Contains, sum_by}
 use Rattle.std.specs.FinMap.{get, values}
 use Rattle.std.specs.FinSet as set
 use Rattle.std.proofs.lemmas.Bool.{cases_eq}
 use Rattle.hd_model.specs.declared.data.Addr.{Addr}
 use Rattle.hd_model.specs.State.{Object}
-use Rattle.hd_model.specs.Scene.{fields_in, generation_in, fields_at, generation_at, is_object, IsField}
+use Rattle.hd_model.specs.Scene.{fields_in, generation_in, fields_at, generation_at}
 use Rattle.hd_model.specs.Ages.{HasSoundCards}
-use Rattle.hd_model.specs.Heap.{Heap, Placed, object_at, object_in, placed_at, has_object, id_at, is_carded, is_held, region_of, region_generation, cells_of, used_of, card_of}
+use Rattle.hd_model.specs.Heap.{Heap, Placed, object_at, object_in, placed_at, has_object, is_carded, is_held, region_of, region_generation, cells_of, used_of, card_of}
 use Rattle.hd_model.proofs.Members.{not_in_none, first_in, later_in, member_cases}
 use Rattle.hd_model.proofs.Sums.{share, sum-le}
 use Rattle.hd_final.specs.Settling.{unregistered, Unregisters}
@@ -19,7 +19,8 @@ use Rattle.hd_plan.specs.Commit.{IsSameShape}
 pub in_or_out : (xs : List Addr) (a : Addr) → Contains xs a ⊎ (Contains xs a → ⊥)
 in_or_out [] a = inr (not_in_none a)
 in_or_out (x ∷ xs) a =
-    ⊎_elim (λ same. inl (subst (λ (y : Addr). Contains (x ∷ xs) y) (λ i. record { 0 = same i }) (first_in x xs)))
+    ⊎_elim (λ same. inl
+    (subst (λ (y : Addr). Contains (x ∷ xs) y) (λ i. record { 0 = same i }) (first_in x xs)))
     (λ other. ⊎_elim (λ inside. inl (later_in x xs a inside))
     (λ out. inr (λ h. ⊎_elim (λ e. other (ap (λ (y : Addr). y.0) e)) out (member_cases x xs a h)))
     (in_or_out xs a))

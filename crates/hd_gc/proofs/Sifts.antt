@@ -1,40 +1,39 @@
 -- The phases between the start of the marks and the plan, one after another.
-use Rattle.std.proofs.Common.{◌≡◌, ℕ, ◌+◌, ◌*◌, ◌<◌, ◌≤◌, Bool, true, false, ◌++◌, List, Option, Some, None, is_some, refl, sym, ap, ◌∙◌, subst, ⊎_elim, inl, inr, ◌⊎◌, arith, add-mul}
-use Rattle.std.specs.Prelude.{Contains, option_map}
-use Rattle.std.proofs.lemmas.Bool.{true≢false, cases_Bool, cases_lt}
+use Rattle.std.proofs.Common.{◌≡◌, ℕ, ◌+◌, ◌*◌, ◌<◌, ◌≤◌, Bool, true, false, List, Option, sym, ap, ◌∙◌, subst, ⊎_elim, inl, ◌⊎◌, arith, add-mul}
+use Rattle.std.specs.Prelude.{Contains}
+use Rattle.std.proofs.lemmas.Bool.{true≢false, cases_lt}
 use Rattle.hd_model.specs.declared.data.Addr.{Addr}
 use Rattle.hd_model.specs.declared.data.Kind.{Kind}
 use Rattle.hd_model.specs.declared.data.Kind.TheVariants as kind
-use Rattle.hd_model.specs.Role.{short, long, attaches}
+use Rattle.hd_model.specs.Role.{short, long}
 use Rattle.hd_model.specs.Leads.{IsClosed}
 use Rattle.hd_model.specs.Counting.{Counts}
-use Rattle.hd_model.specs.Scene.{Scene, is_object, generation_at, IsField, IsCondemned, IsWhole}
-use Rattle.hd_model.specs.Reach.{IsPinned, IsHeld, IsReached, named, queued, held, older}
+use Rattle.hd_model.specs.Scene.{Scene, is_object, generation_at, IsField, IsCondemned}
+use Rattle.hd_model.specs.Reach.{IsPinned, IsReached, queued, held, older}
 use Rattle.hd_model.specs.Marking.{IsKeeping}
-use Rattle.hd_model.specs.Ages.{HasSoundAges, HasSoundCards}
+use Rattle.hd_model.specs.Ages.{HasSoundAges}
 use Rattle.hd_model.specs.Names.{NamesObjects}
 use Rattle.hd_model.specs.Collect.{IsSurviving}
-use Rattle.hd_model.specs.Heap.{Heap, Basis, object_at, objects_of, is_carded, id_at}
+use Rattle.hd_model.specs.Heap.{Heap, Basis, object_at, objects_of, id_at}
 use Rattle.hd_model.specs.Table.{Table, Queue, row_at}
 use Rattle.hd_model.specs.Visits.{visits_of, IsSameTable}
 use Rattle.hd_model.proofs.Counting.{counts_le, counts_like, counts_join}
-use Rattle.hd_model.proofs.Marking.{settled_closed}
 use Rattle.hd_model.proofs.Pinning.{pinned_held}
-use Rattle.hd_model.proofs.Collecting.{root_reached, reached_on, reached_kept, root_object}
-use Rattle.hd_mark.specs.Marks.{MarksOf, promoted_in, pinned_in, IsSettledMarks}
+use Rattle.hd_model.proofs.Collecting.{root_reached, reached_on}
+use Rattle.hd_mark.specs.Marks.{MarksOf, promoted_in, pinned_in}
 use Rattle.hd_dep.specs.Rescan.{RescanSteps}
 use Rattle.hd_dep.specs.Clearing.{IsAllDetached, IsLostAt}
 use Rattle.hd_final.specs.Revival.{IsOut}
 use Rattle.hd_plan.specs.Plan.{PlanOf, IsLaid, kept_in, place_in, stays_in}
-use Rattle.hd_gc.specs.declared.sift.Found.{Found}
 use Rattle.hd_gc.specs.Ready.{scene_at, IsReady}
 use Rattle.hd_gc.specs.Growing.{SameMarks}
 use Rattle.hd_gc.specs.Clearing.{Drops}
 use Rattle.hd_gc.specs.Marking.{Traced, Revived, Revival, Rescans, held_visits}
-use Rattle.hd_gc.specs.Steps.{SiftSteps, sifting_visits}
+use Rattle.hd_gc.specs.Steps.{SiftSteps}
 use Rattle.hd_gc.specs.Sifting.{Sifts, Sifted}
-use Rattle.hd_gc.proofs.Again.{visits_same, same_table_on}
-use Rattle.hd_gc.proofs.Fading.{fades_dropped, faded_names, faded_ages}
+use Rattle.hd_model.proofs.Again.{visits_same, same_table_on}
+use Rattle.hd_model.proofs.Fading.{faded_names, faded_ages}
+use Rattle.hd_gc.proofs.Fading.{fades_dropped}
 use Rattle.hd_gc.proofs.Surviving.{is_out, revived_decides, kept_decides, joins_decide, revivals_counted}
 use Rattle.hd_gc.proofs.Losing.{cleared_rows, short_losses, long_losses, dependent_losses}
 use Rattle.hd_gc.proofs.Traces.{whole_names, settled_over}
@@ -80,7 +79,8 @@ module _ (h : Heap) (t : Table) (ages : List ℕ) (n : ℕ) (s : Scene Addr) (ke
       (λ x w v. true≢false (sym (reached_on2 x w.0) ∙ v.1)) one.rescan.counts two.counts) of_k
 
 -- surviving objects as pairs of facts
-pub surviving_as_pairs : (s : Scene Addr) (n : ℕ) (kept : Addr → Bool) (k : ℕ) → Counts (IsSurviving n s kept) k
+pub surviving_as_pairs : (s : Scene Addr) (n : ℕ) (kept : Addr → Bool) (k : ℕ)
+    → Counts (IsSurviving n s kept) k
     → Counts (λ x. IsCondemned s.object n x × (kept x ≡ true)) k
 surviving_as_pairs s n kept k =
     counts_like (IsSurviving n s kept) (λ x. IsCondemned s.object n x × (kept x ≡ true)) k
@@ -285,7 +285,8 @@ module _ (h : Heap) (t0 : Table) (ages : List ℕ) (q : Queue) (roots : List (Op
         pinned_target x p =
             ⊎_elim (λ above. keeping.in_place x above)
             (λ low.
-            let object : is_object (object_at h) x ≡ true = ready.whole.targets p.slot p.handle x p.stands p.target
+            let object : is_object (object_at h) x
+            ≡ true = ready.whole.targets p.slot p.handle x p.stands p.target
             in
             in_place x (held_kept x p)
             (ap (λ r. r x) pins4 ∙ (tr.pins x (record { object = object; young = low })).1 p))

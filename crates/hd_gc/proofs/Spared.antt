@@ -34,6 +34,7 @@ collected_with h h2 spare t t2 ages ages2 q q2 roots roots2 n report a b c = rec
   collects = c.collects;
   ready = c.ready;
   pinned = c.pinned;
+  older = c.older;
   aged = c.aged;
   cards = c.cards;
   used = c.used;

@@ -1,23 +1,21 @@
 -- What is revived and kept, by what is reached and by the rows that the clearing of short handles left.
-use Rattle.std.proofs.Common.{◌≡◌, ℕ, ◌+◌, ◌*◌, ◌<◌, ◌≤◌, Bool, true, false, not, ◌&&◌, Option, Some, None, is_some, refl, sym, ap, ◌∙◌, subst, ⊎_elim, inl, inr, ◌⊎◌, arith}
-use Rattle.std.specs.Prelude.{option_map, List, nat_le, ◌↔◌, Contains}
+use Rattle.std.proofs.Common.{◌≡◌, ℕ, ◌≤◌, Bool, true, false, not, ◌&&◌, Option, Some, None, refl, sym, ap, ◌∙◌, ⊎_elim, inl, inr}
+use Rattle.std.specs.Prelude.{option_map, List, nat_le, Contains}
 use Rattle.std.specs.Bool.{Decides}
-use Rattle.std.proofs.lemmas.Bool.{true≢false, false≢true, cases_Bool, cases_lt, and_parts, and_from, leb-true, le-leb, not-true, not_from_false}
-use Rattle.std.proofs.lemmas.Option.{none-some}
-use Rattle.hd_model.specs.State.{Object, Handle, secondary_of}
-use Rattle.hd_model.specs.Role.{Role, short, long, attaches, role}
-use Rattle.hd_model.specs.Leads.{Leads, IsClosed}
+use Rattle.std.proofs.lemmas.Bool.{true≢false, false≢true, cases_Bool, and_parts, and_from, leb-true, le-leb, not-true, not_from_false}
+use Rattle.hd_model.specs.State.{Object, Handle}
+use Rattle.hd_model.specs.Role.{Role, short, attaches, role}
 use Rattle.hd_model.specs.Counting.{Counts}
-use Rattle.hd_model.specs.Scene.{Scene, Objects, Rows, is_object, generation_in, generation_at}
+use Rattle.hd_model.specs.Scene.{Scene, Objects, Rows, generation_in, generation_at}
 use Rattle.hd_model.specs.Reach.{IsAttached, IsArrow, IsReached, IsRevived, IsKept}
 use Rattle.hd_model.proofs.Collecting.{mapped_value}
 use Rattle.hd_model.proofs.Counting.{counts_like}
 use Rattle.hd_model.proofs.Marking.{decides_kept}
+use Rattle.hd_model.proofs.Within.{leads_like}
 use Rattle.hd_scan.specs.Tasks.{is_role}
 use Rattle.hd_final.specs.Revival.{IsOut}
 use Rattle.hd_gc.specs.Clearing.{dropped}
 use Rattle.hd_gc.specs.Marking.{Revival}
-use Rattle.hd_gc.proofs.Growths.{leads_like}
 use Rattle.hd_gc.proofs.Roles.{other_stays}
 
 -- the rows of another role stay where those of a role lose targets
@@ -123,7 +121,8 @@ module _ {N : Type 0} (s : Scene N) (n : ℕ) (reach : N → Bool)
     λ v. (out_decides s.object n reach x).1 (revived_out x v),
   )
 
-  module _ (rows : Rows N) (short_rows : (slot : ℕ) → rows slot ≡ option_map (dropped short reach) (s.handle slot))
+  module _ (rows : Rows N)
+      (short_rows : (slot : ℕ) → rows slot ≡ option_map (dropped short reach) (s.handle slot))
       (rank : N → ℕ) (kept : N → Bool) (queue after : List N)
       (v : Revival rank s.object rows n reach kept queue after) where
     pub kept_decides : (x : N) → Decides (kept x) (IsKept s n x)

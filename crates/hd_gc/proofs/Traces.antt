@@ -1,7 +1,6 @@
 -- The marking from first marks: what it promotes is what is reached.
-use Rattle.std.proofs.Common.{◌≡◌, ℕ, ◌+◌, ◌<◌, Bool, true, false, ◌||◌, List, Option, Some, refl, sym, ap, ◌∙◌, subst, ⊎_elim, inl, inr, ◌⊎◌, ◌≤◌, arith}
+use Rattle.std.proofs.Common.{◌≡◌, ℕ, ◌+◌, ◌<◌, true, List, Option, Some, sym, ap, ◌∙◌, subst, ⊎_elim, inr, ◌⊎◌, ◌≤◌, arith}
 use Rattle.std.specs.Prelude.{Contains, nat_lt, ◌↔◌}
-use Rattle.std.specs.Bool.{Decides}
 use Rattle.std.specs.FinSet as set
 use Rattle.std.specs.FinSet.{contains-empty}
 use Rattle.std.specs.Ordering.{nat_cmp}
@@ -9,8 +8,8 @@ use Rattle.std.proofs.lemmas.Bool.{ltb-true, lt-ltb, or_cases, or_left, true≢f
 use Rattle.hd_model.specs.declared.data.Addr.{Addr}
 use Rattle.hd_model.specs.declared.data.Kind.TheVariants as kind
 use Rattle.hd_model.specs.Leads.{IsClosed, Grows, IsClosure}
-use Rattle.hd_model.specs.Scene.{Scene, is_object, generation_at, IsField, IsYoungField, IsCondemned, IsWhole}
-use Rattle.hd_model.specs.Reach.{IsArrow, IsHeld, IsPinned, older, IsReached}
+use Rattle.hd_model.specs.Scene.{is_object, generation_at, IsField, IsYoungField, IsCondemned, IsWhole}
+use Rattle.hd_model.specs.Reach.{IsArrow, IsHeld, IsPinned, older}
 use Rattle.hd_model.specs.Marking.{IsSettled}
 use Rattle.hd_model.specs.Ages.{HasSoundCards}
 use Rattle.hd_model.specs.Names.{NamesObjects}
@@ -84,7 +83,8 @@ module _ (h : Heap) (t : Table) (roots : List (Option Addr)) (waiting : List Add
 
   first_promoted : (x : Addr) → promoted_in m0 x ≡ true → n < generation_at (object_at h) x
   first_promoted x e =
-      let at : promoted_in (first_marks h n) x ≡ true = subst (λ (m : MarksOf). promoted_in m x ≡ true) first e
+      let at : promoted_in (first_marks h n) x
+      ≡ true = subst (λ (m : MarksOf). promoted_in m x ≡ true) first e
       in
       ⊎_elim (λ above. ltb-true n (generation_at (object_at h) x) above)
       (λ in_none. absurd (true≢false (sym in_none ∙ contains-empty nat_cmp x.0)))
@@ -99,10 +99,12 @@ module _ (h : Heap) (t : Table) (roots : List (Option Addr)) (waiting : List Add
   no_pins : (x : Addr) → IsCondemned (object_at h) n x → pinned_in m2 x ≡ true → ⊥
   no_pins x young e =
       let start : pinned_in m0 x ≡ true = ap (λ p. p x) (sym a.pinned) ∙ ap (λ p. p x) (sym b.pinned) ∙ e in
-      let at : pinned_in (first_marks h n) x ≡ true = subst (λ (m : MarksOf). pinned_in m x ≡ true) first start
+      let at : pinned_in (first_marks h n) x
+      ≡ true = subst (λ (m : MarksOf). pinned_in m x ≡ true) first start
       in
       ⊎_elim
-      (λ above. let l : n < generation_at (object_at h) x = ltb-true n (generation_at (object_at h) x) above in
+      (λ above. let l : n < generation_at (object_at h) x = ltb-true n (generation_at (object_at h) x) above
+      in
       let low : generation_at (object_at h) x ≤ n = young.young in absurd (omega arith))
       (λ in_none. true≢false (sym in_none ∙ contains-empty nat_cmp x.0))
       (or_cases (nat_lt n (generation_at (object_at h) x)) (set.contains set.empty x.0) at)
@@ -139,7 +141,8 @@ module _ (h : Heap) (t : Table) (roots : List (Option Addr)) (waiting : List Add
       set = promoted_in m4;
       older = settled4.older;
       rescan =
-          subst (λ k. RescanSteps (visits_of t ages n kind.Dependent) (promoted_in m4) (promoted_in m5) k after)
+          subst (λ k. RescanSteps (visits_of t ages n kind.Dependent) (promoted_in m4) (promoted_in m5) k
+          after)
           held rescan;
     };
   }

@@ -1,17 +1,16 @@
 -- What the marking comes to, part by part.
-use Rattle.std.proofs.Common.{◌≡◌, ℕ, ◌<◌, Bool, true, false, Option, Some, sym, ap, ◌∙◌, subst, ⊎_elim, inl, inr, ◌⊎◌}
-use Rattle.std.specs.Prelude.{Contains, List, ◌++◌}
+use Rattle.std.proofs.Common.{◌≡◌, ℕ, ◌<◌, Bool, true, Some, ⊎_elim, inl, inr}
+use Rattle.std.specs.Prelude.{Contains, List}
 use Rattle.std.specs.Bool.{Decides}
-use Rattle.hd_model.specs.Leads.{Leads, IsClosed, Grows, IsClosure}
+use Rattle.hd_model.specs.Leads.{Leads, Grows, IsClosure}
 use Rattle.hd_model.specs.Scene.{Scene, Objects, Rows, generation_at, IsField, IsYoungField}
-use Rattle.hd_model.specs.Reach.{IsAttached, IsArrow, IsHeld, IsRoot, named, queued, held, older, IsReached}
-use Rattle.hd_model.specs.Marking.{IsSettled}
+use Rattle.hd_model.specs.Reach.{IsArrow, IsHeld, IsRoot, named, queued, held, older, IsReached}
 use Rattle.hd_model.proofs.Leading.{leads_on}
 use Rattle.hd_model.proofs.Marking.{decides_reached}
 use Rattle.hd_model.proofs.Collecting.{root_reached, reached_on}
 use Rattle.hd_final.specs.Revival.{IsOut, Revives}
 use Rattle.hd_gc.specs.Marking.{Revival}
-use Rattle.hd_gc.proofs.Growths.{leads_like, grown_within}
+use Rattle.hd_model.proofs.Within.{leads_like, grown_within}
 
 -- a field of a condemned object is an arrow
 pub young_arrow : {N : Type 0} (o : Objects N) (rows : Rows N) (n : ℕ) (x y : N) → IsYoungField o n x y

@@ -1,13 +1,14 @@
 -- What a collection leaves.
-use Rattle.std.specs.Prelude.{◌≡◌, ◌↔◌, ℕ, ◌≤◌, true, List, Option}
+use Rattle.std.specs.Prelude.{◌≡◌, ◌↔◌, ℕ, ◌<◌, ◌≤◌, true, List, Option}
 use Rattle.hd_model.specs.declared.data.Id.{Id}
 use Rattle.hd_model.specs.declared.data.Addr.{Addr}
 use Rattle.hd_model.specs.declared.data.Report.{Report}
-use Rattle.hd_model.specs.Scene.{Scene, IsReading}
+use Rattle.hd_model.specs.declared.limits.TheConstants.{OLDEST}
+use Rattle.hd_model.specs.Scene.{Scene, IsReading, generation_at}
 use Rattle.hd_model.specs.Reach.{IsPinned}
 use Rattle.hd_model.specs.Collect.{Collects}
 use Rattle.hd_model.specs.Ages.{grown}
-use Rattle.hd_model.specs.Heap.{Heap, has_object, id_at, is_set, used_of}
+use Rattle.hd_model.specs.Heap.{Heap, has_object, object_at, id_at, is_set, used_of}
 use Rattle.hd_model.specs.Compact.{IsCompact}
 use Rattle.hd_model.specs.Table.{Table, Queue, row_at}
 use Rattle.hd_model.specs.Visits.{IsSameTable}
@@ -17,8 +18,8 @@ use Rattle.hd_gc.specs.Steps.{CollectSteps}
 
 -- whatever reads the state before and after by identity sees a collection of n with the report; the state is
 -- ready for another one; an object that a handle pins keeps its address; cards are set just where they are
--- needed; the objects take no more cells than before; and after a collection of generation 2 the heap is
--- compact
+-- needed; the objects take no more cells than before; and after a collection of the oldest generation the
+-- heap is compact
 pub record Collected (h h2 : Heap) (t t2 : Table) (ages ages2 : List ℕ) (q q2 : Queue)
     (roots roots2 : List (Option Addr)) (n : ℕ) (report : Report) (before after : ℕ) : Type 0 where
   pub collects :
@@ -27,6 +28,8 @@ pub record Collected (h h2 : Heap) (t t2 : Table) (ages ages2 : List ℕ) (q q2 
   pub ready : IsReady h2 t2 ages2 q2 roots2
   pub pinned :
       (x : Addr) → IsPinned (row_at t) x → (has_object h2 x ≡ true) × (id_at h2 x ≡ id_at h x)
+  pub older :
+      (x : Addr) → n < generation_at (object_at h) x → (has_object h2 x ≡ true) × (id_at h2 x ≡ id_at h x)
   pub aged : ages2 ≡ grown n ages
   pub cards : (card : ℕ) → (is_set h2 card ≡ true) ↔ NeedsCard h2 card
   pub used : used_of h2 ≤ used_of h
@@ -34,4 +37,4 @@ pub record Collected (h h2 : Heap) (t t2 : Table) (ages ages2 : List ℕ) (q q2 
   pub table : IsSameTable t t2
   pub room : q2.room ≡ q.room
   pub steps : CollectSteps t ages n report.kept before after
-  pub compact : n ≡ 2 → IsCompact h2 (row_at t2)
+  pub compact : n ≡ OLDEST → IsCompact h2 (row_at t2)

@@ -6,7 +6,7 @@ use Rattle.hd_model.specs.declared.data.Kind.TheVariants as kind
 use Rattle.hd_model.specs.Leads.{Leads, IsClosed}
 use Rattle.hd_model.specs.Scene.{Objects, Rows, generation_at, IsCondemned}
 use Rattle.hd_model.specs.Reach.{IsArrow, IsReached, IsPinned}
-use Rattle.hd_model.specs.Heap.{Heap, Basis, object_at, id_at}
+use Rattle.hd_model.specs.Heap.{Heap, object_at, id_at}
 use Rattle.hd_model.specs.Table.{Table, row_at}
 use Rattle.hd_model.specs.Visits.{visits_of}
 use Rattle.hd_mark.specs.Marks.{MarksOf, promoted_in, pinned_in, IsSettledMarks}

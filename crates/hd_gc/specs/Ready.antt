@@ -2,6 +2,7 @@
 use Rattle.std.specs.Prelude.{◌≡◌, ℕ, ◌*◌, ◌≤◌, List, Option, length}
 use Rattle.std.specs.FinMap.{len}
 use Rattle.hd_model.specs.declared.data.Addr.{Addr}
+use Rattle.hd_model.specs.declared.limits.TheConstants.{CLUMPS}
 use Rattle.hd_model.specs.Scene.{Scene, IsWhole}
 use Rattle.hd_model.specs.Ages.{HasSoundAges, HasSoundCards}
 use Rattle.hd_model.specs.Heap.{Heap, object_at, is_carded, HasIdentities}
@@ -27,5 +28,5 @@ pub record IsReady (h : Heap) (t : Table) (ages : List ℕ) (q : Queue)
   pub ages_sound : HasSoundAges (object_at h) (row_at t) ages
   pub cards_sound : HasSoundCards (object_at h) (is_carded h)
   pub full : HasNoEmptyRegion h
-  pub clumps : length ages ≡ 4 * t.blocks
+  pub clumps : length ages ≡ CLUMPS * t.blocks
   pub room : len h.objects ≤ q.room

@@ -1,5 +1,5 @@
 -- What the moving leaves.
-use Rattle.std.specs.Prelude.{◌≡◌, ◌⊎◌, ℕ, ◌+◌, Bool, true, cond, List, Option, Some, option_map, map, drop}
+use Rattle.std.specs.Prelude.{◌≡◌, ℕ, ◌+◌, Bool, true, cond, List, Option, Some, option_map, map, drop}
 use Rattle.hd_model.specs.declared.data.Addr.{Addr}
 use Rattle.hd_model.specs.State.{Handle, secondary_of, rename_handle}
 use Rattle.hd_model.specs.Scene.{Rows}
@@ -8,7 +8,7 @@ use Rattle.hd_model.specs.Heap.{Heap}
 use Rattle.hd_model.specs.Table.{Table, Queue, row_at}
 use Rattle.hd_model.specs.Visits.{IsSameTable}
 use Rattle.hd_final.specs.Settling.{Unregisters}
-use Rattle.hd_plan.specs.Plan.{PlanOf, kept_in, place_in}
+use Rattle.hd_plan.specs.Plan.{PlanOf, place_in}
 use Rattle.hd_plan.specs.Commit.{Commits}
 use Rattle.hd_gc.specs.Steps.{moving_visits}
 

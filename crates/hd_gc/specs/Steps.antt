@@ -10,7 +10,8 @@ use Rattle.hd_model.specs.Visits.{visits_of}
 abbrev pub sifting_visits : Table → List ℕ → ℕ → ℕ
 sifting_visits t ages n =
     visits_of t ages n kind.Strong + visits_of t ages n kind.Pinned + visits_of t ages n kind.Short
-    + visits_of t ages n kind.Long + 3 * visits_of t ages n kind.Variable + 2 * visits_of t ages n kind.Counted
+    + visits_of t ages n kind.Long + 3 * visits_of t ages n kind.Variable
+    + 2 * visits_of t ages n kind.Counted
     + visits_of t ages n kind.Dependent
 
 abbrev pub moving_visits : Table → List ℕ → ℕ → ℕ

@@ -14,6 +14,7 @@ ghost use Rattle.hd_gc.specs.Growing.{SameMarks};
 use hd_ages::AgeMap;
 use hd_mark::Marks;
 use hd_model::Steps;
+use hd_model::limits::CLUMPS;
 use hd_scan::{Task, pass};
 use hd_seg::Seg;
 use std::sync::ledger::Ledger;
@@ -30,7 +31,7 @@ pub(crate) fn clear_short<L: Ledger>(
     requires generation { marks.old.basis.condemned ≡ n }
     requires names { NamesObjects (objects_of marks.old.basis) (row_at seg.old) }
     requires ages { HasSoundAges (objects_of marks.old.basis) (row_at seg.old) ages.now }
-    requires clumps { length ages.now ≡ 4 * seg.old.blocks }
+    requires clumps { length ages.now ≡ CLUMPS * seg.old.blocks }
     ensures marks { SameMarks marks.old marks.new }
     ensures drops { Drops short (promoted_in marks.old) seg.old seg.new result }
     ensures steps { steps.new ≡ steps.old + visits_of seg.old ages.now n kind.Short
@@ -53,7 +54,7 @@ pub(crate) fn clear_long<L: Ledger>(
     requires generation { marks.old.basis.condemned ≡ n }
     requires names { NamesObjects (objects_of marks.old.basis) (row_at seg.old) }
     requires ages { HasSoundAges (objects_of marks.old.basis) (row_at seg.old) ages.now }
-    requires clumps { length ages.now ≡ 4 * seg.old.blocks }
+    requires clumps { length ages.now ≡ CLUMPS * seg.old.blocks }
     ensures marks { SameMarks marks.old marks.new }
     ensures drops { Drops long (promoted_in marks.old) seg.old seg.new result }
     ensures steps { steps.new ≡ steps.old + visits_of seg.old ages.now n kind.Long

@@ -10,6 +10,7 @@ use crate::sift::{Found, sift};
 use hd_ages::AgeMap;
 use hd_final::Final;
 use hd_heap::Heap;
+use hd_model::limits::OLDEST;
 use hd_model::{Addr, Memory, Report, Steps};
 use hd_plan::Plan;
 use hd_seg::Seg;
@@ -21,8 +22,8 @@ use std::sync::ledger::Ledger;
 ///
 /// What is reached stays, and what it leads to; a registered object that is not reached is put into
 /// the queue and stays too, with what it leads to; what else is condemned goes. What stays moves
-/// into the next generation, up to 2, and to another place unless a handle pins it. A step is one
-/// clump of handles that a pass visits.
+/// into the next generation, up to the oldest, and to another place unless a handle pins it. A step
+/// is one clump of handles that a pass visits.
 ///
 /// Where there is too little memory, nothing is done, but spare regions that were taken stay.
 pub fn collect<L: Ledger>(
@@ -35,7 +36,7 @@ pub fn collect<L: Ledger>(
     n: u8,
     steps: &mut Steps<L>,
 ) -> Result<Report, Memory>
-    requires generation { n ≤ 2 }
+    requires generation { n ≤ OLDEST }
     requires ready { IsReady heap.old seg.old ages.old fin.old roots.old }
     ensures { MatchResult result
         (λ report. Collected heap.old heap.new seg.old seg.new ages.old ages.new fin.old fin.new

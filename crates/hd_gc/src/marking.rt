@@ -15,6 +15,7 @@ use hd_dep::rescan;
 use hd_final::Final;
 use hd_heap::Heap;
 use hd_mark::Marks;
+use hd_model::limits::CLUMPS;
 use hd_model::{Addr, Marker, Steps};
 use hd_scan::{Task, pass};
 use hd_seg::Seg;
@@ -58,7 +59,7 @@ fn promote_held<L: Ledger>(
     requires generation { marks.old.basis.condemned ≡ n }
     requires names { NamesObjects (objects_of marks.old.basis) (row_at seg.old) }
     requires ages { HasSoundAges (objects_of marks.old.basis) (row_at seg.old) ages.now }
-    requires clumps { length ages.now ≡ 4 * seg.old.blocks }
+    requires clumps { length ages.now ≡ CLUMPS * seg.old.blocks }
     ensures table { seg.new ≡ seg.old }
     ensures holds { Holds (row_at seg.old) marks.old marks.new }
     ensures steps { steps.new ≡ steps.old + held_visits seg.old ages.now n }
@@ -116,7 +117,7 @@ pub(crate) fn trace<L: Ledger>(
     requires whole { IsWhole (scene_at heap.now seg.old roots.now fin.now.waiting) }
     requires ages { HasSoundAges (object_at heap.now) (row_at seg.old) ages.now }
     requires cards { HasSoundCards (object_at heap.now) (is_carded heap.now) }
-    requires clumps { length ages.now ≡ 4 * seg.old.blocks }
+    requires clumps { length ages.now ≡ CLUMPS * seg.old.blocks }
     ensures table { seg.new ≡ seg.old }
     ensures traced { Traced heap.now seg.old ages.now fin.now.waiting roots.now n marks.new
         steps.old steps.new }

@@ -11,6 +11,7 @@ ghost use Rattle.hd_gc.specs.Steps.{moving_visits};
 use hd_ages::AgeMap;
 use hd_final::Final;
 use hd_heap::Heap;
+use hd_model::limits::CLUMPS;
 use hd_model::{Addr, Forward, Kind, Steps};
 use hd_plan::{Plan, commit};
 use hd_scan::relocate;
@@ -21,7 +22,7 @@ use std::sync::ledger::Ledger;
 fn relocate_rows<L: Ledger>(seg: &mut Seg, ages: &AgeMap, plan: &Plan, n: u8, steps: &mut Steps<L>)
     requires laid { IsLaid plan.now }
     requires names { NamesKept (kept_in plan.now) (row_at seg.old) }
-    requires clumps { length ages.now ≡ 4 * seg.old.blocks }
+    requires clumps { length ages.now ≡ CLUMPS * seg.old.blocks }
     ensures rows { IsRenamed ages.now n (place_in plan.now) (row_at seg.old) (row_at seg.new) }
     ensures table { IsSameTable seg.old seg.new }
     ensures steps { steps.new ≡ steps.old + moving_visits seg.old ages.now n }
@@ -73,7 +74,7 @@ pub(crate) fn shift<L: Ledger>(
     requires laid { IsLaid plan.old }
     requires heap { plan.old.basis.heap ≡ heap.old }
     requires cards { HasSoundCards (object_at heap.old) (is_carded heap.old) }
-    requires clumps { length ages.old ≡ 4 * seg.old.blocks }
+    requires clumps { length ages.old ≡ CLUMPS * seg.old.blocks }
     requires rows { NamesKept (kept_in plan.old) (row_at seg.old) }
     requires waiting { (x : Addr) → Contains fin.old.waiting x → kept_in plan.old x ≡ true }
     requires objects { (x : Addr) → Contains fin.old.waiting x → has_object heap.old x ≡ true }

@@ -22,6 +22,7 @@ use hd_dep::{clear, rescan};
 use hd_final::Final;
 use hd_heap::Heap;
 use hd_mark::Marks;
+use hd_model::limits::CLUMPS;
 use hd_model::{Addr, Memory, Steps};
 use hd_plan::Plan;
 use hd_seg::Seg;
@@ -38,9 +39,8 @@ pub(crate) struct Found {
     pub(crate) revived: u32,
 }
 
-// Puts the registered objects that are not promoted behind those that wait for finalisation, and
+// Puts the registered objects that are not promoted after those that wait for finalisation, and
 // promotes them with all that they lead to. Answers how many they are.
-
 fn revive<L: Ledger>(
     heap: &Heap,
     seg: &Seg,
@@ -55,7 +55,7 @@ fn revive<L: Ledger>(
     requires names { NamesObjects (object_at heap.now) (row_at seg.now) }
     requires ages { HasSoundAges (object_at heap.now) (row_at seg.now) ages.now }
     requires cards { HasSoundCards (object_at heap.now) (is_carded heap.now) }
-    requires clumps { length ages.now ≡ 4 * seg.now.blocks }
+    requires clumps { length ages.now ≡ CLUMPS * seg.now.blocks }
     requires fields { IsClosed (IsField (object_at heap.now)) (promoted_in marks.old) }
     requires waiting { (x : Addr) → Contains fin.old.waiting x → promoted_in marks.old x ≡ true }
     requires identities { HasIdentities heap.now }
@@ -70,9 +70,8 @@ fn revive<L: Ledger>(
     revived
 }
 
-/// Marks what is kept and clears the handles of all else, puts the revived into the queue, and gives
-/// what is kept its places. Without memory nothing is done.
-
+/// Marks what is kept and clears the handles of all else, puts the revived into the queue, and
+/// gives what is kept its places. Without memory nothing is done.
 pub(crate) fn sift<L: Ledger>(
     alloc: Global,
     heap: &Heap,

@@ -135,7 +135,7 @@ pub next_within : (h : Heap) (at next : Addr) → IsNext (has_object h) (Some at
     → next.0 / 32 ≡ at.0 / 32 → IsNext (starts_in h (card_of at)) (Some at) next
 next_within h at next is here = record {
   member = starts_from h (card_of at) next is.member (card_is next ∙ here ∙ sym (card_is at));
-  behind = is.behind;
+  beyond = is.beyond;
   least = λ b starts after. is.least b (starts_parts h (card_of at) b starts).0 after;
 }
 
@@ -145,7 +145,7 @@ pub next_beyond : (h : Heap) (at next : Addr) → IsNext (has_object h) (Some at
 next_beyond h at next is other a starts = false_from_ne_true (nat_lt at.0 a.0) (λ after.
     let parts = starts_parts h (card_of at) a starts in
     let low = is.least a parts.0 after in
-    let high = ltb-true at.0 next.0 is.behind in
+    let high = ltb-true at.0 next.0 is.beyond in
     let same : a.0 / 32 ≡ at.0 / 32 = sym (card_is a) ∙ parts.1 ∙ card_is at in
     other (omega arith))
 
@@ -207,7 +207,7 @@ module _ (h : Heap) (card : ℕ) (place : Option Addr) (at : Addr) (is : place �
       by : (o : Option Addr) → IsWalk (starts_in h (card_of at)) (Some at) o
           → left_from o < left_from (Some at)
       by None w = (let low = (address_low h sound at unneeding_object).1 in omega arith)
-      by (Some x) w = (let up = ltb-true at.0 x.0 w.behind in
+      by (Some x) w = (let up = ltb-true at.0 x.0 w.beyond in
           let low = (address_low h sound at unneeding_object).1 in omega arith)
 
 pub unneeding_ends : (h : Heap) (card : ℕ) → AreUnneeding h card None → NeedsCard h card → ⊥
@@ -248,9 +248,9 @@ module _ (old h : Heap) (after : Option Addr) (sound : IsSound h) (grown : (a : 
   pub exact_fields : HasClosedFields (object_at old) → HasClosedFields (object_at h)
   exact_fields closed = subst (λ (k : Heap). HasClosedFields (object_at k)) (sym same) closed
 
-  -- an object in a set card behind the end is walked over later
-  behind : (b : Addr) → r.end ≤ card_of b → is_after after b ≡ true
-  behind b high = by after r.is
+  -- an object in a set card after the end is walked over later
+  beyond : (b : Addr) → r.end ≤ card_of b → is_after after b ≡ true
+  beyond b high = by after r.is
     where
       by : (o : Option Addr) → next_to o ≡ r.end * 32 → is_after o b ≡ true
       by None e = refl
@@ -268,7 +268,7 @@ module _ (old h : Heap) (after : Option Addr) (sound : IsSound h) (grown : (a : 
     parts = let p = and_parts _ _ found.member in ((and_parts _ _ p.0).0, p.1)
 
     above : r.end ≤ card_of at
-    above = by after r.is found.behind
+    above = by after r.is found.beyond
       where
         by : (o : Option Addr) → next_to o ≡ r.end * 32 → is_after o at ≡ true → r.end ≤ card_of at
         by None e b = omega arith
@@ -278,7 +278,7 @@ module _ (old h : Heap) (after : Option Addr) (sound : IsSound h) (grown : (a : 
     exact_first b starts =
         let p = starts_parts h (card_of at) b starts in
         let high : r.end ≤ card_of b = subst (λ k. r.end ≤ k) (sym p.1) above in
-        found.least b (walked b p.0 (ap (is_set h) p.1 ∙ parts.1)) (behind b high)
+        found.least b (walked b p.0 (ap (is_set h) p.1 ∙ parts.1)) (beyond b high)
 
     pub exact_less : (last : Addr) → last.0 + 1 ≡ (card_of at + 1) * 32
         → 2 ^ 32 - next_to (Some last) < 2 ^ 32 - next_to after
@@ -322,7 +322,7 @@ module _ (old h : Heap) (after : Option Addr) (sound : IsSound h) (grown : (a : 
               let in_card = s.in_card in
               let up : r.end ≤ card_of s.at = subst (λ k. r.end ≤ k) (sym s.in_card) high in
               let least = found.least s.at (walked s.at s.object (ap (is_set h) s.in_card ∙ set))
-              (behind s.at up) in
+              (beyond s.at up) in
               let order = card_order at s.at least in
               absurd (omega arith)
         ]
@@ -340,7 +340,7 @@ module _ (old h : Heap) (after : Option Addr) (sound : IsSound h) (grown : (a : 
           let s = sound.cards c set in
           let up : r.end ≤ card_of s.at = subst (λ k. r.end ≤ k) (sym s.in_card) high in
           absurd (both_ways _ (none s.at (walked s.at s.object (ap (is_set h) s.in_card ∙ set)))
-          (behind s.at up))
+          (beyond s.at up))
     ]),
     λ n. r.cards.kept c (needs_like old h c same n),
   )

@@ -287,7 +287,7 @@ module _ (place : Addr
     was_carded = sym (carded_same at) ∙ found.member
 
     fresh : IsCardedTo old n after at → ⊥
-    fresh t = both_ways _ t.1 found.behind
+    fresh t = both_ways _ t.1 found.beyond
 
     pub carded_there : has_object h at ≡ true
     carded_there = (and_parts _ _ (and_parts _ _ found.member).0).0
@@ -303,7 +303,7 @@ module _ (place : Addr
         rewritten_more (IsCardedTo old n after) place old h r (IsCardedTo old n (Some at)) new at step
         (sym (carded_has at) ∙ carded_there) fresh
         (was_carded, le-ltb at.0 at.0 (omega arith))
-        (λ a t. (t.0, le-ltb at.0 a.0 (before a after t.1 found.behind)))
+        (λ a t. (t.0, le-ltb at.0 a.0 (before a after t.1 found.beyond)))
         (λ a t. elim (cases_eq a.0 at.0) [
           | inl same ↦ inr same
           | inr apart ↦ inl (
@@ -330,7 +330,7 @@ module _ (place : Addr
 
     -- the places left are fewer
     pub carded_less : IsSound h → 2 ^ 32 - next_to (Some at) < 2 ^ 32 - next_to after
-    carded_less sound = by after found.behind
+    carded_less sound = by after found.beyond
       where
         by : (o : Option Addr) → is_after o at ≡ true → 2 ^ 32 - next_to (Some at) < 2 ^ 32 - next_to o
         by None b = (let low = (address_low h sound at carded_there).1 in omega arith)

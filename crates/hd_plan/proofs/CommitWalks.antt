@@ -18,8 +18,8 @@ pub walked_on : (p : Addr → Bool) (after : Option Addr) (at x : Addr) → IsNe
     → (x ≡ at) ⊎ (is_after after x ≡ false)
 walked_on p after at x next is up = elim (cases_eq x.0 at.0) [
   | inl same ↦ inl (addr_is x at same)
-  | inr apart ↦ inr (false_from_ne_true (is_after after x) (λ behind.
-      let low = next.least x is behind in
+  | inr apart ↦ inr (false_from_ne_true (is_after after x) (λ beyond.
+      let low = next.least x is beyond in
       let high = ltb-false at.0 x.0 up in
       apart (omega arith)))
 ]

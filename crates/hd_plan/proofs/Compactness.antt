@@ -1,4 +1,5 @@
--- A laid heap of generation 2 is compact: each fresh region but the last two has 193 of its cells taken, and a condemned one is held only
+-- A laid heap of generation 2 is compact: each fresh region but the last two has 193 of its cells taken, and
+-- a condemned one is held only
 -- where an object stays in it.
 use Rattle.std.proofs.Common.{◌≡◌, ◌≢◌, ℕ, zero, suc, ◌+◌, ◌*◌, ◌/◌, ◌<◌, ◌≤◌, ◌⊎◌, inl, inr, ⊎_elim, true, cond, List, [], ◌∷◌, length, slice_index, Some, is_some, refl, sym, ap, ◌∙◌, subst, arith}
 use Rattle.std.specs.Prelude.{nat_eq, min, unwrap_or, sum_by, Contains}
@@ -40,7 +41,8 @@ read_filled : (rs : fin.FinMap nat_cmp Region) (r cells : ℕ) → region_in (fi
 read_filled rs r cells =
     ap (λ o. unwrap_or o (record { generation = 0; fill = 0 })) (get_inserted rs r _)
 
-read_beside : (rs : fin.FinMap nat_cmp Region) (r q : ℕ) (x : Region) → q ≢ r → region_in (fin.insert rs r x) q ≡ region_in rs q
+read_beside : (rs : fin.FinMap nat_cmp Region) (r q : ℕ) (x : Region) → q ≢ r
+    → region_in (fin.insert rs r x) q ≡ region_in rs q
 read_beside rs r q x ne = ap (λ o. unwrap_or o (record { generation = 0; fill = 0 })) (get_beside rs r x q ne)
 
 read_inserted : (rs : fin.FinMap nat_cmp Region) (r : ℕ) (x : Region) → region_in (fin.insert rs r x) r ≡ x
@@ -58,24 +60,28 @@ same_fill p q g same stays = elim (cases_eq (p.current g) 0) [
   | inr some ↦
       let a = fill_some p g some in
       let b = fill_some q g (λ e. some (sym same ∙ e)) in (
-        b.0 ∙ ap (λ r. (region_in q.regions r).fill) same ∙ ap (λ (x : Region). x.fill) (stays some) ∙ sym a.0,
+        b.0 ∙ ap (λ r. (region_in q.regions r).fill) same ∙ ap (λ (x : Region). x.fill) (stays some)
+            ∙ sym a.0,
         b.1 ∙ sym a.1,
       )
 ]
 
 -- a region that another generation puts into is another one
-fresh_apart : (h : Heap) (q : Room) → IsRoom h q → (g other r : ℕ) → other ≢ g → (region_in q.regions r).generation ≡ g
+fresh_apart : (h : Heap) (q : Room) → IsRoom h q → (g other r : ℕ) → other ≢ g
+    → (region_in q.regions r).generation ≡ g
     → q.current other ≢ 0 → q.current other ≢ r
 fresh_apart h q room g other r ne generation some same =
     ⊎_elim some (λ (fresh : IsFresh h q other (q.current other)).
-    ne (sym fresh.generation ∙ ap (λ k. (region_in q.regions k).generation) same ∙ generation)) (room.current other)
+    ne (sym fresh.generation ∙ ap (λ k. (region_in q.regions k).generation) same ∙ generation))
+    (room.current other)
 
 -- one of the two generations, and the other
 abbrev Both : (g : ℕ) → Type 0
 Both g = (g ≡ 1) ⊎ (g ≡ 2)
 
 -- the two generations' parts, that of one and that of the other
-parts : (f : ℕ → ℕ) (g other : ℕ) → ((g ≡ 1) × (other ≡ 2)) ⊎ ((g ≡ 2) × (other ≡ 1)) → f 1 + f 2 ≡ f g + f other
+parts : (f : ℕ → ℕ) (g other : ℕ) → ((g ≡ 1) × (other ≡ 2)) ⊎ ((g ≡ 2) × (other ≡ 1))
+    → f 1 + f 2 ≡ f g + f other
 parts f g other (inl e) = λ i. f (sym e.0 i) + f (sym e.1 i)
 parts f g other (inr e) =
     let same : f g + f other ≡ f 2 + f 1 = λ i. f (e.0 i) + f (e.1 i) in omega arith
@@ -126,8 +132,11 @@ module _ (h : Heap) (sound : IsSound h) where
 
       own_opened : (fill_in now g ≡ cells) × (begun now g ≡ 1)
       own_opened =
-          let is = fill_some now g (λ e. number (sym current_own ∙ e)) in
-          (is.0 ∙ ap (λ r. (region_in now.regions r).fill) current_own ∙ ap (λ (x : Region). x.fill) region_now, is.1)
+          let is = fill_some now g (λ e. number (sym current_own ∙ e)) in (
+            is.0 ∙ ap (λ r. (region_in now.regions r).fill) current_own
+                ∙ ap (λ (x : Region). x.fill) region_now,
+            is.1,
+          )
 
       other_opened : (fill_in now other ≡ fill_in q other) × (begun now other ≡ begun q other)
       other_opened =
@@ -135,7 +144,8 @@ module _ (h : Heap) (sound : IsSound h) where
           (λ some.
           let ne : q.current other ≢ region_of to =
           λ e. fresh_apart h now after g other (region_of to) apart_two
-          (ap (λ (x : Region). x.generation) region_now) (λ z. some (sym current_other ∙ z)) (current_other ∙ e) in
+          (ap (λ (x : Region). x.generation) region_now) (λ z. some (sym current_other ∙ z))
+          (current_other ∙ e) in
           read_beside first_regions (region_of to) (q.current other) _ ne
           ∙ read_beside q.regions (region_of to) (q.current other) _ ne)
 
@@ -154,7 +164,19 @@ module _ (h : Heap) (sound : IsSound h) where
           let fills_now = parts (fill_in now) g other two in
           let begins = parts (begun q) g other two in
           let begins_now = parts (begun now) g other two in
-          omega (arith, slack, fills, fills_now, begins, begins_now, own_opened.0, own_opened.1, other_opened.0, other_opened.1, full)
+          omega (
+            arith,
+            slack,
+            fills,
+            fills_now,
+            begins,
+            begins_now,
+            own_opened.0,
+            own_opened.1,
+            other_opened.0,
+            other_opened.1,
+            full,
+          )
 
     -- an object follows
     module _ (followed : Followed q to g cells) where
@@ -183,7 +205,8 @@ module _ (h : Heap) (sound : IsSound h) where
           same_fill q then other refl
           (λ some.
           let ne : q.current other ≢ region_of to =
-          λ e. fresh_apart h q before g other (q.current g) apart_two own_fresh.generation some (e ∙ current_is) in
+          λ e. fresh_apart h q before g other (q.current g) apart_two own_fresh.generation some
+          (e ∙ current_is) in
           read_beside q.regions (region_of to) (q.current other) _ ne)
 
       slack_followed : (o p : ℕ) → IsSlack q o p → IsSlack then o (p + cells)
@@ -192,7 +215,18 @@ module _ (h : Heap) (sound : IsSound h) where
           let fills_now = parts (fill_in then) g other two in
           let begins = parts (begun q) g other two in
           let begins_now = parts (begun then) g other two in
-          omega (arith, slack, fills, fills_now, begins, begins_now, own_followed.0, own_followed.1, other_followed.0, other_followed.1)
+          omega (
+            arith,
+            slack,
+            fills,
+            fills_now,
+            begins,
+            begins_now,
+            own_followed.0,
+            own_followed.1,
+            other_followed.0,
+            other_followed.1,
+          )
 
   -- one move more
   slack_way : (w : Way) (q : Room) (from to : Addr) (g other cells : ℕ)
@@ -214,23 +248,27 @@ module _ (h : Heap) (sound : IsSound h) where
       → (has_region q.regions r ≡ true) ⊎ ((is_opening w ≡ true) × (region_of to ≡ r))
   opened_way Gone q from to g other cells two before some few fits r held = inl held
   opened_way Stays q from to g other cells two before some few fits r held = inl held
-  opened_way Opens q from to g other cells two before some few fits r held = elim (cases_eq r (region_of to)) [
-    | inl same ↦ inr (refl, sym same)
-    | inr ne ↦
-        let first = fin.insert q.regions (region_of to) (record { generation = g; fill = 0 }) in
-        inl (ap is_some (sym (get_beside first (region_of to) _ r ne ∙ get_beside q.regions (region_of to) _ r ne)) ∙ held)
-  ]
-  opened_way Follows q from to g other cells two before some few fits r held = elim (cases_eq r (region_of to)) [
-    | inl same ↦
-        let at = current_is q to g other cells two before some few fits in
-        let fresh = own_fresh q to g other cells two before some few fits in
-        inl (ap (has_region q.regions) (same ∙ at) ∙ fresh.held)
-    | inr ne ↦ inl (ap is_some (sym (get_beside q.regions (region_of to) _ r ne)) ∙ held)
-  ]
+  opened_way Opens q from to g other cells two before some few fits r held =
+      elim (cases_eq r (region_of to)) [
+        | inl same ↦ inr (refl, sym same)
+        | inr ne ↦
+            let first = fin.insert q.regions (region_of to) (record { generation = g; fill = 0 }) in
+            inl (ap is_some (sym
+            (get_beside first (region_of to) _ r ne ∙ get_beside q.regions (region_of to) _ r ne)) ∙ held)
+      ]
+  opened_way Follows q from to g other cells two before some few fits r held =
+      elim (cases_eq r (region_of to)) [
+        | inl same ↦
+            let at = current_is q to g other cells two before some few fits in
+            let fresh = own_fresh q to g other cells two before some few fits in
+            inl (ap (has_region q.regions) (same ∙ at) ∙ fresh.held)
+        | inr ne ↦ inl (ap is_some (sym (get_beside q.regions (region_of to) _ r ne)) ∙ held)
+      ]
 
   module _ (n : ℕ) (ms : List Move) (moves : AreMoves h n ms)
       (rooms : (k : ℕ) → k ≤ length ms → IsRoom h (room_at h ms k)) where
-    -- what is condemned is an object of generation n or below, of at most 64 cells, and goes to generation 1 or 2
+    -- what is condemned is an object of generation n or below, of at most 64 cells, and goes to generation 1
+    -- or 2
     there : (k : ℕ) → k < length ms → has_object h (move_at ms k).from ≡ true
     there k within = (and_parts _ _ (moves.condemned k within)).0
 
@@ -265,7 +303,8 @@ module _ (h : Heap) (sound : IsSound h) where
         let m = move_at ms k in
         let two = two_of k inside in
         slack_way m.way (room_at h ms k) m.from m.to m.generation two.0 (cells_of (placed_at h m.from)) two.1
-        (rooms k (omega (arith, within))) (omega arith) (small k inside) (moves.fits k inside) (rooms (suc k) within)
+        (rooms k (omega (arith, within))) (omega arith) (small k inside) (moves.fits k inside)
+        (rooms (suc k) within)
         (opens_to ms k) (cells_to h ms k) (slack k (omega (arith, within)))
 
     -- a region of the room was held before, or was opened
@@ -279,13 +318,15 @@ module _ (h : Heap) (sound : IsSound h) where
         let two = two_of k inside in
         ⊎_elim (λ was. opened_since k r (omega (arith, within)) was)
         (λ opens. inr (record { at = k; within = inside; opens = opens.0; region = opens.1 }))
-        (opened_way m.way (room_at h ms k) m.from m.to m.generation two.0 (cells_of (placed_at h m.from)) two.1
+        (opened_way m.way (room_at h ms k) m.from m.to m.generation two.0 (cells_of (placed_at h m.from))
+        two.1
         (rooms k (omega (arith, within))) (omega arith) (small k inside) (moves.fits k inside) r held)
 
   -- what moves stands in a map, each object at a place of its own: it takes at most the map's cells
   pub cells_within : (ms : List Move) (k : ℕ) (m : fin.FinMap nat_cmp Placed)
       → ((j : ℕ) → j < k → is_moving (move_at ms j).way ≡ true
-      → (o : Placed) × ((fin.get m (move_at ms j).to.0 ≡ Some o) × (cells_of o ≡ cells_of (placed_at h (move_at ms j).from))))
+      → (o : Placed) × ((fin.get m (move_at ms j).to.0 ≡ Some o)
+      × (cells_of o ≡ cells_of (placed_at h (move_at ms j).from))))
       → ((i j : ℕ) → i < j → j < k → is_moving (move_at ms i).way ≡ true → is_moving (move_at ms j).way ≡ true
       → (move_at ms i).to.0 ≢ (move_at ms j).to.0)
       → cells_to h ms k ≤ sum_by cells_of (fin.values m)
@@ -307,18 +348,21 @@ module _ (h : Heap) (sound : IsSound h) where
         let more = ap (λ b. cond b (cells_of (placed_at h (move_at ms k).from)) 0) moves in
         omega (arith, rest, taken, share_is, more)
     | inr stays ↦
-        let rest = cells_within ms k m (λ j low. stand j (omega (arith, low))) (λ i j low high. apart i j low (omega (arith, high))) in
+        let rest = cells_within ms k m (λ j low. stand j (omega (arith, low)))
+        (λ i j low high. apart i j low (omega (arith, high))) in
         let none = ap (λ b. cond b (cells_of (placed_at h (move_at ms k).from)) 0) stays in
         omega (arith, rest, none)
   ]
 
 -- the regions that the moves name are as many as stay and open
-opens_first : (m : Move) (ms : List Move) (k : ℕ) → opens_to (m ∷ ms) (suc k) ≡ cond (is_opening m.way) 1 0 + opens_to ms k
+opens_first : (m : Move) (ms : List Move) (k : ℕ) → opens_to (m ∷ ms) (suc k) ≡ cond (is_opening m.way) 1 0
+    + opens_to ms k
 unfolding opens_to
 opens_first m ms zero = omega arith
 opens_first m ms (suc k) = let before = opens_first m ms k in omega (arith, before)
 
-names_one : (m : Move) (w : Way) (rs : List ℕ) → length (region_by w m rs) ≡ cond (is_staying w) 1 0 + cond (is_opening w) 1 0 + length rs
+names_one : (m : Move) (w : Way) (rs : List ℕ) → length (region_by w m rs) ≡ cond (is_staying w) 1 0
+    + cond (is_opening w) 1 0 + length rs
 names_one m Gone rs = omega arith
 names_one m Stays rs = omega arith
 names_one m Opens rs = omega arith
@@ -339,13 +383,15 @@ named_later m Stays rs r h = later_in _ rs r h
 named_later m Opens rs r h = later_in _ rs r h
 named_later m Follows rs r h = h
 
-stay_first : (m : Move) (w : Way) (rs : List ℕ) → is_staying w ≡ true → Contains (region_by w m rs) (region_of m.from)
+stay_first : (m : Move) (w : Way) (rs : List ℕ) → is_staying w ≡ true
+    → Contains (region_by w m rs) (region_of m.from)
 stay_first m Stays rs e = first_in _ rs
 stay_first m Gone rs e = absurd (cc e)
 stay_first m Opens rs e = absurd (cc e)
 stay_first m Follows rs e = absurd (cc e)
 
-open_first : (m : Move) (w : Way) (rs : List ℕ) → is_opening w ≡ true → Contains (region_by w m rs) (region_of m.to)
+open_first : (m : Move) (w : Way) (rs : List ℕ) → is_opening w ≡ true
+    → Contains (region_by w m rs) (region_of m.to)
 open_first m Opens rs e = first_in _ rs
 open_first m Gone rs e = absurd (cc e)
 open_first m Stays rs e = absurd (cc e)
@@ -367,12 +413,15 @@ names_open (m ∷ ms) zero within e = open_first m m.way (regions_of ms) e
 names_open (m ∷ ms) (suc k) within e =
     named_later m m.way (regions_of ms) _ (names_open ms k (omega (arith, within)) e)
 
--- a heap whose regions each have an object that stays or were opened, and that has at least what was put: compact
+-- a heap whose regions each have an object that stays or were opened, and that has at least what was put:
+-- compact
 pub compact : (h : Heap) → IsSound h → (n : ℕ) (ms : List Move) → AreMoves h n ms
     → ((k : ℕ) → k ≤ length ms → IsRoom h (room_at h ms k)) → (new : Heap)
     → ((j : ℕ) → j < length ms → is_moving (move_at ms j).way ≡ true
-    → (o : Placed) × ((fin.get new.objects (move_at ms j).to.0 ≡ Some o) × (cells_of o ≡ cells_of (placed_at h (move_at ms j).from))))
-    → ((i j : ℕ) → i < j → j < length ms → is_moving (move_at ms i).way ≡ true → is_moving (move_at ms j).way ≡ true
+    → (o : Placed) × ((fin.get new.objects (move_at ms j).to.0 ≡ Some o)
+    × (cells_of o ≡ cells_of (placed_at h (move_at ms j).from))))
+    → ((i j : ℕ) → i < j → j < length ms → is_moving (move_at ms i).way ≡ true → is_moving (move_at ms j).way
+    ≡ true
     → (move_at ms i).to.0 ≢ (move_at ms j).to.0)
     → ((r : ℕ) → is_held new r ≡ true → HasStay ms r ⊎ IsOpenedBy ms r)
     → fin.len new.regions ≤ used_of new / 193 + 3 + stays_among ms
@@ -388,7 +437,8 @@ compact h sound n ms moves rooms new stand apart held =
     let many = names_many ms in
     let number = all.number in
     let bound = slack h sound n ms moves rooms (length ms) (omega arith) in
-    let put : cells_to h ms (length ms) ≤ used_of new = cells_within h sound ms (length ms) new.objects stand apart in
+    let put : cells_to h ms (length ms)
+    ≤ used_of new = cells_within h sound ms (length ms) new.objects stand apart in
     let one = begun_most (room_at h ms (length ms)) 1 in
     let two = begun_most (room_at h ms (length ms)) 2 in
     omega (arith, few, many, number, bound, put, one, two)

@@ -19,6 +19,7 @@ pub mod Listing
 pub mod Placing
 pub mod Compactness
 pub mod Surveying
+pub mod Sparing
 pub mod Laid
 pub mod Filled
 pub mod CommitWalks

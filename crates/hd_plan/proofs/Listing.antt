@@ -70,7 +70,7 @@ module _ (ms : List Move) (rising : IsRising ms) where
       } in
       counts_le (λ r. Contains regions r) (HasMove ms) (length cs) c (listed_has cs i listed le) own counts
 
-  -- the next move is in the last listed region, or behind all of them
+  -- the next move is in the last listed region, or after all of them
   low_region : (cs : List Condemned) (i : ℕ) → AreListedTo ms cs i → i < length ms → (k : ℕ) → k < length cs
       → (condemned_at cs k).region ≤ region_of (move_at ms i).from
   low_region cs i listed within k low =

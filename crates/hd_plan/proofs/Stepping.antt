@@ -68,7 +68,7 @@ pushed P ms m each last k low = elim (cases_eq k (length ms)) [
       subst (λ (x : Move). P k x) (sym (push_before ms m k inside)) (each k inside)
 ]
 
--- an address behind a place, and one that was reached
+-- an address after a place, and one that was reached
 pub after_past : (after : Option Addr) (at : Addr) → is_after after at ≡ true → (a : Addr)
     → is_after after a ≡ false → a.0 < at.0
 after_past None at e a reached = absurd (true≢false reached)
@@ -109,13 +109,13 @@ module _ (h : Heap) (n : ℕ) where
         (ap (is_condemned h n) from ∙ next.member);
     reached = pushed (λ k x. is_after (Some at) x.from ≡ false) ms m
         (λ k low. reached_upto at (move_at ms k).from
-        (let l = after_past after at next.behind (move_at ms k).from (to.reached k low) in omega arith))
+        (let l = after_past after at next.beyond (move_at ms k).from (to.reached k low) in omega arith))
         (reached_upto at m.from (let e = ap {B = ℕ} (λ x. x.0) from in omega arith));
     rising = λ j k less low. pushed (λ x y. j < x → (move_at (ms ++ m ∷ []) j).from.0 < y.from.0) ms m
         (λ k low less. subst (λ (y : Move). y.from.0 < (move_at ms k).from.0)
         (sym (push_before ms m j (omega arith))) (to.rising j k less low))
         (λ less. subst (λ (y : Move). y.from.0 < m.from.0) (sym (push_before ms m j less))
-        (let l = after_past after at next.behind (move_at ms j).from (to.reached j less) in
+        (let l = after_past after at next.beyond (move_at ms j).from (to.reached j less) in
         let e = ap {B = ℕ} (λ x. x.0) from in omega arith))
         k low less;
     all = λ a is reached. elim (cases_Bool (is_after after a)) [

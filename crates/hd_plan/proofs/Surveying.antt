@@ -83,13 +83,13 @@ module _ (h : Heap) (n : ℕ) where
       condemned = condemned_of h n at next.member
 
       not_yet : Passed h n after at → ⊥
-      not_yet p = true≢false (sym next.behind ∙ p.1)
+      not_yet p = true≢false (sym next.beyond ∙ p.1)
 
       now_passed : Passed h n (Some at) at
       now_passed = (condemned, le-ltb at.0 at.0 (omega arith))
 
       still_passed : (a : Addr) → Passed h n after a → Passed h n (Some at) a
-      still_passed a p = (p.0, le-ltb at.0 a.0 (let l = after_past after at next.behind a p.1 in omega arith))
+      still_passed a p = (p.0, le-ltb at.0 a.0 (let l = after_past after at next.beyond a p.1 in omega arith))
 
       only_passed : (a : Addr) → Passed h n (Some at) a → Passed h n after a ⊎ (a ≡ at)
       only_passed a p = elim (cases_Bool (is_after after a)) [
@@ -115,7 +115,7 @@ module _ (h : Heap) (n : ℕ) where
           → Counts (PassedRegion h n (Some at)) (c + 1)
       regions_more c other counts =
           counts_more (PassedRegion h n after) (PassedRegion h n (Some at)) (region_of at) c
-          (λ p. let low = low_region (region_of at) p in let high = last_below after at next.behind in
+          (λ p. let low = low_region (region_of at) p in let high = last_below after at next.beyond in
           other (omega arith))
           (at, (now_passed, refl)) still_region only_region counts
 
@@ -138,7 +138,7 @@ module _ (h : Heap) (n : ℕ) where
       survey_next s is =
           let small : (0 < cells_of (placed_at h at)) × (cells_of (placed_at h at) ≤ 64) =
           cells_some h n sound at condemned.object in
-          let on : reach_of after ≤ at.0 = reach_on after at next.behind in
+          let on : reach_of after ≤ at.0 = reach_on after at next.beyond in
           let few = is.few in
           let few_regions = is.few_regions in
           let within = is.small in

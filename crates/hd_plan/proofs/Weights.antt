@@ -1,45 +1,20 @@
 -- How many moves there are, and the cells of their objects, against all that is condemned.
-use Rattle.std.proofs.Common.{◌≡◌, ◌≢◌, ℕ, ◌+◌, ◌<◌, ◌≤◌, Bool, true, cond, List, [], ◌∷◌, ◌++◌, map, length, get_or, refl, sym, ap, ◌∙◌, subst, arith, inl, inr, ⊎_elim}
+use Rattle.std.proofs.Common.{◌≡◌, ◌≢◌, ℕ, ◌+◌, ◌<◌, ◌≤◌, Bool, true, cond, List, [], ◌∷◌, map, length, get_or, refl, sym, ap, ◌∙◌, subst, arith, inl, inr}
 use Rattle.std.specs.Prelude.{sum_by, count_by, filter, Contains, AllPairs}
 use Rattle.std.proofs.lemmas.Bool.{cases_order}
 use Rattle.std.proofs.lemmas.List.{get_or-map, length-map, get_or_default}
-use Rattle.std.proofs.lemmas.List.Elements.{Contains-append_left, Contains-append_right, Contains-append_cases}
-use Rattle.std.proofs.lemmas.List.Sums.{sum_by-cons, sum_by-append, length-filter}
+use Rattle.std.proofs.lemmas.List.Sums.{sum_by-cons, length-filter}
 use Rattle.hd_model.specs.declared.data.Addr.{Addr}
 use Rattle.hd_model.specs.Counting.{Counts}
 use Rattle.hd_model.specs.Scene.{IsCondemned}
 use Rattle.hd_model.specs.Heap.{Heap, object_at, placed_at, cells_of}
-use Rattle.hd_model.proofs.Members.{first_in, later_in, member_cases, member_same, split_at, pairs_first, pairs_rest, mapped_from, passing_from, passing_in, pairs_passing}
+use Rattle.hd_model.proofs.Members.{mapped_from, passing_from, passing_in, pairs_passing}
 use Rattle.hd_model.proofs.Counting.{counts_le, counts_named}
+use Rattle.hd_model.proofs.Weighing.{lighter}
 use Rattle.hd_plan.specs.declared.moves.Move.{Move}
 use Rattle.hd_plan.specs.Layout.{move_at, is_staying, stays_among, IsRising}
 use Rattle.hd_plan.specs.Plan.{Takes}
 use Rattle.hd_plan.specs.Laying.{cells_laid}
-
--- members that are apart and stand in another list weigh at most as much as all of that
-lighter : {A : Type 0} (w : A → ℕ) (xs ys : List A) → AllPairs (λ x y. x ≢ y) xs
-    → ((x : A) → Contains xs x → Contains ys x) → sum_by w xs ≤ sum_by w ys
-lighter w [] ys apart within = omega arith
-lighter {A} w (x ∷ xs) ys apart within =
-    let (before, rest) = split_at ys x (within x (first_in x xs)) in
-    let after = rest.0 in
-    let others : (z : A) → Contains xs z → Contains (before ++ after) z =
-    λ z h. ⊎_elim (λ early. Contains-append_left before after z early)
-    (λ late. ⊎_elim (λ e. absurd (pairs_first (λ a b. a ≢ b) x xs apart z h e))
-    (λ beyond. Contains-append_right before after z beyond)
-    (member_cases x after z late))
-    (Contains-append_cases before (x ∷ after) z
-    (member_same ys (before ++ x ∷ after) rest.1 z (within z (later_in x xs z h)))) in
-    let short : sum_by w xs ≤ sum_by w (before ++ after) =
-    lighter w xs (before ++ after) (pairs_rest (λ a b. a ≢ b) x xs apart) others in
-    let whole : sum_by w ys ≡ sum_by w (before ++ x ∷ after) = ap (sum_by w) rest.1 in
-    omega (
-      arith,
-      sum_by-cons w x xs,
-      sum_by-append w before after,
-      sum_by-append w before (x ∷ after),
-      sum_by-cons w x after,
-    )
 
 sum_map : {A B : Type 0} (f : A → B) (w : B → ℕ) (xs : List A)
     → sum_by w (map f xs) ≡ sum_by (λ x. w (f x)) xs

@@ -2,6 +2,7 @@
 use Rattle.std.specs.Prelude.{◌≡◌, ℕ, ◌+◌, ◌/◌, ◌≤◌, ◌<◌, ◌↔◌, true, false, map, option_map}
 use Rattle.std.specs.FinMap.{len}
 use Rattle.hd_model.specs.declared.data.Addr.{Addr}
+use Rattle.hd_model.specs.declared.limits.TheConstants.{OLDEST, LEFT, OPEN}
 use Rattle.hd_model.specs.Ages.{raised}
 use Rattle.hd_model.specs.State.{Object}
 use Rattle.hd_model.specs.Scene.{generation_at, IsField}
@@ -58,4 +59,4 @@ pub record Commits (p : PlanOf) (old new : Heap) : Type 0 where
   pub limit : new.limit ≡ old.limit
   pub used : used_of new ≤ used_of old
   pub full : HasNoEmptyRegion old → HasNoEmptyRegion new
-  pub compact : p.basis.condemned ≡ 2 → len new.regions ≤ used_of new / 193 + 3 + stays_in p
+  pub compact : p.basis.condemned ≡ OLDEST → len new.regions ≤ used_of new / LEFT + OPEN + stays_in p

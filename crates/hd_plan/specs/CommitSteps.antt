@@ -2,6 +2,7 @@
 use Rattle.std.specs.Prelude.{◌≡◌, ◌≢◌, ℕ, ◌+◌, ◌*◌, ◌^◌, ◌-◌, ◌<◌, ◌≤◌, ◌⊎◌, ◌↔◌, ◌&&◌, Bool, true, false, not, List, [], ◌∷◌, ◌++◌, length, Option, Some, None, option_map, map as list_map, slice_index, slice_index_or, nat_eq}
 use Rattle.std.specs.FinMap as map
 use Rattle.hd_model.specs.declared.data.Addr.{Addr}
+use Rattle.hd_model.specs.declared.limits.TheConstants.{OLDEST, REGION, CARD}
 use Rattle.hd_model.specs.Scene.{IsField, generation_at}
 use Rattle.hd_model.specs.Heap.{Placed, Heap, region_of, card_of, region_at, is_held, has_object, object_at, placed_at, cells_of, is_set, is_carded}
 use Rattle.hd_heap.specs.Calls.{with_object, with_fresh, with_copy, with_card, with_generation, stored, IsRemoved, is_after, is_old_carded}
@@ -45,7 +46,7 @@ SameCards old h = (c : ℕ) → is_set h c ≡ is_set old c
 pub record CanCopy (h : Heap) (ms : List Move) : Type 0 where
   pub sound : IsSound h
   pub objects : (k : ℕ) → k < length ms → has_object h (move_at ms k).from ≡ true
-  pub generations : (k : ℕ) → k < length ms → (move_at ms k).generation ≤ 2
+  pub generations : (k : ℕ) → k < length ms → (move_at ms k).generation ≤ OLDEST
   pub fits : (k : ℕ) → k < length ms → FitsMove h (room_at h ms k) (move_at ms k)
   pub put : (i : ℕ) → i ≤ length ms → ArePut h ms i
 
@@ -54,12 +55,12 @@ abbrev pub MayGo : Way → Heap → Move → Type 0
 MayGo Gone h m = Unit {0}
 MayGo Stays h m = Unit {0}
 MayGo Opens h m =
-    (has_object h m.from ≡ true) × (m.generation ≤ 2) × (cells_of (placed_at h m.from) ≤ 256)
-    × (0 < length h.spare) × (m.to.0 ≡ slice_index h.spare 0 * 256)
+    (has_object h m.from ≡ true) × (m.generation ≤ OLDEST) × (cells_of (placed_at h m.from) ≤ REGION)
+    × (0 < length h.spare) × (m.to.0 ≡ slice_index h.spare 0 * REGION)
 MayGo Follows h m =
     (has_object h m.from ≡ true) × (is_held h (region_of m.to) ≡ true)
-    × (m.to.0 ≡ region_of m.to * 256 + (region_at h (region_of m.to)).fill)
-    × ((region_at h (region_of m.to)).fill + cells_of (placed_at h m.from) ≤ 256)
+    × (m.to.0 ≡ region_of m.to * REGION + (region_at h (region_of m.to)).fill)
+    × ((region_at h (region_of m.to)).fill + cells_of (placed_at h m.from) ≤ REGION)
 
 -- it is copied if it moves, into a fresh region where it opens one
 abbrev pub HasGone : Way → Heap → Heap → Move → Type 0
@@ -185,7 +186,7 @@ pub record IsExactAt (old h : Heap) (card : ℕ) : Type 0 where
 abbrev pub starts_in : Heap → ℕ → Addr → Bool
 starts_in h card a = has_object h a && nat_eq (card_of a) card
 
--- the first address behind a place
+-- the first address after a place
 abbrev pub next_to : Option Addr → ℕ
 next_to None = 0
 next_to (Some a) = a.0 + 1
@@ -205,7 +206,7 @@ pub record AreUnneeding (h : Heap) (card : ℕ) (place : Option Addr) : Type 0 w
   pub here : (a : Addr) → place ≡ Some a → starts_in h card a ≡ true
   pub before : (b : Addr) → starts_in h card b ≡ true → IsBefore place b → NamesYounger h b → ⊥
 
--- the cards up to a number are exact, set just where an object needs them; behind them nothing has changed
+-- the cards up to a number are exact, set just where an object needs them; after them nothing has changed
 pub record AreExactTo (old h : Heap) (end : ℕ) : Type 0 where
   pub same : h ≡ record old { cards = h.cards }
   pub needed : (c : ℕ) → c < end → is_set h c ≡ true → NeedsCard old c
@@ -216,4 +217,4 @@ pub record AreExactTo (old h : Heap) (end : ℕ) : Type 0 where
 pub record IsExactBehind (old h : Heap) (after : Option Addr) : Type 0 where
   pub end : ℕ
   pub cards : AreExactTo old h end
-  pub is : next_to after ≡ end * 32
+  pub is : next_to after ≡ end * CARD

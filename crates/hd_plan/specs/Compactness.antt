@@ -1,6 +1,7 @@
 -- How many regions a laid plan needs: sums over its moves.
 use Rattle.std.specs.Prelude.{◌≡◌, ℕ, zero, suc, ◌+◌, ◌*◌, ◌<◌, ◌≤◌, cond, Bool, true, false, List, [], ◌∷◌, length, nat_eq}
 use Rattle.hd_model.specs.Heap.{Heap, region_of, placed_at, cells_of}
+use Rattle.hd_model.specs.declared.limits.TheConstants.{LEFT}
 use Rattle.hd_plan.specs.declared.moves.Way.{Way}
 use Rattle.hd_plan.specs.declared.moves.Way.TheVariants.{Gone, Stays, Opens, Follows}
 use Rattle.hd_plan.specs.declared.moves.Move.{Move}
@@ -20,7 +21,8 @@ opens_to ms (suc k) = opens_to ms k + cond (is_opening (move_at ms k).way) 1 0
 
 unfoldable pub cells_to : Heap → List Move → ℕ → ℕ
 cells_to h ms zero = 0
-cells_to h ms (suc k) = cells_to h ms k + cond (is_moving (move_at ms k).way) (cells_of (placed_at h (move_at ms k).from)) 0
+cells_to h ms (suc k) = cells_to h ms k
+    + cond (is_moving (move_at ms k).way) (cells_of (placed_at h (move_at ms k).from)) 0
 
 -- an object of these moves opens a region
 pub record IsOpenedBy (ms : List Move) (r : ℕ) : Type 0 where
@@ -47,6 +49,6 @@ fill_in q g = cond (nat_eq (q.current g) 0) 0 (region_in q.regions (q.current g)
 abbrev pub begun : Room → ℕ → ℕ
 begun q g = cond (nat_eq (q.current g) 0) 0 1
 
--- so many regions were opened for so many cells: each but the two that are put into now has 193 of them
+-- so many regions were opened for so many cells: each but the two that are put into now has LEFT of them
 abbrev pub IsSlack : Room → (opened cells : ℕ) → Type 0
-IsSlack q opened cells = 193 * opened + (fill_in q 1 + fill_in q 2) ≤ cells + 193 * (begun q 1 + begun q 2)
+IsSlack q opened cells = LEFT * opened + (fill_in q 1 + fill_in q 2) ≤ cells + LEFT * (begun q 1 + begun q 2)

@@ -1,6 +1,7 @@
 -- How a plan is taken and laid, object by object.
 use Rattle.std.specs.Prelude.{◌≡◌, ◌≢◌, ℕ, ◌+◌, ◌*◌, ◌^◌, ◌%◌, ◌<◌, ◌≤◌, ◌⊎◌, ◌-◌, ◌&&◌, ◌||◌, ◌++◌, Bool, true, false, cond, nat_eq, nat_lt, slice_set, List, [], ◌∷◌, length, Option, slice_index, slice_index_or, sum_by}
 use Rattle.hd_model.specs.declared.data.Addr.{Addr}
+use Rattle.hd_model.specs.declared.limits.TheConstants.{REGION, FIELDS, LEFT, REGIONS}
 use Rattle.hd_model.specs.Ages.{raised}
 use Rattle.hd_model.specs.Counting.{Counts}
 use Rattle.hd_model.specs.Scene.{Objects, generation_at, IsCondemned}
@@ -28,7 +29,7 @@ pub record IsSurvey (h : Heap) (n : ℕ) (s : Survey) : Type 0 where
   pub cells : Takes h (IsCondemned (object_at h) n) s.cells
   pub regions : Counts (HasCondemned (object_at h) n) s.regions
   pub last : (a : Addr) → IsCondemned (object_at h) n a → region_of a ≤ s.last
-  pub small : s.cells ≤ 64 * s.objects
+  pub small : s.cells ≤ (FIELDS + 3) * s.objects
 
 -- what was found with one object more, of so many cells, in the last region or in a later one
 abbrev pub counted_also : Survey → ℕ → ℕ → Survey
@@ -55,9 +56,9 @@ pub record HasRegionRoom (P : ℕ → Type 0) (room cells : ℕ) : Type 0 where
   pub count_is : Counts P count
   pub small : count < 2 ^ 32
   pub enough : count ≤ room
-  pub table : 256 * count ≤ cells
+  pub table : REGION * count ≤ cells
 
--- the number that stands at a region in a list, 0 behind its end
+-- the number that stands at a region in a list, 0 after its end
 abbrev pub first_at : List ℕ → ℕ → ℕ
 first_at firsts r = slice_index_or firsts r 0
 
@@ -65,16 +66,16 @@ first_at firsts r = slice_index_or firsts r 0
 abbrev pub cell_at : List Addr → ℕ → Addr
 cell_at cells i = slice_index_or cells i (record { 0 = 0 })
 
--- the table of new places: each listed region has 256 cells, the k-th from 256 k on, and in the cell of an
--- object of the first i moves is its place
+-- the table of new places: each listed region has a cell for each of its own, the k-th from REGION * k on,
+-- and in the cell of an object of the first i moves is its place
 pub record HasPlaces (ms : List Move) (cs : List Condemned) (i : ℕ) (firsts : List ℕ)
     (cells : List Addr) : Type 0 where
   pub listed : (k : ℕ) → k < length cs → first_at firsts (condemned_at cs k).region ≡ k + 1
   pub others : (r : ℕ) → first_at firsts r ≢ 0 → (k : ℕ)
       × ((k < length cs) × ((condemned_at cs k).region ≡ r))
-  pub spots : 256 * length cs ≤ length cells
+  pub spots : REGION * length cs ≤ length cells
   pub places : (j k : ℕ) → j < i → k < length cs → (condemned_at cs k).region ≡ region_of (move_at ms j).from
-      → cell_at cells (256 * k + (move_at ms j).from.0 % 256) ≡ (move_at ms j).to
+      → cell_at cells (REGION * k + (move_at ms j).from.0 % REGION) ≡ (move_at ms j).to
 
 -- what a plan's parts keep: room for all that is condemned, and the table of new places
 pub record IsPlan (b : Basis) (ms : List Move) (cs : List Condemned) (room_ms room_cs : ℕ) (firsts : List ℕ)
@@ -99,7 +100,7 @@ pub record IsSeat (q : Room) (g : ℕ) (s : Seat) : Type 0 where
   pub region : s.region ≡ q.current g
   pub fill : s.region ≢ 0 → s.fill ≡ (region_in q.regions s.region).fill
   pub empty : s.region ≡ 0 → s.fill ≡ 0
-  pub fits : s.fill ≤ 256
+  pub fits : s.fill ≤ REGION
 
 -- the seats tell the room
 pub record AreSeats (h : Heap) (q : Room) (s : Seats) : Type 0 where
@@ -113,10 +114,10 @@ abbrev pub begun : Seat → ℕ
 begun s = cond (nat_eq s.region 0) 0 1
 
 -- the regions that are opened, against the cells that were laid: each but the last one of a generation is
--- left with at least 193 cells taken
+-- left with at least LEFT cells taken
 abbrev pub HasSlack : Seats → ℕ → Type 0
-HasSlack s laid = 193 * s.opened + (s.first.fill + s.second.fill) ≤ laid + 193 *
-    (begun s.first + begun s.second)
+HasSlack s laid =
+    LEFT * s.opened + (s.first.fill + s.second.fill) ≤ laid + LEFT * (begun s.first + begun s.second)
 
 -- the cells of the objects of these moves
 abbrev pub cells_laid : Heap → List Move → ℕ
@@ -138,18 +139,18 @@ abbrev pub with_seat : Seats → ℕ → Seat → Seats
 with_seat s g seat =
     record s { first = cond (nat_eq g 1) seat s.first; second = cond (nat_eq g 1) s.second seat }
 
--- an object goes behind the one before of its generation
+-- an object goes after the one before of its generation
 pub record IsBehind (g cells : ℕ) (old new : Seats) (to : Addr) : Type 0 where
   pub begun : (seat_of old g).region ≢ 0
-  pub room : (seat_of old g).fill + cells ≤ 256
-  pub place : to.0 ≡ (seat_of old g).region * 256 + (seat_of old g).fill
+  pub room : (seat_of old g).fill + cells ≤ REGION
+  pub place : to.0 ≡ (seat_of old g).region * REGION + (seat_of old g).fill
   pub seat : new ≡ with_seat old g
       (record { region = (seat_of old g).region; fill = (seat_of old g).fill + cells })
 
--- an object opens a spare region, since it does not fit behind the one before of its generation
+-- an object opens a spare region, since it does not fit after the one before of its generation
 pub record IsOpening (spare : List ℕ) (g cells : ℕ) (old new : Seats) (to : Addr) : Type 0 where
-  pub left : ((seat_of old g).region ≡ 0) ⊎ (256 < (seat_of old g).fill + cells)
-  pub place : to.0 ≡ slice_index spare old.opened * 256
+  pub left : ((seat_of old g).region ≡ 0) ⊎ (REGION < (seat_of old g).fill + cells)
+  pub place : to.0 ≡ slice_index spare old.opened * REGION
   pub seat : new ≡ record (with_seat old g (record { region = slice_index spare old.opened; fill = cells })) {
     opened = old.opened + 1;
   }
@@ -173,8 +174,8 @@ pub record IsMoveOf (h : Heap) (n : ℕ) (promoted pinned : Bool) (old new : Sea
 -- no seat is over full, each is in a region whose addresses have 32 bits, and there is a spare region for
 -- one object more
 pub record CanPut (h : Heap) (s : Seats) : Type 0 where
-  pub first : (s.first.region < 2 ^ 24) × (s.first.fill ≤ 256)
-  pub second : (s.second.region < 2 ^ 24) × (s.second.fill ≤ 256)
+  pub first : (s.first.region < REGIONS) × (s.first.fill ≤ REGION)
+  pub second : (s.second.region < REGIONS) × (s.second.fill ≤ REGION)
   pub spare : s.opened < length h.spare
   pub few : s.opened < 2 ^ 31
 

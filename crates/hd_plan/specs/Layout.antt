@@ -7,6 +7,7 @@ use Rattle.std.specs.Prelude.{◌≡◌, ◌≢◌, ℕ, zero, suc, ◌+◌, ◌
 use Rattle.std.specs.Ordering.{nat_cmp}
 use Rattle.std.specs.FinMap as map
 use Rattle.hd_model.specs.declared.data.Addr.{Addr}
+use Rattle.hd_model.specs.declared.limits.TheConstants.{REGION}
 use Rattle.hd_model.specs.Ages.{raised}
 use Rattle.hd_model.specs.Scene.{generation_at}
 use Rattle.hd_model.specs.Heap.{Heap, Region, region_of, region_generation, is_held, object_at, placed_at, cells_of}
@@ -94,14 +95,14 @@ room_at h ms (suc k) = put_move h (room_at h ms k) (move_at ms k)
 -- many cells more
 pub record Opened (q : Room) (to : Addr) (g cells : ℕ) : Type 0 where
   pub spare : 0 < length q.spare
-  pub place : to.0 ≡ slice_index q.spare 0 * 256
-  pub left : (q.current g ≡ 0) ⊎ (256 < (region_in q.regions (q.current g)).fill + cells)
+  pub place : to.0 ≡ slice_index q.spare 0 * REGION
+  pub left : (q.current g ≡ 0) ⊎ (REGION < (region_in q.regions (q.current g)).fill + cells)
 
--- the object goes behind all others of the region into which its generation puts
+-- the object goes after all others of the region into which its generation puts
 pub record Followed (q : Room) (to : Addr) (g cells : ℕ) : Type 0 where
   pub begun : q.current g ≢ 0
-  pub place : to.0 ≡ q.current g * 256 + (region_in q.regions (q.current g)).fill
-  pub room : (region_in q.regions (q.current g)).fill + cells ≤ 256
+  pub place : to.0 ≡ q.current g * REGION + (region_in q.regions (q.current g)).fill
+  pub room : (region_in q.regions (q.current g)).fill + cells ≤ REGION
 
 -- an object may go this way from a room
 abbrev pub Fits : Way → Room → (from to : Addr) → (g cells : ℕ) → Type 0

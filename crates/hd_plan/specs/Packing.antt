@@ -2,6 +2,7 @@
 use Rattle.std.specs.Prelude.{◌≡◌, ◌≢◌, ℕ, ◌+◌, ◌*◌, ◌<◌, ◌≤◌, ◌⊎◌, true, false, List, length, slice_index}
 use Rattle.std.specs.FinMap as map
 use Rattle.hd_model.specs.declared.data.Addr.{Addr}
+use Rattle.hd_model.specs.declared.limits.TheConstants.{REGION, OLDEST, LEFT}
 use Rattle.hd_model.specs.Heap.{Heap, region_of, is_held, placed_at, cells_of}
 use Rattle.hd_plan.specs.declared.moves.Move.{Move}
 use Rattle.hd_plan.specs.Layout.{Room, has_region, region_in, move_at, is_moving, room_at}
@@ -20,8 +21,7 @@ pub record IsFresh (h : Heap) (q : Room) (g r : ℕ) : Type 0 where
   pub generation : (region_in q.regions r).generation ≡ g
 
 -- so many spare regions were opened and nothing else was touched; each fresh region is the current one of
--- its generation, or has fewer than
--- 64 cells left
+-- its generation, or has at least LEFT cells taken
 pub record IsRoom (h : Heap) (q : Room) : Type 0 where
   pub opened : ℕ
   pub spare_length : length q.spare + opened ≡ length h.spare
@@ -30,16 +30,16 @@ pub record IsRoom (h : Heap) (q : Room) : Type 0 where
   pub old : (r : ℕ) → is_held h r ≡ true → map.get q.regions r ≡ map.get h.regions r
   pub current : (g : ℕ) → (q.current g ≡ 0) ⊎ IsFresh h q g (q.current g)
   pub tight : (r : ℕ) → has_region q.regions r ≡ true → is_held h r ≡ false
-      → (r ≡ q.current (region_in q.regions r).generation) ⊎ (193 ≤ (region_in q.regions r).fill)
+      → (r ≡ q.current (region_in q.regions r).generation) ⊎ (LEFT ≤ (region_in q.regions r).fill)
   pub generations : (r : ℕ) → has_region q.regions r ≡ true → is_held h r ≡ false
-      → (0 < (region_in q.regions r).generation) × ((region_in q.regions r).generation ≤ 2)
+      → (0 < (region_in q.regions r).generation) × ((region_in q.regions r).generation ≤ OLDEST)
   pub fills : (r : ℕ) → has_region q.regions r ≡ true → is_held h r ≡ false
-      → (0 < (region_in q.regions r).fill) × ((region_in q.regions r).fill ≤ 256)
+      → (0 < (region_in q.regions r).fill) × ((region_in q.regions r).fill ≤ REGION)
 
 -- an object of so many cells was put at an address
 pub record IsPut (h : Heap) (q : Room) (to : Addr) (g cells : ℕ) : Type 0 where
   pub fresh : IsFresh h q g (region_of to)
-  pub below : to.0 + cells ≤ region_of to * 256 + (region_in q.regions (region_of to)).fill
+  pub below : to.0 + cells ≤ region_of to * REGION + (region_in q.regions (region_of to)).fill
 
 -- the objects of the first i moves that move are put, no two at one place
 pub record ArePut (h : Heap) (ms : List Move) (i : ℕ) : Type 0 where

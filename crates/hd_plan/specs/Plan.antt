@@ -1,7 +1,8 @@
 -- The value of a plan, what it keeps and where, and what a laid one tells.
-use Rattle.std.specs.Prelude.{◌≡◌, ℕ, ◌+◌, ◌/◌, ◌^◌, ◌<◌, ◌≤◌, ◌||◌, Bool, true, List, [], length, nat_lt, sum_by, AllPairs, Contains, ◌≢◌, refl}
+use Rattle.std.specs.Prelude.{◌≡◌, ℕ, ◌+◌, ◌/◌, ◌^◌, ◌<◌, ◌≤◌, ◌||◌, Bool, true, List, [], length, max, nat_lt, sum_by, AllPairs, Contains, ◌≢◌, refl}
 use Rattle.std.specs.Coded.{Coded, code_by, coded×, coded_list}
 use Rattle.hd_model.specs.declared.data.Addr.{Addr}
+use Rattle.hd_model.specs.declared.limits.TheConstants.{OLDEST, LEFT, OPEN}
 use Rattle.hd_model.specs.Code.{basis_code}
 use Rattle.hd_model.specs.Leads.{IsClosed}
 use Rattle.hd_model.specs.Marking.{IsKeeping}
@@ -44,7 +45,7 @@ stays_in p = stays_among p.moves
 -- the places of all kept objects are given, no two to one place, and fields of kept objects name kept ones
 pub record IsLaid (p : PlanOf) : Type 0 where
   pub sound : IsSound p.basis.heap
-  pub generation : p.basis.condemned ≤ 2
+  pub generation : p.basis.condemned ≤ OLDEST
   pub moves : AreMoves p.basis.heap p.basis.condemned p.moves
   pub regions : AreRegions p.basis.heap p.basis.condemned p.moves p.regions
   pub keeping : IsKeeping (objects_of p.basis) p.basis.condemned (kept_in p) (place_in p)
@@ -59,16 +60,34 @@ pub record Takes (h : Heap) (P : Addr → Type 0) (cells : ℕ) : Type 0 where
   pub sum : sum_by (λ a. cells_of (placed_at h a)) members ≡ cells
 
 -- there are spare regions for all condemned objects: each but the last one of a generation is left with at
--- least 193 cells taken
+-- least LEFT cells taken
 pub record HasSpare (h : Heap) (n : ℕ) : Type 0 where
   pub cells : ℕ
   pub cells_are : Takes h (IsCondemned (object_at h) n) cells
   pub small : cells < 2 ^ 38
-  pub enough : cells / 193 + 3 ≤ length h.spare
+  pub enough : cells / LEFT + OPEN ≤ length h.spare
+
+-- so many spare regions are needed for all condemned objects
+pub record NeedsSpare (h : Heap) (n needed : ℕ) : Type 0 where
+  pub cells : ℕ
+  pub cells_are : Takes h (IsCondemned (object_at h) n) cells
+  pub needed_is : needed ≡ cells / LEFT + OPEN
+
+-- as many regions are spare as are needed, or as were before where they are more
+pub record SparesNeeded (old new : Heap) (n : ℕ) : Type 0 where
+  pub needed : ℕ
+  pub needs : NeedsSpare old n needed
+  pub spare : length new.spare ≡ max needed (length old.spare)
+
+-- no more regions are spare than are needed, or than were before where they are more
+pub record SparesAtMost (old new : Heap) (n : ℕ) : Type 0 where
+  pub needed : ℕ
+  pub needs : NeedsSpare old n needed
+  pub spare : length new.spare ≤ max needed (length old.spare)
 
 -- nothing is laid yet, and there is room for all that is condemned
 pub record IsTakenPlan (p : PlanOf) : Type 0 where
-  pub generation : p.basis.condemned ≤ 2
+  pub generation : p.basis.condemned ≤ OLDEST
   pub moves : p.moves ≡ []
   pub regions : p.regions ≡ []
   pub spare : HasSpare p.basis.heap p.basis.condemned

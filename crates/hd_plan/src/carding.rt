@@ -14,9 +14,7 @@ ghost use Rattle.hd_plan.specs.CommitSteps.{NamesYounger, IsExactAt, starts_in};
 use crate::moves::{Move, Way};
 use hd_heap::Heap;
 use hd_model::Addr;
-
-// The cells of a card.
-const CARD: u32 = 32;
+use hd_model::limits::CARD;
 
 /// Sets the card of each kept object of these moves, at its new place.
 pub(crate) fn card_kept(heap: &mut Heap, moves: &[Move])
@@ -69,7 +67,7 @@ fn make_exact(heap: &mut Heap, first: Addr)
 
 // The last cell of the card in which an address is.
 fn last_cell(at: Addr) -> Addr
-    ensures { result.0 + 1 ≡ (card_of at + 1) * 32 }
+    ensures { result.0 + 1 ≡ (card_of at + 1) * CARD }
 {
     Addr(at.0 / CARD * CARD + (CARD - 1))
 }

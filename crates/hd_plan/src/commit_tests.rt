@@ -9,7 +9,7 @@ ghost use Rattle.hd_plan.specs.Plan.{IsTakenPlan, IsLaid, HasNoEmptyRegion};
 
 use super::*;
 use crate::carding::names_younger;
-use crate::tests::{add, raise, stands};
+use crate::tests::{heap_of, marks_of, promote, stands};
 use hd_heap::Heap;
 use hd_mark::Marks;
 use hd_model::{Addr, Id, Marker, Memory};
@@ -152,18 +152,11 @@ fn set_card(rt: &impl Abort, heap: &mut Heap, at: u32)
     heap.set_card(Addr(at), true);
 }
 
-// The heap of a case.
-fn heap_of(rt: &impl Abort, alloc: Global, case: &Case) -> Result<Heap, Memory>
+// The heap of a case, with its fields and cards.
+fn linked_heap(rt: &impl Abort, alloc: Global, case: &Case) -> Result<Heap, Memory>
     ensures full { IfOk result HasNoEmptyRegion }
 {
-    let mut heap = Heap::open(alloc, 10_000)?;
-    for cells in case.cells {
-        let id = u64::from(heap.count()) + 1;
-        add(rt, &mut heap, id, *cells);
-    }
-    for (at, generation) in case.raised {
-        raise(rt, &mut heap, Addr(*at), *generation);
-    }
+    let mut heap = heap_of(rt, alloc, case.cells, case.raised)?;
     for (from, i, to) in case.arrows {
         store(rt, &mut heap, *from, *i, *to);
     }
@@ -171,32 +164,6 @@ fn heap_of(rt: &impl Abort, alloc: Global, case: &Case) -> Result<Heap, Memory>
         set_card(rt, &mut heap, *at);
     }
     Ok(heap)
-}
-
-// The marks of a case.
-fn marks_of<'h>(
-    rt: &impl Abort,
-    alloc: Global,
-    heap: &'h Heap,
-    case: &Case,
-) -> Result<Marks<'h>, Memory>
-    requires fields { HasClosedFields (object_at heap.now) }
-    ensures settled { IfOk result IsSettledMarks }
-    ensures basis { IfOk result (λ m. m.basis ≡ record {
-      heap = heap.now;
-      condemned = case.now.condemned;
-    }) }
-{
-    let mut marks = Marks::start(alloc, heap, case.condemned)?;
-    for at in case.roots {
-        assert!(rt; stands(heap, Addr(*at)));
-        marks.promote(Addr(*at));
-    }
-    for at in case.pinned {
-        assert!(rt; stands(heap, Addr(*at)));
-        marks.pin(Addr(*at));
-    }
-    Ok(marks)
 }
 
 // Lays the plan of a case.
@@ -217,7 +184,10 @@ fn lay(
     ensures laid { IfOk result (λ _. IsLaid plan.new) }
     ensures basis { IfOk result (λ _. plan.new.basis ≡ plan.old.basis) }
 {
-    let marks = marks_of(rt, alloc, heap, case)?;
+    let mut marks = marks_of(rt, alloc, heap, case.condemned, case.pinned)?;
+    for at in case.roots {
+        promote(rt, heap, &mut marks, *at);
+    }
     assert!(rt; is_promoted_closed(heap, &marks));
     plan.lay(heap, &marks);
     Ok(())
@@ -245,7 +215,7 @@ fn shows(rt: &impl Abort, heap: &Heap, case: &Case) {
 
 // Collects the heap of a case.
 fn collects(rt: &impl Abort, alloc: Global, case: &Case) -> Result<(), Memory> {
-    let mut heap = heap_of(rt, alloc, case)?;
+    let mut heap = linked_heap(rt, alloc, case)?;
     assert!(rt; case.condemned < 3);
     let mut plan = Plan::take(alloc, &mut heap, case.condemned)?;
     assert!(rt; is_closed(&heap));

@@ -13,8 +13,8 @@ use crate::rewriting::{rewrite_carded, rewrite_kept};
 use hd_heap::Heap;
 
 /// Moves the objects that the plan keeps to their places, rewrites the fields that name them, and
-/// takes all other condemned objects away. Cards are exact afterwards. It looks at condemned objects
-/// and at those in set cards, and at no other object; it takes no memory.
+/// takes all other condemned objects away. Cards are exact afterwards. It looks at condemned
+/// objects and at those in set cards, and at no other object; it takes no memory.
 pub fn commit(heap: &mut Heap, plan: &mut Plan)
     requires laid { IsLaid plan.old }
     requires same { IsSameShape plan.old.basis.heap heap.old }

@@ -14,9 +14,8 @@ use crate::list::list_moves;
 use crate::moves::{Move, Way};
 use crate::plan::Plan;
 use crate::seats::Seats;
-use crate::survey::HEADER;
 use hd_heap::Heap;
-use hd_model::limits::OLDEST;
+use hd_model::limits::{HEADER, OLDEST};
 use hd_model::{Addr, Marker};
 
 impl Plan {
@@ -47,7 +46,7 @@ impl Plan {
 
 // Lists the condemned objects with their places.
 fn lay_moves<M: Marker>(heap: &Heap, marker: &M, n: u8, moves: &mut Vec<Move>)
-    requires generation { n ≤ 2 }
+    requires generation { n ≤ OLDEST }
     requires marker { M.basis marker.now ≡ record { heap = heap.now; condemned = n } }
     requires settled { M.settled marker.now }
     requires none { moves.old.items ≡ [] }

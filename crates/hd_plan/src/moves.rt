@@ -12,7 +12,7 @@ pub enum Way {
     Stays,
     /// It is the first that is copied into a fresh region.
     Opens,
-    /// It is copied behind the one before of its generation.
+    /// It is copied after the one before of its generation.
     Follows,
 }
 

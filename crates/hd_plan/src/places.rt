@@ -4,13 +4,11 @@ ghost use Rattle.hd_model.specs.Heap.{region_of};
 ghost use Rattle.hd_plan.specs.Laying.{first_at};
 ghost use Rattle.hd_plan.specs.Table.{place_among, spot_in, spot_of};
 
+use hd_model::limits::REGION;
 use hd_model::{Addr, Memory};
 use std::alloc::Global;
 
-/// The cells of a region.
-pub(crate) const CELLS: u32 = hd_cells::CELLS as u32;
-
-/// New places by old ones, found at once: each region that is listed has 256 cells, one for each of
+/// New places by old ones, found at once: each region that is listed has a cell for each of
 /// its addresses.
 #[derive(Drop)]
 pub(crate) struct Places {
@@ -24,26 +22,26 @@ pub(crate) struct Places {
 pub(crate) fn region_number(at: Addr) -> u32
     ensures { result ≡ region_of at }
 {
-    at.0 / CELLS
+    at.0 / REGION
 }
 
 // The cell of an address in a region, by the place of the region in the list.
 fn spot(place: u32, at: Addr) -> usize
     ensures { result ≡ spot_in place at }
 {
-    hd_cells::CELLS * place as usize + (at.0 % CELLS) as usize
+    REGION as usize * place as usize + (at.0 % REGION) as usize
 }
 
 impl Places {
     /// Room for so many regions, with numbers up to `last`. None is listed.
     pub(crate) fn open(alloc: Global, regions: u32, last: u32) -> Result<Places, Memory>
         ensures firsts { IfOk result (λ p. p.firsts.items ≡ replicate (last + 1) 0) }
-        ensures cells { IfOk result (λ p. length p.cells.items ≡ 256 * regions) }
+        ensures cells { IfOk result (λ p. length p.cells.items ≡ REGION * regions) }
     {
         let Ok(firsts) = vec![in alloc; 0; last as usize + 1] else {
             return Err(Memory);
         };
-        match vec![in alloc; Addr(0); hd_cells::CELLS * regions as usize] {
+        match vec![in alloc; Addr(0); REGION as usize * regions as usize] {
             Ok(cells) => Ok(Places { firsts, cells }),
             Err(_) => Err(Memory),
         }
@@ -62,7 +60,7 @@ impl Places {
     /// Gives an address in a listed region a new place.
     pub(crate) fn put(&mut self, at: Addr, to: Addr)
         requires listed { first_at self.old.firsts.items (region_of at) ≢ 0 }
-        requires room { 256 * first_at self.old.firsts.items (region_of at)
+        requires room { REGION * first_at self.old.firsts.items (region_of at)
             ≤ length self.old.cells.items }
         ensures firsts { self.new.firsts.items ≡ self.old.firsts.items }
         ensures cells { let spot = spot_of self.old.firsts.items at in
@@ -74,7 +72,7 @@ impl Places {
 
     /// The new place of an address in a listed region; another address itself.
     pub(crate) fn place(&self, at: Addr) -> Addr
-        requires room { 256 * first_at self.now.firsts.items (region_of at)
+        requires room { REGION * first_at self.now.firsts.items (region_of at)
             ≤ length self.now.cells.items }
         ensures { result ≡ place_among self.now.firsts.items self.now.cells.items at }
     {

@@ -1,25 +1,21 @@
-ghost use Rattle.std.specs.Prelude.{◌≡◌, ◌^◌, ◌<◌, ◌≤◌, true, false, length, take, count_by, IfOk};
+ghost use Rattle.std.specs.Prelude.{◌≡◌, ◌^◌, ◌<◌, ◌≤◌, true, false, length, take, count_by, IfOk, MatchResult};
 ghost use Rattle.hd_model.specs.Counting.{Counts};
 ghost use Rattle.hd_model.specs.Scene.{is_object, IsCondemned};
 ghost use Rattle.hd_model.specs.Heap.{objects_of};
 ghost use Rattle.hd_plan.specs.Laying.{IsSurvey};
 ghost use Rattle.hd_plan.specs.Layout.{is_kept_way};
 ghost use Rattle.hd_plan.specs.Plan.{IsTakenPlan, IsLaid, kept_in, place_in, HasSpare};
+ghost use Rattle.hd_plan.specs.Plan.{SparesNeeded, SparesAtMost};
 
 use crate::moves::{Condemned, Move};
 use crate::places::Places;
 use crate::survey::{Survey, count_condemned};
 use hd_heap::Heap;
+use hd_model::limits::{FIELDS, HEADER, LEFT, OLDEST, OPEN};
 use hd_model::{Addr, Forward, Memory};
 use std::alloc::Global;
 use std::marker::Model;
 use std::snapshot::Snapshot;
-
-// The cells that are taken at least in a region that is left, as the largest object has 64.
-const LEFT: u64 = 193;
-
-// More than there are rows of regions that may end in one with fewer cells taken.
-const OPEN: u32 = 3;
 
 /// Where each condemned object of one heap goes, and what becomes of each condemned region.
 #[derive(Drop)]
@@ -57,9 +53,11 @@ impl Plan {
     /// Takes memory for a plan of generation `n` and below, and spare regions for what it may keep.
     /// Spare regions that were taken stay spare where there is too little memory for the rest.
     pub fn take(alloc: Global, heap: &mut Heap, n: u8) -> Result<Plan, Memory>
-        requires generation { n ≤ 2 }
+        requires generation { n ≤ OLDEST }
         ensures same { heap.new ≡ record heap.old { spare = heap.new.spare } }
         ensures spare { take (length heap.old.spare) heap.new.spare ≡ heap.old.spare }
+        ensures needed { MatchResult result (λ _. SparesNeeded heap.old heap.new n)
+            (λ _. SparesAtMost heap.old heap.new n) }
         ensures taken { IfOk result (λ plan. IsTakenPlan plan) }
         ensures basis { IfOk result (λ plan. plan.basis ≡ record {
           heap = heap.new;
@@ -67,14 +65,14 @@ impl Plan {
         }) }
     {
         let found = count_condemned(heap, n);
-        heap.reserve_regions((found.cells / LEFT) as u32 + OPEN)?;
+        heap.reserve_regions((found.cells / LEFT as u64) as u32 + OPEN)?;
         Plan::with_room(alloc, heap, n, &found)
     }
 
     /// An empty plan with room for what was found.
     fn with_room(alloc: Global, heap: &Heap, n: u8, found: &Survey) -> Result<Plan, Memory>
         requires found { IsSurvey heap.now n found.now }
-        requires generation { n ≤ 2 }
+        requires generation { n ≤ OLDEST }
         requires spare { HasSpare heap.now n }
         ensures taken { IfOk result (λ plan. IsTakenPlan plan) }
         ensures basis { IfOk result (λ plan. plan.basis ≡ record {

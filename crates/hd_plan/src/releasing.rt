@@ -7,6 +7,7 @@ ghost use Rattle.hd_plan.specs.CommitSteps.{HasLeft, AreRemoved, HasSettled, Are
 use crate::moves::{Condemned, Move, Way};
 use hd_heap::Heap;
 use hd_model::Addr;
+use hd_model::limits::OLDEST;
 
 /// Takes away the objects of these moves at their old places, but for those that stay.
 pub(crate) fn remove_left(heap: &mut Heap, moves: &[Move])
@@ -38,7 +39,7 @@ pub(crate) fn settle_regions(heap: &mut Heap, regions: &[Condemned])
     requires rising { (j k : ℕ) → j < k → k < length regions.now
         → (condemned_at regions.now j).region < (condemned_at regions.now k).region }
     requires generations { (k : ℕ) → k < length regions.now
-        → (condemned_at regions.now k).generation ≤ 2 }
+        → (condemned_at regions.now k).generation ≤ OLDEST }
     requires empty { (k : ℕ) (a : Addr) → k < length regions.now
         → (condemned_at regions.now k).pinned ≡ false → has_object heap.old a ≡ true
         → region_of a ≢ (condemned_at regions.now k).region }
@@ -52,7 +53,7 @@ pub(crate) fn settle_regions(heap: &mut Heap, regions: &[Condemned])
 // Raises one condemned region or gives it up.
 fn settle_region(heap: &mut Heap, condemned: Condemned)
     requires held { is_held heap.old condemned.region ≡ true }
-    requires generation { condemned.generation ≤ 2 }
+    requires generation { condemned.generation ≤ OLDEST }
     requires empty { condemned.pinned ≡ false → (a : Addr) → has_object heap.old a ≡ true
         → region_of a ≢ condemned.region }
     ensures { HasSettled condemned.pinned heap.old heap.new condemned }

@@ -1,14 +1,14 @@
-ghost use Rattle.std.specs.Prelude.{◌≡◌, ◌<◌, ◌≤◌, true};
+ghost use Rattle.std.specs.Prelude.{◌≡◌, ◌+◌, ◌<◌, ◌≤◌, true};
 ghost use Rattle.hd_heap.specs.Sound.{IsSound};
 ghost use Rattle.hd_plan.specs.Laying.{seat_of, with_seat, CanPut, IsSeated};
 ghost use Rattle.hd_plan.specs.Layout.{is_moving};
 
 use crate::moves::Way;
-use crate::places::CELLS;
 use hd_heap::Heap;
 use hd_model::Addr;
+use hd_model::limits::{FIELDS, REGION};
 
-/// The region into which a generation puts, 0 for none, and the first cell behind all of its
+/// The region into which a generation puts, 0 for none, and the first cell after all of its
 /// objects.
 #[derive(Clone, Copy)]
 pub(crate) struct Seat {
@@ -64,21 +64,21 @@ impl Seats {
         }
     }
 
-    /// Puts an object of so many cells behind the one before of its generation, or first into a
+    /// Puts an object of so many cells after the one before of its generation, or first into a
     /// spare region where it does not fit there.
     pub(crate) fn put(&mut self, heap: &Heap, generation: u8, cells: u32) -> (Way, Addr)
         requires sound { IsSound heap.now }
-        requires cells { (0 < cells) × (cells ≤ 64) }
+        requires cells { (0 < cells) × (cells ≤ FIELDS + 3) }
         requires can_put { CanPut heap.now self.old }
         ensures seated { IsSeated result.0 heap.now.spare generation cells self.old self.new
             (record { 0 = 0 }) result.1 }
         ensures moves { is_moving result.0 ≡ true }
     {
         let seat = self.seat(generation);
-        if seat.region != 0 && seat.fill + cells <= CELLS {
+        if seat.region != 0 && seat.fill + cells <= REGION {
             let fill = seat.fill + cells;
             self.set(generation, Seat { fill, ..seat });
-            return (Way::Follows, Addr(seat.region * CELLS + seat.fill));
+            return (Way::Follows, Addr(seat.region * REGION + seat.fill));
         }
         let region = heap.spare_number(self.opened);
         self.set(
@@ -89,6 +89,6 @@ impl Seats {
             },
         );
         self.opened += 1;
-        (Way::Opens, Addr(region * CELLS))
+        (Way::Opens, Addr(region * REGION))
     }
 }

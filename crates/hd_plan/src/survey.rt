@@ -4,9 +4,7 @@ ghost use Rattle.hd_plan.specs.Laying.{IsSurvey, counted_also};
 use crate::places::region_number;
 use hd_heap::Heap;
 use hd_model::Addr;
-
-/// The cells of an object beside its fields.
-pub(crate) const HEADER: u32 = hd_cells::FIELDS as u32;
+use hd_model::limits::HEADER;
 
 /// What there is to lay: the condemned objects, their cells, the regions in which they stand, and
 /// the last of these regions.

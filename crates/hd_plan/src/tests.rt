@@ -1,5 +1,6 @@
 ghost use Rattle.std.specs.Prelude.{◌≡◌, ◌≤◌, true, IfOk};
 ghost use Rattle.hd_model.specs.Heap.{has_object, object_at};
+ghost use Rattle.hd_model.specs.Names.{HasClosedFields};
 ghost use Rattle.hd_model.specs.Scene.{IsField};
 ghost use Rattle.hd_mark.specs.Marks.{IsSettledMarks};
 ghost use Rattle.hd_plan.specs.Plan.{IsTakenPlan, IsLaid, HasNoEmptyRegion};
@@ -105,49 +106,60 @@ fn give(heap: &mut Heap, at: Addr, generation: u8)
     requires full { HasNoEmptyRegion heap.old }
     ensures full { HasNoEmptyRegion heap.new }
 {
+    // The answer is not used: the call tells the proof that the region of the object is held.
     let _ = heap.regions();
     heap.set_generation(region_number(at), generation);
 }
 
-// The heap of a case.
-fn heap_of(rt: &impl Abort, alloc: Global, case: &Case) -> Result<Heap, Memory>
+// A heap with objects of so many cells, of which those at some addresses have a generation.
+pub(crate) fn heap_of(
+    rt: &impl Abort,
+    alloc: Global,
+    objects: &[u32],
+    raised: &[(u32, u8)],
+) -> Result<Heap, Memory>
     ensures full { IfOk result HasNoEmptyRegion }
 {
     let mut heap = Heap::open(alloc, 10_000)?;
-    for cells in case.cells {
+    for cells in objects {
         let id = u64::from(heap.count()) + 1;
         add(rt, &mut heap, id, *cells);
     }
-    for (at, generation) in case.raised {
+    for (at, generation) in raised {
         raise(rt, &mut heap, Addr(*at), *generation);
     }
     Ok(heap)
 }
 
-// The marks of a case.
-fn marks_of<'h>(
+// Marks that promote older objects alone, and pin the objects at some addresses.
+pub(crate) fn marks_of<'h>(
     rt: &impl Abort,
     alloc: Global,
     heap: &'h Heap,
-    case: &Case,
+    condemned: u8,
+    pinned: &[u32],
 ) -> Result<Marks<'h>, Memory>
-    requires bare { (x y : Addr) → IsField (object_at heap.now) x y → ⊥ }
+    requires fields { HasClosedFields (object_at heap.now) }
     ensures settled { IfOk result IsSettledMarks }
-    ensures basis { IfOk result (λ m. m.basis ≡ record {
-      heap = heap.now;
-      condemned = case.now.condemned;
-    }) }
+    ensures basis { IfOk result (λ m. m.basis ≡ record { heap = heap.now; condemned = condemned }) }
 {
-    let mut marks = Marks::start(alloc, heap, case.condemned)?;
-    for (at, _) in case.moved {
-        assert!(rt; stands(heap, Addr(*at)));
-        marks.promote(Addr(*at));
-    }
-    for at in case.pinned {
+    let mut marks = Marks::start(alloc, heap, condemned)?;
+    for at in pinned {
         assert!(rt; stands(heap, Addr(*at)));
         marks.pin(Addr(*at));
     }
     Ok(marks)
+}
+
+// Promotes an object.
+pub(crate) fn promote(rt: &impl Abort, heap: &Heap, marks: &mut Marks, at: u32)
+    requires settled { IsSettledMarks marks.old }
+    requires basis { marks.old.basis.heap ≡ heap.now }
+    ensures settled { IsSettledMarks marks.new }
+    ensures basis { marks.new.basis ≡ marks.old.basis }
+{
+    assert!(rt; stands(heap, Addr(at)));
+    marks.promote(Addr(at));
 }
 
 // Lays the plan of a case, and looks at the places that it gives.
@@ -167,7 +179,10 @@ fn lay(
     requires full { HasNoEmptyRegion heap.now }
     ensures laid { IfOk result (λ _. IsLaid plan.new) }
 {
-    let marks = marks_of(rt, alloc, heap, case)?;
+    let mut marks = marks_of(rt, alloc, heap, case.condemned, case.pinned)?;
+    for (at, _) in case.moved {
+        promote(rt, heap, &mut marks, *at);
+    }
     plan.lay(heap, &marks);
     for (from, to) in case.moved {
         assert!(rt; stands(heap, Addr(*from)));
@@ -179,7 +194,7 @@ fn lay(
 
 // Lays a case, and counts.
 fn lays(rt: &impl Abort, alloc: Global, case: &Case) -> Result<(), Memory> {
-    let mut heap = heap_of(rt, alloc, case)?;
+    let mut heap = heap_of(rt, alloc, case.cells, case.raised)?;
     assert!(rt; case.condemned < 3);
     let mut plan = Plan::take(alloc, &mut heap, case.condemned)?;
     assert_bare(rt, &heap);

@@ -4,7 +4,7 @@ use Rattle.hd_model.specs.Leads.{Grows}
 use Rattle.hd_model.specs.Scene.{IsYoungField}
 use Rattle.hd_final.specs.declared.joiners.Joiner.{Joiner}
 use Rattle.hd_final.specs.Joiners.{places}
-use Rattle.hd_final.proofs.Joining.{places_more, behind, grown_more}
+use Rattle.hd_final.proofs.Joining.{places_more, beyond, grown_more}
 use Rattle.hd_final.proofs.joiners.join.Goals as goal
 
 abbrev no_joiner : Joiner
@@ -33,7 +33,7 @@ loop-joiner-preserved g c =
           (λ a. Contains xs a) (promoted start) (promoted c.promote.new.self))
           (sym (places_more js i no_joiner low)) more,
       c.push_back_reserved.ensures.items
-          ∙ behind c.loop-joiner.waiting.items c.args.waiting.now.items js i no_joiner low
+          ∙ beyond c.loop-joiner.waiting.items c.args.waiting.now.items js i no_joiner low
           c.loop-joiner.invariant.4,
       c.push_back_reserved.ensures.capacity ∙ c.loop-joiner.invariant.5,
     )

@@ -15,6 +15,6 @@ pub loop-on-preserved : goal.loop-on-preserved
 loop-on-preserved c =
     let some : 0 < c.loop-on.serial = omega (arith, c.loop-on.invariant.1, c.loop-on-test.true) in (
       bare_more c.loop-on.heap c.new_object.new.self c.loop-on.serial c.in-Ok.field-0 _ _
-          c.loop-on.invariant.0 c.in-Ok.ensures refl some,
+          c.loop-on.invariant.0 c.in-Ok.ensures.made refl some,
       omega (arith, some, c.loop-on.invariant.1),
     )

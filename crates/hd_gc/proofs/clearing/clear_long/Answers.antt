@@ -1,4 +1,4 @@
-use Rattle.std.proofs.Common.{◌≡◌, ◌+◌, ℕ, ◌∙◌, ap, arith}
+use Rattle.std.proofs.Common.{◌∙◌, ap, arith}
 use Rattle.hd_model.specs.declared.data.Kind.TheVariants as kind
 use Rattle.hd_model.specs.Heap.{Basis, objects_of}
 use Rattle.hd_model.specs.Ages.{HasSoundAges}
@@ -6,8 +6,9 @@ use Rattle.hd_model.specs.Table.{Table, row_at}
 use Rattle.hd_mark.specs.Marks.{MarksOf, promoted_in}
 use Rattle.hd_scan.specs.declared.task.Task.TheVariants as task
 use Rattle.hd_scan.specs.Whole.{WholeClear}
-use Rattle.hd_gc.proofs.Again.{names_again, ages_again, clumps_same, visits_same, same_table_on}
-use Rattle.hd_gc.proofs.Fading.{fades_swept, faded_names, faded_ages}
+use Rattle.hd_model.proofs.Again.{names_again, ages_again, clumps_same, visits_same, same_table_on}
+use Rattle.hd_model.proofs.Fading.{faded_names, faded_ages}
+use Rattle.hd_gc.proofs.Fading.{fades_swept}
 use Rattle.hd_gc.proofs.Dropping.{long_rows, long_counted, cleared_over}
 use Rattle.hd_gc.proofs.clearing.clear_long.Goals as goal
 
@@ -119,10 +120,12 @@ returns-clause-drops g c =
     cleared_over (row_at t2) (row_at t3) task.ClearCounted (promoted_in m0) (promoted_in m2)
     c.pass-3.result (c.pass-2.ensures.passed.promotes ∙ c.pass.ensures.passed.promotes)
     (c.pass-3.ensures.whole
-    (ages_again m0.basis m2.basis t2 t2 ages (c.pass-2.ensures.basis ∙ c.pass.ensures.basis) (λ i. t2) sound2))
+    (ages_again m0.basis m2.basis t2 t2 ages (c.pass-2.ensures.basis ∙ c.pass.ensures.basis) (λ i. t2)
+    sound2))
     in
     record {
-      rows = long_rows (promoted_in m0) (row_at t0) (row_at t1) (row_at t2) (row_at t3) a.swept b.swept d.swept;
+      rows = long_rows (promoted_in m0) (row_at t0) (row_at t1) (row_at t2) (row_at t3) a.swept b.swept
+          d.swept;
       table =
           same_table_on t0 t2 t3
           (same_table_on t0 t1 t2 c.pass.ensures.passed.table c.pass-2.ensures.passed.table)

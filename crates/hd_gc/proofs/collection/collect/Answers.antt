@@ -1,6 +1,6 @@
-use Rattle.std.proofs.Common.{◌≡◌, ◌*◌, length, ◌∙◌, sym, ap, refl}
-use Rattle.hd_model.specs.Heap.{Heap, Basis}
-use Rattle.hd_gc.proofs.Again.{clumps_same}
+use Rattle.std.proofs.Common.{ap, refl, arith}
+use Rattle.hd_model.specs.Heap.{Basis}
+use Rattle.hd_model.proofs.Again.{clumps_same}
 use Rattle.hd_gc.proofs.Spared.{ready_spared, collected_spared}
 use Rattle.hd_gc.proofs.Leaving.{rows_kept, waiting_kept, waiting_objects, roots_kept}
 use Rattle.hd_gc.proofs.Arriving.{collected}
@@ -67,9 +67,9 @@ shift-requires-clause-waiting g c =
 
 pub shift-requires-clause-objects : goal.shift-requires-clause-objects
 shift-requires-clause-objects g c =
-    waiting_objects c.take.new.heap c.args.seg.now c.sift.new.seg c.args.ages.now c.args.fin.now c.sift.new.fin
-    c.args.roots.now c.args.n c.sift.new.plan c.in_ok-found.found c.report-report.result c.args.steps.now
-    c.sift.new.steps
+    waiting_objects c.take.new.heap c.args.seg.now c.sift.new.seg c.args.ages.now c.args.fin.now
+    c.sift.new.fin c.args.roots.now c.args.n c.sift.new.plan c.in_ok-found.found c.report-report.result
+    c.args.steps.now c.sift.new.steps
     (ready_spared c.args.heap.now c.take.new.heap c.args.seg.now c.args.ages.now c.args.fin.now
     c.args.roots.now c.take.ensures.same c.requires.ready) c.in_ok-found.ensures.found c.report-report.ensures
 
@@ -88,8 +88,8 @@ returns g c =
     c.args.n c.report-report.result c.args.steps.now c.shift.new.steps c.take.ensures.same
     (collected c.take.new.heap c.shift.new.heap c.args.seg.now c.sift.new.seg c.shift.new.seg
     c.args.ages.now c.shift.new.ages c.args.fin.now c.sift.new.fin c.shift.new.fin c.args.roots.now
-    c.shift.new.roots c.args.n c.sift.new.plan c.in_ok-found.found c.report-report.result c.len-joined.result
+    c.shift.new.roots c.args.n c.sift.new.plan c.in_ok-found.found c.report-report.result _
     c.args.steps.now c.sift.new.steps c.shift.new.steps
     (ready_spared c.args.heap.now c.take.new.heap c.args.seg.now c.args.ages.now c.args.fin.now
     c.args.roots.now c.take.ensures.same c.requires.ready) c.in_ok-found.ensures.found
-    c.report-report.ensures c.shift.ensures.shifted c.len-joined.ensures.value)
+    c.report-report.ensures c.shift.ensures.shifted (omega (arith, c.len-joined.ensures.value)))

@@ -1,13 +1,12 @@
-use Rattle.std.proofs.Common.{◌≡◌, ◌+◌, true, Some, None, ◌∙◌, sym, subst, ap, take, length, arith}
+use Rattle.std.proofs.Common.{◌≡◌, ◌+◌, true, Some, None, ◌∙◌, sym, subst, ap, take, arith}
 use Rattle.std.specs.Prelude.{Contains}
-use Rattle.std.proofs.lemmas.Option.{same_Some, none-some}
+use Rattle.std.proofs.lemmas.Option.{same_Some}
 use Rattle.std.proofs.lemmas.List.Elements.{Contains-get_or}
-use Rattle.hd_model.specs.declared.data.Addr.{Addr}
-use Rattle.hd_model.specs.Heap.{Heap, Basis, objects_of, object_at, has_object}
-use Rattle.hd_model.specs.Scene.{is_object, fields_at}
+use Rattle.hd_model.specs.Heap.{Heap, Basis, object_at, has_object}
+use Rattle.hd_model.specs.Scene.{fields_at}
 use Rattle.hd_mark.specs.Marks.{MarksOf}
 use Rattle.hd_gc.specs.Growing.{Promotes}
-use Rattle.hd_gc.proofs.Promoting.{promotes_none, promoted_next, promoted_passed, promoted_all, none_taken, none_of}
+use Rattle.hd_gc.proofs.Promoting.{promotes_none, promoted_next, promoted_passed, promoted_all, none_taken}
 use Rattle.hd_gc.proofs.marking.promote_fields.Goals as goal
 use Rattle.hd_gc.proofs.marking.promote_fields.Goals.{in-Some, in_default}
 

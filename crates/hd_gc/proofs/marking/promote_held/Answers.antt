@@ -1,11 +1,11 @@
-use Rattle.std.proofs.Common.{◌≡◌, ◌+◌, ℕ, ◌∙◌, sym, ap, arith}
+use Rattle.std.proofs.Common.{◌≡◌, ℕ, ◌∙◌, ap, arith}
 use Rattle.hd_model.specs.declared.data.Kind.TheVariants as kind
 use Rattle.hd_model.specs.Heap.{Basis}
 use Rattle.hd_model.specs.Table.{Table}
 use Rattle.hd_model.specs.Visits.{visits_of}
 use Rattle.hd_mark.specs.Marks.{MarksOf}
 use Rattle.hd_scan.specs.declared.task.Task.TheVariants as task
-use Rattle.hd_gc.proofs.Again.{names_again, ages_again, clumps_again}
+use Rattle.hd_model.proofs.Again.{names_again, ages_again, clumps_again}
 use Rattle.hd_gc.proofs.Holding.{rooted, holding}
 use Rattle.hd_gc.proofs.marking.promote_held.Goals as goal
 

@@ -1,11 +1,9 @@
-use Rattle.std.proofs.Common.{◌≡◌, ◌+◌, true, Some, sym, subst, ap, take, length, arith}
+use Rattle.std.proofs.Common.{◌≡◌, true, sym, subst, take, arith}
 use Rattle.std.specs.Prelude.{Contains}
 use Rattle.std.proofs.lemmas.List.Elements.{Contains-get_or}
 use Rattle.hd_model.specs.declared.data.Addr.{Addr}
 use Rattle.hd_model.specs.Heap.{Basis, objects_of}
 use Rattle.hd_model.specs.Scene.{is_object}
-use Rattle.hd_mark.specs.Marks.{MarksOf}
-use Rattle.hd_gc.specs.Growing.{Promotes}
 use Rattle.hd_gc.proofs.Promoting.{promotes_none, promoted_next, promoted_all, none_taken}
 use Rattle.hd_gc.proofs.marking.promote_queue.Goals as goal
 

@@ -1,8 +1,7 @@
-use Rattle.std.proofs.Common.{◌≡◌, ◌+◌, true, Some, None, sym, subst, ap, take, length, arith, lit<}
+use Rattle.std.proofs.Common.{◌≡◌, ◌+◌, true, Some, None, sym, subst, take, arith}
 use Rattle.std.specs.Prelude.{Contains}
 use Rattle.std.proofs.lemmas.Option.{same_Some}
 use Rattle.std.proofs.lemmas.List.Elements.{Contains-get_or}
-use Rattle.hd_model.specs.declared.data.Addr.{Addr}
 use Rattle.hd_model.specs.Heap.{Basis, objects_of}
 use Rattle.hd_model.specs.Scene.{is_object}
 use Rattle.hd_mark.specs.Marks.{MarksOf}
@@ -35,7 +34,8 @@ loop-root-preserved c =
           subst (λ (m : MarksOf). Promotes (λ x. Contains (take (i + 1) roots) (Some x)) c.args.marks.now m)
           (sym w.marks-is)
           (promoted_next (λ x. Some x) (λ x y e. same_Some x y e) roots i None c.loop-root-test.true
-          c.args.marks.now c.loop-root.marks c.loop-root.invariant w.in-Some.at w.promote.new.self w.in-Some.is
+          c.args.marks.now c.loop-root.marks c.loop-root.invariant w.in-Some.at w.promote.new.self
+          w.in-Some.is
           (record {
             settled = w.promote.ensures.settled;
             basis = w.promote.ensures.basis;

@@ -1,5 +1,4 @@
-use Rattle.std.proofs.Common.{◌≡◌, ◌+◌, true, ◌∙◌, sym, subst, ap}
-use Rattle.hd_model.specs.declared.data.Addr.{Addr}
+use Rattle.std.proofs.Common.{◌≡◌, true, ◌∙◌, sym, subst, ap}
 use Rattle.hd_model.specs.declared.data.Kind.TheVariants as kind
 use Rattle.hd_model.specs.Heap.{Basis, object_at, objects_of}
 use Rattle.hd_model.specs.Table.{Table, row_at}
@@ -7,9 +6,9 @@ use Rattle.hd_model.specs.Leads.{IsClosed, IsClosure}
 use Rattle.hd_model.specs.Reach.{IsArrow}
 use Rattle.hd_model.specs.Scene.{is_object, IsField}
 use Rattle.hd_model.specs.Visits.{visits_of}
-use Rattle.hd_mark.specs.Marks.{MarksOf, promoted_in, first_marks}
+use Rattle.hd_mark.specs.Marks.{MarksOf, promoted_in}
 use Rattle.hd_dep.specs.Rescan.{RescanSteps}
-use Rattle.hd_gc.proofs.Again.{names_again, ages_again, clumps_again}
+use Rattle.hd_model.proofs.Again.{names_again, ages_again, clumps_again}
 use Rattle.hd_gc.proofs.Traces.{whole_names, basis4, fields_closed, traced_marks}
 use Rattle.hd_gc.proofs.marking.trace.Goals as goal
 
@@ -102,7 +101,8 @@ rescan-requires-clause-fields g c =
     c.promote_roots.new.marks c.promote_queue.new.marks c.promote_held.new.marks c.promote_carded.new.marks
     c.requires.first c.requires.whole c.requires.cards c.promote_roots.ensures c.promote_queue.ensures
     c.promote_held.ensures.holds c.promote_carded.ensures in
-    subst (λ (b : Basis). IsClosed (IsField (objects_of b)) (promoted_in c.promote_carded.new.marks)) (sym basis)
+    subst (λ (b : Basis). IsClosed (IsField (objects_of b)) (promoted_in c.promote_carded.new.marks))
+    (sym basis)
     (fields_closed c.args.heap.now c.args.seg.now c.args.roots.now c.args.fin.now.waiting c.args.n
     c.args.marks.now c.promote_roots.new.marks c.promote_queue.new.marks c.promote_held.new.marks
     c.promote_carded.new.marks

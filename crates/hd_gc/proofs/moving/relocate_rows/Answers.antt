@@ -1,10 +1,9 @@
-use Rattle.std.proofs.Common.{◌≡◌, ◌+◌, ◌*◌, ℕ, true, length, ◌∙◌, ap, arith, refl}
-use Rattle.hd_model.specs.declared.data.Kind.{Kind}
+use Rattle.std.proofs.Common.{arith, refl}
 use Rattle.hd_model.specs.declared.data.Kind.TheVariants as kind
 use Rattle.hd_model.specs.Table.{Table}
 use Rattle.hd_model.specs.Visits.{IsSameTable}
 use Rattle.hd_plan.specs.Plan.{kept_in, place_in}
-use Rattle.hd_gc.proofs.Again.{clumps_same, visits_same, same_table_on}
+use Rattle.hd_model.proofs.Again.{clumps_same, visits_same, same_table_on}
 use Rattle.hd_gc.proofs.Renaming.{IsFresh, renamed, fresh_start, fresh_after, can_relocate}
 use Rattle.hd_gc.proofs.moving.relocate_rows.Goals as goal
 
@@ -235,7 +234,8 @@ relocate-requires-7-clause-kept g c =
     fresh_after kept place ages c.args.n kind.Pinned kind.Dependent t3 t4 refl c.relocate-4.ensures.relocates
     fresh3 in
     let fresh5 : IsFresh kept t5 kind.Dependent =
-    fresh_after kept place ages c.args.n kind.Variable kind.Dependent t4 t5 refl c.relocate-5.ensures.relocates
+    fresh_after kept place ages c.args.n kind.Variable kind.Dependent t4 t5 refl
+    c.relocate-5.ensures.relocates
     fresh4 in
     let fresh6 : IsFresh kept t6 kind.Dependent =
     fresh_after kept place ages c.args.n kind.Counted kind.Dependent t5 t6 refl c.relocate-6.ensures.relocates

@@ -1,7 +1,5 @@
-use Rattle.std.proofs.Common.{◌≡◌, ◌+◌, ◌*◌, ℕ, length, drop, ◌∙◌, sym, subst, ap, refl}
-use Rattle.hd_model.specs.Heap.{Heap, object_at, is_carded}
-use Rattle.hd_model.specs.Ages.{HasSoundCards}
-use Rattle.hd_final.specs.Settling.{Unregisters}
+use Rattle.std.proofs.Common.{drop, sym, subst}
+use Rattle.hd_model.specs.Heap.{Heap}
 use Rattle.hd_plan.specs.Commit.{IsSameShape}
 use Rattle.hd_gc.proofs.Settled.{same_shape, same_cards}
 use Rattle.hd_gc.proofs.moving.shift.Goals as goal
@@ -36,7 +34,8 @@ commit-requires-clause-laid g c = c.requires.laid
 pub commit-requires-clause-same : goal.commit-requires-clause-same
 commit-requires-clause-same g c =
     subst (λ (k : Heap). IsSameShape k c.settle.new.heap) (sym c.requires.heap)
-    (same_shape (drop c.args.joined c.args.fin.now.waiting) c.args.heap.now c.settle.new.heap c.settle.ensures)
+    (same_shape (drop c.args.joined c.args.fin.now.waiting) c.args.heap.now c.settle.new.heap
+    c.settle.ensures)
 
 pub commit-requires-clause-cards : goal.commit-requires-clause-cards
 commit-requires-clause-cards g c =

@@ -1,12 +1,10 @@
-use Rattle.std.proofs.Common.{◌≡◌, ◌<◌, ℕ, true, ◌∙◌, sym, subst, ap}
-use Rattle.hd_model.specs.declared.data.Addr.{Addr}
+use Rattle.std.proofs.Common.{◌∙◌, subst, ap}
 use Rattle.hd_model.specs.Heap.{Basis, object_at, objects_of, id_at}
 use Rattle.hd_model.specs.Table.{row_at}
 use Rattle.hd_model.specs.Leads.{IsClosure}
 use Rattle.hd_model.specs.Reach.{IsArrow}
-use Rattle.hd_model.specs.Scene.{is_object}
 use Rattle.hd_mark.specs.Marks.{MarksOf, promoted_in}
-use Rattle.hd_gc.proofs.Again.{names_again, ages_again}
+use Rattle.hd_model.proofs.Again.{names_again, ages_again}
 use Rattle.hd_gc.proofs.Traces.{settled_over, still_closed}
 use Rattle.hd_gc.proofs.Tracing.{revival}
 use Rattle.hd_gc.proofs.sift.revive.Goals as goal

@@ -1,15 +1,14 @@
-use Rattle.std.proofs.Common.{◌≡◌, ◌+◌, ◌*◌, ℕ, true, length, ◌∙◌, sym, subst, ap}
-use Rattle.hd_model.specs.declared.data.Addr.{Addr}
+use Rattle.std.proofs.Common.{◌≡◌, ◌+◌, ℕ, true, ◌∙◌, sym, subst, ap}
 use Rattle.hd_model.specs.declared.data.Kind.TheVariants as kind
 use Rattle.hd_model.specs.Counting.{Counts}
-use Rattle.hd_model.specs.Heap.{Heap, Basis, object_at, objects_of}
+use Rattle.hd_model.specs.Heap.{Basis, objects_of}
 use Rattle.hd_model.specs.Leads.{IsClosed}
 use Rattle.hd_model.specs.Scene.{IsField, IsCondemned}
-use Rattle.hd_model.specs.Table.{Table, row_at}
+use Rattle.hd_model.specs.Table.{Table}
 use Rattle.hd_model.specs.Visits.{visits_of}
 use Rattle.hd_mark.specs.Marks.{MarksOf, promoted_in, pinned_in}
 use Rattle.hd_plan.specs.Plan.{stays_in}
-use Rattle.hd_gc.proofs.Again.{names_again, ages_again, clumps_again, clumps_same, same_table_on}
+use Rattle.hd_model.proofs.Again.{names_again, ages_again, clumps_again, clumps_same}
 use Rattle.hd_gc.proofs.Traces.{whole_names}
 use Rattle.hd_gc.proofs.Sifts.{names1, ages1, fields2, waiting2, names2, ages2, closed4, sift_steps, sifted}
 use Rattle.hd_gc.proofs.sift.sift.Goals as goal
@@ -52,14 +51,16 @@ clear_short-short-requires-clause-generation g c =
 
 pub clear_short-short-requires-clause-names : goal.clear_short-short-requires-clause-names
 clear_short-short-requires-clause-names g c =
-    names_again (record { heap = c.args.heap.now; condemned = c.args.n }) c.trace.new.marks.basis c.args.seg.now c.trace.new.seg
+    names_again (record { heap = c.args.heap.now; condemned = c.args.n }) c.trace.new.marks.basis
+    c.args.seg.now c.trace.new.seg
     c.trace.ensures.traced.basis c.trace.ensures.table
     (whole_names c.args.heap.now c.args.seg.now c.args.roots.now c.args.fin.now.waiting
     c.requires.ready.whole)
 
 pub clear_short-short-requires-clause-ages : goal.clear_short-short-requires-clause-ages
 clear_short-short-requires-clause-ages g c =
-    ages_again (record { heap = c.args.heap.now; condemned = c.args.n }) c.trace.new.marks.basis c.args.seg.now c.trace.new.seg
+    ages_again (record { heap = c.args.heap.now; condemned = c.args.n }) c.trace.new.marks.basis
+    c.args.seg.now c.trace.new.seg
     c.args.ages.now c.trace.ensures.traced.basis c.trace.ensures.table c.requires.ready.ages_sound
 
 pub clear_short-short-requires-clause-clumps : goal.clear_short-short-requires-clause-clumps
@@ -134,8 +135,9 @@ clear_long-long-requires-clause-generation g c =
 
 pub clear_long-long-requires-clause-names : goal.clear_long-long-requires-clause-names
 clear_long-long-requires-clause-names g c =
-    names_again (record { heap = c.args.heap.now; condemned = c.args.n }) c.revive-revived.new.marks.basis c.clear_short-short.new.seg
-    c.clear_short-short.new.seg (c.revive-revived.ensures.revived.basis ∙ c.clear_short-short.ensures.marks.basis
+    names_again (record { heap = c.args.heap.now; condemned = c.args.n }) c.revive-revived.new.marks.basis
+    c.clear_short-short.new.seg c.clear_short-short.new.seg
+    (c.revive-revived.ensures.revived.basis ∙ c.clear_short-short.ensures.marks.basis
     ∙ c.trace.ensures.traced.basis) (λ i. c.clear_short-short.new.seg)
     (names1 c.args.heap.now c.args.seg.now c.args.ages.now c.args.fin.now c.args.roots.now c.args.n
     c.requires.ready c.trace.new.marks c.args.steps.now c.trace.new.steps c.trace.ensures.traced
@@ -144,8 +146,9 @@ clear_long-long-requires-clause-names g c =
 
 pub clear_long-long-requires-clause-ages : goal.clear_long-long-requires-clause-ages
 clear_long-long-requires-clause-ages g c =
-    ages_again (record { heap = c.args.heap.now; condemned = c.args.n }) c.revive-revived.new.marks.basis c.clear_short-short.new.seg
-    c.clear_short-short.new.seg c.args.ages.now (c.revive-revived.ensures.revived.basis ∙ c.clear_short-short.ensures.marks.basis
+    ages_again (record { heap = c.args.heap.now; condemned = c.args.n }) c.revive-revived.new.marks.basis
+    c.clear_short-short.new.seg c.clear_short-short.new.seg c.args.ages.now
+    (c.revive-revived.ensures.revived.basis ∙ c.clear_short-short.ensures.marks.basis
     ∙ c.trace.ensures.traced.basis) (λ i. c.clear_short-short.new.seg)
     (ages1 c.args.heap.now c.args.seg.now c.args.ages.now c.args.fin.now c.args.roots.now c.args.n
     c.requires.ready c.trace.new.marks c.args.steps.now c.trace.new.steps c.trace.ensures.traced
@@ -171,8 +174,9 @@ clear-dep-requires-clause-generation g c =
 
 pub clear-dep-requires-clause-names : goal.clear-dep-requires-clause-names
 clear-dep-requires-clause-names g c =
-    names_again (record { heap = c.args.heap.now; condemned = c.args.n }) c.clear_long-long.new.marks.basis c.clear_long-long.new.seg
-    c.clear_long-long.new.seg (c.clear_long-long.ensures.marks.basis ∙ c.revive-revived.ensures.revived.basis
+    names_again (record { heap = c.args.heap.now; condemned = c.args.n }) c.clear_long-long.new.marks.basis
+    c.clear_long-long.new.seg c.clear_long-long.new.seg
+    (c.clear_long-long.ensures.marks.basis ∙ c.revive-revived.ensures.revived.basis
     ∙ c.clear_short-short.ensures.marks.basis ∙ c.trace.ensures.traced.basis) (λ i. c.clear_long-long.new.seg)
     (names2 c.args.heap.now c.args.seg.now c.args.ages.now c.args.fin.now c.args.roots.now c.args.n
     c.requires.ready c.trace.new.marks c.args.steps.now c.trace.new.steps c.trace.ensures.traced
@@ -194,8 +198,9 @@ clear-dep-requires-clause-blocks g c =
 
 pub clear-dep-requires-clause-ages_sound : goal.clear-dep-requires-clause-ages_sound
 clear-dep-requires-clause-ages_sound g c =
-    ages_again (record { heap = c.args.heap.now; condemned = c.args.n }) c.clear_long-long.new.marks.basis c.clear_long-long.new.seg
-    c.clear_long-long.new.seg c.args.ages.now (c.clear_long-long.ensures.marks.basis ∙ c.revive-revived.ensures.revived.basis
+    ages_again (record { heap = c.args.heap.now; condemned = c.args.n }) c.clear_long-long.new.marks.basis
+    c.clear_long-long.new.seg c.clear_long-long.new.seg c.args.ages.now
+    (c.clear_long-long.ensures.marks.basis ∙ c.revive-revived.ensures.revived.basis
     ∙ c.clear_short-short.ensures.marks.basis ∙ c.trace.ensures.traced.basis) (λ i. c.clear_long-long.new.seg)
     (ages2 c.args.heap.now c.args.seg.now c.args.ages.now c.args.fin.now c.args.roots.now c.args.n
     c.requires.ready c.trace.new.marks c.args.steps.now c.trace.new.steps c.trace.ensures.traced

@@ -4,6 +4,3 @@ use Rattle.hd_plan.proofs.tests.marks_of.Given as goal
 
 abbrev pub invariant-loop-at : goal.invariant-loop-at
 invariant-loop-at g l = IsSettledMarks l.marks × (l.marks.basis ≡ l.initial.marks.basis)
-
-abbrev pub invariant-loop-at-2 : goal.invariant-loop-at-2
-invariant-loop-at-2 g l = IsSettledMarks l.marks × (l.marks.basis ≡ l.initial.marks.basis)

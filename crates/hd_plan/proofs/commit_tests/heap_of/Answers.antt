@@ -1,7 +1,0 @@
-use Rattle.std.proofs.Common.{sym, subst}
-use Rattle.hd_plan.specs.Plan.{HasNoEmptyRegion}
-use Rattle.hd_plan.proofs.Filled.{filled_empty}
-use Rattle.hd_plan.proofs.commit_tests.heap_of.Goals as goal
-
-pub loop-cells-init : goal.loop-cells-init
-loop-cells-init g c = subst HasNoEmptyRegion (sym c.in_ok-heap.ensures) (filled_empty 10000)

@@ -1,0 +1,6 @@
+use Rattle.std.proofs.Common.{◌≡◌}
+use Rattle.hd_mark.specs.Marks.{IsSettledMarks}
+use Rattle.hd_plan.proofs.tests.lay.Given as goal
+
+abbrev pub invariant-loop-at : goal.invariant-loop-at
+invariant-loop-at g l = IsSettledMarks l.marks × (l.marks.basis ≡ l.initial.marks.basis)
