@@ -423,12 +423,10 @@ module _ {W : Type 0} (k b d : ℕ) (v : View W) (cs : List (ℕ × Option W)) (
   few : nat_lt (k + 1) 8 ≡ true
   few = lt-ltb (k + 1) 8 (omega arith)
 
-  pub granted_has : (r : ℕ) → r < 64 → Has (64 * (256 + b - 256) + r) y.0.hand
+  pub granted_has : (r : ℕ) → r < 64 → Has (64 * b + r) y.0.hand
   granted_has r under =
-      let at : b ≡ 256 + b - 256 = omega arith in
-      subst (λ c. Has (64 * c + r) y.0.hand) at
-      (subst (λ h. Has (64 * b + r) h) (sym (ap (λ (z : Me (Option W) (View W)). z.0.hand) y_is
-      ∙ ap handed few)) (whole_has b (k + 1) r v.hand under))
+      subst (λ h. Has (64 * b + r) h) (sym (ap (λ (z : Me (Option W) (View W)). z.0.hand) y_is
+      ∙ ap handed few)) (whole_has b (k + 1) r v.hand under)
 
   pub granted_view : (z : Me (Option W) (View W)) → z ≡ (put_in (256 + b) after_first y.0, y.1)
       → z ≡ (granted k b d v, cs)

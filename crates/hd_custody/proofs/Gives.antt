@@ -341,7 +341,8 @@ module _ {W : Type 0} (m : Ghosts W) (numbers : Numbers) (s : State (Option W) (
         (λ here. elim (cases_lt j 1402) [
           | inl under ↦ (
               let none = (once_here (get_or s.words j 0) j under here).1 in
-              let one = weight_cell (get_or s.words j 0) j (get_or s.words j 0) le ∙ hit _ _ refl in omega arith)
+              let one = weight_cell (get_or s.words j 0) j (get_or s.words j 0) le ∙ hit _ _ refl in
+              omega arith)
           | inr over ↦ ne (Rattle.hd_custody.proofs.Weights.past s.words j (omega (arith, c.wide)))
         ])
 

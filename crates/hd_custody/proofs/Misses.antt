@@ -1,5 +1,5 @@
--- The steps of a call that ends in `missed` are a whole Miss, a whole Miss is the steps of such a call, and it
--- found nothing in any word of the kind.
+-- The steps of a call that ends in `missed` are a whole Miss, a whole Miss is the steps of such a call, and
+-- it found nothing in any word of the kind.
 use Rattle.std.proofs.Common.{◌≡◌, ◌≢◌, ◌⊎◌, ℕ, zero, suc, ◌+◌, ◌-◌, ◌*◌, ◌<◌, ◌≤◌, ◌==◌, Bool, true, false, cond, bit_or, List, [], ◌∷◌, ◌++◌, length, inl, inr, sym, ap, subst, refl, ◌∙◌, eq-eqb, ne_eqb, arith, Option, Some, None}
 use Rattle.std.specs.Prelude.{◌&&◌, ◌↔◌, nat_lt, IsNone}
 use Rattle.std.proofs.lemmas.Bool.{cases_eq, ltb-true, ltb-false}
@@ -56,7 +56,8 @@ module _ (k blocks : ℕ) where
   after_never (drain b) t off = cc
   after_never (again b m) t off = cc
   after_never (back b m) t off = cc
-  after_never (bank b x i m) t off = step_never t (514 + 127 * k + i) (cond (t.1 == 0) (64 * b + lowest m) t.1)
+  after_never (bank b x i m) t off =
+      step_never t (514 + 127 * k + i) (cond (t.1 == 0) (64 * b + lowest m) t.1)
       (to_bank b x (i + 1) (cond (t.1 == 0) (next_rows m) m))
       (bank_never b x (i + 1) (cond (t.1 == 0) (next_rows m) m))
   after_never (rest b x m) t off = step_never t (256 + b) (bit_or t.1 m) (found x) refl
@@ -272,7 +273,8 @@ module _ (k blocks : ℕ) where
   cache_leads (suc c) n size =
       ap (λ p. follow k blocks (after k blocks p (probe_word k n, 0, 0)) (on_cache k c (n + 1)))
       (less_is n 127 (probe n) (to_look blocks 1) (omega arith))
-      ∙ ap (λ p. follow k blocks p (on_cache k c (n + 1))) (due (probe_word k n) 0 0 (to_probe blocks (n + 1)))
+      ∙ ap (λ p. follow k blocks p (on_cache k c (n + 1)))
+      (due (probe_word k n) 0 0 (to_probe blocks (n + 1)))
       ∙ cache_leads c (n + 1) (omega arith)
 
   look_leads : (b : ℕ) → after k blocks (look b) (b, k + 1, k + 1) ≡ drain b
@@ -343,7 +345,8 @@ module _ (k : ℕ) where
   probe_at n lt = cache_at 127 0 n lt ∙ ap (λ i. some (probe_word k i, 0, 0)) (omega arith)
 
   -- each word of the kind is one of the probes
-  probe_of : (i : ℕ) → 513 + 127 * k ≤ i → i < 640 + 127 * k → (n : ℕ) × (n < 127) × (probe_word k n ≡ i)
+  probe_of : (i : ℕ) → 513 + 127 * k ≤ i → i < 513 + 127 * k + 127
+      → (n : ℕ) × (n < 127) × (probe_word k n ≡ i)
   probe_of i low high = elim (cases_eq i (513 + 127 * k)) [
     | inl quick ↦ (0, omega arith, probe-quick k 0 refl ∙ sym quick)
     | inr cell ↦ elim (either_way (nat_lt i (577 + 127 * k))) [

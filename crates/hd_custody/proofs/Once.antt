@@ -1,13 +1,11 @@
 -- Each slot stands in one place at most.
-use Rattle.std.proofs.Common.{◌≡◌, ◌≢◌, ℕ, zero, suc, ◌+◌, ◌/◌, ◌<◌, ◌≤◌, Bool, true, false, List, length, get_or, slice_index, Option, inl, inr, sym, ap, refl, ◌∙◌, arith}
+use Rattle.std.proofs.Common.{◌≡◌, ℕ, ◌/◌, ◌<◌, ◌≤◌, true, false, length, get_or, Option, inl, inr, ap, arith}
 use Rattle.std.proofs.lemmas.Bool.{cases_eq}
-use mathlib.Core.Option.{some}
-use lib.ListN.{get_elem?}
 use Rattle.atomic_table.specs.Table.{State}
 use Rattle.hd_model.specs.declared.held.Held.{Ghosts}
 use Rattle.hd_model.specs.State.{Numbers}
 use Rattle.hd_custody.specs.declared.view.View.{View}
-use Rattle.hd_custody.specs.Counts.{total, total_at, one_if, weight, in_hand, kind_word, named, Has}
+use Rattle.hd_custody.specs.Counts.{one_if, weight, in_hand, kind_word}
 use Rattle.hd_custody.specs.Rule.{held_by, Custodied}
 use Rattle.hd_custody.specs.Laws.{HasIt, InNoWord, StandsOnce, SlotsStandOnce}
 use Rattle.hd_custody.proofs.Totals.{total_two, total_at_member}

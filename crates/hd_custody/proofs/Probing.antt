@@ -228,23 +228,21 @@ set_real m r set none = let z = ap (λ n. bit_at n r) none ∙ Rattle.std.proofs
 
 -- what came of a mask was not in the hand
 pub mask_apart : {W : Type 0} (m : Ghosts W) (v : View W) (b mask : ℕ) (h : List (ℕ × ℕ)) → v.hand ≡ h
-    → ((r : ℕ) → r < 64 → bit_at mask r ≡ 1 → Fresh m v (64 * (256 + b - 256) + r)) → Apart b mask h
+    → ((r : ℕ) → r < 64 → bit_at mask r ≡ 1 → Fresh m v (64 * b + r)) → Apart b mask h
 mask_apart m v b mask h is fresh r lt set =
     let f = fresh r lt set in
-    let at : 256 + b - 256 ≡ b = omega arith in
-    subst (λ d. in_hand (64 * d + r) h ≡ 0) at (ap (in_hand (64 * (256 + b - 256) + r)) (sym is) ∙ f.2)
+    ap (in_hand (64 * b + r)) (sym is) ∙ f.2
 
 pub row_offers : {W : Type 0} (m : Ghosts W) (k blocks : ℕ) (start p q : Phase) (a b c : Mine W)
     (block row y : ℕ) (h : List (ℕ × ℕ)) → row < 64
     → Made k blocks start a.0.hand p a b → Made k blocks start h q a c
-    → Fresh m b.0 (64 * (256 + block - 256) + row) → KindIs m c.0 block y → y ≡ k + 1
+    → Fresh m b.0 (64 * block + row) → KindIs m c.0 block y → y ≡ k + 1
     → Offers m k a.0 (64 * block + row)
 row_offers m k blocks start p q a b c block row y h lt so later fresh kind is ne =
-    let at : 256 + block - 256 ≡ block = omega arith in
     let there : block ≡ (64 * block + row) / 64 = omega arith in
     let F : Mine _ → Type 0 = λ x. Fresh m x.0 (64 * block + row) in
     let K : Mine _ → Type 0 = λ x. KindIs m x.0 block y in
-    let f = subst F so.1 (subst (λ d. Fresh m b.0 (64 * d + row)) at fresh) in
+    let f = subst F so.1 fresh in
     let g = subst K later.1 kind in (
       f,
       λ u has took. subst (λ d. Rattle.hd_custody.specs.Counts.changed a.0.changes (m.kind u) d ≡ k + 1)

@@ -1,12 +1,11 @@
 -- The steps of a `release` and of a `gather`.
-use Rattle.std.proofs.Common.{◌≡◌, ◌≢◌, ℕ, zero, suc, ◌+◌, ◌-◌, ◌*◌, ◌/◌, ◌%◌, ◌^◌, ◌<◌, ◌≤◌, ◌==◌, not, cond, bit_or, List, ◌∷◌, ◌++◌, inl, inr, sym, ap, subst, refl, ◌∙◌, eq-eqb, ne_eqb, arith}
-use Rattle.std.specs.Int.{bit_at}
+use Rattle.std.proofs.Common.{◌≡◌, ◌≢◌, ℕ, zero, suc, ◌+◌, ◌-◌, ◌/◌, ◌%◌, ◌^◌, ◌<◌, ◌≤◌, ◌==◌, not, cond, bit_or, List, ◌∷◌, ◌++◌, inl, inr, sym, ap, refl, ◌∙◌, eq-eqb, ne_eqb, arith}
 use Rattle.std.proofs.lemmas.Bool.{cases_eq}
 use Rattle.hd_custody.specs.Counts.{in_hand, kind_at, with_slot, put_out, without, naming, rows, without_rows, is_nil, Has, HasAs}
 use Rattle.hd_custody.specs.Views.{begun, swapped, looked, drained, restored, Kinded}
 use Rattle.hd_custody.specs.Traces.{Phase, sweep, settle, look_whole, drain_whole, again_whole, back_part, push, last, found, after, to_sweep, to_look_whole, to_push, sweep_word, push_word, every_row}
 use Rattle.hd_custody.specs.Calls.{At, Made, Began, Apart, swept_to, drained_to}
-use Rattle.hd_custody.proofs.Canon.{rows_go, rows_none, naming_kinded, naming_rows, slot_settles, top_has, put_goes, with_slot_some, with_slot_none}
+use Rattle.hd_custody.proofs.Canon.{rows_go, rows_none, naming_kinded, naming_rows, slot_settles, put_goes, with_slot_some, with_slot_none}
 use Rattle.hd_custody.proofs.Hands.{in_hand_kept, in_hand_dropped}
 use Rattle.hd_custody.proofs.Phases.{Mine, due, zero_is, zero_not, same_is, same_not, less_is, then_swap, then_look, then_drain, then_back, first_swap, made_start, shaped_as}
 
@@ -88,15 +87,6 @@ module _ {W : Type 0} (k blocks slot : ℕ) (a : Mine W) where
     where
       at : (q : ℕ) → 256 + q - 256 ≡ q
       at q = omega arith
-
--- the row of a slot that goes into its mask is in the hand
-pub settle_has : (y k i mask : ℕ) (hand : List (ℕ × ℕ)) → y ≢ 0 → i ≡ 256 + y / 64 → mask ≡ 2 ^ (y % 64)
-    → (r : ℕ) → r < 64 → bit_at mask r ≡ 1 → Has (64 * (i - 256) + r) (with_slot y k hand)
-settle_has y k i mask hand real word_is mask_is r lt set =
-    let at : y / 64 ≡ i - 256 = omega arith in
-    subst (λ g. Has (64 * (i - 256) + r) g) (sym (with_slot_some y k hand real))
-    (subst (λ d. Has (64 * d + r) ((y, k) ∷ hand)) at
-    (top_has y k r hand lt (ap (λ m. bit_at m r) (sym mask_is) ∙ set)))
 
 -- ---- gather
 

@@ -12,29 +12,32 @@ use Rattle.hd_custody.proofs.Totals.{total_at_member}
 
 pub weight_low : (x i w : ℕ) → i < 257 → weight x i w ≡ 0
 unfolding weight
-weight_low x i w lt = ap (λ b. cond b 0 (cond (nat_lt i 513) (cond (x / 64 + 256 == i) (bit_at w (x % 64)) 0)
+weight_low x i w lt = ap (λ b. cond b 0 (cond (nat_lt i 513) (cond (256 + x / 64 == i) (bit_at w (x % 64)) 0)
     (one_if (w == x)))) (lt-ltb i 257 lt)
 
-mask_is : (x i w : ℕ) → 257 ≤ i → i < 513 → weight x i w ≡ cond (x / 64 + 256 == i) (bit_at w (x % 64)) 0
+mask_is : (x i w : ℕ) → 257 ≤ i → i < 513 → weight x i w ≡ cond (256 + x / 64 == i) (bit_at w (x % 64)) 0
 unfolding weight
 mask_is x i w le lt =
-    ap (λ b. cond b 0 (cond (nat_lt i 513) (cond (x / 64 + 256 == i) (bit_at w (x % 64)) 0)
+    ap (λ b. cond b 0 (cond (nat_lt i 513) (cond (256 + x / 64 == i) (bit_at w (x % 64)) 0)
     (one_if (w == x)))) (le-ltb i 257 le)
-    ∙ ap (λ b. cond b (cond (x / 64 + 256 == i) (bit_at w (x % 64)) 0) (one_if (w == x))) (lt-ltb i 513 lt)
+    ∙ ap (λ b. cond b (cond (256 + x / 64 == i) (bit_at w (x % 64)) 0) (one_if (w == x))) (lt-ltb i 513 lt)
 
 pub weight_mask : (x i w : ℕ) → 257 ≤ i → i < 513 → x / 64 + 256 ≡ i → weight x i w ≡ bit_at w (x % 64)
-weight_mask x i w le lt e = mask_is x i w le lt ∙ ap (λ b. cond b (bit_at w (x % 64)) 0) (eq-eqb _ _ e)
+weight_mask x i w le lt e =
+    mask_is x i w le lt ∙ ap (λ b. cond b (bit_at w (x % 64)) 0) (eq-eqb (256 + x / 64) i (omega arith))
 
 pub weight_other : (x i w : ℕ) → 257 ≤ i → i < 513 → x / 64 + 256 ≢ i → weight x i w ≡ 0
-weight_other x i w le lt n = mask_is x i w le lt ∙ ap (λ b. cond b (bit_at w (x % 64)) 0) (ne_eqb _ _ n)
+weight_other x i w le lt n =
+    mask_is x i w le lt
+    ∙ ap (λ b. cond b (bit_at w (x % 64)) 0) (ne_eqb (256 + x / 64) i (λ e. n (omega arith)))
 
 pub weight_cell : (x i w : ℕ) → 513 ≤ i → weight x i w ≡ one_if (w == x)
 unfolding weight
 weight_cell x i w le =
     let low : 257 ≤ i = omega arith in
-    ap (λ b. cond b 0 (cond (nat_lt i 513) (cond (x / 64 + 256 == i) (bit_at w (x % 64)) 0)
+    ap (λ b. cond b 0 (cond (nat_lt i 513) (cond (256 + x / 64 == i) (bit_at w (x % 64)) 0)
     (one_if (w == x)))) (le-ltb i 257 low)
-    ∙ ap (λ b. cond b (cond (x / 64 + 256 == i) (bit_at w (x % 64)) 0) (one_if (w == x))) (le-ltb i 513 le)
+    ∙ ap (λ b. cond b (cond (256 + x / 64 == i) (bit_at w (x % 64)) 0) (one_if (w == x))) (le-ltb i 513 le)
 
 -- a slot weighs nothing in a word that is 0
 pub weight_zero : (x i : ℕ) → 64 ≤ x → weight x i 0 ≡ 0

@@ -1,5 +1,5 @@
 -- The hands that the calls leave, and what a call has done so far.
-use Rattle.std.specs.Prelude.{◌≡◌, ◌≢◌, ℕ, zero, suc, ◌+◌, ◌*◌, ◌/◌, ◌<◌, ◌≤◌, ◌==◌, ◌||◌, List, ◌∷◌, ◌++◌, length}
+use Rattle.std.specs.Prelude.{◌≡◌, ◌≢◌, ℕ, zero, suc, ◌+◌, ◌*◌, ◌<◌, ◌≤◌, ◌==◌, ◌||◌, List, ◌∷◌, ◌++◌, length}
 use Rattle.std.specs.Prelude.{cond, Option, Some, None}
 use Rattle.std.specs.Int.{bit_at}
 use mathlib.Core.Option.{some}
@@ -8,17 +8,19 @@ use Rattle.atomic_table.specs.Table.{Me}
 use Rattle.hd_custody.specs.declared.view.View.{View}
 use Rattle.hd_model.specs.declared.held.Held.{Ghosts}
 use Rattle.hd_model.specs.declared.data.Slot.{Slot}
-use Rattle.hd_custody.specs.Counts.{in_hand, picks, rows, without}
+use Rattle.hd_model.specs.declared.limits.TheConstants.{BLOCKS, ROWS}
+use Rattle.hd_custody.specs.declared.words.TheConstants.{BANK, CACHE}
+use Rattle.hd_custody.specs.Counts.{mask_word, block_of, in_hand, picks, rows, without}
 use Rattle.hd_custody.specs.Views.{called, Fresh, KindIs}
 use Rattle.hd_custody.specs.Traces.{Did, Phase, probe, sweep, settle, again_whole, back_part, push, found, follow, ending, to_sweep, every_row}
 
 -- the slots of block b whose rows m has, and row a, with the kind word k
 abbrev pub held : ℕ → ℕ → ℕ → ℕ → List (ℕ × ℕ)
-held b a m k = picks 64 (λ r. (r == a) || (bit_at m r == 1)) (64 * b) (λ _. k)
+held b a m k = picks ROWS (λ r. (r == a) || (bit_at m r == 1)) (ROWS * b) (λ _. k)
 
 -- none of the slots of block b whose rows m has is in the hand
 abbrev pub Apart : ℕ → ℕ → List (ℕ × ℕ) → Type 0
-Apart b m hand = (r : ℕ) → r < 64 → bit_at m r ≡ 1 → in_hand (64 * b + r) hand ≡ 0
+Apart b m hand = (r : ℕ) → r < ROWS → bit_at m r ≡ 1 → in_hand (ROWS * b + r) hand ≡ 0
 
 module _ {W : Type 0} (k blocks : ℕ) (start : Phase) where
   -- the steps so far led from start to p
@@ -44,10 +46,10 @@ abbrev pub gathered : ℕ → Option ℕ → List (ℕ × ℕ) → List (ℕ × 
 gathered k (Some b) hand = rows b every_row (k + 1) ++ hand
 gathered k None hand = hand
 
--- no mask of all 64 rows came with the kind loaded after it
+-- no mask of all rows came with the kind loaded after it
 abbrev pub ShowsNone : ℕ → List Did → Type 0
 ShowsNone k trace =
-    (c b : ℕ) → 0 < b → b < 257 → get_elem? trace c ≡ some (256 + b, every_row, 0)
+    (c b : ℕ) → 0 < b → b < BLOCKS + 1 → get_elem? trace c ≡ some (mask_word b, every_row, 0)
     → get_elem? trace (suc c) ≡ some (b, k + 1, k + 1) → ⊥
 
 -- the phase p where a step gave 0, and else the call's end with what came
@@ -75,27 +77,28 @@ slot_number None = None
 
 module _ {W : Type 0} (k blocks : ℕ) where
   -- An `allocate` of the kind with number k: the answer comes on top of the hand, the steps are those that
-  -- are due, at most 1,214 of them, and the trace is the next one.
+  -- are due, and the trace is the next one. They are at most one for each word of the cache, four for each
+  -- block, and one for each reserve cell that the rows of the last block are offered to: 1,214.
   pub record Allocates (answer : Option ℕ) (v w : View W) : Type 0 where
     pub view : w ≡ called (offered k answer v.hand) w.trace v
     pub steps : follow k blocks (probe 0) w.trace ≡ ending answer
-    pub bound : length w.trace ≤ 1214
+    pub bound : length w.trace ≤ CACHE + 4 * BLOCKS + BANK
 
-  -- a `release` of slot x, in at most 65 steps
+  -- a `release` of slot x, in at most 65 steps: the quick word, the free cells, a mask
   pub record Releases (x : ℕ) (v w : View W) : Type 0 where
     pub view : w ≡ called (without x v.hand) w.trace v
     pub steps : follow k blocks (push 0 x) w.trace ≡ found 0
-    pub bound : length w.trace ≤ 65
+    pub bound : length w.trace ≤ 1 + BANK + 1
 
-  -- A `gather`, in at most 1,278 steps. Where it answers none, its trace shows no mask of all 64 rows with
-  -- the kind loaded after it.
+  -- A `gather`, in at most 1,278 steps: two for each word of the cache, four for each block. Where it answers
+  -- none, its trace shows no mask of all rows with the kind loaded after it.
   pub record Gathers (answer : Option ℕ) (v w : View W) : Type 0 where
     pub view : w ≡ called (gathered k answer v.hand) w.trace v
     pub steps : follow k blocks (sweep 0) w.trace ≡ ending answer
-    pub bound : length w.trace ≤ 1278
+    pub bound : length w.trace ≤ 2 * CACHE + 4 * BLOCKS
     pub none : answer ≡ None → ShowsNone k w.trace
 
 module _ {W : Type 0} (m : Ghosts W) where
   -- what came, where it is no 0, was not in the hand, is not live, and is of the kind with number k
   abbrev pub Offers : ℕ → View W → ℕ → Type 0
-  Offers k v x = x ≢ 0 → Fresh m v x × KindIs m v (x / 64) (k + 1)
+  Offers k v x = x ≢ 0 → Fresh m v x × KindIs m v (block_of x) (k + 1)

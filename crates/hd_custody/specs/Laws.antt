@@ -1,18 +1,20 @@
 -- What the rule says of one slot, read from each place where it may stand.
-use Rattle.std.specs.Prelude.{◌≡◌, ℕ, ◌<◌, true, false, Option, slice_index}
+use Rattle.std.specs.Prelude.{◌≡◌, ℕ, ◌<◌, ◌≤◌, true, false, Option, slice_index}
 use mathlib.Core.Option.{some}
 use lib.ListN.{get_elem?}
 use Rattle.atomic_table.specs.Table.{State}
 use Rattle.hd_model.specs.declared.held.Held.{Ghosts}
 use Rattle.hd_model.specs.State.{Numbers}
 use Rattle.hd_custody.specs.declared.view.View.{View}
+use Rattle.hd_model.specs.declared.limits.TheConstants.{ROWS}
+use Rattle.hd_custody.specs.declared.words.TheConstants.{WORDS}
 use Rattle.hd_custody.specs.Counts.{weight, in_hand, Has}
 use Rattle.hd_custody.specs.Rule.{Custodied}
 
 module _ {W : Type 0} (m : Ghosts W) where
   -- no word of the table has the slot: no mask as a bit, no quick word and no cell as a whole
   abbrev pub InNoWord : ℕ → State (Option W) (View W) → Type 0
-  InNoWord x s = (n : ℕ) → n < 1402 → weight x n (slice_index s.words n) ≡ 0
+  InNoWord x s = (n : ℕ) → n < WORDS → weight x n (slice_index s.words n) ≡ 0
 
   -- the seat at place i knows v, has not ended, and has the slot in its hand
   abbrev pub HasIt : ℕ → State (Option W) (View W) → ℕ → View W → Type 0
@@ -28,8 +30,8 @@ module _ {W : Type 0} (m : Ghosts W) where
     -- what is live, no word has
     pub if_live : m.live world x ≡ true → InNoWord x s
 
-  -- Whenever the rule holds, each slot of the 256 blocks stands in one place at most.
+  -- Whenever the rule holds, each slot of each block stands in one place at most.
   abbrev pub SlotsStandOnce : Type 0
   SlotsStandOnce =
-      (numbers : Numbers) (s : State (Option W) (View W)) (rule : Custodied m numbers s) (x : ℕ) → 63 < x
+      (numbers : Numbers) (s : State (Option W) (View W)) (rule : Custodied m numbers s) (x : ℕ) → ROWS ≤ x
       → StandsOnce rule.world s x

@@ -1,8 +1,11 @@
--- A whole Miss, told by what its steps found. How a call decides them is in `Traces`; that both say the same of
--- each `allocate` is proved.
-use Rattle.std.specs.Prelude.{◌≡◌, ◌≢◌, ◌⊎◌, ℕ, zero, suc, ◌+◌, ◌*◌, ◌<◌, ◌≤◌, bit_or, List, [], ◌∷◌, ◌++◌, length}
+-- A whole Miss, told by what its steps found. How a call decides them is in `Traces`; that both say the same
+-- of each `allocate` is proved.
+use Rattle.std.specs.Prelude.{◌≡◌, ◌≢◌, ◌⊎◌, ℕ, zero, suc, ◌+◌, ◌<◌, ◌≤◌, bit_or, List, [], ◌∷◌, ◌++◌, length}
 use mathlib.Core.Option.{some}
 use lib.ListN.{get_elem?}
+use Rattle.hd_model.specs.declared.limits.TheConstants.{BLOCKS}
+use Rattle.hd_custody.specs.declared.words.TheConstants.{CACHE}
+use Rattle.hd_custody.specs.Counts.{mask_word, quick_word}
 use Rattle.hd_custody.specs.Traces.{Did, probe_word}
 
 -- what a block gave to a Miss
@@ -11,17 +14,17 @@ pub data Gave : Type 0 where
   another : ℕ → Gave
   -- it was of the kind, and its mask gave 0
   nothing : Gave
-  -- it was of the kind, and its mask gave the rows m; the kind word loaded after it was y, and not the kind's;
-  -- so the rows went back, to a mask that had o
+  -- it was of the kind, and its mask gave the rows m; the kind word loaded after it was y, and not the
+  -- kind's; so the rows went back, to a mask that had o
   regiven : ℕ → ℕ → ℕ → Gave
 
 module _ (k : ℕ) where
   -- the steps on block b
   abbrev pub on_block : ℕ → Gave → List Did
   on_block b (another y) = (b, y, y) ∷ []
-  on_block b nothing = (b, k + 1, k + 1) ∷ (256 + b, 0, 0) ∷ []
+  on_block b nothing = (b, k + 1, k + 1) ∷ (mask_word b, 0, 0) ∷ []
   on_block b (regiven m y o) =
-      (b, k + 1, k + 1) ∷ (256 + b, m, 0) ∷ (b, y, y) ∷ (256 + b, o, bit_or o m) ∷ []
+      (b, k + 1, k + 1) ∷ (mask_word b, m, 0) ∷ (b, y, y) ∷ (mask_word b, o, bit_or o m) ∷ []
 
   -- the steps on block b and those after it
   abbrev pub on_blocks : ℕ → List Gave → List Did
@@ -46,7 +49,7 @@ pub record WholeMiss (k blocks : ℕ) (trace : List Did) : Type 0 where
   pub gave : List Gave
   pub each_block : length gave ≡ blocks
   pub given : (n : ℕ) (g : Gave) → get_elem? gave n ≡ some g → IsGiven k g
-  pub steps : trace ≡ on_cache k 127 0 ++ on_blocks k 1 gave
+  pub steps : trace ≡ on_cache k CACHE 0 ++ on_blocks k 1 gave
 
 -- the step is one of them
 abbrev pub HasStep : Did → List Did → Type 0
@@ -55,11 +58,11 @@ HasStep t trace = (n : ℕ) × (get_elem? trace n ≡ some t)
 -- The same, each word and block alone.
 pub record FoundNone (k blocks : ℕ) (trace : List Did) : Type 0 where
   -- every quick word and cell of the kind was exchanged with 0, and gave 0
-  pub cache : (i : ℕ) → 513 + 127 * k ≤ i → i < 640 + 127 * k → HasStep (i, 0, 0) trace
+  pub cache : (i : ℕ) → quick_word k ≤ i → i < quick_word k + CACHE → HasStep (i, 0, 0) trace
   -- the kind word of each block was loaded
   pub loaded : (b : ℕ) → 0 < b → b ≤ blocks → (y : ℕ) × HasStep (b, y, y) trace
   -- where it was the kind's, the mask was exchanged with 0 next, and gave 0, or the kind word loaded after it
   -- was another
-  pub masks : (n b : ℕ) → 0 < b → b ≤ 256 → get_elem? trace n ≡ some (b, k + 1, k + 1)
-      → (m : ℕ) × (get_elem? trace (suc n) ≡ some (256 + b, m, 0)) × ((m ≡ 0)
+  pub masks : (n b : ℕ) → 0 < b → b ≤ BLOCKS → get_elem? trace n ≡ some (b, k + 1, k + 1)
+      → (m : ℕ) × (get_elem? trace (suc n) ≡ some (mask_word b, m, 0)) × ((m ≡ 0)
       ⊎ ((y : ℕ) × (y ≢ k + 1) × (get_elem? trace (suc (suc n)) ≡ some (b, y, y))))

@@ -1,6 +1,6 @@
 -- The rule of the table: what is so of its words, of the world and of what each seat knows, between any two
 -- steps of any seats. All of it is this project's own.
-use Rattle.std.specs.Prelude.{◌≡◌, ◌≢◌, ◌⊎◌, ℕ, suc, ◌+◌, ◌-◌, ◌*◌, ◌/◌, ◌<◌, ◌≤◌, Bool, true, false, List, [], ◌∷◌, length}
+use Rattle.std.specs.Prelude.{◌≡◌, ◌≢◌, ◌⊎◌, ℕ, suc, ◌+◌, ◌*◌, ◌^◌, ◌<◌, ◌≤◌, Bool, true, false, List, [], ◌∷◌, length}
 use Rattle.std.specs.Prelude.{slice_index, Option, Some, cond}
 use mathlib.Core.Option.{some, none}
 use mathlib.Core.Option as maybe
@@ -12,7 +12,9 @@ use Rattle.hd_model.specs.declared.data.Entry.{Entry}
 use Rattle.hd_model.specs.State.{Numbers}
 use Rattle.hd_model.specs.Run.{part_of}
 use Rattle.hd_custody.specs.declared.view.View.{View}
-use Rattle.hd_custody.specs.Counts.{total, total_at, one_if, weight, in_hand, kind_word, named, kind_at, changed, Every}
+use Rattle.hd_model.specs.declared.limits.TheConstants.{BLOCKS, ROWS}
+use Rattle.hd_custody.specs.declared.words.TheConstants.{FIRST_MASK, FIRST_QUICK, WORDS}
+use Rattle.hd_custody.specs.Counts.{mask_word, masked_block, block_of, total, total_at, one_if, weight, in_hand, kind_word, named, kind_at, changed, Every}
 use Rattle.hd_custody.specs.Views.{numbers_of, took, swapped, banked, looked, drained, restored, put_in, opened, closed, gave_back}
 use Rattle.hd_custody.specs.Views.{Sorted, Fresh, KindIs}
 
@@ -31,7 +33,8 @@ held_by x v = cond v.is_spent 0 (in_hand x v.hand)
 -- a slot in a hand is in a block of handles, and of its kind where it has one
 abbrev pub Belongs : List ℕ → ℕ × ℕ → Type 0
 Belongs words p =
-    (64 ≤ p.0) × (named (kind_word words (p.0 / 64)) ≡ 1) × (p.1 ≢ 0 → kind_word words (p.0 / 64) ≡ p.1)
+    (ROWS ≤ p.0) × (named (kind_word words (block_of p.0)) ≡ 1)
+    × (p.1 ≢ 0 → kind_word words (block_of p.0) ≡ p.1)
 
 module _ {W : Type 0} where
   -- What is so of a seat at its place i among the views. owner n is 1 more than the place of the seat with
@@ -80,20 +83,20 @@ module _ {W : Type 0} where
   pub record Slots (live : ℕ → Bool) (words : List ℕ) (views : List (View W)) : Type 0 where
     -- (a) A slot of a block of handles stands in exactly one of these: a set bit of its block's mask, a quick
     -- word or cell, the hand of one seat, the live slots. A slot of any other block stands in none.
-    pub in_one_place : (x : ℕ) → 64 ≤ x
+    pub in_one_place : (x : ℕ) → ROWS ≤ x
         → total_at (weight x) 0 words + total (held_by x) views + one_if (live x)
-        ≡ named (kind_word words (x / 64))
+        ≡ named (kind_word words (block_of x))
     -- (b) A slot in a quick word or cell of a kind is in a block of that kind.
-    pub cells : (i : ℕ) → 513 ≤ i → slice_index words i ≢ 0
-        → (64 ≤ slice_index words i) × (kind_word words (slice_index words i / 64) ≡ kind_at i + 1)
+    pub cells : (i : ℕ) → FIRST_QUICK ≤ i → slice_index words i ≢ 0
+        → (ROWS ≤ slice_index words i) × (kind_word words (block_of (slice_index words i)) ≡ kind_at i + 1)
     -- (b) So is a slot in a hand with that kind. One without a kind is in a block of handles.
     pub hands : (j : ℕ) (v : View W) → get_elem? views j ≡ some v → v.is_spent ≡ false
         → Every (Belongs words) v.hand
-    -- a mask has 64 rows
-    pub masks : (i : ℕ) → 257 ≤ i → i < 513 → slice_index words i < 18446744073709551616
+    -- a mask has a bit for each row
+    pub masks : (i : ℕ) → FIRST_MASK ≤ i → i < FIRST_QUICK → slice_index words i < 2 ^ ROWS
     -- (e) The mask of a block whose kind word names no kind of handle is 0.
-    pub empty_masks : (b : ℕ) → 0 < b → b < 257 → named (kind_word words b) ≡ 0
-        → slice_index words (256 + b) ≡ 0
+    pub empty_masks : (b : ℕ) → 0 < b → b < BLOCKS + 1 → named (kind_word words b) ≡ 0
+        → slice_index words (mask_word b) ≡ 0
 
   -- the world is out with the seat at this place
   pub record Out (world : W) (holder : ℕ) (homes : List (maybe.Option (Option W))) (views : List (View W)) :
@@ -127,12 +130,12 @@ module _ {W : Type 0} (m : Ghosts W) where
     pub changes : List (ℕ × ℕ)
     pub made : ℕ
     pub owner : ℕ → ℕ
-    pub wide : length s.words ≡ 1402
+    pub wide : length s.words ≡ WORDS
     pub sized : m.numbers world ≡ numbers
     pub gate : Gate world holder changes s.words s.homes s.views
     pub seats : Seats made owner (m.journal world) (m.spare world) numbers s.views
     -- (c) The kind words are the kinds of the world, with what the holder of the gate stored since.
-    pub kinds : (b : ℕ) → 0 < b → b < 257 → slice_index s.words b ≡ changed changes (m.kind world) b
+    pub kinds : (b : ℕ) → 0 < b → b < BLOCKS + 1 → slice_index s.words b ≡ changed changes (m.kind world) b
     pub slots : Slots (m.live world) s.words s.views
 
   abbrev M : Type 0
@@ -144,7 +147,7 @@ module _ {W : Type 0} (m : Ghosts W) where
     pub part : part_of (m.journal w) v.number ≡ v.part
     pub room : v.room ≤ m.spare w
     pub sized : m.numbers w ≡ numbers_of v.limits
-    pub hand : Every (λ p. (m.live w p.0 ≡ false) × (p.1 ≢ 0 → m.kind w (p.0 / 64) ≡ p.1)) v.hand
+    pub hand : Every (λ p. (m.live w p.0 ≡ false) × (p.1 ≢ 0 → m.kind w (block_of p.0) ≡ p.1)) v.hand
 
   -- The world that a table leaves where all seats were joined to the first, of view v: its journal has of
   -- each caller exactly that caller's part.
@@ -180,7 +183,7 @@ module _ {W : Type 0} (m : Ghosts W) where
   abbrev pub exchanged : (View W → View W) → Step (Option W) → M → ℕ → M → Type 0
   exchanged start st a n b =
       (b ≡ (swapped st.word n st.first (start a.0), a.1))
-      × (n ≢ 0 → Fresh m a.0 n × KindIs m a.0 (n / 64) (kind_at st.word + 1))
+      × (n ≢ 0 → Fresh m a.0 n × KindIs m a.0 (block_of n) (kind_at st.word + 1))
 
   -- a compare-exchange of a cell
   abbrev pub stored : Step (Option W) → M → ℕ → M → Type 0
@@ -193,8 +196,8 @@ module _ {W : Type 0} (m : Ghosts W) where
   -- an exchange of a mask with 0
   abbrev pub drawn : Step (Option W) → M → ℕ → M → Type 0
   drawn st a n b =
-      (b ≡ (drained st.word n a.0, a.1)) × ((r : ℕ) → r < 64 → bit_at n r ≡ 1
-      → Fresh m a.0 (64 * (st.word - 256) + r))
+      (b ≡ (drained st.word n a.0, a.1)) × ((r : ℕ) → r < ROWS → bit_at n r ≡ 1
+      → Fresh m a.0 (ROWS * masked_block st.word + r))
 
   -- rows go into a mask, with a trace and without one
   abbrev pub returned : Step (Option W) → M → ℕ → M → Type 0
@@ -206,9 +209,9 @@ module _ {W : Type 0} (m : Ghosts W) where
   -- the holder of the gate stores the kind word of a block, of which no slot was in the hand
   abbrev pub assigned : Step (Option W) → M → ℕ → M → Type 0
   assigned st a n b =
-      (b ≡ (opened st.word st.first a.0, a.1)) × ((r : ℕ) → r < 64 → in_hand (64 * st.word + r) a.0.hand ≡ 0)
+      (b ≡ (opened st.word st.first a.0, a.1))
+      × ((r : ℕ) → r < ROWS → in_hand (ROWS * st.word + r) a.0.hand ≡ 0)
 
   -- it stores 0
-
   abbrev pub cleared : Step (Option W) → M → ℕ → M → Type 0
   cleared st a n b = b ≡ (closed st.word a.0, a.1)

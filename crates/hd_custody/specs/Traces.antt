@@ -1,26 +1,30 @@
 -- What steps the calls make, in what order: each is decided by the values found so far. The order is this
 -- project's own.
-use Rattle.std.specs.Prelude.{◌≡◌, ℕ, ◌+◌, ◌-◌, ◌*◌, ◌/◌, ◌%◌, ◌^◌, cond, nat_lt, ◌==◌, ◌&&◌, bit_or, bit_xor, List, [], ◌∷◌}
+use Rattle.std.specs.Prelude.{ℕ, ◌+◌, ◌-◌, ◌*◌, ◌^◌, cond, nat_lt, ◌==◌, ◌&&◌, bit_or, bit_xor, List, [], ◌∷◌}
 use Rattle.std.specs.Prelude.{slice_index, Option, Some, None}
 use Rattle.hd_mask.specs.Mask.{set_bits}
+use Rattle.hd_model.specs.declared.limits.TheConstants.{ROWS}
+use Rattle.hd_custody.specs.declared.words.TheConstants.{BANK, CACHE}
+use Rattle.hd_custody.specs.Counts.{mask_word, quick_word, reserve_cell, free_cell, block_of, row_of}
 
 -- a step: the word, what was found there, and what is there after
 abbrev pub Did : Type 0
 Did = ℕ × ℕ × ℕ
 
--- The words of the kind with number k: its quick word, its reserve cells 0 to 62, its free cells 0 to 62. The
--- word that the n-th probe of `allocate` exchanges: the quick word, the reserve cells from the last down, the
--- free ones so.
+-- the word that the n-th probe of `allocate` exchanges, of the kind with number k: the quick word, the
+-- reserve cells from the last down, the free cells so
 unfoldable pub probe_word : ℕ → ℕ → ℕ
-probe_word k n = cond (n == 0) (513 + 127 * k) (cond (nat_lt n 64) (577 + 127 * k - n) (703 + 127 * k - n))
+probe_word k n =
+    cond (n == 0) (quick_word k)
+    (cond (nat_lt BANK n) (free_cell k (2 * BANK - n)) (reserve_cell k (BANK - n)))
 
 -- the word that the n-th exchange of `gather` takes: all of them upwards
 unfoldable pub sweep_word : ℕ → ℕ → ℕ
-sweep_word k n = 513 + 127 * k + n
+sweep_word k n = quick_word k + n
 
 -- the word of the n-th exchange of `release`: the quick word, then the free cells from the first up
 unfoldable pub push_word : ℕ → ℕ → ℕ
-push_word k n = cond (n == 0) (513 + 127 * k) (576 + 127 * k + n)
+push_word k n = cond (n == 0) (quick_word k) (free_cell k (n - 1))
 
 -- the least row of a mask, the first of its set bits
 abbrev pub lowest : ℕ → ℕ
@@ -30,9 +34,9 @@ lowest m = slice_index (set_bits m) 0
 abbrev pub next_rows : ℕ → ℕ
 next_rows m = bit_xor m (2 ^ lowest m)
 
--- the mask of all 64 rows
+-- the mask of all rows
 abbrev pub every_row : ℕ
-every_row = 18446744073709551615
+every_row = 2 ^ ROWS - 1
 
 -- where a call stands before its next step
 pub data Phase : Type 0 where
@@ -71,11 +75,11 @@ is_step t i z p = cond ((t.0 == i) && (t.2 == z)) p wrong
 
 -- the rows m of block b are left, and reserve cell i is next
 abbrev pub to_bank : ℕ → ℕ → ℕ → ℕ → Phase
-to_bank b x i m = cond (m == 0) (found x) (cond (nat_lt i 63) (bank b x i m) (rest b x m))
+to_bank b x i m = cond (m == 0) (found x) (cond (nat_lt i BANK) (bank b x i m) (rest b x m))
 
 -- the slot x is left, and the n-th word is next
 abbrev pub to_push : ℕ → ℕ → Phase
-to_push n x = cond (nat_lt n 64) (push n x) (last x)
+to_push n x = cond (nat_lt n ROWS) (push n x) (last x)
 
 module _ (blocks : ℕ) where
   -- block b is next, where there is one
@@ -87,36 +91,37 @@ module _ (blocks : ℕ) where
 
   -- the n-th word of the cache is next, where there is one
   abbrev pub to_probe : ℕ → Phase
-  to_probe n = cond (nat_lt n 127) (probe n) (to_look 1)
+  to_probe n = cond (nat_lt n CACHE) (probe n) (to_look 1)
 
   abbrev pub to_sweep : ℕ → Phase
-  to_sweep n = cond (nat_lt n 127) (sweep n) (to_look_whole 1)
+  to_sweep n = cond (nat_lt n CACHE) (sweep n) (to_look_whole 1)
 
 module _ (k blocks : ℕ) where
   -- where the call stands after the step t, of a kind with number k and a table with so many blocks
   abbrev pub after : Phase → Did → Phase
   after (probe n) t = is_step t (probe_word k n) 0 (cond (t.1 == 0) (to_probe blocks (n + 1)) (found t.1))
   after (look b) t = is_step t b t.1 (cond (t.1 == k + 1) (drain b) (to_look blocks (b + 1)))
-  after (drain b) t = is_step t (256 + b) 0 (cond (t.1 == 0) (to_look blocks (b + 1)) (again b t.1))
+  after (drain b) t = is_step t (mask_word b) 0 (cond (t.1 == 0) (to_look blocks (b + 1)) (again b t.1))
   after (again b m) t =
-      is_step t b t.1 (cond (t.1 == k + 1) (to_bank b (64 * b + lowest m) 0 (next_rows m)) (back b m))
-  after (back b m) t = is_step t (256 + b) (bit_or t.1 m) (to_look blocks (b + 1))
+      is_step t b t.1 (cond (t.1 == k + 1) (to_bank b (ROWS * b + lowest m) 0 (next_rows m)) (back b m))
+  after (back b m) t = is_step t (mask_word b) (bit_or t.1 m) (to_look blocks (b + 1))
   after (bank b x i m) t =
-      is_step t (514 + 127 * k + i) (cond (t.1 == 0) (64 * b + lowest m) t.1)
+      is_step t (reserve_cell k i) (cond (t.1 == 0) (ROWS * b + lowest m) t.1)
       (to_bank b x (i + 1) (cond (t.1 == 0) (next_rows m) m))
-  after (rest b x m) t = is_step t (256 + b) (bit_or t.1 m) (found x)
+  after (rest b x m) t = is_step t (mask_word b) (bit_or t.1 m) (found x)
   after (sweep n) t = is_step t (sweep_word k n) 0 (cond (t.1 == 0) (to_sweep blocks (n + 1)) (settle n t.1))
-  after (settle n x) t = is_step t (256 + x / 64) (bit_or t.1 (2 ^ (x % 64))) (to_sweep blocks (n + 1))
+  after (settle n x) t =
+      is_step t (mask_word (block_of x)) (bit_or t.1 (2 ^ row_of x)) (to_sweep blocks (n + 1))
   after (look_whole b) t = is_step t b t.1 (cond (t.1 == k + 1) (drain_whole b)
       (to_look_whole blocks (b + 1)))
   after (drain_whole b) t =
-      is_step t (256 + b) 0
+      is_step t (mask_word b) 0
       (cond (t.1 == 0) (to_look_whole blocks (b + 1)) (cond (t.1 == every_row) (again_whole b)
       (back_part b t.1)))
   after (again_whole b) t = is_step t b t.1 (cond (t.1 == k + 1) (found b) (back_part b every_row))
-  after (back_part b m) t = is_step t (256 + b) (bit_or t.1 m) (to_look_whole blocks (b + 1))
+  after (back_part b m) t = is_step t (mask_word b) (bit_or t.1 m) (to_look_whole blocks (b + 1))
   after (push n x) t = is_step t (push_word k n) x (cond (t.1 == 0) (found 0) (to_push (n + 1) t.1))
-  after (last x) t = is_step t (256 + x / 64) (bit_or t.1 (2 ^ (x % 64))) (found 0)
+  after (last x) t = is_step t (mask_word (block_of x)) (bit_or t.1 (2 ^ row_of x)) (found 0)
   after (found x) t = wrong
   after missed t = wrong
   after wrong t = wrong

@@ -1,5 +1,5 @@
 -- What a seat knows, and how each step that it makes changes that.
-use Rattle.std.specs.Prelude.{◌≡◌, ◌≢◌, ◌⊎◌, ℕ, zero, suc, ◌+◌, ◌-◌, ◌*◌, ◌/◌, ◌<◌, ◌≤◌, Bool, true, false, cond, not, nat_lt}
+use Rattle.std.specs.Prelude.{◌≡◌, ◌≢◌, ◌⊎◌, ℕ, zero, suc, ◌+◌, ◌-◌, ◌*◌, ◌<◌, ◌≤◌, Bool, true, false, cond, not, nat_lt}
 use Rattle.std.specs.Prelude.{◌==◌, ◌&&◌, bit_or, List, [], ◌∷◌, ◌++◌, length, filter, Option, Some, None}
 use Rattle.atomic_table.specs.Table.{Me}
 use Rattle.atomic_table.specs.Seated.{TableId}
@@ -9,9 +9,11 @@ use Rattle.hd_model.specs.declared.data.Grown.{Grown}
 use Rattle.hd_model.specs.declared.data.Grown.TheVariants as grown
 use Rattle.hd_model.specs.State.{Numbers}
 use Rattle.hd_model.specs.Run.{part_of}
+use Rattle.hd_model.specs.declared.limits.TheConstants.{BLOCKS, ROWS}
+use Rattle.hd_custody.specs.declared.words.TheConstants.{EXTRA_DATA}
 use Rattle.hd_custody.specs.declared.view.View.{View}
 use Rattle.hd_custody.specs.declared.view.Limits.{Limits}
-use Rattle.hd_custody.specs.Counts.{in_hand, Has, Every, named, kind_at, changed, picks, rows, whole, slot_count, put_out}
+use Rattle.hd_custody.specs.Counts.{masked_block, block_of, in_hand, Has, Every, named, kind_at, changed, picks, rows, whole, slot_count, put_out}
 use Rattle.hd_custody.specs.Counts.{without_rows, without_block, with_slot, naming, is_nil}
 
 -- what a clause sees of a `Custody`
@@ -34,7 +36,7 @@ limits_of n = record { heap = n.heap; blocks = n.blocks; callers = n.callers }
 
 -- each slot of the hand is one, and has a kind: so it is between two calls
 abbrev pub Kinded : List (ℕ × ℕ) → Type 0
-Kinded hand = Every (λ p. (64 ≤ p.0) × (p.1 ≢ 0)) hand
+Kinded hand = Every (λ p. (ROWS ≤ p.0) × (p.1 ≢ 0)) hand
 
 -- the journal is what it was, with the same spare; or it has one entry of this caller more, one less to
 -- spare, and the caller had room for one
@@ -43,10 +45,10 @@ Continues number room before spare journal spare' =
     ((journal ≡ before) × (spare' ≡ spare))
     ⊎ ((e : Entry) × (journal ≡ before ++ e ∷ []) × (e.caller ≡ number) × (spare' + 1 ≡ spare) × (0 < room))
 
--- the kind words that were stored, and 8 for data block d after them, where it isn't 0
+-- the kind words that were stored, and that of extra data for block d after them, where it isn't 0
 abbrev pub with_data : ℕ → List (ℕ × ℕ) → List (ℕ × ℕ)
 with_data zero cs = cs
-with_data (suc d) cs = (suc d, 8) ∷ cs
+with_data (suc d) cs = (suc d, EXTRA_DATA) ∷ cs
 
 -- the block of handles, and the block of their extra data or 0, by which a table grew
 abbrev pub handle_block : Grown → ℕ
@@ -139,7 +141,7 @@ module _ {W : Type 0} where
   opened b k v = record v {
     changes = (b, k) ∷ v.changes;
     hand =
-        cond (nat_lt k 8) (whole b k ++ v.hand) v.hand;
+        cond (nat_lt k EXTRA_DATA) (whole b k ++ v.hand) v.hand;
   }
 
   -- a store of 0 into it
@@ -148,14 +150,14 @@ module _ {W : Type 0} where
 
   -- slots of the rows m go into mask word i, and no trace is kept
   abbrev pub put_in : ℕ → ℕ → View W → View W
-  put_in i m v = record v { hand = without_rows (i - 256) m v.hand }
+  put_in i m v = record v { hand = without_rows (masked_block i) m v.hand }
 
   -- block b gets the kind with number k, and d, where it isn't 0, is its data block: row 0 stays in the hand
   abbrev pub granted : ℕ → ℕ → ℕ → View W → View W
   granted k b d v = record v {
     changes = with_data d ((b, k + 1) ∷ v.changes);
     hand =
-        (64 * b, k + 1) ∷ v.hand;
+        (ROWS * b, k + 1) ∷ v.hand;
   }
 
   -- the steps of a call begin
@@ -182,12 +184,12 @@ module _ {W : Type 0} where
 
   -- an exchange with 0 of mask word i, which had y: its slots come without a kind
   abbrev pub drained : ℕ → ℕ → View W → View W
-  drained i y v = record v { hand = rows (i - 256) y 0 ++ v.hand; trace = v.trace ++ (i, y, 0) ∷ [] }
+  drained i y v = record v { hand = rows (masked_block i) y 0 ++ v.hand; trace = v.trace ++ (i, y, 0) ∷ [] }
 
   -- slots of the rows m go into mask word i, which had y
   abbrev pub restored : ℕ → ℕ → ℕ → View W → View W
   restored i m y v = record v {
-    hand = without_rows (i - 256) m v.hand;
+    hand = without_rows (masked_block i) m v.hand;
     trace = v.trace ++ (i, y, bit_or y m) ∷ [];
   }
 
@@ -220,26 +222,26 @@ module _ {W : Type 0} (m : Ghosts W) where
     part = part_of (m.journal w) v.number;
     room = v.room - (length (m.journal w) - length (m.journal u));
     hand = filter (λ p. not (m.live w p.0)) v.hand
-        ++ picks slot_count (λ r. m.live u (64 + r) && not (m.live w (64 + r))) 64
-        (λ r. m.kind w ((64 + r) / 64));
+        ++ picks slot_count (λ r. m.live u (ROWS + r) && not (m.live w (ROWS + r))) ROWS
+        (λ r. m.kind w (block_of (ROWS + r)));
   }
 
   -- what `leave` asks of w, where u was taken: its kinds are the kind words, its numbers are the same, each
   -- live slot was live or is in the hand, and the journal goes on
   pub record Follows (u w : W) (v : View W) : Type 0 where
-    pub kinds : (b : ℕ) → 0 < b → b < 257 → m.kind w b ≡ changed v.changes (m.kind u) b
+    pub kinds : (b : ℕ) → 0 < b → b < BLOCKS + 1 → m.kind w b ≡ changed v.changes (m.kind u) b
     pub sized : m.numbers w ≡ numbers_of v.limits
-    pub lives : (x : ℕ) → 64 ≤ x → m.live w x ≡ true → (m.live u x ≡ true) ⊎ Has x v.hand
+    pub lives : (x : ℕ) → ROWS ≤ x → m.live w x ≡ true → (m.live u x ≡ true) ⊎ Has x v.hand
     pub goes_on : Continues v.number v.room (m.journal u) (m.spare u) (m.journal w) (m.spare w)
 
   -- what was live stood in blocks of handles, and in w these are so too
   abbrev pub Sorted : W → W → Type 0
-  Sorted u w = (x : ℕ) → 64 ≤ x → m.live u x ≡ true → named (m.kind w (x / 64)) ≡ 1
+  Sorted u w = (x : ℕ) → ROWS ≤ x → m.live u x ≡ true → named (m.kind w (block_of x)) ≡ 1
 
   -- the slot x was not in the hand, and is not live in what a holder of the gate took
   abbrev pub Fresh : View W → ℕ → Type 0
   Fresh v x =
-      (64 ≤ x) × (x < 16448) × (in_hand x v.hand ≡ 0)
+      (ROWS ≤ x) × (x < ROWS * (BLOCKS + 1)) × (in_hand x v.hand ≡ 0)
       × ((u : W) → v.has_gate ≡ true → v.taken ≡ Some u → m.live u x ≡ false)
 
   -- block b has the kind word k in what a holder of the gate took, with its grants and withdrawals

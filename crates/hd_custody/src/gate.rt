@@ -11,15 +11,23 @@ ghost use Rattle.hd_custody.specs.Rule.{Entered, Divided, IsUnused};
 use crate::plays::{Assign, Clear, Cut, Ends, Enter, Leave, Share};
 use crate::rule::{Board, Place};
 use crate::types::{Custody, Seat};
+use crate::words::{EXTRA_DATA, GATE, WORDS};
 use atomic_table::{Refused, Table};
+use hd_model::limits::{BLOCKS, KINDS, ROWS};
 use hd_model::{Grown, Held, Kind, Memory};
 use std::alloc::{AllocError, Global};
 use std::marker::Brand;
 use std::snapshot::Snapshot;
 use std::sync::Wait;
 
-// The number of words of a table.
-const WORDS: usize = 1402;
+// The slot of a table, which has the world.
+const WORLD: usize = 0;
+
+// What the gate word has while no seat has the gate.
+const FREE: u64 = 0;
+
+// What it has while one has.
+const HELD: u32 = 1;
 
 // All rows of a block but row 0.
 const ROWS_AFTER_FIRST: u64 = u64::MAX - 1;
@@ -28,7 +36,7 @@ const ROWS_AFTER_FIRST: u64 = u64::MAX - 1;
 const LOOKS: u32 = 64;
 
 fn zeros(alloc: Global) -> Result<Vec<u64>, AllocError>
-    ensures { IfOk result (λ v. v.items ≡ replicate 1402 0) }
+    ensures { IfOk result (λ v. v.items ≡ replicate WORDS 0) }
 {
     Vec::from_elem(alloc, 0, WORDS)
 }
@@ -46,7 +54,7 @@ impl<W: Held> Custody<W> {
     /// a kind, and this first seat, number 0, which may add as many entries as the world has room
     /// for. After `Memory` the world was dropped.
     pub fn open(alloc: Global, blocks: u32, world: W) -> Result<(Custody<W>, Seat<W>), Memory>
-        requires blocks { (1 ≤ blocks) × (blocks ≤ 256) }
+        requires blocks { (1 ≤ blocks) × (blocks ≤ BLOCKS) }
         requires unused { IsUnused W.Held world }
         ensures table { IfOk result (λ r. (r.0.blocks ≡ blocks) × (r.0.numbers ≡ W.numbers world)) }
         ensures seat { IfOk result (λ r. (r.1.table ≡ r.0.table)
@@ -65,8 +73,8 @@ impl<W: Held> Custody<W> {
         }
     }
 
-    /// A seat for one caller more, with the next number and nothing in its hand. Of the entries that
-    /// seat 0 may still add, it gets `share`.
+    /// A seat for one caller more, with the next number and nothing in its hand. Of the entries
+    /// that seat 0 may still add, it gets `share`.
     pub fn split(&self, first: &mut Seat<W>, share: u32) -> Seat<W>
         requires seat { first.old.table ≡ self.now.table }
         requires first { first.old.view.number ≡ 0 }
@@ -97,8 +105,8 @@ impl<W: Held> Custody<W> {
         Seat { place }
     }
 
-    /// Ends a seat whose hand is empty and which has not got the gate. Its part is kept with seat 0,
-    /// which also gets the entries that it might still have added.
+    /// Ends a seat whose hand is empty and which has not got the gate. Its part is kept with seat
+    /// 0, which also gets the entries that it might still have added.
     pub fn join(&self, first: &mut Seat<W>, ended: Seat<W>)
         requires seat { first.old.table ≡ self.now.table }
         requires other { ended.table ≡ self.now.table }
@@ -111,8 +119,8 @@ impl<W: Held> Custody<W> {
         self.table.shared.join_seat::<Ends>(&mut first.place, place);
     }
 
-    /// The world, once all other seats were joined to seat 0. Its journal has of each caller exactly
-    /// that caller's part.
+    /// The world, once all other seats were joined to seat 0. Its journal has of each caller
+    /// exactly that caller's part.
     pub fn close(self, first: Seat<W>) -> W
         requires seat { first.table ≡ self.table }
         requires first { first.view.number ≡ 0 }
@@ -135,7 +143,7 @@ impl<W: Held> Custody<W> {
         ensures lost { OnFalse result (place.new.me ≡ place.old.me) }
     {
         let shared = &self.table.shared;
-        shared.swap::<Enter>(place, 0, 1) == 0
+        shared.swap::<Enter>(place, GATE, HELD as u64) == FREE
     }
 
     // The world, where the gate was free.
@@ -152,23 +160,23 @@ impl<W: Held> Custody<W> {
         if !self.win(&mut seat.place) {
             return None;
         }
-        self.table.shared.exchange(&mut seat.place, 0, None)
+        self.table.shared.exchange(&mut seat.place, WORLD, None)
     }
 
     // Whether the gate was free at one of a few looks. It tells nothing for certain.
     fn looks_free(&self) -> bool {
         for _look in 0..LOOKS {
-            if self.table.shared.peek(0) == 0 {
+            if self.table.shared.peek(GATE) == FREE {
                 return true;
             }
         }
         false
     }
 
-    /// Takes the gate, and with it the world. It may wait for whoever has it. No slot of the hand is
-    /// live in that world, each that has a kind is there in a block of that kind, its journal has of
-    /// this caller exactly the seat's part, and it has room for the entries that the seat may still
-    /// add.
+    /// Takes the gate, and with it the world. It may wait for whoever has it. No slot of the hand
+    /// is live in that world, each that has a kind is there in a block of that kind, its journal
+    /// has of this caller exactly the seat's part, and it has room for the entries that the seat
+    /// may still add.
     pub fn enter<R: Wait>(&self, rt: &R, seat: &mut Seat<W>) -> W
         requires seat { seat.old.table ≡ self.now.table }
         requires gate { seat.old.view.has_gate ≡ false }
@@ -180,14 +188,15 @@ impl<W: Held> Custody<W> {
                 return world;
             }
             if !self.looks_free() {
-                self.table.shared.park(rt, 0, 1);
+                self.table.shared.park(rt, GATE, HELD);
             }
         }
         unreachable!()
     }
 
-    /// Gives the gate back with the world, and wakes a caller that may wait for it. Slots that became
-    /// live leave the hand, and slots that are live no more come into it, each with its block's kind.
+    /// Gives the gate back with the world, and wakes a caller that may wait for it. Slots that
+    /// became live leave the hand, and slots that are live no more come into it, each with its
+    /// block's kind.
     pub fn leave(&self, seat: &mut Seat<W>, world: W)
         requires seat { seat.old.table ≡ self.now.table }
         requires gate { seat.old.view.has_gate ≡ true }
@@ -197,27 +206,29 @@ impl<W: Held> Custody<W> {
             → seat.new ≡ record seat.old { view = gave_back W.Held u world seat.old.view } }
     {
         let shared = &self.table.shared;
-        shared.exchange(&mut seat.place, 0, Some(world));
-        shared.store::<Leave>(&mut seat.place, 0, 0);
-        shared.wake_one(0);
+        shared.exchange(&mut seat.place, WORLD, Some(world));
+        shared.store::<Leave>(&mut seat.place, GATE, FREE);
+        shared.wake_one(GATE);
     }
 
     // Stores the kind word of a block that has no kind.
-    fn assign(&self, place: &mut Place<W>, block: usize, kind: u64)
+    fn assign(&self, place: &mut Place<W>, block: u32, kind: u64)
         requires seat { (place.old.table_id ≡ self.now.table) × (place.old.me.0.is_spent ≡ false) }
         requires gate { place.old.me.0.has_gate ≡ true }
-        requires block { (0 < block) × (block < 257) × (0 < kind) }
+        requires block { (0 < block) × (block < BLOCKS + 1) × (0 < kind) }
         requires no_kind { (u : W) × (place.old.me.0.taken ≡ Some u)
             × (changed place.old.me.0.changes (W.kind u) block ≡ 0) }
         ensures table { place.new.table_id ≡ place.old.table_id }
         ensures view { place.new.me ≡ (opened block kind place.old.me.0, place.old.me.1) }
-        ensures apart { (r : ℕ) → r < 64 → in_hand (64 * block + r) place.old.me.0.hand ≡ 0 }
+        ensures apart { (r : ℕ) → r < ROWS → in_hand (ROWS * block + r) place.old.me.0.hand ≡ 0 }
     {
-        self.table.shared.store::<Assign>(place, block, kind);
+        self.table
+            .shared
+            .store::<Assign>(place, block as usize, kind);
     }
 
-    /// Gives a kind to a block without one, and for a paired kind makes another its data block. Slot 0
-    /// of the block stays in the hand, and the others go into its mask.
+    /// Gives a kind to a block without one, and for a paired kind makes another its data block. Row
+    /// 0 of the block stays in the hand, and the others go into its mask.
     pub fn grant(&self, seat: &mut Seat<W>, kind: Kind, grown: Grown)
         requires seat { seat.old.table ≡ self.now.table }
         requires gate { seat.old.view.has_gate ≡ true }
@@ -240,7 +251,7 @@ impl<W: Held> Custody<W> {
     fn assign_data(&self, place: &mut Place<W>, block: u32)
         requires seat { (place.old.table_id ≡ self.now.table) × (place.old.me.0.is_spent ≡ false) }
         requires gate { place.old.me.0.has_gate ≡ true }
-        requires block { block < 257 }
+        requires block { block < BLOCKS + 1 }
         requires no_kind { (u : W) × (place.old.me.0.taken ≡ Some u)
             × (block ≢ 0 → changed place.old.me.0.changes (W.kind u) block ≡ 0) }
         ensures table { place.new.table_id ≡ place.old.table_id }
@@ -253,7 +264,7 @@ impl<W: Held> Custody<W> {
         ) }
     {
         if block != 0 {
-            self.assign(place, block as usize, 8);
+            self.assign(place, block, EXTRA_DATA);
         }
     }
 
@@ -261,24 +272,24 @@ impl<W: Held> Custody<W> {
     fn give(&self, place: &mut Place<W>, kind: u32, block: u32, extra: u32)
         requires seat { (place.old.table_id ≡ self.now.table) × (place.old.me.0.is_spent ≡ false) }
         requires gate { place.old.me.0.has_gate ≡ true }
-        requires kind { kind < 7 }
+        requires kind { kind < KINDS }
         requires blocks { MayGrant W.Held self.now.blocks block extra place.old.me.0 }
         ensures table { place.new.table_id ≡ place.old.table_id }
         ensures view { place.new.me ≡ (granted kind block extra place.old.me.0, place.old.me.1) }
     {
-        // Read for the proof alone: there are at most 256 blocks.
+        // Read for the proof alone: it tells how many blocks there are at most.
         let _blocks = self.blocks;
-        self.assign(place, block as usize, kind as u64 + 1);
+        self.assign(place, block, kind as u64 + 1);
         self.assign_data(place, extra);
-        self.fill(place, 256 + block as usize, ROWS_AFTER_FIRST);
+        self.fill(place, block, ROWS_AFTER_FIRST);
     }
 
-    /// Takes the kind of a block whose 64 slots are all in the hand, which they leave.
+    /// Takes the kind of a block whose slots are all in the hand, which they leave.
     pub fn withdraw(&self, seat: &mut Seat<W>, block: u32)
         requires seat { seat.old.table ≡ self.now.table }
         requires gate { seat.old.view.has_gate ≡ true }
         requires block { (0 < block) × (block ≤ self.now.blocks) }
-        requires all { (r : ℕ) → r < 64 → Has (64 * block + r) seat.old.view.hand }
+        requires all { (r : ℕ) → r < ROWS → Has (ROWS * block + r) seat.old.view.hand }
         ensures view { seat.new ≡ record seat.old { view = closed block seat.old.view } }
     {
         self.table
@@ -297,7 +308,7 @@ fn home<W: Held>(table: Board<W>, place: Place<W>) -> W
     ensures { Divided W.Held place.me.0 result }
 {
     let mut closed = table.close_with(place);
-    let world = closed.take(0);
+    let world = closed.take(WORLD);
     closed.free();
     match world {
         Some(world) => world,

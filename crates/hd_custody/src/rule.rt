@@ -1,6 +1,4 @@
-//! The rule of the table. Its words: 0 is the gate, 1 to 256 are the kind words of the blocks, 257
-//! to 512 their masks, and from 513 on each kind has a quick word, 63 reserve cells and 63 free
-//! cells. Its one slot has the world.
+//! The rule of the table, whose words `words` numbers. Its one slot has the world.
 use crate::view::View;
 use atomic_table::{Seat, Shared, Table, TableRule};
 use hd_model::Held;

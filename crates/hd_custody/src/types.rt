@@ -28,6 +28,8 @@ pub struct Custody<W: Held> {
 
 impl<W: Held> Model for Custody<W> {
     ghost use Rattle.std.specs.Prelude.{◌≡◌, ◌≤◌};
+    ghost use Rattle.hd_model.specs.declared.limits.TheConstants.{BLOCKS};
+    ghost use Rattle.hd_custody.specs.declared.words.TheConstants.{WORDS};
     ghost use Rattle.hd_custody.specs.Views.{Named};
 
     ghost Value = { Named };
@@ -38,7 +40,7 @@ impl<W: Held> Model for Custody<W> {
       numbers = W.numbers c.table.shared.key.value;
     } };
 
-    ghost invariant = { λ c. (c.table.shared.table_id.words ≡ 1402)
+    ghost invariant = { λ c. (c.table.shared.table_id.words ≡ WORDS)
         × (c.table.shared.table_id.slots ≡ 1)
-        × (1 ≤ c.blocks) × (c.blocks ≤ 256) };
+        × (1 ≤ c.blocks) × (c.blocks ≤ BLOCKS) };
 }

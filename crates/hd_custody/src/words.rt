@@ -1,63 +1,119 @@
-//! The numbers of the words of each kind, in the order in which each call goes over them.
-ghost use Rattle.std.specs.Prelude.{◌≡◌, ◌+◌, ◌*◌, ◌<◌, ◌≤◌};
-ghost use Rattle.hd_custody.specs.Counts.{kind_at};
+//! The words of a table, by their numbers, and those of a kind in the order in which each call goes
+//! over them.
+ghost use Rattle.std.specs.Prelude.{◌≡◌, ◌+◌, ◌*◌, ◌/◌, ◌%◌, ◌<◌, ◌≤◌};
+ghost use Rattle.hd_custody.specs.Counts.{mask_word, block_of, row_of, quick_word, reserve_cell, kind_at, IsCell};
 ghost use Rattle.hd_custody.specs.Traces.{probe_word, sweep_word, push_word};
 
-// The quick word, then the reserve cells from the last down, then the free cells so.
+use hd_model::limits::{BLOCKS, KINDS, ROWS};
+
+/// The gate. The kind words of the blocks come next, each at the number of its block.
+pub(crate) const GATE: usize = 0;
+
+/// The first mask. Each block has one, from block 1 on.
+pub(crate) const FIRST_MASK: usize = BLOCKS as usize + 1;
+
+/// The quick word of the first kind.
+pub(crate) const FIRST_QUICK: usize = FIRST_MASK + BLOCKS as usize;
+
+/// The reserve cells of a kind, and as many free cells: of a block one row is answered, and each
+/// other has a cell.
+pub(crate) const BANK: u32 = ROWS - 1;
+
+/// The words of a kind: its quick word, its reserve cells and its free cells.
+pub(crate) const CACHE: u32 = 1 + 2 * BANK;
+
+/// All words.
+pub(crate) const WORDS: usize = FIRST_QUICK + KINDS as usize * CACHE as usize;
+
+/// The kind word of a block of extra data. That of handles is one more than the number of the kind.
+pub(crate) const EXTRA_DATA: u64 = KINDS as u64 + 1;
+
+/// The mask of a block.
+pub(crate) fn mask_word(block: u32) -> usize
+    ensures { result ≡ mask_word block }
+{
+    BLOCKS as usize + block as usize
+}
+
+/// The block of a slot.
+pub(crate) fn block_of(slot: u64) -> u32
+    requires { slot < ROWS * (BLOCKS + 1) }
+    ensures { result ≡ block_of slot }
+{
+    (slot / ROWS as u64) as u32
+}
+
+/// The row of a slot in its block.
+pub(crate) fn row_of(slot: u64) -> u32
+    ensures value { result ≡ row_of slot }
+    ensures row { result < ROWS }
+{
+    (slot % ROWS as u64) as u32
+}
+
+// The quick word of a kind.
+fn quick_word(kind: u32) -> usize
+    requires { kind < KINDS }
+    ensures { result ≡ quick_word kind }
+{
+    FIRST_QUICK + CACHE as usize * kind as usize
+}
+
+/// The quick word, then the reserve cells from the last down, then the free cells so.
 #[tactic(auto, using(crate::proofs::Numbered::numbered))]
 pub(crate) fn probed(kind: u32, n: u32) -> usize
-    requires kind { kind < 7 }
-    requires place { n < 127 }
+    requires kind { kind < KINDS }
+    requires place { n < CACHE }
     ensures value { result ≡ probe_word kind n }
-    ensures cell { (513 ≤ result) × (result < 1402) }
+    ensures cell { IsCell result }
     ensures kind { kind_at result ≡ kind }
 {
-    let quick = 513 + 127 * kind as usize;
+    let quick = quick_word(kind);
     if n == 0 {
         quick
-    } else if n < 64 {
-        quick + 64 - n as usize
+    } else if n <= BANK {
+        quick + (BANK + 1 - n) as usize
     } else {
-        quick + 190 - n as usize
+        quick + (CACHE + BANK - n) as usize
     }
 }
 
-// The quick word, the reserve cells and the free cells, upwards.
+/// The quick word, the reserve cells and the free cells, upwards.
 #[tactic(auto, using(crate::proofs::Numbered::numbered))]
 pub(crate) fn swept(kind: u32, n: u32) -> usize
-    requires kind { kind < 7 }
-    requires place { n < 127 }
+    requires kind { kind < KINDS }
+    requires place { n < CACHE }
     ensures value { result ≡ sweep_word kind n }
-    ensures cell { (513 ≤ result) × (result < 1402) }
+    ensures cell { IsCell result }
     ensures kind { kind_at result ≡ kind }
 {
-    513 + 127 * kind as usize + n as usize
+    quick_word(kind) + n as usize
 }
 
-// The quick word, then the free cells from the first up.
+/// The quick word, then the free cells from the first up.
 #[tactic(auto, using(crate::proofs::Numbered::numbered))]
 pub(crate) fn pushed(kind: u32, n: u32) -> usize
-    requires kind { kind < 7 }
-    requires place { n < 64 }
+    requires kind { kind < KINDS }
+    requires place { n < ROWS }
     ensures value { result ≡ push_word kind n }
-    ensures cell { (513 ≤ result) × (result < 1402) }
+    ensures cell { IsCell result }
     ensures kind { kind_at result ≡ kind }
 {
-    let quick = 513 + 127 * kind as usize;
+    let quick = quick_word(kind);
     if n == 0 {
         quick
     } else {
-        quick + 63 + n as usize
+        quick + BANK as usize + n as usize
     }
 }
 
-// A reserve cell.
+/// A reserve cell.
 pub(crate) fn reserved(kind: u32, i: u32) -> usize
-    requires kind { kind < 7 }
-    requires place { i < 63 }
-    ensures value { result ≡ 514 + 127 * kind + i }
-    ensures cell { (513 ≤ result) × (result < 1402) }
+    requires kind { kind < KINDS }
+    requires place { i < BANK }
+    ensures value { result ≡ reserve_cell kind i }
+    ensures cell { IsCell result }
     ensures kind { kind_at result ≡ kind }
 {
-    514 + 127 * kind as usize + i as usize
+    quick_word(kind) + 1 + i as usize
 }

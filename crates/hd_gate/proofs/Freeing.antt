@@ -9,6 +9,7 @@ use Rattle.atomic_table.specs.Seated.{TableId}
 use Rattle.hd_model.specs.declared.data.Id.{Id}
 use Rattle.hd_model.specs.declared.data.Entry.{Entry}
 use Rattle.hd_model.specs.declared.data.Kind.{Kind}
+use Rattle.hd_model.specs.declared.data.Reply.TheVariants as reply
 use Rattle.hd_model.specs.declared.data.Slot.{Slot}
 use Rattle.hd_model.specs.declared.command.Cmd.{Cmd}
 use Rattle.hd_model.specs.declared.command.Cmd.TheVariants as cmd
@@ -18,6 +19,7 @@ use Rattle.hd_model.specs.Step.{StepOf}
 use Rattle.hd_model.specs.Table.{kind_word}
 use Rattle.hd_model.proofs.Written.{get_removed, get_left}
 use Rattle.hd_custody.specs.declared.view.View.{View}
+use Rattle.hd_custody.specs.Traces.{follow, push, found as ends}
 use Rattle.hd_custody.specs.Counts.{HasAs, without}
 use Rattle.hd_custody.specs.Views.{Follows, gave_back, took}
 use Rattle.hd_custody.specs.Rule.{Entered}
@@ -26,7 +28,8 @@ use Rattle.hd_world.specs.Growth.{kind_in_use}
 use Rattle.hd_world.specs.contracts.world.WorldHeld.TheImpl.{ghosts}
 use Rattle.hd_gate.specs.declared.change.Change.TheVariants.{Frees}
 use Rattle.hd_gate.specs.Change.{change_of}
-use Rattle.hd_gate.specs.Shared.{Party, LookedFor, HasDone}
+use Rattle.hd_gate.specs.declared.change.Change.{Change}
+use Rattle.hd_gate.specs.Shared.{Party, LookedFor, LetsOneGo, SlotCalls, HasDone}
 use Rattle.hd_gate.specs.Idle.{IsIdle}
 use Rattle.hd_gate.specs.Turns.{party_of, Stepped, freed_in, LetsGo}
 use Rattle.hd_gate.proofs.Living.{FreesAt, frees_at}
@@ -56,7 +59,8 @@ module _ (number : ℕ) (command : Cmd) (frees : change_of command ≡ Frees) (u
     pub follows : Follows ghosts u w busy
     pub has : IfSome freed (λ f. HasAs (f.0.0, kind_number f.1 + 1) left.hand)
     pub stays_idle : (blocks : ℕ) (n : View Standing) → LetsGo blocks freed left n → IsIdle n number
-    pub done : (blocks : ℕ) (n : View Standing) → LetsGo blocks freed left n → (t : TableId)
+    pub done : (blocks : ℕ) (n : View Standing) → LetsGo blocks freed left n → blocks ≡ v.limits.blocks
+        → (t : TableId)
         → HasDone (party_of (record { table = t; view = v }) number v.room)
         (party_of (record { table = t; view = n }) number n.room) command e.reply
     pub limits : (blocks : ℕ) (n : View Standing) → LetsGo blocks freed left n → n.limits ≡ v.limits
@@ -72,14 +76,19 @@ module _ (number : ℕ) (command : Cmd) (frees : change_of command ≡ Frees) (u
   }
 
   done_at : (n : View Standing) → n.part ≡ left.part → n.room ≡ left.room → (t : TableId)
+      → LetsOneGo (party_of (record { table = t; view = v }) number v.room)
+      (party_of (record { table = t; view = n }) number n.room) e
       → HasDone (party_of (record { table = t; view = v }) number v.room)
       (party_of (record { table = t; view = n }) number n.room) command e.reply
-  done_at n part room t = done_after number command None u w e stepped v busy idle some_room entered.part
+  done_at n part room t lets = done_after number command None u w e stepped v busy idle some_room entered.part
       (refl, refl, refl, refl, refl, refl) t n part room (looks_for_none _ _)
+      (subst (λ (c : Change). SlotCalls c (party_of (record { table = t; view = v }) number v.room)
+      (party_of (record { table = t; view = n }) number n.room) e) (sym frees) lets)
 
   -- nothing was freed
-  kept : w.state.handles ≡ u.state.handles → w.state.blocks ≡ u.state.blocks → Freed None
-  kept handles blocks =
+  kept : w.state.handles ≡ u.state.handles → w.state.blocks ≡ u.state.blocks → e.reply ≢ reply.Done
+      → Freed None
+  kept handles blocks refused =
       let same : (x : ℕ) → ghosts.live w x ≡ ghosts.live u x = λ x. ap (λ m. is_some (get m x)) handles in
       let hand = hand_stays u w busy same idle.hand in
       record {
@@ -89,15 +98,23 @@ module _ (number : ℕ) (command : Cmd) (frees : change_of command ≡ Frees) (u
             (ap (λ (x : View Standing). x.number) is) (ap (λ (x : View Standing). x.limits) is)
             (ap (λ (x : View Standing). x.ended) is) (ap (λ (x : View Standing). x.made) is)
             (ap (λ (x : View Standing). x.hand) is ∙ hand) (ap (λ (x : View Standing). x.has_gate) is);
-        done = λ b n is. done_at n (ap (λ (x : View Standing). x.part) is)
-            (ap (λ (x : View Standing). x.room) is);
+        done = λ b n is _ t. done_at n (ap (λ (x : View Standing). x.part) is)
+            (ap (λ (x : View Standing). x.room) is) t (record {
+              done = λ says. absurd (refused says);
+              refused = λ _. record {
+                trace = ap (λ (x : View Standing). x.trace) is;
+                trace_number = ap (λ (x : View Standing). x.trace_number) is;
+                began_empty = ap (λ (x : View Standing). x.began_empty) is;
+              };
+            });
         limits = λ b n is. ap (λ (x : View Standing). x.limits) is;
       }
 
   -- a slot was freed
   module _ (slot : Slot) (handle : Handle Id) (live : get u.state.handles slot.0 ≡ Some handle)
       (handles : w.state.handles ≡ map.remove u.state.handles slot.0)
-      (blocks : w.state.blocks ≡ u.state.blocks) where
+      (blocks : w.state.blocks ≡ u.state.blocks) (says_done : e.reply ≡ reply.Done)
+      (is_slot : e.slot ≡ Some slot) where
     used : use_of u.state (block_of slot) ≡ Some (handles_of handle.kind)
     used = stepped.well_formed.handles.kinds slot.0 handle live
 
@@ -144,22 +161,32 @@ module _ (number : ℕ) (command : Cmd) (frees : change_of command ≡ Frees) (u
           (ap (λ (x : View Standing). x.ended) is.view) (ap (λ (x : View Standing). x.made) is.view)
           (ap (λ (x : View Standing). x.hand) is.view ∙ gone)
           (ap (λ (x : View Standing). x.has_gate) is.view);
-      done = λ b n is. done_at n (ap (λ (x : View Standing). x.part) is.view)
-          (ap (λ (x : View Standing). x.room) is.view);
+      done = λ b n is are t. done_at n (ap (λ (x : View Standing). x.part) is.view)
+          (ap (λ (x : View Standing). x.room) is.view) t (record {
+            done = λ _. record {
+              slot = slot;
+              kind = handle.kind;
+              freed = is_slot;
+              one = ap (λ (x : View Standing). x.trace_number) is.view;
+              steps = subst (λ (c : ℕ). follow (kind_number handle.kind) c (push 0 slot.0) n.trace ≡ ends 0)
+                  (are ∙ sym (ap (λ (x : View Standing). x.limits.blocks) is.view)) is.steps;
+            };
+            refused = λ apart. absurd (apart says_done);
+          });
       limits = λ b n is. ap (λ (x : View Standing). x.limits) is.view;
     }
 
     found : freed_in w.state (Some slot) ≡ Some (slot, handle.kind)
     found = ap (λ o. option_map (λ (k : Kind). (slot, k)) (kind_in_use o)) used'
 
-  freed_at : (o : Option Slot)
+  freed_at : (o : Option Slot) → e.slot ≡ o
       → FreesAt u.numbers u.state stepped.well_formed e w.state stepped.step o → Freed (freed_in w.state o)
-  freed_at None at = kept at.0 at.1
-  freed_at (Some slot) at = subst Freed (sym (found slot at.0 at.1 at.2 at.3))
-      (freed slot at.0 at.1 at.2 at.3)
+  freed_at None is at = kept at.0 at.1 at.2
+  freed_at (Some slot) is at = subst Freed (sym (found slot at.0 at.1 at.2 at.3 at.4 is))
+      (freed slot at.0 at.1 at.2 at.3 at.4 is)
 
   pub frees_slot : Freed (freed_in w.state e.slot)
   frees_slot =
       let is = is_free command frees in
-      freed_at e.slot (frees_at u.numbers u.state stepped.well_formed e w.state stepped.step is.0
+      freed_at e.slot refl (frees_at u.numbers u.state stepped.well_formed e w.state stepped.step is.0
       (subst (StepOf u.numbers u.state e w.state) (stepped.command_is ∙ is.1) stepped.step.does))

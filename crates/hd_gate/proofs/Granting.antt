@@ -38,7 +38,7 @@ use Rattle.hd_world.specs.World.{Standing, IsOffer, GrowsUnoffered, Takes as Tak
 use Rattle.hd_world.specs.contracts.world.WorldHeld.TheImpl.{ghosts}
 use Rattle.hd_gate.specs.declared.change.Change.TheVariants.{Takes}
 use Rattle.hd_gate.specs.Change.{change_of}
-use Rattle.hd_gate.specs.Shared.{Party, OwnMiss, GrowsOnMiss, LookedFor}
+use Rattle.hd_gate.specs.Shared.{Party, OwnMiss, GrowsOnMiss, LookedFor, SlotCalls}
 use Rattle.hd_gate.specs.Idle.{IsIdle}
 use Rattle.hd_gate.specs.Turns.{party_of, Stepped, with_grown}
 use Rattle.hd_gate.proofs.Living.{use_by_word, TakesIt, GrowsBy, takes_it, grows_by}
@@ -187,6 +187,9 @@ module _ (number : ℕ) (command : Cmd) (kind : Kind) (new : IsNew kind command)
   does : StepOf u.numbers u.state e w.state (cmd.HNew new.d new.make new.r)
   does = subst (StepOf u.numbers u.state e w.state) (stepped.command_is ∙ new.is) stepped.step.does
 
+  slot_calls : (old now : Party) → SlotCalls (change_of command) old now e
+  slot_calls old now = subst (λ (c : Cmd). SlotCalls (change_of c) old now e) (sym new.is) tt
+
   -- what the caller knows of its search once it left
   module _ (t : TableId) (n : View Standing) (limits : n.limits ≡ v.limits) (trace : n.trace ≡ v'.trace)
       (count : n.trace_number ≡ v'.trace_number) (began : n.began_empty ≡ v'.began_empty) where
@@ -230,7 +233,7 @@ module _ (number : ℕ) (command : Cmd) (kind : Kind) (new : IsNew kind command)
       → LeavesBy Zero
   took_it slot is it =
       let only : v'.hand ≡ (slot.0, K + 1) ∷ [] = hand ∙ ap (λ p. offered K (slot_number p) []) is in
-      leaves number command o u w e stepped v (took u v') idle some_room own same
+      leaves number command o u w e stepped v (took u v') idle some_room own same slot_calls
       (λ b _ _. ap (λ m. kind_word (get m b)) it.stands.2) sized
       (new_lives u w (took u v') slot.0 (K + 1) slot.0 only refl it.stands.0 it.stands.1)
       (new_hand u w (took u v') slot.0 (K + 1) slot.0 only refl it.stands.0 it.stands.1)
@@ -245,7 +248,7 @@ module _ (number : ℕ) (command : Cmd) (kind : Kind) (new : IsNew kind command)
     none_offered : (g : Grown) → GrowsBy u.numbers u.state stepped.well_formed e w.state stepped.step kind g
         → LeavesBy g
     none_offered Zero by =
-        leaves number command o u w e stepped v (took u v') idle some_room own same
+        leaves number command o u w e stepped v (took u v') idle some_room own same slot_calls
         (λ b _ _. ap (λ (s : State). kind_word (use_of s b)) by.0) sized
         (λ x _ on. inl (sym (ap (λ (s : State). is_some (get s.handles x)) by.0) ∙ on))
         (hand_stays u w (took u v') (λ x. ap (λ (s : State). is_some (get s.handles x)) by.0) empty)
@@ -259,7 +262,7 @@ module _ (number : ℕ) (command : Cmd) (kind : Kind) (new : IsNew kind command)
         let busy = granted K block 0 (took u v') in
         let only : busy.hand ≡ (64 * block, K + 1) ∷ [] = ap (λ h. (64 * block, K + 1) ∷ h) empty in
         let place : block * 64 ≡ 64 * block = omega arith in
-        leaves number command o u w e stepped v busy idle some_room own same
+        leaves number command o u w e stepped v busy idle some_room own same slot_calls
         (λ b _ _. one_kind u.state.blocks w.state.blocks kind block by.2.2 b) sized
         (new_lives u w busy (64 * block) (K + 1) (block * 64) only place by.2.0 by.2.1)
         (new_hand u w busy (64 * block) (K + 1) (block * 64) only place by.2.0 by.2.1)
@@ -271,7 +274,7 @@ module _ (number : ℕ) (command : Cmd) (kind : Kind) (new : IsNew kind command)
         let place : block * 64 ≡ 64 * block = omega arith in
         let changes : busy.changes ≡ (other, 8) ∷ (block, K + 1) ∷ [] = with_data_some other
         ((block, K + 1) ∷ []) (λ zero_is. absurd (omega (arith, zero_is, by.2.low))) in
-        leaves number command o u w e stepped v busy idle some_room own same
+        leaves number command o u w e stepped v busy idle some_room own same slot_calls
         (λ b _ _. two_kinds u.state.blocks w.state.blocks kind block other by.3.2 b
         ∙ sym (ap (λ cs. changed cs (ghosts.kind u) b) changes)) sized
         (new_lives u w busy (64 * block) (K + 1) (block * 64) only place by.3.0 by.3.1)

@@ -16,7 +16,8 @@ use Rattle.hd_custody.proofs.Canon.{picks_none, picks_one}
 use Rattle.hd_custody.proofs.Left.{none_ended}
 use Rattle.hd_world.specs.World.{Standing, asks_of}
 use Rattle.hd_world.specs.contracts.world.WorldHeld.TheImpl.{ghosts}
-use Rattle.hd_gate.specs.Shared.{LookedFor, HasDone}
+use Rattle.hd_gate.specs.Change.{change_of}
+use Rattle.hd_gate.specs.Shared.{Party, LookedFor, SlotCalls, HasDone}
 use Rattle.hd_gate.specs.Idle.{IsIdle}
 use Rattle.hd_gate.specs.Turns.{party_of, Stepped}
 
@@ -109,9 +110,11 @@ module _ (number : ℕ) (command : Cmd) (offer : Option Slot) (u w : Standing) (
   pub done_after : (t : TableId) (n : View Standing) → n.part ≡ after.part → n.room ≡ after.room
       → LookedFor (asks_of command) (party_of (record { table = t; view = v }) number v.room)
       (party_of (record { table = t; view = n }) number n.room) e
+      → SlotCalls (change_of command) (party_of (record { table = t; view = v }) number v.room)
+      (party_of (record { table = t; view = n }) number n.room) e
       → HasDone (party_of (record { table = t; view = v }) number v.room)
       (party_of (record { table = t; view = n }) number n.room) command e.reply
-  done_after t n part room looked_for = record {
+  done_after t n part room looked_for slot_calls = record {
     entry = e;
     caller_is = stepped.caller_is;
     command_is = stepped.command_is;
@@ -119,17 +122,19 @@ module _ (number : ℕ) (command : Cmd) (offer : Option Slot) (u w : Standing) (
     part = part ∙ part_after;
     room = omega (arith, room, room_after);
     looked_for = looked_for;
+    slot_calls = slot_calls;
   }
 
   -- so the gate may be left, and the call is then done
-  pub leaves : ((b : ℕ) → 0 < b → b < 257 → ghosts.kind w b ≡ changed busy.changes (ghosts.kind u) b)
+  pub leaves : ((old new : Party) → SlotCalls (change_of command) old new e)
+      → ((b : ℕ) → 0 < b → b < 257 → ghosts.kind w b ≡ changed busy.changes (ghosts.kind u) b)
       → u.numbers ≡ numbers_of v.limits
       → ((x : ℕ) → 64 ≤ x → ghosts.live w x ≡ true → (ghosts.live u x ≡ true) ⊎ Has x busy.hand)
       → after.hand ≡ []
       → ((t : TableId) → LookedFor (asks_of command) (party_of (record { table = t; view = v }) number v.room)
       (party_of (record { table = t; view = after }) number after.room) e)
       → Leaves number command u w e v busy
-  leaves kinds sized lives hand looked_for = record {
+  leaves slot_calls kinds sized lives hand looked_for = record {
     follows = record {
       kinds = kinds;
       sized = stepped.numbers ∙ sized ∙ sym (ap numbers_of same.1);
@@ -137,7 +142,7 @@ module _ (number : ℕ) (command : Cmd) (offer : Option Slot) (u w : Standing) (
       goes_on = goes_on;
     };
     idle = idle_after hand;
-    done = λ t. done_after t after refl refl (looked_for t);
+    done = λ t. done_after t after refl refl (looked_for t) (slot_calls _ _);
   }
 
 -- ---- hands

@@ -193,10 +193,10 @@ module _ (n : Numbers) (s : State) (well : IsWellFormed n s) (e : Entry) (t : St
 
   -- the slot that was freed, if one was
   abbrev pub FreesAt : Option Slot → Type 0
-  FreesAt None = (t.handles ≡ s.handles) × (t.blocks ≡ s.blocks)
+  FreesAt None = (t.handles ≡ s.handles) × (t.blocks ≡ s.blocks) × (e.reply ≢ reply.Done)
   FreesAt (Some slot) =
       (handle : Handle Id) × (handle_at s slot ≡ Some handle)
-      × (t.handles ≡ map.remove s.handles slot.0) × (t.blocks ≡ s.blocks)
+      × (t.handles ≡ map.remove s.handles slot.0) × (t.blocks ≡ s.blocks) × (e.reply ≡ reply.Done)
 
   pub frees_at : (h : ℕ) → IsOutcome e (free_handle s e.caller h) t → FreesAt e.slot
   frees_at h o =
@@ -207,8 +207,12 @@ module _ (n : Numbers) (s : State) (well : IsWellFormed n s) (e : Entry) (t : St
         live,
         ap (λ (x : State). x.handles) o.after,
         ap (λ (x : State). x.blocks) o.after,
+        o.reply,
       )) o
     where
       nothing : {r : Refusal} → IsOutcome e (refuses r s) t → FreesAt e.slot
-      nothing o = subst FreesAt (sym o.slot)
-          (ap (λ (x : State). x.handles) o.after, ap (λ (x : State). x.blocks) o.after)
+      nothing o = subst FreesAt (sym o.slot) (
+        ap (λ (x : State). x.handles) o.after,
+        ap (λ (x : State). x.blocks) o.after,
+        (λ says. (let clash = sym o.reply ∙ says in cc)),
+      )

@@ -5,7 +5,10 @@ use Rattle.hd_model.specs.declared.data.Kind.{Kind}
 use Rattle.hd_model.specs.declared.data.Reply.{Reply}
 use Rattle.hd_model.specs.declared.command.Cmd.{Cmd}
 use Rattle.hd_world.specs.World.{Asks, object_room, handle_slot, block_back, no_room, asks_of}
-use Rattle.hd_gate.specs.Shared.{Party, OwnSteps, OwnMiss, OwnSweep, LookedFor, HasDone}
+use Rattle.hd_gate.specs.declared.change.Change.{Change}
+use Rattle.hd_gate.specs.declared.change.Change.TheVariants.{Takes, Frees, GivesBack, Keeps}
+use Rattle.hd_gate.specs.Change.{change_of}
+use Rattle.hd_gate.specs.Shared.{Party, OwnSteps, OwnMiss, OwnSweep, LookedFor, NoSlotCall, OwnRelease, SlotCalls, HasDone}
 
 -- it does not depend on the rooms
 module _ (old new : Party) (before after : ℕ) where
@@ -34,6 +37,21 @@ module _ (old new : Party) (before after : ℕ) where
   looked_for (block_back kind) e l = λ says. own_sweep kind (l says)
   looked_for no_room e l = tt
 
+  no_slot_call : NoSlotCall old new → NoSlotCall old' new'
+  no_slot_call o = record { trace = o.trace; trace_number = o.trace_number; began_empty = o.began_empty }
+
+  own_release : (e : Entry) → OwnRelease old new e → OwnRelease old' new' e
+  own_release e o = record { slot = o.slot; kind = o.kind; freed = o.freed; one = o.one; steps = o.steps }
+
+  slot_calls : (change : Change) (e : Entry) → SlotCalls change old new e → SlotCalls change old' new' e
+  slot_calls (Takes kind) e t = tt
+  slot_calls Frees e t = record {
+    done = λ says. own_release e (t.done says);
+    refused = λ apart. no_slot_call (t.refused apart);
+  }
+  slot_calls (GivesBack kind) e t = tt
+  slot_calls Keeps e t = no_slot_call t
+
   -- a call that was done, told with the rooms of its caller
   pub done_with : (command : Cmd) (answer : Reply) → after + 1 ≡ before → HasDone old new command answer
       → HasDone
@@ -46,4 +64,5 @@ module _ (old new : Party) (before after : ℕ) where
     part = d.part;
     room = less;
     looked_for = looked_for (asks_of command) d.entry d.looked_for;
+    slot_calls = slot_calls (change_of command) d.entry d.slot_calls;
   }

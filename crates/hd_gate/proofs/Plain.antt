@@ -17,7 +17,8 @@ use Rattle.hd_world.specs.World.{Standing, asks_of}
 use Rattle.hd_world.specs.contracts.world.WorldHeld.TheImpl.{ghosts}
 use Rattle.hd_gate.specs.declared.change.Change.TheVariants.{Keeps}
 use Rattle.hd_gate.specs.Change.{change_of}
-use Rattle.hd_gate.specs.Shared.{Party, LookedFor, HasDone}
+use Rattle.hd_gate.specs.declared.change.Change.{Change}
+use Rattle.hd_gate.specs.Shared.{Party, LookedFor, SlotCalls, HasDone}
 use Rattle.hd_gate.specs.Idle.{IsIdle}
 use Rattle.hd_gate.specs.Turns.{party_of, Stepped}
 use Rattle.hd_gate.proofs.Living.{keeps_live, keeps_blocks}
@@ -59,6 +60,10 @@ module _ (number : ℕ) (command : Cmd) (keeps : change_of command ≡ Keeps) (u
     plain_done t = done_after number command None u w e stepped v (took u v) idle some entered.part
         (refl, refl, refl, refl, refl, refl) t (gave_back ghosts u w (took u v)) refl refl
         (looks_for_none command keeps _ _ e)
+        (subst (λ (c : Change). SlotCalls c (party_of (record { table = t; view = v }) number v.room)
+        (party_of (record { table = t; view = gave_back ghosts u w (took u v) }) number
+        (gave_back ghosts u w (took u v)).room) e) (sym keeps)
+        (record { trace = refl; trace_number = refl; began_empty = refl }))
 
   -- it may be left after it, whether it found memory or not
   pub plain_follows : (r : Result Entry Memory) → IfOk r (Stepped u w number command None) → OnErr r (w ≡ u)

@@ -36,7 +36,8 @@ use Rattle.hd_world.specs.World.{Standing, IsOffer, GrowsUnoffered, Takes as Tak
 use Rattle.hd_world.specs.contracts.world.WorldHeld.TheImpl.{ghosts}
 use Rattle.hd_gate.specs.declared.change.Change.TheVariants.{GivesBack as Gives}
 use Rattle.hd_gate.specs.Change.{change_of}
-use Rattle.hd_gate.specs.Shared.{LookedFor}
+use Rattle.hd_gate.specs.Shared.{Party, LookedFor, SlotCalls}
+use Rattle.hd_gate.specs.declared.change.Change.{Change}
 use Rattle.hd_gate.specs.Idle.{IsIdle}
 use Rattle.hd_gate.specs.Turns.{party_of, Stepped, without_gathered}
 use Rattle.hd_gate.proofs.Granting.{free_in_hand}
@@ -138,6 +139,9 @@ module _ (number : ℕ) (command : Cmd) (kind : Kind) (gives : change_of command
   does = subst (StepOf u.numbers u.state e w.state) (stepped.command_is ∙ is_trim kind command gives)
       stepped.step.does
 
+  slot_calls : (old now : Party) → SlotCalls (change_of command) old now e
+  slot_calls old now = subst (λ (c : Change). SlotCalls c old now e) (sym gives) tt
+
   looked_for : (t : TableId) (n : View Standing) → n.limits ≡ v.limits → n.trace ≡ v'.trace
       → n.trace_number ≡ v'.trace_number → n.began_empty ≡ v'.began_empty → (e.reply ≡ reply.Value 0 → o
       ≡ None)
@@ -169,7 +173,7 @@ module _ (number : ℕ) (command : Cmd) (kind : Kind) (gives : change_of command
         | inl m ↦ absurd (zero_is_not_one (sym grows ∙ m.reply))
         | inr out ↦ leaves number command (option_map first_slot o) u w e stepped v
             (took u v') idle some_room own
-            same (λ b _ _. ap (λ (s : State). kind_word (use_of s b)) out.after) sized
+            same slot_calls (λ b _ _. ap (λ (s : State). kind_word (use_of s b)) out.after) sized
             (λ x _ on. inl (sym (ap (λ (s : State). is_some (get s.handles x)) out.after) ∙ on))
             (hand_stays u w (took u v') (λ x. ap (λ (s : State). is_some (get s.handles x)) out.after)
             (hand ∙ ap (λ p. gathered K p []) none))
@@ -189,6 +193,7 @@ module _ (number : ℕ) (command : Cmd) (kind : Kind) (gives : change_of command
             (sym m.grown ∙ takes.1 ∙ ap Back (first_block block)) in
             let after : w.state ≡ without_use u.state block = m.after ∙ ap (without_use u.state) which in
             leaves number command (option_map first_slot o) u w e stepped v busy idle some_room own same
+            slot_calls
             (λ b _ _. closed_kind u.state.blocks w.state.blocks block
             (ap (λ (s : State). s.blocks) after) b) sized
             (λ x _ on. inl (sym (ap (λ (s : State). is_some (get s.handles x)) after) ∙ on))

@@ -14,7 +14,8 @@ use std::marker::Model;
 pub struct Caller {
     pub(crate) seat: Seat<World>,
     pub(crate) number: u32,
-    // How many more entries it may add. It stands on cache lines of its own, since each call writes it.
+    // How many more entries it may add. It stands on cache lines of its own, since each call writes
+    // it.
     pub(crate) room: CachePadded<u32>,
 }
 
@@ -29,7 +30,8 @@ impl Model for Caller {
 
     ghost view = { λ c. party_of c.seat c.number (padded_value c.room) };
 
-    ghost invariant = { λ c. IsIdle c.seat.view c.number × (padded_value c.room ≤ c.seat.view.room) };
+    ghost invariant = { λ c. IsIdle c.seat.view c.number
+        × (padded_value c.room ≤ c.seat.view.room) };
 }
 
 impl Caller {

@@ -37,8 +37,8 @@ impl Model for Shared {
         × (s.custody.blocks ≤ BLOCKS) × (1 ≤ s.custody.numbers.callers) };
 }
 
-/// A world that was shared, once all its callers have ended: what `Shared::close` gives, and nothing
-/// else does.
+/// A world that was shared, once all its callers have ended: what `Shared::close` gives, and
+/// nothing else does.
 #[derive(Drop)]
 pub struct Closed {
     world: World,
@@ -88,9 +88,10 @@ impl Shared {
         Ok((Shared { custody }, callers))
     }
 
-    /// Does a command of a caller, and answers its reply. `hnew` looks for a slot before it waits for
-    /// the gate, and the table grows, or is found full, only where it found none; `hfree` lets the
-    /// slot go once it has left the gate; `trim` first looks for a block whose slots are all free.
+    /// Does a command of a caller, and answers its reply. `hnew` looks for a slot before it waits
+    /// for the gate, and the table grows, or is found full, only where it found none; `hfree` lets
+    /// the slot go once it has left the gate; `trim` first looks for a block whose slots are all
+    /// free.
     pub fn call<R: Wait>(&self, rt: &R, caller: &mut Caller, cmd: Cmd) -> Result<Reply, Memory>
         requires caller { IsCallerOf self.now caller.old }
         requires room { 1 ≤ caller.old.room }

@@ -1,7 +1,7 @@
 //! What a caller does at its turn, by what its command does to the free slots.
 ghost use Rattle.std.specs.Prelude.{◌≡◌, ◌≢◌, ◌<◌, ◌≤◌, ◌+◌, ◌*◌, true, false, ℕ, IsTrue, IfOk, OnErr, IfSome, option_map};
 ghost use Rattle.hd_model.specs.Valid.{IsValid, takes_memory};
-ghost use Rattle.hd_world.specs.World.{IsOffer};
+ghost use Rattle.hd_world.specs.World.{IsOffer, FitsHeap};
 ghost use Rattle.hd_model.specs.State.{first_slot};
 ghost use Rattle.hd_model.specs.Kinds.{kind_number, is_paired};
 ghost use Rattle.hd_custody.specs.Counts.{Has, HasAs};
@@ -160,7 +160,7 @@ fn withdraw(custody: &Custody<World>, seat: &mut Seat<World>, block: Option<u32>
     requires seat { seat.old.table ≡ custody.now.table }
     requires gate { seat.old.view.has_gate ≡ true }
     requires block { IfSome block (λ b. (0 < b) × (b ≤ custody.now.blocks)
-        × ((r : ℕ) → r < 64 → Has (64 * b + r) seat.old.view.hand)) }
+        × ((r : ℕ) → r < ROWS → Has (ROWS * b + r) seat.old.view.hand)) }
     ensures { seat.new ≡ record seat.old { view = without_gathered block seat.old.view } }
 {
     if let Some(block) = block {
@@ -212,6 +212,7 @@ fn step(world: &mut World, number: u32, cmd: Cmd, offer: Option<Slot>) -> Result
     requires offer { IsOffer world.old.state cmd offer }
     ensures stepped { IfOk result (Stepped world.old world.new number cmd offer) }
     ensures memory { OnErr result (IsTrue (takes_memory cmd)) }
+    ensures fits { OnErr result (FitsHeap world.old.numbers world.old.state cmd) }
     ensures unchanged { OnErr result (world.new ≡ world.old) }
 {
     step_counted::<Brand>(world, number, cmd, offer, Blank::new(1))
@@ -231,6 +232,7 @@ fn step_counted<L: Ledger>(
     requires offer { IsOffer world.old.state cmd offer }
     ensures stepped { IfOk result (Stepped world.old world.new number cmd offer) }
     ensures memory { OnErr result (IsTrue (takes_memory cmd)) }
+    ensures fits { OnErr result (FitsHeap world.old.numbers world.old.state cmd) }
     ensures unchanged { OnErr result (world.new ≡ world.old) }
 {
     // The journal tells that the world stands for a run, so its state is well formed.

@@ -78,5 +78,5 @@ returns g c =
       idle = all.stays_idle blocks n away;
       done = subst (λ (t : TableId). HasDone (party_of seat number seat.view.room)
           (party_of (record { table = t; view = n }) number n.room) c.args.cmd e.reply) (sym table)
-          (all.done blocks n away seat.table);
+          (all.done blocks n away c.requires.turn.blocks seat.table);
     }

@@ -1,4 +1,4 @@
-use Rattle.std.proofs.Common.{◌≡◌, ◌+◌, ◌-◌, ◌*◌, sym, subst, arith}
+use Rattle.std.proofs.Common.{◌+◌, ◌*◌, sym, subst}
 use Rattle.hd_custody.specs.Counts.{Has}
 use Rattle.hd_custody.specs.Traces.{probe}
 use Rattle.hd_custody.proofs.Canon.{held_has}
@@ -10,12 +10,10 @@ pub put_back-requires-clause-slots : goal.put_back-requires-clause-slots
 put_back-requires-clause-slots g c r lt set =
     let a = c.args.place.now.me in
     let h = c.requires.hand in
-    let at : c.args.block ≡ 256 + c.args.block - 256 = omega arith in
     let hand = hand_is c.args.kind c.args.self.now.blocks (probe 0) _ _ a c.fill_cells-left.new.place.me _ _
     (c.fill_cells-left.ensures.made h.0 h.1 h.2) in
-    subst (λ d. Has (64 * d + r) c.fill_cells-left.new.place.me.0.hand) at
-    (subst (λ hs. Has (64 * c.args.block + r) hs) (sym hand)
-    (held_has c.args.block c.args.row c.fill_cells-left.result (c.args.kind + 1) r h.0 lt set))
+    subst (λ hs. Has (64 * c.args.block + r) hs) (sym hand)
+    (held_has c.args.block c.args.row c.fill_cells-left.result (c.args.kind + 1) r h.0 lt set)
 
 pub returns-then-left-ne0-clause-made : goal.returns-then-left-ne0-clause-made
 returns-then-left-ne0-clause-made g c h is apart =

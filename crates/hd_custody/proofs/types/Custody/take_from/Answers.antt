@@ -1,4 +1,4 @@
-use Rattle.std.proofs.Common.{◌≡◌, ◌≢◌, ℕ, ◌+◌, ◌-◌, ◌*◌, ◌^◌, bit_xor, ◌++◌, refl, sym, ◌∙◌, ap, subst, arith}
+use Rattle.std.proofs.Common.{◌≡◌, ◌≢◌, ℕ, ◌+◌, ◌*◌, ◌^◌, bit_xor, ◌++◌, refl, sym, ◌∙◌, ap, subst, arith}
 use Rattle.std.specs.Int.{bit_at}
 use Rattle.hd_mask.proofs.Bits.{flip_same}
 use Rattle.hd_custody.specs.Counts.{Has}
@@ -48,10 +48,8 @@ put_back-requires-clause-slots g c r lt set =
     let third = looked_again k blocks a block real low c.requires.kinded c.drain-mask.new.place.me
     c.look-again.new.place.me c.drain-mask.result c.look-again.result
     (set_real c.drain-mask.result r set) second c.look-again.ensures.view in
-    let at : block ≡ 256 + block - 256 = omega arith in
-    subst (λ d. Has (64 * d + r) c.look-again.new.place.me.0.hand) at
-    (subst (λ hs. Has (64 * block + r) hs) (sym (hand_is k blocks (probe 0) _ _ a c.look-again.new.place.me _
-    _ third)) (row_has block c.drain-mask.result c.look-again.result r a.0.hand lt set))
+    subst (λ hs. Has (64 * block + r) hs) (sym (hand_is k blocks (probe 0) _ _ a c.look-again.new.place.me _
+    _ third)) (row_has block c.drain-mask.result c.look-again.result r a.0.hand lt set)
 
 pub returns-then-again-kind-clause-made : goal.returns-then-again-kind-clause-made
 returns-then-again-kind-clause-made g c =
@@ -72,8 +70,8 @@ returns-then-again-kind-clause-made g c =
     let apart = mask_apart g.W.Held c.look.new.place.me.0 block c.drain-mask.result a.0.hand
     (hand_is k blocks (probe 0) _ _ a c.look.new.place.me _ _ first) c.drain-mask.ensures.fresh in
     gone_back k blocks a block real low c.requires.kinded c.look-again.new.place.me c.put_back.new.place.me
-    c.drain-mask.result c.look-again.result c.put_back.result (λ e. omega (arith, e, c.if-again-kind.true)) apart third
-    c.put_back.ensures.view
+    c.drain-mask.result c.look-again.result c.put_back.result (λ e. omega (arith, e, c.if-again-kind.true))
+    apart third c.put_back.ensures.view
 
 pub share_out-requires-clause-row : goal.share_out-requires-clause-row
 share_out-requires-clause-row g c =
@@ -99,7 +97,8 @@ share_out-requires-clause-hand g c =
     c.look-again.new.place.me mask c.look-again.result
     (set_real mask row c.in-Some.ensures.set) second c.look-again.ensures.view in
     let rows_left = shared k blocks a block real low c.requires.kinded c.look-again.new.place.me mask row
-    c.look-again.result (omega (arith, c.if-again-kind.false)) c.in-Some.ensures.set c.in-Some.ensures.first third in
+    c.look-again.result (omega (arith, c.if-again-kind.false)) c.in-Some.ensures.set
+    c.in-Some.ensures.first third in
     let apart = mask_apart g.W.Held c.look.new.place.me.0 block mask a.0.hand
     (hand_is k blocks (probe 0) _ _ a c.look.new.place.me _ _ first) c.drain-mask.ensures.fresh in
     let hand : c.look-again.new.place.me.0.hand ≡ held block row (bit_xor mask c.bit.result)
@@ -130,7 +129,8 @@ share_out-requires-clause-due g c =
     c.look-again.new.place.me mask c.look-again.result
     (set_real mask row c.in-Some.ensures.set) second c.look-again.ensures.view in
     let rows_left = shared k blocks a block real low c.requires.kinded c.look-again.new.place.me mask row
-    c.look-again.result (omega (arith, c.if-again-kind.false)) c.in-Some.ensures.set c.in-Some.ensures.first third in
+    c.look-again.result (omega (arith, c.if-again-kind.false)) c.in-Some.ensures.set
+    c.in-Some.ensures.first third in
     now_at k blocks (probe 0) _ _ a c.look-again.new.place.me _ _ rows_left
     ∙ ap (λ m. to_bank block (64 * block + row) 0 (bit_xor mask m)) (sym c.bit.ensures.value)
 
@@ -152,7 +152,8 @@ returns-clause-made g c =
     c.look-again.new.place.me mask c.look-again.result
     (set_real mask row c.in-Some.ensures.set) second c.look-again.ensures.view in
     let rows_left = shared k blocks a block real low c.requires.kinded c.look-again.new.place.me mask row
-    c.look-again.result (omega (arith, c.if-again-kind.false)) c.in-Some.ensures.set c.in-Some.ensures.first third in
+    c.look-again.result (omega (arith, c.if-again-kind.false)) c.in-Some.ensures.set
+    c.in-Some.ensures.first third in
     let apart = mask_apart g.W.Held c.look.new.place.me.0 block mask a.0.hand
     (hand_is k blocks (probe 0) _ _ a c.look.new.place.me _ _ first) c.drain-mask.ensures.fresh in
     let hand : c.look-again.new.place.me.0.hand ≡ held block row (bit_xor mask c.bit.result)
@@ -189,7 +190,8 @@ returns-clause-offers g c =
     c.look-again.new.place.me mask c.look-again.result
     (set_real mask row c.in-Some.ensures.set) second c.look-again.ensures.view in
     let rows_left = shared k blocks a block real low c.requires.kinded c.look-again.new.place.me mask row
-    c.look-again.result (omega (arith, c.if-again-kind.false)) c.in-Some.ensures.set c.in-Some.ensures.first third in
+    c.look-again.result (omega (arith, c.if-again-kind.false)) c.in-Some.ensures.set
+    c.in-Some.ensures.first third in
     row_offers g.W.Held k blocks (probe 0) _ _ a c.look.new.place.me c.drain-mask.new.place.me block row
     c.look-again.result _ c.in-Some.ensures.within first second
     (c.drain-mask.ensures.fresh row c.in-Some.ensures.within c.in-Some.ensures.set) c.look-again.ensures.kind

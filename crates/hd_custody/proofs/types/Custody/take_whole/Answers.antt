@@ -1,4 +1,4 @@
-use Rattle.std.proofs.Common.{◌≡◌, ◌+◌, ◌-◌, ◌*◌, refl, sym, ◌∙◌, subst, arith}
+use Rattle.std.proofs.Common.{◌+◌, ◌*◌, refl, sym, ◌∙◌, subst}
 use Rattle.hd_custody.specs.Counts.{Has}
 use Rattle.hd_custody.specs.Traces.{sweep}
 use Rattle.hd_custody.proofs.Canon.{row_has}
@@ -128,10 +128,8 @@ put_back-requires-clause-slots g c r lt set =
     let part = c.stays_whole.ensures.part a.0.hand hand c.requires.kinded c.if-stays_whole.false in
     let fourth = then_made k blocks (sweep 0) _ _ a c.drain-mask.new.place.me c.stays_whole.new.place.me _ _ _
     _ third part.1 in
-    let at : block ≡ 256 + block - 256 = omega arith in
-    subst (λ d. Has (64 * d + r) c.stays_whole.new.place.me.0.hand) at
-    (subst (λ hs. Has (64 * block + r) hs) (sym (hand_is k blocks (sweep 0) _ _ a c.stays_whole.new.place.me _
-    _ fourth)) (row_has block mask part.0 r a.0.hand lt set))
+    subst (λ hs. Has (64 * block + r) hs) (sym (hand_is k blocks (sweep 0) _ _ a c.stays_whole.new.place.me _
+    _ fourth)) (row_has block mask part.0 r a.0.hand lt set)
 
 pub returns-clause-made : goal.returns-clause-made
 returns-clause-made g c =
