@@ -1,10 +1,12 @@
 // Readers and writers of the standard library as a source and a sink: the edge of what is proved.
-ghost use Rattle.std.specs.Prelude.{◌≡◌, ◌<◌, ◌≤◌, length, None, IfOk, OnOk, OnErr};
+ghost use Rattle.std.specs.Prelude.{◌≡◌, ◌<◌, ◌≤◌, length, None, Ok, IsErr};
+ghost use Rattle.std.specs.Prelude.{IfOk, OnOk, OnErr, MatchResult};
 ghost use Rattle.std.specs.Io.KnownBytes.{ReadConsumes, WriteAppends};
 ghost use Rattle.hd_io.specs.Counts.{Rose, count_up};
 ghost use Rattle.hd_io.specs.Stream.{reader_of, source_view, writer_of, sink_view};
 
 use crate::{Failed, Sink, Source};
+use std::io;
 use std::io::{Read, Write};
 
 /// A reader as a source. It tells no bytes, and each error of the reader is a fault, an interrupt
@@ -13,7 +15,7 @@ use std::io::{Read, Write};
 pub struct StdSource<R> {
     reader: R,
     given: u64,
-    faults: u64,
+    pub(crate) faults: u64,
 }
 
 impl<R: Read> StdSource<R> {
@@ -25,6 +27,27 @@ impl<R: Read> StdSource<R> {
             reader,
             given: 0,
             faults: 0,
+        }
+    }
+
+    // What one call of the reader comes to: bytes that are given, or one fault.
+    fn count_read(&mut self, answer: io::Result<usize>) -> Result<usize, Failed>
+        ensures told { MatchResult answer
+            (λ n. (result ≡ Ok n)
+            × (self.new ≡ record self.old { given = count_up self.old.given n }))
+            (λ _. IsErr result
+            × (self.new ≡ record self.old { faults = count_up self.old.faults 1 })) }
+        ensures rose { OnErr result (Rose self.old.faults self.new.faults) }
+    {
+        match answer {
+            Ok(count) => {
+                self.given = self.given.saturating_add(count as u64);
+                Ok(count)
+            }
+            Err(_) => {
+                self.faults = self.faults.saturating_add(1);
+                Err(Failed)
+            }
         }
     }
 }
@@ -45,16 +68,8 @@ impl<R: Read> Source for StdSource<R> {
         ensures bytes { ReadConsumes (R.remaining (reader_of self.old))
             (R.remaining (reader_of self.new)) result buf.new }
     {
-        match self.reader.read(buf) {
-            Ok(count) => {
-                self.given = self.given.saturating_add(count as u64);
-                Ok(count)
-            }
-            Err(_) => {
-                self.faults = self.faults.saturating_add(1);
-                Err(Failed)
-            }
-        }
+        let answer = self.reader.read(buf);
+        self.count_read(answer)
     }
 }
 
@@ -63,7 +78,7 @@ impl<R: Read> Source for StdSource<R> {
 #[derive(Drop)]
 pub struct StdSink<W> {
     writer: W,
-    faults: u64,
+    pub(crate) faults: u64,
 }
 
 impl<W: Write> StdSink<W> {
@@ -72,6 +87,24 @@ impl<W: Write> StdSink<W> {
         ensures seen { sink_view result ≡ record { written = None; faults = 0 } }
     {
         StdSink { writer, faults: 0 }
+    }
+
+    // What one call of the writer comes to: bytes that are taken, or one fault. None taken is one.
+    fn count_write(&mut self, answer: io::Result<usize>) -> Result<usize, Failed>
+        ensures some { IfOk answer (λ n. 0 < n → (result ≡ Ok n) × (self.new ≡ self.old)) }
+        ensures none { IfOk answer (λ n. n ≡ 0 → IsErr result
+            × (self.new ≡ record self.old { faults = count_up self.old.faults 1 })) }
+        ensures fault { OnErr answer (IsErr result
+            × (self.new ≡ record self.old { faults = count_up self.old.faults 1 })) }
+        ensures rose { OnErr result (Rose self.old.faults self.new.faults) }
+    {
+        match answer {
+            Ok(count) if count > 0 => Ok(count),
+            _ => {
+                self.faults = self.faults.saturating_add(1);
+                Err(Failed)
+            }
+        }
     }
 }
 
@@ -90,12 +123,7 @@ impl<W: Write> Sink for StdSink<W> {
         ensures bytes { WriteAppends (W.contents (writer_of self.old))
             (W.contents (writer_of self.new)) result piece.now }
     {
-        match self.writer.write(piece) {
-            Ok(count) if count > 0 => Ok(count),
-            _ => {
-                self.faults = self.faults.saturating_add(1);
-                Err(Failed)
-            }
-        }
+        let answer = self.writer.write(piece);
+        self.count_write(answer)
     }
 }

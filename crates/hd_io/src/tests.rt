@@ -3,6 +3,8 @@ use crate::{
     Failed, MemorySink, MemorySource, NoPace, Pace, ReadFault, Sink, Source, StdSink, StdSource,
     read_all, write_all,
 };
+use std::io;
+use std::io::{Read, Write};
 use std::test::Fail;
 
 #[test]
@@ -106,6 +108,67 @@ fn a_writer_that_takes_no_more_is_a_fault(rt: HostRuntime) -> Result<(), Fail> {
     assert_eq!(rt; write_all(&mut sink, b"abcd"), Err(Failed));
     assert_eq!(rt; room.as_slice(), b"abc".as_slice());
     Ok(())
+}
+
+// A reader whose first call fails, and whose later ones give one byte.
+#[derive(Drop)]
+struct FailsAtFirst {
+    has_failed: bool,
+}
+
+impl Read for FailsAtFirst {
+    fn read(&mut self, buf: &mut [u8]) -> io::Result<usize> {
+        if !self.has_failed {
+            self.has_failed = true;
+            return Err(io::Error::from(io::ErrorKind::Interrupted));
+        }
+        Ok(buf.len().min(1))
+    }
+}
+
+#[test]
+fn a_failed_read_is_not_tried_again(rt: HostRuntime) {
+    let mut source = StdSource::over(FailsAtFirst { has_failed: false });
+    let mut buf = [0; 2];
+    assert_eq!(rt; source.read(&mut buf), Err(Failed));
+    assert_eq!(rt; source.faults, 1);
+    assert_eq!(rt; source.read(&mut buf), Ok(1));
+    assert_eq!(rt; source.faults, 1);
+}
+
+// A writer whose first call fails, whose second takes nothing, and whose later ones take all.
+#[derive(Drop)]
+struct TakesAtThird {
+    calls: u8,
+}
+
+impl Write for TakesAtThird {
+    fn write(&mut self, piece: &[u8]) -> io::Result<usize> {
+        if self.calls == 0 {
+            self.calls = 1;
+            return Err(io::Error::from(io::ErrorKind::Interrupted));
+        }
+        if self.calls == 1 {
+            self.calls = 2;
+            return Ok(0);
+        }
+        Ok(piece.len())
+    }
+
+    fn flush(&mut self) -> io::Result<()> {
+        Ok(())
+    }
+}
+
+#[test]
+fn a_failed_write_is_not_tried_again(rt: HostRuntime) {
+    let mut sink = StdSink::over(TakesAtThird { calls: 0 });
+    assert_eq!(rt; sink.write(b"ab"), Err(Failed));
+    assert_eq!(rt; sink.faults, 1);
+    assert_eq!(rt; sink.write(b"ab"), Err(Failed));
+    assert_eq!(rt; sink.faults, 2);
+    assert_eq!(rt; sink.write(b"ab"), Ok(2));
+    assert_eq!(rt; sink.faults, 2);
 }
 
 // How many commands a caller at this pace has come to.

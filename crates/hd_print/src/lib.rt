@@ -7,11 +7,13 @@ mod end;
 mod entries;
 mod line;
 mod reply;
+mod roots;
 
 pub use command::command_line;
 pub use end::{end_line, load_line};
 pub use entries::{entry_line, write_entries};
 pub use line::Line;
+pub use roots::{root_line, roots_line};
 
 #[cfg(test)]
 mod tests;

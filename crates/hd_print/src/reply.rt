@@ -11,8 +11,8 @@ const LONGEST_IDENTITY: usize = 21;
 // How many bytes the longest reply takes: a report of six numbers of ten digits, with their words.
 const LONGEST_REPLY: usize = 101;
 
-// Appends an identity as its caller and its serial.
-fn push_identity(line: &mut Line, id: Id)
+/// Appends an identity as its caller and its serial.
+pub(crate) fn push_identity(line: &mut Line, id: Id)
     requires { length line.old + LONGEST_IDENTITY ≤ Line.CAPACITY }
     ensures text { line.new ≡ line.old ++ identity_text id }
     ensures short { length line.new ≤ length line.old + LONGEST_IDENTITY }

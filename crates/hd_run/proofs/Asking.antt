@@ -17,8 +17,7 @@ use Rattle.clap.specs.declared.parser.matches.Found.{Found}
 use Rattle.clap.proofs.WalkLemmas.{first_value-rows, one_text-rows}
 use Rattle.hd_model.specs.declared.limits.TheConstants.{HEAP, BLOCKS, MOST_ROUNDS}
 use Rattle.hd_run.specs.declared.request.TheConstants.{LEAST_HEAP, ROUNDS}
-use Rattle.hd_run.specs.declared.ending.Fault.{Fault}
-use Rattle.hd_run.specs.declared.ending.Fault.TheVariants.{Usage, NoMemory}
+use Rattle.hd_run.specs.declared.ending.Fault.TheVariants.{Usage}
 use Rattle.hd_run.specs.declared.request.Mode.{Mode}
 use Rattle.hd_run.specs.declared.request.Request.{Request}
 use Rattle.hd_run.specs.Words.{program, mode_of, number_in, number_of, with_numbers, asked_by, unless_faulty, request_of, IsFaultOfWords, IsInLimits, GivesNumber, GivesNumbers}

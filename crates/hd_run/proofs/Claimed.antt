@@ -1,12 +1,15 @@
 -- What a call promises, from the cause of its ending and its report.
-use Rattle.std.proofs.Common.{◌≡◌, ◌≢◌, ℕ, ◌+◌, ◌≤◌, ◌++◌, List, [], ◌⊎◌, inl, inr, length, Option, None, Some, Ok, refl, sym, ◌∙◌, ap, subst, arith, lit<, append-nil}
+use Rattle.std.proofs.Common.{◌≡◌, ◌≢◌, ℕ, ◌≤◌, ◌++◌, List, [], ◌⊎◌, inl, inr, length, Option, None, Some, Ok, refl, sym, ◌∙◌, ap, subst, arith, lit<, append-nil}
 use Rattle.std.proofs.lemmas.List.{length-append}
-use Rattle.std.specs.Prelude.{IsErr, IsSome, IfSome, IsSomeAnd}
+use Rattle.std.specs.Prelude.{IsErr, IfSome, IsSomeAnd}
 use Rattle.std.specs.Io.KnownBytes.{Consumes, IsAtEnd}
 use Rattle.hd_model.specs.declared.command.Cmd.{Cmd}
 use Rattle.hd_model.specs.declared.data.Entry.{Entry}
 use Rattle.hd_model.specs.declared.limits.TheConstants.{MOST_BYTES}
+use Rattle.hd_model.specs.declared.data.RootId.{RootId}
 use Rattle.hd_model.specs.Grammar.{script_of}
+use Rattle.hd_model.specs.RootText.{list_text}
+use Rattle.hd_model.specs.Text.{text_of}
 use Rattle.hd_model.specs.Run.{Run, SoloRun}
 use Rattle.hd_model.specs.State.{Numbers}
 use Rattle.hd_model.proofs.Chains.{run_from_solo}
@@ -14,7 +17,6 @@ use Rattle.hd_model.proofs.Counts.{handles_are_made_less_freed}
 use Rattle.hd_io.specs.Counts.{Rose}
 use Rattle.hd_io.specs.Source.{SourceView}
 use Rattle.hd_io.specs.Sink.{SinkView, Took, WriteBrokeOff}
-use Rattle.hd_world.specs.World.{Standing}
 use Rattle.hd_run.specs.declared.ending.Fault.{Fault}
 use Rattle.hd_run.specs.declared.ending.Fault.TheVariants.{Usage, Unread, OverSize, BadLine, NoMemory}
 use Rattle.hd_run.specs.declared.ending.Ran.{Ran}
@@ -30,8 +32,8 @@ use Rattle.hd_run.specs.declared.request.Mode.{Mode}
 use Rattle.hd_run.specs.declared.request.Mode.TheVariants as mode
 use Rattle.hd_run.specs.declared.request.Request.{Request}
 use Rattle.hd_run.specs.Ending.{world_of, world_that, journal_in, kept_of, kept_that, ReadWhole, ReadProgram, IsProgram, ScriptBy, RanBy, StoppedBy, RefusedBy, FaultCause, numbers_by, Cause}
-use Rattle.hd_run.specs.Report.{fault_status, status_of, text_for, whole_text, stopped_text, memory_text, form_of, form_for, Reports}
-use Rattle.hd_run.specs.Claims.{RunsWhole, NotBegun, StopsForMemory, RefusesScript, IsStatus, Reads, AsksToRead, AsksForLoad, IsRefused, Answers, KeepsRun, KeepsCount, HasLine, Promise}
+use Rattle.hd_run.specs.Report.{fault_status, status_of, text_for, ran_text, text_by, stopped_text, memory_text, form_of, form_for, Reports}
+use Rattle.hd_run.specs.Claims.{RunsWhole, StopsForMemory, RefusesScript, IsStatus, Reads, AsksToRead, AsksForLoad, IsRefused, Answers, KeepsRun, KeepsCount, HasLine, Promise}
 
 -- ---- endings
 
@@ -54,15 +56,11 @@ not_five (Refused NoMemory) is = cc
 not_five (Stopped run) is = cc
 not_five (Done run) is = cc
 
--- what is told of the world that ran, and of what is kept of it, is the same
-pub world_told : (run : Ran) (P : Standing → Type 0) → P (world_that run) →
-    IsSomeAnd (world_of (kept_that run)) P
-world_told (ran.Alone w) P p = p
-world_told (ran.Shared w) P p = p
-
+-- the journal that ran, and that of what is kept of it, is the same
 pub journal_told : (run : Ran) → (world_that run).journal ≡ journal_in (world_of (kept_that run))
 journal_told (ran.Alone w) = refl
 journal_told (ran.Shared w) = refl
+journal_told (ran.Rooted w roots) = refl
 
 pub nothing_told : (form : Form) → memory_text ≡ stopped_text form []
 nothing_told Lines = refl
@@ -74,10 +72,19 @@ pub stopped_keeps : (m : Mode) (n : Numbers) (lists : List (List Cmd)) (run : Ra
 stopped_keeps mode.Solo n lists (ran.Alone w) at =
     subst (λ (k : Numbers). SoloRun k w.journal w.state) (sym at.ran.numbers) at.ran.run
 stopped_keeps mode.Solo n lists (ran.Shared w) at = absurd at
+stopped_keeps mode.Solo n lists (ran.Rooted w roots) at = absurd at
 stopped_keeps mode.Run n lists (ran.Alone w) at = absurd at
+stopped_keeps mode.Run n lists (ran.Rooted w roots) at = absurd at
 stopped_keeps mode.Run n lists (ran.Shared w) at =
     subst (λ (k : Numbers). Run k w.journal w.state) (sym at.ran.numbers) at.ran.run
 stopped_keeps mode.Load n lists (ran.Alone w) at = absurd at
+stopped_keeps mode.Load n lists (ran.Rooted w roots) at = absurd at
+stopped_keeps mode.Roots n lists (ran.Alone w) (inl at) =
+    subst (λ (k : Numbers). SoloRun k w.journal w.state) (sym at.ran.numbers) at.ran.run
+stopped_keeps mode.Roots n lists (ran.Alone w) (inr all) =
+    subst (λ (k : Numbers). SoloRun k w.journal w.state) (sym all.numbers) all.run
+stopped_keeps mode.Roots n lists (ran.Shared w) at = absurd at
+stopped_keeps mode.Roots n lists (ran.Rooted w roots) at = absurd at
 stopped_keeps mode.Load n lists (ran.Shared w) at =
     subst (λ (k : Numbers). Run k w.journal w.state) (sym at.ran.numbers) at.ran.run
 
@@ -86,12 +93,38 @@ pub whole_keeps : (m : Mode) (n : Numbers) (lists : List (List Cmd)) (run : Ran)
 whole_keeps mode.Solo n lists (ran.Alone w) all =
     subst (λ (k : Numbers). SoloRun k w.journal w.state) (sym all.numbers) all.run
 whole_keeps mode.Solo n lists (ran.Shared w) all = absurd all
+whole_keeps mode.Solo n lists (ran.Rooted w roots) all = absurd all
 whole_keeps mode.Run n lists (ran.Alone w) all = absurd all
+whole_keeps mode.Run n lists (ran.Rooted w roots) all = absurd all
 whole_keeps mode.Run n lists (ran.Shared w) all =
     subst (λ (k : Numbers). Run k w.journal w.state) (sym all.numbers) all.run
 whole_keeps mode.Load n lists (ran.Alone w) all = absurd all
+whole_keeps mode.Load n lists (ran.Rooted w roots) all = absurd all
+whole_keeps mode.Roots n lists (ran.Alone w) all = absurd all
+whole_keeps mode.Roots n lists (ran.Shared w) all = absurd all
+whole_keeps mode.Roots n lists (ran.Rooted w roots) all =
+    subst (λ (k : Numbers). SoloRun k w.journal w.state) (sym all.0.numbers) all.0.run
 whole_keeps mode.Load n lists (ran.Shared w) all =
     subst (λ (k : Numbers). Run k w.journal w.state) (sym all.numbers) all.run
+
+-- what was written of a whole run is what its mode writes
+pub whole_told : (m : Mode) (n : Numbers) (lists : List (List Cmd)) (run : Ran) (before after : SinkView) →
+    RanBy m n lists run → Took before after (ran_text (form_of m) run) →
+    IsSomeAnd (world_of (kept_that run)) (λ w. Took before after (text_by m w))
+whole_told mode.Solo n lists (ran.Alone w) before after all took = took
+whole_told mode.Solo n lists (ran.Shared w) before after all took = absurd all
+whole_told mode.Solo n lists (ran.Rooted w roots) before after all took = absurd all
+whole_told mode.Run n lists (ran.Alone w) before after all took = absurd all
+whole_told mode.Run n lists (ran.Shared w) before after all took = took
+whole_told mode.Run n lists (ran.Rooted w roots) before after all took = absurd all
+whole_told mode.Load n lists (ran.Alone w) before after all took = absurd all
+whole_told mode.Load n lists (ran.Shared w) before after all took = took
+whole_told mode.Load n lists (ran.Rooted w roots) before after all took = absurd all
+whole_told mode.Roots n lists (ran.Alone w) before after all took = absurd all
+whole_told mode.Roots n lists (ran.Shared w) before after all took = absurd all
+whole_told mode.Roots n lists (ran.Rooted w roots) before after (all, is) took =
+    subst (λ (listed : List RootId). Took before after (text_of w.journal w.state ++ list_text listed)) is
+    took
 
 -- the handles of what is kept are those that were made, less those that were freed
 pub kept_handles : (kept : Kept) → KeepsRun kept → KeepsCount kept
@@ -137,11 +170,13 @@ module _ (old new : SourceView) where
   no_usage : (m : Mode) → RefusedBy m old new Usage → ⊥
   no_usage mode.Solo cause = cause
   no_usage mode.Run cause = cause
+  no_usage mode.Roots cause = cause
   no_usage mode.Load (is, unread) = cc
 
   oversize_by : (m : Mode) → RefusedBy m old new OverSize → Reads m × RefusesScript old new
   oversize_by mode.Solo cause = (tt, inl cause)
   oversize_by mode.Run cause = (tt, inl cause)
+  oversize_by mode.Roots cause = (tt, inl cause)
   oversize_by mode.Load (is, unread) = cc
 
   line_refused : (k : ℕ) → FaultCause old new (BadLine k) → RefusesScript old new
@@ -150,6 +185,7 @@ module _ (old new : SourceView) where
   line_by : (m : Mode) (k : ℕ) → RefusedBy m old new (BadLine k) → Reads m × RefusesScript old new
   line_by mode.Solo k cause = (tt, line_refused k cause)
   line_by mode.Run k cause = (tt, line_refused k cause)
+  line_by mode.Roots k cause = (tt, line_refused k cause)
   line_by mode.Load k (is, unread) = cc
 
   unread_rose : FaultCause old new Unread → Rose old.faults new.faults
@@ -158,6 +194,7 @@ module _ (old new : SourceView) where
   unread_by : (m : Mode) → RefusedBy m old new Unread → Reads m × Rose old.faults new.faults
   unread_by mode.Solo broke = (tt, unread_rose broke)
   unread_by mode.Run broke = (tt, unread_rose broke)
+  unread_by mode.Roots broke = (tt, unread_rose broke)
   unread_by mode.Load (is, unread) = cc
 
   -- but for a failed read, no fault is passed over
@@ -171,12 +208,14 @@ module _ (old new : SourceView) where
   faults_by : (m : Mode) (f : Fault) → RefusedBy m old new f → fault_status f ≢ 4 → new.faults ≡ old.faults
   faults_by mode.Solo f cause ne = fault_unfailed f cause ne
   faults_by mode.Run f cause ne = fault_unfailed f cause ne
+  faults_by mode.Roots f cause ne = fault_unfailed f cause ne
   faults_by mode.Load f (is, unread) ne = ap (λ (v : SourceView). v.faults) unread
 
   script_unfailed : (m : Mode) (r : Request) (lists : List (List Cmd)) → ScriptBy m r old new lists →
       new.faults ≡ old.faults
   script_unfailed mode.Solo r lists script = script.read.all.gave.unfailed
   script_unfailed mode.Run r lists script = script.read.all.gave.unfailed
+  script_unfailed mode.Roots r lists script = script.read.all.gave.unfailed
   script_unfailed mode.Load r lists (unread, is) = ap (λ (v : SourceView). v.faults) unread
 
   -- ---- by what is asked
@@ -268,12 +307,15 @@ module _ (old new : SourceView) where
       refused_answers f status cause is unfailed bytes left
   answers_by mode.Run f status reads cause is unfailed bytes left =
       refused_answers f status cause is unfailed bytes left
+  answers_by mode.Roots f status reads cause is unfailed bytes left =
+      refused_answers f status cause is unfailed bytes left
   answers_by mode.Load f status reads cause is unfailed bytes left = absurd reads
 
   program_by : (m : Mode) (r : Request) (lists : List (List Cmd)) → Reads m →
       ScriptBy m r old new lists → ReadProgram old new lists
   program_by mode.Solo r lists reads script = script
   program_by mode.Run r lists reads script = script
+  program_by mode.Roots r lists reads script = script
   program_by mode.Load r lists reads script = absurd reads
 
   answers_of : (asked : Option Request) (e : Ending) (status : ℕ) → AsksToRead asked →
@@ -290,6 +332,7 @@ module _ (old new : SourceView) where
   load_fault : (m : Mode) (f : Fault) → m ≡ mode.Load → RefusedBy m old new f → f ≡ NoMemory
   load_fault mode.Solo f load cause = cc
   load_fault mode.Run f load cause = cc
+  load_fault mode.Roots f load cause = cc
   load_fault mode.Load f load (is, unread) = is
 
   load_status : (asked : Option Request) (e : Ending) → AsksForLoad asked → Cause asked old new e →
@@ -328,7 +371,7 @@ module _ (old new : SourceView) where
       run,
       refl,
       all,
-      world_told run (λ w. Took before after (whole_text (form_of r.mode) w)) took,
+      whole_told r.mode (numbers_by r.mode r lists) lists run before after all took,
     )
 
     -- what is said where memory ran out
@@ -373,6 +416,7 @@ module _ {S K : Type 0} (seen : S → SourceView) (shown : K → SinkView) (aske
   load_reads : (m : Mode) → m ≡ mode.Load → Reads m → ⊥
   load_reads mode.Solo load reads = cc
   load_reads mode.Run load reads = cc
+  load_reads mode.Roots load reads = cc
   load_reads mode.Load load reads = reads
 
   load_unread : (a : Option Request) → AsksForLoad a → AsksToRead a → ⊥

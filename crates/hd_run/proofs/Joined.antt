@@ -1,12 +1,11 @@
 -- What `run` and `load` promise, from the cause of their ending and its report.
-use Rattle.std.proofs.Common.{◌≡◌, ◌≢◌, ℕ, ◌+◌, ◌*◌, ◌/◌, ◌^◌, ◌<◌, ◌≤◌, ◌++◌, ◌⊎◌, List, [], ◌∷◌, inl, inr, length, map, Contains, refl, sym, ◌∙◌, ap, subst, arith, lit<, append-nil}
+use Rattle.std.proofs.Common.{◌≡◌, ℕ, ◌+◌, ◌*◌, ◌^◌, ◌<◌, ◌≤◌, ◌⊎◌, List, [], ◌∷◌, inl, inr, Contains, refl, sym, ◌∙◌, ap, subst, arith, lit<, append-nil}
 use Rattle.std.specs.List.{range_with_len}
 use Rattle.std.proofs.lemmas.List.{length-map}
 use Rattle.std.proofs.lemmas.Nat.{mul-le}
 use Rattle.hd_model.specs.declared.command.Cmd.{Cmd}
-use Rattle.hd_model.specs.declared.data.Entry.{Entry}
-use Rattle.hd_model.specs.declared.limits.TheConstants.{HEAP, BLOCKS, MOST_ROUNDS}
-use Rattle.hd_model.specs.Generated.{load_numbers, load_callers, load_text_of, generated_list, generated_lists}
+use Rattle.hd_model.specs.declared.limits.TheConstants.{HEAP, BLOCKS, LOAD_CALLERS, MOST_ROUNDS}
+use Rattle.hd_model.specs.Generated.{load_numbers, generated_list, generated_lists}
 use Rattle.hd_model.specs.Run.{part_of, commands_of}
 use Rattle.hd_model.specs.State.{Numbers}
 use Rattle.hd_script.specs.Load.{IsLoadRun}
@@ -15,7 +14,6 @@ use Rattle.hd_io.specs.Counts.{Rose}
 use Rattle.hd_io.specs.Sink.{SinkView, Took, WriteBrokeOff}
 use Rattle.hd_world.specs.World.{Standing}
 use Rattle.hd_run.specs.declared.ending.Fault.{Fault}
-use Rattle.hd_run.specs.declared.ending.Fault.TheVariants.{NoMemory}
 use Rattle.hd_run.specs.declared.ending.Ran.TheVariants as ran
 use Rattle.hd_run.specs.declared.ending.Ending.{Ending}
 use Rattle.hd_run.specs.declared.ending.Ending.TheVariants.{Refused, Stopped, Done}
@@ -27,7 +25,7 @@ use Rattle.hd_run.specs.declared.request.Mode.TheVariants as mode
 use Rattle.hd_run.specs.Together.{RanAllTogether, StoppedTogether}
 use Rattle.hd_run.specs.Ending.{world_of, journal_in, kept_of, numbers_for, RunCause}
 use Rattle.hd_run.specs.Report.{fault_status, status_of, text_for, whole_text, stopped_text, IsWritable, Reports}
-use Rattle.hd_run.specs.Claims.{KeepsRun, HasLine, line_of_rounds, Together}
+use Rattle.hd_run.specs.Claims.{KeepsRun, HasLine, Together}
 use Rattle.hd_run.proofs.Claimed.{stopped_keeps, whole_keeps, kept_handles, nothing_told, not_five}
 
 module _ (n : Numbers) (lists : List (List Cmd)) where
@@ -49,6 +47,7 @@ module _ (n : Numbers) (lists : List (List Cmd)) where
     whole_of (Stopped run) at is took = cc
     whole_of (Done (ran.Alone w)) all is took = absurd all
     whole_of (Done (ran.Shared w)) all is took = (w, refl, all, took)
+    whole_of (Done (ran.Rooted w roots)) all is took = absurd all
 
     abbrev Wants : Ending → Type 0
     Wants e = ((kept_of e ≡ Nothing) ⊎ ((w : Standing) × (kept_of e ≡ Shared w) × StoppedTogether n lists w))
@@ -63,6 +62,7 @@ module _ (n : Numbers) (lists : List (List Cmd)) where
     )
     memory_of (Stopped (ran.Alone w)) at is took = absurd at
     memory_of (Stopped (ran.Shared w)) at is took = (inr (w, refl, at), took)
+    memory_of (Stopped (ran.Rooted w roots)) at is took = absurd at
     memory_of (Done run) all is took = cc
 
 module _ {K : Type 0} (shown : K → SinkView) (form : Form) (n : Numbers) (lists : List (List Cmd))
@@ -115,7 +115,7 @@ unfolding generated_lists
 load_is rounds = λ i. record {
   heap = HEAP;
   blocks = BLOCKS;
-  callers = length-map (range_with_len 0 load_callers) (generated_list rounds) i;
+  callers = length-map (range_with_len 0 LOAD_CALLERS) (generated_list rounds) i;
 }
 
 module _ (rounds : ℕ) (some : 1 ≤ rounds) (most : rounds ≤ MOST_ROUNDS) where
@@ -141,6 +141,7 @@ module _ (rounds : ℕ) (some : 1 ≤ rounds) (most : rounds ≤ MOST_ROUNDS) wh
   load_writable (Refused f) is = tt
   load_writable (Stopped run) at = tt
   load_writable (Done (ran.Alone w)) all = absurd all
+  load_writable (Done (ran.Rooted w roots)) all = absurd all
   load_writable (Done (ran.Shared w)) all =
       omega (arith, told rounds w.journal w.state most (load_run w all), small)
 

@@ -10,3 +10,4 @@ mod Causes
 mod Claimed
 mod Modes
 mod Joined
+mod Listing

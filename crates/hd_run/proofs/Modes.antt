@@ -5,7 +5,6 @@ use Rattle.std.specs.Io.KnownBytes.{Consumes}
 use Rattle.hd_model.specs.declared.command.Cmd.{Cmd}
 use Rattle.hd_model.specs.declared.limits.TheConstants.{MOST_BYTES}
 use Rattle.hd_model.specs.Generated.{load_numbers, generated_lists}
-use Rattle.hd_model.specs.State.{Numbers}
 use Rattle.hd_io.specs.Source.{SourceView, GaveCount}
 use Rattle.hd_io.specs.Sink.{SinkView}
 use Rattle.hd_run.specs.declared.ending.Fault.{Fault}
@@ -15,13 +14,13 @@ use Rattle.hd_run.specs.declared.ending.Ending.{Ending}
 use Rattle.hd_run.specs.declared.ending.Ending.TheVariants.{Refused, Stopped, Done}
 use Rattle.hd_run.specs.declared.outcome.Outcome.{Outcome}
 use Rattle.hd_run.specs.declared.report.Form.{Form}
-use Rattle.hd_run.specs.declared.report.Form.TheVariants.{Lines, Summary}
+use Rattle.hd_run.specs.declared.report.Form.TheVariants.{Lines}
 use Rattle.hd_run.specs.declared.request.Mode.{Mode}
 use Rattle.hd_run.specs.declared.request.Mode.TheVariants as mode
 use Rattle.hd_run.specs.declared.request.Request.{Request}
 use Rattle.hd_run.specs.Words.{IsFaultOfWords}
 use Rattle.hd_run.specs.Ending.{ReadProgram, FaultCause, RunCause, CauseBy, Cause, numbers_by}
-use Rattle.hd_run.specs.Report.{fault_status, form_for, IsWritable, Reports}
+use Rattle.hd_run.specs.Report.{fault_status, IsWritable, Reports}
 use Rattle.hd_run.specs.Claims.{Reads, HasLine}
 
 -- nothing was read
@@ -49,12 +48,15 @@ run_cause m r old new lists (Refused f) reads read is = by m reads
     by : (k : Mode) → Reads k → CauseBy k r old new (Refused f)
     by mode.Solo reads = few
     by mode.Run reads = few
+    by mode.Roots reads = few
     by mode.Load reads = absurd reads
 run_cause mode.Solo r old new lists (Stopped run) reads read at = (lists, read, at)
 run_cause mode.Run r old new lists (Stopped run) reads read at = (lists, read, at)
+run_cause mode.Roots r old new lists (Stopped run) reads read at = (lists, read, at)
 run_cause mode.Load r old new lists (Stopped run) reads read at = absurd reads
 run_cause mode.Solo r old new lists (Done run) reads read all = (lists, read, all)
 run_cause mode.Run r old new lists (Done run) reads read all = (lists, read, all)
+run_cause mode.Roots r old new lists (Done run) reads read all = (lists, read, all)
 run_cause mode.Load r old new lists (Done run) reads read all = absurd reads
 
 -- no program was read
@@ -62,6 +64,7 @@ pub fault_cause : (m : Mode) (r : Request) (old new : SourceView) (f : Fault) �
     FaultCause old new f → CauseBy m r old new (Refused f)
 fault_cause mode.Solo r old new f reads cause = cause
 fault_cause mode.Run r old new f reads cause = cause
+fault_cause mode.Roots r old new f reads cause = cause
 fault_cause mode.Load r old new f reads cause = absurd reads
 
 -- the script of a load was run
@@ -70,8 +73,10 @@ pub load_cause : (r : Request) (v : SourceView) (e : Ending) →
 load_cause r v (Refused f) is = (is, refl)
 load_cause r v (Stopped (ran.Alone w)) at = absurd at
 load_cause r v (Stopped (ran.Shared w)) at = (generated_lists r.rounds, (refl, refl), at)
+load_cause r v (Stopped (ran.Rooted w roots)) at = absurd at
 load_cause r v (Done (ran.Alone w)) all = absurd all
 load_cause r v (Done (ran.Shared w)) all = (generated_lists r.rounds, (refl, refl), all)
+load_cause r v (Done (ran.Rooted w roots)) all = absurd all
 
 -- the words were not answered
 pub words_cause : (asked : Option Request) (v : SourceView) (f : Fault) → IsFaultOfWords asked f →
@@ -83,6 +88,7 @@ words_cause (Some r) v f (inl memory) = subst (λ k. CauseBy r.mode r v v (Refus
     by : (m : Mode) → CauseBy m r v v (Refused NoMemory)
     by mode.Solo = nothing_read v
     by mode.Run = nothing_read v
+    by mode.Roots = nothing_read v
     by mode.Load = (refl, refl)
 words_cause (Some r) v f (inr (usage, none)) = cc
 

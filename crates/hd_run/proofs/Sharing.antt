@@ -1,6 +1,6 @@
 -- The callers of a shared world once each has gone through its list: what they did is one run.
-use Rattle.std.proofs.Common.{◌≡◌, ◌≢◌, ℕ, ◌+◌, ◌<◌, ◌≤◌, List, [], ◌∷◌, ◌++◌, map, length, drop, get_or, refl, sym, ◌∙◌, ap, subst, arith, inl, inr, append-nil}
-use Rattle.std.specs.Prelude.{slice_index, slice_index_or, All, Any}
+use Rattle.std.proofs.Common.{◌≡◌, ℕ, ◌<◌, ◌≤◌, List, [], ◌∷◌, ◌++◌, map, length, drop, refl, sym, ◌∙◌, ap, subst, arith, inl, inr}
+use Rattle.std.specs.Prelude.{slice_index_or, All, Any, Bool, true, false, MatchBool}
 use Rattle.std.proofs.lemmas.Bool.{cases_lt}
 use Rattle.std.proofs.lemmas.List.{get_or-map, get_or_past, length-map, nil_from_length, drop_all}
 use Rattle.std.proofs.lemmas.List.Elements.{All-nil, All-cons, All-weaker}
@@ -14,8 +14,10 @@ use Rattle.hd_custody.specs.Views.{Named}
 use Rattle.hd_gate.specs.Shared.{Party, AreAll, Begin, HasParts}
 use Rattle.hd_world.specs.World.{Standing}
 use Rattle.hd_run.specs.Turns.{list_of}
-use Rattle.hd_run.specs.Together.{RanTogether, RanAllTogether, StoppedTogether, MayWantMemory, HasPlayed, HavePlayed, IsReadyToPlay}
+use Rattle.hd_run.specs.Together.{RanAllTogether, StoppedTogether, MayWantMemory, HasPlayed, HavePlayed, IsReadyToPlay}
 use Rattle.hd_run.specs.Report.{HasFewCallers}
+use Rattle.hd_run.specs.declared.request.Mode.TheVariants as mode
+use Rattle.hd_run.specs.Ending.{RunCause, together_ending, world_of, kept_of, journal_in}
 
 -- an element of a list that has one
 some_of : {X : Type 0} (xs : List X) (c : ℕ) → c < length xs → X
@@ -42,6 +44,11 @@ pub few_callers : (n : Numbers) (journal : List Entry) (s : State) → n.callers
 few_callers n journal s few run =
     All-weaker (λ (e : Entry). e.caller < n.callers) (λ (e : Entry). e.caller < CALLERS)
     (λ e lt. omega arith) journal (run_callers run)
+
+pub together_callers : (w : Standing) → w.numbers.callers ≤ CALLERS → Run w.numbers w.journal w.state →
+    (done : Bool) → HasFewCallers (journal_in (world_of (kept_of (together_ending done w))))
+together_callers w few run true = few_callers w.numbers w.journal w.state few run
+together_callers w few run false = few_callers w.numbers w.journal w.state few run
 
 module _ (s : Named) (lists : List (List Cmd)) (before : List Party)
     (as_many : s.numbers.callers ≡ length lists) (all : AreAll s before)
@@ -168,3 +175,8 @@ module _ (s : Named) (lists : List (List Cmd)) (before : List Party)
           run = as_run;
           parts = λ c. split_at c ∙ ap (λ v. commands_of (part_of w.journal c) ++ v) (all_done done c);
         }
+
+        pub together_cause : (done : Bool) → MatchBool done (All (λ (p : Party). p.room ≡ 0) after)
+            (Any (λ (p : Party). 1 ≤ p.room) after) → RunCause mode.Run n lists (together_ending done w)
+        together_cause true all = whole all
+        together_cause false some = stopped some

@@ -13,7 +13,7 @@ use Rattle.hd_model.specs.Run.{Chain, stay, link, SoloStep, SoloRun}
 use Rattle.hd_model.specs.Valid.{takes_memory}
 use Rattle.hd_model.proofs.Chains.{push}
 use Rattle.hd_model.specs.declared.data.Reply.{Reply}
-use Rattle.hd_world.specs.World.{Standing}
+use Rattle.hd_world.specs.World.{Standing, FitsHeap}
 use Rattle.hd_gate.specs.Alone.{HasCalled}
 use Rattle.hd_run.specs.Turns.{list_of, turns_of, turns_from, turn_of, StoppedAt, IsReadyFor}
 use Rattle.hd_run.proofs.Rising.{rising_of_prefix}
@@ -113,8 +113,14 @@ module _ (n : Numbers) (lists : List (List Cmd)) (turn : ℕ × Cmd) (rest : Lis
 
   -- the first turn that is left found no memory
   pub stops_at : (w : Standing) → IsReadyFor n lists (turn ∷ rest) w →
-      IsTrue (takes_memory turn.1) → StoppedAt n lists w
-  stops_at w ready wants = record { next = turn; rest = rest; ran = ready.ran; wants = wants }
+      IsTrue (takes_memory turn.1) → FitsHeap w.numbers w.state turn.1 → StoppedAt n lists w
+  stops_at w ready wants fits = record {
+    next = turn;
+    rest = rest;
+    ran = ready.ran;
+    wants = wants;
+    fits = subst (λ (m : Numbers). FitsHeap m w.state turn.1) ready.ran.numbers fits;
+  }
 
 -- each caller of a chain is one of the run
 chain_callers : {n : Numbers} {s t : State} {es : List Entry} → Chain (SoloStep n) s es t →

@@ -1,10 +1,9 @@
 -- What a call promises, in the words of a user. Each claim follows from the ending, its cause and
 -- its report. The statuses are this project's own.
-use Rattle.std.specs.Prelude.{◌≡◌, ◌≢◌, ℕ, ◌+◌, ◌*◌, ◌/◌, ◌<◌, ◌≤◌, ◌⊎◌, List, [], ◌∷◌, length, Contains, Option, None, Some, IfSome, IsSomeAnd, IsErr}
+use Rattle.std.specs.Prelude.{◌≡◌, ◌≢◌, ℕ, ◌+◌, ◌<◌, ◌⊎◌, List, [], ◌∷◌, length, Contains, Option, None, Some, IfSome, IsSomeAnd, IsErr}
 use Rattle.std.specs.FinMap.{len}
 use Rattle.hd_model.specs.declared.command.Cmd.{Cmd}
 use Rattle.hd_model.specs.declared.limits.TheConstants.{MOST_BYTES}
-use Rattle.hd_model.specs.Generated.{load_text}
 use Rattle.hd_model.specs.Grammar.{script_of}
 use Rattle.hd_model.specs.Run.{Run, SoloRun}
 use Rattle.hd_model.specs.State.{Numbers}
@@ -12,6 +11,7 @@ use Rattle.hd_model.specs.Laws.{count_entries, makes_handle, frees_handle}
 use Rattle.hd_io.specs.Counts.{Rose}
 use Rattle.hd_io.specs.Source.{SourceView, GaveCount}
 use Rattle.hd_io.specs.Sink.{SinkView, Took}
+use Rattle.hd_script.specs.Load.{line_of_rounds}
 use Rattle.hd_world.specs.World.{Standing}
 use Rattle.hd_run.specs.declared.ending.Ending.{Ending}
 use Rattle.hd_run.specs.declared.ending.Fault.TheVariants.{NoMemory}
@@ -25,7 +25,7 @@ use Rattle.hd_run.specs.declared.request.Mode.TheVariants as mode
 use Rattle.hd_run.specs.declared.request.Request.{Request}
 use Rattle.hd_run.specs.Together.{RanAllTogether, StoppedTogether}
 use Rattle.hd_run.specs.Ending.{world_of, kept_that, ReadWhole, ScriptBy, RanBy, StoppedBy, RefusedBy, RunCause, numbers_by, journal_in, Cause}
-use Rattle.hd_run.specs.Report.{whole_text, stopped_text, form_of, form_for, Reports}
+use Rattle.hd_run.specs.Report.{whole_text, stopped_text, form_for, Reports, text_by}
 
 -- There was a script, read whole or made. What ran all of it, as its mode does, is kept, and its text was
 -- written.
@@ -33,19 +33,19 @@ abbrev pub RunsWhole : Option Request → SourceView → SourceView → SinkView
 RunsWhole asked old new before after kept = IsSomeAnd asked (λ r.
     (lists : List (List Cmd)) × ScriptBy r.mode r old new lists
     × (run : Ran) × (kept ≡ kept_that run) × RanBy r.mode (numbers_by r.mode r lists) lists run
-    × IsSomeAnd (world_of kept) (λ w. Took before after (whole_text (form_of r.mode) w)))
+    × IsSomeAnd (world_of kept) (λ w. Took before after (text_by r.mode w)))
 
--- nothing was run: at most the limit of bytes was read, and nothing where no mode asks for it
-abbrev pub NotBegun : Option Request → SourceView → SourceView → Type 0
-NotBegun None old new = new ≡ old
-NotBegun (Some r) old new = RefusedBy r.mode old new NoMemory
+-- What was read where nothing is kept: at most the limit of bytes, and nothing where no mode asks for it. Of
+-- a run it says nothing.
+abbrev pub ReadAtMost : Option Request → SourceView → SourceView → Type 0
+ReadAtMost None old new = new ≡ old
+ReadAtMost (Some r) old new = RefusedBy r.mode old new NoMemory
 
--- Nothing was run, and nothing is kept; or there was a script, and what is kept ran it up to commands that
--- may
--- take memory.
+-- Nothing is kept, be it that nothing was run or that a world was dropped; or there was a script, and what is
+-- kept ran it up to commands that may take memory.
 abbrev pub StopsForMemory : Option Request → SourceView → SourceView → Kept → Type 0
 StopsForMemory asked old new kept =
-    (NotBegun asked old new × (kept ≡ Nothing))
+    (ReadAtMost asked old new × (kept ≡ Nothing))
     ⊎ IsSomeAnd asked (λ r. (lists : List (List Cmd)) × ScriptBy r.mode r old new lists
     × (run : Ran) × (kept ≡ kept_that run) × StoppedBy r.mode (numbers_by r.mode r lists) lists run)
 
@@ -68,6 +68,7 @@ abbrev pub Reads : Mode → Type 0
 Reads mode.Solo = Unit {0}
 Reads mode.Run = Unit {0}
 Reads mode.Load = ⊥
+Reads mode.Roots = Unit {0}
 
 -- words that are lawful and name a mode that reads
 abbrev pub AsksToRead : Option Request → Type 0
@@ -98,12 +99,7 @@ KeepsCount kept = IfSome (world_of kept) (λ w.
     len w.state.handles + count_entries frees_handle w.journal
     ≡ count_entries makes_handle w.journal)
 
--- the line of a load of so many rounds, in whatever order its callers came
-abbrev pub line_of_rounds : ℕ → List ℕ
-line_of_rounds rounds = load_text (32 * rounds + 4 * (rounds / 16)) (4 * rounds) 0
-    (4 * (rounds / 16)) (2 * rounds * (rounds + 1))
-
--- on status 0 it was written
+-- on status 0 the line of a load of so many rounds was written, in whatever order its callers came
 abbrev pub HasLine : ℕ → SinkView → SinkView → ℕ → Type 0
 HasLine rounds before after status = status ≡ 0 → Took before after (line_of_rounds rounds)
 

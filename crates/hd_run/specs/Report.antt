@@ -3,18 +3,21 @@ use Rattle.std.specs.Prelude.{◌≡◌, ℕ, ◌^◌, ◌<◌, sum_by, List, �
 use Rattle.hd_model.specs.declared.data.Entry.{Entry}
 use Rattle.hd_model.specs.declared.limits.TheConstants.{CALLERS}
 use Rattle.hd_model.specs.Generated.{load_text_of, value_told}
+use Rattle.hd_model.specs.RootText.{list_text, roots_text}
 use Rattle.hd_model.specs.Text.{newline, lines_of, text_of}
 use Rattle.hd_io.specs.Sink.{SinkView, Took, WriteBrokeOff}
 use Rattle.hd_world.specs.World.{Standing}
 use Rattle.hd_run.specs.declared.ending.Fault.{Fault}
 use Rattle.hd_run.specs.declared.ending.Fault.TheVariants.{Usage, Unread, OverSize, BadLine, NoMemory}
+use Rattle.hd_run.specs.declared.ending.Ran.{Ran}
+use Rattle.hd_run.specs.declared.ending.Ran.TheVariants as ran
 use Rattle.hd_run.specs.declared.ending.Ending.{Ending}
 use Rattle.hd_run.specs.declared.ending.Ending.TheVariants.{Refused, Stopped, Done}
 use Rattle.hd_run.specs.declared.outcome.Outcome.{Outcome}
 use Rattle.hd_run.specs.declared.report.Form.{Form}
 use Rattle.hd_run.specs.declared.report.Form.TheVariants.{Lines, Summary}
 use Rattle.hd_run.specs.declared.request.Mode.{Mode}
-use Rattle.hd_run.specs.declared.request.Mode.TheVariants.{Solo, Run, Load}
+use Rattle.hd_run.specs.declared.request.Mode.TheVariants.{Solo, Run, Load, Roots}
 use Rattle.hd_run.specs.declared.request.Request.{Request}
 use Rattle.hd_run.specs.Ending.{world_that, kept_of}
 
@@ -37,7 +40,7 @@ memory_text = codes "fault memory" ++ newline
 
 abbrev pub fault_text : Fault → List ℕ
 fault_text Usage =
-    codes "usage: hdt solo|run|load [--heap CELLS] [--blocks COUNT] [--rounds N]" ++ newline
+    codes "usage: hdt solo|run|load|roots [--heap CELLS] [--blocks COUNT] [--rounds N]" ++ newline
 fault_text Unread = codes "fault read" ++ newline
 fault_text OverSize = codes "fault size" ++ newline
 fault_text (BadLine k) = codes "fault line " ++ decimal k ++ newline
@@ -53,17 +56,31 @@ abbrev pub whole_text : Form → Standing → List ℕ
 whole_text Lines w = text_of w.journal w.state
 whole_text Summary w = load_text_of w.journal w.state
 
+-- what is written of what ran: after that the lines of the roots, where they were listed
+abbrev pub ran_text : Form → Ran → List ℕ
+ran_text form (ran.Alone w) = whole_text form w
+ran_text form (ran.Shared w) = whole_text form w
+ran_text form (ran.Rooted w roots) = whole_text form w ++ list_text roots
+
+-- what each mode writes of a whole run
+abbrev pub text_by : Mode → Standing → List ℕ
+text_by Solo w = text_of w.journal w.state
+text_by Run w = text_of w.journal w.state
+text_by Load w = load_text_of w.journal w.state
+text_by Roots w = text_of w.journal w.state ++ roots_text w.state
+
 -- what each ending writes
 abbrev pub text_for : Form → Ending → List ℕ
 text_for form (Refused fault) = fault_text fault
 text_for form (Stopped run) = stopped_text form (world_that run).journal
-text_for form (Done run) = whole_text form (world_that run)
+text_for form (Done run) = ran_text form run
 
 -- how each mode writes a run, and how words are answered that name none
 abbrev pub form_of : Mode → Form
 form_of Solo = Lines
 form_of Run = Lines
 form_of Load = Summary
+form_of Roots = Lines
 
 abbrev pub form_for : Option Request → Form
 form_for None = Lines

@@ -6,7 +6,7 @@ use Rattle.hd_model.specs.declared.data.Entry.{Entry}
 use Rattle.hd_model.specs.State.{Numbers}
 use Rattle.hd_model.specs.Run.{SoloRun}
 use Rattle.hd_model.specs.Valid.{takes_memory}
-use Rattle.hd_world.specs.World.{Standing}
+use Rattle.hd_world.specs.World.{Standing, FitsHeap}
 
 -- the commands of a caller in a script
 abbrev pub list_of : List (List Cmd) → ℕ → List Cmd
@@ -41,12 +41,13 @@ pub record RanUpTo (n : Numbers) (lists : List (List Cmd)) (left : List (ℕ × 
 abbrev pub RanWhole : Numbers → List (List Cmd) → Standing → Type 0
 RanWhole n lists w = RanUpTo n lists [] w
 
--- the run stopped at a command that may take memory: that of the first turn which is left
+-- the run stopped at a command that may take memory, and not for a full heap: that of the first turn left
 pub record StoppedAt (n : Numbers) (lists : List (List Cmd)) (w : Standing) : Type 0 where
   pub next : ℕ × Cmd
   pub rest : List (ℕ × Cmd)
   pub ran : RanUpTo n lists (next ∷ rest) w
   pub wants : IsTrue (takes_memory next.1)
+  pub fits : FitsHeap n w.state next.1
 
 -- a world that has turns left, and room for their entries
 pub record IsReadyFor (n : Numbers) (lists : List (List Cmd)) (left : List (ℕ × Cmd))

@@ -14,7 +14,7 @@ use Rattle.hd_run.specs.declared.request.TheConstants.{LEAST_HEAP, ROUNDS}
 use Rattle.hd_run.specs.declared.ending.Fault.{Fault}
 use Rattle.hd_run.specs.declared.ending.Fault.TheVariants.{Usage, NoMemory}
 use Rattle.hd_run.specs.declared.request.Mode.{Mode}
-use Rattle.hd_run.specs.declared.request.Mode.TheVariants.{Solo, Run, Load}
+use Rattle.hd_run.specs.declared.request.Mode.TheVariants.{Solo, Run, Load, Roots}
 use Rattle.hd_run.specs.declared.request.Request.{Request}
 
 -- a word that stands alone and is required: the mode
@@ -39,6 +39,7 @@ abbrev pub mode_of : Text → Option Mode
 mode_of name = if bytes_eq name (codes "solo") then Some Solo
     else if bytes_eq name (codes "run") then Some Run
     else if bytes_eq name (codes "load") then Some Load
+    else if bytes_eq name (codes "roots") then Some Roots
     else None
 
 -- the number that a text of digits tells
@@ -77,10 +78,22 @@ abbrev pub if_solo : Mode → Request → Option Request
 if_solo Solo request = Some request
 if_solo Run request = None
 if_solo Load request = None
+if_solo Roots request = None
 
 abbrev pub solo_of : Option Request → Option Request
 solo_of None = None
 solo_of (Some request) = if_solo request.mode request
+
+-- a request, where it is one for the mode `roots`
+abbrev pub if_roots : Mode → Request → Option Request
+if_roots Solo request = None
+if_roots Run request = None
+if_roots Load request = None
+if_roots Roots request = Some request
+
+abbrev pub listing_of : Option Request → Option Request
+listing_of None = None
+listing_of (Some request) = if_roots request.mode request
 
 -- why words are not answered: memory ran out, or they ask for nothing
 abbrev pub IsFaultOfWords : Option Request → Fault → Type 0

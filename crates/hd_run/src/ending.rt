@@ -1,8 +1,10 @@
 ghost use Rattle.std.specs.Prelude.{◌≡◌};
-ghost use Rattle.hd_run.specs.Ending.{kept_of, kept_that, world_that, unread_fault, unparsed_fault, ran_ending};
+ghost use Rattle.hd_run.specs.Ending.{kept_of, kept_that, world_that, unread_fault, unparsed_fault};
+ghost use Rattle.hd_run.specs.Ending.{ran_ending, rooted_ending, together_ending};
 ghost use Rattle.hd_run.specs.Report.{fault_status, status_of};
 
 use crate::Kept;
+use crate::root_list::RootList;
 use hd_gate::Closed;
 use hd_io::ReadFault;
 use hd_model::Memory;
@@ -19,11 +21,12 @@ pub(crate) enum Fault {
     NoMemory,
 }
 
-/// What ran a script: one thread, or its callers in threads.
+/// What ran a script: one thread, its callers in threads, or one thread that listed the roots then.
 #[derive(Drop)]
 pub(crate) enum Ran {
     Alone(World),
     Shared(Closed),
+    Rooted(World, RootList),
 }
 
 /// How the work of a call ends, before its report is written, and what it keeps.
@@ -41,7 +44,7 @@ impl Ran {
         ensures { result.now ≡ world_that self.now }
     {
         match self {
-            Ran::Alone(world) => world,
+            Ran::Alone(world) | Ran::Rooted(world, _) => world,
             Ran::Shared(closed) => closed.world(),
         }
     }
@@ -52,6 +55,7 @@ impl Ran {
         match self {
             Ran::Alone(world) => Kept::Alone(world),
             Ran::Shared(closed) => Kept::Shared(closed),
+            Ran::Rooted(world, _roots) => Kept::Alone(world),
         }
     }
 }
@@ -118,5 +122,26 @@ pub(crate) fn ended(taken: Result<(), Memory>, world: World) -> Ending
     match taken {
         Ok(()) => Ending::Done(Ran::Alone(world)),
         Err(Memory) => Ending::Stopped(Ran::Alone(world)),
+    }
+}
+
+/// A run of one thread listed the roots of its world, or stopped for want of memory.
+pub(crate) fn rooted(listed: Result<RootList, Memory>, world: World) -> Ending
+    ensures { result ≡ rooted_ending listed world }
+{
+    match listed {
+        Ok(roots) => Ending::Done(Ran::Rooted(world, roots)),
+        Err(Memory) => ended(Err(Memory), world),
+    }
+}
+
+/// A run of callers in threads came to its end, or some of them stopped for want of memory.
+pub(crate) fn ended_together(done: bool, closed: Closed) -> Ending
+    ensures { result ≡ together_ending done closed }
+{
+    if done {
+        Ending::Done(Ran::Shared(closed))
+    } else {
+        Ending::Stopped(Ran::Shared(closed))
     }
 }

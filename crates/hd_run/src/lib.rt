@@ -5,7 +5,7 @@ ghost use Rattle.std.specs.Prelude.{◌≡◌, ◌≤◌, Some};
 ghost use Rattle.hd_model.specs.Generated.{load_numbers, generated_lists};
 ghost use Rattle.hd_run.specs.declared.report.Form.TheVariants.{Lines, Summary};
 ghost use Rattle.hd_run.specs.declared.request.TheConstants.{LEAST_HEAP};
-ghost use Rattle.hd_run.specs.Words.{request_of, solo_of, IsInLimits};
+ghost use Rattle.hd_run.specs.Words.{request_of, solo_of, listing_of, IsInLimits};
 ghost use Rattle.hd_run.specs.Ending.{numbers_for};
 ghost use Rattle.hd_run.specs.Claims.{Promise, Together, HasLine};
 
@@ -14,6 +14,7 @@ mod laws;
 mod outcome;
 mod report;
 mod request;
+mod root_list;
 mod summary;
 mod threads;
 mod turns;
@@ -21,9 +22,9 @@ mod work;
 
 use crate::ending::{Ending, Fault};
 use crate::report::{Form, report};
-use crate::request::{Mode, Request, read_solo_words, read_words};
+use crate::request::{Mode, Request, read_roots_words, read_solo_words, read_words};
 use crate::threads::run_callers;
-use crate::work::{read_script, run_alone};
+use crate::work::{read_script, run_alone, run_rooted};
 use hd_io::{Pace, Sink, Source};
 use hd_model::limits::{BLOCKS, HEAP, MOST_ROUNDS};
 use hd_script::{Scripts, generate};
@@ -34,8 +35,8 @@ use std::sync::Wait;
 use std::thread::Threads;
 
 /// The program: reads its words, the program's name first, and does what they say, in the mode that
-/// they name: `solo`, `run` or `load`. It may start threads and wait for them, so what it promises
-/// is promised where it returns.
+/// they name: `solo`, `run`, `load` or `roots`. It may start threads and wait for them, so what it
+/// promises is promised where it returns.
 pub fn top<R: Threads + Wait + Sync, S: Source, K: Sink, P: Pace>(
     rt: &R,
     alloc: Global,
@@ -68,6 +69,25 @@ pub fn solo<S: Source, K: Sink>(
 {
     match read_solo_words(alloc, words) {
         Ok(request) => answer_solo(alloc, request, source, sink),
+        Err(fault) => report(sink, Form::Lines, Ending::Refused(fault)),
+    }
+}
+
+/// Does what `solo` does, and then writes a line for each root, in rising slot, and one with their
+/// number. A root is a handle that holds its target. They are gathered in threads, before anything
+/// is written. Words that don't name the mode `roots` are refused.
+pub fn roots<R: Threads + Sync, S: Source, K: Sink>(
+    rt: &R,
+    alloc: Global,
+    words: &[String],
+    source: &mut S,
+    sink: &mut K,
+) -> Outcome
+    ensures { Promise S.seen K.seen (listing_of (request_of words.now)) source.old source.new
+        sink.old sink.new result }
+{
+    match read_roots_words(alloc, words) {
+        Ok(request) => answer_roots(rt, alloc, request, source, sink),
         Err(fault) => report(sink, Form::Lines, Ending::Refused(fault)),
     }
 }
@@ -129,6 +149,7 @@ fn answer<R: Threads + Wait + Sync, S: Source, K: Sink, P: Pace>(
         Mode::Solo => answer_solo(alloc, request, source, sink),
         Mode::Run => answer_run(rt, alloc, request, source, sink, pace),
         Mode::Load => load(rt, alloc, request.rounds, sink, pace),
+        Mode::Roots => answer_roots(rt, alloc, request, source, sink),
     }
 }
 
@@ -144,6 +165,24 @@ fn answer_solo<S: Source, K: Sink>(
 {
     let ending = match read_script(alloc, source) {
         Ok(scripts) => run_alone(alloc, &scripts, request.heap, request.blocks),
+        Err(fault) => Ending::Refused(fault),
+    };
+    report(sink, Form::Lines, ending)
+}
+
+fn answer_roots<R: Threads + Sync, S: Source, K: Sink>(
+    rt: &R,
+    alloc: Global,
+    request: Request,
+    source: &mut S,
+    sink: &mut K,
+) -> Outcome
+    requires limits { IsInLimits request }
+    requires mode { request.mode ≡ Mode.Roots }
+    ensures { Promise S.seen K.seen (Some request) source.old source.new sink.old sink.new result }
+{
+    let ending = match read_script(alloc, source) {
+        Ok(scripts) => run_rooted(rt, alloc, &scripts, request.heap, request.blocks),
         Err(fault) => Ending::Refused(fault),
     };
     report(sink, Form::Lines, ending)

@@ -1,11 +1,13 @@
 ghost use Rattle.std.specs.Prelude.{◌≡◌, ◌++◌};
 ghost use Rattle.hd_model.specs.Text.{lines_of};
-ghost use Rattle.hd_run.specs.Ending.{world_of, journal_in, kept_of};
+ghost use Rattle.hd_model.specs.RootText.{list_text};
+ghost use Rattle.hd_run.specs.Ending.{world_of, world_that, journal_in, kept_of};
 ghost use Rattle.hd_run.specs.Report.{Reports, Writes, HasFewCallers, HasSum, IsWritable};
-ghost use Rattle.hd_run.specs.Report.{text_for, stopped_text, whole_text, fault_text};
+ghost use Rattle.hd_run.specs.Report.{text_for, stopped_text, ran_text, whole_text, fault_text};
 
 use crate::Outcome;
-use crate::ending::{Ending, Fault};
+use crate::ending::{Ending, Fault, Ran};
+use crate::root_list::RootList;
 use crate::summary::summary;
 use hd_io::{Failed, Sink, write_all};
 use hd_model::Journal;
@@ -16,6 +18,8 @@ use hd_world::World;
 const WRITE_FAULT: u8 = 5;
 
 const MEMORY: &str = "fault memory\n";
+
+const USAGE: &str = "usage: hdt solo|run|load|roots [--heap CELLS] [--blocks COUNT] [--rounds N]\n";
 
 /// How a run is written: a line for each entry and one for its end, or one line for all.
 #[derive(Clone, Copy)]
@@ -48,7 +52,7 @@ fn write_text<K: Sink>(sink: &mut K, form: Form, ending: &Ending) -> Result<(), 
     match ending {
         Ending::Refused(fault) => write_all(sink, fault_line(*fault).as_bytes()),
         Ending::Stopped(ran) => write_stopped(sink, form, ran.world().journal()),
-        Ending::Done(ran) => write_whole(sink, form, ran.world()),
+        Ending::Done(ran) => write_ran(sink, form, ran),
     }
 }
 
@@ -62,6 +66,35 @@ fn write_stopped<K: Sink>(sink: &mut K, form: Form, journal: &Journal) -> Result
         Form::Lines => write_lines(sink, journal, MEMORY.as_bytes()),
         Form::Summary => write_all(sink, MEMORY.as_bytes()),
     }
+}
+
+// What is written of what ran a script.
+fn write_ran<K: Sink>(sink: &mut K, form: Form, ran: &Ran) -> Result<(), Failed>
+    requires callers { HasFewCallers (world_that ran.now).journal }
+    requires sum { HasSum form (world_that ran.now) }
+    ensures { Writes (K.seen sink.old) (K.seen sink.new) (ran_text form ran.now) result }
+{
+    match ran {
+        Ran::Alone(_) | Ran::Shared(_) => write_whole(sink, form, ran.world()),
+        Ran::Rooted(world, roots) => write_rooted(sink, form, world, roots),
+    }
+}
+
+// What is written of a whole run, and then the lines of its roots.
+#[tactic(auto, using(hd_io::proofs::Appending::appending))]
+fn write_rooted<K: Sink>(
+    sink: &mut K,
+    form: Form,
+    world: &World,
+    roots: &RootList,
+) -> Result<(), Failed>
+    requires callers { HasFewCallers world.now.journal }
+    requires sum { HasSum form world.now }
+    ensures { Writes (K.seen sink.old) (K.seen sink.new)
+        (whole_text form world.now ++ list_text roots.now) result }
+{
+    write_whole(sink, form, world)?;
+    roots.write(sink)
 }
 
 // What is written of a whole run.
@@ -94,7 +127,7 @@ fn fault_line(fault: Fault) -> Line
     ensures { result ≡ fault_text fault }
 {
     let text = match fault {
-        Fault::Usage => "usage: hdt solo|run|load [--heap CELLS] [--blocks COUNT] [--rounds N]\n",
+        Fault::Usage => USAGE,
         Fault::Unread => "fault read\n",
         Fault::OverSize => "fault size\n",
         Fault::NoMemory => MEMORY,

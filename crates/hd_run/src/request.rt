@@ -1,6 +1,7 @@
 ghost use Rattle.std.specs.Prelude.{◌≡◌, ◌≢◌, ◌⊎◌, false, Some, ◌^◌, ◌-◌, IfOk, IfErr, IfSome};
 ghost use Rattle.clap.specs.Words.{app_of, rule_of, found_of, kind_of, rows_of};
-ghost use Rattle.hd_run.specs.Words.{request_of, solo_of, asked_by, number_rule, program, mode_of, number_of};
+ghost use Rattle.hd_run.specs.Words.{request_of, solo_of, listing_of, asked_by, number_rule, program, mode_of};
+ghost use Rattle.hd_run.specs.Words.{number_of};
 ghost use Rattle.hd_run.specs.Words.{IsFaultOfWords, IsInLimits, GivesNumbers, GivesNumber};
 
 use crate::ending::Fault;
@@ -22,6 +23,7 @@ pub(crate) enum Mode {
     Solo,
     Run,
     Load,
+    Roots,
 }
 
 /// What the words ask for: a mode, its limits, in cells and in blocks, and the rounds of a load.
@@ -57,13 +59,26 @@ pub(crate) fn read_solo_words(alloc: Global, words: &[String]) -> Result<Request
     let request = read_words(alloc, words)?;
     match request.mode {
         Mode::Solo => Ok(request),
-        Mode::Run | Mode::Load => Err(Fault::Usage),
+        Mode::Run | Mode::Load | Mode::Roots => Err(Fault::Usage),
+    }
+}
+
+/// What the words ask for, where they are lawful and name the mode `roots`.
+pub(crate) fn read_roots_words(alloc: Global, words: &[String]) -> Result<Request, Fault>
+    ensures value { IfOk result (λ r. Some r ≡ listing_of (request_of words.now)) }
+    ensures limits { IfOk result IsInLimits }
+    ensures fault { IfErr result (IsFaultOfWords (listing_of (request_of words.now))) }
+{
+    let request = read_words(alloc, words)?;
+    match request.mode {
+        Mode::Roots => Ok(request),
+        Mode::Solo | Mode::Run | Mode::Load => Err(Fault::Usage),
     }
 }
 
 // Words that the command does not take are not lawful.
 fn refusal(error: &Error) -> Fault
-    ensures { (result ≡ Fault.NoMemory)
+    ensures { ((result ≡ Fault.NoMemory) × (kind_of error.now ≡ ErrorKind.OutOfMemory))
         ⊎ ((result ≡ Fault.Usage) × (kind_of error.now ≢ ErrorKind.OutOfMemory)) }
 {
     match error.kind() {
@@ -116,6 +131,7 @@ fn mode_of(name: &str) -> Option<Mode>
         "solo" => Some(Mode::Solo),
         "run" => Some(Mode::Run),
         "load" => Some(Mode::Load),
+        "roots" => Some(Mode::Roots),
         _ => None,
     }
 }

@@ -8,7 +8,7 @@ use std::sync::atomic::{AtomicU64, Ordering};
 use std::test::Fail;
 use std::thread::Threads;
 
-const USAGE: &str = "usage: hdt solo|run|load [--heap CELLS] [--blocks COUNT] [--rounds N]\n";
+const USAGE: &str = "usage: hdt solo|run|load|roots [--heap CELLS] [--blocks COUNT] [--rounds N]\n";
 
 const SCRIPT: &str = "caller 1; sget r0 0; hpick h0 0; hget r1 h0; hpick h1 1; hget r2 h1
 caller 0; new r0 0; sput 0 r0; hnew h0 strong r0; hput 0 h0; hnew h1 long r0; hput 1 h1; hfree h1";

@@ -8,7 +8,7 @@ ghost use Rattle.hd_run.specs.Report.{HasFewCallers};
 ghost use Rattle.hd_run.specs.Together.{IsReadyToPlay, HasPlayed, HavePlayed};
 ghost use Rattle.hd_run.specs.Turns.{list_of};
 
-use crate::ending::{Ending, Fault, Ran};
+use crate::ending::{Ending, Fault, ended_together};
 use hd_gate::{Caller, Callers, Shared};
 use hd_io::Pace;
 use hd_model::Memory;
@@ -39,12 +39,7 @@ pub(crate) fn run_callers<R: Threads + Wait + Sync, P: Pace>(
         return Ending::Refused(Fault::NoMemory);
     };
     let done = play_all(rt, &shared, &mut callers, scripts, pace);
-    let ran = Ran::Shared(shared.close(callers));
-    if done {
-        Ending::Done(ran)
-    } else {
-        Ending::Stopped(ran)
-    }
+    ended_together(done, shared.close(callers))
 }
 
 // An empty world that is shared, with a caller for each list, which has room for it.

@@ -1,3 +1,5 @@
 pub mod Sweeping
 pub mod Relocating
 pub mod Rooting
+pub mod Stretches
+pub mod Listing

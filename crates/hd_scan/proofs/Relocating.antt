@@ -97,7 +97,8 @@ module _ (t : Table) (ages : List ℕ) (n : ℕ) (k : Kind) (place : Addr → Ad
           (λ due. ap (λ b. Some (relocated b place h))
           (ap (λ b. is_kind k h.kind && b) due ∙ and_true (is_kind k h.kind)))
           (λ not_due. ap (λ g. Some g)
-          (left_by (is_kind k h.kind && is_due ages n slot) h (and_right (is_kind k h.kind) (is_due ages n slot) not_due)
+          (left_by (is_kind k h.kind && is_due ages n slot) h
+          (and_right (is_kind k h.kind) (is_due ages n slot) not_due)
           ∙ undue (is_kind k h.kind) slot h e not_due))
           (cases_Bool (is_due ages n slot))
         where

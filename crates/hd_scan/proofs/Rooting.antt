@@ -83,7 +83,8 @@ module _ (o : Objects Addr) (t : Table) (ages : List ℕ) (n : ℕ) (task : Task
 
   module _ (old new : DueRows) (slot : Slot) (before steps after held : ℕ) (p q pin pin' : Addr → Bool)
       (s : IsRooting old before steps held p pin) (gives : Gives t ages old new slot) (on : IsOn t new)
-      (counted : after + length (clumps_to_come t ages new) ≡ steps + length (clumps_to_come t ages old)) where
+      (counted : after + length (clumps_to_come t ages new)
+      ≡ steps + length (clumps_to_come t ages old)) where
     due : IsDueRow t ages n (task_kind task) slot.0
     due = row_due t ages n (task_kind task) t old new before slot steps after s.under gives
 
@@ -97,12 +98,14 @@ module _ (o : Objects Addr) (t : Table) (ages : List ℕ) (n : ℕ) (task : Task
     before_or : (x : ℕ) → x ≢ slot.0 → (Contains (slots_to_come t ages new) x → ⊥)
         → Contains (slots_to_come t ages old) x → ⊥
     before_or x ne gone =
-        past_before (IsRootAt (row_at t) ages n task) (slots_to_come t ages old) (slots_to_come t ages new) slot.0
+        past_before (IsRootAt (row_at t) ages n task) (slots_to_come t ages old) (slots_to_come t ages new)
+        slot.0
         held gives.slots past x ne gone
 
     still : (x : ℕ) → (Contains (slots_to_come t ages old) x → ⊥) → Contains (slots_to_come t ages new) x → ⊥
     still x gone =
-        still_past (IsRootAt (row_at t) ages n task) (slots_to_come t ages old) (slots_to_come t ages new) slot.0
+        still_past (IsRootAt (row_at t) ages n task) (slots_to_come t ages old) (slots_to_come t ages new)
+        slot.0
         held gives.slots past x gone
 
     -- a handle in this slot is the one that was looked at
@@ -162,20 +165,24 @@ module _ (o : Objects Addr) (t : Table) (ages : List ℕ) (n : ℕ) (task : Task
         let h = it r.handle slot.0 r.stands refl in
         both_ways (takes task (live_at t slot.0) && is_some (live_at t slot.0).target) hasnt
         (and_from (takes task (live_at t slot.0)) (is_some (live_at t slot.0).target)
-        (ap (takes task) (sym h) ∙ r.takes) (ap (λ (g : Handle Addr). is_some g.target) (sym h) ∙ ap is_some r.target))
+        (ap (takes task) (sym h) ∙ r.takes) (ap (λ (g : Handle Addr). is_some g.target) (sym h)
+        ∙ ap is_some r.target))
 
-    number : (has : Bool) (one : ℕ) → has ≡ (takes task (live_at t slot.0) && is_some (live_at t slot.0).target)
+    number : (has : Bool) (one : ℕ)
+        → has ≡ (takes task (live_at t slot.0) && is_some (live_at t slot.0).target)
         → one ≡ bool_byte has
         → Counts (IsPastWith (IsRootAt (row_at t) ages n task) (slots_to_come t ages new)) (held + one)
     number true one is e =
         subst (λ c. Counts (IsPastWith (IsRootAt (row_at t) ages n task) (slots_to_come t ages new)) c)
         (let c : held + 1 ≡ held + one = omega arith in c)
-        (counted_more (IsRootAt (row_at t) ages n task) (slots_to_come t ages old) (slots_to_come t ages new) slot.0
+        (counted_more (IsRootAt (row_at t) ages n task) (slots_to_come t ages old) (slots_to_come t ages new)
+        slot.0
         held gives.slots past (root_here (sym is)) s.counted)
     number false one is e =
         subst (λ c. Counts (IsPastWith (IsRootAt (row_at t) ages n task) (slots_to_come t ages new)) c)
         (let c : held ≡ held + one = omega arith in c)
-        (counted_else (IsRootAt (row_at t) ages n task) (slots_to_come t ages old) (slots_to_come t ages new) slot.0
+        (counted_else (IsRootAt (row_at t) ages n task) (slots_to_come t ages old) (slots_to_come t ages new)
+        slot.0
         held gives.slots past (no_root (sym is)) s.counted)
 
     at_most_one : (has : Bool) (one : ℕ) → one ≡ bool_byte has → one ≤ 1
@@ -213,7 +220,8 @@ module _ (o : Objects Addr) (t : Table) (ages : List ℕ) (n : ℕ) (task : Task
     pub root_end : RootPass o t t ages n task p0 p pin0 pin held
     root_end = record {
       table = refl;
-      promotes = grows_like (IsYoungField o n) (IsPastTaken (slots_to_come t ages old)) (IsTaken (row_at t) ages n task)
+      promotes = grows_like (IsYoungField o n) (IsPastTaken (slots_to_come t ages old))
+          (IsTaken (row_at t) ages n task)
           p0 p (λ x r. r.0) (λ x r. (r, none r.slot)) s.promotes;
       pins = record {
         keeps = s.pinned;
@@ -225,10 +233,12 @@ module _ (o : Objects Addr) (t : Table) (ages : List ℕ) (n : ℕ) (task : Task
 
     pub root_steps : after + length (clumps_to_come t ages new) ≡ steps + length (clumps_to_come t ages old)
         → after ≡ before + visits_of t ages n (task_kind task)
-    root_steps counted = steps_at_end t ages n (task_kind task) t old new before steps after s.under ends counted
+    root_steps counted = steps_at_end t ages n (task_kind task) t old new before steps after s.under ends
+        counted
 
   -- where ages are sound, what is not visited names older objects, which are promoted and not condemned
-  module _ (p pin : Addr → Bool) (held : ℕ) (settled : IsSettled o n p0) (sound : HasSoundAges o (row_at t) ages)
+  module _ (p pin : Addr → Bool) (held : ℕ) (settled : IsSettled o n p0)
+      (sound : HasSoundAges o (row_at t) ages)
       (pass : RootPass o t t ages n task p0 p pin0 pin held) where
     undue_older : (x : Addr) (r : IsTargetOf (row_at t) task x) → is_due ages n r.slot ≡ false
         → n < generation_at o x
@@ -266,7 +276,8 @@ module _ (o : Objects Addr) (t : Table) (ages : List ℕ) (n : ℕ) (task : Task
         ⊎_elim (λ earlier. pass.pins.keeps x earlier)
             (λ r. ⊎_elim
             (λ due. pass.pins.joins x (record { taken = visited x r.of due; pins = r.pins }))
-            (λ undue. let above = undue_older x r.of undue in let young = condemned.young in absurd (omega arith))
+            (λ undue. let above = undue_older x r.of undue in
+            let young = condemned.young in absurd (omega arith))
             (cases_Bool (is_due ages n r.of.slot))),
       );
     }

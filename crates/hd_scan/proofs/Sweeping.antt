@@ -27,7 +27,8 @@ use Rattle.hd_scan.specs.Whole.{IsLostAt, WholeClear}
 
 module _ {N : Type 0} (task : Task) (p : N → Bool) (h : Handle N) where
   -- one that loses its target, and one that does not
-  pub swept_lost : (takes task h && is_lost p h.target) ≡ true → record h { target = None } ≡ swept true task p h
+  pub swept_lost : (takes task h && is_lost p h.target) ≡ true
+      → record h { target = None } ≡ swept true task p h
   swept_lost lost = λ i. record {
     kind = h.kind;
     target = sym (ap (λ b. cond b None h.target) lost) i;
@@ -57,7 +58,8 @@ module _ (t : Table) (ages : List ℕ) (n : ℕ) (task : Task) (p : Addr → Boo
   IsSweeping = IsChanging t ages n (task_kind task) sweep (IsSweptAt (row_at t) ages n task p)
 
   -- it is to come to all that the task clears, and what it is not to come to stays as it is
-  pub swept_due : (slot : ℕ) → IsSweptAt (row_at t) ages n task p slot → IsDueRow t ages n (task_kind task) slot
+  pub swept_due : (slot : ℕ) → IsSweptAt (row_at t) ages n task p slot
+      → IsDueRow t ages n (task_kind task) slot
   swept_due slot r = record {
     handle = r.handle;
     stands = r.stands;
@@ -84,7 +86,8 @@ module _ (t : Table) (ages : List ℕ) (n : ℕ) (task : Task) (p : Addr → Boo
       (cases_Bool (takes task h)))
 
   -- the row that it comes to
-  module _ (slot : ℕ) (due : IsDueRow t ages n (task_kind task) slot) (g : Handle Addr) (same : g ≡ due.handle) where
+  module _ (slot : ℕ) (due : IsDueRow t ages n (task_kind task) slot) (g : Handle Addr)
+      (same : g ≡ due.handle) where
     pub swept_row : (now next : Table) → Rewrites slot (swept true task p g) now next
         → Rewrites slot (sweep slot due.handle) now next
     swept_row now next r =
@@ -101,9 +104,11 @@ module _ (t : Table) (ages : List ℕ) (n : ℕ) (task : Task) (p : Addr → Boo
           lost = ap (λ (h : Handle Addr). is_lost p h.target) (sym same) ∙ parts.1;
         }
 
-    pub swept_hasnt : (takes task g && is_lost p g.target) ≡ false → IsSweptAt (row_at t) ages n task p slot → ⊥
+    pub swept_hasnt : (takes task g && is_lost p g.target) ≡ false → IsSweptAt (row_at t) ages n task p slot
+        → ⊥
     swept_hasnt kept q =
-        let e : q.handle ≡ g = same_Some q.handle g (sym q.stands ∙ due.stands ∙ ap (λ h. Some h) (sym same)) in
+        let e : q.handle ≡ g =
+        same_Some q.handle g (sym q.stands ∙ due.stands ∙ ap (λ h. Some h) (sym same)) in
         both_ways (takes task g && is_lost p g.target) kept
         (and_from (takes task g) (is_lost p g.target) (ap (takes task) (sym e) ∙ q.takes)
         (ap (λ (h : Handle Addr). is_lost p h.target) (sym e) ∙ q.lost))

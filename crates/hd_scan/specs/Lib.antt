@@ -2,3 +2,4 @@ pub mod Tasks
 pub mod Passes
 pub mod Whole
 pub mod Relocation
+pub mod Gathering

@@ -9,13 +9,15 @@ ghost use Rattle.hd_model.specs.Visits.{visits_of};
 ghost use Rattle.hd_model.specs.Ages.{HasSoundAges};
 ghost use Rattle.hd_model.specs.Collect.{is_lost};
 ghost use Rattle.hd_seg.specs.Rewriting.{Rewrites};
+ghost use Rattle.hd_ages.specs.Clumps.{CoversTable};
 ghost use Rattle.hd_scan.specs.Tasks.{task_kind, takes, swept};
 ghost use Rattle.hd_scan.specs.Passes.{ClearPass};
 ghost use Rattle.hd_scan.specs.Whole.{WholeClear};
 
 use crate::task::Task;
 use hd_ages::{AgeMap, DueRows};
-use hd_model::{Addr, Marker, Slot, Steps};
+use hd_model::limits::{BLOCKS, ROWS};
+use hd_model::{Marker, Slot, Steps, is_lost};
 use hd_seg::Seg;
 use std::sync::ledger::Ledger;
 
@@ -32,11 +34,11 @@ pub fn clear<M: Marker, L: Ledger>(
     requires settled { M.settled marker.now }
     requires generation { (M.basis marker.now).condemned ≡ n }
     requires names { NamesObjects (objects_of (M.basis marker.now)) (row_at seg.old) }
-    requires blocks { length ages.now ≡ 4 * seg.old.blocks }
+    requires blocks { CoversTable ages.now seg.old }
     ensures passed { ClearPass seg.old seg.new ages.now n task (M.promoted marker.now)
         (M.promoted marker.now) (M.pinned marker.now) (M.pinned marker.now) result }
     ensures steps { steps.new ≡ steps.old + visits_of seg.old ages.now n (task_kind task) }
-    ensures few { result ≤ 16384 }
+    ensures few { result ≤ BLOCKS * ROWS }
     ensures whole { HasSoundAges (objects_of (M.basis marker.now)) (row_at seg.old) ages.now →
         WholeClear (row_at seg.old) (row_at seg.new) task (M.promoted marker.now) result }
 {
@@ -68,16 +70,4 @@ fn clear_row<M: Marker>(seg: &mut Seg, slot: Slot, task: Task, marker: &M) -> bo
         seg.set_row(slot, None);
     }
     lost
-}
-
-/// Whether a target is not promoted. Null is not lost.
-fn is_lost<M: Marker>(target: Option<Addr>, marker: &M) -> bool
-    requires settled { M.settled marker.now }
-    requires object { ForSome target (λ x. is_object (objects_of (M.basis marker.now)) x ≡ true) }
-    ensures { result ≡ is_lost (M.promoted marker.now) target }
-{
-    match target {
-        Some(at) => !marker.promoted(at),
-        None => false,
-    }
 }

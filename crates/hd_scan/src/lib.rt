@@ -6,6 +6,7 @@
 #![tactic(auto)]
 
 mod clearing;
+mod gathering;
 mod passes;
 mod relocation;
 mod roots;
@@ -13,6 +14,7 @@ mod task;
 #[cfg(test)]
 mod tests;
 
+pub use gathering::{Root, gather};
 pub use passes::pass;
 pub use relocation::relocate;
 pub use task::Task;

@@ -4,6 +4,7 @@ ghost use Rattle.hd_model.specs.Table.{row_at};
 ghost use Rattle.hd_model.specs.Names.{NamesObjects};
 ghost use Rattle.hd_model.specs.Visits.{visits_of};
 ghost use Rattle.hd_model.specs.Ages.{HasSoundAges};
+ghost use Rattle.hd_ages.specs.Clumps.{CoversTable};
 ghost use Rattle.hd_scan.specs.Tasks.{task_kind};
 ghost use Rattle.hd_scan.specs.Passes.{Passed};
 ghost use Rattle.hd_scan.specs.Whole.{WholePass};
@@ -12,6 +13,7 @@ use crate::clearing::clear;
 use crate::roots::promote;
 use crate::task::Task;
 use hd_ages::AgeMap;
+use hd_model::limits::{BLOCKS, ROWS};
 use hd_model::{Marker, Steps};
 use hd_seg::Seg;
 use std::sync::ledger::Ledger;
@@ -34,14 +36,14 @@ pub fn pass<M: Marker, L: Ledger>(
     requires settled { M.settled marker.old }
     requires generation { (M.basis marker.old).condemned ≡ n }
     requires names { NamesObjects (objects_of (M.basis marker.old)) (row_at seg.old) }
-    requires blocks { length ages.now ≡ 4 * seg.old.blocks }
+    requires blocks { CoversTable ages.now seg.old }
     ensures settled { M.settled marker.new }
     ensures basis { M.basis marker.new ≡ M.basis marker.old }
     ensures passed { Passed (objects_of (M.basis marker.old)) seg.old seg.new ages.now n task
         (M.promoted marker.old) (M.promoted marker.new) (M.pinned marker.old)
         (M.pinned marker.new) result }
     ensures steps { steps.new ≡ steps.old + visits_of seg.old ages.now n (task_kind task) }
-    ensures few { result ≤ 16384 }
+    ensures few { result ≤ BLOCKS * ROWS }
 
     // Where the ages are sound, it is as if the task had looked at all rows.
     ensures whole { HasSoundAges (objects_of (M.basis marker.old)) (row_at seg.old) ages.now →

@@ -8,6 +8,7 @@ ghost use Rattle.hd_model.specs.Visits.{IsSameTable, visits_of};
 ghost use Rattle.hd_model.specs.Ages.{HasSoundAges};
 ghost use Rattle.hd_seg.specs.Row.{extra_of};
 ghost use Rattle.hd_seg.specs.Rewriting.{Rewrites};
+ghost use Rattle.hd_ages.specs.Clumps.{CoversTable};
 ghost use Rattle.hd_scan.specs.Relocation.{CanRelocate, KeepsNames, Relocates, RelocatesAll, relocated};
 
 use hd_ages::{AgeMap, DueRows};
@@ -27,7 +28,7 @@ pub fn relocate<F: Forward, L: Ledger>(
 )
     requires laid { F.laid forward.now }
     requires kept { CanRelocate (F.kept forward.now) ages.now n kind seg.old }
-    requires blocks { length ages.now ≡ 4 * seg.old.blocks }
+    requires blocks { CoversTable ages.now seg.old }
     ensures relocates { Relocates (F.place forward.now) ages.now n kind seg.old seg.new }
     ensures table { IsSameTable seg.old seg.new }
     ensures steps { steps.new ≡ steps.old + visits_of seg.old ages.now n kind }

@@ -7,12 +7,14 @@ ghost use Rattle.hd_model.specs.Table.{live_at, row_at};
 ghost use Rattle.hd_model.specs.Names.{NamesObjects};
 ghost use Rattle.hd_model.specs.Visits.{visits_of};
 ghost use Rattle.hd_model.specs.Ages.{HasSoundAges};
+ghost use Rattle.hd_ages.specs.Clumps.{CoversTable};
 ghost use Rattle.hd_scan.specs.Tasks.{task_kind, takes};
 ghost use Rattle.hd_scan.specs.Passes.{IsTargetBy, PinsBy, RootPass};
 ghost use Rattle.hd_scan.specs.Whole.{WholeRoots};
 
 use crate::task::{Task, pins};
 use hd_ages::{AgeMap, DueRows};
+use hd_model::limits::{BLOCKS, ROWS};
 use hd_model::{Marker, Slot, Steps};
 use hd_seg::Seg;
 use std::sync::ledger::Ledger;
@@ -30,14 +32,14 @@ pub fn promote<M: Marker, L: Ledger>(
     requires settled { M.settled marker.old }
     requires generation { (M.basis marker.old).condemned ≡ n }
     requires names { NamesObjects (objects_of (M.basis marker.old)) (row_at seg.now) }
-    requires blocks { length ages.now ≡ 4 * seg.now.blocks }
+    requires blocks { CoversTable ages.now seg.now }
     ensures settled { M.settled marker.new }
     ensures basis { M.basis marker.new ≡ M.basis marker.old }
     ensures passed { RootPass (objects_of (M.basis marker.old)) seg.now seg.now ages.now n task
         (M.promoted marker.old) (M.promoted marker.new) (M.pinned marker.old)
         (M.pinned marker.new) result }
     ensures steps { steps.new ≡ steps.old + visits_of seg.now ages.now n (task_kind task) }
-    ensures few { result ≤ 16384 }
+    ensures few { result ≤ BLOCKS * ROWS }
     ensures whole { HasSoundAges (objects_of (M.basis marker.old)) (row_at seg.now) ages.now →
         WholeRoots (objects_of (M.basis marker.old)) (row_at seg.now) n task
         (M.promoted marker.old) (M.promoted marker.new) (M.pinned marker.old)

@@ -4,7 +4,7 @@ use Rattle.std.proofs.lemmas.Bool.{cases_eq, false≢true}
 use Rattle.std.proofs.lemmas.List.{get_or-set_same, get_or-set_other}
 use Rattle.std.proofs.lemmas.List.Sums.{sum_by-set}
 use Rattle.hd_model.specs.declared.data.Slot.{Slot}
-use Rattle.hd_model.specs.State.{State, handle_register_of, handle_at, used_of}
+use Rattle.hd_model.specs.State.{State, handle_register_of, handle_at, total_size}
 use Rattle.hd_model.specs.WellFormed.{IsWellFormed}
 use Rattle.hd_model.specs.Generated.{load_numbers}
 use Rattle.hd_script.proofs.LoadPlace.{Line, news, hnews, vals, hgets, reads, drops, others, frees, collects, Place, Owns, AnyValue, OwnsBy, Stands, Frame, nowhere, at, left_of, Fits}
@@ -64,7 +64,7 @@ module _ (s t : State) (places : List Place) (c : ℕ) (next : Place) (fits : Fi
       (λ (none : handle_at s x ≡ None). not_live x ((fits.stands d small_d).live x old) none) (fresh x new)
 
   pub fits_moved : IsWellFormed load_numbers t → Stands t c next
-      → used_of t + 10 * next.left ≤ used_of s + 10 * (at places c).left
+      → total_size t + 10 * next.left ≤ total_size s + 10 * (at places c).left
       → IsFresh → Fits t (set places c next)
   fits_moved well stands room fresh = record {
     four = length-set places c next ∙ fits.four;

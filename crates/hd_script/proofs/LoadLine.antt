@@ -9,16 +9,16 @@ use Rattle.hd_model.specs.declared.data.Id.{Id}
 use Rattle.hd_model.specs.declared.data.Slot.{Slot}
 use Rattle.hd_model.specs.declared.data.Entry.{Entry}
 use Rattle.hd_model.specs.declared.command.Cmd.{Cmd}
-use Rattle.hd_model.specs.State.{Object, State, start_of, handle_register_of, used_of, size_of}
+use Rattle.hd_model.specs.State.{Object, State, start_of, handle_register_of, total_size, size_of}
 use Rattle.hd_model.specs.Run.{part_of, commands_of}
-use Rattle.hd_model.specs.Text.{is_collect, collections_of}
+use Rattle.hd_model.specs.Text.{is_collect}
 use Rattle.hd_model.specs.Touched.{touched_by}
 use Rattle.hd_model.specs.Laws.{makes_object, count_entries}
-use Rattle.hd_model.specs.Generated.{load_numbers, load_text, value_told}
+use Rattle.hd_model.specs.Generated.{load_numbers, load_text, load_text_of, value_told}
 use Rattle.hd_model.proofs.WellFormed.{start_is_well_formed}
 use Rattle.hd_model.proofs.Written.{replicate_cases}
 use Rattle.hd_model.proofs.Counts.{handles_are_made_less_freed}
-use Rattle.hd_script.specs.Load.{IsLoadRun, LoadsHaveTheirLine}
+use Rattle.hd_script.specs.Load.{IsLoadRun, collections_in, line_of_rounds, LoadsHaveTheirLine}
 use Rattle.hd_script.proofs.Rounds.{rounds_of, rounds_length}
 use Rattle.hd_script.proofs.LoadPlace.{news, Place, left_at, pending, holding, Stands, nowhere, at, left_of, Fits}
 use Rattle.hd_script.proofs.LoadStep.{bit, written, place}
@@ -30,7 +30,7 @@ use Rattle.hd_script.proofs.LoadCount.{by_parts, callers_small, sum_ones, list_o
 start : State
 start = start_of load_numbers
 
-nothing_used : used_of (start_of load_numbers) ≡ 0
+nothing_used : total_size (start_of load_numbers) ≡ 0
 nothing_used =
     let none : length (entries (empty {X = Object Id} {R = nat_cmp})) ≡ 0 = sym (len-entries empty)
     ∙ len-empty nat_cmp (Object Id) in
@@ -88,7 +88,7 @@ module _ (rounds : ℕ) (journal : List Entry) (s : State) (few : rounds ≤ 300
       ∙ (λ i. sum_by f (part 0 (omega arith) i) + sum_by f (part 1 (omega arith) i) + sum_by f
       (part 2 (omega arith) i) + sum_by f (part 3 (omega arith) i))
 
-  commands : length journal ≡ 32 * rounds + 4 * (rounds / 16)
+  commands : length journal ≡ 4 * (8 * rounds) + collections_in rounds
   commands =
       omega (
         arith,
@@ -104,7 +104,7 @@ module _ (rounds : ℕ) (journal : List Entry) (s : State) (few : rounds ≤ 300
         rounds_length 3 rounds,
       )
 
-  collections : sum_by (λ (e : Entry). bit (is_collect e.cmd)) journal ≡ 4 * (rounds / 16)
+  collections : sum_by (λ (e : Entry). bit (is_collect e.cmd)) journal ≡ collections_in rounds
   collections =
       omega (
         arith,
@@ -157,12 +157,21 @@ module _ (rounds : ℕ) (journal : List Entry) (s : State) (few : rounds ≤ 300
       let double : 2 * (rounds * (rounds + 1)) ≡ 2 * rounds * (rounds + 1) = grind arith in
       omega (arith, all.told, written_in_all, sum_by-replicate pending 4 (first rounds), double)
 
-  pub its_line : load_text (length journal) (count_entries makes_object journal) (len s.handles)
-      (collections_of journal)
-      (sum_by (λ (e : Entry). value_told e.reply) journal)
-      ≡ load_text (32 * rounds + 4 * (rounds / 16)) (4 * rounds) 0 (4 * (rounds / 16))
-      (2 * rounds * (rounds + 1))
-  its_line = λ i. load_text (commands i) (made i) (live i) (collections i) (told i)
+  sum : sum_by (λ (e : Entry). value_told e.reply) journal ≡ 4 * (rounds * (rounds + 1) / 2)
+  sum =
+      omega (
+        arith,
+        all.told,
+        over_lists written,
+        written_in 0 rounds,
+        written_in 1 rounds,
+        written_in 2 rounds,
+        written_in 3 rounds,
+        sum_by-replicate pending 4 (first rounds),
+      )
+
+  pub its_line : load_text_of journal s ≡ line_of_rounds rounds
+  its_line = λ i. load_text (commands i) (made i) (live i) (collections i) (sum i)
 
 pub loads_have_their_line : LoadsHaveTheirLine
 loads_have_their_line rounds journal s some few is = its_line rounds journal s few is

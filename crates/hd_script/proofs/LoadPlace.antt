@@ -6,7 +6,7 @@ use Rattle.hd_model.specs.declared.data.Id.{Id}
 use Rattle.hd_model.specs.declared.data.Slot.{Slot}
 use Rattle.hd_model.specs.declared.command.Cmd.{Cmd}
 use Rattle.hd_model.specs.declared.command.Cmd.TheVariants as cmd
-use Rattle.hd_model.specs.State.{State, register_of, handle_register_of, object_at, handle_at, used_of}
+use Rattle.hd_model.specs.State.{State, register_of, handle_register_of, object_by_id, handle_at, total_size}
 use Rattle.hd_model.specs.WellFormed.{IsWellFormed}
 use Rattle.hd_model.specs.Generated.{collection_after, make_of_round, round_of, load_numbers}
 
@@ -110,7 +110,7 @@ pub record Owns (s : State) (c : ℕ) (V : ℕ → Type 0) : Type 0 where
   pub id : Id
   pub names : register_of s c 0 ≡ Some id
   pub own : id.0 / 2 ^ 32 ≡ c
-  pub value : V (object_at s id).value
+  pub value : V (object_by_id s id).value
 
 abbrev pub AnyValue : ℕ → Type 0
 AnyValue v = Unit {0}
@@ -153,7 +153,7 @@ pub record Frame (s t : State) (c : ℕ) : Type 0 where
   pub handle_registers : (d : ℕ) → (d ≡ c → ⊥) → handle_register_of t d 0 ≡ handle_register_of s d 0
   pub values :
       (d : ℕ) (id : Id) → (d ≡ c → ⊥) → register_of s d 0 ≡ Some id → id.0 / 2 ^ 32 ≡ d
-      → (object_at t id).value ≡ (object_at s id).value
+      → (object_by_id t id).value ≡ (object_by_id s id).value
   pub live : (x : Slot) → (handle_register_of s c 0 ≡ Some x → ⊥) → IsSome (handle_at s x)
       → IsSome (handle_at t x)
 
@@ -171,7 +171,7 @@ left_of p = p.left
 pub record Fits (s : State) (places : List Place) : Type 0 where
   pub four : length places ≡ 4
   pub well : IsWellFormed load_numbers s
-  pub room : used_of s + 10 * sum_by left_of places ≤ 120000
+  pub room : total_size s + 10 * sum_by left_of places ≤ 120000
   pub stands : (c : ℕ) → c < 4 → Stands s c (at places c)
   pub apart :
       (b c : ℕ) → b < 4 → c < 4 → (b ≡ c → ⊥) → (x : Slot) → (at places b).held ≡ Some x

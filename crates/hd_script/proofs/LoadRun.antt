@@ -8,7 +8,7 @@ use Rattle.std.proofs.lemmas.List.Sums.{sum_by-cons, sum_by-set, get_or-le-sum_b
 use Rattle.hd_model.specs.declared.data.Slot.{Slot}
 use Rattle.hd_model.specs.declared.data.Entry.{Entry}
 use Rattle.hd_model.specs.declared.command.Cmd.{Cmd}
-use Rattle.hd_model.specs.State.{State, used_of}
+use Rattle.hd_model.specs.State.{State, total_size}
 use Rattle.hd_model.specs.WellFormed.{IsWellFormed}
 use Rattle.hd_model.specs.Step.{StepOf, Step}
 use Rattle.hd_model.specs.Run.{Chain, stay, link, part_of, commands_of}
@@ -39,7 +39,7 @@ module _ (s t : State) (e : Entry) (c : ℕ) (is : e.caller ≡ c) (small : c < 
       (does (subst (StepOf load_numbers s e t) (sym same) step))
 
   by_line : (line : Line) (j m : ℕ) (h : Option Slot) → Stands s c (place line j m h)
-      → used_of s + 10 * m ≤ 120000 → left_by c line j m ≡ e.cmd ∷ rest
+      → total_size s + 10 * m ≤ 120000 → left_by c line j m ≡ e.cmd ∷ rest
       → Does s t c (place line j m h) e.cmd e.reply
   by_line news j zero h stands room next = absurd cc
   by_line news j (suc m) None stands room next =

@@ -16,7 +16,7 @@ use Rattle.hd_model.specs.declared.data.Reply.TheVariants as reply
 use Rattle.hd_model.specs.declared.command.Cmd.{Cmd}
 use Rattle.hd_model.specs.declared.command.Cmd.TheVariants as cmd
 use Rattle.hd_model.specs.Kinds.{kind_of}
-use Rattle.hd_model.specs.State.{Object, State, register_of, handle_register_of, last_serial, object_at, handle_at, used_of, size_of, identity_of, with_register, with_handle_register, with_object, with_handle, without_handle, with_serial}
+use Rattle.hd_model.specs.State.{Object, State, register_of, handle_register_of, last_serial, object_by_id, handle_at, total_size, size_of, identity_of, with_register, with_handle_register, with_object, with_handle, without_handle, with_serial}
 use Rattle.hd_model.specs.WellFormed.{IsWellFormed}
 use Rattle.hd_model.specs.Command.{Outcome, loaded, fresh_object, new_object, set_value, read_value, clear_register, get_target, free_handle, made_handle}
 use Rattle.hd_model.specs.Step.{IsOutcome, with_growth, with_made, MakesHandle, FindsTableFull, DoesCollect, StepOf}
@@ -54,7 +54,7 @@ pub record Does (s t : State) (c : ℕ) (p : Place) (x : Cmd) (r : Reply) : Type
   pub rest : left_at c p ≡ x ∷ left_at c next
   pub frame : Frame s t c
   pub stands : Stands t c next
-  pub room : used_of t + 10 * next.left ≤ used_of s + 10 * p.left
+  pub room : total_size t + 10 * next.left ≤ total_size s + 10 * p.left
   pub fresh : (y : Slot) → next.held ≡ Some y → (p.held ≡ Some y) ⊎ (handle_at s y ≡ None)
   pub told : value_told r + pending next ≡ written x + pending p
   pub made : makes_object x r ≡ (touched_by x).makes_object
@@ -92,8 +92,8 @@ frame_register s c k v = record {
 
 -- another object of a caller's has the value of one that is not this caller's
 value_beside : (s : State) (c : ℕ) (id : Id) (object : Object Id) → id.0 / 2 ^ 32 ≡ c → (d : ℕ) (other : Id)
-    → (d ≡ c → ⊥)
-    → other.0 / 2 ^ 32 ≡ d → (object_at (with_object s id object) other).value ≡ (object_at s other).value
+    → (d ≡ c → ⊥) → other.0 / 2 ^ 32 ≡ d
+    → (object_by_id (with_object s id object) other).value ≡ (object_by_id s other).value
 value_beside s c id object own d other apart owner =
     ap (λ (o : Option (Object Id)).
     (unwrap_or {T = Object Id} o (record
@@ -138,7 +138,8 @@ carry s t e c p x w does o =
     subst (λ (r : Reply). Does s t c p x r) (sym o.reply)
     (subst (λ (u : State). Does s u c p x w.reply) (sym o.after) does)
 
-some_object : (s : State) (id : Id) → IsSome (get s.objects id.0) → get s.objects id.0 ≡ Some (object_at s id)
+some_object : (s : State) (id : Id) → IsSome (get s.objects id.0)
+    → get s.objects id.0 ≡ Some (object_by_id s id)
 some_object s id there = by (get s.objects id.0) there
   where
     by : (o : Option (Object Id)) → IsSome o
@@ -186,7 +187,7 @@ module _ (s : State) (c : ℕ) (small : c < 4) (well : IsWellFormed load_numbers
       length_replicate k = ap (λ (n : ℕ). n + 3) (length-replicate k None)
 
   pub does_new : (t : State) (e : Entry) → e.caller ≡ c → Stands s c (place news j (suc m) None)
-      → used_of s + 10 * suc m ≤ 120000 →
+      → total_size s + 10 * suc m ≤ 120000 →
       StepOf load_numbers s e t (cmd.New 0 ((c + j) % 8) false)
       → Does s t c (place news j (suc m) None) (cmd.New 0 ((c + j) % 8) false) e.reply
   does_new t e is stands room step =
@@ -196,8 +197,8 @@ module _ (s : State) (c : ℕ) (small : c < 4) (well : IsWellFormed load_numbers
       subst (λ (k : ℕ). IsOutcome e (new_object load_numbers s k 0 ((c + j) % 8) false) t) is step.1 in
       let serial : last_serial s c + 1 < 2 ^ 32 = subst (λ (k : ℕ). last_serial s k + 1 < 2 ^ 32) is step.0 in
       test_cases (λ o. IsOutcome e o t → Does s t c p x e.reply)
-      (ltb 1000000 (used_of s + ((c + j) % 8 + 3))) _ _
-      (λ full. let over = ltb-true 1000000 (used_of s + ((c + j) % 8 + 3)) full in absurd (omega arith))
+      (ltb 1000000 (total_size s + ((c + j) % 8 + 3))) _ _
+      (λ full. let over = ltb-true 1000000 (total_size s + ((c + j) % 8 + 3)) full in absurd (omega arith))
       (λ fits o. carry s t e c p x _ (made_new stands serial) o) outcome
 
   -- `hnew`: h0 has a new slot, or the table is full and h0 stays empty
@@ -274,10 +275,10 @@ module _ (s : State) (c : ℕ) (small : c < 4) (well : IsWellFormed load_numbers
   -- `val`: the value of r0's object is the number of the round
   set_to : (h : Option Slot) → Stands s c (place vals j m h) → (id : Id) → register_of s c 0 ≡ Some id
       → id.0 / 2 ^ 32 ≡ c
-      → IsSome (get s.objects id.0) → Does s (with_object s id (record (object_at s id) { value = j })) c
+      → IsSome (get s.objects id.0) → Does s (with_object s id (record (object_by_id s id) { value = j })) c
       (place vals j m h) (cmd.Val 0 j) reply.Done
   set_to h stands id names own there =
-      let object : Object Id = record (object_at s id) { value = j } in
+      let object : Object Id = record (object_by_id s id) { value = j } in
       let cells = sum-insert size_of s.objects id.0 object in
       let before : share size_of (get s.objects id.0) ≡ size_of object =
       ap (share size_of) (some_object s id there) in
@@ -385,12 +386,12 @@ module _ (s : State) (c : ℕ) (small : c < 4) (well : IsWellFormed load_numbers
       on_object_cases (λ w. IsOutcome e w t → Does s t c p (cmd.Read 0) e.reply) s c 0 _
       (λ none. absurd (none-some o.id (sym none ∙ o.names)))
       (λ id names. carry s t e c p (cmd.Read 0) _
-      (tells id (subst (λ (i : Id). (object_at s i).value ≡ j) (same_Some o.id id (sym o.names ∙ names))
+      (tells id (subst (λ (i : Id). (object_by_id s i).value ≡ j) (same_Some o.id id (sym o.names ∙ names))
       o.value)))
       outcome
     where
-      tells : (id : Id) → (object_at s id).value ≡ j
-          → Does s s c (place reads j m h) (cmd.Read 0) (reply.Value (object_at s id).value)
+      tells : (id : Id) → (object_by_id s id).value ≡ j
+          → Does s s c (place reads j m h) (cmd.Read 0) (reply.Value (object_by_id s id).value)
       tells id value = record {
         next = place drops j m h;
         rest = refl;
@@ -469,7 +470,7 @@ module _ (s : State) (c : ℕ) (small : c < 4) (well : IsWellFormed load_numbers
   }
 
   goes_on : (t : State) (h : Option Slot) (r : Reply) (b : Bool) → eqb (j % 16) 0 ≡ b → Frame s t c
-      → handle_register_of t c 0 ≡ None → used_of t ≤ used_of s
+      → handle_register_of t c 0 ≡ None → total_size t ≤ total_size s
       → value_told r ≡ 0 → bit (makes_handle (cmd.HFree 0) r) + one_if_some h
       ≡ bit (frees_handle (cmd.HFree 0) r)
       → Does s t c (place frees j m h) (cmd.HFree 0) r
@@ -563,14 +564,14 @@ module _ (s : State) (c : ℕ) (small : c < 4) (well : IsWellFormed load_numbers
 
       kept_value : (does : DoesCollect s e t (j % 3)) (id : Id) → IsSome (get s.objects id.0)
           → Contains (scene_of s).named (Some id)
-          → (object_at t id).value ≡ (object_at s id).value
+          → (object_by_id t id).value ≡ (object_by_id s id).value
       kept_value does id there is_named =
           let scene = does.collects.scene in
           let whole = whole_scene load_numbers s well in
           let kept = keeps_root (λ (x : Id). x.0) (j % 3) (scene_of s) (scene_of t) does.report whole scene
           id (named is_named) in
           let after = object_after (λ (x : Id). x.0) (j % 3) (scene_of s) (scene_of t) does.report whole
-          scene id (object_at s id) kept (some_object s id there) in
+          scene id (object_by_id s id) kept (some_object s id there) in
           ap (λ (o : Option (Object Id)).
           (unwrap_or {T = Object Id} o (record
           { fields = []; value = 0; generation = 0; registered = false })).value) after
@@ -581,7 +582,7 @@ module _ (s : State) (c : ℕ) (small : c < 4) (well : IsWellFormed load_numbers
       smaller k true r (Some object) = omega arith
       smaller k false r o = omega arith
 
-      no_more : DoesCollect s e t (j % 3) → used_of t ≤ used_of s
+      no_more : DoesCollect s e t (j % 3) → total_size t ≤ total_size s
       no_more does =
           let scene = does.collects.scene in
           sum-le size_of t.objects s.objects (λ q.

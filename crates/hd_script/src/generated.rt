@@ -4,15 +4,9 @@ ghost use Rattle.hd_model.specs.Generated.{collection_after, round_of, generated
 ghost use Rattle.hd_script.specs.Lists.{contents};
 
 use crate::scripts::Scripts;
-use hd_model::limits::MOST_ROUNDS;
+use hd_model::limits::{LOAD_CALLERS, MOST_ROUNDS, ROUNDS_TO_COLLECTION};
 use hd_model::{Cmd, Make, Memory, Strength};
 use std::alloc::{AllocError, Global};
-
-// The callers of a load.
-const LOAD_CALLERS: u32 = 4;
-
-// A collection follows each round whose number this divides.
-const ROUNDS_TO_COLLECTION: u32 = 16;
 
 // What the rounds make in turn.
 const MAKES: [Make; 6] = [

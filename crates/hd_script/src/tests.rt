@@ -4,6 +4,7 @@ use crate::{
 };
 use hd_model::{Cmd, Kind, Make, Strength};
 use std::alloc::{AllocError, Global};
+use std::process::Abort;
 use std::test::Fail;
 
 // The commands of one caller, in their order.
@@ -26,33 +27,41 @@ fn reads(alloc: Global, count: u32) -> Result<Vec<u8>, AllocError> {
     Ok(text)
 }
 
+fn new(d: u8, fields: u8, fin: bool) -> Cmd {
+    Cmd::New { d, fields, fin }
+}
+
+fn hnew(d: u8, make: Make, t: u8) -> Cmd {
+    Cmd::HNew { d, make, t }
+}
+
+fn hvar(s: u8, strength: Strength) -> Cmd {
+    Cmd::HVar { s, strength }
+}
+
+// Each text is one command, of caller 0.
+fn have_lines(rt: &impl Abort, alloc: Global, table: &[(&str, Cmd)]) -> Result<(), Fail> {
+    for (text, want) in table {
+        assert!(rt; text.len() < 1_000);
+        let scripts = parse(alloc, text.as_bytes())?;
+        let found = commands(alloc, &scripts, 0)?;
+        assert_eq!(rt; found.as_slice(), [*want].as_slice(), "{text}");
+        assert_eq!(rt; (scripts.callers(), scripts.total()), (1, 1), "{text}");
+    }
+    Ok(())
+}
+
 #[test]
-fn each_command_has_its_line(rt: HostRuntime) -> Result<(), Fail> {
+fn each_command_on_objects_has_its_line(rt: HostRuntime) -> Result<(), Fail> {
+    let greatest = 18446744073709551615;
     let table = [
-        (
-            "new r0 0",
-            Cmd::New {
-                d: 0,
-                fields: 0,
-                fin: false,
-            },
-        ),
-        (
-            "new r15 61 fin",
-            Cmd::New {
-                d: 15,
-                fields: 61,
-                fin: true,
-            },
-        ),
+        ("new r0 0", new(0, 0, false)),
+        ("new r15 61 fin", new(15, 61, true)),
         ("set r1 255 r2", Cmd::Set { o: 1, i: 255, v: 2 }),
         ("get r3 r4 0", Cmd::Get { d: 3, o: 4, i: 0 }),
         (
             "val r0 18446744073709551615",
-            Cmd::Val {
-                o: 0,
-                n: 18446744073709551615,
-            },
+            Cmd::Val { o: 0, n: greatest },
         ),
         ("read r5", Cmd::Read { o: 5 }),
         ("copy r6 r7", Cmd::Copy { d: 6, s: 7 }),
@@ -64,121 +73,61 @@ fn each_command_has_its_line(rt: HostRuntime) -> Result<(), Fail> {
         ("reregister r13", Cmd::Reregister { s: 13 }),
         ("final r14", Cmd::Final { d: 14 }),
         ("collect 2", Cmd::Collect { n: 2 }),
-        (
-            "hnew h0 short r1",
-            Cmd::HNew {
-                d: 0,
-                make: Make::Short,
-                t: 1,
-            },
-        ),
-        (
-            "hnew h0 long r1",
-            Cmd::HNew {
-                d: 0,
-                make: Make::Long,
-                t: 1,
-            },
-        ),
-        (
-            "hnew h0 strong r1",
-            Cmd::HNew {
-                d: 0,
-                make: Make::Strong,
-                t: 1,
-            },
-        ),
-        (
-            "hnew h0 pinned r1",
-            Cmd::HNew {
-                d: 0,
-                make: Make::Pinned,
-                t: 1,
-            },
-        ),
+    ];
+    have_lines(&rt, rt.alloc(), &table)
+}
+
+#[test]
+fn each_make_has_its_line(rt: HostRuntime) -> Result<(), Fail> {
+    let table = [
+        ("hnew h0 short r1", hnew(0, Make::Short, 1)),
+        ("hnew h0 long r1", hnew(0, Make::Long, 1)),
+        ("hnew h0 strong r1", hnew(0, Make::Strong, 1)),
+        ("hnew h0 pinned r1", hnew(0, Make::Pinned, 1)),
         (
             "hnew h1 var r2 long",
-            Cmd::HNew {
-                d: 1,
-                make: Make::Variable(Strength::Long),
-                t: 2,
-            },
+            hnew(1, Make::Variable(Strength::Long), 2),
         ),
-        (
-            "hnew h2 dep r3 r4",
-            Cmd::HNew {
-                d: 2,
-                make: Make::Dependent(4),
-                t: 3,
-            },
-        ),
+        ("hnew h2 dep r3 r4", hnew(2, Make::Dependent(4), 3)),
+        ("hnew h15 ref r14", hnew(15, Make::Counted, 14)),
+    ];
+    have_lines(&rt, rt.alloc(), &table)
+}
+
+#[test]
+fn each_command_on_handles_has_its_line(rt: HostRuntime) -> Result<(), Fail> {
+    let table = [
         ("hget r1 h2", Cmd::HGet { d: 1, s: 2 }),
         ("hset h3 r4", Cmd::HSet { s: 3, t: 4 }),
         ("hsec h5 r6", Cmd::HSec { h: 5, s: 6 }),
         ("hdep r7 h8", Cmd::HDep { d: 7, s: 8 }),
-        (
-            "hvar h9 pinned",
-            Cmd::HVar {
-                s: 9,
-                strength: Strength::Pinned,
-            },
-        ),
-        (
-            "hvar h9 short",
-            Cmd::HVar {
-                s: 9,
-                strength: Strength::Short,
-            },
-        ),
-        (
-            "hvar h9 strong",
-            Cmd::HVar {
-                s: 9,
-                strength: Strength::Strong,
-            },
-        ),
+        ("hvar h9 pinned", hvar(9, Strength::Pinned)),
+        ("hvar h9 short", hvar(9, Strength::Short)),
+        ("hvar h9 strong", hvar(9, Strength::Strong)),
         ("hfree h10", Cmd::HFree { s: 10 }),
         ("hput 0 h11", Cmd::HPut { k: 0, s: 11 }),
         ("hpick h12 15", Cmd::HPick { d: 12, k: 15 }),
         ("addr h13", Cmd::AddrOf { s: 13 }),
-        (
-            "hnew h15 ref r14",
-            Cmd::HNew {
-                d: 15,
-                make: Make::Counted,
-                t: 14,
-            },
-        ),
         ("hup h14", Cmd::HUp { s: 14 }),
         ("hdown h15", Cmd::HDown { s: 15 }),
         ("trim short", Cmd::Trim { kind: Kind::Short }),
         ("trim long", Cmd::Trim { kind: Kind::Long }),
         ("trim strong", Cmd::Trim { kind: Kind::Strong }),
         ("trim pinned", Cmd::Trim { kind: Kind::Pinned }),
+    ];
+    have_lines(&rt, rt.alloc(), &table)
+}
+
+#[test]
+fn blanks_zeros_and_comments_change_no_line(rt: HostRuntime) -> Result<(), Fail> {
+    let table = [
         ("\tcopy \t r1   r2 \t", Cmd::Copy { d: 1, s: 2 }),
-        (
-            "new r0007 00000000000000000000061",
-            Cmd::New {
-                d: 7,
-                fields: 61,
-                fin: false,
-            },
-        ),
+        ("new r0007 00000000000000000000061", new(7, 61, false)),
         ("read r1#new r0 0", Cmd::Read { o: 1 }),
         ("read r1 # a comment\r\n", Cmd::Read { o: 1 }),
         ("read r1\r", Cmd::Read { o: 1 }),
     ];
-    for (text, want) in table {
-        assert!(rt; text.len() < 1_000);
-        let scripts = parse(rt.alloc(), text.as_bytes())?;
-        assert_eq!(rt;
-            commands(rt.alloc(), &scripts, 0)?.as_slice(),
-            [want].as_slice(),
-            "{text}"
-        );
-        assert_eq!(rt; (scripts.callers(), scripts.total()), (1, 1), "{text}");
-    }
-    Ok(())
+    have_lines(&rt, rt.alloc(), &table)
 }
 
 #[test]
@@ -243,14 +192,9 @@ fn a_last_line_needs_no_end(rt: HostRuntime) -> Result<(), Fail> {
     let misspelt = parse(rt.alloc(), b"new r0 0\nhnew h0 strong r0\nhgett r0 h0\n").err();
     assert_eq!(rt; misspelt, Some(ScriptFault::Line(3)));
     let one = parse(rt.alloc(), b"new r0 0")?;
-    let made = Cmd::New {
-        d: 0,
-        fields: 0,
-        fin: false,
-    };
     assert_eq!(rt;
         commands(rt.alloc(), &one, 0)?.as_slice(),
-        [made].as_slice()
+        [new(0, 0, false)].as_slice()
     );
     Ok(())
 }
@@ -261,11 +205,7 @@ fn the_largest_values_are_read(rt: HostRuntime) -> Result<(), Fail> {
         b"new r0 61\nset r0 60 r0\nval r0 18446744073709551615\nread r0\ncollect 0\nget r1 r0 60\n";
     let scripts = parse(rt.alloc(), text)?;
     let want = [
-        Cmd::New {
-            d: 0,
-            fields: 61,
-            fin: false,
-        },
+        new(0, 61, false),
         Cmd::Set { o: 0, i: 60, v: 0 },
         Cmd::Val {
             o: 0,
@@ -334,22 +274,26 @@ fn shown_rounds(alloc: Global, scripts: &Scripts, caller: u32) -> Result<Vec<Cmd
 
 const CALLER_0: &str =
     "new r0 1\nhnew h0 pinned r0\nval r0 1\nhget r1 h0\nread r0\ndrop r0\ndrop r1\nhfree h0\n\
-new r0 0\nhnew h0 dep r0 r0\nval r0 16\nhget r1 h0\nread r0\ndrop r0\ndrop r1\nhfree h0\ncollect 1\n\
+new r0 0\nhnew h0 dep r0 r0\nval r0 16\nhget r1 h0\nread r0\ndrop r0\ndrop r1\nhfree h0\n\
+collect 1\n\
 new r0 1\nhnew h0 var r0 strong\nval r0 17\nhget r1 h0\nread r0\ndrop r0\ndrop r1\nhfree h0\n";
 
 const CALLER_1: &str =
     "new r0 2\nhnew h0 pinned r0\nval r0 1\nhget r1 h0\nread r0\ndrop r0\ndrop r1\nhfree h0\n\
-new r0 1\nhnew h0 dep r0 r0\nval r0 16\nhget r1 h0\nread r0\ndrop r0\ndrop r1\nhfree h0\ncollect 1\n\
+new r0 1\nhnew h0 dep r0 r0\nval r0 16\nhget r1 h0\nread r0\ndrop r0\ndrop r1\nhfree h0\n\
+collect 1\n\
 new r0 2\nhnew h0 var r0 strong\nval r0 17\nhget r1 h0\nread r0\ndrop r0\ndrop r1\nhfree h0\n";
 
 const CALLER_2: &str =
     "new r0 3\nhnew h0 pinned r0\nval r0 1\nhget r1 h0\nread r0\ndrop r0\ndrop r1\nhfree h0\n\
-new r0 2\nhnew h0 dep r0 r0\nval r0 16\nhget r1 h0\nread r0\ndrop r0\ndrop r1\nhfree h0\ncollect 1\n\
+new r0 2\nhnew h0 dep r0 r0\nval r0 16\nhget r1 h0\nread r0\ndrop r0\ndrop r1\nhfree h0\n\
+collect 1\n\
 new r0 3\nhnew h0 var r0 strong\nval r0 17\nhget r1 h0\nread r0\ndrop r0\ndrop r1\nhfree h0\n";
 
 const CALLER_3: &str =
     "new r0 4\nhnew h0 pinned r0\nval r0 1\nhget r1 h0\nread r0\ndrop r0\ndrop r1\nhfree h0\n\
-new r0 3\nhnew h0 dep r0 r0\nval r0 16\nhget r1 h0\nread r0\ndrop r0\ndrop r1\nhfree h0\ncollect 1\n\
+new r0 3\nhnew h0 dep r0 r0\nval r0 16\nhget r1 h0\nread r0\ndrop r0\ndrop r1\nhfree h0\n\
+collect 1\n\
 new r0 4\nhnew h0 var r0 strong\nval r0 17\nhget r1 h0\nread r0\ndrop r0\ndrop r1\nhfree h0\n";
 
 #[test]

@@ -19,9 +19,11 @@ pub record Adds (h k : Heap) (a : ℕ) (new : Placed) : Type 0 where
   pub vacant : get h.objects a ≡ None
   pub fresh : (b : ℕ) (p : Placed) → get h.objects b ≡ Some p → p.id.0 ≡ new.id.0 → ⊥
   pub objects : k.objects ≡ insert h.objects a new
-  pub generations : (b : Addr) → IsSome (get h.objects b.0) → region_generation k (region_of b) ≡ region_generation h (region_of b)
+  pub generations : (b : Addr) → IsSome (get h.objects b.0)
+      → region_generation k (region_of b) ≡ region_generation h (region_of b)
 
-is_placed : (h : Heap) (x : Addr) (o : Option Placed) → is_some (option_map (object_in (region_generation h (region_of x))) o) ≡ true → is_some o ≡ true
+is_placed : (h : Heap) (x : Addr) (o : Option Placed)
+    → is_some (option_map (object_in (region_generation h (region_of x))) o) ≡ true → is_some o ≡ true
 is_placed h x None e = e
 is_placed h x (Some p) e = refl
 
@@ -49,9 +51,11 @@ module _ (h k : Heap) (a : ℕ) (new : Placed) (r : Adds h k a new) where
   names-add =
       same_numbers (names_of k) (insert (names_of h) a new.id) (λ b.
       elim (cases_eq b a) [
-        | inl same ↦ names-get k b ∙ ap (λ c. option_map (λ (p : Placed). p.id) (get k.objects c)) same ∙ ap (option_map (λ (p : Placed). p.id)) at_it
+        | inl same ↦ names-get k b ∙ ap (λ c. option_map (λ (p : Placed). p.id) (get k.objects c)) same
+            ∙ ap (option_map (λ (p : Placed). p.id)) at_it
             ∙ sym (get-put (names_of h) a new.id) ∙ ap (get (insert (names_of h) a new.id)) (sym same)
-        | inr apart ↦ names-get k b ∙ ap (option_map (λ (p : Placed). p.id)) (elsewhere b apart) ∙ sym (names-get h b)
+        | inr apart ↦ names-get k b ∙ ap (option_map (λ (p : Placed). p.id)) (elsewhere b apart)
+            ∙ sym (names-get h b)
             ∙ sym (get-put_other (names_of h) a new.id b apart)
       ])
 
@@ -62,53 +66,78 @@ module _ (h k : Heap) (a : ℕ) (new : Placed) (r : Adds h k a new) where
           | inl there ↦ here ∙ sym there
           | inr apart ↦
               let it : new ≡ p = some_same new p (sym at_it ∙ ap (get k.objects) (sym here) ∙ first) in
-              absurd (r.fresh c q (sym (elsewhere c apart) ∙ second) (ap (λ (i : Id). i.0) (sym same) ∙ ap (λ (o : Placed). o.id.0) (sym it)))
+              absurd (r.fresh c q (sym (elsewhere c apart) ∙ second)
+              (ap (λ (i : Id). i.0) (sym same) ∙ ap (λ (o : Placed). o.id.0) (sym it)))
         ]
         | inr away ↦ elim (cases_eq c a) [
           | inl there ↦
               let it : new ≡ q = some_same new q (sym at_it ∙ ap (get k.objects) (sym there) ∙ second) in
-              absurd (r.fresh b p (sym (elsewhere b away) ∙ first) (ap (λ (i : Id). i.0) same ∙ ap (λ (o : Placed). o.id.0) (sym it)))
-          | inr apart ↦ identities b c p q (sym (elsewhere b away) ∙ first) (sym (elsewhere c apart) ∙ second) same
+              absurd (r.fresh b p (sym (elsewhere b away) ∙ first)
+              (ap (λ (i : Id). i.0) same ∙ ap (λ (o : Placed). o.id.0) (sym it)))
+          | inr apart ↦ identities b c p q (sym (elsewhere b away) ∙ first)
+              (sym (elsewhere c apart) ∙ second) same
         ]
       ]
 
   -- names that are objects of h are read as they were
-  pub roots-add : (names : List (Option Addr)) → ((x : Addr) → Contains names (Some x) → is_object (object_at h) x ≡ true) → map (option_map (id_at k)) names ≡ map (option_map (id_at h)) names
+  pub roots-add : (names : List (Option Addr))
+      → ((x : Addr) → Contains names (Some x) → is_object (object_at h) x ≡ true)
+      → map (option_map (id_at k)) names ≡ map (option_map (id_at h)) names
   roots-add names whole = names_agree (id_at k) (id_at h) names (λ x c. id-add x (placed h x (whole x c)))
 
-  pub queue-add : (names : List Addr) → ((x : Addr) → Contains names x → is_object (object_at h) x ≡ true) → map (id_at k) names ≡ map (id_at h) names
+  pub queue-add : (names : List Addr) → ((x : Addr) → Contains names x → is_object (object_at h) x ≡ true)
+      → map (id_at k) names ≡ map (id_at h) names
   queue-add names whole = map_agrees (id_at k) (id_at h) names (λ x c. id-add x (placed h x (whole x c)))
 
-  row_same : (o : Option (Handle Addr)) → ((row : Handle Addr) (x : Addr) → o ≡ Some row → row.target ≡ Some x → is_object (object_at h) x ≡ true) → ((row : Handle Addr) (x : Addr) → o ≡ Some row → secondary_of row.extra ≡ Some x → is_object (object_at h) x ≡ true) → option_map (rename_handle (id_at k)) o ≡ option_map (rename_handle (id_at h)) o
+  row_same : (o : Option (Handle Addr))
+      → ((row : Handle Addr) (x : Addr) → o ≡ Some row → row.target ≡ Some x
+      → is_object (object_at h) x ≡ true)
+      → ((row : Handle Addr) (x : Addr) → o ≡ Some row → secondary_of row.extra ≡ Some x
+      → is_object (object_at h) x ≡ true) → option_map (rename_handle (id_at k)) o ≡ option_map
+      (rename_handle (id_at h)) o
   row_same None targets seconds = refl
   row_same (Some row) targets seconds =
-      ap Some (handle_agrees (id_at k) (id_at h) row (λ x is. id-add x (placed h x (targets row x refl is))) (λ x is. id-add x (placed h x (seconds row x refl is))))
+      ap Some (handle_agrees (id_at k) (id_at h) row (λ x is. id-add x (placed h x (targets row x refl is)))
+      (λ x is. id-add x (placed h x (seconds row x refl is))))
 
-  pub rows-add : (rows : FinMap nat_cmp (Handle Addr)) → ((slot : ℕ) (row : Handle Addr) (x : Addr) → get rows slot ≡ Some row → row.target ≡ Some x → is_object (object_at h) x ≡ true) → ((slot : ℕ) (row : Handle Addr) (x : Addr) → get rows slot ≡ Some row → secondary_of row.extra ≡ Some x → is_object (object_at h) x ≡ true) → rows_by_id k rows ≡ rows_by_id h rows
+  pub rows-add : (rows : FinMap nat_cmp (Handle Addr))
+      → ((slot : ℕ) (row : Handle Addr) (x : Addr) → get rows slot ≡ Some row → row.target ≡ Some x
+      → is_object (object_at h) x ≡ true)
+      → ((slot : ℕ) (row : Handle Addr) (x : Addr) → get rows slot ≡ Some row
+      → secondary_of row.extra ≡ Some x → is_object (object_at h) x ≡ true)
+      → rows_by_id k rows ≡ rows_by_id h rows
   rows-add rows targets seconds =
       same_numbers (rows_by_id k rows) (rows_by_id h rows) (λ slot.
-      rows-get k rows slot ∙ row_same (get rows slot) (targets slot) (seconds slot) ∙ sym (rows-get h rows slot))
+      rows-get k rows slot ∙ row_same (get rows slot) (targets slot) (seconds slot)
+      ∙ sym (rows-get h rows slot))
 
   -- what stands at an address of h is read as it was
-  read-add : ((x y : Addr) → IsField (object_at h) x y → is_object (object_at h) y ≡ true) → (b : ℕ) (p : Placed) → get h.objects b ≡ Some p → read_object k b p ≡ read_object h b p
+  read-add : ((x y : Addr) → IsField (object_at h) x y → is_object (object_at h) y ≡ true)
+      → (b : ℕ) (p : Placed) → get h.objects b ≡ Some p → read_object k b p ≡ read_object h b p
   read-add whole b p is =
       let at : Addr = record { 0 = b } in
       let before = region_generation h (region_of at) in
       let after = region_generation k (region_of at) in
       object_agrees (id_at k) (id_at h) (object_in after p) (λ x c. id-add x (placed h x (whole at x
-      (subst (λ (o : Option Placed). Contains (fields_in (option_map (object_in before) o)) (Some x)) (sym is) c))))
+      (subst (λ (o : Option Placed). Contains (fields_in (option_map (object_in before) o)) (Some x))
+      (sym is) c))))
       ∙ ap (λ g. rename_object (id_at h) (object_in g p)) (r.generations at (ap is_some is))
 
   -- and the objects by identity have the new one besides
-  pub objects-add : HasIdentities h → ((x y : Addr) → IsField (object_at h) x y → is_object (object_at h) y ≡ true) → objects_by_id k ≡ insert (objects_by_id h) new.id.0 (read_object k a new)
-  objects-add identities whole = objects-are k (insert (objects_by_id h) new.id.0 (read_object k a new)) (identities-add identities) each only
+  pub objects-add : HasIdentities h
+      → ((x y : Addr) → IsField (object_at h) x y → is_object (object_at h) y ≡ true)
+      → objects_by_id k ≡ insert (objects_by_id h) new.id.0 (read_object k a new)
+  objects-add identities whole = objects-are k (insert (objects_by_id h) new.id.0 (read_object k a new))
+      (identities-add identities) each only
     where
-      each : (b : ℕ) (p : Placed) → get k.objects b ≡ Some p → get (insert (objects_by_id h) new.id.0 (read_object k a new)) p.id.0 ≡ Some (read_object k b p)
+      each : (b : ℕ) (p : Placed) → get k.objects b ≡ Some p
+          → get (insert (objects_by_id h) new.id.0 (read_object k a new)) p.id.0 ≡ Some (read_object k b p)
       each b p is =
           elim (cases_eq b a) [
             | inl here ↦
                 let it : new ≡ p = some_same new p (sym at_it ∙ ap (get k.objects) (sym here) ∙ is) in
-                ap (λ (q : Placed). get (insert (objects_by_id h) new.id.0 (read_object k a new)) q.id.0) (sym it)
+                ap (λ (q : Placed). get (insert (objects_by_id h) new.id.0 (read_object k a new)) q.id.0)
+                (sym it)
                 ∙ get-put (objects_by_id h) new.id.0 (read_object k a new)
                 ∙ ap Some (ap (λ c. read_object k c new) (sym here) ∙ ap (read_object k b) it)
             | inr apart ↦
@@ -117,12 +146,14 @@ module _ (h k : Heap) (a : ℕ) (new : Placed) (r : Adds h k a new) where
                 ∙ objects-get h identities b p before ∙ ap Some (sym (read-add whole b p before))
           ]
 
-      only : (x : ℕ) (o : Object Id) → get (insert (objects_by_id h) new.id.0 (read_object k a new)) x ≡ Some o → Stands k x
+      only : (x : ℕ) (o : Object Id)
+          → get (insert (objects_by_id h) new.id.0 (read_object k a new)) x ≡ Some o → Stands k x
       only x o is =
           elim (cases_eq x new.id.0) [
             | inl here ↦ record { at = a; value = new; stands = at_it; named = sym here }
             | inr apart ↦
-                let u = objects-under h x o (sym (get-put_other (objects_by_id h) new.id.0 (read_object k a new) x apart) ∙ is) in
+                let u = objects-under h x o
+                (sym (get-put_other (objects_by_id h) new.id.0 (read_object k a new) x apart) ∙ is) in
                 record {
                   at = u.at;
                   value = u.value;

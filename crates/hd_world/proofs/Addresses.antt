@@ -7,7 +7,7 @@ use Rattle.std.specs.Ordering.{nat_cmp}
 use Rattle.std.proofs.lemmas.Bool.{cases_eq}
 use Rattle.hd_model.specs.declared.data.Id.{Id}
 use Rattle.hd_model.specs.declared.data.Addr.{Addr}
-use Rattle.hd_model.specs.State.{object_at as machine_object, size_of}
+use Rattle.hd_model.specs.State.{object_by_id, size_of}
 use Rattle.hd_model.specs.Places.{range_at, Meet, IsFreePlace, MayAnswer, with_places}
 use Rattle.hd_model.specs.Heap.{Placed, region_of, has_object, placed_at, cells_of}
 use Rattle.hd_heap.specs.Sound.{IsSound}
@@ -103,8 +103,8 @@ module _ (f : Parts) (stored : IsStored f) (sound : IsSound f.heap) where
             (λ same. no_some other (sym is ∙ ap (λ (i : Id). get p i.0)
             (some_same y (name_in (names_of f.heap) at)
             (sym name ∙ ap (get (names_of f.heap)) (sym same) ∙ name_at)) ∙ none))
-            (subst (λ i. Meet (range_at at.0 (machine_object (state_of f) (name_in (names_of f.heap) at)))
-            (range_at other (machine_object (state_of f) i))) (sym mine) meet);
+            (subst (λ i. Meet (range_at at.0 (object_by_id (state_of f) (name_in (names_of f.heap) at)))
+            (range_at other (object_by_id (state_of f) i))) (sym mine) meet);
       }
 
       may_answer : MayAnswer (with_places (state_of f) p) (name_in (names_of f.heap) at) at.0

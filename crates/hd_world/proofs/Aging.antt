@@ -14,8 +14,10 @@ stored-lowered f slot g stored = record {
   whole = stored.whole;
   identities = stored.identities;
   ages = record {
-    targets = λ s row x is e. let low = lowered_below f.ages slot g s in let was = stored.ages.targets s row x is e in omega arith;
-    secondaries = λ s row x is e. let low = lowered_below f.ages slot g s in let was = stored.ages.secondaries s row x is e in omega arith;
+    targets = λ s row x is e. let low = lowered_below f.ages slot g s in let was =
+        stored.ages.targets s row x is e in omega arith;
+    secondaries = λ s row x is e. let low = lowered_below f.ages slot g s in let was =
+        stored.ages.secondaries s row x is e in omega arith;
   };
   cards = stored.cards;
   full = stored.full;

@@ -1,10 +1,10 @@
--- What a world's journal tells before a command, and that it is a run after it. Of places only the state of the
--- machine tells.
-use Rattle.std.proofs.Common.{◌≡◌, ℕ, ◌<◌, ◌+◌, ◌*◌, ◌^◌, List, ◌++◌, ◌∷◌, [], length, replicate, None, sym, ap, ◌∙◌, subst, arith}
+-- What a world's journal tells before a command, and that it is a run after it. Of places only the state of
+-- the machine tells.
+use Rattle.std.proofs.Common.{◌≡◌, ℕ, ◌<◌, ◌+◌, ◌*◌, ◌^◌, List, ◌++◌, ◌∷◌, [], length, replicate, None, sym, ap, subst, arith}
 use Rattle.std.specs.FinMap.{FinMap, get, empty}
 use Rattle.std.specs.Ordering.{nat_cmp}
 use Rattle.hd_model.specs.declared.data.Entry.{Entry}
-use Rattle.hd_model.specs.State.{Numbers, State, start_of, last_serial, identity_of}
+use Rattle.hd_model.specs.State.{State, start_of, last_serial, identity_of}
 use Rattle.hd_model.specs.Places.{with_places}
 use Rattle.hd_model.specs.Step.{Step}
 use Rattle.hd_model.specs.Run.{Run, stay}
@@ -60,7 +60,12 @@ module _ (m : Machine) (journal : List Entry) (p : FinMap nat_cmp ℕ) (is : IsT
 
     pub counts_of : HasSmallCounts m.state
     counts_of = λ slot handle stands.
-        omega (arith, count-le m.numbers journal (with_places m.state p) (record { 0 = slot }) handle run_of stands, room)
+        omega (
+          arith,
+          count-le m.numbers journal (with_places m.state p)
+              (record { 0 = slot }) handle run_of stands,
+          room,
+        )
 
   -- where a command keeps places and the journal gets its entry
   module _ (next : Machine) (e : Entry) (entries : List Entry) (keeps : KeepsPlaces m e next)
@@ -71,7 +76,8 @@ module _ (m : Machine) (journal : List Entry) (p : FinMap nat_cmp ℕ) (is : IsT
     goes_on : IsTrueRun next entries moved.places
     goes_on = record {
       run = subst (λ es. AgedRun next.numbers es (with_places next.state moved.places) next.ages) (sym longer)
-          (subst (λ k. AgedRun k (journal ++ e ∷ []) (with_places next.state moved.places) next.ages) (sym same)
+          (subst (λ k. AgedRun k (journal ++ e ∷ []) (with_places next.state moved.places) next.ages)
+          (sym same)
           (push is.run (record { step = moved.step; ages = moved.ages })));
       addresses = moved.addresses;
     }
@@ -116,4 +122,5 @@ module _ (m : Machine) (entries : List Entry) (first : m.state ≡ start_of m.nu
   run_first q = at_first (λ r. IsTrueRun m entries r) begins q
 
   pub state_first : (q : Placed m entries) → with_places m.state q.0 ≡ start_of m.numbers
-  state_first q = at_first (λ r. with_places m.state r ≡ start_of m.numbers) (ap (λ s. with_places s empty) first) q
+  state_first q = at_first (λ r. with_places m.state r ≡ start_of m.numbers)
+      (ap (λ s. with_places s empty) first) q

@@ -18,16 +18,20 @@ is_found (Ok a) = Unit {0}
 is_found (Err r) = ⊥
 
 abbrev by_slot : State → Option Slot → Result (Slot × Handle Id) Refusal
-by_slot s o = option_map_or (λ slot. option_map_or (λ handle. Ok (slot, handle)) (handle_at s slot) (Err refusal.NotLive)) o (Err refusal.EmptyRegister)
+by_slot s o = option_map_or
+    (λ slot. option_map_or (λ handle. Ok (slot, handle)) (handle_at s slot) (Err refusal.NotLive)) o
+    (Err refusal.EmptyRegister)
 
 abbrev by_handle : Slot → Option (Handle Id) → Result (Slot × Handle Id) Refusal
 by_handle slot o = option_map_or (λ handle. Ok (slot, handle)) o (Err refusal.NotLive)
 
 -- the handle stands in the slot that was found
-pub stands_found : (s : State) (caller h : ℕ) (slot : Slot) (handle : Handle Id) → Ok (slot, handle) ≡ live_in s caller h → handle_at s slot ≡ Some handle
+pub stands_found : (s : State) (caller h : ℕ) (slot : Slot) (handle : Handle Id)
+    → Ok (slot, handle) ≡ live_in s caller h → handle_at s slot ≡ Some handle
 stands_found s caller h slot handle is = first (handle_register_of s caller h) is
   where
-    second : (at : Slot) (o : Option (Handle Id)) → handle_at s at ≡ o → Ok (slot, handle) ≡ by_handle at o → handle_at s slot ≡ Some handle
+    second : (at : Slot) (o : Option (Handle Id)) → handle_at s at ≡ o → Ok (slot, handle) ≡ by_handle at o
+        → handle_at s slot ≡ Some handle
     second at None stands is = absurd (subst is_found is tt)
     second at (Some found) stands is =
         let pair : (slot, handle) ≡ (at, found) = ap (ok_or (slot, handle)) is in

@@ -8,10 +8,8 @@ use Rattle.hd_model.specs.declared.data.Id.{Id}
 use Rattle.hd_model.specs.declared.data.Addr.{Addr}
 use Rattle.hd_model.specs.declared.data.Report.{Report}
 use Rattle.hd_model.specs.declared.data.Memory.{Memory}
-use Rattle.hd_model.specs.declared.data.Kind.{Kind}
-use Rattle.hd_model.specs.declared.data.Kind.TheVariants as kind
-use Rattle.hd_model.specs.State.{Extra, nothing, strength, secondary, count, Handle, BlockUse, rename_extra, rename_handle}
-use Rattle.hd_model.specs.Role.{pins_by, pins}
+use Rattle.hd_model.specs.State.{Handle, BlockUse, rename_handle}
+use Rattle.hd_model.specs.Role.{pins}
 use Rattle.hd_model.specs.Reach.{IsPinned}
 use Rattle.hd_model.specs.Compact.{IsCompact}
 use Rattle.hd_model.proofs.Counting.{counts_named}
@@ -21,6 +19,7 @@ use Rattle.hd_model.specs.Scene.{scene_of}
 use Rattle.hd_model.specs.Heap.{Heap, Placed, id_at, id_in, has_object}
 use Rattle.hd_model.specs.Table.{Table, IsTable, Queue, row_at}
 use Rattle.hd_model.proofs.Pinning.{pinned_decides}
+use Rattle.hd_model.proofs.PinsRenamed.{pins_renamed}
 use Rattle.hd_gc.specs.Collected.{Collected}
 use Rattle.hd_world.specs.Rows.{rows_of, rest_of}
 use Rattle.hd_world.specs.Reading.{names_of, objects_by_id, rows_by_id}
@@ -39,21 +38,6 @@ abbrev pub left_parts : Parts → Heap → Table → List ℕ → Queue → List
 left_parts f h t ages q roots = record f { heap = h; table = t; ages = ages; queue = q; roots = roots }
 
 -- the handles by identity and by address
-pins_by_read : (g : Addr → Id) (k : Kind) (e : Extra Addr) → pins_by k (rename_extra g e) ≡ pins_by k e
-pins_by_read g kind.Short e = refl
-pins_by_read g kind.Long e = refl
-pins_by_read g kind.Strong e = refl
-pins_by_read g kind.Pinned e = refl
-pins_by_read g kind.Variable nothing = refl
-pins_by_read g kind.Variable (strength s) = refl
-pins_by_read g kind.Variable (secondary o) = refl
-pins_by_read g kind.Variable (count c) = refl
-pins_by_read g kind.Counted e = refl
-pins_by_read g kind.Dependent e = refl
-
-pub pins_read : (g : Addr → Id) (h : Handle Addr) → pins (rename_handle g h) ≡ pins h
-pins_read g h = pins_by_read g h.kind h.extra
-
 unnamed : (g : Addr → Id) (o : Option Addr) (x : Id) → option_map g o ≡ Some x → (y : Addr)
     × ((o ≡ Some y) × (g y ≡ x))
 unnamed g None x is = absurd (no_some x (sym is))
@@ -94,7 +78,7 @@ module _ (f : Parts) (stored : IsStored f) where
     slot = p.slot;
     handle = rename_handle (id_at f.heap) p.handle;
     stands = rows-get f.heap f.table.rows p.slot ∙ ap (option_map (rename_handle (id_at f.heap))) p.stands;
-    pins = pins_read (id_at f.heap) p.handle ∙ p.pins;
+    pins = pins_renamed (id_at f.heap) p.handle ∙ p.pins;
     target = ap (option_map (id_at f.heap)) p.target;
   }
 
@@ -103,14 +87,15 @@ module _ (f : Parts) (stored : IsStored f) where
   pinned-from b p =
       let (row, was) = unread (id_at f.heap) (get f.table.rows p.slot) p.handle
       (sym (rows-get f.heap f.table.rows p.slot) ∙ p.stands) in
-      let (y, to) = unnamed (id_at f.heap) row.target b (ap (λ (k : Handle Id). k.target) was.1 ∙ p.target) in (
+      let target = ap (λ (k : Handle Id). k.target) was.1 ∙ p.target in
+      let (y, to) = unnamed (id_at f.heap) row.target b target in (
         y,
         (
           record {
             slot = p.slot;
             handle = row;
             stands = was.0;
-            pins = sym (pins_read (id_at f.heap) row)
+            pins = sym (pins_renamed (id_at f.heap) row)
                 ∙ ap pins was.1 ∙ p.pins;
             target = to.0;
           },
@@ -118,7 +103,8 @@ module _ (f : Parts) (stored : IsStored f) where
         ),
       )
 
-  pub compact-store : IsCompact f.heap (row_at f.table) → IsCompactStore (machine_of f).state.handles (machine_of f).heap
+  pub compact-store : IsCompact f.heap (row_at f.table)
+      → IsCompactStore (machine_of f).state.handles (machine_of f).heap
   compact-store compact = record {
     pinned = compact.pinned;
     pinned_is =
@@ -213,7 +199,7 @@ module _ (f : Parts) (stored : IsStored f) (h : Heap) (t : Table) (ages : List �
         slot = by_id.slot;
         handle = row;
         stands = was.0;
-        pins = sym (pins_read (id_at f.heap) row) ∙ ap pins was.1 ∙ by_id.pins;
+        pins = sym (pins_renamed (id_at f.heap) row) ∙ ap pins was.1 ∙ by_id.pins;
         target = to.0 ∙ ap Some same;
       } in
       let left = done.pinned at pinning in

@@ -3,7 +3,6 @@ mod Readings
 mod Agreeing
 mod Adding
 mod Roots
-mod Sums
 mod Standing
 mod Inside
 mod Writes
@@ -27,3 +26,4 @@ mod Visited
 mod Gathering
 mod Addresses
 mod Moved
+mod Listed

@@ -42,14 +42,17 @@ pub record Found (f : Parts) (slot : Slot) (row : Row) : Type 0 where
   pub stands : get f.table.rows slot.0 ≡ Some handle
   pub row_is : row ≡ row_of handle
 
-pub found : (f : Parts) (slot : Slot) (row : Row) → Some row ≡ option_map row_of (get f.table.rows slot.0) → Found f slot row
+pub found : (f : Parts) (slot : Slot) (row : Row) → Some row ≡ option_map row_of (get f.table.rows slot.0)
+    → Found f slot row
 found f slot row is = by (get f.table.rows slot.0) refl
   where
     by : (o : Option (Handle Addr)) → get f.table.rows slot.0 ≡ o → Found f slot row
     by None e = absurd (no_some row (is ∙ ap (option_map row_of) e))
-    by (Some h) e = record { handle = h; stands = e; row_is = some_same row (row_of h) (is ∙ ap (option_map row_of) e) }
+    by (Some h) e =
+        record { handle = h; stands = e; row_is = some_same row (row_of h) (is ∙ ap (option_map row_of) e) }
 
-module _ (f : Parts) (m : Machine) (view : machine_of f ≡ m) (stored : IsStored f) (table : IsTable f.table) (slot : Slot) (row : Row) (is : Some row ≡ option_map row_of (get f.table.rows slot.0)) where
+module _ (f : Parts) (m : Machine) (view : machine_of f ≡ m) (stored : IsStored f) (table : IsTable f.table)
+    (slot : Slot) (row : Row) (is : Some row ≡ option_map row_of (get f.table.rows slot.0)) where
   at : Found f slot row
   at = found f slot row is
 
@@ -85,10 +88,13 @@ module _ (f : Parts) (m : Machine) (view : machine_of f ≡ m) (stored : IsStore
         ∙ ap (λ g. Some (rename_handle g (handle_of kind row))) (sym (names-are f.heap))
         ∙ ap (λ (n : Machine). Some (handle_named n kind row)) view
 
-    named : (o : Option Addr) → ((x : Addr) → o ≡ Some x → is_object (object_at f.heap) x ≡ true) → IsNamed m.names o
+    named : (o : Option Addr) → ((x : Addr) → o ≡ Some x → is_object (object_at f.heap) x ≡ true)
+        → IsNamed m.names o
     named o each = subst (λ (n : Machine). IsNamed n.names o) view (objects_named f.heap o each)
 
-    aged : (o : Option Addr) → IsNamed m.names o → ((x : Addr) → o ≡ Some x → age_of f.ages slot.0 ≤ generation_at (object_at f.heap) x) → IfSome o (λ a. age_of m.ages slot.0 ≤ (object_named m a).generation)
+    aged : (o : Option Addr) → IsNamed m.names o
+        → ((x : Addr) → o ≡ Some x → age_of f.ages slot.0 ≤ generation_at (object_at f.heap) x)
+        → IfSome o (λ a. age_of m.ages slot.0 ≤ (object_named m a).generation)
     aged None there each = tt
     aged (Some a) there each =
         subst (λ ages. age_of ages slot.0 ≤ (object_named m a).generation) (ap (λ (n : Machine). n.ages) view)
@@ -106,13 +112,18 @@ module _ (f : Parts) (m : Machine) (view : machine_of f ≡ m) (stored : IsStore
     pub handle-may : MayStand m slot kind row
     handle-may =
         let h = at.handle in
-        let target : IsNamed m.names row.target = named row.target (λ x e. stored.whole.targets slot.0 h x at.stands (sym target_is ∙ e)) in
-        let second : IsNamed m.names (secondary_of (extra_of row.extra)) = named (secondary_of (extra_of row.extra)) (λ x e. stored.whole.secondaries slot.0 h x at.stands (sym second_is ∙ e)) in
+        let target : IsNamed m.names row.target =
+        named row.target (λ x e. stored.whole.targets slot.0 h x at.stands (sym target_is ∙ e)) in
+        let second : IsNamed m.names (secondary_of (extra_of row.extra)) =
+        named (secondary_of (extra_of row.extra))
+        (λ x e. stored.whole.secondaries slot.0 h x at.stands (sym second_is ∙ e)) in
         record {
           fits = (λ i. fits (kind_is i) (extra_is i)) ∙ (table.rows slot.0 h at.stands).fits;
           target = target;
           secondary = second;
           paired = λ none. second_is ∙ stored.whole.paired slot.0 h at.stands (sym target_is ∙ none);
-          target_age = aged row.target target (λ x e. stored.ages.targets slot.0 h x at.stands (sym target_is ∙ e));
-          secondary_age = aged (secondary_of (extra_of row.extra)) second (λ x e. stored.ages.secondaries slot.0 h x at.stands (sym second_is ∙ e));
+          target_age =
+              aged row.target target (λ x e. stored.ages.targets slot.0 h x at.stands (sym target_is ∙ e));
+          secondary_age = aged (secondary_of (extra_of row.extra)) second
+              (λ x e. stored.ages.secondaries slot.0 h x at.stands (sym second_is ∙ e));
         }

@@ -10,7 +10,7 @@ use Rattle.hd_model.specs.declared.data.Make.{Make}
 use Rattle.hd_model.specs.declared.data.Make.TheVariants as make
 use Rattle.hd_model.specs.declared.data.Grown.{Grown}
 use Rattle.hd_model.specs.declared.data.Grown.TheVariants.{Zero, One, Two, Back}
-use Rattle.hd_model.specs.State.{Object, Extra, nothing, strength, secondary, count, State, secondary_of, object_at}
+use Rattle.hd_model.specs.State.{Object, Extra, nothing, strength, secondary, count, State, secondary_of, object_by_id}
 use Rattle.hd_model.specs.Scene.{scene_of, generation_in, generation_at}
 use Rattle.hd_model.specs.Ages.{age_of}
 use Rattle.hd_model.specs.Aging.{lowered_to, lowered_by_new}
@@ -27,22 +27,28 @@ use Rattle.hd_world.specs.Handles.{MayStand}
 use Rattle.hd_world.specs.Making.{IsMadeRow}
 use Rattle.hd_world.proofs.Readings.{no_some}
 
-generation_read : (o : Option (Object Id)) → generation_in o ≡ (unwrap_or o (record { fields = []; value = 0; generation = 0; registered = false })).generation
+generation_read : (o : Option (Object Id))
+    → generation_in o
+    ≡ (unwrap_or o (record { fields = []; value = 0; generation = 0; registered = false })).generation
 generation_read None = refl
 generation_read (Some o) = refl
 
 -- the age is at most the generation of what the ages are lowered to
-lowered_target : (s : State) (ages : List ℕ) (slot : Slot) (x : Id) → age_of (lowered_to s ages (Some slot) (Some x)) slot.0 ≤ (object_at s x).generation
+lowered_target : (s : State) (ages : List ℕ) (slot : Slot) (x : Id)
+    → age_of (lowered_to s ages (Some slot) (Some x)) slot.0 ≤ (object_by_id s x).generation
 lowered_target s ages slot x =
-    subst (λ g. age_of (lowered_to s ages (Some slot) (Some x)) slot.0 ≤ g) (generation_read (get s.objects x.0))
+    subst (λ g. age_of (lowered_to s ages (Some slot) (Some x)) slot.0 ≤ g)
+    (generation_read (get s.objects x.0))
     (lowered_here ages slot.0 (generation_at (scene_of s).object x))
 
 -- and 0 for a dependent handle
 module _ (s : State) (ages : List ℕ) (slot : Slot) (m : Make) where
-  target_low : (x : Id) → age_of (lowered_by_new s ages (Some slot) m (Some x)) slot.0 ≤ (object_at s x).generation
+  target_low : (x : Id) → age_of (lowered_by_new s ages (Some slot) m (Some x)) slot.0
+      ≤ (object_by_id s x).generation
   target_low x = by m
     where
-      by : (g : Make) → age_of (lowered_by_new s ages (Some slot) g (Some x)) slot.0 ≤ (object_at s x).generation
+      by : (g : Make) → age_of (lowered_by_new s ages (Some slot) g (Some x)) slot.0
+          ≤ (object_by_id s x).generation
       by make.Short = lowered_target s ages slot x
       by make.Long = lowered_target s ages slot x
       by make.Strong = lowered_target s ages slot x
@@ -51,10 +57,12 @@ module _ (s : State) (ages : List ℕ) (slot : Slot) (m : Make) where
       by make.Counted = lowered_target s ages slot x
       by (make.Dependent r) = let low = lowered_here ages slot.0 0 in omega arith
 
-  second_low : (e : Extra Addr) → fits (kind_of m) e ≡ true → (o : Option Id) (g : ℕ) (a : Addr) → secondary_of e ≡ Some a → age_of (lowered_by_new s ages (Some slot) m o) slot.0 ≤ g
+  second_low : (e : Extra Addr) → fits (kind_of m) e ≡ true → (o : Option Id) (g : ℕ) (a : Addr)
+      → secondary_of e ≡ Some a → age_of (lowered_by_new s ages (Some slot) m o) slot.0 ≤ g
   second_low e fit o g a is = by m e fit is
     where
-      by : (k : Make) (x : Extra Addr) → fits (kind_of k) x ≡ true → secondary_of x ≡ Some a → age_of (lowered_by_new s ages (Some slot) k o) slot.0 ≤ g
+      by : (k : Make) (x : Extra Addr) → fits (kind_of k) x ≡ true → secondary_of x ≡ Some a
+          → age_of (lowered_by_new s ages (Some slot) k o) slot.0 ≤ g
       by k nothing f e = absurd (no_some a (sym e))
       by k (strength t) f e = absurd (no_some a (sym e))
       by k (count c) f e = absurd (no_some a (sym e))
@@ -77,10 +85,17 @@ each_some None P each = tt
 each_some (Some a) P each = each a refl
 
 -- m0 is the store before, m1 once the table has grown, m2 once the age is lowered
-pub made_may : (m0 m1 m2 : Machine) (k : Kind) (g : Grown) (slot : Slot) (caller t : ℕ) (given : Make) (row : Row) → m1 ≡ record m0 { state = with_growth m0.state k g } → m2 ≡ record m1 { ages = lowered_by_new m1.state m1.ages (Some slot) given (named_in m1.names row.target) } → IsMadeRow m0 caller given t row → MayStand m2 slot (kind_of given) row
+pub made_may : (m0 m1 m2 : Machine) (k : Kind) (g : Grown) (slot : Slot) (caller t : ℕ) (given : Make)
+    (row : Row) → m1 ≡ record m0 { state = with_growth m0.state k g }
+    → m2 ≡ record m1 {
+      ages = lowered_by_new m1.state m1.ages (Some slot) given
+          (named_in m1.names row.target);
+    } → IsMadeRow m0 caller given t row → MayStand m2 slot (kind_of given) row
 made_may m0 m1 m2 k g slot caller t given row grows lowers made =
-    let names : m2.names ≡ m0.names = ap (λ (m : Machine). m.names) lowers ∙ ap (λ (m : Machine). m.names) grows in
-    let ages : m2.ages ≡ lowered_by_new m1.state m1.ages (Some slot) given (named_in m1.names row.target) = ap (λ (m : Machine). m.ages) lowers in
+    let names : m2.names ≡ m0.names =
+    ap (λ (m : Machine). m.names) lowers ∙ ap (λ (m : Machine). m.names) grows in
+    let ages : m2.ages ≡ lowered_by_new m1.state m1.ages (Some slot) given (named_in m1.names row.target) =
+    ap (λ (m : Machine). m.ages) lowers in
     let state : m2.state ≡ m1.state = ap (λ (m : Machine). m.state) lowers in
     let name1 : m2.names ≡ m1.names = ap (λ (m : Machine). m.names) lowers in
     record {
@@ -90,11 +105,19 @@ made_may m0 m1 m2 k g slot caller t given row grows lowers made =
       paired = made.paired;
       target_age = each_some row.target (λ a. age_of m2.ages slot.0 ≤ (object_named m2 a).generation) (λ a is.
           subst (λ x. age_of x slot.0 ≤ (object_named m2 a).generation) (sym ages)
-          (subst (λ s. age_of (lowered_by_new m1.state m1.ages (Some slot) given (named_in m1.names row.target)) slot.0 ≤ (object_at s (name_in m2.names a)).generation) (sym state)
-          (subst (λ n. age_of (lowered_by_new m1.state m1.ages (Some slot) given (named_in m1.names row.target)) slot.0 ≤ (object_at m1.state (name_in n a)).generation) (sym name1)
-          (subst (λ o. age_of (lowered_by_new m1.state m1.ages (Some slot) given (named_in m1.names o)) slot.0 ≤ (object_at m1.state (name_in m1.names a)).generation) (sym is)
+          (subst
+          (λ s. age_of (lowered_by_new m1.state m1.ages (Some slot) given (named_in m1.names row.target))
+          slot.0 ≤ (object_by_id s (name_in m2.names a)).generation) (sym state)
+          (subst
+          (λ n. age_of (lowered_by_new m1.state m1.ages (Some slot) given (named_in m1.names row.target))
+          slot.0 ≤ (object_by_id m1.state (name_in n a)).generation) (sym name1)
+          (subst
+          (λ o. age_of (lowered_by_new m1.state m1.ages (Some slot) given (named_in m1.names o)) slot.0
+          ≤ (object_by_id m1.state (name_in m1.names a)).generation) (sym is)
           (target_low m1.state m1.ages slot given (name_in m1.names a))))));
-      secondary_age = each_some (secondary_of (extra_of row.extra)) (λ a. age_of m2.ages slot.0 ≤ (object_named m2 a).generation) (λ a is.
+      secondary_age = each_some (secondary_of (extra_of row.extra))
+          (λ a. age_of m2.ages slot.0 ≤ (object_named m2 a).generation) (λ a is.
           subst (λ x. age_of x slot.0 ≤ (object_named m2 a).generation) (sym ages)
-          (second_low m1.state m1.ages slot given (extra_of row.extra) made.fits (named_in m1.names row.target) (object_named m2 a).generation a is));
+          (second_low m1.state m1.ages slot given (extra_of row.extra) made.fits
+          (named_in m1.names row.target) (object_named m2 a).generation a is));
     }

@@ -15,7 +15,8 @@ pub untied : (q i : ℕ) → (q ≡ i → ⊥) → eq_by_cmp nat_cmp q i ≡ fal
 untied q i apart = unsigned_tied q i ∙ ne_eqb q i apart
 
 -- what is found at a key that is the first one, and at another
-pub found_first : {A : Type 0} (q i : ℕ) (x : A) (o : Option A) → q ≡ i → cond (eq_by_cmp nat_cmp q i) (Some x) o ≡ Some x
+pub found_first : {A : Type 0} (q i : ℕ) (x : A) (o : Option A) → q ≡ i
+    → cond (eq_by_cmp nat_cmp q i) (Some x) o ≡ Some x
 found_first q i x o same = ap (λ b. cond b (Some x) o) (tied q i same)
 
 pub found_later : {A : Type 0} (q i : ℕ) (x o : Option A) → (q ≡ i → ⊥) → cond (eq_by_cmp nat_cmp q i) x o ≡ o
@@ -25,7 +26,8 @@ found_later q i x o apart = ap (λ b. cond b x o) (untied q i apart)
 pub get-put : {A : Type 0} (m : FinMap nat_cmp A) (k : ℕ) (v : A) → get (insert m k v) k ≡ Some v
 get-put m k v = get-insert nat_cmp_total m k v k ∙ found_first k k v (get m k) refl
 
-pub get-put_other : {A : Type 0} (m : FinMap nat_cmp A) (k : ℕ) (v : A) (q : ℕ) → (q ≡ k → ⊥) → get (insert m k v) q ≡ get m q
+pub get-put_other : {A : Type 0} (m : FinMap nat_cmp A) (k : ℕ) (v : A) (q : ℕ) → (q ≡ k → ⊥)
+    → get (insert m k v) q ≡ get m q
 get-put_other m k v q apart = get-insert nat_cmp_total m k v q ∙ found_later q k (Some v) (get m q) apart
 
 -- two maps that answer alike are equal
@@ -36,18 +38,24 @@ pub some_same : {A : Type 0} (x y : A) → Some x ≡ Some y → x ≡ y
 some_same x y e = ap (λ o. unwrap_or o x) e
 
 -- the entries with other values
-pub find-mapped : {X Y : Type 0} (f : ℕ → X → Y) (k : ℕ) (es : List (ℕ × X)) → find nat_cmp k (map (λ e. (e.0, f e.0 e.1)) es) ≡ option_map (f k) (find nat_cmp k es)
+pub find-mapped : {X Y : Type 0} (f : ℕ → X → Y) (k : ℕ) (es : List (ℕ × X))
+    → find nat_cmp k (map (λ e. (e.0, f e.0 e.1)) es) ≡ option_map (f k) (find nat_cmp k es)
 find-mapped f k [] = refl
 find-mapped f k (e ∷ es) =
     elim (cases_eq k e.0) [
       | inl same ↦ found_first k e.0 (f e.0 e.1) (find nat_cmp k (map (λ w. (w.0, f w.0 w.1)) es)) same
-          ∙ ap (λ j. Some (f j e.1)) (sym same) ∙ ap (option_map (f k)) (sym (found_first k e.0 e.1 (find nat_cmp k es) same))
-      | inr apart ↦ found_later k e.0 (Some (f e.0 e.1)) (find nat_cmp k (map (λ w. (w.0, f w.0 w.1)) es)) apart
-          ∙ find-mapped f k es ∙ ap (option_map (f k)) (sym (found_later k e.0 (Some e.1) (find nat_cmp k es) apart))
+          ∙ ap (λ j. Some (f j e.1)) (sym same) ∙ ap (option_map (f k))
+          (sym (found_first k e.0 e.1 (find nat_cmp k es) same))
+      | inr apart ↦ found_later k e.0 (Some (f e.0 e.1))
+          (find nat_cmp k (map (λ w. (w.0, f w.0 w.1)) es)) apart
+          ∙ find-mapped f k es ∙ ap (option_map (f k))
+          (sym (found_later k e.0 (Some e.1) (find nat_cmp k es) apart))
     ]
 
 -- a read of the map with the same keys and other values
-pub get-mapped : {X Y : Type 0} (f : ℕ → X → Y) (m : FinMap nat_cmp X) (k : ℕ) → get (from_entries {R = nat_cmp} (map (λ e. (e.0, f e.0 e.1)) (entries m))) k ≡ option_map (f k) (get m k)
+pub get-mapped : {X Y : Type 0} (f : ℕ → X → Y) (m : FinMap nat_cmp X) (k : ℕ)
+    → get (from_entries {R = nat_cmp} (map (λ e. (e.0, f e.0 e.1)) (entries m))) k ≡ option_map (f k)
+    (get m k)
 get-mapped f m k =
     get-from_entries nat_cmp_total (map (λ e. (e.0, f e.0 e.1)) (entries m)) k ∙ find-mapped f k (entries m)
     ∙ ap (option_map (f k)) (sym (get-entries m k))
@@ -76,13 +84,15 @@ less x y h =
     ]
 
 -- a key below all others is none of them
-pub below : {A : Type 0} (x k : ℕ) (v : A) (es : List (ℕ × A)) → T (below_all nat_cmp x es) → Among k v es → x < k
+pub below : {A : Type 0} (x k : ℕ) (v : A) (es : List (ℕ × A)) → T (below_all nat_cmp x es) → Among k v es
+    → x < k
 below x k v [] low a = elim a [ ]
 below x k v (e ∷ es) low first = less x k (both _ _ low).0
 below x k v (e ∷ es) low (later a) = below x k v es (both _ _ low).1 a
 
 -- an entry of a sorted list is found at its key
-pub find-among : {A : Type 0} (k : ℕ) (v : A) (es : List (ℕ × A)) → T (is_sorted nat_cmp es) → Among k v es → find nat_cmp k es ≡ Some v
+pub find-among : {A : Type 0} (k : ℕ) (v : A) (es : List (ℕ × A)) → T (is_sorted nat_cmp es) → Among k v es
+    → find nat_cmp k es ≡ Some v
 find-among k v [] sorted a = elim a [ ]
 find-among k v (e ∷ es) sorted first = found_first k k v (find nat_cmp k es) refl
 find-among k v (e ∷ es) sorted (later a) =
@@ -95,9 +105,11 @@ pub among-find : {A : Type 0} (k : ℕ) (v : A) (es : List (ℕ × A)) → find 
 among-find k v [] is = absurd (subst T (sym (ap is_some is)) tt)
 among-find k v (e ∷ es) is =
     elim (cases_eq k e.0) [
-      | inl same ↦ let here : e.1 ≡ v = some_same e.1 v (sym (found_first k e.0 e.1 (find nat_cmp k es) same) ∙ is) in
+      | inl same ↦ let here : e.1 ≡ v =
+          some_same e.1 v (sym (found_first k e.0 e.1 (find nat_cmp k es) same) ∙ is) in
           subst (λ w. Among k w (e ∷ es)) here (subst (λ j. Among j e.1 (e ∷ es)) (sym same) first)
-      | inr apart ↦ later (among-find k v es (sym (found_later k e.0 (Some e.1) (find nat_cmp k es) apart) ∙ is))
+      | inr apart ↦ later
+          (among-find k v es (sym (found_later k e.0 (Some e.1) (find nat_cmp k es) apart) ∙ is))
     ]
 
 -- the entries under other keys, which the value gives, and with other values
@@ -105,21 +117,24 @@ abbrev pub rekeyed : {X Y : Type 0} → (X → ℕ) → (ℕ → X → Y) → Li
 rekeyed key f es = map (λ e. (key e.1, f e.0 e.1)) es
 
 -- what stands at a key of the map under other keys
-pub record Under {X Y : Type 0} (key : X → ℕ) (f : ℕ → X → Y) (m : FinMap nat_cmp X) (x : ℕ) (y : Y) : Type 0 where
+pub record Under {X Y : Type 0} (key : X → ℕ) (f : ℕ → X → Y) (m : FinMap nat_cmp X) (x : ℕ)
+    (y : Y) : Type 0 where
   pub at : ℕ
   pub value : X
   pub stands : get m at ≡ Some value
   pub keyed : key value ≡ x
   pub is : y ≡ f at value
 
-pub record Source {X Y : Type 0} (key : X → ℕ) (f : ℕ → X → Y) (es : List (ℕ × X)) (x : ℕ) (y : Y) : Type 0 where
+pub record Source {X Y : Type 0} (key : X → ℕ) (f : ℕ → X → Y) (es : List (ℕ × X)) (x : ℕ)
+    (y : Y) : Type 0 where
   pub at : ℕ
   pub value : X
   pub among : Among at value es
   pub keyed : key value ≡ x
   pub is : y ≡ f at value
 
-pub source : {X Y : Type 0} (key : X → ℕ) (f : ℕ → X → Y) (es : List (ℕ × X)) (x : ℕ) (y : Y) → find nat_cmp x (rekeyed key f es) ≡ Some y → Source key f es x y
+pub source : {X Y : Type 0} (key : X → ℕ) (f : ℕ → X → Y) (es : List (ℕ × X)) (x : ℕ) (y : Y)
+    → find nat_cmp x (rekeyed key f es) ≡ Some y → Source key f es x y
 source key f [] x y is = absurd (subst T (sym (ap is_some is)) tt)
 source key f (e ∷ es) x y is =
     elim (cases_eq x (key e.1)) [
@@ -128,20 +143,31 @@ source key f (e ∷ es) x y is =
         value = e.1;
         among = first;
         keyed = sym same;
-        is = some_same y (f e.0 e.1) (sym is ∙ found_first x (key e.1) (f e.0 e.1) (find nat_cmp x (rekeyed key f es)) same);
+        is = some_same y (f e.0 e.1)
+            (sym is ∙ found_first x (key e.1) (f e.0 e.1) (find nat_cmp x (rekeyed key f es)) same);
       }
-      | inr apart ↦ let s = source key f es x y (sym (found_later x (key e.1) (Some (f e.0 e.1)) (find nat_cmp x (rekeyed key f es)) apart) ∙ is) in
+      | inr apart ↦ let s = source key f es x y
+          (sym (found_later x (key e.1) (Some (f e.0 e.1)) (find nat_cmp x (rekeyed key f es)) apart) ∙ is) in
           record { at = s.at; value = s.value; among = later s.among; keyed = s.keyed; is = s.is }
     ]
 
-there : {X Y : Type 0} (key : X → ℕ) (f : ℕ → X → Y) (es : List (ℕ × X)) (a : ℕ) (p : X) → Among a p es → (y : Y) × (find nat_cmp (key p) (rekeyed key f es) ≡ Some y)
+there : {X Y : Type 0} (key : X → ℕ) (f : ℕ → X → Y) (es : List (ℕ × X)) (a : ℕ) (p : X) → Among a p es
+    → (y : Y) × (find nat_cmp (key p) (rekeyed key f es) ≡ Some y)
 there key f [] a p m = elim m [ ]
-there key f (e ∷ es) a p first = (f a p, found_first (key p) (key p) (f a p) (find nat_cmp (key p) (rekeyed key f es)) refl)
+there key f (e ∷ es) a p first =
+    (f a p, found_first (key p) (key p) (f a p) (find nat_cmp (key p) (rekeyed key f es)) refl)
 there key f (e ∷ es) a p (later m) =
     elim (cases_eq (key p) (key e.1)) [
-      | inl same ↦ (f e.0 e.1, found_first (key p) (key e.1) (f e.0 e.1) (find nat_cmp (key p) (rekeyed key f es)) same)
-      | inr apart ↦ let rest = there key f es a p m in
-          (rest.0, found_later (key p) (key e.1) (Some (f e.0 e.1)) (find nat_cmp (key p) (rekeyed key f es)) apart ∙ rest.1)
+      | inl same ↦ (
+        f e.0 e.1,
+        found_first (key p) (key e.1) (f e.0 e.1)
+            (find nat_cmp (key p) (rekeyed key f es)) same,
+      )
+      | inr apart ↦ let rest = there key f es a p m in (
+        rest.0,
+        found_later (key p) (key e.1) (Some (f e.0 e.1))
+            (find nat_cmp (key p) (rekeyed key f es)) apart ∙ rest.1,
+      )
     ]
 
 -- no two values have one key
@@ -150,9 +176,11 @@ AreApart {X} key m = (a b : ℕ) (p q : X) → get m a ≡ Some p → get m b �
 
 module _ {X Y : Type 0} (key : X → ℕ) (f : ℕ → X → Y) (m : FinMap nat_cmp X) where
   -- each value under the new keys comes from one under the old
-  pub under : (x : ℕ) (y : Y) → get (from_entries {R = nat_cmp} (map (λ e. (key e.1, f e.0 e.1)) (entries m))) x ≡ Some y → Under key f m x y
+  pub under : (x : ℕ) (y : Y) → get (from_entries {R = nat_cmp} (map (λ e. (key e.1, f e.0 e.1)) (entries m)))
+      x ≡ Some y → Under key f m x y
   under x y is =
-      let s = source key f (entries m) x y (sym (get-from_entries nat_cmp_total (rekeyed key f (entries m)) x) ∙ is) in
+      let s = source key f (entries m) x y
+      (sym (get-from_entries nat_cmp_total (rekeyed key f (entries m)) x) ∙ is) in
       record {
         at = s.at;
         value = s.value;
@@ -162,10 +190,12 @@ module _ {X Y : Type 0} (key : X → ℕ) (f : ℕ → X → Y) (m : FinMap nat_
       }
 
   -- and each value under the old keys stands under its new one
-  pub get-rekeyed : AreApart key m → (a : ℕ) (p : X) → get m a ≡ Some p → get (from_entries {R = nat_cmp} (map (λ e. (key e.1, f e.0 e.1)) (entries m))) (key p) ≡ Some (f a p)
+  pub get-rekeyed : AreApart key m → (a : ℕ) (p : X) → get m a ≡ Some p
+      → get (from_entries {R = nat_cmp} (map (λ e. (key e.1, f e.0 e.1)) (entries m))) (key p) ≡ Some (f a p)
   get-rekeyed apart a p is =
       let found = there key f (entries m) a p (among-find a p (entries m) (sym (get-entries m a) ∙ is)) in
-      let it : get (from_entries {R = nat_cmp} (rekeyed key f (entries m))) (key p) ≡ Some found.0 = get-from_entries nat_cmp_total (rekeyed key f (entries m)) (key p) ∙ found.1 in
+      let it : get (from_entries {R = nat_cmp} (rekeyed key f (entries m))) (key p) ≡ Some found.0 =
+      get-from_entries nat_cmp_total (rekeyed key f (entries m)) (key p) ∙ found.1 in
       let u = under (key p) found.0 it in
       let same : u.at ≡ a = apart u.at a u.value p u.stands is u.keyed in
       let value : u.value ≡ p = some_same u.value p (sym u.stands ∙ ap (get m) same ∙ is) in

@@ -1,5 +1,5 @@
 -- What each command does with the places that were answered.
-use Rattle.std.proofs.Common.{◌≡◌, ℕ, ◌<◌, ◌≤◌, cond, Bool, true, false, List, Option, Some, None, refl, sym, ap, ◌∙◌, subst}
+use Rattle.std.proofs.Common.{◌≡◌, ℕ, ◌<◌, ◌≤◌, cond, Bool, true, false, Option, Some, None, refl, sym, ap, ◌∙◌, subst}
 use Rattle.std.specs.Prelude.{Result, Ok, Err, IfOk, T, if◌then◌else◌, option_and_then}
 use Rattle.std.specs.Option.{option_map_or}
 use Rattle.std.specs.FinMap.{FinMap, get, insert}
@@ -15,18 +15,16 @@ use Rattle.hd_model.specs.declared.data.Report.{Report}
 use Rattle.hd_model.specs.declared.data.Memory.{Memory}
 use Rattle.hd_model.specs.declared.data.Reply.{Reply}
 use Rattle.hd_model.specs.declared.data.Reply.TheVariants as reply
-use Rattle.hd_model.specs.declared.data.Make.{Make}
-use Rattle.hd_model.specs.declared.data.Make.TheVariants as make
 use Rattle.hd_model.specs.declared.command.Cmd.{Cmd}
 use Rattle.hd_model.specs.declared.command.Cmd.TheVariants as cmd
-use Rattle.hd_model.specs.State.{State, Handle, register_of, handle_register_of, handle_at, with_place}
+use Rattle.hd_model.specs.State.{State, Handle, handle_register_of, handle_at, with_place}
 use Rattle.hd_model.specs.Role.{pins}
 use Rattle.hd_model.specs.Command.{Outcome, answers, refuses}
 use Rattle.hd_model.specs.Places.{with_places, MayAnswer}
 use Rattle.hd_model.specs.Touched.{touched_by}
 use Rattle.hd_model.specs.Valid.{IsValid}
 use Rattle.hd_model.specs.Step.{StepOf, Step, pinned_by}
-use Rattle.hd_model.specs.Aging.{lowered_to, lowered_by_new, aged_by, aged_by_command, is_refused}
+use Rattle.hd_model.specs.Aging.{aged_by}
 use Rattle.hd_model.proofs.Placed.{step_placed}
 use Rattle.hd_model.proofs.Journals.{ages_placed}
 use Rattle.hd_world.specs.Store.{Machine}
@@ -289,7 +287,8 @@ module _ (m k : Machine) (caller : ℕ) (c : Cmd) (known : caller < m.numbers.ca
       }) (names-kept (touched_by c).makes_object m.names k.names names) aged
   plain-keeps (Err e) mine is does aged names = tt
 
-  pub plain-leaves : (r : Result Entry Memory) → IfOk r (λ e. e.cmd ≡ c) → IfOk r (λ e. LeavesHeap e k.state.handles k.heap)
+  pub plain-leaves : (r : Result Entry Memory) → IfOk r (λ e. e.cmd ≡ c)
+      → IfOk r (λ e. LeavesHeap e k.state.handles k.heap)
   plain-leaves (Ok e) is = plain-heap e k (ap (λ (d : Cmd). (touched_by d).places) is ∙ plain)
   plain-leaves (Err e) is = tt
 

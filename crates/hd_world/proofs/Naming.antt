@@ -23,14 +23,17 @@ module _ (f : Parts) (m : Machine) (view : machine_of f ≡ m) (stored : IsStore
   read : (o : Option Addr) → named_in m.names o ≡ option_map (id_at f.heap) o
   read o = ap (λ (n : Machine). named_in n.names o) (sym view) ∙ named-is f.heap o
 
-  read_at : (i : ℕ) (x : Option Addr) → i < length f.roots → x ≡ get_or f.roots i x → named_in m.names x ≡ get_or (map (option_map (id_at f.heap)) f.roots) i None
+  read_at : (i : ℕ) (x : Option Addr) → i < length f.roots → x ≡ get_or f.roots i x
+      → named_in m.names x ≡ get_or (map (option_map (id_at f.heap)) f.roots) i None
   read_at i x within is =
-      read x ∙ ap (option_map (id_at f.heap)) (is ∙ get_or_default f.roots i x None within) ∙ sym (field-read (id_at f.heap) f.roots i)
+      read x ∙ ap (option_map (id_at f.heap)) (is ∙ get_or_default f.roots i x None within)
+      ∙ sym (field-read (id_at f.heap) f.roots i)
 
   pub root-named : (i : ℕ) (x : Option Addr) → i < length f.roots → x ≡ get_or f.roots i x → IsNamed m.names x
   root-named i x within is =
       subst (λ (n : Machine). IsNamed n.names x) view
-      (objects_named f.heap x (λ y same. stored.whole.named y (subst (Contains f.roots) same (i, within, sym is))))
+      (objects_named f.heap x
+      (λ y same. stored.whole.named y (subst (Contains f.roots) same (i, within, sym is))))
 
   pub register-within : (c d : ℕ) → c < m.numbers.callers → d < 16 → 16 * c + d < length f.roots
   register-within c d known within =
@@ -40,23 +43,28 @@ module _ (f : Parts) (m : Machine) (view : machine_of f ≡ m) (stored : IsStore
   pub static-within : (k : ℕ) → k < 16 → 16 * callers_of f + k < length f.roots
   static-within k within = omega (arith, stored.roots)
 
-  pub register-is : (c d : ℕ) (x : Option Addr) → c < m.numbers.callers → d < 16 → x ≡ get_or f.roots (16 * c + d) x → named_in m.names x ≡ register_of m.state c d
+  pub register-is : (c d : ℕ) (x : Option Addr) → c < m.numbers.callers → d < 16
+      → x ≡ get_or f.roots (16 * c + d) x → named_in m.names x ≡ register_of m.state c d
   register-is c d x known within is =
       let mine : c < callers_of f = subst (λ (n : Machine). c < n.numbers.callers) (sym view) known in
       read_at (16 * c + d) x (register-within c d known within) is
-      ∙ sym (rows-get (callers_of f) c d (16 * c + d) (map (option_map (id_at f.heap)) f.roots) None refl mine within)
+      ∙ sym (rows-get (callers_of f) c d (16 * c + d)
+      (map (option_map (id_at f.heap)) f.roots) None refl mine within)
       ∙ ap (λ (n : Machine). register_of n.state c d) view
 
-  pub static-is : (k : ℕ) (x : Option Addr) → k < 16 → x ≡ get_or f.roots (16 * callers_of f + k) x → named_in m.names x ≡ static_of m.state k
+  pub static-is : (k : ℕ) (x : Option Addr) → k < 16 → x ≡ get_or f.roots (16 * callers_of f + k) x
+      → named_in m.names x ≡ static_of m.state k
   static-is k x within is =
       read_at (16 * callers_of f + k) x (static-within k within) is
-      ∙ sym (rest-get (callers_of f) k (16 * callers_of f + k) (map (option_map (id_at f.heap)) f.roots) None refl)
+      ∙ sym
+      (rest-get (callers_of f) k (16 * callers_of f + k) (map (option_map (id_at f.heap)) f.roots) None refl)
       ∙ ap (λ (n : Machine). static_of n.state k) view
 
   -- another root
   pub stored-root : (i : ℕ) (v : Option Addr) → IsNamed m.names v → IsStored (with_root f i v)
   stored-root i v named =
-      let objects : IfSome v (λ y. has_object f.heap y ≡ true) = named_objects f.heap v (subst (λ (n : Machine). IsNamed n.names v) (sym view) named) in
+      let objects : IfSome v (λ y. has_object f.heap y ≡ true) =
+      named_objects f.heap v (subst (λ (n : Machine). IsNamed n.names v) (sym view) named) in
       record {
         whole = record {
           fields = stored.whole.fields;
@@ -84,24 +92,38 @@ module _ (f : Parts) (m : Machine) (view : machine_of f ≡ m) (stored : IsStore
         uses = stored.uses;
       }
 
-  roots_set : (i : ℕ) (v : Option Addr) → map (option_map (id_at f.heap)) (set f.roots i v) ≡ set (map (option_map (id_at f.heap)) f.roots) i (named_in m.names v)
+  roots_set : (i : ℕ) (v : Option Addr) → map (option_map (id_at f.heap)) (set f.roots i v) ≡ set
+      (map (option_map (id_at f.heap)) f.roots) i (named_in m.names v)
   roots_set i v =
-      map-set (option_map (id_at f.heap)) f.roots i v ∙ ap (set (map (option_map (id_at f.heap)) f.roots) i) (sym (read v))
+      map-set (option_map (id_at f.heap)) f.roots i v
+      ∙ ap (set (map (option_map (id_at f.heap)) f.roots) i) (sym (read v))
 
-  pub machine-register : (c d : ℕ) (v : Option Addr) → c < m.numbers.callers → d < 16 → machine_of (with_root f (16 * c + d) v) ≡ record m { state = with_register m.state c d (named_in m.names v) }
+  pub machine-register : (c d : ℕ) (v : Option Addr) → c < m.numbers.callers → d < 16
+      → machine_of (with_root f (16 * c + d) v)
+      ≡ record m { state = with_register m.state c d (named_in m.names v) }
   machine-register c d v known within =
       let mine : c < callers_of f = subst (λ (n : Machine). c < n.numbers.callers) (sym view) known in
       let names = map (option_map (id_at f.heap)) f.roots in
-      let rows = ap (rows_of (callers_of f)) (roots_set (16 * c + d) v) ∙ rows-set (callers_of f) c d (16 * c + d) names (named_in m.names v) refl mine within in
-      let rest = ap (rest_of (callers_of f)) (roots_set (16 * c + d) v) ∙ rest-set_row (callers_of f) c d (16 * c + d) names (named_in m.names v) refl mine within in
-      (λ i. record (machine_of (with_root f (16 * c + d) v)) { state = record (state_of (with_root f (16 * c + d) v)) { registers = rows i; statics = rest i } })
+      let rows = ap (rows_of (callers_of f)) (roots_set (16 * c + d) v)
+      ∙ rows-set (callers_of f) c d (16 * c + d) names (named_in m.names v) refl mine within in
+      let rest = ap (rest_of (callers_of f)) (roots_set (16 * c + d) v)
+      ∙ rest-set_row (callers_of f) c d (16 * c + d) names (named_in m.names v) refl mine within in
+      (λ i. record (machine_of (with_root f (16 * c + d) v)) {
+        state = record (state_of (with_root f (16 * c + d) v)) { registers = rows i; statics = rest i };
+      })
       ∙ (λ i. record (view i) { state = with_register (view i).state c d (named_in m.names v) })
 
-  pub machine-static : (k : ℕ) (v : Option Addr) → machine_of (with_root f (16 * callers_of f + k) v) ≡ record m { state = with_static m.state k (named_in m.names v) }
+  pub machine-static : (k : ℕ) (v : Option Addr)
+      → machine_of (with_root f (16 * callers_of f + k) v)
+      ≡ record m { state = with_static m.state k (named_in m.names v) }
   machine-static k v =
       let at = 16 * callers_of f + k in
       let names = map (option_map (id_at f.heap)) f.roots in
-      let rows = ap (rows_of (callers_of f)) (roots_set at v) ∙ rows-set_rest (callers_of f) k at names (named_in m.names v) refl in
-      let rest = ap (rest_of (callers_of f)) (roots_set at v) ∙ rest-set (callers_of f) k at names (named_in m.names v) refl in
-      (λ i. record (machine_of (with_root f at v)) { state = record (state_of (with_root f at v)) { registers = rows i; statics = rest i } })
+      let rows = ap (rows_of (callers_of f)) (roots_set at v)
+      ∙ rows-set_rest (callers_of f) k at names (named_in m.names v) refl in
+      let rest = ap (rest_of (callers_of f)) (roots_set at v)
+      ∙ rest-set (callers_of f) k at names (named_in m.names v) refl in
+      (λ i. record (machine_of (with_root f at v)) {
+        state = record (state_of (with_root f at v)) { registers = rows i; statics = rest i };
+      })
       ∙ (λ i. record (view i) { state = with_static (view i).state k (named_in m.names v) })

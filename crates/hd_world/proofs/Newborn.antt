@@ -7,7 +7,7 @@ use Rattle.std.proofs.lemmas.Bool.{cases_eq}
 use Rattle.std.proofs.lemmas.List.{length-set, length-replicate}
 use Rattle.hd_model.specs.declared.data.Id.{Id}
 use Rattle.hd_model.specs.declared.data.Addr.{Addr}
-use Rattle.hd_model.specs.State.{Object, last_serial, identity_of, with_object, with_serial, used_of as machine_used}
+use Rattle.hd_model.specs.State.{Object, last_serial, identity_of, with_object, with_serial, total_size}
 use Rattle.hd_model.specs.Scene.{is_object, fields_in, generation_in, generation_at, IsField}
 use Rattle.hd_model.specs.Heap.{Placed, Region, Heap, region_of, region_at, region_generation, is_held, object_in, object_at, is_carded, cells_of, used_of, id_at}
 use Rattle.hd_model.specs.Ages.{age_of}
@@ -25,7 +25,7 @@ use Rattle.hd_world.specs.Objects.{IsRefused}
 use Rattle.std.proofs.Math.Nat.{le-max_left, le-max_right}
 use Rattle.hd_world.proofs.Counted.{used-is}
 use Rattle.hd_world.proofs.Maps.{get-put, get-put_other}
-use Rattle.hd_world.proofs.Sums.{share, sum-insert}
+use Rattle.hd_model.proofs.Sums.{share, sum-insert}
 use Rattle.hd_world.specs.Places.{KeepsNames}
 use Rattle.hd_world.proofs.Readings.{no_some, names-get, objects-get}
 use Rattle.hd_world.proofs.Standing.{has-placed}
@@ -46,7 +46,9 @@ absent : (o : Option Placed) → is_some o ≡ false → o ≡ None
 absent None e = refl
 absent (Some p) e = absurd (subst T e tt)
 
-module _ (f : Parts) (k : Heap) (at : Addr) (id : Id) (count : ℕ) (fin : Bool) (stored : IsStored f) (made : IsMade f.heap k at (new_object id count fin)) (vacant : get (objects_by_id f.heap) id.0 ≡ None) where
+module _ (f : Parts) (k : Heap) (at : Addr) (id : Id) (count : ℕ) (fin : Bool) (stored : IsStored f)
+    (made : IsMade f.heap k at (new_object id count fin))
+    (vacant : get (objects_by_id f.heap) id.0 ≡ None) where
   h : Heap
   h = f.heap
 
@@ -54,7 +56,8 @@ module _ (f : Parts) (k : Heap) (at : Addr) (id : Id) (count : ℕ) (fin : Bool)
   new = new_object id count fin
 
   put_at : k.objects ≡ insert f.heap.objects at.0 (new_object id count fin)
-  put_at = ap (λ (g : Heap). g.objects) made.made ∙ ap (λ a. insert f.heap.objects a (new_object id count fin)) (sym made.place)
+  put_at = ap (λ (g : Heap). g.objects) made.made
+      ∙ ap (λ a. insert f.heap.objects a (new_object id count fin)) (sym made.place)
 
   -- an object that was there keeps its generation
   kept_generation : (b : Addr) → region_generation k (region_of b) ≡ region_generation f.heap (region_of b)
@@ -62,13 +65,18 @@ module _ (f : Parts) (k : Heap) (at : Addr) (id : Id) (count : ℕ) (fin : Bool)
       ap (λ (g : Heap). region_generation g (region_of b)) made.made
       ∙ elim (cases_eq (region_of b) (region_of at)) [
         | inl same ↦ ap (λ (o : Option Region). region_of_option o)
-            (ap (get (insert f.heap.regions (region_of at) put_region)) same ∙ get-put f.heap.regions (region_of at) put_region)
+            (ap (get (insert f.heap.regions (region_of at) put_region)) same
+            ∙ get-put f.heap.regions (region_of at) put_region)
             ∙ sym made.young ∙ ap (region_generation f.heap) (sym same)
-        | inr apart ↦ ap (λ (o : Option Region). region_of_option o) (get-put_other f.heap.regions (region_of at) put_region (region_of b) apart)
+        | inr apart ↦ ap (λ (o : Option Region). region_of_option o)
+            (get-put_other f.heap.regions (region_of at) put_region (region_of b) apart)
       ]
     where
       put_region : Region
-      put_region = record { generation = 0; fill = (region_at f.heap (region_of at)).fill + cells_of (new_object id count fin) }
+      put_region = record {
+        generation = 0;
+        fill = (region_at f.heap (region_of at)).fill + cells_of (new_object id count fin);
+      }
 
   was_none : get f.heap.objects at.0 ≡ None
   was_none = absent (get f.heap.objects at.0) (sym (has-placed f.heap at) ∙ made.was_free)
@@ -76,7 +84,8 @@ module _ (f : Parts) (k : Heap) (at : Addr) (id : Id) (count : ℕ) (fin : Bool)
   pub adds : Adds f.heap k at.0 (new_object id count fin)
   adds = record {
     vacant = was_none;
-    fresh = λ b p is same. no_some (read_object f.heap b p) (sym (objects-get f.heap stored.identities b p is) ∙ ap (get (objects_by_id f.heap)) same ∙ vacant);
+    fresh = λ b p is same. no_some (read_object f.heap b p)
+        (sym (objects-get f.heap stored.identities b p is) ∙ ap (get (objects_by_id f.heap)) same ∙ vacant);
     objects = put_at;
     generations = λ b there. kept_generation b;
   }
@@ -85,7 +94,8 @@ module _ (f : Parts) (k : Heap) (at : Addr) (id : Id) (count : ℕ) (fin : Bool)
   there = ap (λ m. get m at.0) put_at ∙ get-put f.heap.objects at.0 (new_object id count fin)
 
   elsewhere : (x : Addr) → (x.0 ≡ at.0 → ⊥) → get k.objects x.0 ≡ get f.heap.objects x.0
-  elsewhere x apart = ap (λ m. get m x.0) put_at ∙ get-put_other f.heap.objects at.0 (new_object id count fin) x.0 apart
+  elsewhere x apart = ap (λ m. get m x.0) put_at
+      ∙ get-put_other f.heap.objects at.0 (new_object id count fin) x.0 apart
 
   object_same : (x : Addr) → (x.0 ≡ at.0 → ⊥) → object_at k x ≡ object_at f.heap x
   object_same x apart =
@@ -94,12 +104,14 @@ module _ (f : Parts) (k : Heap) (at : Addr) (id : Id) (count : ℕ) (fin : Bool)
 
   not_there : (x : Addr) → is_object (object_at f.heap) x ≡ true → x.0 ≡ at.0 → ⊥
   not_there x is same =
-      subst T (sym (placed f.heap x is) ∙ ap (λ b. is_some (get f.heap.objects b)) same ∙ ap is_some was_none) tt
+      subst T (sym (placed f.heap x is) ∙ ap (λ b. is_some (get f.heap.objects b)) same ∙ ap is_some was_none)
+      tt
 
   still : (x : Addr) → is_object (object_at f.heap) x ≡ true → is_object (object_at k) x ≡ true
   still x is = ap is_some (object_same x (not_there x is)) ∙ is
 
-  generation_same : (x : Addr) → is_object (object_at f.heap) x ≡ true → generation_at (object_at k) x ≡ generation_at (object_at f.heap) x
+  generation_same : (x : Addr) → is_object (object_at f.heap) x ≡ true
+      → generation_at (object_at k) x ≡ generation_at (object_at f.heap) x
   generation_same x is = ap generation_in (object_same x (not_there x is))
 
   same_address : (x y : Addr) → x.0 ≡ y.0 → x ≡ y
@@ -110,7 +122,8 @@ module _ (f : Parts) (k : Heap) (at : Addr) (id : Id) (count : ℕ) (fin : Bool)
   field_was x y field =
       elim (cases_eq x.0 at.0) [
         | inl same ↦ absurd (no_names count y (subst (λ o. Contains (fields_in o) (Some y))
-            (ap (object_at k) (same_address x at same) ∙ ap (option_map (object_in (region_generation k (region_of at)))) there) field))
+            (ap (object_at k) (same_address x at same)
+            ∙ ap (option_map (object_in (region_generation k (region_of at)))) there) field))
         | inr apart ↦ (apart, subst (λ o. Contains (fields_in o) (Some y)) (object_same x apart) field)
       ]
 
@@ -118,15 +131,18 @@ module _ (f : Parts) (k : Heap) (at : Addr) (id : Id) (count : ℕ) (fin : Bool)
   is_there x y field = by (object_at f.heap x) refl
     where
       by : (o : Option (Object Addr)) → object_at f.heap x ≡ o → is_object (object_at f.heap) x ≡ true
-      by None is = let none = subst (λ o. Contains (fields_in o) (Some y)) is field in let low = none.1 in absurd (omega arith)
+      by None is = let none = subst (λ o. Contains (fields_in o) (Some y)) is field in let low =
+          none.1 in absurd (omega arith)
       by (Some o) is = ap is_some is
 
   used_more : used_of k ≡ used_of f.heap + (count + 3)
   used_more =
       let sum = sum-insert cells_of f.heap.objects at.0 (new_object id count fin) in
       let none : share cells_of (get f.heap.objects at.0) ≡ 0 = ap (share cells_of) was_none in
-      let is : used_of k ≡ sum_by cells_of (values (insert f.heap.objects at.0 (new_object id count fin))) = ap (λ m. sum_by cells_of (values m)) put_at in
-      let size : cells_of (new_object id count fin) ≡ count + 3 = ap (λ n. n + 3) (length-replicate count None) in
+      let is : used_of k ≡ sum_by cells_of (values (insert f.heap.objects at.0 (new_object id count fin))) =
+      ap (λ m. sum_by cells_of (values m)) put_at in
+      let size : cells_of (new_object id count fin) ≡ count + 3 =
+      ap (λ n. n + 3) (length-replicate count None) in
       omega (arith, sum, none, is, size)
 
   limit_same : k.limit ≡ f.heap.limit
@@ -143,22 +159,31 @@ module _ (f : Parts) (k : Heap) (at : Addr) (id : Id) (count : ℕ) (fin : Bool)
   held_was : (r : ℕ) → (r ≡ region_of at → ⊥) → is_held k r ≡ true → is_held f.heap r ≡ true
   held_was r apart held =
       ap is_some (sym (get-put_other f.heap.regions (region_of at)
-      (record { generation = 0; fill = (region_at f.heap (region_of at)).fill + cells_of (new_object id count fin) }) r apart))
+      (record {
+        generation = 0;
+        fill = (region_at f.heap (region_of at)).fill + cells_of (new_object id count fin);
+      }) r apart))
       ∙ sym (ap (λ (g : Heap). is_held g r) made.made) ∙ held
 
   -- each held region has an object still
   full_made : HasNoEmptyRegion k
   full_made r held =
       elim (cases_eq r (region_of at)) [
-        | inl same ↦ record { at = at; object = ap (λ o. is_some (option_map (object_in (region_generation k (region_of at))) o)) there; region = sym same }
-        | inr apart ↦ let s = stored.full r (held_was r apart held) in record { at = s.at; object = still s.at s.object; region = s.region }
+        | inl same ↦ record {
+          at = at;
+          object = ap (λ o. is_some (option_map (object_in (region_generation k (region_of at))) o)) there;
+          region = sym same;
+        }
+        | inr apart ↦ let s = stored.full r (held_was r apart held) in
+            record { at = s.at; object = still s.at s.object; region = s.region }
       ]
 
   -- the parts with the new object, another last serial and room for one more that waits
   abbrev pub made_parts : List ℕ → Queue → Parts
   made_parts serials q = record f { heap = k; serials = serials; queue = q }
 
-  pub stored-made : (serials : List ℕ) (q : Queue) → length serials ≡ length f.serials → q.waiting ≡ f.queue.waiting → len f.heap.objects + 1 ≤ q.room → IsStored (made_parts serials q)
+  pub stored-made : (serials : List ℕ) (q : Queue) → length serials ≡ length f.serials
+      → q.waiting ≡ f.queue.waiting → len f.heap.objects + 1 ≤ q.room → IsStored (made_parts serials q)
   stored-made serials q size waits enough = record {
     whole = record {
       fields = λ x y field. still y (stored.whole.fields x y (field_was x y field).1);
@@ -171,8 +196,12 @@ module _ (f : Parts) (k : Heap) (at : Addr) (id : Id) (count : ℕ) (fin : Bool)
     };
     identities = identities-add f.heap k at.0 (new_object id count fin) adds stored.identities;
     ages = record {
-      targets = λ slot row x is e. subst (λ g. age_of f.ages slot ≤ g) (sym (generation_same x (stored.whole.targets slot row x is e))) (stored.ages.targets slot row x is e);
-      secondaries = λ slot row x is e. subst (λ g. age_of f.ages slot ≤ g) (sym (generation_same x (stored.whole.secondaries slot row x is e))) (stored.ages.secondaries slot row x is e);
+      targets = λ slot row x is e. subst (λ g. age_of f.ages slot ≤ g)
+          (sym (generation_same x (stored.whole.targets slot row x is e)))
+          (stored.ages.targets slot row x is e);
+      secondaries = λ slot row x is e. subst (λ g. age_of f.ages slot ≤ g)
+          (sym (generation_same x (stored.whole.secondaries slot row x is e)))
+          (stored.ages.secondaries slot row x is e);
     };
     cards = λ x y field younger.
         let was = field_was x y field in
@@ -181,7 +210,9 @@ module _ (f : Parts) (k : Heap) (at : Addr) (id : Id) (count : ℕ) (fin : Bool)
         cards_same x ∙ stored.cards x y was.1 (omega arith);
     full = full_made;
     room = omega (arith, len_more, enough);
-    within = let size : cells_of (new_object id count fin) ≡ count + 3 = ap (λ n. n + 3) (length-replicate count None) in omega (arith, used_more, limit_same, made.fits, size);
+    within = let size : cells_of (new_object id count fin) ≡ count + 3 =
+        ap (λ n. n + 3) (length-replicate count None) in
+        omega (arith, used_more, limit_same, made.fits, size);
     limit = omega (arith, limit_same, stored.limit);
     roots = stored.roots;
     serials = size ∙ stored.serials;
@@ -202,17 +233,30 @@ module _ (f : Parts) (k : Heap) (at : Addr) (id : Id) (count : ℕ) (fin : Bool)
     registered = fin;
   }
 
-  pub machine-made : (serials : List ℕ) (q : Queue) → q.waiting ≡ f.queue.waiting → machine_of (made_parts serials q) ≡ record (machine_of f) { state = record (with_object (state_of f) id (fresh_object count fin)) { serials = serials }; names = insert (names_of f.heap) at.0 id; heap = without_spare k }
+  pub machine-made : (serials : List ℕ) (q : Queue) → q.waiting ≡ f.queue.waiting
+      → machine_of (made_parts serials q)
+      ≡ record (machine_of f) {
+        state = record (with_object (state_of f) id (fresh_object count fin)) { serials = serials };
+        names =
+            insert (names_of f.heap) at.0 id;
+        heap = without_spare k;
+      }
   machine-made serials q waits = λ i. record {
     numbers = record { heap = limit_same i; blocks = f.table.blocks; callers = callers_of f };
     state = record {
-      objects = (objects-add f.heap k at.0 (new_object id count fin) adds stored.identities stored.whole.fields ∙ ap (insert (objects_by_id f.heap) id.0) read_new) i;
-      handles = rows-add f.heap k at.0 (new_object id count fin) adds f.table.rows stored.whole.targets stored.whole.secondaries i;
-      registers = rows_of (callers_of f) (roots-add f.heap k at.0 (new_object id count fin) adds f.roots stored.whole.named i);
+      objects =
+          (objects-add f.heap k at.0 (new_object id count fin) adds stored.identities stored.whole.fields
+          ∙ ap (insert (objects_by_id f.heap) id.0) read_new) i;
+      handles = rows-add f.heap k at.0 (new_object id count fin) adds f.table.rows stored.whole.targets
+          stored.whole.secondaries i;
+      registers = rows_of (callers_of f)
+          (roots-add f.heap k at.0 (new_object id count fin) adds f.roots stored.whole.named i);
       handle_registers = f.handle_registers;
-      statics = rest_of (callers_of f) (roots-add f.heap k at.0 (new_object id count fin) adds f.roots stored.whole.named i);
+      statics = rest_of (callers_of f)
+          (roots-add f.heap k at.0 (new_object id count fin) adds f.roots stored.whole.named i);
       board = f.board;
-      queue = (ap (map (id_at k)) waits ∙ queue-add f.heap k at.0 (new_object id count fin) adds f.queue.waiting stored.whole.queue) i;
+      queue = (ap (map (id_at k)) waits ∙ queue-add f.heap k at.0
+          (new_object id count fin) adds f.queue.waiting stored.whole.queue) i;
       places = (state_of f).places;
       blocks = f.table.uses;
       serials = serials;
@@ -223,33 +267,47 @@ module _ (f : Parts) (k : Heap) (at : Addr) (id : Id) (count : ℕ) (fin : Bool)
   }
 
 -- an object with a caller's next serial
-module _ (f : Parts) (m : Machine) (view : machine_of f ≡ m) (stored : IsStored f) (k : Heap) (at : Addr) (id : Id) (count : ℕ) (fin : Bool) (made : IsMade f.heap k at (new_object id count fin)) (caller serial : ℕ) (last : serial ≡ last_serial m.state caller + 1) (id_is : id ≡ identity_of caller serial) (vacant : get m.state.objects (identity_of caller (last_serial m.state caller + 1)).0 ≡ None) (q : Queue) (waits : q.waiting ≡ f.queue.waiting) (enough : len f.heap.objects + 1 ≤ q.room) where
+module _ (f : Parts) (m : Machine) (view : machine_of f ≡ m) (stored : IsStored f) (k : Heap) (at : Addr)
+    (id : Id) (count : ℕ) (fin : Bool) (made : IsMade f.heap k at (new_object id count fin))
+    (caller serial : ℕ) (last : serial ≡ last_serial m.state caller + 1)
+    (id_is : id ≡ identity_of caller serial)
+    (vacant : get m.state.objects (identity_of caller (last_serial m.state caller + 1)).0 ≡ None) (q : Queue)
+    (waits : q.waiting ≡ f.queue.waiting) (enough : len f.heap.objects + 1 ≤ q.room) where
   free : get (objects_by_id f.heap) id.0 ≡ None
   free =
       ap (λ (i : Id). get (objects_by_id f.heap) i.0) (id_is ∙ ap (identity_of caller) last)
-      ∙ ap (λ (n : Machine). get n.state.objects (identity_of caller (last_serial m.state caller + 1)).0) view ∙ vacant
+      ∙ ap (λ (n : Machine). get n.state.objects (identity_of caller (last_serial m.state caller + 1)).0) view
+      ∙ vacant
 
   pub stored-next : IsStored (record f { heap = k; serials = set f.serials caller serial; queue = q })
-  stored-next = stored-made f k at id count fin stored made free (set f.serials caller serial) q (length-set f.serials caller serial) waits enough
+  stored-next = stored-made f k at id count fin stored made free (set f.serials caller serial) q
+      (length-set f.serials caller serial) waits enough
 
   -- the address of the new object had no name
-  pub names-next : KeepsNames m.names (insert m.names at.0 (identity_of caller (last_serial m.state caller + 1)))
+  pub names-next : KeepsNames m.names
+      (insert m.names at.0 (identity_of caller (last_serial m.state caller + 1)))
   names-next a x is =
       elim (cases_eq a at.0) [
-        | inl same ↦ absurd (no_some x (sym is ∙ ap (get m.names) same ∙ ap (λ (n : Machine). get n.names at.0) (sym view)
-            ∙ names-get f.heap at.0 ∙ ap (option_map (λ (p : Placed). p.id)) (adds f k at id count fin stored made free).vacant))
-        | inr apart ↦ get-put_other m.names at.0 (identity_of caller (last_serial m.state caller + 1)) a apart ∙ is
+        | inl same ↦ absurd
+            (no_some x (sym is ∙ ap (get m.names) same ∙ ap (λ (n : Machine). get n.names at.0) (sym view)
+            ∙ names-get f.heap at.0 ∙ ap (option_map (λ (p : Placed). p.id))
+            (adds f k at id count fin stored made free).vacant))
+        | inr apart ↦ get-put_other m.names at.0 (identity_of caller (last_serial m.state caller + 1)) a apart
+            ∙ is
       ]
 
-  pub machine-next : machine_of (record f { heap = k; serials = set f.serials caller serial; queue = q }) ≡ record m {
-    state = with_serial (with_object m.state (identity_of caller (last_serial m.state caller + 1)) (fresh_object count fin)) caller (last_serial m.state caller + 1);
-    names = insert m.names at.0 (identity_of caller (last_serial m.state caller + 1));
-    heap = without_spare k;
-  }
+  pub machine-next : machine_of (record f { heap = k; serials = set f.serials caller serial; queue = q })
+      ≡ record m {
+        state = with_serial (with_object m.state (identity_of caller (last_serial m.state caller + 1))
+            (fresh_object count fin)) caller (last_serial m.state caller + 1);
+        names = insert m.names at.0 (identity_of caller (last_serial m.state caller + 1));
+        heap = without_spare k;
+      }
   machine-next =
       machine-made f k at id count fin stored made free (set f.serials caller serial) q waits
       ∙ (λ i. record (view i) {
-        state = with_serial (with_object (view i).state ((id_is ∙ ap (identity_of caller) last) i) (fresh_object count fin)) caller (last i);
+        state = with_serial (with_object (view i).state ((id_is ∙ ap (identity_of caller) last) i)
+            (fresh_object count fin)) caller (last i);
         names = insert (view i).names at.0 ((id_is ∙ ap (identity_of caller) last) i);
         heap = without_spare k;
       })
@@ -259,20 +317,24 @@ abbrev pub IsRoomier : Queue → Queue → Type 0
 IsRoomier old new = (new.waiting ≡ old.waiting) × (old.room ≤ new.room)
 
 pub roomier : (q w : Queue) (n : ℕ) → w ≡ record q { room = max n q.room } → IsRoomier q w
-roomier q w n is = let same = ap (λ (v : Queue). v.room) is in let most = le-max_right n q.room in (ap (λ (v : Queue). v.waiting) is, omega (arith, same, most))
+roomier q w n is = let same = ap (λ (v : Queue). v.room) is in let most =
+    le-max_right n q.room in (ap (λ (v : Queue). v.waiting) is, omega (arith, same, most))
 
 pub room_enough : (q w : Queue) (n : ℕ) → w ≡ record q { room = max n q.room } → n ≤ w.room
-room_enough q w n is = let same = ap (λ (v : Queue). v.room) is in let most = le-max_left n q.room in omega (arith, same, most)
+room_enough q w n is = let same = ap (λ (v : Queue). v.room) is in let most =
+    le-max_left n q.room in omega (arith, same, most)
 
 pub either_roomier : (q w : Queue) (n : ℕ) → (w ≡ q) ⊎ (w ≡ record q { room = max n q.room }) → IsRoomier q w
 either_roomier q w n is =
     elim is [
-      | inl same ↦ let room = ap (λ (v : Queue). v.room) same in (ap (λ (v : Queue). v.waiting) same, omega (arith, room))
+      | inl same ↦ let room = ap (λ (v : Queue). v.room) same in
+          (ap (λ (v : Queue). v.waiting) same, omega (arith, room))
       | inr more ↦ roomier q w n more
     ]
 
 -- more room in the queue changes nothing else
-module _ (f : Parts) (m : Machine) (view : machine_of f ≡ m) (stored : IsStored f) (k : Heap) (same : k ≡ f.heap) (q : Queue) (more : IsRoomier f.queue q) where
+module _ (f : Parts) (m : Machine) (view : machine_of f ≡ m) (stored : IsStored f) (k : Heap)
+    (same : k ≡ f.heap) (q : Queue) (more : IsRoomier f.queue q) where
   pub machine-room : machine_of (record f { heap = k; queue = q }) ≡ m
   machine-room =
       (λ i. machine_of (record f { heap = same i; queue = record q { waiting = more.0 i } })) ∙ view
@@ -280,7 +342,8 @@ module _ (f : Parts) (m : Machine) (view : machine_of f ≡ m) (stored : IsStore
   pub stored-room : IsStored (record f { heap = k; queue = q })
   stored-room =
       subst (λ h. IsStored (record f { heap = h; queue = q })) (sym same)
-      (subst (λ waiting. IsStored (record f { queue = record { waiting = waiting; room = q.room } })) (sym more.0) (record {
+      (subst (λ waiting. IsStored (record f { queue = record { waiting = waiting; room = q.room } }))
+      (sym more.0) (record {
         whole = stored.whole;
         identities = stored.identities;
         ages = stored.ages;
@@ -297,16 +360,23 @@ module _ (f : Parts) (m : Machine) (view : machine_of f ≡ m) (stored : IsStore
       }))
 
 -- a refused object, in the words of the machine
-module _ (f : Parts) (m : Machine) (view : machine_of f ≡ m) (stored : IsStored f) (k : Heap) (q : Queue) (more : IsRoomier f.queue q) where
-  cells_are : used_of f.heap ≡ machine_used m.state
-  cells_are = sym (used-is f.heap stored.identities) ∙ ap (λ (n : Machine). machine_used n.state) view
+module _ (f : Parts) (m : Machine) (view : machine_of f ≡ m) (stored : IsStored f) (k : Heap) (q : Queue)
+    (more : IsRoomier f.queue q) where
+  cells_are : used_of f.heap ≡ total_size m.state
+  cells_are = sym (used-is f.heap stored.identities) ∙ ap (λ (n : Machine). total_size n.state) view
 
   limit_is : f.heap.limit ≡ m.numbers.heap
   limit_is = ap (λ (n : Machine). n.numbers.heap) view
 
-  pub refused-next : (cells : ℕ) (fault : NewFault) → IsRefusedBy f.heap k cells fault → IsRefused m (machine_of (record f { heap = k; queue = q })) cells fault
-  refused-next cells (Full used size) refused =
-      (machine-room f m view stored k refused.0 q more, refused.1 ∙ cells_are, refused.2, omega (arith, refused.3, cells_are, limit_is))
+  pub refused-next : (cells : ℕ) (fault : NewFault) → IsRefusedBy f.heap k cells fault
+      → IsRefused m (machine_of (record f { heap = k; queue = q })) cells fault
+  refused-next cells (Full used size) refused = (
+    machine-room f m view stored k refused.0 q more,
+    refused.1
+        ∙ cells_are,
+    refused.2,
+    omega (arith, refused.3, cells_are, limit_is),
+  )
   refused-next cells Memory refused =
       (machine-room f m view stored k refused.0 q more, omega (arith, refused.1, cells_are, limit_is))
 
@@ -314,5 +384,6 @@ module _ (f : Parts) (m : Machine) (view : machine_of f ≡ m) (stored : IsStore
   refused_same cells (Full used size) refused = refused.0
   refused_same cells Memory refused = refused.0
 
-  pub stored-refused : (cells : ℕ) (fault : NewFault) → IsRefusedBy f.heap k cells fault → IsStored (record f { heap = k; queue = q })
+  pub stored-refused : (cells : ℕ) (fault : NewFault) → IsRefusedBy f.heap k cells fault
+      → IsStored (record f { heap = k; queue = q })
   stored-refused cells fault refused = stored-room f m view stored k (refused_same cells fault refused) q more

@@ -26,7 +26,8 @@ nothing_mapped f zero = refl
 nothing_mapped f (suc n) = ap (λ xs. None ∷ xs) (nothing_mapped f n)
 
 no_entries : {A : Type 0} → entries (empty {X = A} {R = nat_cmp}) ≡ []
-no_entries {A} = by (entries (empty {X = A} {R = nat_cmp})) (sym (len-entries (empty {X = A} {R = nat_cmp})) ∙ len-empty nat_cmp A)
+no_entries {A} = by (entries (empty {X = A} {R = nat_cmp}))
+    (sym (len-entries (empty {X = A} {R = nat_cmp})) ∙ len-empty nat_cmp A)
   where
     by : (es : List (ℕ × A)) → length es ≡ 0 → es ≡ []
     by [] none = refl
@@ -48,7 +49,8 @@ module _ (limit blocks callers : ℕ) where
   no_field : (x y : Addr) → Contains (fields_in (object_at (empty_heap limit) x)) (Some y) → ⊥
   no_field x y field =
       let none : object_at (empty_heap limit) x ≡ None =
-      ap (option_map (object_in (region_generation (empty_heap limit) (region_of x)))) (get-empty nat_cmp x.0) in
+      ap (option_map (object_in (region_generation (empty_heap limit) (region_of x))))
+      (get-empty nat_cmp x.0) in
       not_in_none (Some y) (subst (λ (o : Option (Object Addr)). Contains (fields_in o) (Some y)) none field)
 
   no_region : (r : ℕ) → is_held (empty_heap limit) r ≡ true → ⊥
@@ -56,8 +58,10 @@ module _ (limit blocks callers : ℕ) where
 
   -- parts are those of an opened store where each is as it was made
   pub are_opened :
-      (f : Parts) → f.heap ≡ empty_heap limit → f.table ≡ empty_table blocks → f.ages ≡ replicate (4 * blocks) 2
-      → f.queue ≡ record { waiting = []; room = 0 } → f.roots ≡ replicate (16 * callers + 16) None → f.handle_registers ≡ replicate callers (replicate 16 None)
+      (f : Parts) → f.heap ≡ empty_heap limit → f.table ≡ empty_table blocks
+      → f.ages ≡ replicate (4 * blocks) 2
+      → f.queue ≡ record { waiting = []; room = 0 } → f.roots ≡ replicate (16 * callers + 16) None
+      → f.handle_registers ≡ replicate callers (replicate 16 None)
       → f.board ≡ replicate 16 None → f.serials ≡ replicate callers 0 → opened ≡ f
   are_opened f heap table ages queue roots handle_registers board serials = λ i. record {
     heap = sym heap i;
@@ -89,9 +93,12 @@ module _ (limit blocks callers : ℕ) where
     cards = λ x y field younger. absurd (no_field x y field);
     full = λ r held. absurd (no_region r held);
     room = let none = len-empty nat_cmp Placed in omega (arith, none);
-    within = let none : sum_by cells_of (values (empty {X = Placed} {R = nat_cmp})) ≡ 0 = ap (λ (es : List (ℕ × Placed)). sum_by cells_of (map (λ e. e.1) es)) no_entries in omega (arith, none);
+    within = let none : sum_by cells_of (values (empty {X = Placed} {R = nat_cmp})) ≡ 0 =
+        ap (λ (es : List (ℕ × Placed)). sum_by cells_of (map (λ e. e.1) es)) no_entries in
+        omega (arith, none);
     limit = small;
-    roots = ap (λ n. 16 * n + 16) (length-replicate callers (replicate 16 None)) ∙ sym (length-replicate (16 * callers + 16) None);
+    roots = ap (λ n. 16 * n + 16) (length-replicate callers (replicate 16 None))
+        ∙ sym (length-replicate (16 * callers + 16) None);
     serials = length-replicate callers 0 ∙ sym (length-replicate callers (replicate 16 None));
     clumps = sym (length-replicate (4 * blocks) 2);
     blocks = few;
@@ -100,15 +107,18 @@ module _ (limit blocks callers : ℕ) where
 
   pub names-opened : names_of (empty_heap limit) ≡ empty
   unfolding names_of
-  names-opened = ap (λ (es : List (ℕ × Placed)). from_entries {R = nat_cmp} (map (λ e. (e.0, e.1.id)) es)) no_entries
+  names-opened =
+      ap (λ (es : List (ℕ × Placed)). from_entries {R = nat_cmp} (map (λ e. (e.0, e.1.id)) es)) no_entries
 
   objects-opened : objects_by_id (empty_heap limit) ≡ empty
   unfolding objects_by_id
-  objects-opened = ap (λ (es : List (ℕ × Placed)). from_entries {R = nat_cmp} (map (λ e. (e.1.id.0, read_object (empty_heap limit) e.0 e.1)) es)) no_entries
+  objects-opened = ap (λ (es : List (ℕ × Placed)). from_entries {R = nat_cmp}
+      (map (λ e. (e.1.id.0, read_object (empty_heap limit) e.0 e.1)) es)) no_entries
 
   rows-opened : rows_by_id (empty_heap limit) empty ≡ empty
   unfolding rows_by_id
-  rows-opened = ap (λ (es : List (ℕ × Handle Addr)). from_entries {R = nat_cmp} (map (λ e. (e.0, rename_handle (id_at (empty_heap limit)) e.1)) es)) no_entries
+  rows-opened = ap (λ (es : List (ℕ × Handle Addr)). from_entries {R = nat_cmp}
+      (map (λ e. (e.0, rename_handle (id_at (empty_heap limit)) e.1)) es)) no_entries
 
   none_named : map (option_map (id_at (empty_heap limit))) opened.roots ≡ replicate (16 * callers + 16) None
   none_named = nothing_mapped (id_at (empty_heap limit)) (16 * callers + 16)
@@ -116,12 +126,14 @@ module _ (limit blocks callers : ℕ) where
   size : callers_of opened ≡ callers
   size = length-replicate callers (replicate 16 None)
 
-  registers-opened : rows_of (callers_of opened) (map (option_map (id_at (empty_heap limit))) opened.roots) ≡ replicate (callers_of opened) (replicate 16 None)
+  registers-opened : rows_of (callers_of opened) (map (option_map (id_at (empty_heap limit))) opened.roots)
+      ≡ replicate (callers_of opened) (replicate 16 None)
   registers-opened =
       ap (rows_of (callers_of opened)) none_named
       ∙ rows-first (callers_of opened) 16 (16 * callers + 16) None (ap (λ n. 16 * n + 16) (sym size))
 
-  statics-opened : rest_of (callers_of opened) (map (option_map (id_at (empty_heap limit))) opened.roots) ≡ replicate 16 None
+  statics-opened : rest_of (callers_of opened)
+      (map (option_map (id_at (empty_heap limit))) opened.roots) ≡ replicate 16 None
   statics-opened =
       ap (rest_of (callers_of opened)) none_named
       ∙ rest-first (callers_of opened) 16 (16 * callers + 16) None (ap (λ n. 16 * n + 16) (sym size))

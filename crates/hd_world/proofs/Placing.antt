@@ -26,15 +26,19 @@ first_block : (block : ℕ) → block * 64 / 64 ≡ block
 first_block block = omega arith
 
 -- no handle stands in a block without a use
-pub vacant_first : (m : Machine) (block : ℕ) → HasHandles m.numbers m.state → use_of m.state block ≡ None → handle_at m.state (first_slot block) ≡ None
+pub vacant_first : (m : Machine) (block : ℕ) → HasHandles m.numbers m.state → use_of m.state block ≡ None
+    → handle_at m.state (first_slot block) ≡ None
 vacant_first m block handles unused = by (handle_at m.state (first_slot block)) refl
   where
-    by : (o : Option (Handle Id)) → handle_at m.state (first_slot block) ≡ o → handle_at m.state (first_slot block) ≡ None
+    by : (o : Option (Handle Id)) → handle_at m.state (first_slot block) ≡ o
+        → handle_at m.state (first_slot block) ≡ None
     by None is = is
     by (Some h) is =
-        absurd (no_some (handles_of h.kind) (sym (handles.kinds (block * 64) h is) ∙ ap (use_of m.state) (first_block block) ∙ unused))
+        absurd (no_some (handles_of h.kind)
+        (sym (handles.kinds (block * 64) h is) ∙ ap (use_of m.state) (first_block block) ∙ unused))
 
-module _ (old new : Machine) (kind : Kind) (slot : Slot) (handles : HasHandles old.numbers old.state) (block : ℕ) (at : slot ≡ first_slot block) (least : IsLeastUnused old.numbers old.state 1 block) where
+module _ (old new : Machine) (kind : Kind) (slot : Slot) (handles : HasHandles old.numbers old.state)
+    (block : ℕ) (at : slot ≡ first_slot block) (least : IsLeastUnused old.numbers old.state 1 block) where
   block_is : block_of slot ≡ block
   block_is = ap block_of at ∙ first_block block
 
@@ -42,9 +46,13 @@ module _ (old new : Machine) (kind : Kind) (slot : Slot) (handles : HasHandles o
   vacant = ap (handle_at old.state) at ∙ vacant_first old block handles least.unused
 
   use_is : get (insert old.state.blocks block (handles_of kind)) (block_of slot) ≡ Some (handles_of kind)
-  use_is = ap (get (insert old.state.blocks block (handles_of kind))) block_is ∙ get-put old.state.blocks block (handles_of kind)
+  use_is = ap (get (insert old.state.blocks block (handles_of kind))) block_is
+      ∙ get-put old.state.blocks block (handles_of kind)
 
-  pub placed_one : is_paired kind ≡ false → new ≡ record old { state = with_growth old.state kind (One block) } → given_of old.state + blocks_needed kind ≤ old.numbers.blocks → IsPlace old new kind None slot (One block)
+  pub placed_one : is_paired kind ≡ false
+      → new ≡ record old { state = with_growth old.state kind (One block) }
+      → given_of old.state + blocks_needed kind ≤ old.numbers.blocks
+      → IsPlace old new kind None slot (One block)
   placed_one single store room = record {
     may = (single, least, at);
     store = store;
@@ -55,12 +63,18 @@ module _ (old new : Machine) (kind : Kind) (slot : Slot) (handles : HasHandles o
     grows = λ _. (λ same. subst is_growth same tt, room);
   }
 
-  pub placed_two : (other : ℕ) → is_paired kind ≡ true → IsLeastUnused old.numbers old.state (block + 1) other → new ≡ record old { state = with_growth old.state kind (Two block other) } → given_of old.state + blocks_needed kind ≤ old.numbers.blocks → IsPlace old new kind None slot (Two block other)
+  pub placed_two : (other : ℕ) → is_paired kind ≡ true → IsLeastUnused old.numbers old.state (block + 1) other
+      → new ≡ record old { state = with_growth old.state kind (Two block other) }
+      → given_of old.state + blocks_needed kind ≤ old.numbers.blocks
+      → IsPlace old new kind None slot (Two block other)
   placed_two other double next store room = record {
     may = (double, least, next, at);
     store = store;
-    free = subst (λ (m : Machine). IsFree m.state kind slot) (sym store)
-        (vacant, get-put_other (insert old.state.blocks block (handles_of kind)) other extra_data (block_of slot) (λ same. let low = next.low in let is = block_is in absurd (omega arith)) ∙ use_is);
+    free = subst (λ (m : Machine). IsFree m.state kind slot) (sym store) (
+      vacant,
+      get-put_other (insert old.state.blocks block (handles_of kind)) other extra_data
+          (block_of slot) (λ same. let low = next.low in let is = block_is in absurd (omega arith)) ∙ use_is,
+    );
     low = subst (λ b. 1 ≤ b) (sym block_is) least.low;
     high = subst (λ b. b ≤ old.numbers.blocks) (sym block_is) least.high;
     offered = tt;

@@ -36,19 +36,24 @@ pub named-is : (h : Heap) (o : Option Addr) → named_in (names_of h) o ≡ opti
 named-is h o = ap (λ f. option_map f o) (names-are h)
 
 -- the rows by identity
-pub rows-get : (h : Heap) (rows : FinMap nat_cmp (Handle Addr)) (slot : ℕ) → get (rows_by_id h rows) slot ≡ option_map (rename_handle (id_at h)) (get rows slot)
+pub rows-get : (h : Heap) (rows : FinMap nat_cmp (Handle Addr)) (slot : ℕ)
+    → get (rows_by_id h rows) slot ≡ option_map (rename_handle (id_at h)) (get rows slot)
 unfolding rows_by_id
 rows-get h rows slot = get-mapped (λ slot row. rename_handle (id_at h) row) rows slot
 
 -- the objects by identity
 pub apart_by_number : (h : Heap) → HasIdentities h → AreApart (λ (p : Placed). p.id.0) h.objects
-apart_by_number h identities a b p q first second same = identities a b p q first second (same_id p.id q.id same)
+apart_by_number h identities a b p q first second same =
+    identities a b p q first second (same_id p.id q.id same)
 
-pub objects-get : (h : Heap) → HasIdentities h → (a : ℕ) (p : Placed) → get h.objects a ≡ Some p → get (objects_by_id h) p.id.0 ≡ Some (read_object h a p)
+pub objects-get : (h : Heap) → HasIdentities h → (a : ℕ) (p : Placed) → get h.objects a ≡ Some p
+    → get (objects_by_id h) p.id.0 ≡ Some (read_object h a p)
 unfolding objects_by_id
-objects-get h identities a p is = get-rekeyed (λ (p : Placed). p.id.0) (read_object h) h.objects (apart_by_number h identities) a p is
+objects-get h identities a p is =
+    get-rekeyed (λ (p : Placed). p.id.0) (read_object h) h.objects (apart_by_number h identities) a p is
 
-pub objects-under : (h : Heap) (x : ℕ) (o : Object Id) → get (objects_by_id h) x ≡ Some o → Under (λ (p : Placed). p.id.0) (read_object h) h.objects x o
+pub objects-under : (h : Heap) (x : ℕ) (o : Object Id) → get (objects_by_id h) x ≡ Some o
+    → Under (λ (p : Placed). p.id.0) (read_object h) h.objects x o
 unfolding objects_by_id
 objects-under h x o is = under (λ (p : Placed). p.id.0) (read_object h) h.objects x o is
 
@@ -60,21 +65,29 @@ pub record Stands (h : Heap) (x : ℕ) : Type 0 where
   pub named : value.id.0 ≡ x
 
 -- a map with each object's reading at its identity, and at no other key, is the objects by identity
-pub objects-are : (h : Heap) (m : FinMap nat_cmp (Object Id)) → HasIdentities h → ((a : ℕ) (p : Placed) → get h.objects a ≡ Some p → get m p.id.0 ≡ Some (read_object h a p)) → ((x : ℕ) (o : Object Id) → get m x ≡ Some o → Stands h x) → objects_by_id h ≡ m
-objects-are h m identities each only = same_numbers (objects_by_id h) m (λ x. by x (get (objects_by_id h) x) (get m x) refl refl)
+pub objects-are : (h : Heap) (m : FinMap nat_cmp (Object Id)) → HasIdentities h
+    → ((a : ℕ) (p : Placed) → get h.objects a ≡ Some p → get m p.id.0 ≡ Some (read_object h a p))
+    → ((x : ℕ) (o : Object Id) → get m x ≡ Some o → Stands h x) → objects_by_id h ≡ m
+objects-are h m identities each only =
+    same_numbers (objects_by_id h) m (λ x. by x (get (objects_by_id h) x) (get m x) refl refl)
   where
-    by : (x : ℕ) (o p : Option (Object Id)) → get (objects_by_id h) x ≡ o → get m x ≡ p → get (objects_by_id h) x ≡ get m x
+    by : (x : ℕ) (o p : Option (Object Id)) → get (objects_by_id h) x ≡ o → get m x ≡ p
+        → get (objects_by_id h) x ≡ get m x
     by x None None first second = first ∙ sym second
     by x None (Some p) first second =
         let s = only x p second in
-        absurd (no_some (read_object h s.at s.value) (sym (objects-get h identities s.at s.value s.stands) ∙ ap (get (objects_by_id h)) s.named ∙ first))
+        absurd (no_some (read_object h s.at s.value)
+        (sym (objects-get h identities s.at s.value s.stands) ∙ ap (get (objects_by_id h)) s.named ∙ first))
     by x (Some o) p first second =
         let u = objects-under h x o first in
         first ∙ ap Some u.is ∙ sym (each u.at u.value u.stands) ∙ ap (get m) u.keyed
 
 -- the readings of two heaps with the same identities and regions
 read_same : (h k : Heap) → id_at k ≡ id_at h → k.regions ≡ h.regions → read_object k ≡ read_object h
-read_same h k ids regions = λ i a p. rename_object (ids i) (object_in ((unwrap_or (get (regions i) (region_of (record { 0 = a }))) (record { generation = 0; fill = 0 })).generation) p)
+read_same h k ids regions = λ i a p. rename_object (ids i)
+    (object_in
+    ((unwrap_or (get (regions i) (region_of (record { 0 = a })))
+    (record { generation = 0; fill = 0 })).generation) p)
 
 -- the heap k is h with another object of the same identity at an address
 pub record Replaces (h k : Heap) (a : ℕ) (old new : Placed) : Type 0 where
@@ -93,7 +106,8 @@ module _ (h k : Heap) (a : ℕ) (old new : Placed) (r : Replaces h k a old new) 
   id_same : (b : ℕ) → id_in (get k.objects b) ≡ id_in (get h.objects b)
   id_same b =
       elim (cases_eq b a) [
-        | inl is ↦ ap (λ c. id_in (get k.objects c)) is ∙ ap id_in at_it ∙ r.same ∙ sym (ap id_in r.was) ∙ ap (λ c. id_in (get h.objects c)) (sym is)
+        | inl is ↦ ap (λ c. id_in (get k.objects c)) is ∙ ap id_in at_it ∙ r.same ∙ sym (ap id_in r.was)
+            ∙ ap (λ c. id_in (get h.objects c)) (sym is)
         | inr apart ↦ ap id_in (elsewhere b apart)
       ]
 
@@ -101,27 +115,41 @@ module _ (h k : Heap) (a : ℕ) (old new : Placed) (r : Replaces h k a old new) 
   pub ids-replace : id_at k ≡ id_at h
   ids-replace = λ i b. id_same b.0 i
 
-  name_same : (b : ℕ) → option_map (λ (p : Placed). p.id) (get k.objects b) ≡ option_map (λ (p : Placed). p.id) (get h.objects b)
+  name_same : (b : ℕ) → option_map (λ (p : Placed). p.id) (get k.objects b) ≡ option_map
+      (λ (p : Placed). p.id) (get h.objects b)
   name_same b =
       elim (cases_eq b a) [
-        | inl is ↦ ap (λ c. option_map (λ (p : Placed). p.id) (get k.objects c)) is ∙ ap (option_map (λ (p : Placed). p.id)) at_it ∙ ap Some r.same
-            ∙ sym (ap (option_map (λ (p : Placed). p.id)) r.was) ∙ ap (λ c. option_map (λ (p : Placed). p.id) (get h.objects c)) (sym is)
+        | inl is ↦ ap (λ c. option_map (λ (p : Placed). p.id) (get k.objects c)) is
+            ∙ ap (option_map (λ (p : Placed). p.id)) at_it ∙ ap Some r.same
+            ∙ sym (ap (option_map (λ (p : Placed). p.id)) r.was)
+            ∙ ap (λ c. option_map (λ (p : Placed). p.id) (get h.objects c)) (sym is)
         | inr apart ↦ ap (option_map (λ (p : Placed). p.id)) (elsewhere b apart)
       ]
 
   pub names-replace : names_of k ≡ names_of h
-  names-replace = same_numbers (names_of k) (names_of h) (λ b. names-get k b ∙ name_same b ∙ sym (names-get h b))
+  names-replace = same_numbers (names_of k) (names_of h)
+      (λ b. names-get k b ∙ name_same b ∙ sym (names-get h b))
 
   pub rows-replace : (rows : FinMap nat_cmp (Handle Addr)) → rows_by_id k rows ≡ rows_by_id h rows
   rows-replace rows =
       same_numbers (rows_by_id k rows) (rows_by_id h rows) (λ slot.
-      rows-get k rows slot ∙ ap (λ f. option_map (rename_handle f) (get rows slot)) ids-replace ∙ sym (rows-get h rows slot))
+      rows-get k rows slot ∙ ap (λ f. option_map (rename_handle f) (get rows slot)) ids-replace
+      ∙ sym (rows-get h rows slot))
 
   -- an object of k was one of h with the same identity
-  was_there : (b : ℕ) (p : Placed) → get k.objects b ≡ Some p → (q : Placed) × ((get h.objects b ≡ Some q) × (q.id ≡ p.id))
+  was_there : (b : ℕ) (p : Placed) → get k.objects b ≡ Some p
+      → (q : Placed) × ((get h.objects b ≡ Some q) × (q.id ≡ p.id))
   was_there b p is =
       elim (cases_eq b a) [
-        | inl here ↦ (old, (ap (get h.objects) here ∙ r.was, sym r.same ∙ ap (λ (q : Placed). q.id) (some_same new p (sym at_it ∙ ap (get k.objects) (sym here) ∙ is))))
+        | inl here ↦ (
+          old,
+          (
+            ap (get h.objects) here ∙ r.was,
+            sym r.same
+                ∙ ap (λ (q : Placed). q.id)
+                (some_same new p (sym at_it ∙ ap (get k.objects) (sym here) ∙ is)),
+          ),
+        )
         | inr apart ↦ (p, (sym (elsewhere b apart) ∙ is, refl))
       ]
 
@@ -132,8 +160,10 @@ module _ (h k : Heap) (a : ℕ) (old new : Placed) (r : Replaces h k a old new) 
       identities b c u.0 v.0 u.1.0 v.1.0 (u.1.1 ∙ same ∙ sym v.1.1)
 
   -- and the objects by identity have the new one in the place of the old
-  pub objects-replace : HasIdentities h → objects_by_id k ≡ insert (objects_by_id h) old.id.0 (read_object h a new)
-  objects-replace identities = objects-are k (insert (objects_by_id h) old.id.0 (read_object h a new)) (identities-replace identities) each only
+  pub objects-replace : HasIdentities h → objects_by_id k ≡ insert (objects_by_id h) old.id.0
+      (read_object h a new)
+  objects-replace identities = objects-are k (insert (objects_by_id h) old.id.0 (read_object h a new))
+      (identities-replace identities) each only
     where
       m : FinMap nat_cmp (Object Id)
       m = insert (objects_by_id h) old.id.0 (read_object h a new)
@@ -141,31 +171,44 @@ module _ (h k : Heap) (a : ℕ) (old new : Placed) (r : Replaces h k a old new) 
       read : read_object k ≡ read_object h
       read = read_same h k ids-replace r.regions
 
-      each : (b : ℕ) (p : Placed) → get k.objects b ≡ Some p → get (insert (objects_by_id h) old.id.0 (read_object h a new)) p.id.0 ≡ Some (read_object k b p)
+      each : (b : ℕ) (p : Placed) → get k.objects b ≡ Some p
+          → get (insert (objects_by_id h) old.id.0 (read_object h a new)) p.id.0 ≡ Some (read_object k b p)
       each b p is =
           elim (cases_eq b a) [
             | inl here ↦
                 let it : new ≡ p = some_same new p (sym at_it ∙ ap (get k.objects) (sym here) ∙ is) in
-                ap (λ (q : Placed). get (insert (objects_by_id h) old.id.0 (read_object h a new)) q.id.0) (sym it)
+                ap (λ (q : Placed). get (insert (objects_by_id h) old.id.0 (read_object h a new)) q.id.0)
+                (sym it)
                 ∙ ap (λ (x : Id). get (insert (objects_by_id h) old.id.0 (read_object h a new)) x.0) r.same
                 ∙ get-put (objects_by_id h) old.id.0 (read_object h a new)
-                ∙ ap Some (ap (λ f. f a new) (sym read) ∙ ap (λ c. read_object k c new) (sym here) ∙ ap (read_object k b) it)
+                ∙ ap Some (ap (λ f. f a new) (sym read) ∙ ap (λ c. read_object k c new) (sym here)
+                ∙ ap (read_object k b) it)
             | inr apart ↦
                 let before : get h.objects b ≡ Some p = sym (elsewhere b apart) ∙ is in
-                get-put_other (objects_by_id h) old.id.0 (read_object h a new) p.id.0 (λ same. apart (identities b a p old before r.was (same_id p.id old.id same)))
+                get-put_other (objects_by_id h) old.id.0 (read_object h a new) p.id.0
+                (λ same. apart (identities b a p old before r.was (same_id p.id old.id same)))
                 ∙ objects-get h identities b p before ∙ ap Some (ap (λ f. f b p) (sym read))
           ]
 
-      only : (x : ℕ) (o : Object Id) → get (insert (objects_by_id h) old.id.0 (read_object h a new)) x ≡ Some o → Stands k x
+      only : (x : ℕ) (o : Object Id)
+          → get (insert (objects_by_id h) old.id.0 (read_object h a new)) x ≡ Some o → Stands k x
       only x o is =
           elim (cases_eq x old.id.0) [
-            | inl here ↦ record { at = a; value = new; stands = at_it; named = ap (λ (i : Id). i.0) r.same ∙ sym here }
+            | inl here ↦ record {
+              at = a;
+              value = new;
+              stands = at_it;
+              named = ap (λ (i : Id). i.0) r.same ∙ sym here;
+            }
             | inr apart ↦
-                let u = objects-under h x o (sym (get-put_other (objects_by_id h) old.id.0 (read_object h a new) x apart) ∙ is) in
+                let u = objects-under h x o
+                (sym (get-put_other (objects_by_id h) old.id.0 (read_object h a new) x apart) ∙ is) in
                 record {
                   at = u.at;
                   value = u.value;
-                  stands = elsewhere u.at (λ here. apart (sym u.keyed ∙ ap (λ (p : Placed). p.id.0) (some_same u.value old (sym u.stands ∙ ap (get h.objects) here ∙ r.was)))) ∙ u.stands;
+                  stands = elsewhere u.at
+                      (λ here. apart (sym u.keyed ∙ ap (λ (p : Placed). p.id.0)
+                      (some_same u.value old (sym u.stands ∙ ap (get h.objects) here ∙ r.was)))) ∙ u.stands;
                   named = u.keyed;
                 }
           ]

@@ -43,10 +43,12 @@ pub record Stands (f : Parts) (slot : ℕ) (row : Handle Addr) : Type 0 where
   pub paired : row.target ≡ None → secondary_of row.extra ≡ None
   pub attaching : (x : Addr) → secondary_of row.extra ≡ Some x → role row ≡ attaches
   pub target_age : (x : Addr) → row.target ≡ Some x → age_of f.ages slot ≤ generation_at (object_at f.heap) x
-  pub second_age : (x : Addr) → secondary_of row.extra ≡ Some x → age_of f.ages slot ≤ generation_at (object_at f.heap) x
+  pub second_age : (x : Addr) → secondary_of row.extra ≡ Some x
+      → age_of f.ages slot ≤ generation_at (object_at f.heap) x
 
 -- each row of a store may stand where it does
-pub stands : (f : Parts) → IsStored f → (slot : ℕ) (row : Handle Addr) → get f.table.rows slot ≡ Some row → Stands f slot row
+pub stands : (f : Parts) → IsStored f → (slot : ℕ) (row : Handle Addr) → get f.table.rows slot ≡ Some row
+    → Stands f slot row
 stands f stored slot row is = record {
   target = λ x e. stored.whole.targets slot row x is e;
   second = λ x e. stored.whole.secondaries slot row x is e;
@@ -61,7 +63,9 @@ stands f stored slot row is = record {
 abbrev pub IsWithin : Table → Type 0
 IsWithin t = (block : ℕ) → IsSome (get t.uses block) → (1 ≤ block) × (block ≤ t.blocks)
 
-pub stored-table : (f : Parts) (t : Table) → IsStored f → t.blocks ≡ f.table.blocks → IsWithin t → ((slot : ℕ) (row : Handle Addr) → get t.rows slot ≡ Some row → Stands f slot row) → IsStored (with_table f t)
+pub stored-table : (f : Parts) (t : Table) → IsStored f → t.blocks ≡ f.table.blocks → IsWithin t
+    → ((slot : ℕ) (row : Handle Addr) → get t.rows slot ≡ Some row → Stands f slot row)
+    → IsStored (with_table f t)
 stored-table f t stored blocks uses each = record {
   whole = record {
     fields = stored.whole.fields;
@@ -89,12 +93,14 @@ stored-table f t stored blocks uses each = record {
   uses = uses;
 }
 
-pub stored-put : (f : Parts) (slot : ℕ) (row : Handle Addr) → IsStored f → Stands f slot row → IsStored (with_table f (with_row f.table slot row))
+pub stored-put : (f : Parts) (slot : ℕ) (row : Handle Addr) → IsStored f → Stands f slot row
+    → IsStored (with_table f (with_row f.table slot row))
 stored-put f slot row stored may =
     stored-table f (with_row f.table slot row) stored refl stored.uses (λ s r is.
     elim (cases_eq s slot) [
       | inl same ↦
-          let it : row ≡ r = some_same row r (sym (get-put f.table.rows slot row) ∙ ap (get (insert f.table.rows slot row)) (sym same) ∙ is) in
+          let it : row ≡ r = some_same row r
+          (sym (get-put f.table.rows slot row) ∙ ap (get (insert f.table.rows slot row)) (sym same) ∙ is) in
           subst (Stands f s) it (subst (λ k. Stands f k row) (sym same) may)
       | inr apart ↦ stands f stored s r (sym (get-put_other f.table.rows slot row s apart) ∙ is)
     ])
@@ -106,52 +112,67 @@ without_other false o r is = is
 pub stored-end : (f : Parts) (slot : ℕ) → IsStored f → IsStored (with_table f (without_row f.table slot))
 stored-end f slot stored =
     stored-table f (without_row f.table slot) stored refl stored.uses (λ s r is.
-    stands f stored s r (without_other (eq_by_cmp nat_cmp s slot) (get f.table.rows s) r (sym (get-remove nat_cmp_total f.table.rows slot s) ∙ is)))
+    stands f stored s r (without_other (eq_by_cmp nat_cmp s slot) (get f.table.rows s) r
+    (sym (get-remove nat_cmp_total f.table.rows slot s) ∙ is)))
 
 -- the rows by identity
-pub rows-put : (h : Heap) (rows : FinMap nat_cmp (Handle Addr)) (slot : ℕ) (row : Handle Addr) → rows_by_id h (insert rows slot row) ≡ insert (rows_by_id h rows) slot (rename_handle (id_at h) row)
+pub rows-put : (h : Heap) (rows : FinMap nat_cmp (Handle Addr)) (slot : ℕ) (row : Handle Addr)
+    → rows_by_id h (insert rows slot row) ≡ insert (rows_by_id h rows) slot (rename_handle (id_at h) row)
 rows-put h rows slot row =
-    same_numbers (rows_by_id h (insert rows slot row)) (insert (rows_by_id h rows) slot (rename_handle (id_at h) row)) (λ s.
+    same_numbers (rows_by_id h (insert rows slot row))
+    (insert (rows_by_id h rows) slot (rename_handle (id_at h) row)) (λ s.
     rows-get h (insert rows slot row) s
     ∙ elim (cases_eq s slot) [
       | inl same ↦ ap (λ k. option_map (rename_handle (id_at h)) (get (insert rows slot row) k)) same
           ∙ ap (option_map (rename_handle (id_at h))) (get-put rows slot row)
           ∙ sym (get-put (rows_by_id h rows) slot (rename_handle (id_at h) row))
           ∙ ap (get (insert (rows_by_id h rows) slot (rename_handle (id_at h) row))) (sym same)
-      | inr apart ↦ ap (option_map (rename_handle (id_at h))) (get-put_other rows slot row s apart) ∙ sym (rows-get h rows s)
+      | inr apart ↦ ap (option_map (rename_handle (id_at h))) (get-put_other rows slot row s apart)
+          ∙ sym (rows-get h rows s)
           ∙ sym (get-put_other (rows_by_id h rows) slot (rename_handle (id_at h) row) s apart)
     ])
 
-none_mapped : (g : Handle Addr → Handle Id) (b : Bool) (o : Option (Handle Addr)) → option_map g (cond b None o) ≡ cond b None (option_map g o)
+none_mapped : (g : Handle Addr → Handle Id) (b : Bool) (o : Option (Handle Addr))
+    → option_map g (cond b None o) ≡ cond b None (option_map g o)
 none_mapped g true o = refl
 none_mapped g false o = refl
 
-pub rows-end : (h : Heap) (rows : FinMap nat_cmp (Handle Addr)) (slot : ℕ) → rows_by_id h (remove rows slot) ≡ remove (rows_by_id h rows) slot
+pub rows-end : (h : Heap) (rows : FinMap nat_cmp (Handle Addr)) (slot : ℕ)
+    → rows_by_id h (remove rows slot) ≡ remove (rows_by_id h rows) slot
 rows-end h rows slot =
     same_numbers (rows_by_id h (remove rows slot)) (remove (rows_by_id h rows) slot) (λ s.
-    rows-get h (remove rows slot) s ∙ ap (option_map (rename_handle (id_at h))) (get-remove nat_cmp_total rows slot s)
+    rows-get h (remove rows slot) s ∙ ap (option_map (rename_handle (id_at h)))
+    (get-remove nat_cmp_total rows slot s)
     ∙ none_mapped (rename_handle (id_at h)) (eq_by_cmp nat_cmp s slot) (get rows s)
     ∙ ap (cond (eq_by_cmp nat_cmp s slot) None) (sym (rows-get h rows s))
     ∙ sym (get-remove nat_cmp_total (rows_by_id h rows) slot s))
 
 module _ (f : Parts) (m : Machine) (view : machine_of f ≡ m) where
-  pub machine-put : (slot : Slot) (kind : Kind) (row : Row) → machine_of (with_table f (with_row f.table slot.0 (handle_of kind row))) ≡ record m { state = with_handle m.state slot (handle_named m kind row) }
+  pub machine-put : (slot : Slot) (kind : Kind) (row : Row)
+      → machine_of (with_table f (with_row f.table slot.0 (handle_of kind row)))
+      ≡ record m { state = with_handle m.state slot (handle_named m kind row) }
   machine-put slot kind row =
       (λ i. record (machine_of f) {
         state = record (state_of f) {
           handles = (rows-put f.heap f.table.rows slot.0 (handle_of kind row)
-              ∙ ap (λ g. insert (rows_by_id f.heap f.table.rows) slot.0 (rename_handle g (handle_of kind row))) (sym (names-are f.heap))) i;
+              ∙ ap (λ g. insert (rows_by_id f.heap f.table.rows) slot.0
+              (rename_handle g (handle_of kind row))) (sym (names-are f.heap))) i;
         };
       })
       ∙ ap (λ (n : Machine). record n { state = with_handle n.state slot (handle_named n kind row) }) view
 
-  pub machine-end : (slot : Slot) → machine_of (with_table f (without_row f.table slot.0)) ≡ record m { state = without_handle m.state slot }
+  pub machine-end : (slot : Slot) → machine_of
+      (with_table f (without_row f.table slot.0)) ≡ record m { state = without_handle m.state slot }
   machine-end slot =
-      (λ i. record (machine_of f) { state = record (state_of f) { handles = rows-end f.heap f.table.rows slot.0 i } })
+      (λ i.
+      record (machine_of f) {
+        state = record (state_of f) { handles = rows-end f.heap f.table.rows slot.0 i };
+      })
       ∙ ap (λ (n : Machine). record n { state = without_handle n.state slot }) view
 
 -- a secondary stands only in a dependent row
-attaching : (k : Kind) (e : Extra Addr) (target : Option Addr) (x : Addr) → fits k e ≡ true → secondary_of e ≡ Some x → role (record { kind = k; target = target; extra = e }) ≡ attaches
+attaching : (k : Kind) (e : Extra Addr) (target : Option Addr) (x : Addr) → fits k e ≡ true
+    → secondary_of e ≡ Some x → role (record { kind = k; target = target; extra = e }) ≡ attaches
 attaching kind.Dependent e target x fit is = refl
 attaching k nothing target x fit is = absurd (no_some x (sym is))
 attaching k (strength s) target x fit is = absurd (no_some x (sym is))
@@ -168,17 +189,24 @@ module _ (f : Parts) (m : Machine) (view : machine_of f ≡ m) (stored : IsStore
   is_there : (o : Option Addr) (x : Addr) → IsNamed m.names o → o ≡ Some x → IsSome (get m.names x.0)
   is_there o x named is = subst (IsNamed m.names) is named
 
-  aged : (slot : ℕ) (o : Option Addr) (x : Addr) → IsNamed m.names o → IfSome o (λ a. age_of m.ages slot ≤ (object_named m a).generation) → o ≡ Some x → age_of f.ages slot ≤ generation_at (object_at f.heap) x
+  aged : (slot : ℕ) (o : Option Addr) (x : Addr) → IsNamed m.names o
+      → IfSome o (λ a. age_of m.ages slot ≤ (object_named m a).generation) → o ≡ Some x
+      → age_of f.ages slot ≤ generation_at (object_at f.heap) x
   aged slot o x named low is =
       let known = is_there o x named is in
-      let here : age_of m.ages slot ≤ (object_named m x).generation = subst (λ p. IfSome p (λ a. age_of m.ages slot ≤ (object_named m a).generation)) is low in
+      let here : age_of m.ages slot ≤ (object_named m x).generation =
+      subst (λ p. IfSome p (λ a. age_of m.ages slot ≤ (object_named m a).generation)) is low in
       subst (λ g. age_of f.ages slot ≤ g) (sym (generation-is f m view stored x known))
-      (subst (λ ages. age_of ages slot ≤ (object_named m x).generation) (sym (ap (λ (n : Machine). n.ages) view)) here)
+      (subst (λ ages. age_of ages slot ≤ (object_named m x).generation)
+      (sym (ap (λ (n : Machine). n.ages) view)) here)
 
-  object : (o : Option Addr) (x : Addr) → IsNamed m.names o → o ≡ Some x → is_object (object_at f.heap) x ≡ true
-  object o x named is = known_object f.heap x (subst (λ (n : Machine). IsSome (get n.names x.0)) (sym view) (is_there o x named is))
+  object : (o : Option Addr) (x : Addr) → IsNamed m.names o → o ≡ Some x
+      → is_object (object_at f.heap) x ≡ true
+  object o x named is = known_object f.heap x
+      (subst (λ (n : Machine). IsSome (get n.names x.0)) (sym view) (is_there o x named is))
 
-  pub may-stand : (slot : Slot) (kind : Kind) (row : Row) → MayStand m slot kind row → Stands f slot.0 (handle_of kind row)
+  pub may-stand : (slot : Slot) (kind : Kind) (row : Row) → MayStand m slot kind row
+      → Stands f slot.0 (handle_of kind row)
   may-stand slot kind row may = record {
     target = λ x is. object row.target x may.target is;
     second = λ x is. object (secondary_of (extra_of row.extra)) x may.secondary is;
@@ -194,11 +222,14 @@ mapped_some g None = refl
 mapped_some g (Some row) = refl
 
 module _ (f : Parts) (m : Machine) (view : machine_of f ≡ m) where
-  pub row-read : (slot : Slot) → handle_at m.state slot ≡ option_map (rename_handle (id_at f.heap)) (get f.table.rows slot.0)
-  row-read slot = ap (λ (n : Machine). handle_at n.state slot) (sym view) ∙ rows-get f.heap f.table.rows slot.0
+  pub row-read : (slot : Slot) → handle_at m.state slot ≡ option_map (rename_handle (id_at f.heap))
+      (get f.table.rows slot.0)
+  row-read slot = ap (λ (n : Machine). handle_at n.state slot) (sym view)
+      ∙ rows-get f.heap f.table.rows slot.0
 
   pub live-row : (slot : Slot) → IsSome (handle_at m.state slot) → IsSome (get f.table.rows slot.0)
-  live-row slot live = sym (mapped_some (rename_handle (id_at f.heap)) (get f.table.rows slot.0)) ∙ sym (ap is_some (row-read slot)) ∙ live
+  live-row slot live = sym (mapped_some (rename_handle (id_at f.heap)) (get f.table.rows slot.0))
+      ∙ sym (ap is_some (row-read slot)) ∙ live
 
   none_from : (o : Option (Handle Addr)) → option_map (rename_handle (id_at f.heap)) o ≡ None → o ≡ None
   none_from None is = refl
@@ -211,7 +242,8 @@ module _ (f : Parts) (m : Machine) (view : machine_of f ≡ m) where
   pub use-read : (block : ℕ) (u : Option BlockUse) → use_of m.state block ≡ u → get f.table.uses block ≡ u
   use-read block u is = ap (λ (n : Machine). use_of n.state block) view ∙ is
 
-  pub kind-read : (slot : Slot) (kind : Kind) → use_of m.state (block_of slot) ≡ Some (handles_of kind) → kind_at f.table (slot.0 / 64) ≡ kind
+  pub kind-read : (slot : Slot) (kind : Kind) → use_of m.state (block_of slot) ≡ Some (handles_of kind)
+      → kind_at f.table (slot.0 / 64) ≡ kind
   kind-read slot kind is = ap kind_in (use-read (slot.0 / 64) (Some (handles_of kind)) is)
 
 -- blocks come into use, or go out of it, and the rows stay
@@ -227,10 +259,14 @@ grown_blocks t k (One b) = refl
 grown_blocks t k (Two b d) = refl
 grown_blocks t k (Back b) = refl
 
-pub stored-same : (f : Parts) (t : Table) → IsStored f → t.rows ≡ f.table.rows → t.blocks ≡ f.table.blocks → IsWithin t → IsStored (with_table f t)
-stored-same f t stored rows blocks uses = stored-table f t stored blocks uses (λ slot row is. stands f stored slot row (sym (ap (λ m. get m slot) rows) ∙ is))
+pub stored-same : (f : Parts) (t : Table) → IsStored f → t.rows ≡ f.table.rows → t.blocks ≡ f.table.blocks
+    → IsWithin t → IsStored (with_table f t)
+stored-same f t stored rows blocks uses = stored-table f t stored blocks uses
+    (λ slot row is. stands f stored slot row (sym (ap (λ m. get m slot) rows) ∙ is))
 
-within_insert : {A : Type 0} (m : FinMap nat_cmp A) (k most : ℕ) (v : A) → (1 ≤ k) × (k ≤ most) → ((b : ℕ) → IsSome (get m b) → (1 ≤ b) × (b ≤ most)) → (b : ℕ) → IsSome (get (insert m k v) b) → (1 ≤ b) × (b ≤ most)
+within_insert : {A : Type 0} (m : FinMap nat_cmp A) (k most : ℕ) (v : A) → (1 ≤ k) × (k ≤ most)
+    → ((b : ℕ) → IsSome (get m b) → (1 ≤ b) × (b ≤ most)) → (b : ℕ) → IsSome (get (insert m k v) b)
+    → (1 ≤ b) × (b ≤ most)
 within_insert m k most v new old b is =
     elim (cases_eq b k) [
       | inl same ↦ subst (λ j. (1 ≤ j) × (j ≤ most)) (sym same) new
@@ -239,38 +275,49 @@ within_insert m k most v new old b is =
 
 grown_within : (t : Table) (k : Kind) (g : Grown) → IsGrowth t k g → IsWithin t → IsWithin (grown_by t k g)
 grown_within t k Zero grows uses = elim grows [ ]
-grown_within t k (One b) grows uses = within_insert t.uses b t.blocks (handles_of k) (grows.1.low, grows.1.high) uses
+grown_within t k (One b) grows uses =
+    within_insert t.uses b t.blocks (handles_of k) (grows.1.low, grows.1.high) uses
 grown_within t k (Two b d) grows uses =
-    within_insert (insert t.uses b (handles_of k)) d t.blocks extra_data (omega (arith, grows.2.low), grows.2.high)
+    within_insert (insert t.uses b (handles_of k)) d t.blocks extra_data
+    (omega (arith, grows.2.low), grows.2.high)
     (within_insert t.uses b t.blocks (handles_of k) (grows.1.low, grows.1.high) uses)
 grown_within t k (Back b) grows uses = elim grows [ ]
 
-pub stored-grown : (f : Parts) (t : Table) (k : Kind) → IsStored f → (r : Result Grown Full) → IfOk r (IsGrowth f.table k) → IfOk r (λ g. t ≡ grown_by f.table k g) → OnErr r (t ≡ f.table) → IsStored (with_table f t)
+pub stored-grown : (f : Parts) (t : Table) (k : Kind) → IsStored f → (r : Result Grown Full)
+    → IfOk r (IsGrowth f.table k) → IfOk r (λ g. t ≡ grown_by f.table k g) → OnErr r (t ≡ f.table)
+    → IsStored (with_table f t)
 stored-grown f t k stored (Ok g) grows after kept =
-    stored-same f t stored (ap (λ (s : Table). s.rows) after ∙ grown_rows f.table k g) (ap (λ (s : Table). s.blocks) after ∙ grown_blocks f.table k g)
+    stored-same f t stored (ap (λ (s : Table). s.rows) after ∙ grown_rows f.table k g)
+    (ap (λ (s : Table). s.blocks) after ∙ grown_blocks f.table k g)
     (subst IsWithin (sym after) (grown_within f.table k g grows stored.uses))
 stored-grown f t k stored (Err e) grows after kept =
-    stored-same f t stored (ap (λ (s : Table). s.rows) kept) (ap (λ (s : Table). s.blocks) kept) (subst IsWithin (sym kept) stored.uses)
+    stored-same f t stored (ap (λ (s : Table). s.rows) kept) (ap (λ (s : Table). s.blocks) kept)
+    (subst IsWithin (sym kept) stored.uses)
 
 -- a block without a kind any more
-back_within : (m : FinMap nat_cmp BlockUse) (k most : ℕ) → ((b : ℕ) → IsSome (get m b) → (1 ≤ b) × (b ≤ most)) → (b : ℕ) → IsSome (get (remove m k) b) → (1 ≤ b) × (b ≤ most)
-back_within m k most old b is = old b (left (eq_by_cmp nat_cmp b k) (get m b) (sym (ap is_some (get-remove nat_cmp_total m k b)) ∙ is))
+back_within : (m : FinMap nat_cmp BlockUse) (k most : ℕ) → ((b : ℕ) → IsSome (get m b) → (1 ≤ b) × (b ≤ most))
+    → (b : ℕ) → IsSome (get (remove m k) b) → (1 ≤ b) × (b ≤ most)
+back_within m k most old b is =
+    old b (left (eq_by_cmp nat_cmp b k) (get m b) (sym (ap is_some (get-remove nat_cmp_total m k b)) ∙ is))
   where
     left : (c : Bool) (o : Option BlockUse) → IsSome (cond c None o) → IsSome o
     left true o e = absurd (subst T (sym e) tt)
     left false o e = e
 
-pub stored-back : (f : Parts) (t : Table) (k : Kind) (block : ℕ) → IsStored f → t ≡ without_block f.table k block → IsStored (with_table f t)
+pub stored-back : (f : Parts) (t : Table) (k : Kind) (block : ℕ) → IsStored f
+    → t ≡ without_block f.table k block → IsStored (with_table f t)
 stored-back f t k block stored is =
     subst (λ u. IsStored (with_table f u)) (sym is)
-    (stored-same f (without_block f.table k block) stored refl refl (back_within f.table.uses block f.table.blocks stored.uses))
+    (stored-same f (without_block f.table k block) stored refl refl
+    (back_within f.table.uses block f.table.blocks stored.uses))
 
 -- what a use is of: a block that is none of the table's has none
 no_use : (o : Option BlockUse) → (IsSome o → ⊥) → o ≡ None
 no_use None out = refl
 no_use (Some u) out = absurd (out refl)
 
-pub kind-outside : (f : Parts) (m : Machine) → machine_of f ≡ m → IsStored f → (block : ℕ) → ((1 ≤ block) × (block ≤ f.table.blocks) → ⊥) → None ≡ kind_in_use (use_of m.state block)
+pub kind-outside : (f : Parts) (m : Machine) → machine_of f ≡ m → IsStored f → (block : ℕ)
+    → ((1 ≤ block) × (block ≤ f.table.blocks) → ⊥) → None ≡ kind_in_use (use_of m.state block)
 kind-outside f m view stored block out =
     sym (ap kind_in_use (no_use (get f.table.uses block) (λ is. out (stored.uses block is))))
     ∙ ap (λ (n : Machine). kind_in_use (use_of n.state block)) view
@@ -279,19 +326,23 @@ single_kind : (k : Kind) → is_paired k ≡ false → is_single (Some (handles_
 single_kind k is = ap not is
 
 -- all slots of a block are free
-pub block-single : (f : Parts) (m : Machine) → machine_of f ≡ m → (k : Kind) (block : ℕ) → is_paired k ≡ false → use_of m.state block ≡ Some (handles_of k) → is_single (get f.table.uses block) ≡ true
+pub block-single : (f : Parts) (m : Machine) → machine_of f ≡ m → (k : Kind) (block : ℕ) → is_paired k ≡ false
+    → use_of m.state block ≡ Some (handles_of k) → is_single (get f.table.uses block) ≡ true
 block-single f m view k block single is =
     ap (λ (n : Machine). is_single (use_of n.state block)) view ∙ ap is_single is ∙ single_kind k single
 
 -- a row is put twice into one slot
-pub put_again : (t : Table) (slot : ℕ) (a b : Handle Addr) → with_row (with_row t slot a) slot b ≡ with_row t slot b
+pub put_again : (t : Table) (slot : ℕ) (a b : Handle Addr)
+    → with_row (with_row t slot a) slot b ≡ with_row t slot b
 put_again t slot a b =
     ap (λ rows. record t { rows = rows })
     (same_numbers (insert (insert t.rows slot a) slot b) (insert t.rows slot b) (λ s.
     elim (cases_eq s slot) [
-      | inl same ↦ ap (get (insert (insert t.rows slot a) slot b)) same ∙ get-put (insert t.rows slot a) slot b ∙ sym (get-put t.rows slot b)
+      | inl same ↦ ap (get (insert (insert t.rows slot a) slot b)) same
+          ∙ get-put (insert t.rows slot a) slot b ∙ sym (get-put t.rows slot b)
           ∙ ap (get (insert t.rows slot b)) (sym same)
-      | inr apart ↦ get-put_other (insert t.rows slot a) slot b s apart ∙ get-put_other t.rows slot a s apart ∙ sym (get-put_other t.rows slot b s apart)
+      | inr apart ↦ get-put_other (insert t.rows slot a) slot b s apart ∙ get-put_other t.rows slot a s apart
+          ∙ sym (get-put_other t.rows slot b s apart)
     ]))
 
 row_there : (o : Option (Handle Addr)) (d : Handle Addr) → is_some o ≡ true → o ≡ Some (unwrap_or o d)
@@ -299,22 +350,27 @@ row_there None d e = absurd (subst T (sym e) tt)
 row_there (Some row) d e = refl
 
 pub live-is : (t : Table) (slot : ℕ) → IsSome (get t.rows slot) → get t.rows slot ≡ Some (live_at t slot)
-live-is t slot live = row_there (get t.rows slot) (record { kind = kind.Short; target = None; extra = nothing }) live
+live-is t slot live = row_there (get t.rows slot)
+    (record { kind = kind.Short; target = None; extra = nothing }) live
 
 pub live-put : (t : Table) (slot : ℕ) (row : Handle Addr) → live_at (with_row t slot row) slot ≡ row
-live-put t slot row = ap (λ o. unwrap_or o (record { kind = kind.Short; target = None; extra = nothing })) (get-put t.rows slot row)
+live-put t slot row = ap (λ o. unwrap_or o (record { kind = kind.Short; target = None; extra = nothing }))
+    (get-put t.rows slot row)
 
-kind_mapped : (g : Addr → Id) (o : Option (Handle Addr)) → option_map (λ (h : Handle Id). h.kind) (option_map (rename_handle g) o) ≡ option_map (λ (h : Handle Addr). h.kind) o
+kind_mapped : (g : Addr → Id) (o : Option (Handle Addr)) → option_map (λ (h : Handle Id). h.kind)
+    (option_map (rename_handle g) o) ≡ option_map (λ (h : Handle Addr). h.kind) o
 kind_mapped g None = refl
 kind_mapped g (Some row) = refl
 
 some_kind : (x y : Kind) → Some x ≡ Some y → x ≡ y
 some_kind x y e = some_same x y e
 
-module _ (f : Parts) (m : Machine) (view : machine_of f ≡ m) (slot : Slot) (k : Kind) (live : option_map (λ (h : Handle Id). h.kind) (handle_at m.state slot) ≡ Some k) where
+module _ (f : Parts) (m : Machine) (view : machine_of f ≡ m) (slot : Slot) (k : Kind)
+    (live : option_map (λ (h : Handle Id). h.kind) (handle_at m.state slot) ≡ Some k) where
   kinds : option_map (λ (h : Handle Addr). h.kind) (get f.table.rows slot.0) ≡ Some k
   kinds =
-      sym (kind_mapped (id_at f.heap) (get f.table.rows slot.0)) ∙ ap (option_map (λ (h : Handle Id). h.kind)) (sym (row-read f m view slot)) ∙ live
+      sym (kind_mapped (id_at f.heap) (get f.table.rows slot.0))
+      ∙ ap (option_map (λ (h : Handle Id). h.kind)) (sym (row-read f m view slot)) ∙ live
 
   there_from : (o : Option (Handle Addr)) → option_map (λ (h : Handle Addr). h.kind) o ≡ Some k → IsSome o
   there_from None e = absurd (no_some k (sym e))

@@ -6,7 +6,7 @@ use Rattle.std.proofs.lemmas.List.Elements.{Contains-get_or}
 use Rattle.std.specs.FinMap.{get}
 use Rattle.hd_model.specs.declared.data.Id.{Id}
 use Rattle.hd_model.specs.declared.data.Addr.{Addr}
-use Rattle.hd_model.specs.State.{Object, object_at as machine_object, field_of}
+use Rattle.hd_model.specs.State.{Object, object_by_id, field_of}
 use Rattle.hd_model.specs.Scene.{fields_in, generation_in, fields_at, generation_at}
 use Rattle.hd_model.specs.Heap.{Placed, Heap, region_generation, region_of, object_in, object_at, has_object, placed_at, id_in, id_at}
 use Rattle.hd_world.specs.Reading.{names_of, read_object, name_in, named_in, IsNamed}
@@ -36,11 +36,13 @@ known_object h at known = has-placed h at ∙ sym (named-placed h at) ∙ known
 pub object_known : (h : Heap) (at : Addr) → has_object h at ≡ true → IsSome (get (names_of h) at.0)
 object_known h at known = named-placed h at ∙ sym (has-placed h at) ∙ known
 
-pub named_objects : (h : Heap) (v : Option Addr) → IsNamed (names_of h) v → IfSome v (λ y. has_object h y ≡ true)
+pub named_objects : (h : Heap) (v : Option Addr) → IsNamed (names_of h) v
+    → IfSome v (λ y. has_object h y ≡ true)
 named_objects h None named = named
 named_objects h (Some y) named = known_object h y named
 
-pub objects_named : (h : Heap) (v : Option Addr) → ((y : Addr) → v ≡ Some y → has_object h y ≡ true) → IsNamed (names_of h) v
+pub objects_named : (h : Heap) (v : Option Addr) → ((y : Addr) → v ≡ Some y → has_object h y ≡ true)
+    → IsNamed (names_of h) v
 objects_named h None each = tt
 objects_named h (Some y) each = object_known h y (each y refl)
 
@@ -50,30 +52,37 @@ stands_by (Some p) d e = refl
 
 -- what stands at the address of an object
 pub placed_is : (h : Heap) (at : Addr) → has_object h at ≡ true → get h.objects at.0 ≡ Some (placed_at h at)
-placed_is h at known = stands_by (get h.objects at.0) (record { id = record { 0 = 0 }; fields = []; value = 0; registered = false }) (sym (has-placed h at) ∙ known)
+placed_is h at known = stands_by (get h.objects at.0)
+    (record { id = record { 0 = 0 }; fields = []; value = 0; registered = false })
+    (sym (has-placed h at) ∙ known)
 
-pub object_is : (h : Heap) (at : Addr) → has_object h at ≡ true → object_at h at ≡ Some (object_in (region_generation h (region_of at)) (placed_at h at))
+pub object_is : (h : Heap) (at : Addr) → has_object h at ≡ true
+    → object_at h at ≡ Some (object_in (region_generation h (region_of at)) (placed_at h at))
 object_is h at known = ap (option_map (object_in (region_generation h (region_of at)))) (placed_is h at known)
 
 module _ (f : Parts) where
-  pub id_of : (at : Addr) → has_object f.heap at ≡ true → name_in (names_of f.heap) at ≡ (placed_at f.heap at).id
+  pub id_of : (at : Addr) → has_object f.heap at ≡ true
+      → name_in (names_of f.heap) at ≡ (placed_at f.heap at).id
   id_of at known = name-is f.heap at ∙ ap id_in (placed_is f.heap at known)
 
   -- the object at an address, as the machine has it
-  pub object-named : IsStored f → (at : Addr) → has_object f.heap at ≡ true → object_named (machine_of f) at ≡ read_object f.heap at.0 (placed_at f.heap at)
+  pub object-named : IsStored f → (at : Addr) → has_object f.heap at ≡ true
+      → object_named (machine_of f) at ≡ read_object f.heap at.0 (placed_at f.heap at)
   object-named stored at known =
-      ap (λ (x : Id). machine_object (state_of f) x) (id_of at known)
+      ap (λ (x : Id). object_by_id (state_of f) x) (id_of at known)
       ∙ ap (λ o. unwrap_or o (record { fields = []; value = 0; generation = 0; registered = false }))
       (objects-get f.heap stored.identities at.0 (placed_at f.heap at) (placed_is f.heap at known))
 
 -- field i of an object that is read
-pub field-read : (g : Addr → Id) (fields : List (Option Addr)) (i : ℕ) → get_or (map (option_map g) fields) i None ≡ option_map g (get_or fields i None)
+pub field-read : (g : Addr → Id) (fields : List (Option Addr)) (i : ℕ)
+    → get_or (map (option_map g) fields) i None ≡ option_map g (get_or fields i None)
 field-read g [] i = refl
 field-read g (v ∷ fields) zero = refl
 field-read g (v ∷ fields) (suc i) = field-read g fields i
 
 -- what stands at an address of a store
-module _ (f : Parts) (m : Machine) (view : machine_of f ≡ m) (stored : IsStored f) (at : Addr) (known : IsSome (get m.names at.0)) where
+module _ (f : Parts) (m : Machine) (view : machine_of f ≡ m) (stored : IsStored f) (at : Addr)
+    (known : IsSome (get m.names at.0)) where
   pub in_heap : has_object f.heap at ≡ true
   in_heap = known_object f.heap at (subst (λ (n : Machine). IsSome (get n.names at.0)) (sym view) known)
 
@@ -98,9 +107,11 @@ module _ (f : Parts) (m : Machine) (view : machine_of f ≡ m) (stored : IsStore
   value-is = ap (λ (o : Object Id). o.value) (sym named_object)
 
   pub generation-is : generation_at (object_at f.heap) at ≡ (object_named m at).generation
-  generation-is = ap generation_in (object_is f.heap at in_heap) ∙ ap (λ (o : Object Id). o.generation) (sym named_object)
+  generation-is = ap generation_in (object_is f.heap at in_heap)
+      ∙ ap (λ (o : Object Id). o.generation) (sym named_object)
 
-  pub field-is : (i : ℕ) → named_in m.names (get_or (fields_at (object_at f.heap) at) i None) ≡ field_of (object_named m at) i
+  pub field-is : (i : ℕ) → named_in m.names (get_or (fields_at (object_at f.heap) at) i None) ≡ field_of
+      (object_named m at) i
   field-is i =
       ap (λ (n : Machine). named_in n.names (get_or (fields_at (object_at f.heap) at) i None)) (sym view)
       ∙ named-is f.heap (get_or (fields_at (object_at f.heap) at) i None)
@@ -108,7 +119,8 @@ module _ (f : Parts) (m : Machine) (view : machine_of f ≡ m) (stored : IsStore
       ∙ sym (field-read (id_at f.heap) (placed_at f.heap at).fields i)
       ∙ ap (λ (o : Object Id). field_of o i) (sym named_object)
 
-  pub field-named : (i : ℕ) → i < length (object_named m at).fields → IsNamed m.names (get_or (fields_at (object_at f.heap) at) i None)
+  pub field-named : (i : ℕ) → i < length (object_named m at).fields
+      → IsNamed m.names (get_or (fields_at (object_at f.heap) at) i None)
   field-named i within =
       subst (λ (n : Machine). IsNamed n.names (get_or (fields_at (object_at f.heap) at) i None)) view
       (objects_named f.heap (get_or (fields_at (object_at f.heap) at) i None) (λ y is.

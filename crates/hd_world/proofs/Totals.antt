@@ -8,21 +8,24 @@ use Rattle.std.specs.Cmp.{nat_cmp_total}
 use Rattle.std.proofs.lemmas.List.{length-map}
 use Rattle.std.proofs.lemmas.List.Sums.{sum_by-cons}
 use Rattle.hd_world.proofs.Maps.{Among, both, below, find-mapped, source, AreApart, rekeyed, among-find, find-among, first, later}
-use Rattle.hd_world.proofs.Sums.{share, sum-insert}
+use Rattle.hd_model.proofs.Sums.{share, sum-insert}
 
 -- no key stands twice
 abbrev pub AreFresh : {A : Type 0} → List (ℕ × A) → Type 0
 AreFresh [] = Unit {0}
 AreFresh (e ∷ es) = (find nat_cmp e.0 es ≡ None) × AreFresh es
 
-found_none : {A : Type 0} (es : List (ℕ × A)) (k : ℕ) → find nat_cmp k es ≡ None → get (from_entries {R = nat_cmp} es) k ≡ None
+found_none : {A : Type 0} (es : List (ℕ × A)) (k : ℕ) → find nat_cmp k es ≡ None
+    → get (from_entries {R = nat_cmp} es) k ≡ None
 found_none es k is = get-from_entries nat_cmp_total es k ∙ is
 
-pub len-fresh : {A : Type 0} (es : List (ℕ × A)) → AreFresh es → len (from_entries {R = nat_cmp} es) ≡ length es
+pub len-fresh : {A : Type 0} (es : List (ℕ × A)) → AreFresh es
+    → len (from_entries {R = nat_cmp} es) ≡ length es
 len-fresh {A} [] fresh = len-empty nat_cmp A
 len-fresh (e ∷ es) fresh =
     len-insert nat_cmp_total (from_entries es) e.0 e.1
-    ∙ ap (λ o. cond (is_some o) (len (from_entries {R = nat_cmp} es)) (len (from_entries {R = nat_cmp} es) + 1)) (found_none es e.0 fresh.0)
+    ∙ ap (λ o. cond (is_some o) (len (from_entries {R = nat_cmp} es))
+    (len (from_entries {R = nat_cmp} es) + 1)) (found_none es e.0 fresh.0)
     ∙ ap (λ n. n + 1) (len-fresh es fresh.1) ∙ omega arith
 
 abbrev total : {A : Type 0} → (A → ℕ) → List (ℕ × A) → ℕ
@@ -35,12 +38,14 @@ no_values {A} f m none = by (entries m) (sym (len-entries m) ∙ none)
     by [] is = refl
     by (e ∷ es) is = absurd (omega arith)
 
-pub sum-fresh : {A : Type 0} (f : A → ℕ) (es : List (ℕ × A)) → AreFresh es → sum_by f (values (from_entries {R = nat_cmp} es)) ≡ sum_by f (map (λ e. e.1) es)
+pub sum-fresh : {A : Type 0} (f : A → ℕ) (es : List (ℕ × A)) → AreFresh es
+    → sum_by f (values (from_entries {R = nat_cmp} es)) ≡ sum_by f (map (λ e. e.1) es)
 sum-fresh {A} f [] fresh = no_values f (from_entries {R = nat_cmp} []) (len-empty nat_cmp A)
 sum-fresh f (e ∷ es) fresh =
     let rest = sum-fresh f es fresh.1 in
     let sum = sum-insert f (from_entries {R = nat_cmp} es) e.0 e.1 in
-    let none : share f (get (from_entries {R = nat_cmp} es) e.0) ≡ 0 = ap (share f) (found_none es e.0 fresh.0) in
+    let none : share f (get (from_entries {R = nat_cmp} es) e.0) ≡ 0 =
+    ap (share f) (found_none es e.0 fresh.0) in
     omega (arith, rest, sum, none, sum_by-cons f e.1 (map (λ w. w.1) es))
 
 module _ {X Y : Type 0} (key : X → ℕ) (f : ℕ → X → Y) where
@@ -51,10 +56,12 @@ module _ {X Y : Type 0} (key : X → ℕ) (f : ℕ → X → Y) where
   rest_apart : (e : ℕ × X) (es : List (ℕ × X)) → Apart (e ∷ es) → Apart es
   rest_apart e es apart a b p q first_in second_in = apart a b p q (later first_in) (later second_in)
 
-  not_found : (e : ℕ × X) (es : List (ℕ × X)) → T (below_all nat_cmp e.0 es) → Apart (e ∷ es) → find nat_cmp (key e.1) (rekeyed key f es) ≡ None
+  not_found : (e : ℕ × X) (es : List (ℕ × X)) → T (below_all nat_cmp e.0 es) → Apart (e ∷ es)
+      → find nat_cmp (key e.1) (rekeyed key f es) ≡ None
   not_found e es low apart = by (find nat_cmp (key e.1) (rekeyed key f es)) refl
     where
-      by : (o : Option Y) → find nat_cmp (key e.1) (rekeyed key f es) ≡ o → find nat_cmp (key e.1) (rekeyed key f es) ≡ None
+      by : (o : Option Y) → find nat_cmp (key e.1) (rekeyed key f es) ≡ o
+          → find nat_cmp (key e.1) (rekeyed key f es) ≡ None
       by None is = is
       by (Some y) is =
           let s = source key f es (key e.1) y is in
@@ -74,9 +81,11 @@ module _ {X Y : Type 0} (key : X → ℕ) (f : ℕ → X → Y) where
       (get-entries m a ∙ find-among a p (entries m) (entries_sorted m) first_in)
       (get-entries m b ∙ find-among b q (entries m) (entries_sorted m) second_in))
 
-  pub len-rekeyed : (m : FinMap nat_cmp X) → AreApart key m → len (from_entries {R = nat_cmp} (map (λ e. (key e.1, f e.0 e.1)) (entries m))) ≡ len m
+  pub len-rekeyed : (m : FinMap nat_cmp X) → AreApart key m
+      → len (from_entries {R = nat_cmp} (map (λ e. (key e.1, f e.0 e.1)) (entries m))) ≡ len m
   len-rekeyed m apart =
-      len-fresh (rekeyed key f (entries m)) (fresh-rekeyed m apart) ∙ length-map (entries m) (λ e. (key e.1, f e.0 e.1)) ∙ sym (len-entries m)
+      len-fresh (rekeyed key f (entries m)) (fresh-rekeyed m apart)
+      ∙ length-map (entries m) (λ e. (key e.1, f e.0 e.1)) ∙ sym (len-entries m)
 
 -- the same keys are as fresh as they were
 none_below : {A : Type 0} (k : ℕ) (es : List (ℕ × A)) → T (below_all nat_cmp k es) → find nat_cmp k es ≡ None
@@ -86,12 +95,15 @@ none_below {A} k es low = by (find nat_cmp k es) refl
     by None is = is
     by (Some v) is = let lower : k < k = below k k v es low (among-find k v es is) in absurd (omega arith)
 
-fresh_mapped : {X Y : Type 0} (f : ℕ → X → Y) (es : List (ℕ × X)) → T (is_sorted nat_cmp es) → AreFresh (map (λ e. (e.0, f e.0 e.1)) es)
+fresh_mapped : {X Y : Type 0} (f : ℕ → X → Y) (es : List (ℕ × X)) → T (is_sorted nat_cmp es)
+    → AreFresh (map (λ e. (e.0, f e.0 e.1)) es)
 fresh_mapped f [] sorted = tt
 fresh_mapped f (e ∷ es) sorted =
     let parts = both (below_all nat_cmp e.0 es) (is_sorted nat_cmp es) sorted in
     (find-mapped f e.0 es ∙ ap (option_map (f e.0)) (none_below e.0 es parts.0), fresh_mapped f es parts.1)
 
-pub len-mapped : {X Y : Type 0} (f : ℕ → X → Y) (m : FinMap nat_cmp X) → len (from_entries {R = nat_cmp} (map (λ e. (e.0, f e.0 e.1)) (entries m))) ≡ len m
+pub len-mapped : {X Y : Type 0} (f : ℕ → X → Y) (m : FinMap nat_cmp X)
+    → len (from_entries {R = nat_cmp} (map (λ e. (e.0, f e.0 e.1)) (entries m))) ≡ len m
 len-mapped f m =
-    len-fresh (map (λ e. (e.0, f e.0 e.1)) (entries m)) (fresh_mapped f (entries m) (entries_sorted m)) ∙ length-map (entries m) (λ e. (e.0, f e.0 e.1)) ∙ sym (len-entries m)
+    len-fresh (map (λ e. (e.0, f e.0 e.1)) (entries m)) (fresh_mapped f (entries m) (entries_sorted m))
+    ∙ length-map (entries m) (λ e. (e.0, f e.0 e.1)) ∙ sym (len-entries m)

@@ -1,13 +1,12 @@
 -- The chain of a kind has as many due clumps as the blocks of the kind in any order.
-use Rattle.std.proofs.Common.{◌≡◌, ◌≢◌, ℕ, ◌+◌, ◌*◌, ◌<◌, ◌≤◌, ◌&&◌, T, Bool, true, false, List, [], ◌∷◌, ◌++◌, map, length, Option, Some, None, refl, sym, ap, ◌∙◌, subst, arith, ⊎_elim, length-append, nat_le}
+use Rattle.std.proofs.Common.{◌≡◌, ◌≢◌, ℕ, ◌+◌, ◌*◌, ◌<◌, ◌&&◌, T, Bool, true, false, List, [], ◌∷◌, map, length, Option, Some, None, refl, sym, ap, ◌∙◌, subst, arith, ⊎_elim, length-append, nat_le}
 use Rattle.std.specs.Prelude.{sum_by, filter, Contains, AllPairs, slice_index}
 use Rattle.std.specs.FinMap.{FinMap, get, keys, entries, entries_sorted, is_sorted}
 use Rattle.std.specs.FinMap.Entries.{below_all}
 use Rattle.std.specs.Ordering.{nat_cmp, is_lt}
 use Rattle.std.proofs.lemmas.Bool.Decides.{nat_tests}
 use Rattle.std.proofs.lemmas.Bool.{eq-eqb, false≢true}
-use Rattle.std.proofs.lemmas.List.Elements.{Contains-append_left, Contains-append_right, Contains-append_cases}
-use Rattle.std.proofs.lemmas.List.Sums.{sum_by-cons, sum_by-append}
+use Rattle.std.proofs.lemmas.List.Sums.{sum_by-cons}
 use Rattle.hd_model.specs.declared.data.Kind.{Kind}
 use Rattle.hd_model.specs.declared.data.Kind.TheVariants as kind
 use Rattle.hd_model.specs.Kinds.{kind_number}
@@ -15,36 +14,12 @@ use Rattle.hd_model.specs.Ages.{clumps_of, visits}
 use Rattle.hd_model.specs.State.{State, BlockUse, handles_of, extra_data}
 use Rattle.hd_model.specs.Table.{Table, IsTable, chain_of}
 use Rattle.hd_model.specs.Visits.{visits_of}
-use Rattle.hd_model.proofs.Members.{not_in_none, pairs_none, pairs_cons, mapped_in, mapped_from, first_in, later_in, member_cases, member_same, split_at, pairs_first, pairs_rest, passing_from, passing_in, pairs_passing}
+use Rattle.hd_model.proofs.Members.{not_in_none, pairs_none, pairs_cons, mapped_in, mapped_from, member_cases, passing_from, passing_in, pairs_passing}
 use Rattle.hd_model.proofs.Entries.{entry_of}
 use Rattle.hd_model.proofs.KindTests.{same_kind}
+use Rattle.hd_model.proofs.Weighing.{lighter}
 use Rattle.hd_gc.specs.Steps.{CollectSteps}
 use Rattle.hd_world.specs.Visited.{has_kind, blocks_of, due_in, CollectedSteps}
-
--- members that are apart and stand in another list weigh at most as much as all of that
-lighter : {A : Type 0} (w : A → ℕ) (xs ys : List A) → AllPairs (λ x y. x ≢ y) xs
-    → ((x : A) → Contains xs x → Contains ys x) → sum_by w xs ≤ sum_by w ys
-lighter w [] ys apart within = omega arith
-lighter {A} w (x ∷ xs) ys apart within =
-    let (before, rest) = split_at ys x (within x (first_in x xs)) in
-    let after = rest.0 in
-    let others : (z : A) → Contains xs z → Contains (before ++ after) z =
-    λ z h. ⊎_elim (λ early. Contains-append_left before after z early)
-    (λ late. ⊎_elim (λ e. absurd (pairs_first (λ a b. a ≢ b) x xs apart z h e))
-    (λ beyond. Contains-append_right before after z beyond)
-    (member_cases x after z late))
-    (Contains-append_cases before (x ∷ after) z
-    (member_same ys (before ++ x ∷ after) rest.1 z (within z (later_in x xs z h)))) in
-    let short : sum_by w xs ≤ sum_by w (before ++ after) =
-    lighter w xs (before ++ after) (pairs_rest (λ a b. a ≢ b) x xs apart) others in
-    let whole : sum_by w ys ≡ sum_by w (before ++ x ∷ after) = ap (sum_by w) rest.1 in
-    omega (
-      arith,
-      sum_by-cons w x xs,
-      sum_by-append w before after,
-      sum_by-append w before (x ∷ after),
-      sum_by-cons w x after,
-    )
 
 -- the due clumps of a block
 abbrev due_of : List ℕ → ℕ → ℕ → ℕ

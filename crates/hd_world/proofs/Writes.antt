@@ -1,4 +1,5 @@
--- Another object with the same identity at an address of a store: what the machine sees, and that the store keeps what it keeps.
+-- Another object with the same identity at an address of a store: what the machine sees, and that the store
+-- keeps what it keeps.
 use Rattle.std.proofs.Common.{◌≡◌, ℕ, ◌+◌, ◌<◌, ◌≤◌, true, cond, map, length, Some, refl, sym, ap, ◌∙◌, ◌⊎◌, subst, inl, inr, arith}
 use Rattle.std.specs.Prelude.{option_map, is_some, IsSome, Contains, sum_by}
 use Rattle.std.specs.FinMap.{get, insert, values, len, len-insert}
@@ -19,17 +20,19 @@ use Rattle.hd_world.specs.Objects.{object_named}
 use Rattle.hd_heap.specs.Calls.{with_object as with_placed}
 use Rattle.hd_world.proofs.Standing.{placed_is, object_is, identity-is, named_object}
 use Rattle.hd_world.proofs.Maps.{get-put, get-put_other}
-use Rattle.hd_world.proofs.Sums.{share, sum-insert}
+use Rattle.hd_model.proofs.Sums.{share, sum-insert}
 use Rattle.hd_world.proofs.Readings.{Replaces, ids-replace, names-replace, rows-replace, identities-replace, objects-replace}
 
--- the heap k is h with another object of the same size at an address, which names objects, and with the cards that it needs
+-- the heap k is h with another object of the same size at an address, which names objects, and with the cards
+-- that it needs
 pub record Writes (h k : Heap) (at : Addr) (old new : Placed) : Type 0 where
   pub replaces : Replaces h k at.0 old new
   pub limit : k.limit ≡ h.limit
   pub size : length new.fields ≡ length old.fields
   pub names : (y : Addr) → Contains new.fields (Some y) → is_object (object_at h) y ≡ true
   pub carded : (x : Addr) → is_carded h x ≡ true → is_carded k x ≡ true
-  pub needed : (y : Addr) → Contains new.fields (Some y) → generation_at (object_at h) y < generation_at (object_at h) at → is_carded k at ≡ true
+  pub needed : (y : Addr) → Contains new.fields (Some y)
+      → generation_at (object_at h) y < generation_at (object_at h) at → is_carded k at ≡ true
 
 same_address : (x y : Addr) → x.0 ≡ y.0 → x ≡ y
 same_address x y e = λ i. record { 0 = e i }
@@ -64,7 +67,8 @@ module _ (h k : Heap) (at : Addr) (old new : Placed) (w : Writes h k at old new)
   pub is-object : (x : Addr) → is_object (object_at k) x ≡ is_object (object_at h) x
   is-object x =
       elim (cases_eq x.0 at.0) [
-        | inl same ↦ ap (λ a. is_object (object_at k) a) (same_address x at same) ∙ ap is_some object_there ∙ sym (ap is_some object_was)
+        | inl same ↦ ap (λ a. is_object (object_at k) a) (same_address x at same) ∙ ap is_some object_there
+            ∙ sym (ap is_some object_was)
             ∙ ap (λ a. is_object (object_at h) a) (sym (same_address x at same))
         | inr apart ↦ ap is_some (object_same x apart)
       ]
@@ -72,20 +76,27 @@ module _ (h k : Heap) (at : Addr) (old new : Placed) (w : Writes h k at old new)
   pub generation-same : (x : Addr) → generation_at (object_at k) x ≡ generation_at (object_at h) x
   generation-same x =
       elim (cases_eq x.0 at.0) [
-        | inl same ↦ ap (λ a. generation_at (object_at k) a) (same_address x at same) ∙ ap generation_in object_there ∙ sym (ap generation_in object_was)
+        | inl same ↦ ap (λ a. generation_at (object_at k) a) (same_address x at same)
+            ∙ ap generation_in object_there ∙ sym (ap generation_in object_was)
             ∙ ap (λ a. generation_at (object_at h) a) (sym (same_address x at same))
         | inr apart ↦ ap generation_in (object_same x apart)
       ]
 
   -- a field of k names what a field of h named, or stands in the object that is written
-  field_from : (x y : Addr) → IsField (object_at k) x y → IsField (object_at h) x y ⊎ ((x ≡ at) × Contains new.fields (Some y))
+  field_from : (x y : Addr) → IsField (object_at k) x y
+      → IsField (object_at h) x y ⊎ ((x ≡ at) × Contains new.fields (Some y))
   field_from x y field =
       elim (cases_eq x.0 at.0) [
-        | inl same ↦ inr (same_address x at same, subst (λ o. Contains (fields_in o) (Some y)) (ap (object_at k) (same_address x at same) ∙ object_there) field)
+        | inl same ↦ inr (
+          same_address x at same,
+          subst (λ o. Contains (fields_in o) (Some y))
+              (ap (object_at k) (same_address x at same) ∙ object_there) field,
+        )
         | inr apart ↦ inl (subst (λ o. Contains (fields_in o) (Some y)) (object_same x apart) field)
       ]
 
-  pub fields-whole : ((x y : Addr) → IsField (object_at h) x y → is_object (object_at h) y ≡ true) → (x y : Addr) → IsField (object_at k) x y → is_object (object_at k) y ≡ true
+  pub fields-whole : ((x y : Addr) → IsField (object_at h) x y → is_object (object_at h) y ≡ true)
+      → (x y : Addr) → IsField (object_at k) x y → is_object (object_at k) y ≡ true
   fields-whole whole x y field =
       elim (field_from x y field) [
         | inl before ↦ is-object y ∙ whole x y before
@@ -94,25 +105,29 @@ module _ (h k : Heap) (at : Addr) (old new : Placed) (w : Writes h k at old new)
 
   pub cards-sound : HasSoundCards (object_at h) (is_carded h) → HasSoundCards (object_at k) (is_carded k)
   cards-sound sound x y field younger =
-      let before : generation_at (object_at h) y < generation_at (object_at h) x = omega (arith, generation-same x, generation-same y, younger) in
+      let before : generation_at (object_at h) y < generation_at (object_at h) x =
+      omega (arith, generation-same x, generation-same y, younger) in
       elim (field_from x y field) [
         | inl was ↦ w.carded x (sound x y was before)
         | inr here ↦ subst (λ a. is_carded k a ≡ true) (sym here.0)
-            (w.needed y here.1 (subst (λ a. generation_at (object_at h) y < generation_at (object_at h) a) here.0 before))
+            (w.needed y here.1
+            (subst (λ a. generation_at (object_at h) y < generation_at (object_at h) a) here.0 before))
       ]
 
   pub used-same : used_of k ≡ used_of h
   used-same =
       let sum = sum-insert cells_of h.objects at.0 new in
       let was : share cells_of (get h.objects at.0) ≡ cells_of old = ap (share cells_of) r.was in
-      let is : used_of k ≡ sum_by cells_of (values (insert h.objects at.0 new)) = ap (λ m. sum_by cells_of (values m)) r.objects in
+      let is : used_of k ≡ sum_by cells_of (values (insert h.objects at.0 new)) =
+      ap (λ m. sum_by cells_of (values m)) r.objects in
       omega (arith, sum, was, is, w.size)
 
 -- the parts with another heap
 abbrev pub with_heap : Parts → Heap → Parts
 with_heap f k = record f { heap = k }
 
-module _ (f : Parts) (k : Heap) (at : Addr) (old new : Placed) (w : Writes f.heap k at old new) (stored : IsStored f) where
+module _ (f : Parts) (k : Heap) (at : Addr) (old new : Placed) (w : Writes f.heap k at old new)
+    (stored : IsStored f) where
   held_same : (r : ℕ) → is_held k r ≡ is_held f.heap r
   held_same r = ap (λ rs. is_held (record f.heap { regions = rs }) r) w.replaces.regions
 
@@ -134,15 +149,19 @@ module _ (f : Parts) (k : Heap) (at : Addr) (old new : Placed) (w : Writes f.hea
           fields = fields-whole h k at old new w stored.whole.fields;
           named = λ x c. is-object h k at old new w x ∙ stored.whole.named x c;
           queue = λ x c. is-object h k at old new w x ∙ stored.whole.queue x c;
-          targets = λ slot row x is target. is-object h k at old new w x ∙ stored.whole.targets slot row x is target;
-          secondaries = λ slot row x is second. is-object h k at old new w x ∙ stored.whole.secondaries slot row x is second;
+          targets = λ slot row x is target. is-object h k at old new w x
+              ∙ stored.whole.targets slot row x is target;
+          secondaries = λ slot row x is second. is-object h k at old new w x
+              ∙ stored.whole.secondaries slot row x is second;
           paired = stored.whole.paired;
           fits = stored.whole.fits;
         };
         identities = identities-replace h k at.0 old new w.replaces stored.identities;
         ages = record {
-          targets = λ slot row x is target. subst (λ g. age_of f.ages slot ≤ g) (sym (generation-same h k at old new w x)) (stored.ages.targets slot row x is target);
-          secondaries = λ slot row x is second. subst (λ g. age_of f.ages slot ≤ g) (sym (generation-same h k at old new w x)) (stored.ages.secondaries slot row x is second);
+          targets = λ slot row x is target. subst (λ g. age_of f.ages slot ≤ g)
+              (sym (generation-same h k at old new w x)) (stored.ages.targets slot row x is target);
+          secondaries = λ slot row x is second. subst (λ g. age_of f.ages slot ≤ g)
+              (sym (generation-same h k at old new w x)) (stored.ages.secondaries slot row x is second);
         };
         cards = cards-sound h k at old new w stored.cards;
         full = full_write;
@@ -157,7 +176,11 @@ module _ (f : Parts) (k : Heap) (at : Addr) (old new : Placed) (w : Writes f.hea
       }
 
   -- the machine sees another object with that identity, and nothing else
-  pub machine-write : machine_of (with_heap f k) ≡ record (machine_of f) { state = with_object (state_of f) old.id (read_object f.heap at.0 new); heap = without_spare k }
+  pub machine-write : machine_of (with_heap f k)
+      ≡ record (machine_of f) {
+        state = with_object (state_of f) old.id (read_object f.heap at.0 new);
+        heap = without_spare k;
+      }
   machine-write =
       let h = f.heap in
       λ i. record {
@@ -165,9 +188,11 @@ module _ (f : Parts) (k : Heap) (at : Addr) (old new : Placed) (w : Writes f.hea
         state = record {
           objects = objects-replace h k at.0 old new w.replaces stored.identities i;
           handles = rows-replace h k at.0 old new w.replaces f.table.rows i;
-          registers = rows_of (callers_of f) (map (option_map (ids-replace h k at.0 old new w.replaces i)) f.roots);
+          registers =
+              rows_of (callers_of f) (map (option_map (ids-replace h k at.0 old new w.replaces i)) f.roots);
           handle_registers = f.handle_registers;
-          statics = rest_of (callers_of f) (map (option_map (ids-replace h k at.0 old new w.replaces i)) f.roots);
+          statics =
+              rest_of (callers_of f) (map (option_map (ids-replace h k at.0 old new w.replaces i)) f.roots);
           board = f.board;
           queue = map (ids-replace h k at.0 old new w.replaces i) f.queue.waiting;
           places = (state_of f).places;
@@ -180,7 +205,15 @@ module _ (f : Parts) (k : Heap) (at : Addr) (old new : Placed) (w : Writes f.hea
       }
 
 -- the machine sees the object at an address changed
-pub written : (f : Parts) (m : Machine) (view : machine_of f ≡ m) (stored : IsStored f) (at : Addr) (known : IsSome (get m.names at.0)) (k : Heap) (new : Placed) → Writes f.heap k at (placed_at f.heap at) new → (change : Object Id → Object Id) → read_object f.heap at.0 new ≡ change (read_object f.heap at.0 (placed_at f.heap at)) → machine_of (with_heap f k) ≡ record m { state = with_object m.state (name_in m.names at) (change (object_named m at)); heap = without_spare k }
+pub written : (f : Parts) (m : Machine) (view : machine_of f ≡ m) (stored : IsStored f) (at : Addr)
+    (known : IsSome (get m.names at.0)) (k : Heap) (new : Placed)
+    → Writes f.heap k at (placed_at f.heap at) new → (change : Object Id → Object Id)
+    → read_object f.heap at.0 new ≡ change (read_object f.heap at.0 (placed_at f.heap at))
+    → machine_of (with_heap f k)
+    ≡ record m {
+      state = with_object m.state (name_in m.names at) (change (object_named m at));
+      heap = without_spare k;
+    }
 written f m view stored at known k new w change is =
     machine-write f k at (placed_at f.heap at) new w stored
     ∙ (λ i. record (view i) {
@@ -190,10 +223,13 @@ written f m view stored at known k new w change is =
     })
 
 -- a write that leaves the fields and the cards
-pub writes_beside : (f : Parts) (stored : IsStored f) (at : Addr) → has_object f.heap at ≡ true → (new : Placed) → new.id ≡ (placed_at f.heap at).id → new.fields ≡ (placed_at f.heap at).fields → Writes f.heap (with_placed f.heap at new) at (placed_at f.heap at) new
+pub writes_beside : (f : Parts) (stored : IsStored f) (at : Addr) → has_object f.heap at ≡ true
+    → (new : Placed) → new.id ≡ (placed_at f.heap at).id → new.fields ≡ (placed_at f.heap at).fields
+    → Writes f.heap (with_placed f.heap at new) at (placed_at f.heap at) new
 writes_beside f stored at known new same fields =
     let is-field : (y : Addr) → Contains new.fields (Some y) → IsField (object_at f.heap) at y =
-    λ y c. subst (λ o. Contains (fields_in o) (Some y)) (sym (object_is f.heap at known)) (subst (λ xs. Contains xs (Some y)) fields c) in
+    λ y c. subst (λ o. Contains (fields_in o) (Some y)) (sym (object_is f.heap at known))
+    (subst (λ xs. Contains xs (Some y)) fields c) in
     record {
       replaces = record { was = placed_is f.heap at known; same = same; objects = refl; regions = refl };
       limit = refl;

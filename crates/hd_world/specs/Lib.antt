@@ -12,3 +12,4 @@ pub mod Counts
 pub mod Placed
 pub mod Making
 pub mod World
+pub mod Listing

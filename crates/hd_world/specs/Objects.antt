@@ -4,17 +4,17 @@ use Rattle.hd_model.specs.declared.data.Id.{Id}
 use Rattle.hd_model.specs.declared.data.Addr.{Addr}
 use Rattle.hd_heap.specs.declared.fault.NewFault.{NewFault}
 use Rattle.hd_heap.specs.declared.fault.NewFault.TheVariants.{Full, Memory}
-use Rattle.hd_model.specs.State.{Object, object_at, used_of}
+use Rattle.hd_model.specs.State.{Object, object_by_id, total_size}
 use Rattle.hd_world.specs.Store.{Machine}
 use Rattle.hd_world.specs.Reading.{name_in}
 
 -- the object at an address
 abbrev pub object_named : Machine → Addr → Object Id
-object_named m at = object_at m.state (name_in m.names at)
+object_named m at = object_by_id m.state (name_in m.names at)
 
 -- nothing is changed, and the heap is full exactly where the limit does not allow so many cells more
 abbrev pub IsRefused : Machine → Machine → ℕ → NewFault → Type 0
 IsRefused old new cells (Full used size) =
-    (new ≡ old) × (used ≡ used_of old.state) × (size ≡ cells)
-    × (old.numbers.heap < used_of old.state + cells)
-IsRefused old new cells Memory = (new ≡ old) × (used_of old.state + cells ≤ old.numbers.heap)
+    (new ≡ old) × (used ≡ total_size old.state) × (size ≡ cells)
+    × (old.numbers.heap < total_size old.state + cells)
+IsRefused old new cells Memory = (new ≡ old) × (total_size old.state + cells ≤ old.numbers.heap)

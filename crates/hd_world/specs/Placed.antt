@@ -26,7 +26,8 @@ pub same_places : (m : Machine) (journal : List Entry) (p q : FinMap nat_cmp ℕ
     → ∥ IsTrueRun m journal q ∥₁ → p ≡ q
 same_places m journal p q a b =
     let alike = Coded-set (map.code coded_ℕ coded_ℕ) p q in
-    ∥∥₁_elim a alike (λ x. ∥∥₁_elim b alike (λ y. one_places m.numbers journal m.state m.ages p q x.run y.run))
+    ∥∥₁_elim a alike
+    (λ x. ∥∥₁_elim b alike (λ y. one_places m.numbers journal m.state m.ages p q x.run y.run))
 
 -- there is at most one such map, since a journal leads to one state
 pub Placed-prop : (m : Machine) (journal : List Entry) → IsProp (Placed m journal)

@@ -3,6 +3,7 @@ use Rattle.std.specs.Prelude.{◌≡◌, ◌↔◌, ℕ, ◌+◌, ◌/◌, ◌�
 use Rattle.std.specs.FinMap.{FinMap, get, insert, retain_keys, len}
 use Rattle.std.specs.Ordering.{nat_cmp}
 use Rattle.hd_model.specs.declared.data.Id.{Id}
+use Rattle.hd_model.specs.declared.limits.TheConstants.{LEFT, OPEN}
 use Rattle.hd_model.specs.declared.data.Addr.{Addr}
 use Rattle.hd_model.specs.declared.data.Entry.{Entry}
 use Rattle.hd_model.specs.declared.data.Report.{Report}
@@ -55,7 +56,7 @@ kept_places s places = retain_keys places (is_pinned s.handles)
 pub record IsCompactStore (handles : FinMap nat_cmp (Handle Id)) (heap : Heap) : Type 0 where
   pub pinned : ℕ
   pub pinned_is : Counts (IsPinned (λ slot. get handles slot)) pinned
-  pub regions : len heap.regions ≤ used_of heap / 193 + 3 + pinned
+  pub regions : len heap.regions ≤ used_of heap / LEFT + OPEN + pinned
 
 -- a store is collected: the state by identity, whatever places were answered, the ages, and the cards, which
 -- are set just where they are needed; after a collection of generation 2 the heap is compact

@@ -1,5 +1,5 @@
--- What stands at addresses, read by identity: the objects of a heap and the rows of a table as the machine has
--- them.
+-- What stands at addresses, read by identity: the objects of a heap and the rows of a table as the machine
+-- has them.
 use Rattle.std.specs.Prelude.{ℕ, Option, unwrap_or, option_map, map, IsSome, IfSome}
 use Rattle.std.specs.FinMap.{FinMap, get, entries, from_entries}
 use Rattle.std.specs.Ordering.{nat_cmp}

@@ -9,7 +9,7 @@ use Rattle.hd_model.specs.declared.data.Refusal.TheVariants as refusal
 use Rattle.hd_model.specs.declared.data.Reply.TheVariants as reply
 use Rattle.hd_model.specs.declared.command.Cmd.{Cmd}
 use Rattle.hd_model.specs.declared.command.Cmd.TheVariants as cmd
-use Rattle.hd_model.specs.State.{Numbers, State, given_of, used_of, block_of, first_slot, IsFree, IsAllFree}
+use Rattle.hd_model.specs.State.{Numbers, State, given_of, total_size, block_of, first_slot, IsFree, IsAllFree}
 use Rattle.hd_model.specs.Kinds.{kind_of}
 use Rattle.hd_model.specs.Step.{blocks_needed}
 use Rattle.hd_model.specs.Code.{numbers_code, state_code, entry_code, heap_code}
@@ -129,7 +129,7 @@ Takes e c slot = TakesFor e (asks_of c) slot
 -- a full heap is answered before memory is taken: the heap has room for the object of a `new` that finds no
 -- memory
 abbrev pub HasRoom : Numbers → State → Asks → Type 0
-HasRoom n s (object_room fields) = used_of s + (fields + 3) ≤ n.heap
+HasRoom n s (object_room fields) = total_size s + (fields + 3) ≤ n.heap
 HasRoom n s (handle_slot kind) = Unit {0}
 HasRoom n s (block_back kind) = Unit {0}
 HasRoom n s no_room = Unit {0}

@@ -27,7 +27,7 @@ impl Store {
             CollectedSteps self.old.state self.old.ages n report.kept steps.old steps.new)
             (λ _. (self.new ≡ self.old) × (steps.new ≡ steps.old)) }
     {
-        // Each chain has the blocks of its kind, each once.
+        // Read for the proof alone: each chain has the blocks of its kind, each once.
         let _live = self.table.live();
         collect(
             self.alloc,

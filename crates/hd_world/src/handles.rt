@@ -10,12 +10,9 @@ ghost use Rattle.hd_world.specs.Handles.{handle_named, MayStand};
 ghost use Rattle.hd_world.specs.Growth.{GrowsBy, kind_in_use};
 
 use crate::store::Store;
-use hd_model::limits::{BLOCKS, CLUMPS, ROWS};
+use hd_model::limits::{BLOCKS, CLUMP, CLUMPS, ROWS};
 use hd_model::{Grown, Kind, Slot};
 use hd_seg::{BlockKind, Full, Row};
-
-// The slots of a clump.
-const CLUMP_ROWS: u32 = ROWS / CLUMPS;
 
 /// A live handle: its kind and its row.
 #[derive(Clone, Copy)]
@@ -41,7 +38,8 @@ impl Store {
 
     /// The handle in a slot, if the slot is live.
     pub(crate) fn handle(&self, slot: Slot) -> Option<Live>
-        ensures value { let named = option_map (λ live. handle_named self.now live.kind live.row) result in
+        ensures value { let named =
+            option_map (λ live. handle_named self.now live.kind live.row) result in
             handle_at self.now.state slot ≡ named }
         ensures may { IfSome result (λ live. MayStand self.now slot live.kind live.row) }
         ensures within { OnSome result
@@ -58,8 +56,7 @@ impl Store {
         requires high { block_of slot ≤ self.old.numbers.blocks }
         ensures { self.new ≡ record self.old { ages = lowered self.old.ages slot.0 g } }
     {
-        self.ages
-            .lower(slot.0 / ROWS, slot.0 / CLUMP_ROWS % CLUMPS, g);
+        self.ages.lower(slot.0 / ROWS, slot.0 / CLUMP % CLUMPS, g);
     }
 
     /// Puts a row into a free slot.
@@ -74,7 +71,8 @@ impl Store {
 
     /// Puts another row into a live slot.
     pub(crate) fn set_row(&mut self, slot: Slot, kind: Kind, row: Row)
-        requires live { option_map (λ handle. handle.kind) (handle_at self.old.state slot) ≡ Some kind }
+        requires live { option_map (λ handle. handle.kind) (handle_at self.old.state slot)
+            ≡ Some kind }
         requires may { MayStand self.old slot kind row }
         ensures { let after = with_handle self.old.state slot (handle_named self.old kind row) in
             self.new ≡ record self.old { state = after } }
@@ -91,8 +89,8 @@ impl Store {
         self.table.take_row(slot);
     }
 
-    /// Brings the least unused block into use for a kind, with the next one for its extra data where
-    /// it has some. After a refusal nothing is changed.
+    /// Brings the least unused block into use for a kind, with the next one for its extra data
+    /// where it has some. After a refusal nothing is changed.
     pub(crate) fn grow(&mut self, kind: Kind) -> Result<Grown, Full>
         ensures grown { IfOk result (GrowsBy self.old.numbers self.old.state kind) }
         ensures after { IfOk result (λ grown.

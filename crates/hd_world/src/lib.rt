@@ -1,10 +1,11 @@
-//! The world of objects and handles: what the commands of a script do to the heap, the table and the
-//! registers, with the journal of all that was done.
+//! The world of objects and handles: what the commands of a script do to the heap, the table and
+//! the registers, with the journal of all that was done.
 #![tactic(auto)]
 
 mod collection;
 mod commands;
 mod handles;
+mod listing;
 mod making;
 mod objects;
 mod on_handles;
@@ -12,8 +13,6 @@ mod on_objects;
 mod order;
 mod places;
 mod store;
-#[cfg(test)]
-mod tests;
 mod world;
 
 pub use world::World;

@@ -3,7 +3,7 @@ ghost use Rattle.std.specs.Prelude.{◌≡◌, ◌≢◌, ℕ, ◌+◌, ◌<◌,
 ghost use Rattle.std.specs.Prelude.{Some, None, IsSome, IfOk, IfErr, OnOk, MatchResult, MatchOption, max, ◌⊎◌, [], ◌∷◌};
 ghost use Rattle.std.specs.FinMap.{get, insert, len};
 ghost use Rattle.hd_heap.specs.Calls.{IsMade, new_object, IsRefused as IsRefusedBy};
-ghost use Rattle.hd_model.specs.State.{object_at, field_of, last_serial, identity_of, used_of};
+ghost use Rattle.hd_model.specs.State.{object_by_id, field_of, last_serial, identity_of, total_size};
 ghost use Rattle.hd_model.specs.State.{with_object, with_serial, with_queue};
 ghost use Rattle.hd_world.specs.Reading.{name_in, named_in, IsNamed};
 ghost use Rattle.hd_model.specs.Command.{fresh_object};
@@ -13,11 +13,8 @@ ghost use Rattle.hd_world.specs.Places.{KeepsNames};
 use crate::store::Store;
 use hd_final::Final;
 use hd_heap::{Heap, NewFault};
-use hd_model::limits::FIELDS;
+use hd_model::limits::{FIELDS, HEADER};
 use hd_model::{Addr, Id, Memory};
-
-// The cells of an object beside its fields.
-const HEADER: u32 = 3;
 
 // The identity of a caller's object with a serial.
 fn identity(caller: u32, serial: u32) -> Id
@@ -170,7 +167,8 @@ impl Store {
               names = insert self.old.names at.0 id;
               heap = self.new.heap;
             }) }
-        ensures fits { OnOk result (used_of self.old.state + (fields + 3) ≤ self.old.numbers.heap) }
+        ensures fits { OnOk result
+            (total_size self.old.state + (fields + 3) ≤ self.old.numbers.heap) }
         ensures known { IfOk result (λ at. IsSome (get self.new.names at.0)) }
         ensures kept { OnOk result (KeepsNames self.old.names self.new.names) }
         ensures refused { IfErr result (IsRefused self.old self.new (fields + 3)) }
@@ -191,7 +189,8 @@ impl Store {
         ensures queue { MatchOption result
             ((self.old.state.queue ≡ []) × (self.new ≡ self.old))
             (λ at. (self.old.state.queue ≡ name_in self.old.names at ∷ self.new.state.queue) ×
-            (self.new ≡ record self.old { state = with_queue self.old.state self.new.state.queue })) }
+            (self.new
+            ≡ record self.old { state = with_queue self.old.state self.new.state.queue })) }
         ensures named { IsNamed self.new.names result }
     {
         self.queue.pop()

@@ -175,8 +175,10 @@ pub(crate) fn lower_to(store: &mut Store, slot: Slot, target: Option<Addr>)
 fn extra_beside(extra: Extra, target: Option<Addr>) -> Result<Extra, Refusal>
     ensures { let names = is_some target in
         MatchResult result
-        (λ e. (extra_of e ≡ without_secondary (extra_of extra)) × ((is_secondary (extra_of extra) && names) ≡ false))
-        (λ refused. (refused ≡ refusal.WrongKind) × ((is_secondary (extra_of extra) && names) ≡ true)) }
+        (λ e. (extra_of e ≡ without_secondary (extra_of extra))
+        × ((is_secondary (extra_of extra) && names) ≡ false))
+        (λ refused. (refused ≡ refusal.WrongKind)
+        × ((is_secondary (extra_of extra) && names) ≡ true)) }
 {
     match (extra, target) {
         (Extra::Secondary(_), Some(_)) => Err(Refusal::WrongKind),
@@ -220,7 +222,8 @@ pub(crate) fn set_secondary(store: &mut Store, order: Order, h: u8, s: u8) -> En
         result ≡ entry_of order.caller order.cmd wanted }
     ensures store { let wanted = set_secondary store.old.state order.caller h s in
         let slot = handle_register_of store.old.state order.caller h in
-        let ages = cond (is_refused wanted.reply) store.old.ages (lowered_at store.old.ages slot 0) in
+        let lowered = lowered_at store.old.ages slot 0 in
+        let ages = cond (is_refused wanted.reply) store.old.ages lowered in
         store.new ≡ record (after store.old wanted) { ages = ages } }
 {
     let (slot, live) = match live_in(store, order.caller, h) {

@@ -3,7 +3,7 @@ ghost use Rattle.std.specs.Prelude.{◌≡◌, ◌+◌, ◌<◌, ◌≤◌, ◌^
 ghost use Rattle.std.specs.Prelude.{IfOk, OnErr, MatchResult};
 ghost use Rattle.std.specs.FinMap.{get, insert};
 ghost use Rattle.hd_model.specs.declared.data.Refusal.TheVariants as refusal;
-ghost use Rattle.hd_model.specs.State.{register_of, last_serial, identity_of, used_of};
+ghost use Rattle.hd_model.specs.State.{register_of, last_serial, identity_of, total_size};
 ghost use Rattle.hd_model.specs.Command.{loaded, new_object, set_field, get_field, set_value};
 ghost use Rattle.hd_model.specs.Command.{read_value, copy_register, clear_register, put_static};
 ghost use Rattle.hd_model.specs.Command.{get_static, read_generation, set_registered, take_queued};
@@ -67,7 +67,8 @@ pub(crate) fn new_object(
     ensures numbers { store.new.numbers ≡ store.old.numbers }
     ensures ages { store.new.ages ≡ store.old.ages }
     ensures names { KeepsNames store.old.names store.new.names }
-    ensures fits { OnErr result (used_of store.old.state + (fields + 3) ≤ store.old.numbers.heap) }
+    ensures fits { OnErr result
+        (total_size store.old.state + (fields + 3) ≤ store.old.numbers.heap) }
     ensures unchanged { OnErr result (store.new ≡ store.old) }
 {
     match store.add_object(order.caller, fields, fin) {

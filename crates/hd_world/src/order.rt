@@ -15,7 +15,13 @@ impl Order {
     /// The entry of a command that gives and frees no slot.
     pub(crate) fn reply(self, reply: Reply) -> Entry
         ensures { let cmd = self.cmd in
-            result ≡ record { caller = self.caller; cmd = cmd; slot = None; grown = Zero; reply = reply } }
+            result ≡ record {
+              caller = self.caller;
+              cmd = cmd;
+              slot = None;
+              grown = Zero;
+              reply = reply;
+            } }
     {
         Entry {
             caller: self.caller,
@@ -29,7 +35,13 @@ impl Order {
     /// The entry of a refused command.
     pub(crate) fn refuse(self, refusal: Refusal) -> Entry
         ensures { let refused = reply.Refused refusal in
-            result ≡ record { caller = self.caller; cmd = self.cmd; slot = None; grown = Zero; reply = refused } }
+            result ≡ record {
+              caller = self.caller;
+              cmd = self.cmd;
+              slot = None;
+              grown = Zero;
+              reply = refused;
+            } }
     {
         self.reply(Reply::Refused(refusal))
     }

@@ -47,7 +47,7 @@ impl Store {
         ensures value { result ≡ at.0 }
         ensures place { HasPlace self.now at }
     {
-        // Objects lie apart, below 2^32.
+        // Read for the proof alone: objects lie apart, below 2^32.
         let _objects = self.heap.count();
         at.0
     }

@@ -2,7 +2,7 @@ ghost use Rattle.std.specs.Prelude.{◌≡◌, ℕ, ◌+◌, ◌*◌, ◌<◌, �
 ghost use Rattle.std.specs.Prelude.{None, IfOk};
 ghost use Rattle.std.specs.FinMap.{len, empty};
 ghost use Rattle.hd_model.specs.State.{Numbers, start_of, register_of, handle_register_of};
-ghost use Rattle.hd_model.specs.State.{static_of, board_of, used_of};
+ghost use Rattle.hd_model.specs.State.{static_of, board_of, total_size};
 ghost use Rattle.hd_model.specs.State.{with_register, with_handle_register, with_static};
 ghost use Rattle.hd_model.specs.State.{with_board};
 ghost use Rattle.hd_world.specs.Reading.{named_in, IsNamed};
@@ -82,7 +82,8 @@ impl Store {
         requires heap { heap ≤ HEAP }
         requires blocks { blocks ≤ BLOCKS }
         requires callers { callers ≤ CALLERS }
-        ensures numbers { let n : Numbers = record { heap = heap; blocks = blocks; callers = callers } in
+        ensures numbers { let n : Numbers =
+            record { heap = heap; blocks = blocks; callers = callers } in
             IfOk result (λ s. s.numbers ≡ n) }
         ensures state { IfOk result (λ s. s.state ≡ start_of s.numbers) }
         ensures names { IfOk result (λ s. s.names ≡ empty) }

@@ -7,6 +7,7 @@ ghost use Rattle.hd_model.specs.Step.{Step};
 ghost use Rattle.hd_model.specs.Run.{Run};
 ghost use Rattle.hd_model.specs.Aging.{AgedRun, aged_by};
 ghost use Rattle.hd_model.specs.Valid.{IsValid, takes_memory};
+ghost use Rattle.hd_model.specs.RootText.{roots_of};
 ghost use Rattle.hd_model.specs.Text.{collections_of, is_collect};
 ghost use Rattle.hd_world.specs.Growth.{kind_in_use};
 ghost use Rattle.hd_world.specs.Placed.{Placed, Placed-prop};
@@ -18,15 +19,16 @@ use crate::commands;
 use crate::order::Order;
 use crate::store::Store;
 use hd_model::limits::{BLOCKS, CALLERS, HEAP};
-use hd_model::{Cmd, Entry, Held, Journal, Kind, Memory, Slot, Steps};
+use hd_model::{Cmd, Entry, Held, Journal, Kind, Memory, RootId, Slot, Steps};
 use std::alloc::Global;
 use std::marker::Model;
 use std::sync::ledger::Ledger;
+use std::thread::Threads;
 
-/// A world of objects and handles, seen as its numbers, its state, the ages of its clumps, its heap,
-/// its journal, and for how many more entries there is room. The journal is a run of the machine that
-/// leads to the state and leaves the ages. A world is made by `open` alone, and its journal grows by
-/// `apply` alone.
+/// A world of objects and handles, seen as its numbers, its state, the ages of its clumps, its
+/// heap, its journal, and for how many more entries there is room. The journal is a run of the
+/// machine that leads to the state and leaves the ages. A world is made by `open` alone, and its
+/// journal grows by `apply` alone.
 #[derive(Drop)]
 pub struct World {
     store: Store,
@@ -87,20 +89,21 @@ impl World {
         requires heap { (3 ≤ heap) × (heap ≤ HEAP) }
         requires blocks { (1 ≤ blocks) × (blocks ≤ BLOCKS) }
         requires callers { (1 ≤ callers) × (callers ≤ CALLERS) }
-        ensures numbers { let n : Numbers = record { heap = heap; blocks = blocks; callers = callers } in
+        ensures numbers { let n : Numbers =
+            record { heap = heap; blocks = blocks; callers = callers } in
             IfOk result (λ w. w.numbers ≡ n) }
         ensures empty { IfOk result (λ w. w.journal ≡ []) }
         ensures state { IfOk result (λ w. w.state ≡ start_of w.numbers) }
-        ensures room { IfOk result (λ w. lines ≤ w.spare) }
+        ensures room { IfOk result (λ w. w.spare ≡ lines) }
     {
         let store = Store::open(alloc, heap, blocks, callers)?;
         let journal = Journal::open(alloc, lines)?;
         Ok(World { store, journal })
     }
 
-    /// Does a command of a caller and appends its entry to the journal. To `hnew` a free slot of its
-    /// kind may be offered, to `trim` the first slot of a block of its kind whose slots are all free,
-    /// and to no other command anything. Want of memory changes nothing.
+    /// Does a command of a caller and appends its entry to the journal. To `hnew` a free slot of
+    /// its kind may be offered, to `trim` the first slot of a block of its kind whose slots are all
+    /// free, and to no other command anything. Want of memory changes nothing.
     pub fn apply<L: Ledger>(
         &mut self,
         caller: u32,
@@ -136,7 +139,7 @@ impl World {
             IfOk result (λ e. TakesSteps s ages e steps.old steps.new) }
         ensures unstepped { OnErr result (steps.new ≡ steps.old) }
     {
-        // The journal's length bounds the serials and the counts.
+        // Read for the proof alone: the journal's length bounds the serials and the counts.
         let _room = self.journal.spare();
         let entry = commands::run(&mut self.store, Order { caller, cmd }, offer, steps)?;
         self.journal.push(entry);
@@ -180,6 +183,16 @@ impl World {
         ensures { result ≡ len self.now.state.objects }
     {
         self.store.objects()
+    }
+
+    /// The handles that hold their targets, in rising slot. It takes memory for them.
+    pub fn roots(&self, rt: &(impl Threads + Sync), alloc: Global) -> Result<Vec<RootId>, Memory>
+        ensures value { IfOk result (λ roots. roots.items ≡ roots_of self.now.state) }
+        ensures few { IfOk result (λ roots. length roots.items < 2 ^ 32) }
+    {
+        // The read brings a limit of the handles, and so of the roots.
+        let _live = self.store.live();
+        self.store.roots(rt, alloc)
     }
 
     /// The number of collections that the journal has.

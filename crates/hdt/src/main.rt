@@ -9,7 +9,8 @@ use std::io::ErrorKind;
 use std::process::ExitCode;
 use std::rt::Env;
 
-// The status of a call whose words could not be collected for want of memory. Nothing is written then.
+// The status of a call whose words could not be collected for want of memory. Nothing is written
+// then.
 const NO_MEMORY: u8 = 6;
 
 // The words of the command line, the program's name first. Words that are no text count as none.

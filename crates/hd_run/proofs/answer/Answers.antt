@@ -1,4 +1,4 @@
-use Rattle.std.proofs.Common.{◌≡◌, ◌∙◌, Some, sym, ap, subst, refl}
+use Rattle.std.proofs.Common.{Some, sym, ap, subst, refl}
 use Rattle.hd_run.specs.declared.report.Form.{Form}
 use Rattle.hd_run.specs.declared.request.Mode.{Mode}
 use Rattle.hd_run.specs.Ending.{CauseBy}

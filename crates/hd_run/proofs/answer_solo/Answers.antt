@@ -1,5 +1,4 @@
-use Rattle.std.proofs.Common.{◌≡◌, ◌∙◌, Some, sym, ap, subst}
-use Rattle.hd_run.specs.declared.ending.Ending.{Ending}
+use Rattle.std.proofs.Common.{◌∙◌, Some, sym, ap, subst}
 use Rattle.hd_run.specs.declared.report.Form.{Form}
 use Rattle.hd_run.specs.declared.request.Mode.{Mode}
 use Rattle.hd_run.specs.declared.request.Mode.TheVariants as mode

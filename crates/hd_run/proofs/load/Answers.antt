@@ -1,10 +1,8 @@
-use Rattle.std.proofs.Common.{◌≡◌, ◌∙◌, sym, ap, subst, List, refl}
+use Rattle.std.proofs.Common.{subst, List}
 use Rattle.hd_model.specs.declared.command.Cmd.{Cmd}
 use Rattle.hd_model.specs.declared.limits.TheConstants.{HEAP, BLOCKS}
 use Rattle.hd_model.specs.Generated.{load_numbers, generated_lists}
 use Rattle.hd_model.specs.State.{Numbers}
-use Rattle.hd_run.specs.declared.ending.Fault.TheVariants.{NoMemory}
-use Rattle.hd_run.specs.declared.ending.Ending.TheVariants.{Refused}
 use Rattle.hd_run.specs.declared.report.Form.TheVariants.{Summary}
 use Rattle.hd_run.specs.declared.request.Mode.TheVariants as mode
 use Rattle.hd_run.specs.Ending.{RunCause, numbers_for}

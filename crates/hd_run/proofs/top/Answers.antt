@@ -2,7 +2,7 @@ use Rattle.std.proofs.Common.{refl}
 use Rattle.hd_run.specs.declared.ending.Ending.TheVariants.{Refused}
 use Rattle.hd_run.specs.declared.report.Form.TheVariants.{Lines}
 use Rattle.hd_run.specs.Report.{form_for}
-use Rattle.hd_run.specs.Words.{request_of, solo_of}
+use Rattle.hd_run.specs.Words.{request_of}
 use Rattle.hd_run.proofs.Claimed.{promise}
 use Rattle.hd_run.proofs.Modes.{words_cause, fault_reports, no_line}
 use Rattle.hd_run.proofs.top.Goals as goal

@@ -21,16 +21,20 @@ returns-in_err-write_all-clause-broke_off g c =
     let number = c.count_entry-number in
     let its_line = c.as_bytes.ensures ∙ c.entry_line-line.ensures in
     let failed = err_from_is_err_and c.from_residual.result c.from_residual.ensures.1 in
-    rw failed.1 (broke_in_line c.args.journal.now.entries loop.i c.entry-entry.result (omega arith) c.entry-entry.ensures c.requires
-    loop.counts loop.invariant.counts number.result number.ensures.number _ _ _ c.as_bytes.result.now loop.invariant.lines its_line c.in_err-write_all.ensures.broke_off)
+    rw failed.1 (broke_in_line c.args.journal.now.entries loop.i c.entry-entry.result (omega arith)
+    c.entry-entry.ensures c.requires loop.counts loop.invariant.counts number.result number.ensures.number
+    _ _ _ c.as_bytes.result.now loop.invariant.lines its_line c.in_err-write_all.ensures.broke_off)
 
 pub loop-i-preserved : goal.loop-i-preserved
 loop-i-preserved g c =
     let loop = c.loop-i in
     let number = c.count_entry-number in
     let its_line = c.as_bytes.ensures ∙ c.entry_line-line.ensures in record {
-      lines = took_line c.args.journal.now.entries loop.i c.entry-entry.result (omega arith) c.entry-entry.ensures c.requires
-          loop.counts loop.invariant.counts number.result number.ensures.number _ _ _ c.as_bytes.result.now loop.invariant.lines its_line c.in_ok-write_all.ensures.all;
-      counts = counts_more c.args.journal.now.entries loop.i c.entry-entry.result (omega arith) c.entry-entry.ensures c.requires
-          loop.counts loop.invariant.counts number.result number.ensures.number number.new.counts number.ensures.counted (omega arith);
+      lines = took_line c.args.journal.now.entries loop.i c.entry-entry.result (omega arith)
+          c.entry-entry.ensures c.requires loop.counts loop.invariant.counts number.result
+          number.ensures.number _ _ _ c.as_bytes.result.now loop.invariant.lines its_line
+          c.in_ok-write_all.ensures.all;
+      counts = counts_more c.args.journal.now.entries loop.i c.entry-entry.result (omega arith)
+          c.entry-entry.ensures c.requires loop.counts loop.invariant.counts number.result
+          number.ensures.number number.new.counts number.ensures.counted (omega arith);
     }

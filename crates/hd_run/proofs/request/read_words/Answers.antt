@@ -1,4 +1,4 @@
-use Rattle.std.proofs.Common.{inl, inr, Some, None, Option, ◌≡◌, ◌∙◌, ap, sym, subst, refl, true, map, string_bytes}
+use Rattle.std.proofs.Common.{inl, inr, Some, ◌≡◌, ◌∙◌, ap, sym, subst, refl, true, map, string_bytes}
 use Rattle.clap.specs.Simple.{App, is_simple, matches_of}
 use Rattle.clap.specs.Faults.{fault_of, is_simple_and_free}
 use Rattle.clap.specs.Words.{found_of, kind_of, rows_of}
@@ -58,6 +58,6 @@ returns-in-Err-clause-fault c =
     let kinds = subst (λ (a : App). HasKind (fault_of a (map string_bytes words)) c.in-Err.error) app
     (c.in-Err.ensures.kinds (ap is_simple_and_free app ∙ free)) in
     elim c.refusal.ensures [
-      | inl memory ↦ inl memory
+      | inl (memory, want) ↦ inl memory
       | inr (usage, other) ↦ inr (usage, sym (unlawful words (kind_of c.in-Err.error) kinds other))
     ]

@@ -1,4 +1,4 @@
-use Rattle.std.proofs.Common.{◌≡◌, ◌∙◌, ◌<◌, length, arith, ap, sum_by, take, ℕ, ◌+◌}
+use Rattle.std.proofs.Common.{◌<◌, length, arith}
 use Rattle.hd_model.specs.declared.data.Entry.{Entry}
 use Rattle.hd_model.specs.Generated.{value_told}
 use Rattle.hd_run.proofs.Summing.{sum_more, sum_fits}

@@ -1,9 +1,9 @@
-use Rattle.std.proofs.Common.{◌≡◌, ◌∙◌, ◌<◌, ℕ, ap, get_or, length, arith, subst, sym, refl}
+use Rattle.std.proofs.Common.{◌≡◌, ◌<◌, ℕ, ap, get_or, length, arith, subst, sym, refl}
 use Rattle.std.proofs.lemmas.Option.{get_or_from_slice_get}
 use Rattle.hd_gate.specs.Shared.{Party}
 use Rattle.hd_run.specs.Turns.{list_of}
 use Rattle.hd_run.specs.Together.{HasPlayed}
-use Rattle.hd_run.proofs.Playing.{IsAt, goes_on, stops}
+use Rattle.hd_run.proofs.Playing.{goes_on, stops}
 use Rattle.hd_run.proofs.threads.play.Given.{Over}
 use Rattle.hd_run.proofs.threads.play.Goals as goal
 use Rattle.hd_run.proofs.threads.play.Goals.{After-call}

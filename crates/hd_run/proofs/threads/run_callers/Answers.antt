@@ -1,8 +1,7 @@
-use Rattle.std.proofs.Common.{◌≡◌, ◌∙◌, ap, refl, length, arith, subst, sym}
+use Rattle.std.proofs.Common.{◌∙◌, ap, arith}
 use Rattle.hd_model.specs.State.{Numbers}
 use Rattle.hd_run.specs.Ending.{numbers_for}
-use Rattle.hd_run.proofs.Sharing.{few_callers, ready, still, stopped, whole}
-use Rattle.hd_run.proofs.threads.run_callers.Given.{Over}
+use Rattle.hd_run.proofs.Sharing.{ready, still, together_callers, together_cause}
 use Rattle.hd_run.proofs.threads.run_callers.Goals as goal
 use Rattle.hd_run.proofs.threads.run_callers.Goals.{After-close}
 
@@ -17,38 +16,21 @@ close-requires g c =
     (ap (λ (n : Numbers). n.callers) c.in-Ok.ensures.numbers) c.in-Ok.ensures.all c.in-Ok.ensures.begin
     c.play_all-done.new.callers c.play_all-done.ensures.played
 
-pub returns-then-done-clause-cause : goal.returns-then-done-clause-cause
-returns-then-done-clause-cause g c =
-    whole c.in-Ok.shared c.args.scripts.now c.in-Ok.callers
+pub returns-clause-cause : goal.returns-clause-cause
+returns-clause-cause g c =
+    rw c.ended_together.ensures
+    (together_cause c.in-Ok.shared c.args.scripts.now c.in-Ok.callers
     (ap (λ (n : Numbers). n.callers) c.in-Ok.ensures.numbers) c.in-Ok.ensures.all c.in-Ok.ensures.begin
     c.play_all-done.new.callers c.play_all-done.ensures.played c.close.result c.close.ensures.parts
     (numbers_for c.args.heap c.args.blocks c.args.scripts.now)
     (c.close.ensures.numbers ∙ c.in-Ok.ensures.numbers)
-    c.close.ensures.run c.if-done.ensures.done
+    c.close.ensures.run c.play_all-done.result c.play_all-done.ensures.done)
 
-pub returns-else-done-clause-cause : goal.returns-else-done-clause-cause
-returns-else-done-clause-cause g c =
-    stopped c.in-Ok.shared c.args.scripts.now c.in-Ok.callers
-    (ap (λ (n : Numbers). n.callers) c.in-Ok.ensures.numbers) c.in-Ok.ensures.all c.in-Ok.ensures.begin
-    c.play_all-done.new.callers c.play_all-done.ensures.played c.close.result c.close.ensures.parts
-    (numbers_for c.args.heap c.args.blocks c.args.scripts.now)
-    (c.close.ensures.numbers ∙ c.in-Ok.ensures.numbers)
-    c.close.ensures.run c.if-done.ensures.done
-
-pub returns-then-done-clause-callers : goal.returns-then-done-clause-callers
-returns-then-done-clause-callers g c =
-    few_callers c.close.result.numbers c.close.result.journal c.close.result.state
-    (omega (
+pub returns-clause-callers : goal.returns-clause-callers
+returns-clause-callers g c =
+    rw c.ended_together.ensures
+    (together_callers c.close.result (omega (
       arith,
       ap (λ (n : Numbers). n.callers) (c.close.ensures.numbers ∙ c.in-Ok.ensures.numbers),
       c.in-Ok.ensures.few,
-    )) c.close.ensures.run
-
-pub returns-else-done-clause-callers : goal.returns-else-done-clause-callers
-returns-else-done-clause-callers g c =
-    few_callers c.close.result.numbers c.close.result.journal c.close.result.state
-    (omega (
-      arith,
-      ap (λ (n : Numbers). n.callers) (c.close.ensures.numbers ∙ c.in-Ok.ensures.numbers),
-      c.in-Ok.ensures.few,
-    )) c.close.ensures.run
+    )) c.close.ensures.run c.play_all-done.result)

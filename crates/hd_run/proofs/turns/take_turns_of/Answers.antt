@@ -1,9 +1,8 @@
-use Rattle.std.proofs.Common.{◌+◌, ◌∷◌, ◌++◌, drop, arith, sym, ◌∙◌, subst}
+use Rattle.std.proofs.Common.{◌+◌, ◌++◌, drop, arith, sym, ◌∙◌, subst}
 use Rattle.std.specs.Prelude.{⊤}
 use Rattle.std.proofs.lemmas.Option.{get_or_from_slice_get}
 use Rattle.std.proofs.lemmas.Result.{MatchResult-from_err}
-use Rattle.hd_world.specs.World.{Standing}
-use Rattle.hd_run.specs.Turns.{list_of, turns_of, turns_from, IsReadyFor, StoppedAt}
+use Rattle.hd_run.specs.Turns.{list_of, turns_of, turns_from, StoppedAt}
 use Rattle.hd_run.proofs.Turning.{ready_at, takes_turn, stops_at}
 use Rattle.hd_run.proofs.turns.take_turns_of.Goals as goal
 
@@ -20,9 +19,9 @@ returns-in_err-call-clause-stopped c =
     let ready = ready_at n lists caller i cmd after c.commands.alone (omega arith) here
     c.commands.invariant.ready in
     let rest = turns_of caller (drop (i + 1) list) ++ after in
-    let stops : StoppedAt n lists c.call.new.self = stops_at n lists (caller, cmd) rest
-    c.call.new.self (subst (λ (w : Standing). IsReadyFor n lists ((caller, cmd) ∷ rest) w)
-    (sym c.in_err-call.ensures.unchanged) ready) c.in_err-call.ensures.memory in
+    let stops : StoppedAt n lists c.call.new.self = subst (StoppedAt n lists)
+    (sym c.in_err-call.ensures.unchanged) (stops_at n lists (caller, cmd) rest c.commands.alone ready
+    c.in_err-call.ensures.memory c.in_err-call.ensures.fits) in
     MatchResult-from_err c.from_residual.result (λ _. ⊤) (λ _. StoppedAt n lists c.call.new.self)
     c.from_residual.ensures.0 (λ _. stops)
 

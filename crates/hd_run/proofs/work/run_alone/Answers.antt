@@ -1,4 +1,4 @@
-use Rattle.std.proofs.Common.{◌≡◌, refl}
+use Rattle.std.proofs.Common.{refl}
 use Rattle.hd_run.specs.Ending.{numbers_for}
 use Rattle.hd_run.proofs.Causes.{ran_callers, ran_cause}
 use Rattle.hd_run.proofs.work.run_alone.Goals as goal

@@ -14,9 +14,11 @@ use Rattle.hd_scan.proofs.clearing.clear.Goals as goal
 
 pub loop-slot-init : goal.loop-slot-init
 loop-slot-init g c =
-    change_start c.args.seg.now c.args.ages.now c.args.n (task_kind c.args.task) _ _ c.start-rows.ensures.table
+    change_start c.args.seg.now c.args.ages.now c.args.n (task_kind c.args.task) _ _
+    c.start-rows.ensures.table
     c.start-rows.result c.args.steps.now c.start-rows.ensures.on
-    (c.start-rows.ensures.slots ∙ ap (λ (k : Kind). due_slots c.args.seg.now c.args.ages.now c.args.n k) c.kind.ensures)
+    (c.start-rows.ensures.slots ∙ ap (λ (k : Kind). due_slots c.args.seg.now c.args.ages.now c.args.n k)
+    c.kind.ensures)
     (c.start-rows.ensures.clumps
     ∙ ap (λ (k : Kind). due_clumps c.args.ages.now c.args.n (chain_of c.args.seg.now k)) c.kind.ensures)
     (undue_kept c.args.seg.now c.args.ages.now c.args.n c.args.task (g.M.Marker.promoted c.args.marker.now))
@@ -25,19 +27,24 @@ loop-slot-init g c =
 pub clear_row-requires-clause-live : goal.clear_row-requires-clause-live
 clear_row-requires-clause-live g c =
     row_live c.args.seg.now c.args.ages.now c.args.n (task_kind c.args.task) c.loop-slot.seg c.loop-slot.rows
-    c.next.new.self c.args.steps.now c.in-Some.slot c.loop-slot.steps c.next.new.steps c.loop-slot.invariant.under
+    c.next.new.self c.args.steps.now c.in-Some.slot c.loop-slot.steps c.next.new.steps
+    c.loop-slot.invariant.under
     c.in-Some.ensures.row
 
 pub clear_row-requires-clause-of_kind : goal.clear_row-requires-clause-of_kind
 clear_row-requires-clause-of_kind g c =
-    row_of_kind c.args.seg.now c.args.ages.now c.args.n (task_kind c.args.task) c.loop-slot.seg c.loop-slot.rows
-    c.next.new.self c.args.steps.now c.in-Some.slot c.loop-slot.steps c.next.new.steps c.loop-slot.invariant.under
+    row_of_kind c.args.seg.now c.args.ages.now c.args.n (task_kind c.args.task) c.loop-slot.seg
+    c.loop-slot.rows
+    c.next.new.self c.args.steps.now c.in-Some.slot c.loop-slot.steps c.next.new.steps
+    c.loop-slot.invariant.under
     c.in-Some.ensures.row
 
 pub clear_row-requires-clause-object : goal.clear_row-requires-clause-object
 clear_row-requires-clause-object g c =
-    row_target c.args.seg.now c.args.ages.now c.args.n (task_kind c.args.task) c.loop-slot.seg c.loop-slot.rows
-    c.next.new.self c.args.steps.now c.in-Some.slot c.loop-slot.steps c.next.new.steps c.loop-slot.invariant.under
+    row_target c.args.seg.now c.args.ages.now c.args.n (task_kind c.args.task) c.loop-slot.seg
+    c.loop-slot.rows
+    c.next.new.self c.args.steps.now c.in-Some.slot c.loop-slot.steps c.next.new.steps
+    c.loop-slot.invariant.under
     c.in-Some.ensures.row (objects_of (g.M.Marker.basis c.args.marker.now)) c.requires.names
 
 pub loop-slot-smaller : goal.loop-slot-smaller
@@ -45,15 +52,18 @@ loop-slot-smaller g c =
     let t : Table = c.args.seg.now in
     let under = c.loop-slot.invariant.under in
     let due = row_due t c.args.ages.now c.args.n (task_kind c.args.task) c.loop-slot.seg c.loop-slot.rows
-    c.next.new.self c.args.steps.now c.in-Some.slot c.loop-slot.steps c.next.new.steps under c.in-Some.ensures.row in
+    c.next.new.self c.args.steps.now c.in-Some.slot c.loop-slot.steps c.next.new.steps under
+    c.in-Some.ensures.row in
     let same = row_same t c.args.ages.now c.args.n (task_kind c.args.task) c.loop-slot.seg c.loop-slot.rows
-    c.next.new.self c.args.steps.now c.in-Some.slot c.loop-slot.steps c.next.new.steps under c.in-Some.ensures.row in
+    c.next.new.self c.args.steps.now c.in-Some.slot c.loop-slot.steps c.next.new.steps under
+    c.in-Some.ensures.row in
     change_smaller t c.args.ages.now c.args.n (task_kind c.args.task)
     (sweep t c.args.ages.now c.args.n c.args.task (g.M.Marker.promoted c.args.marker.now)) _
     c.loop-slot.seg c.clear_row.new.seg c.loop-slot.rows c.next.new.self c.in-Some.slot c.args.steps.now
     c.loop-slot.steps c.next.new.steps c.loop-slot.cleared c.loop-slot.invariant c.in-Some.ensures.row
     c.next.ensures.on c.next.ensures.steps
-    (swept_row t c.args.ages.now c.args.n c.args.task (g.M.Marker.promoted c.args.marker.now) c.in-Some.slot.0 due _
+    (swept_row t c.args.ages.now c.args.n c.args.task (g.M.Marker.promoted c.args.marker.now) c.in-Some.slot.0
+    due _
     same c.loop-slot.seg c.clear_row.new.seg c.clear_row.ensures.row)
 
 pub loop-slot-preserved : goal.loop-slot-preserved
@@ -62,9 +72,11 @@ loop-slot-preserved g c =
     let p : Addr → Bool = g.M.Marker.promoted c.args.marker.now in
     let under = c.loop-slot.invariant.under in
     let due = row_due t c.args.ages.now c.args.n (task_kind c.args.task) c.loop-slot.seg c.loop-slot.rows
-    c.next.new.self c.args.steps.now c.in-Some.slot c.loop-slot.steps c.next.new.steps under c.in-Some.ensures.row in
+    c.next.new.self c.args.steps.now c.in-Some.slot c.loop-slot.steps c.next.new.steps under
+    c.in-Some.ensures.row in
     let same = row_same t c.args.ages.now c.args.n (task_kind c.args.task) c.loop-slot.seg c.loop-slot.rows
-    c.next.new.self c.args.steps.now c.in-Some.slot c.loop-slot.steps c.next.new.steps under c.in-Some.ensures.row in
+    c.next.new.self c.args.steps.now c.in-Some.slot c.loop-slot.steps c.next.new.steps under
+    c.in-Some.ensures.row in
     change_row t c.args.ages.now c.args.n (task_kind c.args.task)
     (sweep t c.args.ages.now c.args.n c.args.task p) _ c.loop-slot.seg c.clear_row.new.seg c.loop-slot.rows
     c.next.new.self c.in-Some.slot c.args.steps.now c.loop-slot.steps c.next.new.steps c.loop-slot.cleared
@@ -89,7 +101,8 @@ returns-clause-passed g c =
           c.next.new.self c.args.steps.now c.loop-slot.steps c.next.new.steps c.loop-slot.cleared
           c.loop-slot.invariant c.in_default.ensures.row;
       count = changed_count t c.args.ages.now c.args.n (task_kind c.args.task) _ _ c.loop-slot.seg
-          c.loop-slot.rows c.next.new.self c.args.steps.now c.loop-slot.steps c.next.new.steps c.loop-slot.cleared
+          c.loop-slot.rows c.next.new.self c.args.steps.now c.loop-slot.steps c.next.new.steps
+          c.loop-slot.cleared
           c.loop-slot.invariant c.in_default.ensures.row;
     }
 
@@ -101,9 +114,11 @@ returns-clause-steps g c =
 
 pub returns-clause-whole : goal.returns-clause-whole
 returns-clause-whole g c = λ sound.
-    sweep_whole (objects_of (g.M.Marker.basis c.args.marker.now)) c.args.seg.now c.loop-slot.seg c.args.ages.now
+    sweep_whole (objects_of (g.M.Marker.basis c.args.marker.now)) c.args.seg.now c.loop-slot.seg
+    c.args.ages.now
     c.args.n c.args.task (g.M.Marker.promoted c.args.marker.now) (g.M.Marker.pinned c.args.marker.now)
     c.loop-slot.cleared
-    (subst (λ n. IsSettled (objects_of (g.M.Marker.basis c.args.marker.now)) n (g.M.Marker.promoted c.args.marker.now))
+    (subst (λ n. IsSettled (objects_of (g.M.Marker.basis c.args.marker.now)) n
+    (g.M.Marker.promoted c.args.marker.now))
     c.requires.generation (g.met.M.Marker.settles c.args.marker.now c.requires.settled)) sound
     (returns-clause-passed g c)

@@ -36,7 +36,8 @@ returns g c =
     ∙ ap (option_map row_of) (live_row t c.args.slot.0 c.requires.live)) in
     subst (λ (q : Handle Addr). Rewrites c.args.slot.0 q t c.rewrite_row.new.seg)
     (handle_moved (g.F.Forward.place c.args.forward.now) h c.moved_name.result (extra_of c.moved_extra.result)
-    (c.moved_name.ensures ∙ ap (λ (r : Row). option_map (g.F.Forward.place c.args.forward.now) r.target) stood)
+    (c.moved_name.ensures ∙ ap (λ (r : Row). option_map (g.F.Forward.place c.args.forward.now) r.target)
+    stood)
     (c.moved_extra.ensures
     ∙ ap (rename_extra (g.F.Forward.place c.args.forward.now))
     (ap (λ (r : Row). extra_of r.extra) stood ∙ extra_again h.extra)))

@@ -17,7 +17,8 @@ pub loop-slot-init : goal.loop-slot-init
 loop-slot-init g c = record {
   settled = c.requires.settled;
   basis = refl;
-  rooting = root_start (objects_of (g.M.Marker.basis c.args.marker.now)) c.args.seg.now c.args.ages.now c.args.n
+  rooting = root_start (objects_of (g.M.Marker.basis c.args.marker.now)) c.args.seg.now c.args.ages.now
+      c.args.n
       c.args.task (g.M.Marker.promoted c.args.marker.now) (g.M.Marker.pinned c.args.marker.now)
       c.start-rows.ensures.table c.start-rows.result c.args.steps.now c.start-rows.ensures.on
       (c.start-rows.ensures.slots
@@ -34,17 +35,21 @@ promote_row-requires-clause-live g c =
 
 pub promote_row-requires-clause-of_kind : goal.promote_row-requires-clause-of_kind
 promote_row-requires-clause-of_kind g c =
-    row_of_kind c.args.seg.now c.args.ages.now c.args.n (task_kind c.args.task) c.args.seg.now c.loop-slot.rows
+    row_of_kind c.args.seg.now c.args.ages.now c.args.n (task_kind c.args.task) c.args.seg.now
+    c.loop-slot.rows
     c.next.new.self c.args.steps.now c.in-Some.slot c.loop-slot.steps c.next.new.steps
     c.loop-slot.invariant.rooting.under c.in-Some.ensures.row
 
 pub loop-slot-preserved : goal.loop-slot-preserved
 loop-slot-preserved g c =
     let b : Basis = g.M.Marker.basis c.args.marker.now in
-    let grows : Grows (IsYoungField (objects_of b) c.args.n) (IsTargetBy c.args.task (live_at c.args.seg.now c.in-Some.slot.0))
+    let grows : Grows (IsYoungField (objects_of b) c.args.n)
+    (IsTargetBy c.args.task (live_at c.args.seg.now c.in-Some.slot.0))
     (g.M.Marker.promoted c.loop-slot.marker) (g.M.Marker.promoted c.promote_row.new.marker) =
-    subst (λ m. Grows (IsYoungField (objects_of b) m) (IsTargetBy c.args.task (live_at c.args.seg.now c.in-Some.slot.0))
-    (g.M.Marker.promoted c.loop-slot.marker) (g.M.Marker.promoted c.promote_row.new.marker)) c.requires.generation
+    subst (λ m. Grows (IsYoungField (objects_of b) m)
+    (IsTargetBy c.args.task (live_at c.args.seg.now c.in-Some.slot.0))
+    (g.M.Marker.promoted c.loop-slot.marker) (g.M.Marker.promoted c.promote_row.new.marker))
+    c.requires.generation
     (subst (λ (a : Basis). Grows (IsYoungField (objects_of a) a.condemned)
     (IsTargetBy c.args.task (live_at c.args.seg.now c.in-Some.slot.0))
     (g.M.Marker.promoted c.loop-slot.marker) (g.M.Marker.promoted c.promote_row.new.marker))
@@ -64,9 +69,12 @@ loop-slot-preserved g c =
 
 pub returns-clause-passed : goal.returns-clause-passed
 returns-clause-passed g c =
-    root_end (objects_of (g.M.Marker.basis c.args.marker.now)) c.args.seg.now c.args.ages.now c.args.n c.args.task
-    (g.M.Marker.promoted c.args.marker.now) (g.M.Marker.pinned c.args.marker.now) c.loop-slot.rows c.next.new.self
-    c.args.steps.now c.loop-slot.steps c.next.new.steps c.loop-slot.held (g.M.Marker.promoted c.loop-slot.marker)
+    root_end (objects_of (g.M.Marker.basis c.args.marker.now)) c.args.seg.now c.args.ages.now c.args.n
+    c.args.task
+    (g.M.Marker.promoted c.args.marker.now) (g.M.Marker.pinned c.args.marker.now) c.loop-slot.rows
+    c.next.new.self
+    c.args.steps.now c.loop-slot.steps c.next.new.steps c.loop-slot.held
+    (g.M.Marker.promoted c.loop-slot.marker)
     (g.M.Marker.pinned c.loop-slot.marker) c.loop-slot.invariant.rooting c.in_default.ensures.row
 
 pub returns-clause-whole : goal.returns-clause-whole

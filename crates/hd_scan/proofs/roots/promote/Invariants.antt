@@ -10,7 +10,8 @@ invariant-loop-slot g l = record {
   basis : g.M.Marker.basis l.marker ≡ g.M.Marker.basis l.initial.marker;
   rooting :
       IsRooting (objects_of (g.M.Marker.basis l.initial.marker)) l.seg l.ages l.n l.task
-      (g.M.Marker.promoted l.initial.marker) (g.M.Marker.pinned l.initial.marker) l.rows l.initial.steps l.steps
+      (g.M.Marker.promoted l.initial.marker) (g.M.Marker.pinned l.initial.marker) l.rows l.initial.steps
+      l.steps
       l.held (g.M.Marker.promoted l.marker) (g.M.Marker.pinned l.marker);
 }
 

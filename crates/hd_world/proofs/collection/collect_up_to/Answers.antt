@@ -22,7 +22,8 @@ returns-clause-moves g c =
 
 pub returns-clause-steps : goal.returns-clause-steps
 returns-clause-steps g c =
-    subst (λ e. TakesSteps c.args.store.now.state c.args.store.now.ages e c.args.steps.now c.collect.new.steps)
+    subst
+    (λ e. TakesSteps c.args.store.now.state c.args.store.now.ages e c.args.steps.now c.collect.new.steps)
     (sym (c.reply.ensures ∙ (λ i. record {
       caller = c.args.order.caller;
       cmd = c.requires.command i;

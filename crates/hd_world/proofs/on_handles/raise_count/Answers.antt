@@ -11,7 +11,9 @@ overflow_add-count c =
     let m = c.args.store.now in
     let found = c.in-Ok.found in
     let named = handle_named m found.1.kind found.1.row in
-    let low : count_of named.extra + 1 < 2 ^ 32 = c.requires.small found.0.0 named (stands_found m.state c.args.order.caller c.args.s found.0 named c.in-Ok.ensures.value) in
-    let is : count_of named.extra ≡ c.in-Count.count = ap (λ e. count_of (rename_extra (name_in m.names) (extra_of e))) c.in-Count.is in
+    let low : count_of named.extra + 1 < 2 ^ 32 = c.requires.small found.0.0 named
+    (stands_found m.state c.args.order.caller c.args.s found.0 named c.in-Ok.ensures.value) in
+    let is : count_of named.extra ≡ c.in-Count.count =
+    ap (λ e. count_of (rename_extra (name_in m.names) (extra_of e))) c.in-Count.is in
     let small : c.in-Count.count + 1 < 2 ^ 32 = omega (arith, low, is) in
     record { fits = small }

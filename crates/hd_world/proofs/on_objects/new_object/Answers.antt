@@ -3,7 +3,7 @@ use Rattle.std.specs.Prelude.{if◌then◌else◌, unwrap_or}
 use Rattle.std.proofs.lemmas.Bool.{le-ltb}
 use Rattle.hd_model.specs.declared.data.Refusal.TheVariants as refusal
 use Rattle.hd_model.specs.declared.data.Reply.TheVariants as reply
-use Rattle.hd_model.specs.State.{last_serial, identity_of, used_of, with_register, with_serial, with_object}
+use Rattle.hd_model.specs.State.{last_serial, identity_of, total_size, with_register, with_serial, with_object}
 use Rattle.hd_model.specs.Command.{Outcome, refuses, answers, fresh_object}
 use Rattle.hd_world.specs.Store.{Machine}
 use Rattle.hd_world.specs.Places.{KeepsNames}
@@ -19,29 +19,41 @@ made c =
     let s = c.args.store.now.state in
     let serial = last_serial s c.args.order.caller + 1 in
     let id = identity_of c.args.order.caller serial in
-    answers (reply.Object id) (with_register (with_serial (with_object s id (fresh_object c.args.fields c.args.fin)) c.args.order.caller serial) c.args.order.caller c.args.d (Some id))
+    answers (reply.Object id)
+    (with_register
+    (with_serial (with_object s id (fresh_object c.args.fields c.args.fin)) c.args.order.caller serial)
+    c.args.order.caller c.args.d (Some id))
 
 abbrev full : In-Ok → Outcome
-full c = refuses (refusal.HeapFull (used_of c.args.store.now.state) (c.args.fields + 3)) c.args.store.now.state
+full c =
+    refuses (refusal.HeapFull (total_size c.args.store.now.state) (c.args.fields + 3)) c.args.store.now.state
 
-has_room : (c : In-Ok) → nat_lt c.args.store.now.numbers.heap (used_of c.args.store.now.state + (c.args.fields + 3)) ≡ false
-has_room c = le-ltb c.args.store.now.numbers.heap (used_of c.args.store.now.state + (c.args.fields + 3)) c.in-Ok.ensures.fits
+has_room : (c : In-Ok) → nat_lt c.args.store.now.numbers.heap
+    (total_size c.args.store.now.state + (c.args.fields + 3)) ≡ false
+has_room c = le-ltb c.args.store.now.numbers.heap
+    (total_size c.args.store.now.state + (c.args.fields + 3)) c.in-Ok.ensures.fits
 
 -- the identity at the new object's address
-name : (c : In-Ok) → name_in c.add_object.new.self.names c.in-Ok.at ≡ identity_of c.args.order.caller (last_serial c.args.store.now.state c.args.order.caller + 1)
+name : (c : In-Ok) → name_in c.add_object.new.self.names c.in-Ok.at ≡ identity_of c.args.order.caller
+    (last_serial c.args.store.now.state c.args.order.caller + 1)
 name c =
     ap (λ (m : Machine). name_in m.names c.in-Ok.at) c.in-Ok.ensures.made
-    ∙ ap (λ o. unwrap_or o (record { 0 = 0 })) (get-put c.args.store.now.names c.in-Ok.at.0 (identity_of c.args.order.caller (last_serial c.args.store.now.state c.args.order.caller + 1)))
+    ∙ ap (λ o. unwrap_or o (record { 0 = 0 }))
+    (get-put c.args.store.now.names c.in-Ok.at.0
+    (identity_of c.args.order.caller (last_serial c.args.store.now.state c.args.order.caller + 1)))
 
 pub returns-in-Ok-clause-entry : goal.returns-in-Ok-clause-entry
 unfolding made
 returns-in-Ok-clause-entry c =
     let at = (goal.at.returns-in-Ok-clause-entry c).In-Ok in
-    let id : c.id.result ≡ identity_of c.args.order.caller (last_serial c.args.store.now.state c.args.order.caller + 1) =
+    let id : c.id.result ≡ identity_of c.args.order.caller
+    (last_serial c.args.store.now.state c.args.order.caller + 1) =
     c.id.ensures ∙ ap (λ (m : Machine). name_in m.names c.in-Ok.at) c.set_register.ensures ∙ name at in
     c.reply.ensures
-    ∙ ap (λ i. entry_of c.args.order.caller c.args.order.cmd (answers (reply.Object i) c.args.store.now.state)) id
-    ∙ ap (λ b. entry_of c.args.order.caller c.args.order.cmd (if b then full at else made at)) (sym (has_room at))
+    ∙ ap
+    (λ i. entry_of c.args.order.caller c.args.order.cmd (answers (reply.Object i) c.args.store.now.state)) id
+    ∙ ap (λ b. entry_of c.args.order.caller c.args.order.cmd (if b then full at else made at))
+    (sym (has_room at))
 
 pub returns-in-Ok-clause-state : goal.returns-in-Ok-clause-state
 unfolding made
@@ -52,4 +64,5 @@ returns-in-Ok-clause-state c =
     ∙ ap (λ b. (if b then full at else made at).after) (sym (has_room at))
 
 pub returns-in-Ok-clause-names : goal.returns-in-Ok-clause-names
-returns-in-Ok-clause-names c = subst (λ (m : Machine). KeepsNames c.args.store.now.names m.names) (sym c.set_register.ensures) c.in-Ok.ensures.kept
+returns-in-Ok-clause-names c = subst (λ (m : Machine). KeepsNames c.args.store.now.names m.names)
+    (sym c.set_register.ensures) c.in-Ok.ensures.kept

@@ -5,7 +5,7 @@ use Rattle.std.proofs.lemmas.Grind.{get_or_default_zero}
 use Rattle.std.proofs.lemmas.List.{length-replicate}
 use Rattle.hd_model.specs.declared.data.Addr.{Addr}
 use Rattle.hd_model.specs.Heap.{used_of}
-use Rattle.hd_model.specs.State.{last_serial, identity_of, used_of as machine_used}
+use Rattle.hd_model.specs.State.{last_serial, identity_of, total_size}
 use Rattle.hd_heap.specs.Calls.{new_object, IsMade, IsRefused as IsRefusedBy}
 use Rattle.hd_world.specs.Store.{Machine}
 use Rattle.hd_world.specs.Places.{KeepsNames}
@@ -75,8 +75,8 @@ pub returns-in-Ok-clause-fits : goal.returns-in-Ok-clause-fits
 returns-in-Ok-clause-fits c =
     let m = c.args.self.now in
     let f = parts c.self.inside in
-    let used : used_of f.heap ≡ machine_used m.state = sym (used-is f.heap c.self.invariant.identities)
-    ∙ ap (λ (n : Machine). machine_used n.state) c.self.view_is in
+    let used : used_of f.heap ≡ total_size m.state = sym (used-is f.heap c.self.invariant.identities)
+    ∙ ap (λ (n : Machine). total_size n.state) c.self.view_is in
     let limit : f.heap.limit ≡ m.numbers.heap = ap (λ (n : Machine). n.numbers.heap) c.self.view_is in
     let size = length-replicate {A = Option Addr} c.from.result None in
     omega (arith, c.in-Ok.ensures.heap.fits, used, limit, size, c.from.ensures)

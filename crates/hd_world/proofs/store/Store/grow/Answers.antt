@@ -3,4 +3,5 @@ use Rattle.hd_world.proofs.Rowing.{stored-grown}
 use Rattle.hd_world.proofs.store.Store.grow.Goals as goal
 
 pub invariant_of-self : goal.invariant_of-self
-invariant_of-self c = stored-grown (parts c.self.inside) c.give_block.new.self c.args.kind c.self.invariant c.give_block.result c.give_block.ensures.grown c.give_block.ensures.after c.give_block.ensures.kept
+invariant_of-self c = stored-grown (parts c.self.inside) c.give_block.new.self c.args.kind c.self.invariant
+    c.give_block.result c.give_block.ensures.grown c.give_block.ensures.after c.give_block.ensures.kept

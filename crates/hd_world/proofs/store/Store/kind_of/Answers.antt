@@ -8,8 +8,12 @@ pub returns-then-block-eq0 : goal.returns-then-block-eq0
 returns-then-block-eq0 c =
     elim c.then-block-eq0.branch [
       | then-block-eq0-via-then-block-eq0 w ↦
-          kind-outside (parts c.self.inside) c.args.self.now c.self.view_is c.self.invariant (c.args.slot.0 / 64) (λ p. let low = p.0 in let none = w.if-block-eq0.true in omega arith)
+          kind-outside (parts c.self.inside) c.args.self.now c.self.view_is c.self.invariant
+          (c.args.slot.0 / 64) (λ p. let low = p.0 in let none = w.if-block-eq0.true in omega arith)
       | then-block-eq0-via-else-block-eq0+then-block-blocks w ↦
-          kind-outside (parts c.self.inside) c.args.self.now c.self.view_is c.self.invariant (c.args.slot.0 / 64)
-          (λ p. let high = p.1 in let clumps = c.self.invariant.clumps in let value = w.blocks-else-block-eq0.ensures.value in let above = w.if-block-blocks.true in omega arith)
+          kind-outside (parts c.self.inside) c.args.self.now c.self.view_is c.self.invariant
+          (c.args.slot.0 / 64)
+          (λ p. let high = p.1 in let clumps = c.self.invariant.clumps in
+          let value = w.blocks-else-block-eq0.ensures.value in let above =
+          w.if-block-blocks.true in omega arith)
     ]

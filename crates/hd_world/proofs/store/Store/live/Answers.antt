@@ -6,4 +6,5 @@ use Rattle.hd_world.proofs.store.Store.live.Goals as goal
 
 pub returns : goal.returns
 returns c =
-    c.live.ensures.value ∙ sym (len-rows c.self.inside.heap c.self.inside.table.rows) ∙ ap (λ (m : Machine). len m.state.handles) c.self.view_is
+    c.live.ensures.value ∙ sym (len-rows c.self.inside.heap c.self.inside.table.rows)
+    ∙ ap (λ (m : Machine). len m.state.handles) c.self.view_is

@@ -12,7 +12,8 @@ lower-requires-clause-low c = c.requires.low
 
 pub lower-requires-clause-high : goal.lower-requires-clause-high
 lower-requires-clause-high c =
-    let blocks : c.self.inside.table.blocks ≡ c.args.self.now.numbers.blocks = ap (λ (m : Machine). m.numbers.blocks) c.self.view_is in
+    let blocks : c.self.inside.table.blocks ≡ c.args.self.now.numbers.blocks =
+    ap (λ (m : Machine). m.numbers.blocks) c.self.view_is in
     omega (arith, blocks, c.self.invariant.clumps, c.requires.high)
 
 after : (c : After-lower) → c.lower.new.self ≡ lowered c.self.inside.ages c.args.slot.0 c.args.g
@@ -20,7 +21,8 @@ after c = c.lower.ensures c.args.slot.0 (record { in_block = refl; in_clump = om
 
 pub invariant_of-self : goal.invariant_of-self
 invariant_of-self c =
-    subst (λ ages. IsStored (with_ages (parts c.self.inside) ages)) (sym (after c)) (stored-lowered (parts c.self.inside) c.args.slot.0 c.args.g c.self.invariant)
+    subst (λ ages. IsStored (with_ages (parts c.self.inside) ages)) (sym (after c))
+    (stored-lowered (parts c.self.inside) c.args.slot.0 c.args.g c.self.invariant)
 
 pub returns : goal.returns
 returns c =

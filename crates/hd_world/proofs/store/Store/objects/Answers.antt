@@ -6,4 +6,5 @@ use Rattle.hd_world.proofs.store.Store.objects.Goals as goal
 
 pub returns : goal.returns
 returns c =
-    c.count.ensures.value ∙ sym (len-objects c.self.inside.heap c.self.invariant.identities) ∙ ap (λ (m : Machine). len m.state.objects) c.self.view_is
+    c.count.ensures.value ∙ sym (len-objects c.self.inside.heap c.self.invariant.identities)
+    ∙ ap (λ (m : Machine). len m.state.objects) c.self.view_is

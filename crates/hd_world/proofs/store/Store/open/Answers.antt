@@ -17,16 +17,20 @@ made : (c : goal.In_ok-filled-3) → opened c.args.heap c.args.blocks c.args.cal
   serials = c.in_ok-filled-3.field-0.items;
 })
 made c =
-    are_opened c.args.heap c.args.blocks c.args.callers _ c.in_ok-open.ensures c.in_ok-open-2.ensures c.in_ok-open-3.ensures c.in_ok-open-4.ensures
+    are_opened c.args.heap c.args.blocks c.args.callers _ c.in_ok-open.ensures c.in_ok-open-2.ensures
+    c.in_ok-open-3.ensures c.in_ok-open-4.ensures
     c.in_ok-filled.ensures c.in_ok-filled-2.ensures refl c.in_ok-filled-3.ensures
 
 pub invariant_of-result : goal.invariant_of-result
 invariant_of-result c =
-    subst IsStored (made c) (stored-opened c.args.heap c.args.blocks c.args.callers c.requires.heap c.requires.blocks)
+    subst IsStored (made c)
+    (stored-opened c.args.heap c.args.blocks c.args.callers c.requires.heap c.requires.blocks)
 
 pub returns-clause-state : goal.returns-clause-state
 returns-clause-state c =
-    subst (λ f. state_of f ≡ start_of (numbers_of f)) (made c) (state-opened c.args.heap c.args.blocks c.args.callers)
+    subst (λ f. state_of f ≡ start_of (numbers_of f)) (made c)
+    (state-opened c.args.heap c.args.blocks c.args.callers)
 
 pub returns-clause-names : goal.returns-clause-names
-returns-clause-names c = ap names_of c.in_ok-open.ensures ∙ names-opened c.args.heap c.args.blocks c.args.callers
+returns-clause-names c =
+    ap names_of c.in_ok-open.ensures ∙ names-opened c.args.heap c.args.blocks c.args.callers

@@ -10,23 +10,29 @@ use Rattle.hd_world.proofs.store.Store.put_row.Goals as goal
 use Rattle.hd_world.proofs.store.Store.put_row.Goals.{After-put_row}
 
 pub put_row-requires-clause-vacant : goal.put_row-requires-clause-vacant
-put_row-requires-clause-vacant c = vacant-row (parts c.self.inside) c.args.self.now c.self.view_is c.args.slot c.requires.free.0
+put_row-requires-clause-vacant c =
+    vacant-row (parts c.self.inside) c.args.self.now c.self.view_is c.args.slot c.requires.free.0
 
 pub put_row-requires-clause-fitting : goal.put_row-requires-clause-fitting
 put_row-requires-clause-fitting c =
     subst (λ u. fits_in u (extra_of c.args.row.extra) ≡ true)
-    (sym (use-read (parts c.self.inside) c.args.self.now c.self.view_is (c.args.slot.0 / 64) (Some (handles_of c.args.kind)) c.requires.free.1)) c.requires.may.fits
+    (sym (use-read (parts c.self.inside) c.args.self.now c.self.view_is (c.args.slot.0 / 64)
+    (Some (handles_of c.args.kind)) c.requires.free.1)) c.requires.may.fits
 
-after : (c : After-put_row) → c.put_row.new.self ≡ with_row c.self.inside.table c.args.slot.0 (handle_of c.args.kind c.args.row)
+after : (c : After-put_row) → c.put_row.new.self ≡ with_row c.self.inside.table c.args.slot.0
+    (handle_of c.args.kind c.args.row)
 after c =
     c.put_row.ensures
-    ∙ ap (λ k. with_row c.self.inside.table c.args.slot.0 (handle_of k c.args.row)) (kind-read (parts c.self.inside) c.args.self.now c.self.view_is c.args.slot c.args.kind c.requires.free.1)
+    ∙ ap (λ k. with_row c.self.inside.table c.args.slot.0 (handle_of k c.args.row))
+    (kind-read (parts c.self.inside) c.args.self.now c.self.view_is c.args.slot c.args.kind c.requires.free.1)
 
 pub invariant_of-self : goal.invariant_of-self
 invariant_of-self c =
     let f = parts c.self.inside in
     subst (λ t. IsStored (with_table f t)) (sym (after c))
-    (stored-put f c.args.slot.0 (handle_of c.args.kind c.args.row) c.self.invariant (may-stand f c.args.self.now c.self.view_is c.self.invariant c.args.slot c.args.kind c.args.row c.requires.may))
+    (stored-put f c.args.slot.0 (handle_of c.args.kind c.args.row) c.self.invariant
+    (may-stand f c.args.self.now c.self.view_is c.self.invariant c.args.slot c.args.kind c.args.row
+    c.requires.may))
 
 pub returns : goal.returns
 returns c =

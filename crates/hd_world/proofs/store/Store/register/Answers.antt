@@ -4,10 +4,13 @@ use Rattle.hd_world.proofs.Naming.{register-is, register-within, root-named}
 use Rattle.hd_world.proofs.store.Store.register.Goals as goal
 
 pub returns-clause-value : goal.returns-clause-value
-returns-clause-value c = register-is (parts c.self.inside) c.args.self.now c.self.view_is c.self.invariant c.args.caller c.args.d c.index.result.now c.requires.caller c.requires.register c.index.ensures
+returns-clause-value c = register-is (parts c.self.inside) c.args.self.now c.self.view_is c.self.invariant
+    c.args.caller c.args.d c.index.result.now c.requires.caller c.requires.register c.index.ensures
 
 pub returns-clause-named : goal.returns-clause-named
 returns-clause-named c =
     let f = parts c.self.inside in
-    root-named f c.args.self.now c.self.view_is c.self.invariant (16 * c.args.caller + c.args.d) c.index.result.now
-    (register-within f c.args.self.now c.self.view_is c.self.invariant c.args.caller c.args.d c.requires.caller c.requires.register) c.index.ensures
+    root-named f c.args.self.now c.self.view_is c.self.invariant
+    (16 * c.args.caller + c.args.d) c.index.result.now
+    (register-within f c.args.self.now c.self.view_is c.self.invariant c.args.caller c.args.d
+    c.requires.caller c.requires.register) c.index.ensures

@@ -4,7 +4,9 @@ use Rattle.hd_world.proofs.Naming.{stored-root, machine-register}
 use Rattle.hd_world.proofs.store.Store.set_register.Goals as goal
 
 pub invariant_of-self : goal.invariant_of-self
-invariant_of-self c = stored-root (parts c.self.inside) c.args.self.now c.self.view_is c.self.invariant (16 * c.args.caller + c.args.d) c.args.v c.requires.named
+invariant_of-self c = stored-root (parts c.self.inside) c.args.self.now c.self.view_is c.self.invariant
+    (16 * c.args.caller + c.args.d) c.args.v c.requires.named
 
 pub returns : goal.returns
-returns c = machine-register (parts c.self.inside) c.args.self.now c.self.view_is c.self.invariant c.args.caller c.args.d c.args.v c.requires.caller c.requires.register
+returns c = machine-register (parts c.self.inside) c.args.self.now c.self.view_is c.self.invariant
+    c.args.caller c.args.d c.args.v c.requires.caller c.requires.register

@@ -9,7 +9,8 @@ pub take_row-requires : goal.take_row-requires
 take_row-requires c = live-row (parts c.self.inside) c.args.self.now c.self.view_is c.args.slot c.requires
 
 pub invariant_of-self : goal.invariant_of-self
-invariant_of-self c = subst (λ t. IsStored (with_table (parts c.self.inside) t)) (sym c.take_row.ensures) (stored-end (parts c.self.inside) c.args.slot.0 c.self.invariant)
+invariant_of-self c = subst (λ t. IsStored (with_table (parts c.self.inside) t)) (sym c.take_row.ensures)
+    (stored-end (parts c.self.inside) c.args.slot.0 c.self.invariant)
 
 pub returns : goal.returns
 returns c =

@@ -1,8 +1,7 @@
-use Rattle.std.proofs.Common.{◌≡◌, ℕ, ◌<◌, ◌+◌, ◌^◌, List, ◌++◌, ◌∷◌, [], length, refl, sym, ap, ◌∙◌, subst, arith}
+use Rattle.std.proofs.Common.{◌≡◌, ℕ, ◌<◌, ◌+◌, ◌^◌, length, sym, ap, ◌∙◌, subst, arith}
 use Rattle.std.specs.Prelude.{Result, Ok, Err, OnErr}
 use Rattle.std.specs.FinMap.{FinMap}
 use Rattle.std.specs.Ordering.{nat_cmp}
-use Rattle.hd_model.specs.declared.data.Entry.{Entry}
 use Rattle.hd_model.specs.Places.{with_places}
 use Rattle.hd_model.specs.Step.{Step}
 use Rattle.hd_model.specs.Aging.{aged_by}
@@ -16,7 +15,14 @@ use Rattle.hd_world.proofs.world.World.apply.Goals as goal
 
 -- the journal has room for one entry more
 has_room : (g : _) (c : goal.After-run-arg-2-1 g) → length c.self.inside.journal.entries + 1 < 2 ^ 32
-has_room g c = omega (arith, c.spare-room.ensures.small, c.spare-room.ensures.value, ap (λ (w : Standing). w.spare) c.self.view_is, c.requires.room)
+has_room g c = omega (
+  arith,
+  c.spare-room.ensures.small,
+  c.spare-room.ensures.value,
+  ap
+      (λ (w : Standing). w.spare) c.self.view_is,
+  c.requires.room,
+)
 
 pub run-requires-clause-handles : goal.run-requires-clause-handles
 run-requires-clause-handles g c =
@@ -47,7 +53,8 @@ pub invariant_of-self : goal.invariant_of-self
 invariant_of-self g c =
     let entries = c.self.inside.journal.entries in
     let before : IsTrueRun c.run.new.store entries c.self.inside.placed.0 =
-    subst (λ m. IsTrueRun m entries c.self.inside.placed.0) (sym c.in_err-entry.ensures.unchanged.0) c.self.invariant in
+    subst (λ m. IsTrueRun m entries c.self.inside.placed.0)
+    (sym c.in_err-entry.ensures.unchanged.0) c.self.invariant in
     let at : (q : Placed c.run.new.store entries) → IsTrueRun c.run.new.store entries q.0 =
     λ q. at_places c.run.new.store entries c.self.inside.placed.0 q.0
     (λ r. IsTrueRun c.run.new.store entries r) before q.1 before in
@@ -73,7 +80,8 @@ returns-in_err-entry-clause-unchanged g c =
     let j = c.self.inside.journal in
     let m = c.run.new.store in
     let p = c.self.inside.placed.0 in
-    let before : IsTrueRun m j.entries p = subst (λ x. IsTrueRun x j.entries p) (sym c.in_err-entry.ensures.unchanged.0) c.self.invariant in
+    let before : IsTrueRun m j.entries p =
+    subst (λ x. IsTrueRun x j.entries p) (sym c.in_err-entry.ensures.unchanged.0) c.self.invariant in
     let at : (q : Placed m j.entries) → OnErr c.from_residual.result (seen m j q.0 ≡ c.args.self.now) =
     λ q. on_err c.from_residual.result (seen m j q.0 ≡ c.args.self.now)
     (at_places m j.entries p q.0 (λ r. seen m j r ≡ c.args.self.now) before q.1
@@ -101,8 +109,10 @@ pub returns-clause-step : goal.returns-clause-step
 returns-clause-step g c =
     let w = c.self.inside in
     let next = c.run.new.store in
-    let at : (q : Placed next c.push.new.self.entries) → Step c.args.self.now.numbers c.args.self.now.state c.in_ok-entry.entry (with_places next.state q.0) =
-    λ q. subst (λ (v : Standing). Step v.numbers v.state c.in_ok-entry.entry (with_places next.state q.0)) c.self.view_is
+    let at : (q : Placed next c.push.new.self.entries)
+    → Step c.args.self.now.numbers c.args.self.now.state c.in_ok-entry.entry (with_places next.state q.0) =
+    λ q. subst (λ (v : Standing). Step v.numbers v.state c.in_ok-entry.entry (with_places next.state q.0))
+    c.self.view_is
     (step_on w.store w.journal.entries w.placed.0 c.self.invariant next
     c.in_ok-entry.entry c.push.new.self.entries c.in_ok-entry.ensures.moves c.in_ok-entry.ensures.numbers
     c.push.ensures.entries q) in

@@ -1,0 +1,142 @@
+-- The roots of a store by identity are those of its table, each object called by its identity.
+use Rattle.std.proofs.Common.{◌≡◌, ℕ, ◌≤◌, ◌<◌, ◌^◌, length, Result, Ok, Err, IfOk, Vec, Global, arith, true, ◌&&◌, T, List, [], ◌∷◌, ◌++◌, All, map, Option, Some, None, refl, sym, ap, ◌∙◌, subst}
+use Rattle.std.specs.Prelude.{option_map}
+use Rattle.std.specs.Option.{option_to_list}
+use Rattle.std.specs.FinMap.{FinMap, is_sorted, entries, from_entries, from_sorted, entries_sorted, entries-from_sorted, get-entries, len, len-entries, get-from_sorted, get-from_entries}
+use Rattle.std.specs.FinMap.Entries.{below_all}
+use Rattle.std.specs.Ordering.{nat_cmp, is_lt}
+use Rattle.std.specs.Cmp.{nat_cmp_total}
+use Rattle.std.proofs.lemmas.List.{map-append, length-append}
+use Rattle.std.proofs.lemmas.List.Elements.{All-nil, All-cons, All-append}
+use Rattle.hd_model.specs.declared.data.Id.{Id}
+use Rattle.hd_model.specs.declared.data.Addr.{Addr}
+use Rattle.hd_model.specs.declared.data.Kind.{Kind}
+use Rattle.hd_model.specs.declared.data.RootId.{RootId}
+use Rattle.hd_model.specs.declared.data.Slot.{Slot}
+use Rattle.hd_model.specs.State.{Handle, State, rename_handle}
+use Rattle.hd_model.specs.Role.{Role, holds, short, long, attaches, role}
+use Rattle.hd_model.specs.Heap.{Heap, id_at, has_object}
+use Rattle.hd_model.specs.RootText.{held_by, held_of, root_in, roots_in, root_id}
+use Rattle.hd_model.proofs.Naming.{role_renamed}
+use Rattle.hd_scan.specs.declared.gathering.Root.{Root}
+use Rattle.hd_scan.specs.Gathering.{root_by, roots_of}
+use Rattle.hd_world.specs.Listing.{root_named}
+use Rattle.hd_world.specs.Reading.{rows_by_id}
+use Rattle.hd_world.specs.Stored.{Parts, IsStored}
+use Rattle.hd_world.proofs.Maps.{Among, first, later, find-among, same_numbers}
+
+-- ---- entries of a map with other values
+
+module _ {X Y : Type 0} (f : ℕ → X → Y) where
+  below-mapped : (x : ℕ) (es : List (ℕ × X)) → below_all nat_cmp x (map (λ e. (e.0, f e.0 e.1)) es)
+      ≡ below_all nat_cmp x es
+  below-mapped x [] = refl
+  below-mapped x (e ∷ es) = ap (λ b. is_lt (nat_cmp x e.0) && b) (below-mapped x es)
+
+  sorted-mapped : (es : List (ℕ × X)) → is_sorted nat_cmp (map (λ e. (e.0, f e.0 e.1)) es)
+      ≡ is_sorted nat_cmp es
+  sorted-mapped [] = refl
+  sorted-mapped (e ∷ es) = λ i. below-mapped e.0 es i && sorted-mapped es i
+
+  pub entries-mapped : (m : FinMap nat_cmp X)
+      → entries (from_entries {R = nat_cmp} (map (λ e. (e.0, f e.0 e.1)) (entries m)))
+      ≡ map (λ e. (e.0, f e.0 e.1)) (entries m)
+  entries-mapped m =
+      let es : List (ℕ × Y) = map (λ e. (e.0, f e.0 e.1)) (entries m) in
+      let sorted : T (is_sorted nat_cmp es) = subst T (sym (sorted-mapped (entries m))) (entries_sorted m) in
+      ap entries (same_numbers (from_entries {R = nat_cmp} es) (from_sorted {R = nat_cmp} es)
+      (λ q. get-from_entries nat_cmp_total es q ∙ sym (get-from_sorted nat_cmp es q sorted)))
+      ∙ entries-from_sorted nat_cmp es sorted
+
+-- ---- roots by identity
+
+held-renamed : {N M : Type 0} (f : N → M) (r : Role) (o : Option N) → held_by r (option_map f o)
+    ≡ option_map f (held_by r o)
+held-renamed f holds o = refl
+held-renamed f short o = refl
+held-renamed f long o = refl
+held-renamed f attaches o = refl
+
+module _ (h : Heap) where
+  told : (slot : Slot) (k : Kind) (o : Option Addr)
+      → option_to_list (option_map (root_id slot k) (option_map (id_at h) o))
+      ≡ map (root_named h) (option_to_list (option_map (root_by slot k) o))
+  told slot k None = refl
+  told slot k (Some a) = refl
+
+  one_named : (e : ℕ × Handle Addr) → root_in root_id (e.0, rename_handle (id_at h) e.1)
+      ≡ map (root_named h) (root_in root_by e)
+  one_named e =
+      ap (λ (o : Option Id). option_to_list (option_map (root_id (record { 0 = e.0 }) e.1.kind) o))
+      (ap (λ r. held_by r (option_map (id_at h) e.1.target)) (role_renamed (id_at h) e.1.kind e.1.extra)
+      ∙ held-renamed (id_at h) (role e.1) e.1.target)
+      ∙ told (record { 0 = e.0 }) e.1.kind (held_of e.1)
+
+  all_named : (es : List (ℕ × Handle Addr))
+      → roots_in root_id (map (λ e. (e.0, rename_handle (id_at h) e.1)) es)
+      ≡ map (root_named h) (roots_in root_by es)
+  all_named [] = refl
+  all_named (e ∷ es) =
+      (λ i. one_named e i ++ all_named es i)
+      ∙ sym (map-append (root_named h) (root_in root_by e) (roots_in root_by es))
+
+  pub roots-are : (rows : FinMap nat_cmp (Handle Addr)) → map (root_named h) (roots_in root_by (entries rows))
+      ≡ roots_in root_id (entries (rows_by_id h rows))
+  unfolding rows_by_id
+  roots-are rows =
+      sym (all_named (entries rows))
+      ∙ ap (roots_in root_id) (sym (entries-mapped (λ slot row. rename_handle (id_at h) row) rows))
+
+-- ---- what roots hold are objects
+
+module _ (h : Heap) where
+  abbrev IsSound : Root → Type 0
+  IsSound root = has_object h root.at ≡ true
+
+  holds_object : (slot : Slot) (k : Kind) (r : Role) (o : Option Addr)
+      → ((a : Addr) → o ≡ Some a → has_object h a ≡ true)
+      → All IsSound (option_to_list (option_map (root_by slot k) (held_by r o)))
+  holds_object slot k holds None is = All-nil IsSound
+  holds_object slot k holds (Some a) is = All-cons IsSound (root_by slot k a) [] (is a refl) (All-nil IsSound)
+  holds_object slot k short o is = All-nil IsSound
+  holds_object slot k long o is = All-nil IsSound
+  holds_object slot k attaches o is = All-nil IsSound
+
+  all_hold : (es : List (ℕ × Handle Addr))
+      → ((k : ℕ) (v : Handle Addr) → Among k v es → (a : Addr) → v.target ≡ Some a → has_object h a ≡ true)
+      → All IsSound (roots_in root_by es)
+  all_hold [] of = All-nil IsSound
+  all_hold (e ∷ es) of =
+      All-append IsSound (root_in root_by e) (roots_in root_by es)
+      (holds_object (record { 0 = e.0 }) e.1.kind (role e.1) e.1.target (of e.0 e.1 first))
+      (all_hold es (λ k v among. of k v (later among)))
+
+pub roots-hold : (f : Parts) → IsStored f
+    → All (λ (root : Root). has_object f.heap root.at ≡ true) (roots_of f.table)
+roots-hold f stored =
+    all_hold f.heap (entries f.table.rows) (λ k v among a is.
+    stored.whole.targets k v a
+    (get-entries f.table.rows k
+    ∙ find-among k v (entries f.table.rows) (entries_sorted f.table.rows) among) is)
+
+-- ---- there are no more roots than handles
+
+one_at_most : {A : Type 0} (o : Option A) → length (option_to_list o) ≤ 1
+one_at_most None = omega arith
+one_at_most (Some x) = omega arith
+
+few-in : (es : List (ℕ × Handle Id)) → length (roots_in root_id es) ≤ length es
+few-in [] = omega arith
+few-in (e ∷ es) =
+    let both = length-append (root_in root_id e) (roots_in root_id es) in
+    let one : length (root_in root_id e) ≤ 1 =
+    one_at_most (option_map (root_id (record { 0 = e.0 }) e.1.kind) (held_of e.1)) in
+    omega (arith, both, one, few-in es)
+
+pub few-roots : {E : Type 0} (s : State) (live : ℕ) (r : Result (Vec RootId Global) E) → live ≡ len s.handles
+    → live < 2 ^ 32
+    → IfOk r (λ roots. roots.items ≡ roots_in root_id (entries s.handles))
+    → IfOk r (λ roots. length roots.items < 2 ^ 32)
+few-roots s live (Ok roots) is small listed =
+    omega (arith, ap length listed, few-in (entries s.handles), len-entries s.handles, is, small)
+few-roots s live (Err e) is small listed = tt

@@ -1,0 +1,20 @@
+use Rattle.std.proofs.Common.{◌≡◌, ◌∙◌, All, true, map, List, sym, ap, subst}
+use Rattle.hd_model.specs.Heap.{has_object}
+use Rattle.hd_model.specs.RootText.{roots_of}
+use Rattle.hd_scan.specs.declared.gathering.Root.{Root}
+use Rattle.hd_world.specs.Listing.{root_named}
+use Rattle.hd_world.specs.Store.{Machine}
+use Rattle.hd_world.proofs.Inside.{parts}
+use Rattle.hd_world.proofs.Listed.{roots-are, roots-hold}
+use Rattle.hd_world.proofs.store.Store.roots.Goals as goal
+
+pub named_roots-requires : goal.named_roots-requires
+named_roots-requires g c =
+    subst (λ (roots : List Root). All (λ (root : Root). has_object c.self.inside.heap root.at ≡ true) roots)
+    (sym (c.deref.ensures.value ∙ c.in_ok-roots.ensures)) (roots-hold (parts c.self.inside) c.self.invariant)
+
+pub returns-in-Ok : goal.returns-in-Ok
+returns-in-Ok g c =
+    c.in-Ok.ensures ∙ ap (map (root_named c.self.inside.heap)) (c.deref.ensures.value ∙ c.in_ok-roots.ensures)
+    ∙ roots-are c.self.inside.heap c.self.inside.table.rows
+    ∙ ap (λ (m : Machine). roots_of m.state) c.self.view_is
