@@ -1,12 +1,12 @@
 -- No held region is empty at first, nor after an object is made.
-use Rattle.std.proofs.Common.{◌≡◌, ℕ, ◌+◌, ◌*◌, Bool, true, Option, Some, None, is_some, nat_cmp, refl, sym, ap, ◌∙◌, subst, inl, inr}
+use Rattle.std.proofs.Common.{◌≡◌, ℕ, ◌+◌, ◌*◌, true, Option, Some, None, is_some, nat_cmp, refl, sym, ap, ◌∙◌, subst, inl, inr}
 use Rattle.std.specs.Prelude.{option_map}
 use Rattle.std.specs.FinMap as map
 use Rattle.std.proofs.lemmas.Bool.{cases_eq, false≢true}
 use Rattle.hd_model.specs.declared.data.Addr.{Addr}
 use Rattle.hd_model.specs.Heap.{Heap, Placed, Region, has_object, object_in, region_at, region_of, region_generation, is_held, cells_of}
 use Rattle.hd_model.proofs.Written.{get_inserted, get_beside}
-use Rattle.hd_heap.specs.Calls.{empty_heap, with_put, IsMade}
+use Rattle.hd_heap.specs.Calls.{empty_heap, IsMade}
 use Rattle.hd_plan.specs.Plan.{HasNoEmptyRegion, StartsInRegion}
 
 pub full_empty : (h : Heap) (limit : ℕ) → h ≡ empty_heap limit → HasNoEmptyRegion h

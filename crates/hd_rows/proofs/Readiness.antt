@@ -1,5 +1,5 @@
 -- A state that passes the checks is ready.
-use Rattle.std.proofs.Common.{◌≡◌, ℕ, ◌*◌, ◌<◌, ◌≤◌, true, List, [], Option, Some, None, is_some, length, get_or, refl, sym, ap, ◌∙◌, subst, ⊎_elim, inl, inr, arith}
+use Rattle.std.proofs.Common.{◌≡◌, ℕ, ◌*◌, ◌<◌, ◌≤◌, true, List, Option, Some, None, is_some, length, get_or, refl, sym, ap, ◌∙◌, inl, inr, arith}
 use Rattle.std.specs.Prelude.{Contains, option_map}
 use Rattle.std.specs.FinMap.{get, len}
 use Rattle.std.proofs.lemmas.Bool.{cases_order}
@@ -7,13 +7,13 @@ use Rattle.std.proofs.lemmas.List.{get_or_default}
 use Rattle.std.proofs.lemmas.Option.{none-some}
 use Rattle.hd_model.specs.declared.data.Addr.{Addr}
 use Rattle.hd_model.specs.State.{Object}
-use Rattle.hd_model.specs.Scene.{fields_at, fields_in, is_object, IsField}
-use Rattle.hd_model.specs.Heap.{Heap, HasIdentities, Placed, has_object, object_at, object_in, id_at, id_in, region_generation, region_of}
-use Rattle.hd_model.specs.Table.{Table, Queue, row_at}
+use Rattle.hd_model.specs.Scene.{fields_at, fields_in, IsField}
+use Rattle.hd_model.specs.Heap.{Heap, HasIdentities, Placed, has_object, object_at, object_in, id_in, region_generation, region_of}
+use Rattle.hd_model.specs.Table.{Table, Queue}
 use Rattle.hd_model.proofs.Members.{not_in_none}
 use Rattle.hd_plan.specs.Plan.{HasNoEmptyRegion}
 use Rattle.hd_gc.specs.Ready.{IsReady}
-use Rattle.hd_rows.specs.Checks.{HasNullFields, IsBare, AreAlone, ArePlain}
+use Rattle.hd_rows.specs.Checks.{IsBare, AreAlone, ArePlain}
 
 module _ (h : Heap) (bare : IsBare h) where
   field_object : (x y : Addr) (o : Option (Object Addr)) → object_at h x ≡ o → Contains (fields_in o) (Some y)

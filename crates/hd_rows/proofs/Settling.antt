@@ -1,5 +1,5 @@
 -- The marks of objects without fields are settled, and grow by what is promoted.
-use Rattle.std.proofs.Common.{◌≡◌, ◌⊎◌, ℕ, ◌-◌, ◌<◌, Bool, true, false, List, [], length, get_or, set, Some, is_some, refl, sym, ap, ◌∙◌, subst, arith, ⊎_elim, inl, inr}
+use Rattle.std.proofs.Common.{◌≡◌, ◌⊎◌, ℕ, ◌<◌, Bool, true, false, List, [], length, get_or, set, Some, is_some, refl, sym, ap, ◌∙◌, subst, arith, ⊎_elim, inl, inr}
 use Rattle.std.specs.Prelude.{option_map, unwrap_or, Contains}
 use Rattle.std.specs.FinMap.{get-empty}
 use Rattle.std.specs.Ordering.{nat_cmp}

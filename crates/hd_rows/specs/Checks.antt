@@ -1,5 +1,5 @@
 -- What the checks of a state find before a collection.
-use Rattle.std.specs.Prelude.{◌≡◌, ◌≢◌, ℕ, ◌<◌, ◌≤◌, true, List, Option, Some, None, slice_index_or}
+use Rattle.std.specs.Prelude.{◌≡◌, ◌≢◌, ℕ, ◌<◌, ◌≤◌, true, List, Some, None, slice_index_or}
 use Rattle.hd_model.specs.declared.data.Addr.{Addr}
 use Rattle.hd_model.specs.State.{Handle, secondary_of}
 use Rattle.hd_model.specs.Scene.{fields_at, generation_at}
@@ -14,7 +14,7 @@ HasNullFields h x = (k : ℕ) → slice_index_or (fields_at (object_at h) x) k N
 abbrev pub IsBare : Heap → Type 0
 IsBare h = (x : Addr) → has_object h x ≡ true → HasNullFields h x
 
--- no object behind this one has its identity
+-- no object after this one has its identity
 abbrev pub IsAlone : Heap → Addr → Type 0
 IsAlone h x = (y : Addr) → has_object h y ≡ true → x.0 < y.0 → id_at h x ≢ id_at h y
 

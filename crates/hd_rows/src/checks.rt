@@ -11,15 +11,12 @@ ghost use Rattle.hd_rows.specs.Checks.{HasNullFields, IsBare, IsAlone, AreAlone,
 
 use hd_ages::AgeMap;
 use hd_heap::Heap;
-use hd_model::limits::ROWS;
+use hd_model::limits::{CLUMP, CLUMPS, ROWS};
 use hd_model::{Addr, Slot};
 use hd_seg::{Extra, Seg};
 
-/// The slots of a clump.
-const CLUMP: u32 = 16;
-
 /// Whether an object stands at an address.
-pub fn stands(heap: &Heap, at: Addr) -> bool
+pub(crate) fn stands(heap: &Heap, at: Addr) -> bool
     ensures { result ≡ true → has_object heap.now at ≡ true }
 {
     if at.0 == 0 {
@@ -31,7 +28,7 @@ pub fn stands(heap: &Heap, at: Addr) -> bool
     }
 }
 
-/// Whether all fields of an object are null.
+// Whether all fields of an object are null.
 fn names_nothing(heap: &Heap, at: Addr) -> bool
     requires { has_object heap.now at ≡ true }
     ensures { result ≡ true → HasNullFields heap.now at }
@@ -45,7 +42,7 @@ fn names_nothing(heap: &Heap, at: Addr) -> bool
 }
 
 /// Whether all fields are null.
-pub fn is_bare(heap: &Heap) -> bool
+pub(crate) fn is_bare(heap: &Heap) -> bool
     ensures { result ≡ true → IsBare heap.now }
 {
     let mut after = None;
@@ -58,7 +55,7 @@ pub fn is_bare(heap: &Heap) -> bool
     true
 }
 
-/// Whether the fields of an object name objects alone.
+// Whether the fields of an object name objects alone.
 fn names_objects(heap: &Heap, at: Addr) -> bool
     requires { has_object heap.now at ≡ true }
     ensures { result ≡ true → (y : Addr) → IsField (object_at heap.now) at y →
@@ -75,7 +72,7 @@ fn names_objects(heap: &Heap, at: Addr) -> bool
 }
 
 /// Whether all fields name objects alone.
-pub fn is_closed(heap: &Heap) -> bool
+pub(crate) fn is_closed(heap: &Heap) -> bool
     ensures { result ≡ true → HasClosedFields (object_at heap.now) }
 {
     let mut after = None;
@@ -88,7 +85,7 @@ pub fn is_closed(heap: &Heap) -> bool
     true
 }
 
-/// Whether no object behind this one has its identity.
+// Whether no object after this one has its identity.
 fn is_alone(heap: &Heap, at: Addr) -> bool
     requires { has_object heap.now at ≡ true }
     ensures { result ≡ true → IsAlone heap.now at }
@@ -104,7 +101,7 @@ fn is_alone(heap: &Heap, at: Addr) -> bool
 }
 
 /// Whether no two objects have one identity.
-pub fn are_alone(heap: &Heap) -> bool
+pub(crate) fn are_alone(heap: &Heap) -> bool
     ensures { result ≡ true → AreAlone heap.now }
 {
     let mut after = None;
@@ -117,7 +114,7 @@ pub fn are_alone(heap: &Heap) -> bool
     true
 }
 
-/// Whether an extra is no secondary.
+// Whether an extra is no secondary.
 fn is_single(extra: Extra) -> bool
     ensures { result ≡ true → secondary_of (extra_of extra) ≡ None }
 {
@@ -127,7 +124,7 @@ fn is_single(extra: Extra) -> bool
     }
 }
 
-/// Whether a slot is vacant, or its row is a plain one.
+// Whether a slot is vacant, or its row is a plain one.
 fn is_plain(heap: &Heap, seg: &Seg, ages: &AgeMap, slot: u32) -> bool
     ensures { result ≡ true → (row : Handle Addr) → row_at seg.now slot ≡ Some row →
         IsPlain heap.now ages.now slot row }
@@ -148,10 +145,11 @@ fn is_plain(heap: &Heap, seg: &Seg, ages: &AgeMap, slot: u32) -> bool
 }
 
 /// Whether all rows are plain ones.
-pub fn are_plain(heap: &Heap, seg: &Seg, ages: &AgeMap) -> bool
-    requires { length ages.now ≡ 4 * seg.now.blocks }
+pub(crate) fn are_plain(heap: &Heap, seg: &Seg, ages: &AgeMap) -> bool
+    requires { length ages.now ≡ CLUMPS * seg.now.blocks }
     ensures { result ≡ true → ArePlain heap.now seg.now ages.now }
 {
+    // Read for the proof alone: a live row stands in one of the table's blocks.
     let _ = seg.given();
     for slot in 0..ROWS * (ages.blocks() + 1) {
         if !is_plain(heap, seg, ages, slot) {
@@ -162,7 +160,7 @@ pub fn are_plain(heap: &Heap, seg: &Seg, ages: &AgeMap) -> bool
 }
 
 /// Whether each root is null or an object.
-pub fn roots_stand(heap: &Heap, roots: &[Option<Addr>]) -> bool
+pub(crate) fn roots_stand(heap: &Heap, roots: &[Option<Addr>]) -> bool
     ensures { result ≡ true → (x : Addr) → Contains roots.now (Some x) →
         has_object heap.now x ≡ true }
 {

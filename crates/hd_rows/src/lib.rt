@@ -5,6 +5,8 @@
 #[cfg(test)]
 mod checks;
 #[cfg(test)]
+mod collecting;
+#[cfg(test)]
 mod passes;
 #[cfg(test)]
 mod relocations;
@@ -12,6 +14,8 @@ mod relocations;
 mod revivals;
 #[cfg(test)]
 mod rounds;
+#[cfg(test)]
+mod row;
 #[cfg(test)]
 mod rows;
 #[cfg(test)]

@@ -1,12 +1,13 @@
-ghost use Rattle.std.specs.Prelude.{◌≡◌, ◌<◌, length};
+ghost use Rattle.std.specs.Prelude.{◌≡◌, ◌*◌, ◌<◌, length};
 ghost use Rattle.hd_model.specs.Marking.{IsSettled};
 ghost use Rattle.hd_model.specs.Heap.{objects_of};
 ghost use Rattle.hd_rows.specs.Toy.{toy_basis, is_in};
 
-use crate::table::{block, is_young, lower, names_objects, put};
+use crate::table::{TABLE, block, is_young, lower, names_objects, put};
 use crate::toy::Toy;
 use hd_ages::AgeMap;
 use hd_dep::{clear, rescan};
+use hd_model::limits::{CLUMP, CLUMPS};
 use hd_model::{Addr, Kind, Slot, Steps, Strength};
 use hd_scan::{Task, pass};
 use hd_seg::{Extra, Row, Seg};
@@ -16,7 +17,7 @@ use std::process::Abort;
 use std::sync::ledger::{Blank, Ledger};
 use std::test::Fail;
 
-/// What a pass of a task answers.
+// What a pass of a task answers.
 fn passed_by<L: Ledger>(
     rt: &impl Abort,
     seg: &mut Seg,
@@ -26,9 +27,9 @@ fn passed_by<L: Ledger>(
     blank: Blank,
 ) -> u32
     requires blank { (L.name ≡ blank.name) × (L.parts ≡ blank.parts) × (0 < blank.parts) }
-    requires blocks { seg.old.blocks ≡ 12 }
-    requires ages { length ages.now ≡ 48 }
-    ensures { seg.new.blocks ≡ 12 }
+    requires blocks { seg.old.blocks ≡ TABLE }
+    requires ages { length ages.now ≡ CLUMPS * TABLE }
+    ensures { seg.new.blocks ≡ TABLE }
 {
     let mut steps = Steps::<L>::open(blank);
     assert!(rt; names_objects(seg, toy));
@@ -36,17 +37,17 @@ fn passed_by<L: Ledger>(
     pass(seg, ages, task, toy, n, &mut steps)
 }
 
-/// The same, with a counter that nothing reads.
+// The same, with a counter that nothing reads.
 fn passed(rt: &impl Abort, seg: &mut Seg, ages: &AgeMap, toy: &mut Toy, task: Task) -> u32
-    requires blocks { seg.old.blocks ≡ 12 }
-    requires ages { length ages.now ≡ 48 }
-    ensures { seg.new.blocks ≡ 12 }
+    requires blocks { seg.old.blocks ≡ TABLE }
+    requires ages { length ages.now ≡ CLUMPS * TABLE }
+    ensures { seg.new.blocks ≡ TABLE }
 {
     passed_by::<Brand>(rt, seg, ages, toy, task, Blank::new(1))
 }
 
-/// Promotes what the dependent handles say, and then clears them. The answer is the number of those
-/// that were cleared.
+// Promotes what the dependent handles say, and then clears them. The answer is the number of those
+// that were cleared.
 fn followed_by<L: Ledger>(
     rt: &impl Abort,
     seg: &mut Seg,
@@ -55,9 +56,9 @@ fn followed_by<L: Ledger>(
     blank: Blank,
 ) -> u32
     requires blank { (L.name ≡ blank.name) × (L.parts ≡ blank.parts) × (0 < blank.parts) }
-    requires blocks { seg.old.blocks ≡ 12 }
-    requires ages { length ages.now ≡ 48 }
-    ensures { seg.new.blocks ≡ 12 }
+    requires blocks { seg.old.blocks ≡ TABLE }
+    requires ages { length ages.now ≡ CLUMPS * TABLE }
+    ensures { seg.new.blocks ≡ TABLE }
 {
     let mut steps = Steps::<L>::open(blank);
     assert!(rt; names_objects(seg, toy));
@@ -67,19 +68,19 @@ fn followed_by<L: Ledger>(
     clear(seg, ages, toy, n, &mut steps)
 }
 
-/// The same, with a counter that nothing reads.
+// The same, with a counter that nothing reads.
 fn followed(rt: &impl Abort, seg: &mut Seg, ages: &AgeMap, toy: &mut Toy) -> u32
-    requires blocks { seg.old.blocks ≡ 12 }
-    requires ages { length ages.now ≡ 48 }
-    ensures { seg.new.blocks ≡ 12 }
+    requires blocks { seg.old.blocks ≡ TABLE }
+    requires ages { length ages.now ≡ CLUMPS * TABLE }
+    ensures { seg.new.blocks ≡ TABLE }
 {
     followed_by::<Brand>(rt, seg, ages, toy, Blank::new(1))
 }
 
 #[test]
 fn a_pass_goes_over_the_clumps_up_to_its_generation(rt: HostRuntime) -> Result<(), Fail> {
-    let mut seg = Seg::open(rt.alloc(), 12)?;
-    let mut ages = AgeMap::open(rt.alloc(), 12)?;
+    let mut seg = Seg::open(rt.alloc(), TABLE)?;
+    let mut ages = AgeMap::open(rt.alloc(), TABLE)?;
     let mut toy = Toy::open(rt.alloc(), 16, 1)?;
     let first = block(&rt, &mut seg, Kind::Pinned);
     for (row, target) in [(15, Some(1)), (16, Some(2)), (31, None), (47, Some(3))] {
@@ -94,8 +95,8 @@ fn a_pass_goes_over_the_clumps_up_to_its_generation(rt: HostRuntime) -> Result<(
 
 #[test]
 fn a_handle_holds_by_its_strength_and_by_its_count(rt: HostRuntime) -> Result<(), Fail> {
-    let mut seg = Seg::open(rt.alloc(), 12)?;
-    let mut ages = AgeMap::open(rt.alloc(), 12)?;
+    let mut seg = Seg::open(rt.alloc(), TABLE)?;
+    let mut ages = AgeMap::open(rt.alloc(), TABLE)?;
     let mut toy = Toy::open(rt.alloc(), 16, 2)?;
     let variable = block(&rt, &mut seg, Kind::Variable);
     let strengths = [
@@ -133,46 +134,55 @@ fn a_handle_holds_by_its_strength_and_by_its_count(rt: HostRuntime) -> Result<()
     Ok(())
 }
 
-/// Dependent handles join 13 objects in a row, from object 0 on. The slots of three blocks rise
-/// with the row, or fall: then each pass but the last promotes one object.
-fn follows(rt: &impl Abort, alloc: Global, rising: bool) -> Result<(), Fail> {
-    let mut seg = Seg::open(alloc, 12)?;
-    let mut ages = AgeMap::open(alloc, 12)?;
-    let mut toy = Toy::open(alloc, 16, 0)?;
-    for b in 1..13 {
-        for clump in 0..4 {
-            lower(&mut ages, b, clump, 0);
-        }
+// Lowers each age to 0.
+fn make_young(ages: &mut AgeMap)
+    requires { length ages.old ≡ CLUMPS * TABLE }
+    ensures { length ages.new ≡ CLUMPS * TABLE }
+{
+    for place in 0..CLUMPS * TABLE {
+        lower(ages, place / CLUMPS + 1, place % CLUMPS, 0);
     }
+}
+
+// Dependent handles in the clumps of a new block, one of three: each leads from an
+// object to the next one. The slots rise with the objects, or fall.
+fn chain(rt: &impl Abort, seg: &mut Seg, third: u32, rising: bool)
+    requires third { third < 3 }
+    requires blocks { seg.old.blocks ≡ TABLE }
+    ensures { seg.new.blocks ≡ TABLE }
+{
+    let first = block(rt, seg, Kind::Dependent);
+    for clump in 0..CLUMPS {
+        let place = CLUMPS * third + clump;
+        let from = if rising { place } else { 11 - place };
+        let extra = Extra::Secondary(Some(Addr(from + 1)));
+        put(rt, seg, first + CLUMP * clump, Some(from), extra);
+    }
+}
+
+// Dependent handles join 13 objects in a row, from object 0 on, which a strong handle names. Where
+// the slots fall, each pass but the last promotes one object.
+fn follows(rt: &impl Abort, alloc: Global, rising: bool) -> Result<(), Fail> {
+    let mut seg = Seg::open(alloc, TABLE)?;
+    let mut ages = AgeMap::open(alloc, TABLE)?;
+    let mut toy = Toy::open(alloc, 16, 0)?;
+    make_young(&mut ages);
     let strong = block(rt, &mut seg, Kind::Strong);
     put(rt, &mut seg, strong, Some(0), Extra::Nothing);
     for third in 0..3 {
-        let first = block(rt, &mut seg, Kind::Dependent);
-        for row in 0..4 {
-            let place = 4 * third + row;
-            let from = if rising { place } else { 11 - place };
-            let extra = Extra::Secondary(Some(Addr(from + 1)));
-            put(rt, &mut seg, first + 16 * row, Some(from), extra);
-        }
+        chain(rt, &mut seg, third, rising);
     }
     let lost = block(rt, &mut seg, Kind::Dependent);
-    put(
-        rt,
-        &mut seg,
-        lost,
-        Some(14),
-        Extra::Secondary(Some(Addr(1))),
-    );
+    let attached = Extra::Secondary(Some(Addr(1)));
+    put(rt, &mut seg, lost, Some(14), attached);
     assert_eq!(rt; passed(rt, &mut seg, &ages, &mut toy, Task::Strong), 1);
     assert_eq!(rt; followed(rt, &mut seg, &ages, &mut toy), 1);
     assert_eq!(rt; toy.masks(), (0b1_1111_1111_1111, 0));
-    assert!(rt;
-        seg.row(Slot(lost))
-            == Some(Row {
-                target: None,
-                extra: Extra::Secondary(None)
-            })
-    );
+    let cleared = Row {
+        target: None,
+        extra: Extra::Secondary(None),
+    };
+    assert!(rt; seg.row(Slot(lost)) == Some(cleared));
     Ok(())
 }
 

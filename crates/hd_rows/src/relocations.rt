@@ -1,10 +1,11 @@
-ghost use Rattle.std.specs.Prelude.{◌≡◌, ◌<◌, length};
+ghost use Rattle.std.specs.Prelude.{◌≡◌, ◌*◌, ◌<◌, length};
 ghost use Rattle.hd_model.specs.Table.{row_at};
 ghost use Rattle.hd_rows.specs.Toy.{is_below, turned};
 
-use crate::table::{block, lower, names_objects, put};
+use crate::table::{TABLE, block, lower, names_objects, put};
 use crate::toy::{Toy, Turned};
 use hd_ages::AgeMap;
+use hd_model::limits::CLUMPS;
 use hd_model::{Addr, Kind, Slot, Steps};
 use hd_scan::relocate;
 use hd_seg::{Extra, Row, Seg};
@@ -13,8 +14,8 @@ use std::process::Abort;
 use std::sync::ledger::{Blank, Ledger};
 use std::test::Fail;
 
-/// Turns the places of what the rows of a kind name, of 16 objects, in the clumps of generation 1
-/// and below.
+// Turns the places of what the rows of a kind name, of 16 objects, in the clumps of generation 1
+// and below.
 fn relocate_by<L: Ledger>(
     rt: &impl Abort,
     seg: &mut Seg,
@@ -24,27 +25,27 @@ fn relocate_by<L: Ledger>(
     blank: Blank,
 )
     requires blank { (L.name ≡ blank.name) × (L.parts ≡ blank.parts) × (0 < blank.parts) }
-    requires blocks { seg.old.blocks ≡ 12 }
-    requires ages { length ages.now ≡ 48 }
+    requires blocks { seg.old.blocks ≡ TABLE }
+    requires ages { length ages.now ≡ CLUMPS * TABLE }
     requires toy { length toy.now.marks.items ≡ 16 }
-    ensures { seg.new.blocks ≡ 12 }
+    ensures { seg.new.blocks ≡ TABLE }
 {
     let mut steps = Steps::<L>::open(blank);
     assert!(rt; names_objects(seg, toy));
     relocate(seg, ages, kind, &Turned::of(16), 1, &mut steps);
 }
 
-/// The same, with a counter that nothing reads.
+// The same, with a counter that nothing reads.
 fn turn(rt: &impl Abort, seg: &mut Seg, ages: &AgeMap, toy: &Toy, kind: Kind)
-    requires blocks { seg.old.blocks ≡ 12 }
-    requires ages { length ages.now ≡ 48 }
+    requires blocks { seg.old.blocks ≡ TABLE }
+    requires ages { length ages.now ≡ CLUMPS * TABLE }
     requires toy { length toy.now.marks.items ≡ 16 }
-    ensures { seg.new.blocks ≡ 12 }
+    ensures { seg.new.blocks ≡ TABLE }
 {
     relocate_by::<Brand>(rt, seg, ages, toy, kind, Blank::new(1));
 }
 
-/// What slots of a table name.
+// What slots of a table name.
 fn shows(rt: &impl Abort, seg: &Seg, rows: &[(u32, Option<u32>, Extra)]) {
     for (slot, target, extra) in rows {
         let row = Row {
@@ -57,8 +58,8 @@ fn shows(rt: &impl Abort, seg: &Seg, rows: &[(u32, Option<u32>, Extra)]) {
 
 #[test]
 fn a_relocation_goes_over_the_clumps_up_to_its_generation(rt: HostRuntime) -> Result<(), Fail> {
-    let mut seg = Seg::open(rt.alloc(), 12)?;
-    let mut ages = AgeMap::open(rt.alloc(), 12)?;
+    let mut seg = Seg::open(rt.alloc(), TABLE)?;
+    let mut ages = AgeMap::open(rt.alloc(), TABLE)?;
     let toy = Toy::open(rt.alloc(), 16, 1)?;
     let first = block(&rt, &mut seg, Kind::Strong);
     for (row, target) in [
@@ -89,10 +90,10 @@ fn a_relocation_goes_over_the_clumps_up_to_its_generation(rt: HostRuntime) -> Re
 
 #[test]
 fn a_relocation_gives_rows_of_its_kind_alone_new_names(rt: HostRuntime) -> Result<(), Fail> {
-    let mut seg = Seg::open(rt.alloc(), 12)?;
-    let mut ages = AgeMap::open(rt.alloc(), 12)?;
+    let mut seg = Seg::open(rt.alloc(), TABLE)?;
+    let mut ages = AgeMap::open(rt.alloc(), TABLE)?;
     let toy = Toy::open(rt.alloc(), 16, 1)?;
-    for block in 1..13 {
+    for block in 1..TABLE + 1 {
         lower(&mut ages, block, 0, 0);
     }
     let weak = block(&rt, &mut seg, Kind::Short);

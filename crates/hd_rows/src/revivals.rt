@@ -6,12 +6,13 @@ use crate::checks::{are_alone, is_closed, stands};
 use hd_final::Final;
 use hd_heap::Heap;
 use hd_mark::Marks;
+use hd_model::limits::REGION;
 use hd_model::{Addr, Id, Memory};
 use std::alloc::Global;
 use std::process::Abort;
 use std::test::Fail;
 
-/// Two registered objects and one that is not, with a field each. Their identities fall from 3.
+// Two registered objects and one that is not, with a field each. Their identities fall from 3.
 fn three(alloc: Global) -> Result<Heap, Memory> {
     let mut heap = Heap::open(alloc, 1_000)?;
     for (id, registered) in [(3, true), (2, true), (1, false)] {
@@ -22,7 +23,7 @@ fn three(alloc: Global) -> Result<Heap, Memory> {
     Ok(heap)
 }
 
-/// The same, where the field of an object names another one.
+// The same, where the field of an object names another one.
 fn led(rt: &impl Abort, alloc: Global, from: Addr, to: Addr) -> Result<Heap, Memory>
     ensures fields { IfOk result (λ h. HasClosedFields (object_at h)) }
     ensures identities { IfOk result HasIdentities }
@@ -39,7 +40,7 @@ fn led(rt: &impl Abort, alloc: Global, from: Addr, to: Addr) -> Result<Heap, Mem
 
 #[test]
 fn a_registered_object_joins_though_another_one_leads_to_it(rt: HostRuntime) -> Result<(), Fail> {
-    let (first, second) = (Addr(256), Addr(260));
+    let (first, second) = (Addr(REGION), Addr(REGION + 4));
     for (from, to) in [(first, second), (second, first), (first, first)] {
         let heap = led(&rt, rt.alloc(), from, to)?;
         let mut fin = Final::open(rt.alloc())?;

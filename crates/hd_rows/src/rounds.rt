@@ -2,19 +2,20 @@ ghost use Rattle.std.specs.Prelude.{◌≡◌, ◌*◌, length, IfOk};
 ghost use Rattle.hd_plan.specs.Plan.{HasNoEmptyRegion};
 
 use crate::state::{State, collected, due, first_root, handle, new, open, set};
+use hd_model::limits::{CLUMPS, FIELDS};
 use hd_model::{Kind, Memory};
 use std::alloc::Global;
 use std::process::Abort;
 use std::test::Fail;
 
-// Eighty objects of 61 fields, of which every fourth is a root.
+// Eighty objects of the most fields, of which every fourth is a root.
 fn eighty(rt: &impl Abort, alloc: Global) -> Result<State, Memory>
     ensures full { IfOk result (λ s. HasNoEmptyRegion s.heap) }
-    ensures clumps { IfOk result (λ s. length s.ages ≡ 4 * s.seg.blocks) }
+    ensures clumps { IfOk result (λ s. length s.ages ≡ CLUMPS * s.seg.blocks) }
 {
     let mut s = open(alloc)?;
     for k in 0..80 {
-        let _ = new(rt, &mut s, k + 1, 61, k % 4 == 0);
+        let _ = new(rt, &mut s, k + 1, FIELDS, k % 4 == 0);
     }
     Ok(s)
 }
@@ -34,13 +35,13 @@ fn a_full_collection_leaves_few_regions(rt: HostRuntime) -> Result<(), Fail> {
 // by their task and by the relocation.
 fn steps_of(rt: &impl Abort, alloc: Global, s: &mut State, n: u8) -> Result<u32, Memory>
     requires full { HasNoEmptyRegion s.old.heap }
-    requires clumps { length s.old.ages ≡ 4 * s.old.seg.blocks }
+    requires clumps { length s.old.ages ≡ CLUMPS * s.old.seg.blocks }
     ensures full { IfOk result (λ _. HasNoEmptyRegion s.new.heap) }
-    ensures clumps { IfOk result (λ _. length s.new.ages ≡ 4 * s.new.seg.blocks) }
+    ensures clumps { IfOk result (λ _. length s.new.ages ≡ CLUMPS * s.new.seg.blocks) }
 {
     let clumps = due(rt, s, Kind::Strong, n);
     let _ = collected(rt, alloc, s, n)?;
-    assert!(rt; clumps <= 4);
+    assert!(rt; clumps <= CLUMPS);
     Ok(2 * clumps)
 }
 

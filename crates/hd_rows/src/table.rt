@@ -11,25 +11,29 @@ ghost use Rattle.hd_rows.specs.Toy.{NamesBelow, fits_by, toy_basis};
 
 use crate::toy::Toy;
 use hd_ages::AgeMap;
+use hd_model::limits::{BLOCKS, CLUMPS, ROWS};
 use hd_model::{Addr, Grown, Kind, Slot};
 use hd_seg::{BlockKind, Extra, Row, Seg};
 use std::process::Abort;
 
+/// The blocks of a table.
+pub(crate) const TABLE: u32 = 12;
+
 /// Gives a kind a block, and answers its first slot.
-pub fn block(rt: &impl Abort, seg: &mut Seg, kind: Kind) -> u32
+pub(crate) fn block(rt: &impl Abort, seg: &mut Seg, kind: Kind) -> u32
     ensures blocks { seg.new.blocks ≡ seg.old.blocks }
-    ensures few { result ≤ 16384 }
+    ensures few { result ≤ BLOCKS * ROWS }
 {
     match seg.give_block(kind) {
         Ok(Grown::One(block) | Grown::Two(block, _)) => {
-            assert!(rt; block <= 256);
-            64 * block
+            assert!(rt; block <= BLOCKS);
+            ROWS * block
         }
         _ => panic!(rt; "no block is left"),
     }
 }
 
-/// Whether an extra is one of a kind.
+// Whether an extra is one of a kind.
 fn is_of_kind(kind: BlockKind, extra: Extra) -> bool
     ensures { result ≡ fits_by kind (extra_of extra) }
 {
@@ -43,18 +47,18 @@ fn is_of_kind(kind: BlockKind, extra: Extra) -> bool
 }
 
 /// Puts a handle into a slot of a block of its kind.
-pub fn put(rt: &impl Abort, seg: &mut Seg, slot: u32, target: Option<u32>, extra: Extra)
-    requires { seg.old.blocks ≡ 12 }
+pub(crate) fn put(rt: &impl Abort, seg: &mut Seg, slot: u32, target: Option<u32>, extra: Extra)
+    requires { seg.old.blocks ≡ TABLE }
     ensures { seg.new.blocks ≡ seg.old.blocks }
 {
-    assert!(rt; 64 <= slot && slot < 64 * 13);
+    assert!(rt; ROWS <= slot && slot < ROWS * (TABLE + 1));
     assert!(rt; seg.row(Slot(slot)).is_none());
-    assert!(rt; is_of_kind(seg.block_kind(slot / 64), extra));
+    assert!(rt; is_of_kind(seg.block_kind(slot / ROWS), extra));
     let target = target.map(Addr);
     seg.put_row(Slot(slot), Row { target, extra });
 }
 
-/// Whether a name is the number of an object.
+// Whether a name is the number of an object.
 fn is_below(name: Option<Addr>, size: usize) -> bool
     ensures { result ≡ true → ForSome name (λ x. x.0 < size) }
 {
@@ -64,7 +68,7 @@ fn is_below(name: Option<Addr>, size: usize) -> bool
     }
 }
 
-/// The secondary of an extra.
+// The secondary of an extra.
 fn secondary_in(extra: Extra) -> Option<Addr>
     ensures { result ≡ secondary_of (extra_of extra) }
 {
@@ -74,7 +78,7 @@ fn secondary_in(extra: Extra) -> Option<Addr>
     }
 }
 
-/// Whether a row names numbers of objects alone.
+// Whether a row names numbers of objects alone.
 fn is_named(row: Row, size: usize) -> bool
     ensures { result ≡ true → NamesBelow size row }
 {
@@ -82,15 +86,16 @@ fn is_named(row: Row, size: usize) -> bool
 }
 
 /// Whether the rows of a table name objects alone.
-pub fn names_objects(seg: &Seg, toy: &Toy) -> bool
-    requires { seg.now.blocks ≡ 12 }
+pub(crate) fn names_objects(seg: &Seg, toy: &Toy) -> bool
+    requires { seg.now.blocks ≡ TABLE }
     ensures { result ≡ true →
         NamesObjects (objects_of (toy_basis (length toy.now.marks.items) toy.now.n))
         (row_at seg.now) }
 {
+    // Read for the proof alone: a live row stands in one of the table's blocks.
     let _given = seg.given();
     let size = toy.size();
-    for slot in 64..64 * 13 {
+    for slot in ROWS..ROWS * (TABLE + 1) {
         if let Some(row) = seg.row(Slot(slot)) {
             if !is_named(row, size) {
                 return false;
@@ -101,23 +106,23 @@ pub fn names_objects(seg: &Seg, toy: &Toy) -> bool
 }
 
 /// Lowers the age of a block's clump.
-pub fn lower(ages: &mut AgeMap, block: u32, clump: u32, g: u8)
-    requires ages { length ages.old ≡ 48 }
+pub(crate) fn lower(ages: &mut AgeMap, block: u32, clump: u32, g: u8)
+    requires ages { length ages.old ≡ CLUMPS * TABLE }
     requires low { 1 ≤ block }
-    requires high { block ≤ 12 }
-    requires clump { clump < 4 }
-    ensures { length ages.new ≡ 48 }
+    requires high { block ≤ TABLE }
+    requires clump { clump < CLUMPS }
+    ensures { length ages.new ≡ CLUMPS * TABLE }
 {
     ages.lower(block, clump, g);
 }
 
 /// Whether each age is 0.
-pub fn is_young(ages: &AgeMap) -> bool
-    requires { length ages.now ≡ 48 }
+pub(crate) fn is_young(ages: &AgeMap) -> bool
+    requires { length ages.now ≡ CLUMPS * TABLE }
     ensures { result ≡ true → (clump : ℕ) → slice_index ages.now clump ≡ 0 }
 {
-    for clump in 0..48 {
-        let age = ages.age(clump / 4 + 1, clump % 4);
+    for clump in 0..CLUMPS * TABLE {
+        let age = ages.age(clump / CLUMPS + 1, clump % CLUMPS);
         if age != 0 {
             return false;
         }

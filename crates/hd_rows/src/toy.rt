@@ -8,14 +8,14 @@ use std::alloc::Global;
 
 /// Which of some objects without fields are promoted, and which are pinned.
 #[derive(Drop)]
-pub struct Toy {
+pub(crate) struct Toy {
     n: u8,
     marks: Vec<bool>,
     pins: Vec<bool>,
     ghost long: { length pins.items ≡ length marks.items },
 }
 
-/// A mark for each object, which is not set.
+// A mark for each object, which is not set.
 fn unmarked(alloc: Global, objects: usize) -> Result<Vec<bool>, Memory>
     ensures { IfOk result (λ marks. length marks.items ≡ objects) }
 {
@@ -25,14 +25,14 @@ fn unmarked(alloc: Global, objects: usize) -> Result<Vec<bool>, Memory>
     }
 }
 
-/// Whether an object has its mark set.
+// Whether an object has its mark set.
 fn has(marks: &[bool], at: Addr) -> bool
     ensures { result ≡ is_in marks.now at }
 {
     marks.get(at.0 as usize).copied().unwrap_or(false)
 }
 
-/// Sets the mark of an object.
+// Sets the mark of an object.
 fn join(marks: &mut Vec<bool>, at: Addr)
     requires { at.0 < length marks.old.items }
     ensures { marks.new.items ≡ slice_set marks.old.items at.0 true }
@@ -40,7 +40,7 @@ fn join(marks: &mut Vec<bool>, at: Addr)
     marks[at.0 as usize] = true;
 }
 
-/// The numbers of the marks that are set, by bits.
+// The numbers of the marks that are set, by bits.
 fn mask(marks: &[bool]) -> u64 {
     let mut mask = 0;
     for (i, set) in marks.iter().enumerate() {
@@ -53,7 +53,7 @@ fn mask(marks: &[bool]) -> u64 {
 
 impl Toy {
     /// So many objects, none of which is promoted or pinned.
-    pub fn open(alloc: Global, objects: usize, n: u8) -> Result<Toy, Memory>
+    pub(crate) fn open(alloc: Global, objects: usize, n: u8) -> Result<Toy, Memory>
         ensures n { IfOk result (λ toy. toy.n ≡ n) }
         ensures size { IfOk result (λ toy. length toy.marks.items ≡ objects) }
     {
@@ -63,19 +63,19 @@ impl Toy {
     }
 
     /// The generation that is collected.
-    pub fn generation(&self) -> u8
+    pub(crate) fn generation(&self) -> u8
         ensures { result ≡ self.now.n }
     {
         self.n
     }
 
     /// The numbers of the promoted objects, and of the pinned ones, by bits.
-    pub fn masks(&self) -> (u64, u64) {
+    pub(crate) fn masks(&self) -> (u64, u64) {
         (mask(&self.marks), mask(&self.pins))
     }
 
     /// The number of objects.
-    pub fn size(&self) -> usize
+    pub(crate) fn size(&self) -> usize
         ensures { result ≡ length self.now.marks.items }
     {
         self.marks.len()
@@ -118,13 +118,13 @@ impl Marker for Toy {
 
 /// Keeps all of some objects, and gives the first the place of the last, and so on.
 #[derive(Drop)]
-pub struct Turned {
+pub(crate) struct Turned {
     objects: u32,
 }
 
 impl Turned {
     /// New places for so many objects.
-    pub fn of(objects: u32) -> Turned
+    pub(crate) fn of(objects: u32) -> Turned
         ensures size { result.objects ≡ objects }
         ensures laid { IsKeeping (object_at (toy_heap objects)) 2 (is_below objects)
             (turned objects) }

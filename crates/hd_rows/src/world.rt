@@ -1,53 +1,35 @@
-// A world of two callers through collections, command by command.
-ghost use Rattle.std.specs.Prelude.{◌≡◌, ◌<◌};
-ghost use Rattle.std.specs.Bool.{OnTrue};
-ghost use Rattle.hd_model.specs.Valid.{IsValid, IsValidMake};
+// Worlds of two callers, command by command, without an offer.
+ghost use Rattle.std.specs.Prelude.{◌≡◌, ◌<◌, ◌≤◌, false};
+ghost use Rattle.hd_model.specs.Text.{is_collect};
+ghost use Rattle.hd_model.specs.Valid.{IsValid};
 
-use hd_model::{Cmd, Id, Kind, Make, Memory, Reply, Report, Steps, Strength};
+use hd_model::{Cmd, Entry, Id, Memory, Refusal, Reply, Report, Steps};
+use hd_script::parse;
 use hd_world::World;
 use std::marker::Brand;
 use std::process::Abort;
 use std::sync::ledger::{Blank, Ledger};
 use std::test::Fail;
 
-// A caller, a command of its and the reply that it must get.
-type Line = (u32, Cmd, Reply);
+// A caller, a command of its as a script has it, and the reply that it must get.
+type Line = (u32, &'static str, Reply);
+
+// The bytes of a line, at most.
+const LONGEST: usize = 100;
 
 const DONE: Reply = Reply::Done;
 
-// A command that makes an object.
-fn new(d: u8, fields: u8, fin: bool) -> Cmd {
-    Cmd::New { d, fields, fin }
-}
-
-// A command that makes a handle.
-fn hnew(d: u8, make: Make, t: u8) -> Cmd {
-    Cmd::HNew { d, make, t }
-}
-
-fn hget(d: u8, s: u8) -> Cmd {
-    Cmd::HGet { d, s }
-}
-
-fn clear(d: u8) -> Cmd {
-    Cmd::Clear { d }
-}
-
-fn collect(n: u8) -> Cmd {
-    Cmd::Collect { n }
-}
-
 // The reply with an object of caller 0, and with one of caller 1.
-fn object(serial: u64) -> Reply
-    requires { serial < 100 }
-{
+fn object(serial: u64) -> Reply {
     Reply::Object(Id(serial))
 }
 
-fn other(serial: u64) -> Reply
-    requires { serial < 100 }
-{
-    Reply::Object(Id(4_294_967_296 + serial))
+fn other(serial: u32) -> Reply {
+    Reply::Object(Id((1 << 32) + u64::from(serial)))
+}
+
+fn refused(refusal: Refusal) -> Reply {
+    Reply::Refused(refusal)
 }
 
 // The reply of a collection by its numbers: kept, removed, short, long, dependent, revived.
@@ -62,45 +44,38 @@ fn report(kept: u32, removed: u32, short: u32, long: u32, dep: u32, revived: u32
     })
 }
 
-// Whether the register of a secondary is one that a caller has.
-fn is_valid_make(make: Make) -> bool
-    ensures { OnTrue result (IsValidMake make) }
+// The command of a line.
+fn command<R: Abort + AllocGlobal>(rt: &R, line: &str) -> Cmd
+    ensures { IsValid result }
 {
-    match make {
-        Make::Dependent(r) => r < 16,
-        Make::Short
-        | Make::Long
-        | Make::Strong
-        | Make::Pinned
-        | Make::Variable(_)
-        | Make::Counted => true,
-    }
+    let bytes = line.as_bytes();
+    assert!(rt; bytes.len() <= LONGEST, "{line}");
+    let Ok(script) = parse(rt.alloc(), bytes) else {
+        panic!(rt; "no script: {line}");
+    };
+    assert!(rt; script.callers() == 1 && script.len(0) == 1, "{line}");
+    script.cmd(0, 0)
 }
 
-// Whether a command is one that these tests use, with registers that a caller has.
-fn is_valid(cmd: Cmd) -> bool
-    ensures { OnTrue result (IsValid cmd) }
+// Does a command without an offer. One that is no collection counts nothing.
+fn apply<L: Ledger>(
+    world: &mut World,
+    caller: u32,
+    cmd: Cmd,
+    steps: &mut Steps<L>,
+) -> Result<Entry, Memory>
+    requires room { 1 ≤ world.old.spare }
+    requires caller { caller < world.old.numbers.callers }
+    requires valid { IsValid cmd }
+    ensures numbers { world.new.numbers ≡ world.old.numbers }
+    ensures steps { is_collect cmd ≡ false → steps.new ≡ steps.old }
 {
-    match cmd {
-        Cmd::New { d, fields, .. } => d < 16 && fields <= 61,
-        Cmd::Set { o, v, .. } => o < 16 && v < 16,
-        Cmd::Clear { d } | Cmd::Final { d } => d < 16,
-        Cmd::Gen { s } | Cmd::HUp { s } | Cmd::HDown { s } | Cmd::HFree { s } => s < 16,
-        Cmd::HVar { s, .. } => s < 16,
-        Cmd::SPut { k, s } => k < 16 && s < 16,
-        Cmd::SGet { d, k } => d < 16 && k < 16,
-        Cmd::Collect { n } => n <= 2,
-        Cmd::HNew { d, make, t } => d < 16 && t < 16 && is_valid_make(make),
-        Cmd::HGet { d, s } | Cmd::HDep { d, s } => d < 16 && s < 16,
-        Cmd::HSet { s, t } => s < 16 && t < 16,
-        Cmd::Trim { kind } => !kind.paired(),
-        _ => false,
-    }
+    world.apply(caller, cmd, None, steps)
 }
 
-// Does commands of two callers without an offer, each of which must get its reply.
-fn play_counted<L: Ledger>(
-    rt: &impl Abort,
+// Does commands of two callers, each of which must get its reply.
+fn play_counted<L: Ledger, R: Abort + AllocGlobal>(
+    rt: &R,
     world: &mut World,
     lines: &[Line],
     blank: Blank,
@@ -111,101 +86,242 @@ fn play_counted<L: Ledger>(
 {
     let mut steps = Steps::<L>::open(blank);
     for line in lines {
-        let (caller, cmd, reply) = *line;
-        assert!(rt; caller < 2 && is_valid(cmd));
+        let (caller, text, reply) = *line;
+        let cmd = command(rt, text);
+        assert!(rt; caller < 2);
         assert!(rt; world.spare() >= 1);
-        assert_eq!(rt; world.apply(caller, cmd, None, &mut steps)?.reply, reply);
+        assert_eq!(rt;
+            apply(world, caller, cmd, &mut steps)?.reply,
+            reply,
+            "{text}"
+        );
     }
     Ok(())
 }
 
 // The same, with a counter that nothing reads.
-fn play(rt: &impl Abort, world: &mut World, lines: &[Line]) -> Result<(), Memory>
+fn play<R: Abort + AllocGlobal>(rt: &R, world: &mut World, lines: &[Line]) -> Result<(), Memory>
     requires callers { world.old.numbers.callers ≡ 2 }
     ensures callers { world.new.numbers.callers ≡ 2 }
 {
-    play_counted::<Brand>(rt, world, lines, Blank::new(1))
+    play_counted::<Brand, R>(rt, world, lines, Blank::new(1))
+}
+
+// Fields and values of objects, and a static by which the other caller gets one.
+fn loads_and_stores() -> [Line; 17] {
+    [
+        (0, "new r0 2", object(1)),
+        (0, "new r1 0", object(2)),
+        (0, "set r0 1 r1", DONE),
+        (0, "get r2 r0 1", object(2)),
+        (0, "get r3 r0 0", Reply::Nothing),
+        (0, "set r0 2 r1", refused(Refusal::BadField)),
+        (0, "get r3 r5 9", refused(Refusal::Null)),
+        (0, "read r0", Reply::Value(0)),
+        (0, "val r0 7", DONE),
+        (0, "read r0", Reply::Value(7)),
+        (0, "copy r4 r2", DONE),
+        (0, "drop r2", DONE),
+        (0, "read r2", refused(Refusal::Null)),
+        (0, "read r4", Reply::Value(0)),
+        (0, "sput 3 r0", DONE),
+        (1, "sget r7 3", object(1)),
+        (1, "read r7", Reply::Value(7)),
+    ]
+}
+
+// A handle that the other caller has by the board, until it is freed.
+fn copied_handles() -> [Line; 10] {
+    [
+        (0, "new r0 0", object(1)),
+        (0, "hnew h0 strong r0", DONE),
+        (
+            0,
+            "hnew h1 long r0",
+            refused(Refusal::TableFull { given: 1 }),
+        ),
+        (0, "hput 0 h0", DONE),
+        (1, "hpick h5 0", DONE),
+        (1, "hget r0 h5", object(1)),
+        (0, "hfree h0", DONE),
+        (0, "hfree h0", refused(Refusal::EmptyRegister)),
+        (1, "hget r0 h5", refused(Refusal::NotLive)),
+        (1, "hset h5 r0", refused(Refusal::NotLive)),
+    ]
+}
+
+// A secondary and a count, and what the kind of a handle refuses.
+fn handles_with_extra_data() -> [Line; 16] {
+    let wrong = refused(Refusal::WrongKind);
+    [
+        (0, "new r0 0", object(1)),
+        (0, "new r1 0", object(2)),
+        (0, "hnew h0 dep r0 r1", DONE),
+        (0, "hdep r2 h0", object(2)),
+        (0, "hsec h0 r0", DONE),
+        (0, "hdep r2 h0", object(1)),
+        (0, "hset h0 r1", wrong),
+        (0, "hset h0 r9", DONE),
+        (0, "hdep r2 h0", Reply::Nothing),
+        (0, "hsec h0 r0", refused(Refusal::Null)),
+        (0, "hnew h1 ref r0", DONE),
+        (0, "hup h1", Reply::Value(2)),
+        (0, "hdown h1", Reply::Value(1)),
+        (0, "hdown h1", Reply::Value(0)),
+        (0, "hdown h1", refused(Refusal::CountZero)),
+        (0, "hvar h1 pinned", wrong),
+    ]
+}
+
+// An object that a strong handle holds, and its field, grow older; the third goes at once.
+fn growing_older() -> [Line; 18] {
+    [
+        (0, "new r0 1", object(1)),
+        (0, "hnew h0 strong r0", DONE),
+        (0, "new r1 0", object(2)),
+        (0, "set r0 0 r1", DONE),
+        (0, "new r1 0", object(3)),
+        (0, "drop r1", DONE),
+        (0, "collect 0", report(2, 1, 0, 0, 0, 0)),
+        (0, "gen r0", Reply::Generation(1)),
+        (0, "collect 0", report(0, 0, 0, 0, 0, 0)),
+        (0, "gen r0", Reply::Generation(1)),
+        (0, "collect 1", report(2, 0, 0, 0, 0, 0)),
+        (0, "gen r0", Reply::Generation(2)),
+        (0, "collect 1", report(0, 0, 0, 0, 0, 0)),
+        (0, "gen r0", Reply::Generation(2)),
+        (0, "collect 2", report(2, 0, 0, 0, 0, 0)),
+        (0, "gen r0", Reply::Generation(2)),
+        (0, "collect 2", report(2, 0, 0, 0, 0, 0)),
+        (0, "gen r0", Reply::Generation(2)),
+    ]
 }
 
 // An object that is finalised, with a field and short and long handles; one with data attached; a
 // ref-counted handle with count 0; and a pinned object of the other caller.
 fn made() -> [Line; 15] {
     [
-        (0, new(0, 2, true), object(1)),
-        (0, new(1, 1, false), object(2)),
-        (0, Cmd::Set { o: 0, i: 0, v: 1 }, DONE),
-        (0, new(2, 0, false), object(3)),
-        (0, hnew(0, Make::Short, 0), DONE),
-        (0, hnew(1, Make::Long, 0), DONE),
-        (0, hnew(2, Make::Dependent(2), 1), DONE),
-        (0, hnew(3, Make::Counted, 2), DONE),
-        (0, Cmd::HDown { s: 3 }, Reply::Value(0)),
-        (1, new(0, 0, false), other(1)),
-        (1, hnew(0, Make::Variable(Strength::Pinned), 0), DONE),
-        (0, clear(0), DONE),
-        (0, clear(1), DONE),
-        (0, clear(2), DONE),
-        (1, clear(0), DONE),
+        (0, "new r0 2 fin", object(1)),
+        (0, "new r1 1", object(2)),
+        (0, "set r0 0 r1", DONE),
+        (0, "new r2 0", object(3)),
+        (0, "hnew h0 short r0", DONE),
+        (0, "hnew h1 long r0", DONE),
+        (0, "hnew h2 dep r1 r2", DONE),
+        (0, "hnew h3 ref r2", DONE),
+        (0, "hdown h3", Reply::Value(0)),
+        (1, "new r0 0", other(1)),
+        (1, "hnew h0 var r0 pinned", DONE),
+        (0, "drop r0", DONE),
+        (0, "drop r1", DONE),
+        (0, "drop r2", DONE),
+        (1, "drop r0", DONE),
     ]
 }
 
 // The finalised object keeps its field, and that its data, until it was taken off the queue.
 fn finalised() -> [Line; 13] {
-    let strength = Strength::Short;
     [
-        (1, collect(0), report(4, 0, 1, 0, 0, 1)),
-        (0, hget(3, 0), Reply::Nothing),
-        (0, hget(3, 1), object(1)),
-        (0, Cmd::HDep { d: 4, s: 2 }, object(3)),
-        (0, Cmd::HUp { s: 3 }, Reply::Value(1)),
-        (1, Cmd::Final { d: 5 }, object(1)),
-        (0, clear(3), DONE),
-        (0, clear(4), DONE),
-        (1, clear(5), DONE),
-        (1, Cmd::HVar { s: 0, strength }, DONE),
-        (0, collect(1), report(1, 3, 1, 1, 1, 0)),
-        (0, hget(3, 3), object(3)),
-        (0, Cmd::Gen { s: 3 }, Reply::Generation(2)),
+        (1, "collect 0", report(4, 0, 1, 0, 0, 1)),
+        (0, "hget r3 h0", Reply::Nothing),
+        (0, "hget r3 h1", object(1)),
+        (0, "hdep r4 h2", object(3)),
+        (0, "hup h3", Reply::Value(1)),
+        (1, "final r5", object(1)),
+        (0, "drop r3", DONE),
+        (0, "drop r4", DONE),
+        (1, "drop r5", DONE),
+        (1, "hvar h0 short", DONE),
+        (0, "collect 1", report(1, 3, 1, 1, 1, 0)),
+        (0, "hget r3 h3", object(3)),
+        (0, "gen r3", Reply::Generation(2)),
     ]
 }
 
 // A young object that is in a static and names an old one, until it is in none.
 fn shared() -> [Line; 16] {
-    let strong = Kind::Strong;
     [
-        (1, new(0, 1, false), other(2)),
-        (1, Cmd::SPut { k: 4, s: 0 }, DONE),
-        (0, Cmd::SGet { d: 4, k: 4 }, other(2)),
-        (0, Cmd::Set { o: 4, i: 0, v: 3 }, DONE),
-        (0, Cmd::HFree { s: 3 }, DONE),
-        (0, Cmd::Trim { kind: strong }, Reply::Value(0)),
-        (0, clear(3), DONE),
-        (0, clear(4), DONE),
-        (1, clear(0), DONE),
-        (0, collect(0), report(1, 0, 0, 0, 0, 0)),
-        (0, collect(0), report(0, 0, 0, 0, 0, 0)),
-        (1, collect(2), report(2, 0, 0, 0, 0, 0)),
-        (0, Cmd::SPut { k: 4, s: 4 }, DONE),
-        (0, collect(1), report(0, 0, 0, 0, 0, 0)),
-        (0, collect(2), report(0, 2, 0, 0, 0, 0)),
-        (0, Cmd::Final { d: 0 }, Reply::NoneQueued),
+        (1, "new r0 1", other(2)),
+        (1, "sput 4 r0", DONE),
+        (0, "sget r4 4", other(2)),
+        (0, "set r4 0 r3", DONE),
+        (0, "hfree h3", DONE),
+        (0, "trim strong", Reply::Value(0)),
+        (0, "drop r3", DONE),
+        (0, "drop r4", DONE),
+        (1, "drop r0", DONE),
+        (0, "collect 0", report(1, 0, 0, 0, 0, 0)),
+        (0, "collect 0", report(0, 0, 0, 0, 0, 0)),
+        (1, "collect 2", report(2, 0, 0, 0, 0, 0)),
+        (0, "sput 4 r4", DONE),
+        (0, "collect 1", report(0, 0, 0, 0, 0, 0)),
+        (0, "collect 2", report(0, 2, 0, 0, 0, 0)),
+        (0, "final r0", Reply::NoneQueued),
     ]
 }
 
 // A handle whose clump is old takes a young target, which later collections then find.
 fn retargeted() -> [Line; 10] {
     [
-        (0, new(0, 0, false), object(1)),
-        (0, collect(0), report(1, 0, 0, 0, 0, 0)),
-        (0, collect(1), report(1, 0, 0, 0, 0, 0)),
-        (0, hnew(0, Make::Strong, 0), DONE),
-        (0, collect(0), report(0, 0, 0, 0, 0, 0)),
-        (0, new(1, 0, false), object(2)),
-        (0, Cmd::HSet { s: 0, t: 1 }, DONE),
-        (0, collect(0), report(1, 0, 0, 0, 0, 0)),
-        (0, collect(0), report(0, 0, 0, 0, 0, 0)),
-        (0, collect(1), report(1, 0, 0, 0, 0, 0)),
+        (0, "new r0 0", object(1)),
+        (0, "collect 0", report(1, 0, 0, 0, 0, 0)),
+        (0, "collect 1", report(1, 0, 0, 0, 0, 0)),
+        (0, "hnew h0 strong r0", DONE),
+        (0, "collect 0", report(0, 0, 0, 0, 0, 0)),
+        (0, "new r1 0", object(2)),
+        (0, "hset h0 r1", DONE),
+        (0, "collect 0", report(1, 0, 0, 0, 0, 0)),
+        (0, "collect 0", report(0, 0, 0, 0, 0, 0)),
+        (0, "collect 1", report(1, 0, 0, 0, 0, 0)),
     ]
+}
+
+#[test]
+fn a_world_loads_and_stores(rt: HostRuntime) -> Result<(), Fail> {
+    let mut world = World::open(rt.alloc(), 1_000, 1, 2, 17)?;
+    play(&rt, &mut world, &loads_and_stores())?;
+    assert_eq!(rt; (world.objects(), world.live(), world.spare()), (2, 0, 0));
+    Ok(())
+}
+
+#[test]
+fn a_copy_of_a_freed_handle_is_not_live(rt: HostRuntime) -> Result<(), Fail> {
+    let mut world = World::open(rt.alloc(), 1_000, 1, 2, 10)?;
+    play(&rt, &mut world, &copied_handles())?;
+    assert_eq!(rt; (world.objects(), world.live()), (1, 0));
+    Ok(())
+}
+
+#[test]
+fn handles_have_extra_data(rt: HostRuntime) -> Result<(), Fail> {
+    let mut world = World::open(rt.alloc(), 1_000, 4, 2, 16)?;
+    play(&rt, &mut world, &handles_with_extra_data())?;
+    assert_eq!(rt; world.live(), 2);
+    Ok(())
+}
+
+#[test]
+fn a_full_heap_is_refused(rt: HostRuntime) -> Result<(), Fail> {
+    let full = refused(Refusal::HeapFull { used: 10, size: 3 });
+    let mut world = World::open(rt.alloc(), 10, 1, 2, 2)?;
+    play(
+        &rt,
+        &mut world,
+        &[(0, "new r0 7", object(1)), (1, "new r1 0", full)],
+    )?;
+    assert_eq!(rt; world.objects(), 1);
+    Ok(())
+}
+
+#[test]
+fn objects_grow_older_up_to_two(rt: HostRuntime) -> Result<(), Fail> {
+    let mut world = World::open(rt.alloc(), 1_000, 1, 2, 18)?;
+    play(&rt, &mut world, &growing_older())?;
+    assert_eq!(rt;
+        (world.objects(), world.live(), world.collections()),
+        (2, 1, 6)
+    );
+    Ok(())
 }
 
 #[test]

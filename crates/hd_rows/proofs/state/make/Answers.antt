@@ -8,5 +8,5 @@ pub returns : goal.returns
 returns g c = record {
   full =
       full_made c.args.heap.now c.new_object.new.self c.in-Ok.at
-      (new_object (record { 0 = c.args.id }) c.args.fields false) c.in-Ok.ensures c.requires.full;
+      (new_object (record { 0 = c.args.id }) c.args.fields false) c.in-Ok.ensures.made c.requires.full;
 }
