@@ -1,4 +1,4 @@
--- The ages that a run leaves are sound: a step lowers or raises them as the machine changes what they tell.
+-- The ages that a run leaves are sound: a step lowers or raises them as the machine changes what they bound.
 use Rattle.std.proofs.Common.{◌≡◌, ℕ, ◌≤◌, true, false, cond, List, Option, Some, None, is_some, IsSome, refl, sym, ap, ◌∙◌, subst, ⊎_elim, inl, inr, ◌⊎◌, arith, le_trans, nat_cmp}
 use Rattle.std.specs.FinMap.{FinMap, get, insert, remove, empty, get-empty}
 use Rattle.std.specs.Prelude.{unwrap_or}
@@ -19,18 +19,18 @@ use Rattle.hd_model.specs.Aging.{is_refused, lowered_at, lowered_to, lowered_by_
 use Rattle.hd_model.specs.WellFormed.{IsWellFormed}
 use Rattle.hd_model.specs.Run.{Chain, stay, link}
 use Rattle.hd_model.specs.CollectionLaws.{AgesOfRunsAreSound}
-use Rattle.hd_model.proofs.Written.{insert_cases, remove_all}
-use Rattle.hd_model.proofs.Whole.{whole_scene}
+use Rattle.hd_model.proofs.ReadAfterWrite.{insert_cases, remove_all}
+use Rattle.hd_model.proofs.WholeScenes.{whole_scene}
 use Rattle.hd_model.proofs.Effects.{Effect, next_identity, effect, refused, makes_object, sets_field, gets_field, sets_value, reads_value, copies, clears, puts_static, gets_static, reads_generation, suppresses, reregisters, finds_none, takes_first, collects, makes_handle, gets_target, sets_target, sets_secondary, gets_secondary, sets_strength, raises_count, lowers_count, frees_handle, puts_board, picks_board, answers_place, gives_back, gives_none}
 use Rattle.hd_model.proofs.Ages.{lowered_below, lowered_here, grown_sound}
-use Rattle.hd_model.proofs.Counts.{fresh}
-use Rattle.hd_model.proofs.WellFormed.{step_keeps, start_is_well_formed}
+use Rattle.hd_model.proofs.RunCounts.{fresh}
+use Rattle.hd_model.proofs.WellFormedSteps.{step_keeps, start_is_well_formed}
 
 -- the ages of a state's clumps are sound
 abbrev pub IsSound : State → List ℕ → Type 0
 IsSound s ages = HasSoundAges (scene_of s).object (scene_of s).handle ages
 
--- what a row is after one is written: one that was there, or the new one
+-- each row after a write: one that was there, or the new one
 row_cases : {X : Type 0} (m : FinMap nat_cmp X) (k : ℕ) (v : X) (q : ℕ) (x : X)
     → get (insert m k v) q ≡ Some x
     → (get m q ≡ Some x) ⊎ ((q ≡ k) × (v ≡ x))
@@ -39,7 +39,7 @@ row_cases m k v q x =
     (λ e. inr (refl, same_Some v x e)) (λ _ e. inl e)
 
 module _ (s : State) (ages : List ℕ) (sound : IsSound s ages) where
-  -- a row may be written where its clump's age comes to be at most the generation of what it names
+  -- a row may be written where its clump's new age is at most the generation of what it references
   written : (later : List ℕ) (slot : Slot) (new : Handle Id) → ((q : ℕ) → age_of later q ≤ age_of ages q)
       → ((x : Id) → new.target ≡ Some x → age_of later slot.0 ≤ generation_at (scene_of s).object x)
       → ((x : Id) → secondary_of new.extra ≡ Some x
@@ -61,7 +61,7 @@ module _ (s : State) (ages : List ℕ) (sound : IsSound s ages) where
   same_ages : (q : ℕ) → age_of ages q ≤ age_of ages q
   same_ages q = omega arith
 
-  -- a row that names nothing new
+  -- a row that references nothing new
   same_names : (slot : Slot) (old new : Handle Id) → get s.handles slot.0 ≡ Some old → new.target ≡ old.target
       → secondary_of new.extra ≡ None
       → HasSoundAges (scene_of s).object (λ q. get (insert s.handles slot.0 new) q) ages
@@ -87,7 +87,7 @@ module _ (s : State) (ages : List ℕ) (sound : IsSound s ages) where
   zero_low slot k = let here : age_of (lowered ages slot.0 0) slot.0 ≤ 0 = lowered_here ages slot.0 0 in
       omega arith
 
-  -- a row whose clump gets age 0 may name anything
+  -- a row whose clump gets age 0 may reference anything
   zeroed : (slot : Slot) (new : Handle Id)
       → HasSoundAges (scene_of s).object (λ q. get (insert s.handles slot.0 new) q) (lowered ages slot.0 0)
   zeroed slot new =
@@ -115,7 +115,7 @@ module _ (s : State) (ages : List ℕ) (sound : IsSound s ages) where
         (λ j g was at. sound.secondaries j g x was at) q h stands e;
   }
 
-  -- objects may change where what is named keeps its generation
+  -- objects may change where each one referenced keeps its generation
   regrouped : (o : Objects Id) → ((x : Id) → IsSome (get s.objects x.0)
       → generation_at o x ≡ generation_at (scene_of s).object x)
       → (n : Numbers) → IsWellFormed n s → HasSoundAges o (scene_of s).handle ages

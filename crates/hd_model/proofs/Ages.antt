@@ -7,7 +7,7 @@ use Rattle.hd_model.specs.Scene.{Scene, Objects, Rows, generation_in, generation
 use Rattle.hd_model.specs.Ages.{raised, clump_of, age_of, lowered, grown, HasSoundAges}
 use Rattle.hd_model.specs.Collect.{Collects}
 use Rattle.hd_model.proofs.Entries.{some_value}
-use Rattle.hd_model.proofs.Collecting.{cleared_target, cleared_secondary, handle_before, target_kept, secondary_kept, object_after, kept_object}
+use Rattle.hd_model.proofs.SceneCollection.{cleared_target, cleared_secondary, handle_before, target_kept, secondary_kept, object_after, kept_object}
 
 -- raising keeps the order of generations
 pub raised_order : (n a b : ℕ) → a ≤ b → raised n a ≤ raised n b
@@ -47,7 +47,7 @@ grown_at n ages slot = at ages (clump_of slot)
     at (x ∷ xs) zero = omega arith
     at (x ∷ xs) (suc i) = at xs i
 
--- rows of which each stood before, or stands in one slot and names nothing younger than g
+-- each row was there before, or is in one slot and references nothing younger than g
 module _ {N : Type 0} (o : Objects N) (old new : Rows N) (ages : List ℕ) (slot g : ℕ)
     (sound : HasSoundAges o old ages) where
   pub lowered_sound :

@@ -8,19 +8,20 @@ use Rattle.hd_model.specs.State.{Object, State}
 use Rattle.hd_model.specs.Scene.{scene_of, generation_in}
 use Rattle.hd_model.specs.Reach.{IsRoot, named, queued, held, older}
 use Rattle.hd_model.specs.Collect.{survivor}
-use Rattle.hd_model.specs.CollectionLaws.{CollectionsKeepWellFormed, IsUsed, in_register, in_static, in_queue, by_handle, UsedObjectsStay, NoneDanglesAfter, OlderObjectsStay, SecondCollectionIsIdle, ReadingsKeepWhatIsKept, LoweredAgesAreSound, GrownAgesAreSound}
-use Rattle.hd_model.proofs.Surviving.{collection_keeps_well_formed}
-use Rattle.hd_model.proofs.Collecting.{keeps_root, still_object, object_after, root_reached}
-use Rattle.hd_model.proofs.Whole.{whole_scene, register_named, static_named}
-use Rattle.hd_model.proofs.Idle.{raised_older, idle_removed, idle_short, idle_long, idle_dep, idle_revived, idle_handles, idle_queue}
-use Rattle.hd_model.proofs.Naming.{reached_read, reached_same, revived_read, revived_same, kept_read, kept_same}
+use Rattle.hd_model.specs.InUse.{IsUsed, in_register, in_static, in_queue, by_handle}
+use Rattle.hd_model.specs.CollectionLaws.{CollectionsKeepWellFormed, UsedObjectsStay, NoneDanglesAfter, OlderObjectsStay, SecondCollectionIsIdle, ReadingsKeepWhatIsKept, LoweredAgesAreSound, GrownAgesAreSound}
+use Rattle.hd_model.proofs.WellFormedCollection.{collection_keeps_well_formed}
+use Rattle.hd_model.proofs.SceneCollection.{keeps_root, still_object, object_after, root_reached}
+use Rattle.hd_model.proofs.WholeScenes.{whole_scene, register_named, static_named}
+use Rattle.hd_model.proofs.IdleCollection.{raised_older, idle_removed, idle_short, idle_long, idle_dep, idle_revived, idle_handles, idle_queue}
+use Rattle.hd_model.proofs.RenamedReach.{reached_read, reached_same, revived_read, revived_same, kept_read, kept_same}
 use Rattle.hd_model.proofs.Ages.{lowered_sound, grown_sound}
 
 pub collections_keep_well_formed : CollectionsKeepWellFormed
 collections_keep_well_formed m n s t r h = collection_keeps_well_formed m n s t r h.well_formed h.collects
 
 -- what is used is a root of any generation
-used_root : (n : ℕ) (s : State) (x : Id) → IsUsed s x → IsRoot (scene_of s) n x
+pub used_root : (n : ℕ) (s : State) (x : Id) → IsUsed s x → IsRoot (scene_of s) n x
 used_root n s x (in_register c d e) = named (register_named s c d x e)
 used_root n s x (in_static k e) = named (static_named s k x e)
 used_root n s x (in_queue h) = queued h
@@ -39,11 +40,11 @@ none_dangles_after m n s t r h =
     let w = collection_keeps_well_formed m n s t r h.well_formed h.collects in
     record { registers = w.names.registers; statics = w.names.statics }
 
-unregistered : (a b : Bool) → b ≡ false → (a && not b) ≡ a
+pub unregistered : (a b : Bool) → b ≡ false → (a && not b) ≡ a
 unregistered true b e = ap not e
 unregistered false b e = refl
 
--- an older object that is not revived stays as it was
+-- an older object that is not resurrected stays as it was
 survivor_same : (n : ℕ) (revived : Bool) (o : Object Id) → n < o.generation → revived ≡ false
     → survivor n revived o ≡ o
 survivor_same n revived o l e = λ i. record {

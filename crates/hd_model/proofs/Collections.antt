@@ -11,7 +11,7 @@ use Rattle.hd_model.specs.Scene.{Scene, scene_of}
 use Rattle.hd_model.specs.State.{State}
 use Rattle.hd_model.specs.Counting.{Counts}
 use Rattle.hd_model.specs.Collect.{cleared, survivor, LosesAs, IsSurviving, IsRemoved, IsReport, Collects, CollectsState}
-use Rattle.hd_model.proofs.Counting.{counts_once}
+use Rattle.hd_model.proofs.PropertyCounts.{counts_once}
 use Rattle.hd_model.proofs.Members.{rising_once}
 
 -- what a report counts depends on the sets at each name alone

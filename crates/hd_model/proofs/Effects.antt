@@ -1,5 +1,5 @@
 -- What each command does where it is not refused, one case for each way.
-use Rattle.std.proofs.Common.{◌≡◌, ℕ, ◌<◌, ◌+◌, ◌-◌, ◌^◌, ◌==◌, ◌&&◌, Bool, true, false, nat_lt, length, set, Option, Some, None, is_some, IsSome, cond, List, [], ◌∷◌, refl, sym, ap, ◌∙◌, subst, ⊎_elim}
+use Rattle.std.proofs.Common.{◌≡◌, ℕ, ◌<◌, ◌+◌, ◌-◌, ◌^◌, ◌==◌, ◌&&◌, Bool, true, false, length, set, Option, Some, None, is_some, IsSome, cond, List, [], ◌∷◌, refl, sym, ap, ◌∙◌, subst, ⊎_elim}
 use Rattle.std.specs.Prelude.{option_and_then}
 use Rattle.hd_model.specs.declared.data.Id.{Id}
 use Rattle.hd_model.specs.declared.data.Slot.{Slot}
@@ -15,7 +15,7 @@ use Rattle.hd_model.specs.declared.data.Reply.TheVariants as reply
 use Rattle.hd_model.specs.declared.command.Cmd.{Cmd}
 use Rattle.hd_model.specs.declared.command.Cmd.TheVariants as cmd
 use Rattle.hd_model.specs.Kinds.{kind_of, is_kind}
-use Rattle.hd_model.specs.State.{Numbers, Object, Extra, strength, secondary, count, Handle, State, secondary_of, count_of, without_secondary, register_of, handle_register_of, static_of, board_of, last_serial, object_by_id, field_of, handle_at, total_size, identity_of, IsAllFree}
+use Rattle.hd_model.specs.State.{Numbers, Object, Extra, strength, secondary, count, Handle, State, secondary_of, count_of, without_secondary, register_of, handle_register_of, static_of, board_of, last_serial, object_by_id, field_of, handle_at, identity_of, IsAllFree}
 use Rattle.hd_model.specs.State.{with_register, with_handle_register, with_static, with_board, with_object, with_handle, without_handle, without_use, with_queue, with_place, with_serial}
 use Rattle.hd_model.specs.Role.{pins}
 use Rattle.hd_model.specs.Places.{MayAnswer}
@@ -203,7 +203,7 @@ module _ (n : Numbers) (s : State) (e : Entry) (t : State) where
 
   command_effect : (c : Cmd) → StepOf n s e t c → Effect n s e c t
   command_effect (cmd.New d fields fin) h =
-      test_cases (Comes (cmd.New d fields fin)) (nat_lt n.heap (total_size s + (fields + 3))) _ _
+      test_cases (Comes (cmd.New d fields fin)) _ _ _
       (λ _. refuses_it _ _) (λ _. comes _ _ (λ p _. makes_object h.0 p)) h.1
   command_effect (cmd.Set o i v) h =
       on_field_cases (Comes (cmd.Set o i v)) s e.caller o i _ (λ _. refuses_it _ _) (λ _ _ _. refuses_it _ _)

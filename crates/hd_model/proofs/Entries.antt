@@ -11,7 +11,7 @@ use Rattle.std.proofs.lemmas.Bool.Decides.{nat_tests}
 use Rattle.std.proofs.lemmas.List.{length-map}
 use Rattle.std.proofs.lemmas.Option.{none-some, same_Some}
 use Rattle.hd_model.specs.Counting.{Counts}
-use Rattle.hd_model.proofs.Members.{not_in_none, first_in, later_in, member_cases, mapped_in, mapped_from, pairs_none, pairs_cons, pairs_mapped}
+use Rattle.hd_model.proofs.Members.{not_in_none, first_in, later_in, member_cases, mapped_in, mapped_from, pairs_none, pairs_cons, pairs_like, pairs_mapped}
 
 -- what is found at a key that is the first one, and at another
 pub found_first : {A : Type 0} (q i : ℕ) (x : A) (o : Option A) → q ≡ i
@@ -65,16 +65,20 @@ module _ {A : Type 0} where
       (entry_found es k v (sym (found_later k f.0 (Some f.1) (find nat_cmp k es) other) ∙ e)))
       (cases_eq k f.0)
 
+  pub keys_rise : (es : List (ℕ × A)) → T (is_sorted nat_cmp es)
+      → AllPairs (λ x y. x < y) (map (λ (e : ℕ × A). e.0) es)
+  keys_rise [] h = pairs_none (λ x y. x < y)
+  keys_rise (f ∷ es) h =
+      let parts : T (below_all nat_cmp f.0 es) × T (is_sorted nat_cmp es) = both _ _ h in
+      pairs_cons (λ x y. x < y) f.0 (map (λ (e : ℕ × A). e.0) es)
+      (λ y c. let (e, rest) = mapped_from (λ (g : ℕ × A). g.0) es y c in
+      subst (λ k. f.0 < k) rest.1 (below f.0 es parts.0 e rest.0))
+      (keys_rise es parts.1)
+
   keys_apart : (es : List (ℕ × A)) → T (is_sorted nat_cmp es)
       → AllPairs (λ x y. x ≢ y) (map (λ (e : ℕ × A). e.0) es)
-  keys_apart [] h = pairs_none (λ x y. x ≢ y)
-  keys_apart (f ∷ es) h =
-      let parts : T (below_all nat_cmp f.0 es) × T (is_sorted nat_cmp es) = both _ _ h in
-      pairs_cons (λ x y. x ≢ y) f.0 (map (λ (e : ℕ × A). e.0) es)
-      (λ y c same. let (e, rest) = mapped_from (λ (g : ℕ × A). g.0) es y c in
-      let above : f.0 < e.0 = below f.0 es parts.0 e rest.0 in let at : e.0 ≡ y = rest.1 in
-      absurd (omega arith))
-      (keys_apart es parts.1)
+  keys_apart es h = pairs_like (λ x y. x < y) (λ x y. x ≢ y) (map (λ (e : ℕ × A). e.0) es)
+      (λ x y low same. absurd (omega arith)) (keys_rise es h)
 
 module _ {X : Type 0} (m : FinMap nat_cmp X) where
   -- an entry is what is found at its key, and a value of a key is an entry
@@ -93,7 +97,7 @@ module _ {X : Type 0} (m : FinMap nat_cmp X) where
       let (e, rest) = mapped_from (λ (g : ℕ × X). g.1) (entries m) v c in
       (e.0, get_entry e.0 e.1 rest.0 ∙ ap (λ (x : X). Some x) rest.1)
 
-  -- a map has as many keys as its length says, under any name for numbers that tells them apart
+  -- a map has as many keys as its length says, under any name for numbers that distinguishes them
   pub counts_keys : {A : Type 0} (name : ℕ → A) (number : A → ℕ) → ((k : ℕ) → number (name k) ≡ k)
       → ((x : A) → name (number x) ≡ x)
       → Counts (λ x. IsSome (get m (number x))) (len m)

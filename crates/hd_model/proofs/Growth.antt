@@ -11,9 +11,9 @@ use Rattle.hd_model.specs.State.{Numbers, extra_data, State, use_of, given_of, f
 use Rattle.hd_model.specs.Step.{blocks_needed, IsLeastUnused, MayGive}
 use Rattle.hd_model.specs.Run.{NoneFree}
 use Rattle.hd_model.specs.WellFormed.{IsWellFormed}
-use Rattle.hd_model.proofs.Written.{some_cases, remove_cases, len_new, get_beside}
-use Rattle.hd_model.proofs.Keeps.{use_keeps}
-use Rattle.hd_model.proofs.Counts.{none_from}
+use Rattle.hd_model.proofs.ReadAfterWrite.{some_cases, remove_cases, len_new, get_beside}
+use Rattle.hd_model.proofs.WellFormedWrites.{use_keeps}
+use Rattle.hd_model.proofs.RunCounts.{none_from}
 
 nothing_some : {X : Type 0} (o : Option X) → o ≡ None → IsSome o → ⊥
 nothing_some o e h = true≢false (sym h ∙ ap is_some e)

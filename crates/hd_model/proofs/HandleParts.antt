@@ -28,13 +28,13 @@ use Rattle.hd_model.specs.WellFormed.{FitsKind, IsWellFormed}
 use Rattle.hd_model.specs.Aging.{is_refused}
 use Rattle.hd_model.specs.Laws.{makes_handle as is_making, IsDoneOn, target_at, secondary_at, Clears, WritesTarget, GivesTarget, WritesSecondary, GivesSecondary, WritesStrength, GivesStrength, WritesCount, GivesCount, lowered_answer, AnswersCount, HasExtra, MakesIn, TargetIsReadBack, SecondaryIsReadBack, StrengthIsKept, CountIsReadBack, FreedIsNotLive}
 use Rattle.hd_model.specs.Laws as law
-use Rattle.hd_model.proofs.Written.{get_inserted, get_removed}
+use Rattle.hd_model.proofs.ReadAfterWrite.{get_inserted, get_removed}
 use Rattle.hd_model.proofs.OneState.{done_or_refused}
 use Rattle.hd_model.proofs.KindTests.{same_kind}
-use Rattle.hd_model.proofs.Fitting.{attaching_kind}
+use Rattle.hd_model.proofs.KindExtras.{attaching_kind}
 use Rattle.hd_model.proofs.Effects.{Effect, Finds, refused, makes_handle, sets_target, sets_secondary, sets_strength, raises_count, lowers_count, frees_handle}
-use Rattle.hd_model.proofs.Kept.{still, not_none, HandleChange, handle_stays, is_made, target_is_set, secondary_is_set, strength_is_set, count_is_raised, count_is_lowered, is_freed, is_collected, handle_change}
-use Rattle.hd_model.proofs.ReadBack.{step_of, effect_of}
+use Rattle.hd_model.proofs.StepWrites.{still, not_none, HandleChange, handle_stays, is_made, target_is_set, secondary_is_set, strength_is_set, count_is_raised, count_is_lowered, is_freed, is_collected, handle_change}
+use Rattle.hd_model.proofs.StateReadBack.{step_of, effect_of}
 
 -- the handle in a slot has a property
 abbrev HandleIs : State → Slot → (Handle Id → Type 0) → Type 0
@@ -397,7 +397,7 @@ strength_is_kept n old now written slot given since gives done =
     = some_handle (handle_at now slot) kept.1 in
     ap (option_map (λ (x : Handle Id). x.extra)) found.1.0 ∙ ap Some found.1.1
 
--- `hup` and `hdown` answer from the count
+-- `hup` and `hdown` return what follows from the count
 count_answered : (n : Numbers) (s : State) (e : Entry) (t : State) (slot : Slot) (c h : ℕ)
     (handle : Handle Id)
     → IsWellFormed n s → Step n s e t → handle_register_of s e.caller h ≡ Some slot
@@ -470,7 +470,7 @@ freed n s e t h slot (frees_handle other handle f p q) done names =
     subst (λ y. handle_at t y ≡ None) (same_Some other slot (sym f.names ∙ names))
     (get_removed s.handles other.0)
 
--- each command on a slot that is not live answers so
+-- each command on a slot that is not live is refused so
 module _ (n : Numbers) (s : State) (e : Entry) (t : State) (h : ℕ) (slot : Slot)
     (names : handle_register_of s e.caller h ≡ Some slot) (gone : handle_at s slot ≡ None) where
   gone_there : (x : ℕ) (act : Slot → Handle Id → Outcome) → Some x ≡ Some h

@@ -1,4 +1,4 @@
--- A journal leads to one state, and to one map of places. Ages depend on no place.
+-- A journal leads to one state, and to one map of pinned addresses. Ages depend on no such address.
 use Rattle.std.proofs.Common.{◌≡◌, ℕ, cond, List, Option, Some, None, refl, sym, ap, ◌∙◌, subst}
 use Rattle.std.specs.FinMap.{FinMap}
 use Rattle.std.specs.Ordering.{nat_cmp}
@@ -36,7 +36,7 @@ pub one_aged_run : (n : Numbers) (journal : List Entry) (s t : State) (ages olde
 one_aged_run n journal s t ages older a b =
     let same = one_chain (one_aged n) a b in (ap (λ (x : Aged). x.state) same, ap (λ (x : Aged). x.ages) same)
 
--- so there is one map of places with which it leads to a state
+-- so there is one map of pinned addresses with which it leads to a state
 pub one_places : (n : Numbers) (journal : List Entry) (s : State) (ages : List ℕ) (p q : FinMap nat_cmp ℕ)
     → AgedRun n journal (with_places s p) ages → AgedRun n journal (with_places s q) ages → p ≡ q
 one_places n journal s ages p q a b =
@@ -86,7 +86,7 @@ module _ (s : State) (p : FinMap nat_cmp ℕ) (caller : ℕ) (slot : Option Slot
   command_placed (cmd.HDown h) = refl
   command_placed (cmd.Trim kind) = refl
 
--- an entry leaves the same ages whatever the places
+-- an entry leaves the same ages whatever the pinned addresses
 pub ages_placed : (s : State) (p : FinMap nat_cmp ℕ) (e : Entry) (ages : List ℕ)
     → aged_by (with_places s p) e ages ≡ aged_by s e ages
 ages_placed s p e ages =

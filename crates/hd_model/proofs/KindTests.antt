@@ -1,4 +1,4 @@
--- What tests of kinds tell, and the extra that fits a kind.
+-- What tests of kinds state, and the extra that fits a kind.
 use Rattle.std.proofs.Common.{◌≡◌, ℕ, zero, suc, ◌<◌, true, refl, sym, ap, ◌∙◌, None, lit<}
 use Rattle.std.proofs.lemmas.Bool.{eqb-true}
 use Rattle.hd_model.specs.declared.data.Kind.{Kind}

@@ -28,11 +28,11 @@ module _ {A : Type 0} where
   pub member_same : (xs ys : List A) → xs ≡ ys → (x : A) → Contains xs x → Contains ys x
   member_same xs ys e x h = subst (λ zs. Contains zs x) e h
 
-  -- what stands at a place within a list is a member
+  -- what is at an index within a list is a member
   pub member_at : (xs : List A) (i : ℕ) (d x : A) → i < length xs → get_or xs i d ≡ x → Contains xs x
   member_at xs i d x l e = (i, l, get_or_default xs i x d l ∙ e)
 
-  -- a list with a member is what stands before it, it, and what stands after it
+  -- a list with a member is what comes before it, it, and what comes after it
   pub split_at : (xs : List A) (x : A) → Contains xs x → (before : List A)
       × ((after : List A) × (xs ≡ before ++ x ∷ after))
   split_at [] x h = absurd (not_in_none x h)
@@ -64,7 +64,7 @@ module _ {A : Type 0} where
       → AllPairs R xs → AllPairs R (x ∷ xs)
   pairs_cons R x xs first rest = pairs_at R x xs first rest
 
-  -- all pairs of two lists in a row: those of each, and those across
+  -- all pairs of two lists joined: those of each, and those across
   pub pairs_append : (R : A → A → Type 0) (xs ys : List A) → AllPairs R xs → AllPairs R ys
       → ((x y : A) → Contains xs x → Contains ys y → R x y) → AllPairs R (xs ++ ys)
   pairs_append R [] ys left right across = right

@@ -4,7 +4,6 @@ use Rattle.std.specs.Option.{option_map_or}
 use Rattle.std.proofs.lemmas.Option.{same_Some}
 use Rattle.hd_model.specs.declared.data.Slot.{Slot}
 use Rattle.hd_model.specs.declared.data.Entry.{Entry}
-use Rattle.hd_model.specs.declared.data.Report.{Report}
 use Rattle.hd_model.specs.declared.data.Make.{Make}
 use Rattle.hd_model.specs.declared.data.Refusal.{Refusal}
 use Rattle.hd_model.specs.declared.data.Reply.{Reply}
@@ -38,7 +37,7 @@ agree_test r f g d false each x y = refl
 same_place : {r : Reply} {p q : ℕ} → r ≡ reply.Place p → r ≡ reply.Place q → p ≡ q
 same_place a b = cc
 
--- so an outcome with a reply depends on no place that the reply does not have
+-- so an outcome with a reply depends on no pinned address that the reply does not have
 places_same : (s : State) (caller h p q : ℕ) (r : Reply) → r ≡ (answer_place s caller h p).reply
     → r ≡ (answer_place s caller h q).reply → answer_place s caller h p ≡ answer_place s caller h q
 places_same s caller h p q r =
@@ -63,9 +62,6 @@ module _ (n : Numbers) (s : State) (e : Entry) (t u : State) where
       a.outcome.after ∙ ap (λ (o : Outcome). o.after)
       (places_same s e.caller h a.place b.place e.reply a.outcome.reply b.outcome.reply)
       ∙ sym b.outcome.after
-
-  same_reports : {r q : Report} → reply.Report r ≡ reply.Report q → r ≡ q
-  same_reports same = cc
 
   one_collected : (k : ℕ) → DoesCollect s e t k → DoesCollect s e u k → t ≡ u
   one_collected k a b = (one_collection k s t u a.report b.report a.collects b.collects).0

@@ -14,7 +14,7 @@ use Rattle.hd_model.specs.Reach.{IsPinned}
 use Rattle.hd_model.specs.Heap.{Heap, Placed, object_at, object_in, region_generation, region_of}
 use Rattle.hd_model.specs.Table.{Table, row_at}
 use Rattle.hd_model.proofs.Entries.{value_of, value_found, any_from, any_of, counts_keys}
-use Rattle.hd_model.proofs.Counting.{counts_like, counts_where}
+use Rattle.hd_model.proofs.PropertyCounts.{counts_like, counts_where}
 
 -- whether a target is at an address
 abbrev pub is_at : Addr → Option Addr → Bool

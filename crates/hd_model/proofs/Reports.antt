@@ -15,9 +15,9 @@ use Rattle.hd_model.specs.Collect.{is_lost, loses_by, loses, cleared, survivor, 
 use Rattle.hd_model.specs.CollectionLaws.{Collected, LosesTarget, Stays, Goes, ReportSays}
 use Rattle.hd_model.proofs.Members.{pairs_like}
 use Rattle.hd_model.proofs.Entries.{some_value, counts_keys}
-use Rattle.hd_model.proofs.Counting.{counts_once, counts_like, counts_join}
-use Rattle.hd_model.proofs.Whole.{whole_scene}
-use Rattle.hd_model.proofs.Collecting.{keeps_root, object_before, still_object}
+use Rattle.hd_model.proofs.PropertyCounts.{counts_once, counts_like, counts_join}
+use Rattle.hd_model.proofs.WholeScenes.{whole_scene}
+use Rattle.hd_model.proofs.SceneCollection.{keeps_root, object_before, still_object}
 
 -- a handle that loses its target had one and has none after, by its role
 lost_some : {N : Type 0} (p : N → Bool) (o : Option N) → is_lost p o ≡ true → is_some o ≡ true
@@ -33,17 +33,17 @@ had_target attaches reach kept o h = lost_some kept o h
 
 module _ {N : Type 0} (rank : N → ℕ) (n : ℕ) (s t : Scene N) (r : Report) (w : IsWhole s)
     (c : Collects rank n s t r) where
-  gone : (x : N) → c.kept x ≡ false → t.object x ≡ None
+  pub gone : (x : N) → c.kept x ≡ false → t.object x ≡ None
   gone x h = c.objects x ∙ cond-false (c.kept x) (option_map (survivor n (c.revived x)) (s.object x)) None h
 
-  kept_since : (x : N) → is_object t.object x ≡ true → c.kept x ≡ true
+  pub kept_since : (x : N) → is_object t.object x ≡ true → c.kept x ≡ true
   kept_since x h = let (o, e) = some_value (t.object x) h in (object_before rank n s t r w c x o e).0
 
-  lost_since : (x : N) → t.object x ≡ None → (c.kept x ≡ true) ⊎ (c.kept x ≡ false) → c.kept x ≡ false
+  pub lost_since : (x : N) → t.object x ≡ None → (c.kept x ≡ true) ⊎ (c.kept x ≡ false) → c.kept x ≡ false
   lost_since x e k = ⊎_elim (λ kept. absurd
       (true≢false (sym (still_object rank n s t r w c x kept) ∙ ap is_some e))) (λ f. f) k
 
-  -- what goes is condemned: an older object is a root
+  -- what is removed is condemned: an older object is a root
   removed_young : (x : N) → c.kept x ≡ false → generation_at s.object x ≤ n
   removed_young x lost =
       ⊎_elim (λ above. absurd (true≢false (sym (keeps_root rank n s t r w c x (older above)) ∙ lost)))
@@ -134,7 +134,7 @@ module _ (n : ℕ) (s t : State) (r : Report) (w : IsWhole (scene_of s))
   counts_losses k p = counts_like (LosesAs (scene_of s) c.reach c.kept wanted)
       (LosesTarget s t wanted) k loss_shown loss_meant p
 
-counts_state : (s : State) → Counts (λ (x : Id). IsSome (get s.objects x.0)) (len s.objects)
+pub counts_state : (s : State) → Counts (λ (x : Id). IsSome (get s.objects x.0)) (len s.objects)
 counts_state s = counts_keys s.objects (λ k. record { 0 = k }) (λ x. x.0) (λ k. refl) (λ x. refl)
 
 pub report_says : (m : Numbers) (n : ℕ) (s t : State) (r : Report) → Collected m n s t r → ReportSays n s t r

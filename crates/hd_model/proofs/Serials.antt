@@ -13,11 +13,11 @@ use Rattle.hd_model.specs.Role.{role}
 use Rattle.hd_model.specs.Collect.{is_lost, is_attaching}
 use Rattle.hd_model.specs.Command.{extra_of}
 use Rattle.hd_model.specs.WellFormed.{IsWellFormed}
-use Rattle.hd_model.proofs.WellFormed.{step_keeps, start_is_well_formed}
-use Rattle.hd_model.proofs.Kept.{HandleChange, handle_stays, is_made, target_is_set, secondary_is_set, strength_is_set, count_is_raised, count_is_lowered, is_freed, is_collected, handle_change}
+use Rattle.hd_model.proofs.WellFormedSteps.{step_keeps, start_is_well_formed}
+use Rattle.hd_model.proofs.StepWrites.{HandleChange, handle_stays, is_made, target_is_set, secondary_is_set, strength_is_set, count_is_raised, count_is_lowered, is_freed, is_collected, handle_change}
 use Rattle.hd_model.specs.Step.{Step}
 use Rattle.hd_model.specs.Run.{Chain, stay, link, Run}
-use Rattle.hd_model.proofs.Written.{set_cases, replicate_cases}
+use Rattle.hd_model.proofs.ReadAfterWrite.{set_cases, replicate_cases}
 use Rattle.hd_model.proofs.Effects.{Effect, makes_object, collects, effect}
 
 -- a step raises a serial by at most one

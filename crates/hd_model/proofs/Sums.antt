@@ -10,7 +10,7 @@ use Rattle.std.specs.Cmp.{nat_cmp_total}
 use Rattle.std.proofs.lemmas.Bool.{lt-ltb, le-ltb, eq-eqb, ne_eqb, cases_order, cases_eq}
 use Rattle.std.proofs.lemmas.List.Sums.{sum_by-cons}
 use Rattle.hd_model.proofs.Entries.{found_first, found_later}
-use Rattle.hd_model.proofs.Written.{get_inserted, get_beside, get_removed, get_left}
+use Rattle.hd_model.proofs.ReadAfterWrite.{get_inserted, get_beside, get_removed, get_left}
 
 -- what a value that may be there adds
 abbrev pub share : {A : Type 0} → (A → ℕ) → Option A → ℕ
@@ -85,7 +85,7 @@ total-put {A} f k v (e ∷ es) h =
           )
     ]
 
--- a value is put in the place of another, or of none
+-- a value is put for another, or where there was none
 pub sum-insert : {A : Type 0} (f : A → ℕ) (m : FinMap nat_cmp A) (k : ℕ) (v : A)
     → sum_by f (values (insert m k v)) + share f (get m k) ≡ sum_by f (values m) + f v
 sum-insert f m k v =
@@ -173,7 +173,7 @@ total-many {A} f least each (e ∷ es) =
     let times : least * suc (length es) ≡ least + least * length es = omega arith in
     omega arith
 
--- where each adds so much
+-- where each adds the same number
 pub sum-many : {A : Type 0} (f : A → ℕ) (least : ℕ) → ((x : A) → least ≤ f x) → (m : FinMap nat_cmp A)
     → least * len m ≤ sum_by f (values m)
 sum-many f least each m =

@@ -1,4 +1,4 @@
--- The ages of clumps, and what ages and cards must tell so that a collection may skip what they rule out.
+-- The ages of clumps, and what ages and cards must state so that a collection may skip what they rule out.
 -- After CoreCLR's handle table, in which clumps have ages, and its card table; the numbers are this project's
 -- own.
 use Rattle.std.specs.Prelude.{◌≡◌, ℕ, ◌+◌, ◌*◌, ◌-◌, ◌<◌, ◌≤◌, ◌/◌, Bool, true, cond, min, nat_lt, nat_le, List, [], ◌∷◌, ◌++◌, length, map, filter, slice_set, slice_index, Some}
@@ -11,8 +11,8 @@ use Rattle.hd_model.specs.Scene.{Objects, Rows, IsField, generation_at}
 abbrev pub raised : ℕ → ℕ → ℕ
 raised n g = cond (nat_lt n g) g (min (g + 1) OLDEST)
 
--- sixteen slots share an age, and are a clump. The ages stand in a list by clump, which begins with block 1
--- and has four for a block.
+-- a clump is sixteen slots that share an age. The list of ages begins with block 1 and has four for each
+-- block.
 abbrev pub clump_of : ℕ → ℕ
 clump_of slot = slot / CLUMP - CLUMPS
 

@@ -1,4 +1,4 @@
--- The ages that a journal leaves. They are this project's own, and no answer of the machine depends on them.
+-- The ages that a journal leaves. They are this project's own, and no reply of the machine depends on them.
 use Rattle.std.specs.Prelude.{◌≡◌, ℕ, ◌*◌, Bool, true, false, cond, List, replicate, Option, Some, None}
 use Rattle.hd_model.specs.declared.data.Id.{Id}
 use Rattle.hd_model.specs.declared.data.Slot.{Slot}
@@ -49,7 +49,7 @@ lowered_by_new s ages slot (make.Variable given) t = lowered_to s ages slot t
 lowered_by_new s ages slot make.Counted t = lowered_to s ages slot t
 lowered_by_new s ages slot (make.Dependent r) t = lowered_at ages slot 0
 
--- the ages after a command of a caller that was not refused, which gave `slot`
+-- the ages after a command of a caller that was not refused, with its entry's `slot`
 abbrev pub aged_by_command : State → ℕ → Option Slot → List ℕ → Cmd → List ℕ
 aged_by_command s caller slot ages (cmd.HNew d make t) =
     lowered_by_new s ages slot make (register_of s caller t)
@@ -90,7 +90,7 @@ pub record Aged : Type 0 where
   pub state : State
   pub ages : List ℕ
 
--- a step of both
+-- a step of the state and the ages
 pub record AgedStep (n : Numbers) (old : Aged) (e : Entry) (new : Aged) : Type 0 where
   pub step : Step n old.state e new.state
   pub ages : new.ages ≡ aged_by old.state e old.ages

@@ -1,4 +1,4 @@
--- How a state is stored as plain data, by which a proof tells two states apart. Nothing else is said here.
+-- How a state is stored as plain data, by which a proof distinguishes two states. Nothing else is said here.
 use Rattle.std.specs.Prelude.{◌≡◌, ℕ, Bool, List, Option, ◌⊎◌, refl}
 use mathlib.Core.Logic.{inl, inr}
 use base.Stored.{coded_unit}

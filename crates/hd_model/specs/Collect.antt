@@ -1,6 +1,6 @@
--- A collection of generation n, by what stands before it and what stands after it. What is cleared when
--- follows CoreCLR's collector: weak short handles by what is reached, then revival, then weak long and
--- dependent handles by what is kept.
+-- A collection of generation n, by the scenes before and after it. The order is that of CoreCLR's collector:
+-- weak short handles by what is reached, then resurrection, then weak long and dependent handles by what is
+-- kept.
 use Rattle.std.specs.Prelude.{◌≡◌, ℕ, ◌<◌, ◌&&◌, not, cond, Bool, true, false, List, ◌++◌, Option, Some, None, option_map, Contains, AllPairs}
 use Rattle.std.specs.Bool.{Decides}
 use Rattle.std.specs.FinMap.{get}
@@ -19,7 +19,7 @@ abbrev pub is_lost : {N : Type 0} → (N → Bool) → Option N → Bool
 is_lost p None = false
 is_lost p (Some x) = not (p x)
 
--- whether a handle of a role loses its target (.NET's WeakReference: a short one does so before finalisation,
+-- whether a handle of a role loses its target (.NET's WeakReference: a short one does so before finalization,
 -- a long one, by trackResurrection, only once the object is not kept)
 abbrev pub loses_by : {N : Type 0} → Role → (reach kept : N → Bool) → Option N → Bool
 loses_by holds reach kept o = false
@@ -47,8 +47,8 @@ cleared reach kept h = record {
   extra = cond (is_attaching (role h) && is_lost kept h.target) (secondary None) h.extra;
 }
 
--- a kept object after the collection: its generation is raised (a survivor's promotion), and a revived one is
--- registered no more, as a finalizer runs once
+-- a kept object after the collection: its generation is raised (a survivor's promotion), and a resurrected
+-- one is no longer registered, as a finalizer runs once
 abbrev pub survivor : {N : Type 0} → ℕ → Bool → Object N → Object N
 survivor n revived o = record {
   fields = o.fields;
@@ -65,7 +65,7 @@ pub record LosesAs {N : Type 0} (s : Scene N) (reach kept : N → Bool) (wanted 
   pub role_is : role handle ≡ wanted
   pub loses : loses reach kept handle ≡ true
 
--- a condemned object that stays, and an object that goes
+-- a condemned object that stays, and an object that is removed
 pub record IsSurviving {N : Type 0} (n : ℕ) (s : Scene N) (kept : N → Bool) (x : N) : Type 0 where
   pub condemned : IsCondemned s.object n x
   pub stays : kept x ≡ true
@@ -74,8 +74,8 @@ pub record IsRemoved {N : Type 0} (s : Scene N) (kept : N → Bool) (x : N) : Ty
   pub object : is_object s.object x ≡ true
   pub lost : kept x ≡ false
 
--- the numbers of a report (this project's own): condemned objects that stay, objects that go, handles that
--- lose their target by their role, and revived objects
+-- the numbers of a report (this project's own): condemned objects that stay, removed objects, handles that
+-- lose their target by their role, and resurrected objects
 pub record IsReport {N : Type 0} (n : ℕ) (s : Scene N) (in_reach in_revived in_kept : N → Bool)
     (report : Report) : Type 0 where
   pub kept : Counts (IsSurviving n s in_kept) report.kept
@@ -85,8 +85,8 @@ pub record IsReport {N : Type 0} (n : ℕ) (s : Scene N) (in_reach in_revived in
   pub dep : Counts (LosesAs s in_reach in_kept attaches) report.dep
   pub revived : Counts (λ x. in_revived x ≡ true) report.revived
 
--- what a collection of n of s goes by: what is reached, revived and kept, the revived in the order of `rank`,
--- the number of their identity, and the report
+-- what decides a collection of n of s: what is reached, resurrected and kept, the resurrected objects in the
+-- order of `rank`, the number of their identity, and the report
 pub record GoesBy {N : Type 0} (rank : N → ℕ) (n : ℕ) (s : Scene N) (reach revived kept : N → Bool)
     (joins : List N) (report : Report) : Type 0 where
   pub reach_is : (x : N) → Decides (reach x) (IsReached s n x)
@@ -96,8 +96,8 @@ pub record GoesBy {N : Type 0} (rank : N → ℕ) (n : ℕ) (s : Scene N) (reach
   pub rising : AllPairs (λ x y. rank x < rank y) joins
   pub report_is : IsReport n s reach revived kept report
 
--- the scene that it leaves: what is kept stays, handles are cleared, what registers and statics name is as it
--- was, and the revived join the queue's end
+-- the scene after it: what is kept stays, handles are cleared, what registers and statics reference is as it
+-- was, and what is resurrected is appended to the queue
 abbrev pub left_by : {N : Type 0} → ℕ → (reach revived kept : N → Bool) → List N → Scene N → Scene N
 left_by n reach revived kept joins s = record {
   object = λ x. cond (kept x) (option_map (survivor n (revived x)) (s.object x)) None;
@@ -119,8 +119,8 @@ pub record Collects {N : Type 0} (rank : N → ℕ) (n : ℕ) (s t : Scene N) (r
   pub named : t.named ≡ s.named
   pub queue : t.queue ≡ s.queue ++ joins
 
--- `collect n` leads from state s to state t: besides, the places of pinned objects stay and no others, and
--- all that a scene does not have is as it was
+-- `collect n` leads from state s to state t: exactly the addresses of pinned objects stay, and all that a
+-- scene does not have is as it was
 pub record CollectsState (n : ℕ) (s t : State) (report : Report) : Type 0 where
   pub scene : Collects (λ (x : Id). x.0) n (scene_of s) (scene_of t) report
   pub places : (x : ℕ) → get t.places x ≡ cond (is_pinned s.handles x) (get s.places x) None

@@ -1,15 +1,20 @@
--- Laws of collections, places and ages in the machine's own words. Each is the contract of a public function
--- of this crate.
-use Rattle.std.specs.Prelude.{◌≡◌, ◌↔◌, ℕ, ◌+◌, ◌<◌, ◌≤◌, ◌⊎◌, true, List, length, Some, None, IsSome, Contains}
+-- Laws of collections and ages in the machine's own words. Each is the contract of a public function of this
+-- crate.
+use Rattle.std.specs.Prelude.{◌≡◌, ◌↔◌, ℕ, ◌+◌, ◌<◌, ◌≤◌, ◌⊎◌, min, true, false, List, ◌++◌, length, Option, Some, None, IsSome, Contains, AllPairs}
 use Rattle.std.specs.FinMap.{get, len}
 use Rattle.hd_model.specs.declared.data.Id.{Id}
 use Rattle.hd_model.specs.declared.data.Addr.{Addr}
 use Rattle.hd_model.specs.declared.data.Entry.{Entry}
 use Rattle.hd_model.specs.declared.data.Report.{Report}
-use Rattle.hd_model.specs.State.{Numbers, Object, Handle, State, secondary_of, register_of, static_of}
-use Rattle.hd_model.specs.Role.{Role, holds, short, long, attaches, role}
+use Rattle.hd_model.specs.declared.data.Slot.{Slot}
+use Rattle.hd_model.specs.declared.data.Kind.TheVariants as kind
+use Rattle.hd_model.specs.declared.limits.TheConstants.{OLDEST}
+use Rattle.hd_model.specs.State.{Numbers, Object, Handle, secondary, State, secondary_of, register_of, static_of, without_handle}
+use Rattle.hd_model.specs.Role.{Role, short, long, attaches, role}
 use Rattle.hd_model.specs.Scene.{Objects, Rows, Scene, scene_of, is_object, generation_at, IsCondemned, IsWhole, IsReading}
 use Rattle.hd_model.specs.Reach.{IsReached, IsRevived, IsKept}
+use Rattle.hd_model.specs.InUse.{IsUsed, IsInUse, IsResurrected, IsRescued, IsGarbage}
+use Rattle.hd_model.specs.DueClumps.{HidesNothing}
 use Rattle.hd_model.specs.Counting.{Counts}
 use Rattle.hd_model.specs.Collect.{CollectsState}
 use Rattle.hd_model.specs.Ages.{HasSoundAges, lowered, grown}
@@ -31,22 +36,13 @@ abbrev pub CollectionsKeepWellFormed : Type 0
 CollectionsKeepWellFormed =
     (m : Numbers) (n : ℕ) (s t : State) (r : Report) → Collected m n s t r → IsWellFormed m t
 
--- what keeps an object by itself: a register or static that names it, a place in the queue, or a handle that
--- holds it
-pub data IsUsed (s : State) (x : Id) : Type 0 where
-  in_register : (c d : ℕ) → register_of s c d ≡ Some x → IsUsed s x
-  in_static : (k : ℕ) → static_of s k ≡ Some x → IsUsed s x
-  in_queue : Contains s.queue x → IsUsed s x
-  by_handle : (slot : ℕ) (h : Handle Id) → get s.handles slot ≡ Some h → role h ≡ holds → h.target ≡ Some x
-      → IsUsed s x
-
--- a collection removes no object that is used, and so none that waits for finalisation
+-- a collection removes no object that is used, and so none that is queued for finalization
 abbrev pub UsedObjectsStay : Type 0
 UsedObjectsStay =
     (m : Numbers) (n : ℕ) (s t : State) (r : Report) (x : Id) → Collected m n s t r → IsUsed s x
     → IsSome (get t.objects x.0)
 
--- what a register or a static names after a collection is an object
+-- what a register or a static references after a collection is an object
 pub record NoneDangles (t : State) : Type 0 where
   pub registers : (c d : ℕ) → Names t (register_of t c d)
   pub statics : (k : ℕ) → Names t (static_of t k)
@@ -71,7 +67,7 @@ pub record LosesTarget (s t : State) (wanted : Role) (slot : ℕ) : Type 0 where
   pub stands : get t.handles slot ≡ Some new
   pub lost : new.target ≡ None
 
--- a condemned object that still stands, and an object that stands no more
+-- a condemned object that stays, and an object that is removed
 abbrev pub Stays : ℕ → State → State → Id → Type 0
 Stays n s t x = IsCondemned (scene_of s).object n x × IsSome (get t.objects x.0)
 
@@ -79,7 +75,8 @@ abbrev pub Goes : State → State → Id → Type 0
 Goes s t x = IsSome (get s.objects x.0) × (get t.objects x.0 ≡ None)
 
 -- the numbers of a report, read off the states before and after: kept and removed together are the condemned
--- objects, each loss of a target is counted by the handle's role, and the queue grows by the revived
+-- objects, each loss of a target is counted by the handle's role, and the queue grows by the resurrected
+-- objects
 pub record ReportSays (n : ℕ) (s t : State) (r : Report) : Type 0 where
   pub kept : Counts (Stays n s t) r.kept
   pub removed : Counts (Goes s t) r.removed
@@ -109,13 +106,13 @@ SecondCollectionIsIdle =
     (m : Numbers) (n : ℕ) (s t u : State) (r q : Report) → Collected m n s t r → CollectsState n t u q
     → IsIdle t u q
 
--- of an object and what it is called elsewhere, the same is said
+-- an object is reached, resurrected and kept alike under both names
 pub record IsSameTo {N M : Type 0} (f : N → M) (n : ℕ) (s : Scene N) (t : Scene M) (x : N) : Type 0 where
   pub reached : IsReached s n x ↔ IsReached t n (f x)
   pub revived : IsRevived s n x ↔ IsRevived t n (f x)
   pub kept : IsKept s n x ↔ IsKept t n (f x)
 
--- what is reached, revived and kept is the same by address and by identity
+-- what is reached, resurrected and kept is the same by address and by identity
 abbrev pub ReadingsKeepWhatIsKept : Type 0
 ReadingsKeepWhatIsKept =
     (f : Addr → Id) (n : ℕ) (s : Scene Addr) (t : Scene Id) (x : Addr) → IsWhole s → IsReading f s t
@@ -126,7 +123,7 @@ pub record IsFrom (o : Objects Addr) (g : ℕ) (h : Handle Addr) : Type 0 where
   pub target : (x : Addr) → h.target ≡ Some x → g ≤ generation_at o x
   pub secondary : (x : Addr) → secondary_of h.extra ≡ Some x → g ≤ generation_at o x
 
--- each row stood before, or stands in the slot and names nothing younger than g
+-- each row was there before, or is in the slot and references nothing younger than g
 pub record Stores (o : Objects Addr) (old new : Rows Addr) (slot g : ℕ) : Type 0 where
   pub rows :
       (other : ℕ) (h : Handle Addr) → new other ≡ Some h
@@ -150,3 +147,185 @@ abbrev pub AgesOfRunsAreSound : Type 0
 AgesOfRunsAreSound =
     (n : Numbers) (journal : List Entry) (s : State) (ages : List ℕ) → AgedRun n journal s ages
     → HasSoundAges (scene_of s).object (scene_of s).handle ages
+
+-- an object stays with its fields and its value
+pub record KeepsContents (s t : State) (x : Id) : Type 0 where
+  pub old : Object Id
+  pub stood : get s.objects x.0 ≡ Some old
+  pub new : Object Id
+  pub stands : get t.objects x.0 ≡ Some new
+  pub fields : new.fields ≡ old.fields
+  pub value : new.value ≡ old.value
+
+-- an object is left alone: it stays with its registration too, no handle to it changes, and it does not join
+-- the queue
+pub record IsLeftAlone (s t : State) (x : Id) : Type 0 where
+  pub object : KeepsContents s t x
+  pub registered : object.new.registered ≡ object.old.registered
+  pub handles :
+      (slot : ℕ) (h : Handle Id) → get s.handles slot ≡ Some h → h.target ≡ Some x
+      → get t.handles slot ≡ Some h
+  pub queue : Contains t.queue x → Contains s.queue x
+
+-- what is in use is left alone: no handle to it is ever cleared
+abbrev pub InUseIsLeftAlone : Type 0
+InUseIsLeftAlone =
+    (m : Numbers) (n : ℕ) (s t : State) (r : Report) (x : Id) → Collected m n s t r → IsInUse n s x
+    → IsLeftAlone s t x
+
+-- what the definition of a collection reaches is exactly what is in use
+abbrev pub InUseIsReached : Type 0
+InUseIsReached = (n : ℕ) (s : State) (x : Id) → IsInUse n s x ↔ IsReached (scene_of s) n x
+
+-- what is kept for finalization alone stays as it was, for its finalizer to find
+abbrev pub RescuedObjectsStay : Type 0
+RescuedObjectsStay =
+    (m : Numbers) (n : ℕ) (s t : State) (r : Report) (x : Id) → Collected m n s t r → IsRescued n s x
+    → KeepsContents s t x
+
+-- a live handle has a target, or null
+pub record HasTarget (t : State) (slot : ℕ) (o : Option Id) : Type 0 where
+  pub handle : Handle Id
+  pub stands : get t.handles slot ≡ Some handle
+  pub target : handle.target ≡ o
+
+-- an object is gone, and each handle to it is null
+pub record IsGone (s t : State) (x : Id) : Type 0 where
+  pub object : get t.objects x.0 ≡ None
+  pub handles :
+      (slot : ℕ) (h : Handle Id) → get s.handles slot ≡ Some h → h.target ≡ Some x → HasTarget t slot None
+
+-- what nothing keeps is removed, and the handles to it are null
+abbrev pub GarbageGoes : Type 0
+GarbageGoes =
+    (m : Numbers) (n : ℕ) (s t : State) (r : Report) (x : Id) → Collected m n s t r → IsGarbage n s x
+    → IsGone s t x
+
+-- an object joins the queue
+pub record Joins (s t : State) (x : Id) : Type 0 where
+  pub queued : Contains t.queue x
+  pub before : Contains s.queue x → ⊥
+
+-- an object stays, and is not registered
+pub record IsUnregistered (t : State) (x : Id) : Type 0 where
+  pub object : Object Id
+  pub stands : get t.objects x.0 ≡ Some object
+  pub registered : object.registered ≡ false
+
+-- exactly what was condemned, registered and out of use joins the queue, and stays, no longer registered
+pub record ResurrectsOnce (n : ℕ) (s t : State) : Type 0 where
+  pub joins : (x : Id) → Joins s t x ↔ IsResurrected n s x
+  pub after : (x : Id) → Joins s t x → IsUnregistered t x
+
+-- resurrected once: a finalizer runs for each such object, and not again unless it is registered again
+abbrev pub ObjectsAreResurrectedOnce : Type 0
+ObjectsAreResurrectedOnce =
+    (m : Numbers) (n : ℕ) (s t : State) (r : Report) → Collected m n s t r → ResurrectsOnce n s t
+
+-- objects are appended to the queue in rising identity
+pub record AppendsInTurn (s t : State) : Type 0 where
+  pub joins : List Id
+  pub queue : t.queue ≡ s.queue ++ joins
+  pub rising : AllPairs (λ x y. x.0 < y.0) joins
+
+-- first in, first out: what was queued before is finalized first, in its order
+abbrev pub QueueGrowsInTurn : Type 0
+QueueGrowsInTurn =
+    (m : Numbers) (n : ℕ) (s t : State) (r : Report) → Collected m n s t r → AppendsInTurn s t
+
+-- a generation of at most n is one higher after a collection of n, at most 2, and a higher one is the same
+pub record RisesOnce (n old new : ℕ) : Type 0 where
+  pub young : old ≤ n → new ≡ min (old + 1) OLDEST
+  pub older : n < old → new ≡ old
+
+-- a generation is raised once in a collection
+abbrev pub GenerationsRiseOnce : Type 0
+GenerationsRiseOnce =
+    (m : Numbers) (n : ℕ) (s t : State) (r : Report) (id : ℕ) (old new : Object Id) → Collected m n s t r
+    → get s.objects id ≡ Some old → get t.objects id ≡ Some new → RisesOnce n old.generation new.generation
+
+-- a weak short handle and a weak long one with one target
+pub record IsWeakPair (s : State) (short_slot long_slot : ℕ) (x : Id) : Type 0 where
+  pub weak_short : Handle Id
+  pub weak_long : Handle Id
+  pub short_stands : get s.handles short_slot ≡ Some weak_short
+  pub long_stands : get s.handles long_slot ≡ Some weak_long
+  pub short_role : role weak_short ≡ short
+  pub long_role : role weak_long ≡ long
+  pub short_target : weak_short.target ≡ Some x
+  pub long_target : weak_long.target ≡ Some x
+
+-- both have one target, or null
+pub record FareAlike (t : State) (short_slot long_slot : ℕ) : Type 0 where
+  pub target : Option Id
+  pub by_short : HasTarget t short_slot target
+  pub by_long : HasTarget t long_slot target
+
+-- the short one is null, and the long one has the target
+pub record FareApart (t : State) (short_slot long_slot : ℕ) (x : Id) : Type 0 where
+  pub by_short : HasTarget t short_slot None
+  pub by_long : HasTarget t long_slot (Some x)
+
+-- over a collection that resurrects nothing, a short and a long handle keep the same
+abbrev pub WeakHandlesFareAlike : Type 0
+WeakHandlesFareAlike =
+    (m : Numbers) (n : ℕ) (s t : State) (r : Report) (a b : ℕ) (x : Id) → Collected m n s t r
+    → r.revived ≡ 0 → IsWeakPair s a b x → FareAlike t a b
+
+-- what is kept for finalization alone stays the target of a long handle, and not of a short one
+abbrev pub FinalizationPartsWeakHandles : Type 0
+FinalizationPartsWeakHandles =
+    (m : Numbers) (n : ℕ) (s t : State) (r : Report) (a b : ℕ) (x : Id) → Collected m n s t r
+    → IsRescued n s x → IsWeakPair s a b x → FareApart t a b x
+
+-- a dependent handle of a state, by its slot, and its target
+pub record IsDependent (s : State) (slot : Slot) (x : Id) : Type 0 where
+  pub handle : Handle Id
+  pub stands : get s.handles slot.0 ≡ Some handle
+  pub kind_is : handle.kind ≡ kind.Dependent
+  pub target : handle.target ≡ Some x
+
+-- where the target stays, the handle is as it was and its secondary stays; where the target is removed, both
+-- are null
+pub record Follows (s t : State) (slot : ℕ) (h : Handle Id) (x : Id) : Type 0 where
+  pub same : IsSome (get t.objects x.0) → get t.handles slot ≡ Some h
+  pub stays :
+      IsSome (get t.objects x.0) → (y : Id) → secondary_of h.extra ≡ Some y → IsSome (get t.objects y.0)
+  pub cleared :
+      get t.objects x.0 ≡ None
+      → get t.handles slot ≡ Some (record { kind = kind.Dependent; target = None; extra = secondary None })
+
+-- a dependent handle keeps its secondary exactly as long as its target stays
+abbrev pub SecondariesFollowTargets : Type 0
+SecondariesFollowTargets =
+    (m : Numbers) (n : ℕ) (s t : State) (r : Report) (slot : Slot) (x : Id) → Collected m n s t r
+    → (d : IsDependent s slot x) → Follows s t slot.0 d.handle x
+
+-- a dependent handle never brings its target into use
+abbrev pub DependentsUseNoTarget : Type 0
+DependentsUseNoTarget =
+    (n : ℕ) (s : State) (slot : Slot) (x : Id) → IsDependent s slot x
+    → IsInUse n s x ↔ IsInUse n (without_handle s slot) x
+
+-- and never keeps it: the target stays exactly where it stays without the handle
+abbrev pub DependentsKeepNoTarget : Type 0
+DependentsKeepNoTarget =
+    (m : Numbers) (n : ℕ) (s t u : State) (r q : Report) (slot : Slot) (x : Id) → Collected m n s t r
+    → CollectsState n (without_handle s slot) u q → IsDependent s slot x
+    → IsSome (get t.objects x.0) ↔ IsSome (get u.objects x.0)
+
+-- ages that are sound hide nothing: a collection of n that visits due clumps alone does what one of all does
+abbrev pub AgesHideNothing : Type 0
+AgesHideNothing =
+    (m : Numbers) (n : ℕ) (s t : State) (r : Report) (ages : List ℕ) → Collected m n s t r
+    → HasSoundAges (scene_of s).object (scene_of s).handle ages → HidesNothing ages n s t
+
+-- a collection of n has a state after it and a report
+pub record HasCollection (n : ℕ) (s : State) : Type 0 where
+  pub after : State
+  pub report : Report
+  pub collects : CollectsState n s after report
+
+-- no collection is stuck: one leads on from every well formed state, for each n
+abbrev pub CollectionsExist : Type 0
+CollectionsExist = (m : Numbers) (n : ℕ) (s : State) → IsWellFormed m s → HasCollection n s

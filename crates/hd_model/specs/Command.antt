@@ -1,6 +1,6 @@
--- What each command answers, and the state that it leaves. These follow .NET's GCHandle (Alloc, Target,
--- Free), DependentHandle, GC (GetGeneration, SuppressFinalize, ReRegisterForFinalize) and plain loads and
--- stores of fields, statics and locals; texts, refusals and their order are this project's own.
+-- What each command returns, and the state after it. These follow .NET's GCHandle (Alloc, Target, Free),
+-- DependentHandle, GC (GetGeneration, SuppressFinalize, ReRegisterForFinalize) and plain loads and stores of
+-- fields, statics and locals; texts, refusals and their order are this project's own.
 use Rattle.std.specs.Prelude.{ℕ, ◌+◌, ◌-◌, ◌==◌, ◌&&◌, Bool, nat_lt, if◌then◌else◌, List, [], ◌∷◌, replicate, length, slice_set, Option, Some, None, is_some, option_and_then}
 use Rattle.std.specs.Option.{option_map_or}
 use Rattle.hd_model.specs.declared.data.Id.{Id}
@@ -20,8 +20,8 @@ use Rattle.hd_model.specs.State.{register_of, handle_register_of, static_of, boa
 use Rattle.hd_model.specs.State.{with_register, with_handle_register, with_static, with_board, with_object, with_handle, without_handle, with_queue, with_place, with_serial}
 use Rattle.hd_model.specs.Role.{pins}
 
--- what a command comes to where the state decides it: its reply, the slot that it gives or frees, and the
--- state after it
+-- the outcome of a command that the state decides: its reply, the slot that it gives or frees, and the state
+-- after it
 pub record Outcome : Type 0 where
   pub reply : Reply
   pub slot : Option Slot
@@ -57,7 +57,7 @@ on_handle s caller h act =
     option_map_or (λ slot. option_map_or (act slot) (handle_at s slot) (refuses refusal.NotLive s))
     (handle_register_of s caller h) (refuses refusal.EmptyRegister s)
 
--- on such a handle, which is refused where it is of another kind than this one
+-- on such a handle, which is refused where it is of another kind
 abbrev pub on_handle_of : State → ℕ → ℕ → Kind → (Slot → Handle Id → Outcome) → Outcome
 on_handle_of s caller h wanted act =
     on_handle s caller h
@@ -69,7 +69,7 @@ fresh_object fields fin =
     record { fields = replicate fields None; value = 0; generation = 0; registered = fin }
 
 -- `new rD F`, `new rD F fin`: an object of generation 0 with F null fields and value 0 gets the caller's next
--- serial, unless the heap would pass its limit. With `fin` it is registered for finalisation.
+-- serial, unless the heap would pass its limit. With `fin` it is registered for finalization.
 abbrev pub new_object : Numbers → State → ℕ → ℕ → ℕ → Bool → Outcome
 new_object n s caller d fields fin =
     if nat_lt n.heap (total_size s + (fields + 3)) then refuses (refusal.HeapFull (total_size s) (fields + 3)) s
@@ -79,7 +79,7 @@ new_object n s caller d fields fin =
     let made = with_serial (with_object s id (fresh_object fields fin)) caller serial in
     answers (reply.Object id) (with_register made caller d (Some id)))
 
--- `set rO i rV`: field i of rO names what rV names
+-- `set rO i rV`: field i of rO gets what rV references
 abbrev pub set_field : State → ℕ → ℕ → ℕ → ℕ → Outcome
 set_field s caller o i v =
     on_field s caller o i (λ id.
@@ -87,7 +87,7 @@ set_field s caller o i v =
     answers reply.Done
     (with_object s id (record object { fields = slice_set object.fields i (register_of s caller v) })))
 
--- `get rD rO i`: rD names what field i of rO names
+-- `get rD rO i`: rD gets what field i of rO references
 abbrev pub get_field : State → ℕ → ℕ → ℕ → ℕ → Outcome
 get_field s caller d o i =
     on_field s caller o i
@@ -103,7 +103,7 @@ set_value s caller o v =
 abbrev pub read_value : State → ℕ → ℕ → Outcome
 read_value s caller o = on_object s caller o (λ id. answers (reply.Value (object_by_id s id).value) s)
 
--- `copy rD rS`: rD names what rS names
+-- `copy rD rS`: rD gets what rS references
 abbrev pub copy_register : State → ℕ → ℕ → ℕ → Outcome
 copy_register s caller d r = answers reply.Done (with_register s caller d (register_of s caller r))
 
@@ -111,11 +111,11 @@ copy_register s caller d r = answers reply.Done (with_register s caller d (regis
 abbrev pub clear_register : State → ℕ → ℕ → Outcome
 clear_register s caller d = answers reply.Done (with_register s caller d None)
 
--- `sput k rS`: static k names what rS names
+-- `sput k rS`: static k gets what rS references
 abbrev pub put_static : State → ℕ → ℕ → ℕ → Outcome
 put_static s caller k r = answers reply.Done (with_static s k (register_of s caller r))
 
--- `sget rD k`: rD names what static k names
+-- `sget rD k`: rD gets what static k references
 abbrev pub get_static : State → ℕ → ℕ → ℕ → Outcome
 get_static s caller d k = answers (loaded (static_of s k)) (with_register s caller d (static_of s k))
 
@@ -124,14 +124,14 @@ abbrev pub read_generation : State → ℕ → ℕ → Outcome
 read_generation s caller o =
     on_object s caller o (λ id. answers (reply.Generation (object_by_id s id).generation) s)
 
--- `suppress rS` and `reregister rS`: rS is registered for finalisation no more, or again
+-- `suppress rS` and `reregister rS`: rS is no longer registered for finalization, or again
 abbrev pub set_registered : State → ℕ → ℕ → Bool → Outcome
 set_registered s caller o registered =
     on_object s caller o
     (λ id. answers reply.Done (with_object s id (record (object_by_id s id) { registered = registered })))
 
--- `final rD`: rD names the first object of the finalisation queue, which leaves it; where it is empty, rD is
--- null (.NET's finaliser thread takes objects in turn; here a command does)
+-- `final rD`: rD gets the first object of the finalization queue, which leaves it, or null where the queue is
+-- empty (.NET's finalizer thread takes objects in turn; here a command does)
 abbrev pub take_first : State → ℕ → ℕ → List Id → Outcome
 take_first s caller d [] = answers reply.NoneQueued (with_register s caller d None)
 take_first s caller d (id ∷ rest) =
@@ -140,13 +140,13 @@ take_first s caller d (id ∷ rest) =
 abbrev pub take_queued : State → ℕ → ℕ → Outcome
 take_queued s caller d = take_first s caller d s.queue
 
--- `hget rD hS`: rD names the target, which is null where it was never set or is cleared
+-- `hget rD hS`: rD gets the target, which is null where it was never set or is cleared
 abbrev pub get_target : State → ℕ → ℕ → ℕ → Outcome
 get_target s caller d h =
     on_handle s caller h
     (λ slot handle. answers (loaded handle.target) (with_register s caller d handle.target))
 
--- `hset hS rT`: the target becomes what rT names. A dependent handle may get null alone, and then its
+-- `hset hS rT`: the target becomes what rT references. A dependent handle may get null alone, and then its
 -- secondary is null too (the setter of .NET's DependentHandle.Target takes null alone).
 abbrev pub set_target : State → ℕ → ℕ → ℕ → Outcome
 set_target s caller h t =
@@ -156,15 +156,15 @@ set_target s caller h t =
     else answers reply.Done
     (with_handle s slot (record handle { target = target; extra = without_secondary handle.extra })))
 
--- `hsec hS rS`: the secondary of a dependent handle, whose target is not null, becomes what rS names (.NET's
--- DependentHandle.Dependent)
+-- `hsec hS rS`: the secondary of a dependent handle, whose target is not null, becomes what rS references
+-- (.NET's DependentHandle.Dependent)
 abbrev pub set_secondary : State → ℕ → ℕ → ℕ → Outcome
 set_secondary s caller h r =
     on_handle_of s caller h kind.Dependent (λ slot handle.
     let after = with_handle s slot (record handle { extra = secondary (register_of s caller r) }) in
     option_map_or (λ _. answers reply.Done after) handle.target (refuses refusal.Null s))
 
--- `hdep rD hS`: rD names the secondary of a dependent handle
+-- `hdep rD hS`: rD gets the secondary of a dependent handle
 abbrev pub get_secondary : State → ℕ → ℕ → ℕ → Outcome
 get_secondary s caller d h =
     on_handle_of s caller h kind.Dependent (λ slot handle.
@@ -176,7 +176,7 @@ set_strength s caller h given =
     on_handle_of s caller h kind.Variable
     (λ slot handle. answers reply.Done (with_handle s slot (record handle { extra = strength given })))
 
--- a ref-counted handle gets a count, which is answered
+-- a ref-counted handle gets a count, which is returned
 abbrev pub with_count : State → Slot → Handle Id → ℕ → Outcome
 with_count s slot handle c = answers (reply.Value c) (with_handle s slot (record handle { extra = count c }))
 
@@ -193,7 +193,7 @@ lower_count s caller h =
     if count_of handle.extra == 0 then refuses refusal.CountZero s
     else with_count s slot handle (count_of handle.extra - 1))
 
--- `hfree hS`: the handle is no more and hS is empty. Copies of the slot that stand elsewhere stay.
+-- `hfree hS`: the handle is freed and hS is empty. Copies of the slot elsewhere stay.
 abbrev pub free_handle : State → ℕ → ℕ → Outcome
 free_handle s caller h =
     on_handle s caller h (λ slot handle. record {
@@ -202,15 +202,15 @@ free_handle s caller h =
       after = with_handle_register (without_handle s slot) caller h None;
     })
 
--- `hput k hS`: board place k has what hS has
+-- `hput k hS`: board index k gets the slot in hS
 abbrev pub put_board : State → ℕ → ℕ → ℕ → Outcome
 put_board s caller k h = answers reply.Done (with_board s k (handle_register_of s caller h))
 
--- `hpick hD k`: hD has what board place k has
+-- `hpick hD k`: hD gets the slot at board index k
 abbrev pub pick_board : State → ℕ → ℕ → ℕ → Outcome
 pick_board s caller d k = answers reply.Done (with_handle_register s caller d (board_of s k))
 
--- `addr hS` where p is the place of the object that the handle pins: the object keeps it
+-- `addr hS` with p as the address of the object that the handle pins: it becomes the object's pinned address
 abbrev pub answer_place : State → ℕ → ℕ → ℕ → Outcome
 answer_place s caller h p =
     on_handle s caller h (λ slot handle.
@@ -229,7 +229,7 @@ extra_of s caller make.Counted t = count 1
 extra_of s caller (make.Dependent r) t =
     secondary (option_and_then (λ _. register_of s caller r) (register_of s caller t))
 
--- a made handle, which names what rT names
+-- a made handle: its target is what rT references
 abbrev pub made_handle : State → ℕ → Make → ℕ → Handle Id
 made_handle s caller make t =
     record { kind = kind_of make; target = register_of s caller t; extra = extra_of s caller make t }

@@ -48,7 +48,7 @@ extra_words (make.Variable strength) = strength_word strength ∷ []
 extra_words make.Counted = []
 extra_words (make.Dependent s) = object_word s ∷ []
 
--- `fin`, where the object is registered for finalisation
+-- `fin`, where the object is registered for finalization
 abbrev pub fin_words : Bool → List (List ℕ)
 fin_words false = []
 fin_words true = codes "fin" ∷ []

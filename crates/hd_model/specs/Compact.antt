@@ -1,5 +1,5 @@
--- How many regions a heap may hold after a collection of generation 2. Regions of 256 cells are this project's own, after
--- CoreCLR's in outline.
+-- The number of regions in use, at most, after a collection of generation 2. Regions of 256 cells are this
+-- project's own, after CoreCLR's in outline.
 use Rattle.std.specs.Prelude.{ℕ, ◌+◌, ◌/◌, ◌≤◌}
 use Rattle.std.specs.FinMap.{len}
 use Rattle.hd_model.specs.declared.data.Addr.{Addr}
@@ -9,9 +9,9 @@ use Rattle.hd_model.specs.Reach.{IsPinned}
 use Rattle.hd_model.specs.Counting.{Counts}
 use Rattle.hd_model.specs.Heap.{Heap, used_of}
 
--- the regions held are at most used / 193 + 3, and one more for each pinned object. An object has at most 64
--- cells, so a region is left for the next of its generation only where 193 of its 256 cells are taken (LEFT);
--- three generations may each have one that is not full (OPEN), and what is pinned holds its region.
+-- the regions in use are at most used / 193 + 3, and one more for each pinned object: a region is left for a
+-- new one only where 193 of its 256 cells are taken (LEFT), as an object has at most 64; each of three
+-- generations may have one that is not full (OPEN), and a pinned object keeps its region in use.
 pub record IsCompact (h : Heap) (rows : Rows Addr) : Type 0 where
   pub pinned : ℕ
   pub pinned_is : Counts (IsPinned rows) pinned

@@ -1,7 +1,7 @@
--- How many there are: plain mathematics, of any property.
+-- The number of things with a property.
 use Rattle.std.specs.Prelude.{◌≡◌, ◌≢◌, ℕ, List, length, Contains, AllPairs}
 
--- just c things have the property: they stand in a list, each once
+-- exactly c things have the property: they are in a list, each once
 pub record Counts {A : Type 0} (P : A → Type 0) (c : ℕ) : Type 0 where
   pub members : List A
   pub apart : AllPairs (λ x y. x ≢ y) members

@@ -16,7 +16,7 @@ use Rattle.hd_model.specs.State.{Numbers, State}
 use Rattle.hd_model.specs.Laws.{makes_object, count_entries}
 use Rattle.hd_model.specs.Text.{newline, collections_of}
 
--- the numbers of a load: the heap and the table that a run has where it names none
+-- the numbers of a load: the heap and the table that a run has where it gives none
 abbrev pub load_numbers : Numbers
 load_numbers = record { heap = HEAP; blocks = BLOCKS; callers = LOAD_CALLERS }
 
@@ -34,7 +34,7 @@ abbrev pub collection_after : ℕ → List Cmd
 collection_after round = if round % ROUNDS_TO_COLLECTION == 0 then cmd.Collect (round % 3) ∷ [] else []
 
 -- the commands of a caller in one round: make an object and a handle of it, write and read through them, and
--- let both go
+-- release both
 abbrev pub round_of : ℕ → ℕ → List Cmd
 round_of caller round =
     cmd.New 0 ((caller + round) % 8) false
@@ -63,7 +63,7 @@ load_text commands made live collections sum =
     ++ codes " made " ++ decimal made ++ codes " live " ++ decimal live
     ++ codes " collections " ++ decimal collections ++ codes " sum " ++ decimal sum ++ newline
 
--- the value that a reply tells, and 0 where it tells none
+-- the value that a reply states, and 0 where it states none
 abbrev pub value_told : Reply → ℕ
 value_told Done = 0
 value_told (Object id) = 0

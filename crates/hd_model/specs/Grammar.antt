@@ -20,7 +20,7 @@ use Rattle.hd_model.specs.Valid.{IsValid}
 abbrev pub is_line_end : ℕ → Bool
 is_line_end b = b == 10
 
--- what stands after the last line end is a line only where it has a byte
+-- what follows the last line end is a line only where it has a byte
 abbrev pub without_empty_last : List (List ℕ) → List (List ℕ)
 without_empty_last [] = []
 without_empty_last (line ∷ []) = if length line == 0 then [] else line ∷ []
@@ -34,7 +34,7 @@ lines_in bytes = without_empty_last (slice_split is_line_end bytes)
 abbrev pub is_hash : ℕ → Bool
 is_hash b = b == 35
 
--- words stand between spaces and tabs
+-- words are between spaces and tabs
 abbrev pub is_blank : ℕ → Bool
 is_blank b = (b == 32) || (b == 9)
 
@@ -102,7 +102,7 @@ trimmed_kind_of word = look_up word (
     ∷ (codes "pinned", Some kind.Pinned)
     ∷ [])
 
--- `fin` registers a new object for finalisation
+-- `fin` registers a new object for finalization
 unfoldable pub fin_of : List ℕ → Option Bool
 fin_of word = look_up word ((codes "fin", Some true) ∷ [])
 
@@ -211,7 +211,7 @@ reading_of (word ∷ a ∷ b ∷ c ∷ d ∷ e ∷ words) = None
 unfoldable pub readings_of : List ℕ → List (Option Reading)
 readings_of bytes = map (λ line. reading_of (words_of line)) (lines_in bytes)
 
--- whose commands follow a line: those of the caller that it names, else of the one that was
+-- whose commands follow a line: those of the caller that it states, and else of the one before
 abbrev pub caller_after : ℕ → Option Reading → ℕ
 caller_after now (Some (caller n)) = n
 caller_after now (Some blank) = now
@@ -232,17 +232,17 @@ commands_for wanted now (reading ∷ rest) =
     (if now == wanted then option_to_list (command_in reading) else [])
     ++ commands_for wanted (caller_after now reading) rest
 
--- the number of callers: they are 0 to the largest number that a line names, and 0 alone where none does
+-- the number of callers: they are 0 to the largest number that a line states, and 0 alone where none does
 abbrev pub callers_of : List (Option Reading) → ℕ
 callers_of [] = 1
 callers_of (reading ∷ rest) = max (caller_after 0 reading + 1) (callers_of rest)
 
--- the list of each caller. Before a line names one, the commands are those of caller 0.
+-- the list of each caller. Before a line states one, the commands are those of caller 0.
 unfoldable pub lists_of : List (Option Reading) → List (List Cmd)
 lists_of readings = map (λ wanted. commands_for wanted 0 readings) (range_with_len 0 (callers_of readings))
 
 -- the first line that has no reading or holds a command too many, where the lines are numbered from `line`
--- and `before` commands stand before them
+-- and `before` commands come before them
 abbrev pub first_fault : ℕ → ℕ → List (Option Reading) → Option ℕ
 first_fault line before [] = None
 first_fault line before (None ∷ rest) = Some line

@@ -1,4 +1,5 @@
--- A heap as its users see it: objects by address, in regions that have generations. Regions and cards are this project's own.
+-- A heap as its users see it: objects by address, in regions that have generations. Regions and cards are
+-- this project's own.
 use Rattle.std.specs.Prelude.{◌≡◌, ℕ, ◌+◌, ◌/◌, ◌%◌, Bool, false, List, [], length, sum_by, Option, Some, None, unwrap_or, option_map}
 use Rattle.std.specs.FinMap.{FinMap, get, values, contains_key}
 use Rattle.std.specs.FinSet as set
@@ -9,21 +10,22 @@ use Rattle.hd_model.specs.declared.limits.TheConstants.{HEADER, REGION, CARD}
 use Rattle.hd_model.specs.State.{Object}
 use Rattle.hd_model.specs.Scene.{Objects, is_object}
 
--- an object as it stands at an address: the identity in its header, its fields, each an address or null, its value, and whether it is
--- registered for finalisation. Its generation is that of its region.
+-- an object as stored at an address: the identity in its header, its fields, each an address or null, its
+-- value, and whether it is registered for finalization. Its generation is that of its region.
 pub record Placed : Type 0 where
   pub id : Id
   pub fields : List (Option Addr)
   pub value : ℕ
   pub registered : Bool
 
--- a held region: its generation, and the first cell after the last object put, in cells
+-- a region in use: its generation, and its allocation pointer: the offset of the first cell after its last
+-- object
 pub record Region : Type 0 where
   pub generation : ℕ
   pub fill : ℕ
 
--- the objects by the number of their address, the held regions by number, the numbers of the spare regions in the order in which they will
--- be held, the limit of the sizes of all objects in cells, and the set cards by number
+-- the objects by address, the regions in use by number, the numbers of the free regions in the order in which
+-- they will be taken, the limit of the sizes of all objects in cells, and the set cards by number
 pub record Heap : Type 0 where
   pub objects : FinMap nat_cmp Placed
   pub regions : FinMap nat_cmp Region
@@ -41,7 +43,7 @@ offset_of a = a.0 % REGION
 unfoldable pub card_of : Addr → ℕ
 card_of a = a.0 / CARD
 
--- whether a region is held, and what it is; one that is not held is read as an empty one of generation 0
+-- whether a region is in use, and the region; a free one is read as an empty one of generation 0
 abbrev pub is_held : Heap → ℕ → Bool
 is_held h r = contains_key h.regions r
 
@@ -60,11 +62,11 @@ object_in generation p = record { fields = p.fields; value = p.value; generation
 abbrev pub object_at : Heap → Objects Addr
 object_at h a = option_map (object_in (region_generation h (region_of a))) (get h.objects a.0)
 
--- whether an object stands at an address
+-- whether there is an object at an address
 abbrev pub has_object : Heap → Addr → Bool
 has_object h a = is_object (object_at h) a
 
--- what stands at the address of an object
+-- the stored object at an address
 abbrev pub placed_at : Heap → Addr → Placed
 placed_at h a = unwrap_or (get h.objects a.0) (record { id = record { 0 = 0 }; fields = []; value = 0; registered = false })
 
@@ -83,11 +85,11 @@ is_set h card = set.contains h.cards card
 abbrev pub is_carded : Heap → Addr → Bool
 is_carded h a = is_set h (card_of a)
 
--- the cells that an object takes: three more than its fields
+-- the cells of an object: three more than its fields
 abbrev pub cells_of : Placed → ℕ
 cells_of p = length p.fields + HEADER
 
--- the cells that all objects take together
+-- the cells of all objects together
 abbrev pub used_of : Heap → ℕ
 used_of h = sum_by cells_of (values h.objects)
 
@@ -95,7 +97,7 @@ used_of h = sum_by cells_of (values h.objects)
 abbrev pub HasIdentities : Heap → Type 0
 HasIdentities h = (a b : ℕ) (p q : Placed) → get h.objects a ≡ Some p → get h.objects b ≡ Some q → p.id ≡ q.id → a ≡ b
 
--- a heap that is collected, and the generation up to which it is
+-- a heap that is collected, and the condemned generation
 pub record Basis : Type 0 where
   pub heap : Heap
   pub condemned : ℕ

@@ -63,7 +63,7 @@ is_done (reply.Report r) = false
 is_done reply.NoneQueued = false
 is_done (reply.Refused r) = false
 
--- the object that a reply names
+-- the object that a reply references
 abbrev pub object_answered : Reply → Option Id
 object_answered reply.Done = None
 object_answered (reply.Object id) = Some id
@@ -75,7 +75,7 @@ object_answered (reply.Report r) = None
 object_answered reply.NoneQueued = None
 object_answered (reply.Refused r) = None
 
--- how many objects a reply says that a collection removed
+-- the number of objects that a collection removed, by its reply
 abbrev pub removed_in : Reply → ℕ
 removed_in reply.Done = 0
 removed_in (reply.Object id) = 0
@@ -91,11 +91,11 @@ removed_in (reply.Refused r) = 0
 abbrev pub makes_handle : Cmd → Reply → Bool
 makes_handle cmd reply = (touched_by cmd).makes_handle && is_done reply
 
--- whether it ended a handle: an `hfree` that was done
+-- whether it freed a handle: an `hfree` that was done
 abbrev pub frees_handle : Cmd → Reply → Bool
 frees_handle cmd reply = (touched_by cmd).frees_handle && is_done reply
 
--- whether it made an object: a `new` that answered one
+-- whether it made an object: a `new` that returned one
 abbrev pub makes_object : Cmd → Reply → Bool
 makes_object cmd reply = (touched_by cmd).makes_object && is_some (object_answered reply)
 
@@ -115,7 +115,7 @@ ObjectsAreMadeLessRemoved =
     (n : Numbers) (journal : List Entry) (s : State) → Run n journal s
     → len s.objects + sum_by (λ (e : Entry). removed_in e.reply) journal ≡ count_entries makes_object journal
 
--- an entry leads on from a well formed state, and then come entries none of which writes a place
+-- an entry `written` from a well formed state, and then entries none of which writes what the law is about
 pub record Since (n : Numbers) (Writes : State → Entry → State → Type 0) (old : State)
     (written : Entry) (now : State) : Type 0 where
   pub well_formed : IsWellFormed n old
@@ -124,7 +124,7 @@ pub record Since (n : Numbers) (Writes : State → Entry → State → Type 0) (
   pub others : List Entry
   pub rest : Chain (λ s e t. Step n s e t × (Writes s e t → ⊥)) after others now
 
--- what writes a field of an object: a done `set` of it, by a register that names the object
+-- what writes a field of an object: a done `set` of it, by a register that references the object
 pub record WritesField (id : Id) (i : ℕ) (s : State) (e : Entry) (t : State) : Type 0 where
   pub o : ℕ
   pub v : ℕ
@@ -140,8 +140,8 @@ pub record WritesValue (id : Id) (s : State) (e : Entry) (t : State) : Type 0 wh
   pub named : register_of s e.caller o ≡ Some id
   pub done : e.reply ≡ reply.Done
 
--- after a done `set` of a field and entries that do not write it, `get` there answers what was named.
--- Collections leave fields.
+-- after a done `set` of a field and entries that do not write it, `get` returns what was stored. No
+-- collection changes a field.
 abbrev pub FieldIsReadBack : Type 0
 FieldIsReadBack =
     (n : Numbers) (old now new : State) (written reading : Entry) (id : Id) (o i v d p : ℕ)
@@ -149,7 +149,7 @@ FieldIsReadBack =
     → register_of old written.caller o ≡ Some id → Step n now reading new → reading.cmd ≡ cmd.Get d p i
     → register_of now reading.caller p ≡ Some id → reading.reply ≡ loaded (register_of old written.caller v)
 
--- after a done `val` and entries that do not write the value, `read` answers the number
+-- after a done `val` and entries that do not write the value, `read` returns the number
 abbrev pub ValueIsReadBack : Type 0
 ValueIsReadBack =
     (n : Numbers) (old now new : State) (written reading : Entry) (id : Id) (o v p : ℕ)
@@ -180,7 +180,7 @@ NewValueIsZero =
 abbrev pub WritesStatic : ℕ → State → Entry → State → Type 0
 WritesStatic k s e t = (touched_by e.cmd).static ≡ Some k
 
--- after `sput` and entries that do not write the static, `sget` answers what was named
+-- after `sput` and entries that do not write the static, `sget` returns what was stored
 abbrev pub StaticIsReadBack : Type 0
 StaticIsReadBack =
     (n : Numbers) (old now new : State) (written reading : Entry) (k r d : ℕ)
@@ -188,11 +188,11 @@ StaticIsReadBack =
     → Step n now reading new → reading.cmd ≡ cmd.SGet d k
     → reading.reply ≡ loaded (register_of old written.caller r)
 
--- what writes a place of the board: `hput` of it, by whatever caller
+-- what writes a board index: `hput` there, by whatever caller
 abbrev pub WritesBoard : ℕ → State → Entry → State → Type 0
 WritesBoard k s e t = (touched_by e.cmd).board ≡ Some k
 
--- after `hput` and entries that do not write the place of the board, `hpick` gives its register what was put
+-- after `hput` and entries that do not write its board index, `hpick` gives its register what was stored
 -- there
 abbrev pub BoardIsReadBack : Type 0
 BoardIsReadBack =
@@ -208,12 +208,12 @@ pub record WritesRegister (caller d : ℕ) (s : State) (e : Entry) (t : State) :
   pub register : (touched_by e.cmd).register ≡ Some d
   pub done : is_refused e.reply ≡ false
 
--- what such a command puts there: what the register names that it copies, and else what its reply names
+-- what such a command stores there: what the register that it copies references, and else what its reply does
 abbrev pub put_in_register : State → ℕ → Cmd → Reply → Option Id
 put_in_register s caller cmd reply =
     option_map_or (register_of s caller) (touched_by cmd).copied (object_answered reply)
 
--- an object register names what the last command that wrote it put there
+-- an object register references what the last command that wrote it stored there
 abbrev pub RegisterIsReadBack : Type 0
 RegisterIsReadBack =
     (n : Numbers) (old now : State) (written : Entry) (caller d : ℕ)
@@ -221,20 +221,19 @@ RegisterIsReadBack =
     → WritesRegister caller d old written since.after
     → register_of now caller d ≡ put_in_register old caller written.cmd written.reply
 
--- what writes a handle register: a command of its caller that gives it a slot or empties it, if it is not
--- refused
+-- what writes a handle register: a command of its caller that has it as its destination, if it is not refused
 pub record WritesHandleRegister (caller d : ℕ) (s : State) (e : Entry) (t : State) : Type 0 where
   pub caller_is : e.caller ≡ caller
   pub register : (touched_by e.cmd).handle_register ≡ Some d
   pub done : is_refused e.reply ≡ false
 
--- what such a command puts there: what the board has in the place that it picks, nothing where it frees the
--- handle, and else the slot that it gives
+-- what such a command stores there: the slot at the board index that it picks, nothing where it frees the
+-- handle, and else the slot of its entry
 abbrev pub put_in_handle_register : State → Cmd → Option Slot → Option Slot
 put_in_handle_register s cmd slot =
     option_map_or (board_of s) (touched_by cmd).picked (if (touched_by cmd).frees_handle then None else slot)
 
--- a handle register has what the last command that wrote it put there
+-- a handle register has what the last command that wrote it stored there
 abbrev pub HandleRegisterIsReadBack : Type 0
 HandleRegisterIsReadBack =
     (n : Numbers) (old now : State) (written : Entry) (caller d : ℕ)
@@ -256,15 +255,15 @@ target_at s slot = option_and_then (λ (handle : Handle Id). handle.target) (han
 abbrev pub secondary_at : State → Slot → Option Id
 secondary_at s slot = option_and_then (λ (handle : Handle Id). secondary_of handle.extra) (handle_at s slot)
 
--- a collection that clears what a handle names: it was an object, and is null
+-- a collection that clears a target or a secondary: it was an object, and is null
 pub record Clears (part : State → Option Id) (s : State) (e : Entry) (t : State) : Type 0 where
   pub n : ℕ
   pub command : e.cmd ≡ cmd.Collect n
   pub was : IsSome (part s)
   pub now : part t ≡ None
 
--- what writes the target of the handle in a slot: `hset` of it, and `hfree`, which ends it; and a collection
--- that clears it. No `hnew` comes at a live slot.
+-- what writes the target of the handle in a slot: `hset` of it, `hfree` of it, and a collection that clears
+-- it. No `hnew` takes a live slot.
 pub data WritesTarget (slot : Slot) (s : State) (e : Entry) (t : State) : Type 0 where
   sets : (r : ℕ) → IsDoneOn (λ h. cmd.HSet h r) slot s e → WritesTarget slot s e t
   frees : IsDoneOn cmd.HFree slot s e → WritesTarget slot s e t
@@ -278,8 +277,8 @@ pub data GivesTarget (s : State) (e : Entry) (slot : Slot) : Option Id → Type 
   by_new : {d t : ℕ} {given : Make} → e.cmd ≡ cmd.HNew d given t → e.slot ≡ Some slot
       → GivesTarget s e slot (register_of s e.caller t)
 
--- after a done `hset` or `hnew` and entries that neither write the target nor end the handle, `hget` answers
--- what was named. So a target that collections leave is read back.
+-- after a done `hset` or `hnew` and entries that neither write the target nor free the handle, `hget` returns
+-- what was stored. So a target that no collection clears is read back.
 abbrev pub TargetIsReadBack : Type 0
 TargetIsReadBack =
     (n : Numbers) (old now new : State) (written reading : Entry) (slot : Slot) (v : Option Id) (d h : ℕ)
@@ -287,8 +286,8 @@ TargetIsReadBack =
     → written.reply ≡ reply.Done → Step n now reading new → reading.cmd ≡ cmd.HGet d h
     → handle_register_of now reading.caller h ≡ Some slot → reading.reply ≡ loaded v
 
--- what writes the secondary of the handle in a slot: `hsec` of it, `hset`, which makes it null, and `hfree`,
--- which ends it; and a collection that clears it
+-- what writes the secondary of the handle in a slot: `hsec` of it, `hset`, which makes it null, `hfree` of
+-- it, and a collection that clears it
 pub data WritesSecondary (slot : Slot) (s : State) (e : Entry) (t : State) : Type 0 where
   sets : (r : ℕ) → IsDoneOn (λ h. cmd.HSec h r) slot s e → WritesSecondary slot s e t
   sets_target : (r : ℕ) → IsDoneOn (λ h. cmd.HSet h r) slot s e → WritesSecondary slot s e t
@@ -302,8 +301,8 @@ pub data GivesSecondary (s : State) (e : Entry) (slot : Slot) : Option Id → Ty
   by_new : {d r t : ℕ} → e.cmd ≡ cmd.HNew d (make.Dependent r) t → e.slot ≡ Some slot
       → GivesSecondary s e slot (secondary_of (extra_of s e.caller (make.Dependent r) t))
 
--- after a done `hsec` or `hnew` and entries that neither write the secondary nor end the handle, `hdep`
--- answers what was named
+-- after a done `hsec` or `hnew` and entries that neither write the secondary nor free the handle, `hdep`
+-- returns what was stored
 abbrev pub SecondaryIsReadBack : Type 0
 SecondaryIsReadBack =
     (n : Numbers) (old now new : State) (written reading : Entry) (slot : Slot) (v : Option Id) (d h : ℕ)
@@ -315,7 +314,7 @@ SecondaryIsReadBack =
 abbrev pub HasExtra : State → Slot → Extra Id → Type 0
 HasExtra s slot extra = option_map (λ (handle : Handle Id). handle.extra) (handle_at s slot) ≡ Some extra
 
--- what writes the strength of the handle in a slot: `hvar` of it, and `hfree`, which ends it
+-- what writes the strength of the handle in a slot: `hvar` of it and `hfree` of it
 pub data WritesStrength (slot : Slot) (s : State) (e : Entry) (t : State) : Type 0 where
   sets : (given : Strength) → IsDoneOn (λ h. cmd.HVar h given) slot s e → WritesStrength slot s e t
   frees : IsDoneOn cmd.HFree slot s e → WritesStrength slot s e t
@@ -327,7 +326,7 @@ pub data GivesStrength (s : State) (e : Entry) (slot : Slot) : Strength → Type
   by_new : {d t : ℕ} {given : Strength} → e.cmd ≡ cmd.HNew d (make.Variable given) t → e.slot ≡ Some slot
       → GivesStrength s e slot given
 
--- after a done `hvar` or `hnew` and entries that neither write the strength nor end the handle, the handle
+-- after a done `hvar` or `hnew` and entries that neither write the strength nor free the handle, the handle
 -- has it
 abbrev pub StrengthIsKept : Type 0
 StrengthIsKept =
@@ -335,13 +334,13 @@ StrengthIsKept =
     → Since n (WritesStrength slot) old written now → GivesStrength old written slot given
     → written.reply ≡ reply.Done → HasExtra now slot (strength given)
 
--- what writes the count of the handle in a slot: `hup` and `hdown` of it, and `hfree`, which ends it
+-- what writes the count of the handle in a slot: `hup`, `hdown` and `hfree` of it
 pub data WritesCount (slot : Slot) (s : State) (e : Entry) (t : State) : Type 0 where
   raises : IsDoneOn cmd.HUp slot s e → WritesCount slot s e t
   lowers : IsDoneOn cmd.HDown slot s e → WritesCount slot s e t
   frees : IsDoneOn cmd.HFree slot s e → WritesCount slot s e t
 
--- what gives the handle in a slot a count: `hup` and `hdown`, which answer it, and the `hnew` that makes it
+-- what gives the handle in a slot a count: `hup` and `hdown`, which return it, and the `hnew` that makes it
 -- with 1
 pub data GivesCount (s : State) (e : Entry) (slot : Slot) : ℕ → Type 0 where
   by_up : {h c : ℕ} → e.cmd ≡ cmd.HUp h → handle_register_of s e.caller h ≡ Some slot
@@ -351,16 +350,16 @@ pub data GivesCount (s : State) (e : Entry) (slot : Slot) : ℕ → Type 0 where
   by_new : {d t : ℕ} → e.cmd ≡ cmd.HNew d make.Counted t → e.slot ≡ Some slot → e.reply ≡ reply.Done
       → GivesCount s e slot 1
 
--- what `hdown` answers on a count
+-- what `hdown` returns on a count
 abbrev pub lowered_answer : ℕ → Reply
 lowered_answer c = if c == 0 then reply.Refused refusal.CountZero else reply.Value (c - 1)
 
--- what `hup` and `hdown` answer on a count
+-- what `hup` and `hdown` return on a count
 pub record AnswersCount (c h : ℕ) (e : Entry) : Type 0 where
   pub up : e.cmd ≡ cmd.HUp h → e.reply ≡ reply.Value (c + 1)
   pub down : e.cmd ≡ cmd.HDown h → e.reply ≡ lowered_answer c
 
--- after one of these and entries that neither write the count nor end the handle, `hup` and `hdown` answer
+-- after one of these and entries that neither write the count nor free the handle, `hup` and `hdown` count
 -- from it
 abbrev pub CountIsReadBack : Type 0
 CountIsReadBack =
@@ -373,8 +372,8 @@ pub record MakesIn (slot : Slot) (s : State) (e : Entry) (t : State) : Type 0 wh
   pub makes : makes_handle e.cmd e.reply ≡ true
   pub given : e.slot ≡ Some slot
 
--- after a done `hfree` and entries none of which makes a handle in the slot, each command on the slot answers
--- that it is not live
+-- after a done `hfree` and entries none of which makes a handle in the slot, each command on the slot is
+-- refused as not live
 abbrev pub FreedIsNotLive : Type 0
 FreedIsNotLive =
     (n : Numbers) (old now new : State) (written reading : Entry) (slot : Slot) (h : ℕ)
@@ -382,8 +381,8 @@ FreedIsNotLive =
     → (touched_by reading.cmd).handle ≡ Some h → handle_register_of now reading.caller h ≡ Some slot
     → reading.reply ≡ reply.Refused refusal.NotLive
 
--- two runs of the same lists of commands, each of one caller after another, and no address is asked for,
--- which is the one answer that a script does not determine
+-- two runs of the same lists of commands, each of one caller after another, and without `addr`, whose reply
+-- alone a script does not determine
 pub record AreAlike (n : Numbers) (j k : List Entry) (s t : State) : Type 0 where
   pub first : SoloRun n j s
   pub second : SoloRun n k t

@@ -21,8 +21,11 @@ pub mod Ages
 pub mod Marking
 pub mod Names
 pub mod Moving
+pub mod InUse
+pub mod DueClumps
 pub mod CollectionLaws
 pub mod CollectionExamples
+pub mod CollectionSamples
 pub mod Heap
 pub mod Table
 pub mod Visits
@@ -32,5 +35,7 @@ pub mod CommandText
 pub mod RootText
 pub mod RootExamples
 pub mod Laws
+pub mod UserLaws
+pub mod Constants
 pub mod StepExamples
 pub mod Generated

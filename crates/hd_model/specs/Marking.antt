@@ -1,5 +1,5 @@
--- What a marker and a forwarding promise, whatever they are made of. They are this project's own, after the
--- mark and the plan phase of CoreCLR's collector.
+-- What a marker and a forwarding state, whatever their layout: after the mark and the plan phase of CoreCLR's
+-- collector.
 use Rattle.std.specs.Prelude.{◌≡◌, ℕ, ◌<◌, ◌⊎◌, Bool, true}
 use Rattle.hd_model.specs.Leads.{IsClosed}
 use Rattle.hd_model.specs.Scene.{Objects, is_object, generation_at, IsYoungField}
@@ -10,8 +10,8 @@ pub record IsSettled {N : Type 0} (o : Objects N) (n : ℕ) (promoted : N → Bo
   pub older : (x : N) → n < generation_at o x → promoted x ≡ true
   pub closed : IsClosed (IsYoungField o n) promoted
 
--- what is kept, and where it goes: objects alone, all of an older generation and in place, and no two to one
--- place
+-- what is kept, and its forwarding address: objects alone, all of an older generation, which do not move, and
+-- no two to one address
 pub record IsKeeping {N : Type 0} (o : Objects N) (n : ℕ) (kept : N → Bool) (place : N → N) : Type 0 where
   pub objects : (x : N) → kept x ≡ true → is_object o x ≡ true
   pub older : (x : N) → n < generation_at o x → kept x ≡ true

@@ -1,5 +1,5 @@
--- The addresses that the machine answers, its places. A place is answered only for an object that a handle
--- pins (.NET's GCHandle.AddrOfPinnedObject), and it stands while a handle pins the object.
+-- The pinned addresses of the machine. `addr` returns one only for an object that a handle pins (.NET's
+-- GCHandle.AddrOfPinnedObject), and the object keeps it while a handle pins it.
 use Rattle.std.specs.Prelude.{◌≡◌, ℕ, ◌+◌, ◌<◌, ◌^◌, ◌==◌, ◌&&◌, Bool, false, Option, Some, None}
 use Rattle.std.specs.List.{list_any}
 use Rattle.std.specs.Option.{MatchOption}
@@ -9,8 +9,7 @@ use Rattle.hd_model.specs.declared.data.Id.{Id}
 use Rattle.hd_model.specs.State.{Object, Handle, State, object_by_id, size_of}
 use Rattle.hd_model.specs.Role.{pins}
 
--- the cells of an object that begins at a place: the first one, and the first one after them (this project's
--- own)
+-- the cells of an object at an address: the first one, and the first one after them (this project's own)
 pub record Range : Type 0 where
   pub first : ℕ
   pub end : ℕ
@@ -18,31 +17,31 @@ pub record Range : Type 0 where
 abbrev pub range_at : {N : Type 0} → ℕ → Object N → Range
 range_at place object = record { first = place; end = place + size_of object }
 
--- two ranges have a cell in common. Ranges that only touch do not meet.
+-- two ranges share a cell; ranges that only touch do not
 pub record Meet (a b : Range) : Type 0 where
   pub left : a.first < b.end
   pub right : b.first < a.end
 
--- a place for an object without one: any below 2^32 from where its range meets the range of no other place
+-- a free address for an object: below 2^32, and there its cells are apart from those of every pinned address
 pub record IsFreePlace (s : State) (x : Id) (place : ℕ) : Type 0 where
   pub small : place < 2 ^ 32
   pub apart :
       (y : Id) (other : ℕ) → get s.places y.0 ≡ Some other
       → Meet (range_at place (object_by_id s x)) (range_at other (object_by_id s y)) → ⊥
 
--- what `addr` may answer for an object: its place where it has one, and else a free place
+-- what `addr` may return for an object: its pinned address where it has one, and else a free address
 abbrev pub MayAnswer : State → Id → ℕ → Type 0
 MayAnswer s x place = MatchOption (get s.places x.0) (IsFreePlace s x place) (λ own. place ≡ own)
 
--- whether a target is the object with an identity, by its number
+-- whether a target has an identity, given as a number
 abbrev pub is_target : ℕ → Option Id → Bool
 is_target x None = false
 is_target x (Some y) = y.0 == x
 
--- whether some handle pins the object with an identity, by its number
+-- whether some handle pins the object with an identity, given as a number
 abbrev pub is_pinned : FinMap nat_cmp (Handle Id) → ℕ → Bool
 is_pinned handles x = list_any (λ h. pins h && is_target x h.target) (values handles)
 
--- the state with other places
+-- the state with other pinned addresses
 abbrev pub with_places : State → FinMap nat_cmp ℕ → State
 with_places s places = record s { places = places }

@@ -14,7 +14,7 @@ pub record IsAttached {N : Type 0} (rows : Rows N) (x y : N) : Type 0 where
   pub target : handle.target ≡ Some x
   pub secondary : secondary_of handle.extra ≡ Some y
 
--- an arrow from x to y, along which a collection keeps y where it keeps x: y stands in a field of x, or a
+-- an edge from x to y, along which a collection keeps y where it keeps x: a field of x references y, or a
 -- dependent handle attaches y to x (DependentHandle: the dependent lives while the target does)
 abbrev pub IsArrow : {N : Type 0} → Objects N → Rows N → N → N → Type 0
 IsArrow o rows x y = IsField o x y ⊎ IsAttached rows x y
@@ -35,21 +35,21 @@ pub record IsPinned {N : Type 0} (rows : Rows N) (x : N) : Type 0 where
   pub pins : pins handle ≡ true
   pub target : handle.target ≡ Some x
 
--- a root of n: what registers and statics name, what waits for finalisation, what a handle holds, and every
--- object of a generation above n (.NET keeps older generations whole; taking each of their objects as a root
--- says so)
+-- a root of n: what registers and statics reference, what is queued for finalization, what a handle holds,
+-- and every object of a generation above n (.NET keeps older generations whole: each of their objects is a
+-- root)
 pub data IsRoot {N : Type 0} (s : Scene N) (n : ℕ) (x : N) : Type 0 where
   named : Contains s.named (Some x) → IsRoot s n x
   queued : Contains s.queue x → IsRoot s n x
   held : IsHeld s.handle x → IsRoot s n x
   older : n < generation_at s.object x → IsRoot s n x
 
--- a chain of arrows leads to x from a root
+-- a chain of edges leads to x from a root
 abbrev pub IsReached : {N : Type 0} → Scene N → ℕ → N → Type 0
 IsReached {N} s n x = (r : N) × (IsRoot s n r × Leads (IsArrow s.object s.handle) r x)
 
--- x is revived: it is registered for finalisation, condemned and not reached (.NET's finalisation: such an
--- object is made reachable again, to be finalised)
+-- x is resurrected: it is registered for finalization, condemned and not reached (.NET makes such an object
+-- reachable again, to be finalized)
 pub record IsRevived {N : Type 0} (s : Scene N) (n : ℕ) (x : N) : Type 0 where
   pub object : Object N
   pub stands : s.object x ≡ Some object
@@ -57,6 +57,6 @@ pub record IsRevived {N : Type 0} (s : Scene N) (n : ℕ) (x : N) : Type 0 where
   pub young : object.generation ≤ n
   pub lost : IsReached s n x → ⊥
 
--- a chain of arrows leads to x from what is reached or revived
+-- a chain of edges leads to x from what is reached or resurrected
 abbrev pub IsKept : {N : Type 0} → Scene N → ℕ → N → Type 0
 IsKept {N} s n x = (r : N) × ((IsReached s n r ⊎ IsRevived s n r) × Leads (IsArrow s.object s.handle) r x)

@@ -7,9 +7,9 @@ use Rattle.hd_model.specs.declared.data.Strength.{Strength}
 use Rattle.hd_model.specs.declared.data.Strength.TheVariants as strength_of
 use Rattle.hd_model.specs.State.{Extra, nothing, strength, secondary, count, Handle}
 
--- a handle keeps its target, loses a target that is not reached (before finalisation), loses one that is not
--- kept (after it), or gives its target an arrow to its secondary. These are the strong, weak short, weak long
--- and dependent handle types of CoreCLR's objecthandle.h.
+-- a handle keeps its target, loses a target that is not reached (before finalization), loses one that is not
+-- kept (after it), or is an edge from its target to its secondary. These are the strong, weak short, weak
+-- long and dependent handle types of CoreCLR's objecthandle.h.
 pub data Role : Type 0 where
   holds : Role
   short : Role

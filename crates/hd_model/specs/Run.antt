@@ -38,14 +38,14 @@ pub record IsLeastAllFree (s : State) (kind : Kind) (block : ℕ) : Type 0 where
 abbrev pub NoneAllFree : State → Kind → Type 0
 NoneAllFree s kind = (block : ℕ) → IsAllFree s kind block → ⊥
 
--- `hnew` gives the least free slot of the kind without growth; only where there is none does the table grow,
--- or is found full
+-- `hnew` gives the least free slot of the kind without growth; only where there is none the table grows, or
+-- the command is refused
 abbrev pub GivesLeast : State → Entry → Kind → Type 0
 GivesLeast s e kind =
     ((slot : Slot) × IsLeastFree s kind slot × (e.slot ≡ Some slot) × (e.grown ≡ Zero)) ⊎ NoneFree s kind
 
--- `trim` gives back the least block of the kind whose slots are all free; only where there is none does it
--- give back none
+-- `trim` gives back the least block of the kind whose slots are all free; it gives back none only where there
+-- is no such block
 abbrev pub GivesBackLeast : State → Entry → Kind → Type 0
 GivesBackLeast s e kind =
     ((block : ℕ) × IsLeastAllFree s kind block × (e.grown ≡ Back block)) ⊎ NoneAllFree s kind

@@ -1,5 +1,5 @@
--- What a collection looks at: objects by name, handles by slot, what registers and statics name, and the
--- queue. A name is an identity in the machine and an address in a heap; each definition of a collection is
+-- What a collection looks at: objects by name, handles by slot, what registers and statics reference, and the
+-- queue. A name is an identity in the machine and an address in a heap: each definition of a collection is
 -- written once for both.
 use Rattle.std.specs.Prelude.{◌≡◌, ℕ, ◌≤◌, Bool, true, List, [], ◌++◌, ◌∷◌, Option, Some, None, is_some, option_map, map, Contains}
 use Rattle.std.specs.FinMap.{get}
@@ -14,20 +14,20 @@ Objects N = N → Option (Object N)
 abbrev pub Rows : Type 0 → Type 0
 Rows N = ℕ → Option (Handle N)
 
--- objects, handles, what registers and statics name (.NET's stack and static roots), and what waits for
--- finalisation, in order
+-- objects, handles, what registers and statics reference (.NET's stack and static roots), and the
+-- finalization queue
 pub record Scene (N : Type 0) : Type 0 where
   pub object : N → Option (Object N)
   pub handle : ℕ → Option (Handle N)
   pub named : List (Option N)
   pub queue : List N
 
--- all lists in a row
+-- the lists concatenated
 abbrev pub joined : {A : Type 0} → List (List A) → List A
 joined [] = []
 joined (xs ∷ xss) = xs ++ joined xss
 
--- the scene of the machine: all callers' object registers and then the statics are in a row
+-- the scene of the machine: all callers' object registers and then the statics are one list
 abbrev pub scene_of : State → Scene Id
 scene_of s = record {
   object = λ x. get s.objects x.0;
@@ -40,7 +40,7 @@ scene_of s = record {
 abbrev pub is_object : {N : Type 0} → Objects N → N → Bool
 is_object o x = is_some (o x)
 
--- the fields and the generation of what stands under a name: none and 0 where there is no object
+-- the fields and the generation of the object with a name: none and 0 where there is no object
 abbrev pub fields_in : {N : Type 0} → Option (Object N) → List (Option N)
 fields_in None = []
 fields_in (Some o) = o.fields
@@ -61,11 +61,11 @@ pub record IsCondemned {N : Type 0} (o : Objects N) (n : ℕ) (x : N) : Type 0 w
   pub object : is_object o x ≡ true
   pub young : generation_at o x ≤ n
 
--- y stands in a field of x
+-- a field of x references y
 abbrev pub IsField : {N : Type 0} → Objects N → N → N → Type 0
 IsField o x y = Contains (fields_at o x) (Some y)
 
--- y stands in a field of x, which is condemned
+-- a field of x references y, and x is condemned
 pub record IsYoungField {N : Type 0} (o : Objects N) (n : ℕ) (x y : N) : Type 0 where
   pub condemned : IsCondemned o n x
   pub field : IsField o x y
@@ -86,8 +86,8 @@ pub record IsWhole {N : Type 0} (s : Scene N) : Type 0 where
   pub fits : (slot : ℕ) (h : Handle N) (x : N) → s.handle slot ≡ Some h → secondary_of h.extra ≡ Some x
       → role h ≡ attaches
 
--- t is s with each name x called f x: objects keep their contents but for names, and two objects are not
--- called the same
+-- t is s with each name x replaced by f x: objects keep their contents but for names, and no two objects get
+-- one name
 pub record IsReading {N M : Type 0} (f : N → M) (s : Scene N) (t : Scene M) : Type 0 where
   pub objects : (x : N) → is_object s.object x ≡ true
       → t.object (f x) ≡ option_map (rename_object f) (s.object x)

@@ -1,5 +1,5 @@
--- The state of the plain handle machine: objects by identity, handles by slot, and what names them. It has no
--- cells, addresses, regions, masks or threads.
+-- The state of the plain handle machine: objects by identity, handles by slot, and what references them. It
+-- has no cells, addresses, regions, masks or threads.
 use Rattle.std.specs.Prelude.{◌≡◌, ℕ, ◌+◌, ◌*◌, ◌/◌, ◌^◌, Bool, false, List, [], replicate, length, sum_by, slice_index, slice_index_or, slice_set, Option, Some, None, unwrap_or, option_map, map}
 use Rattle.std.specs.FinMap.{FinMap, get, insert, remove, empty, values, len}
 use Rattle.std.specs.Ordering.{nat_cmp}
@@ -15,10 +15,10 @@ pub record Numbers : Type 0 where
   pub blocks : ℕ
   pub callers : ℕ
 
--- What an object is called is a name of some type N: an identity in the machine, an address in a heap.
+-- An object is referenced by a name of some type N: an identity in the machine, an address in a heap.
 
 -- an object: its fields, each a name or null, its value, its generation, and whether it is registered for
--- finalisation (.NET's generations and finalisers)
+-- finalization (.NET's generations and finalizers)
 pub record Object (N : Type 0) : Type 0 where
   pub fields : List (Option N)
   pub value : ℕ
@@ -33,13 +33,13 @@ pub data Extra (N : Type 0) : Type 0 where
   secondary : Option N → Extra N
   count : ℕ → Extra N
 
--- a handle: its kind, the object that it names or null, and its extra (.NET's GCHandle and DependentHandle)
+-- a handle: its kind, its target or null, and its extra (.NET's GCHandle and DependentHandle)
 pub record Handle (N : Type 0) : Type 0 where
   pub kind : Kind
   pub target : Option N
   pub extra : Extra N
 
--- the object or null that an extra has as a secondary
+-- the secondary of an extra, or null
 abbrev pub secondary_of : {N : Type 0} → Extra N → Option N
 secondary_of nothing = None
 secondary_of (strength _) = None
@@ -60,7 +60,7 @@ without_secondary (strength s) = strength s
 without_secondary (secondary o) = secondary None
 without_secondary (count c) = count c
 
--- the same extra, object and handle, where each object x is called f x
+-- the same extra, object and handle, where each name x is replaced by f x
 abbrev pub rename_extra : {N M : Type 0} → (N → M) → Extra N → Extra M
 rename_extra f nothing = nothing
 rename_extra f (strength s) = strength s
@@ -85,8 +85,8 @@ pub data BlockUse : Type 0 where
   extra_data : BlockUse
 
 -- the state of a run: objects by the number of their identity, handles by the number of their slot, registers
--- by caller and number, the statics and the board that all callers share, the finalisation queue, the
--- addresses that were answered, the use of each block that has one, and each caller's last serial
+-- by caller and number, the statics and the board that all callers share, the finalization queue, the pinned
+-- addresses that `addr` returned, the use of each block that has one, and each caller's last serial
 pub record State : Type 0 where
   pub objects : FinMap nat_cmp (Object Id)
   pub handles : FinMap nat_cmp (Handle Id)
@@ -99,7 +99,7 @@ pub record State : Type 0 where
   pub blocks : FinMap nat_cmp BlockUse
   pub serials : List ℕ
 
--- nothing is made yet: each register, static and board place is null or empty, and no caller has made an
+-- nothing is made yet: each register, static and board index is null or empty, and no caller has made an
 -- object
 abbrev pub start_of : Numbers → State
 start_of n = record {
@@ -115,7 +115,7 @@ start_of n = record {
   serials = replicate n.callers 0;
 }
 
--- what a caller's object register names: an object, or null
+-- what a caller's object register references, or null
 abbrev pub register_of : State → ℕ → ℕ → Option Id
 register_of s caller d = slice_index_or (slice_index_or s.registers caller []) d None
 
@@ -123,11 +123,11 @@ register_of s caller d = slice_index_or (slice_index_or s.registers caller []) d
 abbrev pub handle_register_of : State → ℕ → ℕ → Option Slot
 handle_register_of s caller d = slice_index_or (slice_index_or s.handle_registers caller []) d None
 
--- what a static names
+-- what a static references
 abbrev pub static_of : State → ℕ → Option Id
 static_of s k = slice_index_or s.statics k None
 
--- what a place of the board has
+-- the slot at a board index
 abbrev pub board_of : State → ℕ → Option Slot
 board_of s k = slice_index_or s.board k None
 
@@ -185,7 +185,7 @@ IsAllFree s kind block = (slot : Slot) → block_of slot ≡ block → IsFree s 
 abbrev pub identity_of : ℕ → ℕ → Id
 identity_of caller serial = record { 0 = caller * 2 ^ 32 + serial }
 
--- the state with another value in one place
+-- the state with another value in one part
 abbrev pub with_register : State → ℕ → ℕ → Option Id → State
 with_register s caller d v =
     let row = slice_index_or s.registers caller [] in

@@ -1,6 +1,6 @@
--- One step of the machine: from a state, an entry may stand in the journal and leave another state. A step is
--- decided by the state and the command, but for the slot and the blocks of a new handle, the place that
--- `addr` answers, and whether `trim` gives a block back.
+-- One step of the machine: from one state, an entry of the journal leads to another. The state and the
+-- command decide it, but for the slot and the blocks of a new handle, the address that `addr` returns, and
+-- whether `trim` gives a block back.
 use Rattle.std.specs.Prelude.{◌≡◌, ℕ, ◌+◌, ◌<◌, ◌≤◌, ◌^◌, ◌⊎◌, true, false, cond, Option, Some, None, IsSome, option_and_then}
 use Rattle.hd_model.specs.declared.data.Id.{Id}
 use Rattle.hd_model.specs.declared.data.Entry.{Entry}
@@ -42,8 +42,8 @@ pub record IsLeastUnused (n : Numbers) (s : State) (from block : ℕ) : Type 0 w
   pub unused : use_of s block ≡ None
   pub least : (other : ℕ) → from ≤ other → other < block → IsSome (use_of s other)
 
--- which slot a new handle may get. Without growth it is a free one of its kind. Else the table grows by the
--- least unused block, with the next one for its extra data, and the slot is the block's first.
+-- the slot that a new handle may get. Without growth it is a free one of its kind. Else the table grows by
+-- the least unused block, with the next one for its extra data, and the slot is the block's first.
 abbrev pub MayGive : Numbers → State → Kind → Grown → Slot → Type 0
 MayGive n s kind Zero slot = IsFree s kind slot
 MayGive n s kind (One block) slot =
@@ -60,7 +60,7 @@ with_growth s kind (One block) = with_use s block (handles_of kind)
 with_growth s kind (Two block other) = with_use (with_use s block (handles_of kind)) other extra_data
 with_growth s kind (Back block) = without_use s block
 
--- the state with a new handle in a slot, in a table that grew, and hD has the slot
+-- the state with a new handle in a slot, in a table that grew, and with the slot in hD
 abbrev pub with_made : State → ℕ → Grown → ℕ → Make → ℕ → Slot → State
 with_made s caller grown d make t slot =
     let room = with_growth s (kind_of make) grown in
@@ -75,7 +75,7 @@ pub record MakesHandle (n : Numbers) (old : State) (e : Entry) (new : State)
   pub reply : e.reply ≡ reply.Done
   pub after : new ≡ with_made old e.caller e.grown d make t slot
 
--- `hnew` is refused, and may be only where fewer blocks are without a use than the kind needs
+-- `hnew` is refused, which it may be only where fewer blocks are unused than the kind needs
 pub record FindsTableFull (n : Numbers) (old : State) (e : Entry) (new : State) (kind : Kind) : Type 0 where
   pub few : n.blocks < given_of old + blocks_needed kind
   pub refused : IsOutcome e (refuses (refusal.TableFull (given_of old)) old) new
@@ -89,7 +89,7 @@ abbrev pub pinned_target : State → ℕ → ℕ → Option Id
 pinned_target s caller h =
     option_and_then (λ slot. pinned_by (handle_at s slot)) (handle_register_of s caller h)
 
--- `addr` answers a place that it may answer for what the handle pins, or is refused
+-- `addr` returns an address that it may return for what the handle pins, or is refused
 -- (GCHandle.AddrOfPinnedObject)
 pub record AnswersPlace (old : State) (e : Entry) (new : State) (h : ℕ) : Type 0 where
   pub place : ℕ

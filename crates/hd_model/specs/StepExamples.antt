@@ -1,4 +1,4 @@
--- Examples of what steps answer and give, each proved by computing.
+-- Examples of what steps return and give, each proved by computing.
 use Rattle.std.specs.Fmt.{digits}
 use Rattle.std.specs.Prelude.{◌≡◌, codes, None, refl}
 use Rattle.hd_model.specs.declared.data.Make.TheVariants as make
@@ -63,7 +63,7 @@ module _ (n : Numbers) where
   pub counted_at_one : extra_of (start_of n) 0 make.Counted 0 ≡ count 1
   counted_at_one = refl
 
-  -- at the start nothing is queued, no object is named, and handle registers are empty
+  -- at the start nothing is queued, no register references an object, and handle registers are empty
   pub none_queued_at_first : (take_queued (start_of n) 0 3).reply ≡ reply.NoneQueued
   none_queued_at_first = refl
 

@@ -1,6 +1,6 @@
 -- The table of handles as its users see it: rows by slot, blocks, and chains of blocks by kind; and the
--- finalisation queue. Blocks of 64,
--- their chains and their numbers are this project's own, after CoreCLR's segments in outline.
+-- finalization queue. Blocks of 64, their chains and their numbers are this project's own, after CoreCLR's
+-- segments in outline.
 use Rattle.std.specs.Prelude.{◌≡◌, ◌≢◌, ◌↔◌, ℕ, ◌+◌, ◌*◌, ◌/◌, ◌<◌, ◌≤◌, ◌==◌, not, Bool, true, false, List, [], ◌∷◌, ◌++◌, length, replicate, filter, slice_index_or, slice_set, Option, Some, None, IsSome, unwrap_or, Contains, AllPairs}
 use Rattle.std.specs.FinMap.{FinMap, get, insert, remove, empty, len}
 use Rattle.std.specs.Ordering.{nat_cmp}
@@ -16,8 +16,8 @@ use Rattle.hd_model.specs.Scene.{Rows}
 use Rattle.hd_model.specs.Step.{blocks_needed}
 
 -- the live rows by the number of their slot, each with the kind of its block; for each kind, by its number,
--- the blocks of its handles in the
--- order of their chain; the use of each block that has one; and the number of blocks
+-- the blocks of its handles in the order of their chain; the use of each block that has one; and the number
+-- of blocks
 pub record Table : Type 0 where
   pub rows : FinMap nat_cmp (Handle Addr)
   pub chains : List (List ℕ)
@@ -32,13 +32,13 @@ row_at t slot = get t.rows slot
 abbrev pub chain_of : Table → Kind → List ℕ
 chain_of t k = slice_index_or t.chains (kind_number k) []
 
--- the finalisation queue: the addresses of what waits, the first to go first, and for how many objects it has
--- room
+-- the finalization queue: the addresses of the queued objects, first in first out, and the number of objects
+-- that it has room for
 pub record Queue : Type 0 where
   pub waiting : List Addr
   pub room : ℕ
 
--- the table at first: no block has a use
+-- the table at the start: no block has a use
 abbrev pub empty_table : ℕ → Table
 empty_table blocks = record { rows = empty; chains = replicate KINDS []; uses = empty; blocks = blocks }
 
@@ -68,8 +68,7 @@ is_secondary (secondary _) = true
 is_secondary (count _) = false
 
 -- whether an extra is one of a kind: a variable handle has a strength, a ref-counted one a count, a dependent
--- one a secondary, and any other
--- has nothing (CoreCLR's extra info by handle type)
+-- one a secondary, and any other has nothing (CoreCLR's extra info by handle type)
 abbrev pub fits : {N : Type 0} → Kind → Extra N → Bool
 fits kind.Short e = is_nothing e
 fits kind.Long e = is_nothing e
@@ -79,9 +78,9 @@ fits kind.Variable e = is_strength e
 fits kind.Counted e = is_count e
 fits kind.Dependent e = is_secondary e
 
--- what a use says: the kind of a block of handles, where another block answers Short; whether it is one;
--- whether an extra is one of its
--- kind; and whether it is one of a kind without extra data, which alone is given back
+-- what a use says: the kind of a block of handles, or Short for any other block; whether it is a block of
+-- handles; whether an extra fits its kind; and whether its kind has no extra data, as only such a block is
+-- given back
 abbrev pub kind_in : Option BlockUse → Kind
 kind_in None = kind.Short
 kind_in (Some (handles_of k)) = k
@@ -117,7 +116,7 @@ kind_at t block = kind_in (get t.uses block)
 abbrev pub live_at : Table → ℕ → Handle Addr
 live_at t slot = unwrap_or (get t.rows slot) (record { kind = kind.Short; target = None; extra = nothing })
 
--- the table with a handle in a slot, and with none
+-- the table with a handle in a slot, and without the handle
 abbrev pub with_row : Table → ℕ → Handle Addr → Table
 with_row t slot h = record t { rows = insert t.rows slot h }
 
@@ -165,7 +164,7 @@ grown_by t k (One block) = with_block t k block
 grown_by t k (Two block other) = with_data (with_block t k block) other
 grown_by t k (Back block) = t
 
--- a live row stands in a block of its kind and has an extra of that kind
+-- a live row is in a block of its kind and has an extra of that kind
 pub record IsPlacedRow (t : Table) (slot : ℕ) (h : Handle Addr) : Type 0 where
   pub block : get t.uses (slot / ROWS) ≡ Some (handles_of h.kind)
   pub fits : fits h.kind h.extra ≡ true
@@ -173,8 +172,7 @@ pub record IsPlacedRow (t : Table) (slot : ℕ) (h : Handle Addr) : Type 0 where
   pub high : slot < ROWS * (t.blocks + 1)
 
 -- what is true of every table: each live row is in a block of its kind and has an extra of that kind; a block
--- with a use is one of the
--- table's; each chain has exactly the blocks of its kind, each once
+-- with a use is one of the table's; each chain has exactly the blocks of its kind, each once
 pub record IsTable (t : Table) : Type 0 where
   pub limit : t.blocks ≤ BLOCKS
   pub rows : (slot : ℕ) (h : Handle Addr) → get t.rows slot ≡ Some h → IsPlacedRow t slot h

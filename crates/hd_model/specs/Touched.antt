@@ -6,15 +6,15 @@ use Rattle.hd_model.specs.State.{State}
 
 -- the row of a command
 pub record Touched : Type 0 where
-  -- the object register that it writes, and the one that it copies there as it stands
+  -- the object register that it writes, and the one that it copies there
   pub register : Option ℕ
   pub copied : Option ℕ
-  -- the handle register that it gives a slot or empties, and the place of the board whose slot goes there
+  -- the handle register that it writes, and the board index whose slot it copies there
   pub handle_register : Option ℕ
   pub picked : Option ℕ
-  -- the handle register on whose handle it works
+  -- the handle register whose handle it is about
   pub handle : Option ℕ
-  -- the static and the place of the board that it writes
+  -- the static and the board index that it writes
   pub static : Option ℕ
   pub board : Option ℕ
   -- whether it may change these parts of the state

@@ -17,8 +17,8 @@ IsValidMake (make.Variable strength) = Unit {0}
 IsValidMake make.Counted = Unit {0}
 IsValidMake (make.Dependent s) = s < REGISTERS
 
--- registers and places are below 16, fields at most 61, a generation at most 2, numbers below the end of
--- their type, and the kind of a `trim` has no extra data
+-- registers, statics and board indexes are below 16, fields at most 61, a generation at most 2, numbers below
+-- the end of their type, and the kind of a `trim` has no extra data
 abbrev pub IsValid : Cmd → Type 0
 IsValid (cmd.New d fields fin) = (d < REGISTERS) × (fields ≤ FIELDS)
 IsValid (cmd.Set o i v) = (o < REGISTERS) × (i < 256) × (v < REGISTERS)

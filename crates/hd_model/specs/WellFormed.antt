@@ -8,12 +8,11 @@ use Rattle.hd_model.specs.declared.limits.TheConstants.{REGISTERS, FIELDS, OLDES
 use Rattle.hd_model.specs.Kinds.{is_paired}
 use Rattle.hd_model.specs.State.{Numbers, Object, Extra, nothing, strength, secondary, count, Handle, State, handles_of, secondary_of, register_of, static_of, last_serial, field_of, use_of}
 
--- an identity or null names an object of the state, or nothing
+-- null, or the identity of an object of the state
 abbrev pub Names : State → Option Id → Type 0
 Names s o = IfSome o (λ id. IsSome (get s.objects id.0))
 
--- each caller has 16 registers of each sort and a last serial, and there are 16 statics and 16 places on the
--- board
+-- each caller has 16 registers of each sort and a last serial, and there are 16 statics and 16 board indexes
 pub record HasShape (n : Numbers) (s : State) : Type 0 where
   pub registers : length s.registers ≡ n.callers
   pub each_registers : (c : ℕ) → c < n.callers → length (slice_index_or s.registers c []) ≡ REGISTERS
@@ -24,8 +23,8 @@ pub record HasShape (n : Numbers) (s : State) : Type 0 where
   pub board : length s.board ≡ REGISTERS
   pub serials : length s.serials ≡ n.callers
 
--- all that has an identity names an object: fields, registers, statics, the targets and secondaries of
--- handles, the queue and the places
+-- every identity in use is that of an object: in fields, registers, statics, targets and secondaries of
+-- handles, the queue and the pinned addresses
 pub record NamesStand (s : State) : Type 0 where
   pub fields :
       (id : ℕ) (object : Object Id) → get s.objects id ≡ Some object → (i : ℕ) → Names s (field_of object i)
@@ -58,8 +57,8 @@ FitsKind k (strength given) = k ≡ kind.Variable
 FitsKind k (secondary o) = k ≡ kind.Dependent
 FitsKind k (count c) = k ≡ kind.Counted
 
--- a handle stands in a block of its kind with the extra of its kind, a handle without a target has no
--- secondary, and a block in use is one of the table
+-- a handle is in a block of its kind with the extra of its kind, a handle without a target has no secondary,
+-- and a block in use has a number of the table's
 pub record HasHandles (n : Numbers) (s : State) : Type 0 where
   pub kinds :
       (slot : ℕ) (handle : Handle Id) → get s.handles slot ≡ Some handle

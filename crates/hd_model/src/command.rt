@@ -3,12 +3,12 @@ ghost use Rattle.hd_model.specs.Valid.{takes_memory};
 
 use crate::data::{Kind, Make, Strength};
 
-/// A command of a script. The registers and places of a valid one are below 16, its number of
-/// fields is at most 61, and its generation at most 2.
+/// A command of a script. The registers and board indexes of a valid one are below 16, its number
+/// of fields is at most 61, and its generation at most 2.
 #[derive(Clone, Copy, Debug, PartialEq, Eq)]
 pub enum Cmd {
     /// `new rD F` or `new rD F fin`: makes an object with F null fields, with `fin` registered for
-    /// finalisation.
+    /// finalization.
     New { d: u8, fields: u8, fin: bool },
     /// `set rO i rV`: field i of rO gets rV.
     Set { o: u8, i: u8, v: u8 },
@@ -16,7 +16,7 @@ pub enum Cmd {
     Get { d: u8, o: u8, i: u8 },
     /// `val rO n`: the value of rO becomes n.
     Val { o: u8, n: u64 },
-    /// `read rO`: answers the value of rO.
+    /// `read rO`: returns the value of rO.
     Read { o: u8 },
     /// `copy rD rS`: rD gets rS.
     Copy { d: u8, s: u8 },
@@ -26,13 +26,13 @@ pub enum Cmd {
     SPut { k: u8, s: u8 },
     /// `sget rD k`: rD gets static k.
     SGet { d: u8, k: u8 },
-    /// `gen rS`: answers the generation of rS.
+    /// `gen rS`: returns the generation of rS.
     Gen { s: u8 },
-    /// `suppress rS`: rS is registered for finalisation no more, as by `GC.SuppressFinalize`.
+    /// `suppress rS`: rS is no longer registered for finalization, as by `GC.SuppressFinalize`.
     Suppress { s: u8 },
-    /// `reregister rS`: rS is registered for finalisation, as by `GC.ReRegisterForFinalize`.
+    /// `reregister rS`: rS is registered for finalization, as by `GC.ReRegisterForFinalize`.
     Reregister { s: u8 },
-    /// `final rD`: takes the first object off the finalisation queue into rD.
+    /// `final rD`: moves the first object of the finalization queue to rD.
     Final { d: u8 },
     /// `collect n`: collects the generations 0 to n, as `GC.Collect`.
     Collect { n: u8 },
@@ -48,20 +48,20 @@ pub enum Cmd {
     HDep { d: u8, s: u8 },
     /// `hvar hS STRENGTH`: the strength of a variable handle changes.
     HVar { s: u8, strength: Strength },
-    /// `hfree hS`: the handle is no more, as after `GCHandle.Free`; hS becomes empty.
+    /// `hfree hS`: frees the handle, as `GCHandle.Free`; hS becomes empty.
     HFree { s: u8 },
-    /// `hput k hS`: board place k gets what hS has.
+    /// `hput k hS`: board index k gets the slot in hS.
     HPut { k: u8, s: u8 },
-    /// `hpick hD k`: hD gets what board place k has.
+    /// `hpick hD k`: hD gets the slot at board index k.
     HPick { d: u8, k: u8 },
-    /// `addr hS`: answers the address of the target of a handle that pins it.
+    /// `addr hS`: returns the address of the target of a handle that pins it.
     AddrOf { s: u8 },
-    /// `hup hS`: the count of a ref-counted handle rises by one; answers the new count.
+    /// `hup hS`: the count of a ref-counted handle rises by one; returns the new count.
     HUp { s: u8 },
-    /// `hdown hS`: the count of a ref-counted handle falls by one; answers the new count.
+    /// `hdown hS`: the count of a ref-counted handle falls by one; returns the new count.
     HDown { s: u8 },
-    /// `trim KIND`: gives back at most one block of the kind whose 64 slots are all free. The kind is
-    /// short, long, strong or pinned.
+    /// `trim KIND`: gives back at most one block of the kind whose 64 slots are all free. The kind
+    /// is short, long, strong or pinned.
     Trim { kind: Kind },
 }
 

@@ -18,7 +18,8 @@ pub struct Addr(pub u32);
 #[derive(Clone, Copy, Debug, PartialEq, Eq)]
 pub struct Slot(pub u32);
 
-/// A handle that holds its target, as a root does: its slot, its kind, and the object that it holds.
+/// A handle that holds its target, as a root does: its slot, its kind, and the object that it
+/// holds.
 #[derive(Clone, Copy, Debug, PartialEq, Eq)]
 pub struct RootId {
     pub slot: Slot,
@@ -26,16 +27,16 @@ pub struct RootId {
     pub id: Id,
 }
 
-/// Want of memory.
+/// Out of memory.
 #[derive(Clone, Copy, Debug, PartialEq, Eq)]
 pub struct Memory;
 
 /// The kinds of handle, after the handle types of CoreCLR.
 #[derive(Clone, Copy, Debug, PartialEq, Eq)]
 pub enum Kind {
-    /// A weak handle that is cleared when its target is found unreachable, before finalisation.
+    /// A weak handle that is cleared when its target is found unreachable, before finalization.
     Short,
-    /// A weak handle that keeps its target while finalisation keeps the object alive.
+    /// A weak handle that keeps its target while finalization keeps the object alive.
     Long,
     /// A handle that keeps its target alive.
     Strong,
@@ -52,7 +53,7 @@ pub enum Kind {
 
 impl Kind {
     /// The number of the kind. The words and cells of the custody table, and the chains of blocks,
-    /// stand in this order.
+    /// are in this order.
     pub fn number(self) -> u32
         ensures value { result ≡ kind_number self }
         ensures small { result < KINDS }
@@ -68,7 +69,8 @@ impl Kind {
         }
     }
 
-    /// Whether a handle of this kind has extra data, which stands in a data block beside its block.
+    /// Whether a handle of this kind has extra data, which is stored in a data block beside its
+    /// block.
     pub fn paired(self) -> bool
         ensures { result ≡ is_paired self }
     {
@@ -134,21 +136,21 @@ pub enum Grown {
 pub struct Report {
     /// The objects of the condemned generations that stay.
     pub kept: u32,
-    /// The objects that go.
+    /// The objects that are removed.
     pub removed: u32,
-    /// The weak short handles whose target became null.
+    /// The weak short handles, and the variable ones of that strength, whose target became null.
     pub short: u32,
-    /// The weak long handles, and the ref-counted ones, whose target became null.
+    /// The weak long handles, the variable ones of that strength, and the ref-counted ones, whose
+    /// target became null.
     pub long: u32,
     /// The dependent handles whose two parts became null.
     pub dep: u32,
-    /// The objects that joined the finalisation queue.
+    /// The objects that joined the finalization queue.
     pub revived: u32,
 }
 
-/// Why a command was refused. Where several causes hold, the first of these is answered:
-/// empty register, slot that is not live, wrong kind, count of 0, null, bad field, full heap, full
-/// table.
+/// Why a command was refused. Where several causes hold, the first of these is returned: empty
+/// register, slot that is not live, wrong kind, count of 0, null, bad field, full heap, full table.
 #[derive(Clone, Copy, Debug, PartialEq, Eq)]
 pub enum Refusal {
     /// The register, or the handle's target, is null.
@@ -158,7 +160,7 @@ pub enum Refusal {
     /// The sizes of all objects, in cells, and the size that was asked for are together over the
     /// limit.
     HeapFull { used: u32, size: u32 },
-    /// Too few blocks are without a kind. `given` is the number of blocks that have one.
+    /// Too few blocks are unused. `given` is the number of blocks in use.
     TableFull { given: u32 },
     /// The slot holds no handle.
     NotLive,
@@ -170,7 +172,7 @@ pub enum Refusal {
     CountZero,
 }
 
-/// What a command answers.
+/// What a command returns.
 #[derive(Clone, Copy, Debug, PartialEq, Eq)]
 pub enum Reply {
     Done,

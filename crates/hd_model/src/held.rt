@@ -11,13 +11,13 @@ pub trait Held: Drop {
     /// The entries so far.
     ghost journal: { Self → List Entry };
 
-    /// For how many more entries there is room.
+    /// The number of further entries that there is room for.
     ghost spare: { Self → ℕ };
 
     /// Whether a slot, by its number, is live.
     ghost live: { Self → ℕ → Bool };
 
-    /// The kind word of a block, by its number: 0 where it has no use, one more than the number of the
-    /// kind where it has handles of one, and 8 where it has extra data.
+    /// The kind word of a block, by its number: 0 where it has no use, one more than the number of
+    /// the kind where it has handles of one, and 8 where it has extra data.
     ghost kind: { Self → ℕ → ℕ };
 }

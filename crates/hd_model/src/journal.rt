@@ -4,8 +4,8 @@ use crate::data::{Entry, Memory};
 use std::alloc::Global;
 use std::marker::Model;
 
-/// What happened: the entries of all callers, in one order. It is seen as them and a number, spare:
-/// how many more it has room for.
+/// What happened: the entries of all callers, in one order. Contracts see the entries and `spare`,
+/// the number of further ones that there is room for.
 #[derive(Drop)]
 pub struct Journal {
     entries: Vec<Entry>,
@@ -64,7 +64,7 @@ impl Journal {
         self.entries.is_empty()
     }
 
-    /// How many more entries there is room for.
+    /// The number of further entries that there is room for.
     pub fn spare(&self) -> u32
         ensures value { result ≡ self.now.spare }
         ensures small { length self.now.entries + result < 2 ^ 32 }
@@ -72,7 +72,7 @@ impl Journal {
         self.spare
     }
 
-    /// The entry at a place, from 0.
+    /// The entry at an index, from 0.
     pub fn entry(&self, i: u32) -> Entry
         requires { i < length self.now.entries }
         ensures { slice_get self.now.entries i ≡ Some result }

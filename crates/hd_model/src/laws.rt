@@ -7,6 +7,13 @@ ghost use Rattle.hd_model.specs.Laws.{RegisterIsReadBack, HandleRegisterIsReadBa
 ghost use Rattle.hd_model.specs.Laws.{TargetIsReadBack, SecondaryIsReadBack, StrengthIsKept};
 ghost use Rattle.hd_model.specs.Laws.{CountIsReadBack, FreedIsNotLive, SoloRunsAreOne};
 ghost use Rattle.hd_model.specs.Laws.{SoloTextIsOne};
+ghost use Rattle.hd_model.specs.Constants.{NumbersAreThese};
+ghost use Rattle.hd_model.specs.UserLaws.{PlaceIsReturnedAgain, PlacesStandApart};
+ghost use Rattle.hd_model.specs.UserLaws.{PinnedPlaceIsReadBack, FinalTakesTheFirst, QueueIsLeft};
+ghost use Rattle.hd_model.specs.UserLaws.{QueueGoesInTurn, GenerationIsReadBack};
+ghost use Rattle.hd_model.specs.UserLaws.{GenReturnsTheGeneration, RegistrationIsKept, JoinsOnce};
+ghost use Rattle.hd_model.specs.UserLaws.{HeapIsWithinItsLimit, NewIsRefusedWhereFull};
+ghost use Rattle.hd_model.specs.UserLaws.{EveryCommandHasAStep, RunsAreNeverStuck};
 
 /// From one state, an entry leaves at most one state.
 pub fn one_state_after()
@@ -48,13 +55,13 @@ pub fn objects_are_made_less_removed()
     ensures { ObjectsAreMadeLessRemoved }
 {}
 
-/// What a done `set` stores in a field, `get` answers until another done `set` of that field.
-/// Collections leave fields.
+/// What a done `set` stores in a field, `get` returns until another done `set` of that field. No
+/// collection changes a field.
 pub fn field_is_read_back()
     ensures { FieldIsReadBack }
 {}
 
-/// The number that a done `val` stores, `read` answers until another done `val` of that object.
+/// The number that a done `val` stores, `read` returns until another done `val` of that object.
 pub fn value_is_read_back()
     ensures { ValueIsReadBack }
 {}
@@ -69,35 +76,35 @@ pub fn new_value_is_zero()
     ensures { NewValueIsZero }
 {}
 
-/// What `sput` stores in a static, `sget` answers until another `sput` of that static, by
-/// whatever caller.
+/// What `sput` stores in a static, `sget` returns until another `sput` of that static, by whatever
+/// caller.
 pub fn static_is_read_back()
     ensures { StaticIsReadBack }
 {}
 
-/// What `hput` stores in a place of the board, `hpick` takes until another `hput` of that place,
-/// by whatever caller.
+/// What `hput` stores at a board index, `hpick` gets until another `hput` at that index, by
+/// whatever caller.
 pub fn board_is_read_back()
     ensures { BoardIsReadBack }
 {}
 
-/// An object register names what the last command of its caller that wrote it put there.
+/// An object register references what the last command of its caller that wrote it stored there.
 pub fn register_is_read_back()
     ensures { RegisterIsReadBack }
 {}
 
-/// A handle register has what the last command of its caller that wrote it put there.
+/// A handle register has the slot that the last command of its caller that wrote it stored there.
 pub fn handle_register_is_read_back()
     ensures { HandleRegisterIsReadBack }
 {}
 
-/// The target that a done `hset` or `hnew` gives a handle, `hget` answers until a done `hset` or
+/// The target that a done `hset` or `hnew` gives a handle, `hget` returns until a done `hset` or
 /// `hfree` of it, or a collection that clears it.
 pub fn target_is_read_back()
     ensures { TargetIsReadBack }
 {}
 
-/// The secondary that a done `hsec` or `hnew` gives a handle, `hdep` answers until a done `hsec`,
+/// The secondary that a done `hsec` or `hnew` gives a handle, `hdep` returns until a done `hsec`,
 /// `hset` or `hfree` of it, or a collection that clears it.
 pub fn secondary_is_read_back()
     ensures { SecondaryIsReadBack }
@@ -109,13 +116,13 @@ pub fn strength_is_kept()
     ensures { StrengthIsKept }
 {}
 
-/// `hup` answers one more than the last count that `hup`, `hdown` or `hnew` gave the handle.
+/// `hup` returns one more than the last count that `hup`, `hdown` or `hnew` gave the handle.
 pub fn count_is_read_back()
     ensures { CountIsReadBack }
 {}
 
-/// After a done `hfree` each command on the slot answers that it is not live, until a done `hnew`
-/// takes the slot.
+/// After a done `hfree` each command on the slot is refused as not live, until a done `hnew` takes
+/// the slot.
 pub fn freed_is_not_live()
     ensures { FreedIsNotLive }
 {}
@@ -130,4 +137,86 @@ pub fn solo_runs_are_one()
 /// of commands.
 pub fn solo_text_is_one()
     ensures { SoloTextIsOne }
+{}
+
+/// Every limit, bound and number of this crate equals the numeral that it is meant to be.
+pub fn numbers_are_these()
+    ensures { NumbersAreThese }
+{}
+
+/// `addr` of an object that has a pinned address returns that address.
+pub fn place_is_returned_again()
+    ensures { PlaceIsReturnedAgain }
+{}
+
+/// In every state of a run, two objects that have pinned addresses share no cell.
+pub fn places_stand_apart()
+    ensures { PlacesStandApart }
+{}
+
+/// `addr` returns the same number as long as the object is pinned, by this handle or another,
+/// whatever is collected meanwhile.
+pub fn pinned_place_is_read_back()
+    ensures { PinnedPlaceIsReadBack }
+{}
+
+/// `final` returns the first object of the queue and leaves the rest in order.
+pub fn final_takes_the_first()
+    ensures { FinalTakesTheFirst }
+{}
+
+/// Nothing but `final` and a collection changes the queue.
+pub fn queue_is_left()
+    ensures { QueueIsLeft }
+{}
+
+/// First in, first out: what `final` returns and then what is still queued is what was queued and
+/// then what joined.
+pub fn queue_goes_in_turn()
+    ensures { QueueGoesInTurn }
+{}
+
+/// `gen` returns 0 of a new object, and what it returned before, until a collection.
+pub fn generation_is_read_back()
+    ensures { GenerationIsReadBack }
+{}
+
+/// `gen` returns the generation of the object.
+pub fn gen_returns_the_generation()
+    ensures { GenReturnsTheGeneration }
+{}
+
+/// An object is registered for finalization as `new`, `suppress` or `reregister` left it, until the
+/// next of these or until a collection resurrects it, after which it is not.
+pub fn registration_is_kept()
+    ensures { RegistrationIsKept }
+{}
+
+/// An object that joined the queue joins it again only after a `reregister` of it.
+pub fn joins_once()
+    ensures { JoinsOnce }
+{}
+
+/// In every state of a run the sizes of all objects are together at most the limit of the heap.
+pub fn heap_is_within_its_limit()
+    ensures { HeapIsWithinItsLimit }
+{}
+
+/// `new` is refused for a full heap exactly where the heap would pass its limit.
+pub fn new_is_refused_where_full()
+    ensures { NewIsRefusedWhereFull }
+{}
+
+/// From a well formed state every valid command of a known caller has a step: a `new` while the
+/// caller has serials left, and an `addr` of an object without a pinned address where a free one
+/// exists.
+pub fn every_command_has_a_step()
+    ensures { EveryCommandHasAStep }
+{}
+
+/// No caller is ever stuck: in every state of a run, with a heap limit of at most 1,000,000 cells,
+/// every valid command of a known caller has a step, but for a `new` whose caller has no serial
+/// left.
+pub fn runs_are_never_stuck()
+    ensures { RunsAreNeverStuck }
 {}

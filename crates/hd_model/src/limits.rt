@@ -1,10 +1,10 @@
-//! The limits of a run, each said once here.
+//! The limits of a run, each stated once, here.
 
 /// The callers of a script, at most. They are numbered from 0.
 pub const CALLERS: u32 = 16;
 
-/// The object registers, and the handle registers, of a caller; and the statics, and the places of
-/// the board, that all callers share.
+/// The object registers, and the handle registers, of a caller; and the statics, and the board
+/// indexes, that all callers share.
 pub const REGISTERS: u32 = 16;
 
 /// The fields of an object, at most.
@@ -25,18 +25,18 @@ pub const REGIONS: u32 = 16_777_216;
 /// The cells of a card.
 pub const CARD: u32 = 32;
 
-/// The cells that are taken at least in a region that a collection leaves for the next of its
+/// The cells that are taken at least in a region which a collection leaves for a new one of its
 /// generation: one more than all but those of the largest object.
 pub const LEFT: u32 = REGION - (FIELDS + HEADER) + 1;
 
 /// The regions that may end with fewer cells taken: one of each generation.
 pub const OPEN: u32 = 3;
 
-/// The limit of the sizes of all objects, in cells, where a run names none; and the highest that it
-/// may name.
+/// The limit of the sizes of all objects, in cells, where a run gives none; and the highest that it
+/// may give.
 pub const HEAP: u32 = 1_000_000;
 
-/// The blocks of a table, where a run names no number; and the most that it may name.
+/// The blocks of a table, where a run gives no number; and the most that it may give.
 pub const BLOCKS: u32 = 256;
 
 /// The kinds of handle.

@@ -9,7 +9,7 @@ ghost use Rattle.std.specs.Option.{ForSome};
 use crate::data::Addr;
 
 /// What a collection keeps of one heap and one condemned generation. What is promoted is kept, and
-/// what is pinned does not move. Nothing is ever taken back.
+/// what is pinned does not move. No mark is ever removed.
 pub trait Marker {
     ghost use Rattle.hd_model.specs.declared.data.Addr.{Addr};
 
@@ -22,7 +22,7 @@ pub trait Marker {
     /// Whether an object is pinned.
     ghost pinned: { Self → Addr → Bool };
 
-    /// Whether what is promoted is closed under fields of condemned objects.
+    /// Whether the promoted objects are closed under fields of condemned objects.
     ghost settled: { Self → Type 0 };
 
     /// Whether the object is promoted. Every object of an older generation is.
@@ -31,7 +31,7 @@ pub trait Marker {
         requires object { is_object (objects_of (basis self.now)) at ≡ true }
         ensures { result ≡ promoted self.now at };
 
-    /// Promotes the object, and all that it leads to by fields of condemned objects.
+    /// Promotes the object, and all that fields of condemned objects lead to from it.
     fn promote(&mut self, at: Addr)
         requires settled { settled self.old }
         requires object { is_object (objects_of (basis self.old)) at ≡ true }
@@ -55,7 +55,8 @@ pub trait Marker {
         ensures promoted { promoted self.new ≡ promoted self.old }
         ensures gains { Gains at (pinned self.old) (pinned self.new) };
 
-    /// Where it is settled, only objects are promoted, all older ones are, and it is closed.
+    /// Where it is settled, only objects are promoted, all older ones are, and they are closed
+    /// under these fields.
     ghost settles: { (m : Self) → settled m →
         IsSettled (objects_of (basis m)) (basis m).condemned (promoted m) };
 }

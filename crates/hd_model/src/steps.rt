@@ -3,8 +3,8 @@ ghost use Rattle.std.specs.Prelude.{◌≡◌, ℕ, ◌+◌, ◌<◌};
 use std::marker::Model;
 use std::sync::ledger::{Blank, Book, Ledger, Share};
 
-/// How many steps were taken. It takes no bytes, and only `tick` changes it. What a step is, the
-/// call that counts says.
+/// How many steps were taken. It takes no bytes, and only `tick` changes it. The call that counts
+/// says what a step is.
 #[derive(Drop)]
 pub struct Steps<L: Ledger> {
     book: Book<L>,
@@ -22,8 +22,7 @@ impl<L: Ledger> Model for Steps<L> {
 }
 
 impl<L: Ledger> Steps<L> {
-    /// A counter that stands at 0. A caller that counts nothing calls a function that is given
-    /// `Blank::new(1)`.
+    /// A counter at 0. A caller that counts nothing calls a function that is given `Blank::new(1)`.
     pub fn open(blank: Blank) -> Steps<L>
         requires name { L.name ≡ blank.name }
         requires parts { L.parts ≡ blank.parts }

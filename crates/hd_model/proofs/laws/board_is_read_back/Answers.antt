@@ -1,4 +1,4 @@
-use Rattle.hd_model.proofs.ReadBack.{board_is_read_back}
+use Rattle.hd_model.proofs.StateReadBack.{board_is_read_back}
 use Rattle.hd_model.proofs.laws.board_is_read_back.Goals as goal
 
 pub returns : goal.returns

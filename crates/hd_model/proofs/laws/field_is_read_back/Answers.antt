@@ -1,4 +1,4 @@
-use Rattle.hd_model.proofs.ReadBack.{field_is_read_back}
+use Rattle.hd_model.proofs.StateReadBack.{field_is_read_back}
 use Rattle.hd_model.proofs.laws.field_is_read_back.Goals as goal
 
 pub returns : goal.returns

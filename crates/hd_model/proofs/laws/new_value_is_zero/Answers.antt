@@ -1,4 +1,4 @@
-use Rattle.hd_model.proofs.ReadBack.{new_value_is_zero}
+use Rattle.hd_model.proofs.StateReadBack.{new_value_is_zero}
 use Rattle.hd_model.proofs.laws.new_value_is_zero.Goals as goal
 
 pub returns : goal.returns

@@ -1,4 +1,4 @@
-use Rattle.hd_model.proofs.ReadBack.{register_is_read_back}
+use Rattle.hd_model.proofs.StateReadBack.{register_is_read_back}
 use Rattle.hd_model.proofs.laws.register_is_read_back.Goals as goal
 
 pub returns : goal.returns

@@ -1,4 +1,4 @@
-use Rattle.hd_model.proofs.WellFormed.{run_is_well_formed}
+use Rattle.hd_model.proofs.WellFormedSteps.{run_is_well_formed}
 use Rattle.hd_model.proofs.laws.runs_are_well_formed.Goals as goal
 
 pub returns : goal.returns

@@ -1,4 +1,4 @@
-use Rattle.hd_model.proofs.Solo.{solo_text_is_one}
+use Rattle.hd_model.proofs.SoloRuns.{solo_text_is_one}
 use Rattle.hd_model.proofs.laws.solo_text_is_one.Goals as goal
 
 pub returns : goal.returns

@@ -1,4 +1,4 @@
-use Rattle.hd_model.proofs.ReadBack.{static_is_read_back}
+use Rattle.hd_model.proofs.StateReadBack.{static_is_read_back}
 use Rattle.hd_model.proofs.laws.static_is_read_back.Goals as goal
 
 pub returns : goal.returns

@@ -1,4 +1,4 @@
-use Rattle.hd_model.proofs.Frames.{untouched_stays}
+use Rattle.hd_model.proofs.StepFrames.{untouched_stays}
 use Rattle.hd_model.proofs.laws.untouched_stays.Goals as goal
 
 pub returns : goal.returns

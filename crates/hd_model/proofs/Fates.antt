@@ -1,0 +1,231 @@
+-- What becomes of objects, handles, the queue and generations in a collection.
+use Rattle.std.proofs.Common.{◌≡◌, ℕ, ◌+◌, ◌≤◌, min, Bool, true, false, not, ◌&&◌, Option, Some, None, refl, sym, ap, ◌∙◌, subst, ⊎_elim, inl, inr, arith}
+use Rattle.std.specs.Prelude.{Contains, option_map}
+use Rattle.std.specs.FinMap.{get}
+use Rattle.std.proofs.lemmas.Bool.{cases_Bool, cond-true, true≢false}
+use Rattle.std.proofs.lemmas.Bool.Decides.{nat_tests}
+use Rattle.std.proofs.lemmas.Option.{same_Some}
+use Rattle.std.proofs.lemmas.List.Elements.{Contains-append_cases, Contains-append_right}
+use Rattle.hd_model.specs.declared.data.Id.{Id}
+use Rattle.hd_model.specs.declared.data.Report.{Report}
+use Rattle.hd_model.specs.State.{Object, Handle, State}
+use Rattle.hd_model.specs.Role.{Role, holds, short, long, attaches, role}
+use Rattle.hd_model.specs.Scene.{scene_of, IsWhole}
+use Rattle.hd_model.specs.Ages.{raised}
+use Rattle.hd_model.specs.Reach.{held, IsRevived, IsReached}
+use Rattle.hd_model.specs.Collect.{is_lost, loses_by, loses, cleared, survivor, Collects}
+use Rattle.hd_model.specs.InUse.{in_queue, from_start, IsInUse, IsResurrected, IsRescued, IsGarbage}
+use Rattle.hd_model.specs.CollectionLaws.{KeepsContents, RescuedObjectsStay, IsLeftAlone, InUseIsLeftAlone, InUseIsReached, HasTarget, IsGone, GarbageGoes, Joins, IsUnregistered, ResurrectsOnce, ObjectsAreResurrectedOnce, QueueGrowsInTurn, RisesOnce, GenerationsRiseOnce}
+use Rattle.hd_model.proofs.EdgeChains.{leads_on}
+use Rattle.hd_model.proofs.Entries.{some_value}
+use Rattle.hd_model.proofs.WholeScenes.{whole_scene}
+use Rattle.hd_model.proofs.SceneCollection.{kept_object, object_before, object_after, keeps_root, keeps_reached, keeps_revived}
+use Rattle.hd_model.proofs.IdleCollection.{raised_older, kept_target, loses_none, attaching_lost, cleared_same}
+use Rattle.hd_model.proofs.Reports.{gone}
+use Rattle.hd_model.proofs.CollectionLaws.{unregistered}
+use Rattle.hd_model.proofs.UseChains.{Edge, led_chain, chain_led, use_reached, reached_use, resurrected_revived, revived_resurrected}
+
+pub young_raised : (n g : ℕ) → g ≤ n → raised n g ≡ min (g + 1) 2
+young_raised n g l = grind (arith, nat_tests)
+
+-- a set without the target loses it
+pub lost_target : {N : Type 0} (p : N → Bool) (o : Option N) (x : N) → o ≡ Some x → p x ≡ false
+    → is_lost p o ≡ true
+lost_target p o x e out = ap (is_lost p) e ∙ ap not out
+
+-- a handle that does not hold loses a target that is neither reached nor kept
+loses_gone : {N : Type 0} (r : Role) (reach kept : N → Bool) (o : Option N) (x : N) → o ≡ Some x
+    → reach x ≡ false → kept x ≡ false → (r ≡ holds → ⊥) → loses_by r reach kept o ≡ true
+loses_gone holds reach kept o x e a b never = absurd (never refl)
+loses_gone short reach kept o x e a b never = lost_target reach o x e a
+loses_gone long reach kept o x e a b never = lost_target kept o x e b
+loses_gone attaches reach kept o x e a b never = lost_target kept o x e b
+
+module _ (n : ℕ) (s t : State) (r : Report) (w : IsWhole (scene_of s))
+    (c : Collects (λ (x : Id). x.0) n (scene_of s) (scene_of t) r) where
+  abbrev rank : Id → ℕ
+  rank x = x.0
+
+  -- a handle after the collection
+  pub handle_after : (slot : ℕ) (g : Handle Id) → get s.handles slot ≡ Some g
+      → get t.handles slot ≡ Some (cleared c.reach c.kept g)
+  handle_after slot g stands = c.handles slot ∙ ap (option_map (cleared c.reach c.kept)) stands
+
+  -- what is in use is reached, and what is reached is kept and not resurrected
+  pub use_in_reach : (x : Id) → IsInUse n s x → c.reach x ≡ true
+  use_in_reach x used = (c.reach_is x).1 (use_reached s n x used)
+
+  pub unused_out : (x : Id) → (IsInUse n s x → ⊥) → c.reach x ≡ false
+  unused_out x never = ⊎_elim (λ yes. absurd (never (reached_use s n x ((c.reach_is x).0 yes)))) (λ no. no)
+      (cases_Bool (c.reach x))
+
+  pub reach_in_kept : (x : Id) → c.reach x ≡ true → c.kept x ≡ true
+  reach_in_kept x e = keeps_reached rank n (scene_of s) (scene_of t) r w c x e
+
+  reached_not_revived : (x : Id) → c.reach x ≡ true → c.revived x ≡ false
+  reached_not_revived x e =
+      ⊎_elim (λ yes. absurd (((c.revived_is x).0 yes).lost ((c.reach_is x).0 e))) (λ no. no)
+      (cases_Bool (c.revived x))
+
+  -- a handle whose target is in both sets stays as it was
+  pub handle_stays : (slot : ℕ) (g : Handle Id) (x : Id) → get s.handles slot ≡ Some g → g.target ≡ Some x
+      → c.reach x ≡ true → c.kept x ≡ true → get t.handles slot ≡ Some g
+  handle_stays slot g x stands target reached kept =
+      let in_reach : (y : Id) → g.target ≡ Some y → c.reach y ≡ true =
+      λ y e. subst (λ z. c.reach z ≡ true) (same_Some x y (sym target ∙ e)) reached in
+      let in_kept : (y : Id) → g.target ≡ Some y → c.kept y ≡ true =
+      λ y e. subst (λ z. c.kept z ≡ true) (same_Some x y (sym target ∙ e)) kept in
+      handle_after slot g stands
+      ∙ ap (λ q. Some q) (cleared_same c.reach c.kept g
+      (loses_none (role g) c.reach c.kept g.target in_reach in_kept)
+      (attaching_lost (role g) (is_lost c.kept g.target) (kept_target c.kept g.target in_kept)))
+
+  -- what joins the queue is resurrected
+  joined_revived : (x : Id) → Contains t.queue x → (Contains s.queue x → ⊥) → c.revived x ≡ true
+  joined_revived x in_after never =
+      ⊎_elim (λ before. absurd (never before)) (λ joins. (c.joins_are x).1 joins)
+      (Contains-append_cases s.queue c.joins x (subst (λ xs. Contains xs x) c.queue in_after))
+
+  kept_contents : (x : Id) → c.kept x ≡ true → KeepsContents s t x
+  kept_contents x kept =
+      let (o, e) = some_value (get s.objects x.0) (kept_object n (scene_of s) w x ((c.kept_is x).0 kept)) in
+      record {
+        old = o;
+        stood = e;
+        new = survivor n (c.revived x) o;
+        stands = object_after rank n (scene_of s) (scene_of t) r w c x o kept e;
+        fields = refl;
+        value = refl;
+      }
+
+  left_queue : (x : Id) → c.reach x ≡ true → Contains t.queue x → Contains s.queue x
+  left_queue x reached in_after =
+      ⊎_elim (λ before. before)
+      (λ joins. absurd (true≢false (sym ((c.joins_are x).1 joins) ∙ reached_not_revived x reached)))
+      (Contains-append_cases s.queue c.joins x (subst (λ xs. Contains xs x) c.queue in_after))
+
+  pub left_alone : (x : Id) → IsInUse n s x → IsLeftAlone s t x
+  unfolding kept_contents
+  left_alone x used =
+      let reached = use_in_reach x used in
+      record {
+        object = kept_contents x (reach_in_kept x reached);
+        registered = unregistered _ (c.revived x) (reached_not_revived x reached);
+        handles = λ slot g stands target. handle_stays slot g x stands target reached
+            (reach_in_kept x reached);
+        queue = left_queue x reached;
+      }
+
+  pub rescued_kept : (x : Id) → IsRescued n s x → c.kept x ≡ true
+  rescued_kept x h =
+      let (start, rest) = led_chain s (IsResurrected n s) h.led_to in
+      (c.kept_is x).1 (start, (inr (resurrected_revived s n start rest.0), rest.1))
+
+  pub rescued_contents : (x : Id) → IsRescued n s x → KeepsContents s t x
+  rescued_contents x h = kept_contents x (rescued_kept x h)
+
+  -- what is not in use and not led to from what is resurrected is not kept
+  garbage_lost : (x : Id) → IsGarbage n s x → c.kept x ≡ false
+  garbage_lost x g =
+      ⊎_elim
+      (λ yes. let (start, rest) = (c.kept_is x).0 yes in
+      ⊎_elim
+      (λ (reached : IsReached (scene_of s) n start). absurd
+      (g.out_of_use (reached_use s n x
+      (reached.0, (reached.1.0, leads_on (Edge s) reached.1.1 rest.1)))))
+      (λ (v : IsRevived (scene_of s) n start). absurd
+      (g.not_rescued (chain_led s (IsResurrected n s) (revived_resurrected s n start v) rest.1)))
+      rest.0)
+      (λ no. no) (cases_Bool (c.kept x))
+
+  -- a handle whose target is neither reached nor kept has null after it
+  pub handle_null : (slot : ℕ) (g : Handle Id) (x : Id) → get s.handles slot ≡ Some g → g.target ≡ Some x
+      → c.reach x ≡ false → c.kept x ≡ false → HasTarget t slot None
+  handle_null slot g x stands target unreached lost = record {
+    handle = cleared c.reach c.kept g;
+    stands = handle_after slot g stands;
+    target = cond-true (loses c.reach c.kept g) None g.target
+        (loses_gone (role g) c.reach c.kept g.target x target unreached lost
+        (λ holding. true≢false (sym (keeps_root rank n (scene_of s) (scene_of t) r w c x
+        (held (record { slot = slot; handle = g; stands = stands; holds = holding; target = target })))
+        ∙ lost)));
+  }
+
+  pub garbage_gone : (x : Id) → IsGarbage n s x → IsGone s t x
+  garbage_gone x g =
+      let lost = garbage_lost x g in
+      record {
+        object = gone rank n (scene_of s) (scene_of t) r w c x lost;
+        handles = λ slot q stands target. handle_null slot q x stands target (unused_out x g.out_of_use) lost;
+      }
+
+  join_resurrected : (x : Id) → Joins s t x → IsResurrected n s x
+  join_resurrected x j = revived_resurrected s n x ((c.revived_is x).0 (joined_revived x j.queued j.before))
+
+  resurrected_join : (x : Id) → IsResurrected n s x → Joins s t x
+  resurrected_join x v = record {
+    queued = subst (λ xs. Contains xs x) (sym c.queue)
+        (Contains-append_right s.queue c.joins x
+        ((c.joins_are x).0 ((c.revived_is x).1 (resurrected_revived s n x v))));
+    before = λ in_before. v.out_of_use (from_start (inl (in_queue in_before)));
+  }
+
+  registered_no_more : (a b : Bool) → b ≡ true → (a && not b) ≡ false
+  registered_no_more true b e = ap not e
+  registered_no_more false b e = refl
+
+  join_unregistered : (x : Id) → Joins s t x → IsUnregistered t x
+  join_unregistered x j =
+      let revived = joined_revived x j.queued j.before in
+      let v = (c.revived_is x).0 revived in
+      record {
+        object = survivor n (c.revived x) v.object;
+        stands = object_after rank n (scene_of s) (scene_of t) r w c x v.object
+            (keeps_revived rank n (scene_of s) (scene_of t) r w c x revived) v.stands;
+        registered = registered_no_more v.object.registered (c.revived x) revived;
+      }
+
+  pub resurrects_once : ResurrectsOnce n s t
+  resurrects_once = record {
+    joins = λ x. (join_resurrected x, resurrected_join x);
+    after = join_unregistered;
+  }
+
+  pub rises_once : (id : ℕ) (old new : Object Id) → get s.objects id ≡ Some old → get t.objects id ≡ Some new
+      → RisesOnce n old.generation new.generation
+  rises_once id old new before after =
+      let (p, both) = (object_before rank n (scene_of s) (scene_of t) r w c (record { 0 = id }) new after).1 in
+      let same : p.generation ≡ old.generation = ap (λ (o : Object Id). o.generation)
+      (same_Some p old (sym both.0 ∙ before)) in
+      let now : new.generation ≡ raised n old.generation =
+      sym (ap (λ (o : Object Id). o.generation) both.1) ∙ ap (raised n) same in
+      record {
+        young = λ l. now ∙ young_raised n old.generation l;
+        older = λ l. now ∙ raised_older n old.generation l;
+      }
+
+pub in_use_is_left_alone : InUseIsLeftAlone
+in_use_is_left_alone m n s t r x h used =
+    left_alone n s t r (whole_scene m s h.well_formed) h.collects.scene x used
+
+pub rescued_objects_stay : RescuedObjectsStay
+rescued_objects_stay m n s t r x h rescued =
+    rescued_contents n s t r (whole_scene m s h.well_formed) h.collects.scene x rescued
+
+pub garbage_goes : GarbageGoes
+garbage_goes m n s t r x h g = garbage_gone n s t r (whole_scene m s h.well_formed) h.collects.scene x g
+
+pub objects_are_resurrected_once : ObjectsAreResurrectedOnce
+objects_are_resurrected_once m n s t r h =
+    resurrects_once n s t r (whole_scene m s h.well_formed) h.collects.scene
+
+pub queue_grows_in_turn : QueueGrowsInTurn
+queue_grows_in_turn m n s t r h =
+    let c = h.collects.scene in record { joins = c.joins; queue = c.queue; rising = c.rising }
+
+pub generations_rise_once : GenerationsRiseOnce
+generations_rise_once m n s t r id old new h before after =
+    rises_once n s t r (whole_scene m s h.well_formed) h.collects.scene id old new before after
+
+pub in_use_is_reached : InUseIsReached
+in_use_is_reached n s x = (use_reached s n x, reached_use s n x)

@@ -1,0 +1,128 @@
+-- A pinned address is returned again, as long as its object is pinned.
+use Rattle.std.proofs.Common.{◌≡◌, ℕ, Bool, true, false, cond, Some, None, refl, sym, ap, ◌∙◌, subst, if◌then◌else◌, true≢false}
+use Rattle.std.specs.Prelude.{option_and_then}
+use Rattle.std.specs.Option.{option_map_or, MatchOption}
+use Rattle.std.specs.FinMap.{get}
+use Rattle.hd_model.specs.declared.data.Id.{Id}
+use Rattle.hd_model.specs.declared.data.Slot.{Slot}
+use Rattle.hd_model.specs.declared.data.Entry.{Entry}
+use Rattle.hd_model.specs.declared.data.Refusal.TheVariants as refusal
+use Rattle.hd_model.specs.declared.data.Reply.{Reply}
+use Rattle.hd_model.specs.declared.data.Reply.TheVariants as reply
+use Rattle.hd_model.specs.declared.command.Cmd.{Cmd}
+use Rattle.hd_model.specs.declared.command.Cmd.TheVariants as cmd
+use Rattle.hd_model.specs.State.{Numbers, Handle, State, handle_at, with_place}
+use Rattle.hd_model.specs.Role.{pins}
+use Rattle.hd_model.specs.Reach.{IsPinned}
+use Rattle.hd_model.specs.Places.{is_pinned, MayAnswer, IsFreePlace}
+use Rattle.hd_model.specs.Command.{Outcome, answers, refuses, answer_place}
+use Rattle.hd_model.specs.Step.{pinned_by, pinned_target, AnswersPlace, Step}
+use Rattle.hd_model.specs.UserLaws.{PinsBy, PlaceIsReturnedAgain, Unpins, PinnedPlaceIsReadBack}
+use Rattle.hd_model.proofs.ReadAfterWrite.{write_cases, get_inserted}
+use Rattle.hd_model.proofs.PinTest.{pinned_decides}
+use Rattle.hd_model.proofs.Effects.{Effect, collects, answers_place}
+use Rattle.hd_model.proofs.StepWrites.{still, same_id}
+use Rattle.hd_model.proofs.StateReadBack.{step_of}
+
+module _ (s : State) (caller h : ℕ) (id : Id) (by : PinsBy s caller h id) where
+  -- what the register's handle pins
+  pub pinned_is : pinned_target s caller h ≡ Some id
+  pinned_is =
+      ap (option_and_then (λ x. pinned_by (handle_at s x))) by.has ∙ ap pinned_by by.live
+      ∙ ap (λ b. cond b by.handle.target None) by.pins ∙ by.target
+
+  -- what `addr` of it returns
+  pub answer_is : (p : ℕ) → answer_place s caller h p ≡ answers (reply.Place p) (with_place s id p)
+  answer_is p =
+      let on : Slot → Handle Id → Outcome = λ slot handle. if pins handle then (
+      option_map_or (λ x. answers (reply.Place p) (with_place s x p)) handle.target (refuses refusal.Null s))
+      else refuses refusal.WrongKind s in
+      ap (λ r. option_map_or (λ slot. option_map_or (on slot) (handle_at s slot)
+      (refuses refusal.NotLive s)) r
+      (refuses refusal.EmptyRegister s)) by.has
+      ∙ ap (λ r. option_map_or (on by.slot) r (refuses refusal.NotLive s)) by.live
+      ∙ ap (λ b. if b then (option_map_or (λ x. answers (reply.Place p) (with_place s x p)) by.handle.target
+      (refuses refusal.Null s)) else refuses refusal.WrongKind s) by.pins
+      ∙ ap (λ r. option_map_or (λ x. answers (reply.Place p) (with_place s x p)) r (refuses refusal.Null s))
+      by.target
+
+  -- the register's handle is one that pins the object
+  pub pinned_by_it : IsPinned (λ slot. get s.handles slot) id
+  pinned_by_it = record {
+    slot = by.slot.0;
+    handle = by.handle;
+    stands = by.live;
+    pins = by.pins;
+    target = by.target;
+  }
+
+-- for an object that has a pinned address, only that one may be returned
+own_place : (s : State) (x : Id) (p q : ℕ) → get s.places x.0 ≡ Some p → MayAnswer s x q → q ≡ p
+own_place s x p q has may = subst (λ o. MatchOption o (IsFreePlace s x q) (λ own. q ≡ own)) has may
+
+pub place_is_returned_again : PlaceIsReturnedAgain
+place_is_returned_again n s t e h id p step is by has =
+    let does : AnswersPlace s e t h = step_of n s e t (cmd.AddrOf h) step is in
+    let same : does.place ≡ p =
+    own_place s id p does.place has (does.may id (pinned_is s e.caller h id by)) in
+    does.outcome.reply ∙ ap (λ (o : Outcome). o.reply) (answer_is s e.caller h id by does.place)
+    ∙ ap reply.Place same
+
+same_number : {r : Reply} {p q : ℕ} → r ≡ reply.Place p → r ≡ reply.Place q → p ≡ q
+same_number a b = cc
+
+-- `addr` gives the object the pinned address that it returns
+place_put : (n : Numbers) (s : State) (e : Entry) (t : State) (h : ℕ) (id : Id) (p : ℕ) → Step n s e t
+    → e.cmd ≡ cmd.AddrOf h → PinsBy s e.caller h id → e.reply ≡ reply.Place p
+    → (get t.places id.0 ≡ Some p) × (t.handles ≡ s.handles)
+place_put n s e t h id p step is by answered =
+    let does : AnswersPlace s e t h = step_of n s e t (cmd.AddrOf h) step is in
+    let comes = answer_is s e.caller h id by does.place in
+    let same : does.place ≡ p =
+    same_number (does.outcome.reply ∙ ap (λ (o : Outcome). o.reply) comes) answered in
+    let after : t ≡ with_place s id does.place = does.outcome.after ∙ ap (λ (o : Outcome). o.after) comes in (
+      ap (λ (x : State). get x.places id.0) after
+          ∙ get_inserted s.places id.0 does.place ∙ ap Some same,
+      ap (λ (x : State). x.handles) after,
+    )
+
+-- a pinned object keeps its address
+module _ (n : Numbers) (s : State) (e : Entry) (id : Id) (p : ℕ) where
+  place_stays : (c : Cmd) (t : State) → Effect n s e c t → is_pinned s.handles id.0 ≡ true
+      → get s.places id.0 ≡ Some p → get t.places id.0 ≡ Some p
+  place_stays c t (answers_place slot handle other q f target may r) pinned has =
+      write_cases s.places other.0 (λ o. o ≡ Some p) q id.0
+      (λ same. ap Some (own_place s id p q has (subst (λ x. MayAnswer s x q) (sym
+      (same_id id other same)) may)))
+      has
+  place_stays c t (collects did) pinned has =
+      did.collects.places id.0 ∙ ap (λ b. cond b (get s.places id.0) None) pinned ∙ has
+  place_stays c t _ pinned has = has
+
+-- pinned, and at an address
+abbrev At : Id → ℕ → State → Type 0
+At id p s = (is_pinned s.handles id.0 ≡ true) × (get s.places id.0 ≡ Some p)
+
+-- what is not unpinned is pinned
+pinned_still : (s : State) (e : Entry) (t : State) (id : Id) → (Unpins id s e t → ⊥)
+    → is_pinned t.handles id.0 ≡ true
+pinned_still s e t id not =
+    by (is_pinned t.handles id.0) (λ off. not (λ x. true≢false
+    (sym ((pinned_decides t.handles id).1 x) ∙ off)))
+  where
+    by : (b : Bool) → (b ≡ false → ⊥) → b ≡ true
+    by true h = refl
+    by false h = absurd (h refl)
+
+pub pinned_place_is_read_back : PinnedPlaceIsReadBack
+pinned_place_is_read_back n old now new first reading id h k p since is by answered step reads reading_by =
+    let put = place_put n old first since.after h id p since.first is by answered in
+    let pinned : is_pinned since.after.handles id.0 ≡ true =
+    ap (λ m. is_pinned m id.0) put.1
+    ∙ (pinned_decides old.handles id).1 (pinned_by_it old first.caller h id by)
+    in
+    let at = still (At id p) (λ s e t w did apart had. (
+      pinned_still s e t id apart,
+      place_stays n s e id p e.cmd t did had.0 had.1,
+    )) since (pinned, put.0) in
+    place_is_returned_again n now new reading k id p step reads reading_by at.1.1

@@ -1,0 +1,250 @@
+-- Tests for what a collection of a state reaches, resurrects and keeps.
+use Rattle.std.proofs.Common.{◌≡◌, ℕ, ◌<◌, ◌≤◌, nat_lt, nat_le, ◌==◌, Bool, true, false, not, ◌||◌, ◌&&◌, List, map, Option, Some, None, IsSome, is_some, refl, sym, ap, ◌∙◌, subst, ⊎_elim, inl, inr, ◌⊎◌}
+use Rattle.std.specs.Prelude.{Contains}
+use Rattle.std.specs.List.{list_any}
+use Rattle.std.specs.Bool.{Decides}
+use Rattle.std.specs.FinMap.{get, keys, values}
+use Rattle.std.proofs.lemmas.Bool.{cases_Bool, false≢true, true≢false, eqb-true, eq-eqb, ltb-true, lt-ltb, leb-true, le-leb, not_from_false}
+use Rattle.std.proofs.lemmas.Option.{same_Some}
+use Rattle.hd_model.specs.declared.data.Id.{Id}
+use Rattle.hd_model.specs.State.{Object, Handle, State, secondary_of}
+use Rattle.hd_model.specs.Role.{Role, holds, short, long, attaches, role}
+use Rattle.hd_model.specs.Leads.{Leads}
+use Rattle.hd_model.specs.Scene.{scene_of, is_object, fields_in, generation_at, IsWhole}
+use Rattle.hd_model.specs.Reach.{IsAttached, IsHeld, IsRoot, named, queued, held, older, IsReached, IsRevived, IsKept}
+use Rattle.hd_model.specs.Collect.{is_attaching}
+use Rattle.hd_model.specs.Places.{is_target}
+use Rattle.hd_model.proofs.Members.{mapped_in}
+use Rattle.hd_model.proofs.Entries.{some_value, entry_of, value_of, value_found}
+use Rattle.hd_model.proofs.PinTest.{target_is, is_the_target}
+use Rattle.hd_model.proofs.SceneCollection.{root_object, arrow_object, reached_object}
+use Rattle.hd_model.proofs.Reachability.{decides_or, decides_and, decides_like, decides_any, through, decides_led}
+use Rattle.hd_model.proofs.UseChains.{Edge}
+
+-- tests of roles
+abbrev pub is_holding : Role → Bool
+is_holding holds = true
+is_holding short = false
+is_holding long = false
+is_holding attaches = false
+
+holding_is : (r : Role) → Decides (is_holding r) (r ≡ holds)
+holding_is holds = (λ _. refl, λ _. refl)
+holding_is short = (λ h. absurd (false≢true h), λ e. ap is_holding e)
+holding_is long = (λ h. absurd (false≢true h), λ e. ap is_holding e)
+holding_is attaches = (λ h. absurd (false≢true h), λ e. ap is_holding e)
+
+pub attaching_is : (r : Role) → Decides (is_attaching r) (r ≡ attaches)
+attaching_is holds = (λ h. absurd (false≢true h), λ e. ap is_attaching e)
+attaching_is short = (λ h. absurd (false≢true h), λ e. ap is_attaching e)
+attaching_is long = (λ h. absurd (false≢true h), λ e. ap is_attaching e)
+attaching_is attaches = (λ _. refl, λ _. refl)
+
+same_id : Id → Id → Bool
+same_id x y = x.0 == y.0
+
+same_is : (x y : Id) → Decides (same_id x y) (x ≡ y)
+unfolding same_id
+same_is x y = (
+  λ h. let e = eqb-true x.0 y.0 h in λ i. record { 0 = e i },
+  λ e. eq-eqb x.0 y.0 (ap (λ (z : Id). z.0) e),
+)
+
+target_decides : (x : Id) (o : Option Id) → Decides (is_target x.0 o) (o ≡ Some x)
+target_decides x o = (target_is x o, is_the_target x o)
+
+-- whether a list has a name
+named_decides : (x : Id) (xs : List (Option Id)) → Decides (list_any (is_target x.0) xs) (Contains xs (Some x))
+named_decides x xs =
+    decides_like (list_any (is_target x.0) xs) (λ h. subst (λ o. Contains xs o) h.1.1 h.1.0)
+    (λ h. (Some x, (h, refl)))
+    (decides_any (λ o. o ≡ Some x) (is_target x.0) (target_decides x) xs)
+
+module _ (s : State) where
+  -- the identities of the objects, in rising order
+  abbrev pub ids : List Id
+  ids = map (λ (k : ℕ). record { 0 = k }) (keys s.objects)
+
+  pub in_ids : (x : Id) → IsSome (get s.objects x.0) → Contains ids x
+  in_ids x h =
+      let (o, e) = some_value (get s.objects x.0) h in
+      mapped_in (λ (k : ℕ). record { 0 = k }) (keys s.objects) x.0
+      (mapped_in (λ (g : ℕ × Object Id). g.0) _ (x.0, o) (entry_of s.objects x.0 o e))
+
+  -- whether some live handle passes
+  handle_decides : (P : Handle Id → Type 0) (test : Handle Id → Bool) → ((h : Handle Id) → Decides (test h) (P h))
+      → Decides (list_any test (values s.handles)) ((slot : ℕ) × ((h : Handle Id)
+      × ((get s.handles slot ≡ Some h) × P h)))
+  handle_decides P test each =
+      decides_like (list_any test (values s.handles))
+      (λ h. let (slot, e) = value_found s.handles h.0 h.1.0 in (slot, (h.0, (e, h.1.1))))
+      (λ h. (h.1.0, (value_of s.handles h.0 h.1.0 h.1.1.0, h.1.1.1)))
+      (decides_any P test each (values s.handles))
+
+  attaching : Id → Id → Handle Id → Bool
+  attaching x y h = is_attaching (role h) && (is_target x.0 h.target && is_target y.0 (secondary_of h.extra))
+
+  pub is_edge : Id → Id → Bool
+  is_edge x y =
+      list_any (is_target y.0) (fields_in (get s.objects x.0)) || list_any (attaching x y) (values s.handles)
+
+  pub edge_is : (x y : Id) → Decides (is_edge x y) (Edge s x y)
+  unfolding is_edge attaching
+  edge_is x y =
+      decides_or (list_any (is_target y.0) (fields_in (get s.objects x.0)))
+      (list_any (attaching x y) (values s.handles))
+      (named_decides y (fields_in (get s.objects x.0)))
+      (decides_like (list_any (attaching x y) (values s.handles))
+      (λ h. record {
+        slot = h.0;
+        handle = h.1.0;
+        stands = h.1.1.0;
+        attaches = h.1.1.1.0;
+        target = h.1.1.1.1.0;
+        secondary = h.1.1.1.1.1;
+      })
+      (λ (a : IsAttached (scene_of s).handle x y).
+      (a.slot, (a.handle, (a.stands, (a.attaches, (a.target, a.secondary))))))
+      (handle_decides
+      (λ h. (role h ≡ attaches) × ((h.target ≡ Some x) × (secondary_of h.extra ≡ Some y))) (attaching x y)
+      (λ h. decides_and (is_attaching (role h))
+      (is_target x.0 h.target && is_target y.0 (secondary_of h.extra)) (attaching_is (role h))
+      (decides_and (is_target x.0 h.target) (is_target y.0 (secondary_of h.extra))
+      (target_decides x h.target) (target_decides y (secondary_of h.extra))))))
+
+  holding : Id → Handle Id → Bool
+  holding x h = is_holding (role h) && is_target x.0 h.target
+
+  held_decides : (x : Id) → Decides (list_any (holding x) (values s.handles)) (IsHeld (scene_of s).handle x)
+  unfolding holding
+  held_decides x =
+      decides_like (list_any (holding x) (values s.handles))
+      (λ h. record {
+        slot = h.0;
+        handle = h.1.0;
+        stands = h.1.1.0;
+        holds = h.1.1.1.0;
+        target = h.1.1.1.1;
+      })
+      (λ (h : IsHeld (scene_of s).handle x). (h.slot, (h.handle, (h.stands, (h.holds, h.target)))))
+      (handle_decides (λ h. (role h ≡ holds) × (h.target ≡ Some x)) (holding x)
+      (λ h. decides_and (is_holding (role h)) (is_target x.0 h.target) (holding_is (role h))
+      (target_decides x h.target)))
+
+  queue_decides : (x : Id) → Decides (list_any (λ y. same_id y x) s.queue) (Contains s.queue x)
+  queue_decides x =
+      decides_like (list_any (λ y. same_id y x) s.queue) (λ h. subst (λ z. Contains s.queue z) h.1.1 h.1.0)
+      (λ h. (x, (h, refl)))
+      (decides_any (λ y. y ≡ x) (λ y. same_id y x) (λ y. same_is y x) s.queue)
+
+  module _ (n : ℕ) where
+    older_decides : (x : Id)
+        → Decides (nat_lt n (generation_at (scene_of s).object x)) (n < generation_at (scene_of s).object x)
+    older_decides x = (
+      ltb-true n (generation_at (scene_of s).object x),
+      lt-ltb n (generation_at (scene_of s).object x),
+    )
+
+    pub is_root : Id → Bool
+    is_root x =
+        list_any (is_target x.0) (scene_of s).named
+        || (list_any (λ y. same_id y x) s.queue
+        || (list_any (holding x) (values s.handles) || nat_lt n (generation_at (scene_of s).object x)))
+
+    pub root_is : (x : Id) → Decides (is_root x) (IsRoot (scene_of s) n x)
+    unfolding is_root
+    root_is x =
+        decides_like (is_root x)
+        (λ h. ⊎_elim (λ a. named a)
+        (λ h. ⊎_elim (λ b. queued b) (λ h. ⊎_elim (λ c. held c) (λ d. older d) h) h) h)
+        back
+        (decides_or (list_any (is_target x.0) (scene_of s).named) _
+        (named_decides x (scene_of s).named)
+        (decides_or (list_any (λ y. same_id y x) s.queue) _ (queue_decides x)
+        (decides_or (list_any (holding x) (values s.handles)) (nat_lt n (generation_at (scene_of s).object x))
+        (held_decides x) (older_decides x))))
+      where
+        back : IsRoot (scene_of s) n x
+            → Contains (scene_of s).named (Some x)
+            ⊎ (Contains s.queue x ⊎ (IsHeld (scene_of s).handle x ⊎ (n < generation_at (scene_of s).object x)))
+        back (named a) = inl a
+        back (queued b) = inr (inl b)
+        back (held c) = inr (inr (inl c))
+        back (older d) = inr (inr (inr d))
+
+    -- whether a chain leads from a start to an object
+    pub is_led : (Id → Bool) → Id → Bool
+    is_led start y = list_any (λ r. start r && through (Edge s) same_id is_edge same_is edge_is ids r y) ids
+
+    pub is_reach : Id → Bool
+    is_reach = is_led is_root
+
+    revives : Option (Object Id) → Bool → Bool
+    revives None reached = false
+    revives (Some o) reached = o.registered && (nat_le o.generation n && not reached)
+
+    pub is_revived : Id → Bool
+    is_revived x = revives (get s.objects x.0) (is_reach x)
+
+    pub is_kept : Id → Bool
+    is_kept = is_led (λ x. is_reach x || is_revived x)
+
+    module _ (w : IsWhole (scene_of s)) where
+      led_is : (Start : Id → Type 0) (start : Id → Bool) → ((x : Id) → Decides (start x) (Start x))
+          → ((x : Id) → Start x → is_object (scene_of s).object x ≡ true) → (y : Id)
+          → Decides (is_led start y) ((r : Id) × (Start r × Leads (Edge s) r y))
+      unfolding is_led
+      led_is Start start start_is objects y =
+          decides_led (Edge s) same_id is_edge same_is edge_is ids
+          (λ x. is_object (scene_of s).object x ≡ true) in_ids
+          (λ x z h e. arrow_object n (scene_of s) w x z e) Start start start_is objects y
+
+      pub reach_is : (x : Id) → Decides (is_reach x) (IsReached (scene_of s) n x)
+      unfolding is_reach
+      reach_is x = led_is (IsRoot (scene_of s) n) is_root root_is (root_object n (scene_of s) w) x
+
+      revives_is : (x : Id) (o : Option (Object Id)) → get s.objects x.0 ≡ o
+          → Decides (revives o (is_reach x)) (IsRevived (scene_of s) n x)
+      unfolding revives
+      revives_is x None e = (
+        λ h. absurd (false≢true h),
+        λ v. absurd (false≢true (sym (ap is_some e) ∙ ap is_some v.stands)),
+      )
+      revives_is x (Some o) e =
+          decides_like (o.registered && (nat_le o.generation n && not (is_reach x)))
+          (λ h. record {
+            object = o;
+            stands = e;
+            registered = h.0;
+            young = h.1.0;
+            lost = h.1.1;
+          })
+          (λ (v : IsRevived (scene_of s) n x).
+          let same : v.object ≡ o = same_Some v.object o (sym v.stands ∙ e) in (
+            ap (λ (q : Object Id). q.registered) (sym same) ∙ v.registered,
+            (subst (λ (q : Object Id). q.generation ≤ n) same v.young, v.lost),
+          ))
+          (decides_and o.registered (nat_le o.generation n && not (is_reach x)) (λ h. h, λ h. h)
+          (decides_and (nat_le o.generation n) (not (is_reach x))
+          (leb-true o.generation n, le-leb o.generation n) (
+            λ out reached. true≢false (sym ((reach_is x).1 reached) ∙ not_true (is_reach x) out),
+            λ lost. ⊎_elim (λ yes. absurd (lost ((reach_is x).0 yes))) (not_from_false (is_reach x))
+                (cases_Bool (is_reach x)),
+          )))
+        where
+          not_true : (b : Bool) → not b ≡ true → b ≡ false
+          not_true true h = absurd (false≢true h)
+          not_true false h = refl
+
+      pub revived_is : (x : Id) → Decides (is_revived x) (IsRevived (scene_of s) n x)
+      unfolding is_revived
+      revived_is x = revives_is x (get s.objects x.0) refl
+
+      pub kept_is : (x : Id) → Decides (is_kept x) (IsKept (scene_of s) n x)
+      unfolding is_kept
+      kept_is x =
+          led_is (λ r. IsReached (scene_of s) n r ⊎ IsRevived (scene_of s) n r)
+          (λ r. is_reach r || is_revived r)
+          (λ r. decides_or (is_reach r) (is_revived r) (reach_is r) (revived_is r))
+          (λ r h. ⊎_elim (λ a. reached_object n (scene_of s) w r a)
+          (λ (v : IsRevived (scene_of s) n r). ap is_some v.stands) h) x

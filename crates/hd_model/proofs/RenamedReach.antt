@@ -1,0 +1,272 @@
+-- A scene read under other names has the same reach, and keeps and resurrects the same objects.
+use Rattle.std.proofs.Common.{◌≡◌, ℕ, ◌<◌, ◌≤◌, true, Option, Some, None, is_some, refl, sym, ap, ◌∙◌, subst, ⊎_elim, inl, inr, ◌⊎◌, arith}
+use Rattle.std.specs.Prelude.{Contains, option_map}
+use Rattle.hd_model.specs.declared.data.Kind.{Kind}
+use Rattle.hd_model.specs.declared.data.Kind.TheVariants as kind
+use Rattle.hd_model.specs.State.{Object, Extra, nothing, strength, secondary, count, Handle, secondary_of, rename_extra, rename_object, rename_handle}
+use Rattle.hd_model.specs.Role.{holds, attaches, role_of, role}
+use Rattle.hd_model.specs.Leads.{Leads}
+use Rattle.hd_model.specs.Scene.{Scene, is_object, fields_in, generation_in, generation_at, IsField, IsWhole, IsReading}
+use Rattle.hd_model.specs.Reach.{IsAttached, IsArrow, IsRoot, named, queued, held, older, IsReached, IsRevived, IsKept}
+use Rattle.hd_model.proofs.EdgeChains.{leads_turn, leads_lift}
+use Rattle.hd_model.proofs.Members.{mapped_in, mapped_from}
+use Rattle.hd_model.proofs.Entries.{some_value}
+use Rattle.hd_model.proofs.SceneCollection.{mapped_value, root_object, arrow_object, reached_object}
+
+-- names change no role, and rename a secondary as they rename a target
+pub role_renamed : {N M : Type 0} (f : N → M) (k : Kind) (e : Extra N)
+    → role_of k (rename_extra f e) ≡ role_of k e
+role_renamed f kind.Short e = refl
+role_renamed f kind.Long e = refl
+role_renamed f kind.Strong e = refl
+role_renamed f kind.Pinned e = refl
+role_renamed f kind.Variable nothing = refl
+role_renamed f kind.Variable (strength given) = refl
+role_renamed f kind.Variable (secondary o) = refl
+role_renamed f kind.Variable (count c) = refl
+role_renamed f kind.Counted nothing = refl
+role_renamed f kind.Counted (strength given) = refl
+role_renamed f kind.Counted (secondary o) = refl
+role_renamed f kind.Counted (count c) = refl
+role_renamed f kind.Dependent e = refl
+
+pub secondary_renamed : {N M : Type 0} (f : N → M) (e : Extra N)
+    → secondary_of (rename_extra f e) ≡ option_map f (secondary_of e)
+secondary_renamed f nothing = refl
+secondary_renamed f (strength given) = refl
+secondary_renamed f (secondary o) = refl
+secondary_renamed f (count c) = refl
+
+module _ {N M : Type 0} (f : N → M) (s : Scene N) (t : Scene M) (g : IsReading f s t) where
+  -- an object of s, as it is in t
+  pub object_read : (x : N) (o : Object N) → s.object x ≡ Some o → t.object (f x) ≡ Some (rename_object f o)
+  object_read x o e = g.objects x (ap is_some e) ∙ ap (option_map (rename_object f)) e
+
+  pub object_unread : (x : N) (p : Object M) → is_object s.object x ≡ true → t.object (f x) ≡ Some p
+      → (o : Object N) × ((s.object x ≡ Some o) × (rename_object f o ≡ p))
+  object_unread x p h e = mapped_value (rename_object f) (s.object x) p (sym (g.objects x h) ∙ e)
+
+  pub is_object_read : (x : N) → is_object s.object x ≡ true → is_object t.object (f x) ≡ true
+  is_object_read x h = let (o, e) = some_value (s.object x) h in ap is_some (object_read x o e)
+
+  pub generation_read : (x : N) → is_object s.object x ≡ true
+      → generation_at t.object (f x) ≡ generation_at s.object x
+  generation_read x h =
+      let (o, e) = some_value (s.object x) h in ap generation_in (object_read x o e)
+      ∙ sym (ap generation_in e)
+
+  pub handle_read : (slot : ℕ) (h : Handle N) → s.handle slot ≡ Some h
+      → t.handle slot ≡ Some (rename_handle f h)
+  handle_read slot h e = g.handles slot ∙ ap (option_map (rename_handle f)) e
+
+  pub handle_unread : (slot : ℕ) (h : Handle M) → t.handle slot ≡ Some h → (o : Handle N)
+      × ((s.handle slot ≡ Some o) × (rename_handle f o ≡ h))
+  handle_unread slot h e = mapped_value (rename_handle f) (s.handle slot) h (sym (g.handles slot) ∙ e)
+
+module _ {N M : Type 0} (f : N → M) (n : ℕ) (s : Scene N) (t : Scene M) (w : IsWhole s)
+    (g : IsReading f s t) where
+  -- roots and edges of s are those of t
+  root_read : (x : N) → IsRoot s n x → IsRoot t n (f x)
+  root_read x (named h) = named (subst (λ xs. Contains xs (Some (f x))) (sym g.named)
+      (mapped_in (option_map f) s.named (Some x) h))
+  root_read x (queued h) = queued (subst (λ xs. Contains xs (f x)) (sym g.queue) (mapped_in f s.queue x h))
+  root_read x (held h) = held (record {
+    slot = h.slot;
+    handle = rename_handle f h.handle;
+    stands = handle_read f s t g h.slot h.handle h.stands;
+    holds = role_renamed f h.handle.kind h.handle.extra ∙ h.holds;
+    target = ap (option_map f) h.target;
+  })
+  root_read x (older l) =
+      older (subst (λ k. n < k) (sym (generation_read f s t g x (root_object n s w x (older l)))) l)
+
+  field_read : (x y : N) → is_object s.object x ≡ true → IsField s.object x y → IsField t.object (f x) (f y)
+  field_read x y h c =
+      let (o, e) = some_value (s.object x) h in
+      subst (λ (q : Option (Object M)). Contains (fields_in q) (Some (f y))) (sym (object_read f s t g x o e))
+      (mapped_in (option_map f) o.fields (Some y)
+      (subst (λ (q : Option (Object N)). Contains (fields_in q) (Some y)) e c))
+
+  attached_read : (x y : N) → IsAttached s.handle x y → IsAttached t.handle (f x) (f y)
+  attached_read x y a = record {
+    slot = a.slot;
+    handle = rename_handle f a.handle;
+    stands = handle_read f s t g a.slot a.handle a.stands;
+    attaches = role_renamed f a.handle.kind a.handle.extra ∙ a.attaches;
+    target = ap (option_map f) a.target;
+    secondary = secondary_renamed f a.handle.extra ∙ ap (option_map f) a.secondary;
+  }
+
+  arrow_read : (x y : N) → is_object s.object x ≡ true → IsArrow s.object s.handle x y
+      → IsArrow t.object t.handle (f x) (f y)
+  arrow_read x y h a = ⊎_elim (λ c. inl (field_read x y h c)) (λ d. inr (attached_read x y d)) a
+
+  chain_read : {x y : N} → is_object s.object x ≡ true → Leads (IsArrow s.object s.handle) x y
+      → Leads (IsArrow t.object t.handle) (f x) (f y)
+  chain_read h chain =
+      (leads_turn (IsArrow s.object s.handle) (IsArrow t.object t.handle) f (λ x. is_object s.object x ≡ true)
+      (λ x y k a. arrow_object n s w x y a) arrow_read h chain).1
+
+  -- and back: a root of t is the new name of one, and an edge in t from an object of s is one of s
+  abbrev pub Called : (N → Type 0) → M → Type 0
+  Called P b = (x : N) × ((is_object s.object x ≡ true) × (P x × (f x ≡ b)))
+
+  root_unread : (b : M) → IsRoot t n b → Called (IsRoot s n) b
+  root_unread b (named h) =
+      let (o, rest) = mapped_from (option_map f) s.named (Some b)
+      (subst (λ xs. Contains xs (Some b)) g.named h) in
+      let (x, both) = mapped_value f o b rest.1 in
+      let c = subst (λ q. Contains s.named q) both.0 rest.0 in
+      (x, (w.named x c, (named c, both.1)))
+  root_unread b (queued h) =
+      let (x, rest) = mapped_from f s.queue b (subst (λ xs. Contains xs b) g.queue h) in
+      (x, (w.queue x rest.0, (queued rest.0, rest.1)))
+  root_unread b (held h) =
+      let (o, both) = handle_unread f s t g h.slot h.handle h.stands in
+      let (x, at) = mapped_value f o.target b (ap (λ (q : Handle M). q.target) both.1 ∙ h.target) in
+      let holding : role o ≡ holds = sym (role_renamed f o.kind o.extra)
+      ∙ ap (λ (q : Handle M). role q) both.1 ∙ h.holds in (
+        x,
+        (
+          w.targets h.slot o x both.0 at.0,
+          (
+            held (record { slot = h.slot; handle = o; stands = both.0; holds = holding; target = at.0 }),
+            at.1,
+          ),
+        ),
+      )
+  root_unread b (older l) =
+      let (x, rest) = g.only b (object_older (t.object b) l) in (
+        x,
+        (
+          rest.0,
+          (
+            older (subst (λ k. n < k)
+                (sym (ap (generation_at t.object) rest.1) ∙ generation_read f s t g x rest.0) l),
+            rest.1,
+          ),
+        ),
+      )
+    where
+      object_older : (o : Option (Object M)) → n < generation_in o → is_some o ≡ true
+      object_older None l = absurd (omega arith)
+      object_older (Some o) l = refl
+
+  arrow_unread : (x : N) (b : M) → is_object s.object x ≡ true → IsArrow t.object t.handle (f x) b
+      → (y : N) × ((is_object s.object y ≡ true) × (IsArrow s.object s.handle x y × (f y ≡ b)))
+  arrow_unread x b h a = ⊎_elim by_field by_handle a
+    where
+      by_field : IsField t.object (f x) b → (y : N)
+          × ((is_object s.object y ≡ true) × (IsArrow s.object s.handle x y × (f y ≡ b)))
+      by_field c =
+          let (o, e) = some_value (s.object x) h in
+          let (v, rest) = mapped_from (option_map f) o.fields (Some b)
+          (subst (λ (q : Option (Object M)). Contains (fields_in q) (Some b)) (object_read f s t g x o e) c)
+          in
+          let (y, both) = mapped_value f v b rest.1 in
+          let field : IsField s.object x y =
+          subst (λ (q : Option (Object N)). Contains (fields_in q) (Some y)) (sym e)
+          (subst (λ q. Contains o.fields q) both.0 rest.0) in
+          (y, (w.fields x y field, (inl field, both.1)))
+
+      by_handle : IsAttached t.handle (f x) b → (y : N)
+          × ((is_object s.object y ≡ true) × (IsArrow s.object s.handle x y × (f y ≡ b)))
+      by_handle d =
+          let (o, both) = handle_unread f s t g d.slot d.handle d.stands in
+          let (z, at) = mapped_value f o.target (f x) (ap (λ (q : Handle M). q.target) both.1 ∙ d.target) in
+          let (y, second) = mapped_value f (secondary_of o.extra) b
+          (sym (secondary_renamed f o.extra) ∙ ap (λ (q : Handle M). secondary_of q.extra) both.1
+          ∙ d.secondary) in
+          let same : z ≡ x = g.apart z x (w.targets d.slot o z both.0 at.0) h at.1 in
+          let attaching : role o ≡ attaches = sym (role_renamed f o.kind o.extra)
+          ∙ ap (λ (q : Handle M). role q) both.1 ∙ d.attaches in (
+            y,
+            (
+              w.secondaries d.slot o y both.0 second.0,
+              (
+                inr (record {
+                  slot = d.slot;
+                  handle = o;
+                  stands = both.0;
+                  attaches = attaching;
+                  target = at.0 ∙ ap (λ v. Some v) same;
+                  secondary = second.0;
+                }),
+                second.1,
+              ),
+            ),
+          )
+
+  pub reached_read : (x : N) → IsReached s n x → IsReached t n (f x)
+  reached_read x h = (f h.0, (root_read h.0 h.1.0, chain_read (root_object n s w h.0 h.1.0) h.1.1))
+
+  pub reached_unread : (b : M) → IsReached t n b → Called (IsReached s n) b
+  reached_unread b h =
+      let (r, rest) = root_unread h.0 h.1.0 in
+      let (y, last) =
+      leads_lift (IsArrow s.object s.handle) (IsArrow t.object t.handle) f
+      (λ x. is_object s.object x ≡ true) arrow_unread
+      r rest.0 rest.1.1 h.1.1 in
+      (y, (last.0, ((r, (rest.1.0, last.1.0)), last.1.1)))
+
+  -- what holds of all with the name f x holds of x
+  back : (P : N → Type 0) (x : N) → is_object s.object x ≡ true → Called P (f x) → P x
+  back P x h c = subst P (g.apart c.0 x c.1.0 h c.1.1.1) c.1.1.0
+
+  pub reached_same : (x : N) → is_object s.object x ≡ true → IsReached t n (f x) → IsReached s n x
+  reached_same x h r = back (IsReached s n) x h (reached_unread (f x) r)
+
+  pub revived_read : (x : N) → IsRevived s n x → IsRevived t n (f x)
+  revived_read x v = record {
+    object = rename_object f v.object;
+    stands = object_read f s t g x v.object v.stands;
+    registered = v.registered;
+    young = v.young;
+    lost = λ r. v.lost (reached_same x (ap is_some v.stands) r);
+  }
+
+  pub revived_same : (x : N) → is_object s.object x ≡ true → IsRevived t n (f x) → IsRevived s n x
+  revived_same x h v =
+      let (o, both) = object_unread f s t g x v.object h v.stands in record {
+        object = o;
+        stands = both.0;
+        registered = ap (λ (p : Object M). p.registered) both.1 ∙ v.registered;
+        young = subst (λ (p : Object M). p.generation ≤ n) (sym both.1) v.young;
+        lost = λ r. v.lost (reached_read x r);
+      }
+
+  pub revived_unread : (b : M) → IsRevived t n b → Called (IsRevived s n) b
+  revived_unread b v =
+      let (x, rest) = g.only b (ap is_some v.stands) in
+      (x, (rest.0, (revived_same x rest.0 (subst (IsRevived t n) (sym rest.1) v), rest.1)))
+
+  start_unread : (b : M) → IsReached t n b ⊎ IsRevived t n b
+      → Called (λ x. IsReached s n x ⊎ IsRevived s n x) b
+  start_unread b h =
+      ⊎_elim (λ r. let (x, rest) = reached_unread b r in (x, (rest.0, (inl rest.1.0, rest.1.1))))
+      (λ v. let (x, rest) = revived_unread b v in (x, (rest.0, (inr rest.1.0, rest.1.1)))) h
+
+  start_object : (x : N) → IsReached s n x ⊎ IsRevived s n x → is_object s.object x ≡ true
+  start_object x h = ⊎_elim (reached_object n s w x) (λ (v : IsRevived s n x). ap is_some v.stands) h
+
+  pub kept_read : (x : N) → IsKept s n x → IsKept t n (f x)
+  kept_read x h = (
+    f h.0,
+    (
+      ⊎_elim (λ r. inl (reached_read h.0 r)) (λ v. inr (revived_read h.0 v)) h.1.0,
+      chain_read
+          (start_object h.0 h.1.0) h.1.1,
+    ),
+  )
+
+  pub kept_unread : (b : M) → IsKept t n b → Called (IsKept s n) b
+  kept_unread b h =
+      let (r, rest) = start_unread h.0 h.1.0 in
+      let (y, last) =
+      leads_lift (IsArrow s.object s.handle) (IsArrow t.object t.handle) f
+      (λ x. is_object s.object x ≡ true) arrow_unread
+      r rest.0 rest.1.1 h.1.1 in
+      (y, (last.0, ((r, (rest.1.0, last.1.0)), last.1.1)))
+
+  pub kept_same : (x : N) → is_object s.object x ≡ true → IsKept t n (f x) → IsKept s n x
+  kept_same x h k = back (IsKept s n) x h (kept_unread (f x) k)

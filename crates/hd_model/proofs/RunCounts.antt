@@ -1,0 +1,243 @@
+-- The handles and the objects of a run, counted over its journal.
+use Rattle.std.proofs.Common.{◌≡◌, ℕ, ◌+◌, ◌/◌, ◌%◌, ◌^◌, ◌<◌, ◌≤◌, ◌&&◌, Bool, true, false, cond, List, Option, Some, None, is_some, IsSome, refl, sym, ap, ◌∙◌, subst, arith, nat_cmp}
+use Rattle.std.specs.Prelude.{sum_by, option_map}
+use Rattle.std.specs.FinMap.{get, len, len-empty}
+use Rattle.std.proofs.lemmas.Option.{none-some}
+use Rattle.std.proofs.lemmas.List.Sums.{sum_by-cons}
+use Rattle.hd_model.specs.declared.data.Id.{Id}
+use Rattle.hd_model.specs.declared.data.Slot.{Slot}
+use Rattle.hd_model.specs.declared.data.Kind.{Kind}
+use Rattle.hd_model.specs.declared.data.Grown.{Grown}
+use Rattle.hd_model.specs.declared.data.Grown.TheVariants.{Zero, One, Two, Back}
+use Rattle.hd_model.specs.declared.limits.TheConstants.{ROWS}
+use Rattle.hd_model.specs.declared.data.Entry.{Entry}
+use Rattle.hd_model.specs.declared.data.Refusal.{Refusal}
+use Rattle.hd_model.specs.declared.data.Reply.{Reply}
+use Rattle.hd_model.specs.declared.data.Reply.TheVariants as reply
+use Rattle.hd_model.specs.declared.command.Cmd.{Cmd}
+use Rattle.hd_model.specs.State.{Numbers, Object, Handle, State, start_of, register_of, last_serial, object_by_id, handle_at, field_of, use_of, first_slot, handles_of, with_handle}
+use Rattle.hd_model.specs.Command.{loaded, fresh_object, made_handle}
+use Rattle.hd_model.specs.Scene.{scene_of}
+use Rattle.hd_model.specs.Collect.{cleared}
+use Rattle.hd_model.specs.Touched.{touched_by}
+use Rattle.hd_model.specs.Step.{MayGive, DoesCollect, Step}
+use Rattle.hd_model.specs.Run.{Chain, stay, link}
+use Rattle.hd_model.specs.WellFormed.{IsWellFormed}
+use Rattle.hd_model.specs.Laws.{is_done, object_answered, removed_in, makes_handle, frees_handle, makes_object, HandlesAreMadeLessFreed, ObjectsAreMadeLessRemoved}
+use Rattle.hd_model.proofs.ReadAfterWrite.{len_new, len_again, len_less}
+use Rattle.hd_model.proofs.PropertyCounts.{counts_like, counts_once}
+use Rattle.hd_model.proofs.Entries.{counts_keys, some_value}
+use Rattle.hd_model.proofs.SceneCollection.{handle_before}
+use Rattle.hd_model.proofs.WholeScenes.{whole_scene}
+use Rattle.hd_model.proofs.Reports.{report_says}
+use Rattle.hd_model.proofs.Effects.{Effect, refused, makes_object as does_make, sets_field, gets_field, sets_value, reads_value, copies, clears, puts_static, gets_static, reads_generation, suppresses, reregisters, finds_none, takes_first, collects, makes_handle as does_make_handle, gets_target, sets_target, sets_secondary, gets_secondary, sets_strength, raises_count, lowers_count, frees_handle as does_free, puts_board, picks_board, answers_place, gives_back, gives_none, effect, next_identity, with_field}
+use Rattle.hd_model.proofs.WellFormedSteps.{has, first_block, step_keeps, start_is_well_formed}
+
+abbrev one_if : Bool → ℕ
+one_if b = cond b 1 0
+
+-- what each step adds and takes is what the entries state
+totals : (n : Numbers) (size : State → ℕ) (made gone : Entry → ℕ)
+    → ((s : State) (e : Entry) (t : State) → IsWellFormed n s → Step n s e t
+    → size t + gone e ≡ size s + made e) → {s t : State} {es : List Entry} → IsWellFormed n s
+    → Chain (Step n) s es t → size t + sum_by gone es ≡ size s + sum_by made es
+totals n size made gone each w stay = refl
+totals n size made gone each w (link {s = s} {t = t} {u = u} {e = e} {es = es} step rest) =
+    let first = each s e t w step in
+    let others = totals n size made gone each (step_keeps n s t e w step) rest in
+    let more = sum_by-cons made e es in
+    let less = sum_by-cons gone e es in
+    omega arith
+
+-- a refused command makes and frees nothing
+no_and : (b : Bool) → (b && false) ≡ false
+no_and true = refl
+no_and false = refl
+
+as_one : (b : Bool) → b ≡ true → one_if b ≡ 1
+as_one b e = ap one_if e
+
+as_none : (b : Bool) → b ≡ false → one_if b ≡ 0
+as_none b e = ap one_if e
+
+refused_is_none : (b : Bool) (test : Reply → Bool) (r : Reply) (why : Refusal)
+    → test (reply.Refused why) ≡ false → r ≡ reply.Refused why → one_if (b && test r) ≡ 0
+refused_is_none b test r why fails is = as_none _
+    (ap (λ x. b && test x) is ∙ ap (λ x. b && x) fails ∙ no_and b)
+
+done_is_one : (r : Reply) → r ≡ reply.Done → one_if (is_done r) ≡ 1
+done_is_one r is = as_one _ (ap is_done is)
+
+pub none_from : {X : Type 0} (o : Option X) → (IsSome o → ⊥) → o ≡ None
+none_from None h = refl
+none_from (Some x) h = absurd (h refl)
+
+-- the next identity of a caller is that of no object
+pub fresh : (n : Numbers) (s : State) (c : ℕ) → IsWellFormed n s → last_serial s c + 1 < 2 ^ 32
+    → get s.objects (next_identity s c).0 ≡ None
+fresh n s c w small =
+    let id : ℕ = (next_identity s c).0 in
+    let owner : id / 2 ^ 32 ≡ c = omega arith in
+    let number : id % 2 ^ 32 ≡ last_serial s c + 1 = omega arith in
+    none_from (get s.objects id) (λ h.
+    let le : id % 2 ^ 32 ≤ last_serial s c =
+    subst (λ k. id % 2 ^ 32 ≤ last_serial s k) owner (w.serials.to_last id h) in
+    omega arith)
+
+-- a collection leaves as many handles, and as many objects as it does not remove
+mapped_some : {A B : Type 0} (f : A → B) (o : Option A) → IsSome o → IsSome (option_map f o)
+mapped_some f None h = h
+mapped_some f (Some x) h = refl
+
+module _ (n : Numbers) (k : ℕ) (s t : State) (e : Entry) (w : IsWellFormed n s)
+    (did : DoesCollect s e t k) where
+  handles_stay : len t.handles ≡ len s.handles
+  handles_stay =
+      let scene = did.collects.scene in
+      let before = counts_keys s.handles (λ i. i) (λ i. i) (λ i. refl) (λ i. refl) in
+      let after = counts_keys t.handles (λ i. i) (λ i. i) (λ i. refl) (λ i. refl) in
+      counts_once (λ i. IsSome (get s.handles i)) (len t.handles) (len s.handles)
+      (counts_like (λ i. IsSome (get t.handles i)) (λ i. IsSome (get s.handles i)) (len t.handles)
+      (λ i h.
+      let (handle, is) = some_value (get t.handles i) h in
+      let (g, both) = handle_before (λ (x : Id). x.0) k (scene_of s) (scene_of t) did.report
+      (whole_scene n s w) scene i handle is in ap is_some both.0)
+      (λ i h. subst IsSome (sym (scene.handles i)) (mapped_some (cleared scene.reach scene.kept)
+      (get s.handles i) h)) after) before
+
+  objects_fall : len t.objects + did.report.removed ≡ len s.objects
+  objects_fall =
+      (report_says n k s t did.report (record { well_formed = w; collects = did.collects })).objects
+
+-- a slot that may be given holds no handle
+no_handle : (n : Numbers) (s : State) → IsWellFormed n s → (block : ℕ) (slot : Slot) → use_of s block ≡ None
+    → slot ≡ first_slot block → handle_at s slot ≡ None
+no_handle n s w block slot unused first =
+    none_from (handle_at s slot) (λ h.
+    let (handle, is) = some_value (handle_at s slot) h in
+    let here : slot.0 / ROWS ≡ block = ap (λ (x : Slot). x.0 / ROWS) first ∙ first_block block in
+    none-some (handles_of handle.kind) (sym unused ∙ ap (use_of s) (sym here)
+    ∙ w.handles.kinds slot.0 handle is))
+
+pub given_vacant : (n : Numbers) (s : State) → IsWellFormed n s
+    → (wanted : Kind) (grown : Grown) (slot : Slot) → MayGive n s wanted grown slot → handle_at s slot ≡ None
+given_vacant n s w wanted Zero slot may = may.0
+given_vacant n s w wanted (One block) slot may = no_handle n s w block slot may.1.unused may.2
+given_vacant n s w wanted (Two block other) slot may = no_handle n s w block slot may.1.unused may.3
+given_vacant n s w wanted (Back block) slot may = absurd may
+
+module _ (n : Numbers) (s : State) (e : Entry) (w : IsWellFormed n s) where
+  again : (h : ℕ) (slot : ℕ) (handle handle' : Handle Id) → get s.handles slot ≡ Some handle
+      → len (with_handle s (record { 0 = slot }) handle').handles ≡ len s.handles
+  again h slot handle handle' live = len_again s.handles slot handle' (ap is_some live)
+
+  handles_step : (c : Cmd) (t : State) → Effect n s e c t
+      → len t.handles + one_if (frees_handle c e.reply) ≡ len s.handles + one_if (makes_handle c e.reply)
+  handles_step c t (refused {r = r} p) =
+      let free = refused_is_none (touched_by c).frees_handle is_done e.reply r refl p in
+      let none = refused_is_none (touched_by c).makes_handle is_done e.reply r refl p in
+      omega arith
+  handles_step c t (does_make_handle {d = d} {t = r} {given = given} slot given_is may p) =
+      let one = done_is_one e.reply p in
+      let more = len_new s.handles slot.0 (made_handle s e.caller given r)
+      (given_vacant n s w _ e.grown slot may) in
+      omega arith
+  handles_step c t (sets_target {h = h} slot handle f p) = ap (λ x. x + 0) (again h slot.0 handle _ f.live)
+  handles_step c t (sets_secondary {h = h} slot handle f same target p) =
+      ap (λ x. x + 0) (again h slot.0 handle _ f.live)
+  handles_step c t (sets_strength {h = h} slot handle f same p) =
+      ap (λ x. x + 0) (again h slot.0 handle _ f.live)
+  handles_step c t (raises_count {h = h} slot handle f same p) =
+      ap (λ x. x + 0) (again h slot.0 handle _ f.live)
+  handles_step c t (lowers_count {h = h} slot handle f same p) =
+      ap (λ x. x + 0) (again h slot.0 handle _ f.live)
+  handles_step c t (does_free {h = h} slot handle f p q) =
+      let one = done_is_one e.reply p in
+      let less = len_less s.handles slot.0 (ap is_some f.live) in
+      omega arith
+  handles_step c t (collects {k = k} did) = ap (λ x. x + 0) (handles_stay n k s t e w did)
+  handles_step c t _ = refl
+
+  loaded_removes : (o : Option Id) → removed_in (loaded o) ≡ 0
+  loaded_removes None = refl
+  loaded_removes (Some id) = refl
+
+  -- only a collection returns that it removed objects
+  removes : (c : Cmd) (t : State) → Effect n s e c t
+      → len t.objects + removed_in e.reply ≡ len s.objects + one_if (makes_object c e.reply)
+  removes c t (refused {r = r} p) =
+      let none = refused_is_none (touched_by c).makes_object
+      (λ x. is_some (object_answered x)) e.reply r refl p in
+      let zero_is = ap removed_in p in
+      omega arith
+  removes c t (does_make {d = d} {fields = fields} {fin = fin} small p) =
+      let zero_is = ap removed_in p in
+      let one = as_one (is_some (object_answered e.reply)) (ap (λ x. is_some (object_answered x)) p) in
+      let more = len_new s.objects (next_identity s e.caller).0 (fresh_object fields fin)
+      (fresh n s e.caller w small) in
+      omega arith
+  removes c t (sets_field {o = o} {i = i} {v = v} id f l p) =
+      let zero_is = ap removed_in p in
+      let same = len_again s.objects id.0 (with_field (object_by_id s id) i (register_of s e.caller v))
+      (has n s e.caller o id w f) in
+      omega arith
+  removes c t (sets_value {o = o} {v = v} id f p) =
+      let zero_is = ap removed_in p in
+      let same = len_again s.objects id.0 (record (object_by_id s id) { value = v })
+      (has n s e.caller o id w f) in
+      omega arith
+  removes c t (suppresses {o = o} id f p) =
+      let zero_is = ap removed_in p in
+      let same = len_again s.objects id.0 (record (object_by_id s id) { registered = false })
+      (has n s e.caller o id w f) in
+      omega arith
+  removes c t (reregisters {o = o} id f p) =
+      let zero_is = ap removed_in p in
+      let same = len_again s.objects id.0 (record (object_by_id s id) { registered = true })
+      (has n s e.caller o id w f) in
+      omega arith
+  removes c t (collects {k = k} did) =
+      let fall = objects_fall n k s t e w did in
+      let told = ap removed_in did.reply in
+      omega arith
+  removes c t (gets_field {i = i} id f l p) = ap (λ x. len s.objects + x)
+      (ap removed_in p ∙ loaded_removes (field_of (object_by_id s id) i))
+  removes c t (reads_value id f p) = ap (λ x. len s.objects + removed_in x) p
+  removes c t (copies p) = ap (λ x. len s.objects + removed_in x) p
+  removes c t (clears p) = ap (λ x. len s.objects + removed_in x) p
+  removes c t (puts_static p) = ap (λ x. len s.objects + removed_in x) p
+  removes c t (gets_static p) = ap (λ x. len s.objects + x) (ap removed_in p ∙ loaded_removes _)
+  removes c t (reads_generation id f p) = ap (λ x. len s.objects + removed_in x) p
+  removes c t (finds_none p) = ap (λ x. len s.objects + removed_in x) p
+  removes c t (takes_first id rest is p) = ap (λ x. len s.objects + removed_in x) p
+  removes c t (does_make_handle slot given_is may p) = ap (λ x. len s.objects + removed_in x) p
+  removes c t (gets_target slot handle f p) = ap (λ x. len s.objects + x) (ap removed_in p ∙ loaded_removes _)
+  removes c t (sets_target slot handle f p) = ap (λ x. len s.objects + removed_in x) p
+  removes c t (sets_secondary slot handle f same target p) = ap (λ x. len s.objects + removed_in x) p
+  removes c t (gets_secondary slot handle f p) =
+      ap (λ x. len s.objects + x) (ap removed_in p ∙ loaded_removes _)
+  removes c t (sets_strength slot handle f same p) = ap (λ x. len s.objects + removed_in x) p
+  removes c t (raises_count slot handle f same p) = ap (λ x. len s.objects + removed_in x) p
+  removes c t (lowers_count slot handle f same p) = ap (λ x. len s.objects + removed_in x) p
+  removes c t (does_free slot handle f p q) = ap (λ x. len s.objects + removed_in x) p
+  removes c t (puts_board p) = ap (λ x. len s.objects + removed_in x) p
+  removes c t (picks_board p) = ap (λ x. len s.objects + removed_in x) p
+  removes c t (answers_place slot handle id place f target may p) = ap (λ x. len s.objects + removed_in x) p
+  removes c t (gives_back block free p) = ap (λ x. len s.objects + removed_in x) p
+  removes c t (gives_none p) = ap (λ x. len s.objects + removed_in x) p
+
+pub handles_are_made_less_freed : HandlesAreMadeLessFreed
+handles_are_made_less_freed n journal s run =
+    let none : len (start_of n).handles ≡ 0 = len-empty nat_cmp (Handle Id) in
+    let all = totals n (λ x. len x.handles) (λ e. one_if (makes_handle e.cmd e.reply))
+    (λ e. one_if (frees_handle e.cmd e.reply)) (λ x e y w step. handles_step n x e w e.cmd y
+    (effect n x e y step)) (start_is_well_formed n) run in
+    omega arith
+
+pub objects_are_made_less_removed : ObjectsAreMadeLessRemoved
+objects_are_made_less_removed n journal s run =
+    let none : len (start_of n).objects ≡ 0 = len-empty nat_cmp (Object Id) in
+    let all = totals n (λ x. len x.objects) (λ e. one_if (makes_object e.cmd e.reply))
+    (λ e. removed_in e.reply) (λ x e y w step. removes n x e w e.cmd y (effect n x e y step))
+    (start_is_well_formed n) run in
+    omega arith

@@ -1,0 +1,335 @@
+-- Runs and states that meet the premises of laws over steps and runs. What a state of them has is computed,
+-- but for what maps give.
+use Rattle.std.proofs.Common.{◌≡◌, ℕ, ◌+◌, Bool, true, nat_lt, if◌then◌else◌, [], ◌∷◌, Some, None, refl, sym, ap, ◌∙◌, subst, lit<, arith, inl, ⊎_elim, ◌≢◌, IsSome, is_some}
+use Rattle.std.specs.Option.{MatchOption}
+use Rattle.std.specs.FinMap.{get, get-empty}
+use Rattle.std.specs.Ordering.{nat_cmp}
+use Rattle.std.proofs.lemmas.Option.{none-some}
+use Rattle.hd_model.specs.declared.data.Id.{Id}
+use Rattle.hd_model.specs.declared.data.Entry.{Entry}
+use Rattle.hd_model.specs.declared.data.Grown.TheVariants.{Zero, One}
+use Rattle.hd_model.specs.declared.data.Make.TheVariants as make
+use Rattle.hd_model.specs.declared.data.Reply.TheVariants as reply
+use Rattle.hd_model.specs.declared.data.Refusal.TheVariants as refusal
+use Rattle.hd_model.specs.declared.command.Cmd.TheVariants as cmd
+use Rattle.hd_model.specs.State.{Numbers, State, start_of, identity_of, first_slot, total_size, with_object, with_serial, with_register, with_queue, with_place}
+use Rattle.hd_model.specs.Places.{IsFreePlace, MayAnswer}
+use Rattle.hd_model.specs.Command.{Outcome, answers, refuses, new_object, fresh_object, made_handle}
+use Rattle.hd_model.specs.Step.{Step, with_made}
+use Rattle.hd_model.specs.Run.{stay, link, Run}
+use Rattle.hd_model.specs.WellFormed.{IsWellFormed}
+use Rattle.hd_model.specs.UserLaws.{PinsBy, TakesCells, Unpins, GivesGeneration, GivesRegistration, IsDoneTo, by_suppress, cells_taken, HasWay, JoinsBy}
+use Rattle.hd_model.specs.UserLaws as law
+use Rattle.hd_model.specs.Laws.{Since}
+use Rattle.hd_model.proofs.ReadAfterWrite.{get_inserted}
+use Rattle.hd_model.proofs.Members.{not_in_none, member_cases, pairs_none, pairs_cons}
+use Rattle.hd_model.proofs.WellFormedSteps.{run_is_well_formed}
+use Rattle.hd_model.proofs.PinnedPlaces.{answer_is, pinned_by_it}
+use Rattle.hd_model.proofs.HeapLimit.{start_total}
+use Rattle.hd_model.specs.CollectionLaws.{HasCollection}
+use Rattle.hd_model.specs.CollectionSamples.{few, id_of, busy}
+use Rattle.hd_model.proofs.CollectionSamples.{premises_are_met}
+use Rattle.hd_model.proofs.Fates.{objects_are_resurrected_once}
+
+-- one caller, four blocks, and a heap of some cells
+abbrev sized : ℕ → Numbers
+sized heap = record { heap = heap; blocks = 4; callers = 1 }
+
+abbrev numbers : Numbers
+numbers = sized 4
+
+abbrev s0 : State
+s0 = start_of numbers
+
+-- `new r0 1 fin` makes the first object, of 4 cells
+abbrev first : Id
+first = identity_of 0 1
+
+abbrev e1 : Entry
+e1 = record { caller = 0; cmd = cmd.New 0 1 true; slot = None; grown = Zero; reply = reply.Object first }
+
+abbrev s1 : State
+s1 = with_register (with_serial (with_object s0 first (fresh_object 1 true)) 0 1) 0 0 (Some first)
+
+made : new_object numbers s0 0 0 1 true ≡ answers (reply.Object first) s1
+made = ap (λ k. if nat_lt 4 (k + (1 + 3)) then refuses (refusal.HeapFull (total_size s0) (1 + 3)) s0
+    else answers (reply.Object first) s1) (start_total numbers)
+
+pub step1 : Step numbers s0 e1 s1
+step1 = record {
+  caller = lit< tt;
+  valid = (lit< tt, omega arith);
+  does = (
+    lit< tt,
+    record {
+      reply = sym (ap (λ (o : Outcome). o.reply) made);
+      slot = sym (ap (λ (o : Outcome). o.slot) made);
+      grown = refl;
+      after = sym (ap (λ (o : Outcome). o.after) made);
+    },
+  );
+}
+
+-- a heap of 3 cells is full for it
+abbrev e_full : Entry
+e_full = record {
+  caller = 0;
+  cmd = cmd.New 0 1 true;
+  slot = None;
+  grown = Zero;
+  reply = reply.Refused
+      (refusal.HeapFull 0 4);
+}
+
+refused : new_object (sized 3) s0 0 0 1 true ≡ refuses (refusal.HeapFull 0 4) s0
+refused = ap (λ k. if nat_lt 3 (k + (1 + 3)) then refuses (refusal.HeapFull k (1 + 3)) s0
+    else answers (reply.Object first) s1) (start_total numbers)
+
+pub step_full : Step (sized 3) s0 e_full s0
+step_full = record {
+  caller = lit< tt;
+  valid = (lit< tt, omega arith);
+  does = (
+    lit< tt,
+    record {
+      reply = sym (ap (λ (o : Outcome). o.reply) refused);
+      slot = sym (ap (λ (o : Outcome). o.slot) refused);
+      grown = refl;
+      after = sym (ap (λ (o : Outcome). o.after) refused);
+    },
+  );
+}
+
+-- `hnew h0 pinned r0` grows the table by block 1
+abbrev e2 : Entry
+e2 = record {
+  caller = 0;
+  cmd = cmd.HNew 0 make.Pinned 0;
+  slot = Some (first_slot 1);
+  grown = One 1;
+  reply =
+      reply.Done;
+}
+
+abbrev s2 : State
+s2 = with_made s1 0 (One 1) 0 make.Pinned 0 (first_slot 1)
+
+pub step2 : Step numbers s1 e2 s2
+step2 = record {
+  caller = lit< tt;
+  valid = (lit< tt, tt, lit< tt);
+  does = inl (record {
+    slot = first_slot 1;
+    given = refl;
+    may = (
+      refl,
+      record {
+        low = omega arith;
+        high = omega arith;
+        unused = get-empty nat_cmp 1;
+        least = λ other low high. absurd (omega arith);
+      },
+      refl,
+    );
+    reply = refl;
+    after = refl;
+  });
+}
+
+pins_first : PinsBy s2 0 0 first
+pins_first = record {
+  slot = first_slot 1;
+  handle = made_handle s1 0 make.Pinned 0;
+  has = refl;
+  live = get_inserted s1.handles 64 (made_handle s1 0 make.Pinned 0);
+  pins = refl;
+  target = refl;
+}
+
+-- `addr h0` returns 256, as no other address is pinned
+abbrev e3 : Entry
+e3 = record { caller = 0; cmd = cmd.AddrOf 0; slot = None; grown = Zero; reply = reply.Place 256 }
+
+abbrev s3 : State
+s3 = with_place s2 first 256
+
+free : (id : Id) → MayAnswer s2 id 256
+free id =
+    subst (λ o. MatchOption o (IsFreePlace s2 id 256) (λ own. 256 ≡ own)) (sym (get-empty nat_cmp id.0))
+    (record {
+      small = lit< tt;
+      apart = λ y other is. absurd (none-some other (sym (get-empty nat_cmp y.0) ∙ is));
+    })
+
+pub step3 : Step numbers s2 e3 s3
+step3 = record {
+  caller = lit< tt;
+  valid = lit< tt;
+  does = record {
+    place = 256;
+    may = λ id is. free id;
+    outcome = record {
+      reply = sym (ap (λ (o : Outcome). o.reply) (answer_is s2 0 0 first pins_first 256));
+      slot = sym (ap (λ (o : Outcome). o.slot) (answer_is s2 0 0 first pins_first 256));
+      grown = refl;
+      after = sym (ap (λ (o : Outcome). o.after) (answer_is s2 0 0 first pins_first 256));
+    };
+  };
+}
+
+pub run3 : Run numbers (e1 ∷ e2 ∷ e3 ∷ []) s3
+run3 = link step1 (link step2 (link step3 stay))
+
+-- `copy r1 r0` leaves the object pinned, and `addr h0` returns 256 again
+abbrev e4 : Entry
+e4 = record { caller = 0; cmd = cmd.Copy 1 0; slot = None; grown = Zero; reply = reply.Done }
+
+abbrev s4 : State
+s4 = with_register s3 0 1 (Some first)
+
+pub since : Since numbers (Unpins first) s2 e3 s4
+since = record {
+  well_formed = run_is_well_formed numbers (e1 ∷ e2 ∷ []) s2 (link step1 (link step2 stay));
+  after = s3;
+  first = step3;
+  others = e4 ∷ [];
+  rest = link (
+    record {
+      caller = lit< tt;
+      valid = (lit< tt, lit< tt);
+      does = record { reply = refl; slot = refl; grown = refl; after = refl };
+    },
+    λ unpins. unpins (pinned_by_it s2 0 0 first pins_first),
+  ) stay;
+}
+
+pub pins_still : PinsBy s4 0 0 first
+unfolding pins_first
+pins_still = record {
+  slot = first_slot 1;
+  handle = pins_first.handle;
+  has = refl;
+  live = pins_first.live;
+  pins = refl;
+  target = refl;
+}
+
+pub has_place : get s4.places first.0 ≡ Some 256
+has_place = get_inserted s2.places first.0 256
+
+-- so the object takes the cells from 256 to 260
+pub takes_cells : TakesCells s4 first 256 260
+takes_cells = record {
+  object = fresh_object 1 true;
+  stands = get_inserted s0.objects first.0 (fresh_object 1 true);
+  place = has_place;
+  end_is = refl;
+}
+
+-- the new object is of generation 0 and registered
+pub gives_generation : GivesGeneration s0 e1 first 0
+gives_generation = law.GivesGeneration.by_new refl refl
+
+pub gives_registration : GivesRegistration first s0 e1 s1 true
+gives_registration = law.GivesRegistration.by_new refl refl
+
+-- every command but three needs nothing more than that it is valid
+pub has_way : HasWay numbers s0 0 (cmd.Final 3)
+has_way = record {
+  serial = λ d fields fin is. absurd (not_new is);
+  place = λ h id is. absurd (not_addr is);
+}
+  where
+    not_new : {d fields : ℕ} {fin : Bool} → cmd.Final 3 ≡ cmd.New d fields fin → ⊥
+    not_new is = cc
+
+    not_addr : {h : ℕ} → cmd.Final 3 ≡ cmd.AddrOf h → ⊥
+    not_addr is = cc
+
+-- a well formed state in which the object is queued for finalization, and `final r1` of it
+abbrev waiting : State
+waiting = with_queue s1 (first ∷ [])
+
+pub waiting_is_well_formed : IsWellFormed numbers waiting
+waiting_is_well_formed =
+    let w : IsWellFormed numbers s1 = run_is_well_formed numbers (e1 ∷ []) s1 (link step1 stay) in
+    record {
+      shape = record {
+        registers = w.shape.registers;
+        each_registers = w.shape.each_registers;
+        handle_registers = w.shape.handle_registers;
+        each_handle_registers = w.shape.each_handle_registers;
+        statics = w.shape.statics;
+        board = w.shape.board;
+        serials = w.shape.serials;
+      };
+      names = record {
+        fields = w.names.fields;
+        registers = w.names.registers;
+        statics = w.names.statics;
+        targets = w.names.targets;
+        secondaries = w.names.secondaries;
+        queue = λ id h. ⊎_elim (λ same. subst (λ (x : Id). IsSome (get s1.objects x.0)) same
+            (ap is_some (get_inserted s0.objects first.0 (fresh_object 1 true))))
+            (λ none. absurd (not_in_none id none)) (member_cases first [] id h);
+        places = w.names.places;
+      };
+      objects = record {
+        sizes = w.objects.sizes;
+        generations = w.objects.generations;
+        queued_once = pairs_cons (λ x y. x ≢ y) first [] (λ y none. absurd (not_in_none y none))
+            (pairs_none (λ x y. x ≢ y));
+      };
+      serials = record {
+        from_one = w.serials.from_one;
+        to_last = w.serials.to_last;
+        limit =
+            w.serials.limit;
+      };
+      handles = record {
+        kinds = w.handles.kinds;
+        extras = w.handles.extras;
+        dependents = w.handles.dependents;
+        blocks = w.handles.blocks;
+      };
+    }
+
+pub step_final : Step numbers waiting
+    (record { caller = 0; cmd = cmd.Final 1; slot = None; grown = Zero; reply = reply.Object first })
+    (with_register s1 0 1 (Some first))
+step_final = record {
+  caller = lit< tt;
+  valid = lit< tt;
+  does = record { reply = refl; slot = refl; grown = refl; after = refl };
+}
+
+-- a collection of 0 in which an object joins the queue
+pub after_busy : HasCollection 0 busy
+after_busy = premises_are_met.after_busy
+
+abbrev e_collect : Entry
+e_collect = record
+    { caller = 0; cmd = cmd.Collect 0; slot = None; grown = Zero; reply = reply.Report after_busy.report }
+
+pub step_collect : Step few busy e_collect after_busy.after
+step_collect = record {
+  caller = lit< tt;
+  valid = omega arith;
+  does = record {
+    report = after_busy.report;
+    reply = refl;
+    slot = refl;
+    grown = refl;
+    collects = after_busy.collects;
+  };
+}
+
+pub joins_queue : JoinsBy (id_of 3) busy e_collect after_busy.after
+joins_queue = record {
+  k = 0;
+  command = refl;
+  joins = ((objects_are_resurrected_once few 0 busy after_busy.after after_busy.report (record {
+    well_formed = premises_are_met.busy_is;
+    collects = after_busy.collects;
+  })).joins (id_of 3)).1 premises_are_met.resurrected;
+}

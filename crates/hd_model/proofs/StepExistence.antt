@@ -1,0 +1,289 @@
+-- Every command has a step.
+use Rattle.std.proofs.Common.{◌≡◌, ℕ, zero, suc, ◌+◌, ◌<◌, ◌≤◌, ◌⊎◌, Bool, true, false, cond, Option, Some, None, IsSome, is_some, refl, sym, ap, ◌∙◌, subst, arith, inl, inr, ⊎_elim}
+use Rattle.std.specs.Prelude.{option_and_then}
+use Rattle.std.specs.Option.{MatchOption}
+use Rattle.std.specs.FinMap.{FinMap, get, insert, remove, len}
+use Rattle.std.specs.Ordering.{nat_cmp}
+use Rattle.std.proofs.lemmas.Bool.{cases_lt, cases_eq}
+use Rattle.std.proofs.lemmas.Option.{none-some, same_Some}
+use Rattle.hd_model.specs.declared.data.Id.{Id}
+use Rattle.hd_model.specs.declared.data.Slot.{Slot}
+use Rattle.hd_model.specs.declared.data.Kind.{Kind}
+use Rattle.hd_model.specs.declared.data.Make.{Make}
+use Rattle.hd_model.specs.declared.data.Grown.{Grown}
+use Rattle.hd_model.specs.declared.data.Grown.TheVariants.{Zero, One, Two}
+use Rattle.hd_model.specs.declared.data.Report.{Report}
+use Rattle.hd_model.specs.declared.data.Refusal.TheVariants as refusal
+use Rattle.hd_model.specs.declared.data.Reply.TheVariants as reply
+use Rattle.hd_model.specs.declared.command.Cmd.{Cmd}
+use Rattle.hd_model.specs.declared.command.Cmd.TheVariants as cmd
+use Rattle.hd_model.specs.Kinds.{kind_of, is_paired}
+use Rattle.hd_model.specs.State.{Numbers, Handle, BlockUse, extra_data, State, handle_register_of, handle_at, use_of, given_of, first_slot}
+use Rattle.hd_model.specs.Role.{pins}
+use Rattle.hd_model.specs.Places.{IsFreePlace, MayAnswer}
+use Rattle.hd_model.specs.Collect.{CollectsState}
+use Rattle.hd_model.specs.Valid.{IsValid}
+use Rattle.hd_model.specs.Command.{Outcome, answers, refuses, new_object, set_field, get_field, set_value, read_value, copy_register, clear_register, put_static, get_static}
+use Rattle.hd_model.specs.Command.{read_generation, set_registered, take_queued, get_target, set_target, set_secondary, get_secondary, set_strength, raise_count, lower_count, free_handle, put_board, pick_board, answer_place}
+use Rattle.hd_model.specs.Step.{IsOutcome, blocks_needed, IsLeastUnused, MayGive, with_made, pinned_by, pinned_target, StepOf}
+use Rattle.hd_model.specs.WellFormed.{IsWellFormed}
+use Rattle.hd_model.specs.UserLaws.{PinsBy, HasWay, Does, EveryCommandHasAStep}
+use Rattle.hd_model.proofs.NextState.{collections_exist}
+use Rattle.hd_model.proofs.ReadAfterWrite.{get_beside, get_inserted, get_left, len_new, len_less}
+
+-- a map with each key from 1 to n has at least n
+pub filled : {X : Type 0} (n : ℕ) (m : FinMap nat_cmp X) → ((q : ℕ) → 1 ≤ q → q ≤ n → IsSome (get m q))
+    → n ≤ len m
+filled zero m each = omega arith
+filled (suc n) m each =
+    let rest = filled n (remove m (suc n))
+    (λ q low high. subst IsSome (sym (get_left m (suc n) q (λ same. omega arith))) (each q low
+    (omega arith))) in
+    let less = len_less m (suc n) (each (suc n) (omega arith) (omega arith)) in
+    omega arith
+
+-- the least unused block from a number on, or none up to the last
+module _ (n : Numbers) (s : State) where
+  abbrev AllUsed : ℕ → Type 0
+  AllUsed from = (q : ℕ) → from ≤ q → q ≤ n.blocks → IsSome (use_of s q)
+
+  find_unused : (fuel from : ℕ) → n.blocks < from + fuel → ((block : ℕ) × IsLeastUnused n s from block)
+      ⊎ AllUsed from
+  find_unused zero from past = inr (λ q low high. absurd (omega arith))
+  find_unused (suc fuel) from past =
+      ⊎_elim (λ over. inr (λ q low high. absurd (omega arith))) (λ within. by within (find_unused fuel
+      (suc from) (omega arith)) (use_of s from) refl)
+      (cases_lt n.blocks from)
+    where
+      by : from ≤ n.blocks → ((block : ℕ) × IsLeastUnused n s (suc from) block) ⊎ AllUsed (suc from)
+          → (o : Option BlockUse) → use_of s from ≡ o
+          → ((block : ℕ) × IsLeastUnused n s from block) ⊎ AllUsed from
+      by within later None none = inl (
+        from,
+        record {
+          low = omega arith;
+          high = within;
+          unused = none;
+          least = λ other low high. absurd (omega arith);
+        },
+      )
+      by within later (Some u) some =
+          let here : IsSome (use_of s from) = ap is_some some in
+          let at : (q : ℕ) → (q ≡ from) → IsSome (use_of s q) = λ q same. subst (λ k. IsSome (use_of s k))
+          (sym same) here in
+          ⊎_elim (λ found. inl (
+            found.0,
+            record {
+              low = (let low = found.1.low in omega arith);
+              high = found.1.high;
+              unused = found.1.unused;
+              least = λ other low high. ⊎_elim (λ same. at other same)
+                  (λ ne. found.1.least other (omega arith) high) (cases_eq other from);
+            },
+          )) (λ all. inr (λ q low high. ⊎_elim (λ same. at q same) (λ ne. all q (omega arith) high)
+          (cases_eq q from))) later
+
+  -- where a block has no use, there is a least one
+  one_unused : given_of s + 1 ≤ n.blocks → (block : ℕ) × IsLeastUnused n s 1 block
+  one_unused room =
+      ⊎_elim (λ found. found) (λ all. absurd (let most = filled n.blocks s.blocks
+      (λ q low high. all q low high) in omega arith))
+      (find_unused n.blocks 1 (omega arith))
+
+  -- where two have none, there is a least one after it
+  two_unused : given_of s + 2 ≤ n.blocks → (block : ℕ) → IsLeastUnused n s 1 block
+      → (other : ℕ) × IsLeastUnused n s (block + 1) other
+  two_unused room block first =
+      ⊎_elim (λ found. found) (λ all. absurd (
+      let more = len_new s.blocks block extra_data first.unused in
+      let most = filled n.blocks (insert s.blocks block extra_data) (λ q low high.
+      ⊎_elim (λ same. subst (λ k. IsSome (get (insert s.blocks block extra_data) k)) (sym same)
+      (ap is_some (get_inserted s.blocks block extra_data)))
+      (λ ne. subst IsSome (sym (get_beside s.blocks block extra_data q ne))
+      (⊎_elim (λ before. first.least q low before) (λ after. all q (omega arith) high) (cases_lt q block)))
+      (cases_eq q block)) in
+      omega arith))
+      (find_unused n.blocks (block + 1) (omega arith))
+
+  -- a slot for a new handle, where the table has room
+  can_give : (wanted : Kind) → given_of s + blocks_needed wanted ≤ n.blocks
+      → (grown : Grown) × ((slot : Slot) × MayGive n s wanted grown slot)
+  can_give wanted room = by (is_paired wanted) refl
+    where
+      by : (b : Bool) → is_paired wanted ≡ b
+          → (grown : Grown) × ((slot : Slot) × MayGive n s wanted grown slot)
+      by false alone =
+          let needed : blocks_needed wanted ≡ 1 = ap (λ b. cond b 2 1) alone in
+          let (block, first) = one_unused (omega arith) in
+          (One block, (first_slot block, (alone, first, refl)))
+      by true paired =
+          let needed : blocks_needed wanted ≡ 2 = ap (λ b. cond b 2 1) paired in
+          let (block, first) = one_unused (omega arith) in
+          let (other, second) = two_unused (omega arith) block first in
+          (Two block other, (first_slot block, (paired, first, second, refl)))
+
+module _ (n : Numbers) (s : State) (w : IsWellFormed n s) (caller : ℕ) (known : caller < n.callers) where
+  -- an outcome has its entry
+  comes : (c : Cmd) (o : Outcome) → IsValid c
+      → (IsOutcome (record {
+        caller = caller;
+        cmd = c;
+        slot = o.slot;
+        grown = Zero;
+        reply =
+            o.reply;
+      }) o o.after
+      → StepOf n s (record {
+        caller = caller;
+        cmd = c;
+        slot = o.slot;
+        grown = Zero;
+        reply =
+            o.reply;
+      }) o.after c)
+      → Does n s caller c
+  comes c o valid does = record {
+    entry = record { caller = caller; cmd = c; slot = o.slot; grown = Zero; reply = o.reply };
+    after = o.after;
+    caller_is = refl;
+    command = refl;
+    step = record {
+      caller = known;
+      valid = valid;
+      does = does (record { reply = refl; slot = refl; grown = refl; after = refl });
+    };
+  }
+
+  makes : (d : ℕ) (given : Make) (t : ℕ) → IsValid (cmd.HNew d given t) → Does n s caller (cmd.HNew d given t)
+  makes d given t valid =
+      ⊎_elim (λ few. comes (cmd.HNew d given t) (refuses (refusal.TableFull (given_of s)) s) valid
+      (λ is. inr (record { few = few; refused = is })))
+      (λ room. by (can_give n s (kind_of given) room))
+      (cases_lt n.blocks (given_of s + blocks_needed (kind_of given)))
+    where
+      by : (grown : Grown) × ((slot : Slot) × MayGive n s (kind_of given) grown slot)
+          → Does n s caller (cmd.HNew d given t)
+      by x = record {
+        entry = record {
+          caller = caller;
+          cmd = cmd.HNew d given t;
+          slot = Some x.1.0;
+          grown = x.0;
+          reply = reply.Done;
+        };
+        after = with_made s caller x.0 d given t x.1.0;
+        caller_is = refl;
+        command = refl;
+        step = record {
+          caller = known;
+          valid = valid;
+          does = inl (record { slot = x.1.0; given = refl; may = x.1.1; reply = refl; after = refl });
+        };
+      }
+
+  -- what a handle register's handle pins, and why
+  pins_by : (h : ℕ) (id : Id) → pinned_target s caller h ≡ Some id → PinsBy s caller h id
+  pins_by h id is = by (handle_register_of s caller h) refl is
+    where
+      of_handle : (slot : Slot) → handle_register_of s caller h ≡ Some slot → (o : Option (Handle Id))
+          → handle_at s slot ≡ o → pinned_by o ≡ Some id → PinsBy s caller h id
+      of_handle slot has None none pinned = absurd (none-some id pinned)
+      of_handle slot has (Some handle) live pinned = tested (pins handle) refl pinned
+        where
+          tested : (b : Bool) → pins handle ≡ b → cond b handle.target None ≡ Some id → PinsBy s caller h id
+          tested true on target = record {
+            slot = slot;
+            handle = handle;
+            has = has;
+            live = live;
+            pins =
+                on;
+            target = target;
+          }
+          tested false off target = absurd (none-some id target)
+
+      by : (o : Option Slot) → handle_register_of s caller h ≡ o
+          → option_and_then (λ slot. pinned_by (handle_at s slot)) o ≡ Some id
+          → PinsBy s caller h id
+      by None none pinned = absurd (none-some id pinned)
+      by (Some slot) has pinned = of_handle slot has (handle_at s slot) refl pinned
+
+  -- an address that `addr` may return
+  finds_place : (h : ℕ) → HasWay n s caller (cmd.AddrOf h)
+      → (p : ℕ) × ((id : Id) → pinned_target s caller h ≡ Some id → MayAnswer s id p)
+  finds_place h way = by (pinned_target s caller h) refl
+    where
+      moved : (id : Id) → pinned_target s caller h ≡ Some id → (p : ℕ) → MayAnswer s id p
+          → (q : ℕ) × ((other : Id) → pinned_target s caller h ≡ Some other → MayAnswer s other q)
+      moved id some p may =
+          (p, λ other is. subst (λ x. MayAnswer s x p) (same_Some id other (sym some ∙ is)) may)
+
+      of_object : (id : Id) → pinned_target s caller h ≡ Some id → (o : Option ℕ) → get s.places id.0 ≡ o
+          → (q : ℕ) × ((other : Id) → pinned_target s caller h ≡ Some other → MayAnswer s other q)
+      of_object id some None none =
+          let (p, free) = way.place h id refl (pins_by h id some) none in
+          moved id some p (subst (λ o. MatchOption o (IsFreePlace s id p) (λ own. p ≡ own)) (sym none) free)
+      of_object id some (Some own) is =
+          moved id some own (subst (λ o. MatchOption o (IsFreePlace s id own) (λ x. own ≡ x)) (sym is) refl)
+
+      by : (o : Option Id) → pinned_target s caller h ≡ o
+          → (p : ℕ) × ((id : Id) → pinned_target s caller h ≡ Some id → MayAnswer s id p)
+      by None none = (0, λ id is. absurd (none-some id (sym none ∙ is)))
+      by (Some id) some = of_object id some (get s.places id.0) refl
+
+  collects : (k : ℕ) (t : State) (report : Report) → IsValid (cmd.Collect k) → CollectsState k s t report
+      → Does n s caller (cmd.Collect k)
+  collects k t report valid collection = record {
+    entry = record {
+      caller = caller;
+      cmd = cmd.Collect k;
+      slot = None;
+      grown = Zero;
+      reply = reply.Report report;
+    };
+    after = t;
+    caller_is = refl;
+    command = refl;
+    step = record {
+      caller = known;
+      valid = valid;
+      does = record { report = report; reply = refl; slot = refl; grown = refl; collects = collection };
+    };
+  }
+
+  every : (c : Cmd) → IsValid c → HasWay n s caller c → Does n s caller c
+  every (cmd.New d fields fin) valid way =
+      comes _ (new_object n s caller d fields fin) valid (λ is. (way.serial d fields fin refl, is))
+  every (cmd.Set o i v) valid way = comes _ (set_field s caller o i v) valid (λ is. is)
+  every (cmd.Get d o i) valid way = comes _ (get_field s caller d o i) valid (λ is. is)
+  every (cmd.Val o v) valid way = comes _ (set_value s caller o v) valid (λ is. is)
+  every (cmd.Read o) valid way = comes _ (read_value s caller o) valid (λ is. is)
+  every (cmd.Copy d r) valid way = comes _ (copy_register s caller d r) valid (λ is. is)
+  every (cmd.Clear d) valid way = comes _ (clear_register s caller d) valid (λ is. is)
+  every (cmd.SPut k r) valid way = comes _ (put_static s caller k r) valid (λ is. is)
+  every (cmd.SGet d k) valid way = comes _ (get_static s caller d k) valid (λ is. is)
+  every (cmd.Gen o) valid way = comes _ (read_generation s caller o) valid (λ is. is)
+  every (cmd.Suppress o) valid way = comes _ (set_registered s caller o false) valid (λ is. is)
+  every (cmd.Reregister o) valid way = comes _ (set_registered s caller o true) valid (λ is. is)
+  every (cmd.Final d) valid way = comes _ (take_queued s caller d) valid (λ is. is)
+  every (cmd.Collect k) valid way =
+      let next = collections_exist n k s w in
+      collects k next.after next.report valid next.collects
+  every (cmd.HNew d given t) valid way = makes d given t valid
+  every (cmd.HGet d h) valid way = comes _ (get_target s caller d h) valid (λ is. is)
+  every (cmd.HSet h t) valid way = comes _ (set_target s caller h t) valid (λ is. is)
+  every (cmd.HSec h r) valid way = comes _ (set_secondary s caller h r) valid (λ is. is)
+  every (cmd.HDep d h) valid way = comes _ (get_secondary s caller d h) valid (λ is. is)
+  every (cmd.HVar h given) valid way = comes _ (set_strength s caller h given) valid (λ is. is)
+  every (cmd.HFree h) valid way = comes _ (free_handle s caller h) valid (λ is. is)
+  every (cmd.HPut k h) valid way = comes _ (put_board s caller k h) valid (λ is. is)
+  every (cmd.HPick d k) valid way = comes _ (pick_board s caller d k) valid (λ is. is)
+  every (cmd.AddrOf h) valid way =
+      let (p, may) = finds_place h way in
+      comes _ (answer_place s caller h p) valid (λ is. record { place = p; may = may; outcome = is })
+  every (cmd.HUp h) valid way = comes _ (raise_count s caller h) valid (λ is. is)
+  every (cmd.HDown h) valid way = comes _ (lower_count s caller h) valid (λ is. is)
+  every (cmd.Trim wanted) valid way = comes _ (answers (reply.Value 0) s) valid (λ is. inr is)
+
+pub every_command_has_a_step : EveryCommandHasAStep
+every_command_has_a_step n s caller c w known valid way = every n s w caller known c valid way

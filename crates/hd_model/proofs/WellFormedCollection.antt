@@ -1,0 +1,134 @@
+-- A collection keeps a state well formed.
+use Rattle.std.proofs.Common.{◌≡◌, ◌≢◌, ℕ, ◌/◌, ◌%◌, ◌^◌, ◌<◌, ◌≤◌, Bool, true, false, cond, List, [], length, get_or, Option, Some, None, is_some, IsSome, refl, sym, ap, ◌∙◌, subst, arith}
+use Rattle.std.specs.Prelude.{Contains, AllPairs}
+use Rattle.std.specs.FinMap.{get}
+use Rattle.std.proofs.lemmas.Bool.Decides.{nat_tests}
+use Rattle.std.proofs.lemmas.Bool.{true≢false}
+use Rattle.hd_model.specs.declared.data.Id.{Id}
+use Rattle.hd_model.specs.declared.data.Report.{Report}
+use Rattle.hd_model.specs.declared.data.Slot.{Slot}
+use Rattle.hd_model.specs.State.{Numbers, Object, Handle, State, handles_of, use_of}
+use Rattle.hd_model.specs.Scene.{scene_of, IsWhole}
+use Rattle.hd_model.specs.Ages.{raised}
+use Rattle.hd_model.specs.Reach.{queued, held, IsReached, IsRevived}
+use Rattle.hd_model.specs.Places.{is_pinned}
+use Rattle.hd_model.specs.Collect.{survivor, cleared, CollectsState}
+use Rattle.hd_model.specs.WellFormed.{HasShape, HasObjects, HasSerials, FitsKind, HasHandles, IsWellFormed}
+use Rattle.hd_model.proofs.Members.{pairs_append, pairs_like}
+use Rattle.hd_model.proofs.Entries.{some_value}
+use Rattle.hd_model.proofs.KindExtras.{cleared_fits}
+use Rattle.hd_model.proofs.PinTest.{pinned_decides, pinned_held}
+use Rattle.hd_model.proofs.SceneCollection.{root_reached, keeps_root, object_before, still_object, handle_before, whole_after}
+use Rattle.hd_model.proofs.WholeScenes.{whole_scene, names_of_whole}
+
+-- a raised generation is at most 2 where the one before was, and is not below it
+pub raised_small : (n g : ℕ) → g ≤ 2 → raised n g ≤ 2
+raised_small n g l = grind (arith, nat_tests)
+
+-- what a test lets through
+passed : {A : Type 0} (b : Bool) (o : Option A) → IsSome (cond b o None) → (b ≡ true) × IsSome o
+passed true o h = (refl, h)
+passed false o h = absurd (true≢false (sym h))
+
+module _ (n : Numbers) (k : ℕ) (s t : State) (r : Report) (w : IsWellFormed n s)
+    (c : CollectsState k s t r) where
+  rank : Id → ℕ
+  rank x = x.0
+
+  before : (id : ℕ) (o : Object Id) → get t.objects id ≡ Some o
+      → (c.scene.kept (record { 0 = id }) ≡ true)
+      × ((p : Object Id) × ((get s.objects id ≡ Some p)
+      × (survivor k (c.scene.revived (record { 0 = id })) p ≡ o)))
+  before id o e = object_before (λ (x : Id). x.0) k (scene_of s) (scene_of t) r (whole_scene n s w) c.scene
+      (record { 0 = id }) o e
+
+  was_object : (id : ℕ) → IsSome (get t.objects id) → IsSome (get s.objects id)
+  was_object id h =
+      let (o, e) = some_value (get t.objects id) h in let (p, both) = (before id o e).1 in ap is_some both.0
+
+  pinned_stays : (id : ℕ) → IsSome (get t.places id) → IsSome (get t.objects id)
+  pinned_stays id h =
+      let (pinning, place) = passed (is_pinned s.handles id) (get s.places id)
+      (subst IsSome (c.places id) h) in
+      let x : Id = record { 0 = id } in
+      still_object (λ (y : Id). y.0) k (scene_of s) (scene_of t) r (whole_scene n s w) c.scene x
+      (keeps_root (λ (y : Id). y.0) k (scene_of s) (scene_of t) r (whole_scene n s w) c.scene x
+      (held (pinned_held (scene_of s).handle x ((pinned_decides s.handles x).0 pinning))))
+
+  queued_apart : AllPairs (λ x y. x ≢ y) t.queue
+  queued_apart =
+      let waiting : (x : Id) → Contains s.queue x
+      → IsReached (scene_of s) k x = λ x h. root_reached k (scene_of s) x (queued h) in
+      subst (λ xs. AllPairs (λ x y. x ≢ y) xs) (sym c.scene.queue)
+      (pairs_append (λ x y. x ≢ y) s.queue c.scene.joins w.objects.queued_once
+      (pairs_like (λ (x y : Id). x.0 < y.0) (λ x y. x ≢ y) c.scene.joins
+      (λ x y low same. let tied : x.0 ≡ y.0 = ap (λ (z : Id). z.0) same in absurd (omega arith))
+      c.scene.rising)
+      (λ x y in_queue joins same. let lost : IsRevived (scene_of s) k y =
+      (c.scene.revived_is y).0 ((c.scene.joins_are y).1 joins) in
+      lost.lost (subst (λ z. IsReached (scene_of s) k z) same (waiting x in_queue))))
+
+  shape_after : HasShape n t
+  shape_after = record {
+    registers = ap length c.registers ∙ w.shape.registers;
+    each_registers = λ d l. ap (λ (rows : List (List (Option Id))). length (get_or rows d [])) c.registers
+        ∙ w.shape.each_registers d l;
+    handle_registers = ap length c.handle_registers ∙ w.shape.handle_registers;
+    each_handle_registers = λ d l. ap
+        (λ (rows : List (List (Option Slot))). length (get_or rows d [])) c.handle_registers
+        ∙ w.shape.each_handle_registers d l;
+    statics = ap length c.statics ∙ w.shape.statics;
+    board = ap length c.board ∙ w.shape.board;
+    serials = ap length c.serials ∙ w.shape.serials;
+  }
+
+  objects_after : HasObjects t
+  objects_after = record {
+    sizes = λ id o e.
+        let (p, both) = (before id o e).1 in
+        subst (λ (q : Object Id). length q.fields ≤ 61) both.1 (w.objects.sizes id p both.0);
+    generations = λ id o e.
+        let (p, both) = (before id o e).1 in
+        subst (λ (q : Object Id). q.generation ≤ 2) both.1
+        (raised_small k p.generation (w.objects.generations id p both.0));
+    queued_once = queued_apart;
+  }
+
+  serials_after : HasSerials t
+  serials_after = record {
+    from_one = λ id h. w.serials.from_one id (was_object id h);
+    to_last = λ id h. subst (λ xs. id % 2 ^ 32 ≤ get_or xs (id / 2 ^ 32) 0) (sym c.serials)
+        (w.serials.to_last id (was_object id h));
+    limit = λ d. subst (λ xs. get_or xs d 0 < 2 ^ 32) (sym c.serials) (w.serials.limit d);
+  }
+
+  whole : IsWhole (scene_of t)
+  whole = whole_after (λ (x : Id). x.0) k (scene_of s) (scene_of t) r (whole_scene n s w) c.scene
+
+  was_handle : (slot : ℕ) (h : Handle Id) → get t.handles slot ≡ Some h
+      → (g : Handle Id) × ((get s.handles slot ≡ Some g) × (cleared c.scene.reach c.scene.kept g ≡ h))
+  was_handle slot h e = handle_before (λ (x : Id). x.0) k (scene_of s) (scene_of t) r
+      (whole_scene n s w) c.scene slot h e
+
+  handles_after : HasHandles n t
+  handles_after = record {
+    kinds = λ slot h e.
+        let (g, both) = was_handle slot h e in
+        subst (λ (q : Handle Id). use_of t (slot / 64) ≡ Some (handles_of q.kind)) both.1
+        (ap (λ m. get m (slot / 64)) c.blocks ∙ w.handles.kinds slot g both.0);
+    extras = λ slot h e.
+        let (g, both) = was_handle slot h e in
+        subst (λ (q : Handle Id). FitsKind q.kind q.extra) both.1
+        (cleared_fits g.kind g.extra _ (w.handles.extras slot g both.0));
+    dependents = λ slot h e none. whole.paired slot h e none;
+    blocks = λ block h. w.handles.blocks block (subst (λ m. IsSome (get m block)) c.blocks h);
+  }
+
+  pub collection_keeps_well_formed : IsWellFormed n t
+  collection_keeps_well_formed = record {
+    shape = shape_after;
+    names = names_of_whole t whole pinned_stays;
+    objects = objects_after;
+    serials = serials_after;
+    handles = handles_after;
+  }

@@ -1,0 +1,117 @@
+-- A well formed state has a whole scene, and what a whole scene says of a state's references.
+use Rattle.std.proofs.Common.{◌≡◌, ℕ, List, [], length, get_or, Option, Some, None, IsSome, IfSome, refl, sym, ap, ◌∙◌, subst, ⊎_elim}
+use Rattle.std.specs.Prelude.{Contains}
+use Rattle.std.specs.FinMap.{get}
+use Rattle.std.proofs.lemmas.List.{get_or_default, get_or_past}
+use Rattle.std.proofs.lemmas.List.Elements.{Contains-append_left, Contains-append_right, Contains-append_cases}
+use Rattle.std.proofs.lemmas.Bool.{cases_lt}
+use Rattle.std.proofs.lemmas.Option.{none-some}
+use Rattle.hd_model.specs.declared.data.Id.{Id}
+use Rattle.hd_model.specs.State.{Numbers, Object, State, secondary_of, register_of, static_of, field_of}
+use Rattle.hd_model.specs.Scene.{scene_of, joined, fields_in, IsField, IsWhole}
+use Rattle.hd_model.specs.WellFormed.{NamesStand, IsWellFormed}
+use Rattle.hd_model.proofs.Members.{not_in_none, member_at, joined_in, joined_from}
+use Rattle.hd_model.proofs.KindExtras.{fits_secondary}
+
+-- what holds of each value that an option may have
+pub if_some_from : {A : Type 0} (P : A → Type 0) (o : Option A) → ((x : A) → o ≡ Some x → P x) → IfSome o P
+if_some_from P None each = tt
+if_some_from P (Some x) each = each x refl
+
+pub if_some_at : {A : Type 0} (P : A → Type 0) (o : Option A) (x : A) → IfSome o P → o ≡ Some x → P x
+if_some_at P o x h e = subst (λ q. IfSome q P) e h
+
+-- what a list has at an index is one of its members
+pub named_at : {A : Type 0} (xs : List (Option A)) (i : ℕ) (x : A) → get_or xs i None ≡ Some x
+    → Contains xs (Some x)
+named_at xs i x e =
+    ⊎_elim (λ inside. member_at xs i None (Some x) inside e)
+    (λ past. absurd (none-some x (sym (get_or_past xs i None past) ∙ e)))
+    (cases_lt i (length xs))
+
+pub at_named : {A : Type 0} (xs : List (Option A)) (x : A) → Contains xs (Some x) → (i : ℕ)
+    × (get_or xs i None ≡ Some x)
+at_named xs x h = (h.0, get_or_default xs h.0 None (Some x) h.1 ∙ h.2)
+
+module _ (s : State) where
+  -- what a register or a static references is in the scene's list, and what is there is referenced by one of
+  -- them
+  pub register_named : (c d : ℕ) (x : Id) → register_of s c d ≡ Some x → Contains (scene_of s).named (Some x)
+  register_named c d x e =
+      ⊎_elim
+      (λ inside. Contains-append_left (joined s.registers) s.statics (Some x)
+      (joined_in s.registers (get_or s.registers c []) (Some x) (member_at s.registers c [] _ inside refl)
+      (named_at (get_or s.registers c []) d x e)))
+      (λ past. absurd (none-some x (sym
+      (ap (λ (row : List (Option Id)). get_or row d None) (get_or_past s.registers c [] past)) ∙ e)))
+      (cases_lt c (length s.registers))
+
+  pub static_named : (k : ℕ) (x : Id) → static_of s k ≡ Some x → Contains (scene_of s).named (Some x)
+  static_named k x e = Contains-append_right (joined s.registers) s.statics (Some x)
+      (named_at s.statics k x e)
+
+  -- a field by its number
+  pub field_in : (id : ℕ) (object : Object Id) (i : ℕ) (y : Id) → get s.objects id ≡ Some object
+      → field_of object i ≡ Some y
+      → IsField (scene_of s).object (record { 0 = id }) y
+  field_in id object i y stands e =
+      subst (λ (o : Option (Object Id)). Contains (fields_in o) (Some y)) (sym stands)
+      (named_at object.fields i y e)
+
+module _ (s : State) (w : NamesStand s) where
+  field_object : (x y : Id) (o : Option (Object Id)) → get s.objects x.0 ≡ o → Contains (fields_in o) (Some y)
+      → IsSome (get s.objects y.0)
+  field_object x y None e h = absurd (not_in_none (Some y) h)
+  field_object x y (Some object) e h =
+      let (i, at) = at_named object.fields y h in
+      if_some_at (λ (id : Id). IsSome (get s.objects id.0)) (field_of object i) y
+      (w.fields x.0 object e i) at
+
+  named_object : (x : Id) → Contains (scene_of s).named (Some x) → IsSome (get s.objects x.0)
+  named_object x h =
+      ⊎_elim
+      (λ in_row. let (row, rest) = joined_from s.registers (Some x) in_row in
+      let (c, low, at_row) = rest.0 in
+      let (d, at) = at_named row x rest.1 in
+      if_some_at (λ (id : Id). IsSome (get s.objects id.0)) (register_of s c d) x (w.registers c d)
+      (ap (λ (r : List (Option Id)). get_or r d None) (get_or_default s.registers c [] row low ∙ at_row)
+      ∙ at))
+      (λ in_statics. let (k, at) = at_named s.statics x in_statics in
+      if_some_at (λ (id : Id). IsSome (get s.objects id.0)) (static_of s k) x (w.statics k) at)
+      (Contains-append_cases (joined s.registers) s.statics (Some x) h)
+
+-- a well formed state has a whole scene
+pub whole_scene : (n : Numbers) (s : State) → IsWellFormed n s → IsWhole (scene_of s)
+whole_scene n s w = record {
+  fields = λ x y f. field_object s w.names x y (get s.objects x.0) refl f;
+  named = λ x h. named_object s w.names x h;
+  queue = λ x h. w.names.queue x h;
+  targets = λ slot h x stands e. if_some_at (λ (id : Id). IsSome (get s.objects id.0)) h.target x
+      (w.names.targets slot h stands) e;
+  secondaries = λ slot h x stands e.
+      if_some_at (λ (id : Id). IsSome (get s.objects id.0)) (secondary_of h.extra) x
+      (w.names.secondaries slot h stands) e;
+  paired = λ slot h stands none. w.handles.dependents slot h stands none;
+  fits = λ slot h x stands e. fits_secondary h.kind h.extra x (w.handles.extras slot h stands) e;
+}
+
+-- a state with a whole scene, whose pinned addresses are those of objects, references objects
+pub names_of_whole : (s : State) → IsWhole (scene_of s)
+    → ((id : ℕ) → IsSome (get s.places id) → IsSome (get s.objects id)) → NamesStand s
+names_of_whole s w places = record {
+  fields = λ id object stands i.
+      if_some_from (λ (x : Id). IsSome (get s.objects x.0)) (field_of object i)
+      (λ y e. w.fields (record { 0 = id }) y (field_in s id object i y stands e));
+  registers = λ c d.
+      if_some_from (λ (x : Id). IsSome (get s.objects x.0)) (register_of s c d)
+      (λ x e. w.named x (register_named s c d x e));
+  statics = λ k. if_some_from (λ (x : Id). IsSome (get s.objects x.0)) (static_of s k)
+      (λ x e. w.named x (static_named s k x e));
+  targets = λ slot h stands. if_some_from (λ (x : Id). IsSome (get s.objects x.0)) h.target
+      (λ x e. w.targets slot h x stands e);
+  secondaries = λ slot h stands.
+      if_some_from (λ (x : Id). IsSome (get s.objects x.0)) (secondary_of h.extra)
+      (λ x e. w.secondaries slot h x stands e);
+  queue = λ id h. w.queue id h;
+  places = places;
+}
