@@ -8,7 +8,7 @@ use Rattle.hd_model.specs.Table.{Table}
 abbrev pub CoversTable : List ℕ → Table → Type 0
 CoversTable ages t = length ages ≡ CLUMPS * t.blocks
 
--- the place of a block's clump, from 0 to 3, in the list of ages
+-- the index of a block's clump, from 0 to 3, in the list of ages
 abbrev pub clump_at : ℕ → ℕ → ℕ
 clump_at block clump = CLUMPS * block + clump - CLUMPS
 
@@ -17,7 +17,7 @@ pub record IsSlotOf (block clump slot : ℕ) : Type 0 where
   pub in_block : slot / ROWS ≡ block
   pub in_clump : slot % ROWS / CLUMP ≡ clump
 
--- the ages after a collection of generation n has come to one block
+-- the ages after a collection of generation n has raised those of one block
 abbrev pub grown_at : ℕ → ℕ → List ℕ → List ℕ
 grown_at n block ages = let first = CLUMPS * block - CLUMPS in
     take first ages ++ grown n (take CLUMPS (drop first ages)) ++ drop (CLUMPS * block) ages

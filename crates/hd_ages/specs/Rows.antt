@@ -13,7 +13,7 @@ pub record IsDueRow (t : Table) (ages : List ℕ) (n : ℕ) (kind : Kind) (slot 
   pub of_kind : handle.kind ≡ kind
   pub due : is_due ages n slot ≡ true
 
--- a list has just the things of a property, each once
+-- a list has exactly the things of a property, each once
 pub record IsListOf {A : Type 0} (P : A → Type 0) (xs : List A) : Type 0 where
   pub apart : AllPairs (λ x y. x ≢ y) xs
   pub each : (x : A) → Contains xs x → P x

@@ -1,4 +1,4 @@
--- Four ages as one word. Bit c says that clump c is of age 1 or more, and bit c + 4 that it is of age 2. This
+-- Four ages as one word. Bit c is set if clump c is of age 1 or more, and bit c + 4 if it is of age 2. This
 -- project's own format.
 use Rattle.std.specs.Prelude.{ℕ, ◌+◌, ◌<◌, ◌≤◌, ◌^◌, List, [], ◌∷◌}
 use Rattle.std.specs.Int.{bit_at}

@@ -31,7 +31,7 @@ impl Model for AgeMap {
 }
 
 impl AgeMap {
-    /// The ages of a table of so many blocks: each is 2. All memory is taken here.
+    /// The ages of a table of `blocks` blocks: each is 2. All memory is taken here.
     pub fn open(alloc: Global, blocks: u32) -> Result<AgeMap, Memory>
         requires { blocks ≤ BLOCKS }
         ensures { IfOk result (λ ages. ages ≡ replicate (CLUMPS * blocks) OLDEST) }
@@ -63,7 +63,7 @@ impl AgeMap {
         word::age(self.words[block as usize - 1], clump)
     }
 
-    /// Lowers the age of a block's clump to `g`. An age that is not above it stays.
+    /// Lowers the age of a block's clump to `g`. An age that is not above `g` stays.
     pub fn lower(&mut self, block: u32, clump: u32, g: u8)
         requires low { 1 ≤ block }
         requires high { CLUMPS * block ≤ length self.old }
@@ -74,8 +74,8 @@ impl AgeMap {
         self.words[place] = word::lower(self.words[place], clump, g);
     }
 
-    /// A bit for each clump of a block whose age is at most `n`: a collection of generation `n`
-    /// visits these clumps and no other.
+    /// A mask of a block's clumps whose age is at most `n`: a collection of generation `n` visits
+    /// exactly these.
     pub fn due(&self, block: u32, n: u8) -> u8
         requires low { 1 ≤ block }
         requires high { CLUMPS * block ≤ length self.now }
@@ -89,7 +89,7 @@ impl AgeMap {
         word::due(self.words[block as usize - 1], n)
     }
 
-    /// Raises each age of a block that is at most `n` by one, at most to 2.
+    /// Raises by one each age of a block that is at most `n`, at most to 2.
     pub fn grow(&mut self, block: u32, n: u8)
         requires low { 1 ≤ block }
         requires high { CLUMPS * block ≤ length self.old }

@@ -23,13 +23,13 @@ use std::sync::ledger::Ledger;
 pub struct DueRows {
     // The generation that is collected.
     n: u8,
-    // The block in which the walk stands, or none after the last.
+    // The block that the walk is at, or none after the last.
     block: Option<u32>,
-    // The due clumps of the block that are still to come, by bits.
+    // The due clumps of the block that are still to be visited, as a mask.
     clumps: u64,
-    // The first slot of the clump in which the walk stands.
+    // The first slot of the clump that the walk is at.
     first: u32,
-    // The live rows of the clump that are still to come, by bits.
+    // The live rows of the clump that are still to be visited, as a mask.
     rows: u64,
 }
 
@@ -77,7 +77,7 @@ impl DueRows {
         Some(self.take_row())
     }
 
-    // Goes to a block, before its due clumps. None is the end of a chain.
+    // Moves to a block, before its due clumps. None is the end of a chain.
     fn go_to(&mut self, block: Option<u32>, ages: &AgeMap)
         requires { ForSome block (λ b. (1 ≤ b) × (CLUMPS * b ≤ length ages.now)) }
         ensures after { self.new ≡ record self.old { block = block; clumps = self.new.clumps } }
@@ -91,7 +91,7 @@ impl DueRows {
         };
     }
 
-    // Goes on to the next due clump of the block, which is a step, or else to the next block.
+    // Moves to the next due clump of the block, which is a step, or else to the next block.
     fn advance<L: Ledger>(&mut self, seg: &Seg, ages: &AgeMap, steps: &mut Steps<L>) -> Option<()>
         requires on { IsOn seg.now self.old }
         requires blocks { CoversTable ages.now seg.now }
@@ -113,7 +113,7 @@ impl DueRows {
         Some(())
     }
 
-    // Goes to the rows of the lowest clump that is to come.
+    // Moves to the rows of the lowest clump that is still to be visited.
     fn enter(&mut self, seg: &Seg, block: u32, clump: u32)
         requires low { 1 ≤ block }
         requires high { block ≤ seg.now.blocks }
@@ -132,7 +132,7 @@ impl DueRows {
         self.first = ROWS * block + CLUMP * clump;
     }
 
-    // The lowest row of the clump that is to come.
+    // Takes the lowest row of the clump that is still to be visited.
     fn take_row(&mut self) -> Slot
         requires some { self.old.rows ≢ 0 }
         requires first { self.old.first ≤ ROWS * (BLOCKS + 1) }

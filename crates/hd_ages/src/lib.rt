@@ -1,8 +1,8 @@
 //! The ages of clumps: sixteen slots of the handle table share an age, after CoreCLR's table.
 //!
-//! An age is at most the generation of whatever the live rows of its clump name. So a collection
-//! may pass over each clump with an age above the generation that it collects. Four ages are one
-//! word. `DueRows` walks the live rows of one kind in the other clumps.
+//! An age is at most the generation of each object that the live rows of its clump reference, so a
+//! collection may skip each clump with an age above the generation that it collects. The four ages
+//! of a block are one word. `DueRows` walks the live rows of one kind in the other clumps.
 #![tactic(auto)]
 
 mod age_map;

@@ -1,5 +1,5 @@
-// The four ages of a block in one word. Bit `c` says that clump `c` is of age 1 or more, and bit
-// `c + 4` that it is of age 2.
+// The four ages of a block in one word. Bit `c` is set if clump `c` is of age 1 or more, and bit
+// `c + 4` if it is of age 2.
 
 ghost use Rattle.std.specs.Prelude.{◌≡◌, ℕ, ◌<◌, ◌≤◌, ◌^◌, cond, nat_le, min, slice_set};
 ghost use Rattle.std.specs.Int.{bit_at};
@@ -11,17 +11,16 @@ use hd_model::limits::{CLUMPS, OLDEST};
 /// The word of four ages of 2.
 pub(crate) const ALL_OLDEST: u8 = 0xff;
 
-// The bits that say that a clump is of age 1 or more.
+// The bits that are set for clumps of age 1 or more.
 const SOME: u8 = 0x0f;
 
-// From the bit that says that a clump is of age 1 or more to the one that says that it is of age
-// 2.
+// The distance from a clump's bit for age 1 or more to its bit for age 2.
 const TWO: u32 = CLUMPS;
 
 // The bits of the age of clump 0.
 const AGE: u8 = 0x11;
 
-// The bit that says that clump 0 is of age 2.
+// The bit that is set if clump 0 is of age 2.
 const OLD: u8 = 0x10;
 
 /// The age of a clump.
@@ -34,7 +33,7 @@ pub(crate) fn age(word: u8, clump: u32) -> u8
 }
 
 /// The word after the age of a clump was lowered to `g`, where it was above.
-#[tactic(auto, using(crate::proofs::Words::lows))]
+#[tactic(auto, using(crate::proofs::AgeWord::lows))]
 pub(crate) fn lower(word: u8, clump: u32, g: u8) -> u8
     requires word { IsWord word }
     requires clump { clump < CLUMPS }
@@ -48,8 +47,8 @@ pub(crate) fn lower(word: u8, clump: u32, g: u8) -> u8
     }
 }
 
-/// A bit for each clump that is of age `n` or less.
-#[tactic(auto, using(crate::proofs::Words::dues))]
+/// A mask of the clumps of age `n` or less.
+#[tactic(auto, using(crate::proofs::AgeWord::dues))]
 pub(crate) fn due(word: u8, n: u8) -> u8
     requires { IsWord word }
     ensures bits { (clump : ℕ) → clump < CLUMPS →
@@ -63,8 +62,8 @@ pub(crate) fn due(word: u8, n: u8) -> u8
     }
 }
 
-/// The word in which each age up to `n` is raised by one, at most to 2.
-#[tactic(auto, using(crate::proofs::Words::grows))]
+/// The word after each age up to `n` was raised by one, at most to 2.
+#[tactic(auto, using(crate::proofs::AgeWord::grows))]
 pub(crate) fn grow(word: u8, n: u8) -> u8
     requires { IsWord word }
     ensures ages { ages_in result ≡ grown n (ages_in word) }

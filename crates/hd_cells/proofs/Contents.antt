@@ -9,7 +9,7 @@ use Rattle.std.specs.FinMap as map
 use Rattle.hd_cells.specs.Object.{Object, no_object}
 use Rattle.hd_cells.specs.Region.{Contents, IsObject, IsLaidOut, object_at, fields_at, with_object, empty_region}
 use Rattle.hd_cells.specs.Cells.{cell, count_at, object_in, extent_at, objects_of, contents_of, IsBody, IsLaid, IsRegion}
-use Rattle.hd_cells.proofs.Tiling.{extent_at-body, tiling_read, found, found_apart, IsTile, as_body, changed_tiling}
+use Rattle.hd_cells.proofs.RegionTiles.{extent_at-body, tiling_read, found, found_apart, IsTile, as_body, changed_tiling}
 
 -- a region is read as its cells are laid out
 pub laid_read : {c : List ℕ} {fill : ℕ} {os : List (ℕ × Object)} → IsLaid c fill os → objects_of c ≡ os
@@ -94,7 +94,7 @@ held c fill r len laid view at is =
     let P : Contents → Type 0 = λ x. IsObject x at → IsHeld c x at in
     subst P view (held_by_cells c fill len laid at) is
 
--- objects lie in a region as its callers are told
+-- objects are laid out in a region as its callers see
 pub laid_out : (c : List ℕ) (fill : ℕ) (r : Contents) → length c ≡ 256 → IsRegion c fill
     → contents_of c fill ≡ r → IsLaidOut r
 laid_out c fill r len laid view =
@@ -163,7 +163,7 @@ changed_region c d fill r at w m laid view h rewrite tile gets =
     let seen = laid_contents now m maps in
     record { region = laid_region now; contents = seen ∙ (λ i. record { objects = m; fill = sym fills i }) }
 
--- no object lies in an empty region
+-- no object is in an empty region
 none_in_empty : (at : ℕ) → IsObject empty_region at → ⊥
 none_in_empty at is = both_ways _ (ap is_some (map.get-empty {X = Object} nat_cmp at)) is
 
@@ -175,7 +175,7 @@ empty_laid_out = record {
   apart = λ a b is_a is_b below. absurd (none_in_empty a is_a);
 }
 
--- after a write callers are told where objects lie
+-- after a write callers see where objects are
 pub of_laid_out : (d : List ℕ) (fill : ℕ) (r : Contents) → length d ≡ 256 → IsRegionOf d fill r
     → IsLaidOut (contents_of d fill)
 of_laid_out d fill r len of = laid_out d fill (contents_of d fill) len of.region refl

@@ -1,7 +1,7 @@
-pub mod Finding
-pub mod Tiling
+pub mod OffsetLookup
+pub mod RegionTiles
 pub mod Contents
-pub mod Writes
-pub mod Walks
-pub mod Laws
-pub mod Starts
+pub mod CellWrites
+pub mod CellWalk
+pub mod ObjectPresence
+pub mod ObjectStarts

@@ -25,7 +25,7 @@ object_in cells at = record {
   registered = nat_le REGISTERED (cell cells (at + SHAPE));
 }
 
--- how many cells are taken by what begins at `at`, which is 0 where nothing was put
+-- the number of cells of what begins at `at`, which is 0 where nothing was put
 unfoldable pub extent_at : List ℕ → ℕ → ℕ
 extent_at cells at = if cell cells at == 0 then cell cells (at + SHAPE) else count_at cells at + HEADER
 
@@ -40,18 +40,18 @@ objects_from (suc n) cells at =
 abbrev pub objects_of : List ℕ → List (ℕ × Object)
 objects_of cells = objects_from CELLS cells 0
 
--- a region with these cells and this fill as its callers see it
+-- a region with these cells and this allocation pointer as its callers see it
 abbrev pub contents_of : List ℕ → ℕ → Contents
 contents_of cells fill = record { objects = map.from_entries (objects_of cells); fill = fill }
 
--- an object lies at `at`; its limit of fields is this project's own
+-- an object is at `at`; the limit of its fields is this project's own
 pub record IsBody (cells : List ℕ) (at : ℕ) : Type 0 where
   pub identified : cell cells at ≢ 0
   pub shaped : cell cells (at + SHAPE) < 2 * REGISTERED
   pub few_fields : count_at cells at ≤ FIELDS
   pub addresses : (i : ℕ) → i < count_at cells at → cell cells (at + HEADER + i) < 2 ^ 32
 
--- a gap lies at `at`
+-- a gap is at `at`
 pub record IsGap (cells : List ℕ) (at : ℕ) : Type 0 where
   pub unnamed : cell cells at ≡ 0
   pub long : HEADER ≤ cell cells (at + SHAPE)
@@ -64,29 +64,29 @@ pub data IsTiled (cells : List ℕ) (stop : ℕ) : ℕ → List (ℕ × Object) 
   body : {at : ℕ} {os : List (ℕ × Object)} → IsBody cells at → IsTiled cells stop (at + extent_at cells at) os
       → IsTiled cells stop at ((at, object_in cells at) ∷ os)
 
--- these are the fill and the objects of a region with these cells; a cell in which nothing was put is 0
+-- the allocation pointer and objects of a region with these cells; a cell in which nothing was put is 0
 pub record IsLaid (cells : List ℕ) (fill : ℕ) (os : List (ℕ × Object)) : Type 0 where
   pub tiled : IsTiled cells fill 0 os
   pub within : fill ≤ CELLS
   pub unused : (k : ℕ) → fill ≤ k → cell cells k ≡ 0
 
--- these are the cells and the fill of a region
+-- these are the cells and the allocation pointer of a region
 abbrev pub IsRegion : List ℕ → ℕ → Type 0
 IsRegion cells fill = IsLaid cells fill (objects_of cells)
 
--- where objects begin: an object takes three cells and more, so at most one begins among cells 3 k to 3 k + 2,
+-- where objects begin: an object takes three cells or more, so at most one begins among cells 3 k to 3 k + 2,
 -- and entry k is its offset (an object-start map, as other collectors have)
 abbrev pub IsIndexed : List ℕ → Contents → Type 0
 IsIndexed starts r = (q : ℕ) → q + HEADER ≤ CELLS
     → (slice_index starts (q / HEADER) == q) ≡ map.contains_key r.objects q
 
--- what every region keeps
+-- what is always true of a region
 pub record IsWhole (cells : List ℕ) (fill : ℕ) (starts : List ℕ) : Type 0 where
   pub region : IsRegion cells fill
   pub indexed : IsIndexed starts (contents_of cells fill)
 
 -- an object or a gap begins at this offset, or nothing was put from it on; and each object at or after `from`
--- lies in the rest from there on
+-- is in the rest from there on
 pub record IsReached (cells : List ℕ) (fill from at : ℕ) : Type 0 where
   pub rest : List (ℕ × Object)
   pub tiled : IsTiled cells fill at rest

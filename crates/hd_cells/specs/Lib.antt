@@ -1,3 +1,4 @@
 pub mod Object
 pub mod Region
 pub mod Cells
+pub mod Limits

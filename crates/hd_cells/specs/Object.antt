@@ -29,7 +29,7 @@ abbrev pub new_object : ℕ → ℕ → Bool → Object
 new_object id count registered =
     record { identity = id; fields = replicate count 0; value = 0; registered = registered }
 
--- what the reading of an offset answers where no object is
+-- what is read at an offset without an object
 abbrev pub no_object : Object
 no_object = record { identity = 0; fields = []; value = 0; registered = false }
 

@@ -1,4 +1,4 @@
--- A region as its callers see it: its objects by their offsets, and its fill.
+-- A region as its callers see it: its objects by their offsets, and its allocation pointer.
 use Rattle.std.specs.Prelude.{◌≢◌, ℕ, ◌+◌, ◌^◌, ◌<◌, ◌≤◌, List, length, IsTrue, All, Option, MatchOption, unwrap_or, refl}
 use Rattle.std.specs.Ordering.{nat_cmp}
 use Rattle.std.specs.FinMap as map
@@ -11,7 +11,7 @@ pub record Contents : Type 0 where
   pub objects : map.FinMap nat_cmp Object
   pub fill : ℕ
 
--- the contents are stored as the pair of the map and the fill
+-- the contents are stored as the pair of the map and the allocation pointer
 abbrev pub contents_code : Coded Contents
 contents_code =
     code_by (map.FinMap nat_cmp Object × ℕ) (coded× (map.code coded_ℕ object_code) coded_ℕ)
@@ -58,7 +58,7 @@ pub record IsWellFormed (o : Object) : Type 0 where
   pub few_fields : length o.fields ≤ FIELDS
   pub addresses : All (λ f. f < 2 ^ 32) o.fields
 
--- objects lie below the fill, one after another, and the fill is at most a region's cells
+-- objects are below the allocation pointer, one after another, and it is at most a region's cells
 pub record IsLaidOut (r : Contents) : Type 0 where
   pub within_region : r.fill ≤ CELLS
   pub well_formed : (at : ℕ) → IsObject r at → IsWellFormed (object_at r at)

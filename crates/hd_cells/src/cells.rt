@@ -1,26 +1,26 @@
-// The cells of a region: where the parts of an object lie, and how far what stands there reaches.
+// The cells of a region: the parts of an object, and the cells that an object or gap takes.
 
 ghost use Rattle.std.specs.Prelude.{◌≡◌, ℕ, ◌+◌, ◌/◌, ◌<◌, ◌≤◌, if◌then◌else◌, slice_index};
 ghost use Rattle.hd_cells.specs.Cells.{extent_at, IsReached, IsFirstIn};
 
-/// The cells of a region.
+/// The number of cells of a region.
 pub const CELLS: usize = 256;
 
-/// The fields of an object, at most.
+/// The largest number of fields of an object.
 pub const FIELDS: u32 = 61;
 
-/// The cells of an object beside its fields, which come after them.
+/// The number of cells of an object before its fields.
 pub const HEADER: usize = 3;
 
-/// The parts of a region in each of which at most one object begins, since an object takes three
-/// cells and more.
+/// The number of parts of a region. At most one object begins in each, since an object takes three
+/// cells or more.
 pub(crate) const PARTS: usize = 86;
 
-/// That no object begins in a part.
+/// The entry of a part in which no object begins.
 pub(crate) const NONE: u8 = 255;
 
-/// From an object's first cell, which is its identity, to the cell with the number of its fields
-/// and its registration. In a gap that cell is the gap's length.
+/// From an object's first cell, its identity, to the cell with the number of its fields and its
+/// registration. In a gap that cell is the gap's length.
 pub(crate) const SHAPE: usize = 1;
 
 /// From an object's first cell to its value.
@@ -36,14 +36,14 @@ pub(crate) fn blank() -> [u64; CELLS]
     [0; CELLS]
 }
 
-/// The part of a region in which a cell lies.
+/// The part of a region that a cell is in.
 pub(crate) fn part_of(at: usize) -> usize
     ensures { result ≡ at / HEADER }
 {
     at / HEADER
 }
 
-/// No object begins anywhere.
+/// The entries of a region without objects.
 pub(crate) fn no_starts() -> [u8; PARTS]
     ensures { (k : ℕ) → k < PARTS → slice_index result k ≡ NONE }
 {
@@ -62,7 +62,7 @@ pub(crate) fn shape(fields: u64, registered: bool) -> u64
     }
 }
 
-/// How many cells are taken by the object or gap that begins at `at`.
+/// The number of cells of the object or gap that begins at `at`.
 #[tactic(auto, unfolding(crate::specs::Cells::extent_at))]
 pub(crate) fn extent(cells: &[u64; CELLS], at: usize) -> usize
     requires { at + SHAPE < CELLS }

@@ -1,4 +1,4 @@
-// A region, seen by its callers as a map from offset to object and a fill.
+// A region, seen by its callers as a map from offset to object and an allocation pointer.
 ghost use Rattle.std.specs.Prelude.{◌≡◌, ◌≢◌, ◌↔◌, ◌+◌, ◌<◌, ◌≤◌, IsTrue, length, slice_index};
 ghost use Rattle.std.specs.FinMap as map;
 ghost use Rattle.hd_cells.specs.Object.{new_object, with_field, with_registered, with_value};
@@ -12,7 +12,7 @@ use crate::cells::{
 };
 use std::marker::Model;
 
-/// A region of 256 cells of 64 bits, which are 2 KiB, with its fill, and with the offset of the
+/// A region of 256 cells of 64 bits (2 KiB), with its allocation pointer and with the offset of the
 /// object that begins in each three cells. Offsets and sizes are in cells.
 #[derive(Drop)]
 pub struct Region {
@@ -21,7 +21,7 @@ pub struct Region {
     fill: u32,
 }
 
-// Callers see the objects by their offsets and the fill, and no cell and no gap.
+// Callers see the objects by their offsets and the allocation pointer, but no cells and no gaps.
 impl Model for Region {
     ghost use Rattle.hd_cells.specs.Region.{Contents, contents_code};
     ghost use Rattle.hd_cells.specs.Cells.{IsWhole, contents_of};
@@ -48,7 +48,7 @@ impl Region {
         }
     }
 
-    /// The first cell after the last object put. It never falls.
+    /// The allocation pointer: the first cell after the last object put. It never falls.
     pub fn fill(&self) -> u32
         ensures value { result ≡ self.now.fill }
         ensures laid_out { IsLaidOut self.now }
@@ -56,7 +56,7 @@ impl Region {
         self.fill
     }
 
-    /// Puts an object with null fields and value 0 after all others, and answers its offset. It
+    /// Puts an object with null fields and value 0 after all others, and returns its offset. It
     /// takes three cells more than it has fields.
     pub fn put_object(&mut self, id: u64, fields: u32, registered: bool) -> u32
         requires identified { id ≢ 0 }
@@ -79,7 +79,7 @@ impl Region {
     pub fn is_object(&self, at: u32) -> bool
         ensures { IsTrue result ↔ IsObject self.now at }
     {
-        // Borrowed first for the proof: it brings the invariant to hand where `at` is too large.
+        // Borrowed first for the proof: it gives the invariant where `at` is too large.
         let starts = &self.starts;
         let at = at as usize;
         if at > CELLS - HEADER {
@@ -132,8 +132,8 @@ impl Region {
         self.cells[at as usize + SHAPE] >= REGISTERED
     }
 
-    /// Registers the object at `at` for finalisation, or takes its registration away, also where it
-    /// stands so already.
+    /// Registers the object at `at` for finalisation, or takes its registration away. It may be so
+    /// already.
     pub fn set_registered(&mut self, at: u32, on: bool)
         requires { IsObject self.old at }
         ensures written { let after = with_registered (object_at self.old at) on in
@@ -155,7 +155,7 @@ impl Region {
     }
 
     /// Writes an address, or 0 for null, into field `i` of the object at `at`. The address is not
-    /// looked at.
+    /// checked.
     pub fn set_field(&mut self, at: u32, i: u32, v: u32)
         requires object { IsObject self.old at }
         requires within { i < length (fields_at self.old at) }
@@ -167,7 +167,7 @@ impl Region {
         self.cells[place] = u64::from(v);
     }
 
-    /// Takes the object at `at` away. Its cells become a gap, which is never used again.
+    /// Removes the object at `at`. Its cells become a gap, which is never used again.
     pub fn remove(&mut self, at: u32)
         requires { IsObject self.old at }
         ensures removed { self.new ≡ without_object self.old at }
@@ -180,8 +180,8 @@ impl Region {
         self.starts[part_of(at)] = NONE;
     }
 
-    /// The offset of the first object at or after `from`, which may be any number. Takes time by the
-    /// objects and gaps before it.
+    /// The offset of the first object at or after `from`, which may be any number. Takes time by
+    /// the objects and gaps before it.
     pub fn walk(&self, from: u32) -> Option<u32>
         ensures first { IsFirstFrom self.now from result }
         ensures laid_out { IsLaidOut self.now }

@@ -1,34 +1,21 @@
--- The bits of a mask: what setting and clearing one bit do to it, and how two masks part a third.
+-- The bits of a mask: what setting and clearing one bit do to it, and how two masks split a third.
 -- The mask of row k alone is `2 ^ k`, which is what `bit` makes, and `!m` is `bit_not w64 m`.
 use Rattle.std.proofs.Common.{◌≡◌, ◌≢◌, ◌↔◌, ◌⊎◌, ℕ, suc, ◌+◌, ◌-◌, ◌*◌, ◌/◌, ◌%◌, ◌^◌, ◌<◌, ◌≤◌, min, bit_and, bit_or, bit_xor, inl, inr, sym, ap, ◌∙◌, arith}
 use Rattle.std.specs.Int.{bit_at, bit_not, w64}
 use Rattle.std.proofs.Math.Nat.{zero-mul}
 use Rattle.std.proofs.lemmas.Bool.{cases_lt, cases_eq, cases_order}
-use Rattle.std.proofs.lemmas.Nat.{pow_pos, pow_below, shr-shr, shr_split, mod_below, or_lt, or_disjoint}
+use Rattle.std.proofs.lemmas.Nat.{pow_pos, pow_below, shr-shr, shr_split, mod_below}
 use Rattle.std.proofs.lemmas.Nat.Bits.{bit_at_and, bit_at_or, bit_at_xor, bit_at_not, bit_at-pow_same, bit_at-pow_other, bit_at-trailing_zeros, bit_at_cat_low, bit_at_cat_high, bit_at-lt, bit_at-zero, bit_at_above, bit_at_ones_above, same_from_bits, same_from_bits_below, and_pow}
 
 -- ---- a mask as a whole
 
--- a mask is 0 exactly where none of its 64 bits is set
-pub zero_from_bits : (n : ℕ) → n < 2 ^ 64 → ((i : ℕ) → i < 64 → bit_at n i ≡ 0) → n ≡ 0
-zero_from_bits n fits none =
-    same_from_bits_below 64 n 0 fits (pow_pos 64) (λ i lt. none i lt ∙ sym (bit_at-zero i))
-
 pub bits_of_zero : (n i : ℕ) → n ≡ 0 → bit_at n i ≡ 0
 bits_of_zero n i e = ap (λ m. bit_at m i) e ∙ bit_at-zero i
 
--- a mask that is not 0 has a least set bit
+-- a mask that is not 0 has a lowest set bit
 pub least_bit : (n : ℕ) → 0 < n → n < 2 ^ 64
     → (t : ℕ) × (t < 64) × (bit_at n t ≡ 1) × ((k : ℕ) → k < t → bit_at n k ≡ 0)
 least_bit n some fits = let h = bit_at-trailing_zeros w64 n some fits in (_, h.0, h.1, h.2)
-
--- a set bit of a number below `2 ^ k` is below k
-pub bit_below : (n k i : ℕ) → n < 2 ^ k → bit_at n i ≡ 1 → i < k
-bit_below n k i fits set =
-    elim (cases_lt i k) [
-      | inl lt ↦ lt
-      | inr le ↦ absurd (omega (arith, bit_at_above n k i fits le))
-    ]
 
 -- `n >> k` has the bits from k on
 pub bit_at-shr : (n k i : ℕ) → bit_at (n / 2 ^ k) i ≡ bit_at n (k + i)
@@ -41,7 +28,7 @@ bit_at-mod n k i lt =
 
 -- ---- two masks
 
--- `a & !b` has the bits of a that b has not
+-- `a & !b` has the bits of a that b lacks
 pub without_at : (a b i : ℕ) → a < 2 ^ 64 → b < 2 ^ 64
     → bit_at (bit_and a (bit_not w64 b)) i ≡ bit_at a i - bit_at b i
 without_at a b i fits fits' = at (cases_lt i 64)
@@ -68,16 +55,13 @@ pub or_apart_at : (a b : ℕ) → bit_and a b ≡ 0 → (i : ℕ)
     → bit_at (bit_or a b) i ≡ bit_at a i + bit_at b i
 or_apart_at a b apart i = omega (arith, bit_at_or a b i, apart_at a b apart i)
 
--- a mask that two masks part, bit by bit
+-- a mask that two masks split, bit by bit
 module _ (m a b : ℕ) (parts : (i : ℕ) → bit_at m i ≡ bit_at a i + bit_at b i) where
   pub apart_from_parts : bit_and a b ≡ 0
   apart_from_parts = apart_from_bits a b (λ i. omega (arith, parts i, bit_at-lt m i))
 
   pub or_from_parts : m ≡ bit_or a b
   or_from_parts = same_from_bits m _ (λ i. parts i ∙ sym (or_apart_at a b apart_from_parts i))
-
-  pub sum_from_parts : m ≡ a + b
-  sum_from_parts = or_from_parts ∙ or_disjoint a b apart_from_parts
 
 -- ---- one bit
 
@@ -122,16 +106,6 @@ module _ (n k : ℕ) where
   pub set_other : (i : ℕ) → i ≢ k → bit_at (bit_or n (2 ^ k)) i ≡ bit_at n i
   set_other i apart = omega (arith, bit_at_or n (2 ^ k) i, bit_at-pow_other k i apart)
 
-  -- no bit is lost
-  pub set_keeps : (i : ℕ) → bit_at n i ≡ 1 → bit_at (bit_or n (2 ^ k)) i ≡ 1
-  set_keeps i set = omega (arith, bit_at_or n (2 ^ k) i, bit_at-lt (2 ^ k) i)
-
-  pub set_again : bit_at n k ≡ 1 → bit_or n (2 ^ k) ≡ n
-  set_again set = same_at_each _ n k (set_same ∙ sym set) set_other
-
-  pub set_fits : n < 2 ^ 64 → k < 64 → bit_or n (2 ^ k) < 2 ^ 64
-  set_fits fits within = or_lt 64 n (2 ^ k) fits (pow_below k 64 within)
-
   -- ---- `n ^ bit(k)`, which sets a clear bit and clears a set one
 
   pub flip_same : bit_at (bit_xor n (2 ^ k)) k ≡ 1 - bit_at n k
@@ -159,15 +133,12 @@ module _ (n k : ℕ) where
     pub clear_other : (i : ℕ) → i ≢ k → bit_at (bit_and n (bit_not w64 (2 ^ k))) i ≡ bit_at n i
     clear_other i apart = omega (arith, cleared_at i, bit_at-pow_other k i apart)
 
-    pub clear_again : bit_at n k ≡ 0 → bit_and n (bit_not w64 (2 ^ k)) ≡ n
-    clear_again clear = same_at_each _ n k (clear_same ∙ sym clear) clear_other
-
     pub flip_set : bit_at n k ≡ 1 → bit_xor n (2 ^ k) ≡ bit_and n (bit_not w64 (2 ^ k))
     flip_set set =
         same_at_each _ _ k (omega (arith, flip_same, clear_same))
         (λ i apart. flip_other i apart ∙ sym (clear_other i apart))
 
-    -- a set bit and the mask without it part the mask
+    -- a set bit and the mask without it split the mask
     pub clear_parts : bit_at n k ≡ 1 → (i : ℕ)
         → bit_at n i ≡ bit_at (2 ^ k) i + bit_at (bit_and n (bit_not w64 (2 ^ k))) i
     clear_parts set i = at (cases_eq i k)
@@ -179,7 +150,7 @@ module _ (n k : ℕ) where
 
 -- ---- the lowest set bit
 
--- n less its least set bit t is `n & (n - 1)`: below t the number n - 1 has ones where n has zeros
+-- n without its lowest set bit t is `n & (n - 1)`: below t the number n - 1 has ones where n has zeros
 module _ (n t : ℕ) (set : bit_at n t ≡ 1) (least : (i : ℕ) → i < t → bit_at n i ≡ 0) where
   high : ℕ
   high = n / 2 ^ suc t

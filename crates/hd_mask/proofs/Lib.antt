@@ -1,4 +1,4 @@
 pub mod Bits
 pub mod Ones
 pub mod SetBits
-mod Taking
+mod LowestBits

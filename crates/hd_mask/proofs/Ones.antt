@@ -1,14 +1,11 @@
--- How many bits of a mask are set.
-use Rattle.std.proofs.Common.{◌≡◌, ◌↔◌, ◌⊎◌, ℕ, zero, suc, ◌+◌, ◌-◌, ◌/◌, ◌%◌, ◌^◌, ◌<◌, ◌≤◌, bit_and, bit_or, inl, inr, refl, sym, ap, ◌∙◌, arith}
+-- The number of set bits of a mask.
+use Rattle.std.proofs.Common.{◌≡◌, ℕ, zero, suc, ◌+◌, ◌-◌, ◌/◌, ◌%◌, ◌^◌, ◌<◌, bit_and, bit_or, refl, sym, ap, ◌∙◌, arith}
 use Rattle.std.specs.Int.RustNames.{count_ones}
 use Rattle.std.specs.Int.{bit_at, bit_not, w64}
 use Rattle.std.specs.Int.Bits.{and_step, or_step}
-use Rattle.std.specs.Int.Count.{ones_step, ones-ones}
+use Rattle.std.specs.Int.Count.{ones_step}
 use Rattle.std.proofs.Math.Nat.{pow-suc}
-use Rattle.std.proofs.lemmas.Bool.{cases_lt}
-use Rattle.std.proofs.lemmas.Nat.{zero_from_ones}
-use Rattle.std.proofs.lemmas.Nat.Bits.{bit_at-lt, bit_at_and, bit_at_not, bit_at_ones, bit_at_above}
-use Rattle.hd_mask.proofs.Bits.{or_from_parts, apart_from_parts, without_at, and_bit_zero, clear_parts, least_bit, lowest_parts}
+use Rattle.hd_mask.proofs.Bits.{or_from_parts, apart_from_parts, and_bit_zero, clear_parts, least_bit, lowest_parts}
 
 -- ---- two masks
 
@@ -44,26 +41,15 @@ pub ones-zero : count_ones 0 ≡ 0
 unfolding count_ones
 ones-zero = refl
 
--- a mask is 0 exactly where none of its bits is set
-pub no_ones : (n : ℕ) → (count_ones n ≡ 0) ↔ (n ≡ 0)
-no_ones n = (zero_from_ones n, λ e. ap count_ones e ∙ ones-zero)
-
 pub ones-or_apart : (a b : ℕ) → bit_and a b ≡ 0
     → count_ones (bit_or a b) ≡ count_ones a + count_ones b
 ones-or_apart a b apart = omega (arith, ones_or_and a b, ap count_ones apart, ones-zero)
 
--- two masks that part a third count together as it does
+-- two masks that split a third have together as many set bits
 pub ones_from_parts : (m a b : ℕ) → ((i : ℕ) → bit_at m i ≡ bit_at a i + bit_at b i)
     → count_ones m ≡ count_ones a + count_ones b
 ones_from_parts m a b parts =
     ap count_ones (or_from_parts m a b parts) ∙ ones-or_apart a b (apart_from_parts m a b parts)
-
--- `a & !b` lacks what the two share
-pub ones-without : (a b : ℕ) → a < 2 ^ 64 → b < 2 ^ 64
-    → count_ones (bit_and a (bit_not w64 b)) + count_ones (bit_and a b) ≡ count_ones a
-ones-without a b fits fits' =
-    sym (ones_from_parts a _ (bit_and a b)
-    (λ i. omega (arith, without_at a b i fits fits', bit_at_and a b i)))
 
 -- ---- one bit
 
@@ -85,29 +71,12 @@ pub ones-clear : (n k : ℕ) → n < 2 ^ 64 → k < 64 → bit_at n k ≡ 1
 ones-clear n k fits within set =
     omega (arith, ones_from_parts n (2 ^ k) _ (clear_parts n k fits within set), ones-pow k)
 
--- so does `n & (n - 1)`, which clears the least
+-- so does `n & (n - 1)`, which clears the lowest
 pub ones-without_lowest : (n : ℕ) → 0 < n → n < 2 ^ 64
     → count_ones (bit_and n (n - 1)) + 1 ≡ count_ones n
 ones-without_lowest n some fits =
     let h = least_bit n some fits in
     omega (arith, ones_from_parts n (2 ^ h.0) _ (lowest_parts n h.0 h.2 h.3), ones-pow h.0)
-
--- ---- all 64 rows
-
-pub ones-all : count_ones (2 ^ 64 - 1) ≡ 64
-ones-all = ones-ones 64
-
--- the rows that are set and those that are not
-pub ones-not : (n : ℕ) → n < 2 ^ 64 → count_ones (bit_not w64 n) + count_ones n ≡ 64
-ones-not n fits = sym (ones_from_parts (2 ^ 64 - 1) _ n (λ i. at i (cases_lt i 64))) ∙ ones-all
-  where
-    at : (i : ℕ) → (i < 64) ⊎ (64 ≤ i)
-        → bit_at (2 ^ 64 - 1) i ≡ bit_at (bit_not w64 n) i + bit_at n i
-    at i (inl lt) = omega (arith, bit_at_ones 64 i lt, bit_at_not w64 n i fits lt, bit_at-lt n i)
-    at i (inr le) =
-        let all = bit_at_above (2 ^ 64 - 1) 64 i (omega arith) le in
-        let others = bit_at_above (bit_not w64 n) 64 i (omega arith) le in
-        omega (arith, all, others, bit_at_above n 64 i fits le)
 
 -- for `grind`: how one bit changes the count
 pub ruleset mask_ones = (ones-zero, ones-pow, ones-set, ones-clear, ones-or_apart)

@@ -1,4 +1,4 @@
--- The list of a mask's set bits: its length, its first, and the lists of two masks that part it.
+-- The list of a mask's set bits: its length, its first, and the lists of two masks that split it.
 use Rattle.std.proofs.Common.{◌≡◌, ◌≢◌, ◌⊎◌, ℕ, zero, suc, ◌+◌, ◌/◌, ◌^◌, ◌<◌, ◌≤◌, min, cond, ◌==◌, List, [], ◌∷◌, ◌++◌, length, slice_get, take, drop, filter, Some, inl, inr, refl, sym, ap, ◌∙◌, subst, arith}
 use Rattle.std.specs.Int.RustNames.{count_ones}
 use Rattle.std.specs.Int.{bit_at}
@@ -11,11 +11,11 @@ use Rattle.std.proofs.lemmas.Nat.Bits.{bit_at-lt, bit_at-zero, bit_at-pow_same, 
 use Rattle.hd_mask.specs.Mask.{set_bits}
 use Rattle.hd_mask.proofs.Ones.{ones-pow}
 
--- the set bits among k places from x on
+-- the set bits among k bit indices from x on
 abbrev set_from : ℕ → ℕ → ℕ → List ℕ
 set_from n k x = filter (λ i. bit_at n i == 1) (range_with_len x k)
 
--- ---- how many they are
+-- ---- their number
 
 one_more : (b : ℕ) → b < 2 → (x : ℕ) (rest : List ℕ)
     → length (cond (b == 1) (x ∷ rest) rest) ≡ b + length rest
@@ -82,9 +82,9 @@ set_bits-pow t lt =
     clear : (i : ℕ) → i ≢ t → bit_at (2 ^ t) i ≡ 0
     clear = bit_at-pow_other t
 
--- ---- two masks that part a third, all rows of the one below those of the other
+-- ---- two masks that split a third, all rows of the one below those of the other
 
--- one place more, at which at most one of the two has its bit set
+-- one bit index more, at which at most one of the two has its bit set
 joined : (p q r x : ℕ) (whole front back : List ℕ) → r ≡ p + q → r < 2 → (q ≡ 1 → front ≡ [])
     → whole ≡ front ++ back
     → cond (r == 1) (x ∷ whole) whole

@@ -1,1 +1,2 @@
 pub mod Mask
+pub mod Limits

@@ -1,7 +1,7 @@
-//! The bits of one word: a mask says of each of the 64 rows of a block whether the row is in it.
+//! The bits of one word: a mask is a set of the 64 rows of a block.
 //!
-//! Row `i` of the block is bit `i` of the word. What it means that a row's bit is set, that the row
-//! is free or that it is live, is for the caller to say. No call takes memory or refuses anything.
+//! Row `i` of the block is bit `i` of the word. Whether a set bit means that the row is free or
+//! that it is live is for the caller to say. No call takes memory or refuses anything.
 #![tactic(auto)]
 
 ghost use Rattle.std.specs.Prelude.{◌≡◌, ◌≢◌, ◌↔◌, ◌<◌, ◌≤◌, ◌-◌, ◌+◌, ◌^◌, ℕ, min, IsNone, IfSome};
@@ -10,13 +10,16 @@ ghost use Rattle.std.specs.Prelude.{bit_and, bit_or, count_ones};
 ghost use Rattle.std.specs.Int.{bit_at};
 ghost use Rattle.hd_mask.specs.Mask.{set_bits};
 
+mod laws;
 #[cfg(test)]
 mod tests;
 
-/// The bits of a mask.
+pub use laws::limits_are_these;
+
+/// The number of bits of a mask.
 pub const BITS: u32 = 64;
 
-/// The least set bit of `mask`, from 0 to 63.
+/// The lowest set bit of `mask`, from 0 to 63.
 pub fn lowest(mask: u64) -> Option<u32>
     ensures first { result ≡ slice_get (set_bits mask) 0 }
     ensures none { IsNone result ↔ (mask ≡ 0) }
@@ -51,7 +54,7 @@ pub fn bit(i: u32) -> u64
     1 << i
 }
 
-/// Parts `mask` in two. The first answer has its `n` lowest set bits, or all of them where there
+/// Splits `mask` in two. The first result has its `n` lowest set bits, or all of them where there
 /// are fewer, and the second has the rest.
 pub fn take_lowest(mask: u64, n: u32) -> (u64, u64)
     ensures lowest { set_bits result.0 ≡ take n (set_bits mask) }
@@ -68,7 +71,7 @@ pub fn take_lowest(mask: u64, n: u32) -> (u64, u64)
 {
     let mut left = mask;
     for _taken in 0..n.min(count(mask)) {
-        // Clears the lowest set bit: `left - 1` has that bit clear and differs only there and below.
+        // Clears the lowest set bit: `left - 1` has it clear and differs only there and below.
         left &= left - 1;
     }
     (mask ^ left, left)

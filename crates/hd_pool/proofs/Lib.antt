@@ -1,4 +1,4 @@
-pub mod Places
-pub mod Sets
-pub mod Marks
-pub mod Pools
+pub mod IndexedItems
+pub mod SetMembers
+pub mod MaskMembers
+pub mod PoolCalls

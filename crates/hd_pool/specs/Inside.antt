@@ -10,13 +10,13 @@ use Rattle.hd_model.specs.Kinds.{kind_number}
 use Rattle.hd_pool.specs.declared.pool.TheConstants.{MASKS}
 use Rattle.hd_pool.specs.Masks.{Held}
 
--- the items that are there, each with its place, counted from a number on
+-- the items that are present, each with its index, counted from a number on
 abbrev pub numbered : {A : Type 0} → ℕ → List (Option A) → List (ℕ × A)
 numbered i [] = []
 numbered i (None ∷ xs) = numbered (i + 1) xs
 numbered i (Some x ∷ xs) = (i, x) ∷ numbered (i + 1) xs
 
--- the map from places to the items that are there
+-- the map from indices to the items that are present
 abbrev pub by_place : {A : Type 0} → List (Option A) → FinMap nat_cmp A
 by_place xs = from_entries (numbered 0 xs)
 
@@ -24,7 +24,7 @@ by_place xs = from_entries (numbered 0 xs)
 abbrev pub kind_at : List (Option Kind) → ℕ → Option Kind
 kind_at kinds block = slice_index_or kinds block None
 
--- where a block of a kind stands among the blocks with a free slot: each kind has the numbers of MASKS masks
+-- the number of a block of a kind among the blocks with a free slot: each kind has the numbers of MASKS masks
 abbrev pub place_of : Kind → ℕ → ℕ
 place_of kind block = kind_number kind * (MASKS * BITS) + block
 
@@ -34,7 +34,7 @@ pub record HasFree (s : Held) (block : ℕ) : Type 0 where
   pub of_block : slot / ROWS ≡ block
   pub free : contains s.members slot ≡ true
 
--- only slots of added blocks are free, and the blocks with a free slot stand under their kinds
+-- only slots of added blocks are free, and the blocks with a free slot are listed under their kinds
 pub record IsPool (kinds : List (Option Kind)) (free ready : Held) : Type 0 where
   pub some : 1 ≤ length kinds
   pub limit : length kinds ≤ BLOCKS + 1

@@ -7,7 +7,7 @@ use Rattle.std.specs.List.{range_with_len}
 use Rattle.std.specs.Ordering.{nat_cmp}
 use Rattle.hd_mask.specs.declared.TheConstants.{BITS}
 
--- a set of numbers below a number, its room
+-- a set of numbers below a limit, its room
 pub record Held : Type 0 where
   pub room : ℕ
   pub members : FinSet nat_cmp
@@ -17,11 +17,11 @@ held_code =
     code_by (ℕ × FinSet nat_cmp) (coded× coded_ℕ (code coded_ℕ)) (λ s. (s.room, s.members))
     (λ p. record { room = p.0; members = p.1 }) (λ _. refl)
 
--- whether masks say that a number is in their set
+-- whether a number is in the set of some masks
 abbrev pub is_marked : List ℕ → ℕ → Bool
 is_marked masks i = bit_at (slice_index masks (i / BITS)) (i % BITS) == 1
 
--- the set of numbers that masks say
+-- the set of numbers whose bits are set in the masks
 unfoldable pub set_of : List ℕ → FinSet nat_cmp
 set_of masks = from_list (filter (is_marked masks) (range_with_len 0 (BITS * length masks)))
 
@@ -29,7 +29,7 @@ set_of masks = from_list (filter (is_marked masks) (range_with_len 0 (BITS * len
 unfoldable pub numbers_of : ℕ → FinSet nat_cmp
 numbers_of mask = from_list (range_with_len (BITS * mask) BITS)
 
--- the least member from a number on and below another
+-- the lowest member from a number on and below another
 pub record IsLeastBetween (s : FinSet nat_cmp) (from to i : ℕ) : Type 0 where
   pub low : from ≤ i
   pub high : i < to

@@ -1,5 +1,5 @@
--- What contracts see of a pool: the slots that are free, by the kind of their block. Blocks of 64 slots are
--- this project's own, after CoreCLR's handle segments and their free masks in outline.
+-- What contracts see of a pool: the free slots, by the kind of their block. Blocks of 64 slots are this
+-- project's own, after CoreCLR's handle segments and their free masks in outline.
 use Rattle.std.specs.Prelude.{◌≡◌, ℕ, ◌≤◌, true, Some, refl}
 use Rattle.std.specs.Coded.{Coded, code_by, coded×, coded_ℕ}
 use Rattle.std.specs.FinMap as map
@@ -35,7 +35,7 @@ slots_of block = numbers_of block
 abbrev pub IsFreeFor : FreeSlots → Kind → Slot → Type 0
 IsFreeFor p kind slot = (contains p.free slot.0 ≡ true) × (get p.kinds (block_of slot) ≡ Some kind)
 
--- the least free slot of a kind
+-- the lowest free slot of a kind
 pub record IsLeastFreeFor (p : FreeSlots) (kind : Kind) (slot : Slot) : Type 0 where
   pub free : IsFreeFor p kind slot
   pub least : (other : Slot) → IsFreeFor p kind other → slot.0 ≤ other.0
@@ -53,7 +53,7 @@ pub record IsWholeOf (p : FreeSlots) (kind : Kind) (block : ℕ) : Type 0 where
   pub added : get p.kinds block ≡ Some kind
   pub whole : IsWhole p block
 
--- the least block of a kind, all of whose slots are free
+-- the lowest block of a kind, all of whose slots are free
 pub record IsLeastWholeOf (p : FreeSlots) (kind : Kind) (block : ℕ) : Type 0 where
   pub whole : IsWholeOf p kind block
   pub least : (other : ℕ) → IsWholeOf p kind other → block ≤ other

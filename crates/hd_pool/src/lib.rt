@@ -1,4 +1,4 @@
-//! The free slots of a table of handles, for one thread: the least free slot of a kind, and the
+//! The free slots of a table of handles, for one thread: the lowest free slot of a kind, and the
 //! blocks whose slots are all free.
 #![tactic(auto)]
 

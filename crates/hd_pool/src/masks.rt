@@ -8,10 +8,10 @@ use hd_model::Memory;
 use std::alloc::Global;
 use std::marker::Model;
 
-// The mask of all its numbers.
+// The mask with all bits set.
 const FULL: u64 = u64::MAX;
 
-/// A set of numbers, each below a room that is given at the opening. All memory is taken there.
+/// A set of numbers below a limit. All memory is taken by `open`.
 #[derive(Drop)]
 pub(crate) struct MaskSet {
     masks: Vec<u64>,
@@ -46,7 +46,7 @@ impl MaskSet {
         }
     }
 
-    /// A number joins.
+    /// Adds a number.
     pub(crate) fn insert(&mut self, i: u32)
         requires { i < self.old.room }
         ensures { self.new ≡ record self.old { members = insert self.old.members i } }
@@ -56,7 +56,7 @@ impl MaskSet {
         self.masks[at] = mask | bit(i % BITS);
     }
 
-    /// A number leaves.
+    /// Removes a number.
     pub(crate) fn remove(&mut self, i: u32)
         requires { i < self.old.room }
         ensures { self.new ≡ record self.old { members = remove self.old.members i } }
@@ -66,7 +66,7 @@ impl MaskSet {
         self.masks[at] = mask & !bit(i % BITS);
     }
 
-    /// The numbers of a mask join.
+    /// Adds the numbers of a mask.
     pub(crate) fn fill(&mut self, mask: u32)
         requires { BITS * mask < self.old.room }
         ensures { self.new ≡
@@ -75,7 +75,7 @@ impl MaskSet {
         self.masks[mask as usize] = FULL;
     }
 
-    /// The numbers of a mask leave.
+    /// Removes the numbers of a mask.
     pub(crate) fn clear(&mut self, mask: u32)
         requires { BITS * mask < self.old.room }
         ensures { self.new ≡
@@ -92,7 +92,7 @@ impl MaskSet {
         self.masks[mask as usize] == FULL
     }
 
-    /// The least member in the masks from `from` on and below `to`.
+    /// The lowest member in the masks from `from` on and below `to`.
     pub(crate) fn least_between(&self, from: u32, to: u32) -> Option<u32>
         requires { BITS * to ≤ self.now.room }
         ensures found { IfSome result (IsLeastBetween self.now.members (BITS * from) (BITS * to)) }

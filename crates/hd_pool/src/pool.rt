@@ -14,16 +14,16 @@ use hd_model::{Kind, Memory, Slot};
 use std::alloc::Global;
 use std::marker::Model;
 
-// The masks that have a bit for each number of a block, 0 to 256.
+// The number of masks that have a bit for each block, 0 to 256.
 const MASKS: u32 = 5;
 
-/// The free slots of a table, seen as the kind of each block that was added and the set of the free
-/// slots. A block has 64 slots. All memory is taken at the opening.
+/// The free slots of a table, seen as the kind of each added block and the set of free slots. A
+/// block has 64 slots. All memory is taken by `open`.
 ///
-/// `take` and `put` look at a few masks, whatever the number of blocks; `whole` walks the blocks.
+/// `take` and `put` read a few masks, whatever the number of blocks; `whole` walks the blocks.
 #[derive(Drop)]
 pub struct Pool {
-    // The kind of each block that was added, by its number.
+    // The kind of each added block, by its number.
     kinds: Vec<Option<Kind>>,
     free: MaskSet,
     // For each kind, the blocks that have a free slot.
@@ -63,7 +63,7 @@ impl Pool {
         }
     }
 
-    /// A block of a kind is added. Its slots are free.
+    /// Adds a block of a kind. Its slots are free.
     pub fn add_block(&mut self, block: u32, kind: Kind)
         requires within { (1 ≤ block) × (block ≤ self.old.blocks) }
         requires new { get self.old.kinds block ≡ None }
@@ -77,7 +77,7 @@ impl Pool {
         self.ready.insert(place(kind, block));
     }
 
-    /// The least free slot of a kind, which is free no more.
+    /// Takes the lowest free slot of a kind.
     pub fn take(&mut self, kind: Kind) -> Option<Slot>
         ensures least { IfSome result (IsLeastFreeFor self.old kind) }
         ensures taken { IfSome result (λ slot.
@@ -96,7 +96,7 @@ impl Pool {
         Some(Slot(slot))
     }
 
-    /// A slot of a block that was added is free again.
+    /// Makes a slot of an added block free again.
     pub fn put(&mut self, slot: Slot)
         requires added { IsSome (get self.old.kinds (block_of slot)) }
         requires taken { contains self.old.free slot.0 ≡ false }
@@ -108,7 +108,7 @@ impl Pool {
         self.ready.insert(place(kind, block));
     }
 
-    /// The least block of a kind whose slots are all free.
+    /// The lowest block of a kind whose slots are all free.
     pub fn whole(&self, kind: Kind) -> Option<u32>
         ensures least { IfSome result (IsLeastWholeOf self.now kind) }
         ensures small { IfSome result (λ block. block ≤ BLOCKS) }
@@ -122,7 +122,7 @@ impl Pool {
         None
     }
 
-    /// A block whose slots are all free is as if it were never added.
+    /// Removes a block whose slots are all free: it is as if it were never added.
     pub fn drop_block(&mut self, block: u32)
         requires added { IsSome (get self.old.kinds block) }
         requires whole { IsWhole self.old block }
@@ -138,7 +138,7 @@ impl Pool {
     }
 }
 
-// The number of a block of a kind among those that have a free slot.
+// The number in `ready` of a block of a kind.
 fn place(kind: Kind, block: u32) -> u32
     requires { block ≤ BLOCKS }
     ensures { result ≡ place_of kind block }

@@ -14,7 +14,7 @@ fn take_all(rt: &impl Abort, pool: &mut Pool, kind: Kind, runs: &[(u32, u32)]) {
 }
 
 #[test]
-#[tactic(auto, using(crate::proofs::Sets::pooled))]
+#[tactic(auto, using(crate::proofs::SetMembers::pooled))]
 fn slots_come_in_rising_order_of_their_kind(rt: HostRuntime) -> Result<(), Fail> {
     let mut pool = Pool::open(rt.alloc(), 256)?;
     pool.add_block(256, Kind::Short);
@@ -27,7 +27,7 @@ fn slots_come_in_rising_order_of_their_kind(rt: HostRuntime) -> Result<(), Fail>
 }
 
 #[test]
-#[tactic(auto, using(crate::proofs::Sets::pooled))]
+#[tactic(auto, using(crate::proofs::SetMembers::pooled))]
 fn a_slot_that_is_put_back_comes_again(rt: HostRuntime) -> Result<(), Fail> {
     let mut pool = Pool::open(rt.alloc(), 2)?;
     pool.add_block(2, Kind::Pinned);
@@ -38,7 +38,7 @@ fn a_slot_that_is_put_back_comes_again(rt: HostRuntime) -> Result<(), Fail> {
 }
 
 #[test]
-#[tactic(auto, using(crate::proofs::Sets::pooled))]
+#[tactic(auto, using(crate::proofs::SetMembers::pooled))]
 fn the_least_whole_block_goes_and_may_come_again(rt: HostRuntime) -> Result<(), Fail> {
     let mut pool = Pool::open(rt.alloc(), 3)?;
     assert_eq!(rt; pool.whole(Kind::Long), None);

@@ -1,6 +1,5 @@
--- The blocks of a table as the program keeps them. Each block knows its place in the chain of its kind, so
--- that the block after it is found
--- without a search.
+-- The blocks of a table as the program keeps them. Each block has its index in the chain of its kind, so that
+-- the block after it is found without a search.
 use Rattle.std.specs.Prelude.{◌≡◌, ℕ, ◌+◌, ◌<◌, ◌≤◌, List, [], ◌∷◌, length, sum_by, slice_index, slice_index_or, slice_set, Option, Some, None, refl}
 use Rattle.std.specs.Coded.{Coded, code_by, coded×, coded_ℕ}
 use Rattle.std.specs.FinMap as map
@@ -17,7 +16,7 @@ use Rattle.hd_seg.specs.declared.row.BlockKind.TheVariants as block
 use Rattle.hd_seg.specs.declared.block.Block.{Block}
 use Rattle.hd_seg.specs.Mapped.{mapped}
 
--- the table without its rows; and for each block whose rows have extras the data block with these
+-- the table without its rows; and for each block whose rows have extras, the data block with these
 pub record Uses : Type 0 where
   pub table : Table
   pub extras : FinMap nat_cmp ℕ
@@ -44,28 +43,28 @@ use_at table b = use_of (block_at table b).kind
 abbrev pub extras_at : List Block → ℕ → Option ℕ
 extras_at table b = (block_at table b).extras
 
--- the blocks as their users see them: numbers from 1
+-- the blocks as their users see them, numbered from 1
 abbrev pub uses_in : ℕ → List Block → List (List ℕ) → Uses
 uses_in number table chains = record {
   table = record { rows = empty; chains = chains; uses = mapped 1 number (use_at table); blocks = number };
   extras = mapped 1 number (extras_at table);
 }
 
--- some block from a number on has no use
+-- some block from a number on is unused
 pub record HasUnused (table : List Block) (from : ℕ) : Type 0 where
   pub number : ℕ
   pub low : from ≤ number
   pub high : number < length table
   pub unused : use_at table number ≡ None
 
--- block b has handles of a kind, and is at a place of its chain
+-- block b has handles of a kind, and a chain index
 pub record IsListed (number : ℕ) (table : List Block) (k : Kind) (b at : ℕ) : Type 0 where
   pub low : 1 ≤ b
   pub high : b ≤ number
   pub use_is : use_at table b ≡ Some (handles_of k)
   pub place_is : (block_at table b).place ≡ at
 
--- the chains have exactly the blocks of handles, each at its place
+-- the chains have exactly the blocks of handles, each at its chain index
 pub record IsLinked (number : ℕ) (table : List Block) (chains : List (List ℕ)) : Type 0 where
   pub kinds : length chains ≡ KINDS
   pub within : (k : Kind) (b : ℕ) → 1 ≤ b → b ≤ number → use_at table b ≡ Some (handles_of k)
@@ -75,7 +74,7 @@ pub record IsLinked (number : ℕ) (table : List Block) (chains : List (List ℕ
   pub listed : (k : Kind) (i : ℕ) → i < length (slice_index_or chains (kind_number k) [])
       → IsListed number table k (slice_index (slice_index_or chains (kind_number k) []) i) i
 
--- what all blocks keep; what has no use has no data block
+-- what is always true of the blocks; an unused block has no data block
 pub record IsBlocks (number given : ℕ) (table : List Block) (chains : List (List ℕ)) : Type 0 where
   pub limit : number ≤ BLOCKS
   pub size : length table ≡ number + 1
@@ -84,7 +83,7 @@ pub record IsBlocks (number given : ℕ) (table : List Block) (chains : List (Li
   pub linked : IsLinked number table chains
   pub plain : (b : ℕ) → use_at table b ≡ None → extras_at table b ≡ None
 
--- the blocks after those of a list have got places, the first of them the place i
+-- the blocks after those of a list got chain indices, the first of them index i
 abbrev pub numbered : ℕ → List ℕ → List Block → List Block
 numbered i [] table = table
 numbered i (b ∷ bs) table = numbered (i + 1) bs (slice_set table b (record (block_at table b) { place = i }))

@@ -1,6 +1,5 @@
--- Where the rows of a table stand: a block has 64 cells. The cell of a slot has its target, and the cell in
--- the same place of the data block
--- has its extra.
+-- Where the rows of a table are stored: a block has 64 cells. The cell of a slot has its target, and the cell
+-- at the same row index of the data block has its extra.
 use Rattle.std.specs.Prelude.{◌≡◌, ℕ, ◌+◌, ◌*◌, ◌/◌, ◌%◌, ◌<◌, ◌≤◌, true, cond, List, length, slice_index, slice_index_or, slice_set, Option, Some, None, is_some}
 use Rattle.std.specs.FinMap.{get, len}
 use Rattle.std.specs.Int.{bit_at}
@@ -37,12 +36,12 @@ extra_held cell.Empty = Nothing
 extra_held (cell.Target _) = Nothing
 extra_held (cell.Extra e) = e
 
--- where the extra of row i stands, by the data block
+-- the cell index of the extra of row i, by the data block
 abbrev pub place_in : Option ℕ → ℕ → Option ℕ
 place_in None i = None
 place_in (Some d) i = Some (d * ROWS + i)
 
--- where the extra of a slot's row stands
+-- the cell index of the extra of a slot's row
 abbrev pub extra_place : Uses → ℕ → Option ℕ
 extra_place u slot = place_in (get u.extras (slot / ROWS)) (slot % ROWS)
 
@@ -71,9 +70,8 @@ pub record IsPaired (u : Uses) : Type 0 where
   pub within : (b d : ℕ) → get u.extras b ≡ Some d → d ≤ u.table.blocks
   pub apart : (a b d : ℕ) → get u.extras a ≡ Some d → get u.extras b ≡ Some d → a ≡ b
 
--- what a table keeps: a bit of its block's mask for each live row, a fitting extra, and nothing in a cell
--- without a live row; targets stand
--- in blocks of handles alone
+-- what is always true of a table: a live row has a bit of its block's mask and a fitting extra, cells without
+-- a live row are empty, and only blocks of handles store targets
 pub record IsSeg (u : Uses) (cells : List Cell) (masks : List ℕ) (live : ℕ) : Type 0 where
   pub table : IsTable u.table
   pub room : length cells ≡ ROWS * (u.table.blocks + 1)

@@ -1,4 +1,4 @@
--- A finite map as what a function answers at some numbers.
+-- The finite map of a function's values at some numbers.
 use Rattle.std.specs.Prelude.{ℕ, zero, suc, ◌+◌, List, [], ◌∷◌, Option, Some, None}
 use Rattle.std.specs.FinMap.{FinMap, from_entries}
 use Rattle.std.specs.Ordering.{nat_cmp}
@@ -13,6 +13,6 @@ unfoldable pub entries_of : {X : Type 0} → ℕ → ℕ → (ℕ → Option X) 
 entries_of first zero f = []
 entries_of first (suc n) f = with_entry first (f first) (entries_of (first + 1) n f)
 
--- the map of what f answers at n numbers from `first` on
+-- the map of f's values at n numbers from `first` on
 unfoldable pub mapped : {X : Type 0} → ℕ → ℕ → (ℕ → Option X) → FinMap nat_cmp X
 mapped first n f = from_entries (entries_of first n f)

@@ -1,4 +1,4 @@
--- A table of which one row is another.
+-- A table in which one row is replaced.
 use Rattle.std.specs.Prelude.{◌≡◌, ◌≢◌, ℕ, Some}
 use Rattle.hd_model.specs.declared.data.Addr.{Addr}
 use Rattle.hd_model.specs.State.{Handle}

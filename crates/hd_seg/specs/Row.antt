@@ -1,4 +1,4 @@
--- Rows and uses of blocks as the program has them, in the words of the table's value.
+-- Rows and uses of blocks as the program has them, and as the table's value has them.
 use Rattle.std.specs.Prelude.{Option, Some, None}
 use Rattle.hd_model.specs.declared.data.Addr.{Addr}
 use Rattle.hd_model.specs.declared.data.Kind.{Kind}

@@ -1,7 +1,7 @@
 use crate::row::BlockKind;
 
-/// One block: what it is used for, its place in the chain of its kind, from 0, where it has
-/// handles, and the block with their extras where they have any.
+/// One block: what it is used for; if it has handles, its index in the chain of its kind, from 0;
+/// and the data block with their extras, if they have any.
 #[derive(Clone, Copy)]
 pub(crate) struct Block {
     pub(crate) kind: BlockKind,
@@ -9,7 +9,7 @@ pub(crate) struct Block {
     pub(crate) extras: Option<u32>,
 }
 
-/// A block without a use.
+/// An unused block.
 pub(crate) const UNUSED: Block = Block {
     kind: BlockKind::Unused,
     place: 0,

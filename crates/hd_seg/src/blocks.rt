@@ -1,4 +1,4 @@
-// Which blocks have a use, and in which order those of a kind follow one another.
+// Which blocks are in use, and in which order those of a kind follow one another.
 
 ghost use Rattle.std.specs.Prelude.{◌≡◌, ℕ, ◌+◌, ◌<◌, ◌≤◌, ◌++◌, ◌∷◌, List, [], Some, None, All, true, IsSome};
 ghost use Rattle.std.specs.Prelude.{drop, length, map, replicate, slice_get, slice_index, slice_index_or, vec_capacity};
@@ -53,7 +53,7 @@ impl Block {
     }
 }
 
-// The least block from `from` on that has no use.
+// The lowest unused block from `from` on.
 fn least_unused(table: &[Block], from: usize) -> usize
     requires { HasUnused table.now from }
     ensures low { from ≤ result }
@@ -80,7 +80,7 @@ fn empty_chains(alloc: Global, room: usize) -> Result<Vec<Vec<u32>>, AllocError>
     Ok(chains)
 }
 
-// Writes the place of each block of a chain from a place on.
+// Writes the chain index of each block of a chain, from index `from` on.
 fn renumber(table: &mut [Block], chain: &[u32], from: usize)
     requires blocks { (i : ℕ) → i < length chain.now → slice_index chain.now i < length table.old }
     requires few { length chain.now ≤ BLOCKS }
@@ -93,7 +93,7 @@ fn renumber(table: &mut [Block], chain: &[u32], from: usize)
 }
 
 impl Blocks {
-    /// So many blocks, none of which has a use.
+    /// `number` unused blocks.
     pub(crate) fn open(alloc: Global, number: u32) -> Result<Blocks, Memory>
         requires { number ≤ BLOCKS }
         ensures none { IfOk result (λ uses.
@@ -112,14 +112,14 @@ impl Blocks {
         })
     }
 
-    /// The number of blocks without a use.
+    /// The number of unused blocks.
     pub(crate) fn unused(&self) -> u32
         ensures value { result + len self.now.table.uses ≡ self.now.table.blocks }
     {
         self.number - self.given
     }
 
-    /// The number of blocks with a use.
+    /// The number of blocks in use.
     pub(crate) fn given(&self) -> u32
         ensures value { result ≡ len self.now.table.uses }
         ensures table { IsTable self.now.table }
@@ -146,7 +146,7 @@ impl Blocks {
         self.table[block as usize].extras
     }
 
-    /// Gives the least block without a use to a kind, at the end of its chain.
+    /// Gives the lowest unused block to a kind, at the end of its chain.
     pub(crate) fn add(&mut self, kind: Kind) -> u32
         requires { len self.old.table.uses < self.old.table.blocks }
         ensures least { IsLeastWithout self.old.table 1 result }
@@ -168,7 +168,7 @@ impl Blocks {
         block as u32
     }
 
-    /// Gives the least block after `block` that has no use to the extras of its rows.
+    /// Makes the lowest unused block after `block` the data block for the extras of its rows.
     pub(crate) fn add_data(&mut self, block: u32) -> u32
         requires room { len self.old.table.uses < self.old.table.blocks }
         requires used { (b : ℕ) → 1 ≤ b → b ≤ block → IsSome (get self.old.table.uses b) }

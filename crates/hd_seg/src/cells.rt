@@ -10,6 +10,6 @@ pub(crate) enum Cell {
     Empty,
     /// The target of a live row.
     Target(Option<Addr>),
-    /// The extra of the live row that stands in this place of the block beside this one.
+    /// The extra of the live row at this row index of the block that this data block belongs to.
     Extra(Extra),
 }

@@ -1,7 +1,7 @@
 //! The table of handles: blocks of 64 rows, one kind of handle to a block, and for each kind the
 //! chain of its blocks.
 //!
-//! The extra of a row, its strength, count or secondary, stands in a data block beside its block.
+//! The extra of a row (its strength, count or secondary) is stored in the block's data block.
 //! All memory is taken when a table is opened.
 #![tactic(auto)]
 

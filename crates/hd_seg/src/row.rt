@@ -9,7 +9,7 @@ pub enum Extra {
     Count(u32),
 }
 
-/// A live row: the address that its handle names, or null, and its extra.
+/// A live row: the address that its handle references, or null, and its extra.
 #[derive(Clone, Copy, Debug, PartialEq, Eq)]
 pub struct Row {
     pub target: Option<Addr>,
@@ -26,7 +26,7 @@ pub enum BlockKind {
     Extras,
 }
 
-/// Too few blocks are unused. `given` is the number of blocks that have a use.
+/// Too few blocks are unused. `given` is the number of blocks in use.
 #[derive(Clone, Copy, Debug, PartialEq, Eq)]
 pub struct Full {
     pub given: u32,

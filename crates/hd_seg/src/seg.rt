@@ -25,7 +25,7 @@ const CLUMP_MASK: u64 = 0xffff;
 
 /// The table of handles.
 ///
-/// A mask has a bit for each live row of a block. Cells and masks of block 0 are not used.
+/// A mask has a set bit for each live row of its block. Cells and mask of block 0 are not used.
 #[derive(Drop)]
 pub struct Seg {
     blocks: Blocks,
@@ -49,7 +49,7 @@ impl Model for Seg {
 }
 
 impl Seg {
-    /// A table of so many blocks, none of which has a use. All memory is taken here.
+    /// A table of `blocks` unused blocks. All memory is taken here.
     pub fn open(alloc: Global, blocks: u32) -> Result<Seg, Memory>
         requires { blocks ≤ BLOCKS }
         ensures { IfOk result (λ table. table ≡ empty_table blocks) }
@@ -65,8 +65,8 @@ impl Seg {
         })
     }
 
-    /// Gives a block to a kind, at the end of its chain, and a data block beside it where the kind
-    /// has extra data. After a refusal nothing is changed.
+    /// Gives a block to a kind, at the end of its chain, and a data block for it where the kind has
+    /// extra data. A refusal changes nothing.
     pub fn give_block(&mut self, kind: Kind) -> Result<Grown, Full>
         ensures grown { IfOk result (IsGrowth self.old kind) }
         ensures after { IfOk result (λ grown. self.new ≡ grown_by self.old kind grown) }
@@ -109,7 +109,7 @@ impl Seg {
         self.blocks.kind(block)
     }
 
-    /// The number of blocks that have a use.
+    /// The number of blocks in use.
     pub fn given(&self) -> u32
         ensures value { result ≡ len self.now.uses }
         ensures table { IsTable self.now }
@@ -154,7 +154,7 @@ impl Seg {
         self.live += 1;
     }
 
-    /// Ends a live slot. Nothing of its row stays.
+    /// Frees a live slot. Nothing of its row stays.
     pub fn take_row(&mut self, slot: Slot)
         requires { IsSome (get self.old.rows slot.0) }
         ensures { self.new ≡ without_row self.old slot.0 }
@@ -212,8 +212,7 @@ impl Seg {
         self.blocks.after(block)
     }
 
-    /// The live rows of a clump of sixteen, by bits, for a clump from 0 to 3 of a block. Bit `i` is
-    /// the clump's row `i`.
+    /// The live rows of clump 0 to 3 of a block, as a mask: bit `i` is the clump's row `i`.
     pub fn clump(&self, block: u32, clump: u32) -> u16
         requires low { 1 ≤ block }
         requires high { block ≤ self.now.blocks }

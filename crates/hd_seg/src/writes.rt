@@ -9,7 +9,7 @@ use crate::row::Extra;
 use hd_model::Slot;
 use hd_model::limits::{BLOCKS, ROWS};
 
-/// Where the extra of a slot's row stands, if its block has a data block.
+/// The cell index of the extra of a slot's row, if its block has a data block.
 pub(crate) fn extra_place(blocks: &Blocks, slot: Slot) -> Option<usize>
     requires { (b d : ℕ) → get blocks.now.extras b ≡ Some d → d ≤ BLOCKS }
     ensures { result ≡ extra_place blocks.now slot.0 }

@@ -1,4 +1,4 @@
--- The count of trailing zeros is the place of the least set bit.
+-- The count of trailing zeros is the index of the lowest set bit.
 use Rattle.std.proofs.Common.{ap, sym, ◌∙◌, slice_get, arith}
 use Rattle.std.specs.Int.{w64}
 use Rattle.std.proofs.lemmas.Nat.Bits.{bit_at-trailing_zeros}

@@ -2,7 +2,7 @@
 use Rattle.std.proofs.Common.{◌<◌, arith}
 use Rattle.std.proofs.lemmas.Nat.{ones_le_self}
 use Rattle.hd_mask.proofs.Bits.{or_from_parts, apart_from_parts}
-use Rattle.hd_mask.proofs.Taking.{one_more_taken, taken_at, taken_below, taken_number, taken_list}
+use Rattle.hd_mask.proofs.LowestBits.{one_more_taken, taken_at, taken_below, taken_number, taken_list}
 use Rattle.hd_mask.proofs.take_lowest.Goals as goal
 
 pub loop-taken-preserved : goal.loop-taken-preserved

@@ -1,5 +1,5 @@
--- The lowest bits are taken, as many as rounds were made.
-use Rattle.hd_mask.proofs.Taking.{Left}
+-- The lowest bits are taken, one in each round.
+use Rattle.hd_mask.proofs.LowestBits.{Left}
 use Rattle.hd_mask.proofs.take_lowest.Given as goal
 
 abbrev pub invariant-loop-taken : goal.invariant-loop-taken

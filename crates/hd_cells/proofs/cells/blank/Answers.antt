@@ -3,7 +3,7 @@ use Rattle.std.proofs.lemmas.Bool.{cases_lt}
 use Rattle.std.proofs.lemmas.List.{get_or-replicate, get_or_past, length-replicate}
 use Rattle.hd_cells.proofs.cells.blank.Goals as goal
 
--- a copy stands at each place, and what is read past the end is the same
+-- a copy is at each index, and what is read past the end is the same
 get_or-replicate_any : (n k z : ℕ) → get_or (replicate n z) k z ≡ z
 get_or-replicate_any n k z = elim (cases_lt k n) [
   | inl inside ↦ get_or-replicate n k z z inside

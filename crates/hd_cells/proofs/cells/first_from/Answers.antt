@@ -1,6 +1,6 @@
 use Rattle.std.proofs.Common.{◌+◌, ◌<◌, ◌≢◌, subst, sym, ℕ, arith}
 use Rattle.hd_cells.specs.Cells.{cell, IsReached}
-use Rattle.hd_cells.proofs.Walks.{IsPassed, passed, none_reached, object_reached}
+use Rattle.hd_cells.proofs.CellWalk.{IsPassed, passed, none_reached, object_reached}
 use Rattle.hd_cells.proofs.cells.first_from.Goals as goal
 use Rattle.hd_cells.proofs.cells.first_from.Goals.{else-at-from-via-then-at-from+else-cells-at-ne0, else-at-from-via-else-at-from}
 

@@ -1,4 +1,4 @@
-use Rattle.hd_cells.proofs.Laws.{IsObject-with_object, IsObject-with_object_kept, IsObject-with_put, IsObject-with_put_kept}
+use Rattle.hd_cells.proofs.ObjectPresence.{IsObject-with_object, IsObject-with_object_kept, IsObject-with_put, IsObject-with_put_kept}
 use Rattle.hd_cells.proofs.tests.an_object_keeps_what_is_written.Goals as goal
 
 pub id-requires : goal.id-requires

@@ -1,7 +1,7 @@
 use Rattle.std.proofs.Common.{◌≡◌, ◌≤◌, [], map, replicate, vec_capacity, vec_len, All}
 use Rattle.hd_seg.proofs.blocks.empty_chains.Given as goal
 
--- so many empty chains with room
+-- as many empty chains with room as there were rounds
 abbrev pub invariant-loop-kind : goal.invariant-loop-kind
 invariant-loop-kind l = record {
   number : vec_len l.chains ≡ l._kind;

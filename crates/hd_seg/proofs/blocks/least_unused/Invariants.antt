@@ -2,7 +2,7 @@ use Rattle.std.proofs.Common.{ℕ, ◌-◌, ◌<◌, ◌≤◌, length, IsSome}
 use Rattle.hd_seg.specs.Blocks.{HasUnused, use_at}
 use Rattle.hd_seg.proofs.blocks.least_unused.Given as goal
 
--- all blocks so far have a use, and one that follows has none
+-- all blocks so far are in use, and one that follows is not
 abbrev pub invariant-loop-at : goal.invariant-loop-at
 invariant-loop-at l = record {
   low : l.from ≤ l.at;

@@ -3,7 +3,7 @@ use Rattle.hd_model.specs.declared.data.Addr.{Addr}
 use Rattle.hd_model.specs.State.{Handle}
 use Rattle.hd_model.specs.Table.{Table, fits}
 use Rattle.hd_seg.specs.Row.{extra_of}
-use Rattle.hd_seg.proofs.Rewriting.{put_row, again, live_after}
+use Rattle.hd_seg.proofs.RowRewrite.{put_row, again, live_after}
 use Rattle.hd_seg.proofs.change.rewrite_row.Goals as goal
 
 pub set_extra-requires-clause-live : goal.set_extra-requires-clause-live

@@ -6,7 +6,7 @@ use Rattle.hd_model.specs.declared.data.Addr.{Addr}
 use Rattle.hd_model.specs.declared.data.Kind.TheVariants.{Dependent}
 use Rattle.hd_model.specs.State.{Extra, secondary, handles_of, extra_data}
 use Rattle.hd_model.specs.Table.{Table, IsGrowth, grown_by, fits_in}
-use Rattle.hd_seg.proofs.Maps.{get-insert_same, get-insert_other}
+use Rattle.hd_seg.proofs.FunctionMaps.{get-insert_same, get-insert_other}
 use Rattle.hd_seg.proofs.tests.an_extra_stands_in_the_data_block.Goals as goal
 
 pub put_row-requires-clause-vacant : goal.put_row-requires-clause-vacant

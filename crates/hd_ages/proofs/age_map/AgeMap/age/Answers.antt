@@ -2,7 +2,7 @@ use Rattle.std.proofs.Common.{◌-◌, ◌<◌, length, get_or, sym, ap, ◌∙�
 use Rattle.std.proofs.lemmas.List.{get_or_read}
 use Rattle.hd_ages.specs.Word.{age_in, ages_of}
 use Rattle.hd_ages.specs.Clumps.{clump_at}
-use Rattle.hd_ages.proofs.Blocks.{length-ages_of, get_or-ages_of, clump_place}
+use Rattle.hd_ages.proofs.BlockAges.{length-ages_of, get_or-ages_of, clump_place}
 use Rattle.hd_ages.proofs.age_map.AgeMap.age.Goals as goal
 
 pub index-requires : goal.index-requires

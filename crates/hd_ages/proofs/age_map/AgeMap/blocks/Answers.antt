@@ -1,5 +1,5 @@
 use Rattle.std.proofs.Common.{◌≤◌, length, All, ap, subst, arith}
-use Rattle.hd_ages.proofs.Blocks.{length-ages_of, ages_small}
+use Rattle.hd_ages.proofs.BlockAges.{length-ages_of, ages_small}
 use Rattle.hd_ages.proofs.age_map.AgeMap.blocks.Goals as goal
 
 pub returns-clause-value : goal.returns-clause-value

@@ -3,7 +3,7 @@ use Rattle.std.proofs.lemmas.List.{get_or_read}
 use Rattle.hd_model.specs.Ages.{grown}
 use Rattle.hd_ages.specs.Word.{IsWord, ages_in, ages_of}
 use Rattle.hd_ages.specs.Clumps.{grown_at}
-use Rattle.hd_ages.proofs.Blocks.{length-ages_of, ages_of-grown}
+use Rattle.hd_ages.proofs.BlockAges.{length-ages_of, ages_of-grown}
 use Rattle.hd_ages.proofs.age_map.AgeMap.grow.Goals as goal
 
 pub index-requires : goal.index-requires

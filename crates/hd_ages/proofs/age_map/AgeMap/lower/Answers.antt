@@ -2,7 +2,7 @@ use Rattle.std.proofs.Common.{◌≡◌, ℕ, ◌+◌, ◌-◌, ◌*◌, ◌<◌
 use Rattle.std.proofs.lemmas.List.{get_or_read}
 use Rattle.hd_model.specs.Ages.{lowered}
 use Rattle.hd_ages.specs.Word.{IsWord, age_in, ages_in, ages_of}
-use Rattle.hd_ages.proofs.Blocks.{length-ages_of, get_or-ages_of, ages_of-set, slot_clump}
+use Rattle.hd_ages.proofs.BlockAges.{length-ages_of, get_or-ages_of, ages_of-set, slot_clump}
 use Rattle.hd_ages.proofs.age_map.AgeMap.lower.Goals as goal
 
 pub index-requires : goal.index-requires

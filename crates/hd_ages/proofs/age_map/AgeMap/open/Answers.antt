@@ -1,7 +1,7 @@
 use Rattle.std.proofs.Common.{◌≡◌, replicate, refl, ap, ◌∙◌, arith}
 use Rattle.std.proofs.lemmas.Grind.{common_steps}
 use Rattle.hd_ages.specs.Word.{ages_of}
-use Rattle.hd_ages.proofs.Blocks.{ages_of-replicate}
+use Rattle.hd_ages.proofs.BlockAges.{ages_of-replicate}
 use Rattle.hd_ages.proofs.age_map.AgeMap.open.Goals as goal
 
 pub returns-in-Ok : goal.returns-in-Ok

@@ -3,8 +3,8 @@ use Rattle.std.proofs.lemmas.Bool.{cases_lt}
 use Rattle.std.specs.Prelude.{MatchOption}
 use Rattle.hd_mask.specs.Mask.{set_bits}
 use Rattle.hd_ages.specs.Walk.{IsOver, Advances}
-use Rattle.hd_ages.proofs.Standing.{over, new_clump, new_block}
-use Rattle.hd_ages.proofs.Masks.{first_and_rest, none_first}
+use Rattle.hd_ages.proofs.WalkSteps.{over, new_clump, new_block}
+use Rattle.hd_ages.proofs.ClumpBits.{first_and_rest, none_first}
 use Rattle.hd_ages.proofs.due_rows.DueRows.advance.Goals as goal
 
 pub returns-in_err-block-clause-goes : goal.returns-in_err-block-clause-goes

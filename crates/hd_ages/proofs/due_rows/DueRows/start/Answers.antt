@@ -3,7 +3,7 @@ use Rattle.hd_model.specs.Ages.{due_clumps}
 use Rattle.hd_model.specs.Table.{chain_of}
 use Rattle.hd_ages.specs.declared.due_rows.DueRows.{DueRows}
 use Rattle.hd_ages.specs.Walk.{clumps_by, due_in, due_slots}
-use Rattle.hd_ages.proofs.Standing.{clumps_at_start, slots_at_start}
+use Rattle.hd_ages.proofs.WalkSteps.{clumps_at_start, slots_at_start}
 use Rattle.hd_ages.proofs.due_rows.DueRows.start.Goals as goal
 
 pub returns-clause-slots : goal.returns-clause-slots

@@ -1,7 +1,7 @@
 use Rattle.std.proofs.Common.{◌+◌, ℕ, sym, subst, arith}
 use Rattle.hd_cells.specs.Cells.{IsReached}
 use Rattle.hd_cells.proofs.Contents.{held, laid_out}
-use Rattle.hd_cells.proofs.Walks.{object_passed, reached_within, first_seen}
+use Rattle.hd_cells.proofs.CellWalk.{object_passed, reached_within, first_seen}
 use Rattle.hd_cells.proofs.region.Region.after.Goals as goal
 
 pub extent-requires : goal.extent-requires

@@ -1,6 +1,6 @@
 use Rattle.hd_cells.specs.Region.{empty_region, IsLaidOut}
-use Rattle.hd_cells.proofs.Starts.{empty_indexed, whole}
-use Rattle.hd_cells.proofs.Writes.{blank_region}
+use Rattle.hd_cells.proofs.ObjectStarts.{empty_indexed, whole}
+use Rattle.hd_cells.proofs.CellWrites.{blank_region}
 use Rattle.hd_cells.proofs.Contents.{empty_laid_out}
 use Rattle.std.proofs.Common.{sym, subst}
 use Rattle.hd_cells.proofs.region.Region.empty.Goals as goal

@@ -1,5 +1,5 @@
 use Rattle.std.proofs.Common.{arith}
-use Rattle.hd_cells.proofs.Starts.{none_late}
+use Rattle.hd_cells.proofs.ObjectStarts.{none_late}
 use Rattle.hd_cells.proofs.region.Region.is_object.Goals as goal
 
 pub returns-then-at : goal.returns-then-at

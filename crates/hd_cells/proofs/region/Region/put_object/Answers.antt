@@ -1,7 +1,7 @@
-use Rattle.hd_cells.proofs.Writes.{object_put, get-fill}
+use Rattle.hd_cells.proofs.CellWrites.{object_put, get-fill}
 use Rattle.std.proofs.Common.{◌+◌, arith}
 use Rattle.hd_cells.specs.Object.{new_object}
-use Rattle.hd_cells.proofs.Starts.{whole_put}
+use Rattle.hd_cells.proofs.ObjectStarts.{whole_put}
 use Rattle.hd_cells.proofs.Contents.{of_laid_out}
 use Rattle.std.proofs.Common.{◌∙◌, length-set}
 use Rattle.hd_cells.proofs.region.Region.put_object.Goals as goal

@@ -1,7 +1,7 @@
 use Rattle.std.proofs.Common.{arith}
 use Rattle.hd_cells.proofs.Contents.{held}
-use Rattle.hd_cells.proofs.Writes.{object_removed}
-use Rattle.hd_cells.proofs.Starts.{whole_removed}
+use Rattle.hd_cells.proofs.CellWrites.{object_removed}
+use Rattle.hd_cells.proofs.ObjectStarts.{whole_removed}
 use Rattle.hd_cells.proofs.Contents.{of_laid_out}
 use Rattle.std.proofs.Common.{◌+◌, ◌∙◌, length-set}
 use Rattle.hd_cells.proofs.region.Region.remove.Goals as goal

@@ -1,7 +1,7 @@
 use Rattle.std.proofs.Common.{arith}
 use Rattle.hd_cells.proofs.Contents.{held}
-use Rattle.hd_cells.proofs.Writes.{field_written}
-use Rattle.hd_cells.proofs.Starts.{whole_written}
+use Rattle.hd_cells.proofs.CellWrites.{field_written}
+use Rattle.hd_cells.proofs.ObjectStarts.{whole_written}
 use Rattle.hd_cells.specs.Object.{with_field}
 use Rattle.hd_cells.specs.Region.{object_at}
 use Rattle.hd_cells.proofs.Contents.{of_laid_out}

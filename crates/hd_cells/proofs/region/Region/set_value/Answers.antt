@@ -1,7 +1,7 @@
 use Rattle.std.proofs.Common.{arith}
 use Rattle.hd_cells.proofs.Contents.{held}
-use Rattle.hd_cells.proofs.Writes.{value_written}
-use Rattle.hd_cells.proofs.Starts.{whole_written}
+use Rattle.hd_cells.proofs.CellWrites.{value_written}
+use Rattle.hd_cells.proofs.ObjectStarts.{whole_written}
 use Rattle.hd_cells.proofs.Contents.{of_laid_out}
 use Rattle.std.proofs.Common.{◌∙◌, length-set}
 use Rattle.hd_cells.proofs.region.Region.set_value.Goals as goal

@@ -1,5 +1,5 @@
 use Rattle.hd_cells.proofs.Contents.{laid_out}
-use Rattle.hd_cells.proofs.Walks.{start_reached, first_seen}
+use Rattle.hd_cells.proofs.CellWalk.{start_reached, first_seen}
 use Rattle.hd_cells.proofs.region.Region.walk.Goals as goal
 
 pub first_from-requires : goal.first_from-requires

@@ -1,7 +1,7 @@
 use Rattle.std.proofs.Common.{◌<◌, length, arith}
 use Rattle.std.specs.FinSet.{difference}
 use Rattle.hd_pool.specs.Masks.{numbers_of}
-use Rattle.hd_pool.proofs.Marks.{room_is, cleared, written}
+use Rattle.hd_pool.proofs.MaskMembers.{room_is, cleared, written}
 use Rattle.hd_pool.proofs.masks.MaskSet.clear.Goals as goal
 
 pub returns : goal.returns

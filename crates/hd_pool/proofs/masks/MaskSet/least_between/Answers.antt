@@ -2,7 +2,7 @@ use Rattle.std.proofs.Common.{◌≡◌, ◌*◌, ◌<◌, length, get_or, ap, s
 use Rattle.std.specs.Prelude.{is_some}
 use Rattle.std.proofs.lemmas.Grind.{get_or_default_zero}
 use Rattle.hd_pool.specs.Masks.{IsLeastBetween}
-use Rattle.hd_pool.proofs.Marks.{room_is, found, none_more}
+use Rattle.hd_pool.proofs.MaskMembers.{room_is, found, none_more}
 use Rattle.hd_pool.proofs.masks.MaskSet.least_between.Goals as goal
 
 pub returns-in-Some-clause-found : goal.returns-in-Some-clause-found

@@ -2,7 +2,7 @@ use Rattle.std.proofs.Common.{◌≡◌, ◌/◌, ◌^◌, ◌<◌, length, get_
 use Rattle.std.specs.FinSet.{remove}
 use Rattle.std.specs.Int.{bit_not, w64}
 use Rattle.std.proofs.lemmas.Grind.{get_or_default_zero}
-use Rattle.hd_pool.proofs.Marks.{room_is, removed, written}
+use Rattle.hd_pool.proofs.MaskMembers.{room_is, removed, written}
 use Rattle.hd_pool.proofs.masks.MaskSet.remove.Goals as goal
 
 pub returns : goal.returns

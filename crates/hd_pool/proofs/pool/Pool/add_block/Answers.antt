@@ -2,7 +2,7 @@ use Rattle.std.proofs.Common.{◌≡◌, ◌<◌, None, length, ap, ◌∙◌, a
 use Rattle.std.specs.FinSet.{insert, union}
 use Rattle.hd_pool.specs.Masks.{numbers_of}
 use Rattle.hd_pool.specs.Inside.{kind_at}
-use Rattle.hd_pool.proofs.Pools.{added, along, blocks_is, kind_is, seen_put}
+use Rattle.hd_pool.proofs.PoolCalls.{added, along, blocks_is, kind_is, seen_put}
 use Rattle.hd_pool.proofs.pool.Pool.add_block.Goals as goal
 
 pub invariant_of-self : goal.invariant_of-self

@@ -2,7 +2,7 @@ use Rattle.std.proofs.Common.{◌≡◌, sym, ap, ◌∙◌, arith, Some}
 use Rattle.std.specs.FinSet.{remove, difference}
 use Rattle.hd_pool.specs.Masks.{numbers_of}
 use Rattle.hd_pool.specs.Inside.{kind_at}
-use Rattle.hd_pool.proofs.Pools.{dropped, along, in_list, low, has_room, has_place, read_kind, read_some, seen_left, with_left}
+use Rattle.hd_pool.proofs.PoolCalls.{dropped, along, in_list, low, has_room, has_place, read_kind, read_some, seen_left, with_left}
 use Rattle.hd_pool.proofs.pool.Pool.drop_block.Goals as goal
 
 pub index-requires : goal.index-requires

@@ -1,8 +1,8 @@
 use Rattle.std.proofs.Common.{◌≡◌, ◌/◌, sym, ap, ◌∙◌, arith, Some}
 use Rattle.std.specs.FinSet.{insert}
 use Rattle.hd_pool.specs.Inside.{kind_at}
-use Rattle.hd_pool.proofs.Pools as pools
-use Rattle.hd_pool.proofs.Pools.{along, in_list, low, has_room, has_place, read_kind, read_some}
+use Rattle.hd_pool.proofs.PoolCalls as pools
+use Rattle.hd_pool.proofs.PoolCalls.{along, in_list, low, has_room, has_place, read_kind, read_some}
 use Rattle.hd_pool.proofs.pool.Pool.put.Goals as goal
 
 pub index-requires : goal.index-requires

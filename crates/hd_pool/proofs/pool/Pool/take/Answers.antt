@@ -1,7 +1,7 @@
 use Rattle.std.proofs.Common.{ap}
 use Rattle.std.specs.Prelude.{is_some}
 use Rattle.std.proofs.lemmas.Bool.{true≢false}
-use Rattle.hd_pool.proofs.Pools.{take_none, take_room, take_some, take_least, take_more, take_last}
+use Rattle.hd_pool.proofs.PoolCalls.{take_none, take_room, take_some, take_least, take_more, take_last}
 use Rattle.hd_pool.proofs.pool.Pool.take.Goals as goal
 
 pub returns-in_err-at-clause-none : goal.returns-in_err-at-clause-none

@@ -1,7 +1,7 @@
 use Rattle.std.proofs.Common.{◌≡◌, Some, arith, refl, rules, below_more}
 use Rattle.std.proofs.lemmas.Bool.{true≢false, both_ways}
 use Rattle.hd_pool.specs.Inside.{kind_at}
-use Rattle.hd_pool.proofs.Pools.{is_whole, whole_kind, whole_all, whole_within, least_whole}
+use Rattle.hd_pool.proofs.PoolCalls.{is_whole, whole_kind, whole_all, whole_within, least_whole}
 use Rattle.hd_pool.proofs.pool.Pool.whole.Goals as goal
 use Rattle.hd_pool.proofs.pool.Pool.whole.Goals.{else-eq-via-then-eq+else-is_full, else-eq-via-else-eq}
 

@@ -8,8 +8,8 @@ use Rattle.hd_model.proofs.KindTests.{few_kinds}
 use Rattle.hd_seg.specs.declared.block.Block.{Block}
 use Rattle.hd_seg.specs.Blocks.{Uses, HasUnused, use_at}
 use Rattle.hd_seg.specs.Mapped.{mapped}
-use Rattle.hd_seg.proofs.Linking.{is_table, few_of, one_left, chain_read, chain_short, room_read, extras_is}
-use Rattle.hd_seg.proofs.Adding.{blocks-added, view-added, least_is}
+use Rattle.hd_seg.proofs.ChainLinks.{is_table, few_of, one_left, chain_read, chain_short, room_read, extras_is}
+use Rattle.hd_seg.proofs.BlockAdd.{blocks-added, view-added, least_is}
 use Rattle.hd_seg.proofs.blocks.Blocks.add.Goals as goal
 use Rattle.hd_seg.proofs.blocks.Blocks.add.Goals.{After-len-place, After-push_reserved, After-self-3-1}
 

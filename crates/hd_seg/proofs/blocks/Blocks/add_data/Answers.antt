@@ -6,12 +6,12 @@ use Rattle.std.proofs.lemmas.List.{get_or_read, length-set}
 use Rattle.hd_model.specs.Table.{IsLeastWithout}
 use Rattle.hd_seg.specs.declared.block.Block.{Block}
 use Rattle.hd_seg.specs.Blocks.{Uses, HasUnused, use_at, block_at}
-use Rattle.hd_seg.proofs.Linking.{is_table, few_of, one_left, none_is_some, use_is}
-use Rattle.hd_seg.proofs.Adding.{blocks-with_data, view-with_data, least_is}
+use Rattle.hd_seg.proofs.ChainLinks.{is_table, few_of, one_left, none_is_some, use_is}
+use Rattle.hd_seg.proofs.BlockAdd.{blocks-with_data, view-with_data, least_is}
 use Rattle.hd_seg.proofs.blocks.Blocks.add_data.Goals as goal
 use Rattle.hd_seg.proofs.blocks.Blocks.add_data.Goals.{After-deref, After-self-3-1}
 
--- each block up to this one has a use
+-- each block up to this one is in use
 used : (c : After-deref) → (b : ℕ) → 1 ≤ b → b ≤ c.args.block → IsSome (use_at c.self.inside.table.items b)
 used c b low high =
     let last : b ≤ c.self.inside.number =

@@ -8,8 +8,8 @@ use Rattle.hd_model.specs.Table.{chain_of, kind_at}
 use Rattle.hd_seg.specs.declared.block.Block.{Block}
 use Rattle.hd_seg.specs.Blocks.{Uses, use_of, use_at, block_at}
 use Rattle.hd_seg.specs.Mapped.{mapped}
-use Rattle.hd_seg.proofs.Linking.{handles_in, listed_use, some_of, none_is_some, follows, chain_read, got, slice_get-after}
-use Rattle.hd_seg.proofs.Adding.{one_kind, extras_apart}
+use Rattle.hd_seg.proofs.ChainLinks.{handles_in, listed_use, some_of, none_is_some, follows, chain_read, got, slice_get-after}
+use Rattle.hd_seg.proofs.BlockAdd.{one_kind, extras_apart}
 use Rattle.hd_seg.proofs.blocks.Blocks.after.Goals as goal
 use Rattle.hd_seg.proofs.blocks.Blocks.after.Goals.{After-self, In-Unused, In-Rows, After-copied}
 

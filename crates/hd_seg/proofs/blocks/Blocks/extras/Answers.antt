@@ -2,8 +2,8 @@ use Rattle.std.proofs.Common.{◌+◌, ◌<◌, ◌≤◌, ◌⊎◌, length, sy
 use Rattle.std.specs.FinMap.{get}
 use Rattle.hd_seg.specs.declared.block.Block.{Block}
 use Rattle.hd_seg.specs.Blocks.{Uses, extras_at}
-use Rattle.hd_seg.proofs.Maps.{get-mapped_out}
-use Rattle.hd_seg.proofs.Linking.{extras_is}
+use Rattle.hd_seg.proofs.FunctionMaps.{get-mapped_out}
+use Rattle.hd_seg.proofs.ChainLinks.{extras_is}
 use Rattle.std.proofs.lemmas.List.{get_or_read}
 use Rattle.hd_seg.proofs.blocks.Blocks.extras.Goals as goal
 use Rattle.hd_seg.proofs.blocks.Blocks.extras.Goals.{then-block-eq0-via-then-block-eq0, then-block-eq0-via-else-block-eq0+then-block-self, Joined-then-block-eq0}

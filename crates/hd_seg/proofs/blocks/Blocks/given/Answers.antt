@@ -1,7 +1,7 @@
 use Rattle.std.proofs.Common.{subst}
 use Rattle.hd_model.specs.Table.{IsTable}
 use Rattle.hd_seg.specs.Blocks.{Uses}
-use Rattle.hd_seg.proofs.Linking.{is_table}
+use Rattle.hd_seg.proofs.ChainLinks.{is_table}
 use Rattle.hd_seg.proofs.blocks.Blocks.given.Goals as goal
 
 pub returns-clause-table : goal.returns-clause-table

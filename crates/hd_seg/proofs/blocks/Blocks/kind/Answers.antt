@@ -3,7 +3,7 @@ use Rattle.std.specs.FinMap.{get}
 use Rattle.hd_seg.specs.Row.{block_kind_of}
 use Rattle.hd_seg.specs.declared.block.Block.{Block}
 use Rattle.hd_seg.specs.Blocks.{Uses, use_at}
-use Rattle.hd_seg.proofs.Linking.{use_is, kind-use_of}
+use Rattle.hd_seg.proofs.ChainLinks.{use_is, kind-use_of}
 use Rattle.std.proofs.lemmas.List.{get_or_read}
 use Rattle.hd_seg.proofs.blocks.Blocks.kind.Goals as goal
 

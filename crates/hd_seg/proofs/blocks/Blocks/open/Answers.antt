@@ -1,11 +1,11 @@
 use Rattle.std.proofs.Common.{ℕ, ◌+◌, map, replicate, sym, ap, ◌∙◌, subst, Vec, Global, None}
 use Rattle.hd_seg.specs.declared.row.BlockKind.TheVariants as block
 use Rattle.hd_seg.specs.Blocks.{uses_in, IsBlocks}
-use Rattle.hd_seg.proofs.Linking.{is_table}
-use Rattle.hd_seg.proofs.Adding.{blocks-none, view-none}
+use Rattle.hd_seg.proofs.ChainLinks.{is_table}
+use Rattle.hd_seg.proofs.BlockAdd.{blocks-none, view-none}
 use Rattle.hd_seg.proofs.blocks.Blocks.open.Goals as goal
 
--- no block has a use, and no chain a block
+-- no block is in use, and no chain has a block
 pub invariant_of-result : goal.invariant_of-result
 invariant_of-result c = (
   subst (λ xs. IsBlocks c.args.number 0 xs (map (λ (v : Vec ℕ Global). v.items) c.in-Ok.chains.items))

@@ -11,9 +11,9 @@ use Rattle.hd_seg.specs.declared.row.BlockKind.TheVariants as block
 use Rattle.hd_seg.specs.declared.block.Block.{Block}
 use Rattle.hd_seg.specs.Blocks.{Uses, use_of, use_at, extras_at, block_at, uses_in, numbered, IsBlocks}
 use Rattle.hd_seg.specs.Mapped.{mapped}
-use Rattle.hd_seg.proofs.Linking.{is_table, handles_in, extras_is, listed_use, some_of, none_is_some, chain_read, room_read}
-use Rattle.hd_seg.proofs.Adding.{one_kind, extras_apart}
-use Rattle.hd_seg.proofs.Removing.{fits, moved, with_short, blocks-gone, view-gone, one_used, short_fits, short_few, length-moved}
+use Rattle.hd_seg.proofs.ChainLinks.{is_table, handles_in, extras_is, listed_use, some_of, none_is_some, chain_read, room_read}
+use Rattle.hd_seg.proofs.BlockAdd.{one_kind, extras_apart}
+use Rattle.hd_seg.proofs.BlockRemove.{fits, moved, with_short, blocks-gone, view-gone, one_used, short_fits, short_few, length-moved}
 use Rattle.hd_seg.proofs.blocks.Blocks.remove.Goals as goal
 use Rattle.hd_seg.proofs.blocks.Blocks.remove.Goals.{After-index-arg-1, In-Unused, After-struct_known-1, After-struct_known-in-Rows-1, After-self-in-Rows-3-1}
 
@@ -154,7 +154,7 @@ overflow_sub-self c =
     one_used c.self.inside.number c.self.inside.given c.self.inside.table.items _ c.self.invariant.0
     c.in-Rows.kind c.args.block (is_kind b) (plain (start b))
 
--- the blocks with their new places
+-- the blocks with their new chain indices
 abbrev middle : After-self-in-Rows-3-1 → After-struct_known-in-Rows-1
 middle c = (goal.at.invariant_of-self c).After-struct_known-in-Rows-1
 

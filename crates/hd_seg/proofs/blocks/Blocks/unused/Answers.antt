@@ -1,7 +1,7 @@
 use Rattle.std.proofs.Common.{ap, arith}
 use Rattle.std.specs.FinMap.{len}
 use Rattle.hd_seg.specs.Blocks.{Uses, use_at}
-use Rattle.hd_seg.proofs.Maps.{len-mapped_le}
+use Rattle.hd_seg.proofs.FunctionMaps.{len-mapped_le}
 use Rattle.hd_seg.proofs.blocks.Blocks.unused.Goals as goal
 
 pub overflow_sub-result : goal.overflow_sub-result

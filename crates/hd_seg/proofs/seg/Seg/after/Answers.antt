@@ -1,8 +1,8 @@
 use Rattle.std.proofs.Common.{◌≡◌, ℕ, List, ◌++◌, ◌∷◌, subst}
 use Rattle.std.specs.Prelude.{slice_get}
 use Rattle.hd_model.specs.Table.{Table, IsTable, chain_of, kind_at}
-use Rattle.hd_seg.proofs.Rows.{is_table}
-use Rattle.hd_seg.proofs.Reading.{after_kind, after_within}
+use Rattle.hd_seg.proofs.RowCells.{is_table}
+use Rattle.hd_seg.proofs.ReadCalls.{after_kind, after_within}
 use Rattle.hd_seg.proofs.seg.Seg.after.Goals as goal
 use Rattle.hd_seg.proofs.seg.Seg.after.Goals.{After-after}
 

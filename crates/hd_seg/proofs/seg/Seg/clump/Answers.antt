@@ -1,8 +1,8 @@
 use Rattle.std.proofs.Common.{◌≡◌, ◌≤◌, get_or, ap, subst, arith}
 use Rattle.std.proofs.lemmas.List.{get_or_read}
 use Rattle.hd_model.specs.Table.{Table, IsTable}
-use Rattle.hd_seg.proofs.Rows.{is_table}
-use Rattle.hd_seg.proofs.Reading.{clump_bits}
+use Rattle.hd_seg.proofs.RowCells.{is_table}
+use Rattle.hd_seg.proofs.ReadCalls.{clump_bits}
 use Rattle.hd_seg.proofs.seg.Seg.clump.Goals as goal
 
 pub returns-clause-table : goal.returns-clause-table

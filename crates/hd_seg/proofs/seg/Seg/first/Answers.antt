@@ -1,8 +1,8 @@
 use Rattle.std.proofs.Common.{ap, ◌∙◌, subst}
 use Rattle.std.specs.Prelude.{slice_get}
 use Rattle.hd_model.specs.Table.{Table, IsTable, chain_of}
-use Rattle.hd_seg.proofs.Rows.{is_table}
-use Rattle.hd_seg.proofs.Reading.{first_kind, first_within}
+use Rattle.hd_seg.proofs.RowCells.{is_table}
+use Rattle.hd_seg.proofs.ReadCalls.{first_kind, first_within}
 use Rattle.hd_seg.proofs.seg.Seg.first.Goals as goal
 use Rattle.hd_seg.proofs.seg.Seg.first.Goals.{After-first}
 

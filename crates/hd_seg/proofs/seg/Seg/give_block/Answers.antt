@@ -6,10 +6,10 @@ use Rattle.hd_model.specs.State.{handles_of}
 use Rattle.hd_model.specs.Table.{Table, IsTable, IsLeastWithout, with_block, with_data}
 use Rattle.hd_seg.specs.Blocks.{Uses}
 use Rattle.hd_seg.specs.Cells.{table_in, IsSeg}
-use Rattle.hd_seg.proofs.Maps.{get-insert_same, get-insert_other, len-insert_new}
-use Rattle.hd_seg.proofs.Rows.{is_table}
-use Rattle.hd_seg.proofs.Giving.{one-seg, one-view, two-seg, two-view}
-use Rattle.hd_seg.proofs.Reading.{with_rows_least, next_least}
+use Rattle.hd_seg.proofs.FunctionMaps.{get-insert_same, get-insert_other, len-insert_new}
+use Rattle.hd_seg.proofs.RowCells.{is_table}
+use Rattle.hd_seg.proofs.BlockChange.{one-seg, one-view, two-seg, two-view}
+use Rattle.hd_seg.proofs.ReadCalls.{with_rows_least, next_least}
 use Rattle.hd_seg.proofs.seg.Seg.give_block.Goals as goal
 use Rattle.hd_seg.proofs.seg.Seg.give_block.Goals.{then-paired, else-paired, After-add_data-arg-1, After-add_data-data}
 

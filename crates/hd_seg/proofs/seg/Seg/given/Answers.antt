@@ -1,6 +1,6 @@
 use Rattle.std.proofs.Common.{subst}
 use Rattle.hd_model.specs.Table.{Table, IsTable}
-use Rattle.hd_seg.proofs.Rows.{is_table}
+use Rattle.hd_seg.proofs.RowCells.{is_table}
 use Rattle.hd_seg.proofs.seg.Seg.given.Goals as goal
 
 pub returns-clause-table : goal.returns-clause-table

@@ -4,7 +4,7 @@ use Rattle.hd_model.specs.Table.{IsTable, empty_table}
 use Rattle.hd_seg.specs.declared.cells.Cell.TheVariants as cell
 use Rattle.hd_seg.specs.Blocks.{Uses}
 use Rattle.hd_seg.specs.Cells.{table_in, IsSeg}
-use Rattle.hd_seg.proofs.Reading.{seg-none, view-none}
+use Rattle.hd_seg.proofs.ReadCalls.{seg-none, view-none}
 use Rattle.hd_seg.proofs.seg.Seg.open.Goals as goal
 
 pub invariant_of-result : goal.invariant_of-result

@@ -3,7 +3,7 @@ use Rattle.std.proofs.lemmas.List.{get_or_read}
 use Rattle.hd_seg.specs.declared.cells.Cell.{Cell}
 use Rattle.hd_seg.specs.declared.cells.Cell.TheVariants as cell
 use Rattle.hd_seg.specs.Cells.{with_cell, extra_place, table_in, IsSeg}
-use Rattle.hd_seg.proofs.Putting.{slice_back, put-seg, put-view, put_write, put_slot, put_mask, put_live}
+use Rattle.hd_seg.proofs.RowCalls.{slice_back, put-seg, put-view, put_write, put_slot, put_mask, put_live}
 use Rattle.hd_seg.proofs.seg.Seg.put_row.Goals as goal
 use Rattle.hd_seg.proofs.seg.Seg.put_row.Goals.{After-self-4-1}
 

@@ -1,8 +1,8 @@
 use Rattle.std.proofs.Common.{◌≡◌, sym, ap, ◌∙◌, subst, inl, inr}
 use Rattle.hd_model.specs.Table.{Table, IsTable}
 use Rattle.hd_seg.specs.Cells.{cell_at, cell_in, extra_held}
-use Rattle.hd_seg.proofs.Rows.{is_table}
-use Rattle.hd_seg.proofs.Reading.{empty_read, extra_read, row_read}
+use Rattle.hd_seg.proofs.RowCells.{is_table}
+use Rattle.hd_seg.proofs.ReadCalls.{empty_read, extra_read, row_read}
 use Rattle.hd_seg.proofs.seg.Seg.row.Goals as goal
 use Rattle.hd_seg.proofs.seg.Seg.row.Goals.{In-Empty}
 

@@ -2,7 +2,7 @@ use Rattle.std.proofs.Common.{◌≡◌, ◌++◌, List, length, take, drop, sym
 use Rattle.hd_seg.specs.declared.cells.Cell.{Cell}
 use Rattle.hd_seg.specs.declared.cells.Cell.TheVariants as cell
 use Rattle.hd_seg.specs.Cells.{with_cell, extra_place, table_in, IsSeg}
-use Rattle.hd_seg.proofs.Putting.{slice_back, eke-seg, eke-view, eke_write}
+use Rattle.hd_seg.proofs.RowCalls.{slice_back, eke-seg, eke-view, eke_write}
 use Rattle.hd_seg.proofs.seg.Seg.set_extra.Goals as goal
 use Rattle.hd_seg.proofs.seg.Seg.set_extra.Goals.{After-self-1}
 

@@ -1,5 +1,5 @@
 use Rattle.std.proofs.Common.{arith}
-use Rattle.hd_seg.proofs.Putting.{aim-seg, aim-view, aim_slot}
+use Rattle.hd_seg.proofs.RowCalls.{aim-seg, aim-view, aim_slot}
 use Rattle.hd_seg.proofs.seg.Seg.set_row.Goals as goal
 
 pub index_mut-requires : goal.index_mut-requires

@@ -1,24 +1,19 @@
-use Rattle.std.proofs.Common.{◌≡◌, ℕ, ◌/◌, sym, ap, ◌∙◌, subst, false, Some, None}
+use Rattle.std.proofs.Common.{◌≡◌, ℕ, ◌/◌, sym, ap, ◌∙◌, subst, Some, None}
 use Rattle.std.specs.FinMap.{get}
 use Rattle.hd_model.specs.State.{handles_of}
-use Rattle.hd_model.specs.Kinds.{is_paired}
 use Rattle.hd_model.specs.Table.{Table, IsTable, kind_at, is_single, without_block}
 use Rattle.hd_seg.specs.Blocks.{Uses}
 use Rattle.hd_seg.specs.Cells.{row_in, table_in, IsSeg}
-use Rattle.hd_seg.proofs.Rows.{row_is}
-use Rattle.hd_seg.proofs.Giving.{back-seg, back-view, single_in}
+use Rattle.hd_seg.proofs.RowCells.{row_is}
+use Rattle.hd_seg.proofs.BlockChange.{back-seg, back-view, single_in}
 use Rattle.hd_seg.proofs.seg.Seg.take_back.Goals as goal
 use Rattle.hd_seg.proofs.seg.Seg.take_back.Goals.{After-remove}
 
--- the block has handles of a kind without extras, and no live row
+-- the block has handles of a kind, and no live row
 in_use : (c : After-remove) → get c.self.inside.blocks.table.uses c.args.block
     ≡ Some (handles_of (kind_at c.self.inside.blocks.table c.args.block))
 in_use c = (single_in (get c.self.inside.blocks.table.uses c.args.block)
     (ap (λ (t : Table). is_single (get t.uses c.args.block)) c.self.view_is ∙ c.requires.single)).0
-
-single : (c : After-remove) → is_paired (kind_at c.self.inside.blocks.table c.args.block) ≡ false
-single c = (single_in (get c.self.inside.blocks.table.uses c.args.block)
-    (ap (λ (t : Table). is_single (get t.uses c.args.block)) c.self.view_is ∙ c.requires.single)).1
 
 vacant : (c : After-remove) (q : ℕ) → q / 64 ≡ c.args.block
     → row_in c.self.inside.blocks c.self.inside.cells.items q ≡ None
@@ -31,7 +26,7 @@ invariant_of-self c =
     subst (λ u. IsSeg u c.self.inside.cells.items c.self.inside.masks.items c.self.inside.live)
     (sym c.remove.ensures.after)
     (back-seg c.self.inside.blocks c.self.inside.cells.items c.self.inside.masks.items c.self.inside.live
-    c.self.invariant c.args.block (kind_at c.self.inside.blocks.table c.args.block) (in_use c) (single c)
+    c.self.invariant c.args.block (kind_at c.self.inside.blocks.table c.args.block) (in_use c)
     (vacant c)
     (subst (λ (u : Uses). IsTable u.table) c.remove.ensures.after c.remove.ensures.table))
 
@@ -39,7 +34,7 @@ pub returns : goal.returns
 returns c =
     ap (λ u. table_in u c.self.inside.cells.items) c.remove.ensures.after
     ∙ back-view c.self.inside.blocks c.self.inside.cells.items c.self.inside.masks.items c.self.inside.live
-    c.self.invariant c.args.block (kind_at c.self.inside.blocks.table c.args.block) (in_use c) (single c)
+    c.self.invariant c.args.block (kind_at c.self.inside.blocks.table c.args.block) (in_use c)
     (vacant c) c.args.self.now c.self.view_is
     ∙ ap (λ k. without_block c.args.self.now k c.args.block)
     (ap (λ (t : Table). kind_at t c.args.block) c.self.view_is)

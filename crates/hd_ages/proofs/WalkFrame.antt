@@ -1,0 +1,63 @@
+-- A walk goes on as before where rows got other contents, but the same slots are live.
+use Rattle.std.proofs.Common.{◌≡◌, ℕ, ◌+◌, ◌*◌, ◌≤◌, List, [], ◌∷◌, ◌++◌, map, Option, Some, None, is_some, refl, sym, ap, ◌∙◌, subst, ⊎_elim}
+use Rattle.std.specs.Prelude.{IsSome}
+use Rattle.std.specs.List.{range_with_len}
+use Rattle.std.specs.FinMap.{get, contains_key}
+use Rattle.std.proofs.lemmas.Bool.{cases_eq}
+use Rattle.std.proofs.lemmas.List.Elements.{filter_agree}
+use Rattle.hd_mask.specs.Mask.{set_bits}
+use Rattle.hd_model.specs.declared.data.Addr.{Addr}
+use Rattle.hd_model.specs.State.{Handle}
+use Rattle.hd_model.specs.Ages.{due_clumps}
+use Rattle.hd_model.specs.Table.{Table, has_handles}
+use Rattle.hd_model.specs.Visits.{IsSameTable}
+use Rattle.hd_ages.specs.declared.due_rows.DueRows.{DueRows}
+use Rattle.hd_ages.specs.Walk.{slots_in, slots_of, blocks_after, clumps_by, clumps_to_come, slots_to_come, IsOn}
+use Rattle.hd_seg.specs.Rewriting.{Rewrites}
+
+-- the same slots of two tables are live
+abbrev pub HasSameLive : (old new : Table) → Type 0
+HasSameLive old new = (slot : ℕ) → contains_key new.rows slot ≡ contains_key old.rows slot
+
+pub rewrites_live : (old new : Table) (slot : ℕ) (h : Handle Addr) → IsSome (get old.rows slot)
+    → Rewrites slot h old new → HasSameLive old new
+rewrites_live old new slot h live r = λ other.
+    ⊎_elim (λ e. ap (λ s. contains_key new.rows s) e ∙ ap is_some r.at ∙ sym live
+    ∙ ap (λ s. contains_key old.rows s) (sym e))
+    (λ ne. ap is_some (r.others other ne)) (cases_eq other slot)
+
+module _ (old new : Table) (same : IsSameTable old new) (ages : List ℕ) where
+  blocks_same : (o : Option ℕ) → blocks_after new o ≡ blocks_after old o
+  blocks_same None = refl
+  blocks_same (Some b) = λ i. blocks_after (record new { chains = same.chains i; uses = same.uses i })
+      (Some b)
+
+  pub clumps_same : (w : DueRows) → clumps_to_come new ages w ≡ clumps_to_come old ages w
+  unfolding clumps_to_come
+  clumps_same w = ap (λ bs. clumps_by w.block w.clumps ++ due_clumps ages w.n bs) (blocks_same w.block)
+
+  pub on_same : (w : DueRows) → IsOn old w → IsOn new w
+  on_same w on = record {
+    block = λ b e. let is = on.block b e in record {
+      handles = ap (λ uses. has_handles (get uses b)) same.uses ∙ is.handles;
+      low = is.low;
+      high = subst (λ n. b ≤ n) (sym same.blocks) is.high;
+    };
+    clumps = on.clumps;
+    first = on.first;
+  }
+
+  module _ (live : HasSameLive old new) where
+    in_same : (c : ℕ) → slots_in new c ≡ slots_in old c
+    unfolding slots_in
+    in_same c = filter_agree (λ slot. contains_key new.rows slot) (λ slot. contains_key old.rows slot) live
+        (range_with_len (16 * c + 64) 16)
+
+    of_same : (cs : List ℕ) → slots_of new cs ≡ slots_of old cs
+    of_same [] = refl
+    of_same (c ∷ cs) = λ i. in_same c i ++ of_same cs i
+
+    pub slots_same : (w : DueRows) → slots_to_come new ages w ≡ slots_to_come old ages w
+    unfolding slots_to_come
+    slots_same w = ap (λ xs. map (λ row. w.first + row) (set_bits w.rows) ++ xs)
+        (of_same (clumps_to_come new ages w) ∙ ap (slots_of old) (clumps_same w))

@@ -1,0 +1,190 @@
+-- The slots of a walk are the live slots of its kind in due clumps, each once.
+use Rattle.std.proofs.Common.{◌≡◌, ◌≢◌, ℕ, zero, suc, ◌+◌, ◌-◌, ◌*◌, ◌/◌, ◌<◌, ◌≤◌, Bool, true, List, [], ◌∷◌, length, filter, Some, is_some, refl, sym, ap, ◌∙◌, subst, arith, ⊎_elim}
+use Rattle.std.specs.Prelude.{Contains, AllPairs, nat_le, slice_index, IsSome}
+use Rattle.std.specs.List.{range_with_len}
+use Rattle.std.specs.FinMap.{get, contains_key, len}
+use Rattle.std.proofs.lemmas.Bool.{cases_eq}
+use Rattle.std.proofs.lemmas.List.Elements.{Contains-append_left, Contains-append_right, Contains-append_cases}
+use Rattle.hd_model.specs.declared.data.Kind.{Kind}
+use Rattle.hd_model.specs.State.{handles_of}
+use Rattle.hd_model.specs.Ages.{clump_of, clumps_of, due_clumps}
+use Rattle.hd_model.specs.Table.{Table, IsTable, chain_of}
+use Rattle.hd_model.proofs.Members.{not_in_none, first_in, later_in, member_cases, pairs_first, pairs_rest, pairs_none, pairs_cons, pairs_append, passing_from, passing_in, pairs_passing}
+use Rattle.hd_model.proofs.Entries.{some_value, counts_keys}
+use Rattle.hd_model.proofs.PropertyCounts.{counts_le}
+use Rattle.hd_ages.specs.Walk.{slots_in, slots_of, due_slots}
+use Rattle.hd_ages.specs.Rows.{IsDueRow, IsListOf}
+
+-- ---- numbers in a row
+
+in_range : (a k x : ℕ) → Contains (range_with_len a k) x → (a ≤ x) × (x < a + k)
+in_range a zero x h = absurd (not_in_none x h)
+in_range a (suc k) x h =
+    ⊎_elim (λ e. (omega arith, omega arith))
+    (λ later. let (low, high) = in_range (a + 1) k x later in (omega arith, omega arith))
+    (member_cases a (range_with_len (a + 1) k) x h)
+
+of_range : (a k x : ℕ) → a ≤ x → x < a + k → Contains (range_with_len a k) x
+of_range a zero x low high = absurd (omega arith)
+of_range a (suc k) x low high =
+    ⊎_elim (λ e. subst (λ y. Contains (range_with_len a (suc k)) y) e (first_in a (range_with_len (a + 1) k)))
+    (λ ne. later_in a (range_with_len (a + 1) k) x (of_range (a + 1) k x (omega arith) (omega arith)))
+    (cases_eq a x)
+
+range_apart : (a k : ℕ) → AllPairs (λ x y. x ≢ y) (range_with_len a k)
+range_apart a zero = pairs_none (λ x y. x ≢ y)
+range_apart a (suc k) =
+    pairs_cons (λ x y. x ≢ y) a (range_with_len (a + 1) k)
+    (λ y h e. let low = (in_range (a + 1) k y h).0 in omega arith) (range_apart (a + 1) k)
+
+-- ---- the slots of clumps
+
+module _ (t : Table) where
+  in_clump : (c slot : ℕ) → Contains (slots_in t c) slot
+      → (contains_key t.rows slot ≡ true) × ((64 ≤ slot) × (clump_of slot ≡ c))
+  unfolding slots_in
+  in_clump c slot h =
+      let (inside, live) = passing_from (λ s. contains_key t.rows s) (range_with_len (16 * c + 64) 16) slot
+      h in
+      let (low, high) = in_range (16 * c + 64) 16 slot inside in
+      (live, (omega arith, omega arith))
+
+  of_clump : (c slot : ℕ) → contains_key t.rows slot ≡ true → 64 ≤ slot → clump_of slot ≡ c
+      → Contains (slots_in t c) slot
+  unfolding slots_in
+  of_clump c slot live low e =
+      passing_in (λ s. contains_key t.rows s) (range_with_len (16 * c + 64) 16) slot
+      (of_range (16 * c + 64) 16 slot (omega arith) (omega arith)) live
+
+  clump_apart : (c : ℕ) → AllPairs (λ x y. x ≢ y) (slots_in t c)
+  unfolding slots_in
+  clump_apart c =
+      pairs_passing (λ s. contains_key t.rows s) (λ x y. x ≢ y) (range_with_len (16 * c + 64) 16)
+      (range_apart (16 * c + 64) 16)
+
+  in_slots : (cs : List ℕ) (slot : ℕ) → Contains (slots_of t cs) slot
+      → (contains_key t.rows slot ≡ true) × ((64 ≤ slot) × Contains cs (clump_of slot))
+  in_slots [] slot h = absurd (not_in_none slot h)
+  in_slots (c ∷ cs) slot h =
+      ⊎_elim
+      (λ here. let (live, rest) = in_clump c slot here in
+      (live, (rest.0, subst (λ d. Contains (d ∷ cs) (clump_of slot)) rest.1 (first_in (clump_of slot) cs))))
+      (λ later. let (live, rest) = in_slots cs slot later in
+      (live, (rest.0, later_in c cs (clump_of slot) rest.1)))
+      (Contains-append_cases (slots_in t c) (slots_of t cs) slot h)
+
+  of_slots : (cs : List ℕ) (slot : ℕ) → contains_key t.rows slot ≡ true → 64 ≤ slot
+      → Contains cs (clump_of slot) → Contains (slots_of t cs) slot
+  of_slots [] slot live low h = absurd (not_in_none (clump_of slot) h)
+  of_slots (c ∷ cs) slot live low h =
+      ⊎_elim
+      (λ e. Contains-append_left (slots_in t c) (slots_of t cs) slot (of_clump c slot live low (sym e)))
+      (λ later. Contains-append_right (slots_in t c) (slots_of t cs) slot (of_slots cs slot live low later))
+      (member_cases c cs (clump_of slot) h)
+
+  slots_apart : (cs : List ℕ) → AllPairs (λ x y. x ≢ y) cs → AllPairs (λ x y. x ≢ y) (slots_of t cs)
+  slots_apart [] apart = pairs_none (λ x y. x ≢ y)
+  slots_apart (c ∷ cs) apart =
+      pairs_append (λ x y. x ≢ y) (slots_in t c) (slots_of t cs) (clump_apart c)
+      (slots_apart cs (pairs_rest (λ x y. x ≢ y) c cs apart))
+      (λ x y h k e. let there = (in_slots cs y k).1.1 in
+      pairs_first (λ a b. a ≢ b) c cs apart (clump_of y) there (sym (in_clump c x h).1.1 ∙ ap clump_of e))
+
+-- ---- the due clumps of a chain
+
+module _ (ages : List ℕ) (n : ℕ) where
+  abbrev is_young : ℕ → Bool
+  is_young c = nat_le (slice_index ages c) n
+
+  in_due : (chain : List ℕ) (c : ℕ) → ((b : ℕ) → Contains chain b → 1 ≤ b)
+      → Contains (due_clumps ages n chain) c
+      → Contains chain (c / 4 + 1) × (is_young c ≡ true)
+  in_due [] c low h = absurd (not_in_none c h)
+  in_due (b ∷ chain) c low h =
+      ⊎_elim
+      (λ here. let one = low b (first_in b chain) in
+      let (inside, young) = passing_from is_young (clumps_of b) c here in
+      let (from, to) = in_range (4 * b - 4) 4 c inside in
+      let e : b ≡ c / 4 + 1 = omega arith in
+      (subst (λ d. Contains (b ∷ chain) d) e (first_in b chain), young))
+      (λ later. let (inside, young) = in_due chain c (λ d k. low d (later_in b chain d k)) later in
+      (later_in b chain (c / 4 + 1) inside, young))
+      (Contains-append_cases (filter is_young (clumps_of b)) (due_clumps ages n chain) c h)
+
+  of_due : (chain : List ℕ) (c : ℕ) → Contains chain (c / 4 + 1) → is_young c ≡ true
+      → Contains (due_clumps ages n chain) c
+  of_due [] c h young = absurd (not_in_none (c / 4 + 1) h)
+  of_due (b ∷ chain) c h young =
+      ⊎_elim
+      (λ e. Contains-append_left (filter is_young (clumps_of b)) (due_clumps ages n chain) c
+      (passing_in is_young (clumps_of b) c (of_range (4 * b - 4) 4 c (omega arith) (omega arith)) young))
+      (λ later. Contains-append_right (filter is_young (clumps_of b)) (due_clumps ages n chain) c
+      (of_due chain c later young))
+      (member_cases b chain (c / 4 + 1) h)
+
+  due_apart : (chain : List ℕ) → ((b : ℕ) → Contains chain b → 1 ≤ b) → AllPairs (λ x y. x ≢ y) chain
+      → AllPairs (λ x y. x ≢ y) (due_clumps ages n chain)
+  due_apart [] low apart = pairs_none (λ x y. x ≢ y)
+  due_apart (b ∷ chain) low apart =
+      let one = low b (first_in b chain) in
+      let low_rest : (d : ℕ) → Contains chain d → 1 ≤ d = λ d k. low d (later_in b chain d k) in
+      pairs_append (λ x y. x ≢ y) (filter is_young (clumps_of b)) (due_clumps ages n chain)
+      (pairs_passing is_young (λ x y. x ≢ y) (clumps_of b) (range_apart (4 * b - 4) 4))
+      (due_apart chain low_rest (pairs_rest (λ x y. x ≢ y) b chain apart))
+      (λ x y h k e. let (from, to) = in_range (4 * b - 4) 4 x
+      (passing_from is_young (clumps_of b) x h).0 in
+      let there : Contains chain (y / 4 + 1) = (in_due chain y low_rest k).0 in
+      let same : b ≡ y / 4 + 1 = omega arith in
+      pairs_first (λ p q. p ≢ q) b chain apart (y / 4 + 1) there same)
+
+-- ---- the slots of a walk
+
+module _ (t : Table) (is : IsTable t) (ages : List ℕ) (n : ℕ) (k : Kind) where
+  low_blocks : (b : ℕ) → Contains (chain_of t k) b → 1 ≤ b
+  low_blocks b h = (is.uses b (ap is_some ((is.chained k b).0 h))).0
+
+  each_due : (slot : ℕ) → Contains (due_slots t ages n k) slot → IsDueRow t ages n k slot
+  each_due slot h =
+      let (live, rest) = in_slots t (due_clumps ages n (chain_of t k)) slot h in
+      let low : 64 ≤ slot = rest.0 in
+      let (inside, due) = in_due ages n (chain_of t k) (clump_of slot) low_blocks rest.1 in
+      let (handle, stands) = some_value (get t.rows slot) live in
+      let e : clump_of slot / 4 + 1 ≡ slot / 64 = omega arith in
+      let here : get t.uses (slot / 64) ≡ Some (handles_of k) =
+      ap (get t.uses) (sym e) ∙ (is.chained k (clump_of slot / 4 + 1)).0 inside in
+      let there : get t.uses (slot / 64) ≡ Some (handles_of handle.kind) =
+      (is.rows slot handle stands).block in
+      record { handle = handle; stands = stands; of_kind = cc; due = due }
+
+  all_due : (slot : ℕ) → IsDueRow t ages n k slot → Contains (due_slots t ages n k) slot
+  all_due slot r =
+      let row = is.rows slot r.handle r.stands in
+      let low : 64 ≤ slot = row.low in
+      let e : slot / 64 ≡ clump_of slot / 4 + 1 = omega arith in
+      let inside : Contains (chain_of t k) (slot / 64) =
+      (is.chained k (slot / 64)).1 (row.block ∙ ap (λ q. Some (handles_of q)) r.of_kind) in
+      of_slots t (due_clumps ages n (chain_of t k)) slot (ap is_some r.stands) low
+      (of_due ages n (chain_of t k) (clump_of slot) (subst (Contains (chain_of t k)) e inside) r.due)
+
+  pub due_slots_list : IsListOf (IsDueRow t ages n k) (due_slots t ages n k)
+  due_slots_list = record {
+    apart = slots_apart t (due_clumps ages n (chain_of t k))
+        (due_apart ages n (chain_of t k) low_blocks (is.once k));
+    each = each_due;
+    all = all_due;
+  }
+
+  -- they are as few as the rows of the largest table
+  pub due_slots_few : length (due_slots t ages n k) ≤ 16384
+  due_slots_few =
+      let few = counts_le (IsDueRow t ages n k) (λ (slot : ℕ). IsSome (get t.rows slot))
+      (length (due_slots t ages n k)) (len t.rows) (λ slot r. ap is_some r.stands)
+      (record {
+        members = due_slots t ages n k;
+        apart = due_slots_list.apart;
+        each = each_due;
+        all = all_due;
+        number = refl;
+      })
+      (counts_keys t.rows (λ (x : ℕ). x) (λ x. x) (λ k. refl) (λ x. refl)) in
+      omega (arith, few, is.live, is.limit)

@@ -1,0 +1,181 @@
+-- How a walk goes on: to the first block of its chain, to the next due clump, and to the next block.
+use Rattle.std.proofs.Common.{◌≡◌, ℕ, ◌+◌, ◌<◌, true, List, [], ◌∷◌, ◌++◌, length, map, slice_get, Option, Some, None, refl, sym, ap, ◌∙◌, arith}
+use Rattle.std.specs.Prelude.{Contains}
+use Rattle.std.specs.FinMap.{get}
+use Rattle.hd_mask.specs.Mask.{set_bits}
+use Rattle.hd_model.specs.declared.data.Kind.{Kind}
+use Rattle.hd_model.specs.declared.data.Slot.{Slot}
+use Rattle.hd_model.specs.State.{BlockUse, handles_of, extra_data}
+use Rattle.hd_model.specs.Ages.{due_clumps}
+use Rattle.hd_model.specs.Table.{Table, IsTable, chain_of, has_handles, kind_in, kind_at}
+use Rattle.hd_model.proofs.Members.{first_in, member_same}
+use Rattle.hd_ages.specs.Clumps.{clump_at}
+use Rattle.hd_ages.specs.declared.due_rows.DueRows.{DueRows}
+use Rattle.hd_ages.specs.Walk.{slots_in, slots_of, due_slots, after_first, blocks_after, blocks_from, clumps_by, due_in, clumps_to_come, slots_to_come, Advances, IsOver}
+use Rattle.hd_mask.proofs.SetBits.{set_bits-zero}
+use Rattle.hd_ages.proofs.ChainRest.{after_here, split_after, within_after, after_next}
+
+-- the kind of a block with handles
+handles_kind : (u : Option BlockUse) → has_handles u ≡ true → u ≡ Some (handles_of (kind_in u))
+handles_kind None h = cc
+handles_kind (Some (handles_of k)) h = refl
+handles_kind (Some extra_data) h = cc
+
+module _ (t : Table) (is : IsTable t) where
+  kind_here : (k : Kind) (b : ℕ) → Contains (chain_of t k) b → kind_at t b ≡ k
+  kind_here k b h = ap kind_in ((is.chained k b).0 h)
+
+  -- a block with handles is in the chain of its kind
+  chained_here : (b : ℕ) → has_handles (get t.uses b) ≡ true → Contains (chain_of t (kind_at t b)) b
+  chained_here b h = (is.chained (kind_at t b) b).1 (handles_kind (get t.uses b) h)
+
+  -- what follows the first block of a chain, and the next one
+  pub first_after : (k : Kind) (b : ℕ) (rest : List ℕ) → chain_of t k ≡ b ∷ rest
+      → blocks_after t (Some b) ≡ rest
+  first_after k b rest e =
+      let inside : Contains (chain_of t k) b =
+      member_same (b ∷ rest) (chain_of t k) (sym e) b (first_in b rest) in
+      ap (λ kind. after_first b (chain_of t kind)) (kind_here k b inside)
+      ∙ ap (after_first b) e ∙ after_here b b rest refl
+
+  next_after : (b : ℕ) → (c : ℕ) (rest : List ℕ) → blocks_after t (Some b) ≡ c ∷ rest
+      → blocks_after t (Some c) ≡ rest
+  next_after b c rest e =
+      let k : Kind = kind_at t b in
+      let inside : Contains (chain_of t k) c =
+      within_after b c (chain_of t k)
+      (member_same (c ∷ rest) (blocks_after t (Some b)) (sym e) c (first_in c rest)) in
+      ap (λ kind. after_first c (chain_of t kind)) (kind_here k c inside)
+      ∙ after_next b c (chain_of t k) rest (is.once k) e
+
+module _ (t : Table) (ages : List ℕ) where
+  clumps_are : (w : DueRows) → clumps_to_come t ages w
+      ≡ clumps_by w.block w.clumps ++ due_clumps ages w.n (blocks_after t w.block)
+  unfolding clumps_to_come
+  clumps_are w = refl
+
+  slots_are : (w : DueRows) → slots_to_come t ages w
+      ≡ map (λ row. w.first + row) (set_bits w.rows) ++ slots_of t (clumps_to_come t ages w)
+  unfolding slots_to_come
+  slots_are w = refl
+
+  -- between two clumps
+  between : (w : DueRows) → w.rows ≡ 0 → slots_to_come t ages w ≡ slots_of t (clumps_to_come t ages w)
+  between w e = slots_are w
+      ∙ ap (λ rows. map (λ row. w.first + row) rows ++ slots_of t (clumps_to_come t ages w))
+      (ap set_bits e ∙ set_bits-zero)
+
+  -- before the first of some blocks of a chain
+  at_block : (bs : List ℕ) (n : ℕ) (block : Option ℕ) (mask : ℕ) → block ≡ slice_get bs 0
+      → clumps_by block mask ≡ due_in ages n block
+      → ((b : ℕ) (rest : List ℕ) → bs ≡ b ∷ rest → blocks_after t (Some b) ≡ rest)
+      → clumps_by block mask ++ due_clumps ages n (blocks_after t block) ≡ due_clumps ages n bs
+  at_block [] n block mask first due after =
+      ap (λ xs. xs ++ due_clumps ages n (blocks_after t block)) due
+      ∙ ap (λ o. due_in ages n o ++ due_clumps ages n (blocks_after t o)) first
+  at_block (b ∷ rest) n block mask first due after =
+      ap (λ xs. xs ++ due_clumps ages n (blocks_after t block)) due
+      ∙ ap (λ o. due_in ages n o ++ due_clumps ages n (blocks_after t o)) first
+      ∙ ap (λ xs. due_in ages n (Some b) ++ due_clumps ages n xs) (after b rest refl)
+
+  pub clumps_at_start : IsTable t → (k : Kind) (w : DueRows) → w.block ≡ slice_get (chain_of t k) 0
+      → clumps_by w.block w.clumps ≡ due_in ages w.n w.block
+      → clumps_to_come t ages w ≡ due_clumps ages w.n (chain_of t k)
+  clumps_at_start is k w first due = clumps_are w
+      ∙ at_block (chain_of t k) w.n w.block w.clumps first due (first_after t is k)
+
+  pub slots_at_start : IsTable t → (k : Kind) (w : DueRows) → w.block ≡ slice_get (chain_of t k) 0
+      → clumps_by w.block w.clumps ≡ due_in ages w.n w.block → w.rows ≡ 0
+      → slots_to_come t ages w ≡ due_slots t ages w.n k
+  slots_at_start is k w first due none = between w none ∙ ap (slots_of t) (clumps_at_start is k w first due)
+
+  -- the end
+  pub over : (w : DueRows) → w.block ≡ None → w.rows ≡ 0 → IsOver t ages w
+  over w end none =
+      let clumps : clumps_to_come t ages w ≡ [] = clumps_are w
+      ∙ ap (λ o. clumps_by o w.clumps ++ due_clumps ages w.n (blocks_after t o)) end in
+      record { slots = between w none ∙ ap (slots_of t) clumps; clumps = clumps }
+
+  -- on to the next due clump of the block
+  pub new_clump : (old new : DueRows) (b clump before after : ℕ) → after ≡ before + 1 → old.block ≡ Some b
+      → old.rows ≡ 0 → set_bits old.clumps ≡ clump ∷ set_bits new.clumps → new.block ≡ old.block
+      → new.n ≡ old.n
+      → map (λ row. new.first + row) (set_bits new.rows) ≡ slots_in t (clump_at b clump)
+      → Advances t ages old new before after
+  new_clump old new b clump before after more here none bits block n rows =
+      let rest : List ℕ = due_clumps ages old.n (blocks_after t old.block) in
+      let left : clumps_to_come t ages new ≡ map (clump_at b) (set_bits new.clumps) ++ rest =
+      clumps_are new
+      ∙ (λ i. clumps_by (block i) new.clumps ++ due_clumps ages (n i) (blocks_after t (block i)))
+      ∙ ap (λ o. clumps_by o new.clumps ++ rest) here in
+      let whole : clumps_to_come t ages old ≡ clump_at b clump ∷ clumps_to_come t ages new =
+      clumps_are old ∙ ap (λ o. clumps_by o old.clumps ++ rest) here
+      ∙ ap (λ xs. map (clump_at b) xs ++ rest) bits
+      ∙ ap (λ xs. clump_at b clump ∷ xs) (sym left) in
+      record {
+        slots = slots_are new ∙ ap (λ xs. xs ++ slots_of t (clumps_to_come t ages new)) rows
+            ∙ ap (slots_of t) (sym whole) ∙ sym (between old none);
+        steps = omega (arith, ap length whole);
+        less = omega (arith, ap length whole, ap (λ o. length (blocks_from t o)) block);
+      }
+
+  fewer_blocks : (bs : List ℕ) (b : ℕ) (next : Option ℕ) → next ≡ slice_get bs 0
+      → bs ≡ blocks_after t (Some b)
+      → ((c : ℕ) (rest : List ℕ) → bs ≡ c ∷ rest → blocks_after t (Some c) ≡ rest)
+      → length (blocks_from t next) < length (blocks_from t (Some b))
+  fewer_blocks [] b next first is after = omega (arith, ap (λ o. length (blocks_from t o)) first)
+  fewer_blocks (c ∷ rest) b next first is after =
+      omega (arith, ap (λ o. length (blocks_from t o)) first, ap length (after c rest refl), ap length is)
+
+  -- on to the next block of the chain
+  pub new_block : IsTable t → (old new : DueRows) (b before : ℕ) (next : Option ℕ) → old.block ≡ Some b
+      → has_handles (get t.uses b) ≡ true → old.rows ≡ 0 → set_bits old.clumps ≡ []
+      → new ≡ record old { block = next; clumps = new.clumps }
+      → clumps_by next new.clumps ≡ due_in ages old.n next
+      → ((from to : List ℕ) → chain_of t (kind_at t b) ≡ from ++ b ∷ to → next ≡ slice_get to 0)
+      → Advances t ages old new before before
+  new_block is old new b before next here handles none bits same due after =
+      let k : Kind = kind_at t b in
+      let (from, split) = split_after b (chain_of t k) (chained_here t is b handles) in
+      let bs : List ℕ = blocks_after t (Some b) in
+      let first : next ≡ slice_get bs 0 = after from bs split in
+      let old_clumps : clumps_to_come t ages old ≡ due_clumps ages old.n bs =
+      clumps_are old ∙ ap (λ o. clumps_by o old.clumps ++ due_clumps ages old.n (blocks_after t o)) here
+      ∙ ap (λ xs. map (clump_at b) xs ++ due_clumps ages old.n bs) bits in
+      let new_clumps : clumps_to_come t ages new ≡ due_clumps ages old.n bs =
+      clumps_are new
+      ∙ (λ i. clumps_by (same i).block new.clumps ++ due_clumps ages (same i).n
+      (blocks_after t (same i).block))
+      ∙ at_block bs old.n next new.clumps first due (next_after t is b) in
+      let clumps : clumps_to_come t ages new ≡ clumps_to_come t ages old = new_clumps ∙ sym old_clumps in
+      let new_none : new.rows ≡ 0 = ap (λ (w : DueRows). w.rows) same ∙ none in
+      let less = fewer_blocks bs b next first refl (next_after t is b) in
+      record {
+        slots = between new new_none ∙ ap (slots_of t) clumps ∙ sym (between old none);
+        steps = ap (λ xs. before + length xs) clumps;
+        less = omega (
+          arith,
+          less,
+          ap length clumps,
+          ap (λ (w : DueRows). length (blocks_from t w.block)) same,
+          ap (λ o. length (blocks_from t o)) here,
+        );
+      }
+
+module _ (t : Table) (ages : List ℕ) where
+  -- a row is the first left to visit
+  pub gives : (old new : DueRows) (slot : Slot) → new ≡ record old { rows = new.rows }
+      → map (λ row. old.first + row) (set_bits old.rows)
+      ≡ slot.0 ∷ map (λ row. old.first + row) (set_bits new.rows)
+      → slots_to_come t ages old ≡ slot.0 ∷ slots_to_come t ages new
+  unfolding slots_to_come clumps_to_come
+  gives old new slot same rows =
+      ap (λ xs. xs ++ slots_of t (clumps_to_come t ages old)) rows
+      ∙ ap (λ (w : DueRows). slot.0 ∷ (map (λ row. w.first + row) (set_bits new.rows)
+      ++ slots_of t (clumps_by w.block w.clumps ++ due_clumps ages w.n (blocks_after t w.block)))) (sym same)
+
+  pub same_clumps : (old new : DueRows) → new ≡ record old { rows = new.rows }
+      → clumps_to_come t ages new ≡ clumps_to_come t ages old
+  unfolding clumps_to_come
+  same_clumps old new same =
+      ap (λ (w : DueRows). clumps_by w.block w.clumps ++ due_clumps ages w.n (blocks_after t w.block)) same

@@ -1,0 +1,295 @@
+-- Lemmas on the writes into a region's cells: what callers see after each.
+use Rattle.std.proofs.Common.{◌≡◌, ◌≢◌, ℕ, ◌+◌, ◌%◌, ◌^◌, ◌<◌, ◌≤◌, inl, inr, Bool, true, false, cond, leb, List, [], ◌∷◌, ◌++◌, length, take, drop, set, replicate, get_or, None, refl, sym, ap, ◌∙◌, subst, arith, le-leb, length-set, length-take, length-drop, get_or-take, get_or-drop, get_or-set_other, get_or-set_same, ext_get_or}
+use Rattle.std.proofs.lemmas.Bool.{cases_eq, lt-leb}
+use Rattle.std.proofs.lemmas.List.{length-replicate, get_or-replicate}
+use Rattle.std.specs.Ordering.{nat_cmp}
+use Rattle.std.specs.Cmp.{nat_cmp_total}
+use Rattle.std.specs.FinMap as map
+use Rattle.hd_cells.specs.Object.{Object, with_value, with_registered, with_field, new_object}
+use Rattle.hd_cells.specs.Region.{Contents, IsObject, object_at, fields_at, with_object, with_put, without_object, empty_region}
+use Rattle.hd_cells.specs.Cells.{cell, count_at, object_in, extent_at, objects_of, contents_of, IsBody, IsGap, IsTiled, ended, IsLaid, IsRegion}
+use Rattle.hd_cells.proofs.RegionTiles.{extent_at-body, extent_at-gap, same_fields, longer_tiling, none_beyond, as_gap}
+use Rattle.hd_cells.proofs.Contents.{laid_region, laid_contents, get-objects, held, IsRegionOf, changed_region, rewritten_region}
+
+-- the fields and the registration that the second cell of an object encodes
+shape_parts : (n : ℕ) (on : Bool) (s : ℕ) → n < 256 → s ≡ cond on (n + 256) n → (s % 256 ≡ n) × (s < 512)
+    × (leb 256 s ≡ on)
+shape_parts n true s few e = (omega (arith, e), omega (arith, e), le-leb 256 s (omega (arith, e)))
+shape_parts n false s few e = (omega (arith, e), omega (arith, e), lt-leb 256 s (omega (arith, e)))
+
+-- a write to one cell leaves each other cell
+other_cells : (c : List ℕ) (j v k : ℕ) → (k ≡ j → ⊥) → cell (set c j v) k ≡ cell c k
+other_cells c j v k ne = get_or-set_other c j k v 0 ne
+
+module _ (c : List ℕ) (fill : ℕ) (r : Contents) (len : length c ≡ 256) (laid : IsRegion c fill)
+    (view : contents_of c fill ≡ r) (at : ℕ) (is : IsObject r at) where
+  -- a write after the identity of an object, which stays an object of its length
+  one_cell_body : (j v : ℕ) → at < j → j < 256 → cell (set c j v) (at + 1) < 512
+      → count_at (set c j v) at ≡ count_at c at → (at + 3 ≤ j → v < 2 ^ 32) → IsBody (set c j v) at
+  one_cell_body j v low inside shaped counts fits =
+      let b = (held c fill r len laid view at is).is_body in
+      record {
+        identified = λ e. b.identified (sym (other_cells c j v at (λ e. omega (arith, e))) ∙ e);
+        shaped = shaped;
+        few_fields = rw counts b.few_fields;
+        addresses = λ i below. elim (cases_eq (at + 3 + i) j) [
+          | inl same ↦
+              let P : ℕ → Type 0 = λ k. cell (set c j v) k < 2 ^ 32 in
+              let written : cell (set c j v) j ≡ v = get_or-set_same c j v 0 (omega arith) in
+              let value : v < 2 ^ 32 = fits (omega arith) in
+              subst P (sym same) (rw written value)
+          | inr other ↦
+              let kept : cell (set c j v) (at + 3 + i) ≡ cell c (at + 3 + i) =
+              other_cells c j v (at + 3 + i) other in
+              rw kept (b.addresses i (omega arith))
+        ];
+      }
+
+  pub one_cell_written : (j v : ℕ) (o : Object) → at < j → j < at + (count_at c at + 3)
+      → cell (set c j v) (at + 1) < 512 → count_at (set c j v) at ≡ count_at c at → (at + 3 ≤ j → v < 2 ^ 32)
+      → object_in (set c j v) at ≡ o → IsRegionOf (set c j v) fill (with_object r at o)
+  one_cell_written j v o low high shaped counts fits e =
+      let h = held c fill r len laid view at is in
+      let reach = h.reach in
+      let end = h.high in
+      let within = h.within in
+      let new = one_cell_body j v low (omega arith) shaped counts fits in
+      let new_reach = extent_at-body new in
+      rewritten_region c (set c j v) fill r at o laid view h
+      (record {
+        lengths = length-set c j v;
+        before = λ k below. other_cells c j v k (λ e. omega (arith, e));
+        beyond = λ k past. other_cells c j v k (λ e. omega (arith, e));
+        reach = omega arith;
+      })
+      new e
+
+  -- the value
+  pub value_written : (v : ℕ) → IsRegionOf (set c (at + 2) v) fill
+      (with_object r at (with_value (object_at r at) v))
+  unfolding object_in
+  value_written v =
+      let h = held c fill r len laid view at is in
+      let end = h.high in
+      let within = h.within in
+      let first = other_cells c (at + 2) v at (λ e. omega (arith, e)) in
+      let shape = other_cells c (at + 2) v (at + 1) (λ e. omega (arith, e)) in
+      let counts : count_at (set c (at + 2) v) at ≡ count_at c at = ap (λ (x : ℕ). x % 256) shape in
+      let b = h.is_body in
+      let identities : cell (set c (at + 2) v) at ≡ (object_at r at).identity = first ∙ sym h.identity in
+      let fields : take (count_at (set c (at + 2) v) at) (drop (at + 3) (set c (at + 2) v)) ≡ fields_at r at =
+      same_fields c (set c (at + 2) v) at (count_at c at) (count_at (set c (at + 2) v) at)
+      (length-set c (at + 2) v) counts
+      (λ k low high. other_cells c (at + 2) v k (λ e. omega (arith, e)))
+      ∙ sym h.fields in
+      let values : cell (set c (at + 2) v) (at + 2) ≡ v = get_or-set_same c (at + 2) v 0 (omega arith) in
+      let flags : leb 256 (cell (set c (at + 2) v) (at + 1)) ≡ (object_at r at).registered =
+      ap (leb 256) shape ∙ sym h.registered in
+      one_cell_written (at + 2) v (with_value (object_at r at) v) (omega arith) (omega arith)
+      (rw shape b.shaped) counts (λ low. absurd (omega arith))
+      (λ i. record { identity = identities i; fields = fields i; value = values i; registered = flags i })
+
+  -- the registration
+  pub registration_written : (on : Bool) (s : ℕ) → s ≡ cond on (count_at c at + 256) (count_at c at)
+      → IsRegionOf (set c (at + 1) s) fill (with_object r at (with_registered (object_at r at) on))
+  unfolding object_in
+  registration_written on s is_shape =
+      let h = held c fill r len laid view at is in
+      let end = h.high in
+      let within = h.within in
+      let b = h.is_body in
+      let few = b.few_fields in
+      let parts = shape_parts (count_at c at) on s (omega arith) is_shape in
+      let first = other_cells c (at + 1) s at (λ e. omega (arith, e)) in
+      let shape : cell (set c (at + 1) s) (at + 1) ≡ s = get_or-set_same c (at + 1) s 0 (omega arith) in
+      let third = other_cells c (at + 1) s (at + 2) (λ e. omega (arith, e)) in
+      let counts : count_at (set c (at + 1) s) at ≡ count_at c at = ap (λ (x : ℕ). x % 256) shape ∙ parts.0 in
+      let identities : cell (set c (at + 1) s) at ≡ (object_at r at).identity = first ∙ sym h.identity in
+      let fields : take (count_at (set c (at + 1) s) at) (drop (at + 3) (set c (at + 1) s)) ≡ fields_at r at =
+      same_fields c (set c (at + 1) s) at (count_at c at) (count_at (set c (at + 1) s) at)
+      (length-set c (at + 1) s) counts
+      (λ k low high. other_cells c (at + 1) s k (λ e. omega (arith, e)))
+      ∙ sym h.fields in
+      let values : cell (set c (at + 1) s) (at + 2) ≡ (object_at r at).value = third ∙ sym h.value in
+      let flags : leb 256 (cell (set c (at + 1) s) (at + 1)) ≡ on = ap (leb 256) shape ∙ parts.2 in
+      one_cell_written (at + 1) s (with_registered (object_at r at) on) (omega arith) (omega arith)
+      (rw shape parts.1) counts (λ low. absurd (omega arith))
+      (λ i. record { identity = identities i; fields = fields i; value = values i; registered = flags i })
+
+  -- the fields after a write to one of them
+  fields_written : (i v : ℕ) → i < count_at c at → (m : ℕ) → m ≡ count_at c at
+      → take m (drop (at + 3) (set c (at + 3 + i) v)) ≡ set (fields_at r at) i v
+  fields_written i v below m e =
+      let h = held c fill r len laid view at is in
+      let end = h.high in
+      let within = h.within in
+      let count = h.count in
+      let d = set c (at + 3 + i) v in
+      let length_d : length d ≡ length c = length-set c (at + 3 + i) v in
+      let length_new = length-take m (drop (at + 3) d) in
+      let length_rest = length-drop (at + 3) d in
+      let length_set = length-set (fields_at r at) i v in
+      ext_get_or 0 _ _ (omega arith) (λ k short.
+      let inside : k < m = omega arith in
+      let read : get_or (take m (drop (at + 3) d)) k 0 ≡ cell d (at + 3 + k) =
+      get_or-take m (drop (at + 3) d) k 0 inside ∙ get_or-drop (at + 3) d k 0 in
+      elim (cases_eq k i) [
+        | inl same ↦
+            let P : ℕ → Type 0 = λ n. cell d (at + 3 + n) ≡ get_or (set (fields_at r at) i v) n 0 in
+            read ∙ subst P (sym same) (get_or-set_same c (at + 3 + i) v 0 (omega arith)
+            ∙ sym (get_or-set_same (fields_at r at) i v 0 (omega arith)))
+        | inr other ↦
+            read ∙ other_cells c (at + 3 + i) v (at + 3 + k) (λ e. other (omega (arith, e)))
+            ∙ sym (h.field k (omega arith))
+            ∙ sym (get_or-set_other (fields_at r at) i k v 0 other)
+      ])
+
+  -- a field
+  pub field_written : (i v : ℕ) → i < length (fields_at r at) → v < 2 ^ 32
+      → IsRegionOf (set c (at + 3 + i) v) fill (with_object r at (with_field (object_at r at) i v))
+  unfolding object_in
+  field_written i v below fits =
+      let h = held c fill r len laid view at is in
+      let end = h.high in
+      let within = h.within in
+      let count = h.count in
+      let b = h.is_body in
+      let d = set c (at + 3 + i) v in
+      let first = other_cells c (at + 3 + i) v at (λ e. omega (arith, e)) in
+      let shape = other_cells c (at + 3 + i) v (at + 1) (λ e. omega (arith, e)) in
+      let third = other_cells c (at + 3 + i) v (at + 2) (λ e. omega (arith, e)) in
+      let counts : count_at d at ≡ count_at c at = ap (λ (x : ℕ). x % 256) shape in
+      let identities : cell d at ≡ (object_at r at).identity = first ∙ sym h.identity in
+      let fields : take (count_at d at) (drop (at + 3) d) ≡ set (fields_at r at) i v =
+      fields_written i v (omega arith) (count_at d at) counts in
+      let values : cell d (at + 2) ≡ (object_at r at).value = third ∙ sym h.value in
+      let flags : leb 256 (cell d (at + 1)) ≡ (object_at r at).registered = ap (leb 256) shape
+      ∙ sym h.registered in
+      one_cell_written (at + 3 + i) v (with_field (object_at r at) i v) (omega arith) (omega arith)
+      (rw shape b.shaped) counts (λ low. fits)
+      (λ j. record { identity = identities j; fields = fields j; value = values j; registered = flags j })
+
+-- cells in which nothing was put are an empty region
+pub blank_region : (c : List ℕ) → ((k : ℕ) → get_or c k 0 ≡ 0) → IsRegionOf c 0 empty_region
+blank_region c blank =
+    let laid : IsLaid c 0 [] = record { tiled = ended; within = omega arith; unused = λ k past. blank k } in
+    record { region = laid_region laid; contents = laid_contents laid map.empty refl }
+
+-- an object put at the allocation pointer
+module _ (c : List ℕ) (fill : ℕ) (len : length c ≡ 256) (laid : IsRegion c fill) where
+  put_cells : (k id s : ℕ) → (k ≡ fill → ⊥) → (k ≡ fill + 1 → ⊥)
+      → cell (set (set c fill id) (fill + 1) s) k ≡ cell c k
+  put_cells k id s first second = other_cells (set c fill id) (fill + 1) s k second
+      ∙ other_cells c fill id k first
+
+  put_at_fill : (id n : ℕ) (on : Bool) (s : ℕ) → id ≢ 0 → n ≤ 61 → fill + n + 3 ≤ 256
+      → s ≡ cond on (n + 256) n → IsRegionOf (set (set c fill id) (fill + 1) s) (fill + n + 3)
+      (with_put (contents_of c fill) (new_object id n on))
+  unfolding object_in
+  put_at_fill id n on s identified few room is_shape =
+      let d = set (set c fill id) (fill + 1) s in
+      let parts = shape_parts n on s (omega arith) is_shape in
+      let length_set = length-set c fill id in
+      let length_d : length d ≡ length c = length-set (set c fill id) (fill + 1) s ∙ length_set in
+      let shape : cell d (fill + 1) ≡ s = get_or-set_same (set c fill id) (fill + 1) s 0 (omega arith) in
+      let first : cell d fill ≡ id = other_cells (set c fill id) (fill + 1) s fill (λ e. omega (arith, e))
+      ∙ get_or-set_same c fill id 0 (omega arith) in
+      let unused : (k : ℕ) → fill + 2 ≤ k → cell d k ≡ 0 = λ k past. put_cells k id s (λ e. omega (arith, e))
+      (λ e. omega (arith, e)) ∙ laid.unused k (omega arith) in
+      let count : count_at d fill ≡ n = ap (λ (x : ℕ). x % 256) shape ∙ parts.0 in
+      let new : IsBody d fill = record {
+        identified = λ e. identified (sym first ∙ e);
+        shaped = rw shape parts.1;
+        few_fields = rw count few;
+        addresses = λ i below. let null : cell d (fill + 3 + i) ≡ 0 = unused (fill + 3 + i) (omega arith) in
+            omega (arith, null);
+      } in
+      let reach = extent_at-body new in
+      let fields : take (count_at d fill) (drop (fill + 3) d) ≡ replicate n 0 =
+      let zero_here : ℕ = 0 in
+      let length_new = length-take (count_at d fill) (drop (fill + 3) d) in
+      let length_rest = length-drop (fill + 3) d in
+      let length_nulls = length-replicate n zero_here in
+      ext_get_or 0 _ _ (omega arith) (λ i short.
+      get_or-take (count_at d fill) (drop (fill + 3) d) i 0 (omega arith) ∙ get_or-drop (fill + 3) d i 0
+      ∙ unused (fill + 3 + i) (omega arith)
+      ∙ sym (get_or-replicate n i zero_here 0 (omega arith))) in
+      let values : cell d (fill + 2) ≡ 0 = unused (fill + 2) (omega arith) in
+      let flags : leb 256 (cell d (fill + 1)) ≡ on = ap (leb 256) shape ∙ parts.2 in
+      let object : object_in d fill ≡ new_object id n on = λ i. record {
+        identity = first i;
+        fields = fields i;
+        value = values i;
+        registered = flags i;
+      } in
+      let longer = longer_tiling laid.tiled d length_d
+      (λ k low below. put_cells k id s (λ e. omega (arith, e)) (λ e. omega (arith, e))) new in
+      let end : fill + extent_at d fill ≡ fill + n + 3 = omega (arith, reach, count) in
+      let P : ℕ → Type 0 = λ m. IsTiled d m 0 (objects_of c ++ (fill, object_in d fill) ∷ []) in
+      let now : IsLaid d (fill + n + 3) (objects_of c ++ (fill, object_in d fill) ∷ []) = record {
+        tiled = subst P end longer;
+        within = omega arith;
+        unused = λ k past. unused k (omega arith);
+      } in
+      let absent : map.find nat_cmp fill (objects_of c) ≡ None = none_beyond laid.tiled fill (omega arith) in
+      let maps : map.from_entries (objects_of c ++ (fill, object_in d fill) ∷ []) ≡ map.insert
+      (contents_of c fill).objects fill (new_object id n on) =
+      map.from_entries_push nat_cmp_total map.nat_cmp-IsAntisymmetric (objects_of c) fill
+      (object_in d fill) absent
+      ∙ (λ i. map.insert (contents_of c fill).objects fill (object i)) in
+      let seen = laid_contents now (map.insert (contents_of c fill).objects fill (new_object id n on)) maps in
+      let size : fill + n + 3 ≡ fill + (length (replicate n (let z : ℕ = 0 in z)) + 3) =
+      omega (arith, length-replicate n (let z : ℕ = 0 in z)) in
+      record {
+        region = laid_region now;
+        contents = seen
+            ∙ (λ i. record {
+              objects = map.insert (contents_of c fill).objects fill (new_object id n on);
+              fill = size i;
+            });
+      }
+
+  pub object_put : (r : Contents) → contents_of c fill ≡ r → (id n : ℕ) (on : Bool) (s : ℕ) → id ≢ 0 → n ≤ 61
+      → r.fill + n + 3 ≤ 256 → s ≡ cond on (n + 256) n → IsRegionOf (set (set c fill id) (fill + 1) s)
+      (fill + n + 3) (with_put r (new_object id n on))
+  object_put r view id n on s identified few room is_shape =
+      let P : Contents → Type 0 = λ x. x.fill + n + 3 ≤ 256 → IsRegionOf (set (set c fill id) (fill + 1) s)
+      (fill + n + 3) (with_put x (new_object id n on)) in
+      subst P view (λ fits. put_at_fill id n on s identified few fits is_shape) room
+
+  -- no object is where the next one is put
+  pub get-fill : (r : Contents) → contents_of c fill ≡ r → map.get r.objects fill ≡ None
+  get-fill r view = ap (λ (x : Contents). map.get x.objects fill) (sym view) ∙ get-objects c fill fill
+      ∙ none_beyond laid.tiled fill (omega arith)
+
+-- an object becomes a gap
+module _ (c : List ℕ) (fill : ℕ) (r : Contents) (len : length c ≡ 256) (laid : IsRegion c fill)
+    (view : contents_of c fill ≡ r) (at : ℕ) (is : IsObject r at) where
+  pub object_removed : IsRegionOf (set (set c at 0) (at + 1) (count_at c at + 3)) fill (without_object r at)
+  object_removed =
+      let h = held c fill r len laid view at is in
+      let high = h.high in
+      let within = h.within in
+      let fills : r.fill ≡ fill = ap (λ (x : Contents). x.fill) (sym view) in
+      let d = set (set c at 0) (at + 1) (count_at c at + 3) in
+      let lengths : length d ≡ length c = length-set (set c at 0) (at + 1) (count_at c at + 3)
+      ∙ length-set c at 0 in
+      let length_first = length-set c at 0 in
+      let first : cell d at ≡ 0 = other_cells (set c at 0) (at + 1) (count_at c at + 3) at
+      (λ e. omega (arith, e)) ∙ get_or-set_same c at 0 0 (omega arith) in
+      let second : cell d (at + 1) ≡ count_at c at + 3 = get_or-set_same (set c at 0) (at + 1)
+      (count_at c at + 3) 0 (omega arith) in
+      let gap : IsGap d at = record { unnamed = first; long = omega arith } in
+      let reach = extent_at-gap gap in
+      let old_reach = h.reach in
+      let others : (k : ℕ) → (k ≡ at → ⊥) → (k ≡ at + 1 → ⊥) → cell d k ≡ cell c k = λ k one two. other_cells
+      (set c at 0) (at + 1) (count_at c at + 3) k two ∙ other_cells c at 0 k one in
+      changed_region c d fill r at None (map.remove r.objects at) laid view h
+      (record {
+        lengths = lengths;
+        before = λ k below. others k (λ e. omega (arith, e)) (λ e. omega (arith, e));
+        beyond = λ k past. others k (λ e. omega (arith, e)) (λ e. omega (arith, e));
+        reach = omega arith;
+      })
+      (as_gap gap)
+      (λ q. map.get-remove nat_cmp_total r.objects at q)

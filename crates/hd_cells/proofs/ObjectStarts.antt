@@ -1,0 +1,151 @@
+-- Lemmas on where the objects of a region begin.
+use Rattle.std.proofs.Common.{◌≡◌, ℕ, ◌+◌, ◌/◌, ◌<◌, ◌≤◌, inl, inr, true, false, eqb, List, length, set, get_or, sym, ap, ◌∙◌, subst, arith, eq-eqb, ne_eqb, get_or-set_same, get_or-set_other}
+use Rattle.std.proofs.lemmas.Bool.{cases_eq, cases_lt, false_from_ne_true, cond-true, cond-false}
+use Rattle.std.specs.Prelude.{is_some}
+use Rattle.std.specs.Ordering.{nat_cmp, eq_by_cmp}
+use Rattle.std.specs.Cmp.{nat_cmp_total}
+use Rattle.std.specs.FinMap as map
+use Rattle.hd_cells.specs.Object.{Object}
+use Rattle.hd_cells.specs.Region.{Contents, IsObject, IsLaidOut, with_object, with_put, without_object, empty_region}
+use Rattle.hd_cells.specs.Cells.{contents_of, IsIndexed, IsWhole}
+use Rattle.hd_cells.proofs.OffsetLookup.{tied, untied}
+use Rattle.hd_cells.proofs.Contents.{IsRegionOf, laid_out}
+
+-- an index that has no entry where no object is
+pub empty_indexed : (starts : List ℕ) → ((k : ℕ) → k < 86 → get_or starts k 0 ≡ 255)
+    → IsIndexed starts empty_region
+empty_indexed starts none q below =
+    ne_eqb (get_or starts (q / 3) 0) q (λ e. let is : get_or starts (q / 3) 0 ≡ 255 =
+    none (q / 3) (omega arith) in omega (arith, is))
+    ∙ sym (ap is_some (map.get-empty {X = Object} nat_cmp q))
+
+module _ (starts : List ℕ) (r : Contents) (long : length starts ≡ 86) (indexed : IsIndexed starts r) where
+  -- an object that stays one
+  pub changed_indexed : (at : ℕ) (o : Object) → IsObject r at → IsIndexed starts (with_object r at o)
+  changed_indexed at o is q below = elim (cases_eq q at) [
+    | inl same ↦
+        let was : map.contains_key r.objects q ≡ true = subst (λ (n : ℕ). map.contains_key r.objects n ≡ true)
+        (sym same) is in
+        indexed q below ∙ was ∙ sym
+        (ap is_some (map.get-insert nat_cmp_total r.objects at o q
+        ∙ cond-true (eq_by_cmp nat_cmp q at) _ _ (tied q at same)))
+    | inr other ↦ indexed q below
+        ∙ sym (ap is_some (map.get-insert nat_cmp_total r.objects at o q
+        ∙ cond-false (eq_by_cmp nat_cmp q at) _ _ (untied q at other)))
+  ]
+
+  -- an entry of the index after a write to one
+  written : (at v q : ℕ) → at < 256 → q + 3 ≤ 256 → (q / 3 ≡ at / 3) → get_or (set starts (at / 3) v)
+      (q / 3) 0 ≡ v
+  written at v q low below same = subst (λ (k : ℕ). get_or (set starts (at / 3) v) k 0 ≡ v) (sym same)
+      (get_or-set_same starts (at / 3) v 0 (omega arith))
+
+  unwritten : (at v q : ℕ) → (q / 3 ≡ at / 3 → ⊥) → get_or (set starts (at / 3) v) (q / 3) 0 ≡ get_or starts
+      (q / 3) 0
+  unwritten at v q other = get_or-set_other starts (at / 3) (q / 3) v 0 other
+
+  -- an object put after all others
+  pub put_indexed : (o : Object) → IsLaidOut r → r.fill + 3 ≤ 256 → IsIndexed (set starts (r.fill / 3) r.fill)
+      (with_put r o)
+  put_indexed o laid room q below = elim (cases_eq q r.fill) [
+    | inl same ↦
+        let entry : get_or (set starts (r.fill / 3) r.fill) (q / 3) 0 ≡ r.fill =
+        written r.fill r.fill q (omega arith) below (ap (λ (n : ℕ). n / 3) same) in
+        eq-eqb (get_or (set starts (r.fill / 3) r.fill) (q / 3) 0) q (entry ∙ sym same)
+        ∙ sym (ap is_some (map.get-insert nat_cmp_total r.objects r.fill o q
+        ∙ cond-true (eq_by_cmp nat_cmp q r.fill) _ _ (tied q r.fill same)))
+    | inr other ↦
+        let kept : map.contains_key (with_put r o).objects q ≡ map.contains_key r.objects q =
+        ap is_some (map.get-insert nat_cmp_total r.objects r.fill o q
+        ∙ cond-false (eq_by_cmp nat_cmp q r.fill) _ _ (untied q r.fill other)) in
+        elim (cases_eq (q / 3) (r.fill / 3)) [
+          | inl near ↦
+              let entry : get_or (set starts (r.fill / 3) r.fill) (q / 3) 0 ≡ r.fill =
+              written r.fill r.fill q (omega arith) below near in
+              let none : map.contains_key r.objects q ≡ false =
+              false_from_ne_true (map.contains_key r.objects q) (λ is. let low = laid.below_fill q is in
+              omega (arith, low, near)) in
+              ne_eqb (get_or (set starts (r.fill / 3) r.fill) (q / 3) 0) q (λ e. other (sym e ∙ entry))
+              ∙ sym (kept ∙ none)
+          | inr far ↦ ap (λ (n : ℕ). eqb n q) (unwritten r.fill r.fill q far) ∙ indexed q below ∙ sym kept
+        ]
+  ]
+
+  -- an object that goes
+  pub removed_indexed : (at : ℕ) → IsLaidOut r → IsObject r at → IsIndexed (set starts (at / 3) 255)
+      (without_object r at)
+  removed_indexed at laid is q below =
+      let low = laid.below_fill at is in
+      let within = laid.within_region in
+      elim (cases_eq q at) [
+        | inl same ↦
+            let entry : get_or (set starts (at / 3) 255) (q / 3) 0 ≡ 255 =
+            written at 255 q (omega arith) below (ap (λ (n : ℕ). n / 3) same) in
+            ne_eqb (get_or (set starts (at / 3) 255) (q / 3) 0) q (λ e. omega (arith, e, entry))
+            ∙ sym (ap is_some (map.get-remove nat_cmp_total r.objects at q
+            ∙ cond-true (eq_by_cmp nat_cmp q at) _ _ (tied q at same)))
+        | inr other ↦
+            let kept : map.contains_key (without_object r at).objects q ≡ map.contains_key r.objects q =
+            ap is_some (map.get-remove nat_cmp_total r.objects at q ∙ cond-false (eq_by_cmp nat_cmp q at) _ _
+            (untied q at other)) in
+            elim (cases_eq (q / 3) (at / 3)) [
+              | inl near ↦
+                  let entry : get_or (set starts (at / 3) 255) (q / 3) 0 ≡ 255 =
+                  written at 255 q (omega arith) below near in
+                  let none : map.contains_key r.objects q ≡ false =
+                  false_from_ne_true (map.contains_key r.objects q) (λ there.
+                  elim (cases_lt q at) [
+                    | inl before ↦ let apart = laid.apart q at there is before in omega (arith, apart, near)
+                    | inr past ↦ let apart = laid.apart at q is there (omega (arith, other, past)) in
+                        omega (arith, apart, near)
+                  ]) in
+                  ne_eqb (get_or (set starts (at / 3) 255) (q / 3) 0) q (λ e. omega (arith, e, entry))
+                  ∙ sym (kept ∙ none)
+              | inr far ↦ ap (λ (n : ℕ). eqb n q) (unwritten at 255 q far) ∙ indexed q below ∙ sym kept
+            ]
+      ]
+
+-- a region after a write, with its index
+pub whole : (d : List ℕ) (fill : ℕ) (r : Contents) (starts : List ℕ) → IsRegionOf d fill r
+    → IsIndexed starts r → IsWhole d fill starts
+whole d fill r starts of indexed = record {
+  region = of.region;
+  indexed = subst (IsIndexed starts) (sym of.contents) indexed;
+}
+
+module _ (c : List ℕ) (fill : ℕ) (starts : List ℕ) (r : Contents) (long : length starts ≡ 86)
+    (is : IsWhole c fill starts) (view : contents_of c fill ≡ r) where
+  pub seen_indexed : IsIndexed starts r
+  seen_indexed = subst (IsIndexed starts) view is.indexed
+
+  -- an object was written to
+  pub whole_written : (d : List ℕ) (at : ℕ) (o : Object) → IsObject r at
+      → IsRegionOf d fill (with_object r at o) → IsWhole d fill starts
+  whole_written d at o there of = whole d fill (with_object r at o) starts of
+      (changed_indexed starts r long seen_indexed at o there)
+
+  -- an object was removed
+  pub whole_removed : (d : List ℕ) (at part : ℕ) → part ≡ at / 3 → length c ≡ 256 → IsObject r at
+      → IsRegionOf d fill (without_object r at) → IsWhole d fill (set starts part 255)
+  whole_removed d at part e len there of =
+      let P : ℕ → Type 0 = λ k. IsWhole d fill (set starts k 255) in
+      subst P (sym e) (whole d fill (without_object r at) (set starts (at / 3) 255) of
+      (removed_indexed starts r long seen_indexed at (laid_out c fill r len is.region view) there))
+
+  -- an object was put
+  pub whole_put : (d : List ℕ) (end part : ℕ) (o : Object) → part ≡ fill / 3 → length c ≡ 256
+      → r.fill + 3 ≤ 256 → IsRegionOf d end (with_put r o) → IsWhole d end (set starts part fill)
+  whole_put d end part o e len room of =
+      let fills : r.fill ≡ fill = ap (λ (x : Contents). x.fill) (sym view) in
+      let P : ℕ → Type 0 = λ k. IsWhole d end (set starts k fill) in
+      let Q : ℕ → Type 0 = λ k. IsWhole d end (set starts (k / 3) k) in
+      subst P (sym e) (subst Q fills (whole d end (with_put r o) (set starts (r.fill / 3) r.fill) of
+      (put_indexed starts r long seen_indexed o (laid_out c fill r len is.region view) room)))
+
+  -- no object begins near the end
+  pub none_late : (at : ℕ) → 254 ≤ at → length c ≡ 256 → IsObject r at → ⊥
+  none_late at late len there =
+      let laid = laid_out c fill r len is.region view in
+      let low = laid.below_fill at there in
+      let within = laid.within_region in
+      omega arith

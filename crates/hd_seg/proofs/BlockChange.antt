@@ -1,0 +1,327 @@
+-- Rows are unchanged where a block comes into use or is taken back.
+use Rattle.std.proofs.Common.{◌≡◌, ◌≢◌, ℕ, ◌+◌, ◌*◌, ◌/◌, ◌%◌, ◌≤◌, Bool, true, false, cond, List, Option, Some, None, refl, sym, ap, ◌∙◌, inl, inr, arith}
+use Rattle.std.specs.Prelude.{is_some, not}
+use Rattle.std.specs.FinMap.{get, len, insert}
+use Rattle.std.proofs.lemmas.Bool.{cases_eq, true≢false}
+use Rattle.hd_model.specs.declared.data.Addr.{Addr}
+use Rattle.hd_model.specs.declared.data.Kind.{Kind}
+use Rattle.hd_model.specs.State.{BlockUse, handles_of, extra_data}
+use Rattle.hd_model.specs.Kinds.{is_paired}
+use Rattle.hd_model.specs.Table.{Table, IsTable, has_handles, is_single, kind_in, with_block, with_data, without_block}
+use Rattle.hd_seg.specs.declared.cells.Cell.{Cell}
+use Rattle.hd_seg.specs.declared.cells.Cell.TheVariants as cell
+use Rattle.hd_seg.specs.Blocks.{Uses}
+use Rattle.hd_seg.specs.Cells.{cell_at, cell_in, place_in, extra_place, row_by, row_in, table_in, IsPaired, IsSeg}
+use Rattle.hd_seg.specs.Mapped.{mapped}
+use Rattle.hd_seg.proofs.FunctionMaps.{mapped-same, get-insert_same, get-insert_other, get-remove_same, get-remove_other}
+use Rattle.hd_seg.proofs.ChainLinks.{none_is_some, some_of}
+use Rattle.hd_seg.proofs.BlockAdd.{extras_apart, one_kind}
+use Rattle.hd_seg.proofs.RowCells.{row-unused, row-empty}
+
+-- a use is not nothing
+unused_apart : (o : Option BlockUse) (k : BlockUse) → o ≡ None → o ≡ Some k → ⊥
+unused_apart o k none is = none_is_some _ none (some_of _ _ is)
+
+module _ (u : Uses) (cells : List Cell) (masks : List ℕ) (live : ℕ) (inv : IsSeg u cells masks live) where
+  -- other uses and data blocks of the same number of blocks, under which each row is as it was
+  module _ (v : Uses) (blocks : v.table.blocks ≡ u.table.blocks)
+      (rows : (q : ℕ) → row_in v cells q ≡ row_in u cells q) where
+    pub rows-same : mapped 64 (64 * v.table.blocks) (row_in v cells) ≡ mapped 64 (64 * u.table.blocks)
+        (row_in u cells)
+    rows-same = mapped-same 64 (64 * v.table.blocks) (row_in u cells) (row_in v cells) (λ q low high. rows q)
+        ∙ ap (λ n. mapped 64 (64 * n) (row_in u cells)) blocks
+
+    pub seg-same : IsTable v.table
+        → ((q : ℕ) → row_in u cells q ≡ None → (get v.table.uses (q / 64) ≡ Some extra_data → ⊥)
+        → cell_at cells q ≡ cell.Empty)
+        → ((q : ℕ) (t : Option Addr) → cell_at cells q ≡ cell.Target t
+        → has_handles (get v.table.uses (q / 64)) ≡ true)
+        → ((q : ℕ) → row_in u cells q ≡ None → cell_in cells (extra_place v q) ≡ cell.Empty)
+        → IsPaired v → IsSeg v cells masks live
+    seg-same table vacant targets cleared paired = record {
+      table = table;
+      room = omega (arith, inv.room, blocks);
+      words = omega (arith, inv.words, blocks);
+      counted = inv.counted ∙ sym (ap len rows-same);
+      bits = λ b i last lt. inv.bits b i (omega (arith, last, blocks)) lt
+          ∙ sym (ap (λ o. cond (is_some o) 1 0) (rows (64 * b + i)));
+      fitting = λ q h is. inv.fitting q h (sym (rows q) ∙ is);
+      vacant = λ q none plain. vacant q (sym (rows q) ∙ none) plain;
+      targets = targets;
+      cleared = λ q none. cleared q (sym (rows q) ∙ none);
+      paired = paired;
+    }
+
+  -- a cell of an unused block
+  unused_cell : (q : ℕ) → get u.table.uses (q / 64) ≡ None → cell_at cells q ≡ cell.Empty
+  unused_cell q none = inv.vacant q (row-unused _ _ _ none) (unused_apart _ extra_data none)
+
+  -- ---- a block of handles
+  module _ (k : Kind) (b : ℕ) (none : get u.table.uses b ≡ None) (plain : get u.extras b ≡ None) where
+    abbrev one : Uses
+    one = record u { table = with_block u.table k b }
+
+    one_use : (q : ℕ) → q ≢ b → get one.table.uses q ≡ get u.table.uses q
+    one_use q apart = get-insert_other u.table.uses b (handles_of k) q apart
+
+    one_here : (q : ℕ) → q ≡ b → get one.table.uses q ≡ Some (handles_of k)
+    one_here q same = get-insert_same u.table.uses b (handles_of k) q same
+
+    was_none : (q : ℕ) → q ≡ b → get u.table.uses q ≡ None
+    was_none q same = ap (get u.table.uses) same ∙ none
+
+    pub one_rows : (q : ℕ) → row_in (record u { table = with_block u.table k b }) cells q ≡ row_in u cells q
+    one_rows q =
+        elim (cases_eq (q / 64) b) [
+          | inl same ↦ row-empty _ _ _ (unused_cell q (was_none (q / 64) same))
+              ∙ sym (row-empty _ _ _ (unused_cell q (was_none (q / 64) same)))
+          | inr apart ↦ ap (λ o. row_by o (cell_at cells q) (cell_in cells (extra_place u q)))
+              (one_use (q / 64) apart)
+        ]
+
+    one_targets : (q : ℕ) (t : Option Addr) → cell_at cells q ≡ cell.Target t
+        → has_handles (get one.table.uses (q / 64)) ≡ true
+    one_targets q t is =
+        elim (cases_eq (q / 64) b) [
+          | inl same ↦ ap has_handles (one_here (q / 64) same)
+          | inr apart ↦ ap has_handles (one_use (q / 64) apart) ∙ inv.targets q t is
+        ]
+
+    one_paired : is_paired k ≡ false → IsPaired one
+    one_paired single = record {
+      paired = λ q j is.
+          elim (cases_eq q b) [
+            | inl same ↦ ap (λ n. is_some (get u.extras n)) same ∙ ap is_some plain ∙ sym single
+                ∙ ap is_paired (one_kind _ k j (one_here q same) is)
+            | inr apart ↦ inv.paired.paired q j (sym (one_use q apart) ∙ is)
+          ];
+      used = λ q d is.
+          let old : get u.table.uses d ≡ Some extra_data = inv.paired.used q d is in
+          one_use d (λ same. unused_apart _ extra_data (was_none d same) old) ∙ old;
+      within = inv.paired.within;
+      apart = inv.paired.apart;
+    }
+
+    pub one-seg : is_paired k ≡ false → IsTable (with_block u.table k b)
+        → IsSeg (record u { table = with_block u.table k b }) cells masks live
+    one-seg single table =
+        seg-same one refl one_rows table
+        (λ q nothing not_data.
+        elim (cases_eq (q / 64) b) [
+          | inl same ↦ unused_cell q (was_none (q / 64) same)
+          | inr apart ↦ inv.vacant q nothing (λ extras. not_data (one_use (q / 64) apart ∙ extras))
+        ])
+        one_targets inv.cleared (one_paired single)
+
+    pub one-view : (t : Table) → table_in u cells ≡ t
+        → table_in (record u { table = with_block u.table k b }) cells ≡ with_block t k b
+    one-view t is =
+        ap (λ m. let s : Table = record (with_block u.table k b) { rows = m } in s)
+        (rows-same one refl one_rows)
+        ∙ ap (λ s. with_block s k b) is
+
+    -- ---- and its data block
+    module _ (d : ℕ) (unused : get u.table.uses d ≡ None) (apart : d ≢ b) (within : d ≤ u.table.blocks) where
+      abbrev two : Uses
+      two = record { table = with_data (with_block u.table k b) d; extras = insert u.extras b d }
+
+      two_use : (q : ℕ) → q ≢ b → q ≢ d → get two.table.uses q ≡ get u.table.uses q
+      two_use q not_b not_d = get-insert_other one.table.uses d extra_data q not_d ∙ one_use q not_b
+
+      two_here : (q : ℕ) → q ≡ b → get two.table.uses q ≡ Some (handles_of k)
+      two_here q same = get-insert_other one.table.uses d extra_data q (λ other. apart (sym other ∙ same))
+          ∙ one_here q same
+
+      two_data : (q : ℕ) → q ≡ d → get two.table.uses q ≡ Some extra_data
+      two_data q same = get-insert_same one.table.uses d extra_data q same
+
+      d_none : (q : ℕ) → q ≡ d → get u.table.uses q ≡ None
+      d_none q same = ap (get u.table.uses) same ∙ unused
+
+      place_other : (q : ℕ) → q / 64 ≢ b → extra_place two q ≡ extra_place u q
+      place_other q not_b = ap (λ o. place_in o (q % 64)) (get-insert_other u.extras b d (q / 64) not_b)
+
+      pub two_rows : (q : ℕ)
+          → row_in (record { table = with_data (with_block u.table k b) d; extras = insert u.extras b d })
+          cells
+          q ≡ row_in u cells q
+      two_rows q =
+          elim (cases_eq (q / 64) b) [
+            | inl same ↦ row-empty _ _ _ (unused_cell q (was_none (q / 64) same))
+                ∙ sym (row-empty _ _ _ (unused_cell q (was_none (q / 64) same)))
+            | inr not_b ↦ elim (cases_eq (q / 64) d) [
+              | inl same ↦ row-empty _ _ _ (unused_cell q (d_none (q / 64) same))
+                  ∙ sym (row-empty _ _ _ (unused_cell q (d_none (q / 64) same)))
+              | inr not_d ↦
+                  ap (λ o. row_by o (cell_at cells q) (cell_in cells (extra_place two q)))
+                  (two_use (q / 64) not_b not_d)
+                  ∙ ap (λ o. row_by (get u.table.uses (q / 64)) (cell_at cells q) (cell_in cells o))
+                  (place_other q not_b)
+            ]
+          ]
+
+      two_vacant : (q : ℕ) → row_in u cells q ≡ None → (get two.table.uses (q / 64) ≡ Some extra_data → ⊥)
+          → cell_at cells q ≡ cell.Empty
+      two_vacant q nothing not_data =
+          elim (cases_eq (q / 64) b) [
+            | inl same ↦ unused_cell q (was_none (q / 64) same)
+            | inr not_b ↦ elim (cases_eq (q / 64) d) [
+              | inl same ↦ unused_cell q (d_none (q / 64) same)
+              | inr not_d ↦ inv.vacant q nothing (λ extras. not_data (two_use (q / 64) not_b not_d ∙ extras))
+            ]
+          ]
+
+      two_targets : (q : ℕ) (t : Option Addr) → cell_at cells q ≡ cell.Target t
+          → has_handles (get two.table.uses (q / 64)) ≡ true
+      two_targets q t is =
+          elim (cases_eq (q / 64) b) [
+            | inl same ↦ ap has_handles (two_here (q / 64) same)
+            | inr not_b ↦ elim (cases_eq (q / 64) d) [
+              | inl same ↦ let no : cell.Empty ≡ cell.Target t = sym (unused_cell q (d_none (q / 64) same))
+                  ∙ is in absurd (cc)
+              | inr not_d ↦ ap has_handles (two_use (q / 64) not_b not_d) ∙ inv.targets q t is
+            ]
+          ]
+
+      two_cleared : (q : ℕ) → row_in u cells q ≡ None → cell_in cells (extra_place two q) ≡ cell.Empty
+      two_cleared q nothing =
+          elim (cases_eq (q / 64) b) [
+            | inl same ↦
+                let at : (d * 64 + q % 64) / 64 ≡ d = omega arith in
+                ap (λ o. cell_in cells (place_in o (q % 64))) (get-insert_same u.extras b d (q / 64) same)
+                ∙ unused_cell (d * 64 + q % 64) (d_none _ at)
+            | inr not_b ↦ ap (cell_in cells) (place_other q not_b) ∙ inv.cleared q nothing
+          ]
+
+      one_extra : (e f : ℕ) (o : Option ℕ) → o ≡ Some e → o ≡ Some f → e ≡ f
+      one_extra e f o is is' = let same : Some e ≡ Some f = sym is ∙ is' in cc
+
+      old_data : (q e : ℕ) → q ≢ b → get two.extras q ≡ Some e → get u.extras q ≡ Some e
+      old_data q e not_b is = sym (get-insert_other u.extras b d q not_b) ∙ is
+
+      here_data : (q e : ℕ) → q ≡ b → get two.extras q ≡ Some e → e ≡ d
+      here_data q e same is = one_extra e d _ is (get-insert_same u.extras b d q same)
+
+      not_d_before : (q e : ℕ) → get u.extras q ≡ Some e → e ≢ d
+      not_d_before q e is same = unused_apart _ extra_data (d_none e same) (inv.paired.used q e is)
+
+      two_paired : is_paired k ≡ true → IsPaired two
+      two_paired paired = record {
+        paired = λ q j is.
+            elim (cases_eq q b) [
+              | inl same ↦ ap is_some (get-insert_same u.extras b d q same) ∙ sym paired
+                  ∙ ap is_paired (one_kind _ k j (two_here q same) is)
+              | inr not_b ↦
+                  let not_d : q ≢ d = λ same. extras_apart _ j (two_data q same) is in
+                  ap is_some (get-insert_other u.extras b d q not_b)
+                  ∙ inv.paired.paired q j (sym (two_use q not_b not_d) ∙ is)
+            ];
+        used = λ q e is.
+            elim (cases_eq q b) [
+              | inl same ↦ two_data e (here_data q e same is)
+              | inr not_b ↦
+                  let old : get u.table.uses e ≡ Some extra_data =
+                  inv.paired.used q e (old_data q e not_b is) in
+                  two_use e (λ same. unused_apart _ extra_data (was_none e same) old)
+                  (not_d_before q e (old_data q e not_b is)) ∙ old
+            ];
+        within = λ q e is.
+            elim (cases_eq q b) [
+              | inl same ↦ omega (arith, here_data q e same is, within)
+              | inr not_b ↦ inv.paired.within q e (old_data q e not_b is)
+            ];
+        apart = λ q r e is is'. elim (cases_eq q b) [
+          | inl same ↦ elim (cases_eq r b) [
+            | inl also ↦ same ∙ sym also
+            | inr not_b ↦ absurd (not_d_before r e (old_data r e not_b is') (here_data q e same is))
+          ]
+          | inr not_b ↦ elim (cases_eq r b) [
+            | inl also ↦ absurd (not_d_before q e (old_data q e not_b is) (here_data r e also is'))
+            | inr neither ↦ inv.paired.apart q r e (old_data q e not_b is) (old_data r e neither is')
+          ]
+        ];
+      }
+
+      pub two-seg : is_paired k ≡ true → IsTable (with_data (with_block u.table k b) d)
+          → IsSeg (record { table = with_data (with_block u.table k b) d; extras = insert u.extras b d })
+          cells
+          masks live
+      two-seg paired table = seg-same two refl two_rows table two_vacant two_targets two_cleared
+          (two_paired paired)
+
+      pub two-view : (t : Table) → table_in u cells ≡ t
+          → table_in (record { table = with_data (with_block u.table k b) d; extras = insert u.extras b d })
+          cells ≡ with_data (with_block t k b) d
+      two-view t is =
+          ap (λ m. let s : Table = record (with_data (with_block u.table k b) d) { rows = m } in s)
+          (rows-same two refl two_rows)
+          ∙ ap (λ s. with_data (with_block s k b) d) is
+
+  -- ---- a block that is taken back
+  module _ (b : ℕ) (k : Kind) (in_use : get u.table.uses b ≡ Some (handles_of k))
+      (vacant : (q : ℕ) → q / 64 ≡ b → row_in u cells q ≡ None) where
+    abbrev back : Uses
+    back = record u { table = without_block u.table k b }
+
+    back_use : (q : ℕ) → q ≢ b → get back.table.uses q ≡ get u.table.uses q
+    back_use q apart = get-remove_other u.table.uses b q apart
+
+    back_none : (q : ℕ) → q ≡ b → get back.table.uses q ≡ None
+    back_none q same = get-remove_same u.table.uses b q same
+
+    pub back_rows : (q : ℕ) → row_in (record u { table = without_block u.table k b }) cells q
+        ≡ row_in u cells q
+    back_rows q =
+        elim (cases_eq (q / 64) b) [
+          | inl same ↦ row-unused _ _ _ (back_none (q / 64) same) ∙ sym (vacant q same)
+          | inr apart ↦ ap (λ o. row_by o (cell_at cells q) (cell_in cells (extra_place u q)))
+              (back_use (q / 64) apart)
+        ]
+
+    bare_cell : (q : ℕ) → q / 64 ≡ b → cell_at cells q ≡ cell.Empty
+    bare_cell q same = inv.vacant q (vacant q same)
+        (λ extras. extras_apart _ k extras (ap (get u.table.uses) same ∙ in_use))
+
+    pub back-seg : IsTable (without_block u.table k b)
+        → IsSeg (record u { table = without_block u.table k b }) cells masks live
+    back-seg table =
+        seg-same back refl back_rows table
+        (λ q nothing not_data.
+        elim (cases_eq (q / 64) b) [
+          | inl same ↦ bare_cell q same
+          | inr apart ↦ inv.vacant q nothing (λ extras. not_data (back_use (q / 64) apart ∙ extras))
+        ])
+        (λ q t is.
+        elim (cases_eq (q / 64) b) [
+          | inl same ↦ let no : cell.Empty ≡ cell.Target t = sym (bare_cell q same) ∙ is in absurd (cc)
+          | inr apart ↦ ap has_handles (back_use (q / 64) apart) ∙ inv.targets q t is
+        ])
+        inv.cleared
+        (record {
+          paired = λ q j is.
+              let apart : q ≢ b = λ same. unused_apart _ (handles_of j) (back_none q same) is in
+              inv.paired.paired q j (sym (back_use q apart) ∙ is);
+          used = λ q d is.
+              let old : get u.table.uses d ≡ Some extra_data = inv.paired.used q d is in
+              back_use d (λ same. extras_apart _ k old (ap (get u.table.uses) same ∙ in_use)) ∙ old;
+          within = inv.paired.within;
+          apart = inv.paired.apart;
+        })
+
+    pub back-view : (t : Table) → table_in u cells ≡ t
+        → table_in (record u { table = without_block u.table k b }) cells ≡ without_block t k b
+    back-view t is =
+        ap (λ m. let s : Table = record (without_block u.table k b) { rows = m } in s)
+        (rows-same back refl back_rows)
+        ∙ ap (λ s. without_block s k b) is
+
+-- a block that can be taken back has handles of a kind without extras
+pub single_in : (o : Option BlockUse) → is_single o ≡ true → (o ≡ Some (handles_of (kind_in o)))
+    × (is_paired (kind_in o) ≡ false)
+single_in None is = absurd (true≢false (sym is))
+single_in (Some extra_data) is = absurd (true≢false (sym is))
+single_in (Some (handles_of k)) is = (refl, off (is_paired k) is)
+  where
+    off : (b : Bool) → not b ≡ true → b ≡ false
+    off true not_true = absurd (true≢false (sym not_true))
+    off false not_true = refl

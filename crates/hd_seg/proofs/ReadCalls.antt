@@ -1,0 +1,231 @@
+-- What the reading calls return, by the fields and the value of a table.
+use Rattle.std.proofs.Common.{◌≡◌, ℕ, zero, suc, ◌+◌, ◌*◌, ◌/◌, ◌%◌, ◌^◌, ◌<◌, ◌≤◌, true, cond, List, [], ◌∷◌, ◌++◌, length, get_or, take, drop, replicate, Option, Some, None, IfSome, Contains, refl, sym, ap, ◌∙◌, subst, arith, bit_and}
+use Rattle.std.specs.Prelude.{is_some, slice_get}
+use Rattle.std.specs.Option.{option_map}
+use Rattle.std.specs.FinMap.{get, len, empty, get-empty, len-empty, contains_key}
+use Rattle.std.specs.Int.{bit_at}
+use Rattle.std.specs.Ordering.{nat_cmp}
+use Rattle.std.proofs.lemmas.List.{length-replicate, take-append-drop, drop_more}
+use Rattle.std.proofs.lemmas.Option.{slice_get_within}
+use Rattle.std.proofs.lemmas.Nat.Bits.{bit_at-zero, bit_at_and, bit_at_ones, bit_at-lt}
+use Rattle.hd_mask.proofs.Bits.{bit_at-shr}
+use Rattle.hd_model.specs.declared.data.Addr.{Addr}
+use Rattle.hd_model.specs.declared.data.Kind.{Kind}
+use Rattle.hd_model.specs.State.{Handle, BlockUse, handles_of}
+use Rattle.hd_model.specs.Table.{Table, IsTable, IsLeastWithout, empty_table, chain_of, kind_at, kind_in, has_handles, with_block}
+use Rattle.hd_model.proofs.WholeScenes.{if_some_from}
+use Rattle.hd_seg.specs.declared.row.Extra.{Extra}
+use Rattle.hd_seg.specs.declared.row.Row.{Row}
+use Rattle.hd_seg.specs.declared.cells.Cell.{Cell}
+use Rattle.hd_seg.specs.declared.cells.Cell.TheVariants as cell
+use Rattle.hd_seg.specs.Row.{extra_of, row_of}
+use Rattle.hd_seg.specs.Blocks.{Uses}
+use Rattle.hd_seg.specs.Cells.{cell_at, cell_in, extra_held, place_in, extra_place, row_by, row_in, table_in, IsSeg}
+use Rattle.hd_seg.specs.Mapped.{mapped}
+use Rattle.hd_seg.proofs.FunctionMaps.{mapped-empty, get-insert_other}
+use Rattle.hd_seg.proofs.ChainLinks.{none_is_some, some_of, handles_in}
+use Rattle.hd_seg.proofs.RowCells.{extra-from-of, row-empty, row-extra, row_is}
+
+-- an element by its index
+in_list : {A : Type 0} (xs : List A) (i : ℕ) (x : A) → slice_get xs i ≡ Some x → get_or xs i x ≡ x
+in_list [] i x is = absurd (cc)
+in_list (y ∷ ys) zero x is = cc
+in_list (y ∷ ys) (suc i) x is = in_list ys i x is
+
+contained : {A : Type 0} (xs : List A) (i : ℕ) (x : A) → slice_get xs i ≡ Some x → Contains xs x
+contained xs i x is = (i, slice_get_within xs i x is, in_list xs i x is)
+
+slice_get-drop : {A : Type 0} (xs : List A) (n : ℕ) → slice_get (drop n xs) 0 ≡ slice_get xs n
+slice_get-drop xs zero = refl
+slice_get-drop [] (suc n) = refl
+slice_get-drop (x ∷ xs) (suc n) = slice_get-drop xs n
+
+split_at : (xs : List ℕ) (i x : ℕ) → i < length xs → get_or xs i x ≡ x → xs ≡ take i xs ++ x ∷ drop (i + 1) xs
+split_at xs i x lt is = sym (take-append-drop i xs)
+    ∙ ap (λ ys. take i xs ++ ys) (drop_more xs i x lt ∙ ap (λ y. y ∷ drop (i + 1) xs) is)
+
+-- ---- chains
+
+-- a block of a chain
+module _ (t : Table) (is : IsTable t) (k : Kind) where
+  in_use : (b : ℕ) → Contains (chain_of t k) b → get t.uses b ≡ Some (handles_of k)
+  in_use b has = (is.chained k b).0 has
+
+  pub first_kind : (o : Option ℕ) → o ≡ slice_get (chain_of t k) 0
+      → IfSome o (λ b. get t.uses b ≡ Some (handles_of k))
+  first_kind o at = if_some_from (λ b. get t.uses b ≡ Some (handles_of k)) o
+      (λ b here. in_use b (contained (chain_of t k) 0 b (sym at ∙ here)))
+
+  pub first_within : (o : Option ℕ) → o ≡ slice_get (chain_of t k) 0
+      → IfSome o (λ b. (1 ≤ b) × (b ≤ t.blocks))
+  first_within o at =
+      if_some_from (λ b. (1 ≤ b) × (b ≤ t.blocks)) o (λ b here.
+      is.uses b (some_of _ _ (in_use b (contained (chain_of t k) 0 b (sym at ∙ here)))))
+
+module _ (t : Table) (is : IsTable t) (b : ℕ) (handles : has_handles (get t.uses b) ≡ true) (o : Option ℕ)
+    (at : (before after : List ℕ) → chain_of t (kind_at t b) ≡ before ++ b ∷ after → o ≡ slice_get after 0)
+  where
+    followed : (x : ℕ) → o ≡ Some x → get t.uses x ≡ Some (handles_of (kind_at t b))
+    followed x here =
+        let has : Contains (chain_of t (kind_at t b)) b =
+        (is.chained (kind_at t b) b).1 (handles_in (get t.uses b) handles) in
+        let next : o ≡ slice_get (drop (has.0 + 1) (chain_of t (kind_at t b))) 0 =
+        at (take has.0 (chain_of t (kind_at t b))) (drop (has.0 + 1) (chain_of t (kind_at t b)))
+        (split_at (chain_of t (kind_at t b)) has.0 b has.1 has.2) in
+        in_use t is (kind_at t b) x
+        (contained (chain_of t (kind_at t b)) (has.0 + 1) x
+        (sym (next ∙ slice_get-drop (chain_of t (kind_at t b)) (has.0 + 1)) ∙ here))
+
+    pub after_kind : IfSome o (λ x. get t.uses x ≡ Some (handles_of (kind_at t b)))
+    after_kind = if_some_from (λ x. get t.uses x ≡ Some (handles_of (kind_at t b))) o followed
+
+    pub after_within : IfSome o (λ x. (1 ≤ x) × (x ≤ t.blocks))
+    after_within = if_some_from (λ x. (1 ≤ x) × (x ≤ t.blocks)) o
+        (λ x here. is.uses x (some_of _ _ (followed x here)))
+
+-- ---- rows
+
+module _ (u : Uses) (cells : List Cell) (masks : List ℕ) (live : ℕ) (inv : IsSeg u cells masks live)
+    (slot : ℕ) (t : Table) (view_is : table_in u cells ≡ t) where
+  seen : get t.rows slot ≡ row_in u cells slot
+  seen = ap (λ (v : Table). get v.rows slot) (sym view_is) ∙ row_is u cells masks live inv slot
+
+  -- nothing is read where there is no target
+  pub none_read : row_in u cells slot ≡ None → None ≡ option_map row_of (get t.rows slot)
+  none_read none = sym (ap (option_map row_of) (seen ∙ none))
+
+  pub empty_read : cell_at cells slot ≡ cell.Empty → None ≡ option_map row_of (get t.rows slot)
+  empty_read is = none_read (row-empty _ _ _ is)
+
+  pub extra_read : (e : Extra) → cell_at cells slot ≡ cell.Extra e
+      → None ≡ option_map row_of (get t.rows slot)
+  extra_read e is = none_read (row-extra _ _ _ e is)
+
+  -- a target is that of a live row
+  pub row_read : (target : Option Addr) (e : Extra) → cell_at cells slot ≡ cell.Target target
+      → e ≡ extra_held (cell_in cells (extra_place u slot))
+      → Some (record { target = target; extra = e }) ≡ option_map row_of (get t.rows slot)
+  row_read target e is held =
+      let handles : get u.table.uses (slot / 64)
+      ≡ Some (handles_of (kind_in (get u.table.uses (slot / 64)))) =
+      handles_in _ (inv.targets slot target is) in
+      let row : row_in u cells slot
+      ≡ Some (record {
+        kind = kind_in (get u.table.uses (slot / 64));
+        target = target;
+        extra =
+            extra_of (extra_held (cell_in cells (extra_place u slot)));
+      }) =
+      ap (λ o. row_by o (cell_at cells slot) (cell_in cells (extra_place u slot))) handles
+      ∙ ap (λ c. row_by (Some (handles_of (kind_in (get u.table.uses (slot / 64))))) c
+      (cell_in cells (extra_place u slot))) is in
+      ap (λ x. let r : Row = record { target = target; extra = x } in Some r)
+      (held ∙ sym (extra-from-of (extra_held (cell_in cells (extra_place u slot)))))
+      ∙ sym (ap (option_map row_of) (seen ∙ row))
+
+-- the live rows of a clump, by the bits of its block's mask
+module _ (u : Uses) (cells : List Cell) (masks : List ℕ) (live : ℕ) (inv : IsSeg u cells masks live)
+    (t : Table) (view_is : table_in u cells ≡ t) where
+  pub clump_bits : (mask block clump i : ℕ) → mask ≡ get_or masks block 0 → block ≤ u.table.blocks → clump < 4
+      → i < 16
+      → bit_at (bit_and (mask / 2 ^ (16 * clump)) 65535) i
+      ≡ cond (contains_key t.rows (64 * block + 16 * clump + i)) 1 0
+  clump_bits mask block clump i is high few lt =
+      (let low : bit_at 65535 i ≡ 1 = bit_at_ones 16 i lt in
+      let both : bit_at (bit_and (mask / 2 ^ (16 * clump)) 65535) i ≡ bit_at (mask / 2 ^ (16 * clump)) i =
+      omega (
+        arith,
+        bit_at_and (mask / 2 ^ (16 * clump)) 65535 i,
+        low,
+        bit_at-lt (mask / 2 ^ (16 * clump))
+            i,
+      ) in
+      both)
+      ∙ bit_at-shr mask (16 * clump) i
+      ∙ ap (λ m. bit_at m (16 * clump + i)) is
+      ∙ inv.bits block (16 * clump + i) high (omega arith)
+      ∙ ap (λ q. cond (is_some (row_in u cells q)) 1 0)
+      (let e : 64 * block + (16 * clump + i) ≡ 64 * block + 16 * clump + i = omega arith in e)
+      ∙ ap (λ o. cond (is_some o) 1 0) (sym (row_is u cells masks live inv (64 * block + 16 * clump + i))
+      ∙ ap (λ (v : Table). get v.rows (64 * block + 16 * clump + i)) view_is)
+
+-- ---- the lowest unused block, with rows and without
+
+pub with_rows_least : (u : Uses) (cells : List Cell) (t : Table) → table_in u cells ≡ t → (from b : ℕ)
+    → IsLeastWithout u.table from b → IsLeastWithout t from b
+with_rows_least u cells t is from b least =
+    subst (λ s. IsLeastWithout s from b) is
+    (record { low = least.low; high = least.high; unused = least.unused; least = least.least })
+
+pub next_least : (s : Table) (k : Kind) (b d : ℕ) → IsLeastWithout (with_block s k b) (b + 1) d
+    → IsLeastWithout s (b + 1) d
+next_least s k b d least = record {
+  low = least.low;
+  high = least.high;
+  unused = sym (get-insert_other s.uses b (handles_of k) d (λ same. absurd (omega (arith, least.low))))
+      ∙ least.unused;
+  least = λ q low below. ap is_some
+      (sym (get-insert_other s.uses b (handles_of k) q (λ same. absurd (omega arith))))
+      ∙ least.least q low below;
+}
+
+-- ---- an empty table
+
+empty_cell : (n : ℕ) (q : ℕ) → cell_at (replicate n cell.Empty) q ≡ cell.Empty
+empty_cell zero q = refl
+empty_cell (suc n) zero = refl
+empty_cell (suc n) (suc q) = empty_cell n q
+
+no_mask : (n : ℕ) (b : ℕ) → get_or (replicate {A = ℕ} n 0) b 0 ≡ 0
+no_mask zero b = refl
+no_mask (suc n) zero = refl
+no_mask (suc n) (suc b) = no_mask n b
+
+module _ (blocks : ℕ) where
+  abbrev none : Uses
+  none = record { table = empty_table blocks; extras = empty }
+
+  abbrev bare : List Cell
+  bare = replicate (64 * (blocks + 1)) cell.Empty
+
+  no_row : (q : ℕ) → row_in none bare q ≡ None
+  no_row q = row-empty _ _ _ (empty_cell (64 * (blocks + 1)) q)
+
+  no_extra_cell : (q : ℕ) → cell_in bare (extra_place none q) ≡ cell.Empty
+  no_extra_cell q = ap (λ o. cell_in bare (place_in o (q % 64))) (get-empty nat_cmp (q / 64))
+
+  no_rows : mapped 64 (64 * blocks) (row_in none bare) ≡ empty
+  no_rows = mapped-empty 64 (64 * blocks) (row_in none bare) (λ q low high. no_row q)
+
+  no_use : {P : Type 0} (q : ℕ) (k : BlockUse) → get none.table.uses q ≡ Some k → P
+  no_use q k is = absurd (none_is_some _ (get-empty nat_cmp q) (some_of _ _ is))
+
+  no_data : {P : Type 0} (q d : ℕ) → get none.extras q ≡ Some d → P
+  no_data q d is = absurd (none_is_some _ (get-empty nat_cmp q) (some_of _ _ is))
+
+  pub seg-none : IsTable (empty_table blocks) → IsSeg (record { table = empty_table blocks; extras = empty })
+      (replicate (64 * (blocks + 1)) cell.Empty) (replicate (blocks + 1) 0) 0
+  seg-none table = record {
+    table = table;
+    room = length-replicate (64 * (blocks + 1)) cell.Empty;
+    words = length-replicate (blocks + 1) 0;
+    counted = sym (ap len no_rows ∙ len-empty nat_cmp (Handle Addr));
+    bits = λ b i last lt. ap (λ m. bit_at m i) (no_mask (blocks + 1) b) ∙ bit_at-zero i
+        ∙ sym (ap (λ o. cond (is_some o) 1 0) (no_row (64 * b + i)));
+    fitting = λ q h is. absurd (none_is_some _ (no_row q) (some_of _ _ is));
+    vacant = λ q nothing plain. empty_cell (64 * (blocks + 1)) q;
+    targets = λ q t is. let no : cell.Empty ≡ cell.Target t = sym (empty_cell (64 * (blocks + 1)) q) ∙ is in
+        absurd (cc);
+    cleared = λ q nothing. no_extra_cell q;
+    paired = record {
+      paired = λ b k is. no_use b (handles_of k) is;
+      used = λ b d is. no_data b d is;
+      within =
+          λ b d is. no_data b d is;
+      apart = λ a b d is is'. no_data a d is;
+    };
+  }
+
+  pub view-none : table_in (record { table = empty_table blocks; extras = empty })
+      (replicate (64 * (blocks + 1)) cell.Empty) ≡ empty_table blocks
+  view-none = ap (λ m. let s : Table = record (empty_table blocks) { rows = m } in s) no_rows

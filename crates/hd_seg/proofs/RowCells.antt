@@ -1,0 +1,295 @@
+-- Rows by their cells: what a write of a cell does to them, and what a table's users see of it.
+use Rattle.std.proofs.Common.{◌≡◌, ◌≢◌, ◌⊎◌, ℕ, ◌+◌, ◌*◌, ◌/◌, ◌%◌, ◌<◌, ◌≤◌, true, false, List, length, set, Option, Some, None, refl, sym, ap, ◌∙◌, inl, inr, arith}
+use Rattle.std.specs.Prelude.{is_some}
+use Rattle.std.specs.FinMap.{get}
+use Rattle.std.proofs.lemmas.Bool.{cases_eq, cases_lt, true≢false}
+use Rattle.std.proofs.lemmas.List.{get_or-set_same, get_or-set_other, length-set, set_past}
+use Rattle.hd_model.specs.declared.data.Addr.{Addr}
+use Rattle.hd_model.specs.declared.data.Kind.{Kind}
+use Rattle.hd_model.specs.State.{Handle, BlockUse, handles_of, extra_data}
+use Rattle.hd_model.specs.Kinds.{is_paired}
+use Rattle.hd_model.specs.Table.{IsTable}
+use Rattle.hd_seg.specs.declared.row.Extra.{Extra}
+use Rattle.hd_seg.specs.declared.row.Extra.TheVariants as extra
+use Rattle.hd_seg.specs.declared.cells.Cell.{Cell}
+use Rattle.hd_seg.specs.declared.cells.Cell.TheVariants as cell
+use Rattle.hd_seg.specs.Row.{extra_of, extra_from}
+use Rattle.hd_seg.specs.Blocks.{Uses}
+use Rattle.hd_seg.specs.Cells.{cell_at, cell_in, with_cell, extra_held, place_in, extra_place, row_by, row_in, table_in, IsPaired, IsSeg}
+use Rattle.hd_seg.specs.Mapped.{mapped}
+use Rattle.hd_seg.proofs.FunctionMaps.{get-mapped, get-mapped_out, cases_within, len-mapped_le}
+use Rattle.hd_seg.proofs.ChainLinks.{some_of}
+use Rattle.hd_seg.proofs.BlockAdd.{extras_apart}
+
+pub cases_option : {A : Type 0} (o : Option A) → (o ≡ None) ⊎ ((x : A) × (o ≡ Some x))
+cases_option None = inl refl
+cases_option (Some x) = inr (x, refl)
+
+-- what a use is
+pub cases_use : (o : Option BlockUse)
+    → (o ≡ None) ⊎ ((o ≡ Some extra_data) ⊎ ((k : Kind) × (o ≡ Some (handles_of k))))
+cases_use None = inl refl
+cases_use (Some extra_data) = inr (inl refl)
+cases_use (Some (handles_of k)) = inr (inr (k, refl))
+
+pub extra-from-of : (e : Extra) → extra_from (extra_of e) ≡ e
+extra-from-of extra.Nothing = refl
+extra-from-of (extra.Strength s) = refl
+extra-from-of (extra.Secondary o) = refl
+extra-from-of (extra.Count n) = refl
+
+-- ---- one row
+
+pub row-unused : (o : Option BlockUse) (c x : Cell) → o ≡ None → row_by o c x ≡ None
+row-unused o c x is = ap (λ u. row_by u c x) is
+
+pub row-extras : (o : Option BlockUse) (c x : Cell) → o ≡ Some extra_data → row_by o c x ≡ None
+row-extras o c x is = ap (λ u. row_by u c x) is
+
+pub row-empty : (o : Option BlockUse) (c x : Cell) → c ≡ cell.Empty → row_by o c x ≡ None
+row-empty o c x is = ap (λ d. row_by o d x) is ∙ at o
+  where
+    at : (u : Option BlockUse) → row_by u cell.Empty x ≡ None
+    at None = refl
+    at (Some extra_data) = refl
+    at (Some (handles_of k)) = refl
+
+pub row-extra : (o : Option BlockUse) (c x : Cell) (e : Extra) → c ≡ cell.Extra e → row_by o c x ≡ None
+row-extra o c x e is = ap (λ d. row_by o d x) is ∙ at o
+  where
+    at : (u : Option BlockUse) → row_by u (cell.Extra e) x ≡ None
+    at None = refl
+    at (Some extra_data) = refl
+    at (Some (handles_of k)) = refl
+
+-- the parts of a live row
+pub record HasParts (o : Option BlockUse) (c x : Cell) (h : Handle Addr) : Type 0 where
+  pub use_is : o ≡ Some (handles_of h.kind)
+  pub cell_is : c ≡ cell.Target h.target
+  pub extra_is : extra_of (extra_held x) ≡ h.extra
+
+pub parts : (o : Option BlockUse) (c x : Cell) (h : Handle Addr) → row_by o c x ≡ Some h → HasParts o c x h
+parts None c x h is = absurd (cc)
+parts (Some extra_data) c x h is = absurd (cc)
+parts (Some (handles_of k)) cell.Empty x h is = absurd (cc)
+parts (Some (handles_of k)) (cell.Extra e) x h is = absurd (cc)
+parts (Some (handles_of k)) (cell.Target t) x h is =
+    let same : record { kind = k; target = t; extra = extra_of (extra_held x) } ≡ h = cc in
+    record {
+      use_is = ap (λ (i : Handle Addr). Some (handles_of i.kind)) same;
+      cell_is =
+          ap (λ (i : Handle Addr). cell.Target i.target) same;
+      extra_is = ap (λ (i : Handle Addr). i.extra) same;
+    }
+
+-- ---- where extras are stored
+
+module _ (u : Uses) (p : IsPaired u) where
+  -- the cell of an extra is in a data block
+  pub place_is : (q m : ℕ) → extra_place u q ≡ Some m
+      → (d : ℕ) × ((get u.extras (q / 64) ≡ Some d) × (m ≡ d * 64 + q % 64))
+  place_is q m is =
+      elim (cases_option (get u.extras (q / 64))) [
+        | inl none ↦ let no : None ≡ Some m = sym (ap (λ o. place_in o (q % 64)) none) ∙ is in absurd (cc)
+        | inr some ↦ let here : Some (some.0 * 64 + q % 64) ≡ Some m =
+            sym (ap (λ o. place_in o (q % 64)) some.1) ∙ is in (some.0, (some.1, cc))
+      ]
+
+  pub place_extras : (q m : ℕ) → extra_place u q ≡ Some m → get u.table.uses (m / 64) ≡ Some extra_data
+  place_extras q m is =
+      let at : (d : ℕ) × ((get u.extras (q / 64) ≡ Some d) × (m ≡ d * 64 + q % 64)) = place_is q m is in
+      let here : m / 64 ≡ at.0 = omega (arith, at.1.1) in
+      ap (get u.table.uses) here ∙ p.used (q / 64) at.0 at.1.0
+
+  pub place_within : (q m : ℕ) → extra_place u q ≡ Some m → m < 64 * (u.table.blocks + 1)
+  place_within q m is =
+      let at : (d : ℕ) × ((get u.extras (q / 64) ≡ Some d) × (m ≡ d * 64 + q % 64)) = place_is q m is in
+      omega (arith, at.1.1, p.within (q / 64) at.0 at.1.0)
+
+  -- two slots have their extras in two cells
+  pub place_apart : (q s m : ℕ) → extra_place u q ≡ Some m → extra_place u s ≡ Some m → q ≡ s
+  place_apart q s m is is' =
+      let a : (d : ℕ) × ((get u.extras (q / 64) ≡ Some d) × (m ≡ d * 64 + q % 64)) = place_is q m is in
+      let b : (d : ℕ) × ((get u.extras (s / 64) ≡ Some d) × (m ≡ d * 64 + s % 64)) = place_is s m is' in
+      let same : a.0 ≡ b.0 = omega (arith, a.1.1, b.1.1) in
+      let block : q / 64 ≡ s / 64 = p.apart (q / 64) (s / 64) b.0 (a.1.0 ∙ ap Some same) b.1.0 in
+      omega (arith, a.1.1, b.1.1, block)
+
+-- ---- the table
+
+module _ (u : Uses) (cells : List Cell) (masks : List ℕ) (live : ℕ) (inv : IsSeg u cells masks live) where
+  pub used : (b : ℕ) (k : BlockUse) → get u.table.uses b ≡ Some k → (1 ≤ b) × (b ≤ u.table.blocks)
+  used b k is = inv.table.uses b (some_of _ _ is)
+
+  -- a live row is in a block of the table
+  pub row_within : (q : ℕ) (h : Handle Addr) → row_in u cells q ≡ Some h
+      → (64 ≤ q) × (q < 64 + 64 * u.table.blocks)
+  row_within q h is =
+      let range : (1 ≤ q / 64) × (q / 64 ≤ u.table.blocks) = used (q / 64) _ (parts _ _ _ h is).use_is in
+      (omega (arith, range.0), omega (arith, range.1))
+
+  pub row_is : (q : ℕ) → get (mapped 64 (64 * u.table.blocks) (row_in u cells)) q ≡ row_in u cells q
+  row_is q =
+      elim (cases_within 64 (64 * u.table.blocks) (row_in u cells) q) [
+        | inl is ↦ get-mapped 64 (64 * u.table.blocks) (row_in u cells) q is.0 is.1
+        | inr out ↦ get-mapped_out 64 (64 * u.table.blocks) (row_in u cells) q out ∙ sym (nothing out)
+      ]
+    where
+      nothing : (q < 64) ⊎ (64 + 64 * u.table.blocks ≤ q) → row_in u cells q ≡ None
+      nothing out =
+          elim (cases_option (row_in u cells q)) [
+            | inl none ↦ none
+            | inr some ↦
+                let range : (64 ≤ q) × (q < 64 + 64 * u.table.blocks) = row_within q some.0 some.1 in
+                elim out [
+                  | inl below ↦ absurd (omega (arith, range.0))
+                  | inr past ↦ absurd
+                      (omega (arith, range.1))
+                ]
+          ]
+
+  -- what users rely on
+  pub is_table : IsTable (table_in u cells)
+  is_table = record {
+    limit = inv.table.limit;
+    rows = λ q h is.
+        let here : row_in u cells q ≡ Some h = sym (row_is q) ∙ is in
+        let range : (64 ≤ q) × (q < 64 + 64 * u.table.blocks) = row_within q h here in
+        record {
+          block = (parts _ _ _ h here).use_is;
+          fits = inv.fitting q h here;
+          low = range.0;
+          high =
+              omega (arith, range.1);
+        };
+    uses = inv.table.uses;
+    given = inv.table.given;
+    live = len-mapped_le 64 (64 * u.table.blocks) (row_in u cells);
+    kinds = inv.table.kinds;
+    once = inv.table.once;
+    chained = inv.table.chained;
+  }
+
+-- ---- writes
+
+-- the cells after a write of a slot's cell, or of the cell with its extra
+pub record IsWrite (u : Uses) (slot : ℕ) (cells after : List Cell) : Type 0 where
+  pub size : length after ≡ length cells
+  pub cell_other : (q : ℕ) → q ≢ slot → (get u.table.uses (q / 64) ≡ Some extra_data → ⊥)
+      → cell_at after q ≡ cell_at cells q
+  pub extra_other : (q : ℕ) → q ≢ slot → cell_in after (extra_place u q) ≡ cell_in cells (extra_place u q)
+  pub in_data : (q : ℕ) (t : Option Addr) → get u.table.uses (q / 64) ≡ Some extra_data
+      → cell_at after q ≡ cell.Target t → cell_at cells q ≡ cell.Target t
+
+pub writes : (u : Uses) (slot : ℕ) (a b c : List Cell) → IsWrite u slot a b → IsWrite u slot b c
+    → IsWrite u slot a c
+writes u slot a b c first second = record {
+  size = second.size ∙ first.size;
+  cell_other = λ q apart plain. second.cell_other q apart plain ∙ first.cell_other q apart plain;
+  extra_other = λ q apart. second.extra_other q apart ∙ first.extra_other q apart;
+  in_data = λ q t data_block is. first.in_data q t data_block (second.in_data q t data_block is);
+}
+
+-- whether a cell has a target
+abbrev pub NoTarget : Cell → Type 0
+NoTarget c = (t : Option Addr) → c ≡ cell.Target t → ⊥
+
+module _ (u : Uses) (p : IsPaired u) (slot : ℕ) (k : Kind)
+    (in_block : get u.table.uses (slot / 64) ≡ Some (handles_of k)) (cells : List Cell) where
+  place_not_slot : (q m : ℕ) → extra_place u q ≡ Some m → m ≢ slot
+  place_not_slot q m is same =
+      extras_apart _ k (sym (ap (λ n. get u.table.uses (n / 64)) same) ∙ place_extras u p q m is) in_block
+
+  -- the slot's own cell
+  cell_kept : (c : Cell) (o : Option ℕ) → ((m : ℕ) → o ≡ Some m → m ≢ slot) → cell_in (set cells slot c) o
+      ≡ cell_in cells o
+  cell_kept c None away = refl
+  cell_kept c (Some m) away = get_or-set_other cells slot m c cell.Empty (away m refl)
+
+  pub write_cell : (c : Cell) → IsWrite u slot cells (set cells slot c)
+  write_cell c = record {
+    size = length-set cells slot c;
+    cell_other = λ q apart plain. get_or-set_other cells slot q c cell.Empty apart;
+    extra_other = λ q apart. cell_kept c (extra_place u q) (place_not_slot q);
+    in_data = λ q t data_block is.
+        let apart : q ≢ slot = λ same. extras_apart _ k (sym (ap (λ n. get u.table.uses (n / 64)) same)
+        ∙ data_block) in_block in
+        sym (get_or-set_other cells slot q c cell.Empty apart) ∙ is;
+  }
+
+  pub cell_now : (c : Cell) → slot < length cells → cell_at (set cells slot c) slot ≡ c
+  cell_now c lt = get_or-set_same cells slot c cell.Empty lt
+
+  pub extra_stays : (c : Cell) → cell_in (set cells slot c) (extra_place u slot)
+      ≡ cell_in cells (extra_place u slot)
+  extra_stays c = cell_kept c (extra_place u slot) (place_not_slot slot)
+
+  -- the cell with the slot's extra
+  other_cell : (x : Cell) (o : Option ℕ) (q : ℕ) → ((m : ℕ) → o ≡ Some m → q ≢ m)
+      → cell_at (with_cell cells o x) q ≡ cell_at cells q
+  other_cell x None q away = refl
+  other_cell x (Some m) q away = get_or-set_other cells m q x cell.Empty (away m refl)
+
+  other_extra : (x : Cell) (o w : Option ℕ) → ((m : ℕ) → o ≡ Some m → w ≡ Some m → ⊥)
+      → cell_in (with_cell cells o x) w ≡ cell_in cells w
+  other_extra x o None away = refl
+  other_extra x o (Some m) away = other_cell x o m (λ n is same. away n is (ap Some same))
+
+  length-with : (x : Cell) (o : Option ℕ) → length (with_cell cells o x) ≡ length cells
+  length-with x None = refl
+  length-with x (Some m) = length-set cells m x
+
+  target_kept : (x : Cell) (o : Option ℕ) (q : ℕ) (t : Option Addr) → NoTarget x
+      → cell_at (with_cell cells o x) q ≡ cell.Target t → cell_at cells q ≡ cell.Target t
+  target_kept x None q t none is = is
+  target_kept x (Some m) q t none is =
+      elim (cases_eq q m) [
+        | inl same ↦ elim (cases_lt m (length cells)) [
+          | inl lt ↦ absurd (none t
+              (sym (ap (cell_at (set cells m x)) same ∙ get_or-set_same cells m x cell.Empty lt) ∙ is))
+          | inr past ↦ sym (ap (λ xs. cell_at xs q) (set_past cells m x past)) ∙ is
+        ]
+        | inr apart ↦ sym (get_or-set_other cells m q x cell.Empty apart) ∙ is
+      ]
+
+  pub write_extra : (x : Cell) → NoTarget x → IsWrite u slot cells (with_cell cells (extra_place u slot) x)
+  write_extra x none = record {
+    size = length-with x (extra_place u slot);
+    cell_other = λ q apart plain. other_cell x (extra_place u slot) q
+        (λ m is same. plain (ap (λ n. get u.table.uses (n / 64)) same ∙ place_extras u p slot m is));
+    extra_other = λ q apart. other_extra x (extra_place u slot) (extra_place u q)
+        (λ m is is'. apart (place_apart u p q slot m is' is));
+    in_data = λ q t data_block is. target_kept x (extra_place u slot) q t none is;
+  }
+
+  pub cell_stays : (x : Cell) → cell_at (with_cell cells (extra_place u slot) x) slot ≡ cell_at cells slot
+  cell_stays x = other_cell x (extra_place u slot) slot (λ m is same. place_not_slot slot m is (sym same))
+
+  extra_there : (x : Cell) (o : Option ℕ) (m : ℕ) → o ≡ Some m → m < length cells
+      → cell_in (with_cell cells o x) o ≡ x
+  extra_there x None m is lt = absurd (cc)
+  extra_there x (Some n) m is lt = let same : n ≡ m = cc in get_or-set_same cells n x cell.Empty (omega arith)
+
+  -- a kind with extras has the extra that was written, and any other has none
+  pub extra_now : (x : Cell) → length cells ≡ 64 * (u.table.blocks + 1) → is_paired k ≡ true
+      → cell_in (with_cell cells (extra_place u slot) x) (extra_place u slot) ≡ x
+  extra_now x room paired =
+      elim (cases_option (get u.extras (slot / 64))) [
+        | inl none ↦ absurd (true≢false (sym paired ∙ sym (p.paired (slot / 64) k in_block)
+            ∙ ap is_some none))
+        | inr some ↦
+            let at : extra_place u slot ≡ Some (some.0 * 64 + slot % 64) =
+            ap (λ o. place_in o (slot % 64)) some.1 in
+            extra_there x (extra_place u slot) (some.0 * 64 + slot % 64) at
+            (omega (arith, place_within u p slot _ at, room))
+      ]
+
+  pub no_extra : (x : Cell) → is_paired k ≡ false
+      → cell_in (with_cell cells (extra_place u slot) x) (extra_place u slot) ≡ cell.Empty
+  no_extra x single =
+      elim (cases_option (get u.extras (slot / 64))) [
+        | inl none ↦
+            let at : extra_place u slot ≡ None = ap (λ o. place_in o (slot % 64)) none in
+            ap (λ o. cell_in (with_cell cells (extra_place u slot) x) o) at
+        | inr some ↦ absurd (true≢false (sym (ap is_some some.1) ∙ p.paired (slot / 64) k in_block ∙ single))
+      ]
