@@ -1,3 +1,3 @@
-pub mod Detaching
-pub mod Spreading
-pub mod Rounds
+pub mod DependentClear
+pub mod SecondarySpread
+pub mod RescanPasses

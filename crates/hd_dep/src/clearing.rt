@@ -20,8 +20,8 @@ use hd_model::{Kind, Marker, Slot, Steps, is_lost};
 use hd_seg::{Extra, Row, Seg, rewrite_row};
 use std::sync::ledger::Ledger;
 
-/// Clears each dependent handle whose target is not promoted: it loses its target and its secondary.
-/// A due clump is one step. The answer is the number of handles that were cleared.
+/// Clears each dependent handle whose target is not promoted: it loses its target and its
+/// secondary. A due clump is one step. Returns the number of handles that were cleared.
 pub fn clear<M: Marker, L: Ledger>(
     seg: &mut Seg,
     ages: &AgeMap,
@@ -55,7 +55,7 @@ pub fn clear<M: Marker, L: Ledger>(
 }
 
 /// Clears a dependent handle, if its target is not promoted.
-#[tactic(auto, using(crate::proofs::Detaching::detached_written, crate::proofs::Detaching::dependent_fits))]
+#[tactic(auto, using(crate::proofs::DependentClear::detached_written, crate::proofs::DependentClear::dependent_fits))]
 fn clear_row<M: Marker>(seg: &mut Seg, slot: Slot, marker: &M) -> bool
     requires live { IsSome (get seg.old.rows slot.0) }
     requires of_kind { (live_at seg.old slot.0).kind ≡ kind.Dependent }

@@ -2,8 +2,8 @@
 //! too, and each whose target is not is cleared. After .NET's `DependentHandle` and
 //! `ConditionalWeakTable`.
 //!
-//! A pass visits the clumps whose age is at most the collected generation, one step each. What else
-//! there is names older objects alone, which are kept.
+//! A pass visits the clumps whose age is at most the collected generation, one step each. All
+//! others reference older objects alone, which are kept.
 #![tactic(auto)]
 
 mod clearing;

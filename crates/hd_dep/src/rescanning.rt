@@ -53,7 +53,7 @@ pub fn rescan<M: Marker, L: Ledger>(
     }
 }
 
-/// One pass over the due clumps. It answers whether it promoted something.
+/// One pass over the due clumps. Returns whether it promoted something.
 fn spread<M: Marker, L: Ledger>(
     seg: &Seg,
     ages: &AgeMap,
@@ -81,7 +81,7 @@ fn spread<M: Marker, L: Ledger>(
     more
 }
 
-/// Promotes the secondary of a dependent handle, if its target is promoted and it is not. It answers
+/// Promotes the secondary of a dependent handle, if its target is promoted and it is not. Returns
 /// whether it did.
 fn spread_row<M: Marker>(seg: &Seg, slot: Slot, marker: &mut M) -> bool
     requires live { IsSome (get seg.now.rows slot.0) }

@@ -1,7 +1,7 @@
-pub mod Standing
-pub mod Relocating
-pub mod Settling
-pub mod Joining
-pub mod Finding
-pub mod Reviving
-pub mod Bare
+pub mod ObjectLookup
+pub mod QueueRelocate
+pub mod QueueSettle
+pub mod QueueJoin
+pub mod JoinerFind
+pub mod QueueRevive
+pub mod TestMarker

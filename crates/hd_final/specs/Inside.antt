@@ -2,7 +2,8 @@
 use Rattle.std.specs.Prelude.{◌≢◌, ℕ, ◌^◌, ◌<◌, ◌≤◌, List, length, AllPairs}
 use Rattle.hd_model.specs.declared.data.Addr.{Addr}
 
--- nothing waits twice, no more wait than there is room for, and both lists can hold as many without memory
+-- nothing is queued twice, no more is queued than there is room for, and both lists can hold as many without
+-- memory
 pub record IsKept (waiting : List Addr) (room capacity spare : ℕ) : Type 0 where
   pub once : AllPairs (λ x y. x ≢ y) waiting
   pub fits : length waiting ≤ room

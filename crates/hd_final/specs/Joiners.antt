@@ -1,4 +1,4 @@
--- The list of those that are to join, each with its identity, as they are found.
+-- The list of the objects that are to join, each with its identity, as they are found.
 use Rattle.std.specs.Prelude.{◌≡◌, ◌≢◌, ℕ, ◌+◌, ◌-◌, ◌^◌, Bool, false, List, Option, None, Some, map, Contains, AllPairs}
 use Rattle.hd_model.specs.declared.data.Addr.{Addr}
 use Rattle.hd_model.specs.Heap.{Heap, object_at, id_at}
@@ -6,12 +6,12 @@ use Rattle.hd_heap.specs.Calls.{is_after}
 use Rattle.hd_final.specs.declared.joiners.Joiner.{Joiner}
 use Rattle.hd_final.specs.Revival.{IsOut}
 
--- where they stand
+-- their addresses
 abbrev pub places : List Joiner → List Addr
 places js = map (λ (j : Joiner). j.at) js
 
--- who was found up to a place of the walk: objects outside p with their identities, each once, and all that
--- are not after the place
+-- what was found up to an address of the walk: objects outside p with their identities, each once, and all
+-- that are not after the address
 pub record IsFoundUpTo (h : Heap) (n : ℕ) (p : Addr → Bool) (after : Option Addr) (js : List Joiner) : Type 0
   where
     pub once : AllPairs (λ x y. x ≢ y) (places js)
@@ -27,7 +27,7 @@ pub record IsFound (h : Heap) (n : ℕ) (p : Addr → Bool) (js : List Joiner) :
   pub identified : (j : Joiner) → Contains js j → j.id ≡ id_at h j.at
   pub all : (a : Addr) → IsOut (object_at h) n p a → Contains (places js) a
 
--- the addresses after a place of the walk
+-- the addresses after one of the walk
 abbrev pub left_of : Option Addr → ℕ
 left_of None = 2 ^ 32 + 1
 left_of (Some a) = 2 ^ 32 - a.0

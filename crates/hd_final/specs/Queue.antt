@@ -2,7 +2,7 @@
 use Rattle.std.specs.Prelude.{◌≢◌, ◌^◌, ◌<◌, ◌≤◌, length, AllPairs}
 use Rattle.hd_model.specs.Table.{Queue}
 
--- nothing waits twice, and no more wait than there is room for
+-- nothing is queued twice, and no more is queued than there is room for
 pub record IsQueue (q : Queue) : Type 0 where
   pub once : AllPairs (λ x y. x ≢ y) q.waiting
   pub fits : length q.waiting ≤ q.room

@@ -14,8 +14,8 @@ unregistered o = record {
   registered = false;
 }
 
--- the registrations of these objects are gone, and nothing else is changed: regions, spare regions, limit and
--- cards are as before
+-- the registrations of these objects are removed, and nothing else is changed: regions, free regions, limit
+-- and cards are as before
 pub record Unregisters (xs : List Addr) (old new : Heap) : Type 0 where
   pub among : (a : Addr) → Contains xs a → object_at new a ≡ option_map unregistered (object_at old a)
   pub others : (a : Addr) → (Contains xs a → ⊥) → object_at new a ≡ object_at old a

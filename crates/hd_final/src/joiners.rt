@@ -1,5 +1,5 @@
-// Those that join the queue in one collection: all are found before any is promoted, since what one
-// leads to joins too.
+// The objects that join the queue in one collection: all are found before any is promoted, since
+// what one leads to joins too.
 ghost use Rattle.std.specs.Prelude.{◌≡◌, ◌+◌, ◌≤◌, ◌++◌, true, length, Contains, not, ◌&&◌, vec_len, vec_capacity};
 ghost use Rattle.std.specs.FinMap as map;
 ghost use Rattle.std.specs.List.Sorted.{IsPermutation, IsNonDecreasingBy};
@@ -59,7 +59,7 @@ pub(crate) fn sort(joiners: &mut Vec<Joiner>)
     joiners.sort_unstable_by_key(|joiner| joiner.id.0);
 }
 
-/// Promotes them, and puts them after those that wait.
+/// Promotes them, and queues them after the others.
 pub(crate) fn join<M: Marker>(joiners: &[Joiner], waiting: &mut VecDeque<Addr>, marker: &mut M)
     requires settled { M.settled marker.old }
     requires objects { (a : _) → Contains (places joiners.now) a →

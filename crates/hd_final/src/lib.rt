@@ -1,6 +1,6 @@
-//! The finalisation queue: the objects that wait for their finalizers. A collection keeps a
-//! registered object that is no longer reached, with all that it leads to, and puts it after those
-//! that wait.
+//! The finalisation queue: the objects that are queued for finalisation. A collection keeps a
+//! registered object that is no longer reached, with all that it leads to, and queues it after the
+//! others.
 #![tactic(auto)]
 
 mod joiners;

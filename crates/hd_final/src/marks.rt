@@ -1,4 +1,4 @@
-// A marker and new places for tests, of a heap whose objects have no fields.
+// A marker and forwarding addresses for tests, of a heap whose objects have no fields.
 ghost use Rattle.std.specs.Prelude.{◌≡◌, ◌||◌, ◌==◌, true, vec_capacity, IfOk};
 ghost use Rattle.std.specs.FinMap as map;
 ghost use Rattle.hd_model.specs.declared.data.Addr.{Addr};
@@ -53,7 +53,7 @@ fn has(list: &[Addr], at: Addr) -> bool
     list.iter().any(|other| other.0 == at.0)
 }
 
-// An object joins a list, unless it is there.
+// Adds an object to a list, unless it is there.
 fn add(list: &mut Vec<Addr>, heap: &Heap, at: Addr)
     requires list { IsList heap.now list.old.items (vec_capacity list.old) }
     requires object { has_object heap.now at ≡ true }
@@ -105,12 +105,12 @@ pub(crate) struct Mirror<'h> {
 }
 
 impl<'h> Mirror<'h> {
-    /// New places for all objects of a heap.
+    /// Forwarding addresses for all objects of a heap.
     pub(crate) fn of(heap: &'h Heap) -> Mirror<'h>
         ensures same { result.heap.now ≡ heap.now }
         ensures laid { IsKeeping (object_at heap.now) OLDEST (has_object heap.now) mirrored }
     {
-        // The answer is not used: the call tells the proof that the heap is sound.
+        // The result is not used: the call states to the proof that the heap is sound.
         let _count = heap.count();
         Mirror { heap }
     }

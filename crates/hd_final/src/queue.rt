@@ -1,4 +1,4 @@
-// The queue, seen by its callers as the list of the addresses that wait and its room.
+// The queue, seen by its callers as the list of the queued addresses and its room.
 ghost use Rattle.std.specs.Prelude.{◌≡◌, ℕ, ◌<◌, ◌≤◌, true, [], ◌∷◌, length, drop, map, max, slice_index_or, Contains};
 ghost use Rattle.std.specs.Prelude.{IfOk, MatchOption, MatchResult};
 ghost use Rattle.std.specs.FinMap as map;
@@ -17,8 +17,8 @@ use std::alloc::Global;
 use std::collections::VecDeque;
 use std::marker::Model;
 
-/// The objects that wait for their finalizers, the first to go first, with room for as many as may
-/// join in a collection. Nothing waits twice.
+/// The objects that are queued for finalisation, the next one first, with room for as many as may
+/// join in a collection. No object is queued twice.
 #[derive(Drop)]
 pub struct Final {
     waiting: VecDeque<Addr>,
@@ -56,8 +56,8 @@ impl Final {
         })
     }
 
-    /// Takes memory, so that there is room for at least so many objects. `revive` asks for as much
-    /// room as the heap has objects, and takes none.
+    /// Takes memory, so that there is room for at least `objects` objects. `revive` requires as
+    /// much room as the heap has objects, and takes no memory.
     pub fn reserve(&mut self, objects: u32) -> Result<(), Memory>
         ensures { MatchResult result
             (λ _. self.new ≡ record self.old { room = max objects self.old.room })
@@ -78,8 +78,9 @@ impl Final {
         Ok(())
     }
 
-    /// Promotes the registered condemned objects that are not promoted, and puts them after those
-    /// that wait, in the order of their identities. Answers how many. No older object is looked at.
+    /// Promotes the registered condemned objects that are not promoted, and queues them after the
+    /// others, in the order of their identities. Returns their number. No older object is looked
+    /// at.
     pub fn revive<M: Marker>(&mut self, heap: &Heap, marker: &mut M, n: u8) -> u32
         requires settled { M.settled marker.old }
         requires basis { M.basis marker.old ≡ record { heap = heap.now; condemned = n } }
@@ -102,8 +103,8 @@ impl Final {
         self.joiners.len() as u32
     }
 
-    /// Takes the registrations of those away that wait from place `from` on: the ones that joined
-    /// last, since an object that waits may be registered again.
+    /// Removes the registrations of the queued objects from position `from` on: the ones that
+    /// joined last, since a queued object may be registered again.
     pub fn settle(&self, heap: &mut Heap, from: u32)
         requires { (a : Addr) → Contains self.now.waiting a → has_object heap.old a ≡ true }
         ensures { Unregisters (drop from self.now.waiting) heap.old heap.new }
@@ -113,7 +114,7 @@ impl Final {
         }
     }
 
-    /// Each one that waits stands at its new place.
+    /// Replaces each queued address by its forwarding address.
     pub fn relocate<F: Forward>(&mut self, forward: &F)
         requires laid { F.laid forward.now }
         requires kept { (a : Addr) → Contains self.old.waiting a → F.kept forward.now a ≡ true }
@@ -126,7 +127,7 @@ impl Final {
         }
     }
 
-    /// Takes the first one that waits, in constant time.
+    /// Takes the first queued object out, in constant time.
     pub fn pop(&mut self) -> Option<Addr>
         ensures { MatchOption result
             ((self.old.waiting ≡ []) × (self.new ≡ self.old))
@@ -135,7 +136,7 @@ impl Final {
         self.waiting.pop_front()
     }
 
-    /// How many wait.
+    /// The number of queued objects.
     pub fn len(&self) -> u32
         ensures value { result ≡ length self.now.waiting }
         ensures queue { IsQueue self.now }
@@ -143,7 +144,7 @@ impl Final {
         self.waiting.len() as u32
     }
 
-    /// The one that waits at place `i`, from 0.
+    /// The queued object at position `i`, from 0.
     pub fn at(&self, i: u32) -> Addr
         requires { i < length self.now.waiting }
         ensures { (d : Addr) → result ≡ slice_index_or self.now.waiting i d }

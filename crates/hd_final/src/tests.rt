@@ -11,8 +11,8 @@ use std::alloc::Global;
 use std::process::Abort;
 use std::test::Fail;
 
-// An object without fields for each flag, registered or not. Identities fall to 1, so that they
-// stand in another order than addresses.
+// An object without fields for each flag, registered or not. Identities fall to 1, so that they are
+// in another order than addresses.
 fn heap_of(alloc: Global, registered: &[bool]) -> Result<Heap, Memory>
     ensures { IfOk result (λ h. IsBare h 0) }
 {
@@ -27,7 +27,7 @@ fn heap_of(alloc: Global, registered: &[bool]) -> Result<Heap, Memory>
     Ok(heap)
 }
 
-// Revives for an empty queue. The first object of the heap may be promoted before.
+// Resurrects into an empty queue. The first object of the heap may be promoted before.
 fn revive(
     alloc: Global,
     heap: &Heap,
@@ -70,7 +70,7 @@ fn age(heap: &mut Heap)
     }
 }
 
-// Takes the registrations away of those that wait from a place on.
+// Removes the registrations of the queued objects from a position on.
 fn settle(heap: &mut Heap, queue: &Final, from: u32)
     requires { (a : Addr) → Contains queue.now.waiting a → has_object heap.old a ≡ true }
     ensures { (a : Addr) → Contains queue.now.waiting a → has_object heap.new a ≡ true }
@@ -78,7 +78,7 @@ fn settle(heap: &mut Heap, queue: &Final, from: u32)
     queue.settle(heap, from);
 }
 
-// Takes all that wait, which have these identities, in this order, and are registered or not.
+// Takes all queued objects, which have these identities, in this order, and are registered or not.
 fn take_all(rt: &impl Abort, heap: &Heap, queue: &mut Final, ids: &[(u64, bool)])
     requires { (a : Addr) → Contains queue.old.waiting a → has_object heap.now a ≡ true }
 {

@@ -10,10 +10,10 @@ use Rattle.hd_cells.specs.Region.{Contents, IsObject, IsLaidOut, object_at, with
 use Rattle.hd_heap.specs.declared.area.Area.{Area}
 use Rattle.hd_heap.specs.Areas.{contents, card_in, BeginsIn, IsArea}
 use Rattle.hd_heap.specs.Steps.{IsTaken}
-use Rattle.hd_heap.proofs.Places.{found_first, found_later}
+use Rattle.hd_heap.proofs.IndexedLists.{found_first, found_later}
 use Rattle.hd_model.proofs.Sums.{share, sum-insert, sum-taken, sum-at}
 
--- the object that stands at an offset
+-- the object at an offset
 pub some_of : {A : Type 0} (o : Option A) → is_some o ≡ true → (x : A) × (o ≡ Some x)
 some_of None e = absurd (cc e)
 some_of (Some x) e = (x, refl)
@@ -118,7 +118,7 @@ pub no_cards : (a : Area) → IsArea a → ((k : ℕ) → ¬ (IsObject (contents
     → card_in (Some a) card ≡ false
 no_cards a is none card = false_from_ne_true _ (λ set. let b = is.cards card set in none b.at b.object)
 
--- no object takes cells where none are taken
+-- no object takes words where none are taken
 pub none_live : (a : Area) → IsArea a → a.live ≡ 0 → (k : ℕ) → ¬ (IsObject (contents a) k)
 none_live a is zero_live k there =
     let low = sum-at size_of (contents a).objects k (object_at (contents a) k)
@@ -142,19 +142,6 @@ live_at a is k there =
     (object_there (contents a) k there) in
     let live = is.live in
     omega arith
-
-object_left : (r : Contents) (at k : ℕ) → IsObject (without_object r at) k → (k ≢ at) × IsObject r k
-object_left r at k is = (
-  (λ same. both_ways _ (ap is_some (map.get-remove nat_cmp_total r.objects at k
-      ∙ found_first k at None (map.get r.objects k) same)) is),
-  elim (cases_eq k at) [
-    | inl same ↦ absurd (both_ways _
-        (ap is_some (map.get-remove nat_cmp_total r.objects at k
-        ∙ found_first k at None (map.get r.objects k) same)) is)
-    | inr apart ↦ sym (ap is_some (map.get-remove nat_cmp_total r.objects at k
-        ∙ found_later k at None (map.get r.objects k) apart)) ∙ is
-  ],
-)
 
 object_stays : (r : Contents) (at k : ℕ) → (k ≢ at) → IsObject r k → IsObject (without_object r at) k
 object_stays r at k apart is = ap is_some (map.get-remove nat_cmp_total r.objects at k

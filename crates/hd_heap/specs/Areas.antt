@@ -1,4 +1,4 @@
--- The regions of a heap, read as its objects, its held regions and its set cards.
+-- The regions of a heap, read as its objects, its regions in use and its set cards.
 use Rattle.std.specs.Prelude.{◌≡◌, ℕ, zero, suc, ◌/◌, ◌≤◌, Bool, true, false, if◌then◌else◌, List, map, length, sum_by, IsTrue, slice_index_or, Option, Some, None, option_map}
 use Rattle.std.specs.FinMap.{FinMap, get, values, contains_key}
 use Rattle.std.specs.FinSet.{FinSet}
@@ -12,15 +12,15 @@ use Rattle.hd_heap.specs.declared.area.TheConstants.{CARDS}
 use Rattle.hd_heap.specs.declared.area.Area.{Area}
 use Rattle.hd_heap.specs.Places.{by_place, places_of, from_one, tables}
 
--- the objects of a region by offset, and its fill
+-- the objects of a region by offset, and its allocation pointer
 abbrev pub contents : Area → Contents
 contents a = a.region.value
 
--- the region of a number, which begin with 1
+-- the region of a number; numbers begin with 1
 abbrev pub area_at : List Area → ℕ → Option Area
 area_at areas r = slice_index_or (from_one areas) r None
 
--- what stands in a field, and how: 0 is null
+-- what a field references, and how it is stored: 0 is null
 abbrev pub address : ℕ → Option Addr
 address zero = None
 address (suc a) = Some (record { 0 = suc a })
@@ -52,7 +52,7 @@ abbrev pub card_in : Option Area → ℕ → Bool
 card_in None k = false
 card_in (Some a) k = slice_index_or a.cards k false
 
--- the objects, held regions and set cards of all regions
+-- the objects, regions in use and set cards of all regions
 abbrev pub objects_in : List Area → FinMap nat_cmp Placed
 objects_in areas = by_place (tables REGION placed_in (from_one areas))
 
@@ -79,7 +79,7 @@ pub record BeginsIn (r : Contents) (card : ℕ) : Type 0 where
   pub in_card : at / CARD ≡ card
 
 -- what every region of a heap keeps: `live` is the sum of its objects' sizes, a set card has an object, and a
--- spare one is empty
+-- free region is empty
 pub record IsArea (a : Area) : Type 0 where
   pub laid_out : IsLaidOut (contents a)
   pub live : a.live ≡ sum_by size_of (values (contents a).objects)

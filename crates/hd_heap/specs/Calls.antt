@@ -1,8 +1,8 @@
--- What the calls of a heap answer, and how they leave it.
-use Rattle.std.specs.Prelude.{◌≡◌, ◌≢◌, ℕ, ◌+◌, ◌*◌, ◌<◌, ◌≤◌, ◌&&◌, Bool, true, false, if◌then◌else◌, [], drop, replicate, slice_set, nat_lt, nat_le, Option, Some, None, MatchOption}
+-- What the calls of a heap return, and how they leave it.
+use Rattle.std.specs.Prelude.{◌≡◌, ◌≢◌, ℕ, ◌+◌, ◌*◌, ◌<◌, ◌≤◌, ◌&&◌, Bool, true, false, if◌then◌else◌, [], drop, length, replicate, slice_set, slice_index, nat_lt, nat_le, Option, Some, None, MatchOption}
 use Rattle.std.specs.FinMap as map
 use Rattle.std.specs.FinSet as set
-use Rattle.hd_model.specs.declared.limits.TheConstants.{REGION}
+use Rattle.hd_model.specs.declared.limits.TheConstants.{REGION, LEFT}
 use Rattle.hd_model.specs.declared.data.Id.{Id}
 use Rattle.hd_model.specs.declared.data.Addr.{Addr}
 use Rattle.hd_model.specs.Scene.{generation_at}
@@ -10,7 +10,7 @@ use Rattle.hd_model.specs.Heap.{Placed, Heap, region_of, card_of, region_at, reg
 use Rattle.hd_heap.specs.declared.fault.NewFault.{NewFault}
 use Rattle.hd_heap.specs.declared.fault.NewFault.TheVariants.{Full, Memory}
 
--- a heap without objects, and with no region held or spare
+-- a heap without objects, and with no region in use or free
 abbrev pub empty_heap : ℕ → Heap
 empty_heap limit = record {
   objects = map.empty;
@@ -20,7 +20,7 @@ empty_heap limit = record {
   cards = set.empty;
 }
 
--- an object as it begins: its fields are null and its value is 0
+-- a new object: its fields are null and its value is 0
 abbrev pub new_object : Id → ℕ → Bool → Placed
 new_object id count registered = record {
   id = id;
@@ -33,7 +33,7 @@ new_object id count registered = record {
 abbrev pub with_object : Heap → Addr → Placed → Heap
 with_object h a o = record h { objects = map.insert h.objects a.0 o }
 
--- the objects and fills of a heap with an object put after all others of a region
+-- the objects and allocation pointers of a heap with an object put after all others of a region
 abbrev pub with_put : Heap → ℕ → ℕ → Placed → Heap
 with_put h r generation o = record h {
   objects = map.insert h.objects (r * REGION + (region_at h r).fill) o;
@@ -41,24 +41,32 @@ with_put h r generation o = record h {
       (record { generation = generation; fill = (region_at h r).fill + cells_of o });
 }
 
--- one object more, in a region of generation 0, which was held or is the first spare one; with none spare,
--- memory is taken for one
+-- no region of generation 0 has room for one more of the largest objects, which have 64 words: at least 193
+-- of its 256 are taken
+abbrev pub AreFull : Heap → Type 0
+AreFull h = (r : ℕ) → is_held h r ≡ true → region_generation h r ≡ 0 → LEFT ≤ (region_at h r).fill
+
+-- one object more, in a region of generation 0: one that was in use, or, where all those are full, the first
+-- free one; with none free, memory is taken for one
 pub record IsMade (old new : Heap) (at : Addr) (o : Placed) : Type 0 where
   pub fits : used_of old + cells_of o ≤ old.limit
   pub place : at.0 ≡ region_of at * REGION + (region_at old (region_of at)).fill
   pub was_free : has_object old at ≡ false
   pub young : region_generation old (region_of at) ≡ 0
+  pub full : is_held old (region_of at) ≡ false → AreFull old
+  pub first : is_held old (region_of at) ≡ false → 0 < length old.spare
+      → region_of at ≡ slice_index old.spare 0
   pub made : new ≡ record (with_put old (region_of at) 0 o) {
     spare = if is_held old (region_of at) then old.spare else drop 1 old.spare;
   }
 
--- nothing is changed; the heap is full just where the limit does not allow so many cells more
+-- nothing is changed; the heap is full exactly where the limit does not allow `cells` more words
 abbrev pub IsRefused : Heap → Heap → ℕ → NewFault → Type 0
 IsRefused old new cells (Full used size) = (new ≡ old) × (used ≡ used_of old) × (size ≡ cells)
     × (old.limit < used_of old + cells)
 IsRefused old new cells Memory = (new ≡ old) × (used_of old + cells ≤ old.limit)
 
--- memory is asked for only where no region is spare
+-- memory is asked for only where no region is free
 abbrev pub LacksSpare : Heap → NewFault → Type 0
 LacksSpare h (Full used size) = Unit {0}
 LacksSpare h Memory = h.spare ≡ []
@@ -72,7 +80,7 @@ abbrev pub is_younger : Heap → Addr → Option Addr → Bool
 is_younger h at None = false
 is_younger h at (Some v) = nat_lt (generation_at (object_at h) v) (generation_at (object_at h) at)
 
--- the write barrier: a field is written, and the card of its object is set where it now names a younger
+-- the write barrier: a field is written, and the card of its object is set where it now references a younger
 -- object (as CoreCLR's)
 abbrev pub stored : Heap → Addr → ℕ → Option Addr → Heap
 stored h at i v = record (with_object h at (with_field (placed_at h at) i v)) {
@@ -83,12 +91,12 @@ stored h at i v = record (with_object h at (with_field (placed_at h at) i v)) {
 abbrev pub with_card : Heap → ℕ → Bool → Heap
 with_card h card on = record h { cards = if on then set.insert h.cards card else set.remove h.cards card }
 
--- an address after this place; each is after none
+-- an address after another one; each is after none
 abbrev pub is_after : Option Addr → Addr → Bool
 is_after None a = true
 is_after (Some b) a = nat_lt b.0 a.0
 
--- the least address after a place of which p holds
+-- the least address of which p holds after another one
 pub record IsNext (p : Addr → Bool) (after : Option Addr) (a : Addr) : Type 0 where
   pub member : p a ≡ true
   pub beyond : is_after after a ≡ true
@@ -107,18 +115,18 @@ is_old_carded h n a = has_object h a && nat_lt n (generation_at (object_at h) a)
 abbrev pub is_condemned : Heap → ℕ → Addr → Bool
 is_condemned h n a = has_object h a && nat_le (generation_at (object_at h) a) n
 
--- a spare region is held, without objects
+-- a free region is taken into use, without objects
 abbrev pub with_fresh : Heap → ℕ → ℕ → Heap
 with_fresh h r generation = record h {
   regions = map.insert h.regions r (record { generation = generation; fill = 0 });
   spare = drop 1 h.spare;
 }
 
--- an object stands a second time, after all others of a region
+-- an object is in the heap a second time, after all others of a region
 abbrev pub with_copy : Heap → Addr → ℕ → Heap
 with_copy h from r = with_put h r (region_generation h r) (placed_at h from)
 
--- the object is gone, and its card is clear unless another object starts in it
+-- the object is removed, and its card is clear unless another object starts in it
 pub record IsRemoved (old new : Heap) (at : Addr) : Type 0 where
   pub removed : new ≡ record old { objects = map.remove old.objects at.0; cards = new.cards }
   pub others : (c : ℕ) → c ≢ card_of at → is_set new c ≡ is_set old c

@@ -6,14 +6,14 @@ use Rattle.hd_model.specs.Heap.{cells_of}
 use Rattle.hd_heap.specs.declared.area.Area.{Area}
 use Rattle.hd_heap.specs.Areas.{area_at, region_in, objects_in, regions_in, IsArea}
 
--- a number of a region that is not held
+-- a number of a region that is not in use
 pub record IsSpare (areas : List Area) (n : ℕ) : Type 0 where
   pub low : 0 < n
   pub high : n ≤ length areas
   pub free : region_in (area_at areas n) ≡ None
 
--- the cells, objects and held regions are counted; each region is held or stands once in the list of spare
--- ones, which has room for all
+-- the words, objects and regions in use are counted; each region is in use or once in the list of free ones,
+-- which has room for all
 pub record IsKept (areas : List Area) (spares : List ℕ) (capacity cells objects holds : ℕ) : Type 0 where
   pub each : (r : ℕ) (a : Area) → area_at areas r ≡ Some a → IsArea a
   pub few : length areas < REGIONS

@@ -11,10 +11,10 @@ pub record StartsIn (h : Heap) (card : ℕ) : Type 0 where
   pub object : has_object h at ≡ true
   pub in_card : card_of at ≡ card
 
--- objects have an identity and at most 61 fields, and lie apart, below the fills of held regions; held and
--- spare regions have different numbers, from 1 on, with which every address is below 2 ^ 32; and a set card has
--- an object. Not kept: that identities differ, that fields name objects, that all sizes together are within
--- the limit.
+-- objects have an identity and at most 61 fields, and lie apart, below the allocation pointers of regions in
+-- use; regions in use and free ones have different numbers, from 1 on, with which every address is below
+-- 2^32; and a set card has an object. Not kept: that identities differ, that fields reference objects, that
+-- all sizes together are within the limit.
 pub record IsSound (h : Heap) : Type 0 where
   pub held : (a : Addr) → has_object h a ≡ true → is_held h (region_of a) ≡ true
   pub within : (a : Addr) → has_object h a ≡ true

@@ -1,7 +1,7 @@
 -- What the private steps of a heap do.
-use Rattle.std.specs.Prelude.{◌≡◌, ◌≢◌, ℕ, ◌+◌, ◌/◌, ◌<◌, ◌≤◌, ◌&&◌, ◌⊎◌, Bool, true, false, nat_lt, nat_le, ⊤, Option, Some, None, MatchOption}
+use Rattle.std.specs.Prelude.{◌≡◌, ◌≢◌, ℕ, ◌+◌, ◌/◌, ◌<◌, ◌≤◌, ◌&&◌, ◌⊎◌, Bool, true, false, nat_lt, nat_le, length, slice_index, ⊤, Option, Some, None, MatchOption}
 use Rattle.std.specs.FinMap.{contains_key}
-use Rattle.hd_model.specs.declared.limits.TheConstants.{REGION, CARD}
+use Rattle.hd_model.specs.declared.limits.TheConstants.{REGION, CARD, LEFT}
 use Rattle.hd_model.specs.declared.data.Addr.{Addr}
 use Rattle.hd_model.specs.Heap.{Heap, has_object, is_held, region_at, region_generation}
 use Rattle.hd_heap.specs.declared.area.Area.{Area}
@@ -10,22 +10,35 @@ use Rattle.hd_heap.specs.declared.area.Wanted.TheVariants.{Any, Carded, Condemne
 use Rattle.hd_cells.specs.Region.{IsObject, object_at, without_object}
 use Rattle.hd_cells.specs.Object.{size_of}
 use Rattle.hd_heap.specs.Areas.{contents, card_in}
-use Rattle.hd_heap.specs.Calls.{is_old_carded, with_fresh, is_condemned}
+use Rattle.hd_heap.specs.Calls.{is_old_carded, with_fresh, is_condemned, AreFull}
 
--- a held region of generation 0 with so many cells left
+-- a region in use of generation 0 with `cells` words left
 pub record HasRoom (h : Heap) (region cells : ℕ) : Type 0 where
   pub held : is_held h region ≡ true
   pub young : region_generation h region ≡ 0
   pub room : (region_at h region).fill + cells ≤ REGION
 
--- there is such a region, which was held or is the first spare one, and it is held now; with none spare,
--- memory was taken for one
+-- each region of generation 0 is full, except this one; 0 is no region, and then nothing is said
+abbrev pub AreOthersFull : Heap → ℕ → Type 0
+AreOthersFull h current =
+    (r : ℕ) → current ≢ 0 → is_held h r ≡ true → region_generation h r ≡ 0 → r ≢ current
+    → LEFT ≤ (region_at h r).fill
+
+-- a region that was not in use is now, since all of generation 0 are full: the first free one, or one for
+-- which memory was taken
+pub record IsBegun (old new : Heap) (region : ℕ) : Type 0 where
+  pub was_free : is_held old region ≡ false
+  pub full : AreFull old
+  pub first : 0 < length old.spare → region ≡ slice_index old.spare 0
+  pub fresh : new ≡ with_fresh old region 0
+
+-- there is such a region, which was in use or was begun
 pub record IsRoom (old new : Heap) (region cells : ℕ) : Type 0 where
   pub room : HasRoom new region cells
   pub how : ((new ≡ old) × (is_held old region ≡ true))
-      ⊎ ((is_held old region ≡ false) × (new ≡ with_fresh old region 0))
+      ⊎ IsBegun old new region
 
--- an object that a walk gives: any one, one of a generation above n that starts in a set card, or one of no
+-- an object that a walk returns: any one, one of a generation above n that starts in a set card, or one of no
 -- generation above n
 abbrev pub is_wanted : Heap → Wanted → Addr → Bool
 is_wanted h Any = has_object h
@@ -45,7 +58,7 @@ IsAsked Any generation = ⊤
 IsAsked (Carded n) generation = n < generation
 IsAsked (Condemned n) generation = generation ≤ n
 
--- the least offset from a place on of which p holds, or None
+-- the least offset of which p holds from an offset on, or None
 abbrev pub IsFirstAt : (ℕ → Bool) → ℕ → Option ℕ → Type 0
 IsFirstAt p from answer = MatchOption answer
     ((q : ℕ) → from ≤ q → p q ≡ false)
@@ -55,7 +68,7 @@ IsFirstAt p from answer = MatchOption answer
 abbrev pub IsFirstSince : (ℕ → Bool) → Option ℕ → Option ℕ → Type 0
 IsFirstSince p first answer = MatchOption first (answer ≡ None) (λ at. IsFirstAt p at answer)
 
--- the least address from a place on of which p holds; None where there is none, or none below another place
+-- the least address of which p holds from `low` on; None where there is none, or none below `high`
 abbrev pub IsLeastBetween : (Addr → Bool) → ℕ → ℕ → Option Addr → Type 0
 IsLeastBetween p low high answer = MatchOption answer
     ((a : Addr) → p a ≡ true → low ≤ a.0 → high ≤ a.0)
@@ -66,7 +79,7 @@ IsLeastFrom p low answer = MatchOption answer
     ((a : Addr) → p a ≡ true → a.0 < low)
     (λ a. (p a ≡ true) × (low ≤ a.0) × ((b : Addr) → p b ≡ true → low ≤ b.0 → a.0 ≤ b.0))
 
--- an object of a region is gone, and its card is clear unless another one begins in it
+-- an object of a region is removed, and its card is clear unless another one begins in it
 pub record IsTaken (old new : Area) (at cells : ℕ) : Type 0 where
   pub removed : contents new ≡ without_object (contents old) at
   pub size : cells ≡ size_of (object_at (contents old) at)

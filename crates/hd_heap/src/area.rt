@@ -14,8 +14,8 @@ use std::boxed::Box;
 /// The cards of a region.
 pub(crate) const CARDS: usize = (REGION / CARD) as usize;
 
-/// A region of a heap, held or spare: its objects, its generation, whether each of its cards is set,
-/// and the cells that its objects take.
+/// A region of a heap, in use or free: its objects, its generation, whether each of its cards is
+/// set, and the number of words that its objects take.
 #[derive(Drop)]
 pub(crate) struct Area {
     pub(crate) region: Box<Region>,
@@ -25,8 +25,8 @@ pub(crate) struct Area {
     pub(crate) live: u32,
 }
 
-/// What a walk gives: any object, one of a generation above a number that starts in a set card, or
-/// one of no generation above a number.
+/// What a walk returns: any object, one of a generation above a number that starts in a set card,
+/// or one of no generation above a number.
 #[derive(Clone, Copy)]
 pub(crate) enum Wanted {
     Any,
@@ -34,8 +34,8 @@ pub(crate) enum Wanted {
     Condemned(u8),
 }
 
-/// The offset of the first object after an offset, in time by the gaps between where an object
-/// begins there.
+/// The offset of the first object after an offset. Where an object begins at the offset, this takes
+/// time by the gaps between the two.
 fn offset_after(region: &Region, offset: u32) -> Option<u32>
     requires { offset < REGION }
     ensures { IsFirstFrom region.now (offset + 1) result }
@@ -48,7 +48,7 @@ fn offset_after(region: &Region, offset: u32) -> Option<u32>
 }
 
 impl Area {
-    /// A spare region without objects.
+    /// A free region without objects.
     pub(crate) fn spare(region: Box<Region>) -> Area
         requires empty { region.value ≡ empty_region }
         requires laid_out { IsLaidOut region.value }
@@ -66,7 +66,7 @@ impl Area {
         }
     }
 
-    /// Holds a spare region.
+    /// Takes a free region into use.
     pub(crate) fn hold(&mut self, generation: u8)
         requires area { IsArea self.old }
         requires generation { generation ≤ OLDEST }
@@ -77,7 +77,7 @@ impl Area {
         self.generation = generation;
     }
 
-    /// Makes a region without objects spare. What its cells held is gone.
+    /// Frees a region without objects. What its words had is gone.
     pub(crate) fn give_up(&mut self)
         requires area { IsArea self.old }
         requires no_object { (k : ℕ) → ¬ (IsObject (contents self.old) k) }
@@ -90,7 +90,7 @@ impl Area {
         self.held = false;
     }
 
-    /// Puts an object after all others, and answers its offset.
+    /// Puts an object after all others, and returns its offset.
     pub(crate) fn put(&mut self, id: u64, fields: u32, registered: bool) -> u32
         requires area { IsArea self.old }
         requires held { self.old.held ≡ true }
@@ -111,7 +111,7 @@ impl Area {
         self.region.put_object(id, fields, registered)
     }
 
-    /// Takes an object away, and answers its size. Its card is clear where no other object starts.
+    /// Removes an object, and returns its size. Its card is clear where no other object starts.
     pub(crate) fn remove(&mut self, at: u32) -> u32
         requires area { IsArea self.old }
         requires object { IsObject (contents self.old) at }
@@ -140,7 +140,8 @@ impl Area {
         }
     }
 
-    /// The offset of the first object that is wanted. Where there can be none, no object is looked at.
+    /// The offset of the first object that is wanted. Where there can be none, no object is looked
+    /// at.
     pub(crate) fn first_wanted(&self, wanted: Wanted) -> Option<u32>
         requires { IsArea self.now }
         ensures { IsFirstAt (wants wanted self.now) 0 result }

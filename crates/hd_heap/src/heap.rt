@@ -1,15 +1,17 @@
-// A heap, seen by its callers as maps from addresses to objects and from numbers to held regions.
+// A heap, seen by its callers as maps from addresses to objects and from numbers to regions in use.
 ghost use Rattle.std.specs.Prelude.{◌≡◌, ◌≢◌, ℕ, ◌+◌, ◌*◌, ◌/◌, ◌%◌, ◌<◌, ◌≤◌, ◌++◌, ◌∷◌, []};
 ghost use Rattle.std.specs.Prelude.{Bool, true, false, length, max, take, replicate};
 ghost use Rattle.std.specs.Prelude.{slice_index, slice_index_or};
-ghost use Rattle.std.specs.Prelude.{None, Some, IfOk, IfErr, IfSome, OnOk, OnErr, MatchResult};
+ghost use Rattle.std.specs.Prelude.{None, Some, IfOk, IfErr, IfSome, OnOk, OnErr, MatchResult, MatchOption};
+ghost use Rattle.std.specs.Prelude.{cond, nat_eq};
+ghost use Rattle.std.specs.Bool.{Decides};
 ghost use Rattle.std.specs.FinMap as map;
 ghost use Rattle.hd_model.specs.Scene.{fields_at, generation_at};
 ghost use Rattle.hd_model.specs.Heap.{has_object, object_at, placed_at, cells_of, used_of};
 ghost use Rattle.hd_model.specs.Heap.{is_held, region_at, region_of, offset_of, region_generation, card_of};
 ghost use Rattle.hd_heap.specs.Sound.{IsSound};
 ghost use Rattle.hd_heap.specs.Calls.{empty_heap, new_object, with_object, with_put, with_field};
-ghost use Rattle.hd_heap.specs.Calls.{IsMade, IsRefused, LacksSpare};
+ghost use Rattle.hd_heap.specs.Calls.{IsMade, IsRefused, LacksSpare, AreFull};
 ghost use Rattle.hd_heap.specs.Calls.{stored, is_younger, with_card, IsWalk, is_old_carded, is_condemned};
 ghost use Rattle.hd_heap.specs.Calls.{with_fresh, with_copy, IsRemoved, with_generation};
 ghost use Rattle.hd_heap.specs.Areas.{number};
@@ -25,8 +27,8 @@ use std::boxed::Box;
 use std::collections::VecDeque;
 use std::marker::Model;
 
-/// The objects of a program by address, in regions, with the set cards. A region's memory is kept
-/// for another one where it is given up.
+/// The objects of a program by address, in regions, with the set cards. The memory of a released
+/// region is kept for another one.
 #[derive(Drop)]
 pub struct Heap {
     alloc: Global,
@@ -36,6 +38,7 @@ pub struct Heap {
     used: u32,
     count: u32,
     held: u32,
+    // The region of the last new object, or 0 where other ones may have room for the next.
     current: u32,
 }
 
@@ -50,14 +53,16 @@ impl Model for Heap {
     ghost use Rattle.std.specs.VecDeque.{deque_capacity};
     ghost use Rattle.hd_heap.specs.Areas.{heap_of};
     ghost use Rattle.hd_heap.specs.Kept.{IsKept};
+    ghost use Rattle.hd_heap.specs.Steps.{AreOthersFull};
 
     ghost view = { λ h. heap_of h.areas.items h.spare.items h.limit };
 
     ghost invariant = { λ h. IsKept h.areas.items h.spare.items (deque_capacity h.spare)
-        h.used h.count h.held };
+        h.used h.count h.held
+        × AreOthersFull (heap_of h.areas.items h.spare.items h.limit) h.current };
 }
 
-/// The place in the heap's list of the region in which an address lies.
+/// The index in the heap's list of the region in which an address lies.
 fn place_of(at: Addr) -> usize
     requires { REGION ≤ at.0 }
     ensures { result + 1 ≡ at.0 / REGION }
@@ -65,14 +70,14 @@ fn place_of(at: Addr) -> usize
     (at.0 / REGION - 1) as usize
 }
 
-/// The first cell of an address in its region.
+/// The offset of an address in its region, in words.
 fn offset_of(at: Addr) -> u32
     ensures { result ≡ offset_of at }
 {
     at.0 % REGION
 }
 
-/// The address of a cell of a region.
+/// The address of a word of a region.
 fn address_in(region: u32, offset: u32) -> Addr
     requires region { region < REGIONS }
     requires offset { offset < REGION }
@@ -81,7 +86,15 @@ fn address_in(region: u32, offset: u32) -> Addr
     Addr(region * REGION + offset)
 }
 
-/// A field as it stands in a cell: 0 for null.
+/// The region of the last new object after a region got a generation: 0, for none, where it is 0,
+/// since that region may then have room for a new object.
+fn still_current(current: u32, generation: u8) -> u32
+    ensures { result ≡ cond (nat_eq generation 0) 0 current }
+{
+    if generation == 0 { 0 } else { current }
+}
+
+/// A field as it is stored in a word: 0 for null.
 fn number_of(v: Option<Addr>) -> u32
     ensures { result ≡ number v }
 {
@@ -92,9 +105,10 @@ fn number_of(v: Option<Addr>) -> u32
 }
 
 impl Heap {
-    /// An empty heap. `limit` bounds the sizes of all objects together, in cells.
+    /// An empty heap. `limit` bounds the sizes of all objects together, in words. No memory is
+    /// taken.
     pub fn open(alloc: Global, limit: u32) -> Result<Heap, Memory>
-        ensures { IfOk result (λ h. h ≡ empty_heap limit) }
+        ensures { MatchResult result (λ h. h ≡ empty_heap limit) (λ _. ⊥) }
     {
         Ok(Heap {
             alloc,
@@ -108,8 +122,8 @@ impl Heap {
         })
     }
 
-    /// Makes an object of generation 0 with null fields and value 0. Room within the limit is asked
-    /// for before memory, and after a refusal nothing is changed.
+    /// Makes an object of generation 0 with null fields and value 0. The limit is checked before
+    /// memory is asked for, and after a refusal nothing is changed.
     pub fn new_object(&mut self, id: Id, fields: u32, registered: bool) -> Result<Addr, NewFault>
         requires identified { id.0 ≢ 0 }
         requires few_fields { fields ≤ FIELDS }
@@ -157,7 +171,7 @@ impl Heap {
         self.areas[place_of(at)].region.value(offset_of(at))
     }
 
-    /// Gives the object at `at` another value.
+    /// Sets the value of the object at `at`.
     pub fn set_value(&mut self, at: Addr, v: u64)
         requires { has_object self.old at ≡ true }
         ensures { let after = record (placed_at self.old at) { value = v } in
@@ -174,8 +188,8 @@ impl Heap {
         self.areas[place_of(at)].region.registered(offset_of(at))
     }
 
-    /// Registers the object at `at` for finalisation, or takes its registration away, also where it
-    /// stands so already.
+    /// Registers the object at `at` for finalisation, or removes its registration, also where that
+    /// is so already.
     pub fn set_registered(&mut self, at: Addr, on: bool)
         requires { has_object self.old at ≡ true }
         ensures { let after = record (placed_at self.old at) { registered = on } in
@@ -220,7 +234,7 @@ impl Heap {
         }
     }
 
-    /// Makes the card in which the object at `at` starts set or clear.
+    /// Sets or clears the card in which the object at `at` starts.
     pub fn set_card(&mut self, at: Addr, on: bool)
         requires { has_object self.old at ≡ true }
         ensures { self.new ≡ with_card self.old (card_of at) on }
@@ -229,14 +243,14 @@ impl Heap {
         self.areas[place_of(at)].cards[card] = on;
     }
 
-    /// What the sizes of all objects together may be at most, in cells.
+    /// The limit of the sizes of all objects together, in words.
     pub fn limit(&self) -> u32
         ensures { result ≡ self.now.limit }
     {
         self.limit
     }
 
-    /// The sizes of all objects together, in cells.
+    /// The sizes of all objects together, in words.
     pub fn used(&self) -> u32
         ensures value { result ≡ used_of self.now }
         ensures sound { IsSound self.now }
@@ -252,7 +266,7 @@ impl Heap {
         self.count
     }
 
-    /// The number of held regions.
+    /// The number of regions in use.
     pub fn regions(&self) -> u32
         ensures value { result ≡ map.len self.now.regions }
         ensures sound { IsSound self.now }
@@ -288,8 +302,8 @@ impl Heap {
         self.walk(after, Wanted::Condemned(n))
     }
 
-    /// Takes memory for spare regions, so that there are at least `count`. Where there is none left,
-    /// those that were taken stay spare.
+    /// Takes memory for free regions, so that there are at least `count`. Where memory runs out,
+    /// those that were taken stay free.
     pub fn reserve_regions(&mut self, count: u32) -> Result<(), Memory>
         ensures same { self.new ≡ record self.old { spare = self.new.spare } }
         ensures kept { take (length self.old.spare) self.new.spare ≡ self.old.spare }
@@ -303,7 +317,7 @@ impl Heap {
         Ok(())
     }
 
-    /// The number of the region that the `i`-th later `fresh` gives, from 0.
+    /// The number of the region that the `i`-th later `fresh` returns, from 0.
     pub fn spare_number(&self, i: u32) -> u32
         requires { i < length self.now.spare }
         ensures { result ≡ slice_index self.now.spare i }
@@ -311,7 +325,8 @@ impl Heap {
         self.spare[i as usize]
     }
 
-    /// Holds the first spare region, which has no object and no set card, and answers its number.
+    /// Takes the first free region into use, which has no object and no set card, and returns its
+    /// number.
     pub fn fresh(&mut self, generation: u8) -> u32
         requires spare { 0 < length self.old.spare }
         requires generation { generation ≤ OLDEST }
@@ -323,10 +338,12 @@ impl Heap {
         let _ = self.spare.pop_front();
         self.areas[number as usize - 1].hold(generation);
         self.held += 1;
+        self.current = still_current(self.current, generation);
         number
     }
 
-    /// Copies the object at `from` after all others of a region. It stands twice from then on.
+    /// Copies the object at `from` after all others of a region. It is in the heap twice from then
+    /// on.
     pub fn copy_into(&mut self, from: Addr, region: u32) -> Addr
         requires object { has_object self.old from ≡ true }
         requires held { is_held self.old region ≡ true }
@@ -343,7 +360,7 @@ impl Heap {
         copy
     }
 
-    /// Takes the object at `at` away. Fields that name it stay as they are.
+    /// Removes the object at `at`. Fields that reference it stay as they are.
     pub fn remove(&mut self, at: Addr)
         requires { has_object self.old at ≡ true }
         ensures { IsRemoved self.old self.new at }
@@ -353,16 +370,17 @@ impl Heap {
         self.count -= 1;
     }
 
-    /// Gives a held region, and with it its objects, another generation.
+    /// Gives a region in use, and with it its objects, another generation.
     pub fn set_generation(&mut self, region: u32, generation: u8)
         requires held { is_held self.old region ≡ true }
         requires generation { generation ≤ OLDEST }
         ensures { self.new ≡ with_generation self.old region generation }
     {
         self.areas[region as usize - 1].generation = generation;
+        self.current = still_current(self.current, generation);
     }
 
-    /// Gives up a held region without objects. It becomes the last spare one.
+    /// Releases a region in use without objects. It becomes the last free one.
     pub fn release(&mut self, region: u32)
         requires held { is_held self.old region ≡ true }
         requires no_object { (a : Addr) → has_object self.old a ≡ true → region_of a ≢ region }
@@ -376,14 +394,14 @@ impl Heap {
         self.spare.push_back_reserved(region);
     }
 
-    /// The number of spare regions.
+    /// The number of free regions.
     fn spare_len(&self) -> u32
         ensures { result ≡ length self.now.spare }
     {
         self.spare.len() as u32
     }
 
-    /// Takes memory for one spare region more.
+    /// Takes memory for one more free region.
     fn add_spare(&mut self) -> Result<(), Memory>
         ensures ok { OnOk result ((n : ℕ) × (self.new ≡ record self.old {
           spare = self.old.spare ++ n ∷ [];
@@ -408,17 +426,16 @@ impl Heap {
         Ok(())
     }
 
-    /// A held region of generation 0 with so many cells left: the one in which the last object was
-    /// made, or a fresh one.
+    /// A region in use of generation 0 with `size` words left: one with room, or a free one where
+    /// none has room for the largest object.
     fn room_for(&mut self, size: u32) -> Result<u32, Memory>
         requires { size ≤ FIELDS + HEADER }
         ensures ok { IfOk result (λ region. IsRoom self.old self.new region size) }
         ensures err { OnErr result (self.new ≡ self.old) }
         ensures none { OnErr result (self.old.spare ≡ []) }
     {
-        let current = self.current;
-        if self.has_room(current, size) {
-            return Ok(current);
+        if let Some(region) = self.open_region(size) {
+            return Ok(region);
         }
         self.reserve_regions(1)?;
         let region = self.fresh(0);
@@ -426,10 +443,39 @@ impl Heap {
         Ok(region)
     }
 
-    /// Whether this is the number of a held region of generation 0 with so many cells left.
+    /// A region of generation 0 with `size` words left: that of the last new object alone, where
+    /// all others are full.
+    fn open_region(&self, size: u32) -> Option<u32>
+        requires { size ≤ FIELDS + HEADER }
+        ensures { MatchOption result (AreFull self.now) (λ region. HasRoom self.now region size) }
+    {
+        if self.current == 0 {
+            return self.first_open(size);
+        }
+        if self.has_room(self.current, size) {
+            Some(self.current)
+        } else {
+            None
+        }
+    }
+
+    /// The first region of generation 0 with `size` words left.
+    fn first_open(&self, size: u32) -> Option<u32>
+        requires { size ≤ FIELDS + HEADER }
+        ensures { MatchOption result (AreFull self.now) (λ region. HasRoom self.now region size) }
+    {
+        for place in 0..self.areas.len() {
+            if self.has_room(place as u32 + 1, size) {
+                return Some(place as u32 + 1);
+            }
+        }
+        None
+    }
+
+    /// Whether this is the number of a region in use of generation 0 with `size` words left.
     fn has_room(&self, region: u32, size: u32) -> bool
         requires { size ≤ FIELDS + HEADER }
-        ensures { result ≡ true → HasRoom self.now region size }
+        ensures { Decides result (HasRoom self.now region size) }
     {
         if region == 0 || region as usize > self.areas.len() {
             return false;
@@ -444,7 +490,7 @@ impl Heap {
         area.region.fill() + size <= REGION
     }
 
-    /// Puts an object after all others of a held region.
+    /// Puts an object after all others of a region in use.
     fn put(&mut self, region: u32, id: Id, fields: u32, registered: bool) -> Addr
         requires identified { id.0 ≢ 0 }
         requires few_fields { fields ≤ FIELDS }
@@ -474,7 +520,7 @@ impl Heap {
         }
     }
 
-    /// Writes a field, and looks at no card.
+    /// Writes a field, without the write barrier.
     fn write_field(&mut self, at: Addr, i: u32, v: Option<Addr>)
         requires object { has_object self.old at ≡ true }
         requires within { i < length (fields_at (object_at self.old) at) }
@@ -540,7 +586,7 @@ impl Heap {
             IsLeastBetween (is_wanted self.now wanted) (at.0 + 1) end result }
         ensures sound { IsSound self.now }
     {
-        // Read first for the proof: it brings the invariant to hand where the answer is early.
+        // Read first for the proof: it gives the invariant where the call returns early.
         let regions = self.areas.len();
         if at.0 < REGION {
             return None;
@@ -555,7 +601,7 @@ impl Heap {
         }
     }
 
-    /// The first object that is wanted in the regions from a place of the list on.
+    /// The first object that is wanted in the regions from an index of the list on.
     fn first_from(&self, first: usize, wanted: Wanted) -> Option<Addr>
         ensures first { IsLeastFrom (is_wanted self.now wanted) ((first + 1) * REGION) result }
         ensures sound { IsSound self.now }

@@ -1,5 +1,5 @@
-//! A garbage-collected heap: objects in regions of 256 cells, each of one generation, with cards
-//! that tell where older objects name younger ones.
+//! A garbage-collected heap: objects in regions of 256 words, each of one generation, with cards
+//! that mark where older objects reference younger ones.
 #![tactic(auto)]
 
 mod area;

@@ -7,7 +7,7 @@ use hd_model::{Addr, Id};
 use std::process::Abort;
 use std::test::Fail;
 
-/// Whether an object stands at an address.
+/// Whether an object is at an address.
 fn stands(heap: &Heap, at: Addr) -> bool
     ensures { result ≡ true → has_object heap.now at ≡ true }
 {
@@ -22,7 +22,7 @@ fn stands(heap: &Heap, at: Addr) -> bool
     }
 }
 
-/// The objects of a heap that a walk gives, up to three.
+/// The objects of a heap that a walk returns, up to three.
 fn walked(heap: &Heap) -> [Option<Addr>; 3] {
     let first = heap.next(None);
     let second = if first.is_some() {
@@ -68,7 +68,7 @@ fn a_removed_object_leaves_a_gap_that_a_walk_passes(rt: HostRuntime) -> Result<(
     Ok(())
 }
 
-/// Stores an object into a field of another one.
+/// Stores a reference to an object in a field of another one.
 fn store(rt: &impl Abort, heap: &mut Heap, at: Addr, i: u32, v: Addr) {
     assert!(rt; stands(heap, at) && stands(heap, v));
     assert!(rt; i < heap.fields(at));
@@ -86,16 +86,16 @@ fn raise(heap: &mut Heap, at: Addr, generation: u8)
     requires object { has_object heap.old at ≡ true }
     requires generation { generation ≤ OLDEST }
 {
-    // A read for the proof: it tells that the heap is sound, so that the region is held.
+    // A read for the proof: it states that the heap is sound, so that the region is in use.
     let _ = heap.regions();
     heap.set_generation(at.0 / REGION, generation);
 }
 
-/// Takes the last object of all away, and gives its region up.
+/// Removes the last object of all, and releases its region.
 fn give_up(rt: &impl Abort, heap: &mut Heap, last: Addr)
     requires { has_object heap.old last ≡ true }
 {
-    // A read for the proof: it tells that the heap is sound, so that the region is held.
+    // A read for the proof: it states that the heap is sound, so that the region is in use.
     let _ = heap.regions();
     heap.remove(last);
     let next = heap.next(None);

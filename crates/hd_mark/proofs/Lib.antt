@@ -1,6 +1,6 @@
-pub mod Setting
-pub mod Leaving
-pub mod Tracing
-pub mod Pushing
-pub mod Draining
-pub mod Walks
+pub mod MarkBits
+pub mod UnmarkedCount
+pub mod TraceInvariant
+pub mod MarkPush
+pub mod MarkDrain
+pub mod CondemnedWalks

@@ -1,4 +1,4 @@
--- How marks and pins stand in bits, and what is always true of the fields of a trace.
+-- How marks and pins are stored in bits, and what is always true of the fields of a trace.
 use Rattle.std.specs.Prelude.{◌≡◌, ℕ, ◌+◌, ◌*◌, ◌/◌, ◌%◌, ◌<◌, ◌≤◌, ◌==◌, not, Bool, true, false, List, length, filter, slice_index, slice_index_or, Contains, Option, Some, None, IsSome}
 use Rattle.std.specs.Int.{bit_at}
 use Rattle.std.specs.FinSet.{FinSet, contains}
@@ -14,12 +14,12 @@ use Rattle.hd_mark.specs.declared.bits.TheConstants.{BITS, WORDS}
 abbrev pub is_set : List ℕ → ℕ → Bool
 is_set words i = bit_at (slice_index words (i / BITS)) (i % BITS) == 1
 
--- the place of a region among the condemned ones, if it is one
+-- the index of a region among the condemned ones, if it is one
 abbrev pub place_at : List (Option ℕ) → ℕ → Option ℕ
 place_at places r = slice_index_or places r None
 
--- whether a cell of a region is marked: a condemned region has a bit for each cell, from REGION times its
--- place on
+-- whether a word of a region is marked: a condemned region has a bit for each word, from REGION times its
+-- index on
 abbrev pub is_set_in : List ℕ → Option ℕ → ℕ → Bool
 is_set_in words None k = false
 is_set_in words (Some p) k = is_set words (p * REGION + k)
@@ -28,12 +28,12 @@ is_set_in words (Some p) k = is_set words (p * REGION + k)
 unfoldable pub set_of : List (Option ℕ) → List ℕ → FinSet nat_cmp
 set_of places words = places_of (tables REGION (is_set_in words) places)
 
--- places are below the number of condemned regions, and no two regions have one
+-- indices are below the number of condemned regions, and no two regions share one
 pub record IsTable (places : List (Option ℕ)) (regions : ℕ) : Type 0 where
   pub within : (r p : ℕ) → place_at places r ≡ Some p → p < regions
   pub apart : (r s p : ℕ) → place_at places r ≡ Some p → place_at places s ≡ Some p → r ≡ s
 
--- the region of each condemned object has a place
+-- the region of each condemned object has an index
 abbrev pub Covers : Heap → ℕ → List (Option ℕ) → Type 0
 Covers h n places = (a : Addr) → is_condemned h n a ≡ true → IsSome (place_at places (region_of a))
 
@@ -42,7 +42,7 @@ abbrev pub end_of : Option Addr → ℕ
 end_of None = 0
 end_of (Some a) = region_of a + 1
 
--- at most so many addresses pass a test: they stand in a list of that length
+-- at most `count` addresses pass a test: they are in a list of that length
 pub record HasMembers (p : Addr → Bool) (count : ℕ) : Type 0 where
   pub members : List ℕ
   pub all : (a : Addr) → p a ≡ true → Contains members a.0

@@ -10,7 +10,7 @@ use std::alloc::Global;
 // The numbers of one word.
 const BITS: u32 = 64;
 
-// The words of one region: a bit for each of its cells.
+// The 64-bit words of one region: a bit for each word of the region.
 const WORDS: u32 = REGION / BITS;
 
 /// A set of numbers, each below BITS times the number of words.
@@ -20,7 +20,7 @@ pub(crate) struct Bits {
 }
 
 impl Bits {
-    /// The empty set, with room for a number for each cell of so many regions.
+    /// The empty set, with room for a number for each word of `regions` regions.
     pub(crate) fn open(alloc: Global, regions: u32) -> Result<Bits, Memory>
         requires { regions ≤ REGIONS }
         ensures long { IfOk result (λ b. length b.words.items ≡ WORDS * regions) }
@@ -41,7 +41,7 @@ impl Bits {
         self.words[(i / BITS) as usize] & bit(i % BITS) != 0
     }
 
-    /// A number joins.
+    /// Adds a number.
     #[tactic(auto, using(hd_mask::proofs::Bits::mask_bits))]
     pub(crate) fn insert(&mut self, i: u32)
         requires { i < BITS * length self.old.words.items }

@@ -96,7 +96,7 @@ impl<'h> Marker for Marks<'h> {
         self.trace.pinned(at)
     }
 
-    #[tactic(auto, using(crate::proofs::Draining::pins_settled))]
+    #[tactic(auto, using(crate::proofs::MarkDrain::pins_settled))]
     fn pin(&mut self, at: Addr) {
         self.trace.pin(at);
     }

@@ -1,4 +1,4 @@
-// The condemned regions of a heap: how many objects they have, and their places among themselves.
+// The condemned regions of a heap: how many objects they have, and their indices among themselves.
 ghost use Rattle.std.specs.Prelude.{◌≡◌, ℕ, ◌+◌, ◌*◌, ◌/◌, ◌%◌, ◌-◌, ◌<◌, ◌≤◌, true, length};
 ghost use Rattle.std.specs.Prelude.{IfOk, IfSome, IsSome};
 ghost use Rattle.hd_model.specs.Heap.{region_of, offset_of};
@@ -17,7 +17,7 @@ pub(crate) struct Extent {
     pub(crate) end: u32,
 }
 
-/// The places of condemned regions among themselves, by the number of the region. An older region
+/// The indices of condemned regions among themselves, by the number of the region. An older region
 /// has none.
 #[derive(Drop)]
 pub(crate) struct Places {
@@ -57,8 +57,9 @@ fn end_of(last: Option<Addr>) -> u32
 }
 
 impl Places {
-    /// Gives a place to each region that has an object of no generation above `n`, with a look at
-    /// the first of its objects alone.
+    /// Gives an index to each region that has an object of no generation above `n`. It takes memory
+    /// for a number for each region below `end`, and time by these regions: of a condemned one it
+    /// looks at the first object alone, and it passes an older or empty one at once.
     #[tactic(auto, unfolding(hd_model::specs::Heap::region_of))]
     pub(crate) fn of(alloc: Global, heap: &Heap, n: u8, end: u32) -> Result<Places, Memory>
         requires end { (a : Addr) → is_condemned heap.now n a ≡ true → region_of a < end }

@@ -19,7 +19,7 @@ fn address(k: u32) -> Addr
     Addr(256 + 64 * k)
 }
 
-/// Whether an object stands at an address.
+/// Whether an object is at an address.
 fn stands(heap: &Heap, at: Addr) -> bool
     ensures { result ≡ true → has_object heap.now at ≡ true }
 {
@@ -34,7 +34,7 @@ fn stands(heap: &Heap, at: Addr) -> bool
     }
 }
 
-/// The address of an object by number, which stands there.
+/// The address of an object by number, which is there.
 fn object(rt: &impl Abort, heap: &Heap, k: u32) -> Addr
     ensures { has_object heap.now result ≡ true }
 {
@@ -44,7 +44,7 @@ fn object(rt: &impl Abort, heap: &Heap, k: u32) -> Addr
     at
 }
 
-/// Whether the fields of an object name objects alone.
+/// Whether the fields of an object reference objects alone.
 fn names_objects(heap: &Heap, at: Addr) -> bool
     requires { has_object heap.now at ≡ true }
     ensures { result ≡ true → (y : Addr) → IsField (object_at heap.now) at y →
@@ -60,7 +60,7 @@ fn names_objects(heap: &Heap, at: Addr) -> bool
     true
 }
 
-/// Whether all fields name objects alone.
+/// Whether all fields reference objects alone.
 fn is_closed(heap: &Heap) -> bool
     ensures { result ≡ true → HasClosedFields (object_at heap.now) }
 {
@@ -74,7 +74,7 @@ fn is_closed(heap: &Heap) -> bool
     true
 }
 
-/// Stores an object into a field of another one, each by number.
+/// Stores a reference to an object in a field of another one, each by number.
 fn store(rt: &impl Abort, heap: &mut Heap, from: u32, i: u32, to: u32) {
     let at = object(rt, heap, from);
     let target = object(rt, heap, to);
@@ -87,13 +87,13 @@ fn raise(heap: &mut Heap, at: Addr, generation: u8)
     requires object { has_object heap.old at ≡ true }
     requires generation { generation ≤ OLDEST }
 {
-    // A read for the proof: it tells that the heap is sound, so that the region is held.
+    // A read for the proof: it states that the heap is sound, so that the region is in use.
     let _ = heap.regions();
     heap.set_generation(at.0 / REGION, generation);
 }
 
 /// Twelve objects in three regions, the second of which is of generation 1. Field `.1` of object
-/// `.0` names object `.2`.
+/// `.0` references object `.2`.
 fn graph(rt: &impl Abort, alloc: Global, arrows: &[(u32, u32, u32)]) -> Result<Heap, Memory>
     ensures { IfOk result (λ h. HasClosedFields (object_at h)) }
 {
@@ -147,7 +147,7 @@ fn promote(rt: &impl Abort, heap: &Heap, marks: &mut Marks, objects: &[u32])
 
 #[test]
 fn what_fields_of_condemned_objects_lead_to_is_promoted(rt: HostRuntime) -> Result<(), Fail> {
-    // A cycle with a tail, a diamond, a chain by way of other regions, and an older object's field.
+    // A cycle with a tail, a diamond, a chain through other regions, and an older object's field.
     let arrows = [
         (0, 0, 1),
         (1, 5, 2),

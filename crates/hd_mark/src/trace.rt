@@ -47,7 +47,7 @@ impl<'h> Model for Trace<'h> {
 }
 
 impl<'h> Trace<'h> {
-    /// Nothing is promoted but what is of a generation above `n`. All memory is taken here.
+    /// At first only what is of a generation above `n` is promoted. All memory is taken here.
     pub(crate) fn start(alloc: Global, heap: &'h Heap, n: u8) -> Result<Trace<'h>, Memory>
         ensures { IfOk result (λ t. t ≡ first_marks heap.now n) }
     {
@@ -68,7 +68,7 @@ impl<'h> Trace<'h> {
         })
     }
 
-    /// Whether an object is of an older generation, and so neither moves nor goes.
+    /// Whether an object is of an older generation, and so neither moves nor dies.
     fn is_older(&self, at: Addr) -> bool
         requires { is_object (objects_of self.now.basis) at ≡ true }
         ensures { result ≡ is_older self.now.basis at }
@@ -123,7 +123,7 @@ impl<'h> Trace<'h> {
         self.stack.pop()
     }
 
-    /// Promotes the objects that an object names in its fields.
+    /// Promotes the objects that an object references in its fields.
     pub(crate) fn scan(&mut self, at: Addr)
         requires object { is_object (objects_of self.old.basis) at ≡ true }
         requires fields { HasClosedFields (objects_of self.old.basis) }

@@ -1,5 +1,5 @@
-pub mod Sweeping
-pub mod Relocating
-pub mod Rooting
-pub mod Stretches
-pub mod Listing
+pub mod HandleClear
+pub mod HandleRelocate
+pub mod RootPromote
+pub mod EntryRanges
+pub mod RootLists

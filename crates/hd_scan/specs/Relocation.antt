@@ -1,4 +1,4 @@
--- The names in the rows of one kind after objects have moved.
+-- The references in the rows of one kind after objects have moved.
 use Rattle.std.specs.Prelude.{◌≡◌, ℕ, ◌&&◌, Bool, true, cond, List, Some, option_map}
 use Rattle.hd_model.specs.declared.data.Addr.{Addr}
 use Rattle.hd_model.specs.declared.data.Kind.{Kind}
@@ -7,7 +7,7 @@ use Rattle.hd_model.specs.Kinds.{is_kind}
 use Rattle.hd_model.specs.Ages.{is_due}
 use Rattle.hd_model.specs.Table.{Table, row_at}
 
--- a handle whose target and secondary are called by their new places, where it is one of those to be written
+-- a handle whose target and secondary have their forwarding addresses, where it is one of those to be written
 abbrev pub relocated : {N : Type 0} → Bool → (N → N) → Handle N → Handle N
 relocated here place h = record {
   kind = h.kind;
@@ -15,7 +15,7 @@ relocated here place h = record {
   extra = cond here (rename_extra place h.extra) h.extra;
 }
 
--- the rows of one kind in visited slots have their new names
+-- the rows of one kind in visited slots have their forwarding addresses
 abbrev pub Relocates : (Addr → Addr) → List ℕ → ℕ → Kind → Table → Table → Type 0
 Relocates place ages n kind old new = (slot : ℕ) → row_at new slot
     ≡ option_map (λ h. relocated (is_kind kind h.kind && is_due ages n slot) place h) (row_at old slot)
@@ -25,12 +25,12 @@ abbrev pub RelocatesAll : (Addr → Addr) → Kind → Table → Table → Type 
 RelocatesAll place kind old new = (slot : ℕ) → row_at new slot
     ≡ option_map (λ h. relocated (is_kind kind h.kind) place h) (row_at old slot)
 
--- what a handle names is kept
+-- what a handle references is kept
 pub record KeepsNames {N : Type 0} (kept : N → Bool) (h : Handle N) : Type 0 where
   pub target : (x : N) → h.target ≡ Some x → kept x ≡ true
   pub secondary : (x : N) → secondary_of h.extra ≡ Some x → kept x ≡ true
 
--- what a row of the kind in a visited slot names is kept
+-- what a row of the kind in a visited slot references is kept
 abbrev pub CanRelocate : (Addr → Bool) → List ℕ → ℕ → Kind → Table → Type 0
 CanRelocate kept ages n kind t = (slot : ℕ) (h : Handle Addr) → row_at t slot ≡ Some h
     → (is_kind kind h.kind && is_due ages n slot) ≡ true → KeepsNames kept h

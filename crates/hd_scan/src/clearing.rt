@@ -21,8 +21,8 @@ use hd_model::{Marker, Slot, Steps, is_lost};
 use hd_seg::Seg;
 use std::sync::ledger::Ledger;
 
-/// Clears the handles that a clearing task takes, where their target is not promoted. The answer is
-/// their number.
+/// Clears the handles that a clearing task takes, where their target is not promoted. Returns their
+/// number.
 pub fn clear<M: Marker, L: Ledger>(
     seg: &mut Seg,
     ages: &AgeMap,

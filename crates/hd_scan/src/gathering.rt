@@ -22,7 +22,7 @@ pub struct Root {
     pub at: Addr,
 }
 
-/// The roots of a table of so many blocks, in rising slot.
+/// The roots of a table of `blocks` blocks, in rising slot.
 pub fn gather(
     rt: &(impl Threads + Sync),
     alloc: Global,

@@ -1,8 +1,9 @@
 //! A pass of a collection over the handles of one kind: what holds its target promotes it, what is
-//! weak loses a target that is not promoted, and what names a moved object gets its new place.
+//! weak loses a target that is not promoted, and a reference to a moved object gets its forwarding
+//! address.
 //!
-//! A pass visits the clumps whose age is at most the collected generation, one step each. What else
-//! there is names older objects alone, which are kept where they are.
+//! A pass visits the clumps whose age is at most the collected generation, one step each. All
+//! others reference older objects alone, which are kept where they are.
 #![tactic(auto)]
 
 mod clearing;

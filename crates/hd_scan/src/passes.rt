@@ -18,12 +18,11 @@ use hd_model::{Marker, Steps};
 use hd_seg::Seg;
 use std::sync::ledger::Ledger;
 
-/// One task of a collection of generation `n`, over the clumps of the task's kind that are due. Each
-/// of them is one step. The answer is the number of visited handles from which it promoted, or which
-/// it cleared.
+/// One task of a collection of generation `n`, over the due clumps of the task's kind. Each of them
+/// is one step. Returns the number of visited handles from which it promoted, or which it cleared.
 ///
-/// A handle that holds its target is a root, as a `GCHandle` of type `Normal` or `Pinned` is. A weak
-/// one of type `Weak` is cleared by what is promoted before finalisation, one of type
+/// A handle that holds its target is a root, as a `GCHandle` of type `Normal` or `Pinned` is. A
+/// weak one of type `Weak` is cleared by what is promoted before finalisation, one of type
 /// `WeakTrackResurrection` by what is promoted after it.
 pub fn pass<M: Marker, L: Ledger>(
     seg: &mut Seg,
@@ -45,7 +44,9 @@ pub fn pass<M: Marker, L: Ledger>(
     ensures steps { steps.new ≡ steps.old + visits_of seg.old ages.now n (task_kind task) }
     ensures few { result ≤ BLOCKS * ROWS }
 
-    // Where the ages are sound, it is as if the task had looked at all rows.
+    // Where the ages are sound, what it promotes, pins and clears, and the number of those it
+    // clears, is as if it had looked at all rows. The number of a root task is of the visited ones
+    // alone.
     ensures whole { HasSoundAges (objects_of (M.basis marker.old)) (row_at seg.old) ages.now →
         WholePass (objects_of (M.basis marker.old)) (row_at seg.old) (row_at seg.new) n task
         (M.promoted marker.old) (M.promoted marker.new) (M.pinned marker.old)

@@ -16,8 +16,8 @@ use hd_model::{Addr, Forward, Kind, Slot, Steps};
 use hd_seg::{Extra, Row, Seg, rewrite_row};
 use std::sync::ledger::Ledger;
 
-/// Gives the rows of a kind the new places of what they name, in the clumps that a collection of
-/// generation `n` visits. Each of them is one step.
+/// Gives the rows of a kind the forwarding addresses of what they reference, in the clumps that a
+/// collection of generation `n` visits. Each clump is one step.
 pub fn relocate<F: Forward, L: Ledger>(
     seg: &mut Seg,
     ages: &AgeMap,
@@ -33,7 +33,7 @@ pub fn relocate<F: Forward, L: Ledger>(
     ensures table { IsSameTable seg.old seg.new }
     ensures steps { steps.new ≡ steps.old + visits_of seg.old ages.now n kind }
 
-    // Where the ages are sound, no other row of the kind names what moves.
+    // Where the ages are sound, no other row of the kind references what moves.
     ensures whole { (F.basis forward.now).condemned ≡ n →
         HasSoundAges (objects_of (F.basis forward.now)) (row_at seg.old) ages.now →
         RelocatesAll (F.place forward.now) kind seg.old seg.new }
@@ -44,7 +44,7 @@ pub fn relocate<F: Forward, L: Ledger>(
     }
 }
 
-/// Gives a row the new places of what it names.
+/// Gives a row the forwarding addresses of what it references.
 fn relocate_row<F: Forward>(seg: &mut Seg, slot: Slot, forward: &F)
     requires live { IsSome (get seg.old.rows slot.0) }
     requires laid { F.laid forward.now }
@@ -62,7 +62,7 @@ fn relocate_row<F: Forward>(seg: &mut Seg, slot: Slot, forward: &F)
     rewrite_row(seg, slot, moved);
 }
 
-/// An extra with the new place of its secondary, if it has one.
+/// An extra with the forwarding address of its secondary, if it has one.
 fn moved_extra<F: Forward>(extra: Extra, forward: &F) -> Extra
     requires laid { F.laid forward.now }
     requires kept { ForSome (secondary_of (extra_of extra)) (λ x. F.kept forward.now x ≡ true) }
@@ -74,7 +74,7 @@ fn moved_extra<F: Forward>(extra: Extra, forward: &F) -> Extra
     }
 }
 
-/// The new place of what a name names, or null.
+/// The forwarding address of a reference, or null.
 fn moved_name<F: Forward>(name: Option<Addr>, forward: &F) -> Option<Addr>
     requires laid { F.laid forward.now }
     requires kept { ForSome name (λ x. F.kept forward.now x ≡ true) }

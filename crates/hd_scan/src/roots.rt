@@ -20,7 +20,7 @@ use hd_seg::Seg;
 use std::sync::ledger::Ledger;
 
 /// Promotes the targets of the handles that a root task takes, and pins those of the ones that pin.
-/// The answer is the number of these handles that have a target.
+/// Returns the number of these handles that have a target.
 pub fn promote<M: Marker, L: Ledger>(
     seg: &Seg,
     ages: &AgeMap,
@@ -53,8 +53,8 @@ pub fn promote<M: Marker, L: Ledger>(
     held
 }
 
-/// Promotes the target of a handle of the task's kind, if the task takes it and it has one, and pins
-/// it if the handle pins.
+/// Promotes the target of a handle of the task's kind, if the task takes it and it has one, and
+/// pins it if the handle pins.
 fn promote_row<M: Marker>(seg: &Seg, slot: Slot, task: Task, marker: &mut M) -> bool
     requires live { IsSome (get seg.now.rows slot.0) }
     requires of_kind { (live_at seg.now slot.0).kind ≡ task_kind task }

@@ -106,7 +106,7 @@ fn role_of_count(count: u32) -> Role
 }
 
 /// The role of a handle. A variable one without a strength and a ref-counted one without a count,
-/// which no table has, are as weak long ones.
+/// which no table has, count as weak long ones.
 pub(crate) fn role_by(kind: Kind, extra: Extra) -> Role
     ensures { role_from result ≡ role_of kind (extra_of extra) }
 {

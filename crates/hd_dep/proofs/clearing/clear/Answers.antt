@@ -4,9 +4,9 @@ use Rattle.hd_model.specs.Heap.{objects_of}
 use Rattle.hd_model.specs.Marking.{IsSettled}
 use Rattle.hd_model.specs.declared.data.Addr.{Addr}
 use Rattle.hd_model.specs.Table.{Table}
-use Rattle.hd_ages.proofs.Underway.{row_due, row_live, row_same, row_of_kind, row_target}
-use Rattle.hd_ages.proofs.Changing.{change_start, change_row, change_smaller, changed, changed_count, changed_steps}
-use Rattle.hd_dep.proofs.Detaching.{detach, undue_kept, detached_due, detached_row, detached_has, detached_hasnt, detached_whole, detached_whole_count}
+use Rattle.hd_ages.proofs.WalkProgress.{row_due, row_live, row_same, row_of_kind, row_target}
+use Rattle.hd_ages.proofs.WalkWrites.{change_start, change_row, change_smaller, changed, changed_count, changed_steps}
+use Rattle.hd_dep.proofs.DependentClear.{detach, undue_kept, detached_due, detached_row, detached_has, detached_hasnt, detached_whole, detached_whole_count}
 use Rattle.hd_dep.proofs.clearing.clear.Goals as goal
 
 pub loop-slot-init : goal.loop-slot-init

@@ -1,6 +1,6 @@
 use Rattle.std.proofs.Common.{length}
 use Rattle.hd_ages.specs.Walk.{slots_to_come}
-use Rattle.hd_dep.proofs.Detaching.{IsDetaching}
+use Rattle.hd_dep.proofs.DependentClear.{IsDetaching}
 use Rattle.hd_dep.proofs.clearing.clear.Given as goal
 
 abbrev pub invariant-loop-slot : goal.invariant-loop-slot

@@ -8,8 +8,8 @@ use Rattle.hd_model.specs.Reach.{IsArrow}
 use Rattle.hd_model.specs.Table.{row_at}
 use Rattle.hd_model.specs.Visits.{visits_of}
 use Rattle.hd_dep.specs.Rescan.{Spreads}
-use Rattle.hd_dep.proofs.Spreading.{spreads_none, spreads_on}
-use Rattle.hd_dep.proofs.Rounds.{HasPassed, none_passed, passed_more, passes_fall, rescan_steps, rescan_closure, gained_or_same, followed_after, left_in}
+use Rattle.hd_dep.proofs.SecondarySpread.{spreads_none, spreads_on}
+use Rattle.hd_dep.proofs.RescanPasses.{HasPassed, none_passed, passed_more, passes_fall, rescan_steps, rescan_closure, gained_or_same, followed_after, left_in}
 use Rattle.hd_dep.proofs.rescanning.rescan.Goals as goal
 
 pub loop-more-init : goal.loop-more-init

@@ -9,7 +9,7 @@ use Rattle.hd_model.specs.Reach.{IsArrow}
 use Rattle.hd_model.specs.Table.{row_at}
 use Rattle.hd_model.specs.Visits.{visits_of}
 use Rattle.hd_dep.specs.Rescan.{IsFollowed, Spreads}
-use Rattle.hd_dep.proofs.Rounds.{HasPassed, left_in}
+use Rattle.hd_dep.proofs.RescanPasses.{HasPassed, left_in}
 use Rattle.hd_dep.proofs.rescanning.rescan.Given as goal
 
 abbrev pub invariant-loop-more : goal.invariant-loop-more

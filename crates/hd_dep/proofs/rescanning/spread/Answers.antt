@@ -4,9 +4,9 @@ use Rattle.hd_model.specs.declared.data.Kind.TheVariants as kind
 use Rattle.hd_model.specs.Heap.{Basis, objects_of}
 use Rattle.hd_model.specs.Reach.{IsArrow}
 use Rattle.hd_model.specs.Table.{row_at}
-use Rattle.hd_ages.proofs.Underway.{row_live, row_of_kind}
+use Rattle.hd_ages.proofs.WalkProgress.{row_live, row_of_kind}
 use Rattle.hd_dep.specs.Rescan.{Spreads}
-use Rattle.hd_dep.proofs.Spreading.{spread_start, spread_row, spread_end}
+use Rattle.hd_dep.proofs.SecondarySpread.{spread_start, spread_row, spread_end}
 use Rattle.hd_dep.proofs.rescanning.spread.Goals as goal
 
 pub loop-slot-init : goal.loop-slot-init

@@ -1,7 +1,7 @@
 use Rattle.std.proofs.Common.{◌≡◌, length}
 use Rattle.hd_model.specs.Heap.{objects_of}
 use Rattle.hd_ages.specs.Walk.{slots_to_come}
-use Rattle.hd_dep.proofs.Spreading.{IsSpreading}
+use Rattle.hd_dep.proofs.SecondarySpread.{IsSpreading}
 use Rattle.hd_dep.proofs.rescanning.spread.Given as goal
 
 abbrev pub invariant-loop-slot : goal.invariant-loop-slot

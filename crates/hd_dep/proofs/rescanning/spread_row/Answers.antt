@@ -8,8 +8,8 @@ use Rattle.hd_model.specs.Reach.{IsArrow}
 use Rattle.hd_model.specs.Table.{Table, live_at, row_at}
 use Rattle.hd_seg.specs.Row.{extra_of, row_of}
 use Rattle.hd_seg.specs.declared.row.Row.{Row}
-use Rattle.hd_seg.proofs.Rewriting.{extra_again, live_row}
-use Rattle.hd_dep.proofs.Spreading.{spreads_none, promoted_beyond}
+use Rattle.hd_seg.proofs.RowRewrite.{extra_again, live_row}
+use Rattle.hd_dep.proofs.SecondarySpread.{spreads_none, promoted_beyond}
 use Rattle.hd_dep.proofs.rescanning.spread_row.Goals as goal
 
 pub returns-in_default-parts-clause-spreads : goal.returns-in_default-parts-clause-spreads

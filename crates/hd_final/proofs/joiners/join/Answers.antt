@@ -4,7 +4,7 @@ use Rattle.hd_model.specs.Leads.{Grows}
 use Rattle.hd_model.specs.Scene.{IsYoungField}
 use Rattle.hd_final.specs.declared.joiners.Joiner.{Joiner}
 use Rattle.hd_final.specs.Joiners.{places}
-use Rattle.hd_final.proofs.Joining.{places_more, beyond, grown_more}
+use Rattle.hd_final.proofs.QueueJoin.{places_more, beyond, grown_more}
 use Rattle.hd_final.proofs.joiners.join.Goals as goal
 
 abbrev no_joiner : Joiner

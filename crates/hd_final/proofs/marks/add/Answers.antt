@@ -1,6 +1,6 @@
 use Rattle.std.proofs.Common.{◌≡◌, ◌++◌, ◌∷◌, [], false, sym, ap, ◌∙◌, subst, arith, vec_capacity}
 use Rattle.hd_final.specs.Bare.{IsList, is_in}
-use Rattle.hd_final.proofs.Bare.{added, added_room}
+use Rattle.hd_final.proofs.TestMarker.{added, added_room}
 use Rattle.hd_final.proofs.marks.add.Goals as goal
 
 pub push_reserved-requires : goal.push_reserved-requires

@@ -1,7 +1,7 @@
 use Rattle.std.proofs.Common.{◌<◌, length, refl, sym, subst, arith}
 use Rattle.hd_model.specs.Heap.{Heap}
 use Rattle.hd_final.specs.Bare.{IsBare}
-use Rattle.hd_final.proofs.Bare.{bare_empty, bare_more}
+use Rattle.hd_final.proofs.TestMarker.{bare_empty, bare_more}
 use Rattle.hd_final.proofs.tests.heap_of.Goals as goal
 
 pub loop-on-init : goal.loop-on-init

@@ -1,7 +1,7 @@
 use Rattle.std.proofs.Common.{subst, Contains}
 use Rattle.hd_model.specs.Table.{Queue}
 use Rattle.hd_model.proofs.Members.{not_in_none}
-use Rattle.hd_final.proofs.Bare.{waiting_objects}
+use Rattle.hd_final.proofs.TestMarker.{waiting_objects}
 use Rattle.hd_final.proofs.tests.revive.Goals as goal
 
 pub returns : goal.returns

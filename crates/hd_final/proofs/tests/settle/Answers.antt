@@ -1,5 +1,5 @@
 use Rattle.std.proofs.Common.{◌∙◌}
-use Rattle.hd_final.proofs.Settling.{settled_has}
+use Rattle.hd_final.proofs.QueueSettle.{settled_has}
 use Rattle.hd_final.proofs.tests.settle.Goals as goal
 
 pub returns : goal.returns

@@ -1,5 +1,5 @@
 use Rattle.hd_model.specs.Heap.{has_object}
-use Rattle.hd_mark.proofs.Walks.{walk_falls}
+use Rattle.hd_mark.proofs.CondemnedWalks.{walk_falls}
 use Rattle.hd_mark.proofs.tests.is_closed.Goals as goal
 
 pub loop-at-smaller : goal.loop-at-smaller

@@ -7,9 +7,9 @@ use Rattle.hd_model.specs.declared.data.Addr.{Addr}
 use Rattle.hd_model.specs.Table.{Table, chain_of}
 use Rattle.hd_ages.specs.Walk.{due_slots}
 use Rattle.hd_scan.specs.Tasks.{task_kind}
-use Rattle.hd_ages.proofs.Underway.{row_due, row_live, row_same, row_of_kind, row_target}
-use Rattle.hd_ages.proofs.Changing.{change_start, change_row, change_smaller, changed, changed_count, changed_steps}
-use Rattle.hd_scan.proofs.Sweeping.{sweep, undue_kept, swept_due, swept_row, swept_has, swept_hasnt, sweep_whole}
+use Rattle.hd_ages.proofs.WalkProgress.{row_due, row_live, row_same, row_of_kind, row_target}
+use Rattle.hd_ages.proofs.WalkWrites.{change_start, change_row, change_smaller, changed, changed_count, changed_steps}
+use Rattle.hd_scan.proofs.HandleClear.{sweep, undue_kept, swept_due, swept_row, swept_has, swept_hasnt, sweep_whole}
 use Rattle.hd_scan.proofs.clearing.clear.Goals as goal
 
 pub loop-slot-init : goal.loop-slot-init

@@ -1,6 +1,6 @@
 use Rattle.std.proofs.Common.{length}
 use Rattle.hd_ages.specs.Walk.{slots_to_come}
-use Rattle.hd_scan.proofs.Sweeping.{IsSweeping}
+use Rattle.hd_scan.proofs.HandleClear.{IsSweeping}
 use Rattle.hd_scan.proofs.clearing.clear.Given as goal
 
 abbrev pub invariant-loop-slot : goal.invariant-loop-slot

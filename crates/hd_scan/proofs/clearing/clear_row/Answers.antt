@@ -3,9 +3,9 @@ use Rattle.hd_model.specs.declared.data.Addr.{Addr}
 use Rattle.hd_model.specs.State.{Handle}
 use Rattle.hd_model.specs.Collect.{is_lost}
 use Rattle.hd_model.specs.Table.{live_at}
-use Rattle.hd_seg.proofs.Rewriting.{put_row}
+use Rattle.hd_seg.proofs.RowRewrite.{put_row}
 use Rattle.hd_scan.specs.Tasks.{takes}
-use Rattle.hd_scan.proofs.Sweeping.{swept_lost}
+use Rattle.hd_scan.proofs.HandleClear.{swept_lost}
 use Rattle.hd_scan.proofs.clearing.clear_row.Goals as goal
 use Rattle.hd_scan.proofs.clearing.clear_row.Goals.{then-takes, else-takes}
 

@@ -5,7 +5,7 @@ use Rattle.rayon.specs.Numbers.{nat_range}
 use Rattle.rayon.proofs.ListFacts.{IfOk-then}
 use Rattle.rayon.proofs.ToStd.{nat_range-All}
 use Rattle.hd_scan.specs.declared.gathering.Root.{Root}
-use Rattle.hd_scan.proofs.Listing.{gathered}
+use Rattle.hd_scan.proofs.RootLists.{gathered}
 use Rattle.hd_scan.proofs.gathering.gather_blocks.Goals as goal
 
 -- each block is one of the table's

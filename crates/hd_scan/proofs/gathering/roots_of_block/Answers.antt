@@ -1,6 +1,6 @@
 use Rattle.std.proofs.Common.{◌∙◌, sym, ◌*◌, ◌++◌}
 use Rattle.hd_model.specs.declared.limits.TheConstants.{ROWS}
-use Rattle.hd_scan.proofs.Listing.{none_yet, one_more, of_kind, no_roots}
+use Rattle.hd_scan.proofs.RootLists.{none_yet, one_more, of_kind, no_roots}
 use Rattle.std.specs.Option.{option_to_list}
 use Rattle.hd_scan.proofs.gathering.roots_of_block.Goals as goal
 

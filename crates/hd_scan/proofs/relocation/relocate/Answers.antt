@@ -3,9 +3,9 @@ use Rattle.std.proofs.lemmas.Bool.{false≢true}
 use Rattle.hd_model.specs.Heap.{objects_of}
 use Rattle.hd_model.specs.Marking.{IsKeeping}
 use Rattle.hd_model.specs.Table.{Table}
-use Rattle.hd_ages.proofs.Underway.{row_due, row_live, row_same}
-use Rattle.hd_ages.proofs.Changing.{change_start, change_row, change_smaller, changed, changed_steps}
-use Rattle.hd_scan.proofs.Relocating.{relocation, undue_left, moved_row, kept_names, relocates_all}
+use Rattle.hd_ages.proofs.WalkProgress.{row_due, row_live, row_same}
+use Rattle.hd_ages.proofs.WalkWrites.{change_start, change_row, change_smaller, changed, changed_steps}
+use Rattle.hd_scan.proofs.HandleRelocate.{relocation, undue_left, moved_row, kept_names, relocates_all}
 use Rattle.hd_scan.proofs.relocation.relocate.Goals as goal
 
 pub loop-slot-init : goal.loop-slot-init

@@ -1,6 +1,6 @@
 use Rattle.std.proofs.Common.{length}
 use Rattle.hd_ages.specs.Walk.{slots_to_come}
-use Rattle.hd_scan.proofs.Relocating.{IsRelocating}
+use Rattle.hd_scan.proofs.HandleRelocate.{IsRelocating}
 use Rattle.hd_scan.proofs.relocation.relocate.Given as goal
 
 abbrev pub invariant-loop-slot : goal.invariant-loop-slot

@@ -8,8 +8,8 @@ use Rattle.hd_model.specs.Table.{Table, live_at, fits}
 use Rattle.hd_seg.specs.Row.{extra_of, row_of}
 use Rattle.hd_seg.specs.declared.row.Row.{Row}
 use Rattle.hd_seg.specs.Rewriting.{Rewrites}
-use Rattle.hd_seg.proofs.Rewriting.{extra_again, live_row}
-use Rattle.hd_scan.proofs.Relocating.{handle_moved, fits_renamed}
+use Rattle.hd_seg.proofs.RowRewrite.{extra_again, live_row}
+use Rattle.hd_scan.proofs.HandleRelocate.{handle_moved, fits_renamed}
 use Rattle.hd_scan.proofs.relocation.relocate_row.Goals as goal
 
 pub rewrite_row-requires-clause-fitting : goal.rewrite_row-requires-clause-fitting

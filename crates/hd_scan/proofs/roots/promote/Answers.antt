@@ -7,10 +7,10 @@ use Rattle.hd_model.specs.Marking.{IsSettled}
 use Rattle.hd_model.specs.Scene.{IsYoungField}
 use Rattle.hd_model.specs.Table.{chain_of, live_at}
 use Rattle.hd_ages.specs.Walk.{due_slots}
-use Rattle.hd_ages.proofs.Underway.{row_live, row_of_kind}
+use Rattle.hd_ages.proofs.WalkProgress.{row_live, row_of_kind}
 use Rattle.hd_scan.specs.Tasks.{task_kind}
 use Rattle.hd_scan.specs.Passes.{IsTargetBy}
-use Rattle.hd_scan.proofs.Rooting.{root_start, root_row, root_end, root_whole}
+use Rattle.hd_scan.proofs.RootPromote.{root_start, root_row, root_end, root_whole}
 use Rattle.hd_scan.proofs.roots.promote.Goals as goal
 
 pub loop-slot-init : goal.loop-slot-init

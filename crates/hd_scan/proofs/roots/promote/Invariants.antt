@@ -1,7 +1,7 @@
 use Rattle.std.proofs.Common.{◌≡◌, length}
 use Rattle.hd_model.specs.Heap.{objects_of}
 use Rattle.hd_ages.specs.Walk.{slots_to_come}
-use Rattle.hd_scan.proofs.Rooting.{IsRooting}
+use Rattle.hd_scan.proofs.RootPromote.{IsRooting}
 use Rattle.hd_scan.proofs.roots.promote.Given as goal
 
 abbrev pub invariant-loop-slot : goal.invariant-loop-slot

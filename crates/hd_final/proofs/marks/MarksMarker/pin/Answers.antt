@@ -1,4 +1,4 @@
-use Rattle.hd_final.proofs.Bare.{gained}
+use Rattle.hd_final.proofs.TestMarker.{gained}
 use Rattle.hd_final.proofs.marks.MarksMarker.pin.Goals as goal
 
 pub returns-clause-settled : goal.returns-clause-settled

@@ -1,5 +1,5 @@
 use Rattle.std.proofs.Common.{vec_capacity}
-use Rattle.hd_final.proofs.Bare.{ready, grown_by_one}
+use Rattle.hd_final.proofs.TestMarker.{ready, grown_by_one}
 use Rattle.hd_final.proofs.marks.MarksMarker.promote.Goals as goal
 
 pub returns-clause-settled : goal.returns-clause-settled

@@ -1,4 +1,4 @@
-use Rattle.hd_final.proofs.Bare.{mirror_keeps}
+use Rattle.hd_final.proofs.TestMarker.{mirror_keeps}
 use Rattle.hd_final.proofs.marks.Mirror.of.Goals as goal
 
 pub returns-clause-laid : goal.returns-clause-laid

@@ -2,7 +2,7 @@ use Rattle.std.proofs.Common.{◌≡◌, ◌<◌, ◌≤◌, length, map, set, s
 use Rattle.std.proofs.lemmas.List.{length-map}
 use Rattle.hd_model.specs.declared.data.Addr.{Addr}
 use Rattle.hd_model.specs.Table.{Queue}
-use Rattle.hd_final.proofs.Relocating.{part_read, part_more, part_all, apart_moved}
+use Rattle.hd_final.proofs.QueueRelocate.{part_read, part_more, part_all, apart_moved}
 use Rattle.hd_final.proofs.queue.Final.relocate.Goals as goal
 
 pub invariant_of-self : goal.invariant_of-self

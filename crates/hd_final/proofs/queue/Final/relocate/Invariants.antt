@@ -1,6 +1,6 @@
 use Rattle.std.proofs.Common.{◌≡◌, vec_capacity}
 use Rattle.std.specs.VecDeque.{deque_capacity}
-use Rattle.hd_final.proofs.Relocating.{IsPartMoved}
+use Rattle.hd_final.proofs.QueueRelocate.{IsPartMoved}
 use Rattle.hd_final.proofs.queue.Final.relocate.Given as goal
 
 abbrev pub invariant-loop-i : goal.invariant-loop-i

@@ -9,7 +9,7 @@ use Rattle.hd_model.specs.Table.{Queue}
 use Rattle.hd_final.specs.declared.joiners.Joiner.{Joiner}
 use Rattle.hd_final.specs.Joiners.{places}
 use Rattle.hd_final.specs.Revival.{IsOut}
-use Rattle.hd_final.proofs.Reviving.{joins_object, joins_count, revived, queue_once, queue_fits}
+use Rattle.hd_final.proofs.QueueRevive.{joins_object, joins_count, revived, queue_once, queue_fits}
 use Rattle.hd_final.proofs.queue.Final.revive.Goals as goal
 
 pub join-requires-clause-objects : goal.join-requires-clause-objects

@@ -1,7 +1,7 @@
 use Rattle.std.proofs.Common.{◌≡◌, ◌<◌, length, get_or, ap, ◌∙◌, subst, arith, Contains, sym}
 use Rattle.std.proofs.lemmas.List.Elements.{Contains-get_or}
 use Rattle.hd_model.specs.Table.{Queue}
-use Rattle.hd_final.proofs.Settling.{settled_more, settled_has}
+use Rattle.hd_final.proofs.QueueSettle.{settled_more, settled_has}
 use Rattle.hd_final.proofs.queue.Final.settle.Goals as goal
 
 pub loop-i-preserved : goal.loop-i-preserved

@@ -1,5 +1,5 @@
 use Rattle.std.proofs.Common.{arith}
-use Rattle.hd_heap.proofs.Wanted.{object_below}
+use Rattle.hd_heap.proofs.WantedObjects.{object_below}
 use Rattle.hd_heap.proofs.area.Area.is_wanted.Goals as goal
 
 pub bounds-self-at : goal.bounds-self-at

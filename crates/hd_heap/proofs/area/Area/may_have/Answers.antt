@@ -5,7 +5,7 @@ use Rattle.hd_heap.specs.declared.area.Area.{Area}
 use Rattle.hd_heap.specs.declared.area.Wanted.{Wanted}
 use Rattle.hd_heap.specs.Areas.{IsArea}
 use Rattle.hd_heap.specs.Steps.{wants}
-use Rattle.hd_heap.proofs.Wanted.{unwanted}
+use Rattle.hd_heap.proofs.WantedObjects.{unwanted}
 use Rattle.hd_heap.proofs.Areas.{none_live}
 use Rattle.hd_heap.proofs.area.Area.may_have.Goals as goal
 

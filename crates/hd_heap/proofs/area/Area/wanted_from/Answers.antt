@@ -3,7 +3,7 @@ use Rattle.std.specs.Prelude.{IfSome}
 use Rattle.hd_cells.specs.Region.{IsObject, IsFirstFrom}
 use Rattle.hd_cells.specs.Region.{Contents}
 use Rattle.hd_heap.specs.Areas.{contents}
-use Rattle.hd_heap.proofs.Wanted.{IsOn, left, on_start, on_next, on_found, on_end, left_falls, object_below, first_object}
+use Rattle.hd_heap.proofs.WantedObjects.{IsOn, left, on_start, on_next, on_found, on_end, left_falls, object_below, first_object}
 use Rattle.hd_heap.proofs.area.Area.wanted_from.Goals as goal
 
 pub loop-next-init : goal.loop-next-init

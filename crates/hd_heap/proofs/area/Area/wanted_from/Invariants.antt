@@ -1,7 +1,7 @@
 use Rattle.std.specs.Prelude.{IfSome}
 use Rattle.hd_cells.specs.Region.{IsObject}
 use Rattle.hd_heap.specs.Areas.{contents}
-use Rattle.hd_heap.proofs.Wanted.{IsOn, left}
+use Rattle.hd_heap.proofs.WantedObjects.{IsOn, left}
 use Rattle.hd_heap.proofs.area.Area.wanted_from.Given as goal
 
 abbrev pub invariant-loop-next : goal.invariant-loop-next

@@ -5,11 +5,12 @@ use Rattle.hd_cells.specs.Region.{object_at as object_in_region}
 use Rattle.hd_model.specs.Heap.{Placed}
 use Rattle.hd_heap.specs.Areas.{address, placed_of}
 use Rattle.hd_heap.specs.Calls.{with_object, with_field}
-use Rattle.hd_heap.proofs.Reading.{low_place, place_within, seen, count_seen, field_seen}
-use Rattle.hd_heap.proofs.Writes.{rewritten}
+use Rattle.hd_heap.proofs.RegionReads.{low_place, place_within, seen, count_seen, field_seen}
+use Rattle.hd_heap.proofs.RegionWrites.{rewritten}
 use Rattle.std.specs.Prelude.{slice_index_or}
 use Rattle.hd_model.specs.Scene.{fields_at}
 use Rattle.hd_model.specs.Heap.{object_at}
+use Rattle.hd_heap.proofs.FullRegions.{others_by}
 use Rattle.hd_heap.proofs.heap.Heap.copy_field.Goals as goal
 
 pub place_of-requires : goal.place_of-requires
@@ -59,15 +60,17 @@ set_field-requires c =
 
 pub invariant_of-self : goal.invariant_of-self
 invariant_of-self c =
+    let is =
     (rewritten c.self.inside.areas.items c.self.inside.spare.items c.self.inside.limit _ _ _ _ c.args.self.now
-    c.self.view_is c.self.invariant c.args.copy c.place_of-2.result c.index_mut.result.now _
+    c.self.view_is c.self.invariant.0 c.args.copy c.place_of-2.result c.index_mut.result.now _
     c.deref_mut.result.now c.set_field.new.self c.offset_of-2.result
     (region_with_field (object_in_region c.deref_mut.result.now c.offset_of-2.result) c.args.i
     c.field-field.result) c.requires.copy c.place_of-2.ensures c.index_mut.ensures.value
     c.deref_mut.ensures.value c.offset_of-2.ensures c.set_field.ensures.written
     c.set_field.ensures.laid_out
     (length-set (object_in_region c.deref_mut.result.now c.offset_of-2.result).fields c.args.i
-    c.field-field.result) refl refl refl refl refl).keeps
+    c.field-field.result) refl refl refl refl refl) in
+    (is.keeps, others_by _ _ _ _ _ _ c.self.view_is is.views (λ x. x) c.self.invariant.1)
 
 pub returns : goal.returns
 returns c =
@@ -84,7 +87,7 @@ returns c =
     let cell : address c.field-field.result ≡ v = ap address c.field-field.ensures
     ∙ field_seen c.args.self.now c.args.from _ c.args.i f.get in
     (rewritten c.self.inside.areas.items c.self.inside.spare.items c.self.inside.limit _ _ _ _ c.args.self.now
-    c.self.view_is c.self.invariant c.args.copy c.place_of-2.result c.index_mut.result.now _
+    c.self.view_is c.self.invariant.0 c.args.copy c.place_of-2.result c.index_mut.result.now _
     c.deref_mut.result.now c.set_field.new.self c.offset_of-2.result
     (region_with_field (object_in_region c.deref_mut.result.now c.offset_of-2.result) c.args.i
     c.field-field.result) c.requires.copy c.place_of-2.ensures c.index_mut.ensures.value

@@ -1,5 +1,5 @@
 use Rattle.std.proofs.Common.{length, get_or, None, ap, arith}
-use Rattle.hd_heap.proofs.Values.{copying_starts, copying_has, copying_from, copying_copy, copying_next, copying_ends}
+use Rattle.hd_heap.proofs.HeapValues.{copying_starts, copying_has, copying_from, copying_copy, copying_next, copying_ends}
 use Rattle.hd_heap.proofs.heap.Heap.copy_fields.Goals as goal
 
 pub loop-i-init : goal.loop-i-init

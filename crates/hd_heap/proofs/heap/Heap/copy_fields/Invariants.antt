@@ -1,4 +1,4 @@
-use Rattle.hd_heap.proofs.Values.{IsCopying}
+use Rattle.hd_heap.proofs.HeapValues.{IsCopying}
 use Rattle.hd_heap.proofs.heap.Heap.copy_fields.Given as goal
 
 abbrev pub invariant-loop-i : goal.invariant-loop-i

@@ -1,6 +1,6 @@
 use Rattle.std.proofs.Common.{◌∙◌, ap, length}
 use Rattle.hd_heap.specs.Calls.{new_object}
-use Rattle.hd_heap.proofs.Values.{fields_placed, put_has_from, put_has_copy, valued_has, valued_fields, copied, kept_value}
+use Rattle.hd_heap.proofs.HeapValues.{fields_placed, put_has_from, put_has_copy, valued_has, valued_fields, copied, kept_value}
 use Rattle.hd_heap.proofs.heap.Heap.copy_into.Goals as goal
 
 pub value-requires : goal.value-requires

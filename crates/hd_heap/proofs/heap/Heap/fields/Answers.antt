@@ -1,5 +1,5 @@
 use Rattle.std.proofs.Common.{sym, ◌∙◌, arith}
-use Rattle.hd_heap.proofs.Reading.{low_place, place_within, seen, count_seen}
+use Rattle.hd_heap.proofs.RegionReads.{low_place, place_within, seen, count_seen}
 use Rattle.hd_heap.proofs.heap.Heap.fields.Goals as goal
 
 pub place_of-requires : goal.place_of-requires

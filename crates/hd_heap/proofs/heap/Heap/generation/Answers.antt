@@ -1,5 +1,5 @@
 use Rattle.std.proofs.Common.{◌%◌, refl, arith}
-use Rattle.hd_heap.proofs.Reading.{low_place, place_within, seen, generation_seen}
+use Rattle.hd_heap.proofs.RegionReads.{low_place, place_within, seen, generation_seen}
 use Rattle.hd_heap.proofs.heap.Heap.generation.Goals as goal
 
 pub place_of-requires : goal.place_of-requires
@@ -21,6 +21,6 @@ returns c =
     c.place_of.result c.index.result.now c.index.result.now.region.value
     (c.args.at.0 % 256) c.place_of.ensures c.index.ensures refl refl in
     let g = generation_seen c.self.inside.areas.items c.self.inside.spare.items c.self.inside.limit
-    c.args.self.now c.self.view_is _ _ _ _ c.self.invariant c.args.at c.requires c.index.result.now
+    c.args.self.now c.self.view_is _ _ _ _ c.self.invariant.0 c.args.at c.requires c.index.result.now
     s.here in
     record { value = g.0; few = g.1 }

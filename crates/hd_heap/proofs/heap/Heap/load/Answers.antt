@@ -1,6 +1,6 @@
 use Rattle.std.proofs.Common.{sym, ap, ◌∙◌, arith}
 use Rattle.hd_heap.specs.Areas.{address}
-use Rattle.hd_heap.proofs.Reading.{low_place, place_within, seen, count_seen, field_seen, address_of}
+use Rattle.hd_heap.proofs.RegionReads.{low_place, place_within, seen, count_seen, field_seen, address_of}
 use Rattle.hd_heap.proofs.heap.Heap.load.Goals as goal
 
 pub place_of-requires : goal.place_of-requires

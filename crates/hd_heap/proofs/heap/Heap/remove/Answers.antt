@@ -1,9 +1,10 @@
 use Rattle.std.proofs.Common.{◌≡◌, sym, ap, ◌∙◌, refl, true, Some, arith}
 use Rattle.hd_heap.specs.declared.area.Area.{Area}
 use Rattle.hd_heap.specs.Areas.{contents}
-use Rattle.hd_heap.proofs.Reading.{low_place, place_within, seen, found, object_held}
-use Rattle.hd_heap.proofs.Regions.{counted}
-use Rattle.hd_heap.proofs.Changes.{object_removed}
+use Rattle.hd_heap.proofs.RegionReads.{low_place, place_within, seen, found, object_held}
+use Rattle.hd_heap.proofs.RegionUse.{counted}
+use Rattle.hd_heap.proofs.RegionChanges.{object_removed}
+use Rattle.hd_heap.proofs.FullRegions.{others_by}
 use Rattle.hd_heap.proofs.heap.Heap.remove.Goals as goal
 
 pub place_of-requires : goal.place_of-requires
@@ -23,7 +24,7 @@ remove-cells-requires c =
     c.self.view_is c.args.at c.requires
     c.place_of.result c.index_mut.result.now (contents c.index_mut.result.now) c.offset_of.result
     c.place_of.ensures c.index_mut.ensures.value refl c.offset_of.ensures in
-    record { area = c.self.invariant.each _ c.index_mut.result.now s.here; object = s.object }
+    record { area = c.self.invariant.0.each _ c.index_mut.result.now s.here; object = s.object }
 
 pub overflow_sub-self : goal.overflow_sub-self
 overflow_sub-self c =
@@ -32,7 +33,7 @@ overflow_sub-self c =
     c.place_of.result c.index_mut.result.now (contents c.index_mut.result.now) c.offset_of.result
     c.place_of.ensures c.index_mut.ensures.value refl c.offset_of.ensures in
     (counted c.self.inside.areas.items c.self.inside.spare.items c.self.inside.limit _ _ _ _ c.args.self.now
-    c.self.view_is c.self.invariant c.args.at c.place_of.result c.index_mut.result.now
+    c.self.view_is c.self.invariant.0 c.args.at c.place_of.result c.index_mut.result.now
     c.remove-cells.new.self c.offset_of.result c.remove-cells.result s c.remove-cells.ensures.taken).0
 
 pub overflow_sub-self-2 : goal.overflow_sub-self-2
@@ -42,7 +43,7 @@ overflow_sub-self-2 c =
     c.place_of.result c.index_mut.result.now (contents c.index_mut.result.now) c.offset_of.result
     c.place_of.ensures c.index_mut.ensures.value refl c.offset_of.ensures in
     (counted c.self.inside.areas.items c.self.inside.spare.items c.self.inside.limit _ _ _ _ c.args.self.now
-    c.self.view_is c.self.invariant c.args.at c.place_of.result c.index_mut.result.now
+    c.self.view_is c.self.invariant.0 c.args.at c.place_of.result c.index_mut.result.now
     c.remove-cells.new.self c.offset_of.result c.remove-cells.result s c.remove-cells.ensures.taken).1
 
 pub returns : goal.returns
@@ -57,9 +58,9 @@ returns c =
     sym f.is_area ∙ s.here in cc one) in
     let held : c.index_mut.result.now.held ≡ true = sym (ap (λ (x : Area). x.held) same)
     ∙ object_held c.self.inside.areas.items c.self.inside.spare.items c.self.inside.limit c.args.self.now
-    c.self.view_is _ _ _ _ c.self.invariant c.args.at f in
+    c.self.view_is _ _ _ _ c.self.invariant.0 c.args.at f in
     (object_removed c.self.inside.areas.items c.self.inside.spare.items c.self.inside.limit _ _ _ _
-    c.args.self.now c.self.view_is c.self.invariant c.args.at c.place_of.result c.index_mut.result.now
+    c.args.self.now c.self.view_is c.self.invariant.0 c.args.at c.place_of.result c.index_mut.result.now
     c.remove-cells.new.self c.offset_of.result c.remove-cells.result _ _ s held c.offset_of.ensures
     c.remove-cells.ensures.area c.remove-cells.ensures.taken refl refl).removed
 
@@ -75,8 +76,10 @@ invariant_of-self c =
     sym f.is_area ∙ s.here in cc one) in
     let held : c.index_mut.result.now.held ≡ true = sym (ap (λ (x : Area). x.held) same)
     ∙ object_held c.self.inside.areas.items c.self.inside.spare.items c.self.inside.limit c.args.self.now
-    c.self.view_is _ _ _ _ c.self.invariant c.args.at f in
+    c.self.view_is _ _ _ _ c.self.invariant.0 c.args.at f in
+    let is =
     (object_removed c.self.inside.areas.items c.self.inside.spare.items c.self.inside.limit _ _ _ _
-    c.args.self.now c.self.view_is c.self.invariant c.args.at c.place_of.result c.index_mut.result.now
+    c.args.self.now c.self.view_is c.self.invariant.0 c.args.at c.place_of.result c.index_mut.result.now
     c.remove-cells.new.self c.offset_of.result c.remove-cells.result _ _ s held c.offset_of.ensures
-    c.remove-cells.ensures.area c.remove-cells.ensures.taken refl refl).keeps
+    c.remove-cells.ensures.area c.remove-cells.ensures.taken refl refl) in
+    (is.keeps, others_by _ c.args.self.now _ _ _ _ c.self.view_is is.removed.removed (λ x. x) c.self.invariant.1)

@@ -1,6 +1,6 @@
 use Rattle.std.proofs.Common.{ap, length, ◌∙◌, length-append, [], ◌∷◌, arith}
 use Rattle.hd_model.specs.Heap.{Heap}
-use Rattle.hd_heap.proofs.Spares.{same_length, one_longer}
+use Rattle.hd_heap.proofs.RegionReserve.{same_length, one_longer}
 use Rattle.hd_heap.proofs.heap.Heap.reserve_regions.Goals as goal
 
 pub loop-self-init : goal.loop-self-init

@@ -1,5 +1,5 @@
 use Rattle.std.proofs.Common.{◌-◌, length}
-use Rattle.hd_heap.proofs.Spares.{IsLonger}
+use Rattle.hd_heap.proofs.RegionReserve.{IsLonger}
 use Rattle.hd_heap.proofs.heap.Heap.reserve_regions.Given as goal
 
 abbrev pub invariant-loop-self : goal.invariant-loop-self

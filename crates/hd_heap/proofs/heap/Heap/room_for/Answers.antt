@@ -1,13 +1,25 @@
-use Rattle.std.proofs.Common.{sym, subst}
+use Rattle.std.proofs.Common.{◌∙◌, sym, subst}
 use Rattle.hd_model.specs.Heap.{Heap}
-use Rattle.hd_heap.specs.Steps.{IsRoom}
-use Rattle.hd_heap.proofs.Values.{room_made}
+use Rattle.hd_heap.specs.Calls.{AreFull}
+use Rattle.hd_heap.specs.Steps.{IsRoom, AreOthersFull}
+use Rattle.hd_heap.proofs.HeapValues.{room_made}
+use Rattle.hd_heap.proofs.FullRegions.{others_begun}
 use Rattle.hd_heap.proofs.heap.Heap.room_for.Goals as goal
+
+pub invariant_of-self : goal.invariant_of-self
+invariant_of-self c = (
+  c.self.invariant.0,
+  subst (λ (h : Heap). AreOthersFull h c.fresh-region.result)
+      (sym (c.self.view_is ∙ c.fresh-region.ensures.held))
+      (others_begun c.reserve_regions.new.self c.fresh-region.result
+      (subst AreFull (sym c.reserve_regions.ensures.same) c.in_default.ensures)),
+)
 
 pub returns-clause-ok : goal.returns-clause-ok
 returns-clause-ok c =
-    subst (λ (h : Heap). IsRoom c.args.self.now h c.fresh-region.result c.args.size) (sym c.self-2.view_is)
+    subst (λ (h : Heap). IsRoom c.args.self.now h c.fresh-region.result c.args.size) (sym c.self.view_is)
     (room_made c.args.self.now c.reserve_regions.new.self c.fresh-region.new.self c.fresh-region.result
     c.args.size
     c.reserve_regions.ensures.same c.reserve_regions.ensures.kept c.in_ok-reserve_regions.ensures.enough
-    c.fresh-region.ensures.was_free c.fresh-region.ensures.held c.requires)
+    c.fresh-region.ensures.number c.fresh-region.ensures.was_free c.fresh-region.ensures.held c.requires
+    c.in_default.ensures)

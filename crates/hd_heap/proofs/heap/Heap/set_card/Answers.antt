@@ -1,8 +1,9 @@
 use Rattle.std.proofs.Common.{◌≡◌, ◌/◌, sym, ap, ◌∙◌, refl, true, Some, arith}
 use Rattle.hd_heap.specs.declared.area.Area.{Area}
 use Rattle.hd_heap.specs.Areas.{contents}
-use Rattle.hd_heap.proofs.Reading.{low_place, place_within, seen, found, object_held}
-use Rattle.hd_heap.proofs.Changes.{card_changed}
+use Rattle.hd_heap.proofs.RegionReads.{low_place, place_within, seen, found, object_held}
+use Rattle.hd_heap.proofs.RegionChanges.{card_changed}
+use Rattle.hd_heap.proofs.FullRegions.{others_by}
 use Rattle.hd_heap.proofs.heap.Heap.set_card.Goals as goal
 
 pub place_of-requires : goal.place_of-requires
@@ -28,9 +29,9 @@ returns c =
     sym f.is_area ∙ s.here in cc one) in
     let held : c.index_mut.result.now.held ≡ true = sym (ap (λ (x : Area). x.held) same)
     ∙ object_held c.self.inside.areas.items c.self.inside.spare.items c.self.inside.limit c.args.self.now
-    c.self.view_is _ _ _ _ c.self.invariant c.args.at f in
+    c.self.view_is _ _ _ _ c.self.invariant.0 c.args.at f in
     (card_changed c.self.inside.areas.items c.self.inside.spare.items c.self.inside.limit _ _ _ _
-    c.args.self.now c.self.view_is c.self.invariant c.args.at c.place_of.result c.index_mut.result.now _
+    c.args.self.now c.self.view_is c.self.invariant.0 c.args.at c.place_of.result c.index_mut.result.now _
     c.offset_of.result (c.offset_of.result / 32) c.args.on s held refl refl).views
 
 pub invariant_of-self : goal.invariant_of-self
@@ -45,7 +46,9 @@ invariant_of-self c =
     sym f.is_area ∙ s.here in cc one) in
     let held : c.index_mut.result.now.held ≡ true = sym (ap (λ (x : Area). x.held) same)
     ∙ object_held c.self.inside.areas.items c.self.inside.spare.items c.self.inside.limit c.args.self.now
-    c.self.view_is _ _ _ _ c.self.invariant c.args.at f in
+    c.self.view_is _ _ _ _ c.self.invariant.0 c.args.at f in
+    let is =
     (card_changed c.self.inside.areas.items c.self.inside.spare.items c.self.inside.limit _ _ _ _
-    c.args.self.now c.self.view_is c.self.invariant c.args.at c.place_of.result c.index_mut.result.now _
-    c.offset_of.result (c.offset_of.result / 32) c.args.on s held refl refl).keeps
+    c.args.self.now c.self.view_is c.self.invariant.0 c.args.at c.place_of.result c.index_mut.result.now _
+    c.offset_of.result (c.offset_of.result / 32) c.args.on s held refl refl) in
+    (is.keeps, others_by _ _ _ _ _ _ c.self.view_is is.views (λ x. x) c.self.invariant.1)

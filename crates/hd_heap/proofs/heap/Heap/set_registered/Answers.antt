@@ -3,8 +3,9 @@ use Rattle.hd_cells.specs.Object.{with_registered}
 use Rattle.hd_cells.specs.Region.{object_at as object_in_region}
 use Rattle.hd_model.specs.Heap.{Placed}
 use Rattle.hd_heap.specs.Calls.{with_object}
-use Rattle.hd_heap.proofs.Reading.{low_place, place_within, seen}
-use Rattle.hd_heap.proofs.Writes.{rewritten}
+use Rattle.hd_heap.proofs.RegionReads.{low_place, place_within, seen}
+use Rattle.hd_heap.proofs.RegionWrites.{rewritten}
+use Rattle.hd_heap.proofs.FullRegions.{others_by}
 use Rattle.hd_heap.proofs.heap.Heap.set_registered.Goals as goal
 
 pub place_of-requires : goal.place_of-requires
@@ -27,13 +28,15 @@ set_registered-requires c =
 
 pub invariant_of-self : goal.invariant_of-self
 invariant_of-self c =
+    let is =
     (rewritten c.self.inside.areas.items c.self.inside.spare.items c.self.inside.limit _ _ _ _ c.args.self.now
-    c.self.view_is c.self.invariant c.args.at c.place_of.result c.index_mut.result.now _
+    c.self.view_is c.self.invariant.0 c.args.at c.place_of.result c.index_mut.result.now _
     c.deref_mut.result.now c.set_registered.new.self c.offset_of.result
     (with_registered (object_in_region c.deref_mut.result.now c.offset_of.result) c.args.on) c.requires
     c.place_of.ensures c.index_mut.ensures.value c.deref_mut.ensures.value c.offset_of.ensures
     c.set_registered.ensures.written c.set_registered.ensures.laid_out refl refl refl refl refl
-    refl).keeps
+    refl) in
+    (is.keeps, others_by _ _ _ _ _ _ c.self.view_is is.views (λ x. x) c.self.invariant.1)
 
 pub returns : goal.returns
 returns c =
@@ -42,7 +45,7 @@ returns c =
     c.place_of.result c.index_mut.result.now c.deref_mut.result.now c.offset_of.result c.place_of.ensures
     c.index_mut.ensures.value c.deref_mut.ensures.value c.offset_of.ensures in
     (rewritten c.self.inside.areas.items c.self.inside.spare.items c.self.inside.limit _ _ _ _ c.args.self.now
-    c.self.view_is c.self.invariant c.args.at c.place_of.result c.index_mut.result.now _
+    c.self.view_is c.self.invariant.0 c.args.at c.place_of.result c.index_mut.result.now _
     c.deref_mut.result.now c.set_registered.new.self c.offset_of.result
     (with_registered (object_in_region c.deref_mut.result.now c.offset_of.result) c.args.on) c.requires
     c.place_of.ensures c.index_mut.ensures.value c.deref_mut.ensures.value c.offset_of.ensures

@@ -1,6 +1,6 @@
 use Rattle.std.proofs.Common.{◌≡◌, true, sym, subst}
 use Rattle.hd_model.specs.Heap.{Heap, has_object}
-use Rattle.hd_heap.proofs.Values.{has_with_object}
+use Rattle.hd_heap.proofs.HeapValues.{has_with_object}
 use Rattle.hd_heap.proofs.heap.Heap.store.Goals as goal
 
 pub set_card-requires : goal.set_card-requires

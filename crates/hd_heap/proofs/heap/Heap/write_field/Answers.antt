@@ -5,9 +5,10 @@ use Rattle.hd_cells.specs.Region.{object_at as object_in_region}
 use Rattle.hd_model.specs.Heap.{Placed}
 use Rattle.hd_heap.specs.Areas.{address, placed_of}
 use Rattle.hd_heap.specs.Calls.{with_object, with_field}
-use Rattle.hd_heap.proofs.Reading.{low_place, place_within, seen, count_seen}
-use Rattle.hd_heap.proofs.Writes.{rewritten}
-use Rattle.hd_heap.proofs.Changes.{address_number}
+use Rattle.hd_heap.proofs.RegionReads.{low_place, place_within, seen, count_seen}
+use Rattle.hd_heap.proofs.RegionWrites.{rewritten}
+use Rattle.hd_heap.proofs.RegionChanges.{address_number}
+use Rattle.hd_heap.proofs.FullRegions.{others_by}
 use Rattle.hd_heap.proofs.heap.Heap.write_field.Goals as goal
 
 pub place_of-requires : goal.place_of-requires
@@ -34,14 +35,16 @@ set_field-requires c =
 
 pub invariant_of-self : goal.invariant_of-self
 invariant_of-self c =
+    let is =
     (rewritten c.self.inside.areas.items c.self.inside.spare.items c.self.inside.limit _ _ _ _ c.args.self.now
-    c.self.view_is c.self.invariant c.args.at c.place_of.result c.index_mut.result.now _
+    c.self.view_is c.self.invariant.0 c.args.at c.place_of.result c.index_mut.result.now _
     c.deref_mut.result.now c.set_field.new.self c.offset_of.result
     (region_with_field (object_in_region c.deref_mut.result.now c.offset_of.result) c.args.i
     c.number_of.result) c.requires.object c.place_of.ensures c.index_mut.ensures.value
     c.deref_mut.ensures.value c.offset_of.ensures c.set_field.ensures.written c.set_field.ensures.laid_out
     (length-set (object_in_region c.deref_mut.result.now c.offset_of.result).fields c.args.i
-    c.number_of.result) refl refl refl refl refl).keeps
+    c.number_of.result) refl refl refl refl refl) in
+    (is.keeps, others_by _ _ _ _ _ _ c.self.view_is is.views (λ x. x) c.self.invariant.1)
 
 pub returns : goal.returns
 returns c =
@@ -52,9 +55,9 @@ returns c =
     let o = object_in_region c.deref_mut.result.now c.offset_of.result in
     let cell : address c.number_of.result ≡ c.args.v = ap address c.number_of.ensures
     ∙ address_number c.self.inside.areas.items c.self.inside.spare.items c.self.inside.limit _ _ _ _
-    c.args.self.now c.self.view_is c.self.invariant c.args.v c.requires.target in
+    c.args.self.now c.self.view_is c.self.invariant.0 c.args.v c.requires.target in
     (rewritten c.self.inside.areas.items c.self.inside.spare.items c.self.inside.limit _ _ _ _ c.args.self.now
-    c.self.view_is c.self.invariant c.args.at c.place_of.result c.index_mut.result.now _
+    c.self.view_is c.self.invariant.0 c.args.at c.place_of.result c.index_mut.result.now _
     c.deref_mut.result.now c.set_field.new.self c.offset_of.result
     (region_with_field (object_in_region c.deref_mut.result.now c.offset_of.result) c.args.i
     c.number_of.result) c.requires.object c.place_of.ensures c.index_mut.ensures.value

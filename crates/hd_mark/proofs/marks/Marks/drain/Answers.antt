@@ -4,8 +4,8 @@ use Rattle.hd_model.specs.Names.{HasClosedFields}
 use Rattle.hd_model.specs.Scene.{fields_at}
 use Rattle.hd_mark.specs.Marks.{MarksOf}
 use Rattle.hd_mark.specs.Steps.{scanned}
-use Rattle.hd_mark.proofs.Pushing.{work}
-use Rattle.hd_mark.proofs.Draining.{IsDraining, draining_start, draining_on, work_falls}
+use Rattle.hd_mark.proofs.MarkPush.{work}
+use Rattle.hd_mark.proofs.MarkDrain.{IsDraining, draining_start, draining_on, work_falls}
 use Rattle.hd_mark.proofs.marks.Marks.drain.Goals as goal
 
 pub loop-at-init : goal.loop-at-init

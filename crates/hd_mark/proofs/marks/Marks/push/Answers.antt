@@ -3,7 +3,7 @@ use Rattle.hd_model.specs.Heap.{objects_of}
 use Rattle.hd_model.specs.Scene.{is_object}
 use Rattle.hd_mark.specs.Marks.{MarksOf}
 use Rattle.hd_mark.specs.Steps.{IsTraced}
-use Rattle.hd_mark.proofs.Draining.{push_traced}
+use Rattle.hd_mark.proofs.MarkDrain.{push_traced}
 use Rattle.hd_mark.proofs.marks.Marks.push.Goals as goal
 
 pub invariant_of-self : goal.invariant_of-self

@@ -1,5 +1,5 @@
 use Rattle.std.proofs.Common.{rules}
-use Rattle.hd_mark.proofs.Draining.{pinned_traced}
+use Rattle.hd_mark.proofs.MarkDrain.{pinned_traced}
 use Rattle.hd_mark.proofs.marks.MarksMarker.pin.Goals as goal
 
 pub invariant_of-self : goal.invariant_of-self

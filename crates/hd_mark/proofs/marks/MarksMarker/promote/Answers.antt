@@ -1,5 +1,5 @@
 use Rattle.std.proofs.Common.{rules}
-use Rattle.hd_mark.proofs.Draining.{promoted_grows}
+use Rattle.hd_mark.proofs.MarkDrain.{promoted_grows}
 use Rattle.hd_mark.proofs.marks.MarksMarker.promote.Goals as goal
 
 pub returns-clause-grows : goal.returns-clause-grows

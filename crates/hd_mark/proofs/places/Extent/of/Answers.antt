@@ -1,6 +1,6 @@
 use Rattle.std.proofs.Common.{subst, arith}
 use Rattle.hd_heap.specs.Calls.{IsWalk, is_condemned}
-use Rattle.hd_mark.proofs.Walks.{counted_none, counted_on, counting_falls, counted_members, counted_end, counted_small}
+use Rattle.hd_mark.proofs.CondemnedWalks.{counted_none, counted_on, counting_falls, counted_members, counted_end, counted_small}
 use Rattle.hd_mark.proofs.places.Extent.of.Goals as goal
 
 pub overflow_add-objects : goal.overflow_add-objects

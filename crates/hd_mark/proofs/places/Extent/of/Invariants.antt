@@ -1,5 +1,5 @@
 use Rattle.std.proofs.Common.{◌-◌, ◌^◌}
-use Rattle.hd_mark.proofs.Walks.{IsCounted, last_of}
+use Rattle.hd_mark.proofs.CondemnedWalks.{IsCounted, last_of}
 use Rattle.hd_mark.proofs.places.Extent.of.Given as goal
 
 abbrev pub invariant-loop-at : goal.invariant-loop-at

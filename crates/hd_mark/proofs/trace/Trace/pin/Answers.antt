@@ -1,5 +1,5 @@
 use Rattle.std.proofs.Common.{sym, ◌∙◌}
-use Rattle.hd_mark.proofs.Tracing.{pin_seen}
+use Rattle.hd_mark.proofs.TraceInvariant.{pin_seen}
 use Rattle.hd_mark.proofs.trace.Trace.pin.Goals as goal
 
 pub returns-then-not-is_older : goal.returns-then-not-is_older

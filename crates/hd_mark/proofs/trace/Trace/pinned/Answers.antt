@@ -1,5 +1,5 @@
 use Rattle.std.proofs.Common.{sym, ◌∙◌}
-use Rattle.hd_mark.proofs.Tracing.{pinned_read}
+use Rattle.hd_mark.proofs.TraceInvariant.{pinned_read}
 use Rattle.hd_mark.proofs.trace.Trace.pinned.Goals as goal
 
 pub returns-else-is_older : goal.returns-else-is_older

@@ -1,5 +1,5 @@
 use Rattle.std.proofs.Common.{sym, ◌∙◌}
-use Rattle.hd_mark.proofs.Tracing.{promoted_read}
+use Rattle.hd_mark.proofs.TraceInvariant.{promoted_read}
 use Rattle.hd_mark.proofs.trace.Trace.promoted.Goals as goal
 
 pub returns-else-is_older : goal.returns-else-is_older

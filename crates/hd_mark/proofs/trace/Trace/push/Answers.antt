@@ -1,7 +1,7 @@
 use Rattle.std.proofs.Common.{◌≡◌, false, sym, ◌∙◌, arith}
 use Rattle.hd_mark.specs.Marks.{promoted_in, is_older}
-use Rattle.hd_mark.proofs.Tracing.{push_room, push_kept, push_seen}
-use Rattle.hd_mark.proofs.Pushing.{neither}
+use Rattle.hd_mark.proofs.TraceInvariant.{push_room, push_kept, push_seen}
+use Rattle.hd_mark.proofs.MarkPush.{neither}
 use Rattle.hd_mark.proofs.trace.Trace.push.Goals as goal
 
 pub push_reserved-requires : goal.push_reserved-requires

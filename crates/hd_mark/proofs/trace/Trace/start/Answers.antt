@@ -1,8 +1,8 @@
 use Rattle.std.proofs.Common.{◌≡◌, length, [], ap, arith}
 use Rattle.std.specs.Prelude.{reverse}
 use Rattle.hd_mark.specs.Inside.{set_of}
-use Rattle.hd_mark.proofs.Setting.{set_of_none}
-use Rattle.hd_mark.proofs.Leaving.{left_most}
+use Rattle.hd_mark.proofs.MarkBits.{set_of_none}
+use Rattle.hd_mark.proofs.UnmarkedCount.{left_most}
 use Rattle.hd_mark.proofs.trace.Trace.start.Goals as goal
 
 pub invariant_of-result : goal.invariant_of-result

@@ -1,0 +1,187 @@
+-- What the clearing of dependent handles makes of one handle, and of all along a walk.
+use Rattle.std.proofs.Common.{◌≡◌, ◌&&◌, ℕ, zero, suc, Bool, true, false, cond, List, Option, Some, None, refl, sym, ap, ◌∙◌, subst, ⊎_elim}
+use Rattle.std.specs.Prelude.{option_map}
+use Rattle.std.proofs.lemmas.Bool.{both_ways, cases_Bool, and_left, and_right}
+use Rattle.std.proofs.lemmas.Option.{same_Some}
+use Rattle.hd_model.specs.declared.data.Addr.{Addr}
+use Rattle.hd_model.specs.declared.data.Kind.{Kind}
+use Rattle.hd_model.specs.declared.data.Kind.TheVariants as kind
+use Rattle.hd_model.specs.declared.data.Strength.TheVariants as strength_of
+use Rattle.hd_model.specs.State.{Extra, nothing, strength, secondary, count, Handle}
+use Rattle.hd_model.specs.Role.{Role, holds, short, long, attaches, role_of, role}
+use Rattle.hd_model.specs.Scene.{Objects}
+use Rattle.hd_model.specs.Marking.{IsSettled}
+use Rattle.hd_model.specs.Ages.{is_due, HasSoundAges}
+use Rattle.hd_model.specs.Collect.{is_attaching, is_lost}
+use Rattle.hd_model.specs.Counting.{Counts}
+use Rattle.hd_model.specs.Table.{Table, row_at, fits}
+use Rattle.hd_model.proofs.PropertyCounts.{counts_like}
+use Rattle.hd_model.proofs.IdleCollection.{kept_target}
+use Rattle.hd_model.proofs.MarkReach.{undue_target}
+use Rattle.hd_ages.specs.declared.due_rows.DueRows.{DueRows}
+use Rattle.hd_ages.specs.Rows.{IsDueRow}
+use Rattle.hd_seg.specs.Rewriting.{Rewrites}
+use Rattle.hd_ages.proofs.WalkWrites.{IsChanging}
+use Rattle.hd_dep.specs.Clearing.{detached, IsDetached, IsAllDetached, IsDetachedAt, IsLostAt}
+
+-- only dependent handles attach
+pub attaching_kind : {N : Type 0} (k : Kind) (e : Extra N) → role_of k e ≡ attaches → k ≡ kind.Dependent
+attaching_kind kind.Short e is = cc
+attaching_kind kind.Long e is = cc
+attaching_kind kind.Strong e is = cc
+attaching_kind kind.Pinned e is = cc
+attaching_kind kind.Variable (strength strength_of.Short) is = cc
+attaching_kind kind.Variable (strength strength_of.Long) is = cc
+attaching_kind kind.Variable (strength strength_of.Strong) is = cc
+attaching_kind kind.Variable (strength strength_of.Pinned) is = cc
+attaching_kind kind.Variable nothing is = cc
+attaching_kind kind.Variable (secondary o) is = cc
+attaching_kind kind.Variable (count c) is = cc
+attaching_kind kind.Counted (count zero) is = cc
+attaching_kind kind.Counted (count (suc c)) is = cc
+attaching_kind kind.Counted nothing is = cc
+attaching_kind kind.Counted (strength given) is = cc
+attaching_kind kind.Counted (secondary o) is = cc
+attaching_kind kind.Dependent e is = refl
+
+attaching_role : (r : Role) → is_attaching r ≡ true → r ≡ attaches
+attaching_role holds e = cc
+attaching_role short e = cc
+attaching_role long e = cc
+attaching_role attaches e = refl
+
+module _ {N : Type 0} (p : N → Bool) (h : Handle N) where
+  -- one that loses its target and its secondary, and one that does not
+  pub detached_lost : h.kind ≡ kind.Dependent → is_lost p h.target ≡ true
+      → record { kind = h.kind; target = None; extra = secondary None } ≡ detached true p h
+  detached_lost dependent lost =
+      let both : (is_attaching (role h) && is_lost p h.target) ≡ true =
+      ap (λ k. is_attaching (role_of k h.extra) && is_lost p h.target) dependent ∙ lost in
+      λ i. record {
+        kind = h.kind;
+        target = sym (ap (λ b. cond b None h.target) both) i;
+        extra = sym (ap (λ b. cond b (secondary None) h.extra) both) i;
+      }
+
+  pub detached_kept : (due : Bool) → (is_attaching (role h) && (due && is_lost p h.target)) ≡ false
+      → detached due p h ≡ h
+  detached_kept due kept = λ i. record {
+    kind = h.kind;
+    target = ap (λ b. cond b None h.target) kept i;
+    extra = ap (λ b. cond b (secondary None) h.extra) kept i;
+  }
+
+-- the row of a dependent handle, written without its target and secondary, where it is lost
+pub detached_written : (p : Addr → Bool) (h : Handle Addr) (slot : ℕ) (old new : Table)
+    → h.kind ≡ kind.Dependent → is_lost p h.target ≡ true
+    → Rewrites slot (record { kind = h.kind; target = None; extra = secondary None }) old new
+    → Rewrites slot (detached true p h) old new
+detached_written p h slot old new dependent lost written =
+    subst (λ (q : Handle Addr). Rewrites slot q old new) (detached_lost p h dependent lost) written
+
+pub dependent_fits : (k : Kind) → k ≡ kind.Dependent → fits {N = Addr} k (secondary None) ≡ true
+dependent_fits k dependent = ap (λ (k : Kind). fits {N = Addr} k (secondary None)) dependent
+
+pub attaches_by : {N : Type 0} (h : Handle N) → h.kind ≡ kind.Dependent → role h ≡ attaches
+attaches_by h e = ap (λ k. role_of k h.extra) e
+
+module _ (t : Table) (ages : List ℕ) (n : ℕ) (p : Addr → Bool) where
+  abbrev pub detach : ℕ → Handle Addr → Handle Addr
+  detach slot = detached (is_due ages n slot) p
+
+  -- a clearing walk, which counts what it cleared
+  abbrev pub IsDetaching : Table → DueRows → (before steps cleared : ℕ) → Type 0
+  IsDetaching = IsChanging t ages n kind.Dependent detach (IsDetachedAt (row_at t) ages n p)
+
+  -- it is to visit all that it clears, and what it is not to visit stays as it is
+  pub detached_due : (slot : ℕ) → IsDetachedAt (row_at t) ages n p slot
+      → IsDueRow t ages n kind.Dependent slot
+  detached_due slot r = record {
+    handle = r.handle;
+    stands = r.stands;
+    of_kind = attaching_kind r.handle.kind r.handle.extra r.attaches;
+    due = r.due;
+  }
+
+  pub undue_kept : (slot : ℕ) (h : Handle Addr) → row_at t slot ≡ Some h
+      → (IsDueRow t ages n kind.Dependent slot → ⊥) → detach slot h ≡ h
+  undue_kept slot h stands undue =
+      detached_kept p h (is_due ages n slot)
+      (⊎_elim
+      (λ attaching. ⊎_elim
+      (λ due. absurd (undue (record {
+        handle = h;
+        stands = stands;
+        of_kind = attaching_kind h.kind h.extra (attaching_role (role h) attaching);
+        due = due;
+      })))
+      (λ not_due. and_right (is_attaching (role h)) (is_due ages n slot && is_lost p h.target)
+      (and_left (is_due ages n slot) (is_lost p h.target) not_due))
+      (cases_Bool (is_due ages n slot)))
+      (λ other. and_left (is_attaching (role h)) (is_due ages n slot && is_lost p h.target) other)
+      (cases_Bool (is_attaching (role h))))
+
+  -- the row that it visits
+  module _ (slot : ℕ) (due : IsDueRow t ages n kind.Dependent slot) (g : Handle Addr)
+      (same : g ≡ due.handle) where
+    pub detached_row : (now next : Table) → Rewrites slot (detached true p g) now next
+        → Rewrites slot (detach slot due.handle) now next
+    detached_row now next r =
+        subst (λ h. Rewrites slot h now next) (λ i. detached (sym due.due i) p (same i)) r
+
+    pub detached_has : is_lost p g.target ≡ true → IsDetachedAt (row_at t) ages n p slot
+    detached_has lost = record {
+      handle = due.handle;
+      stands = due.stands;
+      due = due.due;
+      attaches = attaches_by due.handle due.of_kind;
+      lost = ap (λ (h : Handle Addr). is_lost p h.target) (sym same) ∙ lost;
+    }
+
+    pub detached_hasnt : is_lost p g.target ≡ false → IsDetachedAt (row_at t) ages n p slot → ⊥
+    detached_hasnt kept q =
+        let e : q.handle ≡ g =
+        same_Some q.handle g (sym q.stands ∙ due.stands ∙ ap (λ h. Some h) (sym same)) in
+        both_ways (is_lost p g.target) kept (ap (λ (h : Handle Addr). is_lost p h.target) (sym e) ∙ q.lost)
+
+-- where ages are sound, the rows that are not visited have lost nothing
+module _ (o : Objects Addr) (t now : Table) (ages : List ℕ) (n : ℕ) (p : Addr → Bool)
+    (settled : IsSettled o n p)
+    (sound : HasSoundAges o (row_at t) ages) where
+  undue_found : (slot : ℕ) (h : Handle Addr) → row_at t slot ≡ Some h → is_due ages n slot ≡ false
+      → is_lost p h.target ≡ false
+  undue_found slot h stands undue =
+      kept_target p h.target
+      (λ x e. settled.older x (undue_target o n (row_at t) ages sound slot h stands undue x e))
+
+  whole_row : (slot : ℕ) (r : Option (Handle Addr)) → row_at t slot ≡ r
+      → option_map (detached (is_due ages n slot) p) r ≡ option_map (detached true p) r
+  whole_row slot None e = refl
+  whole_row slot (Some h) e =
+      ⊎_elim (λ due. ap (λ b. Some (detached b p h)) due)
+      (λ undue. let found = undue_found slot h e undue in
+      let none : (b : Bool) → detached b p h ≡ h =
+      λ b. detached_kept p h b (and_right (is_attaching (role h)) (b && is_lost p h.target)
+      (and_right b (is_lost p h.target) found)) in
+      ap (λ g. Some g) (none (is_due ages n slot) ∙ sym (none true)))
+      (cases_Bool (is_due ages n slot))
+
+  pub detached_whole : IsDetached ages n p (row_at t) (row_at now) → IsAllDetached p (row_at t) (row_at now)
+  detached_whole pass = λ slot. pass slot ∙ whole_row slot (row_at t slot) refl
+
+  pub detached_whole_count : (answer : ℕ) → Counts (IsDetachedAt (row_at t) ages n p) answer
+      → Counts (IsLostAt (row_at t) p) answer
+  detached_whole_count answer counts =
+      counts_like (IsDetachedAt (row_at t) ages n p) (IsLostAt (row_at t) p) answer
+      (λ slot r. record { handle = r.handle; stands = r.stands; attaches = r.attaches; lost = r.lost })
+      (λ slot r. record {
+        handle = r.handle;
+        stands = r.stands;
+        due = ⊎_elim (λ due. due)
+            (λ undue. absurd (both_ways (is_lost p r.handle.target)
+            (undue_found slot r.handle r.stands undue) r.lost))
+            (cases_Bool (is_due ages n slot));
+        attaches = r.attaches;
+        lost = r.lost;
+      })
+      counts

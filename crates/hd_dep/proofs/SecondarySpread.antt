@@ -1,0 +1,171 @@
+-- One pass of a rescan: what it promotes, and when there is nothing to promote.
+use Rattle.std.proofs.Common.{◌≡◌, ◌&&◌, ◌||◌, ℕ, ◌+◌, not, Bool, true, false, List, length, Some, refl, sym, ap, ◌∙◌, subst, ⊎_elim, inl, inr}
+use Rattle.std.specs.Prelude.{Contains, MatchBool}
+use Rattle.std.proofs.lemmas.Bool.{cases_eq, and_parts, not-true}
+use Rattle.hd_model.specs.declared.data.Addr.{Addr}
+use Rattle.hd_model.specs.declared.data.Kind.TheVariants as kind
+use Rattle.hd_model.specs.declared.data.Slot.{Slot}
+use Rattle.hd_model.specs.State.{Handle, secondary_of}
+use Rattle.hd_model.specs.Role.{attaches, role}
+use Rattle.hd_model.specs.Leads.{Leads, Grows}
+use Rattle.hd_model.specs.Reach.{IsArrow}
+use Rattle.hd_model.specs.Scene.{Objects, Rows, IsYoungField}
+use Rattle.hd_model.specs.Ages.{is_due, due_clumps}
+use Rattle.hd_model.specs.Table.{Table, IsTable, chain_of, live_at, row_at}
+use Rattle.hd_model.proofs.EdgeChains.{one_arrow, leads_on}
+use Rattle.hd_ages.specs.declared.due_rows.DueRows.{DueRows}
+use Rattle.hd_ages.specs.Walk.{IsOn, Ends, Gives, due_slots, clumps_to_come, slots_to_come}
+use Rattle.hd_ages.specs.Rows.{IsDueRow}
+use Rattle.hd_ages.proofs.WalkProgress.{IsUnderway, begins, all_to_come, row_due, row_same, past_else, goes_on, all_past}
+use Rattle.std.proofs.lemmas.Option.{same_Some}
+use Rattle.hd_dep.specs.Rescan.{Spreads, Gained, IsFollowed, IsSpreadRow, IsSpread}
+use Rattle.hd_dep.proofs.DependentClear.{attaching_kind, attaches_by}
+
+module _ {N : Type 0} (E : N → N → Type 0) where
+  pub spreads_none : (p : N → Bool) → Spreads E p p
+  spreads_none p = record { keeps = λ x h. h; only = λ x h. (x, (h, Leads.here)) }
+
+  pub spreads_on : (p q r : N → Bool) → Spreads E p q → Spreads E q r → Spreads E p r
+  spreads_on p q r a b = record {
+    keeps = λ x h. b.keeps x (a.keeps x h);
+    only = λ x h.
+        let (y, rest) = b.only x h in
+        let (z, first) = a.only y rest.0 in
+        (z, (first.0, leads_on E first.1 rest.1));
+  }
+
+  pub gained_on : (p q r : N → Bool) → Gained p q → Spreads E q r → Gained p r
+  gained_on p q r g s = record { member = g.member; new = s.keeps g.member g.new; old = g.old }
+
+-- fields of condemned objects are edges
+pub young_arrows : {N : Type 0} (o : Objects N) (n : ℕ) (rows : Rows N) {x y : N}
+    → Leads (IsYoungField o n) x y
+    → Leads (IsArrow o rows) x y
+young_arrows o n rows Leads.here = Leads.here
+young_arrows o n rows (Leads.more chain e) = Leads.more (young_arrows o n rows chain) (inl e.field)
+
+module _ (o : Objects Addr) (n : ℕ) (t : Table) where
+  -- the secondary of a handle is promoted with its target
+  pub promoted_beyond : (slot : ℕ) (h : Handle Addr) (x y : Addr) (p q : Addr → Bool) → row_at t slot ≡ Some h
+      → h.kind ≡ kind.Dependent → h.target ≡ Some x → secondary_of h.extra ≡ Some y
+      → (p x && not (p y)) ≡ true → Grows (IsYoungField o n) (λ z. z ≡ y) p q
+      → Spreads (IsArrow o (row_at t)) p q × Gained p q
+  promoted_beyond slot h x y p q stands dependent target secondary beyond grows =
+      let parts = and_parts (p x) (not (p y)) beyond in
+      let arrow : IsArrow o (row_at t) x y =
+      inr (record {
+        slot = slot;
+        handle = h;
+        stands = stands;
+        attaches = attaches_by h dependent;
+        target = target;
+        secondary = secondary;
+      }) in (
+        record {
+          keeps = grows.keeps;
+          only = λ z h.
+              ⊎_elim (λ earlier. (z, (earlier, Leads.here)))
+              (λ (w : (r : Addr) × ((r ≡ y) × Leads (IsYoungField o n) r z)). (
+                x,
+                (
+                  parts.0,
+                  leads_on (IsArrow o (row_at t)) (one_arrow (IsArrow o (row_at t)) arrow)
+                      (subst (λ r. Leads (IsArrow o (row_at t)) r z) w.1.0
+                      (young_arrows o n (row_at t) w.1.1)),
+                ),
+              ))
+              (grows.only z h);
+        },
+        record { member = y; new = grows.joins y refl; old = not-true (p y) parts.1 },
+      )
+
+  module _ (ages : List ℕ) (p0 : Addr → Bool) where
+    abbrev A : Addr → Addr → Type 0
+    A = IsArrow o (row_at t)
+
+    -- nothing was promoted, and the handles that were visited needed nothing
+    pub record IsQuiet (w : DueRows) (p : Addr → Bool) : Type 0 where
+      pub same : p ≡ p0
+      pub followed : (slot : ℕ) (h : Handle Addr) → row_at t slot ≡ Some h → role h ≡ attaches
+          → is_due ages n slot ≡ true → (Contains (slots_to_come t ages w) slot → ⊥) → IsFollowed h p0
+
+    -- along a pass
+    pub record IsSpreading (w : DueRows) (before steps : ℕ) (p : Addr → Bool) (more : Bool) : Type 0 where
+      pub under : IsUnderway t ages n kind.Dependent t w before steps
+      pub spreads : Spreads A p0 p
+      pub found : MatchBool more (Gained p0 p) (IsQuiet w p)
+
+    module _ (is : IsTable t) (w : DueRows) (before : ℕ) (on : IsOn t w)
+        (slots : slots_to_come t ages w ≡ due_slots t ages n kind.Dependent)
+        (clumps : clumps_to_come t ages w ≡ due_clumps ages n (chain_of t kind.Dependent)) where
+      pub spread_start : IsSpreading w before before p0 false
+      spread_start = record {
+        under = begins t ages n kind.Dependent is w slots before on clumps;
+        spreads = spreads_none A p0;
+        found = record {
+          same = refl;
+          followed = λ slot h stands role_is due past.
+              absurd (past (all_to_come t ages n kind.Dependent is w slots slot (record {
+                handle = h;
+                stands = stands;
+                of_kind = attaching_kind h.kind h.extra role_is;
+                due = due;
+              })));
+        };
+      }
+
+    module _ (old new : DueRows) (slot : Slot) (before steps after : ℕ) (p q : Addr → Bool)
+        (more row_more : Bool)
+        (s : IsSpreading old before steps p more) (gives : Gives t ages old new slot) (on : IsOn t new)
+        (counted : after + length (clumps_to_come t ages new) ≡ steps + length (clumps_to_come t ages old))
+        (spreads : Spreads A p q)
+        (row : MatchBool row_more (Gained p q) (IsSpreadRow (live_at t slot.0) p q)) where
+      due : IsDueRow t ages n kind.Dependent slot.0
+      due = row_due t ages n kind.Dependent t old new before slot steps after s.under gives
+
+      same : live_at t slot.0 ≡ due.handle
+      unfolding due
+      same = row_same t ages n kind.Dependent t old new before slot steps after s.under gives
+
+      quiet : IsQuiet old p → IsSpreadRow (live_at t slot.0) p q → IsQuiet new q
+      quiet a b = record {
+        same = b.same ∙ a.same;
+        followed = λ k h stands role_is is_due past.
+            ⊎_elim
+            (λ e. let here : live_at t slot.0 ≡ h =
+            same_Some (live_at t slot.0) h
+            (ap (λ g. Some g) same ∙ sym due.stands ∙ ap (row_at t) (sym e) ∙ stands) in
+            subst (λ g. IsFollowed g p0) here (subst (IsFollowed (live_at t slot.0)) a.same b.followed))
+            (λ ne. a.followed k h stands role_is is_due
+            (past_else t ages n kind.Dependent t old new before slot steps after s.under gives k ne past))
+            (cases_eq k slot.0);
+      }
+
+      found : (m r : Bool) → MatchBool m (Gained p0 p) (IsQuiet old p)
+          → MatchBool r (Gained p q) (IsSpreadRow (live_at t slot.0) p q)
+          → MatchBool (m || r) (Gained p0 q) (IsQuiet new q)
+      found true r a b = gained_on A p0 p q a spreads
+      found false true a b = subst (λ f. Gained f q) a.same b
+      found false false a b = quiet a b
+
+      pub spread_row : IsSpreading new before after q (more || row_more)
+      spread_row = record {
+        under = goes_on t ages n kind.Dependent t old new before slot steps after s.under gives on counted;
+        spreads = spreads_on A p0 p q s.spreads spreads;
+        found = found more row_more s.found row;
+      }
+
+    module _ (old new : DueRows) (before steps after : ℕ) (p : Addr → Bool) (more : Bool)
+        (s : IsSpreading old before steps p more) (ends : Ends t ages old new) where
+      at_end : (m : Bool) → MatchBool m (Gained p0 p) (IsQuiet old p)
+          → MatchBool m (Gained p0 p) (IsSpread (row_at t) ages n p0 p)
+      at_end true a = a
+      at_end false a = record {
+        same = a.same;
+        followed = λ slot h stands role_is due.
+            a.followed slot h stands role_is due
+            (all_past t ages n kind.Dependent t old new before steps after s.under ends slot);
+      }
+
+      pub spread_end : MatchBool more (Gained p0 p) (IsSpread (row_at t) ages n p0 p)
+      spread_end = at_end more s.found

@@ -1,0 +1,32 @@
+-- What is promoted grows by one member of a list after another.
+use Rattle.std.proofs.Common.{◌≡◌, Bool, ℕ, ◌+◌, ◌<◌, List, [], ◌∷◌, ◌++◌, length, take, get_or, sym, ap, ◌∙◌, subst, ⊎_elim, inl, inr, ◌⊎◌, Contains}
+use Rattle.std.proofs.lemmas.List.{append_assoc, map_more}
+use Rattle.std.proofs.lemmas.List.Elements.{Contains-append_left, Contains-push, Contains-push_cases}
+use Rattle.hd_model.specs.declared.data.Addr.{Addr}
+use Rattle.hd_model.specs.Leads.{Grows}
+use Rattle.hd_model.proofs.EdgeChains.{grows_on, grows_like}
+use Rattle.hd_final.specs.declared.joiners.Joiner.{Joiner}
+use Rattle.hd_final.specs.Joiners.{places}
+
+pub places_more : (js : List Joiner) (i : ℕ) (d : Joiner) → i < length js
+    → places (take (i + 1) js) ≡ places (take i js) ++ (get_or js i d).at ∷ []
+places_more js i d low = map_more (λ (j : Joiner). j.at) js i d low
+
+-- the queued addresses, with one more after them
+pub beyond : (waiting start : List Addr) (js : List Joiner) (i : ℕ) (d : Joiner) → i < length js
+    → waiting ≡ start ++ places (take i js)
+    → waiting ++ (get_or js i d).at ∷ [] ≡ start ++ places (take (i + 1) js)
+beyond waiting start js i d low is =
+    ap (λ xs. xs ++ (get_or js i d).at ∷ []) is
+    ∙ append_assoc start (places (take i js)) ((get_or js i d).at ∷ [])
+    ∙ ap (λ xs. start ++ xs) (sym (places_more js i d low))
+
+module _ {N : Type 0} (E : N → N → Type 0) (done : List N) (x : N) (p q r : N → Bool) where
+  pub grown_more : Grows E (λ a. Contains done a) p q → Grows E (λ a. a ≡ x) q r
+      → Grows E (λ a. Contains (done ++ x ∷ []) a) p r
+  grown_more before now =
+      grows_like E (λ a. Contains done a ⊎ (a ≡ x)) (λ a. Contains (done ++ x ∷ []) a) p r
+      (λ a. ⊎_elim (λ h. Contains-append_left done (x ∷ []) a h)
+      (λ e. subst (λ z. Contains (done ++ x ∷ []) z) (sym e) (Contains-push done x)))
+      (λ a h. ⊎_elim (λ k. inl k) (λ e. inr (sym e)) (Contains-push_cases done x a h))
+      (grows_on E (λ a. Contains done a) (λ a. a ≡ x) p q r before now)

@@ -1,0 +1,135 @@
+-- Who joins the queue, once all are found and sorted by their identities.
+use Rattle.std.proofs.Common.{◌≡◌, ◌≢◌, ◌==◌, Bool, true, ℕ, ◌+◌, ◌<◌, ◌≤◌, List, ◌++◌, length, get_or, is_some, sym, ap, ◌∙◌, subst, arith, ⊎_elim, Contains, AllPairs, IsPermutation, Decides, length-append}
+use Rattle.std.specs.FinMap.{len}
+use Rattle.std.specs.List.Sorted.{IsNonDecreasingBy}
+use Rattle.std.proofs.lemmas.Bool.{both_ways}
+use Rattle.std.proofs.lemmas.Bool.Decides.{Decides-eqb, Decides-like, same_from_decides}
+use Rattle.std.proofs.lemmas.List.{length-map, get_or-map}
+use Rattle.std.proofs.lemmas.List.Elements.{Contains-append_cases, Contains-get_or}
+use Rattle.std.proofs.lemmas.List.Sorted.{IsPermutation-map, IsPermutation-sym, Contains-permutation}
+use Rattle.std.proofs.lemmas.Map.Keys.{IsDistinct-IsPermutation}
+use Rattle.std.proofs.lemmas.Map.Made.{AllPairs-from_IsDistinct, IsDistinct-from_AllPairs}
+use Rattle.hd_model.specs.declared.data.Addr.{Addr}
+use Rattle.hd_model.specs.declared.data.Id.{Id}
+use Rattle.hd_model.specs.Counting.{Counts}
+use Rattle.hd_model.specs.Leads.{Grows}
+use Rattle.hd_model.specs.Scene.{IsYoungField}
+use Rattle.hd_model.specs.Heap.{Heap, object_at, id_at, placed_at, has_object, HasIdentities}
+use Rattle.hd_model.proofs.EdgeChains.{grows_like}
+use Rattle.hd_model.proofs.Members.{mapped_from, pairs_mapped, pairs_append}
+use Rattle.hd_final.specs.declared.joiners.Joiner.{Joiner}
+use Rattle.hd_final.specs.Revival.{IsOut, Revives}
+use Rattle.hd_final.specs.Joiners.{places, IsFound}
+use Rattle.hd_final.proofs.ObjectLookup.{address_is, stands_there, id_there, few_differ}
+
+-- a permutation of addresses that differ has addresses that differ
+abbrev is_address : Addr → Addr → Bool
+is_address a b = a.0 == b.0
+
+tells : (a b : Addr) → Decides (is_address a b) (a ≡ b)
+tells a b = Decides-like (a.0 == b.0) (address_is a b) (λ e. ap (λ (c : Addr). c.0) e) (Decides-eqb a.0 b.0)
+
+either_way : (a b : Addr) → is_address a b ≡ is_address b a
+either_way a b = same_from_decides (is_address a b) (is_address b a) (tells a b)
+    (Decides-like (is_address b a) (λ e. sym e) (λ e. sym e) (tells b a))
+
+once_moved : (xs ys : List Addr) → IsPermutation xs ys → AllPairs (λ x y. x ≢ y) xs
+    → AllPairs (λ x y. x ≢ y) ys
+once_moved xs ys moves once =
+    AllPairs-from_IsDistinct tells ys
+    (IsDistinct-IsPermutation is_address either_way xs ys moves (IsDistinct-from_AllPairs tells xs once))
+
+-- two objects with one identity are one
+one_identity : (h : Heap) → HasIdentities h → (a b : Addr) → has_object h a ≡ true → has_object h b ≡ true
+    → (id_at h a).0 ≡ (id_at h b).0 → a ≡ b
+one_identity h identities a b is_a is_b same =
+    let ids : id_at h a ≡ id_at h b = λ i. record { 0 = same i } in
+    address_is a b (identities a.0 b.0 (placed_at h a) (placed_at h b) (stands_there h a is_a)
+    (stands_there h b is_b) (sym (id_there h a is_a) ∙ ids ∙ id_there h b is_b))
+
+module _ (h : Heap) (n : ℕ) (p : Addr → Bool) (js ks : List Joiner) (found : IsFound h n p js)
+    (moves : IsPermutation js ks) where
+  was_found : (j : Joiner) → Contains ks j → Contains js j
+  was_found j k = Contains-permutation ks js j (IsPermutation-sym js ks moves) k
+
+  pub joins_each : (a : Addr) → Contains (places ks) a → IsOut (object_at h) n p a
+  joins_each a k =
+      let (j, rest) = mapped_from (λ (j : Joiner). j.at) ks a k in
+      subst (λ b. IsOut (object_at h) n p b) rest.1 (found.outside j (was_found j rest.0))
+
+  pub joins_object : (a : Addr) → Contains (places ks) a → has_object h a ≡ true
+  joins_object a k = ap is_some (joins_each a k).stands
+
+  joins_all : (a : Addr) → IsOut (object_at h) n p a → Contains (places ks) a
+  joins_all a out =
+      Contains-permutation (places js) (places ks) a (IsPermutation-map (λ (j : Joiner). j.at) js ks moves)
+      (found.all a out)
+
+  joins_once : AllPairs (λ x y. x ≢ y) (places ks)
+  joins_once =
+      once_moved (places js) (places ks) (IsPermutation-map (λ (j : Joiner). j.at) js ks moves) found.once
+
+  joins_rise : HasIdentities h → IsNonDecreasingBy (λ (j : Joiner). j.id.0) ks
+      → AllPairs (λ x y. (id_at h x).0 < (id_at h y).0) (places ks)
+  joins_rise identities rising =
+      pairs_mapped (λ (i j : Joiner). (id_at h i.at).0 < (id_at h j.at).0)
+      (λ x y. (id_at h x).0 < (id_at h y).0) (λ (j : Joiner). j.at) ks (λ x y up. up)
+      (λ i j d low high.
+      let x = get_or ks i d in
+      let y = get_or ks j d in
+      let early : i < length ks = omega arith in
+      let in_x : Contains ks x = Contains-get_or ks i d early in
+      let in_y : Contains ks y = Contains-get_or ks j d high in
+      let up : x.id.0 ≤ y.id.0 = rising i j d (omega arith) high in
+      let id_x : x.id.0 ≡ (id_at h x.at).0 = ap (λ (z : Id). z.0) (found.identified x (was_found x in_x)) in
+      let id_y : y.id.0 ≡ (id_at h y.at).0 = ap (λ (z : Id). z.0) (found.identified y (was_found y in_y)) in
+      let there_x : has_object h x.at ≡ true = ap is_some (found.outside x (was_found x in_x)).stands in
+      let there_y : has_object h y.at ≡ true = ap is_some (found.outside y (was_found y in_y)).stands in
+      let all_differ : length (places ks) ≡ length ks = length-map ks (λ (j : Joiner). j.at) in
+      let differ : x.at ≢ y.at = λ e. joins_once i j d.at low (omega arith)
+      (get_or-map (λ (z : Joiner). z.at) ks i d d.at early ∙ e
+      ∙ sym (get_or-map (λ (z : Joiner). z.at) ks j d d.at high)) in
+      let ranks : (id_at h x.at).0 ≢ (id_at h y.at).0 =
+      λ same. differ (one_identity h identities x.at y.at there_x there_y same) in
+      omega arith)
+
+  pub joins_count : Counts (IsOut (object_at h) n p) (length ks)
+  joins_count = record {
+    members = places ks;
+    apart = joins_once;
+    each = joins_each;
+    all = joins_all;
+    number = length-map ks (λ (j : Joiner). j.at);
+  }
+
+  pub revived : HasIdentities h → IsNonDecreasingBy (λ (j : Joiner). j.id.0) ks → (q : Addr → Bool)
+      → (queue after : List Addr) → after ≡ queue ++ places ks
+      → Grows (IsYoungField (object_at h) n) (λ a. Contains (places ks) a) p q
+      → Revives (λ a. (id_at h a).0) (object_at h) n p q queue after
+  revived identities rising q queue after is grows = record {
+    grows = grows_like (IsYoungField (object_at h) n) (λ a. Contains (places ks) a) (IsOut (object_at h) n p)
+        p q joins_each joins_all grows;
+    joins = places ks;
+    queue_is = is;
+    each = joins_each;
+    all = joins_all;
+    rising = joins_rise identities rising;
+  }
+
+  module _ (waiting : List Addr) (once : AllPairs (λ x y. x ≢ y) waiting)
+      (objects : (a : Addr) → Contains waiting a → has_object h a ≡ true)
+      (promoted : (a : Addr) → Contains waiting a → p a ≡ true) where
+    -- what joins was not queued
+    pub queue_once : AllPairs (λ x y. x ≢ y) (waiting ++ places ks)
+    queue_once =
+        pairs_append (λ x y. x ≢ y) waiting (places ks) once joins_once
+        (λ x y early late same. both_ways _ (joins_each y late).out
+        (sym (ap p same) ∙ promoted x early))
+
+    -- the heap has an object for each
+    pub queue_fits : length waiting + length ks ≤ len h.objects
+    queue_fits =
+        let few : length (waiting ++ places ks) ≤ len h.objects =
+        few_differ h (waiting ++ places ks) queue_once
+        (λ a k. ⊎_elim (objects a) (joins_object a) (Contains-append_cases waiting (places ks) a k)) in
+        omega (arith, few, length-append waiting (places ks), length-map ks (λ (j : Joiner). j.at))

@@ -1,0 +1,90 @@
+-- Which regions of generation 0 may have room for another object.
+use Rattle.std.proofs.Common.{◌≡◌, ◌≢◌, ℕ, ◌+◌, ◌<◌, ◌≤◌, inl, inr, true, false, cond, List, Option, Some, None, refl, sym, ap, ◌∙◌, subst, arith}
+use Rattle.std.specs.Prelude.{is_some, unwrap_or, nat_eq}
+use Rattle.std.proofs.lemmas.Bool.{cases_eq, both_ways, eq-eqb, ne_eqb}
+use Rattle.std.specs.Ordering.{nat_cmp}
+use Rattle.std.specs.FinMap as fin
+use Rattle.hd_model.specs.Heap.{Heap, Placed, Region, is_held, region_at, region_generation}
+use Rattle.hd_heap.specs.Calls.{with_fresh, with_put, with_generation, AreFull}
+use Rattle.hd_heap.specs.Steps.{AreOthersFull}
+use Rattle.hd_model.proofs.ReadAfterWrite.{get_left, get_removed}
+use Rattle.hd_heap.proofs.HeapValues.{get_same, get_other}
+
+-- what holds of a heap's value holds of its regions, where one changes into the other
+pub others_by : (a old b new : Heap) (c d : ℕ) → a ≡ old → b ≡ new
+    → (AreOthersFull old c → AreOthersFull new d) → AreOthersFull a c → AreOthersFull b d
+others_by a old b new c d is_old is_new step full =
+    subst (λ h. AreOthersFull h d) (sym is_new) (step (subst (λ h. AreOthersFull h c) is_old full))
+
+-- nothing is said of a heap whose last region is not known
+pub others_unknown : (h : Heap) (c : ℕ) → c ≡ 0 → AreOthersFull h c
+others_unknown h c none r some held young other = absurd (some none)
+
+-- a region got other words or another generation
+pub others_put : (h new : Heap) (c r : ℕ) (x : Region) → new.regions ≡ fin.insert h.regions r x
+    → (c ≢ 0 → x.generation ≡ 0 → r ≢ c → 193 ≤ x.fill) → AreOthersFull h c → AreOthersFull new c
+others_put h new c r x regions here full q some held young other =
+    let P : Region → Type 0 = λ g. 193 ≤ g.fill in
+    let read : fin.FinMap nat_cmp Region → Region =
+    λ rs. unwrap_or (fin.get rs q) (record { generation = 0; fill = 0 }) in
+    elim (cases_eq q r) [
+      | inl same ↦
+          let is : region_at new q ≡ x =
+          ap read regions ∙ ap (λ (o : Option Region). unwrap_or o (record { generation = 0; fill = 0 }))
+          (get_same h.regions r q x same) in
+          subst P (sym is)
+          (here some (sym (ap (λ (g : Region). g.generation) is) ∙ young) (λ e. other (same ∙ e)))
+      | inr apart ↦
+          let got : fin.get new.regions q ≡ fin.get h.regions q =
+          ap (λ rs. fin.get rs q) regions ∙ get_other h.regions r q x apart in
+          let is : region_at new q ≡ region_at h q =
+          ap (λ (o : Option Region). unwrap_or o (record { generation = 0; fill = 0 })) got in
+          subst P (sym is)
+          (full q some (sym (ap is_some got) ∙ held) (sym (ap (λ (g : Region). g.generation) is) ∙ young)
+          other)
+    ]
+
+-- a region got a generation: where that is 0, the last region is not known
+others_given : (h new : Heap) (c r g f : ℕ) → new.regions ≡ fin.insert h.regions r
+    (record { generation = g; fill = f }) → AreOthersFull h c → AreOthersFull new (cond (nat_eq g 0) 0 c)
+others_given h new c r g f regions full = elim (cases_eq g 0) [
+  | inl none ↦ others_unknown new _ (ap (λ b. cond b 0 c) (eq-eqb g 0 none))
+  | inr some ↦ subst (AreOthersFull new) (sym (ap (λ b. cond b 0 c) (ne_eqb g 0 some)))
+      (others_put h new c r _ regions (λ known young. absurd (some young)) full)
+]
+
+pub others_raised : (h : Heap) (c r g : ℕ) → AreOthersFull h c
+    → AreOthersFull (with_generation h r g) (cond (nat_eq g 0) 0 c)
+others_raised h c r g full = others_given h (with_generation h r g) c r g (region_at h r).fill refl full
+
+pub others_fresh : (h : Heap) (c r g : ℕ) → AreOthersFull h c
+    → AreOthersFull (with_fresh h r g) (cond (nat_eq g 0) 0 c)
+others_fresh h c r g full = others_given h (with_fresh h r g) c r g 0 refl full
+
+-- an object was put into a region
+pub others_placed : (h : Heap) (c r : ℕ) (o : Placed) → is_held h r ≡ true → AreOthersFull h c
+    → AreOthersFull (with_put h r (region_generation h r) o) c
+others_placed h c r o held full =
+    others_put h (with_put h r (region_generation h r) o) c r _ refl
+    (λ some young other. let low = full r some held young other in omega (arith, low)) full
+
+-- a region was released
+pub others_left : (h : Heap) (c r : ℕ) (spare : List ℕ) → AreOthersFull h c
+    → AreOthersFull (record h { regions = fin.remove h.regions r; spare = spare }) c
+others_left h c r spare full q some held young other = elim (cases_eq q r) [
+  | inl same ↦ absurd (both_ways _ (ap (λ n. is_some (fin.get (fin.remove h.regions r) n)) same
+      ∙ ap is_some (get_removed h.regions r)) held)
+  | inr apart ↦
+      let got = get_left h.regions r q apart in
+      let is : region_at (record h { regions = fin.remove h.regions r; spare = spare }) q ≡ region_at h q =
+      ap (λ (o : Option Region). unwrap_or o (record { generation = 0; fill = 0 })) got in
+      subst (λ (g : Region). 193 ≤ g.fill) (sym is)
+      (full q some (sym (ap is_some got) ∙ held) (sym (ap (λ (g : Region). g.generation) is) ∙ young)
+      other)
+]
+
+-- all are full, and one is begun: all others are full
+pub others_begun : (h : Heap) (r : ℕ) → AreFull h → AreOthersFull (with_fresh h r 0) r
+others_begun h r full =
+    others_put h (with_fresh h r 0) r r (record { generation = 0; fill = 0 }) refl
+    (λ some young other. absurd (other refl)) (λ q some held young other. full q held young)

@@ -1,0 +1,111 @@
+-- Lemmas on lists that are read as maps and sets by index.
+use Rattle.std.proofs.Common.{◌≡◌, ℕ, zero, suc, ◌+◌, ◌-◌, ◌*◌, ◌<◌, Bool, true, false, ◌||◌, cond, List, [], ◌∷◌, ◌++◌, length, get_or, Option, Some, None, refl, sym, ap, ◌∙◌, arith}
+use Rattle.std.specs.List.{list_any}
+use Rattle.std.specs.FinMap.{get, find, get-from_entries}
+use Rattle.std.specs.FinSet as set
+use Rattle.std.specs.Ordering.{nat_cmp, eq_by_cmp}
+use Rattle.std.specs.Cmp.{nat_cmp_total, unsigned_tied}
+use Rattle.std.proofs.lemmas.Bool.{eq-eqb, ne_eqb}
+use Rattle.std.proofs.lemmas.List.{get_or_append_left, get_or-append_right}
+use Rattle.hd_heap.specs.Places.{numbered, by_place, flagged, places_of, table, tables}
+
+-- the order's test at two numbers that are equal, and at two that are not
+pub tied : (q i : ℕ) → q ≡ i → eq_by_cmp nat_cmp q i ≡ true
+tied q i same = unsigned_tied q i ∙ eq-eqb q i same
+
+pub untied : (q i : ℕ) → (q ≡ i → ⊥) → eq_by_cmp nat_cmp q i ≡ false
+untied q i apart = unsigned_tied q i ∙ ne_eqb q i apart
+
+-- what is found at a key that is the first one, and at another
+pub found_first : {A : Type 0} (q i : ℕ) (x o : Option A) → q ≡ i → cond (eq_by_cmp nat_cmp q i) x o ≡ x
+found_first q i x o same = ap (λ b. cond b x o) (tied q i same)
+
+pub found_later : {A : Type 0} (q i : ℕ) (x o : Option A) → (q ≡ i → ⊥) → cond (eq_by_cmp nat_cmp q i) x o ≡ o
+found_later q i x o apart = ap (λ b. cond b x o) (untied q i apart)
+
+find-numbered_below : {A : Type 0} (i q : ℕ) (xs : List (Option A)) → q < i
+    → find nat_cmp q (numbered i xs) ≡ None
+find-numbered_below i q [] below = refl
+find-numbered_below i q (None ∷ xs) below = find-numbered_below (i + 1) q xs (omega arith)
+find-numbered_below i q (Some x ∷ xs) below =
+    found_later q i (Some x) (find nat_cmp q (numbered (i + 1) xs)) (λ same. omega arith)
+    ∙ find-numbered_below (i + 1) q xs (omega arith)
+
+find-numbered : {A : Type 0} (i j q : ℕ) (xs : List (Option A)) → q ≡ i + j
+    → find nat_cmp q (numbered i xs) ≡ get_or xs j None
+find-numbered i j q [] at = refl
+find-numbered i zero q (None ∷ xs) at = find-numbered_below (i + 1) q xs (omega arith)
+find-numbered i (suc j) q (None ∷ xs) at = find-numbered (i + 1) j q xs (omega arith)
+find-numbered i zero q (Some x ∷ xs) at = found_first q i (Some x) (find nat_cmp q (numbered (i + 1) xs))
+    (omega arith)
+find-numbered i (suc j) q (Some x ∷ xs) at =
+    found_later q i (Some x) (find nat_cmp q (numbered (i + 1) xs)) (λ same. omega arith)
+    ∙ find-numbered (i + 1) j q xs (omega arith)
+
+-- a read by index
+pub get-by_place : {A : Type 0} (xs : List (Option A)) (k : ℕ) → get (by_place xs) k ≡ get_or xs k None
+get-by_place xs k = get-from_entries nat_cmp_total (numbered 0 xs) k ∙ find-numbered 0 k k xs (omega arith)
+
+any-flagged_below : (i q : ℕ) (bs : List Bool) → q < i → list_any (eq_by_cmp nat_cmp q) (flagged i bs) ≡ false
+any-flagged_below i q [] below = refl
+any-flagged_below i q (false ∷ bs) below = any-flagged_below (i + 1) q bs (omega arith)
+any-flagged_below i q (true ∷ bs) below =
+    ap (λ b. b || list_any (eq_by_cmp nat_cmp q) (flagged (i + 1) bs)) (untied q i (λ same. omega arith))
+    ∙ any-flagged_below (i + 1) q bs (omega arith)
+
+any-flagged : (i j q : ℕ) (bs : List Bool) → q ≡ i + j → list_any (eq_by_cmp nat_cmp q) (flagged i bs)
+    ≡ get_or bs j false
+any-flagged i j q [] at = refl
+any-flagged i zero q (false ∷ bs) at = any-flagged_below (i + 1) q bs (omega arith)
+any-flagged i (suc j) q (false ∷ bs) at = any-flagged (i + 1) j q bs (omega arith)
+any-flagged i zero q (true ∷ bs) at = ap (λ b. b || list_any (eq_by_cmp nat_cmp q) (flagged (i + 1) bs))
+    (tied q i (omega arith))
+any-flagged i (suc j) q (true ∷ bs) at =
+    ap (λ b. b || list_any (eq_by_cmp nat_cmp q) (flagged (i + 1) bs)) (untied q i (λ same. omega arith))
+    ∙ any-flagged (i + 1) j q bs (omega arith)
+
+-- an index is in the set where what is there is true
+pub contains-places_of : (bs : List Bool) (q : ℕ) → set.contains (places_of bs) q ≡ get_or bs q false
+contains-places_of bs q = set.contains-from_list nat_cmp_total (flagged 0 bs) q
+    ∙ any-flagged 0 q q bs (omega arith)
+
+length-table : {A : Type 0} (n : ℕ) (f : ℕ → A) → length (table n f) ≡ n
+unfolding table
+length-table zero f = refl
+length-table (suc n) f = ap suc (length-table n (λ k. f (suc k)))
+
+get_or-table : {A : Type 0} (n : ℕ) (f : ℕ → A) (k : ℕ) (d : A) → k < n → get_or (table n f) k d ≡ f k
+unfolding table
+get_or-table zero f k d below = absurd (omega arith)
+get_or-table (suc n) f zero d below = refl
+get_or-table (suc n) f (suc k) d below = get_or-table n (λ j. f (suc j)) k d (omega arith)
+
+-- a read of the tables of a list: the item's table has it, or there is no such item
+get_or-tables_at : {A B : Type 0} (n : ℕ) (f : Option A → ℕ → B) (d : B) → ((k : ℕ) → f None k ≡ d)
+    → (os : List (Option A)) (i j q : ℕ) → q ≡ i * n + j → j < n → get_or (tables n f os) q d ≡ f
+    (get_or os i None) j
+unfolding tables
+get_or-tables_at n f d none [] i j q at below = sym (none j)
+get_or-tables_at n f d none (o ∷ os) zero j q at below =
+    let short = length-table n (f o) in
+    let is : q ≡ j = omega (arith, zero_times n) in
+    ap (λ k. get_or (table n (f o) ++ tables n f os) k d) is
+    ∙ get_or_append_left (table n (f o)) (tables n f os) d j (omega arith) ∙ get_or-table n (f o) j d below
+  where
+    zero_times : (n : ℕ) → 0 * n ≡ 0
+    zero_times n = omega arith
+get_or-tables_at n f d none (o ∷ os) (suc i) j q at below =
+    let short = length-table n (f o) in
+    let times : suc i * n ≡ n + i * n = omega arith in
+    let rest = get_or-tables_at n f d none os i j (i * n + j) refl below in
+    let is : q ≡ length (table n (f o)) + (i * n + j) = omega arith in
+    let less : length (table n (f o)) + (i * n + j) - n ≡ i * n + j = omega arith in
+    ap (λ k. get_or (table n (f o) ++ tables n f os) k d) is
+    ∙ get_or-append_right (table n (f o)) (tables n f os) n (length (table n (f o)) + (i * n + j)) d short
+    (omega arith)
+    ∙ ap (λ k. get_or (tables n f os) k d) less ∙ rest
+
+pub get_or-tables : {A B : Type 0} (n : ℕ) (f : Option A → ℕ → B) (d : B) → ((k : ℕ) → f None k ≡ d)
+    → (os : List (Option A)) (q i j : ℕ) → q ≡ i * n + j → j < n → get_or (tables n f os) q d ≡ f
+    (get_or os i None) j
+get_or-tables n f d none os q i j at below = get_or-tables_at n f d none os i j q at below

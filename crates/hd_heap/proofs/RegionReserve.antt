@@ -1,0 +1,43 @@
+-- Lemmas on the list of free regions as it grows.
+use Rattle.std.proofs.Common.{◌≡◌, ℕ, ◌+◌, ◌<◌, ◌≤◌, List, [], ◌∷◌, ◌++◌, length, take, refl, sym, ap, ◌∙◌, arith, length-append}
+use Rattle.std.specs.Prelude.{max}
+use Rattle.std.proofs.lemmas.List.{take-append-le}
+use Rattle.hd_model.specs.Heap.{Heap}
+
+-- only the free regions have changed: they are the old ones and more, at most `count`, if those were fewer
+pub record IsLonger (old new : Heap) (count : ℕ) : Type 0 where
+  pub same : new ≡ record old { spare = new.spare }
+  pub kept : take (length old.spare) new.spare ≡ old.spare
+  pub more : length old.spare ≤ length new.spare
+  pub most : length new.spare ≤ max count (length old.spare)
+
+take_whole : (xs : List ℕ) → take (length xs) xs ≡ xs
+take_whole [] = refl
+take_whole (x ∷ xs) = ap (λ ys. x ∷ ys) (take_whole xs)
+
+take_more : (xs : List ℕ) (n y : ℕ) → n ≤ length xs → take n (xs ++ y ∷ []) ≡ take n xs
+take_more xs n y low = take-append-le n xs (y ∷ []) low
+
+pub same_length : (h : Heap) (count : ℕ) → IsLonger h h count
+same_length h count = record {
+  same = refl;
+  kept = take_whole h.spare;
+  more = omega arith;
+  most = omega arith;
+}
+
+pub one_longer : (old now new : Heap) (count n : ℕ) → IsLonger old now count → length now.spare < count
+    → new ≡ record now { spare = now.spare ++ n ∷ [] } → IsLonger old new count
+one_longer old now new count n is below added =
+    let spares : new.spare ≡ now.spare ++ n ∷ [] = ap (λ (h : Heap). h.spare) added in
+    let lengths : length new.spare ≡ length now.spare + 1 = ap length spares
+    ∙ length-append now.spare (n ∷ []) in
+    let more = is.more in
+    let most = is.most in
+    record {
+      same = added ∙ ap (λ (h : Heap). record h { spare = now.spare ++ n ∷ [] }) is.same
+          ∙ ap (λ ns. record old { spare = ns }) (sym spares);
+      kept = ap (take (length old.spare)) spares ∙ take_more now.spare (length old.spare) n is.more ∙ is.kept;
+      more = omega arith;
+      most = omega arith;
+    }

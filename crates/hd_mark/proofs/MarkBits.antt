@@ -1,0 +1,120 @@
+-- Bits read as sets of addresses: what a bit more does to them.
+use Rattle.std.proofs.Common.{◌≡◌, ◌≢◌, ℕ, ◌+◌, ◌*◌, ◌/◌, ◌%◌, ◌^◌, ◌<◌, ◌==◌, true, false, ◌||◌, List, length, get_or, set, bit_or, Option, Some, None, inl, inr, refl, sym, ap, ◌∙◌, arith}
+use Rattle.std.specs.Prelude.{IfSome, is_some}
+use Rattle.std.specs.Int.{bit_at}
+use Rattle.std.specs.FinMap.{nat_cmp-IsAntisymmetric}
+use Rattle.std.specs.FinSet.{FinSet, contains, insert, empty, same_set, contains-insert, contains-empty}
+use Rattle.std.specs.Ordering.{nat_cmp}
+use Rattle.std.specs.Cmp.{nat_cmp_total}
+use Rattle.std.proofs.lemmas.Bool.{cases_eq}
+use Rattle.std.proofs.lemmas.List.{get_or-set_same, get_or-set_other}
+use Rattle.hd_mask.proofs.Bits.{set_same, set_other}
+use Rattle.hd_heap.proofs.IndexedLists.{tied, untied, contains-places_of, get_or-tables}
+use Rattle.hd_mark.specs.Inside.{is_set, is_set_in, place_at, set_of, IsTable}
+
+-- ---- one bit
+
+module _ (words : List ℕ) (i word : ℕ) (within : i / 64 < length words)
+    (read : word ≡ get_or words (i / 64) 0) where
+  pub set_here : is_set (set words (i / 64) (bit_or word (2 ^ (i % 64)))) i ≡ true
+  set_here =
+      ap (λ w. bit_at w (i % 64) == 1)
+      (get_or-set_same words (i / 64) (bit_or word (2 ^ (i % 64))) 0 within)
+      ∙ ap (λ b. b == 1) (set_same word (i % 64))
+
+  pub set_elsewhere : (k : ℕ) → k ≢ i
+      → is_set (set words (i / 64) (bit_or word (2 ^ (i % 64)))) k ≡ is_set words k
+  set_elsewhere k apart =
+      elim (cases_eq (k / 64) (i / 64)) [
+        | inl e ↦
+            ap (λ j. bit_at (get_or (set words (i / 64) (bit_or word (2 ^ (i % 64)))) j 0) (k % 64) == 1) e
+            ∙ ap (λ w. bit_at w (k % 64) == 1)
+            (get_or-set_same words (i / 64) (bit_or word (2 ^ (i % 64))) 0 within)
+            ∙ ap (λ b. b == 1) (set_other word (i % 64) (k % 64) (λ s. apart (omega arith)))
+            ∙ ap (λ w. bit_at w (k % 64) == 1) read
+            ∙ ap (λ j. bit_at (get_or words j 0) (k % 64) == 1) (sym e)
+        | inr other ↦ ap (λ w. bit_at w (k % 64) == 1)
+            (get_or-set_other words (i / 64) (k / 64) (bit_or word (2 ^ (i % 64))) 0 other)
+      ]
+
+-- ---- members of sets of numbers
+
+module _ (s : FinSet nat_cmp) (k q : ℕ) where
+  pub insert_here : q ≡ k → contains (insert s k) q ≡ true
+  insert_here e = contains-insert nat_cmp_total s k q ∙ ap (λ b. b || contains s q) (tied q k e)
+
+  pub insert_elsewhere : q ≢ k → contains (insert s k) q ≡ contains s q
+  insert_elsewhere apart =
+      contains-insert nat_cmp_total s k q ∙ ap (λ b. b || contains s q) (untied q k apart)
+
+  pub insert_keeps : contains s q ≡ true → contains (insert s k) q ≡ true
+  insert_keeps member =
+      elim (cases_eq q k) [ inl e ↦ insert_here e | inr apart ↦ insert_elsewhere apart ∙ member ]
+
+same_numbers : (s t : FinSet nat_cmp) → ((q : ℕ) → contains s q ≡ contains t q) → s ≡ t
+same_numbers = same_set nat_cmp_total nat_cmp-IsAntisymmetric
+
+-- ---- sets of addresses
+
+pub contains-set_of : (places : List (Option ℕ)) (words : List ℕ) (q : ℕ)
+    → contains (set_of places words) q ≡ is_set_in words (place_at places (q / 256)) (q % 256)
+unfolding set_of
+contains-set_of places words q =
+    contains-places_of _ q
+    ∙ get_or-tables 256 (is_set_in words) false (λ k. refl) places q (q / 256) (q % 256) (omega arith)
+    (omega arith)
+
+-- where no bit is set, no address is a member
+pub set_of_none : (places : List (Option ℕ)) (words : List ℕ) → ((i : ℕ) → is_set words i ≡ false)
+    → set_of places words ≡ empty
+set_of_none places words none =
+    same_numbers _ _ (λ q.
+    contains-set_of places words q ∙ in_region (place_at places (q / 256)) (q % 256)
+    ∙ sym (contains-empty nat_cmp q))
+  where
+    in_region : (o : Option ℕ) (k : ℕ) → is_set_in words o k ≡ false
+    in_region None k = refl
+    in_region (Some p) k = none (p * 256 + k)
+
+-- the bit of an address: whether it is set says whether the address is a member
+pub bit_read : (places : List (Option ℕ)) (words : List ℕ) (q bit : ℕ)
+    → is_some (place_at places (q / 256)) ≡ true
+    → IfSome (place_at places (q / 256)) (λ p. bit ≡ p * 256 + q % 256)
+    → is_set words bit ≡ contains (set_of places words) q
+bit_read places words q bit some is =
+    by_place (place_at places (q / 256)) some is ∙ sym (contains-set_of places words q)
+  where
+    by_place : (o : Option ℕ) → is_some o ≡ true → IfSome o (λ p. bit ≡ p * 256 + q % 256)
+        → is_set words bit ≡ is_set_in words o (q % 256)
+    by_place None none bit_is = absurd (cc none)
+    by_place (Some p) there bit_is = ap (is_set words) bit_is
+
+-- to set the bit of an address is to insert it
+pub bit_joins : (places : List (Option ℕ)) (regions : ℕ) (words after : List ℕ) (a bit : ℕ)
+    → IsTable places regions → is_some (place_at places (a / 256)) ≡ true
+    → IfSome (place_at places (a / 256)) (λ p. bit ≡ p * 256 + a % 256) → is_set after bit ≡ true
+    → ((k : ℕ) → k ≢ bit → is_set after k ≡ is_set words k)
+    → set_of places after ≡ insert (set_of places words) a
+bit_joins places regions words after a bit table some is joins others =
+    same_numbers _ _ (λ q.
+    elim (cases_eq q a) [
+      | inl same ↦
+          ap (contains (set_of places after)) same ∙ sym (bit_read places after a bit some is) ∙ joins
+          ∙ sym (insert_here (set_of places words) a q same)
+      | inr apart ↦
+          contains-set_of places after q
+          ∙ elsewhere q apart (place_at places (a / 256)) refl some is (place_at places (q / 256)) refl
+          ∙ sym (contains-set_of places words q)
+          ∙ sym (insert_elsewhere (set_of places words) a q apart)
+    ])
+  where
+    elsewhere : (q : ℕ) → q ≢ a → (o : Option ℕ) → place_at places (a / 256) ≡ o → is_some o ≡ true
+        → IfSome o (λ p. bit ≡ p * 256 + a % 256) → (r : Option ℕ) → place_at places (q / 256) ≡ r
+        → is_set_in after r (q % 256) ≡ is_set_in words r (q % 256)
+    elsewhere q apart None here none bit_is r there = absurd (cc none)
+    elsewhere q apart (Some p) here some_p bit_is None there = refl
+    elsewhere q apart (Some p) here some_p bit_is (Some r) there = others (r * 256 + q % 256) (λ e.
+        let one : r ≡ p = omega (arith, e, bit_is) in
+        let region : q / 256 ≡ a / 256 =
+        table.apart (q / 256) (a / 256) r there (here ∙ ap Some (sym one)) in
+        apart (omega (arith, e, bit_is, one, region)))

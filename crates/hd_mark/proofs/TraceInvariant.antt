@@ -1,0 +1,133 @@
+-- What a trace keeps of its bits and its stack.
+use Rattle.std.proofs.Common.{◌≡◌, ◌≢◌, ℕ, ◌+◌, ◌*◌, ◌%◌, ◌<◌, ◌≤◌, Bool, true, false, ◌&&◌, ◌||◌, List, [], ◌∷◌, ◌++◌, length, Option, refl, sym, ap, ◌∙◌, subst, length-append, arith}
+use Rattle.std.specs.Prelude.{IfSome, is_some, reverse, if◌then◌else◌}
+use Rattle.std.specs.FinSet.{FinSet, contains, insert}
+use Rattle.std.specs.Ordering.{nat_cmp}
+use Rattle.std.proofs.lemmas.Bool.{le-leb}
+use Rattle.std.proofs.lemmas.List.{reverse-append}
+use Rattle.hd_model.specs.declared.data.Addr.{Addr}
+use Rattle.hd_model.specs.Heap.{Heap, region_of, has_object, object_at, objects_of}
+use Rattle.hd_model.specs.Scene.{is_object, generation_at}
+use Rattle.hd_heap.specs.Calls.{is_condemned}
+use Rattle.hd_mark.specs.Inside.{is_set, place_at, set_of, left, IsTrace}
+use Rattle.hd_mark.specs.Marks.{MarksOf, is_older, promoted_in, pinned_in, pushed, pinned_also}
+use Rattle.hd_mark.proofs.MarkBits.{bit_read, bit_joins}
+use Rattle.hd_mark.proofs.UnmarkedCount.{left_falls}
+use Rattle.hd_mark.proofs.MarkDrain.{is_young}
+use Rattle.hd_mark.proofs.MarkPush.{neither}
+
+both : (b c : Bool) → b ≡ true → c ≡ true → (b && c) ≡ true
+both true true p q = refl
+both true false p q = absurd (cc q)
+both false c p q = absurd (cc p)
+
+module _ (h : Heap) (n : ℕ) (places : List (Option ℕ)) (regions : ℕ) (marks pins : List ℕ) (stack : List Addr)
+    (room : ℕ) (t : IsTrace h n places regions marks pins stack room) where
+  -- what is seen of the fields
+  abbrev pub seen : List ℕ → List ℕ → List Addr → MarksOf
+  seen marked pinned stacked = record {
+    basis = record { heap = h; condemned = n };
+    marks = set_of places marked;
+    pins = set_of places pinned;
+    stacked = reverse stacked;
+  }
+
+  module _ (m : MarksOf) (view : seen marks pins stack ≡ m) (at : Addr)
+      (object : is_object (objects_of m.basis) at ≡ true) (not_older : is_older m.basis at ≡ false) where
+    object_here : has_object h at ≡ true
+    object_here = subst (λ (k : MarksOf). is_object (objects_of k.basis) at ≡ true) (sym view) object
+
+    condemned_here : is_condemned h n at ≡ true
+    condemned_here =
+        both _ _ object_here
+        (le-leb (generation_at (object_at h) at) n
+        (is_young (record { heap = h; condemned = n }) at
+        (subst (λ (k : MarksOf). is_older k.basis at ≡ false) (sym view) not_older)))
+
+    pub has_place : is_some (place_at places (region_of at)) ≡ true
+    has_place = t.covers at condemned_here
+
+    module _ (bit : ℕ) (bit_is : IfSome (place_at places (region_of at)) (λ p. bit ≡ p * 256 + at.0 % 256))
+      where
+        -- its bits say whether an object is promoted and pinned
+        pub promoted_read : is_set marks bit ≡ promoted_in m at
+        unfolding region_of
+        promoted_read =
+            bit_read places marks at.0 bit has_place bit_is ∙ ap (λ (k : MarksOf). contains k.marks at.0) view
+            ∙ sym (ap (λ b. b || contains m.marks at.0) not_older)
+
+        pub pinned_read : is_set pins bit ≡ pinned_in m at
+        unfolding region_of
+        pinned_read =
+            bit_read places pins at.0 bit has_place bit_is ∙ ap (λ (k : MarksOf). contains k.pins at.0) view
+            ∙ sym (ap (λ b. b || contains m.pins at.0) not_older)
+
+        module _ (after : List ℕ) (joins : is_set after bit ≡ true) where
+          -- it is pinned
+          pub pin_seen : ((k : ℕ) → k ≢ bit → is_set after k ≡ is_set pins k)
+              → seen marks after stack ≡ pinned_also m at
+          unfolding region_of
+          pin_seen others =
+              let more : set_of places after ≡ insert (set_of places pins) at.0 =
+              bit_joins places regions pins after at.0 bit t.table has_place bit_is joins others in
+              let one : seen marks after stack ≡ record (seen marks pins stack) {
+                pins = insert (set_of places pins) at.0;
+              } =
+              λ i. record (seen marks pins stack) { pins = more i } in
+              one ∙ ap (λ (k : MarksOf). record k { pins = insert k.pins at.0 }) view
+              ∙ sym
+              (ap (λ b. if b then m else (record m { pins = insert m.pins at.0 })) not_older)
+
+          -- it is marked and stacked, and had room there
+          module _ (others : (k : ℕ) → k ≢ bit → is_set after k ≡ is_set marks k)
+              (unmarked : promoted_in m at ≡ false) where
+            marks_more : set_of places after ≡ insert (set_of places marks) at.0
+            unfolding region_of
+            marks_more = bit_joins places regions marks after at.0 bit t.table has_place bit_is joins others
+
+            fewer_left : left (set_of places after) t.members + 1 ≤ left (set_of places marks) t.members
+            fewer_left =
+                let out : contains (set_of places marks) at.0 ≡ false =
+                ap (λ (k : MarksOf). contains k.marks at.0) view ∙ (neither _ _ unmarked).1 in
+                subst (λ (s : FinSet nat_cmp). left s t.members + 1 ≤ left (set_of places marks) t.members)
+                (sym marks_more)
+                (left_falls (set_of places marks) at.0 t.members out (t.all at condemned_here))
+
+            pub push_room : length stack < room
+            push_room = let fewer = fewer_left in let enough = t.room_left in omega arith
+
+            module _ (longer : List Addr) (longer_is : longer ≡ stack ++ at ∷ []) where
+              pub push_kept : length after ≡ length marks
+                  → IsTrace h n places regions after pins longer room
+              push_kept same = record {
+                table = t.table;
+                few = t.few;
+                covers = t.covers;
+                marks_long = same ∙ t.marks_long;
+                pins_long = t.pins_long;
+                members = t.members;
+                all = t.all;
+                room_left =
+                    let fewer = fewer_left in
+                    let enough = t.room_left in
+                    let one = ap length longer_is ∙ length-append stack (at ∷ []) in
+                    omega arith;
+              }
+
+              pub push_seen : seen after pins longer ≡ pushed m at
+              push_seen =
+                  let top : reverse longer ≡ at ∷ reverse stack =
+                  ap reverse longer_is ∙ reverse-append stack (at ∷ []) in
+                  let one : seen after pins longer ≡ record (seen marks pins stack) {
+                    marks = insert (set_of places marks) at.0;
+                    stacked = at ∷ reverse stack;
+                  } =
+                  λ i. record (seen marks pins stack) { marks = marks_more i; stacked = top i } in
+                  one
+                  ∙ ap (λ (k : MarksOf). record k { marks = insert k.marks at.0; stacked = at ∷ k.stacked })
+                  view
+                  ∙ sym
+                  (ap (λ b. if b then m else (record m {
+                    marks = insert m.marks at.0;
+                    stacked = at ∷ m.stacked;
+                  })) unmarked)

@@ -1,0 +1,154 @@
+-- What a clearing task makes of one handle, and of all along a walk.
+use Rattle.std.proofs.Common.{◌≡◌, ◌&&◌, ℕ, Bool, true, false, cond, List, Option, Some, None, refl, sym, ap, ◌∙◌, subst, ⊎_elim}
+use Rattle.std.specs.Prelude.{option_map}
+use Rattle.std.proofs.lemmas.Option.{same_Some}
+use Rattle.std.proofs.lemmas.Bool.{both_ways, cases_Bool, and_parts, and_left, and_right, and_from}
+use Rattle.hd_model.specs.declared.data.Addr.{Addr}
+use Rattle.hd_model.specs.State.{Handle}
+use Rattle.hd_model.specs.Kinds.{is_kind}
+use Rattle.hd_model.specs.Role.{role}
+use Rattle.hd_model.specs.Scene.{Objects}
+use Rattle.hd_model.specs.Marking.{IsSettled}
+use Rattle.hd_model.specs.Ages.{is_due, HasSoundAges}
+use Rattle.hd_model.specs.Collect.{is_lost}
+use Rattle.hd_model.specs.Table.{Table, row_at}
+use Rattle.hd_model.proofs.KindTests.{same_kind}
+use Rattle.hd_model.proofs.PropertyCounts.{counts_like}
+use Rattle.hd_model.proofs.IdleCollection.{kept_target}
+use Rattle.hd_model.proofs.MarkReach.{undue_target}
+use Rattle.hd_ages.specs.declared.due_rows.DueRows.{DueRows}
+use Rattle.hd_ages.specs.Rows.{IsDueRow}
+use Rattle.hd_seg.specs.Rewriting.{Rewrites}
+use Rattle.hd_ages.proofs.WalkWrites.{IsChanging}
+use Rattle.hd_scan.specs.declared.task.Task.{Task}
+use Rattle.hd_scan.specs.Tasks.{task_kind, task_role, is_role, takes, swept}
+use Rattle.hd_scan.specs.Passes.{IsSweptAt, ClearPass}
+use Rattle.hd_scan.specs.Whole.{IsLostAt, WholeClear}
+
+module _ {N : Type 0} (task : Task) (p : N → Bool) (h : Handle N) where
+  -- one that loses its target, and one that does not
+  pub swept_lost : (takes task h && is_lost p h.target) ≡ true
+      → record h { target = None } ≡ swept true task p h
+  swept_lost lost = λ i. record {
+    kind = h.kind;
+    target = sym (ap (λ b. cond b None h.target) lost) i;
+    extra = h.extra;
+  }
+
+  pub swept_kept : (due : Bool) → (takes task h && (due && is_lost p h.target)) ≡ false
+      → swept due task p h ≡ h
+  swept_kept due kept = λ i. record {
+    kind = h.kind;
+    target = ap (λ b. cond b None h.target) kept i;
+    extra = h.extra;
+  }
+
+-- a handle that a task takes is of its kind
+pub taken_kind : {N : Type 0} (task : Task) (h : Handle N) → takes task h ≡ true → h.kind ≡ task_kind task
+taken_kind task h taken =
+    sym (same_kind (task_kind task) h.kind
+    (and_parts (is_kind (task_kind task) h.kind) (is_role (task_role task) (role h)) taken).0)
+
+module _ (t : Table) (ages : List ℕ) (n : ℕ) (task : Task) (p : Addr → Bool) where
+  abbrev pub sweep : ℕ → Handle Addr → Handle Addr
+  sweep slot = swept (is_due ages n slot) task p
+
+  -- a clearing walk, which counts what it cleared
+  abbrev pub IsSweeping : Table → DueRows → (before steps cleared : ℕ) → Type 0
+  IsSweeping = IsChanging t ages n (task_kind task) sweep (IsSweptAt (row_at t) ages n task p)
+
+  -- it is to visit all that the task clears, and what it is not to visit stays as it is
+  pub swept_due : (slot : ℕ) → IsSweptAt (row_at t) ages n task p slot
+      → IsDueRow t ages n (task_kind task) slot
+  swept_due slot r = record {
+    handle = r.handle;
+    stands = r.stands;
+    of_kind = taken_kind task r.handle r.takes;
+    due = r.due;
+  }
+
+  pub undue_kept : (slot : ℕ) (h : Handle Addr) → row_at t slot ≡ Some h
+      → (IsDueRow t ages n (task_kind task) slot → ⊥) → sweep slot h ≡ h
+  undue_kept slot h stands undue =
+      swept_kept task p h (is_due ages n slot)
+      (⊎_elim
+      (λ taken. ⊎_elim
+      (λ due. absurd (undue (record {
+        handle = h;
+        stands = stands;
+        of_kind = taken_kind task h taken;
+        due = due;
+      })))
+      (λ not_due. and_right (takes task h) (is_due ages n slot && is_lost p h.target)
+      (and_left (is_due ages n slot) (is_lost p h.target) not_due))
+      (cases_Bool (is_due ages n slot)))
+      (λ not_taken. and_left (takes task h) (is_due ages n slot && is_lost p h.target) not_taken)
+      (cases_Bool (takes task h)))
+
+  -- the row that it visits
+  module _ (slot : ℕ) (due : IsDueRow t ages n (task_kind task) slot) (g : Handle Addr)
+      (same : g ≡ due.handle) where
+    pub swept_row : (now next : Table) → Rewrites slot (swept true task p g) now next
+        → Rewrites slot (sweep slot due.handle) now next
+    swept_row now next r =
+        subst (λ h. Rewrites slot h now next) (λ i. swept (sym due.due i) task p (same i)) r
+
+    pub swept_has : (takes task g && is_lost p g.target) ≡ true → IsSweptAt (row_at t) ages n task p slot
+    swept_has lost =
+        let parts = and_parts (takes task g) (is_lost p g.target) lost in
+        record {
+          handle = due.handle;
+          stands = due.stands;
+          due = due.due;
+          takes = ap (takes task) (sym same) ∙ parts.0;
+          lost = ap (λ (h : Handle Addr). is_lost p h.target) (sym same) ∙ parts.1;
+        }
+
+    pub swept_hasnt : (takes task g && is_lost p g.target) ≡ false → IsSweptAt (row_at t) ages n task p slot
+        → ⊥
+    swept_hasnt kept q =
+        let e : q.handle ≡ g =
+        same_Some q.handle g (sym q.stands ∙ due.stands ∙ ap (λ h. Some h) (sym same)) in
+        both_ways (takes task g && is_lost p g.target) kept
+        (and_from (takes task g) (is_lost p g.target) (ap (takes task) (sym e) ∙ q.takes)
+        (ap (λ (h : Handle Addr). is_lost p h.target) (sym e) ∙ q.lost))
+
+-- where ages are sound, the rows that are not visited have lost nothing
+module _ (o : Objects Addr) (t now : Table) (ages : List ℕ) (n : ℕ) (task : Task) (p pin : Addr → Bool)
+    (answer : ℕ) (settled : IsSettled o n p) (sound : HasSoundAges o (row_at t) ages)
+    (pass : ClearPass t now ages n task p p pin pin answer) where
+  undue_found : (slot : ℕ) (h : Handle Addr) → row_at t slot ≡ Some h → is_due ages n slot ≡ false
+      → is_lost p h.target ≡ false
+  undue_found slot h stands undue =
+      kept_target p h.target
+      (λ x e. settled.older x (undue_target o n (row_at t) ages sound slot h stands undue x e))
+
+  whole_row : (slot : ℕ) (r : Option (Handle Addr)) → row_at t slot ≡ r
+      → option_map (swept (is_due ages n slot) task p) r ≡ option_map (swept true task p) r
+  whole_row slot None e = refl
+  whole_row slot (Some h) e =
+      ⊎_elim (λ due. ap (λ b. Some (swept b task p h)) due)
+      (λ undue. let found = undue_found slot h e undue in
+      let none : (b : Bool) → swept b task p h ≡ h =
+      λ b. swept_kept task p h b (and_right (takes task h) (b && is_lost p h.target)
+      (and_right b (is_lost p h.target) found)) in
+      ap (λ g. Some g) (none (is_due ages n slot) ∙ sym (none true)))
+      (cases_Bool (is_due ages n slot))
+
+  pub sweep_whole : WholeClear (row_at t) (row_at now) task p answer
+  sweep_whole = record {
+    swept = λ slot. pass.swept slot ∙ whole_row slot (row_at t slot) refl;
+    count = counts_like (IsSweptAt (row_at t) ages n task p) (IsLostAt (row_at t) task p) answer
+        (λ slot r. record { handle = r.handle; stands = r.stands; takes = r.takes; lost = r.lost })
+        (λ slot r. record {
+          handle = r.handle;
+          stands = r.stands;
+          due = ⊎_elim (λ due. due)
+              (λ undue. absurd (both_ways (is_lost p r.handle.target)
+              (undue_found slot r.handle r.stands undue) r.lost))
+              (cases_Bool (is_due ages n slot));
+          takes = r.takes;
+          lost = r.lost;
+        })
+        pass.count;
+  }

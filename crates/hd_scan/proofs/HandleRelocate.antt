@@ -1,0 +1,107 @@
+-- What a relocation makes of one handle, and that rows which are not visited need none.
+use Rattle.std.proofs.Common.{◌≡◌, ◌&&◌, ℕ, Bool, true, false, List, Option, Some, None, refl, sym, ap, ◌∙◌, subst, ⊎_elim}
+use Rattle.std.specs.Prelude.{option_map}
+use Rattle.std.proofs.lemmas.Bool.{true≢false, cases_Bool, and_parts, and_right, and_from, eq-eqb}
+use Rattle.hd_model.specs.declared.data.Addr.{Addr}
+use Rattle.hd_model.specs.declared.data.Kind.{Kind}
+use Rattle.hd_model.specs.Kinds.{is_kind, kind_number}
+use Rattle.hd_model.specs.Scene.{Objects}
+use Rattle.hd_model.specs.Ages.{is_due, HasSoundAges}
+use Rattle.hd_model.specs.Marking.{IsKeeping}
+use Rattle.hd_model.specs.Table.{Table, row_at, fits}
+use Rattle.hd_model.proofs.KindTests.{same_kind}
+use Rattle.hd_model.proofs.MarkReach.{undue_in_place}
+use Rattle.hd_model.specs.State as state
+use Rattle.hd_model.specs.State.{Handle, secondary, secondary_of, rename_extra}
+use Rattle.hd_ages.specs.declared.due_rows.DueRows.{DueRows}
+use Rattle.hd_ages.specs.Rows.{IsDueRow}
+use Rattle.hd_seg.specs.Rewriting.{Rewrites}
+use Rattle.hd_seg.proofs.RowRewrite.{fits_secondary}
+use Rattle.hd_ages.proofs.WalkWrites.{IsChanging}
+use Rattle.hd_scan.specs.Relocation.{relocated, KeepsNames, CanRelocate, Relocates, RelocatesAll}
+
+-- the parts of a row with their forwarding addresses make the relocated handle
+pub handle_moved : (place : Addr → Addr) (h : Handle Addr) (target : Option Addr) (extra : state.Extra Addr)
+    → target ≡ option_map place h.target → extra ≡ rename_extra place h.extra
+    → record { kind = h.kind; target = target; extra = extra } ≡ relocated true place h
+handle_moved place h target extra first second =
+    λ i. record { kind = h.kind; target = first i; extra = second i }
+
+-- what fits a kind still does when it is relocated
+pub fits_renamed : (place : Addr → Addr) (k : Kind) (e : state.Extra Addr) → fits k e ≡ true
+    → fits k (rename_extra place e) ≡ true
+fits_renamed place k state.nothing fitting = fitting
+fits_renamed place k (state.strength given) fitting = fitting
+fits_renamed place k (state.secondary o) fitting =
+    fits_secondary k (secondary o) o (option_map place o) refl fitting
+fits_renamed place k (state.count c) fitting = fitting
+
+module _ (t : Table) (ages : List ℕ) (n : ℕ) (k : Kind) (place : Addr → Addr) where
+  abbrev pub relocation : ℕ → Handle Addr → Handle Addr
+  relocation slot h = relocated (is_kind k h.kind && is_due ages n slot) place h
+
+  -- a walk that relocates, and counts nothing
+  abbrev pub IsRelocating : Table → DueRows → (before steps : ℕ) → Type 0
+  IsRelocating now w before steps = IsChanging t ages n k relocation (λ slot. ⊥) now w before steps 0
+
+  left_by : (here : Bool) (h : Handle Addr) → here ≡ false → relocated here place h ≡ h
+  left_by true h e = absurd (true≢false e)
+  left_by false h e = refl
+
+  -- what it is not to visit stays as it is
+  pub undue_left : (slot : ℕ) (h : Handle Addr) → row_at t slot ≡ Some h → (IsDueRow t ages n k slot → ⊥)
+      → relocation slot h ≡ h
+  undue_left slot h stands undue =
+      left_by (is_kind k h.kind && is_due ages n slot) h
+      (⊎_elim
+      (λ due. let parts = and_parts (is_kind k h.kind) (is_due ages n slot) due in
+      absurd (undue (record {
+        handle = h;
+        stands = stands;
+        of_kind = sym (same_kind k h.kind parts.0);
+        due = parts.1;
+      })))
+      (λ not_due. not_due) (cases_Bool (is_kind k h.kind && is_due ages n slot)))
+
+  -- the row that it visits
+  module _ (slot : ℕ) (due : IsDueRow t ages n k slot) (g : Handle Addr) (same : g ≡ due.handle) where
+    visited : (is_kind k due.handle.kind && is_due ages n slot) ≡ true
+    visited =
+        and_from (is_kind k due.handle.kind) (is_due ages n slot)
+        (ap (is_kind k) due.of_kind ∙ eq-eqb (kind_number k) (kind_number k) refl) due.due
+
+    pub moved_row : (now next : Table) → Rewrites slot (relocated true place g) now next
+        → Rewrites slot (relocation slot due.handle) now next
+    moved_row now next r =
+        subst (λ h. Rewrites slot h now next) (λ i. relocated (sym visited i) place (same i)) r
+
+    pub kept_names : (kept : Addr → Bool) → CanRelocate kept ages n k t → KeepsNames kept g
+    kept_names kept can = subst (KeepsNames kept) (sym same) (can slot due.handle due.stands visited)
+
+  -- where ages are sound, what is not visited references nothing that moves
+  pub relocates_all : (o : Objects Addr) (kept : Addr → Bool) (now : Table) → IsKeeping o n kept place
+      → HasSoundAges o (row_at t) ages → Relocates place ages n k t now → RelocatesAll place k t now
+  relocates_all o kept now keeping sound relocates = λ slot. relocates slot ∙ by slot (row_at t slot) refl
+    where
+      undue : (here : Bool) (slot : ℕ) (h : Handle Addr) → row_at t slot ≡ Some h → is_due ages n slot ≡ false
+          → h ≡ relocated here place h
+      undue true slot h e not_due =
+          sym (undue_in_place o n (row_at t) ages sound slot h e not_due place keeping.in_place)
+      undue false slot h e not_due = refl
+
+      by : (slot : ℕ) (r : Option (Handle Addr)) → row_at t slot ≡ r
+          → option_map (relocation slot) r ≡ option_map (λ h. relocated (is_kind k h.kind) place h) r
+      by slot None e = refl
+      by slot (Some h) e =
+          ⊎_elim
+          (λ due. ap (λ b. Some (relocated b place h))
+          (ap (λ b. is_kind k h.kind && b) due ∙ and_true (is_kind k h.kind)))
+          (λ not_due. ap (λ g. Some g)
+          (left_by (is_kind k h.kind && is_due ages n slot) h
+          (and_right (is_kind k h.kind) (is_due ages n slot) not_due)
+          ∙ undue (is_kind k h.kind) slot h e not_due))
+          (cases_Bool (is_due ages n slot))
+        where
+          and_true : (b : Bool) → (b && true) ≡ b
+          and_true true = refl
+          and_true false = refl
