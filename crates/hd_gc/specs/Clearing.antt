@@ -25,7 +25,7 @@ pub record IsDropped {N : Type 0} (rows : Rows N) (r : Role) (p : N → Bool) (s
   pub role_is : role handle ≡ r
   pub lost : is_lost p handle.target ≡ true
 
--- all handles of a role lose a target outside a set, and so many do
+-- all handles of a role lose a target outside a set, and `count` do
 pub record Drops (r : Role) (p : Addr → Bool) (old new : Table) (count : ℕ) : Type 0 where
   pub rows : (slot : ℕ) → row_at new slot ≡ option_map (dropped r p) (row_at old slot)
   pub table : IsSameTable old new

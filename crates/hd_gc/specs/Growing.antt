@@ -16,13 +16,13 @@ pub record Promotes (Start : Addr → Type 0) (old new : MarksOf) : Type 0 where
   pub grows : Grows (IsYoungField (objects_of old.basis) old.basis.condemned) Start (promoted_in old)
       (promoted_in new)
 
--- y stands in a field of an older object in a set card
+-- y is in a field of an older object in a set card
 pub record IsOldField (h : Heap) (n : ℕ) (y : Addr) : Type 0 where
   pub from : Addr
   pub carded : is_old_carded h n from ≡ true
   pub field : IsField (object_at h) from y
 
--- y stands in a field of such an object up to a place
+-- y is in a field of such an object up to an address
 pub record IsOldFieldUpTo (h : Heap) (n : ℕ) (after : Option Addr) (y : Addr) : Type 0 where
   pub old : IsOldField h n y
   pub done : is_after after old.from ≡ false
@@ -44,7 +44,7 @@ pub record SameMarks (old new : MarksOf) : Type 0 where
   pub promoted : promoted_in new ≡ promoted_in old
   pub pinned : pinned_in new ≡ pinned_in old
 
--- how far a place may still rise
+-- how far an address may still rise
 abbrev pub left_to : Option Addr → ℕ
 left_to None = 2 ^ 32 + 1
 left_to (Some a) = 2 ^ 32 - a.0

@@ -3,6 +3,6 @@ pub mod Growing
 pub mod Marking
 pub mod Clearing
 pub mod Steps
-pub mod Sifting
-pub mod Shifting
+pub mod MarkAndClear
+pub mod RelocateAll
 pub mod Collected

@@ -1,4 +1,4 @@
--- What is promoted and pinned after the marking, and after the revival.
+-- What is promoted and pinned after the marking, and after the resurrection.
 use Rattle.std.specs.Prelude.{◌≡◌, ◌↔◌, ◌⊎◌, ℕ, ◌+◌, ◌<◌, Bool, true, List, ◌++◌, Option, Contains, AllPairs}
 use Rattle.std.specs.Bool.{Decides}
 use Rattle.hd_model.specs.declared.data.Addr.{Addr}
@@ -26,7 +26,7 @@ pub record Rescans (h : Heap) (n visits : ℕ) (q : Addr → Bool) (before after
   pub older : (x : Addr) → n < generation_at (object_at h) x → set x ≡ true
   pub rescan : RescanSteps visits set q before after
 
--- just what is reached is promoted; of condemned objects, just what a handle pins is pinned
+-- exactly what is reached is promoted; of condemned objects, exactly what a handle pins is pinned
 pub record Traced (h : Heap) (t : Table) (ages : List ℕ) (waiting : List Addr) (roots : List (Option Addr))
     (n : ℕ) (new : MarksOf) (before after : ℕ) : Type 0 where
   pub settled : IsSettledMarks new
@@ -36,7 +36,7 @@ pub record Traced (h : Heap) (t : Table) (ages : List ℕ) (waiting : List Addr)
   pub steps : Rescans h n (visits_of t ages n kind.Dependent) (promoted_in new)
       (before + held_visits t ages n) after
 
--- q is p with what is registered, condemned and outside p, and with what chains of arrows lead to; those
+-- q is p with what is registered, condemned and outside p, and with what chains of edges lead to; those
 -- outside join a queue in rising rank
 pub record Revival {N : Type 0} (rank : N → ℕ) (o : Objects N) (rows : Rows N) (n : ℕ) (p q : N → Bool)
     (queue after : List N) : Type 0 where
@@ -50,7 +50,7 @@ pub record Revival {N : Type 0} (rank : N → ℕ) (o : Objects N) (rows : Rows 
   pub joins_are : (x : N) → Contains joins x ↔ IsOut o n p x
   pub rising : AllPairs (λ x y. rank x < rank y) joins
 
--- marks and a queue that the revival left; what was promoted before the rescan has what was before
+-- marks and a queue that the resurrection left; what was promoted before the rescan has what was before
 pub record Revived (h : Heap) (t : Table) (ages : List ℕ) (n : ℕ) (old new : MarksOf)
     (queue after : List Addr) (steps_before steps_after : ℕ) : Type 0 where
   pub settled : IsSettledMarks new

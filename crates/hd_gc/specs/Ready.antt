@@ -18,8 +18,8 @@ scene_at h t roots waiting = record {
   queue = waiting;
 }
 
--- each name is that of an object, no two objects have one identity, ages and cards rule out what may be
--- skipped, each held region has an object, there is an age for each clump, and the queue has room for all
+-- each reference is to an object, no two objects have one identity, ages and cards rule out what may be
+-- skipped, each region in use has an object, there is an age for each clump, and the queue has room for all
 -- objects
 pub record IsReady (h : Heap) (t : Table) (ages : List ℕ) (q : Queue)
     (roots : List (Option Addr)) : Type 0 where

@@ -19,7 +19,7 @@ use hd_scan::{Task, pass};
 use hd_seg::Seg;
 use std::sync::ledger::Ledger;
 
-/// Clears the weak short handles of what is not promoted, and answers how many.
+/// Clears the weak short handles of what is not promoted, and returns how many.
 pub(crate) fn clear_short<L: Ledger>(
     seg: &mut Seg,
     ages: &AgeMap,
@@ -42,7 +42,7 @@ pub(crate) fn clear_short<L: Ledger>(
 }
 
 /// Clears the weak long handles, and the ref-counted ones with a count of 0, of what is not
-/// promoted, and answers how many.
+/// promoted, and returns how many.
 pub(crate) fn clear_long<L: Ledger>(
     seg: &mut Seg,
     ages: &AgeMap,

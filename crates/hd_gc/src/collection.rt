@@ -2,11 +2,11 @@
 ghost use Rattle.std.specs.Prelude.{◌≡◌, ◌≤◌, MatchResult};
 ghost use Rattle.hd_gc.specs.Ready.{IsReady};
 ghost use Rattle.hd_gc.specs.Collected.{Collected};
-ghost use Rattle.hd_gc.specs.Sifting.{Reports};
+ghost use Rattle.hd_gc.specs.MarkAndClear.{Reports};
 ghost use Rattle.hd_plan.specs.Plan.{IsLaid};
 
-use crate::moving::shift;
-use crate::sift::{Found, sift};
+use crate::mark_and_clear::{Found, mark_and_clear};
+use crate::moving::relocate_all;
 use hd_ages::AgeMap;
 use hd_final::Final;
 use hd_heap::Heap;
@@ -18,14 +18,14 @@ use std::alloc::Global;
 use std::sync::ledger::Ledger;
 
 /// Collects generation `n` and all younger ones, as `GC.Collect(n)` does with what no thread uses
-/// meanwhile. `roots` is what registers and statics name.
+/// meanwhile. `roots` is what registers and statics reference.
 ///
-/// What is reached stays, and what it leads to; a registered object that is not reached is put into
-/// the queue and stays too, with what it leads to; what else is condemned goes. What stays moves
-/// into the next generation, up to the oldest, and to another place unless a handle pins it. A step
-/// is one clump of handles that a pass visits.
+/// What is reached stays, and what it leads to; a registered object that is not reached is queued
+/// for finalization and stays too, with what it leads to; what else is condemned dies. What stays
+/// is promoted, up to the oldest generation, and moves unless a handle pins it. A step is one clump
+/// of handles that a pass visits.
 ///
-/// Where there is too little memory, nothing is done, but spare regions that were taken stay.
+/// Where memory runs out, nothing is done, but free regions that were added stay.
 pub fn collect<L: Ledger>(
     alloc: Global,
     heap: &mut Heap,
@@ -47,9 +47,9 @@ pub fn collect<L: Ledger>(
 {
     let mut plan = Plan::take(alloc, heap, n)?;
     let joined = fin.len();
-    let found = sift(alloc, heap, seg, ages, fin, roots, &mut plan, n, steps)?;
+    let found = mark_and_clear(alloc, heap, seg, ages, fin, roots, &mut plan, n, steps)?;
     let report = report(&plan, found);
-    shift(heap, seg, ages, fin, roots, &mut plan, joined, n, steps);
+    relocate_all(heap, seg, ages, fin, roots, &mut plan, joined, n, steps);
     Ok(report)
 }
 

@@ -21,7 +21,7 @@ use hd_scan::{Task, pass};
 use hd_seg::Seg;
 use std::sync::ledger::Ledger;
 
-// Promotes what the roots name.
+// Promotes what the roots reference.
 fn promote_roots(roots: &[Option<Addr>], marks: &mut Marks)
     requires settled { IsSettledMarks marks.old }
     requires objects { (x : Addr) → Contains roots.now (Some x) →
@@ -35,7 +35,7 @@ fn promote_roots(roots: &[Option<Addr>], marks: &mut Marks)
     }
 }
 
-// Promotes what waits for finalisation.
+// Promotes what is queued for finalization.
 fn promote_queue(fin: &Final, marks: &mut Marks)
     requires settled { IsSettledMarks marks.old }
     requires objects { (x : Addr) → Contains fin.now.waiting x →
@@ -70,7 +70,7 @@ fn promote_held<L: Ledger>(
     let _ = pass(seg, ages, Task::CountedRoots, marks, n, steps);
 }
 
-// Promotes what an object names.
+// Promotes what an object references.
 fn promote_fields(heap: &Heap, at: Addr, marks: &mut Marks)
     requires settled { IsSettledMarks marks.old }
     requires heap { marks.old.basis.heap ≡ heap.now }
@@ -86,7 +86,7 @@ fn promote_fields(heap: &Heap, at: Addr, marks: &mut Marks)
     }
 }
 
-// Promotes what the older objects in set cards name. No other older object names a younger one.
+// Promotes what the older objects in set cards reference. No other one references a younger one.
 fn promote_carded(heap: &Heap, marks: &mut Marks, n: u8)
     requires settled { IsSettledMarks marks.old }
     requires heap { marks.old.basis.heap ≡ heap.now }

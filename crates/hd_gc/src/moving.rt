@@ -1,11 +1,11 @@
-// The moving of what is kept, and of all names.
+// The moving of what is kept, and the update of all references.
 ghost use Rattle.std.specs.Prelude.{◌≡◌, ◌+◌, ◌*◌, true, Some, length, map, option_map, Contains};
 ghost use Rattle.hd_model.specs.Heap.{has_object, is_carded, object_at};
 ghost use Rattle.hd_model.specs.Table.{row_at};
 ghost use Rattle.hd_model.specs.Ages.{grown, HasSoundCards};
 ghost use Rattle.hd_model.specs.Visits.{IsSameTable};
 ghost use Rattle.hd_plan.specs.Plan.{IsLaid, kept_in, place_in};
-ghost use Rattle.hd_gc.specs.Shifting.{NamesKept, IsRenamed, Shifted};
+ghost use Rattle.hd_gc.specs.RelocateAll.{NamesKept, IsRenamed, RelocatedAll};
 ghost use Rattle.hd_gc.specs.Steps.{moving_visits};
 
 use hd_ages::AgeMap;
@@ -18,7 +18,7 @@ use hd_scan::relocate;
 use hd_seg::Seg;
 use std::sync::ledger::Ledger;
 
-// Gives the rows of every kind the new places, in the clumps that are visited.
+// Gives the rows of every kind the new addresses, in the clumps that are visited.
 fn relocate_rows<L: Ledger>(seg: &mut Seg, ages: &AgeMap, plan: &Plan, n: u8, steps: &mut Steps<L>)
     requires laid { IsLaid plan.now }
     requires names { NamesKept (kept_in plan.now) (row_at seg.old) }
@@ -36,7 +36,7 @@ fn relocate_rows<L: Ledger>(seg: &mut Seg, ages: &AgeMap, plan: &Plan, n: u8, st
     relocate(seg, ages, Kind::Dependent, plan, n, steps);
 }
 
-// Gives the roots the new places.
+// Gives the roots the new addresses.
 fn relocate_roots(roots: &mut [Option<Addr>], plan: &Plan)
     requires laid { IsLaid plan.now }
     requires kept { (x : Addr) → Contains roots.old (Some x) → kept_in plan.now x ≡ true }
@@ -58,9 +58,9 @@ fn grow(ages: &mut AgeMap, n: u8)
     }
 }
 
-/// Moves the objects that a plan keeps, gives all that names them the new places, and raises the
-/// ages. Those that wait from place `joined` on are registered no more.
-pub(crate) fn shift<L: Ledger>(
+/// Moves the objects that a plan keeps, updates all references to them, and raises the ages. Those
+/// from position `joined` of the queue on are no longer registered.
+pub(crate) fn relocate_all<L: Ledger>(
     heap: &mut Heap,
     seg: &mut Seg,
     ages: &mut AgeMap,
@@ -80,8 +80,8 @@ pub(crate) fn shift<L: Ledger>(
     requires objects { (x : Addr) → Contains fin.old.waiting x → has_object heap.old x ≡ true }
     requires roots { (x : Addr) → Contains roots.old (Some x) → kept_in plan.old x ≡ true }
     ensures plan { plan.new ≡ plan.old }
-    ensures shifted { Shifted heap.old heap.new seg.old seg.new ages.old ages.new fin.old fin.new
-        roots.old roots.new plan.old joined n steps.old steps.new }
+    ensures relocated_all { RelocatedAll heap.old heap.new seg.old seg.new ages.old ages.new fin.old
+        fin.new roots.old roots.new plan.old joined n steps.old steps.new }
 {
     fin.settle(heap, joined);
     relocate_rows(seg, ages, plan, n, steps);

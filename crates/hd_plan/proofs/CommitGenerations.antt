@@ -6,14 +6,14 @@ use Rattle.std.specs.FinMap as fin
 use Rattle.hd_model.specs.declared.data.Addr.{Addr}
 use Rattle.hd_model.specs.Ages.{raised}
 use Rattle.hd_model.specs.Scene.{generation_at, generation_in}
-use Rattle.hd_model.specs.Heap.{Placed, Region, Heap, region_of, card_of, region_at, region_generation, is_held, has_object, object_at, placed_at, is_set, is_carded}
+use Rattle.hd_model.specs.Heap.{Placed, Region, Heap, region_of, region_at, region_generation, is_held, has_object, object_at}
 use Rattle.hd_heap.specs.Calls.{is_old_carded}
-use Rattle.hd_heap.proofs.Reading.{has-get}
+use Rattle.hd_heap.proofs.RegionReads.{has-get}
 use Rattle.hd_plan.specs.Layout.{move_at, condemned_at, is_moving, is_staying, room_at, IsCondemnedRegion, HasStay}
 use Rattle.hd_plan.specs.Packing.{IsRoom}
 use Rattle.hd_plan.specs.Plan.{PlanOf, kept_in, place_in}
 use Rattle.hd_plan.specs.CommitSteps.{IsKeptAt, SameCards, AreCopied, AreRewritten, AreRemoved, AreSettled}
-use Rattle.hd_plan.proofs.Keeping.{moving_or_staying, all_put}
+use Rattle.hd_plan.proofs.KeptMoves.{moving_or_staying, all_put}
 use Rattle.hd_plan.proofs.CommitShape.{IsCommitting, moves_now, regions_now}
 use Rattle.hd_plan.proofs.CommitImage.{kept_by, place_older, place_move, kept_object, from_condemned, stays_there, to_put, image_only}
 
@@ -125,7 +125,7 @@ module _ (p : PlanOf) (old h1 h2 h3 h4 : Heap) (m : AreMoved p old h1 h2 h3 h4) 
         let to : place_in p a ≡ (move_at p.moves k).to =
         ap (place_in p) (sym by.from) ∙ place_move p old c k by.within in
         let region : region_of (move_at p.moves k).to ≡ r = ap region_of (sym to) ∙ in_region in
-        elim (moving_or_staying (move_at p.moves k).way by.kept) [
+        elim (moving_or_staying (move_at p.moves k).fate by.kept) [
           | inl moving ↦ absurd
               (both_ways _ (to_put p old c k by.within moving).fresh.new
               (subst (λ q. is_held old q ≡ true) (sym region) young.held))
@@ -147,7 +147,7 @@ module _ (p : PlanOf) (old h1 h2 h3 h4 : Heap) (m : AreMoved p old h1 h2 h3 h4) 
       both_ways _ unpinned (((regions_now p old c).pinned k within).1 stay)
 
   module _ (h5 : Heap) (r5 : AreSettled h4 h5 p.regions (length p.regions)) where
-    -- a region that is not condemned, one that stays, and one that is given up
+    -- a region that is not condemned, one that stays, and one that is freed
     pub region_older : (r : ℕ) → (IsCondemnedRegion old p.basis.condemned r → ⊥)
         → fin.get h5.regions r ≡ fin.get h4.regions r
     region_older r other =
@@ -207,7 +207,7 @@ module _ (p : PlanOf) (old h1 h2 h3 h4 : Heap) (m : AreMoved p old h1 h2 h3 h4) 
           let to : place_in p a ≡ (move_at p.moves k).to =
           ap (place_in p) (sym by.from) ∙ place_move p old c k by.within in
           ap (λ (x : Addr). region_generation h5 (region_of x)) to
-          ∙ elim (moving_or_staying (move_at p.moves k).way by.kept) [
+          ∙ elim (moving_or_staying (move_at p.moves k).fate by.kept) [
             | inl moving ↦
                 let put = (to_put p old c k by.within moving).fresh in
                 ap (λ (o : Option Region). (unwrap_or o no_region).generation)

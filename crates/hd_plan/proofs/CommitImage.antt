@@ -1,4 +1,4 @@
--- The kept objects at their new places: what each step leaves for the next.
+-- The kept objects at their new addresses: what each step leaves for the next.
 use Rattle.std.proofs.Common.{◌≡◌, ◌≢◌, ℕ, ◌<◌, ◌≤◌, inl, inr, ◌⊎◌, true, false, not, List, [], ◌∷◌, map, length, Option, Some, None, refl, sym, ap, ◌∙◌, subst, arith, true≢false}
 use Rattle.std.specs.Prelude.{is_some, unwrap_or, option_map, Contains}
 use Rattle.std.proofs.lemmas.Bool.{cases_Bool, cases_order, both_ways, and_parts, and_from, ltb-true, lt-ltb, cases_lt}
@@ -8,43 +8,34 @@ use Rattle.hd_model.specs.Scene.{fields_at, generation_at, IsField, IsCondemned}
 use Rattle.hd_model.specs.Heap.{Region, Heap, region_of, card_of, region_generation, is_held, has_object, object_at, placed_at, cells_of, is_set, is_carded}
 use Rattle.hd_model.proofs.Members.{member_same, first_in, later_in}
 use Rattle.hd_heap.specs.Calls.{is_old_carded}
-use Rattle.hd_heap.proofs.Reading.{has-get}
-use Rattle.hd_heap.proofs.Values.{fields_placed}
-use Rattle.hd_plan.specs.declared.moves.Way.{Way}
-use Rattle.hd_plan.specs.declared.moves.Way.TheVariants.{Gone, Stays, Opens, Follows}
-use Rattle.hd_plan.specs.Layout.{move_at, is_kept_way, is_moving, is_staying, room_at}
+use Rattle.hd_heap.proofs.RegionReads.{has-get}
+use Rattle.hd_heap.proofs.HeapValues.{fields_placed}
+use Rattle.hd_plan.specs.declared.moves.Fate.{Fate}
+use Rattle.hd_plan.specs.declared.moves.Fate.TheVariants.{Dead, Pinned, MovesToNewRegion, Moves}
+use Rattle.hd_plan.specs.Layout.{move_at, is_kept_fate, is_moving, is_staying, room_at}
 use Rattle.hd_plan.specs.Packing.{IsPut}
 use Rattle.hd_plan.specs.Plan.{PlanOf, kept_in, place_in}
 use Rattle.hd_plan.specs.CommitSteps.{IsKeptAt, IsLeft, AreCopied, rewritten, AreRewritten, AreRemoved}
-use Rattle.hd_plan.proofs.Addresses.{addr_is, older_or_young}
-use Rattle.hd_plan.proofs.Keeping.{IsKeptBy, moving_or_staying, moving_kept, unmoved, kept_cases, older_kept, older_place, move_kept, move_place, put_new, all_put, is_condemned_at}
-use Rattle.hd_plan.proofs.CommitEnds.{ends_decided}
-use Rattle.hd_plan.proofs.CommitCopying.{get_placed, has_got, has_alike}
-use Rattle.hd_plan.proofs.CommitRewriting.{fields_alike, generation_alike, rewritten_has}
+use Rattle.hd_plan.proofs.CondemnedAddresses.{addr_is, older_or_young}
+use Rattle.hd_plan.proofs.KeptMoves.{IsKeptBy, moving_or_staying, moving_kept, unmoved, kept_cases, older_kept, older_place, move_kept, move_place, put_new, all_put, is_condemned_at}
+use Rattle.hd_plan.proofs.MoveEnds.{ends_decided}
+use Rattle.hd_plan.proofs.CommitCopies.{get_placed, has_got, has_alike}
+use Rattle.hd_plan.proofs.CommitRewrites.{fields_alike, generation_alike, rewritten_has}
 use Rattle.hd_plan.proofs.CommitShape.{IsCommitting, moves_now, kept_now, closed_now}
 
-staying_of : (w : Way) → w ≡ Stays → is_staying w ≡ true
-staying_of w e = ap is_staying e
+pub fate_stays : (w : Fate) → is_staying w ≡ true → is_kept_fate w ≡ true
+fate_stays Dead e = absurd (true≢false (sym e))
+fate_stays Pinned e = refl
+fate_stays MovesToNewRegion e = absurd (true≢false (sym e))
+fate_stays Moves e = absurd (true≢false (sym e))
 
-pub way_stays : (w : Way) → is_staying w ≡ true → is_kept_way w ≡ true
-way_stays Gone e = absurd (true≢false (sym e))
-way_stays Stays e = refl
-way_stays Opens e = absurd (true≢false (sym e))
-way_stays Follows e = absurd (true≢false (sym e))
+pub fate_rests : (w : Fate) → is_staying w ≡ true → is_moving w ≡ false
+fate_rests Dead e = absurd (true≢false (sym e))
+fate_rests Pinned e = refl
+fate_rests MovesToNewRegion e = absurd (true≢false (sym e))
+fate_rests Moves e = absurd (true≢false (sym e))
 
-pub way_rests : (w : Way) → is_staying w ≡ true → is_moving w ≡ false
-way_rests Gone e = absurd (true≢false (sym e))
-way_rests Stays e = refl
-way_rests Opens e = absurd (true≢false (sym e))
-way_rests Follows e = absurd (true≢false (sym e))
-
-way_moves : (w : Way) → is_moving w ≡ true → is_staying w ≡ false
-way_moves Gone e = absurd (true≢false (sym e))
-way_moves Stays e = absurd (true≢false (sym e))
-way_moves Opens e = refl
-way_moves Follows e = refl
-
--- fields that name what stays in place are as they were
+-- fields that reference what stays in place are as they were
 unchanged : (place : Addr → Addr) (fs : List (Option Addr))
     → ((y : Addr) → Contains fs (Some y) → place y ≡ y) → map (option_map place) fs ≡ fs
 unchanged place [] still = refl
@@ -72,7 +63,7 @@ module _ (p : PlanOf) (old : Heap) (c : IsCommitting p old) where
   pub place_older : (a : Addr) → p.basis.condemned < generation_at (object_at old) a → place_in p a ≡ a
   place_older a older = older_place old p.basis.condemned c.sound p.moves (moves_now p old c) a older
 
-  pub kept_move : (k : ℕ) → k < length p.moves → is_kept_way (move_at p.moves k).way ≡ true
+  pub kept_move : (k : ℕ) → k < length p.moves → is_kept_fate (move_at p.moves k).fate ≡ true
       → kept_in p (move_at p.moves k).from ≡ true
   kept_move k within kept = kept_now p old c (move_at p.moves k).from
       ∙ move_kept old p.basis.condemned c.sound p.moves (moves_now p old c) k within ∙ kept
@@ -84,17 +75,17 @@ module _ (p : PlanOf) (old : Heap) (c : IsCommitting p old) where
       → IsCondemned (object_at old) p.basis.condemned (move_at p.moves k).from
   from_condemned k within = is_condemned_at old p.basis.condemned c.sound p.moves (moves_now p old c) k within
 
-  pub stays_there : (k : ℕ) → k < length p.moves → is_moving (move_at p.moves k).way ≡ false
+  pub stays_there : (k : ℕ) → k < length p.moves → is_moving (move_at p.moves k).fate ≡ false
       → (move_at p.moves k).to ≡ (move_at p.moves k).from
   stays_there k within rests =
-      unmoved (move_at p.moves k).way (room_at old p.moves k) _ _ _ _ rests
+      unmoved (move_at p.moves k).fate (room_at old p.moves k) _ _ _ _ rests
       ((moves_now p old c).fits k within)
 
-  pub to_free : (k : ℕ) → k < length p.moves → is_moving (move_at p.moves k).way ≡ true
+  pub to_free : (k : ℕ) → k < length p.moves → is_moving (move_at p.moves k).fate ≡ true
       → has_object old (move_at p.moves k).to ≡ false
   to_free k within moving = put_new old p.basis.condemned c.sound p.moves (moves_now p old c) k within moving
 
-  pub to_put : (k : ℕ) → k < length p.moves → is_moving (move_at p.moves k).way ≡ true
+  pub to_put : (k : ℕ) → k < length p.moves → is_moving (move_at p.moves k).fate ≡ true
       → IsPut old (room_at old p.moves (length p.moves)) (move_at p.moves k).to
       (move_at p.moves k).generation (cells_of (placed_at old (move_at p.moves k).from))
   to_put k within moving =
@@ -115,10 +106,10 @@ module _ (p : PlanOf) (old : Heap) (c : IsCommitting p old) where
   pub kept_object : (a : Addr) → kept_in p a ≡ true → has_object old a ≡ true
   kept_object a kept = c.same.objects a ∙ c.laid.keeping.objects a kept
 
-  -- no kept object stands at the new place of an older one, and none where one was removed
+  -- no kept object is at the new address of an older one, and none where one was removed
   pub older_apart : (a : Addr) → p.basis.condemned < generation_at (object_at old) a
       → has_object old a ≡ true → IsKeptAt p.moves (length p.moves) a → ⊥
-  older_apart a older there e = elim (moving_or_staying (move_at p.moves e.at).way e.goes) [
+  older_apart a older there e = elim (moving_or_staying (move_at p.moves e.at).fate e.goes) [
     | inl moving ↦ both_ways _ (to_free e.at e.before moving)
         (subst (λ (x : Addr). has_object old x ≡ true) (sym e.is) there)
     | inr stays ↦
@@ -183,10 +174,10 @@ module _ (p : PlanOf) (old : Heap) (c : IsCommitting p old) where
         let was = was_carded x carded in
         closed_now p old c x y (kept_older x was.1) (field_still x y was.0 field)
 
-    -- what is kept stands at its new place
-    copied_there : (k : ℕ) → k < length p.moves → is_kept_way (move_at p.moves k).way ≡ true
+    -- what is kept is at its new address
+    copied_there : (k : ℕ) → k < length p.moves → is_kept_fate (move_at p.moves k).fate ≡ true
         → fin.get h1.objects (move_at p.moves k).to.0 ≡ fin.get old.objects (move_at p.moves k).from.0
-    copied_there k within kept = elim (moving_or_staying (move_at p.moves k).way kept) [
+    copied_there k within kept = elim (moving_or_staying (move_at p.moves k).fate kept) [
       | inl moving ↦ c1.copies k within moving
       | inr stays ↦
           ap (λ (x : Addr). fin.get h1.objects x.0) (stays_there k within (ap is_moving stays))
@@ -223,14 +214,14 @@ module _ (p : PlanOf) (old : Heap) (c : IsCommitting p old) where
       second_there y kept = has_second (place_in p y) ∙ place_there y kept
 
       -- a kept condemned object is not among them
-      kept_uncarded : (k : ℕ) → k < length p.moves → is_kept_way (move_at p.moves k).way ≡ true
+      kept_uncarded : (k : ℕ) → k < length p.moves → is_kept_fate (move_at p.moves k).fate ≡ true
           → is_old_carded h1 p.basis.condemned (move_at p.moves k).to ≡ true → ⊥
       kept_uncarded k within kept carded =
           let was = was_carded (move_at p.moves k).to carded in
           older_apart (move_at p.moves k).to was.1 was.0
           (record { at = k; before = within; goes = kept; is = refl })
 
-      second_at : (k : ℕ) → k < length p.moves → is_kept_way (move_at p.moves k).way ≡ true
+      second_at : (k : ℕ) → k < length p.moves → is_kept_fate (move_at p.moves k).fate ≡ true
           → fin.get h2.objects (move_at p.moves k).to.0 ≡ fin.get old.objects (move_at p.moves k).from.0
       second_at k within kept = r2.others (move_at p.moves k).to (kept_uncarded k within kept)
           ∙ copied_there k within kept
@@ -242,8 +233,8 @@ module _ (p : PlanOf) (old : Heap) (c : IsCommitting p old) where
           (second_at e.at e.before e.goes
           ∙ get_placed old (move_at p.moves e.at).from (from_condemned e.at e.before).object)
 
-      pub kept_apart : (j k : ℕ) → j < k → k < length p.moves → is_kept_way (move_at p.moves j).way ≡ true
-          → is_kept_way (move_at p.moves k).way ≡ true → (move_at p.moves j).to.0 ≢ (move_at p.moves k).to.0
+      pub kept_apart : (j k : ℕ) → j < k → k < length p.moves → is_kept_fate (move_at p.moves j).fate ≡ true
+          → is_kept_fate (move_at p.moves k).fate ≡ true → (move_at p.moves j).to.0 ≢ (move_at p.moves k).to.0
       kept_apart j k less within kept_j kept_k same =
           let low : j < length p.moves = omega arith in
           let places : place_in p (move_at p.moves j).from ≡ place_in p (move_at p.moves k).from =
@@ -269,13 +260,13 @@ module _ (p : PlanOf) (old : Heap) (c : IsCommitting p old) where
       module _ (h3 : Heap) (r3 : AreRewritten (IsKeptAt p.moves (length p.moves)) (place_in p) h2 h3) where
         has_third : (a : Addr) → has_object h3 a ≡ has_object h2 a
         has_third a = rewritten_has (IsKeptAt p.moves (length p.moves)) (place_in p) h2 h3 r3 a
-            (ends_decided is_kept_way (λ m. m.to) p.moves a (length p.moves))
+            (ends_decided is_kept_fate (λ m. m.to) p.moves a (length p.moves))
 
         pub from_there : (k : ℕ) → k < length p.moves → has_object h3 (move_at p.moves k).from ≡ true
         from_there k within = has_third (move_at p.moves k).from ∙ has_second (move_at p.moves k).from
             ∙ has_still (move_at p.moves k).from (from_condemned k within).object
 
-        -- an older object whose card is clear names no object that moves
+        -- an older object whose card is clear references no object that moves
         older_same : (a : Addr) → has_object old a ≡ true
             → p.basis.condemned < generation_at (object_at old) a → is_carded old a ≡ false
             → option_map (rewritten (place_in p)) (fin.get old.objects a.0) ≡ fin.get old.objects a.0
@@ -326,7 +317,7 @@ module _ (p : PlanOf) (old : Heap) (c : IsCommitting p old) where
                 (lt-ltb _ _ (subst (λ g. p.basis.condemned < g) (sym (generation_still x there)) older)))
                 (ap (λ (k : Heap). is_set k (card_of x)) c1.same ∙ set)
 
-        -- and what does not stay is gone from its old place
+        -- and what does not stay is gone from its old address
         module _ (h4 : Heap) (r4 : AreRemoved h3 h4 p.moves (length p.moves)) where
           place_left : (a : Addr) → kept_in p a ≡ true → IsLeft p.moves (length p.moves) (place_in p a) → ⊥
           place_left a kept e = elim (kept_by a kept) [
@@ -340,7 +331,7 @@ module _ (p : PlanOf) (old : Heap) (c : IsCommitting p old) where
                 let to : place_in p a ≡ (move_at p.moves k).to =
                 ap (place_in p) (sym by.from) ∙ place_move k by.within in
                 let from : (move_at p.moves e.at).from ≡ (move_at p.moves k).to = e.is ∙ to in
-                elim (moving_or_staying (move_at p.moves k).way by.kept) [
+                elim (moving_or_staying (move_at p.moves k).fate by.kept) [
                   | inl moving ↦ both_ways _ (to_free k by.within moving)
                       (subst (λ (x : Addr). has_object old x ≡ true) from
                       (from_condemned e.at e.before).object)
@@ -349,7 +340,7 @@ module _ (p : PlanOf) (old : Heap) (c : IsCommitting p old) where
                       same_move e.at k e.before by.within (from
                       ∙ stays_there k by.within (ap is_moving stays)) in
                       true≢false (sym (subst
-                      (λ j. not (is_staying (move_at p.moves j).way) ≡ true) one e.goes)
+                      (λ j. not (is_staying (move_at p.moves j).fate) ≡ true) one e.goes)
                       ∙ ap (λ w. not (is_staying w)) stays)
                 ]
           ]
@@ -371,7 +362,7 @@ module _ (p : PlanOf) (old : Heap) (c : IsCommitting p old) where
                         | inl older ↦ (b, (kept_older b older, place_older b older))
                         | inr young ↦
                             let (k, listed) = (moves_now p old c).all b young in
-                            elim (cases_Bool (is_staying (move_at p.moves k).way)) [
+                            elim (cases_Bool (is_staying (move_at p.moves k).fate)) [
                               | inl stays ↦ stays_put b k listed.0 listed.1 stays
                               | inr goes ↦ absurd (none
                                   (record { at = k; before = listed.0; goes = ap not goes; is = listed.1 }))
@@ -385,13 +376,13 @@ module _ (p : PlanOf) (old : Heap) (c : IsCommitting p old) where
               ]
             where
               stays_put : (b : Addr) (k : ℕ) → k < length p.moves → (move_at p.moves k).from ≡ b
-                  → is_staying (move_at p.moves k).way ≡ true
+                  → is_staying (move_at p.moves k).fate ≡ true
                   → (a : Addr) × ((kept_in p a ≡ true) × (place_in p a ≡ b))
               stays_put b k within from stays = (
                 (move_at p.moves k).from,
                 (
-                  kept_move k within (way_stays _ stays),
+                  kept_move k within (fate_stays _ stays),
                   place_move k within
-                      ∙ stays_there k within (way_rests _ stays) ∙ from,
+                      ∙ stays_there k within (fate_rests _ stays) ∙ from,
                 ),
               )

@@ -1,4 +1,4 @@
--- A plan stands for each heap of the same shape as the one for which it was laid.
+-- A plan is valid for each heap of the same shape as the one for which it was laid.
 use Rattle.std.proofs.Common.{◌≡◌, ℕ, zero, suc, ◌+◌, ◌≤◌, true, ◌||◌, ◌&&◌, List, length, Some, sym, ap, ◌∙◌, subst}
 use Rattle.std.specs.Prelude.{nat_lt, nat_le}
 use Rattle.std.specs.FinMap as fin
@@ -9,17 +9,17 @@ use Rattle.hd_model.specs.Heap.{Heap, Basis, region_of, region_generation, is_he
 use Rattle.hd_model.proofs.Members.{member_same}
 use Rattle.hd_heap.specs.Calls.{is_condemned}
 use Rattle.hd_heap.specs.Sound.{IsSound}
-use Rattle.hd_heap.proofs.Values.{fields_placed}
+use Rattle.hd_heap.proofs.HeapValues.{fields_placed}
 use Rattle.hd_plan.specs.declared.moves.Move.{Move}
 use Rattle.hd_plan.specs.declared.moves.Condemned.{Condemned}
-use Rattle.hd_plan.specs.Layout.{Room, move_at, condemned_at, is_kept_by, find_move, room_at, put_move, put_way, Fits, AreMoves, AreRegions}
+use Rattle.hd_plan.specs.Layout.{Room, move_at, condemned_at, is_kept_by, find_move, room_at, put_move, put_fate, Fits, AreMoves, AreRegions}
 use Rattle.hd_plan.specs.Plan.{PlanOf, kept_in, IsLaid}
 use Rattle.hd_plan.specs.Commit.{IsSameShape}
 use Rattle.hd_plan.specs.CommitSteps.{CanCopy}
-use Rattle.hd_plan.proofs.CommitRewriting.{generation_alike}
-use Rattle.hd_plan.proofs.CommitCarding.{has_from}
-use Rattle.hd_plan.proofs.Keeping.{generation_some, are_put}
-use Rattle.hd_plan.proofs.Addresses.{condemned_of}
+use Rattle.hd_plan.proofs.CommitRewrites.{generation_alike}
+use Rattle.hd_plan.proofs.CommitCards.{has_from}
+use Rattle.hd_plan.proofs.KeptMoves.{generation_some, are_put}
+use Rattle.hd_plan.proofs.CondemnedAddresses.{condemned_of}
 
 module _ (h k : Heap) (s : IsSameShape h k) where
   pub shape_generation : (a : Addr) → generation_at (object_at k) a ≡ generation_at (object_at h) a
@@ -41,7 +41,7 @@ module _ (h k : Heap) (s : IsSameShape h k) where
   shape_room ms (suc i) =
       let m = move_at ms i in
       ap (λ q. put_move k q m) (shape_room ms i)
-      ∙ ap (put_way m.way (room_at h ms i) m.to m.generation) (shape_cells m.from)
+      ∙ ap (put_fate m.fate (room_at h ms i) m.to m.generation) (shape_cells m.from)
 
   shape_moves : (n : ℕ) (ms : List Move) → AreMoves h n ms → AreMoves k n ms
   shape_moves n ms moves = record {
@@ -52,7 +52,7 @@ module _ (h k : Heap) (s : IsSameShape h k) where
         ∙ ap (raised n) (sym (shape_generation (move_at ms j).from));
     fits = λ j within.
         let m = move_at ms j in
-        let P : Room → ℕ → Type 0 = λ q cells. Fits m.way q m.from m.to m.generation cells in
+        let P : Room → ℕ → Type 0 = λ q cells. Fits m.fate q m.from m.to m.generation cells in
         subst (λ cells. P (room_at k ms j) cells) (sym (shape_cells m.from))
         (subst (λ q. P q (cells_of (placed_at h m.from))) (sym (shape_room ms j)) (moves.fits j within));
   }

@@ -1,4 +1,4 @@
--- Lemmas on walks over a heap, and on what keeps each held region with an object: for tests.
+-- Lemmas on walks over a heap, and on what keeps an object in each region in use: for tests.
 use Rattle.std.proofs.Common.{◌≡◌, ℕ, ◌<◌, ◌≤◌, inl, inr, ◌⊎◌, Bool, true, false, List, length, get_or, Option, Some, None, sym, ◌∙◌, subst, arith}
 use Rattle.std.specs.Prelude.{Contains}
 use Rattle.std.proofs.lemmas.Bool.{cases_eq, ltb-false, false_from_ne_true}
@@ -8,9 +8,9 @@ use Rattle.hd_model.specs.Leads.{IsClosed}
 use Rattle.hd_model.specs.Scene.{IsField}
 use Rattle.hd_model.specs.Heap.{Heap, Basis, objects_of, has_object, object_at, placed_at}
 use Rattle.hd_heap.specs.Calls.{with_field, with_card, stored, is_after, IsNext}
-use Rattle.hd_heap.proofs.Values.{has_with_object}
+use Rattle.hd_heap.proofs.HeapValues.{has_with_object}
 use Rattle.hd_plan.specs.Plan.{HasNoEmptyRegion}
-use Rattle.hd_plan.proofs.Addresses.{addr_is}
+use Rattle.hd_plan.proofs.CondemnedAddresses.{addr_is}
 
 -- what a walk has come to: this object, or one that it had come to before
 pub walked_on : (p : Addr → Bool) (after : Option Addr) (at x : Addr) → IsNext p after at → p x ≡ true →
@@ -47,7 +47,7 @@ pub closed_basis : (b : Basis) (h : Heap) (p : Addr → Bool) → b.heap ≡ h �
     p → IsClosed (IsField (objects_of b)) p
 closed_basis b h p same closed = subst (λ (k : Heap). IsClosed (IsField (object_at k)) p) (sym same) closed
 
--- each held region has an object after a store, and after a card is set
+-- each region in use has an object after a store, and after a card is set
 pub filled_stored : (h : Heap) (at : Addr) (i : ℕ) (v : Option Addr) → HasNoEmptyRegion h → HasNoEmptyRegion
     (stored h at i v)
 filled_stored h at i v full r held =
@@ -57,8 +57,3 @@ filled_stored h at i v full r held =
       object = has_with_object h at s.at (with_field (placed_at h at) i v) s.object;
       region = s.region;
     }
-
-pub filled_carded : (h : Heap) (card : ℕ) (on : Bool) → HasNoEmptyRegion h → HasNoEmptyRegion
-    (with_card h card on)
-filled_carded h card on full r held = (let s = full r held in record
-    { at = s.at; object = s.object; region = s.region })

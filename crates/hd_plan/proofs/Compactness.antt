@@ -1,6 +1,5 @@
--- A laid heap of generation 2 is compact: each fresh region but the last two has 193 of its cells taken, and
--- a condemned one is held only
--- where an object stays in it.
+-- A laid heap of generation 2 is compact: each fresh region but the last two has 193 of its words in use, and
+-- a condemned one stays in use only where an object stays in it.
 use Rattle.std.proofs.Common.{◌≡◌, ◌≢◌, ℕ, zero, suc, ◌+◌, ◌*◌, ◌/◌, ◌<◌, ◌≤◌, ◌⊎◌, inl, inr, ⊎_elim, true, cond, List, [], ◌∷◌, length, slice_index, Some, is_some, refl, sym, ap, ◌∙◌, subst, arith}
 use Rattle.std.specs.Prelude.{nat_eq, min, unwrap_or, sum_by, Contains}
 use Rattle.std.proofs.lemmas.Bool.{cases_eq, cases_Bool, eq-eqb, ne_eqb, le-ltb, leb-true, and_parts}
@@ -11,19 +10,19 @@ use Rattle.hd_model.specs.Heap.{Heap, Placed, Region, region_of, is_held, has_ob
 use Rattle.hd_model.specs.Ages.{raised}
 use Rattle.hd_model.specs.Scene.{generation_at}
 use Rattle.hd_model.proofs.Members.{first_in, later_in}
-use Rattle.hd_model.proofs.Counting.{fewer}
+use Rattle.hd_model.proofs.PropertyCounts.{fewer}
 use Rattle.hd_model.proofs.Entries.{counts_keys}
 use Rattle.hd_heap.specs.Sound.{IsSound}
-use Rattle.hd_model.proofs.Written.{get_inserted, get_beside, get_left}
+use Rattle.hd_model.proofs.ReadAfterWrite.{get_inserted, get_beside, get_left}
 use Rattle.hd_model.proofs.Sums.{share, sum-remove}
-use Rattle.hd_plan.specs.declared.moves.Way.{Way}
-use Rattle.hd_plan.specs.declared.moves.Way.TheVariants.{Gone, Stays, Opens, Follows}
+use Rattle.hd_plan.specs.declared.moves.Fate.{Fate}
+use Rattle.hd_plan.specs.declared.moves.Fate.TheVariants.{Dead, Pinned, MovesToNewRegion, Moves}
 use Rattle.hd_plan.specs.declared.moves.Move.{Move}
-use Rattle.hd_plan.specs.Layout.{Room, has_region, region_in, filled, put_way, room_at, Opened, Followed, Fits, move_at, is_moving, is_staying, stays_among, HasStay, AreMoves}
+use Rattle.hd_plan.specs.Layout.{Room, has_region, region_in, filled, put_fate, room_at, Opened, Followed, Fits, move_at, is_moving, is_staying, stays_among, HasStay, AreMoves}
 use Rattle.hd_plan.specs.Packing.{IsRoom, IsFresh}
 use Rattle.hd_plan.specs.Compactness.{is_opening, opens_to, cells_to, IsOpenedBy, region_by, regions_of, fill_in, begun, IsSlack}
 
--- what a generation puts into, where there is nothing and where there is something
+-- the region in which a generation allocates, where there is none and where there is one
 fill_none : (q : Room) (g : ℕ) → q.current g ≡ 0 → (fill_in q g ≡ 0) × (begun q g ≡ 0)
 fill_none q g none =
     let e = eq-eqb (q.current g) 0 none in
@@ -35,7 +34,7 @@ fill_some q g some =
     let e = ne_eqb (q.current g) 0 some in
     (ap (λ b. cond b 0 (region_in q.regions (q.current g)).fill) e, ap (λ b. cond b 0 1) e)
 
--- what is read in the regions after cells were filled in one
+-- what is read in the regions after the allocation pointer of one rose
 read_filled : (rs : fin.FinMap nat_cmp Region) (r cells : ℕ) → region_in (filled rs r cells) r
     ≡ record { generation = (region_in rs r).generation; fill = (region_in rs r).fill + cells }
 read_filled rs r cells =
@@ -48,7 +47,7 @@ read_beside rs r q x ne = ap (λ o. unwrap_or o (record { generation = 0; fill =
 read_inserted : (rs : fin.FinMap nat_cmp Region) (r : ℕ) (x : Region) → region_in (fin.insert rs r x) r ≡ x
 read_inserted rs r x = ap (λ o. unwrap_or o (record { generation = 0; fill = 0 })) (get_inserted rs r x)
 
--- a generation puts on into the region that it put into before
+-- a generation allocates on in the region in which it allocated before
 same_fill : (p q : Room) (g : ℕ) → q.current g ≡ p.current g
     → ((p.current g ≢ 0) → region_in q.regions (p.current g) ≡ region_in p.regions (p.current g))
     → (fill_in q g ≡ fill_in p g) × (begun q g ≡ begun p g)
@@ -66,7 +65,7 @@ same_fill p q g same stays = elim (cases_eq (p.current g) 0) [
       )
 ]
 
--- a region that another generation puts into is another one
+-- a region in which another generation allocates is another one
 fresh_apart : (h : Heap) (q : Room) → IsRoom h q → (g other r : ℕ) → other ≢ g
     → (region_in q.regions r).generation ≡ g
     → q.current other ≢ 0 → q.current other ≢ r
@@ -74,10 +73,6 @@ fresh_apart h q room g other r ne generation some same =
     ⊎_elim some (λ (fresh : IsFresh h q other (q.current other)).
     ne (sym fresh.generation ∙ ap (λ k. (region_in q.regions k).generation) same ∙ generation))
     (room.current other)
-
--- one of the two generations, and the other
-abbrev Both : (g : ℕ) → Type 0
-Both g = (g ≡ 1) ⊎ (g ≡ 2)
 
 -- the two generations' parts, that of one and that of the other
 parts : (f : ℕ → ℕ) (g other : ℕ) → ((g ≡ 1) × (other ≡ 2)) ⊎ ((g ≡ 2) × (other ≡ 1))
@@ -96,9 +91,9 @@ module _ (h : Heap) (sound : IsSound h) where
         (λ (e : (g ≡ 2) × (other ≡ 1)). let a = e.0 in let b = e.1 in omega arith) two
 
     -- a region was opened
-    module _ (opened : Opened q to g cells) (after : IsRoom h (put_way Opens q to g cells)) where
+    module _ (opened : Opened q to g cells) (after : IsRoom h (put_fate MovesToNewRegion q to g cells)) where
       abbrev now : Room
-      now = put_way Opens q to g cells
+      now = put_fate MovesToNewRegion q to g cells
 
       current_own : now.current g ≡ region_of to
       current_own = ap (λ b. cond b (region_of to) (q.current g)) (eq-eqb g g refl)
@@ -149,7 +144,7 @@ module _ (h : Heap) (sound : IsSound h) where
           read_beside first_regions (region_of to) (q.current other) _ ne
           ∙ read_beside q.regions (region_of to) (q.current other) _ ne)
 
-      -- the region that is left has 193 cells taken
+      -- the region that is left has 193 words in use
       full : 193 * begun q g ≤ fill_in q g
       full = ⊎_elim
           (λ none. let is = fill_none q g none in omega (arith, is.0, is.1))
@@ -178,10 +173,10 @@ module _ (h : Heap) (sound : IsSound h) where
             full,
           )
 
-    -- an object follows
+    -- an object goes after the one before
     module _ (followed : Followed q to g cells) where
       abbrev then : Room
-      then = put_way Follows q to g cells
+      then = put_fate Moves q to g cells
 
       current_is : region_of to ≡ q.current g
       unfolding region_of
@@ -229,26 +224,26 @@ module _ (h : Heap) (sound : IsSound h) where
           )
 
   -- one move more
-  slack_way : (w : Way) (q : Room) (from to : Addr) (g other cells : ℕ)
+  slack_fate : (w : Fate) (q : Room) (from to : Addr) (g other cells : ℕ)
       → ((g ≡ 1) × (other ≡ 2)) ⊎ ((g ≡ 2) × (other ≡ 1)) → IsRoom h q → 1 ≤ cells → cells ≤ 64
-      → Fits w q from to g cells → IsRoom h (put_way w q to g cells) → (o p : ℕ) → IsSlack q o p
-      → IsSlack (put_way w q to g cells) (o + cond (is_opening w) 1 0) (p + cond (is_moving w) cells 0)
-  slack_way Gone q from to g other cells two before some few fits after o p slack = omega (arith, slack)
-  slack_way Stays q from to g other cells two before some few fits after o p slack = omega (arith, slack)
-  slack_way Opens q from to g other cells two before some few fits after o p slack =
+      → Fits w q from to g cells → IsRoom h (put_fate w q to g cells) → (o p : ℕ) → IsSlack q o p
+      → IsSlack (put_fate w q to g cells) (o + cond (is_opening w) 1 0) (p + cond (is_moving w) cells 0)
+  slack_fate Dead q from to g other cells two before some few fits after o p slack = omega (arith, slack)
+  slack_fate Pinned q from to g other cells two before some few fits after o p slack = omega (arith, slack)
+  slack_fate MovesToNewRegion q from to g other cells two before some few fits after o p slack =
       slack_opened q to g other cells two before some few fits after o p slack
-  slack_way Follows q from to g other cells two before some few fits after o p slack =
+  slack_fate Moves q from to g other cells two before some few fits after o p slack =
       let is = slack_followed q to g other cells two before some few fits o p slack in
-      subst (λ k. IsSlack (put_way Follows q to g cells) k (p + cells)) (omega arith) is
+      subst (λ k. IsSlack (put_fate Moves q to g cells) k (p + cells)) (omega arith) is
 
   -- a region of the room after one move more was one before, or is opened
-  opened_way : (w : Way) (q : Room) (from to : Addr) (g other cells : ℕ)
+  opened_fate : (w : Fate) (q : Room) (from to : Addr) (g other cells : ℕ)
       → ((g ≡ 1) × (other ≡ 2)) ⊎ ((g ≡ 2) × (other ≡ 1)) → IsRoom h q → 1 ≤ cells → cells ≤ 64
-      → Fits w q from to g cells → (r : ℕ) → has_region (put_way w q to g cells).regions r ≡ true
+      → Fits w q from to g cells → (r : ℕ) → has_region (put_fate w q to g cells).regions r ≡ true
       → (has_region q.regions r ≡ true) ⊎ ((is_opening w ≡ true) × (region_of to ≡ r))
-  opened_way Gone q from to g other cells two before some few fits r held = inl held
-  opened_way Stays q from to g other cells two before some few fits r held = inl held
-  opened_way Opens q from to g other cells two before some few fits r held =
+  opened_fate Dead q from to g other cells two before some few fits r held = inl held
+  opened_fate Pinned q from to g other cells two before some few fits r held = inl held
+  opened_fate MovesToNewRegion q from to g other cells two before some few fits r held =
       elim (cases_eq r (region_of to)) [
         | inl same ↦ inr (refl, sym same)
         | inr ne ↦
@@ -256,7 +251,7 @@ module _ (h : Heap) (sound : IsSound h) where
             inl (ap is_some (sym
             (get_beside first (region_of to) _ r ne ∙ get_beside q.regions (region_of to) _ r ne)) ∙ held)
       ]
-  opened_way Follows q from to g other cells two before some few fits r held =
+  opened_fate Moves q from to g other cells two before some few fits r held =
       elim (cases_eq r (region_of to)) [
         | inl same ↦
             let at = current_is q to g other cells two before some few fits in
@@ -267,7 +262,7 @@ module _ (h : Heap) (sound : IsSound h) where
 
   module _ (n : ℕ) (ms : List Move) (moves : AreMoves h n ms)
       (rooms : (k : ℕ) → k ≤ length ms → IsRoom h (room_at h ms k)) where
-    -- what is condemned is an object of generation n or below, of at most 64 cells, and goes to generation 1
+    -- what is condemned is an object of generation n or below, of at most 64 words, and goes to generation 1
     -- or 2
     there : (k : ℕ) → k < length ms → has_object h (move_at ms k).from ≡ true
     there k within = (and_parts _ _ (moves.condemned k within)).0
@@ -294,7 +289,7 @@ module _ (h : Heap) (sound : IsSound h) where
         (λ two. (1, inr (moves.generations k within ∙ two, refl)))
         (raises (generation_at (object_at h) (move_at ms k).from) n (young k within))
 
-    -- the regions that the first k moves open, against the cells that they put
+    -- the regions that the first k moves open, against the words that they put
     pub slack : (k : ℕ) → k ≤ length ms → IsSlack (room_at h ms k) (opens_to ms k) (cells_to h ms k)
     unfolding room_at opens_to cells_to
     slack zero within = omega arith
@@ -302,12 +297,12 @@ module _ (h : Heap) (sound : IsSound h) where
         let inside : k < length ms = omega (arith, within) in
         let m = move_at ms k in
         let two = two_of k inside in
-        slack_way m.way (room_at h ms k) m.from m.to m.generation two.0 (cells_of (placed_at h m.from)) two.1
-        (rooms k (omega (arith, within))) (omega arith) (small k inside) (moves.fits k inside)
+        slack_fate m.fate (room_at h ms k) m.from m.to m.generation two.0 (cells_of (placed_at h m.from))
+        two.1 (rooms k (omega (arith, within))) (omega arith) (small k inside) (moves.fits k inside)
         (rooms (suc k) within)
         (opens_to ms k) (cells_to h ms k) (slack k (omega (arith, within)))
 
-    -- a region of the room was held before, or was opened
+    -- a region of the room was in use before, or was opened
     pub opened_since : (k r : ℕ) → k ≤ length ms → has_region (room_at h ms k).regions r ≡ true
         → (is_held h r ≡ true) ⊎ IsOpenedBy ms r
     unfolding room_at
@@ -318,21 +313,21 @@ module _ (h : Heap) (sound : IsSound h) where
         let two = two_of k inside in
         ⊎_elim (λ was. opened_since k r (omega (arith, within)) was)
         (λ opens. inr (record { at = k; within = inside; opens = opens.0; region = opens.1 }))
-        (opened_way m.way (room_at h ms k) m.from m.to m.generation two.0 (cells_of (placed_at h m.from))
+        (opened_fate m.fate (room_at h ms k) m.from m.to m.generation two.0 (cells_of (placed_at h m.from))
         two.1
         (rooms k (omega (arith, within))) (omega arith) (small k inside) (moves.fits k inside) r held)
 
-  -- what moves stands in a map, each object at a place of its own: it takes at most the map's cells
+  -- what moves is in a map, each object at an address of its own: it takes at most the map's words
   pub cells_within : (ms : List Move) (k : ℕ) (m : fin.FinMap nat_cmp Placed)
-      → ((j : ℕ) → j < k → is_moving (move_at ms j).way ≡ true
+      → ((j : ℕ) → j < k → is_moving (move_at ms j).fate ≡ true
       → (o : Placed) × ((fin.get m (move_at ms j).to.0 ≡ Some o)
       × (cells_of o ≡ cells_of (placed_at h (move_at ms j).from))))
-      → ((i j : ℕ) → i < j → j < k → is_moving (move_at ms i).way ≡ true → is_moving (move_at ms j).way ≡ true
-      → (move_at ms i).to.0 ≢ (move_at ms j).to.0)
+      → ((i j : ℕ) → i < j → j < k → is_moving (move_at ms i).fate ≡ true
+      → is_moving (move_at ms j).fate ≡ true → (move_at ms i).to.0 ≢ (move_at ms j).to.0)
       → cells_to h ms k ≤ sum_by cells_of (fin.values m)
   unfolding cells_to
   cells_within ms zero m stand apart = omega arith
-  cells_within ms (suc k) m stand apart = elim (cases_Bool (is_moving (move_at ms k).way)) [
+  cells_within ms (suc k) m stand apart = elim (cases_Bool (is_moving (move_at ms k).fate)) [
     | inl moves ↦
         let x = (move_at ms k).to.0 in
         let here = stand k (omega arith) moves in
@@ -354,74 +349,81 @@ module _ (h : Heap) (sound : IsSound h) where
         omega (arith, rest, none)
   ]
 
--- the regions that the moves name are as many as stay and open
-opens_first : (m : Move) (ms : List Move) (k : ℕ) → opens_to (m ∷ ms) (suc k) ≡ cond (is_opening m.way) 1 0
+-- the regions of the moves are as many as stay and open
+opens_first : (m : Move) (ms : List Move) (k : ℕ) → opens_to (m ∷ ms) (suc k) ≡ cond (is_opening m.fate) 1 0
     + opens_to ms k
 unfolding opens_to
 opens_first m ms zero = omega arith
 opens_first m ms (suc k) = let before = opens_first m ms k in omega (arith, before)
 
-names_one : (m : Move) (w : Way) (rs : List ℕ) → length (region_by w m rs) ≡ cond (is_staying w) 1 0
+names_one : (m : Move) (w : Fate) (rs : List ℕ) → length (region_by w m rs) ≡ cond (is_staying w) 1 0
     + cond (is_opening w) 1 0 + length rs
-names_one m Gone rs = omega arith
-names_one m Stays rs = omega arith
-names_one m Opens rs = omega arith
-names_one m Follows rs = omega arith
+names_one m Dead rs = omega arith
+names_one m Pinned rs = omega arith
+names_one m MovesToNewRegion rs = omega arith
+names_one m Moves rs = omega arith
 
-names_many : (ms : List Move) → length (regions_of ms) ≡ stays_among ms + opens_to ms (length ms)
+pub names_many : (ms : List Move) → length (regions_of ms) ≡ stays_among ms + opens_to ms (length ms)
 unfolding regions_of stays_among opens_to
 names_many [] = refl
 names_many (m ∷ ms) =
     let first = opens_first m ms (length ms) in
-    let one = names_one m m.way (regions_of ms) in
+    let one = names_one m m.fate (regions_of ms) in
     omega (arith, names_many ms, first, one)
 
--- and have each region that one of them names
-named_later : (m : Move) (w : Way) (rs : List ℕ) (r : ℕ) → Contains rs r → Contains (region_by w m rs) r
-named_later m Gone rs r h = h
-named_later m Stays rs r h = later_in _ rs r h
-named_later m Opens rs r h = later_in _ rs r h
-named_later m Follows rs r h = h
+-- and have each region that is one of theirs
+named_later : (m : Move) (w : Fate) (rs : List ℕ) (r : ℕ) → Contains rs r → Contains (region_by w m rs) r
+named_later m Dead rs r h = h
+named_later m Pinned rs r h = later_in _ rs r h
+named_later m MovesToNewRegion rs r h = later_in _ rs r h
+named_later m Moves rs r h = h
 
-stay_first : (m : Move) (w : Way) (rs : List ℕ) → is_staying w ≡ true
+stay_first : (m : Move) (w : Fate) (rs : List ℕ) → is_staying w ≡ true
     → Contains (region_by w m rs) (region_of m.from)
-stay_first m Stays rs e = first_in _ rs
-stay_first m Gone rs e = absurd (cc e)
-stay_first m Opens rs e = absurd (cc e)
-stay_first m Follows rs e = absurd (cc e)
+stay_first m Pinned rs e = first_in _ rs
+stay_first m Dead rs e = absurd (cc e)
+stay_first m MovesToNewRegion rs e = absurd (cc e)
+stay_first m Moves rs e = absurd (cc e)
 
-open_first : (m : Move) (w : Way) (rs : List ℕ) → is_opening w ≡ true
+open_first : (m : Move) (w : Fate) (rs : List ℕ) → is_opening w ≡ true
     → Contains (region_by w m rs) (region_of m.to)
-open_first m Opens rs e = first_in _ rs
-open_first m Gone rs e = absurd (cc e)
-open_first m Stays rs e = absurd (cc e)
-open_first m Follows rs e = absurd (cc e)
+open_first m MovesToNewRegion rs e = first_in _ rs
+open_first m Dead rs e = absurd (cc e)
+open_first m Pinned rs e = absurd (cc e)
+open_first m Moves rs e = absurd (cc e)
 
-names_stay : (ms : List Move) (k : ℕ) → k < length ms → is_staying (move_at ms k).way ≡ true
+pub names_stay : (ms : List Move) (k : ℕ) → k < length ms → is_staying (move_at ms k).fate ≡ true
     → Contains (regions_of ms) (region_of (move_at ms k).from)
 unfolding regions_of
 names_stay [] k within e = absurd (omega (arith, within))
-names_stay (m ∷ ms) zero within e = stay_first m m.way (regions_of ms) e
+names_stay (m ∷ ms) zero within e = stay_first m m.fate (regions_of ms) e
 names_stay (m ∷ ms) (suc k) within e =
-    named_later m m.way (regions_of ms) _ (names_stay ms k (omega (arith, within)) e)
+    named_later m m.fate (regions_of ms) _ (names_stay ms k (omega (arith, within)) e)
 
-names_open : (ms : List Move) (k : ℕ) → k < length ms → is_opening (move_at ms k).way ≡ true
+pub names_open : (ms : List Move) (k : ℕ) → k < length ms → is_opening (move_at ms k).fate ≡ true
     → Contains (regions_of ms) (region_of (move_at ms k).to)
 unfolding regions_of
 names_open [] k within e = absurd (omega (arith, within))
-names_open (m ∷ ms) zero within e = open_first m m.way (regions_of ms) e
+names_open (m ∷ ms) zero within e = open_first m m.fate (regions_of ms) e
 names_open (m ∷ ms) (suc k) within e =
-    named_later m m.way (regions_of ms) _ (names_open ms k (omega (arith, within)) e)
+    named_later m m.fate (regions_of ms) _ (names_open ms k (omega (arith, within)) e)
+
+-- at most one region of a generation is current
+pub begun_most : (q : Room) (g : ℕ) → begun q g ≤ 1
+begun_most q g = elim (cases_Bool (nat_eq (q.current g) 0)) [
+  | inl e ↦ (let is : begun q g ≡ 0 = ap (λ b. cond b 0 1) e in omega (arith, is))
+  | inr e ↦ (let is : begun q g ≡ 1 = ap (λ b. cond b 0 1) e in omega (arith, is))
+]
 
 -- a heap whose regions each have an object that stays or were opened, and that has at least what was put:
 -- compact
 pub compact : (h : Heap) → IsSound h → (n : ℕ) (ms : List Move) → AreMoves h n ms
     → ((k : ℕ) → k ≤ length ms → IsRoom h (room_at h ms k)) → (new : Heap)
-    → ((j : ℕ) → j < length ms → is_moving (move_at ms j).way ≡ true
+    → ((j : ℕ) → j < length ms → is_moving (move_at ms j).fate ≡ true
     → (o : Placed) × ((fin.get new.objects (move_at ms j).to.0 ≡ Some o)
     × (cells_of o ≡ cells_of (placed_at h (move_at ms j).from))))
-    → ((i j : ℕ) → i < j → j < length ms → is_moving (move_at ms i).way ≡ true → is_moving (move_at ms j).way
-    ≡ true
+    → ((i j : ℕ) → i < j → j < length ms → is_moving (move_at ms i).fate ≡ true
+    → is_moving (move_at ms j).fate ≡ true
     → (move_at ms i).to.0 ≢ (move_at ms j).to.0)
     → ((r : ℕ) → is_held new r ≡ true → HasStay ms r ⊎ IsOpenedBy ms r)
     → fin.len new.regions ≤ used_of new / 193 + 3 + stays_among ms
@@ -442,9 +444,3 @@ compact h sound n ms moves rooms new stand apart held =
     let one = begun_most (room_at h ms (length ms)) 1 in
     let two = begun_most (room_at h ms (length ms)) 2 in
     omega (arith, few, many, number, bound, put, one, two)
-  where
-    begun_most : (q : Room) (g : ℕ) → begun q g ≤ 1
-    begun_most q g = elim (cases_Bool (nat_eq (q.current g) 0)) [
-      | inl e ↦ (let is : begun q g ≡ 0 = ap (λ b. cond b 0 1) e in omega (arith, is))
-      | inr e ↦ (let is : begun q g ≡ 1 = ap (λ b. cond b 0 1) e in omega (arith, is))
-    ]

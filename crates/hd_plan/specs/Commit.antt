@@ -9,6 +9,7 @@ use Rattle.hd_model.specs.Scene.{generation_at, IsField}
 use Rattle.hd_model.specs.Heap.{Heap, card_of, region_at, is_held, has_object, object_at, placed_at, id_at, is_set, used_of}
 use Rattle.hd_plan.specs.Layout.{HasStay, IsCondemnedRegion}
 use Rattle.hd_plan.specs.Plan.{PlanOf, kept_in, place_in, stays_in, HasNoEmptyRegion}
+use Rattle.hd_plan.specs.PackedRegions.{IsPacked}
 
 -- k has the objects, identities, fields and regions of h; values, registrations and cards may differ
 pub record IsSameShape (h k : Heap) : Type 0 where
@@ -18,7 +19,7 @@ pub record IsSameShape (h k : Heap) : Type 0 where
   pub regions : k.regions ≡ h.regions
   pub spare : k.spare ≡ h.spare
 
--- an object after a collection of generation n: its fields name the new places, and its generation is raised
+-- an object after a collection of generation n: its fields hold new addresses, and its generation is raised
 abbrev pub moved_object : (Addr → Addr) → ℕ → Object Addr → Object Addr
 moved_object place n o =
     record o { fields = map (option_map place) o.fields; generation = raised n o.generation }
@@ -32,8 +33,7 @@ pub record NeedsCard (h : Heap) (card : ℕ) : Type 0 where
   pub younger : generation_at (object_at h) to < generation_at (object_at h) from
 
 -- what becomes of each region of before: one that is not condemned stays as it is, a condemned one stays with
--- its generation raised if an
--- object in it stays, and is given up otherwise
+-- its generation raised if an object in it stays, and is freed otherwise
 pub record ChangesRegions (p : PlanOf) (old new : Heap) : Type 0 where
   pub older : (r : ℕ) → is_held old r ≡ true → p.basis.condemned < (region_at old r).generation
       → (is_held new r ≡ true) × (region_at new r ≡ region_at old r)
@@ -46,7 +46,7 @@ pub record ChangesRegions (p : PlanOf) (old new : Heap) : Type 0 where
   pub given_up : (r : ℕ) → IsCondemnedRegion old p.basis.condemned r → (HasStay p.moves r → ⊥)
       → is_held new r ≡ false
 
--- what `commit` leaves: the kept objects at their new places, and no other; cards are set exactly where an
+-- what `commit` leaves: the kept objects at their new addresses, and no other; cards are set exactly where an
 -- object needs it
 pub record Commits (p : PlanOf) (old new : Heap) : Type 0 where
   pub objects : (a : Addr) → kept_in p a ≡ true
@@ -59,4 +59,5 @@ pub record Commits (p : PlanOf) (old new : Heap) : Type 0 where
   pub limit : new.limit ≡ old.limit
   pub used : used_of new ≤ used_of old
   pub full : HasNoEmptyRegion old → HasNoEmptyRegion new
+  pub packed : IsPacked old new p.basis.condemned (stays_in p)
   pub compact : p.basis.condemned ≡ OLDEST → len new.regions ≤ used_of new / LEFT + OPEN + stays_in p

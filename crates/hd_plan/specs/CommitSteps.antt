@@ -7,30 +7,30 @@ use Rattle.hd_model.specs.Scene.{IsField, generation_at}
 use Rattle.hd_model.specs.Heap.{Placed, Heap, region_of, card_of, region_at, is_held, has_object, object_at, placed_at, cells_of, is_set, is_carded}
 use Rattle.hd_heap.specs.Calls.{with_object, with_fresh, with_copy, with_card, with_generation, stored, IsRemoved, is_after, is_old_carded}
 use Rattle.hd_heap.specs.Sound.{IsSound}
-use Rattle.hd_plan.specs.declared.moves.Way.{Way}
-use Rattle.hd_plan.specs.declared.moves.Way.TheVariants.{Gone, Stays, Opens, Follows}
+use Rattle.hd_plan.specs.declared.moves.Fate.{Fate}
+use Rattle.hd_plan.specs.declared.moves.Fate.TheVariants.{Dead, Pinned, MovesToNewRegion, Moves}
 use Rattle.hd_plan.specs.declared.moves.Move.{Move}
 use Rattle.hd_plan.specs.declared.moves.Condemned.{Condemned}
-use Rattle.hd_plan.specs.Layout.{move_at, condemned_at, is_kept_way, is_moving, is_staying, room_at, FitsMove}
+use Rattle.hd_plan.specs.Layout.{move_at, condemned_at, is_kept_fate, is_moving, is_staying, room_at, FitsMove}
 use Rattle.hd_plan.specs.Packing.{ArePut}
 use Rattle.hd_plan.specs.Commit.{NeedsCard}
 
--- one of the first i moves goes such a way, and has this end
-pub record HasEnd (way : Way → Bool) (end : Move → Addr) (ms : List Move) (i : ℕ) (a : Addr) : Type 0 where
+-- one of the first i moves has such a fate, and has this end
+pub record HasEnd (fate : Fate → Bool) (end : Move → Addr) (ms : List Move) (i : ℕ) (a : Addr) : Type 0 where
   pub at : ℕ
   pub before : at < i
-  pub goes : way (move_at ms at).way ≡ true
+  pub goes : fate (move_at ms at).fate ≡ true
   pub is : end (move_at ms at) ≡ a
 
 -- an address to which an object was copied
 abbrev pub IsCopiedTo : List Move → ℕ → Addr → Type 0
 IsCopiedTo = HasEnd is_moving (λ m. m.to)
 
--- the new place of a kept object
+-- the new address of a kept object
 abbrev pub IsKeptAt : List Move → ℕ → Addr → Type 0
-IsKeptAt = HasEnd is_kept_way (λ m. m.to)
+IsKeptAt = HasEnd is_kept_fate (λ m. m.to)
 
--- the old place of an object that does not stay
+-- the old address of an object that does not stay
 abbrev pub IsLeft : List Move → ℕ → Addr → Type 0
 IsLeft = HasEnd (λ w. not (is_staying w)) (λ m. m.from)
 
@@ -42,7 +42,7 @@ MoreCards old h = (c : ℕ) → is_set old c ≡ true → is_set h c ≡ true
 abbrev pub SameCards : Heap → Heap → Type 0
 SameCards old h = (c : ℕ) → is_set h c ≡ is_set old c
 
--- the moves may be carried out: their objects are there, each has a place, and no two have the same one
+-- the moves may be carried out: their objects are there, each has a new address, and no two have the same one
 pub record CanCopy (h : Heap) (ms : List Move) : Type 0 where
   pub sound : IsSound h
   pub objects : (k : ℕ) → k < length ms → has_object h (move_at ms k).from ≡ true
@@ -50,30 +50,30 @@ pub record CanCopy (h : Heap) (ms : List Move) : Type 0 where
   pub fits : (k : ℕ) → k < length ms → FitsMove h (room_at h ms k) (move_at ms k)
   pub put : (i : ℕ) → i ≤ length ms → ArePut h ms i
 
--- one object may be copied as its move says
-abbrev pub MayGo : Way → Heap → Move → Type 0
-MayGo Gone h m = Unit {0}
-MayGo Stays h m = Unit {0}
-MayGo Opens h m =
+-- one object may be copied as its move states
+abbrev pub MayGo : Fate → Heap → Move → Type 0
+MayGo Dead h m = Unit {0}
+MayGo Pinned h m = Unit {0}
+MayGo MovesToNewRegion h m =
     (has_object h m.from ≡ true) × (m.generation ≤ OLDEST) × (cells_of (placed_at h m.from) ≤ REGION)
     × (0 < length h.spare) × (m.to.0 ≡ slice_index h.spare 0 * REGION)
-MayGo Follows h m =
+MayGo Moves h m =
     (has_object h m.from ≡ true) × (is_held h (region_of m.to) ≡ true)
     × (m.to.0 ≡ region_of m.to * REGION + (region_at h (region_of m.to)).fill)
     × ((region_at h (region_of m.to)).fill + cells_of (placed_at h m.from) ≤ REGION)
 
 -- it is copied if it moves, into a fresh region where it opens one
-abbrev pub HasGone : Way → Heap → Heap → Move → Type 0
-HasGone Gone old h m = h ≡ old
-HasGone Stays old h m = h ≡ old
-HasGone Opens old h m =
+abbrev pub HasGone : Fate → Heap → Heap → Move → Type 0
+HasGone Dead old h m = h ≡ old
+HasGone Pinned old h m = h ≡ old
+HasGone MovesToNewRegion old h m =
     h ≡ with_copy (with_fresh old (region_of m.to) m.generation) m.from (region_of m.to)
-HasGone Follows old h m = h ≡ with_copy old m.from (region_of m.to)
+HasGone Moves old h m = h ≡ with_copy old m.from (region_of m.to)
 
--- the first i moves are copied, and their objects stand twice
+-- the first i moves are copied, and their objects are at both addresses
 pub record AreCopied (old h : Heap) (ms : List Move) (i : ℕ) : Type 0 where
   pub objects : (a : Addr) → has_object old a ≡ true → map.get h.objects a.0 ≡ map.get old.objects a.0
-  pub copies : (k : ℕ) → k < i → is_moving (move_at ms k).way ≡ true
+  pub copies : (k : ℕ) → k < i → is_moving (move_at ms k).fate ≡ true
       → map.get h.objects (move_at ms k).to.0 ≡ map.get old.objects (move_at ms k).from.0
   pub only : (b : Addr) → has_object h b ≡ true → (has_object old b ≡ true) ⊎ IsCopiedTo ms i b
   pub same : h ≡ record old {
@@ -82,7 +82,7 @@ pub record AreCopied (old h : Heap) (ms : List Move) (i : ℕ) : Type 0 where
     spare = (room_at old ms i).spare;
   }
 
--- an object whose fields name the new places
+-- an object whose fields hold the new addresses
 abbrev pub rewritten : (Addr → Addr) → Placed → Placed
 rewritten place p = record p { fields = list_map (option_map place) p.fields }
 
@@ -112,7 +112,7 @@ pub record AreRewritten (Those : Addr → Type 0) (place : Addr → Addr) (old h
   pub same : h ≡ record old { objects = h.objects; cards = h.cards }
   pub more : MoreCards old h
 
--- an object of a generation above n in a set card, up to a place
+-- an object of a generation above n in a set card, up to an address
 abbrev pub IsCardedTo : Heap → ℕ → Option Addr → Addr → Type 0
 IsCardedTo h n after a = (is_old_carded h n a ≡ true) × (is_after after a ≡ false)
 
@@ -121,21 +121,21 @@ abbrev pub HasRenamed : Option Addr → (place : Addr → Addr) → Heap → Hea
 HasRenamed None place old h x i = h ≡ old
 HasRenamed (Some y) place old h x i = h ≡ stored old x i (Some (place y))
 
--- an object that does not stay is gone from its old place
-abbrev pub HasLeft : Way → Heap → Heap → Move → Type 0
-HasLeft Gone old h m = IsRemoved old h m.from
-HasLeft Stays old h m = h ≡ old
-HasLeft Opens old h m = IsRemoved old h m.from
-HasLeft Follows old h m = IsRemoved old h m.from
+-- an object that does not stay is gone from its old address
+abbrev pub HasLeft : Fate → Heap → Heap → Move → Type 0
+HasLeft Dead old h m = IsRemoved old h m.from
+HasLeft Pinned old h m = h ≡ old
+HasLeft MovesToNewRegion old h m = IsRemoved old h m.from
+HasLeft Moves old h m = IsRemoved old h m.from
 
--- the first i objects that do not stay are gone from their old places, and cards of objects are as they were
+-- the first i objects that do not stay are gone from their old addresses; cards of objects are as before
 pub record AreRemoved (old h : Heap) (ms : List Move) (i : ℕ) : Type 0 where
   pub gone : (a : Addr) → IsLeft ms i a → map.get h.objects a.0 ≡ None
   pub others : (a : Addr) → (IsLeft ms i a → ⊥) → map.get h.objects a.0 ≡ map.get old.objects a.0
   pub same : h ≡ record old { objects = h.objects; cards = h.cards }
   pub cards : (a : Addr) → has_object h a ≡ true → is_carded h a ≡ is_carded old a
 
--- a condemned region in which an object stays has its new generation, and another one is given up
+-- a condemned region in which an object stays has its new generation, and another one is freed
 abbrev pub HasSettled : (pinned : Bool) → Heap → Heap → Condemned → Type 0
 HasSettled true old h r = h ≡ with_generation old r.region r.generation
 HasSettled false old h r = h ≡ record old {
@@ -143,7 +143,7 @@ HasSettled false old h r = h ≡ record old {
   spare = old.spare ++ r.region ∷ [];
 }
 
--- the first i condemned regions have their new generation, or are given up
+-- the first i condemned regions have their new generation, or are freed
 pub record AreSettled (old h : Heap) (cs : List Condemned) (i : ℕ) : Type 0 where
   pub raised : (k : ℕ) → k < i → (condemned_at cs k).pinned ≡ true
       → map.get h.regions (condemned_at cs k).region
@@ -157,14 +157,14 @@ pub record AreSettled (old h : Heap) (cs : List Condemned) (i : ℕ) : Type 0 wh
       → map.get h.regions r ≡ map.get old.regions r
   pub same : h ≡ record old { regions = h.regions; spare = h.spare }
 
--- the card of a kept object is set, at its new place
-abbrev pub HasCard : Way → Heap → Heap → Move → Type 0
-HasCard Gone old h m = h ≡ old
-HasCard Stays old h m = h ≡ with_card old (card_of m.to) true
-HasCard Opens old h m = h ≡ with_card old (card_of m.to) true
-HasCard Follows old h m = h ≡ with_card old (card_of m.to) true
+-- the card of a kept object is set, at its new address
+abbrev pub HasCard : Fate → Heap → Heap → Move → Type 0
+HasCard Dead old h m = h ≡ old
+HasCard Pinned old h m = h ≡ with_card old (card_of m.to) true
+HasCard MovesToNewRegion old h m = h ≡ with_card old (card_of m.to) true
+HasCard Moves old h m = h ≡ with_card old (card_of m.to) true
 
--- the cards of the first i kept objects are set, at their new places
+-- the cards of the first i kept objects are set, at their new addresses
 pub record AreCarded (old h : Heap) (ms : List Move) (i : ℕ) : Type 0 where
   pub same : h ≡ record old { cards = h.cards }
   pub more : MoreCards old h
@@ -186,34 +186,34 @@ pub record IsExactAt (old h : Heap) (card : ℕ) : Type 0 where
 abbrev pub starts_in : Heap → ℕ → Addr → Bool
 starts_in h card a = has_object h a && nat_eq (card_of a) card
 
--- the first address after a place
+-- the first address after a given one
 abbrev pub next_to : Option Addr → ℕ
 next_to None = 0
 next_to (Some a) = a.0 + 1
 
--- the addresses of 32 bits from a place on; none where there is no place
+-- how many addresses of 32 bits there are from a given one on; none where there is none
 abbrev pub left_from : Option Addr → ℕ
 left_from None = 0
 left_from (Some a) = 2 ^ 32 - a.0
 
--- an address before a place; each is before the end, where there is none
+-- an address before a given one; each is before the end, where there is none
 abbrev pub IsBefore : Option Addr → Addr → Type 0
 IsBefore None b = Unit {0}
 IsBefore (Some a) b = b.0 < a.0
 
--- no object of a card that stands before a place has a field to a younger one
+-- no object of a card that is before an address has a field to a younger one
 pub record AreUnneeding (h : Heap) (card : ℕ) (place : Option Addr) : Type 0 where
   pub here : (a : Addr) → place ≡ Some a → starts_in h card a ≡ true
   pub before : (b : Addr) → starts_in h card b ≡ true → IsBefore place b → NamesYounger h b → ⊥
 
--- the cards up to a number are exact, set just where an object needs them; after them nothing has changed
+-- the cards up to a number are exact, set only where an object needs them; later ones are unchanged
 pub record AreExactTo (old h : Heap) (end : ℕ) : Type 0 where
   pub same : h ≡ record old { cards = h.cards }
   pub needed : (c : ℕ) → c < end → is_set h c ≡ true → NeedsCard old c
   pub kept : (c : ℕ) → NeedsCard old c → is_set h c ≡ true
   pub rest : (c : ℕ) → end ≤ c → is_set h c ≡ is_set old c
 
--- cards are exact up to the end of the card in which a place is
+-- cards are exact up to the end of the card in which an address is
 pub record IsExactBehind (old h : Heap) (after : Option Addr) : Type 0 where
   pub end : ℕ
   pub cards : AreExactTo old h end

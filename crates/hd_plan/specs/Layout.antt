@@ -12,40 +12,40 @@ use Rattle.hd_model.specs.Ages.{raised}
 use Rattle.hd_model.specs.Scene.{generation_at}
 use Rattle.hd_model.specs.Heap.{Heap, Region, region_of, region_generation, is_held, object_at, placed_at, cells_of}
 use Rattle.hd_heap.specs.Calls.{is_condemned}
-use Rattle.hd_plan.specs.declared.moves.Way.{Way}
-use Rattle.hd_plan.specs.declared.moves.Way.TheVariants.{Gone, Stays, Opens, Follows}
+use Rattle.hd_plan.specs.declared.moves.Fate.{Fate}
+use Rattle.hd_plan.specs.declared.moves.Fate.TheVariants.{Dead, Pinned, MovesToNewRegion, Moves}
 use Rattle.hd_plan.specs.declared.moves.Move.{Move}
 use Rattle.hd_plan.specs.declared.moves.Condemned.{Condemned}
 
 -- the k-th move, and the k-th condemned region
 abbrev pub move_at : List Move → ℕ → Move
 move_at ms k = slice_index_or ms k
-    (record { from = record { 0 = 0 }; to = record { 0 = 0 }; generation = 0; way = Gone })
+    (record { from = record { 0 = 0 }; to = record { 0 = 0 }; generation = 0; fate = Dead })
 
 abbrev pub condemned_at : List Condemned → ℕ → Condemned
 condemned_at cs k = slice_index_or cs k (record { region = 0; generation = 0; pinned = false })
 
--- a way of an object that is kept, of one that is kept and moves, and of one that is kept and does not
-abbrev pub is_kept_way : Way → Bool
-is_kept_way Gone = false
-is_kept_way Stays = true
-is_kept_way Opens = true
-is_kept_way Follows = true
+-- the fate of an object that is kept, of one that is kept and moves, and of one that is kept and does not
+abbrev pub is_kept_fate : Fate → Bool
+is_kept_fate Dead = false
+is_kept_fate Pinned = true
+is_kept_fate MovesToNewRegion = true
+is_kept_fate Moves = true
 
-abbrev pub is_moving : Way → Bool
-is_moving Gone = false
-is_moving Stays = false
-is_moving Opens = true
-is_moving Follows = true
+abbrev pub is_moving : Fate → Bool
+is_moving Dead = false
+is_moving Pinned = false
+is_moving MovesToNewRegion = true
+is_moving Moves = true
 
-abbrev pub is_staying : Way → Bool
-is_staying Gone = false
-is_staying Stays = true
-is_staying Opens = false
-is_staying Follows = false
+abbrev pub is_staying : Fate → Bool
+is_staying Dead = false
+is_staying Pinned = true
+is_staying MovesToNewRegion = false
+is_staying Moves = false
 
--- while objects are put: the regions that are held and spare then, and for each generation the region into
--- which it puts, or 0
+-- while objects are laid: the regions that are in use and free then, and for each generation the region in
+-- which it allocates, or 0
 pub record Room : Type 0 where
   pub regions : map.FinMap nat_cmp Region
   pub spare : List ℕ
@@ -54,72 +54,72 @@ pub record Room : Type 0 where
 abbrev pub room_of : Heap → Room
 room_of h = record { regions = h.regions; spare = h.spare; current = λ _. 0 }
 
--- whether a region is among these, and what it is
+-- whether a region is among these, and its record
 abbrev pub has_region : map.FinMap nat_cmp Region → ℕ → Bool
 has_region rs r = map.contains_key rs r
 
 abbrev pub region_in : map.FinMap nat_cmp Region → ℕ → Region
 region_in rs r = unwrap_or (map.get rs r) (record { generation = 0; fill = 0 })
 
--- so many cells more are filled in a region
+-- the allocation pointer of a region rises by `cells` words
 abbrev pub filled : map.FinMap nat_cmp Region → ℕ → ℕ → map.FinMap nat_cmp Region
 filled rs r cells =
     map.insert rs r (record
     { generation = (region_in rs r).generation; fill = (region_in rs r).fill + cells })
 
--- a generation puts into another region from now on
+-- a generation allocates in another region from now on
 abbrev pub with_current : (ℕ → ℕ) → ℕ → ℕ → ℕ → ℕ
 with_current current g r x = cond (nat_eq x g) r (current x)
 
--- the room after an object of so many cells went its way
-abbrev pub put_way : Way → Room → Addr → ℕ → ℕ → Room
-put_way Gone q to g cells = q
-put_way Stays q to g cells = q
-put_way Opens q to g cells = record {
+-- the room after an object of `cells` words met its fate
+abbrev pub put_fate : Fate → Room → Addr → ℕ → ℕ → Room
+put_fate Dead q to g cells = q
+put_fate Pinned q to g cells = q
+put_fate MovesToNewRegion q to g cells = record {
   regions = filled (map.insert q.regions (region_of to) (record { generation = g; fill = 0 })) (region_of to)
       cells;
   spare = drop 1 q.spare;
   current = with_current q.current g (region_of to);
 }
-put_way Follows q to g cells = record q { regions = filled q.regions (region_of to) cells }
+put_fate Moves q to g cells = record q { regions = filled q.regions (region_of to) cells }
 
 abbrev pub put_move : Heap → Room → Move → Room
-put_move h q m = put_way m.way q m.to m.generation (cells_of (placed_at h m.from))
+put_move h q m = put_fate m.fate q m.to m.generation (cells_of (placed_at h m.from))
 
 -- the room after the first k moves
 unfoldable pub room_at : Heap → List Move → ℕ → Room
 room_at h ms zero = room_of h
 room_at h ms (suc k) = put_move h (room_at h ms k) (move_at ms k)
 
--- the first spare region is opened: the one before of its generation, if there is one, has no room for so
--- many cells more
+-- the first free region is opened: the one before of its generation, if there is one, has no room for `cells`
+-- words more
 pub record Opened (q : Room) (to : Addr) (g cells : ℕ) : Type 0 where
   pub spare : 0 < length q.spare
   pub place : to.0 ≡ slice_index q.spare 0 * REGION
   pub left : (q.current g ≡ 0) ⊎ (REGION < (region_in q.regions (q.current g)).fill + cells)
 
--- the object goes after all others of the region into which its generation puts
+-- the object goes after all others of the region in which its generation allocates
 pub record Followed (q : Room) (to : Addr) (g cells : ℕ) : Type 0 where
   pub begun : q.current g ≢ 0
   pub place : to.0 ≡ q.current g * REGION + (region_in q.regions (q.current g)).fill
   pub room : (region_in q.regions (q.current g)).fill + cells ≤ REGION
 
--- an object may go this way from a room
-abbrev pub Fits : Way → Room → (from to : Addr) → (g cells : ℕ) → Type 0
-Fits Gone q from to g cells = to ≡ from
-Fits Stays q from to g cells = to ≡ from
-Fits Opens q from to g cells = Opened q to g cells
-Fits Follows q from to g cells = Followed q to g cells
+-- an object may have this fate in a room
+abbrev pub Fits : Fate → Room → (from to : Addr) → (g cells : ℕ) → Type 0
+Fits Dead q from to g cells = to ≡ from
+Fits Pinned q from to g cells = to ≡ from
+Fits MovesToNewRegion q from to g cells = Opened q to g cells
+Fits Moves q from to g cells = Followed q to g cells
 
 abbrev pub FitsMove : Heap → Room → Move → Type 0
-FitsMove h q m = Fits m.way q m.from m.to m.generation (cells_of (placed_at h m.from))
+FitsMove h q m = Fits m.fate q m.from m.to m.generation (cells_of (placed_at h m.from))
 
 -- the move of an address
 unfoldable pub find_move : List Move → Addr → Option Move
 find_move [] a = None
 find_move (m ∷ ms) a = cond (nat_eq m.from.0 a.0) (Some m) (find_move ms a)
 
--- where a move puts an address, and itself where there is none
+-- where a move puts an address, and itself where there is no move
 abbrev pub place_by : Option Move → Addr → Addr
 place_by None a = a
 place_by (Some m) a = m.to
@@ -127,7 +127,7 @@ place_by (Some m) a = m.to
 -- whether a move keeps its object
 abbrev pub is_kept_by : Option Move → Bool
 is_kept_by None = false
-is_kept_by (Some m) = is_kept_way m.way
+is_kept_by (Some m) = is_kept_fate m.fate
 
 -- each move is of a higher address than the ones before
 abbrev pub IsRising : List Move → Type 0
@@ -147,16 +147,16 @@ pub record AreMoves (h : Heap) (n : ℕ) (ms : List Move) : Type 0 where
 pub record HasStay (ms : List Move) (r : ℕ) : Type 0 where
   pub at : ℕ
   pub within : at < length ms
-  pub stays : is_staying (move_at ms at).way ≡ true
+  pub stays : is_staying (move_at ms at).fate ≡ true
   pub region : region_of (move_at ms at).from ≡ r
 
--- a held region of generation n or below
+-- a region in use of generation n or below
 pub record IsCondemnedRegion (h : Heap) (n r : ℕ) : Type 0 where
   pub held : is_held h r ≡ true
   pub young : region_generation h r ≤ n
 
--- the condemned regions in rising number, with the generation that each gets if it stays: one stays just
--- where an object in it does
+-- the condemned regions in rising number, with the generation that each gets if it stays: exactly those stay
+-- in which an object does
 pub record AreRegions (h : Heap) (n : ℕ) (ms : List Move) (cs : List Condemned) : Type 0 where
   pub condemned : (k : ℕ) → k < length cs → IsCondemnedRegion h n (condemned_at cs k).region
   pub rising : (j k : ℕ) → j < k → k < length cs → (condemned_at cs j).region < (condemned_at cs k).region
@@ -169,4 +169,4 @@ pub record AreRegions (h : Heap) (n : ℕ) (ms : List Move) (cs : List Condemned
 -- how many of these moves leave a kept object in place
 unfoldable pub stays_among : List Move → ℕ
 stays_among [] = 0
-stays_among (m ∷ ms) = cond (is_staying m.way) 1 0 + stays_among ms
+stays_among (m ∷ ms) = cond (is_staying m.fate) 1 0 + stays_among ms

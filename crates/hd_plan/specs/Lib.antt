@@ -3,6 +3,7 @@ pub mod Packing
 pub mod Compactness
 pub mod Plan
 pub mod Laying
+pub mod PackedRegions
 pub mod Commit
 pub mod CommitSteps
 pub mod Table

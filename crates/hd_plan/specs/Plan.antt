@@ -1,4 +1,4 @@
--- The value of a plan, what it keeps and where, and what a laid one tells.
+-- The value of a plan, what it keeps and where, and what a laid one states.
 use Rattle.std.specs.Prelude.{◌≡◌, ℕ, ◌+◌, ◌/◌, ◌^◌, ◌<◌, ◌≤◌, ◌||◌, Bool, true, List, [], length, max, nat_lt, sum_by, AllPairs, Contains, ◌≢◌, refl}
 use Rattle.std.specs.Coded.{Coded, code_by, coded×, coded_list}
 use Rattle.hd_model.specs.declared.data.Addr.{Addr}
@@ -42,7 +42,7 @@ place_in p a = place_by (find_move p.moves a) a
 abbrev pub stays_in : PlanOf → ℕ
 stays_in p = stays_among p.moves
 
--- the places of all kept objects are given, no two to one place, and fields of kept objects name kept ones
+-- all kept objects have new addresses, no two equal, and fields of kept objects reference kept ones
 pub record IsLaid (p : PlanOf) : Type 0 where
   pub sound : IsSound p.basis.heap
   pub generation : p.basis.condemned ≤ OLDEST
@@ -51,7 +51,7 @@ pub record IsLaid (p : PlanOf) : Type 0 where
   pub keeping : IsKeeping (objects_of p.basis) p.basis.condemned (kept_in p) (place_in p)
   pub closed : IsClosed (IsField (objects_of p.basis)) (kept_in p)
 
--- the objects of a property take together so many cells
+-- the objects of a property take this number of words together
 pub record Takes (h : Heap) (P : Addr → Type 0) (cells : ℕ) : Type 0 where
   pub members : List Addr
   pub apart : AllPairs (λ x y. x ≢ y) members
@@ -59,27 +59,27 @@ pub record Takes (h : Heap) (P : Addr → Type 0) (cells : ℕ) : Type 0 where
   pub all : (a : Addr) → P a → Contains members a
   pub sum : sum_by (λ a. cells_of (placed_at h a)) members ≡ cells
 
--- there are spare regions for all condemned objects: each but the last one of a generation is left with at
--- least LEFT cells taken
+-- there are free regions for all condemned objects: each but the last one of a generation is left with at
+-- least LEFT words in use
 pub record HasSpare (h : Heap) (n : ℕ) : Type 0 where
   pub cells : ℕ
   pub cells_are : Takes h (IsCondemned (object_at h) n) cells
   pub small : cells < 2 ^ 38
   pub enough : cells / LEFT + OPEN ≤ length h.spare
 
--- so many spare regions are needed for all condemned objects
+-- this number of free regions is needed for all condemned objects
 pub record NeedsSpare (h : Heap) (n needed : ℕ) : Type 0 where
   pub cells : ℕ
   pub cells_are : Takes h (IsCondemned (object_at h) n) cells
   pub needed_is : needed ≡ cells / LEFT + OPEN
 
--- as many regions are spare as are needed, or as were before where they are more
+-- as many regions are free as are needed, or as were before where they are more
 pub record SparesNeeded (old new : Heap) (n : ℕ) : Type 0 where
   pub needed : ℕ
   pub needs : NeedsSpare old n needed
   pub spare : length new.spare ≡ max needed (length old.spare)
 
--- no more regions are spare than are needed, or than were before where they are more
+-- no more regions are free than are needed, or than were before where they are more
 pub record SparesAtMost (old new : Heap) (n : ℕ) : Type 0 where
   pub needed : ℕ
   pub needs : NeedsSpare old n needed
@@ -102,6 +102,6 @@ pub record StartsInRegion (h : Heap) (r : ℕ) : Type 0 where
 abbrev pub HasNoEmptyCondemned : Heap → ℕ → Type 0
 HasNoEmptyCondemned h n = (r : ℕ) → IsCondemnedRegion h n r → StartsInRegion h r
 
--- each held region has an object
+-- each region in use has an object
 abbrev pub HasNoEmptyRegion : Heap → Type 0
 HasNoEmptyRegion h = (r : ℕ) → is_held h r ≡ true → StartsInRegion h r

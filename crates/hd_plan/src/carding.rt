@@ -1,4 +1,4 @@
-// Cards are set just where an object that starts in them has a field to a younger one.
+// Cards are set exactly where an object that starts in them has a field to a younger one.
 ghost use Rattle.std.specs.Prelude.{◌≡◌, ◌≢◌, ◌+◌, ◌*◌, ◌/◌, ◌<◌, ◌≤◌, ◌↔◌, ℕ, Bool, true, length};
 ghost use Rattle.hd_model.specs.Names.{HasClosedFields};
 ghost use Rattle.hd_model.specs.Ages.{HasSoundCards};
@@ -6,17 +6,17 @@ ghost use Rattle.hd_model.specs.Scene.{generation_at};
 ghost use Rattle.hd_model.specs.Heap.{has_object, object_at, card_of, is_set, is_carded};
 ghost use Rattle.hd_heap.specs.Calls.{IsWalk};
 ghost use Rattle.hd_heap.specs.Sound.{IsSound};
-ghost use Rattle.hd_plan.specs.Layout.{is_kept_way};
+ghost use Rattle.hd_plan.specs.Layout.{is_kept_fate};
 ghost use Rattle.hd_plan.specs.Commit.{NeedsCard};
 ghost use Rattle.hd_plan.specs.CommitSteps.{HasCard, AreCarded, IsKeptAt};
 ghost use Rattle.hd_plan.specs.CommitSteps.{NamesYounger, IsExactAt, starts_in};
 
-use crate::moves::{Move, Way};
+use crate::moves::{Fate, Move};
 use hd_heap::Heap;
 use hd_model::Addr;
 use hd_model::limits::CARD;
 
-/// Sets the card of each kept object of these moves, at its new place.
+/// Sets the card of each kept object of these moves, at its new address.
 pub(crate) fn card_kept(heap: &mut Heap, moves: &[Move])
     requires { (a : Addr) → IsKeptAt moves.now (length moves.now) a → has_object heap.old a ≡ true }
     ensures { AreCarded heap.old heap.new moves.now (length moves.now) }
@@ -28,12 +28,12 @@ pub(crate) fn card_kept(heap: &mut Heap, moves: &[Move])
 
 // Sets the card of one object if it is kept.
 fn card_if_kept(heap: &mut Heap, object: Move)
-    requires { is_kept_way object.way ≡ true → has_object heap.old object.to ≡ true }
-    ensures { HasCard object.way heap.old heap.new object }
+    requires { is_kept_fate object.fate ≡ true → has_object heap.old object.to ≡ true }
+    ensures { HasCard object.fate heap.old heap.new object }
 {
-    match object.way {
-        Way::Gone => {}
-        Way::Stays | Way::Opens | Way::Follows => heap.set_card(object.to, true),
+    match object.fate {
+        Fate::Dead => {}
+        Fate::Pinned | Fate::MovesToNewRegion | Fate::Moves => heap.set_card(object.to, true),
     }
 }
 
@@ -53,8 +53,8 @@ pub(crate) fn clear_unneeded(heap: &mut Heap)
     }
 }
 
-// Sets the card in which an object starts where it is needed, and clears it otherwise. The first
-// that starts in the card is given.
+// Sets the card in which an object starts where it is needed, and clears it otherwise. It is given
+// the first object that starts in the card.
 fn make_exact(heap: &mut Heap, first: Addr)
     requires object { has_object heap.old first ≡ true }
     requires first { (b : Addr) → starts_in heap.old (card_of first) b ≡ true → first.0 ≤ b.0 }
@@ -65,15 +65,15 @@ fn make_exact(heap: &mut Heap, first: Addr)
     heap.set_card(first, needed);
 }
 
-// The last cell of the card in which an address is.
+// The last word of the card in which an address is.
 fn last_cell(at: Addr) -> Addr
     ensures { result.0 + 1 ≡ (card_of at + 1) * CARD }
 {
     Addr(at.0 / CARD * CARD + (CARD - 1))
 }
 
-// Whether an object that starts in a card has a field to a younger one. The first that starts in
-// the card is given.
+// Whether an object that starts in a card has a field to a younger one. It is given the first that
+// starts in the card.
 fn is_needed(heap: &Heap, first: Addr) -> bool
     requires object { has_object heap.now first ≡ true }
     requires first { (b : Addr) → starts_in heap.now (card_of first) b ≡ true → first.0 ≤ b.0 }

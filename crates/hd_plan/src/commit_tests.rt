@@ -17,28 +17,28 @@ use std::alloc::Global;
 use std::process::Abort;
 use std::test::Fail;
 
-// A heap, a collection of it, and what is to stand after it.
+// A heap, a collection of it, and what the heap must be afterwards.
 #[derive(Clone, Copy)]
 struct Case<'a> {
-    // The cells of each object, in the order in which they are made. Identities count from 1.
+    // The words of each object, in the order in which they are made. Identities count from 1.
     cells: &'a [u32],
     // The objects at these addresses have this generation, and with them their regions.
     raised: &'a [(u32, u8)],
-    // Field `.1` of the object at `.0` names the object at `.2`.
+    // Field `.1` of the object at `.0` references the object at `.2`.
     arrows: &'a [(u32, u32, u32)],
-    // The cards of these objects are set besides.
+    // The cards of these objects are set too.
     carded: &'a [u32],
     condemned: u8,
     roots: &'a [u32],
     pinned: &'a [u32],
     // All objects afterwards: address, identity, generation, and whether the card is set.
     after: &'a [(u32, u64, u8, bool)],
-    // Field `.1` of the object at `.0` then names the object at `.2`.
+    // Field `.1` of the object at `.0` then references the object at `.2`.
     names: &'a [(u32, u32, u32)],
     regions: u32,
 }
 
-// Whether the fields of an object name objects alone.
+// Whether the fields of an object reference objects alone.
 fn names_objects(heap: &Heap, at: Addr) -> bool
     requires { has_object heap.now at ≡ true }
     ensures { result ≡ true → (y : Addr) → IsField (object_at heap.now) at y
@@ -54,7 +54,7 @@ fn names_objects(heap: &Heap, at: Addr) -> bool
     true
 }
 
-// Whether all fields name objects alone.
+// Whether all fields reference objects alone.
 pub(crate) fn is_closed(heap: &Heap) -> bool
     ensures { result ≡ true → HasClosedFields (object_at heap.now) }
 {
@@ -96,7 +96,7 @@ fn are_cards_sound(heap: &Heap) -> bool
     true
 }
 
-// Whether the fields of an object name promoted objects alone.
+// Whether the fields of an object reference promoted objects alone.
 fn names_promoted(heap: &Heap, marks: &Marks, at: Addr) -> bool
     requires settled { IsSettledMarks marks.now }
     requires basis { marks.now.basis.heap ≡ heap.now }
@@ -115,7 +115,7 @@ fn names_promoted(heap: &Heap, marks: &Marks, at: Addr) -> bool
     true
 }
 
-// Whether the fields of promoted objects name promoted ones alone.
+// Whether the fields of promoted objects reference promoted ones alone.
 pub(crate) fn is_promoted_closed(heap: &Heap, marks: &Marks) -> bool
     requires settled { IsSettledMarks marks.now }
     requires basis { marks.now.basis.heap ≡ heap.now }
@@ -193,7 +193,7 @@ fn lay(
     Ok(())
 }
 
-// Looks at what stands after a case.
+// Checks the heap after a case.
 fn shows(rt: &impl Abort, heap: &Heap, case: &Case) {
     let mut last = None;
     for (at, id, generation, carded) in case.after {
@@ -228,8 +228,8 @@ fn collects(rt: &impl Abort, alloc: Global, case: &Case) -> Result<(), Memory> {
 
 #[test]
 fn an_older_object_in_a_set_card_names_the_new_place(rt: HostRuntime) -> Result<(), Fail> {
-    // Objects 1 to 4 are of generation 2, and the first names 5, the only one that is kept of two.
-    // The card of the third was set for nothing.
+    // Objects 1 to 4 are of generation 2, and the first references 5, the only one that is kept of
+    // two. The card of the third was set without need.
     let case = Case {
         cells: &[64, 64, 64, 64, 64, 64],
         raised: &[(256, 2)],
@@ -262,7 +262,7 @@ fn collect_all(rt: &impl Abort, alloc: Global, cases: &[Case]) -> Result<(), Mem
 
 #[test]
 fn a_card_is_clear_once_nothing_younger_is_named(rt: HostRuntime) -> Result<(), Fail> {
-    // The first of four objects of generation 2 names one of generation 1.
+    // The first of four objects of generation 2 references one of generation 1.
     let young = Case {
         cells: &[64, 64, 64, 64, 64],
         raised: &[(256, 2), (512, 1)],
@@ -300,7 +300,7 @@ fn a_card_is_clear_once_nothing_younger_is_named(rt: HostRuntime) -> Result<(), 
 
 #[test]
 fn a_region_stays_raised_where_a_kept_object_is_pinned(rt: HostRuntime) -> Result<(), Fail> {
-    // Two of four objects name each other.
+    // Two of four objects reference each other.
     let one = Case {
         cells: &[64, 64, 64, 64],
         raised: &[],
@@ -340,7 +340,7 @@ fn a_region_stays_raised_where_a_kept_object_is_pinned(rt: HostRuntime) -> Resul
 
 #[test]
 fn a_kept_object_that_names_a_younger_one_has_its_card_set(rt: HostRuntime) -> Result<(), Fail> {
-    // An object of generation 1 names one of generation 0.
+    // An object of generation 1 references one of generation 0.
     let pinned = Case {
         cells: &[64, 64, 64, 64, 64],
         raised: &[(256, 1)],

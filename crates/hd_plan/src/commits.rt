@@ -12,8 +12,8 @@ use crate::releasing::{remove_left, settle_regions};
 use crate::rewriting::{rewrite_carded, rewrite_kept};
 use hd_heap::Heap;
 
-/// Moves the objects that the plan keeps to their places, rewrites the fields that name them, and
-/// takes all other condemned objects away. Cards are exact afterwards. It looks at condemned
+/// Moves the objects that the plan keeps to their new addresses, rewrites the fields that reference
+/// them, and removes all other condemned objects. Cards are exact afterwards. It looks at condemned
 /// objects and at those in set cards, and at no other object; it takes no memory.
 pub fn commit(heap: &mut Heap, plan: &mut Plan)
     requires laid { IsLaid plan.old }
@@ -22,7 +22,7 @@ pub fn commit(heap: &mut Heap, plan: &mut Plan)
     ensures plan { plan.new ≡ plan.old }
     ensures commits { Commits plan.old heap.old heap.new }
 {
-    // The answer is not used: the call tells the proof what every heap keeps.
+    // The result is not used: the call states to the proof what every heap keeps.
     let _regions = heap.regions();
     let moves: &[Move] = &plan.moves;
     let regions: &[Condemned] = &plan.regions;

@@ -1,12 +1,12 @@
-// The objects that move are copied to their new places.
+// The objects that move are copied to their new addresses.
 ghost use Rattle.std.specs.Prelude.{◌≡◌, length};
 ghost use Rattle.hd_plan.specs.CommitSteps.{CanCopy, AreCopied, MayGo, HasGone};
 
-use crate::moves::{Move, Way};
+use crate::moves::{Fate, Move};
 use crate::places::region_number;
 use hd_heap::Heap;
 
-/// Copies each object that moves to its new place. It stands twice from then on.
+/// Copies each object that moves to its new address. It is at both addresses from then on.
 pub(crate) fn copy_moves(heap: &mut Heap, moves: &[Move])
     requires { CanCopy heap.old moves.now }
     ensures { AreCopied heap.old heap.new moves.now (length moves.now) }
@@ -17,18 +17,18 @@ pub(crate) fn copy_moves(heap: &mut Heap, moves: &[Move])
 }
 
 // Copies one object if it moves.
-#[tactic(auto, using(crate::proofs::CommitCopying::copies))]
+#[tactic(auto, using(crate::proofs::CommitCopies::copies))]
 fn copy_move(heap: &mut Heap, object: Move)
-    requires { MayGo object.way heap.old object }
-    ensures { HasGone object.way heap.old heap.new object }
+    requires { MayGo object.fate heap.old object }
+    ensures { HasGone object.fate heap.old heap.new object }
 {
-    match object.way {
-        Way::Gone | Way::Stays => {}
-        Way::Opens => {
+    match object.fate {
+        Fate::Dead | Fate::Pinned => {}
+        Fate::MovesToNewRegion => {
             let region = heap.fresh(object.generation);
             heap.copy_into(object.from, region);
         }
-        Way::Follows => {
+        Fate::Moves => {
             heap.copy_into(object.from, region_number(object.to));
         }
     }

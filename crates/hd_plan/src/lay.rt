@@ -10,18 +10,18 @@ ghost use Rattle.hd_plan.specs.Laying.{HasMoveRoom, AreChosen, CanPut, IsMoveOf}
 ghost use Rattle.hd_plan.specs.Plan.{IsTakenPlan, IsLaid, HasSpare, HasNoEmptyCondemned};
 ghost use Rattle.hd_plan.specs.Plan.{kept_in, place_in, stays_in};
 
+use crate::cursors::AllocCursors;
 use crate::list::list_moves;
-use crate::moves::{Move, Way};
+use crate::moves::{Fate, Move};
 use crate::plan::Plan;
-use crate::seats::Seats;
 use hd_heap::Heap;
 use hd_model::limits::{HEADER, OLDEST};
 use hd_model::{Addr, Marker};
 
 impl Plan {
-    /// Gives each promoted object its place: what is pinned stays, and all else goes into fresh
-    /// regions, one row of them for each generation, in rising address. A region is left only
-    /// where the next object does not fit.
+    /// Gives each promoted object its new address: what is pinned stays, and all else is copied
+    /// into fresh regions, one row of them for each generation, in rising address. A region is left
+    /// only where the next object does not fit.
     pub fn lay<M: Marker>(&mut self, heap: &Heap, marker: &M)
         requires taken { IsTakenPlan self.old }
         requires heap { self.old.basis.heap ≡ heap.now }
@@ -44,7 +44,7 @@ impl Plan {
     }
 }
 
-// Lists the condemned objects with their places.
+// Lists the condemned objects with their new addresses.
 fn lay_moves<M: Marker>(heap: &Heap, marker: &M, n: u8, moves: &mut Vec<Move>)
     requires generation { n ≤ OLDEST }
     requires marker { M.basis marker.now ≡ record { heap = heap.now; condemned = n } }
@@ -57,24 +57,24 @@ fn lay_moves<M: Marker>(heap: &Heap, marker: &M, n: u8, moves: &mut Vec<Move>)
     ensures sound { IsSound heap.now }
     ensures capacity { vec_capacity moves.new ≡ vec_capacity moves.old }
 {
-    let mut seats = Seats::new();
+    let mut cursors = AllocCursors::new();
     let mut after = None;
     'walk: while let Some(at) = heap.next_condemned(after, n) {
-        let object = lay_one(heap, marker, n, at, &mut seats);
+        let object = lay_one(heap, marker, n, at, &mut cursors);
         moves.push_reserved(object);
         after = Some(at);
     }
 }
 
-// Gives one condemned object its place.
-fn lay_one<M: Marker>(heap: &Heap, marker: &M, n: u8, at: Addr, seats: &mut Seats) -> Move
+// Gives one condemned object its new address.
+fn lay_one<M: Marker>(heap: &Heap, marker: &M, n: u8, at: Addr, cursors: &mut AllocCursors) -> Move
     requires marker { M.basis marker.now ≡ record { heap = heap.now; condemned = n } }
     requires settled { M.settled marker.now }
     requires sound { IsSound heap.now }
     requires condemned { is_condemned heap.now n at ≡ true }
-    requires can_put { CanPut heap.now seats.old }
-    ensures { IsMoveOf heap.now n (M.promoted marker.now at) (M.pinned marker.now at) seats.old
-        seats.new at result }
+    requires can_put { CanPut heap.now cursors.old }
+    ensures { IsMoveOf heap.now n (M.promoted marker.now at) (M.pinned marker.now at) cursors.old
+        cursors.new at result }
 {
     let generation = (heap.generation(at) + 1).min(OLDEST);
     let from = at;
@@ -83,7 +83,7 @@ fn lay_one<M: Marker>(heap: &Heap, marker: &M, n: u8, at: Addr, seats: &mut Seat
             from,
             to: at,
             generation,
-            way: Way::Gone,
+            fate: Fate::Dead,
         };
     }
     if marker.pinned(at) {
@@ -91,14 +91,14 @@ fn lay_one<M: Marker>(heap: &Heap, marker: &M, n: u8, at: Addr, seats: &mut Seat
             from,
             to: at,
             generation,
-            way: Way::Stays,
+            fate: Fate::Pinned,
         };
     }
-    let (way, to) = seats.put(heap, generation, heap.fields(at) + HEADER);
+    let (fate, to) = cursors.put(heap, generation, heap.fields(at) + HEADER);
     Move {
         from,
         to,
         generation,
-        way,
+        fate,
     }
 }

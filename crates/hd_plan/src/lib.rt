@@ -6,6 +6,7 @@ mod carding;
 mod commit_tests;
 mod commits;
 mod copying;
+mod cursors;
 mod lay;
 mod list;
 mod moves;
@@ -13,11 +14,10 @@ mod places;
 mod plan;
 mod releasing;
 mod rewriting;
-mod seats;
 mod survey;
 #[cfg(test)]
 mod tests;
 
 pub use commits::commit;
-pub use moves::{Condemned, Move, Way};
+pub use moves::{Condemned, Fate, Move};
 pub use plan::Plan;

@@ -6,7 +6,7 @@ ghost use Rattle.hd_plan.specs.Laying.{HasMove, HasRegionRoom, AreListedTo, HasP
 use crate::moves::{Condemned, Move};
 use crate::places::{Places, region_number};
 
-/// Lists the regions of all moves, and puts the new places into the table.
+/// Lists the regions of all moves, and puts the new addresses into the table.
 pub(crate) fn list_moves(moves: &Vec<Move>, regions: &mut Vec<Condemned>, places: &mut Places)
     requires rising { IsRising moves.now.items }
     requires none { regions.old.items ≡ [] }
@@ -45,14 +45,14 @@ fn list_region(object: Move, regions: &mut Vec<Condemned>, places: &mut Places)
 {
     let region = region_number(object.from);
     if is_last(regions, region) {
-        join(regions, object.way.stays());
+        join(regions, object.fate.stays());
         return;
     }
     places.list(region, regions.len() as u32);
     regions.push_reserved(Condemned {
         region,
         generation: object.generation,
-        pinned: object.way.stays(),
+        pinned: object.fate.stays(),
     });
 }
 
@@ -64,7 +64,7 @@ fn is_last(regions: &Vec<Condemned>, region: u32) -> bool
     listed > 0 && regions[listed - 1].region == region
 }
 
-// The last listed region has an object more.
+// The last listed region has one object more.
 fn join(regions: &mut Vec<Condemned>, stays: bool)
     requires { 0 < length regions.old.items }
     ensures items { let old = regions.old.items in

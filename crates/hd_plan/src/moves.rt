@@ -1,29 +1,29 @@
 ghost use Rattle.std.specs.Prelude.{◌≡◌};
-ghost use Rattle.hd_plan.specs.Layout.{is_kept_way, is_staying};
+ghost use Rattle.hd_plan.specs.Layout.{is_kept_fate, is_staying};
 
 use hd_model::Addr;
 
 /// What becomes of a condemned object.
 #[derive(Clone, Copy, Debug, PartialEq, Eq)]
-pub enum Way {
+pub enum Fate {
     /// It is not kept.
-    Gone,
+    Dead,
     /// It is kept, and stays where it is, since it is pinned.
-    Stays,
+    Pinned,
     /// It is the first that is copied into a fresh region.
-    Opens,
-    /// It is copied after the one before of its generation.
-    Follows,
+    MovesToNewRegion,
+    /// It is copied after the object before it of its generation.
+    Moves,
 }
 
-impl Way {
+impl Fate {
     /// Whether the object is kept.
     pub fn is_kept(self) -> bool
-        ensures { result ≡ is_kept_way self }
+        ensures { result ≡ is_kept_fate self }
     {
         match self {
-            Way::Gone => false,
-            Way::Stays | Way::Opens | Way::Follows => true,
+            Fate::Dead => false,
+            Fate::Pinned | Fate::MovesToNewRegion | Fate::Moves => true,
         }
     }
 
@@ -32,23 +32,23 @@ impl Way {
         ensures { result ≡ is_staying self }
     {
         match self {
-            Way::Stays => true,
-            Way::Gone | Way::Opens | Way::Follows => false,
+            Fate::Pinned => true,
+            Fate::Dead | Fate::MovesToNewRegion | Fate::Moves => false,
         }
     }
 }
 
-/// One condemned object: where it stands and where it goes, the same place where it is not kept or
+/// One condemned object: where it is and where it goes, the same address where it is not kept or
 /// stays, and the generation to which it is promoted if it is kept.
 #[derive(Clone, Copy, Debug, PartialEq, Eq)]
 pub struct Move {
     pub from: Addr,
     pub to: Addr,
     pub generation: u8,
-    pub way: Way,
+    pub fate: Fate,
 }
 
-/// One condemned region by its number, its next generation if it stays, and whether it does, since
+/// One condemned region by its index, its next generation if it stays, and whether it does, since
 /// an object in it is pinned.
 #[derive(Clone, Copy, Debug, PartialEq, Eq)]
 pub struct Condemned {

@@ -8,24 +8,24 @@ use hd_model::limits::REGION;
 use hd_model::{Addr, Memory};
 use std::alloc::Global;
 
-/// New places by old ones, found at once: each region that is listed has a cell for each of
-/// its addresses.
+/// New addresses by old ones, found in constant time: each region that is listed has an entry for
+/// each of its addresses.
 #[derive(Drop)]
 pub(crate) struct Places {
-    // By its number, where the cells of a region stand: 1 for the first region that is listed, and
-    // so on; 0 for a region that is not listed.
+    // By region index, where the entries of a region are: 1 for the first region that is listed,
+    // and so on; 0 for a region that is not listed.
     pub(crate) firsts: Vec<u32>,
     pub(crate) cells: Vec<Addr>,
 }
 
-/// The number of the region of an address.
+/// The region index of an address.
 pub(crate) fn region_number(at: Addr) -> u32
     ensures { result ≡ region_of at }
 {
     at.0 / REGION
 }
 
-// The cell of an address in a region, by the place of the region in the list.
+// The entry of an address in a region, by the position of the region in the list.
 fn spot(place: u32, at: Addr) -> usize
     ensures { result ≡ spot_in place at }
 {
@@ -33,7 +33,9 @@ fn spot(place: u32, at: Addr) -> usize
 }
 
 impl Places {
-    /// Room for so many regions, with numbers up to `last`. None is listed.
+    /// Room for this number of regions, with indexes up to `last`. None is listed. It takes memory,
+    /// and time to fill it, for a number for each region up to `last` and for an address for each
+    /// word of those that may be listed.
     pub(crate) fn open(alloc: Global, regions: u32, last: u32) -> Result<Places, Memory>
         ensures firsts { IfOk result (λ p. p.firsts.items ≡ replicate (last + 1) 0) }
         ensures cells { IfOk result (λ p. length p.cells.items ≡ REGION * regions) }
@@ -57,7 +59,7 @@ impl Places {
         self.firsts[region as usize] = k + 1;
     }
 
-    /// Gives an address in a listed region a new place.
+    /// Gives an address in a listed region its new address.
     pub(crate) fn put(&mut self, at: Addr, to: Addr)
         requires listed { first_at self.old.firsts.items (region_of at) ≢ 0 }
         requires room { REGION * first_at self.old.firsts.items (region_of at)
@@ -70,7 +72,7 @@ impl Places {
         self.cells[spot(first, at)] = to;
     }
 
-    /// The new place of an address in a listed region; another address itself.
+    /// The new address of an address in a listed region; any other address is returned itself.
     pub(crate) fn place(&self, at: Addr) -> Addr
         requires room { REGION * first_at self.now.firsts.items (region_of at)
             ≤ length self.now.cells.items }

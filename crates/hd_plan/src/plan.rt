@@ -3,7 +3,7 @@ ghost use Rattle.hd_model.specs.Counting.{Counts};
 ghost use Rattle.hd_model.specs.Scene.{is_object, IsCondemned};
 ghost use Rattle.hd_model.specs.Heap.{objects_of};
 ghost use Rattle.hd_plan.specs.Laying.{IsSurvey};
-ghost use Rattle.hd_plan.specs.Layout.{is_kept_way};
+ghost use Rattle.hd_plan.specs.Layout.{is_kept_fate};
 ghost use Rattle.hd_plan.specs.Plan.{IsTakenPlan, IsLaid, kept_in, place_in, HasSpare};
 ghost use Rattle.hd_plan.specs.Plan.{SparesNeeded, SparesAtMost};
 
@@ -11,7 +11,7 @@ use crate::moves::{Condemned, Move};
 use crate::places::Places;
 use crate::survey::{Survey, count_condemned};
 use hd_heap::Heap;
-use hd_model::limits::{FIELDS, HEADER, LEFT, OLDEST, OPEN};
+use hd_model::limits::{LEFT, OLDEST, OPEN};
 use hd_model::{Addr, Forward, Memory};
 use std::alloc::Global;
 use std::marker::Model;
@@ -50,8 +50,8 @@ impl Model for Plan {
 }
 
 impl Plan {
-    /// Takes memory for a plan of generation `n` and below, and spare regions for what it may keep.
-    /// Spare regions that were taken stay spare where there is too little memory for the rest.
+    /// Takes memory for a plan of generation `n` and below, and free regions for what it may keep.
+    /// Free regions that were added stay free where memory runs out for the rest.
     pub fn take(alloc: Global, heap: &mut Heap, n: u8) -> Result<Plan, Memory>
         requires generation { n ≤ OLDEST }
         ensures same { heap.new ≡ record heap.old { spare = heap.new.spare } }
@@ -69,7 +69,7 @@ impl Plan {
         Plan::with_room(alloc, heap, n, &found)
     }
 
-    /// An empty plan with room for what was found.
+    /// An empty plan with room for what the survey found.
     fn with_room(alloc: Global, heap: &Heap, n: u8, found: &Survey) -> Result<Plan, Memory>
         requires found { IsSurvey heap.now n found.now }
         requires generation { n ≤ OLDEST }
@@ -136,11 +136,11 @@ impl Forward for Plan {
 // How many moves keep their object.
 fn count_kept(moves: &Vec<Move>) -> u32
     requires { length moves.now.items < 2 ^ 32 }
-    ensures { result ≡ count_by (λ m. is_kept_way m.way) moves.now.items }
+    ensures { result ≡ count_by (λ m. is_kept_fate m.fate) moves.now.items }
 {
     let mut kept = 0;
     for object in moves {
-        if object.way.is_kept() {
+        if object.fate.is_kept() {
             kept += 1;
         }
     }

@@ -1,15 +1,15 @@
-// What is not kept is taken away, and regions without objects are given up.
+// What is not kept is removed, and regions without objects are freed.
 ghost use Rattle.std.specs.Prelude.{◌≡◌, ◌≢◌, ◌<◌, ◌≤◌, ℕ, true, false, length};
 ghost use Rattle.hd_model.specs.Heap.{has_object, is_held, region_of};
 ghost use Rattle.hd_plan.specs.Layout.{move_at, condemned_at, is_staying, IsRising};
 ghost use Rattle.hd_plan.specs.CommitSteps.{HasLeft, AreRemoved, HasSettled, AreSettled};
 
-use crate::moves::{Condemned, Move, Way};
+use crate::moves::{Condemned, Fate, Move};
 use hd_heap::Heap;
 use hd_model::Addr;
 use hd_model::limits::OLDEST;
 
-/// Takes away the objects of these moves at their old places, but for those that stay.
+/// Removes the objects of these moves from their old addresses, but for those that stay.
 pub(crate) fn remove_left(heap: &mut Heap, moves: &[Move])
     requires objects { (k : ℕ) → k < length moves.now
         → has_object heap.old (move_at moves.now k).from ≡ true }
@@ -21,18 +21,18 @@ pub(crate) fn remove_left(heap: &mut Heap, moves: &[Move])
     }
 }
 
-// Takes one object away at its old place, unless it stays.
+// Removes one object from its old address, unless it stays.
 fn remove_if_left(heap: &mut Heap, object: Move)
     requires { has_object heap.old object.from ≡ true }
-    ensures { HasLeft object.way heap.old heap.new object }
+    ensures { HasLeft object.fate heap.old heap.new object }
 {
-    match object.way {
-        Way::Stays => {}
-        Way::Gone | Way::Opens | Way::Follows => heap.remove(object.from),
+    match object.fate {
+        Fate::Pinned => {}
+        Fate::Dead | Fate::MovesToNewRegion | Fate::Moves => heap.remove(object.from),
     }
 }
 
-/// Gives a condemned region its new generation if an object in it stays, and gives it up otherwise.
+/// Gives a condemned region its new generation if an object in it stays, and frees it otherwise.
 pub(crate) fn settle_regions(heap: &mut Heap, regions: &[Condemned])
     requires held { (k : ℕ) → k < length regions.now
         → is_held heap.old (condemned_at regions.now k).region ≡ true }
@@ -50,7 +50,7 @@ pub(crate) fn settle_regions(heap: &mut Heap, regions: &[Condemned])
     }
 }
 
-// Raises one condemned region or gives it up.
+// Raises the generation of one condemned region, or frees it.
 fn settle_region(heap: &mut Heap, condemned: Condemned)
     requires held { is_held heap.old condemned.region ≡ true }
     requires generation { condemned.generation ≤ OLDEST }

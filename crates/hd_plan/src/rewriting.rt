@@ -1,15 +1,15 @@
-// The fields of kept objects come to name the new places.
+// The fields of kept objects come to hold the new addresses.
 ghost use Rattle.std.specs.Prelude.{◌≡◌, ◌≢◌, ◌+◌, ◌-◌, ◌*◌, ◌^◌, ◌≤◌, ◌<◌, ℕ, true, length};
 ghost use Rattle.std.specs.Prelude.{slice_index_or, None};
 ghost use Rattle.std.specs.Option.{ForSome};
 ghost use Rattle.hd_model.specs.Scene.{IsField, fields_at};
 ghost use Rattle.hd_model.specs.Heap.{has_object, object_at};
 ghost use Rattle.hd_heap.specs.Calls.{is_old_carded};
-ghost use Rattle.hd_plan.specs.Layout.{move_at, is_kept_way};
+ghost use Rattle.hd_plan.specs.Layout.{move_at, is_kept_fate};
 ghost use Rattle.hd_plan.specs.CommitSteps.{HasRenamed, IsRewritten, AreRewritten};
 ghost use Rattle.hd_plan.specs.CommitSteps.{SameCards, IsKeptAt};
 
-use crate::moves::{Move, Way};
+use crate::moves::{Fate, Move};
 use hd_heap::Heap;
 use hd_model::{Addr, Forward};
 
@@ -44,8 +44,8 @@ fn rewrite_field<F: Forward>(heap: &mut Heap, forward: &F, at: Addr, i: u32)
     }
 }
 
-/// Rewrites the fields of the older objects in set cards, which are all that may name a condemned
-/// object. No card changes.
+/// Rewrites the fields of the older objects in set cards, which are all that may reference a
+/// condemned object. No card changes.
 pub(crate) fn rewrite_carded<F: Forward>(heap: &mut Heap, forward: &F, n: u8)
     requires laid { F.laid forward.now }
     requires kept { (x y : Addr) → is_old_carded heap.old n x ≡ true
@@ -63,14 +63,14 @@ pub(crate) fn rewrite_carded<F: Forward>(heap: &mut Heap, forward: &F, n: u8)
     }
 }
 
-/// Rewrites the fields of the kept objects of these moves, at their new places.
+/// Rewrites the fields of the kept objects of these moves, at their new addresses.
 pub(crate) fn rewrite_kept<F: Forward>(heap: &mut Heap, forward: &F, moves: &[Move])
     requires laid { F.laid forward.now }
     requires objects { (a : Addr) → IsKeptAt moves.now (length moves.now) a
         → has_object heap.old a ≡ true }
     requires apart { (j k : ℕ) → j < k → k < length moves.now
-        → is_kept_way (move_at moves.now j).way ≡ true
-        → is_kept_way (move_at moves.now k).way ≡ true
+        → is_kept_fate (move_at moves.now j).fate ≡ true
+        → is_kept_fate (move_at moves.now k).fate ≡ true
         → (move_at moves.now j).to.0 ≢ (move_at moves.now k).to.0 }
     requires kept { (x y : Addr) → IsKeptAt moves.now (length moves.now) x
         → IsField (object_at heap.old) x y → F.kept forward.now y ≡ true }
@@ -80,9 +80,11 @@ pub(crate) fn rewrite_kept<F: Forward>(heap: &mut Heap, forward: &F, moves: &[Mo
         heap.old heap.new }
 {
     for object in moves {
-        match object.way {
-            Way::Gone => {}
-            Way::Stays | Way::Opens | Way::Follows => rewrite_object(heap, forward, object.to),
+        match object.fate {
+            Fate::Dead => {}
+            Fate::Pinned | Fate::MovesToNewRegion | Fate::Moves => rewrite_object(
+                heap, forward, object.to,
+            ),
         }
     }
 }

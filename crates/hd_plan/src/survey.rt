@@ -6,8 +6,8 @@ use hd_heap::Heap;
 use hd_model::Addr;
 use hd_model::limits::HEADER;
 
-/// What there is to lay: the condemned objects, their cells, the regions in which they stand, and
-/// the last of these regions.
+/// What there is to lay: the condemned objects, their words, the regions in which they are, and the
+/// last of these regions.
 #[derive(Clone, Copy)]
 pub(crate) struct Survey {
     pub(crate) objects: u32,
@@ -17,7 +17,7 @@ pub(crate) struct Survey {
 }
 
 impl Survey {
-    // One object more, of so many cells, in the last region that was met or in a later one.
+    // One object more, of this number of words, in the last region that was met or in a later one.
     fn add(&mut self, cells: u32, region: u32)
         requires objects { self.old.objects + 1 < 2 ^ 32 }
         requires regions { self.old.regions ≤ self.old.objects }

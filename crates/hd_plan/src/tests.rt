@@ -14,22 +14,22 @@ use std::alloc::Global;
 use std::process::Abort;
 use std::test::Fail;
 
-// A heap, a collection of it, and what is to come of it.
+// A heap, a collection of it, and what is expected of it.
 #[derive(Clone, Copy)]
 struct Case<'a> {
-    // The cells of each object, in the order in which they are made.
+    // The words of each object, in the order in which they are made.
     cells: &'a [u32],
     // The objects at these addresses have this generation, and with them their regions.
     raised: &'a [(u32, u8)],
     condemned: u8,
     pinned: &'a [u32],
-    // Where each kept object stands and goes; an object that is not here is not promoted.
+    // Where each kept object is and goes; an object that is not here is not promoted.
     moved: &'a [(u32, u32)],
     kept: u32,
     removed: u32,
 }
 
-// Whether an object stands at an address.
+// Whether an object is at an address.
 pub(crate) fn stands(heap: &Heap, at: Addr) -> bool
     ensures { result ≡ true → has_object heap.now at ≡ true }
 {
@@ -106,12 +106,12 @@ fn give(heap: &mut Heap, at: Addr, generation: u8)
     requires full { HasNoEmptyRegion heap.old }
     ensures full { HasNoEmptyRegion heap.new }
 {
-    // The answer is not used: the call tells the proof that the region of the object is held.
+    // The result is not used: the call states to the proof that the region of the object is in use.
     let _ = heap.regions();
     heap.set_generation(region_number(at), generation);
 }
 
-// A heap with objects of so many cells, of which those at some addresses have a generation.
+// A heap with objects of these sizes, of which those at some addresses have a generation.
 pub(crate) fn heap_of(
     rt: &impl Abort,
     alloc: Global,
@@ -162,7 +162,7 @@ pub(crate) fn promote(rt: &impl Abort, heap: &Heap, marks: &mut Marks, at: u32)
     marks.promote(Addr(at));
 }
 
-// Lays the plan of a case, and looks at the places that it gives.
+// Lays the plan of a case, and checks the new addresses that it gives.
 fn lay(
     rt: &impl Abort,
     alloc: Global,

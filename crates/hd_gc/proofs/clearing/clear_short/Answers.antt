@@ -5,10 +5,10 @@ use Rattle.hd_model.specs.Table.{Table, row_at}
 use Rattle.hd_mark.specs.Marks.{MarksOf, promoted_in}
 use Rattle.hd_scan.specs.declared.task.Task.TheVariants as task
 use Rattle.hd_scan.specs.Whole.{WholeClear}
-use Rattle.hd_model.proofs.Again.{names_again, ages_again, clumps_same, visits_same, same_table_on}
-use Rattle.hd_model.proofs.Fading.{faded_names, faded_ages}
-use Rattle.hd_gc.proofs.Fading.{fades_swept}
-use Rattle.hd_gc.proofs.Dropping.{short_rows, short_counted, cleared_over}
+use Rattle.hd_model.proofs.EqualTables.{names_again, ages_again, clumps_same, visits_same, same_table_on}
+use Rattle.hd_model.proofs.RowReferences.{faded_names, faded_ages}
+use Rattle.hd_gc.proofs.ClearedRows.{fades_swept}
+use Rattle.hd_gc.proofs.ClearTasks.{short_rows, short_counted, cleared_over}
 use Rattle.hd_gc.proofs.clearing.clear_short.Goals as goal
 
 pub pass-requires-clause-settled : goal.pass-requires-clause-settled

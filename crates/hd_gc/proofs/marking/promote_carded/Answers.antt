@@ -1,7 +1,7 @@
 use Rattle.std.proofs.Common.{◌∙◌, subst, ap}
 use Rattle.hd_model.specs.Heap.{Basis}
 use Rattle.hd_heap.specs.Calls.{is_old_carded, IsWalk}
-use Rattle.hd_gc.proofs.Carded.{carded_none, carded_next, carded_all, left_less, carded_object}
+use Rattle.hd_gc.proofs.CardWalk.{carded_none, carded_next, carded_all, left_less, carded_object}
 use Rattle.hd_gc.proofs.marking.promote_carded.Goals as goal
 
 pub loop-at-init : goal.loop-at-init

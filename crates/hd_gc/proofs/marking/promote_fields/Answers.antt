@@ -6,7 +6,7 @@ use Rattle.hd_model.specs.Heap.{Heap, Basis, object_at, has_object}
 use Rattle.hd_model.specs.Scene.{fields_at}
 use Rattle.hd_mark.specs.Marks.{MarksOf}
 use Rattle.hd_gc.specs.Growing.{Promotes}
-use Rattle.hd_gc.proofs.Promoting.{promotes_none, promoted_next, promoted_passed, promoted_all, none_taken}
+use Rattle.hd_gc.proofs.PromoteSteps.{promotes_none, promoted_next, promoted_passed, promoted_all, none_taken}
 use Rattle.hd_gc.proofs.marking.promote_fields.Goals as goal
 use Rattle.hd_gc.proofs.marking.promote_fields.Goals.{in-Some, in_default}
 

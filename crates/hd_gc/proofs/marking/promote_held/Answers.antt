@@ -5,8 +5,8 @@ use Rattle.hd_model.specs.Table.{Table}
 use Rattle.hd_model.specs.Visits.{visits_of}
 use Rattle.hd_mark.specs.Marks.{MarksOf}
 use Rattle.hd_scan.specs.declared.task.Task.TheVariants as task
-use Rattle.hd_model.proofs.Again.{names_again, ages_again, clumps_again}
-use Rattle.hd_gc.proofs.Holding.{rooted, holding}
+use Rattle.hd_model.proofs.EqualTables.{names_again, ages_again, clumps_again}
+use Rattle.hd_gc.proofs.HoldTasks.{rooted, holding}
 use Rattle.hd_gc.proofs.marking.promote_held.Goals as goal
 
 pub pass-requires-clause-settled : goal.pass-requires-clause-settled

@@ -4,7 +4,7 @@ use Rattle.std.proofs.lemmas.List.Elements.{Contains-get_or}
 use Rattle.hd_model.specs.declared.data.Addr.{Addr}
 use Rattle.hd_model.specs.Heap.{Basis, objects_of}
 use Rattle.hd_model.specs.Scene.{is_object}
-use Rattle.hd_gc.proofs.Promoting.{promotes_none, promoted_next, promoted_all, none_taken}
+use Rattle.hd_gc.proofs.PromoteSteps.{promotes_none, promoted_next, promoted_all, none_taken}
 use Rattle.hd_gc.proofs.marking.promote_queue.Goals as goal
 
 pub loop-i-init : goal.loop-i-init

@@ -6,7 +6,7 @@ use Rattle.hd_model.specs.Heap.{Basis, objects_of}
 use Rattle.hd_model.specs.Scene.{is_object}
 use Rattle.hd_mark.specs.Marks.{MarksOf}
 use Rattle.hd_gc.specs.Growing.{Promotes}
-use Rattle.hd_gc.proofs.Promoting.{promotes_none, promoted_next, promoted_passed, promoted_all, none_taken}
+use Rattle.hd_gc.proofs.PromoteSteps.{promotes_none, promoted_next, promoted_passed, promoted_all, none_taken}
 use Rattle.hd_gc.proofs.marking.promote_roots.Goals as goal
 use Rattle.hd_gc.proofs.marking.promote_roots.Goals.{in-Some, in_default}
 

@@ -8,8 +8,8 @@ use Rattle.hd_model.specs.Scene.{is_object, IsField}
 use Rattle.hd_model.specs.Visits.{visits_of}
 use Rattle.hd_mark.specs.Marks.{MarksOf, promoted_in}
 use Rattle.hd_dep.specs.Rescan.{RescanSteps}
-use Rattle.hd_model.proofs.Again.{names_again, ages_again, clumps_again}
-use Rattle.hd_gc.proofs.Traces.{whole_names, basis4, fields_closed, traced_marks}
+use Rattle.hd_model.proofs.EqualTables.{names_again, ages_again, clumps_again}
+use Rattle.hd_gc.proofs.TraceMarks.{whole_names, basis4, fields_closed, traced_marks}
 use Rattle.hd_gc.proofs.marking.trace.Goals as goal
 
 pub promote_roots-requires-clause-settled : goal.promote_roots-requires-clause-settled

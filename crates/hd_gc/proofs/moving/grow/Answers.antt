@@ -1,7 +1,7 @@
 use Rattle.std.proofs.Common.{◌+◌, ◌*◌, length, sym, ap, ◌∙◌, arith}
 use Rattle.hd_model.specs.Ages.{raised}
 use Rattle.hd_ages.specs.Clumps.{grown_at}
-use Rattle.hd_gc.proofs.Mapping.{mapped_none, mapped_all, length-mapped_to, grown_next}
+use Rattle.hd_gc.proofs.MappedPrefixes.{mapped_none, mapped_all, length-mapped_to, grown_next}
 use Rattle.hd_gc.proofs.moving.grow.Goals as goal
 
 pub loop-block-init : goal.loop-block-init

@@ -1,6 +1,6 @@
 use Rattle.std.proofs.Common.{◌≡◌, ◌*◌}
 use Rattle.hd_model.specs.Ages.{raised}
-use Rattle.hd_gc.proofs.Mapping.{mapped_to}
+use Rattle.hd_gc.proofs.MappedPrefixes.{mapped_to}
 use Rattle.hd_gc.proofs.moving.grow.Given as goal
 
 abbrev pub invariant-loop-block : goal.invariant-loop-block

@@ -3,8 +3,8 @@ use Rattle.std.specs.Prelude.{option_map, Contains}
 use Rattle.std.proofs.lemmas.List.Elements.{Contains-get_or}
 use Rattle.hd_model.specs.declared.data.Addr.{Addr}
 use Rattle.hd_plan.specs.Plan.{place_in}
-use Rattle.hd_gc.proofs.Mapping.{mapped_none, mapped_all, mapped_next, mapped_at}
-use Rattle.hd_gc.proofs.Promoting.{none_of}
+use Rattle.hd_gc.proofs.MappedPrefixes.{mapped_none, mapped_all, mapped_next, mapped_at}
+use Rattle.hd_gc.proofs.PromoteSteps.{none_of}
 use Rattle.hd_gc.proofs.moving.relocate_roots.Goals as goal
 use Rattle.hd_gc.proofs.moving.relocate_roots.Goals.{in-Some, in_default}
 

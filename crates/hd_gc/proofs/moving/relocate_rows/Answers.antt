@@ -3,8 +3,8 @@ use Rattle.hd_model.specs.declared.data.Kind.TheVariants as kind
 use Rattle.hd_model.specs.Table.{Table}
 use Rattle.hd_model.specs.Visits.{IsSameTable}
 use Rattle.hd_plan.specs.Plan.{kept_in, place_in}
-use Rattle.hd_model.proofs.Again.{clumps_same, visits_same, same_table_on}
-use Rattle.hd_gc.proofs.Renaming.{IsFresh, renamed, fresh_start, fresh_after, can_relocate}
+use Rattle.hd_model.proofs.EqualTables.{clumps_same, visits_same, same_table_on}
+use Rattle.hd_gc.proofs.RowRelocation.{IsFresh, renamed, fresh_start, fresh_after, can_relocate}
 use Rattle.hd_gc.proofs.moving.relocate_rows.Goals as goal
 
 pub relocate-requires-clause-laid : goal.relocate-requires-clause-laid

@@ -1,4 +1,4 @@
-use Rattle.hd_plan.proofs.CommitCarding.{carded_step}
+use Rattle.hd_plan.proofs.CommitCards.{carded_step}
 use Rattle.hd_plan.proofs.carding.card_kept.Goals as goal
 
 pub loop-object-preserved : goal.loop-object-preserved

@@ -1,4 +1,4 @@
-use Rattle.hd_plan.proofs.CommitCarding.{exact_first, exact_fields, exact_less, exact_step, exact_ends}
+use Rattle.hd_plan.proofs.CommitCards.{exact_first, exact_fields, exact_less, exact_step, exact_ends}
 use Rattle.hd_plan.proofs.carding.clear_unneeded.Goals as goal
 
 pub make_exact-requires-clause-first : goal.make_exact-requires-clause-first

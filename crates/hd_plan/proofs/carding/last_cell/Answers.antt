@@ -1,5 +1,5 @@
 use Rattle.std.proofs.Common.{arith}
-use Rattle.hd_plan.proofs.CommitCarding.{card_is}
+use Rattle.hd_plan.proofs.CommitCards.{card_is}
 use Rattle.hd_plan.proofs.carding.last_cell.Goals as goal
 
 pub returns : goal.returns

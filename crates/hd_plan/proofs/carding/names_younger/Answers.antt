@@ -1,7 +1,7 @@
 use Rattle.std.proofs.Common.{arith}
 use Rattle.hd_model.specs.Scene.{fields_at}
 use Rattle.hd_model.specs.Heap.{object_at}
-use Rattle.hd_plan.proofs.CommitCarding.{field_read, none_younger}
+use Rattle.hd_plan.proofs.CommitCards.{field_read, none_younger}
 use Rattle.hd_plan.proofs.carding.names_younger.Goals as goal
 
 pub generation-requires : goal.generation-requires

@@ -1,4 +1,4 @@
-use Rattle.hd_plan.proofs.CommitCarding.{next_within, next_beyond}
+use Rattle.hd_plan.proofs.CommitCards.{next_within, next_beyond}
 use Rattle.hd_plan.proofs.carding.next_in_card.Goals as goal
 
 pub returns-then-next-at-clause-walk : goal.returns-then-next-at-clause-walk

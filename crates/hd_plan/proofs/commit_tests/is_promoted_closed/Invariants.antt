@@ -4,7 +4,7 @@ use Rattle.hd_model.specs.Heap.{has_object, object_at}
 use Rattle.hd_model.specs.Scene.{IsField}
 use Rattle.hd_mark.specs.Marks.{promoted_in}
 use Rattle.hd_heap.specs.Calls.{is_after}
-use Rattle.hd_plan.proofs.Stepping.{reach_of}
+use Rattle.hd_plan.proofs.LayStep.{reach_of}
 use Rattle.hd_plan.proofs.commit_tests.is_promoted_closed.Given as goal
 
 abbrev pub invariant-loop-at : goal.invariant-loop-at

@@ -2,7 +2,7 @@ use Rattle.std.proofs.Common.{◌≡◌, true, arith, sym, subst}
 use Rattle.hd_model.specs.Heap.{Heap, has_object, object_at}
 use Rattle.hd_model.specs.Scene.{fields_at}
 use Rattle.hd_mark.specs.Marks.{promoted_in}
-use Rattle.hd_plan.proofs.CommitCarding.{field_read}
+use Rattle.hd_plan.proofs.CommitCards.{field_read}
 use Rattle.hd_plan.proofs.CommitWalks.{each_field}
 use Rattle.hd_plan.proofs.commit_tests.names_promoted.Goals as goal
 

@@ -7,11 +7,11 @@ use Rattle.hd_plan.specs.declared.moves.Condemned.{Condemned}
 use Rattle.hd_plan.specs.Plan.{PlanOf, kept_in, place_in}
 use Rattle.hd_plan.specs.Commit.{Commits}
 use Rattle.hd_plan.specs.CommitSteps.{AreRewritten}
-use Rattle.hd_plan.proofs.CommitCarding.{cards_alone}
+use Rattle.hd_plan.proofs.CommitCards.{cards_alone}
 use Rattle.hd_plan.proofs.CommitShape.{IsCommitting, committing, can_copy}
 use Rattle.hd_plan.proofs.CommitImage.{carded_kept, place_there, second_there, kept_there, kept_apart, kept_fields, from_there}
 use Rattle.hd_plan.proofs.CommitGenerations.{AreMoved, are_moved, settled_held, settled_generations, settled_empty}
-use Rattle.hd_plan.proofs.CommitEnding.{settled_there, ending_closed, ending_cards, ending_grown, ended}
+use Rattle.hd_plan.proofs.CommitResult.{settled_there, ending_closed, ending_cards, ending_grown, ended}
 use Rattle.hd_plan.proofs.commits.commit.Goals as goal
 use Rattle.hd_plan.proofs.commits.commit.Goals.{After-deref-regions, After-remove_left}
 
@@ -37,7 +37,7 @@ base c =
     c.args.heap.now c.deref-moves.ensures.value c.deref-regions.ensures.value c.plan.view_is c.requires.laid
     c.requires.same c.requires.cards c.regions-regions.ensures.sound
 
--- places by the plan are places by its parts
+-- new addresses by the plan are those by its parts
 placed : (c : After-deref-regions) (Those : Addr → Type 0) (h k : Heap)
     → AreRewritten Those (place_in c.args.plan.now) h k
     → AreRewritten Those (place_in (plan_of c.plan.inside c.deref-moves.result.now

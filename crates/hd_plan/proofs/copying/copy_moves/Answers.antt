@@ -1,4 +1,4 @@
-use Rattle.hd_plan.proofs.CommitCopying.{copied_starts, copied_may, copied_step}
+use Rattle.hd_plan.proofs.CommitCopies.{copied_starts, copied_may, copied_step}
 use Rattle.hd_plan.proofs.copying.copy_moves.Goals as goal
 
 pub loop-object-init : goal.loop-object-init

@@ -1,11 +1,11 @@
 use Rattle.std.proofs.Common.{◌≡◌, ◌-◌, ◌^◌, vec_capacity}
-use Rattle.hd_plan.proofs.Stepping.{IsLaying, reach_of}
+use Rattle.hd_plan.proofs.LayStep.{IsLaying, reach_of}
 use Rattle.hd_plan.proofs.lay.lay_moves.Given as goal
 
 abbrev pub invariant-walk : goal.invariant-walk
 invariant-walk g l = record {
   laying : IsLaying l.heap l.n (g.M.Marker.promoted l.marker) (g.M.Marker.pinned l.marker) l.moves.items
-      l.seats l.after;
+      l.cursors l.after;
   capacity : vec_capacity l.moves ≡ vec_capacity l.fn.moves;
 }
 

@@ -5,7 +5,7 @@ use Rattle.hd_plan.specs.declared.moves.Move.{Move}
 use Rattle.hd_plan.specs.Layout.{move_at}
 use Rattle.hd_plan.specs.Laying.{is_last, first_at, HasMove, HasPlaces, IsJoined, IsAdded}
 use Rattle.hd_plan.specs.Table.{spot_of}
-use Rattle.hd_plan.proofs.Placing.{IsNoted, room_along, room_next, noted, move_read, places_put}
+use Rattle.hd_plan.proofs.ForwardTable.{IsNoted, room_along, room_next, noted, move_read, places_put}
 use Rattle.hd_plan.proofs.list.list_moves.Goals as goal
 use Rattle.hd_plan.proofs.list.list_moves.Goals.{After-index-object, After-list_region}
 

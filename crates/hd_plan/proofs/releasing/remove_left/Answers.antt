@@ -1,4 +1,4 @@
-use Rattle.hd_plan.proofs.CommitReleasing.{removed_step}
+use Rattle.hd_plan.proofs.CommitReleases.{removed_step}
 use Rattle.hd_plan.proofs.releasing.remove_left.Goals as goal
 
 pub loop-object-preserved : goal.loop-object-preserved

@@ -1,4 +1,4 @@
-use Rattle.hd_plan.proofs.CommitReleasing.{settled_step}
+use Rattle.hd_plan.proofs.CommitReleases.{settled_step}
 use Rattle.hd_plan.proofs.releasing.settle_regions.Goals as goal
 
 pub loop-condemned-preserved : goal.loop-condemned-preserved

@@ -1,4 +1,4 @@
-use Rattle.hd_plan.proofs.CommitRewriting.{carded_next, carded_cards}
+use Rattle.hd_plan.proofs.CommitRewrites.{carded_next, carded_cards}
 use Rattle.hd_plan.proofs.rewriting.rewrite_carded.Goals as goal
 
 pub loop-at-preserved : goal.loop-at-preserved

@@ -1,11 +1,11 @@
 use Rattle.std.proofs.Common.{◌+◌, sym, ap, ◌∙◌, subst}
 use Rattle.hd_model.specs.Heap.{Heap}
-use Rattle.hd_plan.specs.Layout.{move_at, is_kept_way}
+use Rattle.hd_plan.specs.Layout.{move_at, is_kept_fate}
 use Rattle.hd_plan.specs.CommitSteps.{AreRewritten, IsKeptAt}
-use Rattle.hd_plan.proofs.CommitEnds.{kept_way}
-use Rattle.hd_plan.proofs.CommitRewriting.{kept_gone, kept_has, kept_here, kept_field, kept_next}
+use Rattle.hd_plan.proofs.MoveEnds.{kept_fate}
+use Rattle.hd_plan.proofs.CommitRewrites.{kept_gone, kept_has, kept_here, kept_field, kept_next}
 use Rattle.hd_plan.proofs.rewriting.rewrite_kept.Goals as goal
-use Rattle.hd_plan.proofs.rewriting.rewrite_kept.Goals.{in-Gone, in-Stays}
+use Rattle.hd_plan.proofs.rewriting.rewrite_kept.Goals.{in-Dead, in-Pinned}
 
 pub rewrite_object-requires : goal.rewrite_object-requires
 rewrite_object-requires g c =
@@ -14,7 +14,7 @@ rewrite_object-requires g c =
     let h = c.loop-object.heap in
     let ms = c.args.moves.now in
     let i = c.loop-object.object-index in
-    let kept = kept_way (move_at ms i).way c.in-Stays.is in
+    let kept = kept_fate (move_at ms i).fate c.in-Pinned.is in
     let here = kept_here place old h ms i c.loop-object-test.true c.loop-object.invariant c.requires.apart
     kept in
     record {
@@ -38,12 +38,12 @@ loop-object-preserved g c =
     let ms = c.args.moves.now in
     let i = c.loop-object.object-index in
     elim c.match-object.branch [
-      | in-Gone w ↦
+      | in-Dead w ↦
           subst (λ (h : Heap). AreRewritten (IsKeptAt ms (i + 1)) place old h) (sym w.heap-is)
           (kept_gone place old c.loop-object.heap ms i c.loop-object-test.true c.loop-object.invariant
-          c.requires.apart (ap is_kept_way w.in-Gone.is))
-      | in-Stays w ↦
-          let kept = kept_way (move_at ms i).way w.in-Stays.is in
+          c.requires.apart (ap is_kept_fate w.in-Dead.is))
+      | in-Pinned w ↦
+          let kept = kept_fate (move_at ms i).fate w.in-Pinned.is in
           let here = kept_here place old c.loop-object.heap ms i c.loop-object-test.true
           c.loop-object.invariant c.requires.apart kept in
           subst (λ (h : Heap). AreRewritten (IsKeptAt ms (i + 1)) place old h) (sym w.heap-is)

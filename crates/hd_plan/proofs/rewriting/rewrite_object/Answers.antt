@@ -1,5 +1,5 @@
 use Rattle.std.proofs.Common.{arith, sym}
-use Rattle.hd_plan.proofs.CommitRewriting.{rewriting_starts, rewriting_has, rewriting_number, rewriting_field, rewriting_step, rewriting_ends}
+use Rattle.hd_plan.proofs.CommitRewrites.{rewriting_starts, rewriting_has, rewriting_number, rewriting_field, rewriting_step, rewriting_ends}
 use Rattle.hd_plan.proofs.rewriting.rewrite_object.Goals as goal
 
 pub loop-i-init : goal.loop-i-init

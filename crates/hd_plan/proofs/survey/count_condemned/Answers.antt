@@ -1,11 +1,11 @@
 use Rattle.std.proofs.Common.{◌≡◌, ◌+◌, Some, length, sym, ap, ◌∙◌, subst, arith}
 use Rattle.hd_model.specs.Heap.{placed_at, cells_of}
-use Rattle.hd_heap.proofs.Values.{fields_placed}
+use Rattle.hd_heap.proofs.HeapValues.{fields_placed}
 use Rattle.hd_plan.specs.declared.survey.Survey.{Survey}
 use Rattle.hd_plan.specs.Laying.{counted_also}
-use Rattle.hd_plan.proofs.Addresses.{condemned_of}
-use Rattle.hd_plan.proofs.Stepping.{address_low}
-use Rattle.hd_plan.proofs.Surveying.{IsSurveyTo, survey_next, survey_end}
+use Rattle.hd_plan.proofs.CondemnedAddresses.{condemned_of}
+use Rattle.hd_plan.proofs.LayStep.{address_low}
+use Rattle.hd_plan.proofs.SurveyCount.{IsSurveyTo, survey_next, survey_end}
 use Rattle.hd_plan.proofs.survey.count_condemned.Goals as goal
 
 pub walk-preserved : goal.walk-preserved

@@ -1,6 +1,6 @@
 use Rattle.std.proofs.Common.{◌-◌, ◌^◌, ◌≤◌}
-use Rattle.hd_plan.proofs.Surveying.{IsSurveyTo}
-use Rattle.hd_plan.proofs.Stepping.{reach_of}
+use Rattle.hd_plan.proofs.SurveyCount.{IsSurveyTo}
+use Rattle.hd_plan.proofs.LayStep.{reach_of}
 use Rattle.hd_plan.proofs.survey.count_condemned.Given as goal
 
 abbrev pub invariant-walk : goal.invariant-walk

@@ -1,7 +1,7 @@
 use Rattle.std.proofs.Common.{sym, ap, ◌∙◌, subst}
 use Rattle.hd_model.specs.Heap.{is_held}
 use Rattle.hd_plan.specs.Plan.{HasNoEmptyRegion}
-use Rattle.hd_plan.proofs.Filled.{filled_generation}
+use Rattle.hd_plan.proofs.RegionsInUse.{filled_generation}
 use Rattle.hd_plan.proofs.tests.give.Goals as goal
 
 pub set_generation-requires-clause-held : goal.set_generation-requires-clause-held

@@ -1,6 +1,6 @@
 use Rattle.std.proofs.Common.{sym, subst}
 use Rattle.hd_plan.specs.Plan.{HasNoEmptyRegion}
-use Rattle.hd_plan.proofs.Filled.{filled_empty}
+use Rattle.hd_plan.proofs.RegionsInUse.{filled_empty}
 use Rattle.hd_plan.proofs.tests.heap_of.Goals as goal
 
 pub loop-cells-init : goal.loop-cells-init

@@ -3,7 +3,7 @@ use Rattle.hd_model.specs.declared.data.Addr.{Addr}
 use Rattle.hd_model.specs.Heap.{has_object, object_at}
 use Rattle.hd_model.specs.Scene.{IsField}
 use Rattle.hd_heap.specs.Calls.{is_after}
-use Rattle.hd_plan.proofs.Stepping.{reach_of}
+use Rattle.hd_plan.proofs.LayStep.{reach_of}
 use Rattle.hd_plan.proofs.tests.is_bare.Given as goal
 
 abbrev pub invariant-loop-at : goal.invariant-loop-at

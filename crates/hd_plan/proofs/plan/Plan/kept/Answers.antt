@@ -3,7 +3,7 @@ use Rattle.hd_model.specs.Counting.{Counts}
 use Rattle.hd_model.specs.Scene.{IsCondemned}
 use Rattle.hd_model.specs.Heap.{objects_of}
 use Rattle.hd_plan.specs.Plan.{PlanOf, IsLaid, kept_in}
-use Rattle.hd_plan.proofs.Laid.{few_moves, kept_counted}
+use Rattle.hd_plan.proofs.LaidPlan.{few_moves, kept_counted}
 use Rattle.hd_plan.proofs.plan.Plan.kept.Goals as goal
 
 pub count_kept-requires : goal.count_kept-requires

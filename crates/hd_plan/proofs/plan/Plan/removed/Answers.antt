@@ -3,7 +3,7 @@ use Rattle.hd_model.specs.Counting.{Counts}
 use Rattle.hd_model.specs.Scene.{is_object}
 use Rattle.hd_model.specs.Heap.{objects_of}
 use Rattle.hd_plan.specs.Plan.{PlanOf, IsLaid, kept_in}
-use Rattle.hd_plan.proofs.Laid.{few_moves, removed_counted}
+use Rattle.hd_plan.proofs.LaidPlan.{few_moves, removed_counted}
 use Rattle.hd_plan.proofs.plan.Plan.removed.Goals as goal
 use Rattle.hd_plan.proofs.plan.Plan.removed.Goals.{After-len}
 

@@ -1,6 +1,6 @@
 use Rattle.std.proofs.Common.{◌≡◌, true, sym, ap, ◌∙◌, subst, vec_capacity}
 use Rattle.hd_plan.specs.Plan.{PlanOf, IsLaid, kept_in, place_in}
-use Rattle.hd_plan.proofs.Laid.{place_found}
+use Rattle.hd_plan.proofs.LaidPlan.{place_found}
 use Rattle.hd_plan.proofs.plan.PlanForward.moved.Goals as goal
 
 pub returns : goal.returns

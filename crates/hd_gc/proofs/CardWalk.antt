@@ -1,0 +1,92 @@
+-- The walk over the older objects in set cards.
+use Rattle.std.proofs.Common.{◌≡◌, ℕ, ◌/◌, ◌^◌, ◌<◌, ◌≤◌, true, false, Option, Some, None, refl, sym, ◌∙◌, subst, ⊎_elim, inl, inr, ◌⊎◌, arith}
+use Rattle.std.specs.Prelude.{nat_lt}
+use Rattle.std.proofs.lemmas.Bool.{and_parts, and_from, cases_Bool, lt-ltb, true≢false, ltb-true, ltb-false, le-ltb}
+use Rattle.std.proofs.lemmas.Bool.Decides.{nat_tests}
+use Rattle.hd_model.specs.declared.data.Addr.{Addr}
+use Rattle.hd_model.specs.Scene.{IsField, generation_at}
+use Rattle.hd_model.specs.Heap.{Heap, object_at, has_object, region_of, is_carded}
+use Rattle.hd_heap.specs.Calls.{is_old_carded, is_after, IsNext}
+use Rattle.hd_heap.specs.Sound.{IsSound}
+use Rattle.hd_mark.specs.Marks.{MarksOf, IsSettledMarks}
+use Rattle.hd_gc.specs.Growing.{Promotes, IsOldField, IsOldFieldUpTo, left_to}
+use Rattle.hd_gc.proofs.PromoteSteps.{promotes_none, promotes_like, promotes_on}
+
+-- an address of an object is below 2 ^ 32
+pub object_fits : (h : Heap) (a : Addr) → IsSound h → has_object h a ≡ true → a.0 < 2 ^ 32
+unfolding region_of
+object_fits h a sound object =
+    let low : a.0 / 256 < 2 ^ 24 = (sound.numbers (region_of a) (sound.held a object)).1 in omega arith
+
+-- an older object in a set card is an object, of an older generation, in a set card
+pub carded_object : (h : Heap) (n : ℕ) (a : Addr) → is_old_carded h n a ≡ true → has_object h a ≡ true
+carded_object h n a e = (and_parts _ _ (and_parts _ _ e).0).0
+
+pub carded_older : (h : Heap) (n : ℕ) (a : Addr) → is_old_carded h n a ≡ true
+    → n < generation_at (object_at h) a
+carded_older h n a e = ltb-true _ _ (and_parts _ _ (and_parts _ _ e).0).1
+
+pub carded_by : (h : Heap) (n : ℕ) (a : Addr) → has_object h a ≡ true → n < generation_at (object_at h) a
+    → is_carded h a ≡ true → is_old_carded h n a ≡ true
+carded_by h n a object above carded =
+    and_from _ _ (and_from _ _ object (lt-ltb n (generation_at (object_at h) a) above)) carded
+
+-- what is after one that is after an address is after the address
+beyond_on : (after : Option Addr) (a b : Addr) → is_after after a ≡ true → a.0 < b.0 → is_after after b ≡ true
+beyond_on None a b h l = refl
+beyond_on (Some c) a b h l = grind (arith, nat_tests)
+
+-- an address that a walk reaches is nearer to the end
+pub left_less : (h : Heap) (n : ℕ) (after : Option Addr) (a : Addr) → IsSound h
+    → IsNext (is_old_carded h n) after a → left_to (Some a) < left_to after
+left_less h n None a sound next = omega arith
+left_less h n (Some b) a sound next =
+    let fits : a.0 < 2 ^ 32 = object_fits h a sound (carded_object h n a next.member) in
+    let above : nat_lt b.0 a.0 ≡ true = next.beyond in
+    grind (arith, nat_tests)
+
+module _ (h : Heap) (n : ℕ) (m : MarksOf) where
+  pub carded_none : IsSettledMarks m → Promotes (IsOldFieldUpTo h n None) m m
+  carded_none settled = promotes_none (IsOldFieldUpTo h n None) m settled (λ y u. true≢false u.done)
+
+  module _ (after : Option Addr) (k : MarksOf) (done : Promotes (IsOldFieldUpTo h n after) m k) where
+    to : (a y : Addr) → IsNext (is_old_carded h n) after a
+        → IsOldFieldUpTo h n after y ⊎ IsField (object_at h) a y → IsOldFieldUpTo h n (Some a) y
+    to a y next s =
+        ⊎_elim
+        (λ (u : IsOldFieldUpTo h n after y). record {
+          old = u.old;
+          done =
+              ⊎_elim
+              (λ above. absurd (true≢false (sym (beyond_on after a u.old.from next.beyond
+              (ltb-true a.0 u.old.from.0 above)) ∙ u.done)))
+              (λ e. e) (cases_Bool (nat_lt a.0 u.old.from.0));
+        })
+        (λ f. record {
+          old = record { from = a; carded = next.member; field = f };
+          done = le-ltb a.0 a.0 (omega arith);
+        }) s
+
+    back : (a y : Addr) → IsNext (is_old_carded h n) after a → IsOldFieldUpTo h n (Some a) y
+        → IsOldFieldUpTo h n after y ⊎ IsField (object_at h) a y
+    back a y next u =
+        ⊎_elim
+        (λ beyond.
+        let up : a.0 ≤ u.old.from.0 = next.least u.old.from u.old.carded beyond in
+        let down : u.old.from.0 ≤ a.0 = ltb-false a.0 u.old.from.0 u.done in
+        let same : u.old.from.0 ≡ a.0 = omega arith in
+        inr (subst (λ (x : Addr). IsField (object_at h) x y) (λ i. record { 0 = same i }) u.old.field))
+        (λ passed. inl (record { old = u.old; done = passed })) (cases_Bool (is_after after u.old.from))
+
+    pub carded_next : (a : Addr) (o : MarksOf) → IsNext (is_old_carded h n) after a
+        → Promotes (λ y. IsField (object_at h) a y) k o → Promotes (IsOldFieldUpTo h n (Some a)) m o
+    carded_next a o next step =
+        promotes_like (λ y. IsOldFieldUpTo h n after y ⊎ IsField (object_at h) a y)
+        (IsOldFieldUpTo h n (Some a)) m o (λ y. to a y next) (λ y. back a y next)
+        (promotes_on (IsOldFieldUpTo h n after) (λ y. IsField (object_at h) a y) m k o done step)
+
+    pub carded_all : ((a : Addr) → is_old_carded h n a ≡ true → is_after after a ≡ false)
+        → Promotes (IsOldField h n) m k
+    carded_all none =
+        promotes_like (IsOldFieldUpTo h n after) (IsOldField h n) m k (λ y u. u.old)
+        (λ y f. record { old = f; done = none f.from f.carded }) done

@@ -1,0 +1,152 @@
+-- What is resurrected and kept, by what is reached and by the rows that the clearing of short handles left.
+use Rattle.std.proofs.Common.{◌≡◌, ℕ, ◌≤◌, Bool, true, false, not, ◌&&◌, Option, Some, None, refl, sym, ap, ◌∙◌, ⊎_elim, inl, inr}
+use Rattle.std.specs.Prelude.{option_map, List, nat_le, Contains}
+use Rattle.std.specs.Bool.{Decides}
+use Rattle.std.proofs.lemmas.Bool.{true≢false, false≢true, cases_Bool, and_parts, and_from, leb-true, le-leb, not-true, not_from_false}
+use Rattle.hd_model.specs.State.{Object, Handle}
+use Rattle.hd_model.specs.Role.{Role, short, attaches, role}
+use Rattle.hd_model.specs.Counting.{Counts}
+use Rattle.hd_model.specs.Scene.{Scene, Objects, Rows, generation_in, generation_at}
+use Rattle.hd_model.specs.Reach.{IsAttached, IsArrow, IsReached, IsRevived, IsKept}
+use Rattle.hd_model.proofs.SceneCollection.{mapped_value}
+use Rattle.hd_model.proofs.PropertyCounts.{counts_like}
+use Rattle.hd_model.proofs.MarkReach.{decides_kept}
+use Rattle.hd_model.proofs.EdgeInvariants.{leads_like}
+use Rattle.hd_scan.specs.Tasks.{is_role}
+use Rattle.hd_final.specs.Revival.{IsOut}
+use Rattle.hd_gc.specs.Clearing.{dropped}
+use Rattle.hd_gc.specs.Marking.{Revival}
+use Rattle.hd_gc.proofs.HandleRoles.{other_stays}
+
+-- the rows of another role stay where those of a role lose targets
+module _ {N : Type 0} (r : Role) (p : N → Bool) (before after : Rows N)
+    (rows : (slot : ℕ) → after slot ≡ option_map (dropped r p) (before slot)) where
+  pub row_after : (slot : ℕ) (h : Handle N) → before slot ≡ Some h → is_role r (role h) ≡ false
+      → after slot ≡ Some h
+  row_after slot h e other =
+      rows slot ∙ ap (option_map (dropped r p)) e ∙ ap (λ g. Some g) (other_stays r p h other)
+
+  pub row_before : (slot : ℕ) (h : Handle N) → after slot ≡ Some h → is_role r (role h) ≡ false
+      → before slot ≡ Some h
+  row_before slot h e other =
+      let (g, both) = mapped_value (dropped r p) (before slot) h (sym (rows slot) ∙ e) in
+      let same : role g ≡ role h = ap (λ (q : Handle N). role q) both.1 in
+      let stays : dropped r p g ≡ g = other_stays r p g (ap (is_role r) same ∙ other) in
+      both.0 ∙ ap (λ k. Some k) (sym stays ∙ both.1)
+
+  -- so edges stay, where the role is not that of dependent handles
+  module _ (apart : is_role r attaches ≡ false) where
+    pub attached_after : (x y : N) → IsAttached before x y → IsAttached after x y
+    attached_after x y a = record {
+      slot = a.slot;
+      handle = a.handle;
+      stands = row_after a.slot a.handle a.stands (ap (is_role r) a.attaches ∙ apart);
+      attaches = a.attaches;
+      target = a.target;
+      secondary = a.secondary;
+    }
+
+    pub attached_before : (x y : N) → IsAttached after x y → IsAttached before x y
+    attached_before x y a = record {
+      slot = a.slot;
+      handle = a.handle;
+      stands = row_before a.slot a.handle a.stands (ap (is_role r) a.attaches ∙ apart);
+      attaches = a.attaches;
+      target = a.target;
+      secondary = a.secondary;
+    }
+
+    pub arrow_after : (o : Objects N) (x y : N) → IsArrow o before x y → IsArrow o after x y
+    arrow_after o x y = ⊎_elim (λ f. inl f) (λ a. inr (attached_after x y a))
+
+    pub arrow_before : (o : Objects N) (x y : N) → IsArrow o after x y → IsArrow o before x y
+    arrow_before o x y = ⊎_elim (λ f. inl f) (λ a. inr (attached_before x y a))
+
+-- a test for a registered condemned object outside a set
+abbrev pub is_registered : {N : Type 0} → Option (Object N) → Bool
+is_registered None = false
+is_registered (Some o) = o.registered
+
+abbrev pub is_out : {N : Type 0} → Objects N → ℕ → (N → Bool) → N → Bool
+is_out o n p x = is_registered (o x) && (nat_le (generation_at o x) n && not (p x))
+
+module _ {N : Type 0} (o : Objects N) (n : ℕ) (p : N → Bool) where
+  out_from : (x : N) (v : Option (Object N)) → o x ≡ v → is_registered v ≡ true → generation_in v ≤ n
+      → p x ≡ false → IsOut o n p x
+  out_from x None e registered young out = absurd (false≢true registered)
+  out_from x (Some object) e registered young out = record {
+    object = object;
+    stands = e;
+    registered = registered;
+    young = young;
+    out = out;
+  }
+
+  pub out_decides : (x : N) → Decides (is_out o n p x) (IsOut o n p x)
+  out_decides x = (
+    λ e.
+        let (registered, rest) = and_parts (is_registered (o x)) _ e in
+        let (young, out) = and_parts (nat_le (generation_at o x) n) (not (p x)) rest in
+        out_from x (o x) refl registered (leb-true (generation_at o x) n young) (not-true (p x) out),
+    λ h.
+        and_from (is_registered (o x)) _ (ap is_registered h.stands ∙ h.registered)
+        (and_from (nat_le (generation_at o x) n) (not (p x))
+        (ap (λ v. nat_le (generation_in v) n) h.stands ∙ le-leb h.object.generation n h.young)
+        (not_from_false (p x) h.out)),
+  )
+
+module _ {N : Type 0} (s : Scene N) (n : ℕ) (reach : N → Bool)
+    (reach_is : (x : N) → Decides (reach x) (IsReached s n x)) where
+  pub out_revived : (x : N) → IsOut s.object n reach x → IsRevived s n x
+  out_revived x h = record {
+    object = h.object;
+    stands = h.stands;
+    registered = h.registered;
+    young = h.young;
+    lost = λ r. true≢false (sym ((reach_is x).1 r) ∙ h.out);
+  }
+
+  pub revived_out : (x : N) → IsRevived s n x → IsOut s.object n reach x
+  revived_out x v = record {
+    object = v.object;
+    stands = v.stands;
+    registered = v.registered;
+    young = v.young;
+    out = ⊎_elim (λ e. absurd (v.lost ((reach_is x).0 e))) (λ e. e) (cases_Bool (reach x));
+  }
+
+  pub revived_decides : (x : N) → Decides (is_out s.object n reach x) (IsRevived s n x)
+  revived_decides x = (
+    λ e. out_revived x ((out_decides s.object n reach x).0 e),
+    λ v. (out_decides s.object n reach x).1 (revived_out x v),
+  )
+
+  module _ (rows : Rows N)
+      (short_rows : (slot : ℕ) → rows slot ≡ option_map (dropped short reach) (s.handle slot))
+      (rank : N → ℕ) (kept : N → Bool) (queue after : List N)
+      (v : Revival rank s.object rows n reach kept queue after) where
+    pub kept_decides : (x : N) → Decides (kept x) (IsKept s n x)
+    kept_decides =
+        decides_kept s n kept (λ x r. v.keeps x ((reach_is x).1 r)) (λ x h. v.revives x (revived_out x h))
+        (λ x y h a. v.closed x y h (arrow_after short reach s.handle rows short_rows refl s.object x y a))
+        (λ x h.
+        let (r, rest) = v.only x h in (
+          r,
+          (
+            ⊎_elim (λ e. inl ((reach_is r).0 e)) (λ e. inr (out_revived r e)) rest.0,
+            leads_like (IsArrow s.object rows) (IsArrow s.object s.handle)
+                (λ x y a. arrow_before short reach s.handle rows short_rows refl s.object x y a) rest.1,
+          ),
+        ))
+
+    pub joins_decide : (x : N) → Decides (is_out s.object n reach x) (Contains v.joins x)
+    joins_decide x = (
+      λ e. (v.joins_are x).1 ((out_decides s.object n reach x).0 e),
+      λ h. (out_decides s.object n reach x).1 ((v.joins_are x).0 h),
+    )
+
+  pub revivals_counted : (k : ℕ) → Counts (IsOut s.object n reach) k
+      → Counts (λ x. is_out s.object n reach x ≡ true) k
+  revivals_counted k =
+      counts_like (IsOut s.object n reach) (λ x. is_out s.object n reach x ≡ true) k
+      (λ x h. (out_decides s.object n reach x).1 h) (λ x e. (out_decides s.object n reach x).0 e)

@@ -1,0 +1,82 @@
+-- Marks that promote from one set after another, and from the members of a list one by one.
+use Rattle.std.proofs.Common.{◌≡◌, ℕ, ◌+◌, ◌<◌, List, length, get_or, take, Option, Some, None, refl, sym, ap, ◌∙◌, subst, ⊎_elim, inl, inr, ◌⊎◌}
+use Rattle.std.specs.Prelude.{Contains}
+use Rattle.std.proofs.Math.Seq.{take-length}
+use Rattle.hd_model.specs.declared.data.Addr.{Addr}
+use Rattle.hd_model.specs.Leads.{Grows}
+use Rattle.hd_model.specs.Scene.{IsYoungField}
+use Rattle.hd_model.specs.Heap.{Basis, objects_of}
+use Rattle.hd_model.proofs.EdgeChains.{grows_on, grows_none, grows_like}
+use Rattle.hd_model.proofs.Members.{not_in_none}
+use Rattle.hd_mark.specs.Marks.{MarksOf, promoted_in, IsSettledMarks}
+use Rattle.hd_gc.specs.Growing.{Promotes}
+use Rattle.hd_gc.proofs.ListPrefixes.{taken_more, taken_from}
+
+pub promotes_none : (S : Addr → Type 0) (m : MarksOf) → IsSettledMarks m → ((x : Addr) → S x → ⊥)
+    → Promotes S m m
+promotes_none S m settled never = record {
+  settled = settled;
+  basis = refl;
+  pinned = refl;
+  grows = grows_none (IsYoungField (objects_of m.basis) m.basis.condemned) S (promoted_in m) never;
+}
+
+pub promotes_like : (S T : Addr → Type 0) (m k : MarksOf) → ((x : Addr) → S x → T x)
+    → ((x : Addr) → T x → S x) → Promotes S m k → Promotes T m k
+promotes_like S T m k to back a = record {
+  settled = a.settled;
+  basis = a.basis;
+  pinned = a.pinned;
+  grows =
+      grows_like (IsYoungField (objects_of m.basis) m.basis.condemned) S T (promoted_in m) (promoted_in k) to
+      back a.grows;
+}
+
+pub promotes_on : (S T : Addr → Type 0) (m k o : MarksOf) → Promotes S m k → Promotes T k o
+    → Promotes (λ x. S x ⊎ T x) m o
+promotes_on S T m k o a b = record {
+  settled = b.settled;
+  basis = b.basis ∙ a.basis;
+  pinned = b.pinned ∙ a.pinned;
+  grows =
+      grows_on (IsYoungField (objects_of m.basis) m.basis.condemned) S T (promoted_in m) (promoted_in k)
+      (promoted_in o) a.grows
+      (subst (λ (g : Basis). Grows (IsYoungField (objects_of g) g.condemned) T (promoted_in k)
+      (promoted_in o))
+      a.basis b.grows);
+}
+
+-- what is neither of these is none
+pub none_of : {A : Type 0} (o : Option A) → ((x : A) → o ≡ Some x → ⊥) → o ≡ None
+none_of None never = refl
+none_of (Some x) never = absurd (never x refl)
+
+-- from the first members of a list of references to one more
+module _ {A : Type 0} (name : Addr → A) (same : (x y : Addr) → name x ≡ name y → x ≡ y) (xs : List A) (i : ℕ)
+    (d : A) (l : i < length xs) (m k : MarksOf)
+    (done : Promotes (λ x. Contains (take i xs) (name x)) m k) where
+  pub promoted_next : (at : Addr) (o : MarksOf) → get_or xs i d ≡ name at → Promotes (λ x. x ≡ at) k o
+      → Promotes (λ x. Contains (take (i + 1) xs) (name x)) m o
+  promoted_next at o here step =
+      promotes_like (λ x. Contains (take i xs) (name x) ⊎ (x ≡ at))
+      (λ x. Contains (take (i + 1) xs) (name x)) m o
+      (λ x. ⊎_elim (λ early. taken_more xs i d l (name x) (inl early))
+      (λ e. taken_more xs i d l (name x) (inr (here ∙ ap name (sym e)))))
+      (λ x h. ⊎_elim (λ early. inl early) (λ e. inr (same x at (sym e ∙ here)))
+      (taken_from xs i d l (name x) h))
+      (promotes_on (λ x. Contains (take i xs) (name x)) (λ x. x ≡ at) m k o done step)
+
+  pub promoted_passed : ((x : Addr) → get_or xs i d ≡ name x → ⊥)
+      → Promotes (λ x. Contains (take (i + 1) xs) (name x)) m k
+  promoted_passed never =
+      promotes_like (λ x. Contains (take i xs) (name x)) (λ x. Contains (take (i + 1) xs) (name x)) m k
+      (λ x early. taken_more xs i d l (name x) (inl early))
+      (λ x h. ⊎_elim (λ early. early) (λ e. absurd (never x e)) (taken_from xs i d l (name x) h)) done
+
+pub promoted_all : {A : Type 0} (name : Addr → A) (xs : List A) (i : ℕ) (m k : MarksOf) → i ≡ length xs
+    → Promotes (λ x. Contains (take i xs) (name x)) m k → Promotes (λ x. Contains xs (name x)) m k
+promoted_all name xs i m k e a =
+    subst (λ ys. Promotes (λ x. Contains ys (name x)) m k) (ap (λ j. take j xs) e ∙ take-length xs) a
+
+pub none_taken : {A : Type 0} (xs : List A) (x : A) → Contains (take 0 xs) x → ⊥
+none_taken xs x h = not_in_none x h

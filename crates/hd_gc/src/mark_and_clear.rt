@@ -1,0 +1,107 @@
+// What is kept: it is marked, and the handles of all else are cleared.
+ghost use Rattle.std.specs.Prelude.{◌≡◌, ◌*◌, ◌≤◌, true, length, Contains, IfOk, OnErr};
+ghost use Rattle.std.specs.FinMap.{len};
+ghost use Rattle.hd_model.specs.Counting.{Counts};
+ghost use Rattle.hd_final.specs.Revival.{IsOut};
+ghost use Rattle.hd_model.specs.Scene.{IsField};
+ghost use Rattle.hd_model.specs.Leads.{IsClosed};
+ghost use Rattle.hd_model.specs.Names.{HasClosedFields, NamesObjects};
+ghost use Rattle.hd_model.specs.Heap.{HasIdentities, has_object, is_carded, object_at};
+ghost use Rattle.hd_model.specs.Table.{row_at};
+ghost use Rattle.hd_model.specs.Ages.{HasSoundAges, HasSoundCards};
+ghost use Rattle.hd_mark.specs.Marks.{IsSettledMarks, promoted_in};
+ghost use Rattle.hd_plan.specs.Plan.{IsTakenPlan};
+ghost use Rattle.hd_gc.specs.Ready.{IsReady};
+ghost use Rattle.hd_gc.specs.Marking.{Revived};
+ghost use Rattle.hd_gc.specs.MarkAndClear.{MarkedAndCleared};
+
+use crate::clearing::{clear_long, clear_short};
+use crate::marking::trace;
+use hd_ages::AgeMap;
+use hd_dep::{clear, rescan};
+use hd_final::Final;
+use hd_heap::Heap;
+use hd_mark::Marks;
+use hd_model::limits::CLUMPS;
+use hd_model::{Addr, Memory, Steps};
+use hd_plan::Plan;
+use hd_seg::Seg;
+use std::alloc::Global;
+use std::sync::ledger::Ledger;
+
+/// How many handles lost their target, by what they are to a collection, and how many objects are
+/// resurrected.
+#[derive(Clone, Copy, Debug, PartialEq, Eq)]
+pub(crate) struct Found {
+    pub(crate) short: u32,
+    pub(crate) long: u32,
+    pub(crate) dep: u32,
+    pub(crate) revived: u32,
+}
+
+// Queues the registered objects that are not promoted for finalization, after those that already
+// are, and promotes them with all that they lead to. Returns how many they are.
+fn revive<L: Ledger>(
+    heap: &Heap,
+    seg: &Seg,
+    ages: &AgeMap,
+    fin: &mut Final,
+    marks: &mut Marks,
+    n: u8,
+    steps: &mut Steps<L>,
+) -> u32
+    requires settled { IsSettledMarks marks.old }
+    requires basis { marks.old.basis ≡ record { heap = heap.now; condemned = n } }
+    requires names { NamesObjects (object_at heap.now) (row_at seg.now) }
+    requires ages { HasSoundAges (object_at heap.now) (row_at seg.now) ages.now }
+    requires cards { HasSoundCards (object_at heap.now) (is_carded heap.now) }
+    requires clumps { length ages.now ≡ CLUMPS * seg.now.blocks }
+    requires fields { IsClosed (IsField (object_at heap.now)) (promoted_in marks.old) }
+    requires waiting { (x : Addr) → Contains fin.old.waiting x → promoted_in marks.old x ≡ true }
+    requires identities { HasIdentities heap.now }
+    requires room { len heap.now.objects ≤ fin.old.room }
+    ensures room { fin.new.room ≡ fin.old.room }
+    ensures revived { Revived heap.now seg.now ages.now n marks.old marks.new fin.old.waiting
+        fin.new.waiting steps.old steps.new }
+    ensures count { Counts (IsOut (object_at heap.now) n (promoted_in marks.old)) result }
+{
+    let revived = fin.revive(heap, marks, n);
+    rescan(seg, ages, marks, n, steps);
+    revived
+}
+
+/// Marks what is kept and clears the handles of all else, queues the resurrected objects, and gives
+/// what is kept its new addresses. Where memory runs out nothing is done.
+pub(crate) fn mark_and_clear<L: Ledger>(
+    alloc: Global,
+    heap: &Heap,
+    seg: &mut Seg,
+    ages: &AgeMap,
+    fin: &mut Final,
+    roots: &[Option<Addr>],
+    plan: &mut Plan,
+    n: u8,
+    steps: &mut Steps<L>,
+) -> Result<Found, Memory>
+    requires ready { IsReady heap.now seg.old ages.now fin.old roots.now }
+    requires taken { IsTakenPlan plan.old }
+    requires basis { plan.old.basis ≡ record { heap = heap.now; condemned = n } }
+    ensures found { IfOk result (λ found. MarkedAndCleared heap.now seg.old seg.new ages.now fin.old
+        fin.new roots.now n plan.new found steps.old steps.new) }
+    ensures memory { OnErr result ((seg.new ≡ seg.old) × (fin.new ≡ fin.old)
+        × (steps.new ≡ steps.old)) }
+{
+    let mut marks = Marks::start(alloc, heap, n)?;
+    trace(heap, seg, ages, fin, roots, &mut marks, n, steps);
+    let short = clear_short(seg, ages, &mut marks, n, steps);
+    let revived = revive(heap, seg, ages, fin, &mut marks, n, steps);
+    let long = clear_long(seg, ages, &mut marks, n, steps);
+    let dep = clear(seg, ages, &marks, n, steps);
+    plan.lay(heap, &marks);
+    Ok(Found {
+        short,
+        long,
+        dep,
+        revived,
+    })
+}

@@ -1,0 +1,338 @@
+-- Lemmas on cards that are set and cleared.
+use Rattle.std.proofs.Common.{◌≡◌, ◌≢◌, ℕ, ◌+◌, ◌*◌, ◌/◌, ◌^◌, ◌<◌, ◌≤◌, inl, inr, Bool, true, false, not, ◌&&◌, List, length, get_or, Option, Some, None, refl, sym, ap, ◌∙◌, subst, arith}
+use Rattle.std.specs.Prelude.{◌||◌, is_some, ◌-◌, ◌↔◌, nat_lt, Contains}
+use Rattle.std.proofs.lemmas.Bool.{cases_eq, cases_lt, both_ways, and_parts, and_from, and_left, or_left, lt-ltb, ltb-true, ltb-false, eq-eqb, eqb-true, false_from_ne_true}
+use Rattle.std.proofs.lemmas.List.{get_or_default}
+use Rattle.std.specs.Ordering.{nat_cmp, eq_by_cmp}
+use Rattle.std.specs.Cmp.{nat_cmp_total}
+use Rattle.std.specs.FinSet as set_of
+use Rattle.hd_model.specs.declared.data.Addr.{Addr}
+use Rattle.hd_model.specs.Names.{HasClosedFields}
+use Rattle.hd_model.specs.State.{Object}
+use Rattle.hd_model.specs.Scene.{fields_at, fields_in, generation_at, IsField}
+use Rattle.hd_model.specs.Heap.{Heap, card_of, has_object, object_at, is_set}
+use Rattle.hd_model.proofs.Members.{member_at}
+use Rattle.hd_heap.specs.Calls.{with_card, is_after, is_old_carded, IsWalk, IsNext}
+use Rattle.hd_heap.specs.Sound.{IsSound}
+use Rattle.hd_heap.proofs.IndexedLists.{tied, untied}
+use Rattle.hd_plan.specs.declared.moves.Fate.{Fate}
+use Rattle.hd_plan.specs.declared.moves.Fate.TheVariants.{Dead, Pinned, MovesToNewRegion, Moves}
+use Rattle.hd_plan.specs.declared.moves.Move.{Move}
+use Rattle.hd_plan.specs.Layout.{move_at, is_kept_fate}
+use Rattle.hd_plan.specs.Commit.{NeedsCard}
+use Rattle.hd_plan.proofs.CondemnedAddresses.{addr_is}
+use Rattle.hd_plan.specs.CommitSteps.{HasCard, AreCarded, IsExactAt, NamesYounger, starts_in, AreUnneeding, IsBefore, IsExactBehind, next_to, left_from}
+use Rattle.hd_plan.proofs.LayStep.{address_low}
+use Rattle.hd_plan.proofs.MoveEnds.{ends_cases, ends_skip}
+
+same_some : (x y : Addr) → Some x ≡ Some y → x ≡ y
+same_some x y e = cc
+
+module _ (old h new : Heap) (k : ℕ) (on : Bool) (same : h ≡ record old { cards = h.cards })
+    (step : new ≡ with_card h k on) where
+  only_cards : new ≡ record old { cards = new.cards }
+  only_cards = step ∙ ap (λ cs. record h { cards = cs }) (sym (ap (λ (x : Heap). x.cards) step))
+      ∙ ap (λ (x : Heap). record x { cards = new.cards }) same
+
+card_here : (h new : Heap) (k : ℕ) (on : Bool) → new ≡ with_card h k on → is_set new k ≡ on
+card_here h new k true step = ap (λ (x : Heap). is_set x k) step
+    ∙ set_of.contains-insert nat_cmp_total h.cards k k
+    ∙ or_left (eq_by_cmp nat_cmp k k) (is_set h k) (tied k k refl)
+card_here h new k false step = ap (λ (x : Heap). is_set x k) step
+    ∙ set_of.contains-remove nat_cmp_total h.cards k k
+    ∙ and_left (not (eq_by_cmp nat_cmp k k)) (is_set h k) (ap not (tied k k refl))
+
+card_beside : (h new : Heap) (k c : ℕ) (on : Bool) → c ≢ k → new ≡ with_card h k on
+    → is_set new c ≡ is_set h c
+card_beside h new k c true apart step = ap (λ (x : Heap). is_set x c) step
+    ∙ set_of.contains-insert nat_cmp_total h.cards k c ∙ ap (λ b. b || is_set h c) (untied c k apart)
+card_beside h new k c false apart step = ap (λ (x : Heap). is_set x c) step
+    ∙ set_of.contains-remove nat_cmp_total h.cards k c ∙ ap (λ b. not b && is_set h c) (untied c k apart)
+
+-- the cards of kept objects, one more
+module _ (old h : Heap) (ms : List Move) (i : ℕ) (r : AreCarded old h ms i) where
+  carded_gone : is_kept_fate (move_at ms i).fate ≡ false → AreCarded old h ms (i + 1)
+  carded_gone gone = record {
+    same = r.same;
+    more = r.more;
+    done = λ b e. r.done b (ends_skip is_kept_fate (λ m. m.to) ms b i gone e);
+  }
+
+  carded_kept : (new : Heap) → is_kept_fate (move_at ms i).fate ≡ true
+      → new ≡ with_card h (card_of (move_at ms i).to) true → AreCarded old new ms (i + 1)
+  carded_kept new kept step =
+      let k = card_of (move_at ms i).to in
+      let more : (c : ℕ) → is_set h c ≡ true → is_set new c ≡ true = λ c was. elim (cases_eq c k) [
+        | inl here ↦ ap (is_set new) here ∙ card_here h new k true step
+        | inr apart ↦ card_beside h new k c true apart step ∙ was
+      ] in
+      record {
+        same = only_cards old h new k true r.same step;
+        more = λ c was. more c (r.more c was);
+        done = λ b e. elim (ends_cases is_kept_fate (λ m. m.to) ms b i e) [
+          | inl was ↦ more (card_of b) (r.done b was)
+          | inr here ↦ ap (λ x. is_set new (card_of x)) (sym here.1) ∙ card_here h new k true step
+        ];
+      }
+
+  carded_by : (w : Fate) (new : Heap) → (move_at ms i).fate ≡ w → HasCard w h new (move_at ms i)
+      → AreCarded old new ms (i + 1)
+  carded_by Dead new is same =
+      subst (λ (x : Heap). AreCarded old x ms (i + 1)) (sym same) (carded_gone (ap is_kept_fate is))
+  carded_by Pinned new is set = carded_kept new (ap is_kept_fate is) set
+  carded_by MovesToNewRegion new is set = carded_kept new (ap is_kept_fate is) set
+  carded_by Moves new is set = carded_kept new (ap is_kept_fate is) set
+
+  pub carded_step : (new : Heap) → HasCard (move_at ms i).fate h new (move_at ms i)
+      → AreCarded old new ms (i + 1)
+  carded_step new set = carded_by (move_at ms i).fate new refl set
+
+-- the fields of an object, one after another
+pub field_read : (xs : List (Option Addr)) (i : ℕ) (y : Addr) → i < length xs → Some y ≡ get_or xs i None
+    → Contains xs (Some y)
+field_read xs i y within read = member_at xs i None (Some y) within (sym read)
+
+pub none_younger : (h : Heap) (a : Addr) (i : ℕ) → length (fields_at (object_at h) a) ≤ i
+    → ((j : ℕ) (y : Addr) → j < i → get_or (fields_at (object_at h) a) j None ≡ Some y
+    → generation_at (object_at h) a ≤ generation_at (object_at h) y)
+    → NamesYounger h a → ⊥
+none_younger h a i all older n =
+    let f = n.field in
+    let within = f.1 in
+    let low = older f.0 n.target (omega arith)
+    (get_or_default (fields_at (object_at h) a) f.0 None (Some n.target) f.1 ∙ f.2) in
+    let young = n.younger in
+    omega arith
+
+-- what has a field is an object
+pub has_from : (h : Heap) (x y : Addr) → IsField (object_at h) x y → has_object h x ≡ true
+has_from h x y field = by (object_at h x) field
+  where
+    by : (o : Option (Object Addr)) → Contains (fields_in o) (Some y) → is_some o ≡ true
+    by None f = absurd (let within = f.1 in omega arith)
+    by (Some o) f = refl
+
+-- an object that starts in a card
+pub starts_from : (h : Heap) (card : ℕ) (b : Addr) → has_object h b ≡ true → card_of b ≡ card
+    → starts_in h card b ≡ true
+starts_from h card b is here = and_from _ _ is (eq-eqb _ _ here)
+
+pub starts_parts : (h : Heap) (card : ℕ) (b : Addr) → starts_in h card b ≡ true
+    → (has_object h b ≡ true) × (card_of b ≡ card)
+starts_parts h card b starts = let parts = and_parts _ _ starts in (parts.0, eqb-true _ _ parts.1)
+
+pub card_order : (a b : Addr) → a.0 ≤ b.0 → card_of a ≤ card_of b
+unfolding card_of
+card_order a b le = omega arith
+
+pub card_is : (a : Addr) → card_of a ≡ a.0 / 32
+unfolding card_of
+card_is a = refl
+
+-- the next object, where it starts in the same card and where it does not
+pub next_within : (h : Heap) (at next : Addr) → IsNext (has_object h) (Some at) next
+    → next.0 / 32 ≡ at.0 / 32 → IsNext (starts_in h (card_of at)) (Some at) next
+next_within h at next is here = record {
+  member = starts_from h (card_of at) next is.member (card_is next ∙ here ∙ sym (card_is at));
+  beyond = is.beyond;
+  least = λ b starts after. is.least b (starts_parts h (card_of at) b starts).0 after;
+}
+
+pub next_beyond : (h : Heap) (at next : Addr) → IsNext (has_object h) (Some at) next
+    → (next.0 / 32 ≡ at.0 / 32 → ⊥)
+    → (a : Addr) → starts_in h (card_of at) a ≡ true → nat_lt at.0 a.0 ≡ false
+next_beyond h at next is other a starts = false_from_ne_true (nat_lt at.0 a.0) (λ after.
+    let parts = starts_parts h (card_of at) a starts in
+    let low = is.least a parts.0 after in
+    let high = ltb-true at.0 next.0 is.beyond in
+    let same : a.0 / 32 ≡ at.0 / 32 = sym (card_is a) ∙ parts.1 ∙ card_is at in
+    other (omega arith))
+
+-- no object of the card before an address needs it
+pub unneeding_starts : (h : Heap) (first : Addr) → has_object h first ≡ true
+    → ((b : Addr) → starts_in h (card_of first) b ≡ true → first.0 ≤ b.0)
+    → AreUnneeding h (card_of first) (Some first)
+unneeding_starts h first is least = record {
+  here = λ a e. subst (λ (x : Addr). starts_in h (card_of first) x ≡ true) (same_some first a e)
+      (starts_from h (card_of first) first is refl);
+  before = λ b starts low needs. (let high = least b starts in absurd (omega arith));
+}
+
+module _ (h : Heap) (card : ℕ) (place : Option Addr) (at : Addr) (is : place ≡ Some at)
+    (r : AreUnneeding h card place) where
+  pub unneeding_object : has_object h at ≡ true
+  unneeding_object = (starts_parts h card at (r.here at is)).0
+
+  pub unneeding_found : NamesYounger h at → NeedsCard h card
+  unneeding_found n = record {
+    from = at;
+    to = n.target;
+    in_card = (starts_parts h card at (r.here at is)).1;
+    field = n.field;
+    younger = n.younger;
+  }
+
+  pub unneeding_next : (next : Option Addr) → (NamesYounger h at → ⊥)
+      → IsWalk (starts_in h (card_of at)) (Some at) next → AreUnneeding h card next
+  unneeding_next next none walk =
+      let here = (starts_parts h card at (r.here at is)).1 in
+      by next (subst (λ (k : ℕ). IsWalk (starts_in h k) (Some at) next) here walk)
+    where
+      -- up to this object
+      through : (b : Addr) → starts_in h card b ≡ true → b.0 ≤ at.0 → NamesYounger h b → ⊥
+      through b starts le n = elim (cases_eq b.0 at.0) [
+        | inl same ↦ none (subst (NamesYounger h) (addr_is b at same) n)
+        | inr apart ↦ r.before b starts (subst (λ o. IsBefore o b) (sym is) (omega arith)) n
+      ]
+
+      by : (o : Option Addr) → IsWalk (starts_in h card) (Some at) o → AreUnneeding h card o
+      by None w = record {
+        here = λ a e. absurd (cc e);
+        before = λ b starts low n. through b starts (ltb-false at.0 b.0 (w b starts)) n;
+      }
+      by (Some x) w = record {
+        here = λ a e. subst (λ (y : Addr). starts_in h card y ≡ true) (same_some x a e) w.member;
+        before = λ b starts low n. elim (cases_lt at.0 b.0) [
+          | inl after ↦ absurd (let high = w.least b starts (lt-ltb at.0 b.0 after) in omega arith)
+          | inr up ↦ through b starts up n
+        ];
+      }
+
+  -- the addresses left are fewer
+  pub unneeding_less : (next : Option Addr) → IsSound h → IsWalk (starts_in h (card_of at)) (Some at) next
+      → left_from next < left_from place
+  unneeding_less next sound walk = subst (λ o. left_from next < left_from o) (sym is) (by next walk)
+    where
+      by : (o : Option Addr) → IsWalk (starts_in h (card_of at)) (Some at) o
+          → left_from o < left_from (Some at)
+      by None w = (let low = (address_low h sound at unneeding_object).1 in omega arith)
+      by (Some x) w = (let up = ltb-true at.0 x.0 w.beyond in
+          let low = (address_low h sound at unneeding_object).1 in omega arith)
+
+pub unneeding_ends : (h : Heap) (card : ℕ) → AreUnneeding h card None → NeedsCard h card → ⊥
+unneeding_ends h card r n =
+    r.before n.from (starts_from h card n.from (has_from h n.from n.to n.field) n.in_card) tt
+    (record { target = n.to; field = n.field; younger = n.younger })
+
+-- cards are exact up to the end of a card
+needs_like : (old h : Heap) (c : ℕ) → h ≡ record old { cards = h.cards } → NeedsCard h c → NeedsCard old c
+needs_like old h c same n =
+    let is : (k : Heap) → h ≡ k → NeedsCard k c = λ k e. subst (λ (x : Heap). NeedsCard x c) e n in
+    let m = is (record old { cards = h.cards }) same in
+    record { from = m.from; to = m.to; in_card = m.in_card; field = m.field; younger = m.younger }
+
+needs_back : (old h : Heap) (c : ℕ) → h ≡ record old { cards = h.cards } → NeedsCard old c → NeedsCard h c
+needs_back old h c same n =
+    let m : NeedsCard (record old { cards = h.cards }) c =
+    record { from = n.from; to = n.to; in_card = n.in_card; field = n.field; younger = n.younger } in
+    subst (λ (x : Heap). NeedsCard x c) (sym same) m
+
+module _ (old h : Heap) (after : Option Addr) (sound : IsSound h) (grown : (a : Addr)
+    → has_object old a ≡ true → 0 < generation_at (object_at old) a) (r : IsExactBehind old h after) where
+  same : h ≡ record old { cards = h.cards }
+  same = r.cards.same
+
+  pub exact_fields : HasClosedFields (object_at old) → HasClosedFields (object_at h)
+  exact_fields closed = subst (λ (k : Heap). HasClosedFields (object_at k)) (sym same) closed
+
+  -- an object in a set card after the end is walked over later
+  beyond : (b : Addr) → r.end ≤ card_of b → is_after after b ≡ true
+  beyond b high = by after r.is
+    where
+      by : (o : Option Addr) → next_to o ≡ r.end * 32 → is_after o b ≡ true
+      by None e = refl
+      by (Some a) e = lt-ltb a.0 b.0 (let is = card_is b in omega arith)
+
+  walked : (b : Addr) → has_object h b ≡ true → is_set h (card_of b) ≡ true → is_old_carded h 0 b ≡ true
+  walked b is set =
+      let there : has_object old b ≡ true = sym (ap (λ (k : Heap). has_object k b) same) ∙ is in
+      let old_enough : 0 < generation_at (object_at h) b =
+      subst (λ (k : Heap). 0 < generation_at (object_at k) b) (sym same) (grown b there) in
+      and_from _ _ (and_from _ _ is (lt-ltb 0 (generation_at (object_at h) b) old_enough)) set
+
+  module _ (at : Addr) (found : IsNext (is_old_carded h 0) after at) where
+    parts : (has_object h at ≡ true) × (is_set h (card_of at) ≡ true)
+    parts = let p = and_parts _ _ found.member in ((and_parts _ _ p.0).0, p.1)
+
+    above : r.end ≤ card_of at
+    above = by after r.is found.beyond
+      where
+        by : (o : Option Addr) → next_to o ≡ r.end * 32 → is_after o at ≡ true → r.end ≤ card_of at
+        by None e b = omega arith
+        by (Some a) e b = (let up = ltb-true a.0 at.0 b in let is = card_is at in omega arith)
+
+    pub exact_first : (b : Addr) → starts_in h (card_of at) b ≡ true → at.0 ≤ b.0
+    exact_first b starts =
+        let p = starts_parts h (card_of at) b starts in
+        let high : r.end ≤ card_of b = subst (λ k. r.end ≤ k) (sym p.1) above in
+        found.least b (walked b p.0 (ap (is_set h) p.1 ∙ parts.1)) (beyond b high)
+
+    pub exact_less : (last : Addr) → last.0 + 1 ≡ (card_of at + 1) * 32
+        → 2 ^ 32 - next_to (Some last) < 2 ^ 32 - next_to after
+    exact_less last is =
+        (let place = r.is in let up = above in let low = (address_low h sound at parts.0).1 in
+        let card = card_is at in omega arith)
+
+    exact_next : (new : Heap) (needed : Bool) (last : Addr) → last.0 + 1 ≡ (card_of at + 1) * 32
+        → ((needed ≡ true) ↔ NeedsCard h (card_of at)) → new ≡ with_card h (card_of at) needed
+        → IsExactBehind old new (Some last)
+    exact_next new needed last is tells step = record {
+      end = card_of at + 1;
+      cards = record {
+        same = only_cards old h new (card_of at) needed same step;
+        needed = λ c low set. elim (cases_eq c (card_of at)) [
+          | inl here ↦
+              let on : needed ≡ true = sym (card_here h new (card_of at) needed step)
+              ∙ ap (is_set new) (sym here) ∙ set in
+              subst (NeedsCard old) (sym here) (needs_like old h (card_of at) same (tells.0 on))
+          | inr apart ↦ between c apart low (sym (card_beside h new (card_of at) c needed apart step) ∙ set)
+        ];
+        kept = λ c n. elim (cases_eq c (card_of at)) [
+          | inl here ↦
+              let on : needed ≡ true =
+              tells.1 (needs_back old h (card_of at) same (subst (NeedsCard old) here n)) in
+              ap (is_set new) here ∙ card_here h new (card_of at) needed step ∙ on
+          | inr apart ↦ card_beside h new (card_of at) c needed apart step ∙ r.cards.kept c n
+        ];
+        rest = λ c high. card_beside h new (card_of at) c needed (λ e. omega arith) step
+            ∙ r.cards.rest c (let up = above in omega arith);
+      };
+      is = is;
+    }
+      where
+        -- no set card is between
+        between : (c : ℕ) → c ≢ card_of at → c < card_of at + 1 → is_set h c ≡ true → NeedsCard old c
+        between c apart low set = elim (cases_lt c r.end) [
+          | inl before ↦ r.cards.needed c before set
+          | inr high ↦
+              let s = sound.cards c set in
+              let in_card = s.in_card in
+              let up : r.end ≤ card_of s.at = subst (λ k. r.end ≤ k) (sym s.in_card) high in
+              let least = found.least s.at (walked s.at s.object (ap (is_set h) s.in_card ∙ set))
+              (beyond s.at up) in
+              let order = card_order at s.at least in
+              absurd (omega arith)
+        ]
+
+    pub exact_step : (new : Heap) (last : Addr) → last.0 + 1 ≡ (card_of at + 1) * 32
+        → IsExactAt h new (card_of at) → IsExactBehind old new (Some last)
+    exact_step new last is exact = exact_next new exact.needed last is exact.tells exact.is
+
+  pub exact_ends : ((a : Addr) → is_old_carded h 0 a ≡ true → is_after after a ≡ false) → (c : ℕ)
+      → (is_set h c ≡ true) ↔ NeedsCard h c
+  exact_ends none c = (
+    λ set. needs_back old h c same (elim (cases_lt c r.end) [
+      | inl before ↦ r.cards.needed c before set
+      | inr high ↦
+          let s = sound.cards c set in
+          let up : r.end ≤ card_of s.at = subst (λ k. r.end ≤ k) (sym s.in_card) high in
+          absurd (both_ways _ (none s.at (walked s.at s.object (ap (is_set h) s.in_card ∙ set)))
+          (beyond s.at up))
+    ]),
+    λ n. r.cards.kept c (needs_like old h c same n),
+  )
+
+-- cards alone were changed, and changed again
+pub cards_alone : (old h new : Heap) → h ≡ record old { cards = h.cards }
+    → new ≡ record h { cards = new.cards } → new ≡ record old { cards = new.cards }
+cards_alone old h new same step = step ∙ ap (λ (x : Heap). record x { cards = new.cards }) same

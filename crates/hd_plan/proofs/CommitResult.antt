@@ -1,0 +1,468 @@
+-- The heap after the moving.
+use Rattle.std.proofs.Common.{◌≡◌, ◌≢◌, ℕ, zero, suc, ◌+◌, ◌/◌, ◌<◌, ◌≤◌, inl, inr, ◌⊎◌, true, false, List, length, map, Option, Some, None, refl, sym, ap, ◌∙◌, subst, arith, true≢false}
+use Rattle.std.specs.Prelude.{is_some, unwrap_or, option_map, Contains, ◌↔◌, ◌&&◌, [], nat_lt}
+use Rattle.std.proofs.lemmas.Bool.{cases_Bool, cases_eq, both_ways, cases_lt, and_parts, ltb-true, ltb-false}
+use Rattle.std.proofs.lemmas.List.{length-map}
+use Rattle.std.specs.Ordering.{nat_cmp}
+use Rattle.std.specs.FinMap as fin
+use Rattle.hd_model.specs.declared.data.Addr.{Addr}
+use Rattle.hd_model.specs.Ages.{raised, HasSoundCards}
+use Rattle.hd_model.specs.Names.{HasClosedFields}
+use Rattle.hd_model.specs.Scene.{fields_at, fields_in, generation_at, IsField}
+use Rattle.hd_model.specs.Heap.{Placed, Region, Heap, region_of, card_of, region_at, region_generation, is_held, has_object, object_at, object_in, placed_at, cells_of, id_in, is_set, is_carded, used_of}
+use Rattle.hd_model.proofs.Members.{member_same, mapped_from}
+use Rattle.hd_model.proofs.Sums.{share}
+use Rattle.hd_heap.specs.Sound.{IsSound}
+use Rattle.hd_heap.proofs.HeapValues.{get_other}
+use Rattle.hd_plan.specs.declared.moves.Fate.{Fate}
+use Rattle.hd_plan.specs.declared.moves.Fate.TheVariants.{Dead, Pinned, MovesToNewRegion, Moves}
+use Rattle.hd_plan.specs.declared.moves.Move.{Move}
+use Rattle.hd_plan.specs.Layout.{move_at, condemned_at, is_moving, put_fate, room_at, has_region, region_in, Fits, AreMoves, IsCondemnedRegion, HasStay}
+use Rattle.hd_plan.specs.Packing.{IsFresh}
+use Rattle.hd_plan.specs.Compactness.{is_opening, IsOpenedBy}
+use Rattle.hd_plan.specs.Plan.{PlanOf, kept_in, place_in, stays_in, HasNoEmptyRegion}
+use Rattle.hd_plan.specs.Commit.{moved_object, NeedsCard, ChangesRegions, Commits}
+use Rattle.hd_plan.specs.CommitSteps.{IsKeptAt, rewritten, AreSettled, AreCarded}
+use Rattle.hd_plan.proofs.CondemnedAddresses.{addr_is}
+use Rattle.hd_plan.proofs.RoomSteps.{region_is}
+use Rattle.hd_plan.proofs.KeptMoves.{are_put, all_put, moving_kept}
+use Rattle.hd_plan.specs.PackedRegions.{IsPacked}
+use Rattle.hd_plan.proofs.Compactness.{compact}
+use Rattle.hd_plan.proofs.PackedRegions.{packed}
+use Rattle.hd_plan.proofs.CommitCards.{has_from}
+use Rattle.hd_plan.proofs.CommitTotals.{sum-stands}
+use Rattle.hd_plan.proofs.CommitCopies.{get_placed, has_got, has_alike}
+use Rattle.hd_plan.proofs.CommitShape.{IsCommitting, moves_now, regions_now, closed_now}
+use Rattle.hd_plan.proofs.CommitImage.{kept_by, kept_older, place_older, kept_move, place_move, kept_object, from_condemned, stays_there, fate_stays, fate_rests, image_at, image_only}
+use Rattle.hd_plan.proofs.CommitGenerations.{AreMoved, raised_above, raised_some, raised_older, generation_region, place_generation, regions_room, region_kept, region_older, region_raised, region_given_up}
+
+some_placed : (a b : Placed) → Some a ≡ Some b → a ≡ b
+some_placed a b e = cc
+
+opening_moves : (w : Fate) → is_opening w ≡ true → is_moving w ≡ true
+opening_moves Dead e = absurd (true≢false (sym e))
+opening_moves Pinned e = absurd (true≢false (sym e))
+opening_moves MovesToNewRegion e = refl
+opening_moves Moves e = refl
+
+-- a fresh region was opened by a move
+opened_there : (rs : fin.FinMap nat_cmp Region) (n r : ℕ) (x : Region)
+    → fin.contains_key (fin.insert rs n x) r ≡ true → (r ≡ n) ⊎ (fin.contains_key rs r ≡ true)
+opened_there rs n r x there = elim (cases_eq r n) [
+  | inl same ↦ inl same
+  | inr apart ↦ inr (ap is_some (sym (get_other rs n r x apart)) ∙ there)
+]
+
+module _ (h : Heap) (n : ℕ) (sound : IsSound h) (ms : List Move) (moves : AreMoves h n ms) where
+  module _ (i : ℕ) (low : i < length ms) (r : ℕ) (before : has_region (room_at h ms i).regions r ≡ true
+      → IsOpenedBy ms r) where
+    here : is_opening (move_at ms i).fate ≡ true → r ≡ region_of (move_at ms i).to → IsOpenedBy ms r
+    here opens same = record { at = i; within = low; opens = opens; region = sym same }
+
+    -- the region into which an object follows is there
+    followed : {g : ℕ} → ((room_at h ms i).current g ≡ 0) ⊎ IsFresh h (room_at h ms i) g
+        ((room_at h ms i).current g) → (room_at h ms i).current g ≢ 0
+        → has_region (room_at h ms i).regions ((room_at h ms i).current g) ≡ true
+    followed (inl none) begun = absurd (begun none)
+    followed (inr fresh) begun = fresh.held
+
+    opened_by_fate : (w : Fate) → (move_at ms i).fate ≡ w
+        → Fits w (room_at h ms i) (move_at ms i).from (move_at ms i).to (move_at ms i).generation
+        (cells_of (placed_at h (move_at ms i).from))
+        → has_region (put_fate w (room_at h ms i) (move_at ms i).to (move_at ms i).generation
+        (cells_of (placed_at h (move_at ms i).from))).regions r ≡ true → IsOpenedBy ms r
+    opened_by_fate Dead is f was = before was
+    opened_by_fate Pinned is f was = before was
+    opened_by_fate MovesToNewRegion is f was = elim (opened_there _ (region_of (move_at ms i).to) r _ was) [
+      | inl same ↦ here (ap is_opening is) same
+      | inr more ↦ elim (opened_there _ (region_of (move_at ms i).to) r _ more) [
+        | inl same ↦ here (ap is_opening is) same
+        | inr old ↦ before old
+      ]
+    ]
+    opened_by_fate Moves is f was = elim (opened_there _ (region_of (move_at ms i).to) r _ was) [
+      | inl same ↦
+          let g = (move_at ms i).generation in
+          let current = (room_at h ms i).current g in
+          let fits = f.room in
+          let into : region_of (move_at ms i).to ≡ current =
+          region_is (move_at ms i).to current (region_in (room_at h ms i).regions current).fill f.place
+          (omega arith) in
+          before (ap (has_region (room_at h ms i).regions) (same ∙ into)
+          ∙ followed ((are_put h n sound ms moves i (omega arith)).room.current g) f.begun)
+      | inr old ↦ before old
+    ]
+
+  opened_by : (i : ℕ) → i ≤ length ms → (r : ℕ) → has_region (room_at h ms i).regions r ≡ true
+      → is_held h r ≡ false → IsOpenedBy ms r
+  unfolding room_at
+  opened_by zero low r there new = absurd (both_ways _ new there)
+  opened_by (suc i) low r there new =
+      let within : i < length ms = omega arith in
+      opened_by_fate i within r (λ was. opened_by i (omega arith) r was new) (move_at ms i).fate refl
+      (moves.fits i within) there
+
+-- a field that was rewritten
+pub record IsRenamed (place : Addr → Addr) (fs : List (Option Addr)) (y : Addr) : Type 0 where
+  pub was : Addr
+  pub field : Contains fs (Some was)
+  pub is : place was ≡ y
+
+renamed : (place : Addr → Addr) (fs : List (Option Addr)) (y : Addr)
+    → Contains (map (option_map place) fs) (Some y) → IsRenamed place fs y
+renamed place fs y field = let f = mapped_from (option_map place) fs (Some y) field in by f.0 f.1.0 f.1.1
+  where
+    some_is : (a b : Addr) → Some a ≡ Some b → a ≡ b
+    some_is a b e = cc
+
+    by : (o : Option Addr) → Contains fs o → option_map place o ≡ Some y → IsRenamed place fs y
+    by None f e = absurd (cc e)
+    by (Some z) f e = record { was = z; field = f; is = some_is (place z) y e }
+
+fields_of_rewritten : (place : Addr → Addr) (g f : ℕ) (o : Option Placed)
+    → fields_in (option_map (object_in g) (option_map (rewritten place) o)) ≡ map (option_map place)
+    (fields_in (option_map (object_in f) o))
+fields_of_rewritten place g f None = refl
+fields_of_rewritten place g f (Some q) = refl
+
+object_of_rewritten : (place : Addr → Addr) (n g f : ℕ) (o : Option Placed) → g ≡ raised n f
+    → option_map (object_in g) (option_map (rewritten place) o) ≡ option_map (moved_object place n)
+    (option_map (object_in f) o)
+object_of_rewritten place n g f None e = refl
+object_of_rewritten place n g f (Some q) e =
+    ap (λ x. Some (record {
+      fields = map (option_map place) q.fields;
+      value = q.value;
+      generation = x;
+      registered = q.registered;
+    })) e
+
+id_of_rewritten : (place : Addr → Addr) (o : Option Placed) → id_in (option_map (rewritten place) o) ≡ id_in o
+id_of_rewritten place None = refl
+id_of_rewritten place (Some q) = refl
+
+module _ (p : PlanOf) (old h1 h2 h3 h4 : Heap) (m : AreMoved p old h1 h2 h3 h4) (h5 : Heap)
+    (r5 : AreSettled h4 h5 p.regions (length p.regions)) where
+  c : IsCommitting p old
+  c = m.committing
+
+  object_same : (b : Addr) → fin.get h5.objects b.0 ≡ fin.get h4.objects b.0
+  object_same b = ap (λ (x : Heap). fin.get x.objects b.0) r5.same
+
+  pub settled_at : (a : Addr) → kept_in p a ≡ true
+      → fin.get h5.objects (place_in p a).0 ≡ option_map (rewritten (place_in p)) (fin.get old.objects a.0)
+  settled_at a kept = object_same (place_in p a)
+      ∙ image_at p old c h1 m.copied h2 m.carded h3 m.kept h4 m.removed a kept
+
+  settled_object : (a : Addr) → kept_in p a ≡ true → has_object h5 (place_in p a) ≡ true
+  settled_object a kept =
+      has_got h5 (place_in p a) (rewritten (place_in p) (placed_at old a))
+      (settled_at a kept ∙ ap (option_map (rewritten (place_in p)))
+      (get_placed old a (kept_object p old c a kept)))
+
+  pub settled_there : (a : Addr) → IsKeptAt p.moves (length p.moves) a → has_object h5 a ≡ true
+  settled_there a e =
+      ap (has_object h5) (sym e.is ∙ sym (place_move p old c e.at e.before))
+      ∙ settled_object (move_at p.moves e.at).from (kept_move p old c e.at e.before e.goes)
+
+  settled_only : (b : Addr) → has_object h5 b ≡ true
+      → (a : Addr) × ((kept_in p a ≡ true) × (place_in p a ≡ b))
+  settled_only b there =
+      image_only p old c h1 m.copied h2 m.carded h3 m.kept h4 m.removed b
+      (sym (has_alike h4 h5 b (object_same b)) ∙ there)
+
+  -- heaps with other cards
+  module _ (h6 : Heap) (same6 : h6 ≡ record h5 { cards = h6.cards }) where
+    pub ending_at : (a : Addr) → kept_in p a ≡ true
+        → fin.get h6.objects (place_in p a).0 ≡ option_map (rewritten (place_in p)) (fin.get old.objects a.0)
+    ending_at a kept = ap (λ (x : Heap). fin.get x.objects (place_in p a).0) same6 ∙ settled_at a kept
+
+    pub ending_object : (a : Addr) → kept_in p a ≡ true → has_object h6 (place_in p a) ≡ true
+    ending_object a kept = ap (λ (x : Heap). has_object x (place_in p a)) same6 ∙ settled_object a kept
+
+    pub ending_only : (b : Addr) → has_object h6 b ≡ true
+        → (a : Addr) × ((kept_in p a ≡ true) × (place_in p a ≡ b))
+    ending_only b there = settled_only b (sym (ap (λ (x : Heap). has_object x b) same6) ∙ there)
+
+    pub ending_region : (a : Addr) → kept_in p a ≡ true
+        → region_generation h6 (region_of (place_in p a)) ≡ raised p.basis.condemned
+        (generation_at (object_at old) a)
+    ending_region a kept = ap (λ (x : Heap). region_generation x (region_of (place_in p a))) same6
+        ∙ place_generation p old h1 h2 h3 h4 m h5 r5 a kept
+
+    pub ending_generation : (a : Addr) → kept_in p a ≡ true
+        → generation_at (object_at h6) (place_in p a) ≡ raised p.basis.condemned
+        (generation_at (object_at old) a)
+    ending_generation a kept = generation_region h6 (place_in p a) (ending_object a kept)
+        ∙ ending_region a kept
+
+    pub ending_grown : (b : Addr) → has_object h6 b ≡ true → 0 < generation_at (object_at h6) b
+    ending_grown b there =
+        let (a, is) = ending_only b there in
+        let e = ending_generation a is.0 in
+        let some = raised_some p.basis.condemned (generation_at (object_at old) a) in
+        subst (λ (x : Addr). 0 < generation_at (object_at h6) x) is.1 (omega (arith, e, some))
+
+    -- a field of an object holds the new address of what it referenced
+    ending_field : (a y : Addr) → kept_in p a ≡ true → IsField (object_at h6) (place_in p a) y
+        → IsRenamed (place_in p) (fields_at (object_at old) a) y
+    ending_field a y kept field =
+        let fields : fields_at (object_at h6) (place_in p a) ≡ map (option_map (place_in p))
+        (fields_at (object_at old) a) =
+        ap (λ o. fields_in (option_map (object_in (region_generation h6 (region_of (place_in p a)))) o))
+        (ending_at a kept)
+        ∙ fields_of_rewritten (place_in p) (region_generation h6 (region_of (place_in p a)))
+        (region_generation old (region_of a)) (fin.get old.objects a.0) in
+        renamed (place_in p) (fields_at (object_at old) a) y
+        (member_same (fields_at (object_at h6) (place_in p a))
+        (map (option_map (place_in p)) (fields_at (object_at old) a)) fields (Some y) field)
+
+    pub ending_closed : HasClosedFields (object_at h6)
+    ending_closed x y field =
+        let (a, is) = ending_only x (has_from h6 x y field) in
+        let f = ending_field a y is.0 (subst (λ (z : Addr). IsField (object_at h6) z y) (sym is.1) field) in
+        subst (λ (z : Addr). has_object h6 z ≡ true) f.is
+        (ending_object f.was (closed_now p old c a f.was is.0 f.field))
+
+  -- the cards of kept objects are set
+  module _ (h6 : Heap) (r6 : AreCarded h5 h6 p.moves (length p.moves)) where
+    pub ending_cards : HasSoundCards (object_at h6) (is_carded h6)
+    ending_cards x y field younger =
+        let there = has_from h6 x y field in
+        let (a, is) = ending_only h6 r6.same x there in
+        elim (kept_by p old c a is.0) [
+          | inl older ↦
+              let here : x ≡ a = sym is.1 ∙ place_older p old c a older in
+              let f = ending_field h6 r6.same a y is.0
+              (subst (λ (z : Addr). IsField (object_at h6) z y) (sym is.1) field) in
+              let kept = closed_now p old c a f.was is.0 f.field in
+              let from = ending_generation h6 r6.same a is.0 in
+              let to = ending_generation h6 r6.same f.was kept in
+              let less : generation_at (object_at h6) (place_in p f.was) < generation_at (object_at h6)
+              (place_in p a) =
+              subst (λ (z : Addr). generation_at (object_at h6) (place_in p f.was) < generation_at
+              (object_at h6) z) (sym is.1)
+              (subst (λ (z : Addr). generation_at (object_at h6) z < generation_at (object_at h6) x)
+              (sym f.is) younger) in
+              let same = raised_older p.basis.condemned (generation_at (object_at old) a) older in
+              let fits : generation_at (object_at old) f.was ≤ 2 =
+              (let g = generation_region old f.was (kept_object p old c f.was kept) in
+              let most = c.sound.generations (region_of f.was)
+              (c.sound.held f.was (kept_object p old c f.was kept)) in omega arith) in
+              let above = raised_above p.basis.condemned (generation_at (object_at old) f.was) fits in
+              ap (is_carded h6) here
+              ∙ carded_still a (sym (ap (has_object h6) here) ∙ there)
+              (c.cards a f.was f.field (omega arith))
+          | inr (k, by) ↦
+              let to : (move_at p.moves k).to ≡ x =
+              sym (ap (place_in p) (sym by.from) ∙ place_move p old c k by.within) ∙ is.1 in
+              r6.done x (record { at = k; before = by.within; goes = by.kept; is = to })
+        ]
+      where
+        carded_still : (a : Addr) → has_object h6 a ≡ true → is_carded old a ≡ true → is_carded h6 a ≡ true
+        carded_still a there set =
+            let fourth : has_object h4 a ≡ true = sym (has_alike h4 h5 a (object_same a))
+            ∙ sym (ap (λ (x : Heap). has_object x a) r6.same) ∙ there in
+            let first : is_carded h1 a ≡ true = ap (λ (x : Heap). is_set x (card_of a)) m.copied.same ∙ set in
+            let third : is_carded h3 a ≡ true = m.kept.more (card_of a) (m.same (card_of a) ∙ first) in
+            r6.more (card_of a) (ap (λ (x : Heap). is_set x (card_of a)) r5.same ∙ m.removed.cards a fourth
+            ∙ third)
+
+  -- and so the whole
+  module _ (h7 : Heap) (same7 : h7 ≡ record h5 { cards = h7.cards }) where
+    region_now : (r : ℕ) → fin.get h7.regions r ≡ fin.get h5.regions r
+    region_now r = ap (λ (x : Heap). fin.get x.regions r) same7
+
+    region_held : (r : ℕ) (g : Region) → fin.get h5.regions r ≡ Some g
+        → (is_held h7 r ≡ true) × (region_at h7 r ≡ g)
+    region_held r g got = (
+      ap is_some (region_now r ∙ got),
+      ap (λ (o : Option Region). unwrap_or o (record { generation = 0; fill = 0 })) (region_now r ∙ got),
+    )
+
+    changes : ChangesRegions p old h7
+    changes = record {
+      older = λ r held older.
+          let same = region_now r ∙ region_older p old h1 h2 h3 h4 m h5 r5 r (λ is. let low = is.young in
+          omega arith) ∙ region_kept p old h1 h2 h3 h4 m r held in (
+            ap is_some same ∙ held,
+            ap (λ (o : Option Region). unwrap_or o (record { generation = 0; fill = 0 })) same,
+          );
+      stays = λ r young stay. region_held r _ (region_raised p old h1 h2 h3 h4 m h5 r5 r young stay);
+      given_up = λ r young none.
+          ap is_some (region_now r ∙ region_given_up p old h1 h2 h3 h4 m h5 r5 r young none);
+    }
+
+    -- a region in use has an object that stays, or was opened, or is older
+    held_stays : (r : ℕ) → is_held h7 r ≡ true → IsCondemnedRegion old p.basis.condemned r → HasStay p.moves r
+    held_stays r held young =
+        let (k, listed) = (regions_now p old c).all r young in
+        elim (cases_Bool (condemned_at p.regions k).pinned) [
+          | inl pinned ↦ subst (HasStay p.moves) listed.1 (((regions_now p old c).pinned k listed.0).0 pinned)
+          | inr unpinned ↦
+              let gone = changes.given_up r young
+              (λ stay. both_ways _ unpinned
+              (((regions_now p old c).pinned k listed.0).1
+              (subst (HasStay p.moves) (sym listed.1) stay))) in
+              absurd (both_ways _ gone held)
+        ]
+
+    held_opened : (r : ℕ) → is_held h7 r ≡ true → is_held old r ≡ false → IsOpenedBy p.moves r
+    held_opened r held new =
+        let got : fin.get h7.regions r ≡ fin.get (room_at old p.moves (length p.moves)).regions r =
+        region_now r ∙ region_older p old h1 h2 h3 h4 m h5 r5 r (λ is. both_ways _ new is.held)
+        ∙ ap (λ rs. fin.get rs r) (regions_room p old h1 h2 h3 h4 m) in
+        opened_by old p.basis.condemned c.sound p.moves (moves_now p old c) (length p.moves) (omega arith) r
+        (ap is_some (sym got) ∙ held) new
+
+    full : HasNoEmptyRegion old → HasNoEmptyRegion h7
+    full some r held = elim (cases_Bool (is_held old r)) [
+      | inl was ↦ elim (cases_lt p.basis.condemned (region_generation old r)) [
+        | inl older ↦
+            let s = some r was in
+            let above : p.basis.condemned < generation_at (object_at old) s.at =
+            subst (λ g. p.basis.condemned < g) (ap (region_generation old) (sym s.region)
+            ∙ sym (generation_region old s.at s.object)) older in
+            let kept = kept_older p old c s.at above in
+            let place = place_older p old c s.at above in
+            record {
+              at = s.at;
+              object = ap (has_object h7) (sym place) ∙ ending_object h7 same7 s.at kept;
+              region = s.region;
+            }
+        | inr young ↦
+            let s = held_stays r held (record { held = was; young = young }) in
+            let from = (move_at p.moves s.at).from in
+            let kept = kept_move p old c s.at s.within (fate_stays (move_at p.moves s.at).fate s.stays) in
+            let place = place_move p old c s.at s.within
+            ∙ stays_there p old c s.at s.within (fate_rests (move_at p.moves s.at).fate s.stays) in
+            record {
+              at = from;
+              object = ap (has_object h7) (sym place) ∙ ending_object h7 same7 from kept;
+              region = s.region;
+            }
+      ]
+      | inr new ↦
+          let o = held_opened r held new in
+          let from = (move_at p.moves o.at).from in
+          let kept = kept_move p old c o.at o.within
+          (moving_kept (move_at p.moves o.at).fate (opening_moves (move_at p.moves o.at).fate o.opens)) in
+          record {
+            at = (move_at p.moves o.at).to;
+            object = ap (has_object h7) (sym (place_move p old c o.at o.within))
+                ∙ ending_object h7 same7 from kept;
+            region = o.region;
+          }
+    ]
+
+    -- a new object comes from the one that it was
+    record StandsFor (q r : ℕ) : Type 0 where
+      was : Addr
+      number : was.0 ≡ r
+      place : (place_in p was).0 ≡ q
+
+    used : used_of h7 ≤ used_of old
+    used = sum-stands cells_of StandsFor
+        (λ q s r a b. sym a.place
+        ∙ ap (λ (x : Addr). (place_in p x).0) (addr_is a.was b.was (a.number ∙ sym b.number)) ∙ b.place)
+        h7.objects old.objects
+        (λ q v got.
+        let b : Addr = record { 0 = q } in
+        let (a, is) = ending_only h7 same7 b (has_got h7 b v got) in
+        let there = get_placed old a (kept_object p old c a is.0) in
+        let now : Some (rewritten (place_in p) (placed_at old a)) ≡ Some v =
+        sym (ending_at h7 same7 a is.0 ∙ ap (option_map (rewritten (place_in p))) there)
+        ∙ ap (λ (x : Addr). fin.get h7.objects x.0) is.1 ∙ got in
+        let cells : cells_of (rewritten (place_in p) (placed_at old a)) ≡ cells_of v =
+        ap cells_of (some_placed _ _ now) in
+        let long = length-map (placed_at old a).fields (option_map (place_in p)) in
+        let stands : StandsFor q a.0 =
+        record { was = a; number = refl; place = ap (λ (x : Addr). x.0) is.1 } in
+        let size : share cells_of (fin.get old.objects a.0) ≡ cells_of (placed_at old a) =
+        ap (share cells_of) there in
+        (a.0, (stands, omega arith)))
+
+    compact_now : p.basis.condemned ≡ 2 → fin.len h7.regions ≤ used_of h7 / 193 + 3 + stays_in p
+    compact_now all =
+        let moves = moves_now p old c in
+        compact old c.sound p.basis.condemned p.moves moves
+        (λ k low. (are_put old p.basis.condemned c.sound p.moves moves k low).room) h7
+        (λ j within moving.
+        let o = move_at p.moves j in
+        let kept = kept_move p old c j within (moving_kept o.fate moving) in
+        let there = get_placed old o.from (from_condemned p old c j within).object in
+        let now : fin.get h7.objects o.to.0 ≡ Some (rewritten (place_in p) (placed_at old o.from)) =
+        ap (λ (x : Addr). fin.get h7.objects x.0) (sym (place_move p old c j within))
+        ∙ ending_at h7 same7 o.from kept ∙ ap (option_map (rewritten (place_in p))) there in (
+          rewritten (place_in p) (placed_at old o.from),
+          (now, ap (λ n. n + 3) (length-map (placed_at old o.from).fields (option_map (place_in p)))),
+        ))
+        (λ i j less within moving_i moving_j same.
+        (all_put old p.basis.condemned c.sound p.moves moves).apart i j less within moving_i moving_j
+        (addr_is (move_at p.moves i).to (move_at p.moves j).to same))
+        (λ r held. elim (cases_Bool (is_held old r)) [
+          | inl was ↦ inl (held_stays r held
+              (record { held = was; young = (let most = c.sound.generations r was in omega arith) }))
+          | inr new ↦ inr (held_opened r held new)
+        ])
+
+    -- what moves is at its new address with as many words
+    moved_there : (j : ℕ) → j < length p.moves → is_moving (move_at p.moves j).fate ≡ true
+        → (has_object h7 (move_at p.moves j).to ≡ true)
+        × (cells_of (placed_at h7 (move_at p.moves j).to) ≡ cells_of (placed_at old (move_at p.moves j).from))
+    moved_there j within moving =
+        let o = move_at p.moves j in
+        let kept = kept_move p old c j within (moving_kept o.fate moving) in
+        let there = get_placed old o.from (from_condemned p old c j within).object in
+        let now : fin.get h7.objects o.to.0 ≡ Some (rewritten (place_in p) (placed_at old o.from)) =
+        ap (λ (x : Addr). fin.get h7.objects x.0) (sym (place_move p old c j within))
+        ∙ ending_at h7 same7 o.from kept ∙ ap (option_map (rewritten (place_in p))) there in (
+          has_got h7 o.to _ now,
+          placed_now o.to _ now
+              ∙ ap (λ n. n + 3) (length-map (placed_at old o.from).fields (option_map (place_in p))),
+        )
+      where
+        placed_now : (a : Addr) (x : Placed) → fin.get h7.objects a.0 ≡ Some x
+            → cells_of (placed_at h7 a) ≡ cells_of x
+        placed_now a x got = ap (λ (o : Option Placed). cells_of (unwrap_or o
+            (record { id = record { 0 = 0 }; fields = []; value = 0; registered = false }))) got
+
+    packed_now : IsPacked old h7 p.basis.condemned (stays_in p)
+    packed_now =
+        packed old c.sound p.basis.condemned p.moves (moves_now p old c) h7
+        (λ r is.
+        let both = and_parts _ _ is in changes.older r both.0 (ltb-true _ _ both.1))
+        moved_there
+        (λ r held young. elim (cases_Bool (is_held old r)) [
+          | inl was ↦ inl (held_stays r held (record {
+            held = was;
+            young = ltb-false _ _ (sym (ap (λ b. b && nat_lt p.basis.condemned (region_generation old r)) was)
+                ∙ young);
+          }))
+          | inr new ↦ inr (held_opened r held new)
+        ])
+
+    pub ended : ((card : ℕ) → (is_set h7 card ≡ true) ↔ NeedsCard h7 card) → Commits p old h7
+    ended exact = record {
+      objects = λ a kept.
+          ap (option_map (object_in (region_generation h7 (region_of (place_in p a)))))
+          (ending_at h7 same7 a kept)
+          ∙ object_of_rewritten (place_in p) p.basis.condemned
+          (region_generation h7 (region_of (place_in p a))) (region_generation old (region_of a))
+          (fin.get old.objects a.0)
+          (ending_region h7 same7 a kept
+          ∙ ap (raised p.basis.condemned) (generation_region old a (kept_object p old c a kept)));
+      ids = λ a kept. ap id_in (ending_at h7 same7 a kept)
+          ∙ id_of_rewritten (place_in p) (fin.get old.objects a.0);
+      only = ending_only h7 same7;
+      regions = changes;
+      cards = exact;
+      limit =
+          ap (λ (x : Heap). x.limit) same7 ∙ ap (λ (x : Heap). x.limit) r5.same
+          ∙ ap (λ (x : Heap). x.limit) m.removed.same ∙ ap (λ (x : Heap). x.limit) m.kept.same
+          ∙ ap (λ (x : Heap). x.limit) m.carded.same ∙ ap (λ (x : Heap). x.limit) m.copied.same;
+      used = used;
+      full = full;
+      packed = packed_now;
+      compact = compact_now;
+    }

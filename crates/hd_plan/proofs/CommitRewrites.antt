@@ -1,0 +1,369 @@
+-- Lemmas on the rewriting of fields.
+use Rattle.std.proofs.Common.{◌≡◌, ◌≢◌, ℕ, ◌+◌, ◌-◌, ◌^◌, ◌<◌, ◌≤◌, inl, inr, ◌⊎◌, Bool, ◌&&◌, true, false, cond, List, map, length, set, get_or, Option, Some, None, refl, sym, ap, ◌∙◌, subst, arith, length-set, get_or-set_same, get_or-set_other, ext_get_or}
+use Rattle.std.specs.Prelude.{option_map, is_some, nat_lt, ◌||◌}
+use Rattle.std.proofs.lemmas.Bool.{cases_eq, cases_lt, cases_Bool, both_ways, and_parts, or_right, le-ltb, ltb-true, ltb-false, false_from_ne_true}
+use Rattle.std.proofs.lemmas.List.{get_or-map, length-map}
+use Rattle.std.specs.Ordering.{nat_cmp, eq_by_cmp}
+use Rattle.std.specs.Cmp.{nat_cmp_total}
+use Rattle.std.specs.FinSet as set_of
+use Rattle.std.specs.FinMap as map_of
+use Rattle.hd_model.specs.declared.data.Addr.{Addr}
+use Rattle.hd_model.specs.Scene.{fields_at, fields_in, generation_at, generation_in, IsField}
+use Rattle.hd_model.specs.Heap.{Placed, Heap, region_of, card_of, region_generation, has_object, object_at, object_in, placed_at, is_set}
+use Rattle.hd_model.proofs.Members.{member_at, member_same}
+use Rattle.hd_heap.specs.Calls.{with_object, with_field, stored, is_younger, is_after, is_old_carded, IsNext}
+use Rattle.hd_heap.specs.Sound.{IsSound}
+use Rattle.hd_heap.proofs.RegionReads.{has-get}
+use Rattle.hd_heap.proofs.IndexedLists.{untied}
+use Rattle.hd_heap.proofs.HeapValues.{get_same, get_other, has_with_object, placed_with_object, write_twice, write_same, fields_placed}
+use Rattle.hd_plan.specs.declared.moves.Move.{Move}
+use Rattle.hd_plan.specs.Layout.{move_at, is_kept_fate}
+use Rattle.hd_plan.proofs.CondemnedAddresses.{addr_is}
+use Rattle.hd_plan.specs.CommitSteps.{HasRenamed, rewritten, SameCards, IsRewritten, AreFieldsRewritten, AreRewritten, IsCardedTo, IsKeptAt, next_to}
+use Rattle.hd_plan.proofs.MoveEnds.{ends_more, ends_here, ends_cases, ends_skip, ends_decided}
+use Rattle.hd_plan.proofs.LayStep.{address_low}
+use Rattle.hd_plan.proofs.CommitCopies.{get_placed, has_alike}
+
+abbrev Cards : Type 0
+Cards = set_of.FinSet nat_cmp
+
+-- a set with a member more, or the set
+pub insert_more : (b : Bool) (s : Cards) (k q : ℕ) → set_of.contains s q ≡ true
+    → set_of.contains (cond b (set_of.insert s k) s) q ≡ true
+insert_more false s k q is = is
+insert_more true s k q is = set_of.contains-insert nat_cmp_total s k q
+    ∙ or_right (eq_by_cmp nat_cmp q k) (set_of.contains s q) is
+
+pub insert_other : (b : Bool) (s : Cards) (k q : ℕ) → q ≢ k
+    → set_of.contains (cond b (set_of.insert s k) s) q ≡ set_of.contains s q
+insert_other false s k q apart = refl
+insert_other true s k q apart = set_of.contains-insert nat_cmp_total s k q
+    ∙ ap (λ b. b || set_of.contains s q) (untied q k apart)
+
+pub rewriting_starts : (h : Heap) (place : Addr → Addr) (x : Addr) → has_object h x ≡ true
+    → AreFieldsRewritten h h place x 0
+rewriting_starts h place x is = record {
+  fields = (placed_at h x).fields;
+  object = write_same h x is;
+  number = refl;
+  below = λ j low. absurd (omega arith);
+  above = λ j high. refl;
+  more = λ c set. set;
+  others = λ c apart. refl;
+}
+
+module _ (old h : Heap) (place : Addr
+    → Addr) (x : Addr) (i : ℕ) (is : has_object old x ≡ true) (r : AreFieldsRewritten old h place x i) where
+  -- objects are there as before
+  pub rewriting_has : (y : Addr) → has_object old y ≡ true → has_object h y ≡ true
+  rewriting_has y there = ap (λ (k : Heap). has_object k y) r.object ∙ has_with_object old x y _ there
+
+  placed_now : placed_at h x ≡ record (placed_at old x) { fields = r.fields }
+  placed_now = ap (λ (k : Heap). placed_at k x) r.object ∙ placed_with_object old x _
+
+  fields_now : fields_at (object_at h) x ≡ r.fields
+  fields_now = fields_placed h x (rewriting_has x is) ∙ ap (λ (p : Placed). p.fields) placed_now
+
+  -- their number is that of before
+  pub rewriting_number : length (fields_at (object_at h) x) ≡ length (fields_at (object_at old) x)
+  rewriting_number = ap length fields_now ∙ r.number ∙ sym (ap length (fields_placed old x is))
+
+  field_now : (v : Option Addr) → v ≡ get_or (fields_at (object_at h) x) i None
+      → v ≡ get_or (placed_at old x).fields i None
+  field_now v read = read ∙ ap (λ xs. get_or xs i None) fields_now ∙ r.above i (omega arith)
+
+  -- the field that is read was there before
+  pub rewriting_field : (y : Addr) → i < length (fields_at (object_at old) x)
+      → Some y ≡ get_or (fields_at (object_at h) x) i None → IsField (object_at old) x y
+  rewriting_field y within read =
+      let there : get_or (fields_at (object_at old) x) i None ≡ Some y =
+      ap (λ xs. get_or xs i None) (fields_placed old x is) ∙ sym (field_now (Some y) read) in
+      member_at (fields_at (object_at old) x) i None (Some y) within there
+
+  -- a null field stays
+  rewriting_null : None ≡ get_or (fields_at (object_at h) x) i None
+      → AreFieldsRewritten old h place x (i + 1)
+  rewriting_null read = record {
+    fields = r.fields;
+    object = r.object;
+    number = r.number;
+    below = λ j low. elim (cases_lt j i) [
+      | inl before ↦ r.below j before
+      | inr past ↦
+          let same : j ≡ i = omega arith in
+          let null : None ≡ get_or (placed_at old x).fields j None =
+          field_now None read ∙ ap (λ k. get_or (placed_at old x).fields k None) (sym same) in
+          r.above j past ∙ sym null ∙ ap (option_map place) null
+    ];
+    above = λ j high. r.above j (omega arith);
+    more = r.more;
+    others = r.others;
+  }
+
+  -- a field is written
+  rewriting_written : (new : Heap) (y : Addr) → i < length (fields_at (object_at old) x)
+      → Some y ≡ get_or (fields_at (object_at h) x) i None → new ≡ stored h x i (Some (place y))
+      → AreFieldsRewritten old new place x (i + 1)
+  rewriting_written new y within read written =
+      let v : Option Addr = Some (place y) in
+      let fields = set r.fields i v in
+      let cards : new.cards ≡ cond (is_younger h x v) (set_of.insert h.cards (card_of x)) h.cards =
+      ap (λ (k : Heap). k.cards) written in
+      let long : i < length r.fields = omega (arith, within, r.number, ap length (fields_placed old x is)) in
+      let p : Placed = record (placed_at old x) { fields = r.fields } in
+      record {
+        fields = fields;
+        object = written ∙ ap
+            (λ cs. record (with_object h x (with_field (placed_at h x) i v)) { cards = cs }) (sym cards)
+            ∙ ap (λ (q : Placed).
+            record (with_object h x (with_field q i v)) { cards = new.cards }) placed_now
+            ∙ ap (λ (k : Heap). record (with_object k x (with_field p i v)) { cards = new.cards }) r.object
+            ∙ ap (λ (k : Heap). record k { cards = new.cards }) (write_twice old x p (with_field p i v));
+        number = length-set r.fields i v ∙ r.number;
+        below = λ j low. elim (cases_eq j i) [
+          | inl same ↦
+              ap (λ k. get_or fields k None) same ∙ get_or-set_same r.fields i v None long
+              ∙ ap (option_map place) (field_now (Some y) read
+              ∙ ap (λ k. get_or (placed_at old x).fields k None) (sym same))
+          | inr apart ↦ get_or-set_other r.fields i j v None apart ∙ r.below j (omega arith)
+        ];
+        above = λ j high. get_or-set_other r.fields i j v None (λ same. omega arith)
+            ∙ r.above j (omega arith);
+        more = λ c was. ap (λ cs. set_of.contains cs c) cards
+            ∙ insert_more (is_younger h x v) h.cards (card_of x) c (r.more c was);
+        others = λ c apart. ap (λ cs. set_of.contains cs c) cards
+            ∙ insert_other (is_younger h x v) h.cards (card_of x) c apart ∙ r.others c apart;
+      }
+
+  rewriting_by : (v : Option Addr) (new : Heap) → i < length (fields_at (object_at old) x)
+      → get_or (fields_at (object_at h) x) i None ≡ v → HasRenamed v place h new x i
+      → AreFieldsRewritten old new place x (i + 1)
+  rewriting_by None new within read same =
+      subst (λ (k : Heap). AreFieldsRewritten old k place x (i + 1)) (sym same) (rewriting_null (sym read))
+  rewriting_by (Some y) new within read written = rewriting_written new y within (sym read) written
+
+  pub rewriting_step : (new : Heap) → i < length (fields_at (object_at old) x)
+      → HasRenamed (get_or (fields_at (object_at h) x) i None) place h new x i
+      → AreFieldsRewritten old new place x (i + 1)
+  rewriting_step new within done =
+      rewriting_by (get_or (fields_at (object_at h) x) i None) new within refl done
+
+  -- all are
+  pub rewriting_ends : length (fields_at (object_at old) x) ≤ i → IsRewritten old h place x
+  rewriting_ends past =
+      let many : length r.fields ≤ i = omega (arith, past, r.number, ap length (fields_placed old x is)) in
+      let all : r.fields ≡ map (option_map place) (placed_at old x).fields =
+      ext_get_or None r.fields (map (option_map place) (placed_at old x).fields) (r.number
+      ∙ sym (length-map (placed_at old x).fields (option_map place)))
+      (λ j low. r.below j (omega arith)
+      ∙ sym (get_or-map (option_map place) (placed_at old x).fields j None None
+      (omega (arith, low, r.number)))) in
+      record {
+        object = r.object ∙ ap
+            (λ fs. record (with_object old x (record (placed_at old x) { fields = fs })) { cards = h.cards })
+            all;
+        more = r.more;
+        others = r.others;
+      }
+
+-- what an object has, read at its address
+generation_of : (g : ℕ) (o : Option Placed)
+    → generation_in (option_map (object_in g) o) ≡ cond (is_some o) g 0
+generation_of g None = refl
+generation_of g (Some p) = refl
+
+pub fields_alike : (h k : Heap) (a b : Addr) → map_of.get k.objects b.0 ≡ map_of.get h.objects a.0
+    → fields_at (object_at k) b ≡ fields_at (object_at h) a
+fields_alike h k a b same =
+    by (region_generation k (region_of b)) (region_generation h (region_of a)) (map_of.get k.objects b.0)
+    (map_of.get h.objects a.0) same
+  where
+    fields_of : (g f : ℕ) (o : Option Placed)
+        → fields_in (option_map (object_in g) o) ≡ fields_in (option_map (object_in f) o)
+    fields_of g f None = refl
+    fields_of g f (Some p) = refl
+
+    by : (g f : ℕ) (o q : Option Placed) → o ≡ q
+        → fields_in (option_map (object_in g) o) ≡ fields_in (option_map (object_in f) q)
+    by g f o q e = ap (λ x. fields_in (option_map (object_in g) x)) e ∙ fields_of g f q
+
+-- the generation of an address depends on its region, where there is an object
+pub generation_alike : (h k : Heap) (a : Addr) → has_object k a ≡ has_object h a
+    → region_generation k (region_of a) ≡ region_generation h (region_of a)
+    → generation_at (object_at k) a ≡ generation_at (object_at h) a
+generation_alike h k a there region =
+    generation_of (region_generation k (region_of a)) (map_of.get k.objects a.0)
+    ∙ ap (λ g. cond (is_some (map_of.get k.objects a.0)) g 0) region
+    ∙ ap (λ b. cond b (region_generation h (region_of a)) 0) (sym (has-get k a) ∙ there ∙ has-get h a)
+    ∙ sym (generation_of (region_generation h (region_of a)) (map_of.get h.objects a.0))
+
+-- one object more is rewritten
+module _ (Those : Addr → Type 0) (place : Addr
+    → Addr) (old h : Heap) (r : AreRewritten Those place old h) where
+  pub rewritten_has : (a : Addr) → Those a ⊎ (Those a → ⊥) → has_object h a ≡ has_object old a
+  rewritten_has a (inl done) = has-get h a ∙ ap is_some (r.done a done)
+      ∙ some_map (map_of.get old.objects a.0) ∙ sym (has-get old a)
+    where
+      some_map : (o : Option Placed) → is_some (option_map (rewritten place) o) ≡ is_some o
+      some_map None = refl
+      some_map (Some p) = refl
+  rewritten_has a (inr other) = has_alike old h a (r.others a other)
+
+  pub rewritten_generation : (a : Addr) → Those a ⊎ (Those a → ⊥)
+      → generation_at (object_at h) a ≡ generation_at (object_at old) a
+  rewritten_generation a either =
+      generation_alike old h a (rewritten_has a either)
+      (ap (λ (x : Heap). region_generation x (region_of a)) r.same)
+
+  pub rewritten_field : (a y : Addr) → (Those a → ⊥) → IsField (object_at h) a y → IsField (object_at old) a y
+  rewritten_field a y other field =
+      member_same (fields_at (object_at h) a) (fields_at (object_at old) a)
+      (fields_alike old h a a (r.others a other)) (Some y) field
+
+  pub rewritten_more : (Next : Addr → Type 0) (new : Heap) (x : Addr) → IsRewritten h new place x
+      → has_object old x ≡ true → (Those x → ⊥) → Next x
+      → ((a : Addr) → Those a → Next a) → ((a : Addr) → Next a → Those a ⊎ (a.0 ≡ x.0))
+      → AreRewritten Next place old new
+  rewritten_more Next new x step there fresh joins keeps only =
+      let p = rewritten place (placed_at h x) in
+      let was : map_of.get h.objects x.0 ≡ map_of.get old.objects x.0 = r.others x fresh in
+      let here : (a : Addr) → a.0 ≡ x.0
+      → map_of.get new.objects a.0 ≡ option_map (rewritten place) (map_of.get old.objects a.0) = λ a e.
+      ap (λ (k : Heap). map_of.get k.objects a.0) step.object ∙ get_same h.objects x.0 a.0 p e
+      ∙ ap (option_map (rewritten place)) (sym (get_placed h x (has_alike old h x was ∙ there)) ∙ was
+      ∙ ap (map_of.get old.objects) (sym e)) in
+      let beside : (a : Addr) → a.0 ≢ x.0 → map_of.get new.objects a.0 ≡ map_of.get h.objects a.0 = λ a apart.
+      ap (λ (k : Heap). map_of.get k.objects a.0) step.object ∙ get_other h.objects x.0 a.0 p apart in
+      record {
+        done = λ a next. elim (cases_eq a.0 x.0) [
+          | inl same ↦ here a same
+          | inr apart ↦ elim (only a next) [
+            | inl those ↦ beside a apart ∙ r.done a those
+            | inr same ↦ absurd (apart same)
+          ]
+        ];
+        others = λ a none. beside a (λ same. none (subst Next (sym (addr_is a x same)) joins))
+            ∙ r.others a (λ those. none (keeps a those));
+        same = step.object ∙ ap (λ (k : Heap). record (with_object k x p) { cards = new.cards }) r.same
+            ∙ ap (λ os. record old { objects = os; cards = new.cards })
+            (ap (λ os. map_of.insert os x.0 p) refl ∙ sym (ap (λ (k : Heap). k.objects) step.object));
+        more = λ c set. step.more c (r.more c set);
+      }
+
+-- the objects in set cards, one after another
+module _ (place : Addr
+    → Addr) (old h : Heap) (n : ℕ) (after : Option Addr)
+    (r : AreRewritten (IsCardedTo old n after) place old h) (cards : SameCards old h) where
+  decided : (a : Addr) → IsCardedTo old n after a ⊎ (IsCardedTo old n after a → ⊥)
+  decided a = elim (cases_Bool (is_old_carded old n a)) [
+    | inl carded ↦ elim (cases_Bool (is_after after a)) [
+      | inl above ↦ inr (λ t. both_ways _ t.1 above)
+      | inr up ↦ inl (carded, up)
+    ]
+    | inr other ↦ inr (λ t. both_ways _ other t.0)
+  ]
+
+  pub carded_has : (a : Addr) → has_object h a ≡ has_object old a
+  carded_has a = rewritten_has (IsCardedTo old n after) place old h r a (decided a)
+
+  carded_same : (a : Addr) → is_old_carded h n a ≡ is_old_carded old n a
+  carded_same a =
+      let there = carded_has a in
+      let generation = rewritten_generation (IsCardedTo old n after) place old h r a (decided a) in
+      let set = cards (card_of a) in
+      λ i. (there i && nat_lt n (generation i)) && set i
+
+  module _ (at : Addr) (found : IsNext (is_old_carded h n) after at) where
+    was_carded : is_old_carded old n at ≡ true
+    was_carded = sym (carded_same at) ∙ found.member
+
+    fresh : IsCardedTo old n after at → ⊥
+    fresh t = both_ways _ t.1 found.beyond
+
+    pub carded_there : has_object h at ≡ true
+    carded_there = (and_parts _ _ (and_parts _ _ found.member).0).0
+
+    pub carded_field : (y : Addr) → IsField (object_at h) at y
+        → (is_old_carded old n at ≡ true) × IsField (object_at old) at y
+    carded_field y field =
+        (was_carded, rewritten_field (IsCardedTo old n after) place old h r at y fresh field)
+
+    pub carded_next : (new : Heap) → IsRewritten h new place at
+        → AreRewritten (IsCardedTo old n (Some at)) place old new
+    carded_next new step =
+        rewritten_more (IsCardedTo old n after) place old h r (IsCardedTo old n (Some at)) new at step
+        (sym (carded_has at) ∙ carded_there) fresh
+        (was_carded, le-ltb at.0 at.0 (omega arith))
+        (λ a t. (t.0, le-ltb at.0 a.0 (before a after t.1 found.beyond)))
+        (λ a t. elim (cases_eq a.0 at.0) [
+          | inl same ↦ inr same
+          | inr apart ↦ inl (
+            t.0,
+            false_from_ne_true (is_after after a) (λ above.
+                let least = found.least a (carded_same a ∙ t.0) above in
+                let up = ltb-false at.0 a.0 t.1 in
+                apart (omega arith)),
+          )
+        ])
+      where
+        before : (a : Addr) (o : Option Addr) → is_after o a ≡ false → is_after o at ≡ true → a.0 ≤ at.0
+        before a None up above = absurd (cc up)
+        before a (Some b) up above =
+            (let low = ltb-false b.0 a.0 up in let high = ltb-true b.0 at.0 above in omega arith)
+
+    pub carded_cards : (new : Heap) → IsRewritten h new place at → SameCards old new
+    carded_cards new step c = elim (cases_eq c (card_of at)) [
+      | inl here ↦
+          let set : is_set h (card_of at) ≡ true = (and_parts _ _ found.member).1 in
+          ap (is_set new) here ∙ step.more (card_of at) set ∙ sym set ∙ ap (is_set h) (sym here) ∙ cards c
+      | inr apart ↦ step.others c apart ∙ cards c
+    ]
+
+    -- the addresses left are fewer
+    pub carded_less : IsSound h → 2 ^ 32 - next_to (Some at) < 2 ^ 32 - next_to after
+    carded_less sound = by after found.beyond
+      where
+        by : (o : Option Addr) → is_after o at ≡ true → 2 ^ 32 - next_to (Some at) < 2 ^ 32 - next_to o
+        by None b = (let low = (address_low h sound at carded_there).1 in omega arith)
+        by (Some a) b = (let low = (address_low h sound at carded_there).1 in let up = ltb-true a.0 at.0 b in
+            omega arith)
+
+-- the kept objects of the first moves, one after another
+module _ (place : Addr → Addr) (old h : Heap) (ms : List Move) (i : ℕ) (low : i < length ms)
+    (r : AreRewritten (IsKeptAt ms i) place old h)
+    (apart : (j k : ℕ) → j < k → k < length ms → is_kept_fate (move_at ms j).fate ≡ true
+    → is_kept_fate (move_at ms k).fate ≡ true → (move_at ms j).to.0 ≢ (move_at ms k).to.0) where
+  pub kept_gone : is_kept_fate (move_at ms i).fate ≡ false → AreRewritten (IsKeptAt ms (i + 1)) place old h
+  kept_gone gone = record {
+    done = λ a e. r.done a (ends_skip is_kept_fate (λ m. m.to) ms a i gone e);
+    others = λ a none. r.others a
+        (λ e. none (ends_more is_kept_fate (λ m. m.to) ms a i (i + 1) (omega arith) e));
+    same = r.same;
+    more = r.more;
+  }
+
+  pub kept_has : (a : Addr) → has_object h a ≡ has_object old a
+  kept_has a = rewritten_has (IsKeptAt ms i) place old h r a (ends_decided is_kept_fate (λ m. m.to) ms a i)
+
+  module _ (kept : is_kept_fate (move_at ms i).fate ≡ true) where
+    pub kept_here : IsKeptAt ms (length ms) (move_at ms i).to
+    kept_here = record { at = i; before = low; goes = kept; is = refl }
+
+    kept_fresh : IsKeptAt ms i (move_at ms i).to → ⊥
+    kept_fresh e = apart e.at i e.before low e.goes kept (ap (λ (x : Addr). x.0) e.is)
+
+    pub kept_field : (y : Addr) → IsField (object_at h) (move_at ms i).to y
+        → IsField (object_at old) (move_at ms i).to y
+    kept_field y field = rewritten_field (IsKeptAt ms i) place old h r (move_at ms i).to y kept_fresh field
+
+    pub kept_next : (new : Heap) → has_object old (move_at ms i).to ≡ true
+        → IsRewritten h new place (move_at ms i).to → AreRewritten (IsKeptAt ms (i + 1)) place old new
+    kept_next new there step =
+        rewritten_more (IsKeptAt ms i) place old h r (IsKeptAt ms (i + 1)) new
+        (move_at ms i).to step there kept_fresh
+        (ends_here is_kept_fate (λ m. m.to) ms (move_at ms i).to i kept refl)
+        (λ a e. ends_more is_kept_fate (λ m. m.to) ms a i (i + 1) (omega arith) e)
+        (λ a e. elim (ends_cases is_kept_fate (λ m. m.to) ms a i e) [
+          | inl was ↦ inl was
+          | inr new_one ↦ inr (ap (λ (x : Addr). x.0) (sym new_one.1))
+        ])

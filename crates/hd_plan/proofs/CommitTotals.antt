@@ -1,0 +1,59 @@
+-- A map whose values map one to one to values of another that are no smaller has no more in all.
+use Rattle.std.proofs.Common.{◌≡◌, ◌≢◌, ℕ, ◌<◌, ◌≤◌, Bool, true, false, ◌&&◌, T, List, [], ◌∷◌, map, Some, None, refl, sym, ap, ◌∙◌, subst, arith}
+use Rattle.std.specs.Prelude.{sum_by}
+use Rattle.std.specs.FinMap.{FinMap, get, remove, find, is_sorted, entries, values, entries_sorted, get-entries}
+use Rattle.std.specs.FinMap.Entries.{below_all}
+use Rattle.std.specs.Ordering.{nat_cmp, is_lt}
+use Rattle.std.proofs.lemmas.Bool.Decides.{nat_tests}
+use Rattle.std.proofs.lemmas.List.Sums.{sum_by-cons}
+use Rattle.std.proofs.lemmas.Option.{none-some}
+use Rattle.hd_model.proofs.Entries.{found_first, found_later}
+use Rattle.hd_model.proofs.ReadAfterWrite.{get_left}
+use Rattle.hd_model.proofs.Sums.{share, sum-remove}
+
+both : (a b : Bool) → T (a && b) → T a × T b
+both true b p = (tt, p)
+both false b p = absurd p
+
+less : (x y : ℕ) → T (is_lt (nat_cmp x y)) → x < y
+less x y h = grind (arith, nat_tests)
+
+-- no later entry has the key of the first one
+first_alone : {A : Type 0} (x : ℕ) (es : List (ℕ × A)) → T (below_all nat_cmp x es) → find nat_cmp x es ≡ None
+first_alone x [] h = refl
+first_alone x (e ∷ es) h =
+    let parts : T (is_lt (nat_cmp x e.0)) × T (below_all nat_cmp x es) = both _ _ h in
+    let above : x < e.0 = less x e.0 parts.0 in
+    found_later x e.0 (Some e.1) (find nat_cmp x es) (λ same. omega arith) ∙ first_alone x es parts.1
+
+module _ {A : Type 0} (f : A → ℕ) (Stands : ℕ → ℕ → Type 0) (once : (q s r : ℕ) → Stands q r → Stands s r
+    → q ≡ s) where
+  total-stands : (es : List (ℕ × A)) (m : FinMap nat_cmp A) → T (is_sorted nat_cmp es)
+      → ((q : ℕ) (v : A) → find nat_cmp q es ≡ Some v → (r : ℕ) × (Stands q r × (f v ≤ share f (get m r))))
+      → sum_by f (map (λ e. e.1) es) ≤ sum_by f (values m)
+  total-stands [] m sorted found = omega arith
+  total-stands (e ∷ es) m sorted found =
+      let parts : T (below_all nat_cmp e.0 es) × T (is_sorted nat_cmp es) = both _ _ sorted in
+      let here = found e.0 e.1 (found_first e.0 e.0 e.1 (find nat_cmp e.0 es) refl) in
+      let rest = total-stands es (remove m here.0) parts.1 (later e es m here.0 here.1.0 parts.0 found) in
+      let first = here.1.1 in
+      omega (arith, sum_by-cons f e.1 (map (λ w. w.1) es), rest, first, sum-remove f m here.0)
+    where
+      later : (e : ℕ × A) (es : List (ℕ × A)) (m : FinMap nat_cmp A) (r : ℕ) → Stands e.0 r
+          → T (below_all nat_cmp e.0 es)
+          → ((q : ℕ) (v : A) → find nat_cmp q (e ∷ es) ≡ Some v
+          → (s : ℕ) × (Stands q s × (f v ≤ share f (get m s))))
+          → (q : ℕ) (v : A) → find nat_cmp q es ≡ Some v
+          → (s : ℕ) × (Stands q s × (f v ≤ share f (get (remove m r) s)))
+      later e es m r stands below found q v is =
+          let other : q ≢ e.0 =
+          λ same. none-some v (sym (ap (λ k. find nat_cmp k es) same ∙ first_alone e.0 es below) ∙ is) in
+          let there = found q v (found_later q e.0 (Some e.1) (find nat_cmp q es) other ∙ is) in
+          let apart : there.0 ≢ r = λ same. other (once q e.0 r (subst (Stands q) same there.1.0) stands) in
+          (there.0, (there.1.0, subst (λ o. f v ≤ share f o) (sym (get_left m r there.0 apart)) there.1.1))
+
+  pub sum-stands : (m k : FinMap nat_cmp A)
+      → ((q : ℕ) (v : A) → get m q ≡ Some v → (r : ℕ) × (Stands q r × (f v ≤ share f (get k r))))
+      → sum_by f (values m) ≤ sum_by f (values k)
+  sum-stands m k found =
+      total-stands (entries m) k (entries_sorted m) (λ q v is. found q v (get-entries m q ∙ is))

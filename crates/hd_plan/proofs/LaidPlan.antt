@@ -1,0 +1,348 @@
+-- All that is condemned has a move, and all regions are listed: the plan is laid.
+use Rattle.std.proofs.Common.{◌≡◌, ℕ, zero, suc, ◌+◌, ◌-◌, ◌^◌, ◌<◌, ◌≤◌, Bool, true, false, not, cond, List, [], ◌∷◌, length, Option, Some, None, refl, sym, ap, ◌∙◌, subst, arith, inl, inr, true≢false}
+use Rattle.std.specs.Prelude.{is_some, option_map, count_by}
+use Rattle.hd_model.specs.declared.data.Addr.{Addr}
+use Rattle.hd_model.specs.Ages.{raised}
+use Rattle.hd_model.specs.Counting.{Counts}
+use Rattle.hd_model.specs.Leads.{IsClosed}
+use Rattle.hd_model.specs.Marking.{IsSettled}
+use Rattle.hd_model.specs.Scene.{generation_at, generation_in, IsCondemned, IsField}
+use Rattle.hd_model.specs.Heap.{Heap, Placed, region_of, region_generation, is_held, has_object, object_at, object_in, objects_of}
+use Rattle.hd_heap.specs.Sound.{IsSound}
+use Rattle.hd_plan.specs.declared.moves.Fate.{Fate}
+use Rattle.hd_plan.specs.declared.moves.Fate.TheVariants.{Dead, Pinned, MovesToNewRegion, Moves}
+use Rattle.hd_plan.specs.declared.moves.Move.{Move}
+use Rattle.hd_plan.specs.declared.moves.Condemned.{Condemned}
+use Rattle.hd_plan.specs.Layout.{move_at, room_at, is_kept_fate, is_moving, is_staying, stays_among, AreMoves, AreRegions}
+use Rattle.hd_plan.specs.Laying.{AreChosen, AreListedTo, HasMove, HasRegionRoom, HasCondemned, IsPlan, first_at}
+use Rattle.hd_plan.specs.Table.{place_among}
+use Rattle.hd_plan.specs.Plan.{PlanOf, kept_in, place_in, stays_in, IsLaid, HasNoEmptyCondemned}
+use Rattle.hd_plan.proofs.CondemnedAddresses.{condemned_is, older_or_young, both_hold, both_true, same_tests}
+use Rattle.hd_plan.proofs.KeptMoves.{is_condemned_at, kept, place, older_kept, older_place, move_kept, move_place, kept_cases, keeping, unmoved}
+use Rattle.hd_plan.proofs.MoveWeights.{counts_moves, stays_counted}
+use Rattle.hd_plan.proofs.ForwardTable.{place_none, place_some}
+use Rattle.hd_model.proofs.PropertyCounts.{counts_like}
+use Rattle.hd_plan.proofs.LayStep.{address_low}
+use Rattle.std.proofs.lemmas.List.Sums.{sum_by-cons}
+use Rattle.std.proofs.lemmas.Bool.{cases_eq}
+
+generation_there : (g : ℕ) (o : Option Placed) → is_some (option_map (object_in g) o) ≡ true
+    → generation_in (option_map (object_in g) o) ≡ g
+generation_there g None e = absurd (true≢false (sym e))
+generation_there g (Some p) e = refl
+
+-- the generation of an object is that of its region
+pub generation_is : (h : Heap) (a : Addr) → has_object h a ≡ true
+    → generation_at (object_at h) a ≡ region_generation h (region_of a)
+generation_is h a is = generation_there (region_generation h (region_of a)) _ is
+
+not_true : (a : Bool) → not a ≡ true → a ≡ false
+not_true true e = absurd (true≢false (sym e))
+not_true false e = refl
+
+one_of : (b : Bool) → cond {A = ℕ} b 1 0 + cond {A = ℕ} (not b) 1 0 ≡ 1
+one_of true = refl
+one_of false = refl
+
+-- all pass a test or its opposite
+passing_or_not : {A : Type 0} (p : A → Bool) (xs : List A)
+    → count_by p xs + count_by (λ x. not (p x)) xs ≡ length xs
+passing_or_not p [] = refl
+passing_or_not p (x ∷ xs) =
+    omega (
+      arith,
+      sum_by-cons (λ y. cond (p y) 1 0) x xs,
+      sum_by-cons (λ y. cond (not (p y)) 1 0) x xs,
+      passing_or_not p xs,
+      one_of (p x),
+    )
+
+staying_is : (w : Fate) → is_staying w ≡ true → is_moving w ≡ false
+staying_is Dead e = absurd (true≢false (sym e))
+staying_is Pinned e = refl
+staying_is MovesToNewRegion e = absurd (true≢false (sym e))
+staying_is Moves e = absurd (true≢false (sym e))
+
+module _ (h : Heap) (n : ℕ) (sound : IsSound h) (ms : List Move) (moves : AreMoves h n ms) where
+  pub are_regions : (cs : List Condemned) → HasNoEmptyCondemned h n → AreListedTo ms cs (length ms)
+      → AreRegions h n ms cs
+  are_regions cs full listed = record {
+    condemned = λ k low.
+        let (j, is) = listed.named k low in
+        let at = is_condemned_at h n sound ms moves j is.0 in
+        record {
+          held = subst (λ (r : ℕ). is_held h r ≡ true) is.1.0 (sound.held (move_at ms j).from at.object);
+          young = (let y = at.young in
+              omega (arith, generation_is h (move_at ms j).from at.object, ap (region_generation h) is.1.0));
+        };
+    rising = listed.rising;
+    all = λ r is.
+        let start = full r is in
+        let young = is.young in
+        let condemned : IsCondemned (object_at h) n start.at = record {
+          object = start.object;
+          young = omega (arith, generation_is h start.at start.object, ap (region_generation h) start.region);
+        } in
+        let (j, at) = moves.all start.at (condemned_is h n start.at condemned) in
+        let (k, found) = listed.all j at.0 in
+        (k, (found.0, found.1 ∙ ap region_of at.1 ∙ start.region));
+    generations = λ k low.
+        let (j, is) = listed.named k low in
+        let at = is_condemned_at h n sound ms moves j is.0 in
+        is.1.1 ∙ moves.generations j is.0
+        ∙ ap (raised n) (generation_is h (move_at ms j).from at.object ∙ ap (region_generation h) is.1.0);
+    pinned = λ k low. (
+      listed.pinned k low,
+      λ stay. listed.stays stay.at k stay.within low stay.stays (sym stay.region),
+    );
+  }
+
+  module _ (promoted pinned : Addr → Bool) (chosen : AreChosen promoted pinned ms)
+      (settled : IsSettled (object_at h) n promoted) where
+    kept_promoted : (a : Addr) → kept h n sound ms moves a ≡ true → promoted a ≡ true
+    kept_promoted a e = elim (kept_cases h n sound ms moves a e) [
+      | inl older ↦ settled.older a older
+      | inr (k, by) ↦ subst (λ (x : Addr). promoted x ≡ true) by.from
+          (sym (chosen.kept k by.within) ∙ by.kept)
+    ]
+
+    promoted_kept : (a : Addr) → promoted a ≡ true → kept h n sound ms moves a ≡ true
+    promoted_kept a e = elim (older_or_young h n a (settled.objects a e)) [
+      | inl older ↦ older_kept h n sound ms moves a older
+      | inr young ↦
+          let (k, at) = moves.all a young in
+          subst (λ (x : Addr). kept h n sound ms moves x ≡ true) at.1
+          (move_kept h n sound ms moves k at.0 ∙ chosen.kept k at.0 ∙ ap promoted at.1 ∙ e)
+    ]
+
+    pub kept_is : (a : Addr) → kept h n sound ms moves a ≡ promoted a
+    kept_is a = same_tests (kept h n sound ms moves a) (promoted a) (kept_promoted a) (promoted_kept a)
+
+    pub pinned_stays : (a : Addr) → promoted a ≡ true → pinned a ≡ true → place h n sound ms moves a ≡ a
+    pinned_stays a e p = elim (older_or_young h n a (settled.objects a e)) [
+      | inl older ↦ older_place h n sound ms moves a older
+      | inr young ↦
+          let (k, at) = moves.all a young in
+          let stays : is_staying (move_at ms k).fate ≡ true =
+          chosen.stays k at.0 ∙ both_hold _ _ (ap promoted at.1 ∙ e) (ap pinned at.1 ∙ p) in
+          subst (λ (x : Addr). place h n sound ms moves x ≡ x) at.1
+          (move_place h n sound ms moves k at.0
+          ∙ unmoved _ (room_at h ms k) _ _ _ _ (staying_is _ stays) (moves.fits k at.0))
+    ]
+
+    pub closed_kept : IsClosed (IsField (object_at h)) promoted
+        → IsClosed (IsField (object_at h)) (kept h n sound ms moves)
+    closed_kept closed a y is field = kept_is y ∙ closed a y (sym (kept_is a) ∙ is) field
+
+    pub stays_are : Counts (λ a. IsCondemned (object_at h) n a × (promoted a ≡ true) × (pinned a ≡ true))
+        (stays_among ms)
+    stays_are =
+        subst (λ (c : ℕ). Counts
+        (λ a. IsCondemned (object_at h) n a × (promoted a ≡ true) × (pinned a ≡ true)) c)
+        (sym (stays_counted ms))
+        (counts_moves ms moves.rising (λ m. is_staying m.fate)
+        (λ a. IsCondemned (object_at h) n a × (promoted a ≡ true) × (pinned a ≡ true))
+        (λ k low stays. let (p, q) =
+        both_true (promoted (move_at ms k).from) (pinned (move_at ms k).from)
+        (sym (chosen.stays k low) ∙ stays) in
+        (is_condemned_at h n sound ms moves k low, p, q))
+        (λ a is.
+        let (k, at) = moves.all a (condemned_is h n a is.0) in (
+          k,
+          (
+            at.0,
+            (
+              at.1,
+              chosen.stays k at.0
+                  ∙ both_hold _ _ (ap promoted at.1 ∙ is.1) (ap pinned at.1 ∙ is.2),
+            ),
+          ),
+        )))
+
+-- a plan of these parts is laid
+pub laid_plan : (p : PlanOf) → IsSound p.basis.heap → p.basis.condemned ≤ 2
+    → AreMoves p.basis.heap p.basis.condemned p.moves → (promoted pinned : Addr → Bool)
+    → AreChosen promoted pinned p.moves
+    → IsSettled (objects_of p.basis) p.basis.condemned promoted
+    → IsClosed (IsField (objects_of p.basis)) promoted → HasNoEmptyCondemned p.basis.heap p.basis.condemned
+    → AreListedTo p.moves p.regions (length p.moves) → IsLaid p
+laid_plan p sound generation moves promoted pinned chosen settled closed full listed = record {
+  sound = sound;
+  generation = generation;
+  moves = moves;
+  regions = are_regions p.basis.heap p.basis.condemned sound p.moves moves p.regions full listed;
+  keeping = keeping p.basis.heap p.basis.condemned sound p.moves moves;
+  closed = closed_kept p.basis.heap p.basis.condemned sound p.moves moves promoted pinned chosen settled
+      closed;
+}
+
+-- regions with condemned objects are those that have moves
+pub region_room : (h : Heap) (n room cells : ℕ) → IsSound h → (ms : List Move) → AreMoves h n ms
+    → HasRegionRoom (HasCondemned (object_at h) n) room cells → HasRegionRoom (HasMove ms) room cells
+region_room h n room cells sound ms moves is = record {
+  count = is.count;
+  count_is = counts_like (HasCondemned (object_at h) n) (HasMove ms) is.count
+      (λ r p. let (k, at) = moves.all p.0 (condemned_is h n p.0 p.1.0) in
+      (k, (at.0, ap region_of at.1 ∙ p.1.1)))
+      (λ r p. ((move_at ms p.0).from, (is_condemned_at h n sound ms moves p.0 p.1.0, p.1.1))) is.count_is;
+  small = is.small;
+  enough = is.enough;
+  table = is.table;
+}
+
+-- the new address of a kept object is found in the table
+pub place_found : (p : PlanOf) (room_ms room_cs : ℕ) (firsts : List ℕ) (cells : List Addr) → IsLaid p
+    → IsPlan p.basis p.moves p.regions room_ms room_cs firsts cells
+    → (a : Addr) → kept_in p a ≡ true → place_among firsts cells a ≡ place_in p a
+place_found p room_ms room_cs firsts cells laid is a kept_is =
+    let h : Heap = p.basis.heap in
+    let n : ℕ = p.basis.condemned in
+    elim (kept_cases h n laid.sound p.moves laid.moves a kept_is) [
+      | inl older ↦
+          place_none firsts cells a (elim (cases_eq (first_at firsts (region_of a)) 0) [
+            | inl none ↦ none
+            | inr some ↦
+                let (k, at) = is.places.others (region_of a) some in
+                let young = (laid.regions.condemned k at.0).young in
+                absurd (omega (
+                  arith,
+                  generation_is h a (laid.keeping.objects a kept_is),
+                  ap (region_generation h) at.1,
+                ))
+          ])
+          ∙ sym (older_place h n laid.sound p.moves laid.moves a older)
+      | inr (j, by) ↦
+          subst (λ (x : Addr). place_among firsts cells x ≡ place_in p x) by.from (
+          let condemned = is_condemned_at h n laid.sound p.moves laid.moves j by.within in
+          let from : Addr = (move_at p.moves j).from in
+          let (k, at) = laid.regions.all (region_of from) (record {
+            held = laid.sound.held from condemned.object;
+            young = let y = condemned.young in omega (arith, generation_is h from condemned.object);
+          }) in
+          let first : first_at firsts (region_of from) ≡ suc k =
+          ap (first_at firsts) (sym at.1) ∙ is.places.listed k at.0 ∙ omega arith in
+          place_some firsts cells from k first
+          ∙ is.places.places j k by.within at.0 at.1
+          ∙ sym (move_place h n laid.sound p.moves laid.moves j by.within))
+    ]
+
+-- the moves are fewer than there are addresses
+rising_far : (h : Heap) (n : ℕ) → IsSound h → (ms : List Move) → AreMoves h n ms → (k : ℕ) → k < length ms
+    → k + 256 ≤ (move_at ms k).from.0
+rising_far h n sound ms moves zero low =
+    (address_low h sound (move_at ms 0).from (is_condemned_at h n sound ms moves 0 low).object).0
+rising_far h n sound ms moves (suc k) low =
+    let before = rising_far h n sound ms moves k (omega arith) in
+    let up = moves.rising k (suc k) (omega arith) low in omega arith
+
+pub few_moves : (h : Heap) (n : ℕ) → IsSound h → (ms : List Move) → AreMoves h n ms → length ms < 2 ^ 32
+few_moves h n sound ms moves = elim (cases_eq (length ms) 0) [
+  | inl none ↦ omega arith
+  | inr some ↦
+      let last : length ms - 1 < length ms = omega arith in
+      let far = rising_far h n sound ms moves (length ms - 1) last in
+      let low = (address_low h sound (move_at ms (length ms - 1)).from
+      (is_condemned_at h n sound ms moves (length ms - 1) last).object).1 in
+      omega arith
+]
+
+module _ (h : Heap) (n : ℕ) (sound : IsSound h) (ms : List Move) (moves : AreMoves h n ms) where
+  -- the moves that keep are those of what is kept
+  pub kept_counted : Counts (λ a. IsCondemned (object_at h) n a × (kept h n sound ms moves a ≡ true))
+      (count_by (λ m. is_kept_fate m.fate) ms)
+  kept_counted =
+      counts_moves ms moves.rising (λ m. is_kept_fate m.fate)
+      (λ a. IsCondemned (object_at h) n a × (kept h n sound ms moves a ≡ true))
+      (λ k low is. (is_condemned_at h n sound ms moves k low, move_kept h n sound ms moves k low ∙ is))
+      (λ a is.
+      let (k, at) = moves.all a (condemned_is h n a is.0) in (
+        k,
+        (
+          at.0,
+          (
+            at.1,
+            sym (move_kept h n sound ms moves k at.0) ∙ ap (kept h n sound ms moves) at.1
+                ∙ is.1,
+          ),
+        ),
+      ))
+
+  -- and all others are of what dies
+  gone_counted : Counts (λ a. (has_object h a ≡ true) × (kept h n sound ms moves a ≡ false))
+      (count_by (λ m. not (is_kept_fate m.fate)) ms)
+  gone_counted =
+      counts_moves ms moves.rising (λ m. not (is_kept_fate m.fate))
+      (λ a. (has_object h a ≡ true) × (kept h n sound ms moves a ≡ false))
+      (λ k low is. (
+        (is_condemned_at h n sound ms moves k low).object,
+        move_kept h n sound ms moves k low
+            ∙ not_true (is_kept_fate (move_at ms k).fate) is,
+      ))
+      (λ a is. elim (older_or_young h n a is.0) [
+        | inl older ↦ absurd (true≢false (sym (older_kept h n sound ms moves a older) ∙ is.1))
+        | inr young ↦
+            let (k, at) = moves.all a young in (
+              k,
+              (
+                at.0,
+                (
+                  at.1,
+                  ap not
+                      (sym (move_kept h n sound ms moves k at.0) ∙ ap (kept h n sound ms moves) at.1 ∙ is.1),
+                ),
+              ),
+            )
+      ])
+
+  pub removed_counted : (kept_ones removed : ℕ) → kept_ones ≡ count_by (λ m. is_kept_fate m.fate) ms
+      → removed ≡ length ms - kept_ones
+      → Counts (λ a. (has_object h a ≡ true) × (kept h n sound ms moves a ≡ false)) removed
+  removed_counted kept_ones removed e f =
+      subst (λ (c : ℕ). Counts (λ a. (has_object h a ≡ true) × (kept h n sound ms moves a ≡ false)) c)
+      (sym (f ∙ omega (arith, e, passing_or_not (λ (m : Move). is_kept_fate m.fate) ms))) gone_counted
+
+-- what a laid plan was laid from
+pub record IsLaidFrom (p : PlanOf) (promoted pinned : Addr → Bool) : Type 0 where
+  pub sound : IsSound p.basis.heap
+  pub generation : p.basis.condemned ≤ 2
+  pub moves : AreMoves p.basis.heap p.basis.condemned p.moves
+  pub chosen : AreChosen promoted pinned p.moves
+  pub settled : IsSettled (objects_of p.basis) p.basis.condemned promoted
+  pub closed : IsClosed (IsField (objects_of p.basis)) promoted
+  pub full : HasNoEmptyCondemned p.basis.heap p.basis.condemned
+  pub listed : AreListedTo p.moves p.regions (length p.moves)
+
+pub from_heap : (p : PlanOf) (promoted pinned : Addr → Bool) (h : Heap) → p.basis.heap ≡ h → IsSound h
+    → p.basis.condemned ≤ 2 → AreMoves h p.basis.condemned p.moves → AreChosen promoted pinned p.moves
+    → IsSettled (objects_of p.basis) p.basis.condemned promoted
+    → IsClosed (IsField (objects_of p.basis)) promoted → HasNoEmptyCondemned h p.basis.condemned
+    → AreListedTo p.moves p.regions (length p.moves) → IsLaidFrom p promoted pinned
+from_heap p promoted pinned h same sound generation moves chosen settled closed full listed = record {
+  sound = subst IsSound (sym same) sound;
+  generation = generation;
+  moves = subst (λ (x : Heap). AreMoves x p.basis.condemned p.moves) (sym same) moves;
+  chosen = chosen;
+  settled = settled;
+  closed = closed;
+  full = subst (λ (x : Heap). HasNoEmptyCondemned x p.basis.condemned) (sym same) full;
+  listed = listed;
+}
+
+module _ (p : PlanOf) (promoted pinned : Addr → Bool) (from : IsLaidFrom p promoted pinned) where
+  pub laid_from : IsLaid p
+  laid_from = laid_plan p from.sound from.generation from.moves promoted pinned from.chosen from.settled
+      from.closed from.full from.listed
+
+  pub kept_from : (a : Addr) → kept_in p a ≡ promoted a
+  kept_from = kept_is p.basis.heap p.basis.condemned from.sound p.moves from.moves promoted pinned from.chosen
+      from.settled
+
+  pub pinned_from : (a : Addr) → promoted a ≡ true → pinned a ≡ true → place_in p a ≡ a
+  pinned_from = pinned_stays p.basis.heap p.basis.condemned from.sound p.moves from.moves promoted pinned
+      from.chosen from.settled
+
+  pub stays_from : Counts
+      (λ a. IsCondemned (objects_of p.basis) p.basis.condemned a × (promoted a ≡ true) × (pinned a ≡ true))
+      (stays_in p)
+  stays_from = stays_are p.basis.heap p.basis.condemned from.sound p.moves from.moves promoted pinned
+      from.chosen from.settled

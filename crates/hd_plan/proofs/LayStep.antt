@@ -1,0 +1,258 @@
+-- One object more is laid, and at the end all are.
+use Rattle.std.proofs.Common.{◌≡◌, ℕ, zero, suc, ◌+◌, ◌^◌, ◌<◌, ◌≤◌, Bool, true, false, ◌&&◌, List, [], ◌∷◌, ◌++◌, length, Option, Some, None, refl, sym, ap, ◌∙◌, subst, arith, inl, inr, ◌⊎◌, true≢false, length-append}
+use Rattle.std.proofs.lemmas.Bool.{le-ltb, ltb-true, ltb-false, cases_eq, cases_Bool}
+use Rattle.std.proofs.lemmas.List.{get_or_append_left, get_or_at}
+use Rattle.std.proofs.lemmas.List.Sums.{sum_by_push}
+use Rattle.hd_model.specs.declared.data.Addr.{Addr}
+use Rattle.hd_model.specs.Scene.{generation_at, IsCondemned}
+use Rattle.hd_model.specs.Heap.{Heap, has_object, object_at, region_of, placed_at, cells_of}
+use Rattle.hd_model.specs.Ages.{raised}
+use Rattle.hd_heap.specs.Calls.{is_condemned, is_after, IsNext}
+use Rattle.hd_heap.specs.Sound.{IsSound}
+use Rattle.hd_plan.specs.declared.moves.Move.{Move}
+use Rattle.hd_plan.specs.declared.cursors.AllocCursors.{AllocCursors}
+use Rattle.hd_plan.specs.Layout.{Room, room_at, room_of, put_move, FitsMove, move_at, is_kept_fate, is_staying}
+use Rattle.hd_plan.specs.Plan.{HasSpare}
+use Rattle.hd_plan.specs.Laying.{AreMovesTo, AreChosen, AreCursors, HasSlack, IsMoveOf, CanPut, HasMoveRoom, cells_laid}
+use Rattle.hd_plan.proofs.CondemnedAddresses.{condemned_of, addr_is}
+use Rattle.hd_plan.proofs.KeptMoves.{raised_some, cells_some}
+use Rattle.hd_plan.proofs.RoomSteps.{region_low, region_high}
+use Rattle.hd_plan.proofs.CursorRoom.{sits, Sits, slack_on, can_put, cursors_start}
+use Rattle.hd_plan.proofs.MoveWeights.{moves_fit, cells_fit}
+
+-- what is read among moves with one more
+pub push_before : (ms : List Move) (m : Move) (k : ℕ) → k < length ms
+    → move_at (ms ++ m ∷ []) k ≡ move_at ms k
+push_before ms m k low = get_or_append_left ms (m ∷ []) _ k low
+
+pub push_last : (ms : List Move) (m : Move) (k : ℕ) → k ≡ length ms → move_at (ms ++ m ∷ []) k ≡ m
+push_last ms m k e = get_or_at ms m [] _ k (sym e)
+
+pub push_length : (ms : List Move) (m : Move) → length (ms ++ m ∷ []) ≡ suc (length ms)
+push_length ms m = length-append ms (m ∷ []) ∙ omega arith
+
+-- the room does not look at later moves
+pub push_room : (h : Heap) (ms : List Move) (m : Move) (k : ℕ) → k ≤ length ms
+    → room_at h (ms ++ m ∷ []) k ≡ room_at h ms k
+unfolding room_at
+push_room h ms m zero le = refl
+push_room h ms m (suc k) le =
+    λ i. put_move h (push_room h ms m k (omega arith) i) (push_before ms m k (omega arith) i)
+
+pub room_suc : (h : Heap) (ms : List Move) (k : ℕ)
+    → room_at h ms (suc k) ≡ put_move h (room_at h ms k) (move_at ms k)
+unfolding room_at
+room_suc h ms k = refl
+
+pub room_none : (h : Heap) → room_at h [] 0 ≡ room_of h
+unfolding room_at
+room_none h = refl
+
+-- the room after one move more
+pub room_pushed : (h : Heap) (ms : List Move) (m : Move)
+    → room_at h (ms ++ m ∷ []) (length (ms ++ m ∷ [])) ≡ put_move h (room_at h ms (length ms)) m
+room_pushed h ms m =
+    ap (room_at h (ms ++ m ∷ [])) (push_length ms m)
+    ∙ room_suc h (ms ++ m ∷ []) (length ms)
+    ∙ (λ i. put_move h (push_room h ms m (length ms) (omega arith) i) (push_last ms m (length ms) refl i))
+
+-- what holds of each move and of one more
+pub pushed : (P : ℕ → Move → Type 0) (ms : List Move) (m : Move)
+    → ((k : ℕ) → k < length ms → P k (move_at ms k)) → P (length ms) m
+    → (k : ℕ) → k < length (ms ++ m ∷ []) → P k (move_at (ms ++ m ∷ []) k)
+pushed P ms m each last k low = elim (cases_eq k (length ms)) [
+  | inl same ↦ subst (λ (x : Move). P k x) (sym (push_last ms m k same))
+      (subst (λ (x : ℕ). P x m) (sym same) last)
+  | inr other ↦
+      let inside : k < length ms = (let e = push_length ms m in omega arith) in
+      subst (λ (x : Move). P k x) (sym (push_before ms m k inside)) (each k inside)
+]
+
+-- an address after another, and one that was reached
+pub after_past : (after : Option Addr) (at : Addr) → is_after after at ≡ true → (a : Addr)
+    → is_after after a ≡ false → a.0 < at.0
+after_past None at e a reached = absurd (true≢false reached)
+after_past (Some b) at e a reached = let l = ltb-true b.0 at.0 e in let r = ltb-false b.0 a.0 reached in
+    omega arith
+
+reached_upto : (at a : Addr) → a.0 ≤ at.0 → is_after (Some at) a ≡ false
+reached_upto at a le = le-ltb at.0 a.0 le
+
+-- what was reached up to the next is the next itself, or was reached before
+pub reached_cases : (p : Addr → Bool) (after : Option Addr) (at x : Addr) → IsNext p after at → p x ≡ true
+    → is_after (Some at) x ≡ false → (is_after after x ≡ false) ⊎ (x ≡ at)
+reached_cases p after at x next is reached = elim (cases_Bool (is_after after x)) [
+  | inl later ↦
+      inr (addr_is x at (let low = next.least x is later in let up = ltb-false at.0 x.0 reached in
+      omega arith))
+  | inr before ↦ inl before
+]
+
+module _ (h : Heap) (n : ℕ) where
+  pub to_start : AreMovesTo h n [] None
+  to_start = record {
+    condemned = λ k low. absurd (omega arith);
+    reached = λ k low. absurd (omega arith);
+    rising = λ j k less low. absurd (omega arith);
+    all = λ a is e. absurd (true≢false e);
+    generations = λ k low. absurd (omega arith);
+    fits = λ k low. absurd (omega arith);
+  }
+
+  -- the next object has a move too
+  pub to_next : (ms : List Move) (after : Option Addr) (at : Addr) (m : Move) → AreMovesTo h n ms after
+      → IsNext (is_condemned h n) after at
+      → m.from ≡ at → m.generation ≡ raised n (generation_at (object_at h) at)
+      → FitsMove h (room_at h ms (length ms)) m → AreMovesTo h n (ms ++ m ∷ []) (Some at)
+  to_next ms after at m to next from generation fits = record {
+    condemned = pushed (λ k x. is_condemned h n x.from ≡ true) ms m to.condemned
+        (ap (is_condemned h n) from ∙ next.member);
+    reached = pushed (λ k x. is_after (Some at) x.from ≡ false) ms m
+        (λ k low. reached_upto at (move_at ms k).from
+        (let l = after_past after at next.beyond (move_at ms k).from (to.reached k low) in omega arith))
+        (reached_upto at m.from (let e = ap {B = ℕ} (λ x. x.0) from in omega arith));
+    rising = λ j k less low. pushed (λ x y. j < x → (move_at (ms ++ m ∷ []) j).from.0 < y.from.0) ms m
+        (λ k low less. subst (λ (y : Move). y.from.0 < (move_at ms k).from.0)
+        (sym (push_before ms m j (omega arith))) (to.rising j k less low))
+        (λ less. subst (λ (y : Move). y.from.0 < m.from.0) (sym (push_before ms m j less))
+        (let l = after_past after at next.beyond (move_at ms j).from (to.reached j less) in
+        let e = ap {B = ℕ} (λ x. x.0) from in omega arith))
+        k low less;
+    all = λ a is reached. elim (cases_Bool (is_after after a)) [
+      | inl later ↦ (
+        length ms,
+        (
+          let e = push_length ms m in omega arith,
+          ap (λ x. x.from) (push_last ms m (length ms) refl) ∙ from
+              ∙ addr_is at a (let l = next.least a is later in let r = ltb-false at.0 a.0 reached in
+              omega arith),
+        ),
+      )
+      | inr before ↦ let (k, rest) = to.all a is before in (
+        k,
+        (
+          let e = push_length ms m in let l = rest.0 in
+              omega arith,
+          ap (λ x. x.from) (push_before ms m k rest.0) ∙ rest.1,
+        ),
+      )
+    ];
+    generations = pushed (λ k x. x.generation ≡ raised n (generation_at (object_at h) x.from)) ms m
+        to.generations
+        (generation ∙ ap (λ a. raised n (generation_at (object_at h) a)) (sym from));
+    fits = pushed (λ k x. FitsMove h (room_at h (ms ++ m ∷ []) k) x) ms m
+        (λ k low. subst (λ (q : Room). FitsMove h q (move_at ms k)) (sym (push_room h ms m k (omega arith)))
+        (to.fits k low))
+        (subst (λ (q : Room). FitsMove h q m) (sym (push_room h ms m (length ms) (omega arith))) fits);
+  }
+  -- where none is left, all that is condemned has a move
+
+-- the choices
+pub chosen_start : (promoted pinned : Addr → Bool) → AreChosen promoted pinned []
+chosen_start promoted pinned =
+    record { kept = λ k low. absurd (omega arith); stays = λ k low. absurd (omega arith) }
+
+pub chosen_next : (promoted pinned : Addr → Bool) (ms : List Move) (m : Move) → AreChosen promoted pinned ms
+    → is_kept_fate m.fate ≡ promoted m.from → is_staying m.fate ≡ (promoted m.from && pinned m.from)
+    → AreChosen promoted pinned (ms ++ m ∷ [])
+chosen_next promoted pinned ms m chosen kept stays = record {
+  kept = pushed (λ k x. is_kept_fate x.fate ≡ promoted x.from) ms m chosen.kept kept;
+  stays = pushed (λ k x. is_staying x.fate ≡ (promoted x.from && pinned x.from)) ms m chosen.stays stays;
+}
+
+-- what holds between two objects while a heap is laid
+pub record IsLaying (h : Heap) (n : ℕ) (promoted pinned : Addr → Bool) (ms : List Move)
+    (cursors : AllocCursors) (after : Option Addr) : Type 0 where
+  pub to : AreMovesTo h n ms after
+  pub chosen : AreChosen promoted pinned ms
+  pub cursors_are : AreCursors h (room_at h ms (length ms)) cursors
+  pub slack : HasSlack cursors (cells_laid h ms)
+
+pub laying_start : (h : Heap) (n : ℕ) (promoted pinned : Addr → Bool)
+    → IsLaying h n promoted pinned []
+    (record { first = record { region = 0; fill = 0 }; second = record { region = 0; fill = 0 }; opened = 0 })
+    None
+laying_start h n promoted pinned = record {
+  to = to_start h n;
+  chosen = chosen_start promoted pinned;
+  cursors_are = subst (λ (q : Room). AreCursors h q
+      (record {
+        first = record { region = 0; fill = 0 };
+        second = record { region = 0; fill = 0 };
+        opened =
+            0;
+      }))
+      (sym (room_none h)) (cursors_start h);
+  slack = omega arith;
+}
+
+-- how far a walk is: the first address that it has not passed
+abbrev pub reach_of : Option Addr → ℕ
+reach_of None = 0
+reach_of (Some a) = a.0 + 1
+
+pub reach_on : (after : Option Addr) (at : Addr) → is_after after at ≡ true → reach_of after ≤ at.0
+reach_on None at e = omega arith
+reach_on (Some b) at e = let l = ltb-true b.0 at.0 e in omega arith
+
+-- addresses of objects have 32 bits
+pub address_low : (h : Heap) → IsSound h → (a : Addr) → has_object h a ≡ true → (256 ≤ a.0) × (a.0 < 2 ^ 32)
+address_low h sound a is =
+    let number = sound.numbers (region_of a) (sound.held a is) in
+    (let some = number.0 in omega (arith, region_low a), let low = number.1 in omega (arith, region_high a))
+
+module _ (h : Heap) (n : ℕ) (sound : IsSound h) (promoted pinned : Addr → Bool) where
+  laid_condemned : (ms : List Move) (after : Option Addr) → AreMovesTo h n ms after → (k : ℕ) → k < length ms
+      → IsCondemned (object_at h) n (move_at ms k).from
+  laid_condemned ms after to k low = condemned_of h n (move_at ms k).from (to.condemned k low)
+
+  pub may_put : (ms : List Move) (cursors : AllocCursors) (after : Option Addr)
+      → IsLaying h n promoted pinned ms cursors after → HasSpare h n → CanPut h cursors
+  may_put ms cursors after laying spare =
+      can_put h sound (room_at h ms (length ms)) cursors laying.cursors_are (cells_laid h ms) spare.cells
+      laying.slack
+      (cells_fit ms laying.to.rising h n (laid_condemned ms after laying.to) spare.cells spare.cells_are)
+      spare.small spare.enough
+
+  laying_from : (ms : List Move) (old new : AllocCursors) (after : Option Addr) (m : Move)
+      → IsLaying h n promoted pinned ms old after → HasSpare h n → IsNext (is_condemned h n) after m.from
+      → IsMoveOf h n (promoted m.from) (pinned m.from) old new m.from m
+      → IsLaying h n promoted pinned (ms ++ m ∷ []) new (Some m.from)
+  laying_from ms old new after m laying spare next is =
+      let q : Room = room_at h ms (length ms) in
+      let cells : ℕ = cells_of (placed_at h m.from) in
+      let condemned : IsCondemned (object_at h) n m.from = condemned_of h n m.from next.member in
+      let young : (0 < m.generation) × (m.generation ≤ 2) =
+      subst (λ (x : ℕ). (0 < x) × (x ≤ 2)) (sym is.generation) (raised_some h n sound m.from condemned) in
+      let can : CanPut h old = may_put ms old after laying spare in
+      let small : (0 < cells) × (cells ≤ 64) = cells_some h n sound m.from condemned.object in
+      let sit : Sits h sound m.fate q new m.from m.to m.generation cells =
+      sits h sound m.fate q old new laying.cursors_are m.from m.to m.generation cells young small can.spare
+      is.by_cursor in
+      record {
+        to = to_next h n ms after m.from m laying.to next refl is.generation sit.fits;
+        chosen = chosen_next promoted pinned ms m laying.chosen is.kept is.stays;
+        cursors_are = subst (λ (r : Room). AreCursors h r new) (sym (room_pushed h ms m)) sit.cursors;
+        slack = subst (λ (x : ℕ). HasSlack new x)
+            (sym (sum_by_push (λ (x : Move). cells_of (placed_at h x.from)) ms m))
+            (slack_on h sound m.fate q old new laying.cursors_are m.from m.to m.generation cells
+            (cells_laid h ms) young small can.spare is.by_cursor laying.slack);
+      }
+
+  pub laying_next : (ms : List Move) (old new : AllocCursors) (after : Option Addr) (at : Addr) (m : Move)
+      → IsLaying h n promoted pinned ms old after → HasSpare h n → IsNext (is_condemned h n) after at
+      → IsMoveOf h n (promoted at) (pinned at) old new at m
+      → IsLaying h n promoted pinned (ms ++ m ∷ []) new (Some at)
+  laying_next ms old new after at m laying spare next is =
+      subst (λ (x : Addr). IsNext (is_condemned h n) after x
+      → IsMoveOf h n (promoted x) (pinned x) old new x m
+      → IsLaying h n promoted pinned (ms ++ m ∷ []) new (Some x)) is.from
+      (laying_from ms old new after m laying spare) next is
+
+  -- there is room for one move more
+  pub one_more : (ms : List Move) (cursors : AllocCursors) (after : Option Addr) (room : ℕ)
+      → IsLaying h n promoted pinned ms cursors after → HasMoveRoom (object_at h) n room → length ms ≤ room
+  one_more ms cursors after room laying is =
+      let fit : length ms ≤ is.count =
+      moves_fit ms laying.to.rising h n (laid_condemned ms after laying.to) is.count is.count_is in
+      let e = is.enough in omega arith

@@ -1,0 +1,122 @@
+-- How many moves there are, and the words of their objects, against all that is condemned.
+use Rattle.std.proofs.Common.{◌≡◌, ◌≢◌, ℕ, ◌+◌, ◌<◌, ◌≤◌, Bool, true, cond, List, [], ◌∷◌, map, length, get_or, refl, sym, ap, ◌∙◌, subst, arith, inl, inr}
+use Rattle.std.specs.Prelude.{sum_by, count_by, filter, Contains, AllPairs}
+use Rattle.std.proofs.lemmas.Bool.{cases_order}
+use Rattle.std.proofs.lemmas.List.{get_or-map, length-map, get_or_default}
+use Rattle.std.proofs.lemmas.List.Sums.{sum_by-cons, length-filter}
+use Rattle.hd_model.specs.declared.data.Addr.{Addr}
+use Rattle.hd_model.specs.Counting.{Counts}
+use Rattle.hd_model.specs.Scene.{IsCondemned}
+use Rattle.hd_model.specs.Heap.{Heap, object_at, placed_at, cells_of}
+use Rattle.hd_model.proofs.Members.{mapped_from, passing_from, passing_in, pairs_passing}
+use Rattle.hd_model.proofs.PropertyCounts.{counts_le, counts_named}
+use Rattle.hd_model.proofs.MemberWeights.{lighter}
+use Rattle.hd_plan.specs.declared.moves.Move.{Move}
+use Rattle.hd_plan.specs.Layout.{move_at, is_staying, stays_among, IsRising}
+use Rattle.hd_plan.specs.Plan.{Takes}
+use Rattle.hd_plan.specs.Laying.{cells_laid}
+
+sum_map : {A B : Type 0} (f : A → B) (w : B → ℕ) (xs : List A)
+    → sum_by w (map f xs) ≡ sum_by (λ x. w (f x)) xs
+sum_map f w [] = refl
+sum_map f w (x ∷ xs) = sum_by-cons w (f x) (map f xs) ∙ ap (λ s. w (f x) + s) (sum_map f w xs)
+    ∙ sym (sum_by-cons (λ y. w (f y)) x xs)
+
+pub stays_counted : (ms : List Move) → stays_among ms ≡ count_by (λ m. is_staying m.fate) ms
+unfolding stays_among
+stays_counted [] = refl
+stays_counted (m ∷ ms) = ap (λ s. cond (is_staying m.fate) 1 0 + s) (stays_counted ms)
+    ∙ sym (sum_by-cons (λ y. cond (is_staying y.fate) 1 0) m ms)
+
+module _ (ms : List Move) (rising : IsRising ms) where
+  -- no two moves are of one object
+  froms_apart : (i j : ℕ) → i < length ms → j < length ms → (move_at ms i).from ≡ (move_at ms j).from → i ≡ j
+  froms_apart i j low high same = elim (cases_order i j) [
+    | inl e ↦ e
+    | inr (inl less) ↦ absurd (let r = rising i j less high in let s = ap {B = ℕ} (λ a. a.0) same in
+        omega arith)
+    | inr (inr more) ↦ absurd (let r = rising j i more low in let s = ap {B = ℕ} (λ a. a.0) same in
+        omega arith)
+  ]
+
+  read_at : (i : ℕ) (d : Move) → i < length ms → get_or ms i d ≡ move_at ms i
+  read_at i d low = get_or_default ms i d _ low
+
+  moves_apart : AllPairs (λ x y. x ≢ y) ms
+  moves_apart = λ i j d less high same.
+      let e : i ≡ j = froms_apart i j (omega arith) high
+      (ap (λ m. m.from) (sym (read_at i d (omega arith)) ∙ same ∙ read_at j d high)) in omega arith
+
+  from_apart : (x y : Move) → Contains ms x → Contains ms y → x.from ≡ y.from → x ≡ y
+  from_apart x y a b same =
+      let atx : move_at ms a.0 ≡ x = sym (read_at a.0 x a.1) ∙ a.2 in
+      let aty : move_at ms b.0 ≡ y = sym (read_at b.0 y b.1) ∙ b.2 in
+      sym atx ∙ ap (move_at ms)
+      (froms_apart a.0 b.0 a.1 b.1 (ap (λ m. m.from) atx ∙ same ∙ sym (ap (λ m. m.from) aty))) ∙ aty
+
+  -- the objects of those moves that pass a test are counted
+  pub counts_moves : (test : Move → Bool) (P : Addr → Type 0)
+      → ((k : ℕ) → k < length ms → test (move_at ms k) ≡ true → P (move_at ms k).from)
+      → ((a : Addr) → P a → (k : ℕ)
+      × ((k < length ms) × (((move_at ms k).from ≡ a) × (test (move_at ms k) ≡ true))))
+      → Counts P (count_by test ms)
+  counts_moves test P each all =
+      let some : Counts (λ m. Contains ms m × (test m ≡ true)) (length (filter test ms)) = record {
+        members = filter test ms;
+        apart = pairs_passing test (λ x y. x ≢ y) ms moves_apart;
+        each = λ x h. passing_from test ms x h;
+        all = λ x h. passing_in test ms x h.0 h.1;
+        number = refl;
+      } in
+      subst (λ (c : ℕ). Counts P c) (length-filter test ms)
+      (counts_named (λ (m : Move). m.from) (λ m. Contains ms m × (test m ≡ true)) P (length (filter test ms))
+      (λ x y a b. from_apart x y a.0 b.0)
+      (λ x h. let at : move_at ms h.0.0 ≡ x = sym (read_at h.0.0 x h.0.1) ∙ h.0.2 in
+      subst (λ (m : Move). P m.from) at (each h.0.0 h.0.1 (ap test at ∙ h.1)))
+      (λ a h. let (k, rest) = all a h in
+      (move_at ms k, (((k, rest.0, get_or_default ms k _ _ rest.0), rest.1.1), rest.1.0)))
+      some)
+
+  module _ (h : Heap) (n : ℕ)
+      (condemned : (k : ℕ) → k < length ms → IsCondemned (object_at h) n (move_at ms k).from) where
+    abbrev froms : List Addr
+    froms = map (λ (m : Move). m.from) ms
+
+    froms_in : (a : Addr) → Contains froms a → IsCondemned (object_at h) n a
+    froms_in a c =
+        let (m, rest) = mapped_from (λ (m : Move). m.from) ms a c in
+        let at : move_at ms rest.0.0 ≡ m = sym (read_at rest.0.0 m rest.0.1) ∙ rest.0.2 in
+        subst (λ (x : Addr). IsCondemned (object_at h) n x) (ap (λ y. y.from) at ∙ rest.1)
+        (condemned rest.0.0 rest.0.1)
+
+    froms_once : AllPairs (λ x y. x ≢ y) froms
+    froms_once = λ i j d less high same.
+        let short : length froms ≡ length ms = length-map ms (λ (m : Move). m.from) in
+        let e : i ≡ j = froms_apart i j (omega arith) (omega arith)
+        (sym (get_or-map (λ (m : Move). m.from) ms i _ d (omega arith)) ∙ same
+        ∙ get_or-map (λ (m : Move). m.from) ms j _ d (omega arith)) in omega arith
+
+    -- moves of what is condemned are at most as many as that
+    pub moves_fit : (c : ℕ) → Counts (IsCondemned (object_at h) n) c → length ms ≤ c
+    moves_fit c counts =
+        let own : Counts (λ a. Contains froms a) (length ms) =
+        record {
+          members = froms;
+          apart = froms_once;
+          each = λ x k. k;
+          all = λ x k. k;
+          number =
+              length-map ms (λ (m : Move). m.from);
+        } in
+        counts_le (λ a. Contains froms a) (IsCondemned (object_at h) n) (length ms) c froms_in own counts
+
+    -- and take at most as many words
+    pub cells_fit : (cells : ℕ) → Takes h (IsCondemned (object_at h) n) cells → cells_laid h ms ≤ cells
+    cells_fit cells takes =
+        omega (
+          arith,
+          lighter (λ a. cells_of (placed_at h a)) froms takes.members froms_once
+              (λ a c. takes.all a (froms_in a c)),
+          takes.sum,
+          sum_map (λ (m : Move). m.from) (λ a. cells_of (placed_at h a)) ms,
+        )

@@ -1,0 +1,167 @@
+-- The regions that are not older after the moving: each has an object that stays, or was opened.
+use Rattle.std.proofs.Common.{◌≡◌, ◌≢◌, ℕ, zero, suc, ◌+◌, ◌*◌, ◌/◌, ◌<◌, ◌≤◌, inl, inr, ◌⊎◌, ⊎_elim, Bool, true, false, ◌&&◌, cond, List, [], ◌∷◌, length, refl, sym, ap, ◌∙◌, subst, arith}
+use Rattle.std.specs.Prelude.{sum_by, not, nat_lt, filter, Contains, AllPairs}
+use Rattle.std.proofs.lemmas.Bool.{cases_Bool}
+use Rattle.std.proofs.lemmas.List.Sums.{sum_by-cons}
+use Rattle.hd_model.specs.declared.data.Addr.{Addr}
+use Rattle.hd_model.specs.Heap.{Heap, region_of, region_at, region_generation, is_held, has_object, placed_at, cells_of}
+use Rattle.hd_model.proofs.PropertyCounts.{fewer, counts_where}
+use Rattle.hd_model.proofs.Entries.{counts_keys}
+use Rattle.hd_model.proofs.Members.{member_cases, not_in_none, pairs_none, pairs_cons, passing_from, passing_in, pairs_passing}
+use Rattle.hd_model.proofs.MemberWeights.{lighter}
+use Rattle.hd_heap.specs.Sound.{IsSound}
+use Rattle.hd_heap.proofs.RegionReads.{has-get}
+use Rattle.hd_plan.specs.declared.moves.Move.{Move}
+use Rattle.hd_plan.specs.Layout.{move_at, is_moving, room_at, stays_among, HasStay, AreMoves}
+use Rattle.hd_plan.specs.Packing.{IsRoom}
+use Rattle.hd_plan.specs.Compactness.{cells_to, regions_of, IsOpenedBy}
+use Rattle.hd_plan.specs.PackedRegions.{is_older_region, IsPacked}
+use Rattle.hd_plan.proofs.KeptMoves.{are_put, all_put}
+use Rattle.hd_plan.proofs.Compactness.{slack, begun_most, names_many, names_stay, names_open}
+
+not_true : (b : Bool) → not b ≡ true → b ≡ false
+not_true true e = absurd (cc e)
+not_true false e = refl
+
+true_not : (b : Bool) → b ≡ false → not b ≡ true
+true_not b e = ap not e
+
+-- the addresses to which the first k moves copy
+unfoldable tos : List Move → ℕ → List Addr
+tos ms zero = []
+tos ms (suc k) = cond (is_moving (move_at ms k).fate) ((move_at ms k).to ∷ tos ms k) (tos ms k)
+
+record IsTo (ms : List Move) (k : ℕ) (a : Addr) : Type 0 where
+  at : ℕ
+  before : at < k
+  moves : is_moving (move_at ms at).fate ≡ true
+  is : (move_at ms at).to ≡ a
+
+from_tos : (ms : List Move) (k : ℕ) (a : Addr) → Contains (tos ms k) a → IsTo ms k a
+unfolding tos
+from_tos ms zero a h = absurd (not_in_none a h)
+from_tos ms (suc k) a h = elim (cases_Bool (is_moving (move_at ms k).fate)) [
+  | inl moves ↦
+      let here : Contains ((move_at ms k).to ∷ tos ms k) a =
+      subst (λ xs. Contains xs a) (ap (λ b. cond b ((move_at ms k).to ∷ tos ms k) (tos ms k)) moves) h in
+      ⊎_elim (λ same. record { at = k; before = omega arith; moves = moves; is = same })
+      (λ later. more (from_tos ms k a later)) (member_cases (move_at ms k).to (tos ms k) a here)
+  | inr stays ↦ more (from_tos ms k a
+      (subst (λ xs. Contains xs a) (ap (λ b. cond b ((move_at ms k).to ∷ tos ms k) (tos ms k)) stays) h))
+]
+  where
+    more : IsTo ms k a → IsTo ms (suc k) a
+    more t = record { at = t.at; before = let low = t.before in omega arith; moves = t.moves; is = t.is }
+
+apart_tos : (ms : List Move) (k : ℕ)
+    → ((i j : ℕ) → i < j → j < k → is_moving (move_at ms i).fate ≡ true → is_moving (move_at ms j).fate ≡ true
+    → (move_at ms i).to ≢ (move_at ms j).to)
+    → AllPairs (λ x y. x ≢ y) (tos ms k)
+unfolding tos
+apart_tos ms zero apart = pairs_none (λ x y. x ≢ y)
+apart_tos ms (suc k) apart =
+    let rest = apart_tos ms k (λ i j low high. apart i j low (omega (arith, high))) in
+    elim (cases_Bool (is_moving (move_at ms k).fate)) [
+      | inl moves ↦ subst (AllPairs (λ x y. x ≢ y))
+          (sym (ap (λ b. cond b ((move_at ms k).to ∷ tos ms k) (tos ms k)) moves))
+          (pairs_cons (λ x y. x ≢ y) (move_at ms k).to (tos ms k)
+          (λ y h same.
+          let t = from_tos ms k y h in
+          apart t.at k t.before (omega arith) t.moves moves (t.is ∙ sym same)) rest)
+      | inr stays ↦ subst (AllPairs (λ x y. x ≢ y))
+          (sym (ap (λ b. cond b ((move_at ms k).to ∷ tos ms k) (tos ms k)) stays)) rest
+    ]
+
+cells_tos : (h : Heap) (ms : List Move) (w : Addr → ℕ) (k : ℕ)
+    → ((j : ℕ) → j < k → is_moving (move_at ms j).fate ≡ true
+    → w (move_at ms j).to ≡ cells_of (placed_at h (move_at ms j).from))
+    → cells_to h ms k ≡ sum_by w (tos ms k)
+unfolding tos cells_to
+cells_tos h ms w zero same = refl
+cells_tos h ms w (suc k) same =
+    let rest = cells_tos h ms w k (λ j low. same j (omega (arith, low))) in
+    elim (cases_Bool (is_moving (move_at ms k).fate)) [
+      | inl moves ↦
+          let more = ap (λ b. cond b (cells_of (placed_at h (move_at ms k).from)) 0) moves in
+          let list = ap (sum_by w) (ap (λ b. cond b ((move_at ms k).to ∷ tos ms k) (tos ms k)) moves) in
+          let cons = sum_by-cons w (move_at ms k).to (tos ms k) in
+          let here = same k (omega arith) moves in
+          omega (arith, rest, more, list, cons, here)
+      | inr stays ↦
+          let none = ap (λ b. cond b (cells_of (placed_at h (move_at ms k).from)) 0) stays in
+          let list = ap (sum_by w) (ap (λ b. cond b ((move_at ms k).to ∷ tos ms k) (tos ms k)) stays) in
+          omega (arith, rest, none, list)
+    ]
+
+-- a heap whose older regions are as they were, and whose others each have an object that stays or were
+-- opened, with what moves in them: packed
+pub packed : (h : Heap) → IsSound h → (n : ℕ) (ms : List Move) → AreMoves h n ms → (new : Heap)
+    → ((r : ℕ) → is_older_region h n r ≡ true → (is_held new r ≡ true) × (region_at new r ≡ region_at h r))
+    → ((j : ℕ) → j < length ms → is_moving (move_at ms j).fate ≡ true
+    → (has_object new (move_at ms j).to ≡ true)
+    × (cells_of (placed_at new (move_at ms j).to) ≡ cells_of (placed_at h (move_at ms j).from)))
+    → ((r : ℕ) → is_held new r ≡ true → is_older_region h n r ≡ false → HasStay ms r ⊎ IsOpenedBy ms r)
+    → IsPacked h new n (stays_among ms)
+packed h sound n ms moves new older stand held =
+    let put = all_put h n sound ms moves in
+    let rooms : (k : ℕ) → k ≤ length ms → IsRoom h (room_at h ms k) =
+    λ k low. (are_put h n sound ms moves k low).room in
+    let young : ℕ → Bool = λ r. not (is_older_region h n r) in
+    let keys = counts_keys new.regions (λ r. r) (λ r. r) (λ r. refl) (λ r. refl) in
+    let (count, some) = counts_where (λ r. is_held new r ≡ true) young _ keys in
+    let addresses = counts_keys new.objects (λ k. record { 0 = k }) (λ (a : Addr). a.0) (λ k. refl)
+    (λ a. refl) in
+    let here : Addr → Bool = λ a. young (region_of a) in
+    let cells : Addr → ℕ = λ a. cells_of (placed_at new a) in
+    let inside = filter here addresses.members in
+    let names : length some.members ≤ length (regions_of ms) =
+    fewer some.members (regions_of ms) some.apart
+    (λ r is.
+    let both = some.each r is in
+    ⊎_elim
+    (λ (s : HasStay ms r). subst (Contains (regions_of ms)) s.region (names_stay ms s.at s.within s.stays))
+    (λ (o : IsOpenedBy ms r). subst (Contains (regions_of ms)) o.region (names_open ms o.at o.within o.opens))
+    (held r both.0 (not_true _ both.1))) in
+    let moved : sum_by cells (tos ms (length ms)) ≤ sum_by cells inside =
+    lighter cells (tos ms (length ms)) inside (apart_tos ms (length ms) put.apart)
+    (λ a is.
+    let t = from_tos ms (length ms) a is in
+    let s = stand t.at t.before t.moves in
+    let there : Contains addresses.members (move_at ms t.at).to =
+    addresses.all (move_at ms t.at).to (sym (has-get new (move_at ms t.at).to) ∙ s.0) in
+    let new_one : is_older_region h n (region_of (move_at ms t.at).to) ≡ false =
+    no_older (region_of (move_at ms t.at).to) ((put.put t.at t.before t.moves).fresh.new) in
+    subst (Contains inside) t.is (passing_in here addresses.members (move_at ms t.at).to there
+    (true_not _ new_one))) in
+    let sums = cells_tos h ms cells (length ms) (λ j low moving. (stand j low moving).1) in
+    let bound = slack h sound n ms moves rooms (length ms) (omega arith) in
+    let one = begun_most (room_at h ms (length ms)) 1 in
+    let two = begun_most (room_at h ms (length ms)) 2 in
+    let many = names_many ms in
+    let number = some.number in
+    record {
+      older = older;
+      regions = count;
+      regions_are = record {
+        members = some.members;
+        apart = some.apart;
+        each = λ r is. let both = some.each r is in (both.0, not_true _ both.1);
+        all = λ r is. some.all r (is.0, true_not _ is.1);
+        number = some.number;
+      };
+      cells = sum_by cells inside;
+      cells_are = record {
+        members = inside;
+        apart = pairs_passing here (λ x y. x ≢ y) addresses.members addresses.apart;
+        each = λ a is.
+            let both = passing_from here addresses.members a is in
+            (has-get new a ∙ addresses.each a both.0, not_true _ both.1);
+        all = λ a is. passing_in here addresses.members a (addresses.all a (sym (has-get new a) ∙ is.0))
+            (true_not _ is.1);
+        sum = refl;
+      };
+      few = omega (arith, names, moved, sums, bound, one, two, many, number);
+    }
+  where
+    no_older : (r : ℕ) → is_held h r ≡ false → is_older_region h n r ≡ false
+    no_older r none = ap (λ b. b && nat_lt n (region_generation h r)) none
