@@ -1,2 +1,2 @@
-pub mod Giving
-pub mod Appending
+pub mod SourceBytes
+pub mod SinkPieces

@@ -1,8 +1,9 @@
--- A source and a sink in memory, as contracts see them.
-use Rattle.std.specs.Prelude.{ℕ, ◌+◌, List, ◌++◌, length, drop, Option, None, Some, nat_le, if◌then◌else◌}
+-- A source and a sink in memory whose calls fail by their numbers, as contracts see them.
+use Rattle.std.specs.Prelude.{ℕ, ◌+◌, List, drop, Option, Some}
 use Rattle.hd_io.specs.Calls.{Calls, after_call}
 use Rattle.hd_io.specs.Source.{SourceView}
 use Rattle.hd_io.specs.Sink.{SinkView}
+use Rattle.hd_io.specs.Still.{with_piece}
 
 -- a source: what it has left, how many bytes it has given, and its calls
 pub record Reading : Type 0 where
@@ -22,7 +23,7 @@ after_read source n = record {
   calls = after_call source.calls;
 }
 
--- a sink: what is written, which it tells while all of it had room, its room, and its calls
+-- a sink: what is written, which it states while all of it had room, its room, and its calls
 pub record Writing : Type 0 where
   pub written : Option (List ℕ)
   pub room : ℕ
@@ -32,16 +33,10 @@ pub record Writing : Type 0 where
 abbrev pub writing_view : Writing → SinkView
 writing_view s = record { written = s.written; faults = s.calls.faults }
 
--- what is told as written after a piece that was taken: it is kept where it fits into the room
-abbrev pub with_piece : ℕ → Option (List ℕ) → List ℕ → Option (List ℕ)
-with_piece room None piece = None
-with_piece room (Some bytes) piece =
-    if nat_le (length bytes + length piece) room then Some (bytes ++ piece) else None
-
--- the sink after a write that took this piece
+-- the sink after a write that took these bytes
 abbrev pub after_write : Writing → List ℕ → Writing
-after_write sink piece = record {
-  written = with_piece sink.room sink.written piece;
+after_write sink bytes = record {
+  written = with_piece sink.room sink.written bytes;
   room = sink.room;
   calls = after_call sink.calls;
 }

@@ -1,14 +1,14 @@
--- What is seen of a sink, and what writes do to it. As of Rust's `Write`, but that a sink counts its
--- faults and may tell no more, as one without room does.
+-- What is seen of a sink, and what writes do to it. As Rust's `Write`, but a sink counts its faults and may
+-- stop stating its bytes, as one without room does.
 use Rattle.std.specs.Prelude.{◌≡◌, ℕ, List, ◌++◌, ⊤, Option, None, Some}
 use Rattle.hd_io.specs.Counts.{Rose}
 
--- what is written, `None` where the sink doesn't tell it, and how many writes have failed
+-- what is written, `None` where the sink doesn't state it, and how many writes have failed
 pub record SinkView : Type 0 where
   pub written : Option (List ℕ)
   pub faults : ℕ
 
--- where the sink tells what is written, it told what was written before, and this was added to it
+-- where the sink states what is written, it stated what was written before, and this was added to it
 abbrev pub Appends : Option (List ℕ) → Option (List ℕ) → List ℕ → Type 0
 Appends old None piece = ⊤
 Appends None (Some after) piece = ⊥

@@ -1,25 +1,25 @@
--- What is seen of a source, and what reads do to it. As of Rust's `Read`, but that a source counts
--- what it gave and its faults.
+-- What is seen of a source, and what reads do to it. As Rust's `Read`, but a source counts the bytes that it
+-- gave and its faults.
 use Rattle.std.specs.Prelude.{◌≡◌, ℕ, ◌≤◌, List, length, Option}
 use Rattle.std.specs.Io.KnownBytes.{Consumes, IsAtEnd}
 use Rattle.hd_io.specs.Counts.{Rose, RoseBy}
 
--- what is left to read, `None` where the source doesn't tell it, how many bytes it has given, and
+-- what is left to read, `None` where the source doesn't state it, how many bytes it has given, and
 -- how many reads have failed
 pub record SourceView : Type 0 where
   pub left : Option (List ℕ)
   pub given : ℕ
   pub faults : ℕ
 
--- The source gave these bytes, and no read failed. Where it told what was left they were the next
--- of it, and it tells the rest.
+-- The source gave these bytes, and no read failed. Where it stated what was left they were the
+-- next of it, and it states the rest.
 pub record Gave (old new : SourceView) (bytes : List ℕ) : Type 0 where
   pub told : Consumes old.left new.left bytes
   pub counted : RoseBy old.given new.given (length bytes)
   pub unfailed : new.faults ≡ old.faults
 
--- The source gave these bytes to its end, and no read failed. So where it told what was left, they
--- are all of it, and it tells that none is left.
+-- The source gave these bytes to its end, and no read failed. So where it stated what was left,
+-- they are all of it, and it states that none is left.
 pub record GaveAll (old new : SourceView) (bytes : List ℕ) : Type 0 where
   pub gave : Gave old new bytes
   pub end : IsAtEnd new.left
@@ -36,7 +36,7 @@ pub record ReadFailed (old new : SourceView) : Type 0 where
   pub given : new.given ≡ old.given
   pub rose : Rose old.faults new.faults
 
--- the source gave at most so many bytes, and then a read failed, the last one
+-- the source gave at most `most` bytes, and then a read failed, the last one
 pub record ReadBrokeOff (old new : SourceView) (most : ℕ) : Type 0 where
   pub before : SourceView
   pub gave : GaveCount old before (λ n. n ≤ most)

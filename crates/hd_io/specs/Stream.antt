@@ -9,7 +9,7 @@ use Rattle.hd_io.specs.Sink.{SinkView}
 abbrev pub reader_of : {R : Type 0} → StdSource R → R
 reader_of source = source.reader
 
--- what is seen of a source over a reader: it tells no bytes
+-- what is seen of a source over a reader: it states no bytes
 abbrev pub source_view : {R : Type 0} → StdSource R → SourceView
 source_view source = record { left = None; given = source.given; faults = source.faults }
 
@@ -17,6 +17,6 @@ source_view source = record { left = None; given = source.given; faults = source
 abbrev pub writer_of : {W : Type 0} → StdSink W → W
 writer_of sink = sink.writer
 
--- what is seen of a sink over a writer: it tells no bytes
+-- what is seen of a sink over a writer: it states no bytes
 abbrev pub sink_view : {W : Type 0} → StdSink W → SinkView
 sink_view sink = record { written = None; faults = sink.faults }

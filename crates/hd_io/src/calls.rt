@@ -1,8 +1,8 @@
-// The calls of a source or a sink in memory: it counts them, and fails at those that it was told.
-ghost use Rattle.std.specs.Prelude.{◌≡◌, IfOk, OnOk, OnErr};
+// The calls of a source or a sink in memory: which of them fail, and how much one of them moves.
+ghost use Rattle.std.specs.Prelude.{◌≡◌, ◌<◌, ◌≤◌, IfOk, OnOk, OnErr};
 ghost use Rattle.std.specs.Result.{is_err};
 ghost use Rattle.hd_io.specs.Counts.{Rose};
-ghost use Rattle.hd_io.specs.Calls.{no_calls, fails_next, after_call};
+ghost use Rattle.hd_io.specs.Calls.{no_calls, fails_next, after_call, bounded, with_most};
 
 use crate::Failed;
 use std::alloc::{AllocError, Global};
@@ -13,14 +13,23 @@ pub(crate) struct CallCount {
     failing: Vec<u64>,
     next: u64,
     faults: u64,
+    most: Option<u32>,
 }
 
 impl Model for CallCount {
+    ghost use Rattle.std.specs.Prelude.{◌<◌, IfSome};
     ghost use Rattle.hd_io.specs.Calls.{Calls};
 
     ghost Value = { Calls };
 
-    ghost view = { λ c. record { failing = c.failing.items; next = c.next; faults = c.faults } };
+    ghost view = { λ c. record {
+      failing = c.failing.items;
+      next = c.next;
+      faults = c.faults;
+      most = c.most;
+    } };
+
+    ghost invariant = { λ c. IfSome c.most (λ most. 0 < most) };
 }
 
 impl CallCount {
@@ -35,7 +44,27 @@ impl CallCount {
             failing: numbers,
             next: 1,
             faults: 0,
+            most: None,
         })
+    }
+
+    pub(crate) fn set_most(&mut self, most: u32)
+        requires { 0 < most }
+        ensures { self.new ≡ with_most self.old most }
+    {
+        self.most = Some(most);
+    }
+
+    /// The number of `count` bytes that one call moves.
+    pub(crate) fn bound(&self, count: usize) -> usize
+        ensures value { result ≡ bounded self.now.most count }
+        ensures within { result ≤ count }
+        ensures some { 0 < count → 0 < result }
+    {
+        match self.most {
+            Some(most) => count.min(most as usize),
+            None => count,
+        }
     }
 
     /// Counts one more call, which fails where its number is among those that are to fail.

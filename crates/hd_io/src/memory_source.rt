@@ -1,33 +1,34 @@
-// A source in memory. Each of its calls fails or succeeds as was said when it was opened.
+// A source in memory. Each of its calls fails or succeeds as was set when it was opened.
 ghost use Rattle.std.specs.Prelude.{◌≡◌, ◌<◌, min, length, take, IfOk, OnOk, OnErr};
 ghost use Rattle.std.specs.Result.{is_err};
 ghost use Rattle.hd_io.specs.Counts.{Rose};
-ghost use Rattle.hd_io.specs.Calls.{no_calls, fails_next, after_call};
+ghost use Rattle.hd_io.specs.Calls.{no_calls, fails_next, after_call, bounded, with_most};
 ghost use Rattle.hd_io.specs.Memory.{reading_view, after_read};
 
 use crate::calls::CallCount;
-use crate::{Failed, Source};
+use crate::{Failed, Source, StillSource};
 use hd_model::Memory;
 use std::alloc::Global;
 use std::marker::Model;
 
-/// A source that gives the bytes which it was opened with, as many as fit into the buffer.
+/// A source that gives the bytes which it was opened with, as many as fit into the buffer, and by
+/// one read at most as many as was set.
 #[derive(Drop)]
 pub struct MemorySource {
-    bytes: Vec<u8>,
-    at: usize,
+    source: StillSource,
     calls: CallCount,
 }
 
 impl Model for MemorySource {
-    ghost use Rattle.std.specs.Prelude.{◌≤◌, length, drop};
     ghost use Rattle.hd_io.specs.Memory.{Reading};
 
     ghost Value = { Reading };
 
-    ghost view = { λ s. record { left = drop s.at s.bytes.items; given = s.at; calls = s.calls } };
-
-    ghost invariant = { λ s. s.at ≤ length s.bytes.items };
+    ghost view = { λ s. record {
+      left = s.source.left;
+      given = s.source.given;
+      calls = s.calls;
+    } };
 }
 
 impl MemorySource {
@@ -40,13 +41,17 @@ impl MemorySource {
           calls = no_calls fails.now;
         }) }
     {
-        let bytes = bytes.to_vec(alloc).map_err(|_| Memory)?;
+        let source = StillSource::open(alloc, bytes)?;
         let calls = CallCount::new(alloc, fails).map_err(|_| Memory)?;
-        Ok(MemorySource {
-            bytes,
-            at: 0,
-            calls,
-        })
+        Ok(MemorySource { source, calls })
+    }
+
+    /// From now on a read gives at most `most` bytes.
+    pub fn set_most(&mut self, most: u32)
+        requires { 0 < most }
+        ensures { self.new ≡ record self.old { calls = with_most self.old.calls most } }
+    {
+        self.calls.set_most(most);
     }
 }
 
@@ -56,7 +61,9 @@ impl Source for MemorySource {
     fn read(&mut self, buf: &mut [u8]) -> Result<usize, Failed>
         requires { 0 < length buf.old }
         ensures fails { is_err result ≡ fails_next self.old.calls }
-        ensures exact { IfOk result (λ n. n ≡ min (length self.old.left) (length buf.old)) }
+        ensures exact { IfOk result (λ n. n ≡
+            min (length self.old.left) (bounded self.old.calls.most (length buf.old))) }
+        ensures some { IfOk result (λ n. 0 < length self.old.left → 0 < n) }
         ensures bytes { IfOk result (λ n. take n buf.new ≡ take n self.old.left) }
         ensures ok { IfOk result (λ n. self.new ≡ after_read self.old n) }
         ensures err { OnErr result
@@ -65,10 +72,7 @@ impl Source for MemorySource {
         ensures failed { OnErr result (Rose self.old.calls.faults self.new.calls.faults) }
     {
         self.calls.count_one()?;
-        let rest = &self.bytes[self.at..];
-        let count = rest.len().min(buf.len());
-        buf[..count].copy_from_slice(&rest[..count]);
-        self.at += count;
-        Ok(count)
+        let most = self.calls.bound(buf.len());
+        self.source.read(&mut buf[..most])
     }
 }

@@ -6,10 +6,10 @@ use crate::Failed;
 
 /// Takes bytes, a piece at a time. A write that failed has added nothing.
 pub trait Sink {
-    /// What is written so far, where the sink tells it, and how many writes have failed.
+    /// What is written so far, where the sink states it, and how many writes have failed.
     ghost seen: { Self → SinkView };
 
-    /// Takes the first bytes of the piece, at least one, and answers how many.
+    /// Takes the first bytes of the piece, at least one, and returns how many.
     fn write(&mut self, piece: &[u8]) -> Result<usize, Failed>
         requires { 0 < length piece.now }
 
@@ -21,7 +21,7 @@ pub trait Sink {
 
 /// Writes the whole piece, by as many writes as the sink needs, and takes no memory. A write that
 /// failed is its last.
-#[tactic(auto, using(crate::proofs::Appending::in_parts))]
+#[tactic(auto, using(crate::proofs::SinkPieces::in_parts))]
 pub fn write_all<K: Sink>(sink: &mut K, piece: &[u8]) -> Result<(), Failed>
     ensures all { OnOk result (Took (K.seen sink.old) (K.seen sink.new) piece.now) }
     ensures broke_off { OnErr result

@@ -9,11 +9,11 @@ use thiserror::Error;
 
 /// Gives bytes until it has none left. A read that failed has given nothing.
 pub trait Source {
-    /// What is left to read, where the source tells it, how many bytes it has given so far, and how
-    /// many reads have failed.
+    /// What is left to read, where the source states it, how many bytes it has given, and how many
+    /// reads have failed.
     ghost seen: { Self → SourceView };
 
-    /// Puts the next bytes at the start of `buf`, and answers how many. None is the end.
+    /// Puts the next bytes at the start of `buf`, and returns how many. None is the end.
     fn read(&mut self, buf: &mut [u8]) -> Result<usize, Failed>
         requires { 0 < length buf.old }
 
@@ -43,7 +43,7 @@ pub fn read_all<S: Source>(alloc: Global, source: &mut S, most: u32) -> Result<V
     ensures all { IfOk result (λ all. GaveAll (S.seen source.old) (S.seen source.new) all.items) }
     ensures within { IfOk result (λ all. length all.items ≤ most) }
 
-    // Where not all was read, so many bytes were.
+    // Where not all was read, how many bytes were.
     ensures failed { IsErrOf result ReadFault.Failed →
         ReadBrokeOff (S.seen source.old) (S.seen source.new) most }
     ensures too_long { IsErrOf result ReadFault.TooLong →

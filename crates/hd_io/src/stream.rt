@@ -9,8 +9,8 @@ use crate::{Failed, Sink, Source};
 use std::io;
 use std::io::{Read, Write};
 
-/// A reader as a source. It tells no bytes, and each error of the reader is a fault, an interrupt
-/// too.
+/// A reader as a source. It states no bytes, and each error of the reader is a fault, also an
+/// interrupt.
 #[derive(Drop)]
 pub struct StdSource<R> {
     reader: R,
@@ -64,7 +64,7 @@ impl<R: Read> Source for StdSource<R> {
         ensures rose { OnErr result
             (Rose (source_view self.old).faults (source_view self.new).faults) }
 
-        // Where it is known what the reader has left, these bytes are taken off there.
+        // Where it is known what the reader has left, these bytes are taken off it.
         ensures bytes { ReadConsumes (R.remaining (reader_of self.old))
             (R.remaining (reader_of self.new)) result buf.new }
     {
@@ -73,8 +73,8 @@ impl<R: Read> Source for StdSource<R> {
     }
 }
 
-/// A writer as a sink. It tells no bytes, and each error of the writer is a fault, as is a write
-/// that takes nothing. No buffer stands between: each call is one write.
+/// A writer as a sink. It states no bytes, and each error of the writer is a fault, as is a write
+/// that takes nothing. There is no buffer between: each call is one write.
 #[derive(Drop)]
 pub struct StdSink<W> {
     writer: W,
@@ -119,7 +119,7 @@ impl<W: Write> Sink for StdSink<W> {
             (sink_view self.new ≡ record old { faults = count_up old.faults 1 }) }
         ensures rose { OnErr result (Rose (sink_view self.old).faults (sink_view self.new).faults) }
 
-        // Where it is known what the writer holds, these bytes are added there.
+        // Where it is known what the writer holds, these bytes are added to it.
         ensures bytes { WriteAppends (W.contents (writer_of self.old))
             (W.contents (writer_of self.new)) result piece.now }
     {

@@ -1,7 +1,7 @@
-// What no clause says: that the calls succeed while memory lasts. Faults in mid-stream are told.
+// What no clause says: the calls succeed while memory lasts. Faults in mid-stream are reported.
 use crate::{
     Failed, MemorySink, MemorySource, NoPace, Pace, ReadFault, Sink, Source, StdSink, StdSource,
-    read_all, write_all,
+    StillSink, StillSource, read_all, write_all,
 };
 use std::io;
 use std::io::{Read, Write};
@@ -72,13 +72,66 @@ fn a_write_fails_in_mid_stream(rt: HostRuntime) -> Result<(), Fail> {
 }
 
 #[test]
-fn what_has_no_room_is_told_no_more(rt: HostRuntime) -> Result<(), Fail> {
+fn what_has_no_room_is_stated_no_more(rt: HostRuntime) -> Result<(), Fail> {
     let mut sink = MemorySink::open(rt.alloc(), 3, &[])?;
     assert_eq!(rt; sink.write(b"abc"), Ok(3));
     assert_eq!(rt; sink.written(), Some(b"abc".as_slice()));
     assert_eq!(rt; sink.write(b"d"), Ok(1));
     assert_eq!(rt; sink.written(), None);
     assert_eq!(rt; sink.write(b"e"), Ok(1));
+    assert_eq!(rt; sink.written(), None);
+    Ok(())
+}
+
+#[test]
+fn a_read_gives_at_most_what_was_set(rt: HostRuntime) -> Result<(), Fail> {
+    let alloc = rt.alloc();
+    let mut source = MemorySource::open(alloc, b"abcde", &[2])?;
+    source.set_most(2);
+    let mut four = [0; 4];
+    assert_eq!(rt; source.read(&mut four), Ok(2));
+    assert_eq!(rt; four.as_slice(), b"ab\0\0".as_slice());
+    assert_eq!(rt; source.read(&mut four), Err(Failed));
+    source.set_most(1);
+    assert_eq!(rt;
+        read_all(alloc, &mut source, 3)?.as_slice(),
+        b"cde".as_slice()
+    );
+    Ok(())
+}
+
+#[test]
+fn a_write_takes_at_most_what_was_set(rt: HostRuntime) -> Result<(), Fail> {
+    let mut sink = MemorySink::open(rt.alloc(), 5, &[2])?;
+    sink.set_most(2);
+    assert_eq!(rt; sink.write(b"abc"), Ok(2));
+    assert_eq!(rt; sink.write(b"c"), Err(Failed));
+    sink.set_most(1);
+    assert_eq!(rt; write_all(&mut sink, b"cd"), Ok(()));
+    assert_eq!(rt; sink.written(), Some(b"abcd".as_slice()));
+    // Two bytes where one has room: neither is kept.
+    sink.set_most(2);
+    assert_eq!(rt; sink.write(b"efg"), Ok(2));
+    assert_eq!(rt; sink.written(), None);
+    Ok(())
+}
+
+#[test]
+fn ends_that_never_fail_move_all(rt: HostRuntime) -> Result<(), Fail> {
+    let alloc = rt.alloc();
+    let mut source = StillSource::open(alloc, b"abc")?;
+    let mut two = [0; 2];
+    assert_eq!(rt; source.read(&mut two), Ok(2));
+    assert_eq!(rt; two.as_slice(), b"ab".as_slice());
+    assert_eq!(rt;
+        read_all(alloc, &mut source, 1)?.as_slice(),
+        b"c".as_slice()
+    );
+
+    let mut sink = StillSink::open(alloc, 4)?;
+    assert_eq!(rt; write_all(&mut sink, b"abc"), Ok(()));
+    assert_eq!(rt; sink.written(), Some(b"abc".as_slice()));
+    assert_eq!(rt; sink.write(b"de"), Ok(2));
     assert_eq!(rt; sink.written(), None);
     Ok(())
 }

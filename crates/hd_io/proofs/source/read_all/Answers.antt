@@ -1,5 +1,5 @@
 use Rattle.std.proofs.Common.{◌≡◌, ◌+◌, ◌≤◌, arith, length-take}
-use Rattle.hd_io.proofs.Giving.{gave_count}
+use Rattle.hd_io.proofs.SourceBytes.{gave_count}
 use Rattle.hd_io.proofs.source.read_all.Goals as goal
 
 pub returns-then-count-room-clause-too_long : goal.returns-then-count-room-clause-too_long

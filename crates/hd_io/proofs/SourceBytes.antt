@@ -1,12 +1,8 @@
 -- How what a source gave composes.
-use Rattle.std.proofs.Common.{◌≡◌, ◌≤◌, ◌+◌, ℕ, List, [], ◌++◌, length, take, arith, length-take, Option, None, Some, refl, sym, ◌∙◌, ap, subst, append_assoc, length-append}
+use Rattle.std.proofs.Common.{◌≡◌, ◌≤◌, ◌+◌, ℕ, List, ◌++◌, length, take, arith, length-take, Option, None, Some, sym, ◌∙◌, ap, subst, append_assoc, length-append}
 use Rattle.std.specs.Io.KnownBytes.{Consumes}
 use Rattle.hd_io.specs.Counts.{RoseBy}
 use Rattle.hd_io.specs.Source.{SourceView, Gave, GaveCount}
-
-consumes_none : (w : Option (List ℕ)) → Consumes w w []
-consumes_none None = tt
-consumes_none (Some xs) = refl
 
 consumes_more : (a b c : Option (List ℕ)) (p q : List ℕ) →
     Consumes a b p → Consumes b c q → Consumes a c (p ++ q)
@@ -18,10 +14,6 @@ consumes_more (Some xs) (Some ys) (Some zs) p q first then =
 
 rose_by_more : (a b c m n : ℕ) → RoseBy a b m → RoseBy b c n → RoseBy a c (m + n)
 rose_by_more a b c m n first then = grind arith
-
--- where nothing was read, nothing was given
-pub gave_none : (a : SourceView) → Gave a a []
-gave_none a = record { told = consumes_none a.left; counted = grind arith; unfailed = refl }
 
 -- these bytes and then those are both as one
 pub gave_more : (a b c : SourceView) (p q : List ℕ) → Gave a b p → Gave b c q → Gave a c (p ++ q)

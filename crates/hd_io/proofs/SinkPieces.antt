@@ -2,7 +2,7 @@
 use Rattle.std.proofs.Common.{◌≡◌, ◌-◌, ℕ, List, [], ◌++◌, ◌+◌, length, take, drop, Option, None, Some, Result, Ok, Err, OnErr, refl, sym, ◌∙◌, ap, subst, arith, append_assoc, append-nil, take_all, length-drop, take-append-drop, take-add}
 use Rattle.hd_io.specs.Sink.{SinkView, Appends, Took, WriteFailed, WriteBrokeOff}
 
--- what holds may be said of a call that failed, where it hands an error on
+-- what holds may be stated of a call that failed, where it passes an error on
 pub at_error : {T E P : Type 0} (r : Result T E) → P → OnErr r P
 at_error (Ok x) holds = tt
 at_error (Err e) holds = holds
@@ -57,7 +57,7 @@ module _ (a b c : SinkView) (p q : List ℕ) where
     failed = broke.failed;
   }
 
--- the same of a call that hands on what the second write answered
+-- the same of a call that passes on what the second write returned
 pub broke_after_at_error : {T E : Type 0} (r : Result T E) (a b c : SinkView) (p q : List ℕ) →
     Took a b p → OnErr r (WriteBrokeOff b c q) → OnErr r (WriteBrokeOff a c (p ++ q))
 broke_after_at_error (Ok x) a b c p q first then = tt
