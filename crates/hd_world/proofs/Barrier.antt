@@ -15,12 +15,12 @@ use Rattle.hd_heap.specs.Calls.{stored as with_stored, with_field, is_younger}
 use Rattle.hd_world.specs.Reading.{read_object, named_in}
 use Rattle.hd_world.specs.Stored.{Parts, IsStored}
 use Rattle.hd_world.specs.Store.{Machine, machine_of}
-use Rattle.hd_world.proofs.Maps.{tied}
-use Rattle.hd_world.proofs.Readings.{named-is}
-use Rattle.hd_world.proofs.Standing.{placed_is, object_is}
-use Rattle.hd_world.proofs.Writes.{Writes}
+use Rattle.hd_world.proofs.EntryMaps.{tied}
+use Rattle.hd_world.proofs.IdentityReadings.{named-is}
+use Rattle.hd_world.proofs.NamedAddresses.{placed_is, object_is}
+use Rattle.hd_world.proofs.StoreWrite.{Writes}
 
--- what stands in a list with one item written
+-- what is in a list with one item written
 pub contains_set : {A : Type 0} (xs : List A) (i : ℕ) (v x : A) → Contains (set xs i v) x
     → Contains xs x ⊎ (v ≡ x)
 contains_set xs i v x c =

@@ -1,4 +1,4 @@
--- How many objects a heap can have: each takes three cells at least.
+-- How many objects a heap can have: each takes at least three words.
 use Rattle.std.proofs.Common.{ℕ, ◌*◌, ◌≤◌, List, [], ◌∷◌, map, length, arith}
 use Rattle.std.specs.Prelude.{sum_by}
 use Rattle.std.specs.FinMap.{len, entries, len-entries}

@@ -1,4 +1,4 @@
--- What a command answers, and how it leaves the store.
+-- What a command returns, and how it leaves the store.
 use Rattle.std.specs.Prelude.{◌≡◌, ℕ, false, Result, Ok, Err, if◌then◌else◌}
 use Rattle.std.specs.Option.{option_map_or}
 use Rattle.hd_model.specs.declared.data.Id.{Id}
@@ -58,8 +58,7 @@ abbrev pub as_pinned : Machine → Result Addr Refusal → Result Id Refusal
 as_pinned m (Ok at) = Ok (name_in m.names at)
 as_pinned m (Err refused) = Err refused
 
--- what a command has to do with the places that were answered: it collects, answers one, or neither reads nor
--- changes them
+-- how a command uses the pinned addresses: it collects, returns one, or neither reads nor changes them
 abbrev pub IsPlacing : Cmd → Placing → Type 0
 IsPlacing c (Collects n) = c ≡ cmd.Collect n
 IsPlacing c (Answers h) = c ≡ cmd.AddrOf h

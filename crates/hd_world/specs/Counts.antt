@@ -4,7 +4,7 @@ use Rattle.std.specs.FinMap.{get}
 use Rattle.hd_model.specs.declared.data.Id.{Id}
 use Rattle.hd_model.specs.State.{Handle, State, count_of}
 
--- no count is at the end of its type
+-- each count may rise by one within its type
 abbrev pub HasSmallCounts : State → Type 0
 HasSmallCounts s =
     (slot : ℕ) (handle : Handle Id) → get s.handles slot ≡ Some handle → count_of handle.extra + 1 < 2 ^ 32

@@ -16,8 +16,9 @@ use Rattle.hd_world.specs.Objects.{object_named}
 abbrev pub handle_named : Machine → Kind → Row → Handle Id
 handle_named m kind row = rename_handle (name_in m.names) (handle_of kind row)
 
--- a row may stand in a slot of a kind: its extra is one of the kind, what it names are objects, a row without
--- a target has no secondary, and the age of the slot's clump is at most the generation of what it names
+-- a row may be stored in a slot of a kind: its extra fits the kind, what it references are objects, a row
+-- without a target has no secondary, and the age of the slot's clump is at most the generation of what it
+-- references
 pub record MayStand (m : Machine) (slot : Slot) (kind : Kind) (row : Row) : Type 0 where
   pub fits : fits kind (extra_of row.extra) ≡ true
   pub target : IsNamed m.names row.target

@@ -1,15 +1,18 @@
-pub mod Rows
+-- What public clauses cite.
+pub mod World
+pub mod StateHeap
+pub mod Visited
+pub mod Growth
 pub mod Reading
+-- What the store inside says of its calls.
+pub mod Rows
 pub mod Stored
 pub mod Store
 pub mod Places
-pub mod Visited
+pub mod Placed
 pub mod Objects
 pub mod Handles
-pub mod Growth
 pub mod Commands
 pub mod Counts
-pub mod Placed
 pub mod Making
-pub mod World
 pub mod Listing

@@ -1,4 +1,4 @@
--- Where a new handle is to stand, and what its row is.
+-- The slot and the row of a new handle.
 use Rattle.std.specs.Prelude.{◌≡◌, ◌≢◌, ℕ, ◌+◌, ◌≤◌, true, Option, None, IfSome}
 use Rattle.hd_model.specs.declared.data.Slot.{Slot}
 use Rattle.hd_model.specs.declared.data.Kind.{Kind}
@@ -28,7 +28,7 @@ pub record IsPlace (old new : Machine) (kind : Kind) (offer : Option Slot)
   pub offered : IfSome offer (λ given. (given ≡ slot) × (grown ≡ Zero))
   pub grows : offer ≡ None → (grown ≢ Zero) × (given_of old.state + blocks_needed kind ≤ old.numbers.blocks)
 
--- the row of a handle that a caller makes with what rT names
+-- the row of a handle that a caller makes with what rT references
 pub record IsMadeRow (m : Machine) (caller : ℕ) (make : Make) (t : ℕ) (row : Row) : Type 0 where
   pub handle : handle_named m (kind_of make) row ≡ made_handle m.state caller make t
   pub target_is : named_in m.names row.target ≡ register_of m.state caller t

@@ -1,4 +1,4 @@
--- Objects of a store, by the address at which they stand.
+-- Objects of a store, by address.
 use Rattle.std.specs.Prelude.{◌≡◌, ℕ, ◌+◌, ◌<◌, ◌≤◌}
 use Rattle.hd_model.specs.declared.data.Id.{Id}
 use Rattle.hd_model.specs.declared.data.Addr.{Addr}
@@ -12,9 +12,9 @@ use Rattle.hd_world.specs.Reading.{name_in}
 abbrev pub object_named : Machine → Addr → Object Id
 object_named m at = object_by_id m.state (name_in m.names at)
 
--- nothing is changed, and the heap is full exactly where the limit does not allow so many cells more
-abbrev pub IsRefused : Machine → Machine → ℕ → NewFault → Type 0
-IsRefused old new cells (Full used size) =
+-- nothing is changed, and the heap is full exactly where the limit does not allow `cells` more words
+abbrev pub IsObjectRefused : Machine → Machine → ℕ → NewFault → Type 0
+IsObjectRefused old new cells (Full used size) =
     (new ≡ old) × (used ≡ total_size old.state) × (size ≡ cells)
     × (old.numbers.heap < total_size old.state + cells)
-IsRefused old new cells Memory = (new ≡ old) × (total_size old.state + cells ≤ old.numbers.heap)
+IsObjectRefused old new cells Memory = (new ≡ old) × (total_size old.state + cells ≤ old.numbers.heap)

@@ -1,4 +1,4 @@
--- The places of a world: those that its journal answered, which are one map.
+-- The pinned addresses of a world: those that its journal returned, which are one map.
 use Rattle.std.specs.Prelude.{◌≡◌, ℕ, List}
 use Rattle.std.specs.Coded.{Coded-set, coded_ℕ}
 use Rattle.std.specs.FinMap.{FinMap}
@@ -12,13 +12,16 @@ use Rattle.hd_model.specs.Aging.{AgedRun}
 use Rattle.hd_model.proofs.Journals.{one_places}
 use Rattle.hd_world.specs.Store.{Machine}
 use Rattle.hd_world.specs.Places.{AreAddresses}
+use Rattle.hd_world.specs.World.{HasLimits}
 
--- with these places a journal leads to the state of a store and leaves its ages, and each is an address
+-- with these pinned addresses a journal leads to the state of a store and leaves its ages, and each is that
+-- of its object; the numbers are within the limits
 pub record IsTrueRun (m : Machine) (journal : List Entry) (places : FinMap nat_cmp ℕ) : Type 0 where
   pub run : AgedRun m.numbers journal (with_places m.state places) m.ages
   pub addresses : AreAddresses m.names places
+  pub limits : HasLimits m.numbers
 
--- the places with which a journal leads to a store
+-- the pinned addresses with which a journal leads to a store
 abbrev pub Placed : Machine → List Entry → Type 0
 Placed m journal = (places : FinMap nat_cmp ℕ) × ∥ IsTrueRun m journal places ∥₁
 

@@ -1,28 +1,24 @@
--- The places that were answered: a store keeps none, since each is the address of its object.
-use Rattle.std.specs.Prelude.{◌≡◌, ◌↔◌, ℕ, ◌+◌, ◌/◌, ◌≤◌, Bool, true, false, Some}
-use Rattle.std.specs.FinMap.{FinMap, get, insert, retain_keys, len}
+-- The pinned addresses that `addr` returned: a store keeps none, since each is the address of its object.
+use Rattle.std.specs.Prelude.{◌≡◌, ◌↔◌, ℕ, Bool, true, false, Some}
+use Rattle.std.specs.FinMap.{FinMap, get, insert, retain_keys}
 use Rattle.std.specs.Ordering.{nat_cmp}
 use Rattle.hd_model.specs.declared.data.Id.{Id}
-use Rattle.hd_model.specs.declared.limits.TheConstants.{LEFT, OPEN}
 use Rattle.hd_model.specs.declared.data.Addr.{Addr}
 use Rattle.hd_model.specs.declared.data.Entry.{Entry}
 use Rattle.hd_model.specs.declared.data.Report.{Report}
-use Rattle.hd_model.specs.declared.data.Reply.TheVariants as reply
-use Rattle.hd_model.specs.declared.command.Cmd.TheVariants as cmd
-use Rattle.hd_model.specs.State.{Handle, State}
+use Rattle.hd_model.specs.State.{State}
 use Rattle.hd_model.specs.Places.{is_pinned, with_places, MayAnswer}
 use Rattle.hd_model.specs.Step.{Step}
 use Rattle.hd_model.specs.Aging.{aged_by}
 use Rattle.hd_model.specs.Ages.{grown}
 use Rattle.hd_model.specs.Collect.{CollectsState}
-use Rattle.hd_model.specs.Heap.{Heap, is_set, used_of}
-use Rattle.hd_model.specs.Counting.{Counts}
-use Rattle.hd_model.specs.Reach.{IsPinned}
+use Rattle.hd_model.specs.Heap.{is_set}
 use Rattle.hd_plan.specs.Commit.{NeedsCard}
 use Rattle.hd_world.specs.Reading.{name_in}
 use Rattle.hd_world.specs.Store.{Machine}
+use Rattle.hd_world.specs.StateHeap.{IsCompactStore}
 
--- each place is the address of its object
+-- each pinned address is that of its object
 abbrev pub AreAddresses : FinMap nat_cmp Id → FinMap nat_cmp ℕ → Type 0
 AreAddresses names places =
     (x a : ℕ) → get places x ≡ Some a → get names a ≡ Some (record { 0 = x })
@@ -31,35 +27,30 @@ AreAddresses names places =
 abbrev pub KeepsNames : FinMap nat_cmp Id → FinMap nat_cmp Id → Type 0
 KeepsNames old new = (a : ℕ) (x : Id) → get old a ≡ Some x → get new a ≡ Some x
 
--- so it is where an object may have been made, and else the names are the same
+-- so it is where an object may have been made, and else the identities are the same
 abbrev pub HasNames : Bool → FinMap nat_cmp Id → FinMap nat_cmp Id → Type 0
 HasNames true old new = KeepsNames old new
 HasNames false old new = new ≡ old
 
--- an entry is a step from a store with some places to a later one with others, which are addresses again
+-- an entry is a step from a store with some pinned addresses to a later one with others, which are those of
+-- their objects again
 pub record Moves (old : Machine) (e : Entry) (new : Machine) (before : FinMap nat_cmp ℕ) : Type 0 where
   pub places : FinMap nat_cmp ℕ
   pub step : Step old.numbers (with_places old.state before) e (with_places new.state places)
   pub addresses : AreAddresses new.names places
   pub ages : new.ages ≡ aged_by (with_places old.state before) e old.ages
 
--- whatever places were answered before, if they are addresses
+-- whatever pinned addresses were returned before, if they are those of their objects
 abbrev pub KeepsPlaces : Machine → Entry → Machine → Type 0
 KeepsPlaces old e new =
     (before : FinMap nat_cmp ℕ) → AreAddresses old.names before → Moves old e new before
 
--- the places that a collection keeps: those of the objects that a handle pins
+-- the pinned addresses that a collection keeps: those of the objects that a handle pins
 abbrev pub kept_places : State → FinMap nat_cmp ℕ → FinMap nat_cmp ℕ
 kept_places s places = retain_keys places (is_pinned s.handles)
 
--- the held regions are at most used / 193 + 3, and one more for each object that a handle pins
-pub record IsCompactStore (handles : FinMap nat_cmp (Handle Id)) (heap : Heap) : Type 0 where
-  pub pinned : ℕ
-  pub pinned_is : Counts (IsPinned (λ slot. get handles slot)) pinned
-  pub regions : len heap.regions ≤ used_of heap / LEFT + OPEN + pinned
-
--- a store is collected: the state by identity, whatever places were answered, the ages, and the cards, which
--- are set just where they are needed; after a collection of generation 2 the heap is compact
+-- a store is collected: the state by identity, whatever pinned addresses were returned, the ages, and the
+-- cards, which are set exactly where they are needed; after a collection of generation 2 the heap is compact
 pub record HasCollected (old new : Machine) (n : ℕ) (report : Report) : Type 0 where
   pub numbers : new.numbers ≡ old.numbers
   pub ages : new.ages ≡ grown n old.ages
@@ -73,7 +64,7 @@ pub record HasCollected (old new : Machine) (n : ℕ) (report : Report) : Type 0
   pub cards : (card : ℕ) → (is_set new.heap card ≡ true) ↔ NeedsCard new.heap card
   pub compact : n ≡ 2 → IsCompactStore new.state.handles new.heap
 
--- whatever places were answered, an object's address may be answered, and they are addresses with it
+-- whatever pinned addresses were returned, an object's address may be returned too, as one of them
 pub record HasPlace (m : Machine) (at : Addr) : Type 0 where
   pub may :
       (before : FinMap nat_cmp ℕ) → AreAddresses m.names before
@@ -81,13 +72,3 @@ pub record HasPlace (m : Machine) (at : Addr) : Type 0 where
   pub addresses :
       (before : FinMap nat_cmp ℕ) → AreAddresses m.names before
       → AreAddresses m.names (insert before (name_in m.names at).0 at.0)
-
--- after a collection that answers a report the cards are set just where they are needed, and after one of
--- generation 2 the heap is compact
-pub record LeavesHeap (e : Entry) (handles : FinMap nat_cmp (Handle Id)) (heap : Heap) : Type 0 where
-  pub cards :
-      (n : ℕ) (report : Report) → e.cmd ≡ cmd.Collect n → e.reply ≡ reply.Report report
-      → (card : ℕ) → (is_set heap card ≡ true) ↔ NeedsCard heap card
-  pub compact :
-      (report : Report) → e.cmd ≡ cmd.Collect 2 → e.reply ≡ reply.Report report
-      → IsCompactStore handles heap

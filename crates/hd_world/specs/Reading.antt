@@ -1,4 +1,4 @@
--- What stands at addresses, read by identity: the objects of a heap and the rows of a table as the machine
+-- What is stored at addresses, read by identity: the objects of a heap and the rows of a table as the machine
 -- has them.
 use Rattle.std.specs.Prelude.{ℕ, Option, unwrap_or, option_map, map, IsSome, IfSome}
 use Rattle.std.specs.FinMap.{FinMap, get, entries, from_entries}
@@ -12,7 +12,7 @@ use Rattle.hd_model.specs.Heap.{Placed, Heap, region_generation, region_of, obje
 unfoldable pub names_of : Heap → FinMap nat_cmp Id
 names_of h = from_entries (map (λ e. (e.0, e.1.id)) (entries h.objects))
 
--- an object at an address, with each address in its fields read as the identity that stands there
+-- an object at an address, with each address in its fields read as the identity there
 abbrev pub read_object : Heap → ℕ → Placed → Object Id
 read_object h a p = rename_object (id_at h) (object_in (region_generation h (region_of (record { 0 = a }))) p)
 
@@ -20,7 +20,7 @@ read_object h a p = rename_object (id_at h) (object_in (region_generation h (reg
 unfoldable pub objects_by_id : Heap → FinMap nat_cmp (Object Id)
 objects_by_id h = from_entries (map (λ e. (e.1.id.0, read_object h e.0 e.1)) (entries h.objects))
 
--- the rows of a table, with each address read as the identity that stands there
+-- the rows of a table, with each address read as the identity there
 unfoldable pub rows_by_id : Heap → FinMap nat_cmp (Handle Addr) → FinMap nat_cmp (Handle Id)
 rows_by_id h rows = from_entries (map (λ e. (e.0, rename_handle (id_at h) e.1)) (entries rows))
 
@@ -32,6 +32,6 @@ name_in names a = unwrap_or (get names a.0) (record { 0 = 0 })
 abbrev pub named_in : FinMap nat_cmp Id → Option Addr → Option Id
 named_in names o = option_map (name_in names) o
 
--- an address at which an object stands, or null
+-- the address of an object, or null
 abbrev pub IsNamed : FinMap nat_cmp Id → Option Addr → Type 0
 IsNamed names o = IfSome o (λ a. IsSome (get names a.0))

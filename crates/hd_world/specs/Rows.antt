@@ -1,4 +1,4 @@
--- One list of names, read as the registers of each caller and then the statics.
+-- One list of roots, read as the registers of each caller and then the statics.
 use Rattle.std.specs.Prelude.{ℕ, zero, suc, List, [], ◌∷◌, take, drop}
 use Rattle.hd_model.specs.declared.limits.TheConstants.{REGISTERS}
 

@@ -1,5 +1,5 @@
 -- What contracts see of a store.
-use Rattle.std.specs.Prelude.{ℕ, List, [], refl}
+use Rattle.std.specs.Prelude.{◌≡◌, ℕ, List, [], refl}
 use Rattle.std.specs.Coded.{Coded, code_by, coded×, coded_ℕ, coded_list}
 use Rattle.std.specs.FinMap.{FinMap}
 use Rattle.std.specs.FinMap as map
@@ -10,13 +10,14 @@ use Rattle.hd_model.specs.Heap.{Heap}
 use Rattle.hd_model.specs.Code.{numbers_code, state_code, id_code, heap_code}
 use Rattle.hd_world.specs.Stored.{Parts, numbers_of, state_of}
 use Rattle.hd_world.specs.Reading.{names_of}
+use Rattle.hd_world.specs.StateHeap.{IsOfHeap}
 
--- a heap without its spare regions, on which no answer depends
+-- a heap without its free regions, on which no result depends
 abbrev pub without_spare : Heap → Heap
 without_spare h = record h { spare = [] }
 
--- the numbers of a run, the state of its machine without places, the identity at each address that has an
--- object, the ages of the clumps, and the heap by address
+-- the numbers of a run, the state of its machine without pinned addresses, the identity at each address that
+-- has an object, the ages of the clumps, and the heap by address
 pub record Machine : Type 0 where
   pub numbers : Numbers
   pub state : State
@@ -41,3 +42,8 @@ machine_code =
     (λ m. (m.numbers, (m.state, (m.names, (m.ages, m.heap)))))
     (λ p. record { numbers = p.0; state = p.1.0; names = p.1.1.0; ages = p.1.1.1.0; heap = p.1.1.1.1 })
     (λ _. refl)
+
+-- the state of a store is that of its heap, and its names are the identities there
+pub record IsOverHeap (m : Machine) : Type 0 where
+  pub names : m.names ≡ names_of m.heap
+  pub heap : IsOfHeap m.state m.heap

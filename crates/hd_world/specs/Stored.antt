@@ -1,4 +1,4 @@
--- The parts of a store by address, the state of the machine that they stand for, and what is always true of
+-- The parts of a store by address, the state of the machine that they represent, and what is always true of
 -- them.
 use Rattle.std.specs.Prelude.{◌≡◌, ℕ, ◌+◌, ◌*◌, ◌≤◌, List, length, map, Option, option_map, IsSome}
 use Rattle.std.specs.FinMap.{get, empty, len}
@@ -15,8 +15,8 @@ use Rattle.hd_world.specs.Rows.{rows_of, rest_of}
 use Rattle.hd_world.specs.Reading.{objects_by_id, rows_by_id}
 
 -- the parts of a store: the heap, the table and the ages of its clumps; the finalisation queue; what the
--- registers of all callers and then the statics name; what the handle registers and the board have; and each
--- caller's last serial
+-- registers of all callers and then the statics reference; the slots in the handle registers and on the
+-- board; and each caller's last serial
 pub record Parts : Type 0 where
   pub heap : Heap
   pub table : Table
@@ -33,7 +33,7 @@ callers_of f = length f.handle_registers
 abbrev pub numbers_of : Parts → Numbers
 numbers_of f = record { heap = f.heap.limit; blocks = f.table.blocks; callers = callers_of f }
 
--- what a collection looks at
+-- what a collection reads
 abbrev pub scene_of_parts : Parts → Scene Addr
 scene_of_parts f = record {
   object = object_at f.heap;
@@ -42,7 +42,7 @@ scene_of_parts f = record {
   queue = f.queue.waiting;
 }
 
--- the state of the machine, by identity, without the places that were answered: a store keeps none
+-- the state of the machine, by identity, without pinned addresses: a store keeps none
 abbrev pub state_of : Parts → State
 state_of f = record {
   objects = objects_by_id f.heap;
@@ -57,9 +57,10 @@ state_of f = record {
   serials = f.serials;
 }
 
--- what a store keeps, which is also what a collection asks for: every name is that of an object, no two
--- objects have one identity, ages and cards are sound, each held region has an object, the queue has room for
--- all objects, the objects take no more cells than the limit, and a block with a use is one of the table's
+-- what a store keeps, which is also what a collection asks for: every reference is to an object, no two
+-- objects have one identity, ages and cards are sound, each region in use has an object, the queue has room
+-- for all objects, the objects take no more words than the limit, and a block with a use is one of the
+-- table's
 pub record IsStored (f : Parts) : Type 0 where
   pub whole : IsWhole (scene_of_parts f)
   pub identities : HasIdentities f.heap

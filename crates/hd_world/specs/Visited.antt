@@ -26,8 +26,8 @@ blocks_of s k = filter (λ block. has_kind k (get s.blocks block)) (keys s.block
 abbrev pub due_in : State → List ℕ → ℕ → Kind → ℕ
 due_in s ages n k = visits ages n (blocks_of s k)
 
--- the steps of a collection that kept so many condemned objects: each due clump is visited once by each task
--- of its kind and once when names are written anew, those of dependent handles also in each pass of two
+-- the steps of a collection that keeps `kept` condemned objects: each due clump is visited once by each task
+-- of its kind and once when references are relocated, those of dependent handles also in each pass of two
 -- rescans
 pub record CollectedSteps (s : State) (ages : List ℕ) (n kept before after : ℕ) : Type 0 where
   pub passes : ℕ
@@ -40,8 +40,8 @@ pub record CollectedSteps (s : State) (ages : List ℕ) (n kept before after : �
       + 4 * due_in s ages n kind.Variable + 3 * due_in s ages n kind.Counted
       + passes * due_in s ages n kind.Dependent
 
--- the steps of an entry, from the state and the ages before it: a collection takes those that its report
--- tells, and no other command takes any
+-- the steps of an entry, from the state and the ages before it: a collection takes those that follow from its
+-- report, and no other command takes any
 pub record TakesSteps (s : State) (ages : List ℕ) (e : Entry) (before after : ℕ) : Type 0 where
   pub others : is_collect e.cmd ≡ false → after ≡ before
   pub collects :

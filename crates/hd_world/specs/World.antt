@@ -1,6 +1,7 @@
--- What contracts see of a world, and what a call is given and answers beyond its step.
+-- What contracts see of a world, and what a call takes and returns beyond its step.
 use Rattle.std.specs.Prelude.{◌≡◌, ◌≢◌, ℕ, ◌+◌, ◌<◌, ◌≤◌, List, Option, Some, None, refl}
 use Rattle.std.specs.Coded.{Coded, code_by, coded×, coded_ℕ, coded_list}
+use Rattle.hd_model.specs.declared.limits.TheConstants.{HEAP, BLOCKS, CALLERS}
 use Rattle.hd_model.specs.declared.data.Entry.{Entry}
 use Rattle.hd_model.specs.declared.data.Slot.{Slot}
 use Rattle.hd_model.specs.declared.data.Kind.{Kind}
@@ -15,9 +16,9 @@ use Rattle.hd_model.specs.Step.{blocks_needed}
 use Rattle.hd_model.specs.Code.{numbers_code, state_code, entry_code, heap_code}
 use Rattle.hd_model.specs.Heap.{Heap}
 
--- a world: its numbers, its state, the ages of the clumps, the heap by address without its spare regions, the
+-- a world: its numbers, its state, the ages of the clumps, the heap by address without its free regions, the
 -- journal that led there, and for how many more entries there is room
-pub record Standing : Type 0 where
+pub record WorldView : Type 0 where
   pub numbers : Numbers
   pub state : State
   pub ages : List ℕ
@@ -25,8 +26,14 @@ pub record Standing : Type 0 where
   pub journal : List Entry
   pub spare : ℕ
 
-abbrev pub standing_code : Coded Standing
-standing_code =
+-- the numbers of each world: a heap of 3 to HEAP words, 1 to BLOCKS blocks, and 1 to CALLERS callers
+pub record HasLimits (n : Numbers) : Type 0 where
+  pub heap : (3 ≤ n.heap) × (n.heap ≤ HEAP)
+  pub blocks : (1 ≤ n.blocks) × (n.blocks ≤ BLOCKS)
+  pub callers : (1 ≤ n.callers) × (n.callers ≤ CALLERS)
+
+abbrev pub world_view_code : Coded WorldView
+world_view_code =
     code_by (Numbers × (State × (List ℕ × (Heap × (List Entry × ℕ)))))
     (coded× numbers_code (coded× state_code
     (coded× (coded_list coded_ℕ) (coded× heap_code (coded× (coded_list entry_code) coded_ℕ)))))
@@ -41,8 +48,8 @@ standing_code =
     })
     (λ _. refl)
 
--- what a command asks of the heap and of the table: room for an object of so many fields, a slot for a handle
--- of a kind, that a block of a kind goes back, or nothing
+-- what a command asks of the heap and of the table: room for an object of n fields, a slot for a handle of a
+-- kind, that a block of a kind is given back, or nothing
 pub data Asks : Type 0 where
   object_room : ℕ → Asks
   handle_slot : Kind → Asks
@@ -109,7 +116,7 @@ GrowsFor n s no_room o e = Unit {0}
 abbrev pub GrowsUnoffered : Numbers → State → Cmd → Option Slot → Entry → Type 0
 GrowsUnoffered n s c offer e = GrowsFor n s (asks_of c) offer e
 
-abbrev pub GrowsWithout : Standing → Cmd → Option Slot → Entry → Type 0
+abbrev pub GrowsWithout : WorldView → Cmd → Option Slot → Entry → Type 0
 GrowsWithout w c offer e = GrowsUnoffered w.numbers w.state c offer e
 
 -- an offered slot was taken without growth
@@ -126,8 +133,8 @@ TakesFor e no_room slot = TakesSlot e slot
 abbrev pub Takes : Entry → Cmd → Slot → Type 0
 Takes e c slot = TakesFor e (asks_of c) slot
 
--- a full heap is answered before memory is taken: the heap has room for the object of a `new` that finds no
--- memory
+-- a full heap is reported before memory is taken: the heap has room for the object of a `new` that runs out
+-- of memory
 abbrev pub HasRoom : Numbers → State → Asks → Type 0
 HasRoom n s (object_room fields) = total_size s + (fields + 3) ≤ n.heap
 HasRoom n s (handle_slot kind) = Unit {0}

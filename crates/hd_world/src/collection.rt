@@ -1,12 +1,13 @@
-// `collect`: a collection of a store, which keeps the places that were answered for what it pins.
+// `collect`: a collection of a store, which leaves each pinned object at its address.
 ghost use Rattle.std.specs.Prelude.{◌≡◌, ◌≤◌, MatchResult, IfOk, OnErr};
 ghost use Rattle.hd_model.specs.declared.command.Cmd.TheVariants as cmds;
-ghost use Rattle.hd_world.specs.Places.{HasCollected, KeepsPlaces, LeavesHeap};
+ghost use Rattle.hd_world.specs.Places.{HasCollected, KeepsPlaces};
+ghost use Rattle.hd_world.specs.StateHeap.{LeavesHeap};
 ghost use Rattle.hd_world.specs.Visited.{CollectedSteps, TakesSteps};
 ghost use Rattle.hd_model.specs.Aging.{aged_by};
 ghost use Rattle.std.specs.Prelude.{◌<◌};
 
-use crate::order::Order;
+use crate::caller_command::CallerCommand;
 use crate::store::Store;
 use hd_gc::collect;
 use hd_model::limits::OLDEST;
@@ -45,15 +46,15 @@ impl Store {
 /// `collect N`.
 pub(crate) fn collect_up_to<L: Ledger>(
     store: &mut Store,
-    order: Order,
+    asked: CallerCommand,
     n: u8,
     steps: &mut Steps<L>,
 ) -> Result<Entry, Memory>
-    requires command { order.cmd ≡ cmds.Collect n }
-    requires caller { order.caller < store.old.numbers.callers }
+    requires command { asked.cmd ≡ cmds.Collect n }
+    requires caller { asked.caller < store.old.numbers.callers }
     requires generation { n ≤ OLDEST }
-    ensures caller { IfOk result (λ e. e.caller ≡ order.caller) }
-    ensures command { IfOk result (λ e. e.cmd ≡ order.cmd) }
+    ensures caller { IfOk result (λ e. e.caller ≡ asked.caller) }
+    ensures command { IfOk result (λ e. e.cmd ≡ asked.cmd) }
     ensures moves { IfOk result (λ e. KeepsPlaces store.old e store.new) }
     ensures numbers { store.new.numbers ≡ store.old.numbers }
     ensures ages { IfOk result (λ e. store.new.ages ≡ aged_by store.old.state e store.old.ages) }
@@ -63,5 +64,5 @@ pub(crate) fn collect_up_to<L: Ledger>(
     ensures unchanged { OnErr result ((store.new ≡ store.old) × (steps.new ≡ steps.old)) }
 {
     let report = store.collect(n, steps)?;
-    Ok(order.reply(Reply::Report(report)))
+    Ok(asked.reply(Reply::Report(report)))
 }

@@ -50,7 +50,7 @@ impl Store {
         Some(Live { kind, row })
     }
 
-    /// The age of a slot's clump is lowered to `g`, where it was above.
+    /// Lowers the age of a slot's clump to `g`, where it was above.
     pub(crate) fn lower_age(&mut self, slot: Slot, g: u8)
         requires low { 1 ≤ block_of slot }
         requires high { block_of slot ≤ self.old.numbers.blocks }
@@ -81,7 +81,7 @@ impl Store {
         self.table.set_extra(slot, row.extra);
     }
 
-    /// A live slot has no handle any more.
+    /// Takes the handle out of a live slot.
     pub(crate) fn take_row(&mut self, slot: Slot)
         requires { IsSome (handle_at self.old.state slot) }
         ensures { self.new ≡ record self.old { state = without_handle self.old.state slot } }
@@ -106,7 +106,7 @@ impl Store {
         self.table.give_block(kind)
     }
 
-    /// A block without live slots has no use any more.
+    /// Takes a block without live slots out of use.
     pub(crate) fn take_back(&mut self, kind: Kind, block: u32)
         requires single { is_paired kind ≡ false }
         requires free { IsAllFree self.old.state kind block }

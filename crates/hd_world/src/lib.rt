@@ -2,6 +2,7 @@
 //! the registers, with the journal of all that was done.
 #![tactic(auto)]
 
+mod caller_command;
 mod collection;
 mod commands;
 mod handles;
@@ -10,7 +11,6 @@ mod making;
 mod objects;
 mod on_handles;
 mod on_objects;
-mod order;
 mod places;
 mod store;
 mod world;

@@ -12,7 +12,7 @@ use std::alloc::{AllocError, Global};
 use std::thread::Threads;
 
 impl Store {
-    /// The roots among the handles, in rising slot.
+    /// The roots among the handles, by rising slot.
     pub(crate) fn roots(
         &self,
         rt: &(impl Threads + Sync),
@@ -28,7 +28,7 @@ impl Store {
     }
 }
 
-// The same roots, whose objects are called by their identities.
+// The same roots, with the identities of their objects.
 fn named_roots(alloc: Global, heap: &Heap, roots: &[Root]) -> Result<Vec<RootId>, AllocError>
     requires { All (λ root. has_object heap.now root.at ≡ true) roots.now }
     ensures { IfOk result (λ named. named.items ≡ map (root_named heap.now) roots.now) }

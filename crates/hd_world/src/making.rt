@@ -13,8 +13,8 @@ ghost use Rattle.hd_world.specs.Making.{IsPlace, IsMadeRow};
 ghost use Rattle.hd_world.specs.World.{GrowsUnoffered, IsOffer, Takes};
 ghost use Rattle.std.specs.Option.{ForSome};
 
+use crate::caller_command::CallerCommand;
 use crate::on_handles::lower_to;
-use crate::order::Order;
 use crate::store::Store;
 use hd_model::limits::{BLOCKS, REGISTERS, ROWS};
 use hd_model::{Addr, Entry, Grown, Kind, Make, Refusal, Reply, Slot};
@@ -45,8 +45,7 @@ fn new_place(store: &mut Store, kind: Kind) -> Result<(Slot, Grown), Full>
     }
 }
 
-// Where a new handle is to stand: in the offered slot or, without one, in the first slot of a new
-// block.
+// The slot of a new handle: the offered one or, without one, the first of a new block.
 fn place(store: &mut Store, kind: Kind, offer: Option<Slot>) -> Result<(Slot, Grown), Full>
     requires handles { HasHandles store.old.numbers store.old.state }
     requires offer { IfSome offer (IsFree store.old.state kind) }
@@ -64,7 +63,7 @@ fn place(store: &mut Store, kind: Kind, offer: Option<Slot>) -> Result<(Slot, Gr
     }
 }
 
-// What a made handle has beside its target. Without a target a dependent handle has no secondary
+// What a new handle has beside its target. Without a target a dependent handle has no secondary
 // either.
 fn made_row(store: &Store, caller: u32, make: Make, t: u8) -> Row
     requires caller { caller < store.now.numbers.callers }
@@ -109,20 +108,20 @@ fn lower_for(store: &mut Store, slot: Slot, make: Make, target: Option<Addr>)
 /// `hnew hD KIND rT ..`: takes the offered slot or, without one, the first slot of a new block.
 pub(crate) fn new_handle(
     store: &mut Store,
-    order: Order,
+    asked: CallerCommand,
     d: u8,
     make: Make,
     t: u8,
     offer: Option<Slot>,
 ) -> Entry
     requires handles { HasHandles store.old.numbers store.old.state }
-    requires command { order.cmd ≡ cmds.HNew d make t }
-    requires caller { order.caller < store.old.numbers.callers }
+    requires command { asked.cmd ≡ cmds.HNew d make t }
+    requires caller { asked.caller < store.old.numbers.callers }
     requires registers { (d < REGISTERS) × (t < REGISTERS) }
     requires make { IsValidMake make }
     requires offer { IfSome offer (IsFree store.old.state (kind_of make)) }
-    ensures caller { result.caller ≡ order.caller }
-    ensures command { result.cmd ≡ order.cmd }
+    ensures caller { result.caller ≡ asked.caller }
+    ensures command { result.cmd ≡ asked.cmd }
     ensures step { let cmd = cmds.HNew d make t in
         StepOf store.old.numbers store.old.state result store.new.state cmd }
     ensures numbers { store.new.numbers ≡ store.old.numbers }
@@ -133,28 +132,33 @@ pub(crate) fn new_handle(
     ensures growth { let cmd = cmds.HNew d make t in
         GrowsUnoffered store.old.numbers store.old.state cmd offer result }
 {
-    let row = made_row(store, order.caller, make, t);
+    let row = made_row(store, asked.caller, make, t);
     let (slot, grown) = match place(store, make.kind(), offer) {
         Ok(place) => place,
-        Err(full) => return order.refuse(Refusal::TableFull { given: full.given }),
+        Err(full) => return asked.refuse(Refusal::TableFull { given: full.given }),
     };
     lower_for(store, slot, make, row.target);
     store.put_row(slot, make.kind(), row);
-    store.set_handle_register(order.caller, d, Some(slot));
+    store.set_handle_register(asked.caller, d, Some(slot));
     Entry {
         slot: Some(slot),
         grown,
-        ..order.reply(Reply::Done)
+        ..asked.reply(Reply::Done)
     }
 }
 
 /// `trim KIND`: gives back the block of the offered slot or, without one, none.
-pub(crate) fn trim(store: &mut Store, order: Order, kind: Kind, offer: Option<Slot>) -> Entry
-    requires command { order.cmd ≡ cmds.Trim kind }
+pub(crate) fn trim(
+    store: &mut Store,
+    asked: CallerCommand,
+    kind: Kind,
+    offer: Option<Slot>,
+) -> Entry
+    requires command { asked.cmd ≡ cmds.Trim kind }
     requires single { is_paired kind ≡ false }
     requires offer { IsOffer store.old.state (cmds.Trim kind) offer }
-    ensures caller { result.caller ≡ order.caller }
-    ensures command { result.cmd ≡ order.cmd }
+    ensures caller { result.caller ≡ asked.caller }
+    ensures command { result.cmd ≡ asked.cmd }
     ensures step { let cmd = cmds.Trim kind in
         StepOf store.old.numbers store.old.state result store.new.state cmd }
     ensures numbers { store.new.numbers ≡ store.old.numbers }
@@ -166,12 +170,12 @@ pub(crate) fn trim(store: &mut Store, order: Order, kind: Kind, offer: Option<Sl
         GrowsUnoffered store.old.numbers store.old.state cmd offer result }
 {
     let Some(slot) = offer else {
-        return order.reply(Reply::Value(0));
+        return asked.reply(Reply::Value(0));
     };
     let block = slot.0 / ROWS;
     store.take_back(kind, block);
     Entry {
         grown: Grown::Back(block),
-        ..order.reply(Reply::Value(1))
+        ..asked.reply(Reply::Value(1))
     }
 }

@@ -7,7 +7,7 @@ ghost use Rattle.hd_model.specs.State.{object_by_id, field_of, last_serial, iden
 ghost use Rattle.hd_model.specs.State.{with_object, with_serial, with_queue};
 ghost use Rattle.hd_world.specs.Reading.{name_in, named_in, IsNamed};
 ghost use Rattle.hd_model.specs.Command.{fresh_object};
-ghost use Rattle.hd_world.specs.Objects.{object_named, IsRefused};
+ghost use Rattle.hd_world.specs.Objects.{object_named, IsObjectRefused};
 ghost use Rattle.hd_world.specs.Places.{KeepsNames};
 
 use crate::store::Store;
@@ -25,7 +25,7 @@ fn identity(caller: u32, serial: u32) -> Id
     Id(u64::from(caller) * (1 << 32) + u64::from(serial))
 }
 
-// Takes room in the queue for an object more of so many fields. A full heap is answered first.
+// Takes room in the queue for one more object, of `fields` fields. A full heap is reported first.
 fn reserve_for(heap: &Heap, queue: &mut Final, fields: u32) -> Result<(), NewFault>
     requires few { len heap.now.objects + 1 < 2 ^ 32 }
     requires fields { fields ≤ FIELDS }
@@ -96,7 +96,7 @@ impl Store {
         self.heap.load(at, u32::from(i))
     }
 
-    /// Field `i` of it names `v`.
+    /// Field `i` of it becomes `v`.
     pub(crate) fn set_field(&mut self, at: Addr, i: u8, v: Option<Addr>)
         requires known { IsSome (get self.old.names at.0) }
         requires field { i < length (object_named self.old at).fields }
@@ -136,7 +136,7 @@ impl Store {
         self.heap.generation(at)
     }
 
-    /// It is registered for finalisation, or no more.
+    /// Registers it for finalisation, or unregisters it.
     pub(crate) fn set_registered(&mut self, at: Addr, on: bool)
         requires { IsSome (get self.old.names at.0) }
         ensures { let after = record (object_named self.old at) { registered = on } in
@@ -146,7 +146,7 @@ impl Store {
         self.heap.set_registered(at, on);
     }
 
-    /// Makes an object with the next serial of a caller. A full heap is answered before memory is
+    /// Makes an object with the next serial of a caller. A full heap is reported before memory is
     /// asked for, and after a refusal nothing is changed.
     pub(crate) fn add_object(
         &mut self,
@@ -171,7 +171,7 @@ impl Store {
             (total_size self.old.state + (fields + 3) ≤ self.old.numbers.heap) }
         ensures known { IfOk result (λ at. IsSome (get self.new.names at.0)) }
         ensures kept { OnOk result (KeepsNames self.old.names self.new.names) }
-        ensures refused { IfErr result (IsRefused self.old self.new (fields + 3)) }
+        ensures refused { IfErr result (IsObjectRefused self.old self.new (fields + 3)) }
     {
         let serial = self.serials[caller as usize] + 1;
         let id = identity(caller, serial);
@@ -184,7 +184,7 @@ impl Store {
         }
     }
 
-    /// Takes the first object that waits for its finalizer out of the queue.
+    /// Takes the first object out of the finalisation queue.
     pub(crate) fn next_queued(&mut self) -> Option<Addr>
         ensures queue { MatchOption result
             ((self.old.state.queue ≡ []) × (self.new ≡ self.old))

@@ -12,7 +12,7 @@ ghost use Rattle.hd_world.specs.Objects.{object_named};
 ghost use Rattle.hd_world.specs.Places.{KeepsNames};
 ghost use Rattle.hd_world.specs.Commands.{entry_of, after};
 
-use crate::order::Order;
+use crate::caller_command::CallerCommand;
 use crate::store::Store;
 use hd_heap::NewFault;
 use hd_model::limits::{FIELDS, REGISTERS};
@@ -44,25 +44,25 @@ fn object_in(store: &Store, caller: u32, o: u8) -> Result<Addr, Refusal>
     }
 }
 
-/// `new rD F`. A full heap is answered before memory is taken.
+/// `new rD F`. A full heap is reported before memory is taken.
 pub(crate) fn new_object(
     store: &mut Store,
-    order: Order,
+    asked: CallerCommand,
     d: u8,
     fields: u8,
     fin: bool,
 ) -> Result<Entry, Memory>
-    requires caller { order.caller < store.old.numbers.callers }
+    requires caller { asked.caller < store.old.numbers.callers }
     requires register { d < REGISTERS }
     requires fields { fields ≤ FIELDS }
-    requires serial { last_serial store.old.state order.caller + 1 < 2 ^ 32 }
-    requires fresh { let serial = last_serial store.old.state order.caller + 1 in
-        get store.old.state.objects (identity_of order.caller serial).0 ≡ None }
+    requires serial { last_serial store.old.state asked.caller + 1 < 2 ^ 32 }
+    requires fresh { let serial = last_serial store.old.state asked.caller + 1 in
+        get store.old.state.objects (identity_of asked.caller serial).0 ≡ None }
     ensures entry { let n = store.old.numbers in
-        let wanted = new_object n store.old.state order.caller d fields fin in
-        IfOk result (λ e. e ≡ entry_of order.caller order.cmd wanted) }
+        let wanted = new_object n store.old.state asked.caller d fields fin in
+        IfOk result (λ e. e ≡ entry_of asked.caller asked.cmd wanted) }
     ensures state { let n = store.old.numbers in
-        let wanted = new_object n store.old.state order.caller d fields fin in
+        let wanted = new_object n store.old.state asked.caller d fields fin in
         IfOk result (λ e. store.new.state ≡ wanted.after) }
     ensures numbers { store.new.numbers ≡ store.old.numbers }
     ensures ages { store.new.ages ≡ store.old.ages }
@@ -71,188 +71,188 @@ pub(crate) fn new_object(
         (total_size store.old.state + (fields + 3) ≤ store.old.numbers.heap) }
     ensures unchanged { OnErr result (store.new ≡ store.old) }
 {
-    match store.add_object(order.caller, fields, fin) {
+    match store.add_object(asked.caller, fields, fin) {
         Ok(at) => {
-            store.set_register(order.caller, d, Some(at));
-            Ok(order.reply(Reply::Object(store.id(at))))
+            store.set_register(asked.caller, d, Some(at));
+            Ok(asked.reply(Reply::Object(store.id(at))))
         }
-        Err(NewFault::Full { used, size }) => Ok(order.refuse(Refusal::HeapFull { used, size })),
+        Err(NewFault::Full { used, size }) => Ok(asked.refuse(Refusal::HeapFull { used, size })),
         Err(NewFault::Memory) => Err(Memory),
     }
 }
 
 /// `set rO i rV`.
-pub(crate) fn set_field(store: &mut Store, order: Order, o: u8, i: u8, v: u8) -> Entry
-    requires caller { order.caller < store.old.numbers.callers }
+pub(crate) fn set_field(store: &mut Store, asked: CallerCommand, o: u8, i: u8, v: u8) -> Entry
+    requires caller { asked.caller < store.old.numbers.callers }
     requires registers { (o < REGISTERS) × (v < REGISTERS) }
-    ensures entry { let wanted = set_field store.old.state order.caller o i v in
-        result ≡ entry_of order.caller order.cmd wanted }
-    ensures store { let wanted = set_field store.old.state order.caller o i v in
+    ensures entry { let wanted = set_field store.old.state asked.caller o i v in
+        result ≡ entry_of asked.caller asked.cmd wanted }
+    ensures store { let wanted = set_field store.old.state asked.caller o i v in
         store.new ≡ record (after store.old wanted) { heap = store.new.heap } }
 {
-    let at = match object_in(store, order.caller, o) {
+    let at = match object_in(store, asked.caller, o) {
         Ok(at) => at,
-        Err(refusal) => return order.refuse(refusal),
+        Err(refusal) => return asked.refuse(refusal),
     };
     if u32::from(i) >= store.fields(at) {
-        return order.refuse(Refusal::BadField);
+        return asked.refuse(Refusal::BadField);
     }
-    let target = store.register(order.caller, v);
+    let target = store.register(asked.caller, v);
     store.set_field(at, i, target);
-    order.reply(Reply::Done)
+    asked.reply(Reply::Done)
 }
 
 /// `get rD rO i`.
-pub(crate) fn get_field(store: &mut Store, order: Order, d: u8, o: u8, i: u8) -> Entry
-    requires caller { order.caller < store.old.numbers.callers }
+pub(crate) fn get_field(store: &mut Store, asked: CallerCommand, d: u8, o: u8, i: u8) -> Entry
+    requires caller { asked.caller < store.old.numbers.callers }
     requires registers { (d < REGISTERS) × (o < REGISTERS) }
-    ensures entry { let wanted = get_field store.old.state order.caller d o i in
-        result ≡ entry_of order.caller order.cmd wanted }
-    ensures store { let wanted = get_field store.old.state order.caller d o i in
+    ensures entry { let wanted = get_field store.old.state asked.caller d o i in
+        result ≡ entry_of asked.caller asked.cmd wanted }
+    ensures store { let wanted = get_field store.old.state asked.caller d o i in
         store.new ≡ after store.old wanted }
 {
-    let at = match object_in(store, order.caller, o) {
+    let at = match object_in(store, asked.caller, o) {
         Ok(at) => at,
-        Err(refusal) => return order.refuse(refusal),
+        Err(refusal) => return asked.refuse(refusal),
     };
     if u32::from(i) >= store.fields(at) {
-        return order.refuse(Refusal::BadField);
+        return asked.refuse(Refusal::BadField);
     }
     let target = store.field(at, i);
     let reply = loaded(store, target);
-    store.set_register(order.caller, d, target);
-    order.reply(reply)
+    store.set_register(asked.caller, d, target);
+    asked.reply(reply)
 }
 
 /// `val rO n`.
-pub(crate) fn set_value(store: &mut Store, order: Order, o: u8, value: u64) -> Entry
-    requires caller { order.caller < store.old.numbers.callers }
+pub(crate) fn set_value(store: &mut Store, asked: CallerCommand, o: u8, value: u64) -> Entry
+    requires caller { asked.caller < store.old.numbers.callers }
     requires register { o < REGISTERS }
-    ensures entry { let wanted = set_value store.old.state order.caller o value in
-        result ≡ entry_of order.caller order.cmd wanted }
-    ensures store { let wanted = set_value store.old.state order.caller o value in
+    ensures entry { let wanted = set_value store.old.state asked.caller o value in
+        result ≡ entry_of asked.caller asked.cmd wanted }
+    ensures store { let wanted = set_value store.old.state asked.caller o value in
         store.new ≡ record (after store.old wanted) { heap = store.new.heap } }
 {
-    let at = match object_in(store, order.caller, o) {
+    let at = match object_in(store, asked.caller, o) {
         Ok(at) => at,
-        Err(refusal) => return order.refuse(refusal),
+        Err(refusal) => return asked.refuse(refusal),
     };
     store.set_value(at, value);
-    order.reply(Reply::Done)
+    asked.reply(Reply::Done)
 }
 
 /// `read rO`.
-pub(crate) fn read_value(store: &Store, order: Order, o: u8) -> Entry
-    requires caller { order.caller < store.now.numbers.callers }
+pub(crate) fn read_value(store: &Store, asked: CallerCommand, o: u8) -> Entry
+    requires caller { asked.caller < store.now.numbers.callers }
     requires register { o < REGISTERS }
-    ensures { let wanted = read_value store.now.state order.caller o in
-        result ≡ entry_of order.caller order.cmd wanted }
+    ensures { let wanted = read_value store.now.state asked.caller o in
+        result ≡ entry_of asked.caller asked.cmd wanted }
 {
-    match object_in(store, order.caller, o) {
-        Ok(at) => order.reply(Reply::Value(store.value(at))),
-        Err(refusal) => order.refuse(refusal),
+    match object_in(store, asked.caller, o) {
+        Ok(at) => asked.reply(Reply::Value(store.value(at))),
+        Err(refusal) => asked.refuse(refusal),
     }
 }
 
 /// `gen rS`.
-pub(crate) fn read_generation(store: &Store, order: Order, o: u8) -> Entry
-    requires caller { order.caller < store.now.numbers.callers }
+pub(crate) fn read_generation(store: &Store, asked: CallerCommand, o: u8) -> Entry
+    requires caller { asked.caller < store.now.numbers.callers }
     requires register { o < REGISTERS }
-    ensures { let wanted = read_generation store.now.state order.caller o in
-        result ≡ entry_of order.caller order.cmd wanted }
+    ensures { let wanted = read_generation store.now.state asked.caller o in
+        result ≡ entry_of asked.caller asked.cmd wanted }
 {
-    match object_in(store, order.caller, o) {
-        Ok(at) => order.reply(Reply::Generation(store.generation(at))),
-        Err(refusal) => order.refuse(refusal),
+    match object_in(store, asked.caller, o) {
+        Ok(at) => asked.reply(Reply::Generation(store.generation(at))),
+        Err(refusal) => asked.refuse(refusal),
     }
 }
 
 /// `suppress rS` and `reregister rS`.
-pub(crate) fn set_registered(store: &mut Store, order: Order, o: u8, on: bool) -> Entry
-    requires caller { order.caller < store.old.numbers.callers }
+pub(crate) fn set_registered(store: &mut Store, asked: CallerCommand, o: u8, on: bool) -> Entry
+    requires caller { asked.caller < store.old.numbers.callers }
     requires register { o < REGISTERS }
-    ensures entry { let wanted = set_registered store.old.state order.caller o on in
-        result ≡ entry_of order.caller order.cmd wanted }
-    ensures store { let wanted = set_registered store.old.state order.caller o on in
+    ensures entry { let wanted = set_registered store.old.state asked.caller o on in
+        result ≡ entry_of asked.caller asked.cmd wanted }
+    ensures store { let wanted = set_registered store.old.state asked.caller o on in
         store.new ≡ record (after store.old wanted) { heap = store.new.heap } }
 {
-    let at = match object_in(store, order.caller, o) {
+    let at = match object_in(store, asked.caller, o) {
         Ok(at) => at,
-        Err(refusal) => return order.refuse(refusal),
+        Err(refusal) => return asked.refuse(refusal),
     };
     store.set_registered(at, on);
-    order.reply(Reply::Done)
+    asked.reply(Reply::Done)
 }
 
 /// `copy rD rS`.
-pub(crate) fn copy_register(store: &mut Store, order: Order, d: u8, s: u8) -> Entry
-    requires caller { order.caller < store.old.numbers.callers }
+pub(crate) fn copy_register(store: &mut Store, asked: CallerCommand, d: u8, s: u8) -> Entry
+    requires caller { asked.caller < store.old.numbers.callers }
     requires registers { (d < REGISTERS) × (s < REGISTERS) }
-    ensures entry { let wanted = copy_register store.old.state order.caller d s in
-        result ≡ entry_of order.caller order.cmd wanted }
-    ensures store { let wanted = copy_register store.old.state order.caller d s in
+    ensures entry { let wanted = copy_register store.old.state asked.caller d s in
+        result ≡ entry_of asked.caller asked.cmd wanted }
+    ensures store { let wanted = copy_register store.old.state asked.caller d s in
         store.new ≡ after store.old wanted }
 {
-    let source = store.register(order.caller, s);
-    store.set_register(order.caller, d, source);
-    order.reply(Reply::Done)
+    let source = store.register(asked.caller, s);
+    store.set_register(asked.caller, d, source);
+    asked.reply(Reply::Done)
 }
 
 /// `drop rD`.
-pub(crate) fn clear_register(store: &mut Store, order: Order, d: u8) -> Entry
-    requires caller { order.caller < store.old.numbers.callers }
+pub(crate) fn clear_register(store: &mut Store, asked: CallerCommand, d: u8) -> Entry
+    requires caller { asked.caller < store.old.numbers.callers }
     requires register { d < REGISTERS }
-    ensures entry { let wanted = clear_register store.old.state order.caller d in
-        result ≡ entry_of order.caller order.cmd wanted }
-    ensures store { let wanted = clear_register store.old.state order.caller d in
+    ensures entry { let wanted = clear_register store.old.state asked.caller d in
+        result ≡ entry_of asked.caller asked.cmd wanted }
+    ensures store { let wanted = clear_register store.old.state asked.caller d in
         store.new ≡ after store.old wanted }
 {
-    store.set_register(order.caller, d, None);
-    order.reply(Reply::Done)
+    store.set_register(asked.caller, d, None);
+    asked.reply(Reply::Done)
 }
 
 /// `sput k rS`.
-pub(crate) fn put_static(store: &mut Store, order: Order, k: u8, s: u8) -> Entry
-    requires caller { order.caller < store.old.numbers.callers }
+pub(crate) fn put_static(store: &mut Store, asked: CallerCommand, k: u8, s: u8) -> Entry
+    requires caller { asked.caller < store.old.numbers.callers }
     requires registers { (k < REGISTERS) × (s < REGISTERS) }
-    ensures entry { let wanted = put_static store.old.state order.caller k s in
-        result ≡ entry_of order.caller order.cmd wanted }
-    ensures store { let wanted = put_static store.old.state order.caller k s in
+    ensures entry { let wanted = put_static store.old.state asked.caller k s in
+        result ≡ entry_of asked.caller asked.cmd wanted }
+    ensures store { let wanted = put_static store.old.state asked.caller k s in
         store.new ≡ after store.old wanted }
 {
-    let target = store.register(order.caller, s);
+    let target = store.register(asked.caller, s);
     store.set_static(k, target);
-    order.reply(Reply::Done)
+    asked.reply(Reply::Done)
 }
 
 /// `sget rD k`.
-pub(crate) fn get_static(store: &mut Store, order: Order, d: u8, k: u8) -> Entry
-    requires caller { order.caller < store.old.numbers.callers }
+pub(crate) fn get_static(store: &mut Store, asked: CallerCommand, d: u8, k: u8) -> Entry
+    requires caller { asked.caller < store.old.numbers.callers }
     requires registers { (d < REGISTERS) × (k < REGISTERS) }
-    ensures entry { let wanted = get_static store.old.state order.caller d k in
-        result ≡ entry_of order.caller order.cmd wanted }
-    ensures store { let wanted = get_static store.old.state order.caller d k in
+    ensures entry { let wanted = get_static store.old.state asked.caller d k in
+        result ≡ entry_of asked.caller asked.cmd wanted }
+    ensures store { let wanted = get_static store.old.state asked.caller d k in
         store.new ≡ after store.old wanted }
 {
     let target = store.static_at(k);
     let reply = loaded(store, target);
-    store.set_register(order.caller, d, target);
-    order.reply(reply)
+    store.set_register(asked.caller, d, target);
+    asked.reply(reply)
 }
 
 /// `final rD`.
-pub(crate) fn take_queued(store: &mut Store, order: Order, d: u8) -> Entry
-    requires caller { order.caller < store.old.numbers.callers }
+pub(crate) fn take_queued(store: &mut Store, asked: CallerCommand, d: u8) -> Entry
+    requires caller { asked.caller < store.old.numbers.callers }
     requires register { d < REGISTERS }
-    ensures entry { let wanted = take_queued store.old.state order.caller d in
-        result ≡ entry_of order.caller order.cmd wanted }
-    ensures store { let wanted = take_queued store.old.state order.caller d in
+    ensures entry { let wanted = take_queued store.old.state asked.caller d in
+        result ≡ entry_of asked.caller asked.cmd wanted }
+    ensures store { let wanted = take_queued store.old.state asked.caller d in
         store.new ≡ after store.old wanted }
 {
     let first = store.next_queued();
-    store.set_register(order.caller, d, first);
+    store.set_register(asked.caller, d, first);
     match first {
-        Some(at) => order.reply(Reply::Object(store.id(at))),
-        None => order.reply(Reply::NoneQueued),
+        Some(at) => asked.reply(Reply::Object(store.id(at))),
+        None => asked.reply(Reply::NoneQueued),
     }
 }

@@ -1,4 +1,4 @@
-// `addr`: the place of a pinned object is its address, since a collection leaves it there.
+// `addr`: the address of a pinned object, which no collection changes.
 ghost use Rattle.std.specs.Prelude.{◌≡◌, ◌<◌, IsSome, IfOk, true, false};
 ghost use Rattle.std.specs.FinMap.{FinMap, get};
 ghost use Rattle.std.specs.Ordering.{nat_cmp};
@@ -9,8 +9,8 @@ ghost use Rattle.hd_seg.specs.Row.{extra_of};
 ghost use Rattle.hd_world.specs.Places.{HasPlace, KeepsPlaces};
 ghost use Rattle.hd_world.specs.Commands.{pinned_in, as_pinned};
 
+use crate::caller_command::CallerCommand;
 use crate::on_handles::live_in;
-use crate::order::Order;
 use crate::store::Store;
 use hd_model::limits::REGISTERS;
 use hd_model::{Addr, Entry, Kind, Refusal, Reply, Strength};
@@ -41,7 +41,7 @@ fn pins(kind: Kind, extra: Extra) -> bool
 }
 
 impl Store {
-    /// The place of an object: its address.
+    /// The address of an object, as `addr` returns it.
     fn place(&self, at: Addr) -> u32
         requires { IsSome (get self.now.names at.0) }
         ensures value { result ≡ at.0 }
@@ -71,17 +71,17 @@ fn pinned_in(store: &Store, caller: u32, h: u8) -> Result<Addr, Refusal>
 }
 
 /// `addr hS`.
-pub(crate) fn answer_place(store: &Store, order: Order, h: u8) -> Entry
-    requires command { order.cmd ≡ cmds.AddrOf h }
-    requires caller { order.caller < store.now.numbers.callers }
+pub(crate) fn answer_place(store: &Store, asked: CallerCommand, h: u8) -> Entry
+    requires command { asked.cmd ≡ cmds.AddrOf h }
+    requires caller { asked.caller < store.now.numbers.callers }
     requires register { h < REGISTERS }
-    ensures caller { result.caller ≡ order.caller }
-    ensures command { result.cmd ≡ order.cmd }
+    ensures caller { result.caller ≡ asked.caller }
+    ensures command { result.cmd ≡ asked.cmd }
     ensures moves { KeepsPlaces store.now result store.now }
     ensures ages { store.now.ages ≡ aged_by store.now.state result store.now.ages }
 {
-    match pinned_in(store, order.caller, h) {
-        Ok(at) => order.reply(Reply::Place(store.place(at))),
-        Err(refusal) => order.refuse(refusal),
+    match pinned_in(store, asked.caller, h) {
+        Ok(at) => asked.reply(Reply::Place(store.place(at))),
+        Err(refusal) => asked.refuse(refusal),
     }
 }

@@ -6,6 +6,7 @@ ghost use Rattle.hd_model.specs.State.{static_of, board_of, total_size};
 ghost use Rattle.hd_model.specs.State.{with_register, with_handle_register, with_static};
 ghost use Rattle.hd_model.specs.State.{with_board};
 ghost use Rattle.hd_world.specs.Reading.{named_in, IsNamed};
+ghost use Rattle.hd_world.specs.Store.{IsOverHeap};
 
 use hd_ages::AgeMap;
 use hd_final::Final;
@@ -16,10 +17,10 @@ use hd_seg::Seg;
 use std::alloc::Global;
 use std::marker::Model;
 
-// The registers of a caller of either sort, and so the statics and the places of the board.
+// A caller's registers of either sort, and as many statics and entries of the board.
 const PLACES: usize = REGISTERS as usize;
 
-/// The state of the machine, with the ages of the clumps. Objects are named by their addresses.
+/// The state of the machine, with the ages of the clumps. Objects are referenced by address.
 #[derive(Drop)]
 pub(crate) struct Store {
     pub(crate) alloc: Global,
@@ -27,7 +28,7 @@ pub(crate) struct Store {
     pub(crate) table: Seg,
     pub(crate) ages: AgeMap,
     pub(crate) queue: Final,
-    // What the object registers of all callers name, those of each in turn, and then the statics.
+    // What the object registers of each caller in turn reference, and then the statics.
     pub(crate) roots: Vec<Option<Addr>>,
     handle_registers: Vec<[Option<Slot>; PLACES]>,
     board: [Option<Slot>; PLACES],
@@ -65,7 +66,7 @@ impl Model for Store {
     }) };
 }
 
-// So many copies of a value.
+// `count` copies of a value.
 fn filled<T: Copy + Drop>(alloc: Global, value: T, count: u32) -> Result<Vec<T>, Memory>
     ensures { IfOk result (λ items. items.items ≡ replicate count value) }
 {
@@ -77,7 +78,7 @@ fn filled<T: Copy + Drop>(alloc: Global, value: T, count: u32) -> Result<Vec<T>,
 }
 
 impl Store {
-    /// The state in which nothing is made yet. All room but that of objects is taken here.
+    /// The state in which nothing is made yet. All memory but that of objects is taken here.
     pub(crate) fn open(alloc: Global, heap: u32, blocks: u32, callers: u32) -> Result<Store, Memory>
         requires heap { heap ≤ HEAP }
         requires blocks { blocks ≤ BLOCKS }
@@ -102,7 +103,7 @@ impl Store {
         })
     }
 
-    /// What an object register names.
+    /// What an object register references.
     pub(crate) fn register(&self, caller: u32, d: u8) -> Option<Addr>
         requires caller { caller < self.now.numbers.callers }
         requires register { d < REGISTERS }
@@ -112,7 +113,7 @@ impl Store {
         self.roots[PLACES * caller as usize + d as usize]
     }
 
-    /// An object register names `v`.
+    /// An object register gets `v`.
     pub(crate) fn set_register(&mut self, caller: u32, d: u8, v: Option<Addr>)
         requires caller { caller < self.old.numbers.callers }
         requires register { d < REGISTERS }
@@ -123,7 +124,7 @@ impl Store {
         self.roots[PLACES * caller as usize + d as usize] = v;
     }
 
-    /// What a static names.
+    /// What a static references.
     pub(crate) fn static_at(&self, k: u8) -> Option<Addr>
         requires { k < REGISTERS }
         ensures value { named_in self.now.names result ≡ static_of self.now.state k }
@@ -132,7 +133,7 @@ impl Store {
         self.roots[PLACES * self.handle_registers.len() + k as usize]
     }
 
-    /// A static names `v`.
+    /// A static gets `v`.
     pub(crate) fn set_static(&mut self, k: u8, v: Option<Addr>)
         requires known { k < REGISTERS }
         requires named { IsNamed self.old.names v }
@@ -143,7 +144,7 @@ impl Store {
         self.roots[place] = v;
     }
 
-    /// What a handle register has.
+    /// The slot in a handle register.
     pub(crate) fn handle_register(&self, caller: u32, d: u8) -> Option<Slot>
         requires caller { caller < self.now.numbers.callers }
         requires register { d < REGISTERS }
@@ -164,7 +165,7 @@ impl Store {
         row[d as usize] = v;
     }
 
-    /// What a place of the board has.
+    /// The slot in an entry of the board.
     pub(crate) fn board_at(&self, k: u8) -> Option<Slot>
         requires { k < REGISTERS }
         ensures { result ≡ board_of self.now.state k }
@@ -172,7 +173,7 @@ impl Store {
         self.board[k as usize]
     }
 
-    /// A place of the board gets `v`.
+    /// An entry of the board gets `v`.
     pub(crate) fn set_board(&mut self, k: u8, v: Option<Slot>)
         requires { k < REGISTERS }
         ensures { self.new ≡ record self.old { state = with_board self.old.state k v } }
@@ -182,7 +183,8 @@ impl Store {
 
     /// The number of objects, reachable or not.
     pub(crate) fn objects(&self) -> u32
-        ensures { result ≡ len self.now.state.objects }
+        ensures value { result ≡ len self.now.state.objects }
+        ensures heap { IsOverHeap self.now }
     {
         self.heap.count()
     }

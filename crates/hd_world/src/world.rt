@@ -11,12 +11,12 @@ ghost use Rattle.hd_model.specs.RootText.{roots_of};
 ghost use Rattle.hd_model.specs.Text.{collections_of, is_collect};
 ghost use Rattle.hd_world.specs.Growth.{kind_in_use};
 ghost use Rattle.hd_world.specs.Placed.{Placed, Placed-prop};
-ghost use Rattle.hd_world.specs.World.{IsOffer, GrowsWithout, Takes, FitsHeap};
-ghost use Rattle.hd_world.specs.Places.{LeavesHeap};
+ghost use Rattle.hd_world.specs.World.{HasLimits, IsOffer, GrowsWithout, Takes, FitsHeap};
+ghost use Rattle.hd_world.specs.StateHeap.{IsOfHeap, KeepsAddresses, LeavesHeap};
 ghost use Rattle.hd_world.specs.Visited.{TakesSteps};
 
+use crate::caller_command::CallerCommand;
 use crate::commands;
-use crate::order::Order;
 use crate::store::Store;
 use hd_model::limits::{BLOCKS, CALLERS, HEAP};
 use hd_model::{Cmd, Entry, Held, Journal, Kind, Memory, RootId, Slot, Steps};
@@ -33,18 +33,18 @@ use std::thread::Threads;
 pub struct World {
     store: Store,
     journal: Journal,
-    // The places that the journal answered, which the program keeps nowhere.
+    // The pinned addresses of the journal, which the program keeps nowhere.
     ghost placed: { Placed store journal.entries } by { Placed-prop store journal.entries },
 }
 
 impl Model for World {
     ghost use Rattle.hd_model.specs.Places.{with_places};
     ghost use Rattle.hd_world.specs.Placed.{IsTrueRun};
-    ghost use Rattle.hd_world.specs.World.{Standing, standing_code};
+    ghost use Rattle.hd_world.specs.World.{WorldView, world_view_code};
 
-    ghost Value = { Standing };
+    ghost Value = { WorldView };
 
-    ghost coded = { standing_code };
+    ghost coded = { world_view_code };
 
     ghost view = { λ w. record {
       numbers = w.store.numbers;
@@ -76,8 +76,8 @@ impl Held for World {
 }
 
 impl World {
-    /// An empty world over a heap of at most `heap` cells and `blocks` blocks, for `callers`
-    /// callers, with room in its journal for `lines` entries. All room but that of objects is
+    /// An empty world over a heap of at most `heap` words and `blocks` blocks, for `callers`
+    /// callers, with room in its journal for `lines` entries. All memory but that of objects is
     /// taken here.
     pub fn open(
         alloc: Global,
@@ -103,7 +103,7 @@ impl World {
 
     /// Does a command of a caller and appends its entry to the journal. To `hnew` a free slot of
     /// its kind may be offered, to `trim` the first slot of a block of its kind whose slots are all
-    /// free, and to no other command anything. Want of memory changes nothing.
+    /// free, and to no other command anything. Out of memory changes nothing.
     pub fn apply<L: Ledger>(
         &mut self,
         caller: u32,
@@ -115,7 +115,7 @@ impl World {
         requires caller { caller < self.old.numbers.callers }
         requires valid { IsValid cmd }
         requires offer { IsOffer self.old.state cmd offer }
-        // The answered entry is of this command and is appended. It is a step from the state
+        // The returned entry is of this command and is appended. It is a step from the state
         // before to the one after, and ages the clumps.
         ensures command { IfOk result (λ e. (e.caller ≡ caller) × (e.cmd ≡ cmd)) }
         ensures journal { IfOk result (λ e. self.new.journal ≡ self.old.journal ++ e ∷ []) }
@@ -127,32 +127,41 @@ impl World {
         // few blocks are without a use, and `trim` gives nothing back.
         ensures offer { IfOk result (λ e. ForSome offer (Takes e cmd)) }
         ensures growth { IfOk result (λ e. GrowsWithout self.old cmd offer e) }
-        // Want of memory comes for commands that may take it. A full heap is answered first.
+        // Only commands that may take memory run out of it. A full heap is reported first.
         ensures memory { OnErr result (IsTrue (takes_memory cmd)) }
         ensures fits { OnErr result (FitsHeap self.old.numbers self.old.state cmd) }
         ensures unchanged { OnErr result (self.new ≡ self.old) }
-        // A collection leaves just the cards set that are needed, and one of generation 2 leaves
-        // the heap compact. It takes a step for each visit of a due clump; no other command takes
-        // one.
+        // A collection leaves exactly the needed cards set, and one of generation 2 leaves the heap
+        // compact. It takes a step for each visit of a due clump; no other command takes one.
         ensures heap { IfOk result (λ e. LeavesHeap e self.new.state.handles self.new.heap) }
         ensures steps { let s = self.old.state in let ages = self.old.ages in
             IfOk result (λ e. TakesSteps s ages e steps.old steps.new) }
         ensures unstepped { OnErr result (steps.new ≡ steps.old) }
+        // `addr` returns the object's address, which it keeps while a handle pins it, and over all
+        // commands but collections.
+        ensures addresses { IfOk result (λ e. KeepsAddresses e self.old self.new) }
     {
-        // Read for the proof alone: the journal's length bounds the serials and the counts.
+        // Read for the proof alone: the journal's length bounds the serials and the counts, and
+        // the store is one over its heap.
         let _room = self.journal.spare();
-        let entry = commands::run(&mut self.store, Order { caller, cmd }, offer, steps)?;
+        let _before = self.store.objects();
+        let entry = commands::run(&mut self.store, CallerCommand { caller, cmd }, offer, steps)?;
+        let _after = self.store.objects();
         self.journal.push(entry);
         Ok(entry)
     }
 
-    /// The journal.
+    /// The journal. Its world has a state that is read from its heap, and numbers within limits.
     pub fn journal(&self) -> &Journal
         ensures entries { result.now.entries ≡ self.now.journal }
         ensures spare { result.now.spare ≡ self.now.spare }
         ensures run { Run self.now.numbers self.now.journal self.now.state }
         ensures ages { AgedRun self.now.numbers self.now.journal self.now.state self.now.ages }
+        ensures heap { IsOfHeap self.now.state self.now.heap }
+        ensures limits { HasLimits self.now.numbers }
     {
+        // Read for the proof alone: the store is one over its heap.
+        let _objects = self.store.objects();
         &self.journal
     }
 
@@ -185,17 +194,17 @@ impl World {
         self.store.objects()
     }
 
-    /// The handles that hold their targets, in rising slot. It takes memory for them.
+    /// The handles that hold their targets, by rising slot. It takes memory for them.
     pub fn roots(&self, rt: &(impl Threads + Sync), alloc: Global) -> Result<Vec<RootId>, Memory>
         ensures value { IfOk result (λ roots. roots.items ≡ roots_of self.now.state) }
         ensures few { IfOk result (λ roots. length roots.items < 2 ^ 32) }
     {
-        // The read brings a limit of the handles, and so of the roots.
+        // The read gives a bound of the handles, and so of the roots.
         let _live = self.store.live();
         self.store.roots(rt, alloc)
     }
 
-    /// The number of collections that the journal has.
+    /// The number of collections in the journal.
     pub fn collections(&self) -> u32
         ensures { result ≡ collections_of self.now.journal }
     {

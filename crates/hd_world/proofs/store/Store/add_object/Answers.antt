@@ -9,11 +9,11 @@ use Rattle.hd_model.specs.State.{last_serial, identity_of, total_size}
 use Rattle.hd_heap.specs.Calls.{new_object, IsMade, IsRefused as IsRefusedBy}
 use Rattle.hd_world.specs.Store.{Machine}
 use Rattle.hd_world.specs.Places.{KeepsNames}
-use Rattle.hd_world.proofs.Maps.{get-put}
-use Rattle.hd_world.proofs.Counted.{used-is}
+use Rattle.hd_world.proofs.EntryMaps.{get-put}
+use Rattle.hd_world.proofs.StateCounts.{used-is}
 use Rattle.hd_world.proofs.Sizes.{few_objects}
-use Rattle.hd_world.proofs.Inside.{parts}
-use Rattle.hd_world.proofs.Newborn.{stored-next, machine-next, names-next, refused-next, stored-refused, roomier, room_enough, either_roomier}
+use Rattle.hd_world.proofs.StoreParts.{parts}
+use Rattle.hd_world.proofs.StoreNew.{stored-next, machine-next, names-next, refused-next, stored-refused, roomier, room_enough, either_roomier}
 use Rattle.hd_world.proofs.store.Store.add_object.Goals as goal
 use Rattle.hd_world.proofs.store.Store.add_object.Goals.{After-from}
 

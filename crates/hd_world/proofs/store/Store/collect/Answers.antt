@@ -4,8 +4,8 @@ use Rattle.hd_world.specs.Stored.{IsStored}
 use Rattle.hd_world.specs.Store.{machine_of}
 use Rattle.hd_world.specs.Places.{HasCollected}
 use Rattle.hd_world.specs.Visited.{CollectedSteps}
-use Rattle.hd_world.proofs.Inside.{parts}
-use Rattle.hd_world.proofs.Gathering.{IsAnswer, left_parts, lent-roots, stored-after, machine-after}
+use Rattle.hd_world.proofs.StoreParts.{parts}
+use Rattle.hd_world.proofs.StoreCollect.{IsAnswer, left_parts, lent-roots, stored-after, machine-after}
 use Rattle.hd_world.proofs.store.Store.collect.Given.{Over}
 use Rattle.hd_world.proofs.store.Store.collect.Goals as goal
 

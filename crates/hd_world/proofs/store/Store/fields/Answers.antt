@@ -1,6 +1,6 @@
 use Rattle.std.proofs.Common.{◌∙◌}
-use Rattle.hd_world.proofs.Inside.{parts}
-use Rattle.hd_world.proofs.Standing.{in_heap, count-is}
+use Rattle.hd_world.proofs.StoreParts.{parts}
+use Rattle.hd_world.proofs.NamedAddresses.{in_heap, count-is}
 use Rattle.hd_world.proofs.store.Store.fields.Goals as goal
 
 pub fields-requires : goal.fields-requires

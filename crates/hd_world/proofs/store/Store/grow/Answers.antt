@@ -1,5 +1,5 @@
-use Rattle.hd_world.proofs.Inside.{parts}
-use Rattle.hd_world.proofs.Rowing.{stored-grown}
+use Rattle.hd_world.proofs.StoreParts.{parts}
+use Rattle.hd_world.proofs.StoreRows.{stored-grown}
 use Rattle.hd_world.proofs.store.Store.grow.Goals as goal
 
 pub invariant_of-self : goal.invariant_of-self

@@ -4,9 +4,9 @@ use Rattle.hd_model.specs.State.{rename_handle}
 use Rattle.hd_model.specs.Heap.{id_at}
 use Rattle.hd_world.specs.declared.handles.Live.{Live}
 use Rattle.hd_world.specs.Handles.{handle_named}
-use Rattle.hd_world.proofs.Inside.{parts}
-use Rattle.hd_world.proofs.Rowing.{row-read}
-use Rattle.hd_world.proofs.Living.{no_row, kind-there, handle-is, handle-may}
+use Rattle.hd_world.proofs.StoreParts.{parts}
+use Rattle.hd_world.proofs.StoreRows.{row-read}
+use Rattle.hd_world.proofs.SlotHandle.{no_row, kind-there, handle-is, handle-may}
 use Rattle.hd_world.proofs.store.Store.handle.Goals as goal
 
 pub returns-in_err-row-clause-value : goal.returns-in_err-row-clause-value

@@ -1,6 +1,6 @@
 use Rattle.std.proofs.Common.{◌∙◌}
-use Rattle.hd_world.proofs.Inside.{parts}
-use Rattle.hd_world.proofs.Standing.{in_heap, identity-is}
+use Rattle.hd_world.proofs.StoreParts.{parts}
+use Rattle.hd_world.proofs.NamedAddresses.{in_heap, identity-is}
 use Rattle.hd_world.proofs.store.Store.id.Goals as goal
 
 pub id-requires : goal.id-requires

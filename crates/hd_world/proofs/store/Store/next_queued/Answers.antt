@@ -1,5 +1,5 @@
-use Rattle.hd_world.proofs.Inside.{parts}
-use Rattle.hd_world.proofs.Queued.{stored-popped, machine-popped, named-popped}
+use Rattle.hd_world.proofs.StoreParts.{parts}
+use Rattle.hd_world.proofs.QueueTake.{stored-popped, machine-popped, named-popped}
 use Rattle.hd_world.proofs.store.Store.next_queued.Goals as goal
 
 pub invariant_of-self : goal.invariant_of-self

@@ -1,10 +1,15 @@
 use Rattle.std.proofs.Common.{sym, ap, ◌∙◌}
 use Rattle.std.specs.FinMap.{len}
 use Rattle.hd_world.specs.Store.{Machine}
-use Rattle.hd_world.proofs.Counted.{len-objects}
+use Rattle.hd_world.proofs.StateCounts.{len-objects}
+use Rattle.hd_world.proofs.StoreParts.{parts}
+use Rattle.hd_world.proofs.StateHeap.{over-heap}
 use Rattle.hd_world.proofs.store.Store.objects.Goals as goal
 
-pub returns : goal.returns
-returns c =
+pub returns-clause-value : goal.returns-clause-value
+returns-clause-value c =
     c.count.ensures.value ∙ sym (len-objects c.self.inside.heap c.self.invariant.identities)
     ∙ ap (λ (m : Machine). len m.state.objects) c.self.view_is
+
+pub returns-clause-heap : goal.returns-clause-heap
+returns-clause-heap c = over-heap (parts c.self.inside) c.args.self.now c.self.view_is c.self.invariant

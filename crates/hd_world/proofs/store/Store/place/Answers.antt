@@ -1,5 +1,5 @@
-use Rattle.hd_world.proofs.Inside.{parts}
-use Rattle.hd_world.proofs.Addresses.{has-place}
+use Rattle.hd_world.proofs.StoreParts.{parts}
+use Rattle.hd_world.proofs.PinnedAddress.{has-place}
 use Rattle.hd_world.proofs.store.Store.place.Goals as goal
 
 pub returns-clause-place : goal.returns-clause-place

@@ -4,8 +4,8 @@ use Rattle.hd_model.specs.Table.{with_row, fits_in}
 use Rattle.hd_seg.specs.Row.{handle_of, extra_of}
 use Rattle.hd_world.specs.Stored.{IsStored}
 use Rattle.hd_world.specs.Store.{machine_of}
-use Rattle.hd_world.proofs.Inside.{parts}
-use Rattle.hd_world.proofs.Rowing.{with_table, stored-put, machine-put, may-stand, vacant-row, use-read, kind-read}
+use Rattle.hd_world.proofs.StoreParts.{parts}
+use Rattle.hd_world.proofs.StoreRows.{with_table, stored-put, machine-put, may-stand, vacant-row, use-read, kind-read}
 use Rattle.hd_world.proofs.store.Store.put_row.Goals as goal
 use Rattle.hd_world.proofs.store.Store.put_row.Goals.{After-put_row}
 

@@ -1,6 +1,6 @@
 use Rattle.std.proofs.Common.{◌+◌, ◌*◌}
-use Rattle.hd_world.proofs.Inside.{parts}
-use Rattle.hd_world.proofs.Naming.{register-is, register-within, root-named}
+use Rattle.hd_world.proofs.StoreParts.{parts}
+use Rattle.hd_world.proofs.RootAccess.{register-is, register-within, root-named}
 use Rattle.hd_world.proofs.store.Store.register.Goals as goal
 
 pub returns-clause-value : goal.returns-clause-value

@@ -4,8 +4,8 @@ use Rattle.hd_model.specs.RootText.{roots_of}
 use Rattle.hd_scan.specs.declared.gathering.Root.{Root}
 use Rattle.hd_world.specs.Listing.{root_named}
 use Rattle.hd_world.specs.Store.{Machine}
-use Rattle.hd_world.proofs.Inside.{parts}
-use Rattle.hd_world.proofs.Listed.{roots-are, roots-hold}
+use Rattle.hd_world.proofs.StoreParts.{parts}
+use Rattle.hd_world.proofs.RootIdentities.{roots-are, roots-hold}
 use Rattle.hd_world.proofs.store.Store.roots.Goals as goal
 
 pub named_roots-requires : goal.named_roots-requires

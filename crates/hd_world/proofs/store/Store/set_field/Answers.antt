@@ -5,9 +5,9 @@ use Rattle.hd_model.specs.State.{with_object}
 use Rattle.hd_world.specs.Reading.{name_in, named_in, IsNamed}
 use Rattle.hd_world.specs.Store.{Machine}
 use Rattle.hd_world.specs.Objects.{object_named}
-use Rattle.hd_world.proofs.Inside.{parts}
-use Rattle.hd_world.proofs.Standing.{in_heap, count-is, named_objects}
-use Rattle.hd_world.proofs.Writes.{Writes, stored-write, written}
+use Rattle.hd_world.proofs.StoreParts.{parts}
+use Rattle.hd_world.proofs.NamedAddresses.{in_heap, count-is, named_objects}
+use Rattle.hd_world.proofs.StoreWrite.{Writes, stored-write, written}
 use Rattle.hd_world.proofs.Barrier.{field_new, writes_field, reads_field}
 use Rattle.hd_world.proofs.store.Store.set_field.Goals as goal
 use Rattle.hd_world.proofs.store.Store.set_field.Goals.{After-from, After-store}

@@ -1,6 +1,6 @@
 use Rattle.std.proofs.Common.{◌+◌, ◌*◌}
-use Rattle.hd_world.proofs.Inside.{parts}
-use Rattle.hd_world.proofs.Naming.{stored-root, machine-register}
+use Rattle.hd_world.proofs.StoreParts.{parts}
+use Rattle.hd_world.proofs.RootAccess.{stored-root, machine-register}
 use Rattle.hd_world.proofs.store.Store.set_register.Goals as goal
 
 pub invariant_of-self : goal.invariant_of-self

@@ -1,8 +1,8 @@
 use Rattle.std.proofs.Common.{refl, sym, subst}
 use Rattle.hd_model.specs.Heap.{Placed, placed_at}
-use Rattle.hd_world.proofs.Inside.{parts}
-use Rattle.hd_world.proofs.Standing.{in_heap}
-use Rattle.hd_world.proofs.Writes.{Writes, stored-write, written, writes_beside}
+use Rattle.hd_world.proofs.StoreParts.{parts}
+use Rattle.hd_world.proofs.NamedAddresses.{in_heap}
+use Rattle.hd_world.proofs.StoreWrite.{Writes, stored-write, written, writes_beside}
 use Rattle.hd_world.proofs.store.Store.set_registered.Goals as goal
 use Rattle.hd_world.proofs.store.Store.set_registered.Goals.{After-set_registered}
 

@@ -7,9 +7,9 @@ use Rattle.hd_model.specs.Table.{Table, live_at, with_row, fits}
 use Rattle.hd_seg.specs.Row.{handle_of, extra_of}
 use Rattle.hd_world.specs.Stored.{IsStored}
 use Rattle.hd_world.specs.Store.{machine_of}
-use Rattle.hd_world.proofs.Inside.{parts}
-use Rattle.hd_world.proofs.Maps.{get-put}
-use Rattle.hd_world.proofs.Rowing.{with_table, stored-put, machine-put, may-stand, put_again, live-put, live-kinded, live-kind}
+use Rattle.hd_world.proofs.StoreParts.{parts}
+use Rattle.hd_world.proofs.EntryMaps.{get-put}
+use Rattle.hd_world.proofs.StoreRows.{with_table, stored-put, machine-put, may-stand, put_again, live-put, live-kinded, live-kind}
 use Rattle.hd_world.proofs.store.Store.set_row.Goals as goal
 use Rattle.hd_world.proofs.store.Store.set_row.Goals.{After-set_row, After-set_extra}
 

@@ -2,8 +2,8 @@ use Rattle.std.proofs.Common.{◌≡◌, ◌+◌, ◌*◌, length, sym, subst, a
 use Rattle.hd_world.specs.Store.{machine_of}
 use Rattle.hd_model.specs.State.{with_static}
 use Rattle.hd_world.specs.Reading.{named_in}
-use Rattle.hd_world.proofs.Inside.{parts}
-use Rattle.hd_world.proofs.Naming.{with_root, stored-root, machine-static}
+use Rattle.hd_world.proofs.StoreParts.{parts}
+use Rattle.hd_world.proofs.RootAccess.{with_root, stored-root, machine-static}
 use Rattle.hd_world.proofs.store.Store.set_static.Goals as goal
 
 pub invariant_of-self : goal.invariant_of-self

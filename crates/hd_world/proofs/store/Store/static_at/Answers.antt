@@ -1,7 +1,7 @@
 use Rattle.std.proofs.Common.{◌≡◌, ◌+◌, ◌*◌, get_or, length, subst, arith}
 use Rattle.hd_world.specs.Stored.{callers_of}
-use Rattle.hd_world.proofs.Inside.{parts}
-use Rattle.hd_world.proofs.Naming.{static-is, static-within, root-named}
+use Rattle.hd_world.proofs.StoreParts.{parts}
+use Rattle.hd_world.proofs.RootAccess.{static-is, static-within, root-named}
 use Rattle.hd_world.proofs.store.Store.static_at.Goals as goal
 
 pub returns-clause-value : goal.returns-clause-value

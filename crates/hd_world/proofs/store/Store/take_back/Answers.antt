@@ -2,8 +2,8 @@ use Rattle.std.proofs.Common.{◌≡◌, ◌*◌, Some, ap, ◌∙◌, subst, ar
 use Rattle.hd_model.specs.State.{handles_of, use_of, without_use}
 use Rattle.hd_model.specs.Table.{kind_at}
 use Rattle.hd_world.specs.Store.{Machine, machine_of}
-use Rattle.hd_world.proofs.Inside.{parts}
-use Rattle.hd_world.proofs.Rowing.{with_table, stored-back, block-single, vacant-row}
+use Rattle.hd_world.proofs.StoreParts.{parts}
+use Rattle.hd_world.proofs.StoreRows.{with_table, stored-back, block-single, vacant-row}
 use Rattle.hd_world.proofs.store.Store.take_back.Goals as goal
 
 pub take_back-requires-clause-single : goal.take_back-requires-clause-single

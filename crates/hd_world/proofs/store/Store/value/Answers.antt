@@ -1,6 +1,6 @@
 use Rattle.std.proofs.Common.{◌∙◌}
-use Rattle.hd_world.proofs.Inside.{parts}
-use Rattle.hd_world.proofs.Standing.{in_heap, value-is}
+use Rattle.hd_world.proofs.StoreParts.{parts}
+use Rattle.hd_world.proofs.NamedAddresses.{in_heap, value-is}
 use Rattle.hd_world.proofs.store.Store.value.Goals as goal
 
 pub value-requires : goal.value-requires

@@ -1,4 +1,4 @@
-use Rattle.std.proofs.Common.{◌≡◌, ℕ, ◌<◌, ◌+◌, ◌^◌, length, sym, ap, ◌∙◌, subst, arith}
+use Rattle.std.proofs.Common.{◌≡◌, ℕ, ◌<◌, ◌+◌, ◌^◌, length, sym, ap, ◌∙◌, subst, inl, arith}
 use Rattle.std.specs.Prelude.{Result, Ok, Err, OnErr}
 use Rattle.std.specs.FinMap.{FinMap}
 use Rattle.std.specs.Ordering.{nat_cmp}
@@ -8,19 +8,21 @@ use Rattle.hd_model.specs.Aging.{aged_by}
 use Rattle.hd_world.specs.Store.{Machine}
 use Rattle.hd_world.specs.Placed.{IsTrueRun, Placed}
 use Rattle.hd_world.specs.Visited.{TakesSteps}
-use Rattle.hd_world.specs.World.{Standing}
-use Rattle.hd_world.proofs.Applying.{handles_of, small_of, fresh_of, counts_of, steps_placed, at_places, placed_on, run_on, step_on, ages_on}
+use Rattle.hd_world.specs.World.{WorldView}
+use Rattle.hd_world.specs.StateHeap.{KeepsAddresses}
+use Rattle.hd_world.proofs.StateHeap.{returns-stored, keeps-pinned, keeps-address}
+use Rattle.hd_world.proofs.JournalApply.{handles_of, small_of, fresh_of, counts_of, steps_placed, at_places, placed_on, run_on, step_on, ages_on}
 use Rattle.hd_model.specs.Journal.{Recorded}
 use Rattle.hd_world.proofs.world.World.apply.Goals as goal
 
--- the journal has room for one entry more
+-- the journal has room for one more entry
 has_room : (g : _) (c : goal.After-run-arg-2-1 g) → length c.self.inside.journal.entries + 1 < 2 ^ 32
 has_room g c = omega (
   arith,
   c.spare-room.ensures.small,
   c.spare-room.ensures.value,
   ap
-      (λ (w : Standing). w.spare) c.self.view_is,
+      (λ (w : WorldView). w.spare) c.self.view_is,
   c.requires.room,
 )
 
@@ -43,7 +45,7 @@ run-requires-clause-counts g c =
     counts_of c.self.inside.store c.self.inside.journal.entries c.self.inside.placed.0 c.self.invariant
     (has_room g c)
 
--- the world as it was, where memory was wanting
+-- the world as it was, where memory ran out
 pub invariant_of-self-inside : goal.invariant_of-self-inside
 invariant_of-self-inside g c =
     subst (λ m. Placed m c.self.inside.journal.entries × Unit {0}) (sym c.in_err-entry.ensures.unchanged.0)
@@ -61,7 +63,7 @@ invariant_of-self g c =
     search at
 
 -- a world with its parts
-abbrev seen : Machine → Recorded → FinMap nat_cmp ℕ → Standing
+abbrev seen : Machine → Recorded → FinMap nat_cmp ℕ → WorldView
 seen m j p = record {
   numbers = m.numbers;
   state = with_places m.state p;
@@ -111,7 +113,7 @@ returns-clause-step g c =
     let next = c.run.new.store in
     let at : (q : Placed next c.push.new.self.entries)
     → Step c.args.self.now.numbers c.args.self.now.state c.in_ok-entry.entry (with_places next.state q.0) =
-    λ q. subst (λ (v : Standing). Step v.numbers v.state c.in_ok-entry.entry (with_places next.state q.0))
+    λ q. subst (λ (v : WorldView). Step v.numbers v.state c.in_ok-entry.entry (with_places next.state q.0))
     c.self.view_is
     (step_on w.store w.journal.entries w.placed.0 c.self.invariant next
     c.in_ok-entry.entry c.push.new.self.entries c.in_ok-entry.ensures.moves c.in_ok-entry.ensures.numbers
@@ -121,7 +123,7 @@ returns-clause-step g c =
 pub returns-clause-ages : goal.returns-clause-ages
 returns-clause-ages g c =
     let w = c.self.inside in
-    subst (λ (v : Standing). c.run.new.store.ages ≡ aged_by v.state c.in_ok-entry.entry v.ages) c.self.view_is
+    subst (λ (v : WorldView). c.run.new.store.ages ≡ aged_by v.state c.in_ok-entry.entry v.ages) c.self.view_is
     (ages_on w.store w.journal.entries w.placed.0 c.self.invariant c.run.new.store
     c.in_ok-entry.entry c.push.new.self.entries c.in_ok-entry.ensures.moves c.in_ok-entry.ensures.numbers
     c.push.ensures.entries)
@@ -130,7 +132,24 @@ pub returns-clause-steps : goal.returns-clause-steps
 returns-clause-steps g c =
     let w = c.self.inside in
     subst
-    (λ (v : Standing). TakesSteps v.state v.ages c.in_ok-entry.entry c.args.steps.now c.run.new.steps)
+    (λ (v : WorldView). TakesSteps v.state v.ages c.in_ok-entry.entry c.args.steps.now c.run.new.steps)
     c.self.view_is
     (steps_placed w.store.state w.placed.0 w.store.ages c.in_ok-entry.entry c.args.steps.now
     c.run.new.steps c.in_ok-entry.ensures.steps)
+
+pub returns-clause-addresses : goal.returns-clause-addresses
+returns-clause-addresses g c =
+    let w = c.self.inside in
+    let j = c.push.new.self in
+    let next = c.run.new.store in
+    let e = c.in_ok-entry.entry in
+    let at : (q : Placed next j.entries) → KeepsAddresses e c.args.self.now (seen next j q.0) =
+    λ q. subst (λ (v : WorldView). KeepsAddresses e v (seen next j q.0)) c.self.view_is (record {
+      returned = λ h place x. returns-stored w.store next e c.in_ok-entry.ensures.moves
+          c.objects-before.ensures.heap c.objects-after.ensures.heap x place h;
+      pinned = keeps-pinned w.store next e c.in_ok-entry.ensures.moves c.objects-before.ensures.heap
+          c.objects-after.ensures.heap;
+      others = λ plain x a. keeps-address w.store next e c.in_ok-entry.ensures.moves
+          c.objects-before.ensures.heap c.objects-after.ensures.heap x a (inl plain);
+    }) in
+    search at

@@ -6,13 +6,13 @@ use Rattle.hd_model.specs.Text.{collections_of, is_collect}
 use Rattle.hd_world.proofs.world.World.collections.Goals as goal
 use Rattle.hd_world.proofs.world.World.collections.Goals.{Joined-is_collect, then-is_collect, else-is_collect}
 
--- the entry that is read is the one at its place
+-- the entry that is read is the one at its index
 at_place : (xs : List Entry) (i : ℕ) (e : Entry) → slice_get xs i ≡ Some e → get_or xs i e ≡ e
 at_place [] i e is = refl
 at_place (x ∷ xs) zero e is = cc
 at_place (x ∷ xs) (suc i) e is = at_place xs i e is
 
--- one entry more counts if it is a collection
+-- one more entry counts if it is a collection
 more : (xs : List Entry) (i : ℕ) (e : Entry) → i < length xs → slice_get xs i ≡ Some e
     → collections_of (take (i + 1) xs) ≡ collections_of (take i xs) + cond (is_collect e.cmd) 1 0
 more xs i e within is =

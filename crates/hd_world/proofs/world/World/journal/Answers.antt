@@ -1,15 +1,25 @@
 use Rattle.std.proofs.Common.{subst}
 use Rattle.hd_model.specs.Run.{Run}
 use Rattle.hd_model.specs.Aging.{AgedRun}
-use Rattle.hd_world.specs.World.{Standing}
-use Rattle.hd_world.proofs.Applying.{run_of}
+use Rattle.hd_world.specs.World.{WorldView, HasLimits}
+use Rattle.hd_world.specs.StateHeap.{IsOfHeap}
+use Rattle.hd_world.proofs.JournalApply.{run_of}
+use Rattle.hd_world.proofs.StateHeap.{of-heap}
 use Rattle.hd_world.proofs.world.World.journal.Goals as goal
 
 pub returns-clause-run : goal.returns-clause-run
 returns-clause-run c =
-    subst (λ (w : Standing). Run w.numbers w.journal w.state) c.self.view_is
+    subst (λ (w : WorldView). Run w.numbers w.journal w.state) c.self.view_is
     (run_of c.self.inside.store c.self.inside.journal.entries c.self.inside.placed.0 c.self.invariant)
 
 pub returns-clause-ages : goal.returns-clause-ages
 returns-clause-ages c =
-    subst (λ (w : Standing). AgedRun w.numbers w.journal w.state w.ages) c.self.view_is c.self.invariant.run
+    subst (λ (w : WorldView). AgedRun w.numbers w.journal w.state w.ages) c.self.view_is c.self.invariant.run
+
+pub returns-clause-heap : goal.returns-clause-heap
+returns-clause-heap c =
+    subst (λ (w : WorldView). IsOfHeap w.state w.heap) c.self.view_is
+    (of-heap c.self.inside.store c.self.inside.placed.0 c.objects-objects.ensures.heap c.self.invariant.addresses)
+
+pub returns-clause-limits : goal.returns-clause-limits
+returns-clause-limits c = subst (λ (w : WorldView). HasLimits w.numbers) c.self.view_is c.self.invariant.limits

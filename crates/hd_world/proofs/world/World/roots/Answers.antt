@@ -1,4 +1,4 @@
-use Rattle.hd_world.proofs.Listed.{few-roots}
+use Rattle.hd_world.proofs.RootIdentities.{few-roots}
 use Rattle.hd_world.proofs.world.World.roots.Goals as goal
 
 pub returns-clause-few : goal.returns-clause-few

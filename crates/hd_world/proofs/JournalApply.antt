@@ -1,5 +1,5 @@
--- What a world's journal tells before a command, and that it is a run after it. Of places only the state of
--- the machine tells.
+-- What a world's journal states before a command, and that it is a run after it. Only the state of the
+-- machine has pinned addresses.
 use Rattle.std.proofs.Common.{◌≡◌, ℕ, ◌<◌, ◌+◌, ◌*◌, ◌^◌, List, ◌++◌, ◌∷◌, [], length, replicate, None, sym, ap, subst, arith}
 use Rattle.std.specs.FinMap.{FinMap, get, empty}
 use Rattle.std.specs.Ordering.{nat_cmp}
@@ -11,17 +11,18 @@ use Rattle.hd_model.specs.Run.{Run, stay}
 use Rattle.hd_model.specs.Aging.{AgedRun, aged_by}
 use Rattle.hd_model.specs.WellFormed.{IsWellFormed, HasHandles}
 use Rattle.hd_model.proofs.AgedRuns.{nothing_at}
-use Rattle.hd_model.proofs.Chains.{aged_run_is_run, push}
-use Rattle.hd_model.proofs.Counts.{fresh}
+use Rattle.hd_model.proofs.StepChains.{aged_run_is_run, push}
+use Rattle.hd_model.proofs.RunCounts.{fresh}
 use Rattle.hd_model.proofs.Serials.{last_serial-le, count-le}
-use Rattle.hd_model.proofs.WellFormed.{run_is_well_formed}
+use Rattle.hd_model.proofs.WellFormedSteps.{run_is_well_formed}
 use Rattle.hd_world.specs.Counts.{HasSmallCounts}
 use Rattle.hd_world.specs.Store.{Machine}
 use Rattle.hd_world.specs.Places.{KeepsPlaces, Moves}
 use Rattle.hd_world.specs.Visited.{TakesSteps}
+use Rattle.hd_world.specs.World.{HasLimits}
 use Rattle.hd_world.specs.Placed.{IsTrueRun, Placed, same_places}
 
--- what steps an entry takes does not depend on places
+-- what steps an entry takes does not depend on pinned addresses
 pub steps_placed : (s : State) (p : FinMap nat_cmp ℕ) (ages : List ℕ) (e : Entry) (before after : ℕ)
     → TakesSteps s ages e before after → TakesSteps (with_places s p) ages e before after
 steps_placed s p ages e before after is = record {
@@ -31,7 +32,7 @@ steps_placed s p ages e before after is = record {
       record { passes = did.passes; least = did.least; most = did.most; steps_are = did.steps_are };
 }
 
--- what is true with the places that a journal answered is true of whatever places are told to be those
+-- what is true with the pinned addresses of a journal is true of any that are said to be those
 pub at_places : (m : Machine) (journal : List Entry) (p q : FinMap nat_cmp ℕ)
     (P : FinMap nat_cmp ℕ → Type 0) → IsTrueRun m journal p → ∥ IsTrueRun m journal q ∥₁ → P p → P q
 at_places m journal p q P is told x = subst P (same_places m journal p q ∣ is ∣₁ told) x
@@ -48,7 +49,7 @@ module _ (m : Machine) (journal : List Entry) (p : FinMap nat_cmp ℕ) (is : IsT
       let h = well_of.handles in
       record { kinds = h.kinds; extras = h.extras; dependents = h.dependents; blocks = h.blocks }
 
-  -- where the journal has room for one entry more
+  -- where the journal has room for one more entry
   module _ (room : length journal + 1 < 2 ^ 32) where
     pub small_of : (caller : ℕ) → last_serial m.state caller + 1 < 2 ^ 32
     small_of caller =
@@ -67,7 +68,7 @@ module _ (m : Machine) (journal : List Entry) (p : FinMap nat_cmp ℕ) (is : IsT
           room,
         )
 
-  -- where a command keeps places and the journal gets its entry
+  -- where a command keeps pinned addresses and the journal gets its entry
   module _ (next : Machine) (e : Entry) (entries : List Entry) (keeps : KeepsPlaces m e next)
       (same : next.numbers ≡ m.numbers) (longer : entries ≡ journal ++ e ∷ []) where
     moved : Moves m e next p
@@ -80,13 +81,14 @@ module _ (m : Machine) (journal : List Entry) (p : FinMap nat_cmp ℕ) (is : IsT
           (sym same)
           (push is.run (record { step = moved.step; ages = moved.ages })));
       addresses = moved.addresses;
+      limits = subst HasLimits (sym same) is.limits;
     }
 
-    -- there are places with which it leads on
+    -- there are pinned addresses with which it leads on
     pub placed_on : Placed next entries
     placed_on = (moved.places, ∣ goes_on ∣₁)
 
-    -- and with whatever places are told to be those it does
+    -- and with any that are said to be those it does
     at_next : (P : FinMap nat_cmp ℕ → Type 0) → P moved.places → (q : Placed next entries) → P q.0
     at_next P x q = at_places next entries moved.places q.0 P goes_on q.1 x
 
@@ -102,14 +104,16 @@ module _ (m : Machine) (journal : List Entry) (p : FinMap nat_cmp ℕ) (is : IsT
     ages_on = moved.ages
 
 module _ (m : Machine) (entries : List Entry) (first : m.state ≡ start_of m.numbers)
-    (oldest : m.ages ≡ replicate (4 * m.numbers.blocks) 2) (none : entries ≡ []) where
-  -- at first there is no place
+    (oldest : m.ages ≡ replicate (4 * m.numbers.blocks) 2) (none : entries ≡ [])
+    (within : HasLimits m.numbers) where
+  -- at first there is no pinned address
   begins : IsTrueRun m entries empty
   begins = record {
     run = subst (λ es. AgedRun m.numbers es (with_places m.state empty) m.ages) (sym none)
         (subst (λ s. AgedRun m.numbers [] (with_places s empty) m.ages) (sym first)
         (subst (λ ages. AgedRun m.numbers [] (start_of m.numbers) ages) (sym oldest) stay));
     addresses = λ x at found. absurd (nothing_at x at found);
+    limits = within;
   }
 
   pub placed_first : Placed m entries

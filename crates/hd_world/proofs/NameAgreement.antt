@@ -1,4 +1,4 @@
--- Two ways to name that agree on what is named give the same readings.
+-- Two maps from references to identities that agree on the references of a row or a list read it alike.
 use Rattle.std.proofs.Common.{◌≡◌, suc, List, [], ◌∷◌, map, Option, Some, None, refl, ap, subst, arith}
 use Rattle.std.specs.Prelude.{option_map, Contains}
 use Rattle.hd_model.specs.State.{Object, Extra, nothing, strength, secondary, count, Handle, secondary_of, rename_extra, rename_object, rename_handle}

@@ -1,4 +1,4 @@
--- The row of a made handle may stand once the age of its clump is lowered for it.
+-- The row of a new handle may be stored once the age of its clump is lowered for it.
 use Rattle.std.proofs.Common.{◌≡◌, ℕ, ◌≤◌, true, false, List, [], Option, Some, None, refl, sym, ap, ◌∙◌, subst, arith, T}
 use Rattle.std.specs.Prelude.{IfSome, unwrap_or}
 use Rattle.std.specs.FinMap.{get}
@@ -9,7 +9,6 @@ use Rattle.hd_model.specs.declared.data.Kind.{Kind}
 use Rattle.hd_model.specs.declared.data.Make.{Make}
 use Rattle.hd_model.specs.declared.data.Make.TheVariants as make
 use Rattle.hd_model.specs.declared.data.Grown.{Grown}
-use Rattle.hd_model.specs.declared.data.Grown.TheVariants.{Zero, One, Two, Back}
 use Rattle.hd_model.specs.State.{Object, Extra, nothing, strength, secondary, count, State, secondary_of, object_by_id}
 use Rattle.hd_model.specs.Scene.{scene_of, generation_in, generation_at}
 use Rattle.hd_model.specs.Ages.{age_of}
@@ -25,7 +24,7 @@ use Rattle.hd_world.specs.Store.{Machine}
 use Rattle.hd_world.specs.Objects.{object_named}
 use Rattle.hd_world.specs.Handles.{MayStand}
 use Rattle.hd_world.specs.Making.{IsMadeRow}
-use Rattle.hd_world.proofs.Readings.{no_some}
+use Rattle.hd_world.proofs.IdentityReadings.{no_some}
 
 generation_read : (o : Option (Object Id))
     → generation_in o
@@ -73,12 +72,6 @@ module _ (s : State) (ages : List ℕ) (slot : Slot) (m : Make) where
       by (make.Variable given) (secondary v) f e = absurd (subst T (sym f) tt)
       by make.Counted (secondary v) f e = absurd (subst T (sym f) tt)
       by (make.Dependent r) (secondary v) f e = let low = lowered_here ages slot.0 0 in omega arith
-
-growth_objects : (s : State) (k : Kind) (g : Grown) → (with_growth s k g).objects ≡ s.objects
-growth_objects s k Zero = refl
-growth_objects s k (One b) = refl
-growth_objects s k (Two b d) = refl
-growth_objects s k (Back b) = refl
 
 each_some : {A : Type 0} (o : Option A) (P : A → Type 0) → ((a : A) → o ≡ Some a → P a) → IfSome o P
 each_some None P each = tt

@@ -4,14 +4,14 @@ ghost use Rattle.hd_model.specs.declared.data.Reply.TheVariants as reply;
 
 use hd_model::{Cmd, Entry, Grown, Refusal, Reply};
 
-/// A command of a caller, which is to be answered by an entry.
+/// A command of a caller, which gets an entry.
 #[derive(Clone, Copy)]
-pub(crate) struct Order {
+pub(crate) struct CallerCommand {
     pub(crate) caller: u32,
     pub(crate) cmd: Cmd,
 }
 
-impl Order {
+impl CallerCommand {
     /// The entry of a command that gives and frees no slot.
     pub(crate) fn reply(self, reply: Reply) -> Entry
         ensures { let cmd = self.cmd in

@@ -28,15 +28,15 @@ use Rattle.hd_world.specs.Objects.{object_named}
 use Rattle.hd_world.specs.Growth.{kind_in_use}
 use Rattle.hd_model.specs.Kinds.{is_paired}
 use Rattle.hd_world.specs.Handles.{handle_named, MayStand}
-use Rattle.hd_world.proofs.Maps.{get-put, get-put_other, same_numbers, some_same}
-use Rattle.hd_world.proofs.Readings.{no_some, rows-get, names-are}
-use Rattle.hd_world.proofs.Standing.{known_object, generation-is}
+use Rattle.hd_world.proofs.EntryMaps.{get-put, get-put_other, same_numbers, some_same}
+use Rattle.hd_world.proofs.IdentityReadings.{no_some, rows-get, names-are}
+use Rattle.hd_world.proofs.NamedAddresses.{known_object, generation-is}
 
 -- the parts with another table
 abbrev pub with_table : Parts → Table → Parts
 with_table f t = record f { table = t }
 
--- a row may stand in a slot of these parts
+-- a row may be stored in a slot of these parts
 pub record Stands (f : Parts) (slot : ℕ) (row : Handle Addr) : Type 0 where
   pub target : (x : Addr) → row.target ≡ Some x → is_object (object_at f.heap) x ≡ true
   pub second : (x : Addr) → secondary_of row.extra ≡ Some x → is_object (object_at f.heap) x ≡ true
@@ -46,7 +46,7 @@ pub record Stands (f : Parts) (slot : ℕ) (row : Handle Addr) : Type 0 where
   pub second_age : (x : Addr) → secondary_of row.extra ≡ Some x
       → age_of f.ages slot ≤ generation_at (object_at f.heap) x
 
--- each row of a store may stand where it does
+-- each row of a store may be stored where it is
 pub stands : (f : Parts) → IsStored f → (slot : ℕ) (row : Handle Addr) → get f.table.rows slot ≡ Some row
     → Stands f slot row
 stands f stored slot row is = record {
@@ -58,8 +58,7 @@ stands f stored slot row is = record {
   second_age = λ x e. stored.ages.secondaries slot row x is e;
 }
 
--- a table whose rows may all stand
--- what a use of a block says
+-- the blocks with a use are those of the table
 abbrev pub IsWithin : Table → Type 0
 IsWithin t = (block : ℕ) → IsSome (get t.uses block) → (1 ≤ block) × (block ≤ t.blocks)
 
@@ -170,7 +169,7 @@ module _ (f : Parts) (m : Machine) (view : machine_of f ≡ m) where
       })
       ∙ ap (λ (n : Machine). record n { state = without_handle n.state slot }) view
 
--- a secondary stands only in a dependent row
+-- only a dependent row has a secondary
 attaching : (k : Kind) (e : Extra Addr) (target : Option Addr) (x : Addr) → fits k e ≡ true
     → secondary_of e ≡ Some x → role (record { kind = k; target = target; extra = e }) ≡ attaches
 attaching kind.Dependent e target x fit is = refl
@@ -184,7 +183,7 @@ attaching kind.Pinned (secondary o) target x fit is = absurd (subst T (sym fit) 
 attaching kind.Variable (secondary o) target x fit is = absurd (subst T (sym fit) tt)
 attaching kind.Counted (secondary o) target x fit is = absurd (subst T (sym fit) tt)
 
--- a row that may stand in the words of the store may stand in its parts
+-- a row that may be stored in the words of the store may be stored in its parts
 module _ (f : Parts) (m : Machine) (view : machine_of f ≡ m) (stored : IsStored f) where
   is_there : (o : Option Addr) (x : Addr) → IsNamed m.names o → o ≡ Some x → IsSome (get m.names x.0)
   is_there o x named is = subst (IsNamed m.names) is named
@@ -294,7 +293,7 @@ stored-grown f t k stored (Err e) grows after kept =
     stored-same f t stored (ap (λ (s : Table). s.rows) kept) (ap (λ (s : Table). s.blocks) kept)
     (subst IsWithin (sym kept) stored.uses)
 
--- a block without a kind any more
+-- a block that has lost its kind
 back_within : (m : FinMap nat_cmp BlockUse) (k most : ℕ) → ((b : ℕ) → IsSome (get m b) → (1 ≤ b) × (b ≤ most))
     → (b : ℕ) → IsSome (get (remove m k) b) → (1 ≤ b) × (b ≤ most)
 back_within m k most old b is =

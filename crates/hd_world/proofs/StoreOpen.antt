@@ -1,4 +1,4 @@
--- A store at first: nothing is made, and each register, static and board place is null or empty.
+-- A store at first: nothing is made, and each register, static and entry of the board is null or empty.
 use Rattle.std.proofs.Common.{◌≡◌, ℕ, zero, suc, ◌+◌, ◌*◌, ◌≤◌, List, [], ◌∷◌, map, length, replicate, Option, Some, None, refl, sym, ap, ◌∙◌, subst, arith}
 use Rattle.std.specs.Prelude.{option_map, IsSome, Contains, T, sum_by, is_some, true}
 use Rattle.std.specs.FinMap.{get, empty, entries, values, from_entries, get-empty, len-empty, len-entries}
@@ -14,9 +14,9 @@ use Rattle.hd_heap.specs.Calls.{empty_heap}
 use Rattle.hd_world.specs.Rows.{rows_of, rest_of}
 use Rattle.hd_world.specs.Reading.{names_of, read_object, objects_by_id, rows_by_id}
 use Rattle.hd_world.specs.Stored.{Parts, callers_of, state_of, numbers_of, IsStored}
-use Rattle.hd_world.proofs.Newborn.{no_names}
-use Rattle.hd_world.proofs.Readings.{no_some}
-use Rattle.hd_world.proofs.Roots.{rows-first, rest-first}
+use Rattle.hd_world.proofs.StoreNew.{no_names}
+use Rattle.hd_world.proofs.IdentityReadings.{no_some}
+use Rattle.hd_world.proofs.RootRows.{rows-first, rest-first}
 
 nothing_at : {A : Type 0} (q : ℕ) (x : A) → get (empty {X = A} {R = nat_cmp}) q ≡ Some x → ⊥
 nothing_at q x e = no_some x (sym e ∙ get-empty nat_cmp q)

@@ -7,10 +7,10 @@ use Rattle.std.specs.Ordering.{nat_cmp}
 use Rattle.std.specs.Cmp.{nat_cmp_total}
 use Rattle.std.proofs.lemmas.List.{length-map}
 use Rattle.std.proofs.lemmas.List.Sums.{sum_by-cons}
-use Rattle.hd_world.proofs.Maps.{Among, both, below, find-mapped, source, AreApart, rekeyed, among-find, find-among, first, later}
+use Rattle.hd_world.proofs.EntryMaps.{Among, both, below, find-mapped, source, AreApart, rekeyed, among-find, find-among, first, later}
 use Rattle.hd_model.proofs.Sums.{share, sum-insert}
 
--- no key stands twice
+-- no key occurs twice
 abbrev pub AreFresh : {A : Type 0} → List (ℕ × A) → Type 0
 AreFresh [] = Unit {0}
 AreFresh (e ∷ es) = (find nat_cmp e.0 es ≡ None) × AreFresh es

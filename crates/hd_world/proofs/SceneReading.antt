@@ -1,4 +1,4 @@
--- The state of a store is a reading of what its collection looks at.
+-- The state of a store is a reading of what its collection reads.
 use Rattle.std.proofs.Common.{◌≡◌, ℕ, zero, suc, ◌++◌, true, List, map, take, drop, Option, Some, None, refl, sym, ap, ◌∙◌, subst}
 use Rattle.std.specs.Prelude.{option_map, is_some, T}
 use Rattle.std.specs.FinMap.{get}
@@ -11,8 +11,8 @@ use Rattle.hd_model.specs.Heap.{Placed, region_of, region_generation, object_in,
 use Rattle.hd_world.specs.Rows.{rows_of, rest_of}
 use Rattle.hd_world.specs.Reading.{objects_by_id}
 use Rattle.hd_world.specs.Stored.{Parts, callers_of, state_of, scene_of_parts}
-use Rattle.hd_world.proofs.Readings.{same_id, rows-get, objects-get, objects-under}
-use Rattle.hd_world.proofs.Standing.{placed_is, object_is}
+use Rattle.hd_world.proofs.IdentityReadings.{same_id, rows-get, objects-get, objects-under}
+use Rattle.hd_world.proofs.NamedAddresses.{placed_is, object_is}
 
 -- all registers and then the statics are the roots
 pub rows-all : {A : Type 0} (n : ℕ) (xs : List A) → joined (rows_of n xs) ++ rest_of n xs ≡ xs
@@ -22,7 +22,7 @@ rows-all (suc n) xs =
     append_assoc (take 16 xs) (joined (rows_of n (drop 16 xs))) (rest_of n (drop 16 xs))
     ∙ ap (λ ys. take 16 xs ++ ys) (rows-all n (drop 16 xs)) ∙ take-append-drop 16 xs
 
--- something that is there
+-- the item of an option that has one
 pub found : {A : Type 0} (o : Option A) → is_some o ≡ true → (x : A) × (o ≡ Some x)
 found None e = absurd (subst T (sym e) tt)
 found (Some x) e = (x, refl)

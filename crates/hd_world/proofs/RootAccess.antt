@@ -1,4 +1,4 @@
--- What the roots of a store name: registers and statics read and written.
+-- What the roots of a store reference: registers and statics read and written.
 use Rattle.std.proofs.Common.{◌≡◌, ℕ, ◌+◌, ◌*◌, ◌<◌, true, map, length, get_or, set, Option, Some, None, refl, sym, ap, ◌∙◌, subst, inl, inr, arith}
 use Rattle.std.specs.Prelude.{option_map, Contains, IfSome}
 use Rattle.std.proofs.lemmas.List.{map-set, length-set, get_or_default}
@@ -9,12 +9,12 @@ use Rattle.hd_world.specs.Rows.{rows_of, rest_of}
 use Rattle.hd_world.specs.Reading.{named_in, IsNamed}
 use Rattle.hd_world.specs.Stored.{Parts, callers_of, state_of, IsStored}
 use Rattle.hd_world.specs.Store.{Machine, machine_of}
-use Rattle.hd_world.proofs.Roots.{rows-get, rest-get, rows-set, rest-set_row, rest-set, rows-set_rest}
-use Rattle.hd_world.proofs.Readings.{named-is}
-use Rattle.hd_world.proofs.Standing.{named_objects, objects_named, field-read}
+use Rattle.hd_world.proofs.RootRows.{rows-get, rest-get, rows-set, rest-set_row, rest-set, rows-set_rest}
+use Rattle.hd_world.proofs.IdentityReadings.{named-is}
+use Rattle.hd_world.proofs.NamedAddresses.{named_objects, objects_named, field-read}
 use Rattle.hd_world.proofs.Barrier.{contains_set}
 
--- the parts with another root at a place
+-- the parts with another root at an index
 abbrev pub with_root : Parts → ℕ → Option Addr → Parts
 with_root f i v = record f { roots = set f.roots i v }
 

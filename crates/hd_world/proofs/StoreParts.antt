@@ -1,4 +1,4 @@
--- The fields of a store as the parts of which its lemmas speak.
+-- The fields of a store as the parts that its lemmas are about.
 use Rattle.hd_world.specs.declared.store.Store.TheInside.{Inside}
 use Rattle.hd_world.specs.Stored.{Parts}
 

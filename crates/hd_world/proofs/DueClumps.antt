@@ -17,7 +17,7 @@ use Rattle.hd_model.specs.Visits.{visits_of}
 use Rattle.hd_model.proofs.Members.{not_in_none, pairs_none, pairs_cons, mapped_in, mapped_from, member_cases, passing_from, passing_in, pairs_passing}
 use Rattle.hd_model.proofs.Entries.{entry_of}
 use Rattle.hd_model.proofs.KindTests.{same_kind}
-use Rattle.hd_model.proofs.Weighing.{lighter}
+use Rattle.hd_model.proofs.MemberWeights.{lighter}
 use Rattle.hd_gc.specs.Steps.{CollectSteps}
 use Rattle.hd_world.specs.Visited.{has_kind, blocks_of, due_in, CollectedSteps}
 
@@ -56,7 +56,7 @@ both false b p = absurd p
 less : (x y : ℕ) → T (is_lt (nat_cmp x y)) → x < y
 less x y h = grind (arith, nat_tests)
 
--- no key stands twice
+-- no key occurs twice
 module _ {A : Type 0} where
   below : (x : ℕ) (es : List (ℕ × A)) → T (below_all nat_cmp x es) → (e : ℕ × A) → Contains es e → x < e.0
   below x [] h e c = absurd (not_in_none e c)

@@ -1,4 +1,4 @@
--- What the calls of a heap answer, in the words of the store.
+-- What the calls of a heap return, in the words of the store.
 use Rattle.std.proofs.Common.{◌≡◌, ℕ, zero, suc, ◌<◌, true, false, List, [], ◌∷◌, map, length, get_or, Option, Some, None, refl, sym, ap, ◌∙◌, subst}
 use Rattle.std.specs.Prelude.{option_map, unwrap_or, is_some, IsSome, IfSome, Contains, T}
 use Rattle.std.proofs.lemmas.List.{length-map}
@@ -13,9 +13,9 @@ use Rattle.hd_world.specs.Reading.{names_of, read_object, name_in, named_in, IsN
 use Rattle.hd_world.specs.Stored.{Parts, state_of, IsStored}
 use Rattle.hd_world.specs.Store.{Machine, machine_of}
 use Rattle.hd_world.specs.Objects.{object_named}
-use Rattle.hd_world.proofs.Readings.{names-get, name-is, named-is, objects-get}
+use Rattle.hd_world.proofs.IdentityReadings.{names-get, name-is, named-is, objects-get}
 
--- an address that has a name has an object, and the other way round
+-- an address that has an identity has an object, and the other way round
 named_placed : (o : Option Placed) → is_some (option_map (λ (p : Placed). p.id) o) ≡ is_some o
 named_placed None = refl
 named_placed (Some p) = refl
@@ -50,7 +50,7 @@ stands_by : (o : Option Placed) (d : Placed) → is_some o ≡ true → o ≡ So
 stands_by None d e = absurd (subst T (sym e) tt)
 stands_by (Some p) d e = refl
 
--- what stands at the address of an object
+-- what is stored at the address of an object
 pub placed_is : (h : Heap) (at : Addr) → has_object h at ≡ true → get h.objects at.0 ≡ Some (placed_at h at)
 placed_is h at known = stands_by (get h.objects at.0)
     (record { id = record { 0 = 0 }; fields = []; value = 0; registered = false })
@@ -80,7 +80,7 @@ field-read g [] i = refl
 field-read g (v ∷ fields) zero = refl
 field-read g (v ∷ fields) (suc i) = field-read g fields i
 
--- what stands at an address of a store
+-- what is stored at an address of a store
 module _ (f : Parts) (m : Machine) (view : machine_of f ≡ m) (stored : IsStored f) (at : Addr)
     (known : IsSome (get m.names at.0)) where
   pub in_heap : has_object f.heap at ≡ true

@@ -9,7 +9,7 @@ use Rattle.hd_model.specs.declared.data.Addr.{Addr}
 use Rattle.hd_model.specs.State.{Object, Handle, rename_object, rename_handle}
 use Rattle.hd_model.specs.Heap.{Placed, Heap, region_of, object_in, id_in, id_at, HasIdentities}
 use Rattle.hd_world.specs.Reading.{names_of, read_object, objects_by_id, rows_by_id, name_in, named_in}
-use Rattle.hd_world.proofs.Maps.{get-put, get-put_other, same_numbers, some_same, get-mapped, Under, AreApart, under, get-rekeyed}
+use Rattle.hd_world.proofs.EntryMaps.{get-put, get-put_other, same_numbers, some_same, get-mapped, Under, AreApart, under, get-rekeyed}
 
 pub no_some : {A : Type 0} (x : A) → Some x ≡ None → ⊥
 no_some x e = subst T (ap is_some e) tt
@@ -159,7 +159,7 @@ module _ (h k : Heap) (a : ℕ) (old new : Placed) (r : Replaces h k a old new) 
       let v = was_there c q second in
       identities b c u.0 v.0 u.1.0 v.1.0 (u.1.1 ∙ same ∙ sym v.1.1)
 
-  -- and the objects by identity have the new one in the place of the old
+  -- and the objects by identity have the new one in place of the old
   pub objects-replace : HasIdentities h → objects_by_id k ≡ insert (objects_by_id h) old.id.0
       (read_object h a new)
   objects-replace identities = objects-are k (insert (objects_by_id h) old.id.0 (read_object h a new))

@@ -1,4 +1,4 @@
--- The first object that waits is taken out of a store's queue.
+-- The first object is taken out of a store's queue.
 use Rattle.std.proofs.Common.{◌≡◌, suc, map, ◌∷◌, [], Option, Some, None, refl, sym, ap, ◌∙◌, subst, arith}
 use Rattle.std.specs.Prelude.{Contains, MatchOption}
 use Rattle.hd_model.specs.declared.data.Addr.{Addr}
@@ -8,8 +8,8 @@ use Rattle.hd_model.specs.Table.{Queue}
 use Rattle.hd_world.specs.Reading.{names_of, name_in, IsNamed}
 use Rattle.hd_world.specs.Stored.{Parts, IsStored}
 use Rattle.hd_world.specs.Store.{Machine, machine_of}
-use Rattle.hd_world.proofs.Readings.{name-is}
-use Rattle.hd_world.proofs.Standing.{objects_named}
+use Rattle.hd_world.proofs.IdentityReadings.{name-is}
+use Rattle.hd_world.proofs.NamedAddresses.{objects_named}
 
 -- the parts with another queue
 abbrev pub with_waiting : Parts → Queue → Parts
@@ -41,7 +41,7 @@ module _ (f : Parts) (m : Machine) (view : machine_of f ≡ m) (q : Queue) where
         (waits y (subst (Contains (at ∷ q.waiting)) (some_is y same) (0, omega arith, refl)))))
       where
         some_is : (y : Addr) → Some at ≡ Some y → at ≡ y
-        some_is y same = Rattle.hd_world.proofs.Maps.some_same at y same
+        some_is y same = Rattle.hd_world.proofs.EntryMaps.some_same at y same
 
     pub stored-queue : IsStored f → IsStored (with_waiting f q)
     stored-queue stored = record {
@@ -68,7 +68,7 @@ module _ (f : Parts) (m : Machine) (view : machine_of f ≡ m) (q : Queue) where
       uses = stored.uses;
     }
 
--- what the queue answers, whether something waits or not
+-- what the queue returns, whether it is empty or not
 abbrev pub IsPop : Parts → Queue → Option Addr → Type 0
 IsPop f q r = MatchOption r ((f.queue.waiting ≡ []) × (q ≡ f.queue))
     (λ at. f.queue ≡ record q { waiting = at ∷ q.waiting })

@@ -12,26 +12,27 @@ use Rattle.hd_model.specs.State.{Handle, BlockUse, rename_handle}
 use Rattle.hd_model.specs.Role.{pins}
 use Rattle.hd_model.specs.Reach.{IsPinned}
 use Rattle.hd_model.specs.Compact.{IsCompact}
-use Rattle.hd_model.proofs.Counting.{counts_named}
+use Rattle.hd_model.proofs.PropertyCounts.{counts_named}
 use Rattle.hd_model.specs.Places.{is_pinned, with_places}
 use Rattle.hd_model.specs.Collect.{Collects, CollectsState}
 use Rattle.hd_model.specs.Scene.{scene_of}
 use Rattle.hd_model.specs.Heap.{Heap, Placed, id_at, id_in, has_object}
 use Rattle.hd_model.specs.Table.{Table, IsTable, Queue, row_at}
-use Rattle.hd_model.proofs.Pinning.{pinned_decides}
-use Rattle.hd_model.proofs.PinsRenamed.{pins_renamed}
+use Rattle.hd_model.proofs.PinTest.{pinned_decides}
+use Rattle.hd_model.proofs.RenamedPins.{pins_renamed}
 use Rattle.hd_gc.specs.Collected.{Collected}
 use Rattle.hd_world.specs.Rows.{rows_of, rest_of}
 use Rattle.hd_world.specs.Reading.{names_of, objects_by_id, rows_by_id}
 use Rattle.hd_world.specs.Stored.{Parts, callers_of, state_of, IsStored}
 use Rattle.hd_world.specs.Store.{Machine, machine_of}
-use Rattle.hd_world.specs.Places.{AreAddresses, kept_places, HasCollected, IsCompactStore}
+use Rattle.hd_world.specs.Places.{AreAddresses, kept_places, HasCollected}
+use Rattle.hd_world.specs.StateHeap.{IsCompactStore}
 use Rattle.hd_world.specs.Visited.{CollectedSteps}
-use Rattle.hd_world.proofs.Visited.{steps-collected}
-use Rattle.hd_world.proofs.Maps.{some_same}
-use Rattle.hd_world.proofs.Readings.{no_some, names-get, rows-get}
-use Rattle.hd_world.proofs.Standing.{placed_is}
-use Rattle.hd_world.proofs.Gathered.{rows-all, apart_here, state-reads}
+use Rattle.hd_world.proofs.DueClumps.{steps-collected}
+use Rattle.hd_world.proofs.EntryMaps.{some_same}
+use Rattle.hd_world.proofs.IdentityReadings.{no_some, names-get, rows-get}
+use Rattle.hd_world.proofs.NamedAddresses.{placed_is}
+use Rattle.hd_world.proofs.SceneReading.{rows-all, apart_here, state-reads}
 
 -- the parts after a collection
 abbrev pub left_parts : Parts → Heap → Table → List ℕ → Queue → List (Option Addr) → Parts
@@ -156,7 +157,7 @@ module _ (f : Parts) (stored : IsStored f) (h : Heap) (t : Table) (ages : List �
         (was.0, omega (arith, was.1, done.table.blocks));
   }
 
-  -- a place that is kept
+  -- a pinned address that is kept
   pub place-kept : (p : FinMap nat_cmp ℕ) (x : ℕ)
       → get (kept_places (state_of f) p) x ≡ cond (is_pinned (state_of f).handles x) (get p x) None
   place-kept p x =
@@ -177,7 +178,7 @@ module _ (f : Parts) (stored : IsStored f) (h : Heap) (t : Table) (ages : List �
     serials = refl;
   }
 
-  -- a pinned object stands where it stood
+  -- a pinned object stays at its address
   pinned_there : (a x : ℕ) → is_pinned (state_of f).handles x ≡ true
       → get (names_of f.heap) a ≡ Some (record { 0 = x }) → get (names_of h) a ≡ Some (record { 0 = x })
   pinned_there a x pinned named =
@@ -239,7 +240,7 @@ module _ (f : Parts) (stored : IsStored f) (h : Heap) (t : Table) (ages : List �
   has-collected m view = subst (λ (w : Machine). HasCollected w (machine_of (left_parts f h t ages q roots)) n
       report) view left_for
 
--- a collection that found no memory may have taken spare regions
+-- a collection that ran out of memory may have taken free regions
 module _ (f : Parts) (spare : List ℕ) where
   abbrev spared : Parts
   spared = record f { heap = record f.heap { spare = spare } }
@@ -275,7 +276,7 @@ lent (x ∷ xs) (y ∷ ys) n e same =
     ap (λ k. take k ((x ∷ xs) ++ drop (length (x ∷ xs)) (y ∷ ys))) e
     ∙ ap (λ zs. x ∷ zs) (lent xs ys (length ys) refl (omega (arith, same)))
 
--- what a collection answers and leaves of a store's parts
+-- what a collection returns and leaves of a store's parts
 abbrev pub IsAnswer : Parts → Heap → Table → List ℕ → Queue → List (Option Addr) → ℕ → ℕ → ℕ
     → Result Report Memory → Type 0
 IsAnswer f h t ages q roots n before after r =

@@ -5,7 +5,7 @@ use Rattle.std.proofs.Math.Seq.{take-set-lt}
 use Rattle.hd_world.specs.Rows.{rows_of, rest_of}
 
 module _ {A : Type 0} where
-  -- register d of caller c stands at 16 * c + d, and static k at 16 * n + k
+  -- register d of caller c is at 16 * c + d, and static k at 16 * n + k
   pub rows-get : (n c d i : ℕ) (xs : List A) (e : A) → i ≡ 16 * c + d → c < n → d < 16
       → get_or (get_or (rows_of n xs) c []) d e ≡ get_or xs i e
   unfolding rows_of

@@ -1,4 +1,4 @@
--- The address of an object is a place that may be answered for it.
+-- The address of an object may be returned as its pinned address.
 use Rattle.std.proofs.Common.{◌≡◌, ℕ, ◌<◌, ◌^◌, true, Option, Some, None, refl, sym, ap, ◌∙◌, subst, inl, inr, arith}
 use Rattle.std.specs.Prelude.{option_map, is_some, IsSome}
 use Rattle.std.specs.Option.{MatchOption}
@@ -16,12 +16,12 @@ use Rattle.hd_world.specs.Stored.{Parts, state_of, IsStored}
 use Rattle.hd_world.specs.Store.{Machine, machine_of}
 use Rattle.hd_world.specs.Objects.{object_named}
 use Rattle.hd_world.specs.Places.{AreAddresses, HasPlace}
-use Rattle.hd_world.proofs.Maps.{get-put, get-put_other, some_same}
-use Rattle.hd_world.proofs.Readings.{no_some, names-get}
-use Rattle.hd_world.proofs.Standing.{object-named, known_object}
-use Rattle.hd_world.proofs.Counted.{read-size}
+use Rattle.hd_world.proofs.EntryMaps.{get-put, get-put_other, some_same}
+use Rattle.hd_world.proofs.IdentityReadings.{no_some, names-get}
+use Rattle.hd_world.proofs.NamedAddresses.{object-named, known_object}
+use Rattle.hd_world.proofs.StateCounts.{read-size}
 
--- an address with a name
+-- an address with an identity
 named_there : {A : Type 0} (o : Option A) (x : A) → o ≡ Some x → IsSome o
 named_there o x is = subst IsSome (sym is) refl
 
@@ -29,7 +29,7 @@ module _ (f : Parts) (stored : IsStored f) (sound : IsSound f.heap) where
   abbrev m : Machine
   m = machine_of f
 
-  -- the size of an object is that of what stands at its address
+  -- the size of an object is that of what is stored at its address
   size_is : (x : Addr) → has_object f.heap x ≡ true
       → size_of (object_named (machine_of f) x) ≡ cells_of (placed_at f.heap x)
   size_is x is = ap size_of (object-named f stored x is) ∙ read-size f.heap x.0 (placed_at f.heap x)
@@ -52,7 +52,7 @@ module _ (f : Parts) (stored : IsStored f) (sound : IsSound f.heap) where
         | inr (inr more) ↦ let gap = sound.apart y x there here more in omega (arith, gap, meet.left, yours)
       ]
 
-  -- two addresses with one name are one
+  -- two addresses with one identity are one
   one_address : (a b : ℕ) (x : Id) → get (names_of f.heap) a ≡ Some x → get (names_of f.heap) b ≡ Some x
       → a ≡ b
   one_address a b x first second = by (get f.heap.objects a) (get f.heap.objects b) refl refl

@@ -1,4 +1,4 @@
--- Objects, rows and cells are as many by identity as by address.
+-- Objects, rows and words are as many by identity as by address.
 use Rattle.std.proofs.Common.{◌≡◌, ℕ, ◌+◌, List, [], ◌∷◌, map, refl, ap, ◌∙◌, arith}
 use Rattle.std.specs.Prelude.{sum_by, option_map}
 use Rattle.std.specs.FinMap.{FinMap, len, entries, values}
@@ -9,9 +9,9 @@ use Rattle.hd_model.specs.declared.data.Addr.{Addr}
 use Rattle.hd_model.specs.State.{Handle, size_of, rename_handle}
 use Rattle.hd_model.specs.Heap.{Placed, Heap, id_at, cells_of, used_of, HasIdentities}
 use Rattle.hd_world.specs.Reading.{read_object, objects_by_id, rows_by_id}
-use Rattle.hd_world.proofs.Maps.{rekeyed}
-use Rattle.hd_world.proofs.Totals.{sum-fresh, fresh-rekeyed, len-rekeyed, len-mapped}
-use Rattle.hd_world.proofs.Readings.{apart_by_number}
+use Rattle.hd_world.proofs.EntryMaps.{rekeyed}
+use Rattle.hd_world.proofs.EntrySums.{sum-fresh, fresh-rekeyed, len-rekeyed, len-mapped}
+use Rattle.hd_world.proofs.IdentityReadings.{apart_by_number}
 
 pub len-objects : (h : Heap) → HasIdentities h → len (objects_by_id h) ≡ len h.objects
 unfolding objects_by_id

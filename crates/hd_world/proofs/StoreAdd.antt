@@ -1,4 +1,4 @@
--- One object more in a heap: the readings of all else stay.
+-- One more object in a heap: the readings of all else stay.
 use Rattle.std.proofs.Common.{◌≡◌, ℕ, true, List, map, Option, Some, None, refl, sym, ap, ◌∙◌, subst, inl, inr}
 use Rattle.std.specs.Prelude.{option_map, is_some, IsSome, Contains, T}
 use Rattle.std.specs.FinMap.{FinMap, get, insert}
@@ -10,11 +10,11 @@ use Rattle.hd_model.specs.State.{Object, Handle, secondary_of, rename_object, re
 use Rattle.hd_model.specs.Scene.{is_object, fields_in, IsField}
 use Rattle.hd_model.specs.Heap.{Placed, Heap, region_generation, region_of, object_in, object_at, id_in, id_at, HasIdentities}
 use Rattle.hd_world.specs.Reading.{names_of, read_object, objects_by_id, rows_by_id}
-use Rattle.hd_world.proofs.Maps.{get-put, get-put_other, same_numbers, some_same}
-use Rattle.hd_world.proofs.Agreeing.{map_agrees, names_agree, object_agrees, handle_agrees}
-use Rattle.hd_world.proofs.Readings.{names-get, rows-get, objects-get, objects-under, Stands, objects-are}
+use Rattle.hd_world.proofs.EntryMaps.{get-put, get-put_other, same_numbers, some_same}
+use Rattle.hd_world.proofs.NameAgreement.{map_agrees, names_agree, object_agrees, handle_agrees}
+use Rattle.hd_world.proofs.IdentityReadings.{names-get, rows-get, objects-get, objects-under, Stands, objects-are}
 
--- the heap k is h with one object more, whose identity none has
+-- the heap k is h with one more object, whose identity none has
 pub record Adds (h k : Heap) (a : ℕ) (new : Placed) : Type 0 where
   pub vacant : get h.objects a ≡ None
   pub fresh : (b : ℕ) (p : Placed) → get h.objects b ≡ Some p → p.id.0 ≡ new.id.0 → ⊥
@@ -43,9 +43,6 @@ module _ (h k : Heap) (a : ℕ) (new : Placed) (r : Adds h k a new) where
   -- every address that has an object has the identity that it had
   pub id-add : (b : Addr) → is_some (get h.objects b.0) ≡ true → id_at k b ≡ id_at h b
   id-add b there = ap id_in (elsewhere b.0 (other b.0 there))
-
-  pub id-new : id_at k (record { 0 = a }) ≡ new.id
-  id-new = ap id_in at_it
 
   pub names-add : names_of k ≡ insert (names_of h) a new.id
   names-add =
@@ -79,7 +76,7 @@ module _ (h k : Heap) (a : ℕ) (new : Placed) (r : Adds h k a new) where
         ]
       ]
 
-  -- names that are objects of h are read as they were
+  -- references to objects of h are read as they were
   pub roots-add : (names : List (Option Addr))
       → ((x : Addr) → Contains names (Some x) → is_object (object_at h) x ≡ true)
       → map (option_map (id_at k)) names ≡ map (option_map (id_at h)) names
@@ -111,7 +108,7 @@ module _ (h k : Heap) (a : ℕ) (new : Placed) (r : Adds h k a new) where
       rows-get k rows slot ∙ row_same (get rows slot) (targets slot) (seconds slot)
       ∙ sym (rows-get h rows slot))
 
-  -- what stands at an address of h is read as it was
+  -- what is stored at an address of h is read as it was
   read-add : ((x y : Addr) → IsField (object_at h) x y → is_object (object_at h) y ≡ true)
       → (b : ℕ) (p : Placed) → get h.objects b ≡ Some p → read_object k b p ≡ read_object h b p
   read-add whole b p is =
@@ -123,7 +120,7 @@ module _ (h k : Heap) (a : ℕ) (new : Placed) (r : Adds h k a new) where
       (sym is) c))))
       ∙ ap (λ g. rename_object (id_at h) (object_in g p)) (r.generations at (ap is_some is))
 
-  -- and the objects by identity have the new one besides
+  -- and the objects by identity have the new one too
   pub objects-add : HasIdentities h
       → ((x y : Addr) → IsField (object_at h) x y → is_object (object_at h) y ≡ true)
       → objects_by_id k ≡ insert (objects_by_id h) new.id.0 (read_object k a new)

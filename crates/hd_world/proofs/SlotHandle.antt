@@ -1,5 +1,5 @@
 -- The handle in a slot of a store, as commands find it.
-use Rattle.std.proofs.Common.{◌≡◌, ◌≤◌, true, Option, Some, None, refl, sym, ap, ◌∙◌, subst, arith}
+use Rattle.std.proofs.Common.{◌≡◌, ◌≤◌, true, Option, Some, None, refl, sym, ap, ◌∙◌, subst}
 use Rattle.std.specs.Prelude.{option_map, IfSome}
 use Rattle.std.specs.FinMap.{get}
 use Rattle.hd_model.specs.declared.data.Addr.{Addr}
@@ -18,10 +18,10 @@ use Rattle.hd_world.specs.Stored.{Parts, IsStored}
 use Rattle.hd_world.specs.Store.{Machine, machine_of}
 use Rattle.hd_world.specs.Objects.{object_named}
 use Rattle.hd_world.specs.Handles.{handle_named, MayStand}
-use Rattle.hd_world.proofs.Maps.{some_same}
-use Rattle.hd_world.proofs.Readings.{no_some, names-are}
-use Rattle.hd_world.proofs.Standing.{objects_named, generation-is}
-use Rattle.hd_world.proofs.Rowing.{row-read}
+use Rattle.hd_world.proofs.EntryMaps.{some_same}
+use Rattle.hd_world.proofs.IdentityReadings.{no_some, names-are}
+use Rattle.hd_world.proofs.NamedAddresses.{objects_named, generation-is}
+use Rattle.hd_world.proofs.StoreRows.{row-read}
 
 same_extra : (e : Extra Addr) → extra_of (extra_from e) ≡ e
 same_extra nothing = refl
@@ -64,15 +64,6 @@ module _ (f : Parts) (m : Machine) (view : machine_of f ≡ m) (stored : IsStore
   -- its block has a kind
   pub kind-there : None ≡ kind_in_use (use_of m.state (block_of slot)) → ⊥
   kind-there none = no_some at.handle.kind (sym kind_use ∙ sym none)
-
-  pub slot-low : 1 ≤ block_of slot
-  slot-low = let low = (table.rows slot.0 at.handle at.stands).low in omega arith
-
-  pub slot-high : block_of slot ≤ m.numbers.blocks
-  slot-high =
-      let high = (table.rows slot.0 at.handle at.stands).high in
-      let blocks : f.table.blocks ≡ m.numbers.blocks = ap (λ (n : Machine). n.numbers.blocks) view in
-      omega arith
 
   module _ (kind : Kind) (known : Some kind ≡ kind_in_use (use_of m.state (block_of slot))) where
     kind_is : kind ≡ at.handle.kind

@@ -30,7 +30,7 @@ pub get-put_other : {A : Type 0} (m : FinMap nat_cmp A) (k : ℕ) (v : A) (q : �
     → get (insert m k v) q ≡ get m q
 get-put_other m k v q apart = get-insert nat_cmp_total m k v q ∙ found_later q k (Some v) (get m q) apart
 
--- two maps that answer alike are equal
+-- two maps with the same items are equal
 pub same_numbers : {A : Type 0} (m n : FinMap nat_cmp A) → ((q : ℕ) → get m q ≡ get n q) → m ≡ n
 same_numbers m n is = same_map nat_cmp_total nat_cmp-IsAntisymmetric m n is
 
@@ -116,7 +116,7 @@ among-find k v (e ∷ es) is =
 abbrev pub rekeyed : {X Y : Type 0} → (X → ℕ) → (ℕ → X → Y) → List (ℕ × X) → List (ℕ × Y)
 rekeyed key f es = map (λ e. (key e.1, f e.0 e.1)) es
 
--- what stands at a key of the map under other keys
+-- what is at a key of the map under other keys
 pub record Under {X Y : Type 0} (key : X → ℕ) (f : ℕ → X → Y) (m : FinMap nat_cmp X) (x : ℕ)
     (y : Y) : Type 0 where
   pub at : ℕ
@@ -189,7 +189,7 @@ module _ {X Y : Type 0} (key : X → ℕ) (f : ℕ → X → Y) (m : FinMap nat_
         is = s.is;
       }
 
-  -- and each value under the old keys stands under its new one
+  -- and each value under the old keys is under its new one
   pub get-rekeyed : AreApart key m → (a : ℕ) (p : X) → get m a ≡ Some p
       → get (from_entries {R = nat_cmp} (map (λ e. (key e.1, f e.0 e.1)) (entries m))) (key p) ≡ Some (f a p)
   get-rekeyed apart a p is =

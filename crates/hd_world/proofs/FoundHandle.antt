@@ -25,7 +25,7 @@ by_slot s o = option_map_or
 abbrev by_handle : Slot → Option (Handle Id) → Result (Slot × Handle Id) Refusal
 by_handle slot o = option_map_or (λ handle. Ok (slot, handle)) o (Err refusal.NotLive)
 
--- the handle stands in the slot that was found
+-- the handle is in the slot that was found
 pub stands_found : (s : State) (caller h : ℕ) (slot : Slot) (handle : Handle Id)
     → Ok (slot, handle) ≡ live_in s caller h → handle_at s slot ≡ Some handle
 stands_found s caller h slot handle is = first (handle_register_of s caller h) is

@@ -1,4 +1,4 @@
--- The roots of a store by identity are those of its table, each object called by its identity.
+-- The roots of a store by identity are those of its table, each with the identity of its object.
 use Rattle.std.proofs.Common.{◌≡◌, ℕ, ◌≤◌, ◌<◌, ◌^◌, length, Result, Ok, Err, IfOk, Vec, Global, arith, true, ◌&&◌, T, List, [], ◌∷◌, ◌++◌, All, map, Option, Some, None, refl, sym, ap, ◌∙◌, subst}
 use Rattle.std.specs.Prelude.{option_map}
 use Rattle.std.specs.Option.{option_to_list}
@@ -17,13 +17,13 @@ use Rattle.hd_model.specs.State.{Handle, State, rename_handle}
 use Rattle.hd_model.specs.Role.{Role, holds, short, long, attaches, role}
 use Rattle.hd_model.specs.Heap.{Heap, id_at, has_object}
 use Rattle.hd_model.specs.RootText.{held_by, held_of, root_in, roots_in, root_id}
-use Rattle.hd_model.proofs.Naming.{role_renamed}
+use Rattle.hd_model.proofs.RenamedReach.{role_renamed}
 use Rattle.hd_scan.specs.declared.gathering.Root.{Root}
 use Rattle.hd_scan.specs.Gathering.{root_by, roots_of}
 use Rattle.hd_world.specs.Listing.{root_named}
 use Rattle.hd_world.specs.Reading.{rows_by_id}
 use Rattle.hd_world.specs.Stored.{Parts, IsStored}
-use Rattle.hd_world.proofs.Maps.{Among, first, later, find-among, same_numbers}
+use Rattle.hd_world.proofs.EntryMaps.{Among, first, later, find-among, same_numbers}
 
 -- ---- entries of a map with other values
 
@@ -87,7 +87,7 @@ module _ (h : Heap) where
       sym (all_named (entries rows))
       ∙ ap (roots_in root_id) (sym (entries-mapped (λ slot row. rename_handle (id_at h) row) rows))
 
--- ---- what roots hold are objects
+-- ---- what roots reference are objects
 
 module _ (h : Heap) where
   abbrev IsSound : Root → Type 0

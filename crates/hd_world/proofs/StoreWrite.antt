@@ -18,13 +18,13 @@ use Rattle.hd_plan.specs.Plan.{HasNoEmptyRegion}
 use Rattle.hd_world.specs.Store.{Machine, machine_of, without_spare}
 use Rattle.hd_world.specs.Objects.{object_named}
 use Rattle.hd_heap.specs.Calls.{with_object as with_placed}
-use Rattle.hd_world.proofs.Standing.{placed_is, object_is, identity-is, named_object}
-use Rattle.hd_world.proofs.Maps.{get-put, get-put_other}
+use Rattle.hd_world.proofs.NamedAddresses.{placed_is, object_is, identity-is, named_object}
+use Rattle.hd_world.proofs.EntryMaps.{get-put, get-put_other}
 use Rattle.hd_model.proofs.Sums.{share, sum-insert}
-use Rattle.hd_world.proofs.Readings.{Replaces, ids-replace, names-replace, rows-replace, identities-replace, objects-replace}
+use Rattle.hd_world.proofs.IdentityReadings.{Replaces, ids-replace, names-replace, rows-replace, identities-replace, objects-replace}
 
--- the heap k is h with another object of the same size at an address, which names objects, and with the cards
--- that it needs
+-- the heap k is h with another object of the same size at an address, which references objects, and with the
+-- cards that it needs
 pub record Writes (h k : Heap) (at : Addr) (old new : Placed) : Type 0 where
   pub replaces : Replaces h k at.0 old new
   pub limit : k.limit ≡ h.limit
@@ -82,7 +82,7 @@ module _ (h k : Heap) (at : Addr) (old new : Placed) (w : Writes h k at old new)
         | inr apart ↦ ap generation_in (object_same x apart)
       ]
 
-  -- a field of k names what a field of h named, or stands in the object that is written
+  -- a field of k references what a field of h did, or is in the object that is written
   field_from : (x y : Addr) → IsField (object_at k) x y
       → IsField (object_at h) x y ⊎ ((x ≡ at) × Contains new.fields (Some y))
   field_from x y field =

@@ -13,8 +13,8 @@ use Rattle.hd_model.specs.WellFormed.{HasHandles}
 use Rattle.hd_model.specs.Step.{with_growth}
 use Rattle.hd_world.specs.Making.{IsPlace}
 use Rattle.hd_world.specs.Store.{Machine}
-use Rattle.hd_world.proofs.Maps.{get-put, get-put_other}
-use Rattle.hd_world.proofs.Readings.{no_some}
+use Rattle.hd_world.proofs.EntryMaps.{get-put, get-put_other}
+use Rattle.hd_world.proofs.IdentityReadings.{no_some}
 
 abbrev is_growth : Grown → Type 0
 is_growth Zero = ⊥
@@ -25,7 +25,7 @@ is_growth (Back b) = Unit {0}
 first_block : (block : ℕ) → block * 64 / 64 ≡ block
 first_block block = omega arith
 
--- no handle stands in a block without a use
+-- no handle is in a block without a use
 pub vacant_first : (m : Machine) (block : ℕ) → HasHandles m.numbers m.state → use_of m.state block ≡ None
     → handle_at m.state (first_slot block) ≡ None
 vacant_first m block handles unused = by (handle_at m.state (first_slot block)) refl

@@ -21,15 +21,15 @@ use Rattle.hd_world.specs.Stored.{Parts, callers_of, state_of, IsStored}
 use Rattle.hd_plan.specs.Plan.{HasNoEmptyRegion}
 use Rattle.hd_world.specs.Store.{Machine, machine_of, without_spare}
 use Rattle.hd_model.specs.Command.{fresh_object}
-use Rattle.hd_world.specs.Objects.{IsRefused}
+use Rattle.hd_world.specs.Objects.{IsObjectRefused}
 use Rattle.std.proofs.Math.Nat.{le-max_left, le-max_right}
-use Rattle.hd_world.proofs.Counted.{used-is}
-use Rattle.hd_world.proofs.Maps.{get-put, get-put_other}
+use Rattle.hd_world.proofs.StateCounts.{used-is}
+use Rattle.hd_world.proofs.EntryMaps.{get-put, get-put_other}
 use Rattle.hd_model.proofs.Sums.{share, sum-insert}
 use Rattle.hd_world.specs.Places.{KeepsNames}
-use Rattle.hd_world.proofs.Readings.{no_some, names-get, objects-get}
-use Rattle.hd_world.proofs.Standing.{has-placed}
-use Rattle.hd_world.proofs.Adding.{Adds, placed, names-add, identities-add, roots-add, queue-add, rows-add, objects-add}
+use Rattle.hd_world.proofs.IdentityReadings.{no_some, names-get, objects-get}
+use Rattle.hd_world.proofs.NamedAddresses.{has-placed}
+use Rattle.hd_world.proofs.StoreAdd.{Adds, placed, names-add, identities-add, roots-add, queue-add, rows-add, objects-add}
 
 none_at : {A : Type 0} (n k : ℕ) (x : A) → k < n → get_or (replicate n None) k (Some x) ≡ Some x → ⊥
 none_at zero k x within is = absurd (omega arith)
@@ -165,7 +165,7 @@ module _ (f : Parts) (k : Heap) (at : Addr) (id : Id) (count : ℕ) (fin : Bool)
       }) r apart))
       ∙ sym (ap (λ (g : Heap). is_held g r) made.made) ∙ held
 
-  -- each held region has an object still
+  -- each region in use still has an object
   full_made : HasNoEmptyRegion k
   full_made r held =
       elim (cases_eq r (region_of at)) [
@@ -178,7 +178,7 @@ module _ (f : Parts) (k : Heap) (at : Addr) (id : Id) (count : ℕ) (fin : Bool)
             record { at = s.at; object = still s.at s.object; region = s.region }
       ]
 
-  -- the parts with the new object, another last serial and room for one more that waits
+  -- the parts with the new object, another last serial and room for one more in the queue
   abbrev pub made_parts : List ℕ → Queue → Parts
   made_parts serials q = record f { heap = k; serials = serials; queue = q }
 
@@ -283,7 +283,7 @@ module _ (f : Parts) (m : Machine) (view : machine_of f ≡ m) (stored : IsStore
   stored-next = stored-made f k at id count fin stored made free (set f.serials caller serial) q
       (length-set f.serials caller serial) waits enough
 
-  -- the address of the new object had no name
+  -- the address of the new object had no identity
   pub names-next : KeepsNames m.names
       (insert m.names at.0 (identity_of caller (last_serial m.state caller + 1)))
   names-next a x is =
@@ -369,7 +369,7 @@ module _ (f : Parts) (m : Machine) (view : machine_of f ≡ m) (stored : IsStore
   limit_is = ap (λ (n : Machine). n.numbers.heap) view
 
   pub refused-next : (cells : ℕ) (fault : NewFault) → IsRefusedBy f.heap k cells fault
-      → IsRefused m (machine_of (record f { heap = k; queue = q })) cells fault
+      → IsObjectRefused m (machine_of (record f { heap = k; queue = q })) cells fault
   refused-next cells (Full used size) refused = (
     machine-room f m view stored k refused.0 q more,
     refused.1

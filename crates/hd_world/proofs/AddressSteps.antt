@@ -1,8 +1,8 @@
--- What each command does with the places that were answered.
+-- What each command does with the pinned addresses.
 use Rattle.std.proofs.Common.{◌≡◌, ℕ, ◌<◌, ◌≤◌, cond, Bool, true, false, Option, Some, None, refl, sym, ap, ◌∙◌, subst}
 use Rattle.std.specs.Prelude.{Result, Ok, Err, IfOk, T, if◌then◌else◌, option_and_then}
 use Rattle.std.specs.Option.{option_map_or}
-use Rattle.std.specs.FinMap.{FinMap, get, insert}
+use Rattle.std.specs.FinMap.{FinMap, get, insert, empty}
 use Rattle.std.specs.Ordering.{nat_cmp}
 use Rattle.hd_model.specs.declared.data.Id.{Id}
 use Rattle.hd_model.specs.declared.data.Addr.{Addr}
@@ -19,24 +19,26 @@ use Rattle.hd_model.specs.declared.command.Cmd.{Cmd}
 use Rattle.hd_model.specs.declared.command.Cmd.TheVariants as cmd
 use Rattle.hd_model.specs.State.{State, Handle, handle_register_of, handle_at, with_place}
 use Rattle.hd_model.specs.Role.{pins}
-use Rattle.hd_model.specs.Command.{Outcome, answers, refuses}
+use Rattle.hd_model.specs.Command.{Outcome, answers, refuses, answer_place}
 use Rattle.hd_model.specs.Places.{with_places, MayAnswer}
 use Rattle.hd_model.specs.Touched.{touched_by}
 use Rattle.hd_model.specs.Valid.{IsValid}
-use Rattle.hd_model.specs.Step.{StepOf, Step, pinned_by}
+use Rattle.hd_model.specs.Step.{StepOf, Step, AnswersPlace, pinned_by, pinned_target}
 use Rattle.hd_model.specs.Aging.{aged_by}
-use Rattle.hd_model.proofs.Placed.{step_placed}
+use Rattle.hd_model.proofs.OutcomePlaces.{step_placed}
 use Rattle.hd_model.proofs.Journals.{ages_placed}
 use Rattle.hd_world.specs.Store.{Machine}
-use Rattle.hd_world.specs.Places.{KeepsNames, HasNames, KeepsPlaces, kept_places, HasCollected, HasPlace, LeavesHeap}
+use Rattle.hd_world.specs.Places.{KeepsNames, HasNames, Moves, KeepsPlaces, kept_places, HasCollected, HasPlace}
+use Rattle.hd_world.specs.StateHeap.{LeavesHeap}
 use Rattle.hd_world.specs.Reading.{name_in}
 use Rattle.hd_world.specs.Commands.{pinned_in}
 use Rattle.hd_world.specs.Visited.{CollectedSteps, TakesSteps}
 use Rattle.std.proofs.lemmas.Bool.{true≢false}
-use Rattle.hd_world.proofs.Maps.{some_same}
-use Rattle.hd_world.proofs.Readings.{no_some}
+use Rattle.hd_model.proofs.AgedRuns.{nothing_at}
+use Rattle.hd_world.proofs.EntryMaps.{some_same, get-put}
+use Rattle.hd_world.proofs.IdentityReadings.{no_some}
 
--- a command that has nothing to do with places
+-- a command that uses no pinned address
 pub plain-moves : (m k : Machine) (e : Entry) → (touched_by e.cmd).places ≡ false
     → Step m.numbers m.state e k.state → KeepsNames m.names k.names → k.ages ≡ aged_by m.state e m.ages
     → KeepsPlaces m e k
@@ -63,12 +65,12 @@ collect-moves m k n report caller known low has p are = record {
   ages = has.ages;
 }
 
--- a command that makes no object keeps all names as they are
+-- a command that makes no object keeps all identities as they are
 pub names-kept : (b : Bool) (old new : FinMap nat_cmp Id) → HasNames b old new → KeepsNames old new
 names-kept true old new has a x is = has a x is
 names-kept false old new same a x is = ap (λ names. get names a) same ∙ is
 
--- `addr`: what the handle pins decides the answer
+-- `addr`: what the handle pins decides the reply
 abbrev is_ok : {A : Type 0} → Result A Refusal → Bool
 is_ok (Ok a) = true
 is_ok (Err r) = false
@@ -100,7 +102,7 @@ module _ (s : State) where
   answer_by place o = option_map_or (λ handle. answer_at place (pins handle) handle.target) o
       (refuses refusal.NotLive s)
 
-  -- what is pinned is answered
+  -- what is pinned is returned
   abbrev Pins : Id → Option Id → (ℕ → Outcome) → Type 0
   Pins id o answer = (o ≡ Some id) × ((place : ℕ)
       → answer place ≡ answers (reply.Place place) (with_place s id place))
@@ -129,6 +131,25 @@ module _ (s : State) where
       (refuses refusal.EmptyRegister s))
   ok_in id None is = absurd (not_ok id refusal.EmptyRegister is)
   ok_in id (Some slot) is = ok_by id (handle_at s slot) is
+
+  -- the address of what is pinned is returned
+  at_target : (x : Id) (b : Bool) (t : Option Id) → cond b t None ≡ Some x → (place : ℕ)
+      → answer_at place b t ≡ answers (reply.Place place) (with_place s x place)
+  at_target x true None is place = absurd (no_some x (sym is))
+  at_target x true (Some y) is place =
+      ap (λ i. answers (reply.Place place) (with_place s i place)) (some_same y x is)
+  at_target x false t is place = absurd (no_some x (sym is))
+
+  at_handle : (x : Id) (o : Option (Handle Id)) → pinned_by o ≡ Some x → (place : ℕ)
+      → answer_by place o ≡ answers (reply.Place place) (with_place s x place)
+  at_handle x None is place = absurd (no_some x (sym is))
+  at_handle x (Some handle) is place = at_target x (pins handle) handle.target is place
+
+  at_slot : (x : Id) (o : Option Slot) → option_and_then (λ slot. pinned_by (handle_at s slot)) o ≡ Some x
+      → (place : ℕ) → option_map_or (λ slot. answer_by place (handle_at s slot)) o
+      (refuses refusal.EmptyRegister s) ≡ answers (reply.Place place) (with_place s x place)
+  at_slot x None is place = absurd (no_some x (sym is))
+  at_slot x (Some slot) is place = at_handle x (handle_at s slot) is place
 
   none_at : (r : Refusal) (b : Bool) (t : Option Id) → Err r ≡ pin_at b t
       → PinsNone r (cond b t None) (λ place. answer_at place b t)
@@ -211,7 +232,7 @@ module _ (m : Machine) (caller h : ℕ) (known : caller < m.numbers.callers) (lo
         ages = refl;
       }
 
--- the steps of a collection, and of a command that has nothing to do with places
+-- the steps of a collection, and of a command that uses no pinned address
 pub collect-steps : (m : Machine) (n : ℕ) (report : Report) (caller before after : ℕ)
     → CollectedSteps m.state m.ages n report.kept before after
     → TakesSteps m.state m.ages (record {
@@ -273,7 +294,7 @@ plain-steps m e before after plain same = record {
       (true≢false (ap (λ (c : Cmd). (touched_by c).places) (sym is) ∙ plain));
 }
 
--- what a command answers that has nothing to do with places
+-- what a command returns that uses no pinned address
 module _ (m k : Machine) (caller : ℕ) (c : Cmd) (known : caller < m.numbers.callers) (valid : IsValid c)
     (plain : (touched_by c).places ≡ false) where
   pub plain-keeps : (r : Result Entry Memory) → IfOk r (λ e. e.caller ≡ caller) → IfOk r (λ e. e.cmd ≡ c)
@@ -297,3 +318,32 @@ module _ (m k : Machine) (caller : ℕ) (c : Cmd) (known : caller < m.numbers.ca
   plain-takes (Ok e) before is = plain-steps m e before before
       (ap (λ (d : Cmd). (touched_by d).places) is ∙ plain) refl
   plain-takes (Err e) before is = tt
+
+-- `addr` returns the address of what the handle pins
+module _ (m k : Machine) (e : Entry) (keeps : KeepsPlaces m e k) (h place : ℕ) (x : Id)
+    (same : e.cmd ≡ cmd.AddrOf h) (told : e.reply ≡ reply.Place place)
+    (pinned : pinned_target m.state e.caller h ≡ Some x) where
+  moved : Moves m e k empty
+  moved = keeps empty (λ y b is. absurd (nothing_at y b is))
+
+  does : AnswersPlace (with_places m.state empty) e (with_places k.state moved.places) h
+  does = subst (StepOf m.numbers (with_places m.state empty) e (with_places k.state moved.places)) same
+      moved.step.does
+
+  outcome_is : answer_place (with_places m.state empty) e.caller h does.place
+      ≡ answers (reply.Place does.place) (with_place (with_places m.state empty) x does.place)
+  outcome_is = at_slot (with_places m.state empty) x (handle_register_of m.state e.caller h) pinned does.place
+
+  abbrev place_in : Reply → ℕ
+  place_in (reply.Place p) = p
+  place_in r = place
+
+  place_is : does.place ≡ place
+  place_is = ap place_in (sym (does.outcome.reply ∙ ap (λ (o : Outcome). o.reply) outcome_is) ∙ told)
+
+  pub returns-address : get k.names place ≡ Some x
+  returns-address =
+      moved.addresses x.0 place
+      (ap (λ (s : State). get s.places x.0)
+      (does.outcome.after ∙ ap (λ (o : Outcome). o.after) outcome_is)
+      ∙ get-put empty x.0 does.place ∙ ap Some place_is)
