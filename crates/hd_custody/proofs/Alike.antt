@@ -20,15 +20,15 @@ abbrev pub reshaped : {W : Type 0} → List (ℕ × ℕ) → List (ℕ × ℕ ×
 reshaped h t n e v = record v { hand = h; trace = t; trace_number = n; began_empty = e }
 
 -- the view with these, and this of the gate
-abbrev pub posed : {W : Type 0} → List (ℕ × ℕ) → List (ℕ × ℕ × ℕ) → ℕ → Bool → Bool
+abbrev pub posed : {W : Type 0} → List (ℕ × ℕ) → List (ℕ × ℕ × ℕ) → ℕ → Bool → Bool → ℕ
     → Rattle.std.specs.Prelude.Option W → List (ℕ × ℕ) → View W → View W
-posed h t n e g k cs v = record v {
+posed h t n e g z k cs v = record v {
   hand = h;
   trace = t;
   trace_number = n;
   began_empty = e;
-  has_gate =
-      g;
+  has_gate = g;
+  gate_steps = z;
   taken = k;
   changes = cs;
 }
@@ -40,10 +40,10 @@ place_there (x ∷ xs) zero a b e = refl
 place_there (x ∷ xs) (suc i) a b e = place_there xs i a b e
 
 module _ {W : Type 0} (views : List (View W)) (id : ℕ) (v : View W) (there : get_elem? views id ≡ some v)
-    (h : List (ℕ × ℕ)) (t : List (ℕ × ℕ × ℕ)) (n : ℕ) (e : Bool) (g : Bool)
+    (h : List (ℕ × ℕ)) (t : List (ℕ × ℕ × ℕ)) (n : ℕ) (e : Bool) (g : Bool) (z : ℕ)
     (took : Rattle.std.specs.Prelude.Option W) (cs : List (ℕ × ℕ)) where
   abbrev w : View W
-  w = posed h t n e g took cs v
+  w = posed h t n e g z took cs v
 
   abbrev views' : List (View W)
   views' = set views id w
@@ -176,7 +176,7 @@ module _ {W : Type 0} (m : Ghosts W) (numbers : Numbers) (s : State (Rattle.std.
     sized = c.sized;
     gate = gate_alike s.views id v there h t k e c.world c.holder c.changes s.words s.homes c.gate i n
         (λ z. omega arith);
-    seats = seats_alike s.views id v there h t k e v.has_gate v.taken v.changes c.made c.owner _ _ numbers
+    seats = seats_alike s.views id v there h t k e v.has_gate v.gate_steps v.taken v.changes c.made c.owner _ _ numbers
         c.seats;
     kinds = λ b real lt. get_or-set_other s.words i b n 0 (λ z. omega arith) ∙ c.kinds b real lt;
     slots = slots;

@@ -1,52 +1,183 @@
--- Each slot stands in one place at most.
-use Rattle.std.proofs.Common.{◌≡◌, ℕ, ◌/◌, ◌<◌, ◌≤◌, true, false, length, get_or, Option, inl, inr, ap, arith}
-use Rattle.std.proofs.lemmas.Bool.{cases_eq}
+-- Each slot is in exactly one place.
+use Rattle.std.proofs.Common.{◌≡◌, ◌≢◌, ℕ, ◌+◌, ◌/◌, ◌%◌, ◌<◌, ◌≤◌, Bool, true, false, cond, length, get_or, Option, inl, inr, ap, refl, ◌∙◌, arith}
+use Rattle.std.specs.Int.{bit_at}
+use Rattle.std.proofs.lemmas.Bool.{cases_eq, cases_lt}
+use Rattle.std.proofs.lemmas.Nat.Bits.{bit_at-lt}
 use Rattle.atomic_table.specs.Table.{State}
 use Rattle.hd_model.specs.declared.held.Held.{Ghosts}
 use Rattle.hd_model.specs.State.{Numbers}
 use Rattle.hd_custody.specs.declared.view.View.{View}
-use Rattle.hd_custody.specs.Counts.{one_if, weight, in_hand, kind_word}
+use Rattle.hd_custody.specs.Counts.{total, total_at, one_if, weight, in_hand, kind_word, named, IsSlot}
 use Rattle.hd_custody.specs.Rule.{held_by, Custodied}
-use Rattle.hd_custody.specs.Laws.{HasIt, InNoWord, StandsOnce, SlotsStandOnce}
-use Rattle.hd_custody.proofs.Totals.{total_two, total_at_member}
-use Rattle.hd_custody.proofs.Slots.{held_alive, has_once}
-use Rattle.hd_custody.proofs.Weights.{named_most}
+use Rattle.hd_custody.specs.Laws.{Spot, mask, cell, seat, live, IsAt, HoldsIt, IsInOnePlace, EachSlotIsInOnePlace}
+use Rattle.hd_custody.proofs.Totals.{hit, miss, total_member, total_two, total_some, total_at_member, total_at_two, total_at_some}
+use Rattle.hd_custody.proofs.Slots.{held_alive}
+use Rattle.hd_custody.proofs.Weights.{weight_low, weight_mask, weight_other, weight_cell, on_of}
 
 module _ {W : Type 0} (m : Ghosts W) (numbers : Numbers) (s : State (Option W) (View W))
-    (rule : Custodied m numbers s) (x : ℕ) (real : 63 < x) where
-  two_seats : (i j : ℕ) (v w : View W) → HasIt m x s i v → HasIt m x s j w → i ≡ j
-  two_seats i j v w a b = elim (cases_eq i j) [
-    | inl same ↦ same
-    | inr other ↦ (
-        let sum = rule.slots.in_one_place x real in
-        let both = total_two (held_by x) s.views i j v w a.0 b.0 other in
-        let first = held_alive x v a.1 in
-        let second = held_alive x w b.1 in
-        let has : 1 ≤ in_hand x v.hand = a.2 in
-        let has' : 1 ≤ in_hand x w.hand = b.2 in
-        let most = named_most (kind_word s.words (x / 64)) in
-        absurd (omega arith))
-  ]
+    (rule : Custodied m numbers s) (x : ℕ) (real : IsSlot x) where
+  abbrev word : ℕ → ℕ
+  word i = get_or s.words i 0
 
-  in_hand_only : (i : ℕ) (v : View W) → HasIt m x s i v
-      → (in_hand x v.hand ≡ 1) × InNoWord m x s × (m.live rule.world x ≡ false)
-  in_hand_only i v a =
-      let once : (n : ℕ) → n < length s.words → (in_hand x v.hand ≡ 1)
-      × (weight x n (get_or s.words n 0) ≡ 0) × (m.live rule.world x ≡ false) =
-      λ n lt. has_once (m.live rule.world) s.words s.views rule.slots i v a.0 a.1 x n lt a.2 in
-      let at_0 = once 0 (omega (arith, rule.wide)) in
-      (at_0.0, λ n lt. (once n (omega (arith, rule.wide))).1, at_0.2)
+  abbrev in_words : ℕ
+  in_words = total_at (weight x) 0 s.words
 
-  live_only : m.live rule.world x ≡ true → InNoWord m x s
-  live_only lives n lt =
-      let sum = rule.slots.in_one_place x real in
-      let word = total_at_member (weight x) s.words 0 n n (omega (arith, rule.wide)) (omega arith) in
-      let one : one_if (m.live rule.world x) ≡ 1 = ap one_if lives in
-      let most = named_most (kind_word s.words (x / 64)) in
-      omega arith
+  abbrev in_seats : ℕ
+  in_seats = total (held_by x) s.views
 
-  stands_once : StandsOnce m rule.world s x
-  stands_once = record { one_seat = two_seats; in_a_hand = in_hand_only; if_live = live_only }
+  abbrev At : Spot → Type 0
+  At p = IsAt m rule.world s x p
 
-pub slots_stand_once : {W : Type 0} (m : Ghosts W) → SlotsStandOnce m
-slots_stand_once m numbers s rule x real = stands_once m numbers s rule x real
+  -- ---- what a place weighs
+
+  mask_weighs : At mask → weight x (256 + x / 64) (word (256 + x / 64)) ≡ 1
+  mask_weighs at = weight_mask x (256 + x / 64) (word (256 + x / 64)) (omega (arith, real.0, real.1))
+      (omega (arith, real.0, real.1)) (omega arith) ∙ at
+
+  cell_weighs : (i : ℕ) → At (cell i) → weight x i (word i) ≡ 1
+  cell_weighs i at = weight_cell x i (word i) at.0.0 ∙ hit (word i) x at.1
+
+  mask_sums : At mask → 1 ≤ in_words
+  mask_sums at =
+      let one = mask_weighs at in
+      let in_sum = total_at_member (weight x) s.words 0 (256 + x / 64) (256 + x / 64)
+      (omega (arith, rule.wide, real.1)) (omega arith) in
+      omega (arith, one, in_sum)
+
+  cell_sums : (i : ℕ) → At (cell i) → 1 ≤ in_words
+  cell_sums i at =
+      let one = cell_weighs i at in
+      let in_sum = total_at_member (weight x) s.words 0 i i (omega (arith, rule.wide, at.0.1)) (omega arith) in
+      omega (arith, one, in_sum)
+
+  seat_sums : (i : ℕ) (v : View W) → HoldsIt m rule.world s x i v → in_hand x v.hand ≤ in_seats
+  seat_sums i v at =
+      let member = total_member (held_by x) s.views i v at.0 in
+      let is = held_alive x v at.1 in
+      omega (arith, member, is)
+
+  live_sums : At live → one_if (m.live rule.world x) ≡ 1
+  live_sums at = ap one_if at
+
+  sum : in_words + in_seats + one_if (m.live rule.world x) ≡ named (kind_word s.words (x / 64))
+  sum = rule.slots.in_one_place x real.0
+
+  least : (p : Spot) → At p → 1 ≤ in_words + in_seats + one_if (m.live rule.world x)
+  least mask at = let a = mask_sums at in omega (arith, a)
+  least (cell i) at = let a = cell_sums i at in omega (arith, a)
+  least (seat i) at = let a = seat_sums i at.0 at.1 in omega (arith, a, at.1.2)
+  least live at = let a = live_sums at in omega (arith, a)
+
+  none : named (kind_word s.words (x / 64)) ≡ 0 → (p : Spot) → At p → ⊥
+  none zero_is p at = let a = least p at in absurd (omega (arith, a, sum, zero_is))
+
+  module _ (one : named (kind_word s.words (x / 64)) ≡ 1) where
+    -- ---- no two
+
+    two_words : (i j : ℕ) → i < 1402 → j < 1402 → i ≢ j → weight x i (word i) ≡ 1 → weight x j (word j) ≡ 1 → ⊥
+    two_words i j low low' apart a b =
+        let both = total_at_two (weight x) s.words 0 i j i j (omega (arith, rule.wide, low))
+        (omega (arith, rule.wide, low')) (omega arith) (omega arith) apart in
+        absurd (omega (arith, both, a, b, sum, one))
+
+    mask_and_cell : (i : ℕ) → At mask → At (cell i) → ⊥
+    mask_and_cell i at at' = two_words (256 + x / 64) i (omega (arith, real.1)) at'.0.1
+        (λ e. omega (arith, e, real.1, at'.0.0)) (mask_weighs at) (cell_weighs i at')
+
+    same_cell : (i j : ℕ) → At (cell i) → At (cell j) → i ≡ j
+    same_cell i j at at' = elim (cases_eq i j) [
+      | inl same ↦ same
+      | inr apart ↦ absurd (two_words i j at.0.1 at'.0.1 apart (cell_weighs i at) (cell_weighs j at'))
+    ]
+
+    same_seat : (i j : ℕ) → At (seat i) → At (seat j) → i ≡ j
+    same_seat i j at at' = elim (cases_eq i j) [
+      | inl same ↦ same
+      | inr apart ↦ (
+          let both = total_two (held_by x) s.views i j at.0 at'.0 at.1.0 at'.1.0 apart in
+          let first = held_alive x at.0 at.1.1 in
+          let second = held_alive x at'.0 at'.1.1 in
+          absurd (omega (arith, both, first, second, at.1.2, at'.1.2, sum, one)))
+    ]
+
+    word_and_seat : (i : ℕ) → 1 ≤ in_words → At (seat i) → ⊥
+    word_and_seat i a at = let b = seat_sums i at.0 at.1 in absurd (omega (arith, a, b, at.1.2, sum, one))
+
+    word_and_live : 1 ≤ in_words → At live → ⊥
+    word_and_live a at = let b = live_sums at in absurd (omega (arith, a, b, sum, one))
+
+    seat_and_live : (i : ℕ) → At (seat i) → At live → ⊥
+    seat_and_live i at at' =
+        let a = seat_sums i at.0 at.1 in
+        let b = live_sums at' in
+        absurd (omega (arith, a, b, at.1.2, sum, one))
+
+    only : (p : Spot) → At p → (q : Spot) → At q → q ≡ p
+    only mask at mask at' = refl
+    only mask at (cell j) at' = absurd (mask_and_cell j at at')
+    only mask at (seat j) at' = absurd (word_and_seat j (mask_sums at) at')
+    only mask at live at' = absurd (word_and_live (mask_sums at) at')
+    only (cell i) at mask at' = absurd (mask_and_cell i at' at)
+    only (cell i) at (cell j) at' = ap cell (same_cell j i at' at)
+    only (cell i) at (seat j) at' = absurd (word_and_seat j (cell_sums i at) at')
+    only (cell i) at live at' = absurd (word_and_live (cell_sums i at) at')
+    only (seat i) at mask at' = absurd (word_and_seat i (mask_sums at') at)
+    only (seat i) at (cell j) at' = absurd (word_and_seat i (cell_sums j at') at)
+    only (seat i) at (seat j) at' = ap seat (same_seat j i at' at)
+    only (seat i) at live at' = absurd (seat_and_live i at at')
+    only live at mask at' = absurd (word_and_live (mask_sums at') at)
+    only live at (cell j) at' = absurd (word_and_live (cell_sums j at') at)
+    only live at (seat j) at' = absurd (seat_and_live j at' at)
+    only live at live at' = refl
+
+    -- ---- and one
+
+    placed : (p : Spot) → At p → IsInOnePlace m rule.world s x
+    placed p at = record {
+      place = p;
+      there = at;
+      only = only p at;
+      once = λ i v holds. (let most = seat_sums i v holds in omega (arith, most, holds.2, sum, one));
+    }
+
+    bit_is_one : (i : ℕ) → 1 ≤ bit_at (word i) (x % 64) → bit_at (word i) (x % 64) ≡ 1
+    bit_is_one i le = let lt = bit_at-lt (word i) (x % 64) in omega (arith, le, lt)
+
+    in_word : (i : ℕ) → i < length s.words → 1 ≤ weight x i (word i) → IsInOnePlace m rule.world s x
+    in_word i within has = elim (cases_lt i 257) [
+      | inl low ↦ absurd (let none = weight_low x i (word i) low in omega (arith, none, has))
+      | inr le ↦ elim (cases_lt i 513) [
+        | inl lt ↦ elim (cases_eq (x / 64 + 256) i) [
+          | inl here ↦ placed mask (ap (λ j. bit_at (word j) (x % 64)) (omega (arith, here))
+              ∙ bit_is_one i (let is = weight_mask x i (word i) le lt here in omega (arith, is, has)))
+          | inr other ↦ absurd (let none = weight_other x i (word i) le lt other in omega (arith, none, has))
+        ]
+        | inr high ↦ elim (cases_eq (word i) x) [
+          | inl same ↦ placed (cell i) ((high, omega (arith, within, rule.wide)), same)
+          | inr other ↦ absurd (let is = weight_cell x i (word i) high in
+              let none = miss (word i) x other in omega (arith, is, none, has))
+        ]
+      ]
+    ]
+
+    lives_where_held : (b : Bool) (n : ℕ) → 1 ≤ cond b 0 n → (b ≡ false) × (1 ≤ n)
+    lives_where_held true n has = absurd (omega (arith, has))
+    lives_where_held false n has = (refl, has)
+
+    somewhere : IsInOnePlace m rule.world s x
+    somewhere = elim (cases_lt 0 in_words) [
+      | inl some_word ↦ (
+          let at = total_at_some (weight x) s.words some_word in
+          in_word at.0 at.1 at.2)
+      | inr no_word ↦ elim (cases_lt 0 in_seats) [
+        | inl some_seat ↦ (
+            let at = total_some (held_by x) s.views some_seat in
+            let holds = lives_where_held at.1.is_spent (in_hand x at.1.hand) at.3 in
+            placed (seat at.0) (at.1, (at.2, holds.0, holds.1)))
+        | inr no_seat ↦ placed live (on_of (m.live rule.world x) (omega (arith, no_word, no_seat, sum, one)))
+      ]
+    ]
+
+pub each_slot_is_in_one_place : {W : Type 0} (m : Ghosts W) → EachSlotIsInOnePlace m
+each_slot_is_in_one_place m numbers s rule x real =
+    (somewhere m numbers s rule x real, none m numbers s rule x real)

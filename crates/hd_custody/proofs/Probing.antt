@@ -14,7 +14,7 @@ use Rattle.hd_custody.specs.Calls.{At, Made, Began, told, held, Apart, Offers}
 use Rattle.hd_custody.proofs.Canon.{rows_go, rows_none, naming_kinded, naming_rows, lowest_is, held_first, held_last, held_rest, held_next, with_slot_none}
 use Rattle.hd_custody.proofs.Phases.{Mine, Shaped, due, zero_is, zero_not, same_is, same_not, less_is, told_none, told_some, told_cond, then_swap, then_bank, then_look, then_drain, then_back, first_swap, made_start, shaped_as}
 
--- what came is told of the view that the call began with, as long as the hand is as it was
+-- what came is said of the view that the call began with, as long as the hand is as it was
 pub offers_since : {W : Type 0} (m : Ghosts W) (k blocks : ℕ) (start p : Phase) (num : ℕ) (emp : Bool)
     (a b : Mine W) (i y : ℕ)
     → Shaped k blocks start num emp a.0.hand p a b → kind_at i ≡ k → (y ≢ 0 → Fresh m b.0 y)

@@ -30,7 +30,7 @@ at_end (x ∷ xs) a b (suc j) e = elim (at_end xs a b j e) [
 pub at_last : {A : Type 0} (l : List A) (a : A) (n : ℕ) → n ≡ length l → get_elem? (l ++ a ∷ []) n ≡ some a
 at_last l a n e = Rattle.atomic_table.proofs.Lists.at_last l a n (sym e)
 
--- ---- views that change in what neither the gate nor slots are told by
+-- ---- views that change in what neither the gate nor slots depend on
 
 module _ {W : Type 0} (views views' : List (View W)) where
   -- each seat is as it was in this, or new

@@ -1,4 +1,4 @@
--- Where slots stand: a step on a word of masks or cells, and what the rule tells of a slot that is seen.
+-- Where slots stand: a step on a word of masks or cells, and what the rule states of a slot that is seen.
 use Rattle.std.proofs.Common.{◌≡◌, ◌≢◌, ◌⊎◌, ℕ, zero, suc, ◌+◌, ◌/◌, ◌<◌, ◌≤◌, ◌==◌, Bool, false, cond, not, List, length, get_or, set, inl, inr, sym, ap, subst, refl, ◌∙◌, eq-eqb, ne_eqb, arith}
 use Rattle.std.proofs.lemmas.Bool.{cases_eq}
 use Rattle.std.proofs.lemmas.List.{get_or-set_other, get_or-set_same}

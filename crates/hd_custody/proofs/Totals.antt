@@ -1,5 +1,6 @@
 -- Sums over lists and over numbered words.
-use Rattle.std.proofs.Common.{◌≡◌, ◌≢◌, ℕ, zero, suc, ◌+◌, ◌<◌, ◌≤◌, ◌==◌, List, [], ◌∷◌, ◌++◌, length, get_or, set, replicate, sym, ap, refl, eq-eqb, ne_eqb, arith}
+use Rattle.std.proofs.Common.{◌≡◌, ◌≢◌, ℕ, zero, suc, ◌+◌, ◌<◌, ◌≤◌, ◌==◌, List, [], ◌∷◌, ◌++◌, length, get_or, set, replicate, inl, inr, sym, ap, refl, eq-eqb, ne_eqb, arith}
+use Rattle.std.proofs.lemmas.Bool.{cases_lt}
 use mathlib.Core.Option.{some, some-injective, some-ne-none}
 use lib.ListN.{get_elem?}
 use Rattle.hd_custody.specs.Counts.{total, total_at, one_if}
@@ -38,6 +39,14 @@ module _ {A : Type 0} (f : A → ℕ) where
   total_two (x ∷ xs) (suc i) (suc j) v w e d n =
       let r = total_two xs i j v w e d (λ same. n (ap suc same)) in omega arith
 
+  pub total_some : (xs : List A) → 1 ≤ total f xs
+      → (i : ℕ) × (v : A) × (get_elem? xs i ≡ some v) × (1 ≤ f v)
+  total_some [] le = absurd (omega (arith, le))
+  total_some (x ∷ xs) le = elim (cases_lt 0 (f x)) [
+    | inl here ↦ (0, x, refl, here)
+    | inr not_here ↦ (let r = total_some xs (omega (arith, le, not_here)) in (suc r.0, r.1, r.2, r.3))
+  ]
+
   pub total_snoc : (xs : List A) (w : A) → total f (xs ++ w ∷ []) ≡ total f xs + f w
   total_snoc [] w = omega arith
   total_snoc (x ∷ xs) w = let r = total_snoc xs w in omega arith
@@ -67,6 +76,47 @@ module _ (f : ℕ → ℕ → ℕ) where
       omega arith
   total_at_member (w ∷ ws) k (suc i) j lt e =
       let r = total_at_member ws (suc k) i j (omega arith) (omega arith) in omega arith
+
+  pub total_at_two : (ws : List ℕ) (k i j a b : ℕ) → i < length ws → j < length ws → a ≡ k + i → b ≡ k + j
+      → i ≢ j → f a (get_or ws i 0) + f b (get_or ws j 0) ≤ total_at f k ws
+  total_at_two [] k i j a b lt lt' e e' n = absurd (omega (arith, lt))
+  total_at_two (w ∷ ws) k zero zero a b lt lt' e e' n = absurd (n refl)
+  total_at_two (w ∷ ws) k zero (suc j) a b lt lt' e e' n =
+      let s : f a w ≡ f k w = ap (λ x. f x w) (omega (arith, e)) in
+      let r = total_at_member ws (suc k) j b (omega (arith, lt')) (omega (arith, e')) in
+      omega (arith, s, r)
+  total_at_two (w ∷ ws) k (suc i) zero a b lt lt' e e' n =
+      let s : f b w ≡ f k w = ap (λ x. f x w) (omega (arith, e')) in
+      let r = total_at_member ws (suc k) i a (omega (arith, lt)) (omega (arith, e)) in
+      omega (arith, s, r)
+  total_at_two (w ∷ ws) k (suc i) (suc j) a b lt lt' e e' n =
+      let r = total_at_two ws (suc k) i j a b (omega (arith, lt)) (omega (arith, lt')) (omega (arith, e))
+      (omega (arith, e')) (λ same. n (ap suc same)) in
+      omega (arith, r)
+
+  pub total_at_from : (ws : List ℕ) (k : ℕ) → 1 ≤ total_at f k ws
+      → (i : ℕ) × (i < length ws) × (1 ≤ f (k + i) (get_or ws i 0))
+  total_at_from [] k le = absurd (omega (arith, le))
+  total_at_from (w ∷ ws) k le = elim (cases_lt 0 (f k w)) [
+    | inl here ↦ (
+      0,
+      omega arith,
+      (let s : f (k + 0) w ≡ f k w = ap (λ x. f x w) (omega arith) in
+          omega (arith, s, here)),
+    )
+    | inr not_here ↦ (
+        let r = total_at_from ws (suc k) (omega (arith, le, not_here)) in
+        let s : f (suc k + r.0) (get_or ws r.0 0) ≡ f (k + suc r.0) (get_or ws r.0 0) =
+        ap (λ x. f x (get_or ws r.0 0)) (omega arith) in
+        (suc r.0, omega (arith, r.1), omega (arith, s, r.2)))
+  ]
+
+  pub total_at_some : (ws : List ℕ) → 1 ≤ total_at f 0 ws
+      → (i : ℕ) × (i < length ws) × (1 ≤ f i (get_or ws i 0))
+  total_at_some ws le =
+      let r = total_at_from ws 0 le in
+      let s : f (0 + r.0) (get_or ws r.0 0) ≡ f r.0 (get_or ws r.0 0) = ap (λ x. f x (get_or ws r.0 0)) (omega arith) in
+      (r.0, r.1, omega (arith, s, r.2))
 
   pub total_at_none : (n k : ℕ) → ((i : ℕ) → f i 0 ≡ 0) → total_at f k (replicate n 0) ≡ 0
   total_at_none zero k none = refl

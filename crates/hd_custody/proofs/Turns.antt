@@ -82,6 +82,10 @@ module _ {W : Type 0} (live : ℕ → Bool) (words : List ℕ) (views : List (Vi
           (λ j le lt. subst (λ a. a < 18446744073709551616) (sym (other_word j le)) (s.masks j le lt));
     }
 
+not_on : (b : Bool) → (b ≡ true → ⊥) → b ≡ false
+not_on true off = absurd (off refl)
+not_on false off = refl
+
 pub some_inj : {W : Type 0} (u w : W) → Some u ≡ Some w → u ≡ w
 some_inj u w e = cc
 
@@ -157,8 +161,8 @@ module _ {W : Type 0} (m : Ghosts W) (numbers : Numbers) (s : State (Option W) (
         );
         holding = λ j u at alive. won_holding j u alive (at_set s.views id j (took c.world v) u at);
       };
-      seats = seats_alike s.views id v there v.hand v.trace v.trace_number v.began_empty true (Some c.world)
-          [] c.made c.owner _ _ numbers c.seats;
+      seats = seats_alike s.views id v there v.hand v.trace v.trace_number v.began_empty true (v.gate_steps + 1)
+          (Some c.world) [] c.made c.owner _ _ numbers c.seats;
       kinds = λ b real lt. kind_same 1 b real ∙ c.kinds b real lt
           ∙ ap (λ cs. changed cs (m.kind c.world) b) home.1;
       slots = slots_low (m.live c.world) s.words s.views c.slots id v there lives c.wide 0 1 (omega arith)
@@ -184,6 +188,7 @@ module _ {W : Type 0} (m : Ghosts W) (numbers : Numbers) (s : State (Option W) (
     pub learned : Entered m v c.world
     learned =
         let f = c.seats.each id v there lives in record {
+          had_not = not_on v.has_gate (λ has. (let h = c.gate.holding id v there lives has in omega (arith, h.0, free)));
           part = sym f.own_part;
           room = (let r = total_member room_of s.views id v there in let is : room_of v ≡ v.room =
               ap (λ b. cond b 0 v.room) lives in let most = c.seats.roomy in omega arith);
@@ -261,7 +266,8 @@ module _ {W : Type 0} (m : Ghosts W) (numbers : Numbers) (s : State (Option W) (
           );
           holding = λ j u at alive. store_holding j u alive (at_set s.views id j stores u at);
         };
-        seats = seats_alike s.views id v there hand v.trace v.trace_number v.began_empty v.has_gate v.taken
+        seats = seats_alike s.views id v there hand v.trace v.trace_number v.began_empty v.has_gate
+            v.gate_steps v.taken
             ((b, k) ∷ v.changes) c.made c.owner _ _ numbers c.seats;
         kinds = λ d low under. store_kind d low under (cases_eq d b);
         slots = slots;

@@ -1,37 +1,82 @@
--- What the rule says of one slot, read from each place where it may stand.
-use Rattle.std.specs.Prelude.{◌≡◌, ℕ, ◌<◌, ◌≤◌, true, false, Option, slice_index}
+-- Where a slot is, in plain words; and the words and bounds of a table, as numerals.
+use Rattle.std.specs.Prelude.{◌≡◌, ℕ, ◌+◌, ◌*◌, ◌<◌, ◌≤◌, false, true, Option, slice_index}
+use Rattle.std.specs.Int.{bit_at}
 use mathlib.Core.Option.{some}
 use lib.ListN.{get_elem?}
 use Rattle.atomic_table.specs.Table.{State}
+use Rattle.hd_model.specs.declared.data.Kind.{Kind}
 use Rattle.hd_model.specs.declared.held.Held.{Ghosts}
+use Rattle.hd_model.specs.Kinds.{kind_number}
 use Rattle.hd_model.specs.State.{Numbers}
 use Rattle.hd_custody.specs.declared.view.View.{View}
-use Rattle.hd_model.specs.declared.limits.TheConstants.{ROWS}
-use Rattle.hd_custody.specs.declared.words.TheConstants.{WORDS}
-use Rattle.hd_custody.specs.Counts.{weight, in_hand, Has}
+use Rattle.hd_model.specs.declared.limits.TheConstants.{BLOCKS}
+use Rattle.hd_custody.specs.declared.words.TheConstants.{GATE, BANK, CACHE, WORDS, EXTRA_DATA}
+use Rattle.hd_custody.specs.Counts.{mask_word, quick_word, reserve_cell, free_cell, block_of, row_of, kind_word, named, in_hand, IsCell, IsSlot, Has}
 use Rattle.hd_custody.specs.Rule.{Custodied}
 
+-- a place where a slot may be
+pub data Spot : Type 0 where
+  -- a set bit of the mask of its block
+  mask : Spot
+  -- the whole of word i, a quick word or cell
+  cell : ℕ → Spot
+  -- among the slots held by the seat at place i of the seats
+  seat : ℕ → Spot
+  -- live in the world
+  live : Spot
+
 module _ {W : Type 0} (m : Ghosts W) where
-  -- no word of the table has the slot: no mask as a bit, no quick word and no cell as a whole
-  abbrev pub InNoWord : ℕ → State (Option W) (View W) → Type 0
-  InNoWord x s = (n : ℕ) → n < WORDS → weight x n (slice_index s.words n) ≡ 0
+  module _ (world : W) (s : State (Option W) (View W)) (x : ℕ) where
+    -- the seat at place i knows v, has not ended, and holds the slot
+    abbrev pub HoldsIt : ℕ → View W → Type 0
+    HoldsIt i v = (get_elem? s.views i ≡ some v) × (v.is_spent ≡ false) × Has x v.hand
 
-  -- the seat at place i knows v, has not ended, and has the slot in its hand
-  abbrev pub HasIt : ℕ → State (Option W) (View W) → ℕ → View W → Type 0
-  HasIt x s i v = (get_elem? s.views i ≡ some v) × (v.is_spent ≡ false) × Has x v.hand
+    -- the slot is there
+    abbrev pub IsAt : Spot → Type 0
+    IsAt mask = bit_at (slice_index s.words (mask_word (block_of x))) (row_of x) ≡ 1
+    IsAt (cell i) = IsCell i × (slice_index s.words i ≡ x)
+    IsAt (seat i) = (v : View W) × HoldsIt i v
+    IsAt live = m.live world x ≡ true
 
-  -- where the slot x stands, as `world` and the words and hands have it
-  pub record StandsOnce (world : W) (s : State (Option W) (View W)) (x : ℕ) : Type 0 where
-    -- no two seats have it
-    pub one_seat : (i j : ℕ) (v w : View W) → HasIt x s i v → HasIt x s j w → i ≡ j
-    -- what a seat has, it has once; no word has it, and it is not live
-    pub in_a_hand : (i : ℕ) (v : View W) → HasIt x s i v
-        → (in_hand x v.hand ≡ 1) × InNoWord x s × (m.live world x ≡ false)
-    -- what is live, no word has
-    pub if_live : m.live world x ≡ true → InNoWord x s
+    -- it is in one place, and in no other: in one word at most, and held by one seat at most, once
+    pub record IsInOnePlace : Type 0 where
+      pub place : Spot
+      pub there : IsAt place
+      pub only : (other : Spot) → IsAt other → other ≡ place
+      pub once : (i : ℕ) (v : View W) → HoldsIt i v → in_hand x v.hand ≡ 1
 
-  -- Whenever the rule holds, each slot of each block stands in one place at most.
-  abbrev pub SlotsStandOnce : Type 0
-  SlotsStandOnce =
-      (numbers : Numbers) (s : State (Option W) (View W)) (rule : Custodied m numbers s) (x : ℕ) → ROWS ≤ x
-      → StandsOnce rule.world s x
+  -- Whenever the rule holds, each slot of a block of handles is in exactly one place, and a slot of any other
+  -- block is in none.
+  abbrev pub EachSlotIsInOnePlace : Type 0
+  EachSlotIsInOnePlace =
+      (numbers : Numbers) (s : State (Option W) (View W)) (rule : Custodied m numbers s) (x : ℕ) → IsSlot x
+      → (named (kind_word s.words (block_of x)) ≡ 1 → IsInOnePlace rule.world s x)
+      × (named (kind_word s.words (block_of x)) ≡ 0 → (place : Spot) → IsAt rule.world s x place → ⊥)
+
+-- The gate is word 0, the kind word of block b word b, its mask word 256 + b; the words of the kind with
+-- number k begin at 513 + 127 k: the quick word, 63 reserve cells, 63 free cells.
+pub record WordsAreNumbered : Type 0 where
+  pub gate : GATE ≡ 0
+  pub mask : (b : ℕ) → mask_word b ≡ 256 + b
+  pub quick : (k : ℕ) → quick_word k ≡ 513 + 127 * k
+  pub reserve : (k i : ℕ) → reserve_cell k i ≡ 513 + 127 * k + 1 + i
+  pub free : (k i : ℕ) → free_cell k i ≡ 513 + 127 * k + 64 + i
+  pub all : WORDS ≡ 1402
+
+-- A kind word is 0, 1 to 7 for handles of the kind with the number before it, or 8 for extra data.
+pub record KindWordsAreNumbered : Type 0 where
+  pub none : named 0 ≡ 0
+  pub handles : (k : Kind) → named (kind_number k + 1) ≡ 1
+  pub few : (k : Kind) → kind_number k + 1 ≤ 7
+  pub extra_data : EXTRA_DATA ≡ 8
+  pub no_others : (w : ℕ) → 8 ≤ w → named w ≡ 0
+
+-- A slot is 64 times its block and its row, of blocks 1 to 256. `allocate` makes at most 1,214 steps,
+-- `release` 65, `gather` 1,278.
+pub record BoundsAreNumbered : Type 0 where
+  pub slots : (x : ℕ) → x ≡ 64 * block_of x + row_of x
+  pub first : (x : ℕ) → IsSlot x → 64 ≤ x
+  pub last : (x : ℕ) → IsSlot x → x < 16448
+  pub allocate : CACHE + 4 * BLOCKS + BANK ≡ 1214
+  pub release : 1 + BANK + 1 ≡ 65
+  pub gather : 2 * CACHE + 4 * BLOCKS ≡ 1278

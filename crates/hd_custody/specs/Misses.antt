@@ -1,4 +1,4 @@
--- A whole Miss, told by what its steps found. How a call decides them is in `Traces`; that both say the same
+-- A whole miss, described by what its steps found. How a call decides them is in `Traces`; that both say the same
 -- of each `allocate` is proved.
 use Rattle.std.specs.Prelude.{◌≡◌, ◌≢◌, ◌⊎◌, ℕ, zero, suc, ◌+◌, ◌<◌, ◌≤◌, bit_or, List, [], ◌∷◌, ◌++◌, length}
 use mathlib.Core.Option.{some}
@@ -43,8 +43,9 @@ module _ (k : ℕ) where
   IsGiven (regiven m y o) = (m ≢ 0) × (y ≢ k + 1)
 
 -- A whole Miss of the kind with number k, of a table of so many blocks: every quick word and cell of the kind
--- gave 0; the kind word of each block was loaded once, and the mask of each block that was loaded as of the
--- kind gave 0, or the kind word loaded after it was another. These are all steps, in this order.
+-- gave 0; the kind word of each block was loaded, and the mask of each block that was loaded as of the kind
+-- gave 0, or it gave rows and the kind word loaded once more after it was another. These are all steps, in this
+-- order.
 pub record WholeMiss (k blocks : ℕ) (trace : List Did) : Type 0 where
   pub gave : List Gave
   pub each_block : length gave ≡ blocks

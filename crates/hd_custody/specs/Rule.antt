@@ -141,9 +141,10 @@ module _ {W : Type 0} (m : Ghosts W) where
   abbrev M : Type 0
   M = Me (Option W) (View W)
 
-  -- what a seat that wins the gate learns of the world: its own part, its room, and that no slot of its hand
-  -- is live
+  -- what a seat that wins the gate learns: that it had not got it, and of the world its own part, its room, and
+  -- that no slot of its hand is live
   pub record Entered (v : View W) (w : W) : Type 0 where
+    pub had_not : v.has_gate ≡ false
     pub part : part_of (m.journal w) v.number ≡ v.part
     pub room : v.room ≤ m.spare w
     pub sized : m.numbers w ≡ numbers_of v.limits
@@ -166,7 +167,7 @@ module _ {W : Type 0} (m : Ghosts W) where
     pub no_kinds : (b : ℕ) → m.kind w b ≡ 0
     pub no_entries : m.journal w ≡ []
 
-  -- What each kind of step tells its seat: of the step, the seat before, the value found, the seat after. the
+  -- What each kind of step shows its seat: of the step, the seat before, the value found, the seat after. the
   -- gate was free, and the seat has the world; or it was not, and nothing changed
   abbrev pub entered : Step (Option W) → M → ℕ → M → Type 0
   entered st a n b =

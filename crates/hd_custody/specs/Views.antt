@@ -13,7 +13,7 @@ use Rattle.hd_model.specs.declared.limits.TheConstants.{BLOCKS, ROWS}
 use Rattle.hd_custody.specs.declared.words.TheConstants.{EXTRA_DATA}
 use Rattle.hd_custody.specs.declared.view.View.{View}
 use Rattle.hd_custody.specs.declared.view.Limits.{Limits}
-use Rattle.hd_custody.specs.Counts.{masked_block, block_of, in_hand, Has, Every, named, kind_at, changed, picks, rows, whole, slot_count, put_out}
+use Rattle.hd_custody.specs.Counts.{masked_block, block_of, IsSlot, in_hand, Has, Every, named, kind_at, changed, picks, rows, whole, slot_count, put_out}
 use Rattle.hd_custody.specs.Counts.{without_rows, without_block, with_slot, naming, is_nil}
 
 -- what a clause sees of a `Custody`
@@ -36,7 +36,7 @@ limits_of n = record { heap = n.heap; blocks = n.blocks; callers = n.callers }
 
 -- each slot of the hand is one, and has a kind: so it is between two calls
 abbrev pub Kinded : List (ℕ × ℕ) → Type 0
-Kinded hand = Every (λ p. (ROWS ≤ p.0) × (p.1 ≢ 0)) hand
+Kinded hand = Every (λ p. IsSlot p.0 × (p.1 ≢ 0)) hand
 
 -- the journal is what it was, with the same spare; or it has one entry of this caller more, one less to
 -- spare, and the caller had room for one
@@ -64,11 +64,11 @@ extra_block (grown.Two b d) = d
 extra_block (grown.Back b) = 0
 
 -- a table grows for a kind by one block, and for a paired kind by two, neither of which is block 0
-abbrev pub GrowsFor : Bool → Grown → Type 0
-GrowsFor paired grown.Zero = ⊥
-GrowsFor paired (grown.One b) = paired ≡ false
-GrowsFor paired (grown.Two b d) = (paired ≡ true) × (0 < d)
-GrowsFor paired (grown.Back b) = ⊥
+abbrev pub GrowsByBlocks : Bool → Grown → Type 0
+GrowsByBlocks paired grown.Zero = ⊥
+GrowsByBlocks paired (grown.One b) = paired ≡ false
+GrowsByBlocks paired (grown.Two b d) = (paired ≡ true) × (0 < d)
+GrowsByBlocks paired (grown.Back b) = ⊥
 
 module _ {W : Type 0} where
   -- the slot of the table that is out with a seat between two calls: while it has the gate, the one that held
@@ -92,6 +92,7 @@ module _ {W : Type 0} where
     made = 1;
     limits = limits_of numbers;
     has_gate = false;
+    gate_steps = 0;
     taken = None;
     changes = [];
     hand = [];
@@ -111,6 +112,7 @@ module _ {W : Type 0} where
     made = 0;
     limits = record { heap = 0; blocks = 0; callers = 0 };
     has_gate = false;
+    gate_steps = 0;
     taken = None;
     changes = [];
     hand = [];
@@ -133,7 +135,7 @@ module _ {W : Type 0} where
 
   -- the gate is won, and the world w is taken
   abbrev pub took : W → View W → View W
-  took w v = record v { has_gate = true; taken = Some w; changes = [] }
+  took w v = record v { has_gate = true; gate_steps = v.gate_steps + 1; taken = Some w; changes = [] }
 
   -- a store of k into the kind word of block b, by the holder of the gate: of handles, the block's slots join
   -- the hand
@@ -193,7 +195,7 @@ module _ {W : Type 0} where
     trace = v.trace ++ (i, y, bit_or y m) ∷ [];
   }
 
-  -- a whole call, which left this hand and made these steps
+  -- a whole call, which left this hand and made these steps: it neither won the gate nor gave it back
   abbrev pub called : List (ℕ × ℕ) → List (ℕ × ℕ × ℕ) → View W → View W
   called hand trace v = record v {
     hand = hand;
@@ -217,6 +219,7 @@ module _ {W : Type 0} (m : Ghosts W) where
   abbrev pub gave_back : W → W → View W → View W
   gave_back u w v = record v {
     has_gate = false;
+    gate_steps = v.gate_steps + 1;
     taken = None;
     changes = [];
     part = part_of (m.journal w) v.number;

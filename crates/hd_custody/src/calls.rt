@@ -37,7 +37,7 @@ impl<W: Held> Custody<W> {
         ensures kind { IfSome result (λ slot. KindIs W.Held seat.old.view (block_of slot.0)
             (kind_number kind + 1)) }
     {
-        // Read for the proof alone: it tells the number of blocks.
+        // Read for the proof alone: it states the number of blocks.
         let _blocks = self.blocks;
         let slot = self.find(&mut seat.place, kind.number());
         if slot == 0 {
@@ -224,7 +224,7 @@ impl<W: Held> Custody<W> {
         ensures done { Releases (kind_number kind) self.now.blocks slot.0 seat.old.view
             seat.new.view }
     {
-        // Read for the proof alone: it tells the number of blocks.
+        // Read for the proof alone: it states the number of blocks.
         let _blocks = self.blocks;
         self.let_go(&mut seat.place, kind.number(), slot.0 as u64);
     }
@@ -288,7 +288,7 @@ impl<W: Held> Custody<W> {
             seat.new.view }
         ensures block { IfSome result (λ b. (0 < b) × (b ≤ self.now.blocks) × (b < BLOCKS + 1)) }
     {
-        // Read for the proof alone: it tells the number of blocks.
+        // Read for the proof alone: it states the number of blocks.
         let _blocks = self.blocks;
         let block = self.collect(&mut seat.place, kind.number());
         if block == 0 { None } else { Some(block) }

@@ -5,7 +5,7 @@ ghost use Rattle.std.specs.Bool.{OnTrue, OnFalse};
 ghost use Rattle.hd_model.specs.Kinds.{kind_number, is_paired};
 ghost use Rattle.hd_custody.specs.Counts.{in_hand, changed, Has};
 ghost use Rattle.hd_custody.specs.Views.{starting, shared_out, given, joined, took, opened, closed, granted, gave_back, with_data};
-ghost use Rattle.hd_custody.specs.Views.{Follows, MayGrant, GrowsFor, handle_block, extra_block};
+ghost use Rattle.hd_custody.specs.Views.{Follows, MayGrant, GrowsByBlocks, handle_block, extra_block};
 ghost use Rattle.hd_custody.specs.Rule.{Entered, Divided, IsUnused};
 
 use crate::plays::{Assign, Clear, Cut, Ends, Enter, Leave, Share};
@@ -19,6 +19,7 @@ use std::alloc::{AllocError, Global};
 use std::marker::Brand;
 use std::snapshot::Snapshot;
 use std::sync::Wait;
+use std::sync::atomic::{AtomicU32, Ordering};
 
 // The slot of a table, which has the world.
 const WORLD: usize = 0;
@@ -68,7 +69,15 @@ impl<W: Held> Custody<W> {
             return Err(Memory);
         };
         match Table::new(alloc, words.as_slice(), slots, &about) {
-            Ok((table, place)) => Ok((Custody { table, blocks }, Seat { place })),
+            Ok((table, place)) => {
+                let sleepers = AtomicU32::new(0);
+                let custody = Custody {
+                    table,
+                    blocks,
+                    sleepers,
+                };
+                Ok((custody, Seat { place }))
+            }
             Err(Refused { slots: _ }) => Err(Memory),
         }
     }
@@ -128,7 +137,11 @@ impl<W: Held> Custody<W> {
         requires all { length first.view.ended + 1 ≡ first.view.made }
         ensures world { Divided W.Held first.view result }
     {
-        let Custody { table, blocks: _ } = self;
+        let Custody {
+            table,
+            blocks: _,
+            sleepers: _,
+        } = self;
         let Seat { place } = first;
         home(table, place)
     }
@@ -149,7 +162,6 @@ impl<W: Held> Custody<W> {
     // The world, where the gate was free.
     fn try_enter(&self, seat: &mut Seat<W>) -> Option<W>
         requires seat { seat.old.table ≡ self.now.table }
-        requires gate { seat.old.view.has_gate ≡ false }
         ensures lost { IfNone result (seat.new ≡ seat.old) }
         ensures won { IfSome result (λ w. seat.new ≡ record seat.old {
           view =
@@ -163,7 +175,7 @@ impl<W: Held> Custody<W> {
         self.table.shared.exchange(&mut seat.place, WORLD, None)
     }
 
-    // Whether the gate was free at one of a few looks. It tells nothing for certain.
+    // Whether the gate was free at one of a few looks. It says nothing for certain.
     fn looks_free(&self) -> bool {
         for _look in 0..LOOKS {
             if self.table.shared.peek(GATE) == FREE {
@@ -173,7 +185,23 @@ impl<W: Held> Custody<W> {
         false
     }
 
-    /// Takes the gate, and with it the world. It may wait for whoever has it. No slot of the hand
+    // Sleeps while the gate is held, counted as one who may sleep: the count is raised before the
+    // gate word is looked at, and lowered after. It may also return for no reason.
+    fn sleep<R: Wait>(&self, rt: &R) {
+        self.sleepers.fetch_add(1, Ordering::SeqCst);
+        self.table.shared.park(rt, GATE, HELD);
+        self.sleepers.fetch_sub(1, Ordering::SeqCst);
+    }
+
+    // Wakes one caller where any may sleep. The gate is free before it.
+    fn wake(&self) {
+        if self.sleepers.load(Ordering::SeqCst) != 0 {
+            self.table.shared.wake_one(GATE);
+        }
+    }
+
+    /// Takes the gate, and with it the world. It may wait for whoever has it, and counts one step on
+    /// the gate: a try that fails changes nothing. No slot of the hand
     /// is live in that world, each that has a kind is there in a block of that kind, its journal
     /// has of this caller exactly the seat's part, and it has room for the entries that the seat
     /// may still add.
@@ -188,13 +216,13 @@ impl<W: Held> Custody<W> {
                 return world;
             }
             if !self.looks_free() {
-                self.table.shared.park(rt, GATE, HELD);
+                self.sleep(rt);
             }
         }
         unreachable!()
     }
 
-    /// Gives the gate back with the world, and wakes a caller that may wait for it. Slots that
+    /// Gives the gate back with the world, and wakes a caller if any may sleep at it. Slots that
     /// became live leave the hand, and slots that are live no more come into it, each with its
     /// block's kind.
     pub fn leave(&self, seat: &mut Seat<W>, world: W)
@@ -208,7 +236,7 @@ impl<W: Held> Custody<W> {
         let shared = &self.table.shared;
         shared.exchange(&mut seat.place, WORLD, Some(world));
         shared.store::<Leave>(&mut seat.place, GATE, FREE);
-        shared.wake_one(GATE);
+        self.wake();
     }
 
     // Stores the kind word of a block that has no kind.
@@ -232,13 +260,15 @@ impl<W: Held> Custody<W> {
     pub fn grant(&self, seat: &mut Seat<W>, kind: Kind, grown: Grown)
         requires seat { seat.old.table ≡ self.now.table }
         requires gate { seat.old.view.has_gate ≡ true }
-        requires grows { GrowsFor (is_paired kind) grown }
+        requires grows { GrowsByBlocks (is_paired kind) grown }
         requires blocks { MayGrant W.Held self.now.blocks (handle_block grown) (extra_block grown)
             seat.old.view }
         ensures view { seat.new ≡ record seat.old {
           view = granted (kind_number kind) (handle_block grown) (extra_block grown) seat.old.view;
         } }
     {
+        // Read for the proof alone: it states how many blocks there are at most.
+        let _blocks = self.blocks;
         match grown {
             Grown::Zero => unreachable!(),
             Grown::One(block) => self.give(&mut seat.place, kind.number(), block, 0),
@@ -277,7 +307,7 @@ impl<W: Held> Custody<W> {
         ensures table { place.new.table_id ≡ place.old.table_id }
         ensures view { place.new.me ≡ (granted kind block extra place.old.me.0, place.old.me.1) }
     {
-        // Read for the proof alone: it tells how many blocks there are at most.
+        // Read for the proof alone: it states how many blocks there are at most.
         let _blocks = self.blocks;
         self.assign(place, block, kind as u64 + 1);
         self.assign_data(place, extra);
@@ -288,7 +318,6 @@ impl<W: Held> Custody<W> {
     pub fn withdraw(&self, seat: &mut Seat<W>, block: u32)
         requires seat { seat.old.table ≡ self.now.table }
         requires gate { seat.old.view.has_gate ≡ true }
-        requires block { (0 < block) × (block ≤ self.now.blocks) }
         requires all { (r : ℕ) → r < ROWS → Has (ROWS * block + r) seat.old.view.hand }
         ensures view { seat.new ≡ record seat.old { view = closed block seat.old.view } }
     {

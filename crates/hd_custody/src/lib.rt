@@ -18,6 +18,6 @@ mod types;
 mod view;
 mod words;
 
-pub use laws::slots_stand_once;
+pub use laws::{each_slot_is_in_one_place, numbers_are_these};
 pub use types::{Custody, Seat};
 pub use view::{Limits, View};

@@ -1,4 +1,4 @@
-//! What each kind of step tells. These types are for the proofs alone.
+//! What each kind of step shows. These types are for the proofs alone.
 ghost use Rattle.std.specs.Prelude.{ℕ};
 ghost use Rattle.hd_custody.specs.Views.{begun, shared_out, given, joined, spent};
 ghost use Rattle.hd_custody.specs.Rule.{entered, left, exchanged, stored, seen, drawn, returned, settled, assigned, cleared};

@@ -9,6 +9,7 @@ use crate::{Custody, Seat};
 use hd_model::{Grown, Held, Kind, Memory, Slot};
 use std::alloc::Global;
 use std::sync::Wait;
+use std::sync::atomic::{AtomicU32, Ordering};
 use std::test::Fail;
 use std::thread::{Threads, join};
 
@@ -294,4 +295,101 @@ fn two_threads_lose_no_slot(rt: HostRuntime) -> Result<(), Fail> {
     // Row 0 of each block was kept in the hand.
     assert!(rt; marks == [0, !1, !1]);
     Ok(())
+}
+
+// Holds the gate until all others sleep at it, or are about to, or have come to their ends.
+fn wait_for_sleepers<R: Wait>(rt: &R, custody: &Custody<Blocks>, ended: &AtomicU32, others: u32) {
+    for _look in rt.forever() {
+        let sleepers = custody.sleepers.load(Ordering::SeqCst);
+        if sleepers.saturating_add(ended.load(Ordering::SeqCst)) >= others {
+            return;
+        }
+    }
+}
+
+// Takes the gate many times over, and leaves it each time with all others asleep at it.
+fn wake_each<R: Wait>(
+    rt: &R,
+    custody: &Custody<Blocks>,
+    mut seat: Seat<Blocks>,
+    ended: &AtomicU32,
+    others: u32,
+) -> Seat<Blocks>
+    requires { (seat.table ≡ custody.now.table) × (seat.view.has_gate ≡ false)
+        × (seat.view.hand ≡ []) }
+    ensures seat { (result.table ≡ seat.table) × (result.view.hand ≡ []) }
+    ensures gate { result.view.has_gate ≡ false }
+    ensures number { result.view.number ≡ seat.view.number }
+{
+    for _round in 0..1_000 {
+        let world = custody.enter(rt, &mut seat);
+        wait_for_sleepers(rt, custody, ended, others);
+        custody.leave(&mut seat, world);
+    }
+    ended.fetch_add(1, Ordering::SeqCst);
+    seat
+}
+
+// So many more callers do so in threads of their own, with the first.
+fn wake_all<R: Threads + Wait + Sync>(
+    rt: &R,
+    custody: &Custody<Blocks>,
+    mut first: Seat<Blocks>,
+    ended: &AtomicU32,
+    others: u32,
+    more: u32,
+) -> Seat<Blocks>
+    requires { (first.table ≡ custody.now.table) × (first.view.number ≡ 0)
+        × (first.view.has_gate ≡ false) × (first.view.hand ≡ []) }
+    ensures { (result.table ≡ first.table) × (result.view.number ≡ 0) }
+{
+    if more == 0 {
+        return wake_each(rt, custody, first, ended, others);
+    }
+    let other = custody.split(&mut first, 0);
+    let (mut first, other) = join(
+        rt,
+        || -> Seat<Blocks>
+            requires { (first.table ≡ custody.now.table) × (first.view.number ≡ 0)
+                × (first.view.has_gate ≡ false) × (first.view.hand ≡ []) × (0 < more) }
+            ensures { (result.table ≡ first.table) × (result.view.number ≡ 0) }
+        { wake_all(rt, custody, first, ended, others, more - 1) },
+        || -> Seat<Blocks>
+            requires { (other.table ≡ custody.now.table) × (other.view.has_gate ≡ false)
+                × (other.view.hand ≡ []) }
+            ensures { (result.table ≡ other.table) × (result.view.hand ≡ [])
+                × (result.view.has_gate ≡ false) }
+        { wake_each(rt, custody, other, ended, others) },
+    );
+    custody.join(&mut first, other);
+    first
+}
+
+// So many callers leave the gate to others who sleep at it, and all come to their ends.
+fn no_wake_is_lost<R: Threads + Wait + Sync>(
+    rt: &R,
+    alloc: Global,
+    callers: u32,
+) -> Result<(), Fail>
+    requires { 1 ≤ callers }
+{
+    let (custody, seat) = open(alloc, 1)?;
+    let ended = AtomicU32::new(0);
+    let _first = wake_all(rt, &custody, seat, &ended, callers - 1, callers - 1);
+    Ok(())
+}
+
+#[test]
+fn three_callers_wake_each_other(rt: HostRuntime) -> Result<(), Fail> {
+    no_wake_is_lost(&rt, rt.alloc(), 3)
+}
+
+#[test]
+fn four_callers_wake_each_other(rt: HostRuntime) -> Result<(), Fail> {
+    no_wake_is_lost(&rt, rt.alloc(), 4)
+}
+
+#[test]
+fn sixteen_callers_wake_each_other(rt: HostRuntime) -> Result<(), Fail> {
+    no_wake_is_lost(&rt, rt.alloc(), 16)
 }

@@ -1,6 +1,7 @@
 use crate::rule::{Board, Place};
 use hd_model::Held;
 use std::marker::Model;
+use std::sync::atomic::AtomicU32;
 
 /// A caller's token at a table. It has no bytes. Contracts see the table and what the caller knows.
 #[derive(Drop)]
@@ -24,6 +25,8 @@ impl<W: Held> Model for Seat<W> {
 pub struct Custody<W: Held> {
     pub(crate) table: Board<W>,
     pub(crate) blocks: u32,
+    // How many callers sleep at the gate, or are about to. It is no word of the table.
+    pub(crate) sleepers: AtomicU32,
 }
 
 impl<W: Held> Model for Custody<W> {

@@ -25,6 +25,8 @@ pub struct View<W> {
     /// The numbers of the world.
     pub limits: Limits,
     pub has_gate: bool,
+    /// How often it won the gate or gave it back.
+    pub gate_steps: u64,
     /// The world as it took it, while it has the gate.
     pub taken: Option<W>,
     /// The kind words that it stored since, each with its block, the last one first.

@@ -8,7 +8,7 @@ use Rattle.std.proofs.lemmas.Bool.{cases_eq}
 use Rattle.hd_model.specs.State.{Numbers}
 use Rattle.hd_custody.specs.declared.view.View.{View}
 use Rattle.hd_custody.specs.Views.{Named, starting, shared_out, given, numbers_of}
-use Rattle.hd_gate.specs.Shared.{Party, AreAll, Begin}
+use Rattle.hd_gate.specs.Shared.{CallerView, AreAll, Begin}
 use Rattle.hd_gate.specs.Idle.{IsIdle}
 use Rattle.hd_gate.specs.Opening.{IsNew, AreNew, IsFirst}
 
@@ -31,7 +31,7 @@ first_next {W = W} begun v w seats share rest first is =
     }
 
 -- one caller more
-pub one_more : (s : Named) (rooms : List ℕ) (list : List Party) (p : Party) (number : ℕ)
+pub one_more : (s : Named) (rooms : List ℕ) (list : List CallerView) (p : CallerView) (number : ℕ)
     → length list + 1 ≡ number → AreNew s rooms list → IsNew s number (slice_index rooms number) p
     → AreNew s rooms (list ++ p ∷ [])
 one_more s rooms list p number count new last k d below = elim (cases_eq k (length list)) [
@@ -39,24 +39,24 @@ one_more s rooms list p number count new last k d below = elim (cases_eq k (leng
       let there : get_or (list ++ p ∷ []) k d ≡ p = ap (λ j. get_or (list ++ p ∷ []) j d) here
       ∙ get_or-append_seam list p [] d in
       let next : number ≡ k + 1 = omega arith in
-      subst (λ (q : Party). IsNew s (k + 1) (slice_index rooms (k + 1)) q) (sym there)
+      subst (λ (q : CallerView). IsNew s (k + 1) (slice_index rooms (k + 1)) q) (sym there)
       (subst (λ j. IsNew s j (slice_index rooms j) p) next last))
   | inr apart ↦ (
       let lower : k < length list = omega (arith, apart, below, length-append list (p ∷ [])) in
-      subst (λ (q : Party). IsNew s (k + 1) (slice_index rooms (k + 1)) q)
+      subst (λ (q : CallerView). IsNew s (k + 1) (slice_index rooms (k + 1)) q)
       (sym (get_or-append list (p ∷ []) d k lower)) (new k d lower))
 ]
 
 -- all callers, once the first one stands before the others
-pub all_new : (s : Named) (rooms : List ℕ) (first : Party) (list : List Party)
+pub all_new : (s : Named) (rooms : List ℕ) (first : CallerView) (list : List CallerView)
     → IsNew s 0 (slice_index rooms 0) first → AreNew s rooms list
-    → (c : ℕ) (d : Party) → c < length (first ∷ list)
+    → (c : ℕ) (d : CallerView) → c < length (first ∷ list)
     → IsNew s c (slice_index rooms c) (slice_index_or (first ∷ list) c d)
 all_new s rooms first list new news zero d below = new
 all_new s rooms first list new news (suc k) d below = subst
     (λ j. IsNew s j (slice_index rooms j) (slice_index_or list k d)) (add-one k) (news k d (omega arith))
 
-module _ (s : Named) (rooms : List ℕ) (first : Party) (list all : List Party) (are : all ≡ first ∷ list)
+module _ (s : Named) (rooms : List ℕ) (first : CallerView) (list all : List CallerView) (are : all ≡ first ∷ list)
     (count : length list + 1 ≡ length rooms) (callers : length rooms ≡ s.numbers.callers)
     (new : IsNew s 0 (slice_index rooms 0) first) (news : AreNew s rooms list) where
   pub are_all : AreAll s all

@@ -9,21 +9,21 @@ use Rattle.hd_custody.specs.declared.view.View.{View}
 use Rattle.hd_custody.specs.Views.{joined}
 use Rattle.hd_custody.proofs.Seating.{at_end}
 use Rattle.hd_custody.specs.Rule.{Divided}
-use Rattle.hd_world.specs.World.{Standing}
+use Rattle.hd_world.specs.World.{WorldView}
 use Rattle.hd_world.specs.contracts.world.WorldHeld.TheImpl.{ghosts}
 use Rattle.hd_model.specs.Run.{part_of}
-use Rattle.hd_gate.specs.Shared.{Party, HasParts}
+use Rattle.hd_gate.specs.Shared.{CallerView, HasParts}
 use Rattle.hd_gate.specs.Opening.{HasEnded}
 
 -- one more has ended
-pub one_more_ended : (others : List Party) (ended : List (ℕ × List Entry)) (e : ℕ × List Entry) (c : ℕ)
+pub one_more_ended : (others : List CallerView) (ended : List (ℕ × List Entry)) (e : ℕ × List Entry) (c : ℕ)
     → HasEnded others ended → c < length others → e.0 ≡ c + 1
-    → ((d : Party) → e.1 ≡ (slice_index_or others c d).part) → HasEnded others (ended ++ e ∷ [])
+    → ((d : CallerView) → e.1 ≡ (slice_index_or others c d).part) → HasEnded others (ended ++ e ∷ [])
 one_more_ended others ended e c has below number part = record {
   each = λ k f at. elim (at_end ended e f k at) [
     | inl there ↦ has.each k f there.1
     | inr last ↦ subst (λ (g : ℕ × List Entry). (n : ℕ) × (n < length others) × (g.0 ≡ n + 1) ×
-        ((d : Party) → g.1 ≡ (slice_index_or others n d).part)) last.1 (c, below, number, part)
+        ((d : CallerView) → g.1 ≡ (slice_index_or others n d).part)) last.1 (c, below, number, part)
   ];
 }
 
@@ -40,27 +40,27 @@ ends_in {W = W} begun v w n seat is = subst (λ (x : View W). x
     }) seat)
 
 -- the last of those who are left
-module _ (all xs ys : List Party) (x : Party) (popped : xs ≡ ys ++ x ∷ [])
-    (rest : (k : ℕ) (d : Party) → k < length xs → slice_index_or xs k d ≡ slice_index_or all k d) where
+module _ (all xs ys : List CallerView) (x : CallerView) (popped : xs ≡ ys ++ x ∷ [])
+    (rest : (k : ℕ) (d : CallerView) → k < length xs → slice_index_or xs k d ≡ slice_index_or all k d) where
   pub shorter : length xs ≡ length ys + 1
   shorter = omega (arith, ap length popped, length-append ys (x ∷ []))
 
-  pub rest_less : (k : ℕ) (d : Party) → k < length ys → slice_index_or ys k d ≡ slice_index_or all k d
+  pub rest_less : (k : ℕ) (d : CallerView) → k < length ys → slice_index_or ys k d ≡ slice_index_or all k d
   rest_less k d below =
       sym (get_or-append ys (x ∷ []) d k below) ∙ ap (λ l. slice_index_or l k d) (sym popped)
       ∙ rest k d (omega (arith, shorter, below))
 
-  pub is_last : (d : Party) → x ≡ slice_index_or all (length ys) d
+  pub is_last : (d : CallerView) → x ≡ slice_index_or all (length ys) d
   is_last d =
       sym (get_or-append_seam ys x [] d) ∙ ap (λ l. slice_index_or l (length ys) d) (sym popped)
       ∙ rest (length ys) d (omega (arith, shorter))
 
 -- the journal of a world that all have left has of each exactly its part
-module _ (callers : List Party) (first : View Standing) (w : Standing) (divided : Divided ghosts first w)
+module _ (callers : List CallerView) (first : View WorldView) (w : WorldView) (divided : Divided ghosts first w)
     (made : first.made ≡ length callers)
-    (part : (d : Party) → first.part ≡ (slice_index_or callers 0 d).part)
+    (part : (d : CallerView) → first.part ≡ (slice_index_or callers 0 d).part)
     (ended : HasEnded (drop 1 callers) first.ended) where
-  part_at : (c : ℕ) (d : Party) → c < length callers → part_of w.journal c ≡ (slice_index_or callers c d).part
+  part_at : (c : ℕ) (d : CallerView) → c < length callers → part_of w.journal c ≡ (slice_index_or callers c d).part
   part_at zero d below = divided.own_part ∙ part d
   part_at (suc k) d below = elim (divided.each (suc k) (omega (arith, made, below))) [
     | inl none ↦ absurd (omega (arith, none))
@@ -70,7 +70,7 @@ module _ (callers : List Party) (first : View Standing) (w : Standing) (divided 
         let next : 1 + k ≡ suc k = omega arith in
         divided.ended_parts at.0 (suc k, at.1) at.2 ∙ has.3 d
         ∙ ap (λ j. (slice_index_or (drop 1 callers) j d).part) same
-        ∙ ap (λ (p : Party). p.part) (get_or-drop 1 callers k d)
+        ∙ ap (λ (p : CallerView). p.part) (get_or-drop 1 callers k d)
         ∙ ap (λ j. (slice_index_or callers j d).part) next)
   ]
 

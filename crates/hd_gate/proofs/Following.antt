@@ -25,10 +25,10 @@ use Rattle.hd_model.specs.Command.{refuses, made_handle, free_handle}
 use Rattle.hd_model.specs.Step.{IsOutcome, IsLeastUnused, MayGive, with_made, MakesHandle, blocks_needed, StepOf, Step}
 use Rattle.hd_model.specs.Run.{NoneFree, NoneAllFree, TakesLeast}
 use Rattle.hd_model.proofs.Outcomes.{on_handle_cases}
-use Rattle.hd_model.proofs.Written.{get_inserted, get_beside, get_removed, get_left}
-use Rattle.hd_model.proofs.WellFormed.{step_keeps}
+use Rattle.hd_model.proofs.ReadAfterWrite.{get_inserted, get_beside, get_removed, get_left}
+use Rattle.hd_model.proofs.WellFormedSteps.{step_keeps}
 use Rattle.hd_pool.specs.Pool.{FreeSlots, slots_of, IsFreeFor, IsLeastFreeFor, HasNoneFor, IsLeastWholeOf}
-use Rattle.hd_pool.proofs.Sets.{insert_same, insert_other, remove_same, remove_other, union_same, union_other, difference_same, difference_other}
+use Rattle.hd_pool.proofs.SetMembers.{insert_same, insert_other, remove_same, remove_other, union_same, union_other, difference_same, difference_other}
 use Rattle.hd_world.specs.World.{IsOffer, GrowsUnoffered, Takes as TakesOffer}
 use Rattle.hd_gate.specs.declared.change.Change.{Change}
 use Rattle.hd_gate.specs.declared.change.Change.TheVariants.{Takes, Frees, GivesBack as Gives, Keeps}

@@ -17,53 +17,53 @@ use Rattle.hd_model.specs.State.{Numbers, Handle, handles_of, use_of, block_of}
 use Rattle.hd_model.specs.Kinds.{kind_number}
 use Rattle.hd_model.specs.Step.{StepOf}
 use Rattle.hd_model.specs.Table.{kind_word}
-use Rattle.hd_model.proofs.Written.{get_removed, get_left}
+use Rattle.hd_model.proofs.ReadAfterWrite.{get_removed, get_left}
 use Rattle.hd_custody.specs.declared.view.View.{View}
 use Rattle.hd_custody.specs.Traces.{follow, push, found as ends}
 use Rattle.hd_custody.specs.Counts.{HasAs, without}
 use Rattle.hd_custody.specs.Views.{Follows, gave_back, took}
 use Rattle.hd_custody.specs.Rule.{Entered}
-use Rattle.hd_world.specs.World.{Standing, asks_of}
+use Rattle.hd_world.specs.World.{WorldView, asks_of}
 use Rattle.hd_world.specs.Growth.{kind_in_use}
 use Rattle.hd_world.specs.contracts.world.WorldHeld.TheImpl.{ghosts}
 use Rattle.hd_gate.specs.declared.change.Change.TheVariants.{Frees}
 use Rattle.hd_gate.specs.Change.{change_of}
 use Rattle.hd_gate.specs.declared.change.Change.{Change}
-use Rattle.hd_gate.specs.Shared.{Party, LookedFor, LetsOneGo, SlotCalls, HasDone}
+use Rattle.hd_gate.specs.Shared.{CallerView, LookedFor, LetsOneGo, SlotCalls, HasDone}
 use Rattle.hd_gate.specs.Idle.{IsIdle}
-use Rattle.hd_gate.specs.Turns.{party_of, Stepped, freed_in, LetsGo}
+use Rattle.hd_gate.specs.Turns.{caller_view_of, Stepped, freed_in, LetsGo}
 use Rattle.hd_gate.proofs.Living.{FreesAt, frees_at}
-use Rattle.hd_gate.proofs.Leaving.{idle_of, goes_on, done_after, hand_stays, hand_ends}
+use Rattle.hd_gate.proofs.Leaving.{well_formed, idle_of, goes_on, done_after, hand_stays, hand_ends}
 
 -- a command that frees a slot is `hfree`
 is_free : (c : Cmd) → change_of c ≡ Frees → (h : ℕ) × (c ≡ cmd.HFree h)
 is_free (cmd.HFree h) frees = (h, refl)
 is_free c frees = cc
 
-module _ (number : ℕ) (command : Cmd) (frees : change_of command ≡ Frees) (u w : Standing) (v : View Standing)
+module _ (number : ℕ) (command : Cmd) (frees : change_of command ≡ Frees) (u w : WorldView) (v : View WorldView)
     (idle : IsIdle v number) (some_room : 1 ≤ v.room) (few : v.limits.blocks ≤ 256)
     (entered : Entered ghosts v u) (e : Entry) (stepped : Stepped u w number command None e) where
-  abbrev busy : View Standing
+  abbrev busy : View WorldView
   busy = took u v
 
-  abbrev left : View Standing
+  abbrev left : View WorldView
   left = gave_back ghosts u w busy
 
-  looks_for_none : (old new : Party) → LookedFor (asks_of command) old new e
+  looks_for_none : (old new : CallerView) → LookedFor (asks_of command) old new e
   looks_for_none old new =
       let is = is_free command frees in
       subst (λ (c : Cmd). LookedFor (asks_of c) old new e) (sym is.1) tt
 
-  -- the caller once it let go what was freed
+  -- the caller once it released what was freed
   pub record Freed (freed : Option (Slot × Kind)) : Type 0 where
     pub follows : Follows ghosts u w busy
     pub has : IfSome freed (λ f. HasAs (f.0.0, kind_number f.1 + 1) left.hand)
-    pub stays_idle : (blocks : ℕ) (n : View Standing) → LetsGo blocks freed left n → IsIdle n number
-    pub done : (blocks : ℕ) (n : View Standing) → LetsGo blocks freed left n → blocks ≡ v.limits.blocks
+    pub stays_idle : (blocks : ℕ) (n : View WorldView) → LetsGo blocks freed left n → IsIdle n number
+    pub done : (blocks : ℕ) (n : View WorldView) → LetsGo blocks freed left n → blocks ≡ v.limits.blocks
         → (t : TableId)
-        → HasDone (party_of (record { table = t; view = v }) number v.room)
-        (party_of (record { table = t; view = n }) number n.room) command e.reply
-    pub limits : (blocks : ℕ) (n : View Standing) → LetsGo blocks freed left n → n.limits ≡ v.limits
+        → HasDone (caller_view_of (record { table = t; view = v }) number v.room)
+        (caller_view_of (record { table = t; view = n }) number n.room) command e.reply
+    pub limits : (blocks : ℕ) (n : View WorldView) → LetsGo blocks freed left n → n.limits ≡ v.limits
 
   follows_from : ((x : ℕ) → ghosts.live w x ≡ true → ghosts.live u x ≡ true) → w.state.blocks ≡ u.state.blocks
       → Follows ghosts u w busy
@@ -71,19 +71,19 @@ module _ (number : ℕ) (command : Cmd) (frees : change_of command ≡ Frees) (u
     kinds = λ b _ _. ap (λ m. kind_word (get m b)) blocks;
     sized = stepped.numbers ∙ entered.sized;
     lives = λ x _ on. inl (lives x on);
-    goes_on = goes_on number command None u w e stepped v busy idle some_room entered.part
+    goes_on = goes_on number command None u w e stepped v busy idle some_room entered.part entered.sized
         (refl, refl, refl, refl, refl, refl);
   }
 
-  done_at : (n : View Standing) → n.part ≡ left.part → n.room ≡ left.room → (t : TableId)
-      → LetsOneGo (party_of (record { table = t; view = v }) number v.room)
-      (party_of (record { table = t; view = n }) number n.room) e
-      → HasDone (party_of (record { table = t; view = v }) number v.room)
-      (party_of (record { table = t; view = n }) number n.room) command e.reply
-  done_at n part room t lets = done_after number command None u w e stepped v busy idle some_room entered.part
+  done_at : (n : View WorldView) → n.part ≡ left.part → n.room ≡ left.room → (t : TableId)
+      → LetsOneGo u.state (caller_view_of (record { table = t; view = v }) number v.room)
+      (caller_view_of (record { table = t; view = n }) number n.room) e
+      → HasDone (caller_view_of (record { table = t; view = v }) number v.room)
+      (caller_view_of (record { table = t; view = n }) number n.room) command e.reply
+  done_at n part room t lets = done_after number command None u w e stepped v busy idle some_room entered.part entered.sized
       (refl, refl, refl, refl, refl, refl) t n part room (looks_for_none _ _)
-      (subst (λ (c : Change). SlotCalls c (party_of (record { table = t; view = v }) number v.room)
-      (party_of (record { table = t; view = n }) number n.room) e) (sym frees) lets)
+      (subst (λ (c : Change). SlotCalls c u.state (caller_view_of (record { table = t; view = v }) number v.room)
+      (caller_view_of (record { table = t; view = n }) number n.room) e) (sym frees) lets)
 
   -- nothing was freed
   kept : w.state.handles ≡ u.state.handles → w.state.blocks ≡ u.state.blocks → e.reply ≢ reply.Done
@@ -95,19 +95,19 @@ module _ (number : ℕ) (command : Cmd) (frees : change_of command ≡ Frees) (u
         follows = follows_from (λ x on. sym (same x) ∙ on) blocks;
         has = tt;
         stays_idle = λ b n is. idle_of v n number idle
-            (ap (λ (x : View Standing). x.number) is) (ap (λ (x : View Standing). x.limits) is)
-            (ap (λ (x : View Standing). x.ended) is) (ap (λ (x : View Standing). x.made) is)
-            (ap (λ (x : View Standing). x.hand) is ∙ hand) (ap (λ (x : View Standing). x.has_gate) is);
-        done = λ b n is _ t. done_at n (ap (λ (x : View Standing). x.part) is)
-            (ap (λ (x : View Standing). x.room) is) t (record {
+            (ap (λ (x : View WorldView). x.number) is) (ap (λ (x : View WorldView). x.limits) is)
+            (ap (λ (x : View WorldView). x.ended) is) (ap (λ (x : View WorldView). x.made) is)
+            (ap (λ (x : View WorldView). x.hand) is ∙ hand) (ap (λ (x : View WorldView). x.has_gate) is);
+        done = λ b n is _ t. done_at n (ap (λ (x : View WorldView). x.part) is)
+            (ap (λ (x : View WorldView). x.room) is) t (record {
               done = λ says. absurd (refused says);
               refused = λ _. record {
-                trace = ap (λ (x : View Standing). x.trace) is;
-                trace_number = ap (λ (x : View Standing). x.trace_number) is;
-                began_empty = ap (λ (x : View Standing). x.began_empty) is;
+                trace = ap (λ (x : View WorldView). x.trace) is;
+                trace_number = ap (λ (x : View WorldView). x.trace_number) is;
+                began_empty = ap (λ (x : View WorldView). x.began_empty) is;
               };
             });
-        limits = λ b n is. ap (λ (x : View Standing). x.limits) is;
+        limits = λ b n is. ap (λ (x : View WorldView). x.limits) is;
       }
 
   -- a slot was freed
@@ -116,7 +116,7 @@ module _ (number : ℕ) (command : Cmd) (frees : change_of command ≡ Frees) (u
       (blocks : w.state.blocks ≡ u.state.blocks) (says_done : e.reply ≡ reply.Done)
       (is_slot : e.slot ≡ Some slot) where
     used : use_of u.state (block_of slot) ≡ Some (handles_of handle.kind)
-    used = stepped.well_formed.handles.kinds slot.0 handle live
+    used = (well_formed stepped).handles.kinds slot.0 handle live
 
     used' : use_of w.state (block_of slot) ≡ Some (handles_of handle.kind)
     used' = ap (λ m. get m (block_of slot)) blocks ∙ used
@@ -129,7 +129,7 @@ module _ (number : ℕ) (command : Cmd) (frees : change_of command ≡ Frees) (u
         ∙ ap is_some (get_left u.state.handles slot.0 y apart)
 
     inside : (1 ≤ block_of slot) × (block_of slot ≤ u.numbers.blocks)
-    inside = stepped.well_formed.handles.blocks (block_of slot) (ap is_some used)
+    inside = (well_formed stepped).handles.blocks (block_of slot) (ap is_some used)
 
     limit : u.numbers.blocks ≤ 256
     limit = subst (λ (n : Numbers). n.blocks ≤ 256) (sym entered.sized) few
@@ -157,30 +157,31 @@ module _ (number : ℕ) (command : Cmd) (frees : change_of command ≡ Frees) (u
       ]) blocks;
       has = (0, ap (λ h. get_elem? h 0) hand);
       stays_idle = λ b n is. idle_of v n number idle
-          (ap (λ (x : View Standing). x.number) is.view) (ap (λ (x : View Standing). x.limits) is.view)
-          (ap (λ (x : View Standing). x.ended) is.view) (ap (λ (x : View Standing). x.made) is.view)
-          (ap (λ (x : View Standing). x.hand) is.view ∙ gone)
-          (ap (λ (x : View Standing). x.has_gate) is.view);
-      done = λ b n is are t. done_at n (ap (λ (x : View Standing). x.part) is.view)
-          (ap (λ (x : View Standing). x.room) is.view) t (record {
+          (ap (λ (x : View WorldView). x.number) is.view) (ap (λ (x : View WorldView). x.limits) is.view)
+          (ap (λ (x : View WorldView). x.ended) is.view) (ap (λ (x : View WorldView). x.made) is.view)
+          (ap (λ (x : View WorldView). x.hand) is.view ∙ gone)
+          (ap (λ (x : View WorldView). x.has_gate) is.view);
+      done = λ b n is are t. done_at n (ap (λ (x : View WorldView). x.part) is.view)
+          (ap (λ (x : View WorldView). x.room) is.view) t (record {
             done = λ _. record {
               slot = slot;
               kind = handle.kind;
               freed = is_slot;
-              one = ap (λ (x : View Standing). x.trace_number) is.view;
+              of_kind = used;
+              one = ap (λ (x : View WorldView). x.trace_number) is.view;
               steps = subst (λ (c : ℕ). follow (kind_number handle.kind) c (push 0 slot.0) n.trace ≡ ends 0)
-                  (are ∙ sym (ap (λ (x : View Standing). x.limits.blocks) is.view)) is.steps;
+                  (are ∙ sym (ap (λ (x : View WorldView). x.limits.blocks) is.view)) is.steps;
             };
             refused = λ apart. absurd (apart says_done);
           });
-      limits = λ b n is. ap (λ (x : View Standing). x.limits) is.view;
+      limits = λ b n is. ap (λ (x : View WorldView). x.limits) is.view;
     }
 
     found : freed_in w.state (Some slot) ≡ Some (slot, handle.kind)
     found = ap (λ o. option_map (λ (k : Kind). (slot, k)) (kind_in_use o)) used'
 
   freed_at : (o : Option Slot) → e.slot ≡ o
-      → FreesAt u.numbers u.state stepped.well_formed e w.state stepped.step o → Freed (freed_in w.state o)
+      → FreesAt u.numbers u.state (well_formed stepped) e w.state stepped.step o → Freed (freed_in w.state o)
   freed_at None is at = kept at.0 at.1 at.2
   freed_at (Some slot) is at = subst Freed (sym (found slot at.0 at.1 at.2 at.3 at.4 is))
       (freed slot at.0 at.1 at.2 at.3 at.4 is)
@@ -188,5 +189,5 @@ module _ (number : ℕ) (command : Cmd) (frees : change_of command ≡ Frees) (u
   pub frees_slot : Freed (freed_in w.state e.slot)
   frees_slot =
       let is = is_free command frees in
-      freed_at e.slot refl (frees_at u.numbers u.state stepped.well_formed e w.state stepped.step is.0
+      freed_at e.slot refl (frees_at u.numbers u.state (well_formed stepped) e w.state stepped.step is.0
       (subst (StepOf u.numbers u.state e w.state) (stepped.command_is ∙ is.1) stepped.step.does))

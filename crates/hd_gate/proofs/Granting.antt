@@ -24,25 +24,25 @@ use Rattle.hd_model.specs.State.{Numbers, State, Handle, BlockUse, handles_of, e
 use Rattle.hd_model.specs.Kinds.{kind_of, kind_number, is_paired}
 use Rattle.hd_model.specs.Step.{StepOf, blocks_needed}
 use Rattle.hd_model.specs.Table.{kind_word}
-use Rattle.hd_model.proofs.Written.{get_inserted, get_beside}
+use Rattle.hd_model.proofs.ReadAfterWrite.{get_inserted, get_beside}
 use Rattle.hd_custody.specs.declared.view.View.{View}
 use Rattle.hd_custody.specs.declared.view.Limits.{Limits}
 use Rattle.hd_custody.specs.Counts.{Has, changed, is_nil}
-use Rattle.hd_custody.specs.Views.{called, numbers_of, GrowsFor as GrowsKind, MayGrant, handle_block, extra_block, gave_back, took, granted}
+use Rattle.hd_custody.specs.Views.{called, numbers_of, GrowsByBlocks as GrowsKind, MayGrant, handle_block, extra_block, gave_back, took, granted}
 use Rattle.hd_custody.specs.Calls.{offered, slot_number, Allocates}
 use Rattle.hd_custody.specs.Misses.{WholeMiss}
 use Rattle.hd_custody.specs.Rule.{Entered}
 use Rattle.hd_custody.proofs.Canon.{with_data_some}
 use Rattle.hd_custody.proofs.Hands.{has_member}
-use Rattle.hd_world.specs.World.{Standing, IsOffer, GrowsUnoffered, Takes as TakesOffer, asks_of}
+use Rattle.hd_world.specs.World.{WorldView, IsOffer, GrowsUnoffered, Takes as TakesOffer, asks_of}
 use Rattle.hd_world.specs.contracts.world.WorldHeld.TheImpl.{ghosts}
 use Rattle.hd_gate.specs.declared.change.Change.TheVariants.{Takes}
 use Rattle.hd_gate.specs.Change.{change_of}
-use Rattle.hd_gate.specs.Shared.{Party, OwnMiss, GrowsOnMiss, LookedFor, SlotCalls}
+use Rattle.hd_gate.specs.Shared.{CallerView, OwnSteps, OwnMiss, GrowsOnMiss, LookedFor, SlotCalls}
 use Rattle.hd_gate.specs.Idle.{IsIdle}
-use Rattle.hd_gate.specs.Turns.{party_of, Stepped, with_grown}
+use Rattle.hd_gate.specs.Turns.{caller_view_of, Stepped, with_grown}
 use Rattle.hd_gate.proofs.Living.{use_by_word, TakesIt, GrowsBy, takes_it, grows_by}
-use Rattle.hd_gate.proofs.Leaving.{SameSeat, same_seat, Leaves, leaves, hand_stays, hand_lives}
+use Rattle.hd_gate.proofs.Leaving.{well_formed, SameSeat, same_seat, Leaves, leaves, hand_stays, hand_lives}
 
 -- a command that takes a slot is `hnew`
 pub record IsNew (kind : Kind) (c : Cmd) : Type 0 where
@@ -67,7 +67,7 @@ is_new kind c takes = cc
 
 -- ---- a slot that the hand has was free
 
-module _ (u : Standing) (v : View Standing) (kind : Kind) (entered : Entered ghosts v u) where
+module _ (u : WorldView) (v : View WorldView) (kind : Kind) (entered : Entered ghosts v u) where
   none_there : {A : Type 0} (o : Option A) → is_some o ≡ false → o ≡ None
   none_there None e = refl
   none_there (Some x) e = cc
@@ -93,7 +93,7 @@ module _ (u : Standing) (v : View Standing) (kind : Kind) (entered : Entered gho
 
 -- ---- a handle that stands where the hand has its one slot
 
-module _ (u w : Standing) (busy : View Standing) (x k y : ℕ) (only : busy.hand ≡ (x, k) ∷ []) (at : y ≡ x)
+module _ (u w : WorldView) (busy : View WorldView) (x k y : ℕ) (only : busy.hand ≡ (x, k) ∷ []) (at : y ≡ x)
     (handle : Handle Id) (handles : w.state.handles ≡ map.insert u.state.handles y handle) where
   here : ghosts.live w x ≡ true
   here = ap (λ m. is_some (get m x)) handles
@@ -163,8 +163,8 @@ TableFull-injective : (a b : ℕ) → reply.Refused (refusal.TableFull a)
     ≡ reply.Refused (refusal.TableFull b) → a ≡ b
 TableFull-injective a b e = cc
 
-module _ (number : ℕ) (command : Cmd) (kind : Kind) (new : IsNew kind command) (u w : Standing)
-    (v v' : View Standing) (idle : IsIdle v number) (some_room : 1 ≤ v.room) (o : Option Slot)
+module _ (number : ℕ) (command : Cmd) (kind : Kind) (new : IsNew kind command) (u w : WorldView)
+    (v v' : View WorldView) (idle : IsIdle v number) (some_room : 1 ≤ v.room) (o : Option Slot)
     (steps : List (ℕ × ℕ × ℕ))
     (found : v' ≡ called (offered (kind_number kind) (slot_number o) v.hand) steps v)
     (miss : o ≡ None → WholeMiss (kind_number kind) v.limits.blocks steps)
@@ -182,35 +182,38 @@ module _ (number : ℕ) (command : Cmd) (kind : Kind) (new : IsNew kind command)
   sized = entered.sized ∙ ap numbers_of same.1
 
   hand : v'.hand ≡ offered K (slot_number o) []
-  hand = ap (λ (x : View Standing). x.hand) found ∙ ap (offered K (slot_number o)) idle.hand
+  hand = ap (λ (x : View WorldView). x.hand) found ∙ ap (offered K (slot_number o)) idle.hand
 
   does : StepOf u.numbers u.state e w.state (cmd.HNew new.d new.make new.r)
   does = subst (StepOf u.numbers u.state e w.state) (stepped.command_is ∙ new.is) stepped.step.does
 
-  slot_calls : (old now : Party) → SlotCalls (change_of command) old now e
-  slot_calls old now = subst (λ (c : Cmd). SlotCalls (change_of c) old now e) (sym new.is) tt
-
   -- what the caller knows of its search once it left
-  module _ (t : TableId) (n : View Standing) (limits : n.limits ≡ v.limits) (trace : n.trace ≡ v'.trace)
+  module _ (t : TableId) (n : View WorldView) (limits : n.limits ≡ v.limits) (trace : n.trace ≡ v'.trace)
       (count : n.trace_number ≡ v'.trace_number) (began : n.began_empty ≡ v'.began_empty) where
-    abbrev old : Party
-    old = party_of (record { table = t; view = v }) number v.room
+    abbrev old : CallerView
+    old = caller_view_of (record { table = t; view = v }) number v.room
 
-    abbrev now : Party
-    now = party_of (record { table = t; view = n }) number n.room
+    abbrev now : CallerView
+    now = caller_view_of (record { table = t; view = n }) number n.room
+
+    own_steps : OwnSteps old now
+    own_steps =
+        let calls = ap (λ (x : View WorldView). x.trace_number) found in
+        record {
+          one = omega (arith, count, calls);
+          began_empty = began ∙ ap (λ (x : View WorldView). x.began_empty) found ∙ ap is_nil idle.hand;
+        }
+
+    slot_calls : SlotCalls (change_of command) u.state old now e
+    slot_calls = subst (λ (c : Cmd). SlotCalls (change_of c) u.state old now e) (sym new.is) own_steps
 
     own_miss : o ≡ None → OwnMiss kind old now
-    own_miss none =
-        let calls = ap (λ (x : View Standing). x.trace_number) found in
-        record {
-          own = record {
-            later = omega (arith, count, calls);
-            began_empty = began ∙ ap (λ (x : View Standing). x.began_empty) found ∙ ap is_nil idle.hand;
-          };
-          miss = subst (λ (l : Limits). WholeMiss K l.blocks n.trace) (sym limits)
-              (subst (WholeMiss K v.limits.blocks)
-              (sym (trace ∙ ap (λ (x : View Standing). x.trace) found)) (miss none));
-        }
+    own_miss none = record {
+      own = own_steps;
+      miss = subst (λ (l : Limits). WholeMiss K l.blocks n.trace) (sym limits)
+          (subst (WholeMiss K v.limits.blocks)
+          (sym (trace ∙ ap (λ (x : View WorldView). x.trace) found)) (miss none));
+    }
 
     looked_for : (e.grown ≢ Zero → o ≡ None)
         → ((given : ℕ) → e.reply ≡ reply.Refused (refusal.TableFull given)
@@ -229,12 +232,13 @@ module _ (number : ℕ) (command : Cmd) (kind : Kind) (new : IsNew kind command)
 
   -- an offered slot was taken
   took_it : (slot : Slot) → o ≡ Some slot
-      → TakesIt u.numbers u.state stepped.well_formed e w.state stepped.step slot
+      → TakesIt u.numbers u.state (well_formed stepped) e w.state stepped.step slot
       → LeavesBy Zero
   took_it slot is it =
       let only : v'.hand ≡ (slot.0, K + 1) ∷ [] = hand ∙ ap (λ p. offered K (slot_number p) []) is in
-      leaves number command o u w e stepped v (took u v') idle some_room own same slot_calls
-      (λ b _ _. ap (λ m. kind_word (get m b)) it.stands.2) sized
+      leaves number command o u w e stepped v (took u v') idle some_room own sized same
+      (λ t. slot_calls t (gave_back ghosts u w (took u v')) same.1 refl refl refl)
+      (λ b _ _. ap (λ m. kind_word (get m b)) it.stands.2)
       (new_lives u w (took u v') slot.0 (K + 1) slot.0 only refl it.stands.0 it.stands.1)
       (new_hand u w (took u v') slot.0 (K + 1) slot.0 only refl it.stands.0 it.stands.1)
       (λ t. looked_for t (gave_back ghosts u w (took u v')) same.1 refl refl refl
@@ -245,11 +249,12 @@ module _ (number : ℕ) (command : Cmd) (kind : Kind) (new : IsNew kind command)
     empty : v'.hand ≡ []
     empty = hand ∙ ap (λ p. offered K (slot_number p) []) none
 
-    none_offered : (g : Grown) → GrowsBy u.numbers u.state stepped.well_formed e w.state stepped.step kind g
+    none_offered : (g : Grown) → GrowsBy u.numbers u.state (well_formed stepped) e w.state stepped.step kind g
         → LeavesBy g
     none_offered Zero by =
-        leaves number command o u w e stepped v (took u v') idle some_room own same slot_calls
-        (λ b _ _. ap (λ (s : State). kind_word (use_of s b)) by.0) sized
+        leaves number command o u w e stepped v (took u v') idle some_room own sized same
+        (λ t. slot_calls t (gave_back ghosts u w (took u v')) same.1 refl refl refl)
+        (λ b _ _. ap (λ (s : State). kind_word (use_of s b)) by.0)
         (λ x _ on. inl (sym (ap (λ (s : State). is_some (get s.handles x)) by.0) ∙ on))
         (hand_stays u w (took u v') (λ x. ap (λ (s : State). is_some (get s.handles x)) by.0) empty)
         (λ t. looked_for t (gave_back ghosts u w (took u v')) same.1 refl refl refl (λ _. none)
@@ -262,8 +267,9 @@ module _ (number : ℕ) (command : Cmd) (kind : Kind) (new : IsNew kind command)
         let busy = granted K block 0 (took u v') in
         let only : busy.hand ≡ (64 * block, K + 1) ∷ [] = ap (λ h. (64 * block, K + 1) ∷ h) empty in
         let place : block * 64 ≡ 64 * block = omega arith in
-        leaves number command o u w e stepped v busy idle some_room own same slot_calls
-        (λ b _ _. one_kind u.state.blocks w.state.blocks kind block by.2.2 b) sized
+        leaves number command o u w e stepped v busy idle some_room own sized same
+        (λ t. slot_calls t (gave_back ghosts u w busy) same.1 refl refl refl)
+        (λ b _ _. one_kind u.state.blocks w.state.blocks kind block by.2.2 b)
         (new_lives u w busy (64 * block) (K + 1) (block * 64) only place by.2.0 by.2.1)
         (new_hand u w busy (64 * block) (K + 1) (block * 64) only place by.2.0 by.2.1)
         (λ t. looked_for t (gave_back ghosts u w busy) same.1 refl refl refl (λ _. none)
@@ -274,27 +280,28 @@ module _ (number : ℕ) (command : Cmd) (kind : Kind) (new : IsNew kind command)
         let place : block * 64 ≡ 64 * block = omega arith in
         let changes : busy.changes ≡ (other, 8) ∷ (block, K + 1) ∷ [] = with_data_some other
         ((block, K + 1) ∷ []) (λ zero_is. absurd (omega (arith, zero_is, by.2.low))) in
-        leaves number command o u w e stepped v busy idle some_room own same slot_calls
+        leaves number command o u w e stepped v busy idle some_room own sized same
+        (λ t. slot_calls t (gave_back ghosts u w busy) same.1 refl refl refl)
         (λ b _ _. two_kinds u.state.blocks w.state.blocks kind block other by.3.2 b
-        ∙ sym (ap (λ cs. changed cs (ghosts.kind u) b) changes)) sized
+        ∙ sym (ap (λ cs. changed cs (ghosts.kind u) b) changes))
         (new_lives u w busy (64 * block) (K + 1) (block * 64) only place by.3.0 by.3.1)
         (new_hand u w busy (64 * block) (K + 1) (block * 64) only place by.3.0 by.3.1)
         (λ t. looked_for t (gave_back ghosts u w busy) same.1 refl refl refl (λ _. none)
         (λ given says. (let clash = sym by.4 ∙ says in cc)))
     none_offered (Back block) by = absurd by
 
-    grown : GrowsBy u.numbers u.state stepped.well_formed e w.state stepped.step kind e.grown
-    grown = subst (λ (j : Kind). GrowsBy u.numbers u.state stepped.well_formed e w.state stepped.step j
+    grown : GrowsBy u.numbers u.state (well_formed stepped) e w.state stepped.step kind e.grown
+    grown = subst (λ (j : Kind). GrowsBy u.numbers u.state (well_formed stepped) e w.state stepped.step j
         e.grown)
         new.kind_is
-        (grows_by u.numbers u.state stepped.well_formed e w.state stepped.step new.d new.make new.r
+        (grows_by u.numbers u.state (well_formed stepped) e w.state stepped.step new.d new.make new.r
         (subst (λ (c : Cmd). GrowsUnoffered u.numbers u.state c None e) new.is
         (subst (λ (p : Option Slot). GrowsUnoffered u.numbers u.state command p e) none stepped.grows)) does)
 
   leaves_at : (p : Option Slot) → o ≡ p → LeavesBy e.grown
   leaves_at None is = none_offered is e.grown (grown is)
   leaves_at (Some slot) is =
-      let it = takes_it u.numbers u.state stepped.well_formed e w.state stepped.step new.d new.make new.r slot
+      let it = takes_it u.numbers u.state (well_formed stepped) e w.state stepped.step new.d new.make new.r slot
       (subst (λ (c : Cmd). TakesOffer e c slot) new.is (stepped.takes slot is)) does in
       subst LeavesBy (sym it.grown) (took_it slot is it)
 
@@ -304,7 +311,7 @@ module _ (number : ℕ) (command : Cmd) (kind : Kind) (new : IsNew kind command)
   -- ---- what a grant asks
 
   grants : (g : Grown) → g ≢ Zero
-      → GrowsBy u.numbers u.state stepped.well_formed e w.state stepped.step kind g
+      → GrowsBy u.numbers u.state (well_formed stepped) e w.state stepped.step kind g
       → (blocks : ℕ) → blocks ≡ v.limits.blocks
       → GrowsKind (is_paired kind) g × MayGrant ghosts blocks (handle_block g) (extra_block g) (took u v')
   grants Zero apart by blocks are = absurd (apart refl)
@@ -348,7 +355,7 @@ module _ (number : ℕ) (command : Cmd) (kind : Kind) (new : IsNew kind command)
       (took u v')
   grants_at None is apart = grants e.grown apart (grown is)
   grants_at (Some slot) is apart =
-      let it = takes_it u.numbers u.state stepped.well_formed e w.state stepped.step new.d new.make new.r slot
+      let it = takes_it u.numbers u.state (well_formed stepped) e w.state stepped.step new.d new.make new.r slot
       (subst (λ (c : Cmd). TakesOffer e c slot) new.is (stepped.takes slot is)) does in
       absurd (apart it.grown)
 
@@ -359,7 +366,7 @@ module _ (number : ℕ) (command : Cmd) (kind : Kind) (new : IsNew kind command)
   may_grant = grants_at o refl
 
 -- what the words learn of a growth leaves the world that was taken
-pub grown_taken : (k : ℕ) (g : Grown) (v : View Standing) → (with_grown k g v).taken ≡ v.taken
+pub grown_taken : (k : ℕ) (g : Grown) (v : View WorldView) → (with_grown k g v).taken ≡ v.taken
 grown_taken k Zero v = refl
 grown_taken k (One block) v = refl
 grown_taken k (Two block other) v = refl
@@ -368,9 +375,9 @@ grown_taken k (Back block) v = refl
 none_is : (o : Option Slot) → o ≡ None → IsNone o
 none_is o e = subst (λ (p : Option Slot). IsNone p) (sym e) refl
 
--- the same by what `allocate` tells
-module _ (number : ℕ) (command : Cmd) (kind : Kind) (takes : change_of command ≡ Takes kind) (u w : Standing)
-    (v v' : View Standing) (idle : IsIdle v number) (some_room : 1 ≤ v.room) (o : Option Slot)
+-- the same by what `allocate` returns
+module _ (number : ℕ) (command : Cmd) (kind : Kind) (takes : change_of command ≡ Takes kind) (u w : WorldView)
+    (v v' : View WorldView) (idle : IsIdle v number) (some_room : 1 ≤ v.room) (o : Option Slot)
     (blocks : ℕ) (are : blocks ≡ v.limits.blocks)
     (found : Allocates (kind_number kind) blocks (slot_number o) v v')
     (none : IsNone o ↔ WholeMiss (kind_number kind) blocks v'.trace)
@@ -391,7 +398,7 @@ module _ (number : ℕ) (command : Cmd) (kind : Kind) (takes : change_of command
       found.view missed entered e stepped apart blocks are
 
 -- nor the numbers
-pub grown_limits : (k : ℕ) (g : Grown) (v : View Standing) → (with_grown k g v).limits ≡ v.limits
+pub grown_limits : (k : ℕ) (g : Grown) (v : View WorldView) → (with_grown k g v).limits ≡ v.limits
 grown_limits k Zero v = refl
 grown_limits k (One block) v = refl
 grown_limits k (Two block other) v = refl

@@ -7,38 +7,42 @@ use Rattle.atomic_table.specs.Seated.{TableId}
 use Rattle.hd_model.specs.declared.data.Entry.{Entry}
 use Rattle.hd_model.specs.declared.data.Slot.{Slot}
 use Rattle.hd_model.specs.declared.command.Cmd.{Cmd}
-use Rattle.hd_model.specs.Run.{part_of}
+use Rattle.hd_model.specs.Run.{Run, part_of}
+use Rattle.hd_model.specs.State.{Numbers}
+use Rattle.hd_model.specs.Step.{Step}
+use Rattle.hd_model.specs.WellFormed.{IsWellFormed}
+use Rattle.hd_model.proofs.WellFormedSteps.{run_is_well_formed}
 use Rattle.hd_custody.specs.declared.view.View.{View}
 use Rattle.hd_custody.specs.declared.view.Limits.{Limits}
 use Rattle.hd_custody.specs.Counts.{Every, Has, changed, picks, slot_count}
 use Rattle.hd_custody.specs.Views.{Continues, Follows, numbers_of, gave_back}
 use Rattle.hd_custody.proofs.Canon.{picks_none, picks_one}
 use Rattle.hd_custody.proofs.Left.{none_ended}
-use Rattle.hd_world.specs.World.{Standing, asks_of}
+use Rattle.hd_world.specs.World.{WorldView, asks_of}
 use Rattle.hd_world.specs.contracts.world.WorldHeld.TheImpl.{ghosts}
 use Rattle.hd_gate.specs.Change.{change_of}
-use Rattle.hd_gate.specs.Shared.{Party, LookedFor, SlotCalls, HasDone}
+use Rattle.hd_gate.specs.Shared.{LookedFor, SlotCalls, Found, HasDone}
 use Rattle.hd_gate.specs.Idle.{IsIdle}
-use Rattle.hd_gate.specs.Turns.{party_of, Stepped}
+use Rattle.hd_gate.specs.Turns.{caller_view_of, Stepped}
 
 -- a view is that of the same seat, which has the same part and may add as many entries
-abbrev pub SameSeat : View Standing → View Standing → Type 0
+abbrev pub SameSeat : View WorldView → View WorldView → Type 0
 SameSeat v w =
     (w.number ≡ v.number) × (w.limits ≡ v.limits) × (w.part ≡ v.part) × (w.room ≡ v.room)
     × (w.ended ≡ v.ended) × (w.made ≡ v.made)
 
-pub same_seat : (v w : View Standing) → v ≡ w → SameSeat w v
+pub same_seat : (v w : View WorldView) → v ≡ w → SameSeat w v
 same_seat v w e = (
-  ap (λ (x : View Standing). x.number) e,
-  ap (λ (x : View Standing). x.limits) e,
-  ap (λ (x : View Standing). x.part) e,
-  ap (λ (x : View Standing). x.room) e,
-  ap (λ (x : View Standing). x.ended) e,
-  ap (λ (x : View Standing). x.made) e,
+  ap (λ (x : View WorldView). x.number) e,
+  ap (λ (x : View WorldView). x.limits) e,
+  ap (λ (x : View WorldView). x.part) e,
+  ap (λ (x : View WorldView). x.room) e,
+  ap (λ (x : View WorldView). x.ended) e,
+  ap (λ (x : View WorldView). x.made) e,
 )
 
 -- such a seat is idle where it has no slot and not the gate
-pub idle_of : (v n : View Standing) (number : ℕ) → IsIdle v number → n.number ≡ v.number → n.limits ≡ v.limits
+pub idle_of : (v n : View WorldView) (number : ℕ) → IsIdle v number → n.number ≡ v.number → n.limits ≡ v.limits
     → n.ended ≡ v.ended → n.made ≡ v.made → n.hand ≡ [] → n.has_gate ≡ false → IsIdle n number
 idle_of v n number idle same limits ended made hand gate =
     let callers = ap (λ (l : Limits). l.callers) limits in
@@ -63,20 +67,36 @@ one_more e (x ∷ xs) = at (x.caller == e.caller) (one_more e xs)
     at true rest = ap (λ l. x ∷ l) rest
     at false rest = rest
 
+pub well_formed : {u w : WorldView} {number : ℕ} {command : Cmd} {offer : Option Slot} {e : Entry}
+    → Stepped u w number command offer e → IsWellFormed u.numbers u.state
+well_formed {u} s = run_is_well_formed u.numbers u.journal u.state s.run
+
+-- what the caller of a seat found, by the world that it took
+abbrev pub found_in : (u : WorldView) (v : View WorldView) (number : ℕ) (t : TableId) (room : ℕ)
+    → Run u.numbers u.journal u.state → v.number ≡ number → part_of u.journal v.number ≡ v.part
+    → u.numbers ≡ numbers_of v.limits → Found (caller_view_of (record { table = t; view = v }) number room)
+found_in u v number t room run is own sized = record {
+  journal = u.journal;
+  state = u.state;
+  run = subst (λ (n : Numbers). Run n u.journal u.state) sized run;
+  part = ap (part_of u.journal) (sym is) ∙ own;
+}
+
 -- the gate may be left with the world w, and the caller is then idle and its command done
-pub record Leaves (number : ℕ) (command : Cmd) (u w : Standing) (e : Entry)
-    (v busy : View Standing) : Type 0 where
+pub record Leaves (number : ℕ) (command : Cmd) (u w : WorldView) (e : Entry)
+    (v busy : View WorldView) : Type 0 where
   pub follows : Follows ghosts u w busy
   pub idle : IsIdle (gave_back ghosts u w busy) number
-  pub done : (t : TableId) → HasDone (party_of (record { table = t; view = v }) number v.room)
-      (party_of (record { table = t; view = gave_back ghosts u w busy }) number
+  pub done : (t : TableId) → HasDone (caller_view_of (record { table = t; view = v }) number v.room)
+      (caller_view_of (record { table = t; view = gave_back ghosts u w busy }) number
       (gave_back ghosts u w busy).room) command e.reply
 
-module _ (number : ℕ) (command : Cmd) (offer : Option Slot) (u w : Standing) (e : Entry)
+module _ (number : ℕ) (command : Cmd) (offer : Option Slot) (u w : WorldView) (e : Entry)
     (stepped : Stepped u w number command offer e)
-    (v busy : View Standing) (idle : IsIdle v number) (some : 1 ≤ v.room)
-    (entered : part_of u.journal v.number ≡ v.part) (same : SameSeat v busy) where
-  abbrev after : View Standing
+    (v busy : View WorldView) (idle : IsIdle v number) (some : 1 ≤ v.room)
+    (entered : part_of u.journal v.number ≡ v.part) (sized : u.numbers ≡ numbers_of v.limits)
+    (same : SameSeat v busy) where
+  abbrev after : View WorldView
   after = gave_back ghosts u w busy
 
   pub goes_on : Continues busy.number busy.room u.journal u.spare w.journal w.spare
@@ -106,16 +126,19 @@ module _ (number : ℕ) (command : Cmd) (offer : Option Slot) (u w : Standing) (
   pub idle_after : after.hand ≡ [] → IsIdle after number
   idle_after empty = idle_of v after number idle same.0 same.1 same.4 same.5 empty refl
 
-  -- and the command was done, where what it looked for is told
-  pub done_after : (t : TableId) (n : View Standing) → n.part ≡ after.part → n.room ≡ after.room
-      → LookedFor (asks_of command) (party_of (record { table = t; view = v }) number v.room)
-      (party_of (record { table = t; view = n }) number n.room) e
-      → SlotCalls (change_of command) (party_of (record { table = t; view = v }) number v.room)
-      (party_of (record { table = t; view = n }) number n.room) e
-      → HasDone (party_of (record { table = t; view = v }) number v.room)
-      (party_of (record { table = t; view = n }) number n.room) command e.reply
+  -- and the command was done, where what it looked for is stated
+  pub done_after : (t : TableId) (n : View WorldView) → n.part ≡ after.part → n.room ≡ after.room
+      → LookedFor (asks_of command) (caller_view_of (record { table = t; view = v }) number v.room)
+      (caller_view_of (record { table = t; view = n }) number n.room) e
+      → SlotCalls (change_of command) u.state (caller_view_of (record { table = t; view = v }) number v.room)
+      (caller_view_of (record { table = t; view = n }) number n.room) e
+      → HasDone (caller_view_of (record { table = t; view = v }) number v.room)
+      (caller_view_of (record { table = t; view = n }) number n.room) command e.reply
   done_after t n part room looked_for slot_calls = record {
     entry = e;
+    found = found_in u v number t v.room stepped.run idle.number entered sized;
+    after = w.state;
+    step = subst (λ (n : Numbers). Step n u.state e w.state) sized stepped.step;
     caller_is = stepped.caller_is;
     command_is = stepped.command_is;
     answer_is = refl;
@@ -126,15 +149,16 @@ module _ (number : ℕ) (command : Cmd) (offer : Option Slot) (u w : Standing) (
   }
 
   -- so the gate may be left, and the call is then done
-  pub leaves : ((old new : Party) → SlotCalls (change_of command) old new e)
+  pub leaves : ((t : TableId)
+      → SlotCalls (change_of command) u.state (caller_view_of (record { table = t; view = v }) number v.room)
+      (caller_view_of (record { table = t; view = after }) number after.room) e)
       → ((b : ℕ) → 0 < b → b < 257 → ghosts.kind w b ≡ changed busy.changes (ghosts.kind u) b)
-      → u.numbers ≡ numbers_of v.limits
       → ((x : ℕ) → 64 ≤ x → ghosts.live w x ≡ true → (ghosts.live u x ≡ true) ⊎ Has x busy.hand)
       → after.hand ≡ []
-      → ((t : TableId) → LookedFor (asks_of command) (party_of (record { table = t; view = v }) number v.room)
-      (party_of (record { table = t; view = after }) number after.room) e)
+      → ((t : TableId) → LookedFor (asks_of command) (caller_view_of (record { table = t; view = v }) number v.room)
+      (caller_view_of (record { table = t; view = after }) number after.room) e)
       → Leaves number command u w e v busy
-  leaves slot_calls kinds sized lives hand looked_for = record {
+  leaves slot_calls kinds lives hand looked_for = record {
     follows = record {
       kinds = kinds;
       sized = stepped.numbers ∙ sized ∙ sym (ap numbers_of same.1);
@@ -142,7 +166,7 @@ module _ (number : ℕ) (command : Cmd) (offer : Option Slot) (u w : Standing) (
       goes_on = goes_on;
     };
     idle = idle_after hand;
-    done = λ t. done_after t after refl refl (looked_for t) (slot_calls _ _);
+    done = λ t. done_after t after refl refl (looked_for t) (slot_calls t);
   }
 
 -- ---- hands
@@ -158,7 +182,7 @@ live_off : (a b : Bool) → b ≡ true → (a && not b) ≡ false
 live_off true b e = ap not e
 live_off false b e = refl
 
-module _ (u w : Standing) (v : View Standing) where
+module _ (u w : WorldView) (v : View WorldView) where
   -- what ended, of the n slots from slot 64 on
   ended : ℕ → List (ℕ × ℕ)
   ended n = picks n (λ r. ghosts.live u (64 + r) && not (ghosts.live w (64 + r))) 64

@@ -27,8 +27,8 @@ use Rattle.hd_model.specs.Table.{kind_word}
 use Rattle.hd_model.specs.Touched.{touched_by}
 use Rattle.hd_model.specs.WellFormed.{IsWellFormed}
 use Rattle.hd_model.proofs.Effects.{effect}
-use Rattle.hd_model.proofs.Frames.{untouched_stays}
-use Rattle.hd_model.proofs.Kept.{HandleChange, handle_stays, is_made, target_is_set, secondary_is_set, strength_is_set, count_is_raised, count_is_lowered, is_freed, is_collected, handle_change}
+use Rattle.hd_model.proofs.StepFrames.{untouched_stays}
+use Rattle.hd_model.proofs.StepWrites.{HandleChange, handle_stays, is_made, target_is_set, secondary_is_set, strength_is_set, count_is_raised, count_is_lowered, is_freed, is_collected, handle_change}
 use Rattle.hd_model.proofs.Outcomes.{on_handle_cases}
 use Rattle.hd_world.specs.World.{GrowsUnoffered, Takes as TakesOffer}
 use Rattle.hd_gate.specs.declared.change.Change.TheVariants.{Keeps}

@@ -4,22 +4,23 @@ use Rattle.hd_model.specs.declared.data.Entry.{Entry}
 use Rattle.hd_model.specs.declared.data.Kind.{Kind}
 use Rattle.hd_model.specs.declared.data.Reply.{Reply}
 use Rattle.hd_model.specs.declared.command.Cmd.{Cmd}
+use Rattle.hd_model.specs.State.{State}
 use Rattle.hd_world.specs.World.{Asks, object_room, handle_slot, block_back, no_room, asks_of}
 use Rattle.hd_gate.specs.declared.change.Change.{Change}
 use Rattle.hd_gate.specs.declared.change.Change.TheVariants.{Takes, Frees, GivesBack, Keeps}
 use Rattle.hd_gate.specs.Change.{change_of}
-use Rattle.hd_gate.specs.Shared.{Party, OwnSteps, OwnMiss, OwnSweep, LookedFor, NoSlotCall, OwnRelease, SlotCalls, HasDone}
+use Rattle.hd_gate.specs.Shared.{CallerView, OwnSteps, OwnMiss, OwnSweep, LookedFor, NoSlotCall, OwnRelease, SlotCalls, Found, HadRoom, HasDone}
 
 -- it does not depend on the rooms
-module _ (old new : Party) (before after : ℕ) where
-  abbrev old' : Party
+module _ (old new : CallerView) (before after : ℕ) where
+  abbrev old' : CallerView
   old' = record old { room = before }
 
-  abbrev new' : Party
+  abbrev new' : CallerView
   new' = record new { room = after }
 
   own_steps : OwnSteps old new → OwnSteps old' new'
-  own_steps o = record { later = o.later; began_empty = o.began_empty }
+  own_steps o = record { one = o.one; began_empty = o.began_empty }
 
   own_miss : (kind : Kind) → OwnMiss kind old new → OwnMiss kind old' new'
   own_miss kind o = record { own = own_steps o.own; miss = o.miss }
@@ -40,29 +41,46 @@ module _ (old new : Party) (before after : ℕ) where
   no_slot_call : NoSlotCall old new → NoSlotCall old' new'
   no_slot_call o = record { trace = o.trace; trace_number = o.trace_number; began_empty = o.began_empty }
 
-  own_release : (e : Entry) → OwnRelease old new e → OwnRelease old' new' e
-  own_release e o = record { slot = o.slot; kind = o.kind; freed = o.freed; one = o.one; steps = o.steps }
+  own_release : (s : State) (e : Entry) → OwnRelease s old new e → OwnRelease s old' new' e
+  own_release s e o = record {
+    slot = o.slot;
+    kind = o.kind;
+    freed = o.freed;
+    of_kind = o.of_kind;
+    one = o.one;
+    steps = o.steps;
+  }
 
-  slot_calls : (change : Change) (e : Entry) → SlotCalls change old new e → SlotCalls change old' new' e
-  slot_calls (Takes kind) e t = tt
-  slot_calls Frees e t = record {
-    done = λ says. own_release e (t.done says);
+  slot_calls : (change : Change) (s : State) (e : Entry) → SlotCalls change s old new e
+      → SlotCalls change s old' new' e
+  slot_calls (Takes kind) s e t = own_steps t
+  slot_calls Frees s e t = record {
+    done = λ says. own_release s e (t.done says);
     refused = λ apart. no_slot_call (t.refused apart);
   }
-  slot_calls (GivesBack kind) e t = tt
-  slot_calls Keeps e t = no_slot_call t
+  slot_calls (GivesBack kind) s e t = own_steps t
+  slot_calls Keeps s e t = no_slot_call t
 
-  -- a call that was done, told with the rooms of its caller
+  abbrev found_with : Found old → Found old'
+  found_with f = record { journal = f.journal; state = f.state; run = f.run; part = f.part }
+
+  pub room_with : (command : Cmd) → HadRoom old command → HadRoom old' command
+  room_with command h = record { found = found_with h.found; fits = h.fits }
+
+  -- a call that was done, read with the rooms of its caller
   pub done_with : (command : Cmd) (answer : Reply) → after + 1 ≡ before → HasDone old new command answer
       → HasDone
       old' new' command answer
   done_with command answer less d = record {
     entry = d.entry;
+    found = found_with d.found;
+    after = d.after;
+    step = d.step;
     caller_is = d.caller_is;
     command_is = d.command_is;
     answer_is = d.answer_is;
     part = d.part;
     room = less;
     looked_for = looked_for (asks_of command) d.entry d.looked_for;
-    slot_calls = slot_calls (change_of command) d.entry d.slot_calls;
+    slot_calls = slot_calls (change_of command) d.found.state d.entry d.slot_calls;
   }

@@ -21,8 +21,8 @@ use Rattle.hd_model.specs.State.{State, BlockUse, use_of, first_slot, without_us
 use Rattle.hd_model.specs.Kinds.{kind_number}
 use Rattle.hd_model.specs.Step.{StepOf}
 use Rattle.hd_model.specs.Table.{kind_word}
-use Rattle.hd_model.proofs.WellFormed.{first_block}
-use Rattle.hd_model.proofs.Written.{get_removed, get_left}
+use Rattle.hd_model.proofs.WellFormedSteps.{first_block}
+use Rattle.hd_model.proofs.ReadAfterWrite.{get_removed, get_left}
 use Rattle.hd_custody.specs.declared.view.View.{View}
 use Rattle.hd_custody.specs.declared.view.Limits.{Limits}
 use Rattle.hd_custody.specs.Counts.{Has, Every, rows, is_nil, without_block}
@@ -32,14 +32,14 @@ use Rattle.hd_custody.specs.Traces.{every_row, follow, sweep, missed, ending}
 use Rattle.hd_custody.specs.Rule.{Entered}
 use Rattle.hd_custody.proofs.Canon.{row_has, filter_append, filter_picks, picks_none}
 use Rattle.hd_custody.proofs.Hands.{member_at, every_append, every_picks}
-use Rattle.hd_world.specs.World.{Standing, IsOffer, GrowsUnoffered, Takes as TakesOffer, asks_of}
+use Rattle.hd_world.specs.World.{WorldView, IsOffer, GrowsUnoffered, Takes as TakesOffer, asks_of}
 use Rattle.hd_world.specs.contracts.world.WorldHeld.TheImpl.{ghosts}
 use Rattle.hd_gate.specs.declared.change.Change.TheVariants.{GivesBack as Gives}
 use Rattle.hd_gate.specs.Change.{change_of}
-use Rattle.hd_gate.specs.Shared.{Party, LookedFor, SlotCalls}
+use Rattle.hd_gate.specs.Shared.{OwnSteps, LookedFor, SlotCalls}
 use Rattle.hd_gate.specs.declared.change.Change.{Change}
 use Rattle.hd_gate.specs.Idle.{IsIdle}
-use Rattle.hd_gate.specs.Turns.{party_of, Stepped, without_gathered}
+use Rattle.hd_gate.specs.Turns.{caller_view_of, Stepped, without_gathered}
 use Rattle.hd_gate.proofs.Granting.{free_in_hand}
 use Rattle.hd_gate.proofs.Living.{zero_is_not_one}
 use Rattle.hd_gate.proofs.Leaving.{SameSeat, same_seat, Leaves, leaves, every_nil, hand_stays}
@@ -88,7 +88,7 @@ module _ (k block : ℕ) where
       none false = refl
 
 -- what was gathered may be offered
-module _ (u : Standing) (v : View Standing) (kind : Kind) (entered : Entered ghosts v u) where
+module _ (u : WorldView) (v : View WorldView) (kind : Kind) (entered : Entered ghosts v u) where
   pub may_offer : (c : Cmd) → change_of c ≡ Gives kind → (o : Option ℕ) → v.hand
       ≡ gathered (kind_number kind) o []
       → IsOffer u.state c (option_map first_slot o)
@@ -114,8 +114,8 @@ closed_kind s t block is c = ap (λ m. kind_word (get m c)) is ∙ elim (cases_e
 Back-injective : (a b : ℕ) → Back a ≡ Back b → a ≡ b
 Back-injective a b e = cc
 
-module _ (number : ℕ) (command : Cmd) (kind : Kind) (gives : change_of command ≡ Gives kind) (u w : Standing)
-    (v v' : View Standing) (idle : IsIdle v number) (some_room : 1 ≤ v.room) (o : Option ℕ)
+module _ (number : ℕ) (command : Cmd) (kind : Kind) (gives : change_of command ≡ Gives kind) (u w : WorldView)
+    (v v' : View WorldView) (idle : IsIdle v number) (some_room : 1 ≤ v.room) (o : Option ℕ)
     (blocks : ℕ) (are : blocks ≡ v.limits.blocks)
     (found : Gathers (kind_number kind) blocks o v v')
     (entered : Entered ghosts v' u) (e : Entry)
@@ -133,29 +133,40 @@ module _ (number : ℕ) (command : Cmd) (kind : Kind) (gives : change_of command
   sized = entered.sized ∙ ap numbers_of same.1
 
   hand : v'.hand ≡ gathered K o []
-  hand = ap (λ (x : View Standing). x.hand) found.view ∙ ap (gathered K o) idle.hand
+  hand = ap (λ (x : View WorldView). x.hand) found.view ∙ ap (gathered K o) idle.hand
 
   does : StepOf u.numbers u.state e w.state (cmd.Trim kind)
   does = subst (StepOf u.numbers u.state e w.state) (stepped.command_is ∙ is_trim kind command gives)
       stepped.step.does
 
-  slot_calls : (old now : Party) → SlotCalls (change_of command) old now e
-  slot_calls old now = subst (λ (c : Change). SlotCalls c old now e) (sym gives) tt
+  own_steps : (t : TableId) (n : View WorldView) → n.trace_number ≡ v'.trace_number
+      → n.began_empty ≡ v'.began_empty → OwnSteps (caller_view_of (record { table = t; view = v }) number v.room)
+      (caller_view_of (record { table = t; view = n }) number n.room)
+  own_steps t n count began =
+      let calls = ap (λ (x : View WorldView). x.trace_number) found.view in
+      record {
+        one = omega (arith, count, calls);
+        began_empty = began ∙ ap (λ (x : View WorldView). x.began_empty) found.view ∙ ap is_nil idle.hand;
+      }
 
-  looked_for : (t : TableId) (n : View Standing) → n.limits ≡ v.limits → n.trace ≡ v'.trace
+  slot_calls : (t : TableId) (n : View WorldView) → n.trace_number ≡ v'.trace_number
+      → n.began_empty ≡ v'.began_empty
+      → SlotCalls (change_of command) u.state (caller_view_of (record { table = t; view = v }) number v.room)
+      (caller_view_of (record { table = t; view = n }) number n.room) e
+  slot_calls t n count began = subst
+      (λ (c : Change). SlotCalls c u.state (caller_view_of (record { table = t; view = v }) number v.room)
+      (caller_view_of (record { table = t; view = n }) number n.room) e) (sym gives) (own_steps t n count began)
+
+  looked_for : (t : TableId) (n : View WorldView) → n.limits ≡ v.limits → n.trace ≡ v'.trace
       → n.trace_number ≡ v'.trace_number → n.began_empty ≡ v'.began_empty → (e.reply ≡ reply.Value 0 → o
       ≡ None)
-      → LookedFor (asks_of command) (party_of (record { table = t; view = v }) number v.room)
-      (party_of (record { table = t; view = n }) number n.room) e
+      → LookedFor (asks_of command) (caller_view_of (record { table = t; view = v }) number v.room)
+      (caller_view_of (record { table = t; view = n }) number n.room) e
   looked_for t n limits trace count began only =
-      let calls = ap (λ (x : View Standing). x.trace_number) found.view in
-      subst (λ (c : Cmd). LookedFor (asks_of c) (party_of (record { table = t; view = v }) number v.room)
-      (party_of (record { table = t; view = n }) number n.room) e) (sym (is_trim kind command gives))
+      subst (λ (c : Cmd). LookedFor (asks_of c) (caller_view_of (record { table = t; view = v }) number v.room)
+      (caller_view_of (record { table = t; view = n }) number n.room) e) (sym (is_trim kind command gives))
       (λ says. record {
-        own = record {
-          later = omega (arith, count, calls);
-          began_empty = began ∙ ap (λ (x : View Standing). x.began_empty) found.view ∙ ap is_nil idle.hand;
-        };
+        own = own_steps t n count began;
         ended = subst (λ (l : Limits). follow K l.blocks (sweep 0) n.trace ≡ missed) (sym limits)
             (subst (λ b. follow K b (sweep 0) n.trace ≡ missed) are
             (ap (follow K blocks (sweep 0)) trace ∙ found.steps ∙ ap ending (only says)));
@@ -172,8 +183,8 @@ module _ (number : ℕ) (command : Cmd) (kind : Kind) (gives : change_of command
       elim does [
         | inl m ↦ absurd (zero_is_not_one (sym grows ∙ m.reply))
         | inr out ↦ leaves number command (option_map first_slot o) u w e stepped v
-            (took u v') idle some_room own
-            same slot_calls (λ b _ _. ap (λ (s : State). kind_word (use_of s b)) out.after) sized
+            (took u v') idle some_room own sized
+            same (λ t. slot_calls t (gave_back ghosts u w (took u v')) refl refl) (λ b _ _. ap (λ (s : State). kind_word (use_of s b)) out.after)
             (λ x _ on. inl (sym (ap (λ (s : State). is_some (get s.handles x)) out.after) ∙ on))
             (hand_stays u w (took u v') (λ x. ap (λ (s : State). is_some (get s.handles x)) out.after)
             (hand ∙ ap (λ p. gathered K p []) none))
@@ -192,10 +203,10 @@ module _ (number : ℕ) (command : Cmd) (kind : Kind) (gives : change_of command
             let which : m.block ≡ block = Back-injective m.block block
             (sym m.grown ∙ takes.1 ∙ ap Back (first_block block)) in
             let after : w.state ≡ without_use u.state block = m.after ∙ ap (without_use u.state) which in
-            leaves number command (option_map first_slot o) u w e stepped v busy idle some_room own same
-            slot_calls
+            leaves number command (option_map first_slot o) u w e stepped v busy idle some_room own sized same
+            (λ t. slot_calls t (gave_back ghosts u w busy) refl refl)
             (λ b _ _. closed_kind u.state.blocks w.state.blocks block
-            (ap (λ (s : State). s.blocks) after) b) sized
+            (ap (λ (s : State). s.blocks) after) b)
             (λ x _ on. inl (sym (ap (λ (s : State). is_some (get s.handles x)) after) ∙ on))
             (hand_stays u w busy (λ x. ap (λ (s : State). is_some (get s.handles x)) after)
             (ap (without_block block) (hand ∙ ap (λ p. gathered K p []) is) ∙ all_go K block))
@@ -212,20 +223,16 @@ module _ (number : ℕ) (command : Cmd) (kind : Kind) (gives : change_of command
   trim_leaves = leaves_at o refl
 
 -- what `gather` answered may be withdrawn
-pub may_withdraw : (k blocks : ℕ) (o : Option ℕ) (held : List (ℕ × ℕ)) → held ≡ gathered k o []
-    → IfSome o (λ b. (0 < b) × (b ≤ blocks) × (b < 257))
-    → IfSome o (λ b. (0 < b) × (b ≤ blocks) × ((r : ℕ) → r < 64 → Has (64 * b + r) held))
-may_withdraw k blocks None held is real = tt
-may_withdraw k blocks (Some block) held is real = (
-  real.0,
-  real.1,
-  (λ r lt. subst (λ h. Has (64 * block + r) h) (sym is) (all_has k block r lt)),
-)
+pub may_withdraw : (k : ℕ) (o : Option ℕ) (held : List (ℕ × ℕ)) → held ≡ gathered k o []
+    → IfSome o (λ b. (r : ℕ) → r < 64 → Has (64 * b + r) held)
+may_withdraw k None held is = tt
+may_withdraw k (Some block) held is =
+    λ r lt. subst (λ h. Has (64 * block + r) h) (sym is) (all_has k block r lt)
 
-pub withdrawn_taken : (o : Option ℕ) (v : View Standing) → (without_gathered o v).taken ≡ v.taken
+pub withdrawn_taken : (o : Option ℕ) (v : View WorldView) → (without_gathered o v).taken ≡ v.taken
 withdrawn_taken None v = refl
 withdrawn_taken (Some block) v = refl
 
-pub withdrawn_limits : (o : Option ℕ) (v : View Standing) → (without_gathered o v).limits ≡ v.limits
+pub withdrawn_limits : (o : Option ℕ) (v : View WorldView) → (without_gathered o v).limits ≡ v.limits
 withdrawn_limits None v = refl
 withdrawn_limits (Some block) v = refl

@@ -1,4 +1,4 @@
--- A pool that is tied to a state tells which slots and blocks are free there.
+-- A pool that is tied to a state states which slots and blocks are free there.
 use Rattle.std.proofs.Common.{◌≡◌, ℕ, true, false, ◌&&◌, Option, Some, None, refl, sym, ap, ◌∙◌, subst, arith}
 use Rattle.std.specs.Prelude.{is_some, is_none}
 use Rattle.std.specs.FinMap as map
@@ -12,7 +12,7 @@ use Rattle.hd_model.specs.declared.data.Kind.{Kind}
 use Rattle.hd_model.specs.declared.data.Slot.{Slot}
 use Rattle.hd_model.specs.State.{Numbers, State, Handle, BlockUse, handles_of, extra_data, use_of, handle_at, block_of, first_slot, start_of, IsFree, IsAllFree}
 use Rattle.hd_model.specs.Run.{IsLeastFree, NoneFree, IsLeastAllFree, NoneAllFree}
-use Rattle.hd_model.proofs.WellFormed.{start_is_well_formed}
+use Rattle.hd_model.proofs.WellFormedSteps.{start_is_well_formed}
 use Rattle.hd_pool.specs.Pool.{FreeSlots, IsFreeFor, IsLeastFreeFor, HasNoneFor, IsWholeOf, IsLeastWholeOf, HasNoWholeOf}
 use Rattle.hd_world.specs.Growth.{kind_in_use}
 use Rattle.hd_gate.specs.Tied.{kind_of_block, IsTied}

@@ -12,10 +12,10 @@ use Rattle.hd_model.specs.State.{given_of}
 use Rattle.hd_model.specs.Kinds.{kind_of}
 use Rattle.hd_model.specs.Step.{blocks_needed}
 use Rattle.hd_model.specs.Run.{SoloStep, NoneFree, NoneAllFree}
-use Rattle.hd_world.specs.World.{Standing}
+use Rattle.hd_world.specs.World.{WorldView}
 
 -- a call that was done: its entry is the one more in the journal, and a step of one thread
-pub record HasCalled (old new : Standing) (caller : ℕ) (command : Cmd) (answer : Reply) : Type 0 where
+pub record HasCalled (old new : WorldView) (caller : ℕ) (command : Cmd) (answer : Reply) : Type 0 where
   pub entry : Entry
   pub caller_is : entry.caller ≡ caller
   pub command_is : entry.cmd ≡ command
@@ -27,13 +27,13 @@ pub record HasCalled (old new : Standing) (caller : ℕ) (command : Cmd) (answer
 
 -- `hnew` finds the table full exactly where no slot of its kind is free and fewer blocks are without a use
 -- than the kind needs
-abbrev pub FindsFullExactly : Standing → Cmd → Reply → Type 0
+abbrev pub FindsFullExactly : WorldView → Cmd → Reply → Type 0
 FindsFullExactly w command answer =
     (d : ℕ) (make : Make) (t : ℕ) → command ≡ cmd.HNew d make t
     → (answer ≡ reply.Refused (refusal.TableFull (given_of w.state)))
     ↔ (NoneFree w.state (kind_of make) × (w.numbers.blocks < given_of w.state + blocks_needed (kind_of make)))
 
 -- `trim` answers 0 exactly where no block of its kind has all its slots free, and else 1
-pub record TrimsExactly (w : Standing) (command : Cmd) (answer : Reply) : Type 0 where
+pub record TrimsExactly (w : WorldView) (command : Cmd) (answer : Reply) : Type 0 where
   pub none : (kind : Kind) → command ≡ cmd.Trim kind → (answer ≡ reply.Value 0) ↔ NoneAllFree w.state kind
   pub some : (kind : Kind) → command ≡ cmd.Trim kind → ¬ (NoneAllFree w.state kind) → answer ≡ reply.Value 1

@@ -5,19 +5,19 @@ use lib.ListN.{get_elem?}
 use Rattle.hd_custody.specs.Views.{Named}
 use Rattle.hd_custody.specs.declared.view.View.{View}
 use Rattle.hd_model.specs.declared.data.Entry.{Entry}
-use Rattle.hd_gate.specs.Shared.{Party, IsCallerOf}
+use Rattle.hd_gate.specs.Shared.{CallerView, IsCallerOf}
 
 -- a caller of the shared world s that has done nothing
-pub record IsNew (s : Named) (place given : ℕ) (p : Party) : Type 0 where
+pub record IsNew (s : Named) (place given : ℕ) (p : CallerView) : Type 0 where
   pub is_of : IsCallerOf s p
   pub number : p.number ≡ place
   pub part : p.part ≡ []
   pub room : p.room ≡ given
 
 -- the callers from number 1 on, each with its room
-abbrev pub AreNew : Named → List ℕ → List Party → Type 0
+abbrev pub AreNew : Named → List ℕ → List CallerView → Type 0
 AreNew s rooms list =
-    (k : ℕ) (d : Party) → k < length list → IsNew s (k + 1) (slice_index rooms (k + 1))
+    (k : ℕ) (d : CallerView) → k < length list → IsNew s (k + 1) (slice_index rooms (k + 1))
     (slice_index_or list k d)
 
 -- the seat of caller 0 once so many seats were made: it has no more given, and has room for these entries
@@ -27,6 +27,6 @@ pub record IsFirst {W : Type 0} (begun v : View W) (seats spared : ℕ) : Type 0
 
 -- what has ended in the seat of caller 0: each part is that of the caller with its number, of the callers
 -- from number 1 on
-pub record HasEnded (others : List Party) (ended : List (ℕ × List Entry)) : Type 0 where
+pub record HasEnded (others : List CallerView) (ended : List (ℕ × List Entry)) : Type 0 where
   pub each : (k : ℕ) (e : ℕ × List Entry) → get_elem? ended k ≡ some e
-      → (c : ℕ) × (c < length others) × (e.0 ≡ c + 1) × ((d : Party) → e.1 ≡ (slice_index_or others c d).part)
+      → (c : ℕ) × (c < length others) × (e.0 ≡ c + 1) × ((d : CallerView) → e.1 ≡ (slice_index_or others c d).part)

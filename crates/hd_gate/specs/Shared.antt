@@ -9,23 +9,23 @@ use Rattle.hd_model.specs.declared.data.Reply.{Reply}
 use Rattle.hd_model.specs.declared.data.Reply.TheVariants as reply
 use Rattle.hd_model.specs.declared.data.Slot.{Slot}
 use Rattle.hd_model.specs.declared.command.Cmd.{Cmd}
-use Rattle.hd_model.specs.State.{Numbers}
+use Rattle.hd_model.specs.State.{Numbers, State, handles_of, use_of, block_of}
 use Rattle.hd_model.specs.Kinds.{kind_number}
-use Rattle.hd_model.specs.Step.{blocks_needed}
-use Rattle.hd_model.specs.Run.{part_of}
+use Rattle.hd_model.specs.Step.{Step, blocks_needed}
+use Rattle.hd_model.specs.Run.{Run, part_of}
 use Rattle.hd_custody.specs.Traces.{Did, follow, sweep, missed, push, found}
 use Rattle.hd_custody.specs.Calls.{ShowsNone}
 use Rattle.hd_custody.specs.Misses.{WholeMiss}
 use Rattle.hd_custody.specs.Views.{Named}
-use Rattle.hd_world.specs.World.{Asks, object_room, handle_slot, block_back, no_room, asks_of}
+use Rattle.hd_world.specs.World.{Asks, object_room, handle_slot, block_back, no_room, asks_of, FitsHeap}
 use Rattle.hd_gate.specs.declared.change.Change.{Change}
 use Rattle.hd_gate.specs.declared.change.Change.TheVariants.{Takes, Frees, GivesBack, Keeps}
 use Rattle.hd_gate.specs.Change.{change_of}
 
 -- a caller: its table with the numbers of the run, its own number, its entries so far, and how many more it
--- may add; then, of its last call that looked for slots or let one go, the steps on the shared words, how
+-- may add; then, of its last call that looked for slots or released one, the steps on the shared words, how
 -- many such calls there were, and whether it held no slot as that one began
-pub record Party : Type 0 where
+pub record CallerView : Type 0 where
   pub table : TableId
   pub numbers : Numbers
   pub number : ℕ
@@ -36,54 +36,55 @@ pub record Party : Type 0 where
   pub began_empty : Bool
 
 -- a caller of the shared world s
-pub record IsCallerOf (s : Named) (p : Party) : Type 0 where
+pub record IsCallerOf (s : Named) (p : CallerView) : Type 0 where
   pub table : p.table ≡ s.table
   pub numbers : p.numbers ≡ s.numbers
 
 -- all callers of the shared world s, each at the place of its number
-pub record AreAll (s : Named) (callers : List Party) : Type 0 where
+pub record AreAll (s : Named) (callers : List CallerView) : Type 0 where
   pub count : length callers ≡ s.numbers.callers
-  pub each : (c : ℕ) (d : Party) → c < length callers → IsCallerOf s (slice_index_or callers c d)
-  pub in_order : (c : ℕ) (d : Party) → c < length callers → (slice_index_or callers c d).number ≡ c
+  pub each : (c : ℕ) (d : CallerView) → c < length callers → IsCallerOf s (slice_index_or callers c d)
+  pub in_order : (c : ℕ) (d : CallerView) → c < length callers → (slice_index_or callers c d).number ≡ c
 
 -- they have done nothing, and each has its room
-pub record Begin (given : List ℕ) (callers : List Party) : Type 0 where
-  pub parts : (c : ℕ) (d : Party) → c < length callers → (slice_index_or callers c d).part ≡ []
-  pub rooms : (c : ℕ) (d : Party) → c < length callers → (slice_index_or callers c d).room
+pub record Begin (given : List ℕ) (callers : List CallerView) : Type 0 where
+  pub parts : (c : ℕ) (d : CallerView) → c < length callers → (slice_index_or callers c d).part ≡ []
+  pub rooms : (c : ℕ) (d : CallerView) → c < length callers → (slice_index_or callers c d).room
       ≡ slice_index given c
 
 -- a journal has of each caller exactly its part, and of nobody else an entry
-pub record HasParts (callers : List Party) (journal : List Entry) : Type 0 where
-  pub each : (c : ℕ) (d : Party) → c < length callers → part_of journal c ≡ (slice_index_or callers c d).part
+pub record HasParts (callers : List CallerView) (journal : List Entry) : Type 0 where
+  pub each : (c : ℕ) (d : CallerView) → c < length callers → part_of journal c ≡ (slice_index_or callers c d).part
   pub others : (c : ℕ) → length callers ≤ c → part_of journal c ≡ []
 
 -- the same caller, at another time
-pub record IsSameCaller (old new : Party) : Type 0 where
+pub record IsSameCaller (old new : CallerView) : Type 0 where
   pub table : new.table ≡ old.table
   pub numbers : new.numbers ≡ old.numbers
   pub number : new.number ≡ old.number
 
--- the steps that are told were made between old and new, by a call that began without a slot
-pub record OwnSteps (old new : Party) : Type 0 where
-  pub later : old.trace_number < new.trace_number
+-- between old and new there was one call that looks for slots or lets one go, which began without a slot, and
+-- the trace has its steps
+pub record OwnSteps (old new : CallerView) : Type 0 where
+  pub one : new.trace_number ≡ old.trace_number + 1
   pub began_empty : new.began_empty ≡ true
 
 -- between old and new a search for a slot of the kind went over all words of the kind and all blocks, and
 -- each gave none
-pub record OwnMiss (kind : Kind) (old new : Party) : Type 0 where
+pub record OwnMiss (kind : Kind) (old new : CallerView) : Type 0 where
   pub own : OwnSteps old new
   pub miss : WholeMiss (kind_number kind) new.numbers.blocks new.trace
 
 -- between old and new a search for a whole block of the kind ended with none: no mask of all rows came with
 -- the kind loaded after it
-pub record OwnSweep (kind : Kind) (old new : Party) : Type 0 where
+pub record OwnSweep (kind : Kind) (old new : CallerView) : Type 0 where
   pub own : OwnSteps old new
   pub ended : follow (kind_number kind) new.numbers.blocks (sweep 0) new.trace ≡ missed
   pub none : ShowsNone (kind_number kind) new.trace
 
 -- `hnew` grows the table, or finds it full, only on a miss of its own; and it finds it full only where fewer
 -- blocks are without a use than the kind needs
-pub record GrowsOnMiss (kind : Kind) (old new : Party) (e : Entry) : Type 0 where
+pub record GrowsOnMiss (kind : Kind) (old new : CallerView) (e : Entry) : Type 0 where
   pub grows : e.grown ≢ Zero → OwnMiss kind old new
   pub full : (given : ℕ) → e.reply ≡ reply.Refused (refusal.TableFull given) → OwnMiss kind old new
   pub few : (given : ℕ) → e.reply ≡ reply.Refused (refusal.TableFull given)
@@ -91,45 +92,65 @@ pub record GrowsOnMiss (kind : Kind) (old new : Party) (e : Entry) : Type 0 wher
 
 -- what was looked for before the entry that says that it is not there; `trim` gives no block back only on a
 -- sweep of its own
-abbrev pub LookedFor : Asks → Party → Party → Entry → Type 0
+abbrev pub LookedFor : Asks → CallerView → CallerView → Entry → Type 0
 LookedFor (object_room fields) old new e = Unit {0}
 LookedFor (handle_slot kind) old new e = GrowsOnMiss kind old new e
 LookedFor (block_back kind) old new e = e.reply ≡ reply.Value 0 → OwnSweep kind old new
 LookedFor no_room old new e = Unit {0}
 
--- between old and new it neither looked for a slot nor let one go
-pub record NoSlotCall (old new : Party) : Type 0 where
+-- between old and new it neither looked for a slot nor released one
+pub record NoSlotCall (old new : CallerView) : Type 0 where
   pub trace : new.trace ≡ old.trace
   pub trace_number : new.trace_number ≡ old.trace_number
   pub began_empty : new.began_empty ≡ old.began_empty
 
--- between old and new it let the slot go that the entry freed, once, in these steps, and looked for none
-pub record OwnRelease (old new : Party) (e : Entry) : Type 0 where
+-- between old and new it released the slot that the entry freed, once, in these steps, as one of the kind that
+-- its block had, and looked for none
+pub record OwnRelease (before : State) (old new : CallerView) (e : Entry) : Type 0 where
   pub slot : Slot
   pub kind : Kind
   pub freed : e.slot ≡ Some slot
+  pub of_kind : use_of before (block_of slot) ≡ Some (handles_of kind)
   pub one : new.trace_number ≡ old.trace_number + 1
   pub steps : follow (kind_number kind) new.numbers.blocks (push 0 slot.0) new.trace ≡ found 0
 
--- `hfree` that is done lets the slot go that it freed, and one that is refused lets none go
-pub record LetsOneGo (old new : Party) (e : Entry) : Type 0 where
-  pub done : e.reply ≡ reply.Done → OwnRelease old new e
+-- `hfree` that is done releases the slot that it freed, and one that is refused releases none
+pub record LetsOneGo (before : State) (old new : CallerView) (e : Entry) : Type 0 where
+  pub done : e.reply ≡ reply.Done → OwnRelease before old new e
   pub refused : e.reply ≢ reply.Done → NoSlotCall old new
 
--- other commands than `hnew`, `hfree` and `trim` neither look for a slot nor let one go
-abbrev pub SlotCalls : Change → Party → Party → Entry → Type 0
-SlotCalls (Takes kind) old new e = Unit {0}
-SlotCalls Frees old new e = LetsOneGo old new e
-SlotCalls (GivesBack kind) old new e = Unit {0}
-SlotCalls Keeps old new e = NoSlotCall old new
+-- how often it looked for slots or released one, at a step from the state `before`: `hnew` and `trim` look
+-- once, and other commands than these and `hfree` do neither
+abbrev pub SlotCalls : Change → State → CallerView → CallerView → Entry → Type 0
+SlotCalls (Takes kind) before old new e = OwnSteps old new
+SlotCalls Frees before old new e = LetsOneGo before old new e
+SlotCalls (GivesBack kind) before old new e = OwnSteps old new
+SlotCalls Keeps before old new e = NoSlotCall old new
 
--- a command was done: the caller has one entry more, with the command and its reply, and room for one less
-pub record HasDone (old new : Party) (command : Cmd) (answer : Reply) : Type 0 where
+-- what the caller found under the gate: a journal that is a run of the machine to a state, and in which its own
+-- part is what it was as the call began
+pub record Found (old : CallerView) : Type 0 where
+  pub journal : List Entry
+  pub state : State
+  pub run : Run old.numbers journal state
+  pub part : part_of journal old.number ≡ old.part
+
+-- out of memory: in the state that it found, the object of the command would fit into the heap
+pub record HadRoom (old : CallerView) (command : Cmd) : Type 0 where
+  pub found : Found old
+  pub fits : FitsHeap old.numbers found.state command
+
+-- A command was done: the caller has one entry more, with the command and its reply, and room for one less. The
+-- entry is a step of the machine from the state that the caller found.
+pub record HasDone (old new : CallerView) (command : Cmd) (answer : Reply) : Type 0 where
   pub entry : Entry
+  pub found : Found old
+  pub after : State
+  pub step : Step old.numbers found.state entry after
   pub caller_is : entry.caller ≡ old.number
   pub command_is : entry.cmd ≡ command
   pub answer_is : entry.reply ≡ answer
   pub part : new.part ≡ old.part ++ entry ∷ []
   pub room : new.room + 1 ≡ old.room
   pub looked_for : LookedFor (asks_of command) old new entry
-  pub slot_calls : SlotCalls (change_of command) old new entry
+  pub slot_calls : SlotCalls (change_of command) found.state old new entry

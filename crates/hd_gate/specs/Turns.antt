@@ -11,19 +11,19 @@ use Rattle.hd_model.specs.declared.limits.TheConstants.{BLOCKS}
 use Rattle.hd_model.specs.declared.command.Cmd.{Cmd}
 use Rattle.hd_model.specs.Kinds.{kind_number}
 use Rattle.hd_model.specs.State.{State, use_of, block_of}
+use Rattle.hd_model.specs.Run.{Run}
 use Rattle.hd_model.specs.Step.{Step}
-use Rattle.hd_model.specs.WellFormed.{IsWellFormed}
-use Rattle.hd_world.specs.World.{Standing, GrowsWithout, Takes}
+use Rattle.hd_world.specs.World.{WorldView, GrowsWithout, Takes}
 use Rattle.hd_custody.specs.declared.view.View.{View}
 use Rattle.hd_custody.specs.Views.{Named, Known, numbers_of, granted, closed}
 use Rattle.hd_custody.specs.Calls.{Releases}
 use Rattle.hd_world.specs.Growth.{kind_in_use}
-use Rattle.hd_gate.specs.Shared.{Party, HasDone}
+use Rattle.hd_gate.specs.Shared.{CallerView, HasDone}
 use Rattle.hd_gate.specs.Idle.{IsIdle}
 
 -- a seat, as what its caller is to others
-abbrev pub party_of : {W : Type 0} → Known W → ℕ → ℕ → Party
-party_of seat number room = record {
+abbrev pub caller_view_of : {W : Type 0} → Known W → ℕ → ℕ → CallerView
+caller_view_of seat number room = record {
   table = seat.table;
   numbers = numbers_of seat.view.limits;
   number = number;
@@ -35,7 +35,7 @@ party_of seat number room = record {
 }
 
 -- a seat may take its turn: it is one of this table, idle, and has room for an entry
-pub record MayTurn (custody : Named) (seat : Known Standing) (caller : ℕ) : Type 0 where
+pub record MayTurn (custody : Named) (seat : Known WorldView) (caller : ℕ) : Type 0 where
   pub table : seat.table ≡ custody.table
   pub blocks : custody.blocks ≡ seat.view.limits.blocks
   pub few : custody.blocks ≤ BLOCKS
@@ -43,27 +43,28 @@ pub record MayTurn (custody : Named) (seat : Known Standing) (caller : ℕ) : Ty
   pub room : 1 ≤ seat.view.room
 
 -- it took its turn: it is idle again, and its command was done
-pub record Turned (old new : Known Standing) (caller : ℕ) (command : Cmd) (answer : Reply) : Type 0 where
+pub record Turned (old new : Known WorldView) (caller : ℕ) (command : Cmd) (answer : Reply) : Type 0 where
   pub table : new.table ≡ old.table
   pub limits : new.view.limits ≡ old.view.limits
   pub idle : IsIdle new.view caller
-  pub done : HasDone (party_of old caller old.view.room) (party_of new caller new.view.room) command answer
+  pub done : HasDone (caller_view_of old caller old.view.room) (caller_view_of new caller new.view.room) command answer
 
 -- it found no memory: it is idle again, and its caller is as it was
-pub record Stayed (old new : Known Standing) (caller : ℕ) : Type 0 where
+pub record Stayed (old new : Known WorldView) (caller : ℕ) : Type 0 where
   pub idle : IsIdle new.view caller
-  pub party : party_of new caller new.view.room ≡ party_of old caller old.view.room
+  pub party : caller_view_of new caller new.view.room ≡ caller_view_of old caller old.view.room
 
--- Under the gate a command of a caller took one step of the machine, from the world u to the world w, and its
--- entry is the one more of the journal. An offer was taken; without one the table grew, or was found full.
-pub record Stepped (u w : Standing) (number : ℕ) (command : Cmd) (offer : Option Slot) (e : Entry) : Type 0
+-- Under the gate a command of a caller took one step of the machine, from the world u, whose journal is a run to
+-- its state, to the world w, and its entry is the one more of the journal. An offer was taken; without one the
+-- table grew, or was found full.
+pub record Stepped (u w : WorldView) (number : ℕ) (command : Cmd) (offer : Option Slot) (e : Entry) : Type 0
   where
     pub caller_is : e.caller ≡ number
     pub command_is : e.cmd ≡ command
     pub journal : w.journal ≡ u.journal ++ e ∷ []
     pub spare : w.spare + 1 ≡ u.spare
     pub numbers : w.numbers ≡ u.numbers
-    pub well_formed : IsWellFormed u.numbers u.state
+    pub run : Run u.numbers u.journal u.state
     pub step : Step u.numbers u.state e w.state
     pub takes : ForSome offer (Takes e command)
     pub grows : GrowsWithout u command offer e
@@ -85,7 +86,7 @@ abbrev pub freed_in : State → Option Slot → Option (Slot × Kind)
 freed_in s None = None
 freed_in s (Some slot) = option_map (λ kind. (slot, kind)) (kind_in_use (use_of s (block_of slot)))
 
--- a freed slot was let go
+-- a freed slot was released
 abbrev pub LetsGo : {W : Type 0} → ℕ → Option (Slot × Kind) → View W → View W → Type 0
 LetsGo blocks None v w = w ≡ v
 LetsGo blocks (Some f) v w = Releases (kind_number f.1) blocks f.0.0 v w

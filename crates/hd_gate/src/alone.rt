@@ -5,7 +5,6 @@ ghost use Rattle.hd_world.specs.World.{FitsHeap};
 ghost use Rattle.hd_gate.specs.Alone.{HasCalled, FindsFullExactly, TrimsExactly};
 
 use crate::change::{note, offer};
-use hd_model::limits::BLOCKS;
 use hd_model::{Cmd, Memory, Reply, Steps};
 use hd_pool::Pool;
 use hd_world::World;
@@ -21,12 +20,12 @@ pub struct Alone {
 }
 
 impl Model for Alone {
-    ghost use Rattle.hd_world.specs.World.{Standing, standing_code};
+    ghost use Rattle.hd_world.specs.World.{WorldView, world_view_code};
     ghost use Rattle.hd_gate.specs.Tied.{IsTied};
 
-    ghost Value = { Standing };
+    ghost Value = { WorldView };
 
-    ghost coded = { standing_code };
+    ghost coded = { world_view_code };
 
     ghost view = { λ a. a.world };
 
@@ -39,9 +38,10 @@ impl Alone {
     pub fn open(alloc: Global, world: World, blocks: u32) -> Result<Alone, Memory>
         requires start { world.state ≡ start_of world.numbers }
         requires same { blocks ≡ world.numbers.blocks }
-        requires limit { blocks ≤ BLOCKS }
         ensures { IfOk result (λ a. a ≡ world) }
     {
+        // The journal states that the numbers of the world are within their limits.
+        let _journal = world.journal();
         let pool = Pool::open(alloc, blocks)?;
         Ok(Alone { world, pool })
     }
@@ -56,7 +56,7 @@ impl Alone {
         ensures done { IfOk result (HasCalled self.old self.new caller cmd) }
         ensures full { IfOk result (FindsFullExactly self.old cmd) }
         ensures trims { IfOk result (TrimsExactly self.old cmd) }
-        // Want of memory comes for commands that may take it. A full heap is answered first.
+        // Out of memory comes for commands that may take it. A full heap is answered first.
         ensures memory { OnErr result (IsTrue (takes_memory cmd)) }
         ensures fits { OnErr result (FitsHeap self.old.numbers self.old.state cmd) }
         ensures unchanged { OnErr result (self.new ≡ self.old) }

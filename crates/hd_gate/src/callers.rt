@@ -3,16 +3,16 @@ ghost use Rattle.std.specs.Prelude.{◌≡◌};
 ghost use Rattle.std.specs.Borrow.{sem};
 ghost use Rattle.hd_gate.specs.Lending.{lends_all};
 
+use crate::boxed::Boxed;
 use crossbeam_utils::CachePadded;
 use hd_custody::Seat;
-use hd_world::World;
 use std::marker::Model;
 
 /// One caller of a world that threads share. It may be handed to a thread; it is made by
 /// `Shared::open` alone.
 #[derive(Drop)]
 pub struct Caller {
-    pub(crate) seat: Seat<World>,
+    pub(crate) seat: Seat<Boxed>,
     pub(crate) number: u32,
     // How many more entries it may add. It stands on cache lines of its own, since each call writes
     // it.
@@ -22,13 +22,13 @@ pub struct Caller {
 impl Model for Caller {
     ghost use Rattle.std.specs.Prelude.{◌≤◌};
     ghost use Rattle.crossbeam_utils.specs.Padded.{padded_value};
-    ghost use Rattle.hd_gate.specs.Shared.{Party};
-    ghost use Rattle.hd_gate.specs.Turns.{party_of};
+    ghost use Rattle.hd_gate.specs.Shared.{CallerView};
+    ghost use Rattle.hd_gate.specs.Turns.{caller_view_of};
     ghost use Rattle.hd_gate.specs.Idle.{IsIdle};
 
-    ghost Value = { Party };
+    ghost Value = { CallerView };
 
-    ghost view = { λ c. party_of c.seat c.number (padded_value c.room) };
+    ghost view = { λ c. caller_view_of c.seat c.number (padded_value c.room) };
 
     ghost invariant = { λ c. IsIdle c.seat.view c.number
         × (padded_value c.room ≤ c.seat.view.room) };
@@ -58,9 +58,9 @@ pub struct Callers {
 
 impl Model for Callers {
     ghost use Rattle.std.specs.Prelude.{List};
-    ghost use Rattle.hd_gate.specs.Shared.{Party};
+    ghost use Rattle.hd_gate.specs.Shared.{CallerView};
 
-    ghost Value = { List Party };
+    ghost Value = { List CallerView };
 
     ghost view = { λ c. c.list.items };
 }

@@ -3,6 +3,7 @@
 #![tactic(auto)]
 
 mod alone;
+mod boxed;
 mod callers;
 mod change;
 mod opening;

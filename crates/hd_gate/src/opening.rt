@@ -2,22 +2,22 @@
 ghost use Rattle.std.specs.Prelude.{◌≡◌, ℕ, ◌+◌, ◌<◌, ◌≤◌, [], false, length, sum, drop, IfOk, slice_index, slice_index_or};
 ghost use Rattle.hd_model.specs.State.{Numbers};
 ghost use Rattle.hd_custody.specs.Views.{starting, numbers_of};
-ghost use Rattle.hd_gate.specs.Shared.{Party, AreAll, Begin};
+ghost use Rattle.hd_gate.specs.Shared.{CallerView, AreAll, Begin};
 ghost use Rattle.hd_gate.specs.Opening.{AreNew, IsFirst, HasEnded};
 
+use crate::boxed::Boxed;
 use crate::callers::{Caller, Callers};
 use crossbeam_utils::CachePadded;
 use hd_custody::{Custody, Seat};
 use hd_model::Memory;
 use hd_model::limits::CALLERS;
-use hd_world::World;
 use std::alloc::Global;
 
 /// A caller for each room, of which the first has this seat.
 pub(crate) fn callers_of(
     alloc: Global,
-    custody: &Custody<World>,
-    mut first: Seat<World>,
+    custody: &Custody<Boxed>,
+    mut first: Seat<Boxed>,
     rooms: &[u32],
 ) -> Result<Callers, Memory>
     requires seat { first.table ≡ custody.now.table }
@@ -44,8 +44,8 @@ pub(crate) fn callers_of(
 // The callers from number 1 on.
 fn others(
     alloc: Global,
-    custody: &Custody<World>,
-    first: &mut Seat<World>,
+    custody: &Custody<Boxed>,
+    first: &mut Seat<Boxed>,
     rooms: &[u32],
 ) -> Result<Vec<Caller>, Memory>
     requires seat { first.old.table ≡ custody.now.table }
@@ -75,7 +75,7 @@ fn others(
 }
 
 /// The seat of the first of all callers, in which the seats of the others ended.
-pub(crate) fn join_all(custody: &Custody<World>, mut list: Vec<Caller>) -> Seat<World>
+pub(crate) fn join_all(custody: &Custody<Boxed>, mut list: Vec<Caller>) -> Seat<Boxed>
     requires all { AreAll custody.now list.items }
     requires callers { 1 ≤ custody.now.numbers.callers }
     ensures table { result.table ≡ custody.now.table }
@@ -84,7 +84,7 @@ pub(crate) fn join_all(custody: &Custody<World>, mut list: Vec<Caller>) -> Seat<
         × (numbers_of result.view.limits ≡ custody.now.numbers) }
     ensures all { (result.view.made ≡ custody.now.numbers.callers)
         × (length result.view.ended + 1 ≡ custody.now.numbers.callers) }
-    ensures part { (d : Party) → result.view.part ≡ (slice_index_or list.items 0 d).part }
+    ensures part { (d : CallerView) → result.view.part ≡ (slice_index_or list.items 0 d).part }
     ensures ended { HasEnded (drop 1 list.items) result.view.ended }
 {
     let Caller {

@@ -3,14 +3,14 @@ ghost use Rattle.std.specs.Prelude.{◌≡◌, ◌<◌, ◌≤◌, [], length, s
 ghost use Rattle.hd_model.specs.State.{start_of};
 ghost use Rattle.hd_model.specs.Run.{Run};
 ghost use Rattle.hd_model.specs.Valid.{IsValid, takes_memory};
-ghost use Rattle.hd_gate.specs.Shared.{IsCallerOf, AreAll, Begin, HasParts, IsSameCaller, HasDone};
+ghost use Rattle.hd_gate.specs.Shared.{IsCallerOf, AreAll, Begin, HasParts, IsSameCaller, HasDone, HadRoom};
 
+use crate::boxed::Boxed;
 use crate::callers::{Caller, Callers};
 use crate::opening::{callers_of, join_all};
 use crate::turns::turn;
 use crossbeam_utils::CachePadded;
 use hd_custody::Custody;
-use hd_model::limits::{BLOCKS, CALLERS};
 use hd_model::{Cmd, Memory, Reply};
 use hd_world::World;
 use std::alloc::Global;
@@ -21,7 +21,7 @@ use std::sync::Wait;
 /// blocks that has, and the numbers of the world.
 #[derive(Drop)]
 pub struct Shared {
-    custody: Custody<World>,
+    custody: Custody<Boxed>,
 }
 
 impl Model for Shared {
@@ -45,11 +45,11 @@ pub struct Closed {
 }
 
 impl Model for Closed {
-    ghost use Rattle.hd_world.specs.World.{Standing, standing_code};
+    ghost use Rattle.hd_world.specs.World.{WorldView, world_view_code};
 
-    ghost Value = { Standing };
+    ghost Value = { WorldView };
 
-    ghost coded = { standing_code };
+    ghost coded = { world_view_code };
 
     ghost view = { λ c. c.world };
 }
@@ -75,22 +75,24 @@ impl Shared {
     ) -> Result<(Shared, Callers), Memory>
         requires start { (world.state ≡ start_of world.numbers) × (world.journal ≡ []) }
         requires same { blocks ≡ world.numbers.blocks }
-        requires limit { (1 ≤ blocks) × (blocks ≤ BLOCKS) }
-        requires callers { (1 ≤ length rooms.now) × (length rooms.now ≤ CALLERS)
-            × (length rooms.now ≡ world.numbers.callers) }
+        requires callers { length rooms.now ≡ world.numbers.callers }
         requires rooms { sum rooms.now ≤ world.spare }
         ensures numbers { IfOk result (λ r. r.0.numbers ≡ world.numbers) }
         ensures all { IfOk result (λ r. AreAll r.0 r.1) }
         ensures begin { IfOk result (λ r. Begin rooms.now r.1) }
     {
-        let (custody, first) = Custody::open(alloc, blocks, world)?;
+        // The journal states that the numbers of the world are within their limits.
+        let _journal = world.journal();
+        let boxed = Boxed::new(alloc, world)?;
+        let (custody, first) = Custody::open(alloc, blocks, boxed)?;
         let callers = callers_of(alloc, &custody, first, rooms)?;
         Ok((Shared { custody }, callers))
     }
 
-    /// Does a command of a caller, and answers its reply. `hnew` looks for a slot before it waits
-    /// for the gate, and the table grows, or is found full, only where it found none; `hfree` lets
-    /// the slot go once it has left the gate; `trim` first looks for a block whose slots are all
+    /// Does a command of a caller, and returns its reply: that of a step of the machine from the
+    /// state that the caller found under the gate. `hnew` looks once for a slot, before it waits for
+    /// the gate, and the table grows, or is found full, only where it found none; `hfree` releases
+    /// the slot once it has left the gate; `trim` first looks once for a block whose slots are all
     /// free.
     pub fn call<R: Wait>(&self, rt: &R, caller: &mut Caller, cmd: Cmd) -> Result<Reply, Memory>
         requires caller { IsCallerOf self.now caller.old }
@@ -98,8 +100,9 @@ impl Shared {
         requires valid { IsValid cmd }
         ensures same { IsSameCaller caller.old caller.new }
         ensures done { IfOk result (HasDone caller.old caller.new cmd) }
-        // Want of memory comes for commands that may take it.
+        // Out of memory comes for commands that may take it, and not where the heap was full.
         ensures memory { OnErr result (IsTrue (takes_memory cmd)) }
+        ensures fits { OnErr result (HadRoom caller.old cmd) }
         ensures unchanged { OnErr result (caller.new ≡ caller.old) }
     {
         let number = caller.number;
@@ -109,7 +112,7 @@ impl Shared {
         Ok(reply)
     }
 
-    /// Ends with the world, in which the callers have done exactly what each was told.
+    /// Ends with the world, in which the callers have done exactly what each was asked.
     pub fn close(self, callers: Callers) -> Closed
         requires { AreAll self callers }
         ensures numbers { result.numbers ≡ self.numbers }
@@ -119,8 +122,8 @@ impl Shared {
         let Shared { custody } = self;
         let Callers { list } = callers;
         let first = join_all(&custody, list);
-        let world = custody.close(first);
-        // The journal tells that it is a run.
+        let world = custody.close(first).into_inner();
+        // The journal states that it is a run.
         let _journal = world.journal();
         Closed { world }
     }

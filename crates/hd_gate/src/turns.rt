@@ -2,14 +2,17 @@
 ghost use Rattle.std.specs.Prelude.{◌≡◌, ◌≢◌, ◌<◌, ◌≤◌, ◌+◌, ◌*◌, true, false, ℕ, IsTrue, IfOk, OnErr, IfSome, option_map};
 ghost use Rattle.hd_model.specs.Valid.{IsValid, takes_memory};
 ghost use Rattle.hd_world.specs.World.{IsOffer, FitsHeap};
+ghost use Rattle.hd_model.specs.Run.{Run};
 ghost use Rattle.hd_model.specs.State.{first_slot};
+ghost use Rattle.hd_gate.specs.Shared.{HadRoom};
 ghost use Rattle.hd_model.specs.Kinds.{kind_number, is_paired};
 ghost use Rattle.hd_custody.specs.Counts.{Has, HasAs};
-ghost use Rattle.hd_custody.specs.Views.{GrowsFor, MayGrant, handle_block, extra_block};
+ghost use Rattle.hd_custody.specs.Views.{GrowsByBlocks, MayGrant, handle_block, extra_block};
 ghost use Rattle.hd_gate.specs.Change.{change_of};
 ghost use Rattle.hd_gate.specs.declared.change.Change.TheVariants.{Takes, Frees, GivesBack, Keeps};
-ghost use Rattle.hd_gate.specs.Turns.{MayTurn, Turned, Stayed, Stepped, with_grown, without_gathered, freed_in, LetsGo};
+ghost use Rattle.hd_gate.specs.Turns.{MayTurn, Turned, Stayed, Stepped, with_grown, without_gathered, freed_in, LetsGo, caller_view_of};
 
+use crate::boxed::Boxed;
 use crate::change::{Change, change_of};
 use hd_custody::{Custody, Seat};
 use hd_model::limits::{BLOCKS, ROWS};
@@ -21,9 +24,9 @@ use std::sync::ledger::{Blank, Ledger};
 
 /// Does a command of the caller with this number, whose seat holds no slot before and after it.
 pub(crate) fn turn<R: Wait>(
-    custody: &Custody<World>,
+    custody: &Custody<Boxed>,
     rt: &R,
-    seat: &mut Seat<World>,
+    seat: &mut Seat<Boxed>,
     number: u32,
     cmd: Cmd,
 ) -> Result<Reply, Memory>
@@ -31,6 +34,7 @@ pub(crate) fn turn<R: Wait>(
     requires valid { IsValid cmd }
     ensures done { IfOk result (Turned seat.old seat.new number cmd) }
     ensures memory { OnErr result (IsTrue (takes_memory cmd)) }
+    ensures fits { OnErr result (HadRoom (caller_view_of seat.old number seat.old.view.room) cmd) }
     ensures unchanged { OnErr result (Stayed seat.old seat.new number) }
 {
     match change_of(cmd) {
@@ -43,9 +47,9 @@ pub(crate) fn turn<R: Wait>(
 
 // A command that leaves the slots as they are.
 fn plainly<R: Wait>(
-    custody: &Custody<World>,
+    custody: &Custody<Boxed>,
     rt: &R,
-    seat: &mut Seat<World>,
+    seat: &mut Seat<Boxed>,
     number: u32,
     cmd: Cmd,
 ) -> Result<Reply, Memory>
@@ -54,6 +58,7 @@ fn plainly<R: Wait>(
     requires keeps { change_of cmd ≡ Keeps }
     ensures done { IfOk result (Turned seat.old seat.new number cmd) }
     ensures memory { OnErr result (IsTrue (takes_memory cmd)) }
+    ensures fits { OnErr result (HadRoom (caller_view_of seat.old number seat.old.view.room) cmd) }
     ensures unchanged { OnErr result (Stayed seat.old seat.new number) }
 {
     let mut world = custody.enter(rt, seat);
@@ -65,9 +70,9 @@ fn plainly<R: Wait>(
 
 // `hnew`: a slot is looked for before the gate; where none was found, the table may grow.
 fn make<R: Wait>(
-    custody: &Custody<World>,
+    custody: &Custody<Boxed>,
     rt: &R,
-    seat: &mut Seat<World>,
+    seat: &mut Seat<Boxed>,
     number: u32,
     cmd: Cmd,
     kind: Kind,
@@ -85,11 +90,11 @@ fn make<R: Wait>(
     entry.reply
 }
 
-// `hfree`: the slot is let go after the gate.
+// `hfree`: the slot is released after the gate.
 fn free<R: Wait>(
-    custody: &Custody<World>,
+    custody: &Custody<Boxed>,
     rt: &R,
-    seat: &mut Seat<World>,
+    seat: &mut Seat<Boxed>,
     number: u32,
     cmd: Cmd,
 ) -> Reply
@@ -108,9 +113,9 @@ fn free<R: Wait>(
 
 // `trim`: a block whose slots are all free is looked for before the gate.
 fn trim<R: Wait>(
-    custody: &Custody<World>,
+    custody: &Custody<Boxed>,
     rt: &R,
-    seat: &mut Seat<World>,
+    seat: &mut Seat<Boxed>,
     number: u32,
     cmd: Cmd,
     kind: Kind,
@@ -129,12 +134,12 @@ fn trim<R: Wait>(
     entry.reply
 }
 
-// Tells the words by which blocks the table grew for a kind, if it grew.
-fn grow(custody: &Custody<World>, seat: &mut Seat<World>, kind: Kind, grown: Grown)
+// Returns the words by which blocks the table grew for a kind, if it grew.
+fn grow(custody: &Custody<Boxed>, seat: &mut Seat<Boxed>, kind: Kind, grown: Grown)
     requires seat { seat.old.table ≡ custody.now.table }
     requires gate { seat.old.view.has_gate ≡ true }
-    requires grows { grown ≢ Grown.Zero → GrowsFor (is_paired kind) grown }
-    requires blocks { grown ≢ Grown.Zero → MayGrant ⟦<World as Held>⟧ custody.now.blocks
+    requires grows { grown ≢ Grown.Zero → GrowsByBlocks (is_paired kind) grown }
+    requires blocks { grown ≢ Grown.Zero → MayGrant ⟦<Boxed as Held>⟧ custody.now.blocks
         (handle_block grown) (extra_block grown) seat.old.view }
     ensures { seat.new ≡ record seat.old {
       view = with_grown (kind_number kind) grown seat.old.view;
@@ -156,11 +161,11 @@ fn first_slot(block: Option<u32>) -> Option<Slot>
 }
 
 // Takes the kind of a block that was gathered, if one was.
-fn withdraw(custody: &Custody<World>, seat: &mut Seat<World>, block: Option<u32>)
+fn withdraw(custody: &Custody<Boxed>, seat: &mut Seat<Boxed>, block: Option<u32>)
     requires seat { seat.old.table ≡ custody.now.table }
     requires gate { seat.old.view.has_gate ≡ true }
-    requires block { IfSome block (λ b. (0 < b) × (b ≤ custody.now.blocks)
-        × ((r : ℕ) → r < ROWS → Has (ROWS * b + r) seat.old.view.hand)) }
+    requires all { IfSome block (λ b. (r : ℕ) → r < ROWS
+        → Has (ROWS * b + r) seat.old.view.hand) }
     ensures { seat.new ≡ record seat.old { view = without_gathered block seat.old.view } }
 {
     if let Some(block) = block {
@@ -169,16 +174,16 @@ fn withdraw(custody: &Custody<World>, seat: &mut Seat<World>, block: Option<u32>
 }
 
 // The slot that an entry freed, if it freed one, with the kind of its block.
-fn freed(world: &World, slot: Option<Slot>) -> Option<(Slot, Kind)>
+fn freed(world: &Boxed, slot: Option<Slot>) -> Option<(Slot, Kind)>
     ensures { result ≡ freed_in world.now.state slot }
 {
     let slot = slot?;
-    let kind = world.kind_of(slot)?;
+    let kind = world.inside.kind_of(slot)?;
     Some((slot, kind))
 }
 
 // Lets a freed slot go, if there is one.
-fn let_go(custody: &Custody<World>, seat: &mut Seat<World>, freed: Option<(Slot, Kind)>)
+fn let_go(custody: &Custody<Boxed>, seat: &mut Seat<Boxed>, freed: Option<(Slot, Kind)>)
     requires seat { seat.old.table ≡ custody.now.table }
     requires slot { IfSome freed (λ f. HasAs (f.0.0, kind_number f.1 + 1) seat.old.view.hand) }
     ensures table { seat.new.table ≡ seat.old.table }
@@ -190,7 +195,7 @@ fn let_go(custody: &Custody<World>, seat: &mut Seat<World>, freed: Option<(Slot,
 }
 
 // A step of a command that takes no memory.
-fn step_surely(world: &mut World, number: u32, cmd: Cmd, offer: Option<Slot>) -> Entry
+fn step_surely(world: &mut Boxed, number: u32, cmd: Cmd, offer: Option<Slot>) -> Entry
     requires room { 1 ≤ world.old.spare }
     requires caller { number < world.old.numbers.callers }
     requires valid { IsValid cmd }
@@ -205,17 +210,18 @@ fn step_surely(world: &mut World, number: u32, cmd: Cmd, offer: Option<Slot>) ->
 }
 
 // A step of a command in the world, with a counter of visits that nothing reads.
-fn step(world: &mut World, number: u32, cmd: Cmd, offer: Option<Slot>) -> Result<Entry, Memory>
+fn step(world: &mut Boxed, number: u32, cmd: Cmd, offer: Option<Slot>) -> Result<Entry, Memory>
     requires room { 1 ≤ world.old.spare }
     requires caller { number < world.old.numbers.callers }
     requires valid { IsValid cmd }
     requires offer { IsOffer world.old.state cmd offer }
+    ensures run { Run world.old.numbers world.old.journal world.old.state }
     ensures stepped { IfOk result (Stepped world.old world.new number cmd offer) }
     ensures memory { OnErr result (IsTrue (takes_memory cmd)) }
     ensures fits { OnErr result (FitsHeap world.old.numbers world.old.state cmd) }
     ensures unchanged { OnErr result (world.new ≡ world.old) }
 {
-    step_counted::<Brand>(world, number, cmd, offer, Blank::new(1))
+    step_counted::<Brand>(&mut world.inside, number, cmd, offer, Blank::new(1))
 }
 
 fn step_counted<L: Ledger>(
@@ -230,12 +236,13 @@ fn step_counted<L: Ledger>(
     requires caller { number < world.old.numbers.callers }
     requires valid { IsValid cmd }
     requires offer { IsOffer world.old.state cmd offer }
+    ensures run { Run world.old.numbers world.old.journal world.old.state }
     ensures stepped { IfOk result (Stepped world.old world.new number cmd offer) }
     ensures memory { OnErr result (IsTrue (takes_memory cmd)) }
     ensures fits { OnErr result (FitsHeap world.old.numbers world.old.state cmd) }
     ensures unchanged { OnErr result (world.new ≡ world.old) }
 {
-    // The journal tells that the world stands for a run, so its state is well formed.
+    // The journal states that it is a run to the world's state.
     let _journal = world.journal();
     let mut steps = Steps::<L>::open(blank);
     world.apply(number, cmd, offer, &mut steps)

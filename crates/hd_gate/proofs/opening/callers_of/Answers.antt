@@ -1,12 +1,12 @@
 use Rattle.std.proofs.Common.{slice_index, refl, ◌∙◌}
 use Rattle.crossbeam_utils.specs.Padded.{padded_value}
-use Rattle.hd_gate.specs.Turns.{party_of}
+use Rattle.hd_gate.specs.Turns.{caller_view_of}
 use Rattle.hd_gate.specs.Opening.{IsNew}
 use Rattle.hd_gate.proofs.Beginnings.{are_all, begin, limits_are, first_part}
 use Rattle.hd_gate.proofs.opening.callers_of.Goals as goal
 
 new_one : (c : goal.In-Ok) → IsNew c.args.custody.now 0 (slice_index c.args.rooms.now 0)
-    (party_of c.others.new.first 0 (padded_value c.new-room.result))
+    (caller_view_of c.others.new.first 0 (padded_value c.new-room.result))
 new_one c =
     let numbers = c.args.custody.now.numbers in
     let begun = c.args.first.view in
@@ -23,7 +23,7 @@ new_one c =
 
 pub returns-in-Ok-clause-all : goal.returns-in-Ok-clause-all
 returns-in-Ok-clause-all c =
-    are_all c.args.custody.now c.args.rooms.now (party_of c.others.new.first 0
+    are_all c.args.custody.now c.args.rooms.now (caller_view_of c.others.new.first 0
     (padded_value c.new-room.result))
     c.in_ok-list.list.items c.insert.new.self.items
     c.in-Ok.ensures.items c.in_ok-list.ensures.count c.requires.callers.2 (new_one c)
@@ -31,7 +31,7 @@ returns-in-Ok-clause-all c =
 
 pub returns-in-Ok-clause-begin : goal.returns-in-Ok-clause-begin
 returns-in-Ok-clause-begin c =
-    begin c.args.custody.now c.args.rooms.now (party_of c.others.new.first 0 (padded_value c.new-room.result))
+    begin c.args.custody.now c.args.rooms.now (caller_view_of c.others.new.first 0 (padded_value c.new-room.result))
     c.in_ok-list.list.items c.insert.new.self.items
     c.in-Ok.ensures.items c.in_ok-list.ensures.count c.requires.callers.2 (new_one c)
     c.in_ok-list.ensures.others

@@ -1,7 +1,7 @@
 use Rattle.std.proofs.Common.{◌≡◌, ◌+◌, ◌∷◌, [], length, length-append, sym, ap, ◌∙◌, subst, arith}
 use Rattle.std.specs.Prelude.{slice_index_or}
 use Rattle.hd_custody.specs.Views.{Known}
-use Rattle.hd_gate.specs.Shared.{Party}
+use Rattle.hd_gate.specs.Shared.{CallerView}
 use Rattle.hd_gate.specs.Opening.{HasEnded}
 use Rattle.hd_gate.proofs.Endings.{one_more_ended, ends_in, shorter, rest_less, is_last}
 use Rattle.hd_gate.proofs.opening.join_all.Goals as goal
@@ -22,7 +22,7 @@ loop-caller-preserved c =
     let count = shorter all xs ys x popped inv.rest in
     let fewer : length all + 1 ≡ length c.args.list.items =
     omega (arith, c.remove.ensures.len, c.remove.new.self.ok.0, c.args.list.ok.0) in
-    let moved : (d : Party) → slice_index_or all (length ys) d
+    let moved : (d : CallerView) → slice_index_or all (length ys) d
     ≡ slice_index_or c.args.list.items (length ys + 1) d =
     λ d. c.remove.ensures.by_index.1 (length ys) d (omega arith) in
     record {
@@ -40,7 +40,7 @@ loop-caller-preserved c =
       ended = subst (HasEnded all) (sym ended)
           (one_more_ended all v.ended (w.number, w.part) (length ys) inv.ended
           (omega (arith, inv.count, count, fewer, c.requires.all.count))
-          (c.caller.invariant.0.number ∙ ap (λ (p : Party). p.number) (c.caller.view_is ∙ last x ∙ moved x)
+          (c.caller.invariant.0.number ∙ ap (λ (p : CallerView). p.number) (c.caller.view_is ∙ last x ∙ moved x)
           ∙ c.requires.all.in_order (length ys + 1) x (omega (arith, inv.count, count, c.requires.all.count)))
-          (λ d. ap (λ (p : Party). p.part) (c.caller.view_is ∙ last d)));
+          (λ d. ap (λ (p : CallerView). p.part) (c.caller.view_is ∙ last d)));
     }

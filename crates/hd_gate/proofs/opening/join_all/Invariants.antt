@@ -1,6 +1,6 @@
 use Rattle.std.proofs.Common.{◌≡◌, ℕ, ◌+◌, ◌<◌, length}
 use Rattle.std.specs.Prelude.{slice_index_or}
-use Rattle.hd_gate.specs.Shared.{Party}
+use Rattle.hd_gate.specs.Shared.{CallerView}
 use Rattle.hd_gate.specs.Opening.{HasEnded}
 use Rattle.hd_gate.proofs.opening.join_all.Given as goal
 
@@ -9,7 +9,7 @@ invariant-loop-caller l = record {
   table : l.seat.table ≡ l.initial.seat.table;
   seat : l.seat.view ≡ record l.initial.seat.view { room = l.seat.view.room; ended = l.seat.view.ended };
   count : length l.seat.view.ended + length l.list.items + 1 ≡ l.custody.numbers.callers;
-  rest : (k : ℕ) (d : Party) → k < length l.list.items
+  rest : (k : ℕ) (d : CallerView) → k < length l.list.items
       → slice_index_or l.list.items k d ≡ slice_index_or l.initial.list.items k d;
   ended : HasEnded l.initial.list.items l.seat.view.ended;
 }

@@ -1,8 +1,8 @@
 use Rattle.std.proofs.Common.{◌≡◌, ◌+◌, slice_index, drop, sum, length, ◌∷◌, ◌++◌, [], List, length-append, refl, sym, ap, ◌∙◌, subst, arith}
 use Rattle.hd_custody.specs.Views.{Known}
 use Rattle.crossbeam_utils.specs.Padded.{padded_value}
-use Rattle.hd_gate.specs.Shared.{Party}
-use Rattle.hd_gate.specs.Turns.{party_of}
+use Rattle.hd_gate.specs.Shared.{CallerView}
+use Rattle.hd_gate.specs.Turns.{caller_view_of}
 use Rattle.hd_gate.specs.Opening.{IsFirst, IsNew, AreNew}
 use Rattle.hd_gate.proofs.Beginnings.{sum_drop, first_next, one_more, limits_are}
 use Rattle.hd_gate.proofs.opening.others.Goals as goal
@@ -20,11 +20,11 @@ loop-number-preserved c =
     let told = c.split-seat.ensures in
     let shared = ap (λ (k : Known _). k.view) told.first in
     let last = sum (drop (n + 1) rooms) + slice_index rooms 0 in
-    let caller = party_of c.split-seat.result n (padded_value c.new.result) in
+    let caller = caller_view_of c.split-seat.result n (padded_value c.new.result) in
     let pushed : c.push_reserved.new.self.items ≡ c.loop-number.list.items ++ caller ∷ [] =
     c.push_reserved.ensures.items in
     let was = subst (λ (k : Known _). IsNew c.args.custody.now n (slice_index rooms n)
-    (party_of k n (padded_value c.new.result))) (sym told.new) (record {
+    (caller_view_of k n (padded_value c.new.result))) (sym told.new) (record {
       is_of = record {
         table = refl;
         numbers = limits_are begun c.loop-number.first.view c.args.custody.now.numbers c.requires.starts n _
@@ -48,6 +48,6 @@ loop-number-preserved c =
             (caller ∷ []),
       );
       spare = omega (arith, inv.spare, c.push_reserved.ensures.capacity);
-      others = subst (λ (ps : List Party). AreNew c.args.custody.now rooms ps) (sym pushed)
+      others = subst (λ (ps : List CallerView). AreNew c.args.custody.now rooms ps) (sym pushed)
           (one_more c.args.custody.now rooms c.loop-number.list.items caller n inv.count inv.others was);
     }

@@ -4,11 +4,11 @@ use Rattle.hd_model.specs.Kinds.{kind_number}
 use Rattle.hd_custody.specs.declared.view.View.{View}
 use Rattle.hd_custody.specs.Views.{Known, Follows, MayGrant, gave_back, took, handle_block, extra_block}
 use Rattle.hd_custody.specs.Calls.{offered, slot_number}
-use Rattle.hd_world.specs.World.{Standing}
+use Rattle.hd_world.specs.World.{WorldView}
 use Rattle.hd_world.specs.contracts.world.WorldHeld.TheImpl.{ghosts}
 use Rattle.hd_gate.specs.Shared.{HasDone}
 use Rattle.hd_gate.specs.Idle.{IsIdle}
-use Rattle.hd_gate.specs.Turns.{party_of, with_grown}
+use Rattle.hd_gate.specs.Turns.{caller_view_of, with_grown}
 use Rattle.hd_gate.proofs.Granting.{is_new, may_offer, made_leaves, made_grants, grown_taken, grown_limits}
 use Rattle.hd_gate.proofs.turns.make.Goals as goal
 
@@ -20,7 +20,7 @@ step_surely-entry-requires-clause-offer g c =
     let v = c.allocate-offer.new.seat.view in
     may_offer c.enter-world.result v kind c.enter-world.ensures.entered c.args.cmd
     (is_new kind c.args.cmd c.requires.takes) o
-    (ap (λ (x : View Standing). x.hand) c.allocate-offer.ensures.done.view
+    (ap (λ (x : View WorldView). x.hand) c.allocate-offer.ensures.done.view
     ∙ ap (offered k (slot_number o)) c.requires.turn.idle.hand)
 
 pub grow-requires-clause-grows : goal.grow-requires-clause-grows
@@ -44,8 +44,8 @@ grow-requires-clause-blocks g c apart =
     let k = kind_number c.args.kind in
     let seat = c.args.seat.now in
     let found = c.allocate-offer.new.seat in
-    let at = ap (λ (s : Known Standing). s.view) c.enter-world.ensures.view in
-    subst (λ (x : View Standing). MayGrant ghosts c.args.custody.now.blocks (handle_block e.grown)
+    let at = ap (λ (s : Known WorldView). s.view) c.enter-world.ensures.view in
+    subst (λ (x : View WorldView). MayGrant ghosts c.args.custody.now.blocks (handle_block e.grown)
     (extra_block e.grown) x) (sym at)
     (made_grants c.args.number c.args.cmd c.args.kind c.requires.takes u w seat.view found.view
     c.requires.turn.idle c.requires.turn.room c.allocate-offer.result c.args.custody.now.blocks
@@ -60,12 +60,12 @@ leave-requires-clause-follows g c =
     let k = kind_number c.args.kind in
     let seat = c.args.seat.now in
     let found = c.allocate-offer.new.seat in
-    let busy = c.grow.ensures ∙ ap (λ (s : Known Standing). record s { view = with_grown k e.grown s.view })
+    let busy = c.grow.ensures ∙ ap (λ (s : Known WorldView). record s { view = with_grown k e.grown s.view })
     c.enter-world.ensures.view in
-    let at = ap (λ (s : Known Standing). s.view) busy in (
+    let at = ap (λ (s : Known WorldView). s.view) busy in (
       u,
-      ap (λ (x : View Standing). x.taken) at ∙ grown_taken k e.grown (took u found.view),
-      subst (λ (x : View Standing). Follows ghosts u w x) (sym at)
+      ap (λ (x : View WorldView). x.taken) at ∙ grown_taken k e.grown (took u found.view),
+      subst (λ (x : View WorldView). Follows ghosts u w x) (sym at)
           (made_leaves c.args.number c.args.cmd c.args.kind c.requires.takes u w seat.view found.view
           c.requires.turn.idle c.requires.turn.room c.allocate-offer.result c.args.custody.now.blocks
           c.requires.turn.blocks c.allocate-offer.ensures.done c.allocate-offer.ensures.none
@@ -85,20 +85,20 @@ returns g c =
     c.requires.turn.idle c.requires.turn.room c.allocate-offer.result c.args.custody.now.blocks
     c.requires.turn.blocks c.allocate-offer.ensures.done c.allocate-offer.ensures.none
     c.enter-world.ensures.entered e c.step_surely-entry.ensures in
-    let busy = c.grow.ensures ∙ ap (λ (s : Known Standing). record s { view = with_grown k e.grown s.view })
+    let busy = c.grow.ensures ∙ ap (λ (s : Known WorldView). record s { view = with_grown k e.grown s.view })
     c.enter-world.ensures.view in
-    let taken = ap (λ (s : Known Standing). s.view.taken) busy ∙ grown_taken k e.grown (took u found.view) in
+    let taken = ap (λ (s : Known WorldView). s.view.taken) busy ∙ grown_taken k e.grown (took u found.view) in
     let left = c.leave.ensures.view u taken
-    ∙ ap (λ (s : Known Standing). record s { view = gave_back ghosts u w s.view }) busy
+    ∙ ap (λ (s : Known WorldView). record s { view = gave_back ghosts u w s.view }) busy
     ∙ ap (λ (t : TableId). record {
       table = t;
       view = gave_back ghosts u w (with_grown k e.grown (took u found.view));
     }) c.allocate-offer.ensures.table in
     record {
-      table = ap (λ (s : Known Standing). s.table) left;
-      limits = ap (λ (s : Known Standing). s.view.limits) left ∙ grown_limits k e.grown (took u found.view)
-          ∙ ap (λ (x : View Standing). x.limits) c.allocate-offer.ensures.done.view;
-      idle = subst (λ (s : Known Standing). IsIdle s.view number) (sym left) all.idle;
-      done = subst (λ (s : Known Standing). HasDone (party_of seat number seat.view.room)
-          (party_of s number s.view.room) c.args.cmd e.reply) (sym left) (all.done seat.table);
+      table = ap (λ (s : Known WorldView). s.table) left;
+      limits = ap (λ (s : Known WorldView). s.view.limits) left ∙ grown_limits k e.grown (took u found.view)
+          ∙ ap (λ (x : View WorldView). x.limits) c.allocate-offer.ensures.done.view;
+      idle = subst (λ (s : Known WorldView). IsIdle s.view number) (sym left) all.idle;
+      done = subst (λ (s : Known WorldView). HasDone (caller_view_of seat number seat.view.room)
+          (caller_view_of s number s.view.room) c.args.cmd e.reply) (sym left) (all.done seat.table);
     }

@@ -1,22 +1,22 @@
 use Rattle.std.proofs.Common.{Result, Ok, Err, OnErr, sym, ap, ◌∙◌, subst}
 use Rattle.hd_custody.specs.declared.view.View.{View}
 use Rattle.hd_custody.specs.Views.{Known, gave_back, took}
-use Rattle.hd_world.specs.World.{Standing}
+use Rattle.hd_world.specs.World.{WorldView}
 use Rattle.hd_world.specs.contracts.world.WorldHeld.TheImpl.{ghosts}
 use Rattle.hd_gate.specs.Shared.{HasDone}
 use Rattle.hd_gate.specs.Idle.{IsIdle}
-use Rattle.hd_gate.specs.Turns.{party_of}
-use Rattle.hd_gate.proofs.Plain.{plain_follows, plain_idle, plain_done, back_idle, back_party}
+use Rattle.hd_gate.specs.Turns.{caller_view_of}
+use Rattle.hd_gate.proofs.Plain.{plain_follows, plain_idle, plain_done, back_idle, back_room, back_caller}
 use Rattle.hd_gate.proofs.turns.plainly.Goals as goal
 
 pub leave-requires-clause-follows : goal.leave-requires-clause-follows
 leave-requires-clause-follows g c =
     let u = c.enter-world.result in
     let v = c.args.seat.now.view in
-    let at = ap (λ (k : Known Standing). k.view) c.enter-world.ensures.view in (
+    let at = ap (λ (k : Known WorldView). k.view) c.enter-world.ensures.view in (
       u,
-      ap (λ (x : View Standing). x.taken) at,
-      subst (λ (x : View Standing). Rattle.hd_custody.specs.Views.Follows ghosts u c.step-done.new.world x)
+      ap (λ (x : View WorldView). x.taken) at,
+      subst (λ (x : View WorldView). Rattle.hd_custody.specs.Views.Follows ghosts u c.step-done.new.world x)
           (sym at)
           (plain_follows c.args.number c.args.cmd c.requires.keeps u c.step-done.new.world v
           c.requires.turn.idle
@@ -36,18 +36,25 @@ returns-in_err-entry-clause-unchanged g c =
     let seat = c.args.seat.now in
     let same = c.in_err-entry.ensures.unchanged in
     let entered = c.enter-world.ensures.entered in
-    let taken = ap (λ (s : Known Standing). s.view.taken) c.enter-world.ensures.view in
+    let taken = ap (λ (s : Known WorldView). s.view.taken) c.enter-world.ensures.view in
     let left = c.leave.ensures.view u taken
-    ∙ ap (λ (s : Known Standing). record s { view = gave_back ghosts u w s.view })
+    ∙ ap (λ (s : Known WorldView). record s { view = gave_back ghosts u w s.view })
     c.enter-world.ensures.view in
     on_err c.from_residual.result (record {
-      idle = subst (λ (s : Known Standing). IsIdle s.view number) (sym left)
+      idle = subst (λ (s : Known WorldView). IsIdle s.view number) (sym left)
           (back_idle number c.args.cmd c.requires.keeps u w seat.view c.requires.turn.idle
           c.requires.turn.room entered same);
-      party = ap (λ (s : Known Standing). party_of s number s.view.room) left
-          ∙ back_party number c.args.cmd c.requires.keeps u w seat.view c.requires.turn.idle
+      party = ap (λ (s : Known WorldView). caller_view_of s number s.view.room) left
+          ∙ back_caller number c.args.cmd c.requires.keeps u w seat.view c.requires.turn.idle
           c.requires.turn.room entered same seat.table;
     })
+
+pub returns-in_err-entry-clause-fits : goal.returns-in_err-entry-clause-fits
+returns-in_err-entry-clause-fits g c =
+    let seat = c.args.seat.now in
+    on_err c.from_residual.result (back_room c.args.number c.args.cmd c.requires.keeps c.enter-world.result
+    c.step-done.new.world seat.view c.requires.turn.idle c.requires.turn.room c.enter-world.ensures.entered
+    c.in_err-entry.ensures.unchanged seat.table c.step-done.ensures.run c.in_err-entry.ensures.fits)
 
 pub returns-clause-done : goal.returns-clause-done
 returns-clause-done g c =
@@ -58,18 +65,18 @@ returns-clause-done g c =
     let seat = c.args.seat.now in
     let stepped = c.in_ok-entry.ensures.stepped in
     let entered = c.enter-world.ensures.entered in
-    let taken = ap (λ (s : Known Standing). s.view.taken) c.enter-world.ensures.view in
+    let taken = ap (λ (s : Known WorldView). s.view.taken) c.enter-world.ensures.view in
     let left = c.leave.ensures.view u taken
-    ∙ ap (λ (s : Known Standing). record s { view = gave_back ghosts u w s.view })
+    ∙ ap (λ (s : Known WorldView). record s { view = gave_back ghosts u w s.view })
     c.enter-world.ensures.view in
     record {
-      table = ap (λ (s : Known Standing). s.table) left;
-      limits = ap (λ (s : Known Standing). s.view.limits) left;
-      idle = subst (λ (s : Known Standing). IsIdle s.view number) (sym left)
+      table = ap (λ (s : Known WorldView). s.table) left;
+      limits = ap (λ (s : Known WorldView). s.view.limits) left;
+      idle = subst (λ (s : Known WorldView). IsIdle s.view number) (sym left)
           (plain_idle number c.args.cmd c.requires.keeps u w seat.view c.requires.turn.idle
           c.requires.turn.room entered e stepped);
-      done = subst (λ (s : Known Standing). HasDone (party_of seat number seat.view.room)
-          (party_of s number s.view.room) c.args.cmd e.reply) (sym left)
+      done = subst (λ (s : Known WorldView). HasDone (caller_view_of seat number seat.view.room)
+          (caller_view_of s number s.view.room) c.args.cmd e.reply) (sym left)
           (plain_done number c.args.cmd c.requires.keeps u w seat.view c.requires.turn.idle
           c.requires.turn.room entered e stepped seat.table);
     }

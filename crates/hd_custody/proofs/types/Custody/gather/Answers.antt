@@ -14,7 +14,9 @@ invariant_of-seat g c =
       c.seat.invariant.0,
       c.seat.invariant.1,
       block_kinded c.collect-block.result c.number.result
-          place.me.0.hand c.seat.invariant.2,
+          place.me.0.hand
+          (omega (arith, c.collect-block.ensures.block, c.self.invariant, ap (λ (n : Named). n.blocks) c.self.view_is))
+          c.seat.invariant.2,
     )
 
 pub returns-clause-done : goal.returns-clause-done

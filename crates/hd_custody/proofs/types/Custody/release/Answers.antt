@@ -1,5 +1,6 @@
-use Rattle.std.proofs.Common.{◌≡◌, ◌≢◌, ◌≤◌, ◌==◌, not, sym, ap, subst, arith}
+use Rattle.std.proofs.Common.{◌≡◌, ◌≢◌, ◌==◌, not, sym, ap, subst, arith}
 use Rattle.hd_custody.specs.declared.view.View.{View}
+use Rattle.hd_custody.specs.Counts.{IsSlot}
 use Rattle.hd_custody.specs.Views.{Named, Known, IsSeated}
 use Rattle.hd_custody.specs.Calls.{Releases}
 use Rattle.hd_custody.proofs.Hands.{every_filter}
@@ -12,7 +13,7 @@ invariant_of-seat g c =
     subst IsSeated (sym c.let_go.ensures.made.1) (
       c.seat.invariant.0,
       c.seat.invariant.1,
-      every_filter (λ p. (64 ≤ p.0) × (p.1 ≢ 0))
+      every_filter (λ p. IsSlot p.0 × (p.1 ≢ 0))
           (λ p. not (p.0 == c.args.slot.0)) place.me.0.hand c.seat.invariant.2,
     )
 

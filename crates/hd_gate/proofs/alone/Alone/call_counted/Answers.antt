@@ -1,7 +1,7 @@
 use Rattle.std.proofs.Common.{refl, sym, subst}
 use Rattle.hd_model.specs.State.{Numbers}
 use Rattle.hd_model.specs.Step.{StepOf}
-use Rattle.hd_world.specs.World.{Standing}
+use Rattle.hd_world.specs.World.{WorldView}
 use Rattle.hd_gate.specs.Tied.{IsTied}
 use Rattle.hd_gate.specs.Alone.{HasCalled, FindsFullExactly, TrimsExactly}
 use Rattle.hd_gate.proofs.Following.{follows, may_offer, takes_least, full_exactly, none_exactly, some_else}
@@ -39,7 +39,7 @@ returns-clause-done g c =
     let w = c.self.inside.world in
     let e = c.in_ok-entry.entry in
     let says = c.in_ok-entry.ensures in
-    subst (λ (v : Standing). HasCalled v c.apply.new.self c.args.caller c.args.cmd e.reply) c.self.view_is
+    subst (λ (v : WorldView). HasCalled v c.apply.new.self c.args.caller c.args.cmd e.reply) c.self.view_is
     (record {
       entry = e;
       caller_is = says.command.0;
@@ -62,7 +62,7 @@ returns-clause-full g c =
     let e = c.in_ok-entry.entry in
     let says = c.in_ok-entry.ensures in
     let does = subst (StepOf w.numbers w.state e c.apply.new.self.state) says.command.1 says.step.does in
-    subst (λ (v : Standing). FindsFullExactly v c.args.cmd e.reply) c.self.view_is
+    subst (λ (v : WorldView). FindsFullExactly v c.args.cmd e.reply) c.self.view_is
     (full_exactly w.numbers w.state c.self.inside.pool c.offer-offered.new.pool c.self.invariant e c.args.cmd
     c.offer-offered.result
     c.offer-offered.ensures says.offer says.growth c.apply.new.self.state does)
@@ -72,7 +72,7 @@ returns-clause-trims g c =
     let w = c.self.inside.world in
     let e = c.in_ok-entry.entry in
     let says = c.in_ok-entry.ensures in
-    subst (λ (v : Standing). TrimsExactly v c.args.cmd e.reply) c.self.view_is (record {
+    subst (λ (v : WorldView). TrimsExactly v c.args.cmd e.reply) c.self.view_is (record {
       none = none_exactly w.numbers w.state c.self.inside.pool c.offer-offered.new.pool c.self.invariant e
           c.args.cmd c.offer-offered.result
           c.offer-offered.ensures says.offer says.growth;

@@ -1,5 +1,5 @@
 use Rattle.std.proofs.Common.{◌++◌, length, take, drop, List, refl, ap, ◌∙◌}
-use Rattle.hd_gate.specs.Shared.{Party}
+use Rattle.hd_gate.specs.Shared.{CallerView}
 use Rattle.hd_gate.proofs.callers.Callers.all.Goals as goal
 
 pub returns : goal.returns
@@ -8,7 +8,7 @@ returns c =
       (
         refl,
         (λ w. ap (λ n. take n (w ++ drop (length w) list.items)) list.ok.0
-            ∙ ap (λ (l : List Party). take (length l) (w ++ drop (length w) l)) c.self.view_is),
+            ∙ ap (λ (l : List CallerView). take (length l) (w ++ drop (length w) l)) c.self.view_is),
       ),
       record { lends = tt; value = c.as_mut_slice.ensures.value ∙ c.self.view_is },
     )

@@ -1,0 +1,10 @@
+use Rattle.std.proofs.Common.{◌≡◌, false, []}
+use Rattle.hd_custody.proofs.tests.wake_each.Given as goal
+
+abbrev pub invariant-loop-round : goal.invariant-loop-round
+invariant-loop-round g l = record {
+  table : l.seat.table ≡ l.fn.seat.table;
+  gate : l.seat.view.has_gate ≡ false;
+  hand : l.seat.view.hand ≡ [];
+  number : l.seat.view.number ≡ l.fn.seat.view.number;
+}

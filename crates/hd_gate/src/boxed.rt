@@ -1,0 +1,53 @@
+ghost use Rattle.std.specs.Prelude.{◌≡◌, IfOk};
+
+use hd_model::{Held, Memory};
+use hd_world::World;
+use std::alloc::Global;
+use std::boxed::Box;
+use std::marker::Model;
+
+/// A world in a box, seen as the world: eight bytes go into the slot of a table and out of it.
+#[derive(Drop)]
+pub(crate) struct Boxed {
+    pub(crate) inside: Box<World>,
+}
+
+impl Model for Boxed {
+    ghost use Rattle.hd_world.specs.World.{WorldView, world_view_code};
+
+    ghost Value = { WorldView };
+
+    ghost coded = { world_view_code };
+
+    ghost view = { λ b. b.inside.value };
+}
+
+impl Held for Boxed {
+    ghost numbers = { ⟦<World as Held>⟧.numbers };
+
+    ghost journal = { ⟦<World as Held>⟧.journal };
+
+    ghost spare = { ⟦<World as Held>⟧.spare };
+
+    ghost live = { ⟦<World as Held>⟧.live };
+
+    ghost kind = { ⟦<World as Held>⟧.kind };
+}
+
+impl Boxed {
+    /// Where memory is wanting, the world was dropped.
+    pub(crate) fn new(alloc: Global, world: World) -> Result<Boxed, Memory>
+        ensures { IfOk result (λ b. b ≡ world) }
+    {
+        match Box::new(alloc, world) {
+            Ok(inside) => Ok(Boxed { inside }),
+            Err(_) => Err(Memory),
+        }
+    }
+
+    pub(crate) fn into_inner(self) -> World
+        ensures { result ≡ self }
+    {
+        Box::into_inner(self.inside)
+    }
+}
