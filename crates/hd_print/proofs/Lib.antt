@@ -1,5 +1,5 @@
-pub mod Lines
-pub mod Joining
-pub mod Words
+pub mod JournalLines
+pub mod WordJoin
+pub mod LineWords
 pub mod Numerals
-pub mod ReadBack
+pub mod CommandReadBack

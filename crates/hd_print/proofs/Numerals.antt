@@ -1,4 +1,4 @@
--- Decimal numerals, read again.
+-- Decimal numerals, read back.
 use Rattle.std.proofs.Common.{rules, ◌≡◌, ℕ, ◌+◌, ◌-◌, ◌*◌, ◌<◌, ◌≤◌, ◌^◌, true, ltb, leb, ◌&&◌, None, List, length, get_or, Some, ap, ◌∙◌, arith, fold}
 use Rattle.std.specs.Prelude.{decimal}
 use Rattle.std.specs.List.{list_all}
@@ -10,7 +10,7 @@ use Rattle.std.proofs.lemmas.List.Sums.{list_all-from_AllPass}
 use Rattle.std.proofs.lemmas.Str.Parse.{IsNumeralModel, IsDigitsTest, FoldsDigits, numerals_by_fold, numerals_by_value, tells_by_index}
 use Rattle.hd_model.specs.Grammar.{value_of, number_of}
 
--- what digits are worth after those of a number
+-- the value of digits after those of a number
 abbrev worth : ℕ → List ℕ → ℕ
 worth n digits = fold (λ m b. m * 10 + (b - 48)) n digits
 

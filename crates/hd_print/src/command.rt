@@ -11,13 +11,13 @@ use crate::line::Line;
 use Operand::{Handle, Number, Object, OfKind, OfStrength, Registered, Small};
 use hd_model::{Cmd, Kind, Make, Strength};
 
-// How many bytes the longest name of a command takes.
+// The bytes of the longest name of a command.
 const LONGEST_NAME: usize = 10;
 
-// How many bytes the longest operand takes: a blank and a number of twenty digits.
+// The bytes of the longest operand: a blank and a number of twenty digits.
 const LONGEST_OPERAND: usize = 21;
 
-// How many bytes the longest command takes: a name and four operands.
+// The bytes of the longest command: a name and four operands.
 const LONGEST_COMMAND: usize = 94;
 
 // A word after the name of a command.

@@ -26,7 +26,7 @@ pub fn entry_line(entry: Entry, number: u32) -> Line
     line
 }
 
-// Counts one more entry of a caller, and answers its number.
+// Counts one more entry of a caller, and returns its number.
 fn count_entry(counts: &mut [u32; COUNTS], caller: u32) -> u32
     requires known { caller < CALLERS }
     requires fits { slice_index counts.old caller + 1 < 2 ^ 32 }
@@ -38,8 +38,8 @@ fn count_entry(counts: &mut [u32; COUNTS], caller: u32) -> u32
     *count
 }
 
-/// Writes the line of each entry, in the journal's order. Each line goes to the sink as one piece.
-/// A write that failed is its last, and a prefix of these lines was written then.
+/// Writes the line of each entry, in the journal's order. Each line goes to the sink in one write.
+/// A write that fails is the last, and a prefix of these lines was written then.
 pub fn write_entries<K: Sink>(journal: &Journal, sink: &mut K) -> Result<(), Failed>
     requires { All (λ e. e.caller < CALLERS) journal.now.entries }
     ensures all { OnOk result

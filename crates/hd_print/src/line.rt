@@ -4,7 +4,7 @@ ghost use Rattle.std.specs.Prelude.{◌≡◌, ◌==◌, ◌+◌, ◌≤◌, [],
 use itoa::{Buffer, Integer};
 use std::marker::Model;
 
-/// A line of text, seen as its bytes. It takes no memory, and has room for 160 bytes.
+/// A line of text, seen as its bytes. It takes no memory and has room for 160 bytes.
 #[derive(Debug, Drop)]
 pub struct Line {
     bytes: [u8; Line::CAPACITY],
@@ -22,10 +22,10 @@ impl Model for Line {
 }
 
 impl Line {
-    /// How many bytes a line has room for: more than the longest one needs.
+    /// The capacity in bytes: more than the longest line needs.
     pub const CAPACITY: usize = 160;
 
-    /// A line with nothing in it yet.
+    /// An empty line.
     pub fn new() -> Line
         ensures { result ≡ [] }
     {
@@ -43,7 +43,7 @@ impl Line {
         self.len
     }
 
-    /// Whether nothing is in it.
+    /// Whether it is empty.
     pub fn is_empty(&self) -> bool
         ensures { result ≡ (length self.now == 0) }
     {

@@ -5,10 +5,10 @@ ghost use Rattle.hd_model.specs.Text.{reply_text, refusal_text, identity_text, r
 use crate::line::Line;
 use hd_model::{Id, Refusal, Reply, Report};
 
-// How many bytes the longest identity takes: two numbers of ten digits and a dot.
+// The bytes of the longest identity: two numbers of ten digits and a dot.
 const LONGEST_IDENTITY: usize = 21;
 
-// How many bytes the longest reply takes: a report of six numbers of ten digits, with their words.
+// The bytes of the longest reply: a report of six numbers of ten digits, with their words.
 const LONGEST_REPLY: usize = 101;
 
 /// Appends an identity as its caller and its serial.

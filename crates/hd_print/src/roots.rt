@@ -7,7 +7,7 @@ use crate::line::Line;
 use crate::reply::push_identity;
 use hd_model::RootId;
 
-/// The line of a root: its slot, its kind, and the object that it holds.
+/// The line of a root: its slot, its kind, and the object that it references.
 pub fn root_line(root: RootId) -> Line
     ensures { result ≡ root_text root }
 {

@@ -1,13 +1,15 @@
-pub mod Rising
-pub mod Turning
-pub mod Parts
-mod Options
-mod Asking
-mod Playing
-mod Summing
-mod Sharing
-mod Causes
-mod Claimed
-mod Modes
-mod Joined
-mod Listing
+pub mod CallerOrder
+pub mod TurnSteps
+pub mod CallerParts
+mod OptionLimits
+mod MatchRequests
+mod WordOutcome
+mod PlaySteps
+mod JournalSums
+mod SharedRun
+mod SoloCauses
+mod CallClaims
+mod ModeCauses
+mod ThreadClaims
+mod RootLines
+mod StillEnds

@@ -12,7 +12,7 @@ use Rattle.hd_io.specs.Counts.{Rose}
 use Rattle.hd_io.specs.Source.{SourceView, GaveCount}
 use Rattle.hd_io.specs.Sink.{SinkView, Took}
 use Rattle.hd_script.specs.Load.{line_of_rounds}
-use Rattle.hd_world.specs.World.{Standing}
+use Rattle.hd_world.specs.World.{WorldView}
 use Rattle.hd_run.specs.declared.ending.Ending.{Ending}
 use Rattle.hd_run.specs.declared.ending.Fault.TheVariants.{NoMemory}
 use Rattle.hd_run.specs.declared.ending.Ran.{Ran}
@@ -59,7 +59,7 @@ RefusesScript old new =
     GaveCount old new (λ n. n ≡ MOST_BYTES + 1)
     ⊎ ((bytes : List ℕ) × ReadWhole old new bytes × IsNoProgram bytes)
 
--- the statuses that a call answers
+-- the statuses that a call returns
 abbrev pub IsStatus : ℕ → Type 0
 IsStatus status = Contains (0 ∷ 2 ∷ 3 ∷ 4 ∷ 5 ∷ 6 ∷ []) status
 
@@ -70,22 +70,22 @@ Reads mode.Run = Unit {0}
 Reads mode.Load = ⊥
 Reads mode.Roots = Unit {0}
 
--- words that are lawful and name a mode that reads
+-- words that are valid and name a mode that reads
 abbrev pub AsksToRead : Option Request → Type 0
 AsksToRead asked = IsSomeAnd asked (λ r. Reads r.mode)
 
--- words that are lawful and name `load`
+-- words that are valid and name `load`
 abbrev pub AsksForLoad : Option Request → Type 0
 AsksForLoad asked = IsSomeAnd asked (λ r. r.mode ≡ mode.Load)
 
 -- bytes that are refused: too many, or no program
-abbrev pub IsRefused : List ℕ → Type 0
-IsRefused bytes = (MOST_BYTES < length bytes) ⊎ IsNoProgram bytes
+abbrev pub AreBytesRefused : List ℕ → Type 0
+AreBytesRefused bytes = (MOST_BYTES < length bytes) ⊎ IsNoProgram bytes
 
 -- of bytes that were left the status is 3 where they are refused, and else 0, unless memory ran out
 abbrev pub Answers : List ℕ → ℕ → Type 0
 Answers bytes status =
-    status ≢ 6 → ((status ≡ 3) × IsRefused bytes) ⊎ ((status ≡ 0) × ¬ (IsRefused bytes))
+    status ≢ 6 → ((status ≡ 3) × AreBytesRefused bytes) ⊎ ((status ≡ 0) × ¬ (AreBytesRefused bytes))
 
 -- what is kept has a journal that is a run, and of callers in turn where one thread ran it
 abbrev pub KeepsRun : Kept → Type 0
@@ -99,11 +99,11 @@ KeepsCount kept = IfSome (world_of kept) (λ w.
     len w.state.handles + count_entries frees_handle w.journal
     ≡ count_entries makes_handle w.journal)
 
--- on status 0 the line of a load of so many rounds was written, in whatever order its callers came
+-- on status 0 the line of a load of this number of rounds was written, in whatever order its callers came
 abbrev pub HasLine : ℕ → SinkView → SinkView → ℕ → Type 0
 HasLine rounds before after status = status ≡ 0 → Took before after (line_of_rounds rounds)
 
--- What a call promises, for what its words ask (`None`: they are not lawful), by what was seen of
+-- What a call promises, for what its words ask (`None`: they are not valid), by what was seen of
 -- the source and the sink before it and after it.
 pub record Promise {S K : Type 0} (seen : S → SourceView) (shown : K → SinkView)
     (asked : Option Request) (source_old source_new : S) (sink_old sink_new : K)
@@ -114,7 +114,7 @@ pub record Promise {S K : Type 0} (seen : S → SourceView) (shown : K → SinkV
   -- on status 0 the script was run whole, and its text is written
   pub whole : o.status ≡ 0 → RunsWhole asked (seen source_old) (seen source_new) (shown sink_old)
       (shown sink_new) o.kept
-  -- each other status has a cause, and no other is answered
+  -- each other status has a cause, and no other is returned
   pub usage : o.status ≡ 2 → (asked ≡ None) × (o.kept ≡ Nothing)
   pub script : o.status ≡ 3 → AsksToRead asked
       × RefusesScript (seen source_old) (seen source_new) × (o.kept ≡ Nothing)
@@ -129,7 +129,7 @@ pub record Promise {S K : Type 0} (seen : S → SourceView) (shown : K → SinkV
   pub source_faults : o.status ≢ 4 → o.status ≢ 5 →
       (seen source_new).faults ≡ (seen source_old).faults
   pub sink_faults : o.status ≢ 5 → (shown sink_new).faults ≡ (shown sink_old).faults
-  -- words that are not lawful are refused, though that may fail to be written, and nothing is read; memory
+  -- words that are not valid are refused, though that may fail to be written, and nothing is read; memory
   -- may run out before
   pub words : asked ≡ None →
       (source_new ≡ source_old) × ((o.status ≡ 2) ⊎ (o.status ≡ 5) ⊎ (o.status ≡ 6))
@@ -139,7 +139,7 @@ pub record Promise {S K : Type 0} (seen : S → SourceView) (shown : K → SinkV
       HasLine r.rounds (shown sink_old) (shown sink_new) o.status)
   pub goes_on : AsksForLoad asked → ¬ (Rose (shown sink_old).faults (shown sink_new).faults) →
       (o.status ≡ 0) ⊎ (o.status ≡ 6)
-  -- of lawful words for a mode that reads, where nothing failed and the source tells its bytes
+  -- of valid words for a mode that reads, where nothing failed and the source states its bytes
   pub answers : AsksToRead asked →
       ¬ (Rose (seen source_old).faults (seen source_new).faults) →
       ¬ (Rose (shown sink_old).faults (shown sink_new).faults) →
@@ -156,12 +156,12 @@ pub record Together {K : Type 0} (shown : K → SinkView) (form : Form) (n : Num
   pub work : (ending : Ending) × RunCause mode.Run n lists ending
       × Reports (shown sink_old) (shown sink_new) form ending o
   -- on status 0 each caller did its whole list, in the journal of one run, and its text is written
-  pub whole : o.status ≡ 0 → (w : Standing) × (o.kept ≡ Shared w) × RanAllTogether n lists w
+  pub whole : o.status ≡ 0 → (w : WorldView) × (o.kept ≡ Shared w) × RanAllTogether n lists w
       × Took (shown sink_old) (shown sink_new) (whole_text form w)
-  -- each other status has a cause, and no other is answered
+  -- each other status has a cause, and no other is returned
   pub write : o.status ≡ 5 → Rose (shown sink_old).faults (shown sink_new).faults
   pub memory : o.status ≡ 6 →
-      ((o.kept ≡ Nothing) ⊎ ((w : Standing) × (o.kept ≡ Shared w) × StoppedTogether n lists w))
+      ((o.kept ≡ Nothing) ⊎ ((w : WorldView) × (o.kept ≡ Shared w) × StoppedTogether n lists w))
       × Took (shown sink_old) (shown sink_new) (stopped_text form (journal_in (world_of o.kept)))
   pub statuses : Contains (0 ∷ 5 ∷ 6 ∷ []) o.status
   pub sink_faults : o.status ≢ 5 → (shown sink_new).faults ≡ (shown sink_old).faults

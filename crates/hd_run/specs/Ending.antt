@@ -16,7 +16,7 @@ use Rattle.hd_io.specs.declared.source.ReadFault.TheVariants as read_fault
 use Rattle.hd_io.specs.Source.{SourceView, GaveAll, GaveCount, ReadBrokeOff}
 use Rattle.hd_script.specs.declared.fault.ScriptFault.{ScriptFault}
 use Rattle.hd_script.specs.declared.fault.ScriptFault.TheVariants as script_fault
-use Rattle.hd_world.specs.World.{Standing}
+use Rattle.hd_world.specs.World.{WorldView}
 use Rattle.hd_run.specs.declared.ending.Fault.{Fault}
 use Rattle.hd_run.specs.declared.ending.Fault.TheVariants.{Usage, Unread, OverSize, BadLine, NoMemory}
 use Rattle.hd_run.specs.declared.ending.Ran.{Ran}
@@ -32,18 +32,18 @@ use Rattle.hd_run.specs.Turns.{RanWhole, StoppedAt}
 use Rattle.hd_run.specs.Together.{RanAllTogether, StoppedTogether}
 
 -- the world of what is kept
-abbrev pub world_of : Kept → Option Standing
+abbrev pub world_of : Kept → Option WorldView
 world_of Nothing = None
 world_of (Alone w) = Some w
 world_of (Shared w) = Some w
 
 -- the journal of a world, if there is one
-abbrev pub journal_in : Option Standing → List Entry
+abbrev pub journal_in : Option WorldView → List Entry
 journal_in None = []
 journal_in (Some w) = w.journal
 
 -- the world that ran a script
-abbrev pub world_that : Ran → Standing
+abbrev pub world_that : Ran → WorldView
 world_that (ran.Alone w) = w
 world_that (ran.Shared w) = w
 world_that (ran.Rooted w roots) = w
@@ -60,6 +60,12 @@ kept_of (Refused fault) = Nothing
 kept_of (Stopped run) = kept_that run
 kept_of (Done run) = kept_that run
 
+-- an ending that keeps the world that ran
+abbrev pub Keeps : Ending → Type 0
+Keeps (Refused fault) = ⊥
+Keeps (Stopped run) = Unit {0}
+Keeps (Done run) = Unit {0}
+
 -- why nothing was run, where not all was read
 abbrev pub unread_fault : ReadFault → Fault
 unread_fault read_fault.Failed = Unread
@@ -71,18 +77,23 @@ abbrev pub unparsed_fault : ScriptFault → Fault
 unparsed_fault (script_fault.Line k) = BadLine k
 unparsed_fault script_fault.Memory = NoMemory
 
--- the ending of a run of one thread, which keeps its world: it took all turns, or stopped for want of memory
-abbrev pub ran_ending : Result (Unit {0}) Memory → Standing → Ending
+-- what bytes come to: the lists of a script, or why there are none
+abbrev pub script_or_fault : Result (List (List Cmd)) ScriptFault → Result (List (List Cmd)) Fault
+script_or_fault (Ok lists) = Ok lists
+script_or_fault (Err fault) = Err (unparsed_fault fault)
+
+-- the ending of a run of one thread, which keeps its world: it took all turns, or stopped because memory ran out
+abbrev pub ran_ending : Result (Unit {0}) Memory → WorldView → Ending
 ran_ending (Ok all) w = Done (ran.Alone w)
 ran_ending (Err memory) w = Stopped (ran.Alone w)
 
 -- and where it listed the roots of its world, or found no memory for them
-abbrev pub rooted_ending : Result (List RootId) Memory → Standing → Ending
+abbrev pub rooted_ending : Result (List RootId) Memory → WorldView → Ending
 rooted_ending (Ok roots) w = Done (ran.Rooted w roots)
 rooted_ending (Err memory) w = Stopped (ran.Alone w)
 
--- a run of callers in threads keeps its world: all went to their ends, or some stopped for want of memory
-abbrev pub together_ending : Bool → Standing → Ending
+-- a run of callers in threads keeps its world: all went to their ends, or some stopped because memory ran out
+abbrev pub together_ending : Bool → WorldView → Ending
 together_ending true w = Done (ran.Shared w)
 together_ending false w = Stopped (ran.Shared w)
 
@@ -153,7 +164,7 @@ StoppedBy Roots n lists (ran.Alone w) = StoppedAt n lists w ⊎ RanWhole n lists
 StoppedBy Roots n lists (ran.Shared w) = ⊥
 StoppedBy Roots n lists (ran.Rooted w roots) = ⊥
 
--- The cause of each fault of reading. Want of memory is free.
+-- The cause of each fault of reading. Out of memory is free.
 abbrev pub FaultCause : SourceView → SourceView → Fault → Type 0
 FaultCause old new Usage = ⊥
 FaultCause old new Unread = ReadBrokeOff old new MOST_BYTES
@@ -162,7 +173,7 @@ FaultCause old new (BadLine k) =
     (bytes : List ℕ) × ReadWhole old new bytes × (script_of bytes ≡ Err k)
 FaultCause old new NoMemory = GaveCount old new (λ n. n ≤ MOST_BYTES)
 
--- why no run is kept, by mode: `load` reads nothing, and nothing but want of memory keeps it from a run
+-- why no run is kept, by mode: `load` reads nothing, and only out of memory keeps it from a run
 abbrev pub RefusedBy : Mode → SourceView → SourceView → Fault → Type 0
 RefusedBy Solo old new fault = FaultCause old new fault
 RefusedBy Run old new fault = FaultCause old new fault
@@ -177,13 +188,13 @@ CauseBy mode r old new (Stopped run) = (lists : List (List Cmd)) × ScriptBy mod
 CauseBy mode r old new (Done run) = (lists : List (List Cmd)) × ScriptBy mode r old new lists
     × RanBy mode (numbers_by mode r lists) lists run
 
--- The cause of each ending, by what the words ask for. Words that aren't lawful are refused unread; memory may
+-- The cause of each ending, by what the words ask for. Words that aren't valid are refused unread; memory may
 -- run out as they are read.
 abbrev pub Cause : Option Request → SourceView → SourceView → Ending → Type 0
 Cause None old new ending = ((ending ≡ Refused Usage) ⊎ (ending ≡ Refused NoMemory)) × (new ≡ old)
 Cause (Some r) old new ending = CauseBy r.mode r old new ending
 
--- The cause of each ending of a run of these lists. Want of memory is free where no world is kept.
+-- The cause of each ending of a run of these lists. Out of memory is free where no world is kept.
 abbrev pub RunCause : Mode → Numbers → List (List Cmd) → Ending → Type 0
 RunCause mode n lists (Refused fault) = fault ≡ NoMemory
 RunCause mode n lists (Stopped run) = StoppedBy mode n lists run

@@ -5,3 +5,4 @@ pub mod Ending
 pub mod Report
 pub mod Claims
 pub mod Laws
+pub mod Still

@@ -1,4 +1,4 @@
--- What a call writes and answers. The texts and the statuses are this project's own.
+-- What a call writes and returns. The texts and the statuses are this project's own.
 use Rattle.std.specs.Prelude.{◌≡◌, ℕ, ◌^◌, ◌<◌, sum_by, List, ◌++◌, ◌⊎◌, codes, decimal, Option, None, Some, Result, MatchResult, All}
 use Rattle.hd_model.specs.declared.data.Entry.{Entry}
 use Rattle.hd_model.specs.declared.limits.TheConstants.{CALLERS}
@@ -6,7 +6,7 @@ use Rattle.hd_model.specs.Generated.{load_text_of, value_told}
 use Rattle.hd_model.specs.RootText.{list_text, roots_text}
 use Rattle.hd_model.specs.Text.{newline, lines_of, text_of}
 use Rattle.hd_io.specs.Sink.{SinkView, Took, WriteBrokeOff}
-use Rattle.hd_world.specs.World.{Standing}
+use Rattle.hd_world.specs.World.{WorldView}
 use Rattle.hd_run.specs.declared.ending.Fault.{Fault}
 use Rattle.hd_run.specs.declared.ending.Fault.TheVariants.{Usage, Unread, OverSize, BadLine, NoMemory}
 use Rattle.hd_run.specs.declared.ending.Ran.{Ran}
@@ -52,7 +52,7 @@ stopped_text Lines journal = lines_of journal ++ memory_text
 stopped_text Summary journal = memory_text
 
 -- what is written of a whole run: the text of its journal, or the line of a load
-abbrev pub whole_text : Form → Standing → List ℕ
+abbrev pub whole_text : Form → WorldView → List ℕ
 whole_text Lines w = text_of w.journal w.state
 whole_text Summary w = load_text_of w.journal w.state
 
@@ -63,7 +63,7 @@ ran_text form (ran.Shared w) = whole_text form w
 ran_text form (ran.Rooted w roots) = whole_text form w ++ list_text roots
 
 -- what each mode writes of a whole run
-abbrev pub text_by : Mode → Standing → List ℕ
+abbrev pub text_by : Mode → WorldView → List ℕ
 text_by Solo w = text_of w.journal w.state
 text_by Run w = text_of w.journal w.state
 text_by Load w = load_text_of w.journal w.state
@@ -75,7 +75,7 @@ text_for form (Refused fault) = fault_text fault
 text_for form (Stopped run) = stopped_text form (world_that run).journal
 text_for form (Done run) = ran_text form run
 
--- how each mode writes a run, and how words are answered that name none
+-- how each mode writes a run, and how a refusal of the words is written
 abbrev pub form_of : Mode → Form
 form_of Solo = Lines
 form_of Run = Lines
@@ -95,8 +95,8 @@ Writes old new text result =
 abbrev pub HasFewCallers : List Entry → Type 0
 HasFewCallers journal = All (λ (e : Entry). e.caller < CALLERS) journal
 
--- the sum that a load tells fits in 64 bits
-abbrev pub HasSum : Form → Standing → Type 0
+-- the sum that a load reports fits in 64 bits
+abbrev pub HasSum : Form → WorldView → Type 0
 HasSum Lines w = Unit {0}
 HasSum Summary w = sum_by (λ (e : Entry). value_told e.reply) w.journal < 2 ^ 64
 
@@ -106,7 +106,7 @@ IsWritable form (Stopped run) = Unit {0}
 IsWritable form (Done run) = HasSum form (world_that run)
 
 -- The ending is reported, and what it keeps is kept: all of its text is written and its status
--- answered; or a write failed after a prefix of the text, and the status is 5.
+-- returned; or a write failed after a prefix of the text, and the status is 5.
 pub record Reports (old new : SinkView) (form : Form) (ending : Ending) (o : Outcome) : Type 0 where
   pub kept : o.kept ≡ kept_of ending
   pub written :

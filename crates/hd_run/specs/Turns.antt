@@ -3,10 +3,11 @@
 use Rattle.std.specs.Prelude.{◌≡◌, ℕ, ◌+◌, ◌≤◌, List, [], ◌∷◌, ◌++◌, map, filter, length, slice_index_or, ◌==◌, IsTrue}
 use Rattle.hd_model.specs.declared.command.Cmd.{Cmd}
 use Rattle.hd_model.specs.declared.data.Entry.{Entry}
+use Rattle.hd_model.specs.declared.limits.TheConstants.{CALLERS}
 use Rattle.hd_model.specs.State.{Numbers}
 use Rattle.hd_model.specs.Run.{SoloRun}
 use Rattle.hd_model.specs.Valid.{takes_memory}
-use Rattle.hd_world.specs.World.{Standing, FitsHeap}
+use Rattle.hd_world.specs.World.{WorldView, FitsHeap}
 
 -- the commands of a caller in a script
 abbrev pub list_of : List (List Cmd) → ℕ → List Cmd
@@ -32,17 +33,17 @@ taken_by caller turns = map (λ (p : ℕ × Cmd). p.1) (filter (λ (p : ℕ × C
 -- A world that ran a script from the start, and has these turns left: its journal is a solo run,
 -- whose turns are a prefix of all turns of the script, and the ones that are left come after it.
 pub record RanUpTo (n : Numbers) (lists : List (List Cmd)) (left : List (ℕ × Cmd))
-    (w : Standing) : Type 0 where
+    (w : WorldView) : Type 0 where
   pub numbers : w.numbers ≡ n
   pub run : SoloRun n w.journal w.state
   pub turns : turns_from 0 lists ≡ map turn_of w.journal ++ left
 
 -- the whole script was run: no turn is left
-abbrev pub RanWhole : Numbers → List (List Cmd) → Standing → Type 0
+abbrev pub RanWhole : Numbers → List (List Cmd) → WorldView → Type 0
 RanWhole n lists w = RanUpTo n lists [] w
 
 -- the run stopped at a command that may take memory, and not for a full heap: that of the first turn left
-pub record StoppedAt (n : Numbers) (lists : List (List Cmd)) (w : Standing) : Type 0 where
+pub record StoppedAt (n : Numbers) (lists : List (List Cmd)) (w : WorldView) : Type 0 where
   pub next : ℕ × Cmd
   pub rest : List (ℕ × Cmd)
   pub ran : RanUpTo n lists (next ∷ rest) w
@@ -51,6 +52,12 @@ pub record StoppedAt (n : Numbers) (lists : List (List Cmd)) (w : Standing) : Ty
 
 -- a world that has turns left, and room for their entries
 pub record IsReadyFor (n : Numbers) (lists : List (List Cmd)) (left : List (ℕ × Cmd))
-    (w : Standing) : Type 0 where
+    (w : WorldView) : Type 0 where
   pub ran : RanUpTo n lists left w
   pub room : length left ≤ w.spare
+
+-- an empty world for a script, of at most as many callers as a world may have, with all its turns left
+pub record IsReadyToRun (lists : List (List Cmd)) (w : WorldView) : Type 0 where
+  pub few : length lists ≤ CALLERS
+  pub callers : w.numbers.callers ≡ length lists
+  pub ready : IsReadyFor w.numbers lists (turns_from 0 lists) w

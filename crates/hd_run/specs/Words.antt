@@ -1,12 +1,13 @@
 -- What the words of a command line ask for. The modes, the options and their limits are this project's own;
 -- which words a command takes, and which values it finds in them, is as `clap` has it.
-use Rattle.std.specs.Prelude.{◌≡◌, ◌⊎◌, ℕ, ◌≤◌, true, List, [], ◌∷◌, map, codes, Option, None, Some, String, string_bytes, option_map, option_and_then, if◌then◌else◌}
+use Rattle.std.specs.Prelude.{◌≡◌, ◌≢◌, ◌⊎◌, ℕ, ◌≤◌, true, List, [], ◌∷◌, map, codes, Option, None, Some, Result, Ok, Err, String, string_bytes, option_map, option_and_then, if◌then◌else◌}
 use Rattle.std.specs.Option.{option_map_or}
 use Rattle.std.specs.declared.alloc.Global.{Global}
 use Rattle.std.specs.Str.{bytes_eq}
 use Rattle.std.specs.Str.Parse.{digits_value, without_leading_plus}
 use Rattle.clap.specs.Words.{App, IsUnsignedIn, Row, Rule, Text, first_of, one_of, fault_of, matches_of, new_app, new_rule, one_text, with_rule}
 use Rattle.clap.specs.declared.error.kind.ErrorKind.{ErrorKind}
+use Rattle.clap.specs.declared.error.kind.ErrorKind.TheVariants.{OutOfMemory}
 use Rattle.clap.specs.declared.builder.value_parser.ValueParser.TheVariants.{Unsigned}
 use Rattle.clap.specs.declared.parser.matches.Found.{Found}
 use Rattle.hd_model.specs.declared.limits.TheConstants.{HEAP, BLOCKS, MOST_ROUNDS}
@@ -17,7 +18,7 @@ use Rattle.hd_run.specs.declared.request.Mode.{Mode}
 use Rattle.hd_run.specs.declared.request.Mode.TheVariants.{Solo, Run, Load, Roots}
 use Rattle.hd_run.specs.declared.request.Request.{Request}
 
--- a word that stands alone and is required: the mode
+-- a positional word, which is required: the mode
 abbrev pub mode_rule : Rule
 mode_rule = record (new_rule (codes "mode")) { required = true }
 
@@ -42,7 +43,7 @@ mode_of name = if bytes_eq name (codes "solo") then Some Solo
     else if bytes_eq name (codes "roots") then Some Roots
     else None
 
--- the number that a text of digits tells
+-- the number that a text of digits states
 abbrev pub number_in : Text → ℕ
 number_in text = digits_value 10 (without_leading_plus text)
 
@@ -68,7 +69,7 @@ abbrev pub unless_faulty : List ErrorKind → Option Request → Option Request
 unless_faulty [] asked = asked
 unless_faulty (fault ∷ more) asked = None
 
--- what words ask for, where they are lawful: the command takes them, and a mode is named
+-- what words ask for, where they are valid: the command takes them, and a mode is named
 unfoldable pub request_of : List (String Global) → Option Request
 request_of words = let texts = map string_bytes words in
     unless_faulty (fault_of program texts) (asked_by (matches_of program texts))
@@ -95,9 +96,19 @@ abbrev pub listing_of : Option Request → Option Request
 listing_of None = None
 listing_of (Some request) = if_roots request.mode request
 
--- why words are not answered: memory ran out, or they ask for nothing
+-- why words are refused: memory ran out, or they ask for nothing
 abbrev pub IsFaultOfWords : Option Request → Fault → Type 0
 IsFaultOfWords asked fault = (fault ≡ NoMemory) ⊎ ((fault ≡ Usage) × (asked ≡ None))
+
+-- what is asked for, or that nothing is
+abbrev pub request_or_usage : Option Request → Result Request Fault
+request_or_usage None = Err Usage
+request_or_usage (Some request) = Ok request
+
+-- why the command does not take words, by the kind of its error: memory ran out in it, or they are not valid
+abbrev pub IsRefusal : ErrorKind → Fault → Type 0
+IsRefusal kind fault =
+    ((fault ≡ NoMemory) × (kind ≡ OutOfMemory)) ⊎ ((fault ≡ Usage) × (kind ≢ OutOfMemory))
 
 -- the limits are ones that a run may have
 pub record IsInLimits (request : Request) : Type 0 where

@@ -29,13 +29,24 @@ pub(crate) enum Ran {
     Rooted(World, RootList),
 }
 
-/// How the work of a call ends, before its report is written, and what it keeps.
-#[derive(Drop)]
+/// How the work of a call ends, before its report is written, and what it keeps. One that keeps a
+/// world may not be dropped.
 pub(crate) enum Ending {
     Refused(Fault),
     /// Memory ran out.
     Stopped(Ran),
     Done(Ran),
+}
+
+impl Drop for Ending {
+    fn drop(self)
+        requires { kept_of self ≡ Kept.Nothing }
+    {
+        match self {
+            Ending::Refused(_fault) => {}
+            Ending::Stopped(_ran) | Ending::Done(_ran) => {}
+        }
+    }
 }
 
 impl Ran {
@@ -88,7 +99,7 @@ impl Ending {
         ensures { result ≡ kept_of self }
     {
         match self {
-            Ending::Refused(_) => Kept::Nothing,
+            Ending::Refused(_fault) => Kept::Nothing,
             Ending::Stopped(ran) | Ending::Done(ran) => ran.kept(),
         }
     }
@@ -115,7 +126,7 @@ pub(crate) fn unparsed(fault: ScriptFault) -> Fault
     }
 }
 
-/// A run of one thread came to its end, or stopped for want of memory.
+/// A run of one thread came to its end, or stopped because memory ran out.
 pub(crate) fn ended(taken: Result<(), Memory>, world: World) -> Ending
     ensures { result ≡ ran_ending taken world }
 {
@@ -125,7 +136,7 @@ pub(crate) fn ended(taken: Result<(), Memory>, world: World) -> Ending
     }
 }
 
-/// A run of one thread listed the roots of its world, or stopped for want of memory.
+/// A run of one thread listed the roots of its world, or stopped because memory ran out.
 pub(crate) fn rooted(listed: Result<RootList, Memory>, world: World) -> Ending
     ensures { result ≡ rooted_ending listed world }
 {
@@ -135,7 +146,7 @@ pub(crate) fn rooted(listed: Result<RootList, Memory>, world: World) -> Ending
     }
 }
 
-/// A run of callers in threads came to its end, or some of them stopped for want of memory.
+/// A run of callers in threads came to its end, or some of them stopped because memory ran out.
 pub(crate) fn ended_together(done: bool, closed: Closed) -> Ending
     ensures { result ≡ together_ending done closed }
 {

@@ -15,6 +15,7 @@ mod outcome;
 mod report;
 mod request;
 mod root_list;
+mod still;
 mod summary;
 mod threads;
 mod turns;
@@ -28,11 +29,12 @@ use crate::work::{read_script, run_alone, run_rooted};
 use hd_io::{Pace, Sink, Source};
 use hd_model::limits::{BLOCKS, HEAP, MOST_ROUNDS};
 use hd_script::{Scripts, generate};
-pub use laws::parts_follow_the_turns;
+pub use laws::{limits_are_these, parts_follow_the_turns};
 pub use outcome::{Kept, Outcome};
 use std::alloc::Global;
 use std::sync::Wait;
 use std::thread::Threads;
+pub use still::still_ends_never_fail;
 
 /// The program: reads its words, the program's name first, and does what they say, in the mode that
 /// they name: `solo`, `run`, `load` or `roots`. It may start threads and wait for them, so what it
@@ -94,7 +96,7 @@ pub fn roots<R: Threads + Sync, S: Source, K: Sink>(
 
 /// Runs a script by a thread for each of its callers, over a heap of at most `heap` cells, 3 to
 /// 1,000,000, and a table of `blocks` blocks, 1 to 256, and writes what `solo` would write of its
-/// journal. A caller that finds no memory stops, and the others go on.
+/// journal. A caller that finds no memory stops.
 pub fn run<R: Threads + Wait + Sync, K: Sink, P: Pace>(
     rt: &R,
     alloc: Global,

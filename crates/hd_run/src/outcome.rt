@@ -11,7 +11,7 @@ pub enum Kept {
 }
 
 /// How a call ended: its status, and what it keeps. The status is 0 after a whole run, 2 for words
-/// that are not lawful, 3 for bytes that are no script, 4 for a fault of the source, 5 for one of
+/// that are not valid, 3 for bytes that are no script, 4 for a fault of the source, 5 for one of
 /// the sink, and 6 where memory ran out.
 #[derive(Drop)]
 pub struct Outcome {

@@ -28,7 +28,7 @@ pub(crate) enum Form {
     Summary,
 }
 
-/// Writes what an ending has to say, and answers its status and what it keeps.
+/// Writes what an ending has to say, and returns its status and what it keeps.
 pub(crate) fn report<K: Sink>(sink: &mut K, form: Form, ending: Ending) -> Outcome
     requires callers { HasFewCallers (journal_in (world_of (kept_of ending))) }
     requires sum { IsWritable form ending }
@@ -81,7 +81,7 @@ fn write_ran<K: Sink>(sink: &mut K, form: Form, ran: &Ran) -> Result<(), Failed>
 }
 
 // What is written of a whole run, and then the lines of its roots.
-#[tactic(auto, using(hd_io::proofs::Appending::appending))]
+#[tactic(auto, using(hd_io::proofs::SinkPieces::appending))]
 fn write_rooted<K: Sink>(
     sink: &mut K,
     form: Form,
@@ -113,7 +113,7 @@ fn write_whole<K: Sink>(sink: &mut K, form: Form, world: &World) -> Result<(), F
 }
 
 // The lines of a journal, and then a last one.
-#[tactic(auto, using(hd_io::proofs::Appending::appending))]
+#[tactic(auto, using(hd_io::proofs::SinkPieces::appending))]
 fn write_lines<K: Sink>(sink: &mut K, journal: &Journal, last: &[u8]) -> Result<(), Failed>
     requires { HasFewCallers journal.now.entries }
     ensures { Writes (K.seen sink.old) (K.seen sink.new)

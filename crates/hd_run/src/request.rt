@@ -1,7 +1,7 @@
-ghost use Rattle.std.specs.Prelude.{◌≡◌, ◌≢◌, ◌⊎◌, false, Some, ◌^◌, ◌-◌, IfOk, IfErr, IfSome};
+ghost use Rattle.std.specs.Prelude.{◌≡◌, false, Some, ◌^◌, ◌-◌, IfOk, IfErr, IsErrAnd, IfSome};
 ghost use Rattle.clap.specs.Words.{app_of, rule_of, found_of, kind_of, rows_of};
 ghost use Rattle.hd_run.specs.Words.{request_of, solo_of, listing_of, asked_by, number_rule, program, mode_of};
-ghost use Rattle.hd_run.specs.Words.{number_of};
+ghost use Rattle.hd_run.specs.Words.{number_of, request_or_usage, IsRefusal};
 ghost use Rattle.hd_run.specs.Words.{IsFaultOfWords, IsInLimits, GivesNumbers, GivesNumber};
 
 use crate::ending::Fault;
@@ -14,7 +14,7 @@ use std::alloc::{AllocError, Global};
 // The cells of a heap, at least: those of an object without fields.
 const LEAST_HEAP: u32 = 3;
 
-// The rounds of a load where the words name no number.
+// The rounds of a load where the words give no number.
 const ROUNDS: u32 = 100;
 
 /// The modes of the program.
@@ -35,7 +35,7 @@ pub(crate) struct Request {
     pub(crate) rounds: u32,
 }
 
-/// What the words ask for, where they are lawful.
+/// What the words ask for, where they are valid.
 pub(crate) fn read_words(alloc: Global, words: &[String]) -> Result<Request, Fault>
     ensures value { IfOk result (λ r. Some r ≡ request_of words.now) }
     ensures limits { IfOk result IsInLimits }
@@ -44,13 +44,10 @@ pub(crate) fn read_words(alloc: Global, words: &[String]) -> Result<Request, Fau
     let Ok(command) = command(alloc) else {
         return Err(Fault::NoMemory);
     };
-    match command.try_get_matches_from(words) {
-        Ok(matches) => asked_by(&matches).ok_or(Fault::Usage),
-        Err(error) => Err(refusal(&error)),
-    }
+    request_or_fault(command.try_get_matches_from(words))
 }
 
-/// What the words ask for, where they are lawful and name the mode `solo`.
+/// What the words ask for, where they are valid and name the mode `solo`.
 pub(crate) fn read_solo_words(alloc: Global, words: &[String]) -> Result<Request, Fault>
     ensures value { IfOk result (λ r. Some r ≡ solo_of (request_of words.now)) }
     ensures limits { IfOk result IsInLimits }
@@ -63,7 +60,7 @@ pub(crate) fn read_solo_words(alloc: Global, words: &[String]) -> Result<Request
     }
 }
 
-/// What the words ask for, where they are lawful and name the mode `roots`.
+/// What the words ask for, where they are valid and name the mode `roots`.
 pub(crate) fn read_roots_words(alloc: Global, words: &[String]) -> Result<Request, Fault>
     ensures value { IfOk result (λ r. Some r ≡ listing_of (request_of words.now)) }
     ensures limits { IfOk result IsInLimits }
@@ -76,10 +73,23 @@ pub(crate) fn read_roots_words(alloc: Global, words: &[String]) -> Result<Reques
     }
 }
 
-// Words that the command does not take are not lawful.
+// What the words come to, by what the command finds in them. Memory ran out only where it ran out
+// in the command.
+fn request_or_fault(taken: Result<ArgMatches, Error>) -> Result<Request, Fault>
+    requires { IfOk taken (λ m. GivesNumbers (found_of m)) }
+    ensures matches { IfOk taken.entry (λ m. result ≡ request_or_usage (asked_by (rows_of (found_of m)))) }
+    ensures limits { IfOk result IsInLimits }
+    ensures error { IfErr taken.entry (λ e. IsErrAnd result (IsRefusal (kind_of e))) }
+{
+    match taken {
+        Ok(matches) => asked_by(&matches).ok_or(Fault::Usage),
+        Err(error) => Err(refusal(&error)),
+    }
+}
+
+// Words that the command does not take are not valid.
 fn refusal(error: &Error) -> Fault
-    ensures { ((result ≡ Fault.NoMemory) × (kind_of error.now ≡ ErrorKind.OutOfMemory))
-        ⊎ ((result ≡ Fault.Usage) × (kind_of error.now ≢ ErrorKind.OutOfMemory)) }
+    ensures { IsRefusal (kind_of error.now) result }
 {
     match error.kind() {
         ErrorKind::OutOfMemory => Fault::NoMemory,
@@ -136,7 +146,7 @@ fn mode_of(name: &str) -> Option<Mode>
     }
 }
 
-// The number of an option, or its default where the words name none.
+// The number of an option, or its default where the words give none.
 fn number_of(matches: &ArgMatches, name: &str, default: u32) -> u32
     requires { GivesNumber (found_of matches.now) name.now 0 (2 ^ 32 - 1) }
     ensures { result ≡ number_of (rows_of (found_of matches.now)) name.now default }

@@ -47,7 +47,7 @@ impl RootList {
 
     /// Writes the line of each root, and then the line with their number. Each line goes to the
     /// sink as one piece.
-    #[tactic(auto, using(hd_io::proofs::Appending::appending))]
+    #[tactic(auto, using(hd_io::proofs::SinkPieces::appending))]
     pub(crate) fn write<K: Sink>(&self, sink: &mut K) -> Result<(), Failed>
         ensures { Writes (K.seen sink.old) (K.seen sink.new) (list_text self.now) result }
     {

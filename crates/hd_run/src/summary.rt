@@ -58,7 +58,7 @@ fn sum(journal: &Journal) -> u64
     sum
 }
 
-// The value that a reply tells, or 0.
+// The value that a reply states, or 0.
 fn value_told(reply: Reply) -> u64
     ensures { result ≡ value_told reply }
 {

@@ -1,11 +1,10 @@
 // The callers of a script in threads of their own.
 ghost use Rattle.std.specs.Prelude.{◌≡◌, ◌<◌, ◌≤◌, [], length, map, All, Any, IfOk, MatchBool};
-ghost use Rattle.hd_gate.specs.Shared.{AreAll, Begin};
 ghost use Rattle.hd_run.specs.declared.request.TheConstants.{LEAST_HEAP};
 ghost use Rattle.hd_run.specs.declared.request.Mode.TheVariants.{Run};
-ghost use Rattle.hd_run.specs.Ending.{RunCause, numbers_for, world_of, kept_of, journal_in};
+ghost use Rattle.hd_run.specs.Ending.{RunCause, Keeps, numbers_for, world_of, kept_of, journal_in};
 ghost use Rattle.hd_run.specs.Report.{HasFewCallers};
-ghost use Rattle.hd_run.specs.Together.{IsReadyToPlay, HasPlayed, HavePlayed};
+ghost use Rattle.hd_run.specs.Together.{IsReadyToPlay, AreReadyToPlay, HasPlayed, HavePlayed};
 ghost use Rattle.hd_run.specs.Turns.{list_of};
 
 use crate::ending::{Ending, Fault, ended_together};
@@ -20,8 +19,7 @@ use std::sync::Wait;
 use std::thread;
 use std::thread::Threads;
 
-/// Runs a script by a thread for each of its callers. A caller that finds no memory stops, and the
-/// others go on.
+/// Runs a script by a thread for each of its callers. A caller that finds no memory stops.
 pub(crate) fn run_callers<R: Threads + Wait + Sync, P: Pace>(
     rt: &R,
     alloc: Global,
@@ -35,32 +33,60 @@ pub(crate) fn run_callers<R: Threads + Wait + Sync, P: Pace>(
     ensures cause { RunCause Run (numbers_for heap blocks scripts.now) scripts.now result }
     ensures callers { HasFewCallers (journal_in (world_of (kept_of result))) }
 {
-    let Ok((shared, mut callers)) = share(alloc, scripts, heap, blocks) else {
-        return Ending::Refused(Fault::NoMemory);
-    };
-    let done = play_all(rt, &shared, &mut callers, scripts, pace);
-    ended_together(done, shared.close(callers))
+    match Team::open(alloc, scripts, heap, blocks) {
+        Ok(team) => team.run(rt, scripts, pace),
+        Err(Memory) => Ending::Refused(Fault::NoMemory),
+    }
 }
 
-// An empty world that is shared, with a caller for each list, which has room for it.
-fn share(
-    alloc: Global,
-    scripts: &Scripts,
-    heap: u32,
-    blocks: u32,
-) -> Result<(Shared, Callers), Memory>
-    requires heap { (LEAST_HEAP ≤ heap) × (heap ≤ HEAP) }
-    requires blocks { (1 ≤ blocks) × (blocks ≤ BLOCKS) }
-    ensures numbers { IfOk result (λ r. r.0.numbers ≡ numbers_for heap blocks scripts.now) }
-    ensures few { IfOk result (λ r. length scripts.now ≤ CALLERS) }
-    ensures all { IfOk result (λ r. AreAll r.0 r.1) }
-    ensures begin { IfOk result (λ r. Begin (map length scripts.now) r.1) }
-{
-    let Ok(rooms) = rooms(alloc, scripts) else {
-        return Err(Memory);
-    };
-    let world = World::open(alloc, heap, blocks, scripts.callers(), scripts.total())?;
-    Shared::open(alloc, world, blocks, &rooms)
+// A shared world and all its callers. It may be dropped only while none of them has done anything.
+struct Team {
+    shared: Shared,
+    callers: Callers,
+}
+
+impl Drop for Team {
+    fn drop(self)
+        requires { All (λ p. p.part ≡ []) self.callers }
+    {
+        let Team {
+            shared: _shared,
+            callers: _callers,
+        } = self;
+    }
+}
+
+impl Team {
+    // An empty world that is shared, with a caller for each list, which has room for it.
+    fn open(alloc: Global, scripts: &Scripts, heap: u32, blocks: u32) -> Result<Team, Memory>
+        requires heap { (LEAST_HEAP ≤ heap) × (heap ≤ HEAP) }
+        requires blocks { (1 ≤ blocks) × (blocks ≤ BLOCKS) }
+        ensures numbers { IfOk result (λ t.
+            t.shared.numbers ≡ numbers_for heap blocks scripts.now) }
+        ensures ready { IfOk result (λ t. AreReadyToPlay scripts.now t.shared t.callers) }
+    {
+        let Ok(rooms) = rooms(alloc, scripts) else {
+            return Err(Memory);
+        };
+        let world = World::open(alloc, heap, blocks, scripts.callers(), scripts.total())?;
+        let (shared, callers) = Shared::open(alloc, world, blocks, &rooms)?;
+        Ok(Team { shared, callers })
+    }
+
+    // Has each caller do its list, and ends with the world, whatever became of them.
+    fn run<R: Threads + Wait + Sync, P: Pace>(self, rt: &R, scripts: &Scripts, pace: &P) -> Ending
+        requires { AreReadyToPlay scripts.now self.shared self.callers }
+        ensures kept { Keeps result }
+        ensures cause { RunCause Run self.shared.numbers scripts.now result }
+        ensures callers { HasFewCallers (journal_in (world_of (kept_of result))) }
+    {
+        let Team {
+            shared,
+            mut callers,
+        } = self;
+        let done = play_all(rt, &shared, &mut callers, scripts, pace);
+        ended_together(done, shared.close(callers))
+    }
 }
 
 // The number of commands of each caller.
@@ -74,7 +100,7 @@ fn rooms(alloc: Global, scripts: &Scripts) -> Result<Vec<u32>, AllocError>
     Ok(rooms)
 }
 
-// Has each caller do its list, in a thread of its own, and tells whether all went to their ends.
+// Has each caller do its list, in a thread of its own, and returns whether all did it whole.
 fn play_all<R: Threads + Wait + Sync, P: Pace>(
     rt: &R,
     shared: &Shared,

@@ -1,19 +1,16 @@
-ghost use Rattle.std.specs.Prelude.{◌≡◌, ◌≤◌, IfOk, IfErr, IsOk};
-ghost use Rattle.hd_model.specs.RootText.{roots_of};
+ghost use Rattle.std.specs.Prelude.{◌≡◌, ◌≤◌, IfOk, IfErr};
 ghost use Rattle.hd_run.specs.declared.request.TheConstants.{LEAST_HEAP};
 ghost use Rattle.hd_run.specs.declared.request.Mode.TheVariants.{Solo, Roots};
 ghost use Rattle.hd_run.specs.Ending.{FaultCause, ReadProgram, RunCause, numbers_for};
-ghost use Rattle.hd_run.specs.Ending.{world_of, kept_of, journal_in};
+ghost use Rattle.hd_run.specs.Ending.{world_of, kept_of, journal_in, script_or_fault};
 ghost use Rattle.hd_run.specs.Report.{HasFewCallers};
 
-use crate::ending::{Ending, Fault, ended, rooted, unparsed, unread};
-use crate::root_list::RootList;
-use crate::turns::{open, take_turns};
+use crate::ending::{Ending, Fault, unparsed, unread};
+use crate::turns::Opened;
 use hd_io::{Source, read_all};
 use hd_model::Memory;
 use hd_model::limits::{BLOCKS, HEAP, MOST_BYTES};
-use hd_script::{Scripts, parse};
-use hd_world::World;
+use hd_script::{ScriptFault, Scripts, parse};
 use std::alloc::Global;
 use std::thread::Threads;
 
@@ -22,11 +19,17 @@ pub(crate) fn read_script<S: Source>(alloc: Global, source: &mut S) -> Result<Sc
     ensures read { IfOk result (ReadProgram (S.seen source.old) (S.seen source.new)) }
     ensures fault { IfErr result (FaultCause (S.seen source.old) (S.seen source.new)) }
 {
-    let bytes = match read_all(alloc, source, MOST_BYTES) {
-        Ok(bytes) => bytes,
-        Err(fault) => return Err(unread(fault)),
-    };
-    match parse(alloc, &bytes) {
+    match read_all(alloc, source, MOST_BYTES) {
+        Ok(bytes) => script_or_fault(parse(alloc, &bytes)),
+        Err(fault) => Err(unread(fault)),
+    }
+}
+
+// What bytes come to.
+fn script_or_fault(parsed: Result<Scripts, ScriptFault>) -> Result<Scripts, Fault>
+    ensures { result ≡ script_or_fault parsed }
+{
+    match parsed {
         Ok(scripts) => Ok(scripts),
         Err(fault) => Err(unparsed(fault)),
     }
@@ -39,11 +42,10 @@ pub(crate) fn run_alone(alloc: Global, scripts: &Scripts, heap: u32, blocks: u32
     ensures cause { RunCause Solo (numbers_for heap blocks scripts.now) scripts.now result }
     ensures callers { HasFewCallers (journal_in (world_of (kept_of result))) }
 {
-    let Ok(mut alone) = open(alloc, scripts, heap, blocks) else {
-        return Ending::Refused(Fault::NoMemory);
-    };
-    let taken = take_turns(&mut alone, scripts);
-    ended(taken, alone.finish())
+    match Opened::open(alloc, scripts, heap, blocks) {
+        Ok(opened) => opened.run(scripts),
+        Err(Memory) => Ending::Refused(Fault::NoMemory),
+    }
 }
 
 /// Runs a script as `run_alone` does, and then lists the roots of its world.
@@ -59,24 +61,8 @@ pub(crate) fn run_rooted(
     ensures cause { RunCause Roots (numbers_for heap blocks scripts.now) scripts.now result }
     ensures callers { HasFewCallers (journal_in (world_of (kept_of result))) }
 {
-    let Ok(mut alone) = open(alloc, scripts, heap, blocks) else {
-        return Ending::Refused(Fault::NoMemory);
-    };
-    let taken = take_turns(&mut alone, scripts);
-    let world = alone.finish();
-    let listed = list_roots(rt, alloc, taken, &world);
-    rooted(listed, world)
-}
-
-// The roots of a world, if all turns were taken.
-fn list_roots(
-    rt: &(impl Threads + Sync),
-    alloc: Global,
-    taken: Result<(), Memory>,
-    world: &World,
-) -> Result<RootList, Memory>
-    ensures { IfOk result (λ list. IsOk taken × (list ≡ roots_of world.now.state)) }
-{
-    taken?;
-    RootList::of(rt, alloc, world)
+    match Opened::open(alloc, scripts, heap, blocks) {
+        Ok(opened) => opened.run_rooted(rt, alloc, scripts),
+        Err(Memory) => Ending::Refused(Fault::NoMemory),
+    }
 }

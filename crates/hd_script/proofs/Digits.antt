@@ -1,8 +1,8 @@
--- What decimal digits are worth, from left to right.
+-- The value of decimal digits, from left to right.
 use Rattle.std.proofs.Common.{◌≡◌, ℕ, ◌+◌, ◌-◌, ◌*◌, ◌<◌, ◌≤◌, true, false, ltb, leb, ◌&&◌, List, [], ◌∷◌, length, drop, get_or, Some, None, sym, ◌∙◌, arith, fold}
 use Rattle.std.specs.List.{list_all}
 use Rattle.std.specs.Char.{is_ascii_digit}
-use Rattle.std.proofs.lemmas.Bool.{cond-true, cond-false, and_left, and_right, and_from, lt-ltb, le-ltb, le-leb, lt-leb}
+use Rattle.std.proofs.lemmas.Bool.{cond-true, cond-false, and_right, and_from, lt-ltb, le-leb, lt-leb}
 use Rattle.std.proofs.lemmas.List.{at_drop_more}
 use Rattle.hd_model.specs.Grammar.{value_of, number_of}
 
@@ -10,7 +10,7 @@ use Rattle.hd_model.specs.Grammar.{value_of, number_of}
 abbrev pub with_digit : ℕ → ℕ → ℕ
 with_digit n b = n * 10 + (b - 48)
 
--- more digits make no number less
+-- more digits make no number smaller
 pub worth_grows : (n : ℕ) (bs : List ℕ) → n ≤ fold with_digit n bs
 worth_grows n [] = omega arith
 worth_grows n (b ∷ bs) = omega (arith, worth_grows (with_digit n b) bs)
@@ -23,18 +23,6 @@ unfolding number_of
 refused most word h = cond-false
     (ltb 0 (length word) && list_all is_ascii_digit word && leb (value_of word) most) (Some (value_of word))
     None h
-
-pub refused_empty : (most : ℕ) (word : List ℕ) → length word ≡ 0 → number_of most word ≡ None
-refused_empty most word h =
-    refused most word (and_left (ltb 0 (length word) && list_all is_ascii_digit word)
-    (leb (value_of word) most) (and_left (ltb 0 (length word)) (list_all is_ascii_digit word)
-    (le-ltb 0 (length word) (omega arith))))
-
-pub refused_digit : (most : ℕ) (word : List ℕ) → list_all is_ascii_digit word ≡ false
-    → number_of most word ≡ None
-refused_digit most word h =
-    refused most word (and_left (ltb 0 (length word) && list_all is_ascii_digit word)
-    (leb (value_of word) most) (and_right (ltb 0 (length word)) (list_all is_ascii_digit word) h))
 
 pub refused_high : (most : ℕ) (word : List ℕ) → most < value_of word → number_of most word ≡ None
 refused_high most word h =
@@ -52,7 +40,7 @@ accepted most word some digits within =
     cond-true (ltb 0 (length word) && list_all is_ascii_digit word && leb (value_of word) most)
     (Some (value_of word)) None all
 
--- the next digit is part of what the word is worth
+-- the next digit is part of the value of the word
 pub next_digit : (word : List ℕ) (i value : ℕ) → i < length word
     → fold with_digit value (drop i word) ≡ value_of word → with_digit value (get_or word i 0) ≤ value_of word
 next_digit word i value within worth =

@@ -6,10 +6,10 @@ use Rattle.std.proofs.lemmas.List.Sums.{sum_by_push}
 use Rattle.hd_model.specs.declared.command.Cmd.{Cmd}
 use Rattle.hd_model.specs.Grammar.{Reading, blank, caller, command, readings_of, lists_of, first_fault, unless_fault, script_of}
 use Rattle.hd_model.specs.declared.limits.TheConstants.{MOST_COMMANDS}
-use Rattle.hd_script.proofs.Speakers.{parts_of_script}
+use Rattle.hd_script.proofs.CallerLines.{parts_of_script}
 use Rattle.hd_script.specs.Laws.{is_command, IsAtFault, IsFirstAtFault, FaultsComeFirst}
 
--- why a line is at fault, by what it says and the lines above it
+-- why a line is at fault, by its reading and the lines above it
 abbrev Why : Option Reading → List (Option Reading) → Type 0
 Why reading above = (reading ≡ None)
     ⊎ ((is_command reading ≡ true) × (MOST_COMMANDS ≤ count_by is_command above))
@@ -42,7 +42,7 @@ module _ (above rest all : List (Option Reading)) (reading : Option Reading)
       (λ many. inr (sym (ap is_command (at_here None)) ∙ many.0, (rw above_here at many.1)))
       fault.why
 
--- no line up to a place is at fault
+-- no line up to an index is at fault
 abbrev IsClean : List (Option Reading) → ℕ → Type 0
 IsClean all n = (place : ℕ) → place < n → IsAtFault all place → ⊥
 
@@ -50,7 +50,7 @@ abbrev Settles : List (Option Reading) → Option ℕ → Type 0
 Settles all None = (place : ℕ) → IsAtFault all place → ⊥
 Settles all (Some line) = IsFirstAtFault all line
 
--- the same of the next line
+-- the same for the next line
 next_clean : (above rest all : List (Option Reading)) (reading : Option Reading)
     → all ≡ above ++ reading ∷ rest → IsClean all (length above) → (Why reading above → ⊥)
     → IsClean all (length (above ++ reading ∷ []))

@@ -1,4 +1,4 @@
--- What the lists of a load hold, and what a journal holds whose parts they are.
+-- The counts of the lists of a load, and of a journal whose parts they are.
 use Rattle.std.proofs.Common.{◌≡◌, ℕ, suc, zero, ◌+◌, ◌*◌, ◌/◌, ◌%◌, ◌<◌, Bool, true, false, cond, eqb, List, [], ◌∷◌, length, get_or, All, refl, ap, ◌∙◌, arith}
 use Rattle.std.specs.Prelude.{sum_by}
 use Rattle.std.proofs.lemmas.Bool.{cond_both}
@@ -15,7 +15,7 @@ use Rattle.hd_model.specs.Text.{is_collect}
 use Rattle.hd_model.specs.Touched.{touched_by}
 use Rattle.hd_model.specs.Generated.{collection_after, make_of_round, round_of, generated_list, generated_lists, load_numbers}
 use Rattle.hd_script.proofs.LoadStep.{bit, written}
-use Rattle.hd_script.proofs.Rounds.{rounds_of, round_more, by_rounds, collected}
+use Rattle.hd_script.proofs.LoadRounds.{rounds_of, round_more, by_rounds, collected}
 
 -- ---- a sum over a journal is one over the parts of its callers
 

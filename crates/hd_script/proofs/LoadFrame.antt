@@ -1,4 +1,4 @@
--- The callers that do not move stand as before.
+-- The callers that do not move are where they were.
 use Rattle.std.proofs.Common.{◌≡◌, ℕ, ◌+◌, ◌*◌, ◌<◌, ◌≤◌, ◌⊎◌, List, length, length-set, set, Some, None, is_some, IsSome, sym, ap, ◌∙◌, subst, ⊎_elim, arith}
 use Rattle.std.proofs.lemmas.Bool.{cases_eq, false≢true}
 use Rattle.std.proofs.lemmas.List.{get_or-set_same, get_or-set_other}
@@ -7,7 +7,7 @@ use Rattle.hd_model.specs.declared.data.Slot.{Slot}
 use Rattle.hd_model.specs.State.{State, handle_register_of, handle_at, total_size}
 use Rattle.hd_model.specs.WellFormed.{IsWellFormed}
 use Rattle.hd_model.specs.Generated.{load_numbers}
-use Rattle.hd_script.proofs.LoadPlace.{Line, news, hnews, vals, hgets, reads, drops, others, frees, collects, Place, Owns, AnyValue, OwnsBy, Stands, Frame, nowhere, at, left_of, Fits}
+use Rattle.hd_script.proofs.LoadPosition.{Line, news, hnews, vals, hgets, reads, drops, others, frees, collects, Place, Owns, AnyValue, OwnsBy, Stands, Frame, nowhere, at, left_of, Fits}
 
 module _ (s t : State) (c d : ℕ) (frame : Frame s t c) (apart : d ≡ c → ⊥) where
   owns_stays : (V : ℕ → Type 0) → Owns s d V → Owns t d V
@@ -38,7 +38,7 @@ module _ (s t : State) (c d : ℕ) (frame : Frame s t c) (apart : d ≡ c → �
     live = λ x e. frame.live x (mine x e) (stands.live x e);
   }
 
--- one caller moves to its next place
+-- one caller moves to its next position
 module _ (s t : State) (places : List Place) (c : ℕ) (next : Place) (fits : Fits s places) (small : c < 4)
     (frame : Frame s t c) where
   within : c < length places
@@ -50,7 +50,7 @@ module _ (s t : State) (places : List Place) (c : ℕ) (next : Place) (fits : Fi
   beside : (d : ℕ) → (d ≡ c → ⊥) → at (set places c next) d ≡ at places d
   beside d apart = get_or-set_other places c d next nowhere apart
 
-  -- what the caller holds then it held before, or nobody did
+  -- the slot that the caller holds then it held before, or nobody did
   abbrev IsFresh : Type 0
   IsFresh = (x : Slot) → next.held ≡ Some x → ((at places c).held ≡ Some x) ⊎ (handle_at s x ≡ None)
 

@@ -15,20 +15,17 @@ use Rattle.hd_model.specs.Text.{is_collect}
 use Rattle.hd_model.specs.Touched.{touched_by}
 use Rattle.hd_model.specs.Laws.{makes_object, count_entries}
 use Rattle.hd_model.specs.Generated.{load_numbers, load_text, load_text_of, value_told}
-use Rattle.hd_model.proofs.WellFormed.{start_is_well_formed}
-use Rattle.hd_model.proofs.Written.{replicate_cases}
-use Rattle.hd_model.proofs.Counts.{handles_are_made_less_freed}
+use Rattle.hd_model.proofs.WellFormedSteps.{start_is_well_formed}
+use Rattle.hd_model.proofs.ReadAfterWrite.{replicate_cases}
+use Rattle.hd_model.proofs.RunCounts.{handles_are_made_less_freed}
 use Rattle.hd_script.specs.Load.{IsLoadRun, collections_in, line_of_rounds, LoadsHaveTheirLine}
-use Rattle.hd_script.proofs.Rounds.{rounds_of, rounds_length}
-use Rattle.hd_script.proofs.LoadPlace.{news, Place, left_at, pending, holding, Stands, nowhere, at, left_of, Fits}
+use Rattle.hd_script.proofs.LoadRounds.{rounds_of, rounds_length}
+use Rattle.hd_script.proofs.LoadPosition.{news, Place, left_at, pending, holding, Stands, nowhere, at, left_of, Fits}
 use Rattle.hd_script.proofs.LoadStep.{bit, written, place}
 use Rattle.hd_script.proofs.LoadRun.{Totals, totals}
 use Rattle.hd_script.proofs.LoadCount.{by_parts, callers_small, sum_ones, list_of_caller, collects_in, news_in, written_in}
 
 -- ---- the start
-
-start : State
-start = start_of load_numbers
 
 nothing_used : total_size (start_of load_numbers) ≡ 0
 nothing_used =

@@ -1,4 +1,4 @@
--- What a run of a load comes to, from any state that it reaches.
+-- The numbers at the end of a run of a load, from any state that it reaches.
 use Rattle.std.proofs.Common.{◌≡◌, ℕ, suc, zero, ◌+◌, ◌*◌, ◌<◌, ◌≤◌, eqb, List, [], ◌∷◌, length, set, Option, Some, None, refl, sym, ap, ◌∙◌, subst, ⊎_elim, arith}
 use Rattle.std.specs.Prelude.{sum_by}
 use Rattle.std.proofs.lemmas.Bool.{cases_eq, cond-true, cond-false, eq-eqb, ne_eqb}
@@ -15,8 +15,8 @@ use Rattle.hd_model.specs.Run.{Chain, stay, link, part_of, commands_of}
 use Rattle.hd_model.specs.Touched.{touched_by}
 use Rattle.hd_model.specs.Laws.{makes_object, makes_handle, frees_handle, count_entries}
 use Rattle.hd_model.specs.Generated.{value_told, load_numbers}
-use Rattle.hd_model.proofs.WellFormed.{step_keeps}
-use Rattle.hd_script.proofs.LoadPlace.{Line, news, hnews, vals, hgets, reads, drops, others, frees, collects, Place, left_by, left_at, pending, one_if_some, holding, Stands, nowhere, at, left_of, Fits}
+use Rattle.hd_model.proofs.WellFormedSteps.{step_keeps}
+use Rattle.hd_script.proofs.LoadPosition.{Line, news, hnews, vals, hgets, reads, drops, others, frees, collects, Place, left_by, left_at, pending, one_if_some, holding, Stands, nowhere, at, left_of, Fits}
 use Rattle.hd_script.proofs.LoadFrame.{fits_moved}
 use Rattle.hd_script.proofs.LoadStep.{bit, written, place, Does, does_new, does_hnew, does_val, does_hget, does_read, does_drop, does_other, does_free, does_collect}
 
@@ -177,7 +177,7 @@ module _ (s t : State) (e : Entry) (es : List Entry) (places : List Place) (fits
     );
   }
 
--- from wherever the callers stand, a run of the commands that are left comes to these numbers
+-- from any positions of the callers, a run of the commands that are left ends with these numbers
 pub totals : {s t : State} {es : List Entry} → Chain (Step load_numbers) s es t → (places : List Place)
     → Fits s places → Follow es places → Totals es places
 totals (stay {s = s}) places fits follow =

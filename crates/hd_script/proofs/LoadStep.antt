@@ -27,14 +27,14 @@ use Rattle.hd_model.specs.Touched.{touched_by}
 use Rattle.hd_model.specs.Laws.{makes_object, makes_handle, frees_handle}
 use Rattle.hd_model.specs.Generated.{make_of_round, value_told, load_numbers}
 use Rattle.hd_model.proofs.Effects.{growth_is}
-use Rattle.hd_model.proofs.Whole.{register_named, whole_scene}
-use Rattle.hd_model.proofs.Collecting.{keeps_root, object_after}
+use Rattle.hd_model.proofs.WholeScenes.{register_named, whole_scene}
+use Rattle.hd_model.proofs.SceneCollection.{keeps_root, object_after}
 use Rattle.hd_model.proofs.Outcomes.{test_cases, on_object_cases, on_handle_cases}
-use Rattle.hd_model.proofs.WellFormed.{has}
-use Rattle.hd_model.proofs.Counts.{fresh, given_vacant}
+use Rattle.hd_model.proofs.WellFormedSteps.{has}
+use Rattle.hd_model.proofs.RunCounts.{fresh, given_vacant}
 use Rattle.hd_model.proofs.Sums.{share, sum-insert, sum-le}
-use Rattle.hd_model.proofs.Written.{cell_here, get_inserted, get_beside, get_left, still_some}
-use Rattle.hd_script.proofs.LoadPlace.{Line, news, hnews, vals, hgets, reads, drops, others, frees, collects, Place, rounds_from, left_at, after_round, left_after_round, pending, one_if_some, holding, Owns, Stands, Frame}
+use Rattle.hd_model.proofs.ReadAfterWrite.{cell_here, get_inserted, get_beside, get_left, still_some}
+use Rattle.hd_script.proofs.LoadPosition.{Line, news, hnews, vals, hgets, reads, drops, others, frees, collects, Place, rounds_from, left_at, after_round, left_after_round, pending, one_if_some, holding, Owns, Stands, Frame}
 
 -- 1 for a test that passes
 abbrev pub bit : Bool → ℕ
@@ -48,7 +48,7 @@ written _ = 0
 abbrev pub place : Line → ℕ → ℕ → Option Slot → Place
 place line j m h = record { line = line; round = j; left = m; held = h }
 
--- a step by command x with reply r leads the caller from place p to the next one
+-- a step by command x with reply r leads the caller from position p to the next one
 pub record Does (s t : State) (c : ℕ) (p : Place) (x : Cmd) (r : Reply) : Type 0 where
   pub next : Place
   pub rest : left_at c p ≡ x ∷ left_at c next
@@ -131,7 +131,7 @@ module _ (s : State) (c : ℕ) (small : c < 4) (well : IsWellFormed load_numbers
 
 -- ---- a step by each line
 
--- what an outcome does, its step does
+-- an outcome's step does what the outcome does
 carry : (s t : State) (e : Entry) (c : ℕ) (p : Place) (x : Cmd) (w : Outcome) → Does s w.after c p x w.reply
     → IsOutcome e w t → Does s t c p x e.reply
 carry s t e c p x w does o =
@@ -148,7 +148,7 @@ some_object s id there = by (get s.objects id.0) there
     by (Some object) h = refl
 
 module _ (s : State) (c : ℕ) (small : c < 4) (well : IsWellFormed load_numbers s) (j m : ℕ) where
-  -- `new`: r0 names a new object
+  -- `new`: r0 references a new object
   made_new : Stands s c (place news j (suc m) None) → last_serial s c + 1 < 2 ^ 32 →
       (let id = identity_of c (last_serial s c + 1) in
       let made = with_serial (with_object s id (fresh_object ((c + j) % 8) false)) c
@@ -375,7 +375,7 @@ module _ (s : State) (c : ℕ) (small : c < 4) (well : IsWellFormed load_numbers
         handles = omega arith;
       }
 
-  -- `read`: the number of the round is told
+  -- `read`: the number of the round is read
   pub does_read : (t : State) (e : Entry) (h : Option Slot) → e.caller ≡ c → Stands s c (place reads j m h) →
       StepOf load_numbers s e t (cmd.Read 0) → Does s t c (place reads j m h) (cmd.Read 0) e.reply
   does_read t e h is stands step =
@@ -520,7 +520,7 @@ module _ (s : State) (c : ℕ) (small : c < 4) (well : IsWellFormed load_numbers
           (handle_register_here s c small well None) (omega arith) refl
           (omega (arith, ap one_if_some (sym stands.held ∙ has)))
 
-  -- `collect`: what registers name is kept with its value, no live slot ends, and no object grows
+  -- `collect`: what registers reference is kept with its value, no live slot is freed, and no object grows
   pub does_collect : (t : State) (e : Entry) → e.caller ≡ c → Stands s c (place collects j m None) →
       StepOf load_numbers s e t (cmd.Collect (j % 3))
       → Does s t c (place collects j m None) (cmd.Collect (j % 3)) e.reply

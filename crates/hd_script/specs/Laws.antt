@@ -5,8 +5,8 @@ use Rattle.hd_model.specs.declared.command.Cmd.{Cmd}
 use Rattle.hd_model.specs.Grammar.{Reading, lines_in, words_of, readings_of, blank, caller, command, caller_after, command_in, script_of}
 use Rattle.hd_model.specs.declared.limits.TheConstants.{MOST_COMMANDS}
 
--- the bytes are lines that each end at a byte 10, and after them a last one without an end, which is a line
--- where it has a byte
+-- the bytes are lines that each end at a byte 10, and a last part without an end, which is a line if it has
+-- a byte
 pub record AreLinesOf (bytes : List ℕ) (found : List (List ℕ)) : Type 0 where
   pub ended : List (List ℕ)
   pub last : List ℕ
@@ -19,12 +19,11 @@ pub record AreLinesOf (bytes : List ℕ) (found : List (List ℕ)) : Type 0 wher
 abbrev pub LinesMakeTheBytes : Type 0
 LinesMakeTheBytes = (bytes : List ℕ) → AreLinesOf bytes (lines_in bytes)
 
--- whose line it is that stands after others: that of the caller whom the nearest `caller` line above names,
--- or of caller 0
+-- the caller of a line that follows others: that of the nearest `caller` line above, or caller 0
 abbrev pub caller_after_lines : List (Option Reading) → ℕ
 caller_after_lines above = fold caller_after 0 above
 
--- the command of a line, which goes by its place and what it says, where it is a command of this caller
+-- the command of a line, given as its index and its reading, if it is a command of this caller
 abbrev pub command_for : List (Option Reading) → ℕ → ℕ × Option Reading → Option Cmd
 command_for readings wanted line =
     if caller_after_lines (take line.0 readings) == wanted then command_in line.1 else None
@@ -41,7 +40,7 @@ abbrev pub has_words : List (List ℕ) → Bool
 has_words [] = false
 has_words (word ∷ words) = true
 
--- the words of the lines that have some
+-- the words of the lines that have words
 abbrev pub words_of_lines : List ℕ → List (List (List ℕ))
 words_of_lines bytes = filter has_words (map words_of (lines_in bytes))
 
@@ -57,7 +56,7 @@ is_command (Some blank) = false
 is_command (Some (caller n)) = false
 is_command (Some (command c)) = true
 
--- a line, by its place from 0, is at fault: it has no reading, or it is a command and too many stand above it
+-- a line, by its index from 0, is at fault: it has no reading, or it is a command and too many are above it
 pub record IsAtFault (readings : List (Option Reading)) (place : ℕ) : Type 0 where
   pub within : place < length readings
   pub why : (slice_index_or readings place (Some blank) ≡ None)

@@ -4,7 +4,7 @@ use Rattle.std.specs.declared.alloc.Global.{Global}
 use Rattle.hd_model.specs.declared.command.Cmd.{Cmd}
 use Rattle.hd_model.specs.Grammar.{AreLists}
 
--- the lists without where they lie in memory
+-- the contents of the lists in memory
 abbrev pub contents : List (Vec Cmd Global) → List (List Cmd)
 contents lists = map (λ list. list.items) lists
 
@@ -13,7 +13,7 @@ pub record AreCounted (lists : List (List Cmd)) (count : ℕ) : Type 0 where
   pub right : AreLists lists
   pub total : count ≡ sum_by length lists
 
--- the lists have as many more callers, without commands, as make a number of them
+-- the lists after callers without commands were added until there are `callers`
 pub record IsOpened (old new : List (List Cmd)) (callers : ℕ) : Type 0 where
   pub same : (wanted : ℕ) → slice_index_or new wanted [] ≡ slice_index_or old wanted []
   pub number : length new ≡ max (length old) callers

@@ -1,4 +1,4 @@
--- What the code's readings say, in the words of the grammar.
+-- The readings of the code, as readings of the grammar.
 use Rattle.std.specs.Prelude.{◌<◌}
 use Rattle.hd_model.specs.Grammar.{Reading as Said, blank, caller, command}
 use Rattle.hd_model.specs.declared.limits.TheConstants.{CALLERS}
@@ -6,7 +6,7 @@ use Rattle.hd_model.specs.Valid.{IsValid}
 use Rattle.hd_script.specs.declared.reading.Reading.{Reading}
 use Rattle.hd_script.specs.declared.reading.Reading.TheVariants.{Blank, Caller, Command}
 
--- what a reading says
+-- the grammar's reading
 abbrev pub seen : Reading → Said
 seen Blank = blank
 seen (Caller n) = caller n

@@ -6,7 +6,7 @@ use Rattle.hd_model.specs.Grammar.{is_blank}
 abbrev pub is_word_byte : ℕ → Bool
 is_word_byte b = not (is_blank b)
 
--- the bytes are none, or the first of them is one of a word
+-- there are no bytes, or the first one is a byte of a word
 abbrev pub BeginsWord : List ℕ → Type 0
 BeginsWord [] = Unit {0}
 BeginsWord (b ∷ bs) = is_blank b ≡ false

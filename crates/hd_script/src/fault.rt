@@ -7,11 +7,11 @@ use thiserror::Error;
 /// Why a script was not read.
 #[derive(Clone, Copy, Debug, PartialEq, Eq, Error)]
 pub enum ScriptFault {
-    /// The first line that has no reading, or that holds the 100,001st command. Lines are numbered
+    /// The first line that has no reading, or that is the 100,001st command. Lines are numbered
     /// from 1.
     #[error("line {0} has no reading, or one command too many")]
     Line(u32),
-    /// Want of memory, which says nothing of the script.
+    /// Out of memory. The script may be right or wrong.
     #[error("out of memory")]
     Memory,
 }

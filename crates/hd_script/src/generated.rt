@@ -1,4 +1,4 @@
-// The script of a load, which is made and not read.
+// The script of a load, which is generated and not read.
 ghost use Rattle.std.specs.Prelude.{◌≡◌, ◌≤◌, ◌<◌, ◌++◌, IfOk, OnOk};
 ghost use Rattle.hd_model.specs.Generated.{collection_after, round_of, generated_list, generated_lists};
 ghost use Rattle.hd_script.specs.Lists.{contents};
@@ -8,7 +8,7 @@ use hd_model::limits::{LOAD_CALLERS, MOST_ROUNDS, ROUNDS_TO_COLLECTION};
 use hd_model::{Cmd, Make, Memory, Strength};
 use std::alloc::{AllocError, Global};
 
-// What the rounds make in turn.
+// The handles that the rounds make in turn.
 const MAKES: [Make; 6] = [
     Make::Strong,
     Make::Pinned,
@@ -70,7 +70,7 @@ fn push_round(list: &mut Vec<Cmd>, caller: u32, round: u32) -> Result<(), AllocE
     Ok(())
 }
 
-// The commands of a caller in one round, but for the collection after it.
+// The commands of a caller in one round, without the collection after it.
 fn round_commands(caller: u32, round: u32) -> [Cmd; 8]
     requires caller { caller < LOAD_CALLERS }
     requires round { round ≤ MOST_ROUNDS }

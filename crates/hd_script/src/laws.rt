@@ -11,13 +11,13 @@ pub fn lists_follow_the_lines()
     ensures { ListsFollowTheLines }
 {}
 
-/// Comments, blanks, empty lines and the ways to end a line change no list.
+/// Comments, blanks, empty lines and the form of line ends change no list.
 pub fn words_decide()
     ensures { WordsDecide }
 {}
 
 /// A script is refused for the first line that has no reading or is a command with 100,000 above
-/// it, and where no line is such, it is not refused.
+/// it. If there is no such line, it is not refused.
 pub fn faults_come_first()
     ensures { FaultsComeFirst }
 {}

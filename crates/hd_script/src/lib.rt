@@ -1,5 +1,5 @@
-//! The scripts: texts of lines, each with a command of a caller. They are read into one list of
-//! commands per caller.
+//! Scripts: texts of lines, each with a command of a caller. They are read into one list of
+//! commands for each caller.
 #![tactic(auto)]
 
 mod fault;

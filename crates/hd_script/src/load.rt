@@ -2,8 +2,8 @@
 // law.
 ghost use Rattle.hd_script.specs.Load.{LoadsHaveTheirLine};
 
-/// Every run of the script of a load over 1,000,000 cells and 256 blocks prints one line, whatever
-/// the order in which its callers come.
+/// Every run of the script of a load, with a heap of 1,000,000 cells and a table of 256 blocks,
+/// prints the same line, whatever the order of its callers.
 pub fn loads_have_their_line()
     ensures { LoadsHaveTheirLine }
 {}

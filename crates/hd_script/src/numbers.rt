@@ -4,7 +4,7 @@ ghost use Rattle.hd_model.specs.Grammar.{number_of, register_in, object_register
 
 use hd_model::limits::REGISTERS;
 
-/// The last number of a register, of a static and of a place of the board.
+/// The highest index of a register, of a static and of the board.
 pub(crate) const LAST_REGISTER: u8 = REGISTERS as u8 - 1;
 
 /// The number that a word writes, where it is at most `most`.
@@ -26,7 +26,7 @@ pub(crate) fn number(word: &[u8], most: u64) -> Option<u64>
     if value <= most { Some(value) } else { None }
 }
 
-/// The same of a number that fits a byte.
+/// The same for a number that fits a byte.
 pub(crate) fn small(word: &[u8], most: u8) -> Option<u8>
     ensures value { result ≡ number_of most word.now }
     ensures bound { IfSome result (λ n. n ≤ most) }
@@ -35,7 +35,7 @@ pub(crate) fn small(word: &[u8], most: u8) -> Option<u8>
     Some(value as u8)
 }
 
-// The register that a word names, by its letter.
+// The register that a word denotes, by its letter.
 #[tactic(auto, unfolding(hd_model::specs::Grammar::register_in))]
 fn register(word: &[u8], letter: u8) -> Option<u8>
     ensures value { result ≡ register_in letter word.now }
@@ -49,7 +49,7 @@ fn register(word: &[u8], letter: u8) -> Option<u8>
     }
 }
 
-/// The object register that a word names.
+/// The object register that a word denotes.
 pub(crate) fn object(word: &[u8]) -> Option<u8>
     ensures value { result ≡ object_register_in word.now }
     ensures bound { IfSome result (λ n. n < REGISTERS) }
@@ -57,7 +57,7 @@ pub(crate) fn object(word: &[u8]) -> Option<u8>
     register(word, b'r')
 }
 
-/// The handle register that a word names.
+/// The handle register that a word denotes.
 pub(crate) fn handle(word: &[u8]) -> Option<u8>
     ensures value { result ≡ handle_register_in word.now }
     ensures bound { IfSome result (λ n. n < REGISTERS) }

@@ -9,12 +9,12 @@ use crate::text::first_line;
 use hd_model::limits::{MOST_BYTES, MOST_COMMANDS};
 use std::alloc::Global;
 
-/// Reads a script of at most 8,388,608 bytes. A line is one command, a comment, or `caller N`,
-/// which says whose commands follow.
+/// Reads a script of at most 8,388,608 bytes. A line is one command, a comment, or `caller N`: the
+/// commands of caller N follow.
 pub fn parse(alloc: Global, bytes: &[u8]) -> Result<Scripts, ScriptFault>
     requires { length bytes.now ≤ MOST_BYTES }
 
-    // `Ok` has the lists of the script, and `Line` the first line that has no reading or holds a
+    // `Ok` has the lists of the script, and `Line` the first line that has no reading or is one
     // command too many.
     ensures ok { IfOk result (IsScript bytes.now) }
     ensures line { IfErr result (IsFaultOf bytes.now) }

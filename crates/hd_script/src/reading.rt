@@ -1,4 +1,4 @@
-// What a line says. Each table is one function per number of words.
+// The reading of a line: blank, a caller or a command. Each function reads one number of words.
 ghost use Rattle.std.specs.Prelude.{◌≡◌, false, IfSome, bytes_eq, option_map};
 ghost use Rattle.hd_model.specs.Grammar as grammar;
 ghost use Rattle.hd_model.specs.Kinds.{is_paired};
@@ -10,12 +10,12 @@ use crate::text::{content, next_word};
 use hd_model::limits::{CALLERS, FIELDS, OLDEST};
 use hd_model::{Cmd, Kind, Make, Strength};
 
-// The last number of a caller, and the most fields of an object, as numbers that fit a byte.
+// The highest caller number and the largest number of fields, as numbers that fit a byte.
 const LAST_CALLER: u8 = CALLERS as u8 - 1;
 
 const MOST_FIELDS: u8 = FIELDS as u8;
 
-/// What a line says.
+/// The reading of a line.
 #[derive(Clone, Copy)]
 pub(crate) enum Reading {
     /// It has no words.
@@ -25,7 +25,7 @@ pub(crate) enum Reading {
     Command(Cmd),
 }
 
-/// What a line says, or none where it has no reading.
+/// The reading of a line, or none where it has none.
 #[tactic(auto, unfolding(hd_model::specs::Grammar::words_of))]
 pub(crate) fn read_line(line: &[u8]) -> Option<Reading>
     ensures exact { option_map seen result ≡ grammar.reading_of (grammar.words_of line.now) }
@@ -34,7 +34,7 @@ pub(crate) fn read_line(line: &[u8]) -> Option<Reading>
     read_words(content(line))
 }
 
-// What words say.
+// The reading of words.
 fn read_words(bytes: &[u8]) -> Option<Reading>
     ensures exact { option_map seen result ≡ grammar.reading_of (grammar.words_in bytes.now) }
     ensures valid { IfSome result IsValidReading }

@@ -47,7 +47,7 @@ impl Scripts {
         self.lists[caller as usize].len() as u32
     }
 
-    /// The command of a caller at a place, from 0.
+    /// The command of a caller at an index, from 0.
     pub fn cmd(&self, caller: u32, i: u32) -> Cmd
         requires caller { caller < length self.now }
         requires place { i < length (slice_index_or self.now caller []) }
@@ -65,7 +65,7 @@ impl Scripts {
         self.total
     }
 
-    /// The scripts of lists that are those of a script.
+    /// The scripts with these lists, which are those of a script.
     pub(crate) fn from_lists(lists: Vec<Vec<Cmd>>) -> Scripts
         requires { AreLists (contents lists.items) }
         ensures { result ≡ contents lists.items }

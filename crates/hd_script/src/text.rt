@@ -5,7 +5,7 @@ ghost use Rattle.std.specs.Str.Lines.{strip_carriage_return};
 ghost use Rattle.hd_model.specs.Grammar.{is_line_end, is_hash, is_blank, lines_in, words_in};
 ghost use Rattle.hd_script.specs.Words.{is_word_byte, BeginsWord};
 
-/// The first line, without its end, and what stands after it.
+/// The first line, without its end, and the bytes after it.
 pub(crate) fn first_line(bytes: &[u8]) -> (&[u8], &[u8])
     requires { 0 < length bytes.now }
     ensures lines { lines_in bytes.now ≡ result.0.now ∷ lines_in result.1.now }
@@ -24,7 +24,7 @@ fn line_end(bytes: &[u8]) -> Option<usize>
     bytes.iter().position(|b| *b == b'\n')
 }
 
-/// What a line has beside the carriage return at its end and its comment.
+/// A line without the carriage return at its end and without its comment.
 pub(crate) fn content(line: &[u8]) -> &[u8]
     ensures { result.now ≡ before_first is_hash (strip_carriage_return line.now) }
 {
@@ -54,7 +54,7 @@ fn without_return(line: &[u8]) -> &[u8]
     }
 }
 
-/// The first word, and what stands after it.
+/// The first word, and the bytes after it.
 pub(crate) fn next_word(bytes: &[u8]) -> Option<(&[u8], &[u8])>
     ensures { MatchOption result (words_in bytes.now ≡ [])
         (λ found. words_in bytes.now ≡ found.0.now ∷ words_in found.1.now) }
@@ -85,7 +85,7 @@ fn word_start(bytes: &[u8]) -> Option<usize>
     bytes.iter().position(|b| *b != b' ' && *b != b'\t')
 }
 
-// The word with which the bytes begin, and what stands after it.
+// The word with which the bytes begin, and the bytes after it.
 fn first_word(bytes: &[u8]) -> (&[u8], &[u8])
     requires some { 0 < length bytes.now }
     requires word { BeginsWord bytes.now }

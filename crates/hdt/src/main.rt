@@ -9,11 +9,11 @@ use std::io::ErrorKind;
 use std::process::ExitCode;
 use std::rt::Env;
 
-// The status of a call whose words could not be collected for want of memory. Nothing is written
+// The status of a call whose words could not be collected because memory ran out. Nothing is written
 // then.
 const NO_MEMORY: u8 = 6;
 
-// The words of the command line, the program's name first. Words that are no text count as none.
+// The words of the command line, the program's name first; none where one of them is not text.
 fn words(rt: &(impl Env + AllocGlobal)) -> Result<Vec<String>, AllocError> {
     match env::args(rt) {
         Ok(args) => args.collect(rt.alloc()),

@@ -3,8 +3,8 @@ use Rattle.hd_run.specs.declared.report.Form.{Form}
 use Rattle.hd_run.specs.declared.request.Mode.{Mode}
 use Rattle.hd_run.specs.Ending.{CauseBy}
 use Rattle.hd_run.specs.Report.{Reports, form_of}
-use Rattle.hd_run.proofs.Claimed.{promise}
-use Rattle.hd_run.proofs.Modes.{load_cause}
+use Rattle.hd_run.proofs.CallClaims.{promise}
+use Rattle.hd_run.proofs.ModeCauses.{load_cause}
 use Rattle.hd_run.proofs.answer.Goals as goal
 
 pub returns-in-Load : goal.returns-in-Load

@@ -5,8 +5,8 @@ use Rattle.hd_run.specs.declared.request.Mode.TheVariants as mode
 use Rattle.hd_run.specs.Ending.{CauseBy}
 use Rattle.hd_run.specs.Report.{Reports, form_of}
 use Rattle.hd_run.specs.Claims.{Reads}
-use Rattle.hd_run.proofs.Claimed.{promise}
-use Rattle.hd_run.proofs.Modes.{run_cause, fault_cause, lines_writable}
+use Rattle.hd_run.proofs.CallClaims.{promise}
+use Rattle.hd_run.proofs.ModeCauses.{run_cause, fault_cause, lines_writable}
 use Rattle.hd_run.proofs.answer_roots.Given.{Over}
 use Rattle.hd_run.proofs.answer_roots.Goals as goal
 use Rattle.hd_run.proofs.answer_roots.Goals.{After-report, in-Ok, in-Err}

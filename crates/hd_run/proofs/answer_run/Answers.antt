@@ -6,8 +6,8 @@ use Rattle.hd_run.specs.declared.request.Mode.TheVariants as mode
 use Rattle.hd_run.specs.Ending.{CauseBy}
 use Rattle.hd_run.specs.Report.{Reports, form_of}
 use Rattle.hd_run.specs.Claims.{Reads}
-use Rattle.hd_run.proofs.Claimed.{promise}
-use Rattle.hd_run.proofs.Modes.{run_cause, fault_cause}
+use Rattle.hd_run.proofs.CallClaims.{promise}
+use Rattle.hd_run.proofs.ModeCauses.{run_cause, fault_cause}
 use Rattle.hd_run.proofs.answer_run.Goals as goal
 
 pub returns-in-Ok : goal.returns-in-Ok

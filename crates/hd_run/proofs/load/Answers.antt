@@ -6,7 +6,7 @@ use Rattle.hd_model.specs.State.{Numbers}
 use Rattle.hd_run.specs.declared.report.Form.TheVariants.{Summary}
 use Rattle.hd_run.specs.declared.request.Mode.TheVariants as mode
 use Rattle.hd_run.specs.Ending.{RunCause, numbers_for}
-use Rattle.hd_run.proofs.Joined.{together, load_is, load_line, load_writable}
+use Rattle.hd_run.proofs.ThreadClaims.{together, load_is, load_line, load_writable}
 use Rattle.hd_run.proofs.load.Given.{Over}
 use Rattle.hd_run.proofs.load.Goals as goal
 use Rattle.hd_run.proofs.load.Goals.{After-run_callers-ending}

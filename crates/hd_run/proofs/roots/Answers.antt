@@ -3,8 +3,8 @@ use Rattle.hd_run.specs.declared.ending.Ending.TheVariants.{Refused}
 use Rattle.hd_run.specs.declared.report.Form.TheVariants.{Lines}
 use Rattle.hd_run.specs.Report.{form_for}
 use Rattle.hd_run.specs.Words.{request_of, listing_of}
-use Rattle.hd_run.proofs.Claimed.{promise}
-use Rattle.hd_run.proofs.Modes.{words_cause, fault_reports, no_line}
+use Rattle.hd_run.proofs.CallClaims.{promise}
+use Rattle.hd_run.proofs.ModeCauses.{words_cause, fault_reports, no_line}
 use Rattle.hd_run.proofs.roots.Goals as goal
 
 pub returns-in-Err : goal.returns-in-Err

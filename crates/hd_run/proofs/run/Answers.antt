@@ -1,7 +1,7 @@
 use Rattle.hd_run.specs.declared.report.Form.TheVariants.{Lines}
 use Rattle.hd_run.specs.Ending.{numbers_for}
-use Rattle.hd_run.proofs.Modes.{lines_writable}
-use Rattle.hd_run.proofs.Joined.{together}
+use Rattle.hd_run.proofs.ModeCauses.{lines_writable}
+use Rattle.hd_run.proofs.ThreadClaims.{together}
 use Rattle.hd_run.proofs.run.Goals as goal
 
 pub report-requires-clause-sum : goal.report-requires-clause-sum

@@ -1,7 +1,7 @@
 use Rattle.std.proofs.Common.{List, ℕ, [], ◌∷◌, ◌++◌, ap, ◌∙◌}
 use Rattle.hd_model.specs.CommandText.{command_text}
 use Rattle.hd_model.specs.Grammar.{script_of}
-use Rattle.hd_print.proofs.ReadBack.{command_again}
+use Rattle.hd_print.proofs.CommandReadBack.{command_again}
 use Rattle.hd_print.proofs.command.command_line.Goals as goal
 
 pub returns-clause-read : goal.returns-clause-read

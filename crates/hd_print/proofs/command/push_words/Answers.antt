@@ -1,6 +1,6 @@
 use Rattle.std.proofs.Common.{arith}
 use Rattle.hd_print.specs.Operand.{operand_word}
-use Rattle.hd_print.proofs.Joining.{joined_step}
+use Rattle.hd_print.proofs.WordJoin.{joined_step}
 use Rattle.hd_print.proofs.command.push_words.Goals as goal
 
 pub loop-operand-preserved : goal.loop-operand-preserved

@@ -1,6 +1,6 @@
 use Rattle.std.proofs.Common.{◌∙◌, arith}
 use Rattle.std.proofs.lemmas.Result.{err_from_is_err_and}
-use Rattle.hd_print.proofs.Lines.{caller_below, count_le, counts_more, took_line, broke_in_line}
+use Rattle.hd_print.proofs.JournalLines.{caller_below, count_le, counts_more, took_line, broke_in_line}
 use Rattle.hd_print.proofs.entries.write_entries.Goals as goal
 
 pub count_entry-number-requires-clause-known : goal.count_entry-number-requires-clause-known

@@ -1,6 +1,6 @@
 use Rattle.std.proofs.Common.{rules, ◌∙◌, Some, None}
 use Rattle.clap.specs.Words.{found_of}
-use Rattle.hd_run.proofs.Asking.{asked_in_limits, asked_none, asked_mode}
+use Rattle.hd_run.proofs.MatchRequests.{asked_in_limits, asked_none, asked_mode}
 use Rattle.hd_run.proofs.request.asked_by.Goals as goal
 
 pub returns-in_err-get_str-clause-value : goal.returns-in_err-get_str-clause-value

@@ -6,7 +6,7 @@ use Rattle.clap.specs.Words.{found_of}
 use Rattle.clap.proofs.WalkLemmas.{one_text-rows}
 use Rattle.clap.specs.Matches.{one_text}
 use Rattle.hd_run.specs.Words.{number_in}
-use Rattle.hd_run.proofs.Asking.{number_read}
+use Rattle.hd_run.proofs.MatchRequests.{number_read}
 use Rattle.hd_run.proofs.request.number_of.Goals as goal
 
 pub returns : goal.returns

@@ -1,7 +1,7 @@
 use Rattle.std.proofs.Common.{◌∙◌, arith, subst}
 use Rattle.std.proofs.lemmas.Result.{err_from_is_err_and}
 use Rattle.hd_io.specs.Sink.{Took, WriteBrokeOff}
-use Rattle.hd_run.proofs.Listing.{took_root, broke_at_root}
+use Rattle.hd_run.proofs.RootLines.{took_root, broke_at_root}
 use Rattle.hd_run.proofs.root_list.write_roots.Goals as goal
 
 pub returns-in_err-write_all : goal.returns-in_err-write_all

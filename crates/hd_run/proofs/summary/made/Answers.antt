@@ -1,7 +1,7 @@
 use Rattle.std.proofs.Common.{◌≡◌, ◌∙◌, ◌<◌, ◌+◌, ℕ, length, take, cond, arith, ap, sym}
 use Rattle.hd_model.specs.declared.data.Entry.{Entry}
 use Rattle.hd_model.specs.Laws.{count_entries, makes_object}
-use Rattle.hd_run.proofs.Summing.{sum_more}
+use Rattle.hd_run.proofs.JournalSums.{sum_more}
 use Rattle.hd_run.proofs.summary.made.Goals as goal
 use Rattle.hd_run.proofs.summary.made.Goals.{Joined-makes_object, then-makes_object, else-makes_object}
 

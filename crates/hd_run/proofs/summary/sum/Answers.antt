@@ -1,7 +1,7 @@
 use Rattle.std.proofs.Common.{◌<◌, length, arith}
 use Rattle.hd_model.specs.declared.data.Entry.{Entry}
 use Rattle.hd_model.specs.Generated.{value_told}
-use Rattle.hd_run.proofs.Summing.{sum_more, sum_fits}
+use Rattle.hd_run.proofs.JournalSums.{sum_more, sum_fits}
 use Rattle.hd_run.proofs.summary.sum.Goals as goal
 
 pub overflow_add-sum : goal.overflow_add-sum

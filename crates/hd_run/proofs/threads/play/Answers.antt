@@ -1,14 +1,14 @@
 use Rattle.std.proofs.Common.{◌≡◌, ◌<◌, ℕ, ap, get_or, length, arith, subst, sym, refl}
 use Rattle.std.proofs.lemmas.Option.{get_or_from_slice_get}
-use Rattle.hd_gate.specs.Shared.{Party}
+use Rattle.hd_gate.specs.Shared.{CallerView}
 use Rattle.hd_run.specs.Turns.{list_of}
 use Rattle.hd_run.specs.Together.{HasPlayed}
-use Rattle.hd_run.proofs.Playing.{goes_on, stops}
+use Rattle.hd_run.proofs.PlaySteps.{goes_on, stops}
 use Rattle.hd_run.proofs.threads.play.Given.{Over}
 use Rattle.hd_run.proofs.threads.play.Goals as goal
 use Rattle.hd_run.proofs.threads.play.Goals.{After-call}
 
--- the command is the one at its place of the caller's list
+-- the command is the one at its position in the caller's list
 within : (g : Over) (c : After-call g) → c.commands.i < length
     (list_of c.args.scripts.now c.args.caller.now.number)
 within g c = omega (
@@ -30,7 +30,7 @@ pub returns-in-Err : goal.returns-in-Err
 returns-in-Err g c =
     let w = (goal.at.returns-in-Err g c).After-call in
     let list = list_of c.args.scripts.now c.args.caller.now.number in
-    subst (λ (p : Party). HasPlayed list c.args.caller.now p) (sym c.in-Err.ensures.unchanged)
+    subst (λ (p : CallerView). HasPlayed list c.args.caller.now p) (sym c.in-Err.ensures.unchanged)
     (stops list c.args.caller.now c.commands.caller c.commands.i c.cmd.result (within g w) (here g w)
     c.commands.invariant.at c.in-Err.ensures.memory)
 

@@ -1,6 +1,6 @@
 use Rattle.std.proofs.Common.{◌≡◌}
 use Rattle.hd_run.specs.Turns.{list_of}
-use Rattle.hd_run.proofs.Playing.{IsAt}
+use Rattle.hd_run.proofs.PlaySteps.{IsAt}
 use Rattle.hd_run.proofs.threads.play.Given as goal
 
 -- the commands below this one are done

@@ -3,7 +3,7 @@ use Rattle.std.specs.Prelude.{⊤}
 use Rattle.std.proofs.lemmas.Option.{get_or_from_slice_get}
 use Rattle.std.proofs.lemmas.Result.{MatchResult-from_err}
 use Rattle.hd_run.specs.Turns.{list_of, turns_of, turns_from, StoppedAt}
-use Rattle.hd_run.proofs.Turning.{ready_at, takes_turn, stops_at}
+use Rattle.hd_run.proofs.TurnSteps.{ready_at, takes_turn, stops_at}
 use Rattle.hd_run.proofs.turns.take_turns_of.Goals as goal
 
 pub returns-in_err-call-clause-stopped : goal.returns-in_err-call-clause-stopped

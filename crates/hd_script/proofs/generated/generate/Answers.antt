@@ -1,6 +1,6 @@
 use Rattle.std.proofs.Common.{subst, sym}
 use Rattle.hd_model.specs.Grammar.{AreLists}
-use Rattle.hd_script.proofs.Rounds.{are_lists}
+use Rattle.hd_script.proofs.LoadRounds.{are_lists}
 use Rattle.hd_script.proofs.generated.generate.Goals as goal
 
 pub from_lists-requires : goal.from_lists-requires

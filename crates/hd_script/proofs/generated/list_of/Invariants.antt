@@ -1,5 +1,5 @@
 use Rattle.std.proofs.Common.{◌≡◌}
-use Rattle.hd_script.proofs.Rounds.{rounds_of}
+use Rattle.hd_script.proofs.LoadRounds.{rounds_of}
 use Rattle.hd_script.proofs.generated.list_of.Given as goal
 
 -- the list has the rounds so far

@@ -1,4 +1,4 @@
-use Rattle.hd_script.proofs.Speakers as laws
+use Rattle.hd_script.proofs.CallerLines as laws
 use Rattle.hd_script.proofs.laws.lists_follow_the_lines.Goals as goal
 
 pub returns : goal.returns

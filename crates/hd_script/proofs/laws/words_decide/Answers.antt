@@ -1,4 +1,4 @@
-use Rattle.hd_script.proofs.SameWords as laws
+use Rattle.hd_script.proofs.BlankLines as laws
 use Rattle.hd_script.proofs.laws.words_decide.Goals as goal
 
 pub returns : goal.returns

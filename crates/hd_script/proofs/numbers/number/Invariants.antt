@@ -5,7 +5,7 @@ use Rattle.hd_model.specs.Grammar.{value_of}
 use Rattle.hd_script.proofs.Digits.{with_digit}
 use Rattle.hd_script.proofs.numbers.number.Given as goal
 
--- the digits that are left make of the value so far what the word is worth
+-- the digits that are left make of the value so far the value of the word
 abbrev pub invariant-loop-b : goal.invariant-loop-b
 invariant-loop-b l = record {
   worth : fold with_digit l.value (drop l.b-index l.word) ≡ value_of l.word;

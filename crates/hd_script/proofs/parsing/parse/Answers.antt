@@ -2,7 +2,7 @@ use Rattle.std.proofs.Common.{◌≡◌, Some, arith}
 use Rattle.std.proofs.lemmas.Bool.Decides.{nat_tests}
 use Rattle.hd_model.specs.Grammar.{reading_of, words_of, blank, caller, command}
 use Rattle.hd_script.specs.Said.{seen}
-use Rattle.hd_script.proofs.Following.{begun, finished, unreadable, one_too_many, after_blank, after_caller, after_command}
+use Rattle.hd_script.proofs.LineLists.{begun, finished, unreadable, one_too_many, after_blank, after_caller, after_command}
 use Rattle.hd_script.proofs.parsing.parse.Goals as goal
 
 pub lines-init : goal.lines-init

@@ -1,5 +1,5 @@
 use Rattle.std.proofs.Common.{length}
-use Rattle.hd_script.proofs.Following.{Follows}
+use Rattle.hd_script.proofs.LineLists.{Follows}
 use Rattle.hd_script.proofs.parsing.parse.Given as goal
 
 -- the lists so far and the lines that are left give what the whole gives

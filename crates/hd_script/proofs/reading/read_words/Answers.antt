@@ -1,5 +1,5 @@
 use Rattle.std.proofs.Common.{Some, None, sym, ◌∙◌}
-use Rattle.hd_script.proofs.Saying.{none, lone, names_caller, of_two, of_three, of_four, of_five, of_more, ends, goes_on}
+use Rattle.hd_script.proofs.WordReadings.{none, lone, names_caller, of_two, of_three, of_four, of_five, of_more, ends, goes_on}
 use Rattle.hd_script.proofs.reading.read_words.Goals as goal
 
 pub returns-in_default-clause-exact : goal.returns-in_default-clause-exact

@@ -1,5 +1,5 @@
 use Rattle.std.proofs.Common.{arith}
-use Rattle.hd_script.proofs.Listing.{counted_more, counted_fits}
+use Rattle.hd_script.proofs.CallerLists.{counted_more, counted_fits}
 use Rattle.hd_script.proofs.scripts.count.Goals as goal
 
 pub overflow_cast-total : goal.overflow_cast-total

@@ -1,6 +1,6 @@
 use Rattle.std.proofs.Common.{sym}
 use Rattle.std.proofs.lemmas.List.{take_rest}
-use Rattle.hd_script.proofs.Cutting.{ended_line, last_line}
+use Rattle.hd_script.proofs.LineSplit.{ended_line, last_line}
 use Rattle.hd_script.proofs.text.first_line.Goals as goal
 
 pub returns-in-Some-clause-lines : goal.returns-in-Some-clause-lines

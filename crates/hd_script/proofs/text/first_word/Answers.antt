@@ -1,6 +1,6 @@
 use Rattle.std.proofs.Common.{sym}
 use Rattle.std.proofs.lemmas.List.{take_rest}
-use Rattle.hd_script.proofs.Cutting.{ended_word, last_word}
+use Rattle.hd_script.proofs.LineSplit.{ended_word, last_word}
 use Rattle.hd_script.proofs.text.first_word.Goals as goal
 
 pub returns-in-Some : goal.returns-in-Some

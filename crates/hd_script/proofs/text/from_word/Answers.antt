@@ -1,6 +1,6 @@
 use Rattle.std.proofs.Common.{sym}
 use Rattle.std.proofs.lemmas.List.{take_rest}
-use Rattle.hd_script.proofs.Cutting.{from_start, from_nowhere, begins_at}
+use Rattle.hd_script.proofs.LineSplit.{from_start, from_nowhere, begins_at}
 use Rattle.hd_script.proofs.text.from_word.Goals as goal
 
 pub returns-in-Some-clause-same : goal.returns-in-Some-clause-same

@@ -2,7 +2,7 @@ use Rattle.std.proofs.Common.{◌≡◌, ◌<◌, List, [], ◌∷◌, ◌++◌,
 use Rattle.hd_model.specs.declared.command.Cmd.{Cmd}
 use Rattle.hd_model.specs.declared.limits.TheConstants.{MOST_COMMANDS}
 use Rattle.hd_script.specs.Lists.{contents}
-use Rattle.hd_script.proofs.Listing.{written, written_counted, unwritten_counted}
+use Rattle.hd_script.proofs.CallerLists.{written, written_counted, unwritten_counted}
 use Rattle.hd_script.proofs.scripts.Scripts.add.Goals as goal
 
 pub invariant_of-self : goal.invariant_of-self

@@ -2,7 +2,7 @@ use Rattle.std.proofs.Common.{◌≡◌, ◌<◌, ◌≤◌, length, ap, arith}
 use Rattle.std.proofs.lemmas.List.{length-map}
 use Rattle.hd_model.specs.declared.limits.TheConstants.{MOST_COMMANDS}
 use Rattle.hd_script.specs.Lists.{contents}
-use Rattle.hd_script.proofs.Listing.{listed, list_fits}
+use Rattle.hd_script.proofs.CallerLists.{listed, list_fits}
 use Rattle.hd_script.proofs.scripts.Scripts.len.Goals as goal
 
 few : (c : goal.After-len) → c.len.result ≤ MOST_COMMANDS

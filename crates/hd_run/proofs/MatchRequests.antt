@@ -1,0 +1,94 @@
+-- What the command's matches ask for, and when the words are valid.
+use Rattle.std.proofs.Common.{◌≡◌, ◌≢◌, ◌⊎◌, ◌-◌, ℕ, ◌≤◌, ◌^◌, List, [], ◌∷◌, map, Option, Some, None, Result, Ok, Err, inl, inr, refl, sym, ◌∙◌, ap, arith, codes, String, string_bytes, option_map, unwrap_or}
+use Rattle.std.specs.Prelude.{option_and_then}
+use Rattle.std.specs.Option.{option_map_or}
+use Rattle.std.specs.declared.alloc.Global.{Global}
+use Rattle.std.specs.Str.Parse.{ParsesUnsigned}
+use Rattle.clap.specs.Kinds.{IsAmong, Kinds}
+use Rattle.clap.specs.Matches.{ReadsOne, first_value}
+use Rattle.clap.specs.Values.{IsUnsignedIn}
+use Rattle.clap.specs.Faults.{fault_of}
+use Rattle.clap.specs.Simple.{matches_of}
+use Rattle.clap.specs.Walk.{Row, Text, one_of, rows_of}
+use Rattle.clap.specs.declared.error.kind.ErrorKind.{ErrorKind}
+use Rattle.clap.specs.declared.error.kind.ErrorKind.TheVariants as kind
+use Rattle.clap.specs.declared.parser.matches.Found.{Found}
+use Rattle.clap.proofs.WalkLemmas.{first_value-rows, one_text-rows}
+use Rattle.hd_model.specs.declared.limits.TheConstants.{HEAP, BLOCKS, MOST_ROUNDS}
+use Rattle.hd_run.specs.declared.request.TheConstants.{LEAST_HEAP, ROUNDS}
+use Rattle.hd_run.specs.declared.request.Mode.{Mode}
+use Rattle.hd_run.specs.Words.{program, mode_of, number_in, number_of, with_numbers, asked_by, unless_faulty, request_of, IsInLimits, GivesNumber, GivesNumbers}
+
+-- what an option's text reads as, where it is a number of 32 bits
+pub number_read : {E : Type 0} (G : Text → Result ℕ E → Type 0) (o : Option Text) (r : Option ℕ) (default : ℕ)
+    → ((t : Text) (x : Result ℕ E) → G t x → ParsesUnsigned 32 10 t x)
+    → ((t : Text) → o ≡ Some t → IsUnsignedIn 0 (2 ^ 32 - 1) t) → (o ≡ None → r ≡ None)
+    → ((t : Text) → o ≡ Some t → ReadsOne G t r) → unwrap_or r default ≡ option_map_or number_in o default
+number_read G None r default only small none some = ap (λ (x : Option ℕ). unwrap_or x default) (none refl)
+number_read G (Some t) (Some n) default only small none some = (only t (Ok n) (some t refl)).1
+number_read G (Some t) None default only small none some =
+    let read = some t refl in
+    let is = small t refl in
+    absurd (only t (Err read.0) read.1 (is.0, omega (arith, is.3)))
+
+-- the number of an option is within its limits, where its default is
+in_limits : (found : Found) (name : Text) (least most default : ℕ) → GivesNumber found name least most
+    → least ≤ default → default ≤ most
+    → (least ≤ number_of (rows_of found) name default) × (number_of (rows_of found) name default ≤ most)
+in_limits found name least most default gives low high =
+    go (one_of name (rows_of found)) (λ t is. gives t (one_text-rows found name ∙ is))
+  where
+    go : (o : Option Text) → ((t : Text) → o ≡ Some t → IsUnsignedIn least most t)
+        → (least ≤ option_map_or number_in o default) × (option_map_or number_in o default ≤ most)
+    go None is = (low, high)
+    go (Some t) is = let number = is t refl in (number.2, number.3)
+
+pub asked_in_limits : (found : Found) (mode : Mode) → GivesNumbers found
+    → IsInLimits (with_numbers (rows_of found) mode)
+asked_in_limits found mode gives =
+    let heap = in_limits found (codes "heap") LEAST_HEAP HEAP HEAP gives.heap (omega arith) (omega arith) in
+    let blocks = in_limits found (codes "blocks") 1 BLOCKS BLOCKS gives.blocks (omega arith) (omega arith) in
+    let rounds = in_limits found (codes "rounds") 1 MOST_ROUNDS ROUNDS gives.rounds (omega arith)
+    (omega arith) in
+    record {
+      heap_least = heap.0;
+      heap_most = heap.1;
+      blocks_least = blocks.0;
+      blocks_most = blocks.1;
+      rounds_least = rounds.0;
+      rounds_most = rounds.1;
+    }
+
+-- what is asked for, by the name of the mode that was found
+pub asked_none : (found : Found) → first_value found (codes "mode") ≡ None → None ≡ asked_by (rows_of found)
+asked_none found none = let same = first_value-rows found (codes "mode") in
+    ap (λ (o : Option Text). option_map (with_numbers (rows_of found)) (option_and_then mode_of o))
+    (sym none ∙ same)
+
+pub asked_mode : (found : Found) (t : Text) (o : Option Mode) → first_value found (codes "mode") ≡ Some t
+    → o ≡ mode_of t → option_map (with_numbers (rows_of found)) o ≡ asked_by (rows_of found)
+asked_mode found t o some is = let same = first_value-rows found (codes "mode") in
+    ap (option_map (with_numbers (rows_of found))) is
+    ∙ ap (λ (o : Option Text). option_map (with_numbers (rows_of found)) (option_and_then mode_of o))
+    (sym some ∙ same)
+
+-- where the command finds no fault in the words, they ask for what its matches ask for
+pub lawful : (words : List (String Global)) (rows : List Row) → fault_of program (map string_bytes words) ≡ []
+    → rows ≡ matches_of program (map string_bytes words) → asked_by rows ≡ request_of words
+unfolding request_of
+lawful words rows none is = ap asked_by is
+    ∙ ap (λ v. unless_faulty v (asked_by (matches_of program (map string_bytes words)))) (sym none)
+
+-- and where it finds one, for nothing
+pub unlawful : (words : List (String Global)) (k : ErrorKind)
+    → (k ≡ kind.OutOfMemory) ⊎ IsAmong k (fault_of program (map string_bytes words)) → k ≢ kind.OutOfMemory
+    → None ≡ request_of words
+unfolding request_of
+unlawful words k (inl memory) other = absurd (other memory)
+unlawful words k (inr among) other = go (fault_of program (map string_bytes words)) refl among
+  where
+    go : (faults : Kinds) → fault_of program (map string_bytes words) ≡ faults → IsAmong k faults
+        → None ≡ request_of words
+    go [] is among = absurd among
+    go (f ∷ fs) is among = ap (λ v. unless_faulty v (asked_by (matches_of program (map string_bytes words))))
+        (sym is)

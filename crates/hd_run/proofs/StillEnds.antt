@@ -1,0 +1,11 @@
+-- A count that is the constant 0 does not rise.
+use Rattle.std.proofs.Common.{arith}
+use Rattle.hd_io.specs.Counts.{Rose}
+use Rattle.hd_run.specs.Still.{StillEndsNeverFail}
+
+none_rose : Rose 0 0 → ⊥
+none_rose rose = grind arith
+
+pub never_fail : StillEndsNeverFail
+never_fail asked source_old source_new sink_old sink_new o promise =
+    ((λ status. none_rose (promise.read status).1), (λ status. none_rose (promise.write status)))

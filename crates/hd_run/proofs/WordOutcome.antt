@@ -1,0 +1,84 @@
+-- What words come to, by what the command made of them.
+use Rattle.std.proofs.Common.{◌≡◌, ◌∙◌, List, Result, Ok, Err, Option, None, Some, true, inl, inr, refl, sym, ap, subst, map, String, string_bytes}
+use Rattle.std.specs.Prelude.{IfOk, IfErr, IsErrAnd}
+use Rattle.std.specs.declared.alloc.Global.{Global}
+use Rattle.clap.specs.Built.{IsParsedFrom}
+use Rattle.clap.specs.Faults.{fault_of, is_simple_and_free}
+use Rattle.clap.specs.Kinds.{FailsBy, HasKind}
+use Rattle.clap.specs.Simple.{App, HasMatchesOf, app_of, is_simple, matches_of}
+use Rattle.clap.specs.Words.{found_of, kind_of, rows_of}
+use Rattle.clap.specs.declared.builder.command.Command.{Command}
+use Rattle.clap.specs.declared.error.Error.{Error}
+use Rattle.clap.specs.declared.parser.matches.ArgMatches.{ArgMatches}
+use Rattle.hd_run.specs.declared.ending.Fault.{Fault}
+use Rattle.hd_run.specs.declared.request.Request.{Request}
+use Rattle.hd_run.specs.Words.{program, request_of, asked_by, request_or_usage, GivesNumbers, IsFaultOfWords, IsRefusal}
+use Rattle.hd_run.proofs.MatchRequests.{lawful, unlawful}
+use Rattle.hd_run.proofs.OptionLimits.{gives_numbers}
+
+simple : is_simple program ≡ true
+simple = refl
+
+free : is_simple_and_free program ≡ true
+free = refl
+
+-- what is asked for, or that nothing is
+usage_value : (asked : Option Request) → IfOk (request_or_usage asked) (λ r. Some r ≡ asked)
+usage_value None = tt
+usage_value (Some r) = refl
+
+usage_fault : (asked : Option Request) → IfErr (request_or_usage asked) (IsFaultOfWords asked)
+usage_fault None = inr (refl, refl)
+usage_fault (Some r) = tt
+
+module _ (c : Command) (app : app_of c ≡ program) (words : List (String Global)) where
+  abbrev AreKinds : Result ArgMatches Error → Type 0
+  AreKinds taken = is_simple_and_free (app_of c) ≡ true
+      → FailsBy (fault_of (app_of c) (map string_bytes words)) taken
+
+  abbrev AreMatches : Result ArgMatches Error → Type 0
+  AreMatches taken = IfOk taken (HasMatchesOf (app_of c) (map string_bytes words))
+
+  -- what is returned is what the matches ask for, or the refusal of an error
+  abbrev Answers : Result ArgMatches Error → Result Request Fault → Type 0
+  Answers taken answer = IfOk taken (λ m. answer ≡ request_or_usage (asked_by (rows_of (found_of m))))
+      × IfErr taken (λ e. IsErrAnd answer (IsRefusal (kind_of e)))
+
+  is_free : is_simple_and_free (app_of c) ≡ true
+  is_free = ap is_simple_and_free app ∙ free
+
+  pub numbers : (taken : Result ArgMatches Error) → IfOk taken (IsParsedFrom c)
+      → IfOk taken (λ m. GivesNumbers (found_of m))
+  numbers (Ok m) parsed = gives_numbers c m parsed app
+  numbers (Err e) parsed = tt
+
+  -- what the matches ask for is what the words ask for
+  asks : (m : ArgMatches) → AreKinds (Ok m) → AreMatches (Ok m)
+      → asked_by (rows_of (found_of m)) ≡ request_of words
+  asks m kinds matches =
+      lawful words (rows_of (found_of m))
+      (ap (λ (a : App). fault_of a (map string_bytes words)) (sym app) ∙ kinds is_free)
+      ((matches (ap is_simple app ∙ simple)).0 ∙ ap (λ (a : App). matches_of a (map string_bytes words)) app)
+
+  pub value : (taken : Result ArgMatches Error) (answer : Result Request Fault) → AreKinds taken
+      → AreMatches taken → Answers taken answer → IfOk answer (λ r. Some r ≡ request_of words)
+  value (Ok m) answer kinds matches says =
+      subst (λ (r : Result Request Fault). IfOk r (λ q. Some q ≡ request_of words)) (sym says.0)
+      (subst (λ (asked : Option Request). IfOk (request_or_usage asked) (λ q. Some q ≡ request_of words))
+      (sym (asks m kinds matches)) (usage_value (request_of words)))
+  value (Err e) (Ok r) kinds matches says = absurd says.1
+  value (Err e) (Err f) kinds matches says = tt
+
+  pub fault : (taken : Result ArgMatches Error) (answer : Result Request Fault) → AreKinds taken
+      → AreMatches taken → Answers taken answer → IfErr answer (IsFaultOfWords (request_of words))
+  fault (Ok m) answer kinds matches says =
+      subst (λ (r : Result Request Fault). IfErr r (IsFaultOfWords (request_of words))) (sym says.0)
+      (subst (λ (asked : Option Request). IfErr (request_or_usage asked) (IsFaultOfWords (request_of words)))
+      (sym (asks m kinds matches)) (usage_fault (request_of words)))
+  fault (Err e) (Ok r) kinds matches says = tt
+  fault (Err e) (Err f) kinds matches says =
+      let has = subst (λ (a : App). HasKind (fault_of a (map string_bytes words)) e) app (kinds is_free) in
+      elim says.1 [
+        | inl (memory, want) ↦ inl memory
+        | inr (usage, other) ↦ inr (usage, sym (unlawful words (kind_of e) has other))
+      ]

@@ -1,0 +1,15 @@
+-- What a call returns over a source and a sink that never fail.
+use Rattle.std.specs.Prelude.{◌≢◌, Option}
+use Rattle.hd_io.specs.Still.{StillReading, StillWriting, still_source_view, still_sink_view}
+use Rattle.hd_run.specs.Claims.{Promise}
+use Rattle.hd_run.specs.declared.outcome.Outcome.{Outcome}
+use Rattle.hd_run.specs.declared.request.Request.{Request}
+
+-- Whatever the words, of what `top`, `solo` or `roots` promises over a `StillSource` and a `StillSink`: the
+-- status is neither that of a failed read nor that of a failed write.
+abbrev pub StillEndsNeverFail : Type 0
+StillEndsNeverFail =
+    (asked : Option Request) (source_old source_new : StillReading) (sink_old sink_new : StillWriting)
+    (o : Outcome) →
+    Promise still_source_view still_sink_view asked source_old source_new sink_old sink_new o →
+    (o.status ≢ 4) × (o.status ≢ 5)
