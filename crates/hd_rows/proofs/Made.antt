@@ -1,11 +1,11 @@
--- No held region is empty at first, nor after an object is made.
+-- No region in use is empty at first, nor after an object is made.
 use Rattle.std.proofs.Common.{◌≡◌, ℕ, ◌+◌, ◌*◌, true, Option, Some, None, is_some, nat_cmp, refl, sym, ap, ◌∙◌, subst, inl, inr}
 use Rattle.std.specs.Prelude.{option_map}
 use Rattle.std.specs.FinMap as map
 use Rattle.std.proofs.lemmas.Bool.{cases_eq, false≢true}
 use Rattle.hd_model.specs.declared.data.Addr.{Addr}
 use Rattle.hd_model.specs.Heap.{Heap, Placed, Region, has_object, object_in, region_at, region_of, region_generation, is_held, cells_of}
-use Rattle.hd_model.proofs.Written.{get_inserted, get_beside}
+use Rattle.hd_model.proofs.ReadAfterWrite.{get_inserted, get_beside}
 use Rattle.hd_heap.specs.Calls.{empty_heap, IsMade}
 use Rattle.hd_plan.specs.Plan.{HasNoEmptyRegion, StartsInRegion}
 
@@ -14,7 +14,7 @@ full_empty h limit e r held =
     absurd (false≢true (sym (ap is_some (map.get-empty {X = Region} nat_cmp r))
     ∙ subst (λ (g : Heap). is_held g r ≡ true) e held))
 
--- whether something stands does not depend on its generation
+-- whether there is an object does not depend on its generation
 stands_in : (g : ℕ) (o : Option Placed) → is_some (option_map (object_in g) o) ≡ is_some o
 stands_in g None = refl
 stands_in g (Some p) = refl

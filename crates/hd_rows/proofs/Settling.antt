@@ -14,7 +14,7 @@ use Rattle.hd_model.specs.Leads.{Leads, IsClosed, Grows}
 use Rattle.hd_model.specs.Marking.{IsSettled, IsKeeping, Gains}
 use Rattle.hd_model.specs.Scene.{is_object, fields_in, fields_at, generation_in, generation_at, IsField, IsYoungField}
 use Rattle.hd_model.proofs.Members.{not_in_none}
-use Rattle.hd_seg.proofs.Maps.{get-mapped, get-mapped_out}
+use Rattle.hd_seg.proofs.FunctionMaps.{get-mapped, get-mapped_out}
 use Rattle.hd_scan.specs.Relocation.{CanRelocate}
 use Rattle.hd_rows.specs.Toy.{toy_heap, toy_basis, is_in, is_below, turned}
 
@@ -113,7 +113,7 @@ module _ (size : ℕ) where
           marked_by;
     }
 
--- the objects of a toy heap, each at the place that counts from the end
+-- the objects of a toy heap, each at its number counted from the end
 pub turned_keeps : (size : ℕ) → IsKeeping (object_at (toy_heap size)) 2 (is_below size) (turned size)
 turned_keeps size = record {
   objects = λ x k. object_below size x (ltb-true x.0 size k);
@@ -132,7 +132,7 @@ turned_keeps size = record {
     same_number : (x y : Addr) → x.0 ≡ y.0 → x ≡ y
     same_number x y e i = record { 0 = e i }
 
--- what rows name is kept where all of it are objects
+-- what rows reference is kept where all of it are objects
 pub named_kept : (size n : ℕ) (t : Table) (ages : List ℕ) (m : ℕ) (kind : Kind)
     → NamesObjects (objects_of (toy_basis size n)) (row_at t) → CanRelocate (is_below size) ages m kind t
 named_kept size n t ages m kind named slot h stands due = record {

@@ -21,7 +21,7 @@ IsAlone h x = (y : Addr) → has_object h y ≡ true → x.0 < y.0 → id_at h x
 abbrev pub AreAlone : Heap → Type 0
 AreAlone h = (x : Addr) → has_object h x ≡ true → IsAlone h x
 
--- a row without a secondary, whose target is null or an object that is not younger than its clump says
+-- a row without a secondary, whose target is null or an object that is not younger than its clump's age
 pub record IsPlain (h : Heap) (ages : List ℕ) (slot : ℕ) (row : Handle Addr) : Type 0 where
   pub object : (x : Addr) → row.target ≡ Some x → has_object h x ≡ true
   pub age : (x : Addr) → row.target ≡ Some x → age_of ages slot ≤ generation_at (object_at h) x

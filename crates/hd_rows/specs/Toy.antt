@@ -1,4 +1,4 @@
--- A heap of objects without fields, for tests: they are numbered from 0, and are of generation 0.
+-- A heap of objects without fields, for tests: they are numbered from 0 and of generation 0.
 use Rattle.std.specs.Prelude.{◌≡◌, ℕ, ◌-◌, ◌<◌, nat_lt, Bool, false, List, [], Some, slice_index_or}
 use Rattle.std.specs.FinMap.{empty}
 use Rattle.std.specs.FinSet as set
@@ -12,7 +12,7 @@ use Rattle.hd_seg.specs.Mapped.{mapped}
 use Rattle.hd_seg.specs.Row.{extra_of}
 use Rattle.hd_seg.specs.declared.row.Row.{Row}
 
--- so many objects
+-- `size` objects
 unfoldable pub toy_heap : ℕ → Heap
 toy_heap size = record {
   objects = mapped 0 size
@@ -30,18 +30,18 @@ toy_basis size n = record { heap = toy_heap size; condemned = n }
 abbrev pub is_in : List Bool → Addr → Bool
 is_in marks a = slice_index_or marks a.0 false
 
--- what a row names are numbers of objects
+-- what a row references are numbers of objects
 pub record NamesBelow (size : ℕ) (row : Row) : Type 0 where
   pub target : (x : Addr) → row.target ≡ Some x → x.0 < size
   pub secondary : (x : Addr) → secondary_of (extra_of row.extra) ≡ Some x → x.0 < size
 
--- whether an extra is one of the kind of a block
+-- whether an extra fits the kind of a block
 abbrev pub fits_by : BlockKind → Extra Addr → Bool
 fits_by block.Unused e = false
 fits_by (block.Rows k) e = fits k e
 fits_by block.Extras e = false
 
--- whether a number is that of one of so many objects, and its place where they stand the other way round
+-- whether a number is that of one of `size` objects, and its number where they are counted from the end
 abbrev pub is_below : ℕ → Addr → Bool
 is_below size a = nat_lt a.0 size
 

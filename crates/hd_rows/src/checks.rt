@@ -15,7 +15,7 @@ use hd_model::limits::{CLUMP, CLUMPS, ROWS};
 use hd_model::{Addr, Slot};
 use hd_seg::{Extra, Seg};
 
-/// Whether an object stands at an address.
+/// Whether there is an object at an address.
 pub(crate) fn stands(heap: &Heap, at: Addr) -> bool
     ensures { result ≡ true → has_object heap.now at ≡ true }
 {
@@ -55,7 +55,7 @@ pub(crate) fn is_bare(heap: &Heap) -> bool
     true
 }
 
-// Whether the fields of an object name objects alone.
+// Whether the fields of an object reference objects alone.
 fn names_objects(heap: &Heap, at: Addr) -> bool
     requires { has_object heap.now at ≡ true }
     ensures { result ≡ true → (y : Addr) → IsField (object_at heap.now) at y →
@@ -71,7 +71,7 @@ fn names_objects(heap: &Heap, at: Addr) -> bool
     true
 }
 
-/// Whether all fields name objects alone.
+/// Whether all fields reference objects alone.
 pub(crate) fn is_closed(heap: &Heap) -> bool
     ensures { result ≡ true → HasClosedFields (object_at heap.now) }
 {
@@ -149,7 +149,7 @@ pub(crate) fn are_plain(heap: &Heap, seg: &Seg, ages: &AgeMap) -> bool
     requires { length ages.now ≡ CLUMPS * seg.now.blocks }
     ensures { result ≡ true → ArePlain heap.now seg.now ages.now }
 {
-    // Read for the proof alone: a live row stands in one of the table's blocks.
+    // Read for the proof alone: a live row is in one of the table's blocks.
     let _ = seg.given();
     for slot in 0..ROWS * (ages.blocks() + 1) {
         if !is_plain(heap, seg, ages, slot) {

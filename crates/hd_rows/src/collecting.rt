@@ -22,10 +22,10 @@ fn strong_and_weak_handles() -> [Row; 2] {
     ]
 }
 
-// What is finalised, and what its handles name before and after.
+// What is finalised, and what its handles reference before and after.
 fn finalised_objects() -> [Row; 3] {
     [
-        // What is to be finalised stays for it: a short handle has lost it, a long one has not.
+        // An object to be finalised is kept for it: a short handle is cleared, a long one is not.
         runs(
             "new r0 0 fin\nhnew h0 short r0\nhnew h1 long r0\ndrop r0\ncollect 0\nhget r1 h0\n\
              hget r2 h1\n",
@@ -34,7 +34,7 @@ fn finalised_objects() -> [Row; 3] {
              0 5 kept 1 removed 0 short 1 long 0 dep 0 revived 1\n0 6 null\n0 7 obj 0.1\n\
              end handles 2 objects 1 collections 1\n",
         ),
-        // Once it was finalised it goes, and the long handle loses it too.
+        // Once it was finalised it is collected, and the long handle is cleared too.
         runs(
             "new r0 0 fin\nhnew h0 short r0\nhnew h1 long r0\ndrop r0\ncollect 0\nhget r1 h0\n\
              hget r2 h1\nfinal r3\ndrop r2\ndrop r3\ncollect 2\nhget r1 h1\n",
@@ -58,7 +58,7 @@ fn finalised_objects() -> [Row; 3] {
     ]
 }
 
-// The same scripts with collections of all generations, which answer the same of young objects.
+// The same scripts with collections of all generations, which reply the same of young objects.
 fn finalised_by_full_collections() -> [Row; 3] {
     [
         runs(
@@ -116,10 +116,11 @@ fn chains_of_dependents() -> [Row; 2] {
     ]
 }
 
-// What is attached to an object that is revived, and to an old one.
+// What is attached to an object that is resurrected, and to an old one.
 fn attached_objects() -> [Row; 2] {
     [
-        // What a revived object attaches stays with it, and a short handle has lost it.
+        // What is attached to a resurrected object is kept with it, and a short handle of it is
+        // cleared.
         runs(
             "new r0 0 fin\nnew r1 0\nhnew h0 dep r0 r1\nhnew h1 short r1\ndrop r0\ndrop r1\n\
              collect 0\n",
@@ -166,7 +167,7 @@ fn older_objects() -> [Row; 3] {
              0 7 kept 1 removed 0 short 0 long 0 dep 0 revived 0\n0 8 obj 0.2\n\
              end handles 0 objects 2 collections 3\n",
         ),
-        // A handle that names an old object, and then a young one, is looked at again.
+        // A handle that references an old object, and then a young one, is scanned again.
         runs(
             "new r0 0\nhnew h0 strong r0\ncollect 0\ncollect 1\nnew r1 0\nhset h0 r1\ndrop r1\n\
              collect 0\nhget r2 h0\n",
@@ -183,8 +184,8 @@ fn older_objects() -> [Row; 3] {
 // most fields moves with them.
 fn pinned_and_moved_objects() -> [Row; 3] {
     [
-        // A pinned object keeps its address, which is the first cell of the first region, and
-        // all that it has.
+        // A pinned object keeps its address, which is the first word of the first region, and all
+        // that it has.
         runs(
             "new r0 1\nnew r1 0\nset r0 0 r1\nval r0 7\nhnew h0 pinned r0\naddr h0\ncollect 0\n\
              addr h0\ncollect 2\naddr h0\nget r2 r0 0\nread r0\n",
@@ -238,7 +239,7 @@ fn variable_and_counted_handles() -> [Row; 3] {
              0 5 value 0\n0 6 countzero\n0 7 kept 0 removed 1 short 0 long 1 dep 0 revived 0\n\
              0 8 null\nend handles 1 objects 0 collections 2\n",
         ),
-        // Its target may be revived, and is held again.
+        // Its target may be resurrected, and is held again.
         runs(
             "new r0 0 fin\nhnew h0 ref r0\nhdown h0\ndrop r0\ncollect 0\nhup h0\nfinal r1\n\
              drop r1\ncollect 1\nhget r2 h0\n",
@@ -251,26 +252,23 @@ fn variable_and_counted_handles() -> [Row; 3] {
     ]
 }
 
-// A host that uses all kinds.
-fn host() -> [Row; 1] {
-    [
-        // A host: a service in a static, a pinned buffer, a weak cache entry, and a listener
-        // that is finalised, with data attached to it.
-        runs(
-            "# host\nnew r0 4\nsput 0 r0\nnew r1 16\nval r1 4096\nhnew h0 pinned r1\nnew r2 0\n\
+/// A host that uses all kinds: a service in a static, a pinned buffer, a weak cache entry, and a
+/// listener that is finalised, with data attached to it.
+pub(crate) fn host() -> Row {
+    runs(
+        "# host\nnew r0 4\nsput 0 r0\nnew r1 16\nval r1 4096\nhnew h0 pinned r1\nnew r2 0\n\
              set r0 0 r2\nhnew h1 short r2\nnew r3 1 fin\nnew r4 0\nhnew h2 dep r3 r4\n\
              hnew h3 long r3\ndrop r0\ndrop r1\ndrop r2\ndrop r3\ndrop r4\ncollect 0\nfinal r5\n\
              hdep r6 h2\ndrop r5\ndrop r6\nsget r0 0\nset r0 0 r15\ncollect 2\nhget r7 h0\n\
              read r7\n",
-            0,
-            "0 1 obj 0.1\n0 2 ok\n0 3 obj 0.2\n0 4 ok\n0 5 ok\n0 6 obj 0.3\n0 7 ok\n0 8 ok\n\
+        0,
+        "0 1 obj 0.1\n0 2 ok\n0 3 obj 0.2\n0 4 ok\n0 5 ok\n0 6 obj 0.3\n0 7 ok\n0 8 ok\n\
              0 9 obj 0.4\n0 10 obj 0.5\n0 11 ok\n0 12 ok\n0 13 ok\n0 14 ok\n0 15 ok\n0 16 ok\n\
              0 17 ok\n0 18 kept 5 removed 0 short 0 long 0 dep 0 revived 1\n0 19 obj 0.4\n\
              0 20 obj 0.5\n0 21 ok\n0 22 ok\n0 23 obj 0.1\n0 24 ok\n\
              0 25 kept 2 removed 3 short 1 long 1 dep 1 revived 0\n0 26 obj 0.2\n\
              0 27 value 4096\nend handles 4 objects 2 collections 2\n",
-        ),
-    ]
+    )
 }
 
 #[test]
@@ -279,7 +277,7 @@ fn handles_hold_what_they_must(rt: HostRuntime) -> Result<(), Fail> {
     assert_rows(&rt, &chains_of_dependents())?;
     assert_rows(&rt, &attached_objects())?;
     assert_rows(&rt, &variable_and_counted_handles())?;
-    assert_rows(&rt, &host())
+    assert_rows(&rt, &[host()])
 }
 
 #[test]

@@ -7,6 +7,8 @@ mod checks;
 #[cfg(test)]
 mod collecting;
 #[cfg(test)]
+mod faults;
+#[cfg(test)]
 mod passes;
 #[cfg(test)]
 mod relocations;

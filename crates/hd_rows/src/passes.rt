@@ -17,7 +17,7 @@ use std::process::Abort;
 use std::sync::ledger::{Blank, Ledger};
 use std::test::Fail;
 
-// What a pass of a task answers.
+// What a pass of a task returns.
 fn passed_by<L: Ledger>(
     rt: &impl Abort,
     seg: &mut Seg,
@@ -46,8 +46,8 @@ fn passed(rt: &impl Abort, seg: &mut Seg, ages: &AgeMap, toy: &mut Toy, task: Ta
     passed_by::<Brand>(rt, seg, ages, toy, task, Blank::new(1))
 }
 
-// Promotes what the dependent handles say, and then clears them. The answer is the number of those
-// that were cleared.
+// Promotes by the dependent handles, and then clears them. Returns the number of those that were
+// cleared.
 fn followed_by<L: Ledger>(
     rt: &impl Abort,
     seg: &mut Seg,
@@ -160,8 +160,8 @@ fn chain(rt: &impl Abort, seg: &mut Seg, third: u32, rising: bool)
     }
 }
 
-// Dependent handles join 13 objects in a row, from object 0 on, which a strong handle names. Where
-// the slots fall, each pass but the last promotes one object.
+// Dependent handles join 13 objects in a row, from object 0 on, which a strong handle references.
+// Where the slots fall, each pass but the last promotes one object.
 fn follows(rt: &impl Abort, alloc: Global, rising: bool) -> Result<(), Fail> {
     let mut seg = Seg::open(alloc, TABLE)?;
     let mut ages = AgeMap::open(alloc, TABLE)?;

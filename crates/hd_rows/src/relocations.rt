@@ -14,8 +14,8 @@ use std::process::Abort;
 use std::sync::ledger::{Blank, Ledger};
 use std::test::Fail;
 
-// Turns the places of what the rows of a kind name, of 16 objects, in the clumps of generation 1
-// and below.
+// Relocates what the rows of a kind reference, of 16 objects, in the clumps of generation 1 and
+// below, to the objects counted from the end.
 fn relocate_by<L: Ledger>(
     rt: &impl Abort,
     seg: &mut Seg,
@@ -45,7 +45,7 @@ fn turn(rt: &impl Abort, seg: &mut Seg, ages: &AgeMap, toy: &Toy, kind: Kind)
     relocate_by::<Brand>(rt, seg, ages, toy, kind, Blank::new(1));
 }
 
-// What slots of a table name.
+// What slots of a table reference.
 fn shows(rt: &impl Abort, seg: &Seg, rows: &[(u32, Option<u32>, Extra)]) {
     for (slot, target, extra) in rows {
         let row = Row {

@@ -23,7 +23,7 @@ fn three(alloc: Global) -> Result<Heap, Memory> {
     Ok(heap)
 }
 
-// The same, where the field of an object names another one.
+// The same, where the field of an object references another one.
 fn led(rt: &impl Abort, alloc: Global, from: Addr, to: Addr) -> Result<Heap, Memory>
     ensures fields { IfOk result (λ h. HasClosedFields (object_at h)) }
     ensures identities { IfOk result HasIdentities }

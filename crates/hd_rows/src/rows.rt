@@ -23,7 +23,7 @@ fn scripts_and_callers() -> [Row; 3] {
     ]
 }
 
-// What handle registers name, and what is refused.
+// What handle registers hold, and what is refused.
 fn handles_and_registers() -> [Row; 3] {
     [
         runs(
@@ -121,7 +121,7 @@ fn blocks_and_marks() -> [Row; 2] {
     ]
 }
 
-// Scripts that are none, from the first line that has no reading.
+// Texts that are no scripts, by the first line that has no reading.
 fn lines_without_a_reading() -> [Row; 4] {
     [
         // No script, at its first line that has no reading.
@@ -187,7 +187,7 @@ fn lists_of_roots() -> [Row; 3] {
              root 128 strong 0.1\nroot 192 var 0.1\nroots 2\n",
         ),
         lists("", 0, "end handles 0 objects 0 collections 0\nroots 0\n"),
-        // Handles of all kinds: one has no target, one is a weak variable one, one has a count of 0.
+        // Handles of all kinds: one without a target, one weak variable one, one with count 0.
         lists(
             "new r0 0\nhnew h0 short r0\nhnew h1 long r0\nhnew h2 strong r0\n\
              hnew h3 pinned r0\nhnew h4 var r0 strong\nhnew h5 ref r0\nhnew h6 dep r0 r0\n\
@@ -204,7 +204,7 @@ fn lists_of_roots() -> [Row; 3] {
 // Lists of roots that moved before, and one that cannot be written.
 fn later_lists_of_roots() -> [Row; 2] {
     [
-        // Objects that moved are told by their identities.
+        // Objects that moved are recognized by their identities.
         lists(
             "caller 1\nnew r0 0\nnew r1 2\nhnew h0 strong r1\ndrop r0\ncollect 0\n\
              hnew h1 strong r0\n",

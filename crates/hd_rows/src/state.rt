@@ -20,7 +20,7 @@ use std::sync::ledger::{Blank, Ledger};
 // The blocks of the table.
 const TABLE: u32 = 4;
 
-/// A heap, a table with its ages, a queue, and what registers name.
+/// A heap, a table with its ages, a queue, and what registers reference.
 #[derive(Drop)]
 pub(crate) struct State {
     pub(crate) heap: Heap,
@@ -35,7 +35,7 @@ fn empty(alloc: Global) -> Result<Heap, Memory>
     ensures { IfOk result (λ h. HasNoEmptyRegion h) }
 {
     let heap = Heap::open(alloc, 100_000)?;
-    // Read for the proof alone: a heap without objects holds no region.
+    // Read for the proof alone: a heap without objects has no region in use.
     let _regions = heap.regions();
     Ok(heap)
 }
@@ -67,7 +67,7 @@ fn make(rt: &impl Abort, heap: &mut Heap, id: u64, fields: u32) -> Addr
     }
 }
 
-/// The same for a state. The object is a root if it is told so.
+/// The same for a state. The object is a root if it is said to be one.
 pub(crate) fn new(rt: &impl Abort, s: &mut State, id: u64, fields: u32, root: bool) -> Addr
     requires full { HasNoEmptyRegion s.old.heap }
     requires clumps { length s.old.ages ≡ CLUMPS * s.old.seg.blocks }
@@ -80,7 +80,7 @@ pub(crate) fn new(rt: &impl Abort, s: &mut State, id: u64, fields: u32, root: bo
     at
 }
 
-/// Makes a handle of a kind without extra, in a block of its own, and answers its slot.
+/// Makes a handle of a kind without extra, in a block of its own, and returns its slot.
 pub(crate) fn handle(rt: &impl Abort, s: &mut State, kind: Kind, target: Option<Addr>) -> Slot
     requires full { HasNoEmptyRegion s.old.heap }
     requires clumps { length s.old.ages ≡ CLUMPS * s.old.seg.blocks }
@@ -209,7 +209,7 @@ pub(crate) fn due(rt: &impl Abort, s: &State, kind: Kind, n: u8) -> u32 {
     }
 }
 
-/// What the first register names.
+/// What the first register references.
 pub(crate) fn first_root(rt: &impl Abort, s: &State) -> Option<Addr> {
     assert!(rt; s.roots.len() > 0);
     s.roots[0]

@@ -19,7 +19,7 @@ use std::process::Abort;
 /// The blocks of a table.
 pub(crate) const TABLE: u32 = 12;
 
-/// Gives a kind a block, and answers its first slot.
+/// Gives a kind a block, and returns its first slot.
 pub(crate) fn block(rt: &impl Abort, seg: &mut Seg, kind: Kind) -> u32
     ensures blocks { seg.new.blocks ≡ seg.old.blocks }
     ensures few { result ≤ BLOCKS * ROWS }
@@ -33,7 +33,7 @@ pub(crate) fn block(rt: &impl Abort, seg: &mut Seg, kind: Kind) -> u32
     }
 }
 
-// Whether an extra is one of a kind.
+// Whether an extra fits a kind.
 fn is_of_kind(kind: BlockKind, extra: Extra) -> bool
     ensures { result ≡ fits_by kind (extra_of extra) }
 {
@@ -58,7 +58,7 @@ pub(crate) fn put(rt: &impl Abort, seg: &mut Seg, slot: u32, target: Option<u32>
     seg.put_row(Slot(slot), Row { target, extra });
 }
 
-// Whether a name is the number of an object.
+// Whether a reference is null or the number of an object.
 fn is_below(name: Option<Addr>, size: usize) -> bool
     ensures { result ≡ true → ForSome name (λ x. x.0 < size) }
 {
@@ -78,21 +78,21 @@ fn secondary_in(extra: Extra) -> Option<Addr>
     }
 }
 
-// Whether a row names numbers of objects alone.
+// Whether a row references numbers of objects alone.
 fn is_named(row: Row, size: usize) -> bool
     ensures { result ≡ true → NamesBelow size row }
 {
     is_below(row.target, size) && is_below(secondary_in(row.extra), size)
 }
 
-/// Whether the rows of a table name objects alone.
+/// Whether the rows of a table reference objects alone.
 pub(crate) fn names_objects(seg: &Seg, toy: &Toy) -> bool
     requires { seg.now.blocks ≡ TABLE }
     ensures { result ≡ true →
         NamesObjects (objects_of (toy_basis (length toy.now.marks.items) toy.now.n))
         (row_at seg.now) }
 {
-    // Read for the proof alone: a live row stands in one of the table's blocks.
+    // Read for the proof alone: a live row is in one of the table's blocks.
     let _given = seg.given();
     let size = toy.size();
     for slot in ROWS..ROWS * (TABLE + 1) {

@@ -52,7 +52,7 @@ fn mask(marks: &[bool]) -> u64 {
 }
 
 impl Toy {
-    /// So many objects, none of which is promoted or pinned.
+    /// `objects` objects, none of which is promoted or pinned.
     pub(crate) fn open(alloc: Global, objects: usize, n: u8) -> Result<Toy, Memory>
         ensures n { IfOk result (λ toy. toy.n ≡ n) }
         ensures size { IfOk result (λ toy. length toy.marks.items ≡ objects) }
@@ -116,14 +116,14 @@ impl Marker for Toy {
     ghost settles = { λ m s. s };
 }
 
-/// Keeps all of some objects, and gives the first the place of the last, and so on.
+/// Keeps all of some objects, and forwards the first to the last, and so on.
 #[derive(Drop)]
 pub(crate) struct Turned {
     objects: u32,
 }
 
 impl Turned {
-    /// New places for so many objects.
+    /// Forwarding addresses for `objects` objects.
     pub(crate) fn of(objects: u32) -> Turned
         ensures size { result.objects ≡ objects }
         ensures laid { IsKeeping (object_at (toy_heap objects)) 2 (is_below objects)

@@ -1,5 +1,6 @@
 // Worlds of two callers, command by command, without an offer.
 ghost use Rattle.std.specs.Prelude.{◌≡◌, ◌<◌, ◌≤◌, false};
+ghost use Rattle.hd_model.specs.declared.limits.TheConstants.{HEAP, BLOCKS};
 ghost use Rattle.hd_model.specs.Text.{is_collect};
 ghost use Rattle.hd_model.specs.Valid.{IsValid};
 
@@ -11,7 +12,7 @@ use std::process::Abort;
 use std::sync::ledger::{Blank, Ledger};
 use std::test::Fail;
 
-// A caller, a command of its as a script has it, and the reply that it must get.
+// A caller, a command of it as a script has it, and the reply that it must get.
 type Line = (u32, &'static str, Reply);
 
 // The bytes of a line, at most.
@@ -32,7 +33,7 @@ fn refused(refusal: Refusal) -> Reply {
     Reply::Refused(refusal)
 }
 
-// The reply of a collection by its numbers: kept, removed, short, long, dependent, revived.
+// The reply of a collection by its numbers: kept, removed, short, long, dependent, resurrected.
 fn report(kept: u32, removed: u32, short: u32, long: u32, dep: u32, revived: u32) -> Reply {
     Reply::Report(Report {
         kept,
@@ -105,6 +106,32 @@ fn play<R: Abort + AllocGlobal>(rt: &R, world: &mut World, lines: &[Line]) -> Re
     ensures callers { world.new.numbers.callers ≡ 2 }
 {
     play_counted::<Brand, R>(rt, world, lines, Blank::new(1))
+}
+
+// What a world counts: objects, live handles, collections, and the commands that it has room for.
+type Counts = (u32, u32, u32, u32);
+
+// Does lists of commands in a new world of `cells` words with room for `commands` commands. Each
+// command must get its reply, and the world's counts must then be these.
+fn assert_world<R: Abort + AllocGlobal>(
+    rt: &R,
+    cells: u32,
+    blocks: u32,
+    commands: u32,
+    lists: &[&[Line]],
+    counts: Counts,
+) -> Result<(), Memory>
+    requires cells { (3 ≤ cells) × (cells ≤ HEAP) }
+    requires blocks { (1 ≤ blocks) × (blocks ≤ BLOCKS) }
+{
+    let mut world = World::open(rt.alloc(), cells, blocks, 2, commands)?;
+    for lines in lists {
+        play(rt, &mut world, lines)?;
+    }
+    let (objects, live) = (world.objects(), world.live());
+    let (collections, spare) = (world.collections(), world.spare());
+    assert_eq!(rt; (objects, live, collections, spare), counts);
+    Ok(())
 }
 
 // Fields and values of objects, and a static by which the other caller gets one.
@@ -238,7 +265,7 @@ fn finalised() -> [Line; 13] {
     ]
 }
 
-// A young object that is in a static and names an old one, until it is in none.
+// A young object that is in a static and references an old one, until it is in none.
 fn shared() -> [Line; 16] {
     [
         (1, "new r0 1", other(2)),
@@ -278,70 +305,56 @@ fn retargeted() -> [Line; 10] {
 
 #[test]
 fn a_world_loads_and_stores(rt: HostRuntime) -> Result<(), Fail> {
-    let mut world = World::open(rt.alloc(), 1_000, 1, 2, 17)?;
-    play(&rt, &mut world, &loads_and_stores())?;
-    assert_eq!(rt; (world.objects(), world.live(), world.spare()), (2, 0, 0));
+    assert_world(&rt, 1_000, 1, 17, &[&loads_and_stores()], (2, 0, 0, 0))?;
     Ok(())
 }
 
 #[test]
 fn a_copy_of_a_freed_handle_is_not_live(rt: HostRuntime) -> Result<(), Fail> {
-    let mut world = World::open(rt.alloc(), 1_000, 1, 2, 10)?;
-    play(&rt, &mut world, &copied_handles())?;
-    assert_eq!(rt; (world.objects(), world.live()), (1, 0));
+    assert_world(&rt, 1_000, 1, 10, &[&copied_handles()], (1, 0, 0, 0))?;
     Ok(())
 }
 
 #[test]
 fn handles_have_extra_data(rt: HostRuntime) -> Result<(), Fail> {
-    let mut world = World::open(rt.alloc(), 1_000, 4, 2, 16)?;
-    play(&rt, &mut world, &handles_with_extra_data())?;
-    assert_eq!(rt; world.live(), 2);
+    assert_world(
+        &rt,
+        1_000,
+        4,
+        16,
+        &[&handles_with_extra_data()],
+        (2, 2, 0, 0),
+    )?;
     Ok(())
+}
+
+// All ten words are used, and an object has at least three.
+fn one_too_many() -> [Line; 2] {
+    let full = refused(Refusal::HeapFull { used: 10, size: 3 });
+    [(0, "new r0 7", object(1)), (1, "new r1 0", full)]
 }
 
 #[test]
 fn a_full_heap_is_refused(rt: HostRuntime) -> Result<(), Fail> {
-    let full = refused(Refusal::HeapFull { used: 10, size: 3 });
-    let mut world = World::open(rt.alloc(), 10, 1, 2, 2)?;
-    play(
-        &rt,
-        &mut world,
-        &[(0, "new r0 7", object(1)), (1, "new r1 0", full)],
-    )?;
-    assert_eq!(rt; world.objects(), 1);
+    assert_world(&rt, 10, 1, 2, &[&one_too_many()], (1, 0, 0, 0))?;
     Ok(())
 }
 
 #[test]
 fn objects_grow_older_up_to_two(rt: HostRuntime) -> Result<(), Fail> {
-    let mut world = World::open(rt.alloc(), 1_000, 1, 2, 18)?;
-    play(&rt, &mut world, &growing_older())?;
-    assert_eq!(rt;
-        (world.objects(), world.live(), world.collections()),
-        (2, 1, 6)
-    );
+    assert_world(&rt, 1_000, 1, 18, &[&growing_older()], (2, 1, 6, 0))?;
     Ok(())
 }
 
 #[test]
 fn a_world_finds_the_young_target_of_an_old_handle(rt: HostRuntime) -> Result<(), Fail> {
-    let mut world = World::open(rt.alloc(), 1_000, 1, 2, 10)?;
-    play(&rt, &mut world, &retargeted())?;
-    assert_eq!(rt; (world.objects(), world.collections()), (2, 6));
+    assert_world(&rt, 1_000, 1, 10, &[&retargeted()], (2, 1, 6, 0))?;
     Ok(())
 }
 
 #[test]
 fn a_world_goes_through_collections(rt: HostRuntime) -> Result<(), Fail> {
-    let mut world = World::open(rt.alloc(), 1_000, 32, 2, 44)?;
-    play(&rt, &mut world, &made())?;
-    play(&rt, &mut world, &finalised())?;
-    play(&rt, &mut world, &shared())?;
-    assert_eq!(rt;
-        (world.objects(), world.live(), world.collections()),
-        (0, 4, 7)
-    );
-    assert_eq!(rt; world.spare(), 0);
+    let (first, second, third) = (made(), finalised(), shared());
+    assert_world(&rt, 1_000, 32, 44, &[&first, &second, &third], (0, 4, 7, 0))?;
     Ok(())
 }

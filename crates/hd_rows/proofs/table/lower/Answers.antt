@@ -1,6 +1,6 @@
 use Rattle.std.proofs.Common.{ℕ, List, ◌+◌, ◌*◌, length, ap, ◌∙◌, arith}
 use Rattle.hd_ages.specs.Clumps.{IsSlotOf}
-use Rattle.hd_ages.proofs.Laws.{length-lowered}
+use Rattle.hd_ages.proofs.AgeListLength.{length-lowered}
 use Rattle.hd_rows.proofs.table.lower.Goals as goal
 
 pub returns : goal.returns
