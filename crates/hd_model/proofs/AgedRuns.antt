@@ -1,18 +1,9 @@
 -- The ages that a run leaves are sound: a step lowers or raises them as the machine changes what they bound.
-use Rattle.std.proofs.Common.{◌≡◌, ℕ, ◌≤◌, true, false, cond, List, Option, Some, None, is_some, IsSome, refl, sym, ap, ◌∙◌, subst, ⊎_elim, inl, inr, ◌⊎◌, arith, le_trans, nat_cmp}
-use Rattle.std.specs.FinMap.{FinMap, get, insert, remove, empty, get-empty}
-use Rattle.std.specs.Prelude.{unwrap_or}
-use Rattle.std.proofs.lemmas.Bool.{true≢false}
-use Rattle.std.proofs.lemmas.Option.{none-some, same_Some}
-use Rattle.hd_model.specs.declared.data.Id.{Id}
-use Rattle.hd_model.specs.declared.data.Slot.{Slot}
-use Rattle.hd_model.specs.declared.data.Entry.{Entry}
-use Rattle.hd_model.specs.declared.data.Make.{Make}
-use Rattle.hd_model.specs.declared.data.Make.TheVariants as make
-use Rattle.hd_model.specs.declared.data.Reply.{Reply}
-use Rattle.hd_model.specs.declared.command.Cmd.{Cmd}
+use Rattle.hd_model.proofs.Basics.{◌≡◌, ℕ, ◌≤◌, true, false, cond, List, Option, Some, None, is_some, IsSome, refl, sym, ap, ◌∙◌, subst, ⊎_elim, inl, inr, ◌⊎◌, arith, le_trans, nat_cmp, unwrap_or, option_and_then, true≢false, FinMap, get, insert, remove, empty, get-empty, option_map_or, none-some, same_Some}
+use Rattle.hd_model.specs.Data.{Id, Slot, Entry, Make, Reply, Cmd}
 use Rattle.hd_model.specs.State.{Numbers, State, Object, Extra, nothing, strength, secondary, count, Handle, secondary_of, without_secondary, register_of, object_by_id}
-use Rattle.hd_model.specs.Command.{loaded, made_handle, fresh_object}
+use Rattle.hd_model.specs.Kinds.{secondary_register}
+use Rattle.hd_model.specs.Command.{loaded, made_extra, made_handle, fresh_object}
 use Rattle.hd_model.specs.Scene.{Objects, scene_of, generation_in, generation_at}
 use Rattle.hd_model.specs.Ages.{age_of, lowered, HasSoundAges}
 use Rattle.hd_model.specs.Aging.{is_refused, lowered_at, lowered_to, lowered_by_new, aged_by_command, Aged, AgedStep}
@@ -20,6 +11,7 @@ use Rattle.hd_model.specs.WellFormed.{IsWellFormed}
 use Rattle.hd_model.specs.Run.{Chain, stay, link}
 use Rattle.hd_model.specs.CollectionLaws.{AgesOfRunsAreSound}
 use Rattle.hd_model.proofs.ReadAfterWrite.{insert_cases, remove_all}
+use Rattle.hd_model.proofs.KindTests.{made_secondary}
 use Rattle.hd_model.proofs.WholeScenes.{whole_scene}
 use Rattle.hd_model.proofs.Effects.{Effect, next_identity, effect, refused, makes_object, sets_field, gets_field, sets_value, reads_value, copies, clears, puts_static, gets_static, reads_generation, suppresses, reregisters, finds_none, takes_first, collects, makes_handle, gets_target, sets_target, sets_secondary, gets_secondary, sets_strength, raises_count, lowers_count, frees_handle, puts_board, picks_board, answers_place, gives_back, gives_none}
 use Rattle.hd_model.proofs.Ages.{lowered_below, lowered_here, grown_sound}
@@ -97,13 +89,15 @@ module _ (s : State) (ages : List ℕ) (sound : IsSound s ages) where
   made : (c : ℕ) (given : Make) (t : ℕ) (slot : Slot)
       → HasSoundAges (scene_of s).object (λ q. get (insert s.handles slot.0 (made_handle s c given t)) q)
       (lowered_by_new s ages (Some slot) given (register_of s c t))
-  made c make.Short t slot = stored slot _ (register_of s c t) refl refl
-  made c make.Long t slot = stored slot _ (register_of s c t) refl refl
-  made c make.Strong t slot = stored slot _ (register_of s c t) refl refl
-  made c make.Pinned t slot = stored slot _ (register_of s c t) refl refl
-  made c (make.Variable given) t slot = stored slot _ (register_of s c t) refl refl
-  made c make.Counted t slot = stored slot _ (register_of s c t) refl refl
-  made c (make.Dependent r) t slot = zeroed slot _
+  made c given t slot = by (secondary_register given) (made_secondary s c given t)
+    where
+      by : (o : Option ℕ) → secondary_of (made_extra s c given t)
+          ≡ option_and_then (λ r. option_and_then (λ _. register_of s c r) (register_of s c t)) o
+          → HasSoundAges (scene_of s).object (λ q. get (insert s.handles slot.0 (made_handle s c given t)) q)
+          (option_map_or (λ _. lowered_at ages (Some slot) 0) o (lowered_to s ages (Some slot)
+          (register_of s c t)))
+      by None none = stored slot _ (register_of s c t) refl none
+      by (Some r) some = zeroed slot _
 
   freed : (slot : Slot) → HasSoundAges (scene_of s).object (λ q. get (remove s.handles slot.0) q) ages
   freed slot = record {

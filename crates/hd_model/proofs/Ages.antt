@@ -1,7 +1,6 @@
 -- Ages stay sound where they are lowered, and where a collection raises them with the generations.
-use Rattle.std.proofs.Common.{◌≡◌, ℕ, zero, suc, ◌≤◌, true, min, List, [], ◌∷◌, get_or, set, map, Some, sym, ap, ◌∙◌, subst, ⊎_elim, ◌⊎◌, arith, le_trans}
-use Rattle.std.proofs.lemmas.Bool.Decides.{nat_tests}
-use Rattle.hd_model.specs.declared.data.Report.{Report}
+use Rattle.hd_model.proofs.Basics.{◌≡◌, ℕ, zero, suc, ◌≤◌, true, min, List, [], ◌∷◌, get_or, set, map, Some, sym, ap, ◌∙◌, subst, ⊎_elim, ◌⊎◌, arith, le_trans, nat_tests}
+use Rattle.hd_model.specs.Data.{Report}
 use Rattle.hd_model.specs.State.{Handle, secondary_of}
 use Rattle.hd_model.specs.Scene.{Scene, Objects, Rows, generation_in, generation_at, IsWhole}
 use Rattle.hd_model.specs.Ages.{raised, clump_of, age_of, lowered, grown, HasSoundAges}

@@ -1,9 +1,6 @@
 -- The laws of collections, from what is proved of scenes.
-use Rattle.std.proofs.Common.{◌≡◌, ℕ, ◌<◌, Bool, true, false, not, ◌&&◌, Some, refl, sym, ap, ◌∙◌, subst, ⊎_elim, inl, inr}
-use Rattle.std.specs.Cmp.{nat_cmp_total}
-use Rattle.std.specs.FinMap.{same_map, nat_cmp-IsAntisymmetric}
-use Rattle.std.proofs.lemmas.Bool.{cases_Bool}
-use Rattle.hd_model.specs.declared.data.Id.{Id}
+use Rattle.hd_model.proofs.Basics.{◌≡◌, ℕ, ◌<◌, Bool, true, false, not, ◌&&◌, Some, refl, sym, ap, ◌∙◌, subst, ⊎_elim, inl, inr, nat_cmp_total, same_map, nat_cmp-IsAntisymmetric, cases_Bool}
+use Rattle.hd_model.specs.Data.{Id}
 use Rattle.hd_model.specs.State.{Object, State}
 use Rattle.hd_model.specs.Scene.{scene_of, generation_in}
 use Rattle.hd_model.specs.Reach.{IsRoot, named, queued, held, older}

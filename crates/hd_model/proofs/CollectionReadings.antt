@@ -1,11 +1,6 @@
 -- A collection is one under other names of its objects: one by address is one by identity.
-use Rattle.std.proofs.Common.{◌≡◌, ℕ, ◌<◌, ◌≤◌, Bool, true, false, cond, not, ◌&&◌, ◌++◌, map, Option, Some, None, is_some, refl, sym, ap, ◌∙◌, subst}
-use Rattle.std.specs.Prelude.{Contains, option_map}
-use Rattle.std.specs.Bool.{Decides}
-use Rattle.std.proofs.lemmas.Bool.{false≢true, true≢false, cond-true, cond-false}
-use Rattle.std.proofs.lemmas.List.{map-append}
-use Rattle.std.proofs.lemmas.Option.{none-some}
-use Rattle.hd_model.specs.declared.data.Report.{Report}
+use Rattle.hd_model.proofs.Basics.{◌≡◌, ℕ, ◌<◌, ◌≤◌, Bool, true, false, cond, not, ◌&&◌, ◌++◌, map, Option, Some, None, is_some, refl, sym, ap, ◌∙◌, subst, Contains, option_map, Decides, false≢true, true≢false, cond-true, cond-false, map-append, none-some}
+use Rattle.hd_model.specs.Data.{Report}
 use Rattle.hd_model.specs.State.{Object, Extra, secondary, Handle, rename_extra, rename_handle}
 use Rattle.hd_model.specs.Role.{Role, holds, short, long, attaches, role}
 use Rattle.hd_model.specs.Counting.{Counts}
@@ -16,7 +11,8 @@ use Rattle.hd_model.proofs.Members.{mapped_in, mapped_from, pairs_mapped}
 use Rattle.hd_model.proofs.PropertyCounts.{counts_like, counts_named}
 use Rattle.hd_model.proofs.Entries.{some_value}
 use Rattle.hd_model.proofs.SceneCollection.{object_before, object_after, kept_object}
-use Rattle.hd_model.proofs.RenamedReach.{role_renamed, object_read, is_object_read, generation_read, handle_read, handle_unread, reached_read, reached_unread, revived_read, revived_unread, kept_read, kept_unread}
+use Rattle.hd_model.proofs.RenamedPins.{role_renamed}
+use Rattle.hd_model.proofs.RenamedReach.{object_read, is_object_read, generation_read, handle_read, handle_unread, reached_read, reached_unread, revived_read, revived_unread, kept_read, kept_unread}
 
 -- a set under other names: false where no object has the name
 abbrev pub asked : {N : Type 0} → (N → Bool) → Option N → Bool

@@ -1,11 +1,7 @@
 -- The sample states meet what the laws of collections ask for.
-use Rattle.std.proofs.Common.{◌≡◌, ◌≢◌, ℕ, zero, suc, ◌<◌, ◌≤◌, true, false, [], ◌∷◌, get_or, replicate, Some, None, IsSome, is_some, nat_cmp, refl, sym, ap, ◌∙◌, subst, ⊎_elim, inl, inr, ◌⊎◌, arith}
-use Rattle.std.specs.FinMap.{get, empty, get-empty}
-use Rattle.std.proofs.lemmas.Bool.{false≢true}
-use Rattle.std.proofs.lemmas.Option.{none-some, same_Some}
-use Rattle.hd_model.specs.declared.data.Id.{Id}
+use Rattle.hd_model.proofs.Basics.{◌≡◌, ◌≢◌, ℕ, zero, suc, ◌<◌, ◌≤◌, true, false, [], ◌∷◌, get_or, replicate, Some, None, IsSome, is_some, nat_cmp, refl, sym, ap, ◌∙◌, subst, ⊎_elim, inl, inr, ◌⊎◌, arith, get, empty, get-empty, false≢true, none-some, same_Some}
+use Rattle.hd_model.specs.Data.{Id, Report}
 use Rattle.hd_model.specs.declared.data.Kind.TheVariants as kind
-use Rattle.hd_model.specs.declared.data.Report.{Report}
 use Rattle.hd_model.specs.State.{Object, Handle, handles_of, State, start_of, secondary_of, field_of, with_object, with_handle, with_use, with_serial, without_handle}
 use Rattle.hd_model.specs.Kinds.{is_paired}
 use Rattle.hd_model.specs.Role.{holds, role}

@@ -1,11 +1,6 @@
 -- A collection leads to one state with one report, and from a well formed state to a well formed one.
-use Rattle.std.proofs.Common.{◌≡◌, ℕ, Bool, true, cond, ◌++◌, None, sym, ap, ◌∙◌, subst}
-use Rattle.std.specs.Prelude.{option_map}
-use Rattle.std.specs.Cmp.{nat_cmp_total}
-use Rattle.std.specs.FinMap.{same_map, nat_cmp-IsAntisymmetric}
-use Rattle.std.proofs.lemmas.Bool.Decides.{same_from_decides}
-use Rattle.hd_model.specs.declared.data.Id.{Id}
-use Rattle.hd_model.specs.declared.data.Report.{Report}
+use Rattle.hd_model.proofs.Basics.{◌≡◌, ℕ, Bool, true, cond, ◌++◌, None, sym, ap, ◌∙◌, subst, option_map, nat_cmp_total, same_map, nat_cmp-IsAntisymmetric, same_from_decides}
+use Rattle.hd_model.specs.Data.{Id, Report}
 use Rattle.hd_model.specs.Role.{short, long, attaches}
 use Rattle.hd_model.specs.Scene.{Scene, scene_of}
 use Rattle.hd_model.specs.State.{State}

@@ -1,11 +1,6 @@
 -- A dependent handle over a collection, and a state without it.
-use Rattle.std.proofs.Common.{◌≡◌, ℕ, Bool, true, false, not, ◌&&◌, Some, None, IsSome, sym, ap, ◌∙◌, subst, ⊎_elim, inl, inr, ◌⊎◌}
-use Rattle.std.specs.FinMap.{get}
-use Rattle.std.proofs.lemmas.Bool.{cases_Bool, cases_eq, cond-true, false≢true, true≢false}
-use Rattle.std.proofs.lemmas.Option.{same_Some}
-use Rattle.hd_model.specs.declared.data.Id.{Id}
-use Rattle.hd_model.specs.declared.data.Slot.{Slot}
-use Rattle.hd_model.specs.declared.data.Report.{Report}
+use Rattle.hd_model.proofs.Basics.{◌≡◌, ℕ, Bool, true, false, not, ◌&&◌, Some, None, IsSome, sym, ap, ◌∙◌, subst, ⊎_elim, inl, inr, ◌⊎◌, get, cases_Bool, cases_eq, cond-true, false≢true, true≢false, same_Some}
+use Rattle.hd_model.specs.Data.{Id, Slot, Report}
 use Rattle.hd_model.specs.declared.data.Kind.TheVariants as kind
 use Rattle.hd_model.specs.State.{Handle, State, secondary, secondary_of, without_handle}
 use Rattle.hd_model.specs.Role.{holds, attaches, role}

@@ -1,6 +1,6 @@
 -- Chains of edges: that they join, map to chains of other edges, and stay within closed sets; and sets that
 -- grow along them.
-use Rattle.std.proofs.Common.{◌≡◌, Bool, true, sym, subst, ⊎_elim, inl, inr, ◌⊎◌}
+use Rattle.hd_model.proofs.Basics.{◌≡◌, Bool, true, sym, subst, ⊎_elim, inl, inr, ◌⊎◌}
 use Rattle.hd_model.specs.Leads.{Leads, IsClosed, Grows}
 
 module _ {N : Type 0} (E : N → N → Type 0) where

@@ -1,5 +1,5 @@
 -- Chains and growths by other edges, and within a property that edges keep.
-use Rattle.std.proofs.Common.{◌≡◌, Bool, true, ⊎_elim}
+use Rattle.hd_model.proofs.Basics.{◌≡◌, Bool, true, ⊎_elim}
 use Rattle.hd_model.specs.Leads.{Leads, Grows}
 
 -- where each edge is one of another relation, so is each chain

@@ -1,26 +1,18 @@
 -- What each command does where it is not refused, one case for each way.
-use Rattle.std.proofs.Common.{◌≡◌, ℕ, ◌<◌, ◌+◌, ◌-◌, ◌^◌, ◌==◌, ◌&&◌, Bool, true, false, length, set, Option, Some, None, is_some, IsSome, cond, List, [], ◌∷◌, refl, sym, ap, ◌∙◌, subst, ⊎_elim}
-use Rattle.std.specs.Prelude.{option_and_then}
-use Rattle.hd_model.specs.declared.data.Id.{Id}
-use Rattle.hd_model.specs.declared.data.Slot.{Slot}
-use Rattle.hd_model.specs.declared.data.Entry.{Entry}
-use Rattle.hd_model.specs.declared.data.Kind.{Kind}
+use Rattle.hd_model.proofs.Basics.{◌≡◌, ℕ, ◌<◌, ◌+◌, ◌-◌, ◌^◌, ◌==◌, ◌&&◌, Bool, true, false, length, set, Option, Some, None, is_some, IsSome, cond, List, [], ◌∷◌, refl, sym, ap, ◌∙◌, subst, ⊎_elim, option_and_then}
+use Rattle.hd_model.specs.Data.{Id, Slot, Entry, Kind, Make, Strength, Grown, Refusal, Cmd}
 use Rattle.hd_model.specs.declared.data.Kind.TheVariants as kind
-use Rattle.hd_model.specs.declared.data.Make.{Make}
-use Rattle.hd_model.specs.declared.data.Strength.{Strength}
-use Rattle.hd_model.specs.declared.data.Grown.{Grown}
 use Rattle.hd_model.specs.declared.data.Grown.TheVariants.{Zero, One, Two, Back}
-use Rattle.hd_model.specs.declared.data.Refusal.{Refusal}
 use Rattle.hd_model.specs.declared.data.Reply.TheVariants as reply
-use Rattle.hd_model.specs.declared.command.Cmd.{Cmd}
 use Rattle.hd_model.specs.declared.command.Cmd.TheVariants as cmd
 use Rattle.hd_model.specs.Kinds.{kind_of, is_kind}
-use Rattle.hd_model.specs.State.{Numbers, Object, Extra, strength, secondary, count, Handle, State, secondary_of, count_of, without_secondary, register_of, handle_register_of, static_of, board_of, last_serial, object_by_id, field_of, handle_at, identity_of, IsAllFree}
-use Rattle.hd_model.specs.State.{with_register, with_handle_register, with_static, with_board, with_object, with_handle, without_handle, without_use, with_queue, with_place, with_serial}
+use Rattle.hd_model.specs.State.{Numbers, Object, Extra, strength, secondary, count, Handle, State, secondary_of, count_of, without_secondary, register_of, handle_register_of, static_of, board_of, last_serial, object_by_id, field_of, handle_at, identity_of, IsAllFree, with_register, with_handle_register, with_static, with_board, with_object, with_handle, without_handle, without_use, with_queue, with_place, with_serial}
 use Rattle.hd_model.specs.Role.{pins}
 use Rattle.hd_model.specs.Places.{MayAnswer}
 use Rattle.hd_model.specs.Command.{Outcome, refuses, loaded, on_handle, on_handle_of, fresh_object, take_first, set_registered, made_handle}
 use Rattle.hd_model.specs.Step.{IsOutcome, MayGive, with_growth, MakesHandle, pinned_by, AnswersPlace, DoesCollect, GivesBack, StepOf, Step}
+use Rattle.hd_model.specs.WellFormed.{FitsKind}
+use Rattle.hd_model.proofs.KindTests.{same_kind}
 use Rattle.hd_model.proofs.Outcomes.{option_cases, test_cases, on_object_cases, on_field_cases, on_handle_cases, on_handle_of_cases}
 
 -- the identity that a `new` gives
@@ -98,19 +90,19 @@ pub data Effect (n : Numbers) (s : State) (e : Entry) : Cmd → State → Type 0
             without_secondary handle.extra;
       }))
   sets_secondary : {h r : ℕ} (slot : Slot) (handle : Handle Id) → Finds s e.caller h slot handle
-      → is_kind handle.kind kind.Dependent ≡ true → IsSome handle.target → e.reply ≡ reply.Done
+      → FitsKind {N = Id} handle.kind (secondary (register_of s e.caller r)) → IsSome handle.target → e.reply ≡ reply.Done
       → Effect n s e (cmd.HSec h r) (with_extra s slot handle (secondary (register_of s e.caller r)))
   gets_secondary : {d h : ℕ} (slot : Slot) (handle : Handle Id) → Finds s e.caller h slot handle
       → e.reply ≡ loaded (secondary_of handle.extra)
       → Effect n s e (cmd.HDep d h) (with_register s e.caller d (secondary_of handle.extra))
   sets_strength : {h : ℕ} {given : Strength} (slot : Slot) (handle : Handle Id)
-      → Finds s e.caller h slot handle → is_kind handle.kind kind.Variable ≡ true → e.reply ≡ reply.Done
+      → Finds s e.caller h slot handle → FitsKind {N = Id} handle.kind (strength given) → e.reply ≡ reply.Done
       → Effect n s e (cmd.HVar h given) (with_extra s slot handle (strength given))
   raises_count : {h : ℕ} (slot : Slot) (handle : Handle Id) → Finds s e.caller h slot handle
-      → is_kind handle.kind kind.Counted ≡ true → e.reply ≡ reply.Value (count_of handle.extra + 1)
+      → FitsKind {N = Id} handle.kind (count (count_of handle.extra + 1)) → e.reply ≡ reply.Value (count_of handle.extra + 1)
       → Effect n s e (cmd.HUp h) (with_extra s slot handle (count (count_of handle.extra + 1)))
   lowers_count : {h : ℕ} (slot : Slot) (handle : Handle Id) → Finds s e.caller h slot handle
-      → is_kind handle.kind kind.Counted ≡ true → e.reply ≡ reply.Value (count_of handle.extra - 1)
+      → FitsKind {N = Id} handle.kind (count (count_of handle.extra - 1)) → e.reply ≡ reply.Value (count_of handle.extra - 1)
       → Effect n s e (cmd.HDown h) (with_extra s slot handle (count (count_of handle.extra - 1)))
   frees_handle : {h : ℕ} (slot : Slot) (handle : Handle Id) → Finds s e.caller h slot handle
       → e.reply ≡ reply.Done → e.slot ≡ Some slot → Effect n s e (cmd.HFree h)
@@ -186,12 +178,11 @@ module _ (n : Numbers) (s : State) (e : Entry) (t : State) where
   -- a command on a handle of one kind
   works_on : (c : Cmd) (h : ℕ) (wanted : Kind) (act : Slot → Handle Id → Outcome)
       → ((slot : Slot) (handle : Handle Id) → Finds s e.caller h slot handle
-      → is_kind handle.kind wanted ≡ true → Comes c (act slot handle))
-      → Comes c (on_handle_of s e.caller h wanted act)
+      → handle.kind ≡ wanted → Comes c (act slot handle)) → Comes c (on_handle_of s e.caller h wanted act)
   works_on c h wanted act does =
       on_handle_of_cases (Comes c) s e.caller h wanted act (λ _. refuses_it _ _) (λ _ _ _. refuses_it _ _)
       (λ _ _ _ _ _. refuses_it _ _)
-      (λ slot handle f g same. does slot handle (record { names = f; live = g }) same)
+      (λ slot handle f g same. does slot handle (record { names = f; live = g }) (same_kind _ _ same))
 
   -- a command on a handle
   works : (c : Cmd) (h : ℕ) (act : Slot → Handle Id → Outcome)
@@ -237,22 +228,22 @@ module _ (n : Numbers) (s : State) (e : Entry) (t : State) where
       (is_kind handle.kind kind.Dependent && is_some (register_of s e.caller v)) _ _ (λ _. refuses_it _ _)
       (λ _. comes _ _ (λ p _. sets_target slot handle f p))) h
   command_effect (cmd.HSec r v) h =
-      works_on (cmd.HSec r v) r kind.Dependent _
+      works_on (cmd.HSec r v) r _ _
       (λ slot handle f same. option_cases (Comes (cmd.HSec r v)) _ handle.target _ (λ _. refuses_it _ _)
       (λ id target. comes _ _ (λ p _. sets_secondary slot handle f same (ap is_some target) p))) h
   command_effect (cmd.HDep d r) h = works_on _ r kind.Dependent _
       (λ slot handle f same. comes _ _ (λ p _. gets_secondary slot handle f p)) h
-  command_effect (cmd.HVar r given) h = works_on _ r kind.Variable _
+  command_effect (cmd.HVar r given) h = works_on _ r _ _
       (λ slot handle f same. comes _ _ (λ p _. sets_strength slot handle f same p)) h
   command_effect (cmd.HFree r) h = works _ r _ (λ slot handle f. comes _ _
       (λ p q. frees_handle slot handle f p q)) h
   command_effect (cmd.HPut k r) h = comes _ _ (λ p _. puts_board p) h
   command_effect (cmd.HPick d k) h = comes _ _ (λ p _. picks_board p) h
   command_effect (cmd.AddrOf r) h = answers_it r h
-  command_effect (cmd.HUp r) h = works_on _ r kind.Counted _
+  command_effect (cmd.HUp r) h = works_on _ r _ _
       (λ slot handle f same. comes _ _ (λ p _. raises_count slot handle f same p)) h
   command_effect (cmd.HDown r) h =
-      works_on (cmd.HDown r) r kind.Counted _
+      works_on (cmd.HDown r) r _ _
       (λ slot handle f same. test_cases (Comes (cmd.HDown r)) (count_of handle.extra == 0) _ _
       (λ _. refuses_it _ _) (λ _. comes _ _ (λ p _. lowers_count slot handle f same p))) h
   command_effect (cmd.Trim given) h =

@@ -1,15 +1,5 @@
 -- A finite map by numbers against the lists of its entries, keys and values; and how many keys it has.
-use Rattle.std.proofs.Common.{◌≡◌, ◌≢◌, ℕ, ◌<◌, Bool, true, false, cond, ◌&&◌, T, List, [], ◌∷◌, map, Option, Some, None, is_some, IsSome, refl, sym, ap, ◌∙◌, subst, ⊎_elim, arith}
-use Rattle.std.specs.Prelude.{Contains, AllPairs}
-use Rattle.std.specs.List.{list_any}
-use Rattle.std.specs.FinMap.{FinMap, get, len, find, is_sorted, entries, keys, values, entries_sorted, get-entries, len-entries}
-use Rattle.std.specs.FinMap.Entries.{below_all}
-use Rattle.std.specs.Ordering.{nat_cmp, is_lt, eq_by_cmp}
-use Rattle.std.specs.Cmp.{unsigned_tied}
-use Rattle.std.proofs.lemmas.Bool.{eq-eqb, ne_eqb, cases_eq, or_cases, or_left, or_right, false≢true}
-use Rattle.std.proofs.lemmas.Bool.Decides.{nat_tests}
-use Rattle.std.proofs.lemmas.List.{length-map}
-use Rattle.std.proofs.lemmas.Option.{none-some, same_Some}
+use Rattle.hd_model.proofs.Basics.{◌≡◌, ◌≢◌, ℕ, ◌<◌, Bool, true, false, cond, ◌&&◌, T, List, [], ◌∷◌, map, Option, Some, None, is_some, IsSome, refl, sym, ap, ◌∙◌, subst, ⊎_elim, arith, Contains, AllPairs, list_any, FinMap, get, len, find, is_sorted, entries, keys, values, entries_sorted, get-entries, len-entries, below_all, nat_cmp, is_lt, eq_by_cmp, unsigned_tied, eq-eqb, ne_eqb, cases_eq, or_cases, or_left, or_right, false≢true, nat_tests, length-map, none-some, same_Some}
 use Rattle.hd_model.specs.Counting.{Counts}
 use Rattle.hd_model.proofs.Members.{not_in_none, first_in, later_in, member_cases, mapped_in, mapped_from, pairs_none, pairs_cons, pairs_like, pairs_mapped}
 

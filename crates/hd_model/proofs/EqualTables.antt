@@ -1,14 +1,14 @@
 -- What holds of one basis and one table holds of equal ones.
-use Rattle.std.proofs.Common.{◌≡◌, ◌*◌, ℕ, List, [], length, sym, subst, ap, ◌∙◌}
-use Rattle.std.specs.Prelude.{slice_index_or}
+use Rattle.hd_model.proofs.Basics.{◌≡◌, ◌*◌, ℕ, List, [], length, sym, subst, ap, ◌∙◌, slice_index_or, sum_by}
 use Rattle.hd_model.specs.Heap.{Basis, objects_of}
 use Rattle.hd_model.specs.Table.{Table, row_at}
 use Rattle.hd_model.specs.Names.{NamesObjects}
 use Rattle.hd_model.specs.Ages.{HasSoundAges}
-use Rattle.hd_model.specs.declared.data.Kind.{Kind}
+use Rattle.hd_model.specs.Data.{Kind}
 use Rattle.hd_model.specs.Kinds.{kind_number}
 use Rattle.hd_model.specs.Ages.{visits}
-use Rattle.hd_model.specs.Visits.{visits_of, IsSameTable}
+use Rattle.hd_model.specs.Visits.{visits_of, visits_over, MayVisit, MayVisitDue, IsSameTable}
+use Rattle.hd_model.proofs.RowReferences.{Fades, faded_names, faded_ages}
 
 pub names_again : (g f : Basis) (t u : Table) → f ≡ g → u ≡ t → NamesObjects (objects_of g) (row_at t)
     → NamesObjects (objects_of f) (row_at u)
@@ -41,4 +41,28 @@ same_table_on t u v a b = record {
   chains = b.chains ∙ a.chains;
   uses = b.uses ∙ a.uses;
   blocks = b.blocks ∙ a.blocks;
+}
+
+pub visits_alike : (t u : Table) (ages : List ℕ) (n : ℕ) (ks : List Kind) → IsSameTable t u
+    → visits_over u ages n ks ≡ visits_over t ages n ks
+visits_alike t u ages n ks same =
+    ap (λ chains. sum_by (λ (k : Kind). visits ages n (slice_index_or chains (kind_number k) [])) ks)
+    same.chains
+
+-- a pass may visit what is equal, and rows that reference no more than before
+pub due_again : {g f : Basis} {t u : Table} {ages : List ℕ} {n : ℕ} → f ≡ g → u ≡ t
+    → MayVisitDue g t ages n → MayVisitDue f u ages n
+due_again {g} {f} {t} {u} {ages} {n} basis table w =
+    subst (λ (k : Basis). MayVisitDue k u ages n) (sym basis)
+    (subst (λ (v : Table). MayVisitDue g v ages n) (sym table) w)
+
+pub due_faded : {g : Basis} {t u : Table} {ages : List ℕ} {n : ℕ} → IsSameTable t u
+    → Fades (row_at t) (row_at u) → MayVisitDue g t ages n → MayVisitDue g u ages n
+due_faded {g} {t} {u} {ages} same fades w = record {
+  visit = record {
+    generation = w.visit.generation;
+    names = faded_names (row_at t) (row_at u) (objects_of g) fades w.visit.names;
+    covers = clumps_same t u ages same w.visit.covers;
+  };
+  sound = faded_ages (row_at t) (row_at u) (objects_of g) fades ages w.sound;
 }

@@ -1,13 +1,6 @@
 -- What becomes of objects, handles, the queue and generations in a collection.
-use Rattle.std.proofs.Common.{◌≡◌, ℕ, ◌+◌, ◌≤◌, min, Bool, true, false, not, ◌&&◌, Option, Some, None, refl, sym, ap, ◌∙◌, subst, ⊎_elim, inl, inr, arith}
-use Rattle.std.specs.Prelude.{Contains, option_map}
-use Rattle.std.specs.FinMap.{get}
-use Rattle.std.proofs.lemmas.Bool.{cases_Bool, cond-true, true≢false}
-use Rattle.std.proofs.lemmas.Bool.Decides.{nat_tests}
-use Rattle.std.proofs.lemmas.Option.{same_Some}
-use Rattle.std.proofs.lemmas.List.Elements.{Contains-append_cases, Contains-append_right}
-use Rattle.hd_model.specs.declared.data.Id.{Id}
-use Rattle.hd_model.specs.declared.data.Report.{Report}
+use Rattle.hd_model.proofs.Basics.{◌≡◌, ℕ, ◌+◌, ◌≤◌, min, Bool, true, false, not, ◌&&◌, Option, Some, None, refl, sym, ap, ◌∙◌, subst, ⊎_elim, inl, inr, arith, Contains, option_map, get, cases_Bool, cond-true, true≢false, nat_tests, same_Some, Contains-append_cases, Contains-append_right}
+use Rattle.hd_model.specs.Data.{Id, Report}
 use Rattle.hd_model.specs.State.{Object, Handle, State}
 use Rattle.hd_model.specs.Role.{Role, holds, short, long, attaches, role}
 use Rattle.hd_model.specs.Scene.{scene_of, IsWhole}

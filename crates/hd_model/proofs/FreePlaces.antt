@@ -1,9 +1,6 @@
 -- In every state of a run there is a free place for each object, so no caller is ever stuck.
-use Rattle.std.proofs.Common.{◌≡◌, ℕ, zero, suc, ◌+◌, ◌*◌, ◌/◌, ◌<◌, ◌≤◌, ◌⊎◌, Bool, true, false, cond, List, [], ◌∷◌, length, Option, Some, None, IsSome, is_some, nat_cmp, refl, sym, ap, ◌∙◌, subst, arith, inl, inr, ⊎_elim, unwrap_or, true≢false}
-use Rattle.std.specs.FinMap.{FinMap, get, insert, empty, find, len, entries, len-empty, len-entries, len-insert, get-entries, contains_key}
-use Rattle.std.specs.Cmp.{nat_cmp_total}
-use Rattle.std.proofs.lemmas.Bool.{cases_eq}
-use Rattle.hd_model.specs.declared.data.Id.{Id}
+use Rattle.hd_model.proofs.Basics.{◌≡◌, ℕ, zero, suc, ◌+◌, ◌*◌, ◌/◌, ◌<◌, ◌≤◌, ◌⊎◌, Bool, true, false, cond, List, [], ◌∷◌, length, Option, Some, None, IsSome, is_some, nat_cmp, refl, sym, ap, ◌∙◌, subst, arith, inl, inr, ⊎_elim, unwrap_or, true≢false, FinMap, get, insert, empty, find, len, entries, len-empty, len-entries, len-insert, get-entries, contains_key, nat_cmp_total, cases_eq}
+use Rattle.hd_model.specs.Data.{Id}
 use Rattle.hd_model.specs.State.{Numbers, Object, State, object_by_id, size_of, total_size}
 use Rattle.hd_model.specs.Places.{IsFreePlace}
 use Rattle.hd_model.specs.WellFormed.{IsWellFormed}

@@ -1,11 +1,6 @@
 -- The table grows in one way: by its least unused blocks, and it is full only where there are too few.
-use Rattle.std.proofs.Common.{◌≡◌, ◌≢◌, ℕ, zero, suc, ◌+◌, ◌-◌, ◌<◌, ◌≤◌, Bool, true, false, cond, Option, None, is_some, IsSome, sym, ap, ◌∙◌, subst, arith, nat_cmp, ⊎_elim, true≢false, le_of_eq}
-use Rattle.std.specs.FinMap.{FinMap, get, insert, remove, empty, len, get-empty, len-empty, len-remove, same_map, nat_cmp-IsAntisymmetric}
-use Rattle.std.specs.Cmp.{nat_cmp_total}
-use Rattle.std.proofs.lemmas.Bool.{cases_order}
-use Rattle.hd_model.specs.declared.data.Slot.{Slot}
-use Rattle.hd_model.specs.declared.data.Kind.{Kind}
-use Rattle.hd_model.specs.declared.data.Grown.{Grown}
+use Rattle.hd_model.proofs.Basics.{◌≡◌, ◌≢◌, ℕ, zero, suc, ◌+◌, ◌-◌, ◌<◌, ◌≤◌, Bool, true, false, cond, Option, None, is_some, IsSome, sym, ap, ◌∙◌, subst, arith, nat_cmp, ⊎_elim, true≢false, le_of_eq, FinMap, get, insert, remove, empty, len, get-empty, len-empty, len-remove, same_map, nat_cmp-IsAntisymmetric, nat_cmp_total, cases_order}
+use Rattle.hd_model.specs.Data.{Slot, Kind, Grown}
 use Rattle.hd_model.specs.declared.data.Grown.TheVariants.{Zero, One, Two, Back}
 use Rattle.hd_model.specs.State.{Numbers, extra_data, State, use_of, given_of, first_slot, with_use}
 use Rattle.hd_model.specs.Step.{blocks_needed, IsLeastUnused, MayGive}

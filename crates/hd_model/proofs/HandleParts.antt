@@ -1,39 +1,28 @@
 -- What a handle has is read back, and a freed slot is not live.
-use Rattle.std.proofs.Common.{◌≡◌, ℕ, ◌+◌, ◌-◌, ◌⊎◌, ◌&&◌, ◌==◌, Bool, true, false, cond, if◌then◌else◌, Option, Some, None, IsSome, IsSomeAnd, refl, sym, ap, ◌∙◌, subst, inl, inr, ⊎_elim, true≢false}
-use Rattle.std.specs.Prelude.{option_and_then, option_map}
-use Rattle.std.specs.FinMap.{get, insert}
-use Rattle.std.specs.Option.{option_map_or}
-use Rattle.std.proofs.lemmas.Option.{none-some, same_Some}
-use Rattle.hd_model.specs.declared.data.Id.{Id}
-use Rattle.hd_model.specs.declared.data.Slot.{Slot}
-use Rattle.hd_model.specs.declared.data.Kind.{Kind}
+use Rattle.hd_model.proofs.Basics.{◌≡◌, ℕ, ◌+◌, ◌-◌, ◌⊎◌, ◌&&◌, ◌==◌, Bool, true, false, cond, if◌then◌else◌, Option, Some, None, IsSome, IsSomeAnd, refl, sym, ap, ◌∙◌, subst, inl, inr, ⊎_elim, true≢false, option_and_then, option_map, get, insert, option_map_or, none-some, same_Some}
+use Rattle.hd_model.specs.Data.{Id, Slot, Kind, Make, Strength, Entry, Refusal, Reply, Cmd}
 use Rattle.hd_model.specs.declared.data.Kind.TheVariants as kind
 use Rattle.hd_model.specs.declared.data.Make.TheVariants as make
-use Rattle.hd_model.specs.declared.data.Strength.{Strength}
-use Rattle.hd_model.specs.declared.data.Entry.{Entry}
-use Rattle.hd_model.specs.declared.data.Refusal.{Refusal}
 use Rattle.hd_model.specs.declared.data.Refusal.TheVariants as refusal
-use Rattle.hd_model.specs.declared.data.Reply.{Reply}
 use Rattle.hd_model.specs.declared.data.Reply.TheVariants as reply
-use Rattle.hd_model.specs.declared.command.Cmd.{Cmd}
 use Rattle.hd_model.specs.declared.command.Cmd.TheVariants as cmd
 use Rattle.hd_model.specs.Kinds.{is_kind}
-use Rattle.hd_model.specs.State.{Numbers, Extra, strength, secondary, count, Handle, State, secondary_of, count_of, without_secondary, register_of, handle_register_of, handle_at}
+use Rattle.hd_model.specs.State.{Numbers, Extra, strength, secondary, count, Handle, State, secondary_of, count_of, without_secondary, register_of, handle_register_of, handle_at, with_handle}
 use Rattle.hd_model.specs.Role.{role}
 use Rattle.hd_model.specs.Collect.{is_lost, loses, is_attaching, cleared}
-use Rattle.hd_model.specs.Command.{Outcome, refuses, loaded, with_count, extra_of, on_handle, on_handle_of}
+use Rattle.hd_model.specs.Command.{Outcome, refuses, loaded, with_count, made_handle, on_handle, on_handle_of}
 use Rattle.hd_model.specs.Touched.{touched_by}
 use Rattle.hd_model.specs.Step.{IsOutcome, StepOf, Step}
 use Rattle.hd_model.specs.WellFormed.{FitsKind, IsWellFormed}
 use Rattle.hd_model.specs.Aging.{is_refused}
-use Rattle.hd_model.specs.Laws.{makes_handle as is_making, IsDoneOn, target_at, secondary_at, Clears, WritesTarget, GivesTarget, WritesSecondary, GivesSecondary, WritesStrength, GivesStrength, WritesCount, GivesCount, lowered_answer, AnswersCount, HasExtra, MakesIn, TargetIsReadBack, SecondaryIsReadBack, StrengthIsKept, CountIsReadBack, FreedIsNotLive}
+use Rattle.hd_model.specs.Laws.{makes_handle as is_making, IsDoneOn, WritesTarget, GivesTarget, WritesSecondary, GivesSecondary, WritesStrength, GivesStrength, WritesCount, GivesCount, lowered_answer, AnswersCount, MakesIn, TargetIsReadBack, SecondaryIsReadBack, StrengthIsKept, CountIsReadBack, FreedIsNotLive}
 use Rattle.hd_model.specs.Laws as law
 use Rattle.hd_model.proofs.ReadAfterWrite.{get_inserted, get_removed}
 use Rattle.hd_model.proofs.OneState.{done_or_refused}
-use Rattle.hd_model.proofs.KindTests.{same_kind}
+use Rattle.hd_model.proofs.KindTests.{variable_or_dependent, variable_or_counted, counted_or_dependent}
 use Rattle.hd_model.proofs.KindExtras.{attaching_kind}
 use Rattle.hd_model.proofs.Effects.{Effect, Finds, refused, makes_handle, sets_target, sets_secondary, sets_strength, raises_count, lowers_count, frees_handle}
-use Rattle.hd_model.proofs.StepWrites.{still, not_none, HandleChange, handle_stays, is_made, target_is_set, secondary_is_set, strength_is_set, count_is_raised, count_is_lowered, is_freed, is_collected, handle_change}
+use Rattle.hd_model.proofs.StepWrites.{still, not_none, HandleChange, handle_stays, is_made, target_is_set, extra_is_set, SetsExtra, by_secondary, by_strength, by_raise, by_lower, is_freed, is_collected, handle_change}
 use Rattle.hd_model.proofs.StateReadBack.{step_of, effect_of}
 
 -- the handle in a slot has a property
@@ -102,13 +91,7 @@ module _ (n : Numbers) (s : State) (w : IsWellFormed n s) (e : Entry) (t : State
   target_stays v c o is after (is_made given done none) apart had = absurd (not_none _ _ none had)
   target_stays v c o is after (target_is_set {h = h} {t = r} handle f done) apart had =
       absurd (apart (law.WritesTarget.sets r (done_on s e slot h handle is f (done_is done))))
-  target_stays v c o is after (secondary_is_set handle f same done) apart had =
-      at_live s slot handle (TargetIs v) f.live had
-  target_stays v c o is after (strength_is_set handle f same done) apart had =
-      at_live s slot handle (TargetIs v) f.live had
-  target_stays v c o is after (count_is_raised handle f same done) apart had =
-      at_live s slot handle (TargetIs v) f.live had
-  target_stays v c o is after (count_is_lowered handle f same done) apart had =
+  target_stays v c o is after (extra_is_set handle f fits sets) apart had =
       at_live s slot handle (TargetIs v) f.live had
   target_stays v c o is after (is_freed {h = h} handle f done) apart had =
       absurd (apart (law.WritesTarget.frees (done_on s e slot h handle is f (done_is done))))
@@ -123,6 +106,21 @@ module _ (n : Numbers) (s : State) (w : IsWellFormed n s) (e : Entry) (t : State
       }))))
       (cleared_or_same (loses reach kept handle) handle.target v was)
 
+-- what a done `hnew` makes, and what is written to the handle that a register has
+made_has : (n : Numbers) (s : State) (e : Entry) {d r : ℕ} {given : Make} (t : State) (slot : Slot)
+    (P : Handle Id → Type 0) → P (made_handle s e.caller given r) → Effect n s e (cmd.HNew d given r) t
+    → e.slot ≡ Some slot → e.reply ≡ reply.Done → HandleIs t slot P
+made_has n s e t slot P h (refused p) has done = absurd (done_or_refused done p)
+made_has n s e t slot P h (makes_handle other given_is may p) has done =
+    subst (λ x. HandleIs t x P) (same_Some other slot (sym given_is ∙ has)) (put_is s other _ P h)
+
+written_has : (s : State) (caller h : ℕ) (slot other : Slot) (handle new : Handle Id) (P : Handle Id → Type 0)
+    → Finds s caller h other handle → handle_register_of s caller h ≡ Some slot → P new
+    → HandleIs (with_handle s other new) slot P
+written_has s caller h slot other handle new P f has p =
+    subst (λ x. HandleIs (with_handle s other new) x P) (same_Some other slot (sym f.names ∙ has))
+    (put_is s other new P p)
+
 -- what gives a target
 target_put : (n : Numbers) (s : State) (e : Entry) (t : State) (slot : Slot) (v : Option Id) → Step n s e t
     → GivesTarget s e slot v → e.reply ≡ reply.Done → HandleIs t slot (TargetIs v)
@@ -131,18 +129,9 @@ target_put n s e t slot v step (law.GivesTarget.by_set {h = h} {t = r} is has) d
   where
     by : (t : State) → Effect n s e (cmd.HSet h r) t → HandleIs t slot (TargetIs (register_of s e.caller r))
     by t (refused p) = absurd (done_or_refused done p)
-    by t (sets_target other handle f p) = subst (λ x. HandleIs t x (TargetIs (register_of s e.caller r)))
-        (same_Some other slot (sym f.names ∙ has)) (put_is s other _
-        (TargetIs (register_of s e.caller r)) refl)
+    by t (sets_target other handle f p) = written_has s e.caller h slot other handle _ (TargetIs _) f has refl
 target_put n s e t slot v step (law.GivesTarget.by_new {d = d} {t = r} {given = given} is has) done =
-    by t (effect_of n s e t (cmd.HNew d given r) step is)
-  where
-    by : (t : State) → Effect n s e (cmd.HNew d given r) t
-        → HandleIs t slot (TargetIs (register_of s e.caller r))
-    by t (refused p) = absurd (done_or_refused done p)
-    by t (makes_handle other given_is may p) = subst (λ x. HandleIs t x (TargetIs (register_of s e.caller r)))
-        (same_Some other slot (sym given_is ∙ has)) (put_is s other _
-        (TargetIs (register_of s e.caller r)) refl)
+    made_has n s e t slot (TargetIs _) refl (effect_of n s e t (cmd.HNew d given r) step is) has done
 
 some_handle : {P : Handle Id → Type 0} (o : Option (Handle Id)) → IsSomeAnd o P → (handle : Handle Id)
     × ((o ≡ Some handle) × P handle)
@@ -165,23 +154,6 @@ target_is_read_back n old now new written reading slot v d h since gives done st
 abbrev ExtraIs : Extra Id → Handle Id → Type 0
 ExtraIs x handle = handle.extra ≡ x
 
--- a handle of one kind has no extra of another
-wrong_extra : (n : Numbers) (s : State) (slot : Slot) (handle : Handle Id) (x : Extra Id) (wanted : Kind)
-    → IsWellFormed n s → get s.handles slot.0 ≡ Some handle → handle.extra ≡ x
-    → is_kind handle.kind wanted ≡ true → FitsKind wanted x
-wrong_extra n s slot handle x wanted w live is same =
-    subst (λ k. FitsKind k x) (same_kind handle.kind wanted same)
-    (subst (FitsKind handle.kind) is (w.handles.extras slot.0 handle live))
-
-variable_or_dependent : kind.Variable ≡ kind.Dependent → ⊥
-variable_or_dependent same = cc
-
-variable_or_counted : kind.Variable ≡ kind.Counted → ⊥
-variable_or_counted same = cc
-
-counted_or_dependent : kind.Counted ≡ kind.Dependent → ⊥
-counted_or_dependent same = cc
-
 -- a collection leaves the extra of a handle that is not dependent
 not_attaching : (b lost : Bool) (extra : Extra Id) → (b ≡ true → ⊥)
     → cond (b && lost) (secondary None) extra ≡ extra
@@ -197,61 +169,63 @@ attaching_or_not true true None = inl refl
 attaching_or_not true true (Some x) = inr (refl, refl)
 
 module _ (n : Numbers) (s : State) (w : IsWellFormed n s) (e : Entry) (t : State) (slot : Slot) where
-  -- a collection leaves a strength and a count
-  extra_left : (handle : Handle Id) (reach kept : Id → Bool) (x : Extra Id)
-      → get s.handles slot.0 ≡ Some handle → handle.extra ≡ x → (FitsKind kind.Dependent x → ⊥)
-      → ExtraIs x (cleared reach kept handle)
-  extra_left handle reach kept x live is apart =
+  -- the extra of a handle fits its kind
+  fits_there : (handle : Handle Id) (x : Extra Id) → get s.handles slot.0 ≡ Some handle
+      → HandleIs s slot (ExtraIs x) → FitsKind handle.kind x
+  fits_there handle x live had =
+      subst (FitsKind handle.kind) (at_live s slot handle (ExtraIs x) live had)
+      (w.handles.extras slot.0 handle live)
+
+  -- an extra that is no secondary stays where no command sets it and the handle is not freed
+  extra_stays : (x : Extra Id) (c : Cmd) (o : Option (Handle Id)) → HandleChange s e slot c o
+      → without_secondary x ≡ x → (FitsKind kind.Dependent x → ⊥)
+      → ((h : ℕ) (handle : Handle Id) (y : Extra Id) → Finds s e.caller h slot handle → FitsKind handle.kind x
+      → FitsKind handle.kind y → SetsExtra s e handle c h y → ⊥)
+      → ((h : ℕ) (handle : Handle Id) → c ≡ cmd.HFree h → Finds s e.caller h slot handle → e.reply ≡ reply.Done
+      → ⊥) → HandleIs s slot (ExtraIs x) → IsSomeAnd o (ExtraIs x)
+  extra_stays x c o handle_stays same apart sets frees had = had
+  extra_stays x c o (is_made given_is done none) same apart sets frees had = absurd (not_none _ _ none had)
+  extra_stays x c o (target_is_set handle f done) same apart sets frees had =
+      ap without_secondary (at_live s slot handle (ExtraIs x) f.live had) ∙ same
+  extra_stays x c o (extra_is_set {h = h} handle {x = y} f fits set_by) same apart sets frees had =
+      absurd (sets h handle y f (fits_there handle x f.live had) fits set_by)
+  extra_stays x c o (is_freed {h = h} handle f done) same apart sets frees had = absurd (frees h handle refl f done)
+  extra_stays x c o (is_collected reach kept handle live) same apart sets frees had =
       not_attaching (is_attaching (role handle)) (is_lost kept handle.target) handle.extra
       (λ attaches. apart (subst (λ k. FitsKind k x) (attaching_kind handle.kind handle.extra attaches)
-      (subst (FitsKind handle.kind) is (w.handles.extras slot.0 handle live)))) ∙ is
+      (fits_there handle x live had))) ∙ at_live s slot handle (ExtraIs x) live had
 
-  strength_stays : (given : Strength) (c : Cmd) (o : Option (Handle Id)) → e.cmd ≡ c
-      → HandleChange s e slot c o → (WritesStrength slot s e t → ⊥)
-      → HandleIs s slot (ExtraIs (strength given)) → IsSomeAnd o (ExtraIs (strength given))
-  strength_stays given c o is handle_stays apart had = had
-  strength_stays given c o is (is_made given_is done none) apart had = absurd (not_none _ _ none had)
-  strength_stays given c o is (target_is_set handle f done) apart had =
-      ap without_secondary (at_live s slot handle (ExtraIs (strength given)) f.live had)
-  strength_stays given c o is (secondary_is_set handle f same done) apart had =
-      absurd (variable_or_dependent (sym (wrong_extra n s slot handle (strength given) kind.Dependent w f.live
-      (at_live s slot handle (ExtraIs (strength given)) f.live had) same)))
-  strength_stays given c o is (strength_is_set {h = h} {given = other} handle f same done) apart had =
-      absurd (apart (law.WritesStrength.sets other (done_on s e slot h handle is f (done_is done))))
-  strength_stays given c o is (count_is_raised handle f same done) apart had =
-      absurd (variable_or_counted (sym (wrong_extra n s slot handle (strength given) kind.Counted w f.live
-      (at_live s slot handle (ExtraIs (strength given)) f.live had) same)))
-  strength_stays given c o is (count_is_lowered handle f same done) apart had =
-      absurd (variable_or_counted (sym (wrong_extra n s slot handle (strength given) kind.Counted w f.live
-      (at_live s slot handle (ExtraIs (strength given)) f.live had) same)))
-  strength_stays given c o is (is_freed {h = h} handle f done) apart had =
-      absurd (apart (law.WritesStrength.frees (done_on s e slot h handle is f (done_is done))))
-  strength_stays given c o is (is_collected reach kept handle live) apart had =
-      extra_left handle reach kept (strength given) live
-      (at_live s slot handle (ExtraIs (strength given)) live had)
-      (λ same. variable_or_dependent (sym same))
+  strength_stays : (given : Strength) (o : Option (Handle Id)) → HandleChange s e slot e.cmd o
+      → (WritesStrength slot s e t → ⊥) → HandleIs s slot (ExtraIs (strength given))
+      → IsSomeAnd o (ExtraIs (strength given))
+  strength_stays given o change apart =
+      extra_stays (strength given) e.cmd o change refl (λ fits. variable_or_dependent fits refl)
+      (λ h handle y. sets e.cmd h handle y refl)
+      (λ h handle is f done. apart (law.WritesStrength.frees (done_on s e slot h handle is f (done_is done))))
+    where
+      sets : (c : Cmd) (h : ℕ) (handle : Handle Id) (y : Extra Id) → e.cmd ≡ c → Finds s e.caller h slot handle
+          → FitsKind {N = Id} handle.kind (strength given) → FitsKind handle.kind y → SetsExtra s e handle c h y → ⊥
+      sets c h handle z is f x y (by_strength {given = other} done) =
+          apart (law.WritesStrength.sets other (done_on s e slot h handle is f (done_is done)))
+      sets c h handle z is f x y (by_secondary done) = variable_or_dependent x y
+      sets c h handle z is f x y (by_raise done) = variable_or_counted x y
+      sets c h handle z is f x y (by_lower done) = variable_or_counted x y
 
-  count_stays : (x : ℕ) (c : Cmd) (o : Option (Handle Id)) → e.cmd ≡ c → HandleChange s e slot c o
-      → (WritesCount slot s e t → ⊥) → HandleIs s slot (ExtraIs (count x)) → IsSomeAnd o (ExtraIs (count x))
-  count_stays x c o is handle_stays apart had = had
-  count_stays x c o is (is_made given_is done none) apart had = absurd (not_none _ _ none had)
-  count_stays x c o is (target_is_set handle f done) apart had =
-      ap without_secondary (at_live s slot handle (ExtraIs (count x)) f.live had)
-  count_stays x c o is (secondary_is_set handle f same done) apart had =
-      absurd (counted_or_dependent (sym (wrong_extra n s slot handle (count x) kind.Dependent w f.live
-      (at_live s slot handle (ExtraIs (count x)) f.live had) same)))
-  count_stays x c o is (strength_is_set handle f same done) apart had =
-      absurd (variable_or_counted (wrong_extra n s slot handle (count x) kind.Variable w f.live
-      (at_live s slot handle (ExtraIs (count x)) f.live had) same))
-  count_stays x c o is (count_is_raised {h = h} handle f same done) apart had =
-      absurd (apart (law.WritesCount.raises (done_on s e slot h handle is f (ap is_refused done))))
-  count_stays x c o is (count_is_lowered {h = h} handle f same done) apart had =
-      absurd (apart (law.WritesCount.lowers (done_on s e slot h handle is f (ap is_refused done))))
-  count_stays x c o is (is_freed {h = h} handle f done) apart had =
-      absurd (apart (law.WritesCount.frees (done_on s e slot h handle is f (done_is done))))
-  count_stays x c o is (is_collected reach kept handle live) apart had =
-      extra_left handle reach kept (count x) live (at_live s slot handle (ExtraIs (count x)) live had)
-      (λ same. counted_or_dependent (sym same))
+  count_stays : (x : ℕ) (o : Option (Handle Id)) → HandleChange s e slot e.cmd o → (WritesCount slot s e t → ⊥)
+      → HandleIs s slot (ExtraIs (count x)) → IsSomeAnd o (ExtraIs (count x))
+  count_stays x o change apart =
+      extra_stays (count x) e.cmd o change refl (λ fits. counted_or_dependent fits refl)
+      (λ h handle y. sets e.cmd h handle y refl)
+      (λ h handle is f done. apart (law.WritesCount.frees (done_on s e slot h handle is f (done_is done))))
+    where
+      sets : (c : Cmd) (h : ℕ) (handle : Handle Id) (y : Extra Id) → e.cmd ≡ c → Finds s e.caller h slot handle
+          → FitsKind {N = Id} handle.kind (count x) → FitsKind handle.kind y → SetsExtra s e handle c h y → ⊥
+      sets c h handle z is f a b (by_strength done) = variable_or_counted b a
+      sets c h handle z is f a b (by_secondary done) = counted_or_dependent a b
+      sets c h handle z is f a b (by_raise done) =
+          apart (law.WritesCount.raises (done_on s e slot h handle is f (ap is_refused done)))
+      sets c h handle z is f a b (by_lower done) =
+          apart (law.WritesCount.lowers (done_on s e slot h handle is f (ap is_refused done)))
 
   secondary_stays : (v : Option Id) (c : Cmd) (o : Option (Handle Id)) → e.cmd ≡ c → get t.handles slot.0 ≡ o
       → HandleChange s e slot c o → (WritesSecondary slot s e t → ⊥) → HandleIs s slot (ExtraIs (secondary v))
@@ -260,17 +234,14 @@ module _ (n : Numbers) (s : State) (w : IsWellFormed n s) (e : Entry) (t : State
   secondary_stays v c o is after (is_made given_is done none) apart had = absurd (not_none _ _ none had)
   secondary_stays v c o is after (target_is_set {h = h} {t = r} handle f done) apart had =
       absurd (apart (law.WritesSecondary.sets_target r (done_on s e slot h handle is f (done_is done))))
-  secondary_stays v c o is after (secondary_is_set {h = h} {r = r} handle f same done) apart had =
+  secondary_stays v c o is after (extra_is_set {h = h} handle f fits (by_secondary {r = r} done)) apart had =
       absurd (apart (law.WritesSecondary.sets r (done_on s e slot h handle is f (done_is done))))
-  secondary_stays v c o is after (strength_is_set handle f same done) apart had =
-      absurd (variable_or_dependent (wrong_extra n s slot handle (secondary v) kind.Variable w f.live
-      (at_live s slot handle (ExtraIs (secondary v)) f.live had) same))
-  secondary_stays v c o is after (count_is_raised handle f same done) apart had =
-      absurd (counted_or_dependent (wrong_extra n s slot handle (secondary v) kind.Counted w f.live
-      (at_live s slot handle (ExtraIs (secondary v)) f.live had) same))
-  secondary_stays v c o is after (count_is_lowered handle f same done) apart had =
-      absurd (counted_or_dependent (wrong_extra n s slot handle (secondary v) kind.Counted w f.live
-      (at_live s slot handle (ExtraIs (secondary v)) f.live had) same))
+  secondary_stays v c o is after (extra_is_set handle f fits (by_strength done)) apart had =
+      absurd (variable_or_dependent fits (fits_there handle (secondary v) f.live had))
+  secondary_stays v c o is after (extra_is_set handle f fits (by_raise done)) apart had =
+      absurd (counted_or_dependent fits (fits_there handle (secondary v) f.live had))
+  secondary_stays v c o is after (extra_is_set handle f fits (by_lower done)) apart had =
+      absurd (counted_or_dependent fits (fits_there handle (secondary v) f.live had))
   secondary_stays v c o is after (is_freed {h = h} handle f done) apart had =
       absurd (apart (law.WritesSecondary.frees (done_on s e slot h handle is f (done_is done))))
   secondary_stays v c o is after (is_collected {k = k} reach kept handle live) apart had =
@@ -299,19 +270,10 @@ secondary_put n s e t slot v step (law.GivesSecondary.by_set {h = h} {r = r} is 
         → HandleIs t slot (ExtraIs (secondary (register_of s e.caller r)))
     by t (refused p) = absurd (done_or_refused done p)
     by t (sets_secondary other handle f same target p) =
-        subst (λ x. HandleIs t x (ExtraIs (secondary (register_of s e.caller r))))
-        (same_Some other slot (sym f.names ∙ has)) (put_is s other _
-        (ExtraIs (secondary (register_of s e.caller r))) refl)
+        written_has s e.caller h slot other handle _ (ExtraIs _) f has refl
 secondary_put n s e t slot v step (law.GivesSecondary.by_new {d = d} {r = r} {t = x} is has) done =
-    by t (effect_of n s e t (cmd.HNew d (make.Dependent r) x) step is)
-  where
-    by : (t : State) → Effect n s e (cmd.HNew d (make.Dependent r) x) t
-        → HandleIs t slot (ExtraIs (extra_of s e.caller (make.Dependent r) x))
-    by t (refused p) = absurd (done_or_refused done p)
-    by t (makes_handle other given_is may p) = subst
-        (λ y. HandleIs t y (ExtraIs (extra_of s e.caller (make.Dependent r) x)))
-        (same_Some other slot (sym given_is ∙ has)) (put_is s other _
-        (ExtraIs (extra_of s e.caller (make.Dependent r) x)) refl)
+    made_has n s e t slot (ExtraIs _) refl (effect_of n s e t (cmd.HNew d (make.Dependent r) x) step is) has
+    done
 
 strength_put : (n : Numbers) (s : State) (e : Entry) (t : State) (slot : Slot) (given : Strength)
     → Step n s e t → GivesStrength s e slot given → e.reply ≡ reply.Done
@@ -321,16 +283,11 @@ strength_put n s e t slot given step (law.GivesStrength.by_set {h = h} is has) d
   where
     by : (t : State) → Effect n s e (cmd.HVar h given) t → HandleIs t slot (ExtraIs (strength given))
     by t (refused p) = absurd (done_or_refused done p)
-    by t (sets_strength other handle f same p) = subst (λ x. HandleIs t x (ExtraIs (strength given)))
-        (same_Some other slot (sym f.names ∙ has)) (put_is s other _ (ExtraIs (strength given)) refl)
+    by t (sets_strength other handle f same p) =
+        written_has s e.caller h slot other handle _ (ExtraIs _) f has refl
 strength_put n s e t slot given step (law.GivesStrength.by_new {d = d} {t = x} is has) done =
-    by t (effect_of n s e t (cmd.HNew d (make.Variable given) x) step is)
-  where
-    by : (t : State) → Effect n s e (cmd.HNew d (make.Variable given) x) t
-        → HandleIs t slot (ExtraIs (strength given))
-    by t (refused p) = absurd (done_or_refused done p)
-    by t (makes_handle other given_is may p) = subst (λ y. HandleIs t y (ExtraIs (strength given)))
-        (same_Some other slot (sym given_is ∙ has)) (put_is s other _ (ExtraIs (strength given)) refl)
+    made_has n s e t slot (ExtraIs _) refl (effect_of n s e t (cmd.HNew d (make.Variable given) x) step is) has
+    done
 
 value_or_refused : {r : Reply} {c : ℕ} {why : Refusal} → r ≡ reply.Value c → r ≡ reply.Refused why → ⊥
 value_or_refused value other = cc
@@ -345,24 +302,17 @@ count_put n s e t slot c step (law.GivesCount.by_up {h = h} is has answered) =
   where
     by : (t : State) → Effect n s e (cmd.HUp h) t → HandleIs t slot (ExtraIs (count c))
     by t (refused p) = absurd (value_or_refused answered p)
-    by t (raises_count other handle f same p) = subst (λ x. HandleIs t x (ExtraIs (count c)))
-        (same_Some other slot (sym f.names ∙ has)) (put_is s other _ (ExtraIs (count c))
-        (ap count (same_value p answered)))
+    by t (raises_count other handle f same p) =
+        written_has s e.caller h slot other handle _ (ExtraIs _) f has (ap count (same_value p answered))
 count_put n s e t slot c step (law.GivesCount.by_down {h = h} is has answered) =
     by t (effect_of n s e t (cmd.HDown h) step is)
   where
     by : (t : State) → Effect n s e (cmd.HDown h) t → HandleIs t slot (ExtraIs (count c))
     by t (refused p) = absurd (value_or_refused answered p)
-    by t (lowers_count other handle f same p) = subst (λ x. HandleIs t x (ExtraIs (count c)))
-        (same_Some other slot (sym f.names ∙ has)) (put_is s other _ (ExtraIs (count c))
-        (ap count (same_value p answered)))
-count_put n s e t slot c step (law.GivesCount.by_new {d = d} {t = x} is has done) =
-    by t (effect_of n s e t (cmd.HNew d make.Counted x) step is)
-  where
-    by : (t : State) → Effect n s e (cmd.HNew d make.Counted x) t → HandleIs t slot (ExtraIs (count 1))
-    by t (refused p) = absurd (done_or_refused done p)
-    by t (makes_handle other given_is may p) = subst (λ y. HandleIs t y (ExtraIs (count 1)))
-        (same_Some other slot (sym given_is ∙ has)) (put_is s other _ (ExtraIs (count 1)) refl)
+    by t (lowers_count other handle f same p) =
+        written_has s e.caller h slot other handle _ (ExtraIs _) f has (ap count (same_value p answered))
+count_put n s e t slot c step (law.GivesCount.by_new is has done) =
+    made_has n s e t slot (ExtraIs _) refl (effect_of n s e t _ step is) has done
 
 reply_of_test : (b : Bool) (x y : Outcome) → (if b then x else y).reply ≡ (if b then x.reply else y.reply)
 reply_of_test true x y = refl
@@ -391,7 +341,7 @@ pub strength_is_kept : StrengthIsKept
 strength_is_kept n old now written slot given since gives done =
     let put = strength_put n old written since.after slot given since.first gives done in
     let kept = still (λ s. HandleIs s slot (ExtraIs (strength given)))
-    (λ s e t w did apart had. strength_stays n s w e t slot given e.cmd (get t.handles slot.0) refl
+    (λ s e t w did apart had. strength_stays n s w e t slot given (get t.handles slot.0)
     (handle_change n s w e slot e.cmd t did) apart had) since put in
     let found : (handle : Handle Id) × ((handle_at now slot ≡ Some handle) × ExtraIs (strength given) handle)
     = some_handle (handle_at now slot) kept.1 in
@@ -403,18 +353,18 @@ count_answered : (n : Numbers) (s : State) (e : Entry) (t : State) (slot : Slot)
     → IsWellFormed n s → Step n s e t → handle_register_of s e.caller h ≡ Some slot
     → handle_at s slot ≡ Some handle → handle.extra ≡ count c → AnswersCount c h e
 count_answered n s e t slot c h handle w step named live has =
-    let counted : handle.kind ≡ kind.Counted = kind_with n s slot handle (count c) w live has in
+    let counted = kind_with n s slot handle (count c) w live has in
     record {
       up = λ is.
           let comes : IsOutcome e _ t = step_of n s e t (cmd.HUp h) step is in
           comes.reply
-          ∙ ap (λ (y : Outcome). y.reply) (on_handle_of_is s e.caller h kind.Counted _ slot handle named live
+          ∙ ap (λ (y : Outcome). y.reply) (on_handle_of_is s e.caller h _ _ slot handle named live
           counted refl)
           ∙ ap (λ x. reply.Value (count_of x + 1)) has;
       down = λ is.
           let comes : IsOutcome e _ t = step_of n s e t (cmd.HDown h) step is in
           comes.reply
-          ∙ ap (λ (y : Outcome). y.reply) (on_handle_of_is s e.caller h kind.Counted _ slot handle named live
+          ∙ ap (λ (y : Outcome). y.reply) (on_handle_of_is s e.caller h _ _ slot handle named live
           counted refl)
           ∙ lowered_reply s slot handle (count_of handle.extra)
           ∙ ap (λ x. lowered_answer (count_of x)) has;
@@ -430,7 +380,7 @@ pub count_is_read_back : CountIsReadBack
 count_is_read_back n old now new written reading slot c h since gives step named =
     let put = count_put n old written since.after slot c since.first gives in
     let kept = still (λ s. HandleIs s slot (ExtraIs (count c)))
-    (λ s e t w did apart had. count_stays n s w e t slot c e.cmd (get t.handles slot.0) refl
+    (λ s e t w did apart had. count_stays n s w e t slot c (get t.handles slot.0)
     (handle_change n s w e slot e.cmd t did) apart had) since put in
     let found : (handle : Handle Id) × ((handle_at now slot ≡ Some handle) × ExtraIs (count c) handle) =
     some_handle (handle_at now slot) kept.1 in
@@ -448,13 +398,7 @@ vacant_stays s e t slot c o is (is_made {d = d} {t = r} {given = given} given_is
     }))
 vacant_stays s e t slot c o is (target_is_set handle f done) apart had =
     absurd (none-some handle (sym had ∙ f.live))
-vacant_stays s e t slot c o is (secondary_is_set handle f same done) apart had =
-    absurd (none-some handle (sym had ∙ f.live))
-vacant_stays s e t slot c o is (strength_is_set handle f same done) apart had =
-    absurd (none-some handle (sym had ∙ f.live))
-vacant_stays s e t slot c o is (count_is_raised handle f same done) apart had =
-    absurd (none-some handle (sym had ∙ f.live))
-vacant_stays s e t slot c o is (count_is_lowered handle f same done) apart had =
+vacant_stays s e t slot c o is (extra_is_set handle f fits sets) apart had =
     absurd (none-some handle (sym had ∙ f.live))
 vacant_stays s e t slot c o is (is_freed handle f done) apart had = refl
 vacant_stays s e t slot c o is (is_collected reach kept handle live) apart had =

@@ -1,16 +1,8 @@
 -- The heap is within its limit, and found full only where it is.
-use Rattle.std.proofs.Common.{◌≡◌, ℕ, ◌+◌, ◌<◌, ◌≤◌, ◌^◌, Bool, true, false, cond, length, List, [], ◌∷◌, map, Option, Some, None, nat_cmp, refl, sym, ap, ◌∙◌, subst, arith, ltb-true, ltb-false, ⊎_elim, le_trans, length-set}
-use Rattle.std.specs.Prelude.{option_map, sum_by}
-use Rattle.std.specs.FinMap.{get, insert, values, entries, len-empty, len-entries}
-use Rattle.std.proofs.lemmas.Bool.{cases_lt}
-use Rattle.std.proofs.lemmas.List.{length-replicate}
-use Rattle.hd_model.specs.declared.data.Id.{Id}
-use Rattle.hd_model.specs.declared.data.Entry.{Entry}
-use Rattle.hd_model.specs.declared.data.Refusal.{Refusal}
+use Rattle.hd_model.proofs.Basics.{◌≡◌, ℕ, ◌+◌, ◌<◌, ◌≤◌, ◌^◌, Bool, true, false, cond, length, List, [], ◌∷◌, map, Option, Some, None, nat_cmp, refl, sym, ap, ◌∙◌, subst, arith, ltb-true, ltb-false, ⊎_elim, le_trans, length-set, option_map, sum_by, get, insert, values, entries, len-empty, len-entries, cases_lt, length-replicate}
+use Rattle.hd_model.specs.Data.{Id, Entry, Refusal, Reply, Cmd}
 use Rattle.hd_model.specs.declared.data.Refusal.TheVariants as refusal
-use Rattle.hd_model.specs.declared.data.Reply.{Reply}
 use Rattle.hd_model.specs.declared.data.Reply.TheVariants as reply
-use Rattle.hd_model.specs.declared.command.Cmd.{Cmd}
 use Rattle.hd_model.specs.declared.command.Cmd.TheVariants as cmd
 use Rattle.hd_model.specs.State.{Numbers, Object, State, size_of, total_size, start_of, object_by_id, last_serial, register_of}
 use Rattle.hd_model.specs.Command.{Outcome, answers, refuses, new_object, fresh_object}

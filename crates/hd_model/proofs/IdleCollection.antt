@@ -1,17 +1,12 @@
 -- After a collection of n every object is reached by the next one of n, which so finds nothing to do.
-use Rattle.std.proofs.Common.{◌≡◌, ℕ, ◌<◌, Bool, true, false, ◌&&◌, List, [], ◌∷◌, ◌++◌, Option, Some, None, is_some, refl, sym, ap, ◌∙◌, subst, ⊎_elim, inl, inr, arith}
-use Rattle.std.specs.Prelude.{Contains, option_map}
-use Rattle.std.proofs.lemmas.Bool.{false≢true, true≢false, cond-false, not_from_true}
-use Rattle.std.proofs.lemmas.Bool.Decides.{nat_tests}
-use Rattle.std.proofs.lemmas.List.Elements.{Contains-append_left, Contains-append_right}
-use Rattle.std.proofs.lemmas.List.{append-nil}
-use Rattle.hd_model.specs.declared.data.Report.{Report}
+use Rattle.hd_model.proofs.Basics.{◌≡◌, ℕ, ◌<◌, Bool, true, false, ◌&&◌, List, [], ◌∷◌, ◌++◌, Option, Some, None, is_some, refl, sym, ap, ◌∙◌, subst, ⊎_elim, inl, inr, arith, Contains, option_map, false≢true, true≢false, cond-false, not_from_true, nat_tests, Contains-append_left, Contains-append_right, append-nil}
+use Rattle.hd_model.specs.Data.{Report}
 use Rattle.hd_model.specs.State.{Object, secondary, Handle}
 use Rattle.hd_model.specs.Role.{Role, holds, short, long, attaches, role}
 use Rattle.hd_model.specs.Leads.{Leads}
 use Rattle.hd_model.specs.Scene.{Scene, is_object, fields_in, generation_in, generation_at, IsField, IsWhole}
 use Rattle.hd_model.specs.Ages.{raised}
-use Rattle.hd_model.specs.Reach.{IsAttached, IsArrow, IsHeld, IsRoot, named, queued, held, older, IsReached, IsRevived}
+use Rattle.hd_model.specs.Reach.{IsAttached, IsEdge, IsHeld, IsRoot, named, queued, held, older, IsReached, IsRevived}
 use Rattle.hd_model.specs.Collect.{is_lost, loses_by, loses, is_attaching, cleared, LosesAs, IsRemoved, Collects}
 use Rattle.hd_model.proofs.EdgeChains.{leads_on, leads_turn}
 use Rattle.hd_model.proofs.Members.{not_in_none, first_in}
@@ -114,15 +109,15 @@ module _ {N : Type 0} (rank : N → ℕ) (n : ℕ) (s t : Scene N) (r : Report) 
         secondary = a.secondary;
       }
 
-  pub arrow_stays : (x y : N) → c.kept x ≡ true → IsArrow s.object s.handle x y
-      → IsArrow t.object t.handle x y
+  pub arrow_stays : (x y : N) → c.kept x ≡ true → IsEdge s.object s.handle x y
+      → IsEdge t.object t.handle x y
   arrow_stays x y kept a = ⊎_elim (λ f. inl (field_stays x y kept (s.object x) refl f))
       (λ d. inr (attached_stays x y kept d)) a
 
-  chain_stays : {x y : N} → c.kept x ≡ true → Leads (IsArrow s.object s.handle) x y
-      → Leads (IsArrow t.object t.handle) x y
+  chain_stays : {x y : N} → c.kept x ≡ true → Leads (IsEdge s.object s.handle) x y
+      → Leads (IsEdge t.object t.handle) x y
   chain_stays kept chain =
-      (leads_turn (IsArrow s.object s.handle) (IsArrow t.object t.handle) (λ x. x) (λ x. c.kept x ≡ true)
+      (leads_turn (IsEdge s.object s.handle) (IsEdge t.object t.handle) (λ x. x) (λ x. c.kept x ≡ true)
       (λ x y k a. keeps_arrow rank n s t r w c x y k a) (λ x y k a. arrow_stays x y k a) kept chain).1
 
   pub reached_stays : (x : N) → IsReached s n x → IsReached t n x
@@ -145,7 +140,7 @@ module _ {N : Type 0} (rank : N → ℕ) (n : ℕ) (s t : Scene N) (r : Report) 
       let kept = (c.kept_is x).0 (object_before rank n s t r w c x o e).0 in
       let start : IsReached t n kept.0 = ⊎_elim (reached_stays kept.0) (revived_reached kept.0) kept.1.0 in
       let first : c.kept kept.0 ≡ true = (c.kept_is kept.0).1 (kept.0, (kept.1.0, Leads.here)) in
-      (start.0, (start.1.0, leads_on (IsArrow t.object t.handle) start.1.1 (chain_stays first kept.1.1)))
+      (start.0, (start.1.0, leads_on (IsEdge t.object t.handle) start.1.1 (chain_stays first kept.1.1)))
 
 module _ {N : Type 0} (rank : N → ℕ) (n : ℕ) (s t u : Scene N) (r q : Report) (w : IsWhole s)
     (c : Collects rank n s t r) (d : Collects rank n t u q) where

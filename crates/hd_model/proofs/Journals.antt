@@ -1,18 +1,13 @@
 -- A journal leads to one state, and to one map of pinned addresses. Ages depend on no such address.
-use Rattle.std.proofs.Common.{◌≡◌, ℕ, cond, List, Option, Some, None, refl, sym, ap, ◌∙◌, subst}
-use Rattle.std.specs.FinMap.{FinMap}
-use Rattle.std.specs.Ordering.{nat_cmp}
-use Rattle.hd_model.specs.declared.data.Slot.{Slot}
-use Rattle.hd_model.specs.declared.data.Id.{Id}
-use Rattle.hd_model.specs.declared.data.Make.{Make}
-use Rattle.hd_model.specs.declared.data.Make.TheVariants as make
-use Rattle.hd_model.specs.declared.data.Entry.{Entry}
-use Rattle.hd_model.specs.declared.command.Cmd.{Cmd}
-use Rattle.hd_model.specs.declared.command.Cmd.TheVariants as cmd
+use Rattle.hd_model.proofs.Basics.{◌≡◌, ℕ, cond, List, Option, Some, None, refl, sym, ap, ◌∙◌, subst, nat_cmp, FinMap, option_map_or}
+use Rattle.hd_model.specs.Data.{Slot, Id, Make, Entry, Class}
+use Rattle.hd_model.specs.declared.class.Class.TheVariants as class
+use Rattle.hd_model.specs.Kinds.{secondary_register}
+use Rattle.hd_model.specs.Class.{class_of}
 use Rattle.hd_model.specs.State.{Numbers, State, register_of}
 use Rattle.hd_model.specs.Places.{with_places}
 use Rattle.hd_model.specs.Run.{Chain, stay, link}
-use Rattle.hd_model.specs.Aging.{Aged, AgedStep, aged_by_command, aged_by, AgedRun, is_refused, lowered_to, lowered_by_new}
+use Rattle.hd_model.specs.Aging.{Aged, AgedStep, aged_by_class, aged_by, AgedRun, is_refused, lowered_at, lowered_to, lowered_by_new}
 use Rattle.hd_model.proofs.OneState.{one_state_after}
 
 -- where each entry leaves at most one state, a list of entries does
@@ -49,45 +44,21 @@ module _ (s : State) (p : FinMap nat_cmp ℕ) (caller : ℕ) (slot : Option Slot
 
   made_placed : (given : Make) (t : Option Id)
       → lowered_by_new (with_places s p) ages slot given t ≡ lowered_by_new s ages slot given t
-  made_placed make.Short t = lowered_placed slot t
-  made_placed make.Long t = lowered_placed slot t
-  made_placed make.Strong t = lowered_placed slot t
-  made_placed make.Pinned t = lowered_placed slot t
-  made_placed (make.Variable given) t = lowered_placed slot t
-  made_placed make.Counted t = lowered_placed slot t
-  made_placed (make.Dependent r) t = refl
+  made_placed given t = ap (option_map_or (λ _. lowered_at ages slot 0) (secondary_register given)) (lowered_placed slot t)
 
-  command_placed : (c : Cmd) → aged_by_command (with_places s p) caller slot ages c ≡ aged_by_command s caller slot ages c
-  command_placed (cmd.New d fields fin) = refl
-  command_placed (cmd.Set o i v) = refl
-  command_placed (cmd.Get d o i) = refl
-  command_placed (cmd.Val o v) = refl
-  command_placed (cmd.Read o) = refl
-  command_placed (cmd.Copy d r) = refl
-  command_placed (cmd.Clear d) = refl
-  command_placed (cmd.SPut k r) = refl
-  command_placed (cmd.SGet d k) = refl
-  command_placed (cmd.Gen o) = refl
-  command_placed (cmd.Suppress o) = refl
-  command_placed (cmd.Reregister o) = refl
-  command_placed (cmd.Final d) = refl
-  command_placed (cmd.Collect n) = refl
-  command_placed (cmd.HNew d given t) = made_placed given (register_of s caller t)
-  command_placed (cmd.HGet d h) = refl
-  command_placed (cmd.HSet h t) = lowered_placed _ (register_of s caller t)
-  command_placed (cmd.HSec h t) = refl
-  command_placed (cmd.HDep d h) = refl
-  command_placed (cmd.HVar h given) = refl
-  command_placed (cmd.HFree h) = refl
-  command_placed (cmd.HPut k h) = refl
-  command_placed (cmd.HPick d k) = refl
-  command_placed (cmd.AddrOf h) = refl
-  command_placed (cmd.HUp h) = refl
-  command_placed (cmd.HDown h) = refl
-  command_placed (cmd.Trim kind) = refl
+  class_placed : (c : Class) → aged_by_class (with_places s p) caller slot ages c ≡ aged_by_class s caller slot ages c
+  class_placed (class.MakesObject fields) = refl
+  class_placed (class.TakesSlot given t) = made_placed given (register_of s caller t)
+  class_placed (class.StoresTarget h t) = lowered_placed _ (register_of s caller t)
+  class_placed (class.StoresSecondary h) = refl
+  class_placed class.Frees = refl
+  class_placed (class.GivesBack kind) = refl
+  class_placed (class.Collects n) = refl
+  class_placed (class.AnswersPlace h) = refl
+  class_placed class.Plain = refl
 
 -- an entry leaves the same ages whatever the pinned addresses
 pub ages_placed : (s : State) (p : FinMap nat_cmp ℕ) (e : Entry) (ages : List ℕ)
     → aged_by (with_places s p) e ages ≡ aged_by s e ages
 ages_placed s p e ages =
-    ap (cond (is_refused e.reply) ages) (command_placed s p e.caller e.slot ages e.cmd)
+    ap (cond (is_refused e.reply) ages) (class_placed s p e.caller e.slot ages (class_of e.cmd))

@@ -1,13 +1,10 @@
 -- What a handle's extra states where it is that of its kind.
-use Rattle.std.proofs.Common.{◌≡◌, ℕ, zero, suc, Bool, true, false, cond, ◌&&◌, Some, None, refl, sym, ap, ◌∙◌}
-use Rattle.std.proofs.lemmas.Bool.{and_parts, cond_both, false≢true}
-use Rattle.std.proofs.lemmas.Option.{none-some}
-use Rattle.hd_model.specs.declared.data.Kind.{Kind}
+use Rattle.hd_model.proofs.Basics.{◌≡◌, ℕ, zero, suc, Bool, true, false, cond, ◌&&◌, Option, Some, None, refl, sym, ap, ◌∙◌, and_parts, cond_both, false≢true, none-some}
+use Rattle.hd_model.specs.Data.{Kind, Strength}
 use Rattle.hd_model.specs.declared.data.Kind.TheVariants as kind
-use Rattle.hd_model.specs.declared.data.Strength.{Strength}
 use Rattle.hd_model.specs.declared.data.Strength.TheVariants as strength_of
-use Rattle.hd_model.specs.State.{Extra, nothing, strength, secondary, count, secondary_of}
-use Rattle.hd_model.specs.Role.{holds, attaches, role_of_strength, role_of_count, role_of, pins_by_strength, pins_by}
+use Rattle.hd_model.specs.State.{Extra, nothing, strength, secondary, count, strength_in, count_of, secondary_of}
+use Rattle.hd_model.specs.Role.{holds, attaches, role_of_strength, role_of_count, role_by, role_of, pins_by_strength, pins_with, pins_by}
 use Rattle.hd_model.specs.Collect.{is_attaching}
 use Rattle.hd_model.specs.WellFormed.{FitsKind}
 
@@ -30,21 +27,20 @@ count_attaches zero = refl
 count_attaches (suc c) = refl
 
 -- only a dependent handle attaches
+attaching_by : (k : Kind) (given : Option Strength) (c : ℕ) → is_attaching (role_by k given c) ≡ true
+    → k ≡ kind.Dependent
+attaching_by kind.Short given c h = absurd (false≢true h)
+attaching_by kind.Long given c h = absurd (false≢true h)
+attaching_by kind.Strong given c h = absurd (false≢true h)
+attaching_by kind.Pinned given c h = absurd (false≢true h)
+attaching_by kind.Variable None c h = absurd (false≢true h)
+attaching_by kind.Variable (Some given) c h = absurd (false≢true (sym (strength_attaches given) ∙ h))
+attaching_by kind.Counted given c h = absurd (false≢true (sym (count_attaches c) ∙ h))
+attaching_by kind.Dependent given c h = refl
+
 pub attaching_kind : {N : Type 0} (k : Kind) (e : Extra N) → is_attaching (role_of k e) ≡ true
     → k ≡ kind.Dependent
-attaching_kind kind.Short e h = absurd (false≢true h)
-attaching_kind kind.Long e h = absurd (false≢true h)
-attaching_kind kind.Strong e h = absurd (false≢true h)
-attaching_kind kind.Pinned e h = absurd (false≢true h)
-attaching_kind kind.Variable nothing h = absurd (false≢true h)
-attaching_kind kind.Variable (strength given) h = absurd (false≢true (sym (strength_attaches given) ∙ h))
-attaching_kind kind.Variable (secondary o) h = absurd (false≢true h)
-attaching_kind kind.Variable (count c) h = absurd (false≢true h)
-attaching_kind kind.Counted nothing h = absurd (false≢true h)
-attaching_kind kind.Counted (strength given) h = absurd (false≢true h)
-attaching_kind kind.Counted (secondary o) h = absurd (false≢true h)
-attaching_kind kind.Counted (count c) h = absurd (false≢true (sym (count_attaches c) ∙ h))
-attaching_kind kind.Dependent e h = refl
+attaching_kind k e = attaching_by k (strength_in e) (count_of e)
 
 strength_holds : (given : Strength) → pins_by_strength given ≡ true → role_of_strength given ≡ holds
 strength_holds strength_of.Short h = absurd (false≢true h)
@@ -53,17 +49,18 @@ strength_holds strength_of.Strong h = absurd (false≢true h)
 strength_holds strength_of.Pinned h = refl
 
 -- a handle that pins holds
+pinning_by : (k : Kind) (given : Option Strength) (c : ℕ) → pins_with k given ≡ true → role_by k given c ≡ holds
+pinning_by kind.Short given c h = absurd (false≢true h)
+pinning_by kind.Long given c h = absurd (false≢true h)
+pinning_by kind.Strong given c h = absurd (false≢true h)
+pinning_by kind.Pinned given c h = refl
+pinning_by kind.Variable None c h = absurd (false≢true h)
+pinning_by kind.Variable (Some given) c h = strength_holds given h
+pinning_by kind.Counted given c h = absurd (false≢true h)
+pinning_by kind.Dependent given c h = absurd (false≢true h)
+
 pub pins_hold : {N : Type 0} (k : Kind) (e : Extra N) → pins_by k e ≡ true → role_of k e ≡ holds
-pins_hold kind.Short e h = absurd (false≢true h)
-pins_hold kind.Long e h = absurd (false≢true h)
-pins_hold kind.Strong e h = absurd (false≢true h)
-pins_hold kind.Pinned e h = refl
-pins_hold kind.Variable nothing h = absurd (false≢true h)
-pins_hold kind.Variable (strength given) h = strength_holds given h
-pins_hold kind.Variable (secondary o) h = absurd (false≢true h)
-pins_hold kind.Variable (count c) h = absurd (false≢true h)
-pins_hold kind.Counted e h = absurd (false≢true h)
-pins_hold kind.Dependent e h = absurd (false≢true h)
+pins_hold k e = pinning_by k (strength_in e) (count_of e)
 
 -- the extra that a collection leaves is that of the kind
 pub cleared_fits : {N : Type 0} (k : Kind) (e : Extra N) (lost : Bool) → FitsKind k e

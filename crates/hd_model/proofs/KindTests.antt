@@ -1,24 +1,16 @@
 -- What tests of kinds state, and the extra that fits a kind.
-use Rattle.std.proofs.Common.{◌≡◌, ℕ, zero, suc, ◌<◌, true, refl, sym, ap, ◌∙◌, None, lit<}
-use Rattle.std.proofs.lemmas.Bool.{eqb-true}
-use Rattle.hd_model.specs.declared.data.Kind.{Kind}
+use Rattle.hd_model.proofs.Basics.{◌≡◌, ℕ, zero, suc, ◌<◌, ◌≤◌, true, get_or, arith, refl, sym, ap, ◌∙◌, None, lit<, eqb-true, option_and_then}
+use Rattle.hd_model.specs.Data.{Kind, Make}
 use Rattle.hd_model.specs.declared.data.Kind.TheVariants as kind
-use Rattle.hd_model.specs.declared.data.Make.{Make}
 use Rattle.hd_model.specs.declared.data.Make.TheVariants as make
-use Rattle.hd_model.specs.Kinds.{kind_number, is_kind, kind_of}
-use Rattle.hd_model.specs.State.{Extra, nothing, strength, secondary, count, State, secondary_of, without_secondary}
-use Rattle.hd_model.specs.Command.{extra_of}
+use Rattle.hd_model.specs.Kinds.{all_kinds, kind_number, is_kind, kind_of, secondary_register}
+use Rattle.hd_model.specs.State.{Extra, nothing, strength, secondary, count, State, secondary_of, count_of, without_secondary, register_of}
+use Rattle.hd_model.specs.Command.{made_extra}
 use Rattle.hd_model.specs.WellFormed.{FitsKind}
 
 -- the kind with a number
 kind_from : ℕ → Kind
-kind_from zero = kind.Short
-kind_from (suc zero) = kind.Long
-kind_from (suc (suc zero)) = kind.Strong
-kind_from (suc (suc (suc zero))) = kind.Pinned
-kind_from (suc (suc (suc (suc zero)))) = kind.Variable
-kind_from (suc (suc (suc (suc (suc zero))))) = kind.Counted
-kind_from (suc (suc (suc (suc (suc (suc n)))))) = kind.Dependent
+kind_from n = get_or all_kinds n kind.Dependent
 
 kind_again : (k : Kind) → kind_from (kind_number k) ≡ k
 unfolding kind_from
@@ -36,6 +28,27 @@ same_number a b e = sym (kind_again a) ∙ ap kind_from e ∙ kind_again b
 
 pub same_kind : (a b : Kind) → is_kind a b ≡ true → a ≡ b
 same_kind a b e = same_number a b (eqb-true (kind_number a) (kind_number b) e)
+
+-- a kind is one alone
+pub variable_or_dependent : {k : Kind} → k ≡ kind.Variable → k ≡ kind.Dependent → ⊥
+variable_or_dependent a b = let same : kind.Variable ≡ kind.Dependent = sym a ∙ b in cc
+
+pub variable_or_counted : {k : Kind} → k ≡ kind.Variable → k ≡ kind.Counted → ⊥
+variable_or_counted a b = let same : kind.Variable ≡ kind.Counted = sym a ∙ b in cc
+
+pub counted_or_dependent : {k : Kind} → k ≡ kind.Counted → k ≡ kind.Dependent → ⊥
+counted_or_dependent a b = let same : kind.Counted ≡ kind.Dependent = sym a ∙ b in cc
+
+-- the list of all kinds goes by their numbers
+pub listed_kind : (i : ℕ) (k : Kind) → i < 7 → kind_number (get_or all_kinds i k) ≡ i
+listed_kind zero k l = refl
+listed_kind (suc zero) k l = refl
+listed_kind (suc (suc zero)) k l = refl
+listed_kind (suc (suc (suc zero))) k l = refl
+listed_kind (suc (suc (suc (suc zero)))) k l = refl
+listed_kind (suc (suc (suc (suc (suc zero))))) k l = refl
+listed_kind (suc (suc (suc (suc (suc (suc zero)))))) k l = refl
+listed_kind (suc (suc (suc (suc (suc (suc (suc i))))))) k l = absurd (omega arith)
 
 pub few_kinds : (k : Kind) → kind_number k < 7
 few_kinds kind.Short = lit< tt
@@ -62,7 +75,7 @@ without_secondary_has_none (count c) = refl
 
 -- a made extra fits its kind
 pub made_fits : (s : State) (caller : ℕ) (given : Make) (t : ℕ)
-    → FitsKind (kind_of given) (extra_of s caller given t)
+    → FitsKind (kind_of given) (made_extra s caller given t)
 made_fits s caller make.Short t = refl
 made_fits s caller make.Long t = refl
 made_fits s caller make.Strong t = refl
@@ -70,3 +83,26 @@ made_fits s caller make.Pinned t = refl
 made_fits s caller (make.Variable x) t = refl
 made_fits s caller make.Counted t = refl
 made_fits s caller (make.Dependent r) t = refl
+
+-- the secondary of a made handle: what its register references, if the handle has a target
+pub made_secondary : (s : State) (caller : ℕ) (given : Make) (t : ℕ)
+    → secondary_of (made_extra s caller given t)
+    ≡ option_and_then (λ r. option_and_then (λ _. register_of s caller r) (register_of s caller t))
+    (secondary_register given)
+made_secondary s caller make.Short t = refl
+made_secondary s caller make.Long t = refl
+made_secondary s caller make.Strong t = refl
+made_secondary s caller make.Pinned t = refl
+made_secondary s caller (make.Variable x) t = refl
+made_secondary s caller make.Counted t = refl
+made_secondary s caller (make.Dependent r) t = refl
+
+-- a made count is at most 1
+pub made_count : (s : State) (caller : ℕ) (given : Make) (t : ℕ) → count_of (made_extra s caller given t) ≤ 1
+made_count s caller make.Short t = omega arith
+made_count s caller make.Long t = omega arith
+made_count s caller make.Strong t = omega arith
+made_count s caller make.Pinned t = omega arith
+made_count s caller (make.Variable x) t = omega arith
+made_count s caller make.Counted t = omega arith
+made_count s caller (make.Dependent r) t = omega arith

@@ -1,3 +1,4 @@
+pub mod Basics
 pub mod Members
 pub mod PropertyCounts
 pub mod MemberWeights
@@ -35,6 +36,7 @@ pub mod NextState
 pub mod CollectionSamples
 pub mod AgedRuns
 pub mod ReadAfterWrite
+pub mod IndexedItems
 pub mod Outcomes
 pub mod WellFormedWrites
 pub mod Effects
@@ -62,3 +64,6 @@ pub mod HeapLimit
 pub mod StepExistence
 pub mod FreePlaces
 pub mod RunExamples
+pub mod CollectionExamples
+pub mod RootExamples
+pub mod StepExamples

@@ -1,8 +1,5 @@
 -- A map of the values that a function has at keys of a list.
-use Rattle.std.proofs.Common.{◌≡◌, ◌≢◌, ℕ, Bool, true, false, cond, List, [], ◌∷◌, Option, Some, None, IsSome, is_some, nat_cmp, refl, sym, ap, ◌∙◌, subst, ⊎_elim, inl, inr, ◌⊎◌}
-use Rattle.std.specs.Prelude.{Contains, option_map}
-use Rattle.std.specs.FinMap.{FinMap, get, insert, empty, keys, get-empty}
-use Rattle.std.proofs.lemmas.Bool.{cases_eq, false≢true}
+use Rattle.hd_model.proofs.Basics.{◌≡◌, ◌≢◌, ℕ, Bool, true, false, cond, List, [], ◌∷◌, Option, Some, None, IsSome, is_some, nat_cmp, refl, sym, ap, ◌∙◌, subst, ⊎_elim, inl, inr, ◌⊎◌, Contains, option_map, FinMap, get, insert, empty, keys, get-empty, cases_eq, false≢true}
 use Rattle.hd_model.proofs.Members.{not_in_none, member_cases, mapped_in}
 use Rattle.hd_model.proofs.Entries.{some_value, entry_of}
 use Rattle.hd_model.proofs.ReadAfterWrite.{get_inserted, get_beside}

@@ -1,13 +1,10 @@
 -- Marking by condemned objects, set cards and due clumps alone finds all that is reached.
-use Rattle.std.proofs.Common.{◌≡◌, ℕ, ◌<◌, ◌≤◌, Bool, true, false, List, Option, Some, None, refl, ap, ⊎_elim, arith}
-use Rattle.std.specs.Prelude.{option_map}
-use Rattle.std.specs.Bool.{Decides}
-use Rattle.std.proofs.lemmas.Bool.{cases_lt, leb-false}
+use Rattle.hd_model.proofs.Basics.{◌≡◌, ℕ, ◌<◌, ◌≤◌, Bool, true, false, List, Option, Some, None, refl, ap, ⊎_elim, arith, option_map, Decides, cases_lt, leb-false}
 use Rattle.hd_model.specs.State.{Extra, nothing, strength, secondary, count, Handle, secondary_of, rename_extra, rename_handle}
 use Rattle.hd_model.specs.Leads.{IsClosed}
 use Rattle.hd_model.specs.Scene.{Scene, Objects, Rows, generation_at, IsField}
 use Rattle.hd_model.specs.Ages.{age_of, is_due, HasSoundAges, HasSoundCards}
-use Rattle.hd_model.specs.Reach.{IsArrow, IsRoot, IsReached, IsRevived, IsKept}
+use Rattle.hd_model.specs.Reach.{IsEdge, IsRoot, IsReached, IsRevived, IsKept}
 use Rattle.hd_model.specs.Collect.{cleared}
 use Rattle.hd_model.specs.Marking.{IsSettled}
 use Rattle.hd_model.proofs.EdgeChains.{leads_inside}
@@ -73,19 +70,19 @@ module _ {N : Type 0} (o : Objects N) (n : ℕ) where
 module _ {N : Type 0} (s : Scene N) (n : ℕ) where
   -- a set that has the roots, is closed under edges and has no more decides what is reached
   pub decides_reached : (p : N → Bool) → ((x : N) → IsRoot s n x → p x ≡ true)
-      → IsClosed (IsArrow s.object s.handle) p
+      → IsClosed (IsEdge s.object s.handle) p
       → ((x : N) → p x ≡ true → IsReached s n x) → (x : N) → Decides (p x) (IsReached s n x)
   decides_reached p roots closed only x = (
     only x,
-    λ h. leads_inside (IsArrow s.object s.handle) p closed (roots h.0 h.1.0) h.1.1,
+    λ h. leads_inside (IsEdge s.object s.handle) p closed (roots h.0 h.1.0) h.1.1,
   )
 
   -- and one that has what is reached and resurrected decides what is kept
   pub decides_kept : (p : N → Bool) → ((x : N) → IsReached s n x → p x ≡ true)
       → ((x : N) → IsRevived s n x → p x ≡ true)
-      → IsClosed (IsArrow s.object s.handle) p → ((x : N) → p x ≡ true → IsKept s n x) → (x : N)
+      → IsClosed (IsEdge s.object s.handle) p → ((x : N) → p x ≡ true → IsKept s n x) → (x : N)
       → Decides (p x) (IsKept s n x)
   decides_kept p reached revived closed only x = (
     only x,
-    λ h. leads_inside (IsArrow s.object s.handle) p closed (⊎_elim (reached h.0) (revived h.0) h.1.0) h.1.1,
+    λ h. leads_inside (IsEdge s.object s.handle) p closed (⊎_elim (reached h.0) (revived h.0) h.1.0) h.1.1,
   )

@@ -1,8 +1,5 @@
 -- Members of a list that are apart weigh at most as much as the list.
-use Rattle.std.proofs.Common.{◌≡◌, ◌≢◌, ℕ, ◌≤◌, List, [], ◌∷◌, ◌++◌, ap, arith, ⊎_elim}
-use Rattle.std.specs.Prelude.{sum_by, Contains, AllPairs}
-use Rattle.std.proofs.lemmas.List.Elements.{Contains-append_left, Contains-append_right, Contains-append_cases}
-use Rattle.std.proofs.lemmas.List.Sums.{sum_by-cons, sum_by-append}
+use Rattle.hd_model.proofs.Basics.{◌≡◌, ◌≢◌, ℕ, ◌≤◌, List, [], ◌∷◌, ◌++◌, length, refl, ap, arith, ⊎_elim, sum_by, Contains, AllPairs, Contains-append_left, Contains-append_right, Contains-append_cases, sum_by-cons, sum_by-append}
 use Rattle.hd_model.proofs.Members.{first_in, later_in, member_cases, member_same, split_at, pairs_first, pairs_rest}
 
 -- members that are apart and are in another list weigh at most as much as all of that
@@ -29,3 +26,8 @@ lighter {A} w (x ∷ xs) ys apart within =
       sum_by-append w before (x ∷ after),
       sum_by-cons w x after,
     )
+
+-- where each weighs 1, a list weighs its length
+pub sum_ones : {A : Type 0} (xs : List A) → sum_by (λ _. 1) xs ≡ length xs
+sum_ones [] = refl
+sum_ones (x ∷ xs) = omega (arith, sum_by-cons (λ _. 1) x xs, sum_ones xs)

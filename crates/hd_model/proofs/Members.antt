@@ -1,9 +1,5 @@
 -- Members of lists: of a list by cases, of what a map gives, of rows joined, and of lists that rise.
-use Rattle.std.proofs.Common.{◌≡◌, Bool, true, false, cond, ℕ, zero, suc, ◌<◌, List, [], ◌∷◌, ◌++◌, length, get_or, map, refl, sym, ap, ◌∙◌, subst, arith, ⊎_elim, inl, inr, ◌⊎◌}
-use Rattle.std.specs.Prelude.{Contains, AllPairs, filter}
-use Rattle.std.proofs.lemmas.Bool.{cond_both}
-use Rattle.std.proofs.lemmas.List.{get_or_default}
-use Rattle.std.proofs.lemmas.List.Elements.{Contains-append_left, Contains-append_right, Contains-append_cases}
+use Rattle.hd_model.proofs.Basics.{◌≡◌, Bool, true, false, cond, ℕ, zero, suc, ◌<◌, List, [], ◌∷◌, ◌++◌, length, get_or, map, refl, sym, ap, ◌∙◌, subst, arith, ⊎_elim, inl, inr, ◌⊎◌, Contains, AllPairs, filter, cond_both, get_or_default, Contains-append_left, Contains-append_right, Contains-append_cases}
 use Rattle.hd_model.specs.Scene.{joined}
 
 module _ {A : Type 0} where

@@ -1,14 +1,9 @@
 -- A collection whose objects move is one by identity, and leaves whole scenes and sound ages by address.
-use Rattle.std.proofs.Common.{◌≡◌, ℕ, Bool, true, false, cond, List, [], ◌∷◌, Option, Some, None, refl, sym, ap, ◌∙◌, subst, ⊎_elim}
-use Rattle.std.specs.Prelude.{◌==◌, Contains}
-use Rattle.std.proofs.lemmas.Bool.{eqb-true, eq-eqb, true≢false}
-use Rattle.std.proofs.lemmas.Option.{none-some, same_Some}
-use Rattle.hd_model.specs.declared.data.Id.{Id}
-use Rattle.hd_model.specs.declared.data.Report.{Report}
+use Rattle.hd_model.proofs.Basics.{◌≡◌, ℕ, Bool, true, false, cond, List, [], ◌∷◌, Option, Some, None, refl, sym, ap, ◌∙◌, subst, ⊎_elim, ◌==◌, Contains, eqb-true, eq-eqb, true≢false, none-some, same_Some}
+use Rattle.hd_model.specs.Data.{Id, Report}
 use Rattle.hd_model.specs.Scene.{Scene, is_object, IsWhole, IsReading}
 use Rattle.hd_model.specs.Ages.{grown, HasSoundAges}
 use Rattle.hd_model.specs.Collect.{survivor, GoesBy, left_by, Collects}
-use Rattle.hd_model.specs.Moving.{IsMoved}
 use Rattle.hd_model.specs.Counting.{Counts}
 use Rattle.hd_model.proofs.Members.{not_in_none, first_in, later_in, member_cases}
 use Rattle.hd_model.proofs.Entries.{some_value}
@@ -36,10 +31,11 @@ module _ {N : Type 0} (rank : N → ℕ) (n : ℕ) (s : Scene N) (reach revived 
   pub whole_in_place : IsWhole (left_by n reach revived kept joins s)
   whole_in_place = whole_after rank n s (left_by n reach revived kept joins s) r w collects_in_place
 
--- moved, too, the scene is whole and the ages are sound
+-- Where t is what a collection leaves of s, with each kept object x at its forwarding address `place x` and no
+-- two at one address, it is whole and its ages are sound.
 module _ {N : Type 0} (rank : N → ℕ) (n : ℕ) (s t : Scene N) (reach revived kept : N → Bool) (joins : List N)
     (r : Report) (place : N → N) (w : IsWhole s) (d : GoesBy rank n s reach revived kept joins r)
-    (m : IsMoved n reach revived kept joins place s t) where
+    (m : IsReading place (left_by n reach revived kept joins s) t) where
   pub moved_whole : IsWhole t
   moved_whole =
       whole_read place (left_by n reach revived kept joins s) t
@@ -58,7 +54,7 @@ module _ {N M : Type 0} (f g : N → M) (back : M → Option N) (rank : M → �
     (u v : Scene M) (reach revived kept : N → Bool) (joins : List N) (r : Report) (place : N → N) where
   pub moved_collects : IsWhole s → IsReading f s u → IsReading g t v → IsBack f back s
       → GoesBy (λ x. rank (f x)) n s reach revived kept joins r
-      → IsMoved n reach revived kept joins place s t
+      → IsReading place (left_by n reach revived kept joins s) t
       → ((x : N) → kept x ≡ true → g (place x) ≡ f x) → Collects rank n u v r
   moved_collects w fs gt b d m same =
       let in_place = left_by n reach revived kept joins s in
@@ -127,7 +123,7 @@ module _ {N : Type 0} (f g : N → Id) (n : ℕ) (s t : Scene N) (u v : Scene Id
     (joins : List N) (r : Report) (place : N → N) where
   pub moved_by_identity : (k : ℕ) → Counts (λ x. is_object s.object x ≡ true) k → IsWhole s → IsReading f s u
       → IsReading g t v
-      → GoesBy (λ x. (f x).0) n s reach revived kept joins r → IsMoved n reach revived kept joins place s t
+      → GoesBy (λ x. (f x).0) n s reach revived kept joins r → IsReading place (left_by n reach revived kept joins s) t
       → ((x : N) → kept x ≡ true → g (place x) ≡ f x) → Collects (λ (x : Id). x.0) n u v r
   moved_by_identity k p w fs gt d m same =
       moved_collects f g (find_named f p.members)

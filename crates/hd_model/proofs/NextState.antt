@@ -1,11 +1,6 @@
 -- The state and the report that a collection leaves.
-use Rattle.std.proofs.Common.{◌≡◌, ℕ, ◌<◌, nat_le, Bool, true, false, cond, not, ◌&&◌, ◌++◌, Option, Some, None, IsSome, is_some, refl, ap, ◌∙◌}
-use Rattle.std.specs.Prelude.{AllPairs, filter, option_map}
-use Rattle.std.specs.Bool.{Decides}
-use Rattle.std.specs.FinMap.{get, len, keys, entries, entries_sorted}
-use Rattle.std.proofs.lemmas.Bool.{and_parts, and_from, false≢true, leb-true, le-leb, not_from_false}
-use Rattle.hd_model.specs.declared.data.Id.{Id}
-use Rattle.hd_model.specs.declared.data.Report.{Report}
+use Rattle.hd_model.proofs.Basics.{◌≡◌, ℕ, ◌<◌, nat_le, Bool, true, false, cond, not, ◌&&◌, ◌++◌, Option, Some, None, IsSome, is_some, refl, ap, ◌∙◌, AllPairs, filter, option_map, Decides, get, len, keys, entries, entries_sorted, and_parts, and_from, false≢true, leb-true, le-leb, not_from_false}
+use Rattle.hd_model.specs.Data.{Id, Report}
 use Rattle.hd_model.specs.State.{Object, Handle, State}
 use Rattle.hd_model.specs.Role.{Role, holds, short, long, attaches, role}
 use Rattle.hd_model.specs.Counting.{Counts}

@@ -1,12 +1,7 @@
 -- What each object under an identity has stays, where each command that writes objects leaves it.
-use Rattle.std.proofs.Common.{◌≡◌, ℕ, ◌+◌, ◌<◌, ◌≤◌, ◌/◌, ◌%◌, ◌^◌, Bool, true, false, cond, Option, Some, None, IsSome, is_some, refl, sym, ap, ◌∙◌, subst, arith, unwrap_or, le_trans, true≢false}
-use Rattle.std.specs.Prelude.{option_map}
-use Rattle.std.specs.FinMap.{get, insert}
-use Rattle.std.proofs.lemmas.Option.{none-some, same_Some}
-use Rattle.hd_model.specs.declared.data.Id.{Id}
-use Rattle.hd_model.specs.declared.data.Entry.{Entry}
+use Rattle.hd_model.proofs.Basics.{◌≡◌, ℕ, ◌+◌, ◌<◌, ◌≤◌, ◌/◌, ◌%◌, ◌^◌, Bool, true, false, cond, Option, Some, None, IsSome, is_some, refl, sym, ap, ◌∙◌, subst, arith, unwrap_or, le_trans, true≢false, option_map, get, insert, none-some, same_Some}
+use Rattle.hd_model.specs.Data.{Id, Entry, Cmd}
 use Rattle.hd_model.specs.declared.data.Reply.TheVariants as reply
-use Rattle.hd_model.specs.declared.command.Cmd.{Cmd}
 use Rattle.hd_model.specs.declared.command.Cmd.TheVariants as cmd
 use Rattle.hd_model.specs.State.{Numbers, Object, State, register_of, last_serial, object_by_id}
 use Rattle.hd_model.specs.Collect.{survivor}

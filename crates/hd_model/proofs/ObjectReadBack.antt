@@ -1,11 +1,6 @@
 -- Generation and registration are read back.
-use Rattle.std.proofs.Common.{◌≡◌, ℕ, Bool, true, false, ◌&&◌, not, ◌++◌, Option, Some, refl, sym, ap, ◌∙◌, subst, ⊎_elim, true≢false, unwrap_or}
-use Rattle.std.specs.FinMap.{get, insert}
-use Rattle.std.proofs.lemmas.Option.{same_Some}
-use Rattle.std.proofs.lemmas.List.Elements.{Contains-append_right, Contains-append_cases}
-use Rattle.hd_model.specs.declared.data.Id.{Id}
-use Rattle.hd_model.specs.declared.data.Entry.{Entry}
-use Rattle.hd_model.specs.declared.data.Reply.{Reply}
+use Rattle.hd_model.proofs.Basics.{◌≡◌, ℕ, Bool, true, false, ◌&&◌, not, ◌++◌, Option, Some, refl, sym, ap, ◌∙◌, subst, ⊎_elim, true≢false, unwrap_or, get, insert, same_Some, Contains-append_right, Contains-append_cases}
+use Rattle.hd_model.specs.Data.{Id, Entry, Reply}
 use Rattle.hd_model.specs.declared.data.Reply.TheVariants as reply
 use Rattle.hd_model.specs.declared.command.Cmd.TheVariants as cmd
 use Rattle.hd_model.specs.State.{Numbers, Object, State, register_of, object_by_id}

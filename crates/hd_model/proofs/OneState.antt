@@ -1,22 +1,32 @@
 -- An entry leaves at most one state.
-use Rattle.std.proofs.Common.{◌≡◌, ℕ, Bool, true, false, if◌then◌else◌, Option, Some, None, sym, ap, ◌∙◌, ⊎_elim, refl}
-use Rattle.std.specs.Option.{option_map_or}
-use Rattle.std.proofs.lemmas.Option.{same_Some}
-use Rattle.hd_model.specs.declared.data.Slot.{Slot}
-use Rattle.hd_model.specs.declared.data.Entry.{Entry}
-use Rattle.hd_model.specs.declared.data.Make.{Make}
-use Rattle.hd_model.specs.declared.data.Refusal.{Refusal}
-use Rattle.hd_model.specs.declared.data.Reply.{Reply}
+use Rattle.hd_model.proofs.Basics.{◌≡◌, ℕ, Bool, true, false, if◌then◌else◌, Option, Some, None, sym, ap, ◌∙◌, ⊎_elim, refl, option_map_or, same_Some}
+use Rattle.hd_model.specs.Data.{Slot, Entry, Make, Refusal, Reply, Cmd}
+use Rattle.hd_model.specs.declared.command.Cmd.TheVariants as cmd
 use Rattle.hd_model.specs.declared.data.Reply.TheVariants as reply
 use Rattle.hd_model.specs.declared.data.Grown.TheVariants.{Zero, Back}
-use Rattle.hd_model.specs.declared.command.Cmd.{Cmd}
-use Rattle.hd_model.specs.declared.command.Cmd.TheVariants as cmd
 use Rattle.hd_model.specs.State.{Numbers, State, handle_register_of, handle_at, with_place, without_use}
 use Rattle.hd_model.specs.Role.{pins}
 use Rattle.hd_model.specs.Command.{Outcome, answers, answer_place}
 use Rattle.hd_model.specs.Laws.{OneStateAfter}
-use Rattle.hd_model.specs.Step.{IsOutcome, MakesHandle, with_made, AnswersPlace, DoesCollect, StepOf}
+use Rattle.hd_model.specs.Step.{IsOutcome, MakesHandle, with_made, AnswersPlace, DoesCollect, Way, decided, makes_object, makes_handle, collects, answers_place, gives_back, way_of, TakesWay}
 use Rattle.hd_model.proofs.Collections.{one_collection}
+
+-- the command of a way that the state alone does not decide
+abbrev pub CommandOf : Cmd → Way → Type 0
+CommandOf c (decided r) = Unit {0}
+CommandOf c (makes_object d fields fin) = c ≡ cmd.New d fields fin
+CommandOf c (makes_handle d make t) = c ≡ cmd.HNew d make t
+CommandOf c (collects n) = c ≡ cmd.Collect n
+CommandOf c (answers_place h) = c ≡ cmd.AddrOf h
+CommandOf c (gives_back kind) = c ≡ cmd.Trim kind
+
+pub way_command : (s : State) (caller : ℕ) (c : Cmd) → CommandOf c (way_of s caller c)
+way_command s caller (cmd.New d fields fin) = refl
+way_command s caller (cmd.HNew d make t) = refl
+way_command s caller (cmd.Collect n) = refl
+way_command s caller (cmd.AddrOf h) = refl
+way_command s caller (cmd.Trim kind) = refl
+way_command s caller _ = tt
 
 pub done_or_refused : {r : Reply} {refusal : Refusal} → r ≡ reply.Done → r ≡ reply.Refused refusal → ⊥
 done_or_refused done refused = cc
@@ -72,41 +82,20 @@ module _ (n : Numbers) (s : State) (e : Entry) (t u : State) where
   back_or_not : {a : ℕ} → e.grown ≡ Back a → e.grown ≡ Zero → ⊥
   back_or_not back none = cc
 
-  one_of : (c : Cmd) → StepOf n s e t c → StepOf n s e u c → t ≡ u
-  one_of (cmd.New d fields fin) a b = one_outcome _ a.1 b.1
-  one_of (cmd.Set o i v) a b = one_outcome _ a b
-  one_of (cmd.Get d o i) a b = one_outcome _ a b
-  one_of (cmd.Val o v) a b = one_outcome _ a b
-  one_of (cmd.Read o) a b = one_outcome _ a b
-  one_of (cmd.Copy d r) a b = one_outcome _ a b
-  one_of (cmd.Clear d) a b = one_outcome _ a b
-  one_of (cmd.SPut k r) a b = one_outcome _ a b
-  one_of (cmd.SGet d k) a b = one_outcome _ a b
-  one_of (cmd.Gen o) a b = one_outcome _ a b
-  one_of (cmd.Suppress o) a b = one_outcome _ a b
-  one_of (cmd.Reregister o) a b = one_outcome _ a b
-  one_of (cmd.Final d) a b = one_outcome _ a b
-  one_of (cmd.Collect k) a b = one_collected k a b
-  one_of (cmd.HNew d given r) a b =
+  one_of : (way : Way) → TakesWay n s e t way → TakesWay n s e u way → t ≡ u
+  one_of (decided r) a b = one_outcome r a b
+  one_of (makes_object d fields fin) a b = one_outcome _ a.1 b.1
+  one_of (makes_handle d given r) a b =
       ⊎_elim (λ x. ⊎_elim (λ y. one_made d given r x y)
       (λ y. absurd (done_or_refused x.reply y.refused.reply)) b)
       (λ x. ⊎_elim (λ y. absurd (done_or_refused y.reply x.refused.reply))
       (λ y. one_outcome _ x.refused y.refused) b) a
-  one_of (cmd.HGet d h) a b = one_outcome _ a b
-  one_of (cmd.HSet h r) a b = one_outcome _ a b
-  one_of (cmd.HSec h r) a b = one_outcome _ a b
-  one_of (cmd.HDep d h) a b = one_outcome _ a b
-  one_of (cmd.HVar h given) a b = one_outcome _ a b
-  one_of (cmd.HFree h) a b = one_outcome _ a b
-  one_of (cmd.HPut k h) a b = one_outcome _ a b
-  one_of (cmd.HPick d k) a b = one_outcome _ a b
-  one_of (cmd.AddrOf h) a b = one_place h a b
-  one_of (cmd.HUp h) a b = one_outcome _ a b
-  one_of (cmd.HDown h) a b = one_outcome _ a b
-  one_of (cmd.Trim given) a b =
+  one_of (collects k) a b = one_collected k a b
+  one_of (answers_place h) a b = one_place h a b
+  one_of (gives_back wanted) a b =
       ⊎_elim (λ x. ⊎_elim (λ y. x.after ∙ ap (without_use s) (same_blocks (sym x.grown ∙ y.grown))
       ∙ sym y.after) (λ y. absurd (back_or_not x.grown y.grown)) b)
       (λ x. ⊎_elim (λ y. absurd (back_or_not y.grown x.grown)) (λ y. one_outcome _ x y) b) a
 
 pub one_state_after : OneStateAfter
-one_state_after n s t u e a b = one_of n s e t u e.cmd a.does b.does
+one_state_after n s t u e a b = one_of n s e t u (way_of s e.caller e.cmd) a.does b.does

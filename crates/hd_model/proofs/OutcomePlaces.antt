@@ -1,27 +1,15 @@
 -- What a command does depends on no pinned address, but for `addr` and `collect`.
-use Rattle.std.proofs.Common.{◌≡◌, ℕ, inl, inr, ⊎_elim, Bool, true, false, true≢false, if◌then◌else◌, nat_lt, length, is_some, ◌+◌, ◌&&◌, List, [], ◌∷◌, Option, Some, None, refl, sym, ap, ◌∙◌}
-use Rattle.std.specs.Option.{option_map_or}
-use Rattle.std.specs.Prelude.{◌==◌}
-use Rattle.std.specs.FinMap.{FinMap, get}
-use Rattle.std.specs.Ordering.{nat_cmp}
-use Rattle.hd_model.specs.declared.data.Kind.{Kind}
-use Rattle.hd_model.specs.declared.data.Make.{Make}
-use Rattle.hd_model.specs.declared.data.Make.TheVariants as make
-use Rattle.hd_model.specs.declared.data.Grown.{Grown}
+use Rattle.hd_model.proofs.Basics.{◌≡◌, ℕ, inl, inr, ⊎_elim, Bool, true, false, true≢false, if◌then◌else◌, nat_lt, length, is_some, ◌+◌, ◌&&◌, List, [], ◌∷◌, Option, Some, None, refl, sym, ap, ◌∙◌, ◌==◌, nat_cmp, option_map_or, FinMap, get}
+use Rattle.hd_model.specs.Data.{Kind, Make, Grown, Slot, Strength, Entry, Id, Cmd}
 use Rattle.hd_model.specs.declared.data.Grown.TheVariants.{Zero, One, Two, Back}
-use Rattle.hd_model.specs.declared.data.Slot.{Slot}
-use Rattle.hd_model.specs.declared.data.Strength.{Strength}
-use Rattle.hd_model.specs.declared.data.Entry.{Entry}
-use Rattle.hd_model.specs.declared.data.Id.{Id}
-use Rattle.hd_model.specs.declared.command.Cmd.{Cmd}
 use Rattle.hd_model.specs.declared.command.Cmd.TheVariants as cmd
-use Rattle.hd_model.specs.State.{with_handle_register, with_handle, Numbers, Extra, Handle, State, register_of, handle_register_of, object_by_id, total_size, count_of}
+use Rattle.hd_model.specs.State.{Numbers, Handle, State, register_of, handle_register_of, object_by_id, total_size, count_of}
 use Rattle.hd_model.specs.Places.{with_places}
 use Rattle.hd_model.specs.Touched.{touched_by}
 use Rattle.hd_model.specs.Kinds.{kind_of, is_kind}
 use Rattle.hd_model.specs.declared.data.Refusal.TheVariants as refusal
 use Rattle.hd_model.specs.declared.data.Kind.TheVariants as kind
-use Rattle.hd_model.specs.Command.{Outcome, refuses, on_object, on_field, on_handle, on_handle_of, new_object, set_field, get_field, set_value, read_value, read_generation, set_registered, take_first, get_target, set_target, set_secondary, get_secondary, set_strength, raise_count, lower_count, free_handle, extra_of}
+use Rattle.hd_model.specs.Command.{Outcome, refuses, on_object, on_field, on_handle, on_handle_of, take_first}
 use Rattle.hd_model.specs.Step.{with_growth, IsLeastUnused, IsOutcome, MayGive, MakesHandle, FindsTableFull, GivesBack, with_made, StepOf, Step}
 
 module _ (p : FinMap nat_cmp ℕ) where
@@ -72,62 +60,6 @@ module _ (p : FinMap nat_cmp ℕ) where
         handle_placed h _ _ (λ slot x. by_test P leaf (f slot x) (g slot x) (refuses refusal.WrongKind at)
         (refuses refusal.WrongKind s) (is_kind x.kind k) (each slot x) (leaf _))
 
-    new_placed : (n : Numbers) (d f : ℕ) (fin : Bool) → P (new_object n at c d f fin) (new_object n s c d f fin)
-    new_placed n d f fin = by_test P leaf _ _ _ _ (nat_lt n.heap (total_size s + (f + 3))) (leaf _) (leaf _)
-
-    set_placed : (o i v : ℕ) → P (set_field at c o i v) (set_field s c o i v)
-    set_placed o i v = field_placed o i _ _ (λ id. leaf _)
-
-    get_placed : (d o i : ℕ) → P (get_field at c d o i) (get_field s c d o i)
-    get_placed d o i = field_placed o i _ _ (λ id. leaf _)
-
-    value_placed : (o v : ℕ) → P (set_value at c o v) (set_value s c o v)
-    value_placed o v = object_placed o _ _ (λ id. leaf _)
-
-    read_placed : (o : ℕ) → P (read_value at c o) (read_value s c o)
-    read_placed o = object_placed o _ _ (λ id. leaf _)
-
-    generation_placed : (o : ℕ) → P (read_generation at c o) (read_generation s c o)
-    generation_placed o = object_placed o _ _ (λ id. leaf _)
-
-    registered_placed : (o : ℕ) (b : Bool) → P (set_registered at c o b) (set_registered s c o b)
-    registered_placed o b = object_placed o _ _ (λ id. leaf _)
-
-    target_placed : (d h : ℕ) → P (get_target at c d h) (get_target s c d h)
-    target_placed d h = handle_placed h _ _ (λ slot x. leaf _)
-
-    set_target_placed : (h t : ℕ) → P (set_target at c h t) (set_target s c h t)
-    set_target_placed h t =
-        handle_placed h _ _ (λ slot x. by_test P leaf _ _ _ _ (is_kind x.kind kind.Dependent && is_some (register_of s c t)) (leaf _) (leaf _))
-
-    set_secondary_placed : (h r : ℕ) → P (set_secondary at c h r) (set_secondary s c h r)
-    set_secondary_placed h r = kind_placed h kind.Dependent _ _ (λ slot x. by_option P leaf _ _ (refuses refusal.Null at) (refuses refusal.Null s) x.target (λ y. leaf _) (leaf _))
-
-    secondary_placed : (d h : ℕ) → P (get_secondary at c d h) (get_secondary s c d h)
-    secondary_placed d h = kind_placed h kind.Dependent _ _ (λ slot x. leaf _)
-
-    strength_placed : (h : ℕ) (given : Strength) → P (set_strength at c h given) (set_strength s c h given)
-    strength_placed h given = kind_placed h kind.Variable _ _ (λ slot x. leaf _)
-
-    raise_placed : (h : ℕ) → P (raise_count at c h) (raise_count s c h)
-    raise_placed h = kind_placed h kind.Counted _ _ (λ slot x. leaf _)
-
-    lower_placed : (h : ℕ) → P (lower_count at c h) (lower_count s c h)
-    lower_placed h = kind_placed h kind.Counted _ _ (λ slot x. by_test P leaf _ _ _ _ (count_of x.extra == 0) (leaf _) (leaf _))
-
-    free_placed : (h : ℕ) → P (free_handle at c h) (free_handle s c h)
-    free_placed h = handle_placed h _ _ (λ slot x. leaf _)
-
-  module _ (s : State) (c : ℕ) where
-    extra_placed : (given : Make) (t : ℕ) → extra_of (with_places s p) c given t ≡ extra_of s c given t
-    extra_placed make.Short t = refl
-    extra_placed make.Long t = refl
-    extra_placed make.Strong t = refl
-    extra_placed make.Pinned t = refl
-    extra_placed (make.Variable given) t = refl
-    extra_placed make.Counted t = refl
-    extra_placed (make.Dependent r) t = refl
-
   module _ (n : Numbers) (s : State) (e : Entry) (t : State) where
     abbrev before : State
     before = with_places s p
@@ -154,37 +86,26 @@ module _ (p : FinMap nat_cmp ℕ) where
 
     made_placed : (g : Grown) (d : ℕ) (given : Make) (r : ℕ) (slot : Slot)
         → with_places (with_made s e.caller g d given r slot) p ≡ with_made before e.caller g d given r slot
-    made_placed g d given r slot = by g
-      where
-        in_room : State → Extra Id → State
-        in_room room x = with_handle_register (with_handle room slot
-            (record { kind = kind_of given; target = register_of s e.caller r; extra = x })) e.caller d (Some slot)
-
-        by : (g : Grown) → with_places (with_made s e.caller g d given r slot) p ≡ with_made before e.caller g d given r slot
-        by Zero = ap (in_room before) (sym (extra_placed s e.caller given r))
-        by (One b) = ap (in_room (with_growth before (kind_of given) (One b))) (sym (extra_placed s e.caller given r))
-        by (Two b o) = ap (in_room (with_growth before (kind_of given) (Two b o))) (sym (extra_placed s e.caller given r))
-        by (Back b) = ap (in_room (with_growth before (kind_of given) (Back b))) (sym (extra_placed s e.caller given r))
+    made_placed Zero d given r slot = refl
+    made_placed (One b) d given r slot = refl
+    made_placed (Two b o) d given r slot = refl
+    made_placed (Back b) d given r slot = refl
 
     -- an outcome that is alike from both states
-    alike : (o q : Outcome) → ((P : Outcome → Outcome → Type 0) → ((x : Outcome) → P (placed x) x) → P o q)
-        → IsOutcome e q t → IsOutcome e o after
-    alike o q each = outcome_placed o q (each (λ x y. x ≡ placed y) (λ x. refl))
+    alike : (o q : Outcome) → IsOutcome e q t
+        → ((P : Outcome → Outcome → Type 0) → ((x : Outcome) → P (placed x) x) → P o q) → IsOutcome e o after
+    alike o q is each = outcome_placed o q (each (λ x y. x ≡ placed y) (λ x. refl)) is
 
     does_placed : (c : Cmd) → (touched_by c).places ≡ false → StepOf n s e t c → StepOf n before e after c
-    does_placed (cmd.New d f fin) h is = (is.0, alike _ _ (λ P leaf. new_placed P leaf s e.caller n d f fin) is.1)
-    does_placed (cmd.Set o i v) h is = alike _ _ (λ P leaf. set_placed P leaf s e.caller o i v) is
-    does_placed (cmd.Get d o i) h is = alike _ _ (λ P leaf. get_placed P leaf s e.caller d o i) is
-    does_placed (cmd.Val o v) h is = alike _ _ (λ P leaf. value_placed P leaf s e.caller o v) is
-    does_placed (cmd.Read o) h is = alike _ _ (λ P leaf. read_placed P leaf s e.caller o) is
-    does_placed (cmd.Copy d r) h is = alike _ _ (λ P leaf. leaf _) is
-    does_placed (cmd.Clear d) h is = alike _ _ (λ P leaf. leaf _) is
-    does_placed (cmd.SPut k r) h is = alike _ _ (λ P leaf. leaf _) is
-    does_placed (cmd.SGet d k) h is = alike _ _ (λ P leaf. leaf _) is
-    does_placed (cmd.Gen o) h is = alike _ _ (λ P leaf. generation_placed P leaf s e.caller o) is
-    does_placed (cmd.Suppress o) h is = alike _ _ (λ P leaf. registered_placed P leaf s e.caller o false) is
-    does_placed (cmd.Reregister o) h is = alike _ _ (λ P leaf. registered_placed P leaf s e.caller o true) is
-    does_placed (cmd.Final d) h is = alike _ _ (λ P leaf. by_first P leaf s e.caller d s.queue) is
+    does_placed (cmd.New d f fin) h is = (is.0, alike _ _ is.1 (λ P leaf. by_test P leaf _ _ _ _ (nat_lt n.heap (total_size s + (f + 3))) (leaf _) (leaf _)))
+    does_placed (cmd.Set o i v) h is = alike _ _ is (λ P leaf. field_placed P leaf s e.caller o i _ _ (λ id. leaf _))
+    does_placed (cmd.Get d o i) h is = alike _ _ is (λ P leaf. field_placed P leaf s e.caller o i _ _ (λ id. leaf _))
+    does_placed (cmd.Val o v) h is = alike _ _ is (λ P leaf. object_placed P leaf s e.caller o _ _ (λ id. leaf _))
+    does_placed (cmd.Read o) h is = alike _ _ is (λ P leaf. object_placed P leaf s e.caller o _ _ (λ id. leaf _))
+    does_placed (cmd.Gen o) h is = alike _ _ is (λ P leaf. object_placed P leaf s e.caller o _ _ (λ id. leaf _))
+    does_placed (cmd.Suppress o) h is = alike _ _ is (λ P leaf. object_placed P leaf s e.caller o _ _ (λ id. leaf _))
+    does_placed (cmd.Reregister o) h is = alike _ _ is (λ P leaf. object_placed P leaf s e.caller o _ _ (λ id. leaf _))
+    does_placed (cmd.Final d) h is = alike _ _ is (λ P leaf. by_first P leaf s e.caller d s.queue)
     does_placed (cmd.Collect k) h is = absurd (true≢false h)
     does_placed (cmd.HNew d given r) h is = ⊎_elim
         (λ (x : MakesHandle n s e t d given r). inl (record {
@@ -196,19 +117,20 @@ module _ (p : FinMap nat_cmp ℕ) where
         }))
         (λ (x : FindsTableFull n s e t (kind_of given)). inr (record {
           few = x.few;
-          refused = alike _ _ (λ P leaf. leaf _) x.refused;
+          refused = alike _ _ x.refused (λ P leaf. leaf _);
         })) is
-    does_placed (cmd.HGet d o) h is = alike _ _ (λ P leaf. target_placed P leaf s e.caller d o) is
-    does_placed (cmd.HSet o v) h is = alike _ _ (λ P leaf. set_target_placed P leaf s e.caller o v) is
-    does_placed (cmd.HSec o r) h is = alike _ _ (λ P leaf. set_secondary_placed P leaf s e.caller o r) is
-    does_placed (cmd.HDep d o) h is = alike _ _ (λ P leaf. secondary_placed P leaf s e.caller d o) is
-    does_placed (cmd.HVar o given) h is = alike _ _ (λ P leaf. strength_placed P leaf s e.caller o given) is
-    does_placed (cmd.HFree o) h is = alike _ _ (λ P leaf. free_placed P leaf s e.caller o) is
-    does_placed (cmd.HPut k o) h is = alike _ _ (λ P leaf. leaf _) is
-    does_placed (cmd.HPick d k) h is = alike _ _ (λ P leaf. leaf _) is
+    does_placed (cmd.HGet d o) h is = alike _ _ is (λ P leaf. handle_placed P leaf s e.caller o _ _ (λ slot x. leaf _))
+    does_placed (cmd.HSet o v) h is = alike _ _ is (λ P leaf. handle_placed P leaf s e.caller o _ _ (λ slot x.
+        by_test P leaf _ _ _ _ (is_kind x.kind kind.Dependent && is_some (register_of s e.caller v)) (leaf _) (leaf _)))
+    does_placed (cmd.HSec o r) h is = alike _ _ is (λ P leaf. kind_placed P leaf s e.caller o kind.Dependent _ _ (λ slot x.
+        by_option P leaf _ _ _ _ x.target (λ y. leaf _) (leaf _)))
+    does_placed (cmd.HDep d o) h is = alike _ _ is (λ P leaf. kind_placed P leaf s e.caller o kind.Dependent _ _ (λ slot x. leaf _))
+    does_placed (cmd.HVar o given) h is = alike _ _ is (λ P leaf. kind_placed P leaf s e.caller o kind.Variable _ _ (λ slot x. leaf _))
+    does_placed (cmd.HFree o) h is = alike _ _ is (λ P leaf. handle_placed P leaf s e.caller o _ _ (λ slot x. leaf _))
     does_placed (cmd.AddrOf o) h is = absurd (true≢false h)
-    does_placed (cmd.HUp o) h is = alike _ _ (λ P leaf. raise_placed P leaf s e.caller o) is
-    does_placed (cmd.HDown o) h is = alike _ _ (λ P leaf. lower_placed P leaf s e.caller o) is
+    does_placed (cmd.HUp o) h is = alike _ _ is (λ P leaf. kind_placed P leaf s e.caller o kind.Counted _ _ (λ slot x. leaf _))
+    does_placed (cmd.HDown o) h is = alike _ _ is (λ P leaf. kind_placed P leaf s e.caller o kind.Counted _ _ (λ slot x.
+        by_test P leaf _ _ _ _ (count_of x.extra == 0) (leaf _) (leaf _)))
     does_placed (cmd.Trim k) h is = ⊎_elim
         (λ (x : GivesBack s e t k). inl (record {
           block = x.block;
@@ -218,7 +140,8 @@ module _ (p : FinMap nat_cmp ℕ) where
           grown = x.grown;
           after = ap (λ u. with_places u p) x.after;
         }))
-        (λ x. inr (alike _ _ (λ P leaf. leaf _) x)) is
+        (λ x. inr (alike _ _ x (λ P leaf. leaf _))) is
+    does_placed _ h is = alike _ _ is (λ P leaf. leaf _)
 
     -- a step of a command that touches no pinned address is one with any such addresses
     pub step_placed : (touched_by e.cmd).places ≡ false → Step n s e t → Step n before e after

@@ -1,9 +1,6 @@
 -- What holds of each way in which a command can come out holds of its outcome.
-use Rattle.std.proofs.Common.{◌≡◌, ℕ, ◌<◌, ◌≤◌, Bool, true, false, nat_lt, if◌then◌else◌, length, Option, Some, None, refl, ltb-true, ltb-false}
-use Rattle.std.specs.Option.{option_map_or}
-use Rattle.hd_model.specs.declared.data.Id.{Id}
-use Rattle.hd_model.specs.declared.data.Slot.{Slot}
-use Rattle.hd_model.specs.declared.data.Kind.{Kind}
+use Rattle.hd_model.proofs.Basics.{◌≡◌, ℕ, ◌<◌, ◌≤◌, Bool, true, false, nat_lt, if◌then◌else◌, length, Option, Some, None, refl, ltb-true, ltb-false, option_map_or}
+use Rattle.hd_model.specs.Data.{Id, Slot, Kind}
 use Rattle.hd_model.specs.declared.data.Refusal.TheVariants as refusal
 use Rattle.hd_model.specs.Kinds.{is_kind}
 use Rattle.hd_model.specs.State.{Handle, State, register_of, handle_register_of, object_by_id, handle_at}

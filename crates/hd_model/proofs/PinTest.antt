@@ -1,9 +1,6 @@
 -- The test for what is pinned, against its definition.
-use Rattle.std.proofs.Common.{◌≡◌, ℕ, Bool, true, ◌&&◌, Option, Some, None, nat_cmp, refl, ap, ◌∙◌}
-use Rattle.std.specs.Bool.{Decides}
-use Rattle.std.specs.FinMap.{FinMap, get, values}
-use Rattle.std.proofs.lemmas.Bool.{and_parts, and_from, eqb-true, eq-eqb, false≢true}
-use Rattle.hd_model.specs.declared.data.Id.{Id}
+use Rattle.hd_model.proofs.Basics.{◌≡◌, ℕ, Bool, true, ◌&&◌, Option, Some, None, nat_cmp, refl, ap, ◌∙◌, Decides, FinMap, get, values, and_parts, and_from, eqb-true, eq-eqb, false≢true}
+use Rattle.hd_model.specs.Data.{Id}
 use Rattle.hd_model.specs.State.{Handle}
 use Rattle.hd_model.specs.Role.{pins}
 use Rattle.hd_model.specs.Reach.{IsPinned, IsHeld}

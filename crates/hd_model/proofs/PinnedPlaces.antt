@@ -1,15 +1,8 @@
 -- A pinned address is returned again, as long as its object is pinned.
-use Rattle.std.proofs.Common.{◌≡◌, ℕ, Bool, true, false, cond, Some, None, refl, sym, ap, ◌∙◌, subst, if◌then◌else◌, true≢false}
-use Rattle.std.specs.Prelude.{option_and_then}
-use Rattle.std.specs.Option.{option_map_or, MatchOption}
-use Rattle.std.specs.FinMap.{get}
-use Rattle.hd_model.specs.declared.data.Id.{Id}
-use Rattle.hd_model.specs.declared.data.Slot.{Slot}
-use Rattle.hd_model.specs.declared.data.Entry.{Entry}
+use Rattle.hd_model.proofs.Basics.{◌≡◌, ℕ, Bool, true, false, cond, Some, None, refl, sym, ap, ◌∙◌, subst, if◌then◌else◌, true≢false, option_and_then, option_map_or, MatchOption, get}
+use Rattle.hd_model.specs.Data.{Id, Slot, Entry, Reply, Cmd}
 use Rattle.hd_model.specs.declared.data.Refusal.TheVariants as refusal
-use Rattle.hd_model.specs.declared.data.Reply.{Reply}
 use Rattle.hd_model.specs.declared.data.Reply.TheVariants as reply
-use Rattle.hd_model.specs.declared.command.Cmd.{Cmd}
 use Rattle.hd_model.specs.declared.command.Cmd.TheVariants as cmd
 use Rattle.hd_model.specs.State.{Numbers, Handle, State, handle_at, with_place}
 use Rattle.hd_model.specs.Role.{pins}

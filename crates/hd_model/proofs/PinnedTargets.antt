@@ -1,11 +1,6 @@
 -- The targets of pinning handles have a number.
-use Rattle.std.proofs.Common.{◌≡◌, ℕ, Bool, true, false, ◌&&◌, ◌==◌, Option, Some, None, is_some, refl, sym, ap, ◌∙◌}
-use Rattle.std.specs.Prelude.{option_map}
-use Rattle.std.specs.Bool.{Decides}
-use Rattle.std.specs.List.{list_any}
-use Rattle.std.specs.FinMap.{get, values, len}
-use Rattle.std.proofs.lemmas.Bool.{and_parts, and_from, eqb-true, eq-eqb, false≢true}
-use Rattle.hd_model.specs.declared.data.Addr.{Addr}
+use Rattle.hd_model.proofs.Basics.{◌≡◌, ℕ, Bool, true, false, ◌&&◌, ◌==◌, Option, Some, None, is_some, refl, sym, ap, ◌∙◌, option_map, Decides, list_any, get, values, len, and_parts, and_from, eqb-true, eq-eqb, false≢true}
+use Rattle.hd_model.specs.Data.{Addr}
 use Rattle.hd_model.specs.State.{Handle}
 use Rattle.hd_model.specs.Role.{pins}
 use Rattle.hd_model.specs.Counting.{Counts}

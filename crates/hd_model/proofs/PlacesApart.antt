@@ -1,12 +1,6 @@
 -- In every state of a run, the objects at pinned addresses share no cell.
-use Rattle.std.proofs.Common.{◌≡◌, ◌≢◌, ℕ, ◌+◌, ◌<◌, ◌≤◌, ◌^◌, ◌⊎◌, Bool, true, false, cond, length, Option, Some, None, IsSome, is_some, refl, sym, ap, ◌∙◌, subst, inl, inr, ⊎_elim, true≢false, nat_cmp, length-set, unwrap_or}
-use Rattle.std.specs.Option.{MatchOption}
-use Rattle.std.specs.FinMap.{FinMap, get, insert, get-empty}
-use Rattle.std.proofs.lemmas.Bool.{cases_lt}
-use Rattle.std.proofs.lemmas.Option.{none-some, same_Some}
-use Rattle.hd_model.specs.declared.data.Id.{Id}
-use Rattle.hd_model.specs.declared.data.Entry.{Entry}
-use Rattle.hd_model.specs.declared.command.Cmd.{Cmd}
+use Rattle.hd_model.proofs.Basics.{◌≡◌, ◌≢◌, ℕ, ◌+◌, ◌<◌, ◌≤◌, ◌^◌, ◌⊎◌, Bool, true, false, cond, length, Option, Some, None, IsSome, is_some, refl, sym, ap, ◌∙◌, subst, inl, inr, ⊎_elim, true≢false, nat_cmp, length-set, unwrap_or, MatchOption, FinMap, get, insert, get-empty, cases_lt, none-some, same_Some}
+use Rattle.hd_model.specs.Data.{Id, Entry, Cmd}
 use Rattle.hd_model.specs.State.{Numbers, Object, State, object_by_id, register_of, with_place}
 use Rattle.hd_model.specs.Places.{IsFreePlace, MayAnswer, is_pinned}
 use Rattle.hd_model.specs.WellFormed.{IsWellFormed}

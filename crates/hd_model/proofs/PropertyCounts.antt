@@ -1,29 +1,14 @@
 -- A property has one number of things, and such numbers add up.
-use Rattle.std.proofs.Common.{◌≡◌, ◌≢◌, Bool, true, ℕ, ◌+◌, ◌≤◌, List, [], ◌∷◌, ◌++◌, map, length, refl, ap, ◌∙◌, subst, arith, ⊎_elim, inl, inr, ◌⊎◌, length-append}
-use Rattle.std.specs.Prelude.{Contains, AllPairs, filter}
-use Rattle.std.proofs.lemmas.List.Elements.{Contains-append_left, Contains-append_right, Contains-append_cases}
+use Rattle.hd_model.proofs.Basics.{◌≡◌, ◌≢◌, Bool, true, ℕ, ◌+◌, ◌≤◌, List, [], ◌∷◌, ◌++◌, map, length, refl, ap, ◌∙◌, subst, arith, ⊎_elim, inl, inr, ◌⊎◌, length-append, Contains, AllPairs, filter, Contains-append_left, Contains-append_right, Contains-append_cases, length-map}
+use Rattle.hd_model.proofs.MemberWeights.{lighter, sum_ones}
 use Rattle.hd_model.specs.Counting.{Counts}
 use Rattle.hd_model.proofs.Members.{not_in_none, first_in, later_in, member_cases, member_same, split_at, pairs_first, pairs_rest, pairs_none, pairs_append, passing_from, passing_in, pairs_passing, pairs_mapped, pairs_among, mapped_in, mapped_from}
-use Rattle.std.proofs.lemmas.List.{length-map}
 
 module _ {A : Type 0} where
   -- members that are apart and are in another list are at most as many as that has
   pub fewer : (xs ys : List A) → AllPairs (λ x y. x ≢ y) xs → ((x : A) → Contains xs x → Contains ys x)
       → length xs ≤ length ys
-  fewer [] ys apart within = omega arith
-  fewer (x ∷ xs) ys apart within =
-      let (before, rest) = split_at ys x (within x (first_in x xs)) in
-      let after = rest.0 in
-      let others : (z : A) → Contains xs z → Contains (before ++ after) z =
-      λ z h. ⊎_elim (λ early. Contains-append_left before after z early)
-      (λ late. ⊎_elim (λ e. absurd (pairs_first (λ a b. a ≢ b) x xs apart z h e))
-      (λ beyond. Contains-append_right before after z beyond)
-      (member_cases x after z late))
-      (Contains-append_cases before (x ∷ after) z
-      (member_same ys (before ++ x ∷ after) rest.1 z (within z (later_in x xs z h)))) in
-      let short : length xs ≤ length (before ++ after) =
-      fewer xs (before ++ after) (pairs_rest (λ a b. a ≢ b) x xs apart) others in
-      omega (arith, length-append before after, length-append before (x ∷ after), ap length rest.1)
+  fewer xs ys apart within = omega (arith, lighter (λ _. 1) xs ys apart within, sum_ones xs, sum_ones ys)
 
   module _ (P Q : A → Type 0) where
     -- a property that has another's things and more has at least as many

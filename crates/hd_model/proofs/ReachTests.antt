@@ -1,12 +1,6 @@
 -- Tests for what a collection of a state reaches, resurrects and keeps.
-use Rattle.std.proofs.Common.{◌≡◌, ℕ, ◌<◌, ◌≤◌, nat_lt, nat_le, ◌==◌, Bool, true, false, not, ◌||◌, ◌&&◌, List, map, Option, Some, None, IsSome, is_some, refl, sym, ap, ◌∙◌, subst, ⊎_elim, inl, inr, ◌⊎◌}
-use Rattle.std.specs.Prelude.{Contains}
-use Rattle.std.specs.List.{list_any}
-use Rattle.std.specs.Bool.{Decides}
-use Rattle.std.specs.FinMap.{get, keys, values}
-use Rattle.std.proofs.lemmas.Bool.{cases_Bool, false≢true, true≢false, eqb-true, eq-eqb, ltb-true, lt-ltb, leb-true, le-leb, not_from_false}
-use Rattle.std.proofs.lemmas.Option.{same_Some}
-use Rattle.hd_model.specs.declared.data.Id.{Id}
+use Rattle.hd_model.proofs.Basics.{◌≡◌, ℕ, ◌<◌, ◌≤◌, nat_lt, nat_le, ◌==◌, Bool, true, false, not, ◌||◌, ◌&&◌, List, map, Option, Some, None, IsSome, is_some, refl, sym, ap, ◌∙◌, subst, ⊎_elim, inl, inr, ◌⊎◌, Contains, Decides, list_any, get, keys, values, cases_Bool, false≢true, true≢false, eqb-true, eq-eqb, ltb-true, lt-ltb, leb-true, le-leb, not_from_false, same_Some}
+use Rattle.hd_model.specs.Data.{Id}
 use Rattle.hd_model.specs.State.{Object, Handle, State, secondary_of}
 use Rattle.hd_model.specs.Role.{Role, holds, short, long, attaches, role}
 use Rattle.hd_model.specs.Leads.{Leads}

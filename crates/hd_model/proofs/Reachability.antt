@@ -1,9 +1,5 @@
 -- A test for what chains lead to, where all that they pass is in a list.
-use Rattle.std.proofs.Common.{◌≡◌, Bool, true, ◌||◌, ◌&&◌, List, [], ◌∷◌, sym, subst, ⊎_elim, inl, inr, ◌⊎◌}
-use Rattle.std.specs.Prelude.{Contains}
-use Rattle.std.specs.List.{list_any}
-use Rattle.std.specs.Bool.{Decides}
-use Rattle.std.proofs.lemmas.Bool.{and_parts, and_from, or_cases, or_left, or_right}
+use Rattle.hd_model.proofs.Basics.{◌≡◌, Bool, true, ◌||◌, ◌&&◌, List, [], ◌∷◌, sym, subst, ⊎_elim, inl, inr, ◌⊎◌, Contains, Decides, list_any, and_parts, and_from, or_cases, or_left, or_right}
 use Rattle.hd_model.specs.Leads.{Leads}
 use Rattle.hd_model.proofs.Members.{not_in_none, member_cases}
 use Rattle.hd_model.proofs.Entries.{any_from, any_of}

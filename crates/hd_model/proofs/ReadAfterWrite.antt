@@ -1,11 +1,5 @@
 -- What is read in a list or a map after a write.
-use Rattle.std.proofs.Common.{◌≡◌, ◌≢◌, ℕ, zero, suc, ◌+◌, ◌-◌, ◌<◌, true≢false, true, false, cond, List, [], ◌∷◌, length, get_or, set, replicate, Option, Some, None, is_some, sym, ap, ◌∙◌, subst, arith, IsSome, nat_cmp, length-set, get_or-set_same, ⊎_elim}
-use Rattle.std.specs.FinMap.{FinMap, get, insert, remove, len, get-insert, get-remove, get-empty, empty_of_len, len-insert, len-remove}
-use Rattle.std.specs.Ordering.{eq_by_cmp}
-use Rattle.std.specs.Cmp.{nat_cmp_total}
-use Rattle.std.proofs.lemmas.Bool.{cases_eq}
-use Rattle.std.proofs.lemmas.Bool.Decides.{nat_tests}
-use Rattle.std.proofs.lemmas.Option.{same_Some, none-some}
+use Rattle.hd_model.proofs.Basics.{◌≡◌, refl, ◌≢◌, ℕ, zero, suc, ◌+◌, ◌-◌, ◌<◌, true≢false, true, false, cond, List, [], ◌∷◌, length, get_or, set, replicate, Option, Some, None, is_some, sym, ap, ◌∙◌, subst, arith, IsSome, nat_cmp, length-set, get_or-set_same, ⊎_elim, FinMap, get, insert, remove, len, get-insert, get-remove, get-empty, empty_of_len, len-insert, len-remove, eq_by_cmp, nat_cmp_total, cases_eq, nat_tests, same_Some, none-some}
 
 -- what holds of the new element and of what was there holds of what is there
 pub set_cases : {A : Type 0} (P : A → Type 0) (xs : List A) (i j : ℕ) (a d : A) → (j ≡ i → P a)
@@ -33,12 +27,11 @@ cell_here rows c d v e row cell =
     ∙ get_or-set_same (get_or rows c []) d v e cell
 
 -- each row keeps its length
-pub rows_keep : {A : Type 0} (rows : List (List A)) (n width c d : ℕ) (v : A) → c < n
-    → ((k : ℕ) → k < n → length (get_or rows k []) ≡ width) → (k : ℕ) → k < n
-    → length (get_or (set rows c (set (get_or rows c []) d v)) k []) ≡ width
-rows_keep rows n width c d v l wide k h =
-    set_cases (λ row. length row ≡ width) rows c k (set (get_or rows c []) d v) []
-    (λ _. length-set (get_or rows c []) d v ∙ wide c l) (wide k h)
+pub rows_keep : {A : Type 0} (rows : List (List A)) (c d k : ℕ) (v : A)
+    → length (get_or (set rows c (set (get_or rows c []) d v)) k []) ≡ length (get_or rows k [])
+rows_keep rows c d k v =
+    set_cases (λ row. length row ≡ length (get_or rows k [])) rows c k (set (get_or rows c []) d v) []
+    (λ same. length-set (get_or rows c []) d v ∙ ap (λ i. length (get_or rows i [])) (sym same)) refl
 
 -- what holds of the repeated element and of the one past the end holds of each
 pub replicate_cases : {A : Type 0} (P : A → Type 0) (n i : ℕ) (a d : A) → P a → P d

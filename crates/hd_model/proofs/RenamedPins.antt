@@ -1,22 +1,24 @@
--- Whether a handle pins does not depend on names.
-use Rattle.std.proofs.Common.{◌≡◌, refl}
-use Rattle.hd_model.specs.declared.data.Kind.{Kind}
-use Rattle.hd_model.specs.declared.data.Kind.TheVariants as kind
-use Rattle.hd_model.specs.State.{Extra, nothing, strength, secondary, count, Handle, rename_extra, rename_handle}
-use Rattle.hd_model.specs.Role.{pins_by, pins}
+-- Whether a handle pins, and its role, do not depend on names.
+use Rattle.hd_model.proofs.Basics.{◌≡◌, refl, ap}
+use Rattle.hd_model.specs.Data.{Kind}
+use Rattle.hd_model.specs.State.{Extra, nothing, strength, secondary, count, Handle, strength_in, count_of, rename_extra, rename_handle}
+use Rattle.hd_model.specs.Role.{role_by, role_of, pins_with, pins}
 
 module _ {N M : Type 0} (f : N → M) where
-  by_extra : (k : Kind) (e : Extra N) → pins_by k (rename_extra f e) ≡ pins_by k e
-  by_extra kind.Short e = refl
-  by_extra kind.Long e = refl
-  by_extra kind.Strong e = refl
-  by_extra kind.Pinned e = refl
-  by_extra kind.Variable nothing = refl
-  by_extra kind.Variable (strength given) = refl
-  by_extra kind.Variable (secondary o) = refl
-  by_extra kind.Variable (count c) = refl
-  by_extra kind.Counted e = refl
-  by_extra kind.Dependent e = refl
+  strength_renamed : (e : Extra N) → strength_in (rename_extra f e) ≡ strength_in e
+  strength_renamed nothing = refl
+  strength_renamed (strength given) = refl
+  strength_renamed (secondary o) = refl
+  strength_renamed (count c) = refl
+
+  count_renamed : (e : Extra N) → count_of (rename_extra f e) ≡ count_of e
+  count_renamed nothing = refl
+  count_renamed (strength given) = refl
+  count_renamed (secondary o) = refl
+  count_renamed (count c) = refl
+
+  pub role_renamed : (k : Kind) (e : Extra N) → role_of k (rename_extra f e) ≡ role_of k e
+  role_renamed k e = λ i. role_by k (strength_renamed e i) (count_renamed e i)
 
   pub pins_renamed : (h : Handle N) → pins (rename_handle f h) ≡ pins h
-  pins_renamed h = by_extra h.kind h.extra
+  pins_renamed h = ap (pins_with h.kind) (strength_renamed h.extra)

@@ -1,35 +1,18 @@
 -- A scene read under other names has the same reach, and keeps and resurrects the same objects.
-use Rattle.std.proofs.Common.{◌≡◌, ℕ, ◌<◌, ◌≤◌, true, Option, Some, None, is_some, refl, sym, ap, ◌∙◌, subst, ⊎_elim, inl, inr, ◌⊎◌, arith}
-use Rattle.std.specs.Prelude.{Contains, option_map}
-use Rattle.hd_model.specs.declared.data.Kind.{Kind}
-use Rattle.hd_model.specs.declared.data.Kind.TheVariants as kind
+use Rattle.hd_model.proofs.Basics.{◌≡◌, ℕ, ◌<◌, ◌≤◌, true, Option, Some, None, is_some, refl, sym, ap, ◌∙◌, subst, ⊎_elim, inl, inr, ◌⊎◌, arith, Contains, option_map}
+use Rattle.hd_model.specs.Data.{Kind}
 use Rattle.hd_model.specs.State.{Object, Extra, nothing, strength, secondary, count, Handle, secondary_of, rename_extra, rename_object, rename_handle}
 use Rattle.hd_model.specs.Role.{holds, attaches, role_of, role}
 use Rattle.hd_model.specs.Leads.{Leads}
 use Rattle.hd_model.specs.Scene.{Scene, is_object, fields_in, generation_in, generation_at, IsField, IsWhole, IsReading}
-use Rattle.hd_model.specs.Reach.{IsAttached, IsArrow, IsRoot, named, queued, held, older, IsReached, IsRevived, IsKept}
+use Rattle.hd_model.specs.Reach.{IsAttached, IsEdge, IsRoot, named, queued, held, older, IsReached, IsRevived, IsKept}
+use Rattle.hd_model.proofs.RenamedPins.{role_renamed}
 use Rattle.hd_model.proofs.EdgeChains.{leads_turn, leads_lift}
 use Rattle.hd_model.proofs.Members.{mapped_in, mapped_from}
 use Rattle.hd_model.proofs.Entries.{some_value}
 use Rattle.hd_model.proofs.SceneCollection.{mapped_value, root_object, arrow_object, reached_object}
 
--- names change no role, and rename a secondary as they rename a target
-pub role_renamed : {N M : Type 0} (f : N → M) (k : Kind) (e : Extra N)
-    → role_of k (rename_extra f e) ≡ role_of k e
-role_renamed f kind.Short e = refl
-role_renamed f kind.Long e = refl
-role_renamed f kind.Strong e = refl
-role_renamed f kind.Pinned e = refl
-role_renamed f kind.Variable nothing = refl
-role_renamed f kind.Variable (strength given) = refl
-role_renamed f kind.Variable (secondary o) = refl
-role_renamed f kind.Variable (count c) = refl
-role_renamed f kind.Counted nothing = refl
-role_renamed f kind.Counted (strength given) = refl
-role_renamed f kind.Counted (secondary o) = refl
-role_renamed f kind.Counted (count c) = refl
-role_renamed f kind.Dependent e = refl
-
+-- a secondary is renamed as a target is
 pub secondary_renamed : {N M : Type 0} (f : N → M) (e : Extra N)
     → secondary_of (rename_extra f e) ≡ option_map f (secondary_of e)
 secondary_renamed f nothing = refl
@@ -97,14 +80,14 @@ module _ {N M : Type 0} (f : N → M) (n : ℕ) (s : Scene N) (t : Scene M) (w :
     secondary = secondary_renamed f a.handle.extra ∙ ap (option_map f) a.secondary;
   }
 
-  arrow_read : (x y : N) → is_object s.object x ≡ true → IsArrow s.object s.handle x y
-      → IsArrow t.object t.handle (f x) (f y)
+  arrow_read : (x y : N) → is_object s.object x ≡ true → IsEdge s.object s.handle x y
+      → IsEdge t.object t.handle (f x) (f y)
   arrow_read x y h a = ⊎_elim (λ c. inl (field_read x y h c)) (λ d. inr (attached_read x y d)) a
 
-  chain_read : {x y : N} → is_object s.object x ≡ true → Leads (IsArrow s.object s.handle) x y
-      → Leads (IsArrow t.object t.handle) (f x) (f y)
+  chain_read : {x y : N} → is_object s.object x ≡ true → Leads (IsEdge s.object s.handle) x y
+      → Leads (IsEdge t.object t.handle) (f x) (f y)
   chain_read h chain =
-      (leads_turn (IsArrow s.object s.handle) (IsArrow t.object t.handle) f (λ x. is_object s.object x ≡ true)
+      (leads_turn (IsEdge s.object s.handle) (IsEdge t.object t.handle) f (λ x. is_object s.object x ≡ true)
       (λ x y k a. arrow_object n s w x y a) arrow_read h chain).1
 
   -- and back: a root of t is the new name of one, and an edge in t from an object of s is one of s
@@ -152,12 +135,12 @@ module _ {N M : Type 0} (f : N → M) (n : ℕ) (s : Scene N) (t : Scene M) (w :
       object_older None l = absurd (omega arith)
       object_older (Some o) l = refl
 
-  arrow_unread : (x : N) (b : M) → is_object s.object x ≡ true → IsArrow t.object t.handle (f x) b
-      → (y : N) × ((is_object s.object y ≡ true) × (IsArrow s.object s.handle x y × (f y ≡ b)))
+  arrow_unread : (x : N) (b : M) → is_object s.object x ≡ true → IsEdge t.object t.handle (f x) b
+      → (y : N) × ((is_object s.object y ≡ true) × (IsEdge s.object s.handle x y × (f y ≡ b)))
   arrow_unread x b h a = ⊎_elim by_field by_handle a
     where
       by_field : IsField t.object (f x) b → (y : N)
-          × ((is_object s.object y ≡ true) × (IsArrow s.object s.handle x y × (f y ≡ b)))
+          × ((is_object s.object y ≡ true) × (IsEdge s.object s.handle x y × (f y ≡ b)))
       by_field c =
           let (o, e) = some_value (s.object x) h in
           let (v, rest) = mapped_from (option_map f) o.fields (Some b)
@@ -170,7 +153,7 @@ module _ {N M : Type 0} (f : N → M) (n : ℕ) (s : Scene N) (t : Scene M) (w :
           (y, (w.fields x y field, (inl field, both.1)))
 
       by_handle : IsAttached t.handle (f x) b → (y : N)
-          × ((is_object s.object y ≡ true) × (IsArrow s.object s.handle x y × (f y ≡ b)))
+          × ((is_object s.object y ≡ true) × (IsEdge s.object s.handle x y × (f y ≡ b)))
       by_handle d =
           let (o, both) = handle_unread f s t g d.slot d.handle d.stands in
           let (z, at) = mapped_value f o.target (f x) (ap (λ (q : Handle M). q.target) both.1 ∙ d.target) in
@@ -204,7 +187,7 @@ module _ {N M : Type 0} (f : N → M) (n : ℕ) (s : Scene N) (t : Scene M) (w :
   reached_unread b h =
       let (r, rest) = root_unread h.0 h.1.0 in
       let (y, last) =
-      leads_lift (IsArrow s.object s.handle) (IsArrow t.object t.handle) f
+      leads_lift (IsEdge s.object s.handle) (IsEdge t.object t.handle) f
       (λ x. is_object s.object x ≡ true) arrow_unread
       r rest.0 rest.1.1 h.1.1 in
       (y, (last.0, ((r, (rest.1.0, last.1.0)), last.1.1)))
@@ -263,7 +246,7 @@ module _ {N M : Type 0} (f : N → M) (n : ℕ) (s : Scene N) (t : Scene M) (w :
   kept_unread b h =
       let (r, rest) = start_unread h.0 h.1.0 in
       let (y, last) =
-      leads_lift (IsArrow s.object s.handle) (IsArrow t.object t.handle) f
+      leads_lift (IsEdge s.object s.handle) (IsEdge t.object t.handle) f
       (λ x. is_object s.object x ≡ true) arrow_unread
       r rest.0 rest.1.1 h.1.1 in
       (y, (last.0, ((r, (rest.1.0, last.1.0)), last.1.1)))

@@ -1,11 +1,6 @@
 -- What the numbers of a report say of the states before and after.
-use Rattle.std.proofs.Common.{◌≡◌, ◌≢◌, ℕ, ◌+◌, ◌<◌, ◌≤◌, Bool, true, false, length, Option, Some, None, is_some, IsSome, refl, sym, ap, ◌∙◌, ⊎_elim, inl, inr, ◌⊎◌, arith, length-append}
-use Rattle.std.specs.Prelude.{option_map}
-use Rattle.std.specs.FinMap.{get, len}
-use Rattle.std.proofs.lemmas.Bool.{cases_Bool, cases_lt, false≢true, true≢false, cond-true, cond-false}
-use Rattle.std.proofs.lemmas.Option.{none-some, same_Some}
-use Rattle.hd_model.specs.declared.data.Id.{Id}
-use Rattle.hd_model.specs.declared.data.Report.{Report}
+use Rattle.hd_model.proofs.Basics.{◌≡◌, ◌≢◌, ℕ, ◌+◌, ◌<◌, ◌≤◌, Bool, true, false, length, Option, Some, None, is_some, IsSome, refl, sym, ap, ◌∙◌, ⊎_elim, inl, inr, ◌⊎◌, arith, length-append, option_map, get, len, cases_Bool, cases_lt, false≢true, true≢false, cond-true, cond-false, none-some, same_Some}
+use Rattle.hd_model.specs.Data.{Id, Report}
 use Rattle.hd_model.specs.State.{Numbers, Handle, State}
 use Rattle.hd_model.specs.Role.{Role, holds, short, long, attaches, role}
 use Rattle.hd_model.specs.Scene.{Scene, scene_of, is_object, generation_at, IsCondemned, IsWhole}

@@ -1,6 +1,5 @@
 -- Rows that reference no more than before: they reference objects, and their ages are sound.
-use Rattle.std.proofs.Common.{◌≡◌, ℕ, Bool, Some, sym, ap, ◌∙◌}
-use Rattle.std.specs.Prelude.{option_map, List}
+use Rattle.hd_model.proofs.Basics.{◌≡◌, ℕ, Bool, Some, sym, ap, ◌∙◌, option_map, List}
 use Rattle.hd_model.specs.State.{Handle, secondary_of}
 use Rattle.hd_model.specs.Scene.{Objects, Rows}
 use Rattle.hd_model.specs.Ages.{HasSoundAges}

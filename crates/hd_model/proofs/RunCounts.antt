@@ -1,20 +1,9 @@
 -- The handles and the objects of a run, counted over its journal.
-use Rattle.std.proofs.Common.{◌≡◌, ℕ, ◌+◌, ◌/◌, ◌%◌, ◌^◌, ◌<◌, ◌≤◌, ◌&&◌, Bool, true, false, cond, List, Option, Some, None, is_some, IsSome, refl, sym, ap, ◌∙◌, subst, arith, nat_cmp}
-use Rattle.std.specs.Prelude.{sum_by, option_map}
-use Rattle.std.specs.FinMap.{get, len, len-empty}
-use Rattle.std.proofs.lemmas.Option.{none-some}
-use Rattle.std.proofs.lemmas.List.Sums.{sum_by-cons}
-use Rattle.hd_model.specs.declared.data.Id.{Id}
-use Rattle.hd_model.specs.declared.data.Slot.{Slot}
-use Rattle.hd_model.specs.declared.data.Kind.{Kind}
-use Rattle.hd_model.specs.declared.data.Grown.{Grown}
+use Rattle.hd_model.proofs.Basics.{◌≡◌, ℕ, ◌+◌, ◌/◌, ◌%◌, ◌^◌, ◌<◌, ◌≤◌, ◌&&◌, Bool, true, false, cond, List, Option, Some, None, is_some, IsSome, refl, sym, ap, ◌∙◌, subst, arith, nat_cmp, sum_by, option_map, get, len, len-empty, none-some, sum_by-cons}
+use Rattle.hd_model.specs.Data.{Id, Slot, Kind, Grown, Entry, Refusal, Reply, Cmd}
 use Rattle.hd_model.specs.declared.data.Grown.TheVariants.{Zero, One, Two, Back}
 use Rattle.hd_model.specs.declared.limits.TheConstants.{ROWS}
-use Rattle.hd_model.specs.declared.data.Entry.{Entry}
-use Rattle.hd_model.specs.declared.data.Refusal.{Refusal}
-use Rattle.hd_model.specs.declared.data.Reply.{Reply}
 use Rattle.hd_model.specs.declared.data.Reply.TheVariants as reply
-use Rattle.hd_model.specs.declared.command.Cmd.{Cmd}
 use Rattle.hd_model.specs.State.{Numbers, Object, Handle, State, start_of, register_of, last_serial, object_by_id, handle_at, field_of, use_of, first_slot, handles_of, with_handle}
 use Rattle.hd_model.specs.Command.{loaded, fresh_object, made_handle}
 use Rattle.hd_model.specs.Scene.{scene_of}

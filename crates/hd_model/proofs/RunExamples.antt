@@ -1,12 +1,7 @@
 -- Runs and states that meet the premises of laws over steps and runs. What a state of them has is computed,
 -- but for what maps give.
-use Rattle.std.proofs.Common.{◌≡◌, ℕ, ◌+◌, Bool, true, nat_lt, if◌then◌else◌, [], ◌∷◌, Some, None, refl, sym, ap, ◌∙◌, subst, lit<, arith, inl, ⊎_elim, ◌≢◌, IsSome, is_some}
-use Rattle.std.specs.Option.{MatchOption}
-use Rattle.std.specs.FinMap.{get, get-empty}
-use Rattle.std.specs.Ordering.{nat_cmp}
-use Rattle.std.proofs.lemmas.Option.{none-some}
-use Rattle.hd_model.specs.declared.data.Id.{Id}
-use Rattle.hd_model.specs.declared.data.Entry.{Entry}
+use Rattle.hd_model.proofs.Basics.{◌≡◌, ℕ, ◌+◌, Bool, true, nat_lt, if◌then◌else◌, [], ◌∷◌, Some, None, refl, sym, ap, ◌∙◌, subst, lit<, arith, inl, ⊎_elim, ◌≢◌, IsSome, is_some, MatchOption, nat_cmp, get, get-empty, none-some}
+use Rattle.hd_model.specs.Data.{Id, Entry}
 use Rattle.hd_model.specs.declared.data.Grown.TheVariants.{Zero, One}
 use Rattle.hd_model.specs.declared.data.Make.TheVariants as make
 use Rattle.hd_model.specs.declared.data.Reply.TheVariants as reply
@@ -14,15 +9,16 @@ use Rattle.hd_model.specs.declared.data.Refusal.TheVariants as refusal
 use Rattle.hd_model.specs.declared.command.Cmd.TheVariants as cmd
 use Rattle.hd_model.specs.State.{Numbers, State, start_of, identity_of, first_slot, total_size, with_object, with_serial, with_register, with_queue, with_place}
 use Rattle.hd_model.specs.Places.{IsFreePlace, MayAnswer}
-use Rattle.hd_model.specs.Command.{Outcome, answers, refuses, new_object, fresh_object, made_handle}
-use Rattle.hd_model.specs.Step.{Step, with_made}
+use Rattle.hd_model.specs.Command.{answers, refuses, new_object, fresh_object, made_handle}
+use Rattle.hd_model.specs.Step.{IsOutcome, Step, with_made}
 use Rattle.hd_model.specs.Run.{stay, link, Run}
 use Rattle.hd_model.specs.WellFormed.{IsWellFormed}
-use Rattle.hd_model.specs.UserLaws.{PinsBy, TakesCells, Unpins, GivesGeneration, GivesRegistration, IsDoneTo, by_suppress, cells_taken, HasWay, JoinsBy}
+use Rattle.hd_model.specs.UserLaws.{PinsBy, TakesCells, Unpins, GivesGeneration, GivesRegistration, HasWay, JoinsBy}
 use Rattle.hd_model.specs.UserLaws as law
 use Rattle.hd_model.specs.Laws.{Since}
 use Rattle.hd_model.proofs.ReadAfterWrite.{get_inserted}
 use Rattle.hd_model.proofs.Members.{not_in_none, member_cases, pairs_none, pairs_cons}
+use Rattle.hd_model.proofs.WellFormedWrites.{queue_keeps}
 use Rattle.hd_model.proofs.WellFormedSteps.{run_is_well_formed}
 use Rattle.hd_model.proofs.PinnedPlaces.{answer_is, pinned_by_it}
 use Rattle.hd_model.proofs.HeapLimit.{start_total}
@@ -61,12 +57,7 @@ step1 = record {
   valid = (lit< tt, omega arith);
   does = (
     lit< tt,
-    record {
-      reply = sym (ap (λ (o : Outcome). o.reply) made);
-      slot = sym (ap (λ (o : Outcome). o.slot) made);
-      grown = refl;
-      after = sym (ap (λ (o : Outcome). o.after) made);
-    },
+    subst (λ o. IsOutcome e1 o s1) (sym made) (record { reply = refl; slot = refl; grown = refl; after = refl }),
   );
 }
 
@@ -91,12 +82,7 @@ step_full = record {
   valid = (lit< tt, omega arith);
   does = (
     lit< tt,
-    record {
-      reply = sym (ap (λ (o : Outcome). o.reply) refused);
-      slot = sym (ap (λ (o : Outcome). o.slot) refused);
-      grown = refl;
-      after = sym (ap (λ (o : Outcome). o.after) refused);
-    },
+    subst (λ o. IsOutcome e_full o s0) (sym refused) (record { reply = refl; slot = refl; grown = refl; after = refl }),
   );
 }
 
@@ -168,12 +154,8 @@ step3 = record {
   does = record {
     place = 256;
     may = λ id is. free id;
-    outcome = record {
-      reply = sym (ap (λ (o : Outcome). o.reply) (answer_is s2 0 0 first pins_first 256));
-      slot = sym (ap (λ (o : Outcome). o.slot) (answer_is s2 0 0 first pins_first 256));
-      grown = refl;
-      after = sym (ap (λ (o : Outcome). o.after) (answer_is s2 0 0 first pins_first 256));
-    };
+    outcome = subst (λ o. IsOutcome e3 o s3) (sym (answer_is s2 0 0 first pins_first 256))
+        (record { reply = refl; slot = refl; grown = refl; after = refl });
   };
 }
 
@@ -252,47 +234,11 @@ waiting = with_queue s1 (first ∷ [])
 
 pub waiting_is_well_formed : IsWellFormed numbers waiting
 waiting_is_well_formed =
-    let w : IsWellFormed numbers s1 = run_is_well_formed numbers (e1 ∷ []) s1 (link step1 stay) in
-    record {
-      shape = record {
-        registers = w.shape.registers;
-        each_registers = w.shape.each_registers;
-        handle_registers = w.shape.handle_registers;
-        each_handle_registers = w.shape.each_handle_registers;
-        statics = w.shape.statics;
-        board = w.shape.board;
-        serials = w.shape.serials;
-      };
-      names = record {
-        fields = w.names.fields;
-        registers = w.names.registers;
-        statics = w.names.statics;
-        targets = w.names.targets;
-        secondaries = w.names.secondaries;
-        queue = λ id h. ⊎_elim (λ same. subst (λ (x : Id). IsSome (get s1.objects x.0)) same
-            (ap is_some (get_inserted s0.objects first.0 (fresh_object 1 true))))
-            (λ none. absurd (not_in_none id none)) (member_cases first [] id h);
-        places = w.names.places;
-      };
-      objects = record {
-        sizes = w.objects.sizes;
-        generations = w.objects.generations;
-        queued_once = pairs_cons (λ x y. x ≢ y) first [] (λ y none. absurd (not_in_none y none))
-            (pairs_none (λ x y. x ≢ y));
-      };
-      serials = record {
-        from_one = w.serials.from_one;
-        to_last = w.serials.to_last;
-        limit =
-            w.serials.limit;
-      };
-      handles = record {
-        kinds = w.handles.kinds;
-        extras = w.handles.extras;
-        dependents = w.handles.dependents;
-        blocks = w.handles.blocks;
-      };
-    }
+    queue_keeps numbers s1 (run_is_well_formed numbers (e1 ∷ []) s1 (link step1 stay)) (first ∷ [])
+    (λ id h. ⊎_elim (λ same. subst (λ (x : Id). IsSome (get s1.objects x.0)) same
+    (ap is_some (get_inserted s0.objects first.0 (fresh_object 1 true))))
+    (λ none. absurd (not_in_none id none)) (member_cases first [] id h))
+    (pairs_cons (λ x y. x ≢ y) first [] (λ y none. absurd (not_in_none y none)) (pairs_none (λ x y. x ≢ y)))
 
 pub step_final : Step numbers waiting
     (record { caller = 0; cmd = cmd.Final 1; slot = None; grown = Zero; reply = reply.Object first })

@@ -1,15 +1,11 @@
 -- What a collection leaves of a whole scene: what is kept, and what the handles that stay reference.
-use Rattle.std.proofs.Common.{◌≡◌, ℕ, ◌<◌, Bool, true, false, cond, ◌&&◌, Option, Some, None, is_some, refl, sym, ap, ◌∙◌, subst, arith, ⊎_elim, inl, inr, ◌⊎◌}
-use Rattle.std.specs.Prelude.{Contains, option_map}
-use Rattle.std.proofs.lemmas.Bool.{not-false, cond-true, cond-false}
-use Rattle.std.proofs.lemmas.Option.{none-some, same_Some}
-use Rattle.std.proofs.lemmas.List.Elements.{Contains-append_cases}
-use Rattle.hd_model.specs.declared.data.Report.{Report}
+use Rattle.hd_model.proofs.Basics.{◌≡◌, ℕ, ◌<◌, Bool, true, false, cond, ◌&&◌, Option, Some, None, is_some, refl, sym, ap, ◌∙◌, subst, arith, ⊎_elim, inl, inr, ◌⊎◌, Contains, option_map, not-false, cond-true, cond-false, none-some, same_Some, Contains-append_cases}
+use Rattle.hd_model.specs.Data.{Report}
 use Rattle.hd_model.specs.State.{Object, Extra, secondary, Handle, secondary_of}
 use Rattle.hd_model.specs.Role.{Role, holds, short, long, attaches, role_of, role}
 use Rattle.hd_model.specs.Leads.{Leads}
 use Rattle.hd_model.specs.Scene.{Scene, is_object, fields_in, generation_in, IsField, IsWhole}
-use Rattle.hd_model.specs.Reach.{IsAttached, IsArrow, IsRoot, named, queued, held, older, IsReached, IsRevived, IsKept}
+use Rattle.hd_model.specs.Reach.{IsAttached, IsEdge, IsRoot, named, queued, held, older, IsReached, IsRevived, IsKept}
 use Rattle.hd_model.specs.Collect.{is_lost, loses_by, loses, is_attaching, cleared, survivor, Collects}
 use Rattle.hd_model.proofs.Members.{not_in_none}
 use Rattle.hd_model.proofs.Entries.{some_value}
@@ -79,12 +75,12 @@ module _ {N : Type 0} (n : ℕ) (s : Scene N) (w : IsWhole s) where
   root_object x (held h) = w.targets h.slot h.handle x h.stands h.target
   root_object x (older l) = some_older (s.object x) l
 
-  pub arrow_object : (x y : N) → IsArrow s.object s.handle x y → is_object s.object y ≡ true
+  pub arrow_object : (x y : N) → IsEdge s.object s.handle x y → is_object s.object y ≡ true
   arrow_object x y a =
       ⊎_elim (λ f. w.fields x y f) (λ (d : IsAttached s.handle x y).
       w.secondaries d.slot d.handle y d.stands d.secondary) a
 
-  pub leads_object : {x y : N} → is_object s.object x ≡ true → Leads (IsArrow s.object s.handle) x y
+  pub leads_object : {x y : N} → is_object s.object x ≡ true → Leads (IsEdge s.object s.handle) x y
       → is_object s.object y ≡ true
   leads_object h Leads.here = h
   leads_object h (Leads.more {y = y} {z = z} chain e) = arrow_object y z e
@@ -102,7 +98,7 @@ module _ {N : Type 0} (n : ℕ) (s : Scene N) where
   pub root_reached : (x : N) → IsRoot s n x → IsReached s n x
   root_reached x h = (x, (h, Leads.here))
 
-  pub reached_on : (x y : N) → IsReached s n x → IsArrow s.object s.handle x y → IsReached s n y
+  pub reached_on : (x y : N) → IsReached s n x → IsEdge s.object s.handle x y → IsReached s n y
   reached_on x y h a = (h.0, (h.1.0, Leads.more h.1.1 a))
 
   pub reached_kept : (x : N) → IsReached s n x → IsKept s n x
@@ -111,7 +107,7 @@ module _ {N : Type 0} (n : ℕ) (s : Scene N) where
   pub revived_kept : (x : N) → IsRevived s n x → IsKept s n x
   revived_kept x h = (x, (inr h, Leads.here))
 
-  pub kept_on : (x y : N) → IsKept s n x → IsArrow s.object s.handle x y → IsKept s n y
+  pub kept_on : (x y : N) → IsKept s n x → IsEdge s.object s.handle x y → IsKept s n y
   kept_on x y h a = (h.0, (h.1.0, Leads.more h.1.1 a))
 
 module _ {N : Type 0} (rank : N → ℕ) (n : ℕ) (s t : Scene N) (r : Report) (w : IsWhole s)
@@ -125,7 +121,7 @@ module _ {N : Type 0} (rank : N → ℕ) (n : ℕ) (s t : Scene N) (r : Report) 
   pub keeps_revived : (x : N) → c.revived x ≡ true → c.kept x ≡ true
   keeps_revived x h = (c.kept_is x).1 (revived_kept n s x ((c.revived_is x).0 h))
 
-  pub keeps_arrow : (x y : N) → c.kept x ≡ true → IsArrow s.object s.handle x y → c.kept y ≡ true
+  pub keeps_arrow : (x y : N) → c.kept x ≡ true → IsEdge s.object s.handle x y → c.kept y ≡ true
   keeps_arrow x y h a = (c.kept_is y).1 (kept_on n s x y ((c.kept_is x).0 h) a)
 
   -- an object after the collection was one before it and is kept, and a kept object is one after it
@@ -153,8 +149,8 @@ module _ {N : Type 0} (rank : N → ℕ) (n : ℕ) (s t : Scene N) (r : Report) 
       → loses c.reach c.kept g ≡ false → g.target ≡ Some x
       → c.kept x ≡ true
   target_kept slot g x stands stays e =
-      ⊎_elim (λ is_held. keeps_root x
-      (held (record { slot = slot; handle = g; stands = stands; holds = is_held; target = e })))
+      ⊎_elim (λ is_in_use. keeps_root x
+      (held (record { slot = slot; handle = g; stands = stands; holds = is_in_use; target = e })))
       (λ set. ⊎_elim (keeps_reached x) (λ k. k) set) (role_cases (role g) c.reach c.kept g.target x stays e)
 
   secondary_by : (slot : ℕ) (g : Handle N) (y : N) → s.handle slot ≡ Some g → is_lost c.kept g.target ≡ false

@@ -1,6 +1,5 @@
 -- Scenes under other names: readings one after another, and whole scenes and sound ages under them.
-use Rattle.std.proofs.Common.{◌≡◌, ℕ, ◌≤◌, true, List, [], ◌∷◌, map, Option, Some, None, is_some, refl, sym, ap, ◌∙◌, subst}
-use Rattle.std.specs.Prelude.{Contains, option_map}
+use Rattle.hd_model.proofs.Basics.{◌≡◌, ℕ, ◌≤◌, true, List, [], ◌∷◌, map, Option, Some, None, is_some, refl, sym, ap, ◌∙◌, subst, Contains, option_map}
 use Rattle.hd_model.specs.State.{Object, Extra, nothing, strength, secondary, count, Handle, secondary_of, rename_extra, rename_object, rename_handle}
 use Rattle.hd_model.specs.Role.{role}
 use Rattle.hd_model.specs.Scene.{Scene, is_object, fields_in, generation_at, IsField, IsWhole, IsReading}
@@ -8,7 +7,8 @@ use Rattle.hd_model.specs.Ages.{age_of, HasSoundAges}
 use Rattle.hd_model.proofs.Members.{mapped_from, first_in, later_in, not_in_none}
 use Rattle.hd_model.proofs.Entries.{some_value}
 use Rattle.hd_model.proofs.SceneCollection.{mapped_value}
-use Rattle.hd_model.proofs.RenamedReach.{role_renamed, secondary_renamed, object_read, object_unread, is_object_read, generation_read}
+use Rattle.hd_model.proofs.RenamedPins.{role_renamed}
+use Rattle.hd_model.proofs.RenamedReach.{secondary_renamed, object_read, object_unread, is_object_read, generation_read}
 
 -- renaming twice is renaming by the composition
 option_fused : {A B C : Type 0} (f : A → B) (g : B → C) (o : Option A)
@@ -16,14 +16,13 @@ option_fused : {A B C : Type 0} (f : A → B) (g : B → C) (o : Option A)
 option_fused f g None = refl
 option_fused f g (Some x) = refl
 
-names_fused : {A B C : Type 0} (f : A → B) (g : B → C) (xs : List (Option A))
-    → map (option_map g) (map (option_map f) xs) ≡ map (option_map (λ x. g (f x))) xs
-names_fused f g [] = refl
-names_fused f g (x ∷ xs) = λ i. option_fused f g x i ∷ names_fused f g xs i
-
 list_fused : {A B C : Type 0} (f : A → B) (g : B → C) (xs : List A) → map g (map f xs) ≡ map (λ x. g (f x)) xs
 list_fused f g [] = refl
 list_fused f g (x ∷ xs) = λ i. g (f x) ∷ list_fused f g xs i
+
+names_fused : {A B C : Type 0} (f : A → B) (g : B → C) (xs : List (Option A))
+    → map (option_map g) (map (option_map f) xs) ≡ map (option_map (λ x. g (f x))) xs
+names_fused f g xs = list_fused (option_map f) (option_map g) xs ∙ (λ i. map (λ o. option_fused f g o i) xs)
 
 extra_fused : {A B C : Type 0} (f : A → B) (g : B → C) (e : Extra A)
     → rename_extra g (rename_extra f e) ≡ rename_extra (λ x. g (f x)) e
@@ -56,17 +55,6 @@ option_agrees : {A B : Type 0} (f g : A → B) (o : Option A) → ((x : A) → o
 option_agrees f g None same = refl
 option_agrees f g (Some x) same = ap (λ y. Some y) (same x refl)
 
-names_agree : {A B : Type 0} (f g : A → B) (xs : List (Option A))
-    → ((x : A) → Contains xs (Some x) → f x ≡ g x)
-    → map (option_map f) xs ≡ map (option_map g) xs
-names_agree f g [] same = refl
-names_agree f g (o ∷ xs) same =
-    let first : option_map f o ≡ option_map g o =
-    option_agrees f g o (λ x e. same x (subst (λ q. Contains (o ∷ xs) q) e (first_in o xs))) in
-    let rest : map (option_map f) xs ≡ map (option_map g) xs =
-    names_agree f g xs (λ x h. same x (later_in o xs (Some x) h)) in
-    λ i. first i ∷ rest i
-
 list_agrees : {A B : Type 0} (f g : A → B) (xs : List A) → ((x : A) → Contains xs x → f x ≡ g x)
     → map f xs ≡ map g xs
 list_agrees f g [] same = refl
@@ -74,6 +62,13 @@ list_agrees f g (x ∷ xs) same =
     let first : f x ≡ g x = same x (first_in x xs) in
     let rest : map f xs ≡ map g xs = list_agrees f g xs (λ y h. same y (later_in x xs y h)) in
     λ i. first i ∷ rest i
+
+names_agree : {A B : Type 0} (f g : A → B) (xs : List (Option A))
+    → ((x : A) → Contains xs (Some x) → f x ≡ g x)
+    → map (option_map f) xs ≡ map (option_map g) xs
+names_agree f g xs same =
+    list_agrees (option_map f) (option_map g) xs
+    (λ o h. option_agrees f g o (λ x e. same x (subst (λ q. Contains xs q) e h)))
 
 extra_agrees : {A B : Type 0} (f g : A → B) (e : Extra A) → ((x : A) → secondary_of e ≡ Some x → f x ≡ g x)
     → rename_extra f e ≡ rename_extra g e

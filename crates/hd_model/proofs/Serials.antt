@@ -1,20 +1,13 @@
 -- A caller has made at most as many objects, and a count is at most as high, as the journal has entries.
-use Rattle.std.proofs.Common.{ℕ, ◌≤◌, ◌+◌, List, length, get_or, subst, sym, arith, le_refl, ◌∙◌, ◌≡◌, ◌&&◌, Bool, true, false, cond, Option, Some, None, IsSomeAnd, nat_cmp}
-use Rattle.std.specs.FinMap.{get, get-empty}
-use Rattle.std.proofs.lemmas.Option.{none-some}
-use Rattle.hd_model.specs.declared.data.Id.{Id}
-use Rattle.hd_model.specs.declared.data.Slot.{Slot}
-use Rattle.hd_model.specs.declared.data.Make.{Make}
-use Rattle.hd_model.specs.declared.data.Make.TheVariants as make
-use Rattle.hd_model.specs.declared.data.Entry.{Entry}
-use Rattle.hd_model.specs.declared.command.Cmd.{Cmd}
+use Rattle.hd_model.proofs.Basics.{ℕ, ◌≤◌, ◌+◌, List, length, get_or, subst, sym, arith, le_refl, ◌∙◌, ◌≡◌, ◌&&◌, Bool, true, false, cond, Option, Some, None, IsSomeAnd, nat_cmp, get, get-empty, none-some}
+use Rattle.hd_model.specs.Data.{Id, Slot, Make, Entry, Cmd}
 use Rattle.hd_model.specs.State.{Numbers, Extra, nothing, strength, secondary, count, Handle, State, count_of, without_secondary, start_of, last_serial, handle_at}
 use Rattle.hd_model.specs.Role.{role}
 use Rattle.hd_model.specs.Collect.{is_lost, is_attaching}
-use Rattle.hd_model.specs.Command.{extra_of}
 use Rattle.hd_model.specs.WellFormed.{IsWellFormed}
+use Rattle.hd_model.proofs.KindTests.{made_count}
 use Rattle.hd_model.proofs.WellFormedSteps.{step_keeps, start_is_well_formed}
-use Rattle.hd_model.proofs.StepWrites.{HandleChange, handle_stays, is_made, target_is_set, secondary_is_set, strength_is_set, count_is_raised, count_is_lowered, is_freed, is_collected, handle_change}
+use Rattle.hd_model.proofs.StepWrites.{HandleChange, handle_stays, is_made, target_is_set, extra_is_set, SetsExtra, by_secondary, by_strength, by_raise, by_lower, is_freed, is_collected, handle_change}
 use Rattle.hd_model.specs.Step.{Step}
 use Rattle.hd_model.specs.Run.{Chain, stay, link, Run}
 use Rattle.hd_model.proofs.ReadAfterWrite.{set_cases, replicate_cases}
@@ -52,15 +45,6 @@ abbrev CountsWithin : ℕ → State → Type 0
 CountsWithin k s = (slot : Slot) (handle : Handle Id) → get s.handles slot.0 ≡ Some handle
     → count_of handle.extra ≤ k
 
-made_count : (s : State) (caller : ℕ) (given : Make) (t : ℕ) → count_of (extra_of s caller given t) ≤ 1
-made_count s caller make.Short t = omega arith
-made_count s caller make.Long t = omega arith
-made_count s caller make.Strong t = omega arith
-made_count s caller make.Pinned t = omega arith
-made_count s caller (make.Variable x) t = omega arith
-made_count s caller make.Counted t = omega arith
-made_count s caller (make.Dependent r) t = omega arith
-
 without_count : (x : Extra Id) → count_of (without_secondary x) ≤ count_of x
 without_count nothing = omega arith
 without_count (strength x) = omega arith
@@ -77,6 +61,13 @@ module _ (k : ℕ) (s : State) (e : Entry) (slot : Slot) (within : CountsWithin 
       → o ≡ Some handle → P handle
   there o P h handle is = subst (λ x. IsSomeAnd x P) is h
 
+  set_count : {c : Cmd} {h : ℕ} (handle : Handle Id) (x : Extra Id) → count_of handle.extra ≤ k
+      → SetsExtra s e handle c h x → count_of x ≤ k + 1
+  set_count handle x low (by_secondary done) = omega arith
+  set_count handle x low (by_strength done) = omega arith
+  set_count handle x low (by_raise done) = omega arith
+  set_count handle x low (by_lower done) = omega arith
+
   count_after : (c : Cmd) (o : Option (Handle Id)) → HandleChange s e slot c o → (handle : Handle Id)
       → o ≡ Some handle → count_of handle.extra ≤ k + 1
   count_after c o handle_stays handle is = let low = within slot handle is in omega arith
@@ -86,14 +77,8 @@ module _ (k : ℕ) (s : State) (e : Entry) (slot : Slot) (within : CountsWithin 
   count_after c o (target_is_set handle f done) handle' is =
       there _ (λ h. count_of h.extra ≤ k + 1) (let low = within slot handle f.live in let less =
       without_count handle.extra in omega arith) handle' is
-  count_after c o (secondary_is_set handle f same done) handle' is =
-      there _ (λ h. count_of h.extra ≤ k + 1) (omega arith) handle' is
-  count_after c o (strength_is_set handle f same done) handle' is =
-      there _ (λ h. count_of h.extra ≤ k + 1) (omega arith) handle' is
-  count_after c o (count_is_raised handle f same done) handle' is =
-      there _ (λ h. count_of h.extra ≤ k + 1) (let low = within slot handle f.live in omega arith) handle' is
-  count_after c o (count_is_lowered handle f same done) handle' is =
-      there _ (λ h. count_of h.extra ≤ k + 1) (let low = within slot handle f.live in omega arith) handle' is
+  count_after c o (extra_is_set handle f fits sets) handle' is =
+      there _ (λ h. count_of h.extra ≤ k + 1) (set_count handle _ (within slot handle f.live) sets) handle' is
   count_after c o (is_freed handle f done) handle' is = absurd (none-some handle' is)
   count_after c o (is_collected reach kept handle live) handle' is =
       there _ (λ h. count_of h.extra ≤ k + 1) (let low = within slot handle live in let less =

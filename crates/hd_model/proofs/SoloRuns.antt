@@ -1,28 +1,19 @@
 -- Two runs of the same lists, each of one caller after another, are one.
-use Rattle.std.proofs.Common.{◌≡◌, ◌⊎◌, ℕ, suc, ◌≤◌, cond, List, [], ◌∷◌, Some, None, refl, sym, ap, ◌∙◌, subst, inl, inr, ⊎_elim, le_trans, le_antisymm, zero-le, suc-le-suc, le_of_eq, eq-eqb, ne_eqb}
-use Rattle.std.specs.Prelude.{All}
-use Rattle.std.specs.List.Sorted.{IsNonDecreasingBy}
-use Rattle.std.proofs.lemmas.Bool.{cases_eq}
-use Rattle.std.proofs.lemmas.Option.{none-some}
-use Rattle.hd_model.specs.declared.data.Slot.{Slot}
-use Rattle.hd_model.specs.declared.data.Entry.{Entry}
-use Rattle.hd_model.specs.declared.data.Kind.{Kind}
-use Rattle.hd_model.specs.declared.data.Make.{Make}
-use Rattle.hd_model.specs.declared.data.Grown.{Grown}
+use Rattle.hd_model.proofs.Basics.{◌≡◌, ◌⊎◌, ℕ, suc, ◌≤◌, cond, List, [], ◌∷◌, Some, None, refl, sym, ap, ◌∙◌, subst, inl, inr, ⊎_elim, le_trans, le_antisymm, zero-le, suc-le-suc, le_of_eq, eq-eqb, ne_eqb, All, IsNonDecreasingBy, cases_eq, none-some}
+use Rattle.hd_model.specs.Data.{Slot, Entry, Kind, Make, Grown, Cmd}
 use Rattle.hd_model.specs.declared.data.Grown.TheVariants.{Zero, Back}
 use Rattle.hd_model.specs.declared.data.Reply.TheVariants as reply
-use Rattle.hd_model.specs.declared.command.Cmd.{Cmd}
 use Rattle.hd_model.specs.declared.command.Cmd.TheVariants as cmd
 use Rattle.hd_model.specs.State.{Numbers, State}
 use Rattle.hd_model.specs.Kinds.{kind_of}
 use Rattle.hd_model.specs.Command.{Outcome, answers}
-use Rattle.hd_model.specs.Step.{IsOutcome, MakesHandle, FindsTableFull, DoesCollect, GivesBack, StepOf, Step}
+use Rattle.hd_model.specs.Step.{IsOutcome, MakesHandle, FindsTableFull, DoesCollect, GivesBack, Way, decided, makes_object, makes_handle, collects, answers_place, gives_back, way_of, TakesWay, Step}
 use Rattle.hd_model.specs.Run.{Chain, stay, link, NoneFree, IsLeastFree, NoneAllFree, GivesLeast, GivesBackLeast, TakesLeast, SoloStep, part_of, commands_of}
 use Rattle.hd_model.specs.WellFormed.{IsWellFormed}
 use Rattle.hd_model.specs.Text.{text_of}
 use Rattle.hd_model.specs.Laws.{SoloRunsAreOne, SoloTextIsOne}
 use Rattle.hd_model.proofs.Collections.{one_collection}
-use Rattle.hd_model.proofs.OneState.{one_state_after}
+use Rattle.hd_model.proofs.OneState.{CommandOf, way_command, one_state_after}
 use Rattle.hd_model.proofs.StepWrites.{same_slot}
 use Rattle.hd_model.proofs.Growth.{grown_or_full, same_growth}
 use Rattle.hd_model.proofs.WellFormedSteps.{step_keeps, start_is_well_formed}
@@ -114,39 +105,21 @@ collected_same s e f t u k a b = (
 abbrev with_rest : Entry → Entry → Entry
 with_rest e f = record f { caller = e.caller; cmd = e.cmd }
 
-command_same : (n : Numbers) (s : State) (e f : Entry) (t u : State) (c : Cmd) → IsWellFormed n s
-    → ((h : ℕ) → c ≡ cmd.AddrOf h → ⊥) → StepOf n s e t c → StepOf n s (with_rest e f) u c → TakesLeast s e c
-    → TakesLeast s (with_rest e f) c → Same e (with_rest e f)
-command_same n s e f t u (cmd.New d fields fin) w other a b x y =
+way_same : (n : Numbers) (s : State) (e f : Entry) (t u : State) (c : Cmd) (way : Way) → CommandOf c way
+    → IsWellFormed n s → ((h : ℕ) → c ≡ cmd.AddrOf h → ⊥) → TakesWay n s e t way
+    → TakesWay n s (with_rest e f) u way → TakesLeast s e c → TakesLeast s (with_rest e f) c
+    → Same e (with_rest e f)
+way_same n s e f t u c (decided r) is w other a b x y = outcomes_same e (with_rest e f) r t u a b
+way_same n s e f t u c (makes_object d fields fin) is w other a b x y =
     outcomes_same e (with_rest e f) _ t u a.1 b.1
-command_same n s e f t u (cmd.Set o i v) w other a b x y = outcomes_same e (with_rest e f) _ t u a b
-command_same n s e f t u (cmd.Get d o i) w other a b x y = outcomes_same e (with_rest e f) _ t u a b
-command_same n s e f t u (cmd.Val o v) w other a b x y = outcomes_same e (with_rest e f) _ t u a b
-command_same n s e f t u (cmd.Read o) w other a b x y = outcomes_same e (with_rest e f) _ t u a b
-command_same n s e f t u (cmd.Copy d r) w other a b x y = outcomes_same e (with_rest e f) _ t u a b
-command_same n s e f t u (cmd.Clear d) w other a b x y = outcomes_same e (with_rest e f) _ t u a b
-command_same n s e f t u (cmd.SPut k r) w other a b x y = outcomes_same e (with_rest e f) _ t u a b
-command_same n s e f t u (cmd.SGet d k) w other a b x y = outcomes_same e (with_rest e f) _ t u a b
-command_same n s e f t u (cmd.Gen o) w other a b x y = outcomes_same e (with_rest e f) _ t u a b
-command_same n s e f t u (cmd.Suppress o) w other a b x y = outcomes_same e (with_rest e f) _ t u a b
-command_same n s e f t u (cmd.Reregister o) w other a b x y = outcomes_same e (with_rest e f) _ t u a b
-command_same n s e f t u (cmd.Final d) w other a b x y = outcomes_same e (with_rest e f) _ t u a b
-command_same n s e f t u (cmd.Collect k) w other a b x y = collected_same s e (with_rest e f) t u k a b
-command_same n s e f t u (cmd.HNew d given r) w other a b x y =
-    taken_same n s w e (with_rest e f) t u d given r a b x y
-command_same n s e f t u (cmd.HGet d h) w other a b x y = outcomes_same e (with_rest e f) _ t u a b
-command_same n s e f t u (cmd.HSet h r) w other a b x y = outcomes_same e (with_rest e f) _ t u a b
-command_same n s e f t u (cmd.HSec h r) w other a b x y = outcomes_same e (with_rest e f) _ t u a b
-command_same n s e f t u (cmd.HDep d h) w other a b x y = outcomes_same e (with_rest e f) _ t u a b
-command_same n s e f t u (cmd.HVar h given) w other a b x y = outcomes_same e (with_rest e f) _ t u a b
-command_same n s e f t u (cmd.HFree h) w other a b x y = outcomes_same e (with_rest e f) _ t u a b
-command_same n s e f t u (cmd.HPut k h) w other a b x y = outcomes_same e (with_rest e f) _ t u a b
-command_same n s e f t u (cmd.HPick d k) w other a b x y = outcomes_same e (with_rest e f) _ t u a b
-command_same n s e f t u (cmd.AddrOf h) w other a b x y = absurd (other h refl)
-command_same n s e f t u (cmd.HUp h) w other a b x y = outcomes_same e (with_rest e f) _ t u a b
-command_same n s e f t u (cmd.HDown h) w other a b x y = outcomes_same e (with_rest e f) _ t u a b
-command_same n s e f t u (cmd.Trim wanted) w other a b x y =
-    trimmed_same s e (with_rest e f) t u wanted a b x y
+way_same n s e f t u c (makes_handle d given r) is w other a b x y =
+    taken_same n s w e (with_rest e f) t u d given r a b (subst (TakesLeast s e) is x)
+    (subst (TakesLeast s (with_rest e f)) is y)
+way_same n s e f t u c (collects k) is w other a b x y = collected_same s e (with_rest e f) t u k a b
+way_same n s e f t u c (answers_place h) is w other a b x y = absurd (other h is)
+way_same n s e f t u c (gives_back wanted) is w other a b x y =
+    trimmed_same s e (with_rest e f) t u wanted a b (subst (TakesLeast s e) is x)
+    (subst (TakesLeast s (with_rest e f)) is y)
 
 -- a state, a caller and a command make one entry
 entry_same : (n : Numbers) (s : State) (e f : Entry) (t u : State) → IsWellFormed n s
@@ -155,7 +128,7 @@ entry_same : (n : Numbers) (s : State) (e f : Entry) (t u : State) → IsWellFor
 entry_same n s e f t u w other a b callers cmds =
     let turned : f ≡ with_rest e f = λ i. record f { caller = sym callers i; cmd = sym cmds i } in
     let b' : SoloStep n s (with_rest e f) u = subst (λ x. SoloStep n s x u) turned b in
-    let same : Same e (with_rest e f) = command_same n s e f t u e.cmd w other a.step.does b'.step.does
+    let same : Same e (with_rest e f) = way_same n s e f t u e.cmd (way_of s e.caller e.cmd) (way_command s e.caller e.cmd) w other a.step.does b'.step.does
     a.least b'.least in
     (λ i. record e { slot = same.0 i; grown = same.1 i; reply = same.2 i }) ∙ sym turned
 

@@ -1,17 +1,8 @@
 -- What is stored in fields, values, statics, on the board and in registers is read back.
-use Rattle.std.proofs.Common.{◌≡◌, ℕ, ◌<◌, Bool, false, List, [], length, get_or, set, if◌then◌else◌, Option, Some, None, IsSomeAnd, refl, sym, ap, ◌∙◌, subst, true≢false, get_or-set_same, get_or-set_other, length-set, lt-ltb, inr}
-use Rattle.std.specs.FinMap.{get}
-use Rattle.std.specs.Option.{option_map_or}
-use Rattle.std.proofs.lemmas.List.{length-replicate}
-use Rattle.std.proofs.lemmas.Option.{none-some, same_Some}
-use Rattle.hd_model.specs.declared.data.Id.{Id}
-use Rattle.hd_model.specs.declared.data.Slot.{Slot}
-use Rattle.hd_model.specs.declared.data.Entry.{Entry}
-use Rattle.hd_model.specs.declared.data.Refusal.{Refusal}
+use Rattle.hd_model.proofs.Basics.{◌≡◌, ℕ, ◌<◌, Bool, false, List, [], length, get_or, set, if◌then◌else◌, Option, Some, None, IsSomeAnd, refl, sym, ap, ◌∙◌, subst, true≢false, get_or-set_same, get_or-set_other, length-set, lt-ltb, inr, get, option_map_or, length-replicate, none-some, same_Some}
+use Rattle.hd_model.specs.Data.{Id, Slot, Entry, Refusal, Reply, Cmd}
 use Rattle.hd_model.specs.declared.data.Refusal.TheVariants as refusal
-use Rattle.hd_model.specs.declared.data.Reply.{Reply}
 use Rattle.hd_model.specs.declared.data.Reply.TheVariants as reply
-use Rattle.hd_model.specs.declared.command.Cmd.{Cmd}
 use Rattle.hd_model.specs.declared.command.Cmd.TheVariants as cmd
 use Rattle.hd_model.specs.declared.limits.TheConstants.{REGISTERS}
 use Rattle.hd_model.specs.Valid.{IsValid}
@@ -205,7 +196,7 @@ pub board_is_read_back : BoardIsReadBack
 board_is_read_back n old now new written reading k h d since puts step picks =
     let x : Option Slot = handle_register_of old written.caller h in
     let small : k < REGISTERS = (valid_of n old written since.after (cmd.HPut k h) since.first puts).0 in
-    let narrow : d < REGISTERS = (valid_of n now reading new (cmd.HPick d k) step picks).0 in
+    let narrow : d < REGISTERS = (valid_of n now reading new _ step picks).0 in
     let put : board_of since.after k ≡ x =
     ap (λ (s : State). board_of s k) (step_of n old written since.after (cmd.HPut k h) since.first puts).after
     ∙ get_or-set_same old.board k x None (subst (λ l. k < l) (sym since.well_formed.shape.board) small) in
@@ -214,7 +205,7 @@ board_is_read_back n old now new written reading k h d since puts step picks =
     let cell = subst (λ l. d < l) (sym (kept.0.shape.each_handle_registers reading.caller step.caller)) narrow
     in
     ap (λ (s : State). handle_register_of s reading.caller d)
-    (step_of n now reading new (cmd.HPick d k) step picks).after
+    (step_of n now reading new _ step picks).after
     ∙ cell_here now.handle_registers reading.caller d (board_of now k) None row cell
     ∙ kept.1
 

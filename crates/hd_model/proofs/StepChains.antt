@@ -1,6 +1,6 @@
 -- Chains of steps: joined, grown by one step, and seen as chains of a weaker relation.
-use Rattle.std.proofs.Common.{ℕ, List, [], ◌∷◌, ◌++◌, refl}
-use Rattle.hd_model.specs.declared.data.Entry.{Entry}
+use Rattle.hd_model.proofs.Basics.{ℕ, List, [], ◌∷◌, ◌++◌, refl}
+use Rattle.hd_model.specs.Data.{Entry}
 use Rattle.hd_model.specs.State.{Numbers, State}
 use Rattle.hd_model.specs.Step.{Step}
 use Rattle.hd_model.specs.Run.{Chain, stay, link, Run, SoloRun}

@@ -1,33 +1,20 @@
 -- Every command has a step.
-use Rattle.std.proofs.Common.{◌≡◌, ℕ, zero, suc, ◌+◌, ◌<◌, ◌≤◌, ◌⊎◌, Bool, true, false, cond, Option, Some, None, IsSome, is_some, refl, sym, ap, ◌∙◌, subst, arith, inl, inr, ⊎_elim}
-use Rattle.std.specs.Prelude.{option_and_then}
-use Rattle.std.specs.Option.{MatchOption}
-use Rattle.std.specs.FinMap.{FinMap, get, insert, remove, len}
-use Rattle.std.specs.Ordering.{nat_cmp}
-use Rattle.std.proofs.lemmas.Bool.{cases_lt, cases_eq}
-use Rattle.std.proofs.lemmas.Option.{none-some, same_Some}
-use Rattle.hd_model.specs.declared.data.Id.{Id}
-use Rattle.hd_model.specs.declared.data.Slot.{Slot}
-use Rattle.hd_model.specs.declared.data.Kind.{Kind}
-use Rattle.hd_model.specs.declared.data.Make.{Make}
-use Rattle.hd_model.specs.declared.data.Grown.{Grown}
+use Rattle.hd_model.proofs.Basics.{◌≡◌, ℕ, zero, suc, ◌+◌, ◌<◌, ◌≤◌, ◌⊎◌, Bool, true, false, cond, Option, Some, None, IsSome, is_some, refl, sym, ap, ◌∙◌, subst, arith, inl, inr, ⊎_elim, option_and_then, MatchOption, nat_cmp, FinMap, get, insert, remove, len, cases_lt, cases_eq, none-some, same_Some}
+use Rattle.hd_model.specs.Data.{Id, Slot, Kind, Make, Grown, Cmd}
 use Rattle.hd_model.specs.declared.data.Grown.TheVariants.{Zero, One, Two}
-use Rattle.hd_model.specs.declared.data.Report.{Report}
 use Rattle.hd_model.specs.declared.data.Refusal.TheVariants as refusal
 use Rattle.hd_model.specs.declared.data.Reply.TheVariants as reply
-use Rattle.hd_model.specs.declared.command.Cmd.{Cmd}
 use Rattle.hd_model.specs.declared.command.Cmd.TheVariants as cmd
 use Rattle.hd_model.specs.Kinds.{kind_of, is_paired}
 use Rattle.hd_model.specs.State.{Numbers, Handle, BlockUse, extra_data, State, handle_register_of, handle_at, use_of, given_of, first_slot}
 use Rattle.hd_model.specs.Role.{pins}
 use Rattle.hd_model.specs.Places.{IsFreePlace, MayAnswer}
-use Rattle.hd_model.specs.Collect.{CollectsState}
 use Rattle.hd_model.specs.Valid.{IsValid}
-use Rattle.hd_model.specs.Command.{Outcome, answers, refuses, new_object, set_field, get_field, set_value, read_value, copy_register, clear_register, put_static, get_static}
-use Rattle.hd_model.specs.Command.{read_generation, set_registered, take_queued, get_target, set_target, set_secondary, get_secondary, set_strength, raise_count, lower_count, free_handle, put_board, pick_board, answer_place}
-use Rattle.hd_model.specs.Step.{IsOutcome, blocks_needed, IsLeastUnused, MayGive, with_made, pinned_by, pinned_target, StepOf}
+use Rattle.hd_model.specs.Command.{Outcome, answers, refuses, new_object, answer_place}
+use Rattle.hd_model.specs.Step.{IsOutcome, blocks_needed, IsLeastUnused, MayGive, with_made, pinned_by, pinned_target, Way, decided, makes_object, makes_handle, collects, answers_place, gives_back, way_of, TakesWay, StepOf}
 use Rattle.hd_model.specs.WellFormed.{IsWellFormed}
 use Rattle.hd_model.specs.UserLaws.{PinsBy, HasWay, Does, EveryCommandHasAStep}
+use Rattle.hd_model.proofs.OneState.{CommandOf, way_command}
 use Rattle.hd_model.proofs.NextState.{collections_exist}
 use Rattle.hd_model.proofs.ReadAfterWrite.{get_beside, get_inserted, get_left, len_new, len_less}
 
@@ -231,59 +218,40 @@ module _ (n : Numbers) (s : State) (w : IsWellFormed n s) (caller : ℕ) (known 
       by None none = (0, λ id is. absurd (none-some id (sym none ∙ is)))
       by (Some id) some = of_object id some (get s.places id.0) refl
 
-  collects : (k : ℕ) (t : State) (report : Report) → IsValid (cmd.Collect k) → CollectsState k s t report
-      → Does n s caller (cmd.Collect k)
-  collects k t report valid collection = record {
-    entry = record {
-      caller = caller;
-      cmd = cmd.Collect k;
-      slot = None;
-      grown = Zero;
-      reply = reply.Report report;
-    };
-    after = t;
-    caller_is = refl;
-    command = refl;
-    step = record {
-      caller = known;
-      valid = valid;
-      does = record { report = report; reply = refl; slot = refl; grown = refl; collects = collection };
-    };
-  }
-
-  every : (c : Cmd) → IsValid c → HasWay n s caller c → Does n s caller c
-  every (cmd.New d fields fin) valid way =
-      comes _ (new_object n s caller d fields fin) valid (λ is. (way.serial d fields fin refl, is))
-  every (cmd.Set o i v) valid way = comes _ (set_field s caller o i v) valid (λ is. is)
-  every (cmd.Get d o i) valid way = comes _ (get_field s caller d o i) valid (λ is. is)
-  every (cmd.Val o v) valid way = comes _ (set_value s caller o v) valid (λ is. is)
-  every (cmd.Read o) valid way = comes _ (read_value s caller o) valid (λ is. is)
-  every (cmd.Copy d r) valid way = comes _ (copy_register s caller d r) valid (λ is. is)
-  every (cmd.Clear d) valid way = comes _ (clear_register s caller d) valid (λ is. is)
-  every (cmd.SPut k r) valid way = comes _ (put_static s caller k r) valid (λ is. is)
-  every (cmd.SGet d k) valid way = comes _ (get_static s caller d k) valid (λ is. is)
-  every (cmd.Gen o) valid way = comes _ (read_generation s caller o) valid (λ is. is)
-  every (cmd.Suppress o) valid way = comes _ (set_registered s caller o false) valid (λ is. is)
-  every (cmd.Reregister o) valid way = comes _ (set_registered s caller o true) valid (λ is. is)
-  every (cmd.Final d) valid way = comes _ (take_queued s caller d) valid (λ is. is)
-  every (cmd.Collect k) valid way =
+  by_way : (c : Cmd) (way : Way) → way_of s caller c ≡ way → CommandOf c way → IsValid c → HasWay n s caller c
+      → Does n s caller c
+  by_way c (decided r) is command valid has = comes c r valid (λ x. subst (TakesWay n s _ _) (sym is) x)
+  by_way c (makes_object d fields fin) is command valid has =
+      comes c (new_object n s caller d fields fin) valid
+      (λ x. subst (TakesWay n s _ _) (sym is) (has.serial d fields fin command, x))
+  by_way c (makes_handle d given t) is command valid has =
+      subst (Does n s caller) (sym command) (makes d given t (subst IsValid command valid))
+  by_way c (collects k) is command valid has =
       let next = collections_exist n k s w in
-      collects k next.after next.report valid next.collects
-  every (cmd.HNew d given t) valid way = makes d given t valid
-  every (cmd.HGet d h) valid way = comes _ (get_target s caller d h) valid (λ is. is)
-  every (cmd.HSet h t) valid way = comes _ (set_target s caller h t) valid (λ is. is)
-  every (cmd.HSec h r) valid way = comes _ (set_secondary s caller h r) valid (λ is. is)
-  every (cmd.HDep d h) valid way = comes _ (get_secondary s caller d h) valid (λ is. is)
-  every (cmd.HVar h given) valid way = comes _ (set_strength s caller h given) valid (λ is. is)
-  every (cmd.HFree h) valid way = comes _ (free_handle s caller h) valid (λ is. is)
-  every (cmd.HPut k h) valid way = comes _ (put_board s caller k h) valid (λ is. is)
-  every (cmd.HPick d k) valid way = comes _ (pick_board s caller d k) valid (λ is. is)
-  every (cmd.AddrOf h) valid way =
-      let (p, may) = finds_place h way in
-      comes _ (answer_place s caller h p) valid (λ is. record { place = p; may = may; outcome = is })
-  every (cmd.HUp h) valid way = comes _ (raise_count s caller h) valid (λ is. is)
-  every (cmd.HDown h) valid way = comes _ (lower_count s caller h) valid (λ is. is)
-  every (cmd.Trim wanted) valid way = comes _ (answers (reply.Value 0) s) valid (λ is. inr is)
+      record {
+        entry = record { caller = caller; cmd = c; slot = None; grown = Zero; reply = reply.Report next.report };
+        after = next.after;
+        caller_is = refl;
+        command = refl;
+        step = record {
+          caller = known;
+          valid = valid;
+          does = subst (TakesWay n s _ _) (sym is) (record {
+            report = next.report;
+            reply = refl;
+            slot = refl;
+            grown = refl;
+            collects = next.collects;
+          });
+        };
+      }
+  by_way c (answers_place h) is command valid has =
+      let (p, may) = finds_place h (subst (HasWay n s caller) command has) in
+      comes c (answer_place s caller h p) valid
+      (λ x. subst (TakesWay n s _ _) (sym is) (record { place = p; may = may; outcome = x }))
+  by_way c (gives_back wanted) is command valid has =
+      comes c (answers (reply.Value 0) s) valid (λ x. subst (TakesWay n s _ _) (sym is) (inr x))
 
 pub every_command_has_a_step : EveryCommandHasAStep
-every_command_has_a_step n s caller c w known valid way = every n s w caller known c valid way
+every_command_has_a_step n s caller c w known valid has =
+    by_way n s w caller known c (way_of s caller c) refl (way_command s caller c) valid has

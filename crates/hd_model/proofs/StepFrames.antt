@@ -1,8 +1,6 @@
 -- A step changes no part of the state that its command does not touch.
-use Rattle.std.proofs.Common.{◌≡◌, false, None, refl, sym, true≢false}
-use Rattle.std.proofs.lemmas.Option.{none-some}
-use Rattle.hd_model.specs.declared.data.Entry.{Entry}
-use Rattle.hd_model.specs.declared.command.Cmd.{Cmd}
+use Rattle.hd_model.proofs.Basics.{◌≡◌, false, None, refl, sym, true≢false, none-some}
+use Rattle.hd_model.specs.Data.{Entry, Cmd}
 use Rattle.hd_model.specs.State.{Numbers, State}
 use Rattle.hd_model.specs.Touched.{touched_by, Untouched}
 use Rattle.hd_model.specs.Laws.{UntouchedStays}

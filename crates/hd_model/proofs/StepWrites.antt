@@ -1,23 +1,13 @@
 -- What a step does to one part of the state: it stays but for the commands that write it.
-use Rattle.std.proofs.Common.{◌≡◌, ℕ, ◌+◌, ◌-◌, ◌<◌, ◌≤◌, ◌/◌, ◌%◌, ◌^◌, ◌⊎◌, Bool, true, false, cond, List, [], length, get_or, set, Option, Some, None, IsSome, IsSomeAnd, is_some, refl, sym, ap, ◌∙◌, subst, arith, unwrap_or, inl, inr, ⊎_elim, le_trans, true≢false}
-use Rattle.std.specs.Prelude.{option_map}
-use Rattle.std.specs.FinMap.{get, insert}
-use Rattle.std.proofs.lemmas.Option.{none-some}
-use Rattle.hd_model.specs.declared.data.Id.{Id}
-use Rattle.hd_model.specs.declared.data.Slot.{Slot}
-use Rattle.hd_model.specs.declared.data.Strength.{Strength}
-use Rattle.hd_model.specs.declared.data.Kind.TheVariants as kind
-use Rattle.hd_model.specs.declared.data.Make.{Make}
-use Rattle.hd_model.specs.declared.data.Entry.{Entry}
+use Rattle.hd_model.proofs.Basics.{◌≡◌, ℕ, ◌+◌, ◌-◌, ◌<◌, ◌≤◌, ◌/◌, ◌%◌, ◌^◌, ◌⊎◌, Bool, true, false, cond, List, [], length, get_or, set, Option, Some, None, IsSome, IsSomeAnd, is_some, refl, sym, ap, ◌∙◌, subst, arith, unwrap_or, inl, inr, ⊎_elim, le_trans, true≢false, option_map, get, insert, none-some}
+use Rattle.hd_model.specs.Data.{Id, Slot, Strength, Make, Entry, Cmd}
 use Rattle.hd_model.specs.declared.data.Reply.TheVariants as reply
-use Rattle.hd_model.specs.declared.command.Cmd.{Cmd}
 use Rattle.hd_model.specs.declared.command.Cmd.TheVariants as cmd
-use Rattle.hd_model.specs.Kinds.{is_kind}
-use Rattle.hd_model.specs.State.{Numbers, Object, strength, secondary, count, Handle, State, count_of, without_secondary, register_of, handle_register_of, static_of, board_of, last_serial, object_by_id, handle_at}
+use Rattle.hd_model.specs.State.{Numbers, Object, Extra, strength, secondary, count, Handle, State, count_of, without_secondary, register_of, handle_register_of, static_of, board_of, last_serial, object_by_id, handle_at}
 use Rattle.hd_model.specs.Command.{loaded, fresh_object, made_handle}
 use Rattle.hd_model.specs.Collect.{cleared, survivor}
 use Rattle.hd_model.specs.Touched.{touched_by}
-use Rattle.hd_model.specs.WellFormed.{IsWellFormed}
+use Rattle.hd_model.specs.WellFormed.{FitsKind, IsWellFormed}
 use Rattle.hd_model.specs.Aging.{is_refused}
 use Rattle.hd_model.specs.Laws.{Since}
 use Rattle.hd_model.proofs.ReadAfterWrite.{set_cases, cell_cases, write_cases, removal_cases}
@@ -279,6 +269,17 @@ module _ (n : Numbers) (s : State) (e : Entry) (caller d : ℕ) where
       ∙ had
   handle_register_kept c t v _ apart had = had
 
+-- what puts another extra in a handle: the command, on handle register h
+pub data SetsExtra (s : State) (e : Entry) (handle : Handle Id) : Cmd → ℕ → Extra Id → Type 0 where
+  by_secondary : {h r : ℕ} → e.reply ≡ reply.Done
+      → SetsExtra s e handle (cmd.HSec h r) h (secondary (register_of s e.caller r))
+  by_strength : {h : ℕ} {given : Strength} → e.reply ≡ reply.Done
+      → SetsExtra s e handle (cmd.HVar h given) h (strength given)
+  by_raise : {h : ℕ} → e.reply ≡ reply.Value (count_of handle.extra + 1)
+      → SetsExtra s e handle (cmd.HUp h) h (count (count_of handle.extra + 1))
+  by_lower : {h : ℕ} → e.reply ≡ reply.Value (count_of handle.extra - 1)
+      → SetsExtra s e handle (cmd.HDown h) h (count (count_of handle.extra - 1))
+
 -- what an entry of a command leaves in a slot
 pub data HandleChange (s : State) (e : Entry) (slot : Slot) : Cmd → Option (Handle Id) → Type 0 where
   handle_stays : {c : Cmd} → HandleChange s e slot c (get s.handles slot.0)
@@ -287,20 +288,9 @@ pub data HandleChange (s : State) (e : Entry) (slot : Slot) : Cmd → Option (Ha
   target_is_set : {h t : ℕ} (handle : Handle Id) → Finds s e.caller h slot handle → e.reply ≡ reply.Done
       → HandleChange s e slot (cmd.HSet h t) (Some (record handle
       { target = register_of s e.caller t; extra = without_secondary handle.extra }))
-  secondary_is_set : {h r : ℕ} (handle : Handle Id) → Finds s e.caller h slot handle
-      → is_kind handle.kind kind.Dependent ≡ true → e.reply ≡ reply.Done
-      → HandleChange s e slot (cmd.HSec h r) (Some (record handle
-      { extra = secondary (register_of s e.caller r) }))
-  strength_is_set : {h : ℕ} {given : Strength} (handle : Handle Id) → Finds s e.caller h slot handle
-      → is_kind handle.kind kind.Variable ≡ true → e.reply ≡ reply.Done
-      → HandleChange s e slot (cmd.HVar h given) (Some (record handle { extra = strength given }))
-  count_is_raised : {h : ℕ} (handle : Handle Id) → Finds s e.caller h slot handle
-      → is_kind handle.kind kind.Counted ≡ true → e.reply ≡ reply.Value (count_of handle.extra + 1)
-      → HandleChange s e slot (cmd.HUp h) (Some (record handle { extra = count (count_of handle.extra + 1) }))
-  count_is_lowered : {h : ℕ} (handle : Handle Id) → Finds s e.caller h slot handle
-      → is_kind handle.kind kind.Counted ≡ true → e.reply ≡ reply.Value (count_of handle.extra - 1)
-      → HandleChange s e slot (cmd.HDown h) (Some (record handle
-      { extra = count (count_of handle.extra - 1) }))
+  extra_is_set : {c : Cmd} {h : ℕ} (handle : Handle Id) {x : Extra Id} → Finds s e.caller h slot handle
+      → FitsKind handle.kind x → SetsExtra s e handle c h x
+      → HandleChange s e slot c (Some (record handle { extra = x }))
   is_freed : {h : ℕ} (handle : Handle Id) → Finds s e.caller h slot handle → e.reply ≡ reply.Done
       → HandleChange s e slot (cmd.HFree h) None
   is_collected : {k : ℕ} (reach kept : Id → Bool) (handle : Handle Id) → get s.handles slot.0 ≡ Some handle
@@ -331,14 +321,14 @@ module _ (n : Numbers) (s : State) (w : IsWellFormed n s) (e : Entry) (slot : Sl
       (ap (handle_at s) (sym same) ∙ given_vacant n s w _ e.grown other may))
   handle_change c t (sets_target {h = h} other handle f p) =
       handle_written _ other _ (λ same. target_is_set handle (found h other handle f same) p)
-  handle_change c t (sets_secondary {h = h} other handle f is target p) =
-      handle_written _ other _ (λ same. secondary_is_set handle (found h other handle f same) is p)
-  handle_change c t (sets_strength {h = h} other handle f is p) =
-      handle_written _ other _ (λ same. strength_is_set handle (found h other handle f same) is p)
-  handle_change c t (raises_count {h = h} other handle f is p) =
-      handle_written _ other _ (λ same. count_is_raised handle (found h other handle f same) is p)
-  handle_change c t (lowers_count {h = h} other handle f is p) =
-      handle_written _ other _ (λ same. count_is_lowered handle (found h other handle f same) is p)
+  handle_change c t (sets_secondary {h = h} other handle f fits target p) =
+      handle_written _ other _ (λ same. extra_is_set handle (found h other handle f same) fits (by_secondary p))
+  handle_change c t (sets_strength {h = h} other handle f fits p) =
+      handle_written _ other _ (λ same. extra_is_set handle (found h other handle f same) fits (by_strength p))
+  handle_change c t (raises_count {h = h} other handle f fits p) =
+      handle_written _ other _ (λ same. extra_is_set handle (found h other handle f same) fits (by_raise p))
+  handle_change c t (lowers_count {h = h} other handle f fits p) =
+      handle_written _ other _ (λ same. extra_is_set handle (found h other handle f same) fits (by_lower p))
   handle_change c t (frees_handle {h = h} other handle f p q) =
       removal_cases s.handles other.0 (λ o. HandleChange s e slot (cmd.HFree h) o) slot.0
       (λ same. is_freed handle (found h other handle f (sym (same_slot slot other same))) p) handle_stays

@@ -1,14 +1,5 @@
 -- The sum over the values of a map whose keys are numbers.
-use Rattle.std.proofs.Common.{◌≡◌, ◌≢◌, ℕ, suc, ◌+◌, ◌*◌, ◌<◌, ◌≤◌, Bool, true, false, ◌&&◌, T, List, [], ◌∷◌, map, length, Option, Some, None, refl, sym, ap, ◌∙◌, subst, inl, inr, arith, ⊎_elim}
-use Rattle.std.specs.Prelude.{sum_by}
-use Rattle.std.specs.FinMap.{FinMap, get, insert, remove, find, put, is_sorted, entries, values, entries_sorted, entries-insert, get-entries, len, len-entries, same_map, nat_cmp-IsAntisymmetric}
-use Rattle.std.specs.FinMap.Entries.{below_all, by_order}
-use Rattle.std.specs.Ordering.{nat_cmp, is_lt}
-use Rattle.std.specs.declared.cmp.Ordering.{Ordering}
-use Rattle.std.specs.declared.cmp.Ordering.TheVariants.{Less, Equal, Greater}
-use Rattle.std.specs.Cmp.{nat_cmp_total}
-use Rattle.std.proofs.lemmas.Bool.{lt-ltb, le-ltb, eq-eqb, ne_eqb, cases_order, cases_eq}
-use Rattle.std.proofs.lemmas.List.Sums.{sum_by-cons}
+use Rattle.hd_model.proofs.Basics.{◌≡◌, ◌≢◌, ℕ, suc, ◌+◌, ◌*◌, ◌<◌, ◌≤◌, Bool, true, false, ◌&&◌, T, List, [], ◌∷◌, map, length, Option, Some, None, refl, sym, ap, ◌∙◌, subst, inl, inr, arith, ⊎_elim, sum_by, nat_cmp, is_lt, FinMap, get, insert, remove, find, put, is_sorted, entries, values, entries_sorted, entries-insert, get-entries, len, len-entries, same_map, nat_cmp-IsAntisymmetric, below_all, by_order, Ordering, Less, Equal, Greater, nat_cmp_total, lt-ltb, le-ltb, eq-eqb, ne_eqb, cases_order, cases_eq, sum_by-cons}
 use Rattle.hd_model.proofs.Entries.{found_first, found_later}
 use Rattle.hd_model.proofs.ReadAfterWrite.{get_inserted, get_beside, get_removed, get_left}
 

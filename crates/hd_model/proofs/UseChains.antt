@@ -1,17 +1,13 @@
 -- Chains of edges as a user sees them are chains of the scene, and what is in use is what is reached.
-use Rattle.std.proofs.Common.{◌≡◌, ℕ, ◌<◌, List, [], get_or, Option, Some, None, refl, sym, ap, ◌∙◌, subst, ⊎_elim, inl, inr, ◌⊎◌, arith}
-use Rattle.std.specs.Prelude.{Contains}
-use Rattle.std.specs.FinMap.{get}
-use Rattle.std.proofs.lemmas.List.{get_or_default}
-use Rattle.std.proofs.lemmas.List.Elements.{Contains-append_cases}
-use Rattle.hd_model.specs.declared.data.Id.{Id}
+use Rattle.hd_model.proofs.Basics.{◌≡◌, ℕ, ◌<◌, List, [], get_or, Option, Some, None, refl, sym, ap, ◌∙◌, subst, ⊎_elim, inl, inr, ◌⊎◌, arith, Contains, get, get_or_default, Contains-append_cases}
+use Rattle.hd_model.specs.Data.{Id}
 use Rattle.hd_model.specs.declared.data.Kind.TheVariants as kind
 use Rattle.hd_model.specs.State.{Object, Handle, State}
 use Rattle.hd_model.specs.Role.{attaches, role_of, role}
 use Rattle.hd_model.specs.Leads.{Leads}
 use Rattle.hd_model.specs.Scene.{scene_of, joined, fields_in, generation_in}
 use Rattle.hd_model.specs.Collect.{is_attaching}
-use Rattle.hd_model.specs.Reach.{IsAttached, IsArrow, IsRoot, named, queued, held, older, IsReached, IsRevived}
+use Rattle.hd_model.specs.Reach.{IsAttached, IsEdge, IsRoot, named, queued, held, older, IsReached, IsRevived}
 use Rattle.hd_model.specs.InUse.{IsUsed, in_register, in_static, in_queue, by_handle, IsOlder, IsLedTo, from_start, by_field, by_dependent, IsInUse, IsResurrected}
 use Rattle.hd_model.proofs.Members.{not_in_none, joined_from}
 use Rattle.hd_model.proofs.KindExtras.{attaching_kind}
@@ -20,7 +16,7 @@ use Rattle.hd_model.proofs.CollectionLaws.{used_root}
 
 -- the edges of a state
 abbrev pub Edge : State → Id → Id → Type 0
-Edge s x y = IsArrow (scene_of s).object (scene_of s).handle x y
+Edge s x y = IsEdge (scene_of s).object (scene_of s).handle x y
 
 module _ (s : State) where
   pub attached_kind : (h : Handle Id) → role h ≡ attaches → h.kind ≡ kind.Dependent

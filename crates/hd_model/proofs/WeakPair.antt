@@ -1,8 +1,6 @@
 -- A weak short handle and a weak long one with one target, over a collection.
-use Rattle.std.proofs.Common.{◌≡◌, ℕ, ◌<◌, true, false, not, length, Some, None, sym, ap, ◌∙◌, ⊎_elim, arith}
-use Rattle.std.proofs.lemmas.Bool.{cases_Bool, cond-true, cond-false, true≢false}
-use Rattle.hd_model.specs.declared.data.Id.{Id}
-use Rattle.hd_model.specs.declared.data.Report.{Report}
+use Rattle.hd_model.proofs.Basics.{◌≡◌, ℕ, ◌<◌, true, false, not, length, Some, None, sym, ap, ◌∙◌, ⊎_elim, arith, cases_Bool, cond-true, cond-false, true≢false}
+use Rattle.hd_model.specs.Data.{Id, Report}
 use Rattle.hd_model.specs.State.{State}
 use Rattle.hd_model.specs.Scene.{scene_of, IsWhole}
 use Rattle.hd_model.specs.Reach.{IsReached, IsRevived}

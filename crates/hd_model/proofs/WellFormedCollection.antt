@@ -1,12 +1,6 @@
 -- A collection keeps a state well formed.
-use Rattle.std.proofs.Common.{◌≡◌, ◌≢◌, ℕ, ◌/◌, ◌%◌, ◌^◌, ◌<◌, ◌≤◌, Bool, true, false, cond, List, [], length, get_or, Option, Some, None, is_some, IsSome, refl, sym, ap, ◌∙◌, subst, arith}
-use Rattle.std.specs.Prelude.{Contains, AllPairs}
-use Rattle.std.specs.FinMap.{get}
-use Rattle.std.proofs.lemmas.Bool.Decides.{nat_tests}
-use Rattle.std.proofs.lemmas.Bool.{true≢false}
-use Rattle.hd_model.specs.declared.data.Id.{Id}
-use Rattle.hd_model.specs.declared.data.Report.{Report}
-use Rattle.hd_model.specs.declared.data.Slot.{Slot}
+use Rattle.hd_model.proofs.Basics.{◌≡◌, ◌≢◌, ℕ, ◌/◌, ◌%◌, ◌^◌, ◌<◌, ◌≤◌, Bool, true, false, cond, List, [], length, get_or, Option, Some, None, is_some, IsSome, refl, sym, ap, ◌∙◌, subst, arith, Contains, AllPairs, true≢false, get, nat_tests}
+use Rattle.hd_model.specs.Data.{Id, Report, Slot}
 use Rattle.hd_model.specs.State.{Numbers, Object, Handle, State, handles_of, use_of}
 use Rattle.hd_model.specs.Scene.{scene_of, IsWhole}
 use Rattle.hd_model.specs.Ages.{raised}

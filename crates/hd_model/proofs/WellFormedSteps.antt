@@ -1,31 +1,19 @@
 -- A step keeps a state well formed, so each state that a run reaches is.
-use Rattle.std.proofs.Common.{◌≡◌, ◌≢◌, ℕ, Bool, ◌<◌, ◌≤◌, ◌+◌, ◌*◌, ◌/◌, ◌%◌, ◌^◌, List, [], length, get_or, Option, Some, None, is_some, IsSome, true, false, refl, sym, ap, ◌∙◌, subst, arith, nat_cmp, le_of_eq, lit<, true≢false, get_or-set_same, length-set, unwrap_or}
-use Rattle.std.specs.Prelude.{option_and_then, Contains}
-use Rattle.std.specs.FinMap.{get, empty, get-empty}
-use Rattle.std.proofs.lemmas.List.{length-replicate, get_or-replicate}
-use Rattle.std.proofs.lemmas.Option.{none-some}
-use Rattle.hd_model.specs.declared.data.Id.{Id}
-use Rattle.hd_model.specs.declared.data.Slot.{Slot}
-use Rattle.hd_model.specs.declared.data.Entry.{Entry}
-use Rattle.hd_model.specs.declared.data.Kind.{Kind}
-use Rattle.hd_model.specs.declared.data.Kind.TheVariants as kind
-use Rattle.hd_model.specs.declared.data.Make.{Make}
-use Rattle.hd_model.specs.declared.data.Make.TheVariants as make
-use Rattle.hd_model.specs.declared.data.Grown.{Grown}
+use Rattle.hd_model.proofs.Basics.{◌≡◌, ◌≢◌, ℕ, Bool, ◌<◌, ◌≤◌, ◌+◌, ◌*◌, ◌/◌, ◌%◌, ◌^◌, List, [], length, get_or, Option, Some, None, is_some, IsSome, true, false, refl, sym, ap, ◌∙◌, subst, arith, nat_cmp, le_of_eq, lit<, true≢false, get_or-set_same, length-set, unwrap_or, option_and_then, Contains, AllPairs, get, empty, get-empty, length-replicate, get_or-replicate, none-some}
+use Rattle.hd_model.specs.Data.{Id, Slot, Entry, Kind, Make, Grown, Cmd}
 use Rattle.hd_model.specs.declared.data.Grown.TheVariants.{Zero, One, Two, Back}
-use Rattle.hd_model.specs.declared.command.Cmd.{Cmd}
 use Rattle.hd_model.specs.declared.limits.TheConstants.{REGISTERS, FIELDS, OLDEST, ROWS}
-use Rattle.hd_model.specs.Kinds.{kind_of}
+use Rattle.hd_model.specs.Kinds.{kind_of, secondary_register}
 use Rattle.hd_model.specs.Valid.{IsValid}
 use Rattle.hd_model.specs.State.{Numbers, Object, Extra, Handle, handles_of, extra_data, secondary_of, State, start_of, register_of, last_serial, object_by_id, field_of, use_of, first_slot, with_register, with_handle_register, with_object, with_serial, with_handle, without_handle, with_use, with_queue}
-use Rattle.hd_model.specs.Command.{fresh_object, extra_of, made_handle}
+use Rattle.hd_model.specs.Command.{fresh_object, made_extra, made_handle}
 use Rattle.hd_model.specs.Step.{MayGive, with_growth, Step}
 use Rattle.hd_model.specs.Run.{Run}
 use Rattle.hd_model.specs.WellFormed.{Names, FitsKind, IsWellFormed}
 use Rattle.hd_model.proofs.ReadAfterWrite.{set_cases, replicate_cases, get_inserted, get_beside, still_some}
-use Rattle.hd_model.proofs.KindTests.{same_kind, without_secondary_fits, without_secondary_has_none, made_fits}
+use Rattle.hd_model.proofs.KindTests.{without_secondary_fits, without_secondary_has_none, made_fits, made_secondary}
 use Rattle.hd_model.proofs.WellFormedWrites.{names_more, register_keeps, handle_register_keeps, static_keeps, board_keeps, object_keeps, serial_keeps, handle_keeps, removal_keeps, use_keeps, without_use_keeps, queue_keeps, place_keeps}
-use Rattle.hd_model.proofs.Members.{first_in}
+use Rattle.hd_model.proofs.Members.{first_in, later_in, pairs_rest}
 use Rattle.hd_model.proofs.StepChains.{chain_keeps}
 use Rattle.hd_model.proofs.WellFormedCollection.{collection_keeps_well_formed}
 use Rattle.hd_model.proofs.Effects.{Effect, Finds, growth_is, refused, makes_object, sets_field, gets_field, sets_value, reads_value, copies, clears, puts_static, gets_static, reads_generation, suppresses, reregisters, finds_none, takes_first, collects, makes_handle, gets_target, sets_target, sets_secondary, gets_secondary, sets_strength, raises_count, lowers_count, frees_handle, puts_board, picks_board, answers_place, gives_back, gives_none, effect, next_identity}
@@ -48,26 +36,23 @@ and_then_names s None v h = tt
 and_then_names s (Some id) v h = h
 
 made_named : (n : Numbers) (s : State) → IsWellFormed n s → (c : ℕ) (given : Make) (t : ℕ)
-    → Names s (secondary_of (extra_of s c given t))
-made_named n s w c make.Short t = tt
-made_named n s w c make.Long t = tt
-made_named n s w c make.Strong t = tt
-made_named n s w c make.Pinned t = tt
-made_named n s w c (make.Variable x) t = tt
-made_named n s w c make.Counted t = tt
-made_named n s w c (make.Dependent r) t = and_then_names s (register_of s c t) (register_of s c r)
-    (w.names.registers c r)
+    → Names s (secondary_of (made_extra s c given t))
+made_named n s w c given t = subst (Names s) (sym (made_secondary s c given t)) (by (secondary_register given))
+  where
+    by : (o : Option ℕ) → Names s (option_and_then (λ r. option_and_then (λ _. register_of s c r)
+        (register_of s c t)) o)
+    by None = tt
+    by (Some r) = and_then_names s (register_of s c t) (register_of s c r) (w.names.registers c r)
 
 -- a made handle without a target has no secondary
 made_paired : (s : State) (c : ℕ) (given : Make) (t : ℕ) → register_of s c t ≡ None
-    → secondary_of (extra_of s c given t) ≡ None
-made_paired s c make.Short t e = refl
-made_paired s c make.Long t e = refl
-made_paired s c make.Strong t e = refl
-made_paired s c make.Pinned t e = refl
-made_paired s c (make.Variable x) t e = refl
-made_paired s c make.Counted t e = refl
-made_paired s c (make.Dependent r) t e = ap (option_and_then (λ _. register_of s c r)) e
+    → secondary_of (made_extra s c given t) ≡ None
+made_paired s c given t e = made_secondary s c given t ∙ by (secondary_register given)
+  where
+    by : (o : Option ℕ) → option_and_then (λ r. option_and_then (λ _. register_of s c r) (register_of s c t)) o
+        ≡ None
+    by None = refl
+    by (Some r) = ap (option_and_then (λ _. register_of s c r)) e
 
 pub first_block : (block : ℕ) → block * ROWS / ROWS ≡ block
 first_block block = omega arith
@@ -195,7 +180,10 @@ module _ (n : Numbers) (s : State) (w : IsWellFormed n s) (e : Entry) (l : e.cal
   effect_keeps c t v (reregisters {o = o} id f p) = rewrite_keeps o id (object_by_id s id).value true f
   effect_keeps c t v (finds_none {d = d} p) = register_keeps n s w e.caller d None l tt
   effect_keeps c t v (takes_first {d = d} id rest is p) =
-      register_keeps n (with_queue s rest) (queue_keeps n s w id rest is) e.caller d (Some id) l
+      register_keeps n (with_queue s rest) (queue_keeps n s w rest
+      (λ x h. w.names.queue x (subst (λ (q : List Id). Contains q x) (sym is) (later_in id rest x h)))
+      (pairs_rest (λ x y. x ≢ y) id rest (subst (AllPairs (λ (x y : Id). x ≢ y)) is w.objects.queued_once)))
+      e.caller d (Some id) l
       (w.names.queue id (subst (λ (q : List Id). Contains q id) (sym is) (first_in id rest)))
   effect_keeps c t v (collects {k = k} did) = collection_keeps_well_formed n k s t did.report w did.collects
   effect_keeps c t v (makes_handle {d = d} {t = r} {given = given} slot given_is may p) =
@@ -209,16 +197,16 @@ module _ (n : Numbers) (s : State) (w : IsWellFormed n s) (e : Entry) (l : e.cal
       (without_secondary_fits handle.kind handle.extra (w.handles.extras slot.0 handle f.live))
       (λ _. without_secondary_has_none handle.extra)
   effect_keeps c t v (sets_secondary {h = h} {r = r} slot handle f same target p) =
-      extra_keeps h slot handle _ f (same_kind handle.kind kind.Dependent same) (w.names.registers e.caller r)
+      extra_keeps h slot handle _ f same (w.names.registers e.caller r)
       (λ none. absurd (true≢false (sym target ∙ ap is_some none)))
   effect_keeps c t v (gets_secondary {d = d} slot handle f p) =
       register_keeps n s w e.caller d _ l (w.names.secondaries slot.0 handle f.live)
   effect_keeps c t v (sets_strength {h = h} slot handle f same p) =
-      extra_keeps h slot handle _ f (same_kind handle.kind kind.Variable same) tt (λ _. refl)
+      extra_keeps h slot handle _ f same tt (λ _. refl)
   effect_keeps c t v (raises_count {h = h} slot handle f same p) =
-      extra_keeps h slot handle _ f (same_kind handle.kind kind.Counted same) tt (λ _. refl)
+      extra_keeps h slot handle _ f same tt (λ _. refl)
   effect_keeps c t v (lowers_count {h = h} slot handle f same p) =
-      extra_keeps h slot handle _ f (same_kind handle.kind kind.Counted same) tt (λ _. refl)
+      extra_keeps h slot handle _ f same tt (λ _. refl)
   effect_keeps c t v (frees_handle {h = h} slot handle f p q) =
       handle_register_keeps n (without_handle s slot) (removal_keeps n s w slot) e.caller h None l
   effect_keeps c t v (puts_board {k = k} p) = board_keeps n s w k _

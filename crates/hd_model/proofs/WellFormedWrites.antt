@@ -1,14 +1,9 @@
 -- A write to one part of a state keeps it well formed.
-use Rattle.std.proofs.Common.{◌≡◌, ◌≢◌, ℕ, ◌<◌, ◌≤◌, ◌/◌, ◌%◌, ◌^◌, List, [], ◌∷◌, length, get_or, Option, Some, None, IsSome, refl, sym, ◌∙◌, subst, nat_cmp, length-set, le_trans, suc, suc-le-suc, true≢false}
-use Rattle.std.specs.Prelude.{Contains, AllPairs}
-use Rattle.std.specs.FinMap.{FinMap, get}
-use Rattle.std.proofs.lemmas.Option.{none-some}
-use Rattle.hd_model.specs.declared.data.Id.{Id}
-use Rattle.hd_model.specs.declared.data.Slot.{Slot}
+use Rattle.hd_model.proofs.Basics.{◌≡◌, ◌≢◌, ℕ, ◌<◌, ◌≤◌, ◌/◌, ◌%◌, ◌^◌, List, [], ◌∷◌, length, get_or, Option, Some, None, IsSome, refl, sym, ◌∙◌, subst, nat_cmp, length-set, le_trans, suc, suc-le-suc, true≢false, Contains, AllPairs, FinMap, get, none-some}
+use Rattle.hd_model.specs.Data.{Id, Slot}
 use Rattle.hd_model.specs.declared.limits.TheConstants.{REGISTERS, FIELDS, OLDEST, ROWS}
 use Rattle.hd_model.specs.State.{Numbers, Object, Handle, BlockUse, handles_of, secondary_of, State, last_serial, field_of, use_of, with_register, with_handle_register, with_static, with_board, with_object, with_handle, without_handle, with_use, without_use, with_queue, with_place, with_serial}
 use Rattle.hd_model.specs.WellFormed.{Names, HasShape, NamesStand, HasObjects, HasSerials, FitsKind, HasHandles, IsWellFormed}
-use Rattle.hd_model.proofs.Members.{later_in}
 use Rattle.hd_model.proofs.ReadAfterWrite.{set_cases, cell_cases, rows_keep, insert_all, remove_all, still_some, some_cases, insert_cases, remove_cases}
 
 -- what references an object in one state does in another that has its objects
@@ -17,23 +12,24 @@ pub names_more : (s t : State) → ((id : ℕ) → IsSome (get s.objects id) →
 names_more s t more None h = h
 names_more s t more (Some id) h = more id.0 h
 
--- each part of a well formed state, where only other parts differ
-shape_again : (n : Numbers) (s t : State) → t.registers ≡ s.registers
-    → t.handle_registers ≡ s.handle_registers → t.statics ≡ s.statics → t.board ≡ s.board
-    → t.serials ≡ s.serials → HasShape n s → HasShape n t
-shape_again n s t r h k b c w = record {
-  registers = subst (λ (x : List (List (Option Id))). length x ≡ n.callers) (sym r) w.registers;
-  each_registers = λ i l. subst (λ (x : List (List (Option Id))). length (get_or x i []) ≡ REGISTERS) (sym r)
-      (w.each_registers i l);
-  handle_registers = subst (λ (x : List (List (Option Slot))). length x ≡ n.callers)
-      (sym h) w.handle_registers;
-  each_handle_registers = λ i l. subst (λ (x : List (List (Option Slot))). length (get_or x i []) ≡ REGISTERS)
-      (sym h) (w.each_handle_registers i l);
-  statics = subst (λ (x : List (Option Id)). length x ≡ REGISTERS) (sym k) w.statics;
-  board = subst (λ (x : List (Option Slot)). length x ≡ REGISTERS) (sym b) w.board;
-  serials = subst (λ (x : List ℕ). length x ≡ n.callers) (sym c) w.serials;
+-- lists of the same lengths have the shape
+shape_again : (n : Numbers) (s t : State) → length t.registers ≡ length s.registers
+    → ((c : ℕ) → length (get_or t.registers c []) ≡ length (get_or s.registers c []))
+    → length t.handle_registers ≡ length s.handle_registers
+    → ((c : ℕ) → length (get_or t.handle_registers c []) ≡ length (get_or s.handle_registers c []))
+    → length t.statics ≡ length s.statics → length t.board ≡ length s.board
+    → length t.serials ≡ length s.serials → HasShape n s → HasShape n t
+shape_again n s t r rs h hs k b c w = record {
+  registers = r ∙ w.registers;
+  each_registers = λ i l. rs i ∙ w.each_registers i l;
+  handle_registers = h ∙ w.handle_registers;
+  each_handle_registers = λ i l. hs i ∙ w.each_handle_registers i l;
+  statics = k ∙ w.statics;
+  board = b ∙ w.board;
+  serials = c ∙ w.serials;
 }
 
+-- each other part of a well formed state, where only other parts differ
 names_again : (s : State) (handle_registers : List (List (Option Slot))) (board : List (Option Slot))
     (blocks : FinMap nat_cmp BlockUse) (serials : List ℕ) → NamesStand s
     → NamesStand (record s {
@@ -88,15 +84,8 @@ module _ (n : Numbers) (s : State) (w : IsWellFormed n s) where
   pub register_keeps : (c d : ℕ) (v : Option Id) → c < n.callers → Names s v
       → IsWellFormed n (with_register s c d v)
   register_keeps c d v l h = record {
-    shape = record {
-      registers = length-set s.registers c _ ∙ w.shape.registers;
-      each_registers = rows_keep s.registers n.callers REGISTERS c d v l w.shape.each_registers;
-      handle_registers = w.shape.handle_registers;
-      each_handle_registers = w.shape.each_handle_registers;
-      statics = w.shape.statics;
-      board = w.shape.board;
-      serials = w.shape.serials;
-    };
+    shape = shape_again n s _ (length-set s.registers c _) (λ i. rows_keep s.registers c d i v) refl (λ _. refl)
+        refl refl refl w.shape;
     names = record {
       fields = w.names.fields;
       registers = λ i j. cell_cases (Names s) s.registers c d i j v None (λ _ _. h) (w.names.registers i j);
@@ -114,16 +103,8 @@ module _ (n : Numbers) (s : State) (w : IsWellFormed n s) where
   pub handle_register_keeps : (c d : ℕ) (v : Option Slot) → c < n.callers
       → IsWellFormed n (with_handle_register s c d v)
   handle_register_keeps c d v l = record {
-    shape = record {
-      registers = w.shape.registers;
-      each_registers = w.shape.each_registers;
-      handle_registers = length-set s.handle_registers c _ ∙ w.shape.handle_registers;
-      each_handle_registers = rows_keep s.handle_registers n.callers REGISTERS c d v l
-          w.shape.each_handle_registers;
-      statics = w.shape.statics;
-      board = w.shape.board;
-      serials = w.shape.serials;
-    };
+    shape = shape_again n s _ refl (λ _. refl) (length-set s.handle_registers c _)
+        (λ i. rows_keep s.handle_registers c d i v) refl refl refl w.shape;
     names = names_again s _ _ _ _ w.names;
     objects = objects_again s _ refl refl w.objects;
     serials = serials_again s _ refl refl w.serials;
@@ -132,15 +113,7 @@ module _ (n : Numbers) (s : State) (w : IsWellFormed n s) where
 
   pub static_keeps : (k : ℕ) (v : Option Id) → Names s v → IsWellFormed n (with_static s k v)
   static_keeps k v h = record {
-    shape = record {
-      registers = w.shape.registers;
-      each_registers = w.shape.each_registers;
-      handle_registers = w.shape.handle_registers;
-      each_handle_registers = w.shape.each_handle_registers;
-      statics = length-set s.statics k v ∙ w.shape.statics;
-      board = w.shape.board;
-      serials = w.shape.serials;
-    };
+    shape = shape_again n s _ refl (λ _. refl) refl (λ _. refl) (length-set s.statics k v) refl refl w.shape;
     names = record {
       fields = w.names.fields;
       registers = w.names.registers;
@@ -157,15 +130,7 @@ module _ (n : Numbers) (s : State) (w : IsWellFormed n s) where
 
   pub board_keeps : (k : ℕ) (v : Option Slot) → IsWellFormed n (with_board s k v)
   board_keeps k v = record {
-    shape = record {
-      registers = w.shape.registers;
-      each_registers = w.shape.each_registers;
-      handle_registers = w.shape.handle_registers;
-      each_handle_registers = w.shape.each_handle_registers;
-      statics = w.shape.statics;
-      board = length-set s.board k v ∙ w.shape.board;
-      serials = w.shape.serials;
-    };
+    shape = shape_again n s _ refl (λ _. refl) refl (λ _. refl) refl (length-set s.board k v) refl w.shape;
     names = names_again s _ _ _ _ w.names;
     objects = objects_again s _ refl refl w.objects;
     serials = serials_again s _ refl refl w.serials;
@@ -181,7 +146,7 @@ module _ (n : Numbers) (s : State) (w : IsWellFormed n s) where
       let more : (o : Option Id) → Names s o → Names (with_object s id object) o =
       names_more s (with_object s id object) (still_some s.objects id.0 object) in
       record {
-        shape = shape_again n s _ refl refl refl refl refl w.shape;
+        shape = shape_again n s _ refl (λ _. refl) refl (λ _. refl) refl refl refl w.shape;
         names = record {
           fields = insert_all s.objects id.0 (λ q x. (i : ℕ) → Names (with_object s id object) (field_of x i))
               object named (λ q x e i. more _ (w.names.fields q x e i));
@@ -209,15 +174,7 @@ module _ (n : Numbers) (s : State) (w : IsWellFormed n s) where
 
   pub serial_keeps : (c v : ℕ) → last_serial s c ≤ v → v < 2 ^ 32 → IsWellFormed n (with_serial s c v)
   serial_keeps c v up small = record {
-    shape = record {
-      registers = w.shape.registers;
-      each_registers = w.shape.each_registers;
-      handle_registers = w.shape.handle_registers;
-      each_handle_registers = w.shape.each_handle_registers;
-      statics = w.shape.statics;
-      board = w.shape.board;
-      serials = length-set s.serials c v ∙ w.shape.serials;
-    };
+    shape = shape_again n s _ refl (λ _. refl) refl (λ _. refl) refl refl (length-set s.serials c v) w.shape;
     names = names_again s _ _ _ _ w.names;
     objects = objects_again s _ refl refl w.objects;
     serials = record {
@@ -236,7 +193,7 @@ module _ (n : Numbers) (s : State) (w : IsWellFormed n s) where
       → FitsKind handle.kind handle.extra → (handle.target ≡ None → secondary_of handle.extra ≡ None)
       → IsWellFormed n (with_handle s slot handle)
   handle_keeps slot handle target second in_use fits paired = record {
-    shape = shape_again n s _ refl refl refl refl refl w.shape;
+    shape = shape_again n s _ refl (λ _. refl) refl (λ _. refl) refl refl refl w.shape;
     names = record {
       fields = w.names.fields;
       registers = w.names.registers;
@@ -261,7 +218,7 @@ module _ (n : Numbers) (s : State) (w : IsWellFormed n s) where
 
   pub removal_keeps : (slot : Slot) → IsWellFormed n (without_handle s slot)
   removal_keeps slot = record {
-    shape = shape_again n s _ refl refl refl refl refl w.shape;
+    shape = shape_again n s _ refl (λ _. refl) refl (λ _. refl) refl refl refl w.shape;
     names = record {
       fields = w.names.fields;
       registers = w.names.registers;
@@ -287,7 +244,7 @@ module _ (n : Numbers) (s : State) (w : IsWellFormed n s) where
   pub use_keeps : (block : ℕ) (given : BlockUse) → use_of s block ≡ None → 1 ≤ block → block ≤ n.blocks
       → IsWellFormed n (with_use s block given)
   use_keeps block given unused low high = record {
-    shape = shape_again n s _ refl refl refl refl refl w.shape;
+    shape = shape_again n s _ refl (λ _. refl) refl (λ _. refl) refl refl refl w.shape;
     names = names_again s _ _ _ _ w.names;
     objects = objects_again s _ refl refl w.objects;
     serials = serials_again s _ refl refl w.serials;
@@ -306,7 +263,7 @@ module _ (n : Numbers) (s : State) (w : IsWellFormed n s) where
   pub without_use_keeps : (block : ℕ) → ((slot : ℕ) → slot / ROWS ≡ block → get s.handles slot ≡ None)
       → IsWellFormed n (without_use s block)
   without_use_keeps block vacant = record {
-    shape = shape_again n s _ refl refl refl refl refl w.shape;
+    shape = shape_again n s _ refl (λ _. refl) refl (λ _. refl) refl refl refl w.shape;
     names = names_again s _ _ _ _ w.names;
     objects = objects_again s _ refl refl w.objects;
     serials = serials_again s _ refl refl w.serials;
@@ -323,24 +280,24 @@ module _ (n : Numbers) (s : State) (w : IsWellFormed n s) where
     };
   }
 
-  -- the first object leaves the queue
-  pub queue_keeps : (id : Id) (rest : List Id) → s.queue ≡ id ∷ rest → IsWellFormed n (with_queue s rest)
-  queue_keeps id rest is = record {
-    shape = shape_again n s _ refl refl refl refl refl w.shape;
+  -- another queue of objects, each once
+  pub queue_keeps : (queue : List Id) → ((id : Id) → Contains queue id → Names s (Some id))
+      → AllPairs (λ x y. x ≢ y) queue → IsWellFormed n (with_queue s queue)
+  queue_keeps queue named once = record {
+    shape = shape_again n s _ refl (λ _. refl) refl (λ _. refl) refl refl refl w.shape;
     names = record {
       fields = w.names.fields;
       registers = w.names.registers;
       statics = w.names.statics;
       targets = w.names.targets;
       secondaries = w.names.secondaries;
-      queue = λ x h. w.names.queue x (subst (λ (q : List Id). Contains q x) (sym is) (later_in id rest x h));
+      queue = named;
       places = w.names.places;
     };
     objects = record {
       sizes = w.objects.sizes;
       generations = w.objects.generations;
-      queued_once = λ i j d l h. subst (AllPairs (λ (x y : Id). x ≢ y)) is w.objects.queued_once (suc i)
-          (suc j) d (suc-le-suc l) (suc-le-suc h);
+      queued_once = once;
     };
     serials = serials_again s _ refl refl w.serials;
     handles = handles_again n s _ refl refl w.handles;
@@ -349,7 +306,7 @@ module _ (n : Numbers) (s : State) (w : IsWellFormed n s) where
   -- an object gets a pinned address
   pub place_keeps : (id : Id) (p : ℕ) → IsSome (get s.objects id.0) → IsWellFormed n (with_place s id p)
   place_keeps id p there = record {
-    shape = shape_again n s _ refl refl refl refl refl w.shape;
+    shape = shape_again n s _ refl (λ _. refl) refl (λ _. refl) refl refl refl w.shape;
     names = record {
       fields = w.names.fields;
       registers = w.names.registers;

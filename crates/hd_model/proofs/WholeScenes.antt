@@ -1,12 +1,6 @@
 -- A well formed state has a whole scene, and what a whole scene says of a state's references.
-use Rattle.std.proofs.Common.{◌≡◌, ℕ, List, [], length, get_or, Option, Some, None, IsSome, IfSome, refl, sym, ap, ◌∙◌, subst, ⊎_elim}
-use Rattle.std.specs.Prelude.{Contains}
-use Rattle.std.specs.FinMap.{get}
-use Rattle.std.proofs.lemmas.List.{get_or_default, get_or_past}
-use Rattle.std.proofs.lemmas.List.Elements.{Contains-append_left, Contains-append_right, Contains-append_cases}
-use Rattle.std.proofs.lemmas.Bool.{cases_lt}
-use Rattle.std.proofs.lemmas.Option.{none-some}
-use Rattle.hd_model.specs.declared.data.Id.{Id}
+use Rattle.hd_model.proofs.Basics.{◌≡◌, ℕ, List, [], length, get_or, Option, Some, None, IsSome, IfSome, refl, sym, ap, ◌∙◌, subst, ⊎_elim, Contains, get, get_or_default, get_or_past, Contains-append_left, Contains-append_right, Contains-append_cases, cases_lt, none-some}
+use Rattle.hd_model.specs.Data.{Id}
 use Rattle.hd_model.specs.State.{Numbers, Object, State, secondary_of, register_of, static_of, field_of}
 use Rattle.hd_model.specs.Scene.{scene_of, joined, fields_in, IsField, IsWhole}
 use Rattle.hd_model.specs.WellFormed.{NamesStand, IsWellFormed}

@@ -1,14 +1,11 @@
 -- The ages that a journal leaves. They are this project's own, and no reply of the machine depends on them.
 use Rattle.std.specs.Prelude.{◌≡◌, ℕ, ◌*◌, Bool, true, false, cond, List, replicate, Option, Some, None}
-use Rattle.hd_model.specs.declared.data.Id.{Id}
-use Rattle.hd_model.specs.declared.data.Slot.{Slot}
-use Rattle.hd_model.specs.declared.data.Entry.{Entry}
-use Rattle.hd_model.specs.declared.data.Make.{Make}
-use Rattle.hd_model.specs.declared.data.Make.TheVariants as make
-use Rattle.hd_model.specs.declared.data.Reply.{Reply}
+use Rattle.std.specs.Option.{option_map_or}
+use Rattle.hd_model.specs.Data.{Id, Slot, Entry, Make, Reply, Cmd, Class}
 use Rattle.hd_model.specs.declared.data.Reply.TheVariants as reply
-use Rattle.hd_model.specs.declared.command.Cmd.{Cmd}
-use Rattle.hd_model.specs.declared.command.Cmd.TheVariants as cmd
+use Rattle.hd_model.specs.declared.class.Class.TheVariants as class
+use Rattle.hd_model.specs.Kinds.{secondary_register}
+use Rattle.hd_model.specs.Class.{class_of}
 use Rattle.hd_model.specs.declared.limits.TheConstants.{CLUMPS, OLDEST}
 use Rattle.hd_model.specs.State.{Numbers, State, start_of, register_of, handle_register_of}
 use Rattle.hd_model.specs.Scene.{scene_of, generation_at}
@@ -41,45 +38,26 @@ lowered_to s ages slot (Some x) = lowered_at ages slot (generation_at (scene_of 
 -- the ages after a handle is made in a slot with a target: a dependent one, which may get any secondary,
 -- makes the age 0
 abbrev pub lowered_by_new : State → List ℕ → Option Slot → Make → Option Id → List ℕ
-lowered_by_new s ages slot make.Short t = lowered_to s ages slot t
-lowered_by_new s ages slot make.Long t = lowered_to s ages slot t
-lowered_by_new s ages slot make.Strong t = lowered_to s ages slot t
-lowered_by_new s ages slot make.Pinned t = lowered_to s ages slot t
-lowered_by_new s ages slot (make.Variable given) t = lowered_to s ages slot t
-lowered_by_new s ages slot make.Counted t = lowered_to s ages slot t
-lowered_by_new s ages slot (make.Dependent r) t = lowered_at ages slot 0
+lowered_by_new s ages slot make t =
+    option_map_or (λ _. lowered_at ages slot 0) (secondary_register make) (lowered_to s ages slot t)
 
--- the ages after a command of a caller that was not refused, with its entry's `slot`
-abbrev pub aged_by_command : State → ℕ → Option Slot → List ℕ → Cmd → List ℕ
-aged_by_command s caller slot ages (cmd.HNew d make t) =
+-- the ages after a command of a class, of a caller, that was not refused, with its entry's `slot`
+abbrev pub aged_by_class : State → ℕ → Option Slot → List ℕ → Class → List ℕ
+aged_by_class s caller slot ages (class.MakesObject fields) = ages
+aged_by_class s caller slot ages (class.TakesSlot make t) =
     lowered_by_new s ages slot make (register_of s caller t)
-aged_by_command s caller slot ages (cmd.HSet h t) =
+aged_by_class s caller slot ages (class.StoresTarget h t) =
     lowered_to s ages (handle_register_of s caller h) (register_of s caller t)
-aged_by_command s caller slot ages (cmd.HSec h t) = lowered_at ages (handle_register_of s caller h) 0
-aged_by_command s caller slot ages (cmd.Collect n) = grown n ages
-aged_by_command s caller slot ages (cmd.New d fields fin) = ages
-aged_by_command s caller slot ages (cmd.Set o i v) = ages
-aged_by_command s caller slot ages (cmd.Get d o i) = ages
-aged_by_command s caller slot ages (cmd.Val o v) = ages
-aged_by_command s caller slot ages (cmd.Read o) = ages
-aged_by_command s caller slot ages (cmd.Copy d r) = ages
-aged_by_command s caller slot ages (cmd.Clear d) = ages
-aged_by_command s caller slot ages (cmd.SPut k r) = ages
-aged_by_command s caller slot ages (cmd.SGet d k) = ages
-aged_by_command s caller slot ages (cmd.Gen r) = ages
-aged_by_command s caller slot ages (cmd.Suppress r) = ages
-aged_by_command s caller slot ages (cmd.Reregister r) = ages
-aged_by_command s caller slot ages (cmd.Final d) = ages
-aged_by_command s caller slot ages (cmd.HGet d h) = ages
-aged_by_command s caller slot ages (cmd.HDep d h) = ages
-aged_by_command s caller slot ages (cmd.HVar h given) = ages
-aged_by_command s caller slot ages (cmd.HFree h) = ages
-aged_by_command s caller slot ages (cmd.HPut k h) = ages
-aged_by_command s caller slot ages (cmd.HPick d k) = ages
-aged_by_command s caller slot ages (cmd.AddrOf h) = ages
-aged_by_command s caller slot ages (cmd.HUp h) = ages
-aged_by_command s caller slot ages (cmd.HDown h) = ages
-aged_by_command s caller slot ages (cmd.Trim kind) = ages
+aged_by_class s caller slot ages (class.StoresSecondary h) =
+    lowered_at ages (handle_register_of s caller h) 0
+aged_by_class s caller slot ages class.Frees = ages
+aged_by_class s caller slot ages (class.GivesBack kind) = ages
+aged_by_class s caller slot ages (class.Collects n) = grown n ages
+aged_by_class s caller slot ages (class.AnswersPlace h) = ages
+aged_by_class s caller slot ages class.Plain = ages
+
+abbrev pub aged_by_command : State → ℕ → Option Slot → List ℕ → Cmd → List ℕ
+aged_by_command s caller slot ages c = aged_by_class s caller slot ages (class_of c)
 
 -- the ages after an entry, from the state before it
 abbrev pub aged_by : State → Entry → List ℕ → List ℕ

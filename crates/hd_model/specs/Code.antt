@@ -7,12 +7,7 @@ use Rattle.std.specs.FinMap.{FinMap}
 use Rattle.std.specs.FinMap as map
 use Rattle.std.specs.FinSet as set
 use Rattle.std.specs.Ordering.{nat_cmp}
-use Rattle.hd_model.specs.declared.data.Id.{Id}
-use Rattle.hd_model.specs.declared.data.Addr.{Addr}
-use Rattle.hd_model.specs.declared.data.Slot.{Slot}
-use Rattle.hd_model.specs.declared.data.Kind.{Kind}
-use Rattle.hd_model.specs.declared.data.Strength.{Strength}
-use Rattle.hd_model.specs.declared.data.Entry.{Entry}
+use Rattle.hd_model.specs.Data.{Id, Addr, Slot, Kind, Strength, Entry}
 use Rattle.hd_model.specs.contracts.data.Id as id_contract
 use Rattle.hd_model.specs.contracts.data.Addr as addr_contract
 use Rattle.hd_model.specs.contracts.data.Slot as slot_contract

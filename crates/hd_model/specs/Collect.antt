@@ -1,11 +1,9 @@
 -- A collection of generation n, by the scenes before and after it. The order is that of CoreCLR's collector:
 -- weak short handles by what is reached, then resurrection, then weak long and dependent handles by what is
 -- kept.
-use Rattle.std.specs.Prelude.{◌≡◌, ℕ, ◌<◌, ◌&&◌, not, cond, Bool, true, false, List, ◌++◌, Option, Some, None, option_map, Contains, AllPairs}
-use Rattle.std.specs.Bool.{Decides}
+use Rattle.std.specs.Prelude.{◌≡◌, ℕ, ◌<◌, ◌&&◌, not, cond, Bool, true, false, List, ◌++◌, Option, Some, None, option_map, Contains, AllPairs, Decides}
 use Rattle.std.specs.FinMap.{get}
-use Rattle.hd_model.specs.declared.data.Id.{Id}
-use Rattle.hd_model.specs.declared.data.Report.{Report}
+use Rattle.hd_model.specs.Data.{Id, Report}
 use Rattle.hd_model.specs.State.{Object, secondary, Handle, State}
 use Rattle.hd_model.specs.Role.{Role, holds, short, long, attaches, role}
 use Rattle.hd_model.specs.Counting.{Counts}

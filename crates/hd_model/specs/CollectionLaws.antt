@@ -2,11 +2,7 @@
 -- crate.
 use Rattle.std.specs.Prelude.{◌≡◌, ◌↔◌, ℕ, ◌+◌, ◌<◌, ◌≤◌, ◌⊎◌, min, true, false, List, ◌++◌, length, Option, Some, None, IsSome, Contains, AllPairs}
 use Rattle.std.specs.FinMap.{get, len}
-use Rattle.hd_model.specs.declared.data.Id.{Id}
-use Rattle.hd_model.specs.declared.data.Addr.{Addr}
-use Rattle.hd_model.specs.declared.data.Entry.{Entry}
-use Rattle.hd_model.specs.declared.data.Report.{Report}
-use Rattle.hd_model.specs.declared.data.Slot.{Slot}
+use Rattle.hd_model.specs.Data.{Id, Addr, Entry, Report, Slot}
 use Rattle.hd_model.specs.declared.data.Kind.TheVariants as kind
 use Rattle.hd_model.specs.declared.limits.TheConstants.{OLDEST}
 use Rattle.hd_model.specs.State.{Numbers, Object, Handle, secondary, State, secondary_of, register_of, static_of, without_handle}

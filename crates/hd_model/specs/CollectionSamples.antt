@@ -1,10 +1,7 @@
 -- Two states in which the premises of each law of collections hold.
 use Rattle.std.specs.Prelude.{◌≡◌, ℕ, Bool, true, false, List, [], ◌∷◌, Option, Some}
-use Rattle.hd_model.specs.declared.data.Id.{Id}
-use Rattle.hd_model.specs.declared.data.Slot.{Slot}
-use Rattle.hd_model.specs.declared.data.Kind.{Kind}
+use Rattle.hd_model.specs.Data.{Id, Slot, Kind, Report}
 use Rattle.hd_model.specs.declared.data.Kind.TheVariants as kind
-use Rattle.hd_model.specs.declared.data.Report.{Report}
 use Rattle.hd_model.specs.State.{Numbers, Object, nothing, secondary, Handle, handles_of, State, start_of, with_register, with_object, with_handle, with_use, with_serial, without_handle}
 use Rattle.hd_model.specs.Scene.{scene_of}
 use Rattle.hd_model.specs.Ages.{is_due, HasSoundAges}

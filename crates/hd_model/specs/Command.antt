@@ -3,21 +3,13 @@
 -- fields, statics and locals; texts, refusals and their order are this project's own.
 use Rattle.std.specs.Prelude.{ℕ, ◌+◌, ◌-◌, ◌==◌, ◌&&◌, Bool, nat_lt, if◌then◌else◌, List, [], ◌∷◌, replicate, length, slice_set, Option, Some, None, is_some, option_and_then}
 use Rattle.std.specs.Option.{option_map_or}
-use Rattle.hd_model.specs.declared.data.Id.{Id}
-use Rattle.hd_model.specs.declared.data.Slot.{Slot}
-use Rattle.hd_model.specs.declared.data.Kind.{Kind}
+use Rattle.hd_model.specs.Data.{Id, Slot, Kind, Strength, Make, Refusal, Reply}
 use Rattle.hd_model.specs.declared.data.Kind.TheVariants as kind
-use Rattle.hd_model.specs.declared.data.Strength.{Strength}
-use Rattle.hd_model.specs.declared.data.Make.{Make}
 use Rattle.hd_model.specs.declared.data.Make.TheVariants as make
-use Rattle.hd_model.specs.declared.data.Refusal.{Refusal}
 use Rattle.hd_model.specs.declared.data.Refusal.TheVariants as refusal
-use Rattle.hd_model.specs.declared.data.Reply.{Reply}
 use Rattle.hd_model.specs.declared.data.Reply.TheVariants as reply
 use Rattle.hd_model.specs.Kinds.{kind_of, is_kind}
-use Rattle.hd_model.specs.State.{Numbers, Object, Extra, nothing, strength, secondary, count, Handle, State, secondary_of, count_of, without_secondary}
-use Rattle.hd_model.specs.State.{register_of, handle_register_of, static_of, board_of, last_serial, object_by_id, field_of, handle_at, total_size, identity_of}
-use Rattle.hd_model.specs.State.{with_register, with_handle_register, with_static, with_board, with_object, with_handle, without_handle, with_queue, with_place, with_serial}
+use Rattle.hd_model.specs.State.{Numbers, Object, Extra, nothing, strength, secondary, count, Handle, State, secondary_of, count_of, without_secondary, register_of, handle_register_of, static_of, board_of, last_serial, object_by_id, field_of, handle_at, total_size, identity_of, with_register, with_handle_register, with_static, with_board, with_object, with_handle, without_handle, with_queue, with_place, with_serial}
 use Rattle.hd_model.specs.Role.{pins}
 
 -- the outcome of a command that the state decides: its reply, the slot that it gives or frees, and the state
@@ -219,17 +211,19 @@ answer_place s caller h p =
     else refuses refusal.WrongKind s)
 
 -- the extra of a made handle. Without a target a dependent handle has no secondary either.
-abbrev pub extra_of : State → ℕ → Make → ℕ → Extra Id
-extra_of s caller make.Short t = nothing
-extra_of s caller make.Long t = nothing
-extra_of s caller make.Strong t = nothing
-extra_of s caller make.Pinned t = nothing
-extra_of s caller (make.Variable given) t = strength given
-extra_of s caller make.Counted t = count 1
-extra_of s caller (make.Dependent r) t =
-    secondary (option_and_then (λ _. register_of s caller r) (register_of s caller t))
+abbrev pub extra_by : (ℕ → Option Id) → Make → Option Id → Extra Id
+extra_by registers make.Short target = nothing
+extra_by registers make.Long target = nothing
+extra_by registers make.Strong target = nothing
+extra_by registers make.Pinned target = nothing
+extra_by registers (make.Variable given) target = strength given
+extra_by registers make.Counted target = count 1
+extra_by registers (make.Dependent r) target = secondary (option_and_then (λ _. registers r) target)
+
+abbrev pub made_extra : State → ℕ → Make → ℕ → Extra Id
+made_extra s caller make t = extra_by (register_of s caller) make (register_of s caller t)
 
 -- a made handle: its target is what rT references
 abbrev pub made_handle : State → ℕ → Make → ℕ → Handle Id
 made_handle s caller make t =
-    record { kind = kind_of make; target = register_of s caller t; extra = extra_of s caller make t }
+    record { kind = kind_of make; target = register_of s caller t; extra = made_extra s caller make t }

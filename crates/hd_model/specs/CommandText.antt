@@ -2,14 +2,11 @@
 -- each two. Numbers are decimal, without leading zeros.
 use Rattle.std.specs.Prelude.{ℕ, Bool, true, false, List, [], ◌∷◌, ◌++◌, codes, decimal}
 use Rattle.std.specs.List.{join_with_byte}
-use Rattle.hd_model.specs.declared.data.Kind.{Kind}
+use Rattle.hd_model.specs.Data.{Kind, Strength, Make, Cmd}
 use Rattle.hd_model.specs.declared.data.Kind.TheVariants as kind
-use Rattle.hd_model.specs.declared.data.Strength.{Strength}
 use Rattle.hd_model.specs.declared.data.Strength.TheVariants as strength
-use Rattle.hd_model.specs.declared.data.Make.{Make}
 use Rattle.hd_model.specs.declared.data.Make.TheVariants as make
 use Rattle.hd_model.specs.Kinds.{kind_of}
-use Rattle.hd_model.specs.declared.command.Cmd.{Cmd}
 use Rattle.hd_model.specs.declared.command.Cmd.TheVariants as cmd
 
 -- an object register, as `r7`

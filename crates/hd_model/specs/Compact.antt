@@ -2,7 +2,7 @@
 -- project's own, after CoreCLR's in outline.
 use Rattle.std.specs.Prelude.{ℕ, ◌+◌, ◌/◌, ◌≤◌}
 use Rattle.std.specs.FinMap.{len}
-use Rattle.hd_model.specs.declared.data.Addr.{Addr}
+use Rattle.hd_model.specs.Data.{Addr}
 use Rattle.hd_model.specs.declared.limits.TheConstants.{LEFT, OPEN}
 use Rattle.hd_model.specs.Scene.{Rows}
 use Rattle.hd_model.specs.Reach.{IsPinned}

@@ -1,9 +1,9 @@
 -- Every limit, bound and number of a word of this crate, written out. Definitions cite the constants; here
 -- each equals the numeral that it is meant to be.
-use Rattle.std.specs.Prelude.{◌≡◌, ℕ, ◌+◌, ◌*◌}
-use Rattle.hd_model.specs.declared.data.Kind.TheVariants as kind
+use Rattle.std.specs.Prelude.{◌≡◌, ℕ, ◌+◌, ◌*◌, [], ◌∷◌, map}
+use Rattle.hd_model.specs.declared.data.TheConstants.Kind.{ALL}
 use Rattle.hd_model.specs.declared.limits.TheConstants.{CALLERS, REGISTERS, FIELDS, HEADER, OLDEST, REGION, REGIONS, CARD, LEFT, OPEN, HEAP, BLOCKS, KINDS, ROWS, CLUMP, CLUMPS, MOST_BYTES, MOST_COMMANDS, MOST_ROUNDS, LOAD_CALLERS, ROUNDS_TO_COLLECTION}
-use Rattle.hd_model.specs.Kinds.{kind_number}
+use Rattle.hd_model.specs.Kinds.{all_kinds, kind_number}
 use Rattle.hd_model.specs.State.{identity_of, first_slot}
 
 -- the numbers of a script and its callers
@@ -46,15 +46,10 @@ pub record NameNumbers : Type 0 where
   pub identity : (caller serial : ℕ) → (identity_of caller serial).0 ≡ caller * 4294967296 + serial
   pub slot : (block : ℕ) → (first_slot block).0 ≡ block * 64
 
--- the number of each kind
+-- the numbers of the kinds, in their order, and the constant that lists them
 pub record KindNumbers : Type 0 where
-  pub short : kind_number kind.Short ≡ 0
-  pub long : kind_number kind.Long ≡ 1
-  pub strong : kind_number kind.Strong ≡ 2
-  pub pinned : kind_number kind.Pinned ≡ 3
-  pub variable : kind_number kind.Variable ≡ 4
-  pub counted : kind_number kind.Counted ≡ 5
-  pub dependent : kind_number kind.Dependent ≡ 6
+  pub numbers : map kind_number all_kinds ≡ 0 ∷ 1 ∷ 2 ∷ 3 ∷ 4 ∷ 5 ∷ 6 ∷ []
+  pub all : ALL ≡ all_kinds
 
 -- all numbers are these
 pub record NumbersAreThese : Type 0 where

@@ -2,7 +2,7 @@
 -- Clumps and their ages are after CoreCLR's handle table.
 use Rattle.std.specs.Prelude.{◌≡◌, ◌↔◌, ℕ, ◌⊎◌, true, false, List, Some, Contains}
 use Rattle.std.specs.FinMap.{get}
-use Rattle.hd_model.specs.declared.data.Id.{Id}
+use Rattle.hd_model.specs.Data.{Id}
 use Rattle.hd_model.specs.declared.data.Kind.TheVariants as kind
 use Rattle.hd_model.specs.State.{Object, Handle, State, secondary_of, field_of, register_of, static_of}
 use Rattle.hd_model.specs.Role.{holds, role}

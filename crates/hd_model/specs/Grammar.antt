@@ -6,13 +6,10 @@ use Rattle.std.specs.Char.{is_ascii_digit}
 use Rattle.std.specs.List.{slice_split, before_first, list_all, range_with_len}
 use Rattle.std.specs.Str.Lines.{strip_carriage_return}
 use Rattle.hd_model.specs.declared.limits.TheConstants.{CALLERS, REGISTERS, FIELDS, OLDEST, MOST_COMMANDS}
-use Rattle.hd_model.specs.declared.data.Kind.{Kind}
+use Rattle.hd_model.specs.Data.{Kind, Strength, Make, Cmd}
 use Rattle.hd_model.specs.declared.data.Kind.TheVariants as kind
-use Rattle.hd_model.specs.declared.data.Strength.{Strength}
 use Rattle.hd_model.specs.declared.data.Strength.TheVariants as strength
-use Rattle.hd_model.specs.declared.data.Make.{Make}
 use Rattle.hd_model.specs.declared.data.Make.TheVariants as make
-use Rattle.hd_model.specs.declared.command.Cmd.{Cmd}
 use Rattle.hd_model.specs.declared.command.Cmd.TheVariants as cmd
 use Rattle.hd_model.specs.Valid.{IsValid}
 

@@ -4,8 +4,7 @@ use Rattle.std.specs.Prelude.{◌≡◌, ℕ, ◌+◌, ◌/◌, ◌%◌, Bool, f
 use Rattle.std.specs.FinMap.{FinMap, get, values, contains_key}
 use Rattle.std.specs.FinSet as set
 use Rattle.std.specs.Ordering.{nat_cmp}
-use Rattle.hd_model.specs.declared.data.Id.{Id}
-use Rattle.hd_model.specs.declared.data.Addr.{Addr}
+use Rattle.hd_model.specs.Data.{Id, Addr}
 use Rattle.hd_model.specs.declared.limits.TheConstants.{HEADER, REGION, CARD}
 use Rattle.hd_model.specs.State.{Object}
 use Rattle.hd_model.specs.Scene.{Objects, is_object}
@@ -44,8 +43,8 @@ unfoldable pub card_of : Addr → ℕ
 card_of a = a.0 / CARD
 
 -- whether a region is in use, and the region; a free one is read as an empty one of generation 0
-abbrev pub is_held : Heap → ℕ → Bool
-is_held h r = contains_key h.regions r
+abbrev pub is_in_use : Heap → ℕ → Bool
+is_in_use h r = contains_key h.regions r
 
 abbrev pub region_at : Heap → ℕ → Region
 region_at h r = unwrap_or (get h.regions r) (record { generation = 0; fill = 0 })

@@ -1,7 +1,7 @@
 -- What is in use and what is not, as someone who holds a handle sees it: chains of edges in a state.
 use Rattle.std.specs.Prelude.{◌≡◌, ℕ, ◌<◌, ◌≤◌, ◌⊎◌, true, Some, IsSome, Contains}
 use Rattle.std.specs.FinMap.{get}
-use Rattle.hd_model.specs.declared.data.Id.{Id}
+use Rattle.hd_model.specs.Data.{Id}
 use Rattle.hd_model.specs.declared.data.Kind.TheVariants as kind
 use Rattle.hd_model.specs.State.{Object, Handle, State, secondary_of, field_of, register_of, static_of}
 use Rattle.hd_model.specs.Role.{holds, role}

@@ -1,9 +1,13 @@
 -- The kinds of handle: their numbers, which of them have extra data, and what a command makes.
-use Rattle.std.specs.Prelude.{ℕ, ◌==◌, Bool, true, false}
-use Rattle.hd_model.specs.declared.data.Kind.{Kind}
+use Rattle.std.specs.Prelude.{ℕ, ◌==◌, Bool, true, false, List, [], ◌∷◌, Option, Some, None}
+use Rattle.hd_model.specs.Data.{Kind, Make}
 use Rattle.hd_model.specs.declared.data.Kind.TheVariants as kind
-use Rattle.hd_model.specs.declared.data.Make.{Make}
 use Rattle.hd_model.specs.declared.data.Make.TheVariants as make
+
+-- all kinds, by their numbers
+abbrev pub all_kinds : List Kind
+all_kinds =
+    kind.Short ∷ kind.Long ∷ kind.Strong ∷ kind.Pinned ∷ kind.Variable ∷ kind.Counted ∷ kind.Dependent ∷ []
 
 -- the number of a kind (this project's own)
 abbrev pub kind_number : Kind → ℕ
@@ -39,3 +43,13 @@ kind_of make.Pinned = kind.Pinned
 kind_of (make.Variable _) = kind.Variable
 kind_of make.Counted = kind.Counted
 kind_of (make.Dependent _) = kind.Dependent
+
+-- the register of the secondary of a made handle, if it is dependent
+abbrev pub secondary_register : Make → Option ℕ
+secondary_register make.Short = None
+secondary_register make.Long = None
+secondary_register make.Strong = None
+secondary_register make.Pinned = None
+secondary_register (make.Variable _) = None
+secondary_register make.Counted = None
+secondary_register (make.Dependent r) = Some r

@@ -2,19 +2,13 @@
 use Rattle.std.specs.Prelude.{◌≡◌, ◌≢◌, ℕ, ◌+◌, ◌-◌, ◌<◌, ◌==◌, ◌&&◌, Bool, true, false, List, Option, Some, None, IsSome, is_some, if◌then◌else◌, option_and_then, option_map, count_by, sum_by, All}
 use Rattle.std.specs.Option.{option_map_or}
 use Rattle.std.specs.FinMap.{len}
-use Rattle.hd_model.specs.declared.data.Id.{Id}
-use Rattle.hd_model.specs.declared.data.Slot.{Slot}
-use Rattle.hd_model.specs.declared.data.Strength.{Strength}
-use Rattle.hd_model.specs.declared.data.Make.{Make}
+use Rattle.hd_model.specs.Data.{Id, Slot, Strength, Make, Entry, Reply, Cmd}
 use Rattle.hd_model.specs.declared.data.Make.TheVariants as make
-use Rattle.hd_model.specs.declared.data.Entry.{Entry}
 use Rattle.hd_model.specs.declared.data.Refusal.TheVariants as refusal
-use Rattle.hd_model.specs.declared.data.Reply.{Reply}
 use Rattle.hd_model.specs.declared.data.Reply.TheVariants as reply
-use Rattle.hd_model.specs.declared.command.Cmd.{Cmd}
 use Rattle.hd_model.specs.declared.command.Cmd.TheVariants as cmd
 use Rattle.hd_model.specs.State.{Numbers, State, Extra, Handle, strength, secondary_of, register_of, handle_register_of, board_of, handle_at}
-use Rattle.hd_model.specs.Command.{loaded, extra_of}
+use Rattle.hd_model.specs.Command.{loaded, made_extra}
 use Rattle.hd_model.specs.Touched.{touched_by, Untouched}
 use Rattle.hd_model.specs.Step.{Step}
 use Rattle.hd_model.specs.Run.{Chain, Run, SoloRun, part_of, commands_of}
@@ -299,7 +293,7 @@ pub data GivesSecondary (s : State) (e : Entry) (slot : Slot) : Option Id → Ty
   by_set : {h r : ℕ} → e.cmd ≡ cmd.HSec h r → handle_register_of s e.caller h ≡ Some slot
       → GivesSecondary s e slot (register_of s e.caller r)
   by_new : {d r t : ℕ} → e.cmd ≡ cmd.HNew d (make.Dependent r) t → e.slot ≡ Some slot
-      → GivesSecondary s e slot (secondary_of (extra_of s e.caller (make.Dependent r) t))
+      → GivesSecondary s e slot (secondary_of (made_extra s e.caller (make.Dependent r) t))
 
 -- after a done `hsec` or `hnew` and entries that neither write the secondary nor free the handle, `hdep`
 -- returns what was stored

@@ -1,5 +1,8 @@
+pub mod Data
 pub mod Kinds
+pub mod Indexed
 pub mod State
+pub mod Class
 pub mod Valid
 pub mod Touched
 pub mod Journal
@@ -20,11 +23,9 @@ pub mod Collect
 pub mod Ages
 pub mod Marking
 pub mod Names
-pub mod Moving
 pub mod InUse
 pub mod DueClumps
 pub mod CollectionLaws
-pub mod CollectionExamples
 pub mod CollectionSamples
 pub mod Heap
 pub mod Table
@@ -33,9 +34,7 @@ pub mod Code
 pub mod Grammar
 pub mod CommandText
 pub mod RootText
-pub mod RootExamples
 pub mod Laws
 pub mod UserLaws
 pub mod Constants
-pub mod StepExamples
 pub mod Generated

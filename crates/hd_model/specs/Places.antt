@@ -1,11 +1,10 @@
 -- The pinned addresses of the machine. `addr` returns one only for an object that a handle pins (.NET's
 -- GCHandle.AddrOfPinnedObject), and the object keeps it while a handle pins it.
-use Rattle.std.specs.Prelude.{◌≡◌, ℕ, ◌+◌, ◌<◌, ◌^◌, ◌==◌, ◌&&◌, Bool, false, Option, Some, None}
+use Rattle.std.specs.Prelude.{◌≡◌, ℕ, ◌+◌, ◌<◌, ◌^◌, ◌==◌, ◌&&◌, Bool, false, Option, Some, None, MatchOption}
 use Rattle.std.specs.List.{list_any}
-use Rattle.std.specs.Option.{MatchOption}
 use Rattle.std.specs.FinMap.{FinMap, get, values}
 use Rattle.std.specs.Ordering.{nat_cmp}
-use Rattle.hd_model.specs.declared.data.Id.{Id}
+use Rattle.hd_model.specs.Data.{Id}
 use Rattle.hd_model.specs.State.{Object, Handle, State, object_by_id, size_of}
 use Rattle.hd_model.specs.Role.{pins}
 

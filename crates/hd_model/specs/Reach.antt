@@ -16,8 +16,8 @@ pub record IsAttached {N : Type 0} (rows : Rows N) (x y : N) : Type 0 where
 
 -- an edge from x to y, along which a collection keeps y where it keeps x: a field of x references y, or a
 -- dependent handle attaches y to x (DependentHandle: the dependent lives while the target does)
-abbrev pub IsArrow : {N : Type 0} → Objects N → Rows N → N → N → Type 0
-IsArrow o rows x y = IsField o x y ⊎ IsAttached rows x y
+abbrev pub IsEdge : {N : Type 0} → Objects N → Rows N → N → N → Type 0
+IsEdge o rows x y = IsField o x y ⊎ IsAttached rows x y
 
 -- some handle that holds its target has the target x (GCHandleType.Normal and its kin)
 pub record IsHeld {N : Type 0} (rows : Rows N) (x : N) : Type 0 where
@@ -46,7 +46,7 @@ pub data IsRoot {N : Type 0} (s : Scene N) (n : ℕ) (x : N) : Type 0 where
 
 -- a chain of edges leads to x from a root
 abbrev pub IsReached : {N : Type 0} → Scene N → ℕ → N → Type 0
-IsReached {N} s n x = (r : N) × (IsRoot s n r × Leads (IsArrow s.object s.handle) r x)
+IsReached {N} s n x = (r : N) × (IsRoot s n r × Leads (IsEdge s.object s.handle) r x)
 
 -- x is resurrected: it is registered for finalization, condemned and not reached (.NET makes such an object
 -- reachable again, to be finalized)
@@ -59,4 +59,4 @@ pub record IsRevived {N : Type 0} (s : Scene N) (n : ℕ) (x : N) : Type 0 where
 
 -- a chain of edges leads to x from what is reached or resurrected
 abbrev pub IsKept : {N : Type 0} → Scene N → ℕ → N → Type 0
-IsKept {N} s n x = (r : N) × ((IsReached s n r ⊎ IsRevived s n r) × Leads (IsArrow s.object s.handle) r x)
+IsKept {N} s n x = (r : N) × ((IsReached s n r ⊎ IsRevived s n r) × Leads (IsEdge s.object s.handle) r x)

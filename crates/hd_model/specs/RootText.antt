@@ -1,11 +1,7 @@
 -- The roots among handles, and their lines, as bytes. The lines are this project's own format.
-use Rattle.std.specs.Prelude.{ℕ, List, ◌++◌, length, flat_map, codes, decimal, Option, None, option_map}
-use Rattle.std.specs.Option.{option_to_list}
+use Rattle.std.specs.Prelude.{ℕ, List, ◌++◌, length, flat_map, codes, decimal, Option, None, option_map, option_to_list}
 use Rattle.std.specs.FinMap.{entries}
-use Rattle.hd_model.specs.declared.data.Id.{Id}
-use Rattle.hd_model.specs.declared.data.Slot.{Slot}
-use Rattle.hd_model.specs.declared.data.Kind.{Kind}
-use Rattle.hd_model.specs.declared.data.RootId.{RootId}
+use Rattle.hd_model.specs.Data.{Id, Slot, Kind, RootId}
 use Rattle.hd_model.specs.State.{Handle, State}
 use Rattle.hd_model.specs.Role.{Role, holds, short, long, attaches, role}
 use Rattle.hd_model.specs.CommandText.{kind_name}

@@ -1,12 +1,10 @@
 -- Journals as runs of the machine.
 use Rattle.std.specs.Prelude.{◌≡◌, ℕ, ◌≤◌, ◌⊎◌, ◌==◌, List, [], ◌∷◌, Some, filter, map}
 use Rattle.std.specs.List.Sorted.{IsNonDecreasingBy}
-use Rattle.hd_model.specs.declared.data.Entry.{Entry}
+use Rattle.hd_model.specs.Data.{Entry, Kind, Slot, Cmd, Class}
 use Rattle.hd_model.specs.declared.data.Grown.TheVariants.{Zero, Back}
-use Rattle.hd_model.specs.declared.data.Kind.{Kind}
-use Rattle.hd_model.specs.declared.data.Slot.{Slot}
-use Rattle.hd_model.specs.declared.command.Cmd.{Cmd}
-use Rattle.hd_model.specs.declared.command.Cmd.TheVariants as cmd
+use Rattle.hd_model.specs.declared.class.Class.TheVariants as class
+use Rattle.hd_model.specs.Class.{class_of}
 use Rattle.hd_model.specs.State.{Numbers, State, start_of, IsFree, IsAllFree}
 use Rattle.hd_model.specs.Kinds.{kind_of}
 use Rattle.hd_model.specs.Step.{Step}
@@ -51,34 +49,19 @@ GivesBackLeast s e kind =
     ((block : ℕ) × IsLeastAllFree s kind block × (e.grown ≡ Back block)) ⊎ NoneAllFree s kind
 
 -- what the one thread of a solo run chooses, where a step leaves a choice
+abbrev pub ChoosesLeast : State → Entry → Class → Type 0
+ChoosesLeast s e (class.MakesObject fields) = Unit {0}
+ChoosesLeast s e (class.TakesSlot make t) = GivesLeast s e (kind_of make)
+ChoosesLeast s e (class.StoresTarget h t) = Unit {0}
+ChoosesLeast s e (class.StoresSecondary h) = Unit {0}
+ChoosesLeast s e class.Frees = Unit {0}
+ChoosesLeast s e (class.GivesBack kind) = GivesBackLeast s e kind
+ChoosesLeast s e (class.Collects n) = Unit {0}
+ChoosesLeast s e (class.AnswersPlace h) = Unit {0}
+ChoosesLeast s e class.Plain = Unit {0}
+
 abbrev pub TakesLeast : State → Entry → Cmd → Type 0
-TakesLeast s e (cmd.HNew d make t) = GivesLeast s e (kind_of make)
-TakesLeast s e (cmd.Trim kind) = GivesBackLeast s e kind
-TakesLeast s e (cmd.New d fields fin) = Unit {0}
-TakesLeast s e (cmd.Set o i v) = Unit {0}
-TakesLeast s e (cmd.Get d o i) = Unit {0}
-TakesLeast s e (cmd.Val o v) = Unit {0}
-TakesLeast s e (cmd.Read o) = Unit {0}
-TakesLeast s e (cmd.Copy d r) = Unit {0}
-TakesLeast s e (cmd.Clear d) = Unit {0}
-TakesLeast s e (cmd.SPut k r) = Unit {0}
-TakesLeast s e (cmd.SGet d k) = Unit {0}
-TakesLeast s e (cmd.Gen o) = Unit {0}
-TakesLeast s e (cmd.Suppress o) = Unit {0}
-TakesLeast s e (cmd.Reregister o) = Unit {0}
-TakesLeast s e (cmd.Final d) = Unit {0}
-TakesLeast s e (cmd.Collect n) = Unit {0}
-TakesLeast s e (cmd.HGet d h) = Unit {0}
-TakesLeast s e (cmd.HSet h t) = Unit {0}
-TakesLeast s e (cmd.HSec h r) = Unit {0}
-TakesLeast s e (cmd.HDep d h) = Unit {0}
-TakesLeast s e (cmd.HVar h given) = Unit {0}
-TakesLeast s e (cmd.HFree h) = Unit {0}
-TakesLeast s e (cmd.HPut k h) = Unit {0}
-TakesLeast s e (cmd.HPick d k) = Unit {0}
-TakesLeast s e (cmd.AddrOf h) = Unit {0}
-TakesLeast s e (cmd.HUp h) = Unit {0}
-TakesLeast s e (cmd.HDown h) = Unit {0}
+TakesLeast s e c = ChoosesLeast s e (class_of c)
 
 -- a step of one thread
 pub record SoloStep (n : Numbers) (old : State) (e : Entry) (new : State) : Type 0 where

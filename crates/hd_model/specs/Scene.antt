@@ -3,7 +3,7 @@
 -- written once for both.
 use Rattle.std.specs.Prelude.{◌≡◌, ℕ, ◌≤◌, Bool, true, List, [], ◌++◌, ◌∷◌, Option, Some, None, is_some, option_map, map, Contains}
 use Rattle.std.specs.FinMap.{get}
-use Rattle.hd_model.specs.declared.data.Id.{Id}
+use Rattle.hd_model.specs.Data.{Id}
 use Rattle.hd_model.specs.Role.{attaches, role}
 use Rattle.hd_model.specs.State.{Object, Handle, State, secondary_of, rename_object, rename_handle}
 

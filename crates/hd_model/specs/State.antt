@@ -3,10 +3,7 @@
 use Rattle.std.specs.Prelude.{◌≡◌, ℕ, ◌+◌, ◌*◌, ◌/◌, ◌^◌, Bool, false, List, [], replicate, length, sum_by, slice_index, slice_index_or, slice_set, Option, Some, None, unwrap_or, option_map, map}
 use Rattle.std.specs.FinMap.{FinMap, get, insert, remove, empty, values, len}
 use Rattle.std.specs.Ordering.{nat_cmp}
-use Rattle.hd_model.specs.declared.data.Id.{Id}
-use Rattle.hd_model.specs.declared.data.Slot.{Slot}
-use Rattle.hd_model.specs.declared.data.Kind.{Kind}
-use Rattle.hd_model.specs.declared.data.Strength.{Strength}
+use Rattle.hd_model.specs.Data.{Id, Slot, Kind, Strength}
 use Rattle.hd_model.specs.declared.limits.TheConstants.{HEADER, REGISTERS, ROWS}
 
 -- the numbers of a run, which no command changes: the limit of the heap in cells, the blocks and the callers
@@ -45,6 +42,13 @@ secondary_of nothing = None
 secondary_of (strength _) = None
 secondary_of (secondary o) = o
 secondary_of (count _) = None
+
+-- the strength of an extra
+abbrev pub strength_in : {N : Type 0} → Extra N → Option Strength
+strength_in nothing = None
+strength_in (strength given) = Some given
+strength_in (secondary _) = None
+strength_in (count _) = None
 
 -- the count of an extra
 abbrev pub count_of : {N : Type 0} → Extra N → ℕ

@@ -1,18 +1,11 @@
 -- One step of the machine: from one state, an entry of the journal leads to another. The state and the
 -- command decide it, but for the slot and the blocks of a new handle, the address that `addr` returns, and
 -- whether `trim` gives a block back.
-use Rattle.std.specs.Prelude.{◌≡◌, ℕ, ◌+◌, ◌<◌, ◌≤◌, ◌^◌, ◌⊎◌, true, false, cond, Option, Some, None, IsSome, option_and_then}
-use Rattle.hd_model.specs.declared.data.Id.{Id}
-use Rattle.hd_model.specs.declared.data.Entry.{Entry}
-use Rattle.hd_model.specs.declared.data.Report.{Report}
-use Rattle.hd_model.specs.declared.data.Slot.{Slot}
-use Rattle.hd_model.specs.declared.data.Kind.{Kind}
-use Rattle.hd_model.specs.declared.data.Make.{Make}
-use Rattle.hd_model.specs.declared.data.Grown.{Grown}
+use Rattle.std.specs.Prelude.{◌≡◌, ℕ, ◌+◌, ◌<◌, ◌≤◌, ◌^◌, ◌⊎◌, Bool, true, false, cond, Option, Some, None, IsSome, option_and_then}
+use Rattle.hd_model.specs.Data.{Id, Entry, Report, Slot, Kind, Make, Grown, Cmd}
 use Rattle.hd_model.specs.declared.data.Grown.TheVariants.{Zero, One, Two, Back}
 use Rattle.hd_model.specs.declared.data.Refusal.TheVariants as refusal
 use Rattle.hd_model.specs.declared.data.Reply.TheVariants as reply
-use Rattle.hd_model.specs.declared.command.Cmd.{Cmd}
 use Rattle.hd_model.specs.declared.command.Cmd.TheVariants as cmd
 use Rattle.hd_model.specs.Kinds.{kind_of, is_paired}
 use Rattle.hd_model.specs.Valid.{IsValid}
@@ -20,8 +13,7 @@ use Rattle.hd_model.specs.State.{Numbers, Handle, State, handles_of, extra_data,
 use Rattle.hd_model.specs.Role.{pins}
 use Rattle.hd_model.specs.Places.{MayAnswer}
 use Rattle.hd_model.specs.Collect.{CollectsState}
-use Rattle.hd_model.specs.Command.{Outcome, answers, refuses, made_handle, new_object, set_field, get_field, set_value, read_value, copy_register, clear_register, put_static, get_static}
-use Rattle.hd_model.specs.Command.{read_generation, set_registered, take_queued, get_target, set_target, set_secondary, get_secondary, set_strength, raise_count, lower_count, free_handle, put_board, pick_board, answer_place}
+use Rattle.hd_model.specs.Command.{Outcome, answers, refuses, made_handle, new_object, set_field, get_field, set_value, read_value, copy_register, clear_register, put_static, get_static, read_generation, set_registered, take_queued, get_target, set_target, set_secondary, get_secondary, set_strength, raise_count, lower_count, free_handle, put_board, pick_board, answer_place}
 
 -- an entry of a command that the state decides: its reply and slot are those of the outcome, and the blocks
 -- stay
@@ -113,38 +105,60 @@ pub record GivesBack (old : State) (e : Entry) (new : State) (kind : Kind) : Typ
   pub grown : e.grown ≡ Back block
   pub after : new ≡ without_use old block
 
--- what the step of each command does. A caller makes at most 2^32 - 1 objects, so a `new` beyond them is no
--- step.
-abbrev pub StepOf : Numbers → State → Entry → State → Cmd → Type 0
-StepOf n old e new (cmd.New d fields fin) =
+-- how a command goes: the state alone decides its outcome, or it is one of five with a premise or a choice
+pub data Way : Type 0 where
+  decided : Outcome → Way
+  makes_object : (d fields : ℕ) (fin : Bool) → Way
+  makes_handle : (d : ℕ) (make : Make) (t : ℕ) → Way
+  collects : (n : ℕ) → Way
+  answers_place : (h : ℕ) → Way
+  gives_back : (kind : Kind) → Way
+
+-- the way of each command of a caller
+abbrev pub way_of : State → ℕ → Cmd → Way
+way_of s caller (cmd.New d fields fin) = makes_object d fields fin
+way_of s caller (cmd.Set o i v) = decided (set_field s caller o i v)
+way_of s caller (cmd.Get d o i) = decided (get_field s caller d o i)
+way_of s caller (cmd.Val o v) = decided (set_value s caller o v)
+way_of s caller (cmd.Read o) = decided (read_value s caller o)
+way_of s caller (cmd.Copy d r) = decided (copy_register s caller d r)
+way_of s caller (cmd.Clear d) = decided (clear_register s caller d)
+way_of s caller (cmd.SPut k r) = decided (put_static s caller k r)
+way_of s caller (cmd.SGet d k) = decided (get_static s caller d k)
+way_of s caller (cmd.Gen o) = decided (read_generation s caller o)
+way_of s caller (cmd.Suppress o) = decided (set_registered s caller o false)
+way_of s caller (cmd.Reregister o) = decided (set_registered s caller o true)
+way_of s caller (cmd.Final d) = decided (take_queued s caller d)
+way_of s caller (cmd.Collect k) = collects k
+way_of s caller (cmd.HNew d make t) = makes_handle d make t
+way_of s caller (cmd.HGet d h) = decided (get_target s caller d h)
+way_of s caller (cmd.HSet h t) = decided (set_target s caller h t)
+way_of s caller (cmd.HSec h r) = decided (set_secondary s caller h r)
+way_of s caller (cmd.HDep d h) = decided (get_secondary s caller d h)
+way_of s caller (cmd.HVar h given) = decided (set_strength s caller h given)
+way_of s caller (cmd.HFree h) = decided (free_handle s caller h)
+way_of s caller (cmd.HPut k h) = decided (put_board s caller k h)
+way_of s caller (cmd.HPick d k) = decided (pick_board s caller d k)
+way_of s caller (cmd.AddrOf h) = answers_place h
+way_of s caller (cmd.HUp h) = decided (raise_count s caller h)
+way_of s caller (cmd.HDown h) = decided (lower_count s caller h)
+way_of s caller (cmd.Trim kind) = gives_back kind
+
+-- what a step does by its way. A caller makes at most 2^32 - 1 objects, so a `new` beyond them is no step.
+abbrev pub TakesWay : Numbers → State → Entry → State → Way → Type 0
+TakesWay n old e new (decided outcome) = IsOutcome e outcome new
+TakesWay n old e new (makes_object d fields fin) =
     (last_serial old e.caller + 1 < 2 ^ 32) × IsOutcome e (new_object n old e.caller d fields fin) new
-StepOf n old e new (cmd.Set o i v) = IsOutcome e (set_field old e.caller o i v) new
-StepOf n old e new (cmd.Get d o i) = IsOutcome e (get_field old e.caller d o i) new
-StepOf n old e new (cmd.Val o v) = IsOutcome e (set_value old e.caller o v) new
-StepOf n old e new (cmd.Read o) = IsOutcome e (read_value old e.caller o) new
-StepOf n old e new (cmd.Copy d r) = IsOutcome e (copy_register old e.caller d r) new
-StepOf n old e new (cmd.Clear d) = IsOutcome e (clear_register old e.caller d) new
-StepOf n old e new (cmd.SPut k r) = IsOutcome e (put_static old e.caller k r) new
-StepOf n old e new (cmd.SGet d k) = IsOutcome e (get_static old e.caller d k) new
-StepOf n old e new (cmd.Gen o) = IsOutcome e (read_generation old e.caller o) new
-StepOf n old e new (cmd.Suppress o) = IsOutcome e (set_registered old e.caller o false) new
-StepOf n old e new (cmd.Reregister o) = IsOutcome e (set_registered old e.caller o true) new
-StepOf n old e new (cmd.Final d) = IsOutcome e (take_queued old e.caller d) new
-StepOf n old e new (cmd.Collect k) = DoesCollect old e new k
-StepOf n old e new (cmd.HNew d make t) =
+TakesWay n old e new (makes_handle d make t) =
     MakesHandle n old e new d make t ⊎ FindsTableFull n old e new (kind_of make)
-StepOf n old e new (cmd.HGet d h) = IsOutcome e (get_target old e.caller d h) new
-StepOf n old e new (cmd.HSet h t) = IsOutcome e (set_target old e.caller h t) new
-StepOf n old e new (cmd.HSec h r) = IsOutcome e (set_secondary old e.caller h r) new
-StepOf n old e new (cmd.HDep d h) = IsOutcome e (get_secondary old e.caller d h) new
-StepOf n old e new (cmd.HVar h given) = IsOutcome e (set_strength old e.caller h given) new
-StepOf n old e new (cmd.HFree h) = IsOutcome e (free_handle old e.caller h) new
-StepOf n old e new (cmd.HPut k h) = IsOutcome e (put_board old e.caller k h) new
-StepOf n old e new (cmd.HPick d k) = IsOutcome e (pick_board old e.caller d k) new
-StepOf n old e new (cmd.AddrOf h) = AnswersPlace old e new h
-StepOf n old e new (cmd.HUp h) = IsOutcome e (raise_count old e.caller h) new
-StepOf n old e new (cmd.HDown h) = IsOutcome e (lower_count old e.caller h) new
-StepOf n old e new (cmd.Trim kind) = GivesBack old e new kind ⊎ IsOutcome e (answers (reply.Value 0) old) new
+TakesWay n old e new (collects k) = DoesCollect old e new k
+TakesWay n old e new (answers_place h) = AnswersPlace old e new h
+TakesWay n old e new (gives_back kind) =
+    GivesBack old e new kind ⊎ IsOutcome e (answers (reply.Value 0) old) new
+
+-- what the step of each command does
+abbrev pub StepOf : Numbers → State → Entry → State → Cmd → Type 0
+StepOf n old e new c = TakesWay n old e new (way_of old e.caller c)
 
 -- a step: its caller is one of the run, its command is one that a script can have, and it does what that
 -- command does

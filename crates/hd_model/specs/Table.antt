@@ -4,10 +4,8 @@
 use Rattle.std.specs.Prelude.{◌≡◌, ◌≢◌, ◌↔◌, ℕ, ◌+◌, ◌*◌, ◌/◌, ◌<◌, ◌≤◌, ◌==◌, not, Bool, true, false, List, [], ◌∷◌, ◌++◌, length, replicate, filter, slice_index_or, slice_set, Option, Some, None, IsSome, unwrap_or, Contains, AllPairs}
 use Rattle.std.specs.FinMap.{FinMap, get, insert, remove, empty, len}
 use Rattle.std.specs.Ordering.{nat_cmp}
-use Rattle.hd_model.specs.declared.data.Addr.{Addr}
-use Rattle.hd_model.specs.declared.data.Kind.{Kind}
+use Rattle.hd_model.specs.Data.{Addr, Kind, Grown}
 use Rattle.hd_model.specs.declared.data.Kind.TheVariants as kind
-use Rattle.hd_model.specs.declared.data.Grown.{Grown}
 use Rattle.hd_model.specs.declared.data.Grown.TheVariants.{Zero, One, Two, Back}
 use Rattle.hd_model.specs.declared.limits.TheConstants.{BLOCKS, KINDS, ROWS}
 use Rattle.hd_model.specs.State.{Extra, nothing, strength, secondary, count, Handle, BlockUse, handles_of, extra_data}

@@ -1,15 +1,10 @@
 -- The texts of replies, entries and whole journals, as bytes. They are this project's own format.
-use Rattle.std.specs.Prelude.{ℕ, ◌+◌, ◌/◌, ◌%◌, ◌^◌, ◌==◌, List, [], ◌∷◌, ◌++◌, codes, decimal, count_by, Bool, true, false}
+use Rattle.std.specs.Prelude.{ℕ, ◌+◌, ◌/◌, ◌%◌, ◌^◌, ◌==◌, List, [], ◌∷◌, ◌++◌, codes, decimal, count_by, Bool}
 use Rattle.std.specs.FinMap.{len}
-use Rattle.hd_model.specs.declared.data.Id.{Id}
-use Rattle.hd_model.specs.declared.data.Report.{Report as CollectionReport}
-use Rattle.hd_model.specs.declared.data.Entry.{Entry}
-use Rattle.hd_model.specs.declared.data.Refusal.{Refusal}
+use Rattle.hd_model.specs.Data.{Id, Report as CollectionReport, Entry, Refusal, Reply, Cmd}
 use Rattle.hd_model.specs.declared.data.Refusal.TheVariants.{Null, BadField, HeapFull, TableFull, NotLive, WrongKind, EmptyRegister, CountZero}
-use Rattle.hd_model.specs.declared.data.Reply.{Reply}
 use Rattle.hd_model.specs.declared.data.Reply.TheVariants.{Done, Object, Nothing, Value, Generation, Place, Report, NoneQueued, Refused}
-use Rattle.hd_model.specs.declared.command.Cmd.{Cmd}
-use Rattle.hd_model.specs.declared.command.Cmd.TheVariants as cmd
+use Rattle.hd_model.specs.Class.{class_of, class_collects}
 use Rattle.hd_model.specs.State.{State}
 
 -- a refusal in one word, with its numbers
@@ -74,33 +69,7 @@ end_text handles objects collections =
 
 -- whether a command is a collection
 abbrev pub is_collect : Cmd → Bool
-is_collect (cmd.New d fields fin) = false
-is_collect (cmd.Set o i v) = false
-is_collect (cmd.Get d o i) = false
-is_collect (cmd.Val o v) = false
-is_collect (cmd.Read o) = false
-is_collect (cmd.Copy d r) = false
-is_collect (cmd.Clear d) = false
-is_collect (cmd.SPut k r) = false
-is_collect (cmd.SGet d k) = false
-is_collect (cmd.Gen o) = false
-is_collect (cmd.Suppress o) = false
-is_collect (cmd.Reregister o) = false
-is_collect (cmd.Final d) = false
-is_collect (cmd.Collect n) = true
-is_collect (cmd.HNew d make t) = false
-is_collect (cmd.HGet d h) = false
-is_collect (cmd.HSet h t) = false
-is_collect (cmd.HSec h r) = false
-is_collect (cmd.HDep d h) = false
-is_collect (cmd.HVar h given) = false
-is_collect (cmd.HFree h) = false
-is_collect (cmd.HPut k h) = false
-is_collect (cmd.HPick d k) = false
-is_collect (cmd.AddrOf h) = false
-is_collect (cmd.HUp h) = false
-is_collect (cmd.HDown h) = false
-is_collect (cmd.Trim kind) = false
+is_collect c = class_collects (class_of c)
 
 -- the number of collections of a journal
 abbrev pub collections_of : List Entry → ℕ

@@ -1,21 +1,14 @@
 -- Which commands a script can have, and which the machine has.
-use Rattle.std.specs.Prelude.{◌≡◌, ◌<◌, ◌≤◌, ◌^◌, Bool, true, false}
-use Rattle.hd_model.specs.declared.data.Make.{Make}
-use Rattle.hd_model.specs.declared.data.Make.TheVariants as make
-use Rattle.hd_model.specs.Kinds.{is_paired}
+use Rattle.std.specs.Prelude.{◌≡◌, ◌<◌, ◌≤◌, ◌^◌, Bool, false, IfSome}
+use Rattle.hd_model.specs.Data.{Make, Cmd}
+use Rattle.hd_model.specs.Kinds.{is_paired, secondary_register}
+use Rattle.hd_model.specs.Class.{class_of, class_takes_memory}
 use Rattle.hd_model.specs.declared.limits.TheConstants.{REGISTERS, FIELDS, OLDEST}
-use Rattle.hd_model.specs.declared.command.Cmd.{Cmd}
 use Rattle.hd_model.specs.declared.command.Cmd.TheVariants as cmd
 
 -- the register of a dependent handle's secondary is one of the 16
 abbrev pub IsValidMake : Make → Type 0
-IsValidMake make.Short = Unit {0}
-IsValidMake make.Long = Unit {0}
-IsValidMake make.Strong = Unit {0}
-IsValidMake make.Pinned = Unit {0}
-IsValidMake (make.Variable strength) = Unit {0}
-IsValidMake make.Counted = Unit {0}
-IsValidMake (make.Dependent s) = s < REGISTERS
+IsValidMake make = IfSome (secondary_register make) (λ r. r < REGISTERS)
 
 -- registers, statics and board indexes are below 16, fields at most 61, a generation at most 2, numbers below
 -- the end of their type, and the kind of a `trim` has no extra data
@@ -50,30 +43,4 @@ IsValid (cmd.Trim kind) = is_paired kind ≡ false
 
 -- the commands that may take memory: an object is made, or a collection moves objects
 abbrev pub takes_memory : Cmd → Bool
-takes_memory (cmd.New d fields fin) = true
-takes_memory (cmd.Set o i v) = false
-takes_memory (cmd.Get d o i) = false
-takes_memory (cmd.Val o v) = false
-takes_memory (cmd.Read o) = false
-takes_memory (cmd.Copy d r) = false
-takes_memory (cmd.Clear d) = false
-takes_memory (cmd.SPut k r) = false
-takes_memory (cmd.SGet d k) = false
-takes_memory (cmd.Gen o) = false
-takes_memory (cmd.Suppress o) = false
-takes_memory (cmd.Reregister o) = false
-takes_memory (cmd.Final d) = false
-takes_memory (cmd.Collect n) = true
-takes_memory (cmd.HNew d make t) = false
-takes_memory (cmd.HGet d h) = false
-takes_memory (cmd.HSet h t) = false
-takes_memory (cmd.HSec h r) = false
-takes_memory (cmd.HDep d h) = false
-takes_memory (cmd.HVar h given) = false
-takes_memory (cmd.HFree h) = false
-takes_memory (cmd.HPut k h) = false
-takes_memory (cmd.HPick d k) = false
-takes_memory (cmd.AddrOf h) = false
-takes_memory (cmd.HUp h) = false
-takes_memory (cmd.HDown h) = false
-takes_memory (cmd.Trim kind) = false
+takes_memory c = class_takes_memory (class_of c)

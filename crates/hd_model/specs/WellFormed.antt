@@ -1,8 +1,7 @@
 -- What is true of every state that a run reaches.
 use Rattle.std.specs.Prelude.{◌≡◌, ◌≢◌, ℕ, ◌<◌, ◌≤◌, ◌/◌, ◌%◌, ◌^◌, false, [], length, slice_index_or, Option, Some, None, IsSome, IfSome, Contains, AllPairs}
 use Rattle.std.specs.FinMap.{get}
-use Rattle.hd_model.specs.declared.data.Id.{Id}
-use Rattle.hd_model.specs.declared.data.Kind.{Kind}
+use Rattle.hd_model.specs.Data.{Id, Kind}
 use Rattle.hd_model.specs.declared.data.Kind.TheVariants as kind
 use Rattle.hd_model.specs.declared.limits.TheConstants.{REGISTERS, FIELDS, OLDEST, ROWS}
 use Rattle.hd_model.specs.Kinds.{is_paired}

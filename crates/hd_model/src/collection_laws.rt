@@ -59,6 +59,7 @@ pub fn readings_keep_what_is_kept()
 {}
 
 /// Ages stay sound where a store in a slot lowers the age of its clump.
+#[tactic(auto, using(crate::proofs::CollectionLaws::lowered_ages_are_sound))]
 pub fn lowered_ages_are_sound()
     ensures { LoweredAgesAreSound }
 {}
@@ -81,6 +82,7 @@ pub fn in_use_is_left_alone()
 
 /// What a collection reaches is exactly what is in use: what a chain of edges leads to from a
 /// register, a static, the queue, a handle that holds, or an older object.
+#[tactic(auto, using(crate::proofs::Fates::in_use_is_reached))]
 pub fn in_use_is_reached()
     ensures { InUseIsReached }
 {}
@@ -104,6 +106,7 @@ pub fn objects_are_resurrected_once()
 {}
 
 /// A collection leaves what was queued in its order, and appends in rising identity.
+#[tactic(auto, using(crate::proofs::Fates::queue_grows_in_turn))]
 pub fn queue_grows_in_turn()
     ensures { QueueGrowsInTurn }
 {}
@@ -131,6 +134,7 @@ pub fn secondaries_follow_targets()
 {}
 
 /// A dependent handle never brings its target into use.
+#[tactic(auto, using(crate::proofs::DependentTargets::dependents_use_no_target))]
 pub fn dependents_use_no_target()
     ensures { DependentsUseNoTarget }
 {}
@@ -147,12 +151,14 @@ pub fn ages_hide_nothing()
 {}
 
 /// From every well formed state, for each n, a collection leads to a state, with a report.
+#[tactic(auto, using(crate::proofs::NextState::collections_exist))]
 pub fn collections_exist()
     ensures { CollectionsExist }
 {}
 
 /// The premises of the laws of what is in use, what is removed and what is resurrected, of weak and
 /// dependent handles and of due clumps are met in well formed states.
+#[tactic(auto, using(crate::proofs::CollectionSamples::premises_are_met))]
 pub fn premises_are_met()
     ensures { PremisesAreMet }
 {}

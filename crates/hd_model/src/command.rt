@@ -1,6 +1,8 @@
-ghost use Rattle.std.specs.Prelude.{◌≡◌, ◌↔◌, IsTrue};
+ghost use Rattle.std.specs.Prelude.{◌≡◌};
+ghost use Rattle.hd_model.specs.Class.{class_of};
 ghost use Rattle.hd_model.specs.Valid.{takes_memory};
 
+use crate::class::Class;
 use crate::data::{Kind, Make, Strength};
 
 /// A command of a script. The registers and board indexes of a valid one are below 16, its number
@@ -66,10 +68,46 @@ pub enum Cmd {
 }
 
 impl Cmd {
+    /// What the command does, as far as memory, slots, ages, addresses and collections are
+    /// concerned.
+    pub fn class(self) -> Class
+        ensures { result ≡ class_of self }
+    {
+        match self {
+            Cmd::New { fields, .. } => Class::MakesObject(fields),
+            Cmd::HNew { make, t, .. } => Class::TakesSlot { make, t },
+            Cmd::HSet { s, t } => Class::StoresTarget { h: s, t },
+            Cmd::HSec { h, .. } => Class::StoresSecondary { h },
+            Cmd::HFree { .. } => Class::Frees,
+            Cmd::Trim { kind } => Class::GivesBack(kind),
+            Cmd::Collect { n } => Class::Collects(n),
+            Cmd::AddrOf { s } => Class::AnswersPlace { h: s },
+            Cmd::Set { .. }
+            | Cmd::Get { .. }
+            | Cmd::Val { .. }
+            | Cmd::Read { .. }
+            | Cmd::Copy { .. }
+            | Cmd::Clear { .. }
+            | Cmd::SPut { .. }
+            | Cmd::SGet { .. }
+            | Cmd::Gen { .. }
+            | Cmd::Suppress { .. }
+            | Cmd::Reregister { .. }
+            | Cmd::Final { .. }
+            | Cmd::HGet { .. }
+            | Cmd::HDep { .. }
+            | Cmd::HVar { .. }
+            | Cmd::HPut { .. }
+            | Cmd::HPick { .. }
+            | Cmd::HUp { .. }
+            | Cmd::HDown { .. } => Class::Plain,
+        }
+    }
+
     /// Whether the command may take memory: to make an object, or to collect.
     pub fn takes_memory(&self) -> bool
         ensures { result ≡ takes_memory self.now }
     {
-        matches!(self, Cmd::New { .. } | Cmd::Collect { .. })
+        matches!(self.class(), Class::MakesObject(_) | Class::Collects(_))
     }
 }

@@ -52,6 +52,17 @@ pub enum Kind {
 }
 
 impl Kind {
+    /// All kinds, by their numbers.
+    pub const ALL: [Kind; 7] = [
+        Kind::Short,
+        Kind::Long,
+        Kind::Strong,
+        Kind::Pinned,
+        Kind::Variable,
+        Kind::Counted,
+        Kind::Dependent,
+    ];
+
     /// The number of the kind. The words and cells of the custody table, and the chains of blocks,
     /// are in this order.
     pub fn number(self) -> u32

@@ -51,6 +51,7 @@ pub fn handles_are_made_less_freed()
 {}
 
 /// The objects are those that were made, less those that collections removed.
+#[tactic(auto, using(crate::proofs::RunCounts::objects_are_made_less_removed))]
 pub fn objects_are_made_less_removed()
     ensures { ObjectsAreMadeLessRemoved }
 {}
@@ -82,7 +83,7 @@ pub fn static_is_read_back()
     ensures { StaticIsReadBack }
 {}
 
-/// What `hput` stores at a board index, `hpick` gets until another `hput` at that index, by
+/// What `hput` stores at a board index is got from it until another `hput` at that index, by
 /// whatever caller.
 pub fn board_is_read_back()
     ensures { BoardIsReadBack }
@@ -161,6 +162,7 @@ pub fn pinned_place_is_read_back()
 {}
 
 /// `final` returns the first object of the queue and leaves the rest in order.
+#[tactic(auto, using(crate::proofs::QueueTurns::final_takes_the_first))]
 pub fn final_takes_the_first()
     ensures { FinalTakesTheFirst }
 {}
@@ -172,6 +174,7 @@ pub fn queue_is_left()
 
 /// First in, first out: what `final` returns and then what is still queued is what was queued and
 /// then what joined.
+#[tactic(auto, using(crate::proofs::QueueTurns::queue_goes_in_turn))]
 pub fn queue_goes_in_turn()
     ensures { QueueGoesInTurn }
 {}
@@ -182,6 +185,7 @@ pub fn generation_is_read_back()
 {}
 
 /// `gen` returns the generation of the object.
+#[tactic(auto, using(crate::proofs::ObjectReadBack::gen_returns_the_generation))]
 pub fn gen_returns_the_generation()
     ensures { GenReturnsTheGeneration }
 {}
@@ -210,6 +214,7 @@ pub fn new_is_refused_where_full()
 /// From a well formed state every valid command of a known caller has a step: a `new` while the
 /// caller has serials left, and an `addr` of an object without a pinned address where a free one
 /// exists.
+#[tactic(auto, using(crate::proofs::StepExistence::every_command_has_a_step))]
 pub fn every_command_has_a_step()
     ensures { EveryCommandHasAStep }
 {}

@@ -1,6 +1,7 @@
 //! The plain data of the handle table, and the definitions that the crates above cite.
 #![tactic(auto)]
 
+mod class;
 mod collection_laws;
 mod command;
 mod data;
@@ -14,6 +15,7 @@ mod steps;
 #[cfg(test)]
 mod tests;
 
+pub use class::Class;
 pub use collection_laws::{
     ages_hide_nothing, ages_of_runs_are_sound, collections_exist, collections_keep_well_formed,
     dependents_keep_no_target, dependents_use_no_target, finalization_parts_weak_handles,

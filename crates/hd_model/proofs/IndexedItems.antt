@@ -1,0 +1,69 @@
+-- A list of items, some of which are present, read as a map by index.
+use Rattle.std.proofs.Common.{◌≡◌, ℕ, zero, suc, ◌+◌, ◌<◌, List, [], ◌∷◌, length, replicate, get_or, set, Option, Some, None, refl, sym, ◌∙◌, arith}
+use Rattle.std.specs.FinMap.{get, insert, remove, empty, find, get-from_entries, get-empty, same_map, nat_cmp-IsAntisymmetric}
+use Rattle.std.specs.Ordering.{nat_cmp}
+use Rattle.std.specs.Cmp.{nat_cmp_total}
+use Rattle.std.proofs.lemmas.List.{get_or-set_same, get_or-set_other}
+use Rattle.hd_model.proofs.Entries.{found_first, found_later}
+use Rattle.hd_model.proofs.ReadAfterWrite.{insert_cases, remove_cases}
+use Rattle.hd_model.specs.Indexed.{numbered, by_place}
+
+pub find-numbered_below : {A : Type 0} (i q : ℕ) (xs : List (Option A)) → q < i → find nat_cmp q
+    (numbered i xs) ≡ None
+find-numbered_below i q [] below = refl
+find-numbered_below i q (None ∷ xs) below = find-numbered_below (i + 1) q xs (omega arith)
+find-numbered_below i q (Some x ∷ xs) below =
+    found_later q i (Some x) (find nat_cmp q (numbered (i + 1) xs)) (λ same. omega arith) ∙
+    find-numbered_below (i + 1) q xs (omega arith)
+
+pub find-numbered : {A : Type 0} (i j q : ℕ) (xs : List (Option A)) → q ≡ i + j → find nat_cmp q
+    (numbered i xs) ≡ get_or xs j None
+find-numbered i j q [] at = refl
+find-numbered i zero q (None ∷ xs) at = find-numbered_below (i + 1) q xs (omega arith)
+find-numbered i (suc j) q (None ∷ xs) at = find-numbered (i + 1) j q xs (omega arith)
+find-numbered i zero q (Some x ∷ xs) at = found_first q i x (find nat_cmp q (numbered (i + 1) xs))
+    (omega arith)
+find-numbered i (suc j) q (Some x ∷ xs) at =
+    found_later q i (Some x) (find nat_cmp q (numbered (i + 1) xs)) (λ same. omega arith) ∙ find-numbered
+    (i + 1) j q xs (omega arith)
+
+-- a read by index
+pub get-by_place : {A : Type 0} (xs : List (Option A)) (k : ℕ) → get (by_place xs) k ≡ get_or xs k None
+get-by_place xs k = get-from_entries nat_cmp_total (numbered 0 xs) k ∙ find-numbered 0 k k xs (omega arith)
+
+-- to write an item at an index is to insert it
+pub by_place-put : {A : Type 0} (xs : List (Option A)) (k : ℕ) (x : A) → k < length xs
+    → by_place (set xs k (Some x)) ≡ insert (by_place xs) k x
+by_place-put xs k x within =
+    same_map nat_cmp_total nat_cmp-IsAntisymmetric _ _ (λ q.
+    insert_cases (by_place xs) k (λ q o. get (by_place (set xs k (Some x))) q ≡ o) x q
+    (get-by_place (set xs k (Some x)) k ∙ get_or-set_same xs k (Some x) None within)
+    (λ apart. get-by_place (set xs k (Some x)) q ∙ get_or-set_other xs k q (Some x) None apart
+    ∙ sym (get-by_place xs q)))
+
+-- to clear an index is to remove its item
+pub by_place-clear : {A : Type 0} (xs : List (Option A)) (k : ℕ)
+    → by_place (set xs k None) ≡ remove (by_place xs) k
+by_place-clear xs k =
+    same_map nat_cmp_total nat_cmp-IsAntisymmetric _ _ (λ q.
+    remove_cases (by_place xs) k (λ q o. get (by_place (set xs k None)) q ≡ o) q
+    (get-by_place (set xs k None) k ∙ cleared xs k)
+    (λ apart. get-by_place (set xs k None) q ∙ get_or-set_other xs k q None None apart
+    ∙ sym (get-by_place xs q)))
+  where
+    cleared : {A : Type 0} (xs : List (Option A)) (k : ℕ) → get_or (set xs k None) k None ≡ None
+    cleared [] k = refl
+    cleared (x ∷ xs) zero = refl
+    cleared (x ∷ xs) (suc k) = cleared xs k
+
+-- no item is present
+pub by_place-empty : {A : Type 0} (xs : List (Option A)) → ((k : ℕ) → get_or xs k None ≡ None) → by_place xs ≡
+    empty
+by_place-empty xs none =
+    same_map nat_cmp_total nat_cmp-IsAntisymmetric _ _
+    (λ q. get-by_place xs q ∙ none q ∙ sym (get-empty nat_cmp q))
+
+pub get_or-replicate_None : {A : Type 0} (n k : ℕ) → get_or (replicate {A = Option A} n None) k None ≡ None
+get_or-replicate_None zero k = refl
+get_or-replicate_None (suc n) zero = refl
+get_or-replicate_None (suc n) (suc k) = get_or-replicate_None n k

@@ -1,0 +1,24 @@
+use crate::data::{Kind, Make};
+
+/// What a command does, as far as memory, slots, ages, addresses and collections are concerned.
+#[derive(Clone, Copy, Debug, PartialEq, Eq)]
+pub enum Class {
+    /// It makes an object with this many fields.
+    MakesObject(u8),
+    /// It makes a handle in a slot, with its target in object register `t`.
+    TakesSlot { make: Make, t: u8 },
+    /// It stores the target of the handle in `h`, from object register `t`.
+    StoresTarget { h: u8, t: u8 },
+    /// It stores the secondary of the handle in `h`.
+    StoresSecondary { h: u8 },
+    /// It frees a handle, and with it its slot.
+    Frees,
+    /// It gives a block of a kind back.
+    GivesBack(Kind),
+    /// It collects a generation and all younger ones.
+    Collects(u8),
+    /// It returns the address of what the handle in `h` pins.
+    AnswersPlace { h: u8 },
+    /// It does none of these.
+    Plain,
+}
