@@ -1,5 +1,5 @@
 -- Lemmas on the way through a region from one object or gap to the next.
-use Rattle.std.proofs.Common.{◌≡◌, ◌≢◌, ℕ, ◌+◌, ◌<◌, ◌≤◌, inl, inr, false, List, [], ◌∷◌, length, Option, Some, None, refl, sym, ap, ◌∙◌, subst, arith}
+use Rattle.std.proofs.Common.{◌≡◌, ◌≢◌, ℕ, ◌+◌, ◌<◌, ◌≤◌, inl, inr, false, List, [], ◌∷◌, Option, Some, None, refl, sym, ap, ◌∙◌, subst, arith}
 use Rattle.std.proofs.lemmas.Bool.{cases_eq}
 use Rattle.std.proofs.lemmas.Option.{none-some}
 use Rattle.std.specs.Prelude.{is_some}
@@ -10,7 +10,7 @@ use Rattle.hd_cells.specs.Region.{Contents, IsObject, IsFirstFrom}
 use Rattle.hd_cells.specs.Cells.{cell, object_in, extent_at, objects_of, contents_of, IsTiled, ended, gap, body, IsRegion, IsReached, IsFirstIn}
 use Rattle.hd_cells.proofs.OffsetLookup.{find_here, find_beyond}
 use Rattle.hd_cells.proofs.RegionTiles.{extent_at-gap, extent_at-body, tiled_upwards, none_before, found}
-use Rattle.hd_cells.proofs.Contents.{get-objects, held}
+use Rattle.hd_cells.proofs.Contents.{get-objects, IsRead, held}
 
 -- from the first cell on nothing is left out
 pub start_reached : (c : List ℕ) (fill from : ℕ) → IsRegion c fill → IsReached c fill from 0
@@ -162,9 +162,8 @@ beyond_object {c} {stop} {from} {os = (k, x) ∷ os} (body b t) at o e =
     ]
 
 -- after an object no other object at a higher offset is left out
-pub object_passed : (c : List ℕ) (fill : ℕ) (r : Contents) → length c ≡ 256 → IsRegion c fill
-    → contents_of c fill ≡ r → (at : ℕ) → IsObject r at → IsReached c fill (at + 1) (at + extent_at c at)
-object_passed c fill r len laid view at is =
-    let h = held c fill r len laid view at is in
-    let step = beyond_object laid.tiled at (object_in c at) h.finds in
+pub object_passed : {c : List ℕ} {fill : ℕ} {r : Contents} → IsRead c fill r → (at : ℕ) → IsObject r at
+    → IsReached c fill (at + 1) (at + extent_at c at)
+object_passed {c} read at is =
+    let step = beyond_object read.region.tiled at (object_in c at) (held read at is).finds in
     record { rest = step.rest; tiled = step.tiled; skipped = step.skipped }

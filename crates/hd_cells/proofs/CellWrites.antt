@@ -1,15 +1,15 @@
 -- Lemmas on the writes into a region's cells: what callers see after each.
-use Rattle.std.proofs.Common.{◌≡◌, ◌≢◌, ℕ, ◌+◌, ◌%◌, ◌^◌, ◌<◌, ◌≤◌, inl, inr, Bool, true, false, cond, leb, List, [], ◌∷◌, ◌++◌, length, take, drop, set, replicate, get_or, None, refl, sym, ap, ◌∙◌, subst, arith, le-leb, length-set, length-take, length-drop, get_or-take, get_or-drop, get_or-set_other, get_or-set_same, ext_get_or}
+use Rattle.std.proofs.Common.{◌≡◌, ◌≢◌, ℕ, ◌+◌, ◌%◌, ◌^◌, ◌<◌, ◌≤◌, inl, inr, Bool, true, false, cond, leb, List, [], ◌∷◌, ◌++◌, length, take, drop, set, replicate, get_or, None, sym, ap, ◌∙◌, subst, arith, le-leb, length-set, length-take, length-drop, get_or-take, get_or-drop, get_or-set_other, get_or-set_same, ext_get_or}
 use Rattle.std.proofs.lemmas.Bool.{cases_eq, lt-leb}
 use Rattle.std.proofs.lemmas.List.{length-replicate, get_or-replicate}
 use Rattle.std.specs.Ordering.{nat_cmp}
 use Rattle.std.specs.Cmp.{nat_cmp_total}
 use Rattle.std.specs.FinMap as map
 use Rattle.hd_cells.specs.Object.{Object, with_value, with_registered, with_field, new_object}
-use Rattle.hd_cells.specs.Region.{Contents, IsObject, object_at, fields_at, with_object, with_put, without_object, empty_region}
-use Rattle.hd_cells.specs.Cells.{cell, count_at, object_in, extent_at, objects_of, contents_of, IsBody, IsGap, IsTiled, ended, IsLaid, IsRegion}
+use Rattle.hd_cells.specs.Region.{Contents, IsObject, object_at, fields_at, with_object, with_put, without_object}
+use Rattle.hd_cells.specs.Cells.{cell, count_at, object_in, extent_at, objects_of, contents_of, IsBody, IsGap, IsTiled, ended, IsLaid}
 use Rattle.hd_cells.proofs.RegionTiles.{extent_at-body, extent_at-gap, same_fields, longer_tiling, none_beyond, as_gap}
-use Rattle.hd_cells.proofs.Contents.{laid_region, laid_contents, get-objects, held, IsRegionOf, changed_region, rewritten_region}
+use Rattle.hd_cells.proofs.Contents.{laid_region, laid_contents, get-objects, held, IsRead, changed_region, rewritten_region}
 
 -- the fields and the registration that the second cell of an object encodes
 shape_parts : (n : ℕ) (on : Bool) (s : ℕ) → n < 256 → s ≡ cond on (n + 256) n → (s % 256 ≡ n) × (s < 512)
@@ -21,13 +21,13 @@ shape_parts n false s few e = (omega (arith, e), omega (arith, e), lt-leb 256 s 
 other_cells : (c : List ℕ) (j v k : ℕ) → (k ≡ j → ⊥) → cell (set c j v) k ≡ cell c k
 other_cells c j v k ne = get_or-set_other c j k v 0 ne
 
-module _ (c : List ℕ) (fill : ℕ) (r : Contents) (len : length c ≡ 256) (laid : IsRegion c fill)
-    (view : contents_of c fill ≡ r) (at : ℕ) (is : IsObject r at) where
+module _ {c : List ℕ} {fill : ℕ} {r : Contents} (read : IsRead c fill r) (at : ℕ) (is : IsObject r at) where
   -- a write after the identity of an object, which stays an object of its length
   one_cell_body : (j v : ℕ) → at < j → j < 256 → cell (set c j v) (at + 1) < 512
       → count_at (set c j v) at ≡ count_at c at → (at + 3 ≤ j → v < 2 ^ 32) → IsBody (set c j v) at
   one_cell_body j v low inside shaped counts fits =
-      let b = (held c fill r len laid view at is).is_body in
+      let b = (held read at is).is_body in
+      let len = read.len in
       record {
         identified = λ e. b.identified (sym (other_cells c j v at (λ e. omega (arith, e))) ∙ e);
         shaped = shaped;
@@ -47,15 +47,16 @@ module _ (c : List ℕ) (fill : ℕ) (r : Contents) (len : length c ≡ 256) (la
 
   pub one_cell_written : (j v : ℕ) (o : Object) → at < j → j < at + (count_at c at + 3)
       → cell (set c j v) (at + 1) < 512 → count_at (set c j v) at ≡ count_at c at → (at + 3 ≤ j → v < 2 ^ 32)
-      → object_in (set c j v) at ≡ o → IsRegionOf (set c j v) fill (with_object r at o)
+      → object_in (set c j v) at ≡ o → IsRead (set c j v) fill (with_object r at o)
   one_cell_written j v o low high shaped counts fits e =
-      let h = held c fill r len laid view at is in
+      let h = held read at is in
       let reach = h.reach in
       let end = h.high in
       let within = h.within in
+      let len = read.len in
       let new = one_cell_body j v low (omega arith) shaped counts fits in
       let new_reach = extent_at-body new in
-      rewritten_region c (set c j v) fill r at o laid view h
+      rewritten_region read (set c j v) at o h
       (record {
         lengths = length-set c j v;
         before = λ k below. other_cells c j v k (λ e. omega (arith, e));
@@ -65,13 +66,14 @@ module _ (c : List ℕ) (fill : ℕ) (r : Contents) (len : length c ≡ 256) (la
       new e
 
   -- the value
-  pub value_written : (v : ℕ) → IsRegionOf (set c (at + 2) v) fill
+  pub value_written : (v : ℕ) → IsRead (set c (at + 2) v) fill
       (with_object r at (with_value (object_at r at) v))
   unfolding object_in
   value_written v =
-      let h = held c fill r len laid view at is in
+      let h = held read at is in
       let end = h.high in
       let within = h.within in
+      let len = read.len in
       let first = other_cells c (at + 2) v at (λ e. omega (arith, e)) in
       let shape = other_cells c (at + 2) v (at + 1) (λ e. omega (arith, e)) in
       let counts : count_at (set c (at + 2) v) at ≡ count_at c at = ap (λ (x : ℕ). x % 256) shape in
@@ -91,12 +93,13 @@ module _ (c : List ℕ) (fill : ℕ) (r : Contents) (len : length c ≡ 256) (la
 
   -- the registration
   pub registration_written : (on : Bool) (s : ℕ) → s ≡ cond on (count_at c at + 256) (count_at c at)
-      → IsRegionOf (set c (at + 1) s) fill (with_object r at (with_registered (object_at r at) on))
+      → IsRead (set c (at + 1) s) fill (with_object r at (with_registered (object_at r at) on))
   unfolding object_in
   registration_written on s is_shape =
-      let h = held c fill r len laid view at is in
+      let h = held read at is in
       let end = h.high in
       let within = h.within in
+      let len = read.len in
       let b = h.is_body in
       let few = b.few_fields in
       let parts = shape_parts (count_at c at) on s (omega arith) is_shape in
@@ -120,9 +123,10 @@ module _ (c : List ℕ) (fill : ℕ) (r : Contents) (len : length c ≡ 256) (la
   fields_written : (i v : ℕ) → i < count_at c at → (m : ℕ) → m ≡ count_at c at
       → take m (drop (at + 3) (set c (at + 3 + i) v)) ≡ set (fields_at r at) i v
   fields_written i v below m e =
-      let h = held c fill r len laid view at is in
+      let h = held read at is in
       let end = h.high in
       let within = h.within in
+      let len = read.len in
       let count = h.count in
       let d = set c (at + 3 + i) v in
       let length_d : length d ≡ length c = length-set c (at + 3 + i) v in
@@ -146,12 +150,13 @@ module _ (c : List ℕ) (fill : ℕ) (r : Contents) (len : length c ≡ 256) (la
 
   -- a field
   pub field_written : (i v : ℕ) → i < length (fields_at r at) → v < 2 ^ 32
-      → IsRegionOf (set c (at + 3 + i) v) fill (with_object r at (with_field (object_at r at) i v))
+      → IsRead (set c (at + 3 + i) v) fill (with_object r at (with_field (object_at r at) i v))
   unfolding object_in
   field_written i v below fits =
-      let h = held c fill r len laid view at is in
+      let h = held read at is in
       let end = h.high in
       let within = h.within in
+      let len = read.len in
       let count = h.count in
       let b = h.is_body in
       let d = set c (at + 3 + i) v in
@@ -170,23 +175,23 @@ module _ (c : List ℕ) (fill : ℕ) (r : Contents) (len : length c ≡ 256) (la
       (λ j. record { identity = identities j; fields = fields j; value = values j; registered = flags j })
 
 -- cells in which nothing was put are an empty region
-pub blank_region : (c : List ℕ) → ((k : ℕ) → get_or c k 0 ≡ 0) → IsRegionOf c 0 empty_region
-blank_region c blank =
-    let laid : IsLaid c 0 [] = record { tiled = ended; within = omega arith; unused = λ k past. blank k } in
-    record { region = laid_region laid; contents = laid_contents laid map.empty refl }
+pub blank_laid : (c : List ℕ) → ((k : ℕ) → get_or c k 0 ≡ 0) → IsLaid c 0 []
+blank_laid c blank = record { tiled = ended; within = omega arith; unused = λ k past. blank k }
 
 -- an object put at the allocation pointer
-module _ (c : List ℕ) (fill : ℕ) (len : length c ≡ 256) (laid : IsRegion c fill) where
+module _ {c : List ℕ} {fill : ℕ} {r : Contents} (read : IsRead c fill r) where
   put_cells : (k id s : ℕ) → (k ≡ fill → ⊥) → (k ≡ fill + 1 → ⊥)
       → cell (set (set c fill id) (fill + 1) s) k ≡ cell c k
   put_cells k id s first second = other_cells (set c fill id) (fill + 1) s k second
       ∙ other_cells c fill id k first
 
   put_at_fill : (id n : ℕ) (on : Bool) (s : ℕ) → id ≢ 0 → n ≤ 61 → fill + n + 3 ≤ 256
-      → s ≡ cond on (n + 256) n → IsRegionOf (set (set c fill id) (fill + 1) s) (fill + n + 3)
+      → s ≡ cond on (n + 256) n → IsRead (set (set c fill id) (fill + 1) s) (fill + n + 3)
       (with_put (contents_of c fill) (new_object id n on))
   unfolding object_in
   put_at_fill id n on s identified few room is_shape =
+      let laid = read.region in
+      let len = read.len in
       let d = set (set c fill id) (fill + 1) s in
       let parts = shape_parts n on s (omega arith) is_shape in
       let length_set = length-set c fill id in
@@ -241,36 +246,37 @@ module _ (c : List ℕ) (fill : ℕ) (len : length c ≡ 256) (laid : IsRegion c
       let size : fill + n + 3 ≡ fill + (length (replicate n (let z : ℕ = 0 in z)) + 3) =
       omega (arith, length-replicate n (let z : ℕ = 0 in z)) in
       record {
+        len = length_d ∙ len;
         region = laid_region now;
-        contents = seen
+        view = seen
             ∙ (λ i. record {
               objects = map.insert (contents_of c fill).objects fill (new_object id n on);
               fill = size i;
             });
       }
 
-  pub object_put : (r : Contents) → contents_of c fill ≡ r → (id n : ℕ) (on : Bool) (s : ℕ) → id ≢ 0 → n ≤ 61
-      → r.fill + n + 3 ≤ 256 → s ≡ cond on (n + 256) n → IsRegionOf (set (set c fill id) (fill + 1) s)
-      (fill + n + 3) (with_put r (new_object id n on))
-  object_put r view id n on s identified few room is_shape =
-      let P : Contents → Type 0 = λ x. x.fill + n + 3 ≤ 256 → IsRegionOf (set (set c fill id) (fill + 1) s)
+  pub object_put : (id n : ℕ) (on : Bool) (s : ℕ) → id ≢ 0 → n ≤ 61 → r.fill + n + 3 ≤ 256
+      → s ≡ cond on (n + 256) n → IsRead (set (set c fill id) (fill + 1) s) (fill + n + 3)
+      (with_put r (new_object id n on))
+  object_put id n on s identified few room is_shape =
+      let P : Contents → Type 0 = λ x. x.fill + n + 3 ≤ 256 → IsRead (set (set c fill id) (fill + 1) s)
       (fill + n + 3) (with_put x (new_object id n on)) in
-      subst P view (λ fits. put_at_fill id n on s identified few fits is_shape) room
+      subst P read.view (λ fits. put_at_fill id n on s identified few fits is_shape) room
 
   -- no object is where the next one is put
-  pub get-fill : (r : Contents) → contents_of c fill ≡ r → map.get r.objects fill ≡ None
-  get-fill r view = ap (λ (x : Contents). map.get x.objects fill) (sym view) ∙ get-objects c fill fill
-      ∙ none_beyond laid.tiled fill (omega arith)
+  pub get-fill : map.get r.objects fill ≡ None
+  get-fill = ap (λ (x : Contents). map.get x.objects fill) (sym read.view) ∙ get-objects c fill fill
+      ∙ none_beyond read.region.tiled fill (omega arith)
 
 -- an object becomes a gap
-module _ (c : List ℕ) (fill : ℕ) (r : Contents) (len : length c ≡ 256) (laid : IsRegion c fill)
-    (view : contents_of c fill ≡ r) (at : ℕ) (is : IsObject r at) where
-  pub object_removed : IsRegionOf (set (set c at 0) (at + 1) (count_at c at + 3)) fill (without_object r at)
+module _ {c : List ℕ} {fill : ℕ} {r : Contents} (read : IsRead c fill r) (at : ℕ) (is : IsObject r at) where
+  pub object_removed : IsRead (set (set c at 0) (at + 1) (count_at c at + 3)) fill (without_object r at)
   object_removed =
-      let h = held c fill r len laid view at is in
+      let h = held read at is in
       let high = h.high in
       let within = h.within in
-      let fills : r.fill ≡ fill = ap (λ (x : Contents). x.fill) (sym view) in
+      let len = read.len in
+      let fills : r.fill ≡ fill = ap (λ (x : Contents). x.fill) (sym read.view) in
       let d = set (set c at 0) (at + 1) (count_at c at + 3) in
       let lengths : length d ≡ length c = length-set (set c at 0) (at + 1) (count_at c at + 3)
       ∙ length-set c at 0 in
@@ -284,7 +290,7 @@ module _ (c : List ℕ) (fill : ℕ) (r : Contents) (len : length c ≡ 256) (la
       let old_reach = h.reach in
       let others : (k : ℕ) → (k ≡ at → ⊥) → (k ≡ at + 1 → ⊥) → cell d k ≡ cell c k = λ k one two. other_cells
       (set c at 0) (at + 1) (count_at c at + 3) k two ∙ other_cells c at 0 k one in
-      changed_region c d fill r at None (map.remove r.objects at) laid view h
+      changed_region read d at None (map.remove r.objects at) h
       (record {
         lengths = lengths;
         before = λ k below. others k (λ e. omega (arith, e)) (λ e. omega (arith, e));

@@ -1,5 +1,5 @@
 -- Lemmas on what callers see of a region's cells.
-use Rattle.std.proofs.Common.{◌≡◌, ℕ, ◌+◌, ◌^◌, ◌<◌, ◌≤◌, true, cond, leb, List, length, take, drop, get_or, Option, Some, None, refl, sym, ap, ◌∙◌, subst, arith, length-take, length-drop, get_or-take, get_or-drop}
+use Rattle.std.proofs.Common.{◌≡◌, ℕ, zero, suc, [], ◌∷◌, ◌-◌, ◌+◌, ◌%◌, ◌^◌, ◌<◌, ◌≤◌, true, cond, leb, List, length, take, drop, get_or, Option, Some, None, refl, sym, ap, ◌∙◌, subst, arith, length-take, length-drop, get_or-take, get_or-drop}
 use Rattle.std.proofs.lemmas.List.Elements.{All-from_get_or}
 use Rattle.std.proofs.lemmas.Bool.{both_ways}
 use Rattle.std.specs.Prelude.{is_some, unwrap_or}
@@ -8,7 +8,8 @@ use Rattle.std.specs.Cmp.{nat_cmp_total}
 use Rattle.std.specs.FinMap as map
 use Rattle.hd_cells.specs.Object.{Object, no_object}
 use Rattle.hd_cells.specs.Region.{Contents, IsObject, IsLaidOut, object_at, fields_at, with_object, empty_region}
-use Rattle.hd_cells.specs.Cells.{cell, count_at, object_in, extent_at, objects_of, contents_of, IsBody, IsLaid, IsRegion}
+use Rattle.hd_cells.specs.Cells.{cell, count_at, object_in, extent_at, objects_of, contents_of, IsBody, IsLaid, IsRegion, IsWhole, HoldsObject}
+use Rattle.hd_cells.specs.declared.region.Region.TheInside.{Inside}
 use Rattle.hd_cells.proofs.RegionTiles.{extent_at-body, tiling_read, found, found_apart, IsTile, as_body, changed_tiling}
 
 -- a region is read as its cells are laid out
@@ -37,6 +38,16 @@ get-objects c fill q = map.get-from_entries nat_cmp_total (objects_of c) q
 some_of : (o : Option Object) → is_some o ≡ true → (x : Object) × (o ≡ Some x)
 some_of None e = absurd (cc e)
 some_of (Some x) e = (x, refl)
+
+-- the cells and the allocation pointer of a region, and its value
+pub record IsRead (c : List ℕ) (fill : ℕ) (r : Contents) : Type 0 where
+  pub len : length c ≡ 256
+  pub region : IsRegion c fill
+  pub view : contents_of c fill ≡ r
+
+pub opened : (s : Inside) {r : Contents} → (length s.cells ≡ 256) × (length s.starts ≡ 86)
+    → IsWhole s.cells s.fill s.starts → contents_of s.cells s.fill ≡ r → IsRead s.cells s.fill r
+opened s lengths whole view = record { len = lengths.0; region = whole.region; view = view }
 
 -- what the cells hold where callers see an object
 pub record IsHeld (c : List ℕ) (r : Contents) (at : ℕ) : Type 0 where
@@ -88,41 +99,75 @@ held_by_cells c fill len r at is =
           ∙ get_or_field c at (count_at c at) i below;
     }
 
-pub held : (c : List ℕ) (fill : ℕ) (r : Contents) → length c ≡ 256 → IsRegion c fill → contents_of c fill ≡ r
-    → (at : ℕ) → IsObject r at → IsHeld c r at
-held c fill r len laid view at is =
-    let P : Contents → Type 0 = λ x. IsObject x at → IsHeld c x at in
-    subst P view (held_by_cells c fill len laid at) is
+take_all : (xs : List ℕ) (n : ℕ) → length xs ≤ n → take n xs ≡ xs
+take_all [] zero low = refl
+take_all [] (suc n) low = refl
+take_all (x ∷ xs) zero low = absurd (omega (arith, low))
+take_all (x ∷ xs) (suc n) low = ap (λ ys. x ∷ ys) (take_all xs n (omega (arith, low)))
 
--- objects are laid out in a region as its callers see
-pub laid_out : (c : List ℕ) (fill : ℕ) (r : Contents) → length c ≡ 256 → IsRegion c fill
-    → contents_of c fill ≡ r → IsLaidOut r
-laid_out c fill r len laid view =
-    let known = held c fill r len laid view in
-    let fills : r.fill ≡ fill = ap (λ (x : Contents). x.fill) (sym view) in
-    let within = laid.within in
-    record {
-      within_region = omega arith;
-      well_formed = λ at is.
-          let h = known at is in
-          record {
-            identified = λ e. h.is_body.identified (sym h.identity ∙ e);
-            few_fields = let few = h.is_body.few_fields in let count = h.count in omega arith;
-            addresses = All-from_get_or (λ (f : ℕ). f < 2 ^ 32) (fields_at r at) 0 (λ i below.
-                let count = h.count in
-                let inside : i < count_at c at = omega arith in
-                let P : ℕ → Type 0 = λ f. f < 2 ^ 32 in
-                subst P (sym (h.field i inside)) (h.is_body.addresses i inside));
-          };
-      below_fill = λ at is. let h = known at is in let count = h.count in let high = h.high in omega arith;
-      apart = λ a b is_a is_b below.
-          let h = known a is_a in
-          let reach = h.reach in
-          let count = h.count in
-          let beyond = found_apart laid.tiled a b (object_in c a) (object_in c b) h.finds
-          (known b is_b).finds below in
-          omega arith;
-    }
+module _ {c : List ℕ} {fill : ℕ} {r : Contents} (read : IsRead c fill r) where
+  pub held : (at : ℕ) → IsObject r at → IsHeld c r at
+  held at is =
+      let P : Contents → Type 0 = λ x. IsObject x at → IsHeld c x at in
+      subst P read.view (held_by_cells c fill read.len read.region at) is
+
+  -- the first three cells of an object
+  pub object_inside : (at : ℕ) → IsObject r at → at + 3 ≤ 256
+  object_inside at is = let h = held at is in omega (arith, h.high, h.within)
+
+  -- the cells from an object on
+  pub object_cells : (at : ℕ) → IsObject r at → HoldsObject (take (256 - at) (drop at c)) (object_at r at)
+  object_cells at is =
+      let h = held at is in
+      let b = h.is_body in
+      let shape = get_or-drop at c 1 0 in
+      let after = λ (i : ℕ). get_or-drop at c (3 + i) 0 ∙ ap (cell c) (three at i) in
+      let whole = take_all (drop at c) (256 - at) (omega (arith, length-drop at c, read.len)) in
+      subst (λ (xs : List ℕ). HoldsObject xs (object_at r at)) (sym whole) record {
+        long = omega (arith, h.count, h.high, h.within, read.len, length-drop at c);
+        identity = get_or-drop at c 0 0 ∙ ap (cell c) (none at) ∙ sym h.identity;
+        identified = λ e. b.identified (sym h.identity ∙ e);
+        count = ap (λ n. n % 256) shape ∙ sym h.count;
+        few_fields = omega (arith, h.count, b.few_fields);
+        registered = ap (leb 256) shape ∙ sym h.registered;
+        value = get_or-drop at c 2 0 ∙ sym h.value;
+        field = λ i below. after i ∙ sym (h.field i (omega (arith, below, h.count)));
+        addresses = λ i below. omega (arith, after i, b.addresses i (omega (arith, below, h.count)));
+      }
+    where
+      none : (at : ℕ) → at + 0 ≡ at
+      none at = omega arith
+
+      three : (at i : ℕ) → at + (3 + i) ≡ at + 3 + i
+      three at i = omega arith
+
+  -- objects are laid out in a region as its callers see
+  pub laid_out : IsLaidOut r
+  laid_out =
+      let fills = ap (λ (x : Contents). x.fill) (sym read.view) in
+      record {
+        within_region = omega (arith, fills, read.region.within);
+        well_formed = λ at is.
+            let h = held at is in
+            record {
+              identified = λ e. h.is_body.identified (sym h.identity ∙ e);
+              few_fields = omega (arith, h.is_body.few_fields, h.count);
+              addresses = All-from_get_or (λ (f : ℕ). f < 2 ^ 32) (fields_at r at) 0 (λ i below.
+                  let inside : i < count_at c at = omega (arith, below, h.count) in
+                  let P : ℕ → Type 0 = λ f. f < 2 ^ 32 in
+                  subst P (sym (h.field i inside)) (h.is_body.addresses i inside));
+            };
+        below_fill = λ at is. let h = held at is in omega (arith, h.count, h.high);
+        apart = λ a b is_a is_b below.
+            let h = held a is_a in
+            omega (
+              arith,
+              h.reach,
+              h.count,
+              found_apart read.region.tiled a b (object_in c a) (object_in c b)
+                  h.finds (held b is_b).finds below,
+            );
+      }
 
 -- cells changed within an object, so that a tile as long as that object begins there
 pub record IsRewrite (c d : List ℕ) (at : ℕ) : Type 0 where
@@ -131,37 +176,31 @@ pub record IsRewrite (c d : List ℕ) (at : ℕ) : Type 0 where
   pub beyond : (k : ℕ) → at + extent_at c at ≤ k → cell d k ≡ cell c k
   pub reach : extent_at d at ≡ extent_at c at
 
--- the new cells are a region's, and these are its contents
-pub record IsRegionOf (d : List ℕ) (fill : ℕ) (r : Contents) : Type 0 where
-  pub region : IsRegion d fill
-  pub contents : contents_of d fill ≡ r
-
 -- the region after such a change: its map has the new tile there and else is as it was
-pub changed_region : (c d : List ℕ) (fill : ℕ) (r : Contents) (at : ℕ) (w : Option Object)
-    (m : map.FinMap nat_cmp Object) → IsRegion c fill → contents_of c fill ≡ r → IsHeld c r at
-    → IsRewrite c d at → IsTile d at w
+pub changed_region : {c : List ℕ} {fill : ℕ} {r : Contents} → IsRead c fill r → (d : List ℕ) (at : ℕ)
+    (w : Option Object) (m : map.FinMap nat_cmp Object) → IsHeld c r at → IsRewrite c d at → IsTile d at w
     → ((q : ℕ) → map.get m q ≡ cond (eq_by_cmp nat_cmp q at) w (map.get r.objects q))
-    → IsRegionOf d fill (record r { objects = m })
-changed_region c d fill r at w m laid view h rewrite tile gets =
-    let high = h.high in
-    let reach = h.reach in
-    let fills : r.fill ≡ fill = ap (λ (x : Contents). x.fill) (sym view) in
+    → IsRead d fill (record r { objects = m })
+changed_region {c} {fill} read d at w m h rewrite tile gets =
+    let laid = read.region in
+    let fills = ap (λ (x : Contents). x.fill) (sym read.view) in
     let changed = changed_tiling laid.tiled at (object_in c at) h.finds d w tile rewrite.lengths
     (λ k low below. rewrite.before k below) (λ k low below. rewrite.beyond k low) rewrite.reach in
     let now : IsLaid d fill changed.after = record {
       tiled = changed.tiled;
       within = laid.within;
-      unused = λ k past. rewrite.beyond k (omega arith) ∙ laid.unused k past;
+      unused = λ k past. rewrite.beyond k (omega (arith, past, h.reach, h.high, fills)) ∙ laid.unused k past;
     } in
     let maps : map.from_entries changed.after ≡ m = map.same_map nat_cmp_total map.nat_cmp-IsAntisymmetric _ _
-    (λ q.
-    map.get-from_entries nat_cmp_total changed.after q
-    ∙ changed.finds q
+    (λ q. map.get-from_entries nat_cmp_total changed.after q ∙ changed.finds q
     ∙ ap (λ (o : Option Object). cond (eq_by_cmp nat_cmp q at) w o) (sym (get-objects c fill q)
-    ∙ ap (λ (x : Contents). map.get x.objects q) view)
+    ∙ ap (λ (x : Contents). map.get x.objects q) read.view)
     ∙ sym (gets q)) in
-    let seen = laid_contents now m maps in
-    record { region = laid_region now; contents = seen ∙ (λ i. record { objects = m; fill = sym fills i }) }
+    record {
+      len = rewrite.lengths ∙ read.len;
+      region = laid_region now;
+      view = laid_contents now m maps ∙ (λ i. record { objects = m; fill = sym fills i });
+    }
 
 -- no object is in an empty region
 none_in_empty : (at : ℕ) → IsObject empty_region at → ⊥
@@ -176,16 +215,13 @@ empty_laid_out = record {
 }
 
 -- after a write callers see where objects are
-pub of_laid_out : (d : List ℕ) (fill : ℕ) (r : Contents) → length d ≡ 256 → IsRegionOf d fill r
-    → IsLaidOut (contents_of d fill)
-of_laid_out d fill r len of = laid_out d fill (contents_of d fill) len of.region refl
+pub new_laid_out : {d : List ℕ} {fill : ℕ} {r : Contents} → IsRead d fill r → IsLaidOut (contents_of d fill)
+new_laid_out read = subst IsLaidOut (sym read.view) (laid_out read)
 
 -- the region after the cells of an object were changed, and it still is an object of its length
-pub rewritten_region : (c d : List ℕ) (fill : ℕ) (r : Contents) (at : ℕ) (o : Object) → IsRegion c fill
-    → contents_of c fill ≡ r → IsHeld c r at → IsRewrite c d at → IsBody d at → object_in d at ≡ o
-    → IsRegionOf d fill (with_object r at o)
-rewritten_region c d fill r at o laid view h rewrite new e =
-    let P : Object → Type 0 = λ x. IsRegionOf d fill (with_object r at x) in
-    subst P e (changed_region c d fill r at (Some (object_in d at)) (map.insert r.objects at (object_in d at))
-    laid view h rewrite (as_body new)
-    (λ q. map.get-insert nat_cmp_total r.objects at (object_in d at) q))
+pub rewritten_region : {c : List ℕ} {fill : ℕ} {r : Contents} → IsRead c fill r → (d : List ℕ) (at : ℕ) (o : Object)
+    → IsHeld c r at → IsRewrite c d at → IsBody d at → object_in d at ≡ o → IsRead d fill (with_object r at o)
+rewritten_region {fill = fill} {r = r} read d at o h rewrite new e =
+    let P : Object → Type 0 = λ x. IsRead d fill (with_object r at x) in
+    subst P e (changed_region read d at (Some (object_in d at)) (map.insert r.objects at (object_in d at)) h
+    rewrite (as_body new) (λ q. map.get-insert nat_cmp_total r.objects at (object_in d at) q))

@@ -7,9 +7,9 @@ use Rattle.std.specs.Cmp.{nat_cmp_total}
 use Rattle.std.specs.FinMap as map
 use Rattle.hd_cells.specs.Object.{Object}
 use Rattle.hd_cells.specs.Region.{Contents, IsObject, IsLaidOut, with_object, with_put, without_object, empty_region}
-use Rattle.hd_cells.specs.Cells.{contents_of, IsIndexed, IsWhole}
+use Rattle.hd_cells.specs.Cells.{contents_of, IsIndexed, IsRegion, IsWhole}
 use Rattle.hd_cells.proofs.OffsetLookup.{tied, untied}
-use Rattle.hd_cells.proofs.Contents.{IsRegionOf, laid_out}
+use Rattle.hd_cells.proofs.Contents.{IsRead, laid_out}
 
 -- an index that has no entry where no object is
 pub empty_indexed : (starts : List ℕ) → ((k : ℕ) → k < 86 → get_or starts k 0 ≡ 255)
@@ -106,46 +106,43 @@ module _ (starts : List ℕ) (r : Contents) (long : length starts ≡ 86) (index
       ]
 
 -- a region after a write, with its index
-pub whole : (d : List ℕ) (fill : ℕ) (r : Contents) (starts : List ℕ) → IsRegionOf d fill r
+pub whole : {d : List ℕ} {fill : ℕ} {r : Contents} {starts : List ℕ} → IsRegion d fill → contents_of d fill ≡ r
     → IsIndexed starts r → IsWhole d fill starts
-whole d fill r starts of indexed = record {
-  region = of.region;
-  indexed = subst (IsIndexed starts) (sym of.contents) indexed;
+whole {starts = starts} region view indexed = record {
+  region = region;
+  indexed = subst (IsIndexed starts) (sym view) indexed;
 }
 
-module _ (c : List ℕ) (fill : ℕ) (starts : List ℕ) (r : Contents) (long : length starts ≡ 86)
-    (is : IsWhole c fill starts) (view : contents_of c fill ≡ r) where
+module _ {c : List ℕ} {fill : ℕ} {starts : List ℕ} {r : Contents} (read : IsRead c fill r)
+    (is : IsWhole c fill starts) (long : length starts ≡ 86) where
   pub seen_indexed : IsIndexed starts r
-  seen_indexed = subst (IsIndexed starts) view is.indexed
+  seen_indexed = subst (IsIndexed starts) read.view is.indexed
 
   -- an object was written to
-  pub whole_written : (d : List ℕ) (at : ℕ) (o : Object) → IsObject r at
-      → IsRegionOf d fill (with_object r at o) → IsWhole d fill starts
-  whole_written d at o there of = whole d fill (with_object r at o) starts of
-      (changed_indexed starts r long seen_indexed at o there)
+  pub whole_written : {d : List ℕ} (at : ℕ) (o : Object) → IsObject r at → IsRead d fill (with_object r at o)
+      → IsWhole d fill starts
+  whole_written at o there new =
+      whole new.region new.view (changed_indexed starts r long seen_indexed at o there)
 
   -- an object was removed
-  pub whole_removed : (d : List ℕ) (at part : ℕ) → part ≡ at / 3 → length c ≡ 256 → IsObject r at
-      → IsRegionOf d fill (without_object r at) → IsWhole d fill (set starts part 255)
-  whole_removed d at part e len there of =
+  pub whole_removed : {d : List ℕ} (at part : ℕ) → part ≡ at / 3 → IsObject r at
+      → IsRead d fill (without_object r at) → IsWhole d fill (set starts part 255)
+  whole_removed {d} at part e there new =
       let P : ℕ → Type 0 = λ k. IsWhole d fill (set starts k 255) in
-      subst P (sym e) (whole d fill (without_object r at) (set starts (at / 3) 255) of
-      (removed_indexed starts r long seen_indexed at (laid_out c fill r len is.region view) there))
+      subst P (sym e) (whole new.region new.view
+      (removed_indexed starts r long seen_indexed at (laid_out read) there))
 
   -- an object was put
-  pub whole_put : (d : List ℕ) (end part : ℕ) (o : Object) → part ≡ fill / 3 → length c ≡ 256
-      → r.fill + 3 ≤ 256 → IsRegionOf d end (with_put r o) → IsWhole d end (set starts part fill)
-  whole_put d end part o e len room of =
-      let fills : r.fill ≡ fill = ap (λ (x : Contents). x.fill) (sym view) in
+  pub whole_put : {d : List ℕ} {end : ℕ} (part : ℕ) (o : Object) → part ≡ fill / 3 → r.fill + 3 ≤ 256
+      → IsRead d end (with_put r o) → IsWhole d end (set starts part fill)
+  whole_put {d} {end} part o e room new =
+      let fills : r.fill ≡ fill = ap (λ (x : Contents). x.fill) (sym read.view) in
       let P : ℕ → Type 0 = λ k. IsWhole d end (set starts k fill) in
       let Q : ℕ → Type 0 = λ k. IsWhole d end (set starts (k / 3) k) in
-      subst P (sym e) (subst Q fills (whole d end (with_put r o) (set starts (r.fill / 3) r.fill) of
-      (put_indexed starts r long seen_indexed o (laid_out c fill r len is.region view) room)))
+      subst P (sym e) (subst Q fills (whole new.region new.view
+      (put_indexed starts r long seen_indexed o (laid_out read) room)))
 
-  -- no object begins near the end
-  pub none_late : (at : ℕ) → 254 ≤ at → length c ≡ 256 → IsObject r at → ⊥
-  none_late at late len there =
-      let laid = laid_out c fill r len is.region view in
-      let low = laid.below_fill at there in
-      let within = laid.within_region in
-      omega arith
+-- no object begins near the end
+pub none_late : {c : List ℕ} {fill : ℕ} {r : Contents} → IsRead c fill r → (at : ℕ) → 254 ≤ at → IsObject r at → ⊥
+none_late read at late there =
+    omega (arith, late, (laid_out read).below_fill at there, (laid_out read).within_region)

@@ -1,7 +1,7 @@
 -- Where the 256 cells of a region hold its objects. The layout is this project's own.
 -- An object takes its identity, the number of its fields with its registration, its value, and its
 -- fields, in this order. A gap is one or several removed objects: a 0, and then its length.
-use Rattle.std.specs.Prelude.{◌≡◌, ◌≢◌, ℕ, zero, suc, ◌+◌, ◌*◌, ◌/◌, ◌%◌, ◌^◌, ◌<◌, ◌≤◌, if◌then◌else◌, ◌==◌, nat_le, List, [], ◌∷◌, take, drop, slice_index, Option, Some, None, MatchOption}
+use Rattle.std.specs.Prelude.{◌≡◌, ◌≢◌, ℕ, zero, suc, ◌+◌, ◌*◌, ◌/◌, ◌%◌, ◌^◌, ◌<◌, ◌≤◌, if◌then◌else◌, ◌==◌, nat_le, List, [], ◌∷◌, length, take, drop, slice_index, Option, Some, None, MatchOption}
 use Rattle.std.specs.Ordering.{nat_cmp}
 use Rattle.std.specs.FinMap as map
 use Rattle.hd_cells.specs.declared.cells.TheConstants.{CELLS, FIELDS, HEADER, SHAPE, VALUE, REGISTERED}
@@ -98,3 +98,15 @@ IsFirstIn cells from answer = MatchOption answer
     ((q : ℕ) → from ≤ q → map.find nat_cmp q (objects_of cells) ≡ None)
     (λ at. (from ≤ at) × (map.find nat_cmp at (objects_of cells) ≡ Some (object_in cells at))
     × ((q : ℕ) → from ≤ q → q < at → map.find nat_cmp q (objects_of cells) ≡ None))
+
+-- these cells begin with an object, as it was put or written
+pub record HoldsObject (cells : List ℕ) (o : Object) : Type 0 where
+  pub long : length o.fields + HEADER ≤ length cells
+  pub identity : cell cells 0 ≡ o.identity
+  pub identified : o.identity ≢ 0
+  pub count : cell cells SHAPE % REGISTERED ≡ length o.fields
+  pub few_fields : length o.fields ≤ FIELDS
+  pub registered : nat_le REGISTERED (cell cells SHAPE) ≡ o.registered
+  pub value : cell cells VALUE ≡ o.value
+  pub field : (i : ℕ) → i < length o.fields → cell cells (HEADER + i) ≡ slice_index o.fields i
+  pub addresses : (i : ℕ) → i < length o.fields → cell cells (HEADER + i) < 2 ^ 32

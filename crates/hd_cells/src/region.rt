@@ -5,6 +5,7 @@ ghost use Rattle.hd_cells.specs.Object.{new_object, with_field, with_registered,
 ghost use Rattle.hd_cells.specs.Region.{empty_region, IsFirstFrom, IsLaidOut, IsObject};
 ghost use Rattle.hd_cells.specs.Region.{fields_at, object_at, with_object, with_put};
 ghost use Rattle.hd_cells.specs.Region.{without_object};
+ghost use Rattle.hd_cells.specs.Cells.{HoldsObject};
 
 use crate::cells::{
     CELLS, FIELDS, HEADER, NONE, PARTS, REGISTERED, SHAPE, VALUE, blank, extent, first_from,
@@ -94,7 +95,7 @@ impl Region {
         ensures identity { result ≡ (object_at self.now at).identity }
         ensures never_zero { result ≢ 0 }
     {
-        self.cells[at as usize]
+        self.object(at)[0]
     }
 
     /// The number of fields of the object at `at`.
@@ -103,7 +104,7 @@ impl Region {
         ensures count { result ≡ length (fields_at self.now at) }
         ensures few { result ≤ FIELDS }
     {
-        (self.cells[at as usize + SHAPE] % REGISTERED) as u32
+        (self.object(at)[SHAPE] % REGISTERED) as u32
     }
 
     /// The value of the object at `at`.
@@ -111,7 +112,7 @@ impl Region {
         requires { IsObject self.now at }
         ensures { result ≡ (object_at self.now at).value }
     {
-        self.cells[at as usize + VALUE]
+        self.object(at)[VALUE]
     }
 
     /// Gives the object at `at` another value.
@@ -129,7 +130,7 @@ impl Region {
         requires { IsObject self.now at }
         ensures { result ≡ (object_at self.now at).registered }
     {
-        self.cells[at as usize + SHAPE] >= REGISTERED
+        self.object(at)[SHAPE] >= REGISTERED
     }
 
     /// Registers the object at `at` for finalisation, or takes its registration away. It may be so
@@ -151,7 +152,7 @@ impl Region {
         requires within { i < length (fields_at self.now at) }
         ensures { result ≡ slice_index (fields_at self.now at) i }
     {
-        self.cells[at as usize + HEADER + i as usize] as u32
+        self.object(at)[HEADER + i as usize] as u32
     }
 
     /// Writes an address, or 0 for null, into field `i` of the object at `at`. The address is not
@@ -197,5 +198,13 @@ impl Region {
     {
         let next = at as usize + extent(&self.cells, at as usize);
         first_from(&self.cells, self.fill, next, at as usize + 1)
+    }
+
+    /// The cells from the object at `at` on.
+    fn object(&self, at: u32) -> &[u64]
+        requires { IsObject self.now at }
+        ensures { HoldsObject result.now (object_at self.now at) }
+    {
+        &self.cells[at as usize..]
     }
 }

@@ -1,16 +1,19 @@
 -- Lemmas on one region of a heap.
-use Rattle.std.proofs.Common.{◌≡◌, ◌≢◌, ℕ, zero, suc, map as each, ◌+◌, ◌-◌, ◌/◌, ◌≤◌, inl, inr, Bool, true, false, List, [], ◌∷◌, length, get_or, replicate, Option, Some, None, refl, sym, ap, ◌∙◌, subst, arith}
+use Rattle.std.proofs.Common.{◌≡◌, ◌≢◌, ℕ, zero, suc, map as each, ◌+◌, ◌-◌, ◌/◌, ◌≤◌, inl, inr, Bool, true, false, List, [], ◌∷◌, length, get_or, replicate, Option, Some, None, refl, sym, ap, ◌∙◌, subst, arith, length-set}
 use Rattle.std.specs.Prelude.{is_some, unwrap_or, sum_by}
 use Rattle.std.proofs.lemmas.Bool.{cases_eq, both_ways, false_from_ne_true}
 use Rattle.std.specs.Ordering.{nat_cmp}
 use Rattle.std.specs.Cmp.{nat_cmp_total}
 use Rattle.std.specs.FinMap as map
 use Rattle.hd_cells.specs.Object.{Object, size_of, no_object}
-use Rattle.hd_cells.specs.Region.{Contents, IsObject, IsLaidOut, object_at, with_put, without_object, empty_region}
+use Rattle.hd_cells.specs.Region.{Contents, IsObject, IsLaidOut, object_at, without_object, empty_region}
 use Rattle.hd_heap.specs.declared.area.Area.{Area}
 use Rattle.hd_heap.specs.Areas.{contents, card_in, BeginsIn, IsArea}
-use Rattle.hd_heap.specs.Steps.{IsTaken}
-use Rattle.hd_heap.proofs.IndexedLists.{found_first, found_later}
+use Rattle.hd_heap.specs.Steps.{IsTaken, IsWritten, region_with_part}
+use Rattle.hd_heap.specs.declared.area.Part.{Part}
+use Rattle.hd_heap.specs.declared.area.Part.TheVariants.{Value, Registered, Field}
+use Rattle.hd_model.proofs.ReadAfterWrite.{still_some}
+use Rattle.hd_model.proofs.Entries.{found_later}
 use Rattle.hd_model.proofs.Sums.{share, sum-insert, sum-taken, sum-at}
 
 -- the object at an offset
@@ -27,32 +30,25 @@ object_there r k is =
 pub none_in_empty : (k : ℕ) → IsObject empty_region k → ⊥
 none_in_empty k is = both_ways _ (ap is_some (map.get-empty {X = Object} nat_cmp k)) is
 
--- an object that begins in a card stays in it where no other one goes
-pub begins_kept : (r s : Contents) (card : ℕ) → ((k : ℕ) → IsObject r k → IsObject s k) → BeginsIn r card
-    → BeginsIn s card
-begins_kept r s card keeps b = record { at = b.at; object = keeps b.at b.object; in_card = b.in_card }
+pub true_unless : (b : Bool) → (b ≡ false → ⊥) → b ≡ true
+true_unless true never = refl
+true_unless false never = absurd (never refl)
 
-object_put : (r : Contents) (o : Object) (k : ℕ) → IsObject r k → IsObject (with_put r o) k
-object_put r o k is = elim (cases_eq k r.fill) [
-  | inl same ↦ ap is_some (map.get-insert nat_cmp_total r.objects r.fill o k
-      ∙ found_first k r.fill (Some o) (map.get r.objects k) same)
-  | inr apart ↦ ap is_some (map.get-insert nat_cmp_total r.objects r.fill o k
-      ∙ found_later k r.fill (Some o) (map.get r.objects k) apart) ∙ is
-]
+-- a region with an object is in use
+pub held_by_object : (a : Area) → IsArea a → (k : ℕ) → IsObject (contents a) k → a.held ≡ true
+held_by_object a is k there = true_unless a.held (λ free.
+    none_in_empty k (subst (λ (r : Contents). IsObject r k) (is.spare free) there))
 
--- an object is put
-pub area_put : (a b : Area) (o : Object) → IsArea a → a.held ≡ true
-    → map.get (contents a).objects (contents a).fill ≡ None → contents b ≡ with_put (contents a) o
-    → IsLaidOut (contents b) → b.live ≡ a.live + size_of o → b.held ≡ a.held → b.generation ≡ a.generation
-    → b.cards ≡ a.cards → IsArea b
-area_put a b o is held free put laid live held_same generation cards =
-    let sum = sum-insert size_of (contents a).objects (contents a).fill o in
-    let none : share size_of (map.get (contents a).objects (contents a).fill) ≡ 0 = ap (share size_of) free in
-    let total : sum_by size_of (map.values (contents b).objects) ≡ sum_by size_of
-    (map.values (map.insert (contents a).objects (contents a).fill o)) =
-    ap (λ (r : Contents). sum_by size_of (map.values r.objects)) put in
+-- an object is put at an offset, where there was none or in place of another one
+pub area_inserted : (a b : Area) (k : ℕ) (o : Object) → IsArea a → a.held ≡ true
+    → (contents b).objects ≡ map.insert (contents a).objects k o → IsLaidOut (contents b)
+    → b.live + share size_of (map.get (contents a).objects k) ≡ a.live + size_of o
+    → (contents b).fill + a.live ≡ (contents a).fill + b.live → b.held ≡ a.held
+    → b.generation ≡ a.generation → b.cards ≡ a.cards → IsArea b
+area_inserted a b k o is held put laid live fill held_same generation cards =
+    let sum = sum-insert size_of (contents a).objects k o in
+    let total = ap (λ (m : map.FinMap nat_cmp Object). sum_by size_of (map.values m)) put in
     let old = is.live in
-    let fill : (contents b).fill ≡ (contents a).fill + size_of o = ap (λ (r : Contents). r.fill) put in
     let low = is.within in
     let few = is.generation in
     record {
@@ -62,25 +58,42 @@ area_put a b o is held free put laid live held_same generation cards =
       generation = omega arith;
       card_count = ap length cards ∙ is.card_count;
       cards = λ card set.
-          let was : card_in (Some a) card ≡ true = sym (ap (λ (bs : List Bool). get_or bs card false) cards)
-          ∙ set in
-          subst (λ (r : Contents). BeginsIn r card) (sym put)
-          (begins_kept (contents a) (with_put (contents a) o) card (object_put (contents a) o)
-          (is.cards card was));
-      spare = λ not_held. absurd (both_ways b.held not_held (held_same ∙ held));
+          let was = is.cards card (sym (ap (λ (bs : List Bool). get_or bs card false) cards) ∙ set) in
+          record {
+            at = was.at;
+            object = ap (λ (m : map.FinMap nat_cmp Object). is_some (map.get m was.at)) put
+                ∙ still_some (contents a).objects k o was.at was.object;
+            in_card = was.in_card;
+          };
+      spare = λ free. absurd (both_ways b.held free (held_same ∙ held));
     }
 
--- the sum over nothing
-no_length : (es : List (ℕ × Object)) → length es ≡ 0 → es ≡ []
-no_length [] e = refl
-no_length (x ∷ es) e = absurd (omega arith)
+-- a part of an object is written
+same_size : (o : Object) (p : Part) → size_of (region_with_part o p) ≡ size_of o
+same_size o (Value v) = refl
+same_size o (Registered on) = refl
+same_size o (Field i n) = ap (λ k. k + 3) (length-set o.fields i n)
 
-sum_none : sum_by size_of (map.values (map.empty {X = Object} {R = nat_cmp})) ≡ 0
-sum_none =
-    let nothing : map.entries (map.empty {X = Object} {R = nat_cmp}) ≡ [] =
-    no_length _ (sym (map.len-entries (map.empty {X = Object} {R = nat_cmp}))
-    ∙ map.len-empty nat_cmp Object) in
-    ap (λ (es : List (ℕ × Object)). sum_by size_of (each (λ e. e.1) es)) nothing
+pub area_written : (a b : Area) (at : ℕ) (p : Part) → IsArea a → IsObject (contents a) at
+    → IsLaidOut (contents b) → IsWritten a b at p → IsArea b
+area_written a b at p is there laid w =
+    let o = object_at (contents a) at in
+    let fill = ap (λ (r : Contents). r.fill) w.contents_are in
+    let size = ap (share size_of) (object_there (contents a) at there) in
+    area_inserted a b at (region_with_part o p) is (held_by_object a is at there)
+    (ap (λ (r : Contents). r.objects) w.contents_are) laid (omega (arith, size, same_size o p, w.live))
+    (omega (arith, fill, w.live)) w.held w.generation w.cards
+
+-- the sum over nothing
+pub sum_none : {A : Type 0} (f : A → ℕ) → sum_by f (map.values (map.empty {X = A} {R = nat_cmp})) ≡ 0
+sum_none {A} f =
+    let bare : map.entries (map.empty {X = A} {R = nat_cmp}) ≡ [] = no_length _
+    (sym (map.len-entries (map.empty {X = A} {R = nat_cmp})) ∙ map.len-empty nat_cmp A) in
+    ap (λ (es : List (ℕ × A)). sum_by f (each (λ e. e.1) es)) bare
+  where
+    no_length : (es : List (ℕ × A)) → length es ≡ 0 → es ≡ []
+    no_length [] e = refl
+    no_length (x ∷ es) e = absurd (omega arith)
 
 pub absent : (r : Contents) (k : ℕ) → ¬ (IsObject r k) → map.get r.objects k ≡ None
 absent r k none = none_of (map.get r.objects k) none
@@ -99,10 +112,8 @@ falses (suc n) (suc k) = falses n k
 pub area_empty : (b : Area) → contents b ≡ empty_region → IsLaidOut (contents b) → b.live ≡ 0
     → b.generation ≤ 2 → length b.cards ≡ 8 → ((card : ℕ) → card_in (Some b) card ≡ false) → IsArea b
 area_empty b empty laid live few card_count clear =
-    let none : sum_by size_of (map.values (contents b).objects) ≡ sum_by size_of
-    (map.values (map.empty {X = Object} {R = nat_cmp})) =
-    ap (λ (r : Contents). sum_by size_of (map.values r.objects)) empty in
-    let zero_sum : sum_by size_of (map.values (map.empty {X = Object} {R = nat_cmp})) ≡ 0 = sum_none in
+    let none : sum_by size_of (map.values (contents b).objects) ≡ 0 =
+    ap (λ (r : Contents). sum_by size_of (map.values r.objects)) empty ∙ sum_none size_of in
     record {
       laid_out = laid;
       live = omega arith;
@@ -118,7 +129,7 @@ pub no_cards : (a : Area) → IsArea a → ((k : ℕ) → ¬ (IsObject (contents
     → card_in (Some a) card ≡ false
 no_cards a is none card = false_from_ne_true _ (λ set. let b = is.cards card set in none b.at b.object)
 
--- no object takes words where none are taken
+-- no object takes cells where none are taken
 pub none_live : (a : Area) → IsArea a → a.live ≡ 0 → (k : ℕ) → ¬ (IsObject (contents a) k)
 none_live a is zero_live k there =
     let low = sum-at size_of (contents a).objects k (object_at (contents a) k)
@@ -132,7 +143,7 @@ live_none a is none =
     let nothing : (contents a).objects ≡ map.empty =
     map.same_map nat_cmp_total map.nat_cmp-IsAntisymmetric _ _ (λ q. absent (contents a) q (none q)
     ∙ sym (map.get-empty nat_cmp q)) in
-    is.live ∙ ap (λ (m : map.FinMap nat_cmp Object). sum_by size_of (map.values m)) nothing ∙ sum_none
+    is.live ∙ ap (λ (m : map.FinMap nat_cmp Object). sum_by size_of (map.values m)) nothing ∙ sum_none size_of
 
 -- an object's size is taken
 pub live_at : (a : Area) → IsArea a → (k : ℕ) → IsObject (contents a) k

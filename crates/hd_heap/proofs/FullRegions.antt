@@ -1,10 +1,10 @@
 -- Which regions of generation 0 may have room for another object.
-use Rattle.std.proofs.Common.{◌≡◌, ◌≢◌, ℕ, ◌+◌, ◌<◌, ◌≤◌, inl, inr, true, false, cond, List, Option, Some, None, refl, sym, ap, ◌∙◌, subst, arith}
+use Rattle.std.proofs.Common.{◌≡◌, ◌≢◌, ℕ, ◌≤◌, inl, inr, true, cond, List, Option, refl, sym, ap, ◌∙◌, subst, arith}
 use Rattle.std.specs.Prelude.{is_some, unwrap_or, nat_eq}
 use Rattle.std.proofs.lemmas.Bool.{cases_eq, both_ways, eq-eqb, ne_eqb}
 use Rattle.std.specs.Ordering.{nat_cmp}
 use Rattle.std.specs.FinMap as fin
-use Rattle.hd_model.specs.Heap.{Heap, Placed, Region, is_held, region_at, region_generation}
+use Rattle.hd_model.specs.Heap.{Heap, Placed, Region, is_in_use, region_at, region_generation}
 use Rattle.hd_heap.specs.Calls.{with_fresh, with_put, with_generation, AreFull}
 use Rattle.hd_heap.specs.Steps.{AreOthersFull}
 use Rattle.hd_model.proofs.ReadAfterWrite.{get_left, get_removed}
@@ -20,7 +20,7 @@ others_by a old b new c d is_old is_new step full =
 pub others_unknown : (h : Heap) (c : ℕ) → c ≡ 0 → AreOthersFull h c
 others_unknown h c none r some held young other = absurd (some none)
 
--- a region got other words or another generation
+-- a region got other cells or another generation
 pub others_put : (h new : Heap) (c r : ℕ) (x : Region) → new.regions ≡ fin.insert h.regions r x
     → (c ≢ 0 → x.generation ≡ 0 → r ≢ c → 193 ≤ x.fill) → AreOthersFull h c → AreOthersFull new c
 others_put h new c r x regions here full q some held young other =
@@ -62,7 +62,7 @@ pub others_fresh : (h : Heap) (c r g : ℕ) → AreOthersFull h c
 others_fresh h c r g full = others_given h (with_fresh h r g) c r g 0 refl full
 
 -- an object was put into a region
-pub others_placed : (h : Heap) (c r : ℕ) (o : Placed) → is_held h r ≡ true → AreOthersFull h c
+pub others_placed : (h : Heap) (c r : ℕ) (o : Placed) → is_in_use h r ≡ true → AreOthersFull h c
     → AreOthersFull (with_put h r (region_generation h r) o) c
 others_placed h c r o held full =
     others_put h (with_put h r (region_generation h r) o) c r _ refl

@@ -1,5 +1,5 @@
 -- Lemmas on the value of a heap alone: what one call leaves for the next.
-use Rattle.std.proofs.Common.{◌≡◌, ◌≢◌, ℕ, suc, ◌+◌, ◌*◌, ◌<◌, ◌≤◌, inl, inr, ◌⊎◌, Bool, true, false, cond, List, [], ◌∷◌, length, set, get_or, take, drop, Option, Some, None, refl, sym, ap, ◌∙◌, subst, arith, length-set, get_or-set_same, get_or-set_other, ext_get_or}
+use Rattle.std.proofs.Common.{◌≡◌, ◌≢◌, ℕ, suc, ◌+◌, ◌*◌, ◌<◌, ◌≤◌, inl, inr, Bool, true, false, cond, List, [], ◌∷◌, length, set, get_or, take, drop, Option, Some, None, refl, sym, ap, ◌∙◌, subst, arith, length-set, get_or-set_same, get_or-set_other, ext_get_or}
 use Rattle.std.specs.Prelude.{is_some, unwrap_or, option_map, max}
 use Rattle.std.proofs.lemmas.Bool.{cases_eq, both_ways}
 use Rattle.std.proofs.lemmas.List.{length-replicate}
@@ -9,20 +9,25 @@ use Rattle.std.specs.FinMap as fin
 use Rattle.hd_model.specs.declared.data.Id.{Id}
 use Rattle.hd_model.specs.declared.data.Addr.{Addr}
 use Rattle.hd_model.specs.Scene.{fields_at, fields_in}
-use Rattle.hd_model.specs.Heap.{Placed, Region, Heap, region_of, region_at, region_generation, is_held, has_object, object_at, object_in, placed_at, cells_of, used_of}
+use Rattle.hd_model.specs.Heap.{Placed, Region, Heap, region_of, region_at, region_generation, is_in_use, has_object, object_at, object_in, placed_at, cells_of, used_of}
 use Rattle.hd_heap.specs.Calls.{with_object, with_put, with_fresh, with_field, with_copy, new_object, IsMade, AreFull}
-use Rattle.hd_heap.specs.Steps.{IsRoom, IsBegun}
-use Rattle.hd_heap.proofs.IndexedLists.{found_first, found_later}
+use Rattle.hd_heap.specs.Steps.{HasRoom, IsRoom}
+use Rattle.hd_model.proofs.ReadAfterWrite.{get_inserted}
+use Rattle.hd_model.proofs.Entries.{found_first, found_later}
 use Rattle.hd_heap.proofs.Areas.{some_of}
 use Rattle.hd_heap.proofs.RegionReads.{has-get}
 
 abbrev no_placed : Placed
 no_placed = record { id = record { 0 = 0 }; fields = []; value = 0; registered = false }
 
+-- two addresses of one number are one
+pub same_address : (a b : Addr) → a.0 ≡ b.0 → a ≡ b
+same_address a b e = λ i. record { 0 = e i }
+
 -- what a map has where something was put, and elsewhere
 pub get_same : {A : Type 0} (m : fin.FinMap nat_cmp A) (k q : ℕ) (x : A) → q ≡ k
     → fin.get (fin.insert m k x) q ≡ Some x
-get_same m k q x e = fin.get-insert nat_cmp_total m k x q ∙ found_first q k (Some x) (fin.get m q) e
+get_same m k q x e = fin.get-insert nat_cmp_total m k x q ∙ found_first q k x (fin.get m q) e
 
 pub get_other : {A : Type 0} (m : fin.FinMap nat_cmp A) (k q : ℕ) (x : A) → q ≢ k
     → fin.get (fin.insert m k x) q ≡ fin.get m q
@@ -64,14 +69,14 @@ fields_placed h x is =
     ap (λ o. fields_in (option_map (object_in (region_generation h (region_of x))) o)) some.1
     ∙ sym (ap (λ o. (unwrap_or o no_placed).fields) some.1)
 
--- the list of free regions without its first, after one was added where there was none
-take_whole : (xs : List ℕ) → take (length xs) xs ≡ xs
+pub take_whole : (xs : List ℕ) → take (length xs) xs ≡ xs
 take_whole [] = refl
 take_whole (x ∷ xs) = ap (λ ys. x ∷ ys) (take_whole xs)
 
+-- the list of free regions without its first, after one was added where there was none
 same_rest : (xs ys : List ℕ) → take (length xs) ys ≡ xs → length ys ≡ max 1 (length xs)
     → drop 1 ys ≡ drop 1 xs
-same_rest [] [] kept long = absurd (omega (arith, long))
+same_rest [] [] kept long = refl
 same_rest [] (y ∷ []) kept long = refl
 same_rest [] (y ∷ z ∷ zs) kept long = absurd (omega (arith, long))
 same_rest (x ∷ xs) ys kept long =
@@ -85,134 +90,102 @@ same_spares xs ys kept long some =
     let lengths : length ys ≡ length xs = omega (arith, long, some) in
     sym (take_whole ys) ∙ ap (λ n. take n ys) lengths ∙ kept
 
+abbrev blank : Region
+blank = record { generation = 0; fill = 0 }
+
+-- a region with room was in use
+pub room_was : (h : Heap) (r size : ℕ) → HasRoom h r size → IsRoom h h r size
+room_was h r size room = record {
+  room = room;
+  full = λ free. absurd (both_ways _ free room.held);
+  first = λ free. absurd (both_ways _ free room.held);
+  is = ap (λ b. cond b h (with_fresh h r 0)) (sym room.held);
+}
+
 -- a free region was taken into use, after memory was taken where there was none
 pub room_made : (old mid new : Heap) (r size : ℕ) → mid ≡ record old { spare = mid.spare }
     → take (length old.spare) mid.spare ≡ old.spare → length mid.spare ≡ max 1 (length old.spare)
-    → r ≡ get_or mid.spare 0 0 → is_held mid r ≡ false → new ≡ with_fresh mid r 0 → size ≤ 64 → AreFull old
+    → r ≡ get_or mid.spare 0 0 → is_in_use mid r ≡ false → new ≡ with_fresh mid r 0 → size ≤ 64 → AreFull old
     → IsRoom old new r size
 room_made old mid new r size same kept long number free fresh small full =
-    let rest = same_rest old.spare mid.spare kept long in
-    let is : new ≡ with_fresh old r 0 = fresh
-    ∙ ap (λ (h : Heap). record h {
-      regions = fin.insert h.regions r (record { generation = 0; fill = 0 });
-      spare = drop 1 mid.spare;
-    }) same
-    ∙ ap (λ ns. record old {
-      regions = fin.insert old.regions r (record { generation = 0; fill = 0 });
-      spare = ns;
-    }) rest in
-    let got : fin.get new.regions r ≡ Some (record { generation = 0; fill = 0 }) =
-    ap (λ (h : Heap). fin.get h.regions r) is
-    ∙ get_same old.regions r r (record { generation = 0; fill = 0 }) refl in
-    let region = ap (λ (o : Option Region). unwrap_or o (record { generation = 0; fill = 0 })) got in
-    let fill : (region_at new r).fill ≡ 0 = ap (λ (g : Region). g.fill) region in
+    let free_old : is_in_use old r ≡ false = sym (ap (λ (h : Heap). is_in_use h r) same) ∙ free in
+    let is : new ≡ with_fresh old r 0 =
+    fresh ∙ (λ i. record (same i) {
+      regions = fin.insert (same i).regions r blank;
+      spare = same_rest old.spare mid.spare kept long i;
+    }) in
+    let got : fin.get new.regions r ≡ Some blank = ap (λ (h : Heap). fin.get h.regions r) is
+    ∙ get_inserted old.regions r blank in
+    let region = ap (λ (o : Option Region). unwrap_or o blank) got in
     record {
       room = record {
         held = ap is_some got;
         young = ap (λ (g : Region). g.generation) region;
-        room = omega arith;
+        room = omega (arith, ap (λ (g : Region). g.fill) region, small);
       };
-      how = inr (record {
-        was_free = sym (ap (λ (h : Heap). is_held h r) same) ∙ free;
-        full = full;
-        first = λ some. number ∙ ap (λ ns. get_or ns 0 0) (same_spares old.spare mid.spare kept long some);
-        fresh = is;
-      });
+      full = λ _. full;
+      first = λ _ some. number ∙ ap (λ ns. get_or ns 0 0) (same_spares old.spare mid.spare kept long some);
+      is = is ∙ ap (λ b. cond b old (with_fresh old r 0)) (sym free_old);
     }
 
 pub not_there : {A : Type 0} (o : Option A) → is_some o ≡ false → o ≡ None
 not_there None e = refl
 not_there (Some x) e = absurd (cc e)
 
+-- the region with room is read as before, and what is put into it is put into the heap before
+record IsPut (old mid : Heap) (r : ℕ) (o : Placed) (held : Bool) : Type 0 where
+  objects : mid.objects ≡ old.objects
+  region : region_at mid r ≡ region_at old r
+  put : with_put mid r 0 o ≡ record (with_put old r 0 o) { spare = cond held old.spare (drop 1 old.spare) }
+
+put_there : (old mid : Heap) (r : ℕ) (o : Placed) (b : Bool) → is_in_use old r ≡ b
+    → mid ≡ cond b old (with_fresh old r 0) → IsPut old mid r o b
+put_there old mid r o true held is = record {
+  objects = ap (λ (h : Heap). h.objects) is;
+  region = ap (λ (h : Heap). region_at h r) is;
+  put = ap (λ (h : Heap). with_put h r 0 o) is;
+}
+put_there old mid r o false free is =
+    let none = ap (λ (x : Option Region). unwrap_or x blank) (not_there _ free) in
+    let some = ap (λ (x : Option Region). unwrap_or x blank) (get_inserted old.regions r blank) in
+    let region : region_at mid r ≡ region_at old r = ap (λ (h : Heap). region_at h r) is ∙ some ∙ sym none in
+    let g : Region = record { generation = 0; fill = (region_at old r).fill + cells_of o } in
+    record {
+      objects = ap (λ (h : Heap). h.objects) is;
+      region = region;
+      put = (λ i. record (is i) {
+        objects = fin.insert (is i).objects (r * 256 + (region i).fill) o;
+        regions = fin.insert (is i).regions r (record { generation = 0; fill = (region i).fill + cells_of o });
+      })
+          ∙ ap (λ rs. record old {
+            objects = fin.insert old.objects (r * 256 + (region_at old r).fill) o;
+            regions = rs;
+            spare = drop 1 old.spare;
+          }) (put_twice old.regions r blank g);
+    }
+
 -- an object was made where there was room
 pub made : (old mid new : Heap) (r size : ℕ) (at : Addr) (o : Placed) → used_of old + cells_of o ≤ old.limit
     → IsRoom old mid r size → at.0 ≡ r * 256 + (region_at mid r).fill → region_of at ≡ r
     → has_object mid at ≡ false → new ≡ with_put mid r (region_generation mid r) o → IsMade old new at o
-made old mid new r size at o fits room place region free put = by_how room.how
+made old mid new r size at o fits room place region free put =
+    subst (λ n. IsRoom old mid n size → at.0 ≡ n * 256 + (region_at mid n).fill
+    → new ≡ with_put mid n (region_generation mid n) o → IsMade old new at o) region made_there room place put
   where
-    by_how : ((mid ≡ old) × (is_held old r ≡ true)) ⊎ IsBegun old mid r → IsMade old new at o
-    by_how (inl was) =
-        let young : region_generation old r ≡ 0 = ap (λ (h : Heap). region_generation h r) (sym was.0)
-        ∙ room.room.young in
-        let P : ℕ → Type 0 = λ n. (at.0 ≡ n * 256 + (region_at old n).fill) × (region_generation old n ≡ 0)
-        × (new ≡ record (with_put old n 0 o) {
-          spare = cond (is_held old n) old.spare
-              (drop 1 old.spare);
-        }) in
-        let all = subst P (sym region) (
-          place ∙ ap (λ (h : Heap). r * 256 + (region_at h r).fill) was.0,
-          young,
-          put ∙ ap (λ n. with_put mid r n o) room.room.young ∙ ap (λ (h : Heap). with_put h r 0 o) was.0
-              ∙ ap (λ b. record (with_put old r 0 o) { spare = cond b old.spare (drop 1 old.spare) })
-              (sym was.1),
-        ) in
+    made_there : IsRoom old mid (region_of at) size → at.0 ≡ region_of at * 256 + (region_at mid (region_of at)).fill
+        → new ≡ with_put mid (region_of at) (region_generation mid (region_of at)) o → IsMade old new at o
+    made_there room place put =
+        let n = region_of at in
+        let p = put_there old mid n o (is_in_use old n) refl room.is in
         record {
           fits = fits;
-          place = all.0;
-          was_free = ap (λ (h : Heap). has_object h at) (sym was.0) ∙ free;
-          young = all.1;
-          full = λ free_one. absurd (both_ways _ (ap (is_held old) (sym region) ∙ free_one) was.1);
-          first = λ free_one. absurd (both_ways _ (ap (is_held old) (sym region) ∙ free_one) was.1);
-          made = all.2;
+          place = place ∙ ap (λ (g : Region). n * 256 + g.fill) p.region;
+          was_free = has-get old at ∙ ap (λ m. is_some (fin.get m at.0)) (sym p.objects) ∙ sym (has-get mid at) ∙ free;
+          young = ap (λ (g : Region). g.generation) (sym p.region) ∙ room.room.young;
+          full = room.full;
+          first = room.first;
+          made = put ∙ ap (λ g. with_put mid n g o) room.room.young ∙ p.put;
         }
-    by_how (inr new_one) =
-        let none : fin.get old.regions r ≡ None = not_there _ new_one.was_free in
-        let region_old : region_at old r ≡ record { generation = 0; fill = 0 } =
-        ap (λ (x : Option Region). unwrap_or x (record { generation = 0; fill = 0 })) none in
-        let region_mid : region_at mid r ≡ record { generation = 0; fill = 0 } =
-        ap (λ (h : Heap). region_at h r) new_one.fresh
-        ∙ ap (λ (x : Option Region). unwrap_or x (record { generation = 0; fill = 0 }))
-        (get_same old.regions r r (record { generation = 0; fill = 0 }) refl) in
-        let P : ℕ → Type 0 = λ n. (at.0 ≡ n * 256 + (region_at old n).fill) × (region_generation old n ≡ 0)
-        × (new ≡ record (with_put old n 0 o) {
-          spare = cond (is_held old n) old.spare
-              (drop 1 old.spare);
-        }) in
-        let all = subst P (sym region) (
-          place ∙ ap (λ (g : Region). r * 256 + g.fill) (region_mid ∙ sym region_old),
-          ap (λ (g : Region). g.generation) region_old,
-          put ∙ ap (λ n. with_put mid r n o) room.room.young
-              ∙ ap (λ (g : Region). record mid {
-                objects = fin.insert mid.objects (r * 256 + g.fill) o;
-                regions = fin.insert mid.regions r
-                    (record { generation = 0; fill = g.fill + cells_of o });
-              }) (region_mid ∙ sym region_old)
-              ∙ ap (λ (h : Heap). record h {
-                objects = fin.insert h.objects
-                    (r * 256 + (region_at old r).fill) o;
-                regions =
-                    fin.insert h.regions r (record {
-                      generation = 0;
-                      fill = (region_at old r).fill + cells_of o;
-                    });
-              }) new_one.fresh
-              ∙ ap (λ rs. record old {
-                objects = fin.insert old.objects (r * 256 + (region_at old r).fill) o;
-                regions = rs;
-                spare = drop 1 old.spare;
-              })
-              (put_twice old.regions r (record { generation = 0; fill = 0 })
-              (record { generation = 0; fill = (region_at old r).fill + cells_of o }))
-              ∙ ap (λ b. record (with_put old r 0 o) { spare = cond b old.spare (drop 1 old.spare) })
-              (sym new_one.was_free),
-        ) in
-        record {
-          fits = fits;
-          place = all.0;
-          was_free = has-get old at ∙ ap (λ (h : Heap). is_some (fin.get h.objects at.0)) (sym new_one.fresh)
-              ∙ sym (has-get mid at) ∙ free;
-          young = all.1;
-          full = λ free_one. new_one.full;
-          first = λ free_one some. region ∙ new_one.first some;
-          made = all.2;
-        }
-
--- how far the fields of an object have been copied into another one
-pub record IsCopying (old now : Heap) (from copy : Addr) (count i : ℕ) : Type 0 where
-  pub fields : List (Option Addr)
-  pub is : now ≡ with_object old copy (record (placed_at old copy) { fields = fields })
-  pub many : length fields ≡ count
-  pub done : (j : ℕ) → j < i → get_or fields j None ≡ get_or (placed_at old from).fields j None
 
 pub write_same : (h : Heap) (a : Addr) → has_object h a ≡ true → h ≡ with_object h a (placed_at h a)
 write_same h a is =
@@ -225,196 +198,98 @@ write_same h a is =
       | inr apart ↦ sym (get_other h.objects a.0 q (placed_at h a) apart)
     ]))
 
-pub copying_starts : (h : Heap) (from copy : Addr) (count : ℕ) → has_object h copy ≡ true
-    → length (placed_at h copy).fields ≡ count → IsCopying h h from copy count 0
-copying_starts h from copy count is many = record {
-  fields = (placed_at h copy).fields;
-  is = write_same h copy is;
-  many = many;
-  done = λ j below. absurd (omega arith);
-}
+-- an object was put after all others of a region, at a free address, and another one is as it was
+pub record IsCopied (h now : Heap) (from copy : Addr) (o : Placed) : Type 0 where
+  pub there : has_object now copy ≡ true
+  pub copy_is : placed_at now copy ≡ o
+  pub from_there : has_object now from ≡ true
+  pub from_is : placed_at now from ≡ placed_at h from
+  pub fields : fields_at (object_at now) from ≡ fields_at (object_at h) from
 
-module _ (old now : Heap) (from copy : Addr) (count i : ℕ) (apart : from.0 ≢ copy.0)
-    (c : IsCopying old now from copy count i) where
-  -- both objects are there, with their fields
-  pub copying_has : (x : Addr) → has_object old x ≡ true → has_object now x ≡ true
-  copying_has x is = ap (λ (h : Heap). has_object h x) c.is ∙ has_with_object old copy x _ is
-
-  from_kept : placed_at now from ≡ placed_at old from
-  from_kept = ap (λ (h : Heap). placed_at h from) c.is ∙ placed_kept old copy from _ apart
-
-  copy_is : placed_at now copy ≡ record (placed_at old copy) { fields = c.fields }
-  copy_is = ap (λ (h : Heap). placed_at h copy) c.is ∙ placed_with_object old copy _
-
-  pub copying_from : has_object old from ≡ true → fields_at (object_at now) from ≡ (placed_at old from).fields
-  copying_from is = fields_placed now from (copying_has from is) ∙ ap (λ (p : Placed). p.fields) from_kept
-
-  pub copying_copy : has_object old copy ≡ true → length (fields_at (object_at now) copy) ≡ count
-  copying_copy is = ap length (fields_placed now copy (copying_has copy is)
-      ∙ ap (λ (p : Placed). p.fields) copy_is) ∙ c.many
-
-  pub copying_next : (new : Heap) (v : Option Addr) → i < count
-      → v ≡ get_or (placed_at old from).fields i None
-      → new ≡ with_object now copy (with_field (placed_at now copy) i v) → IsCopying old new from copy count
-      (i + 1)
-  copying_next new v below value written =
-      let many = c.many in
+module _ (h : Heap) (from copy : Addr) (r : ℕ) (is : has_object h from ≡ true) (free : has_object h copy ≡ false)
+    (place : copy.0 ≡ r * 256 + (region_at h r).fill) where
+  pub put_read : (now : Heap) (o : Placed) → now ≡ with_put h r (region_generation h r) o → IsCopied h now from copy o
+  put_read now o put =
+      let objects : now.objects ≡ fin.insert h.objects copy.0 o = ap (λ (x : Heap). x.objects) put
+      ∙ ap (λ k. fin.insert h.objects k o) (sym place) in
+      let apart : from.0 ≢ copy.0 = λ e. both_ways _
+      (sym (has-get h copy ∙ ap (λ k. is_some (fin.get h.objects k)) (sym e)) ∙ free) (sym (has-get h from) ∙ is) in
+      let got = ap (λ m. fin.get m copy.0) objects ∙ get_inserted h.objects copy.0 o in
+      let was = ap (λ m. fin.get m from.0) objects ∙ get_other h.objects copy.0 from.0 o apart in
+      let from_there = has-get now from ∙ ap is_some was ∙ sym (has-get h from) ∙ is in
+      let from_is = ap (λ x. unwrap_or x no_placed) was in
       record {
-        fields = set c.fields i v;
-        is = written ∙ ap (λ (p : Placed). with_object now copy (with_field p i v)) copy_is
-            ∙ ap (λ (h : Heap). with_object h copy
-            (record (placed_at old copy) { fields = set c.fields i v })) c.is
-            ∙ write_twice old copy _ _;
-        many = length-set c.fields i v ∙ c.many;
-        done = λ j low. elim (cases_eq j i) [
-          | inl same ↦ ap (λ n. get_or (set c.fields i v) n None) same ∙ get_or-set_same c.fields i v None
-              (omega arith) ∙ value ∙ ap (λ n. get_or (placed_at old from).fields n None) (sym same)
-          | inr other ↦ get_or-set_other c.fields i j v None other ∙ c.done j (omega (arith, other))
-        ];
+        there = has-get now copy ∙ ap is_some got;
+        copy_is = ap (λ x. unwrap_or x no_placed) got;
+        from_there = from_there;
+        from_is = from_is;
+        fields = fields_placed now from from_there ∙ ap (λ (x : Placed). x.fields) from_is
+            ∙ sym (fields_placed h from is);
       }
 
-pub copying_ends : (old now : Heap) (from copy : Addr) (count i : ℕ) → IsCopying old now from copy count i
-    → count ≤ i → count ≡ length (placed_at old from).fields
-    → now ≡ with_object old copy (record (placed_at old copy) { fields = (placed_at old from).fields })
-copying_ends old now from copy count i c end many =
-    let lengths = c.many in
-    let all : c.fields ≡ (placed_at old from).fields =
-    ext_get_or None _ _ (lengths ∙ many) (λ j below. c.done j (omega arith)) in
-    c.is ∙ ap (λ fs. with_object old copy (record (placed_at old copy) { fields = fs })) all
+  -- it is written to, and is as large as before
+  pub put_written : (now new : Heap) (o p : Placed) → now ≡ with_put h r (region_generation h r) o
+      → new ≡ with_object now copy p → cells_of p ≡ cells_of o → new ≡ with_put h r (region_generation h r) p
+  put_written now new o p put written cells =
+      written ∙ ap (λ (x : Heap). with_object x copy p) put
+      ∙ (λ i. record h {
+        objects = fin.insert (fin.insert h.objects (r * 256 + (region_at h r).fill) o) (place i) p;
+        regions = fin.insert h.regions r
+            (record { generation = region_generation h r; fill = (region_at h r).fill + sym cells i });
+      })
+      ∙ ap (λ m. record (with_put h r (region_generation h r) p) { objects = m })
+      (put_twice h.objects (r * 256 + (region_at h r).fill) o p)
 
--- an object that was put, and then given the value and the fields of another one, is a copy of it
-pub copied : (h put valued new : Heap) (from copy : Addr) (r : ℕ) (id : Id) (count : ℕ) (on : Bool) (v : ℕ)
-    → has_object h from ≡ true → has_object h copy ≡ false → copy.0 ≡ r * 256 + (region_at h r).fill
-    → id ≡ (placed_at h from).id → count ≡ length (placed_at h from).fields
-    → on ≡ (placed_at h from).registered → v ≡ (placed_at h from).value
-    → put ≡ with_put h r (region_generation h r) (new_object id count on)
-    → valued ≡ with_object put copy (record (placed_at put copy) { value = v })
-    → new ≡ with_object valued copy
-    (record (placed_at valued copy) { fields = (placed_at valued from).fields }) → new ≡ with_copy h from r
-copied h put valued new from copy r id count on v is free place id_is count_is on_is v_is put_is valued_is
-    new_is =
-    let p = placed_at h from in
-    let start = new_object id count on in
-    let apart : from.0 ≢ copy.0 = λ e. both_ways _
-    (sym (has-get h copy ∙ ap (λ k. is_some (fin.get h.objects k)) (sym e)) ∙ free) (sym (has-get h from)
-    ∙ is) in
-    let put_at : put ≡ record (with_object h copy start) {
-      regions = (with_put h r
-          (region_generation h r) start).regions;
-    } =
-    put_is ∙ ap (λ k. record h {
-      objects = fin.insert h.objects k start;
-      regions = (with_put h r (region_generation h r) start).regions;
-    }) (sym place) in
-    let start_is : placed_at put copy ≡ start = ap (λ (x : Heap). placed_at x copy) put_at
-    ∙ placed_with_object h copy start in
-    let from_put : placed_at put from ≡ p = ap (λ (x : Heap). placed_at x from) put_at
-    ∙ placed_kept h copy from start apart in
-    let valued_at : placed_at valued copy ≡ record start { value = v } =
-    ap (λ (x : Heap). placed_at x copy) valued_is ∙ placed_with_object put copy _
-    ∙ ap (λ (x : Placed). record x { value = v }) start_is in
-    let from_valued : placed_at valued from ≡ p = ap (λ (x : Heap). placed_at x from) valued_is
-    ∙ placed_kept put copy from _ apart ∙ from_put in
-    let whole : record start { value = v; fields = p.fields } ≡ p = λ i. record {
-      id = id_is i;
-      fields = p.fields;
-      value = v_is i;
-      registered = on_is i;
-    } in
-    let cells : cells_of start ≡ cells_of p = ap (λ n. n + 3) (length-replicate count None ∙ count_is) in
-    new_is
-    ∙ ap (λ (x : Placed). with_object valued copy (record x { fields = (placed_at valued from).fields }))
-    valued_at
-    ∙ ap (λ (x : Placed). with_object valued copy (record start { value = v; fields = x.fields })) from_valued
-    ∙ ap (with_object valued copy) whole
-    ∙ ap (λ (x : Heap). with_object x copy p) valued_is ∙ write_twice put copy _ p
-    ∙ ap (λ (x : Heap). with_object x copy p) put_at
-    ∙ ap (λ m. record h { objects = m; regions = (with_put h r (region_generation h r) start).regions })
-    (put_twice h.objects copy.0 start p)
-    ∙ ap (λ k. record h {
-      objects = fin.insert h.objects k p;
-      regions = (with_put h r (region_generation h r) start).regions;
-    }) place
-    ∙ ap (λ n. record h {
-      objects = fin.insert h.objects (r * 256 + (region_at h r).fill) p;
-      regions = fin.insert h.regions r
-          (record { generation = region_generation h r; fill = (region_at h r).fill + n });
-    }) cells
+-- how far an object has been copied
+pub record IsCopying (h now : Heap) (from : Addr) (r i : ℕ) : Type 0 where
+  pub object : Placed
+  pub is : now ≡ with_put h r (region_generation h r) object
+  pub header : object ≡ record (placed_at h from) { fields = object.fields }
+  pub many : length object.fields ≡ length (placed_at h from).fields
+  pub done : (j : ℕ) → j < i → get_or object.fields j None ≡ get_or (placed_at h from).fields j None
 
--- what the steps of a copy need on the way
-put_has : (h put : Heap) (x copy : Addr) (r : ℕ) (o : Placed) → copy.0 ≡ r * 256 + (region_at h r).fill
-    → put ≡ with_put h r (region_generation h r) o → (x.0 ≡ copy.0) ⊎ (has_object h x ≡ true)
-    → has_object put x ≡ true
-put_has h put x copy r o place put_is (inl same) =
-    has-get put x ∙ ap (λ (y : Heap). is_some (fin.get y.objects x.0)) put_is
-    ∙ ap is_some (get_same h.objects (r * 256 + (region_at h r).fill) x.0 o (same ∙ place))
-put_has h put x copy r o place put_is (inr is) = elim (cases_eq x.0 copy.0) [
-  | inl same ↦ has-get put x ∙ ap (λ (y : Heap). is_some (fin.get y.objects x.0)) put_is
-      ∙ ap is_some (get_same h.objects (r * 256 + (region_at h r).fill) x.0 o (same ∙ place))
-  | inr apart ↦ has-get put x ∙ ap (λ (y : Heap). is_some (fin.get y.objects x.0)) put_is
-      ∙ ap is_some (get_other h.objects (r * 256 + (region_at h r).fill) x.0 o (λ e. apart (e ∙ sym place)))
-      ∙ sym (has-get h x) ∙ is
-]
+pub copying_starts : (h now : Heap) (from : Addr) (r : ℕ) (id : Id) (count : ℕ) (on : Bool) (v : ℕ)
+    → now ≡ with_put h r (region_generation h r) (record (new_object id count on) { value = v })
+    → id ≡ (placed_at h from).id → count ≡ length (placed_at h from).fields → on ≡ (placed_at h from).registered
+    → v ≡ (placed_at h from).value → IsCopying h now from r 0
+copying_starts h now from r id count on v is id_is count_is on_is v_is = record {
+  object = record (new_object id count on) { value = v };
+  is = is;
+  header = λ i. record {
+    id = id_is i;
+    fields = (new_object id count on).fields;
+    value = v_is i;
+    registered = on_is i;
+  };
+  many = length-replicate count None ∙ count_is;
+  done = λ j below. absurd (omega (arith, below));
+}
 
-pub put_has_from : (h put : Heap) (from copy : Addr) (r : ℕ) (o : Placed)
-    → copy.0 ≡ r * 256 + (region_at h r).fill → put ≡ with_put h r (region_generation h r) o
-    → has_object h from ≡ true → has_object put from ≡ true
-put_has_from h put from copy r o place put_is is = put_has h put from copy r o place put_is (inr is)
+pub copying_next : (h now new : Heap) (from copy : Addr) (r i : ℕ) (v : Option Addr) → has_object h from ≡ true
+    → has_object h copy ≡ false → copy.0 ≡ r * 256 + (region_at h r).fill → IsCopying h now from r i
+    → i < length (placed_at h from).fields → v ≡ get_or (placed_at h from).fields i None
+    → new ≡ with_object now copy (with_field (placed_at now copy) i v) → IsCopying h new from r (i + 1)
+copying_next h now new from copy r i v is free place c below value written =
+    let old = c.object in
+    let p = put_read h from copy r is free place now old c.is in
+    record {
+      object = with_field old i v;
+      is = put_written h from copy r is free place now new old (with_field old i v) c.is
+          (written ∙ ap (λ x. with_object now copy (with_field x i v)) p.copy_is)
+          (ap (λ n. n + 3) (length-set old.fields i v));
+      header = ap (λ x. with_field x i v) c.header;
+      many = length-set old.fields i v ∙ c.many;
+      done = λ j low. elim (cases_eq j i) [
+        | inl same ↦ ap (λ n. get_or (set old.fields i v) n None) same
+            ∙ get_or-set_same old.fields i v None (omega (arith, below, c.many)) ∙ value
+            ∙ ap (λ n. get_or (placed_at h from).fields n None) (sym same)
+        | inr other ↦ get_or-set_other old.fields i j v None other ∙ c.done j (omega (arith, low, other))
+      ];
+    }
 
-pub put_has_copy : (h put : Heap) (copy : Addr) (r : ℕ) (o : Placed) → copy.0 ≡ r * 256 + (region_at h r).fill
-    → put ≡ with_put h r (region_generation h r) o → has_object put copy ≡ true
-put_has_copy h put copy r o place put_is = put_has h put copy copy r o place put_is (inl refl)
-
-pub valued_has : (put valued : Heap) (copy x : Addr) (p : Placed) → valued ≡ with_object put copy p
-    → has_object put x ≡ true → has_object valued x ≡ true
-valued_has put valued copy x p valued_is is = ap (λ (h : Heap). has_object h x) valued_is
-    ∙ has_with_object put copy x p is
-
-pub valued_fields : (h put valued : Heap) (from copy : Addr) (r : ℕ) (id : Id) (count : ℕ) (on : Bool) (v : ℕ)
-    → has_object h from ≡ true → has_object h copy ≡ false → copy.0 ≡ r * 256 + (region_at h r).fill
-    → count ≡ length (placed_at h from).fields → put ≡ with_put h r (region_generation h r)
-    (new_object id count on) → valued ≡ with_object put copy (record (placed_at put copy) { value = v })
-    → (count ≡ length (placed_at valued from).fields) × (length (placed_at valued copy).fields ≡ count)
-valued_fields h put valued from copy r id count on v is free place count_is put_is valued_is =
-    let start = new_object id count on in
-    let apart : from.0 ≢ copy.0 = λ e. both_ways _
-    (sym (has-get h copy ∙ ap (λ k. is_some (fin.get h.objects k)) (sym e)) ∙ free) (sym (has-get h from)
-    ∙ is) in
-    let put_at : put ≡ record (with_object h copy start) {
-      regions = (with_put h r
-          (region_generation h r) start).regions;
-    } =
-    put_is ∙ ap (λ k. record h {
-      objects = fin.insert h.objects k start;
-      regions = (with_put h r (region_generation h r) start).regions;
-    }) (sym place) in
-    let start_is : placed_at put copy ≡ start = ap (λ (x : Heap). placed_at x copy) put_at
-    ∙ placed_with_object h copy start in
-    let from_put : placed_at put from ≡ placed_at h from = ap (λ (x : Heap). placed_at x from) put_at
-    ∙ placed_kept h copy from start apart in
-    let valued_at : placed_at valued copy ≡ record start { value = v } =
-    ap (λ (x : Heap). placed_at x copy) valued_is ∙ placed_with_object put copy _
-    ∙ ap (λ (x : Placed). record x { value = v }) start_is in
-    let from_valued : placed_at valued from ≡ placed_at h from = ap (λ (x : Heap). placed_at x from) valued_is
-    ∙ placed_kept put copy from _ apart ∙ from_put in (
-      count_is ∙ sym (ap (λ (p : Placed). length p.fields) from_valued),
-      ap (λ (p : Placed). length p.fields) valued_at ∙ length-replicate count None,
-    )
-
-pub kept_value : (h put : Heap) (from copy : Addr) (r : ℕ) (o : Placed) → has_object h from ≡ true
-    → has_object h copy ≡ false → copy.0 ≡ r * 256 + (region_at h r).fill
-    → put ≡ with_put h r (region_generation h r) o → (placed_at put from).value ≡ (placed_at h from).value
-kept_value h put from copy r o is free place put_is =
-    let apart : from.0 ≢ copy.0 = λ e. both_ways _
-    (sym (has-get h copy ∙ ap (λ k. is_some (fin.get h.objects k)) (sym e)) ∙ free) (sym (has-get h from)
-    ∙ is) in
-    let put_at : put ≡ record (with_object h copy o) {
-      regions = (with_put h r
-          (region_generation h r) o).regions;
-    } =
-    put_is ∙ ap (λ k. record h {
-      objects = fin.insert h.objects k o;
-      regions = (with_put h r (region_generation h r) o).regions;
-    }) (sym place) in
-    ap (λ (x : Heap). (placed_at x from).value) put_at
-    ∙ ap (λ (p : Placed). p.value) (placed_kept h copy from o apart)
+pub copying_ends : (h now : Heap) (from : Addr) (r i : ℕ) → IsCopying h now from r i
+    → length (placed_at h from).fields ≤ i → now ≡ with_copy h from r
+copying_ends h now from r i c end =
+    let all = ext_get_or None _ _ c.many (λ j below. c.done j (omega (arith, below, c.many, end))) in
+    c.is ∙ ap (with_put h r (region_generation h r))
+    (c.header ∙ ap (λ fs. record (placed_at h from) { fields = fs }) all)

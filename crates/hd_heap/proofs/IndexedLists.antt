@@ -1,13 +1,12 @@
 -- Lemmas on lists that are read as maps and sets by index.
 use Rattle.std.proofs.Common.{◌≡◌, ℕ, zero, suc, ◌+◌, ◌-◌, ◌*◌, ◌<◌, Bool, true, false, ◌||◌, cond, List, [], ◌∷◌, ◌++◌, length, get_or, Option, Some, None, refl, sym, ap, ◌∙◌, arith}
 use Rattle.std.specs.List.{list_any}
-use Rattle.std.specs.FinMap.{get, find, get-from_entries}
 use Rattle.std.specs.FinSet as set
 use Rattle.std.specs.Ordering.{nat_cmp, eq_by_cmp}
 use Rattle.std.specs.Cmp.{nat_cmp_total, unsigned_tied}
 use Rattle.std.proofs.lemmas.Bool.{eq-eqb, ne_eqb}
 use Rattle.std.proofs.lemmas.List.{get_or_append_left, get_or-append_right}
-use Rattle.hd_heap.specs.Places.{numbered, by_place, flagged, places_of, table, tables}
+use Rattle.hd_heap.specs.Places.{flagged, places_of, table, tables}
 
 -- the order's test at two numbers that are equal, and at two that are not
 pub tied : (q i : ℕ) → q ≡ i → eq_by_cmp nat_cmp q i ≡ true
@@ -16,35 +15,9 @@ tied q i same = unsigned_tied q i ∙ eq-eqb q i same
 pub untied : (q i : ℕ) → (q ≡ i → ⊥) → eq_by_cmp nat_cmp q i ≡ false
 untied q i apart = unsigned_tied q i ∙ ne_eqb q i apart
 
--- what is found at a key that is the first one, and at another
-pub found_first : {A : Type 0} (q i : ℕ) (x o : Option A) → q ≡ i → cond (eq_by_cmp nat_cmp q i) x o ≡ x
-found_first q i x o same = ap (λ b. cond b x o) (tied q i same)
-
-pub found_later : {A : Type 0} (q i : ℕ) (x o : Option A) → (q ≡ i → ⊥) → cond (eq_by_cmp nat_cmp q i) x o ≡ o
-found_later q i x o apart = ap (λ b. cond b x o) (untied q i apart)
-
-find-numbered_below : {A : Type 0} (i q : ℕ) (xs : List (Option A)) → q < i
-    → find nat_cmp q (numbered i xs) ≡ None
-find-numbered_below i q [] below = refl
-find-numbered_below i q (None ∷ xs) below = find-numbered_below (i + 1) q xs (omega arith)
-find-numbered_below i q (Some x ∷ xs) below =
-    found_later q i (Some x) (find nat_cmp q (numbered (i + 1) xs)) (λ same. omega arith)
-    ∙ find-numbered_below (i + 1) q xs (omega arith)
-
-find-numbered : {A : Type 0} (i j q : ℕ) (xs : List (Option A)) → q ≡ i + j
-    → find nat_cmp q (numbered i xs) ≡ get_or xs j None
-find-numbered i j q [] at = refl
-find-numbered i zero q (None ∷ xs) at = find-numbered_below (i + 1) q xs (omega arith)
-find-numbered i (suc j) q (None ∷ xs) at = find-numbered (i + 1) j q xs (omega arith)
-find-numbered i zero q (Some x ∷ xs) at = found_first q i (Some x) (find nat_cmp q (numbered (i + 1) xs))
-    (omega arith)
-find-numbered i (suc j) q (Some x ∷ xs) at =
-    found_later q i (Some x) (find nat_cmp q (numbered (i + 1) xs)) (λ same. omega arith)
-    ∙ find-numbered (i + 1) j q xs (omega arith)
-
--- a read by index
-pub get-by_place : {A : Type 0} (xs : List (Option A)) (k : ℕ) → get (by_place xs) k ≡ get_or xs k None
-get-by_place xs k = get-from_entries nat_cmp_total (numbered 0 xs) k ∙ find-numbered 0 k k xs (omega arith)
+-- what is found at a key that is the first one
+pub found_here : {A : Type 0} (q i : ℕ) (x o : Option A) → q ≡ i → cond (eq_by_cmp nat_cmp q i) x o ≡ x
+found_here q i x o same = ap (λ b. cond b x o) (tied q i same)
 
 any-flagged_below : (i q : ℕ) (bs : List Bool) → q < i → list_any (eq_by_cmp nat_cmp q) (flagged i bs) ≡ false
 any-flagged_below i q [] below = refl

@@ -1,23 +1,23 @@
 -- Lemmas on a heap that is read from its regions.
-use Rattle.std.proofs.Common.{◌≡◌, ◌≢◌, ℕ, zero, suc, ◌+◌, ◌*◌, ◌/◌, ◌%◌, ◌<◌, ◌≤◌, Bool, true, false, cond, List, [], ◌∷◌, map, length, set, get_or, Option, Some, None, refl, sym, ap, ◌∙◌, subst, arith, length-set}
+use Rattle.std.proofs.Common.{◌≡◌, ◌≢◌, ℕ, zero, suc, ◌+◌, ◌-◌, ◌/◌, ◌%◌, ◌<◌, inl, inr, Bool, true, false, cond, List, [], ◌∷◌, map, length, set, get_or, Option, Some, None, refl, sym, ap, ◌∙◌, subst, arith, length-set, deque_capacity}
 use Rattle.std.specs.Prelude.{is_some, unwrap_or, option_map}
-use Rattle.std.proofs.lemmas.List.{get_or-map, get_or-set_same, get_or-set_other, length-map, map-set}
+use Rattle.std.proofs.lemmas.Bool.{both_ways, cases_lt}
+use Rattle.std.proofs.lemmas.List.{get_or-map, get_or-set_same, get_or-set_other, get_or_past, length-map, map-set}
 use Rattle.std.specs.FinMap as fin
 use Rattle.std.specs.FinSet as set_of
-use Rattle.hd_cells.specs.Object.{Object}
-use Rattle.hd_cells.specs.Region.{Contents, IsObject, object_at as object_in_region}
+use Rattle.hd_cells.specs.Region.{IsObject, object_at as object_in_region}
 use Rattle.hd_model.specs.declared.data.Addr.{Addr}
-use Rattle.hd_model.specs.Scene.{generation_at, fields_at, generation_in, fields_in}
-use Rattle.hd_model.specs.Heap.{Placed, Region, Heap, region_of, is_held, region_at, region_generation, has_object, object_at, object_in, placed_at, is_set}
+use Rattle.hd_model.specs.Scene.{generation_in, fields_in}
+use Rattle.hd_model.specs.Heap.{Placed, Region, Heap, region_of, is_in_use, region_at, region_generation, has_object, object_in, placed_at, is_set, used_of}
 use Rattle.hd_heap.specs.declared.area.Area.{Area}
+use Rattle.hd_heap.specs.declared.heap.Heap.TheInside.{Inside}
 use Rattle.hd_heap.specs.Places.{from_one, tables}
-use Rattle.hd_heap.specs.Areas.{contents, area_at, address, placed_of, placed_in, region_in, card_in, objects_in, regions_in, cards_in, heap_of}
+use Rattle.hd_heap.specs.Areas.{contents, area_at, address, placed_of, placed_in, region_in, card_in, objects_in, regions_in, cards_in, heap_of, IsArea}
 use Rattle.hd_heap.specs.Kept.{IsKept}
-use Rattle.hd_heap.proofs.IndexedLists.{get-by_place, contains-places_of, get_or-tables}
-use Rattle.hd_heap.proofs.Areas.{object_there, none_in_empty}
-
-abbrev region_if : Bool → Region → Option Region
-region_if b g = cond b (Some g) None
+use Rattle.hd_heap.specs.Steps.{AreOthersFull, IsObjectOf}
+use Rattle.hd_model.proofs.IndexedItems.{get-by_place}
+use Rattle.hd_heap.proofs.IndexedLists.{contains-places_of, get_or-tables}
+use Rattle.hd_heap.proofs.Areas.{object_there, held_by_object}
 
 -- a read of a list of options through a function
 get_or-option : {A B : Type 0} (f : Option A → Option B) (os : List (Option A)) (k : ℕ) → f None ≡ None
@@ -44,57 +44,66 @@ contains-cards areas c =
     contains-places_of (tables 8 card_in (from_one areas)) c
     ∙ get_or-tables 8 card_in false (λ k. refl) (from_one areas) c (c / 8) (c % 8) (omega arith) (omega arith)
 
--- the region at an index of the list, which is that of a number
-pub record IsAt (areas : List Area) (r : ℕ) (a : Area) : Type 0 where
-  pub place : ℕ
-  pub number : r ≡ suc place
-  pub within : place < length areas
-  pub read : (d : Area) → get_or areas place d ≡ a
+-- a region of the list as the heap's users see it
+abbrev pub seen : Area → Region
+seen a = record { generation = a.generation; fill = (contents a).fill }
 
-some_is : {A : Type 0} (x y : A) → Some x ≡ Some y → x ≡ y
-some_is x y e = cc
+pub in_use : (a : Area) → a.held ≡ true → region_in (Some a) ≡ Some (seen a)
+in_use a held = ap (λ b. cond b (Some (seen a)) None) held
 
-at_place : (areas : List Area) (k : ℕ) (a : Area) → get_or (map Some areas) k None ≡ Some a
-    → (k < length areas) × ((d : Area) → get_or areas k d ≡ a)
-at_place [] k a e = absurd (cc e)
-at_place (x ∷ areas) zero a e = (omega arith, λ d. some_is x a e)
-at_place (x ∷ areas) (suc k) a e = let rest = at_place areas k a e in
-    (let low = rest.0 in omega arith, rest.1)
+pub not_in_use : (a : Area) → a.held ≡ false → region_in (Some a) ≡ None
+not_in_use a free = ap (λ b. cond b (Some (seen a)) None) free
 
-pub is_at : (areas : List Area) (r : ℕ) (a : Area) → area_at areas r ≡ Some a → IsAt areas r a
-is_at areas zero a e = absurd (cc e)
-is_at areas (suc k) a e = let p = at_place areas k a e in
-    record { place = k; number = refl; within = p.0; read = p.1 }
+-- the region of a number, at an index of the list
+pub record IsPlace (areas : List Area) (r k : ℕ) (a : Area) : Type 0 where
+  pub number : r ≡ suc k
+  pub within : k < length areas
+  pub here : area_at areas r ≡ Some a
 
-pub area_read : (areas : List Area) (r k : ℕ) (x : Area) → r ≡ suc k → k < length areas → x ≡ get_or areas k x
-    → area_at areas r ≡ Some x
-area_read areas r k x e within read = ap (area_at areas) e ∙ get_or-map Some areas k x None within
-    ∙ ap Some (sym read)
+place_of : (areas : List Area) (r : ℕ) (a : Area) → area_at areas r ≡ Some a → (k : ℕ) × IsPlace areas r k a
+place_of areas zero a e = absurd (cc e)
+place_of areas (suc k) a e = elim (cases_lt k (length areas)) [
+  | inl within ↦ (k, record { number = refl; within = within; here = e })
+  | inr past ↦
+      let none = get_or_past (map Some areas) k None (omega (arith, length-map areas Some, past)) in
+      absurd (cc (none, e))
+]
 
--- after one was written
-pub area_here : (areas : List Area) (r k : ℕ) (b : Area) → r ≡ suc k → k < length areas
-    → area_at (set areas k b) r ≡ Some b
-area_here areas r k b e within = ap (area_at (set areas k b)) e ∙ get_or-map Some (set areas k b) k b None
-    (omega (arith, length-set areas k b)) ∙ ap Some (get_or-set_same areas k b b within)
+pub place_read : (areas : List Area) (r k : ℕ) (x : Area) → r ≡ k + 1 → k < length areas
+    → x ≡ get_or areas k x → IsPlace areas r k x
+place_read areas r k x e within read =
+    let number : r ≡ suc k = omega (arith, e) in
+    record {
+      number = number;
+      within = within;
+      here = ap (area_at areas) number ∙ get_or-map Some areas k x None within ∙ ap Some (sym read);
+    }
 
-set_other : (areas : List Area) (k j : ℕ) (b : Area) → (j ≢ k)
-    → get_or (map Some (set areas k b)) j None ≡ get_or (map Some areas) j None
-set_other areas k j b apart = ap (λ os. get_or os j None) (map-set Some areas k b)
-    ∙ get_or-set_other (map Some areas) k j (Some b) None apart
+-- after another region was put there
+module _ {areas : List Area} {r k : ℕ} {a : Area} (p : IsPlace areas r k a) (b : Area) where
+  pub area_here : area_at (set areas k b) r ≡ Some b
+  area_here = ap (area_at (set areas k b)) p.number ∙ get_or-map Some (set areas k b) k b None
+      (omega (arith, length-set areas k b, p.within)) ∙ ap Some (get_or-set_same areas k b b p.within)
 
-pub area_other : (areas : List Area) (r q k : ℕ) (b : Area) → r ≡ suc k → q ≢ r
-    → area_at (set areas k b) q ≡ area_at areas q
-area_other areas r zero k b e apart = refl
-area_other areas r (suc j) k b e apart = set_other areas k j b (λ same. apart (ap suc same ∙ sym e))
+  pub area_other : (q : ℕ) → q ≢ r → area_at (set areas k b) q ≡ area_at areas q
+  area_other zero apart = refl
+  area_other (suc j) apart = ap (λ os. get_or os j None) (map-set Some areas k b)
+      ∙ get_or-set_other (map Some areas) k j (Some b) None (λ same. apart (ap suc same ∙ sym p.number))
 
--- an object at an address, found in its region
-pub record IsFound (areas : List Area) (h : Heap) (at : Addr) : Type 0 where
-  pub area : Area
-  pub is_area : area_at areas (at.0 / 256) ≡ Some area
-  pub is_at : IsAt areas (at.0 / 256) area
-  pub object : IsObject (contents area) (at.0 % 256)
-  pub placed : placed_at h at ≡ placed_of (object_in_region (contents area) (at.0 % 256))
-  pub get : fin.get h.objects at.0 ≡ Some (placed_of (object_in_region (contents area) (at.0 % 256)))
+-- a region in use, at its index of the list
+pub record IsHeldAt (areas : List Area) (h : Heap) (r k : ℕ) (a : Area) : Type 0 where
+  pub place : IsPlace areas r k a
+  pub area : IsArea a
+  pub held : a.held ≡ true
+  pub there : is_in_use h r ≡ true
+  pub region : region_at h r ≡ seen a
+
+-- an object of a region in use
+pub record IsFound (areas : List Area) (h : Heap) (at : Addr) (k : ℕ) (a : Area) : Type 0 where
+  pub home : IsHeldAt areas h (at.0 / 256) k a
+  pub object : IsObject (contents a) (at.0 % 256)
+  pub get : fin.get h.objects at.0 ≡ Some (placed_of (object_in_region (contents a) (at.0 % 256)))
+  pub placed : placed_at h at ≡ placed_of (object_in_region (contents a) (at.0 % 256))
 
 is_some_map : {A B : Type 0} (f : A → B) (o : Option A) → is_some (option_map f o) ≡ is_some o
 is_some_map f None = refl
@@ -103,39 +112,47 @@ is_some_map f (Some x) = refl
 pub has-get : (h : Heap) (a : Addr) → has_object h a ≡ is_some (fin.get h.objects a.0)
 has-get h a = is_some_map _ (fin.get h.objects a.0)
 
-module _ (areas : List Area) (spare : List ℕ) (limit : ℕ) (h : Heap)
-    (view : heap_of areas spare limit ≡ h) where
+-- the fields of a heap, with its numbers of cells, of objects and of regions in use, and its value
+pub record IsHeap (areas : List Area) (spares : List ℕ) (limit capacity : ℕ) (counts : ℕ × ℕ × ℕ) (current : ℕ)
+    (h : Heap) : Type 0 where
+  pub view : heap_of areas spares limit ≡ h
+  pub kept : IsKept areas spares capacity counts.0 counts.1 counts.2
+  pub full : AreOthersFull (heap_of areas spares limit) current
+
+pub opened : (s : Inside) {h : Heap} → heap_of s.areas.items s.spare.items s.limit ≡ h
+    → IsKept s.areas.items s.spare.items (deque_capacity s.spare) s.used s.count s.held
+    × AreOthersFull (heap_of s.areas.items s.spare.items s.limit) s.current
+    → IsHeap s.areas.items s.spare.items s.limit (deque_capacity s.spare) (s.used, s.count, s.held) s.current h
+opened s view invariant = record { view = view; kept = invariant.0; full = invariant.1 }
+
+module _ {areas : List Area} {spares : List ℕ} {limit capacity cells objects holds current : ℕ} {h : Heap}
+    (heap : IsHeap areas spares limit capacity (cells, objects, holds) current h) where
+  -- the heap's fields after a step, and its value
+  pub heap_by : {areas2 : List Area} {spares2 : List ℕ} {limit2 capacity2 cells2 objects2 holds2 current2 : ℕ}
+      {new : Heap} → IsKept areas2 spares2 capacity2 cells2 objects2 holds2
+      → heap_of areas2 spares2 limit2 ≡ new → (AreOthersFull h current → AreOthersFull new current2)
+      → IsHeap areas2 spares2 limit2 capacity2 (cells2, objects2, holds2) current2 new
+  heap_by {current2 = d} kept view step = record {
+    view = view;
+    kept = kept;
+    full = subst (λ x. AreOthersFull x d) (sym view)
+        (step (subst (λ x. AreOthersFull x current) heap.view heap.full));
+  }
+
+  pub used_is : cells ≡ used_of h
+  used_is = heap.kept.used ∙ ap used_of heap.view
+
+  pub count_is : objects ≡ fin.len h.objects
+  count_is = heap.kept.count ∙ ap (λ (x : Heap). fin.len x.objects) heap.view
+
   pub objects_at : (a : ℕ) → fin.get h.objects a ≡ placed_in (area_at areas (a / 256)) (a % 256)
-  objects_at a = ap (λ (x : Heap). fin.get x.objects a) (sym view) ∙ get-objects areas a
+  objects_at a = ap (λ (x : Heap). fin.get x.objects a) (sym heap.view) ∙ get-objects areas a
 
   pub regions_at : (r : ℕ) → fin.get h.regions r ≡ region_in (area_at areas r)
-  regions_at r = ap (λ (x : Heap). fin.get x.regions r) (sym view) ∙ get-regions areas r
+  regions_at r = ap (λ (x : Heap). fin.get x.regions r) (sym heap.view) ∙ get-regions areas r
 
   pub set_at : (c : ℕ) → is_set h c ≡ card_in (area_at areas (c / 8)) (c % 8)
-  set_at c = ap (λ (x : Heap). set_of.contains x.cards c) (sym view) ∙ contains-cards areas c
-
-  found_in : (at : Addr) (o : Option Area) → area_at areas (at.0 / 256) ≡ o
-      → is_some (placed_in o (at.0 % 256)) ≡ true → IsFound areas h at
-  found_in at None e is = absurd (cc is)
-  found_in at (Some a) e is =
-      let there : IsObject (contents a) (at.0 % 256) =
-      sym (is_some_map placed_of (fin.get (contents a).objects (at.0 % 256))) ∙ is in
-      let got : fin.get h.objects at.0 ≡ Some (placed_of (object_in_region (contents a) (at.0 % 256))) =
-      objects_at at.0 ∙ ap (λ o. placed_in o (at.0 % 256)) e
-      ∙ ap (option_map placed_of) (object_there (contents a) (at.0 % 256) there) in
-      record {
-        area = a;
-        is_area = e;
-        is_at = is_at areas (at.0 / 256) a e;
-        object = there;
-        placed = ap (λ (o : Option Placed). unwrap_or o
-            (record { id = record { 0 = 0 }; fields = []; value = 0; registered = false })) got;
-        get = got;
-      }
-
-  pub found : (at : Addr) → has_object h at ≡ true → IsFound areas h at
-  found at is = found_in at (area_at areas (at.0 / 256)) refl (ap is_some (sym (objects_at at.0))
-      ∙ sym (has-get h at) ∙ is)
+  set_at c = ap (λ (x : Heap). set_of.contains x.cards c) (sym heap.view) ∙ contains-cards areas c
 
   -- an object of a region is one of the heap
   pub has_there : (at : Addr) (a : Area) → area_at areas (at.0 / 256) ≡ Some a
@@ -143,139 +160,93 @@ module _ (areas : List Area) (spare : List ℕ) (limit : ℕ) (h : Heap)
   has_there at a e = has-get h at ∙ ap is_some (objects_at at.0 ∙ ap (λ o. placed_in o (at.0 % 256)) e)
       ∙ is_some_map placed_of (fin.get (contents a).objects (at.0 % 256))
 
-  module _ (capacity cells objects holds : ℕ) (kept : IsKept areas spare capacity cells objects holds) where
-    -- the region of an object is in use
-    pub object_held : (at : Addr) (f : IsFound areas h at) → f.area.held ≡ true
-    object_held at f = not_spare f.area.held (λ free.
-        let none = (kept.each (at.0 / 256) f.area f.is_area).spare free in
-        none_in_empty (at.0 % 256) (subst (λ (r : Contents). IsObject r (at.0 % 256)) none f.object))
-      where
-        not_spare : (b : Bool) → (b ≡ false → ⊥) → b ≡ true
-        not_spare true _ = refl
-        not_spare false never = absurd (never refl)
-
-    pub held_region : (r : ℕ) (a : Area) → area_at areas r ≡ Some a → a.held ≡ true
-        → fin.get h.regions r ≡ Some (record { generation = a.generation; fill = (contents a).fill })
-    held_region r a e held = regions_at r ∙ ap region_in e
-        ∙ ap (λ b. cond b (Some (record { generation = a.generation; fill = (contents a).fill })) None) held
-
-    -- a region in use, found in the list
-    held_in : (r : ℕ) (o : Option Area) → area_at areas r ≡ o → is_some (region_in o) ≡ true → (a : Area)
-        × (area_at areas r ≡ Some a) × (a.held ≡ true)
-    held_in r None e is = absurd (cc is)
-    held_in r (Some a) e is = (a, e, held_of a.held is)
-      where
-        held_of : (b : Bool) → is_some
-            (region_if b (record { generation = a.generation; fill = (contents a).fill })) ≡ true → b ≡ true
-        held_of true _ = refl
-        held_of false never = absurd (cc never)
-
-    pub held_found : (r : ℕ) → is_held h r ≡ true → (a : Area) × (area_at areas r ≡ Some a) × (a.held ≡ true)
-    held_found r is = held_in r (area_at areas r) refl (ap is_some (sym (regions_at r)) ∙ is)
-
-    pub region_is : (r : ℕ) (a : Area) → area_at areas r ≡ Some a → a.held ≡ true
-        → region_at h r ≡ record { generation = a.generation; fill = (contents a).fill }
-    region_is r a e held = ap (λ (o : Option Region). unwrap_or o (record { generation = 0; fill = 0 }))
-        (held_region r a e held)
-
--- what a read of the list and of its region states of an object
-pub record IsSeen (areas : List Area) (h : Heap) (at : Addr) (k : ℕ) (x : Area) (r : Contents)
-    (off : ℕ) : Type 0 where
-  pub number : at.0 / 256 ≡ suc k
-  pub within : k < length areas
-  pub here : area_at areas (at.0 / 256) ≡ Some x
-  pub object : IsObject r off
-  pub low : off < 256
-  pub placed : placed_at h at ≡ placed_of (object_in_region r off)
-  pub get : fin.get h.objects at.0 ≡ Some (placed_of (object_in_region r off))
-  pub address : (at.0 / 256) * 256 + off ≡ at.0
-
-module _ (areas : List Area) (spare : List ℕ) (limit : ℕ) (h : Heap) (view : heap_of areas spare limit ≡ h)
-    (at : Addr) (is : has_object h at ≡ true) where
-  pub low_place : 256 ≤ at.0
-  low_place =
-      let f = found areas spare limit h view at is in
-      let i = f.is_at in
-      let n = i.number in
-      omega arith
-
-  pub place_within : (k : ℕ) → k + 1 ≡ at.0 / 256 → k < length areas
-  place_within k e =
-      let f = found areas spare limit h view at is in
-      let i = f.is_at in
-      let n = i.number in
-      let within = i.within in
-      omega arith
-
-  pub seen : (k : ℕ) (x : Area) (r : Contents) (off : ℕ) → k + 1 ≡ at.0 / 256 → x ≡ get_or areas k x
-      → r ≡ contents x → off ≡ at.0 % 256 → IsSeen areas h at k x r off
-  seen k x r off e read region offset =
-      let f = found areas spare limit h view at is in
-      let within = place_within k e in
-      let number : at.0 / 256 ≡ suc k = omega arith in
-      let here = area_read areas (at.0 / 256) k x number within read in
-      let same : f.area ≡ x = some_is f.area x (sym f.is_area ∙ here) in
-      let P : Area → Type 0 = λ a. IsObject (contents a) (at.0 % 256)
-      × (placed_at h at ≡ placed_of (object_in_region (contents a) (at.0 % 256)))
-      × (fin.get h.objects at.0 ≡ Some (placed_of (object_in_region (contents a) (at.0 % 256)))) in
-      let Q : Contents → Type 0 = λ c. IsObject c (at.0 % 256)
-      × (placed_at h at ≡ placed_of (object_in_region c (at.0 % 256)))
-      × (fin.get h.objects at.0 ≡ Some (placed_of (object_in_region c (at.0 % 256)))) in
-      let R : ℕ → Type 0 = λ o. IsObject r o × (placed_at h at ≡ placed_of (object_in_region r o))
-      × (fin.get h.objects at.0 ≡ Some (placed_of (object_in_region r o))) in
-      let all = subst R (sym offset) (subst Q (sym region) (subst P same (f.object, f.placed, f.get))) in
+  -- a region in use
+  pub home_by : {r k : ℕ} {a : Area} → IsPlace areas r k a → a.held ≡ true → IsHeldAt areas h r k a
+  home_by {r} {a = a} p held =
+      let got = regions_at r ∙ ap region_in p.here ∙ in_use a held in
       record {
-        number = number;
-        within = within;
-        here = here;
-        object = all.0;
-        low = omega arith;
-        placed = all.1;
-        get = all.2;
-        address = omega arith;
+        place = p;
+        area = heap.kept.each r a p.here;
+        held = held;
+        there = ap is_some got;
+        region = ap (λ (o : Option Region). unwrap_or o (record { generation = 0; fill = 0 })) got;
       }
 
--- the fields of an object
-pub count_seen : (h : Heap) (at : Addr) (o : Object) → fin.get h.objects at.0 ≡ Some (placed_of o)
-    → length (fields_at (object_at h) at) ≡ length o.fields
-count_seen h at o got = ap
-    (λ (p : Option Placed). length
-    (fields_in (option_map (object_in (region_generation h (region_of at))) p))) got
-    ∙ length-map o.fields address
+  pub held_at : {r k : ℕ} {a : Area} → IsPlace areas r k a → is_in_use h r ≡ true → IsHeldAt areas h r k a
+  held_at {r} {a = a} p is = home_by p (held_of a.held refl)
+    where
+      held_of : (b : Bool) → a.held ≡ b → a.held ≡ true
+      held_of true e = e
+      held_of false e = absurd (let none = ap is_some (regions_at r ∙ ap region_in p.here ∙ not_in_use a e) in
+          both_ways _ none is)
 
-pub field_seen : (h : Heap) (at : Addr) (o : Object) (i : ℕ) → fin.get h.objects at.0 ≡ Some (placed_of o)
-    → address (get_or o.fields i 0) ≡ get_or (fields_at (object_at h) at) i None
-field_seen h at o i got = field_mapped o.fields i
-    ∙ sym (ap (λ (p : Option Placed). get_or
-    (fields_in (option_map (object_in (region_generation h (region_of at))) p)) i None) got)
-  where
-    field_mapped : (xs : List ℕ) (i : ℕ) → address (get_or xs i 0) ≡ get_or (map address xs) i None
-    field_mapped [] i = refl
-    field_mapped (x ∷ xs) zero = refl
-    field_mapped (x ∷ xs) (suc i) = field_mapped xs i
+  pub found_at : (at : Addr) {k : ℕ} {a : Area} → IsPlace areas (at.0 / 256) k a → has_object h at ≡ true
+      → IsFound areas h at k a
+  found_at at {a = a} p is =
+      let there : IsObject (contents a) (at.0 % 256) = sym (has_there at a p.here) ∙ is in
+      let got = objects_at at.0 ∙ ap (λ o. placed_in o (at.0 % 256)) p.here
+      ∙ ap (option_map placed_of) (object_there (contents a) (at.0 % 256) there) in
+      record {
+        home = home_by p (held_by_object a (heap.kept.each _ a p.here) (at.0 % 256) there);
+        object = there;
+        get = got;
+        placed = ap (λ (o : Option Placed). unwrap_or o
+            (record { id = record { 0 = 0 }; fields = []; value = 0; registered = false })) got;
+      }
 
-pub address_of : (n : ℕ) → (n ≡ 0 → ⊥) → Some (record { 0 = n }) ≡ address n
-address_of zero apart = absurd (apart refl)
-address_of (suc n) apart = refl
+  -- the place of what is there
+  pub found : (at : Addr) → has_object h at ≡ true → (k : ℕ) × (a : Area) × IsFound areas h at k a
+  found at is = by (area_at areas (at.0 / 256)) refl
+    where
+      by : (o : Option Area) → area_at areas (at.0 / 256) ≡ o → (k : ℕ) × (a : Area) × IsFound areas h at k a
+      by None e = absurd (both_ways _
+          (has-get h at ∙ ap is_some (objects_at at.0 ∙ ap (λ o. placed_in o (at.0 % 256)) e)) is)
+      by (Some a) e = let p = place_of areas (at.0 / 256) a e in (p.0, a, found_at at p.1 is)
 
-module _ (areas : List Area) (spare : List ℕ) (limit : ℕ) (h : Heap) (view : heap_of areas spare limit ≡ h)
-    (capacity cells objects holds : ℕ) (kept : IsKept areas spare capacity cells objects holds) (at : Addr)
-    (is : has_object h at ≡ true) where
-  -- the generation of an object is its region's
-  pub generation_here : (a : Area) → area_at areas (at.0 / 256) ≡ Some a
-      → generation_at (object_at h) at ≡ a.generation
-  unfolding region_of
-  generation_here a here =
-      let f = found areas spare limit h view at is in
-      let same : f.area ≡ a = some_is f.area a (sym f.is_area ∙ here) in
-      let held : f.area.held ≡ true =
-      object_held areas spare limit h view capacity cells objects holds kept at f in
-      let region = region_is areas spare limit h view capacity cells objects holds kept
-      (at.0 / 256) f.area f.is_area held in
-      ap (λ (p : Option Placed). generation_in
-      (option_map (object_in (region_generation h (region_of at))) p)) f.get
-      ∙ ap (λ (g : Region). g.generation) region ∙ ap (λ (x : Area). x.generation) same
+  pub held_found : (r : ℕ) → is_in_use h r ≡ true → (k : ℕ) × (a : Area) × IsHeldAt areas h r k a
+  held_found r is = by (area_at areas r) refl
+    where
+      by : (o : Option Area) → area_at areas r ≡ o → (k : ℕ) × (a : Area) × IsHeldAt areas h r k a
+      by None e = absurd (both_ways _ (ap is_some (regions_at r ∙ ap region_in e)) is)
+      by (Some a) e = let p = place_of areas r a e in (p.0, a, held_at p.1 is)
 
-  pub generation_seen : (a : Area) → area_at areas (at.0 / 256) ≡ Some a
-      → (a.generation ≡ generation_at (object_at h) at) × (a.generation ≤ 2)
-  generation_seen a here = (sym (generation_here a here), (kept.each (at.0 / 256) a here).generation)
+  -- the index of an object's region, and of a region in use
+  pub index_of : (at : Addr) → has_object h at ≡ true → (k : ℕ) → k ≡ at.0 / 256 - 1 → k < length areas
+  index_of at is k e = let p = (found at is).2.home.place in omega (arith, e, p.number, p.within)
+
+  pub held_index : (r : ℕ) → is_in_use h r ≡ true → (k : ℕ) → k ≡ r - 1 → (0 < r) × (k < length areas)
+  held_index r is k e = let p = (held_found r is).2.place in
+      (omega (arith, p.number), omega (arith, e, p.number, p.within))
+
+  -- what a read of the list at such an index states
+  pub found_read : (at : Addr) → has_object h at ≡ true → (k : ℕ) → k ≡ at.0 / 256 - 1 → (x : Area)
+      → x ≡ get_or areas k x → IsFound areas h at k x
+  found_read at is k e x read =
+      let p = (found at is).2.home.place in
+      found_at at (place_read areas (at.0 / 256) k x (omega (arith, e, p.number)) (index_of at is k e) read) is
+
+  pub held_read : (r : ℕ) → is_in_use h r ≡ true → (k : ℕ) → k ≡ r - 1 → (x : Area) → x ≡ get_or areas k x
+      → IsHeldAt areas h r k x
+  held_read r is k e x read =
+      let index = held_index r is k e in
+      held_at (place_read areas r k x (omega (arith, e, index.0)) index.1 read) is
+
+-- an object is read alike in the heap and in its region
+pub object_of : {areas : List Area} {h : Heap} {k : ℕ} {a : Area} (at : Addr) → IsFound areas h at k a
+    → IsObjectOf h at a (at.0 % 256)
+unfolding region_of
+object_of {h = h} at f =
+    let whole = λ (p : Option Placed). option_map (object_in (region_generation h (at.0 / 256))) p in
+    record {
+      area = f.home.area;
+      offset_is = refl;
+      object = f.object;
+      placed = f.placed;
+      fields = ap (λ (p : Option Placed). fields_in (whole p)) f.get;
+      generation = ap (λ (p : Option Placed). generation_in (whole p)) f.get
+          ∙ ap (λ (g : Region). g.generation) f.home.region;
+    }
+
+pub address_is : (n : ℕ) → n ≢ 0 → address n ≡ Some (record { 0 = n })
+address_is zero apart = absurd (apart refl)
+address_is (suc n) apart = refl

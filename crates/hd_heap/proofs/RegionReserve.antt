@@ -3,6 +3,7 @@ use Rattle.std.proofs.Common.{◌≡◌, ℕ, ◌+◌, ◌<◌, ◌≤◌, List,
 use Rattle.std.specs.Prelude.{max}
 use Rattle.std.proofs.lemmas.List.{take-append-le}
 use Rattle.hd_model.specs.Heap.{Heap}
+use Rattle.hd_heap.proofs.HeapValues.{take_whole}
 
 -- only the free regions have changed: they are the old ones and more, at most `count`, if those were fewer
 pub record IsLonger (old new : Heap) (count : ℕ) : Type 0 where
@@ -10,10 +11,6 @@ pub record IsLonger (old new : Heap) (count : ℕ) : Type 0 where
   pub kept : take (length old.spare) new.spare ≡ old.spare
   pub more : length old.spare ≤ length new.spare
   pub most : length new.spare ≤ max count (length old.spare)
-
-take_whole : (xs : List ℕ) → take (length xs) xs ≡ xs
-take_whole [] = refl
-take_whole (x ∷ xs) = ap (λ ys. x ∷ ys) (take_whole xs)
 
 take_more : (xs : List ℕ) (n y : ℕ) → n ≤ length xs → take n (xs ++ y ∷ []) ≡ take n xs
 take_more xs n y low = take-append-le n xs (y ∷ []) low

@@ -1,335 +1,243 @@
 -- Lemmas on a heap after one of its regions has changed.
-use Rattle.std.proofs.Common.{◌≡◌, ◌≢◌, ℕ, suc, ◌+◌, ◌*◌, ◌/◌, ◌%◌, ◌<◌, inl, inr, Bool, true, false, cond, List, length, set, get_or, Option, Some, None, refl, sym, ap, ◌∙◌, subst, arith, length-set}
+use Rattle.std.proofs.Common.{◌≡◌, ◌≢◌, ℕ, ◌+◌, ◌*◌, ◌/◌, ◌%◌, ◌<◌, inl, inr, true, false, cond, List, set, get_or, Option, Some, None, refl, sym, ap, ◌∙◌, subst, arith, length-set}
 use Rattle.std.specs.Prelude.{is_some, option_map, sum_by}
 use Rattle.std.proofs.lemmas.Bool.{cases_eq, both_ways}
-use Rattle.std.proofs.lemmas.List.{length-map}
+use Rattle.std.proofs.lemmas.List.{length-map, map-set, get_or-map}
 use Rattle.std.proofs.lemmas.List.Sums.{sum_by-set}
 use Rattle.std.specs.Ordering.{nat_cmp, eq_by_cmp}
 use Rattle.std.specs.Cmp.{nat_cmp_total}
 use Rattle.std.specs.FinMap as fin
 use Rattle.std.specs.FinSet as set_of
 use Rattle.hd_cells.specs.Object.{Object, size_of}
-use Rattle.hd_cells.specs.Region.{Contents, IsObject, IsLaidOut, object_at as object_in_region, with_object as region_with_object}
+use Rattle.hd_cells.specs.Region.{Contents, object_at as object_in_region}
 use Rattle.hd_model.specs.declared.data.Addr.{Addr}
-use Rattle.hd_model.specs.Heap.{Region, Heap, has_object, cells_of}
+use Rattle.hd_model.specs.Heap.{Placed, Region, Heap, cells_of, used_of, placed_at}
 use Rattle.hd_heap.specs.declared.area.Area.{Area}
-use Rattle.hd_heap.specs.Areas.{contents, area_at, address, placed_of, placed_in, region_in, card_in, objects_in, regions_in, cards_in, heap_of, BeginsIn, IsArea}
+use Rattle.hd_heap.specs.declared.area.Part.{Part}
+use Rattle.hd_heap.specs.declared.area.Part.TheVariants.{Value, Registered, Field}
+use Rattle.hd_heap.specs.Areas.{contents, area_at, address, placed_of, placed_in, region_in, card_in, objects_in, regions_in, cards_in, IsArea}
 use Rattle.hd_heap.specs.Calls.{with_object}
 use Rattle.hd_heap.specs.Kept.{IsKept, IsSpare}
-use Rattle.hd_heap.proofs.IndexedLists.{found_first, found_later}
+use Rattle.hd_heap.specs.Steps.{AreOthersFull, HasPart, IsWritten, with_part, region_with_part}
+use Rattle.hd_model.proofs.Entries.{found_later}
+use Rattle.hd_heap.proofs.IndexedLists.{found_here}
+use Rattle.hd_model.proofs.ReadAfterWrite.{len_again}
 use Rattle.hd_model.proofs.Sums.{share, sum-insert}
-use Rattle.hd_heap.proofs.Areas.{object_there, begins_kept}
-use Rattle.hd_heap.proofs.RegionReads.{get-objects, get-regions, contains-cards, is_at, area_here, area_other, IsSeen, seen, found, object_held}
+use Rattle.hd_heap.proofs.RegionReads.{get-objects, get-regions, contains-cards, seen, in_use, IsPlace, area_here, area_other, IsFound, IsHeap, heap_by}
+
+pub same_maps : {A : Type 0} {m k : fin.FinMap nat_cmp A} → ((q : ℕ) → fin.get m q ≡ fin.get k q) → m ≡ k
+same_maps each = fin.same_map nat_cmp_total fin.nat_cmp-IsAntisymmetric _ _ each
+
+pub same_sets : {m k : set_of.FinSet nat_cmp} → ((q : ℕ) → set_of.contains m q ≡ set_of.contains k q) → m ≡ k
+same_sets each = set_of.same_set nat_cmp_total set_of.nat_cmp-IsAntisymmetric _ _ each
 
 -- a region of the list has changed
-module _ (areas : List Area) (k r : ℕ) (a b : Area) (number : r ≡ suc k) (within : k < length areas)
-    (here : area_at areas r ≡ Some a) where
-  pub objects_changed : (off : ℕ) (w : Option Object) → off < 256
+module _ {areas : List Area} {r k : ℕ} {a : Area} (p : IsPlace areas r k a) (b : Area) where
+  -- a reading of the new list, at the region and elsewhere
+  reads : {B : Type 0} (f : Option Area → B) (q : ℕ) → f (Some b) ≡ f (Some a)
+      → f (area_at (set areas k b) q) ≡ f (area_at areas q)
+  reads f q same = elim (cases_eq q r) [
+    | inl is ↦ ap (λ n. f (area_at (set areas k b) n)) is ∙ ap f (area_here p b) ∙ same ∙ ap f (sym p.here)
+        ∙ ap (λ n. f (area_at areas n)) (sym is)
+    | inr other ↦ ap f (area_other p b q other)
+  ]
+
+  reads_here : {B : Type 0} (f : Option Area → B) (q : ℕ) → q ≡ r → f (area_at (set areas k b) q) ≡ f (Some b)
+  reads_here f q is = ap (λ n. f (area_at (set areas k b) n)) is ∙ ap f (area_here p b)
+
+  objects_changed : (off : ℕ) (w : Option Object) → off < 256
       → ((j : ℕ) → fin.get (contents b).objects j ≡ cond (eq_by_cmp nat_cmp j off) w
       (fin.get (contents a).objects j)) → (q : ℕ) → fin.get (objects_in (set areas k b)) q ≡ cond
       (eq_by_cmp nat_cmp q (r * 256 + off)) (option_map placed_of w) (fin.get (objects_in areas) q)
   objects_changed off w low change q =
-      let new : fin.get (objects_in (set areas k b)) q ≡ placed_in (area_at (set areas k b) (q / 256))
-      (q % 256) = get-objects (set areas k b) q in
-      let old : fin.get (objects_in areas) q ≡ placed_in (area_at areas (q / 256)) (q % 256) =
-      get-objects areas q in
-      elim (cases_eq (q / 256) r) [
-        | inl same ↦
-            let new_here : fin.get (objects_in (set areas k b)) q ≡ option_map placed_of
-            (fin.get (contents b).objects (q % 256)) =
-            new ∙ ap (λ n. placed_in (area_at (set areas k b) n) (q % 256)) same
-            ∙ ap (λ o. placed_in o (q % 256)) (area_here areas r k b number within) in
-            let old_here : fin.get (objects_in areas) q ≡ option_map placed_of
-            (fin.get (contents a).objects (q % 256)) =
-            old ∙ ap (λ n. placed_in (area_at areas n) (q % 256)) same
-            ∙ ap (λ o. placed_in o (q % 256)) here in
-            elim (cases_eq (q % 256) off) [
-              | inl is ↦
-                  new_here ∙ ap (option_map placed_of) (change (q % 256)
-                  ∙ found_first (q % 256) off w (fin.get (contents a).objects (q % 256)) is)
-                  ∙ sym (found_first q (r * 256 + off) (option_map placed_of w) (fin.get (objects_in areas) q)
-                  (omega arith))
-              | inr apart ↦
-                  new_here ∙ ap (option_map placed_of) (change (q % 256)
-                  ∙ found_later (q % 256) off w (fin.get (contents a).objects (q % 256)) apart)
-                  ∙ sym old_here ∙ sym (found_later q (r * 256 + off) (option_map placed_of w)
-                  (fin.get (objects_in areas) q) (λ e. apart (omega (arith, e))))
+      let at = r * 256 + off in
+      let old = get-objects areas q in
+      let later = λ (apart : q ≢ at). found_later q at (option_map placed_of w) (fin.get (objects_in areas) q) apart in
+      get-objects (set areas k b) q ∙ elim (cases_eq (q / 256) r) [
+        | inl same ↦ reads_here (λ o. placed_in o (q % 256)) (q / 256) same
+            ∙ ap (option_map placed_of) (change (q % 256)) ∙ elim (cases_eq (q % 256) off) [
+              | inl is ↦ ap (option_map placed_of) (found_here (q % 256) off w _ is)
+                  ∙ sym (found_here q at (option_map placed_of w) (fin.get (objects_in areas) q) (omega arith))
+              | inr apart ↦ ap (option_map placed_of) (found_later (q % 256) off w _ apart)
+                  ∙ sym (old ∙ ap (λ n. placed_in (area_at areas n) (q % 256)) same
+                  ∙ ap (λ o. placed_in o (q % 256)) p.here) ∙ sym (later (λ e. apart (omega (arith, e))))
             ]
-        | inr other ↦
-            new ∙ ap (λ o. placed_in o (q % 256)) (area_other areas r (q / 256) k b number other) ∙ sym old
-            ∙ sym (found_later q (r * 256 + off) (option_map placed_of w) (fin.get (objects_in areas) q)
-            (λ e. other (omega (arith, e))))
+        | inr other ↦ ap (λ o. placed_in o (q % 256)) (area_other p b (q / 256) other) ∙ sym old
+            ∙ sym (later (λ e. other (omega (arith, e))))
       ]
 
   pub objects_put : (off : ℕ) (o : Object) → off < 256 → (contents b).objects ≡ fin.insert
       (contents a).objects off o → objects_in (set areas k b) ≡ fin.insert (objects_in areas) (r * 256 + off)
       (placed_of o)
-  objects_put off o low change = fin.same_map nat_cmp_total fin.nat_cmp-IsAntisymmetric _ _ (λ q.
+  objects_put off o low change = same_maps (λ q.
       objects_changed off (Some o) low (λ j. ap (λ m. fin.get m j) change
       ∙ fin.get-insert nat_cmp_total (contents a).objects off o j) q
       ∙ sym (fin.get-insert nat_cmp_total (objects_in areas) (r * 256 + off) (placed_of o) q))
 
   pub objects_gone : (off : ℕ) → off < 256 → (contents b).objects ≡ fin.remove (contents a).objects off
       → objects_in (set areas k b) ≡ fin.remove (objects_in areas) (r * 256 + off)
-  objects_gone off low change = fin.same_map nat_cmp_total fin.nat_cmp-IsAntisymmetric _ _ (λ q.
+  objects_gone off low change = same_maps (λ q.
       objects_changed off None low (λ j. ap (λ m. fin.get m j) change
       ∙ fin.get-remove nat_cmp_total (contents a).objects off j) q
       ∙ sym (fin.get-remove nat_cmp_total (objects_in areas) (r * 256 + off) q))
 
-  -- a reading of the new list, at the region and elsewhere
-  reads : {B : Type 0} (f : Option Area → B) (q : ℕ) → (f (Some b) ≡ f (Some a))
-      → f (area_at (set areas k b) q) ≡ f (area_at areas q)
-  reads f q same = elim (cases_eq q r) [
-    | inl is ↦ ap (λ n. f (area_at (set areas k b) n)) is ∙ ap f (area_here areas r k b number within) ∙ same
-        ∙ ap f (sym here) ∙ ap (λ n. f (area_at areas n)) (sym is)
-    | inr other ↦ ap f (area_other areas r q k b number other)
-  ]
-
   pub objects_same : (contents b).objects ≡ (contents a).objects
       → objects_in (set areas k b) ≡ objects_in areas
-  objects_same same = fin.same_map nat_cmp_total fin.nat_cmp-IsAntisymmetric _ _ (λ q.
+  objects_same same = same_maps (λ q.
       get-objects (set areas k b) q ∙ reads (λ o. placed_in o (q % 256)) (q / 256)
       (ap (λ m. option_map placed_of (fin.get m (q % 256))) same) ∙ sym (get-objects areas q))
 
   pub regions_same : region_in (Some b) ≡ region_in (Some a) → regions_in (set areas k b) ≡ regions_in areas
-  regions_same same = fin.same_map nat_cmp_total fin.nat_cmp-IsAntisymmetric _ _ (λ q.
+  regions_same same = same_maps (λ q.
       get-regions (set areas k b) q ∙ reads region_in q same ∙ sym (get-regions areas q))
 
   pub cards_same : ((j : ℕ) → card_in (Some b) j ≡ card_in (Some a) j)
       → cards_in (set areas k b) ≡ cards_in areas
-  cards_same same = set_of.same_set nat_cmp_total set_of.nat_cmp-IsAntisymmetric _ _ (λ c.
-      contains-cards (set areas k b) c ∙ reads (λ o. card_in o (c % 8)) (c / 8) (same (c % 8))
-      ∙ sym (contains-cards areas c))
+  cards_same same = same_sets (λ c. contains-cards (set areas k b) c
+      ∙ reads (λ o. card_in o (c % 8)) (c / 8) (same (c % 8)) ∙ sym (contains-cards areas c))
 
   pub card_here : (c : ℕ) → c / 8 ≡ r → set_of.contains (cards_in (set areas k b)) c ≡ card_in (Some b)
       (c % 8)
-  card_here c is = contains-cards (set areas k b) c ∙ ap (λ n. card_in (area_at (set areas k b) n) (c % 8)) is
-      ∙ ap (λ o. card_in o (c % 8)) (area_here areas r k b number within)
+  card_here c is = contains-cards (set areas k b) c ∙ reads_here (λ o. card_in o (c % 8)) (c / 8) is
 
   pub card_was : (c : ℕ) → c / 8 ≡ r → set_of.contains (cards_in areas) c ≡ card_in (Some a) (c % 8)
   card_was c is = contains-cards areas c ∙ ap (λ n. card_in (area_at areas n) (c % 8)) is
-      ∙ ap (λ o. card_in o (c % 8)) here
+      ∙ ap (λ o. card_in o (c % 8)) p.here
 
-  pub card_other : (c : ℕ) → (c / 8 ≢ r) → set_of.contains (cards_in (set areas k b)) c ≡ set_of.contains
+  pub card_other : (c : ℕ) → c / 8 ≢ r → set_of.contains (cards_in (set areas k b)) c ≡ set_of.contains
       (cards_in areas) c
   card_other c apart = contains-cards (set areas k b) c
-      ∙ ap (λ o. card_in o (c % 8)) (area_other areas r (c / 8) k b number apart)
-      ∙ sym (contains-cards areas c)
+      ∙ ap (λ o. card_in o (c % 8)) (area_other p b (c / 8) apart) ∙ sym (contains-cards areas c)
 
   region_reads : (w : Option Region) → region_in (Some b) ≡ w → (q : ℕ)
       → fin.get (regions_in (set areas k b)) q ≡ cond (eq_by_cmp nat_cmp q r) w (fin.get (regions_in areas) q)
   region_reads w is q = get-regions (set areas k b) q ∙ elim (cases_eq q r) [
-    | inl same ↦ ap (λ n. region_in (area_at (set areas k b) n)) same
-        ∙ ap region_in (area_here areas r k b number within) ∙ is
-        ∙ sym (found_first q r w (fin.get (regions_in areas) q) same)
-    | inr other ↦ ap region_in (area_other areas r q k b number other) ∙ sym (get-regions areas q)
+    | inl same ↦ reads_here region_in q same ∙ is ∙ sym (found_here q r w (fin.get (regions_in areas) q) same)
+    | inr other ↦ ap region_in (area_other p b q other) ∙ sym (get-regions areas q)
         ∙ sym (found_later q r w (fin.get (regions_in areas) q) other)
   ]
 
   pub regions_put : (g : Region) → region_in (Some b) ≡ Some g → regions_in (set areas k b) ≡ fin.insert
       (regions_in areas) r g
-  regions_put g is = fin.same_map nat_cmp_total fin.nat_cmp-IsAntisymmetric _ _ (λ q.
+  regions_put g is = same_maps (λ q.
       region_reads (Some g) is q ∙ sym (fin.get-insert nat_cmp_total (regions_in areas) r g q))
 
   pub regions_gone : region_in (Some b) ≡ None → regions_in (set areas k b) ≡ fin.remove (regions_in areas) r
-  regions_gone is = fin.same_map nat_cmp_total fin.nat_cmp-IsAntisymmetric _ _ (λ q.
+  regions_gone is = same_maps (λ q.
       region_reads None is q ∙ sym (fin.get-remove nat_cmp_total (regions_in areas) r q))
 
-  -- the words of the objects, region by region
+  -- the cells of the objects, region by region
   pub lives_set : sum_by (λ (x : Area). x.live) (set areas k b) + a.live ≡ sum_by
       (λ (x : Area). x.live) areas + b.live
   lives_set =
-      let i = is_at areas r a here in
-      let place : i.place ≡ k = (let n = i.number in omega (arith, number, n)) in
-      let read : get_or areas k a ≡ a = ap (λ n. get_or areas n a) (sym place) ∙ i.read a in
+      let some : Some (get_or areas k a) ≡ Some a = sym (get_or-map Some areas k a None p.within)
+      ∙ ap (area_at areas) (sym p.number) ∙ p.here in
+      let read : get_or areas k a ≡ a = cc some in
       subst (λ (x : Area). sum_by (λ (y : Area). y.live) (set areas k b) + x.live ≡ sum_by
       (λ (y : Area). y.live) areas + b.live) read
-      (sum_by-set (λ (y : Area). y.live) areas k b a within)
+      (sum_by-set (λ (y : Area). y.live) areas k b a p.within)
 
-  pub each_set : (r2 : ℕ) (x : Area) → IsArea b → ((q : ℕ) (y : Area) → area_at areas q ≡ Some y → IsArea y)
-      → area_at (set areas k b) r2 ≡ Some x → IsArea x
-  each_set r2 x new each e = elim (cases_eq r2 r) [
+  pub each_set : IsArea b → ((q : ℕ) (y : Area) → area_at areas q ≡ Some y → IsArea y) → (q : ℕ) (x : Area)
+      → area_at (set areas k b) q ≡ Some x → IsArea x
+  each_set new each q x e = elim (cases_eq q r) [
     | inl same ↦
-        let is : b ≡ x = some_same b x (sym (area_here areas r k b number within)
-        ∙ ap (area_at (set areas k b)) (sym same) ∙ e) in
+        let some = sym (area_here p b) ∙ ap (area_at (set areas k b)) (sym same) ∙ e in
+        let is : b ≡ x = cc some in
         subst IsArea is new
-    | inr other ↦ each r2 x (sym (area_other areas r r2 k b number other) ∙ e)
+    | inr other ↦ each q x (sym (area_other p b q other) ∙ e)
   ]
-    where
-      some_same : (x y : Area) → Some x ≡ Some y → x ≡ y
-      some_same x y p = cc
 
-  -- what is kept where the region is in use as before
-  pub kept_set : (spares : List ℕ) (capacity cells objects holds cells2 objects2 : ℕ)
-      → IsKept areas spares capacity cells objects holds → IsArea b → b.held ≡ true → a.held ≡ true
-      → cells2 ≡ sum_by cells_of (fin.values (objects_in (set areas k b))) → cells2 + a.live ≡ cells + b.live
-      → objects2 ≡ fin.len (objects_in (set areas k b))
-      → IsKept (set areas k b) spares capacity cells2 objects2 holds
-  kept_set spares capacity cells objects holds cells2 objects2 kept new held was used lives count =
-      let len = length-set areas k b in
-      let sums = lives_set in
-      let old_lives = kept.lives in
-      let few = kept.few in
-      let parted = kept.parted in
-      let room = kept.room in
-      let region_b : region_in (Some b) ≡ Some
-      (record { generation = b.generation; fill = (contents b).fill }) =
-      ap (λ t. cond t (Some (record { generation = b.generation; fill = (contents b).fill })) None)
-      held in
-      let region_a : region_in (Some a) ≡ Some
-      (record { generation = a.generation; fill = (contents a).fill }) =
-      ap (λ t. cond t (Some (record { generation = a.generation; fill = (contents a).fill })) None) was in
-      let there : fin.contains_key (regions_in areas) r ≡ true =
-      ap is_some (get-regions areas r ∙ ap region_in here ∙ region_a) in
+  -- another region stays free
+  pub spare_set : (n : ℕ) → n ≢ r → IsSpare areas n → IsSpare (set areas k b) n
+  spare_set n apart s = record {
+    low = s.low;
+    high = omega (arith, s.high, length-set areas k b);
+    free = ap region_in (area_other p b n apart) ∙ s.free;
+  }
+
+  -- the heap where the region is in use as before
+  pub heap_set : {spares : List ℕ} {limit capacity cells objects holds current : ℕ} {h : Heap}
+      → IsHeap areas spares limit capacity (cells, objects, holds) current h → (cells2 objects2 current2 : ℕ)
+      (new : Heap) → IsArea b → a.held ≡ true → b.held ≡ true → objects_in (set areas k b) ≡ new.objects
+      → regions_in (set areas k b) ≡ new.regions → h.spare ≡ new.spare → h.limit ≡ new.limit
+      → cards_in (set areas k b) ≡ new.cards → cells2 ≡ used_of new → cells2 + a.live ≡ cells + b.live
+      → objects2 ≡ fin.len new.objects → (AreOthersFull h current → AreOthersFull new current2)
+      → IsHeap (set areas k b) spares limit capacity (cells2, objects2, holds) current2 new
+  heap_set {spares} {holds = holds} heap cells2 objects2 current2 new area was held objects regions spare limit
+      cards used lives count step =
+      let kept = heap.kept in
+      let there : is_some (fin.get (regions_in areas) r) ≡ true =
+      ap is_some (get-regions areas r ∙ ap region_in p.here ∙ in_use a was) in
       let lens : fin.len (regions_in (set areas k b)) ≡ fin.len (regions_in areas) =
-      ap fin.len (regions_put (record { generation = b.generation; fill = (contents b).fill }) region_b)
-      ∙ fin.len-insert nat_cmp_total (regions_in areas) r _
-      ∙ ap (λ t. cond t (fin.len (regions_in areas)) (fin.len (regions_in areas) + 1)) there in
-      record {
-        each = λ r2 x. each_set r2 x new kept.each;
-        few = omega arith;
-        used = used;
-        lives = omega arith;
-        count = count;
+      ap fin.len (regions_put (seen b) (in_use b held)) ∙ len_again (regions_in areas) r (seen b) there in
+      let keeps : IsKept (set areas k b) spares _ cells2 objects2 holds = record {
+        each = each_set area kept.each;
+        few = omega (arith, length-set areas k b, kept.few);
+        used = used ∙ ap (λ m. sum_by cells_of (fin.values m)) (sym objects);
+        lives = omega (arith, lives_set, kept.lives, lives);
+        count = count ∙ ap fin.len (sym objects);
         held = kept.held ∙ sym lens;
-        parted = omega arith;
-        room = omega arith;
-        spare = λ i below. spare_kept (kept.spare i below);
+        parted = omega (arith, length-set areas k b, kept.parted);
+        room = omega (arith, length-set areas k b, kept.room);
+        spare = λ i below. spare_set _ (λ e. both_ways _
+            (ap is_some (get-regions areas r ∙ ap (λ n. region_in (area_at areas n)) (sym e)
+            ∙ (kept.spare i below).free)) there) (kept.spare i below);
         apart = kept.apart;
-      }
-    where
-      spare_kept : {n : ℕ} → IsSpare areas n → IsSpare (set areas k b) n
-      spare_kept {n} s = record {
-        low = s.low;
-        high = (let h = s.high in let l = length-set areas k b in omega arith);
-        free = elim (cases_eq n r) [
-          | inl same ↦ absurd (both_ways _
-              (ap is_some (sym (ap (λ m. region_in (area_at areas m)) same) ∙ s.free))
-              (ap is_some (ap region_in here
-              ∙ ap (λ t. cond t (Some (record { generation = a.generation; fill = (contents a).fill })) None)
-              was)))
-          | inr other ↦ ap region_in (area_other areas r n k b number other) ∙ s.free
-        ];
-      }
+      } in
+      heap_by heap keeps (λ i. record {
+        objects = objects i;
+        regions = regions i;
+        spare = (ap (λ (x : Heap). x.spare) heap.view ∙ spare) i;
+        limit = (ap (λ (x : Heap). x.limit) heap.view ∙ limit) i;
+        cards = cards i;
+      }) step
 
 pub cells_placed : (o : Object) → cells_of (placed_of o) ≡ size_of o
 cells_placed o = ap (λ n. n + 3) (length-map o.fields address)
 
--- the object at an address is written to, and takes as many words as before
-module _ (areas : List Area) (spares : List ℕ) (limit capacity cells objects holds : ℕ) (h : Heap)
-    (view : heap_of areas spares limit ≡ h) (kept : IsKept areas spares capacity cells objects holds) where
-  pub record IsWritten (k : ℕ) (b : Area) (new : Heap) : Type 0 where
-    pub keeps : IsKept (set areas k b) spares capacity cells objects holds
-    pub views : heap_of (set areas k b) spares limit ≡ new
+-- what is written is seen by the heap's users
+part_placed : (o : Object) (p : Part) → placed_of (region_with_part o p) ≡ with_part (placed_of o) p
+part_placed o (Value v) = refl
+part_placed o (Registered on) = refl
+part_placed o (Field i n) = ap (λ fs. record (placed_of o) { fields = fs }) (map-set address o.fields i n)
 
-  pub written : (at : Addr) (k : ℕ) (a b : Area) (off : ℕ) (o : Object)
-      → IsSeen areas h at k a (contents a) off → a.held ≡ true → contents b ≡ region_with_object
-      (contents a) off o → IsArea b → b.held ≡ a.held → b.generation ≡ a.generation → b.live ≡ a.live
-      → b.cards ≡ a.cards → length o.fields ≡ length (object_in_region (contents a) off).fields
-      → IsWritten k b (with_object h at (placed_of o))
-  written at k a b off o seen held change new held_same generation live cards count =
-      let r = at.0 / 256 in
-      let put = objects_put areas k r a b seen.number seen.within seen.here off o seen.low
-      (ap (λ (c : Contents). c.objects) change) in
-      let put_at : objects_in (set areas k b) ≡ fin.insert (objects_in areas) at.0 (placed_of o) =
-      put ∙ ap (λ n. fin.insert (objects_in areas) n (placed_of o)) seen.address in
-      let got : fin.get (objects_in areas) at.0 ≡ Some (placed_of (object_in_region (contents a) off)) =
-      ap (λ (x : Heap). fin.get x.objects at.0) view ∙ seen.get in
-      let sums = sum-insert cells_of (objects_in areas) at.0 (placed_of o) in
-      let was : share cells_of (fin.get (objects_in areas) at.0) ≡ cells_of
-      (placed_of (object_in_region (contents a) off)) = ap (share cells_of) got in
-      let size_new = cells_placed o in
-      let size_old = cells_placed (object_in_region (contents a) off) in
-      let used_new : sum_by cells_of (fin.values (objects_in (set areas k b))) ≡ sum_by cells_of
-      (fin.values (fin.insert (objects_in areas) at.0 (placed_of o))) =
-      ap (λ m. sum_by cells_of (fin.values m)) put_at in
-      let used = kept.used in
-      let lens : fin.len (objects_in (set areas k b)) ≡ fin.len (objects_in areas) =
-      ap fin.len put_at ∙ fin.len-insert nat_cmp_total (objects_in areas) at.0 (placed_of o)
-      ∙ ap (λ t. cond t (fin.len (objects_in areas)) (fin.len (objects_in areas) + 1)) (ap is_some got) in
-      let regions : regions_in (set areas k b) ≡ regions_in areas =
-      regions_same areas k r a b seen.number seen.within seen.here
-      (λ i. cond (held_same i) (Some (record { generation = generation i; fill = (change i).fill })) None) in
-      let set_cards : cards_in (set areas k b) ≡ cards_in areas =
-      cards_same areas k r a b seen.number seen.within seen.here
-      (λ j. ap (λ bs. get_or bs j false) cards) in
-      record {
-        keeps = kept_set areas k r a b seen.number seen.within seen.here spares capacity cells objects holds
-            cells objects kept new (held_same ∙ held) held (omega arith) (omega arith)
-            (kept.count ∙ sym lens);
-        views = (λ i. record {
-          objects = put_at i;
-          regions = regions i;
-          spare = spares;
-          limit = limit;
-          cards = set_cards i;
-        }) ∙ ap (λ (x : Heap). with_object x at (placed_of o)) view;
-      }
+pub part_cells : (o : Placed) (p : Part) → cells_of (with_part o p) ≡ cells_of o
+part_cells o (Value v) = refl
+part_cells o (Registered on) = refl
+part_cells o (Field i n) = ap (λ k. k + 3) (length-set o.fields i (address n))
 
--- the index of a region after a write keeps where objects are
-object_kept : (r : Contents) (off : ℕ) (o : Object) (j : ℕ) → IsObject r j
-    → IsObject (region_with_object r off o) j
-object_kept r off o j is = elim (cases_eq j off) [
-  | inl same ↦ ap is_some (fin.get-insert nat_cmp_total r.objects off o j
-      ∙ found_first j off (Some o) (fin.get r.objects j) same)
-  | inr apart ↦ ap is_some (fin.get-insert nat_cmp_total r.objects off o j
-      ∙ found_later j off (Some o) (fin.get r.objects j) apart) ∙ is
-]
+-- an object has the part in its region too
+pub part_within : (o : Object) (p : Part) → HasPart (placed_of o).fields p → HasPart o.fields p
+part_within o (Value v) has = has
+part_within o (Registered on) has = has
+part_within o (Field i n) has = omega (arith, has, length-map o.fields address)
 
--- a region stays one where an object is written to that takes as many words as before
-area_written : (a b : Area) (off : ℕ) (o : Object) → IsArea a → a.held ≡ true → IsObject (contents a) off
-    → contents b ≡ region_with_object (contents a) off o → IsLaidOut (contents b)
-    → length o.fields ≡ length (object_in_region (contents a) off).fields → b.held ≡ a.held
-    → b.generation ≡ a.generation → b.live ≡ a.live → b.cards ≡ a.cards → IsArea b
-area_written a b off o is held there change laid count held_same generation live cards =
-    let sums = sum-insert size_of (contents a).objects off o in
-    let was : share size_of (fin.get (contents a).objects off) ≡ size_of (object_in_region (contents a) off) =
-    ap (share size_of) (object_there (contents a) off there) in
-    let total : sum_by size_of (fin.values (contents b).objects) ≡ sum_by size_of
-    (fin.values (fin.insert (contents a).objects off o)) =
-    ap (λ (c : Contents). sum_by size_of (fin.values c.objects)) change in
-    let old = is.live in
-    let low = is.within in
-    let few = is.generation in
-    let fill : (contents b).fill ≡ (contents a).fill = ap (λ (c : Contents). c.fill) change in
-    record {
-      laid_out = laid;
-      live = omega arith;
-      within = omega arith;
-      generation = omega arith;
-      card_count = ap length cards ∙ is.card_count;
-      cards = λ card set.
-          let was_set : card_in (Some a) card ≡ true =
-          sym (ap (λ (bs : List Bool). get_or bs card false) cards) ∙ set in
-          subst (λ (c : Contents). BeginsIn c card) (sym change)
-          (begins_kept (contents a) (region_with_object (contents a) off o) card
-          (object_kept (contents a) off o) (is.cards card was_set));
-      spare = λ free. absurd (both_ways b.held free (held_same ∙ held));
-    }
-
-module _ (areas : List Area) (spares : List ℕ) (limit capacity cells objects holds : ℕ) (h : Heap)
-    (view : heap_of areas spares limit ≡ h) (kept : IsKept areas spares capacity cells objects holds) where
-  -- the object that was read at an index of the list, and written there
-  pub rewritten : (at : Addr) (k : ℕ) (a b : Area) (c s : Contents) (off : ℕ) (o : Object)
-      → has_object h at ≡ true → k + 1 ≡ at.0 / 256 → a ≡ get_or areas k a → c ≡ contents a → off ≡ at.0 % 256
-      → s ≡ region_with_object c off o → IsLaidOut s
-      → length o.fields ≡ length (object_in_region c off).fields → contents b ≡ s → b.held ≡ a.held
-      → b.generation ≡ a.generation → b.live ≡ a.live → b.cards ≡ a.cards
-      → IsWritten areas spares limit capacity cells objects holds h view kept k b
-      (with_object h at (placed_of o))
-  rewritten at k a b c s off o is place read region offset change laid count now held_same generation live
-      cards =
-      let seen_at = seen areas spares limit h view at is k a (contents a) off place read refl offset in
-      let f = found areas spares limit h view at is in
-      let same : f.area ≡ a = (let one : Some f.area ≡ Some a = sym f.is_area ∙ seen_at.here in cc one) in
-      let held : a.held ≡ true = sym (ap (λ (x : Area). x.held) same)
-      ∙ object_held areas spares limit h view capacity cells objects holds kept at f in
-      let changed : contents b ≡ region_with_object (contents a) off o = now ∙ change
-      ∙ ap (λ (x : Contents). region_with_object x off o) region in
-      let counts : length o.fields ≡ length (object_in_region (contents a) off).fields = count
-      ∙ ap (λ (x : Contents). length (object_in_region x off).fields) region in
-      let laid_b : IsLaidOut (contents b) = subst IsLaidOut (sym now) laid in
-      let new = area_written a b off o (kept.each (at.0 / 256) a seen_at.here) held seen_at.object changed
-      laid_b counts held_same generation live cards in
-      written areas spares limit capacity cells objects holds h view kept at k a b off o seen_at held changed
-      new held_same generation live cards counts
+-- a part of an object is written
+pub part_written : {areas : List Area} {spares : List ℕ} {limit capacity cells objects holds current : ℕ} {h : Heap}
+    → IsHeap areas spares limit capacity (cells, objects, holds) current h → (at : Addr) {k : ℕ} {a : Area} (b : Area)
+    (p : Part) → IsFound areas h at k a → IsArea b → IsWritten a b (at.0 % 256) p
+    → IsHeap (set areas k b) spares limit capacity (cells, objects, holds) current
+    (with_object h at (with_part (placed_at h at) p))
+part_written {areas} {cells = cells} {objects = objects} {current = current} {h = h} heap at {k} {a} b p f new w =
+    let place = f.home.place in
+    let old = object_in_region (contents a) (at.0 % 256) in
+    let o = with_part (placed_at h at) p in
+    let is : placed_of (region_with_part old p) ≡ o = part_placed old p ∙ ap (λ x. with_part x p) (sym f.placed) in
+    let whole : (at.0 / 256) * 256 + at.0 % 256 ≡ at.0 = omega arith in
+    let put : objects_in (set areas k b) ≡ fin.insert h.objects at.0 o =
+    objects_put place b (at.0 % 256) (region_with_part old p) (omega arith)
+    (ap (λ (c : Contents). c.objects) w.contents_are)
+    ∙ (λ i. fin.insert (heap.view i).objects (whole i) (is i)) in
+    let regions : region_in (Some b) ≡ region_in (Some a) =
+    λ i. cond (w.held i) (Some (record { generation = w.generation i; fill = (w.contents_are i).fill })) None in
+    let sums = sum-insert cells_of h.objects at.0 o in
+    let was : share cells_of (fin.get h.objects at.0) ≡ cells_of (placed_at h at) =
+    ap (share cells_of) (f.get ∙ ap Some (sym f.placed)) in
+    let used = heap.kept.used ∙ ap used_of heap.view in
+    let size = part_cells (placed_at h at) p in
+    heap_set place b heap cells objects current (with_object h at o) new f.home.held (w.held ∙ f.home.held) put
+    (regions_same place b regions ∙ ap (λ (x : Heap). x.regions) heap.view) refl refl
+    (cards_same place b (λ j. ap (λ bs. get_or bs j false) w.cards) ∙ ap (λ (x : Heap). x.cards) heap.view)
+    (omega (arith, sums, was, used, size)) (omega (arith, w.live))
+    (heap.kept.count ∙ ap (λ (x : Heap). fin.len x.objects) heap.view
+    ∙ sym (len_again h.objects at.0 o (ap is_some f.get))) (λ x. x)

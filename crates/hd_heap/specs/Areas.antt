@@ -10,7 +10,8 @@ use Rattle.hd_model.specs.declared.data.Addr.{Addr}
 use Rattle.hd_model.specs.Heap.{Placed, Region, Heap}
 use Rattle.hd_heap.specs.declared.area.TheConstants.{CARDS}
 use Rattle.hd_heap.specs.declared.area.Area.{Area}
-use Rattle.hd_heap.specs.Places.{by_place, places_of, from_one, tables}
+use Rattle.hd_model.specs.Indexed.{by_place}
+use Rattle.hd_heap.specs.Places.{places_of, from_one, tables}
 
 -- the objects of a region by offset, and its allocation pointer
 abbrev pub contents : Area → Contents
@@ -20,14 +21,10 @@ contents a = a.region.value
 abbrev pub area_at : List Area → ℕ → Option Area
 area_at areas r = slice_index_or (from_one areas) r None
 
--- what a field references, and how it is stored: 0 is null
+-- what a field as it is stored references: 0 is null
 abbrev pub address : ℕ → Option Addr
 address zero = None
 address (suc a) = Some (record { 0 = suc a })
-
-abbrev pub number : Option Addr → ℕ
-number None = 0
-number (Some a) = a.0
 
 -- an object of a region, as the heap's users see it
 abbrev pub placed_of : Object → Placed

@@ -6,7 +6,7 @@ use Rattle.hd_model.specs.declared.limits.TheConstants.{REGION, LEFT}
 use Rattle.hd_model.specs.declared.data.Id.{Id}
 use Rattle.hd_model.specs.declared.data.Addr.{Addr}
 use Rattle.hd_model.specs.Scene.{generation_at}
-use Rattle.hd_model.specs.Heap.{Placed, Heap, region_of, card_of, region_at, region_generation, is_held, has_object, object_at, placed_at, cells_of, used_of, is_set, is_carded}
+use Rattle.hd_model.specs.Heap.{Placed, Heap, region_of, card_of, region_at, region_generation, is_in_use, has_object, object_at, placed_at, cells_of, used_of, is_set, is_carded}
 use Rattle.hd_heap.specs.declared.fault.NewFault.{NewFault}
 use Rattle.hd_heap.specs.declared.fault.NewFault.TheVariants.{Full, Memory}
 
@@ -41,10 +41,10 @@ with_put h r generation o = record h {
       (record { generation = generation; fill = (region_at h r).fill + cells_of o });
 }
 
--- no region of generation 0 has room for one more of the largest objects, which have 64 words: at least 193
+-- no region of generation 0 has room for one more of the largest objects, which have 64 cells: at least 193
 -- of its 256 are taken
 abbrev pub AreFull : Heap → Type 0
-AreFull h = (r : ℕ) → is_held h r ≡ true → region_generation h r ≡ 0 → LEFT ≤ (region_at h r).fill
+AreFull h = (r : ℕ) → is_in_use h r ≡ true → region_generation h r ≡ 0 → LEFT ≤ (region_at h r).fill
 
 -- one object more, in a region of generation 0: one that was in use, or, where all those are full, the first
 -- free one; with none free, memory is taken for one
@@ -53,14 +53,14 @@ pub record IsMade (old new : Heap) (at : Addr) (o : Placed) : Type 0 where
   pub place : at.0 ≡ region_of at * REGION + (region_at old (region_of at)).fill
   pub was_free : has_object old at ≡ false
   pub young : region_generation old (region_of at) ≡ 0
-  pub full : is_held old (region_of at) ≡ false → AreFull old
-  pub first : is_held old (region_of at) ≡ false → 0 < length old.spare
+  pub full : is_in_use old (region_of at) ≡ false → AreFull old
+  pub first : is_in_use old (region_of at) ≡ false → 0 < length old.spare
       → region_of at ≡ slice_index old.spare 0
   pub made : new ≡ record (with_put old (region_of at) 0 o) {
-    spare = if is_held old (region_of at) then old.spare else drop 1 old.spare;
+    spare = if is_in_use old (region_of at) then old.spare else drop 1 old.spare;
   }
 
--- nothing is changed; the heap is full exactly where the limit does not allow `cells` more words
+-- nothing is changed; the heap is full exactly where the limit does not allow `cells` more cells
 abbrev pub IsRefused : Heap → Heap → ℕ → NewFault → Type 0
 IsRefused old new cells (Full used size) = (new ≡ old) × (used ≡ used_of old) × (size ≡ cells)
     × (old.limit < used_of old + cells)

@@ -12,7 +12,7 @@ pub record IsSpare (areas : List Area) (n : ℕ) : Type 0 where
   pub high : n ≤ length areas
   pub free : region_in (area_at areas n) ≡ None
 
--- the words, objects and regions in use are counted; each region is in use or once in the list of free ones,
+-- the cells, objects and regions in use are counted; each region is in use or once in the list of free ones,
 -- which has room for all
 pub record IsKept (areas : List Area) (spares : List ℕ) (capacity cells objects holds : ℕ) : Type 0 where
   pub each : (r : ℕ) (a : Area) → area_at areas r ≡ Some a → IsArea a

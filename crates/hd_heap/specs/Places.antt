@@ -1,18 +1,7 @@
 -- Lists read as finite maps and sets by index.
 use Rattle.std.specs.Prelude.{ℕ, zero, suc, ◌+◌, Bool, true, false, List, [], ◌∷◌, ◌++◌, map, Option, Some, None}
-use Rattle.std.specs.FinMap.{FinMap, from_entries}
 use Rattle.std.specs.FinSet.{FinSet, from_list}
 use Rattle.std.specs.Ordering.{nat_cmp}
-
--- the items that are there, each with its index, counted from a number on
-abbrev pub numbered : {A : Type 0} → ℕ → List (Option A) → List (ℕ × A)
-numbered i [] = []
-numbered i (None ∷ xs) = numbered (i + 1) xs
-numbered i (Some x ∷ xs) = (i, x) ∷ numbered (i + 1) xs
-
--- the map from indices to the items that are there
-abbrev pub by_place : {A : Type 0} → List (Option A) → FinMap nat_cmp A
-by_place xs = from_entries (numbered 0 xs)
 
 -- the indices of what is true, counted from a number on
 abbrev pub flagged : ℕ → List Bool → List ℕ

@@ -3,7 +3,7 @@ use Rattle.std.specs.Prelude.{◌≡◌, ◌≢◌, ℕ, ◌+◌, ◌*◌, ◌^�
 use Rattle.std.specs.FinMap.{len}
 use Rattle.hd_model.specs.declared.limits.TheConstants.{FIELDS, OLDEST, REGION, REGIONS}
 use Rattle.hd_model.specs.declared.data.Addr.{Addr}
-use Rattle.hd_model.specs.Heap.{Heap, region_of, card_of, region_at, is_held, has_object, placed_at, cells_of, is_set}
+use Rattle.hd_model.specs.Heap.{Heap, region_of, card_of, region_at, is_in_use, has_object, placed_at, cells_of, is_set}
 
 -- an object starts in this card
 pub record StartsIn (h : Heap) (card : ℕ) : Type 0 where
@@ -16,19 +16,19 @@ pub record StartsIn (h : Heap) (card : ℕ) : Type 0 where
 -- 2^32; and a set card has an object. Not kept: that identities differ, that fields reference objects, that
 -- all sizes together are within the limit.
 pub record IsSound (h : Heap) : Type 0 where
-  pub held : (a : Addr) → has_object h a ≡ true → is_held h (region_of a) ≡ true
+  pub held : (a : Addr) → has_object h a ≡ true → is_in_use h (region_of a) ≡ true
   pub within : (a : Addr) → has_object h a ≡ true
       → a.0 + cells_of (placed_at h a) ≤ region_of a * REGION + (region_at h (region_of a)).fill
   pub apart : (a b : Addr) → has_object h a ≡ true → has_object h b ≡ true → a.0 < b.0
       → a.0 + cells_of (placed_at h a) ≤ b.0
   pub identified : (a : Addr) → has_object h a ≡ true → (placed_at h a).id.0 ≢ 0
   pub few_fields : (a : Addr) → has_object h a ≡ true → length (placed_at h a).fields ≤ FIELDS
-  pub fills : (r : ℕ) → is_held h r ≡ true → (region_at h r).fill ≤ REGION
-  pub generations : (r : ℕ) → is_held h r ≡ true → (region_at h r).generation ≤ OLDEST
-  pub numbers : (r : ℕ) → is_held h r ≡ true → (0 < r) × (r < REGIONS)
+  pub fills : (r : ℕ) → is_in_use h r ≡ true → (region_at h r).fill ≤ REGION
+  pub generations : (r : ℕ) → is_in_use h r ≡ true → (region_at h r).generation ≤ OLDEST
+  pub numbers : (r : ℕ) → is_in_use h r ≡ true → (0 < r) × (r < REGIONS)
   pub spare_numbers : (i : ℕ) → i < length h.spare
       → (0 < slice_index h.spare i) × (slice_index h.spare i < REGIONS)
-  pub spare_free : (i : ℕ) → i < length h.spare → is_held h (slice_index h.spare i) ≡ false
+  pub spare_free : (i : ℕ) → i < length h.spare → is_in_use h (slice_index h.spare i) ≡ false
   pub spare_apart : (i j : ℕ) → i < j → j < length h.spare → slice_index h.spare i ≢ slice_index h.spare j
   pub cards : (c : ℕ) → is_set h c ≡ true → StartsIn h c
   pub few_objects : len h.objects < 2 ^ 32

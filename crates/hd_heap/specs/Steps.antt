@@ -1,42 +1,39 @@
 -- What the private steps of a heap do.
-use Rattle.std.specs.Prelude.{◌≡◌, ◌≢◌, ℕ, ◌+◌, ◌/◌, ◌<◌, ◌≤◌, ◌&&◌, ◌⊎◌, Bool, true, false, nat_lt, nat_le, length, slice_index, ⊤, Option, Some, None, MatchOption}
+use Rattle.std.specs.Prelude.{◌≡◌, ◌≢◌, ℕ, ◌+◌, ◌/◌, ◌<◌, ◌≤◌, ◌&&◌, Bool, true, false, if◌then◌else◌, nat_lt, nat_le, List, map, length, slice_index, ⊤, Option, Some, None, MatchOption}
 use Rattle.std.specs.FinMap.{contains_key}
 use Rattle.hd_model.specs.declared.limits.TheConstants.{REGION, CARD, LEFT}
 use Rattle.hd_model.specs.declared.data.Addr.{Addr}
-use Rattle.hd_model.specs.Heap.{Heap, has_object, is_held, region_at, region_generation}
+use Rattle.hd_model.specs.Heap.{Placed, Heap, offset_of, has_object, placed_at, object_at, is_in_use, region_at, region_generation}
+use Rattle.hd_model.specs.Scene.{fields_at, generation_at}
 use Rattle.hd_heap.specs.declared.area.Area.{Area}
+use Rattle.hd_heap.specs.declared.area.Part.{Part}
+use Rattle.hd_heap.specs.declared.area.Part.TheVariants.{Value, Registered, Field}
 use Rattle.hd_heap.specs.declared.area.Wanted.{Wanted}
 use Rattle.hd_heap.specs.declared.area.Wanted.TheVariants.{Any, Carded, Condemned}
-use Rattle.hd_cells.specs.Region.{IsObject, object_at, without_object}
-use Rattle.hd_cells.specs.Object.{size_of}
-use Rattle.hd_heap.specs.Areas.{contents, card_in}
-use Rattle.hd_heap.specs.Calls.{is_old_carded, with_fresh, is_condemned, AreFull}
+use Rattle.hd_cells.specs.Region.{IsObject, object_at as object_in_region, with_object as region_with_object, without_object}
+use Rattle.hd_cells.specs.Object.{Object, size_of, with_value, with_registered, with_field as region_with_field}
+use Rattle.hd_heap.specs.Areas.{contents, card_in, address, placed_of, IsArea}
+use Rattle.hd_heap.specs.Calls.{is_old_carded, with_field, with_fresh, is_condemned, AreFull}
 
--- a region in use of generation 0 with `cells` words left
+-- a region in use of generation 0 with `cells` cells left
 pub record HasRoom (h : Heap) (region cells : ℕ) : Type 0 where
-  pub held : is_held h region ≡ true
+  pub held : is_in_use h region ≡ true
   pub young : region_generation h region ≡ 0
   pub room : (region_at h region).fill + cells ≤ REGION
 
 -- each region of generation 0 is full, except this one; 0 is no region, and then nothing is said
 abbrev pub AreOthersFull : Heap → ℕ → Type 0
 AreOthersFull h current =
-    (r : ℕ) → current ≢ 0 → is_held h r ≡ true → region_generation h r ≡ 0 → r ≢ current
+    (r : ℕ) → current ≢ 0 → is_in_use h r ≡ true → region_generation h r ≡ 0 → r ≢ current
     → LEFT ≤ (region_at h r).fill
 
--- a region that was not in use is now, since all of generation 0 are full: the first free one, or one for
--- which memory was taken
-pub record IsBegun (old new : Heap) (region : ℕ) : Type 0 where
-  pub was_free : is_held old region ≡ false
-  pub full : AreFull old
-  pub first : 0 < length old.spare → region ≡ slice_index old.spare 0
-  pub fresh : new ≡ with_fresh old region 0
-
--- there is such a region, which was in use or was begun
+-- there is such a region. It was in use; or all of generation 0 are full, and it is the first free one, or one
+-- for which memory was taken
 pub record IsRoom (old new : Heap) (region cells : ℕ) : Type 0 where
   pub room : HasRoom new region cells
-  pub how : ((new ≡ old) × (is_held old region ≡ true))
-      ⊎ IsBegun old new region
+  pub full : is_in_use old region ≡ false → AreFull old
+  pub first : is_in_use old region ≡ false → 0 < length old.spare → region ≡ slice_index old.spare 0
+  pub is : new ≡ (if is_in_use old region then old else with_fresh old region 0)
 
 -- an object that a walk returns: any one, one of a generation above n that starts in a set card, or one of no
 -- generation above n
@@ -82,7 +79,7 @@ IsLeastFrom p low answer = MatchOption answer
 -- an object of a region is removed, and its card is clear unless another one begins in it
 pub record IsTaken (old new : Area) (at cells : ℕ) : Type 0 where
   pub removed : contents new ≡ without_object (contents old) at
-  pub size : cells ≡ size_of (object_at (contents old) at)
+  pub size : cells ≡ size_of (object_in_region (contents old) at)
   pub live : new.live + cells ≡ old.live
   pub held : new.held ≡ old.held
   pub generation : new.generation ≡ old.generation
@@ -91,3 +88,38 @@ pub record IsTaken (old new : Area) (at cells : ℕ) : Type 0 where
       → card_in (Some new) (at / CARD) ≡ card_in (Some old) (at / CARD)
   pub last : ((k : ℕ) → IsObject (contents new) k → k / CARD ≢ at / CARD)
       → card_in (Some new) (at / CARD) ≡ false
+
+-- the object at an address, in its region: both read the same
+pub record IsObjectOf (h : Heap) (at : Addr) (a : Area) (offset : ℕ) : Type 0 where
+  pub area : IsArea a
+  pub offset_is : offset ≡ offset_of at
+  pub object : IsObject (contents a) offset
+  pub placed : placed_at h at ≡ placed_of (object_in_region (contents a) offset)
+  pub fields : fields_at (object_at h) at ≡ map address (object_in_region (contents a) offset).fields
+  pub generation : generation_at (object_at h) at ≡ a.generation
+
+-- an object of a heap, and one of a region, after a write
+abbrev pub with_part : Placed → Part → Placed
+with_part p (Value v) = record p { value = v }
+with_part p (Registered on) = record p { registered = on }
+with_part p (Field i n) = with_field p i (address n)
+
+abbrev pub region_with_part : Object → Part → Object
+region_with_part o (Value v) = with_value o v
+region_with_part o (Registered on) = with_registered o on
+region_with_part o (Field i n) = region_with_field o i n
+
+-- an object with these fields has the part: a field is one of them
+abbrev pub HasPart : {A : Type 0} → List A → Part → Type 0
+HasPart fields (Value v) = ⊤
+HasPart fields (Registered on) = ⊤
+HasPart fields (Field i n) = i < length fields
+
+-- a part of an object is written
+pub record IsWritten (old new : Area) (at : ℕ) (part : Part) : Type 0 where
+  pub contents_are : contents new ≡ region_with_object (contents old) at
+      (region_with_part (object_in_region (contents old) at) part)
+  pub held : new.held ≡ old.held
+  pub generation : new.generation ≡ old.generation
+  pub live : new.live ≡ old.live
+  pub cards : new.cards ≡ old.cards

@@ -4,8 +4,10 @@ ghost use Rattle.std.specs.Prelude.{Some, None, IfSome, IsTrue, length};
 ghost use Rattle.std.specs.FinMap as map;
 ghost use Rattle.hd_cells.specs.Object.{new_object};
 ghost use Rattle.hd_cells.specs.Region.{IsFirstFrom, IsLaidOut, IsObject, empty_region, with_put};
+ghost use Rattle.hd_cells.specs.Region.{object_at, with_object};
 ghost use Rattle.hd_heap.specs.Areas.{contents, card_in, BeginsIn, IsArea};
-ghost use Rattle.hd_heap.specs.Steps.{wants, IsAsked, IsFirstAt, IsFirstSince, IsTaken};
+ghost use Rattle.hd_heap.specs.Steps.{wants, HasPart, IsAsked, IsFirstAt, IsFirstSince, IsTaken};
+ghost use Rattle.hd_heap.specs.Steps.{IsWritten, region_with_part};
 
 use hd_cells::Region;
 use hd_model::limits::{CARD, FIELDS, HEADER, OLDEST, REGION};
@@ -15,7 +17,7 @@ use std::boxed::Box;
 pub(crate) const CARDS: usize = (REGION / CARD) as usize;
 
 /// A region of a heap, in use or free: its objects, its generation, whether each of its cards is
-/// set, and the number of words that its objects take.
+/// set, and the number of cells that its objects take.
 #[derive(Drop)]
 pub(crate) struct Area {
     pub(crate) region: Box<Region>,
@@ -34,6 +36,15 @@ pub(crate) enum Wanted {
     Condemned(u8),
 }
 
+/// What is written into an object: its value, its registration, or a field as it is stored, counted
+/// from 0.
+#[derive(Clone, Copy)]
+pub(crate) enum Part {
+    Value(u64),
+    Registered(bool),
+    Field(u32, u32),
+}
+
 /// The offset of the first object after an offset. Where an object begins at the offset, this takes
 /// time by the gaps between the two.
 fn offset_after(region: &Region, offset: u32) -> Option<u32>
@@ -44,6 +55,21 @@ fn offset_after(region: &Region, offset: u32) -> Option<u32>
         region.after(offset)
     } else {
         region.walk(offset + 1)
+    }
+}
+
+/// Writes a part of an object.
+fn write_part(region: &mut Region, at: u32, part: Part)
+    requires object { IsObject region.old at }
+    requires within { HasPart (object_at region.old at).fields part }
+    ensures written { let after = region_with_part (object_at region.old at) part in
+        region.new ≡ with_object region.old at after }
+    ensures laid_out { IsLaidOut region.new }
+{
+    match part {
+        Part::Value(v) => region.set_value(at, v),
+        Part::Registered(on) => region.set_registered(at, on),
+        Part::Field(i, v) => region.set_field(at, i, v),
     }
 }
 
@@ -77,7 +103,7 @@ impl Area {
         self.generation = generation;
     }
 
-    /// Frees a region without objects. What its words had is gone.
+    /// Frees a region without objects. What its cells had is gone.
     pub(crate) fn give_up(&mut self)
         requires area { IsArea self.old }
         requires no_object { (k : ℕ) → ¬ (IsObject (contents self.old) k) }
@@ -109,6 +135,17 @@ impl Area {
     {
         self.live += fields + HEADER;
         self.region.put_object(id, fields, registered)
+    }
+
+    /// Writes a part of an object.
+    pub(crate) fn write(&mut self, at: u32, part: Part)
+        requires area { IsArea self.old }
+        requires object { IsObject (contents self.old) at }
+        requires within { HasPart (object_at (contents self.old) at).fields part }
+        ensures area { IsArea self.new }
+        ensures written { IsWritten self.old self.new at part }
+    {
+        write_part(&mut self.region, at, part);
     }
 
     /// Removes an object, and returns its size. Its card is clear where no other object starts.

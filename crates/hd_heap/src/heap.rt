@@ -1,5 +1,5 @@
 // A heap, seen by its callers as maps from addresses to objects and from numbers to regions in use.
-ghost use Rattle.std.specs.Prelude.{◌≡◌, ◌≢◌, ℕ, ◌+◌, ◌*◌, ◌/◌, ◌%◌, ◌<◌, ◌≤◌, ◌++◌, ◌∷◌, []};
+ghost use Rattle.std.specs.Prelude.{◌≡◌, ◌≢◌, ℕ, ◌+◌, ◌-◌, ◌*◌, ◌/◌, ◌%◌, ◌<◌, ◌≤◌, ◌++◌, ◌∷◌, []};
 ghost use Rattle.std.specs.Prelude.{Bool, true, false, length, max, take, replicate};
 ghost use Rattle.std.specs.Prelude.{slice_index, slice_index_or};
 ghost use Rattle.std.specs.Prelude.{None, Some, IfOk, IfErr, IfSome, OnOk, OnErr, MatchResult, MatchOption};
@@ -8,17 +8,18 @@ ghost use Rattle.std.specs.Bool.{Decides};
 ghost use Rattle.std.specs.FinMap as map;
 ghost use Rattle.hd_model.specs.Scene.{fields_at, generation_at};
 ghost use Rattle.hd_model.specs.Heap.{has_object, object_at, placed_at, cells_of, used_of};
-ghost use Rattle.hd_model.specs.Heap.{is_held, region_at, region_of, offset_of, region_generation, card_of};
+ghost use Rattle.hd_model.specs.Heap.{is_in_use, region_at, region_of, offset_of, region_generation, card_of};
 ghost use Rattle.hd_heap.specs.Sound.{IsSound};
 ghost use Rattle.hd_heap.specs.Calls.{empty_heap, new_object, with_object, with_put, with_field};
 ghost use Rattle.hd_heap.specs.Calls.{IsMade, IsRefused, LacksSpare, AreFull};
 ghost use Rattle.hd_heap.specs.Calls.{stored, is_younger, with_card, IsWalk, is_old_carded, is_condemned};
 ghost use Rattle.hd_heap.specs.Calls.{with_fresh, with_copy, IsRemoved, with_generation};
-ghost use Rattle.hd_heap.specs.Areas.{number};
-ghost use Rattle.hd_heap.specs.Steps.{HasRoom, IsRoom, is_wanted, IsLeastBetween, IsLeastFrom};
+ghost use Rattle.hd_heap.specs.Areas.{address};
+ghost use Rattle.hd_heap.specs.Steps.{HasPart, HasRoom, IsObjectOf, IsRoom, with_part};
+ghost use Rattle.hd_heap.specs.Steps.{is_wanted, IsLeastBetween, IsLeastFrom};
 
 use crate::NewFault;
-use crate::area::{Area, Wanted};
+use crate::area::{Area, Part, Wanted};
 use hd_cells::Region;
 use hd_model::limits::{CARD, FIELDS, HEADER, OLDEST, REGION, REGIONS};
 use hd_model::{Addr, Id, Memory};
@@ -62,22 +63,21 @@ impl Model for Heap {
         × AreOthersFull (heap_of h.areas.items h.spare.items h.limit) h.current };
 }
 
-/// The index in the heap's list of the region in which an address lies.
-fn place_of(at: Addr) -> usize
-    requires { REGION ≤ at.0 }
-    ensures { result + 1 ≡ at.0 / REGION }
+/// The index in the heap's list of a region, by its number from 1 on.
+fn place_of(region: u32) -> usize
+    ensures { result ≡ region - 1 }
 {
-    (at.0 / REGION - 1) as usize
+    region.saturating_sub(1) as usize
 }
 
-/// The offset of an address in its region, in words.
+/// The offset of an address in its region, in cells.
 fn offset_of(at: Addr) -> u32
     ensures { result ≡ offset_of at }
 {
     at.0 % REGION
 }
 
-/// The address of a word of a region.
+/// The address of a cell of a region.
 fn address_in(region: u32, offset: u32) -> Addr
     requires region { region < REGIONS }
     requires offset { offset < REGION }
@@ -94,18 +94,15 @@ fn still_current(current: u32, generation: u8) -> u32
     if generation == 0 { 0 } else { current }
 }
 
-/// A field as it is stored in a word: 0 for null.
-fn number_of(v: Option<Addr>) -> u32
-    ensures { result ≡ number v }
+/// What a field as it is stored references.
+fn address_of(cell: u32) -> Option<Addr>
+    ensures { result ≡ address cell }
 {
-    match v {
-        Some(at) => at.0,
-        None => 0,
-    }
+    if cell == 0 { None } else { Some(Addr(cell)) }
 }
 
 impl Heap {
-    /// An empty heap. `limit` bounds the sizes of all objects together, in words. No memory is
+    /// An empty heap. `limit` bounds the sizes of all objects together, in cells. No memory is
     /// taken.
     pub fn open(alloc: Global, limit: u32) -> Result<Heap, Memory>
         ensures { MatchResult result (λ h. h ≡ empty_heap limit) (λ _. ⊥) }
@@ -151,7 +148,8 @@ impl Heap {
         ensures identity { result ≡ (placed_at self.now at).id }
         ensures never_zero { result.0 ≢ 0 }
     {
-        Id(self.areas[place_of(at)].region.id(offset_of(at)))
+        let (area, offset) = self.area_of(at);
+        Id(area.region.id(offset))
     }
 
     /// The number of fields of the object at `at`.
@@ -160,7 +158,8 @@ impl Heap {
         ensures count { result ≡ length (fields_at (object_at self.now) at) }
         ensures few { result ≤ FIELDS }
     {
-        self.areas[place_of(at)].region.fields(offset_of(at))
+        let (area, offset) = self.area_of(at);
+        area.region.fields(offset)
     }
 
     /// The value of the object at `at`.
@@ -168,7 +167,8 @@ impl Heap {
         requires { has_object self.now at ≡ true }
         ensures { result ≡ (placed_at self.now at).value }
     {
-        self.areas[place_of(at)].region.value(offset_of(at))
+        let (area, offset) = self.area_of(at);
+        area.region.value(offset)
     }
 
     /// Sets the value of the object at `at`.
@@ -177,7 +177,7 @@ impl Heap {
         ensures { let after = record (placed_at self.old at) { value = v } in
             self.new ≡ with_object self.old at after }
     {
-        self.areas[place_of(at)].region.set_value(offset_of(at), v);
+        self.write(at, Part::Value(v));
     }
 
     /// Whether the object at `at` is registered for finalisation.
@@ -185,7 +185,8 @@ impl Heap {
         requires { has_object self.now at ≡ true }
         ensures { result ≡ (placed_at self.now at).registered }
     {
-        self.areas[place_of(at)].region.registered(offset_of(at))
+        let (area, offset) = self.area_of(at);
+        area.region.registered(offset)
     }
 
     /// Registers the object at `at` for finalisation, or removes its registration, also where that
@@ -195,9 +196,7 @@ impl Heap {
         ensures { let after = record (placed_at self.old at) { registered = on } in
             self.new ≡ with_object self.old at after }
     {
-        self.areas[place_of(at)]
-            .region
-            .set_registered(offset_of(at), on);
+        self.write(at, Part::Registered(on));
     }
 
     /// The generation of the object at `at`, which is that of its region: 0, 1 or 2.
@@ -206,7 +205,8 @@ impl Heap {
         ensures value { result ≡ generation_at (object_at self.now) at }
         ensures few { result ≤ OLDEST }
     {
-        self.areas[place_of(at)].generation
+        let (area, _offset) = self.area_of(at);
+        area.generation
     }
 
     /// Field `i` of the object at `at`: an address, or None for null.
@@ -215,8 +215,7 @@ impl Heap {
         requires within { i < length (fields_at (object_at self.now) at) }
         ensures { result ≡ slice_index_or (fields_at (object_at self.now) at) i None }
     {
-        let cell = self.areas[place_of(at)].region.field(offset_of(at), i);
-        if cell == 0 { None } else { Some(Addr(cell)) }
+        address_of(self.field(at, i))
     }
 
     /// Field `i` of the object at `at` becomes `v`, an object or null. Where `v` is of a younger
@@ -228,7 +227,7 @@ impl Heap {
         ensures { self.new ≡ stored self.old at i v }
     {
         let younger = self.is_younger(at, v);
-        self.write_field(at, i, v);
+        self.write(at, Part::Field(i, self.stored(v)));
         if younger {
             self.set_card(at, true);
         }
@@ -240,17 +239,17 @@ impl Heap {
         ensures { self.new ≡ with_card self.old (card_of at) on }
     {
         let card = (offset_of(at) / CARD) as usize;
-        self.areas[place_of(at)].cards[card] = on;
+        self.areas[place_of(at.0 / REGION)].cards[card] = on;
     }
 
-    /// The limit of the sizes of all objects together, in words.
+    /// The limit of the sizes of all objects together, in cells.
     pub fn limit(&self) -> u32
         ensures { result ≡ self.now.limit }
     {
         self.limit
     }
 
-    /// The sizes of all objects together, in words.
+    /// The sizes of all objects together, in cells.
     pub fn used(&self) -> u32
         ensures value { result ≡ used_of self.now }
         ensures sound { IsSound self.now }
@@ -331,12 +330,12 @@ impl Heap {
         requires spare { 0 < length self.old.spare }
         requires generation { generation ≤ OLDEST }
         ensures number { result ≡ slice_index self.old.spare 0 }
-        ensures was_free { is_held self.old result ≡ false }
+        ensures was_free { is_in_use self.old result ≡ false }
         ensures held { self.new ≡ with_fresh self.old result generation }
     {
         let number = self.spare[0];
         let _ = self.spare.pop_front();
-        self.areas[number as usize - 1].hold(generation);
+        self.areas[place_of(number)].hold(generation);
         self.held += 1;
         self.current = still_current(self.current, generation);
         number
@@ -346,7 +345,7 @@ impl Heap {
     /// on.
     pub fn copy_into(&mut self, from: Addr, region: u32) -> Addr
         requires object { has_object self.old from ≡ true }
-        requires held { is_held self.old region ≡ true }
+        requires held { is_in_use self.old region ≡ true }
         requires room { let fill = (region_at self.old region).fill in
             fill + cells_of (placed_at self.old from) ≤ REGION }
         ensures place { result.0 ≡ region * REGION + (region_at self.old region).fill }
@@ -355,8 +354,11 @@ impl Heap {
     {
         let fields = self.fields(from);
         let copy = self.put(region, self.id(from), fields, self.registered(from));
-        self.set_value(copy, self.value(from));
-        self.copy_fields(from, copy, fields);
+        self.write(copy, Part::Value(self.value(from)));
+        for i in 0..fields {
+            let field = self.field(from, i);
+            self.write(copy, Part::Field(i, field));
+        }
         copy
     }
 
@@ -365,31 +367,31 @@ impl Heap {
         requires { has_object self.old at ≡ true }
         ensures { IsRemoved self.old self.new at }
     {
-        let cells = self.areas[place_of(at)].remove(offset_of(at));
+        let cells = self.areas[place_of(at.0 / REGION)].remove(offset_of(at));
         self.used -= cells;
         self.count -= 1;
     }
 
     /// Gives a region in use, and with it its objects, another generation.
     pub fn set_generation(&mut self, region: u32, generation: u8)
-        requires held { is_held self.old region ≡ true }
+        requires held { is_in_use self.old region ≡ true }
         requires generation { generation ≤ OLDEST }
         ensures { self.new ≡ with_generation self.old region generation }
     {
-        self.areas[region as usize - 1].generation = generation;
+        self.areas[place_of(region)].generation = generation;
         self.current = still_current(self.current, generation);
     }
 
     /// Releases a region in use without objects. It becomes the last free one.
     pub fn release(&mut self, region: u32)
-        requires held { is_held self.old region ≡ true }
+        requires held { is_in_use self.old region ≡ true }
         requires no_object { (a : Addr) → has_object self.old a ≡ true → region_of a ≢ region }
         ensures { self.new ≡ record self.old {
           regions = map.remove self.old.regions region;
           spare = self.old.spare ++ region ∷ [];
         } }
     {
-        self.areas[region as usize - 1].give_up();
+        self.areas[place_of(region)].give_up();
         self.held -= 1;
         self.spare.push_back_reserved(region);
     }
@@ -426,7 +428,7 @@ impl Heap {
         Ok(())
     }
 
-    /// A region in use of generation 0 with `size` words left: one with room, or a free one where
+    /// A region in use of generation 0 with `size` cells left: one with room, or a free one where
     /// none has room for the largest object.
     fn room_for(&mut self, size: u32) -> Result<u32, Memory>
         requires { size ≤ FIELDS + HEADER }
@@ -443,7 +445,7 @@ impl Heap {
         Ok(region)
     }
 
-    /// A region of generation 0 with `size` words left: that of the last new object alone, where
+    /// A region of generation 0 with `size` cells left: that of the last new object alone, where
     /// all others are full.
     fn open_region(&self, size: u32) -> Option<u32>
         requires { size ≤ FIELDS + HEADER }
@@ -459,7 +461,7 @@ impl Heap {
         }
     }
 
-    /// The first region of generation 0 with `size` words left.
+    /// The first region of generation 0 with `size` cells left.
     fn first_open(&self, size: u32) -> Option<u32>
         requires { size ≤ FIELDS + HEADER }
         ensures { MatchOption result (AreFull self.now) (λ region. HasRoom self.now region size) }
@@ -472,7 +474,7 @@ impl Heap {
         None
     }
 
-    /// Whether this is the number of a region in use of generation 0 with `size` words left.
+    /// Whether this is the number of a region in use of generation 0 with `size` cells left.
     fn has_room(&self, region: u32, size: u32) -> bool
         requires { size ≤ FIELDS + HEADER }
         ensures { Decides result (HasRoom self.now region size) }
@@ -480,7 +482,7 @@ impl Heap {
         if region == 0 || region as usize > self.areas.len() {
             return false;
         }
-        let area = &self.areas[region as usize - 1];
+        let area = &self.areas[place_of(region)];
         if !area.held {
             return false;
         }
@@ -494,7 +496,7 @@ impl Heap {
     fn put(&mut self, region: u32, id: Id, fields: u32, registered: bool) -> Addr
         requires identified { id.0 ≢ 0 }
         requires few_fields { fields ≤ FIELDS }
-        requires held { is_held self.old region ≡ true }
+        requires held { is_in_use self.old region ≡ true }
         requires room { (region_at self.old region).fill + (fields + HEADER) ≤ REGION }
         ensures place { result.0 ≡ region * REGION + (region_at self.old region).fill }
         ensures region { region_of result ≡ region }
@@ -502,7 +504,7 @@ impl Heap {
         ensures put { let generation = region_generation self.old region in
             self.new ≡ with_put self.old region generation (new_object id fields registered) }
     {
-        let offset = self.areas[region as usize - 1].put(id.0, fields, registered);
+        let offset = self.areas[place_of(region)].put(id.0, fields, registered);
         self.used += fields + HEADER;
         self.count += 1;
         address_in(region, offset)
@@ -520,50 +522,45 @@ impl Heap {
         }
     }
 
-    /// Writes a field, without the write barrier.
-    fn write_field(&mut self, at: Addr, i: u32, v: Option<Addr>)
+    /// The region of the object at `at`, and its offset there.
+    fn area_of(&self, at: Addr) -> (&Area, u32)
+        requires { has_object self.now at ≡ true }
+        ensures { IsObjectOf self.now at result.0.now result.1 }
+    {
+        (&self.areas[place_of(at.0 / REGION)], offset_of(at))
+    }
+
+    /// A reference to an object, or null, as it is stored in a field: 0 for null.
+    fn stored(&self, v: Option<Addr>) -> u32
+        requires { IfSome v (λ y. has_object self.now y ≡ true) }
+        ensures { address result ≡ v }
+    {
+        // Read for the proof: it gives the invariant, by which no address is 0.
+        let _areas = &self.areas;
+        match v {
+            Some(at) => at.0,
+            None => 0,
+        }
+    }
+
+    /// Field `i` of the object at `at` as it is stored.
+    fn field(&self, at: Addr, i: u32) -> u32
+        requires object { has_object self.now at ≡ true }
+        requires within { i < length (fields_at (object_at self.now) at) }
+        ensures { address result ≡ slice_index_or (fields_at (object_at self.now) at) i None }
+    {
+        let (area, offset) = self.area_of(at);
+        area.region.field(offset, i)
+    }
+
+    /// Writes a part of the object at `at`, without the write barrier.
+    fn write(&mut self, at: Addr, part: Part)
         requires object { has_object self.old at ≡ true }
-        requires within { i < length (fields_at (object_at self.old) at) }
-        requires target { IfSome v (λ y. has_object self.old y ≡ true) }
-        ensures { let after = with_field (placed_at self.old at) i v in
+        requires within { HasPart (placed_at self.old at).fields part }
+        ensures { let after = with_part (placed_at self.old at) part in
             self.new ≡ with_object self.old at after }
     {
-        self.areas[place_of(at)]
-            .region
-            .set_field(offset_of(at), i, number_of(v));
-    }
-
-    /// Copies one field of an object into another object.
-    fn copy_field(&mut self, from: Addr, copy: Addr, i: u32)
-        requires from { has_object self.old from ≡ true }
-        requires within { i < length (fields_at (object_at self.old) from) }
-        requires copy { has_object self.old copy ≡ true }
-        requires room { i < length (fields_at (object_at self.old) copy) }
-        ensures { let field = slice_index_or (fields_at (object_at self.old) from) i None in
-            let after = with_field (placed_at self.old copy) i field in
-            self.new ≡ with_object self.old copy after }
-    {
-        let field = self.areas[place_of(from)].region.field(offset_of(from), i);
-        self.areas[place_of(copy)]
-            .region
-            .set_field(offset_of(copy), i, field);
-    }
-
-    /// Copies the fields of one object into another one, which has as many.
-    fn copy_fields(&mut self, from: Addr, copy: Addr, fields: u32)
-        requires from { has_object self.old from ≡ true }
-        requires copy { has_object self.old copy ≡ true }
-        requires apart { from.0 ≢ copy.0 }
-        requires many { fields ≡ length (placed_at self.old from).fields }
-        requires same { length (placed_at self.old copy).fields ≡ fields }
-        ensures { let after = record (placed_at self.old copy) {
-          fields = (placed_at self.old from).fields;
-        } in
-            self.new ≡ with_object self.old copy after }
-    {
-        for i in 0..fields {
-            self.copy_field(from, copy, i);
-        }
+        self.areas[place_of(at.0 / REGION)].write(offset_of(at), part);
     }
 
     /// The first object past `after` that is wanted.
@@ -591,7 +588,7 @@ impl Heap {
         if at.0 < REGION {
             return None;
         }
-        let place = place_of(at);
+        let place = place_of(at.0 / REGION);
         if place >= regions {
             return None;
         }

@@ -1,4 +1,4 @@
-//! A garbage-collected heap: objects in regions of 256 words, each of one generation, with cards
+//! A garbage-collected heap: objects in regions of 256 cells, each of one generation, with cards
 //! that mark where older objects reference younger ones.
 #![tactic(auto)]
 

@@ -1,12 +1,12 @@
 -- What is left of a mask while its lowest bits are taken away, one by one.
-use Rattle.std.proofs.Common.{◌≡◌, ◌≢◌, ◌⊎◌, ℕ, ◌+◌, ◌-◌, ◌^◌, ◌<◌, ◌≤◌, min, ◌++◌, length, take, drop, bit_and, bit_xor, inl, inr, sym, ap, ◌∙◌, arith}
+use Rattle.std.proofs.Common.{◌≡◌, ◌≢◌, ◌⊎◌, ℕ, ◌+◌, ◌-◌, ◌^◌, ◌<◌, ◌≤◌, min, ◌++◌, length, take, drop, bit_and, bit_or, bit_xor, inl, inr, sym, ap, ◌∙◌, arith}
 use Rattle.std.specs.Int.RustNames.{count_ones}
 use Rattle.std.specs.Int.{bit_at}
 use Rattle.std.proofs.lemmas.Bool.{cases_eq, cases_order}
 use Rattle.std.proofs.lemmas.Nat.{xor_lt}
 use Rattle.std.proofs.lemmas.Nat.Bits.{bit_at_xor, bit_at-lt, bit_at-pow_other}
 use Rattle.hd_mask.specs.Mask.{set_bits}
-use Rattle.hd_mask.proofs.Bits.{least_bit, lowest_parts}
+use Rattle.hd_mask.proofs.Bits.{least_bit, lowest_parts, or_from_parts, apart_from_parts}
 use Rattle.hd_mask.proofs.Ones.{ones-without_lowest, ones_from_parts}
 use Rattle.hd_mask.proofs.SetBits.{length-set_bits, set_bits_from_parts, front_and_back}
 
@@ -46,27 +46,41 @@ one_more_taken mask left taken some fits before =
 
 -- ---- what was taken, which is `mask ^ left`
 
-module _ (mask left taken : ℕ) (done : Left mask left taken) where
-  pub taken_at : (i : ℕ) → bit_at mask i ≡ bit_at (bit_xor mask left) i + bit_at left i
-  taken_at i = omega (arith, bit_at_xor mask left i, done.within i, bit_at-lt mask i)
+pub record IsTaken (mask left n : ℕ) : Type 0 where
+  pub at : (i : ℕ) → bit_at mask i ≡ bit_at (bit_xor mask left) i + bit_at left i
+  pub together : mask ≡ bit_or (bit_xor mask left) left
+  pub apart : bit_and (bit_xor mask left) left ≡ 0
+  pub below : (i k : ℕ) → bit_at (bit_xor mask left) i ≡ 1 → bit_at left k ≡ 1 → i < k
+  pub number : count_ones (bit_xor mask left) ≡ min n (count_ones mask)
+  pub list : (set_bits (bit_xor mask left) ≡ take n (set_bits mask)) × (set_bits left ≡ drop n (set_bits mask))
 
-  pub taken_below : (i k : ℕ) → bit_at (bit_xor mask left) i ≡ 1 → bit_at left k ≡ 1 → i < k
-  taken_below i k set rest =
-      let was : bit_at mask i ≡ 1 = omega (arith, taken_at i, bit_at-lt mask i) in
-      done.above i k was (omega (arith, taken_at i, bit_at-lt mask i)) rest
+pub taken_parts : (mask left taken n : ℕ) → Left mask left taken → taken ≡ min n (count_ones mask) → mask < 2 ^ 64
+    → left < 2 ^ 64 → IsTaken mask left n
+taken_parts mask left taken n done limit fits fits' = record {
+  at = at;
+  together = or_from_parts mask _ left at;
+  apart = apart_from_parts mask _ left at;
+  below = below;
+  number = number;
+  list = (ends.0 ∙ ap (take n) (sym both), ends.1 ∙ ap (drop n) (sym both));
+}
+  where
+    at : (i : ℕ) → bit_at mask i ≡ bit_at (bit_xor mask left) i + bit_at left i
+    at i = omega (arith, bit_at_xor mask left i, done.within i, bit_at-lt mask i)
 
-  pub taken_number : count_ones (bit_xor mask left) ≡ taken
-  taken_number = omega (arith, ones_from_parts mask _ left taken_at, done.number)
+    below : (i k : ℕ) → bit_at (bit_xor mask left) i ≡ 1 → bit_at left k ≡ 1 → i < k
+    below i k set rest =
+        let was : bit_at mask i ≡ 1 = omega (arith, at i, bit_at-lt mask i) in
+        done.above i k was (omega (arith, at i, bit_at-lt mask i)) rest
 
-  pub taken_list : (n : ℕ) → taken ≡ min n (count_ones mask) → mask < 2 ^ 64 → left < 2 ^ 64
-      → (set_bits (bit_xor mask left) ≡ take n (set_bits mask))
-      × (set_bits left ≡ drop n (set_bits mask))
-  taken_list n limit fits fits' =
-      let both = set_bits_from_parts mask (bit_xor mask left) left taken_at taken_below in
-      let front = set_bits (bit_xor mask left) in
-      let whole = length-set_bits mask fits in
-      let taken_long = length-set_bits (bit_xor mask left) (xor_lt 64 mask left fits fits') in
-      let long : length front ≡ min n (length (front ++ set_bits left)) =
-      taken_long ∙ taken_number ∙ limit ∙ ap (min n) (sym whole ∙ ap length both) in
-      let ends = front_and_back n front (set_bits left) long in
-      (ends.0 ∙ ap (take n) (sym both), ends.1 ∙ ap (drop n) (sym both))
+    number : count_ones (bit_xor mask left) ≡ min n (count_ones mask)
+    number = omega (arith, ones_from_parts mask _ left at, done.number, limit)
+
+    both : set_bits mask ≡ set_bits (bit_xor mask left) ++ set_bits left
+    both = set_bits_from_parts mask (bit_xor mask left) left at below
+
+    ends : (set_bits (bit_xor mask left) ≡ take n (set_bits (bit_xor mask left) ++ set_bits left))
+        × (set_bits left ≡ drop n (set_bits (bit_xor mask left) ++ set_bits left))
+    ends = front_and_back n (set_bits (bit_xor mask left)) (set_bits left)
+        (length-set_bits (bit_xor mask left) (xor_lt 64 mask left fits fits') ∙ number
+        ∙ ap (min n) (sym (length-set_bits mask fits) ∙ ap length both))

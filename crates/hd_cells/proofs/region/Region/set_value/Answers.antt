@@ -1,30 +1,20 @@
 use Rattle.std.proofs.Common.{arith}
-use Rattle.hd_cells.proofs.Contents.{held}
+use Rattle.hd_cells.specs.Object.{with_value}
+use Rattle.hd_cells.specs.Region.{object_at}
+use Rattle.hd_cells.proofs.Contents.{opened, object_inside, new_laid_out}
 use Rattle.hd_cells.proofs.CellWrites.{value_written}
 use Rattle.hd_cells.proofs.ObjectStarts.{whole_written}
-use Rattle.hd_cells.proofs.Contents.{of_laid_out}
-use Rattle.std.proofs.Common.{◌∙◌, length-set}
 use Rattle.hd_cells.proofs.region.Region.set_value.Goals as goal
 
 pub bounds-self-inside-place : goal.bounds-self-inside-place
-bounds-self-inside-place c =
-    let h = held c.self.inside.cells c.self.inside.fill c.args.self.now c.self.told.0 c.self.invariant.region
-    c.self.view_is c.args.at c.requires in
-    omega (arith, h.high, h.within)
+bounds-self-inside-place c = omega (arith, object_inside (opened c.self.inside c.self.told c.self.invariant c.self.view_is) c.args.at c.requires)
 
 pub returns : goal.returns
 returns c =
-    let made = value_written c.self.inside.cells c.self.inside.fill c.args.self.now c.self.told.0
-    c.self.invariant.region c.self.view_is c.args.at c.requires c.args.v in
-    record {
-      written = made.contents;
-      laid_out = of_laid_out _ c.self.inside.fill _
-          (length-set c.self.inside.cells _ c.args.v ∙ c.self.told.0) made;
-    }
+    let new = value_written (opened c.self.inside c.self.told c.self.invariant c.self.view_is) c.args.at c.requires c.args.v in
+    record { written = new.view; laid_out = new_laid_out new }
 
 pub invariant_of-self : goal.invariant_of-self
 invariant_of-self c =
-    whole_written c.self.inside.cells c.self.inside.fill c.self.inside.starts c.args.self.now c.self.told.1
-    c.self.invariant c.self.view_is _ c.args.at _ c.requires
-    (value_written c.self.inside.cells c.self.inside.fill c.args.self.now c.self.told.0
-    c.self.invariant.region c.self.view_is c.args.at c.requires c.args.v)
+    let read = opened c.self.inside c.self.told c.self.invariant c.self.view_is in
+    whole_written read c.self.invariant c.self.told.1 c.args.at (with_value (object_at c.args.self.now c.args.at) c.args.v) c.requires (value_written read c.args.at c.requires c.args.v)

@@ -1,4 +1,4 @@
-use Rattle.hd_cells.proofs.Contents.{laid_out}
+use Rattle.hd_cells.proofs.Contents.{opened, laid_out}
 use Rattle.hd_cells.proofs.CellWalk.{start_reached, first_seen}
 use Rattle.hd_cells.proofs.region.Region.walk.Goals as goal
 
@@ -12,6 +12,5 @@ pub returns : goal.returns
 returns c = record {
   first = first_seen c.self.inside.cells c.self.inside.fill c.args.self.now c.args.from c.first_from.result
       c.self.view_is c.first_from.ensures;
-  laid_out = laid_out c.self.inside.cells c.self.inside.fill c.args.self.now c.self.told.0
-      c.self.invariant.region c.self.view_is;
+  laid_out = laid_out (opened c.self.inside c.self.told c.self.invariant c.self.view_is);
 }

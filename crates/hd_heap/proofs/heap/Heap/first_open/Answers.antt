@@ -1,19 +1,14 @@
-use Rattle.std.proofs.Common.{◌≡◌, ◌+◌, inl, inr, arith}
-use Rattle.std.proofs.lemmas.Bool.{cases_eq, both_ways}
-use Rattle.hd_model.specs.Heap.{region_at}
-use Rattle.std.proofs.Common.{◌≤◌, subst, sym}
-use Rattle.hd_heap.proofs.RegionChanges.{held_place}
+use Rattle.std.proofs.Common.{◌-◌, refl, arith}
+use Rattle.hd_heap.proofs.RegionReads.{opened, held_index}
 use Rattle.hd_heap.proofs.heap.Heap.first_open.Goals as goal
 
 pub loop-place-init : goal.loop-place-init
 loop-place-init c = λ r held young low.
-    let at = held_place c.self.inside.areas.items c.self.inside.spare.items c.self.inside.limit _ _ _ _
-    c.args.self.now c.self.view_is c.self.invariant.0 r held in
-    absurd (omega (arith, at.0, low))
+    let index = held_index (opened c.self.inside c.self.view_is c.self.invariant) r held (r - 1) refl in
+    absurd (omega (arith, index.0, low))
 
 pub returns : goal.returns
 returns c = λ r held young.
-    let at = held_place c.self.inside.areas.items c.self.inside.spare.items c.self.inside.limit _ _ _ _
-    c.args.self.now c.self.view_is c.self.invariant.0 r held in
+    let index = held_index (opened c.self.inside c.self.view_is c.self.invariant) r held (r - 1) refl in
     c.loop-place.invariant r held young
-    (omega (arith, at.1, c.loop-place-test.false, c.len-place-end.ensures))
+    (omega (arith, index.0, index.1, c.loop-place-test.false, c.len-place-end.ensures))

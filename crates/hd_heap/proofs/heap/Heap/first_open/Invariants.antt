@@ -1,7 +1,7 @@
 use Rattle.std.proofs.Common.{◌≡◌, ℕ, ◌≤◌, true}
-use Rattle.hd_model.specs.Heap.{is_held, region_at, region_generation}
+use Rattle.hd_model.specs.Heap.{is_in_use, region_at, region_generation}
 use Rattle.hd_heap.proofs.heap.Heap.first_open.Given as goal
 
 abbrev pub invariant-loop-place : goal.invariant-loop-place
-invariant-loop-place l = (r : ℕ) → is_held l.self r ≡ true → region_generation l.self r ≡ 0 → r ≤ l.place
+invariant-loop-place l = (r : ℕ) → is_in_use l.self r ≡ true → region_generation l.self r ≡ 0 → r ≤ l.place
     → 193 ≤ (region_at l.self r).fill

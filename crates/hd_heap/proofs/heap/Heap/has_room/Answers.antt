@@ -1,11 +1,9 @@
-use Rattle.std.proofs.Common.{◌≡◌, ◌+◌, ◌-◌, ◌≤◌, sym, ap, ◌∙◌, arith}
-use Rattle.std.specs.Prelude.{is_some}
+use Rattle.std.proofs.Common.{◌-◌, refl, sym, ap, ◌∙◌, arith}
 use Rattle.std.proofs.lemmas.Bool.{leb-true, le-leb, both_ways}
 use Rattle.hd_model.specs.Heap.{Region}
 use Rattle.hd_cells.specs.Region.{Contents}
 use Rattle.hd_heap.specs.Steps.{HasRoom}
-use Rattle.hd_heap.proofs.RegionReads.{area_read, held_region, region_is}
-use Rattle.hd_heap.proofs.RegionChanges.{held_place, held_at}
+use Rattle.hd_heap.proofs.RegionReads.{opened, place_read, held_index, held_read, home_by}
 use Rattle.hd_heap.proofs.heap.Heap.has_room.Goals as goal
 use Rattle.hd_heap.proofs.heap.Heap.has_room.Goals.{then-region-eq0-via-then-region-eq0, then-region-eq0-via-else-region-eq0+then-region-len}
 
@@ -13,12 +11,12 @@ pub returns-then-region-eq0 : goal.returns-then-region-eq0
 returns-then-region-eq0 c = (
   λ e. absurd (cc e),
   λ (room : HasRoom c.args.self.now c.args.region c.args.size).
-      let at = held_place c.self.inside.areas.items c.self.inside.spare.items c.self.inside.limit _ _ _ _
-      c.args.self.now c.self.view_is c.self.invariant.0 c.args.region room.held in
+      let index = held_index (opened c.self.inside c.self.view_is c.self.invariant) c.args.region room.held
+      (c.args.region - 1) refl in
       elim c.then-region-eq0.branch [
-        | then-region-eq0-via-then-region-eq0 w ↦ absurd (omega (arith, at.0, w.if-region-eq0.true))
+        | then-region-eq0-via-then-region-eq0 w ↦ absurd (omega (arith, index.0, w.if-region-eq0.true))
         | then-region-eq0-via-else-region-eq0+then-region-len w ↦
-            absurd (omega (arith, at.1, w.if-region-len.true, w.len.ensures))
+            absurd (omega (arith, index.0, index.1, w.if-region-len.true, w.len.ensures))
       ],
 )
 
@@ -26,42 +24,34 @@ pub returns-then-not-area : goal.returns-then-not-area
 returns-then-not-area c = (
   λ e. absurd (cc e),
   λ (room : HasRoom c.args.self.now c.args.region c.args.size).
-      let h = held_at c.self.inside.areas.items c.self.inside.spare.items c.self.inside.limit _ _ _ _
-      c.args.self.now c.self.view_is c.self.invariant.0 c.args.region (c.args.region - 1)
-      c.index-area.result.now room.held (omega (arith, c.if-region-eq0.false)) c.index-area.ensures in
-      absurd (both_ways _ c.if-not-area.true h.held),
+      let at = held_read (opened c.self.inside c.self.view_is c.self.invariant) c.args.region room.held
+      c.place_of.result c.place_of.ensures c.index-area.result.now c.index-area.ensures in
+      absurd (both_ways _ c.if-not-area.true at.held),
 )
 
 pub returns-then-area-ne0 : goal.returns-then-area-ne0
 returns-then-area-ne0 c = (
   λ e. absurd (cc e),
   λ (room : HasRoom c.args.self.now c.args.region c.args.size).
-      let h = held_at c.self.inside.areas.items c.self.inside.spare.items c.self.inside.limit _ _ _ _
-      c.args.self.now c.self.view_is c.self.invariant.0 c.args.region (c.args.region - 1)
-      c.index-area.result.now room.held (omega (arith, c.if-region-eq0.false)) c.index-area.ensures in
-      absurd (c.if-area-ne0.true (sym (ap (λ (x : Region). x.generation) h.region) ∙ room.young)),
+      let at = held_read (opened c.self.inside c.self.view_is c.self.invariant) c.args.region room.held
+      c.place_of.result c.place_of.ensures c.index-area.result.now c.index-area.ensures in
+      absurd (c.if-area-ne0.true (sym (ap (λ (x : Region). x.generation) at.region) ∙ room.young)),
 )
 
 pub returns : goal.returns
 returns c =
-    let here = area_read c.self.inside.areas.items c.args.region (c.args.region - 1) c.index-area.result.now
-    (omega (arith, c.if-region-eq0.false))
-    (omega (arith, c.if-region-eq0.false, c.if-region-len.false, c.len.ensures)) c.index-area.ensures in
-    let g = region_is c.self.inside.areas.items c.self.inside.spare.items c.self.inside.limit c.args.self.now
-    c.self.view_is _ _ _ _ c.self.invariant.0 c.args.region c.index-area.result.now here
-    c.if-not-area.false in
-    let generation = ap (λ (x : Region). x.generation) g in
-    let fill = ap (λ (x : Region). x.fill) g in
+    let at = home_by (opened c.self.inside c.self.view_is c.self.invariant)
+    (place_read c.self.inside.areas.items c.args.region c.place_of.result c.index-area.result.now
+    (omega (arith, c.place_of.ensures, c.if-region-eq0.false))
+    (omega (arith, c.place_of.ensures, c.if-region-eq0.false, c.if-region-len.false, c.len.ensures))
+    c.index-area.ensures) c.if-not-area.false in
+    let fill = ap (λ (x : Region). x.fill) at.region in
     let is = c.fill.ensures.value ∙ ap (λ (x : Contents). x.fill) c.deref.ensures in (
-      λ fits.
-          let low = leb-true _ _ fits in
-          record {
-            held = ap is_some (held_region c.self.inside.areas.items c.self.inside.spare.items
-                c.self.inside.limit c.args.self.now c.self.view_is _ _ _ _ c.self.invariant.0 c.args.region
-                c.index-area.result.now here c.if-not-area.false);
-            young = generation ∙ c.if-area-ne0.false;
-            room = omega (arith, fill, is, low);
-          },
+      λ fits. record {
+        held = at.there;
+        young = ap (λ (x : Region). x.generation) at.region ∙ c.if-area-ne0.false;
+        room = omega (arith, fill, is, leb-true _ _ fits);
+      },
       λ (room : HasRoom c.args.self.now c.args.region c.args.size).
           le-leb _ _ (omega (arith, fill, is, room.room)),
     )

@@ -1,121 +1,41 @@
-use Rattle.std.proofs.Common.{◌≡◌, ◌++◌, ◌∷◌, [], ℕ, ◌+◌, ◌-◌, ◌*◌, ◌%◌, ◌/◌, ap, ◌∙◌, refl, arith}
-use Rattle.hd_model.specs.Heap.{region_of}
-use Rattle.hd_heap.specs.Areas.{contents}
-use Rattle.hd_heap.proofs.RegionChanges.{held_place, held_at}
-use Rattle.std.specs.Prelude.{is_some}
-use Rattle.std.specs.FinMap.{get}
-use Rattle.hd_cells.specs.Region.{IsObject}
-use Rattle.hd_model.specs.declared.data.Addr.{Addr}
-use Rattle.hd_heap.specs.Areas.{area_at}
-use Rattle.hd_heap.proofs.RegionReads.{has_there}
-use Rattle.hd_heap.proofs.RegionUse.{region_given_up, held_counted}
-use Rattle.hd_heap.proofs.FullRegions.{others_by, others_left}
+use Rattle.std.proofs.Common.{arith}
+use Rattle.hd_heap.proofs.RegionReads.{opened, held_index, held_read}
+use Rattle.hd_heap.proofs.RegionUse.{bare, region_released, held_counted}
 use Rattle.hd_heap.proofs.heap.Heap.release.Goals as goal
 
-pub overflow_sub-region : goal.overflow_sub-region
-overflow_sub-region c = (held_place c.self.inside.areas.items c.self.inside.spare.items c.self.inside.limit _
-    _ _ _ c.args.self.now c.self.view_is c.self.invariant.0 c.args.region c.requires.held).0
-
 pub index_mut-requires : goal.index_mut-requires
-index_mut-requires c = let low =
-    (held_place c.self.inside.areas.items c.self.inside.spare.items c.self.inside.limit _ _ _ _
-    c.args.self.now c.self.view_is c.self.invariant.0 c.args.region c.requires.held).0 in let high =
-    (held_place c.self.inside.areas.items c.self.inside.spare.items c.self.inside.limit _ _ _ _
-    c.args.self.now c.self.view_is c.self.invariant.0 c.args.region c.requires.held).1 in omega arith
+index_mut-requires c =
+    omega (arith, (held_index (opened c.self.inside c.self.view_is c.self.invariant) c.args.region c.requires.held c.place_of.result c.place_of.ensures).1)
 
-pub give_up-requires-clause-area : goal.give_up-requires-clause-area
-give_up-requires-clause-area c = let h =
-    (held_at c.self.inside.areas.items c.self.inside.spare.items c.self.inside.limit _ _ _ _ c.args.self.now
-    c.self.view_is c.self.invariant.0 c.args.region (c.args.region - 1) c.index_mut.result.now c.requires.held
-    (let low = (held_place c.self.inside.areas.items c.self.inside.spare.items c.self.inside.limit _ _ _ _
-    c.args.self.now c.self.view_is c.self.invariant.0 c.args.region c.requires.held).0 in
-    omega arith) c.index_mut.ensures.value) in
-    c.self.invariant.0.each c.args.region c.index_mut.result.now h.here
-
--- the region has no object
-bare : (c : goal.After-push_back_reserved) → (k : ℕ) → ¬ (IsObject (contents c.index_mut.result.now) k)
-unfolding region_of
-bare c = λ k there.
-    let h = (held_at c.self.inside.areas.items c.self.inside.spare.items c.self.inside.limit _ _ _ _
-    c.args.self.now c.self.view_is c.self.invariant.0 c.args.region
-    (c.args.region - 1) c.index_mut.result.now c.requires.held
-    (let low = (held_place c.self.inside.areas.items c.self.inside.spare.items c.self.inside.limit _ _ _ _
-    c.args.self.now c.self.view_is c.self.invariant.0 c.args.region c.requires.held).0 in
-    omega arith) c.index_mut.ensures.value) in
-    let area = c.self.invariant.0.each c.args.region c.index_mut.result.now h.here in
-    let low = area.laid_out.below_fill k there in
-    let fill = area.laid_out.within_region in
-    let x : Addr = record { 0 = c.args.region * 256 + k } in
-    let number_is : x.0 / 256 ≡ c.args.region = omega arith in
-    let offset_is : x.0 % 256 ≡ k = omega arith in
-    c.requires.no_object x
-    (has_there c.self.inside.areas.items c.self.inside.spare.items c.self.inside.limit c.args.self.now
-    c.self.view_is x c.index_mut.result.now (ap (area_at c.self.inside.areas.items) number_is ∙ h.here)
-    ∙ ap (λ j. is_some (get (contents c.index_mut.result.now).objects j)) offset_is ∙ there)
-    number_is
-
-pub give_up-requires-clause-no_object : goal.give_up-requires-clause-no_object
-unfolding region_of
-give_up-requires-clause-no_object c = λ k there.
-    let h = (held_at c.self.inside.areas.items c.self.inside.spare.items c.self.inside.limit _ _ _ _
-    c.args.self.now c.self.view_is c.self.invariant.0 c.args.region
-    (c.args.region - 1) c.index_mut.result.now c.requires.held
-    (let low = (held_place c.self.inside.areas.items c.self.inside.spare.items c.self.inside.limit _ _ _ _
-    c.args.self.now c.self.view_is c.self.invariant.0 c.args.region c.requires.held).0 in
-    omega arith) c.index_mut.ensures.value) in
-    let area = c.self.invariant.0.each c.args.region c.index_mut.result.now h.here in
-    let low = area.laid_out.below_fill k there in
-    let fill = area.laid_out.within_region in
-    let x : Addr = record { 0 = c.args.region * 256 + k } in
-    let number_is : x.0 / 256 ≡ c.args.region = omega arith in
-    let offset_is : x.0 % 256 ≡ k = omega arith in
-    c.requires.no_object x
-    (has_there c.self.inside.areas.items c.self.inside.spare.items c.self.inside.limit c.args.self.now
-    c.self.view_is x c.index_mut.result.now (ap (area_at c.self.inside.areas.items) number_is ∙ h.here)
-    ∙ ap (λ j. is_some (get (contents c.index_mut.result.now).objects j)) offset_is ∙ there)
-    number_is
+pub give_up-requires : goal.give_up-requires
+give_up-requires c =
+    let heap = opened c.self.inside c.self.view_is c.self.invariant in
+    let at = held_read heap c.args.region c.requires.held c.place_of.result c.place_of.ensures
+    c.index_mut.result.now c.index_mut.ensures.value in
+    record { area = at.area; no_object = bare heap at c.requires.no_object }
 
 pub overflow_sub-self : goal.overflow_sub-self
-overflow_sub-self c = held_counted c.self.inside.areas.items c.self.inside.spare.items c.self.inside.limit _ _
-    _ _ c.args.self.now c.self.view_is c.self.invariant.0 c.args.region c.requires.held
+overflow_sub-self c =
+    held_counted (opened c.self.inside c.self.view_is c.self.invariant) c.args.region c.requires.held
 
 pub push_back_reserved-requires : goal.push_back_reserved-requires
 push_back_reserved-requires c =
-    let one = held_counted c.self.inside.areas.items c.self.inside.spare.items c.self.inside.limit _ _ _ _
-    c.args.self.now c.self.view_is c.self.invariant.0 c.args.region c.requires.held in
-    let parted = c.self.invariant.0.parted in
-    let room = c.self.invariant.0.room in
-    omega arith
+    let heap = opened c.self.inside c.self.view_is c.self.invariant in
+    omega (arith, held_counted heap c.args.region c.requires.held, heap.kept.parted, heap.kept.room)
 
 pub invariant_of-self : goal.invariant_of-self
 invariant_of-self c =
-    let is =
-    (region_given_up c.self.inside.areas.items c.self.inside.spare.items c.self.inside.limit
-    _ _ _ _ c.args.self.now c.self.view_is c.self.invariant.0 c.args.region
-    (c.args.region - 1) c.index_mut.result.now c.give_up.new.self c.push_back_reserved.new.self.items _
-    (c.self.inside.held - 1)
-    (held_at c.self.inside.areas.items c.self.inside.spare.items c.self.inside.limit _ _ _ _ c.args.self.now
-    c.self.view_is c.self.invariant.0 c.args.region (c.args.region - 1) c.index_mut.result.now
-    c.requires.held (let low =
-    (held_place c.self.inside.areas.items c.self.inside.spare.items c.self.inside.limit _ _ _ _
-    c.args.self.now c.self.view_is c.self.invariant.0 c.args.region c.requires.held).0 in
-    omega arith) c.index_mut.ensures.value) c.give_up.ensures.area
-    (bare c) c.give_up.ensures.contents c.give_up.ensures.held c.give_up.ensures.live
-    c.push_back_reserved.ensures.items c.push_back_reserved.ensures.capacity refl) in (
-      is.keeps,
-      others_by _ _ _ _ _ _ c.self.view_is is.views
-          (others_left c.args.self.now _ c.args.region (c.args.self.now.spare ++ c.args.region ∷ [])) c.self.invariant.1,
-    )
+    let heap = opened c.self.inside c.self.view_is c.self.invariant in
+    let at = held_read heap c.args.region c.requires.held c.place_of.result c.place_of.ensures c.index_mut.result.now c.index_mut.ensures.value in
+    let free = c.give_up.ensures in
+    let is = region_released heap c.give_up.new.self at free.area c.requires.no_object free.contents free.held free.live
+    c.push_back_reserved.ensures.items c.push_back_reserved.ensures.capacity in
+    (is.kept, is.full)
 
 pub returns : goal.returns
-returns c = (region_given_up c.self.inside.areas.items c.self.inside.spare.items c.self.inside.limit _ _ _ _
-    c.args.self.now c.self.view_is c.self.invariant.0 c.args.region (c.args.region - 1) c.index_mut.result.now
-    c.give_up.new.self c.push_back_reserved.new.self.items _ (c.self.inside.held - 1)
-    (held_at c.self.inside.areas.items c.self.inside.spare.items c.self.inside.limit _ _ _ _ c.args.self.now
-    c.self.view_is c.self.invariant.0 c.args.region (c.args.region - 1) c.index_mut.result.now
-    c.requires.held (let low =
-    (held_place c.self.inside.areas.items c.self.inside.spare.items c.self.inside.limit _ _ _ _
-    c.args.self.now c.self.view_is c.self.invariant.0 c.args.region c.requires.held).0 in
-    omega arith) c.index_mut.ensures.value) c.give_up.ensures.area
-    (bare c) c.give_up.ensures.contents c.give_up.ensures.held c.give_up.ensures.live
-    c.push_back_reserved.ensures.items c.push_back_reserved.ensures.capacity refl).views
+returns c =
+    let heap = opened c.self.inside c.self.view_is c.self.invariant in
+    let at = held_read heap c.args.region c.requires.held c.place_of.result c.place_of.ensures c.index_mut.result.now c.index_mut.ensures.value in
+    let free = c.give_up.ensures in
+    (region_released heap c.give_up.new.self at free.area c.requires.no_object free.contents free.held free.live
+    c.push_back_reserved.ensures.items c.push_back_reserved.ensures.capacity).view

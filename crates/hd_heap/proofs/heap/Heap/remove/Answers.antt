@@ -1,85 +1,49 @@
-use Rattle.std.proofs.Common.{◌≡◌, sym, ap, ◌∙◌, refl, true, Some, arith}
-use Rattle.hd_heap.specs.declared.area.Area.{Area}
-use Rattle.hd_heap.specs.Areas.{contents}
-use Rattle.hd_heap.proofs.RegionReads.{low_place, place_within, seen, found, object_held}
-use Rattle.hd_heap.proofs.RegionUse.{counted}
-use Rattle.hd_heap.proofs.RegionChanges.{object_removed}
-use Rattle.hd_heap.proofs.FullRegions.{others_by}
+use Rattle.std.proofs.Common.{sym, subst, refl, arith}
+use Rattle.hd_model.specs.Heap.{Heap}
+use Rattle.hd_heap.specs.Calls.{IsRemoved}
+use Rattle.hd_heap.proofs.RegionReads.{opened, index_of, found_read}
+use Rattle.hd_heap.proofs.RegionChanges.{object_removed, removed_cards, counted}
 use Rattle.hd_heap.proofs.heap.Heap.remove.Goals as goal
 
-pub place_of-requires : goal.place_of-requires
-place_of-requires c = low_place c.self.inside.areas.items c.self.inside.spare.items c.self.inside.limit
-    c.args.self.now c.self.view_is c.args.at c.requires
-
 pub index_mut-requires : goal.index_mut-requires
-index_mut-requires c = omega (
-  arith,
-  place_within c.self.inside.areas.items c.self.inside.spare.items c.self.inside.limit
-      c.args.self.now c.self.view_is c.args.at c.requires c.place_of.result c.place_of.ensures,
-)
+index_mut-requires c =
+    omega (arith, index_of (opened c.self.inside c.self.view_is c.self.invariant) c.args.at c.requires c.place_of.result c.place_of.ensures)
 
 pub remove-cells-requires : goal.remove-cells-requires
 remove-cells-requires c =
-    let s = seen c.self.inside.areas.items c.self.inside.spare.items c.self.inside.limit c.args.self.now
-    c.self.view_is c.args.at c.requires
-    c.place_of.result c.index_mut.result.now (contents c.index_mut.result.now) c.offset_of.result
-    c.place_of.ensures c.index_mut.ensures.value refl c.offset_of.ensures in
-    record { area = c.self.invariant.0.each _ c.index_mut.result.now s.here; object = s.object }
+    let f = found_read (opened c.self.inside c.self.view_is c.self.invariant) c.args.at c.requires
+    c.place_of.result c.place_of.ensures c.index_mut.result.now c.index_mut.ensures.value in
+    rw c.offset_of.ensures (record { area = f.home.area; object = f.object })
 
 pub overflow_sub-self : goal.overflow_sub-self
 overflow_sub-self c =
-    let s = seen c.self.inside.areas.items c.self.inside.spare.items c.self.inside.limit c.args.self.now
-    c.self.view_is c.args.at c.requires
-    c.place_of.result c.index_mut.result.now (contents c.index_mut.result.now) c.offset_of.result
-    c.place_of.ensures c.index_mut.ensures.value refl c.offset_of.ensures in
-    (counted c.self.inside.areas.items c.self.inside.spare.items c.self.inside.limit _ _ _ _ c.args.self.now
-    c.self.view_is c.self.invariant.0 c.args.at c.place_of.result c.index_mut.result.now
-    c.remove-cells.new.self c.offset_of.result c.remove-cells.result s c.remove-cells.ensures.taken).0
+    let heap = opened c.self.inside c.self.view_is c.self.invariant in
+    let f = found_read heap c.args.at c.requires c.place_of.result c.place_of.ensures c.index_mut.result.now c.index_mut.ensures.value in
+    (counted heap c.args.at c.remove-cells.new.self c.remove-cells.result f
+    (rw c.offset_of.ensures at c.remove-cells.ensures.taken)).0
 
 pub overflow_sub-self-2 : goal.overflow_sub-self-2
 overflow_sub-self-2 c =
-    let s = seen c.self.inside.areas.items c.self.inside.spare.items c.self.inside.limit c.args.self.now
-    c.self.view_is c.args.at c.requires
-    c.place_of.result c.index_mut.result.now (contents c.index_mut.result.now) c.offset_of.result
-    c.place_of.ensures c.index_mut.ensures.value refl c.offset_of.ensures in
-    (counted c.self.inside.areas.items c.self.inside.spare.items c.self.inside.limit _ _ _ _ c.args.self.now
-    c.self.view_is c.self.invariant.0 c.args.at c.place_of.result c.index_mut.result.now
-    c.remove-cells.new.self c.offset_of.result c.remove-cells.result s c.remove-cells.ensures.taken).1
-
-pub returns : goal.returns
-returns c =
-    let s = seen c.self.inside.areas.items c.self.inside.spare.items c.self.inside.limit c.args.self.now
-    c.self.view_is c.args.at c.requires
-    c.place_of.result c.index_mut.result.now (contents c.index_mut.result.now) c.offset_of.result
-    c.place_of.ensures c.index_mut.ensures.value refl c.offset_of.ensures in
-    let f = found c.self.inside.areas.items c.self.inside.spare.items c.self.inside.limit c.args.self.now
-    c.self.view_is c.args.at c.requires in
-    let same : f.area ≡ c.index_mut.result.now = (let one : Some f.area ≡ Some c.index_mut.result.now =
-    sym f.is_area ∙ s.here in cc one) in
-    let held : c.index_mut.result.now.held ≡ true = sym (ap (λ (x : Area). x.held) same)
-    ∙ object_held c.self.inside.areas.items c.self.inside.spare.items c.self.inside.limit c.args.self.now
-    c.self.view_is _ _ _ _ c.self.invariant.0 c.args.at f in
-    (object_removed c.self.inside.areas.items c.self.inside.spare.items c.self.inside.limit _ _ _ _
-    c.args.self.now c.self.view_is c.self.invariant.0 c.args.at c.place_of.result c.index_mut.result.now
-    c.remove-cells.new.self c.offset_of.result c.remove-cells.result _ _ s held c.offset_of.ensures
-    c.remove-cells.ensures.area c.remove-cells.ensures.taken refl refl).removed
+    let heap = opened c.self.inside c.self.view_is c.self.invariant in
+    let f = found_read heap c.args.at c.requires c.place_of.result c.place_of.ensures c.index_mut.result.now c.index_mut.ensures.value in
+    (counted heap c.args.at c.remove-cells.new.self c.remove-cells.result f
+    (rw c.offset_of.ensures at c.remove-cells.ensures.taken)).1
 
 pub invariant_of-self : goal.invariant_of-self
 invariant_of-self c =
-    let s = seen c.self.inside.areas.items c.self.inside.spare.items c.self.inside.limit c.args.self.now
-    c.self.view_is c.args.at c.requires
-    c.place_of.result c.index_mut.result.now (contents c.index_mut.result.now) c.offset_of.result
-    c.place_of.ensures c.index_mut.ensures.value refl c.offset_of.ensures in
-    let f = found c.self.inside.areas.items c.self.inside.spare.items c.self.inside.limit c.args.self.now
-    c.self.view_is c.args.at c.requires in
-    let same : f.area ≡ c.index_mut.result.now = (let one : Some f.area ≡ Some c.index_mut.result.now =
-    sym f.is_area ∙ s.here in cc one) in
-    let held : c.index_mut.result.now.held ≡ true = sym (ap (λ (x : Area). x.held) same)
-    ∙ object_held c.self.inside.areas.items c.self.inside.spare.items c.self.inside.limit c.args.self.now
-    c.self.view_is _ _ _ _ c.self.invariant.0 c.args.at f in
-    let is =
-    (object_removed c.self.inside.areas.items c.self.inside.spare.items c.self.inside.limit _ _ _ _
-    c.args.self.now c.self.view_is c.self.invariant.0 c.args.at c.place_of.result c.index_mut.result.now
-    c.remove-cells.new.self c.offset_of.result c.remove-cells.result _ _ s held c.offset_of.ensures
-    c.remove-cells.ensures.area c.remove-cells.ensures.taken refl refl) in
-    (is.keeps, others_by _ c.args.self.now _ _ _ _ c.self.view_is is.removed.removed (λ x. x) c.self.invariant.1)
+    let heap = opened c.self.inside c.self.view_is c.self.invariant in
+    let f = found_read heap c.args.at c.requires c.place_of.result c.place_of.ensures c.index_mut.result.now c.index_mut.ensures.value in
+    let is = object_removed heap c.args.at c.remove-cells.new.self c.remove-cells.result f
+    c.remove-cells.ensures.area (rw c.offset_of.ensures at c.remove-cells.ensures.taken) in
+    (is.kept, is.full)
+
+pub returns : goal.returns
+returns c =
+    let heap = opened c.self.inside c.self.view_is c.self.invariant in
+    let f = found_read heap c.args.at c.requires c.place_of.result c.place_of.ensures c.index_mut.result.now c.index_mut.ensures.value in
+    let taken = rw c.offset_of.ensures at c.remove-cells.ensures.taken in
+    let is = object_removed heap c.args.at c.remove-cells.new.self c.remove-cells.result f
+    c.remove-cells.ensures.area taken in
+    subst (λ (x : Heap). IsRemoved c.args.self.now x c.args.at) (sym is.view)
+    (removed_cards heap c.args.at c.remove-cells.new.self c.remove-cells.result f c.remove-cells.ensures.area
+    taken is refl)

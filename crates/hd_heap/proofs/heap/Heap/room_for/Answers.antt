@@ -2,9 +2,12 @@ use Rattle.std.proofs.Common.{◌∙◌, sym, subst}
 use Rattle.hd_model.specs.Heap.{Heap}
 use Rattle.hd_heap.specs.Calls.{AreFull}
 use Rattle.hd_heap.specs.Steps.{IsRoom, AreOthersFull}
-use Rattle.hd_heap.proofs.HeapValues.{room_made}
+use Rattle.hd_heap.proofs.HeapValues.{room_was, room_made}
 use Rattle.hd_heap.proofs.FullRegions.{others_begun}
 use Rattle.hd_heap.proofs.heap.Heap.room_for.Goals as goal
+
+pub returns-in-Some-clause-ok : goal.returns-in-Some-clause-ok
+returns-in-Some-clause-ok c = room_was c.args.self.now c.in-Some.region c.args.size c.in-Some.ensures
 
 pub invariant_of-self : goal.invariant_of-self
 invariant_of-self c = (
