@@ -1,14 +1,12 @@
--- Four ages in one word, bit by bit.
-use Rattle.std.proofs.Common.{◌≡◌, ℕ, zero, suc, ◌+◌, ◌-◌, ◌*◌, ◌/◌, ◌%◌, ◌^◌, ◌<◌, ◌≤◌, min, max, cond, [], ◌∷◌, set, bit_and, bit_or, refl, sym, ap, ◌∙◌, arith, lit<, lit≤, inl, inr}
+-- Four ages in one word: what an operation does to them is tested on each word.
+use Rattle.std.proofs.Common.{◌≡◌, ℕ, zero, suc, ◌+◌, ◌-◌, ◌*◌, ◌/◌, ◌%◌, ◌^◌, ◌<◌, ◌≤◌, ◌==◌, ◌&&◌, ◌||◌, not, Bool, true, min, cond, [], ◌∷◌, set, bit_and, bit_or, refl, sym, ap, ◌∙◌, arith, inl, inr, ⊎_elim}
 use Rattle.std.specs.Prelude.{nat_le}
-use Rattle.std.specs.Int.{bit_at, bit_not, w8}
-use Rattle.std.proofs.lemmas.Bool.{cases_lt, le-leb, lt-leb}
-use Rattle.std.proofs.lemmas.Nat.{or_lt, and_le_l}
-use Rattle.std.proofs.lemmas.Nat.Bits.{bit_at_and, bit_at_or, bit_at_not, bit_at-lt, bit_at_ones, bit_at_cat_high}
-use Rattle.hd_mask.proofs.Bits.{bit_at-shr, bit_at-mod}
+use Rattle.std.specs.Int.{bit_at}
+use Rattle.std.proofs.lemmas.Bool.{and_parts, both_ways, cases_eq, cases_lt, eqb-true, le-leb, lt-leb, ltb-true, not-true, or_cases}
+use Rattle.std.proofs.lemmas.Nat.Bits.{bit_at-lt, bit_at_ones}
 use Rattle.hd_model.specs.Ages.{raised, grown}
 use Rattle.hd_model.proofs.IdleCollection.{raised_older}
-use Rattle.hd_ages.specs.Word.{IsWord, age_in, ages_in}
+use Rattle.hd_ages.specs.Word.{IsWord, is_word, age_in, ages_in}
 
 -- the clumps of a block
 pub each_clump : (P : ℕ → Type 0) → P 0 → P 1 → P 2 → P 3 → (c : ℕ) → c < 4 → P c
@@ -18,279 +16,163 @@ each_clump P a b c d (suc (suc zero)) lt = c
 each_clump P a b c d (suc (suc (suc zero))) lt = d
 each_clump P a b c d (suc (suc (suc (suc n)))) lt = absurd (omega arith)
 
--- the two bits of a clump
-pub record HasBits (word c : ℕ) : Type 0 where
-  pub one : bit_at word c < 2
-  pub two : bit_at word (c + 4) ≤ bit_at word c
+pub age_small : (word c : ℕ) → age_in word c ≤ 2
+age_small word c = omega (arith, bit_at-lt word c, bit_at-lt word (c + 4))
 
-pub bits_of : (word : ℕ) → IsWord word → (c : ℕ) → c < 4 → HasBits word c
-bits_of word is =
-    each_clump (HasBits word) (record { one = bit_at-lt word 0; two = is.first })
-    (record { one = bit_at-lt word 1; two = is.second })
-    (record { one = bit_at-lt word 2; two = is.third }) (record { one = bit_at-lt word 3; two = is.fourth })
+-- ---- tests of all words
 
-pub age_small : (word : ℕ) → IsWord word → (c : ℕ) → c < 4 → age_in word c ≤ 2
-age_small word is c lt = let b : HasBits word c = bits_of word is c lt in omega (arith, b.one, b.two)
+unfoldable all_below : ℕ → (ℕ → Bool) → Bool
+all_below zero test = true
+all_below (suc n) test = test n && all_below n test
 
--- four ages, one by one
-same_four : (a b c d a' b' c' d' : ℕ) → a ≡ a' → b ≡ b' → c ≡ c' → d ≡ d'
-    → a ∷ b ∷ c ∷ d ∷ [] ≡ a' ∷ b' ∷ c' ∷ d' ∷ []
-same_four a b c d a' b' c' d' p q r s i = p i ∷ q i ∷ r i ∷ s i ∷ []
+of_all : (n : ℕ) (test : ℕ → Bool) → all_below n test ≡ true → (k : ℕ) → k < n → test k ≡ true
+unfolding all_below
+of_all zero test all k lt = absurd (omega arith)
+of_all (suc n) test all k lt =
+    let (here, rest) = and_parts (test n) (all_below n test) all in
+    elim (cases_eq k n) [ inl same ↦ ap test same ∙ here | inr apart ↦ of_all n test rest k (omega arith) ]
 
--- ---- the age that two bits encode
+-- a test of each clump of each word
+abbrev holds_of_words : (ℕ → ℕ → Bool) → Bool
+holds_of_words test = all_below 256 (λ w. not (is_word w) || all_below 4 (test w))
 
-due_none : (a b : ℕ) → a < 2 → b ≤ a → 1 - a ≡ cond (nat_le (a + b) 0) 1 0
-due_none zero zero small le = refl
-due_none zero (suc b) small le = absurd (omega arith)
-due_none (suc zero) zero small le = refl
-due_none (suc zero) (suc zero) small le = refl
-due_none (suc zero) (suc (suc b)) small le = absurd (omega arith)
-due_none (suc (suc a)) b small le = absurd (omega arith)
+of_words : (test : ℕ → ℕ → Bool) → holds_of_words test ≡ true → (w : ℕ) → IsWord w → (c : ℕ) → c < 4
+    → test w c ≡ true
+of_words test all w is c lt =
+    let small : w < 256 = ltb-true w 256 (and_parts _ _ is.holds).0 in
+    ⊎_elim (λ no. absurd (both_ways _ (not-true _ no) is.holds)) (λ each. of_all 4 (test w) each c lt)
+    (or_cases _ _ (of_all 256 (λ w. not (is_word w) || all_below 4 (test w)) all w small))
 
-due_one : (a b : ℕ) → a < 2 → b ≤ a → 1 - b ≡ cond (nat_le (a + b) 1) 1 0
-due_one zero zero small le = refl
-due_one zero (suc b) small le = absurd (omega arith)
-due_one (suc zero) zero small le = refl
-due_one (suc zero) (suc zero) small le = refl
-due_one (suc zero) (suc (suc b)) small le = absurd (omega arith)
-due_one (suc (suc a)) b small le = absurd (omega arith)
+-- a word with the age of each clump
+abbrev made : ℕ → (ℕ → ℕ) → Bool
+made v age = is_word v && (age_in v 0 == age 0
+    && (age_in v 1 == age 1 && (age_in v 2 == age 2 && age_in v 3 == age 3)))
 
-raised_none : (a b : ℕ) → a < 2 → b ≤ a → 1 + b ≡ raised 0 (a + b)
-raised_none zero zero small le = refl
-raised_none zero (suc b) small le = absurd (omega arith)
-raised_none (suc zero) zero small le = refl
-raised_none (suc zero) (suc zero) small le = refl
-raised_none (suc zero) (suc (suc b)) small le = absurd (omega arith)
-raised_none (suc (suc a)) b small le = absurd (omega arith)
+record Makes (v : ℕ) (age : ℕ → ℕ) : Type 0 where
+  pub word : IsWord v
+  pub ages : ages_in v ≡ age 0 ∷ age 1 ∷ age 2 ∷ age 3 ∷ []
 
+makes : (v : ℕ) (age : ℕ → ℕ) → made v age ≡ true → Makes v age
+makes v age is =
+    let same : ℕ → Bool = λ c. age_in v c == age c in
+    let (word, four) = and_parts (is_word v) (same 0 && (same 1 && (same 2 && same 3))) is in
+    let (a, three) = and_parts (same 0) (same 1 && (same 2 && same 3)) four in
+    let (b, two) = and_parts (same 1) (same 2 && same 3) three in
+    let (c, d) = and_parts (same 2) (same 3) two in
+    let e : (c : ℕ) → same c ≡ true → age_in v c ≡ age c = λ c. eqb-true (age_in v c) (age c) in
+    record { word = record { holds = word }; ages = λ i. e 0 a i ∷ e 1 b i ∷ e 2 c i ∷ e 3 d i ∷ [] }
+
+-- ---- lowering
+
+abbrev with_age : ℕ → ℕ → ℕ → ℕ → ℕ
+with_age w c x d = cond (d == c) x (age_in w d)
+
+set_age : (w c x : ℕ) → c < 4
+    → with_age w c x 0 ∷ with_age w c x 1 ∷ with_age w c x 2 ∷ with_age w c x 3 ∷ [] ≡ set (ages_in w) c x
+set_age w c x =
+    each_clump (λ c. with_age w c x 0 ∷ with_age w c x 1 ∷ with_age w c x 2 ∷ with_age w c x 3 ∷ []
+    ≡ set (ages_in w) c x) refl refl refl refl c
+
+low_zero : holds_of_words (λ w c. made (bit_and w (255 - 17 * 2 ^ c % 256)) (with_age w c 0)) ≡ true
+unfolding all_below
+low_zero = refl
+
+low_one :
+    holds_of_words (λ w c. made (bit_and w (255 - 16 * 2 ^ c % 256)) (with_age w c (min (age_in w c) 1))) ≡
+    true
+unfolding all_below
+low_one = refl
+
+none_due :
+    holds_of_words (λ w c. bit_at (bit_and (255 - w) 15) c == cond (nat_le (age_in w c) 0) 1 0) ≡ true
+unfolding all_below
+none_due = refl
+
+one_due :
+    holds_of_words (λ w c. bit_at (bit_and (255 - w / 16) 15) c == cond (nat_le (age_in w c) 1) 1 0) ≡ true
+unfolding all_below
+one_due = refl
+
+none_grown : holds_of_words (λ w c. made (bit_or w 15) (λ d. raised 0 (age_in w d))) ≡ true
+unfolding all_below
+none_grown = refl
+
+some_grown :
+    holds_of_words (λ w c. made (bit_or (bit_or w (bit_and w 15 * 16 % 256)) 15) (λ d. raised 1 (age_in w d)))
+    ≡ true
+unfolding all_below
+some_grown = refl
+
+-- from generation 1 on each age is raised that can be
 raised_up : (n g : ℕ) → g ≤ n → raised n g ≡ min (g + 1) 2
 raised_up n g le = ap (λ t. cond t g (min (g + 1) 2)) (lt-leb (suc n) g (omega arith))
 
--- from generation 1 on each age is raised that can be
-raised_some : (n a b : ℕ) → 1 ≤ n → a < 2 → b ≤ a → 1 + a ≡ raised n (a + b)
-raised_some n zero zero some small le = sym (raised_up n 0 (omega arith))
-raised_some n zero (suc b) some small le = absurd (omega arith)
-raised_some n (suc zero) zero some small le = sym (raised_up n 1 some)
-raised_some n (suc zero) (suc zero) some small le =
+raised_some : (n a : ℕ) → 1 ≤ n → a ≤ 2 → raised 1 a ≡ raised n a
+raised_some n zero some small = sym (raised_up n 0 (omega arith))
+raised_some n (suc zero) some small = sym (raised_up n 1 some)
+raised_some n (suc (suc zero)) some small =
     elim (cases_lt n 2) [ inl below ↦ sym (raised_older n 2 below) | inr most ↦ sym (raised_up n 2 most) ]
-raised_some n (suc zero) (suc (suc b)) some small le = absurd (omega arith)
-raised_some n (suc (suc a)) b some small le = absurd (omega arith)
+raised_some n (suc (suc (suc a))) some small = absurd (omega arith)
 
--- ---- a mask over two bits
-
-and_age : (w m c x y : ℕ) → bit_at m c ≡ x → bit_at m (c + 4) ≡ y
-    → age_in (bit_and w m) c ≡ min (bit_at w c) x + min (bit_at w (c + 4)) y
-and_age w m c x y is is' i = (bit_at_and w m c ∙ ap (min (bit_at w c)) is) i + (bit_at_and w m (c + 4)
-    ∙ ap (min (bit_at w (c + 4))) is') i
-
--- both bits stay, both go, or the second goes
-kept : (w m c : ℕ) → bit_at m c ≡ 1 → bit_at m (c + 4) ≡ 1 → age_in (bit_and w m) c ≡ age_in w c
-kept w m c is is' = and_age w m c 1 1 is is' ∙ omega (arith, bit_at-lt w c, bit_at-lt w (c + 4))
-
-gone : (w m c : ℕ) → bit_at m c ≡ 0 → bit_at m (c + 4) ≡ 0 → age_in (bit_and w m) c ≡ 0
-gone w m c is is' = and_age w m c 0 0 is is' ∙ omega arith
-
-one_left : (w m c : ℕ) → HasBits w c → bit_at m c ≡ 1 → bit_at m (c + 4) ≡ 0
-    → age_in (bit_and w m) c ≡ min (age_in w c) 1
-one_left w m c b is is' = and_age w m c 1 0 is is' ∙ omega (arith, b.one, b.two)
-
--- a mask that takes no first bit without its second one leaves a word
-still : (w m c x y : ℕ) → HasBits w c → bit_at m c ≡ x → bit_at m (c + 4) ≡ y → y ≤ x
-    → bit_at (bit_and w m) (c + 4) ≤ bit_at (bit_and w m) c
-still w m c x y b is is' le =
-    let first : bit_at (bit_and w m) c ≡ min (bit_at w c) x = bit_at_and w m c ∙ ap (min (bit_at w c)) is in
-    let second : bit_at (bit_and w m) (c + 4) ≡ min (bit_at w (c + 4)) y = bit_at_and w m (c + 4)
-    ∙ ap (min (bit_at w (c + 4))) is' in
-    omega (arith, first, second, b.two, le)
+-- ---- what the operations do
 
 module _ (w : ℕ) (is : IsWord w) where
-  b0 : HasBits w 0
-  b0 = bits_of w is 0 (lit< tt)
+  zeroed : (c : ℕ) → c < 4 → Makes (bit_and w (255 - 17 * 2 ^ c % 256)) (with_age w c 0)
+  zeroed c lt = makes _ _ (of_words _ low_zero w is c lt)
 
-  b1 : HasBits w 1
-  b1 = bits_of w is 1 (lit< tt)
-
-  b2 : HasBits w 2
-  b2 = bits_of w is 2 (lit< tt)
-
-  b3 : HasBits w 3
-  b3 = bits_of w is 3 (lit< tt)
-
-  word_and : (m : ℕ) → bit_at (bit_and w m) 4 ≤ bit_at (bit_and w m) 0
-      → bit_at (bit_and w m) 5 ≤ bit_at (bit_and w m) 1 → bit_at (bit_and w m) 6 ≤ bit_at (bit_and w m) 2
-      → bit_at (bit_and w m) 7 ≤ bit_at (bit_and w m) 3 → IsWord (bit_and w m)
-  word_and m p q r s = record {
-    small = omega (arith, and_le_l w m, is.small);
-    first = p;
-    second = q;
-    third =
-        r;
-    fourth = s;
-  }
-
-  -- ---- lowering
+  at_most_one : (c : ℕ) → c < 4
+      → Makes (bit_and w (255 - 16 * 2 ^ c % 256)) (with_age w c (min (age_in w c) 1))
+  at_most_one c lt = makes _ _ (of_words _ low_one w is c lt)
 
   pub ages-low_zero : (c : ℕ) → c < 4 → ages_in (bit_and w (255 - 17 * 2 ^ c % 256)) ≡ set (ages_in w) c 0
-  ages-low_zero =
-      each_clump (λ c. ages_in (bit_and w (255 - 17 * 2 ^ c % 256)) ≡ set (ages_in w) c 0)
-      (same_four _ _ _ _ _ _ _ _ (gone w 238 0 refl refl) (kept w 238 1 refl refl) (kept w 238 2 refl refl)
-      (kept w 238 3 refl refl))
-      (same_four _ _ _ _ _ _ _ _ (kept w 221 0 refl refl) (gone w 221 1 refl refl) (kept w 221 2 refl refl)
-      (kept w 221 3 refl refl))
-      (same_four _ _ _ _ _ _ _ _ (kept w 187 0 refl refl) (kept w 187 1 refl refl) (gone w 187 2 refl refl)
-      (kept w 187 3 refl refl))
-      (same_four _ _ _ _ _ _ _ _ (kept w 119 0 refl refl) (kept w 119 1 refl refl) (kept w 119 2 refl refl)
-      (gone w 119 3 refl refl))
+  ages-low_zero c lt = (zeroed c lt).ages ∙ set_age w c 0 lt
 
   pub word-low_zero : (c : ℕ) → c < 4 → IsWord (bit_and w (255 - 17 * 2 ^ c % 256))
-  word-low_zero =
-      each_clump (λ c. IsWord (bit_and w (255 - 17 * 2 ^ c % 256)))
-      (word_and 238 (still w 238 0 0 0 b0 refl refl (lit≤ tt)) (still w 238 1 1 1 b1 refl refl (lit≤ tt))
-      (still w 238 2 1 1 b2 refl refl (lit≤ tt)) (still w 238 3 1 1 b3 refl refl (lit≤ tt)))
-      (word_and 221 (still w 221 0 1 1 b0 refl refl (lit≤ tt)) (still w 221 1 0 0 b1 refl refl (lit≤ tt))
-      (still w 221 2 1 1 b2 refl refl (lit≤ tt)) (still w 221 3 1 1 b3 refl refl (lit≤ tt)))
-      (word_and 187 (still w 187 0 1 1 b0 refl refl (lit≤ tt)) (still w 187 1 1 1 b1 refl refl (lit≤ tt))
-      (still w 187 2 0 0 b2 refl refl (lit≤ tt)) (still w 187 3 1 1 b3 refl refl (lit≤ tt)))
-      (word_and 119 (still w 119 0 1 1 b0 refl refl (lit≤ tt)) (still w 119 1 1 1 b1 refl refl (lit≤ tt))
-      (still w 119 2 1 1 b2 refl refl (lit≤ tt)) (still w 119 3 0 0 b3 refl refl (lit≤ tt)))
+  word-low_zero c lt = (zeroed c lt).word
 
   pub ages-low_one : (c : ℕ) → c < 4 → ages_in (bit_and w (255 - 16 * 2 ^ c % 256))
       ≡ set (ages_in w) c (min (age_in w c) 1)
-  ages-low_one =
-      each_clump (λ c. ages_in (bit_and w (255 - 16 * 2 ^ c % 256)) ≡ set (ages_in w) c (min (age_in w c) 1))
-      (same_four _ _ _ _ _ _ _ _ (one_left w 239 0 b0 refl refl) (kept w 239 1 refl refl)
-      (kept w 239 2 refl refl) (kept w 239 3 refl refl))
-      (same_four _ _ _ _ _ _ _ _ (kept w 223 0 refl refl) (one_left w 223 1 b1 refl refl)
-      (kept w 223 2 refl refl) (kept w 223 3 refl refl))
-      (same_four _ _ _ _ _ _ _ _ (kept w 191 0 refl refl) (kept w 191 1 refl refl)
-      (one_left w 191 2 b2 refl refl) (kept w 191 3 refl refl))
-      (same_four _ _ _ _ _ _ _ _ (kept w 127 0 refl refl) (kept w 127 1 refl refl) (kept w 127 2 refl refl)
-      (one_left w 127 3 b3 refl refl))
+  ages-low_one c lt = (at_most_one c lt).ages ∙ set_age w c (min (age_in w c) 1) lt
 
   pub word-low_one : (c : ℕ) → c < 4 → IsWord (bit_and w (255 - 16 * 2 ^ c % 256))
-  word-low_one =
-      each_clump (λ c. IsWord (bit_and w (255 - 16 * 2 ^ c % 256)))
-      (word_and 239 (still w 239 0 1 0 b0 refl refl (lit≤ tt)) (still w 239 1 1 1 b1 refl refl (lit≤ tt))
-      (still w 239 2 1 1 b2 refl refl (lit≤ tt)) (still w 239 3 1 1 b3 refl refl (lit≤ tt)))
-      (word_and 223 (still w 223 0 1 1 b0 refl refl (lit≤ tt)) (still w 223 1 1 0 b1 refl refl (lit≤ tt))
-      (still w 223 2 1 1 b2 refl refl (lit≤ tt)) (still w 223 3 1 1 b3 refl refl (lit≤ tt)))
-      (word_and 191 (still w 191 0 1 1 b0 refl refl (lit≤ tt)) (still w 191 1 1 1 b1 refl refl (lit≤ tt))
-      (still w 191 2 1 0 b2 refl refl (lit≤ tt)) (still w 191 3 1 1 b3 refl refl (lit≤ tt)))
-      (word_and 127 (still w 127 0 1 1 b0 refl refl (lit≤ tt)) (still w 127 1 1 1 b1 refl refl (lit≤ tt))
-      (still w 127 2 1 1 b2 refl refl (lit≤ tt)) (still w 127 3 1 0 b3 refl refl (lit≤ tt)))
+  word-low_one c lt = (at_most_one c lt).word
 
-  -- ---- what is due
+  pub ages-same : (g c : ℕ) → 2 ≤ g → c < 4 → ages_in w ≡ set (ages_in w) c (min (age_in w c) g)
+  ages-same g c most lt =
+      each_clump (λ c. ages_in w ≡ set (ages_in w) c (age_in w c)) refl refl refl refl c lt
+      ∙ ap (set (ages_in w) c) (let e : age_in w c ≡ min (age_in w c) g = omega (arith, age_small w c) in e)
 
   pub due-none : (c : ℕ) → c < 4 → bit_at (bit_and (255 - w) 15) c ≡ cond (nat_le (age_in w c) 0) 1 0
-  due-none c lt =
-      let b : HasBits w c = bits_of w is c lt in
-      let not_set : bit_at (bit_not w8 w) c ≡ 1 - bit_at w c = bit_at_not w8 w c is.small (omega arith) in
-      let low : bit_at 15 c ≡ 1 = bit_at_ones 4 c lt in
-      let both : bit_at (bit_and (255 - w) 15) c ≡ min (bit_at (bit_not w8 w) c) (bit_at 15 c) =
-      bit_at_and (255 - w) 15 c in
-      (let e : bit_at (bit_and (255 - w) 15) c ≡ 1 - bit_at w c = omega (arith, both, low, not_set) in e)
-      ∙ due_none (bit_at w c) (bit_at w (c + 4)) b.one b.two
+  due-none c lt = eqb-true _ _ (of_words _ none_due w is c lt)
 
   pub due-one : (c : ℕ) → c < 4 → bit_at (bit_and (255 - w / 16) 15) c ≡ cond (nat_le (age_in w c) 1) 1 0
-  due-one c lt =
-      let b : HasBits w c = bits_of w is c lt in
-      let small : w / 16 < 2 ^ 8 = omega (arith, is.small) in
-      let not_set : bit_at (bit_not w8 (w / 16)) c ≡ 1 - bit_at (w / 16) c =
-      bit_at_not w8 (w / 16) c small (omega arith) in
-      let shifted : bit_at (w / 16) c ≡ bit_at w (4 + c) = bit_at-shr w 4 c in
-      let place : bit_at w (4 + c) ≡ bit_at w (c + 4) = ap (bit_at w) (omega arith) in
-      let low : bit_at 15 c ≡ 1 = bit_at_ones 4 c lt in
-      let both : bit_at (bit_and (255 - w / 16) 15) c ≡ min (bit_at (bit_not w8 (w / 16)) c) (bit_at 15 c) =
-      bit_at_and (255 - w / 16) 15 c in
-      (let e : bit_at (bit_and (255 - w / 16) 15) c ≡ 1 - bit_at w (c + 4) =
-      omega (arith, both, low, not_set, shifted, place) in e)
-      ∙ due_one (bit_at w c) (bit_at w (c + 4)) b.one b.two
+  due-one c lt = eqb-true _ _ (of_words _ one_due w is c lt)
 
   pub due-all : (n c : ℕ) → 2 ≤ n → c < 4 → bit_at 15 c ≡ cond (nat_le (age_in w c) n) 1 0
   due-all n c most lt =
-      let b : HasBits w c = bits_of w is c lt in
-      bit_at_ones 4 c lt ∙ sym (ap (λ t. cond t 1 0) (le-leb (age_in w c) n (omega (arith, b.one, b.two))))
+      bit_at_ones 4 c lt ∙ sym (ap (λ t. cond t 1 0) (le-leb (age_in w c) n (omega (arith, age_small w c))))
 
-  -- ---- growing
+  grown_none : Makes (bit_or w 15) (λ d. raised 0 (age_in w d))
+  grown_none = makes _ _ (of_words _ none_grown w is 0 (omega arith))
 
-  grown_one : (c : ℕ) → c < 4 → bit_at 15 c ≡ 1 → bit_at 15 (c + 4) ≡ 0
-      → age_in (bit_or w 15) c ≡ raised 0 (age_in w c)
-  grown_one c lt first second =
-      let b : HasBits w c = bits_of w is c lt in
-      let one : bit_at (bit_or w 15) c ≡ max (bit_at w c) (bit_at 15 c) = bit_at_or w 15 c in
-      let two : bit_at (bit_or w 15) (c + 4) ≡ max (bit_at w (c + 4)) (bit_at 15 (c + 4)) =
-      bit_at_or w 15 (c + 4) in
-      (let e : age_in (bit_or w 15) c ≡ 1 + bit_at w (c + 4) =
-      omega (arith, one, two, first, second, b.one) in e)
-      ∙ raised_none (bit_at w c) (bit_at w (c + 4)) b.one b.two
+  grown_some : Makes (bit_or (bit_or w (bit_and w 15 * 16 % 256)) 15) (λ d. raised 1 (age_in w d))
+  grown_some = makes _ _ (of_words _ some_grown w is 0 (omega arith))
 
   pub ages-grown_none : ages_in (bit_or w 15) ≡ grown 0 (ages_in w)
-  ages-grown_none =
-      same_four _ _ _ _ _ _ _ _ (grown_one 0 (lit< tt) refl refl) (grown_one 1 (lit< tt) refl refl)
-      (grown_one 2 (lit< tt) refl refl) (grown_one 3 (lit< tt) refl refl)
-
-  -- the first four bits are all set
-  full : (x i : ℕ) → bit_at 15 i ≡ 1 → bit_at (bit_or x 15) i ≡ 1
-  full x i set = let both : bit_at (bit_or x 15) i ≡ max (bit_at x i) (bit_at 15 i) = bit_at_or x 15 i in
-      omega (arith, both, set, bit_at-lt x i)
-
-  word_full : (x : ℕ) → x < 2 ^ 8 → IsWord (bit_or x 15)
-  word_full x fits = record {
-    small = or_lt 8 x 15 fits (lit< tt);
-    first = omega (arith, full x 0 refl, bit_at-lt (bit_or x 15) 4);
-    second = omega (arith, full x 1 refl, bit_at-lt (bit_or x 15) 5);
-    third = omega (arith, full x 2 refl, bit_at-lt (bit_or x 15) 6);
-    fourth = omega (arith, full x 3 refl, bit_at-lt (bit_or x 15) 7);
-  }
+  ages-grown_none = grown_none.ages
 
   pub word-grown_none : IsWord (bit_or w 15)
-  word-grown_none = word_full w is.small
-
-  abbrev up : ℕ
-  up = bit_and w 15 * 16 % 256
-
-  up_at : (c : ℕ) → c < 4 → bit_at up (c + 4) ≡ bit_at w c
-  up_at c lt =
-      let inside : bit_at (bit_and w 15 * 2 ^ 4 % 2 ^ 8) (c + 4) ≡ bit_at (bit_and w 15 * 2 ^ 4) (c + 4) =
-      bit_at-mod (bit_and w 15 * 2 ^ 4) 8 (c + 4) (omega arith) in
-      let place : bit_at (bit_and w 15 * 2 ^ 4 + 0) (c + 4) ≡ bit_at (bit_and w 15) (c + 4 - 4) =
-      bit_at_cat_high (bit_and w 15) 4 0 (c + 4) (lit< tt) (omega arith) in
-      let both : bit_at (bit_and w 15) c ≡ min (bit_at w c) (bit_at 15 c) = bit_at_and w 15 c in
-      let low : bit_at 15 c ≡ 1 = bit_at_ones 4 c lt in
-      inside ∙ ap (λ x. bit_at x (c + 4)) (let e : bit_and w 15 * 2 ^ 4 ≡ bit_and w 15 * 2 ^ 4 + 0 =
-      omega arith in e) ∙ place
-      ∙ ap (bit_at (bit_and w 15)) (let e : c + 4 - 4 ≡ c = omega arith in e)
-      ∙ (let e : bit_at (bit_and w 15) c ≡ bit_at w c = omega (arith, both, low, bit_at-lt w c) in e)
-
-  grown_two : (n c : ℕ) → 1 ≤ n → c < 4 → bit_at 15 c ≡ 1 → bit_at 15 (c + 4) ≡ 0
-      → age_in (bit_or (bit_or w up) 15) c ≡ raised n (age_in w c)
-  grown_two n c some lt first second =
-      let b : HasBits w c = bits_of w is c lt in
-      let one : bit_at (bit_or (bit_or w up) 15) c ≡ 1 = full (bit_or w up) c first in
-      let two : bit_at (bit_or (bit_or w up) 15) (c + 4) ≡ max (bit_at (bit_or w up) (c + 4))
-      (bit_at 15 (c + 4)) = bit_at_or (bit_or w up) 15 (c + 4) in
-      let inner : bit_at (bit_or w up) (c + 4) ≡ max (bit_at w (c + 4)) (bit_at up (c + 4)) =
-      bit_at_or w up (c + 4) in
-      (let e : age_in (bit_or (bit_or w up) 15) c ≡ 1 + bit_at w c =
-      omega (arith, one, two, inner, second, up_at c lt, b.two) in e)
-      ∙ raised_some n (bit_at w c) (bit_at w (c + 4)) some b.one b.two
+  word-grown_none = grown_none.word
 
   pub ages-grown_some : (n : ℕ) → 1 ≤ n → ages_in (bit_or (bit_or w (bit_and w 15 * 16 % 256)) 15)
       ≡ grown n (ages_in w)
   ages-grown_some n some =
-      same_four _ _ _ _ _ _ _ _ (grown_two n 0 some (lit< tt) refl refl)
-      (grown_two n 1 some (lit< tt) refl refl) (grown_two n 2 some (lit< tt) refl refl)
-      (grown_two n 3 some (lit< tt) refl refl)
+      let up : (c : ℕ) → raised 1 (age_in w c) ≡ raised n (age_in w c) =
+      λ c. raised_some n (age_in w c) some (age_small w c) in
+      grown_some.ages ∙ (λ i. up 0 i ∷ up 1 i ∷ up 2 i ∷ up 3 i ∷ [])
 
   pub word-grown_some : IsWord (bit_or (bit_or w (bit_and w 15 * 16 % 256)) 15)
-  word-grown_some = word_full (bit_or w up) (or_lt 8 w up is.small (omega arith))
-
-  pub ages-same : (g c : ℕ) → 2 ≤ g → c < 4 → ages_in w ≡ set (ages_in w) c (min (age_in w c) g)
-  ages-same g c most lt =
-      let keeps : min (age_in w c) g ≡ age_in w c =
-      (let b : HasBits w c = bits_of w is c lt in omega (arith, b.one, b.two)) in
-      each_clump (λ c. ages_in w ≡ set (ages_in w) c (age_in w c)) refl refl refl refl c lt
-      ∙ ap (set (ages_in w) c) (sym keeps)
+  word-grown_some = grown_some.word
 
 pub ruleset dues = (due-none, due-one, due-all)
 

@@ -1,5 +1,5 @@
--- The rows of a clump by the bits of a number below 2 ^ 16.
-use Rattle.std.proofs.Common.{◌≡◌, ℕ, zero, suc, ◌+◌, ◌*◌, ◌^◌, ◌<◌, ◌≤◌, ◌==◌, Bool, true, false, cond, List, [], ◌∷◌, map, filter, slice_get, drop, Some, None, refl, sym, ap, ◌∙◌, arith}
+-- The rows of a clump, and the due clumps of a block, by the bits of a mask.
+use Rattle.std.proofs.Common.{◌≡◌, ℕ, zero, suc, ◌+◌, ◌-◌, ◌*◌, ◌^◌, ◌<◌, ◌≤◌, ◌==◌, Bool, true, false, cond, List, [], ◌∷◌, map, filter, slice_get, drop, Some, None, refl, sym, ap, ◌∙◌, arith}
 use Rattle.std.specs.Int.{bit_at}
 use Rattle.std.specs.List.{range_with_len}
 use Rattle.std.proofs.lemmas.Nat.Bits.{bit_at_above}
@@ -47,20 +47,29 @@ moved_from test m first (suc k) x same =
     map-cond (λ row. first + row) (bit_at m x == 1) x (set_from m k (x + 1))
     ∙ (λ i. cond (same x (omega arith) (omega arith) i) ((first + x) ∷ rest i) (rest i))
 
-pub is_one : (t : Bool) (x : ℕ) → x ≡ cond t 1 0 → (x == 1) ≡ t
+is_one : (t : Bool) (x : ℕ) → x ≡ cond t 1 0 → (x == 1) ≡ t
 is_one true x is = ap (λ y. y == 1) is
 is_one false x is = ap (λ y. y == 1) is
+
+-- those of a mask of k bits
+pub set_by_bits : (test : ℕ → Bool) (m first k : ℕ) → k ≤ 64 → m < 2 ^ k
+    → ((i : ℕ) → i < k → bit_at m i ≡ cond (test (first + i)) 1 0)
+    → map (λ row. first + row) (set_bits m) ≡ filter test (range_with_len first k)
+unfolding set_bits
+set_by_bits test m first k few small bits =
+    ap (λ n. map (λ row. first + row) (set_from m n 0)) (let e : 64 ≡ k + (64 - k) = omega (arith, few) in e)
+    ∙ ap (map (λ row. first + row)) (few_from m k (64 - k) 0 (λ i le. bit_at_above m k i small (omega arith)))
+    ∙ moved_from test m first k 0 (λ i le lt. is_one (test (first + i)) (bit_at m i) (bits i (omega arith)))
+    ∙ ap (λ n. filter test (range_with_len n k)) (let e : first + 0 ≡ first = omega arith in e)
 
 -- the live rows of a clump
 pub rows_by_bits : (t : Table) (m first clump : ℕ) → m < 2 ^ 16 → first ≡ 16 * clump + 64
     → ((i : ℕ) → i < 16 → bit_at m i ≡ cond (contains_key t.rows (first + i)) 1 0)
     → map (λ row. first + row) (set_bits m) ≡ slots_in t clump
-unfolding set_bits slots_in
+unfolding slots_in
 rows_by_bits t m first clump small is bits =
-    let test : ℕ → Bool = λ slot. contains_key t.rows slot in
-    ap (map (λ row. first + row)) (few_from m 16 48 0 (λ i le. bit_at_above m 16 i small (omega arith)))
-    ∙ moved_from test m first 16 0 (λ i le lt. is_one (test (first + i)) (bit_at m i) (bits i (omega arith)))
-    ∙ ap (λ n. filter test (range_with_len n 16)) (let e : first + 0 ≡ 16 * clump + 64 = omega arith in e)
+    set_by_bits (λ slot. contains_key t.rows slot) m first 16 (omega arith) small bits
+    ∙ ap (λ n. filter (λ slot. contains_key t.rows slot) (range_with_len n 16)) is
 
 -- a list by its first and its rest
 pub first_and_rest : (xs ys : List ℕ) (x : ℕ) → slice_get xs 0 ≡ Some x → ys ≡ drop 1 xs → xs ≡ x ∷ ys

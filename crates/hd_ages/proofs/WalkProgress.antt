@@ -25,13 +25,13 @@ use Rattle.hd_ages.proofs.WalkFrame.{rewrites_live, clumps_same, slots_same, on_
 -- a walk over the rows of a kind began with table t, and goes on with another: what is left to visit is as it
 -- was, and each clump that it visited was a step
 pub record IsUnderway (t : Table) (ages : List ℕ) (n : ℕ) (k : Kind) (now : Table) (w : DueRows)
-    (before steps : ℕ) : Type 0 where
+    (count : ℕ × ℕ) : Type 0 where
   pub on : IsOn now w
   pub table : IsSameTable t now
   pub apart : AllPairs (λ x y. x ≢ y) (slots_to_come now ages w)
   pub each : (slot : ℕ) → Contains (slots_to_come now ages w) slot → IsDueRow t ages n k slot
   pub kept : (slot : ℕ) → Contains (slots_to_come now ages w) slot → row_at now slot ≡ row_at t slot
-  pub steps_are : steps + length (clumps_to_come now ages w) ≡ before + visits_of t ages n k
+  pub steps_are : count.1 + length (clumps_to_come now ages w) ≡ count.0 + visits_of t ages n k
 
 -- every due row is still to be visited
 abbrev pub HasAllToCome : Table → List ℕ → ℕ → Kind → DueRows → Type 0
@@ -40,7 +40,7 @@ HasAllToCome t ages n k w = (slot : ℕ) → IsDueRow t ages n k slot → Contai
 module _ (t : Table) (ages : List ℕ) (n : ℕ) (k : Kind) where
   module _ (is : IsTable t) (w : DueRows) (slots : slots_to_come t ages w ≡ due_slots t ages n k) where
     pub begins : (before : ℕ) → IsOn t w → clumps_to_come t ages w ≡ due_clumps ages n (chain_of t k)
-        → IsUnderway t ages n k t w before before
+        → IsUnderway t ages n k t w (before, before)
     begins before on clumps =
         let list = due_slots_list t is ages n k in
         record {
@@ -58,10 +58,11 @@ module _ (t : Table) (ages : List ℕ) (n : ℕ) (k : Kind) where
     pub few_to_come : length (slots_to_come t ages w) ≤ 16384
     few_to_come = subst (λ xs. length xs ≤ 16384) (sym slots) (due_slots_few t is ages n k)
 
-  module _ (now : Table) (old new : DueRows) (before : ℕ) where
+module _ {t : Table} {ages : List ℕ} {n : ℕ} {k : Kind} where
+  module _ {now : Table} {old new : DueRows} {before steps : ℕ}
+      (u : IsUnderway t ages n k now old (before, steps)) where
     -- the walk reaches a row
-    module _ (slot : Slot) (steps after : ℕ) (u : IsUnderway t ages n k now old before steps)
-        (g : Gives now ages old new slot) where
+    module _ {slot : Slot} (g : Gives now ages old new slot) where
       pub row_due : IsDueRow t ages n k slot.0
       row_due = u.each slot.0 (member_same _ _ (sym g.slots) slot.0 (first_in slot.0 _))
 
@@ -100,9 +101,9 @@ module _ (t : Table) (ages : List ℕ) (n : ℕ) (k : Kind) where
           ⊎_elim (λ e. ne (sym e)) past
           (member_cases slot.0 (slots_to_come now ages new) other (member_same _ _ g.slots other h))
 
-      pub goes_on : IsOn now new
+      pub goes_on : {after : ℕ} → IsOn now new
           → after + length (clumps_to_come now ages new) ≡ steps + length (clumps_to_come now ages old)
-          → IsUnderway t ages n k now new before after
+          → IsUnderway t ages n k now new (before, after)
       goes_on on counted =
           let inside : (s : ℕ) → Contains (slots_to_come now ages new) s
           → Contains (slots_to_come now ages old) s =
@@ -118,24 +119,23 @@ module _ (t : Table) (ages : List ℕ) (n : ℕ) (k : Kind) where
           }
 
     -- the walk is at its end
-    module _ (steps after : ℕ) (u : IsUnderway t ages n k now old before steps)
-        (e : Ends now ages old new) where
+    module _ (e : Ends now ages old new) where
       pub all_past : (slot : ℕ) → Contains (slots_to_come now ages old) slot → ⊥
       all_past slot h = not_in_none slot (member_same _ _ e.slots slot h)
 
-      pub steps_at_end :
-          after + length (clumps_to_come now ages new) ≡ steps + length (clumps_to_come now ages old)
+      pub steps_at_end : {after : ℕ}
+          → after + length (clumps_to_come now ages new) ≡ steps + length (clumps_to_come now ages old)
           → after ≡ before + visits_of t ages n k
       steps_at_end counted = omega (arith, counted, u.steps_are, ap length e.clumps)
 
   -- a visited row gets other contents
-  module _ (now new : Table) (w : DueRows) (slot before steps : ℕ) (h : Handle Addr)
-      (u : IsUnderway t ages n k now w before steps) (live : IsSome (get now.rows slot))
+  module _ {now new : Table} {w : DueRows} {slot before steps : ℕ} {h : Handle Addr}
+      (u : IsUnderway t ages n k now w (before, steps)) (live : IsSome (get now.rows slot))
       (r : Rewrites slot h now new) where
     pub to_come_same : slots_to_come new ages w ≡ slots_to_come now ages w
     to_come_same = slots_same now new r.table ages (rewrites_live now new slot h live r) w
 
-    pub rewritten : (Contains (slots_to_come now ages w) slot → ⊥) → IsUnderway t ages n k new w before steps
+    pub rewritten : (Contains (slots_to_come now ages w) slot → ⊥) → IsUnderway t ages n k new w (before, steps)
     rewritten past = record {
       on = on_same now new r.table ages w u.on;
       table = record {

@@ -13,7 +13,13 @@ use Rattle.hd_model.proofs.Members.{not_in_none, first_in, later_in, member_case
 use Rattle.hd_model.proofs.Entries.{some_value, counts_keys}
 use Rattle.hd_model.proofs.PropertyCounts.{counts_le}
 use Rattle.hd_ages.specs.Walk.{slots_in, slots_of, due_slots}
-use Rattle.hd_ages.specs.Rows.{IsDueRow, IsListOf}
+use Rattle.hd_ages.specs.Rows.{IsDueRow}
+
+-- a list has exactly the things of a property, each once
+pub record IsListOf {A : Type 0} (P : A → Type 0) (xs : List A) : Type 0 where
+  pub apart : AllPairs (λ x y. x ≢ y) xs
+  pub each : (x : A) → Contains xs x → P x
+  pub all : (x : A) → P x → Contains xs x
 
 -- ---- numbers in a row
 

@@ -17,7 +17,13 @@ pub record IsSlotOf (block clump slot : ℕ) : Type 0 where
   pub in_block : slot / ROWS ≡ block
   pub in_clump : slot % ROWS / CLUMP ≡ clump
 
+-- the ages of a block, and all ages with others for one block
+abbrev pub ages_at : ℕ → List ℕ → List ℕ
+ages_at block ages = take CLUMPS (drop (CLUMPS * block - CLUMPS) ages)
+
+abbrev pub with_ages : ℕ → List ℕ → List ℕ → List ℕ
+with_ages block four ages = take (CLUMPS * block - CLUMPS) ages ++ four ++ drop (CLUMPS * block) ages
+
 -- the ages after a collection of generation n has raised those of one block
 abbrev pub grown_at : ℕ → ℕ → List ℕ → List ℕ
-grown_at n block ages = let first = CLUMPS * block - CLUMPS in
-    take first ages ++ grown n (take CLUMPS (drop first ages)) ++ drop (CLUMPS * block) ages
+grown_at n block ages = with_ages block (grown n (ages_at block ages)) ages

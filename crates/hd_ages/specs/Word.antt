@@ -1,6 +1,6 @@
 -- Four ages as one word. Bit c is set if clump c is of age 1 or more, and bit c + 4 if it is of age 2. This
 -- project's own format.
-use Rattle.std.specs.Prelude.{ℕ, ◌+◌, ◌<◌, ◌≤◌, ◌^◌, List, [], ◌∷◌}
+use Rattle.std.specs.Prelude.{◌≡◌, ℕ, ◌+◌, ◌^◌, ◌&&◌, Bool, true, nat_lt, nat_le, List, [], ◌∷◌}
 use Rattle.std.specs.Int.{bit_at}
 use Rattle.hd_model.specs.declared.limits.TheConstants.{CLUMPS}
 
@@ -17,9 +17,12 @@ ages_of [] = []
 ages_of (word ∷ words) = age_in word 0 ∷ age_in word 1 ∷ age_in word 2 ∷ age_in word 3 ∷ ages_of words
 
 -- a clump of age 2 is of age 1 or more
+abbrev pub is_word : ℕ → Bool
+is_word word =
+    nat_lt word (2 ^ 8)
+    && (nat_le (bit_at word 4) (bit_at word 0)
+    && (nat_le (bit_at word 5) (bit_at word 1)
+    && (nat_le (bit_at word 6) (bit_at word 2) && nat_le (bit_at word 7) (bit_at word 3))))
+
 pub record IsWord (word : ℕ) : Type 0 where
-  pub small : word < 2 ^ 8
-  pub first : bit_at word 4 ≤ bit_at word 0
-  pub second : bit_at word 5 ≤ bit_at word 1
-  pub third : bit_at word 6 ≤ bit_at word 2
-  pub fourth : bit_at word 7 ≤ bit_at word 3
+  pub holds : is_word word ≡ true

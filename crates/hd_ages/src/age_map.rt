@@ -3,7 +3,8 @@ ghost use Rattle.std.specs.Prelude.{replicate, slice_index, All, IfOk};
 ghost use Rattle.std.specs.Int.{bit_at};
 ghost use Rattle.hd_mask.specs.Mask.{set_bits};
 ghost use Rattle.hd_model.specs.Ages.{clumps_of, lowered};
-ghost use Rattle.hd_ages.specs.Clumps.{IsSlotOf, clump_at, grown_at};
+ghost use Rattle.hd_ages.specs.Clumps.{IsSlotOf, ages_at, clump_at, grown_at, with_ages};
+ghost use Rattle.hd_ages.specs.Word.{IsWord, ages_in};
 
 use crate::word;
 use crate::word::ALL_OLDEST;
@@ -53,6 +54,7 @@ impl AgeMap {
     }
 
     /// The age of a block's clump, from 0 to 2. The clump is from 0 to 3.
+    #[tactic(auto, using(crate::proofs::BlockAges::age_at))]
     pub fn age(&self, block: u32, clump: u32) -> u8
         requires low { 1 ≤ block }
         requires high { CLUMPS * block ≤ length self.now }
@@ -60,22 +62,23 @@ impl AgeMap {
         ensures value { result ≡ slice_index self.now (clump_at block clump) }
         ensures small { result ≤ OLDEST }
     {
-        word::age(self.words[block as usize - 1], clump)
+        word::age(self.word(block), clump)
     }
 
     /// Lowers the age of a block's clump to `g`. An age that is not above `g` stays.
+    #[tactic(auto, using(crate::proofs::BlockAges::lowered_at))]
     pub fn lower(&mut self, block: u32, clump: u32, g: u8)
         requires low { 1 ≤ block }
         requires high { CLUMPS * block ≤ length self.old }
         requires clump { clump < CLUMPS }
         ensures { (slot : ℕ) → IsSlotOf block clump slot → self.new ≡ lowered self.old slot g }
     {
-        let place = block as usize - 1;
-        self.words[place] = word::lower(self.words[place], clump, g);
+        self.set_word(block, word::lower(self.word(block), clump, g));
     }
 
     /// A mask of a block's clumps whose age is at most `n`: a collection of generation `n` visits
     /// exactly these.
+    #[tactic(auto, using(crate::proofs::BlockAges::reads))]
     pub fn due(&self, block: u32, n: u8) -> u8
         requires low { 1 ≤ block }
         requires high { CLUMPS * block ≤ length self.now }
@@ -86,7 +89,7 @@ impl AgeMap {
             ≡ filter (λ clump. nat_le (slice_index self.now clump) n) (clumps_of block) }
         ensures small { result < 2 ^ CLUMPS }
     {
-        word::due(self.words[block as usize - 1], n)
+        word::due(self.word(block), n)
     }
 
     /// Raises by one each age of a block that is at most `n`, at most to 2.
@@ -95,7 +98,26 @@ impl AgeMap {
         requires high { CLUMPS * block ≤ length self.old }
         ensures { self.new ≡ grown_at n block self.old }
     {
-        let place = block as usize - 1;
-        self.words[place] = word::grow(self.words[place], n);
+        self.set_word(block, word::grow(self.word(block), n));
+    }
+
+    // The word of a block's ages.
+    fn word(&self, block: u32) -> u8
+        requires low { 1 ≤ block }
+        requires high { CLUMPS * block ≤ length self.now }
+        ensures word { IsWord result }
+        ensures ages { ages_in result ≡ ages_at block self.now }
+    {
+        self.words[block as usize - 1]
+    }
+
+    // Writes the word of a block's ages.
+    fn set_word(&mut self, block: u32, word: u8)
+        requires low { 1 ≤ block }
+        requires high { CLUMPS * block ≤ length self.old }
+        requires word { IsWord word }
+        ensures { self.new ≡ with_ages block (ages_in word) self.old }
+    {
+        self.words[block as usize - 1] = word;
     }
 }

@@ -1,5 +1,5 @@
 -- The walk that finds who joins, one condemned object after another.
-use Rattle.std.proofs.Common.{◌≡◌, ◌≢◌, Bool, true, false, true≢false, ℕ, ◌<◌, ◌≤◌, ◌&&◌, not, List, [], ◌∷◌, ◌++◌, length, get_or, Option, Some, None, is_some, sym, ap, ◌∙◌, subst, arith, ⊎_elim, inl, inr, ◌⊎◌, Contains, AllPairs}
+use Rattle.std.proofs.Common.{◌≡◌, ◌≢◌, Bool, true, false, true≢false, ℕ, ◌+◌, ◌-◌, ◌^◌, ◌<◌, ◌≤◌, ◌&&◌, not, List, [], ◌∷◌, ◌++◌, length, get_or, Option, Some, None, is_some, sym, ap, ◌∙◌, subst, arith, ⊎_elim, inl, inr, ◌⊎◌, Contains, AllPairs}
 use Rattle.std.specs.FinMap.{len}
 use Rattle.std.proofs.lemmas.Bool.{and_parts, and_from, not-true, not_from_false, both_ways, leb-true, le-leb, ltb-true, ltb-false, le-ltb, cases_Bool}
 use Rattle.std.proofs.lemmas.Option.{same_Some}
@@ -15,8 +15,24 @@ use Rattle.hd_model.proofs.Members.{mapped_from}
 use Rattle.hd_heap.specs.Calls.{is_after, is_condemned, IsNext}
 use Rattle.hd_final.specs.declared.joiners.Joiner.{Joiner}
 use Rattle.hd_final.specs.Revival.{IsOut}
-use Rattle.hd_final.specs.Joiners.{places, IsFoundUpTo}
-use Rattle.hd_final.proofs.ObjectLookup.{address_is, object_there, few_differ}
+use Rattle.hd_final.specs.Joiners.{places}
+use Rattle.hd_final.proofs.ObjectLookup.{object_there, few_differ}
+use Rattle.hd_heap.proofs.HeapValues.{same_address}
+
+-- what was found up to an address of the walk: objects outside p with their identities, each once, and all
+-- that are not after the address
+pub record IsFoundUpTo (h : Heap) (n : ℕ) (p : Addr → Bool) (after : Option Addr) (js : List Joiner) : Type 0
+  where
+    pub once : AllPairs (λ x y. x ≢ y) (places js)
+    pub outside : (j : Joiner) → Contains js j → IsOut (object_at h) n p j.at
+    pub identified : (j : Joiner) → Contains js j → j.id ≡ id_at h j.at
+    pub passed : (j : Joiner) → Contains js j → is_after after j.at ≡ false
+    pub all : (a : Addr) → IsOut (object_at h) n p a → is_after after a ≡ false → Contains (places js) a
+
+-- the addresses after one of the walk
+abbrev pub left_of : Option Addr → ℕ
+left_of None = 2 ^ 32 + 1
+left_of (Some a) = 2 ^ 32 - a.0
 
 -- whether an object is registered and outside a set
 abbrev pub is_out : Heap → (Addr → Bool) → Addr → Bool
@@ -70,7 +86,7 @@ module _ (h : Heap) (n : ℕ) (p : Addr → Bool) where
         ⊎_elim
         (λ beyond. let low = ltb-false at.0 a.0 not_beyond in
         let high = next.least a (out_condemned a out) beyond in
-        inr (address_is a at (omega arith)))
+        inr (same_address a at (omega arith)))
         (λ passed. inl (found.all a out passed)) (cases_Bool (is_after after a))
 
     differs : (a : Addr) → Contains (places js) a → a ≢ at

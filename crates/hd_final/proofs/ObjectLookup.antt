@@ -7,9 +7,6 @@ use Rattle.hd_heap.proofs.RegionReads.{has-get}
 use Rattle.hd_model.proofs.Entries.{some_value, counts_keys}
 use Rattle.hd_model.proofs.PropertyCounts.{counts_le}
 
-pub address_is : (a b : Addr) → a.0 ≡ b.0 → a ≡ b
-address_is a b e = λ i. record { 0 = e i }
-
 -- what is at the address of an object
 pub stands_there : (h : Heap) (a : Addr) → has_object h a ≡ true → get h.objects a.0 ≡ Some (placed_at h a)
 stands_there h a is =

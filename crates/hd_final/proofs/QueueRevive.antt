@@ -14,20 +14,22 @@ use Rattle.hd_model.specs.declared.data.Id.{Id}
 use Rattle.hd_model.specs.Counting.{Counts}
 use Rattle.hd_model.specs.Leads.{Grows}
 use Rattle.hd_model.specs.Scene.{IsYoungField}
+use Rattle.hd_model.specs.Table.{Queue}
 use Rattle.hd_model.specs.Heap.{Heap, object_at, id_at, placed_at, has_object, HasIdentities}
 use Rattle.hd_model.proofs.EdgeChains.{grows_like}
 use Rattle.hd_model.proofs.Members.{mapped_from, pairs_mapped, pairs_append}
 use Rattle.hd_final.specs.declared.joiners.Joiner.{Joiner}
 use Rattle.hd_final.specs.Revival.{IsOut, Revives}
 use Rattle.hd_final.specs.Joiners.{places, IsFound}
-use Rattle.hd_final.proofs.ObjectLookup.{address_is, stands_there, id_there, few_differ}
+use Rattle.hd_final.proofs.ObjectLookup.{stands_there, id_there, few_differ}
+use Rattle.hd_heap.proofs.HeapValues.{same_address}
 
 -- a permutation of addresses that differ has addresses that differ
 abbrev is_address : Addr → Addr → Bool
 is_address a b = a.0 == b.0
 
 tells : (a b : Addr) → Decides (is_address a b) (a ≡ b)
-tells a b = Decides-like (a.0 == b.0) (address_is a b) (λ e. ap (λ (c : Addr). c.0) e) (Decides-eqb a.0 b.0)
+tells a b = Decides-like (a.0 == b.0) (same_address a b) (λ e. ap (λ (c : Addr). c.0) e) (Decides-eqb a.0 b.0)
 
 either_way : (a b : Addr) → is_address a b ≡ is_address b a
 either_way a b = same_from_decides (is_address a b) (is_address b a) (tells a b)
@@ -44,11 +46,15 @@ one_identity : (h : Heap) → HasIdentities h → (a b : Addr) → has_object h 
     → (id_at h a).0 ≡ (id_at h b).0 → a ≡ b
 one_identity h identities a b is_a is_b same =
     let ids : id_at h a ≡ id_at h b = λ i. record { 0 = same i } in
-    address_is a b (identities a.0 b.0 (placed_at h a) (placed_at h b) (stands_there h a is_a)
+    same_address a b (identities a.0 b.0 (placed_at h a) (placed_at h b) (stands_there h a is_a)
     (stands_there h b is_b) (sym (id_there h a is_a) ∙ ids ∙ id_there h b is_b))
 
-module _ (h : Heap) (n : ℕ) (p : Addr → Bool) (js ks : List Joiner) (found : IsFound h n p js)
-    (moves : IsPermutation js ks) where
+-- those that were found, in another order
+module _ {h : Heap} {n : ℕ} {p : Addr → Bool} {js ls ks : List Joiner} (found : IsFound h n p js)
+    (sorted : IsPermutation js ls) (lent : ks ≡ ls) where
+  moves : IsPermutation js ks
+  moves = subst (λ xs. IsPermutation js xs) (sym lent) sorted
+
   was_found : (j : Joiner) → Contains ks j → Contains js j
   was_found j k = Contains-permutation ks js j (IsPermutation-sym js ks moves) k
 
@@ -116,20 +122,35 @@ module _ (h : Heap) (n : ℕ) (p : Addr → Bool) (js ks : List Joiner) (found :
     rising = joins_rise identities rising;
   }
 
-  module _ (waiting : List Addr) (once : AllPairs (λ x y. x ≢ y) waiting)
-      (objects : (a : Addr) → Contains waiting a → has_object h a ≡ true)
-      (promoted : (a : Addr) → Contains waiting a → p a ≡ true) where
-    -- what joins was not queued
-    pub queue_once : AllPairs (λ x y. x ≢ y) (waiting ++ places ks)
-    queue_once =
-        pairs_append (λ x y. x ≢ y) waiting (places ks) once joins_once
-        (λ x y early late same. both_ways _ (joins_each y late).out
-        (sym (ap p same) ∙ promoted x early))
+  -- the queue with them, by the field and the value of the queue
+  module _ {items : List Addr} {room : ℕ} {queue : Queue} (seen : record { waiting = items; room = room } ≡
+      queue)
+      (once : AllPairs (λ x y. x ≢ y) items)
+      (objects : (a : Addr) → Contains queue.waiting a → has_object h a ≡ true)
+      (promoted : (a : Addr) → Contains queue.waiting a → p a ≡ true)
+      (fit : len h.objects ≤ queue.room) where
+    in_queue : (a : Addr) → Contains items a → Contains queue.waiting a
+    in_queue a k = subst (λ (q : Queue). Contains q.waiting a) seen k
 
-    -- the heap has an object for each
-    pub queue_fits : length waiting + length ks ≤ len h.objects
+    -- what joins was not queued
+    pub queue_once : AllPairs (λ x y. x ≢ y) (items ++ places ks)
+    queue_once =
+        pairs_append (λ x y. x ≢ y) items (places ks) once joins_once
+        (λ x y early late same. both_ways _ (joins_each y late).out
+        (sym (ap p same) ∙ promoted x (in_queue x early)))
+
+    -- there is room for all
+    pub queue_fits : length (items ++ places ks) ≤ room
     queue_fits =
-        let few : length (waiting ++ places ks) ≤ len h.objects =
-        few_differ h (waiting ++ places ks) queue_once
-        (λ a k. ⊎_elim (objects a) (joins_object a) (Contains-append_cases waiting (places ks) a k)) in
-        omega (arith, few, length-append waiting (places ks), length-map ks (λ (j : Joiner). j.at))
+        omega (
+          arith,
+          few_differ h (items ++ places ks) queue_once
+              (λ a k. ⊎_elim (λ early. objects a (in_queue a early)) (joins_object a)
+              (Contains-append_cases items (places ks) a k)),
+          ap (λ (q : Queue). q.room) seen,
+          fit,
+        )
+
+    pub joiners_fit : length items + length ks ≤ room
+    joiners_fit =
+        omega (arith, queue_fits, length-append items (places ks), length-map ks (λ (j : Joiner). j.at))

@@ -10,14 +10,15 @@ use Rattle.hd_model.specs.Heap.{Heap, object_at, object_in, id_at, id_in, placed
 use Rattle.hd_heap.specs.Calls.{with_object}
 use Rattle.hd_final.specs.Settling.{Unregisters, unregistered}
 use Rattle.hd_model.proofs.Members.{not_in_none, first_in, later_in, member_cases}
-use Rattle.hd_final.proofs.ObjectLookup.{address_is, stands_there}
+use Rattle.hd_final.proofs.ObjectLookup.{stands_there}
 use Rattle.hd_model.proofs.ReadAfterWrite.{get_inserted, get_beside}
+use Rattle.hd_heap.proofs.HeapValues.{same_address}
 
 -- an address is in a list or is not
 is_among : (xs : List Addr) (a : Addr) → Contains xs a ⊎ (Contains xs a → ⊥)
 is_among [] a = inr (not_in_none a)
 is_among (x ∷ xs) a =
-    ⊎_elim (λ same. inl (subst (λ z. Contains (x ∷ xs) z) (address_is x a same) (first_in x xs)))
+    ⊎_elim (λ same. inl (subst (λ z. Contains (x ∷ xs) z) (same_address x a same) (first_in x xs)))
     (λ apart. ⊎_elim (λ h. inl (later_in x xs a h))
     (λ never. inr (λ h. ⊎_elim (λ e. apart (ap (λ (b : Addr). b.0) e)) never (member_cases x xs a h)))
     (is_among xs a))
@@ -80,13 +81,13 @@ module _ (xs : List Addr) (h now new : Heap) (x : Addr) (u : Unregisters xs h no
     among = λ a k.
         ⊎_elim
         (λ same. subst (λ b. object_at new b ≡ option_map unregistered (object_at h b))
-        (address_is x a (sym same)) (hit ∙ gone x))
+        (same_address x a (sym same)) (hit ∙ gone x))
         (λ apart. miss a apart ∙ ⊎_elim (λ early. u.among a early)
         (λ e. absurd (apart (ap (λ (b : Addr). b.0) (sym e))))
         (Contains-push_cases xs x a k))
         (cases_eq a.0 x.0);
     others = λ a never.
-        miss a (λ same. never (subst (λ b. Contains (xs ++ x ∷ []) b) (address_is x a (sym same))
+        miss a (λ same. never (subst (λ b. Contains (xs ++ x ∷ []) b) (same_address x a (sym same))
         (Contains-push xs x)))
         ∙ u.others a (λ k. never (Contains-append_left xs (x ∷ []) a k));
     ids = λ a. id_kept a ∙ u.ids a;

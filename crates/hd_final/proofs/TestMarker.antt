@@ -21,12 +21,13 @@ use Rattle.hd_heap.specs.Calls.{IsMade, new_object, empty_heap}
 use Rattle.hd_final.specs.Revival.{Revives}
 use Rattle.hd_model.proofs.Entries.{any_from, any_of}
 use Rattle.hd_final.specs.Bare.{IsBare, IsList, IsReady, is_in, is_promoted, mirrored}
-use Rattle.hd_final.proofs.ObjectLookup.{address_is, stands_there, object_there, few_differ}
+use Rattle.hd_final.proofs.ObjectLookup.{stands_there, object_there, few_differ}
+use Rattle.hd_heap.proofs.HeapValues.{same_address}
 
 is_in_from : (xs : List Addr) (a : Addr) → is_in xs a ≡ true → Contains xs a
 is_in_from xs a h =
     let (b, rest) = any_from (λ (b : Addr). b.0 == a.0) xs h in
-    subst (λ c. Contains xs c) (address_is b a (eqb-true b.0 a.0 rest.1)) rest.0
+    subst (λ c. Contains xs c) (same_address b a (eqb-true b.0 a.0 rest.1)) rest.0
 
 is_in_of : (xs : List Addr) (a : Addr) → Contains xs a → is_in xs a ≡ true
 is_in_of xs a h = any_of (λ (b : Addr). b.0 == a.0) xs a h (eq-eqb a.0 a.0 refl)
@@ -95,7 +96,7 @@ module _ (h : Heap) (n : ℕ) (xs ys : List Addr) (at : Addr)
 
   in_either : (a : Addr) → is_in ys a ≡ true → (is_in xs a ≡ true) ⊎ (a ≡ at)
   in_either a k =
-      ⊎_elim (λ early. inl early) (λ same. inr (address_is a at (sym (eqb-true at.0 a.0 same))))
+      ⊎_elim (λ early. inl early) (λ same. inr (same_address a at (sym (eqb-true at.0 a.0 same))))
       (or_cases _ _ (sym (joins a) ∙ k))
 
   pub gained : Gains at (is_in xs) (is_in ys)
@@ -197,7 +198,7 @@ module _ (h : Heap) (sound : IsSound h) where
     older = λ x up. absurd (none_older x up);
     in_place = λ x up. absurd (none_older x up);
     apart = λ x y k l same.
-        address_is x y
+        same_address x y
         (let low_x = low_address x k in
         let low_y = low_address y l in
         let e = ap (λ (a : Addr). a.0) same in

@@ -1,8 +1,7 @@
 -- The list of the objects that are to join, each with its identity, as they are found.
-use Rattle.std.specs.Prelude.{◌≡◌, ◌≢◌, ℕ, ◌+◌, ◌-◌, ◌^◌, Bool, false, List, Option, None, Some, map, Contains, AllPairs}
+use Rattle.std.specs.Prelude.{◌≡◌, ◌≢◌, ℕ, Bool, List, map, Contains, AllPairs}
 use Rattle.hd_model.specs.declared.data.Addr.{Addr}
 use Rattle.hd_model.specs.Heap.{Heap, object_at, id_at}
-use Rattle.hd_heap.specs.Calls.{is_after}
 use Rattle.hd_final.specs.declared.joiners.Joiner.{Joiner}
 use Rattle.hd_final.specs.Revival.{IsOut}
 
@@ -10,24 +9,9 @@ use Rattle.hd_final.specs.Revival.{IsOut}
 abbrev pub places : List Joiner → List Addr
 places js = map (λ (j : Joiner). j.at) js
 
--- what was found up to an address of the walk: objects outside p with their identities, each once, and all
--- that are not after the address
-pub record IsFoundUpTo (h : Heap) (n : ℕ) (p : Addr → Bool) (after : Option Addr) (js : List Joiner) : Type 0
-  where
-    pub once : AllPairs (λ x y. x ≢ y) (places js)
-    pub outside : (j : Joiner) → Contains js j → IsOut (object_at h) n p j.at
-    pub identified : (j : Joiner) → Contains js j → j.id ≡ id_at h j.at
-    pub passed : (j : Joiner) → Contains js j → is_after after j.at ≡ false
-    pub all : (a : Addr) → IsOut (object_at h) n p a → is_after after a ≡ false → Contains (places js) a
-
 -- all objects outside p, with their identities, each once
 pub record IsFound (h : Heap) (n : ℕ) (p : Addr → Bool) (js : List Joiner) : Type 0 where
   pub once : AllPairs (λ x y. x ≢ y) (places js)
   pub outside : (j : Joiner) → Contains js j → IsOut (object_at h) n p j.at
   pub identified : (j : Joiner) → Contains js j → j.id ≡ id_at h j.at
   pub all : (a : Addr) → IsOut (object_at h) n p a → Contains (places js) a
-
--- the addresses after one of the walk
-abbrev pub left_of : Option Addr → ℕ
-left_of None = 2 ^ 32 + 1
-left_of (Some a) = 2 ^ 32 - a.0

@@ -1,4 +1,3 @@
-pub mod IndexedItems
 pub mod SetMembers
 pub mod MaskMembers
 pub mod PoolCalls

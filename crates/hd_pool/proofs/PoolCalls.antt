@@ -12,9 +12,10 @@ use Rattle.hd_model.specs.declared.data.Slot.{Slot}
 use Rattle.hd_model.specs.Kinds.{kind_number}
 use Rattle.hd_model.proofs.KindTests.{same_number, few_kinds}
 use Rattle.hd_pool.specs.Masks.{Held, numbers_of, IsLeastBetween, HasNoneBetween, HasAllOf}
-use Rattle.hd_pool.specs.Inside.{by_place, kind_at, place_of, HasFree, IsPool}
+use Rattle.hd_pool.specs.Inside.{kind_at, place_of, HasFree, IsPool}
+use Rattle.hd_model.specs.Indexed.{by_place}
 use Rattle.hd_pool.specs.Pool.{FreeSlots, IsFreeFor, IsLeastFreeFor, HasNoneFor, IsWholeOf, IsLeastWholeOf}
-use Rattle.hd_pool.proofs.IndexedItems.{get-by_place, by_place-put, by_place-clear}
+use Rattle.hd_model.proofs.IndexedItems.{get-by_place, by_place-put, by_place-clear}
 use Rattle.hd_pool.proofs.SetMembers.{insert_same, insert_other, insert_keeps, remove_same, remove_other, union_same, union_other, difference_same, difference_other}
 
 -- two numbers in `ready` are equal only for the same kind and block
@@ -46,7 +47,7 @@ not_both b is_false is_true = absurd (both_ways b is_false is_true)
 abbrev pub seen : List (Option Kind) → Held → FreeSlots
 seen kinds free = record { blocks = length kinds - 1; kinds = by_place kinds; free = free.members }
 
-module _ (kinds : List (Option Kind)) (free ready : Held) (inv : IsPool kinds free ready) where
+module _ {kinds : List (Option Kind)} {free ready : Held} (inv : IsPool kinds free ready) where
   -- a block that was added is small
   pub block_small : (block : ℕ) → IsSome (kind_at kinds block) → block ≤ 256
   block_small block there = omega (arith, kind_within kinds block there, inv.limit)
@@ -110,7 +111,7 @@ module _ (kinds : List (Option Kind)) (free ready : Held) (inv : IsPool kinds fr
 
   -- ---- a slot is taken
 
-  module _ (k : Kind) (slot : ℕ) (of_kind : kind_at kinds (slot / 64) ≡ Some k) where
+  module _ {k : Kind} (slot : ℕ) (of_kind : kind_at kinds (slot / 64) ≡ Some k) where
     kept_member : (q : ℕ) → contains (remove free.members slot) q ≡ true → contains free.members q ≡ true
     kept_member q member =
         elim (cases_eq q slot) [
@@ -220,7 +221,7 @@ module _ (kinds : List (Option Kind)) (free ready : Held) (inv : IsPool kinds fr
 
   -- ---- a block is dropped
 
-  module _ (block : ℕ) (k : Kind) (of_kind : kind_at kinds block ≡ Some k) where
+  module _ (block : ℕ) {k : Kind} (of_kind : kind_at kinds block ≡ Some k) where
     pub dropped : IsPool (set kinds block None) (record free
         { members = difference free.members (numbers_of block) })
         (record ready { members = remove ready.members (place_of k block) })
@@ -286,8 +287,8 @@ module _ (kinds : List (Option Kind)) (free ready : Held) (inv : IsPool kinds fr
         let low = low_block slot is in
         not_both _ (none (place_of k (slot.0 / 64)) (omega arith) (omega arith)) (stands slot is)
 
-    module _ (at : ℕ) (first : IsLeastBetween ready.members (64 * (kind_number k * 5))
-        (64 * (kind_number k * 5 + 5)) at) (block : ℕ) (block_is : block ≡ at - place_of k 0) where
+    module _ {at : ℕ} (first : IsLeastBetween ready.members (64 * (kind_number k * 5))
+        (64 * (kind_number k * 5 + 5)) at) {block : ℕ} (block_is : block ≡ at - place_of k 0) where
       at_is : at ≡ place_of k block
       at_is = omega (arith, first.low, first.high)
 
@@ -304,7 +305,7 @@ module _ (kinds : List (Option Kind)) (free ready : Held) (inv : IsPool kinds fr
           let where_is = w.of_block in
           not_both _ (none w.slot (omega arith) (omega arith)) w.free
 
-      module _ (slot : ℕ) (least : IsLeastBetween free.members (64 * block) (64 * (block + 1)) slot) where
+      module _ {slot : ℕ} (least : IsLeastBetween free.members (64 * block) (64 * (block + 1)) slot) where
         pub of_block : slot / 64 ≡ block
         of_block = omega (arith, least.low, least.high)
 
@@ -356,12 +357,13 @@ along {kinds} {free} {ready} {free'} {ready'} e f inv =
     (subst (λ (s : Held). IsPool kinds free s) (sym f) inv)
 
 -- a pool by what was written at the index of a block
-pub with_left : (kinds : List (Option Kind)) {free ready : Held} (block : ℕ) (left : Option Kind)
+pub with_left : (kinds : List (Option Kind)) {free ready : Held} (block : ℕ) {left : Option Kind}
     → left ≡ None → IsPool (set kinds block None) free ready → IsPool (set kinds block left) free ready
-with_left kinds {free} {ready} block left none inv =
+with_left kinds {free} {ready} block none inv =
     subst (λ (o : Option Kind). IsPool (set kinds block o) free ready) (sym none) inv
 
-module _ (kinds : List (Option Kind)) (free : Held) (v : FreeSlots) (is : seen kinds free ≡ v) where
+module _ {kinds : List (Option Kind)} {free ready : Held} (inv : IsPool kinds free ready) {v : FreeSlots}
+    (is : seen kinds free ≡ v) where
   pub blocks_is : length kinds - 1 ≡ v.blocks
   blocks_is = ap (λ (u : FreeSlots). u.blocks) is
 
@@ -371,11 +373,11 @@ module _ (kinds : List (Option Kind)) (free : Held) (v : FreeSlots) (is : seen k
   pub there : (block : ℕ) → IsSome (get v.kinds block) → IsSome (kind_at kinds block)
   there block some = ap is_some (kind_is block) ∙ some
 
-  pub seen_put : (block : ℕ) (k : Kind) (f : FinSet nat_cmp → FinSet nat_cmp) (after : Held) → block < length
+  pub seen_put : (block : ℕ) (k : Kind) (f : FinSet nat_cmp → FinSet nat_cmp) {after : Held} → block < length
       kinds → after ≡ record free { members = f free.members }
       → seen (set kinds block (Some k)) after ≡ record v
       { kinds = map.insert v.kinds block k; free = f v.free }
-  seen_put block k f after within e =
+  seen_put block k f {after} within e =
       let now : seen (set kinds block (Some k)) (record free { members = f free.members })
       ≡ record {
         blocks = length kinds - 1;
@@ -391,10 +393,10 @@ module _ (kinds : List (Option Kind)) (free : Held) (v : FreeSlots) (is : seen k
       ap (seen (set kinds block (Some k))) e ∙ now ∙ ap
       (λ (u : FreeSlots). record u { kinds = map.insert u.kinds block k; free = f u.free }) is
 
-  pub seen_clear : (block : ℕ) (f : FinSet nat_cmp → FinSet nat_cmp) (after : Held) → after ≡ record free
+  seen_clear : (block : ℕ) (f : FinSet nat_cmp → FinSet nat_cmp) {after : Held} → after ≡ record free
       { members = f free.members }
       → seen (set kinds block None) after ≡ record v { kinds = map.remove v.kinds block; free = f v.free }
-  seen_clear block f after e =
+  seen_clear block f {after} e =
       let now : seen (set kinds block None) (record free { members = f free.members })
       ≡ record { blocks = length kinds - 1; kinds = map.remove (by_place kinds) block; free = f free.members }
       =
@@ -408,34 +410,33 @@ module _ (kinds : List (Option Kind)) (free : Held) (v : FreeSlots) (is : seen k
       (λ (u : FreeSlots). record u { kinds = map.remove u.kinds block; free = f u.free }) is
 
   -- the same, by what was written at the block's index
-  pub seen_left : (left : Option Kind) → left ≡ None → (block : ℕ) (f : FinSet nat_cmp → FinSet nat_cmp)
-      (after : Held) → after ≡ record free { members = f free.members }
+  pub seen_left : {left : Option Kind} → left ≡ None → (block : ℕ) (f : FinSet nat_cmp → FinSet nat_cmp)
+      {after : Held} → after ≡ record free { members = f free.members }
       → seen (set kinds block left) after ≡ record v { kinds = map.remove v.kinds block; free = f v.free }
-  seen_left left none block f after e =
-      ap (λ (o : Option Kind). seen (set kinds block o) after) none ∙ seen_clear block f after e
+  seen_left none block f {after} e =
+      ap (λ (o : Option Kind). seen (set kinds block o) after) none ∙ seen_clear block f e
 
   -- ---- a block that was added
 
-  module _ (ready : Held) (inv : IsPool kinds free ready) (block : ℕ) (some : IsSome (get v.kinds block))
-    where
-      pub in_list : block < length kinds
-      in_list = kind_within kinds block (there block some)
+  module _ (block : ℕ) (some : IsSome (get v.kinds block)) where
+    pub in_list : block < length kinds
+    in_list = kind_within kinds block (there block some)
 
-      pub low : block ≤ 256
-      low = block_small kinds free ready inv block (there block some)
+    pub low : block ≤ 256
+    low = block_small inv block (there block some)
 
-      pub has_room : 64 * block + 63 < free.room
-      has_room = omega (arith, in_list, inv.room)
+    pub has_room : 64 * block + 63 < free.room
+    has_room = omega (arith, in_list, inv.room)
 
-      pub has_place : (k : Kind) (at : ℕ) → at ≡ place_of k block → at < ready.room
-      has_place k at e = omega (arith, place_small kinds free ready inv k block low)
+    pub has_place : (k : Kind) {at : ℕ} → at ≡ place_of k block → at < ready.room
+    has_place k e = omega (arith, e, place_small inv k block low)
 
-      module _ (read : Option Kind) (is_read : read ≡ get_or kinds block read) where
-        pub read_kind : read ≡ kind_at kinds block
-        read_kind = get_or_read kinds block read in_list is_read None
+    module _ {read : Option Kind} (is_read : read ≡ get_or kinds block read) where
+      pub read_kind : read ≡ kind_at kinds block
+      read_kind = get_or_read kinds block read in_list is_read None
 
-        pub read_some : IsSome read
-        read_some = ap is_some read_kind ∙ there block some
+      pub read_some : IsSome read
+      read_some = ap is_some read_kind ∙ there block some
 
   -- ---- whole blocks
 
@@ -474,16 +475,15 @@ left_free s block (Some slot) found e =
     let high = found.high in
     record { slot = slot; of_block = omega arith; free = found.member }
 
-module _ (kinds : List (Option Kind)) (free ready : Held) (inv : IsPool kinds free ready) (v : FreeSlots)
-    (is : seen kinds free ≡ v) (k : Kind)
-    (n : ℕ) (n_is : n ≡ kind_number k) where
+module _ {kinds : List (Option Kind)} {free ready : Held} (inv : IsPool kinds free ready) {v : FreeSlots}
+    (is : seen kinds free ≡ v) (k : Kind) {n : ℕ} (n_is : n ≡ kind_number k) where
   pub take_none : HasNoneBetween ready.members (64 * (n * 5)) (64 * (n * 5 + 5)) → HasNoneFor v k
   take_none none =
       subst (λ (u : FreeSlots). HasNoneFor u k) is
-      (none_ready kinds free ready inv k (subst (λ m. HasNoneBetween ready.members (64 * (m * 5))
-      (64 * (m * 5 + 5))) n_is none))
+      (none_ready inv k (subst (λ m. HasNoneBetween ready.members (64 * (m * 5)) (64 * (m * 5 + 5))) n_is
+      none))
 
-  module _ (at : ℕ) (found : IsLeastBetween ready.members (64 * (n * 5)) (64 * (n * 5 + 5)) at) (start : ℕ)
+  module _ {at : ℕ} (found : IsLeastBetween ready.members (64 * (n * 5)) (64 * (n * 5 + 5)) at) {start : ℕ}
       (start_is : start ≡ place_of k 0) where
     first : IsLeastBetween ready.members (64 * (kind_number k * 5)) (64 * (kind_number k * 5 + 5)) at
     first = subst (λ m. IsLeastBetween ready.members (64 * (m * 5)) (64 * (m * 5 + 5)) at) n_is found
@@ -492,18 +492,17 @@ module _ (kinds : List (Option Kind)) (free ready : Held) (inv : IsPool kinds fr
     block_is = ap (λ m. at - m) start_is
 
     has : (kind_at kinds (at - start) ≡ Some k) × HasFree free (at - start)
-    has = block_has kinds free ready inv k at first (at - start) block_is
+    has = block_has inv k first block_is
 
     pub take_room : 64 * (at - start + 1) ≤ free.room
     take_room = omega (arith, kind_within kinds (at - start) (ap is_some has.0), inv.room)
 
     module _ (o : Option ℕ) where
-      pub take_some : IfNone o (HasNoneBetween free.members (64 * (at - start)) (64 * (at - start + 1))) →
-          IsSome o
-      take_some none = some_of o _ none (block_not_empty kinds free ready inv k at first (at - start)
-          block_is)
+      pub take_some : IfNone o (HasNoneBetween free.members (64 * (at - start)) (64 * (at - start + 1)))
+          → IsSome o
+      take_some none = some_of o _ none (block_not_empty inv k first block_is)
 
-      module _ (slot : ℕ) (is_slot : o ≡ Some slot)
+      module _ {slot : ℕ} (is_slot : o ≡ Some slot)
           (found_slot : IfSome o (IsLeastBetween free.members (64 * (at - start)) (64 * (at - start + 1))))
         where
           least : IsLeastBetween free.members (64 * (at - start)) (64 * (at - start + 1)) slot
@@ -511,49 +510,42 @@ module _ (kinds : List (Option Kind)) (free ready : Held) (inv : IsPool kinds fr
               (64 * (at - start + 1)))) is_slot found_slot
 
           in_block : slot / 64 ≡ at - start
-          in_block = of_block kinds free ready inv k at first (at - start) block_is slot least
+          in_block = of_block inv k first block_is least
 
           its_kind : kind_at kinds (slot / 64) ≡ Some k
-          its_kind = slot_kind kinds free ready inv k at first (at - start) block_is slot least
-
-          pub take_low : slot < free.room
-          take_low = omega (arith, least.high, take_room)
+          its_kind = slot_kind inv k first block_is least
 
           pub take_least : IsLeastFreeFor v k (record { 0 = slot })
-          take_least =
-              subst (λ (u : FreeSlots). IsLeastFreeFor u k (record { 0 = slot })) is
-              (least_free kinds free ready inv k at first (at - start) block_is slot least)
+          take_least = subst (λ (u : FreeSlots). IsLeastFreeFor u k (record { 0 = slot })) is
+              (least_free inv k first block_is least)
 
-          module _ (after : Held) (after_is : after ≡ record free { members = remove free.members slot })
+          module _ {after : Held} (after_is : after ≡ record free { members = remove free.members slot })
               (left : Option ℕ) where
             pub take_more : IfSome left (IsLeastBetween after.members (64 * (at - start))
                 (64 * (at - start + 1))) → is_some left ≡ true → IsPool kinds after ready
             take_more found_left some =
-                let more : HasFree after (at - start) = left_free after (at - start) left found_left some in
-                along after_is refl (taken kinds free ready inv k slot its_kind
+                along after_is refl (taken inv slot its_kind
                 (subst (HasFree (record free { members = remove free.members slot })) (sym in_block)
-                (subst (λ s. HasFree s (at - start)) after_is more)))
+                (subst (λ s. HasFree s (at - start)) after_is
+                (left_free after (at - start) left found_left some))))
 
             pub take_last : IfNone left (HasNoneBetween after.members (64 * (at - start))
                 (64 * (at - start + 1))) → is_some left ≡ false
-                → (ready' : Held) → ready' ≡ record ready { members = remove ready.members at } → IsPool kinds
-                after ready'
-            take_last none no_more ready' ready_is =
-                let empty_now : HasNoneBetween after.members (64 * (at - start)) (64 * (at - start + 1)) =
-                none_of left _ none no_more in
+                → {ready' : Held} → ready' ≡ record ready { members = remove ready.members at }
+                → IsPool kinds after ready'
+            take_last none no_more ready_is =
                 let none_left : HasNoneBetween (remove free.members slot) (64 * (slot / 64))
                 (64 * (slot / 64 + 1)) =
                 subst (λ b. HasNoneBetween (remove free.members slot) (64 * b) (64 * (b + 1))) (sym in_block)
                 (subst (λ (s : Held). HasNoneBetween s.members (64 * (at - start)) (64 * (at - start + 1)))
-                after_is empty_now) in
+                after_is (none_of left _ none no_more)) in
                 let place : at ≡ place_of k (slot / 64) = omega (arith, first.low, in_block, start_is) in
                 along after_is (ready_is ∙ ap (λ m. record ready { members = remove ready.members m }) place)
-                (taken_last kinds free ready inv k slot its_kind none_left)
+                (taken_last inv slot its_kind none_left)
 
-pub least_whole : (kinds : List (Option Kind)) (free : Held) (v : FreeSlots) → seen kinds free ≡ v →
-    (k : Kind) (block : ℕ) → IsWholeOf v k block
+pub least_whole : {v : FreeSlots} {k : Kind} {block : ℕ} → IsWholeOf v k block
     → ((b : ℕ) → b < block → ¬ (IsWholeOf v k b)) → IsLeastWholeOf v k block
-least_whole kinds free v is k block whole before = record {
+least_whole {v} {k} {block} whole before = record {
   whole = whole;
   least = λ other of_kind. elim (cases_lt other block) [
     | inl less ↦ absurd (before other less of_kind)

@@ -1,24 +1,12 @@
 -- What is always true of the fields of a pool.
 use Rattle.std.specs.Prelude.{◌≡◌, ℕ, ◌+◌, ◌*◌, ◌/◌, ◌<◌, ◌≤◌, true, List, [], ◌∷◌, length, slice_index_or, Option, Some, None, IsSome}
-use Rattle.std.specs.FinMap.{FinMap, from_entries}
 use Rattle.std.specs.FinSet.{contains}
-use Rattle.std.specs.Ordering.{nat_cmp}
 use Rattle.hd_mask.specs.declared.TheConstants.{BITS}
 use Rattle.hd_model.specs.declared.data.Kind.{Kind}
 use Rattle.hd_model.specs.declared.limits.TheConstants.{BLOCKS, KINDS, ROWS}
 use Rattle.hd_model.specs.Kinds.{kind_number}
 use Rattle.hd_pool.specs.declared.pool.TheConstants.{MASKS}
 use Rattle.hd_pool.specs.Masks.{Held}
-
--- the items that are present, each with its index, counted from a number on
-abbrev pub numbered : {A : Type 0} → ℕ → List (Option A) → List (ℕ × A)
-numbered i [] = []
-numbered i (None ∷ xs) = numbered (i + 1) xs
-numbered i (Some x ∷ xs) = (i, x) ∷ numbered (i + 1) xs
-
--- the map from indices to the items that are present
-abbrev pub by_place : {A : Type 0} → List (Option A) → FinMap nat_cmp A
-by_place xs = from_entries (numbered 0 xs)
 
 -- the kind of a block, if it was added
 abbrev pub kind_at : List (Option Kind) → ℕ → Option Kind

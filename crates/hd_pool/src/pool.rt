@@ -33,7 +33,8 @@ pub struct Pool {
 impl Model for Pool {
     ghost use Rattle.std.specs.Prelude.{◌-◌, length};
     ghost use Rattle.hd_pool.specs.Pool.{FreeSlots, free_slots_code};
-    ghost use Rattle.hd_pool.specs.Inside.{by_place, IsPool};
+    ghost use Rattle.hd_model.specs.Indexed.{by_place};
+    ghost use Rattle.hd_pool.specs.Inside.{IsPool};
 
     ghost Value = { FreeSlots };
 

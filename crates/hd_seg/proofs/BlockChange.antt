@@ -8,21 +8,22 @@ use Rattle.hd_model.specs.declared.data.Kind.{Kind}
 use Rattle.hd_model.specs.State.{BlockUse, handles_of, extra_data}
 use Rattle.hd_model.specs.Kinds.{is_paired}
 use Rattle.hd_model.specs.Table.{Table, IsTable, has_handles, is_single, kind_in, with_block, with_data, without_block}
+use Rattle.hd_model.proofs.ReadAfterWrite.{get_beside, get_left}
 use Rattle.hd_seg.specs.declared.cells.Cell.{Cell}
 use Rattle.hd_seg.specs.declared.cells.Cell.TheVariants as cell
 use Rattle.hd_seg.specs.Blocks.{Uses}
 use Rattle.hd_seg.specs.Cells.{cell_at, cell_in, place_in, extra_place, row_by, row_in, table_in, IsPaired, IsSeg}
 use Rattle.hd_seg.specs.Mapped.{mapped}
-use Rattle.hd_seg.proofs.FunctionMaps.{mapped-same, get-insert_same, get-insert_other, get-remove_same, get-remove_other}
-use Rattle.hd_seg.proofs.ChainLinks.{none_is_some, some_of}
-use Rattle.hd_seg.proofs.BlockAdd.{extras_apart, one_kind}
+use Rattle.hd_seg.proofs.FunctionMaps.{mapped-same, get-insert_same, get-remove_same}
+use Rattle.hd_seg.proofs.ChainLinks.{none_is_some, some_of, one_kind}
+use Rattle.hd_seg.proofs.BlockAdd.{extras_apart}
 use Rattle.hd_seg.proofs.RowCells.{row-unused, row-empty}
 
 -- a use is not nothing
 unused_apart : (o : Option BlockUse) (k : BlockUse) → o ≡ None → o ≡ Some k → ⊥
 unused_apart o k none is = none_is_some _ none (some_of _ _ is)
 
-module _ (u : Uses) (cells : List Cell) (masks : List ℕ) (live : ℕ) (inv : IsSeg u cells masks live) where
+module _ {u : Uses} {cells : List Cell} {masks : List ℕ} {live : ℕ} (inv : IsSeg u cells masks live) where
   -- other uses and data blocks of the same number of blocks, under which each row is as it was
   module _ (v : Uses) (blocks : v.table.blocks ≡ u.table.blocks)
       (rows : (q : ℕ) → row_in v cells q ≡ row_in u cells q) where
@@ -62,7 +63,7 @@ module _ (u : Uses) (cells : List Cell) (masks : List ℕ) (live : ℕ) (inv : I
     one = record u { table = with_block u.table k b }
 
     one_use : (q : ℕ) → q ≢ b → get one.table.uses q ≡ get u.table.uses q
-    one_use q apart = get-insert_other u.table.uses b (handles_of k) q apart
+    one_use q apart = get_beside u.table.uses b (handles_of k) q apart
 
     one_here : (q : ℕ) → q ≡ b → get one.table.uses q ≡ Some (handles_of k)
     one_here q same = get-insert_same u.table.uses b (handles_of k) q same
@@ -113,9 +114,9 @@ module _ (u : Uses) (cells : List Cell) (masks : List ℕ) (live : ℕ) (inv : I
         ])
         one_targets inv.cleared (one_paired single)
 
-    pub one-view : (t : Table) → table_in u cells ≡ t
+    pub one-view : {t : Table} → table_in u cells ≡ t
         → table_in (record u { table = with_block u.table k b }) cells ≡ with_block t k b
-    one-view t is =
+    one-view is =
         ap (λ m. let s : Table = record (with_block u.table k b) { rows = m } in s)
         (rows-same one refl one_rows)
         ∙ ap (λ s. with_block s k b) is
@@ -126,10 +127,10 @@ module _ (u : Uses) (cells : List Cell) (masks : List ℕ) (live : ℕ) (inv : I
       two = record { table = with_data (with_block u.table k b) d; extras = insert u.extras b d }
 
       two_use : (q : ℕ) → q ≢ b → q ≢ d → get two.table.uses q ≡ get u.table.uses q
-      two_use q not_b not_d = get-insert_other one.table.uses d extra_data q not_d ∙ one_use q not_b
+      two_use q not_b not_d = get_beside one.table.uses d extra_data q not_d ∙ one_use q not_b
 
       two_here : (q : ℕ) → q ≡ b → get two.table.uses q ≡ Some (handles_of k)
-      two_here q same = get-insert_other one.table.uses d extra_data q (λ other. apart (sym other ∙ same))
+      two_here q same = get_beside one.table.uses d extra_data q (λ other. apart (sym other ∙ same))
           ∙ one_here q same
 
       two_data : (q : ℕ) → q ≡ d → get two.table.uses q ≡ Some extra_data
@@ -139,7 +140,7 @@ module _ (u : Uses) (cells : List Cell) (masks : List ℕ) (live : ℕ) (inv : I
       d_none q same = ap (get u.table.uses) same ∙ unused
 
       place_other : (q : ℕ) → q / 64 ≢ b → extra_place two q ≡ extra_place u q
-      place_other q not_b = ap (λ o. place_in o (q % 64)) (get-insert_other u.extras b d (q / 64) not_b)
+      place_other q not_b = ap (λ o. place_in o (q % 64)) (get_beside u.extras b d (q / 64) not_b)
 
       pub two_rows : (q : ℕ)
           → row_in (record { table = with_data (with_block u.table k b) d; extras = insert u.extras b d })
@@ -197,7 +198,7 @@ module _ (u : Uses) (cells : List Cell) (masks : List ℕ) (live : ℕ) (inv : I
       one_extra e f o is is' = let same : Some e ≡ Some f = sym is ∙ is' in cc
 
       old_data : (q e : ℕ) → q ≢ b → get two.extras q ≡ Some e → get u.extras q ≡ Some e
-      old_data q e not_b is = sym (get-insert_other u.extras b d q not_b) ∙ is
+      old_data q e not_b is = sym (get_beside u.extras b d q not_b) ∙ is
 
       here_data : (q e : ℕ) → q ≡ b → get two.extras q ≡ Some e → e ≡ d
       here_data q e same is = one_extra e d _ is (get-insert_same u.extras b d q same)
@@ -213,7 +214,7 @@ module _ (u : Uses) (cells : List Cell) (masks : List ℕ) (live : ℕ) (inv : I
                   ∙ ap is_paired (one_kind _ k j (two_here q same) is)
               | inr not_b ↦
                   let not_d : q ≢ d = λ same. extras_apart _ j (two_data q same) is in
-                  ap is_some (get-insert_other u.extras b d q not_b)
+                  ap is_some (get_beside u.extras b d q not_b)
                   ∙ inv.paired.paired q j (sym (two_use q not_b not_d) ∙ is)
             ];
         used = λ q e is.
@@ -249,10 +250,10 @@ module _ (u : Uses) (cells : List Cell) (masks : List ℕ) (live : ℕ) (inv : I
       two-seg paired table = seg-same two refl two_rows table two_vacant two_targets two_cleared
           (two_paired paired)
 
-      pub two-view : (t : Table) → table_in u cells ≡ t
+      pub two-view : {t : Table} → table_in u cells ≡ t
           → table_in (record { table = with_data (with_block u.table k b) d; extras = insert u.extras b d })
           cells ≡ with_data (with_block t k b) d
-      two-view t is =
+      two-view is =
           ap (λ m. let s : Table = record (with_data (with_block u.table k b) d) { rows = m } in s)
           (rows-same two refl two_rows)
           ∙ ap (λ s. with_data (with_block s k b) d) is
@@ -264,7 +265,7 @@ module _ (u : Uses) (cells : List Cell) (masks : List ℕ) (live : ℕ) (inv : I
     back = record u { table = without_block u.table k b }
 
     back_use : (q : ℕ) → q ≢ b → get back.table.uses q ≡ get u.table.uses q
-    back_use q apart = get-remove_other u.table.uses b q apart
+    back_use q apart = get_left u.table.uses b q apart
 
     back_none : (q : ℕ) → q ≡ b → get back.table.uses q ≡ None
     back_none q same = get-remove_same u.table.uses b q same
@@ -308,9 +309,9 @@ module _ (u : Uses) (cells : List Cell) (masks : List ℕ) (live : ℕ) (inv : I
           apart = inv.paired.apart;
         })
 
-    pub back-view : (t : Table) → table_in u cells ≡ t
+    pub back-view : {t : Table} → table_in u cells ≡ t
         → table_in (record u { table = without_block u.table k b }) cells ≡ without_block t k b
-    back-view t is =
+    back-view is =
         ap (λ m. let s : Table = record (without_block u.table k b) { rows = m } in s)
         (rows-same back refl back_rows)
         ∙ ap (λ s. without_block s k b) is

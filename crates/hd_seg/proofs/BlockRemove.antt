@@ -1,73 +1,53 @@
 -- A block is taken from its kind: its chain closes up, and the blocks after it get new chain indices.
-use Rattle.std.proofs.Common.{◌≡◌, ◌≢◌, ℕ, zero, suc, ◌+◌, ◌-◌, ◌<◌, ◌≤◌, ◌==◌, not, Bool, true, false, cond, List, [], ◌∷◌, length, get_or, set, drop, filter, Some, None, refl, sym, ap, ◌∙◌, subst, inl, inr, arith}
-use Rattle.std.specs.Prelude.{is_some}
+use Rattle.std.proofs.Common.{◌≡◌, ◌≢◌, ℕ, zero, suc, ◌+◌, ◌-◌, ◌<◌, ◌≤◌, ◌==◌, not, Bool, true, false, cond, List, [], ◌∷◌, length, get_or, set, take, drop, ◌++◌, filter, Some, None, Contains, refl, sym, ap, ◌∙◌, subst, inl, inr, arith}
+use Rattle.std.specs.Prelude.{is_some, slice_get}
 use Rattle.std.specs.List as list
 use Rattle.std.specs.FinMap.{get, len, remove, empty, len-remove}
 use Rattle.std.specs.Cmp.{nat_cmp_total}
 use Rattle.std.proofs.lemmas.Bool.{cases_eq, cases_lt, cases_order, eq-eqb, ne_eqb}
-use Rattle.std.proofs.lemmas.List.{get_or-set_same, get_or-set_other, length-set, set_past, get_or-drop, length-drop}
+use Rattle.std.proofs.lemmas.List.{get_or_default, get_or-set_other, length-set, get_or-drop, length-drop, take_at}
+use Rattle.std.proofs.lemmas.Option.{get_or_from_slice_get, slice_get_within}
 use Rattle.std.proofs.lemmas.List.Edits.{length-remove, get_or-remove_below, get_or-remove_above}
 use Rattle.std.proofs.lemmas.List.Sums.{sum_by-set}
 use Rattle.hd_model.specs.declared.data.Kind.{Kind}
 use Rattle.hd_model.specs.State.{handles_of}
 use Rattle.hd_model.specs.Kinds.{kind_number}
-use Rattle.hd_model.specs.Table.{without_block}
+use Rattle.hd_model.specs.Table.{chain_of, without_block}
 use Rattle.hd_model.proofs.KindTests.{few_kinds}
 use Rattle.hd_seg.specs.declared.row.BlockKind.TheVariants as block
 use Rattle.hd_seg.specs.declared.block.Block.{Block}
 use Rattle.hd_seg.specs.Blocks.{Uses, use_of, block_at, use_at, extras_at, uses_in, IsListed, IsBlocks, numbered}
 use Rattle.hd_seg.specs.Mapped.{mapped}
 use Rattle.hd_seg.proofs.FunctionMaps.{mapped-remove, mapped-same, len-mapped_le}
-use Rattle.hd_seg.proofs.ChainLinks.{none_is_some, some_of, listed_use, place_at, chain_short}
-use Rattle.hd_seg.proofs.BlockAdd.{cases_kind, one_kind, block_same, block_other}
+use Rattle.hd_seg.proofs.ChainLinks.{none_is_some, some_of, use_is, extras_is, one_kind, listed_like, found_in, linked_with, apart, chain_short}
+use Rattle.hd_seg.proofs.BlockAdd.{block_same, block_other}
 
 -- ---- chain indices written one after another
 
 -- one index
-module _ (table : List Block) (b i : ℕ) where
-  abbrev placed : List Block
-  placed = set table b (record (block_at table b) { place = i })
+abbrev placed : List Block → ℕ → ℕ → List Block
+placed table b i = set table b (record (block_at table b) { place = i })
 
-  at_placed : (q : ℕ) → (block_at placed q).kind ≡ (block_at table q).kind × (block_at placed q).extras
-      ≡ (block_at table q).extras
-  at_placed q =
-      elim (cases_eq q b) [
-        | inl same ↦ elim (cases_lt b (length table)) [
-          | inl lt ↦
-              let is : block_at placed q ≡ record (block_at table b) { place = i } =
-              block_same table b (record (block_at table b) { place = i }) lt q same in (
-                ap (λ (x : Block). x.kind) is
-                    ∙ ap (λ r. (block_at table r).kind) (sym same),
-                ap (λ (x : Block). x.extras) is
-                    ∙ ap (extras_at table) (sym same),
-              )
-          | inr past ↦
-              let is : block_at placed q ≡ block_at table q =
-              ap (λ xs. block_at xs q)
-              (set_past table b (record (block_at table b) { place = i }) past) in
-              (ap (λ (x : Block). x.kind) is, ap (λ (x : Block). x.extras) is)
-        ]
-        | inr apart ↦
-            let is : block_at placed q ≡ block_at table q =
-            get_or-set_other table b q (record (block_at table b) { place = i }) _ apart in
-            (ap (λ (x : Block). x.kind) is, ap (λ (x : Block). x.extras) is)
-      ]
+-- what an index does not change
+like_placed : {A : Type 0} (f : Block → A) → ((x : Block) (i : ℕ) → f (record x { place = i }) ≡ f x)
+    → (table : List Block) (b i q : ℕ) → f (block_at (placed table b i) q) ≡ f (block_at table q)
+like_placed f alike [] b i q = refl
+like_placed f alike (x ∷ xs) zero i zero = alike x i
+like_placed f alike (x ∷ xs) zero i (suc q) = refl
+like_placed f alike (x ∷ xs) (suc b) i zero = refl
+like_placed f alike (x ∷ xs) (suc b) i (suc q) = like_placed f alike xs b i q
+
+like-numbered : {A : Type 0} (f : Block → A) → ((x : Block) (i : ℕ) → f (record x { place = i }) ≡ f x)
+    → (i : ℕ) (bs : List ℕ) (table : List Block) (q : ℕ) → f (block_at (numbered i bs table) q)
+    ≡ f (block_at table q)
+like-numbered f alike i [] table q = refl
+like-numbered f alike i (b ∷ bs) table q =
+    like-numbered f alike (i + 1) bs (placed table b i) q ∙ like_placed f alike table b i q
 
 pub length-numbered : (i : ℕ) (bs : List ℕ) (table : List Block) → length (numbered i bs table) ≡ length table
 length-numbered i [] table = refl
 length-numbered i (b ∷ bs) table = length-numbered (i + 1) bs (placed table b i)
     ∙ length-set table b (record (block_at table b) { place = i })
-
-kind-numbered : (i : ℕ) (bs : List ℕ) (table : List Block) (q : ℕ) → (block_at (numbered i bs table) q).kind
-    ≡ (block_at table q).kind
-kind-numbered i [] table q = refl
-kind-numbered i (b ∷ bs) table q = kind-numbered (i + 1) bs (placed table b i) q ∙ (at_placed table b i q).0
-
-extras-numbered : (i : ℕ) (bs : List ℕ) (table : List Block) (q : ℕ)
-    → (block_at (numbered i bs table) q).extras ≡ (block_at table q).extras
-extras-numbered i [] table q = refl
-extras-numbered i (b ∷ bs) table q = extras-numbered (i + 1) bs (placed table b i) q
-    ∙ (at_placed table b i q).1
 
 -- a block that is not among them keeps its index
 place_out : (i : ℕ) (bs : List ℕ) (table : List Block) (q : ℕ) → ((j : ℕ) → j < length bs → get_or bs j 0 ≢ q)
@@ -112,148 +92,148 @@ filter-one P (x ∷ xs) (suc p) lt here others =
     ∙ ap (λ ys. x ∷ ys) (filter-one P xs p (omega arith) here
     (λ j below apart. others (suc j) (omega arith) (λ same. apart (omega arith))))
 
--- ---- the block goes
+-- what is left of a list
+Contains-remove : (xs : List ℕ) (p x : ℕ) → Contains xs x → p < length xs → get_or xs p 0 ≢ x
+    → Contains (list.remove xs p) x
+Contains-remove xs p x has lt other =
+    let at : get_or xs has.0 x ≡ x = has.2 in
+    elim (cases_order has.0 p) [
+      | inl same ↦ absurd (other (get_or_default xs p 0 x lt ∙ ap (λ i. get_or xs i x) (sym same) ∙ at))
+      | inr (inl early) ↦ (
+        has.0,
+        omega (arith, length-remove xs p lt),
+        get_or-remove_below xs p x has.0 early lt ∙ at,
+      )
+      | inr (inr late) ↦ (
+        has.0 - 1,
+        omega (arith, length-remove xs p lt, has.1),
+        get_or-remove_above xs p x (has.0 - 1) (omega arith) lt
+            ∙ ap (λ i. get_or xs i x) (let e : has.0 - 1 + 1 ≡ has.0 = omega arith in e) ∙ at,
+      )
+    ]
 
-module _ (number given : ℕ) (table : List Block) (chains : List (List ℕ))
+-- ---- the block at index p of a chain goes
+
+module _ {number given : ℕ} {table : List Block} {chains : List (List ℕ)}
     (inv : IsBlocks number given table chains)
-    (k : Kind) (b : ℕ) (is : get (mapped 1 number (use_at table)) b ≡ Some (handles_of k))
-    (plain : extras_at table b ≡ None) where
-  abbrev chain : List ℕ
+    {u : Uses} (seen : uses_in number table chains ≡ u) (k : Kind) (b p : ℕ)
+    (place : slice_get (chain_of u.table k) p ≡ Some b) (single : get u.extras b ≡ None) where
+  abbrev pub chain : List ℕ
   chain = get_or chains (kind_number k) []
 
-  abbrev place : ℕ
-  place = (block_at table b).place
+  abbrev pub short : List ℕ
+  short = list.remove chain p
 
-  abbrev short : List ℕ
-  short = list.remove chain place
-
-  abbrev freed : List Block
+  abbrev pub freed : List Block
   freed = set table b (record { kind = block.Unused; place = 0; extras = None })
 
   abbrev pub moved : List Block
-  moved = numbered (block_at table b).place
-      (drop (block_at table b).place
-      (list.remove (get_or chains (kind_number k) []) (block_at table b).place))
-      (set table b (record { kind = block.Unused; place = 0; extras = None }))
+  moved = numbered p (drop p short) freed
 
-  abbrev pub with_short : List (List ℕ)
-  with_short = set chains (kind_number k)
-      (list.remove (get_or chains (kind_number k) []) (block_at table b).place)
+  at : slice_get chain p ≡ Some b
+  at = ap (λ (v : Uses). slice_get (chain_of v.table k) p) seen ∙ place
 
-  low : 1 ≤ b
-  low = (listed_use number given table chains inv k b is).0
+  pub fits : p < length chain
+  fits = slice_get_within chain p b at
 
-  high : b ≤ number
-  high = (listed_use number given table chains inv k b is).1
+  stands : get_or chain p 0 ≡ b
+  stands = get_or_from_slice_get chain p b 0 at
 
-  use_was : use_at table b ≡ Some (handles_of k)
-  use_was = (listed_use number given table chains inv k b is).2
+  pub its : IsListed number table k b p
+  its = subst (λ q. IsListed number table k q p) stands (inv.linked.listed k p fits)
 
-  pub fits : (block_at table b).place < length (get_or chains (kind_number k) [])
-  fits = inv.linked.within k b low high use_was
+  pub inside : b < length table
+  inside = omega (arith, its.high, inv.size)
 
-  stands : get_or chain place 0 ≡ b
-  stands = inv.linked.standing k b low high use_was
-
-  inside : b < length table
-  inside = omega (arith, high, inv.size)
+  plain : extras_at table b ≡ None
+  plain = sym (extras_is inv b its.low its.high) ∙ ap (λ (v : Uses). get v.extras b) seen ∙ single
 
   length-short : length short + 1 ≡ length chain
-  length-short = length-remove chain place fits
+  length-short = length-remove chain p fits
 
   -- uses and data blocks
-  use_here : (q : ℕ) → q ≡ b → use_at moved q ≡ None
-  use_here q same =
-      ap use_of (kind-numbered place (drop place short) freed q)
-      ∙ ap (λ (x : Block). use_of x.kind)
-      (block_same table b (record { kind = block.Unused; place = 0; extras = None }) inside q same)
+  none_here : block_at freed b ≡ record { kind = block.Unused; place = 0; extras = None }
+  none_here = block_same table b (record { kind = block.Unused; place = 0; extras = None }) inside b refl
+
+  freed_other : (q : ℕ) → q ≢ b → block_at freed q ≡ block_at table q
+  freed_other = block_other table b (record { kind = block.Unused; place = 0; extras = None }) inside
+
+  use_moved : (q : ℕ) → use_at moved q ≡ use_at freed q
+  use_moved = like-numbered (λ (x : Block). use_of x.kind) (λ x i. refl) p (drop p short) freed
+
+  extras_moved : (q : ℕ) → extras_at moved q ≡ extras_at freed q
+  extras_moved = like-numbered (λ (x : Block). x.extras) (λ x i. refl) p (drop p short) freed
+
+  use_here : use_at moved b ≡ None
+  use_here = use_moved b ∙ ap (λ (x : Block). use_of x.kind) none_here
 
   use_other : (q : ℕ) → q ≢ b → use_at moved q ≡ use_at table q
-  use_other q apart =
-      ap use_of (kind-numbered place (drop place short) freed q)
-      ∙ ap (λ (x : Block). use_of x.kind)
-      (block_other table b (record { kind = block.Unused; place = 0; extras = None }) inside q apart)
+  use_other q apart = use_moved q ∙ ap (λ (x : Block). use_of x.kind) (freed_other q apart)
 
-  extras_here : (q : ℕ) → q ≡ b → extras_at moved q ≡ None
-  extras_here q same =
-      extras-numbered place (drop place short) freed q
-      ∙ ap (λ (x : Block). x.extras)
-      (block_same table b (record { kind = block.Unused; place = 0; extras = None }) inside q same)
-
-  extras_other : (q : ℕ) → q ≢ b → extras_at moved q ≡ extras_at table q
-  extras_other q apart =
-      extras-numbered place (drop place short) freed q
-      ∙ ap (λ (x : Block). x.extras)
-      (block_other table b (record { kind = block.Unused; place = 0; extras = None }) inside q apart)
+  extras_now : (q : ℕ) → extras_at moved q ≡ extras_at table q
+  extras_now q =
+      extras_moved q
+      ∙ elim (cases_eq q b) [
+        | inl same ↦ ap (extras_at freed) same ∙ ap (λ (x : Block). x.extras) none_here
+            ∙ sym (ap (extras_at table) same ∙ plain)
+        | inr apart ↦ ap (λ (x : Block). x.extras) (freed_other q apart)
+      ]
 
   uses-gone : mapped 1 number (use_at moved) ≡ remove (mapped 1 number (use_at table)) b
-  uses-gone = mapped-remove 1 number (use_at table) (use_at moved) b (use_here b refl) use_other
+  uses-gone = mapped-remove 1 number (use_at table) (use_at moved) b use_here use_other
 
   extras-gone : mapped 1 number (extras_at moved) ≡ mapped 1 number (extras_at table)
-  extras-gone =
-      mapped-same 1 number (extras_at table) (extras_at moved) (λ q first last.
-      elim (cases_eq q b) [
-        | inl same ↦ extras_here q same ∙ sym (ap (extras_at table) same ∙ plain)
-        | inr apart ↦ extras_other q apart
-      ])
+  extras-gone = mapped-same 1 number (extras_at table) (extras_at moved) (λ q first last. extras_now q)
 
   len-gone : len (mapped 1 number (use_at moved)) ≡ given - 1
   len-gone =
       ap len uses-gone ∙ len-remove nat_cmp_total (mapped 1 number (use_at table)) b
       ∙ ap (λ o. cond (is_some o) (len (mapped 1 number (use_at table)) - 1)
-      (len (mapped 1 number (use_at table)))) is
+      (len (mapped 1 number (use_at table)))) (use_is inv b its.low its.high ∙ its.use_is)
       ∙ ap (λ n. n - 1) (sym inv.counted)
 
-  -- the old chain index of what is left in the chain
-  below : (i : ℕ) → i < place → get_or short i 0 ≡ get_or chain i 0
-  below i lt = get_or-remove_below chain place 0 i lt fits
+  -- what comes after the block in the chain
+  below : (i : ℕ) → i < p → get_or short i 0 ≡ get_or chain i 0
+  below i lt = get_or-remove_below chain p 0 i lt fits
 
-  above : (i : ℕ) → place ≤ i → get_or short i 0 ≡ get_or chain (i + 1) 0
-  above i le = get_or-remove_above chain place 0 i le fits
+  above : (i : ℕ) → p ≤ i → get_or short i 0 ≡ get_or chain (i + 1) 0
+  above i le = get_or-remove_above chain p 0 i le fits
 
-  differ : (m n : ℕ) → m < n → n < length chain → get_or chain m 0 ≢ get_or chain n 0
-  differ m n lt last same =
-      let here : m ≡ n = sym (place_at number given table chains inv k m 0 (omega arith))
-      ∙ ap (λ q. (block_at table q).place) same ∙ place_at number given table chains inv k n 0 last in
-      omega arith
+  tail : (j : ℕ) → get_or (drop p short) j 0 ≡ get_or chain (p + j + 1) 0
+  tail j = get_or-drop p short j 0 ∙ above (p + j) (omega arith)
 
-  tail : (j : ℕ) → get_or (drop place short) j 0 ≡ get_or chain (place + j + 1) 0
-  tail j = get_or-drop place short j 0 ∙ above (place + j) (omega arith)
+  length-tail : length (drop p short) ≡ length chain - 1 - p
+  length-tail = omega (arith, length-drop p short, length-short)
 
-  length-tail : length (drop place short) ≡ length chain - 1 - place
-  length-tail = omega (arith, length-drop place short, length-short)
-
-  -- a block of the chain, and a block of another one
+  -- a block of the chain
   listed_was : (o : ℕ) → o < length chain → IsListed number table k (get_or chain o 0) o
   listed_was o lt = inv.linked.listed k o lt
 
-  not_b : (o : ℕ) → o < length chain → o ≢ place → get_or chain o 0 ≢ b
-  not_b o lt apart same = apart (sym (listed_was o lt).place_is ∙ ap (λ q. (block_at table q).place) same)
+  not_b : (o : ℕ) → o < length chain → o ≢ p → get_or chain o 0 ≢ b
+  not_b o lt other same =
+      other (sym (listed_was o lt).place_is ∙ ap (λ q. (block_at table q).place) same ∙ its.place_is)
 
-  place_early : (i : ℕ) → i < place → (block_at moved (get_or chain i 0)).place ≡ i
-  place_early i lt =
-      let first : i < length chain = omega (arith, fits) in
-      place_out place (drop place short) freed (get_or chain i 0)
-      (λ j in_tail same. differ i (place + j + 1) (omega arith) (omega (arith, length-tail))
-      (sym same ∙ tail j))
-      ∙ ap (λ (x : Block). x.place)
-      (block_other table b (record { kind = block.Unused; place = 0; extras = None }) inside
-      (get_or chain i 0) (not_b i first (λ same. omega arith)))
-      ∙ (listed_was i first).place_is
+  -- a block that is not after it keeps its chain index
+  place_kept : (q : ℕ) → q ≢ b → ((o : ℕ) → p < o → o < length chain → get_or chain o 0 ≢ q)
+      → (block_at moved q).place ≡ (block_at table q).place
+  place_kept q away out =
+      place_out p (drop p short) freed q
+      (λ j lt same. out (p + j + 1) (omega arith) (omega (arith, lt, length-tail)) (sym (tail j) ∙ same))
+      ∙ ap (λ (x : Block). x.place) (freed_other q away)
 
-  place_late : (i : ℕ) → place ≤ i → i < length short → (block_at moved (get_or short i 0)).place ≡ i
+  place_late : (i : ℕ) → p ≤ i → i < length short → (block_at moved (get_or short i 0)).place ≡ i
   place_late i le lt =
-      let at : get_or (drop place short) (i - place) 0 ≡ get_or short i 0 =
-      get_or-drop place short (i - place) 0 ∙ ap (λ n. get_or short n 0) (omega arith) in
+      let in_tail : get_or (drop p short) (i - p) 0 ≡ get_or short i 0 =
+      get_or-drop p short (i - p) 0 ∙ ap (λ n. get_or short n 0) (omega arith) in
       let o : IsListed number table k (get_or chain (i + 1) 0) (i + 1) =
       listed_was (i + 1) (omega (arith, length-short)) in
-      ap (λ q. (block_at moved q).place) (sym at)
-      ∙ place_in place (drop place short) freed (i - place) (omega (arith, length-tail, length-short))
-      (λ m n before last same. differ (place + m + 1) (place + n + 1) (omega arith)
+      ap (λ q. (block_at moved q).place) (sym in_tail)
+      ∙ place_in p (drop p short) freed (i - p) (omega (arith, length-tail, length-short))
+      (λ m n before last same. apart inv k (p + m + 1) (p + n + 1) 0 (omega arith)
       (omega (arith, length-tail)) (sym (tail m) ∙ same ∙ tail n))
       (omega (
         arith,
-        at,
+        in_tail,
         above i le,
         o.high,
         length-set table b
@@ -262,234 +242,128 @@ module _ (number given : ℕ) (table : List Block) (chains : List (List ℕ))
       ))
       ∙ omega arith
 
-  listed_here : (i : ℕ) → i < length short → IsListed number moved k (get_or short i 0) i
+  pub listed_here : (i : ℕ) → i < length short → IsListed number moved k (get_or short i 0) i
   listed_here i lt =
-      elim (cases_lt i place) [
+      elim (cases_lt i p) [
         | inl early ↦
-            let o : IsListed number table k (get_or chain i 0) i = listed_was i (omega (arith, fits)) in
+            let first : i < length chain = omega (arith, fits) in
+            let away : get_or chain i 0 ≢ b = not_b i first (λ same. omega arith) in
             subst (λ q. IsListed number moved k q i) (sym (below i early))
-            (record {
-              low = o.low;
-              high = o.high;
-              use_is =
-                  use_other _ (not_b i (omega (arith, fits)) (λ same. omega arith)) ∙ o.use_is;
-              place_is =
-                  place_early i early;
-            })
+            (listed_like (use_other _ away) (place_kept _ away
+            (λ o after last same. apart inv k i o 0 (omega arith) last (sym same))) (listed_was i first))
         | inr late ↦
-            let o : IsListed number table k (get_or chain (i + 1) 0) (i + 1) =
-            listed_was (i + 1) (omega (arith, length-short)) in
-            let apart : get_or chain (i + 1) 0 ≢ b =
-            not_b (i + 1) (omega (arith, length-short)) (λ same. omega arith) in
+            let next : i + 1 < length chain = omega (arith, length-short) in
+            let o : IsListed number table k (get_or chain (i + 1) 0) (i + 1) = listed_was (i + 1) next in
             record {
               low = omega (arith, above i late, o.low);
               high = omega (arith, above i late, o.high);
-              use_is = ap (use_at moved) (above i late) ∙ use_other _ apart ∙ o.use_is;
+              use_is = ap (use_at moved) (above i late)
+                  ∙ use_other _ (not_b (i + 1) next (λ same. omega arith)) ∙ o.use_is;
               place_is = place_late i late lt;
             }
       ]
 
-  -- where a block of the kind is now
-  left : (q : ℕ) → 1 ≤ q → q ≤ number → use_at moved q ≡ Some (handles_of k)
-      → (i : ℕ) × ((i < length short) × (get_or short i 0 ≡ q))
-  left q first last now =
-      let apart : q ≢ b = λ same. none_is_some _ (use_here q same) (some_of _ _ now) in
-      let was : use_at table q ≡ Some (handles_of k) = sym (use_other q apart) ∙ now in
-      let old : (block_at table q).place < length chain = inv.linked.within k q first last was in
-      let at : get_or chain (block_at table q).place 0 ≡ q = inv.linked.standing k q first last was in
-      elim (cases_order (block_at table q).place place) [
-        | inl same ↦ absurd (apart (sym at ∙ ap (λ n. get_or chain n 0) same ∙ stands))
-        | inr (inl early) ↦ (
-          (block_at table q).place,
-          (omega (arith, length-short, fits), below (block_at table q).place early ∙ at),
-        )
-        | inr (inr late) ↦ (
-          (block_at table q).place - 1,
-          (
-            omega (arith, length-short),
-            above ((block_at table q).place - 1) (omega arith)
-                ∙ ap (λ n. get_or chain n 0) (omega arith) ∙ at,
-          ),
-        )
-      ]
+  was : (j : Kind) (q : ℕ) → use_at moved q ≡ Some (handles_of j)
+      → (q ≢ b) × (use_at table q ≡ Some (handles_of j))
+  was j q now =
+      let away : q ≢ b = λ same. none_is_some _ (ap (use_at moved) same ∙ use_here) (some_of _ _ now) in
+      (away, sym (use_other q away) ∙ now)
 
-  -- a block of another kind keeps its chain index
-  place_other : (j : Kind) (q : ℕ) → kind_number j ≢ kind_number k → use_at table q ≡ Some (handles_of j)
-      → (block_at moved q).place ≡ (block_at table q).place
-  place_other j q apart was =
-      let not_here : (o : ℕ) → o < length chain → get_or chain o 0 ≢ q =
-      λ o lt same. apart (ap kind_number
-      (one_kind (use_at table q) j k was (ap (use_at table) (sym same) ∙ (listed_was o lt).use_is))) in
-      place_out place (drop place short) freed q
-      (λ m lt same. not_here (place + m + 1) (omega (arith, length-tail)) (sym (tail m) ∙ same))
-      ∙ ap (λ (x : Block). x.place)
-      (block_other table b (record { kind = block.Unused; place = 0; extras = None }) inside q
-      (λ same. not_here place fits (stands ∙ sym same)))
+  found_here : (q : ℕ) → 1 ≤ q → q ≤ number → use_at moved q ≡ Some (handles_of k) → Contains short q
+  found_here q first last now =
+      Contains-remove chain p q (found_in inv.linked k q first last (was k q now).1) fits
+      (λ same. (was k q now).0 (sym same ∙ stands))
 
-  other_was : (j : Kind) (q : ℕ) → use_at moved q ≡ Some (handles_of j) → use_at table q ≡ Some (handles_of j)
-  other_was j q now =
-      let apart : q ≢ b = λ same. none_is_some _ (use_here q same) (some_of _ _ now) in
-      sym (use_other q apart) ∙ now
-
-  its_chain : get_or with_short (kind_number k) [] ≡ short
-  its_chain = get_or-set_same chains (kind_number k) short [] (omega (arith, few_kinds k, inv.linked.kinds))
-
-  other_chain : (j : Kind) → kind_number j ≢ kind_number k → get_or with_short (kind_number j) []
-      ≡ get_or chains (kind_number j) []
-  other_chain j apart = get_or-set_other chains (kind_number k) (kind_number j) short [] apart
-
-  within_here : (q : ℕ) → 1 ≤ q → q ≤ number → use_at moved q ≡ Some (handles_of k)
-      → (block_at moved q).place < length (get_or with_short (kind_number k) [])
-  within_here q first last now =
-      let at : (i : ℕ) × ((i < length short) × (get_or short i 0 ≡ q)) = left q first last now in
-      omega (
-        arith,
-        ap length its_chain,
-        at.1.0,
-        ap (λ r. (block_at moved r).place) (sym at.1.1),
-        (listed_here at.0 at.1.0).place_is,
-      )
-
-  standing_here : (q : ℕ) → 1 ≤ q → q ≤ number → use_at moved q ≡ Some (handles_of k)
-      → get_or (get_or with_short (kind_number k) []) (block_at moved q).place 0 ≡ q
-  standing_here q first last now =
-      let at : (i : ℕ) × ((i < length short) × (get_or short i 0 ≡ q)) = left q first last now in
-      ap (λ xs. get_or xs (block_at moved q).place 0) its_chain
-      ∙ ap (λ n. get_or short n 0) (ap (λ r. (block_at moved r).place) (sym at.1.1)
-      ∙ (listed_here at.0 at.1.0).place_is) ∙ at.1.1
-
-  within-gone : (j : Kind) (q : ℕ) → 1 ≤ q → q ≤ number → use_at moved q ≡ Some (handles_of j)
-      → (block_at moved q).place < length (get_or with_short (kind_number j) [])
-  within-gone j q first last now =
-      elim (cases_kind j k) [
-        | inl same ↦ subst (λ (i : Kind). use_at moved q ≡ Some (handles_of i)
-            → (block_at moved q).place < length (get_or with_short (kind_number i) [])) (sym same)
-            (within_here q first last) now
-        | inr apart ↦ omega (
-          arith,
-          ap length (other_chain j apart),
-          place_other j q apart
-              (other_was j q now),
-          inv.linked.within j q first last (other_was j q now),
-        )
-      ]
-
-  standing-gone : (j : Kind) (q : ℕ) → 1 ≤ q → q ≤ number → use_at moved q ≡ Some (handles_of j)
-      → get_or (get_or with_short (kind_number j) []) (block_at moved q).place 0 ≡ q
-  standing-gone j q first last now =
-      elim (cases_kind j k) [
-        | inl same ↦ subst (λ (i : Kind). use_at moved q ≡ Some (handles_of i)
-            → get_or (get_or with_short (kind_number i) []) (block_at moved q).place 0 ≡ q) (sym same)
-            (standing_here q first last) now
-        | inr apart ↦ ap (λ xs. get_or xs (block_at moved q).place 0) (other_chain j apart)
-            ∙ ap (λ n. get_or (get_or chains (kind_number j) []) n 0)
-            (place_other j q apart (other_was j q now))
-            ∙ inv.linked.standing j q first last (other_was j q now)
-      ]
-
-  listed_other : (j : Kind) (i : ℕ) → kind_number j ≢ kind_number k
-      → i < length (get_or chains (kind_number j) [])
-      → IsListed number moved j (get_or (get_or chains (kind_number j) []) i 0) i
-  listed_other j i apart lt =
-      let it : IsListed number table j (get_or (get_or chains (kind_number j) []) i 0) i =
-      inv.linked.listed j i lt in
-      let not_here : get_or (get_or chains (kind_number j) []) i 0 ≢ b =
-      λ same. apart (ap kind_number
-      (one_kind (use_at table b) j k (ap (use_at table) (sym same) ∙ it.use_is) use_was)) in
-      record {
-        low = it.low;
-        high = it.high;
-        use_is = use_other _ not_here ∙ it.use_is;
-        place_is =
-            place_other j _ apart it.use_is ∙ it.place_is;
-      }
-
-  listed-gone : (j : Kind) (i : ℕ) → i < length (get_or with_short (kind_number j) [])
-      → IsListed number moved j (get_or (get_or with_short (kind_number j) []) i 0) i
-  listed-gone j i lt =
-      elim (cases_kind j k) [
-        | inl same ↦ subst (λ (m : Kind). i < length (get_or with_short (kind_number m) [])
-            → IsListed number moved m (get_or (get_or with_short (kind_number m) []) i 0) i) (sym same)
-            (λ now. subst (λ xs. IsListed number moved k (get_or xs i 0) i) (sym its_chain)
-            (listed_here i (omega (arith, now, ap length its_chain)))) lt
-        | inr apart ↦ subst (λ xs. IsListed number moved j (get_or xs i 0) i) (sym (other_chain j apart))
-            (listed_other j i apart (omega (arith, lt, ap length (other_chain j apart))))
-      ]
-
-  -- the blocks after it
-  pub blocks-gone : IsBlocks number (given - 1) moved with_short
-  blocks-gone = record {
-    limit = inv.limit;
-    size = length-numbered place (drop place short) freed
-        ∙ length-set table b (record { kind = block.Unused; place = 0; extras = None }) ∙ inv.size;
-    counted = sym len-gone;
-    spare = omega (
-      arith,
-      sum_by-set length chains (kind_number k) short []
-          (omega (arith, few_kinds k, inv.linked.kinds)),
-      length-short,
-      inv.spare,
-    );
-    linked = record {
-      kinds = length-set chains (kind_number k) short ∙ inv.linked.kinds;
-      within = within-gone;
-      standing = standing-gone;
-      listed = listed-gone;
-    };
-    plain = λ q none.
-        elim (cases_eq q b) [
-          | inl same ↦ extras_here q same
-          | inr apart ↦ extras_other q apart ∙ inv.plain q (sym (use_other q apart) ∙ none)
-        ];
-  }
+  -- a block of another kind
+  kept : (j : Kind) (q i : ℕ) → kind_number j ≢ kind_number k → IsListed number table j q i
+      → IsListed number moved j q i
+  kept j q i other is =
+      let out : (o : ℕ) → o < length chain → get_or chain o 0 ≢ q =
+      λ o lt same. other (ap kind_number (one_kind (use_at table q) j k is.use_is
+      (ap (use_at table) (sym same) ∙ (listed_was o lt).use_is))) in
+      let away : q ≢ b = λ same. out p fits (stands ∙ sym same) in
+      listed_like (use_other q away) (place_kept q away (λ o after last. out o last)) is
 
   -- the chain without the block
   filtered : filter (λ x. not (x == b)) chain ≡ short
   filtered =
-      filter-one (λ x. not (x == b)) chain place fits (ap not (eq-eqb (get_or chain place 0) b stands))
-      (λ j lt apart. ap not (ne_eqb (get_or chain j 0) b (not_b j lt apart)))
+      filter-one (λ x. not (x == b)) chain p fits (ap not (eq-eqb (get_or chain p 0) b stands))
+      (λ j lt other. ap not (ne_eqb (get_or chain j 0) b (not_b j lt other)))
 
-  pub view-gone : (u : Uses) → uses_in number table chains ≡ u → uses_in number moved with_short
-      ≡ record u { table = without_block u.table k b }
-  view-gone u now =
-      (λ i. record {
-        table = record {
-          rows = empty;
-          chains = set chains (kind_number k) (sym filtered i);
-          uses =
-              uses-gone i;
-          blocks = number;
-        };
-        extras = extras-gone i;
-      })
-      ∙ ap (λ (v : Uses). record v { table = without_block v.table k b }) now
+  pub length-moved : length moved ≡ length table
+  length-moved = length-numbered p (drop p short) freed
+      ∙ length-set table b (record { kind = block.Unused; place = 0; extras = None })
+
+  -- the blocks after it, as the program wrote them
+  module _ {chain_now : List ℕ} (short_is : chain_now ≡ short) {freed_now new : List Block} (ys : List Block)
+      {n : ℕ}
+      (freed_is : freed_now ≡ freed) (renumbered : new ≡ numbered p (drop p chain_now) freed_now)
+      (size : n ≡ length table) {cs : List (List ℕ)} (chains_are : set chains (kind_number k) chain_now ≡ cs)
+    where
+      moved_is : new ≡ moved
+      moved_is = renumbered ∙ (λ i. numbered p (drop p (short_is i)) (freed_is i))
+
+      after_is : moved ≡ take n (new ++ drop (length new) ys)
+      after_is =
+          sym (take_at new (drop (length new) ys) n (ap length moved_is ∙ length-moved ∙ sym size) ∙ moved_is)
+
+      cs_are : set chains (kind_number k) short ≡ cs
+      cs_are = ap (set chains (kind_number k)) (sym short_is) ∙ chains_are
+
+      pub blocks-gone : IsBlocks number (given - 1) (take n (new ++ drop (length new) ys)) cs
+      blocks-gone =
+          subst (λ xs. IsBlocks number (given - 1) xs cs) after_is
+          (subst (λ xs. IsBlocks number (given - 1) moved xs) cs_are
+          (record {
+            limit = inv.limit;
+            size = length-moved ∙ inv.size;
+            counted = sym len-gone;
+            spare = omega (
+              arith,
+              sum_by-set length chains (kind_number k) short []
+                  (omega (arith, few_kinds k, inv.linked.kinds)),
+              length-short,
+              inv.spare,
+            );
+            linked = linked_with inv.linked k short listed_here found_here kept
+                (λ j q now other. (was j q now).1);
+            plain = λ q none.
+                extras_now q
+                ∙ elim (cases_eq q b) [
+                  | inl same ↦ ap (extras_at table) same ∙ plain
+                  | inr away ↦ inv.plain q (sym (use_other q away) ∙ none)
+                ];
+          }))
+
+      pub view-gone : uses_in number (take n (new ++ drop (length new) ys)) cs
+          ≡ record u { table = without_block u.table k b }
+      view-gone =
+          sym (λ i. uses_in number (after_is i) (cs_are i))
+          ∙ (λ i. record {
+            table = record {
+              rows = empty;
+              chains = set chains (kind_number k) (sym filtered i);
+              uses = uses-gone i;
+              blocks = number;
+            };
+            extras = extras-gone i;
+          })
+          ∙ ap (λ (v : Uses). record v { table = without_block v.table k b }) seen
 
   -- one block at least is in use
   pub one_used : 1 ≤ given
-  one_used = omega (
-    arith,
-    sum_by-set length chains (kind_number k) [] []
-        (omega (arith, few_kinds k, inv.linked.kinds)),
-    fits,
-    inv.spare,
-  )
+  one_used = omega (arith, chain_short inv k, fits)
 
   -- what is left in the chain
-  pub short_fits : (i : ℕ)
-      → i < length (list.remove (get_or chains (kind_number k) []) (block_at table b).place)
-      → get_or (list.remove (get_or chains (kind_number k) []) (block_at table b).place) i 0 < length table
+  pub short_fits : (i : ℕ) → i < length short → get_or short i 0 < length table
   short_fits i lt = omega (arith, (listed_here i lt).high, inv.size)
 
-  pub short_few : length (list.remove (get_or chains (kind_number k) []) (block_at table b).place) ≤ 256
+  pub short_few : length short ≤ 256
   short_few = omega (
     arith,
     length-short,
-    chain_short number given table chains inv k (few_kinds k),
+    chain_short inv k,
     inv.counted,
     len-mapped_le 1 number (use_at table),
     inv.limit,
   )
-
-  pub length-moved : length moved ≡ length table
-  length-moved = length-numbered place (drop place short) freed
-      ∙ length-set table b (record { kind = block.Unused; place = 0; extras = None })

@@ -1,25 +1,27 @@
 -- Blocks and chains: what their fields mean for the table without its rows.
-use Rattle.std.proofs.Common.{◌≡◌, ◌≢◌, ℕ, zero, suc, ◌+◌, ◌<◌, ◌≤◌, true, List, [], ◌∷◌, ◌++◌, length, get_or, Option, Some, None, IsSome, All, AllPairs, Contains, Vec, Global, vec_capacity, map, refl, sym, ap, ◌∙◌, subst, arith, length-append}
+use Rattle.std.proofs.Common.{◌≡◌, ◌≢◌, ℕ, suc, ◌+◌, ◌<◌, ◌≤◌, true, List, [], ◌∷◌, ◌++◌, length, get_or, set, Option, Some, None, IsSome, All, AllPairs, Contains, Vec, Global, vec_capacity, map, refl, sym, ap, ◌∙◌, subst, inl, inr, arith, length-append}
 use Rattle.std.specs.Prelude.{is_some, slice_get}
 use Rattle.std.specs.Borrow.{Bor}
 use Rattle.std.specs.Slice.{IsItemAt}
 use Rattle.std.specs.Option.{option_copied}
-use Rattle.std.proofs.lemmas.Option.{slice_get_past}
+use Rattle.std.proofs.lemmas.Option.{get_or_from_slice_get, slice_get-get_or, slice_get_past, slice_get_read, slice_get_within}
 use Rattle.std.specs.FinMap.{get, len, get-empty, len-empty}
 use Rattle.std.specs.Ordering.{nat_cmp}
-use Rattle.std.proofs.lemmas.Bool.{true≢false}
-use Rattle.std.proofs.lemmas.List.{get_or_default, get_or_at, get_or-map}
+use Rattle.std.proofs.lemmas.Bool.{cases_eq, true≢false}
+use Rattle.std.proofs.lemmas.List.{get_or_default, get_or_at, get_or-map, get_or_read, get_or-set_same, get_or-set_other, length-set, length-map, map-set}
+use Rattle.std.proofs.lemmas.List.Elements.{All-set}
 use Rattle.std.proofs.lemmas.List.Sums.{sum_by-set}
 use Rattle.hd_model.specs.declared.data.Addr.{Addr}
 use Rattle.hd_model.specs.declared.data.Kind.{Kind}
 use Rattle.hd_model.specs.State.{Handle, BlockUse, handles_of, extra_data}
 use Rattle.hd_model.specs.Kinds.{kind_number}
-use Rattle.hd_model.specs.Table.{IsTable, has_handles, kind_in}
+use Rattle.hd_model.specs.Table.{IsTable, chain_of, has_handles, kind_at, kind_in}
+use Rattle.hd_model.proofs.KindTests.{same_number, few_kinds}
 use Rattle.hd_seg.specs.declared.row.BlockKind.{BlockKind}
 use Rattle.hd_seg.specs.declared.row.BlockKind.TheVariants as block
 use Rattle.hd_seg.specs.declared.block.Block.{Block}
 use Rattle.hd_seg.specs.Row.{block_kind_of}
-use Rattle.hd_seg.specs.Blocks.{Uses, use_of, block_at, use_at, extras_at, uses_in, HasUnused, IsListed, IsBlocks}
+use Rattle.hd_seg.specs.Blocks.{Uses, use_of, block_at, use_at, extras_at, uses_in, HasUnused, IsListed, IsLinked, IsBlocks}
 use Rattle.hd_seg.specs.Mapped.{mapped}
 use Rattle.hd_seg.proofs.FunctionMaps.{get-mapped, within, len-mapped_le, unanswered}
 
@@ -42,7 +44,87 @@ handles_in None is = absurd (true≢false (sym is))
 handles_in (Some (handles_of k)) is = refl
 handles_in (Some extra_data) is = absurd (true≢false (sym is))
 
-module _ (number given : ℕ) (table : List Block) (chains : List (List ℕ))
+-- ---- chains that list blocks
+
+-- two uses of one block are of one kind
+pub one_kind : (o : Option BlockUse) (j k : Kind) → o ≡ Some (handles_of j) → o ≡ Some (handles_of k) → j ≡ k
+one_kind o j k is is' = sym (ap kind_in is) ∙ ap kind_in is'
+
+-- a block of which only the data block is changed is listed as before
+pub listed_like : {number : ℕ} {table after : List Block} {k : Kind} {b i : ℕ}
+    → use_at after b ≡ use_at table b → (block_at after b).place ≡ (block_at table b).place
+    → IsListed number table k b i → IsListed number after k b i
+listed_like used place is =
+    record { low = is.low; high = is.high; use_is = used ∙ is.use_is; place_is = place ∙ is.place_is }
+
+pub found_in : {number : ℕ} {table : List Block} {chains : List (List ℕ)} → IsLinked number table chains
+    → (k : Kind) (b : ℕ) → 1 ≤ b → b ≤ number → use_at table b ≡ Some (handles_of k)
+    → Contains (get_or chains (kind_number k) []) b
+found_in {number} {table} {chains} linked k b low high is =
+    let lt = linked.within k b low high is in (
+      (block_at table b).place,
+      lt,
+      get_or_default (get_or chains (kind_number k) []) (block_at table b).place b 0 lt
+          ∙ linked.standing k b low high is,
+    )
+
+-- it is enough that each chain lists its blocks, and that each block of handles is in a chain
+pub linked_by : {number : ℕ} {table : List Block} {chains : List (List ℕ)} → length chains ≡ 7
+    → ((k : Kind) (i : ℕ) → i < length (get_or chains (kind_number k) [])
+    → IsListed number table k (get_or (get_or chains (kind_number k) []) i 0) i)
+    → ((k : Kind) (b : ℕ) → 1 ≤ b → b ≤ number → use_at table b ≡ Some (handles_of k)
+    → Contains (get_or chains (kind_number k) []) b)
+    → IsLinked number table chains
+linked_by {number} {table} {chains} kinds listed found = record {
+  kinds = kinds;
+  within = λ k b low high is.
+      let h = found k b low high is in
+      let lt = h.1 in omega (arith, lt, place k b h);
+  standing = λ k b low high is.
+      let h = found k b low high is in
+      ap (λ i. get_or (get_or chains (kind_number k) []) i 0) (place k b h) ∙ at k b h;
+  listed = listed;
+}
+  where
+    at : (k : Kind) (b : ℕ) (h : Contains (get_or chains (kind_number k) []) b)
+        → get_or (get_or chains (kind_number k) []) h.0 0 ≡ b
+    at k b h = get_or_default (get_or chains (kind_number k) []) h.0 0 b h.1 ∙ h.2
+
+    place : (k : Kind) (b : ℕ) (h : Contains (get_or chains (kind_number k) []) b) → (block_at table b).place
+        ≡ h.0
+    place k b h = ap (λ q. (block_at table q).place) (sym (at k b h)) ∙ (listed k h.0 h.1).place_is
+
+-- one kind gets another chain, and blocks of other kinds stay
+module _ {number : ℕ} {table after : List Block} {chains : List (List ℕ)} (was : IsLinked number table chains)
+    (k : Kind) (chain : List ℕ)
+    (listed : (i : ℕ) → i < length chain → IsListed number after k (get_or chain i 0) i)
+    (found : (b : ℕ) → 1 ≤ b → b ≤ number → use_at after b ≡ Some (handles_of k) → Contains chain b)
+    (kept : (j : Kind) (b i : ℕ) → kind_number j ≢ kind_number k → IsListed number table j b i
+    → IsListed number after j b i)
+    (use_was : (j : Kind) (b : ℕ) → use_at after b ≡ Some (handles_of j) → kind_number j ≢ kind_number k
+    → use_at table b ≡ Some (handles_of j)) where
+  by_kind : (P : Kind → List ℕ → Type 0) → P k chain
+      → ((j : Kind) → kind_number j ≢ kind_number k → P j (get_or chains (kind_number j) []))
+      → (j : Kind) → P j (get_or (set chains (kind_number k) chain) (kind_number j) [])
+  by_kind P here there j =
+      elim (cases_eq (kind_number j) (kind_number k)) [
+        | inl same ↦ subst (λ i. P i (get_or (set chains (kind_number k) chain) (kind_number i) []))
+            (sym (same_number j k same))
+            (subst (P k) (sym (get_or-set_same chains (kind_number k) chain []
+            (omega (arith, few_kinds k, was.kinds)))) here)
+        | inr apart ↦ subst (P j)
+            (sym (get_or-set_other chains (kind_number k) (kind_number j) chain [] apart)) (there j apart)
+      ]
+
+  pub linked_with : IsLinked number after (set chains (kind_number k) chain)
+  linked_with =
+      linked_by (length-set chains (kind_number k) chain ∙ was.kinds)
+      (by_kind (λ j cs. (i : ℕ) → i < length cs → IsListed number after j (get_or cs i 0) i) listed
+      (λ j apart i lt. kept j _ i apart (was.listed j i lt)))
+      (by_kind (λ j cs. (b : ℕ) → 1 ≤ b → b ≤ number → use_at after b ≡ Some (handles_of j) → Contains cs b)
+      found (λ j apart b low high is. found_in was j b low high (use_was j b is apart)))
+
+module _ {number given : ℕ} {table : List Block} {chains : List (List ℕ)}
     (inv : IsBlocks number given table chains) where
   -- the use of a block, and its data block
   pub use_is : (b : ℕ) → 1 ≤ b → b ≤ number → get (mapped 1 number (use_at table)) b ≡ use_at table b
@@ -69,7 +151,7 @@ module _ (number given : ℕ) (table : List Block) (chains : List (List ℕ))
       ap (λ b. (block_at table b).place) (get_or_default (get_or chains (kind_number k) []) i d 0 lt)
       ∙ (inv.linked.listed k i lt).place_is
 
-  apart : (k : Kind) → AllPairs (λ x y. x ≢ y) (get_or chains (kind_number k) [])
+  pub apart : (k : Kind) → AllPairs (λ x y. x ≢ y) (get_or chains (kind_number k) [])
   apart k i j d lt below same =
       let here : i ≡ j = sym (place_at k i d (omega arith)) ∙ ap (λ b. (block_at table b).place) same
       ∙ place_at k j d below in
@@ -87,15 +169,7 @@ module _ (number given : ℕ) (table : List Block) (chains : List (List ℕ))
 
   of_chain : (k : Kind) (b : ℕ) → get (mapped 1 number (use_at table)) b ≡ Some (handles_of k)
       → Contains (get_or chains (kind_number k) []) b
-  of_chain k b is =
-      let at : (1 ≤ b) × (b ≤ number) × (use_at table b ≡ Some (handles_of k)) = listed_use k b is in
-      let place : (block_at table b).place < length (get_or chains (kind_number k) []) =
-      inv.linked.within k b at.0 at.1 at.2 in (
-        (block_at table b).place,
-        place,
-        get_or_default (get_or chains (kind_number k) [])
-            (block_at table b).place b 0 place ∙ inv.linked.standing k b at.0 at.1 at.2,
-      )
+  of_chain k b is = let at = listed_use k b is in found_in inv.linked k b at.0 at.1 at.2
 
   -- blocks and chains make a table
   pub is_table : IsTable (uses_in number table chains).table
@@ -123,56 +197,112 @@ module _ (number given : ℕ) (table : List Block) (chains : List (List ℕ))
             found.1.1.1;
       }
 
-  -- a block that is in a chain between two lists is followed by the first of the second
-  pub follows : (k : Kind) (b : ℕ) (before after : List ℕ) → get_or chains (kind_number k) []
-      ≡ before ++ b ∷ after → (block_at table b).place ≡ length before
-  follows k b before after is =
+  -- a block that is in a chain between two lists comes after those of the first
+  pub follows : (k : Kind) (b p : ℕ) (before after : List ℕ) → get_or chains (kind_number k) []
+      ≡ before ++ b ∷ after → slice_get (get_or chains (kind_number k) []) p ≡ Some b → p ≡ length before
+  follows k b p before after is at =
       let lt : length before < length (get_or chains (kind_number k) []) =
       omega (arith, ap length is, length-append before (b ∷ after)) in
       let here : get_or (get_or chains (kind_number k) []) (length before) 0 ≡ b =
       ap (λ xs. get_or xs (length before) 0) is ∙ get_or_at before b after 0 (length before) refl in
-      ap (λ x. (block_at table x).place) (sym here) ∙ place_at k (length before) 0 lt
+      sym (place_at k p 0 (slice_get_within (get_or chains (kind_number k) []) p b at))
+      ∙ ap (λ x. (block_at table x).place)
+      (get_or_from_slice_get (get_or chains (kind_number k) []) p b 0 at ∙ sym here)
+      ∙ place_at k (length before) 0 lt
+
+  -- no chain has more blocks than are in use
+  pub chain_short : (k : Kind) → length (get_or chains (kind_number k) []) ≤ given
+  chain_short k =
+      omega (
+        arith,
+        sum_by-set length chains (kind_number k) [] [] (omega (arith, few_kinds k, inv.linked.kinds)),
+        inv.spare,
+      )
 
 -- fewer blocks are in use than there are
-pub few_of : (number : ℕ) (table : List Block) (chains : List (List ℕ)) (u : Uses)
+pub few_of : {number : ℕ} (table : List Block) {chains : List (List ℕ)} {u : Uses}
     → uses_in number table chains ≡ u → len u.table.uses < u.table.blocks
     → len (mapped 1 number (use_at table)) < number
-few_of number table chains u is few =
+few_of table is few =
     omega (arith, few, ap (λ (v : Uses). len v.table.uses) is, ap (λ (v : Uses). v.table.blocks) is)
 
--- no chain has more blocks than are in use
-pub chain_short : (number given : ℕ) (table : List Block) (chains : List (List ℕ))
-    → IsBlocks number given table chains → (k : Kind) → kind_number k < 7
-    → length (get_or chains (kind_number k) []) ≤ given
-chain_short number given table chains inv k small =
-    omega (
-      arith,
-      sum_by-set length chains (kind_number k) [] [] (omega (arith, small, inv.linked.kinds)),
-      inv.spare,
-    )
+-- a block of handles, as it is read in the table
+module _ {number given : ℕ} {table : List Block} {chains : List (List ℕ)}
+    (inv : IsBlocks number given table chains) {u : Uses} (seen : uses_in number table chains ≡ u)
+    (b : ℕ) (handles : has_handles (get u.table.uses b) ≡ true) where
+  at_block : (1 ≤ b) × (b ≤ number) × (use_at table b ≡ Some (handles_of (kind_at u.table b)))
+  at_block = listed_use inv (kind_at u.table b) b
+      (ap (λ (v : Uses). get v.table.uses b) seen ∙ handles_in (get u.table.uses b) handles)
 
--- the chain that is read at the number of a kind
-pub chain_read : (vs : List (Vec ℕ Global)) (n : ℕ) (v : Vec ℕ Global) → v ≡ get_or vs n v → n < length vs
-    → get_or (map (λ (w : Vec ℕ Global). w.items) vs) n [] ≡ v.items
-chain_read vs n v is lt = get_or-map (λ (w : Vec ℕ Global). w.items) vs n v [] lt
-    ∙ ap (λ (w : Vec ℕ Global). w.items) (sym is)
+  pub block_inside : b < length table
+  block_inside = omega (arith, at_block.1, inv.size)
 
-pub room_read : (number : ℕ) (vs : List (Vec ℕ Global)) (n : ℕ) (v : Vec ℕ Global) → v ≡ get_or vs n v
-    → n < length vs → All (λ (w : Vec ℕ Global). number ≤ vec_capacity w) vs → number ≤ vec_capacity v
-room_read number vs n v is lt rooms = subst (λ (w : Vec ℕ Global). number ≤ vec_capacity w) (sym is)
-    (rooms n v lt)
+  module _ (x : Block) (read : x ≡ get_or table b x) where
+    is_read : x ≡ block_at table b
+    is_read = get_or_read table b x block_inside read _
+
+    pub read_use : use_of x.kind ≡ Some (handles_of (kind_at u.table b))
+    read_use = ap (λ (y : Block). use_of y.kind) is_read ∙ at_block.2
+
+    listed_in : (block_at table b).place < length (get_or chains (kind_number (kind_at u.table b)) [])
+    listed_in = inv.linked.within (kind_at u.table b) b at_block.0 at_block.1 at_block.2
+
+    pub read_place : slice_get (chain_of u.table (kind_at u.table b)) x.place ≡ Some b
+    read_place =
+        ap (λ (y : Block). slice_get (chain_of u.table (kind_at u.table b)) y.place) is_read
+        ∙ ap (λ (v : Uses). slice_get (chain_of v.table (kind_at u.table b)) (block_at table b).place) (sym
+        seen)
+        ∙ slice_get-get_or _ (block_at table b).place 0 listed_in
+        ∙ ap Some (inv.linked.standing (kind_at u.table b) b at_block.0 at_block.1 at_block.2)
+
+    pub read_small : x.place < 256
+    read_small =
+        omega (
+          arith,
+          ap (λ (y : Block). y.place) is_read,
+          listed_in,
+          chain_short inv (kind_at u.table b),
+          inv.counted,
+          len-mapped_le 1 number (use_at table),
+          inv.limit,
+        )
+
+-- a chain that is read and written at the number of its kind
+module _ {number given : ℕ} {table : List Block} (vs : List (Vec ℕ Global))
+    (inv : IsBlocks number given table (map (λ (w : Vec ℕ Global). w.items) vs)) (k : Kind) {n : ℕ}
+    (n_is : n ≡ kind_number k) {v : Vec ℕ Global} (read : v ≡ get_or vs n v) where
+  pub number_in : n < length vs
+  number_in =
+      omega (arith, n_is, few_kinds k, inv.linked.kinds, length-map vs (λ (w : Vec ℕ Global). w.items))
+
+  pub chain_read : get_or (map (λ (w : Vec ℕ Global). w.items) vs) (kind_number k) [] ≡ v.items
+  chain_read =
+      ap (λ m. get_or (map (λ (w : Vec ℕ Global). w.items) vs) m []) (sym n_is)
+      ∙ get_or-map (λ (w : Vec ℕ Global). w.items) vs n v [] number_in
+      ∙ ap (λ (w : Vec ℕ Global). w.items) (sym read)
+
+  pub room_read : All (λ (w : Vec ℕ Global). number ≤ vec_capacity w) vs → number ≤ vec_capacity v
+  room_read rooms = subst (λ (w : Vec ℕ Global). number ≤ vec_capacity w) (sym read) (rooms n v number_in)
+
+  pub chain_written : (w : Vec ℕ Global) (xs : List ℕ) → w.items ≡ xs
+      → set (map (λ (w : Vec ℕ Global). w.items) vs) (kind_number k) xs
+      ≡ map (λ (w : Vec ℕ Global). w.items) (set vs n w)
+  chain_written w xs is =
+      (λ i. set (map (λ (w : Vec ℕ Global). w.items) vs) (sym n_is i) (sym is i))
+      ∙ sym (map-set (λ (w : Vec ℕ Global). w.items) vs n w)
+
+  pub rooms_written : (w : Vec ℕ Global) → vec_capacity w ≡ vec_capacity v
+      → All (λ (w : Vec ℕ Global). number ≤ vec_capacity w) vs
+      → All (λ (w : Vec ℕ Global). number ≤ vec_capacity w) (set vs n w)
+  rooms_written w same rooms =
+      All-set (λ (w : Vec ℕ Global). number ≤ vec_capacity w) vs n w (omega (arith, same, room_read rooms))
+      rooms
 
 -- what is read at an index of a list
-slice_get_is : {A : Type 0} (xs : List A) (i : ℕ) (x : A) → i < length xs → x ≡ get_or xs i x
-    → slice_get xs i ≡ Some x
-slice_get_is [] i x lt is = absurd (omega arith)
-slice_get_is (y ∷ ys) zero x lt is = ap Some (sym is)
-slice_get_is (y ∷ ys) (suc i) x lt is = slice_get_is ys i x (omega arith) is
-
 pub got : {A : Type 0} (xs : List A) (i : ℕ) (r : Option (Bor A)) → IsItemAt xs i r
     → option_copied r ≡ slice_get xs i
 got xs i None is = sym (slice_get_past xs i is.3)
-got xs i (Some x) is = sym (slice_get_is xs i x.now is.3.0 is.1)
+got xs i (Some x) is = sym (slice_get_read xs (length xs) i x.now refl is.3.0 is.1)
 
 pub slice_get-after : {A : Type 0} (before : List A) (x : A) (after : List A)
     → slice_get (before ++ x ∷ after) (suc (length before)) ≡ slice_get after 0

@@ -1,42 +1,30 @@
 -- The map of a function's values: the value of a key, one entry more or fewer, and the number of entries.
 use Rattle.std.proofs.Common.{◌≡◌, ◌≢◌, ◌⊎◌, ℕ, zero, suc, ◌+◌, ◌<◌, ◌≤◌, Bool, true, false, cond, List, Option, Some, None, IsSome, refl, sym, ap, ◌∙◌, inl, inr, arith}
 use Rattle.std.specs.Prelude.{is_some}
-use Rattle.std.specs.FinMap.{FinMap, get, insert, remove, empty, len, find, from_entries, get-from_entries, get-insert, get-remove, get-empty, len-empty, len-insert, same_map, nat_cmp-IsAntisymmetric}
-use Rattle.std.specs.Ordering.{nat_cmp, eq_by_cmp}
-use Rattle.std.specs.Cmp.{nat_cmp_total, unsigned_tied}
-use Rattle.std.proofs.lemmas.Bool.{eq-eqb, ne_eqb, cases_eq, cases_lt, true≢false}
+use Rattle.std.specs.FinMap.{FinMap, get, insert, remove, empty, len, find, from_entries, get-from_entries, get-empty, len-empty, len-insert, same_map, nat_cmp-IsAntisymmetric}
+use Rattle.std.specs.Ordering.{nat_cmp}
+use Rattle.std.specs.Cmp.{nat_cmp_total}
+use Rattle.std.proofs.lemmas.Bool.{cases_eq, cases_lt, true≢false}
+use Rattle.hd_model.proofs.Entries.{found_first, found_later}
+use Rattle.hd_model.proofs.ReadAfterWrite.{get_inserted, get_removed, insert_cases, remove_cases}
 use Rattle.hd_seg.specs.Mapped.{with_entry, entries_of, mapped}
-
--- what a test of keys decides, where they are equal and where they differ
-pub at_key : {A : Type 0} (q k : ℕ) (x y : A) → q ≡ k → cond (eq_by_cmp nat_cmp q k) x y ≡ x
-at_key q k x y same = ap (λ b. cond b x y) (unsigned_tied q k ∙ eq-eqb q k same)
-
-pub off_key : {A : Type 0} (q k : ℕ) (x y : A) → q ≢ k → cond (eq_by_cmp nat_cmp q k) x y ≡ y
-off_key q k x y apart = ap (λ b. cond b x y) (unsigned_tied q k ∙ ne_eqb q k apart)
 
 pub get-insert_same : {A : Type 0} (m : FinMap nat_cmp A) (k : ℕ) (x : A) (q : ℕ) → q ≡ k
     → get (insert m k x) q ≡ Some x
-get-insert_same m k x q same = get-insert nat_cmp_total m k x q ∙ at_key q k (Some x) (get m q) same
-
-pub get-insert_other : {A : Type 0} (m : FinMap nat_cmp A) (k : ℕ) (x : A) (q : ℕ) → q ≢ k
-    → get (insert m k x) q ≡ get m q
-get-insert_other m k x q apart = get-insert nat_cmp_total m k x q ∙ off_key q k (Some x) (get m q) apart
+get-insert_same m k x q same = ap (get (insert m k x)) same ∙ get_inserted m k x
 
 pub get-remove_same : {A : Type 0} (m : FinMap nat_cmp A) (k q : ℕ) → q ≡ k → get (remove m k) q ≡ None
-get-remove_same m k q same = get-remove nat_cmp_total m k q ∙ at_key q k None (get m q) same
-
-pub get-remove_other : {A : Type 0} (m : FinMap nat_cmp A) (k q : ℕ) → q ≢ k → get (remove m k) q ≡ get m q
-get-remove_other m k q apart = get-remove nat_cmp_total m k q ∙ off_key q k None (get m q) apart
+get-remove_same m k q same = ap (get (remove m k)) same ∙ get_removed m k
 
 find-other : {A : Type 0} (q k : ℕ) (o : Option A) (es : List (ℕ × A)) → q ≢ k
     → find nat_cmp q (with_entry k o es) ≡ find nat_cmp q es
 find-other q k None es apart = refl
-find-other q k (Some x) es apart = off_key q k (Some x) (find nat_cmp q es) apart
+find-other q k (Some x) es apart = found_later q k (Some x) (find nat_cmp q es) apart
 
 find-same : {A : Type 0} (q k : ℕ) (o : Option A) (es : List (ℕ × A)) → q ≡ k → find nat_cmp q es ≡ None
     → find nat_cmp q (with_entry k o es) ≡ o
 find-same q k None es same none = none
-find-same q k (Some x) es same none = at_key q k (Some x) (find nat_cmp q es) same
+find-same q k (Some x) es same none = found_first q k x (find nat_cmp q es) same
 
 find-below : {A : Type 0} (first n : ℕ) (f : ℕ → Option A) (q : ℕ) → q < first
     → find nat_cmp q (entries_of first n f) ≡ None
@@ -97,59 +85,36 @@ module _ {A : Type 0} (first n : ℕ) (f : ℕ → Option A) where
       ]
 
 module _ {A : Type 0} (first n : ℕ) (f g : ℕ → Option A) where
+  at_same : (q : ℕ) → (first ≤ q → q < first + n → g q ≡ f q)
+      → get (mapped first n g) q ≡ get (mapped first n f) q
+  at_same q same =
+      elim (cases_within first n f q) [
+        | inl is ↦ get-mapped first n g q is.0 is.1 ∙ same is.0 is.1 ∙ sym (get-mapped first n f q is.0 is.1)
+        | inr out ↦ get-mapped_out first n g q out ∙ sym (get-mapped_out first n f q out)
+      ]
+
   -- two functions with the same values
   pub mapped-same : ((q : ℕ) → first ≤ q → q < first + n → g q ≡ f q) → mapped first n g ≡ mapped first n f
-  mapped-same same =
-      same_map nat_cmp_total nat_cmp-IsAntisymmetric _ _ (λ q.
-      elim (cases_within first n f q) [
-        | inl is ↦ get-mapped first n g q is.0 is.1 ∙ same q is.0 is.1
-            ∙ sym (get-mapped first n f q is.0 is.1)
-        | inr out ↦ get-mapped_out first n g q out ∙ sym (get-mapped_out first n f q out)
-      ])
+  mapped-same same = same_map nat_cmp_total nat_cmp-IsAntisymmetric _ _ (λ q. at_same q (same q))
 
   -- one value more, or another one
   pub mapped-insert : (k : ℕ) (x : A) → first ≤ k → k < first + n → g k ≡ Some x
       → ((q : ℕ) → q ≢ k → g q ≡ f q) → mapped first n g ≡ insert (mapped first n f) k x
   mapped-insert k x low high here others =
       same_map nat_cmp_total nat_cmp-IsAntisymmetric _ _ (λ q.
-      elim (cases_eq q k) [
-        | inl same ↦ ap (get (mapped first n g)) same ∙ get-mapped first n g k low high ∙ here
-            ∙ sym (get-insert_same (mapped first n f) k x q same)
-        | inr apart ↦ elsewhere q apart ∙ sym (get-insert_other (mapped first n f) k x q apart)
-      ])
-    where
-      elsewhere : (q : ℕ) → q ≢ k → get (mapped first n g) q ≡ get (mapped first n f) q
-      elsewhere q apart =
-          elim (cases_within first n f q) [
-            | inl is ↦ get-mapped first n g q is.0 is.1 ∙ others q apart
-                ∙ sym (get-mapped first n f q is.0 is.1)
-            | inr out ↦ get-mapped_out first n g q out ∙ sym (get-mapped_out first n f q out)
-          ]
+      insert_cases (mapped first n f) k (λ q o. get (mapped first n g) q ≡ o) x q
+      (get-mapped first n g k low high ∙ here) (λ apart. at_same q (λ _ _. others q apart)))
 
   -- one value fewer
   pub mapped-remove : (k : ℕ) → g k ≡ None → ((q : ℕ) → q ≢ k → g q ≡ f q)
       → mapped first n g ≡ remove (mapped first n f) k
   mapped-remove k here others =
       same_map nat_cmp_total nat_cmp-IsAntisymmetric _ _ (λ q.
-      elim (cases_eq q k) [
-        | inl same ↦ gone q same ∙ sym (get-remove_same (mapped first n f) k q same)
-        | inr apart ↦ elsewhere q apart ∙ sym (get-remove_other (mapped first n f) k q apart)
-      ])
-    where
-      gone : (q : ℕ) → q ≡ k → get (mapped first n g) q ≡ None
-      gone q same =
-          elim (cases_within first n g q) [
-            | inl is ↦ get-mapped first n g q is.0 is.1 ∙ ap g same ∙ here
-            | inr out ↦ get-mapped_out first n g q out
-          ]
-
-      elsewhere : (q : ℕ) → q ≢ k → get (mapped first n g) q ≡ get (mapped first n f) q
-      elsewhere q apart =
-          elim (cases_within first n f q) [
-            | inl is ↦ get-mapped first n g q is.0 is.1 ∙ others q apart
-                ∙ sym (get-mapped first n f q is.0 is.1)
-            | inr out ↦ get-mapped_out first n g q out ∙ sym (get-mapped_out first n f q out)
-          ]
+      remove_cases (mapped first n f) k (λ q o. get (mapped first n g) q ≡ o) q
+      (elim (cases_within first n g k) [
+        | inl is ↦ get-mapped first n g k is.0 is.1 ∙ here
+        | inr out ↦ get-mapped_out first n g k out
+      ]) (λ apart. at_same q (λ _ _. others q apart)))
 
 -- no key has a value
 pub mapped-empty : {A : Type 0} (first n : ℕ) (f : ℕ → Option A)

@@ -6,7 +6,7 @@ use Rattle.std.specs.FinMap.{get, len, empty, get-empty, len-empty, contains_key
 use Rattle.std.specs.Int.{bit_at}
 use Rattle.std.specs.Ordering.{nat_cmp}
 use Rattle.std.proofs.lemmas.List.{length-replicate, take-append-drop, drop_more}
-use Rattle.std.proofs.lemmas.Option.{slice_get_within}
+use Rattle.std.proofs.lemmas.Option.{get_or_from_slice_get, slice_get_within}
 use Rattle.std.proofs.lemmas.Nat.Bits.{bit_at-zero, bit_at_and, bit_at_ones, bit_at-lt}
 use Rattle.hd_mask.proofs.Bits.{bit_at-shr}
 use Rattle.hd_model.specs.declared.data.Addr.{Addr}
@@ -14,6 +14,7 @@ use Rattle.hd_model.specs.declared.data.Kind.{Kind}
 use Rattle.hd_model.specs.State.{Handle, BlockUse, handles_of}
 use Rattle.hd_model.specs.Table.{Table, IsTable, IsLeastWithout, empty_table, chain_of, kind_at, kind_in, has_handles, with_block}
 use Rattle.hd_model.proofs.WholeScenes.{if_some_from}
+use Rattle.hd_model.proofs.ReadAfterWrite.{get_beside}
 use Rattle.hd_seg.specs.declared.row.Extra.{Extra}
 use Rattle.hd_seg.specs.declared.row.Row.{Row}
 use Rattle.hd_seg.specs.declared.cells.Cell.{Cell}
@@ -22,18 +23,13 @@ use Rattle.hd_seg.specs.Row.{extra_of, row_of}
 use Rattle.hd_seg.specs.Blocks.{Uses}
 use Rattle.hd_seg.specs.Cells.{cell_at, cell_in, extra_held, place_in, extra_place, row_by, row_in, table_in, IsSeg}
 use Rattle.hd_seg.specs.Mapped.{mapped}
-use Rattle.hd_seg.proofs.FunctionMaps.{mapped-empty, get-insert_other}
+use Rattle.hd_seg.proofs.FunctionMaps.{mapped-empty}
 use Rattle.hd_seg.proofs.ChainLinks.{none_is_some, some_of, handles_in}
 use Rattle.hd_seg.proofs.RowCells.{extra-from-of, row-empty, row-extra, row_is}
 
 -- an element by its index
-in_list : {A : Type 0} (xs : List A) (i : ℕ) (x : A) → slice_get xs i ≡ Some x → get_or xs i x ≡ x
-in_list [] i x is = absurd (cc)
-in_list (y ∷ ys) zero x is = cc
-in_list (y ∷ ys) (suc i) x is = in_list ys i x is
-
 contained : {A : Type 0} (xs : List A) (i : ℕ) (x : A) → slice_get xs i ≡ Some x → Contains xs x
-contained xs i x is = (i, slice_get_within xs i x is, in_list xs i x is)
+contained xs i x is = (i, slice_get_within xs i x is, get_or_from_slice_get xs i x x is)
 
 slice_get-drop : {A : Type 0} (xs : List A) (n : ℕ) → slice_get (drop n xs) 0 ≡ slice_get xs n
 slice_get-drop xs zero = refl
@@ -85,10 +81,10 @@ module _ (t : Table) (is : IsTable t) (b : ℕ) (handles : has_handles (get t.us
 
 -- ---- rows
 
-module _ (u : Uses) (cells : List Cell) (masks : List ℕ) (live : ℕ) (inv : IsSeg u cells masks live)
-    (slot : ℕ) (t : Table) (view_is : table_in u cells ≡ t) where
+module _ {u : Uses} {cells : List Cell} {masks : List ℕ} {live : ℕ} (inv : IsSeg u cells masks live)
+    (slot : ℕ) {t : Table} (view_is : table_in u cells ≡ t) where
   seen : get t.rows slot ≡ row_in u cells slot
-  seen = ap (λ (v : Table). get v.rows slot) (sym view_is) ∙ row_is u cells masks live inv slot
+  seen = ap (λ (v : Table). get v.rows slot) (sym view_is) ∙ row_is inv slot
 
   -- nothing is read where there is no target
   pub none_read : row_in u cells slot ≡ None → None ≡ option_map row_of (get t.rows slot)
@@ -124,8 +120,8 @@ module _ (u : Uses) (cells : List Cell) (masks : List ℕ) (live : ℕ) (inv : I
       ∙ sym (ap (option_map row_of) (seen ∙ row))
 
 -- the live rows of a clump, by the bits of its block's mask
-module _ (u : Uses) (cells : List Cell) (masks : List ℕ) (live : ℕ) (inv : IsSeg u cells masks live)
-    (t : Table) (view_is : table_in u cells ≡ t) where
+module _ {u : Uses} {cells : List Cell} {masks : List ℕ} {live : ℕ} (inv : IsSeg u cells masks live)
+    {t : Table} (view_is : table_in u cells ≡ t) where
   pub clump_bits : (mask block clump i : ℕ) → mask ≡ get_or masks block 0 → block ≤ u.table.blocks → clump < 4
       → i < 16
       → bit_at (bit_and (mask / 2 ^ (16 * clump)) 65535) i
@@ -146,14 +142,14 @@ module _ (u : Uses) (cells : List Cell) (masks : List ℕ) (live : ℕ) (inv : I
       ∙ inv.bits block (16 * clump + i) high (omega arith)
       ∙ ap (λ q. cond (is_some (row_in u cells q)) 1 0)
       (let e : 64 * block + (16 * clump + i) ≡ 64 * block + 16 * clump + i = omega arith in e)
-      ∙ ap (λ o. cond (is_some o) 1 0) (sym (row_is u cells masks live inv (64 * block + 16 * clump + i))
+      ∙ ap (λ o. cond (is_some o) 1 0) (sym (row_is inv (64 * block + 16 * clump + i))
       ∙ ap (λ (v : Table). get v.rows (64 * block + 16 * clump + i)) view_is)
 
 -- ---- the lowest unused block, with rows and without
 
-pub with_rows_least : (u : Uses) (cells : List Cell) (t : Table) → table_in u cells ≡ t → (from b : ℕ)
+pub with_rows_least : (u : Uses) (cells : List Cell) {t : Table} → table_in u cells ≡ t → {from b : ℕ}
     → IsLeastWithout u.table from b → IsLeastWithout t from b
-with_rows_least u cells t is from b least =
+with_rows_least u cells is {from} {b} least =
     subst (λ s. IsLeastWithout s from b) is
     (record { low = least.low; high = least.high; unused = least.unused; least = least.least })
 
@@ -162,10 +158,10 @@ pub next_least : (s : Table) (k : Kind) (b d : ℕ) → IsLeastWithout (with_blo
 next_least s k b d least = record {
   low = least.low;
   high = least.high;
-  unused = sym (get-insert_other s.uses b (handles_of k) d (λ same. absurd (omega (arith, least.low))))
+  unused = sym (get_beside s.uses b (handles_of k) d (λ same. absurd (omega (arith, least.low))))
       ∙ least.unused;
   least = λ q low below. ap is_some
-      (sym (get-insert_other s.uses b (handles_of k) q (λ same. absurd (omega arith))))
+      (sym (get_beside s.uses b (handles_of k) q (λ same. absurd (omega arith))))
       ∙ least.least q low below;
 }
 

@@ -1,14 +1,12 @@
 -- Rows by their cells: what a write of a cell does to them, and what a table's users see of it.
-use Rattle.std.proofs.Common.{◌≡◌, ◌≢◌, ◌⊎◌, ℕ, ◌+◌, ◌*◌, ◌/◌, ◌%◌, ◌<◌, ◌≤◌, true, false, List, length, set, Option, Some, None, refl, sym, ap, ◌∙◌, inl, inr, arith}
+use Rattle.std.proofs.Common.{◌≡◌, ◌≢◌, ◌⊎◌, ℕ, zero, suc, ◌+◌, ◌*◌, ◌/◌, ◌%◌, ◌<◌, ◌≤◌, true, List, [], ◌∷◌, ◌++◌, length, set, take, drop, Option, Some, None, refl, sym, ap, ◌∙◌, subst, inl, inr, arith}
 use Rattle.std.specs.Prelude.{is_some}
 use Rattle.std.specs.FinMap.{get}
-use Rattle.std.proofs.lemmas.Bool.{cases_eq, cases_lt, true≢false}
-use Rattle.std.proofs.lemmas.List.{get_or-set_same, get_or-set_other, length-set, set_past}
+use Rattle.std.proofs.lemmas.List.{get_or-set_same, get_or-set_other, length-set, take_at}
 use Rattle.hd_model.specs.declared.data.Addr.{Addr}
 use Rattle.hd_model.specs.declared.data.Kind.{Kind}
 use Rattle.hd_model.specs.State.{Handle, BlockUse, handles_of, extra_data}
-use Rattle.hd_model.specs.Kinds.{is_paired}
-use Rattle.hd_model.specs.Table.{IsTable}
+use Rattle.hd_model.specs.Table.{IsTable, fits}
 use Rattle.hd_seg.specs.declared.row.Extra.{Extra}
 use Rattle.hd_seg.specs.declared.row.Extra.TheVariants as extra
 use Rattle.hd_seg.specs.declared.cells.Cell.{Cell}
@@ -20,6 +18,7 @@ use Rattle.hd_seg.specs.Mapped.{mapped}
 use Rattle.hd_seg.proofs.FunctionMaps.{get-mapped, get-mapped_out, cases_within, len-mapped_le}
 use Rattle.hd_seg.proofs.ChainLinks.{some_of}
 use Rattle.hd_seg.proofs.BlockAdd.{extras_apart}
+use Rattle.hd_seg.proofs.RowRewrite.{single_nothing}
 
 pub cases_option : {A : Type 0} (o : Option A) → (o ≡ None) ⊎ ((x : A) × (o ≡ Some x))
 cases_option None = inl refl
@@ -84,7 +83,7 @@ parts (Some (handles_of k)) (cell.Target t) x h is =
 
 -- ---- where extras are stored
 
-module _ (u : Uses) (p : IsPaired u) where
+module _ {u : Uses} (p : IsPaired u) where
   -- the cell of an extra is in a data block
   pub place_is : (q m : ℕ) → extra_place u q ≡ Some m
       → (d : ℕ) × ((get u.extras (q / 64) ≡ Some d) × (m ≡ d * 64 + q % 64))
@@ -117,7 +116,7 @@ module _ (u : Uses) (p : IsPaired u) where
 
 -- ---- the table
 
-module _ (u : Uses) (cells : List Cell) (masks : List ℕ) (live : ℕ) (inv : IsSeg u cells masks live) where
+module _ {u : Uses} {cells : List Cell} {masks : List ℕ} {live : ℕ} (inv : IsSeg u cells masks live) where
   pub used : (b : ℕ) (k : BlockUse) → get u.table.uses b ≡ Some k → (1 ≤ b) × (b ≤ u.table.blocks)
   used b k is = inv.table.uses b (some_of _ _ is)
 
@@ -181,9 +180,9 @@ pub record IsWrite (u : Uses) (slot : ℕ) (cells after : List Cell) : Type 0 wh
   pub in_data : (q : ℕ) (t : Option Addr) → get u.table.uses (q / 64) ≡ Some extra_data
       → cell_at after q ≡ cell.Target t → cell_at cells q ≡ cell.Target t
 
-pub writes : (u : Uses) (slot : ℕ) (a b c : List Cell) → IsWrite u slot a b → IsWrite u slot b c
+pub writes : {u : Uses} {slot : ℕ} {a b c : List Cell} → IsWrite u slot a b → IsWrite u slot b c
     → IsWrite u slot a c
-writes u slot a b c first second = record {
+writes first second = record {
   size = second.size ∙ first.size;
   cell_other = λ q apart plain. second.cell_other q apart plain ∙ first.cell_other q apart plain;
   extra_other = λ q apart. second.extra_other q apart ∙ first.extra_other q apart;
@@ -194,11 +193,49 @@ writes u slot a b c first second = record {
 abbrev pub NoTarget : Cell → Type 0
 NoTarget c = (t : Option Addr) → c ≡ cell.Target t → ⊥
 
-module _ (u : Uses) (p : IsPaired u) (slot : ℕ) (k : Kind)
+-- what a write leaves of other cells
+target_kept : (x : Cell) → NoTarget x → (cells : List Cell) (m q : ℕ) (t : Option Addr)
+    → cell_at (set cells m x) q ≡ cell.Target t → cell_at cells q ≡ cell.Target t
+target_kept x none [] m q t is = is
+target_kept x none (c ∷ cells) zero zero t is = absurd (none t is)
+target_kept x none (c ∷ cells) zero (suc q) t is = is
+target_kept x none (c ∷ cells) (suc m) zero t is = is
+target_kept x none (c ∷ cells) (suc m) (suc q) t is = target_kept x none cells m q t is
+
+target_before : (x : Cell) → NoTarget x → (cells : List Cell) (o : Option ℕ) (q : ℕ) (t : Option Addr)
+    → cell_at (with_cell cells o x) q ≡ cell.Target t → cell_at cells q ≡ cell.Target t
+target_before x none cells None q t is = is
+target_before x none cells (Some m) q t is = target_kept x none cells m q t is
+
+length-with : (cells : List Cell) (x : Cell) (o : Option ℕ) → length (with_cell cells o x) ≡ length cells
+length-with cells x None = refl
+length-with cells x (Some m) = length-set cells m x
+
+-- the cells of a vector that were lent for a write
+pub cells_back : {cells given after : List Cell} (ys : List Cell) (x : Cell) {n : ℕ} {o p : Option ℕ}
+    → after ≡ with_cell given o x → given ≡ cells → o ≡ p → n ≡ length cells
+    → take n (after ++ drop (length after) ys) ≡ with_cell cells p x
+cells_back {cells} {given} {after} ys x {n} {o} {p} written lent place size =
+    let is : after ≡ with_cell cells p x = written ∙ (λ i. with_cell (lent i) (place i) x) in
+    take_at after (drop (length after) ys) n (ap length is ∙ length-with cells x p ∙ sym size) ∙ is
+
+-- the same, where the cell of a slot was written before
+pub row_back : {cells given after : List Cell} (ys : List Cell) (slot : ℕ) (t x : Cell) {n : ℕ} {o p : Option
+    ℕ}
+    → after ≡ with_cell (set given slot t) o x → given ≡ cells → o ≡ p → n ≡ length cells
+    → take n (after ++ drop (length after) ys) ≡ with_cell (set cells slot t) p x
+row_back {cells} ys slot t x written lent place size =
+    cells_back ys x written (ap (λ xs. set xs slot t) lent) place (size ∙ sym (length-set cells slot t))
+
+pub seg_at : {u : Uses} {xs ys : List Cell} {masks : List ℕ} {live : ℕ} → xs ≡ ys → IsSeg u ys masks live
+    → IsSeg u xs masks live
+seg_at {u} {xs} {ys} {masks} {live} same = subst (λ cs. IsSeg u cs masks live) (sym same)
+
+module _ {u : Uses} (p : IsPaired u) (slot : ℕ) {k : Kind}
     (in_block : get u.table.uses (slot / 64) ≡ Some (handles_of k)) (cells : List Cell) where
   place_not_slot : (q m : ℕ) → extra_place u q ≡ Some m → m ≢ slot
   place_not_slot q m is same =
-      extras_apart _ k (sym (ap (λ n. get u.table.uses (n / 64)) same) ∙ place_extras u p q m is) in_block
+      extras_apart _ k (sym (ap (λ n. get u.table.uses (n / 64)) same) ∙ place_extras p q m is) in_block
 
   -- the slot's own cell
   cell_kept : (c : Cell) (o : Option ℕ) → ((m : ℕ) → o ≡ Some m → m ≢ slot) → cell_in (set cells slot c) o
@@ -235,31 +272,14 @@ module _ (u : Uses) (p : IsPaired u) (slot : ℕ) (k : Kind)
   other_extra x o None away = refl
   other_extra x o (Some m) away = other_cell x o m (λ n is same. away n is (ap Some same))
 
-  length-with : (x : Cell) (o : Option ℕ) → length (with_cell cells o x) ≡ length cells
-  length-with x None = refl
-  length-with x (Some m) = length-set cells m x
-
-  target_kept : (x : Cell) (o : Option ℕ) (q : ℕ) (t : Option Addr) → NoTarget x
-      → cell_at (with_cell cells o x) q ≡ cell.Target t → cell_at cells q ≡ cell.Target t
-  target_kept x None q t none is = is
-  target_kept x (Some m) q t none is =
-      elim (cases_eq q m) [
-        | inl same ↦ elim (cases_lt m (length cells)) [
-          | inl lt ↦ absurd (none t
-              (sym (ap (cell_at (set cells m x)) same ∙ get_or-set_same cells m x cell.Empty lt) ∙ is))
-          | inr past ↦ sym (ap (λ xs. cell_at xs q) (set_past cells m x past)) ∙ is
-        ]
-        | inr apart ↦ sym (get_or-set_other cells m q x cell.Empty apart) ∙ is
-      ]
-
   pub write_extra : (x : Cell) → NoTarget x → IsWrite u slot cells (with_cell cells (extra_place u slot) x)
   write_extra x none = record {
-    size = length-with x (extra_place u slot);
+    size = length-with cells x (extra_place u slot);
     cell_other = λ q apart plain. other_cell x (extra_place u slot) q
-        (λ m is same. plain (ap (λ n. get u.table.uses (n / 64)) same ∙ place_extras u p slot m is));
+        (λ m is same. plain (ap (λ n. get u.table.uses (n / 64)) same ∙ place_extras p slot m is));
     extra_other = λ q apart. other_extra x (extra_place u slot) (extra_place u q)
-        (λ m is is'. apart (place_apart u p q slot m is' is));
-    in_data = λ q t data_block is. target_kept x (extra_place u slot) q t none is;
+        (λ m is is'. apart (place_apart p q slot m is' is));
+    in_data = λ q t data_block is. target_before x none cells (extra_place u slot) q t is;
   }
 
   pub cell_stays : (x : Cell) → cell_at (with_cell cells (extra_place u slot) x) slot ≡ cell_at cells slot
@@ -270,26 +290,36 @@ module _ (u : Uses) (p : IsPaired u) (slot : ℕ) (k : Kind)
   extra_there x None m is lt = absurd (cc)
   extra_there x (Some n) m is lt = let same : n ≡ m = cc in get_or-set_same cells n x cell.Empty (omega arith)
 
-  -- a kind with extras has the extra that was written, and any other has none
-  pub extra_now : (x : Cell) → length cells ≡ 64 * (u.table.blocks + 1) → is_paired k ≡ true
+  written_at : (x : Cell) (d : ℕ) → length cells ≡ 64 * (u.table.blocks + 1)
+      → get u.extras (slot / 64) ≡ Some d
       → cell_in (with_cell cells (extra_place u slot) x) (extra_place u slot) ≡ x
-  extra_now x room paired =
-      elim (cases_option (get u.extras (slot / 64))) [
-        | inl none ↦ absurd (true≢false (sym paired ∙ sym (p.paired (slot / 64) k in_block)
-            ∙ ap is_some none))
-        | inr some ↦
-            let at : extra_place u slot ≡ Some (some.0 * 64 + slot % 64) =
-            ap (λ o. place_in o (slot % 64)) some.1 in
-            extra_there x (extra_place u slot) (some.0 * 64 + slot % 64) at
-            (omega (arith, place_within u p slot _ at, room))
-      ]
+  written_at x d room is =
+      let at : extra_place u slot ≡ Some (d * 64 + slot % 64) = ap (λ o. place_in o (slot % 64)) is in
+      extra_there x (extra_place u slot) (d * 64 + slot % 64) at (omega (
+        arith,
+        place_within p slot _ at,
+        room,
+      ))
 
-  pub no_extra : (x : Cell) → is_paired k ≡ false
-      → cell_in (with_cell cells (extra_place u slot) x) (extra_place u slot) ≡ cell.Empty
-  no_extra x single =
+  -- the extra that was written, or nothing where the kind has no extra data
+  pub held_now : (e : Extra) → length cells ≡ 64 * (u.table.blocks + 1) → fits k (extra_of e) ≡ true
+      → extra_of (extra_held (cell_in (with_cell cells (extra_place u slot) (cell.Extra e))
+      (extra_place u slot))) ≡ extra_of e
+  held_now e room fitting =
       elim (cases_option (get u.extras (slot / 64))) [
         | inl none ↦
-            let at : extra_place u slot ≡ None = ap (λ o. place_in o (slot % 64)) none in
-            ap (λ o. cell_in (with_cell cells (extra_place u slot) x) o) at
-        | inr some ↦ absurd (true≢false (sym (ap is_some some.1) ∙ p.paired (slot / 64) k in_block ∙ single))
+            ap (λ o. extra_of (extra_held (cell_in (with_cell cells (place_in o (slot % 64)) (cell.Extra e))
+            (place_in o (slot % 64))))) none
+            ∙ sym (single_nothing k (extra_of e)
+            (sym (p.paired (slot / 64) k in_block) ∙ ap is_some none) fitting)
+        | inr some ↦ ap (λ c. extra_of (extra_held c)) (written_at (cell.Extra e) some.0 room some.1)
+      ]
+
+  pub emptied : length cells ≡ 64 * (u.table.blocks + 1)
+      → cell_in (with_cell cells (extra_place u slot) cell.Empty) (extra_place u slot) ≡ cell.Empty
+  emptied room =
+      elim (cases_option (get u.extras (slot / 64))) [
+        | inl none ↦ ap (λ o. cell_in (with_cell cells (place_in o (slot % 64)) cell.Empty)
+            (place_in o (slot % 64))) none
+        | inr some ↦ written_at cell.Empty some.0 room some.1
       ]

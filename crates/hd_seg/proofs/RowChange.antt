@@ -1,11 +1,13 @@
 -- A table after one row changed: what its users see, and what it keeps.
-use Rattle.std.proofs.Common.{◌≡◌, ◌≢◌, ℕ, ◌+◌, ◌-◌, ◌*◌, ◌/◌, ◌%◌, ◌<◌, ◌≤◌, true, cond, List, length, get_or, set, Option, Some, None, sym, ap, ◌∙◌, inl, inr, arith}
-use Rattle.std.specs.Prelude.{is_some}
-use Rattle.std.specs.FinMap.{get, len, insert, remove, len-insert, len-remove}
+use Rattle.std.proofs.Common.{◌≡◌, ◌≢◌, ℕ, ◌+◌, ◌-◌, ◌*◌, ◌/◌, ◌%◌, ◌^◌, ◌<◌, ◌≤◌, true, cond, List, length, get_or, set, Option, Some, None, refl, sym, subst, ap, ◌∙◌, inl, inr, arith}
+use Rattle.std.specs.Prelude.{is_some, bit_or, bit_xor}
+use Rattle.std.specs.FinMap.{FinMap, get, len, insert, remove, len-insert, len-remove, get-empty, empty_of_len}
+use Rattle.std.specs.Ordering.{nat_cmp}
 use Rattle.std.specs.Int.{bit_at}
 use Rattle.std.specs.Cmp.{nat_cmp_total}
-use Rattle.std.proofs.lemmas.Bool.{cases_eq}
-use Rattle.std.proofs.lemmas.List.{get_or-set_same, get_or-set_other}
+use Rattle.std.proofs.lemmas.Bool.{cases_eq, cases_lt}
+use Rattle.std.proofs.lemmas.List.{get_or-set_same, get_or-set_other, length-set}
+use Rattle.hd_mask.proofs.Bits.{set_same, set_other, flip_same, flip_other}
 use Rattle.hd_model.specs.declared.data.Addr.{Addr}
 use Rattle.hd_model.specs.declared.data.Kind.{Kind}
 use Rattle.hd_model.specs.State.{Handle, handles_of, extra_data}
@@ -16,15 +18,26 @@ use Rattle.hd_seg.specs.Blocks.{Uses}
 use Rattle.hd_seg.specs.Cells.{cell_at, cell_in, extra_place, row_by, row_in, table_in, IsSeg}
 use Rattle.hd_seg.specs.Mapped.{mapped}
 use Rattle.hd_seg.proofs.FunctionMaps.{mapped-insert, mapped-remove}
-use Rattle.hd_seg.proofs.ChainLinks.{some_of}
-use Rattle.hd_seg.proofs.RowCells.{cases_use, row-unused, row-extras, row_is, IsWrite}
+use Rattle.hd_seg.proofs.ChainLinks.{none_is_some, some_of}
+use Rattle.hd_seg.proofs.RowCells.{cases_use, row-unused, row-extras, row-empty, row_is, IsWrite}
 
 -- bit i of a mask
 abbrev pub bit_of : {A : Type 0} → Option A → ℕ
 bit_of o = cond (is_some o) 1 0
 
-module _ (u : Uses) (cells : List Cell) (masks : List ℕ) (live : ℕ) (inv : IsSeg u cells masks live)
-    (slot : ℕ) (k : Kind) (in_block : get u.table.uses (slot / 64) ≡ Some (handles_of k)) (after : List Cell)
+one_row : (o : Option (Handle Addr)) (g h : Handle Addr) → o ≡ Some g → o ≡ Some h → g ≡ h
+one_row o g h is is' = let same : Some g ≡ Some h = sym is ∙ is' in cc
+
+one_of : {A : Type 0} (m : FinMap nat_cmp A) (k : ℕ) (x : A) → get m k ≡ Some x → 1 ≤ len m
+one_of m k x is =
+    elim (cases_lt 0 (len m)) [
+      | inl some ↦ some
+      | inr none ↦ absurd (none_is_some _ (ap (λ n. get n k) (empty_of_len m (omega arith))
+          ∙ get-empty nat_cmp k) (some_of _ _ is))
+    ]
+
+module _ {u : Uses} {cells : List Cell} {masks : List ℕ} {live : ℕ} (inv : IsSeg u cells masks live)
+    {slot : ℕ} {k : Kind} (in_block : get u.table.uses (slot / 64) ≡ Some (handles_of k)) {after : List Cell}
     (w : IsWrite u slot cells after) where
   -- other rows stay
   pub row_other : (q : ℕ) → q ≢ slot → row_in u after q ≡ row_in u cells q
@@ -40,83 +53,17 @@ module _ (u : Uses) (cells : List Cell) (masks : List ℕ) (live : ℕ) (inv : I
             ∙ ap (row_by (get u.table.uses (q / 64)) (cell_at cells q)) (w.extra_other q apart)
       ]
 
-  pub low : 64 ≤ slot
-  low = let range : (1 ≤ slot / 64) × (slot / 64 ≤ u.table.blocks) =
-      inv.table.uses (slot / 64) (some_of _ _ in_block) in omega (arith, range.0)
-
-  pub high : slot < 64 + 64 * u.table.blocks
-  high = let range : (1 ≤ slot / 64) × (slot / 64 ≤ u.table.blocks) =
-      inv.table.uses (slot / 64) (some_of _ _ in_block) in omega (arith, range.1)
+  range : (1 ≤ slot / 64) × (slot / 64 ≤ u.table.blocks)
+  range = inv.table.uses (slot / 64) (some_of _ _ in_block)
 
   pub inside : slot < length cells
-  inside = omega (arith, high, inv.room)
+  inside = omega (arith, range.1, inv.room)
 
   pub block_inside : slot / 64 < length masks
-  block_inside = let range : (1 ≤ slot / 64) × (slot / 64 ≤ u.table.blocks) =
-      inv.table.uses (slot / 64) (some_of _ _ in_block) in omega (arith, range.1, inv.words)
-
-  -- a row is there afterwards
-  module _ (h : Handle Addr) (now : row_in u after slot ≡ Some h) where
-    rows-put : mapped 64 (64 * u.table.blocks) (row_in u after)
-        ≡ insert (mapped 64 (64 * u.table.blocks) (row_in u cells)) slot h
-    rows-put = mapped-insert 64 (64 * u.table.blocks) (row_in u cells) (row_in u after) slot h low high now
-        row_other
-
-    pub table-put : table_in u after ≡ with_row (table_in u cells) slot h
-    table-put = ap (λ m. let t : Table = record u.table { rows = m } in t) rows-put
-
-    -- where there was none
-    pub count-new : row_in u cells slot ≡ None
-        → live + 1 ≡ len (mapped 64 (64 * u.table.blocks) (row_in u after))
-    count-new none =
-        omega (
-          arith,
-          inv.counted,
-          ap len rows-put,
-          len-insert nat_cmp_total (mapped 64 (64 * u.table.blocks) (row_in u cells)) slot h
-              ∙ ap (λ o. cond (is_some o) (len (mapped 64 (64 * u.table.blocks) (row_in u cells)))
-              (len (mapped 64 (64 * u.table.blocks) (row_in u cells)) + 1))
-              (row_is u cells masks live inv slot ∙ none),
-        )
-
-    -- where there was one
-    pub count-same : (g : Handle Addr) → row_in u cells slot ≡ Some g
-        → live ≡ len (mapped 64 (64 * u.table.blocks) (row_in u after))
-    count-same g was =
-        omega (
-          arith,
-          inv.counted,
-          ap len rows-put,
-          len-insert nat_cmp_total (mapped 64 (64 * u.table.blocks) (row_in u cells)) slot h
-              ∙ ap (λ o. cond (is_some o) (len (mapped 64 (64 * u.table.blocks) (row_in u cells)))
-              (len (mapped 64 (64 * u.table.blocks) (row_in u cells)) + 1))
-              (row_is u cells masks live inv slot ∙ was),
-        )
-
-  -- no row is there afterwards
-  module _ (now : row_in u after slot ≡ None) where
-    rows-take : mapped 64 (64 * u.table.blocks) (row_in u after)
-        ≡ remove (mapped 64 (64 * u.table.blocks) (row_in u cells)) slot
-    rows-take = mapped-remove 64 (64 * u.table.blocks) (row_in u cells) (row_in u after) slot now row_other
-
-    pub table-take : table_in u after ≡ without_row (table_in u cells) slot
-    table-take = ap (λ m. let t : Table = record u.table { rows = m } in t) rows-take
-
-    pub count-gone : (g : Handle Addr) → row_in u cells slot ≡ Some g
-        → live - 1 ≡ len (mapped 64 (64 * u.table.blocks) (row_in u after))
-    count-gone g was =
-        omega (
-          arith,
-          inv.counted,
-          ap len rows-take,
-          len-remove nat_cmp_total (mapped 64 (64 * u.table.blocks) (row_in u cells)) slot
-              ∙ ap (λ o. cond (is_some o) (len (mapped 64 (64 * u.table.blocks) (row_in u cells)) - 1)
-              (len (mapped 64 (64 * u.table.blocks) (row_in u cells)))) (row_is u cells masks live inv slot
-              ∙ was),
-        )
+  block_inside = omega (arith, range.1, inv.words)
 
   -- the bits of the masks, where that of the slot is as its row is
-  pub bits-after : (m : ℕ) → bit_at m (slot % 64) ≡ bit_of (row_in u after slot)
+  bits-after : (m : ℕ) → bit_at m (slot % 64) ≡ bit_of (row_in u after slot)
       → ((i : ℕ) → i ≢ slot % 64 → bit_at m i ≡ bit_at (get_or masks (slot / 64) 0) i)
       → (b i : ℕ) → b ≤ u.table.blocks → i < 64 → bit_at (get_or (set masks (slot / 64) m) b 0) i
       ≡ bit_of (row_in u after (64 * b + i))
@@ -139,7 +86,7 @@ module _ (u : Uses) (cells : List Cell) (masks : List ℕ) (live : ℕ) (inv : I
             ∙ sym (ap bit_of (row_other (64 * b + i) other))
       ]
 
-  pub bits-same : is_some (row_in u after slot) ≡ is_some (row_in u cells slot) → (b i : ℕ)
+  bits-same : is_some (row_in u after slot) ≡ is_some (row_in u cells slot) → (b i : ℕ)
       → b ≤ u.table.blocks → i < 64 → bit_at (get_or masks b 0) i ≡ bit_of (row_in u after (64 * b + i))
   bits-same alike b i last lt =
       inv.bits b i last lt
@@ -150,7 +97,7 @@ module _ (u : Uses) (cells : List Cell) (masks : List ℕ) (live : ℕ) (inv : I
       ]
 
   -- what the table keeps
-  pub seg-after : (new_masks : List ℕ) (new_live : ℕ) → length new_masks ≡ length masks
+  seg-after : (new_masks : List ℕ) (new_live : ℕ) → length new_masks ≡ length masks
       → new_live ≡ len (mapped 64 (64 * u.table.blocks) (row_in u after))
       → ((b i : ℕ) → b ≤ u.table.blocks → i < 64 → bit_at (get_or new_masks b 0) i
       ≡ bit_of (row_in u after (64 * b + i)))
@@ -197,3 +144,96 @@ module _ (u : Uses) (cells : List Cell) (masks : List ℕ) (live : ℕ) (inv : I
             | inr (inl extras) ↦ inv.targets q t (w.in_data q t extras is)
             | inr (inr rows) ↦ ap has_handles rows.1
           ]
+
+  abbrev rows : List Cell → FinMap nat_cmp (Handle Addr)
+  rows cs = mapped 64 (64 * u.table.blocks) (row_in u cs)
+
+  -- a row is there afterwards
+  module _ {h : Handle Addr} (now : row_in u after slot ≡ Some h) where
+    rows-put : rows after ≡ insert (rows cells) slot h
+    rows-put = mapped-insert 64 (64 * u.table.blocks) (row_in u cells) (row_in u after) slot h
+        (omega (arith, range.0)) (omega (arith, range.1)) now row_other
+
+    pub view-put : {t : Table} → table_in u cells ≡ t → table_in u after ≡ with_row t slot h
+    view-put is = ap (λ m. let t : Table = record u.table { rows = m } in t) rows-put
+        ∙ ap (λ v. with_row v slot h) is
+
+    count-put : len (rows after) ≡ cond (is_some (row_in u cells slot)) live (live + 1)
+    count-put =
+        ap len rows-put ∙ len-insert nat_cmp_total (rows cells) slot h
+        ∙ ap (λ o. cond (is_some o) (len (rows cells)) (len (rows cells) + 1)) (row_is inv slot)
+        ∙ ap (λ n. cond (is_some (row_in u cells slot)) n (n + 1)) (sym inv.counted)
+
+    seg-put : (new_masks : List ℕ) (new_live : ℕ) → length new_masks ≡ length masks
+        → new_live ≡ len (rows after)
+        → ((b i : ℕ) → b ≤ u.table.blocks → i < 64 → bit_at (get_or new_masks b 0) i
+        ≡ bit_of (row_in u after (64 * b + i)))
+        → fits h.kind h.extra ≡ true → IsSeg u after new_masks new_live
+    seg-put new_masks new_live words counted bits fitting =
+        seg-after new_masks new_live words counted bits
+        (λ g is. subst (λ (f : Handle Addr). fits f.kind f.extra ≡ true) (one_row _ _ _ now is) fitting)
+        (λ none. absurd (none_is_some _ none (some_of _ _ now)))
+
+    -- where there was none
+    pub seg-new : row_in u cells slot ≡ None → fits h.kind h.extra ≡ true → (m b : ℕ)
+        → m ≡ get_or masks (slot / 64) 0 → b ≡ 2 ^ (slot % 64)
+        → IsSeg u after (set masks (slot / 64) (bit_or m b)) (live + 1)
+    seg-new none fitting m b m_is b_is =
+        seg-put (set masks (slot / 64) (bit_or m b)) (live + 1) (length-set masks (slot / 64) (bit_or m b))
+        (sym (count-put ∙ ap (λ o. cond (is_some o) live (live + 1)) none))
+        (bits-after (bit_or m b)
+        (ap (λ c. bit_at (bit_or m c) (slot % 64)) b_is ∙ set_same m (slot % 64) ∙ sym (ap bit_of now))
+        (λ i apart. ap (λ c. bit_at (bit_or m c) i) b_is ∙ set_other m (slot % 64) i apart
+        ∙ ap (λ n. bit_at n i) m_is))
+        fitting
+
+    -- where there was one
+    pub seg-same : {g : Handle Addr} → row_in u cells slot ≡ Some g → fits h.kind h.extra ≡ true
+        → IsSeg u after masks live
+    seg-same was fitting =
+        seg-put masks live refl (sym (count-put ∙ ap (λ o. cond (is_some o) live (live + 1)) was))
+        (bits-same (ap is_some now ∙ sym (ap is_some was))) fitting
+
+  -- no row is there afterwards
+  module _ {g : Handle Addr} (was : row_in u cells slot ≡ Some g) (cell_now : cell_at after slot ≡ cell.Empty)
+    where
+      none_now : row_in u after slot ≡ None
+      none_now = row-empty _ _ _ cell_now
+
+      rows-take : rows after ≡ remove (rows cells) slot
+      rows-take = mapped-remove 64 (64 * u.table.blocks) (row_in u cells) (row_in u after) slot none_now
+          row_other
+
+      pub view-take : {t : Table} → table_in u cells ≡ t → table_in u after ≡ without_row t slot
+      view-take is = ap (λ m. let t : Table = record u.table { rows = m } in t) rows-take
+          ∙ ap (λ v. without_row v slot) is
+
+      pub some_live : 1 ≤ live
+      some_live = omega (arith, inv.counted, one_of (rows cells) slot g (row_is inv slot ∙ was))
+
+      count-take : len (rows after) ≡ live - 1
+      count-take =
+          ap len rows-take ∙ len-remove nat_cmp_total (rows cells) slot
+          ∙ ap (λ o. cond (is_some o) (len (rows cells) - 1) (len (rows cells))) (row_is inv slot ∙ was)
+          ∙ ap (λ n. n - 1) (sym inv.counted)
+
+      bit_was : bit_at (get_or masks (slot / 64) 0) (slot % 64) ≡ 1
+      bit_was =
+          inv.bits (slot / 64) (slot % 64) range.1 (omega arith)
+          ∙ ap (λ q. bit_of (row_in u cells q)) (let e : 64 * (slot / 64) + slot % 64 ≡ slot = omega arith in
+          e)
+          ∙ ap bit_of was
+
+      pub seg-gone : cell_in after (extra_place u slot) ≡ cell.Empty → (m b : ℕ)
+          → m ≡ get_or masks (slot / 64) 0 → b ≡ 2 ^ (slot % 64)
+          → IsSeg u after (set masks (slot / 64) (bit_xor m b)) (live - 1)
+      seg-gone extra_now m b m_is b_is =
+          seg-after (set masks (slot / 64) (bit_xor m b)) (live - 1)
+          (length-set masks (slot / 64) (bit_xor m b)) (sym count-take)
+          (bits-after (bit_xor m b)
+          (ap (λ c. bit_at (bit_xor m c) (slot % 64)) b_is ∙ flip_same m (slot % 64)
+          ∙ ap (λ n. 1 - bit_at n (slot % 64)) m_is ∙ ap (λ n. 1 - n) bit_was ∙ sym (ap bit_of none_now))
+          (λ i apart. ap (λ c. bit_at (bit_xor m c) i) b_is ∙ flip_other m (slot % 64) i apart
+          ∙ ap (λ n. bit_at n i) m_is))
+          (λ h is. absurd (none_is_some _ none_now (some_of _ _ is)))
+          (λ none. (cell_now, extra_now))

@@ -1,5 +1,5 @@
 -- A row that is written, once or twice.
-use Rattle.std.proofs.Common.{◌≡◌, ℕ, true, Option, Some, None, refl, sym, ap, ◌∙◌}
+use Rattle.std.proofs.Common.{◌≡◌, ℕ, Bool, true, false, Option, Some, None, refl, sym, ap, ◌∙◌}
 use Rattle.std.specs.Prelude.{IsSome, unwrap_or}
 use Rattle.std.specs.FinMap.{get}
 use Rattle.std.proofs.lemmas.Bool.{false≢true}
@@ -8,9 +8,11 @@ use Rattle.hd_model.specs.declared.data.Kind.{Kind}
 use Rattle.hd_model.specs.declared.data.Kind.TheVariants as kind
 use Rattle.hd_model.specs.State as state
 use Rattle.hd_model.specs.State.{Handle, secondary}
-use Rattle.hd_model.specs.Table.{Table, row_at, live_at, with_row, fits}
+use Rattle.hd_model.specs.Kinds.{is_paired}
+use Rattle.hd_model.specs.Table.{Table, row_at, live_at, with_row, fits, is_nothing, is_strength, is_count, is_secondary}
+use Rattle.hd_model.proofs.ReadAfterWrite.{get_beside}
 use Rattle.hd_seg.specs.Row.{extra_of, extra_from}
-use Rattle.hd_seg.proofs.FunctionMaps.{get-insert_same, get-insert_other}
+use Rattle.hd_seg.proofs.FunctionMaps.{get-insert_same}
 use Rattle.hd_seg.specs.Rewriting.{Rewrites}
 
 -- the extra of a row, as the program has it and back
@@ -20,19 +22,37 @@ extra_again (state.strength s) = refl
 extra_again (state.secondary o) = refl
 extra_again (state.count c) = refl
 
+-- the test of an extra, by whether the kind has extra data
+by_fit : {N : Type 0} (P : Bool → (state.Extra N → Bool) → Type 0) → P false is_nothing → P true is_strength
+    → P true is_count → P true is_secondary → (k : Kind) → P (is_paired k) (fits k)
+by_fit P a b c d kind.Short = a
+by_fit P a b c d kind.Long = a
+by_fit P a b c d kind.Strong = a
+by_fit P a b c d kind.Pinned = a
+by_fit P a b c d kind.Variable = b
+by_fit P a b c d kind.Counted = c
+by_fit P a b c d kind.Dependent = d
+
+nothing_from : {N : Type 0} (e : state.Extra N) → is_nothing e ≡ true → e ≡ state.nothing
+nothing_from state.nothing is = refl
+nothing_from (state.strength s) is = absurd (false≢true is)
+nothing_from (state.secondary o) is = absurd (false≢true is)
+nothing_from (state.count n) is = absurd (false≢true is)
+
+-- a kind without extra data has nothing
+pub single_nothing : {N : Type 0} (k : Kind) (e : state.Extra N) → is_paired k ≡ false → fits k e ≡ true
+    → e ≡ state.nothing
+single_nothing k e =
+    by_fit (λ paired test. paired ≡ false → test e ≡ true → e ≡ state.nothing) (λ _ is. nothing_from e is)
+    (λ no _. absurd (false≢true (sym no))) (λ no _. absurd (false≢true (sym no)))
+    (λ no _. absurd (false≢true (sym no))) k
+
 -- where one secondary fits, any does
 pub fits_secondary : (k : Kind) (e : state.Extra Addr) (x y : Option Addr) → e ≡ secondary x → fits k e ≡ true
     → fits k (secondary y) ≡ true
-fits_secondary k e x y is fitting = same k ∙ ap (fits k) (sym is) ∙ fitting
-  where
-    same : (k : Kind) → fits k (secondary y) ≡ fits k (secondary x)
-    same kind.Short = refl
-    same kind.Long = refl
-    same kind.Strong = refl
-    same kind.Pinned = refl
-    same kind.Variable = refl
-    same kind.Counted = refl
-    same kind.Dependent = refl
+fits_secondary k e x y is fitting =
+    by_fit (λ paired test. test (secondary y) ≡ test (secondary x)) refl refl refl refl k
+    ∙ ap (fits k) (sym is) ∙ fitting
 
 module _ (t : Table) (slot : ℕ) where
   some_live : (o : Option (Handle Addr)) → IsSome o
@@ -50,7 +70,7 @@ module _ (t : Table) (slot : ℕ) where
     at = ap (λ (u : Table). get u.rows slot) is ∙ get-insert_same t.rows slot g slot refl
         ∙ ap (λ q. Some q) same;
     others = λ other ne.
-        ap (λ (u : Table). get u.rows other) is ∙ get-insert_other t.rows slot g other ne;
+        ap (λ (u : Table). get u.rows other) is ∙ get_beside t.rows slot g other ne;
     table = record {
       chains = ap (λ (u : Table). u.chains) is;
       uses = ap (λ (u : Table). u.uses) is;

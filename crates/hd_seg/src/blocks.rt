@@ -198,16 +198,25 @@ impl Blocks {
             self.new ≡ record self.old { table = without_block self.old.table kind block } }
         ensures table { IsTable self.new.table }
     {
+        let (kind, place) = self.listing(block);
+        self.table[block as usize] = UNUSED;
+        let chain = &mut self.chains[kind.number() as usize];
+        chain.remove(place);
+        renumber(&mut self.table, chain, place);
+        self.given -= 1;
+    }
+
+    // The kind of a block of handles, and its index in the chain of that kind.
+    fn listing(&self, block: u32) -> (Kind, usize)
+        requires { has_handles (get self.now.table.uses block) ≡ true }
+        ensures kind { result.0 ≡ kind_at self.now.table block }
+        ensures place { slice_get (chain_of self.now.table result.0) result.1 ≡ Some block }
+        ensures small { result.1 < BLOCKS }
+    {
         let at = self.table[block as usize];
         match at.kind {
             BlockKind::Unused | BlockKind::Extras => unreachable!(),
-            BlockKind::Rows(kind) => {
-                self.table[block as usize] = UNUSED;
-                let chain = &mut self.chains[kind.number() as usize];
-                chain.remove(at.place as usize);
-                renumber(&mut self.table, chain, at.place as usize);
-                self.given -= 1;
-            }
+            BlockKind::Rows(kind) => (kind, at.place as usize),
         }
     }
 
@@ -226,13 +235,8 @@ impl Blocks {
             (before after : List ℕ) → chain_of self.now.table kind ≡ before ++ block ∷ after →
             result ≡ slice_get after 0 }
     {
-        let at = self.table[block as usize];
-        match at.kind {
-            BlockKind::Unused | BlockKind::Extras => unreachable!(),
-            BlockKind::Rows(kind) => {
-                let chain = &self.chains[kind.number() as usize];
-                chain.get(at.place as usize + 1).copied()
-            }
-        }
+        let (kind, place) = self.listing(block);
+        let chain = &self.chains[kind.number() as usize];
+        chain.get(place + 1).copied()
     }
 }

@@ -13,7 +13,7 @@ use crate::blocks::Blocks;
 use crate::cells::Cell;
 use crate::filled::filled;
 use crate::row::{BlockKind, Extra, Full, Row};
-use crate::writes::{cell_of, extra_in, extra_place, write_cell};
+use crate::writes::{cell_of, extra_in, extra_place, write_cell, write_row};
 use hd_mask::bit;
 use hd_model::limits::{BLOCKS, CLUMP, CLUMPS, ROWS};
 use hd_model::{Addr, Grown, Kind, Memory, Slot};
@@ -148,8 +148,9 @@ impl Seg {
     {
         let place = extra_place(&self.blocks, slot);
         let block = (slot.0 / ROWS) as usize;
-        self.cells[slot.0 as usize] = Cell::Target(row.target);
-        write_cell(&mut self.cells, place, Cell::Extra(row.extra));
+        let target = Cell::Target(row.target);
+        let extra = Cell::Extra(row.extra);
+        write_row(&mut self.cells, slot, place, target, extra);
         self.masks[block] |= bit(slot.0 % ROWS);
         self.live += 1;
     }
@@ -161,8 +162,7 @@ impl Seg {
     {
         let place = extra_place(&self.blocks, slot);
         let block = (slot.0 / ROWS) as usize;
-        self.cells[slot.0 as usize] = Cell::Empty;
-        write_cell(&mut self.cells, place, Cell::Empty);
+        write_row(&mut self.cells, slot, place, Cell::Empty, Cell::Empty);
         self.masks[block] ^= bit(slot.0 % ROWS);
         self.live -= 1;
     }

@@ -1,4 +1,4 @@
-ghost use Rattle.std.specs.Prelude.{◌≡◌, ℕ, ◌<◌, ◌≤◌, Some, length};
+ghost use Rattle.std.specs.Prelude.{◌≡◌, ℕ, ◌<◌, ◌≤◌, Some, length, slice_set};
 ghost use Rattle.std.specs.FinMap.{get};
 ghost use Rattle.std.specs.Option.{ForSome};
 ghost use Rattle.hd_seg.specs.Cells.{cell_at, cell_in, extra_held, extra_place, with_cell};
@@ -47,4 +47,20 @@ pub(crate) fn write_cell(cells: &mut [Cell], place: Option<usize>, cell: Cell)
     if let Some(place) = place {
         cells[place] = cell;
     }
+}
+
+/// Writes the cell of a slot, and the cell with its extra where there is one.
+pub(crate) fn write_row(
+    cells: &mut [Cell],
+    slot: Slot,
+    place: Option<usize>,
+    target: Cell,
+    extra: Cell,
+)
+    requires slot { slot.0 < length cells.old }
+    requires place { ForSome place (λ q. q < length cells.old) }
+    ensures { cells.new ≡ with_cell (slice_set cells.old slot.0 target) place extra }
+{
+    cells[slot.0 as usize] = target;
+    write_cell(cells, place, extra);
 }

@@ -2,9 +2,8 @@ use Rattle.std.proofs.Common.{◌≡◌, ◌∙◌, sym, arith, true, subst, Som
 use Rattle.std.proofs.lemmas.Bool.{and_parts}
 use Rattle.hd_model.specs.declared.data.Id.{Id}
 use Rattle.hd_model.specs.Heap.{id_at, placed_at, has_object}
-use Rattle.hd_final.specs.Joiners.{IsFoundUpTo}
 use Rattle.hd_final.proofs.ObjectLookup.{id_there}
-use Rattle.hd_final.proofs.JoinerFind.{found_room, found_more, found_past}
+use Rattle.hd_final.proofs.JoinerFind.{IsFoundUpTo, found_room, found_more, found_past}
 use Rattle.hd_final.proofs.joiners.find.Goals as goal
 
 pub push_reserved-requires : goal.push_reserved-requires

@@ -1,5 +1,5 @@
 use Rattle.std.proofs.Common.{◌≡◌, vec_capacity}
-use Rattle.hd_final.specs.Joiners.{IsFoundUpTo, left_of}
+use Rattle.hd_final.proofs.JoinerFind.{IsFoundUpTo, left_of}
 use Rattle.hd_final.proofs.joiners.find.Given as goal
 
 abbrev pub invariant-loop-at : goal.invariant-loop-at

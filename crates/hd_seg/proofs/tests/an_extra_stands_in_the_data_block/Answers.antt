@@ -6,7 +6,8 @@ use Rattle.hd_model.specs.declared.data.Addr.{Addr}
 use Rattle.hd_model.specs.declared.data.Kind.TheVariants.{Dependent}
 use Rattle.hd_model.specs.State.{Extra, secondary, handles_of, extra_data}
 use Rattle.hd_model.specs.Table.{Table, IsGrowth, grown_by, fits_in}
-use Rattle.hd_seg.proofs.FunctionMaps.{get-insert_same, get-insert_other}
+use Rattle.hd_model.proofs.ReadAfterWrite.{get_beside}
+use Rattle.hd_seg.proofs.FunctionMaps.{get-insert_same}
 use Rattle.hd_seg.proofs.tests.an_extra_stands_in_the_data_block.Goals as goal
 
 pub put_row-requires-clause-vacant : goal.put_row-requires-clause-vacant
@@ -26,7 +27,7 @@ put_row-requires-clause-fitting g c =
     ap (λ (t : Table). fits_in (get t.uses ((64 * c.in-Ok-Two.block + 17) / 64)) e) (c.in-Ok-Two.ensures.after
     ∙ ap (grown_by c.in_ok-seg.seg Dependent) c.in-Ok-Two.field-0-is)
     ∙ ap (λ o. fits_in o e)
-    (get-insert_other (insert c.in_ok-seg.seg.uses c.in-Ok-Two.block (handles_of Dependent))
+    (get_beside (insert c.in_ok-seg.seg.uses c.in-Ok-Two.block (handles_of Dependent))
     c.in-Ok-Two.extras extra_data ((64 * c.in-Ok-Two.block + 17) / 64) (λ same. absurd (omega arith))
     ∙ get-insert_same c.in_ok-seg.seg.uses c.in-Ok-Two.block (handles_of Dependent)
     ((64 * c.in-Ok-Two.block + 17) / 64) here)

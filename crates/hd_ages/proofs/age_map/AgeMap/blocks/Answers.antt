@@ -15,4 +15,4 @@ returns-clause-value c =
 
 pub returns-clause-ages : goal.returns-clause-ages
 returns-clause-ages c = subst (λ xs. All (λ a. a ≤ 2) xs) c.self.view_is
-    (ages_small c.self.inside.words.items c.self.invariant.1)
+    (ages_small c.self.inside.words.items)

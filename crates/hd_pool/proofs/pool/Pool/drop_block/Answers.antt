@@ -10,56 +10,48 @@ index-requires c =
     omega (
       arith,
       c.self.inside.kinds.ok.0,
-      in_list c.self.inside.kinds.items c.self.inside.free
-          c.args.self.now c.self.view_is c.self.inside.ready c.self.invariant c.args.block c.requires.added,
+      in_list c.self.invariant c.self.view_is c.args.block c.requires.added,
     )
 
 pub unwrap-kind-requires : goal.unwrap-kind-requires
 unwrap-kind-requires c =
-    read_some c.self.inside.kinds.items c.self.inside.free c.args.self.now c.self.view_is c.self.inside.ready
-    c.self.invariant c.args.block c.requires.added c.index.result.now c.index.ensures
+    read_some c.self.invariant c.self.view_is c.args.block c.requires.added c.index.ensures
 
 pub index_mut-requires : goal.index_mut-requires
 index_mut-requires c =
     omega (
       arith,
       c.self.inside.kinds.ok.0,
-      in_list c.self.inside.kinds.items c.self.inside.free
-          c.args.self.now c.self.view_is c.self.inside.ready c.self.invariant c.args.block c.requires.added,
+      in_list c.self.invariant c.self.view_is c.args.block c.requires.added,
     )
 
 pub clear-requires : goal.clear-requires
 clear-requires c =
     omega (
       arith,
-      has_room c.self.inside.kinds.items c.self.inside.free c.args.self.now c.self.view_is
-          c.self.inside.ready c.self.invariant c.args.block c.requires.added,
+      has_room c.self.invariant c.self.view_is c.args.block c.requires.added,
     )
 
 pub place-requires : goal.place-requires
-place-requires c = low c.self.inside.kinds.items c.self.inside.free c.args.self.now c.self.view_is
-    c.self.inside.ready c.self.invariant c.args.block c.requires.added
+place-requires c = low c.self.invariant c.self.view_is c.args.block c.requires.added
 
 pub remove-requires : goal.remove-requires
 remove-requires c =
-    has_place c.self.inside.kinds.items c.self.inside.free c.args.self.now c.self.view_is c.self.inside.ready
-    c.self.invariant c.args.block c.requires.added
-    c.unwrap-kind.result c.place.result c.place.ensures
+    has_place c.self.invariant c.self.view_is c.args.block c.requires.added
+    c.unwrap-kind.result c.place.ensures
 
 pub invariant_of-self : goal.invariant_of-self
 invariant_of-self c =
     let kinds = c.self.inside.kinds.items in
     let of_kind : kind_at kinds c.args.block ≡ Some c.unwrap-kind.result =
-    sym (read_kind kinds c.self.inside.free c.args.self.now c.self.view_is c.self.inside.ready
-    c.self.invariant c.args.block c.requires.added c.index.result.now c.index.ensures)
+    sym (read_kind c.self.invariant c.self.view_is c.args.block c.requires.added c.index.ensures)
     ∙ c.unwrap-kind.ensures in
-    with_left kinds c.args.block _ (cc)
+    with_left kinds c.args.block (cc)
     (along c.clear.ensures (c.remove.ensures ∙ ap (λ n. record c.self.inside.ready
     { members = remove c.self.inside.ready.members n }) c.place.ensures)
-    (dropped kinds c.self.inside.free c.self.inside.ready c.self.invariant c.args.block c.unwrap-kind.result
-    of_kind))
+    (dropped c.self.invariant c.args.block of_kind))
 
 pub returns : goal.returns
 returns c =
-    seen_left c.self.inside.kinds.items c.self.inside.free c.args.self.now c.self.view_is _ (cc) c.args.block
-    (λ s. difference s (numbers_of c.args.block)) c.clear.new.self c.clear.ensures
+    seen_left c.self.invariant c.self.view_is (cc) c.args.block
+    (λ s. difference s (numbers_of c.args.block)) c.clear.ensures

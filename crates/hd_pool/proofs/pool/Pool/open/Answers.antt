@@ -2,7 +2,7 @@ use Rattle.std.proofs.Common.{◌≡◌, ◌+◌, ◌*◌, ◌-◌, ℕ, None, l
 use Rattle.std.specs.FinSet.{empty}
 use Rattle.hd_pool.specs.Masks.{Held}
 use Rattle.hd_pool.specs.Inside.{kind_at}
-use Rattle.hd_pool.proofs.IndexedItems.{by_place-empty, get_or-replicate_None}
+use Rattle.hd_model.proofs.IndexedItems.{by_place-empty, get_or-replicate_None}
 use Rattle.hd_pool.proofs.PoolCalls.{opened_empty}
 use Rattle.hd_pool.proofs.pool.Pool.open.Goals as goal
 use Rattle.hd_pool.proofs.pool.Pool.open.Goals.{After-vec}

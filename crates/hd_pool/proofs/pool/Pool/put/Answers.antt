@@ -10,42 +10,35 @@ index-requires c =
     omega (
       arith,
       c.self.inside.kinds.ok.0,
-      in_list c.self.inside.kinds.items c.self.inside.free
-          c.args.self.now c.self.view_is c.self.inside.ready c.self.invariant (c.args.slot.0 / 64)
+      in_list c.self.invariant c.self.view_is (c.args.slot.0 / 64)
           c.requires.added,
     )
 
 pub unwrap-kind-requires : goal.unwrap-kind-requires
 unwrap-kind-requires c =
-    read_some c.self.inside.kinds.items c.self.inside.free c.args.self.now c.self.view_is c.self.inside.ready
-    c.self.invariant (c.args.slot.0 / 64) c.requires.added c.index.result.now c.index.ensures
+    read_some c.self.invariant c.self.view_is (c.args.slot.0 / 64) c.requires.added c.index.ensures
 
 pub insert-requires : goal.insert-requires
 insert-requires c =
     omega (
       arith,
-      has_room c.self.inside.kinds.items c.self.inside.free c.args.self.now c.self.view_is
-          c.self.inside.ready c.self.invariant (c.args.slot.0 / 64) c.requires.added,
+      has_room c.self.invariant c.self.view_is (c.args.slot.0 / 64) c.requires.added,
     )
 
 pub place-requires : goal.place-requires
-place-requires c = low c.self.inside.kinds.items c.self.inside.free c.args.self.now c.self.view_is
-    c.self.inside.ready c.self.invariant (c.args.slot.0 / 64) c.requires.added
+place-requires c = low c.self.invariant c.self.view_is (c.args.slot.0 / 64) c.requires.added
 
 pub insert-requires-2 : goal.insert-requires-2
 insert-requires-2 c =
-    has_place c.self.inside.kinds.items c.self.inside.free c.args.self.now c.self.view_is c.self.inside.ready
-    c.self.invariant (c.args.slot.0 / 64) c.requires.added
-    c.unwrap-kind.result c.place.result c.place.ensures
+    has_place c.self.invariant c.self.view_is (c.args.slot.0 / 64) c.requires.added
+    c.unwrap-kind.result c.place.ensures
 
 pub invariant_of-self : goal.invariant_of-self
 invariant_of-self c =
     let kinds = c.self.inside.kinds.items in
     let of_kind : kind_at kinds (c.args.slot.0 / 64) ≡ Some c.unwrap-kind.result =
-    sym (read_kind kinds c.self.inside.free c.args.self.now c.self.view_is c.self.inside.ready
-    c.self.invariant (c.args.slot.0 / 64) c.requires.added c.index.result.now c.index.ensures)
+    sym (read_kind c.self.invariant c.self.view_is (c.args.slot.0 / 64) c.requires.added c.index.ensures)
     ∙ c.unwrap-kind.ensures in
     along c.insert.ensures (c.insert-2.ensures ∙ ap
     (λ n. record c.self.inside.ready { members = insert c.self.inside.ready.members n }) c.place.ensures)
-    (pools.put kinds c.self.inside.free c.self.inside.ready c.self.invariant c.unwrap-kind.result
-    c.args.slot.0 of_kind)
+    (pools.put c.self.invariant c.args.slot.0 of_kind)

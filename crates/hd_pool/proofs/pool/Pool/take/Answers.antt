@@ -6,63 +6,50 @@ use Rattle.hd_pool.proofs.pool.Pool.take.Goals as goal
 
 pub returns-in_err-at-clause-none : goal.returns-in_err-at-clause-none
 returns-in_err-at-clause-none c = (
-  λ _. take_none c.self.inside.kinds.items c.self.inside.free c.self.inside.ready c.self.invariant
-      c.args.self.now c.self.view_is c.args.kind
-      c.number-first.result c.number-first.ensures.value c.in_err-at.ensures.none,
+  λ _. take_none c.self.invariant c.self.view_is c.args.kind c.number-first.ensures.value
+      c.in_err-at.ensures.none,
   λ _. ap is_some c.from_residual.ensures,
 )
 
 pub least_between-requires-2 : goal.least_between-requires-2
 least_between-requires-2 c =
-    take_room c.self.inside.kinds.items c.self.inside.free c.self.inside.ready c.self.invariant
-    c.args.self.now c.self.view_is c.args.kind
-    c.number-first.result c.number-first.ensures.value c.in_ok-at.at c.in_ok-at.ensures.found c.place.result
-    c.place.ensures
+    take_room c.self.invariant c.self.view_is c.args.kind c.number-first.ensures.value
+    c.in_ok-at.ensures.found c.place.ensures
 
 pub unwrap-slot-requires : goal.unwrap-slot-requires
 unwrap-slot-requires c =
-    take_some c.self.inside.kinds.items c.self.inside.free c.self.inside.ready c.self.invariant
-    c.args.self.now c.self.view_is c.args.kind
-    c.number-first.result c.number-first.ensures.value c.in_ok-at.at c.in_ok-at.ensures.found c.place.result
-    c.place.ensures
+    take_some c.self.invariant c.self.view_is c.args.kind c.number-first.ensures.value
+    c.in_ok-at.ensures.found c.place.ensures
     c.least_between-2.result c.least_between-2.ensures.none
 
 pub invariant_of-self : goal.invariant_of-self
 invariant_of-self c =
-    take_last c.self.inside.kinds.items c.self.inside.free c.self.inside.ready c.self.invariant
-    c.args.self.now c.self.view_is c.args.kind
-    c.number-first.result c.number-first.ensures.value c.in_ok-at.at c.in_ok-at.ensures.found c.place.result
-    c.place.ensures
-    c.least_between-2.result c.unwrap-slot.result c.unwrap-slot.ensures c.least_between-2.ensures.found
-    c.remove.new.self c.remove.ensures c.least_between-3.result c.least_between-3.ensures.none
+    take_last c.self.invariant c.self.view_is c.args.kind c.number-first.ensures.value
+    c.in_ok-at.ensures.found c.place.ensures
+    c.least_between-2.result c.unwrap-slot.ensures c.least_between-2.ensures.found
+    c.remove.ensures c.least_between-3.result c.least_between-3.ensures.none
     c.if-is_none.ensures
-    c.remove-then-is_none.new.self c.remove-then-is_none.ensures
+    c.remove-then-is_none.ensures
 
 pub invariant_of-self-else-is_none : goal.invariant_of-self-else-is_none
 invariant_of-self-else-is_none c =
-    take_more c.self.inside.kinds.items c.self.inside.free c.self.inside.ready c.self.invariant
-    c.args.self.now c.self.view_is c.args.kind
-    c.number-first.result c.number-first.ensures.value c.in_ok-at.at c.in_ok-at.ensures.found c.place.result
-    c.place.ensures
-    c.least_between-2.result c.unwrap-slot.result c.unwrap-slot.ensures c.least_between-2.ensures.found
-    c.remove.new.self c.remove.ensures c.least_between-3.result c.least_between-3.ensures.found
+    take_more c.self.invariant c.self.view_is c.args.kind c.number-first.ensures.value
+    c.in_ok-at.ensures.found c.place.ensures
+    c.least_between-2.result c.unwrap-slot.ensures c.least_between-2.ensures.found
+    c.remove.ensures c.least_between-3.result c.least_between-3.ensures.found
     c.if-is_none.ensures
 
 pub returns-then-is_none-clause-least : goal.returns-then-is_none-clause-least
 returns-then-is_none-clause-least c =
-    take_least c.self.inside.kinds.items c.self.inside.free c.self.inside.ready c.self.invariant
-    c.args.self.now c.self.view_is c.args.kind
-    c.number-first.result c.number-first.ensures.value c.in_ok-at.at c.in_ok-at.ensures.found c.place.result
-    c.place.ensures
-    c.least_between-2.result c.unwrap-slot.result c.unwrap-slot.ensures c.least_between-2.ensures.found
+    take_least c.self.invariant c.self.view_is c.args.kind c.number-first.ensures.value
+    c.in_ok-at.ensures.found c.place.ensures
+    c.least_between-2.result c.unwrap-slot.ensures c.least_between-2.ensures.found
 
 pub returns-else-is_none-clause-least : goal.returns-else-is_none-clause-least
 returns-else-is_none-clause-least c =
-    take_least c.self.inside.kinds.items c.self.inside.free c.self.inside.ready c.self.invariant
-    c.args.self.now c.self.view_is c.args.kind
-    c.number-first.result c.number-first.ensures.value c.in_ok-at.at c.in_ok-at.ensures.found c.place.result
-    c.place.ensures
-    c.least_between-2.result c.unwrap-slot.result c.unwrap-slot.ensures c.least_between-2.ensures.found
+    take_least c.self.invariant c.self.view_is c.args.kind c.number-first.ensures.value
+    c.in_ok-at.ensures.found c.place.ensures
+    c.least_between-2.result c.unwrap-slot.ensures c.least_between-2.ensures.found
 
 pub returns-then-is_none-clause-none : goal.returns-then-is_none-clause-none
 returns-then-is_none-clause-none c = let l = returns-then-is_none-clause-least c in

@@ -9,8 +9,7 @@ pub returns-then-is_full-clause-least : goal.returns-then-is_full-clause-least
 returns-then-is_full-clause-least c =
     let kinds = c.self.inside.kinds.items in
     let of_kind : kind_at kinds c.loop-block.block ≡ Some c.args.kind = search rules in
-    least_whole kinds c.self.inside.free c.args.self.now c.self.view_is c.args.kind c.loop-block.block
-    (is_whole kinds c.self.inside.free c.args.self.now c.self.view_is c.args.kind c.loop-block.block of_kind
+    least_whole (is_whole c.self.invariant c.self.view_is c.args.kind c.loop-block.block of_kind
     (c.is_full.ensures.0 c.if-is_full.true)) c.loop-block.invariant
 
 pub returns-then-is_full-clause-none : goal.returns-then-is_full-clause-none
@@ -21,11 +20,11 @@ pub loop-block-preserved : goal.loop-block-preserved
 loop-block-preserved c =
     below_more _ _ c.loop-block.invariant (λ whole. elim c.else-eq.branch [
       | else-eq-via-then-eq+else-is_full w ↦ both_ways w.is_full.result w.if-is_full.false
-          (w.is_full.ensures.1 (whole_all c.self.inside.kinds.items c.self.inside.free c.args.self.now
-          c.self.view_is c.args.kind c.loop-block.block whole))
+          (w.is_full.ensures.1 (whole_all c.self.invariant c.self.view_is c.args.kind c.loop-block.block
+          whole))
       | else-eq-via-else-eq w ↦
           let is : kind_at c.self.inside.kinds.items c.loop-block.block ≡ Some c.args.kind = whole_kind
-          c.self.inside.kinds.items c.self.inside.free c.args.self.now c.self.view_is c.args.kind
+          c.self.invariant c.self.view_is c.args.kind
           c.loop-block.block whole in
           let isnt : kind_at c.self.inside.kinds.items c.loop-block.block ≡ Some c.args.kind → ⊥ = search
           rules in isnt is
@@ -39,7 +38,7 @@ returns-clause-none c = (
         c.loop-block-test.false,
         c.deref-given-items.ensures.len,
         c.self.inside.kinds.ok.0,
-        whole_within c.self.inside.kinds.items c.self.inside.free c.args.self.now c.self.view_is c.args.kind
+        whole_within c.self.invariant c.self.view_is c.args.kind
             block whole,
       )) whole,
   λ _. refl,

@@ -1,53 +1,31 @@
-use Rattle.std.proofs.Common.{◌≡◌, ℕ, ◌<◌, ◌≤◌, ◌++◌, [], ◌∷◌, List, length, map, get_or, set, sym, ap, ◌∙◌, subst, arith, Vec, Global, vec_capacity, None, IsSome}
+use Rattle.std.proofs.Common.{◌≡◌, ℕ, ◌<◌, ◌++◌, [], ◌∷◌, List, length, map, get_or, set, sym, ap, ◌∙◌, subst, arith, Vec, Global, None, IsSome}
 use Rattle.std.specs.FinMap.{get, len}
-use Rattle.std.proofs.lemmas.List.{map-set, length-map}
-use Rattle.std.proofs.lemmas.List.Elements.{All-set}
 use Rattle.hd_model.specs.Kinds.{kind_number}
-use Rattle.hd_model.specs.Table.{IsLeastWithout}
-use Rattle.hd_model.proofs.KindTests.{few_kinds}
 use Rattle.hd_seg.specs.declared.block.Block.{Block}
 use Rattle.hd_seg.specs.Blocks.{Uses, HasUnused, use_at}
 use Rattle.hd_seg.specs.Mapped.{mapped}
-use Rattle.hd_seg.proofs.ChainLinks.{is_table, few_of, one_left, chain_read, chain_short, room_read, extras_is}
-use Rattle.hd_seg.proofs.BlockAdd.{blocks-added, view-added, least_is}
+use Rattle.hd_seg.proofs.ChainLinks.{is_table, few_of, one_left, chain_read, chain_written, chain_short, room_read, rooms_written, extras_is}
+use Rattle.hd_seg.proofs.BlockAdd.{blocks-add, view-add, least_is}
 use Rattle.hd_seg.proofs.blocks.Blocks.add.Goals as goal
 use Rattle.hd_seg.proofs.blocks.Blocks.add.Goals.{After-len-place, After-push_reserved, After-self-3-1}
 
 pub least_unused-block-requires : goal.least_unused-block-requires
 least_unused-block-requires c =
     subst (λ (xs : List Block). HasUnused xs 1) (sym c.deref.ensures.value)
-    (one_left c.self.inside.number _ c.self.inside.table.items _ c.self.invariant.0
-    (few_of c.self.inside.number c.self.inside.table.items _ c.args.self.now c.self.view_is c.requires))
-
--- the chain that is written
-number_in : (c : After-len-place) → c.number.result < length c.self.inside.chains.items
-number_in c = omega (
-  arith,
-  c.number.ensures.small,
-  c.self.invariant.0.linked.kinds,
-  length-map
-      c.self.inside.chains.items (λ (v : Vec ℕ Global). v.items),
-)
-
-chain_is : (c : After-len-place) → get_or (map (λ (v : Vec ℕ Global). v.items) c.self.inside.chains.items)
-    (kind_number c.args.kind) [] ≡ c.index_mut-chain.result.now.items
-chain_is c =
-    ap (λ n. get_or (map (λ (v : Vec ℕ Global). v.items) c.self.inside.chains.items) n [])
-    (sym c.number.ensures.value)
-    ∙ chain_read c.self.inside.chains.items c.number.result c.index_mut-chain.result.now
-    c.index_mut-chain.ensures.value (number_in c)
+    (one_left c.self.invariant.0
+    (few_of _ c.self.view_is c.requires))
 
 few : (c : After-len-place)
     → len (mapped 1 c.self.inside.number (use_at c.self.inside.table.items)) < c.self.inside.number
-few c = few_of c.self.inside.number c.self.inside.table.items _ c.args.self.now c.self.view_is c.requires
+few c = few_of _ c.self.view_is c.requires
 
 short : (c : After-len-place) → length c.index_mut-chain.result.now.items < c.self.inside.number
 short c =
     omega (
       arith,
-      ap length (chain_is c),
-      chain_short c.self.inside.number _ c.self.inside.table.items _
-          c.self.invariant.0 c.args.kind (few_kinds c.args.kind),
+      ap length (chain_read _ c.self.invariant.0 c.args.kind c.number.ensures.value
+          c.index_mut-chain.ensures.value),
+      chain_short c.self.invariant.0 c.args.kind,
       few c,
       c.self.invariant.0.counted,
     )
@@ -62,10 +40,8 @@ push_reserved-requires c =
       arith,
       short c,
       c.index_mut-chain.result.now.ok.0,
-      room_read c.self.inside.number
-          c.self.inside.chains.items c.number.result c.index_mut-chain.result.now
-          c.index_mut-chain.ensures.value
-          (number_in c) c.self.invariant.1,
+      room_read _ c.self.invariant.0 c.args.kind c.number.ensures.value c.index_mut-chain.ensures.value
+          c.self.invariant.1,
     )
 
 -- the block that was found
@@ -79,7 +55,9 @@ unused c = ap (λ xs. use_at xs c.least_unused-block.result) (sym c.deref.ensure
 place_is : (c : After-self-3-1)
     → length (get_or (map (λ (v : Vec ℕ Global). v.items) c.self.inside.chains.items)
     (kind_number c.args.kind) []) ≡ c.len-place.result
-place_is c = ap length (chain_is (goal.at.invariant_of-self c).After-len-place)
+place_is c =
+    ap length (chain_read _ c.self.invariant.0 c.args.kind c.number.ensures.value
+    c.index_mut-chain.ensures.value)
     ∙ omega (arith, c.len-place.ensures, c.index_mut-chain.result.now.ok.0)
 
 chains_are : (c : After-self-3-1) →
@@ -89,54 +67,39 @@ chains_are : (c : After-self-3-1) →
     ≡ map (λ (v : Vec ℕ Global). v.items)
     (set c.self.inside.chains.items c.number.result c.push_reserved.new.self)
 chains_are c =
-    let cs : List (List ℕ) = map (λ (v : Vec ℕ Global). v.items) c.self.inside.chains.items in
-    ap (λ n. set cs n (get_or cs (kind_number c.args.kind) [] ++ c.least_unused-block.result ∷ []))
-    (sym c.number.ensures.value)
-    ∙ ap (λ xs. set cs c.number.result (xs ++ c.least_unused-block.result ∷ []))
-    (chain_is (goal.at.invariant_of-self c).After-len-place)
-    ∙ ap (set cs c.number.result) (sym c.push_reserved.ensures.items)
-    ∙ sym (map-set (λ (v : Vec ℕ Global). v.items) c.self.inside.chains.items c.number.result
-    c.push_reserved.new.self)
+    chain_written _ c.self.invariant.0 c.args.kind c.number.ensures.value c.index_mut-chain.ensures.value
+    c.push_reserved.new.self _
+    (c.push_reserved.ensures.items
+    ∙ sym (ap (λ xs. xs ++ c.least_unused-block.result ∷ [])
+    (chain_read _ c.self.invariant.0 c.args.kind c.number.ensures.value c.index_mut-chain.ensures.value)))
 
 pub invariant_of-self : goal.invariant_of-self
 invariant_of-self c = (
-  blocks-added c.self.inside.number c.self.inside.given c.self.inside.table.items _ c.self.invariant.0
-      c.args.kind c.least_unused-block.result c.least_unused-block.ensures.low (inside c) (unused c)
-      c.len-place.result 0 _ (place_is c) (chains_are c),
-  All-set (λ (v : Vec ℕ Global). c.self.inside.number ≤ vec_capacity v) c.self.inside.chains.items
-      c.number.result c.push_reserved.new.self
-      (omega (
-        arith,
-        c.push_reserved.ensures.capacity,
-        room_read c.self.inside.number
-            c.self.inside.chains.items c.number.result c.index_mut-chain.result.now
-            c.index_mut-chain.ensures.value (number_in (goal.at.invariant_of-self c).After-len-place)
-            c.self.invariant.1,
-      ))
-      c.self.invariant.1,
+  blocks-add c.self.invariant.0 c.args.kind c.least_unused-block.result c.least_unused-block.ensures.low
+      (inside c) (unused c) (place_is c) (chains_are c),
+  rooms_written _ c.self.invariant.0 c.args.kind c.number.ensures.value c.index_mut-chain.ensures.value
+      c.push_reserved.new.self c.push_reserved.ensures.capacity c.self.invariant.1,
 )
 
 pub returns-clause-least : goal.returns-clause-least
 returns-clause-least c =
-    subst (λ (u : Uses). IsLeastWithout u.table 1 c.least_unused-block.result) c.self.view_is
-    (least_is c.self.inside.number _ c.self.inside.table.items _ c.self.invariant.0 1
-    c.least_unused-block.result (omega arith) c.least_unused-block.ensures.low (inside c) (unused c)
+    least_is c.self.invariant.0 c.self.view_is 1 c.least_unused-block.result (omega arith)
+    c.least_unused-block.ensures.low (inside c) (unused c)
     (λ q low below. subst (λ (xs : List Block). IsSome (use_at xs q)) c.deref.ensures.value
-    (c.least_unused-block.ensures.least q low below)))
+    (c.least_unused-block.ensures.least q low below))
 
 pub returns-clause-plain : goal.returns-clause-plain
 returns-clause-plain c =
     sym (ap (λ (u : Uses). get u.extras c.least_unused-block.result) c.self.view_is)
-    ∙ extras_is c.self.inside.number _ c.self.inside.table.items _ c.self.invariant.0
+    ∙ extras_is c.self.invariant.0
     c.least_unused-block.result c.least_unused-block.ensures.low
     (omega (arith, inside c, c.self.invariant.0.size))
     ∙ c.self.invariant.0.plain c.least_unused-block.result (unused c)
 
 pub returns-clause-after : goal.returns-clause-after
 returns-clause-after c =
-    view-added c.self.inside.number c.self.inside.given c.self.inside.table.items _ c.self.invariant.0
-    c.args.kind c.least_unused-block.result c.least_unused-block.ensures.low (inside c) (unused c)
-    c.len-place.result 0 _ (place_is c) (chains_are c) c.args.self.now c.self.view_is
+    view-add c.self.invariant.0 c.args.kind c.least_unused-block.result c.least_unused-block.ensures.low
+    (inside c) (unused c) (place_is c) (chains_are c) c.self.view_is
 
 pub returns-clause-table : goal.returns-clause-table
-returns-clause-table c = is_table c.self.inside.number _ _ _ (invariant_of-self c).0
+returns-clause-table c = is_table (invariant_of-self c).0

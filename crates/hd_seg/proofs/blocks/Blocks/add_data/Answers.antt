@@ -3,7 +3,6 @@ use Rattle.std.specs.Prelude.{is_some}
 use Rattle.std.specs.FinMap.{get}
 use Rattle.std.proofs.lemmas.Bool.{cases_lt}
 use Rattle.std.proofs.lemmas.List.{get_or_read, length-set}
-use Rattle.hd_model.specs.Table.{IsLeastWithout}
 use Rattle.hd_seg.specs.declared.block.Block.{Block}
 use Rattle.hd_seg.specs.Blocks.{Uses, HasUnused, use_at, block_at}
 use Rattle.hd_seg.proofs.ChainLinks.{is_table, few_of, one_left, none_is_some, use_is}
@@ -16,7 +15,7 @@ used : (c : After-deref) → (b : ℕ) → 1 ≤ b → b ≤ c.args.block → Is
 used c b low high =
     let last : b ≤ c.self.inside.number =
     omega (arith, c.requires.high, ap (λ (u : Uses). u.table.blocks) c.self.view_is) in
-    ap is_some (sym (use_is c.self.inside.number _ c.self.inside.table.items _ c.self.invariant.0 b low last)
+    ap is_some (sym (use_is c.self.invariant.0 b low last)
     ∙ ap (λ (u : Uses). get u.table.uses b) c.self.view_is) ∙ c.requires.used b low high
 
 past : (c : After-deref) (found : HasUnused c.self.inside.table.items 1) → c.args.block + 1 ≤ found.number
@@ -29,8 +28,8 @@ past c found =
 pub least_unused-data-requires : goal.least_unused-data-requires
 least_unused-data-requires c =
     let found : HasUnused c.self.inside.table.items 1 =
-    one_left c.self.inside.number _ c.self.inside.table.items _ c.self.invariant.0
-    (few_of c.self.inside.number c.self.inside.table.items _ c.args.self.now c.self.view_is
+    one_left c.self.invariant.0
+    (few_of _ c.self.view_is
     c.requires.room) in
     subst (λ (xs : List Block). HasUnused xs (c.args.block + 1)) (sym c.deref.ensures.value)
     (record { number = found.number; low = past c found; high = found.high; unused = found.unused })
@@ -84,28 +83,26 @@ below c = omega (arith, c.least_unused-data.ensures.low)
 
 pub invariant_of-self : goal.invariant_of-self
 invariant_of-self c = (
-  blocks-with_data c.self.inside.number c.self.inside.given c.self.inside.table.items _ c.self.invariant.0
+  blocks-with_data c.self.invariant.0
       c.args.block c.least_unused-data.result c.requires.low (below c) (inside c) (unused c)
       (used (goal.at.invariant_of-self c).After-deref c.args.block c.requires.low (omega arith))
-      c.index_mut-of.result.now c.index_mut-extras.result.now (of_is c) (at_is c),
+      (of_is c) (at_is c),
   c.self.invariant.1,
 )
 
 pub returns-clause-least : goal.returns-clause-least
 returns-clause-least c =
-    subst (λ (u : Uses). IsLeastWithout u.table (c.args.block + 1) c.least_unused-data.result) c.self.view_is
-    (least_is c.self.inside.number _ c.self.inside.table.items _ c.self.invariant.0 (c.args.block + 1)
-    c.least_unused-data.result (omega arith) c.least_unused-data.ensures.low (inside c) (unused c)
+    least_is c.self.invariant.0 c.self.view_is (c.args.block + 1) c.least_unused-data.result (omega arith)
+    c.least_unused-data.ensures.low (inside c) (unused c)
     (λ q low above. subst (λ (xs : List Block). IsSome (use_at xs q)) c.deref.ensures.value
-    (c.least_unused-data.ensures.least q low above)))
+    (c.least_unused-data.ensures.least q low above))
 
 pub returns-clause-after : goal.returns-clause-after
 returns-clause-after c =
-    view-with_data c.self.inside.number c.self.inside.given c.self.inside.table.items _ c.self.invariant.0
+    view-with_data c.self.invariant.0
     c.args.block c.least_unused-data.result c.requires.low (below c) (inside c) (unused c)
     (used (goal.at.invariant_of-self c).After-deref c.args.block c.requires.low (omega arith))
-    c.index_mut-of.result.now c.index_mut-extras.result.now (of_is c) (at_is c) c.args.self.now
-    c.self.view_is
+    (of_is c) (at_is c) c.self.view_is
 
 pub returns-clause-table : goal.returns-clause-table
-returns-clause-table c = is_table c.self.inside.number _ _ _ (invariant_of-self c).0
+returns-clause-table c = is_table (invariant_of-self c).0

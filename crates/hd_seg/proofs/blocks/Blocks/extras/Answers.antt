@@ -29,7 +29,7 @@ returns c =
       value =
           ap (λ (b : Block). b.extras)
           (get_or_read c.self.inside.table.items c.args.block c.index.result.now inside c.index.ensures _)
-          ∙ sym (extras_is c.self.inside.number _ c.self.inside.table.items _ c.self.invariant.0 c.args.block
+          ∙ sym (extras_is c.self.invariant.0 c.args.block
           (omega (arith, c.if-block-eq0.false)) c.if-block-self.false)
           ∙ ap (λ (u : Uses). get u.extras c.args.block) c.self.view_is;
     }

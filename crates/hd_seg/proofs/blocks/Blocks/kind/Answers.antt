@@ -16,6 +16,5 @@ returns c =
     ∙ ap (λ (b : Block). block_kind_of (use_at (b ∷ []) 0))
     (get_or_read c.self.inside.table.items c.args.block c.index.result.now inside c.index.ensures _)
     ∙ ap block_kind_of (sym
-    (use_is c.self.inside.number _ c.self.inside.table.items _ c.self.invariant.0 c.args.block
-    c.requires.low high))
+    (use_is c.self.invariant.0 c.args.block c.requires.low high))
     ∙ ap (λ (u : Uses). block_kind_of (get u.table.uses c.args.block)) c.self.view_is

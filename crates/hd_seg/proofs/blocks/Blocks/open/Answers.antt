@@ -26,4 +26,4 @@ returns-clause-none c =
     ∙ view-none c.args.number
 
 pub returns-clause-table : goal.returns-clause-table
-returns-clause-table c = is_table c.args.number _ _ _ (invariant_of-result c).0
+returns-clause-table c = is_table (invariant_of-result c).0

@@ -6,7 +6,7 @@ use Rattle.hd_seg.proofs.ReadCalls.{clump_bits}
 use Rattle.hd_seg.proofs.seg.Seg.clump.Goals as goal
 
 pub returns-clause-table : goal.returns-clause-table
-returns-clause-table c = subst (λ (t : Table). IsTable t) c.self.view_is (is_table _ _ _ _ c.self.invariant)
+returns-clause-table c = subst (λ (t : Table). IsTable t) c.self.view_is (is_table c.self.invariant)
 
 pub returns-clause-bits : goal.returns-clause-bits
 returns-clause-bits c i lt =
@@ -15,6 +15,5 @@ returns-clause-bits c i lt =
     let mask : c.index-mask.result.now ≡ get_or c.self.inside.masks.items c.args.block 0 =
     get_or_read c.self.inside.masks.items c.args.block c.index-mask.result.now
     (omega (arith, high, c.self.invariant.words)) c.index-mask.ensures 0 in
-    clump_bits c.self.inside.blocks c.self.inside.cells.items c.self.inside.masks.items c.self.inside.live
-    c.self.invariant c.args.self.now c.self.view_is c.index-mask.result.now c.args.block c.args.clump i mask
+    clump_bits c.self.invariant c.self.view_is c.index-mask.result.now c.args.block c.args.clump i mask
     high c.requires.clump lt

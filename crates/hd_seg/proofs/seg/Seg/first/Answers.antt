@@ -7,7 +7,7 @@ use Rattle.hd_seg.proofs.seg.Seg.first.Goals as goal
 use Rattle.hd_seg.proofs.seg.Seg.first.Goals.{After-first}
 
 sound : (c : After-first) → IsTable c.args.self.now
-sound c = subst (λ (t : Table). IsTable t) c.self.view_is (is_table _ _ _ _ c.self.invariant)
+sound c = subst (λ (t : Table). IsTable t) c.self.view_is (is_table c.self.invariant)
 
 pub returns-clause-table : goal.returns-clause-table
 returns-clause-table c = sound c

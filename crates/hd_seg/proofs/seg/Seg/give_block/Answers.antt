@@ -4,9 +4,10 @@ use Rattle.std.specs.FinMap.{get, len, insert}
 use Rattle.std.proofs.lemmas.Bool.{cases_eq, true≢false}
 use Rattle.hd_model.specs.State.{handles_of}
 use Rattle.hd_model.specs.Table.{Table, IsTable, IsLeastWithout, with_block, with_data}
+use Rattle.hd_model.proofs.ReadAfterWrite.{get_beside}
 use Rattle.hd_seg.specs.Blocks.{Uses}
 use Rattle.hd_seg.specs.Cells.{table_in, IsSeg}
-use Rattle.hd_seg.proofs.FunctionMaps.{get-insert_same, get-insert_other, len-insert_new}
+use Rattle.hd_seg.proofs.FunctionMaps.{get-insert_same, len-insert_new}
 use Rattle.hd_seg.proofs.RowCells.{is_table}
 use Rattle.hd_seg.proofs.BlockChange.{one-seg, one-view, two-seg, two-view}
 use Rattle.hd_seg.proofs.ReadCalls.{with_rows_least, next_least}
@@ -15,7 +16,7 @@ use Rattle.hd_seg.proofs.seg.Seg.give_block.Goals.{then-paired, else-paired, Aft
 
 pub returns-then-unused-needed-clause-table : goal.returns-then-unused-needed-clause-table
 returns-then-unused-needed-clause-table c =
-    subst (λ (t : Table). IsTable t) c.self.view_is (is_table _ _ _ _ c.self.invariant)
+    subst (λ (t : Table). IsTable t) c.self.view_is (is_table c.self.invariant)
 
 -- ---- one block
 
@@ -23,22 +24,19 @@ pub invariant_of-self : goal.invariant_of-self
 invariant_of-self c =
     subst (λ u. IsSeg u c.self.inside.cells.items c.self.inside.masks.items c.self.inside.live)
     (sym c.add-block.ensures.after)
-    (one-seg c.self.inside.blocks c.self.inside.cells.items c.self.inside.masks.items c.self.inside.live
-    c.self.invariant c.args.kind c.add-block.result c.add-block.ensures.least.unused
+    (one-seg c.self.invariant c.args.kind c.add-block.result c.add-block.ensures.least.unused
     c.add-block.ensures.plain (sym c.if-not-paired.ensures)
     (subst (λ (u : Uses). IsTable u.table) c.add-block.ensures.after c.add-block.ensures.table))
 
 pub returns-then-not-paired-clause-after : goal.returns-then-not-paired-clause-after
 returns-then-not-paired-clause-after c =
     ap (λ u. table_in u c.self.inside.cells.items) c.add-block.ensures.after
-    ∙ one-view c.self.inside.blocks c.self.inside.cells.items c.self.inside.masks.items c.self.inside.live
-    c.self.invariant c.args.kind c.add-block.result c.add-block.ensures.least.unused
-    c.add-block.ensures.plain c.args.self.now c.self.view_is
+    ∙ one-view c.self.invariant c.args.kind c.add-block.result c.add-block.ensures.least.unused
+    c.add-block.ensures.plain c.self.view_is
 
 pub returns-then-not-paired-clause-table : goal.returns-then-not-paired-clause-table
 returns-then-not-paired-clause-table c =
-    is_table c.add-block.new.self c.self.inside.cells.items c.self.inside.masks.items c.self.inside.live
-    (invariant_of-self c)
+    is_table (invariant_of-self c)
 
 -- ---- two blocks
 
@@ -71,7 +69,7 @@ add_data-data-requires-clause-used c q low high =
       | inl same ↦ ap is_some
           (get-insert_same c.self.inside.blocks.table.uses c.add-block.result (handles_of c.args.kind) q same)
       | inr apart ↦ ap is_some
-          (get-insert_other c.self.inside.blocks.table.uses c.add-block.result (handles_of c.args.kind) q
+          (get_beside c.self.inside.blocks.table.uses c.add-block.result (handles_of c.args.kind) q
           apart)
           ∙ c.add-block.ensures.least.least q low (omega arith)
     ]
@@ -103,8 +101,7 @@ both c =
 pub invariant_of-self-2 : goal.invariant_of-self-2
 invariant_of-self-2 c =
     subst (λ u. IsSeg u c.self.inside.cells.items c.self.inside.masks.items c.self.inside.live) (sym (both c))
-    (two-seg c.self.inside.blocks c.self.inside.cells.items c.self.inside.masks.items c.self.inside.live
-    c.self.invariant c.args.kind c.add-block.result c.add-block.ensures.least.unused
+    (two-seg c.self.invariant c.args.kind c.add-block.result c.add-block.ensures.least.unused
     c.add-block.ensures.plain c.add_data-data.result (data_least c).unused
     (λ same. absurd (omega (arith, (data_least c).low))) (data_least c).high (sym c.if-not-paired.ensures)
     (subst (λ (u : Uses). IsTable u.table) (both c) c.add_data-data.ensures.table))
@@ -112,20 +109,16 @@ invariant_of-self-2 c =
 pub returns-clause-grown : goal.returns-clause-grown
 returns-clause-grown c = (
   ap (λ b. cond b 2 1) (sym c.if-not-paired.ensures),
-  with_rows_least c.self.inside.blocks c.self.inside.cells.items c.args.self.now c.self.view_is 1
-      c.add-block.result c.add-block.ensures.least,
-  with_rows_least c.self.inside.blocks c.self.inside.cells.items c.args.self.now c.self.view_is
-      (c.add-block.result + 1) c.add_data-data.result (data_least c),
+  with_rows_least _ c.self.inside.cells.items c.self.view_is c.add-block.ensures.least,
+  with_rows_least _ c.self.inside.cells.items c.self.view_is (data_least c),
 )
 
 pub returns-clause-after : goal.returns-clause-after
 returns-clause-after c =
     ap (λ u. table_in u c.self.inside.cells.items) (both c)
-    ∙ two-view c.self.inside.blocks c.self.inside.cells.items c.self.inside.masks.items c.self.inside.live
-    c.self.invariant c.args.kind c.add-block.result c.add-block.ensures.least.unused
+    ∙ two-view c.self.invariant c.args.kind c.add-block.result c.add-block.ensures.least.unused
     c.add-block.ensures.plain c.add_data-data.result (data_least c).unused
-    (λ same. absurd (omega (arith, (data_least c).low))) (data_least c).high c.args.self.now c.self.view_is
+    (λ same. absurd (omega (arith, (data_least c).low))) (data_least c).high c.self.view_is
 
 pub returns-clause-table : goal.returns-clause-table
-returns-clause-table c = is_table c.add_data-data.new.self c.self.inside.cells.items c.self.inside.masks.items
-    c.self.inside.live (invariant_of-self-2 c)
+returns-clause-table c = is_table (invariant_of-self-2 c)

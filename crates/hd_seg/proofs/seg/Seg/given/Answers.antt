@@ -4,4 +4,4 @@ use Rattle.hd_seg.proofs.RowCells.{is_table}
 use Rattle.hd_seg.proofs.seg.Seg.given.Goals as goal
 
 pub returns-clause-table : goal.returns-clause-table
-returns-clause-table c = subst (λ (t : Table). IsTable t) c.self.view_is (is_table _ _ _ _ c.self.invariant)
+returns-clause-table c = subst (λ (t : Table). IsTable t) c.self.view_is (is_table c.self.invariant)

@@ -13,19 +13,16 @@ cell_is c = sym (c.cell_of.ensures ∙ ap (λ xs. cell_at xs c.args.slot.0) c.de
 pub returns-in-Empty : goal.returns-in-Empty
 returns-in-Empty c = record {
   value = elim c.in-Empty.is [
-    | inl vacant ↦ empty_read c.self.inside.blocks c.self.inside.cells.items c.self.inside.masks.items
-        c.self.inside.live c.self.invariant c.args.slot.0 c.args.self.now c.self.view_is (cell_is c ∙ vacant)
-    | inr some ↦ extra_read c.self.inside.blocks c.self.inside.cells.items c.self.inside.masks.items
-        c.self.inside.live c.self.invariant c.args.slot.0 c.args.self.now c.self.view_is some.0
+    | inl vacant ↦ empty_read c.self.invariant c.args.slot.0 c.self.view_is (cell_is c ∙ vacant)
+    | inr some ↦ extra_read c.self.invariant c.args.slot.0 c.self.view_is some.0
         (cell_is c ∙ some.1)
   ];
-  table = subst (λ (t : Table). IsTable t) c.self.view_is (is_table _ _ _ _ c.self.invariant);
+  table = subst (λ (t : Table). IsTable t) c.self.view_is (is_table c.self.invariant);
 }
 
 pub returns-in-Target-clause-value : goal.returns-in-Target-clause-value
 returns-in-Target-clause-value c =
-    row_read c.self.inside.blocks c.self.inside.cells.items c.self.inside.masks.items c.self.inside.live
-    c.self.invariant c.args.slot.0 c.args.self.now c.self.view_is c.in-Target.target c.extra_in-extra.result
+    row_read c.self.invariant c.args.slot.0 c.self.view_is c.in-Target.target c.extra_in-extra.result
     (sym (c.in-Target.ensures ∙ ap (λ xs. cell_at xs c.args.slot.0) c.deref.ensures.value))
     (c.extra_in-extra.ensures
     ∙ ap (λ xs. extra_held (cell_in xs c.extra_place.result)) c.deref-in-Target.ensures.value
@@ -33,4 +30,4 @@ returns-in-Target-clause-value c =
 
 pub returns-in-Target-clause-table : goal.returns-in-Target-clause-table
 returns-in-Target-clause-table c =
-    subst (λ (t : Table). IsTable t) c.self.view_is (is_table _ _ _ _ c.self.invariant)
+    subst (λ (t : Table). IsTable t) c.self.view_is (is_table c.self.invariant)

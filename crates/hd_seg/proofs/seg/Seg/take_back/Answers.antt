@@ -17,24 +17,21 @@ in_use c = (single_in (get c.self.inside.blocks.table.uses c.args.block)
 
 vacant : (c : After-remove) (q : ℕ) → q / 64 ≡ c.args.block
     → row_in c.self.inside.blocks c.self.inside.cells.items q ≡ None
-vacant c q is = sym (row_is c.self.inside.blocks c.self.inside.cells.items c.self.inside.masks.items
-    c.self.inside.live c.self.invariant q) ∙ ap (λ (t : Table). get t.rows q) c.self.view_is
+vacant c q is = sym (row_is c.self.invariant q) ∙ ap (λ (t : Table). get t.rows q) c.self.view_is
     ∙ c.requires.vacant q is
 
 pub invariant_of-self : goal.invariant_of-self
 invariant_of-self c =
     subst (λ u. IsSeg u c.self.inside.cells.items c.self.inside.masks.items c.self.inside.live)
     (sym c.remove.ensures.after)
-    (back-seg c.self.inside.blocks c.self.inside.cells.items c.self.inside.masks.items c.self.inside.live
-    c.self.invariant c.args.block (kind_at c.self.inside.blocks.table c.args.block) (in_use c)
+    (back-seg c.self.invariant c.args.block (kind_at c.self.inside.blocks.table c.args.block) (in_use c)
     (vacant c)
     (subst (λ (u : Uses). IsTable u.table) c.remove.ensures.after c.remove.ensures.table))
 
 pub returns : goal.returns
 returns c =
     ap (λ u. table_in u c.self.inside.cells.items) c.remove.ensures.after
-    ∙ back-view c.self.inside.blocks c.self.inside.cells.items c.self.inside.masks.items c.self.inside.live
-    c.self.invariant c.args.block (kind_at c.self.inside.blocks.table c.args.block) (in_use c)
-    (vacant c) c.args.self.now c.self.view_is
+    ∙ back-view c.self.invariant c.args.block (kind_at c.self.inside.blocks.table c.args.block) (in_use c)
+    (vacant c) c.self.view_is
     ∙ ap (λ k. without_block c.args.self.now k c.args.block)
     (ap (λ (t : Table). kind_at t c.args.block) c.self.view_is)
