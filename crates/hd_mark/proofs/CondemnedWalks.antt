@@ -1,7 +1,7 @@
 -- The walks that count condemned objects and give their regions indices.
 use Rattle.std.proofs.Common.{◌≡◌, ℕ, ◌+◌, ◌-◌, ◌/◌, ◌%◌, ◌^◌, ◌<◌, ◌≤◌, Bool, true, false, ◌&&◌, List, [], ◌∷◌, length, Option, Some, None, inl, inr, refl, subst, arith}
 use Rattle.std.specs.Prelude.{Contains, is_some, ⊤}
-use Rattle.std.proofs.lemmas.Bool.{cases_lt, both_ways, lt-ltb, le-ltb}
+use Rattle.std.proofs.lemmas.Bool.{cases_lt, both_ways, and_parts, lt-ltb, le-ltb}
 use Rattle.hd_model.specs.declared.data.Addr.{Addr}
 use Rattle.hd_model.specs.Heap.{Heap, region_of, has_object}
 use Rattle.hd_model.proofs.Members.{first_in, later_in}
@@ -23,10 +23,6 @@ up_to at b e =
       | inl less ↦ absurd (both_ways _ e (lt-ltb at.0 b.0 less))
       | inr le ↦ le
     ]
-
-first_true : (b c : Bool) → (b && c) ≡ true → b ≡ true
-first_true true c e = refl
-first_true false c e = absurd (cc e)
 
 -- the number of an address, 0 for none
 abbrev pub last_of : Option Addr → ℕ
@@ -97,7 +93,7 @@ walk_falls h sound p there after at next =
 
 module _ (h : Heap) (n : ℕ) (sound : IsSound h) where
   there : (a : Addr) → is_condemned h n a ≡ true → has_object h a ≡ true
-  there a condemned = first_true _ _ condemned
+  there a condemned = (and_parts _ _ condemned).0
 
   -- ---- the count
 

@@ -3,7 +3,7 @@ use Rattle.std.proofs.Common.{◌≡◌, ℕ, ◌+◌, ◌<◌, ◌≤◌, Bool,
 use Rattle.std.specs.Prelude.{Contains, is_some, if◌then◌else◌}
 use Rattle.std.specs.FinSet.{FinSet, contains, insert, empty, contains-empty}
 use Rattle.std.specs.Ordering.{nat_cmp}
-use Rattle.std.proofs.lemmas.Bool.{cases_eq, cases_lt, both_ways, lt-ltb, le-ltb}
+use Rattle.std.proofs.lemmas.Bool.{cases_eq, cases_lt, both_ways, lt-ltb, le-ltb, or_cases, or_left, or_right}
 use Rattle.hd_model.specs.declared.data.Addr.{Addr}
 use Rattle.hd_model.specs.State.{Object}
 use Rattle.hd_model.specs.Heap.{Heap, Basis, object_at, objects_of}
@@ -15,7 +15,8 @@ use Rattle.hd_model.proofs.Members.{not_in_none, first_in, later_in, member_case
 use Rattle.hd_mark.specs.Marks.{MarksOf, is_older, promoted_in, pinned_in, pushed, pinned_also, first_marks, HasNoneYet, IsSettledMarks}
 use Rattle.hd_mark.specs.Steps.{scanned, IsTraced}
 use Rattle.hd_mark.proofs.MarkBits.{insert_here, insert_elsewhere, insert_keeps}
-use Rattle.hd_mark.proofs.MarkPush.{Pushes, work, pushes_one, scan_pushes, stays_promoted, promoted_how, push_cases, same_address, either, left_or, right_or}
+use Rattle.hd_mark.proofs.MarkPush.{Pushes, work, pushes_one, scan_pushes, stays_promoted, promoted_how, push_cases}
+use Rattle.hd_heap.proofs.HeapValues.{same_address}
 
 -- ---- older objects
 
@@ -192,8 +193,8 @@ module _ (m n : MarksOf) (d : IsDraining m n) (x : Addr) (rest : List Addr) (top
       ⊎ IsLed m z
   after_only z h =
       ⊎_elim
-      (λ older. d.only z (left_or _ _ (ap (λ (b : Basis). is_older b z) (sym scan.0.basis) ∙ older)))
-      (λ marked. ⊎_elim (λ old. d.only z (right_or (is_older n.basis z) _ old))
+      (λ older. d.only z (or_left _ _ (ap (λ (b : Basis). is_older b z) (sym scan.0.basis) ∙ older)))
+      (λ marked. ⊎_elim (λ old. d.only z (or_right (is_older n.basis z) _ old))
       (λ (new : Start z × (Contains after.stacked z × (is_older n.basis z ≡ false))). inr (named z new.0))
       (scan.0.only z marked)) (promoted_how after z h)
 
@@ -227,7 +228,7 @@ settled_empty m t empty = record {
   settled = record {
     objects = λ x h. ⊎_elim (λ older. old_object m.basis x older) (λ marked. (t.marked x marked).object)
         (promoted_how m x h);
-    older = λ x less. left_or _ _ (older_is m.basis x less);
+    older = λ x less. or_left _ _ (older_is m.basis x less);
     closed = λ x y h f. ⊎_elim
         (λ on. absurd (not_in_none x (subst (λ (xs : List Addr). Contains xs x) empty on)))
         (λ (done : (z : Addr) → IsField (objects_of m.basis) x z → promoted_in m z ≡ true). done y f.field)
@@ -278,25 +279,25 @@ pin_settled m a s = pin_cases IsSettledMarks m a (λ e. s)
 joined_only : (b : Bool) (s : FinSet nat_cmp) (a x : Addr) → (b || contains (insert s a.0) x.0) ≡ true
     → ((b || contains s x.0) ≡ true) ⊎ (x ≡ a)
 joined_only b s a x h =
-    ⊎_elim (λ older. inl (left_or b _ older))
+    ⊎_elim (λ older. inl (or_left b _ older))
     (λ member. elim (cases_eq x.0 a.0) [
       | inl e ↦ inr (same_address x a e)
-      | inr apart ↦ inl (right_or b _ (sym (insert_elsewhere s a.0 x.0 apart) ∙ member))
-    ]) (either b _ h)
+      | inr apart ↦ inl (or_right b _ (sym (insert_elsewhere s a.0 x.0 apart) ∙ member))
+    ]) (or_cases b _ h)
 
 joined_keeps : (b : Bool) (s : FinSet nat_cmp) (a x : Addr) → (b || contains s x.0) ≡ true
     → (b || contains (insert s a.0) x.0) ≡ true
 joined_keeps b s a x h =
-    ⊎_elim (λ older. left_or b _ older) (λ member. right_or b _ (insert_keeps s a.0 x.0 member))
-    (either b _ h)
+    ⊎_elim (λ older. or_left b _ older) (λ member. or_right b _ (insert_keeps s a.0 x.0 member))
+    (or_cases b _ h)
 
 pub pin_gains : (m : MarksOf) (a : Addr) → Gains a (pinned_in m) (pinned_in (pinned_also m a))
 pin_gains m a =
     pin_cases (λ (k : MarksOf). Gains a (pinned_in m) (pinned_in k)) m a
-    (λ e. record { keeps = λ x h. h; joins = left_or _ _ e; only = λ x h. inl h })
+    (λ e. record { keeps = λ x h. h; joins = or_left _ _ e; only = λ x h. inl h })
     (λ e. record {
       keeps = λ x h. joined_keeps (is_older m.basis x) m.pins a x h;
-      joins = right_or (is_older m.basis a) _ (insert_here m.pins a.0 a.0 refl);
+      joins = or_right (is_older m.basis a) _ (insert_here m.pins a.0 a.0 refl);
       only = λ x h. joined_only (is_older m.basis x) m.pins a x h;
     })
 
@@ -331,7 +332,7 @@ promote_grows m q a s = push_cases Follows m a old new
     new e g = record {
       keeps = λ x h. g.keeps x (joined_keeps (is_older m.basis x) m.marks a x h);
       joins = λ x same. g.keeps x
-          (right_or (is_older m.basis x) _ (insert_here m.marks a.0 x.0 (ap (λ (y : Addr). y.0) same)));
+          (or_right (is_older m.basis x) _ (insert_here m.marks a.0 x.0 (ap (λ (y : Addr). y.0) same)));
       only = λ x h. ⊎_elim
           (λ before. ⊎_elim (λ was. inl was) (λ (same : x ≡ a). inr (x, (same, Leads.here)))
           (joined_only (is_older m.basis x) m.marks a x before))

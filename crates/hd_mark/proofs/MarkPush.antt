@@ -5,7 +5,7 @@ use Rattle.std.specs.FinMap as map
 use Rattle.std.specs.FinSet.{FinSet, contains, insert}
 use Rattle.std.specs.Ordering.{nat_cmp}
 use Rattle.std.specs.Cmp.{unsigned_tied}
-use Rattle.std.proofs.lemmas.Bool.{cases_eq, eqb-true}
+use Rattle.std.proofs.lemmas.Bool.{cases_eq, eqb-true, or_cases, or_left, or_right, or_parts}
 use Rattle.std.proofs.lemmas.Map.Views.{Contains-from_any}
 use Rattle.hd_model.specs.declared.data.Addr.{Addr}
 use Rattle.hd_model.specs.Heap.{Heap, Basis, has_object, objects_of}
@@ -17,33 +17,12 @@ use Rattle.hd_mark.specs.Marks.{MarksOf, is_older, promoted_in, pushed}
 use Rattle.hd_mark.specs.Steps.{scanned}
 use Rattle.hd_mark.proofs.MarkBits.{insert_here, insert_elsewhere, insert_keeps}
 use Rattle.hd_mark.proofs.UnmarkedCount.{left_falls}
-
--- ---- tests
-
-pub either : (b c : Bool) → (b || c) ≡ true → (b ≡ true) ⊎ (c ≡ true)
-either true c e = inl refl
-either false c e = inr e
-
-pub left_or : (b c : Bool) → b ≡ true → (b || c) ≡ true
-left_or true c e = refl
-left_or false c e = absurd (cc e)
-
-pub right_or : (b c : Bool) → c ≡ true → (b || c) ≡ true
-right_or true c e = refl
-right_or false c e = e
-
-pub neither : (b c : Bool) → (b || c) ≡ false → (b ≡ false) × (c ≡ false)
-neither true c e = absurd (cc e)
-neither false c e = (refl, e)
+use Rattle.hd_heap.proofs.HeapValues.{same_address}
 
 -- what is promoted is older or marked
 pub promoted_how : (m : MarksOf) (x : Addr) → promoted_in m x ≡ true
     → (is_older m.basis x ≡ true) ⊎ (contains m.marks x.0 ≡ true)
-promoted_how m x e = either _ _ e
-
--- two addresses of one number are one
-pub same_address : (x y : Addr) → x.0 ≡ y.0 → x ≡ y
-same_address x y e = λ i. record { 0 = e i }
+promoted_how m x e = or_cases _ _ e
 
 -- ---- what is left to promote or to scan
 
@@ -100,7 +79,7 @@ module _ (S : Addr → Type 0) where
       → promoted_in m a ≡ false → Pushes S m (marked_also m a)
   unfolding work
   pushes_new m a start object not_yet =
-      let (young, unmarked) = neither _ _ not_yet in
+      let (young, unmarked) = or_parts _ _ not_yet in
       let falls = left_falls m.marks a.0 (map.keys m.basis.heap.objects) unmarked
       (key_of m.basis.heap a object) in
       record {
@@ -162,13 +141,13 @@ module _ (S : Addr → Type 0) where
   pub push_promotes : (m : MarksOf) (a : Addr) → promoted_in (pushed m a) a ≡ true
   push_promotes m a =
       push_cases (λ (n : MarksOf). promoted_in n a ≡ true) m a (λ e. e)
-      (λ e. right_or (is_older m.basis a) _ (insert_here m.marks a.0 a.0 refl))
+      (λ e. or_right (is_older m.basis a) _ (insert_here m.marks a.0 a.0 refl))
 
   pub stays_promoted : (m n : MarksOf) → Pushes S m n → (x : Addr) → promoted_in m x ≡ true
       → promoted_in n x ≡ true
   stays_promoted m n p x h =
-      ⊎_elim (λ older. left_or _ _ (ap (λ (b : Basis). is_older b x) p.basis ∙ older))
-      (λ marked. right_or (is_older n.basis x) _ (p.keeps x marked)) (promoted_how m x h)
+      ⊎_elim (λ older. or_left _ _ (ap (λ (b : Basis). is_older b x) p.basis ∙ older))
+      (λ marked. or_right (is_older n.basis x) _ (p.keeps x marked)) (promoted_how m x h)
 
   -- a scan pushes what the fields reference, and all of it is promoted then
   pub scan_pushes : (fields : List (Option Addr)) (m : MarksOf)

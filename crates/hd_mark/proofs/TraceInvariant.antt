@@ -1,12 +1,12 @@
 -- What a trace keeps of its bits and its stack.
-use Rattle.std.proofs.Common.{◌≡◌, ◌≢◌, ℕ, ◌+◌, ◌*◌, ◌%◌, ◌<◌, ◌≤◌, Bool, true, false, ◌&&◌, ◌||◌, List, [], ◌∷◌, ◌++◌, length, Option, refl, sym, ap, ◌∙◌, subst, length-append, arith}
+use Rattle.std.proofs.Common.{◌≡◌, ◌≢◌, ℕ, ◌+◌, ◌*◌, ◌%◌, ◌<◌, ◌≤◌, true, false, ◌||◌, List, [], ◌∷◌, ◌++◌, length, Option, refl, sym, ap, ◌∙◌, subst, length-append, arith}
 use Rattle.std.specs.Prelude.{IfSome, is_some, reverse, if◌then◌else◌}
 use Rattle.std.specs.FinSet.{FinSet, contains, insert}
 use Rattle.std.specs.Ordering.{nat_cmp}
-use Rattle.std.proofs.lemmas.Bool.{le-leb}
+use Rattle.std.proofs.lemmas.Bool.{le-leb, and_from, or_parts}
 use Rattle.std.proofs.lemmas.List.{reverse-append}
 use Rattle.hd_model.specs.declared.data.Addr.{Addr}
-use Rattle.hd_model.specs.Heap.{Heap, region_of, has_object, object_at, objects_of}
+use Rattle.hd_model.specs.Heap.{Basis, region_of, objects_of}
 use Rattle.hd_model.specs.Scene.{is_object, generation_at}
 use Rattle.hd_heap.specs.Calls.{is_condemned}
 use Rattle.hd_mark.specs.Inside.{is_set, place_at, set_of, left, IsTrace}
@@ -14,19 +14,13 @@ use Rattle.hd_mark.specs.Marks.{MarksOf, is_older, promoted_in, pinned_in, pushe
 use Rattle.hd_mark.proofs.MarkBits.{bit_read, bit_joins}
 use Rattle.hd_mark.proofs.UnmarkedCount.{left_falls}
 use Rattle.hd_mark.proofs.MarkDrain.{is_young}
-use Rattle.hd_mark.proofs.MarkPush.{neither}
 
-both : (b c : Bool) → b ≡ true → c ≡ true → (b && c) ≡ true
-both true true p q = refl
-both true false p q = absurd (cc q)
-both false c p q = absurd (cc p)
-
-module _ (h : Heap) (n : ℕ) (places : List (Option ℕ)) (regions : ℕ) (marks pins : List ℕ) (stack : List Addr)
-    (room : ℕ) (t : IsTrace h n places regions marks pins stack room) where
+module _ (b : Basis) (places : List (Option ℕ)) (regions : ℕ) (marks pins : List ℕ) (stack : List Addr) (room : ℕ)
+    (t : IsTrace b places regions marks pins stack room) where
   -- what is seen of the fields
   abbrev pub seen : List ℕ → List ℕ → List Addr → MarksOf
   seen marked pinned stacked = record {
-    basis = record { heap = h; condemned = n };
+    basis = b;
     marks = set_of places marked;
     pins = set_of places pinned;
     stacked = reverse stacked;
@@ -34,15 +28,11 @@ module _ (h : Heap) (n : ℕ) (places : List (Option ℕ)) (regions : ℕ) (mark
 
   module _ (m : MarksOf) (view : seen marks pins stack ≡ m) (at : Addr)
       (object : is_object (objects_of m.basis) at ≡ true) (not_older : is_older m.basis at ≡ false) where
-    object_here : has_object h at ≡ true
-    object_here = subst (λ (k : MarksOf). is_object (objects_of k.basis) at ≡ true) (sym view) object
-
-    condemned_here : is_condemned h n at ≡ true
+    condemned_here : is_condemned b.heap b.condemned at ≡ true
     condemned_here =
-        both _ _ object_here
-        (le-leb (generation_at (object_at h) at) n
-        (is_young (record { heap = h; condemned = n }) at
-        (subst (λ (k : MarksOf). is_older k.basis at ≡ false) (sym view) not_older)))
+        and_from _ _ (subst (λ (k : MarksOf). is_object (objects_of k.basis) at ≡ true) (sym view) object)
+        (le-leb (generation_at (objects_of b) at) b.condemned
+        (is_young b at (subst (λ (k : MarksOf). is_older k.basis at ≡ false) (sym view) not_older)))
 
     pub has_place : is_some (place_at places (region_of at)) ≡ true
     has_place = t.covers at condemned_here
@@ -88,7 +78,7 @@ module _ (h : Heap) (n : ℕ) (places : List (Option ℕ)) (regions : ℕ) (mark
             fewer_left : left (set_of places after) t.members + 1 ≤ left (set_of places marks) t.members
             fewer_left =
                 let out : contains (set_of places marks) at.0 ≡ false =
-                ap (λ (k : MarksOf). contains k.marks at.0) view ∙ (neither _ _ unmarked).1 in
+                ap (λ (k : MarksOf). contains k.marks at.0) view ∙ (or_parts _ _ unmarked).1 in
                 subst (λ (s : FinSet nat_cmp). left s t.members + 1 ≤ left (set_of places marks) t.members)
                 (sym marks_more)
                 (left_falls (set_of places marks) at.0 t.members out (t.all at condemned_here))
@@ -98,7 +88,7 @@ module _ (h : Heap) (n : ℕ) (places : List (Option ℕ)) (regions : ℕ) (mark
 
             module _ (longer : List Addr) (longer_is : longer ≡ stack ++ at ∷ []) where
               pub push_kept : length after ≡ length marks
-                  → IsTrace h n places regions after pins longer room
+                  → IsTrace b places regions after pins longer room
               push_kept same = record {
                 table = t.table;
                 few = t.few;

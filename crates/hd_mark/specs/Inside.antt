@@ -1,11 +1,12 @@
--- How marks and pins are stored in bits, and what is always true of the fields of a trace.
+-- No public clause needs what is defined here: how marks and pins are stored in bits, and what is always true of
+-- the fields of a trace.
 use Rattle.std.specs.Prelude.{◌≡◌, ℕ, ◌+◌, ◌*◌, ◌/◌, ◌%◌, ◌<◌, ◌≤◌, ◌==◌, not, Bool, true, false, List, length, filter, slice_index, slice_index_or, Contains, Option, Some, None, IsSome}
 use Rattle.std.specs.Int.{bit_at}
 use Rattle.std.specs.FinSet.{FinSet, contains}
 use Rattle.std.specs.Ordering.{nat_cmp}
 use Rattle.hd_model.specs.declared.limits.TheConstants.{REGION, REGIONS}
 use Rattle.hd_model.specs.declared.data.Addr.{Addr}
-use Rattle.hd_model.specs.Heap.{Heap, region_of}
+use Rattle.hd_model.specs.Heap.{Heap, Basis, region_of}
 use Rattle.hd_heap.specs.Calls.{is_condemned}
 use Rattle.hd_heap.specs.Places.{places_of, tables}
 use Rattle.hd_mark.specs.declared.bits.TheConstants.{BITS, WORDS}
@@ -53,13 +54,13 @@ abbrev pub left : FinSet nat_cmp → List ℕ → ℕ
 left s members = length (filter (λ k. not (contains s k)) members)
 
 -- each condemned object has a mark bit and a pin bit, and the stack has room for those that are not marked
-pub record IsTrace (h : Heap) (n : ℕ) (places : List (Option ℕ)) (regions : ℕ) (marks pins : List ℕ)
+pub record IsTrace (b : Basis) (places : List (Option ℕ)) (regions : ℕ) (marks pins : List ℕ)
     (stack : List Addr) (room : ℕ) : Type 0 where
   pub table : IsTable places regions
   pub few : regions ≤ REGIONS
-  pub covers : Covers h n places
+  pub covers : Covers b.heap b.condemned places
   pub marks_long : length marks ≡ WORDS * regions
   pub pins_long : length pins ≡ WORDS * regions
   pub members : List ℕ
-  pub all : (a : Addr) → is_condemned h n a ≡ true → Contains members a.0
+  pub all : (a : Addr) → is_condemned b.heap b.condemned a ≡ true → Contains members a.0
   pub room_left : length stack + left (set_of places marks) members ≤ room

@@ -1,4 +1,4 @@
--- How marks grow by the steps of a trace.
+-- No public clause needs what is defined here: how marks grow by the steps of a trace.
 use Rattle.std.specs.Prelude.{◌≡◌, ◌⊎◌, true, List, fold, Contains, Option, Some, None}
 use Rattle.std.specs.FinSet.{contains}
 use Rattle.hd_model.specs.declared.data.Addr.{Addr}

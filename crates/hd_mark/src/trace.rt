@@ -42,8 +42,9 @@ impl<'h> Model for Trace<'h> {
       stacked = reverse t.stack.items;
     } };
 
-    ghost invariant = { λ t. IsTrace t.heap.now t.condemned t.places.places.items t.places.regions
-        t.marks.words.items t.pins.words.items t.stack.items (vec_capacity t.stack) };
+    ghost invariant = { λ t. IsTrace (record { heap = t.heap.now; condemned = t.condemned })
+        t.places.places.items t.places.regions t.marks.words.items t.pins.words.items t.stack.items
+        (vec_capacity t.stack) };
 }
 
 impl<'h> Trace<'h> {

@@ -1,7 +1,7 @@
 -- Lemmas on cards that are set and cleared.
 use Rattle.std.proofs.Common.{◌≡◌, ◌≢◌, ℕ, ◌+◌, ◌*◌, ◌/◌, ◌^◌, ◌<◌, ◌≤◌, inl, inr, Bool, true, false, not, ◌&&◌, List, length, get_or, Option, Some, None, refl, sym, ap, ◌∙◌, subst, arith}
 use Rattle.std.specs.Prelude.{◌||◌, is_some, ◌-◌, ◌↔◌, nat_lt, Contains}
-use Rattle.std.proofs.lemmas.Bool.{cases_eq, cases_lt, both_ways, and_parts, and_from, and_left, or_left, lt-ltb, ltb-true, ltb-false, eq-eqb, eqb-true, false_from_ne_true}
+use Rattle.std.proofs.lemmas.Bool.{cases_eq, cases_lt, cases_Bool, both_ways, and_parts, and_from, and_left, or_left, lt-ltb, ltb-true, ltb-false, eq-eqb, eqb-true, false_from_ne_true}
 use Rattle.std.proofs.lemmas.List.{get_or_default}
 use Rattle.std.specs.Ordering.{nat_cmp, eq_by_cmp}
 use Rattle.std.specs.Cmp.{nat_cmp_total}
@@ -15,18 +15,14 @@ use Rattle.hd_model.proofs.Members.{member_at}
 use Rattle.hd_heap.specs.Calls.{with_card, is_after, is_old_carded, IsWalk, IsNext}
 use Rattle.hd_heap.specs.Sound.{IsSound}
 use Rattle.hd_heap.proofs.IndexedLists.{tied, untied}
-use Rattle.hd_plan.specs.declared.moves.Fate.{Fate}
-use Rattle.hd_plan.specs.declared.moves.Fate.TheVariants.{Dead, Pinned, MovesToNewRegion, Moves}
 use Rattle.hd_plan.specs.declared.moves.Move.{Move}
 use Rattle.hd_plan.specs.Layout.{move_at, is_kept_fate}
 use Rattle.hd_plan.specs.Commit.{NeedsCard}
-use Rattle.hd_plan.proofs.CondemnedAddresses.{addr_is}
-use Rattle.hd_plan.specs.CommitSteps.{HasCard, AreCarded, IsExactAt, NamesYounger, starts_in, AreUnneeding, IsBefore, IsExactBehind, next_to, left_from}
-use Rattle.hd_plan.proofs.LayStep.{address_low}
+use Rattle.hd_plan.proofs.CondemnedAddresses.{some_is}
+use Rattle.hd_plan.specs.CommitSteps.{AreCarded, IsExactAt, NamesYounger, starts_in}
+use Rattle.hd_plan.proofs.LayStep.{address_low, reach_of, reach_on}
 use Rattle.hd_plan.proofs.MoveEnds.{ends_cases, ends_skip}
-
-same_some : (x y : Addr) → Some x ≡ Some y → x ≡ y
-same_some x y e = cc
+use Rattle.hd_heap.proofs.HeapValues.{same_address}
 
 module _ (old h new : Heap) (k : ℕ) (on : Bool) (same : h ≡ record old { cards = h.cards })
     (step : new ≡ with_card h k on) where
@@ -75,17 +71,13 @@ module _ (old h : Heap) (ms : List Move) (i : ℕ) (r : AreCarded old h ms i) wh
         ];
       }
 
-  carded_by : (w : Fate) (new : Heap) → (move_at ms i).fate ≡ w → HasCard w h new (move_at ms i)
+  pub carded_step : (new : Heap) → (is_kept_fate (move_at ms i).fate ≡ false → new ≡ h)
+      → (is_kept_fate (move_at ms i).fate ≡ true → new ≡ with_card h (card_of (move_at ms i).to) true)
       → AreCarded old new ms (i + 1)
-  carded_by Dead new is same =
-      subst (λ (x : Heap). AreCarded old x ms (i + 1)) (sym same) (carded_gone (ap is_kept_fate is))
-  carded_by Pinned new is set = carded_kept new (ap is_kept_fate is) set
-  carded_by MovesToNewRegion new is set = carded_kept new (ap is_kept_fate is) set
-  carded_by Moves new is set = carded_kept new (ap is_kept_fate is) set
-
-  pub carded_step : (new : Heap) → HasCard (move_at ms i).fate h new (move_at ms i)
-      → AreCarded old new ms (i + 1)
-  carded_step new set = carded_by (move_at ms i).fate new refl set
+  carded_step new gone kept = elim (cases_Bool (is_kept_fate (move_at ms i).fate)) [
+    | inl is ↦ carded_kept new is (kept is)
+    | inr none ↦ subst (λ (x : Heap). AreCarded old x ms (i + 1)) (sym (gone none)) (carded_gone none)
+  ]
 
 -- the fields of an object, one after another
 pub field_read : (xs : List (Option Addr)) (i : ℕ) (y : Addr) → i < length xs → Some y ≡ get_or xs i None
@@ -148,12 +140,26 @@ next_beyond h at next is other a starts = false_from_ne_true (nat_lt at.0 a.0) (
     let same : a.0 / 32 ≡ at.0 / 32 = sym (card_is a) ∙ parts.1 ∙ card_is at in
     other (omega arith))
 
--- no object of the card before an address needs it
+-- how many addresses of 32 bits there are from a given one on; none where there is none
+abbrev pub left_from : Option Addr → ℕ
+left_from None = 0
+left_from (Some a) = 2 ^ 32 - a.0
+
+-- an address before a given one; each is before the end, where there is none
+abbrev pub IsBefore : Option Addr → Addr → Type 0
+IsBefore None b = Unit {0}
+IsBefore (Some a) b = b.0 < a.0
+
+-- no object of a card that is before an address has a field to a younger one
+pub record AreUnneeding (h : Heap) (card : ℕ) (place : Option Addr) : Type 0 where
+  pub here : (a : Addr) → place ≡ Some a → starts_in h card a ≡ true
+  pub before : (b : Addr) → starts_in h card b ≡ true → IsBefore place b → NamesYounger h b → ⊥
+
 pub unneeding_starts : (h : Heap) (first : Addr) → has_object h first ≡ true
     → ((b : Addr) → starts_in h (card_of first) b ≡ true → first.0 ≤ b.0)
     → AreUnneeding h (card_of first) (Some first)
 unneeding_starts h first is least = record {
-  here = λ a e. subst (λ (x : Addr). starts_in h (card_of first) x ≡ true) (same_some first a e)
+  here = λ a e. subst (λ (x : Addr). starts_in h (card_of first) x ≡ true) (some_is first a e)
       (starts_from h (card_of first) first is refl);
   before = λ b starts low needs. (let high = least b starts in absurd (omega arith));
 }
@@ -181,7 +187,7 @@ module _ (h : Heap) (card : ℕ) (place : Option Addr) (at : Addr) (is : place �
       -- up to this object
       through : (b : Addr) → starts_in h card b ≡ true → b.0 ≤ at.0 → NamesYounger h b → ⊥
       through b starts le n = elim (cases_eq b.0 at.0) [
-        | inl same ↦ none (subst (NamesYounger h) (addr_is b at same) n)
+        | inl same ↦ none (subst (NamesYounger h) (same_address b at same) n)
         | inr apart ↦ r.before b starts (subst (λ o. IsBefore o b) (sym is) (omega arith)) n
       ]
 
@@ -191,7 +197,7 @@ module _ (h : Heap) (card : ℕ) (place : Option Addr) (at : Addr) (is : place �
         before = λ b starts low n. through b starts (ltb-false at.0 b.0 (w b starts)) n;
       }
       by (Some x) w = record {
-        here = λ a e. subst (λ (y : Addr). starts_in h card y ≡ true) (same_some x a e) w.member;
+        here = λ a e. subst (λ (y : Addr). starts_in h card y ≡ true) (some_is x a e) w.member;
         before = λ b starts low n. elim (cases_lt at.0 b.0) [
           | inl after ↦ absurd (let high = w.least b starts (lt-ltb at.0 b.0 after) in omega arith)
           | inr up ↦ through b starts up n
@@ -214,7 +220,15 @@ unneeding_ends h card r n =
     r.before n.from (starts_from h card n.from (has_from h n.from n.to n.field) n.in_card) tt
     (record { target = n.to; field = n.field; younger = n.younger })
 
--- cards are exact up to the end of a card
+-- cards are set only where an object needs them up to the end of the card in which an address is, and
+-- everywhere where one does
+pub record IsExactBehind (old h : Heap) (after : Option Addr) : Type 0 where
+  pub end : ℕ
+  pub same : h ≡ record old { cards = h.cards }
+  pub needed : (c : ℕ) → c < end → is_set h c ≡ true → NeedsCard old c
+  pub kept : (c : ℕ) → NeedsCard old c → is_set h c ≡ true
+  pub is : reach_of after ≡ end * 32
+
 needs_like : (old h : Heap) (c : ℕ) → h ≡ record old { cards = h.cards } → NeedsCard h c → NeedsCard old c
 needs_like old h c same n =
     let is : (k : Heap) → h ≡ k → NeedsCard k c = λ k e. subst (λ (x : Heap). NeedsCard x c) e n in
@@ -229,25 +243,22 @@ needs_back old h c same n =
 
 module _ (old h : Heap) (after : Option Addr) (sound : IsSound h) (grown : (a : Addr)
     → has_object old a ≡ true → 0 < generation_at (object_at old) a) (r : IsExactBehind old h after) where
-  same : h ≡ record old { cards = h.cards }
-  same = r.cards.same
-
   pub exact_fields : HasClosedFields (object_at old) → HasClosedFields (object_at h)
-  exact_fields closed = subst (λ (k : Heap). HasClosedFields (object_at k)) (sym same) closed
+  exact_fields closed = subst (λ (k : Heap). HasClosedFields (object_at k)) (sym r.same) closed
 
   -- an object in a set card after the end is walked over later
   beyond : (b : Addr) → r.end ≤ card_of b → is_after after b ≡ true
   beyond b high = by after r.is
     where
-      by : (o : Option Addr) → next_to o ≡ r.end * 32 → is_after o b ≡ true
+      by : (o : Option Addr) → reach_of o ≡ r.end * 32 → is_after o b ≡ true
       by None e = refl
       by (Some a) e = lt-ltb a.0 b.0 (let is = card_is b in omega arith)
 
   walked : (b : Addr) → has_object h b ≡ true → is_set h (card_of b) ≡ true → is_old_carded h 0 b ≡ true
   walked b is set =
-      let there : has_object old b ≡ true = sym (ap (λ (k : Heap). has_object k b) same) ∙ is in
+      let there : has_object old b ≡ true = sym (ap (λ (k : Heap). has_object k b) r.same) ∙ is in
       let old_enough : 0 < generation_at (object_at h) b =
-      subst (λ (k : Heap). 0 < generation_at (object_at k) b) (sym same) (grown b there) in
+      subst (λ (k : Heap). 0 < generation_at (object_at k) b) (sym r.same) (grown b there) in
       and_from _ _ (and_from _ _ is (lt-ltb 0 (generation_at (object_at h) b) old_enough)) set
 
   module _ (at : Addr) (found : IsNext (is_old_carded h 0) after at) where
@@ -255,11 +266,7 @@ module _ (old h : Heap) (after : Option Addr) (sound : IsSound h) (grown : (a : 
     parts = let p = and_parts _ _ found.member in ((and_parts _ _ p.0).0, p.1)
 
     above : r.end ≤ card_of at
-    above = by after r.is found.beyond
-      where
-        by : (o : Option Addr) → next_to o ≡ r.end * 32 → is_after o at ≡ true → r.end ≤ card_of at
-        by None e b = omega arith
-        by (Some a) e b = (let up = ltb-true a.0 at.0 b in let is = card_is at in omega arith)
+    above = (let is = card_is at in let on = reach_on after at found.beyond in let end = r.is in omega arith)
 
     pub exact_first : (b : Addr) → starts_in h (card_of at) b ≡ true → at.0 ≤ b.0
     exact_first b starts =
@@ -268,7 +275,7 @@ module _ (old h : Heap) (after : Option Addr) (sound : IsSound h) (grown : (a : 
         found.least b (walked b p.0 (ap (is_set h) p.1 ∙ parts.1)) (beyond b high)
 
     pub exact_less : (last : Addr) → last.0 + 1 ≡ (card_of at + 1) * 32
-        → 2 ^ 32 - next_to (Some last) < 2 ^ 32 - next_to after
+        → 2 ^ 32 - reach_of (Some last) < 2 ^ 32 - reach_of after
     exact_less last is =
         (let place = r.is in let up = above in let low = (address_low h sound at parts.0).1 in
         let card = card_is at in omega arith)
@@ -278,32 +285,28 @@ module _ (old h : Heap) (after : Option Addr) (sound : IsSound h) (grown : (a : 
         → IsExactBehind old new (Some last)
     exact_next new needed last is tells step = record {
       end = card_of at + 1;
-      cards = record {
-        same = only_cards old h new (card_of at) needed same step;
-        needed = λ c low set. elim (cases_eq c (card_of at)) [
-          | inl here ↦
-              let on : needed ≡ true = sym (card_here h new (card_of at) needed step)
-              ∙ ap (is_set new) (sym here) ∙ set in
-              subst (NeedsCard old) (sym here) (needs_like old h (card_of at) same (tells.0 on))
-          | inr apart ↦ between c apart low (sym (card_beside h new (card_of at) c needed apart step) ∙ set)
-        ];
-        kept = λ c n. elim (cases_eq c (card_of at)) [
-          | inl here ↦
-              let on : needed ≡ true =
-              tells.1 (needs_back old h (card_of at) same (subst (NeedsCard old) here n)) in
-              ap (is_set new) here ∙ card_here h new (card_of at) needed step ∙ on
-          | inr apart ↦ card_beside h new (card_of at) c needed apart step ∙ r.cards.kept c n
-        ];
-        rest = λ c high. card_beside h new (card_of at) c needed (λ e. omega arith) step
-            ∙ r.cards.rest c (let up = above in omega arith);
-      };
+      same = only_cards old h new (card_of at) needed r.same step;
+      needed = λ c low set. elim (cases_eq c (card_of at)) [
+        | inl here ↦
+            let on : needed ≡ true = sym (card_here h new (card_of at) needed step)
+            ∙ ap (is_set new) (sym here) ∙ set in
+            subst (NeedsCard old) (sym here) (needs_like old h (card_of at) r.same (tells.0 on))
+        | inr apart ↦ between c apart low (sym (card_beside h new (card_of at) c needed apart step) ∙ set)
+      ];
+      kept = λ c n. elim (cases_eq c (card_of at)) [
+        | inl here ↦
+            let on : needed ≡ true =
+            tells.1 (needs_back old h (card_of at) r.same (subst (NeedsCard old) here n)) in
+            ap (is_set new) here ∙ card_here h new (card_of at) needed step ∙ on
+        | inr apart ↦ card_beside h new (card_of at) c needed apart step ∙ r.kept c n
+      ];
       is = is;
     }
       where
         -- no set card is between
         between : (c : ℕ) → c ≢ card_of at → c < card_of at + 1 → is_set h c ≡ true → NeedsCard old c
         between c apart low set = elim (cases_lt c r.end) [
-          | inl before ↦ r.cards.needed c before set
+          | inl before ↦ r.needed c before set
           | inr high ↦
               let s = sound.cards c set in
               let in_card = s.in_card in
@@ -321,15 +324,15 @@ module _ (old h : Heap) (after : Option Addr) (sound : IsSound h) (grown : (a : 
   pub exact_ends : ((a : Addr) → is_old_carded h 0 a ≡ true → is_after after a ≡ false) → (c : ℕ)
       → (is_set h c ≡ true) ↔ NeedsCard h c
   exact_ends none c = (
-    λ set. needs_back old h c same (elim (cases_lt c r.end) [
-      | inl before ↦ r.cards.needed c before set
+    λ set. needs_back old h c r.same (elim (cases_lt c r.end) [
+      | inl before ↦ r.needed c before set
       | inr high ↦
           let s = sound.cards c set in
           let up : r.end ≤ card_of s.at = subst (λ k. r.end ≤ k) (sym s.in_card) high in
           absurd (both_ways _ (none s.at (walked s.at s.object (ap (is_set h) s.in_card ∙ set)))
           (beyond s.at up))
     ]),
-    λ n. r.cards.kept c (needs_like old h c same n),
+    λ n. r.kept c (needs_like old h c r.same n),
   )
 
 -- cards alone were changed, and changed again

@@ -1,18 +1,18 @@
 -- The regions and the cards after the moving: what its last steps leave.
-use Rattle.std.proofs.Common.{◌≡◌, ◌≢◌, ℕ, ◌+◌, ◌<◌, ◌≤◌, inl, inr, true, false, length, Option, Some, None, refl, sym, ap, ◌∙◌, subst, arith, true≢false, min}
-use Rattle.std.specs.Prelude.{nat_lt, is_some, unwrap_or, option_map}
+use Rattle.std.proofs.Common.{◌≡◌, ◌≢◌, ℕ, ◌+◌, ◌<◌, ◌≤◌, inl, inr, true, false, length, Option, Some, None, refl, sym, ap, ◌∙◌, subst, arith, min}
+use Rattle.std.specs.Prelude.{nat_lt, is_some, unwrap_or}
 use Rattle.std.proofs.lemmas.Bool.{both_ways, cases_lt, le-ltb, lt-ltb, cond-true, cond-false, false_from_ne_true}
 use Rattle.std.specs.FinMap as fin
 use Rattle.hd_model.specs.declared.data.Addr.{Addr}
 use Rattle.hd_model.specs.Ages.{raised}
-use Rattle.hd_model.specs.Scene.{generation_at, generation_in}
-use Rattle.hd_model.specs.Heap.{Placed, Region, Heap, region_of, region_at, region_generation, is_held, has_object, object_at}
+use Rattle.hd_model.specs.Scene.{generation_at}
+use Rattle.hd_model.specs.Heap.{Region, Heap, region_of, region_at, region_generation, is_in_use, has_object, object_at}
 use Rattle.hd_heap.specs.Calls.{is_old_carded}
-use Rattle.hd_heap.proofs.RegionReads.{has-get}
 use Rattle.hd_plan.specs.Layout.{move_at, condemned_at, is_moving, is_staying, room_at, IsCondemnedRegion, HasStay}
-use Rattle.hd_plan.specs.Packing.{IsRoom}
+use Rattle.hd_plan.specs.LaySteps.{IsRoom}
 use Rattle.hd_plan.specs.Plan.{PlanOf, kept_in, place_in}
 use Rattle.hd_plan.specs.CommitSteps.{IsKeptAt, SameCards, AreCopied, AreRewritten, AreRemoved, AreSettled}
+use Rattle.hd_plan.proofs.CondemnedAddresses.{generation_is}
 use Rattle.hd_plan.proofs.KeptMoves.{moving_or_staying, all_put}
 use Rattle.hd_plan.proofs.CommitShape.{IsCommitting, moves_now, regions_now}
 use Rattle.hd_plan.proofs.CommitImage.{kept_by, place_older, place_move, kept_object, from_condemned, stays_there, to_put, image_only}
@@ -38,18 +38,6 @@ raised_some n g = elim (cases_lt n g) [
   | inl older ↦ (let e = raised_older n g older in omega arith)
   | inr young ↦ (raised_most n g young).0
 ]
-
--- the generation of an object is that of its region
-pub generation_region : (h : Heap) (a : Addr) → has_object h a ≡ true
-    → generation_at (object_at h) a ≡ region_generation h (region_of a)
-generation_region h a there = by (fin.get h.objects a.0) (sym (has-get h a) ∙ there)
-  where
-    by : (o : Option Placed) → is_some o ≡ true
-        → generation_in (option_map
-        (Rattle.hd_model.specs.Heap.object_in (region_generation h (region_of a))) o) ≡ region_generation h
-        (region_of a)
-    by None e = absurd (true≢false (sym e))
-    by (Some q) e = refl
 
 abbrev no_region : Region
 no_region = record { generation = 0; fill = 0 }
@@ -94,10 +82,10 @@ module _ (p : PlanOf) (old h1 h2 h3 h4 : Heap) (m : AreMoved p old h1 h2 h3 h4) 
       ∙ ap (λ (x : Heap). x.regions) m.carded.same
       ∙ ap (λ (x : Heap). x.regions) m.copied.same
 
-  pub region_kept : (r : ℕ) → is_held old r ≡ true → fin.get h4.regions r ≡ fin.get old.regions r
+  pub region_kept : (r : ℕ) → is_in_use old r ≡ true → fin.get h4.regions r ≡ fin.get old.regions r
   region_kept r held = ap (λ rs. fin.get rs r) regions_room ∙ room.old r held
 
-  pub settled_held : (k : ℕ) → k < length p.regions → is_held h4 (condemned_at p.regions k).region ≡ true
+  pub settled_held : (k : ℕ) → k < length p.regions → is_in_use h4 (condemned_at p.regions k).region ≡ true
   settled_held k within =
       let is = (regions_now p old c).condemned k within in
       ap is_some (region_kept (condemned_at p.regions k).region is.held) ∙ is.held
@@ -119,7 +107,7 @@ module _ (p : PlanOf) (old h1 h2 h3 h4 : Heap) (m : AreMoved p old h1 h2 h3 h4) 
         let region : region_of a ≡ r = ap region_of (sym (place_older p old c a older)) ∙ in_region in
         let low : region_generation old (region_of a) ≤ p.basis.condemned =
         subst (λ q. region_generation old q ≤ p.basis.condemned) (sym region) young.young in
-        let same = generation_region old a there in
+        let same = generation_is old a there in
         absurd (omega arith)
     | inr (k, by) ↦
         let to : place_in p a ≡ (move_at p.moves k).to =
@@ -128,7 +116,7 @@ module _ (p : PlanOf) (old h1 h2 h3 h4 : Heap) (m : AreMoved p old h1 h2 h3 h4) 
         elim (moving_or_staying (move_at p.moves k).fate by.kept) [
           | inl moving ↦ absurd
               (both_ways _ (to_put p old c k by.within moving).fresh.new
-              (subst (λ q. is_held old q ≡ true) (sym region) young.held))
+              (subst (λ q. is_in_use old q ≡ true) (sym region) young.held))
           | inr stays ↦ record {
             at = k;
             within = by.within;
@@ -197,7 +185,7 @@ module _ (p : PlanOf) (old h1 h2 h3 h4 : Heap) (m : AreMoved p old h1 h2 h3 h4) 
     place_generation a kept = elim (kept_by p old c a kept) [
       | inl older ↦
           let there = kept_object p old c a kept in
-          let same = generation_region old a there in
+          let same = generation_is old a there in
           ap (λ (x : Addr). region_generation h5 (region_of x)) (place_older p old c a older)
           ∙ ap (λ (o : Option Region). (unwrap_or o no_region).generation)
           (region_older (region_of a) (λ is. let low = is.young in omega arith)
@@ -218,7 +206,7 @@ module _ (p : PlanOf) (old h1 h2 h3 h4 : Heap) (m : AreMoved p old h1 h2 h3 h4) 
             | inr stays ↦
                 let is = from_condemned p old c k by.within in
                 let r = region_of (move_at p.moves k).from in
-                let same = generation_region old (move_at p.moves k).from is.object in
+                let same = generation_is old (move_at p.moves k).from is.object in
                 let young : IsCondemnedRegion old p.basis.condemned r =
                 record {
                   held = c.sound.held (move_at p.moves k).from is.object;

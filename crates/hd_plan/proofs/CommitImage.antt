@@ -5,35 +5,21 @@ use Rattle.std.proofs.lemmas.Bool.{cases_Bool, cases_order, both_ways, and_parts
 use Rattle.std.specs.FinMap as fin
 use Rattle.hd_model.specs.declared.data.Addr.{Addr}
 use Rattle.hd_model.specs.Scene.{fields_at, generation_at, IsField, IsCondemned}
-use Rattle.hd_model.specs.Heap.{Region, Heap, region_of, card_of, region_generation, is_held, has_object, object_at, placed_at, cells_of, is_set, is_carded}
+use Rattle.hd_model.specs.Heap.{Region, Heap, region_of, card_of, region_generation, is_in_use, has_object, object_at, placed_at, cells_of, is_set, is_carded}
 use Rattle.hd_model.proofs.Members.{member_same, first_in, later_in}
 use Rattle.hd_heap.specs.Calls.{is_old_carded}
 use Rattle.hd_heap.proofs.RegionReads.{has-get}
-use Rattle.hd_heap.proofs.HeapValues.{fields_placed}
-use Rattle.hd_plan.specs.declared.moves.Fate.{Fate}
-use Rattle.hd_plan.specs.declared.moves.Fate.TheVariants.{Dead, Pinned, MovesToNewRegion, Moves}
+use Rattle.hd_heap.proofs.HeapValues.{fields_placed, same_address}
 use Rattle.hd_plan.specs.Layout.{move_at, is_kept_fate, is_moving, is_staying, room_at}
-use Rattle.hd_plan.specs.Packing.{IsPut}
+use Rattle.hd_plan.specs.LaySteps.{IsPut}
 use Rattle.hd_plan.specs.Plan.{PlanOf, kept_in, place_in}
 use Rattle.hd_plan.specs.CommitSteps.{IsKeptAt, IsLeft, AreCopied, rewritten, AreRewritten, AreRemoved}
-use Rattle.hd_plan.proofs.CondemnedAddresses.{addr_is, older_or_young}
-use Rattle.hd_plan.proofs.KeptMoves.{IsKeptBy, moving_or_staying, moving_kept, unmoved, kept_cases, older_kept, older_place, move_kept, move_place, put_new, all_put, is_condemned_at}
+use Rattle.hd_plan.proofs.CondemnedAddresses.{older_or_young}
+use Rattle.hd_plan.proofs.KeptMoves.{IsKeptBy, moving_or_staying, moving_kept, fate_stays, fate_rests, unmoved, kept_cases, older_kept, older_place, move_kept, move_place, put_new, all_put, is_condemned_at}
 use Rattle.hd_plan.proofs.MoveEnds.{ends_decided}
 use Rattle.hd_plan.proofs.CommitCopies.{get_placed, has_got, has_alike}
 use Rattle.hd_plan.proofs.CommitRewrites.{fields_alike, generation_alike, rewritten_has}
 use Rattle.hd_plan.proofs.CommitShape.{IsCommitting, moves_now, kept_now, closed_now}
-
-pub fate_stays : (w : Fate) → is_staying w ≡ true → is_kept_fate w ≡ true
-fate_stays Dead e = absurd (true≢false (sym e))
-fate_stays Pinned e = refl
-fate_stays MovesToNewRegion e = absurd (true≢false (sym e))
-fate_stays Moves e = absurd (true≢false (sym e))
-
-pub fate_rests : (w : Fate) → is_staying w ≡ true → is_moving w ≡ false
-fate_rests Dead e = absurd (true≢false (sym e))
-fate_rests Pinned e = refl
-fate_rests MovesToNewRegion e = absurd (true≢false (sym e))
-fate_rests Moves e = absurd (true≢false (sym e))
 
 -- fields that reference what stays in place are as they were
 unchanged : (place : Addr → Addr) (fs : List (Option Addr))
@@ -78,7 +64,7 @@ module _ (p : PlanOf) (old : Heap) (c : IsCommitting p old) where
   pub stays_there : (k : ℕ) → k < length p.moves → is_moving (move_at p.moves k).fate ≡ false
       → (move_at p.moves k).to ≡ (move_at p.moves k).from
   stays_there k within rests =
-      unmoved (move_at p.moves k).fate (room_at old p.moves k) _ _ _ _ rests
+      unmoved (move_at p.moves k).fate old.spare (room_at old p.moves k).cursors _ _ _ _ rests
       ((moves_now p old c).fits k within)
 
   pub to_free : (k : ℕ) → k < length p.moves → is_moving (move_at p.moves k).fate ≡ true
@@ -86,7 +72,7 @@ module _ (p : PlanOf) (old : Heap) (c : IsCommitting p old) where
   to_free k within moving = put_new old p.basis.condemned c.sound p.moves (moves_now p old c) k within moving
 
   pub to_put : (k : ℕ) → k < length p.moves → is_moving (move_at p.moves k).fate ≡ true
-      → IsPut old (room_at old p.moves (length p.moves)) (move_at p.moves k).to
+      → IsPut old (room_at old p.moves (length p.moves)).regions (move_at p.moves k).to
       (move_at p.moves k).generation (cells_of (placed_at old (move_at p.moves k).from))
   to_put k within moving =
       (all_put old p.basis.condemned c.sound p.moves (moves_now p old c)).put k within moving
@@ -147,7 +133,7 @@ module _ (p : PlanOf) (old : Heap) (c : IsCommitting p old) where
           let region : region_of s.at ≡ region_of (move_at p.moves e.at).to =
           region_by_card s.at (move_at p.moves e.at).to (s.in_card ∙ ap card_of (sym e.is)) in
           absurd (both_ways _ (to_put e.at e.before e.goes).fresh.new
-          (subst (λ r. is_held old r ≡ true) region (c.sound.held s.at s.object)))
+          (subst (λ r. is_in_use old r ≡ true) region (c.sound.held s.at s.object)))
     ]
 
     was_carded : (b : Addr) → is_old_carded h1 p.basis.condemned b ≡ true
@@ -238,7 +224,7 @@ module _ (p : PlanOf) (old : Heap) (c : IsCommitting p old) where
       kept_apart j k less within kept_j kept_k same =
           let low : j < length p.moves = omega arith in
           let places : place_in p (move_at p.moves j).from ≡ place_in p (move_at p.moves k).from =
-          place_move j low ∙ addr_is (move_at p.moves j).to (move_at p.moves k).to same
+          place_move j low ∙ same_address (move_at p.moves j).to (move_at p.moves k).to same
           ∙ sym (place_move k within) in
           let one : j ≡ k = same_move j k low within
           (c.laid.keeping.apart (move_at p.moves j).from (move_at p.moves k).from

@@ -1,7 +1,7 @@
 -- Lemmas on what is removed.
-use Rattle.std.proofs.Common.{◌≡◌, ◌≢◌, ℕ, ◌+◌, ◌<◌, inl, inr, Bool, true, false, not, List, length, Option, Some, None, refl, sym, ap, ◌∙◌, subst, arith}
+use Rattle.std.proofs.Common.{◌≡◌, ◌≢◌, ℕ, ◌+◌, ◌<◌, inl, inr, true, false, not, List, [], ◌∷◌, ◌++◌, length, Option, Some, None, refl, sym, ap, ◌∙◌, subst, arith}
 use Rattle.std.specs.Prelude.{is_some, unwrap_or}
-use Rattle.std.proofs.lemmas.Bool.{cases_eq, cases_lt, both_ways, false≢true}
+use Rattle.std.proofs.lemmas.Bool.{cases_eq, cases_lt, cases_Bool, both_ways, false≢true}
 use Rattle.std.specs.Ordering.{nat_cmp}
 use Rattle.std.specs.FinMap as fin
 use Rattle.hd_model.specs.declared.data.Addr.{Addr}
@@ -9,14 +9,11 @@ use Rattle.hd_model.specs.Heap.{Region, Heap, card_of, region_at, has_object, is
 use Rattle.hd_model.proofs.ReadAfterWrite.{get_removed, get_left}
 use Rattle.hd_heap.specs.Calls.{IsRemoved, with_generation}
 use Rattle.hd_heap.proofs.RegionReads.{has-get}
-use Rattle.hd_heap.proofs.HeapValues.{get_same, get_other}
-use Rattle.hd_plan.specs.declared.moves.Fate.{Fate}
-use Rattle.hd_plan.specs.declared.moves.Fate.TheVariants.{Dead, Pinned, MovesToNewRegion, Moves}
+use Rattle.hd_heap.proofs.HeapValues.{get_same, get_other, same_address}
 use Rattle.hd_plan.specs.declared.moves.Move.{Move}
 use Rattle.hd_plan.specs.declared.moves.Condemned.{Condemned}
 use Rattle.hd_plan.specs.Layout.{move_at, condemned_at, is_staying}
-use Rattle.hd_plan.proofs.CondemnedAddresses.{addr_is}
-use Rattle.hd_plan.specs.CommitSteps.{HasLeft, AreRemoved, HasSettled, AreSettled}
+use Rattle.hd_plan.specs.CommitSteps.{AreRemoved, AreSettled}
 use Rattle.hd_plan.proofs.MoveEnds.{ends_more, ends_here, ends_cases, ends_skip}
 use Rattle.hd_plan.proofs.CommitCopies.{has_alike}
 
@@ -53,7 +50,7 @@ module _ (old h : Heap) (ms : List Move) (i : ℕ) (r : AreRemoved old h ms i) w
         ];
         others = λ a none.
             beside a (λ same. none
-            (ends_here (λ w. not (is_staying w)) (λ m. m.from) ms a i left (sym (addr_is a at same))))
+            (ends_here (λ w. not (is_staying w)) (λ m. m.from) ms a i left (sym (same_address a at same))))
             ∙ r.others a (λ e. none
             (ends_more (λ w. not (is_staying w)) (λ m. m.from) ms a i (i + 1) (omega arith) e));
         same = step.removed ∙ ap (λ (x : Heap). record x {
@@ -73,18 +70,14 @@ module _ (old h : Heap) (ms : List Move) (i : ℕ) (r : AreRemoved old h ms i) w
             ];
       }
 
-  removed_by : (w : Fate) (new : Heap) → (move_at ms i).fate ≡ w → HasLeft w h new (move_at ms i)
+  pub removed_step : (new : Heap) → (is_staying (move_at ms i).fate ≡ true → new ≡ h)
+      → (is_staying (move_at ms i).fate ≡ false → IsRemoved h new (move_at ms i).from)
       → AreRemoved old new ms (i + 1)
-  removed_by Dead new is left = removed_one new (ap (λ v. not (is_staying v)) is) left
-  removed_by Pinned new is same =
-      subst (λ (x : Heap). AreRemoved old x ms (i + 1)) (sym same)
-      (removed_stays (ap (λ v. not (is_staying v)) is))
-  removed_by MovesToNewRegion new is left = removed_one new (ap (λ v. not (is_staying v)) is) left
-  removed_by Moves new is left = removed_one new (ap (λ v. not (is_staying v)) is) left
-
-  pub removed_step : (new : Heap) → HasLeft (move_at ms i).fate h new (move_at ms i)
-      → AreRemoved old new ms (i + 1)
-  removed_step new left = removed_by (move_at ms i).fate new refl left
+  removed_step new stays left = elim (cases_Bool (is_staying (move_at ms i).fate)) [
+    | inl here ↦ subst (λ (x : Heap). AreRemoved old x ms (i + 1)) (sym (stays here))
+        (removed_stays (ap not here))
+    | inr away ↦ removed_one new (ap not away) (left away)
+  ]
 
 -- the regions, one after another
 module _ (old h : Heap) (cs : List Condemned) (i : ℕ) (low : i < length cs) (rising : (j k : ℕ) → j < k
@@ -162,12 +155,13 @@ module _ (old h : Heap) (cs : List Condemned) (i : ℕ) (low : i < length cs) (r
       (step ∙ ap (λ rs. record h { regions = rs; spare = spare }) (sym (ap (λ (x : Heap). x.regions) step))
       ∙ ap (λ ns. record h { regions = new.regions; spare = ns }) (sym (ap (λ (x : Heap). x.spare) step)))
 
-  settled_by : (b : Bool) (new : Heap) → (condemned_at cs i).pinned ≡ b
-      → HasSettled b h new (condemned_at cs i)
-      → AreSettled old new cs (i + 1)
-  settled_by true new is settled = settled_raised new is settled
-  settled_by false new is settled = settled_given_up new _ is settled
-
-  pub settled_step : (new : Heap) → HasSettled (condemned_at cs i).pinned h new (condemned_at cs i)
-      → AreSettled old new cs (i + 1)
-  settled_step new settled = settled_by (condemned_at cs i).pinned new refl settled
+  pub settled_step : (new : Heap) → ((condemned_at cs i).pinned ≡ true
+      → new ≡ with_generation h (condemned_at cs i).region (condemned_at cs i).generation)
+      → ((condemned_at cs i).pinned ≡ false → new ≡ record h {
+        regions = fin.remove h.regions (condemned_at cs i).region;
+        spare = h.spare ++ (condemned_at cs i).region ∷ [];
+      }) → AreSettled old new cs (i + 1)
+  settled_step new stays freed = elim (cases_Bool (condemned_at cs i).pinned) [
+    | inl pinned ↦ settled_raised new pinned (stays pinned)
+    | inr unpinned ↦ settled_given_up new _ unpinned (freed unpinned)
+  ]

@@ -1,106 +1,32 @@
 -- The heap after the moving.
-use Rattle.std.proofs.Common.{◌≡◌, ◌≢◌, ℕ, zero, suc, ◌+◌, ◌/◌, ◌<◌, ◌≤◌, inl, inr, ◌⊎◌, true, false, List, length, map, Option, Some, None, refl, sym, ap, ◌∙◌, subst, arith, true≢false}
+use Rattle.std.proofs.Common.{◌≡◌, ℕ, ◌+◌, ◌<◌, ◌≤◌, inl, inr, true, false, List, length, map, Option, Some, None, refl, sym, ap, ◌∙◌, subst, arith}
 use Rattle.std.specs.Prelude.{is_some, unwrap_or, option_map, Contains, ◌↔◌, ◌&&◌, [], nat_lt}
-use Rattle.std.proofs.lemmas.Bool.{cases_Bool, cases_eq, both_ways, cases_lt, and_parts, ltb-true, ltb-false}
+use Rattle.std.proofs.lemmas.Bool.{cases_Bool, both_ways, cases_lt, and_parts, ltb-true, ltb-false, false_from_ne_true}
 use Rattle.std.proofs.lemmas.List.{length-map}
-use Rattle.std.specs.Ordering.{nat_cmp}
 use Rattle.std.specs.FinMap as fin
 use Rattle.hd_model.specs.declared.data.Addr.{Addr}
 use Rattle.hd_model.specs.Ages.{raised, HasSoundCards}
 use Rattle.hd_model.specs.Names.{HasClosedFields}
 use Rattle.hd_model.specs.Scene.{fields_at, fields_in, generation_at, IsField}
-use Rattle.hd_model.specs.Heap.{Placed, Region, Heap, region_of, card_of, region_at, region_generation, is_held, has_object, object_at, object_in, placed_at, cells_of, id_in, is_set, is_carded, used_of}
+use Rattle.hd_model.specs.Heap.{Placed, Region, Heap, region_of, card_of, region_at, region_generation, is_in_use, has_object, object_at, object_in, placed_at, cells_of, id_in, is_set, is_carded, used_of}
 use Rattle.hd_model.proofs.Members.{member_same, mapped_from}
 use Rattle.hd_model.proofs.Sums.{share}
-use Rattle.hd_heap.specs.Sound.{IsSound}
-use Rattle.hd_heap.proofs.HeapValues.{get_other}
-use Rattle.hd_plan.specs.declared.moves.Fate.{Fate}
-use Rattle.hd_plan.specs.declared.moves.Fate.TheVariants.{Dead, Pinned, MovesToNewRegion, Moves}
-use Rattle.hd_plan.specs.declared.moves.Move.{Move}
-use Rattle.hd_plan.specs.Layout.{move_at, condemned_at, is_moving, put_fate, room_at, has_region, region_in, Fits, AreMoves, IsCondemnedRegion, HasStay}
-use Rattle.hd_plan.specs.Packing.{IsFresh}
-use Rattle.hd_plan.specs.Compactness.{is_opening, IsOpenedBy}
+use Rattle.hd_plan.specs.Layout.{move_at, condemned_at, is_moving, room_at, has_region, IsCondemnedRegion, HasStay}
+use Rattle.hd_plan.specs.LaySteps.{ArePut}
 use Rattle.hd_plan.specs.Plan.{PlanOf, kept_in, place_in, stays_in, HasNoEmptyRegion}
 use Rattle.hd_plan.specs.Commit.{moved_object, NeedsCard, ChangesRegions, Commits}
 use Rattle.hd_plan.specs.CommitSteps.{IsKeptAt, rewritten, AreSettled, AreCarded}
-use Rattle.hd_plan.proofs.CondemnedAddresses.{addr_is}
-use Rattle.hd_plan.proofs.RoomSteps.{region_is}
-use Rattle.hd_plan.proofs.KeptMoves.{are_put, all_put, moving_kept}
-use Rattle.hd_plan.specs.PackedRegions.{IsPacked}
-use Rattle.hd_plan.proofs.Compactness.{compact}
-use Rattle.hd_plan.proofs.PackedRegions.{packed}
+use Rattle.hd_plan.proofs.CondemnedAddresses.{some_is, generation_is}
+use Rattle.hd_plan.proofs.KeptMoves.{all_put, moving_kept, fate_stays, fate_rests}
+use Rattle.hd_plan.specs.PackedRegions.{is_older_region, IsPacked}
+use Rattle.hd_plan.proofs.PackedRegions.{IsTaken, packed, compact}
 use Rattle.hd_plan.proofs.CommitCards.{has_from}
 use Rattle.hd_plan.proofs.CommitTotals.{sum-stands}
 use Rattle.hd_plan.proofs.CommitCopies.{get_placed, has_got, has_alike}
 use Rattle.hd_plan.proofs.CommitShape.{IsCommitting, moves_now, regions_now, closed_now}
-use Rattle.hd_plan.proofs.CommitImage.{kept_by, kept_older, place_older, kept_move, place_move, kept_object, from_condemned, stays_there, fate_stays, fate_rests, image_at, image_only}
-use Rattle.hd_plan.proofs.CommitGenerations.{AreMoved, raised_above, raised_some, raised_older, generation_region, place_generation, regions_room, region_kept, region_older, region_raised, region_given_up}
-
-some_placed : (a b : Placed) → Some a ≡ Some b → a ≡ b
-some_placed a b e = cc
-
-opening_moves : (w : Fate) → is_opening w ≡ true → is_moving w ≡ true
-opening_moves Dead e = absurd (true≢false (sym e))
-opening_moves Pinned e = absurd (true≢false (sym e))
-opening_moves MovesToNewRegion e = refl
-opening_moves Moves e = refl
-
--- a fresh region was opened by a move
-opened_there : (rs : fin.FinMap nat_cmp Region) (n r : ℕ) (x : Region)
-    → fin.contains_key (fin.insert rs n x) r ≡ true → (r ≡ n) ⊎ (fin.contains_key rs r ≡ true)
-opened_there rs n r x there = elim (cases_eq r n) [
-  | inl same ↦ inl same
-  | inr apart ↦ inr (ap is_some (sym (get_other rs n r x apart)) ∙ there)
-]
-
-module _ (h : Heap) (n : ℕ) (sound : IsSound h) (ms : List Move) (moves : AreMoves h n ms) where
-  module _ (i : ℕ) (low : i < length ms) (r : ℕ) (before : has_region (room_at h ms i).regions r ≡ true
-      → IsOpenedBy ms r) where
-    here : is_opening (move_at ms i).fate ≡ true → r ≡ region_of (move_at ms i).to → IsOpenedBy ms r
-    here opens same = record { at = i; within = low; opens = opens; region = sym same }
-
-    -- the region into which an object follows is there
-    followed : {g : ℕ} → ((room_at h ms i).current g ≡ 0) ⊎ IsFresh h (room_at h ms i) g
-        ((room_at h ms i).current g) → (room_at h ms i).current g ≢ 0
-        → has_region (room_at h ms i).regions ((room_at h ms i).current g) ≡ true
-    followed (inl none) begun = absurd (begun none)
-    followed (inr fresh) begun = fresh.held
-
-    opened_by_fate : (w : Fate) → (move_at ms i).fate ≡ w
-        → Fits w (room_at h ms i) (move_at ms i).from (move_at ms i).to (move_at ms i).generation
-        (cells_of (placed_at h (move_at ms i).from))
-        → has_region (put_fate w (room_at h ms i) (move_at ms i).to (move_at ms i).generation
-        (cells_of (placed_at h (move_at ms i).from))).regions r ≡ true → IsOpenedBy ms r
-    opened_by_fate Dead is f was = before was
-    opened_by_fate Pinned is f was = before was
-    opened_by_fate MovesToNewRegion is f was = elim (opened_there _ (region_of (move_at ms i).to) r _ was) [
-      | inl same ↦ here (ap is_opening is) same
-      | inr more ↦ elim (opened_there _ (region_of (move_at ms i).to) r _ more) [
-        | inl same ↦ here (ap is_opening is) same
-        | inr old ↦ before old
-      ]
-    ]
-    opened_by_fate Moves is f was = elim (opened_there _ (region_of (move_at ms i).to) r _ was) [
-      | inl same ↦
-          let g = (move_at ms i).generation in
-          let current = (room_at h ms i).current g in
-          let fits = f.room in
-          let into : region_of (move_at ms i).to ≡ current =
-          region_is (move_at ms i).to current (region_in (room_at h ms i).regions current).fill f.place
-          (omega arith) in
-          before (ap (has_region (room_at h ms i).regions) (same ∙ into)
-          ∙ followed ((are_put h n sound ms moves i (omega arith)).room.current g) f.begun)
-      | inr old ↦ before old
-    ]
-
-  opened_by : (i : ℕ) → i ≤ length ms → (r : ℕ) → has_region (room_at h ms i).regions r ≡ true
-      → is_held h r ≡ false → IsOpenedBy ms r
-  unfolding room_at
-  opened_by zero low r there new = absurd (both_ways _ new there)
-  opened_by (suc i) low r there new =
-      let within : i < length ms = omega arith in
-      opened_by_fate i within r (λ was. opened_by i (omega arith) r was new) (move_at ms i).fate refl
-      (moves.fits i within) there
+use Rattle.hd_plan.proofs.CommitImage.{kept_by, kept_older, place_older, kept_move, place_move, kept_object, from_condemned, stays_there, image_at, image_only}
+use Rattle.hd_plan.proofs.CommitGenerations.{AreMoved, raised_above, raised_some, raised_older, place_generation, regions_room, region_kept, region_older, region_raised, region_given_up}
+use Rattle.hd_heap.proofs.HeapValues.{same_address}
 
 -- a field that was rewritten
 pub record IsRenamed (place : Addr → Addr) (fs : List (Option Addr)) (y : Addr) : Type 0 where
@@ -112,9 +38,6 @@ renamed : (place : Addr → Addr) (fs : List (Option Addr)) (y : Addr)
     → Contains (map (option_map place) fs) (Some y) → IsRenamed place fs y
 renamed place fs y field = let f = mapped_from (option_map place) fs (Some y) field in by f.0 f.1.0 f.1.1
   where
-    some_is : (a b : Addr) → Some a ≡ Some b → a ≡ b
-    some_is a b e = cc
-
     by : (o : Option Addr) → Contains fs o → option_map place o ≡ Some y → IsRenamed place fs y
     by None f e = absurd (cc e)
     by (Some z) f e = record { was = z; field = f; is = some_is (place z) y e }
@@ -193,7 +116,7 @@ module _ (p : PlanOf) (old h1 h2 h3 h4 : Heap) (m : AreMoved p old h1 h2 h3 h4) 
     pub ending_generation : (a : Addr) → kept_in p a ≡ true
         → generation_at (object_at h6) (place_in p a) ≡ raised p.basis.condemned
         (generation_at (object_at old) a)
-    ending_generation a kept = generation_region h6 (place_in p a) (ending_object a kept)
+    ending_generation a kept = generation_is h6 (place_in p a) (ending_object a kept)
         ∙ ending_region a kept
 
     pub ending_grown : (b : Addr) → has_object h6 b ≡ true → 0 < generation_at (object_at h6) b
@@ -246,7 +169,7 @@ module _ (p : PlanOf) (old h1 h2 h3 h4 : Heap) (m : AreMoved p old h1 h2 h3 h4) 
               (sym f.is) younger) in
               let same = raised_older p.basis.condemned (generation_at (object_at old) a) older in
               let fits : generation_at (object_at old) f.was ≤ 2 =
-              (let g = generation_region old f.was (kept_object p old c f.was kept) in
+              (let g = generation_is old f.was (kept_object p old c f.was kept) in
               let most = c.sound.generations (region_of f.was)
               (c.sound.held f.was (kept_object p old c f.was kept)) in omega arith) in
               let above = raised_above p.basis.condemned (generation_at (object_at old) f.was) fits in
@@ -274,7 +197,7 @@ module _ (p : PlanOf) (old h1 h2 h3 h4 : Heap) (m : AreMoved p old h1 h2 h3 h4) 
     region_now r = ap (λ (x : Heap). fin.get x.regions r) same7
 
     region_held : (r : ℕ) (g : Region) → fin.get h5.regions r ≡ Some g
-        → (is_held h7 r ≡ true) × (region_at h7 r ≡ g)
+        → (is_in_use h7 r ≡ true) × (region_at h7 r ≡ g)
     region_held r g got = (
       ap is_some (region_now r ∙ got),
       ap (λ (o : Option Region). unwrap_or o (record { generation = 0; fill = 0 })) (region_now r ∙ got),
@@ -294,7 +217,7 @@ module _ (p : PlanOf) (old h1 h2 h3 h4 : Heap) (m : AreMoved p old h1 h2 h3 h4) 
     }
 
     -- a region in use has an object that stays, or was opened, or is older
-    held_stays : (r : ℕ) → is_held h7 r ≡ true → IsCondemnedRegion old p.basis.condemned r → HasStay p.moves r
+    held_stays : (r : ℕ) → is_in_use h7 r ≡ true → IsCondemnedRegion old p.basis.condemned r → HasStay p.moves r
     held_stays r held young =
         let (k, listed) = (regions_now p old c).all r young in
         elim (cases_Bool (condemned_at p.regions k).pinned) [
@@ -307,22 +230,38 @@ module _ (p : PlanOf) (old h1 h2 h3 h4 : Heap) (m : AreMoved p old h1 h2 h3 h4) 
               absurd (both_ways _ gone held)
         ]
 
-    held_opened : (r : ℕ) → is_held h7 r ≡ true → is_held old r ≡ false → IsOpenedBy p.moves r
-    held_opened r held new =
-        let got : fin.get h7.regions r ≡ fin.get (room_at old p.moves (length p.moves)).regions r =
-        region_now r ∙ region_older p old h1 h2 h3 h4 m h5 r5 r (λ is. both_ways _ new is.held)
-        ∙ ap (λ rs. fin.get rs r) (regions_room p old h1 h2 h3 h4 m) in
-        opened_by old p.basis.condemned c.sound p.moves (moves_now p old c) (length p.moves) (omega arith) r
-        (ap is_some (sym got) ∙ held) new
+    put : ArePut old p.moves (length p.moves)
+    put = all_put old p.basis.condemned c.sound p.moves (moves_now p old c)
+
+    -- one that was not in use is one of the room
+    held_room : (r : ℕ) → is_in_use h7 r ≡ true → is_in_use old r ≡ false
+        → has_region (room_at old p.moves (length p.moves)).regions r ≡ true
+    held_room r held new =
+        sym (ap is_some (region_now r ∙ region_older p old h1 h2 h3 h4 m h5 r5 r (λ is. both_ways _ new is.held)
+        ∙ ap (λ rs. fin.get rs r) (regions_room p old h1 h2 h3 h4 m))) ∙ held
+
+    held_taken : (r : ℕ) → is_in_use h7 r ≡ true → is_older_region old p.basis.condemned r ≡ false
+        → IsTaken old p.moves r
+    held_taken r held young = elim (cases_Bool (is_in_use old r)) [
+      | inl was ↦ inl (held_stays r held (record {
+        held = was;
+        young = ltb-false _ _ (sym (ap (λ b. b && nat_lt p.basis.condemned (region_generation old r)) was)
+            ∙ young);
+      }))
+      | inr new ↦ elim (put.room.held r (held_room r held new)) [
+        | inl was ↦ absurd (both_ways _ new was)
+        | inr opened ↦ inr opened
+      ]
+    ]
 
     full : HasNoEmptyRegion old → HasNoEmptyRegion h7
-    full some r held = elim (cases_Bool (is_held old r)) [
+    full some r held = elim (cases_Bool (is_in_use old r)) [
       | inl was ↦ elim (cases_lt p.basis.condemned (region_generation old r)) [
         | inl older ↦
             let s = some r was in
             let above : p.basis.condemned < generation_at (object_at old) s.at =
             subst (λ g. p.basis.condemned < g) (ap (region_generation old) (sym s.region)
-            ∙ sym (generation_region old s.at s.object)) older in
+            ∙ sym (generation_is old s.at s.object)) older in
             let kept = kept_older p old c s.at above in
             let place = place_older p old c s.at above in
             record {
@@ -342,17 +281,16 @@ module _ (p : PlanOf) (old h1 h2 h3 h4 : Heap) (m : AreMoved p old h1 h2 h3 h4) 
               region = s.region;
             }
       ]
-      | inr new ↦
-          let o = held_opened r held new in
-          let from = (move_at p.moves o.at).from in
-          let kept = kept_move p old c o.at o.within
-          (moving_kept (move_at p.moves o.at).fate (opening_moves (move_at p.moves o.at).fate o.opens)) in
-          record {
-            at = (move_at p.moves o.at).to;
-            object = ap (has_object h7) (sym (place_move p old c o.at o.within))
-                ∙ ending_object h7 same7 from kept;
-            region = o.region;
-          }
+      | inr new ↦ elim (put.held r (held_room r held new)) [
+        | inl was ↦ absurd (both_ways _ new was)
+        | inr (k, o) ↦ record {
+          at = (move_at p.moves k).to;
+          object = ap (has_object h7) (sym (place_move p old c k o.0))
+              ∙ ending_object h7 same7 (move_at p.moves k).from
+              (kept_move p old c k o.0 (moving_kept (move_at p.moves k).fate o.1.0));
+          region = o.1.1;
+        }
+      ]
     ]
 
     -- a new object comes from the one that it was
@@ -364,7 +302,7 @@ module _ (p : PlanOf) (old h1 h2 h3 h4 : Heap) (m : AreMoved p old h1 h2 h3 h4) 
     used : used_of h7 ≤ used_of old
     used = sum-stands cells_of StandsFor
         (λ q s r a b. sym a.place
-        ∙ ap (λ (x : Addr). (place_in p x).0) (addr_is a.was b.was (a.number ∙ sym b.number)) ∙ b.place)
+        ∙ ap (λ (x : Addr). (place_in p x).0) (same_address a.was b.was (a.number ∙ sym b.number)) ∙ b.place)
         h7.objects old.objects
         (λ q v got.
         let b : Addr = record { 0 = q } in
@@ -374,37 +312,13 @@ module _ (p : PlanOf) (old h1 h2 h3 h4 : Heap) (m : AreMoved p old h1 h2 h3 h4) 
         sym (ending_at h7 same7 a is.0 ∙ ap (option_map (rewritten (place_in p))) there)
         ∙ ap (λ (x : Addr). fin.get h7.objects x.0) is.1 ∙ got in
         let cells : cells_of (rewritten (place_in p) (placed_at old a)) ≡ cells_of v =
-        ap cells_of (some_placed _ _ now) in
+        ap cells_of (some_is _ _ now) in
         let long = length-map (placed_at old a).fields (option_map (place_in p)) in
         let stands : StandsFor q a.0 =
         record { was = a; number = refl; place = ap (λ (x : Addr). x.0) is.1 } in
         let size : share cells_of (fin.get old.objects a.0) ≡ cells_of (placed_at old a) =
         ap (share cells_of) there in
         (a.0, (stands, omega arith)))
-
-    compact_now : p.basis.condemned ≡ 2 → fin.len h7.regions ≤ used_of h7 / 193 + 3 + stays_in p
-    compact_now all =
-        let moves = moves_now p old c in
-        compact old c.sound p.basis.condemned p.moves moves
-        (λ k low. (are_put old p.basis.condemned c.sound p.moves moves k low).room) h7
-        (λ j within moving.
-        let o = move_at p.moves j in
-        let kept = kept_move p old c j within (moving_kept o.fate moving) in
-        let there = get_placed old o.from (from_condemned p old c j within).object in
-        let now : fin.get h7.objects o.to.0 ≡ Some (rewritten (place_in p) (placed_at old o.from)) =
-        ap (λ (x : Addr). fin.get h7.objects x.0) (sym (place_move p old c j within))
-        ∙ ending_at h7 same7 o.from kept ∙ ap (option_map (rewritten (place_in p))) there in (
-          rewritten (place_in p) (placed_at old o.from),
-          (now, ap (λ n. n + 3) (length-map (placed_at old o.from).fields (option_map (place_in p)))),
-        ))
-        (λ i j less within moving_i moving_j same.
-        (all_put old p.basis.condemned c.sound p.moves moves).apart i j less within moving_i moving_j
-        (addr_is (move_at p.moves i).to (move_at p.moves j).to same))
-        (λ r held. elim (cases_Bool (is_held old r)) [
-          | inl was ↦ inl (held_stays r held
-              (record { held = was; young = (let most = c.sound.generations r was in omega arith) }))
-          | inr new ↦ inr (held_opened r held new)
-        ])
 
     -- what moves is at its new address with as many words
     moved_there : (j : ℕ) → j < length p.moves → is_moving (move_at p.moves j).fate ≡ true
@@ -433,14 +347,7 @@ module _ (p : PlanOf) (old h1 h2 h3 h4 : Heap) (m : AreMoved p old h1 h2 h3 h4) 
         (λ r is.
         let both = and_parts _ _ is in changes.older r both.0 (ltb-true _ _ both.1))
         moved_there
-        (λ r held young. elim (cases_Bool (is_held old r)) [
-          | inl was ↦ inl (held_stays r held (record {
-            held = was;
-            young = ltb-false _ _ (sym (ap (λ b. b && nat_lt p.basis.condemned (region_generation old r)) was)
-                ∙ young);
-          }))
-          | inr new ↦ inr (held_opened r held new)
-        ])
+        held_taken
 
     pub ended : ((card : ℕ) → (is_set h7 card ≡ true) ↔ NeedsCard h7 card) → Commits p old h7
     ended exact = record {
@@ -451,7 +358,7 @@ module _ (p : PlanOf) (old h1 h2 h3 h4 : Heap) (m : AreMoved p old h1 h2 h3 h4) 
           (region_generation h7 (region_of (place_in p a))) (region_generation old (region_of a))
           (fin.get old.objects a.0)
           (ending_region h7 same7 a kept
-          ∙ ap (raised p.basis.condemned) (generation_region old a (kept_object p old c a kept)));
+          ∙ ap (raised p.basis.condemned) (generation_is old a (kept_object p old c a kept)));
       ids = λ a kept. ap id_in (ending_at h7 same7 a kept)
           ∙ id_of_rewritten (place_in p) (fin.get old.objects a.0);
       only = ending_only h7 same7;
@@ -464,5 +371,11 @@ module _ (p : PlanOf) (old h1 h2 h3 h4 : Heap) (m : AreMoved p old h1 h2 h3 h4) 
       used = used;
       full = full;
       packed = packed_now;
-      compact = compact_now;
+      compact = λ all. compact old h7 p.basis.condemned (stays_in p)
+          (λ r. no_older r (λ both. let most = c.sound.generations r both.0 in
+          let above = ltb-true _ _ both.1 in absurd (omega arith))) packed_now;
     }
+      where
+        no_older : (r : ℕ) → ((is_in_use old r ≡ true) × (nat_lt p.basis.condemned (region_generation old r) ≡ true)
+            → ⊥) → is_older_region old p.basis.condemned r ≡ false
+        no_older r none = false_from_ne_true _ (λ is. none (and_parts _ _ is))

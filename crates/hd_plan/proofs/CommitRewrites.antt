@@ -1,7 +1,7 @@
 -- Lemmas on the rewriting of fields.
 use Rattle.std.proofs.Common.{◌≡◌, ◌≢◌, ℕ, ◌+◌, ◌-◌, ◌^◌, ◌<◌, ◌≤◌, inl, inr, ◌⊎◌, Bool, ◌&&◌, true, false, cond, List, map, length, set, get_or, Option, Some, None, refl, sym, ap, ◌∙◌, subst, arith, length-set, get_or-set_same, get_or-set_other, ext_get_or}
 use Rattle.std.specs.Prelude.{option_map, is_some, nat_lt, ◌||◌}
-use Rattle.std.proofs.lemmas.Bool.{cases_eq, cases_lt, cases_Bool, both_ways, and_parts, or_right, le-ltb, ltb-true, ltb-false, false_from_ne_true}
+use Rattle.std.proofs.lemmas.Bool.{cases_eq, cases_lt, cases_Bool, both_ways, and_parts, or_right, le-ltb}
 use Rattle.std.proofs.lemmas.List.{get_or-map, length-map}
 use Rattle.std.specs.Ordering.{nat_cmp, eq_by_cmp}
 use Rattle.std.specs.Cmp.{nat_cmp_total}
@@ -15,13 +15,12 @@ use Rattle.hd_heap.specs.Calls.{with_object, with_field, stored, is_younger, is_
 use Rattle.hd_heap.specs.Sound.{IsSound}
 use Rattle.hd_heap.proofs.RegionReads.{has-get}
 use Rattle.hd_heap.proofs.IndexedLists.{untied}
-use Rattle.hd_heap.proofs.HeapValues.{get_same, get_other, has_with_object, placed_with_object, write_twice, write_same, fields_placed}
+use Rattle.hd_heap.proofs.HeapValues.{get_same, get_other, has_with_object, placed_with_object, write_twice, write_same, fields_placed, same_address}
 use Rattle.hd_plan.specs.declared.moves.Move.{Move}
 use Rattle.hd_plan.specs.Layout.{move_at, is_kept_fate}
-use Rattle.hd_plan.proofs.CondemnedAddresses.{addr_is}
-use Rattle.hd_plan.specs.CommitSteps.{HasRenamed, rewritten, SameCards, IsRewritten, AreFieldsRewritten, AreRewritten, IsCardedTo, IsKeptAt, next_to}
+use Rattle.hd_plan.specs.CommitSteps.{HasRenamed, rewritten, MoreCards, SameCards, IsRewritten, AreRewritten, IsKeptAt}
 use Rattle.hd_plan.proofs.MoveEnds.{ends_more, ends_here, ends_cases, ends_skip, ends_decided}
-use Rattle.hd_plan.proofs.LayStep.{address_low}
+use Rattle.hd_plan.proofs.LayStep.{address_low, reach_of, reach_on, after_past, reached_cases}
 use Rattle.hd_plan.proofs.CommitCopies.{get_placed, has_alike}
 
 abbrev Cards : Type 0
@@ -39,6 +38,18 @@ pub insert_other : (b : Bool) (s : Cards) (k q : ℕ) → q ≢ k
 insert_other false s k q apart = refl
 insert_other true s k q apart = set_of.contains-insert nat_cmp_total s k q
     ∙ ap (λ b. b || set_of.contains s q) (untied q k apart)
+
+-- the first i fields of one object are rewritten
+pub record AreFieldsRewritten (old h : Heap) (place : Addr → Addr) (x : Addr) (i : ℕ) : Type 0 where
+  pub fields : List (Option Addr)
+  pub object : h
+      ≡ record (with_object old x (record (placed_at old x) { fields = fields })) { cards = h.cards }
+  pub number : length fields ≡ length (placed_at old x).fields
+  pub below : (j : ℕ) → j < i
+      → get_or fields j None ≡ option_map place (get_or (placed_at old x).fields j None)
+  pub above : (j : ℕ) → i ≤ j → get_or fields j None ≡ get_or (placed_at old x).fields j None
+  pub more : MoreCards old h
+  pub others : (c : ℕ) → c ≢ card_of x → is_set h c ≡ is_set old c
 
 pub rewriting_starts : (h : Heap) (place : Addr → Addr) (x : Addr) → has_object h x ≡ true
     → AreFieldsRewritten h h place x 0
@@ -242,13 +253,17 @@ module _ (Those : Addr → Type 0) (place : Addr
             | inr same ↦ absurd (apart same)
           ]
         ];
-        others = λ a none. beside a (λ same. none (subst Next (sym (addr_is a x same)) joins))
+        others = λ a none. beside a (λ same. none (subst Next (sym (same_address a x same)) joins))
             ∙ r.others a (λ those. none (keeps a those));
         same = step.object ∙ ap (λ (k : Heap). record (with_object k x p) { cards = new.cards }) r.same
             ∙ ap (λ os. record old { objects = os; cards = new.cards })
             (ap (λ os. map_of.insert os x.0 p) refl ∙ sym (ap (λ (k : Heap). k.objects) step.object));
         more = λ c set. step.more c (r.more c set);
       }
+
+-- an object of a generation above n in a set card, up to an address
+abbrev pub IsCardedTo : Heap → ℕ → Option Addr → Addr → Type 0
+IsCardedTo h n after a = (is_old_carded h n a ≡ true) × (is_after after a ≡ false)
 
 -- the objects in set cards, one after another
 module _ (place : Addr
@@ -294,22 +309,11 @@ module _ (place : Addr
         rewritten_more (IsCardedTo old n after) place old h r (IsCardedTo old n (Some at)) new at step
         (sym (carded_has at) ∙ carded_there) fresh
         (was_carded, le-ltb at.0 at.0 (omega arith))
-        (λ a t. (t.0, le-ltb at.0 a.0 (before a after t.1 found.beyond)))
-        (λ a t. elim (cases_eq a.0 at.0) [
-          | inl same ↦ inr same
-          | inr apart ↦ inl (
-            t.0,
-            false_from_ne_true (is_after after a) (λ above.
-                let least = found.least a (carded_same a ∙ t.0) above in
-                let up = ltb-false at.0 a.0 t.1 in
-                apart (omega arith)),
-          )
+        (λ a t. (t.0, le-ltb at.0 a.0 (let low = after_past after at found.beyond a t.1 in omega arith)))
+        (λ a t. elim (reached_cases (is_old_carded h n) after at a found (carded_same a ∙ t.0) t.1) [
+          | inl early ↦ inl (t.0, early)
+          | inr same ↦ inr (ap (λ (x : Addr). x.0) same)
         ])
-      where
-        before : (a : Addr) (o : Option Addr) → is_after o a ≡ false → is_after o at ≡ true → a.0 ≤ at.0
-        before a None up above = absurd (cc up)
-        before a (Some b) up above =
-            (let low = ltb-false b.0 a.0 up in let high = ltb-true b.0 at.0 above in omega arith)
 
     pub carded_cards : (new : Heap) → IsRewritten h new place at → SameCards old new
     carded_cards new step c = elim (cases_eq c (card_of at)) [
@@ -320,13 +324,9 @@ module _ (place : Addr
     ]
 
     -- the addresses left are fewer
-    pub carded_less : IsSound h → 2 ^ 32 - next_to (Some at) < 2 ^ 32 - next_to after
-    carded_less sound = by after found.beyond
-      where
-        by : (o : Option Addr) → is_after o at ≡ true → 2 ^ 32 - next_to (Some at) < 2 ^ 32 - next_to o
-        by None b = (let low = (address_low h sound at carded_there).1 in omega arith)
-        by (Some a) b = (let low = (address_low h sound at carded_there).1 in let up = ltb-true a.0 at.0 b in
-            omega arith)
+    pub carded_less : IsSound h → 2 ^ 32 - reach_of (Some at) < 2 ^ 32 - reach_of after
+    carded_less sound = (let low = (address_low h sound at carded_there).1 in
+        let on = reach_on after at found.beyond in omega arith)
 
 -- the kept objects of the first moves, one after another
 module _ (place : Addr → Addr) (old h : Heap) (ms : List Move) (i : ℕ) (low : i < length ms)

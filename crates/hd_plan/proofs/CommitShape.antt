@@ -5,14 +5,15 @@ use Rattle.std.specs.FinMap as fin
 use Rattle.hd_model.specs.declared.data.Addr.{Addr}
 use Rattle.hd_model.specs.Ages.{raised, HasSoundCards}
 use Rattle.hd_model.specs.Scene.{fields_at, generation_at, IsField}
-use Rattle.hd_model.specs.Heap.{Heap, Basis, region_of, region_generation, is_held, object_at, placed_at, cells_of, is_carded}
+use Rattle.hd_model.specs.Heap.{Heap, Basis, region_of, region_generation, is_in_use, object_at, placed_at, cells_of, is_carded}
 use Rattle.hd_model.proofs.Members.{member_same}
 use Rattle.hd_heap.specs.Calls.{is_condemned}
 use Rattle.hd_heap.specs.Sound.{IsSound}
 use Rattle.hd_heap.proofs.HeapValues.{fields_placed}
 use Rattle.hd_plan.specs.declared.moves.Move.{Move}
 use Rattle.hd_plan.specs.declared.moves.Condemned.{Condemned}
-use Rattle.hd_plan.specs.Layout.{Room, move_at, condemned_at, is_kept_by, find_move, room_at, put_move, put_fate, Fits, AreMoves, AreRegions}
+use Rattle.hd_plan.specs.declared.cursors.AllocCursors.{AllocCursors}
+use Rattle.hd_plan.specs.Layout.{Room, move_at, condemned_at, is_kept_by, find_move, room_of, room_at, put_fate, Fits, AreMoves, AreRegions}
 use Rattle.hd_plan.specs.Plan.{PlanOf, kept_in, IsLaid}
 use Rattle.hd_plan.specs.Commit.{IsSameShape}
 use Rattle.hd_plan.specs.CommitSteps.{CanCopy}
@@ -37,11 +38,10 @@ module _ (h k : Heap) (s : IsSameShape h k) where
 
   shape_room : (ms : List Move) (i : ℕ) → room_at k ms i ≡ room_at h ms i
   unfolding room_at
-  shape_room ms zero = λ i. record { regions = s.regions i; spare = s.spare i; current = λ _. 0 }
+  shape_room ms zero = λ i. record (room_of h) { regions = s.regions i }
   shape_room ms (suc i) =
       let m = move_at ms i in
-      ap (λ q. put_move k q m) (shape_room ms i)
-      ∙ ap (put_fate m.fate (room_at h ms i) m.to m.generation) (shape_cells m.from)
+      λ j. put_fate m.fate (s.spare j) (shape_room ms i j) m.generation (shape_cells m.from j)
 
   shape_moves : (n : ℕ) (ms : List Move) → AreMoves h n ms → AreMoves k n ms
   shape_moves n ms moves = record {
@@ -52,15 +52,19 @@ module _ (h k : Heap) (s : IsSameShape h k) where
         ∙ ap (raised n) (sym (shape_generation (move_at ms j).from));
     fits = λ j within.
         let m = move_at ms j in
-        let P : Room → ℕ → Type 0 = λ q cells. Fits m.fate q m.from m.to m.generation cells in
-        subst (λ cells. P (room_at k ms j) cells) (sym (shape_cells m.from))
-        (subst (λ q. P q (cells_of (placed_at h m.from))) (sym (shape_room ms j)) (moves.fits j within));
+        let P : List ℕ → AllocCursors → ℕ → Type 0 =
+        λ ns c cells. Fits m.fate ns c m.from m.to m.generation cells in
+        subst (λ ns. P ns (room_at k ms j).cursors (cells_of (placed_at k m.from))) (sym s.spare)
+        (subst (λ c. P h.spare c (cells_of (placed_at k m.from)))
+        (ap (λ (q : Room). q.cursors) (sym (shape_room ms j)))
+        (subst (λ cells. P h.spare (room_at h ms j).cursors cells) (sym (shape_cells m.from))
+        (moves.fits j within)));
   }
 
   region_alike : (r : ℕ) → region_generation k r ≡ region_generation h r
   region_alike r = ap (λ rs. region_generation (record h { regions = rs }) r) s.regions
 
-  held_alike : (r : ℕ) → is_held k r ≡ is_held h r
+  held_alike : (r : ℕ) → is_in_use k r ≡ is_in_use h r
   held_alike r = ap (λ rs. fin.contains_key rs r) s.regions
 
   shape_regions : (n : ℕ) (ms : List Move) (cs : List Condemned) → AreRegions h n ms cs → AreRegions k n ms cs
@@ -116,7 +120,7 @@ module _ (p : PlanOf) (old : Heap) (c : IsCommitting p old) where
     sound = c.sound;
     objects = λ k within.
         (condemned_of old p.basis.condemned (move_at p.moves k).from (moves_now.condemned k within)).object;
-    generations = λ k within. (generation_some old p.basis.condemned c.sound p.moves moves_now k within).1;
+    generations = generation_some old p.basis.condemned c.sound p.moves moves_now;
     fits = moves_now.fits;
     put = are_put old p.basis.condemned c.sound p.moves moves_now;
   }

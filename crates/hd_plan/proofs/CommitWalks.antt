@@ -1,37 +1,24 @@
 -- Lemmas on walks over a heap, and on what keeps an object in each region in use: for tests.
-use Rattle.std.proofs.Common.{◌≡◌, ℕ, ◌<◌, ◌≤◌, inl, inr, ◌⊎◌, Bool, true, false, List, length, get_or, Option, Some, None, sym, ◌∙◌, subst, arith}
+use Rattle.std.proofs.Common.{◌≡◌, ℕ, ◌<◌, ◌≤◌, inl, inr, Bool, true, false, List, length, get_or, Option, Some, None, sym, ◌∙◌, subst, arith}
 use Rattle.std.specs.Prelude.{Contains}
-use Rattle.std.proofs.lemmas.Bool.{cases_eq, ltb-false, false_from_ne_true}
 use Rattle.std.proofs.lemmas.List.{get_or_default}
 use Rattle.hd_model.specs.declared.data.Addr.{Addr}
 use Rattle.hd_model.specs.Leads.{IsClosed}
 use Rattle.hd_model.specs.Scene.{IsField}
 use Rattle.hd_model.specs.Heap.{Heap, Basis, objects_of, has_object, object_at, placed_at}
-use Rattle.hd_heap.specs.Calls.{with_field, with_card, stored, is_after, IsNext}
+use Rattle.hd_heap.specs.Calls.{with_field, stored, is_after, IsNext}
 use Rattle.hd_heap.proofs.HeapValues.{has_with_object}
 use Rattle.hd_plan.specs.Plan.{HasNoEmptyRegion}
-use Rattle.hd_plan.proofs.CondemnedAddresses.{addr_is}
-
--- what a walk has come to: this object, or one that it had come to before
-pub walked_on : (p : Addr → Bool) (after : Option Addr) (at x : Addr) → IsNext p after at → p x ≡ true →
-    is_after (Some at) x ≡ false
-    → (x ≡ at) ⊎ (is_after after x ≡ false)
-walked_on p after at x next is up = elim (cases_eq x.0 at.0) [
-  | inl same ↦ inl (addr_is x at same)
-  | inr apart ↦ inr (false_from_ne_true (is_after after x) (λ beyond.
-      let low = next.least x is beyond in
-      let high = ltb-false at.0 x.0 up in
-      apart (omega arith)))
-]
+use Rattle.hd_plan.proofs.LayStep.{reached_cases}
 
 -- a property of all objects that a walk has come to, and one more
 pub walked_more : (P : Addr → Type 0) (h : Heap) (after : Option Addr) (at : Addr) → IsNext (has_object h)
     after at
     → ((x : Addr) → has_object h x ≡ true → is_after after x ≡ false → P x) → P at
     → (x : Addr) → has_object h x ≡ true → is_after (Some at) x ≡ false → P x
-walked_more P h after at next before here x is up = elim (walked_on (has_object h) after at x next is up) [
-  | inl same ↦ subst P (sym same) here
-  | inr was ↦ before x is was
+walked_more P h after at next before here x is up = elim (reached_cases (has_object h) after at x next is up) [
+  | inl was ↦ before x is was
+  | inr same ↦ subst P (sym same) here
 ]
 
 -- a property of each field that is read one after another

@@ -1,20 +1,19 @@
 -- Tests of addresses and of what is condemned.
-use Rattle.std.proofs.Common.{◌≡◌, ℕ, ◌+◌, ◌<◌, ◌≤◌, Bool, true, false, ◌&&◌, refl, sym, ap, inl, inr, ◌⊎◌, min, cond}
-use Rattle.std.specs.Prelude.{nat_le}
-use Rattle.std.proofs.lemmas.Bool.{le-ltb, leb-true, le-leb, cases_lt}
+use Rattle.std.proofs.Common.{◌≡◌, ℕ, ◌+◌, ◌<◌, ◌≤◌, Bool, true, false, not, Option, Some, None, refl, sym, ap, inl, inr, ◌⊎◌, min, cond}
+use Rattle.std.specs.Prelude.{nat_le, is_some, option_map}
+use Rattle.std.proofs.lemmas.Bool.{le-ltb, leb-true, le-leb, cases_lt, and_parts, and_from}
 use Rattle.hd_model.specs.declared.data.Addr.{Addr}
 use Rattle.hd_model.specs.Ages.{raised}
-use Rattle.hd_model.specs.Scene.{generation_at, IsCondemned}
-use Rattle.hd_model.specs.Heap.{Heap, has_object, object_at}
+use Rattle.hd_model.specs.Scene.{generation_at, generation_in, IsCondemned}
+use Rattle.hd_model.specs.Heap.{Heap, Placed, region_of, region_generation, has_object, object_at, object_in}
 use Rattle.hd_heap.specs.Calls.{is_condemned}
 
--- an address is its number
-pub addr_is : (a b : Addr) → a.0 ≡ b.0 → a ≡ b
-addr_is a b e = ap {B = Addr} (λ n. record { 0 = n }) e
+pub not_true : (a : Bool) → not a ≡ true → a ≡ false
+not_true true e = absurd (cc e)
+not_true false e = refl
 
-pub both_true : (a b : Bool) → (a && b) ≡ true → (a ≡ true) × (b ≡ true)
-both_true true b e = (refl, e)
-both_true false b e = absurd (cc e)
+pub some_is : {A : Type 0} (x y : A) → Some x ≡ Some y → x ≡ y
+some_is x y e = cc
 
 -- two tests that pass alike are one
 pub same_tests : (a b : Bool) → (a ≡ true → b ≡ true) → (b ≡ true → a ≡ true) → a ≡ b
@@ -22,17 +21,14 @@ same_tests true b to back = sym (to refl)
 same_tests false true to back = back refl
 same_tests false false to back = refl
 
-pub both_hold : (a b : Bool) → a ≡ true → b ≡ true → (a && b) ≡ true
-both_hold a b p q = rw (p, q)
-
 -- the test and the record of what is condemned agree
 pub condemned_of : (h : Heap) (n : ℕ) (a : Addr) → is_condemned h n a ≡ true → IsCondemned (object_at h) n a
 condemned_of h n a e =
-    let parts = both_true (has_object h a) (nat_le (generation_at (object_at h) a) n) e in
+    let parts = and_parts (has_object h a) (nat_le (generation_at (object_at h) a) n) e in
     record { object = parts.0; young = leb-true (generation_at (object_at h) a) n parts.1 }
 
 pub condemned_is : (h : Heap) (n : ℕ) (a : Addr) → IsCondemned (object_at h) n a → is_condemned h n a ≡ true
-condemned_is h n a c = both_hold _ _ c.object (le-leb (generation_at (object_at h) a) n c.young)
+condemned_is h n a c = and_from _ _ c.object (le-leb (generation_at (object_at h) a) n c.young)
 
 -- the raised generation of what is condemned
 pub raised_young : (n g : ℕ) → g ≤ n → raised n g ≡ min (g + 1) 2
@@ -45,3 +41,13 @@ older_or_young h n a object = elim (cases_lt n (generation_at (object_at h) a)) 
   | inl older ↦ inl older
   | inr young ↦ inr (condemned_is h n a (record { object = object; young = young }))
 ]
+
+-- the generation of an object is that of its region
+pub generation_is : (h : Heap) (a : Addr) → has_object h a ≡ true
+    → generation_at (object_at h) a ≡ region_generation h (region_of a)
+generation_is h a is = by (region_generation h (region_of a)) _ is
+  where
+    by : (g : ℕ) (o : Option Placed) → is_some (option_map (object_in g) o) ≡ true
+        → generation_in (option_map (object_in g) o) ≡ g
+    by g None e = absurd (cc e)
+    by g (Some p) e = refl

@@ -7,10 +7,9 @@ use Rattle.hd_model.specs.Heap.{region_of}
 use Rattle.hd_plan.specs.declared.moves.Move.{Move}
 use Rattle.hd_plan.specs.declared.moves.Condemned.{Condemned}
 use Rattle.hd_plan.specs.Layout.{move_at, condemned_at, is_staying, IsRising}
-use Rattle.hd_plan.specs.Laying.{first_at, cell_at, is_last, HasMove, HasRegionRoom, HasPlaces, AreListedTo, IsJoined, IsAdded}
-use Rattle.hd_plan.specs.Table.{spot_in, spot_of, place_from, place_among}
-use Rattle.hd_plan.proofs.CondemnedAddresses.{addr_is}
+use Rattle.hd_plan.specs.LaySteps.{first_at, cell_at, is_last, HasMove, HasRegionRoom, HasPlaces, AreListedTo, IsJoined, IsAdded, spot_in, spot_of, place_from, place_among}
 use Rattle.hd_plan.proofs.RegionList.{region_once, below_region, joined_region, joined_length, added_length, added_before, added_last, listed_added, listed_fit, listed_next}
+use Rattle.hd_heap.proofs.HeapValues.{same_address}
 
 pub region_is_quotient : (a : Addr) → region_of a ≡ a.0 / 256
 unfolding region_of
@@ -19,7 +18,7 @@ region_is_quotient a = refl
 -- two addresses of one region with one offset are one
 same_spot : (a b : Addr) → region_of a ≡ region_of b → a.0 % 256 ≡ b.0 % 256 → a ≡ b
 unfolding region_of
-same_spot a b region offset = addr_is a b (omega arith)
+same_spot a b region offset = same_address a b (omega arith)
 
 -- a move that was read
 pub move_read : (ms : List Move) (k n : ℕ) (x : Move) → x ≡ get_or ms k x → k < n → n ≡ length ms

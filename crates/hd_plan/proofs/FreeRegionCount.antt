@@ -5,7 +5,7 @@ use Rattle.hd_model.specs.declared.limits.TheConstants.{LEFT, OPEN}
 use Rattle.hd_model.specs.Heap.{Heap}
 use Rattle.hd_plan.specs.declared.survey.Survey.{Survey}
 use Rattle.hd_plan.specs.Plan.{SparesAtMost}
-use Rattle.hd_plan.specs.Laying.{IsSurvey}
+use Rattle.hd_plan.specs.LaySteps.{IsSurvey}
 
 pub spares_at_most : (old new : Heap) (n : ℕ) (s : Survey) → IsSurvey old n s
     → length new.spare ≤ max (s.cells / LEFT + OPEN) (length old.spare) → SparesAtMost old new n

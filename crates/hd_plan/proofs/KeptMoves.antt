@@ -2,7 +2,7 @@
 -- address.
 use Rattle.std.proofs.Common.{◌≡◌, ◌≢◌, ℕ, zero, suc, ◌+◌, ◌<◌, ◌≤◌, Bool, true, false, ◌||◌, List, length, Option, Some, None, refl, sym, ap, ◌∙◌, subst, arith, inl, inr, ◌⊎◌, min, true≢false}
 use Rattle.std.specs.Prelude.{nat_lt, is_some}
-use Rattle.std.proofs.lemmas.Bool.{lt-ltb, le-ltb, ltb-true, cases_eq, cases_order, cases_Bool}
+use Rattle.std.proofs.lemmas.Bool.{lt-ltb, le-ltb, ltb-true, cases_eq, cases_order, cases_Bool, or_cases, or_left}
 use Rattle.hd_model.specs.declared.data.Addr.{Addr}
 use Rattle.hd_model.specs.Ages.{raised}
 use Rattle.hd_model.specs.Marking.{IsKeeping}
@@ -13,18 +13,12 @@ use Rattle.hd_heap.specs.Sound.{IsSound}
 use Rattle.hd_plan.specs.declared.moves.Fate.{Fate}
 use Rattle.hd_plan.specs.declared.moves.Fate.TheVariants.{Dead, Pinned, MovesToNewRegion, Moves}
 use Rattle.hd_plan.specs.declared.moves.Move.{Move}
-use Rattle.hd_plan.specs.Layout.{Room, room_at, Fits, move_at, is_moving, is_kept_fate, find_move, place_by, is_kept_by, AreMoves}
-use Rattle.hd_plan.specs.Packing.{IsRoom, IsPut, ArePut}
+use Rattle.hd_plan.specs.declared.cursors.AllocCursors.{AllocCursors}
+use Rattle.hd_plan.specs.Layout.{room_at, put_move, Fits, move_at, is_moving, is_staying, is_kept_fate, find_move, place_by, is_kept_by, AreMoves}
+use Rattle.hd_plan.specs.LaySteps.{IsRoom, IsPut, ArePut}
 use Rattle.hd_plan.proofs.CondemnedAddresses.{condemned_of, raised_young}
 use Rattle.hd_plan.proofs.MoveSearch.{find_at, find_none, find_some, IsFound}
 use Rattle.hd_plan.proofs.RoomSteps.{room_start, goes, Goes}
-
-either_true : (a b : Bool) → (a || b) ≡ true → (a ≡ true) ⊎ (b ≡ true)
-either_true true b e = inl refl
-either_true false b e = inr e
-
-left_true : (a b : Bool) → a ≡ true → (a || b) ≡ true
-left_true a b e = ap (λ x. x || b) e
 
 no_generation : (o : Option (Object Addr)) → is_some o ≡ false → generation_in o ≡ 0
 no_generation None e = refl
@@ -43,13 +37,25 @@ moving_kept Pinned e = refl
 moving_kept MovesToNewRegion e = refl
 moving_kept Moves e = refl
 
+pub fate_stays : (w : Fate) → is_staying w ≡ true → is_kept_fate w ≡ true
+fate_stays Dead e = absurd (true≢false (sym e))
+fate_stays Pinned e = refl
+fate_stays MovesToNewRegion e = absurd (true≢false (sym e))
+fate_stays Moves e = absurd (true≢false (sym e))
+
+pub fate_rests : (w : Fate) → is_staying w ≡ true → is_moving w ≡ false
+fate_rests Dead e = absurd (true≢false (sym e))
+fate_rests Pinned e = refl
+fate_rests MovesToNewRegion e = absurd (true≢false (sym e))
+fate_rests Moves e = absurd (true≢false (sym e))
+
 -- what does not move goes to its own address
-pub unmoved : (w : Fate) (q : Room) (from to : Addr) (g cells : ℕ) → is_moving w ≡ false
-    → Fits w q from to g cells → to ≡ from
-unmoved Dead q from to g cells e fits = fits
-unmoved Pinned q from to g cells e fits = fits
-unmoved MovesToNewRegion q from to g cells e fits = absurd (true≢false e)
-unmoved Moves q from to g cells e fits = absurd (true≢false e)
+pub unmoved : (w : Fate) (spare : List ℕ) (s : AllocCursors) (from to : Addr) (g cells : ℕ)
+    → is_moving w ≡ false → Fits w spare s from to g cells → to ≡ from
+unmoved Dead spare s from to g cells e fits = fits
+unmoved Pinned spare s from to g cells e fits = fits
+unmoved MovesToNewRegion spare s from to g cells e fits = absurd (true≢false e)
+unmoved Moves spare s from to g cells e fits = absurd (true≢false e)
 
 -- move k is of a, which it keeps
 pub record IsKeptBy (ms : List Move) (a : Addr) (k : ℕ) : Type 0 where
@@ -85,14 +91,14 @@ module _ (h : Heap) (n : ℕ) (sound : IsSound h) where
         subst (λ (x : ℕ). (0 < x) × (x ≤ 2)) (sym (moves.generations k within))
         (raised_some (move_at ms k).from (is_condemned_at k within))
 
-    pub moves_on : (k : ℕ) → k < length ms → (room : IsRoom h (room_at h ms k))
-        → Goes h (move_at ms k).fate (room_at h ms k) room (move_at ms k).from (move_at ms k).to
-        (move_at ms k).generation (cells_of (placed_at h (move_at ms k).from))
+    moves_on : (k : ℕ) → k < length ms → IsRoom h (room_at h ms k)
+        → Goes h (is_moving (move_at ms k).fate) (room_at h ms k) (put_move h (room_at h ms k) (move_at ms k))
+        (move_at ms k).to (move_at ms k).generation (cells_of (placed_at h (move_at ms k).from))
     moves_on k within room =
-        goes h sound (move_at ms k).fate (room_at h ms k) room (move_at ms k).from (move_at ms k).to
-        (move_at ms k).generation
+        goes h sound (room_at h ms k) room (move_at ms k).from (move_at ms k).to (move_at ms k).generation
         (cells_of (placed_at h (move_at ms k).from)) (generation_some k within)
-        (cells_some (move_at ms k).from (is_condemned_at k within).object) (moves.fits k within)
+        (cells_some (move_at ms k).from (is_condemned_at k within).object) (move_at ms k).fate
+        (moves.fits k within)
 
     -- what moves is put, and no two to one address
     pub are_put : (i : ℕ) → i ≤ length ms → ArePut h ms i
@@ -101,15 +107,16 @@ module _ (h : Heap) (n : ℕ) (sound : IsSound h) where
       room = room_start h;
       put = λ k less. absurd (omega arith);
       apart = λ j k low less. absurd (omega arith);
+      held = λ r has. inl has;
     }
     are_put (suc i) le =
         let before : ArePut h ms i = are_put i (omega arith) in
         let on = moves_on i (omega arith) before.room in
         record {
-          room = on.room_is;
+          room = on.room;
           put = λ k less is. elim (cases_eq k i) [
             | inl same ↦ subst (λ (x : ℕ). is_moving (move_at ms x).fate ≡ true
-                → IsPut h (room_at h ms (suc i)) (move_at ms x).to (move_at ms x).generation
+                → IsPut h (room_at h ms (suc i)).regions (move_at ms x).to (move_at ms x).generation
                 (cells_of (placed_at h (move_at ms x).from))) (sym same) on.puts is
             | inr apart ↦ on.stays _ _ _ (before.put k (omega arith) is)
           ];
@@ -119,6 +126,13 @@ module _ (h : Heap) (n : ℕ) (sound : IsSound h) where
                 (λ e. on.apart e (move_at ms j).to _ _ (before.put j (omega arith) is)
                 (cells_some (move_at ms j).from (is_condemned_at j (omega arith)).object).0) too
             | inr other ↦ before.apart j k low (omega arith) is too
+          ];
+          held = λ r has. elim (on.since r has) [
+            | inl was ↦ elim (before.held r was) [
+              | inl old ↦ inl old
+              | inr (k, by) ↦ inr (k, (let low = by.0 in omega arith, by.1))
+            ]
+            | inr new ↦ inr (i, (omega arith, new))
           ];
         }
 
@@ -140,7 +154,7 @@ module _ (h : Heap) (n : ℕ) (sound : IsSound h) where
     place a = place_by (find_move ms a) a
 
     pub older_kept : (a : Addr) → n < generation_at (object_at h) a → kept a ≡ true
-    older_kept a older = left_true _ _ (lt-ltb n (generation_at (object_at h) a) older)
+    older_kept a older = or_left _ _ (lt-ltb n (generation_at (object_at h) a) older)
 
     pub older_place : (a : Addr) → n < generation_at (object_at h) a → place a ≡ a
     older_place a older = ap (λ o. place_by o a) (older_none a older)
@@ -163,7 +177,7 @@ module _ (h : Heap) (n : ℕ) (sound : IsSound h) where
 
     pub kept_cases : (a : Addr) → kept a ≡ true → (n < generation_at (object_at h) a)
         ⊎ ((k : ℕ) × IsKeptBy ms a k)
-    kept_cases a e = elim (either_true _ _ e) [
+    kept_cases a e = elim (or_cases _ _ e) [
       | inl older ↦ inl (ltb-true n (generation_at (object_at h) a) older)
       | inr moved ↦ inr (by_move a (find_move ms a) refl moved)
     ]
@@ -189,7 +203,7 @@ module _ (h : Heap) (n : ℕ) (sound : IsSound h) where
             (subst (λ (x : Addr). has_object h x ≡ true) by.from (is_condemned_at k by.within).object)
             (subst (λ (x : Addr). place x ≡ x) by.from
             (move_place k by.within
-            ∙ unmoved _ (room_at h ms k) _ _ _ _ (ap is_moving staying) (moves.fits k by.within)))
+            ∙ unmoved _ h.spare (room_at h ms k).cursors _ _ _ _ (ap is_moving staying) (moves.fits k by.within)))
       ]
     ]
 

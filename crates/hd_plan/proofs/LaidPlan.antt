@@ -1,44 +1,27 @@
 -- All that is condemned has a move, and all regions are listed: the plan is laid.
-use Rattle.std.proofs.Common.{◌≡◌, ℕ, zero, suc, ◌+◌, ◌-◌, ◌^◌, ◌<◌, ◌≤◌, Bool, true, false, not, cond, List, [], ◌∷◌, length, Option, Some, None, refl, sym, ap, ◌∙◌, subst, arith, inl, inr, true≢false}
-use Rattle.std.specs.Prelude.{is_some, option_map, count_by}
+use Rattle.std.proofs.Common.{◌≡◌, ℕ, zero, suc, ◌+◌, ◌-◌, ◌^◌, ◌<◌, ◌≤◌, Bool, true, false, not, cond, List, [], ◌∷◌, length, refl, sym, ap, ◌∙◌, subst, arith, inl, inr, true≢false}
+use Rattle.std.specs.Prelude.{count_by}
 use Rattle.hd_model.specs.declared.data.Addr.{Addr}
 use Rattle.hd_model.specs.Ages.{raised}
 use Rattle.hd_model.specs.Counting.{Counts}
 use Rattle.hd_model.specs.Leads.{IsClosed}
 use Rattle.hd_model.specs.Marking.{IsSettled}
-use Rattle.hd_model.specs.Scene.{generation_at, generation_in, IsCondemned, IsField}
-use Rattle.hd_model.specs.Heap.{Heap, Placed, region_of, region_generation, is_held, has_object, object_at, object_in, objects_of}
+use Rattle.hd_model.specs.Scene.{IsCondemned, IsField}
+use Rattle.hd_model.specs.Heap.{Heap, region_of, region_generation, is_in_use, has_object, object_at, objects_of}
 use Rattle.hd_heap.specs.Sound.{IsSound}
-use Rattle.hd_plan.specs.declared.moves.Fate.{Fate}
-use Rattle.hd_plan.specs.declared.moves.Fate.TheVariants.{Dead, Pinned, MovesToNewRegion, Moves}
 use Rattle.hd_plan.specs.declared.moves.Move.{Move}
 use Rattle.hd_plan.specs.declared.moves.Condemned.{Condemned}
-use Rattle.hd_plan.specs.Layout.{move_at, room_at, is_kept_fate, is_moving, is_staying, stays_among, AreMoves, AreRegions}
-use Rattle.hd_plan.specs.Laying.{AreChosen, AreListedTo, HasMove, HasRegionRoom, HasCondemned, IsPlan, first_at}
-use Rattle.hd_plan.specs.Table.{place_among}
+use Rattle.hd_plan.specs.Layout.{move_at, room_at, is_kept_fate, is_staying, stays_among, AreMoves, AreRegions}
+use Rattle.hd_plan.specs.LaySteps.{AreChosen, AreListedTo, HasMove, HasRegionRoom, HasCondemned, IsPlan, first_at, place_among}
 use Rattle.hd_plan.specs.Plan.{PlanOf, kept_in, place_in, stays_in, IsLaid, HasNoEmptyCondemned}
-use Rattle.hd_plan.proofs.CondemnedAddresses.{condemned_is, older_or_young, both_hold, both_true, same_tests}
-use Rattle.hd_plan.proofs.KeptMoves.{is_condemned_at, kept, place, older_kept, older_place, move_kept, move_place, kept_cases, keeping, unmoved}
+use Rattle.hd_plan.proofs.CondemnedAddresses.{condemned_is, older_or_young, same_tests, not_true, generation_is}
+use Rattle.hd_plan.proofs.KeptMoves.{is_condemned_at, kept, place, older_kept, older_place, move_kept, move_place, kept_cases, keeping, unmoved, fate_rests}
 use Rattle.hd_plan.proofs.MoveWeights.{counts_moves, stays_counted}
 use Rattle.hd_plan.proofs.ForwardTable.{place_none, place_some}
 use Rattle.hd_model.proofs.PropertyCounts.{counts_like}
 use Rattle.hd_plan.proofs.LayStep.{address_low}
 use Rattle.std.proofs.lemmas.List.Sums.{sum_by-cons}
-use Rattle.std.proofs.lemmas.Bool.{cases_eq}
-
-generation_there : (g : ℕ) (o : Option Placed) → is_some (option_map (object_in g) o) ≡ true
-    → generation_in (option_map (object_in g) o) ≡ g
-generation_there g None e = absurd (true≢false (sym e))
-generation_there g (Some p) e = refl
-
--- the generation of an object is that of its region
-pub generation_is : (h : Heap) (a : Addr) → has_object h a ≡ true
-    → generation_at (object_at h) a ≡ region_generation h (region_of a)
-generation_is h a is = generation_there (region_generation h (region_of a)) _ is
-
-not_true : (a : Bool) → not a ≡ true → a ≡ false
-not_true true e = absurd (true≢false (sym e))
-not_true false e = refl
+use Rattle.std.proofs.lemmas.Bool.{cases_eq, and_parts, and_from}
 
 one_of : (b : Bool) → cond {A = ℕ} b 1 0 + cond {A = ℕ} (not b) 1 0 ≡ 1
 one_of true = refl
@@ -57,12 +40,6 @@ passing_or_not p (x ∷ xs) =
       one_of (p x),
     )
 
-staying_is : (w : Fate) → is_staying w ≡ true → is_moving w ≡ false
-staying_is Dead e = absurd (true≢false (sym e))
-staying_is Pinned e = refl
-staying_is MovesToNewRegion e = absurd (true≢false (sym e))
-staying_is Moves e = absurd (true≢false (sym e))
-
 module _ (h : Heap) (n : ℕ) (sound : IsSound h) (ms : List Move) (moves : AreMoves h n ms) where
   pub are_regions : (cs : List Condemned) → HasNoEmptyCondemned h n → AreListedTo ms cs (length ms)
       → AreRegions h n ms cs
@@ -71,7 +48,7 @@ module _ (h : Heap) (n : ℕ) (sound : IsSound h) (ms : List Move) (moves : AreM
         let (j, is) = listed.named k low in
         let at = is_condemned_at h n sound ms moves j is.0 in
         record {
-          held = subst (λ (r : ℕ). is_held h r ≡ true) is.1.0 (sound.held (move_at ms j).from at.object);
+          held = subst (λ (r : ℕ). is_in_use h r ≡ true) is.1.0 (sound.held (move_at ms j).from at.object);
           young = (let y = at.young in
               omega (arith, generation_is h (move_at ms j).from at.object, ap (region_generation h) is.1.0));
         };
@@ -124,10 +101,10 @@ module _ (h : Heap) (n : ℕ) (sound : IsSound h) (ms : List Move) (moves : AreM
       | inr young ↦
           let (k, at) = moves.all a young in
           let stays : is_staying (move_at ms k).fate ≡ true =
-          chosen.stays k at.0 ∙ both_hold _ _ (ap promoted at.1 ∙ e) (ap pinned at.1 ∙ p) in
+          chosen.stays k at.0 ∙ and_from _ _ (ap promoted at.1 ∙ e) (ap pinned at.1 ∙ p) in
           subst (λ (x : Addr). place h n sound ms moves x ≡ x) at.1
           (move_place h n sound ms moves k at.0
-          ∙ unmoved _ (room_at h ms k) _ _ _ _ (staying_is _ stays) (moves.fits k at.0))
+          ∙ unmoved _ h.spare (room_at h ms k).cursors _ _ _ _ (fate_rests _ stays) (moves.fits k at.0))
     ]
 
     pub closed_kept : IsClosed (IsField (object_at h)) promoted
@@ -143,7 +120,7 @@ module _ (h : Heap) (n : ℕ) (sound : IsSound h) (ms : List Move) (moves : AreM
         (counts_moves ms moves.rising (λ m. is_staying m.fate)
         (λ a. IsCondemned (object_at h) n a × (promoted a ≡ true) × (pinned a ≡ true))
         (λ k low stays. let (p, q) =
-        both_true (promoted (move_at ms k).from) (pinned (move_at ms k).from)
+        and_parts (promoted (move_at ms k).from) (pinned (move_at ms k).from)
         (sym (chosen.stays k low) ∙ stays) in
         (is_condemned_at h n sound ms moves k low, p, q))
         (λ a is.
@@ -154,7 +131,7 @@ module _ (h : Heap) (n : ℕ) (sound : IsSound h) (ms : List Move) (moves : AreM
             (
               at.1,
               chosen.stays k at.0
-                  ∙ both_hold _ _ (ap promoted at.1 ∙ is.1) (ap pinned at.1 ∙ is.2),
+                  ∙ and_from _ _ (ap promoted at.1 ∙ is.1) (ap pinned at.1 ∙ is.2),
             ),
           ),
         )))

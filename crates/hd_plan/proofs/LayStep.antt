@@ -1,5 +1,5 @@
 -- One object more is laid, and at the end all are.
-use Rattle.std.proofs.Common.{◌≡◌, ℕ, zero, suc, ◌+◌, ◌^◌, ◌<◌, ◌≤◌, Bool, true, false, ◌&&◌, List, [], ◌∷◌, ◌++◌, length, Option, Some, None, refl, sym, ap, ◌∙◌, subst, arith, inl, inr, ◌⊎◌, true≢false, length-append}
+use Rattle.std.proofs.Common.{◌≡◌, ℕ, zero, suc, ◌+◌, ◌^◌, ◌<◌, ◌≤◌, Bool, true, false, ◌&&◌, List, [], ◌∷◌, ◌++◌, length, Option, Some, None, cond, refl, sym, ap, ◌∙◌, subst, arith, inl, inr, ◌⊎◌, true≢false, length-append}
 use Rattle.std.proofs.lemmas.Bool.{le-ltb, ltb-true, ltb-false, cases_eq, cases_Bool}
 use Rattle.std.proofs.lemmas.List.{get_or_append_left, get_or_at}
 use Rattle.std.proofs.lemmas.List.Sums.{sum_by_push}
@@ -11,14 +11,14 @@ use Rattle.hd_heap.specs.Calls.{is_condemned, is_after, IsNext}
 use Rattle.hd_heap.specs.Sound.{IsSound}
 use Rattle.hd_plan.specs.declared.moves.Move.{Move}
 use Rattle.hd_plan.specs.declared.cursors.AllocCursors.{AllocCursors}
-use Rattle.hd_plan.specs.Layout.{Room, room_at, room_of, put_move, FitsMove, move_at, is_kept_fate, is_staying}
-use Rattle.hd_plan.specs.Plan.{HasSpare}
-use Rattle.hd_plan.specs.Laying.{AreMovesTo, AreChosen, AreCursors, HasSlack, IsMoveOf, CanPut, HasMoveRoom, cells_laid}
-use Rattle.hd_plan.proofs.CondemnedAddresses.{condemned_of, addr_is}
+use Rattle.hd_plan.specs.Layout.{Room, room_at, room_of, put_move, put_cursors, Fits, FitsMove, IsRising, move_at, is_kept_fate, is_moving, is_staying}
+use Rattle.hd_plan.specs.Plan.{HasFreeRegions}
+use Rattle.hd_plan.specs.LaySteps.{IsRoom, AreChosen, IsMoveOf, CanPut, HasMoveRoom}
+use Rattle.hd_plan.proofs.CondemnedAddresses.{condemned_of}
 use Rattle.hd_plan.proofs.KeptMoves.{raised_some, cells_some}
-use Rattle.hd_plan.proofs.RoomSteps.{region_low, region_high}
-use Rattle.hd_plan.proofs.CursorRoom.{sits, Sits, slack_on, can_put, cursors_start}
-use Rattle.hd_plan.proofs.MoveWeights.{moves_fit, cells_fit}
+use Rattle.hd_plan.proofs.RoomSteps.{region_low, region_high, goes, can_put, room_start}
+use Rattle.hd_plan.proofs.MoveWeights.{cells_laid, moves_fit, cells_fit}
+use Rattle.hd_heap.proofs.HeapValues.{same_address}
 
 -- what is read among moves with one more
 pub push_before : (ms : List Move) (m : Move) (k : ℕ) → k < length ms
@@ -83,10 +83,21 @@ pub reached_cases : (p : Addr → Bool) (after : Option Addr) (at x : Addr) → 
     → is_after (Some at) x ≡ false → (is_after after x ≡ false) ⊎ (x ≡ at)
 reached_cases p after at x next is reached = elim (cases_Bool (is_after after x)) [
   | inl later ↦
-      inr (addr_is x at (let low = next.least x is later in let up = ltb-false at.0 x.0 reached in
+      inr (same_address x at (let low = next.least x is later in let up = ltb-false at.0 x.0 reached in
       omega arith))
   | inr before ↦ inl before
 ]
+
+-- the condemned objects up to an address have moves, and those of them that are kept have new addresses
+pub record AreMovesTo (h : Heap) (n : ℕ) (ms : List Move) (after : Option Addr) : Type 0 where
+  pub condemned : (k : ℕ) → k < length ms → is_condemned h n (move_at ms k).from ≡ true
+  pub reached : (k : ℕ) → k < length ms → is_after after (move_at ms k).from ≡ false
+  pub rising : IsRising ms
+  pub all : (a : Addr) → is_condemned h n a ≡ true → is_after after a ≡ false
+      → (k : ℕ) × ((k < length ms) × ((move_at ms k).from ≡ a))
+  pub generations : (k : ℕ) → k < length ms
+      → (move_at ms k).generation ≡ raised n (generation_at (object_at h) (move_at ms k).from)
+  pub fits : (k : ℕ) → k < length ms → FitsMove h (room_at h ms k) (move_at ms k)
 
 module _ (h : Heap) (n : ℕ) where
   pub to_start : AreMovesTo h n [] None
@@ -124,7 +135,7 @@ module _ (h : Heap) (n : ℕ) where
         (
           let e = push_length ms m in omega arith,
           ap (λ x. x.from) (push_last ms m (length ms) refl) ∙ from
-              ∙ addr_is at a (let l = next.least a is later in let r = ltb-false at.0 a.0 reached in
+              ∙ same_address at a (let l = next.least a is later in let r = ltb-false at.0 a.0 reached in
               omega arith),
         ),
       )
@@ -165,8 +176,9 @@ pub record IsLaying (h : Heap) (n : ℕ) (promoted pinned : Addr → Bool) (ms :
     (cursors : AllocCursors) (after : Option Addr) : Type 0 where
   pub to : AreMovesTo h n ms after
   pub chosen : AreChosen promoted pinned ms
-  pub cursors_are : AreCursors h (room_at h ms (length ms)) cursors
-  pub slack : HasSlack cursors (cells_laid h ms)
+  pub room : IsRoom h (room_at h ms (length ms))
+  pub cursors_are : (room_at h ms (length ms)).cursors ≡ cursors
+  pub laid : (room_at h ms (length ms)).cells ≤ cells_laid h ms
 
 pub laying_start : (h : Heap) (n : ℕ) (promoted pinned : Addr → Bool)
     → IsLaying h n promoted pinned []
@@ -175,15 +187,9 @@ pub laying_start : (h : Heap) (n : ℕ) (promoted pinned : Addr → Bool)
 laying_start h n promoted pinned = record {
   to = to_start h n;
   chosen = chosen_start promoted pinned;
-  cursors_are = subst (λ (q : Room). AreCursors h q
-      (record {
-        first = record { region = 0; fill = 0 };
-        second = record { region = 0; fill = 0 };
-        opened =
-            0;
-      }))
-      (sym (room_none h)) (cursors_start h);
-  slack = omega arith;
+  room = subst (IsRoom h) (sym (room_none h)) (room_start h);
+  cursors_are = ap (λ (q : Room). q.cursors) (room_none h);
+  laid = (let none = ap (λ (q : Room). q.cells) (room_none h) in omega arith);
 }
 
 -- how far a walk is: the first address that it has not passed
@@ -207,16 +213,16 @@ module _ (h : Heap) (n : ℕ) (sound : IsSound h) (promoted pinned : Addr → Bo
   laid_condemned ms after to k low = condemned_of h n (move_at ms k).from (to.condemned k low)
 
   pub may_put : (ms : List Move) (cursors : AllocCursors) (after : Option Addr)
-      → IsLaying h n promoted pinned ms cursors after → HasSpare h n → CanPut h cursors
+      → IsLaying h n promoted pinned ms cursors after → HasFreeRegions h n → CanPut h cursors
   may_put ms cursors after laying spare =
-      can_put h sound (room_at h ms (length ms)) cursors laying.cursors_are (cells_laid h ms) spare.cells
-      laying.slack
-      (cells_fit ms laying.to.rising h n (laid_condemned ms after laying.to) spare.cells spare.cells_are)
-      spare.small spare.enough
+      subst (CanPut h) laying.cursors_are (can_put h sound (room_at h ms (length ms)) laying.room spare.cells
+      (let fit = cells_fit ms laying.to.rising h n (laid_condemned ms after laying.to) spare.cells
+      spare.cells_are in let laid = laying.laid in omega arith)
+      spare.small spare.enough)
 
   laying_from : (ms : List Move) (old new : AllocCursors) (after : Option Addr) (m : Move)
-      → IsLaying h n promoted pinned ms old after → HasSpare h n → IsNext (is_condemned h n) after m.from
-      → IsMoveOf h n (promoted m.from) (pinned m.from) old new m.from m
+      → IsLaying h n promoted pinned ms old after → HasFreeRegions h n → IsNext (is_condemned h n) after m.from
+      → IsMoveOf h n (promoted m.from) (pinned m.from) old new m
       → IsLaying h n promoted pinned (ms ++ m ∷ []) new (Some m.from)
   laying_from ms old new after m laying spare next is =
       let q : Room = room_at h ms (length ms) in
@@ -224,29 +230,38 @@ module _ (h : Heap) (n : ℕ) (sound : IsSound h) (promoted pinned : Addr → Bo
       let condemned : IsCondemned (object_at h) n m.from = condemned_of h n m.from next.member in
       let young : (0 < m.generation) × (m.generation ≤ 2) =
       subst (λ (x : ℕ). (0 < x) × (x ≤ 2)) (sym is.generation) (raised_some h n sound m.from condemned) in
-      let can : CanPut h old = may_put ms old after laying spare in
       let small : (0 < cells) × (cells ≤ 64) = cells_some h n sound m.from condemned.object in
-      let sit : Sits h sound m.fate q new m.from m.to m.generation cells =
-      sits h sound m.fate q old new laying.cursors_are m.from m.to m.generation cells young small can.spare
-      is.by_cursor in
+      let fits : FitsMove h q m = subst (λ (s : AllocCursors).
+      Fits m.fate h.spare s m.from m.to m.generation cells) (sym laying.cursors_are) is.fits in
+      let more = room_pushed h ms m in
       record {
-        to = to_next h n ms after m.from m laying.to next refl is.generation sit.fits;
+        to = to_next h n ms after m.from m laying.to next refl is.generation fits;
         chosen = chosen_next promoted pinned ms m laying.chosen is.kept is.stays;
-        cursors_are = subst (λ (r : Room). AreCursors h r new) (sym (room_pushed h ms m)) sit.cursors;
-        slack = subst (λ (x : ℕ). HasSlack new x)
-            (sym (sum_by_push (λ (x : Move). cells_of (placed_at h x.from)) ms m))
-            (slack_on h sound m.fate q old new laying.cursors_are m.from m.to m.generation cells
-            (cells_laid h ms) young small can.spare is.by_cursor laying.slack);
+        room = subst (IsRoom h) (sym more)
+            (goes h sound q laying.room m.from m.to m.generation cells young small m.fate fits).room;
+        cursors_are = ap (λ (r : Room). r.cursors) more
+            ∙ ap (λ (s : AllocCursors). put_cursors m.fate h.spare s m.generation cells) laying.cursors_are
+            ∙ sym is.cursors;
+        laid = omega (
+          arith,
+          laying.laid,
+          ap (λ (r : Room). r.cells) more,
+          part (is_moving m.fate) cells,
+          sum_by_push (λ (x : Move). cells_of (placed_at h x.from)) ms m,
+        );
       }
+    where
+      part : (b : Bool) (x : ℕ) → cond b x 0 ≤ x
+      part true x = omega arith
+      part false x = omega arith
 
   pub laying_next : (ms : List Move) (old new : AllocCursors) (after : Option Addr) (at : Addr) (m : Move)
-      → IsLaying h n promoted pinned ms old after → HasSpare h n → IsNext (is_condemned h n) after at
-      → IsMoveOf h n (promoted at) (pinned at) old new at m
+      → IsLaying h n promoted pinned ms old after → HasFreeRegions h n → IsNext (is_condemned h n) after at
+      → m.from ≡ at → IsMoveOf h n (promoted at) (pinned at) old new m
       → IsLaying h n promoted pinned (ms ++ m ∷ []) new (Some at)
-  laying_next ms old new after at m laying spare next is =
-      subst (λ (x : Addr). IsNext (is_condemned h n) after x
-      → IsMoveOf h n (promoted x) (pinned x) old new x m
-      → IsLaying h n promoted pinned (ms ++ m ∷ []) new (Some x)) is.from
+  laying_next ms old new after at m laying spare next from is =
+      subst (λ (x : Addr). IsNext (is_condemned h n) after x → IsMoveOf h n (promoted x) (pinned x) old new m
+      → IsLaying h n promoted pinned (ms ++ m ∷ []) new (Some x)) from
       (laying_from ms old new after m laying spare) next is
 
   -- there is room for one move more

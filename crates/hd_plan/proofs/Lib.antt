@@ -7,7 +7,6 @@ pub mod MoveSearch
 pub mod CondemnedAddresses
 pub mod RoomSteps
 pub mod KeptMoves
-pub mod CursorRoom
 pub mod MoveWeights
 pub mod LayStep
 pub mod CommitShape
@@ -17,7 +16,6 @@ pub mod CommitTotals
 pub mod CommitResult
 pub mod RegionList
 pub mod ForwardTable
-pub mod Compactness
 pub mod PackedRegions
 pub mod SurveyCount
 pub mod FreeRegionCount

@@ -6,8 +6,8 @@ use Rattle.hd_plan.specs.declared.moves.Fate.{Fate}
 use Rattle.hd_plan.specs.declared.moves.Fate.TheVariants.{Pinned, MovesToNewRegion, Moves}
 use Rattle.hd_plan.specs.declared.moves.Move.{Move}
 use Rattle.hd_plan.specs.Layout.{move_at, is_kept_fate}
-use Rattle.hd_plan.proofs.CondemnedAddresses.{addr_is}
 use Rattle.hd_plan.specs.CommitSteps.{HasEnd}
+use Rattle.hd_heap.proofs.HeapValues.{same_address}
 
 -- the fates of an object that is kept, and of one that is left
 pub kept_fate : (w : Fate) → (w ≡ Pinned) ⊎ ((w ≡ MovesToNewRegion) ⊎ (w ≡ Moves)) → is_kept_fate w ≡ true
@@ -53,7 +53,7 @@ module _ (fate : Fate → Bool) (end : Move → Addr) (ms : List Move) (a : Addr
       → HasEnd fate end ms (suc i) a ⊎ (HasEnd fate end ms (suc i) a → ⊥)
   decided_by i true goes (inl same) none =
       inl (subst (λ k. HasEnd fate end ms k a) (add-one i)
-      (ends_here i goes (addr_is (end (move_at ms i)) a same)))
+      (ends_here i goes (same_address (end (move_at ms i)) a same)))
   decided_by i true goes (inr apart) none =
       inr (λ e. elim (ends_cases i (subst (λ k. HasEnd fate end ms k a) (sym (add-one i)) e)) [
         | inl was ↦ none was

@@ -5,7 +5,8 @@ use Rattle.std.proofs.lemmas.Bool.{eq-eqb, ne_eqb, cases_eq}
 use Rattle.hd_model.specs.declared.data.Addr.{Addr}
 use Rattle.hd_plan.specs.declared.moves.Move.{Move}
 use Rattle.hd_plan.specs.Layout.{move_at, find_move, IsRising}
-use Rattle.hd_plan.proofs.CondemnedAddresses.{addr_is}
+use Rattle.hd_plan.proofs.CondemnedAddresses.{some_is}
+use Rattle.hd_heap.proofs.HeapValues.{same_address}
 
 rising_rest : (m : Move) (ms : List Move) → IsRising (m ∷ ms) → IsRising ms
 rising_rest m ms rising j k less within = rising (suc j) (suc k) (omega arith) (omega arith)
@@ -33,7 +34,7 @@ pub find_none : (ms : List Move) (a : Addr) → ((k : ℕ) → k < length ms →
 unfolding find_move
 find_none [] a none = refl
 find_none (m ∷ ms) a none =
-    found_later m (find_move ms a) m.from.0 a.0 (λ same. none 0 (omega arith) (addr_is m.from a same))
+    found_later m (find_move ms a) m.from.0 a.0 (λ same. none 0 (omega arith) (same_address m.from a same))
     ∙ find_none ms a (λ k within. none (suc k) (omega arith))
 
 -- a move that is found is one of them
@@ -47,9 +48,6 @@ found_more : (m x : Move) (ms : List Move) (a : Addr) → IsFound ms a x → IsF
 found_more m x ms a f =
     record { at = suc f.at; within = let w = f.within in omega arith; move = f.move; from = f.from }
 
-some_is : (x y : Move) → Some x ≡ Some y → x ≡ y
-some_is x y e = cc
-
 pub find_some : (ms : List Move) (a : Addr) (x : Move) → find_move ms a ≡ Some x → IsFound ms a x
 unfolding find_move
 find_some [] a x e = absurd (cc e)
@@ -58,7 +56,7 @@ find_some (m ∷ ms) a x e = elim (cases_eq m.from.0 a.0) [
     at = 0;
     within = omega arith;
     move = some_is m x (sym (found_first m (find_move ms a) m.from.0 a.0 same) ∙ e);
-    from = addr_is m.from a same;
+    from = same_address m.from a same;
   }
   | inr apart ↦ found_more m x ms a
       (find_some ms a x (sym (found_later m (find_move ms a) m.from.0 a.0 apart) ∙ e))

@@ -14,7 +14,10 @@ use Rattle.hd_model.proofs.MemberWeights.{lighter}
 use Rattle.hd_plan.specs.declared.moves.Move.{Move}
 use Rattle.hd_plan.specs.Layout.{move_at, is_staying, stays_among, IsRising}
 use Rattle.hd_plan.specs.Plan.{Takes}
-use Rattle.hd_plan.specs.Laying.{cells_laid}
+
+-- the words of the objects of these moves
+abbrev pub cells_laid : Heap → List Move → ℕ
+cells_laid h ms = sum_by (λ m. cells_of (placed_at h m.from)) ms
 
 sum_map : {A B : Type 0} (f : A → B) (w : B → ℕ) (xs : List A)
     → sum_by w (map f xs) ≡ sum_by (λ x. w (f x)) xs

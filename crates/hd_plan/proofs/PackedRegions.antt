@@ -1,30 +1,35 @@
 -- The regions that are not older after the moving: each has an object that stays, or was opened.
-use Rattle.std.proofs.Common.{◌≡◌, ◌≢◌, ℕ, zero, suc, ◌+◌, ◌*◌, ◌/◌, ◌<◌, ◌≤◌, inl, inr, ◌⊎◌, ⊎_elim, Bool, true, false, ◌&&◌, cond, List, [], ◌∷◌, length, refl, sym, ap, ◌∙◌, subst, arith}
+use Rattle.std.proofs.Common.{◌≡◌, ◌≢◌, ℕ, zero, suc, ◌+◌, ◌/◌, ◌<◌, ◌≤◌, inl, inr, ◌⊎◌, ⊎_elim, Bool, true, false, ◌&&◌, cond, List, [], ◌∷◌, ◌++◌, map, take, length, refl, sym, ap, ◌∙◌, subst, arith, length-append}
 use Rattle.std.specs.Prelude.{sum_by, not, nat_lt, filter, Contains, AllPairs}
+use Rattle.std.specs.FinMap.{FinMap, get, remove, len, values}
+use Rattle.std.specs.Ordering.{nat_cmp}
 use Rattle.std.proofs.lemmas.Bool.{cases_Bool}
-use Rattle.std.proofs.lemmas.List.Sums.{sum_by-cons}
+use Rattle.std.proofs.lemmas.List.{length-map, length-take, get_or-take}
+use Rattle.std.proofs.lemmas.List.Elements.{Contains-append_left, Contains-append_right}
+use Rattle.std.proofs.lemmas.List.Sums.{sum_by-cons, length-filter}
 use Rattle.hd_model.specs.declared.data.Addr.{Addr}
-use Rattle.hd_model.specs.Heap.{Heap, region_of, region_at, region_generation, is_held, has_object, placed_at, cells_of}
-use Rattle.hd_model.proofs.PropertyCounts.{fewer, counts_where}
+use Rattle.hd_model.specs.Heap.{Heap, region_of, region_at, region_generation, is_in_use, has_object, placed_at, cells_of, used_of}
+use Rattle.hd_model.proofs.PropertyCounts.{fewer, counts_le, counts_where}
 use Rattle.hd_model.proofs.Entries.{counts_keys}
-use Rattle.hd_model.proofs.Members.{member_cases, not_in_none, pairs_none, pairs_cons, passing_from, passing_in, pairs_passing}
+use Rattle.hd_model.proofs.Members.{first_in, later_in, member_at, member_cases, not_in_none, mapped_in, pairs_first, pairs_rest, pairs_none, pairs_cons, passing_from, passing_in, pairs_passing}
 use Rattle.hd_model.proofs.MemberWeights.{lighter}
+use Rattle.hd_model.proofs.ReadAfterWrite.{get_left}
+use Rattle.hd_model.proofs.Sums.{share, sum-remove}
 use Rattle.hd_heap.specs.Sound.{IsSound}
 use Rattle.hd_heap.proofs.RegionReads.{has-get}
 use Rattle.hd_plan.specs.declared.moves.Move.{Move}
-use Rattle.hd_plan.specs.Layout.{move_at, is_moving, room_at, stays_among, HasStay, AreMoves}
-use Rattle.hd_plan.specs.Packing.{IsRoom}
-use Rattle.hd_plan.specs.Compactness.{cells_to, regions_of, IsOpenedBy}
-use Rattle.hd_plan.specs.PackedRegions.{is_older_region, IsPacked}
-use Rattle.hd_plan.proofs.KeptMoves.{are_put, all_put}
-use Rattle.hd_plan.proofs.Compactness.{slack, begun_most, names_many, names_stay, names_open}
+use Rattle.hd_plan.specs.Layout.{move_at, is_moving, is_staying, room_at, stays_among, HasStay, AreMoves}
+use Rattle.hd_plan.specs.LaySteps.{WasFree}
+use Rattle.hd_plan.specs.PackedRegions.{is_older_region, IsYoungRegion, IsPacked}
+use Rattle.hd_plan.proofs.CommitCopies.{get_placed}
+use Rattle.hd_plan.proofs.KeptMoves.{all_put}
+use Rattle.hd_plan.proofs.MoveWeights.{stays_counted}
+use Rattle.hd_plan.proofs.RoomSteps.{begun_most}
+use Rattle.hd_heap.proofs.HeapValues.{same_address}
 
 not_true : (b : Bool) → not b ≡ true → b ≡ false
 not_true true e = absurd (cc e)
 not_true false e = refl
-
-true_not : (b : Bool) → b ≡ false → not b ≡ true
-true_not b e = ap not e
 
 -- the addresses to which the first k moves copy
 unfoldable tos : List Move → ℕ → List Addr
@@ -72,11 +77,12 @@ apart_tos ms (suc k) apart =
           (sym (ap (λ b. cond b ((move_at ms k).to ∷ tos ms k) (tos ms k)) stays)) rest
     ]
 
+-- the words that the first k moves moved, by where they went
 cells_tos : (h : Heap) (ms : List Move) (w : Addr → ℕ) (k : ℕ)
     → ((j : ℕ) → j < k → is_moving (move_at ms j).fate ≡ true
     → w (move_at ms j).to ≡ cells_of (placed_at h (move_at ms j).from))
-    → cells_to h ms k ≡ sum_by w (tos ms k)
-unfolding tos cells_to
+    → (room_at h ms k).cells ≡ sum_by w (tos ms k)
+unfolding tos room_at
 cells_tos h ms w zero same = refl
 cells_tos h ms w (suc k) same =
     let rest = cells_tos h ms w k (λ j low. same j (omega (arith, low))) in
@@ -93,35 +99,67 @@ cells_tos h ms w (suc k) same =
           omega (arith, rest, none, list)
     ]
 
+-- a region in which an object stays, or that was opened
+abbrev pub IsTaken : Heap → List Move → ℕ → Type 0
+IsTaken h ms r = HasStay ms r ⊎ WasFree h (room_at h ms (length ms)).cursors.opened r
+
+-- the regions in which an object stays, one for each such object, and those that were opened
+taken : Heap → List Move → List ℕ
+taken h ms = map (λ (m : Move). region_of m.from) (filter (λ (m : Move). is_staying m.fate) ms)
+    ++ take (room_at h ms (length ms)).cursors.opened h.spare
+
+taken_in : (h : Heap) (ms : List Move) (r : ℕ) → IsTaken h ms r → Contains (taken h ms) r
+unfolding taken
+taken_in h ms r (inl s) =
+    Contains-append_left _ _ r (subst (Contains _) s.region
+    (mapped_in (λ (m : Move). region_of m.from) _ (move_at ms s.at)
+    (passing_in (λ (m : Move). is_staying m.fate) ms (move_at ms s.at)
+    (member_at ms s.at _ (move_at ms s.at) s.within refl) s.stays)))
+taken_in h ms r (inr was) =
+    let opened = (room_at h ms (length ms)).cursors.opened in
+    let before = was.before in
+    let within = was.within in
+    Contains-append_right (map (λ (m : Move). region_of m.from) (filter (λ (m : Move). is_staying m.fate) ms)) _ r
+    (member_at (take opened h.spare) was.at 0 r (omega (arith, length-take opened h.spare))
+    (get_or-take opened h.spare was.at 0 before ∙ was.number))
+
+taken_many : (h : Heap) (ms : List Move)
+    → length (taken h ms) ≤ stays_among ms + (room_at h ms (length ms)).cursors.opened
+unfolding taken
+taken_many h ms =
+    let opened = (room_at h ms (length ms)).cursors.opened in
+    let stays = filter (λ (m : Move). is_staying m.fate) ms in
+    omega (
+      arith,
+      length-append (map (λ (m : Move). region_of m.from) stays) (take opened h.spare),
+      length-map stays (λ (m : Move). region_of m.from),
+      length-filter (λ (m : Move). is_staying m.fate) ms,
+      stays_counted ms,
+      length-take opened h.spare,
+    )
+
 -- a heap whose older regions are as they were, and whose others each have an object that stays or were
 -- opened, with what moves in them: packed
 pub packed : (h : Heap) → IsSound h → (n : ℕ) (ms : List Move) → AreMoves h n ms → (new : Heap)
-    → ((r : ℕ) → is_older_region h n r ≡ true → (is_held new r ≡ true) × (region_at new r ≡ region_at h r))
+    → ((r : ℕ) → is_older_region h n r ≡ true → (is_in_use new r ≡ true) × (region_at new r ≡ region_at h r))
     → ((j : ℕ) → j < length ms → is_moving (move_at ms j).fate ≡ true
     → (has_object new (move_at ms j).to ≡ true)
     × (cells_of (placed_at new (move_at ms j).to) ≡ cells_of (placed_at h (move_at ms j).from)))
-    → ((r : ℕ) → is_held new r ≡ true → is_older_region h n r ≡ false → HasStay ms r ⊎ IsOpenedBy ms r)
+    → ((r : ℕ) → is_in_use new r ≡ true → is_older_region h n r ≡ false → IsTaken h ms r)
     → IsPacked h new n (stays_among ms)
 packed h sound n ms moves new older stand held =
     let put = all_put h n sound ms moves in
-    let rooms : (k : ℕ) → k ≤ length ms → IsRoom h (room_at h ms k) =
-    λ k low. (are_put h n sound ms moves k low).room in
     let young : ℕ → Bool = λ r. not (is_older_region h n r) in
     let keys = counts_keys new.regions (λ r. r) (λ r. r) (λ r. refl) (λ r. refl) in
-    let (count, some) = counts_where (λ r. is_held new r ≡ true) young _ keys in
+    let (count, some) = counts_where (λ r. is_in_use new r ≡ true) young _ keys in
     let addresses = counts_keys new.objects (λ k. record { 0 = k }) (λ (a : Addr). a.0) (λ k. refl)
     (λ a. refl) in
     let here : Addr → Bool = λ a. young (region_of a) in
     let cells : Addr → ℕ = λ a. cells_of (placed_at new a) in
     let inside = filter here addresses.members in
-    let names : length some.members ≤ length (regions_of ms) =
-    fewer some.members (regions_of ms) some.apart
-    (λ r is.
-    let both = some.each r is in
-    ⊎_elim
-    (λ (s : HasStay ms r). subst (Contains (regions_of ms)) s.region (names_stay ms s.at s.within s.stays))
-    (λ (o : IsOpenedBy ms r). subst (Contains (regions_of ms)) o.region (names_open ms o.at o.within o.opens))
-    (held r both.0 (not_true _ both.1))) in
+    let names : length some.members ≤ length (taken h ms) =
+    fewer some.members (taken h ms) some.apart
+    (λ r is. let both = some.each r is in taken_in h ms r (held r both.0 (not_true _ both.1))) in
     let moved : sum_by cells (tos ms (length ms)) ≤ sum_by cells inside =
     lighter cells (tos ms (length ms)) inside (apart_tos ms (length ms) put.apart)
     (λ a is.
@@ -132,12 +170,12 @@ packed h sound n ms moves new older stand held =
     let new_one : is_older_region h n (region_of (move_at ms t.at).to) ≡ false =
     no_older (region_of (move_at ms t.at).to) ((put.put t.at t.before t.moves).fresh.new) in
     subst (Contains inside) t.is (passing_in here addresses.members (move_at ms t.at).to there
-    (true_not _ new_one))) in
+    (ap not new_one))) in
     let sums = cells_tos h ms cells (length ms) (λ j low moving. (stand j low moving).1) in
-    let bound = slack h sound n ms moves rooms (length ms) (omega arith) in
-    let one = begun_most (room_at h ms (length ms)) 1 in
-    let two = begun_most (room_at h ms (length ms)) 2 in
-    let many = names_many ms in
+    let bound = put.room.slack in
+    let one = begun_most (room_at h ms (length ms)).cursors.first in
+    let two = begun_most (room_at h ms (length ms)).cursors.second in
+    let many = taken_many h ms in
     let number = some.number in
     record {
       older = older;
@@ -146,7 +184,7 @@ packed h sound n ms moves new older stand held =
         members = some.members;
         apart = some.apart;
         each = λ r is. let both = some.each r is in (both.0, not_true _ both.1);
-        all = λ r is. some.all r (is.0, true_not _ is.1);
+        all = λ r is. some.all r (is.0, ap not is.1);
         number = some.number;
       };
       cells = sum_by cells inside;
@@ -157,11 +195,36 @@ packed h sound n ms moves new older stand held =
             let both = passing_from here addresses.members a is in
             (has-get new a ∙ addresses.each a both.0, not_true _ both.1);
         all = λ a is. passing_in here addresses.members a (addresses.all a (sym (has-get new a) ∙ is.0))
-            (true_not _ is.1);
+            (ap not is.1);
         sum = refl;
       };
       few = omega (arith, names, moved, sums, bound, one, two, many, number);
     }
   where
-    no_older : (r : ℕ) → is_held h r ≡ false → is_older_region h n r ≡ false
+    no_older : (r : ℕ) → is_in_use h r ≡ false → is_older_region h n r ≡ false
     no_older r none = ap (λ b. b && nat_lt n (region_generation h r)) none
+
+-- values of a map that are found at different addresses weigh at most as much as all of them
+sum_within : {A : Type 0} (f : A → ℕ) (w : Addr → ℕ) (xs : List Addr) (m : FinMap nat_cmp A)
+    → AllPairs (λ x y. x ≢ y) xs → ((a : Addr) → Contains xs a → w a ≤ share f (get m a.0))
+    → sum_by w xs ≤ sum_by f (values m)
+sum_within f w [] m apart found = omega arith
+sum_within f w (x ∷ xs) m apart found =
+    let rest = sum_within f w xs (remove m x.0) (pairs_rest (λ y z. y ≢ z) x xs apart)
+    (λ a is. subst (λ o. w a ≤ share f o)
+    (sym (get_left m x.0 a.0 (λ same. pairs_first (λ y z. y ≢ z) x xs apart a is (same_address x a (sym same)))))
+    (found a (later_in x xs a is))) in
+    omega (arith, rest, found x (first_in x xs), sum-remove f m x.0, sum_by-cons w x xs)
+
+-- where no region is older, all are counted
+pub compact : (h new : Heap) (n stays : ℕ) → ((r : ℕ) → is_older_region h n r ≡ false)
+    → IsPacked h new n stays → len new.regions ≤ used_of new / 193 + 3 + stays
+compact h new n stays young is =
+    let keys = counts_keys new.regions (λ r. r) (λ r. r) (λ r. refl) (λ r. refl) in
+    let all = counts_le (λ r. is_in_use new r ≡ true) (IsYoungRegion h new n) (len new.regions) is.regions
+    (λ r held. (held, young r)) keys is.regions_are in
+    let within = sum_within cells_of (λ a. cells_of (placed_at new a)) is.cells_are.members new.objects
+    is.cells_are.apart
+    (λ a inside. let there = get_placed new a (is.cells_are.each a inside).0 in
+    omega (arith, ap (share cells_of) there)) in
+    omega (arith, all, within, is.cells_are.sum, is.few)

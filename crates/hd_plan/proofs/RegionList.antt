@@ -1,7 +1,7 @@
 -- The regions of moves are listed one after another.
 use Rattle.std.proofs.Common.{◌≡◌, ◌≢◌, ℕ, suc, ◌+◌, ◌-◌, ◌<◌, ◌≤◌, Bool, true, false, ◌&&◌, ◌||◌, List, [], ◌∷◌, ◌++◌, map, length, set, refl, sym, ap, ◌∙◌, subst, arith, inl, inr, ◌⊎◌, true≢false, length-append, length-set, get_or-set_same, get_or-set_other}
-use Rattle.std.specs.Prelude.{nat_eq, nat_lt, Contains}
-use Rattle.std.proofs.lemmas.Bool.{lt-ltb, ltb-true, eqb-true, eq-eqb, cases_eq, cases_lt, cases_order}
+use Rattle.std.specs.Prelude.{Contains}
+use Rattle.std.proofs.lemmas.Bool.{lt-ltb, ltb-true, eqb-true, eq-eqb, cases_eq, cases_lt, cases_order, and_parts, or_right}
 use Rattle.std.proofs.lemmas.List.{get_or_append_left, get_or_at, get_or-map, length-map, get_or_default}
 use Rattle.hd_model.specs.declared.data.Addr.{Addr}
 use Rattle.hd_model.specs.Counting.{Counts}
@@ -11,15 +11,11 @@ use Rattle.hd_model.proofs.Members.{mapped_from}
 use Rattle.hd_plan.specs.declared.moves.Move.{Move}
 use Rattle.hd_plan.specs.declared.moves.Condemned.{Condemned}
 use Rattle.hd_plan.specs.Layout.{move_at, condemned_at, is_staying, HasStay, IsRising}
-use Rattle.hd_plan.specs.Laying.{HasMove, AreListedTo, last_of, is_last, IsJoined, IsAdded}
+use Rattle.hd_plan.specs.LaySteps.{HasMove, AreListedTo, last_of, is_last, IsJoined, IsAdded}
 
 pub region_rises : (a b : Addr) → a.0 ≤ b.0 → region_of a ≤ region_of b
 unfolding region_of
 region_rises a b le = omega arith
-
-or_true : (a b : Bool) → b ≡ true → (a || b) ≡ true
-or_true true b e = refl
-or_true false b e = e
 
 -- what is read among regions with one more
 pub added_before : (cs : List Condemned) (x : Condemned) (k : ℕ) → k < length cs
@@ -80,15 +76,10 @@ module _ (ms : List Move) (rising : IsRising ms) where
       in
       let e = is.1.0 in omega arith
 
-  last_parts : (cs : List Condemned) (r : ℕ) (a b : Bool) → nat_lt 0 (length cs) ≡ a
-      → nat_eq (last_of cs).region r ≡ b → (a && b) ≡ true → (0 < length cs) × ((last_of cs).region ≡ r)
-  last_parts cs r true true p q e = (ltb-true 0 (length cs) p, eqb-true (last_of cs).region r q)
-  last_parts cs r true false p q e = absurd (true≢false (sym e))
-  last_parts cs r false b p q e = absurd (true≢false (sym e))
-
   pub last_is : (cs : List Condemned) (r : ℕ) → is_last cs r ≡ true → (0 < length cs)
       × ((last_of cs).region ≡ r)
-  last_is cs r e = last_parts cs r (nat_lt 0 (length cs)) (nat_eq (last_of cs).region r) refl refl e
+  last_is cs r e = let parts = and_parts _ _ e in
+      (ltb-true 0 (length cs) parts.0, eqb-true (last_of cs).region r parts.1)
 
   last_is_not : (cs : List Condemned) (r : ℕ) → is_last cs r ≡ false → 0 < length cs → (last_of cs).region ≢ r
   last_is_not cs r e some same =
@@ -274,7 +265,7 @@ module _ (ms : List Move) (rising : IsRising ms) where
     joined_stays k low is same =
         let at : k ≡ length cs - 1 =
         region_once cs i listed k (length cs - 1) low (omega arith) (same ∙ sym (last_is cs _ last).1) in
-        ap (λ (x : Condemned). x.pinned) (joined_last k at) ∙ or_true (last_of cs).pinned staying is
+        ap (λ (x : Condemned). x.pinned) (joined_last k at) ∙ or_right (last_of cs).pinned staying is
 
     pub listed_joined : AreListedTo ms joined (i + 1)
     listed_joined = record {

@@ -8,7 +8,7 @@ use Rattle.std.specs.FinMap as map
 use Rattle.std.specs.Ordering.{nat_cmp}
 use Rattle.std.proofs.lemmas.Bool.{cases_eq}
 use Rattle.hd_model.specs.declared.data.Addr.{Addr}
-use Rattle.hd_model.specs.Heap.{Heap, Placed, Region, region_of, region_at, is_held, has_object}
+use Rattle.hd_model.specs.Heap.{Heap, Placed, Region, region_of, region_at, is_in_use, has_object}
 use Rattle.hd_heap.specs.Calls.{IsMade, with_put, with_generation, empty_heap}
 use Rattle.hd_heap.proofs.RegionReads.{has-get}
 use Rattle.hd_heap.proofs.HeapValues.{get_same, get_other}
@@ -19,11 +19,11 @@ none_held : (r : ℕ) → map.contains_key (map.empty {X = Region} {R = nat_cmp}
 none_held r = ap is_some (map.get-empty nat_cmp r)
 
 -- another generation changes nothing
-pub filled_generation : (h : Heap) (q g : ℕ) → is_held h q ≡ true → HasNoEmptyRegion h
+pub filled_generation : (h : Heap) (q g : ℕ) → is_in_use h q ≡ true → HasNoEmptyRegion h
     → HasNoEmptyRegion (with_generation h q g)
 filled_generation h q g is full r held =
-    let before : is_held h r ≡ true = elim (cases_eq r q) [
-      | inl same ↦ ap (is_held h) same ∙ is
+    let before : is_in_use h r ≡ true = elim (cases_eq r q) [
+      | inl same ↦ ap (is_in_use h) same ∙ is
       | inr other ↦ sym (ap is_some (get_other h.regions q r _ other)) ∙ held
     ] in
     let s = full r before in

@@ -1,7 +1,7 @@
 -- What a walk over all that is condemned counts.
 use Rattle.std.proofs.Common.{◌≡◌, ◌≢◌, ℕ, ◌+◌, ◌*◌, ◌<◌, ◌≤◌, true, false, cond, List, ◌∷◌, Option, Some, None, refl, sym, ap, ◌∙◌, subst, arith, inl, inr, ◌⊎◌, ⊎_elim, true≢false}
-use Rattle.std.specs.Prelude.{Contains, IfSome}
-use Rattle.std.proofs.lemmas.Bool.{ltb-true, ltb-false, le-ltb, eq-eqb, ne_eqb, cases_eq, cases_Bool}
+use Rattle.std.specs.Prelude.{Contains, AllPairs, IfSome}
+use Rattle.std.proofs.lemmas.Bool.{ltb-true, ltb-false, le-ltb, eq-eqb, ne_eqb, cases_eq}
 use Rattle.std.proofs.lemmas.List.Sums.{sum_by-cons}
 use Rattle.hd_model.specs.declared.data.Addr.{Addr}
 use Rattle.hd_model.specs.Counting.{Counts}
@@ -13,37 +13,54 @@ use Rattle.hd_heap.specs.Calls.{is_condemned, is_after, IsNext}
 use Rattle.hd_heap.specs.Sound.{IsSound}
 use Rattle.hd_plan.specs.declared.survey.Survey.{Survey}
 use Rattle.hd_plan.specs.Plan.{Takes}
-use Rattle.hd_plan.specs.Laying.{HasCondemned, IsSurvey, counted_also}
-use Rattle.hd_plan.proofs.CondemnedAddresses.{condemned_of, condemned_is, addr_is}
+use Rattle.hd_plan.specs.LaySteps.{HasCondemned, IsSurvey, counted_also}
+use Rattle.hd_plan.proofs.CondemnedAddresses.{condemned_of, condemned_is}
 use Rattle.hd_plan.proofs.KeptMoves.{cells_some}
 use Rattle.hd_plan.proofs.RegionList.{region_rises}
-use Rattle.hd_plan.proofs.LayStep.{reach_of, reach_on, after_past}
+use Rattle.hd_plan.proofs.LayStep.{reach_of, reach_on, after_past, reached_cases}
+
+-- a list of all that has a property, each once
+record Lists {A : Type 0} (P : A → Type 0) (xs : List A) : Type 0 where
+  apart : AllPairs (λ x y. x ≢ y) xs
+  each : (x : A) → Contains xs x → P x
+  all : (x : A) → P x → Contains xs x
 
 -- a property holds of one thing more
-pub counts_more : {A : Type 0} (P Q : A → Type 0) (x : A) (c : ℕ) → (P x → ⊥) → Q x → ((y : A) → P y → Q y)
-    → ((y : A) → Q y → P y ⊎ (y ≡ x)) → Counts P c → Counts Q (c + 1)
-counts_more {A} P Q x c new here keeps only p = record {
-  members = x ∷ p.members;
-  apart = pairs_cons (λ y z. y ≢ z) x p.members (λ y h same. new (subst P (sym same) (p.each y h))) p.apart;
-  each = λ y h. ⊎_elim (λ same. subst Q same here) (λ later. keeps y (p.each y later))
-      (member_cases x p.members y h);
-  all = λ y q. ⊎_elim (λ was. later_in x p.members y (p.all y was))
-      (λ same. subst (λ (z : A). Contains (x ∷ p.members) z) (sym same) (first_in x p.members)) (only y q);
-  number = omega (arith, p.number);
-}
+module _ {A : Type 0} (P Q : A → Type 0) (x : A) (new : P x → ⊥) (here : Q x) (keeps : (y : A) → P y → Q y)
+    (only : (y : A) → Q y → P y ⊎ (y ≡ x)) where
+  lists_more : (xs : List A) → Lists P xs → Lists Q (x ∷ xs)
+  lists_more xs p = record {
+    apart = pairs_cons (λ y z. y ≢ z) x xs (λ y h same. new (subst P (sym same) (p.each y h))) p.apart;
+    each = λ y h. ⊎_elim (λ same. subst Q same here) (λ later. keeps y (p.each y later))
+        (member_cases x xs y h);
+    all = λ y q. ⊎_elim (λ was. later_in x xs y (p.all y was))
+        (λ same. subst (λ (z : A). Contains (x ∷ xs) z) (sym same) (first_in x xs)) (only y q);
+  }
 
-pub takes_more : (h : Heap) (P Q : Addr → Type 0) (x : Addr) (c : ℕ) → (P x → ⊥) → Q x
+  counts_more : (c : ℕ) → Counts P c → Counts Q (c + 1)
+  counts_more c p =
+      let more = lists_more p.members (record { apart = p.apart; each = p.each; all = p.all }) in
+      record {
+        members = x ∷ p.members;
+        apart = more.apart;
+        each = more.each;
+        all = more.all;
+        number = omega (arith, p.number);
+      }
+
+takes_more : (h : Heap) (P Q : Addr → Type 0) (x : Addr) (c : ℕ) → (P x → ⊥) → Q x
     → ((y : Addr) → P y → Q y) → ((y : Addr) → Q y → P y ⊎ (y ≡ x)) → Takes h P c
     → Takes h Q (c + cells_of (placed_at h x))
-takes_more h P Q x c new here keeps only p = record {
-  members = x ∷ p.members;
-  apart = pairs_cons (λ y z. y ≢ z) x p.members (λ y h same. new (subst P (sym same) (p.each y h))) p.apart;
-  each = λ y h. ⊎_elim (λ same. subst Q same here) (λ later. keeps y (p.each y later))
-      (member_cases x p.members y h);
-  all = λ y q. ⊎_elim (λ was. later_in x p.members y (p.all y was))
-      (λ same. subst (λ (z : Addr). Contains (x ∷ p.members) z) (sym same) (first_in x p.members)) (only y q);
-  sum = omega (arith, p.sum, sum_by-cons (λ a. cells_of (placed_at h a)) x p.members);
-}
+takes_more h P Q x c new here keeps only p =
+    let more = lists_more P Q x new here keeps only p.members
+    (record { apart = p.apart; each = p.each; all = p.all }) in
+    record {
+      members = x ∷ p.members;
+      apart = more.apart;
+      each = more.each;
+      all = more.all;
+      sum = omega (arith, p.sum, sum_by-cons (λ a. cells_of (placed_at h a)) x p.members);
+    }
 
 -- condemned objects up to an address, and their regions
 abbrev pub Passed : Heap → ℕ → Option Addr → Addr → Type 0
@@ -92,12 +109,9 @@ module _ (h : Heap) (n : ℕ) where
       still_passed a p = (p.0, le-ltb at.0 a.0 (let l = after_past after at next.beyond a p.1 in omega arith))
 
       only_passed : (a : Addr) → Passed h n (Some at) a → Passed h n after a ⊎ (a ≡ at)
-      only_passed a p = elim (cases_Bool (is_after after a)) [
-        | inl later ↦ inr (addr_is a at
-            (let l = next.least a (condemned_is h n a p.0) later in let r = ltb-false at.0 a.0 p.1 in
-            omega arith))
-        | inr before ↦ inl (p.0, before)
-      ]
+      only_passed a p =
+          ⊎_elim (λ early. inl (p.0, early)) (λ same. inr same)
+          (reached_cases (is_condemned h n) after at a next (condemned_is h n a p.0) p.1)
 
       -- a region of which an object was passed is the last one or a lower one
       low_region : (r : ℕ) → PassedRegion h n after r → r ≤ last_region after
@@ -114,10 +128,10 @@ module _ (h : Heap) (n : ℕ) where
       pub regions_more : (c : ℕ) → region_of at ≢ last_region after → Counts (PassedRegion h n after) c
           → Counts (PassedRegion h n (Some at)) (c + 1)
       regions_more c other counts =
-          counts_more (PassedRegion h n after) (PassedRegion h n (Some at)) (region_of at) c
+          counts_more (PassedRegion h n after) (PassedRegion h n (Some at)) (region_of at)
           (λ p. let low = low_region (region_of at) p in let high = last_below after at next.beyond in
           other (omega arith))
-          (at, (now_passed, refl)) still_region only_region counts
+          (at, (now_passed, refl)) still_region only_region c counts
 
       at_region : (o : Option Addr) → IfSome o (λ b. Passed h n after b) → region_of at ≡ last_region o
           → PassedRegion h n after (region_of at)
@@ -143,8 +157,8 @@ module _ (h : Heap) (n : ℕ) where
           let few_regions = is.few_regions in
           let within = is.small in
           record {
-            objects = counts_more (Passed h n after) (Passed h n (Some at)) at s.objects not_yet now_passed
-                still_passed only_passed is.objects;
+            objects = counts_more (Passed h n after) (Passed h n (Some at)) at not_yet now_passed still_passed
+                only_passed s.objects is.objects;
             cells = takes_more h (Passed h n after) (Passed h n (Some at)) at s.cells not_yet now_passed
                 still_passed only_passed is.cells;
             regions = elim (cases_eq (region_of at) s.last) [

@@ -6,7 +6,7 @@ use Rattle.hd_model.specs.declared.limits.TheConstants.{OLDEST, LEFT, OPEN}
 use Rattle.hd_model.specs.Ages.{raised}
 use Rattle.hd_model.specs.State.{Object}
 use Rattle.hd_model.specs.Scene.{generation_at, IsField}
-use Rattle.hd_model.specs.Heap.{Heap, card_of, region_at, is_held, has_object, object_at, placed_at, id_at, is_set, used_of}
+use Rattle.hd_model.specs.Heap.{Heap, card_of, region_at, is_in_use, has_object, object_at, placed_at, id_at, is_set, used_of}
 use Rattle.hd_plan.specs.Layout.{HasStay, IsCondemnedRegion}
 use Rattle.hd_plan.specs.Plan.{PlanOf, kept_in, place_in, stays_in, HasNoEmptyRegion}
 use Rattle.hd_plan.specs.PackedRegions.{IsPacked}
@@ -35,16 +35,16 @@ pub record NeedsCard (h : Heap) (card : ℕ) : Type 0 where
 -- what becomes of each region of before: one that is not condemned stays as it is, a condemned one stays with
 -- its generation raised if an object in it stays, and is freed otherwise
 pub record ChangesRegions (p : PlanOf) (old new : Heap) : Type 0 where
-  pub older : (r : ℕ) → is_held old r ≡ true → p.basis.condemned < (region_at old r).generation
-      → (is_held new r ≡ true) × (region_at new r ≡ region_at old r)
+  pub older : (r : ℕ) → is_in_use old r ≡ true → p.basis.condemned < (region_at old r).generation
+      → (is_in_use new r ≡ true) × (region_at new r ≡ region_at old r)
   pub stays : (r : ℕ) → IsCondemnedRegion old p.basis.condemned r → HasStay p.moves r
-      → (is_held new r ≡ true) × (region_at new r
+      → (is_in_use new r ≡ true) × (region_at new r
       ≡ record {
         generation = raised p.basis.condemned (region_at old r).generation;
         fill = (region_at old r).fill;
       })
   pub given_up : (r : ℕ) → IsCondemnedRegion old p.basis.condemned r → (HasStay p.moves r → ⊥)
-      → is_held new r ≡ false
+      → is_in_use new r ≡ false
 
 -- what `commit` leaves: the kept objects at their new addresses, and no other; cards are set exactly where an
 -- object needs it

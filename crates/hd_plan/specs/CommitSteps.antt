@@ -1,18 +1,19 @@
--- What each step of the moving leaves of a heap.
-use Rattle.std.specs.Prelude.{◌≡◌, ◌≢◌, ℕ, ◌+◌, ◌*◌, ◌^◌, ◌-◌, ◌<◌, ◌≤◌, ◌⊎◌, ◌↔◌, ◌&&◌, Bool, true, false, not, List, [], ◌∷◌, ◌++◌, length, Option, Some, None, option_map, map as list_map, slice_index, slice_index_or, nat_eq}
+-- No public clause needs what is defined here: these are words of private functions, for what each step of the
+-- moving leaves of a heap.
+use Rattle.std.specs.Prelude.{◌≡◌, ◌≢◌, ℕ, ◌+◌, ◌*◌, ◌<◌, ◌≤◌, ◌⊎◌, ◌↔◌, ◌&&◌, Bool, true, false, not, List, length, Option, Some, None, option_map, map as list_map, drop, slice_index, nat_eq}
 use Rattle.std.specs.FinMap as map
 use Rattle.hd_model.specs.declared.data.Addr.{Addr}
-use Rattle.hd_model.specs.declared.limits.TheConstants.{OLDEST, REGION, CARD}
+use Rattle.hd_model.specs.declared.limits.TheConstants.{OLDEST, REGION}
 use Rattle.hd_model.specs.Scene.{IsField, generation_at}
-use Rattle.hd_model.specs.Heap.{Placed, Heap, region_of, card_of, region_at, is_held, has_object, object_at, placed_at, cells_of, is_set, is_carded}
-use Rattle.hd_heap.specs.Calls.{with_object, with_fresh, with_copy, with_card, with_generation, stored, IsRemoved, is_after, is_old_carded}
+use Rattle.hd_model.specs.Heap.{Placed, Heap, region_of, card_of, region_at, is_in_use, has_object, object_at, placed_at, cells_of, is_set, is_carded}
+use Rattle.hd_heap.specs.Calls.{with_object, with_fresh, with_copy, with_card, stored}
 use Rattle.hd_heap.specs.Sound.{IsSound}
 use Rattle.hd_plan.specs.declared.moves.Fate.{Fate}
 use Rattle.hd_plan.specs.declared.moves.Fate.TheVariants.{Dead, Pinned, MovesToNewRegion, Moves}
 use Rattle.hd_plan.specs.declared.moves.Move.{Move}
 use Rattle.hd_plan.specs.declared.moves.Condemned.{Condemned}
 use Rattle.hd_plan.specs.Layout.{move_at, condemned_at, is_kept_fate, is_moving, is_staying, room_at, FitsMove}
-use Rattle.hd_plan.specs.Packing.{ArePut}
+use Rattle.hd_plan.specs.LaySteps.{ArePut}
 use Rattle.hd_plan.specs.Commit.{NeedsCard}
 
 -- one of the first i moves has such a fate, and has this end
@@ -46,7 +47,8 @@ SameCards old h = (c : ℕ) → is_set h c ≡ is_set old c
 pub record CanCopy (h : Heap) (ms : List Move) : Type 0 where
   pub sound : IsSound h
   pub objects : (k : ℕ) → k < length ms → has_object h (move_at ms k).from ≡ true
-  pub generations : (k : ℕ) → k < length ms → (move_at ms k).generation ≤ OLDEST
+  pub generations : (k : ℕ) → k < length ms → (0 < (move_at ms k).generation)
+      × ((move_at ms k).generation ≤ OLDEST)
   pub fits : (k : ℕ) → k < length ms → FitsMove h (room_at h ms k) (move_at ms k)
   pub put : (i : ℕ) → i ≤ length ms → ArePut h ms i
 
@@ -56,9 +58,9 @@ MayGo Dead h m = Unit {0}
 MayGo Pinned h m = Unit {0}
 MayGo MovesToNewRegion h m =
     (has_object h m.from ≡ true) × (m.generation ≤ OLDEST) × (cells_of (placed_at h m.from) ≤ REGION)
-    × (0 < length h.spare) × (m.to.0 ≡ slice_index h.spare 0 * REGION)
+    × (0 < length h.spare)
 MayGo Moves h m =
-    (has_object h m.from ≡ true) × (is_held h (region_of m.to) ≡ true)
+    (has_object h m.from ≡ true) × (is_in_use h (region_of m.to) ≡ true)
     × (m.to.0 ≡ region_of m.to * REGION + (region_at h (region_of m.to)).fill)
     × ((region_at h (region_of m.to)).fill + cells_of (placed_at h m.from) ≤ REGION)
 
@@ -67,7 +69,7 @@ abbrev pub HasGone : Fate → Heap → Heap → Move → Type 0
 HasGone Dead old h m = h ≡ old
 HasGone Pinned old h m = h ≡ old
 HasGone MovesToNewRegion old h m =
-    h ≡ with_copy (with_fresh old (region_of m.to) m.generation) m.from (region_of m.to)
+    h ≡ with_copy (with_fresh old (slice_index old.spare 0) m.generation) m.from (slice_index old.spare 0)
 HasGone Moves old h m = h ≡ with_copy old m.from (region_of m.to)
 
 -- the first i moves are copied, and their objects are at both addresses
@@ -79,7 +81,7 @@ pub record AreCopied (old h : Heap) (ms : List Move) (i : ℕ) : Type 0 where
   pub same : h ≡ record old {
     objects = h.objects;
     regions = (room_at old ms i).regions;
-    spare = (room_at old ms i).spare;
+    spare = drop (room_at old ms i).cursors.opened old.spare;
   }
 
 -- an object whose fields hold the new addresses
@@ -92,18 +94,6 @@ pub record IsRewritten (old h : Heap) (place : Addr → Addr) (x : Addr) : Type 
   pub more : MoreCards old h
   pub others : (c : ℕ) → c ≢ card_of x → is_set h c ≡ is_set old c
 
--- the first i fields of one object are rewritten
-pub record AreFieldsRewritten (old h : Heap) (place : Addr → Addr) (x : Addr) (i : ℕ) : Type 0 where
-  pub fields : List (Option Addr)
-  pub object : h
-      ≡ record (with_object old x (record (placed_at old x) { fields = fields })) { cards = h.cards }
-  pub number : length fields ≡ length (placed_at old x).fields
-  pub below : (j : ℕ) → j < i
-      → slice_index_or fields j None ≡ option_map place (slice_index_or (placed_at old x).fields j None)
-  pub above : (j : ℕ) → i ≤ j → slice_index_or fields j None ≡ slice_index_or (placed_at old x).fields j None
-  pub more : MoreCards old h
-  pub others : (c : ℕ) → c ≢ card_of x → is_set h c ≡ is_set old c
-
 -- these objects are rewritten and no others, and no card is cleared
 pub record AreRewritten (Those : Addr → Type 0) (place : Addr → Addr) (old h : Heap) : Type 0 where
   pub done : (a : Addr) → Those a
@@ -112,21 +102,10 @@ pub record AreRewritten (Those : Addr → Type 0) (place : Addr → Addr) (old h
   pub same : h ≡ record old { objects = h.objects; cards = h.cards }
   pub more : MoreCards old h
 
--- an object of a generation above n in a set card, up to an address
-abbrev pub IsCardedTo : Heap → ℕ → Option Addr → Addr → Type 0
-IsCardedTo h n after a = (is_old_carded h n a ≡ true) × (is_after after a ≡ false)
-
 -- field i of an object is rewritten: a null one stays null
 abbrev pub HasRenamed : Option Addr → (place : Addr → Addr) → Heap → Heap → Addr → ℕ → Type 0
 HasRenamed None place old h x i = h ≡ old
 HasRenamed (Some y) place old h x i = h ≡ stored old x i (Some (place y))
-
--- an object that does not stay is gone from its old address
-abbrev pub HasLeft : Fate → Heap → Heap → Move → Type 0
-HasLeft Dead old h m = IsRemoved old h m.from
-HasLeft Pinned old h m = h ≡ old
-HasLeft MovesToNewRegion old h m = IsRemoved old h m.from
-HasLeft Moves old h m = IsRemoved old h m.from
 
 -- the first i objects that do not stay are gone from their old addresses; cards of objects are as before
 pub record AreRemoved (old h : Heap) (ms : List Move) (i : ℕ) : Type 0 where
@@ -134,14 +113,6 @@ pub record AreRemoved (old h : Heap) (ms : List Move) (i : ℕ) : Type 0 where
   pub others : (a : Addr) → (IsLeft ms i a → ⊥) → map.get h.objects a.0 ≡ map.get old.objects a.0
   pub same : h ≡ record old { objects = h.objects; cards = h.cards }
   pub cards : (a : Addr) → has_object h a ≡ true → is_carded h a ≡ is_carded old a
-
--- a condemned region in which an object stays has its new generation, and another one is freed
-abbrev pub HasSettled : (pinned : Bool) → Heap → Heap → Condemned → Type 0
-HasSettled true old h r = h ≡ with_generation old r.region r.generation
-HasSettled false old h r = h ≡ record old {
-  regions = map.remove old.regions r.region;
-  spare = old.spare ++ r.region ∷ [];
-}
 
 -- the first i condemned regions have their new generation, or are freed
 pub record AreSettled (old h : Heap) (cs : List Condemned) (i : ℕ) : Type 0 where
@@ -156,13 +127,6 @@ pub record AreSettled (old h : Heap) (cs : List Condemned) (i : ℕ) : Type 0 wh
   pub others : (r : ℕ) → ((k : ℕ) → k < i → (condemned_at cs k).region ≢ r)
       → map.get h.regions r ≡ map.get old.regions r
   pub same : h ≡ record old { regions = h.regions; spare = h.spare }
-
--- the card of a kept object is set, at its new address
-abbrev pub HasCard : Fate → Heap → Heap → Move → Type 0
-HasCard Dead old h m = h ≡ old
-HasCard Pinned old h m = h ≡ with_card old (card_of m.to) true
-HasCard MovesToNewRegion old h m = h ≡ with_card old (card_of m.to) true
-HasCard Moves old h m = h ≡ with_card old (card_of m.to) true
 
 -- the cards of the first i kept objects are set, at their new addresses
 pub record AreCarded (old h : Heap) (ms : List Move) (i : ℕ) : Type 0 where
@@ -185,36 +149,3 @@ pub record IsExactAt (old h : Heap) (card : ℕ) : Type 0 where
 -- an object that starts in a card
 abbrev pub starts_in : Heap → ℕ → Addr → Bool
 starts_in h card a = has_object h a && nat_eq (card_of a) card
-
--- the first address after a given one
-abbrev pub next_to : Option Addr → ℕ
-next_to None = 0
-next_to (Some a) = a.0 + 1
-
--- how many addresses of 32 bits there are from a given one on; none where there is none
-abbrev pub left_from : Option Addr → ℕ
-left_from None = 0
-left_from (Some a) = 2 ^ 32 - a.0
-
--- an address before a given one; each is before the end, where there is none
-abbrev pub IsBefore : Option Addr → Addr → Type 0
-IsBefore None b = Unit {0}
-IsBefore (Some a) b = b.0 < a.0
-
--- no object of a card that is before an address has a field to a younger one
-pub record AreUnneeding (h : Heap) (card : ℕ) (place : Option Addr) : Type 0 where
-  pub here : (a : Addr) → place ≡ Some a → starts_in h card a ≡ true
-  pub before : (b : Addr) → starts_in h card b ≡ true → IsBefore place b → NamesYounger h b → ⊥
-
--- the cards up to a number are exact, set only where an object needs them; later ones are unchanged
-pub record AreExactTo (old h : Heap) (end : ℕ) : Type 0 where
-  pub same : h ≡ record old { cards = h.cards }
-  pub needed : (c : ℕ) → c < end → is_set h c ≡ true → NeedsCard old c
-  pub kept : (c : ℕ) → NeedsCard old c → is_set h c ≡ true
-  pub rest : (c : ℕ) → end ≤ c → is_set h c ≡ is_set old c
-
--- cards are exact up to the end of the card in which an address is
-pub record IsExactBehind (old h : Heap) (after : Option Addr) : Type 0 where
-  pub end : ℕ
-  pub cards : AreExactTo old h end
-  pub is : next_to after ≡ end * CARD

@@ -3,19 +3,21 @@
 -- Kept objects are copied into fresh regions, one row of regions for each generation, but for those that
 -- stay because they are pinned.
 -- Regions are this project's own, after the plan and the compact phase of CoreCLR's collector in outline.
-use Rattle.std.specs.Prelude.{◌≡◌, ◌≢◌, ℕ, zero, suc, ◌+◌, ◌*◌, ◌<◌, ◌≤◌, ◌⊎◌, ◌↔◌, Bool, true, false, cond, List, [], ◌∷◌, length, Option, Some, None, unwrap_or, slice_index, slice_index_or, nat_eq, drop}
+use Rattle.std.specs.Prelude.{◌≡◌, ◌≢◌, ℕ, zero, suc, ◌+◌, ◌*◌, ◌<◌, ◌≤◌, ◌⊎◌, ◌↔◌, Bool, true, false, cond, List, [], ◌∷◌, length, Option, Some, None, unwrap_or, slice_index, slice_index_or, nat_eq}
 use Rattle.std.specs.Ordering.{nat_cmp}
 use Rattle.std.specs.FinMap as map
 use Rattle.hd_model.specs.declared.data.Addr.{Addr}
 use Rattle.hd_model.specs.declared.limits.TheConstants.{REGION}
 use Rattle.hd_model.specs.Ages.{raised}
 use Rattle.hd_model.specs.Scene.{generation_at}
-use Rattle.hd_model.specs.Heap.{Heap, Region, region_of, region_generation, is_held, object_at, placed_at, cells_of}
+use Rattle.hd_model.specs.Heap.{Heap, Region, region_of, region_generation, is_in_use, object_at, placed_at, cells_of}
 use Rattle.hd_heap.specs.Calls.{is_condemned}
 use Rattle.hd_plan.specs.declared.moves.Fate.{Fate}
 use Rattle.hd_plan.specs.declared.moves.Fate.TheVariants.{Dead, Pinned, MovesToNewRegion, Moves}
 use Rattle.hd_plan.specs.declared.moves.Move.{Move}
 use Rattle.hd_plan.specs.declared.moves.Condemned.{Condemned}
+use Rattle.hd_plan.specs.declared.cursors.AllocCursor.{AllocCursor}
+use Rattle.hd_plan.specs.declared.cursors.AllocCursors.{AllocCursors}
 
 -- the k-th move, and the k-th condemned region
 abbrev pub move_at : List Move → ℕ → Move
@@ -44,15 +46,27 @@ is_staying Pinned = true
 is_staying MovesToNewRegion = false
 is_staying Moves = false
 
--- while objects are laid: the regions that are in use and free then, and for each generation the region in
--- which it allocates, or 0
+-- the cursor of a generation, and the cursors with another one
+abbrev pub cursor_of : AllocCursors → ℕ → AllocCursor
+cursor_of s g = cond (nat_eq g 1) s.first s.second
+
+abbrev pub with_cursor : AllocCursors → ℕ → AllocCursor → AllocCursors
+with_cursor s g cursor =
+    record s { first = cond (nat_eq g 1) cursor s.first; second = cond (nat_eq g 1) s.second cursor }
+
+-- while objects are laid: the regions that are in use then, where each generation allocates, and the words of
+-- the objects that moved
 pub record Room : Type 0 where
   pub regions : map.FinMap nat_cmp Region
-  pub spare : List ℕ
-  pub current : ℕ → ℕ
+  pub cursors : AllocCursors
+  pub cells : ℕ
 
 abbrev pub room_of : Heap → Room
-room_of h = record { regions = h.regions; spare = h.spare; current = λ _. 0 }
+room_of h = record {
+  regions = h.regions;
+  cursors = record { first = record { region = 0; fill = 0 }; second = record { region = 0; fill = 0 }; opened = 0 };
+  cells = 0;
+}
 
 -- whether a region is among these, and its record
 abbrev pub has_region : map.FinMap nat_cmp Region → ℕ → Bool
@@ -67,52 +81,70 @@ filled rs r cells =
     map.insert rs r (record
     { generation = (region_in rs r).generation; fill = (region_in rs r).fill + cells })
 
--- a generation allocates in another region from now on
-abbrev pub with_current : (ℕ → ℕ) → ℕ → ℕ → ℕ → ℕ
-with_current current g r x = cond (nat_eq x g) r (current x)
+-- where a generation allocates after an object of `cells` words: in the next free region, or after the object
+-- before it
+abbrev pub opened_cursor : List ℕ → AllocCursors → ℕ → AllocCursor
+opened_cursor spare s cells = record { region = slice_index spare s.opened; fill = cells }
 
--- the room after an object of `cells` words met its fate
-abbrev pub put_fate : Fate → Room → Addr → ℕ → ℕ → Room
-put_fate Dead q to g cells = q
-put_fate Pinned q to g cells = q
-put_fate MovesToNewRegion q to g cells = record {
-  regions = filled (map.insert q.regions (region_of to) (record { generation = g; fill = 0 })) (region_of to)
-      cells;
-  spare = drop 1 q.spare;
-  current = with_current q.current g (region_of to);
+abbrev pub followed_cursor : AllocCursors → ℕ → ℕ → AllocCursor
+followed_cursor s g cells =
+    record { region = (cursor_of s g).region; fill = (cursor_of s g).fill + cells }
+
+-- the cursors, and the regions, after an object of `cells` words met its fate
+abbrev pub put_cursors : Fate → List ℕ → AllocCursors → ℕ → ℕ → AllocCursors
+put_cursors Dead spare s g cells = s
+put_cursors Pinned spare s g cells = s
+put_cursors MovesToNewRegion spare s g cells =
+    record (with_cursor s g (opened_cursor spare s cells)) { opened = s.opened + 1 }
+put_cursors Moves spare s g cells = with_cursor s g (followed_cursor s g cells)
+
+abbrev pub put_regions : Fate → List ℕ → Room → ℕ → ℕ → map.FinMap nat_cmp Region
+put_regions Dead spare q g cells = q.regions
+put_regions Pinned spare q g cells = q.regions
+put_regions MovesToNewRegion spare q g cells =
+    filled
+    (map.insert q.regions (slice_index spare q.cursors.opened) (record { generation = g; fill = 0 }))
+    (slice_index spare q.cursors.opened) cells
+put_regions Moves spare q g cells = filled q.regions (cursor_of q.cursors g).region cells
+
+abbrev pub put_fate : Fate → List ℕ → Room → ℕ → ℕ → Room
+put_fate w spare q g cells = record {
+  regions = put_regions w spare q g cells;
+  cursors = put_cursors w spare q.cursors g cells;
+  cells = q.cells + cond (is_moving w) cells 0;
 }
-put_fate Moves q to g cells = record q { regions = filled q.regions (region_of to) cells }
 
 abbrev pub put_move : Heap → Room → Move → Room
-put_move h q m = put_fate m.fate q m.to m.generation (cells_of (placed_at h m.from))
+put_move h q m = put_fate m.fate h.spare q m.generation (cells_of (placed_at h m.from))
 
 -- the room after the first k moves
 unfoldable pub room_at : Heap → List Move → ℕ → Room
 room_at h ms zero = room_of h
 room_at h ms (suc k) = put_move h (room_at h ms k) (move_at ms k)
 
--- the first free region is opened: the one before of its generation, if there is one, has no room for `cells`
+-- the first free region is opened: where its generation allocates now, there is none or no room for `cells`
 -- words more
-pub record Opened (q : Room) (to : Addr) (g cells : ℕ) : Type 0 where
-  pub spare : 0 < length q.spare
-  pub place : to.0 ≡ slice_index q.spare 0 * REGION
-  pub left : (q.current g ≡ 0) ⊎ (REGION < (region_in q.regions (q.current g)).fill + cells)
+pub record Opened (spare : List ℕ) (s : AllocCursors) (to : Addr) (g cells : ℕ) : Type 0 where
+  pub free : s.opened < length spare
+  pub place : to.0 ≡ slice_index spare s.opened * REGION
+  pub left : ((cursor_of s g).region ≡ 0) ⊎ (REGION < (cursor_of s g).fill + cells)
 
 -- the object goes after all others of the region in which its generation allocates
-pub record Followed (q : Room) (to : Addr) (g cells : ℕ) : Type 0 where
-  pub begun : q.current g ≢ 0
-  pub place : to.0 ≡ q.current g * REGION + (region_in q.regions (q.current g)).fill
-  pub room : (region_in q.regions (q.current g)).fill + cells ≤ REGION
+pub record Followed (s : AllocCursors) (to : Addr) (g cells : ℕ) : Type 0 where
+  pub begun : (cursor_of s g).region ≢ 0
+  pub place : to.0 ≡ (cursor_of s g).region * REGION + (cursor_of s g).fill
+  pub room : (cursor_of s g).fill + cells ≤ REGION
 
--- an object may have this fate in a room
-abbrev pub Fits : Fate → Room → (from to : Addr) → (g cells : ℕ) → Type 0
-Fits Dead q from to g cells = to ≡ from
-Fits Pinned q from to g cells = to ≡ from
-Fits MovesToNewRegion q from to g cells = Opened q to g cells
-Fits Moves q from to g cells = Followed q to g cells
+-- an object may have this fate where the cursors are these
+abbrev pub Fits : Fate → List ℕ → AllocCursors → (from to : Addr) → (g cells : ℕ) → Type 0
+Fits Dead spare s from to g cells = to ≡ from
+Fits Pinned spare s from to g cells = to ≡ from
+Fits MovesToNewRegion spare s from to g cells = Opened spare s to g cells
+Fits Moves spare s from to g cells = Followed s to g cells
 
 abbrev pub FitsMove : Heap → Room → Move → Type 0
-FitsMove h q m = Fits m.fate q m.from m.to m.generation (cells_of (placed_at h m.from))
+FitsMove h q m =
+    Fits m.fate h.spare q.cursors m.from m.to m.generation (cells_of (placed_at h m.from))
 
 -- the move of an address
 unfoldable pub find_move : List Move → Addr → Option Move
@@ -152,7 +184,7 @@ pub record HasStay (ms : List Move) (r : ℕ) : Type 0 where
 
 -- a region in use of generation n or below
 pub record IsCondemnedRegion (h : Heap) (n r : ℕ) : Type 0 where
-  pub held : is_held h r ≡ true
+  pub held : is_in_use h r ≡ true
   pub young : region_generation h r ≤ n
 
 -- the condemned regions in rising number, with the generation that each gets if it stays: exactly those stay

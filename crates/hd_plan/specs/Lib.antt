@@ -1,9 +1,6 @@
 pub mod Layout
-pub mod Packing
-pub mod Compactness
 pub mod Plan
-pub mod Laying
+pub mod LaySteps
 pub mod PackedRegions
 pub mod Commit
 pub mod CommitSteps
-pub mod Table

@@ -4,16 +4,16 @@ use Rattle.std.specs.Prelude.{◌≡◌, ℕ, ◌+◌, ◌/◌, ◌≤◌, ◌&&
 use Rattle.hd_model.specs.declared.data.Addr.{Addr}
 use Rattle.hd_model.specs.declared.limits.TheConstants.{LEFT}
 use Rattle.hd_model.specs.Counting.{Counts}
-use Rattle.hd_model.specs.Heap.{Heap, region_of, region_at, region_generation, is_held, has_object}
+use Rattle.hd_model.specs.Heap.{Heap, region_of, region_at, region_generation, is_in_use, has_object}
 use Rattle.hd_plan.specs.Plan.{Takes}
 
 -- a region in use of a generation above n
 abbrev pub is_older_region : Heap → ℕ → ℕ → Bool
-is_older_region h n r = is_held h r && nat_lt n (region_generation h r)
+is_older_region h n r = is_in_use h r && nat_lt n (region_generation h r)
 
 -- after a collection of n: a region in use that was no older one before, and an object in such a region
 abbrev pub IsYoungRegion : (old new : Heap) → ℕ → ℕ → Type 0
-IsYoungRegion old new n r = (is_held new r ≡ true) × (is_older_region old n r ≡ false)
+IsYoungRegion old new n r = (is_in_use new r ≡ true) × (is_older_region old n r ≡ false)
 
 abbrev pub IsInYoungRegion : (old new : Heap) → ℕ → Addr → Type 0
 IsInYoungRegion old new n a = (has_object new a ≡ true) × (is_older_region old n (region_of a) ≡ false)
@@ -25,7 +25,7 @@ IsInYoungRegion old new n a = (has_object new a ≡ true) × (is_older_region ol
 -- full.
 pub record IsPacked (old new : Heap) (n stays : ℕ) : Type 0 where
   pub older : (r : ℕ) → is_older_region old n r ≡ true
-      → (is_held new r ≡ true) × (region_at new r ≡ region_at old r)
+      → (is_in_use new r ≡ true) × (region_at new r ≡ region_at old r)
   pub regions : ℕ
   pub regions_are : Counts (IsYoungRegion old new n) regions
   pub cells : ℕ

@@ -7,7 +7,7 @@ use Rattle.hd_model.specs.Code.{basis_code}
 use Rattle.hd_model.specs.Leads.{IsClosed}
 use Rattle.hd_model.specs.Marking.{IsKeeping}
 use Rattle.hd_model.specs.Scene.{generation_at, IsField, IsCondemned}
-use Rattle.hd_model.specs.Heap.{Heap, Basis, objects_of, object_at, placed_at, cells_of, is_held, region_of, has_object}
+use Rattle.hd_model.specs.Heap.{Heap, Basis, objects_of, object_at, placed_at, cells_of, is_in_use, region_of, has_object}
 use Rattle.hd_heap.specs.Sound.{IsSound}
 use Rattle.hd_plan.specs.declared.moves.Move.{Move}
 use Rattle.hd_plan.specs.declared.moves.Condemned.{Condemned}
@@ -61,7 +61,7 @@ pub record Takes (h : Heap) (P : Addr → Type 0) (cells : ℕ) : Type 0 where
 
 -- there are free regions for all condemned objects: each but the last one of a generation is left with at
 -- least LEFT words in use
-pub record HasSpare (h : Heap) (n : ℕ) : Type 0 where
+pub record HasFreeRegions (h : Heap) (n : ℕ) : Type 0 where
   pub cells : ℕ
   pub cells_are : Takes h (IsCondemned (object_at h) n) cells
   pub small : cells < 2 ^ 38
@@ -90,7 +90,7 @@ pub record IsTakenPlan (p : PlanOf) : Type 0 where
   pub generation : p.basis.condemned ≤ OLDEST
   pub moves : p.moves ≡ []
   pub regions : p.regions ≡ []
-  pub spare : HasSpare p.basis.heap p.basis.condemned
+  pub spare : HasFreeRegions p.basis.heap p.basis.condemned
 
 -- some object starts in this region
 pub record StartsInRegion (h : Heap) (r : ℕ) : Type 0 where
@@ -104,4 +104,4 @@ HasNoEmptyCondemned h n = (r : ℕ) → IsCondemnedRegion h n r → StartsInRegi
 
 -- each region in use has an object
 abbrev pub HasNoEmptyRegion : Heap → Type 0
-HasNoEmptyRegion h = (r : ℕ) → is_held h r ≡ true → StartsInRegion h r
+HasNoEmptyRegion h = (r : ℕ) → is_in_use h r ≡ true → StartsInRegion h r

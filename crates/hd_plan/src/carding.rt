@@ -1,17 +1,17 @@
 // Cards are set exactly where an object that starts in them has a field to a younger one.
-ghost use Rattle.std.specs.Prelude.{◌≡◌, ◌≢◌, ◌+◌, ◌*◌, ◌/◌, ◌<◌, ◌≤◌, ◌↔◌, ℕ, Bool, true, length};
+ghost use Rattle.std.specs.Prelude.{◌≡◌, ◌≢◌, ◌+◌, ◌*◌, ◌/◌, ◌<◌, ◌≤◌, ◌↔◌, ℕ, Bool, true, false, length};
 ghost use Rattle.hd_model.specs.Names.{HasClosedFields};
 ghost use Rattle.hd_model.specs.Ages.{HasSoundCards};
 ghost use Rattle.hd_model.specs.Scene.{generation_at};
 ghost use Rattle.hd_model.specs.Heap.{has_object, object_at, card_of, is_set, is_carded};
-ghost use Rattle.hd_heap.specs.Calls.{IsWalk};
+ghost use Rattle.hd_heap.specs.Calls.{IsWalk, with_card};
 ghost use Rattle.hd_heap.specs.Sound.{IsSound};
 ghost use Rattle.hd_plan.specs.Layout.{is_kept_fate};
 ghost use Rattle.hd_plan.specs.Commit.{NeedsCard};
-ghost use Rattle.hd_plan.specs.CommitSteps.{HasCard, AreCarded, IsKeptAt};
+ghost use Rattle.hd_plan.specs.CommitSteps.{AreCarded, IsKeptAt};
 ghost use Rattle.hd_plan.specs.CommitSteps.{NamesYounger, IsExactAt, starts_in};
 
-use crate::moves::{Fate, Move};
+use crate::moves::Move;
 use hd_heap::Heap;
 use hd_model::Addr;
 use hd_model::limits::CARD;
@@ -29,11 +29,12 @@ pub(crate) fn card_kept(heap: &mut Heap, moves: &[Move])
 // Sets the card of one object if it is kept.
 fn card_if_kept(heap: &mut Heap, object: Move)
     requires { is_kept_fate object.fate ≡ true → has_object heap.old object.to ≡ true }
-    ensures { HasCard object.fate heap.old heap.new object }
+    ensures gone { is_kept_fate object.fate ≡ false → heap.new ≡ heap.old }
+    ensures kept { is_kept_fate object.fate ≡ true
+        → heap.new ≡ with_card heap.old (card_of object.to) true }
 {
-    match object.fate {
-        Fate::Dead => {}
-        Fate::Pinned | Fate::MovesToNewRegion | Fate::Moves => heap.set_card(object.to, true),
+    if object.fate.is_kept() {
+        heap.set_card(object.to, true);
     }
 }
 

@@ -1,7 +1,7 @@
 ghost use Rattle.std.specs.Prelude.{◌≡◌, ◌+◌, ◌<◌, ◌≤◌, true};
 ghost use Rattle.hd_heap.specs.Sound.{IsSound};
-ghost use Rattle.hd_plan.specs.Laying.{cursor_of, with_cursor, CanPut, HasCursors};
-ghost use Rattle.hd_plan.specs.Layout.{is_moving};
+ghost use Rattle.hd_plan.specs.LaySteps.{CanPut};
+ghost use Rattle.hd_plan.specs.Layout.{cursor_of, with_cursor, put_cursors, is_moving, Fits};
 
 use crate::moves::Fate;
 use hd_heap::Heap;
@@ -70,8 +70,9 @@ impl AllocCursors {
         requires sound { IsSound heap.now }
         requires cells { (0 < cells) × (cells ≤ FIELDS + 3) }
         requires can_put { CanPut heap.now self.old }
-        ensures by_cursor { HasCursors result.0 heap.now.spare generation cells self.old self.new
-            (record { 0 = 0 }) result.1 }
+        ensures fits { Fits result.0 heap.now.spare self.old (record { 0 = 0 }) result.1 generation
+            cells }
+        ensures cursors { self.new ≡ put_cursors result.0 heap.now.spare self.old generation cells }
         ensures moves { is_moving result.0 ≡ true }
     {
         let cursor = self.cursor(generation);

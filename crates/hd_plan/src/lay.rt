@@ -6,8 +6,8 @@ ghost use Rattle.hd_model.specs.Heap.{objects_of, object_at};
 ghost use Rattle.hd_heap.specs.Calls.{is_condemned};
 ghost use Rattle.hd_heap.specs.Sound.{IsSound};
 ghost use Rattle.hd_plan.specs.Layout.{AreMoves};
-ghost use Rattle.hd_plan.specs.Laying.{HasMoveRoom, AreChosen, CanPut, IsMoveOf};
-ghost use Rattle.hd_plan.specs.Plan.{IsTakenPlan, IsLaid, HasSpare, HasNoEmptyCondemned};
+ghost use Rattle.hd_plan.specs.LaySteps.{HasMoveRoom, AreChosen, CanPut, IsMoveOf};
+ghost use Rattle.hd_plan.specs.Plan.{IsTakenPlan, IsLaid, HasFreeRegions, HasNoEmptyCondemned};
 ghost use Rattle.hd_plan.specs.Plan.{kept_in, place_in, stays_in};
 
 use crate::cursors::AllocCursors;
@@ -51,7 +51,7 @@ fn lay_moves<M: Marker>(heap: &Heap, marker: &M, n: u8, moves: &mut Vec<Move>)
     requires settled { M.settled marker.now }
     requires none { moves.old.items ≡ [] }
     requires room { HasMoveRoom (object_at heap.now) n (vec_capacity moves.old) }
-    requires spare { HasSpare heap.now n }
+    requires spare { HasFreeRegions heap.now n }
     ensures laid { AreMoves heap.now n moves.new.items }
     ensures chosen { AreChosen (M.promoted marker.now) (M.pinned marker.now) moves.new.items }
     ensures sound { IsSound heap.now }
@@ -73,8 +73,9 @@ fn lay_one<M: Marker>(heap: &Heap, marker: &M, n: u8, at: Addr, cursors: &mut Al
     requires sound { IsSound heap.now }
     requires condemned { is_condemned heap.now n at ≡ true }
     requires can_put { CanPut heap.now cursors.old }
-    ensures { IsMoveOf heap.now n (M.promoted marker.now at) (M.pinned marker.now at) cursors.old
-        cursors.new at result }
+    ensures from { result.from ≡ at }
+    ensures laid { IsMoveOf heap.now n (M.promoted marker.now at) (M.pinned marker.now at)
+        cursors.old cursors.new result }
 {
     let generation = (heap.generation(at) + 1).min(OLDEST);
     let from = at;

@@ -1,7 +1,7 @@
 ghost use Rattle.std.specs.Prelude.{◌≡◌, ◌⊎◌, ℕ, ◌+◌, ◌-◌, ◌^◌, ◌<◌, ◌||◌, false, slice_set, [], length, vec_capacity};
 ghost use Rattle.hd_model.specs.Heap.{region_of};
 ghost use Rattle.hd_plan.specs.Layout.{move_at, IsRising};
-ghost use Rattle.hd_plan.specs.Laying.{HasMove, HasRegionRoom, AreListedTo, HasPlaces, first_at, is_last, last_of, IsJoined, IsAdded};
+ghost use Rattle.hd_plan.specs.LaySteps.{HasMove, HasRegionRoom, AreListedTo, HasPlaces, first_at, is_last, last_of, IsJoined, IsAdded};
 
 use crate::moves::{Condemned, Move};
 use crate::places::{Places, region_number};

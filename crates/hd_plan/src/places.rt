@@ -1,8 +1,8 @@
 ghost use Rattle.std.specs.Prelude.{◌≡◌, ◌≢◌, ◌+◌, ◌*◌, ◌^◌, ◌<◌, ◌≤◌};
 ghost use Rattle.std.specs.Prelude.{length, replicate, slice_set, IfOk};
 ghost use Rattle.hd_model.specs.Heap.{region_of};
-ghost use Rattle.hd_plan.specs.Laying.{first_at};
-ghost use Rattle.hd_plan.specs.Table.{place_among, spot_in, spot_of};
+ghost use Rattle.hd_plan.specs.LaySteps.{first_at};
+ghost use Rattle.hd_plan.specs.LaySteps.{place_among, spot_in, spot_of};
 
 use hd_model::limits::REGION;
 use hd_model::{Addr, Memory};

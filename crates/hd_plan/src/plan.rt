@@ -2,9 +2,9 @@ ghost use Rattle.std.specs.Prelude.{◌≡◌, ◌^◌, ◌<◌, ◌≤◌, true
 ghost use Rattle.hd_model.specs.Counting.{Counts};
 ghost use Rattle.hd_model.specs.Scene.{is_object, IsCondemned};
 ghost use Rattle.hd_model.specs.Heap.{objects_of};
-ghost use Rattle.hd_plan.specs.Laying.{IsSurvey};
+ghost use Rattle.hd_plan.specs.LaySteps.{IsSurvey};
 ghost use Rattle.hd_plan.specs.Layout.{is_kept_fate};
-ghost use Rattle.hd_plan.specs.Plan.{IsTakenPlan, IsLaid, kept_in, place_in, HasSpare};
+ghost use Rattle.hd_plan.specs.Plan.{IsTakenPlan, IsLaid, kept_in, place_in, HasFreeRegions};
 ghost use Rattle.hd_plan.specs.Plan.{SparesNeeded, SparesAtMost};
 
 use crate::moves::{Condemned, Move};
@@ -36,7 +36,7 @@ impl Model for Plan {
 
     ghost coded = { plan_code };
 
-    ghost use Rattle.hd_plan.specs.Laying.{IsPlan};
+    ghost use Rattle.hd_plan.specs.LaySteps.{IsPlan};
 
     ghost view = { λ p. record {
       basis = record { heap = p.heap.value; condemned = p.condemned };
@@ -73,7 +73,7 @@ impl Plan {
     fn with_room(alloc: Global, heap: &Heap, n: u8, found: &Survey) -> Result<Plan, Memory>
         requires found { IsSurvey heap.now n found.now }
         requires generation { n ≤ OLDEST }
-        requires spare { HasSpare heap.now n }
+        requires spare { HasFreeRegions heap.now n }
         ensures taken { IfOk result (λ plan. IsTakenPlan plan) }
         ensures basis { IfOk result (λ plan. plan.basis ≡ record {
           heap = heap.now;

@@ -1,5 +1,5 @@
 ghost use Rattle.std.specs.Prelude.{◌≡◌, ◌+◌, ◌^◌, ◌<◌, ◌≤◌};
-ghost use Rattle.hd_plan.specs.Laying.{IsSurvey, counted_also};
+ghost use Rattle.hd_plan.specs.LaySteps.{IsSurvey, counted_also};
 
 use crate::places::region_number;
 use hd_heap::Heap;

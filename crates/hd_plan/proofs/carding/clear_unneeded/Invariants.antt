@@ -1,9 +1,10 @@
 use Rattle.std.proofs.Common.{◌-◌, ◌^◌}
-use Rattle.hd_plan.specs.CommitSteps.{IsExactBehind, next_to}
+use Rattle.hd_plan.proofs.LayStep.{reach_of}
+use Rattle.hd_plan.proofs.CommitCards.{IsExactBehind}
 use Rattle.hd_plan.proofs.carding.clear_unneeded.Given as goal
 
 abbrev pub invariant-loop-at : goal.invariant-loop-at
 invariant-loop-at l = IsExactBehind l.initial.heap l.heap l.after
 
 abbrev pub decreases-loop-at : goal.decreases-loop-at
-decreases-loop-at l = 2 ^ 32 - next_to l.after
+decreases-loop-at l = 2 ^ 32 - reach_of l.after

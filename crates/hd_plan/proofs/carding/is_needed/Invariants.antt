@@ -1,5 +1,5 @@
 use Rattle.hd_model.specs.Heap.{card_of}
-use Rattle.hd_plan.specs.CommitSteps.{AreUnneeding, left_from}
+use Rattle.hd_plan.proofs.CommitCards.{AreUnneeding, left_from}
 use Rattle.hd_plan.proofs.carding.is_needed.Given as goal
 
 abbrev pub invariant-loop-next : goal.invariant-loop-next

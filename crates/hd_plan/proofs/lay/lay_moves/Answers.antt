@@ -35,7 +35,8 @@ push_reserved-requires g c =
     (laying_next c.args.heap.now c.args.n c.in-Some.ensures.sound promoted pinned c.walk.moves.items
     c.walk.cursors
     c.lay_one-object.new.cursors c.walk.after c.in-Some.at c.lay_one-object.result c.walk.invariant.laying
-    c.requires.spare c.in-Some.ensures.walk c.lay_one-object.ensures)
+    c.requires.spare c.in-Some.ensures.walk c.lay_one-object.ensures.from
+    c.lay_one-object.ensures.laid)
     c.requires.room in
     omega (
       arith,
@@ -56,6 +57,7 @@ walk-preserved g c =
           (sym c.push_reserved.ensures.items)
           (laying_next c.args.heap.now c.args.n c.in-Some.ensures.sound promoted pinned c.walk.moves.items
           c.walk.cursors c.lay_one-object.new.cursors c.walk.after c.in-Some.at c.lay_one-object.result
-          c.walk.invariant.laying c.requires.spare c.in-Some.ensures.walk c.lay_one-object.ensures);
+          c.walk.invariant.laying c.requires.spare c.in-Some.ensures.walk c.lay_one-object.ensures.from
+          c.lay_one-object.ensures.laid);
       capacity = c.push_reserved.ensures.capacity ∙ c.walk.invariant.capacity;
     }

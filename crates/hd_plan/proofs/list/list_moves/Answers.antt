@@ -3,8 +3,7 @@ use Rattle.hd_model.specs.declared.data.Addr.{Addr}
 use Rattle.hd_model.specs.Heap.{region_of}
 use Rattle.hd_plan.specs.declared.moves.Move.{Move}
 use Rattle.hd_plan.specs.Layout.{move_at}
-use Rattle.hd_plan.specs.Laying.{is_last, first_at, HasMove, HasPlaces, IsJoined, IsAdded}
-use Rattle.hd_plan.specs.Table.{spot_of}
+use Rattle.hd_plan.specs.LaySteps.{is_last, first_at, HasMove, HasPlaces, IsJoined, IsAdded, spot_of}
 use Rattle.hd_plan.proofs.ForwardTable.{IsNoted, room_along, room_next, noted, move_read, places_put}
 use Rattle.hd_plan.proofs.list.list_moves.Goals as goal
 use Rattle.hd_plan.proofs.list.list_moves.Goals.{After-index-object, After-list_region}

@@ -1,5 +1,7 @@
 use Rattle.std.proofs.Common.{◌-◌, ◌^◌}
-use Rattle.hd_plan.specs.CommitSteps.{AreRewritten, IsCardedTo, SameCards, next_to}
+use Rattle.hd_plan.specs.CommitSteps.{AreRewritten, SameCards}
+use Rattle.hd_plan.proofs.LayStep.{reach_of}
+use Rattle.hd_plan.proofs.CommitRewrites.{IsCardedTo}
 use Rattle.hd_plan.proofs.rewriting.rewrite_carded.Given as goal
 
 abbrev pub invariant-loop-at : goal.invariant-loop-at
@@ -8,4 +10,4 @@ invariant-loop-at g l =
     × SameCards l.initial.heap l.heap
 
 abbrev pub decreases-loop-at : goal.decreases-loop-at
-decreases-loop-at g l = 2 ^ 32 - next_to l.after
+decreases-loop-at g l = 2 ^ 32 - reach_of l.after

@@ -1,4 +1,4 @@
-use Rattle.hd_plan.specs.CommitSteps.{AreFieldsRewritten}
+use Rattle.hd_plan.proofs.CommitRewrites.{AreFieldsRewritten}
 use Rattle.hd_plan.proofs.rewriting.rewrite_object.Given as goal
 
 abbrev pub invariant-loop-i : goal.invariant-loop-i

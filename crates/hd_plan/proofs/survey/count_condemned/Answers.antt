@@ -2,7 +2,7 @@ use Rattle.std.proofs.Common.{◌≡◌, ◌+◌, Some, length, sym, ap, ◌∙�
 use Rattle.hd_model.specs.Heap.{placed_at, cells_of}
 use Rattle.hd_heap.proofs.HeapValues.{fields_placed}
 use Rattle.hd_plan.specs.declared.survey.Survey.{Survey}
-use Rattle.hd_plan.specs.Laying.{counted_also}
+use Rattle.hd_plan.specs.LaySteps.{counted_also}
 use Rattle.hd_plan.proofs.CondemnedAddresses.{condemned_of}
 use Rattle.hd_plan.proofs.LayStep.{address_low}
 use Rattle.hd_plan.proofs.SurveyCount.{IsSurveyTo, survey_next, survey_end}

@@ -4,8 +4,6 @@ use Rattle.hd_mark.proofs.trace.Trace.pin.Goals as goal
 
 pub returns-then-not-is_older : goal.returns-then-not-is_older
 returns-then-not-is_older c =
-    pin_seen c.self.inside.heap.now c.self.inside.condemned c.self.inside.places.places.items
-    c.self.inside.places.regions c.self.inside.marks.words.items c.self.inside.pins.words.items
-    c.self.inside.stack.items _ c.self.invariant c.args.self.now c.self.view_is c.args.at c.requires
+    pin_seen _ _ _ _ _ _ _ c.self.invariant c.args.self.now c.self.view_is c.args.at c.requires
     (sym c.is_older.ensures ∙ c.if-not-is_older.true) c.bit.result c.bit.ensures
     c.insert.new.self.words.items c.insert.ensures.joins c.insert.ensures.others

@@ -4,8 +4,6 @@ use Rattle.hd_mark.proofs.trace.Trace.pinned.Goals as goal
 
 pub returns-else-is_older : goal.returns-else-is_older
 returns-else-is_older c =
-    c.has.ensures ∙ pinned_read c.self.inside.heap.now c.self.inside.condemned
-    c.self.inside.places.places.items c.self.inside.places.regions c.self.inside.marks.words.items
-    c.self.inside.pins.words.items c.self.inside.stack.items _ c.self.invariant c.args.self.now
+    c.has.ensures ∙ pinned_read _ _ _ _ _ _ _ c.self.invariant c.args.self.now
     c.self.view_is c.args.at c.requires (sym c.is_older.ensures ∙ c.if-is_older.false) c.bit.result
     c.bit.ensures

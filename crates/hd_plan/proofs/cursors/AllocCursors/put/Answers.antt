@@ -1,5 +1,5 @@
 use Rattle.std.proofs.Common.{ℕ, ap, arith}
-use Rattle.hd_plan.proofs.CursorRoom.{cursor_bounds}
+use Rattle.hd_plan.proofs.RoomSteps.{cursor_bounds}
 use Rattle.hd_plan.proofs.cursors.AllocCursors.put.Goals as goal
 
 pub overflow_add-result : goal.overflow_add-result

@@ -4,7 +4,7 @@ use Rattle.hd_model.specs.Leads.{IsClosed}
 use Rattle.hd_model.specs.Marking.{IsSettled}
 use Rattle.hd_model.specs.Scene.{IsField, IsCondemned}
 use Rattle.hd_model.specs.Heap.{Heap, Basis, objects_of, object_at}
-use Rattle.hd_plan.specs.Laying.{HasRegionRoom, HasCondemned}
+use Rattle.hd_plan.specs.LaySteps.{HasRegionRoom, HasCondemned}
 use Rattle.hd_plan.specs.Plan.{PlanOf, HasNoEmptyCondemned, stays_in}
 use Rattle.hd_plan.proofs.LaidPlan.{IsLaidFrom, from_heap, laid_from, kept_from, pinned_from, stays_from, region_room}
 use Rattle.hd_plan.proofs.plan.Plan.lay.Goals as goal

@@ -1,7 +1,7 @@
 use Rattle.std.proofs.Common.{sym, subst, arith}
 use Rattle.std.proofs.lemmas.Result.{err_from_is_err_and}
 use Rattle.hd_model.specs.Heap.{Heap}
-use Rattle.hd_plan.specs.Laying.{IsSurvey}
+use Rattle.hd_plan.specs.LaySteps.{IsSurvey}
 use Rattle.hd_plan.proofs.SurveyCount.{survey_spare}
 use Rattle.hd_plan.proofs.FreeRegionCount.{spares_at_most}
 use Rattle.hd_plan.proofs.plan.Plan.take.Goals as goal

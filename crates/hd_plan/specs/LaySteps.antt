@@ -1,22 +1,80 @@
--- How a plan is taken and laid, object by object.
-use Rattle.std.specs.Prelude.{◌≡◌, ◌≢◌, ℕ, ◌+◌, ◌*◌, ◌^◌, ◌%◌, ◌<◌, ◌≤◌, ◌⊎◌, ◌-◌, ◌&&◌, ◌||◌, ◌++◌, Bool, true, false, cond, nat_eq, nat_lt, slice_set, List, [], ◌∷◌, length, Option, slice_index, slice_index_or, sum_by}
+-- No public clause needs what is defined here: these are words of private functions and fields, for the laying of
+-- a plan.
+use Rattle.std.specs.Prelude.{◌≡◌, ◌≢◌, ℕ, ◌+◌, ◌*◌, ◌<◌, ◌≤◌, ◌⊎◌, cond, nat_eq, true, false, List, length, slice_index, ◌^◌, ◌%◌, ◌-◌, ◌&&◌, ◌||◌, ◌++◌, Bool, nat_lt, slice_set, [], ◌∷◌, slice_index_or, suc, zero}
+use Rattle.std.specs.FinMap.{FinMap, get}
+use Rattle.std.specs.Ordering.{nat_cmp}
 use Rattle.hd_model.specs.declared.data.Addr.{Addr}
-use Rattle.hd_model.specs.declared.limits.TheConstants.{REGION, FIELDS, LEFT, REGIONS}
+use Rattle.hd_model.specs.declared.limits.TheConstants.{REGION, LEFT, FIELDS, REGIONS}
+use Rattle.hd_model.specs.Heap.{Heap, Region, region_of, is_in_use, placed_at, cells_of, Basis, objects_of, object_at}
+use Rattle.hd_plan.specs.declared.moves.Move.{Move}
+use Rattle.hd_plan.specs.declared.cursors.AllocCursor.{AllocCursor}
+use Rattle.hd_plan.specs.declared.cursors.AllocCursors.{AllocCursors}
+use Rattle.hd_plan.specs.Layout.{Room, has_region, region_in, move_at, is_moving, room_at, put_cursors, condemned_at, is_kept_fate, is_staying, Fits, HasStay}
 use Rattle.hd_model.specs.Ages.{raised}
 use Rattle.hd_model.specs.Counting.{Counts}
 use Rattle.hd_model.specs.Scene.{Objects, generation_at, IsCondemned}
-use Rattle.hd_model.specs.Heap.{Heap, Basis, objects_of, region_of, object_at, placed_at, cells_of}
-use Rattle.hd_heap.specs.Calls.{is_condemned, is_after}
-use Rattle.hd_plan.specs.declared.moves.Fate.{Fate}
-use Rattle.hd_plan.specs.declared.moves.Fate.TheVariants.{Dead, Pinned, MovesToNewRegion, Moves}
-use Rattle.hd_plan.specs.declared.moves.Move.{Move}
 use Rattle.hd_plan.specs.declared.moves.Condemned.{Condemned}
-use Rattle.hd_plan.specs.declared.cursors.AllocCursor.{AllocCursor}
-use Rattle.hd_plan.specs.declared.cursors.AllocCursors.{AllocCursors}
 use Rattle.hd_plan.specs.declared.survey.Survey.{Survey}
-use Rattle.hd_plan.specs.Layout.{Room, region_in, room_at, move_at, condemned_at, is_kept_fate, is_staying, FitsMove, HasStay, IsRising}
 use Rattle.hd_plan.specs.Plan.{Takes}
-use Rattle.hd_plan.specs.Packing.{IsRoom}
+
+-- ---- where objects are put
+
+-- a region that was among the first free ones
+pub record WasFree (h : Heap) (opened r : ℕ) : Type 0 where
+  pub at : ℕ
+  pub before : at < opened
+  pub within : at < length h.spare
+  pub number : slice_index h.spare at ≡ r
+
+-- a fresh region: one that came into use since, with its generation
+pub record IsFresh (h : Heap) (rs : FinMap nat_cmp Region) (g r : ℕ) : Type 0 where
+  pub held : has_region rs r ≡ true
+  pub new : is_in_use h r ≡ false
+  pub generation : (region_in rs r).generation ≡ g
+
+-- a cursor of a generation: at the end of a fresh region, or in none
+pub record IsCursor (h : Heap) (rs : FinMap nat_cmp Region) (g : ℕ) (c : AllocCursor) : Type 0 where
+  pub fresh : c.region ≢ 0 → IsFresh h rs g c.region × ((region_in rs c.region).fill ≡ c.fill)
+  pub empty : c.region ≡ 0 → c.fill ≡ 0
+  pub fits : c.fill ≤ REGION
+
+-- 1 where a cursor has a region, else 0
+abbrev pub begun : AllocCursor → ℕ
+begun c = cond (nat_eq c.region 0) 0 1
+
+-- the regions that are opened, against the words that were moved: each but the last one of a generation is
+-- left with at least LEFT words in use
+abbrev pub HasSlack : AllocCursors → ℕ → Type 0
+HasSlack s cells =
+    LEFT * s.opened + (s.first.fill + s.second.fill) ≤ cells + LEFT * (begun s.first + begun s.second)
+
+-- each region was in use or was opened, and the cursors are in fresh ones
+pub record IsRoom (h : Heap) (q : Room) : Type 0 where
+  pub held : (r : ℕ) → has_region q.regions r ≡ true → (is_in_use h r ≡ true) ⊎ WasFree h q.cursors.opened r
+  pub old : (r : ℕ) → is_in_use h r ≡ true → get q.regions r ≡ get h.regions r
+  pub first : IsCursor h q.regions 1 q.cursors.first
+  pub second : IsCursor h q.regions 2 q.cursors.second
+  pub slack : HasSlack q.cursors q.cells
+
+-- an object of `cells` words was put at an address
+pub record IsPut (h : Heap) (rs : FinMap nat_cmp Region) (to : Addr) (g cells : ℕ) : Type 0 where
+  pub fresh : IsFresh h rs g (region_of to)
+  pub below : to.0 + cells ≤ region_of to * REGION + (region_in rs (region_of to)).fill
+
+-- the objects of the first i moves that move are put, no two at one address, and one in each region that was
+-- opened
+pub record ArePut (h : Heap) (ms : List Move) (i : ℕ) : Type 0 where
+  pub room : IsRoom h (room_at h ms i)
+  pub put : (k : ℕ) → k < i → is_moving (move_at ms k).fate ≡ true
+      → IsPut h (room_at h ms i).regions (move_at ms k).to (move_at ms k).generation
+      (cells_of (placed_at h (move_at ms k).from))
+  pub apart : (j k : ℕ) → j < k → k < i → is_moving (move_at ms j).fate ≡ true
+      → is_moving (move_at ms k).fate ≡ true
+      → (move_at ms j).to ≢ (move_at ms k).to
+  pub held : (r : ℕ) → has_region (room_at h ms i).regions r ≡ true → (is_in_use h r ≡ true)
+      ⊎ ((k : ℕ) × ((k < i) × ((is_moving (move_at ms k).fate ≡ true) × (region_of (move_at ms k).to ≡ r))))
+
+-- ---- what a plan has and how it is made
 
 -- a condemned object is in this region
 abbrev pub HasCondemned : Objects Addr → ℕ → ℕ → Type 0
@@ -91,86 +149,13 @@ pub record AreChosen (promoted pinned : Addr → Bool) (ms : List Move) : Type 0
   pub stays : (k : ℕ) → k < length ms
       → is_staying (move_at ms k).fate ≡ (promoted (move_at ms k).from && pinned (move_at ms k).from)
 
--- the cursor of a generation
-abbrev pub cursor_of : AllocCursors → ℕ → AllocCursor
-cursor_of s g = cond (nat_eq g 1) s.first s.second
-
--- a cursor is where a generation allocates its next object
-pub record IsCursor (q : Room) (g : ℕ) (s : AllocCursor) : Type 0 where
-  pub region : s.region ≡ q.current g
-  pub fill : s.region ≢ 0 → s.fill ≡ (region_in q.regions s.region).fill
-  pub empty : s.region ≡ 0 → s.fill ≡ 0
-  pub fits : s.fill ≤ REGION
-
--- the cursors agree with the room
-pub record AreCursors (h : Heap) (q : Room) (s : AllocCursors) : Type 0 where
-  pub room : IsRoom h q
-  pub first : IsCursor q 1 s.first
-  pub second : IsCursor q 2 s.second
-  pub opened : room.opened ≡ s.opened
-
--- 1 where a cursor has a region, else 0
-abbrev pub begun : AllocCursor → ℕ
-begun s = cond (nat_eq s.region 0) 0 1
-
--- the regions that are opened, against the words that were laid: each but the last one of a generation is
--- left with at least LEFT words in use
-abbrev pub HasSlack : AllocCursors → ℕ → Type 0
-HasSlack s laid =
-    LEFT * s.opened + (s.first.fill + s.second.fill) ≤ laid + LEFT * (begun s.first + begun s.second)
-
--- the words of the objects of these moves
-abbrev pub cells_laid : Heap → List Move → ℕ
-cells_laid h ms = sum_by (λ m. cells_of (placed_at h m.from)) ms
-
--- the condemned objects up to an address have moves, and those of them that are kept have new addresses
-pub record AreMovesTo (h : Heap) (n : ℕ) (ms : List Move) (after : Option Addr) : Type 0 where
-  pub condemned : (k : ℕ) → k < length ms → is_condemned h n (move_at ms k).from ≡ true
-  pub reached : (k : ℕ) → k < length ms → is_after after (move_at ms k).from ≡ false
-  pub rising : IsRising ms
-  pub all : (a : Addr) → is_condemned h n a ≡ true → is_after after a ≡ false
-      → (k : ℕ) × ((k < length ms) × ((move_at ms k).from ≡ a))
-  pub generations : (k : ℕ) → k < length ms
-      → (move_at ms k).generation ≡ raised n (generation_at (object_at h) (move_at ms k).from)
-  pub fits : (k : ℕ) → k < length ms → FitsMove h (room_at h ms k) (move_at ms k)
-
--- another cursor of a generation
-abbrev pub with_cursor : AllocCursors → ℕ → AllocCursor → AllocCursors
-with_cursor s g cursor =
-    record s { first = cond (nat_eq g 1) cursor s.first; second = cond (nat_eq g 1) s.second cursor }
-
--- an object goes after the one before of its generation
-pub record IsBehind (g cells : ℕ) (old new : AllocCursors) (to : Addr) : Type 0 where
-  pub begun : (cursor_of old g).region ≢ 0
-  pub room : (cursor_of old g).fill + cells ≤ REGION
-  pub place : to.0 ≡ (cursor_of old g).region * REGION + (cursor_of old g).fill
-  pub cursor : new ≡ with_cursor old g
-      (record { region = (cursor_of old g).region; fill = (cursor_of old g).fill + cells })
-
--- an object opens a free region, since it does not fit after the one before of its generation
-pub record IsOpening (spare : List ℕ) (g cells : ℕ) (old new : AllocCursors) (to : Addr) : Type 0 where
-  pub left : ((cursor_of old g).region ≡ 0) ⊎ (REGION < (cursor_of old g).fill + cells)
-  pub place : to.0 ≡ slice_index spare old.opened * REGION
-  pub cursor : new
-      ≡ record (with_cursor old g (record { region = slice_index spare old.opened; fill = cells })) {
-        opened = old.opened + 1;
-      }
-
--- an object has this fate, and so the cursors change
-abbrev pub HasCursors : Fate → List ℕ → ℕ → ℕ → AllocCursors → AllocCursors → (from to : Addr) → Type 0
-HasCursors Dead spare g cells old new from to = (to ≡ from) × (new ≡ old)
-HasCursors Pinned spare g cells old new from to = (to ≡ from) × (new ≡ old)
-HasCursors MovesToNewRegion spare g cells old new from to = IsOpening spare g cells old new to
-HasCursors Moves spare g cells old new from to = IsBehind g cells old new to
-
 -- one object is laid
-pub record IsMoveOf (h : Heap) (n : ℕ) (promoted pinned : Bool) (old new : AllocCursors) (at : Addr)
-    (m : Move) : Type 0 where
-  pub from : m.from ≡ at
-  pub generation : m.generation ≡ raised n (generation_at (object_at h) at)
+pub record IsMoveOf (h : Heap) (n : ℕ) (promoted pinned : Bool) (old new : AllocCursors) (m : Move) : Type 0 where
+  pub generation : m.generation ≡ raised n (generation_at (object_at h) m.from)
   pub kept : is_kept_fate m.fate ≡ promoted
   pub stays : is_staying m.fate ≡ (promoted && pinned)
-  pub by_cursor : HasCursors m.fate h.spare m.generation (cells_of (placed_at h at)) old new at m.to
+  pub fits : Fits m.fate h.spare old m.from m.to m.generation (cells_of (placed_at h m.from))
+  pub cursors : new ≡ put_cursors m.fate h.spare old m.generation (cells_of (placed_at h m.from))
 
 -- no cursor is over full, each is in a region whose addresses have 32 bits, and there is a free region for
 -- one object more
@@ -217,3 +202,20 @@ pub record IsAdded (old new : List Condemned) (m : Move) (firsts firsts2 : List 
         is_staying m.fate;
   } ∷ []
   pub table : firsts2 ≡ slice_set firsts (region_of m.from) (length old + 1)
+
+-- ---- the table of new addresses
+
+-- the entry of an address in the k-th listed region
+abbrev pub spot_in : ℕ → Addr → ℕ
+spot_in k a = REGION * k + a.0 % REGION
+
+abbrev pub spot_of : List ℕ → Addr → ℕ
+spot_of firsts a = spot_in (first_at firsts (region_of a) - 1) a
+
+-- the new address of an address by the number that is stored for its region
+abbrev pub place_from : ℕ → List Addr → Addr → Addr
+place_from zero cells a = a
+place_from (suc k) cells a = cell_at cells (spot_in k a)
+
+abbrev pub place_among : List ℕ → List Addr → Addr → Addr
+place_among firsts cells a = place_from (first_at firsts (region_of a)) cells a
