@@ -121,12 +121,13 @@ module _ (t : Table) (ages : List ℕ) (n : ℕ) (p : Addr → Bool) where
       (λ other. and_left (is_attaching (role h)) (is_due ages n slot && is_lost p h.target) other)
       (cases_Bool (is_attaching (role h))))
 
-  -- the row that it visits
-  module _ (slot : ℕ) (due : IsDueRow t ages n kind.Dependent slot) (g : Handle Addr)
+-- the row that it visits
+module _ {t : Table} {ages : List ℕ} {n : ℕ} (p : Addr → Bool) where
+  module _ {slot : ℕ} (due : IsDueRow t ages n kind.Dependent slot) {g : Handle Addr}
       (same : g ≡ due.handle) where
-    pub detached_row : (now next : Table) → Rewrites slot (detached true p g) now next
-        → Rewrites slot (detach slot due.handle) now next
-    detached_row now next r =
+    pub detached_row : {now next : Table} → Rewrites slot (detached true p g) now next
+        → Rewrites slot (detach t ages n p slot due.handle) now next
+    detached_row {now} {next} r =
         subst (λ h. Rewrites slot h now next) (λ i. detached (sym due.due i) p (same i)) r
 
     pub detached_has : is_lost p g.target ≡ true → IsDetachedAt (row_at t) ages n p slot

@@ -10,7 +10,7 @@ use Rattle.hd_model.specs.Counting.{Counts}
 use Rattle.hd_model.specs.Leads.{IsClosed, IsClosure}
 use Rattle.hd_model.specs.Marking.{IsSettled}
 use Rattle.hd_model.specs.Heap.{Heap, Placed, object_at, object_in, region_of, region_generation}
-use Rattle.hd_model.specs.Reach.{IsAttached, IsArrow}
+use Rattle.hd_model.specs.Reach.{IsAttached, IsEdge}
 use Rattle.hd_model.specs.Scene.{Objects, Rows, is_object, generation_at, IsField}
 use Rattle.hd_model.specs.Ages.{is_due, HasSoundAges}
 use Rattle.hd_model.proofs.Members.{not_in_none, member_cases, pairs_passing, passing_from, passing_in}
@@ -185,7 +185,7 @@ rescan_steps h n visits p0 p old new settled passed = record {
 
 module _ (o : Objects Addr) (n : ℕ) (rows : Rows Addr) (ages : List ℕ) (p0 p : Addr → Bool)
     (settled0 : IsSettled o n p0) (settled : IsSettled o n p) (fields : IsClosed (IsField o) p0)
-    (sound : HasSoundAges o rows ages) (spreads : Spreads (IsArrow o rows) p0 p)
+    (sound : HasSoundAges o rows ages) (spreads : Spreads (IsEdge o rows) p0 p)
     (followed : (slot : ℕ) (h : Handle Addr) → rows slot ≡ Some h → role h ≡ attaches
     → is_due ages n slot ≡ true → IsFollowed h p) where
   field_closed : (x y : Addr) → p x ≡ true → IsField o x y → p y ≡ true
@@ -203,7 +203,7 @@ module _ (o : Objects Addr) (n : ℕ) (rows : Rows Addr) (ages : List ℕ) (p0 p
       (undue_secondary o n rows ages sound a.slot a.handle a.stands undue y a.secondary))
       (cases_Bool (is_due ages n a.slot))
 
-  pub rescan_closure : IsClosure (IsArrow o rows) p0 p
+  pub rescan_closure : IsClosure (IsEdge o rows) p0 p
   rescan_closure = record {
     keeps = spreads.keeps;
     closed = λ x y promoted. ⊎_elim (field_closed x y promoted) (attached_closed x y promoted);

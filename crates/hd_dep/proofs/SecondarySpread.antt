@@ -8,7 +8,7 @@ use Rattle.hd_model.specs.declared.data.Slot.{Slot}
 use Rattle.hd_model.specs.State.{Handle, secondary_of}
 use Rattle.hd_model.specs.Role.{attaches, role}
 use Rattle.hd_model.specs.Leads.{Leads, Grows}
-use Rattle.hd_model.specs.Reach.{IsArrow}
+use Rattle.hd_model.specs.Reach.{IsEdge}
 use Rattle.hd_model.specs.Scene.{Objects, Rows, IsYoungField}
 use Rattle.hd_model.specs.Ages.{is_due, due_clumps}
 use Rattle.hd_model.specs.Table.{Table, IsTable, chain_of, live_at, row_at}
@@ -40,7 +40,7 @@ module _ {N : Type 0} (E : N → N → Type 0) where
 -- fields of condemned objects are edges
 pub young_arrows : {N : Type 0} (o : Objects N) (n : ℕ) (rows : Rows N) {x y : N}
     → Leads (IsYoungField o n) x y
-    → Leads (IsArrow o rows) x y
+    → Leads (IsEdge o rows) x y
 young_arrows o n rows Leads.here = Leads.here
 young_arrows o n rows (Leads.more chain e) = Leads.more (young_arrows o n rows chain) (inl e.field)
 
@@ -49,10 +49,10 @@ module _ (o : Objects Addr) (n : ℕ) (t : Table) where
   pub promoted_beyond : (slot : ℕ) (h : Handle Addr) (x y : Addr) (p q : Addr → Bool) → row_at t slot ≡ Some h
       → h.kind ≡ kind.Dependent → h.target ≡ Some x → secondary_of h.extra ≡ Some y
       → (p x && not (p y)) ≡ true → Grows (IsYoungField o n) (λ z. z ≡ y) p q
-      → Spreads (IsArrow o (row_at t)) p q × Gained p q
+      → Spreads (IsEdge o (row_at t)) p q × Gained p q
   promoted_beyond slot h x y p q stands dependent target secondary beyond grows =
       let parts = and_parts (p x) (not (p y)) beyond in
-      let arrow : IsArrow o (row_at t) x y =
+      let arrow : IsEdge o (row_at t) x y =
       inr (record {
         slot = slot;
         handle = h;
@@ -69,8 +69,8 @@ module _ (o : Objects Addr) (n : ℕ) (t : Table) where
                 x,
                 (
                   parts.0,
-                  leads_on (IsArrow o (row_at t)) (one_arrow (IsArrow o (row_at t)) arrow)
-                      (subst (λ r. Leads (IsArrow o (row_at t)) r z) w.1.0
+                  leads_on (IsEdge o (row_at t)) (one_arrow (IsEdge o (row_at t)) arrow)
+                      (subst (λ r. Leads (IsEdge o (row_at t)) r z) w.1.0
                       (young_arrows o n (row_at t) w.1.1)),
                 ),
               ))
@@ -81,7 +81,7 @@ module _ (o : Objects Addr) (n : ℕ) (t : Table) where
 
   module _ (ages : List ℕ) (p0 : Addr → Bool) where
     abbrev A : Addr → Addr → Type 0
-    A = IsArrow o (row_at t)
+    A = IsEdge o (row_at t)
 
     -- nothing was promoted, and the handles that were visited needed nothing
     pub record IsQuiet (w : DueRows) (p : Addr → Bool) : Type 0 where
@@ -91,81 +91,82 @@ module _ (o : Objects Addr) (n : ℕ) (t : Table) where
 
     -- along a pass
     pub record IsSpreading (w : DueRows) (before steps : ℕ) (p : Addr → Bool) (more : Bool) : Type 0 where
-      pub under : IsUnderway t ages n kind.Dependent t w before steps
+      pub under : IsUnderway t ages n kind.Dependent t w (before, steps)
       pub spreads : Spreads A p0 p
       pub found : MatchBool more (Gained p0 p) (IsQuiet w p)
 
-    module _ (is : IsTable t) (w : DueRows) (before : ℕ) (on : IsOn t w)
-        (slots : slots_to_come t ages w ≡ due_slots t ages n kind.Dependent)
-        (clumps : clumps_to_come t ages w ≡ due_clumps ages n (chain_of t kind.Dependent)) where
-      pub spread_start : IsSpreading w before before p0 false
-      spread_start = record {
-        under = begins t ages n kind.Dependent is w slots before on clumps;
-        spreads = spreads_none A p0;
-        found = record {
-          same = refl;
-          followed = λ slot h stands role_is due past.
-              absurd (past (all_to_come t ages n kind.Dependent is w slots slot (record {
-                handle = h;
-                stands = stands;
-                of_kind = attaching_kind h.kind h.extra role_is;
-                due = due;
-              })));
-        };
-      }
+module _ {o : Objects Addr} {n : ℕ} {t : Table} {ages : List ℕ} {p0 : Addr → Bool} where
+  module _ (is : IsTable t) {w : DueRows} {before : ℕ} (on : IsOn t w)
+      (slots : slots_to_come t ages w ≡ due_slots t ages n kind.Dependent)
+      (clumps : clumps_to_come t ages w ≡ due_clumps ages n (chain_of t kind.Dependent)) where
+    pub spread_start : IsSpreading o n t ages p0 w before before p0 false
+    spread_start = record {
+      under = begins t ages n kind.Dependent is w slots before on clumps;
+      spreads = spreads_none (IsEdge o (row_at t)) p0;
+      found = record {
+        same = refl;
+        followed = λ slot h stands role_is due past.
+            absurd (past (all_to_come t ages n kind.Dependent is w slots slot (record {
+              handle = h;
+              stands = stands;
+              of_kind = attaching_kind h.kind h.extra role_is;
+              due = due;
+            })));
+      };
+    }
 
-    module _ (old new : DueRows) (slot : Slot) (before steps after : ℕ) (p q : Addr → Bool)
-        (more row_more : Bool)
-        (s : IsSpreading old before steps p more) (gives : Gives t ages old new slot) (on : IsOn t new)
-        (counted : after + length (clumps_to_come t ages new) ≡ steps + length (clumps_to_come t ages old))
-        (spreads : Spreads A p q)
-        (row : MatchBool row_more (Gained p q) (IsSpreadRow (live_at t slot.0) p q)) where
-      due : IsDueRow t ages n kind.Dependent slot.0
-      due = row_due t ages n kind.Dependent t old new before slot steps after s.under gives
+  module _ {old new : DueRows} {slot : Slot} {before steps : ℕ} {p q : Addr → Bool} {more : Bool}
+      (s : IsSpreading o n t ages p0 old before steps p more) (gives : Gives t ages old new slot)
+      (spreads : Spreads (IsEdge o (row_at t)) p q) where
+    due : IsDueRow t ages n kind.Dependent slot.0
+    due = row_due s.under gives
 
-      same : live_at t slot.0 ≡ due.handle
-      unfolding due
-      same = row_same t ages n kind.Dependent t old new before slot steps after s.under gives
+    same : live_at t slot.0 ≡ due.handle
+    unfolding due
+    same = row_same s.under gives
 
-      quiet : IsQuiet old p → IsSpreadRow (live_at t slot.0) p q → IsQuiet new q
-      quiet a b = record {
-        same = b.same ∙ a.same;
-        followed = λ k h stands role_is is_due past.
-            ⊎_elim
-            (λ e. let here : live_at t slot.0 ≡ h =
-            same_Some (live_at t slot.0) h
-            (ap (λ g. Some g) same ∙ sym due.stands ∙ ap (row_at t) (sym e) ∙ stands) in
-            subst (λ g. IsFollowed g p0) here (subst (IsFollowed (live_at t slot.0)) a.same b.followed))
-            (λ ne. a.followed k h stands role_is is_due
-            (past_else t ages n kind.Dependent t old new before slot steps after s.under gives k ne past))
-            (cases_eq k slot.0);
-      }
+    quiet : IsQuiet o n t ages p0 old p → IsSpreadRow (live_at t slot.0) p q → IsQuiet o n t ages p0 new q
+    quiet a b = record {
+      same = b.same ∙ a.same;
+      followed = λ k h stands role_is is_due past.
+          ⊎_elim
+          (λ e. let here : live_at t slot.0 ≡ h =
+          same_Some (live_at t slot.0) h
+          (ap (λ g. Some g) same ∙ sym due.stands ∙ ap (row_at t) (sym e) ∙ stands) in
+          subst (λ g. IsFollowed g p0) here (subst (IsFollowed (live_at t slot.0)) a.same b.followed))
+          (λ ne. a.followed k h stands role_is is_due
+          (past_else s.under gives k ne past))
+          (cases_eq k slot.0);
+    }
 
-      found : (m r : Bool) → MatchBool m (Gained p0 p) (IsQuiet old p)
-          → MatchBool r (Gained p q) (IsSpreadRow (live_at t slot.0) p q)
-          → MatchBool (m || r) (Gained p0 q) (IsQuiet new q)
-      found true r a b = gained_on A p0 p q a spreads
-      found false true a b = subst (λ f. Gained f q) a.same b
-      found false false a b = quiet a b
+    found : (m r : Bool) → MatchBool m (Gained p0 p) (IsQuiet o n t ages p0 old p)
+        → MatchBool r (Gained p q) (IsSpreadRow (live_at t slot.0) p q)
+        → MatchBool (m || r) (Gained p0 q) (IsQuiet o n t ages p0 new q)
+    found true r a b = gained_on (IsEdge o (row_at t)) p0 p q a spreads
+    found false true a b = subst (λ f. Gained f q) a.same b
+    found false false a b = quiet a b
 
-      pub spread_row : IsSpreading new before after q (more || row_more)
-      spread_row = record {
-        under = goes_on t ages n kind.Dependent t old new before slot steps after s.under gives on counted;
-        spreads = spreads_on A p0 p q s.spreads spreads;
-        found = found more row_more s.found row;
-      }
+    pub spread_row : {after : ℕ} (row_more : Bool) → IsOn t new
+        → after + length (clumps_to_come t ages new) ≡ steps + length (clumps_to_come t ages old)
+        → MatchBool row_more (Gained p q) (IsSpreadRow (live_at t slot.0) p q)
+        → IsSpreading o n t ages p0 new before after q (more || row_more)
+    spread_row row_more on counted row = record {
+      under = goes_on s.under gives on counted;
+      spreads = spreads_on (IsEdge o (row_at t)) p0 p q s.spreads spreads;
+      found = found more row_more s.found row;
+    }
 
-    module _ (old new : DueRows) (before steps after : ℕ) (p : Addr → Bool) (more : Bool)
-        (s : IsSpreading old before steps p more) (ends : Ends t ages old new) where
-      at_end : (m : Bool) → MatchBool m (Gained p0 p) (IsQuiet old p)
-          → MatchBool m (Gained p0 p) (IsSpread (row_at t) ages n p0 p)
-      at_end true a = a
-      at_end false a = record {
-        same = a.same;
-        followed = λ slot h stands role_is due.
-            a.followed slot h stands role_is due
-            (all_past t ages n kind.Dependent t old new before steps after s.under ends slot);
-      }
+  module _ {old new : DueRows} {before steps : ℕ} {p : Addr → Bool} {more : Bool}
+      (s : IsSpreading o n t ages p0 old before steps p more) (ends : Ends t ages old new) where
+    at_end : (m : Bool) → MatchBool m (Gained p0 p) (IsQuiet o n t ages p0 old p)
+        → MatchBool m (Gained p0 p) (IsSpread (row_at t) ages n p0 p)
+    at_end true a = a
+    at_end false a = record {
+      same = a.same;
+      followed = λ slot h stands role_is due.
+          a.followed slot h stands role_is due
+          (all_past s.under ends slot);
+    }
 
-      pub spread_end : MatchBool more (Gained p0 p) (IsSpread (row_at t) ages n p0 p)
-      spread_end = at_end more s.found
+    pub spread_end : MatchBool more (Gained p0 p) (IsSpread (row_at t) ages n p0 p)
+    spread_end = at_end more s.found

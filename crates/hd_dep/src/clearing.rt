@@ -1,17 +1,14 @@
-ghost use Rattle.std.specs.Prelude.{◌≡◌, ◌+◌, ◌*◌, ◌&&◌, ◌≤◌, length, IsSome, true};
+ghost use Rattle.std.specs.Prelude.{◌≡◌, ◌+◌, ◌*◌, ◌&&◌, ◌≤◌, IsSome, true};
 ghost use Rattle.std.specs.FinMap.{get};
 ghost use Rattle.std.specs.Option.{ForSome};
 ghost use Rattle.hd_model.specs.declared.data.Kind.TheVariants as kind;
 ghost use Rattle.hd_model.specs.Heap.{objects_of};
 ghost use Rattle.hd_model.specs.Scene.{is_object};
 ghost use Rattle.hd_model.specs.Table.{live_at, row_at};
-ghost use Rattle.hd_model.specs.Names.{NamesObjects};
-ghost use Rattle.hd_model.specs.Visits.{IsSameTable, visits_of};
-ghost use Rattle.hd_model.specs.Ages.{HasSoundAges};
+ghost use Rattle.hd_model.specs.Visits.{IsSameTable, MayVisitDue, visits_of};
 ghost use Rattle.hd_model.specs.Collect.{is_lost};
 ghost use Rattle.hd_model.specs.Counting.{Counts};
 ghost use Rattle.hd_seg.specs.Rewriting.{Rewrites};
-ghost use Rattle.hd_ages.specs.Clumps.{CoversTable};
 ghost use Rattle.hd_dep.specs.Clearing.{IsDetached, IsAllDetached, IsDetachedAt, IsLostAt, detached};
 
 use hd_ages::{AgeMap, DueRows};
@@ -30,10 +27,7 @@ pub fn clear<M: Marker, L: Ledger>(
     steps: &mut Steps<L>,
 ) -> u32
     requires settled { M.settled marker.now }
-    requires generation { (M.basis marker.now).condemned ≡ n }
-    requires names { NamesObjects (objects_of (M.basis marker.now)) (row_at seg.old) }
-    requires blocks { CoversTable ages.now seg.old }
-    requires ages_sound { HasSoundAges (objects_of (M.basis marker.now)) (row_at seg.old) ages.now }
+    requires due { MayVisitDue (M.basis marker.now) seg.old ages.now n }
     ensures detached { IsDetached ages.now n (M.promoted marker.now) (row_at seg.old)
         (row_at seg.new) }
     ensures table { IsSameTable seg.old seg.new }

@@ -1,4 +1,4 @@
-ghost use Rattle.std.specs.Prelude.{◌≡◌, ◌+◌, ◌*◌, ◌&&◌, not, length, true, Some};
+ghost use Rattle.std.specs.Prelude.{◌≡◌, ◌+◌, ◌*◌, ◌&&◌, not, true, Some};
 ghost use Rattle.std.specs.Prelude.{IsSome, IfSome, IfNone, MatchBool};
 ghost use Rattle.std.specs.FinMap.{get};
 ghost use Rattle.hd_model.specs.declared.data.Addr.{Addr};
@@ -7,13 +7,11 @@ ghost use Rattle.hd_model.specs.Heap.{objects_of};
 ghost use Rattle.hd_model.specs.Leads.{IsClosed, IsClosure};
 ghost use Rattle.hd_model.specs.State.{secondary_of};
 ghost use Rattle.hd_model.specs.Scene.{IsField, is_object};
-ghost use Rattle.hd_model.specs.Reach.{IsArrow};
+ghost use Rattle.hd_model.specs.Reach.{IsEdge};
 ghost use Rattle.hd_model.specs.Table.{live_at, row_at};
 ghost use Rattle.hd_model.specs.Names.{NamesObjects};
-ghost use Rattle.hd_model.specs.Visits.{visits_of};
-ghost use Rattle.hd_model.specs.Ages.{HasSoundAges};
+ghost use Rattle.hd_model.specs.Visits.{MayVisit, MayVisitDue, visits_of};
 ghost use Rattle.hd_seg.specs.Row.{extra_of};
-ghost use Rattle.hd_ages.specs.Clumps.{CoversTable};
 ghost use Rattle.hd_dep.specs.Rescan.{RescanSteps, Spreads, Gained, IsSpread, IsSpreadRow};
 
 use hd_ages::{AgeMap, DueRows};
@@ -34,15 +32,12 @@ pub fn rescan<M: Marker, L: Ledger>(
     steps: &mut Steps<L>,
 )
     requires settled { M.settled marker.old }
-    requires generation { (M.basis marker.old).condemned ≡ n }
-    requires names { NamesObjects (objects_of (M.basis marker.old)) (row_at seg.now) }
-    requires blocks { CoversTable ages.now seg.now }
+    requires due { MayVisitDue (M.basis marker.old) seg.now ages.now n }
     requires fields { IsClosed (IsField (objects_of (M.basis marker.old))) (M.promoted marker.old) }
-    requires ages_sound { HasSoundAges (objects_of (M.basis marker.old)) (row_at seg.now) ages.now }
     ensures settled { M.settled marker.new }
     ensures basis { M.basis marker.new ≡ M.basis marker.old }
     ensures pinned { M.pinned marker.new ≡ M.pinned marker.old }
-    ensures closure { IsClosure (IsArrow (objects_of (M.basis marker.old)) (row_at seg.now))
+    ensures closure { IsClosure (IsEdge (objects_of (M.basis marker.old)) (row_at seg.now))
         (M.promoted marker.old) (M.promoted marker.new) }
     ensures steps { RescanSteps (visits_of seg.now ages.now n kind.Dependent)
         (M.promoted marker.old) (M.promoted marker.new) steps.old steps.new }
@@ -62,12 +57,11 @@ fn spread<M: Marker, L: Ledger>(
     steps: &mut Steps<L>,
 ) -> bool
     requires settled { M.settled marker.old }
-    requires names { NamesObjects (objects_of (M.basis marker.old)) (row_at seg.now) }
-    requires blocks { CoversTable ages.now seg.now }
+    requires visit { MayVisit (M.basis marker.old) seg.now ages.now n }
     ensures settled { M.settled marker.new }
     ensures basis { M.basis marker.new ≡ M.basis marker.old }
     ensures pinned { M.pinned marker.new ≡ M.pinned marker.old }
-    ensures spreads { Spreads (IsArrow (objects_of (M.basis marker.old)) (row_at seg.now))
+    ensures spreads { Spreads (IsEdge (objects_of (M.basis marker.old)) (row_at seg.now))
         (M.promoted marker.old) (M.promoted marker.new) }
     ensures more { MatchBool result (Gained (M.promoted marker.old) (M.promoted marker.new))
         (IsSpread (row_at seg.now) ages.now n (M.promoted marker.old) (M.promoted marker.new)) }
@@ -91,7 +85,7 @@ fn spread_row<M: Marker>(seg: &Seg, slot: Slot, marker: &mut M) -> bool
     ensures settled { M.settled marker.new }
     ensures basis { M.basis marker.new ≡ M.basis marker.old }
     ensures pinned { M.pinned marker.new ≡ M.pinned marker.old }
-    ensures spreads { Spreads (IsArrow (objects_of (M.basis marker.old)) (row_at seg.now))
+    ensures spreads { Spreads (IsEdge (objects_of (M.basis marker.old)) (row_at seg.now))
         (M.promoted marker.old) (M.promoted marker.new) }
     ensures more { MatchBool result (Gained (M.promoted marker.old) (M.promoted marker.new))
         (IsSpreadRow (live_at seg.now slot.0) (M.promoted marker.old) (M.promoted marker.new)) }

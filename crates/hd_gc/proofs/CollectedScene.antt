@@ -8,7 +8,7 @@ use Rattle.std.proofs.Math.Seq.{drop-append_seam}
 use Rattle.std.proofs.lemmas.List.{length-map}
 use Rattle.hd_model.specs.declared.data.Id.{Id}
 use Rattle.hd_model.specs.declared.data.Addr.{Addr}
-use Rattle.hd_model.specs.declared.data.Kind.TheVariants as kind
+use Rattle.hd_model.specs.Kinds.{all_kinds}
 use Rattle.hd_model.specs.declared.data.Report.{Report}
 use Rattle.hd_model.specs.State.{Object, Handle, rename_object, rename_handle}
 use Rattle.hd_model.specs.Role.{holds, role}
@@ -16,12 +16,11 @@ use Rattle.hd_model.specs.Counting.{Counts}
 use Rattle.hd_model.specs.Scene.{Scene, is_object, IsWhole, IsReading, IsCondemned, generation_at}
 use Rattle.hd_model.specs.Reach.{IsPinned, held}
 use Rattle.hd_model.specs.Collect.{is_lost, loses_by, loses, is_attaching, survivor, cleared, left_by, Collects}
-use Rattle.hd_model.specs.Moving.{IsMoved}
 use Rattle.hd_model.specs.Ages.{is_due, raised, HasSoundAges}
 use Rattle.hd_model.specs.Heap.{Heap, Basis, Placed, object_at, object_in, region_generation, region_of, has_object, id_at, used_of, HasIdentities}
 use Rattle.hd_model.specs.Compact.{IsCompact}
 use Rattle.hd_model.specs.Table.{Table, Queue, row_at}
-use Rattle.hd_model.specs.Visits.{visits_of, IsSameTable}
+use Rattle.hd_model.specs.Visits.{visits_over, IsSameTable}
 use Rattle.hd_model.proofs.PropertyCounts.{counts_le, counts_once, counts_where, counts_named}
 use Rattle.hd_model.proofs.KindExtras.{pins_hold}
 use Rattle.hd_model.proofs.PinTest.{pinned_held}
@@ -36,12 +35,12 @@ use Rattle.hd_plan.specs.Plan.{PlanOf, kept_in, place_in, stays_in}
 use Rattle.hd_plan.specs.Commit.{moved_object}
 use Rattle.hd_plan.specs.PackedRegions.{IsPacked}
 use Rattle.hd_gc.specs.declared.mark_and_clear.Found.{Found}
-use Rattle.hd_gc.specs.Ready.{scene_at, IsReady}
-use Rattle.hd_gc.specs.Steps.{MarkAndClearSteps, CollectSteps, moving_visits}
+use Rattle.hd_gc.specs.Ready.{Parts, scene_of, IsReady}
+use Rattle.hd_gc.specs.Steps.{MarkAndClearSteps, CollectSteps}
 use Rattle.hd_gc.specs.MarkAndClear.{MarkedAndCleared, Reports}
 use Rattle.hd_gc.specs.RelocateAll.{RelocatedAll}
 use Rattle.hd_gc.specs.Collected.{Collected, LeavesPacked}
-use Rattle.hd_model.proofs.EqualTables.{visits_same, same_table_on}
+use Rattle.hd_model.proofs.EqualTables.{visits_alike, same_table_on}
 use Rattle.hd_model.proofs.RowReferences.{fades_cleared, faded_ages}
 use Rattle.hd_gc.proofs.LostRegistrations.{same_used, same_full}
 use Rattle.hd_model.proofs.PinnedTargets.{counts_objects, pinned_count}
@@ -82,17 +81,17 @@ placed h x e = by (get h.objects x.0) refl e
     by None at k = absurd (true≢false (sym k))
     by (Some p) at k = (p, at)
 
-module _ (h h2 : Heap) (t t2 t3 : Table) (ages ages2 : List ℕ) (q q2 q3 : Queue)
-    (roots roots2 : List (Option Addr)) (n : ℕ) (plan : PlanOf) (found : Found) (report : Report)
-    (joined s0 s1 s2 : ℕ) (ready : IsReady h t ages q roots)
-    (sf : MarkedAndCleared h t t2 ages q q2 roots n plan found s0 s1) (rp : Reports plan found report)
-    (sh : RelocatedAll h h2 t2 t3 ages ages2 q2 q3 roots roots2 plan joined n s1 s2)
-    (joined_is : joined ≡ length q.waiting) where
+module _ {A Z : Parts} {t2 : Table} {q2 : Queue} {n : ℕ} {plan : PlanOf} {found : Found} {report : Report}
+    {joined s0 s1 s2 : ℕ} (ready : IsReady A)
+    (sf : MarkedAndCleared A (record A { table = t2; queue = q2 }) n plan found s0 s1)
+    (rp : Reports plan found report)
+    (sh : RelocatedAll (record A { table = t2; queue = q2 }) Z plan joined n s1 s2)
+    (joined_is : joined ≡ length A.queue.waiting) where
   abbrev S : Scene Addr
-  S = scene_at h t roots q.waiting
+  S = scene_of A
 
   abbrev T : Scene Addr
-  T = scene_at h2 t3 roots2 q3.waiting
+  T = scene_of Z
 
   abbrev Left : Scene Addr
   Left = left_by n sf.sets.reach sf.sets.revived sf.sets.kept sf.sets.joins S
@@ -101,20 +100,20 @@ module _ (h h2 : Heap) (t t2 t3 : Table) (ages ages2 : List ℕ) (q q2 q3 : Queu
   Place = place_in plan
 
   abbrev Rank : Addr → ℕ
-  Rank x = (id_at h x).0
+  Rank x = (id_at A.heap x).0
 
   -- those that joined last are those that were resurrected
-  unregisters : Unregisters sf.sets.joins h sh.middle
+  unregisters : Unregisters sf.sets.joins A.heap sh.middle
   unregisters =
-      subst (λ xs. Unregisters xs h sh.middle)
-      ((λ i. drop (joined_is i) (sf.queue i).waiting) ∙ drop-append_seam q.waiting sf.sets.joins)
+      subst (λ xs. Unregisters xs A.heap sh.middle)
+      ((λ i. drop (joined_is i) (sf.queue i).waiting) ∙ drop-append_seam A.queue.waiting sf.sets.joins)
       sh.unregisters
 
-  object_middle : (x : Addr) → object_at sh.middle x ≡ registered_by (sf.sets.revived x) (object_at h x)
+  object_middle : (x : Addr) → object_at sh.middle x ≡ registered_by (sf.sets.revived x) (object_at A.heap x)
   unfolding registered_by
   object_middle x = by (sf.sets.revived x) refl
     where
-      by : (b : Bool) → sf.sets.revived x ≡ b → object_at sh.middle x ≡ registered_by b (object_at h x)
+      by : (b : Bool) → sf.sets.revived x ≡ b → object_at sh.middle x ≡ registered_by b (object_at A.heap x)
       by true e = unregisters.among x ((sf.sets.joins_are x).0 e)
       by false e =
           unregisters.others x (λ inside. true≢false (sym ((sf.sets.joins_are x).1 inside) ∙ e))
@@ -126,53 +125,54 @@ module _ (h h2 : Heap) (t t2 t3 : Table) (ages ages2 : List ℕ) (q q2 q3 : Queu
       → T.object (Place x) ≡ option_map (rename_object Place) (Left.object x)
   object_moved x e =
       let kept : kept_in plan x
-      ≡ true = left_kept h t t2 ages q q2 roots n plan found report s0 s1 ready sf rp x e
+      ≡ true = left_kept ready sf rp x e
       in
       sh.commits.objects x kept
       ∙ (λ i. option_map (moved_object Place (generation_is i)) (object_middle x i))
-      ∙ moved_survivor Place n (sf.sets.revived x) (object_at h x)
+      ∙ moved_survivor Place n (sf.sets.revived x) (object_at A.heap x)
       ∙ ap (option_map (rename_object Place))
-      (sym (cond-true (sf.sets.kept x) (option_map (survivor n (sf.sets.revived x)) (object_at h x)) None
+      (sym (cond-true (sf.sets.kept x) (option_map (survivor n (sf.sets.revived x)) (object_at A.heap x)) None
       (sym (sf.plan_kept x) ∙ kept)))
 
   -- what is kept is in what is left
   in_left : (x : Addr) → kept_in plan x ≡ true → is_object Left.object x ≡ true
   in_left x kept =
       ap is_some (cond-true (sf.sets.kept x)
-      (option_map (survivor n (sf.sets.revived x)) (object_at h x)) None (sym (sf.plan_kept x) ∙ kept))
-      ∙ by (object_at h x) ∙ sf.keeping.objects x kept
+      (option_map (survivor n (sf.sets.revived x)) (object_at A.heap x)) None (sym (sf.plan_kept x) ∙ kept))
+      ∙ by (object_at A.heap x) ∙ sf.keeping.objects x kept
     where
       by : (o : Option (Object Addr)) → is_some (option_map (survivor n (sf.sets.revived x)) o) ≡ is_some o
       by None = refl
       by (Some o) = refl
 
-  ages_after : HasSoundAges (object_at h) (row_at t2) ages
+  ages_after : HasSoundAges (object_at A.heap) (row_at t2) A.ages
   ages_after =
-      faded_ages (row_at t) (row_at t2) (object_at h)
-      (fades_cleared (row_at t) (row_at t2) sf.sets.reach sf.sets.kept sf.rows) ages ready.ages_sound
+      faded_ages (row_at A.table) (row_at t2) (object_at A.heap)
+      (fades_cleared (row_at A.table) (row_at t2) sf.sets.reach sf.sets.kept sf.rows) A.ages ready.ages_sound
 
   row_renamed : (slot : ℕ) (o : Option (Handle Addr)) → row_at t2 slot ≡ o
-      → option_map (λ g. cond (is_due ages n slot) (rename_handle Place g) g) o
+      → option_map (λ g. cond (is_due A.ages n slot) (rename_handle Place g) g) o
       ≡ option_map (rename_handle Place) o
   row_renamed slot None e = refl
-  row_renamed slot (Some g) e = by (is_due ages n slot) refl
+  row_renamed slot (Some g) e = by (is_due A.ages n slot) refl
     where
-      by : (due : Bool) → is_due ages n slot ≡ due
+      by : (due : Bool) → is_due A.ages n slot ≡ due
           → Some (cond due (rename_handle Place g) g) ≡ Some (rename_handle Place g)
       by true at = refl
       by false at =
           ap (λ k. Some k)
-          (sym (undue_in_place (object_at h) n (row_at t2) ages ages_after slot g e at Place
+          (sym (undue_in_place (object_at A.heap) n (row_at t2) A.ages ages_after slot g e at Place
           sf.keeping.in_place))
 
-  pub moved : IsMoved n sf.sets.reach sf.sets.revived sf.sets.kept sf.sets.joins Place S T
+  pub moved :
+      IsReading Place (left_by n sf.sets.reach sf.sets.revived sf.sets.kept sf.sets.joins S) T
   moved = record {
     objects = object_moved;
     only = λ b e.
         let (x, both) = sh.commits.only b e in (x, (in_left x both.0, both.1));
     apart = λ x y a b same.
-        sf.keeping.apart x y (left_kept h t t2 ages q q2 roots n plan found report s0 s1 ready sf rp x a)
-        (left_kept h t t2 ages q q2 roots n plan found report s0 s1 ready sf rp y b) same;
+        sf.keeping.apart x y (left_kept ready sf rp x a)
+        (left_kept ready sf rp y b) same;
     handles = λ slot.
         sh.rows slot ∙ row_renamed slot (row_at t2 slot) refl
         ∙ ap (option_map (rename_handle Place)) (sf.rows slot);
@@ -180,41 +180,41 @@ module _ (h h2 : Heap) (t t2 t3 : Table) (ages ages2 : List ℕ) (q q2 q3 : Queu
     queue = ap (λ (p : Queue). p.waiting) sh.queue ∙ ap (λ (p : Queue). map Place p.waiting) sf.queue;
   }
 
-  same_id : (x : Addr) → kept_in plan x ≡ true → id_at h2 (Place x) ≡ id_at h x
+  same_id : (x : Addr) → kept_in plan x ≡ true → id_at Z.heap (Place x) ≡ id_at A.heap x
   same_id x kept = sh.commits.ids x kept ∙ unregisters.ids x
 
-  pub collects : (u v : Scene Id) → IsReading (id_at h) S u → IsReading (id_at h2) T v
+  pub collects : (u v : Scene Id) → IsReading (id_at A.heap) S u → IsReading (id_at Z.heap) T v
       → Collects (λ (x : Id). x.0) n u v report
   collects u v fs gt =
-      moved_by_identity (id_at h) (id_at h2) n S T u v sf.sets.reach sf.sets.revived sf.sets.kept
-      sf.sets.joins report Place (len h.objects) (counts_objects h) ready.whole fs gt
-      (goes_by h t t2 ages q q2 roots n plan found report s0 s1 ready sf rp) moved
+      moved_by_identity (id_at A.heap) (id_at Z.heap) n S T u v sf.sets.reach sf.sets.revived sf.sets.kept
+      sf.sets.joins report Place (len A.heap.objects) (counts_objects A.heap) ready.whole fs gt
+      (goes_by ready sf rp) moved
       (λ x kept. same_id x (sf.plan_kept x ∙ kept))
 
   whole_after : IsWhole T
   whole_after =
       moved_whole Rank n S T sf.sets.reach sf.sets.revived sf.sets.kept sf.sets.joins report Place
-      ready.whole (goes_by h t t2 ages q q2 roots n plan found report s0 s1 ready sf rp) moved
+      ready.whole (goes_by ready sf rp) moved
 
-  identities_after : HasIdentities h2
+  identities_after : HasIdentities Z.heap
   identities_after a b p r at_a at_b same =
       let left : (x : Addr) × ((kept_in plan x ≡ true) × (Place x ≡ record { 0 = a })) =
       sh.commits.only (record { 0 = a })
-      (ap (λ o. is_some (option_map (object_in (region_generation h2 (region_of (record { 0 = a })))) o))
+      (ap (λ o. is_some (option_map (object_in (region_generation Z.heap (region_of (record { 0 = a })))) o))
       at_a) in
       let right : (y : Addr) × ((kept_in plan y ≡ true) × (Place y ≡ record { 0 = b })) =
       sh.commits.only (record { 0 = b })
-      (ap (λ o. is_some (option_map (object_in (region_generation h2 (region_of (record { 0 = b })))) o))
+      (ap (λ o. is_some (option_map (object_in (region_generation Z.heap (region_of (record { 0 = b })))) o))
       at_b) in
       let x : Addr = left.0 in
       let y : Addr = right.0 in
-      let (px, at_x) = placed h x (sf.keeping.objects x left.1.0) in
-      let (py, at_y) = placed h y (sf.keeping.objects y right.1.0) in
-      let id_a : id_at h x ≡ p.id =
-      sym (same_id x left.1.0) ∙ ap (id_at h2) left.1.1
+      let (px, at_x) = placed A.heap x (sf.keeping.objects x left.1.0) in
+      let (py, at_y) = placed A.heap y (sf.keeping.objects y right.1.0) in
+      let id_a : id_at A.heap x ≡ p.id =
+      sym (same_id x left.1.0) ∙ ap (id_at Z.heap) left.1.1
       ∙ ap Rattle.hd_model.specs.Heap.id_in at_a in
-      let id_b : id_at h y ≡ r.id =
-      sym (same_id y right.1.0) ∙ ap (id_at h2) right.1.1
+      let id_b : id_at A.heap y ≡ r.id =
+      sym (same_id y right.1.0) ∙ ap (id_at Z.heap) right.1.1
       ∙ ap Rattle.hd_model.specs.Heap.id_in at_b in
       let ids : px.id ≡ py.id =
       sym (ap Rattle.hd_model.specs.Heap.id_in at_x) ∙ id_a ∙ same ∙ sym id_b
@@ -224,76 +224,76 @@ module _ (h h2 : Heap) (t t2 t3 : Table) (ages ages2 : List ℕ) (q q2 q3 : Queu
       ap (λ (z : Addr). z.0) (sym left.1.1 ∙ ap Place names ∙ right.1.1)
 
   -- as many objects are there after it as are kept
-  few_objects : len h2.objects ≤ len h.objects
+  few_objects : len Z.heap.objects ≤ len A.heap.objects
   few_objects =
       let (k, of_k) =
-      counts_where (λ x. is_object (object_at h) x ≡ true) (kept_in plan) (len h.objects) (counts_objects h)
+      counts_where (λ x. is_object (object_at A.heap) x ≡ true) (kept_in plan) (len A.heap.objects) (counts_objects A.heap)
       in
-      let arrived : Counts (λ x. is_object (object_at h2) x ≡ true) k =
-      counts_named Place (λ x. (is_object (object_at h) x ≡ true) × (kept_in plan x ≡ true))
-      (λ x. is_object (object_at h2) x ≡ true) k (λ x y a b e. sf.keeping.apart x y a.1 b.1 e)
+      let arrived : Counts (λ x. is_object (object_at Z.heap) x ≡ true) k =
+      counts_named Place (λ x. (is_object (object_at A.heap) x ≡ true) × (kept_in plan x ≡ true))
+      (λ x. is_object (object_at Z.heap) x ≡ true) k (λ x y a b e. sf.keeping.apart x y a.1 b.1 e)
       (λ x w. is_object_read Place Left T moved x (in_left x w.1))
       (λ b e. let (x, both) = sh.commits.only b e in
       (x, ((sf.keeping.objects x both.0, both.0), both.1))) of_k in
-      let same : k ≡ len h2.objects =
-      counts_once (λ x. is_object (object_at h2) x ≡ true) k (len h2.objects) arrived (counts_objects h2) in
-      let less : k ≤ len h.objects =
-      counts_le (λ x. (is_object (object_at h) x ≡ true) × (kept_in plan x ≡ true))
-      (λ x. is_object (object_at h) x ≡ true) k (len h.objects) (λ x w. w.0) of_k (counts_objects h) in
+      let same : k ≡ len Z.heap.objects =
+      counts_once (λ x. is_object (object_at Z.heap) x ≡ true) k (len Z.heap.objects) arrived (counts_objects Z.heap) in
+      let less : k ≤ len A.heap.objects =
+      counts_le (λ x. (is_object (object_at A.heap) x ≡ true) × (kept_in plan x ≡ true))
+      (λ x. is_object (object_at A.heap) x ≡ true) k (len A.heap.objects) (λ x w. w.0) of_k (counts_objects A.heap) in
       omega arith
 
-  table_after : IsSameTable t t3
-  table_after = same_table_on t t2 t3 sf.table sh.table
+  table_after : IsSameTable A.table Z.table
+  table_after = same_table_on A.table t2 Z.table sf.table sh.table
 
-  room_after : q3.room ≡ q.room
+  room_after : Z.queue.room ≡ A.queue.room
   room_after = ap (λ (p : Queue). p.room) sh.queue ∙ ap (λ (p : Queue). p.room) sf.queue
 
-  pub ready_after : IsReady h2 t3 ages2 q3 roots2
+  pub ready_after : IsReady Z
   ready_after = record {
     whole = whole_after;
     identities = identities_after;
     ages_sound =
-        subst (λ a. HasSoundAges (object_at h2) (row_at t3) a) (sym sh.aged)
+        subst (λ a. HasSoundAges (object_at Z.heap) (row_at Z.table) a) (sym sh.aged)
         (moved_ages Rank n S T sf.sets.reach sf.sets.revived sf.sets.kept sf.sets.joins report Place
-        ready.whole (goes_by h t t2 ages q q2 roots n plan found report s0 s1 ready sf rp) moved ages
+        ready.whole (goes_by ready sf rp) moved A.ages
         ready.ages_sound);
     cards_sound = λ x y field younger.
         (sh.commits.cards (Rattle.hd_model.specs.Heap.card_of x)).1
         (record { from = x; to = y; in_card = refl; field = field; younger = younger });
-    full = sh.commits.full (same_full sf.sets.joins h sh.middle unregisters ready.full);
+    full = sh.commits.full (same_full sf.sets.joins A.heap sh.middle unregisters ready.full);
     clumps =
-        ap length sh.aged ∙ length-map ages (raised n) ∙ ready.clumps
+        ap length sh.aged ∙ length-map A.ages (raised n) ∙ ready.clumps
         ∙ ap (λ b. 4 * b) (sym table_after.blocks);
     room = omega (arith, few_objects, room_after, ready.room);
   }
 
-  pinned_kept : (x : Addr) → IsPinned (row_at t) x → kept_in plan x ≡ true
+  pinned_kept : (x : Addr) → IsPinned (row_at A.table) x → kept_in plan x ≡ true
   pinned_kept x p =
       sf.plan_kept x
       ∙ (sf.sets.kept_is x).1
-      (reached_kept n S x (root_reached n S x (held (pinned_held (row_at t) x p))))
+      (reached_kept n S x (root_reached n S x (held (pinned_held (row_at A.table) x p))))
 
-  pinned_stays : (x : Addr) → IsPinned (row_at t) x → (has_object h2 x ≡ true) × (id_at h2 x ≡ id_at h x)
+  pinned_stays : (x : Addr) → IsPinned (row_at A.table) x → (has_object Z.heap x ≡ true) × (id_at Z.heap x ≡ id_at A.heap x)
   pinned_stays x p =
       let kept : kept_in plan x ≡ true = pinned_kept x p in
       let here : Place x ≡ x = sf.pinned x p in (
-        subst (λ (y : Addr). has_object h2 y ≡ true) here
+        subst (λ (y : Addr). has_object Z.heap y ≡ true) here
             (is_object_read Place Left T moved x (in_left x kept)),
-        subst (λ (y : Addr). id_at h2 y ≡ id_at h x) here (same_id x kept),
+        subst (λ (y : Addr). id_at Z.heap y ≡ id_at A.heap x) here (same_id x kept),
       )
 
-  older_stays : (x : Addr) → n < generation_at (object_at h) x
-      → (has_object h2 x ≡ true) × (id_at h2 x ≡ id_at h x)
+  older_stays : (x : Addr) → n < generation_at (object_at A.heap) x
+      → (has_object Z.heap x ≡ true) × (id_at Z.heap x ≡ id_at A.heap x)
   older_stays x old =
       let kept : kept_in plan x ≡ true = sf.keeping.older x old in
       let here : Place x ≡ x = sf.keeping.in_place x old in (
-        subst (λ (y : Addr). has_object h2 y ≡ true) here
+        subst (λ (y : Addr). has_object Z.heap y ≡ true) here
             (is_object_read Place Left T moved x (in_left x kept)),
-        subst (λ (y : Addr). id_at h2 y ≡ id_at h x) here (same_id x kept),
+        subst (λ (y : Addr). id_at Z.heap y ≡ id_at A.heap x) here (same_id x kept),
       )
 
   -- a handle that pins still pins the same object
-  still_pinned : (x : Addr) → IsPinned (row_at t) x → IsPinned (row_at t3) x
+  still_pinned : (x : Addr) → IsPinned (row_at A.table) x → IsPinned (row_at Z.table) x
   still_pinned x p =
       let holding : role p.handle ≡ holds = pins_hold p.handle.kind p.handle.extra p.pins in
       let target : loses sf.sets.reach sf.sets.kept p.handle ≡ false =
@@ -314,18 +314,18 @@ module _ (h h2 : Heap) (t t2 t3 : Table) (ages ages2 : List ℕ) (q q2 q3 : Queu
         target = ap (option_map Place) p.target ∙ ap (λ y. Some y) (sf.pinned x p);
       }
 
-  packed_after : LeavesPacked h h2 t n
+  packed_after : LeavesPacked A.heap Z.heap A.table n
   packed_after = record {
     pinned = stays_in plan;
     pinned_is = sf.stays;
-    regions = subst (λ k. IsPacked h h2 k (stays_in plan)) generation_is
+    regions = subst (λ k. IsPacked A.heap Z.heap k (stays_in plan)) generation_is
         (packed_like
-        (subst (λ (g : Heap). IsPacked g h2 plan.basis.condemned (stays_in plan)) unregisters.same
+        (subst (λ (g : Heap). IsPacked g Z.heap plan.basis.condemned (stays_in plan)) unregisters.same
         sh.commits.packed));
   }
     where
-      packed_like : {k stays : ℕ} → IsPacked (record h { objects = sh.middle.objects }) h2 k stays
-          → IsPacked h h2 k stays
+      packed_like : {k stays : ℕ} → IsPacked (record A.heap { objects = sh.middle.objects }) Z.heap k stays
+          → IsPacked A.heap Z.heap k stays
       packed_like p = record {
         older = p.older;
         regions = p.regions;
@@ -335,49 +335,35 @@ module _ (h h2 : Heap) (t t2 t3 : Table) (ages ages2 : List ℕ) (q q2 q3 : Queu
         few = p.few;
       }
 
-  compact_after : n ≡ 2 → IsCompact h2 (row_at t3)
+  compact_after : n ≡ 2 → IsCompact Z.heap (row_at Z.table)
   compact_after two =
-      let (a, before) = pinned_count h t (λ x p. ready.whole.targets p.slot p.handle x p.stands p.target) in
+      let (a, before) = pinned_count A.heap A.table (λ x p. ready.whole.targets p.slot p.handle x p.stands p.target) in
       let (b, after) =
-      pinned_count h2 t3 (λ x p. whole_after.targets p.slot p.handle x p.stands p.target) in
+      pinned_count Z.heap Z.table (λ x p. whole_after.targets p.slot p.handle x p.stands p.target) in
       let few : stays_in plan ≤ a =
-      counts_le (λ x. IsCondemned (object_at h) n x × IsPinned (row_at t) x) (IsPinned (row_at t))
+      counts_le (λ x. IsCondemned (object_at A.heap) n x × IsPinned (row_at A.table) x) (IsPinned (row_at A.table))
       (stays_in plan) a (λ x w. w.1) sf.stays before in
-      let more : a ≤ b = counts_le (IsPinned (row_at t)) (IsPinned (row_at t3)) a b still_pinned before after
+      let more : a ≤ b = counts_le (IsPinned (row_at A.table)) (IsPinned (row_at Z.table)) a b still_pinned before after
       in
-      let regions : len h2.regions ≤ used_of h2 / 193 + 3 + stays_in plan =
+      let regions : len Z.heap.regions ≤ used_of Z.heap / 193 + 3 + stays_in plan =
       sh.commits.compact (generation_is ∙ two) in
       record { pinned = b; pinned_is = after; regions = omega arith }
 
-  moving_steps : s2 ≡ s1 + moving_visits t ages n
-  moving_steps =
-      omega (
-        arith,
-        sh.steps,
-        visits_same t t2 ages n kind.Short sf.table,
-        visits_same t t2 ages n kind.Long sf.table,
-        visits_same t t2 ages n kind.Strong sf.table,
-        visits_same t t2 ages n kind.Pinned sf.table,
-        visits_same t t2 ages n kind.Variable sf.table,
-        visits_same t t2 ages n kind.Counted sf.table,
-        visits_same t t2 ages n kind.Dependent sf.table,
-      )
+  moving_steps : s2 ≡ s1 + visits_over A.table A.ages n all_kinds
+  moving_steps = sh.steps ∙ ap (λ v. s1 + v) (visits_alike A.table t2 A.ages n all_kinds sf.table)
 
-  steps_after : CollectSteps t ages n report.kept s0 s2
+  steps_after : CollectSteps A.table A.ages n report.kept s0 s2
   steps_after =
-      let first : MarkAndClearSteps t ages n report.kept s0 s1 =
-      sf.steps report.kept
-      (goes_by h t t2 ages q q2 roots n plan found report s0 s1 ready sf rp).report_is.kept in
-      let v : ℕ = visits_of t ages n kind.Dependent in
-      let product : (first.passes + 2) * v ≡ first.passes * v + 2 * v = add-mul first.passes 2 v in
+      let first : MarkAndClearSteps A.table A.ages n report.kept s0 s1 =
+      sf.steps report.kept (goes_by ready sf rp).report_is.kept in
       record {
-        passes = first.passes + 2;
-        least = omega (arith, first.least);
-        most = omega (arith, first.most);
-        steps_are = omega (arith, first.steps_are, moving_steps, product);
+        passes = first.passes;
+        least = first.least;
+        most = first.most;
+        steps_are = omega (arith, first.steps_are, moving_steps);
       }
 
-  pub collected : Collected h h2 t t3 ages ages2 q q3 roots roots2 n report s0 s2
+  pub collected : Collected A Z n report s0 s2
   collected = record {
     collects = collects;
     ready = ready_after;
@@ -385,7 +371,7 @@ module _ (h h2 : Heap) (t t2 t3 : Table) (ages ages2 : List ℕ) (q q2 q3 : Queu
     older = older_stays;
     aged = sh.aged;
     cards = sh.commits.cards;
-    used = le_trans sh.commits.used (same_used sf.sets.joins h sh.middle unregisters);
+    used = le_trans sh.commits.used (same_used sf.sets.joins A.heap sh.middle unregisters);
     limit = sh.commits.limit ∙ ap (λ (g : Heap). g.limit) unregisters.same;
     table = table_after;
     room = room_after;

@@ -1,15 +1,13 @@
 -- Free regions are nothing to a collection.
-use Rattle.std.proofs.Common.{◌≡◌, ℕ, List, Option, sym, subst}
-use Rattle.hd_model.specs.declared.data.Addr.{Addr}
+use Rattle.std.proofs.Common.{◌≡◌, ℕ, List, sym, subst}
 use Rattle.hd_model.specs.declared.data.Report.{Report}
 use Rattle.hd_model.specs.Heap.{Heap}
-use Rattle.hd_model.specs.Table.{Table, Queue}
-use Rattle.hd_gc.specs.Ready.{IsReady}
+use Rattle.hd_gc.specs.Ready.{Parts, IsReady}
 use Rattle.hd_gc.specs.Collected.{Collected}
 
-ready_with : (h : Heap) (spare : List ℕ) (t : Table) (ages : List ℕ) (q : Queue) (roots : List (Option Addr))
-    → IsReady h t ages q roots → IsReady (record h { spare = spare }) t ages q roots
-ready_with h spare t ages q roots r = record {
+ready_with : {p : Parts} (spare : List ℕ) → IsReady p
+    → IsReady (record p { heap = record p.heap { spare = spare } })
+ready_with spare r = record {
   whole = r.whole;
   identities = r.identities;
   ages_sound = r.ages_sound;
@@ -21,16 +19,15 @@ ready_with h spare t ages q roots r = record {
   room = r.room;
 }
 
-pub ready_spared : (h k : Heap) (t : Table) (ages : List ℕ) (q : Queue) (roots : List (Option Addr))
-    → k ≡ record h { spare = k.spare } → IsReady h t ages q roots → IsReady k t ages q roots
-ready_spared h k t ages q roots same r =
-    subst (λ (g : Heap). IsReady g t ages q roots) (sym same) (ready_with h k.spare t ages q roots r)
+pub ready_spared : {p : Parts} {k : Heap} → k ≡ record p.heap { spare = k.spare } → IsReady p
+    → IsReady (record p { heap = k })
+ready_spared {p} {k} same r =
+    subst (λ (g : Heap). IsReady (record p { heap = g })) (sym same) (ready_with k.spare r)
 
-collected_with : (h h2 : Heap) (spare : List ℕ) (t t2 : Table) (ages ages2 : List ℕ) (q q2 : Queue)
-    (roots roots2 : List (Option Addr)) (n : ℕ) (report : Report) (a b : ℕ)
-    → Collected (record h { spare = spare }) h2 t t2 ages ages2 q q2 roots roots2 n report a b
-    → Collected h h2 t t2 ages ages2 q q2 roots roots2 n report a b
-collected_with h h2 spare t t2 ages ages2 q q2 roots roots2 n report a b c = record {
+collected_with : {p q : Parts} {spare : List ℕ} {n : ℕ} {report : Report} {a b : ℕ}
+    → Collected (record p { heap = record p.heap { spare = spare } }) q n report a b
+    → Collected p q n report a b
+collected_with c = record {
   collects = c.collects;
   ready = c.ready;
   pinned = c.pinned;
@@ -57,10 +54,9 @@ collected_with h h2 spare t t2 ages ages2 q q2 roots roots2 n report a b c = rec
   compact = c.compact;
 }
 
-pub collected_spared : (h k h2 : Heap) (t t2 : Table) (ages ages2 : List ℕ) (q q2 : Queue)
-    (roots roots2 : List (Option Addr)) (n : ℕ) (report : Report) (a b : ℕ) → k ≡ record h { spare = k.spare }
-    → Collected k h2 t t2 ages ages2 q q2 roots roots2 n report a b
-    → Collected h h2 t t2 ages ages2 q q2 roots roots2 n report a b
-collected_spared h k h2 t t2 ages ages2 q q2 roots roots2 n report a b same c =
-    collected_with h h2 k.spare t t2 ages ages2 q q2 roots roots2 n report a b
-    (subst (λ (g : Heap). Collected g h2 t t2 ages ages2 q q2 roots roots2 n report a b) same c)
+pub collected_spared : {p q : Parts} {k : Heap} {n : ℕ} {report : Report} {a b : ℕ}
+    → k ≡ record p.heap { spare = k.spare } → Collected (record p { heap = k }) q n report a b
+    → Collected p q n report a b
+collected_spared {p} {q} {k} {n} {report} {a} {b} same c =
+    collected_with {spare = k.spare}
+    (subst (λ (g : Heap). Collected (record p { heap = g }) q n report a b) same c)

@@ -1,53 +1,117 @@
--- The four tasks that promote what handles hold come to all handles that hold their target.
-use Rattle.std.proofs.Common.{◌≡◌, ℕ, true, refl, sym, ◌∙◌, subst, ⊎_elim, inl, inr, ◌⊎◌}
+-- The passes of the tasks that promote come to all handles that hold their target.
+use Rattle.std.proofs.Common.{◌≡◌, ◌||◌, ℕ, zero, suc, ◌+◌, ◌<◌, Bool, true, false, List, take, length, get_or, refl, sym, ◌∙◌, subst, ⊎_elim, inl, inr, arith}
+use Rattle.std.specs.Prelude.{MatchBool}
 use Rattle.hd_model.specs.declared.data.Addr.{Addr}
-use Rattle.hd_model.specs.Role.{holds}
+use Rattle.hd_model.specs.State.{Handle}
+use Rattle.hd_model.specs.Role.{holds, role}
 use Rattle.hd_model.specs.Scene.{Rows, IsYoungField}
 use Rattle.hd_model.specs.Reach.{IsHeld, IsPinned}
 use Rattle.hd_model.specs.Heap.{Basis, objects_of}
 use Rattle.hd_model.specs.Table.{Table, row_at}
-use Rattle.hd_model.proofs.EdgeChains.{grows_on, grows_like}
+use Rattle.hd_model.specs.Visits.{MayVisitDue}
+use Rattle.hd_model.proofs.EqualTables.{due_again}
+use Rattle.hd_model.proofs.EdgeChains.{grows_like}
 use Rattle.hd_model.proofs.KindExtras.{pins_hold}
+use Rattle.hd_mark.specs.Marks.{MarksOf, promoted_in, IsSettledMarks}
 use Rattle.hd_scan.specs.declared.task.Task.{Task}
-use Rattle.hd_scan.specs.declared.task.Task.TheVariants as task
-use Rattle.hd_scan.specs.Tasks.{task_role, takes}
-use Rattle.hd_scan.specs.Whole.{IsTargetOf, IsPinTargetOf, WholeRoots}
-use Rattle.hd_mark.specs.Marks.{MarksOf, promoted_in, pinned_in, IsSettledMarks}
+use Rattle.hd_scan.specs.Tasks.{is_clearing, root_tasks, takes, takes_any, has_role}
+use Rattle.hd_scan.specs.Passes.{Passed, ClearPass, RootPass}
+use Rattle.hd_scan.specs.Whole.{IsTargetOf, IsPinTargetOf, WholePass, WholeClear, WholeRoots}
+use Rattle.hd_scan.proofs.TaskRoles.{roots_cover}
+use Rattle.hd_scan.proofs.TestedPasses.{roots_none, roots_twice, taken_more}
 use Rattle.hd_gc.specs.Growing.{Holds}
-use Rattle.hd_gc.proofs.HandleRoles.{taken_role, held_taken}
+use Rattle.hd_gc.specs.Clearing.{marked_table}
+use Rattle.hd_gc.proofs.HandleRoles.{same_role, is_same_role}
 
--- what one of these tasks promotes and pins, over a basis
-abbrev pub RootsOf : Basis → Rows Addr → Task → MarksOf → MarksOf → Type 0
-RootsOf g rows t m k =
-    WholeRoots (objects_of g) rows g.condemned t (promoted_in m) (promoted_in k) (pinned_in m) (pinned_in k)
+-- passes have promoted the targets of what passes a test, from marks on
+pub record IsHolding (f : Handle Addr → Bool) (t now : Table) (m k : MarksOf) : Type 0 where
+  pub table : now ≡ t
+  pub settled : IsSettledMarks k
+  pub basis : k.basis ≡ m.basis
+  pub roots : WholeRoots (objects_of m.basis) m.basis.condemned f (marked_table t m) (marked_table t k)
 
--- the clauses of a pass, over the basis of the first marks and the first table
-pub rooted : (g : Basis) (table : Table) (t : Task) (m k : MarksOf) (n : ℕ) (after : Table) → m.basis ≡ g
-    → g.condemned ≡ n → after ≡ table
-    → WholeRoots (objects_of m.basis) (row_at after) n t (promoted_in m) (promoted_in k) (pinned_in m)
-    (pinned_in k)
-    → RootsOf g (row_at table) t m k
-rooted g table t m k n after basis generation same w =
-    subst (λ j. WholeRoots (objects_of g) (row_at table) j t (promoted_in m) (promoted_in k) (pinned_in m)
-    (pinned_in k)) (sym generation)
-    (subst (λ (u : Table). WholeRoots (objects_of g) (row_at u) n t (promoted_in m) (promoted_in k)
-    (pinned_in m) (pinned_in k)) same
-    (subst (λ (f : Basis). WholeRoots (objects_of f) (row_at after) n t (promoted_in m) (promoted_in k)
-    (pinned_in m) (pinned_in k)) basis w))
+pub none_held : (t : Table) (m : MarksOf) → IsSettledMarks m → IsHolding (λ h. false) t t m m
+none_held t m settled = record {
+  table = refl;
+  settled = settled;
+  basis = refl;
+  roots = roots_none (objects_of m.basis) m.basis.condemned (marked_table t m);
+}
 
+module _ {f : Handle Addr → Bool} {t now : Table} {m k : MarksOf} (done : IsHolding f t now m k) where
+  pub next_due : {ages : List ℕ} {n : ℕ} → MayVisitDue m.basis t ages n → MayVisitDue k.basis now ages n
+  next_due w = due_again done.basis done.table w
+
+  -- one pass more
+  pub held_by : (task : Task) {next : Table} {j : MarksOf} (ages : List ℕ) (n b : ℕ)
+      → is_clearing task ≡ false → m.basis.condemned ≡ n → IsSettledMarks j → j.basis ≡ k.basis
+      → Passed (objects_of k.basis) ages n task (marked_table now k) (marked_table next j) b
+      → WholePass (objects_of k.basis) n task (marked_table now k) (marked_table next j) b
+      → IsHolding (λ h. f h || takes task h) t next m j
+  held_by task {next} {j} ages n b clearing generation settled basis passed whole =
+      let pass : RootPass (objects_of k.basis) ages n task (marked_table now k) (marked_table next j) b =
+      subst (λ c. MatchBool c (ClearPass ages n task (marked_table now k) (marked_table next j) b)
+      (RootPass (objects_of k.basis) ages n task (marked_table now k) (marked_table next j) b)) clearing passed
+      in
+      let over : WholeRoots (objects_of k.basis) n (takes task) (marked_table now k) (marked_table next j) =
+      subst (λ c. MatchBool c (WholeClear (takes task) (marked_table now k) next b)
+      (WholeRoots (objects_of k.basis) n (takes task) (marked_table now k) (marked_table next j))) clearing
+      whole in
+      let here : WholeRoots (objects_of m.basis) m.basis.condemned (takes task) (marked_table t k)
+      (marked_table t j) =
+      subst (λ (u : Table). WholeRoots (objects_of m.basis) m.basis.condemned (takes task) (marked_table u k)
+      (marked_table u j)) done.table
+      (subst (λ (u : Table). WholeRoots (objects_of m.basis) m.basis.condemned (takes task)
+      (marked_table now k) (marked_table u j)) pass.table
+      (subst (λ (g : Basis). WholeRoots (objects_of g) m.basis.condemned (takes task) (marked_table now k)
+      (marked_table next j)) done.basis
+      (subst (λ c. WholeRoots (objects_of k.basis) c (takes task) (marked_table now k)
+      (marked_table next j)) (sym generation) over))) in
+      record {
+        table = pass.table ∙ done.table;
+        settled = settled;
+        basis = basis ∙ done.basis;
+        roots =
+            roots_twice (objects_of m.basis) m.basis.condemned f (takes task) (marked_table t m)
+            (marked_table t k) (marked_table t j) refl done.roots here;
+      }
+
+pub promoting : (i : ℕ) (d : Task) → i < 4 → is_clearing (get_or root_tasks i d) ≡ false
+promoting zero d l = refl
+promoting (suc zero) d l = refl
+promoting (suc (suc zero)) d l = refl
+promoting (suc (suc (suc zero))) d l = refl
+promoting (suc (suc (suc (suc i)))) d l = absurd (omega arith)
+
+-- the pass of the next task of a list
+pub held_more : (ts : List Task) (i : ℕ) (d : Task) {t now : Table} {m k : MarksOf} → i < length ts
+    → IsHolding (λ h. takes_any (take i ts) h || takes (get_or ts i d) h) t now m k
+    → IsHolding (takes_any (take (i + 1) ts)) t now m k
+held_more ts i d {t} {now} {m} {k} l w =
+    subst (λ f. IsHolding f t now m k) (sym (taken_more ts i d l)) w
+
+-- what holds its target is what these tasks take
 module _ (rows : Rows Addr) where
-  -- a task that takes what holds promotes from what is held, and pins what is pinned
-  of_holding : (t : Task) (x : Addr) → task_role t ≡ holds → IsTargetOf rows t x → IsHeld rows x
-  of_holding t x r a = record {
+  held_target : (x : Addr) → IsTargetOf rows (has_role holds) x → IsHeld rows x
+  held_target x a = record {
     slot = a.slot;
     handle = a.handle;
     stands = a.stands;
-    holds = taken_role t a.handle a.takes ∙ r;
+    holds = same_role holds (role a.handle) a.passes;
     target = a.target;
   }
 
-  of_pinning : (t : Task) (x : Addr) → IsPinTargetOf rows t x → IsPinned rows x
-  of_pinning t x a = record {
+  target_held : (x : Addr) → IsHeld rows x → IsTargetOf rows (has_role holds) x
+  target_held x h = record {
+    slot = h.slot;
+    handle = h.handle;
+    stands = h.stands;
+    passes = is_same_role holds (role h.handle) h.holds;
+    target = h.target;
+  }
+
+  pinned_target : (x : Addr) → IsPinTargetOf rows (has_role holds) x → IsPinned rows x
+  pinned_target x a = record {
     slot = a.of.slot;
     handle = a.of.handle;
     stands = a.of.stands;
@@ -55,75 +119,35 @@ module _ (rows : Rows Addr) where
     target = a.of.target;
   }
 
-  by_task : (t : Task) (x : Addr) (h : IsHeld rows x) → takes t h.handle ≡ true → IsTargetOf rows t x
-  by_task t x h e = record {
-    slot = h.slot;
-    handle = h.handle;
-    stands = h.stands;
-    takes = e;
-    target = h.target;
-  }
-
-  pin_by_task : (t : Task) (x : Addr) (p : IsPinned rows x) → takes t p.handle ≡ true → IsPinTargetOf rows t x
-  pin_by_task t x p e = record {
-    of = record { slot = p.slot; handle = p.handle; stands = p.stands; takes = e; target = p.target };
+  target_pinned : (x : Addr) → IsPinned rows x → IsPinTargetOf rows (has_role holds) x
+  target_pinned x p = record {
+    of = record {
+      slot = p.slot;
+      handle = p.handle;
+      stands = p.stands;
+      passes = is_same_role holds (role p.handle) (pins_hold p.handle.kind p.handle.extra p.pins);
+      target = p.target;
+    };
     pins = p.pins;
   }
 
-  abbrev AnyTarget : Addr → Type 0
-  AnyTarget x = ((IsTargetOf rows task.Strong x ⊎ IsTargetOf rows task.Pinned x)
-      ⊎ IsTargetOf rows task.VariableRoots x) ⊎ IsTargetOf rows task.CountedRoots x
-
-  to_held : (x : Addr) → AnyTarget x → IsHeld rows x
-  to_held x =
-      ⊎_elim (⊎_elim (⊎_elim (of_holding task.Strong x refl) (of_holding task.Pinned x refl))
-      (of_holding task.VariableRoots x refl)) (of_holding task.CountedRoots x refl)
-
-  from_held : (x : Addr) → IsHeld rows x → AnyTarget x
-  from_held x h =
-      ⊎_elim (λ e. inl (inl (inl (by_task task.Strong x h e))))
-      (⊎_elim (λ e. inl (inl (inr (by_task task.Pinned x h e))))
-      (⊎_elim (λ e. inl (inr (by_task task.VariableRoots x h e)))
-      (λ e. inr (by_task task.CountedRoots x h e))))
-      (held_taken h.handle h.holds)
-
-  pub holding : (m0 m1 m2 m3 m4 : MarksOf) → IsSettledMarks m4 → m4.basis ≡ m0.basis
-      → RootsOf m0.basis rows task.Strong m0 m1 → RootsOf m0.basis rows task.Pinned m1 m2
-      → RootsOf m0.basis rows task.VariableRoots m2 m3 → RootsOf m0.basis rows task.CountedRoots m3 m4
-      → Holds rows m0 m4
-  holding m0 m1 m2 m3 m4 settled basis a b c d =
-      let E : Addr → Addr → Type 0 = IsYoungField (objects_of m0.basis) m0.basis.condemned in record {
-        settled = settled;
-        basis = basis;
-        grows =
-            grows_like E AnyTarget (IsHeld rows) (promoted_in m0) (promoted_in m4) to_held from_held
-            (grows_on E (λ x. (IsTargetOf rows task.Strong x ⊎ IsTargetOf rows task.Pinned x)
-            ⊎ IsTargetOf rows task.VariableRoots x) (IsTargetOf rows task.CountedRoots)
-            (promoted_in m0) (promoted_in m3) (promoted_in m4)
-            (grows_on E (λ x. IsTargetOf rows task.Strong x ⊎ IsTargetOf rows task.Pinned x)
-            (IsTargetOf rows task.VariableRoots) (promoted_in m0) (promoted_in m2) (promoted_in m3)
-            (grows_on E (IsTargetOf rows task.Strong) (IsTargetOf rows task.Pinned) (promoted_in m0)
-            (promoted_in m1) (promoted_in m2) a.promotes b.promotes) c.promotes) d.promotes);
-        pins = λ x young. (
-          λ e.
-              ⊎_elim
-              (λ e3. ⊎_elim (λ e2. ⊎_elim (λ e1. ⊎_elim (λ e0. inl e0)
-              (λ p. inr (of_pinning task.Strong x p)) ((a.pins x young).0 e1))
-              (λ p. inr (of_pinning task.Pinned x p)) ((b.pins x young).0 e2))
-              (λ p. inr (of_pinning task.VariableRoots x p)) ((c.pins x young).0 e3))
-              (λ p. inr (of_pinning task.CountedRoots x p)) ((d.pins x young).0 e),
-          λ s.
-              let on3 : pinned_in m3 x ≡ true → pinned_in m4 x ≡ true = λ e. (d.pins x young).1 (inl e) in
-              let on2 : pinned_in m2 x ≡ true → pinned_in m4 x ≡ true =
-              λ e. on3 ((c.pins x young).1 (inl e)) in
-              let on1 : pinned_in m1 x ≡ true → pinned_in m4 x ≡ true =
-              λ e. on2 ((b.pins x young).1 (inl e)) in
-              ⊎_elim (λ e. on1 ((a.pins x young).1 (inl e)))
-              (λ (p : IsPinned rows x).
-              ⊎_elim (λ e. on1 ((a.pins x young).1 (inr (pin_by_task task.Strong x p e))))
-              (⊎_elim (λ e. on2 ((b.pins x young).1 (inr (pin_by_task task.Pinned x p e))))
-              (⊎_elim (λ e. on3 ((c.pins x young).1 (inr (pin_by_task task.VariableRoots x p e))))
-              (λ e. (d.pins x young).1 (inr (pin_by_task task.CountedRoots x p e)))))
-              (held_taken p.handle (pins_hold p.handle.kind p.handle.extra p.pins))) s,
-        );
-      }
+pub all_held : {t now : Table} {m k : MarksOf} → IsHolding (takes_any root_tasks) t now m k
+    → Holds (row_at t) m k
+all_held {t} {now} {m} {k} w =
+    let o = objects_of m.basis in
+    let roots : WholeRoots o m.basis.condemned (has_role holds) (marked_table t m) (marked_table t k) =
+    subst (λ f. WholeRoots o m.basis.condemned f (marked_table t m) (marked_table t k)) roots_cover w.roots in
+    record {
+      settled = w.settled;
+      basis = w.basis;
+      grows =
+          grows_like (IsYoungField o m.basis.condemned) (IsTargetOf (row_at t) (has_role holds))
+          (IsHeld (row_at t)) (promoted_in m) (promoted_in k) (held_target (row_at t)) (target_held (row_at t))
+          roots.promotes;
+      pins = λ x young. (
+        λ e. ⊎_elim (λ earlier. inl earlier) (λ p. inr (pinned_target (row_at t) x p))
+            ((roots.pins x young).0 e),
+        ⊎_elim (λ earlier. (roots.pins x young).1 (inl earlier))
+            (λ p. (roots.pins x young).1 (inr (target_pinned (row_at t) x p))),
+      );
+    }

@@ -1,37 +1,36 @@
 -- What is resurrected and kept, by what is reached and by the rows that the clearing of short handles left.
 use Rattle.std.proofs.Common.{◌≡◌, ℕ, ◌≤◌, Bool, true, false, not, ◌&&◌, Option, Some, None, refl, sym, ap, ◌∙◌, ⊎_elim, inl, inr}
-use Rattle.std.specs.Prelude.{option_map, List, nat_le, Contains}
+use Rattle.std.specs.Prelude.{option_map, List, [], nat_le, Contains}
 use Rattle.std.specs.Bool.{Decides}
 use Rattle.std.proofs.lemmas.Bool.{true≢false, false≢true, cases_Bool, and_parts, and_from, leb-true, le-leb, not-true, not_from_false}
 use Rattle.hd_model.specs.State.{Object, Handle}
 use Rattle.hd_model.specs.Role.{Role, short, attaches, role}
 use Rattle.hd_model.specs.Counting.{Counts}
 use Rattle.hd_model.specs.Scene.{Scene, Objects, Rows, generation_in, generation_at}
-use Rattle.hd_model.specs.Reach.{IsAttached, IsArrow, IsReached, IsRevived, IsKept}
+use Rattle.hd_model.specs.Reach.{IsAttached, IsEdge, IsReached, IsRevived, IsKept}
 use Rattle.hd_model.proofs.SceneCollection.{mapped_value}
 use Rattle.hd_model.proofs.PropertyCounts.{counts_like}
 use Rattle.hd_model.proofs.MarkReach.{decides_kept}
 use Rattle.hd_model.proofs.EdgeInvariants.{leads_like}
-use Rattle.hd_scan.specs.Tasks.{is_role}
+use Rattle.hd_scan.specs.Tasks.{is_role, has_role, swept}
 use Rattle.hd_final.specs.Revival.{IsOut}
-use Rattle.hd_gc.specs.Clearing.{dropped}
 use Rattle.hd_gc.specs.Marking.{Revival}
 use Rattle.hd_gc.proofs.HandleRoles.{other_stays}
 
 -- the rows of another role stay where those of a role lose targets
 module _ {N : Type 0} (r : Role) (p : N → Bool) (before after : Rows N)
-    (rows : (slot : ℕ) → after slot ≡ option_map (dropped r p) (before slot)) where
+    (rows : (slot : ℕ) → after slot ≡ option_map (swept true (has_role r) p) (before slot)) where
   pub row_after : (slot : ℕ) (h : Handle N) → before slot ≡ Some h → is_role r (role h) ≡ false
       → after slot ≡ Some h
   row_after slot h e other =
-      rows slot ∙ ap (option_map (dropped r p)) e ∙ ap (λ g. Some g) (other_stays r p h other)
+      rows slot ∙ ap (option_map (swept true (has_role r) p)) e ∙ ap (λ g. Some g) (other_stays r p h other)
 
   pub row_before : (slot : ℕ) (h : Handle N) → after slot ≡ Some h → is_role r (role h) ≡ false
       → before slot ≡ Some h
   row_before slot h e other =
-      let (g, both) = mapped_value (dropped r p) (before slot) h (sym (rows slot) ∙ e) in
+      let (g, both) = mapped_value (swept true (has_role r) p) (before slot) h (sym (rows slot) ∙ e) in
       let same : role g ≡ role h = ap (λ (q : Handle N). role q) both.1 in
-      let stays : dropped r p g ≡ g = other_stays r p g (ap (is_role r) same ∙ other) in
+      let stays : swept true (has_role r) p g ≡ g = other_stays r p g (ap (is_role r) same ∙ other) in
       both.0 ∙ ap (λ k. Some k) (sym stays ∙ both.1)
 
   -- so edges stay, where the role is not that of dependent handles
@@ -56,10 +55,10 @@ module _ {N : Type 0} (r : Role) (p : N → Bool) (before after : Rows N)
       secondary = a.secondary;
     }
 
-    pub arrow_after : (o : Objects N) (x y : N) → IsArrow o before x y → IsArrow o after x y
+    pub arrow_after : (o : Objects N) (x y : N) → IsEdge o before x y → IsEdge o after x y
     arrow_after o x y = ⊎_elim (λ f. inl f) (λ a. inr (attached_after x y a))
 
-    pub arrow_before : (o : Objects N) (x y : N) → IsArrow o after x y → IsArrow o before x y
+    pub arrow_before : (o : Objects N) (x y : N) → IsEdge o after x y → IsEdge o before x y
     arrow_before o x y = ⊎_elim (λ f. inl f) (λ a. inr (attached_before x y a))
 
 -- a test for a registered condemned object outside a set
@@ -121,10 +120,10 @@ module _ {N : Type 0} (s : Scene N) (n : ℕ) (reach : N → Bool)
     λ v. (out_decides s.object n reach x).1 (revived_out x v),
   )
 
-  module _ (rows : Rows N)
-      (short_rows : (slot : ℕ) → rows slot ≡ option_map (dropped short reach) (s.handle slot))
-      (rank : N → ℕ) (kept : N → Bool) (queue after : List N)
-      (v : Revival rank s.object rows n reach kept queue after) where
+  module _ {rows : Rows N}
+      (short_rows : (slot : ℕ) → rows slot ≡ option_map (swept true (has_role short) reach) (s.handle slot))
+      {rank : N → ℕ} {kept : N → Bool} {after : List N}
+      (v : Revival rank (record s { handle = rows; named = [] }) n reach kept after) where
     pub kept_decides : (x : N) → Decides (kept x) (IsKept s n x)
     kept_decides =
         decides_kept s n kept (λ x r. v.keeps x ((reach_is x).1 r)) (λ x h. v.revives x (revived_out x h))
@@ -134,7 +133,7 @@ module _ {N : Type 0} (s : Scene N) (n : ℕ) (reach : N → Bool)
           r,
           (
             ⊎_elim (λ e. inl ((reach_is r).0 e)) (λ e. inr (out_revived r e)) rest.0,
-            leads_like (IsArrow s.object rows) (IsArrow s.object s.handle)
+            leads_like (IsEdge s.object rows) (IsEdge s.object s.handle)
                 (λ x y a. arrow_before short reach s.handle rows short_rows refl s.object x y a) rest.1,
           ),
         ))

@@ -15,25 +15,26 @@ use Rattle.hd_model.proofs.SceneCollection.{left_from}
 use Rattle.hd_model.proofs.MovedScenes.{whole_in_place}
 use Rattle.hd_plan.specs.Plan.{PlanOf, kept_in}
 use Rattle.hd_gc.specs.declared.mark_and_clear.Found.{Found}
-use Rattle.hd_gc.specs.Ready.{scene_at, IsReady}
+use Rattle.hd_gc.specs.Ready.{Parts, scene_of, IsReady}
 use Rattle.hd_gc.specs.MarkAndClear.{MarkedAndCleared, Reports}
 use Rattle.hd_gc.specs.RelocateAll.{NamesKept}
 
-module _ (h : Heap) (t t2 : Table) (ages : List ℕ) (q q2 : Queue) (roots : List (Option Addr)) (n : ℕ)
-    (plan : PlanOf) (found : Found) (report : Report) (s0 s1 : ℕ) (ready : IsReady h t ages q roots)
-    (sf : MarkedAndCleared h t t2 ages q q2 roots n plan found s0 s1) (rp : Reports plan found report) where
+module _ {A : Parts} {t2 : Table} {q2 : Queue} {n : ℕ} {plan : PlanOf} {found : Found} {report : Report}
+    {s0 s1 : ℕ} (ready : IsReady A)
+    (sf : MarkedAndCleared A (record A { table = t2; queue = q2 }) n plan found s0 s1)
+    (rp : Reports plan found report) where
   abbrev S : Scene Addr
-  S = scene_at h t roots q.waiting
+  S = scene_of A
 
   abbrev Left : Scene Addr
   Left = left_by n sf.sets.reach sf.sets.revived sf.sets.kept sf.sets.joins S
 
   abbrev Rank : Addr → ℕ
-  Rank x = (id_at h x).0
+  Rank x = (id_at A.heap x).0
 
   kept_number : Counts (IsSurviving n S sf.sets.kept) report.kept
   kept_number =
-      counts_like (λ a. IsCondemned (object_at h) n a × (kept_in plan a ≡ true))
+      counts_like (λ a. IsCondemned (object_at A.heap) n a × (kept_in plan a ≡ true))
       (IsSurviving n S sf.sets.kept) report.kept
       (λ a w. record { condemned = w.0; stays = sym (sf.plan_kept a) ∙ w.1 })
       (λ a w. (w.condemned, sf.plan_kept a ∙ w.stays))
@@ -42,7 +43,7 @@ module _ (h : Heap) (t t2 : Table) (ages : List ℕ) (q q2 : Queue) (roots : Lis
 
   removed_number : Counts (IsRemoved S sf.sets.kept) report.removed
   removed_number =
-      counts_like (λ a. (is_object (object_at h) a ≡ true) × (kept_in plan a ≡ false))
+      counts_like (λ a. (is_object (object_at A.heap) a ≡ true) × (kept_in plan a ≡ false))
       (IsRemoved S sf.sets.kept) report.removed
       (λ a w. record { object = w.0; lost = sym (sf.plan_kept a) ∙ w.1 })
       (λ a w. (w.object, sf.plan_kept a ∙ w.lost))
@@ -79,7 +80,7 @@ module _ (h : Heap) (t t2 : Table) (ages : List ℕ) (q q2 : Queue) (roots : Lis
   left_kept x e =
       let (o, at) = some_value (Left.object x) e in
       sf.plan_kept x
-      ∙ (left_from (sf.sets.kept x) (survivor n (sf.sets.revived x)) (object_at h x) o at).0
+      ∙ (left_from (sf.sets.kept x) (survivor n (sf.sets.revived x)) (object_at A.heap x) o at).0
 
   pub rows_kept : NamesKept (kept_in plan) (row_at t2)
   rows_kept = record {
@@ -93,8 +94,8 @@ module _ (h : Heap) (t t2 : Table) (ages : List ℕ) (q q2 : Queue) (roots : Lis
       left_kept x (whole_left.queue x
       (subst (λ (p : Queue). Contains p.waiting x) sf.queue waits))
 
-  pub waiting_objects : (x : Addr) → Contains q2.waiting x → is_object (object_at h) x ≡ true
+  pub waiting_objects : (x : Addr) → Contains q2.waiting x → is_object (object_at A.heap) x ≡ true
   waiting_objects x waits = sf.keeping.objects x (waiting_kept x waits)
 
-  pub roots_kept : (x : Addr) → Contains roots (Some x) → kept_in plan x ≡ true
+  pub roots_kept : (x : Addr) → Contains A.roots (Some x) → kept_in plan x ≡ true
   roots_kept x names = left_kept x (whole_left.named x names)

@@ -8,7 +8,7 @@ use Rattle.hd_model.specs.declared.data.Addr.{Addr}
 use Rattle.hd_model.specs.State.{Object}
 use Rattle.hd_model.specs.Scene.{fields_in, generation_in, fields_at, generation_at}
 use Rattle.hd_model.specs.Ages.{HasSoundCards}
-use Rattle.hd_model.specs.Heap.{Heap, Placed, object_at, object_in, placed_at, has_object, is_carded, is_held, region_of, region_generation, cells_of, used_of, card_of}
+use Rattle.hd_model.specs.Heap.{Heap, Placed, object_at, object_in, placed_at, has_object, is_carded, is_in_use, region_of, region_generation, cells_of, used_of, card_of}
 use Rattle.hd_model.proofs.Members.{not_in_none, first_in, later_in, member_cases}
 use Rattle.hd_model.proofs.Sums.{share, sum-le}
 use Rattle.hd_final.specs.Settling.{unregistered, Unregisters}
@@ -119,5 +119,5 @@ module _ (xs : List Addr) (h k : Heap) (u : Unregisters xs h k) where
   pub same_full : HasNoEmptyRegion h → HasNoEmptyRegion k
   same_full full r held =
       let start : StartsInRegion h r =
-      full r (sym (ap (λ (g : Heap). is_held g r) u.same) ∙ held) in
+      full r (sym (ap (λ (g : Heap). is_in_use g r) u.same) ∙ held) in
       record { at = start.at; object = still_object start.at ∙ start.object; region = start.region }

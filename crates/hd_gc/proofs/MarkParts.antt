@@ -4,7 +4,7 @@ use Rattle.std.specs.Prelude.{Contains, List}
 use Rattle.std.specs.Bool.{Decides}
 use Rattle.hd_model.specs.Leads.{Leads, Grows, IsClosure}
 use Rattle.hd_model.specs.Scene.{Scene, Objects, Rows, generation_at, IsField, IsYoungField}
-use Rattle.hd_model.specs.Reach.{IsArrow, IsHeld, IsRoot, named, queued, held, older, IsReached}
+use Rattle.hd_model.specs.Reach.{IsEdge, IsHeld, IsRoot, named, queued, held, older, IsReached}
 use Rattle.hd_model.proofs.EdgeChains.{leads_on}
 use Rattle.hd_model.proofs.MarkReach.{decides_reached}
 use Rattle.hd_model.proofs.SceneCollection.{root_reached, reached_on}
@@ -14,7 +14,7 @@ use Rattle.hd_model.proofs.EdgeInvariants.{leads_like, grown_within}
 
 -- a field of a condemned object is an edge
 pub young_arrow : {N : Type 0} (o : Objects N) (rows : Rows N) (n : ℕ) (x y : N) → IsYoungField o n x y
-    → IsArrow o rows x y
+    → IsEdge o rows x y
 young_arrow o rows n x y e = inl e.field
 
 -- from older objects, what the roots reference, the queue, the handles that hold, and what a set of fields of
@@ -27,7 +27,7 @@ module _ {N : Type 0} (s : Scene N) (n : ℕ) (F : N → Type 0) (p0 p1 p2 p3 p4
     (by_queue : Grows (IsYoungField s.object n) (λ x. Contains s.queue x) p1 p2)
     (by_handles : Grows (IsYoungField s.object n) (IsHeld s.handle) p2 p3)
     (by_fields : Grows (IsYoungField s.object n) F p3 p4)
-    (closure : IsClosure (IsArrow s.object s.handle) p4 q) where
+    (closure : IsClosure (IsEdge s.object s.handle) p4 q) where
   roots_in : (x : N) → IsRoot s n x → q x ≡ true
   roots_in x (named h) =
       closure.keeps x (by_fields.keeps x (by_handles.keeps x (by_queue.keeps x (by_named.joins x h))))
@@ -65,34 +65,34 @@ module _ {N : Type 0} (s : Scene N) (n : ℕ) (F : N → Type 0) (p0 p1 p2 p3 p4
   only x h =
       let (r, rest) = closure.only x h in
       let (root, chain) = only4 r rest.0 in
-      (root, (chain.0, leads_on (IsArrow s.object s.handle) chain.1 rest.1))
+      (root, (chain.0, leads_on (IsEdge s.object s.handle) chain.1 rest.1))
 
   pub traced : (x : N) → Decides (q x) (IsReached s n x)
   traced = decides_reached s n q roots_in closure.closed only
 
 -- what is out and joins, and what chains lead to from there
-module _ {N : Type 0} (rank : N → ℕ) (o : Objects N) (rows : Rows N) (n : ℕ) (p r q : N → Bool)
-    (queue after : List N) (by_out : Revives rank o n p r queue after)
-    (closure : IsClosure (IsArrow o rows) r q) where
-  pub revival : Revival rank o rows n p q queue after
-  revival = record {
-    keeps = λ x h. closure.keeps x (by_out.grows.keeps x h);
-    revives = λ x h. closure.keeps x (by_out.grows.joins x h);
-    closed = closure.closed;
-    only = λ x h.
-        let (y, rest) = closure.only x h in
-        ⊎_elim (λ in_p. (y, (inl in_p, rest.1)))
-        (λ (w : (z : N) × (IsOut o n p z × Leads (IsYoungField o n) z y)). (
-          w.0,
-          (
-            inr w.1.0,
-            leads_on (IsArrow o rows)
-                (leads_like (IsYoungField o n) (IsArrow o rows) (young_arrow o rows n) w.1.1) rest.1,
-          ),
-        ))
-        (by_out.grows.only y rest.0);
-    joins = by_out.joins;
-    queue_is = by_out.queue_is;
-    joins_are = λ x. (by_out.each x, by_out.all x);
-    rising = by_out.rising;
-  }
+pub revival : {N : Type 0} {rank : N → ℕ} (s : Scene N) {n : ℕ} {p r q : N → Bool} {after : List N}
+    → Revives rank s.object n p r s.queue after → IsClosure (IsEdge s.object s.handle) r q
+    → Revival rank s n p q after
+revival {N} {rank} s {n} {p} by_out closure = record {
+  keeps = λ x h. closure.keeps x (by_out.grows.keeps x h);
+  revives = λ x h. closure.keeps x (by_out.grows.joins x h);
+  closed = closure.closed;
+  only = λ x h.
+      let (y, rest) = closure.only x h in
+      ⊎_elim (λ in_p. (y, (inl in_p, rest.1)))
+      (λ (w : (z : N) × (IsOut s.object n p z × Leads (IsYoungField s.object n) z y)). (
+        w.0,
+        (
+          inr w.1.0,
+          leads_on (IsEdge s.object s.handle)
+              (leads_like (IsYoungField s.object n) (IsEdge s.object s.handle)
+              (young_arrow s.object s.handle n) w.1.1) rest.1,
+        ),
+      ))
+      (by_out.grows.only y rest.0);
+  joins = by_out.joins;
+  queue_is = by_out.queue_is;
+  joins_are = λ x. (by_out.each x, by_out.all x);
+  rising = by_out.rising;
+}

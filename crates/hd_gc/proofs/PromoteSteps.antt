@@ -46,32 +46,15 @@ promotes_on S T m k o a b = record {
       a.basis b.grows);
 }
 
--- what is neither of these is none
-pub none_of : {A : Type 0} (o : Option A) → ((x : A) → o ≡ Some x → ⊥) → o ≡ None
-none_of None never = refl
-none_of (Some x) never = absurd (never x refl)
-
 -- from the first members of a list of references to one more
-module _ {A : Type 0} (name : Addr → A) (same : (x y : Addr) → name x ≡ name y → x ≡ y) (xs : List A) (i : ℕ)
-    (d : A) (l : i < length xs) (m k : MarksOf)
-    (done : Promotes (λ x. Contains (take i xs) (name x)) m k) where
-  pub promoted_next : (at : Addr) (o : MarksOf) → get_or xs i d ≡ name at → Promotes (λ x. x ≡ at) k o
-      → Promotes (λ x. Contains (take (i + 1) xs) (name x)) m o
-  promoted_next at o here step =
-      promotes_like (λ x. Contains (take i xs) (name x) ⊎ (x ≡ at))
-      (λ x. Contains (take (i + 1) xs) (name x)) m o
-      (λ x. ⊎_elim (λ early. taken_more xs i d l (name x) (inl early))
-      (λ e. taken_more xs i d l (name x) (inr (here ∙ ap name (sym e)))))
-      (λ x h. ⊎_elim (λ early. inl early) (λ e. inr (same x at (sym e ∙ here)))
-      (taken_from xs i d l (name x) h))
-      (promotes_on (λ x. Contains (take i xs) (name x)) (λ x. x ≡ at) m k o done step)
-
-  pub promoted_passed : ((x : Addr) → get_or xs i d ≡ name x → ⊥)
-      → Promotes (λ x. Contains (take (i + 1) xs) (name x)) m k
-  promoted_passed never =
-      promotes_like (λ x. Contains (take i xs) (name x)) (λ x. Contains (take (i + 1) xs) (name x)) m k
-      (λ x early. taken_more xs i d l (name x) (inl early))
-      (λ x h. ⊎_elim (λ early. early) (λ e. absurd (never x e)) (taken_from xs i d l (name x) h)) done
+pub promoted_next : {A : Type 0} (name : Addr → A) (xs : List A) (i : ℕ) (d : A) → i < length xs
+    → {m k o : MarksOf} → Promotes (λ x. Contains (take i xs) (name x)) m k
+    → Promotes (λ x. get_or xs i d ≡ name x) k o → Promotes (λ x. Contains (take (i + 1) xs) (name x)) m o
+promoted_next name xs i d l {m} {k} {o} done step =
+    promotes_like (λ x. Contains (take i xs) (name x) ⊎ (get_or xs i d ≡ name x))
+    (λ x. Contains (take (i + 1) xs) (name x)) m o (λ x. taken_more xs i d l (name x))
+    (λ x. taken_from xs i d l (name x))
+    (promotes_on (λ x. Contains (take i xs) (name x)) (λ x. get_or xs i d ≡ name x) m k o done step)
 
 pub promoted_all : {A : Type 0} (name : Addr → A) (xs : List A) (i : ℕ) (m k : MarksOf) → i ≡ length xs
     → Promotes (λ x. Contains (take i xs) (name x)) m k → Promotes (λ x. Contains xs (name x)) m k

@@ -1,112 +1,131 @@
--- The relocations of all seven kinds update every row in a visited slot.
-use Rattle.std.proofs.Common.{◌≡◌, ℕ, ◌&&◌, Bool, true, false, cond, Option, Some, None, refl, sym, ap, ◌∙◌, subst}
-use Rattle.std.specs.Prelude.{option_map, List}
-use Rattle.std.proofs.lemmas.Bool.{and_parts}
+-- The relocations of one kind after another update every row in a visited slot.
+use Rattle.std.proofs.Common.{◌≡◌, ℕ, ◌+◌, ◌<◌, ◌&&◌, ◌||◌, Bool, true, false, cond, List, length, Option, Some, None, refl, sym, ap, ◌∙◌, subst, ⊎_elim, arith}
+use Rattle.std.specs.Prelude.{option_map, nat_lt}
+use Rattle.std.proofs.lemmas.Bool.{and_parts, true≢false, lt-ltb, le-ltb, cases_lt, cases_Bool, or_left, or_right, eqb-true, eq-eqb}
 use Rattle.hd_model.specs.declared.data.Addr.{Addr}
 use Rattle.hd_model.specs.declared.data.Kind.{Kind}
-use Rattle.hd_model.specs.declared.data.Kind.TheVariants as kind
-use Rattle.hd_model.specs.Kinds.{is_kind}
-use Rattle.hd_model.specs.State.{Extra, Handle, rename_handle}
+use Rattle.hd_model.specs.Kinds.{kind_number, is_kind}
+use Rattle.hd_model.specs.State.{Handle, rename_handle}
 use Rattle.hd_model.specs.Ages.{is_due}
 use Rattle.hd_model.specs.Table.{Table, row_at}
+use Rattle.hd_model.specs.Visits.{IsSameTable}
 use Rattle.hd_model.proofs.SceneCollection.{mapped_value}
-use Rattle.hd_model.proofs.KindTests.{same_kind}
+use Rattle.hd_model.proofs.KindTests.{few_kinds}
+use Rattle.hd_model.proofs.EqualTables.{same_table_on}
 use Rattle.hd_scan.specs.Relocation.{relocated, Relocates, CanRelocate, KeepsNames}
 use Rattle.hd_gc.specs.RelocateAll.{NamesKept, IsRenamed}
 
--- one row after the other six kinds, and the last
-abbrev after_kinds : {N : Type 0} → Bool → (N → N) → Handle N → Handle N
-after_kinds due place h =
-    relocated (is_kind kind.Dependent h.kind && due) place
-    (relocated (is_kind kind.Counted h.kind && due) place
-    (relocated (is_kind kind.Variable h.kind && due) place
-    (relocated (is_kind kind.Pinned h.kind && due) place
-    (relocated (is_kind kind.Strong h.kind && due) place
-    (relocated (is_kind kind.Long h.kind && due) place
-    (relocated (is_kind kind.Short h.kind && due) place h))))))
+module _ (place : Addr → Addr) (ages : List ℕ) (n : ℕ) where
+  -- a handle after the kinds whose number is below i
+  abbrev pub renamed_below : ℕ → ℕ → Handle Addr → Handle Addr
+  renamed_below i slot h = cond (nat_lt (kind_number h.kind) i && is_due ages n slot) (rename_handle place h) h
 
-module _ {N : Type 0} (place : N → N) where
-  renamed_by : (due : Bool) (k : Kind) (o : Option N) (e : Extra N)
-      → after_kinds due place (record { kind = k; target = o; extra = e })
-      ≡ cond due (rename_handle place (record { kind = k; target = o; extra = e }))
-      (record { kind = k; target = o; extra = e })
-  renamed_by true kind.Short o e = refl
-  renamed_by true kind.Long o e = refl
-  renamed_by true kind.Strong o e = refl
-  renamed_by true kind.Pinned o e = refl
-  renamed_by true kind.Variable o e = refl
-  renamed_by true kind.Counted o e = refl
-  renamed_by true kind.Dependent o e = refl
-  renamed_by false kind.Short o e = refl
-  renamed_by false kind.Long o e = refl
-  renamed_by false kind.Strong o e = refl
-  renamed_by false kind.Pinned o e = refl
-  renamed_by false kind.Variable o e = refl
-  renamed_by false kind.Counted o e = refl
-  renamed_by false kind.Dependent o e = refl
+  pub record IsRelocating (i : ℕ) (old now : Table) : Type 0 where
+    pub rows : (slot : ℕ) → row_at now slot ≡ option_map (renamed_below i slot) (row_at old slot)
+    pub table : IsSameTable old now
 
-  -- a row of no other kind stays
-  stays : (h : Handle N) → relocated false place h ≡ h
-  stays h = refl
-
--- a row of which only the test of its kind is read: the kind is the same before and after
-abbrev by_kind : (Addr → Addr) → List ℕ → ℕ → ℕ → Kind → Handle Addr → Handle Addr
-by_kind place ages n slot k h = relocated (is_kind k h.kind && is_due ages n slot) place h
-
-module _ (place : Addr → Addr) (ages : List ℕ) (n : ℕ) (t0 t1 t2 t3 t4 t5 t6 t7 : Table)
-    (a : Relocates place ages n kind.Short t0 t1) (b : Relocates place ages n kind.Long t1 t2)
-    (c : Relocates place ages n kind.Strong t2 t3) (d : Relocates place ages n kind.Pinned t3 t4)
-    (e : Relocates place ages n kind.Variable t4 t5) (f : Relocates place ages n kind.Counted t5 t6)
-    (g : Relocates place ages n kind.Dependent t6 t7) where
-  all_kinds : (slot : ℕ) (o : Option (Handle Addr)) → row_at t0 slot ≡ o
-      → row_at t7 slot ≡ option_map (λ h. cond (is_due ages n slot) (rename_handle place h) h) o
-  all_kinds slot None is =
-      let step : Kind → Option (Handle Addr) → Option (Handle Addr) =
-      λ k. option_map (by_kind place ages n slot k) in
-      g slot
-      ∙ ap (step kind.Dependent) (f slot ∙ ap (step kind.Counted) (e slot ∙ ap (step kind.Variable)
-      (d slot ∙ ap (step kind.Pinned) (c slot ∙ ap (step kind.Strong)
-      (b slot ∙ ap (step kind.Long) (a slot ∙ ap (step kind.Short) is))))))
-  all_kinds slot (Some h) is =
-      let step : Kind → Option (Handle Addr) → Option (Handle Addr) =
-      λ k. option_map (by_kind place ages n slot k) in
-      g slot
-      ∙ ap (step kind.Dependent) (f slot ∙ ap (step kind.Counted) (e slot ∙ ap (step kind.Variable)
-      (d slot ∙ ap (step kind.Pinned) (c slot ∙ ap (step kind.Strong)
-      (b slot ∙ ap (step kind.Long) (a slot ∙ ap (step kind.Short) is))))))
-      ∙ ap (λ q. Some q) (renamed_by place (is_due ages n slot) h.kind h.target h.extra)
-
-  pub renamed : IsRenamed ages n place (row_at t0) (row_at t7)
-  renamed slot = all_kinds slot (row_at t0 slot) refl
-
--- what the rows of a kind reference is kept, as long as none of them is updated
-pub record IsFresh (kept : Addr → Bool) (t : Table) (k : Kind) : Type 0 where
-  pub names : (slot : ℕ) (h : Handle Addr) → row_at t slot ≡ Some h → is_kind k h.kind ≡ true
-      → KeepsNames kept h
-
-module _ (kept : Addr → Bool) where
-  pub fresh_start : (t : Table) (k : Kind) → NamesKept kept (row_at t) → IsFresh kept t k
-  fresh_start t k w = record {
-    names = λ slot h stands same. record {
-      target = λ x e. w.targets slot h x stands e;
-      secondary = λ x e. w.secondaries slot h x stands e;
-    };
+  pub none_moved : (t : Table) → IsRelocating 0 t t
+  none_moved t = record {
+    rows = λ slot. same slot (row_at t slot);
+    table = record { chains = refl; uses = refl; blocks = refl };
   }
+    where
+      same : (slot : ℕ) (o : Option (Handle Addr)) → o ≡ option_map (renamed_below 0 slot) o
+      same slot None = refl
+      same slot (Some h) =
+          ap (λ b. Some (cond (b && is_due ages n slot) (rename_handle place h) h))
+          (sym (le-ltb (kind_number h.kind) 0 (omega arith)))
 
-  pub fresh_after : (place : Addr → Addr) (ages : List ℕ) (n : ℕ) (j k : Kind) (t u : Table)
-      → is_kind j k ≡ false → Relocates place ages n j t u → IsFresh kept t k → IsFresh kept u k
-  fresh_after place ages n j k t u apart moves w = record {
-    names = λ slot h stands same.
-        let (g, both) =
-        mapped_value (by_kind place ages n slot j) (row_at t slot) h (sym (moves slot) ∙ stands)
-        in
-        let of_kind : is_kind k g.kind ≡ true = ap (λ (q : Handle Addr). is_kind k q.kind) both.1 ∙ same in
-        let other : is_kind j g.kind ≡ false = ap (is_kind j) (sym (same_kind k g.kind of_kind)) ∙ apart in
+  -- of three tests of numbers
+  one_more : (a b c due : Bool) (h : Handle Addr) → (a ≡ true → b ≡ false) → c ≡ (a || b)
+      → relocated (b && due) place (cond (a && due) (rename_handle place h) h)
+      ≡ cond (c && due) (rename_handle place h) h
+  one_more a b c due h apart e = by a b due apart ∙ ap (λ v. cond (v && due) (rename_handle place h) h) (sym e)
+    where
+      by : (a b due : Bool) → (a ≡ true → b ≡ false)
+          → relocated (b && due) place (cond (a && due) (rename_handle place h) h)
+          ≡ cond ((a || b) && due) (rename_handle place h) h
+      by true true due apart = absurd (true≢false (apart refl))
+      by true false due apart = refl
+      by false true true apart = refl
+      by false true false apart = refl
+      by false false due apart = refl
+
+  kind_kept : (b : Bool) (h : Handle Addr) → (cond b (rename_handle place h) h).kind ≡ h.kind
+  kind_kept true h = refl
+  kind_kept false h = refl
+
+  -- a kind with the number i
+  module _ {i : ℕ} {old now : Table} (done : IsRelocating i old now) (k : Kind) (number : kind_number k ≡ i) where
+    not_below : (j : Kind) → is_kind k j ≡ true → nat_lt (kind_number j) i ≡ false
+    not_below j e =
+        let same : kind_number k ≡ kind_number j = eqb-true (kind_number k) (kind_number j) e in
+        le-ltb (kind_number j) i (omega (arith, same, number))
+
+    apart : (j : Kind) → nat_lt (kind_number j) i ≡ true → is_kind k j ≡ false
+    apart j low =
+        ⊎_elim (λ e. absurd (true≢false (sym low ∙ not_below j e))) (λ no. no) (cases_Bool (is_kind k j))
+
+    below_more : (j : Kind) → nat_lt (kind_number j) (i + 1) ≡ (nat_lt (kind_number j) i || is_kind k j)
+    below_more j =
+        ⊎_elim
+        (λ low. lt-ltb (kind_number j) (i + 1) (omega arith)
+        ∙ sym (or_left (nat_lt (kind_number j) i) (is_kind k j) (lt-ltb (kind_number j) i low)))
+        (λ high. ⊎_elim
+        (λ e. let same : kind_number k ≡ kind_number j = eqb-true (kind_number k) (kind_number j) e in
+        lt-ltb (kind_number j) (i + 1) (omega (arith, same, number))
+        ∙ sym (or_right (nat_lt (kind_number j) i) (is_kind k j) e))
+        (λ no. ⊎_elim
+        (λ lower. absurd (true≢false (sym (eq-eqb (kind_number k) (kind_number j)
+        (omega (arith, lower, high, number))) ∙ no)))
+        (λ above. le-ltb (kind_number j) (i + 1) above
+        ∙ sym (λ v. le-ltb (kind_number j) i high v || no v))
+        (cases_lt (kind_number j) (i + 1)))
+        (cases_Bool (is_kind k j)))
+        (cases_lt (kind_number j) i)
+
+    pub can_relocate : (kept : Addr → Bool) → NamesKept kept (row_at old) → CanRelocate kept ages n k now
+    can_relocate kept w slot h stands visited =
+        let (g, both) = mapped_value (renamed_below i slot) (row_at old slot) h (sym (done.rows slot) ∙ stands) in
+        let kind_is : h.kind ≡ g.kind = ap (λ (q : Handle Addr). q.kind) (sym both.1) ∙ kind_kept _ g in
         let still : g ≡ h =
-        sym (ap (λ v. relocated (v && is_due ages n slot) place g) other) ∙ both.1 in
-        subst (KeepsNames kept) still (w.names slot g both.0 of_kind);
-  }
+        sym (ap (λ b. cond (b && is_due ages n slot) (rename_handle place g) g)
+        (not_below g.kind (ap (is_kind k) (sym kind_is) ∙ (and_parts _ _ visited).0))) ∙ both.1 in
+        subst (KeepsNames kept) still (record {
+          target = λ x e. w.targets slot g x both.0 e;
+          secondary = λ x e. w.secondaries slot g x both.0 e;
+        })
 
-  pub can_relocate : (ages : List ℕ) (n : ℕ) (k : Kind) (t : Table) → IsFresh kept t k
-      → CanRelocate kept ages n k t
-  can_relocate ages n k t w slot h stands due = w.names slot h stands (and_parts _ _ due).0
+    pub moved_more : {next : Table} → Relocates place ages n k now next → IsSameTable now next
+        → IsRelocating (i + 1) old next
+    moved_more {next} moves same = record {
+      rows = λ slot.
+          moves slot ∙ ap (option_map (λ h. relocated (is_kind k h.kind && is_due ages n slot) place h))
+          (done.rows slot)
+          ∙ by slot (row_at old slot);
+      table = same_table_on old now next done.table same;
+    }
+      where
+        by : (slot : ℕ) (o : Option (Handle Addr))
+            → option_map (λ h. relocated (is_kind k h.kind && is_due ages n slot) place h)
+            (option_map (renamed_below i slot) o)
+            ≡ option_map (renamed_below (i + 1) slot) o
+        by slot None = refl
+        by slot (Some h) =
+            let below : Bool = nat_lt (kind_number h.kind) i in
+            ap (λ q. Some q)
+            (ap (λ (q : Kind). relocated (is_kind k q && is_due ages n slot) place (renamed_below i slot h))
+            (kind_kept (below && is_due ages n slot) h)
+            ∙ one_more below (is_kind k h.kind) (nat_lt (kind_number h.kind) (i + 1)) (is_due ages n slot) h
+            (apart h.kind) (below_more h.kind))
+
+  pub all_moved : {i : ℕ} {old now : Table} → i ≡ 7 → IsRelocating i old now
+      → IsRenamed ages n place (row_at old) (row_at now)
+  all_moved {i} {old} {now} e w slot = w.rows slot ∙ by (row_at old slot)
+    where
+      by : (o : Option (Handle Addr)) → option_map (renamed_below i slot) o
+          ≡ option_map (λ h. cond (is_due ages n slot) (rename_handle place h) h) o
+      by None = refl
+      by (Some h) =
+          ap (λ b. Some (cond (b && is_due ages n slot) (rename_handle place h) h))
+          (lt-ltb (kind_number h.kind) i (omega (arith, few_kinds h.kind, e)))

@@ -8,28 +8,24 @@ use Rattle.std.proofs.lemmas.Bool.{ltb-true, lt-ltb, or_cases, or_left, true≢f
 use Rattle.hd_model.specs.declared.data.Addr.{Addr}
 use Rattle.hd_model.specs.declared.data.Kind.TheVariants as kind
 use Rattle.hd_model.specs.Leads.{IsClosed, Grows, IsClosure}
-use Rattle.hd_model.specs.Scene.{is_object, generation_at, IsField, IsYoungField, IsCondemned, IsWhole}
-use Rattle.hd_model.specs.Reach.{IsArrow, IsHeld, IsPinned, older}
+use Rattle.hd_model.specs.Scene.{is_object, generation_at, IsField, IsYoungField, IsCondemned}
+use Rattle.hd_model.specs.Reach.{IsEdge, IsHeld, IsPinned, older}
 use Rattle.hd_model.specs.Marking.{IsSettled}
 use Rattle.hd_model.specs.Ages.{HasSoundCards}
-use Rattle.hd_model.specs.Names.{NamesObjects}
 use Rattle.hd_model.specs.Heap.{Heap, Basis, object_at, objects_of, is_carded}
-use Rattle.hd_model.specs.Table.{Table, row_at}
+use Rattle.hd_model.specs.Table.{row_at}
 use Rattle.hd_model.specs.Visits.{visits_of}
 use Rattle.hd_model.proofs.MarkReach.{settled_closed}
 use Rattle.hd_model.proofs.SceneCollection.{root_object}
 use Rattle.hd_mark.specs.Marks.{MarksOf, promoted_in, pinned_in, IsSettledMarks, first_marks}
 use Rattle.hd_dep.specs.Rescan.{RescanSteps}
-use Rattle.hd_gc.specs.Ready.{scene_at}
+use Rattle.hd_scan.specs.Tasks.{root_tasks}
+use Rattle.hd_gc.specs.Ready.{Parts, scene_of, IsReady}
+use Rattle.hd_gc.specs.Steps.{task_visits}
 use Rattle.hd_gc.specs.Growing.{Promotes, Holds, IsOldField}
-use Rattle.hd_gc.specs.Marking.{Traced, held_visits}
+use Rattle.hd_gc.specs.Marking.{Traced}
 use Rattle.hd_gc.proofs.CardWalk.{carded_older, carded_by}
 use Rattle.hd_gc.proofs.MarkParts.{traced}
-
--- the references of a whole scene
-pub whole_names : (h : Heap) (t : Table) (roots : List (Option Addr)) (waiting : List Addr)
-    → IsWhole (scene_at h t roots waiting) → NamesObjects (object_at h) (row_at t)
-whole_names h t roots waiting w = record { targets = w.targets; secondaries = w.secondaries }
 
 -- settled marks over an equal basis
 pub settled_over : (g : Basis) (m : MarksOf) → m.basis ≡ g → IsSettledMarks m
@@ -37,13 +33,12 @@ pub settled_over : (g : Basis) (m : MarksOf) → m.basis ≡ g → IsSettledMark
 settled_over g m e s =
     subst (λ (f : Basis). IsSettled (objects_of f) f.condemned (promoted_in m)) e s.settled
 
-module _ (h : Heap) (t : Table) (roots : List (Option Addr)) (waiting : List Addr) (n : ℕ)
-    (m0 m1 m2 m3 m4 : MarksOf) (first : m0 ≡ first_marks h n) (w : IsWhole (scene_at h t roots waiting))
-    (cards : HasSoundCards (object_at h) (is_carded h))
-    (a : Promotes (λ x. Contains roots (Some x)) m0 m1) (b : Promotes (λ x. Contains waiting x) m1 m2)
-    (c : Holds (row_at t) m2 m3) (d : Promotes (IsOldField h n) m3 m4) where
+module _ {A : Parts} {n : ℕ} {m0 m1 m2 m3 m4 : MarksOf} (first : m0 ≡ first_marks A.heap n)
+    (ready : IsReady A) (a : Promotes (λ x. Contains A.roots (Some x)) m0 m1)
+    (b : Promotes (λ x. Contains A.queue.waiting x) m1 m2) (c : Holds (row_at A.table) m2 m3)
+    (d : Promotes (IsOldField A.heap n) m3 m4) where
   abbrev Start : Basis
-  Start = record { heap = h; condemned = n }
+  Start = record { heap = A.heap; condemned = n }
 
   basis0 : m0.basis ≡ Start
   basis0 = ap (λ (m : MarksOf). m.basis) first
@@ -63,74 +58,74 @@ module _ (h : Heap) (t : Table) (roots : List (Option Addr)) (waiting : List Add
   abbrev GrowsFrom : (Addr → Type 0) → MarksOf → MarksOf → Basis → Type 0
   GrowsFrom S m k g = Grows (IsYoungField (objects_of g) g.condemned) S (promoted_in m) (promoted_in k)
 
-  settled4 : IsSettled (object_at h) n (promoted_in m4)
+  settled4 : IsSettled (object_at A.heap) n (promoted_in m4)
   settled4 = settled_over Start m4 basis4 d.settled
 
-  by_fields : Grows (IsYoungField (object_at h) n) (IsOldField h n) (promoted_in m3) (promoted_in m4)
-  by_fields = subst (GrowsFrom (IsOldField h n) m3 m4) basis3 d.grows
+  by_fields : Grows (IsYoungField (object_at A.heap) n) (IsOldField A.heap n) (promoted_in m3) (promoted_in m4)
+  by_fields = subst (GrowsFrom (IsOldField A.heap n) m3 m4) basis3 d.grows
 
-  older_object : (x : Addr) → n < generation_at (object_at h) x → is_object (object_at h) x ≡ true
-  older_object x l = root_object n (scene_at h t roots waiting) w x (older l)
+  older_object : (x : Addr) → n < generation_at (object_at A.heap) x → is_object (object_at A.heap) x ≡ true
+  older_object x l = root_object n (scene_of A) ready.whole x (older l)
 
-  pub fields_closed : IsClosed (IsField (object_at h)) (promoted_in m4)
+  pub fields_closed : IsClosed (IsField (object_at A.heap)) (promoted_in m4)
   fields_closed =
-      settled_closed (object_at h) n (promoted_in m4) (is_carded h) settled4 cards
+      settled_closed (object_at A.heap) n (promoted_in m4) (is_carded A.heap) settled4 ready.cards_sound
       (λ x y above carded field. by_fields.joins y (record {
         from = x;
-        carded = carded_by h n x (older_object x above) above carded;
+        carded = carded_by A.heap n x (older_object x above) above carded;
         field = field;
       }))
 
-  first_promoted : (x : Addr) → promoted_in m0 x ≡ true → n < generation_at (object_at h) x
+  first_promoted : (x : Addr) → promoted_in m0 x ≡ true → n < generation_at (object_at A.heap) x
   first_promoted x e =
-      let at : promoted_in (first_marks h n) x
+      let at : promoted_in (first_marks A.heap n) x
       ≡ true = subst (λ (m : MarksOf). promoted_in m x ≡ true) first e
       in
-      ⊎_elim (λ above. ltb-true n (generation_at (object_at h) x) above)
+      ⊎_elim (λ above. ltb-true n (generation_at (object_at A.heap) x) above)
       (λ in_none. absurd (true≢false (sym in_none ∙ contains-empty nat_cmp x.0)))
-      (or_cases (nat_lt n (generation_at (object_at h) x)) (set.contains set.empty x.0) at)
+      (or_cases (nat_lt n (generation_at (object_at A.heap) x)) (set.contains set.empty x.0) at)
 
-  first_has : (x : Addr) → n < generation_at (object_at h) x → promoted_in m0 x ≡ true
+  first_has : (x : Addr) → n < generation_at (object_at A.heap) x → promoted_in m0 x ≡ true
   first_has x l =
       subst (λ (m : MarksOf). promoted_in m x ≡ true) (sym first)
-      (or_left (nat_lt n (generation_at (object_at h) x)) (set.contains set.empty x.0)
-      (lt-ltb n (generation_at (object_at h) x) l))
+      (or_left (nat_lt n (generation_at (object_at A.heap) x)) (set.contains set.empty x.0)
+      (lt-ltb n (generation_at (object_at A.heap) x) l))
 
-  no_pins : (x : Addr) → IsCondemned (object_at h) n x → pinned_in m2 x ≡ true → ⊥
+  no_pins : (x : Addr) → IsCondemned (object_at A.heap) n x → pinned_in m2 x ≡ true → ⊥
   no_pins x young e =
       let start : pinned_in m0 x ≡ true = ap (λ p. p x) (sym a.pinned) ∙ ap (λ p. p x) (sym b.pinned) ∙ e in
-      let at : pinned_in (first_marks h n) x
+      let at : pinned_in (first_marks A.heap n) x
       ≡ true = subst (λ (m : MarksOf). pinned_in m x ≡ true) first start
       in
       ⊎_elim
-      (λ above. let l : n < generation_at (object_at h) x = ltb-true n (generation_at (object_at h) x) above
+      (λ above. let l : n < generation_at (object_at A.heap) x = ltb-true n (generation_at (object_at A.heap) x) above
       in
-      let low : generation_at (object_at h) x ≤ n = young.young in absurd (omega arith))
+      let low : generation_at (object_at A.heap) x ≤ n = young.young in absurd (omega arith))
       (λ in_none. true≢false (sym in_none ∙ contains-empty nat_cmp x.0))
-      (or_cases (nat_lt n (generation_at (object_at h) x)) (set.contains set.empty x.0) at)
+      (or_cases (nat_lt n (generation_at (object_at A.heap) x)) (set.contains set.empty x.0) at)
 
-  pins_over : (x : Addr) → IsCondemned (object_at h) n x
-      → (pinned_in m3 x ≡ true) ↔ ((pinned_in m2 x ≡ true) ⊎ IsPinned (row_at t) x)
+  pins_over : (x : Addr) → IsCondemned (object_at A.heap) n x
+      → (pinned_in m3 x ≡ true) ↔ ((pinned_in m2 x ≡ true) ⊎ IsPinned (row_at A.table) x)
   pins_over =
       subst (λ (g : Basis). (x : Addr) → IsCondemned (objects_of g) g.condemned x
-      → (pinned_in m3 x ≡ true) ↔ ((pinned_in m2 x ≡ true) ⊎ IsPinned (row_at t) x)) basis2 c.pins
+      → (pinned_in m3 x ≡ true) ↔ ((pinned_in m2 x ≡ true) ⊎ IsPinned (row_at A.table) x)) basis2 c.pins
 
-  pub traced_marks : (ages : List ℕ) (before between after : ℕ) (m5 : MarksOf) → IsSettledMarks m5
+  pub traced_marks : {before between after : ℕ} {m5 : MarksOf} → IsSettledMarks m5
       → m5.basis ≡ m4.basis → pinned_in m5 ≡ pinned_in m4
-      → IsClosure (IsArrow (object_at h) (row_at t)) (promoted_in m4) (promoted_in m5)
-      → between ≡ before + held_visits t ages n
-      → RescanSteps (visits_of t ages n kind.Dependent) (promoted_in m4) (promoted_in m5) between after
-      → Traced h t ages waiting roots n m5 before after
-  traced_marks ages before between after m5 settled basis pinned closure held rescan = record {
+      → IsClosure (IsEdge (object_at A.heap) (row_at A.table)) (promoted_in m4) (promoted_in m5)
+      → between ≡ before + task_visits A.table A.ages n root_tasks
+      → RescanSteps (visits_of A.table A.ages n kind.Dependent) (promoted_in m4) (promoted_in m5) between after
+      → Traced A n m5 before after
+  traced_marks {before} {between} {after} {m5} settled basis pinned closure held rescan = record {
     settled = settled;
     basis = basis ∙ basis4;
     reach_is =
-        traced (scene_at h t roots waiting) n (IsOldField h n) (promoted_in m0) (promoted_in m1)
+        traced (scene_of A) n (IsOldField A.heap n) (promoted_in m0) (promoted_in m1)
         (promoted_in m2) (promoted_in m3) (promoted_in m4) (promoted_in m5) first_promoted first_has
-        (λ y f. (f.from, (carded_older h n f.from f.carded, f.field)))
-        (subst (GrowsFrom (λ x. Contains roots (Some x)) m0 m1) basis0 a.grows)
-        (subst (GrowsFrom (λ x. Contains waiting x) m1 m2) basis1 b.grows)
-        (subst (GrowsFrom (IsHeld (row_at t)) m2 m3) basis2 c.grows) by_fields closure;
+        (λ y f. (f.from, (carded_older A.heap n f.from f.carded, f.field)))
+        (subst (GrowsFrom (λ x. Contains A.roots (Some x)) m0 m1) basis0 a.grows)
+        (subst (GrowsFrom (λ x. Contains A.queue.waiting x) m1 m2) basis1 b.grows)
+        (subst (GrowsFrom (IsHeld (row_at A.table)) m2 m3) basis2 c.grows) by_fields closure;
     pins = λ x young. (
       λ e.
           ⊎_elim (λ none. absurd (no_pins x young none)) (λ p. p)
@@ -141,7 +136,7 @@ module _ (h : Heap) (t : Table) (roots : List (Option Addr)) (waiting : List Add
       set = promoted_in m4;
       older = settled4.older;
       rescan =
-          subst (λ k. RescanSteps (visits_of t ages n kind.Dependent) (promoted_in m4) (promoted_in m5) k
+          subst (λ k. RescanSteps (visits_of A.table A.ages n kind.Dependent) (promoted_in m4) (promoted_in m5) k
           after)
           held rescan;
     };

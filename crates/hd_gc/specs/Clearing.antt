@@ -1,32 +1,25 @@
--- The clearing of weak handles, by their role.
-use Rattle.std.specs.Prelude.{◌≡◌, ◌&&◌, ℕ, Bool, true, cond, Some, None, option_map}
+-- The clearing of weak handles.
+use Rattle.std.specs.Prelude.{◌≡◌, ℕ, Bool}
 use Rattle.hd_model.specs.declared.data.Addr.{Addr}
 use Rattle.hd_model.specs.State.{Handle}
-use Rattle.hd_model.specs.Role.{Role, role}
-use Rattle.hd_model.specs.Counting.{Counts}
-use Rattle.hd_model.specs.Scene.{Rows}
-use Rattle.hd_model.specs.Collect.{is_lost}
-use Rattle.hd_model.specs.Table.{Table, row_at}
+use Rattle.hd_model.specs.Table.{Table}
 use Rattle.hd_model.specs.Visits.{IsSameTable}
-use Rattle.hd_scan.specs.Tasks.{is_role}
+use Rattle.hd_mark.specs.Marks.{MarksOf, promoted_in, pinned_in, IsSettledMarks}
+use Rattle.hd_scan.specs.Passes.{PassView, view_at}
+use Rattle.hd_scan.specs.Whole.{WholeClear}
 
--- a handle without its target, where it has a role and the target is outside a set
-abbrev pub dropped : {N : Type 0} → Role → (N → Bool) → Handle N → Handle N
-dropped r p h = record {
-  kind = h.kind;
-  target = cond (is_role r (role h) && is_lost p h.target) None h.target;
-  extra = h.extra;
-}
+-- a table and marks, as a pass has them
+abbrev pub marked_table : Table → MarksOf → PassView
+marked_table t m = view_at t (promoted_in m) (pinned_in m)
 
--- the slot's handle has a role, and its target is outside a set
-pub record IsDropped {N : Type 0} (rows : Rows N) (r : Role) (p : N → Bool) (slot : ℕ) : Type 0 where
-  pub handle : Handle N
-  pub stands : rows slot ≡ Some handle
-  pub role_is : role handle ≡ r
-  pub lost : is_lost p handle.target ≡ true
+-- marks of the same heap that promote and pin the same
+pub record SameMarks (old new : MarksOf) : Type 0 where
+  pub settled : IsSettledMarks new
+  pub basis : new.basis ≡ old.basis
+  pub promoted : promoted_in new ≡ promoted_in old
+  pub pinned : pinned_in new ≡ pinned_in old
 
--- all handles of a role lose a target outside a set, and `count` do
-pub record Drops (r : Role) (p : Addr → Bool) (old new : Table) (count : ℕ) : Type 0 where
-  pub rows : (slot : ℕ) → row_at new slot ≡ option_map (dropped r p) (row_at old slot)
+-- all handles that pass a test lose a target that is not promoted, and `count` do
+pub record Clears (f : Handle Addr → Bool) (old new : Table) (m : MarksOf) (count : ℕ) : Type 0 where
+  pub whole : WholeClear f (marked_table old m) new count
   pub table : IsSameTable old new
-  pub number : Counts (IsDropped (row_at old) r p) count

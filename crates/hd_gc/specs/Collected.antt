@@ -15,7 +15,7 @@ use Rattle.hd_model.specs.Table.{Table, Queue, row_at}
 use Rattle.hd_model.specs.Visits.{IsSameTable}
 use Rattle.hd_plan.specs.Commit.{NeedsCard}
 use Rattle.hd_plan.specs.PackedRegions.{IsPacked}
-use Rattle.hd_gc.specs.Ready.{scene_at, IsReady}
+use Rattle.hd_gc.specs.Ready.{Parts, scene_of, IsReady}
 use Rattle.hd_gc.specs.Steps.{CollectSteps}
 
 -- after a collection of n the regions that were no older ones before are few: for each condemned object that
@@ -29,22 +29,23 @@ pub record LeavesPacked (h h2 : Heap) (t : Table) (n : ℕ) : Type 0 where
 -- ready for another one; an object that a handle pins keeps its address; cards are set exactly where they are
 -- needed; the objects take no more words than before; the regions in use are packed, and after a collection
 -- of the oldest generation the heap is compact
-pub record Collected (h h2 : Heap) (t t2 : Table) (ages ages2 : List ℕ) (q q2 : Queue)
-    (roots roots2 : List (Option Addr)) (n : ℕ) (report : Report) (before after : ℕ) : Type 0 where
+pub record Collected (p q : Parts) (n : ℕ) (report : Report) (before after : ℕ) : Type 0 where
   pub collects :
-      (u v : Scene Id) → IsReading (id_at h) (scene_at h t roots q.waiting) u
-      → IsReading (id_at h2) (scene_at h2 t2 roots2 q2.waiting) v → Collects (λ (x : Id). x.0) n u v report
-  pub ready : IsReady h2 t2 ages2 q2 roots2
+      (u v : Scene Id) → IsReading (id_at p.heap) (scene_of p) u → IsReading (id_at q.heap) (scene_of q) v
+      → Collects (λ (x : Id). x.0) n u v report
+  pub ready : IsReady q
   pub pinned :
-      (x : Addr) → IsPinned (row_at t) x → (has_object h2 x ≡ true) × (id_at h2 x ≡ id_at h x)
+      (x : Addr) → IsPinned (row_at p.table) x
+      → (has_object q.heap x ≡ true) × (id_at q.heap x ≡ id_at p.heap x)
   pub older :
-      (x : Addr) → n < generation_at (object_at h) x → (has_object h2 x ≡ true) × (id_at h2 x ≡ id_at h x)
-  pub aged : ages2 ≡ grown n ages
-  pub cards : (card : ℕ) → (is_set h2 card ≡ true) ↔ NeedsCard h2 card
-  pub used : used_of h2 ≤ used_of h
-  pub limit : h2.limit ≡ h.limit
-  pub table : IsSameTable t t2
-  pub room : q2.room ≡ q.room
-  pub steps : CollectSteps t ages n report.kept before after
-  pub packed : LeavesPacked h h2 t n
-  pub compact : n ≡ OLDEST → IsCompact h2 (row_at t2)
+      (x : Addr) → n < generation_at (object_at p.heap) x
+      → (has_object q.heap x ≡ true) × (id_at q.heap x ≡ id_at p.heap x)
+  pub aged : q.ages ≡ grown n p.ages
+  pub cards : (card : ℕ) → (is_set q.heap card ≡ true) ↔ NeedsCard q.heap card
+  pub used : used_of q.heap ≤ used_of p.heap
+  pub limit : q.heap.limit ≡ p.heap.limit
+  pub table : IsSameTable p.table q.table
+  pub room : q.queue.room ≡ p.queue.room
+  pub steps : CollectSteps p.table p.ages n report.kept before after
+  pub packed : LeavesPacked p.heap q.heap p.table n
+  pub compact : n ≡ OLDEST → IsCompact q.heap (row_at q.table)

@@ -37,13 +37,6 @@ pub record Holds (rows : Rows Addr) (old new : MarksOf) : Type 0 where
   pub pins : (x : Addr) → IsCondemned (objects_of old.basis) old.basis.condemned x
       → (pinned_in new x ≡ true) ↔ ((pinned_in old x ≡ true) ⊎ IsPinned rows x)
 
--- marks of the same heap that promote and pin the same
-pub record SameMarks (old new : MarksOf) : Type 0 where
-  pub settled : IsSettledMarks new
-  pub basis : new.basis ≡ old.basis
-  pub promoted : promoted_in new ≡ promoted_in old
-  pub pinned : pinned_in new ≡ pinned_in old
-
 -- how far an address may still rise
 abbrev pub left_to : Option Addr → ℕ
 left_to None = 2 ^ 32 + 1

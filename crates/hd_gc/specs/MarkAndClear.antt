@@ -14,43 +14,42 @@ use Rattle.hd_model.specs.Table.{Table, Queue, row_at}
 use Rattle.hd_model.specs.Visits.{IsSameTable}
 use Rattle.hd_plan.specs.Plan.{PlanOf, IsLaid, kept_in, place_in, stays_in}
 use Rattle.hd_gc.specs.declared.mark_and_clear.Found.{Found}
-use Rattle.hd_gc.specs.Ready.{scene_at}
+use Rattle.hd_gc.specs.Ready.{Parts, scene_of, basis_of}
 use Rattle.hd_gc.specs.Steps.{MarkAndClearSteps}
 
 -- what is reached, resurrected and kept by address, the resurrected in rising identity, and the numbers of
 -- those that lose their target or are resurrected
-pub record FoundSets (h : Heap) (t : Table) (waiting : List Addr) (roots : List (Option Addr)) (n : ℕ)
-    (found : Found) : Type 0 where
+pub record FoundSets (p : Parts) (n : ℕ) (found : Found) : Type 0 where
   pub reach : Addr → Bool
   pub revived : Addr → Bool
   pub kept : Addr → Bool
   pub joins : List Addr
-  pub reach_is : (x : Addr) → Decides (reach x) (IsReached (scene_at h t roots waiting) n x)
-  pub revived_is : (x : Addr) → Decides (revived x) (IsRevived (scene_at h t roots waiting) n x)
-  pub kept_is : (x : Addr) → Decides (kept x) (IsKept (scene_at h t roots waiting) n x)
+  pub reach_is : (x : Addr) → Decides (reach x) (IsReached (scene_of p) n x)
+  pub revived_is : (x : Addr) → Decides (revived x) (IsRevived (scene_of p) n x)
+  pub kept_is : (x : Addr) → Decides (kept x) (IsKept (scene_of p) n x)
   pub joins_are : (x : Addr) → Decides (revived x) (Contains joins x)
-  pub rising : AllPairs (λ x y. (id_at h x).0 < (id_at h y).0) joins
-  pub short : Counts (LosesAs (scene_at h t roots waiting) reach kept short) found.short
-  pub long : Counts (LosesAs (scene_at h t roots waiting) reach kept long) found.long
-  pub dep : Counts (LosesAs (scene_at h t roots waiting) reach kept attaches) found.dep
+  pub rising : AllPairs (λ x y. (id_at p.heap x).0 < (id_at p.heap y).0) joins
+  pub short : Counts (LosesAs (scene_of p) reach kept short) found.short
+  pub long : Counts (LosesAs (scene_of p) reach kept long) found.long
+  pub dep : Counts (LosesAs (scene_of p) reach kept attaches) found.dep
   pub revivals : Counts (λ x. revived x ≡ true) found.revived
 
 -- the handles are cleared, the resurrected have joined the queue, and the plan keeps what is kept, the
 -- targets of pinning handles in place
-pub record MarkedAndCleared (h : Heap) (t t2 : Table) (ages : List ℕ) (q q2 : Queue)
-    (roots : List (Option Addr)) (n : ℕ) (plan : PlanOf) (found : Found) (before after : ℕ) : Type 0 where
-  pub sets : FoundSets h t q.waiting roots n found
-  pub rows : (slot : ℕ) → row_at t2 slot ≡ option_map (cleared sets.reach sets.kept) (row_at t slot)
-  pub table : IsSameTable t t2
-  pub queue : q2 ≡ record q { waiting = q.waiting ++ sets.joins }
+pub record MarkedAndCleared (p q : Parts) (n : ℕ) (plan : PlanOf) (found : Found) (before after : ℕ)
+    : Type 0 where
+  pub sets : FoundSets p n found
+  pub rows : (slot : ℕ) → row_at q.table slot ≡ option_map (cleared sets.reach sets.kept) (row_at p.table slot)
+  pub table : IsSameTable p.table q.table
+  pub queue : q.queue ≡ record p.queue { waiting = p.queue.waiting ++ sets.joins }
   pub laid : IsLaid plan
-  pub basis : plan.basis ≡ record { heap = h; condemned = n }
-  pub keeping : IsKeeping (object_at h) n (kept_in plan) (place_in plan)
+  pub basis : plan.basis ≡ basis_of p n
+  pub keeping : IsKeeping (object_at p.heap) n (kept_in plan) (place_in plan)
   pub plan_kept : (x : Addr) → kept_in plan x ≡ sets.kept x
-  pub pinned : (x : Addr) → IsPinned (row_at t) x → place_in plan x ≡ x
-  pub stays : Counts (λ x. IsCondemned (object_at h) n x × IsPinned (row_at t) x) (stays_in plan)
-  pub steps : (kept : ℕ) → Counts (IsSurviving n (scene_at h t roots q.waiting) sets.kept) kept
-      → MarkAndClearSteps t ages n kept before after
+  pub pinned : (x : Addr) → IsPinned (row_at p.table) x → place_in plan x ≡ x
+  pub stays : Counts (λ x. IsCondemned (object_at p.heap) n x × IsPinned (row_at p.table) x) (stays_in plan)
+  pub steps : (kept : ℕ) → Counts (IsSurviving n (scene_of p) sets.kept) kept
+      → MarkAndClearSteps p.table p.ages n kept before after
 
 -- the numbers of a report: what the plan keeps and what it does not, and what was found
 pub record Reports (plan : PlanOf) (found : Found) (report : Report) : Type 0 where

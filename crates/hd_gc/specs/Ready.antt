@@ -5,28 +5,43 @@ use Rattle.hd_model.specs.declared.data.Addr.{Addr}
 use Rattle.hd_model.specs.declared.limits.TheConstants.{CLUMPS}
 use Rattle.hd_model.specs.Scene.{Scene, IsWhole}
 use Rattle.hd_model.specs.Ages.{HasSoundAges, HasSoundCards}
-use Rattle.hd_model.specs.Heap.{Heap, object_at, is_carded, HasIdentities}
+use Rattle.hd_model.specs.Heap.{Heap, Basis, object_at, is_carded, HasIdentities}
 use Rattle.hd_model.specs.Table.{Table, Queue, row_at}
 use Rattle.hd_plan.specs.Plan.{HasNoEmptyRegion}
 
+-- the heap, the table and the ages of its clumps, the finalisation queue, and what registers and statics
+-- reference
+pub record Parts : Type 0 where
+  pub heap : Heap
+  pub table : Table
+  pub ages : List ℕ
+  pub queue : Queue
+  pub roots : List (Option Addr)
+
+abbrev pub parts : Heap → Table → List ℕ → Queue → List (Option Addr) → Parts
+parts h t ages q roots = record { heap = h; table = t; ages = ages; queue = q; roots = roots }
+
 -- the scene by address
-abbrev pub scene_at : Heap → Table → List (Option Addr) → List Addr → Scene Addr
-scene_at h t roots waiting = record {
-  object = object_at h;
-  handle = row_at t;
-  named = roots;
-  queue = waiting;
+abbrev pub scene_of : Parts → Scene Addr
+scene_of p = record {
+  object = object_at p.heap;
+  handle = row_at p.table;
+  named = p.roots;
+  queue = p.queue.waiting;
 }
+
+-- what the marks of a collection of generation n are of
+abbrev pub basis_of : Parts → ℕ → Basis
+basis_of p n = record { heap = p.heap; condemned = n }
 
 -- each reference is to an object, no two objects have one identity, ages and cards rule out what may be
 -- skipped, each region in use has an object, there is an age for each clump, and the queue has room for all
 -- objects
-pub record IsReady (h : Heap) (t : Table) (ages : List ℕ) (q : Queue)
-    (roots : List (Option Addr)) : Type 0 where
-  pub whole : IsWhole (scene_at h t roots q.waiting)
-  pub identities : HasIdentities h
-  pub ages_sound : HasSoundAges (object_at h) (row_at t) ages
-  pub cards_sound : HasSoundCards (object_at h) (is_carded h)
-  pub full : HasNoEmptyRegion h
-  pub clumps : length ages ≡ CLUMPS * t.blocks
-  pub room : len h.objects ≤ q.room
+pub record IsReady (p : Parts) : Type 0 where
+  pub whole : IsWhole (scene_of p)
+  pub identities : HasIdentities p.heap
+  pub ages_sound : HasSoundAges (object_at p.heap) (row_at p.table) p.ages
+  pub cards_sound : HasSoundCards (object_at p.heap) (is_carded p.heap)
+  pub full : HasNoEmptyRegion p.heap
+  pub clumps : length p.ages ≡ CLUMPS * p.table.blocks
+  pub room : len p.heap.objects ≤ p.queue.room

@@ -1,41 +1,34 @@
 -- The steps of a collection: one for each clump that a pass visits.
-use Rattle.std.specs.Prelude.{◌≡◌, ℕ, ◌+◌, ◌*◌, ◌≤◌, List}
+use Rattle.std.specs.Prelude.{◌≡◌, ℕ, ◌+◌, ◌*◌, ◌≤◌, List, sum_by}
 use Rattle.hd_model.specs.declared.data.Kind.TheVariants as kind
+use Rattle.hd_model.specs.Kinds.{all_kinds}
 use Rattle.hd_model.specs.Table.{Table}
-use Rattle.hd_model.specs.Visits.{visits_of}
+use Rattle.hd_model.specs.Visits.{visits_of, visits_over}
+use Rattle.hd_scan.specs.declared.task.Task.{Task}
+use Rattle.hd_scan.specs.Tasks.{task_kind, root_tasks, short_tasks, long_tasks}
 
--- how often the due clumps of each kind are visited but for the passes of the two rescans, up to the
--- clearing, and in all: once by each task of the kind, once by the clearing of dependent handles, and once by
--- the relocation
-abbrev pub mark_and_clear_visits : Table → List ℕ → ℕ → ℕ
-mark_and_clear_visits t ages n =
-    visits_of t ages n kind.Strong + visits_of t ages n kind.Pinned + visits_of t ages n kind.Short
-    + visits_of t ages n kind.Long + 3 * visits_of t ages n kind.Variable
-    + 2 * visits_of t ages n kind.Counted
-    + visits_of t ages n kind.Dependent
+-- the steps of the passes of some tasks, and of those of all tasks
+abbrev pub task_visits : Table → List ℕ → ℕ → List Task → ℕ
+task_visits t ages n tasks = sum_by (λ (task : Task). visits_of t ages n (task_kind task)) tasks
 
-abbrev pub moving_visits : Table → List ℕ → ℕ → ℕ
-moving_visits t ages n =
-    visits_of t ages n kind.Short + visits_of t ages n kind.Long + visits_of t ages n kind.Strong
-    + visits_of t ages n kind.Pinned + visits_of t ages n kind.Variable + visits_of t ages n kind.Counted
-    + visits_of t ages n kind.Dependent
+abbrev pub all_task_visits : Table → List ℕ → ℕ → ℕ
+all_task_visits t ages n =
+    task_visits t ages n root_tasks + task_visits t ages n short_tasks + task_visits t ages n long_tasks
 
--- the passes of the two rescans: at least one each, and at most one more each than the objects that they
--- promoted, which are kept
+-- the steps up to the plan, of a collection that kept this number of condemned objects: each task makes a
+-- pass, and so does the clearing of dependent handles; the two rescans make at least one each, and at most one
+-- more each than the objects that they promoted, which are kept
 pub record MarkAndClearSteps (t : Table) (ages : List ℕ) (n kept before after : ℕ) : Type 0 where
   pub passes : ℕ
-  pub least : 2 ≤ passes
-  pub most : passes ≤ 2 + kept
-  pub steps_are : after ≡ before + mark_and_clear_visits t ages n + passes * visits_of t ages n kind.Dependent
+  pub least : 3 ≤ passes
+  pub most : passes ≤ 3 + kept
+  pub steps_are : after ≡ before + all_task_visits t ages n + passes * visits_of t ages n kind.Dependent
 
--- the steps of a collection that kept this number of condemned objects
+-- the steps of the whole collection: the relocation goes over the handles of every kind once more
 pub record CollectSteps (t : Table) (ages : List ℕ) (n kept before after : ℕ) : Type 0 where
   pub passes : ℕ
-  pub least : 4 ≤ passes
-  pub most : passes ≤ 4 + kept
+  pub least : 3 ≤ passes
+  pub most : passes ≤ 3 + kept
   pub steps_are :
-      after ≡ before
-      + 2 * (visits_of t ages n kind.Short + visits_of t ages n kind.Long + visits_of t ages n kind.Strong
-      + visits_of t ages n kind.Pinned)
-      + 4 * visits_of t ages n kind.Variable + 3 * visits_of t ages n kind.Counted
+      after ≡ before + all_task_visits t ages n + visits_over t ages n all_kinds
       + passes * visits_of t ages n kind.Dependent

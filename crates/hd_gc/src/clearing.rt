@@ -1,20 +1,16 @@
 // The clearing of weak handles, by what is promoted.
-ghost use Rattle.std.specs.Prelude.{◌≡◌, ◌+◌, ◌*◌, ◌≤◌, length};
-ghost use Rattle.hd_model.specs.declared.data.Kind.TheVariants as kind;
-ghost use Rattle.hd_model.specs.Names.{NamesObjects};
-ghost use Rattle.hd_model.specs.Heap.{objects_of};
+ghost use Rattle.std.specs.Prelude.{◌≡◌, ◌+◌, ◌≤◌, length};
+ghost use Rattle.std.specs.List.{AllPass};
 ghost use Rattle.hd_model.specs.Role.{short, long};
-ghost use Rattle.hd_model.specs.Table.{row_at};
-ghost use Rattle.hd_model.specs.Visits.{visits_of};
-ghost use Rattle.hd_model.specs.Ages.{HasSoundAges};
-ghost use Rattle.hd_mark.specs.Marks.{IsSettledMarks, promoted_in};
-ghost use Rattle.hd_gc.specs.Clearing.{Drops};
-ghost use Rattle.hd_gc.specs.Growing.{SameMarks};
+ghost use Rattle.hd_model.specs.Visits.{MayVisitDue};
+ghost use Rattle.hd_mark.specs.Marks.{IsSettledMarks};
+ghost use Rattle.hd_scan.specs.Tasks.{is_clearing, takes_any, has_role, short_tasks, long_tasks};
+ghost use Rattle.hd_gc.specs.Clearing.{Clears, SameMarks};
+ghost use Rattle.hd_gc.specs.Steps.{task_visits};
 
 use hd_ages::AgeMap;
 use hd_mark::Marks;
 use hd_model::Steps;
-use hd_model::limits::CLUMPS;
 use hd_scan::{Task, pass};
 use hd_seg::Seg;
 use std::sync::ledger::Ledger;
@@ -28,17 +24,12 @@ pub(crate) fn clear_short<L: Ledger>(
     steps: &mut Steps<L>,
 ) -> u32
     requires settled { IsSettledMarks marks.old }
-    requires generation { marks.old.basis.condemned ≡ n }
-    requires names { NamesObjects (objects_of marks.old.basis) (row_at seg.old) }
-    requires ages { HasSoundAges (objects_of marks.old.basis) (row_at seg.old) ages.now }
-    requires clumps { length ages.now ≡ CLUMPS * seg.old.blocks }
+    requires due { MayVisitDue marks.old.basis seg.old ages.now n }
     ensures marks { SameMarks marks.old marks.new }
-    ensures drops { Drops short (promoted_in marks.old) seg.old seg.new result }
-    ensures steps { steps.new ≡ steps.old + visits_of seg.old ages.now n kind.Short
-        + visits_of seg.old ages.now n kind.Variable }
+    ensures clears { Clears (has_role short) seg.old seg.new marks.old result }
+    ensures steps { steps.new ≡ steps.old + task_visits seg.old ages.now n short_tasks }
 {
-    pass(seg, ages, Task::ClearShort, marks, n, steps)
-        + pass(seg, ages, Task::ClearVariableShort, marks, n, steps)
+    clear_by(seg, ages, &Task::CLEARS_SHORT, marks, n, steps)
 }
 
 /// Clears the weak long handles, and the ref-counted ones with a count of 0, of what is not
@@ -51,16 +42,34 @@ pub(crate) fn clear_long<L: Ledger>(
     steps: &mut Steps<L>,
 ) -> u32
     requires settled { IsSettledMarks marks.old }
-    requires generation { marks.old.basis.condemned ≡ n }
-    requires names { NamesObjects (objects_of marks.old.basis) (row_at seg.old) }
-    requires ages { HasSoundAges (objects_of marks.old.basis) (row_at seg.old) ages.now }
-    requires clumps { length ages.now ≡ CLUMPS * seg.old.blocks }
+    requires due { MayVisitDue marks.old.basis seg.old ages.now n }
     ensures marks { SameMarks marks.old marks.new }
-    ensures drops { Drops long (promoted_in marks.old) seg.old seg.new result }
-    ensures steps { steps.new ≡ steps.old + visits_of seg.old ages.now n kind.Long
-        + visits_of seg.old ages.now n kind.Variable + visits_of seg.old ages.now n kind.Counted }
+    ensures clears { Clears (has_role long) seg.old seg.new marks.old result }
+    ensures steps { steps.new ≡ steps.old + task_visits seg.old ages.now n long_tasks }
 {
-    pass(seg, ages, Task::ClearLong, marks, n, steps)
-        + pass(seg, ages, Task::ClearVariableLong, marks, n, steps)
-        + pass(seg, ages, Task::ClearCounted, marks, n, steps)
+    clear_by(seg, ages, &Task::CLEARS_LONG, marks, n, steps)
+}
+
+// Clears what some tasks take, where its target is not promoted, and returns how many.
+fn clear_by<L: Ledger>(
+    seg: &mut Seg,
+    ages: &AgeMap,
+    tasks: &[Task],
+    marks: &mut Marks,
+    n: u8,
+    steps: &mut Steps<L>,
+) -> u32
+    requires settled { IsSettledMarks marks.old }
+    requires due { MayVisitDue marks.old.basis seg.old ages.now n }
+    requires clearing { AllPass is_clearing tasks.now }
+    requires few { length tasks.now ≤ 9 }
+    ensures marks { SameMarks marks.old marks.new }
+    ensures clears { Clears (takes_any tasks.now) seg.old seg.new marks.old result }
+    ensures steps { steps.new ≡ steps.old + task_visits seg.old ages.now n tasks.now }
+{
+    let mut cleared = 0;
+    for task in tasks {
+        cleared += pass(seg, ages, *task, marks, n, steps);
+    }
+    cleared
 }

@@ -1,6 +1,6 @@
 // A whole collection.
 ghost use Rattle.std.specs.Prelude.{◌≡◌, ◌≤◌, MatchResult};
-ghost use Rattle.hd_gc.specs.Ready.{IsReady};
+ghost use Rattle.hd_gc.specs.Ready.{IsReady, parts};
 ghost use Rattle.hd_gc.specs.Collected.{Collected};
 ghost use Rattle.hd_gc.specs.MarkAndClear.{Reports};
 ghost use Rattle.hd_plan.specs.Plan.{IsLaid};
@@ -37,10 +37,10 @@ pub fn collect<L: Ledger>(
     steps: &mut Steps<L>,
 ) -> Result<Report, Memory>
     requires generation { n ≤ OLDEST }
-    requires ready { IsReady heap.old seg.old ages.old fin.old roots.old }
+    requires ready { IsReady (parts heap.old seg.old ages.old fin.old roots.old) }
     ensures { MatchResult result
-        (λ report. Collected heap.old heap.new seg.old seg.new ages.old ages.new fin.old fin.new
-        roots.old roots.new n report steps.old steps.new)
+        (λ report. Collected (parts heap.old seg.old ages.old fin.old roots.old)
+        (parts heap.new seg.new ages.new fin.new roots.new) n report steps.old steps.new)
         (λ _. (heap.new ≡ record heap.old { spare = heap.new.spare }) × (seg.new ≡ seg.old)
         × (ages.new ≡ ages.old) × (fin.new ≡ fin.old) × (roots.new ≡ roots.old)
         × (steps.new ≡ steps.old)) }

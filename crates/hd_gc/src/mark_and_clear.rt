@@ -1,17 +1,16 @@
 // What is kept: it is marked, and the handles of all else are cleared.
-ghost use Rattle.std.specs.Prelude.{◌≡◌, ◌*◌, ◌≤◌, true, length, Contains, IfOk, OnErr};
+ghost use Rattle.std.specs.Prelude.{◌≡◌, ◌≤◌, true, [], Contains, IfOk, OnErr};
 ghost use Rattle.std.specs.FinMap.{len};
 ghost use Rattle.hd_model.specs.Counting.{Counts};
 ghost use Rattle.hd_final.specs.Revival.{IsOut};
 ghost use Rattle.hd_model.specs.Scene.{IsField};
 ghost use Rattle.hd_model.specs.Leads.{IsClosed};
-ghost use Rattle.hd_model.specs.Names.{HasClosedFields, NamesObjects};
-ghost use Rattle.hd_model.specs.Heap.{HasIdentities, has_object, is_carded, object_at};
-ghost use Rattle.hd_model.specs.Table.{row_at};
-ghost use Rattle.hd_model.specs.Ages.{HasSoundAges, HasSoundCards};
+ghost use Rattle.hd_model.specs.Heap.{HasIdentities, is_carded, object_at};
+ghost use Rattle.hd_model.specs.Visits.{MayVisitDue};
+ghost use Rattle.hd_model.specs.Ages.{HasSoundCards};
 ghost use Rattle.hd_mark.specs.Marks.{IsSettledMarks, promoted_in};
 ghost use Rattle.hd_plan.specs.Plan.{IsTakenPlan};
-ghost use Rattle.hd_gc.specs.Ready.{IsReady};
+ghost use Rattle.hd_gc.specs.Ready.{IsReady, parts};
 ghost use Rattle.hd_gc.specs.Marking.{Revived};
 ghost use Rattle.hd_gc.specs.MarkAndClear.{MarkedAndCleared};
 
@@ -22,7 +21,6 @@ use hd_dep::{clear, rescan};
 use hd_final::Final;
 use hd_heap::Heap;
 use hd_mark::Marks;
-use hd_model::limits::CLUMPS;
 use hd_model::{Addr, Memory, Steps};
 use hd_plan::Plan;
 use hd_seg::Seg;
@@ -52,16 +50,14 @@ fn revive<L: Ledger>(
 ) -> u32
     requires settled { IsSettledMarks marks.old }
     requires basis { marks.old.basis ≡ record { heap = heap.now; condemned = n } }
-    requires names { NamesObjects (object_at heap.now) (row_at seg.now) }
-    requires ages { HasSoundAges (object_at heap.now) (row_at seg.now) ages.now }
+    requires due { MayVisitDue marks.old.basis seg.now ages.now n }
     requires cards { HasSoundCards (object_at heap.now) (is_carded heap.now) }
-    requires clumps { length ages.now ≡ CLUMPS * seg.now.blocks }
     requires fields { IsClosed (IsField (object_at heap.now)) (promoted_in marks.old) }
     requires waiting { (x : Addr) → Contains fin.old.waiting x → promoted_in marks.old x ≡ true }
     requires identities { HasIdentities heap.now }
     requires room { len heap.now.objects ≤ fin.old.room }
     ensures room { fin.new.room ≡ fin.old.room }
-    ensures revived { Revived heap.now seg.now ages.now n marks.old marks.new fin.old.waiting
+    ensures revived { Revived (parts heap.now seg.now ages.now fin.old []) n marks.old marks.new
         fin.new.waiting steps.old steps.new }
     ensures count { Counts (IsOut (object_at heap.now) n (promoted_in marks.old)) result }
 {
@@ -83,11 +79,12 @@ pub(crate) fn mark_and_clear<L: Ledger>(
     n: u8,
     steps: &mut Steps<L>,
 ) -> Result<Found, Memory>
-    requires ready { IsReady heap.now seg.old ages.now fin.old roots.now }
+    requires ready { IsReady (parts heap.now seg.old ages.now fin.old roots.now) }
     requires taken { IsTakenPlan plan.old }
     requires basis { plan.old.basis ≡ record { heap = heap.now; condemned = n } }
-    ensures found { IfOk result (λ found. MarkedAndCleared heap.now seg.old seg.new ages.now fin.old
-        fin.new roots.now n plan.new found steps.old steps.new) }
+    ensures found { IfOk result (λ found. MarkedAndCleared
+        (parts heap.now seg.old ages.now fin.old roots.now)
+        (parts heap.now seg.new ages.now fin.new roots.now) n plan.new found steps.old steps.new) }
     ensures memory { OnErr result ((seg.new ≡ seg.old) × (fin.new ≡ fin.old)
         × (steps.new ≡ steps.old)) }
 {

@@ -1,25 +1,37 @@
 // What is promoted and pinned: all that is reached.
-ghost use Rattle.std.specs.Prelude.{◌≡◌, ◌+◌, ◌*◌, true, Some, length, Contains};
-ghost use Rattle.hd_model.specs.Scene.{is_object, fields_at, IsField, IsWhole};
-ghost use Rattle.hd_model.specs.Names.{NamesObjects};
-ghost use Rattle.hd_model.specs.Heap.{has_object, is_carded, object_at, objects_of};
+ghost use Rattle.std.specs.Prelude.{◌≡◌, ◌+◌, true, Some, Contains};
+ghost use Rattle.std.specs.Option.{ForSome};
+ghost use Rattle.hd_model.specs.Scene.{is_object, fields_at, IsField};
+ghost use Rattle.hd_model.specs.Heap.{has_object, object_at, objects_of};
 ghost use Rattle.hd_model.specs.Table.{row_at};
-ghost use Rattle.hd_model.specs.Ages.{HasSoundAges, HasSoundCards};
+ghost use Rattle.hd_model.specs.Visits.{MayVisitDue};
 ghost use Rattle.hd_mark.specs.Marks.{IsSettledMarks, first_marks};
-ghost use Rattle.hd_gc.specs.Ready.{scene_at};
+ghost use Rattle.hd_scan.specs.Tasks.{root_tasks};
+ghost use Rattle.hd_gc.specs.Ready.{IsReady, parts};
 ghost use Rattle.hd_gc.specs.Growing.{Promotes, IsOldField, Holds};
-ghost use Rattle.hd_gc.specs.Marking.{Traced, held_visits};
+ghost use Rattle.hd_gc.specs.Marking.{Traced};
+ghost use Rattle.hd_gc.specs.Steps.{task_visits};
 
 use hd_ages::AgeMap;
 use hd_dep::rescan;
 use hd_final::Final;
 use hd_heap::Heap;
 use hd_mark::Marks;
-use hd_model::limits::CLUMPS;
 use hd_model::{Addr, Marker, Steps};
 use hd_scan::{Task, pass};
 use hd_seg::Seg;
 use std::sync::ledger::Ledger;
+
+// Promotes what a reference names, if it is not null.
+fn promote_named(at: Option<Addr>, marks: &mut Marks)
+    requires settled { IsSettledMarks marks.old }
+    requires object { ForSome at (λ x. is_object (objects_of marks.old.basis) x ≡ true) }
+    ensures { Promotes (λ x. at ≡ Some x) marks.old marks.new }
+{
+    if let Some(at) = at {
+        marks.promote(at);
+    }
+}
 
 // Promotes what the roots reference.
 fn promote_roots(roots: &[Option<Addr>], marks: &mut Marks)
@@ -29,9 +41,7 @@ fn promote_roots(roots: &[Option<Addr>], marks: &mut Marks)
     ensures { Promotes (λ x. Contains roots.now (Some x)) marks.old marks.new }
 {
     for root in roots {
-        if let Some(at) = *root {
-            marks.promote(at);
-        }
+        promote_named(*root, marks);
     }
 }
 
@@ -56,18 +66,14 @@ fn promote_held<L: Ledger>(
     steps: &mut Steps<L>,
 )
     requires settled { IsSettledMarks marks.old }
-    requires generation { marks.old.basis.condemned ≡ n }
-    requires names { NamesObjects (objects_of marks.old.basis) (row_at seg.old) }
-    requires ages { HasSoundAges (objects_of marks.old.basis) (row_at seg.old) ages.now }
-    requires clumps { length ages.now ≡ CLUMPS * seg.old.blocks }
+    requires due { MayVisitDue marks.old.basis seg.old ages.now n }
     ensures table { seg.new ≡ seg.old }
     ensures holds { Holds (row_at seg.old) marks.old marks.new }
-    ensures steps { steps.new ≡ steps.old + held_visits seg.old ages.now n }
+    ensures steps { steps.new ≡ steps.old + task_visits seg.old ages.now n root_tasks }
 {
-    let _ = pass(seg, ages, Task::Strong, marks, n, steps);
-    let _ = pass(seg, ages, Task::Pinned, marks, n, steps);
-    let _ = pass(seg, ages, Task::VariableRoots, marks, n, steps);
-    let _ = pass(seg, ages, Task::CountedRoots, marks, n, steps);
+    for task in Task::ROOTS {
+        let _ = pass(seg, ages, task, marks, n, steps);
+    }
 }
 
 // Promotes what an object references.
@@ -80,9 +86,7 @@ fn promote_fields(heap: &Heap, at: Addr, marks: &mut Marks)
     ensures { Promotes (λ y. IsField (object_at heap.now) at y) marks.old marks.new }
 {
     for i in 0..heap.fields(at) {
-        if let Some(field) = heap.load(at, i) {
-            marks.promote(field);
-        }
+        promote_named(heap.load(at, i), marks);
     }
 }
 
@@ -114,12 +118,9 @@ pub(crate) fn trace<L: Ledger>(
 )
     requires first { marks.old ≡ first_marks heap.now n }
     requires settled { IsSettledMarks marks.old }
-    requires whole { IsWhole (scene_at heap.now seg.old roots.now fin.now.waiting) }
-    requires ages { HasSoundAges (object_at heap.now) (row_at seg.old) ages.now }
-    requires cards { HasSoundCards (object_at heap.now) (is_carded heap.now) }
-    requires clumps { length ages.now ≡ CLUMPS * seg.old.blocks }
+    requires ready { IsReady (parts heap.now seg.old ages.now fin.now roots.now) }
     ensures table { seg.new ≡ seg.old }
-    ensures traced { Traced heap.now seg.old ages.now fin.now.waiting roots.now n marks.new
+    ensures traced { Traced (parts heap.now seg.old ages.now fin.now roots.now) n marks.new
         steps.old steps.new }
 {
     promote_roots(roots, marks);

@@ -1,12 +1,14 @@
 // The moving of what is kept, and the update of all references.
 ghost use Rattle.std.specs.Prelude.{◌≡◌, ◌+◌, ◌*◌, true, Some, length, map, option_map, Contains};
+ghost use Rattle.std.specs.Option.{ForSome};
 ghost use Rattle.hd_model.specs.Heap.{has_object, is_carded, object_at};
 ghost use Rattle.hd_model.specs.Table.{row_at};
 ghost use Rattle.hd_model.specs.Ages.{grown, HasSoundCards};
-ghost use Rattle.hd_model.specs.Visits.{IsSameTable};
+ghost use Rattle.hd_model.specs.Kinds.{all_kinds};
+ghost use Rattle.hd_model.specs.Visits.{IsSameTable, visits_over};
 ghost use Rattle.hd_plan.specs.Plan.{IsLaid, kept_in, place_in};
 ghost use Rattle.hd_gc.specs.RelocateAll.{NamesKept, IsRenamed, RelocatedAll};
-ghost use Rattle.hd_gc.specs.Steps.{moving_visits};
+ghost use Rattle.hd_gc.specs.Ready.{parts};
 
 use hd_ages::AgeMap;
 use hd_final::Final;
@@ -25,15 +27,23 @@ fn relocate_rows<L: Ledger>(seg: &mut Seg, ages: &AgeMap, plan: &Plan, n: u8, st
     requires clumps { length ages.now ≡ CLUMPS * seg.old.blocks }
     ensures rows { IsRenamed ages.now n (place_in plan.now) (row_at seg.old) (row_at seg.new) }
     ensures table { IsSameTable seg.old seg.new }
-    ensures steps { steps.new ≡ steps.old + moving_visits seg.old ages.now n }
+    ensures steps { steps.new ≡ steps.old + visits_over seg.old ages.now n all_kinds }
 {
-    relocate(seg, ages, Kind::Short, plan, n, steps);
-    relocate(seg, ages, Kind::Long, plan, n, steps);
-    relocate(seg, ages, Kind::Strong, plan, n, steps);
-    relocate(seg, ages, Kind::Pinned, plan, n, steps);
-    relocate(seg, ages, Kind::Variable, plan, n, steps);
-    relocate(seg, ages, Kind::Counted, plan, n, steps);
-    relocate(seg, ages, Kind::Dependent, plan, n, steps);
+    for kind in Kind::ALL {
+        relocate(seg, ages, kind, plan, n, steps);
+    }
+}
+
+// The new address of what a reference names, or null.
+fn moved(root: Option<Addr>, plan: &Plan) -> Option<Addr>
+    requires laid { IsLaid plan.now }
+    requires kept { ForSome root (λ x. kept_in plan.now x ≡ true) }
+    ensures { result ≡ option_map (place_in plan.now) root }
+{
+    match root {
+        Some(at) => Some(plan.moved(at)),
+        None => None,
+    }
 }
 
 // Gives the roots the new addresses.
@@ -43,9 +53,7 @@ fn relocate_roots(roots: &mut [Option<Addr>], plan: &Plan)
     ensures { roots.new ≡ map (option_map (place_in plan.now)) roots.old }
 {
     for root in roots.iter_mut() {
-        if let Some(at) = *root {
-            *root = Some(plan.moved(at));
-        }
+        *root = moved(*root, plan);
     }
 }
 
@@ -80,8 +88,8 @@ pub(crate) fn relocate_all<L: Ledger>(
     requires objects { (x : Addr) → Contains fin.old.waiting x → has_object heap.old x ≡ true }
     requires roots { (x : Addr) → Contains roots.old (Some x) → kept_in plan.old x ≡ true }
     ensures plan { plan.new ≡ plan.old }
-    ensures relocated_all { RelocatedAll heap.old heap.new seg.old seg.new ages.old ages.new fin.old
-        fin.new roots.old roots.new plan.old joined n steps.old steps.new }
+    ensures relocated_all { RelocatedAll (parts heap.old seg.old ages.old fin.old roots.old)
+        (parts heap.new seg.new ages.new fin.new roots.new) plan.old joined n steps.old steps.new }
 {
     fin.settle(heap, joined);
     relocate_rows(seg, ages, plan, n, steps);

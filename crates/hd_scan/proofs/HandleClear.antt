@@ -22,13 +22,13 @@ use Rattle.hd_seg.specs.Rewriting.{Rewrites}
 use Rattle.hd_ages.proofs.WalkWrites.{IsChanging}
 use Rattle.hd_scan.specs.declared.task.Task.{Task}
 use Rattle.hd_scan.specs.Tasks.{task_kind, task_role, is_role, takes, swept}
-use Rattle.hd_scan.specs.Passes.{IsSweptAt, ClearPass}
+use Rattle.hd_scan.specs.Passes.{IsSweptAt, PassView, ClearPass, view_at}
 use Rattle.hd_scan.specs.Whole.{IsLostAt, WholeClear}
 
 module _ {N : Type 0} (task : Task) (p : N → Bool) (h : Handle N) where
   -- one that loses its target, and one that does not
   pub swept_lost : (takes task h && is_lost p h.target) ≡ true
-      → record h { target = None } ≡ swept true task p h
+      → record h { target = None } ≡ swept true (takes task) p h
   swept_lost lost = λ i. record {
     kind = h.kind;
     target = sym (ap (λ b. cond b None h.target) lost) i;
@@ -36,7 +36,7 @@ module _ {N : Type 0} (task : Task) (p : N → Bool) (h : Handle N) where
   }
 
   pub swept_kept : (due : Bool) → (takes task h && (due && is_lost p h.target)) ≡ false
-      → swept due task p h ≡ h
+      → swept due (takes task) p h ≡ h
   swept_kept due kept = λ i. record {
     kind = h.kind;
     target = ap (λ b. cond b None h.target) kept i;
@@ -51,7 +51,7 @@ taken_kind task h taken =
 
 module _ (t : Table) (ages : List ℕ) (n : ℕ) (task : Task) (p : Addr → Bool) where
   abbrev pub sweep : ℕ → Handle Addr → Handle Addr
-  sweep slot = swept (is_due ages n slot) task p
+  sweep slot = swept (is_due ages n slot) (takes task) p
 
   -- a clearing walk, which counts what it cleared
   abbrev pub IsSweeping : Table → DueRows → (before steps cleared : ℕ) → Type 0
@@ -85,13 +85,14 @@ module _ (t : Table) (ages : List ℕ) (n : ℕ) (task : Task) (p : Addr → Boo
       (λ not_taken. and_left (takes task h) (is_due ages n slot && is_lost p h.target) not_taken)
       (cases_Bool (takes task h)))
 
-  -- the row that it visits
-  module _ (slot : ℕ) (due : IsDueRow t ages n (task_kind task) slot) (g : Handle Addr)
+-- the row that it visits
+module _ {t : Table} {ages : List ℕ} {n : ℕ} (task : Task) (p : Addr → Bool) where
+  module _ {slot : ℕ} (due : IsDueRow t ages n (task_kind task) slot) {g : Handle Addr}
       (same : g ≡ due.handle) where
-    pub swept_row : (now next : Table) → Rewrites slot (swept true task p g) now next
-        → Rewrites slot (sweep slot due.handle) now next
-    swept_row now next r =
-        subst (λ h. Rewrites slot h now next) (λ i. swept (sym due.due i) task p (same i)) r
+    pub swept_row : {now next : Table} → Rewrites slot (swept true (takes task) p g) now next
+        → Rewrites slot (sweep t ages n task p slot due.handle) now next
+    swept_row {now} {next} r =
+        subst (λ h. Rewrites slot h now next) (λ i. swept (sym due.due i) (takes task) p (same i)) r
 
     pub swept_has : (takes task g && is_lost p g.target) ≡ true → IsSweptAt (row_at t) ages n task p slot
     swept_has lost =
@@ -114,9 +115,8 @@ module _ (t : Table) (ages : List ℕ) (n : ℕ) (task : Task) (p : Addr → Boo
         (ap (λ (h : Handle Addr). is_lost p h.target) (sym e) ∙ q.lost))
 
 -- where ages are sound, the rows that are not visited have lost nothing
-module _ (o : Objects Addr) (t now : Table) (ages : List ℕ) (n : ℕ) (task : Task) (p pin : Addr → Bool)
-    (answer : ℕ) (settled : IsSettled o n p) (sound : HasSoundAges o (row_at t) ages)
-    (pass : ClearPass t now ages n task p p pin pin answer) where
+module _ (o : Objects Addr) (t : Table) (ages : List ℕ) (n : ℕ) (task : Task) (p : Addr → Bool)
+    (settled : IsSettled o n p) (sound : HasSoundAges o (row_at t) ages) where
   undue_found : (slot : ℕ) (h : Handle Addr) → row_at t slot ≡ Some h → is_due ages n slot ≡ false
       → is_lost p h.target ≡ false
   undue_found slot h stands undue =
@@ -124,22 +124,24 @@ module _ (o : Objects Addr) (t now : Table) (ages : List ℕ) (n : ℕ) (task : 
       (λ x e. settled.older x (undue_target o n (row_at t) ages sound slot h stands undue x e))
 
   whole_row : (slot : ℕ) (r : Option (Handle Addr)) → row_at t slot ≡ r
-      → option_map (swept (is_due ages n slot) task p) r ≡ option_map (swept true task p) r
+      → option_map (swept (is_due ages n slot) (takes task) p) r ≡ option_map (swept true (takes task) p) r
   whole_row slot None e = refl
   whole_row slot (Some h) e =
-      ⊎_elim (λ due. ap (λ b. Some (swept b task p h)) due)
+      ⊎_elim (λ due. ap (λ b. Some (swept b (takes task) p h)) due)
       (λ undue. let found = undue_found slot h e undue in
-      let none : (b : Bool) → swept b task p h ≡ h =
+      let none : (b : Bool) → swept b (takes task) p h ≡ h =
       λ b. swept_kept task p h b (and_right (takes task h) (b && is_lost p h.target)
       (and_right b (is_lost p h.target) found)) in
       ap (λ g. Some g) (none (is_due ages n slot) ∙ sym (none true)))
       (cases_Bool (is_due ages n slot))
 
-  pub sweep_whole : WholeClear (row_at t) (row_at now) task p answer
-  sweep_whole = record {
+  pub sweep_whole : (pin : Addr → Bool) (after : PassView) (answer : ℕ)
+      → ClearPass ages n task (view_at t p pin) after answer
+      → WholeClear (takes task) (view_at t p pin) after.table answer
+  sweep_whole pin after answer pass = record {
     swept = λ slot. pass.swept slot ∙ whole_row slot (row_at t slot) refl;
-    count = counts_like (IsSweptAt (row_at t) ages n task p) (IsLostAt (row_at t) task p) answer
-        (λ slot r. record { handle = r.handle; stands = r.stands; takes = r.takes; lost = r.lost })
+    count = counts_like (IsSweptAt (row_at t) ages n task p) (IsLostAt (row_at t) (takes task) p) answer
+        (λ slot r. record { handle = r.handle; stands = r.stands; passes = r.takes; lost = r.lost })
         (λ slot r. record {
           handle = r.handle;
           stands = r.stands;
@@ -147,7 +149,7 @@ module _ (o : Objects Addr) (t now : Table) (ages : List ℕ) (n : ℕ) (task : 
               (λ undue. absurd (both_ways (is_lost p r.handle.target)
               (undue_found slot r.handle r.stands undue) r.lost))
               (cases_Bool (is_due ages n slot));
-          takes = r.takes;
+          takes = r.passes;
           lost = r.lost;
         })
         pass.count;

@@ -63,21 +63,6 @@ module _ (t : Table) (ages : List ℕ) (n : ℕ) (k : Kind) (place : Addr → Ad
       })))
       (λ not_due. not_due) (cases_Bool (is_kind k h.kind && is_due ages n slot)))
 
-  -- the row that it visits
-  module _ (slot : ℕ) (due : IsDueRow t ages n k slot) (g : Handle Addr) (same : g ≡ due.handle) where
-    visited : (is_kind k due.handle.kind && is_due ages n slot) ≡ true
-    visited =
-        and_from (is_kind k due.handle.kind) (is_due ages n slot)
-        (ap (is_kind k) due.of_kind ∙ eq-eqb (kind_number k) (kind_number k) refl) due.due
-
-    pub moved_row : (now next : Table) → Rewrites slot (relocated true place g) now next
-        → Rewrites slot (relocation slot due.handle) now next
-    moved_row now next r =
-        subst (λ h. Rewrites slot h now next) (λ i. relocated (sym visited i) place (same i)) r
-
-    pub kept_names : (kept : Addr → Bool) → CanRelocate kept ages n k t → KeepsNames kept g
-    kept_names kept can = subst (KeepsNames kept) (sym same) (can slot due.handle due.stands visited)
-
   -- where ages are sound, what is not visited references nothing that moves
   pub relocates_all : (o : Objects Addr) (kept : Addr → Bool) (now : Table) → IsKeeping o n kept place
       → HasSoundAges o (row_at t) ages → Relocates place ages n k t now → RelocatesAll place k t now
@@ -105,3 +90,19 @@ module _ (t : Table) (ages : List ℕ) (n : ℕ) (k : Kind) (place : Addr → Ad
           and_true : (b : Bool) → (b && true) ≡ b
           and_true true = refl
           and_true false = refl
+
+-- the row that it visits
+module _ {t : Table} {ages : List ℕ} {n : ℕ} {k : Kind} {slot : ℕ} (due : IsDueRow t ages n k slot)
+    {g : Handle Addr} (same : g ≡ due.handle) where
+  visited : (is_kind k due.handle.kind && is_due ages n slot) ≡ true
+  visited =
+      and_from (is_kind k due.handle.kind) (is_due ages n slot)
+      (ap (is_kind k) due.of_kind ∙ eq-eqb (kind_number k) (kind_number k) refl) due.due
+
+  pub moved_row : (place : Addr → Addr) {now next : Table} → Rewrites slot (relocated true place g) now next
+      → Rewrites slot (relocation t ages n k place slot due.handle) now next
+  moved_row place {now} {next} r =
+      subst (λ h. Rewrites slot h now next) (λ i. relocated (sym visited i) place (same i)) r
+
+  pub kept_names : (kept : Addr → Bool) → CanRelocate kept ages n k t → KeepsNames kept g
+  kept_names kept can = subst (KeepsNames kept) (sym same) (can slot due.handle due.stands visited)

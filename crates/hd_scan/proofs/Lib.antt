@@ -3,3 +3,5 @@ pub mod HandleRelocate
 pub mod RootPromote
 pub mod EntryRanges
 pub mod RootLists
+pub mod TaskRoles
+pub mod TestedPasses

@@ -24,7 +24,7 @@ use Rattle.hd_ages.proofs.WalkProgress.{IsUnderway, begins, all_to_come, few_to_
 use Rattle.hd_ages.proofs.WalkCounts.{IsPastWith, counted_start, counted_end, counted_more, counted_else, still_past, past_before}
 use Rattle.hd_scan.specs.declared.task.Task.{Task}
 use Rattle.hd_scan.specs.Tasks.{task_kind, takes}
-use Rattle.hd_scan.specs.Passes.{IsTargetBy, PinsBy, IsTaken, IsRootAt, IsPinnedBy, RootPass}
+use Rattle.hd_scan.specs.Passes.{IsTargetBy, PinsBy, IsTaken, IsRootAt, IsPinnedBy, RootPass, view_at}
 use Rattle.hd_scan.specs.Whole.{IsTargetOf, WholeRoots}
 use Rattle.hd_scan.proofs.HandleClear.{taken_kind}
 
@@ -38,7 +38,7 @@ module _ (o : Objects Addr) (t : Table) (ages : List ℕ) (n : ℕ) (task : Task
 
   -- along the walk of a root task: what was visited is promoted and pinned, and nothing else
   pub record IsRooting (w : DueRows) (before steps held : ℕ) (p pin : Addr → Bool) : Type 0 where
-    pub under : IsUnderway t ages n (task_kind task) t w before steps
+    pub under : IsUnderway t ages n (task_kind task) t w (before, steps)
     pub promotes : Grows (IsYoungField o n) (IsPastTaken (slots_to_come t ages w)) p0 p
     pub pinned : (x : Addr) → pin0 x ≡ true → pin x ≡ true
     pub pin_joins : (x : Addr) → IsPastPinned (slots_to_come t ages w) x → pin x ≡ true
@@ -46,6 +46,7 @@ module _ (o : Objects Addr) (t : Table) (ages : List ℕ) (n : ℕ) (task : Task
     pub counted : Counts (IsPastWith (IsRootAt (row_at t) ages n task) (slots_to_come t ages w)) held
     pub few : held + length (slots_to_come t ages w) ≤ 16384
 
+module _ {t : Table} {ages : List ℕ} {n : ℕ} {task : Task} where
   taken_due : (x : Addr) (r : IsTaken (row_at t) ages n task x) → IsDueRow t ages n (task_kind task) r.slot
   taken_due x r = record {
     handle = r.handle;
@@ -62,15 +63,16 @@ module _ (o : Objects Addr) (t : Table) (ages : List ℕ) (n : ℕ) (task : Task
     due = r.due;
   }
 
-  module _ (is : IsTable t) (w : DueRows) (before : ℕ) (on : IsOn t w)
+module _ {o : Objects Addr} {t : Table} {ages : List ℕ} {n : ℕ} {task : Task} {p0 pin0 : Addr → Bool} where
+  module _ (is : IsTable t) {w : DueRows} {before : ℕ} (on : IsOn t w)
       (slots : slots_to_come t ages w ≡ due_slots t ages n (task_kind task))
       (clumps : clumps_to_come t ages w ≡ due_clumps ages n (chain_of t (task_kind task))) where
-    pub root_start : IsRooting w before before 0 p0 pin0
+    pub root_start : IsRooting o t ages n task p0 pin0 w before before 0 p0 pin0
     root_start =
         let all = all_to_come t ages n (task_kind task) is w slots in
         record {
           under = begins t ages n (task_kind task) is w slots before on clumps;
-          promotes = grows_none (IsYoungField o n) (IsPastTaken (slots_to_come t ages w)) p0
+          promotes = grows_none (IsYoungField o n) (IsPastTaken o t ages n task p0 pin0 (slots_to_come t ages w)) p0
               (λ x s. s.1 (all s.0.slot (taken_due x s.0)));
           pinned = λ x h. h;
           pin_joins = λ x s. absurd (s.1 (all s.0.taken.slot (taken_due x s.0.taken)));
@@ -80,19 +82,17 @@ module _ (o : Objects Addr) (t : Table) (ages : List ℕ) (n : ℕ) (task : Task
           few = let l = few_to_come t ages n (task_kind task) is w slots in omega arith;
         }
 
-  module _ (old new : DueRows) (slot : Slot) (before steps after held : ℕ) (p q pin pin' : Addr → Bool)
-      (s : IsRooting old before steps held p pin) (gives : Gives t ages old new slot) (on : IsOn t new)
-      (counted : after + length (clumps_to_come t ages new)
-      ≡ steps + length (clumps_to_come t ages old)) where
+  module _ {old new : DueRows} {slot : Slot} {before steps held : ℕ} {p pin : Addr → Bool}
+      (s : IsRooting o t ages n task p0 pin0 old before steps held p pin) (gives : Gives t ages old new slot) where
     due : IsDueRow t ages n (task_kind task) slot.0
-    due = row_due t ages n (task_kind task) t old new before slot steps after s.under gives
+    due = row_due s.under gives
 
     same : live_at t slot.0 ≡ due.handle
     unfolding due
-    same = row_same t ages n (task_kind task) t old new before slot steps after s.under gives
+    same = row_same s.under gives
 
     past : Contains (slots_to_come t ages new) slot.0 → ⊥
-    past = row_past t ages n (task_kind task) t old new before slot steps after s.under gives
+    past = row_past s.under gives
 
     before_or : (x : ℕ) → x ≢ slot.0 → (Contains (slots_to_come t ages new) x → ⊥)
         → Contains (slots_to_come t ages old) x → ⊥
@@ -132,16 +132,16 @@ module _ (o : Objects Addr) (t : Table) (ages : List ℕ) (n : ℕ) (task : Task
           target = ap (λ (h : Handle Addr). h.target) (sym h) ∙ r.target;
         }
 
-    promotes : Grows (IsYoungField o n) (IsTargetBy task (live_at t slot.0)) p q
-        → Grows (IsYoungField o n) (IsPastTaken (slots_to_come t ages new)) p0 q
-    promotes g =
+    promotes : {q : Addr → Bool} → Grows (IsYoungField o n) (IsTargetBy task (live_at t slot.0)) p q
+        → Grows (IsYoungField o n) (IsPastTaken o t ages n task p0 pin0 (slots_to_come t ages new)) p0 q
+    promotes {q} g =
         grows_like (IsYoungField o n)
-        (λ x. IsPastTaken (slots_to_come t ages old) x ⊎ IsTargetBy task (live_at t slot.0) x)
-        (IsPastTaken (slots_to_come t ages new)) p0 q
+        (λ x. IsPastTaken o t ages n task p0 pin0 (slots_to_come t ages old) x ⊎ IsTargetBy task (live_at t slot.0) x)
+        (IsPastTaken o t ages n task p0 pin0 (slots_to_come t ages new)) p0 q
         (λ x. ⊎_elim (λ r. (r.0, still r.0.slot r.1)) (λ b. (taken_here x b, past)))
         (λ x r. ⊎_elim (λ e. inr (target_here x r.0 e)) (λ ne. inl (r.0, before_or r.0.slot ne r.1))
         (cases_eq r.0.slot slot.0))
-        (grows_on (IsYoungField o n) (IsPastTaken (slots_to_come t ages old))
+        (grows_on (IsYoungField o n) (IsPastTaken o t ages n task p0 pin0 (slots_to_come t ages old))
         (IsTargetBy task (live_at t slot.0)) p0 p q s.promotes g)
 
     root_here : (takes task (live_at t slot.0) && is_some (live_at t slot.0).target) ≡ true
@@ -189,12 +189,14 @@ module _ (o : Objects Addr) (t : Table) (ages : List ℕ) (n : ℕ) (task : Task
     at_most_one false one e = omega arith
 
     -- one row more
-    pub root_row : Grows (IsYoungField o n) (IsTargetBy task (live_at t slot.0)) p q
+    pub root_row : {q pin' : Addr → Bool} {after : ℕ} → IsOn t new
+        → after + length (clumps_to_come t ages new) ≡ steps + length (clumps_to_come t ages old)
+        → Grows (IsYoungField o n) (IsTargetBy task (live_at t slot.0)) p q
         → PinsBy task (live_at t slot.0) pin pin' → (has : Bool) (one : ℕ)
         → has ≡ (takes task (live_at t slot.0) && is_some (live_at t slot.0).target) → one ≡ bool_byte has
-        → IsRooting new before after (held + one) q pin'
-    root_row grows by has one is e = record {
-      under = goes_on t ages n (task_kind task) t old new before slot steps after s.under gives on counted;
+        → IsRooting o t ages n task p0 pin0 new before after (held + one) q pin'
+    root_row on counted grows by has one is e = record {
+      under = goes_on s.under gives on counted;
       promotes = promotes grows;
       pinned = λ x h. by.keeps x (s.pinned x h);
       pin_joins = λ x r. ⊎_elim
@@ -208,15 +210,15 @@ module _ (o : Objects Addr) (t : Table) (ages : List ℕ) (n : ℕ) (task : Task
       few = let l = ap length gives.slots in let f = s.few in let m = at_most_one has one e in omega arith;
     }
 
-  module _ (old new : DueRows) (before steps after held : ℕ) (p pin : Addr → Bool)
-      (s : IsRooting old before steps held p pin) (ends : Ends t ages old new) where
+  module _ {old new : DueRows} {before steps held : ℕ} {p pin : Addr → Bool}
+      (s : IsRooting o t ages n task p0 pin0 old before steps held p pin) (ends : Ends t ages old new) where
     none : (slot : ℕ) → Contains (slots_to_come t ages old) slot → ⊥
-    none = all_past t ages n (task_kind task) t old new before steps after s.under ends
+    none = all_past s.under ends
 
-    pub root_end : RootPass o t t ages n task p0 p pin0 pin held
+    pub root_end : RootPass o ages n task (view_at t p0 pin0) (view_at t p pin) held
     root_end = record {
       table = refl;
-      promotes = grows_like (IsYoungField o n) (IsPastTaken (slots_to_come t ages old))
+      promotes = grows_like (IsYoungField o n) (IsPastTaken o t ages n task p0 pin0 (slots_to_come t ages old))
           (IsTaken (row_at t) ages n task)
           p0 p (λ x r. r.0) (λ x r. (r, none r.slot)) s.promotes;
       pins = record {
@@ -228,29 +230,29 @@ module _ (o : Objects Addr) (t : Table) (ages : List ℕ) (n : ℕ) (task : Task
     }
 
   -- where ages are sound, what is not visited references older objects, which are promoted and not condemned
-  module _ (p pin : Addr → Bool) (held : ℕ) (settled : IsSettled o n p0)
+  module _ {p pin : Addr → Bool} {held : ℕ} (settled : IsSettled o n p0)
       (sound : HasSoundAges o (row_at t) ages)
-      (pass : RootPass o t t ages n task p0 p pin0 pin held) where
-    undue_older : (x : Addr) (r : IsTargetOf (row_at t) task x) → is_due ages n r.slot ≡ false
+      (pass : RootPass o ages n task (view_at t p0 pin0) (view_at t p pin) held) where
+    undue_older : (x : Addr) (r : IsTargetOf (row_at t) (takes task) x) → is_due ages n r.slot ≡ false
         → n < generation_at o x
     undue_older x r undue = undue_target o n (row_at t) ages sound r.slot r.handle r.stands undue x r.target
 
-    abbrev visited : (x : Addr) (r : IsTargetOf (row_at t) task x) → is_due ages n r.slot ≡ true
+    abbrev visited : (x : Addr) (r : IsTargetOf (row_at t) (takes task) x) → is_due ages n r.slot ≡ true
         → IsTaken (row_at t) ages n task x
     visited x r due = record {
       slot = r.slot;
       handle = r.handle;
       stands = r.stands;
       due = due;
-      takes = r.takes;
+      takes = r.passes;
       target = r.target;
     }
 
-    abbrev anywhere : (x : Addr) (r : IsTaken (row_at t) ages n task x) → IsTargetOf (row_at t) task x
+    abbrev anywhere : (x : Addr) (r : IsTaken (row_at t) ages n task x) → IsTargetOf (row_at t) (takes task) x
     anywhere x r =
-        record { slot = r.slot; handle = r.handle; stands = r.stands; takes = r.takes; target = r.target }
+        record { slot = r.slot; handle = r.handle; stands = r.stands; passes = r.takes; target = r.target }
 
-    pub root_whole : WholeRoots o (row_at t) n task p0 p pin0 pin
+    pub root_whole : WholeRoots o n (takes task) (view_at t p0 pin0) (view_at t p pin)
     root_whole = record {
       promotes = record {
         keeps = pass.promotes.keeps;

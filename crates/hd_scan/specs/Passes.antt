@@ -56,7 +56,7 @@ pub record IsSweptAt {N : Type 0} (rows : Rows N) (ages : List ℕ) (n : ℕ) (t
 -- the rows after a clearing task
 abbrev pub IsSwept : {N : Type 0} → List ℕ → ℕ → Task → (N → Bool) → (before after : Rows N) → Type 0
 IsSwept ages n task p before after =
-    (slot : ℕ) → after slot ≡ option_map (swept (is_due ages n slot) task p) (before slot)
+    (slot : ℕ) → after slot ≡ option_map (swept (is_due ages n slot) (takes task) p) (before slot)
 
 -- x is the target of a handle that a task takes, in a visited slot, and that pins
 pub record IsPinnedBy {N : Type 0} (rows : Rows N) (ages : List ℕ) (n : ℕ) (task : Task) (x : N)
@@ -71,26 +71,35 @@ pub record Pins {N : Type 0} (rows : Rows N) (ages : List ℕ) (n : ℕ) (task :
   pub joins : (x : N) → IsPinnedBy rows ages n task x → after x ≡ true
   pub only : (x : N) → after x ≡ true → (before x ≡ true) ⊎ IsPinnedBy rows ages n task x
 
+-- what a pass reads and changes: the table, and what is promoted and pinned
+pub record PassView : Type 0 where
+  pub table : Table
+  pub promoted : Addr → Bool
+  pub pinned : Addr → Bool
+
+abbrev pub view_at : Table → (promoted pinned : Addr → Bool) → PassView
+view_at t promoted pinned = record { table = t; promoted = promoted; pinned = pinned }
+
 -- a root task promotes and pins, and leaves the table
-pub record RootPass (o : Objects Addr) (old new : Table) (ages : List ℕ) (n : ℕ) (task : Task)
-    (p q pin pin2 : Addr → Bool) (answer : ℕ) : Type 0 where
-  pub table : new ≡ old
-  pub promotes : Grows (IsYoungField o n) (IsTaken (row_at old) ages n task) p q
-  pub pins : Pins (row_at old) ages n task pin pin2
-  pub count : Counts (IsRootAt (row_at old) ages n task) answer
+pub record RootPass (o : Objects Addr) (ages : List ℕ) (n : ℕ) (task : Task) (before after : PassView)
+    (answer : ℕ) : Type 0 where
+  pub table : after.table ≡ before.table
+  pub promotes :
+      Grows (IsYoungField o n) (IsTaken (row_at before.table) ages n task) before.promoted after.promoted
+  pub pins : Pins (row_at before.table) ages n task before.pinned after.pinned
+  pub count : Counts (IsRootAt (row_at before.table) ages n task) answer
 
 -- a clearing task nulls targets, and leaves what is promoted and pinned
-pub record ClearPass (old new : Table) (ages : List ℕ) (n : ℕ) (task : Task) (p q pin pin2 : Addr → Bool)
-    (answer : ℕ) : Type 0 where
-  pub table : IsSameTable old new
-  pub promotes : q ≡ p
-  pub pins : pin2 ≡ pin
-  pub swept : IsSwept ages n task p (row_at old) (row_at new)
-  pub count : Counts (IsSweptAt (row_at old) ages n task p) answer
+pub record ClearPass (ages : List ℕ) (n : ℕ) (task : Task) (before after : PassView) (answer : ℕ)
+    : Type 0 where
+  pub table : IsSameTable before.table after.table
+  pub promotes : after.promoted ≡ before.promoted
+  pub pins : after.pinned ≡ before.pinned
+  pub swept : IsSwept ages n task before.promoted (row_at before.table) (row_at after.table)
+  pub count : Counts (IsSweptAt (row_at before.table) ages n task before.promoted) answer
 
--- what a pass does: p and q are promoted, pin and pin2 pinned before and after it
-abbrev pub Passed : Objects Addr → Table → Table → List ℕ → ℕ → Task → (p q pin pin2 : Addr → Bool) → ℕ
-    → Type 0
-Passed o old new ages n task p q pin pin2 answer =
-    MatchBool (is_clearing task) (ClearPass old new ages n task p q pin pin2 answer)
-    (RootPass o old new ages n task p q pin pin2 answer)
+-- what a pass does
+abbrev pub Passed : Objects Addr → List ℕ → ℕ → Task → (before after : PassView) → ℕ → Type 0
+Passed o ages n task before after answer =
+    MatchBool (is_clearing task) (ClearPass ages n task before after answer)
+    (RootPass o ages n task before after answer)

@@ -1,5 +1,5 @@
 -- The tasks of a pass: each takes the handles of one kind that have one role.
-use Rattle.std.specs.Prelude.{ℕ, ◌&&◌, ◌==◌, Bool, true, false, cond, None}
+use Rattle.std.specs.Prelude.{ℕ, ◌&&◌, ◌||◌, ◌==◌, Bool, true, false, cond, None, List, [], ◌∷◌, fold}
 use Rattle.hd_model.specs.declared.data.Kind.{Kind}
 use Rattle.hd_model.specs.declared.data.Kind.TheVariants as kind
 use Rattle.hd_model.specs.State.{Handle}
@@ -65,15 +65,31 @@ role_from named.Short = short
 role_from named.Long = long
 role_from named.Attaches = attaches
 
--- whether a task takes a handle
+-- the tasks of three roles
+abbrev pub root_tasks : List Task
+root_tasks = task.Strong ∷ task.Pinned ∷ task.VariableRoots ∷ task.CountedRoots ∷ []
+
+abbrev pub short_tasks : List Task
+short_tasks = task.ClearShort ∷ task.ClearVariableShort ∷ []
+
+abbrev pub long_tasks : List Task
+long_tasks = task.ClearLong ∷ task.ClearVariableLong ∷ task.ClearCounted ∷ []
+
+-- whether a task takes a handle, whether one of a list does, and whether the handle has a role
 abbrev pub takes : {N : Type 0} → Task → Handle N → Bool
 takes t h = is_kind (task_kind t) h.kind && is_role (task_role t) (role h)
 
--- a handle after a clearing task, which visits its slot or does not: its target is null where the task takes
--- it and the target is not promoted
-abbrev pub swept : {N : Type 0} → Bool → Task → (N → Bool) → Handle N → Handle N
-swept due t p h = record {
+abbrev pub takes_any : {N : Type 0} → List Task → Handle N → Bool
+takes_any ts h = fold (λ b t. b || takes t h) false ts
+
+abbrev pub has_role : {N : Type 0} → Role → Handle N → Bool
+has_role r h = is_role r (role h)
+
+-- a handle after a clearing of those that pass a test, which visits its slot or does not: its target is null
+-- where the handle passes and the target is not promoted
+abbrev pub swept : {N : Type 0} → Bool → (Handle N → Bool) → (N → Bool) → Handle N → Handle N
+swept due f p h = record {
   kind = h.kind;
-  target = cond (takes t h && (due && is_lost p h.target)) None h.target;
+  target = cond (f h && (due && is_lost p h.target)) None h.target;
   extra = h.extra;
 }

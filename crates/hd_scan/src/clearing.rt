@@ -1,17 +1,15 @@
-ghost use Rattle.std.specs.Prelude.{◌≡◌, ◌+◌, ◌*◌, ◌&&◌, ◌≤◌, length, IsSome, true};
+ghost use Rattle.std.specs.Prelude.{◌≡◌, ◌+◌, ◌*◌, ◌&&◌, ◌≤◌, IsSome, true};
 ghost use Rattle.std.specs.Option.{ForSome};
 ghost use Rattle.std.specs.FinMap.{get};
 ghost use Rattle.hd_model.specs.Heap.{objects_of};
 ghost use Rattle.hd_model.specs.Scene.{is_object};
 ghost use Rattle.hd_model.specs.Table.{live_at, row_at};
-ghost use Rattle.hd_model.specs.Names.{NamesObjects};
-ghost use Rattle.hd_model.specs.Visits.{visits_of};
+ghost use Rattle.hd_model.specs.Visits.{MayVisit, visits_of};
 ghost use Rattle.hd_model.specs.Ages.{HasSoundAges};
 ghost use Rattle.hd_model.specs.Collect.{is_lost};
 ghost use Rattle.hd_seg.specs.Rewriting.{Rewrites};
-ghost use Rattle.hd_ages.specs.Clumps.{CoversTable};
 ghost use Rattle.hd_scan.specs.Tasks.{task_kind, takes, swept};
-ghost use Rattle.hd_scan.specs.Passes.{ClearPass};
+ghost use Rattle.hd_scan.specs.Passes.{ClearPass, view_at};
 ghost use Rattle.hd_scan.specs.Whole.{WholeClear};
 
 use crate::task::Task;
@@ -32,15 +30,15 @@ pub fn clear<M: Marker, L: Ledger>(
     steps: &mut Steps<L>,
 ) -> u32
     requires settled { M.settled marker.now }
-    requires generation { (M.basis marker.now).condemned ≡ n }
-    requires names { NamesObjects (objects_of (M.basis marker.now)) (row_at seg.old) }
-    requires blocks { CoversTable ages.now seg.old }
-    ensures passed { ClearPass seg.old seg.new ages.now n task (M.promoted marker.now)
-        (M.promoted marker.now) (M.pinned marker.now) (M.pinned marker.now) result }
+    requires visit { MayVisit (M.basis marker.now) seg.old ages.now n }
+    ensures passed { ClearPass ages.now n task
+        (view_at seg.old (M.promoted marker.now) (M.pinned marker.now))
+        (view_at seg.new (M.promoted marker.now) (M.pinned marker.now)) result }
     ensures steps { steps.new ≡ steps.old + visits_of seg.old ages.now n (task_kind task) }
     ensures few { result ≤ BLOCKS * ROWS }
     ensures whole { HasSoundAges (objects_of (M.basis marker.now)) (row_at seg.old) ages.now →
-        WholeClear (row_at seg.old) (row_at seg.new) task (M.promoted marker.now) result }
+        WholeClear (takes task) (view_at seg.old (M.promoted marker.now) (M.pinned marker.now))
+        seg.new result }
 {
     let mut cleared = 0;
     let mut rows = DueRows::start(seg, ages, task.kind(), n);
@@ -58,7 +56,7 @@ fn clear_row<M: Marker>(seg: &mut Seg, slot: Slot, task: Task, marker: &M) -> bo
     requires object { ForSome (live_at seg.old slot.0).target
         (λ x. is_object (objects_of (M.basis marker.now)) x ≡ true) }
     ensures row { let handle = live_at seg.old slot.0 in
-        Rewrites slot.0 (swept true task (M.promoted marker.now) handle) seg.old seg.new }
+        Rewrites slot.0 (swept true (takes task) (M.promoted marker.now) handle) seg.old seg.new }
     ensures lost { let handle = live_at seg.old slot.0 in
         result ≡ (takes task handle && is_lost (M.promoted marker.now) handle.target) }
 {

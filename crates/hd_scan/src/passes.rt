@@ -1,12 +1,10 @@
-ghost use Rattle.std.specs.Prelude.{◌≡◌, ◌+◌, ◌*◌, ◌≤◌, length};
+ghost use Rattle.std.specs.Prelude.{◌≡◌, ◌+◌, ◌*◌, ◌≤◌};
 ghost use Rattle.hd_model.specs.Heap.{objects_of};
 ghost use Rattle.hd_model.specs.Table.{row_at};
-ghost use Rattle.hd_model.specs.Names.{NamesObjects};
-ghost use Rattle.hd_model.specs.Visits.{visits_of};
+ghost use Rattle.hd_model.specs.Visits.{MayVisit, visits_of};
 ghost use Rattle.hd_model.specs.Ages.{HasSoundAges};
-ghost use Rattle.hd_ages.specs.Clumps.{CoversTable};
 ghost use Rattle.hd_scan.specs.Tasks.{task_kind};
-ghost use Rattle.hd_scan.specs.Passes.{Passed};
+ghost use Rattle.hd_scan.specs.Passes.{Passed, view_at};
 ghost use Rattle.hd_scan.specs.Whole.{WholePass};
 
 use crate::clearing::clear;
@@ -33,14 +31,12 @@ pub fn pass<M: Marker, L: Ledger>(
     steps: &mut Steps<L>,
 ) -> u32
     requires settled { M.settled marker.old }
-    requires generation { (M.basis marker.old).condemned ≡ n }
-    requires names { NamesObjects (objects_of (M.basis marker.old)) (row_at seg.old) }
-    requires blocks { CoversTable ages.now seg.old }
+    requires visit { MayVisit (M.basis marker.old) seg.old ages.now n }
     ensures settled { M.settled marker.new }
     ensures basis { M.basis marker.new ≡ M.basis marker.old }
-    ensures passed { Passed (objects_of (M.basis marker.old)) seg.old seg.new ages.now n task
-        (M.promoted marker.old) (M.promoted marker.new) (M.pinned marker.old)
-        (M.pinned marker.new) result }
+    ensures passed { Passed (objects_of (M.basis marker.old)) ages.now n task
+        (view_at seg.old (M.promoted marker.old) (M.pinned marker.old))
+        (view_at seg.new (M.promoted marker.new) (M.pinned marker.new)) result }
     ensures steps { steps.new ≡ steps.old + visits_of seg.old ages.now n (task_kind task) }
     ensures few { result ≤ BLOCKS * ROWS }
 
@@ -48,9 +44,9 @@ pub fn pass<M: Marker, L: Ledger>(
     // clears, is as if it had looked at all rows. The number of a root task is of the visited ones
     // alone.
     ensures whole { HasSoundAges (objects_of (M.basis marker.old)) (row_at seg.old) ages.now →
-        WholePass (objects_of (M.basis marker.old)) (row_at seg.old) (row_at seg.new) n task
-        (M.promoted marker.old) (M.promoted marker.new) (M.pinned marker.old)
-        (M.pinned marker.new) result }
+        WholePass (objects_of (M.basis marker.old)) n task
+        (view_at seg.old (M.promoted marker.old) (M.pinned marker.old))
+        (view_at seg.new (M.promoted marker.new) (M.pinned marker.new)) result }
 {
     if task.clears() {
         clear(seg, ages, task, marker, n, steps)

@@ -1,15 +1,14 @@
-ghost use Rattle.std.specs.Prelude.{◌≡◌, ◌+◌, ◌*◌, ◌&&◌, ◌≤◌, length, is_some, IsSome};
+ghost use Rattle.std.specs.Prelude.{◌≡◌, ◌+◌, ◌*◌, ◌&&◌, ◌≤◌, is_some, IsSome};
 ghost use Rattle.std.specs.FinMap.{get};
 ghost use Rattle.hd_model.specs.Heap.{objects_of};
 ghost use Rattle.hd_model.specs.Leads.{Grows};
 ghost use Rattle.hd_model.specs.Scene.{IsYoungField};
 ghost use Rattle.hd_model.specs.Table.{live_at, row_at};
 ghost use Rattle.hd_model.specs.Names.{NamesObjects};
-ghost use Rattle.hd_model.specs.Visits.{visits_of};
+ghost use Rattle.hd_model.specs.Visits.{MayVisit, visits_of};
 ghost use Rattle.hd_model.specs.Ages.{HasSoundAges};
-ghost use Rattle.hd_ages.specs.Clumps.{CoversTable};
 ghost use Rattle.hd_scan.specs.Tasks.{task_kind, takes};
-ghost use Rattle.hd_scan.specs.Passes.{IsTargetBy, PinsBy, RootPass};
+ghost use Rattle.hd_scan.specs.Passes.{IsTargetBy, PinsBy, RootPass, view_at};
 ghost use Rattle.hd_scan.specs.Whole.{WholeRoots};
 
 use crate::task::{Task, pins};
@@ -30,20 +29,18 @@ pub fn promote<M: Marker, L: Ledger>(
     steps: &mut Steps<L>,
 ) -> u32
     requires settled { M.settled marker.old }
-    requires generation { (M.basis marker.old).condemned ≡ n }
-    requires names { NamesObjects (objects_of (M.basis marker.old)) (row_at seg.now) }
-    requires blocks { CoversTable ages.now seg.now }
+    requires visit { MayVisit (M.basis marker.old) seg.now ages.now n }
     ensures settled { M.settled marker.new }
     ensures basis { M.basis marker.new ≡ M.basis marker.old }
-    ensures passed { RootPass (objects_of (M.basis marker.old)) seg.now seg.now ages.now n task
-        (M.promoted marker.old) (M.promoted marker.new) (M.pinned marker.old)
-        (M.pinned marker.new) result }
+    ensures passed { RootPass (objects_of (M.basis marker.old)) ages.now n task
+        (view_at seg.now (M.promoted marker.old) (M.pinned marker.old))
+        (view_at seg.now (M.promoted marker.new) (M.pinned marker.new)) result }
     ensures steps { steps.new ≡ steps.old + visits_of seg.now ages.now n (task_kind task) }
     ensures few { result ≤ BLOCKS * ROWS }
     ensures whole { HasSoundAges (objects_of (M.basis marker.old)) (row_at seg.now) ages.now →
-        WholeRoots (objects_of (M.basis marker.old)) (row_at seg.now) n task
-        (M.promoted marker.old) (M.promoted marker.new) (M.pinned marker.old)
-        (M.pinned marker.new) }
+        WholeRoots (objects_of (M.basis marker.old)) n (takes task)
+        (view_at seg.now (M.promoted marker.old) (M.pinned marker.old))
+        (view_at seg.now (M.promoted marker.new) (M.pinned marker.new)) }
 {
     let mut held = 0;
     let mut rows = DueRows::start(seg, ages, task.kind(), n);

@@ -38,6 +38,24 @@ pub enum Role {
 }
 
 impl Task {
+    /// All that promote the targets of handles.
+    pub const ROOTS: [Task; 4] = [
+        Task::Strong,
+        Task::Pinned,
+        Task::VariableRoots,
+        Task::CountedRoots,
+    ];
+
+    /// All that clear weak handles before finalisation.
+    pub const CLEARS_SHORT: [Task; 2] = [Task::ClearShort, Task::ClearVariableShort];
+
+    /// All that clear weak handles after it.
+    pub const CLEARS_LONG: [Task; 3] = [
+        Task::ClearLong,
+        Task::ClearVariableLong,
+        Task::ClearCounted,
+    ];
+
     /// The kind of handle that it goes over.
     pub(crate) fn kind(self) -> Kind
         ensures { result ≡ task_kind self }

@@ -4,9 +4,9 @@ use Rattle.hd_model.specs.declared.data.Addr.{Addr}
 use Rattle.hd_model.specs.declared.data.Kind.TheVariants as kind
 use Rattle.hd_model.specs.Heap.{Basis, objects_of}
 use Rattle.hd_model.specs.Marking.{IsSettled}
-use Rattle.hd_model.specs.Reach.{IsArrow}
+use Rattle.hd_model.specs.Reach.{IsEdge}
 use Rattle.hd_model.specs.Table.{row_at}
-use Rattle.hd_model.specs.Visits.{visits_of}
+use Rattle.hd_model.specs.Visits.{visits_of, MayVisit}
 use Rattle.hd_dep.specs.Rescan.{Spreads}
 use Rattle.hd_dep.proofs.SecondarySpread.{spreads_none, spreads_on}
 use Rattle.hd_dep.proofs.RescanPasses.{HasPassed, none_passed, passed_more, passes_fall, rescan_steps, rescan_closure, gained_or_same, followed_after, left_in}
@@ -20,11 +20,16 @@ loop-more-init g c =
       settled = c.requires.settled;
       basis = refl;
       pinned = refl;
-      spreads = spreads_none (IsArrow (objects_of b) (row_at c.args.seg.now)) p;
+      spreads = spreads_none (IsEdge (objects_of b) (row_at c.args.seg.now)) p;
       passed = none_passed b.heap (visits_of c.args.seg.now c.args.ages.now c.args.n kind.Dependent) p
           c.args.steps.now;
       followed = λ e. absurd (true≢false e);
     }
+
+pub spread-more-requires-clause-visit : goal.spread-more-requires-clause-visit
+spread-more-requires-clause-visit g c =
+    subst (λ (b : Basis). MayVisit b c.args.seg.now c.args.ages.now c.args.n)
+    (sym c.loop-more.invariant.basis) c.requires.due.visit
 
 pub loop-more-preserved : goal.loop-more-preserved
 loop-more-preserved g c =
@@ -38,8 +43,8 @@ loop-more-preserved g c =
     let settled : IsSettled (objects_of b) b.condemned q =
     subst (λ (a : Basis). IsSettled (objects_of a) a.condemned q) basis
     (g.met.M.Marker.settles c.spread-more.new.marker c.spread-more.ensures.settled) in
-    let spreads : Spreads (IsArrow (objects_of b) (row_at c.args.seg.now)) p q =
-    subst (λ (a : Basis). Spreads (IsArrow (objects_of a) (row_at c.args.seg.now)) p q)
+    let spreads : Spreads (IsEdge (objects_of b) (row_at c.args.seg.now)) p q =
+    subst (λ (a : Basis). Spreads (IsEdge (objects_of a) (row_at c.args.seg.now)) p q)
     c.loop-more.invariant.basis
     c.spread-more.ensures.spreads in
     let passed : HasPassed b.heap visits p0 p c.args.steps.now c.loop-more.steps true =
@@ -50,7 +55,7 @@ loop-more-preserved g c =
       settled = c.spread-more.ensures.settled;
       basis = basis;
       pinned = c.spread-more.ensures.pinned ∙ c.loop-more.invariant.pinned;
-      spreads = spreads_on (IsArrow (objects_of b) (row_at c.args.seg.now)) p0 p q
+      spreads = spreads_on (IsEdge (objects_of b) (row_at c.args.seg.now)) p0 p q
           c.loop-more.invariant.spreads
           spreads;
       passed = passed_more b.heap b.condemned visits p0 p q c.args.steps.now c.loop-more.steps
@@ -87,15 +92,15 @@ returns-clause-closure g c =
     let p0 : Addr → Bool = g.M.Marker.promoted c.args.marker.now in
     let p : Addr → Bool = g.M.Marker.promoted c.loop-more.marker in
     let first : IsSettled (objects_of b) c.args.n p0 =
-    subst (λ n. IsSettled (objects_of b) n p0) c.requires.generation
+    subst (λ n. IsSettled (objects_of b) n p0) c.requires.due.visit.generation
     (g.met.M.Marker.settles c.args.marker.now c.requires.settled) in
     let last : IsSettled (objects_of b) c.args.n p =
-    subst (λ n. IsSettled (objects_of b) n p) c.requires.generation
+    subst (λ n. IsSettled (objects_of b) n p) c.requires.due.visit.generation
     (subst (λ (a : Basis). IsSettled (objects_of a) a.condemned p) c.loop-more.invariant.basis
     (g.met.M.Marker.settles c.loop-more.marker c.loop-more.invariant.settled)) in
     rescan_closure (objects_of b) c.args.n (row_at c.args.seg.now) c.args.ages.now p0 p first last
     c.requires.fields
-    c.requires.ages_sound c.loop-more.invariant.spreads
+    c.requires.due.sound c.loop-more.invariant.spreads
     (c.loop-more.invariant.followed c.loop-more-test.false)
 
 pub returns-clause-steps : goal.returns-clause-steps

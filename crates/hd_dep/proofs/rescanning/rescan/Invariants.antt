@@ -5,7 +5,7 @@ use Rattle.hd_model.specs.State.{Handle}
 use Rattle.hd_model.specs.Role.{attaches, role}
 use Rattle.hd_model.specs.Ages.{is_due}
 use Rattle.hd_model.specs.Heap.{objects_of}
-use Rattle.hd_model.specs.Reach.{IsArrow}
+use Rattle.hd_model.specs.Reach.{IsEdge}
 use Rattle.hd_model.specs.Table.{row_at}
 use Rattle.hd_model.specs.Visits.{visits_of}
 use Rattle.hd_dep.specs.Rescan.{IsFollowed, Spreads}
@@ -18,7 +18,7 @@ invariant-loop-more g l = record {
   basis : g.M.Marker.basis l.marker ≡ g.M.Marker.basis l.initial.marker;
   pinned : g.M.Marker.pinned l.marker ≡ g.M.Marker.pinned l.initial.marker;
   spreads :
-      Spreads (IsArrow (objects_of (g.M.Marker.basis l.initial.marker)) (row_at l.seg))
+      Spreads (IsEdge (objects_of (g.M.Marker.basis l.initial.marker)) (row_at l.seg))
       (g.M.Marker.promoted l.initial.marker) (g.M.Marker.promoted l.marker);
   passed :
       HasPassed (g.M.Marker.basis l.initial.marker).heap (visits_of l.seg l.ages l.n kind.Dependent)

@@ -4,7 +4,7 @@ use Rattle.std.proofs.lemmas.Option.{same_Some}
 use Rattle.hd_model.specs.declared.data.Addr.{Addr}
 use Rattle.hd_model.specs.State.{Handle, secondary_of}
 use Rattle.hd_model.specs.Heap.{objects_of}
-use Rattle.hd_model.specs.Reach.{IsArrow}
+use Rattle.hd_model.specs.Reach.{IsEdge}
 use Rattle.hd_model.specs.Table.{Table, live_at, row_at}
 use Rattle.hd_seg.specs.Row.{extra_of, row_of}
 use Rattle.hd_seg.specs.declared.row.Row.{Row}
@@ -14,12 +14,12 @@ use Rattle.hd_dep.proofs.rescanning.spread_row.Goals as goal
 
 pub returns-in_default-parts-clause-spreads : goal.returns-in_default-parts-clause-spreads
 returns-in_default-parts-clause-spreads g c =
-    spreads_none (IsArrow (objects_of (g.M.Marker.basis c.args.marker.now)) (row_at c.args.seg.now))
+    spreads_none (IsEdge (objects_of (g.M.Marker.basis c.args.marker.now)) (row_at c.args.seg.now))
     (g.M.Marker.promoted c.args.marker.now)
 
 pub returns-then-not-is_left_out-clause-spreads : goal.returns-then-not-is_left_out-clause-spreads
 returns-then-not-is_left_out-clause-spreads g c =
-    spreads_none (IsArrow (objects_of (g.M.Marker.basis c.args.marker.now)) (row_at c.args.seg.now))
+    spreads_none (IsEdge (objects_of (g.M.Marker.basis c.args.marker.now)) (row_at c.args.seg.now))
     (g.M.Marker.promoted c.args.marker.now)
 
 pub returns-clause-spreads : goal.returns-clause-spreads

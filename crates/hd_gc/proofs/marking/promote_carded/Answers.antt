@@ -4,27 +4,8 @@ use Rattle.hd_heap.specs.Calls.{is_old_carded, IsWalk}
 use Rattle.hd_gc.proofs.CardWalk.{carded_none, carded_next, carded_all, left_less, carded_object}
 use Rattle.hd_gc.proofs.marking.promote_carded.Goals as goal
 
-pub loop-at-init : goal.loop-at-init
-loop-at-init c = carded_none c.args.heap.now c.args.n c.args.marks.now c.requires.settled
-
-pub promote_fields-requires-clause-settled : goal.promote_fields-requires-clause-settled
-promote_fields-requires-clause-settled c = c.loop-at.invariant.settled
-
-pub promote_fields-requires-clause-heap : goal.promote_fields-requires-clause-heap
-promote_fields-requires-clause-heap c =
-    ap (λ (g : Basis). g.heap) c.loop-at.invariant.basis ∙ c.requires.heap
-
-pub promote_fields-requires-clause-object : goal.promote_fields-requires-clause-object
-promote_fields-requires-clause-object c =
-    carded_object c.args.heap.now c.args.n c.in-Some.at c.in-Some.ensures.walk.member
-
 pub promote_fields-requires-clause-objects : goal.promote_fields-requires-clause-objects
 promote_fields-requires-clause-objects c = λ y f. c.requires.objects c.in-Some.at y f
-
-pub loop-at-smaller : goal.loop-at-smaller
-loop-at-smaller c =
-    left_less c.args.heap.now c.args.n c.loop-at.after c.in-Some.at c.in-Some.ensures.sound
-    c.in-Some.ensures.walk
 
 pub loop-at-preserved : goal.loop-at-preserved
 loop-at-preserved c =

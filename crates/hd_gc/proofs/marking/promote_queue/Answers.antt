@@ -1,10 +1,10 @@
-use Rattle.std.proofs.Common.{◌≡◌, true, sym, subst, take, arith}
+use Rattle.std.proofs.Common.{◌≡◌, ◌∙◌, true, sym, subst, take, get_or, arith}
 use Rattle.std.specs.Prelude.{Contains}
 use Rattle.std.proofs.lemmas.List.Elements.{Contains-get_or}
 use Rattle.hd_model.specs.declared.data.Addr.{Addr}
 use Rattle.hd_model.specs.Heap.{Basis, objects_of}
 use Rattle.hd_model.specs.Scene.{is_object}
-use Rattle.hd_gc.proofs.PromoteSteps.{promotes_none, promoted_next, promoted_all, none_taken}
+use Rattle.hd_gc.proofs.PromoteSteps.{promotes_none, promotes_like, promoted_next, promoted_all, none_taken}
 use Rattle.hd_gc.proofs.marking.promote_queue.Goals as goal
 
 pub loop-i-init : goal.loop-i-init
@@ -14,9 +14,6 @@ loop-i-init c =
 
 pub at-requires : goal.at-requires
 at-requires c = omega (arith, c.len-i-end.ensures.value)
-
-pub promote-requires-clause-settled : goal.promote-requires-clause-settled
-promote-requires-clause-settled c = c.loop-i.invariant.settled
 
 pub promote-requires-clause-object : goal.promote-requires-clause-object
 promote-requires-clause-object c =
@@ -30,15 +27,17 @@ pub loop-i-preserved : goal.loop-i-preserved
 loop-i-preserved c =
     let waiting = c.args.fin.now.waiting in
     let i = c.loop-i.i in
-    promoted_next (λ x. x) (λ x y e. e) waiting i c.at.result (omega (arith, c.len-i-end.ensures.value))
-    c.args.marks.now c.loop-i.marks c.loop-i.invariant c.at.result c.promote.new.self
-    (sym (c.at.ensures c.at.result))
+    let at : Addr = c.at.result in
+    let here : get_or waiting i at ≡ at = sym (c.at.ensures at) in
+    promoted_next (λ x. x) waiting i at (omega (arith, c.len-i-end.ensures.value)) c.loop-i.invariant
+    (promotes_like (λ x. x ≡ at) (λ x. get_or waiting i at ≡ x) c.loop-i.marks c.promote.new.self
+    (λ x e. here ∙ sym e) (λ x e. sym e ∙ here)
     (record {
       settled = c.promote.ensures.settled;
       basis = c.promote.ensures.basis;
       pinned = c.promote.ensures.pinned;
       grows = c.promote.ensures.grows;
-    })
+    }))
 
 pub returns : goal.returns
 returns c =

@@ -4,13 +4,16 @@ use Rattle.hd_model.specs.Ages.{due_clumps}
 use Rattle.hd_model.specs.Heap.{objects_of}
 use Rattle.hd_model.specs.Marking.{IsSettled}
 use Rattle.hd_model.specs.declared.data.Addr.{Addr}
-use Rattle.hd_model.specs.Table.{Table, chain_of}
+use Rattle.hd_model.specs.Table.{chain_of}
 use Rattle.hd_ages.specs.Walk.{due_slots}
 use Rattle.hd_scan.specs.Tasks.{task_kind}
 use Rattle.hd_ages.proofs.WalkProgress.{row_due, row_live, row_same, row_of_kind, row_target}
 use Rattle.hd_ages.proofs.WalkWrites.{change_start, change_row, change_smaller, changed, changed_count, changed_steps}
-use Rattle.hd_scan.proofs.HandleClear.{sweep, undue_kept, swept_due, swept_row, swept_has, swept_hasnt, sweep_whole}
+use Rattle.hd_scan.proofs.HandleClear.{undue_kept, swept_due, swept_row, swept_has, swept_hasnt, sweep_whole}
 use Rattle.hd_scan.proofs.clearing.clear.Goals as goal
+
+pub start-rows-requires : goal.start-rows-requires
+start-rows-requires g c = record { blocks = c.requires.visit.covers }
 
 pub loop-slot-init : goal.loop-slot-init
 loop-slot-init g c =
@@ -25,100 +28,53 @@ loop-slot-init g c =
     (swept_due c.args.seg.now c.args.ages.now c.args.n c.args.task (g.M.Marker.promoted c.args.marker.now))
 
 pub clear_row-requires-clause-live : goal.clear_row-requires-clause-live
-clear_row-requires-clause-live g c =
-    row_live c.args.seg.now c.args.ages.now c.args.n (task_kind c.args.task) c.loop-slot.seg c.loop-slot.rows
-    c.next.new.self c.args.steps.now c.in-Some.slot c.loop-slot.steps c.next.new.steps
-    c.loop-slot.invariant.under
-    c.in-Some.ensures.row
+clear_row-requires-clause-live g c = row_live c.loop-slot.invariant.under c.in-Some.ensures.row
 
 pub clear_row-requires-clause-of_kind : goal.clear_row-requires-clause-of_kind
-clear_row-requires-clause-of_kind g c =
-    row_of_kind c.args.seg.now c.args.ages.now c.args.n (task_kind c.args.task) c.loop-slot.seg
-    c.loop-slot.rows
-    c.next.new.self c.args.steps.now c.in-Some.slot c.loop-slot.steps c.next.new.steps
-    c.loop-slot.invariant.under
-    c.in-Some.ensures.row
+clear_row-requires-clause-of_kind g c = row_of_kind c.loop-slot.invariant.under c.in-Some.ensures.row
 
 pub clear_row-requires-clause-object : goal.clear_row-requires-clause-object
 clear_row-requires-clause-object g c =
-    row_target c.args.seg.now c.args.ages.now c.args.n (task_kind c.args.task) c.loop-slot.seg
-    c.loop-slot.rows
-    c.next.new.self c.args.steps.now c.in-Some.slot c.loop-slot.steps c.next.new.steps
-    c.loop-slot.invariant.under
-    c.in-Some.ensures.row (objects_of (g.M.Marker.basis c.args.marker.now)) c.requires.names
+    row_target c.loop-slot.invariant.under c.in-Some.ensures.row
+    (objects_of (g.M.Marker.basis c.args.marker.now)) c.requires.visit.names
 
 pub loop-slot-smaller : goal.loop-slot-smaller
 loop-slot-smaller g c =
-    let t : Table = c.args.seg.now in
     let under = c.loop-slot.invariant.under in
-    let due = row_due t c.args.ages.now c.args.n (task_kind c.args.task) c.loop-slot.seg c.loop-slot.rows
-    c.next.new.self c.args.steps.now c.in-Some.slot c.loop-slot.steps c.next.new.steps under
-    c.in-Some.ensures.row in
-    let same = row_same t c.args.ages.now c.args.n (task_kind c.args.task) c.loop-slot.seg c.loop-slot.rows
-    c.next.new.self c.args.steps.now c.in-Some.slot c.loop-slot.steps c.next.new.steps under
-    c.in-Some.ensures.row in
-    change_smaller t c.args.ages.now c.args.n (task_kind c.args.task)
-    (sweep t c.args.ages.now c.args.n c.args.task (g.M.Marker.promoted c.args.marker.now)) _
-    c.loop-slot.seg c.clear_row.new.seg c.loop-slot.rows c.next.new.self c.in-Some.slot c.args.steps.now
-    c.loop-slot.steps c.next.new.steps c.loop-slot.cleared c.loop-slot.invariant c.in-Some.ensures.row
-    c.next.ensures.on c.next.ensures.steps
-    (swept_row t c.args.ages.now c.args.n c.args.task (g.M.Marker.promoted c.args.marker.now) c.in-Some.slot.0
-    due _
-    same c.loop-slot.seg c.clear_row.new.seg c.clear_row.ensures.row)
+    change_smaller c.loop-slot.invariant c.in-Some.ensures.row
+    (swept_row c.args.task (g.M.Marker.promoted c.args.marker.now) (row_due under c.in-Some.ensures.row)
+    (row_same under c.in-Some.ensures.row) c.clear_row.ensures.row)
 
 pub loop-slot-preserved : goal.loop-slot-preserved
 loop-slot-preserved g c =
-    let t : Table = c.args.seg.now in
     let p : Addr → Bool = g.M.Marker.promoted c.args.marker.now in
     let under = c.loop-slot.invariant.under in
-    let due = row_due t c.args.ages.now c.args.n (task_kind c.args.task) c.loop-slot.seg c.loop-slot.rows
-    c.next.new.self c.args.steps.now c.in-Some.slot c.loop-slot.steps c.next.new.steps under
-    c.in-Some.ensures.row in
-    let same = row_same t c.args.ages.now c.args.n (task_kind c.args.task) c.loop-slot.seg c.loop-slot.rows
-    c.next.new.self c.args.steps.now c.in-Some.slot c.loop-slot.steps c.next.new.steps under
-    c.in-Some.ensures.row in
-    change_row t c.args.ages.now c.args.n (task_kind c.args.task)
-    (sweep t c.args.ages.now c.args.n c.args.task p) _ c.loop-slot.seg c.clear_row.new.seg c.loop-slot.rows
-    c.next.new.self c.in-Some.slot c.args.steps.now c.loop-slot.steps c.next.new.steps c.loop-slot.cleared
-    c.loop-slot.invariant c.in-Some.ensures.row c.next.ensures.on c.next.ensures.steps
-    (swept_row t c.args.ages.now c.args.n c.args.task p c.in-Some.slot.0 due _ same c.loop-slot.seg
-    c.clear_row.new.seg c.clear_row.ensures.row)
+    let due = row_due under c.in-Some.ensures.row in
+    let same = row_same under c.in-Some.ensures.row in
+    change_row c.loop-slot.invariant c.in-Some.ensures.row
+    (swept_row c.args.task p due same c.clear_row.ensures.row) c.next.ensures.on c.next.ensures.steps
     c.clear_row.result c.from-cleared.result
-    (λ yes. swept_has t c.args.ages.now c.args.n c.args.task p c.in-Some.slot.0 due _ same
-    (sym c.clear_row.ensures.lost ∙ yes))
-    (λ no. swept_hasnt t c.args.ages.now c.args.n c.args.task p c.in-Some.slot.0 due _ same
-    (sym c.clear_row.ensures.lost ∙ no))
-    c.from-cleared.ensures
+    (λ yes. swept_has c.args.task p due same (sym c.clear_row.ensures.lost ∙ yes))
+    (λ no. swept_hasnt c.args.task p due same (sym c.clear_row.ensures.lost ∙ no)) c.from-cleared.ensures
 
 pub returns-clause-passed : goal.returns-clause-passed
-returns-clause-passed g c =
-    let t : Table = c.args.seg.now in
-    record {
-      table = c.loop-slot.invariant.under.table;
-      promotes = refl;
-      pins = refl;
-      swept = changed t c.args.ages.now c.args.n (task_kind c.args.task) _ _ c.loop-slot.seg c.loop-slot.rows
-          c.next.new.self c.args.steps.now c.loop-slot.steps c.next.new.steps c.loop-slot.cleared
-          c.loop-slot.invariant c.in_default.ensures.row;
-      count = changed_count t c.args.ages.now c.args.n (task_kind c.args.task) _ _ c.loop-slot.seg
-          c.loop-slot.rows c.next.new.self c.args.steps.now c.loop-slot.steps c.next.new.steps
-          c.loop-slot.cleared
-          c.loop-slot.invariant c.in_default.ensures.row;
-    }
+returns-clause-passed g c = record {
+  table = c.loop-slot.invariant.under.table;
+  promotes = refl;
+  pins = refl;
+  swept = changed c.loop-slot.invariant c.in_default.ensures.row;
+  count = changed_count c.loop-slot.invariant c.in_default.ensures.row;
+}
 
 pub returns-clause-steps : goal.returns-clause-steps
 returns-clause-steps g c =
-    changed_steps c.args.seg.now c.args.ages.now c.args.n (task_kind c.args.task) _ _ c.loop-slot.seg
-    c.loop-slot.rows c.next.new.self c.args.steps.now c.loop-slot.steps c.next.new.steps c.loop-slot.cleared
-    c.loop-slot.invariant c.in_default.ensures.row c.next.ensures.steps
+    changed_steps c.loop-slot.invariant c.in_default.ensures.row c.next.ensures.steps
 
 pub returns-clause-whole : goal.returns-clause-whole
 returns-clause-whole g c = λ sound.
-    sweep_whole (objects_of (g.M.Marker.basis c.args.marker.now)) c.args.seg.now c.loop-slot.seg
-    c.args.ages.now
-    c.args.n c.args.task (g.M.Marker.promoted c.args.marker.now) (g.M.Marker.pinned c.args.marker.now)
-    c.loop-slot.cleared
-    (subst (λ n. IsSettled (objects_of (g.M.Marker.basis c.args.marker.now)) n
-    (g.M.Marker.promoted c.args.marker.now))
-    c.requires.generation (g.met.M.Marker.settles c.args.marker.now c.requires.settled)) sound
+    let o = objects_of (g.M.Marker.basis c.args.marker.now) in
+    let p : Addr → Bool = g.M.Marker.promoted c.args.marker.now in
+    sweep_whole o c.args.seg.now c.args.ages.now c.args.n c.args.task p
+    (subst (λ n. IsSettled o n p) c.requires.visit.generation
+    (g.met.M.Marker.settles c.args.marker.now c.requires.settled)) sound _ _ c.loop-slot.cleared
     (returns-clause-passed g c)

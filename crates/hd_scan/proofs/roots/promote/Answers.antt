@@ -8,19 +8,18 @@ use Rattle.hd_model.specs.Scene.{IsYoungField}
 use Rattle.hd_model.specs.Table.{chain_of, live_at}
 use Rattle.hd_ages.specs.Walk.{due_slots}
 use Rattle.hd_ages.proofs.WalkProgress.{row_live, row_of_kind}
-use Rattle.hd_scan.specs.Tasks.{task_kind}
 use Rattle.hd_scan.specs.Passes.{IsTargetBy}
 use Rattle.hd_scan.proofs.RootPromote.{root_start, root_row, root_end, root_whole}
 use Rattle.hd_scan.proofs.roots.promote.Goals as goal
+
+pub start-rows-requires : goal.start-rows-requires
+start-rows-requires g c = record { blocks = c.requires.visit.covers }
 
 pub loop-slot-init : goal.loop-slot-init
 loop-slot-init g c = record {
   settled = c.requires.settled;
   basis = refl;
-  rooting = root_start (objects_of (g.M.Marker.basis c.args.marker.now)) c.args.seg.now c.args.ages.now
-      c.args.n
-      c.args.task (g.M.Marker.promoted c.args.marker.now) (g.M.Marker.pinned c.args.marker.now)
-      c.start-rows.ensures.table c.start-rows.result c.args.steps.now c.start-rows.ensures.on
+  rooting = root_start c.start-rows.ensures.table c.start-rows.ensures.on
       (c.start-rows.ensures.slots
       ∙ ap (λ (k : Kind). due_slots c.args.seg.now c.args.ages.now c.args.n k) c.kind.ensures)
       (c.start-rows.ensures.clumps
@@ -28,17 +27,11 @@ loop-slot-init g c = record {
 }
 
 pub promote_row-requires-clause-live : goal.promote_row-requires-clause-live
-promote_row-requires-clause-live g c =
-    row_live c.args.seg.now c.args.ages.now c.args.n (task_kind c.args.task) c.args.seg.now c.loop-slot.rows
-    c.next.new.self c.args.steps.now c.in-Some.slot c.loop-slot.steps c.next.new.steps
-    c.loop-slot.invariant.rooting.under c.in-Some.ensures.row
+promote_row-requires-clause-live g c = row_live c.loop-slot.invariant.rooting.under c.in-Some.ensures.row
 
 pub promote_row-requires-clause-of_kind : goal.promote_row-requires-clause-of_kind
 promote_row-requires-clause-of_kind g c =
-    row_of_kind c.args.seg.now c.args.ages.now c.args.n (task_kind c.args.task) c.args.seg.now
-    c.loop-slot.rows
-    c.next.new.self c.args.steps.now c.in-Some.slot c.loop-slot.steps c.next.new.steps
-    c.loop-slot.invariant.rooting.under c.in-Some.ensures.row
+    row_of_kind c.loop-slot.invariant.rooting.under c.in-Some.ensures.row
 
 pub loop-slot-preserved : goal.loop-slot-preserved
 loop-slot-preserved g c =
@@ -49,7 +42,7 @@ loop-slot-preserved g c =
     subst (λ m. Grows (IsYoungField (objects_of b) m)
     (IsTargetBy c.args.task (live_at c.args.seg.now c.in-Some.slot.0))
     (g.M.Marker.promoted c.loop-slot.marker) (g.M.Marker.promoted c.promote_row.new.marker))
-    c.requires.generation
+    c.requires.visit.generation
     (subst (λ (a : Basis). Grows (IsYoungField (objects_of a) a.condemned)
     (IsTargetBy c.args.task (live_at c.args.seg.now c.in-Some.slot.0))
     (g.M.Marker.promoted c.loop-slot.marker) (g.M.Marker.promoted c.promote_row.new.marker))
@@ -57,31 +50,17 @@ loop-slot-preserved g c =
     record {
       settled = c.promote_row.ensures.settled;
       basis = c.promote_row.ensures.basis ∙ c.loop-slot.invariant.basis;
-      rooting = root_row (objects_of b) c.args.seg.now c.args.ages.now c.args.n c.args.task
-          (g.M.Marker.promoted c.args.marker.now) (g.M.Marker.pinned c.args.marker.now) c.loop-slot.rows
-          c.next.new.self c.in-Some.slot c.args.steps.now c.loop-slot.steps c.next.new.steps c.loop-slot.held
-          (g.M.Marker.promoted c.loop-slot.marker) (g.M.Marker.promoted c.promote_row.new.marker)
-          (g.M.Marker.pinned c.loop-slot.marker) (g.M.Marker.pinned c.promote_row.new.marker)
-          c.loop-slot.invariant.rooting c.in-Some.ensures.row c.next.ensures.on c.next.ensures.steps grows
-          c.promote_row.ensures.pins c.promote_row.result c.from-held.result c.promote_row.ensures.answer
-          c.from-held.ensures;
+      rooting = root_row c.loop-slot.invariant.rooting c.in-Some.ensures.row c.next.ensures.on
+          c.next.ensures.steps grows c.promote_row.ensures.pins c.promote_row.result c.from-held.result
+          c.promote_row.ensures.answer c.from-held.ensures;
     }
 
 pub returns-clause-passed : goal.returns-clause-passed
-returns-clause-passed g c =
-    root_end (objects_of (g.M.Marker.basis c.args.marker.now)) c.args.seg.now c.args.ages.now c.args.n
-    c.args.task
-    (g.M.Marker.promoted c.args.marker.now) (g.M.Marker.pinned c.args.marker.now) c.loop-slot.rows
-    c.next.new.self
-    c.args.steps.now c.loop-slot.steps c.next.new.steps c.loop-slot.held
-    (g.M.Marker.promoted c.loop-slot.marker)
-    (g.M.Marker.pinned c.loop-slot.marker) c.loop-slot.invariant.rooting c.in_default.ensures.row
+returns-clause-passed g c = root_end c.loop-slot.invariant.rooting c.in_default.ensures.row
 
 pub returns-clause-whole : goal.returns-clause-whole
 returns-clause-whole g c = λ sound.
     let o = objects_of (g.M.Marker.basis c.args.marker.now) in
-    root_whole o c.args.seg.now c.args.ages.now c.args.n c.args.task
-    (g.M.Marker.promoted c.args.marker.now) (g.M.Marker.pinned c.args.marker.now)
-    (g.M.Marker.promoted c.loop-slot.marker) (g.M.Marker.pinned c.loop-slot.marker) c.loop-slot.held
-    (subst (λ n. IsSettled o n (g.M.Marker.promoted c.args.marker.now)) c.requires.generation
+    root_whole
+    (subst (λ n. IsSettled o n (g.M.Marker.promoted c.args.marker.now)) c.requires.visit.generation
     (g.met.M.Marker.settles c.args.marker.now c.requires.settled)) sound (returns-clause-passed g c)
