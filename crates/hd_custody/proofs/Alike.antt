@@ -1,4 +1,4 @@
--- A step after which the seat's view has another hand and trace, and nothing else.
+-- A step after which the seat's view has other slots held and another trace, and nothing else.
 use Rattle.std.proofs.Common.{◌≡◌, ◌≢◌, ◌⊎◌, ℕ, zero, suc, ◌≤◌, Bool, false, List, [], ◌∷◌, get_or, set, inl, inr, sym, ap, subst, refl, ◌∙◌, arith}
 use Rattle.std.proofs.lemmas.Bool.{cases_eq}
 use Rattle.std.proofs.lemmas.List.{get_or-set_other}
@@ -11,27 +11,14 @@ use Rattle.atomic_table.specs.Table.{State}
 use Rattle.hd_model.specs.declared.held.Held.{Ghosts}
 use Rattle.hd_model.specs.declared.data.Entry.{Entry}
 use Rattle.hd_model.specs.State.{Numbers}
+use Rattle.hd_custody.specs.declared.words.TheConstants.{FIRST_MASK}
 use Rattle.hd_custody.specs.declared.view.View.{View}
 use Rattle.hd_custody.specs.Rule.{tally, room_of, Fits, HasNumber, Seats, Slots, Out, Holds, Gate, Custodied}
 use Rattle.hd_custody.proofs.Totals.{total_set}
 
--- the view with this hand, trace, number of the trace, and whether it began with nothing
+-- the view with these slots held, this trace, number of the trace, and whether it began with nothing
 abbrev pub reshaped : {W : Type 0} → List (ℕ × ℕ) → List (ℕ × ℕ × ℕ) → ℕ → Bool → View W → View W
-reshaped h t n e v = record v { hand = h; trace = t; trace_number = n; began_empty = e }
-
--- the view with these, and this of the gate
-abbrev pub posed : {W : Type 0} → List (ℕ × ℕ) → List (ℕ × ℕ × ℕ) → ℕ → Bool → Bool → ℕ
-    → Rattle.std.specs.Prelude.Option W → List (ℕ × ℕ) → View W → View W
-posed h t n e g z k cs v = record v {
-  hand = h;
-  trace = t;
-  trace_number = n;
-  began_empty = e;
-  has_gate = g;
-  gate_steps = z;
-  taken = k;
-  changes = cs;
-}
+reshaped h t n e v = record v { held = h; trace = t; trace_number = n; began_empty = e }
 
 pub place_there : {A : Type 0} (xs : List A) (i : ℕ) (a b : A) → get_elem? xs i ≡ some a
     → get_elem? (set xs i b) i ≡ some b
@@ -39,11 +26,68 @@ place_there [] i a b e = absurd (mathlib.Core.Option.some-ne-none a (sym e))
 place_there (x ∷ xs) zero a b e = refl
 place_there (x ∷ xs) (suc i) a b e = place_there xs i a b e
 
+module _ {W : Type 0} where
+  -- what is so of the seat at its place
+  pub fits_as : {made : ℕ} {owner : ℕ → ℕ} {journal : List Entry} {numbers : Numbers} {i j : ℕ} {w u : View W}
+      → Fits made owner journal numbers i w → (j ≡ i) × (w ≡ u) → Fits made owner journal numbers j u
+  fits_as {made} {owner} {journal} {numbers} {i} {j} {w} {u} f e =
+      subst (λ z. Fits made owner journal numbers j z) e.1
+      (subst (λ k. Fits made owner journal numbers k w) (sym e.0) f)
+
+  -- each number stays where the seat that changed has its own
+  pub kept_set : (views : List (View W)) (id : ℕ) (v w : View W) → get_elem? views id ≡ some v
+      → ((n : ℕ) → HasNumber n v → HasNumber n w)
+      → (n i : ℕ) (u : View W) → get_elem? views i ≡ some u → HasNumber n u
+      → (j : ℕ) × (z : View W) × (get_elem? (set views id w) j ≡ some z) × HasNumber n z
+  kept_set views id v w there has n i u at his = elim (cases_eq i id) [
+    | inl here ↦ (
+      id,
+      w,
+      place_there views id v w there,
+      has n (subst (HasNumber n)
+          (some-injective u v (sym at ∙ ap (get_elem? views) here ∙ there)) his),
+    )
+    | inr far ↦ (i, u, set_else views id i w far ∙ at, his)
+  ]
+
+  -- and the world is out with the same seat
+  pub out_set : (views : List (View W)) (id : ℕ) (v w : View W) → get_elem? views id ≡ some v
+      → w.is_spent ≡ v.is_spent → w.has_gate ≡ v.has_gate → (world : W) (holder : ℕ)
+      (homes : List (maybe.Option (Rattle.std.specs.Prelude.Option W)))
+      → Out world holder homes views → Out world holder homes (set views id w)
+  out_set views id v w there lives gate world holder homes o = elim (cases_eq holder id) [
+    | inl here ↦ (
+        let same : o.view ≡ v = some-injective o.view v (sym o.there ∙ ap (get_elem? views) here ∙ there) in
+        record {
+          view = w;
+          gone = o.gone;
+          there = ap (get_elem? (set views id w)) here ∙ place_there views id v w there;
+          lives = lives ∙ ap (λ (z : View W). z.is_spent) (sym same) ∙ o.lives;
+          has = gate ∙ ap (λ (z : View W). z.has_gate) (sym same) ∙ o.has;
+        })
+    | inr far ↦ record {
+      view = o.view;
+      gone = o.gone;
+      there = set_else views id holder w far ∙ o.there;
+      lives = o.lives;
+      has = o.has;
+    }
+  ]
+
 module _ {W : Type 0} (views : List (View W)) (id : ℕ) (v : View W) (there : get_elem? views id ≡ some v)
     (h : List (ℕ × ℕ)) (t : List (ℕ × ℕ × ℕ)) (n : ℕ) (e : Bool) (g : Bool) (z : ℕ)
     (took : Rattle.std.specs.Prelude.Option W) (cs : List (ℕ × ℕ)) where
   abbrev w : View W
-  w = posed h t n e g z took cs v
+  w = record v {
+    held = h;
+    trace = t;
+    trace_number = n;
+    began_empty = e;
+    has_gate = g;
+    gate_steps = z;
+    taken = took;
+    changes = cs;
+  }
 
   abbrev views' : List (View W)
   views' = set views id w
@@ -65,18 +109,8 @@ module _ {W : Type 0} (views : List (View W)) (id : ℕ) (v : View W) (there : g
         ended_parts = f.ended_parts;
         sized = f.sized;
       } in
-      subst (λ z. Fits made owner journal numbers i z) here.1
-      (subst (λ j. Fits made owner journal numbers j w) (sym here.0) mine)
+      fits_as mine here
   fits_at made owner journal spare numbers s i u alive (inr other) = s.each i u other.1 alive
-
-  kept_at : (made : ℕ) (i : ℕ) (u : View W) (k : ℕ) → get_elem? views i ≡ some u → HasNumber k u → (i ≡ id)
-      ⊎ (i ≢ id)
-      → (j : ℕ) × (z : View W) × (get_elem? views' j ≡ some z) × HasNumber k z
-  kept_at made i u k at has (inl here) =
-      let same : u ≡ v = some-injective u v (sym at ∙ ap (get_elem? views) here ∙ there) in
-      let mine : HasNumber k v = subst (λ z. HasNumber k z) same has in
-      (id, w, place_there views id v w there, mine)
-  kept_at made i u k at has (inr other) = (i, u, set_else views id i w other ∙ at, has)
 
   pub seats_alike : (made : ℕ) (owner : ℕ → ℕ) (journal : List Entry) (spare : ℕ) (numbers : Numbers)
       → Seats made owner journal spare numbers views
@@ -86,7 +120,7 @@ module _ {W : Type 0} (views : List (View W)) (id : ℕ) (v : View W) (there : g
     begun = s.begun;
     unmade = s.unmade;
     counted = (let c = total_set tally views id v w there in let d = s.counted in omega arith);
-    kept = λ k lt. (let a = s.kept k lt in kept_at made a.0 a.1 k a.2 a.3 (cases_eq a.0 id));
+    kept = λ k lt. (let a = s.kept k lt in kept_set views id v w there (λ n h. h) k a.0 a.1 a.2 a.3);
     roomy = (let c = total_set room_of views id v w there in let d = s.roomy in omega arith);
   }
 
@@ -97,26 +131,6 @@ module _ {W : Type 0} (views : List (View W)) (id : ℕ) (v : View W) (there : g
 
   abbrev views'' : List (View W)
   views'' = set views id x
-
-  out_at : (world : W) (holder : ℕ) (homes : List (maybe.Option (Rattle.std.specs.Prelude.Option W)))
-      → (o : Out world holder homes views)
-      → (holder ≡ id) ⊎ (holder ≢ id) → Out world holder homes views''
-  out_at world holder homes o (inl here) =
-      let same : o.view ≡ v = some-injective o.view v (sym o.there ∙ ap (get_elem? views) here ∙ there) in
-      record {
-        view = x;
-        gone = o.gone;
-        there = ap (get_elem? views'') here ∙ place_there views id v x there;
-        lives = ap (λ (z : View W). z.is_spent) (sym same) ∙ o.lives;
-        has = ap (λ (z : View W). z.has_gate) (sym same) ∙ o.has;
-      }
-  out_at world holder homes o (inr other) = record {
-    view = o.view;
-    gone = o.gone;
-    there = set_else views id holder x other ∙ o.there;
-    lives = o.lives;
-    has = o.has;
-  }
 
   module _ (world : W) (holder : ℕ) (changes : List (ℕ × ℕ)) (words : List ℕ)
       (homes : List (maybe.Option (Rattle.std.specs.Prelude.Option W)))
@@ -148,7 +162,7 @@ module _ {W : Type 0} (views : List (View W)) (id : ℕ) (v : View W) (there : g
     gate_alike = record {
       free_or_held = elim g.free_or_held [
         | inl free ↦ inl (word_is ∙ free.0, free.1, free.2)
-        | inr held ↦ inr (word_is ∙ held.0, out_at world holder homes held.1 (cases_eq holder id))
+        | inr taken ↦ inr (word_is ∙ taken.0, out_set views id v x there refl refl world holder homes taken.1)
       ];
       holding = λ j u at alive. holds_at j u alive (at_set views id j x u at);
     }
@@ -158,7 +172,7 @@ module _ {W : Type 0} (m : Ghosts W) (numbers : Numbers) (s : State (Rattle.std.
     (id : ℕ) (v : View W) (there : get_elem? s.views id ≡ some v)
     (h : List (ℕ × ℕ)) (t : List (ℕ × ℕ × ℕ)) (k : ℕ) (e : Bool) where
   -- a step on a mask or cell keeps the rule where it keeps what the rule says of slots
-  pub kept : (i n : ℕ) → 257 ≤ i → Slots (m.live c.world) (set s.words i n)
+  pub kept : (i n : ℕ) → FIRST_MASK ≤ i → Slots (m.live c.world) (set s.words i n)
       (set s.views id (reshaped h t k e v))
       → Custodied m numbers (record {
         words = set s.words i n;

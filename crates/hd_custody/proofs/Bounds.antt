@@ -2,24 +2,26 @@
 use Rattle.std.proofs.Common.{◌≡◌, ◌≢◌, ◌⊎◌, ℕ, ◌+◌, ◌-◌, ◌*◌, ◌/◌, ◌%◌, ◌^◌, ◌≤◌, ◌==◌, Bool, true, false, cond, bit_or, List, [], ◌∷◌, length, inl, inr, sym, ap, refl, ◌∙◌, arith}
 use Rattle.std.specs.Prelude.{◌&&◌, nat_lt}
 use Rattle.std.proofs.lemmas.Bool.{ltb-true, ltb-false}
-use Rattle.hd_custody.specs.Traces.{Did, Phase, probe, look, drain, again, back, bank, rest, sweep, settle, look_whole, drain_whole, again_whole, back_part, push, last, found, missed, wrong, is_step, after, follow, to_probe, to_look, to_bank, to_sweep, to_look_whole, to_push, lowest, next_rows, every_row, probe_word, sweep_word, push_word}
+use Rattle.hd_model.specs.declared.limits.TheConstants.{BLOCKS, ROWS}
+use Rattle.hd_custody.specs.declared.words.TheConstants.{BANK, CACHE, FIRST_QUICK}
+use Rattle.hd_custody.specs.Traces.{Did, Phase, probe, look, drain, again, back, bank, rest, sweep, settle, look_whole, drain_whole, again_whole, back_part, push, last, found, missed, wrong, is_step, next_phase, follow, to_probe, to_look, to_bank, to_sweep, to_look_whole, to_push, lowest, next_rows, every_row, probe_word, sweep_word, push_word}
 
 -- how many steps a call may still make
 abbrev rank : Phase → ℕ
-rank (probe n) = (126 - n) + 1088
-rank (look b) = 4 * (256 - b) + 67
-rank (drain b) = 4 * (256 - b) + 66
-rank (again b m) = 4 * (256 - b) + 65
-rank (back b m) = 4 * (256 - b) + 64
-rank (bank b x i m) = (62 - i) + 2
+rank (probe n) = (2 * BANK - n) + (4 * BLOCKS + ROWS)
+rank (look b) = 4 * (BLOCKS - b) + (ROWS + 3)
+rank (drain b) = 4 * (BLOCKS - b) + (ROWS + 2)
+rank (again b m) = 4 * (BLOCKS - b) + (ROWS + 1)
+rank (back b m) = 4 * (BLOCKS - b) + ROWS
+rank (bank b x i m) = (BANK - 1 - i) + 2
 rank (rest b x m) = 1
-rank (sweep n) = 2 * (126 - n) + 1026
-rank (settle n x) = 2 * (126 - n) + 1025
-rank (look_whole b) = 4 * (256 - b) + 4
-rank (drain_whole b) = 4 * (256 - b) + 3
-rank (again_whole b) = 4 * (256 - b) + 2
-rank (back_part b m) = 4 * (256 - b) + 1
-rank (push n x) = (63 - n) + 2
+rank (sweep n) = 2 * (2 * BANK - n) + (4 * BLOCKS + 2)
+rank (settle n x) = 2 * (2 * BANK - n) + (4 * BLOCKS + 1)
+rank (look_whole b) = 4 * (BLOCKS - b) + 4
+rank (drain_whole b) = 4 * (BLOCKS - b) + 3
+rank (again_whole b) = 4 * (BLOCKS - b) + 2
+rank (back_part b m) = 4 * (BLOCKS - b) + 1
+rank (push n x) = (BANK - n) + 2
 rank (last x) = 1
 rank (found x) = 0
 rank missed = 0
@@ -30,6 +32,10 @@ either_most : (b : Bool) (p q : Phase) (r : ℕ) → (b ≡ true → rank p ≤ 
 either_most true p q r yes_most no_most = yes_most refl
 either_most false p q r yes_most no_most = no_most refl
 
+either_lower : (b : Bool) (p q : Phase) (r : ℕ) → rank p + 1 ≤ r → rank q + 1 ≤ r → rank (cond b p q) + 1 ≤ r
+either_lower true p q r le le' = le
+either_lower false p q r le le' = le'
+
 Lower : ℕ → Phase → Type 0
 Lower r p = (p ≡ wrong) ⊎ (rank p + 1 ≤ r)
 
@@ -38,110 +44,78 @@ unfolding Lower
 lower true p r le = inr le
 lower false p r le = inl refl
 
-lower_step : (t : Did) (i z : ℕ) (p : Phase) (c r : ℕ) → rank p ≤ c → c + 1 ≤ r → Lower r (is_step t i z p)
-lower_step t i z p c r le more = lower ((t.0 == i) && (t.2 == z)) p r (omega arith)
+lower_step : (t : Did) (i z : ℕ) (p : Phase) (r : ℕ) → rank p + 1 ≤ r → Lower r (is_step t i z p)
+lower_step t i z p r le = lower ((t.0 == i) && (t.2 == z)) p r le
 
-more_room : (a c : ℕ) → a ≤ 64 → a ≤ c + 64
+more_room : (a c : ℕ) → a ≤ ROWS → a + 1 ≤ c + (ROWS + 1)
 more_room a c le = omega arith
 
 out : (r : ℕ) → Lower r wrong
 unfolding Lower
 out r = inl refl
 
-bank_next : (b x i m : ℕ) → rank (to_bank b x (i + 1) m) ≤ (62 - i) + 1
+bank_next : (b x i m : ℕ) → rank (to_bank b x (i + 1) m) ≤ (BANK - 1 - i) + 1
 bank_next b x i m =
     either_most (m == 0) _ _ _ (λ _. omega arith)
-    (λ _. either_most (nat_lt (i + 1) 63) _ _ _ (λ e. (let lt = ltb-true (i + 1) 63 e in omega arith))
+    (λ _. either_most (nat_lt (i + 1) BANK) _ _ _ (λ e. (let lt = ltb-true (i + 1) BANK e in omega arith))
     (λ _. omega arith))
 
-bank_first : (b x m : ℕ) → rank (to_bank b x 0 m) ≤ 64
+bank_first : (b x m : ℕ) → rank (to_bank b x 0 m) ≤ ROWS
 bank_first b x m = either_most (m == 0) _ _ _ (λ _. omega arith) (λ _. omega arith)
 
-push_next : (n x : ℕ) → rank (to_push (n + 1) x) ≤ (63 - n) + 1
-push_next n x = either_most (nat_lt (n + 1) 64) _ _ _ (λ e. (let lt = ltb-true (n + 1) 64 e in omega arith))
+push_next : (n x : ℕ) → rank (to_push (n + 1) x) ≤ (BANK - n) + 1
+push_next n x = either_most (nat_lt (n + 1) ROWS) _ _ _ (λ e. (let lt = ltb-true (n + 1) ROWS e in omega arith))
     (λ _. omega arith)
 
-module _ (k blocks : ℕ) (few : blocks ≤ 256) where
-  look_next : (b : ℕ) → rank (to_look blocks (b + 1)) ≤ 4 * (256 - b) + 63
+module _ (k blocks : ℕ) (few : blocks ≤ BLOCKS) where
+  look_next : (b : ℕ) → rank (to_look blocks (b + 1)) ≤ 4 * (BLOCKS - b) + BANK
   look_next b = either_most (nat_lt blocks (b + 1)) _ _ _ (λ _. omega arith)
       (λ e. (let le = ltb-false blocks (b + 1) e in omega arith))
 
-  whole_next : (b : ℕ) → rank (to_look_whole blocks (b + 1)) ≤ 4 * (256 - b)
+  whole_next : (b : ℕ) → rank (to_look_whole blocks (b + 1)) ≤ 4 * (BLOCKS - b)
   whole_next b = either_most (nat_lt blocks (b + 1)) _ _ _ (λ _. omega arith)
       (λ e. (let le = ltb-false blocks (b + 1) e in omega arith))
 
-  probe_next : (n : ℕ) → rank (to_probe blocks (n + 1)) ≤ (126 - n) + 1087
+  probe_next : (n : ℕ) → rank (to_probe blocks (n + 1)) ≤ (2 * BANK - n) + (4 * BLOCKS + BANK)
   probe_next n =
-      either_most (nat_lt (n + 1) 127) _ _ _ (λ e. (let lt = ltb-true (n + 1) 127 e in omega arith))
+      either_most (nat_lt (n + 1) CACHE) _ _ _ (λ e. (let lt = ltb-true (n + 1) CACHE e in omega arith))
       (λ _. either_most (nat_lt blocks 1) _ _ _ (λ _. omega arith) (λ _. omega arith))
 
-  sweep_next : (n : ℕ) → rank (to_sweep blocks (n + 1)) ≤ 2 * (126 - n) + 1024
+  sweep_next : (n : ℕ) → rank (to_sweep blocks (n + 1)) ≤ 2 * (2 * BANK - n) + 4 * BLOCKS
   sweep_next n =
-      either_most (nat_lt (n + 1) 127) _ _ _ (λ e. (let lt = ltb-true (n + 1) 127 e in omega arith))
+      either_most (nat_lt (n + 1) CACHE) _ _ _ (λ e. (let lt = ltb-true (n + 1) CACHE e in omega arith))
       (λ _. either_most (nat_lt blocks 1) _ _ _ (λ _. omega arith) (λ _. omega arith))
 
-  falls : (p : Phase) (t : Did) → Lower (rank p) (after k blocks p t)
-  falls (probe n) t =
-      lower_step t (probe_word k n) (0) (cond (t.1 == 0) (to_probe blocks (n + 1)) (found t.1))
-      ((126 - n) + 1087) (rank (probe n)) (either_most (t.1 == 0) (to_probe blocks (n + 1)) (found t.1)
-      ((126 - n) + 1087) (λ _. probe_next n) (λ _. omega arith)) (omega arith)
-  falls (look b) t =
-      lower_step t (b) (t.1) (cond (t.1 == k + 1) (drain b) (to_look blocks (b + 1))) (4 * (256 - b) + 66)
-      (rank (look b)) (either_most (t.1 == k + 1) (drain b) (to_look blocks (b + 1)) (4 * (256 - b) + 66)
-      (λ _. omega arith) (λ _. (let n = look_next b in omega arith))) (omega arith)
-  falls (drain b) t =
-      lower_step t (256 + b) (0) (cond (t.1 == 0) (to_look blocks (b + 1)) (again b t.1)) (4 * (256 - b) + 65)
-      (rank (drain b)) (either_most (t.1 == 0) (to_look blocks (b + 1)) (again b t.1) (4 * (256 - b) + 65)
-      (λ _. (let n = look_next b in omega arith)) (λ _. omega arith)) (omega arith)
+  falls : (p : Phase) (t : Did) → Lower (rank p) (next_phase k blocks p t)
+  falls (probe n) t = lower_step t _ _ _ _ (either_lower (t.1 == 0) (to_probe blocks (n + 1)) (found t.1) _
+      (let s = probe_next n in omega arith) (omega arith))
+  falls (look b) t = lower_step t _ _ _ _ (either_lower (t.1 == k + 1) (drain b) (to_look blocks (b + 1)) _
+      (omega arith) (let n = look_next b in omega arith))
+  falls (drain b) t = lower_step t _ _ _ _ (either_lower (t.1 == 0) (to_look blocks (b + 1)) (again b t.1) _
+      (let n = look_next b in omega arith) (omega arith))
   falls (again b m) t =
-      lower_step t (b) (t.1) (cond (t.1 == k + 1) (to_bank b (64 * b + lowest m) 0 (next_rows m)) (back b m))
-      (4 * (256 - b) + 64) (rank (again b m)) (either_most (t.1 == k + 1) (to_bank b (64 * b + lowest m) 0
-      (next_rows m)) (back b m) (4 * (256 - b) + 64)
-      (λ _. more_room (rank (to_bank b (64 * b + lowest m) 0 (next_rows m))) (4 * (256 - b))
-      (bank_first b (64 * b + lowest m) (next_rows m))) (λ _. omega arith)) (omega arith)
-  falls (back b m) t =
-      lower_step t (256 + b) (bit_or t.1 m) (to_look blocks (b + 1)) (4 * (256 - b) + 63) (rank (back b m))
-      (look_next b) (omega arith)
+      let x : ℕ = ROWS * b + lowest m in
+      lower_step t _ _ _ _ (either_lower (t.1 == k + 1) (to_bank b x 0 (next_rows m)) (back b m) _
+      (more_room (rank (to_bank b x 0 (next_rows m))) (4 * (BLOCKS - b)) (bank_first b x (next_rows m)))
+      (omega arith))
+  falls (back b m) t = lower_step t _ _ _ _ (let n = look_next b in omega arith)
   falls (bank b x i m) t =
-      lower_step t (514 + 127 * k + i) (cond (t.1 == 0) (64 * b + lowest m) t.1)
-      (to_bank b x (i + 1) (cond (t.1 == 0) (next_rows m) m)) ((62 - i) + 1) (rank (bank b x i m))
-      (bank_next b x i (cond (t.1 == 0) (next_rows m) m)) (omega arith)
-  falls (rest b x m) t =
-      lower_step t (256 + b) (bit_or t.1 m) (found x) (0) (rank (rest b x m)) (omega arith) (omega arith)
-  falls (sweep n) t =
-      lower_step t (sweep_word k n) (0) (cond (t.1 == 0) (to_sweep blocks (n + 1)) (settle n t.1))
-      (2 * (126 - n) + 1025) (rank (sweep n)) (either_most (t.1 == 0) (to_sweep blocks (n + 1))
-      (settle n t.1) (2 * (126 - n) + 1025) (λ _. (let s = sweep_next n in omega arith))
-      (λ _. omega arith)) (omega arith)
-  falls (settle n x) t =
-      lower_step t (256 + x / 64) (bit_or t.1 (2 ^ (x % 64))) (to_sweep blocks (n + 1)) (2 * (126 - n) + 1024)
-      (rank (settle n x)) (sweep_next n) (omega arith)
-  falls (look_whole b) t =
-      lower_step t (b) (t.1) (cond (t.1 == k + 1) (drain_whole b) (to_look_whole blocks (b + 1)))
-      (4 * (256 - b) + 3) (rank (look_whole b)) (either_most (t.1 == k + 1) (drain_whole b)
-      (to_look_whole blocks (b + 1)) (4 * (256 - b) + 3) (λ _. omega arith)
-      (λ _. (let n = whole_next b in omega arith))) (omega arith)
-  falls (drain_whole b) t =
-      lower_step t (256 + b) (0) (cond (t.1 == 0) (to_look_whole blocks (b + 1))
-      (cond (t.1 == every_row) (again_whole b) (back_part b t.1))) (4 * (256 - b) + 2)
-      (rank (drain_whole b)) (either_most (t.1 == 0) (to_look_whole blocks (b + 1))
-      (cond (t.1 == every_row) (again_whole b) (back_part b t.1)) (4 * (256 - b) + 2)
-      (λ _. (let n = whole_next b in omega arith)) (λ _. either_most (t.1 == every_row) (again_whole b)
-      (back_part b t.1) (4 * (256 - b) + 2) (λ _. omega arith) (λ _. omega arith))) (omega arith)
-  falls (again_whole b) t =
-      lower_step t (b) (t.1) (cond (t.1 == k + 1) (found b) (back_part b every_row)) (4 * (256 - b) + 1)
-      (rank (again_whole b)) (either_most (t.1 == k + 1) (found b) (back_part b every_row)
-      (4 * (256 - b) + 1) (λ _. omega arith) (λ _. omega arith)) (omega arith)
-  falls (back_part b m) t =
-      lower_step t (256 + b) (bit_or t.1 m) (to_look_whole blocks (b + 1)) (4 * (256 - b))
-      (rank (back_part b m)) (whole_next b) (omega arith)
-  falls (push n x) t =
-      lower_step t (push_word k n) (x) (cond (t.1 == 0) (found 0) (to_push (n + 1) t.1)) ((63 - n) + 1)
-      (rank (push n x)) (either_most (t.1 == 0) (found 0) (to_push (n + 1) t.1) ((63 - n) + 1)
-      (λ _. omega arith) (λ _. push_next n t.1)) (omega arith)
-  falls (last x) t =
-      lower_step t (256 + x / 64) (bit_or t.1 (2 ^ (x % 64))) (found 0) (0) (rank (last x)) (omega arith)
-      (omega arith)
+      lower_step t _ _ _ _ (let n = bank_next b x i (cond (t.1 == 0) (next_rows m) m) in omega arith)
+  falls (rest b x m) t = lower_step t _ _ _ _ (omega arith)
+  falls (sweep n) t = lower_step t _ _ _ _ (either_lower (t.1 == 0) (to_sweep blocks (n + 1)) (settle n t.1) _
+      (let s = sweep_next n in omega arith) (omega arith))
+  falls (settle n x) t = lower_step t _ _ _ _ (let s = sweep_next n in omega arith)
+  falls (look_whole b) t = lower_step t _ _ _ _ (either_lower (t.1 == k + 1) (drain_whole b)
+      (to_look_whole blocks (b + 1)) _ (omega arith) (let n = whole_next b in omega arith))
+  falls (drain_whole b) t = lower_step t _ _ _ _ (either_lower (t.1 == 0) (to_look_whole blocks (b + 1))
+      (cond (t.1 == every_row) (again_whole b) (back_part b t.1)) _ (let n = whole_next b in omega arith)
+      (either_lower (t.1 == every_row) (again_whole b) (back_part b t.1) _ (omega arith) (omega arith)))
+  falls (again_whole b) t = lower_step t _ _ _ _ (either_lower (t.1 == k + 1) (found b) (back_part b every_row) _
+      (omega arith) (omega arith))
+  falls (back_part b m) t = lower_step t _ _ _ _ (let n = whole_next b in omega arith)
+  falls (push n x) t = lower_step t _ _ _ _ (either_lower (t.1 == 0) (found 0) (to_push (n + 1) t.1) _
+      (omega arith) (let s = push_next n t.1 in omega arith))
+  falls (last x) t = lower_step t _ _ _ _ (omega arith)
   falls (found x) t = out 0
   falls missed t = out 0
   falls wrong t = out 0
@@ -155,19 +129,19 @@ module _ (k blocks : ℕ) (few : blocks ≤ 256) where
   most_steps [] p q e real = omega arith
   most_steps (t ∷ ts) p q e real = elim (falls p t) [
     | inl out ↦ absurd (real (sym e ∙ ap (λ x. follow k blocks x ts) out ∙ stays_wrong ts))
-    | inr low ↦ (let r = most_steps ts (after k blocks p t) q e real in omega arith)
+    | inr low ↦ (let r = most_steps ts (next_phase k blocks p t) q e real in omega arith)
   ]
 
   pub allocate_bound : (ts : List Did) (q : Phase) → follow k blocks (probe 0) ts ≡ q → q ≢ wrong
-      → length ts ≤ 1214
+      → length ts ≤ CACHE + 4 * BLOCKS + BANK
   allocate_bound ts q e real = most_steps ts (probe 0) q e real
 
   pub gather_bound : (ts : List Did) (q : Phase) → follow k blocks (sweep 0) ts ≡ q → q ≢ wrong
-      → length ts ≤ 1278
+      → length ts ≤ 2 * CACHE + 4 * BLOCKS
   gather_bound ts q e real = most_steps ts (sweep 0) q e real
 
   pub release_bound : (x : ℕ) (ts : List Did) (q : Phase) → follow k blocks (push 0 x) ts ≡ q → q ≢ wrong
-      → length ts ≤ 65
+      → length ts ≤ (ROWS + 1)
   release_bound x ts q e real = most_steps ts (push 0 x) q e real
 
 pub found_real : (x : ℕ) → found x ≡ wrong → ⊥

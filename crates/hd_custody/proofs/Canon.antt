@@ -1,20 +1,23 @@
--- Hands, exactly: what steps on slots of one block leave of them.
+-- The slots held, exactly: what steps on slots of one block leave of them.
 use Rattle.std.proofs.Common.{◌≡◌, ◌≢◌, ◌⊎◌, ℕ, zero, suc, ◌+◌, ◌-◌, ◌*◌, ◌/◌, ◌%◌, ◌^◌, ◌<◌, ◌≤◌, ◌==◌, Bool, true, false, cond, not, bit_xor, List, [], ◌∷◌, ◌++◌, filter, get_or, slice_get, Option, Some, inl, inr, sym, ap, subst, refl, ◌∙◌, eq-eqb, ne_eqb, arith}
 use Rattle.std.specs.Prelude.{nat_lt, ◌&&◌, ◌||◌}
 use Rattle.std.specs.Int.{bit_at, bit_not, w64}
 use Rattle.std.proofs.lemmas.Bool.{cases_eq, lt-ltb}
-use Rattle.std.proofs.lemmas.Nat.Bits.{bit_at-zero, bit_at-pow_same, bit_at-pow_other, bit_at_not, bit_at_above}
-use mathlib.Core.Option.{some}
+use Rattle.std.proofs.lemmas.Nat.Bits.{bit_at-lt, bit_at-zero, bit_at-pow_same, bit_at-pow_other, bit_at_not, bit_at_above}
+use mathlib.Core.Option.{some, some-injective, some-ne-none}
+use lib.ListN.{get_elem?}
 use Rattle.hd_mask.specs.Mask.{set_bits}
 use Rattle.hd_mask.proofs.Bits.{flip_same, flip_other}
-use Rattle.hd_custody.specs.Counts.{in_hand, picks, rows, whole, without, without_rows, put_out, with_slot, named_by, naming, Every, Has, HasAs}
+use Rattle.hd_model.specs.declared.limits.TheConstants.{BLOCKS, KINDS, ROWS}
+use Rattle.hd_custody.specs.declared.words.TheConstants.{EXTRA_DATA}
+use Rattle.hd_custody.specs.Counts.{held_times, picks, rows, whole, without, without_rows, put_out, with_slot, named_by, naming, Every, Has, HasAs}
 use Rattle.atomic_table.specs.Table.{Me}
 use Rattle.hd_custody.specs.declared.view.View.{View}
-use Rattle.hd_custody.specs.Views.{Kinded, opened, put_in, granted, with_data}
-use Rattle.hd_custody.specs.Traces.{lowest}
-use Rattle.hd_custody.specs.Calls.{held, Apart}
+use Rattle.hd_custody.specs.CallSteps.{with_block, HasRows, HasRowsAs, with_view, storing_data}
+use Rattle.hd_custody.specs.Views.{Kinded, opened, put_in, granted, with_data, Acting}
+use Rattle.hd_custody.specs.Traces.{lowest, every_row}
 use Rattle.hd_custody.proofs.Totals.{hit}
-use Rattle.hd_custody.proofs.Hands.{in_hand_append, in_hand_picks, has_member}
+use Rattle.hd_custody.proofs.HeldSlots.{held_times_append, held_times_picks, has_member}
 use Rattle.hd_custody.proofs.Keeps.{outside, and_off}
 
 -- ---- picks
@@ -83,45 +86,90 @@ filter_append keep (x ∷ xs) ys = at (keep x) (filter_append keep xs ys)
     at true rest = ap (λ ps. x ∷ ps) rest
     at false rest = rest
 
-pub filter_stays : (keep : ℕ × ℕ → Bool) (hand : List (ℕ × ℕ)) → Every (λ p. keep p ≡ true) hand
-    → filter keep hand ≡ hand
+pub filter_stays : (keep : ℕ × ℕ → Bool) (held : List (ℕ × ℕ)) → Every (λ p. keep p ≡ true) held
+    → filter keep held ≡ held
 filter_stays keep [] all = refl
 filter_stays keep (p ∷ ps) all =
     ap (λ b. cond b (p ∷ filter keep ps) (filter keep ps)) (all zero p refl)
     ∙ ap (λ qs. p ∷ qs) (filter_stays keep ps (λ n. all (suc n)))
 
--- a hand with none of the rows stays
-pub apart_stays : (b m : ℕ) (hand : List (ℕ × ℕ)) → Apart b m hand → without_rows b m hand ≡ hand
-apart_stays b m hand apart = filter_stays (λ p. outside b m p.0) hand
-    (λ n p at. out p (has_member hand n p at) (cases_eq (p.0 / 64) b) (cases_eq (bit_at m (p.0 % 64)) 1))
-  where
-    out : (p : ℕ × ℕ) → Has p.0 hand → (p.0 / 64 ≡ b) ⊎ (p.0 / 64 ≢ b) → (bit_at m (p.0 % 64) ≡ 1)
-        ⊎ (bit_at m (p.0 % 64) ≢ 1) → outside b m p.0 ≡ true
-    out p has (inl here) (inl set) =
-        let is : 64 * b + p.0 % 64 ≡ p.0 = omega arith in
-        let none : in_hand p.0 hand ≡ 0 = subst (λ x. in_hand x hand ≡ 0) is
-        (apart (p.0 % 64) (omega arith) set) in
-        let some_has : 1 ≤ in_hand p.0 hand = has in
-        absurd (omega arith)
-    out p has (inl here) (inr clear) = ap not (and_off (p.0 / 64 == b) _ (ne_eqb _ _ clear))
-    out p has (inr far) _ = ap (λ t. not (t && (bit_at m (p.0 % 64) == 1))) (ne_eqb _ _ far)
+pub filter_same : (f g : ℕ → Bool) (held : List (ℕ × ℕ)) → ((x : ℕ) → f x ≡ g x)
+    → filter (λ p. f p.0) held ≡ filter (λ p. g p.0) held
+filter_same f g held same = λ i. filter (λ p. same p.0 i) held
 
-pub absent_stays : (x : ℕ) (hand : List (ℕ × ℕ)) → in_hand x hand ≡ 0 → without x hand ≡ hand
-absent_stays x hand none = filter_stays (λ p. not (p.0 == x)) hand (λ n p at. out p (has_member hand n p at)
+pub filter_both : (f g : ℕ → Bool) (held : List (ℕ × ℕ))
+    → filter (λ p. f p.0) (filter (λ p. g p.0) held) ≡ filter (λ p. g p.0 && f p.0) held
+filter_both f g [] = refl
+filter_both f g (p ∷ ps) = at (g p.0) (filter_both f g ps)
+  where
+    at : (b : Bool) → filter (λ q. f q.0) (filter (λ q. g q.0) ps) ≡ filter (λ q. g q.0 && f q.0) ps
+        → filter (λ q. f q.0) (cond b (p ∷ filter (λ q. g q.0) ps) (filter (λ q. g q.0) ps))
+        ≡ cond (b && f p.0) (p ∷ filter (λ q. g q.0 && f q.0) ps) (filter (λ q. g q.0 && f q.0) ps)
+    at true rest = ap (λ (qs : List (ℕ × ℕ)). cond (f p.0) (p ∷ qs) qs) rest
+    at false rest = rest
+
+-- what passes stays
+pub has_kept : (keep : ℕ × ℕ → Bool) (p : ℕ × ℕ) (held : List (ℕ × ℕ)) (n : ℕ) → get_elem? held n ≡ some p
+    → keep p ≡ true → HasAs p (filter keep held)
+has_kept keep p [] n at on = absurd (some-ne-none p (sym at))
+has_kept keep p (q ∷ qs) zero at on =
+    subst (λ b. HasAs p (cond b (q ∷ filter keep qs) (filter keep qs)))
+    (sym (ap keep (some-injective q p at) ∙ on)) (0, at)
+has_kept keep p (q ∷ qs) (suc n) at on = below (keep q) (has_kept keep p qs n at on)
+  where
+    below : (b : Bool) → HasAs p (filter keep qs) → HasAs p (cond b (q ∷ filter keep qs) (filter keep qs))
+    below true h = (suc h.0, h.1)
+    below false h = h
+
+-- none of the slots of block b whose rows m has is held
+abbrev pub Apart : ℕ → ℕ → List (ℕ × ℕ) → Type 0
+Apart b m held = (r : ℕ) → r < ROWS → bit_at m r ≡ 1 → held_times (ROWS * b + r) held ≡ 0
+
+pub fewer_apart : (b m m' : ℕ) (h : List (ℕ × ℕ)) → ((r : ℕ) → bit_at m' r ≤ bit_at m r) → Apart b m h
+    → Apart b m' h
+fewer_apart b m m' h within apart r lt set = apart r lt (let w = within r in let bit =
+    bit_at-lt m r in omega arith)
+
+pub flip_within : (m c : ℕ) → bit_at m c ≡ 1 → (r : ℕ) → bit_at (bit_xor m (2 ^ c)) r ≤ bit_at m r
+flip_within m c set r = elim (cases_eq r c) [
+  | inl same ↦ (
+      let f = flip_same m c in let e = ap (bit_at (bit_xor m (2 ^ c))) same in let g =
+      ap (bit_at m) same in omega arith)
+  | inr far ↦ (let f = flip_other m c r far in omega arith)
+]
+
+-- where none of the rows is held, all stay
+pub apart_stays : (b m : ℕ) (held : List (ℕ × ℕ)) → Apart b m held → without_rows b m held ≡ held
+apart_stays b m held apart = filter_stays (λ p. outside b m p.0) held
+    (λ n p at. out p (has_member held n p at) (cases_eq (p.0 / ROWS) b) (cases_eq (bit_at m (p.0 % ROWS)) 1))
+  where
+    out : (p : ℕ × ℕ) → Has p.0 held → (p.0 / ROWS ≡ b) ⊎ (p.0 / ROWS ≢ b) → (bit_at m (p.0 % ROWS) ≡ 1)
+        ⊎ (bit_at m (p.0 % ROWS) ≢ 1) → outside b m p.0 ≡ true
+    out p has (inl here) (inl set) =
+        let is : ROWS * b + p.0 % ROWS ≡ p.0 = omega arith in
+        let none : held_times p.0 held ≡ 0 = subst (λ x. held_times x held ≡ 0) is
+        (apart (p.0 % ROWS) (omega arith) set) in
+        let some_has : 1 ≤ held_times p.0 held = has in
+        absurd (omega arith)
+    out p has (inl here) (inr clear) = ap not (and_off (p.0 / ROWS == b) _ (ne_eqb _ _ clear))
+    out p has (inr far) _ = ap (λ t. not (t && (bit_at m (p.0 % ROWS) == 1))) (ne_eqb _ _ far)
+
+pub absent_stays : (x : ℕ) (held : List (ℕ × ℕ)) → held_times x held ≡ 0 → without x held ≡ held
+absent_stays x held none = filter_stays (λ p. not (p.0 == x)) held (λ n p at. out p (has_member held n p at)
     (cases_eq p.0 x))
   where
-    out : (p : ℕ × ℕ) → Has p.0 hand → (p.0 ≡ x) ⊎ (p.0 ≢ x) → not (p.0 == x) ≡ true
-    out p has (inl same) = let z = ap (λ y. in_hand y hand) same in let some_has : 1 ≤ in_hand p.0 hand =
+    out : (p : ℕ × ℕ) → Has p.0 held → (p.0 ≡ x) ⊎ (p.0 ≢ x) → not (p.0 == x) ≡ true
+    out p has (inl same) = let z = ap (λ y. held_times y held) same in let some_has : 1 ≤ held_times p.0 held =
         has in absurd (omega arith)
     out p has (inr far) = ap not (ne_eqb _ _ far)
 
 -- ---- rows of a block
 
-outside_at : (b m r : ℕ) → r < 64 → outside b m (64 * b + r) ≡ not (bit_at m r == 1)
+outside_at : (b m r : ℕ) → r < ROWS → outside b m (ROWS * b + r) ≡ not (bit_at m r == 1)
 outside_at b m r lt =
-    let block : (64 * b + r) / 64 ≡ b = omega arith in
-    let row : (64 * b + r) % 64 ≡ r = omega arith in
-    ap (λ t. not (t && (bit_at m ((64 * b + r) % 64) == 1))) (eq-eqb _ _ block)
+    let block : (ROWS * b + r) / ROWS ≡ b = omega arith in
+    let row : (ROWS * b + r) % ROWS ≡ r = omega arith in
+    ap (λ t. not (t && (bit_at m ((ROWS * b + r) % ROWS) == 1))) (eq-eqb _ _ block)
     ∙ ap (λ s. not (bit_at m s == 1)) row
 
 both_off : (t : Bool) → (t && not t) ≡ false
@@ -129,26 +177,26 @@ both_off true = refl
 both_off false = refl
 
 -- all rows that came go back
-pub rows_go : (b m k : ℕ) (hand : List (ℕ × ℕ)) → Apart b m hand
-    → without_rows b m (rows b m k ++ hand) ≡ hand
-rows_go b m k hand apart =
-    filter_append (λ p. outside b m p.0) (rows b m k) hand
-    ∙ ap (λ ps. ps ++ without_rows b m hand) (filter_picks (outside b m) 64 (λ r. bit_at m r == 1) (64 * b)
+pub rows_go : (b m k : ℕ) (held : List (ℕ × ℕ)) → Apart b m held
+    → without_rows b m (rows b m k ++ held) ≡ held
+rows_go b m k held apart =
+    filter_append (λ p. outside b m p.0) (rows b m k) held
+    ∙ ap (λ ps. ps ++ without_rows b m held) (filter_picks (outside b m) ROWS (λ r. bit_at m r == 1) (ROWS * b)
     (λ _. k)
-    ∙ picks_none 64 (λ r. (bit_at m r == 1) && outside b m (64 * b + r)) (64 * b) (λ _. k)
+    ∙ picks_none ROWS (λ r. (bit_at m r == 1) && outside b m (ROWS * b + r)) (ROWS * b) (λ _. k)
     (λ r lt. ap (λ t. (bit_at m r == 1) && t) (outside_at b m r lt) ∙ both_off (bit_at m r == 1)))
-    ∙ apart_stays b m hand apart
+    ∙ apart_stays b m held apart
 
 pub rows_none : (b m k : ℕ) → m ≡ 0 → rows b m k ≡ []
 rows_none b m k zero_is =
-    picks_none 64 (λ r. bit_at m r == 1) (64 * b) (λ _. k)
+    picks_none ROWS (λ r. bit_at m r == 1) (ROWS * b) (λ _. k)
     (λ r lt. ne_eqb _ _ (λ one. let none = ap (λ n. bit_at n r) zero_is ∙ bit_at-zero r in omega arith))
 
-pub row_has : (b m k r : ℕ) (hand : List (ℕ × ℕ)) → r < 64 → bit_at m r ≡ 1
-    → Has (64 * b + r) (rows b m k ++ hand)
-row_has b m k r hand lt set =
-    let j = in_hand_append (64 * b + r) (rows b m k) hand in
-    let one = in_hand_picks (λ s. bit_at m s == 1) (64 * b) (λ _. k) 64 r lt ∙ hit (bit_at m r) 1 set in
+pub row_has : (b m k r : ℕ) (held : List (ℕ × ℕ)) → r < ROWS → bit_at m r ≡ 1
+    → Has (ROWS * b + r) (rows b m k ++ held)
+row_has b m k r held lt set =
+    let j = held_times_append (ROWS * b + r) (rows b m k) held in
+    let one = held_times_picks (λ s. bit_at m s == 1) (ROWS * b) (λ _. k) ROWS r lt ∙ hit (bit_at m r) 1 set in
     omega arith
 
 -- ---- the kind of slots is seen
@@ -157,38 +205,38 @@ pub naming_append : (b k : ℕ) (xs ys : List (ℕ × ℕ)) → naming b k (xs +
 naming_append b k [] ys = refl
 naming_append b k (x ∷ xs) ys = ap (λ ps. named_by b k x ∷ ps) (naming_append b k xs ys)
 
-pub naming_kinded : (b k : ℕ) (hand : List (ℕ × ℕ)) → Kinded hand → naming b k hand ≡ hand
+pub naming_kinded : (b k : ℕ) (held : List (ℕ × ℕ)) → Kinded held → naming b k held ≡ held
 naming_kinded b k [] kinded = refl
 naming_kinded b k (p ∷ ps) kinded =
-    ap (λ t. (p.0, cond t k p.1) ∷ naming b k ps) (and_off (p.0 / 64 == b) (p.1 == 0)
+    ap (λ t. (p.0, cond t k p.1) ∷ naming b k ps) (and_off (p.0 / ROWS == b) (p.1 == 0)
     (ne_eqb _ _ (kinded zero p refl).1))
     ∙ ap (λ qs. p ∷ qs) (naming_kinded b k ps (λ n. kinded (suc n)))
 
-pub naming_picks : (b k n : ℕ) (keep : ℕ → Bool) → n ≤ 64 → naming b k (picks n keep (64 * b) (λ _. 0)) ≡
-    picks n keep (64 * b) (λ _. k)
+pub naming_picks : (b k n : ℕ) (keep : ℕ → Bool) → n ≤ ROWS → naming b k (picks n keep (ROWS * b) (λ _. 0)) ≡
+    picks n keep (ROWS * b) (λ _. k)
 unfolding picks
 naming_picks b k zero keep le = refl
 naming_picks b k (suc n) keep le = at (keep n) (naming_picks b k n keep (omega arith))
   where
-    at : (t : Bool) → naming b k (picks n keep (64 * b) (λ _. 0)) ≡ picks n keep (64 * b) (λ _. k)
-        → naming b k (cond t ((64 * b + n, 0) ∷ picks n keep (64 * b) (λ _. 0))
-        (picks n keep (64 * b) (λ _. 0)))
-        ≡ cond t ((64 * b + n, k) ∷ picks n keep (64 * b) (λ _. k)) (picks n keep (64 * b) (λ _. k))
+    at : (t : Bool) → naming b k (picks n keep (ROWS * b) (λ _. 0)) ≡ picks n keep (ROWS * b) (λ _. k)
+        → naming b k (cond t ((ROWS * b + n, 0) ∷ picks n keep (ROWS * b) (λ _. 0))
+        (picks n keep (ROWS * b) (λ _. 0)))
+        ≡ cond t ((ROWS * b + n, k) ∷ picks n keep (ROWS * b) (λ _. k)) (picks n keep (ROWS * b) (λ _. k))
     at true rest =
-        let here : (64 * b + n) / 64 ≡ b = omega arith in
-        ap (λ u. (64 * b + n, cond (u && true) k 0) ∷ naming b k (picks n keep (64 * b) (λ _. 0)))
+        let here : (ROWS * b + n) / ROWS ≡ b = omega arith in
+        ap (λ u. (ROWS * b + n, cond (u && true) k 0) ∷ naming b k (picks n keep (ROWS * b) (λ _. 0)))
         (eq-eqb _ _ here)
-        ∙ ap (λ qs. (64 * b + n, k) ∷ qs) rest
+        ∙ ap (λ qs. (ROWS * b + n, k) ∷ qs) rest
     at false rest = rest
 
-pub naming_rows : (b m k : ℕ) (hand : List (ℕ × ℕ)) → Kinded hand
-    → naming b k (rows b m 0 ++ hand) ≡ rows b m k ++ hand
-naming_rows b m k hand kinded =
-    naming_append b k (rows b m 0) hand ∙ ap (λ ps. ps ++ naming b k hand)
-    (naming_picks b k 64 (λ r. bit_at m r == 1) (omega arith))
-    ∙ ap (λ qs. rows b m k ++ qs) (naming_kinded b k hand kinded)
+pub naming_rows : (b m k : ℕ) (held : List (ℕ × ℕ)) → Kinded held
+    → naming b k (rows b m 0 ++ held) ≡ rows b m k ++ held
+naming_rows b m k held kinded =
+    naming_append b k (rows b m 0) held ∙ ap (λ ps. ps ++ naming b k held)
+    (naming_picks b k ROWS (λ r. bit_at m r == 1) (omega arith))
+    ∙ ap (λ qs. rows b m k ++ qs) (naming_kinded b k held kinded)
 
--- ---- a row is kept, and the others leave one by one
+-- ---- of the rows that came one is kept, and the others leave
 
 pub lowest_is : (m r : ℕ) → Some r ≡ slice_get (set_bits m) 0 → lowest m ≡ r
 lowest_is m r e = at (set_bits m) e
@@ -197,98 +245,70 @@ lowest_is m r e = at (set_bits m) e
     at [] none = cc
     at (x ∷ xs) is = cc
 
-or_xor : (r a : ℕ) (m : ℕ) → bit_at m a ≡ 1 → (bit_at m r == 1) ≡
-    ((r == a) || (bit_at (bit_xor m (2 ^ a)) r == 1))
-or_xor r a m set = elim (cases_eq r a) [
-  | inl same ↦ (
-      ap (λ s. bit_at m s == 1) same ∙ eq-eqb (bit_at m a) 1 set
-      ∙ sym (ap (λ t. t || (bit_at (bit_xor m (2 ^ a)) r == 1)) (eq-eqb r a same)))
-  | inr far ↦ (
-      sym (ap (λ t. t || (bit_at (bit_xor m (2 ^ a)) r == 1)) (ne_eqb r a far)
-      ∙ ap (λ n. n == 1) (flip_other m a r far)))
-]
+-- nothing is left to leave
+pub none_leaves : (b m : ℕ) (held : List (ℕ × ℕ)) → m ≡ 0 → without_rows b m held ≡ held
+none_leaves b m held none = apart_stays b m held (λ r lt set.
+    absurd (let z = ap (λ n. bit_at n r) none ∙ bit_at-zero r in omega arith))
 
--- of the rows that came, one is kept and the others are left
-pub held_first : (b m a k : ℕ) (hand : List (ℕ × ℕ)) → bit_at m a ≡ 1 → rows b m k ++ hand ≡ held b a
-    (bit_xor m (2 ^ a)) k ++ hand
-held_first b m a k hand set =
-    ap (λ ps. ps ++ hand) (picks_same 64 (λ r. bit_at m r == 1)
-    (λ r. (r == a) || (bit_at (bit_xor m (2 ^ a)) r == 1)) (64 * b) (λ _. k) (λ r lt. or_xor r a m set))
-
-or_off : (s t : Bool) → s ≡ false → (s || t) ≡ t
-or_off true t e = cc
-or_off false t e = refl
-
--- nothing is left
-pub held_last : (b a m k : ℕ) → a < 64 → m ≡ 0 → held b a m k ≡ (64 * b + a, k) ∷ []
-held_last b a m k lt none =
-    picks_one 64 a (λ r. (r == a) || (bit_at m r == 1)) (64 * b) (λ _. k) lt
-    (λ r under. right (r == a) (bit_at m r == 1) (ne_eqb _ _ (λ one. let z = ap (λ n. bit_at n r) none
-    ∙ bit_at-zero r in omega arith)))
+-- all leave but one
+pub one_stays : (b m a k : ℕ) (held : List (ℕ × ℕ)) → a < ROWS → bit_at m a ≡ 1 → Apart b m held
+    → without_rows b (bit_xor m (2 ^ a)) (rows b m k ++ held) ≡ (ROWS * b + a, k) ∷ held
+one_stays b m a k held lt set apart =
+    let m' : ℕ = bit_xor m (2 ^ a) in
+    filter_append (λ p. outside b m' p.0) (rows b m k) held
+    ∙ ap (λ ps. ps ++ without_rows b m' held) (filter_picks (outside b m') ROWS (λ r. bit_at m r == 1) (ROWS * b)
+    (λ _. k)
+    ∙ picks_one ROWS a (λ r. (bit_at m r == 1) && outside b m' (ROWS * b + r)) (ROWS * b) (λ _. k) lt
+    (λ r under. ap (λ t. (bit_at m r == 1) && t) (outside_at b m' r under) ∙ only r (cases_eq r a)))
+    ∙ ap (λ qs. (ROWS * b + a, k) ∷ qs)
+    (apart_stays b m' held (fewer_apart b m m' held (flip_within m a set) apart))
   where
-    right : (s t : Bool) → t ≡ false → (s || t) ≡ s
-    right true t e = refl
-    right false t e = e
-
--- what is left goes back at once
-pub held_rest : (b a m k : ℕ) (hand : List (ℕ × ℕ)) → a < 64 → bit_at m a ≡ 0 → Apart b m hand
-    → without_rows b m (held b a m k ++ hand) ≡ (64 * b + a, k) ∷ hand
-held_rest b a m k hand lt clear apart =
-    filter_append (λ p. outside b m p.0) (held b a m k) hand
-    ∙ ap (λ ps. ps ++ without_rows b m hand) (filter_picks (outside b m) 64
-    (λ r. (r == a) || (bit_at m r == 1)) (64 * b) (λ _. k)
-    ∙ picks_one 64 a (λ r. ((r == a) || (bit_at m r == 1)) && outside b m (64 * b + r)) (64 * b) (λ _. k) lt
-    (λ r under. ap (λ t. ((r == a) || (bit_at m r == 1)) && t) (outside_at b m r under)
-    ∙ only r (cases_eq r a)))
-    ∙ ap (λ qs. (64 * b + a, k) ∷ qs) (apart_stays b m hand apart)
-  where
-    only : (r : ℕ) → (r ≡ a) ⊎ (r ≢ a) → (((r == a) || (bit_at m r == 1)) && not (bit_at m r == 1)) ≡ (r == a)
+    only : (r : ℕ) → (r ≡ a) ⊎ (r ≢ a)
+        → ((bit_at m r == 1) && not (bit_at (bit_xor m (2 ^ a)) r == 1)) ≡ (r == a)
     only r (inl same) =
-        let off : (bit_at m r == 1) ≡ false = ne_eqb _ _ (λ one. let z = ap (bit_at m) same in omega arith) in
-        ap (λ t. (t || (bit_at m r == 1)) && not (bit_at m r == 1)) (eq-eqb r a same) ∙ ap not off
-        ∙ sym (eq-eqb r a same)
+        let off : (bit_at (bit_xor m (2 ^ a)) r == 1) ≡ false = ne_eqb _ _ (λ e.
+        let z = ap (bit_at (bit_xor m (2 ^ a))) same in let f = flip_same m a in omega arith) in
+        ap (λ t. t && not (bit_at (bit_xor m (2 ^ a)) r == 1)) (eq-eqb _ _ (ap (bit_at m) same ∙ set))
+        ∙ ap not off ∙ sym (eq-eqb r a same)
     only r (inr far) =
-        ap (λ t. (t || (bit_at m r == 1)) && not (bit_at m r == 1)) (ne_eqb r a far)
+        ap (λ n. (bit_at m r == 1) && not (n == 1)) (flip_other m a r far)
         ∙ both_off (bit_at m r == 1) ∙ sym (ne_eqb r a far)
 
--- one of them goes into a cell
-pub held_next : (b a m c k : ℕ) (hand : List (ℕ × ℕ)) → a < 64 → c < 64 → 0 < b → bit_at m a ≡ 0
-    → bit_at m c ≡ 1 → Apart b m hand
-    → put_out (64 * b + c) (held b a m k ++ hand) ≡ held b a (bit_xor m (2 ^ c)) k ++ hand
-held_next b a m c k hand lt under real clear set apart =
-    put_is (64 * b + c) (held b a m k ++ hand) (λ e. omega arith)
-    ∙ filter_append (λ p. not (p.0 == 64 * b + c)) (held b a m k) hand
-    ∙ ap (λ ps. ps ++ without (64 * b + c) hand) (filter_picks (λ z. not (z == 64 * b + c)) 64
-    (λ r. (r == a) || (bit_at m r == 1)) (64 * b) (λ _. k)
-    ∙ picks_same 64 (λ r. ((r == a) || (bit_at m r == 1)) && not (64 * b + r == 64 * b + c))
-    (λ r. (r == a) || (bit_at (bit_xor m (2 ^ c)) r == 1)) (64 * b) (λ _. k)
-    (λ r within. go r (cases_eq r c)))
-    ∙ ap (λ qs. held b a (bit_xor m (2 ^ c)) k ++ qs) (absent_stays (64 * b + c) hand (apart c under set))
+-- the slot of one row leaves, and then the others
+pub one_leaves : (b m c : ℕ) (held : List (ℕ × ℕ)) → c < ROWS → bit_at m c ≡ 1
+    → without_rows b (bit_xor m (2 ^ c)) (without (ROWS * b + c) held) ≡ without_rows b m held
+one_leaves b m c held lt set =
+    filter_both (outside b (bit_xor m (2 ^ c))) (λ y. not (y == ROWS * b + c)) held
+    ∙ filter_same (λ y. not (y == ROWS * b + c) && outside b (bit_xor m (2 ^ c)) y) (outside b m) held
+    (λ y. at y (cases_eq y (ROWS * b + c)) (cases_eq (y / ROWS) b))
   where
-    put_is : (x : ℕ) (h : List (ℕ × ℕ)) → x ≢ 0 → put_out x h ≡ without x h
-    put_is zero h ne = absurd (ne refl)
-    put_is (suc x) h ne = refl
+    at : (y : ℕ) → (y ≡ ROWS * b + c) ⊎ (y ≢ ROWS * b + c) → (y / ROWS ≡ b) ⊎ (y / ROWS ≢ b)
+        → (not (y == ROWS * b + c) && outside b (bit_xor m (2 ^ c)) y) ≡ outside b m y
+    at y (inl same) _ =
+        let block : y / ROWS ≡ b = omega arith in
+        let row : y % ROWS ≡ c = omega arith in
+        ap (λ t. not t && outside b (bit_xor m (2 ^ c)) y) (eq-eqb _ _ same)
+        ∙ sym (ap (λ t. not (t && (bit_at m (y % ROWS) == 1))) (eq-eqb _ _ block)
+        ∙ ap not (eq-eqb _ _ (ap (bit_at m) row ∙ set)))
+    at y (inr far) (inl here) =
+        let other : y % ROWS ≢ c = λ e. far (omega arith) in
+        ap (λ t. not t && outside b (bit_xor m (2 ^ c)) y) (ne_eqb _ _ far)
+        ∙ ap (λ n. not ((y / ROWS == b) && (n == 1))) (flip_other m c (y % ROWS) other)
+    at y (inr far) (inr other) =
+        ap (λ t. not t && outside b (bit_xor m (2 ^ c)) y) (ne_eqb _ _ far)
+        ∙ ap (λ t. not (t && (bit_at (bit_xor m (2 ^ c)) (y % ROWS) == 1))) (ne_eqb _ _ other)
+        ∙ sym (ap (λ t. not (t && (bit_at m (y % ROWS) == 1))) (ne_eqb _ _ other))
 
-    right_off : (s t : Bool) → t ≡ false → (s && t) ≡ false
-    right_off true t e = e
-    right_off false t e = refl
-
-    go : (r : ℕ) → (r ≡ c) ⊎ (r ≢ c) → (((r == a) || (bit_at m r == 1)) && not (64 * b + r == 64 * b + c)) ≡
-        ((r == a) || (bit_at (bit_xor m (2 ^ c)) r == 1))
-    go r (inl same) =
-        let off : not (64 * b + r == 64 * b + c) ≡ false = ap not (eq-eqb _ _ (omega arith)) in
-        let apart_a : r ≢ a = λ e. (let z = ap (bit_at m) (sym e ∙ same) in omega arith) in
-        let flip : bit_at (bit_xor m (2 ^ c)) r ≡ 0 = ap (bit_at (bit_xor m (2 ^ c))) same ∙ flip_same m c
-        ∙ omega arith in
-        right_off _ _ off ∙ sym (or_off (r == a) _ (ne_eqb r a apart_a) ∙ ne_eqb _ _ (λ one. omega arith))
-    go r (inr far) =
-        let on : not (64 * b + r == 64 * b + c) ≡ true = ap not (ne_eqb _ _ (λ e. far (omega arith))) in
-        ap (λ t. ((r == a) || (bit_at m r == 1)) && t) on ∙ stay ((r == a) || (bit_at m r == 1))
-        ∙ ap (λ n. (r == a) || (n == 1)) (sym (flip_other m c r far))
-      where
-        stay : (s : Bool) → (s && true) ≡ s
-        stay true = refl
-        stay false = refl
+-- the other rows stay as they were held
+pub others_held : (b m c k : ℕ) (held : List (ℕ × ℕ)) → c < ROWS → HasRowsAs b m k held → bit_at m c ≡ 1
+    → HasRowsAs b (bit_xor m (2 ^ c)) k (without (ROWS * b + c) held)
+others_held b m c k held under has set r lt on =
+    let was = flip_within m c set r in
+    let bit = bit_at-lt m r in
+    let h = has r lt (omega arith) in
+    has_kept (λ p. not (p.0 == ROWS * b + c)) (ROWS * b + r, k) held h.0 h.1
+    (ap not (ne_eqb _ _ (λ e. let same : r ≡ c = omega arith in let f = flip_same m c in
+    let z = ap (bit_at (bit_xor m (2 ^ c))) same in omega arith)))
 
 picked_at : (base r k n : ℕ) (keep : ℕ → Bool) → r < n → keep r ≡ true
     → HasAs (base + r, k) (picks n keep base (λ _. k))
@@ -310,75 +330,80 @@ picked_at base r k (suc n) keep lt on = elim (cases_eq r n) [
     below true h = (suc h.0, h.1)
     below false h = h
 
-pub in_held : (b a m k r : ℕ) (hand : List (ℕ × ℕ)) → r < 64 → bit_at m r ≡ 1
-    → HasAs (64 * b + r, k) (held b a m k ++ hand)
-in_held b a m k r hand lt set = front (held b a m k) hand (picked 64 (λ s. (s == a) || (bit_at m s == 1)) lt
-    (right (r == a) _ (eq-eqb _ _ set)))
+-- each row that came has its kind
+pub rows_have : (b m k : ℕ) (held : List (ℕ × ℕ)) → HasRowsAs b m k (rows b m k ++ held)
+rows_have b m k held r lt set = front (rows b m k) (picked_at (ROWS * b) r k ROWS (λ s. bit_at m s == 1) lt
+    (eq-eqb _ _ set))
   where
-    right : (s t : Bool) → t ≡ true → (s || t) ≡ true
-    right true t e = refl
-    right false t e = e
+    front : (xs : List (ℕ × ℕ)) → HasAs (ROWS * b + r, k) xs → HasAs (ROWS * b + r, k) (xs ++ held)
+    front xs h = (h.0, Rattle.atomic_table.proofs.Lists.at_longer xs held h.0 (ROWS * b + r, k) h.1)
 
-    front : (xs ys : List (ℕ × ℕ)) → HasAs (64 * b + r, k) xs → HasAs (64 * b + r, k) (xs ++ ys)
-    front xs ys h = (h.0, Rattle.atomic_table.proofs.Lists.at_longer xs ys h.0 (64 * b + r, k) h.1)
-
-    picked : (n : ℕ) (keep : ℕ → Bool) → r < n → keep r ≡ true
-        → HasAs (64 * b + r, k) (picks n keep (64 * b) (λ _. k))
-    picked n keep = picked_at (64 * b) r k n keep
-
-pub held_has : (b a m k r : ℕ) (hand : List (ℕ × ℕ)) → r < 64 → bit_at m r ≡ 1
-    → Has (64 * b + r) (held b a m k ++ hand)
-held_has b a m k r hand lt set = let h = in_held b a m k r hand lt set in has_member (held b a m k ++ hand)
-    h.0 (64 * b + r, k) h.1
+pub rows_held : (b m k : ℕ) (held : List (ℕ × ℕ)) → HasRowsAs b m k held → HasRows b m held
+rows_held b m k held has r lt set = let h = has r lt set in has_member held h.0 (ROWS * b + r, k) h.1
 
 -- ---- one slot
 
-pub slot_goes : (x k : ℕ) (hand : List (ℕ × ℕ)) → in_hand x hand ≡ 0 → without x ((x, k) ∷ hand) ≡ hand
-slot_goes x k hand none =
-    ap (λ t. cond (not t) ((x, k) ∷ without x hand) (without x hand)) (eq-eqb x x refl)
-    ∙ absent_stays x hand none
+pub slot_goes : (x k : ℕ) (held : List (ℕ × ℕ)) → held_times x held ≡ 0 → without x ((x, k) ∷ held) ≡ held
+slot_goes x k held none =
+    ap (λ t. cond (not t) ((x, k) ∷ without x held) (without x held)) (eq-eqb x x refl)
+    ∙ absent_stays x held none
 
-pub put_goes : (x k : ℕ) (hand : List (ℕ × ℕ)) → 0 < x → in_hand x hand ≡ 0 → put_out x ((x, k) ∷ hand) ≡ hand
-put_goes zero k hand real none = absurd (omega arith)
-put_goes (suc x) k hand real none = slot_goes (suc x) k hand none
+-- what came and goes at once
+pub put_goes : (x k : ℕ) (held : List (ℕ × ℕ)) → (x ≢ 0 → held_times x held ≡ 0)
+    → put_out x (with_slot x k held) ≡ held
+put_goes zero k held none = refl
+put_goes (suc x) k held none = slot_goes (suc x) k held (none (λ e. omega arith))
+
+pub put_some : (x : ℕ) (held : List (ℕ × ℕ)) → x ≢ 0 → put_out x held ≡ without x held
+put_some zero held real = absurd (real refl)
+put_some (suc x) held real = refl
 
 -- a slot goes into its mask
-pub slot_settles : (x k : ℕ) (hand : List (ℕ × ℕ)) → in_hand x hand ≡ 0 → without_rows (x / 64) (2 ^ (x % 64))
-    ((x, k) ∷ hand) ≡ hand
-slot_settles x k hand none =
-    ap (λ t. cond t ((x, k) ∷ without_rows (x / 64) (2 ^ (x % 64)) hand)
-    (without_rows (x / 64) (2 ^ (x % 64)) hand)) gone
-    ∙ apart_stays (x / 64) (2 ^ (x % 64)) hand (λ r lt set. at r lt set (cases_eq r (x % 64)))
+pub slot_leaves : (x : ℕ) (held : List (ℕ × ℕ)) → without_rows (x / ROWS) (2 ^ (x % ROWS)) held ≡ without x held
+slot_leaves x held = filter_same (outside (x / ROWS) (2 ^ (x % ROWS))) (λ y. not (y == x)) held
+    (λ y. at y (cases_eq y x) (cases_eq (y / ROWS) (x / ROWS)))
   where
-    gone : outside (x / 64) (2 ^ (x % 64)) x ≡ false
-    gone = ap (λ t. not (t && (bit_at (2 ^ (x % 64)) (x % 64) == 1))) (eq-eqb _ _ refl)
-        ∙ ap not (eq-eqb _ _ (bit_at-pow_same (x % 64)))
+    at : (y : ℕ) → (y ≡ x) ⊎ (y ≢ x) → (y / ROWS ≡ x / ROWS) ⊎ (y / ROWS ≢ x / ROWS)
+        → outside (x / ROWS) (2 ^ (x % ROWS)) y ≡ not (y == x)
+    at y (inl same) _ =
+        let block : y / ROWS ≡ x / ROWS = omega arith in
+        let row : y % ROWS ≡ x % ROWS = omega arith in
+        ap (λ t. not (t && (bit_at (2 ^ (x % ROWS)) (y % ROWS) == 1))) (eq-eqb _ _ block)
+        ∙ ap not (eq-eqb _ _ (ap (bit_at (2 ^ (x % ROWS))) row ∙ bit_at-pow_same (x % ROWS)))
+        ∙ sym (ap not (eq-eqb _ _ same))
+    at y (inr far) (inl here) =
+        let other : y % ROWS ≢ x % ROWS = λ e. far (omega arith) in
+        let clear : (bit_at (2 ^ (x % ROWS)) (y % ROWS) == 1) ≡ false =
+        ne_eqb _ _ (λ e. let z = bit_at-pow_other (x % ROWS) (y % ROWS) other in omega arith) in
+        ap not (and_off (y / ROWS == x / ROWS) _ clear) ∙ sym (ap not (ne_eqb _ _ far))
+    at y (inr far) (inr other) =
+        ap (λ t. not (t && (bit_at (2 ^ (x % ROWS)) (y % ROWS) == 1))) (ne_eqb _ _ other)
+        ∙ sym (ap not (ne_eqb _ _ far))
 
-    at : (r : ℕ) → r < 64 → bit_at (2 ^ (x % 64)) r ≡ 1 → (r ≡ x % 64) ⊎ (r ≢ x % 64)
-        → in_hand (64 * (x / 64) + r) hand ≡ 0
-    at r lt set (inl same) = let is : x ≡ 64 * (x / 64) + r =
-        omega arith in subst (λ y. in_hand y hand ≡ 0) is none
-    at r lt set (inr far) = absurd (let z = bit_at-pow_other (x % 64) r far in omega arith)
-
-pub top_has : (x k r : ℕ) (hand : List (ℕ × ℕ)) → r < 64 → bit_at (2 ^ (x % 64)) r ≡ 1
-    → Has (64 * (x / 64) + r) ((x, k) ∷ hand)
-top_has x k r hand lt set = elim (cases_eq r (x % 64)) [
-  | inl same ↦ (
-      let is : x ≡ 64 * (x / 64) + r = omega arith in
-      let one = hit x (64 * (x / 64) + r) is in omega arith)
-  | inr far ↦ absurd (let z = bit_at-pow_other (x % 64) r far in omega arith)
+pub slot_held : (x : ℕ) (held : List (ℕ × ℕ)) → Has x held → HasRows (x / ROWS) (2 ^ (x % ROWS)) held
+slot_held x held has r lt set = elim (cases_eq r (x % ROWS)) [
+  | inl same ↦ subst (λ y. Has y held) (let is : x ≡ ROWS * (x / ROWS) + r = omega arith in is) has
+  | inr far ↦ absurd (let z = bit_at-pow_other (x % ROWS) r far in omega arith)
 ]
 
-pub with_slot_some : (x k : ℕ) (hand : List (ℕ × ℕ)) → x ≢ 0 → with_slot x k hand ≡ (x, k) ∷ hand
-with_slot_some zero k hand ne = absurd (ne refl)
-with_slot_some (suc x) k hand ne = refl
+pub with_slot_has : (x k : ℕ) (held : List (ℕ × ℕ)) → x ≢ 0 → HasAs (x, k) (with_slot x k held)
+with_slot_has zero k held ne = absurd (ne refl)
+with_slot_has (suc x) k held ne = (0, refl)
 
-pub with_slot_none : (x k : ℕ) (hand : List (ℕ × ℕ)) → x ≡ 0 → with_slot x k hand ≡ hand
-with_slot_none x k hand e = ap (λ y. with_slot y k hand) e
+pub with_slot_some : (x k : ℕ) (held : List (ℕ × ℕ)) → x ≢ 0 → with_slot x k held ≡ (x, k) ∷ held
+with_slot_some zero k held ne = absurd (ne refl)
+with_slot_some (suc x) k held ne = refl
+
+pub with_slot_none : (x k : ℕ) (held : List (ℕ × ℕ)) → x ≡ 0 → with_slot x k held ≡ held
+with_slot_none x k held e = ap (λ y. with_slot y k held) e
+
+pub with_block_some : (x k : ℕ) (held : List (ℕ × ℕ)) → x ≢ 0 → with_block x k held ≡ rows x every_row k ++ held
+with_block_some zero k held ne = absurd (ne refl)
+with_block_some (suc x) k held ne = refl
 
 -- ---- a granted block
 
-all_but_first : (r : ℕ) → r < 64 → not (bit_at 18446744073709551614 r == 1) ≡ (r == 0)
+all_but_first : (r : ℕ) → r < ROWS → not (bit_at 18446744073709551614 r == 1) ≡ (r == 0)
 all_but_first zero lt = refl
 all_but_first (suc r) lt =
     let is : 18446744073709551614 ≡ bit_not w64 1 = refl in
@@ -388,56 +413,57 @@ all_but_first (suc r) lt =
     ∙ omega (arith, low, not_is) in
     ap (λ n. not (n == 1)) set ∙ sym (ne_eqb (suc r) 0 (λ e. omega arith))
 
-pub granted_hand : (b k : ℕ) (hand : List (ℕ × ℕ)) → ((r : ℕ) → r < 64 → in_hand (64 * b + r) hand ≡ 0)
-    → without_rows b 18446744073709551614 (whole b k ++ hand) ≡ (64 * b, k) ∷ hand
-granted_hand b k hand none =
-    filter_append (λ p. outside b 18446744073709551614 p.0) (whole b k) hand
-    ∙ ap (λ ps. ps ++ without_rows b 18446744073709551614 hand)
-    (filter_picks (outside b 18446744073709551614) 64 (λ _. true) (64 * b) (λ _. k)
-    ∙ picks_one 64 0 (λ r. true && outside b 18446744073709551614 (64 * b + r)) (64 * b) (λ _. k)
+pub granted_held : (b k : ℕ) (held : List (ℕ × ℕ)) → ((r : ℕ) → r < ROWS → held_times (ROWS * b + r) held ≡ 0)
+    → without_rows b 18446744073709551614 (whole b k ++ held) ≡ (ROWS * b, k) ∷ held
+granted_held b k held none =
+    filter_append (λ p. outside b 18446744073709551614 p.0) (whole b k) held
+    ∙ ap (λ ps. ps ++ without_rows b 18446744073709551614 held)
+    (filter_picks (outside b 18446744073709551614) ROWS (λ _. true) (ROWS * b) (λ _. k)
+    ∙ picks_one ROWS 0 (λ r. true && outside b 18446744073709551614 (ROWS * b + r)) (ROWS * b) (λ _. k)
     (omega arith)
     (λ r lt. outside_at b 18446744073709551614 r lt ∙ all_but_first r lt)
-    ∙ ap (λ x. (x, k) ∷ []) (Rattle.std.proofs.Math.Nat.add-zero (64 * b)))
-    ∙ ap (λ qs. (64 * b, k) ∷ qs) (apart_stays b 18446744073709551614 hand (λ r lt _. none r lt))
+    ∙ ap (λ x. (x, k) ∷ []) (Rattle.std.proofs.Math.Nat.add-zero (ROWS * b)))
+    ∙ ap (λ qs. (ROWS * b, k) ∷ qs) (apart_stays b 18446744073709551614 held (λ r lt _. none r lt))
 
-pub whole_has : (b k r : ℕ) (hand : List (ℕ × ℕ)) → r < 64 → Has (64 * b + r) (whole b k ++ hand)
-whole_has b k r hand lt =
-    let j = in_hand_append (64 * b + r) (whole b k) hand in
-    let one = in_hand_picks (λ _. true) (64 * b) (λ _. k) 64 r lt in
+pub whole_has : (b k r : ℕ) (held : List (ℕ × ℕ)) → r < ROWS → Has (ROWS * b + r) (whole b k ++ held)
+whole_has b k r held lt =
+    let j = held_times_append (ROWS * b + r) (whole b k) held in
+    let one = held_times_picks (λ _. true) (ROWS * b) (λ _. k) ROWS r lt in
     omega arith
 
 abbrev after_first : ℕ
 after_first = 18446744073709551614
 
-module _ {W : Type 0} (k b d : ℕ) (v : View W) (cs : List (ℕ × Option W)) (lt : k < 7) (apart : (r : ℕ)
-    → r < 64 → in_hand (64 * b + r) v.hand ≡ 0)
-    (x y : Me (Option W) (View W)) (assigned : x ≡ (opened b (k + 1) v, cs))
-    (extra : y ≡ (record x.0 { changes = with_data d x.0.changes }, x.1)) where
-  abbrev handed : Bool → List (ℕ × ℕ)
-  handed t = cond t (whole b (k + 1) ++ v.hand) v.hand
+module _ {W : Type 0} (k b d : ℕ) (a x y : Acting W) (lt : k < KINDS) (apart : (r : ℕ)
+    → r < ROWS → held_times (ROWS * b + r) a.view.held ≡ 0) (assigned : x ≡ with_view (opened b (k + 1) a.view) a)
+    (extra : y ≡ with_view (storing_data d x.view) x) where
+  abbrev grown : Bool → List (ℕ × ℕ)
+  grown t = cond t (whole b (k + 1) ++ a.view.held) a.view.held
 
-  y_is : y ≡ (record (opened b (k + 1) v) { changes = with_data d (opened b (k + 1) v).changes }, cs)
-  y_is = extra ∙ ap (λ (z : Me (Option W) (View W)). (record z.0 { changes = with_data d z.0.changes }, z.1))
-      assigned
+  y_is : y ≡ with_view (storing_data d (opened b (k + 1) a.view)) a
+  y_is = extra ∙ ap (λ (z : Acting W). with_view (storing_data d z.view) z) assigned
 
-  few : nat_lt (k + 1) 8 ≡ true
-  few = lt-ltb (k + 1) 8 (omega arith)
+  few : nat_lt (k + 1) EXTRA_DATA ≡ true
+  few = lt-ltb (k + 1) EXTRA_DATA (omega arith)
 
-  pub granted_has : (r : ℕ) → r < 64 → Has (64 * b + r) y.0.hand
-  granted_has r under =
-      subst (λ h. Has (64 * b + r) h) (sym (ap (λ (z : Me (Option W) (View W)). z.0.hand) y_is
-      ∙ ap handed few)) (whole_has b (k + 1) r v.hand under)
+  pub granted_has : (m : ℕ) → HasRows b m y.view.held
+  granted_has m r under _ =
+      subst (λ h. Has (ROWS * b + r) h) (sym (ap (λ (z : Acting W). z.view.held) y_is
+      ∙ ap grown few)) (whole_has b (k + 1) r a.view.held under)
 
-  pub granted_view : (z : Me (Option W) (View W)) → z ≡ (put_in (256 + b) after_first y.0, y.1)
-      → z ≡ (granted k b d v, cs)
+  pub granted_view : (z : Acting W) → z ≡ with_view (put_in (BLOCKS + b) after_first y.view) y
+      → z ≡ with_view (granted k b d a.view) a
   granted_view z filled =
-      let block : 256 + b - 256 ≡ b = omega arith in
-      filled ∙ ap (λ (w : Me (Option W) (View W)). (put_in (256 + b) after_first w.0, w.1)) y_is
-      ∙ ap (λ (h : List (ℕ × ℕ)). (record v { changes = with_data d ((b, k + 1) ∷ v.changes); hand = h }, cs))
-      (ap (λ t. without_rows (256 + b - 256) after_first (handed t)) few
-      ∙ ap (λ c. without_rows c after_first (whole b (k + 1) ++ v.hand)) block
-      ∙ granted_hand b (k + 1) v.hand apart)
+      let block : BLOCKS + b - BLOCKS ≡ b = omega arith in
+      filled ∙ ap (λ (w : Acting W). with_view (put_in (BLOCKS + b) after_first w.view) w) y_is
+      ∙ ap (λ (h : List (ℕ × ℕ)). with_view (record a.view {
+        changes = with_data d ((b, k + 1) ∷ a.view.changes);
+        held = h;
+      }) a)
+      (ap (λ t. without_rows (BLOCKS + b - BLOCKS) after_first (grown t)) few
+      ∙ ap (λ c. without_rows c after_first (whole b (k + 1) ++ a.view.held)) block
+      ∙ granted_held b (k + 1) a.view.held apart)
 
-pub with_data_some : (d : ℕ) (cs : List (ℕ × ℕ)) → d ≢ 0 → with_data d cs ≡ (d, 8) ∷ cs
+pub with_data_some : (d : ℕ) (cs : List (ℕ × ℕ)) → d ≢ 0 → with_data d cs ≡ (d, EXTRA_DATA) ∷ cs
 with_data_some zero cs ne = absurd (ne refl)
 with_data_some (suc d) cs ne = refl

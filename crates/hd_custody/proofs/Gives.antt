@@ -12,21 +12,23 @@ use Rattle.hd_model.specs.declared.held.Held.{Ghosts}
 use Rattle.hd_model.specs.declared.data.Entry.{Entry}
 use Rattle.hd_model.specs.State.{Numbers}
 use Rattle.hd_model.specs.Run.{part_of}
+use Rattle.hd_model.specs.declared.limits.TheConstants.{BLOCKS, ROWS}
+use Rattle.hd_custody.specs.declared.words.TheConstants.{FIRST_MASK, FIRST_QUICK, WORDS}
 use Rattle.hd_custody.specs.declared.view.View.{View}
-use Rattle.hd_custody.specs.Counts.{total, one_if, weight, in_hand, kind_word, named, changed, picks, slot_count, without_block, Every, Has}
+use Rattle.hd_custody.specs.Counts.{total, one_if, weight, held_times, kind_word, named, changed, picks, slot_count, without_block, Every, Has}
 use Rattle.hd_custody.specs.Views.{took, opened, closed, gave_back, Follows, Sorted, Continues}
 use Rattle.hd_custody.specs.Rule.{tally, room_of, held_by, Belongs, Fits, HasNumber, Seats, Holds, Custodied, entered, left, assigned, cleared}
 use Rattle.hd_custody.proofs.Totals.{hit, total_set, total_member, total_two}
-use Rattle.hd_custody.proofs.Hands.{true_false, in_hand_append, in_hand_kept, in_hand_dropped, in_hand_out, in_hand_picks, has_member, every_append, every_filter, every_picks, every_cons}
+use Rattle.hd_custody.proofs.HeldSlots.{true_false, held_times_append, held_times_kept, held_times_dropped, held_times_out, held_times_picks, has_member, every_append, every_filter, every_picks, every_cons}
 use Rattle.hd_custody.proofs.Weights.{weight_low, weight_cell, kind_word_is, kind_word_out, kind_word_set, named_kind, named_none, named_most, named_block, off_of}
 use Rattle.hd_custody.proofs.Slots.{held_alive, has_named, has_once, placed}
-use Rattle.hd_custody.proofs.Alike.{place_there}
-use Rattle.hd_custody.proofs.Turns.{slots_low, some_inj, gate_kinds, cell_real, others_real, belongs_gate, kind_same, won, learned, mine, away, alone_holds, storing, word_here, word_other, old_belongs, hand_none, opens}
+use Rattle.hd_custody.proofs.Alike.{fits_as, kept_set}
+use Rattle.hd_custody.proofs.Turns.{slots_low, some_inj, gate_kinds, cell_real, others_real, belongs_gate, kind_same, won, learned, mine, away, alone_holds, storing, word_here, word_other, old_belongs, held_none, opens}
 
 -- what holds of each that passes a test
-pub every_passed : (P Q : ℕ × ℕ → Type 0) (keep : ℕ × ℕ → Bool) (hand : List (ℕ × ℕ))
+pub every_passed : (P Q : ℕ × ℕ → Type 0) (keep : ℕ × ℕ → Bool) (held : List (ℕ × ℕ))
     → ((p : ℕ × ℕ) → keep p ≡ true → Q p → P p)
-    → Every Q hand → Every P (filter keep hand)
+    → Every Q held → Every P (filter keep held)
 every_passed P Q keep [] step h = λ n p e. absurd (some-ne-none p (sym e))
 every_passed P Q keep (p ∷ ps) step h = at (keep p) refl (every_passed P Q keep ps step (λ n. h (suc n)))
   where
@@ -77,40 +79,40 @@ module _ {W : Type 0} (m : Ghosts W) (numbers : Numbers) (s : State (Option W) (
     (c : Custodied m numbers s)
     (id : ℕ) (v : View W) (there : get_elem? s.views id ≡ some v) (lives : v.is_spent ≡ false)
     (has : v.has_gate ≡ true) where
-  abbrev held : W
-  held = c.world
+  abbrev before : W
+  before = c.world
 
   know : (get_or s.words 0 0 ≡ 1) × (c.holder ≡ id) × (v.taken ≡ Some c.world) × (v.changes ≡ c.changes)
   know = mine m numbers s c id v there lives has
 
   -- what the holder knows of a block's kind word
-  kind_of_word : (b : ℕ) → 0 < b → b < 257 → get_or s.words b 0 ≡ changed v.changes (m.kind held) b
-  kind_of_word b real lt = c.kinds b real lt ∙ ap (λ cs. changed cs (m.kind held) b) (sym know.3)
+  kind_of_word : (b : ℕ) → 0 < b → b < FIRST_MASK → get_or s.words b 0 ≡ changed v.changes (m.kind before) b
+  kind_of_word b real lt = c.kinds b real lt ∙ ap (λ cs. changed cs (m.kind before) b) (sym know.3)
 
   -- ---- the gate is given back with w
 
-  module _ (w : W) (f : Follows m held w v) where
-    abbrev after : View W
-    after = gave_back m held w v
+  module _ (w : W) (f : Follows m before w v) where
+    abbrev given_back : View W
+    given_back = gave_back m before w v
 
     abbrev words' : List ℕ
     words' = set s.words 0 0
 
-    fits : Fits c.made c.owner (m.journal held) numbers id v
+    fits : Fits c.made c.owner (m.journal before) numbers id v
     fits = c.seats.each id v there lives
 
-    part_stays : (n : ℕ) → n ≢ v.number → part_of (m.journal w) n ≡ part_of (m.journal held) n
-    part_stays = part_goes_on v.number v.room (m.journal held) (m.spare held) (m.journal w)
+    part_stays : (n : ℕ) → n ≢ v.number → part_of (m.journal w) n ≡ part_of (m.journal before) n
+    part_stays = part_goes_on v.number v.room (m.journal before) (m.spare before) (m.journal w)
         (m.spare w) f.goes_on
 
     apart : (n j : ℕ) → c.owner n ≡ j → j ≢ suc id → n ≢ v.number
     apart n j is other same = other (sym is ∙ ap c.owner same ∙ fits.owned)
 
-    fits_at : (j : ℕ) (u : View W) → u.is_spent ≡ false → ((j ≡ id) × (after ≡ u))
+    fits_at : (j : ℕ) (u : View W) → u.is_spent ≡ false → ((j ≡ id) × (given_back ≡ u))
         ⊎ ((j ≢ id) × (get_elem? s.views j ≡ some u))
         → Fits c.made c.owner (m.journal w) numbers j u
     fits_at j u alive (inl here) =
-        let own : Fits c.made c.owner (m.journal w) numbers id after = record {
+        let own : Fits c.made c.owner (m.journal w) numbers id given_back = record {
           low = fits.low;
           owned = fits.owned;
           own_part = refl;
@@ -124,8 +126,7 @@ module _ {W : Type 0} (m : Ghosts W) (numbers : Numbers) (s : State (Option W) (
           ));
           sized = fits.sized;
         } in
-        subst (λ z. Fits c.made c.owner (m.journal w) numbers j z) here.1
-        (subst (λ i. Fits c.made c.owner (m.journal w) numbers i after) (sym here.0) own)
+        fits_as own here
     fits_at j u alive (inr other) =
         let h = c.seats.each j u other.1 alive in record {
           low = h.low;
@@ -143,121 +144,112 @@ module _ {W : Type 0} (m : Ghosts W) (numbers : Numbers) (s : State (Option W) (
           sized = h.sized;
         }
 
-    kept_at : (i : ℕ) (u : View W) (n : ℕ) → get_elem? s.views i ≡ some u → HasNumber n u → (i ≡ id)
-        ⊎ (i ≢ id)
-        → (j : ℕ) × (z : View W) × (get_elem? (set s.views id after) j ≡ some z) × HasNumber n z
-    kept_at i u n at his (inl here) =
-        let same : u ≡ v = some-injective u v (sym at ∙ ap (get_elem? s.views) here ∙ there) in
-        let own : HasNumber n v = subst (λ z. HasNumber n z) same his in
-        (id, after, place_there s.views id v after there, own)
-    kept_at i u n at his (inr other) = (i, u, set_else s.views id i after other ∙ at, his)
-
-    seats' : Seats c.made c.owner (m.journal w) (m.spare w) numbers (set s.views id after)
+    seats' : Seats c.made c.owner (m.journal w) (m.spare w) numbers (set s.views id given_back)
     seats' = record {
-      each = λ j u at alive. fits_at j u alive (at_set s.views id j after u at);
+      each = λ j u at alive. fits_at j u alive (at_set s.views id j given_back u at);
       begun = c.seats.begun;
       unmade = λ n le. (let low = fits.low in part_stays n (λ e. omega arith) ∙ c.seats.unmade n le);
-      counted = (let k = total_set tally s.views id v after there in let d = c.seats.counted in omega arith);
-      kept = λ n lt. (let a = c.seats.kept n lt in kept_at a.0 a.1 n a.2 a.3 (cases_eq a.0 id));
+      counted = (let k = total_set tally s.views id v given_back there in let d = c.seats.counted in omega arith);
+      kept = λ n lt. (let a = c.seats.kept n lt in kept_set s.views id v given_back there (λ n h. h) n a.0 a.1 a.2 a.3);
       roomy = (
-          let k = total_set room_of s.views id v after there in
+          let k = total_set room_of s.views id v given_back there in
           let is : room_of v ≡ v.room = ap (λ b. cond b 0 v.room) lives in
-          let now : room_of after ≡ after.room = ap (λ b. cond b 0 after.room) lives in
+          let now : room_of given_back ≡ given_back.room = ap (λ b. cond b 0 given_back.room) lives in
           let most = total_member room_of s.views id v there in
           let d = c.seats.roomy in
           let rest : ℕ = total room_of s.views - v.room in
-          let go = room_goes_on v.number v.room (m.journal held) (m.spare held) (m.journal w)
+          let go = room_goes_on v.number v.room (m.journal before) (m.spare before) (m.journal w)
           (m.spare w) f.goes_on rest (omega arith) in
           omega arith);
     }
 
     abbrev ends : ℕ → Bool
-    ends r = m.live held (64 + r) && not (m.live w (64 + r))
+    ends r = m.live before (ROWS + r) && not (m.live w (ROWS + r))
 
     abbrev ended : List (ℕ × ℕ)
-    ended = picks slot_count ends 64 (λ r. m.kind w ((64 + r) / 64))
+    ended = picks slot_count ends ROWS (λ r. m.kind w ((ROWS + r) / ROWS))
 
-    live_low : (x : ℕ) → 64 ≤ x → m.live held x ≡ true → (x < 16448)
-        × (named (kind_word s.words (x / 64)) ≡ 1) × (in_hand x v.hand ≡ 0)
+    live_low : (x : ℕ) → ROWS ≤ x → m.live before x ≡ true → (x < (ROWS * (BLOCKS + 1)))
+        × (named (kind_word s.words (x / ROWS)) ≡ 1) × (held_times x v.held ≡ 0)
     live_low x real is =
-        let most = placed (m.live held) s.words s.views c.slots id v there lives x 0 real
+        let most = placed (m.live before) s.words s.views c.slots id v there lives x 0 real
         (omega (arith, c.wide)) in
-        let one : one_if (m.live held x) ≡ 1 = ap one_if is in
-        let small = named_most (kind_word s.words (x / 64)) in
-        let block = named_block s.words (x / 64) (omega arith) in
+        let one : one_if (m.live before x) ≡ 1 = ap one_if is in
+        let small = named_most (kind_word s.words (x / ROWS)) in
+        let block = named_block s.words (x / ROWS) (omega arith) in
         (omega arith, omega arith, omega arith)
 
-    ended_in : (x : ℕ) → 64 ≤ x → (b : Bool) → (m.live held x && not (m.live w x)) ≡ b
-        → (b ≡ true → x < 16448) → (x < 16448) ⊎ (16448 ≤ x)
-        → in_hand x ended ≡ one_if b
+    ended_in : (x : ℕ) → ROWS ≤ x → (b : Bool) → (m.live before x && not (m.live w x)) ≡ b
+        → (b ≡ true → x < (ROWS * (BLOCKS + 1))) → (x < (ROWS * (BLOCKS + 1))) ⊎ ((ROWS * (BLOCKS + 1)) ≤ x)
+        → held_times x ended ≡ one_if b
     unfolding slot_count
     ended_in x real b is under (inl lt) =
-        let at : 64 + (x - 64) ≡ x = omega arith in
-        subst (λ y. in_hand y ended ≡ one_if b) at
-        (in_hand_picks ends 64 (λ r. m.kind w ((64 + r) / 64)) slot_count (x - 64) (omega arith)
-        ∙ ap (λ y. one_if (m.live held y && not (m.live w y))) at ∙ ap one_if is)
+        let at : ROWS + (x - ROWS) ≡ x = omega arith in
+        subst (λ y. held_times y ended ≡ one_if b) at
+        (held_times_picks ends ROWS (λ r. m.kind w ((ROWS + r) / ROWS)) slot_count (x - ROWS) (omega arith)
+        ∙ ap (λ y. one_if (m.live before y && not (m.live w y))) at ∙ ap one_if is)
     ended_in x real true is under (inr le) = absurd (let lt = under refl in omega arith)
-    ended_in x real false is under (inr le) = in_hand_out ends 64 (λ r. m.kind w ((64 + r) / 64)) slot_count x
+    ended_in x real false is under (inr le) = held_times_out ends ROWS (λ r. m.kind w ((ROWS + r) / ROWS)) slot_count x
         (λ r lt e. omega arith)
 
     stays : ℕ → Bool
     stays x = not (m.live w x)
 
-    count : (x : ℕ) → 64 ≤ x → (a b : Bool) → m.live held x ≡ a → m.live w x ≡ b
-        → in_hand x after.hand + one_if b ≡ in_hand x v.hand + one_if a
+    count : (x : ℕ) → ROWS ≤ x → (a b : Bool) → m.live before x ≡ a → m.live w x ≡ b
+        → held_times x given_back.held + one_if b ≡ held_times x v.held + one_if a
     count x real a b was is =
-        let j = in_hand_append x (filter (λ p. not (m.live w p.0)) v.hand) ended in
+        let j = held_times_append x (filter (λ p. not (m.live w p.0)) v.held) ended in
         let e = ended_in x real (a && not b) (ap (λ t. t && not (m.live w x)) was ∙ ap (λ t. a && not t) is)
-        (under a b was) (cases_lt x 16448) in
+        (under a b was) (cases_lt x (ROWS * (BLOCKS + 1))) in
         omega (arith, j, e, both a b was is)
       where
-        under : (a b : Bool) → m.live held x ≡ a → (a && not b) ≡ true → x < 16448
+        under : (a b : Bool) → m.live before x ≡ a → (a && not b) ≡ true → x < (ROWS * (BLOCKS + 1))
         under true b was e = (live_low x real was).0
         under false b was e = cc
 
-        both : (a b : Bool) → m.live held x ≡ a → m.live w x ≡ b
-            → in_hand x (filter (λ p. not (m.live w p.0)) v.hand) + one_if (a && not b) + one_if b ≡ in_hand x
-            v.hand + one_if a
+        both : (a b : Bool) → m.live before x ≡ a → m.live w x ≡ b
+            → held_times x (filter (λ p. not (m.live w p.0)) v.held) + one_if (a && not b) + one_if b ≡ held_times x
+            v.held + one_if a
         both true true was is =
-            let out = in_hand_dropped (λ y. not (m.live w y)) x v.hand (ap not is) in
+            let out = held_times_dropped (λ y. not (m.live w y)) x v.held (ap not is) in
             let none = (live_low x real was).2 in omega arith
-        both true false was is = let kept = in_hand_kept (λ y. not (m.live w y)) x v.hand (ap not is) in omega
+        both true false was is = let kept = held_times_kept (λ y. not (m.live w y)) x v.held (ap not is) in omega
             arith
         both false true was is =
-            let out = in_hand_dropped (λ y. not (m.live w y)) x v.hand (ap not is) in
-            let got : Has x v.hand = elim (f.lives x real is) [
-              | inl t ↦ absurd (true_false (m.live held x) t was)
+            let out = held_times_dropped (λ y. not (m.live w y)) x v.held (ap not is) in
+            let got : Has x v.held = elim (f.lives x real is) [
+              | inl t ↦ absurd (true_false (m.live before x) t was)
               | inr h ↦ h
             ] in
-            let once = (has_once (m.live held) s.words s.views c.slots id v there lives x 0
+            let once = (has_once (m.live before) s.words s.views c.slots id v there lives x 0
             (omega (arith, c.wide)) got).0 in
             omega arith
-        both false false was is = let kept = in_hand_kept (λ y. not (m.live w y)) x v.hand
+        both false false was is = let kept = held_times_kept (λ y. not (m.live w y)) x v.held
             (ap not is) in omega arith
 
-    kind_back : (b : ℕ) → 0 < b → b < 257 → get_or s.words b 0 ≡ m.kind w b
+    kind_back : (b : ℕ) → 0 < b → b < FIRST_MASK → get_or s.words b 0 ≡ m.kind w b
     kind_back b real lt = kind_of_word b real lt ∙ sym (f.kinds b real lt)
 
-    pub sorts : Sorted m held w
+    pub sorts : Sorted m before w
     sorts x real is =
         let h = live_low x real is in
-        let lt = named_block s.words (x / 64) h.1 in
-        ap named (sym (kind_word_is s.words (x / 64) lt ∙ kind_back (x / 64) (omega arith) lt)) ∙ h.1
+        let lt = named_block s.words (x / ROWS) h.1 in
+        ap named (sym (kind_word_is s.words (x / ROWS) lt ∙ kind_back (x / ROWS) (omega arith) lt)) ∙ h.1
 
     ended_belongs : (r : ℕ) → r < slot_count → ends r ≡ true
-        → Belongs words' (64 + r, m.kind w ((64 + r) / 64))
+        → Belongs words' (ROWS + r, m.kind w ((ROWS + r) / ROWS))
     ended_belongs r _ e =
-        let is : m.live held (64 + r) ≡ true = first_true (m.live held (64 + r)) _ e in
-        let h = live_low (64 + r) (omega arith) is in
-        let lt = named_block s.words ((64 + r) / 64) h.1 in
-        let same = gate_kinds m numbers s c id v there lives 0 (64 + r) (omega arith) in (
+        let is : m.live before (ROWS + r) ≡ true = first_true (m.live before (ROWS + r)) _ e in
+        let h = live_low (ROWS + r) (omega arith) is in
+        let lt = named_block s.words ((ROWS + r) / ROWS) h.1 in
+        let same = gate_kinds m numbers s c id v there lives 0 (ROWS + r) (omega arith) in (
           omega arith,
           ap named same ∙ h.1,
-          λ _. same ∙ kind_word_is s.words ((64 + r) / 64) lt
-              ∙ kind_back ((64 + r) / 64) (omega arith) lt,
+          λ _. same ∙ kind_word_is s.words ((ROWS + r) / ROWS) lt
+              ∙ kind_back ((ROWS + r) / ROWS) (omega arith) lt,
         )
 
-    back_holding : (j : ℕ) (u : View W) → u.is_spent ≡ false → ((j ≡ id) × (after ≡ u))
+    back_holding : (j : ℕ) (u : View W) → u.is_spent ≡ false → ((j ≡ id) × (given_back ≡ u))
         ⊎ ((j ≢ id) × (get_elem? s.views j ≡ some u))
         → Holds (get_or words' 0 0) c.holder w [] j u
     back_holding j u alive (inl here) his = absurd
@@ -269,7 +261,7 @@ module _ {W : Type 0} (m : Ghosts W) (numbers : Numbers) (s : State (Option W) (
       words = words';
       homes =
           set s.homes 0 (some (Some w));
-      views = set s.views id after;
+      views = set s.views id given_back;
     })
     gives_back = record {
       world = w;
@@ -285,60 +277,60 @@ module _ {W : Type 0} (m : Ghosts W) (numbers : Numbers) (s : State (Option W) (
           ap (λ hs. set hs 0 (some (Some w))) (away m numbers s c id v there lives has),
           refl,
         );
-        holding = λ j u at alive. back_holding j u alive (at_set s.views id j after u at);
+        holding = λ j u at alive. back_holding j u alive (at_set s.views id j given_back u at);
       };
       seats = seats';
       kinds = λ b real lt. kind_same m numbers s c id v there lives 0 b real ∙ kind_back b real lt;
-      slots = slots_low (m.live held) s.words s.views c.slots id v there lives c.wide 0 0 (omega arith)
-          (m.live w) after lives
-          (λ x real. (let n = count x real (m.live held x) (m.live w x) refl refl in let k =
+      slots = slots_low (m.live before) s.words s.views c.slots id v there lives c.wide 0 0 (omega arith)
+          (m.live w) given_back lives
+          (λ x real. (let n = count x real (m.live before x) (m.live w x) refl refl in let k =
           ap named (gate_kinds m numbers s c id v there lives 0 x real) in omega arith))
           (λ j le ne. gate_kinds m numbers s c id v there lives 0 (get_or s.words j 0)
           (cell_real m numbers s c id v there lives j le ne))
           (others_real m numbers s c id v there lives 0)
           (every_append (Belongs words') _ ended
-          (every_filter (Belongs words') (λ p. not (m.live w p.0)) v.hand
+          (every_filter (Belongs words') (λ p. not (m.live w p.0)) v.held
           (λ k p e. belongs_gate m numbers s c id v there lives 0 p
-          (c.slots.hands id v there lives k p e)))
-          (every_picks (Belongs words') slot_count ends 64 (λ r. m.kind w ((64 + r) / 64)) ended_belongs));
+          (c.slots.held id v there lives k p e)))
+          (every_picks (Belongs words') slot_count ends ROWS (λ r. m.kind w ((ROWS + r) / ROWS)) ended_belongs));
     }
 
-  -- ---- a store of 0 into the kind word of a block whose slots are all in the hand
+  -- ---- a store of 0 into the kind word of a block whose slots are all held
 
-  module _ (b : ℕ) (real : 0 < b) (lt : b < 257) (all : (r : ℕ) → r < 64 → Has (64 * b + r) v.hand) where
+  module _ (b : ℕ) (real : 0 < b) (lt : b < FIRST_MASK) (all : (r : ℕ) → r < ROWS → Has (ROWS * b + r) v.held) where
     abbrev zeroed : List ℕ
     zeroed = set s.words b 0
 
     abbrev bare : List (ℕ × ℕ)
-    bare = without_block b v.hand
+    bare = without_block b v.held
 
-    got : (x : ℕ) → x / 64 ≡ b → Has x v.hand
-    got x here = let at : 64 * b + x % 64 ≡ x = omega arith in subst (λ y. Has y v.hand) at
-        (all (x % 64) (omega arith))
+    got : (x : ℕ) → x / ROWS ≡ b → Has x v.held
+    got x here = let at : ROWS * b + x % ROWS ≡ x = omega arith in subst (λ y. Has y v.held) at
+        (all (x % ROWS) (omega arith))
 
-    once_here : (x i : ℕ) → i < 1402 → x / 64 ≡ b → (in_hand x v.hand ≡ 1)
-        × (weight x i (get_or s.words i 0) ≡ 0) × (m.live held x ≡ false)
-    once_here x i under here = has_once (m.live held) s.words s.views c.slots id v there lives x i
+    once_here : (x i : ℕ) → i < WORDS → x / ROWS ≡ b → (held_times x v.held ≡ 1)
+        × (weight x i (get_or s.words i 0) ≡ 0) × (m.live before x ≡ false)
+    once_here x i under here = has_once (m.live before) s.words s.views c.slots id v there lives x i
         (subst (λ n. i < n) (sym c.wide) under) (got x here)
 
-    close_moves : (x : ℕ) → 64 ≤ x → (x / 64 ≡ b) ⊎ (x / 64 ≢ b)
-        → in_hand x bare + one_if (m.live held x) + named (kind_word s.words (x / 64)) ≡ in_hand x v.hand +
-        one_if (m.live held x) + named (kind_word zeroed (x / 64))
+    close_moves : (x : ℕ) → ROWS ≤ x → (x / ROWS ≡ b) ⊎ (x / ROWS ≢ b)
+        → held_times x bare + one_if (m.live before x) + named (kind_word s.words (x / ROWS)) ≡ held_times x v.held +
+        one_if (m.live before x) + named (kind_word zeroed (x / ROWS))
     close_moves x low (inl here) =
-        let out = in_hand_dropped (λ y. not (y / 64 == b)) x v.hand (ap not (eq-eqb _ _ here)) in
+        let out = held_times_dropped (λ y. not (y / ROWS == b)) x v.held (ap not (eq-eqb _ _ here)) in
         let w = ap named (word_here m numbers s c id v there lives has b 0 real lt bare x here) in
-        let one = (has_named (m.live held) s.words s.views c.slots id v there lives x (got x here)).1 in
+        let one = (has_named (m.live before) s.words s.views c.slots id v there lives x (got x here)).1 in
         let once = (once_here x 0 (omega arith) here).0 in
         omega arith
     close_moves x low (inr other) =
-        let kept = in_hand_kept (λ y. not (y / 64 == b)) x v.hand (ap not (ne_eqb _ _ other)) in
+        let kept = held_times_kept (λ y. not (y / ROWS == b)) x v.held (ap not (ne_eqb _ _ other)) in
         let w = ap named (word_other m numbers s c id v there lives has b 0 real lt bare x other) in
         omega arith
 
-    close_cells : (j : ℕ) → 513 ≤ j → get_or s.words j 0 ≢ 0 → kind_word zeroed (get_or s.words j 0 / 64) ≡
-        kind_word s.words (get_or s.words j 0 / 64)
+    close_cells : (j : ℕ) → FIRST_QUICK ≤ j → get_or s.words j 0 ≢ 0 → kind_word zeroed (get_or s.words j 0 / ROWS) ≡
+        kind_word s.words (get_or s.words j 0 / ROWS)
     close_cells j le ne = word_other m numbers s c id v there lives has b 0 real lt bare (get_or s.words j 0)
-        (λ here. elim (cases_lt j 1402) [
+        (λ here. elim (cases_lt j WORDS) [
           | inl under ↦ (
               let none = (once_here (get_or s.words j 0) j under here).1 in
               let one = weight_cell (get_or s.words j 0) j (get_or s.words j 0) le ∙ hit _ _ refl in
@@ -347,23 +339,23 @@ module _ {W : Type 0} (m : Ghosts W) (numbers : Numbers) (s : State (Option W) (
         ])
 
     close_others : (j : ℕ) (u : View W) → j ≢ id → get_elem? s.views j ≡ some u → u.is_spent ≡ false
-        → Every (λ p. kind_word zeroed (p.0 / 64) ≡ kind_word s.words (p.0 / 64)) u.hand
+        → Every (λ p. kind_word zeroed (p.0 / ROWS) ≡ kind_word s.words (p.0 / ROWS)) u.held
     close_others j u other at alive n p e = word_other m numbers s c id v there lives has b 0 real lt bare p.0
         (λ here.
-        let his = has_member u.hand n p e in
+        let his = has_member u.held n p e in
         let is = held_alive p.0 u alive in
         let was = held_alive p.0 v lives in
         let once = (once_here p.0 0 (omega arith) here).0 in
         let two = total_two (held_by p.0) s.views j id u v at there other in
-        let one = c.slots.in_one_place p.0 (c.slots.hands j u at alive n p e).0 in
-        let most = named_most (kind_word s.words (p.0 / 64)) in
+        let one = c.slots.in_one_place p.0 (c.slots.held j u at alive n p e).0 in
+        let most = named_most (kind_word s.words (p.0 / ROWS)) in
         omega arith)
 
-    close_hand : Every (Belongs zeroed) bare
-    close_hand = every_passed (Belongs zeroed) (Belongs s.words) (λ p. not (p.0 / 64 == b)) v.hand
+    close_held : Every (Belongs zeroed) bare
+    close_held = every_passed (Belongs zeroed) (Belongs s.words) (λ p. not (p.0 / ROWS == b)) v.held
         (λ p keep h. old_belongs m numbers s c id v there lives has b 0 real lt bare p
-        (λ here. true_false (p.0 / 64 == b) (eq-eqb _ _ here) (not_true _ keep)) h)
-        (c.slots.hands id v there lives)
+        (λ here. true_false (p.0 / ROWS == b) (eq-eqb _ _ here) (not_true _ keep)) h)
+        (c.slots.held id v there lives)
 
     pub closes : Custodied m numbers (record {
       words = zeroed;
@@ -373,9 +365,9 @@ module _ {W : Type 0} (m : Ghosts W) (numbers : Numbers) (s : State (Option W) (
     })
     closes =
         storing m numbers s c id v there lives has b 0 real lt bare
-        (slots_low (m.live held) s.words s.views c.slots id v there lives c.wide b 0 lt (m.live held)
+        (slots_low (m.live before) s.words s.views c.slots id v there lives c.wide b 0 lt (m.live before)
         (closed b v) lives
-        (λ x low. close_moves x low (cases_eq (x / 64) b)) close_cells close_others close_hand)
+        (λ x low. close_moves x low (cases_eq (x / ROWS) b)) close_cells close_others close_held)
 
 abbrev value_of : {A : Type 0} → A → List (ℕ × A) → A
 value_of d [] = d
@@ -397,12 +389,12 @@ module _ {W : Type 0} (m : Ghosts W) (numbers : Numbers) (slots id : ℕ) (v : V
       won m numbers s c id v at lives free.0,
       (λ _. (c.world, refl, learned m numbers s c id v at lives free.0), λ ne. absurd (ne free.0)),
     )
-    | inr held ↦ (
+    | inr taken ↦ (
       v,
       keeps,
       tt,
-      same s c at held.0,
-      ((λ z. absurd (let one = held.0 in omega arith)), λ _. refl),
+      same s c at taken.0,
+      ((λ z. absurd (let one = taken.0 in omega arith)), λ _. refl),
     )
   ]
     where
@@ -455,7 +447,7 @@ module _ {W : Type 0} (m : Ghosts W) (numbers : Numbers) (slots id : ℕ) (v : V
             (refl, sorts m numbers s c id v at lives has w f')),
       )
 
-  pub assign_steps : (b k : ℕ) (u : W) → 0 < b → b < 257 → 0 < k → v.has_gate ≡ true → v.taken ≡ Some u
+  pub assign_steps : (b k : ℕ) (u : W) → 0 < b → b < FIRST_MASK → 0 < k → v.has_gate ≡ true → v.taken ≡ Some u
       → changed v.changes (m.kind u) b ≡ 0
       → Steps b (λ _. k) (λ _. assigned m (step slots b k 0 none) (v, carried) k)
   assign_steps b k u real lt some_kind has is empty s c len at small =
@@ -468,13 +460,13 @@ module _ {W : Type 0} (m : Ghosts W) (numbers : Numbers) (slots id : ℕ) (v : V
         opens m numbers s c id v at lives has b k real lt some_kind bare,
         (
           refl,
-          λ r row. (hand_none m numbers s c id v at lives has b k real lt v.hand some_kind bare
-              (64 * b + r) (omega arith) (omega arith)).0,
+          λ r row. (held_none m numbers s c id v at lives has b k real lt v.held some_kind bare
+              (ROWS * b + r) (omega arith) (omega arith)).0,
         ),
       )
 
-  pub clear_steps : (b : ℕ) → 0 < b → b < 257 → v.has_gate ≡ true
-      → ((r : ℕ) → r < 64 → Has (64 * b + r) v.hand)
+  pub clear_steps : (b : ℕ) → 0 < b → b < FIRST_MASK → v.has_gate ≡ true
+      → ((r : ℕ) → r < ROWS → Has (ROWS * b + r) v.held)
       → Steps b (λ _. 0) (λ _. cleared m (step slots b 0 0 none) (v, carried) 0)
   clear_steps b real lt has all s c len at small = (
     closed b v,

@@ -1,7 +1,8 @@
--- The hand that a seat has once it gave the gate back.
+-- The slots that a seat holds once it gave the gate back.
 use Rattle.std.proofs.Common.{◌≡◌, ◌≢◌, ◌⊎◌, ℕ, ◌+◌, ◌/◌, ◌<◌, ◌≤◌, Bool, true, false, not, List, [], ◌∷◌, ◌++◌, filter, sym, ap, refl, ◌∙◌, arith}
 use Rattle.std.specs.Prelude.{◌&&◌}
 use Rattle.hd_model.specs.declared.held.Held.{Ghosts}
+use Rattle.hd_model.specs.declared.limits.TheConstants.{ROWS}
 use Rattle.hd_custody.specs.declared.view.View.{View}
 use Rattle.hd_custody.specs.Counts.{slot_count, Every}
 use Rattle.hd_custody.specs.Views.{gave_back, took, Follows}
@@ -17,17 +18,17 @@ both_off true = refl
 both_off false = refl
 
 module _ {W : Type 0} (m : Ghosts W) (u w : W) (v : View W) where
-  -- where the same slots are live as were, the hand stays
-  pub none_ended : ((x : ℕ) → 64 ≤ x → m.live w x ≡ m.live u x) → Every (λ p. m.live w p.0 ≡ false) v.hand
-      → (gave_back m u w v).hand ≡ v.hand
+  -- where the same slots are live as were, what is held stays
+  pub none_ended : ((x : ℕ) → ROWS ≤ x → m.live w x ≡ m.live u x) → Every (λ p. m.live w p.0 ≡ false) v.held
+      → (gave_back m u w v).held ≡ v.held
   none_ended same dead =
-      ap (λ ps. filter (λ p. not (m.live w p.0)) v.hand ++ ps)
-      (picks_none slot_count (λ r. m.live u (64 + r) && not (m.live w (64 + r))) 64
-      (λ r. m.kind w ((64 + r) / 64))
-      (λ r lt. ap (λ b. m.live u (64 + r) && not b) (same (64 + r) (omega arith))
-      ∙ both_off (m.live u (64 + r))))
-      ∙ append_nil (filter (λ p. not (m.live w p.0)) v.hand)
-      ∙ filter_stays (λ p. not (m.live w p.0)) v.hand (λ n p at. ap not (dead n p at))
+      ap (λ ps. filter (λ p. not (m.live w p.0)) v.held ++ ps)
+      (picks_none slot_count (λ r. m.live u (ROWS + r) && not (m.live w (ROWS + r))) ROWS
+      (λ r. m.kind w ((ROWS + r) / ROWS))
+      (λ r lt. ap (λ b. m.live u (ROWS + r) && not b) (same (ROWS + r) (omega arith))
+      ∙ both_off (m.live u (ROWS + r))))
+      ∙ append_nil (filter (λ p. not (m.live w p.0)) v.held)
+      ∙ filter_stays (λ p. not (m.live w p.0)) v.held (λ n p at. ap not (dead n p at))
 
 -- a world that was not changed goes back as it was taken
 pub unchanged : {W : Type 0} (m : Ghosts W) (v : View W) (w : W) → Entered m v w → Follows m w w (took w v)

@@ -5,77 +5,27 @@ use Rattle.std.specs.Prelude.{◌&&◌, ◌↔◌, nat_lt, IsNone}
 use Rattle.std.proofs.lemmas.Bool.{cases_eq, ltb-true, ltb-false}
 use mathlib.Core.Option.{some, some-injective, some-ne-none}
 use lib.ListN.{get_elem?}
-use Rattle.hd_custody.specs.Traces.{Did, Phase, probe, look, drain, again, back, bank, rest, sweep, settle, look_whole, drain_whole, again_whole, back_part, push, last, found, missed, wrong, is_step, after, follow, ending, to_bank, to_look, to_probe, lowest, next_rows, probe_word}
+use Rattle.hd_model.specs.declared.limits.TheConstants.{BLOCKS, ROWS}
+use Rattle.hd_custody.specs.declared.words.TheConstants.{BANK, CACHE, FIRST_QUICK}
+use Rattle.hd_custody.specs.Traces.{Did, Phase, probe, look, drain, again, back, bank, rest, sweep, settle, look_whole, drain_whole, again_whole, back_part, push, last, found, missed, wrong, is_step, next_phase, follow, ending, to_bank, to_look, to_probe, lowest, next_rows, probe_word}
 use Rattle.hd_custody.specs.Misses.{Gave, another, nothing, regiven, on_block, on_blocks, on_cache, IsGiven, WholeMiss, HasStep, FoundNone}
 use Rattle.hd_custody.specs.Calls.{slot_number}
 use Rattle.hd_model.specs.declared.data.Slot.{Slot}
 use Rattle.hd_custody.proofs.Keeps.{and_off}
 use Rattle.hd_custody.proofs.Numbered.{probe-quick, probe-reserve, probe-free}
-use Rattle.hd_custody.proofs.Phases.{due, unless, zero_is, zero_not, same_is, same_not, less_is, less_not}
-
--- from there no steps lead to a Miss
-abbrev never : Phase → Bool
-never (probe n) = false
-never (look b) = false
-never (drain b) = false
-never (again b m) = false
-never (back b m) = false
-never (bank b x i m) = true
-never (rest b x m) = true
-never (sweep n) = false
-never (settle n x) = false
-never (look_whole b) = false
-never (drain_whole b) = false
-never (again_whole b) = false
-never (back_part b m) = false
-never (push n x) = false
-never (last x) = false
-never (found x) = true
-never missed = false
-never wrong = true
-
-either_never : (b : Bool) (p q : Phase) → never p ≡ true → never q ≡ true → never (cond b p q) ≡ true
-either_never true p q off off' = off
-either_never false p q off off' = off'
-
-step_never : (t : Did) (i z : ℕ) (p : Phase) → never p ≡ true → never (is_step t i z p) ≡ true
-step_never t i z p off = either_never ((t.0 == i) && (t.2 == z)) p wrong off refl
-
-bank_never : (b x i m : ℕ) → never (to_bank b x i m) ≡ true
-bank_never b x i m = either_never (m == 0) (found x) (cond (nat_lt i 63) (bank b x i m) (rest b x m)) refl
-    (either_never (nat_lt i 63) (bank b x i m) (rest b x m) refl refl)
+use Rattle.hd_custody.proofs.Shown.{stays_in, bank_in, next_in}
+use Rattle.hd_custody.proofs.Phases.{due, unless, follow_append, zero_is, zero_not, same_is, same_not, less_is, less_not}
 
 as_step : (t : Did) (i y z : ℕ) → t.0 ≡ i → t.1 ≡ y → t.2 ≡ z → t ≡ (i, y, z)
 as_step t i y z first second third =
     ap (λ n. (n, t.1, t.2)) first ∙ ap (λ n. (i, n, t.2)) second ∙ ap (λ n. (i, y, n)) third
 
 module _ (k blocks : ℕ) where
-  after_never : (p : Phase) (t : Did) → never p ≡ true → never (after k blocks p t) ≡ true
-  after_never (probe n) t off = cc
-  after_never (look b) t off = cc
-  after_never (drain b) t off = cc
-  after_never (again b m) t off = cc
-  after_never (back b m) t off = cc
-  after_never (bank b x i m) t off =
-      step_never t (514 + 127 * k + i) (cond (t.1 == 0) (64 * b + lowest m) t.1)
-      (to_bank b x (i + 1) (cond (t.1 == 0) (next_rows m) m))
-      (bank_never b x (i + 1) (cond (t.1 == 0) (next_rows m) m))
-  after_never (rest b x m) t off = step_never t (256 + b) (bit_or t.1 m) (found x) refl
-  after_never (sweep n) t off = cc
-  after_never (settle n x) t off = cc
-  after_never (look_whole b) t off = cc
-  after_never (drain_whole b) t off = cc
-  after_never (again_whole b) t off = cc
-  after_never (back_part b m) t off = cc
-  after_never (push n x) t off = cc
-  after_never (last x) t off = cc
-  after_never (found x) t off = refl
-  after_never missed t off = cc
-  after_never wrong t off = refl
-
-  never_missed : (p : Phase) (ts : List Did) → never p ≡ true → follow k blocks p ts ≡ missed → ⊥
-  never_missed p [] off ends = (let e : never p ≡ never missed = ap never ends in cc)
-  never_missed p (t ∷ ts) off ends = never_missed (after k blocks p t) ts (after_never p t off) ends
+  never_missed : (p : Phase) (ts : List Did) → stays_in false p ≡ true → follow k blocks p ts ≡ missed → ⊥
+  never_missed p [] off ends = (let e : stays_in false p ≡ stays_in false missed = ap (stays_in false) ends in
+      cc)
+  never_missed p (t ∷ ts) off ends =
+      never_missed (next_phase k blocks p t) ts (next_in false k blocks p t off) ends
 
   -- what led on was the step that was due
   step_is : (t : Did) (i z : ℕ) (p : Phase) (ts : List Did) → follow k blocks (is_step t i z p) ts ≡ missed
@@ -104,15 +54,15 @@ module _ (k blocks : ℕ) where
   -- ---- the blocks
 
   Back : ℕ → ℕ → List Did → Type 0
-  Back b m ts = (o : ℕ) × (others : List Did) × (ts ≡ (256 + b, o, bit_or o m) ∷ others)
+  Back b m ts = (o : ℕ) × (others : List Did) × (ts ≡ (BLOCKS + b, o, bit_or o m) ∷ others)
       × (follow k blocks (to_look blocks (b + 1)) others ≡ missed)
 
   from_back : (b m : ℕ) (ts : List Did) → follow k blocks (back b m) ts ≡ missed → Back b m ts
   unfolding Back
   from_back b m [] ends = cc
   from_back b m (t ∷ ts) ends =
-      let s = step_is t (256 + b) (bit_or t.1 m) (to_look blocks (b + 1)) ts ends in
-      (t.1, ts, ap (λ e. e ∷ ts) (as_step t (256 + b) t.1 (bit_or t.1 m) s.0 refl s.1), s.2)
+      let s = step_is t (BLOCKS + b) (bit_or t.1 m) (to_look blocks (b + 1)) ts ends in
+      (t.1, ts, ap (λ e. e ∷ ts) (as_step t (BLOCKS + b) t.1 (bit_or t.1 m) s.0 refl s.1), s.2)
 
   -- the block gave this, and the others follow
   Rest : ℕ → List Did → Type 0
@@ -120,14 +70,14 @@ module _ (k blocks : ℕ) where
       × (follow k blocks (to_look blocks (b + 1)) others ≡ missed)
 
   from_again : (b m : ℕ) (ts : List Did) → m ≢ 0 → follow k blocks (again b m) ts ≡ missed
-      → Rest b ((b, k + 1, k + 1) ∷ (256 + b, m, 0) ∷ ts)
+      → Rest b ((b, k + 1, k + 1) ∷ (BLOCKS + b, m, 0) ∷ ts)
   unfolding Back Rest
   from_again b m [] some_m ends = cc
   from_again b m (t ∷ ts) some_m ends =
-      let p = to_bank b (64 * b + lowest m) 0 (next_rows m) in
+      let p = to_bank b (ROWS * b + lowest m) 0 (next_rows m) in
       let s = step_is t b t.1 (cond (t.1 == k + 1) p (back b m)) ts ends in
       elim (cases_eq t.1 (k + 1)) [
-        | inl same ↦ absurd (never_missed p ts (bank_never b (64 * b + lowest m) 0 (next_rows m)) (
+        | inl same ↦ absurd (never_missed p ts (bank_in false b (ROWS * b + lowest m) 0 (next_rows m) refl) (
             ap (λ q. follow k blocks q ts) (sym (same_is t.1 (k + 1) p (back b m) same)) ∙ s.2))
         | inr other ↦ (
             let r = from_back b m ts (
@@ -135,8 +85,8 @@ module _ (k blocks : ℕ) where
               regiven m t.1 r.0,
               r.1,
               (some_m, other),
-              ap (λ e. (b, k + 1, k + 1) ∷ (256 + b, m, 0) ∷ e ∷ ts) (as_step t b t.1 t.1 s.0 refl s.1)
-                  ∙ ap (λ es. (b, k + 1, k + 1) ∷ (256 + b, m, 0) ∷ (b, t.1, t.1) ∷ es) r.2,
+              ap (λ e. (b, k + 1, k + 1) ∷ (BLOCKS + b, m, 0) ∷ e ∷ ts) (as_step t b t.1 t.1 s.0 refl s.1)
+                  ∙ ap (λ es. (b, k + 1, k + 1) ∷ (BLOCKS + b, m, 0) ∷ (b, t.1, t.1) ∷ es) r.2,
               r.3,
             ))
       ]
@@ -146,18 +96,18 @@ module _ (k blocks : ℕ) where
   unfolding Rest
   from_drain b [] ends = cc
   from_drain b (t ∷ ts) ends =
-      let s = step_is t (256 + b) 0 (cond (t.1 == 0) (to_look blocks (b + 1)) (again b t.1)) ts ends in
+      let s = step_is t (BLOCKS + b) 0 (cond (t.1 == 0) (to_look blocks (b + 1)) (again b t.1)) ts ends in
       elim (cases_eq t.1 0) [
         | inl none ↦ (
           nothing,
           ts,
           tt,
-          ap (λ e. (b, k + 1, k + 1) ∷ e ∷ ts) (as_step t (256 + b) 0 0 s.0 none s.1),
+          ap (λ e. (b, k + 1, k + 1) ∷ e ∷ ts) (as_step t (BLOCKS + b) 0 0 s.0 none s.1),
           ap (λ q. follow k blocks q ts)
               (sym (zero_is t.1 (to_look blocks (b + 1)) (again b t.1) none)) ∙ s.2,
         )
         | inr some_m ↦ subst (λ e. Rest b ((b, k + 1, k + 1) ∷ e ∷ ts))
-            (sym (as_step t (256 + b) t.1 0 s.0 refl s.1))
+            (sym (as_step t (BLOCKS + b) t.1 0 s.0 refl s.1))
             (from_again b t.1 ts some_m (
             ap (λ q. follow k blocks q ts)
             (sym (zero_not t.1 (to_look blocks (b + 1)) (again b t.1) some_m)) ∙ s.2))
@@ -233,51 +183,46 @@ module _ (k blocks : ℕ) where
             (sym (zero_not t.1 (to_probe blocks (n + 1)) (found t.1) some_x)) ∙ s.2))
       ]
 
-  from_cache : (c n : ℕ) (ts : List Did) → n + c ≡ 127 → follow k blocks (to_probe blocks n) ts ≡ missed
+  from_cache : (c n : ℕ) (ts : List Did) → n + c ≡ CACHE → follow k blocks (to_probe blocks n) ts ≡ missed
       → (others : List Did) × (ts ≡ on_cache k c n ++ others)
       × (follow k blocks (to_look blocks 1) others ≡ missed)
   unfolding on_cache
   from_cache zero n ts size ends = (
     ts,
     refl,
-    ap (λ q. follow k blocks q ts) (sym (less_not n 127 (probe n) (to_look blocks 1) (omega arith))) ∙ ends,
+    ap (λ q. follow k blocks q ts) (sym (less_not n CACHE (probe n) (to_look blocks 1) (omega arith))) ∙ ends,
   )
   from_cache (suc c) n ts size ends =
       let r = from_probe n ts (ap (λ q. follow k blocks q ts)
-      (sym (less_is n 127 (probe n) (to_look blocks 1) (omega arith))) ∙ ends) in
+      (sym (less_is n CACHE (probe n) (to_look blocks 1) (omega arith))) ∙ ends) in
       let more = from_cache c (n + 1) r.0 (omega arith) r.2 in
       (more.0, r.1 ∙ ap (λ es. (probe_word k n, 0, 0) ∷ es) more.1, more.2)
 
   pub missed_whole : (ts : List Did) → follow k blocks (probe 0) ts ≡ missed → WholeMiss k blocks ts
   unfolding AllGiven
   missed_whole ts ends =
-      let cache = from_cache 127 0 ts refl ends in
+      let cache = from_cache CACHE 0 ts refl ends in
       let all = from_blocks blocks 1 cache.0 (omega arith) cache.2 in record {
         gave = all.0;
         each_block = all.1;
         given = all.2;
-        steps = cache.1 ∙ ap (λ es. on_cache k 127 0 ++ es) all.3;
+        steps = cache.1 ∙ ap (λ es. on_cache k CACHE 0 ++ es) all.3;
       }
 
   -- ---- the other way round
 
-  follow_append : (p : Phase) (ts us : List Did)
-      → follow k blocks p (ts ++ us) ≡ follow k blocks (follow k blocks p ts) us
-  follow_append p [] us = refl
-  follow_append p (t ∷ ts) us = follow_append (after k blocks p t) ts us
-
-  cache_leads : (c n : ℕ) → n + c ≡ 127
+  cache_leads : (c n : ℕ) → n + c ≡ CACHE
       → follow k blocks (to_probe blocks n) (on_cache k c n) ≡ to_look blocks 1
   unfolding on_cache
-  cache_leads zero n size = less_not n 127 (probe n) (to_look blocks 1) (omega arith)
+  cache_leads zero n size = less_not n CACHE (probe n) (to_look blocks 1) (omega arith)
   cache_leads (suc c) n size =
-      ap (λ p. follow k blocks (after k blocks p (probe_word k n, 0, 0)) (on_cache k c (n + 1)))
-      (less_is n 127 (probe n) (to_look blocks 1) (omega arith))
+      ap (λ p. follow k blocks (next_phase k blocks p (probe_word k n, 0, 0)) (on_cache k c (n + 1)))
+      (less_is n CACHE (probe n) (to_look blocks 1) (omega arith))
       ∙ ap (λ p. follow k blocks p (on_cache k c (n + 1)))
       (due (probe_word k n) 0 0 (to_probe blocks (n + 1)))
       ∙ cache_leads c (n + 1) (omega arith)
 
-  look_leads : (b : ℕ) → after k blocks (look b) (b, k + 1, k + 1) ≡ drain b
+  look_leads : (b : ℕ) → next_phase k blocks (look b) (b, k + 1, k + 1) ≡ drain b
   look_leads b = due b (k + 1) (k + 1) (cond (k + 1 == k + 1) (drain b) (to_look blocks (b + 1)))
       ∙ same_is (k + 1) (k + 1) (drain b) (to_look blocks (b + 1)) refl
 
@@ -287,17 +232,17 @@ module _ (k blocks : ℕ) where
       due b y y (cond (y == k + 1) (drain b) (to_look blocks (b + 1)))
       ∙ same_not y (k + 1) (drain b) (to_look blocks (b + 1)) other
   block_leads b nothing is =
-      ap (λ p. after k blocks p (256 + b, 0, 0)) (look_leads b) ∙ due (256 + b) 0 0 (to_look blocks (b + 1))
+      ap (λ p. next_phase k blocks p (BLOCKS + b, 0, 0)) (look_leads b) ∙ due (BLOCKS + b) 0 0 (to_look blocks (b + 1))
   block_leads b (regiven m y o) is =
-      let p = to_bank b (64 * b + lowest m) 0 (next_rows m) in
-      let second : Phase → Phase = λ q. after k blocks q (256 + b, m, 0) in
-      let third : Phase → Phase = λ q. after k blocks q (b, y, y) in
-      let fourth : Phase → Phase = λ q. after k blocks q (256 + b, o, bit_or o m) in
+      let p = to_bank b (ROWS * b + lowest m) 0 (next_rows m) in
+      let second : Phase → Phase = λ q. next_phase k blocks q (BLOCKS + b, m, 0) in
+      let third : Phase → Phase = λ q. next_phase k blocks q (b, y, y) in
+      let fourth : Phase → Phase = λ q. next_phase k blocks q (BLOCKS + b, o, bit_or o m) in
       ap (λ q. fourth (third (second q))) (look_leads b)
-      ∙ ap (λ q. fourth (third q)) (due (256 + b) m 0 (cond (m == 0) (to_look blocks (b + 1)) (again b m))
+      ∙ ap (λ q. fourth (third q)) (due (BLOCKS + b) m 0 (cond (m == 0) (to_look blocks (b + 1)) (again b m))
       ∙ zero_not m (to_look blocks (b + 1)) (again b m) is.0)
       ∙ ap fourth (due b y y (cond (y == k + 1) p (back b m)) ∙ same_not y (k + 1) p (back b m) is.1)
-      ∙ due (256 + b) o (bit_or o m) (to_look blocks (b + 1))
+      ∙ due (BLOCKS + b) o (bit_or o m) (to_look blocks (b + 1))
 
   blocks_lead : (gs : List Gave) (b : ℕ) → b + length gs ≡ blocks + 1 → AllGiven gs
       → follow k blocks (to_look blocks b) (on_blocks k b gs) ≡ missed
@@ -306,7 +251,7 @@ module _ (k blocks : ℕ) where
   blocks_lead (g ∷ gs) b size given =
       ap (λ p. follow k blocks p (on_block k b g ++ on_blocks k (b + 1) gs))
       (less_not blocks b missed (look b) (omega arith))
-      ∙ follow_append (look b) (on_block k b g) (on_blocks k (b + 1) gs)
+      ∙ follow_append k blocks (look b) (on_block k b g) (on_blocks k (b + 1) gs)
       ∙ ap (λ p. follow k blocks p (on_blocks k (b + 1) gs)) (block_leads b g (given 0 g refl))
       ∙ blocks_lead gs (b + 1) (omega arith) (λ n. given (suc n))
 
@@ -314,8 +259,8 @@ module _ (k blocks : ℕ) where
   unfolding AllGiven
   whole_missed ts whole =
       ap (follow k blocks (probe 0)) whole.steps
-      ∙ follow_append (probe 0) (on_cache k 127 0) (on_blocks k 1 whole.gave)
-      ∙ ap (λ p. follow k blocks p (on_blocks k 1 whole.gave)) (cache_leads 127 0 refl)
+      ∙ follow_append k blocks (probe 0) (on_cache k CACHE 0) (on_blocks k 1 whole.gave)
+      ∙ ap (λ p. follow k blocks p (on_blocks k 1 whole.gave)) (cache_leads CACHE 0 refl)
       ∙ blocks_lead whole.gave 1 (omega (arith, whole.each_block)) whole.given
 
 -- ---- each word alone
@@ -341,27 +286,27 @@ module _ (k : ℕ) where
   cache_at (suc c) n (suc j) lt = cache_at c (n + 1) j (omega arith)
       ∙ ap (λ i. some (probe_word k i, 0, 0)) (omega arith)
 
-  probe_at : (n : ℕ) → n < 127 → get_elem? (on_cache k 127 0) n ≡ some (probe_word k n, 0, 0)
-  probe_at n lt = cache_at 127 0 n lt ∙ ap (λ i. some (probe_word k i, 0, 0)) (omega arith)
+  probe_at : (n : ℕ) → n < CACHE → get_elem? (on_cache k CACHE 0) n ≡ some (probe_word k n, 0, 0)
+  probe_at n lt = cache_at CACHE 0 n lt ∙ ap (λ i. some (probe_word k i, 0, 0)) (omega arith)
 
   -- each word of the kind is one of the probes
-  probe_of : (i : ℕ) → 513 + 127 * k ≤ i → i < 513 + 127 * k + 127
-      → (n : ℕ) × (n < 127) × (probe_word k n ≡ i)
-  probe_of i low high = elim (cases_eq i (513 + 127 * k)) [
+  probe_of : (i : ℕ) → FIRST_QUICK + CACHE * k ≤ i → i < FIRST_QUICK + CACHE * k + CACHE
+      → (n : ℕ) × (n < CACHE) × (probe_word k n ≡ i)
+  probe_of i low high = elim (cases_eq i (FIRST_QUICK + CACHE * k)) [
     | inl quick ↦ (0, omega arith, probe-quick k 0 refl ∙ sym quick)
-    | inr cell ↦ elim (either_way (nat_lt i (577 + 127 * k))) [
+    | inr cell ↦ elim (either_way (nat_lt i (FIRST_QUICK + 1 + BANK + CACHE * k))) [
       | inl reserve ↦ (
-          let under = ltb-true i (577 + 127 * k) reserve in (
-            577 + 127 * k - i,
+          let under = ltb-true i (FIRST_QUICK + 1 + BANK + CACHE * k) reserve in (
+            FIRST_QUICK + 1 + BANK + CACHE * k - i,
             omega arith,
-            probe-reserve k (577 + 127 * k - i) (λ e. omega arith) (omega arith)
+            probe-reserve k (FIRST_QUICK + 1 + BANK + CACHE * k - i) (λ e. omega arith) (omega arith)
                 ∙ omega arith,
           ))
       | inr free ↦ (
-          let over = ltb-false i (577 + 127 * k) free in (
-            703 + 127 * k - i,
+          let over = ltb-false i (FIRST_QUICK + 1 + BANK + CACHE * k) free in (
+            FIRST_QUICK + 1 + BANK + 2 * BANK + CACHE * k - i,
             omega arith,
-            probe-free k (703 + 127 * k - i) (λ e. omega arith) (omega arith)
+            probe-free k (FIRST_QUICK + 1 + BANK + 2 * BANK + CACHE * k - i) (λ e. omega arith) (omega arith)
                 ∙ omega arith,
           ))
     ]
@@ -378,7 +323,7 @@ module _ (k : ℕ) where
   loads (g ∷ gs) b c low high = elim (cases_eq b c) [
     | inl here ↦ subst (λ d. (y : ℕ) × HasStep (d, y, y) (on_block k b g ++ on_blocks k (b + 1) gs)) here
         (first_load b g (on_blocks k (b + 1) gs))
-    | inr after ↦ (
+    | inr later ↦ (
         let more = loads gs (b + 1) c (omega arith) (omega arith) in
         (more.0, further (on_block k b g) (on_blocks k (b + 1) gs) (c, more.0, more.0) more.1))
   ]
@@ -386,10 +331,10 @@ module _ (k : ℕ) where
   -- what comes after a load of the kind
   Answered : ℕ → ℕ → List Did → Type 0
   Answered n b ts =
-      (m : ℕ) × (get_elem? ts (suc n) ≡ some (256 + b, m, 0)) × ((m ≡ 0)
+      (m : ℕ) × (get_elem? ts (suc n) ≡ some (BLOCKS + b, m, 0)) × ((m ≡ 0)
       ⊎ ((y : ℕ) × (y ≢ k + 1) × (get_elem? ts (suc (suc n)) ≡ some (b, y, y))))
 
-  on_one : (c : ℕ) (g : Gave) (ts : List Did) (n b : ℕ) → 0 < c → b ≤ 256 → IsGiven k g
+  on_one : (c : ℕ) (g : Gave) (ts : List Did) (n b : ℕ) → 0 < c → b ≤ BLOCKS → IsGiven k g
       → ((j : ℕ) → get_elem? ts j ≡ some (b, k + 1, k + 1) → Answered j b ts)
       → get_elem? (on_block k c g ++ ts) n ≡ some (b, k + 1, k + 1) → Answered n b (on_block k c g ++ ts)
   unfolding Answered
@@ -398,27 +343,27 @@ module _ (k : ℕ) where
   on_one c (another y) ts (suc n) b real low given on at = on n at
   on_one c nothing ts zero b real low given on at = (
     0,
-    ap (λ (t : Did). some (256 + t.0, 0, 0)) (some-injective (c, k + 1, k + 1) (b, k + 1, k + 1) at),
+    ap (λ (t : Did). some (BLOCKS + t.0, 0, 0)) (some-injective (c, k + 1, k + 1) (b, k + 1, k + 1) at),
     inl refl,
   )
   on_one c nothing ts (suc zero) b real low given on at =
-      let e = ap (λ (t : Did). t.2) (some-injective (256 + c, 0, 0) (b, k + 1, k + 1) at) in
+      let e = ap (λ (t : Did). t.2) (some-injective (BLOCKS + c, 0, 0) (b, k + 1, k + 1) at) in
       absurd (omega arith)
   on_one c nothing ts (suc (suc n)) b real low given on at = on n at
   on_one c (regiven m y o) ts zero b real low given on at =
       let same = ap (λ (t : Did). t.0) (some-injective (c, k + 1, k + 1) (b, k + 1, k + 1) at) in
-      (m, ap (λ d. some (256 + d, m, 0)) same, inr (y, given.1, ap (λ d. some (d, y, y)) same))
+      (m, ap (λ d. some (BLOCKS + d, m, 0)) same, inr (y, given.1, ap (λ d. some (d, y, y)) same))
   on_one c (regiven m y o) ts (suc zero) b real low given on at =
-      let e = ap (λ (t : Did). t.2) (some-injective (256 + c, m, 0) (b, k + 1, k + 1) at) in
+      let e = ap (λ (t : Did). t.2) (some-injective (BLOCKS + c, m, 0) (b, k + 1, k + 1) at) in
       absurd (omega arith)
   on_one c (regiven m y o) ts (suc (suc zero)) b real low given on at =
       absurd (given.1 (ap (λ (t : Did). t.1) (some-injective (c, y, y) (b, k + 1, k + 1) at)))
   on_one c (regiven m y o) ts (suc (suc (suc zero))) b real low given on at =
-      let e = ap (λ (t : Did). t.0) (some-injective (256 + c, o, bit_or o m) (b, k + 1, k + 1) at) in
+      let e = ap (λ (t : Did). t.0) (some-injective (BLOCKS + c, o, bit_or o m) (b, k + 1, k + 1) at) in
       absurd (omega arith)
   on_one c (regiven m y o) ts (suc (suc (suc (suc n)))) b real low given on at = on n at
 
-  on_all : (gs : List Gave) (c n b : ℕ) → 0 < c → b ≤ 256
+  on_all : (gs : List Gave) (c n b : ℕ) → 0 < c → b ≤ BLOCKS
       → ((n : ℕ) (g : Gave) → get_elem? gs n ≡ some g → IsGiven k g)
       → get_elem? (on_blocks k c gs) n ≡ some (b, k + 1, k + 1) → Answered n b (on_blocks k c gs)
   on_all [] c n b real low given at = absurd (some-ne-none (b, k + 1, k + 1) (sym at))
@@ -440,19 +385,19 @@ module _ (k : ℕ) where
   pub found_none : (blocks : ℕ) (trace : List Did) → WholeMiss k blocks trace → FoundNone k blocks trace
   unfolding Answered
   found_none blocks trace whole =
-      let all = on_cache k 127 0 ++ on_blocks k 1 whole.gave in
+      let all = on_cache k CACHE 0 ++ on_blocks k 1 whole.gave in
       subst (FoundNone k blocks) (sym whole.steps) (record {
         cache = λ i low high. (
             let p = probe_of i low high in (
               p.0,
-              still_there (on_cache k 127 0) (on_blocks k 1 whole.gave) p.0 (i, 0, 0)
+              still_there (on_cache k CACHE 0) (on_blocks k 1 whole.gave) p.0 (i, 0, 0)
                   (probe_at p.0 p.1 ∙ ap (λ j. some (j, 0, 0)) p.2),
             ));
         loaded = λ b real low. (
             let l = loads whole.gave 1 b (omega arith) (omega (arith, whole.each_block)) in
-            (l.0, further (on_cache k 127 0) (on_blocks k 1 whole.gave) (b, l.0, l.0) l.1));
+            (l.0, further (on_cache k CACHE 0) (on_blocks k 1 whole.gave) (b, l.0, l.0) l.1));
         masks = λ n b real low at.
-            past_cache 127 0 (on_blocks k 1 whole.gave) b
+            past_cache CACHE 0 (on_blocks k 1 whole.gave) b
             (λ j here. on_all whole.gave 1 j b (omega arith) low whole.given here) n at;
       })
 
@@ -473,6 +418,3 @@ module _ (k blocks : ℕ) (r : Option Slot) (ts : List Did)
     λ none. missed_whole k blocks ts (ends ∙ none_ends r none),
     λ whole. missed_none r (sym ends ∙ whole_missed k blocks ts whole),
   )
-
-  pub none_found_none : IsNone r → FoundNone k blocks ts
-  none_found_none none = found_none k blocks ts (none_is_whole.0 none)

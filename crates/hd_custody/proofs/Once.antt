@@ -6,8 +6,10 @@ use Rattle.std.proofs.lemmas.Nat.Bits.{bit_at-lt}
 use Rattle.atomic_table.specs.Table.{State}
 use Rattle.hd_model.specs.declared.held.Held.{Ghosts}
 use Rattle.hd_model.specs.State.{Numbers}
+use Rattle.hd_model.specs.declared.limits.TheConstants.{BLOCKS, ROWS}
+use Rattle.hd_custody.specs.declared.words.TheConstants.{FIRST_MASK, FIRST_QUICK, WORDS}
 use Rattle.hd_custody.specs.declared.view.View.{View}
-use Rattle.hd_custody.specs.Counts.{total, total_at, one_if, weight, in_hand, kind_word, named, IsSlot}
+use Rattle.hd_custody.specs.Counts.{total, total_at, one_if, weight, held_times, kind_word, named, IsSlot}
 use Rattle.hd_custody.specs.Rule.{held_by, Custodied}
 use Rattle.hd_custody.specs.Laws.{Spot, mask, cell, seat, live, IsAt, HoldsIt, IsInOnePlace, EachSlotIsInOnePlace}
 use Rattle.hd_custody.proofs.Totals.{hit, miss, total_member, total_two, total_some, total_at_member, total_at_two, total_at_some}
@@ -30,8 +32,8 @@ module _ {W : Type 0} (m : Ghosts W) (numbers : Numbers) (s : State (Option W) (
 
   -- ---- what a place weighs
 
-  mask_weighs : At mask → weight x (256 + x / 64) (word (256 + x / 64)) ≡ 1
-  mask_weighs at = weight_mask x (256 + x / 64) (word (256 + x / 64)) (omega (arith, real.0, real.1))
+  mask_weighs : At mask → weight x (BLOCKS + x / ROWS) (word (BLOCKS + x / ROWS)) ≡ 1
+  mask_weighs at = weight_mask x (BLOCKS + x / ROWS) (word (BLOCKS + x / ROWS)) (omega (arith, real.0, real.1))
       (omega (arith, real.0, real.1)) (omega arith) ∙ at
 
   cell_weighs : (i : ℕ) → At (cell i) → weight x i (word i) ≡ 1
@@ -40,7 +42,7 @@ module _ {W : Type 0} (m : Ghosts W) (numbers : Numbers) (s : State (Option W) (
   mask_sums : At mask → 1 ≤ in_words
   mask_sums at =
       let one = mask_weighs at in
-      let in_sum = total_at_member (weight x) s.words 0 (256 + x / 64) (256 + x / 64)
+      let in_sum = total_at_member (weight x) s.words 0 (BLOCKS + x / ROWS) (BLOCKS + x / ROWS)
       (omega (arith, rule.wide, real.1)) (omega arith) in
       omega (arith, one, in_sum)
 
@@ -50,7 +52,7 @@ module _ {W : Type 0} (m : Ghosts W) (numbers : Numbers) (s : State (Option W) (
       let in_sum = total_at_member (weight x) s.words 0 i i (omega (arith, rule.wide, at.0.1)) (omega arith) in
       omega (arith, one, in_sum)
 
-  seat_sums : (i : ℕ) (v : View W) → HoldsIt m rule.world s x i v → in_hand x v.hand ≤ in_seats
+  seat_sums : (i : ℕ) (v : View W) → HoldsIt m rule.world s x i v → held_times x v.held ≤ in_seats
   seat_sums i v at =
       let member = total_member (held_by x) s.views i v at.0 in
       let is = held_alive x v at.1 in
@@ -59,7 +61,7 @@ module _ {W : Type 0} (m : Ghosts W) (numbers : Numbers) (s : State (Option W) (
   live_sums : At live → one_if (m.live rule.world x) ≡ 1
   live_sums at = ap one_if at
 
-  sum : in_words + in_seats + one_if (m.live rule.world x) ≡ named (kind_word s.words (x / 64))
+  sum : in_words + in_seats + one_if (m.live rule.world x) ≡ named (kind_word s.words (x / ROWS))
   sum = rule.slots.in_one_place x real.0
 
   least : (p : Spot) → At p → 1 ≤ in_words + in_seats + one_if (m.live rule.world x)
@@ -68,20 +70,20 @@ module _ {W : Type 0} (m : Ghosts W) (numbers : Numbers) (s : State (Option W) (
   least (seat i) at = let a = seat_sums i at.0 at.1 in omega (arith, a, at.1.2)
   least live at = let a = live_sums at in omega (arith, a)
 
-  none : named (kind_word s.words (x / 64)) ≡ 0 → (p : Spot) → At p → ⊥
+  none : named (kind_word s.words (x / ROWS)) ≡ 0 → (p : Spot) → At p → ⊥
   none zero_is p at = let a = least p at in absurd (omega (arith, a, sum, zero_is))
 
-  module _ (one : named (kind_word s.words (x / 64)) ≡ 1) where
+  module _ (one : named (kind_word s.words (x / ROWS)) ≡ 1) where
     -- ---- no two
 
-    two_words : (i j : ℕ) → i < 1402 → j < 1402 → i ≢ j → weight x i (word i) ≡ 1 → weight x j (word j) ≡ 1 → ⊥
+    two_words : (i j : ℕ) → i < WORDS → j < WORDS → i ≢ j → weight x i (word i) ≡ 1 → weight x j (word j) ≡ 1 → ⊥
     two_words i j low low' apart a b =
         let both = total_at_two (weight x) s.words 0 i j i j (omega (arith, rule.wide, low))
         (omega (arith, rule.wide, low')) (omega arith) (omega arith) apart in
         absurd (omega (arith, both, a, b, sum, one))
 
     mask_and_cell : (i : ℕ) → At mask → At (cell i) → ⊥
-    mask_and_cell i at at' = two_words (256 + x / 64) i (omega (arith, real.1)) at'.0.1
+    mask_and_cell i at at' = two_words (BLOCKS + x / ROWS) i (omega (arith, real.1)) at'.0.1
         (λ e. omega (arith, e, real.1, at'.0.0)) (mask_weighs at) (cell_weighs i at')
 
     same_cell : (i j : ℕ) → At (cell i) → At (cell j) → i ≡ j
@@ -140,15 +142,15 @@ module _ {W : Type 0} (m : Ghosts W) (numbers : Numbers) (s : State (Option W) (
       once = λ i v holds. (let most = seat_sums i v holds in omega (arith, most, holds.2, sum, one));
     }
 
-    bit_is_one : (i : ℕ) → 1 ≤ bit_at (word i) (x % 64) → bit_at (word i) (x % 64) ≡ 1
-    bit_is_one i le = let lt = bit_at-lt (word i) (x % 64) in omega (arith, le, lt)
+    bit_is_one : (i : ℕ) → 1 ≤ bit_at (word i) (x % ROWS) → bit_at (word i) (x % ROWS) ≡ 1
+    bit_is_one i le = let lt = bit_at-lt (word i) (x % ROWS) in omega (arith, le, lt)
 
     in_word : (i : ℕ) → i < length s.words → 1 ≤ weight x i (word i) → IsInOnePlace m rule.world s x
-    in_word i within has = elim (cases_lt i 257) [
+    in_word i within has = elim (cases_lt i FIRST_MASK) [
       | inl low ↦ absurd (let none = weight_low x i (word i) low in omega (arith, none, has))
-      | inr le ↦ elim (cases_lt i 513) [
-        | inl lt ↦ elim (cases_eq (x / 64 + 256) i) [
-          | inl here ↦ placed mask (ap (λ j. bit_at (word j) (x % 64)) (omega (arith, here))
+      | inr le ↦ elim (cases_lt i FIRST_QUICK) [
+        | inl lt ↦ elim (cases_eq (x / ROWS + BLOCKS) i) [
+          | inl here ↦ placed mask (ap (λ j. bit_at (word j) (x % ROWS)) (omega (arith, here))
               ∙ bit_is_one i (let is = weight_mask x i (word i) le lt here in omega (arith, is, has)))
           | inr other ↦ absurd (let none = weight_other x i (word i) le lt other in omega (arith, none, has))
         ]
@@ -172,7 +174,7 @@ module _ {W : Type 0} (m : Ghosts W) (numbers : Numbers) (s : State (Option W) (
       | inr no_word ↦ elim (cases_lt 0 in_seats) [
         | inl some_seat ↦ (
             let at = total_some (held_by x) s.views some_seat in
-            let holds = lives_where_held at.1.is_spent (in_hand x at.1.hand) at.3 in
+            let holds = lives_where_held at.1.is_spent (held_times x at.1.held) at.3 in
             placed (seat at.0) (at.1, (at.2, holds.0, holds.1)))
         | inr no_seat ↦ placed live (on_of (m.live rule.world x) (omega (arith, no_word, no_seat, sum, one)))
       ]

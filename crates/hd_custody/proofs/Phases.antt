@@ -1,15 +1,12 @@
--- A call, step by step: the phase that each step leads to, and the hand that it leaves.
-use Rattle.std.proofs.Common.{◌≡◌, ◌≢◌, ℕ, zero, suc, ◌+◌, ◌-◌, ◌<◌, ◌≤◌, ◌==◌, Bool, true, false, cond, bit_or, List, [], ◌∷◌, ◌++◌, Option, ap, refl, ◌∙◌, eq-eqb, ne_eqb, arith}
+-- A call, step by step: the phase that each step leads to, and the slots held after it.
+use Rattle.std.proofs.Common.{◌≡◌, ◌≢◌, ℕ, zero, suc, ◌<◌, ◌≤◌, ◌==◌, Bool, true, false, cond, List, [], ◌∷◌, ◌++◌, sym, ap, refl, ◌∙◌, eq-eqb, ne_eqb, arith}
 use Rattle.std.specs.Prelude.{◌&&◌, nat_lt}
 use Rattle.std.specs.Bool.{OnTrue, OnFalse}
 use Rattle.std.proofs.lemmas.Bool.{lt-ltb, le-ltb}
-use Rattle.atomic_table.specs.Table.{Me}
-use Rattle.hd_custody.specs.declared.view.View.{View}
-use Rattle.hd_custody.specs.Counts.{kind_at, with_slot, put_out, naming, rows, without_rows}
-use Rattle.hd_custody.specs.Views.{begun, swapped, banked, looked, drained, restored, called}
-use Rattle.hd_custody.specs.Traces.{Did, Phase, found, wrong, is_step, after, follow}
-use Rattle.hd_custody.specs.Calls.{At, Made, Began, told}
-use Rattle.hd_custody.proofs.Alike.{reshaped}
+use Rattle.std.proofs.lemmas.List.{append_assoc, append-nil}
+use Rattle.hd_custody.specs.Traces.{Did, Phase, found, wrong, is_step, next_phase, follow}
+use Rattle.hd_custody.specs.Views.{Acting}
+use Rattle.hd_custody.specs.CallSteps.{told, with_view, went, Made}
 
 -- the step that is due
 pub due : (i y z : ℕ) (p : Phase) → is_step (i, y, z) i z p ≡ p
@@ -61,106 +58,62 @@ pub told_cond : (p : Phase) (x : ℕ) → cond (x == 0) p (found x) ≡ told p x
 told_cond p zero = refl
 told_cond p (suc x) = zero_not (suc x) p (found (suc x)) (λ e. omega arith)
 
-module _ (k blocks : ℕ) where
-  pub follow_snoc : (p : Phase) (ts : List Did) (t : Did) → follow k blocks p (ts ++ t ∷ []) ≡ after k blocks
-      (follow k blocks p ts) t
-  follow_snoc p [] t = refl
-  follow_snoc p (e ∷ ts) t = follow_snoc (after k blocks p e) ts t
+pub follow_append : (k blocks : ℕ) (p : Phase) (ts us : List Did)
+    → follow k blocks p (ts ++ us) ≡ follow k blocks (follow k blocks p ts) us
+follow_append k blocks p [] us = refl
+follow_append k blocks p (t ∷ ts) us = follow_append k blocks (next_phase k blocks p t) ts us
 
-abbrev pub Mine : Type 0 → Type 0
-Mine W = Me (Option W) (View W)
+module _ {W : Type 0} {k blocks : ℕ} where
+  -- no step
+  pub made_none : (p : Phase) (a : Acting W) → Made k blocks p p a.view.held a a
+  made_none p a = record {
+    steps = [];
+    only = ap (λ t. with_view (record a.view { trace = t }) a) (sym (append-nil a.view.trace));
+    lead = refl;
+  }
 
-module _ {W : Type 0} (k blocks : ℕ) (start : Phase) where
-  -- a hand, a phase, and the trace of a call that began with this number and this much in the hand
-  abbrev pub Shaped : ℕ → Bool → List (ℕ × ℕ) → Phase → Mine W → Mine W → Type 0
-  Shaped num emp hand p m n = (t : List Did) × (n ≡ (reshaped hand t num emp m.0, m.1))
-      × (follow k blocks start t ≡ p)
+  -- one step
+  pub one_step : {p q : Phase} {held : List (ℕ × ℕ)} {a b : Acting W} (e : Did) → b ≡ went held (e ∷ []) a
+      → next_phase k blocks p e ≡ q → Made k blocks p q held a b
+  one_step e is next = record { steps = e ∷ []; only = is; lead = next }
 
-  -- one step more
-  module _ (num : ℕ) (emp : Bool) (m n n' : Mine W) (h h' : List (ℕ × ℕ)) (p p' : Phase)
-      (so : Shaped num emp h p m n) where
-    one_more : (e : Did) → n' ≡ (reshaped h' (so.0 ++ e ∷ []) num emp m.0, m.1) → after k blocks p e ≡ p'
-        → Shaped num emp h' p' m n'
-    one_more e is next = (
-      so.0 ++ e ∷ [],
-      is,
-      follow_snoc k blocks start so.0 e
-          ∙ ap (λ q. after k blocks q e) so.2 ∙ next,
-    )
+  -- the same, seen otherwise
+  pub seen_as : {p q q' : Phase} {h h' : List (ℕ × ℕ)} {a b : Acting W} → Made k blocks p q h a b → h ≡ h'
+      → q ≡ q' → Made k blocks p q' h' a b
+  seen_as {p} {q} {q'} {h} {h'} {a} so held next = record {
+    steps = so.steps;
+    only = so.only ∙ ap (λ h. went h so.steps a) held;
+    lead = so.lead ∙ next;
+  }
 
-    shape : (hand : List (ℕ × ℕ)) → List Did → Mine W
-    shape hand t = (reshaped hand t num emp m.0, m.1)
+  pub from_phase : {p p' q : Phase} {h : List (ℕ × ℕ)} {a b : Acting W} → Made k blocks p q h a b → p' ≡ p
+      → Made k blocks p' q h a b
+  from_phase so same = record {
+    steps = so.steps;
+    only = so.only;
+    lead = ap (λ p. follow k blocks p so.steps) same ∙ so.lead;
+  }
 
-    pub then_swap : (i y z : ℕ) → n' ≡ (swapped i y z n.0, n.1) → with_slot y (kind_at i + 1) (put_out z h) ≡
-        h' → after k blocks p (i, y, z) ≡ p' → Shaped num emp h' p' m n'
-    unfolding shape
-    then_swap i y z step hand next =
-        one_more (i, y, z) (step ∙ ap (λ (x : Mine W). (swapped i y z x.0, x.1)) so.1
-        ∙ ap (λ g. shape g (so.0 ++ (i, y, z) ∷ [])) hand) next
+  pub held_is : {p q : Phase} {h : List (ℕ × ℕ)} {a b : Acting W} → Made k blocks p q h a b → b.view.held ≡ h
+  held_is so = ap (λ (x : Acting W). x.view.held) so.only
 
-    pub then_bank : (i y z : ℕ) → n' ≡ (banked i y z n.0, n.1) → cond (y == 0) (put_out z h) h ≡ h'
-        → after k blocks p (i, y, cond (y == 0) z y) ≡ p' → Shaped num emp h' p' m n'
-    unfolding shape
-    then_bank i y z step hand next =
-        one_more (i, y, cond (y == 0) z y) (step ∙ ap (λ (x : Mine W). (banked i y z x.0, x.1)) so.1
-        ∙ ap (λ g. shape g (so.0 ++ (i, y, cond (y == 0) z y) ∷ [])) hand) next
+  pub table_is : {p q : Phase} {h : List (ℕ × ℕ)} {a b : Acting W} → Made k blocks p q h a b
+      → b.table ≡ a.table
+  table_is so = ap (λ (x : Acting W). x.table) so.only
 
-    pub then_look : (b y : ℕ) → n' ≡ (looked b y n.0, n.1) → naming b y h ≡ h'
-        → after k blocks p (b, y, y) ≡ p' → Shaped num emp h' p' m n'
-    unfolding shape
-    then_look b y step hand next =
-        one_more (b, y, y) (step ∙ ap (λ (x : Mine W). (looked b y x.0, x.1)) so.1
-        ∙ ap (λ g. shape g (so.0 ++ (b, y, y) ∷ [])) hand) next
+  -- some steps more
+  pub and_then : {p q r : Phase} {h h' : List (ℕ × ℕ)} {a b c : Acting W} → Made k blocks p q h a b
+      → Made k blocks q r h' b c → Made k blocks p r h' a c
+  and_then {p} {q} {r} {h} {h'} {a} so more = record {
+    steps = so.steps ++ more.steps;
+    only = more.only ∙ ap (went h' more.steps) so.only
+        ∙ ap (λ t. with_view (record a.view { held = h'; trace = t }) a)
+        (append_assoc a.view.trace so.steps more.steps);
+    lead = follow_append k blocks p so.steps more.steps
+        ∙ ap (λ q. follow k blocks q more.steps) so.lead ∙ more.lead;
+  }
 
-    pub then_drain : (i y : ℕ) → n' ≡ (drained i y n.0, n.1) → rows (i - 256) y 0 ++ h ≡ h'
-        → after k blocks p (i, y, 0) ≡ p' → Shaped num emp h' p' m n'
-    unfolding shape
-    then_drain i y step hand next =
-        one_more (i, y, 0) (step ∙ ap (λ (x : Mine W). (drained i y x.0, x.1)) so.1
-        ∙ ap (λ g. shape g (so.0 ++ (i, y, 0) ∷ [])) hand) next
-
-    pub then_back : (i mask y : ℕ) → n' ≡ (restored i mask y n.0, n.1) → without_rows (i - 256) mask h ≡ h'
-        → after k blocks p (i, y, bit_or y mask) ≡ p' → Shaped num emp h' p' m n'
-    unfolding shape
-    then_back i mask y step hand next =
-        one_more (i, y, bit_or y mask) (step ∙ ap (λ (x : Mine W). (restored i mask y x.0, x.1)) so.1
-        ∙ ap (λ g. shape g (so.0 ++ (i, y, bit_or y mask) ∷ [])) hand) next
-
-    -- steps that a function made
-    pub then_made : Made k blocks start h' p' n n' → Shaped num emp h' p' m n'
-    then_made more = (
-      more.0,
-      more.1 ∙ ap (λ (x : Mine W). (record x.0 { hand = h'; trace = more.0 }, x.1))
-          so.1,
-      more.2,
-    )
-
-  -- the first step of a call
-  pub first_swap : (m n' : Mine W) (h' : List (ℕ × ℕ)) (p' : Phase) (i y z : ℕ)
-      → n' ≡ (swapped i y z (begun m.0), m.1)
-      → with_slot y (kind_at i + 1) (put_out z m.0.hand) ≡ h' → after k blocks start (i, y, z) ≡ p'
-      → Began k blocks start h' p' m n'
-  first_swap m n' h' p' i y z step hand next =
-      ((i, y, z) ∷ [], step ∙ ap (λ g. (called g ((i, y, z) ∷ []) m.0, m.1)) hand, next)
-
-  -- where a function begins
-  pub made_start : (p : Phase) (m : Mine W) → At k blocks start p m → Made k blocks start m.0.hand p m m
-  made_start p m at = (m.0.trace, refl, at)
-
-  -- the same under another name of the hand and the phase
-  pub shaped_as : (num : ℕ) (emp : Bool) (m n : Mine W) (h h' : List (ℕ × ℕ)) (p p' : Phase)
-      → Shaped num emp h p m n → h ≡ h' → p ≡ p' → Shaped num emp h' p' m n
-  shaped_as num emp m n h h' p p' so hand next =
-      (so.0, so.1 ∙ ap (λ g. (reshaped g so.0 num emp m.0, m.1)) hand, so.2 ∙ next)
-
-  pub lives_on : (num : ℕ) (emp : Bool) (m n : Mine W) (h : List (ℕ × ℕ)) (p : Phase) → Shaped num emp h p m n
-      → m.0.is_spent ≡ false → n.0.is_spent ≡ false
-  lives_on num emp m n h p so lives = ap (λ (x : Mine W). x.0.is_spent) so.1 ∙ lives
-
-  pub hand_is : (num : ℕ) (emp : Bool) (m n : Mine W) (h : List (ℕ × ℕ)) (p : Phase) → Shaped num emp h p m n
-      → n.0.hand ≡ h
-  hand_is num emp m n h p so = ap (λ (x : Mine W). x.0.hand) so.1
-
-  pub now_at : (num : ℕ) (emp : Bool) (m n : Mine W) (h : List (ℕ × ℕ)) (p : Phase) → Shaped num emp h p m n
-      → At k blocks start p n
-  now_at num emp m n h p so = ap (λ (x : Mine W). follow k blocks start x.0.trace) so.1 ∙ so.2
+  -- some steps more, which leave a list of what was held
+  pub then_as : {p q r : Phase} {h : List (ℕ × ℕ)} {a b c : Acting W} (f : List (ℕ × ℕ) → List (ℕ × ℕ))
+      → Made k blocks p q h a b → Made k blocks q r (f b.view.held) b c → Made k blocks p r (f h) a c
+  then_as f so more = seen_as (and_then so more) (ap f (held_is so)) refl

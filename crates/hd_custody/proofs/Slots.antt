@@ -1,101 +1,103 @@
--- Where slots stand: a step on a word of masks or cells, and what the rule states of a slot that is seen.
-use Rattle.std.proofs.Common.{◌≡◌, ◌≢◌, ◌⊎◌, ℕ, zero, suc, ◌+◌, ◌/◌, ◌<◌, ◌≤◌, ◌==◌, Bool, false, cond, not, List, length, get_or, set, inl, inr, sym, ap, subst, refl, ◌∙◌, eq-eqb, ne_eqb, arith}
+-- Where slots are: a step on a word of masks or cells, and what the rule states of a slot that is seen.
+use Rattle.std.proofs.Common.{◌*◌, ◌^◌, ◌≡◌, ◌≢◌, ◌⊎◌, ℕ, zero, suc, ◌+◌, ◌/◌, ◌<◌, ◌≤◌, ◌==◌, Bool, false, cond, not, List, length, get_or, set, inl, inr, sym, ap, subst, refl, ◌∙◌, eq-eqb, ne_eqb, arith}
 use Rattle.std.proofs.lemmas.Bool.{cases_eq}
 use Rattle.std.proofs.lemmas.List.{get_or-set_other, get_or-set_same}
 use mathlib.Core.Option.{some}
 use lib.ListN.{get_elem?}
 use Rattle.atomic_table.proofs.Lists.{at_set}
+use Rattle.hd_model.specs.declared.limits.TheConstants.{BLOCKS, ROWS}
+use Rattle.hd_custody.specs.declared.words.TheConstants.{FIRST_MASK, FIRST_QUICK}
 use Rattle.hd_custody.specs.declared.view.View.{View}
-use Rattle.hd_custody.specs.Counts.{total, total_at, one_if, weight, in_hand, kind_word, named, kind_at, put_out, with_slot, Every, Has, HasAs}
+use Rattle.hd_custody.specs.Counts.{total, total_at, one_if, weight, held_times, kind_word, named, cell_kind, put_out, with_slot, Every, Has, HasAs}
 use Rattle.hd_custody.specs.Rule.{held_by, Belongs, Slots}
 use Rattle.hd_custody.proofs.Totals.{miss, total_set, total_member, total_at_set, total_at_member}
-use Rattle.hd_custody.proofs.Hands.{in_hand_kept, in_hand_dropped, member_at, every_cons, every_filter}
+use Rattle.hd_custody.proofs.HeldSlots.{held_times_kept, held_times_dropped, member_at, every_cons, every_filter}
 use Rattle.hd_custody.proofs.Weights.{kind_word_high, named_most, named_block, off_of, mask_empty}
 
-pub held_alive : {W : Type 0} (x : ℕ) (v : View W) → v.is_spent ≡ false → held_by x v ≡ in_hand x v.hand
-held_alive x v lives = ap (λ b. cond b 0 (in_hand x v.hand)) lives
+pub held_alive : {W : Type 0} (x : ℕ) (v : View W) → v.is_spent ≡ false → held_by x v ≡ held_times x v.held
+held_alive x v lives = ap (λ b. cond b 0 (held_times x v.held)) lives
 
 pub belongs_same : (ws ws' : List ℕ) → ((b : ℕ) → kind_word ws' b ≡ kind_word ws b) → (p : ℕ × ℕ)
     → Belongs ws p → Belongs ws' p
-belongs_same ws ws' e p h = (h.0, ap named (e (p.0 / 64)) ∙ h.1, λ ne. e (p.0 / 64) ∙ h.2 ne)
+belongs_same ws ws' e p h = (h.0, ap named (e (p.0 / ROWS)) ∙ h.1, λ ne. e (p.0 / ROWS) ∙ h.2 ne)
 
 -- ---- slots that go through a cell
 
-pub in_hand_with_slot : (x y k : ℕ) (hand : List (ℕ × ℕ)) → 0 < x → in_hand x (with_slot y k hand) ≡ one_if
-    (y == x) + in_hand x hand
-in_hand_with_slot x zero k hand real = let none = miss 0 x (λ e. omega arith) in omega arith
-in_hand_with_slot x (suc y) k hand real = refl
+pub held_times_with_slot : (x y k : ℕ) (held : List (ℕ × ℕ)) → 0 < x → held_times x (with_slot y k held) ≡ one_if
+    (y == x) + held_times x held
+held_times_with_slot x zero k held real = let none = miss 0 x (λ e. omega arith) in omega arith
+held_times_with_slot x (suc y) k held real = refl
 
-pub in_hand_put_other : (x n : ℕ) (hand : List (ℕ × ℕ)) → x ≢ n → in_hand x (put_out n hand) ≡ in_hand x hand
-in_hand_put_other x zero hand other = refl
-in_hand_put_other x (suc n) hand other = in_hand_kept (λ z. not (z == suc n)) x hand
+pub held_times_put_other : (x n : ℕ) (held : List (ℕ × ℕ)) → x ≢ n → held_times x (put_out n held) ≡ held_times x held
+held_times_put_other x zero held other = refl
+held_times_put_other x (suc n) held other = held_times_kept (λ z. not (z == suc n)) x held
     (ap not (ne_eqb x (suc n) other))
 
-pub in_hand_put_same : (x n : ℕ) (hand : List (ℕ × ℕ)) → 0 < x → x ≡ n → in_hand x (put_out n hand) ≡ 0
-in_hand_put_same x zero hand real e = absurd (omega arith)
-in_hand_put_same x (suc n) hand real e = in_hand_dropped (λ z. not (z == suc n)) x hand
+pub held_times_put_same : (x n : ℕ) (held : List (ℕ × ℕ)) → 0 < x → x ≡ n → held_times x (put_out n held) ≡ 0
+held_times_put_same x zero held real e = absurd (omega arith)
+held_times_put_same x (suc n) held real e = held_times_dropped (λ z. not (z == suc n)) x held
     (ap not (eq-eqb x (suc n) e))
 
-pub every_put_out : (P : ℕ × ℕ → Type 0) (n : ℕ) (hand : List (ℕ × ℕ)) → Every P hand
-    → Every P (put_out n hand)
-every_put_out P zero hand h = h
-every_put_out P (suc n) hand h = every_filter P (λ p. not (p.0 == suc n)) hand h
+pub every_put_out : (P : ℕ × ℕ → Type 0) (n : ℕ) (held : List (ℕ × ℕ)) → Every P held
+    → Every P (put_out n held)
+every_put_out P zero held h = h
+every_put_out P (suc n) held h = every_filter P (λ p. not (p.0 == suc n)) held h
 
-pub every_with_slot : (P : ℕ × ℕ → Type 0) (y k : ℕ) (hand : List (ℕ × ℕ)) → (y ≢ 0 → P (y, k)) → Every P hand
-    → Every P (with_slot y k hand)
-every_with_slot P zero k hand new h = h
-every_with_slot P (suc y) k hand new h = every_cons P (suc y, k) hand (new (λ e. omega arith)) h
+pub every_with_slot : (P : ℕ × ℕ → Type 0) (y k : ℕ) (held : List (ℕ × ℕ)) → (y ≢ 0 → P (y, k)) → Every P held
+    → Every P (with_slot y k held)
+every_with_slot P zero k held new h = h
+every_with_slot P (suc y) k held new h = every_cons P (suc y, k) held (new (λ e. omega arith)) h
 
 module _ {W : Type 0} (live : ℕ → Bool) (words : List ℕ) (views : List (View W)) (s : Slots live words views)
     (id : ℕ) (v : View W) (there : get_elem? views id ≡ some v) (lives : v.is_spent ≡ false) where
-  -- what stands in one word, in this hand and among the live slots, together
-  pub placed : (x i : ℕ) → 64 ≤ x → i < length words
-      → weight x i (get_or words i 0) + in_hand x v.hand + one_if (live x) ≤ named (kind_word words (x / 64))
+  -- what is in one word, is held here and is live, together
+  pub placed : (x i : ℕ) → ROWS ≤ x → i < length words
+      → weight x i (get_or words i 0) + held_times x v.held + one_if (live x) ≤ named (kind_word words (x / ROWS))
   placed x i real lt =
       let one = s.in_one_place x real in
       let word = total_at_member (weight x) words 0 i i lt (omega arith) in
-      let hand = total_member (held_by x) views id v there in
+      let held = total_member (held_by x) views id v there in
       let is = held_alive x v lives in
       omega arith
 
-  pub belongs : (p : ℕ × ℕ) → HasAs p v.hand → Belongs words p
-  belongs p h = s.hands id v there lives h.0 p h.1
+  pub belongs : (p : ℕ × ℕ) → HasAs p v.held → Belongs words p
+  belongs p h = s.held id v there lives h.0 p h.1
 
-  -- a slot that the hand has is in a block of handles, and stands there once
-  pub has_named : (x : ℕ) → Has x v.hand → (64 ≤ x) × (named (kind_word words (x / 64)) ≡ 1)
+  -- a slot held is in a block of handles, and is held once
+  pub has_named : (x : ℕ) → Has x v.held → (ROWS ≤ x) × (named (kind_word words (x / ROWS)) ≡ 1)
   has_named x has =
-      let at = member_at x v.hand has in
-      let h = s.hands id v there lives at.0 at.1 at.2 in
-      subst (λ y. (64 ≤ y) × (named (kind_word words (y / 64)) ≡ 1)) at.3 (h.0, h.1)
+      let at = member_at x v.held has in
+      let h = s.held id v there lives at.0 at.1 at.2 in
+      subst (λ y. (ROWS ≤ y) × (named (kind_word words (y / ROWS)) ≡ 1)) at.3 (h.0, h.1)
 
-  pub has_once : (x i : ℕ) → i < length words → Has x v.hand
-      → (in_hand x v.hand ≡ 1) × (weight x i (get_or words i 0) ≡ 0) × (live x ≡ false)
+  pub has_once : (x i : ℕ) → i < length words → Has x v.held
+      → (held_times x v.held ≡ 1) × (weight x i (get_or words i 0) ≡ 0) × (live x ≡ false)
   has_once x i lt has =
       let h = has_named x has in
       let most = placed x i h.0 lt in
       let named_is = h.1 in
-      let has' : 1 ≤ in_hand x v.hand = has in
+      let has' : 1 ≤ held_times x v.held = has in
       (omega arith, omega arith, off_of (live x) (omega arith))
 
-  -- a slot that stands in a word is in no hand and is not live
-  pub seen_once : (x i : ℕ) → 64 ≤ x → i < length words → 1 ≤ weight x i (get_or words i 0)
-      → (in_hand x v.hand ≡ 0) × (live x ≡ false) × (named (kind_word words (x / 64)) ≡ 1) × (x < 16448)
+  -- a slot that is in a word is not held and not live
+  pub seen_once : (x i : ℕ) → ROWS ≤ x → i < length words → 1 ≤ weight x i (get_or words i 0)
+      → (held_times x v.held ≡ 0) × (live x ≡ false) × (named (kind_word words (x / ROWS)) ≡ 1) × (x < (ROWS * (BLOCKS + 1)))
   seen_once x i real lt has =
       let most = placed x i real lt in
-      let small = named_most (kind_word words (x / 64)) in
-      let one : named (kind_word words (x / 64)) ≡ 1 = omega arith in
-      let low = named_block words (x / 64) one in
+      let small = named_most (kind_word words (x / ROWS)) in
+      let one : named (kind_word words (x / ROWS)) ≡ 1 = omega arith in
+      let low = named_block words (x / ROWS) one in
       (omega arith, off_of (live x) (omega arith), one, omega arith)
 
   -- a step on a mask or cell
-  module _ (w : View W) (lives' : w.is_spent ≡ false) (i n : ℕ) (low : 257 ≤ i) (within : i < length words)
-      (moves : (x : ℕ) → 64 ≤ x → weight x i n + in_hand x w.hand ≡ weight x i (get_or words i 0) + in_hand x
-      v.hand)
-      (cell : 513 ≤ i → n ≢ 0 → (64 ≤ n) × (kind_word words (n / 64) ≡ kind_at i + 1))
-      (mask : i < 513 → n < 18446744073709551616) (hand : Every (Belongs words) w.hand) where
-    one_place : (x : ℕ) → 64 ≤ x
+  module _ (w : View W) (lives' : w.is_spent ≡ false) (i n : ℕ) (low : FIRST_MASK ≤ i) (within : i < length words)
+      (moves : (x : ℕ) → ROWS ≤ x → weight x i n + held_times x w.held ≡ weight x i (get_or words i 0) + held_times x
+      v.held)
+      (cell : FIRST_QUICK ≤ i → n ≢ 0 → (ROWS ≤ n) × (kind_word words (n / ROWS) ≡ cell_kind i + 1))
+      (mask : i < FIRST_QUICK → n < (2 ^ ROWS)) (held : Every (Belongs words) w.held) where
+    one_place : (x : ℕ) → ROWS ≤ x
         → total_at (weight x) 0 (set words i n) + total (held_by x) (set views id w) + one_if (live x) ≡ named
-        (kind_word (set words i n) (x / 64))
+        (kind_word (set words i n) (x / ROWS))
     one_place x real =
         let one = s.in_one_place x real in
         let word = total_at_set (weight x) words 0 i i n within (omega arith) in
@@ -103,50 +105,50 @@ module _ {W : Type 0} (live : ℕ → Bool) (words : List ℕ) (views : List (Vi
         let was = held_alive x v lives in
         let now = held_alive x w lives' in
         let move = moves x real in
-        let kind = ap named (kind_word_high words i n low (x / 64)) in
+        let kind = ap named (kind_word_high words i n low (x / ROWS)) in
         omega arith
 
-    cell_at : (j : ℕ) → 513 ≤ j → (j ≡ i) ⊎ (j ≢ i) → get_or (set words i n) j 0 ≢ 0
-        → (64 ≤ get_or (set words i n) j 0) × (kind_word (set words i n) (get_or (set words i n) j 0 / 64) ≡
-        kind_at j + 1)
+    cell_at : (j : ℕ) → FIRST_QUICK ≤ j → (j ≡ i) ⊎ (j ≢ i) → get_or (set words i n) j 0 ≢ 0
+        → (ROWS ≤ get_or (set words i n) j 0) × (kind_word (set words i n) (get_or (set words i n) j 0 / ROWS) ≡
+        cell_kind j + 1)
     cell_at j le (inl same) ne =
         let is : get_or (set words i n) j 0 ≡ n = ap (λ a. get_or (set words i n) a 0) same
         ∙ get_or-set_same words i n 0 within in
-        let h = cell (subst (λ a. 513 ≤ a) same le) (λ e. ne (is ∙ e)) in
-        subst (λ a. (64 ≤ a) × (kind_word (set words i n) (a / 64) ≡ kind_at j + 1)) (sym is)
-        (h.0, kind_word_high words i n low (n / 64) ∙ h.1 ∙ ap (λ a. kind_at a + 1) (sym same))
+        let h = cell (subst (λ a. FIRST_QUICK ≤ a) same le) (λ e. ne (is ∙ e)) in
+        subst (λ a. (ROWS ≤ a) × (kind_word (set words i n) (a / ROWS) ≡ cell_kind j + 1)) (sym is)
+        (h.0, kind_word_high words i n low (n / ROWS) ∙ h.1 ∙ ap (λ a. cell_kind a + 1) (sym same))
     cell_at j le (inr other) ne =
         let is : get_or (set words i n) j 0 ≡ get_or words j 0 = get_or-set_other words i j n 0 other in
         let h = s.cells j le (λ e. ne (is ∙ e)) in
-        subst (λ a. (64 ≤ a) × (kind_word (set words i n) (a / 64) ≡ kind_at j + 1)) (sym is)
-        (h.0, kind_word_high words i n low (get_or words j 0 / 64) ∙ h.1)
+        subst (λ a. (ROWS ≤ a) × (kind_word (set words i n) (a / ROWS) ≡ cell_kind j + 1)) (sym is)
+        (h.0, kind_word_high words i n low (get_or words j 0 / ROWS) ∙ h.1)
 
-    mask_at : (j : ℕ) → 257 ≤ j → j < 513 → (j ≡ i) ⊎ (j ≢ i)
-        → get_or (set words i n) j 0 < 18446744073709551616
+    mask_at : (j : ℕ) → FIRST_MASK ≤ j → j < FIRST_QUICK → (j ≡ i) ⊎ (j ≢ i)
+        → get_or (set words i n) j 0 < (2 ^ ROWS)
     mask_at j le lt (inl same) =
         let is : get_or (set words i n) j 0 ≡ n = ap (λ a. get_or (set words i n) a 0) same
         ∙ get_or-set_same words i n 0 within in
-        let h = mask (subst (λ a. a < 513) same lt) in
+        let h = mask (subst (λ a. a < FIRST_QUICK) same lt) in
         omega arith
     mask_at j le lt (inr other) =
         let is : get_or (set words i n) j 0 ≡ get_or words j 0 = get_or-set_other words i j n 0 other in
         let h = s.masks j le lt in
         omega arith
 
-    hand_at : (j : ℕ) (u : View W) → u.is_spent ≡ false → ((j ≡ id) × (w ≡ u))
+    held_at : (j : ℕ) (u : View W) → u.is_spent ≡ false → ((j ≡ id) × (w ≡ u))
         ⊎ ((j ≢ id) × (get_elem? views j ≡ some u))
-        → Every (Belongs (set words i n)) u.hand
-    hand_at j u alive (inl here) c p e =
+        → Every (Belongs (set words i n)) u.held
+    held_at j u alive (inl here) c p e =
         belongs_same words (set words i n) (kind_word_high words i n low) p
-        (hand c p (ap (λ (z : View W). get_elem? z.hand c) here.1 ∙ e))
-    hand_at j u alive (inr other) c p e =
-        belongs_same words (set words i n) (kind_word_high words i n low) p (s.hands j u other.1 alive c p e)
+        (held c p (ap (λ (z : View W). get_elem? z.held c) here.1 ∙ e))
+    held_at j u alive (inr other) c p e =
+        belongs_same words (set words i n) (kind_word_high words i n low) p (s.held j u other.1 alive c p e)
 
     pub slots_step : Slots live (set words i n) (set views id w)
     slots_step = record {
       in_one_place = one_place;
       cells = λ j le ne. cell_at j le (cases_eq j i) ne;
-      hands = λ j u e alive. hand_at j u alive (at_set views id j w u e);
+      held = λ j u e alive. held_at j u alive (at_set views id j w u e);
       masks = λ j le lt. mask_at j le lt (cases_eq j i);
       empty_masks = mask_empty (set words i n) (λ x. total (held_by x) (set views id w) + one_if (live x))
           (λ x real. (let one = one_place x real in omega arith)) (λ j le lt. mask_at j le lt (cases_eq j i));

@@ -1,5 +1,5 @@
 -- The gate's own steps, and the stores of kind words by its holder.
-use Rattle.std.proofs.Common.{◌≡◌, ◌≢◌, ◌⊎◌, ℕ, ◌+◌, ◌*◌, ◌/◌, ◌%◌, ◌<◌, ◌≤◌, Bool, true, false, cond, List, [], ◌∷◌, ◌++◌, length, get_or, set, Option, Some, inl, inr, sym, ap, subst, refl, ◌∙◌, eq-eqb, ne_eqb, arith}
+use Rattle.std.proofs.Common.{◌^◌, ◌≡◌, ◌≢◌, ◌⊎◌, ℕ, ◌+◌, ◌*◌, ◌/◌, ◌%◌, ◌<◌, ◌≤◌, Bool, true, false, cond, List, [], ◌∷◌, ◌++◌, length, get_or, set, Option, Some, inl, inr, sym, ap, subst, refl, ◌∙◌, eq-eqb, ne_eqb, arith}
 use Rattle.std.specs.Prelude.{nat_lt, ◌&&◌}
 use Rattle.std.proofs.lemmas.Bool.{cases_eq, cases_lt, lt-ltb, le-ltb}
 use Rattle.std.proofs.lemmas.List.{get_or-set_other, get_or-set_same}
@@ -10,12 +10,14 @@ use Rattle.atomic_table.proofs.Lists.{at_set}
 use Rattle.atomic_table.specs.Table.{State}
 use Rattle.hd_model.specs.declared.held.Held.{Ghosts}
 use Rattle.hd_model.specs.State.{Numbers}
+use Rattle.hd_model.specs.declared.limits.TheConstants.{ROWS}
+use Rattle.hd_custody.specs.declared.words.TheConstants.{EXTRA_DATA, FIRST_MASK, FIRST_QUICK, WORDS}
 use Rattle.hd_custody.specs.declared.view.View.{View}
-use Rattle.hd_custody.specs.Counts.{total, total_at, one_if, weight, in_hand, kind_word, named, kind_at, changed, whole, Every, Has}
+use Rattle.hd_custody.specs.Counts.{total, total_at, one_if, weight, held_times, kind_word, named, cell_kind, changed, whole, Every, Has}
 use Rattle.hd_custody.specs.Views.{took, opened}
 use Rattle.hd_custody.specs.Rule.{room_of, held_by, Belongs, Slots, Holds, Custodied, Entered}
 use Rattle.hd_custody.proofs.Totals.{total_set, total_member, total_at_set}
-use Rattle.hd_custody.proofs.Hands.{in_hand_append, in_hand_out, in_hand_picks, has_member, every_append, every_picks}
+use Rattle.hd_custody.proofs.HeldSlots.{held_times_append, held_times_out, held_times_picks, has_member, every_append, every_picks}
 use Rattle.hd_custody.proofs.Weights.{weight_low, kind_word_is, kind_word_set, named_kind, named_none, named_block, mask_empty}
 use Rattle.hd_custody.proofs.Slots.{held_alive, has_once}
 use Rattle.hd_custody.proofs.Alike.{place_there, seats_alike}
@@ -24,23 +26,23 @@ use Rattle.hd_custody.proofs.Alike.{place_there, seats_alike}
 
 module _ {W : Type 0} (live : ℕ → Bool) (words : List ℕ) (views : List (View W)) (s : Slots live words views)
     (id : ℕ) (v : View W) (there : get_elem? views id ≡ some v) (lives : v.is_spent ≡ false)
-    (wide : length words ≡ 1402) (i n : ℕ) (low : i < 257) (live' : ℕ → Bool) (w : View W)
+    (wide : length words ≡ WORDS) (i n : ℕ) (low : i < FIRST_MASK) (live' : ℕ → Bool) (w : View W)
     (lives' : w.is_spent ≡ false) where
   abbrev words' : List ℕ
   words' = set words i n
 
   abbrev Same : ℕ → Type 0
-  Same x = kind_word words' (x / 64) ≡ kind_word words (x / 64)
+  Same x = kind_word words' (x / ROWS) ≡ kind_word words (x / ROWS)
 
   module _
-      (moves : (x : ℕ) → 64 ≤ x → in_hand x w.hand + one_if (live' x) + named (kind_word words (x / 64)) ≡
-      in_hand x v.hand + one_if (live x) + named (kind_word words' (x / 64)))
-      (cells : (j : ℕ) → 513 ≤ j → get_or words j 0 ≢ 0 → Same (get_or words j 0))
+      (moves : (x : ℕ) → ROWS ≤ x → held_times x w.held + one_if (live' x) + named (kind_word words (x / ROWS)) ≡
+      held_times x v.held + one_if (live x) + named (kind_word words' (x / ROWS)))
+      (cells : (j : ℕ) → FIRST_QUICK ≤ j → get_or words j 0 ≢ 0 → Same (get_or words j 0))
       (others : (j : ℕ) (u : View W) → j ≢ id → get_elem? views j ≡ some u → u.is_spent ≡ false
-      → Every (λ p. Same p.0) u.hand)
-      (hand : Every (Belongs words') w.hand) where
-    one_place : (x : ℕ) → 64 ≤ x → total_at (weight x) 0 words' + total (held_by x) (set views id w) + one_if
-        (live' x) ≡ named (kind_word words' (x / 64))
+      → Every (λ p. Same p.0) u.held)
+      (held : Every (Belongs words') w.held) where
+    one_place : (x : ℕ) → ROWS ≤ x → total_at (weight x) 0 words' + total (held_by x) (set views id w) + one_if
+        (live' x) ≡ named (kind_word words' (x / ROWS))
     one_place x real =
         let one = s.in_one_place x real in
         let word = total_at_set (weight x) words 0 i i n (omega arith) (omega arith) in
@@ -52,22 +54,22 @@ module _ {W : Type 0} (live : ℕ → Bool) (words : List ℕ) (views : List (Vi
         let move = moves x real in
         omega arith
 
-    other_word : (j : ℕ) → 257 ≤ j → get_or words' j 0 ≡ get_or words j 0
+    other_word : (j : ℕ) → FIRST_MASK ≤ j → get_or words' j 0 ≡ get_or words j 0
     other_word j le = get_or-set_other words i j n 0 (λ e. omega arith)
 
-    cell_at : (j : ℕ) → 513 ≤ j → get_or words' j 0 ≢ 0 → (64 ≤ get_or words' j 0)
-        × (kind_word words' (get_or words' j 0 / 64) ≡ kind_at j + 1)
+    cell_at : (j : ℕ) → FIRST_QUICK ≤ j → get_or words' j 0 ≢ 0 → (ROWS ≤ get_or words' j 0)
+        × (kind_word words' (get_or words' j 0 / ROWS) ≡ cell_kind j + 1)
     cell_at j le ne =
         let is = other_word j (omega arith) in
         let h = s.cells j le (λ e. ne (is ∙ e)) in
-        subst (λ a. (64 ≤ a) × (kind_word words' (a / 64) ≡ kind_at j + 1)) (sym is)
+        subst (λ a. (ROWS ≤ a) × (kind_word words' (a / ROWS) ≡ cell_kind j + 1)) (sym is)
         (h.0, cells j le (λ e. ne (is ∙ e)) ∙ h.1)
 
-    hand_at : (j : ℕ) (u : View W) → u.is_spent ≡ false → ((j ≡ id) × (w ≡ u))
-        ⊎ ((j ≢ id) × (get_elem? views j ≡ some u)) → Every (Belongs words') u.hand
-    hand_at j u alive (inl here) c p e = hand c p (ap (λ (z : View W). get_elem? z.hand c) here.1 ∙ e)
-    hand_at j u alive (inr other) c p e =
-        let h = s.hands j u other.1 alive c p e in
+    held_at : (j : ℕ) (u : View W) → u.is_spent ≡ false → ((j ≡ id) × (w ≡ u))
+        ⊎ ((j ≢ id) × (get_elem? views j ≡ some u)) → Every (Belongs words') u.held
+    held_at j u alive (inl here) c p e = held c p (ap (λ (z : View W). get_elem? z.held c) here.1 ∙ e)
+    held_at j u alive (inr other) c p e =
+        let h = s.held j u other.1 alive c p e in
         let same = others j u other.0 other.1 alive c p e in
         (h.0, ap named same ∙ h.1, λ ne. same ∙ h.2 ne)
 
@@ -75,11 +77,11 @@ module _ {W : Type 0} (live : ℕ → Bool) (words : List ℕ) (views : List (Vi
     slots_low = record {
       in_one_place = one_place;
       cells = cell_at;
-      hands = λ j u e alive. hand_at j u alive (at_set views id j w u e);
-      masks = λ j le lt. subst (λ a. a < 18446744073709551616) (sym (other_word j le)) (s.masks j le lt);
+      held = λ j u e alive. held_at j u alive (at_set views id j w u e);
+      masks = λ j le lt. subst (λ a. a < (2 ^ ROWS)) (sym (other_word j le)) (s.masks j le lt);
       empty_masks = mask_empty words' (λ x. total (held_by x) (set views id w) + one_if (live' x))
           (λ x real. (let one = one_place x real in omega arith))
-          (λ j le lt. subst (λ a. a < 18446744073709551616) (sym (other_word j le)) (s.masks j le lt));
+          (λ j le lt. subst (λ a. a < (2 ^ ROWS)) (sym (other_word j le)) (s.masks j le lt));
     }
 
 not_on : (b : Bool) → (b ≡ true → ⊥) → b ≡ false
@@ -96,15 +98,15 @@ module _ {W : Type 0} (m : Ghosts W) (numbers : Numbers) (s : State (Option W) (
   word i = get_or s.words i 0
 
   -- a store into the gate word leaves the kind words of all slots
-  pub gate_kinds : (n x : ℕ) → 64 ≤ x → kind_word (set s.words 0 n) (x / 64) ≡ kind_word s.words (x / 64)
-  gate_kinds n x real = kind_word_set s.words (x / 64) 0 n (λ e. omega arith)
+  pub gate_kinds : (n x : ℕ) → ROWS ≤ x → kind_word (set s.words 0 n) (x / ROWS) ≡ kind_word s.words (x / ROWS)
+  gate_kinds n x real = kind_word_set s.words (x / ROWS) 0 n (λ e. omega arith)
 
-  pub cell_real : (j : ℕ) → 513 ≤ j → word j ≢ 0 → 64 ≤ word j
+  pub cell_real : (j : ℕ) → FIRST_QUICK ≤ j → word j ≢ 0 → ROWS ≤ word j
   cell_real j le ne = (c.slots.cells j le ne).0
 
   pub others_real : (n j : ℕ) (u : View W) → j ≢ id → get_elem? s.views j ≡ some u → u.is_spent ≡ false
-      → Every (λ p. kind_word (set s.words 0 n) (p.0 / 64) ≡ kind_word s.words (p.0 / 64)) u.hand
-  others_real n j u other at alive k p e = gate_kinds n p.0 (c.slots.hands j u at alive k p e).0
+      → Every (λ p. kind_word (set s.words 0 n) (p.0 / ROWS) ≡ kind_word s.words (p.0 / ROWS)) u.held
+  others_real n j u other at alive k p e = gate_kinds n p.0 (c.slots.held j u at alive k p e).0
 
   pub belongs_gate : (n : ℕ) (p : ℕ × ℕ) → Belongs s.words p → Belongs (set s.words 0 n) p
   belongs_gate n p h = let same = gate_kinds n p.0 h.0 in (h.0, ap named same ∙ h.1, λ ne. same ∙ h.2 ne)
@@ -161,28 +163,28 @@ module _ {W : Type 0} (m : Ghosts W) (numbers : Numbers) (s : State (Option W) (
         );
         holding = λ j u at alive. won_holding j u alive (at_set s.views id j (took c.world v) u at);
       };
-      seats = seats_alike s.views id v there v.hand v.trace v.trace_number v.began_empty true (v.gate_steps + 1)
+      seats = seats_alike s.views id v there v.held v.trace v.trace_number v.began_empty true (v.gate_steps + 1)
           (Some c.world) [] c.made c.owner _ _ numbers c.seats;
       kinds = λ b real lt. kind_same 1 b real ∙ c.kinds b real lt
           ∙ ap (λ cs. changed cs (m.kind c.world) b) home.1;
       slots = slots_low (m.live c.world) s.words s.views c.slots id v there lives c.wide 0 1 (omega arith)
           (m.live c.world) (took c.world v) lives
-          (λ x real. ap (λ n. in_hand x v.hand + one_if (m.live c.world x) + named n)
+          (λ x real. ap (λ n. held_times x v.held + one_if (m.live c.world x) + named n)
           (sym (gate_kinds 1 x real)))
           (λ j le ne. gate_kinds 1 (word j) (cell_real j le ne)) (others_real 1)
-          (λ k p e. belongs_gate 1 p (c.slots.hands id v there lives k p e));
+          (λ k p e. belongs_gate 1 p (c.slots.held id v there lives k p e));
     }
 
-    dead_at : (p : ℕ × ℕ) → Belongs s.words p → Has p.0 v.hand → (m.live c.world p.0 ≡ false)
-        × (p.1 ≢ 0 → m.kind c.world (p.0 / 64) ≡ p.1)
+    dead_at : (p : ℕ × ℕ) → Belongs s.words p → Has p.0 v.held → (m.live c.world p.0 ≡ false)
+        × (p.1 ≢ 0 → m.kind c.world (p.0 / ROWS) ≡ p.1)
     dead_at p h has =
         let once = has_once (m.live c.world) s.words s.views c.slots id v there lives p.0 0
         (omega (arith, c.wide)) has in
-        let block = named_block s.words (p.0 / 64) h.1 in
-        let at : 0 < p.0 / 64 = (let real = h.0 in omega arith) in (
+        let block = named_block s.words (p.0 / ROWS) h.1 in
+        let at : 0 < p.0 / ROWS = (let real = h.0 in omega arith) in (
           once.2,
-          λ ne. sym (c.kinds (p.0 / 64) at block ∙ ap (λ cs. changed cs (m.kind c.world) (p.0 / 64)) home.1)
-              ∙ sym (kind_word_is s.words (p.0 / 64) block) ∙ h.2 ne,
+          λ ne. sym (c.kinds (p.0 / ROWS) at block ∙ ap (λ cs. changed cs (m.kind c.world) (p.0 / ROWS)) home.1)
+              ∙ sym (kind_word_is s.words (p.0 / ROWS) block) ∙ h.2 ne,
         )
 
     pub learned : Entered m v c.world
@@ -193,7 +195,7 @@ module _ {W : Type 0} (m : Ghosts W) (numbers : Numbers) (s : State (Option W) (
           room = (let r = total_member room_of s.views id v there in let is : room_of v ≡ v.room =
               ap (λ b. cond b 0 v.room) lives in let most = c.seats.roomy in omega arith);
           sized = c.sized ∙ sym f.sized;
-          hand = λ k p e. dead_at p (c.slots.hands id v there lives k p e) (has_member v.hand k p e);
+          held = λ k p e. dead_at p (c.slots.held id v there lives k p e) (has_member v.held k p e);
         }
 
   -- ---- what the holder knows
@@ -213,9 +215,9 @@ module _ {W : Type 0} (m : Ghosts W) (numbers : Numbers) (s : State (Option W) (
     alone_holds j u other at alive his = other (sym (c.gate.holding j u at alive his).1 ∙ mine.1)
 
     -- a store of a kind word of a block with none, or of 0
-    module _ (b k : ℕ) (real : 0 < b) (lt : b < 257) (hand : List (ℕ × ℕ)) where
+    module _ (b k : ℕ) (real : 0 < b) (lt : b < FIRST_MASK) (held : List (ℕ × ℕ)) where
       abbrev stores : View W
-      stores = record v { changes = (b, k) ∷ v.changes; hand = hand }
+      stores = record v { changes = (b, k) ∷ v.changes; held = held }
 
       store_holding : (j : ℕ) (u : View W) → u.is_spent ≡ false → ((j ≡ id) × (stores ≡ u))
           ⊎ ((j ≢ id) × (get_elem? s.views j ≡ some u))
@@ -228,7 +230,7 @@ module _ {W : Type 0} (m : Ghosts W) (numbers : Numbers) (s : State (Option W) (
       )
       store_holding j u alive (inr other) his = absurd (alone_holds j u other.0 other.1 alive his)
 
-      store_kind : (d : ℕ) → 0 < d → d < 257 → (d ≡ b) ⊎ (d ≢ b) → get_or (set s.words b k) d 0 ≡ changed
+      store_kind : (d : ℕ) → 0 < d → d < FIRST_MASK → (d ≡ b) ⊎ (d ≢ b) → get_or (set s.words b k) d 0 ≡ changed
           ((b, k) ∷ c.changes) (m.kind c.world) d
       store_kind d low under (inl same) =
           ap (λ j. get_or (set s.words b k) j 0) same ∙ get_or-set_same s.words b k 0 (omega (arith, c.wide))
@@ -266,23 +268,23 @@ module _ {W : Type 0} (m : Ghosts W) (numbers : Numbers) (s : State (Option W) (
           );
           holding = λ j u at alive. store_holding j u alive (at_set s.views id j stores u at);
         };
-        seats = seats_alike s.views id v there hand v.trace v.trace_number v.began_empty v.has_gate
+        seats = seats_alike s.views id v there held v.trace v.trace_number v.began_empty v.has_gate
             v.gate_steps v.taken
             ((b, k) ∷ v.changes) c.made c.owner _ _ numbers c.seats;
         kinds = λ d low under. store_kind d low under (cases_eq d b);
         slots = slots;
       }
 
-      pub word_here : (x : ℕ) → x / 64 ≡ b → kind_word (set s.words b k) (x / 64) ≡ k
+      pub word_here : (x : ℕ) → x / ROWS ≡ b → kind_word (set s.words b k) (x / ROWS) ≡ k
       word_here x here =
           ap (kind_word (set s.words b k)) here ∙ kind_word_is (set s.words b k) b lt
           ∙ get_or-set_same s.words b k 0 (omega (arith, c.wide))
 
-      pub word_other : (x : ℕ) → x / 64 ≢ b → kind_word (set s.words b k) (x / 64) ≡ kind_word s.words
-          (x / 64)
-      word_other x other = kind_word_set s.words (x / 64) b k other
+      pub word_other : (x : ℕ) → x / ROWS ≢ b → kind_word (set s.words b k) (x / ROWS) ≡ kind_word s.words
+          (x / ROWS)
+      word_other x other = kind_word_set s.words (x / ROWS) b k other
 
-      pub old_belongs : (p : ℕ × ℕ) → p.0 / 64 ≢ b → Belongs s.words p → Belongs (set s.words b k) p
+      pub old_belongs : (p : ℕ × ℕ) → p.0 / ROWS ≢ b → Belongs s.words p → Belongs (set s.words b k) p
       old_belongs p other h = let same = word_other p.0 other in (
         h.0,
         ap named same ∙ h.1,
@@ -292,15 +294,15 @@ module _ {W : Type 0} (m : Ghosts W) (numbers : Numbers) (s : State (Option W) (
 
       -- of a kind, where it had none
       module _ (some_kind : 0 < k) (empty : word b ≡ 0) where
-        none_here : (x : ℕ) → x / 64 ≡ b → named (kind_word s.words (x / 64)) ≡ 0
+        none_here : (x : ℕ) → x / ROWS ≡ b → named (kind_word s.words (x / ROWS)) ≡ 0
         none_here x here = named_none _ (ap (kind_word s.words) here ∙ kind_word_is s.words b lt ∙ empty)
 
-        not_here : (x : ℕ) → named (kind_word s.words (x / 64)) ≡ 1 → x / 64 ≢ b
+        not_here : (x : ℕ) → named (kind_word s.words (x / ROWS)) ≡ 1 → x / ROWS ≢ b
         not_here x one here = let z = none_here x here in omega arith
 
-        pub hand_none : (x : ℕ) → 64 ≤ x → x / 64 ≡ b → (in_hand x v.hand ≡ 0)
+        pub held_none : (x : ℕ) → ROWS ≤ x → x / ROWS ≡ b → (held_times x v.held ≡ 0)
             × (one_if (m.live c.world x) ≡ 0)
-        hand_none x low here =
+        held_none x low here =
             let one = c.slots.in_one_place x low in
             let z = none_here x here in
             let h = total_member (held_by x) s.views id v there in
@@ -308,103 +310,103 @@ module _ {W : Type 0} (m : Ghosts W) (numbers : Numbers) (s : State (Option W) (
             (omega arith, omega arith)
 
         come : Bool → List (ℕ × ℕ)
-        come t = cond t (whole b k ++ v.hand) v.hand
+        come t = cond t (whole b k ++ v.held) v.held
 
-        whole_here : (x : ℕ) → x / 64 ≡ b → in_hand x (whole b k) ≡ 1
+        whole_here : (x : ℕ) → x / ROWS ≡ b → held_times x (whole b k) ≡ 1
         whole_here x here =
-            let at : 64 * b + x % 64 ≡ x = omega arith in
-            subst (λ y. in_hand y (whole b k) ≡ 1) at (in_hand_picks (λ _. true) (64 * b) (λ _. k) 64 (x % 64)
+            let at : ROWS * b + x % ROWS ≡ x = omega arith in
+            subst (λ y. held_times y (whole b k) ≡ 1) at (held_times_picks (λ _. true) (ROWS * b) (λ _. k) ROWS (x % ROWS)
             (omega arith))
 
-        whole_other : (x : ℕ) → x / 64 ≢ b → in_hand x (whole b k) ≡ 0
-        whole_other x other = in_hand_out (λ _. true) (64 * b) (λ _. k) 64 x
+        whole_other : (x : ℕ) → x / ROWS ≢ b → held_times x (whole b k) ≡ 0
+        whole_other x other = held_times_out (λ _. true) (ROWS * b) (λ _. k) ROWS x
             (λ r under same. other (omega arith))
 
-        cells_stay : (j : ℕ) → 513 ≤ j → word j ≢ 0 → kind_word (set s.words b k) (word j / 64) ≡ kind_word
-            s.words (word j / 64)
+        cells_stay : (j : ℕ) → FIRST_QUICK ≤ j → word j ≢ 0 → kind_word (set s.words b k) (word j / ROWS) ≡ kind_word
+            s.words (word j / ROWS)
         cells_stay j le ne =
             let h = c.slots.cells j le ne in
             word_other (word j) (λ here. let z = ap (kind_word s.words) here ∙ kind_word_is s.words b lt
             ∙ empty in let is = h.1 in absurd (omega (arith, sym is ∙ z)))
 
         others_stay : (j : ℕ) (u : View W) → j ≢ id → get_elem? s.views j ≡ some u → u.is_spent ≡ false
-            → Every (λ p. kind_word (set s.words b k) (p.0 / 64) ≡ kind_word s.words (p.0 / 64)) u.hand
+            → Every (λ p. kind_word (set s.words b k) (p.0 / ROWS) ≡ kind_word s.words (p.0 / ROWS)) u.held
         others_stay j u other at alive n p e = word_other p.0
-            (not_here p.0 (c.slots.hands j u at alive n p e).1)
+            (not_here p.0 (c.slots.held j u at alive n p e).1)
 
-        own_stay : Every (Belongs (set s.words b k)) v.hand
-        own_stay n p e = let h = c.slots.hands id v there lives n p e in old_belongs p (not_here p.0 h.1) h
+        own_stay : Every (Belongs (set s.words b k)) v.held
+        own_stay n p e = let h = c.slots.held id v there lives n p e in old_belongs p (not_here p.0 h.1) h
 
-        row_belongs : k < 8 → (r : ℕ) → r < 64 → true ≡ true → Belongs (set s.words b k) (64 * b + r, k)
+        row_belongs : k < EXTRA_DATA → (r : ℕ) → r < ROWS → true ≡ true → Belongs (set s.words b k) (ROWS * b + r, k)
         row_belongs few r row _ =
-            let here : (64 * b + r) / 64 ≡ b = omega arith in (
+            let here : (ROWS * b + r) / ROWS ≡ b = omega arith in (
               omega arith,
-              ap named (word_here (64 * b + r) here) ∙ named_kind k some_kind few,
+              ap named (word_here (ROWS * b + r) here) ∙ named_kind k some_kind few,
               λ _. word_here
-                  (64 * b + r) here,
+                  (ROWS * b + r) here,
             )
 
 module _ {W : Type 0} (m : Ghosts W) (numbers : Numbers) (s : State (Option W) (View W))
     (c : Custodied m numbers s)
     (id : ℕ) (v : View W) (there : get_elem? s.views id ≡ some v) (lives : v.is_spent ≡ false)
     (has : v.has_gate ≡ true)
-    (b k : ℕ) (real : 0 < b) (lt : b < 257) where
+    (b k : ℕ) (real : 0 < b) (lt : b < FIRST_MASK) where
   module _ (some_kind : 0 < k) (empty : get_or s.words b 0 ≡ 0) where
-    open_moves : (t : Bool) → (t ≡ true → k < 8) → (t ≡ false → named k ≡ 0) → (x : ℕ) → 64 ≤ x → (x / 64 ≡ b)
-        ⊎ (x / 64 ≢ b)
-        → in_hand x (cond t (whole b k ++ v.hand) v.hand) + one_if (m.live c.world x) + named
-        (kind_word s.words (x / 64))
-        ≡ in_hand x v.hand + one_if (m.live c.world x) + named (kind_word (set s.words b k) (x / 64))
+    open_moves : (t : Bool) → (t ≡ true → k < EXTRA_DATA) → (t ≡ false → named k ≡ 0) → (x : ℕ) → ROWS ≤ x → (x / ROWS ≡ b)
+        ⊎ (x / ROWS ≢ b)
+        → held_times x (cond t (whole b k ++ v.held) v.held) + one_if (m.live c.world x) + named
+        (kind_word s.words (x / ROWS))
+        ≡ held_times x v.held + one_if (m.live c.world x) + named (kind_word (set s.words b k) (x / ROWS))
     open_moves true few extra x low (inl here) =
-        let w = ap named (word_here m numbers s c id v there lives has b k real lt v.hand x here)
+        let w = ap named (word_here m numbers s c id v there lives has b k real lt v.held x here)
         ∙ named_kind k some_kind (few refl) in
-        let j = in_hand_append x (whole b k) v.hand in
-        let a = whole_here m numbers s c id v there lives has b k real lt v.hand some_kind empty x here in
-        let z = none_here m numbers s c id v there lives has b k real lt v.hand some_kind empty x here in
+        let j = held_times_append x (whole b k) v.held in
+        let a = whole_here m numbers s c id v there lives has b k real lt v.held some_kind empty x here in
+        let z = none_here m numbers s c id v there lives has b k real lt v.held some_kind empty x here in
         omega arith
     open_moves true few extra x low (inr other) =
-        let w = ap named (word_other m numbers s c id v there lives has b k real lt v.hand x other) in
-        let j = in_hand_append x (whole b k) v.hand in
-        let a = whole_other m numbers s c id v there lives has b k real lt v.hand some_kind empty x other in
+        let w = ap named (word_other m numbers s c id v there lives has b k real lt v.held x other) in
+        let j = held_times_append x (whole b k) v.held in
+        let a = whole_other m numbers s c id v there lives has b k real lt v.held some_kind empty x other in
         omega arith
     open_moves false few extra x low (inl here) =
-        let w = ap named (word_here m numbers s c id v there lives has b k real lt v.hand x here)
+        let w = ap named (word_here m numbers s c id v there lives has b k real lt v.held x here)
         ∙ extra refl in
-        let z = none_here m numbers s c id v there lives has b k real lt v.hand some_kind empty x here in
+        let z = none_here m numbers s c id v there lives has b k real lt v.held some_kind empty x here in
         omega arith
     open_moves false few extra x low (inr other) =
-        let w = ap named (word_other m numbers s c id v there lives has b k real lt v.hand x other) in
+        let w = ap named (word_other m numbers s c id v there lives has b k real lt v.held x other) in
         omega arith
 
-    open_hand : (t : Bool) → (t ≡ true → k < 8) → Every (Belongs (set s.words b k))
-        (cond t (whole b k ++ v.hand) v.hand)
-    open_hand true few =
-        every_append (Belongs (set s.words b k)) (whole b k) v.hand
-        (every_picks (Belongs (set s.words b k)) 64 (λ _. true) (64 * b) (λ _. k)
-        (row_belongs m numbers s c id v there lives has b k real lt v.hand some_kind empty (few refl)))
-        (own_stay m numbers s c id v there lives has b k real lt v.hand some_kind empty)
-    open_hand false few = own_stay m numbers s c id v there lives has b k real lt v.hand some_kind empty
+    open_held : (t : Bool) → (t ≡ true → k < EXTRA_DATA) → Every (Belongs (set s.words b k))
+        (cond t (whole b k ++ v.held) v.held)
+    open_held true few =
+        every_append (Belongs (set s.words b k)) (whole b k) v.held
+        (every_picks (Belongs (set s.words b k)) ROWS (λ _. true) (ROWS * b) (λ _. k)
+        (row_belongs m numbers s c id v there lives has b k real lt v.held some_kind empty (few refl)))
+        (own_stay m numbers s c id v there lives has b k real lt v.held some_kind empty)
+    open_held false few = own_stay m numbers s c id v there lives has b k real lt v.held some_kind empty
 
-    opens_at : (t : Bool) → (t ≡ true → k < 8) → (t ≡ false → named k ≡ 0)
+    opens_at : (t : Bool) → (t ≡ true → k < EXTRA_DATA) → (t ≡ false → named k ≡ 0)
         → Custodied m numbers (record {
           words = set s.words b k;
           homes = s.homes;
           views =
               set s.views id (record v {
                 changes = (b, k) ∷ v.changes;
-                hand =
-                    cond t (whole b k ++ v.hand) v.hand;
+                held =
+                    cond t (whole b k ++ v.held) v.held;
               });
         })
     opens_at t few extra =
-        let hand = cond t (whole b k ++ v.hand) v.hand in
-        storing m numbers s c id v there lives has b k real lt hand
+        let held = cond t (whole b k ++ v.held) v.held in
+        storing m numbers s c id v there lives has b k real lt held
         (slots_low (m.live c.world) s.words s.views c.slots id v there lives c.wide b k lt (m.live c.world)
-        (record v { changes = (b, k) ∷ v.changes; hand = hand }) lives
-        (λ x low. open_moves t few extra x low (cases_eq (x / 64) b))
-        (cells_stay m numbers s c id v there lives has b k real lt v.hand some_kind empty)
-        (others_stay m numbers s c id v there lives has b k real lt v.hand some_kind empty)
-        (open_hand t few))
+        (record v { changes = (b, k) ∷ v.changes; held = held }) lives
+        (λ x low. open_moves t few extra x low (cases_eq (x / ROWS) b))
+        (cells_stay m numbers s c id v there lives has b k real lt v.held some_kind empty)
+        (others_stay m numbers s c id v there lives has b k real lt v.held some_kind empty)
+        (open_held t few))
 
     pub opens : Custodied m numbers (record {
       words = set s.words b k;
@@ -413,6 +415,6 @@ module _ {W : Type 0} (m : Ghosts W) (numbers : Numbers) (s : State (Option W) (
           set s.views id (opened b k v);
     })
     opens =
-        opens_at (nat_lt k 8) (λ e. Rattle.std.proofs.lemmas.Bool.ltb-true k 8 e)
+        opens_at (nat_lt k EXTRA_DATA) (λ e. Rattle.std.proofs.lemmas.Bool.ltb-true k EXTRA_DATA e)
         (λ e. ap (λ t. cond (nat_lt 0 k && t) 1 0) e
         ∙ ap (λ t. cond t 1 0) (Rattle.hd_custody.proofs.Keeps.and_off (nat_lt 0 k) false refl))

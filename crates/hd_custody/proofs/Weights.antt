@@ -1,51 +1,53 @@
 -- How often a slot stands in a word, and what a kind word names.
-use Rattle.std.proofs.Common.{◌≡◌, ◌≢◌, ℕ, zero, suc, ◌+◌, ◌*◌, ◌/◌, ◌%◌, ◌<◌, ◌≤◌, ◌==◌, Bool, true, false, cond, List, [], ◌∷◌, length, get_or, set, inl, inr, sym, ap, refl, ◌∙◌, eq-eqb, ne_eqb, arith}
+use Rattle.std.proofs.Common.{◌^◌, ◌≡◌, ◌≢◌, ℕ, zero, suc, ◌+◌, ◌*◌, ◌/◌, ◌%◌, ◌<◌, ◌≤◌, ◌==◌, Bool, true, false, cond, List, [], ◌∷◌, length, get_or, set, inl, inr, sym, ap, refl, ◌∙◌, eq-eqb, ne_eqb, arith}
 use Rattle.std.proofs.lemmas.Bool.{cases_eq, cases_lt, lt-ltb, le-ltb}
 use Rattle.std.proofs.lemmas.List.{get_or-set_other}
 use Rattle.std.specs.Prelude.{nat_lt, ◌&&◌}
 use Rattle.std.specs.Int.{bit_at}
 use Rattle.std.proofs.lemmas.Nat.Bits.{bit_at-lt, bit_at-zero, same_from_bits_below}
-use Rattle.hd_custody.specs.Counts.{total_at, one_if, weight, kind_word, named, kind_at}
+use Rattle.hd_model.specs.declared.limits.TheConstants.{BLOCKS, KINDS, ROWS}
+use Rattle.hd_custody.specs.declared.words.TheConstants.{EXTRA_DATA, FIRST_MASK, FIRST_QUICK, WORDS}
+use Rattle.hd_custody.specs.Counts.{total_at, one_if, weight, kind_word, named, cell_kind}
 use Rattle.hd_custody.proofs.Totals.{total_at_member}
 
 -- ---- the weight of a slot in a word
 
-pub weight_low : (x i w : ℕ) → i < 257 → weight x i w ≡ 0
+pub weight_low : (x i w : ℕ) → i < FIRST_MASK → weight x i w ≡ 0
 unfolding weight
-weight_low x i w lt = ap (λ b. cond b 0 (cond (nat_lt i 513) (cond (256 + x / 64 == i) (bit_at w (x % 64)) 0)
-    (one_if (w == x)))) (lt-ltb i 257 lt)
+weight_low x i w lt = ap (λ b. cond b 0 (cond (nat_lt i FIRST_QUICK) (cond (BLOCKS + x / ROWS == i) (bit_at w (x % ROWS)) 0)
+    (one_if (w == x)))) (lt-ltb i FIRST_MASK lt)
 
-mask_is : (x i w : ℕ) → 257 ≤ i → i < 513 → weight x i w ≡ cond (256 + x / 64 == i) (bit_at w (x % 64)) 0
+mask_is : (x i w : ℕ) → FIRST_MASK ≤ i → i < FIRST_QUICK → weight x i w ≡ cond (BLOCKS + x / ROWS == i) (bit_at w (x % ROWS)) 0
 unfolding weight
 mask_is x i w le lt =
-    ap (λ b. cond b 0 (cond (nat_lt i 513) (cond (256 + x / 64 == i) (bit_at w (x % 64)) 0)
-    (one_if (w == x)))) (le-ltb i 257 le)
-    ∙ ap (λ b. cond b (cond (256 + x / 64 == i) (bit_at w (x % 64)) 0) (one_if (w == x))) (lt-ltb i 513 lt)
+    ap (λ b. cond b 0 (cond (nat_lt i FIRST_QUICK) (cond (BLOCKS + x / ROWS == i) (bit_at w (x % ROWS)) 0)
+    (one_if (w == x)))) (le-ltb i FIRST_MASK le)
+    ∙ ap (λ b. cond b (cond (BLOCKS + x / ROWS == i) (bit_at w (x % ROWS)) 0) (one_if (w == x))) (lt-ltb i FIRST_QUICK lt)
 
-pub weight_mask : (x i w : ℕ) → 257 ≤ i → i < 513 → x / 64 + 256 ≡ i → weight x i w ≡ bit_at w (x % 64)
+pub weight_mask : (x i w : ℕ) → FIRST_MASK ≤ i → i < FIRST_QUICK → x / ROWS + BLOCKS ≡ i → weight x i w ≡ bit_at w (x % ROWS)
 weight_mask x i w le lt e =
-    mask_is x i w le lt ∙ ap (λ b. cond b (bit_at w (x % 64)) 0) (eq-eqb (256 + x / 64) i (omega arith))
+    mask_is x i w le lt ∙ ap (λ b. cond b (bit_at w (x % ROWS)) 0) (eq-eqb (BLOCKS + x / ROWS) i (omega arith))
 
-pub weight_other : (x i w : ℕ) → 257 ≤ i → i < 513 → x / 64 + 256 ≢ i → weight x i w ≡ 0
+pub weight_other : (x i w : ℕ) → FIRST_MASK ≤ i → i < FIRST_QUICK → x / ROWS + BLOCKS ≢ i → weight x i w ≡ 0
 weight_other x i w le lt n =
     mask_is x i w le lt
-    ∙ ap (λ b. cond b (bit_at w (x % 64)) 0) (ne_eqb (256 + x / 64) i (λ e. n (omega arith)))
+    ∙ ap (λ b. cond b (bit_at w (x % ROWS)) 0) (ne_eqb (BLOCKS + x / ROWS) i (λ e. n (omega arith)))
 
-pub weight_cell : (x i w : ℕ) → 513 ≤ i → weight x i w ≡ one_if (w == x)
+pub weight_cell : (x i w : ℕ) → FIRST_QUICK ≤ i → weight x i w ≡ one_if (w == x)
 unfolding weight
 weight_cell x i w le =
-    let low : 257 ≤ i = omega arith in
-    ap (λ b. cond b 0 (cond (nat_lt i 513) (cond (256 + x / 64 == i) (bit_at w (x % 64)) 0)
-    (one_if (w == x)))) (le-ltb i 257 low)
-    ∙ ap (λ b. cond b (cond (256 + x / 64 == i) (bit_at w (x % 64)) 0) (one_if (w == x))) (le-ltb i 513 le)
+    let low : FIRST_MASK ≤ i = omega arith in
+    ap (λ b. cond b 0 (cond (nat_lt i FIRST_QUICK) (cond (BLOCKS + x / ROWS == i) (bit_at w (x % ROWS)) 0)
+    (one_if (w == x)))) (le-ltb i FIRST_MASK low)
+    ∙ ap (λ b. cond b (cond (BLOCKS + x / ROWS == i) (bit_at w (x % ROWS)) 0) (one_if (w == x))) (le-ltb i FIRST_QUICK le)
 
 -- a slot weighs nothing in a word that is 0
-pub weight_zero : (x i : ℕ) → 64 ≤ x → weight x i 0 ≡ 0
-weight_zero x i real = elim (cases_lt i 257) [
+pub weight_zero : (x i : ℕ) → ROWS ≤ x → weight x i 0 ≡ 0
+weight_zero x i real = elim (cases_lt i FIRST_MASK) [
   | inl low ↦ weight_low x i 0 low
-  | inr le ↦ elim (cases_lt i 513) [
-    | inl lt ↦ elim (cases_eq (x / 64 + 256) i) [
-      | inl here ↦ weight_mask x i 0 le lt here ∙ bit_at_none (x % 64)
+  | inr le ↦ elim (cases_lt i FIRST_QUICK) [
+    | inl lt ↦ elim (cases_eq (x / ROWS + BLOCKS) i) [
+      | inl here ↦ weight_mask x i 0 le lt here ∙ bit_at_none (x % ROWS)
       | inr other ↦ weight_other x i 0 le lt other
     ]
     | inr cell ↦ weight_cell x i 0 cell ∙ ap one_if (ne_eqb 0 x (λ e. omega arith))
@@ -57,35 +59,35 @@ weight_zero x i real = elim (cases_lt i 257) [
 
 -- ---- kind words
 
-pub kind_word_is : (ws : List ℕ) (b : ℕ) → b < 257 → kind_word ws b ≡ get_or ws b 0
+pub kind_word_is : (ws : List ℕ) (b : ℕ) → b < FIRST_MASK → kind_word ws b ≡ get_or ws b 0
 unfolding kind_word
-kind_word_is ws b lt = ap (λ t. cond t (get_or ws b 0) 0) (lt-ltb b 257 lt)
+kind_word_is ws b lt = ap (λ t. cond t (get_or ws b 0) 0) (lt-ltb b FIRST_MASK lt)
 
-pub kind_word_out : (ws : List ℕ) (b : ℕ) → 257 ≤ b → kind_word ws b ≡ 0
+pub kind_word_out : (ws : List ℕ) (b : ℕ) → FIRST_MASK ≤ b → kind_word ws b ≡ 0
 unfolding kind_word
-kind_word_out ws b le = ap (λ t. cond t (get_or ws b 0) 0) (le-ltb b 257 le)
+kind_word_out ws b le = ap (λ t. cond t (get_or ws b 0) 0) (le-ltb b FIRST_MASK le)
 
 -- a store into another word than the block's leaves its kind word
 pub kind_word_set : (ws : List ℕ) (b i n : ℕ) → b ≢ i → kind_word (set ws i n) b ≡ kind_word ws b
-kind_word_set ws b i n other = elim (cases_lt b 257) [
+kind_word_set ws b i n other = elim (cases_lt b FIRST_MASK) [
   | inl lt ↦ kind_word_is (set ws i n) b lt ∙ get_or-set_other ws i b n 0 other ∙ sym (kind_word_is ws b lt)
   | inr le ↦ kind_word_out (set ws i n) b le ∙ sym (kind_word_out ws b le)
 ]
 
-pub kind_word_high : (ws : List ℕ) (i n : ℕ) → 257 ≤ i → (b : ℕ) → kind_word (set ws i n) b ≡ kind_word ws b
-kind_word_high ws i n le b = elim (cases_lt b 257) [
+pub kind_word_high : (ws : List ℕ) (i n : ℕ) → FIRST_MASK ≤ i → (b : ℕ) → kind_word (set ws i n) b ≡ kind_word ws b
+kind_word_high ws i n le b = elim (cases_lt b FIRST_MASK) [
   | inl lt ↦ kind_word_set ws b i n (λ e. omega arith)
   | inr out ↦ kind_word_out (set ws i n) b out ∙ sym (kind_word_out ws b out)
 ]
 
-pub named_kind : (k : ℕ) → 0 < k → k < 8 → named k ≡ 1
+pub named_kind : (k : ℕ) → 0 < k → k < EXTRA_DATA → named k ≡ 1
 named_kind k real lt =
-    ap (λ b. cond (b && nat_lt k 8) 1 0) (lt-ltb 0 k real) ∙ ap (λ b. cond b 1 0) (lt-ltb k 8 lt)
+    ap (λ b. cond (b && nat_lt k EXTRA_DATA) 1 0) (lt-ltb 0 k real) ∙ ap (λ b. cond b 1 0) (lt-ltb k EXTRA_DATA lt)
 
 pub named_none : (k : ℕ) → k ≡ 0 → named k ≡ 0
 named_none k e = ap named e
 
-pub named_data : named 8 ≡ 0
+pub named_data : named EXTRA_DATA ≡ 0
 named_data = refl
 
 either_way : (b : Bool) → cond b 1 0 ≤ 1
@@ -93,17 +95,17 @@ either_way true = omega arith
 either_way false = omega arith
 
 pub named_most : (k : ℕ) → named k ≤ 1
-named_most k = either_way (nat_lt 0 k && nat_lt k 8)
+named_most k = either_way (nat_lt 0 k && nat_lt k EXTRA_DATA)
 
 -- a block whose kind word names a kind is one of the 256
-pub named_block : (ws : List ℕ) (b : ℕ) → named (kind_word ws b) ≡ 1 → b < 257
-named_block ws b one = elim (cases_lt b 257) [
+pub named_block : (ws : List ℕ) (b : ℕ) → named (kind_word ws b) ≡ 1 → b < FIRST_MASK
+named_block ws b one = elim (cases_lt b FIRST_MASK) [
   | inl lt ↦ lt
   | inr le ↦ absurd (let none : named (kind_word ws b) ≡ 0 =
       named_none _ (kind_word_out ws b le) in omega arith)
 ]
 
-pub kind_small : (i : ℕ) → i < 1402 → kind_at i < 7
+pub kind_small : (i : ℕ) → i < WORDS → cell_kind i < KINDS
 kind_small i lt = omega arith
 
 pub off_of : (b : Bool) → one_if b ≡ 0 → b ≡ false
@@ -122,25 +124,25 @@ past (w ∷ ws) (suc j) le = past ws j (omega arith)
 
 -- where no slot stands twice, and none in a block without a kind of handle, the mask of such a block is 0
 module _ (words : List ℕ) (others : ℕ → ℕ)
-    (placed : (x : ℕ) → 64 ≤ x → total_at (weight x) 0 words + others x ≡ named (kind_word words (x / 64)))
-    (fits : (i : ℕ) → 257 ≤ i → i < 513 → get_or words i 0 < 18446744073709551616) where
-  bit_none : (b : ℕ) → 0 < b → b < 257 → named (kind_word words b) ≡ 0 → 256 + b < length words → (r : ℕ)
-      → r < 64 → bit_at (get_or words (256 + b) 0) r ≡ 0
+    (placed : (x : ℕ) → ROWS ≤ x → total_at (weight x) 0 words + others x ≡ named (kind_word words (x / ROWS)))
+    (fits : (i : ℕ) → FIRST_MASK ≤ i → i < FIRST_QUICK → get_or words i 0 < (2 ^ ROWS)) where
+  bit_none : (b : ℕ) → 0 < b → b < FIRST_MASK → named (kind_word words b) ≡ 0 → BLOCKS + b < length words → (r : ℕ)
+      → r < ROWS → bit_at (get_or words (BLOCKS + b) 0) r ≡ 0
   bit_none b real low none within r lt =
-      let block : (64 * b + r) / 64 ≡ b = omega arith in
-      let row : (64 * b + r) % 64 ≡ r = omega arith in
-      let one = placed (64 * b + r) (omega arith) in
-      let member = total_at_member (weight (64 * b + r)) words 0 (256 + b) (256 + b) within (omega arith) in
-      let is = weight_mask (64 * b + r) (256 + b) (get_or words (256 + b) 0) (omega arith) (omega arith)
+      let block : (ROWS * b + r) / ROWS ≡ b = omega arith in
+      let row : (ROWS * b + r) % ROWS ≡ r = omega arith in
+      let one = placed (ROWS * b + r) (omega arith) in
+      let member = total_at_member (weight (ROWS * b + r)) words 0 (BLOCKS + b) (BLOCKS + b) within (omega arith) in
+      let is = weight_mask (ROWS * b + r) (BLOCKS + b) (get_or words (BLOCKS + b) 0) (omega arith) (omega arith)
       (omega arith) in
-      let same = ap (bit_at (get_or words (256 + b) 0)) row in
+      let same = ap (bit_at (get_or words (BLOCKS + b) 0)) row in
       let kind = ap (λ d. named (kind_word words d)) block in
       omega arith
 
-  pub mask_empty : (b : ℕ) → 0 < b → b < 257 → named (kind_word words b) ≡ 0 → get_or words (256 + b) 0 ≡ 0
-  mask_empty b real low none = elim (cases_lt (256 + b) (length words)) [
-    | inl within ↦ same_from_bits_below 64 (get_or words (256 + b) 0) 0
-        (fits (256 + b) (omega arith) (omega arith)) (omega arith)
+  pub mask_empty : (b : ℕ) → 0 < b → b < FIRST_MASK → named (kind_word words b) ≡ 0 → get_or words (BLOCKS + b) 0 ≡ 0
+  mask_empty b real low none = elim (cases_lt (BLOCKS + b) (length words)) [
+    | inl within ↦ same_from_bits_below ROWS (get_or words (BLOCKS + b) 0) 0
+        (fits (BLOCKS + b) (omega arith) (omega arith)) (omega arith)
         (λ r lt. bit_none b real low none within r lt ∙ sym (bit_at-zero r))
-    | inr out ↦ past words (256 + b) out
+    | inr out ↦ past words (BLOCKS + b) out
   ]

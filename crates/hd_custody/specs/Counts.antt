@@ -1,5 +1,5 @@
--- Slots in words and in hands, counted; the words of the table; and what a kind word names. All of it is this
--- project's own. A slot is 64 times its block, from 1 to 256, and its row, from 0 to 63. A hand is a list of
+-- Slots in words and held by seats, counted; the words of the table; and what a kind word names. All of it is this
+-- project's own. A slot is 64 times its block, from 1 to 256, and its row, from 0 to 63. What a seat holds is a list of
 -- slots, each with a kind word: 1 more than the number of its kind, or 0 while the slot has no kind yet. Kind
 -- words: 0 no kind, 1 to 7 handles, 8 extra data. The words are: 0 the gate, 1 to 256 the kind words of the
 -- blocks, 257 to 512 their masks, and from 513 on 127 words for each kind, which are its quick word, 63
@@ -51,28 +51,28 @@ abbrev pub IsCell : ℕ → Type 0
 IsCell i = (FIRST_QUICK ≤ i) × (i < WORDS)
 
 -- the block of a slot
-abbrev pub block_of : ℕ → ℕ
-block_of x = x / ROWS
+abbrev pub slot_block : ℕ → ℕ
+slot_block x = x / ROWS
 
 -- its row there
-abbrev pub row_of : ℕ → ℕ
-row_of x = x % ROWS
+abbrev pub slot_row : ℕ → ℕ
+slot_row x = x % ROWS
 
 -- x is a slot of one of the 256 blocks
 abbrev pub IsSlot : ℕ → Type 0
 IsSlot x = (ROWS ≤ x) × (x < ROWS * (BLOCKS + 1))
 
--- How often the slot x stands in word i, which has w: as a set bit of its block's mask, words 257 to 512, or
+-- How often the slot x is in word i, which has w: as a set bit of its block's mask, words 257 to 512, or
 -- as the whole of a quick word or cell, the words from 513 on. The gate and the kind words hold no slot.
 unfoldable pub weight : ℕ → ℕ → ℕ → ℕ
 weight x i w =
     cond (nat_lt i FIRST_MASK) 0
-    (cond (nat_lt i FIRST_QUICK) (cond (mask_word (block_of x) == i) (bit_at w (row_of x)) 0)
+    (cond (nat_lt i FIRST_QUICK) (cond (mask_word (slot_block x) == i) (bit_at w (slot_row x)) 0)
     (one_if (w == x)))
 
--- how often it stands in a hand
-abbrev pub in_hand : ℕ → List (ℕ × ℕ) → ℕ
-in_hand x hand = total (λ p. one_if (p.0 == x)) hand
+-- how often it is held
+abbrev pub held_times : ℕ → List (ℕ × ℕ) → ℕ
+held_times x held = total (λ p. one_if (p.0 == x)) held
 
 -- the kind word of block b, which is word b; there are 256 blocks, from 1 on
 unfoldable pub kind_word : List ℕ → ℕ → ℕ
@@ -83,8 +83,8 @@ abbrev pub named : ℕ → ℕ
 named k = cond (nat_lt 0 k && nat_lt k EXTRA_DATA) 1 0
 
 -- the number of the kind whose quick word or cell word i is: each kind has 127 of them in a row
-abbrev pub kind_at : ℕ → ℕ
-kind_at i = (i - FIRST_QUICK) / CACHE
+abbrev pub cell_kind : ℕ → ℕ
+cell_kind i = (i - FIRST_QUICK) / CACHE
 
 -- the kind words f with what was stored since, each store a block and its new kind word, the last one first
 abbrev pub changed : List (ℕ × ℕ) → (ℕ → ℕ) → ℕ → ℕ
@@ -109,50 +109,50 @@ whole b k = picks ROWS (λ _. true) (ROWS * b) (λ _. k)
 unfoldable pub slot_count : ℕ
 slot_count = BLOCKS * ROWS
 
--- the hand without a slot
+-- the slots held without one
 abbrev pub without : ℕ → List (ℕ × ℕ) → List (ℕ × ℕ)
-without x hand = filter (λ p. not (p.0 == x)) hand
+without x held = filter (λ p. not (p.0 == x)) held
 
--- the hand without the slots of block b whose rows the mask m has
+-- the slots held without those of block b whose rows the mask m has
 abbrev pub without_rows : ℕ → ℕ → List (ℕ × ℕ) → List (ℕ × ℕ)
-without_rows b m hand = filter (λ p. not ((block_of p.0 == b) && (bit_at m (row_of p.0) == 1))) hand
+without_rows b m held = filter (λ p. not ((slot_block p.0 == b) && (bit_at m (slot_row p.0) == 1))) held
 
--- the hand without the slots of block b
+-- the slots held without those of block b
 abbrev pub without_block : ℕ → List (ℕ × ℕ) → List (ℕ × ℕ)
-without_block b hand = filter (λ p. not (block_of p.0 == b)) hand
+without_block b held = filter (λ p. not (slot_block p.0 == b)) held
 
--- the hand once x was put into a word: 0 is no slot, and leaves it as it was
+-- the slots held once x was put into a word: 0 is no slot, and leaves them as they were
 abbrev pub put_out : ℕ → List (ℕ × ℕ) → List (ℕ × ℕ)
-put_out zero hand = hand
-put_out (suc x) hand = without (suc x) hand
+put_out zero held = held
+put_out (suc x) held = without (suc x) held
 
--- the hand with a slot of the kind word k on top: 0 is no slot
+-- the slots held with one of the kind word k on top: 0 is no slot
 abbrev pub with_slot : ℕ → ℕ → List (ℕ × ℕ) → List (ℕ × ℕ)
-with_slot zero k hand = hand
-with_slot (suc x) k hand = (suc x, k) ∷ hand
+with_slot zero k held = held
+with_slot (suc x) k held = (suc x, k) ∷ held
 
 -- a slot once the kind word of block b was seen to be k: where it is of that block and has no kind, it gets
 -- that one
 abbrev pub named_by : ℕ → ℕ → ℕ × ℕ → ℕ × ℕ
-named_by b k p = (p.0, cond ((block_of p.0 == b) && (p.1 == 0)) k p.1)
+named_by b k p = (p.0, cond ((slot_block p.0 == b) && (p.1 == 0)) k p.1)
 
--- the hand once the kind word of block b was seen to be k
+-- the slots held once the kind word of block b was seen to be k
 abbrev pub naming : ℕ → ℕ → List (ℕ × ℕ) → List (ℕ × ℕ)
-naming b k hand = map (named_by b k) hand
+naming b k held = map (named_by b k) held
 
--- there is nothing in the hand
+-- no slot is held
 abbrev pub is_nil : List (ℕ × ℕ) → Bool
 is_nil [] = true
 is_nil (x ∷ xs) = false
 
--- P holds of each slot of the hand with its kind word
+-- P holds of each slot held with its kind word
 abbrev pub Every : (ℕ × ℕ → Type 0) → List (ℕ × ℕ) → Type 0
-Every P hand = (n : ℕ) (p : ℕ × ℕ) → get_elem? hand n ≡ some p → P p
+Every P held = (n : ℕ) (p : ℕ × ℕ) → get_elem? held n ≡ some p → P p
 
--- the hand has the slot x
+-- the slot x is held
 abbrev pub Has : ℕ → List (ℕ × ℕ) → Type 0
-Has x hand = 1 ≤ in_hand x hand
+Has x held = 1 ≤ held_times x held
 
--- the hand has this slot with this kind word
+-- this slot is held with this kind word
 abbrev pub HasAs : ℕ × ℕ → List (ℕ × ℕ) → Type 0
-HasAs p hand = (n : ℕ) × (get_elem? hand n ≡ some p)
+HasAs p held = (n : ℕ) × (get_elem? held n ≡ some p)

@@ -11,7 +11,7 @@ use Rattle.hd_model.specs.State.{Numbers}
 use Rattle.hd_custody.specs.declared.view.View.{View}
 use Rattle.hd_model.specs.declared.limits.TheConstants.{BLOCKS}
 use Rattle.hd_custody.specs.declared.words.TheConstants.{GATE, BANK, CACHE, WORDS, EXTRA_DATA}
-use Rattle.hd_custody.specs.Counts.{mask_word, quick_word, reserve_cell, free_cell, block_of, row_of, kind_word, named, in_hand, IsCell, IsSlot, Has}
+use Rattle.hd_custody.specs.Counts.{mask_word, quick_word, reserve_cell, free_cell, slot_block, slot_row, kind_word, named, held_times, IsCell, IsSlot, Has}
 use Rattle.hd_custody.specs.Rule.{Custodied}
 
 -- a place where a slot may be
@@ -29,11 +29,11 @@ module _ {W : Type 0} (m : Ghosts W) where
   module _ (world : W) (s : State (Option W) (View W)) (x : ℕ) where
     -- the seat at place i knows v, has not ended, and holds the slot
     abbrev pub HoldsIt : ℕ → View W → Type 0
-    HoldsIt i v = (get_elem? s.views i ≡ some v) × (v.is_spent ≡ false) × Has x v.hand
+    HoldsIt i v = (get_elem? s.views i ≡ some v) × (v.is_spent ≡ false) × Has x v.held
 
     -- the slot is there
     abbrev pub IsAt : Spot → Type 0
-    IsAt mask = bit_at (slice_index s.words (mask_word (block_of x))) (row_of x) ≡ 1
+    IsAt mask = bit_at (slice_index s.words (mask_word (slot_block x))) (slot_row x) ≡ 1
     IsAt (cell i) = IsCell i × (slice_index s.words i ≡ x)
     IsAt (seat i) = (v : View W) × HoldsIt i v
     IsAt live = m.live world x ≡ true
@@ -43,15 +43,15 @@ module _ {W : Type 0} (m : Ghosts W) where
       pub place : Spot
       pub there : IsAt place
       pub only : (other : Spot) → IsAt other → other ≡ place
-      pub once : (i : ℕ) (v : View W) → HoldsIt i v → in_hand x v.hand ≡ 1
+      pub once : (i : ℕ) (v : View W) → HoldsIt i v → held_times x v.held ≡ 1
 
   -- Whenever the rule holds, each slot of a block of handles is in exactly one place, and a slot of any other
   -- block is in none.
   abbrev pub EachSlotIsInOnePlace : Type 0
   EachSlotIsInOnePlace =
       (numbers : Numbers) (s : State (Option W) (View W)) (rule : Custodied m numbers s) (x : ℕ) → IsSlot x
-      → (named (kind_word s.words (block_of x)) ≡ 1 → IsInOnePlace rule.world s x)
-      × (named (kind_word s.words (block_of x)) ≡ 0 → (place : Spot) → IsAt rule.world s x place → ⊥)
+      → (named (kind_word s.words (slot_block x)) ≡ 1 → IsInOnePlace rule.world s x)
+      × (named (kind_word s.words (slot_block x)) ≡ 0 → (place : Spot) → IsAt rule.world s x place → ⊥)
 
 -- The gate is word 0, the kind word of block b word b, its mask word 256 + b; the words of the kind with
 -- number k begin at 513 + 127 k: the quick word, 63 reserve cells, 63 free cells.
@@ -74,7 +74,7 @@ pub record KindWordsAreNumbered : Type 0 where
 -- A slot is 64 times its block and its row, of blocks 1 to 256. `allocate` makes at most 1,214 steps,
 -- `release` 65, `gather` 1,278.
 pub record BoundsAreNumbered : Type 0 where
-  pub slots : (x : ℕ) → x ≡ 64 * block_of x + row_of x
+  pub slots : (x : ℕ) → x ≡ 64 * slot_block x + slot_row x
   pub first : (x : ℕ) → IsSlot x → 64 ≤ x
   pub last : (x : ℕ) → IsSlot x → x < 16448
   pub allocate : CACHE + 4 * BLOCKS + BANK ≡ 1214

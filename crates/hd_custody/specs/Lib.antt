@@ -5,3 +5,4 @@ pub mod Traces
 pub mod Misses
 pub mod Calls
 pub mod Laws
+pub mod CallSteps

@@ -67,3 +67,7 @@ pub record FoundNone (k blocks : ℕ) (trace : List Did) : Type 0 where
   pub masks : (n b : ℕ) → 0 < b → b ≤ BLOCKS → get_elem? trace n ≡ some (b, k + 1, k + 1)
       → (m : ℕ) × (get_elem? trace (suc n) ≡ some (mask_word b, m, 0)) × ((m ≡ 0)
       ⊎ ((y : ℕ) × (y ≢ k + 1) × (get_elem? trace (suc (suc n)) ≡ some (b, y, y))))
+
+-- a whole Miss found nothing in any of them
+abbrev pub MissesFoundNone : Type 0
+MissesFoundNone = (k blocks : ℕ) (trace : List Did) → WholeMiss k blocks trace → FoundNone k blocks trace

@@ -14,7 +14,7 @@ use Rattle.hd_model.specs.Run.{part_of}
 use Rattle.hd_custody.specs.declared.view.View.{View}
 use Rattle.hd_model.specs.declared.limits.TheConstants.{BLOCKS, ROWS}
 use Rattle.hd_custody.specs.declared.words.TheConstants.{FIRST_MASK, FIRST_QUICK, WORDS}
-use Rattle.hd_custody.specs.Counts.{mask_word, masked_block, block_of, total, total_at, one_if, weight, in_hand, kind_word, named, kind_at, changed, Every}
+use Rattle.hd_custody.specs.Counts.{mask_word, masked_block, slot_block, total, total_at, one_if, weight, held_times, kind_word, named, cell_kind, changed, Every}
 use Rattle.hd_custody.specs.Views.{numbers_of, took, swapped, banked, looked, drained, restored, put_in, opened, closed, gave_back}
 use Rattle.hd_custody.specs.Views.{Sorted, Fresh, KindIs}
 
@@ -26,15 +26,15 @@ tally v = cond v.is_spent 0 (length v.ended + 1)
 abbrev pub room_of : {W : Type 0} → View W → ℕ
 room_of v = cond v.is_spent 0 v.room
 
--- how often the slot x stands in the seat's hand
+-- how often the seat holds the slot x
 abbrev pub held_by : {W : Type 0} → ℕ → View W → ℕ
-held_by x v = cond v.is_spent 0 (in_hand x v.hand)
+held_by x v = cond v.is_spent 0 (held_times x v.held)
 
--- a slot in a hand is in a block of handles, and of its kind where it has one
+-- a slot held is in a block of handles, and of its kind where it has one
 abbrev pub Belongs : List ℕ → ℕ × ℕ → Type 0
 Belongs words p =
-    (ROWS ≤ p.0) × (named (kind_word words (block_of p.0)) ≡ 1)
-    × (p.1 ≢ 0 → kind_word words (block_of p.0) ≡ p.1)
+    (ROWS ≤ p.0) × (named (kind_word words (slot_block p.0)) ≡ 1)
+    × (p.1 ≢ 0 → kind_word words (slot_block p.0) ≡ p.1)
 
 module _ {W : Type 0} where
   -- What is so of a seat at its place i among the views. owner n is 1 more than the place of the seat with
@@ -79,19 +79,19 @@ module _ {W : Type 0} where
     -- (g)
     pub roomy : total room_of views ≤ spare
 
-  -- Where each slot stands, as live and the words and hands have it.
+  -- Where each slot is, as live, the words and the seats have it.
   pub record Slots (live : ℕ → Bool) (words : List ℕ) (views : List (View W)) : Type 0 where
-    -- (a) A slot of a block of handles stands in exactly one of these: a set bit of its block's mask, a quick
-    -- word or cell, the hand of one seat, the live slots. A slot of any other block stands in none.
+    -- (a) A slot of a block of handles is in exactly one of these: a set bit of its block's mask, a quick
+    -- word or cell, the slots held by one seat, the live slots. A slot of any other block is in none.
     pub in_one_place : (x : ℕ) → ROWS ≤ x
         → total_at (weight x) 0 words + total (held_by x) views + one_if (live x)
-        ≡ named (kind_word words (block_of x))
+        ≡ named (kind_word words (slot_block x))
     -- (b) A slot in a quick word or cell of a kind is in a block of that kind.
     pub cells : (i : ℕ) → FIRST_QUICK ≤ i → slice_index words i ≢ 0
-        → (ROWS ≤ slice_index words i) × (kind_word words (block_of (slice_index words i)) ≡ kind_at i + 1)
-    -- (b) So is a slot in a hand with that kind. One without a kind is in a block of handles.
-    pub hands : (j : ℕ) (v : View W) → get_elem? views j ≡ some v → v.is_spent ≡ false
-        → Every (Belongs words) v.hand
+        → (ROWS ≤ slice_index words i) × (kind_word words (slot_block (slice_index words i)) ≡ cell_kind i + 1)
+    -- (b) So is a slot held with that kind. One without a kind is in a block of handles.
+    pub held : (j : ℕ) (v : View W) → get_elem? views j ≡ some v → v.is_spent ≡ false
+        → Every (Belongs words) v.held
     -- a mask has a bit for each row
     pub masks : (i : ℕ) → FIRST_MASK ≤ i → i < FIRST_QUICK → slice_index words i < 2 ^ ROWS
     -- (e) The mask of a block whose kind word names no kind of handle is 0.
@@ -142,13 +142,13 @@ module _ {W : Type 0} (m : Ghosts W) where
   M = Me (Option W) (View W)
 
   -- what a seat that wins the gate learns: that it had not got it, and of the world its own part, its room, and
-  -- that no slot of its hand is live
+  -- that no slot held is live
   pub record Entered (v : View W) (w : W) : Type 0 where
     pub had_not : v.has_gate ≡ false
     pub part : part_of (m.journal w) v.number ≡ v.part
     pub room : v.room ≤ m.spare w
     pub sized : m.numbers w ≡ numbers_of v.limits
-    pub hand : Every (λ p. (m.live w p.0 ≡ false) × (p.1 ≢ 0 → m.kind w (block_of p.0) ≡ p.1)) v.hand
+    pub held : Every (λ p. (m.live w p.0 ≡ false) × (p.1 ≢ 0 → m.kind w (slot_block p.0) ≡ p.1)) v.held
 
   -- The world that a table leaves where all seats were joined to the first, of view v: its journal has of
   -- each caller exactly that caller's part.
@@ -179,12 +179,12 @@ module _ {W : Type 0} (m : Ghosts W) where
       (w : W) (u : W) → a.1 ≡ (0, Some w) ∷ [] → a.0.taken ≡ Some u → (b ≡ (gave_back m u w a.0, []))
       × Sorted m u w
 
-  -- an exchange of a quick word or cell, from the view `start` on: what came was not in the hand, and is of
+  -- an exchange of a quick word or cell, from the view `start` on: what came was not held, and is of
   -- the cell's kind
   abbrev pub exchanged : (View W → View W) → Step (Option W) → M → ℕ → M → Type 0
   exchanged start st a n b =
       (b ≡ (swapped st.word n st.first (start a.0), a.1))
-      × (n ≢ 0 → Fresh m a.0 n × KindIs m a.0 (block_of n) (kind_at st.word + 1))
+      × (n ≢ 0 → Fresh m a.0 n × KindIs m a.0 (slot_block n) (cell_kind st.word + 1))
 
   -- a compare-exchange of a cell
   abbrev pub stored : Step (Option W) → M → ℕ → M → Type 0
@@ -207,11 +207,11 @@ module _ {W : Type 0} (m : Ghosts W) where
   abbrev pub settled : Step (Option W) → M → ℕ → M → Type 0
   settled st a n b = b ≡ (put_in st.word st.first a.0, a.1)
 
-  -- the holder of the gate stores the kind word of a block, of which no slot was in the hand
+  -- the holder of the gate stores the kind word of a block, of which no slot was held
   abbrev pub assigned : Step (Option W) → M → ℕ → M → Type 0
   assigned st a n b =
       (b ≡ (opened st.word st.first a.0, a.1))
-      × ((r : ℕ) → r < ROWS → in_hand (ROWS * st.word + r) a.0.hand ≡ 0)
+      × ((r : ℕ) → r < ROWS → held_times (ROWS * st.word + r) a.0.held ≡ 0)
 
   -- it stores 0
   abbrev pub cleared : Step (Option W) → M → ℕ → M → Type 0

@@ -5,7 +5,7 @@ use Rattle.std.specs.Prelude.{slice_index, Option, Some, None}
 use Rattle.hd_mask.specs.Mask.{set_bits}
 use Rattle.hd_model.specs.declared.limits.TheConstants.{ROWS}
 use Rattle.hd_custody.specs.declared.words.TheConstants.{BANK, CACHE}
-use Rattle.hd_custody.specs.Counts.{mask_word, quick_word, reserve_cell, free_cell, block_of, row_of}
+use Rattle.hd_custody.specs.Counts.{mask_word, quick_word, reserve_cell, free_cell, slot_block, slot_row}
 
 -- a step: the word, what was found there, and what is there after
 abbrev pub Did : Type 0
@@ -98,38 +98,38 @@ module _ (blocks : ℕ) where
 
 module _ (k blocks : ℕ) where
   -- where the call stands after the step t, of a kind with number k and a table with so many blocks
-  abbrev pub after : Phase → Did → Phase
-  after (probe n) t = is_step t (probe_word k n) 0 (cond (t.1 == 0) (to_probe blocks (n + 1)) (found t.1))
-  after (look b) t = is_step t b t.1 (cond (t.1 == k + 1) (drain b) (to_look blocks (b + 1)))
-  after (drain b) t = is_step t (mask_word b) 0 (cond (t.1 == 0) (to_look blocks (b + 1)) (again b t.1))
-  after (again b m) t =
+  abbrev pub next_phase : Phase → Did → Phase
+  next_phase (probe n) t = is_step t (probe_word k n) 0 (cond (t.1 == 0) (to_probe blocks (n + 1)) (found t.1))
+  next_phase (look b) t = is_step t b t.1 (cond (t.1 == k + 1) (drain b) (to_look blocks (b + 1)))
+  next_phase (drain b) t = is_step t (mask_word b) 0 (cond (t.1 == 0) (to_look blocks (b + 1)) (again b t.1))
+  next_phase (again b m) t =
       is_step t b t.1 (cond (t.1 == k + 1) (to_bank b (ROWS * b + lowest m) 0 (next_rows m)) (back b m))
-  after (back b m) t = is_step t (mask_word b) (bit_or t.1 m) (to_look blocks (b + 1))
-  after (bank b x i m) t =
+  next_phase (back b m) t = is_step t (mask_word b) (bit_or t.1 m) (to_look blocks (b + 1))
+  next_phase (bank b x i m) t =
       is_step t (reserve_cell k i) (cond (t.1 == 0) (ROWS * b + lowest m) t.1)
       (to_bank b x (i + 1) (cond (t.1 == 0) (next_rows m) m))
-  after (rest b x m) t = is_step t (mask_word b) (bit_or t.1 m) (found x)
-  after (sweep n) t = is_step t (sweep_word k n) 0 (cond (t.1 == 0) (to_sweep blocks (n + 1)) (settle n t.1))
-  after (settle n x) t =
-      is_step t (mask_word (block_of x)) (bit_or t.1 (2 ^ row_of x)) (to_sweep blocks (n + 1))
-  after (look_whole b) t = is_step t b t.1 (cond (t.1 == k + 1) (drain_whole b)
+  next_phase (rest b x m) t = is_step t (mask_word b) (bit_or t.1 m) (found x)
+  next_phase (sweep n) t = is_step t (sweep_word k n) 0 (cond (t.1 == 0) (to_sweep blocks (n + 1)) (settle n t.1))
+  next_phase (settle n x) t =
+      is_step t (mask_word (slot_block x)) (bit_or t.1 (2 ^ slot_row x)) (to_sweep blocks (n + 1))
+  next_phase (look_whole b) t = is_step t b t.1 (cond (t.1 == k + 1) (drain_whole b)
       (to_look_whole blocks (b + 1)))
-  after (drain_whole b) t =
+  next_phase (drain_whole b) t =
       is_step t (mask_word b) 0
       (cond (t.1 == 0) (to_look_whole blocks (b + 1)) (cond (t.1 == every_row) (again_whole b)
       (back_part b t.1)))
-  after (again_whole b) t = is_step t b t.1 (cond (t.1 == k + 1) (found b) (back_part b every_row))
-  after (back_part b m) t = is_step t (mask_word b) (bit_or t.1 m) (to_look_whole blocks (b + 1))
-  after (push n x) t = is_step t (push_word k n) x (cond (t.1 == 0) (found 0) (to_push (n + 1) t.1))
-  after (last x) t = is_step t (mask_word (block_of x)) (bit_or t.1 (2 ^ row_of x)) (found 0)
-  after (found x) t = wrong
-  after missed t = wrong
-  after wrong t = wrong
+  next_phase (again_whole b) t = is_step t b t.1 (cond (t.1 == k + 1) (found b) (back_part b every_row))
+  next_phase (back_part b m) t = is_step t (mask_word b) (bit_or t.1 m) (to_look_whole blocks (b + 1))
+  next_phase (push n x) t = is_step t (push_word k n) x (cond (t.1 == 0) (found 0) (to_push (n + 1) t.1))
+  next_phase (last x) t = is_step t (mask_word (slot_block x)) (bit_or t.1 (2 ^ slot_row x)) (found 0)
+  next_phase (found x) t = wrong
+  next_phase missed t = wrong
+  next_phase wrong t = wrong
 
   -- and after all these steps
   abbrev pub follow : Phase → List Did → Phase
   follow p [] = p
-  follow p (t ∷ ts) = follow (after p t) ts
+  follow p (t ∷ ts) = follow (next_phase p t) ts
 
 -- how a call ends that may answer none
 abbrev pub ending : Option ℕ → Phase

@@ -13,7 +13,7 @@ use Rattle.hd_model.specs.declared.limits.TheConstants.{BLOCKS, ROWS}
 use Rattle.hd_custody.specs.declared.words.TheConstants.{EXTRA_DATA}
 use Rattle.hd_custody.specs.declared.view.View.{View}
 use Rattle.hd_custody.specs.declared.view.Limits.{Limits}
-use Rattle.hd_custody.specs.Counts.{masked_block, block_of, IsSlot, in_hand, Has, Every, named, kind_at, changed, picks, rows, whole, slot_count, put_out}
+use Rattle.hd_custody.specs.Counts.{masked_block, slot_block, IsSlot, held_times, Has, Every, named, cell_kind, changed, picks, rows, whole, slot_count, put_out}
 use Rattle.hd_custody.specs.Counts.{without_rows, without_block, with_slot, naming, is_nil}
 
 -- what a clause sees of a `Custody`
@@ -27,6 +27,12 @@ pub record Known (W : Type 0) : Type 0 where
   pub table : TableId
   pub view : View W
 
+-- a seat that has not ended: its table, what its caller knows, and what it has taken out of the table's slot
+pub record Acting (W : Type 0) : Type 0 where
+  pub table : TableId
+  pub view : View W
+  pub out : List (ℕ × Option W)
+
 -- the numbers of a run, which a view has as its limits
 abbrev pub numbers_of : Limits → Numbers
 numbers_of n = record { heap = n.heap; blocks = n.blocks; callers = n.callers }
@@ -34,9 +40,9 @@ numbers_of n = record { heap = n.heap; blocks = n.blocks; callers = n.callers }
 abbrev pub limits_of : Numbers → Limits
 limits_of n = record { heap = n.heap; blocks = n.blocks; callers = n.callers }
 
--- each slot of the hand is one, and has a kind: so it is between two calls
+-- each slot held is one, and has a kind: so it is between two calls
 abbrev pub Kinded : List (ℕ × ℕ) → Type 0
-Kinded hand = Every (λ p. IsSlot p.0 × (p.1 ≢ 0)) hand
+Kinded held = Every (λ p. IsSlot p.0 × (p.1 ≢ 0)) held
 
 -- the journal is what it was, with the same spare; or it has one entry of this caller more, one less to
 -- spare, and the caller had room for one
@@ -73,13 +79,13 @@ GrowsByBlocks paired (grown.Back b) = ⊥
 module _ {W : Type 0} where
   -- the slot of the table that is out with a seat between two calls: while it has the gate, the one that held
   -- the world
-  abbrev pub hand_of : Bool → List (ℕ × Option W)
-  hand_of true = (0, None) ∷ []
-  hand_of false = []
+  abbrev pub carried_by : Bool → List (ℕ × Option W)
+  carried_by true = (0, None) ∷ []
+  carried_by false = []
 
   -- a seat between two calls
   abbrev pub IsSeated : Me (Option W) (View W) → Type 0
-  IsSeated m = (m.0.is_spent ≡ false) × (m.1 ≡ hand_of m.0.has_gate) × Kinded m.0.hand
+  IsSeated m = (m.0.is_spent ≡ false) × (m.1 ≡ carried_by m.0.has_gate) × Kinded m.0.held
 
   -- the first seat, of a table over a world with these numbers and this much to spare
   abbrev pub starting : ℕ → Numbers → View W
@@ -95,7 +101,7 @@ module _ {W : Type 0} where
     gate_steps = 0;
     taken = None;
     changes = [];
-    hand = [];
+    held = [];
     trace = [];
     trace_number = 0;
     began_empty = true;
@@ -103,23 +109,7 @@ module _ {W : Type 0} where
 
   -- what is left of a view that was joined into another
   abbrev pub spent : View W
-  spent = record {
-    is_spent = true;
-    number = 0;
-    part = [];
-    room = 0;
-    ended = [];
-    made = 0;
-    limits = record { heap = 0; blocks = 0; callers = 0 };
-    has_gate = false;
-    gate_steps = 0;
-    taken = None;
-    changes = [];
-    hand = [];
-    trace = [];
-    trace_number = 0;
-    began_empty = true;
-  }
+  spent = record (starting 0 (record { heap = 0; blocks = 0; callers = 0 })) { is_spent = true; made = 0 }
 
   -- seat 0 after a split
   abbrev pub shared_out : ℕ → View W → View W
@@ -137,71 +127,71 @@ module _ {W : Type 0} where
   abbrev pub took : W → View W → View W
   took w v = record v { has_gate = true; gate_steps = v.gate_steps + 1; taken = Some w; changes = [] }
 
-  -- a store of k into the kind word of block b, by the holder of the gate: of handles, the block's slots join
-  -- the hand
+  -- a store of k into the kind word of block b, by the holder of the gate: of handles, the block's slots
+  -- then are held
   abbrev pub opened : ℕ → ℕ → View W → View W
   opened b k v = record v {
     changes = (b, k) ∷ v.changes;
-    hand =
-        cond (nat_lt k EXTRA_DATA) (whole b k ++ v.hand) v.hand;
+    held =
+        cond (nat_lt k EXTRA_DATA) (whole b k ++ v.held) v.held;
   }
 
   -- a store of 0 into it
   abbrev pub closed : ℕ → View W → View W
-  closed b v = record v { changes = (b, 0) ∷ v.changes; hand = without_block b v.hand }
+  closed b v = record v { changes = (b, 0) ∷ v.changes; held = without_block b v.held }
 
   -- slots of the rows m go into mask word i, and no trace is kept
   abbrev pub put_in : ℕ → ℕ → View W → View W
-  put_in i m v = record v { hand = without_rows (masked_block i) m v.hand }
+  put_in i m v = record v { held = without_rows (masked_block i) m v.held }
 
-  -- block b gets the kind with number k, and d, where it isn't 0, is its data block: row 0 stays in the hand
+  -- block b gets the kind with number k, and d, where it isn't 0, is its data block: row 0 stays held
   abbrev pub granted : ℕ → ℕ → ℕ → View W → View W
   granted k b d v = record v {
     changes = with_data d ((b, k + 1) ∷ v.changes);
-    hand =
-        (ROWS * b, k + 1) ∷ v.hand;
+    held =
+        (ROWS * b, k + 1) ∷ v.held;
   }
 
   -- the steps of a call begin
   abbrev pub begun : View W → View W
-  begun v = record v { trace = []; trace_number = v.trace_number + 1; began_empty = is_nil v.hand }
+  begun v = record v { trace = []; trace_number = v.trace_number + 1; began_empty = is_nil v.held }
 
   -- an exchange of the quick word or cell i, which had y, with x
   abbrev pub swapped : ℕ → ℕ → ℕ → View W → View W
   swapped i y x v = record v {
-    hand = with_slot y (kind_at i + 1) (put_out x v.hand);
+    held = with_slot y (cell_kind i + 1) (put_out x v.held);
     trace = v.trace ++ (i, y, x) ∷ [];
   }
 
   -- a compare-exchange of the cell i from 0 to x, which found y
   abbrev pub banked : ℕ → ℕ → ℕ → View W → View W
   banked i y x v = record v {
-    hand = cond (y == 0) (put_out x v.hand) v.hand;
+    held = cond (y == 0) (put_out x v.held) v.held;
     trace = v.trace ++ (i, y, cond (y == 0) x y) ∷ [];
   }
 
   -- a load of the kind word of block b, which has y
   abbrev pub looked : ℕ → ℕ → View W → View W
-  looked b y v = record v { hand = naming b y v.hand; trace = v.trace ++ (b, y, y) ∷ [] }
+  looked b y v = record v { held = naming b y v.held; trace = v.trace ++ (b, y, y) ∷ [] }
 
   -- an exchange with 0 of mask word i, which had y: its slots come without a kind
   abbrev pub drained : ℕ → ℕ → View W → View W
-  drained i y v = record v { hand = rows (masked_block i) y 0 ++ v.hand; trace = v.trace ++ (i, y, 0) ∷ [] }
+  drained i y v = record v { held = rows (masked_block i) y 0 ++ v.held; trace = v.trace ++ (i, y, 0) ∷ [] }
 
   -- slots of the rows m go into mask word i, which had y
   abbrev pub restored : ℕ → ℕ → ℕ → View W → View W
   restored i m y v = record v {
-    hand = without_rows (masked_block i) m v.hand;
+    held = without_rows (masked_block i) m v.held;
     trace = v.trace ++ (i, y, bit_or y m) ∷ [];
   }
 
-  -- a whole call, which left this hand and made these steps: it neither won the gate nor gave it back
+  -- a whole call, which left these slots held and made these steps: it neither won the gate nor gave it back
   abbrev pub called : List (ℕ × ℕ) → List (ℕ × ℕ × ℕ) → View W → View W
-  called hand trace v = record v {
-    hand = hand;
+  called held trace v = record v {
+    held = held;
     trace = trace;
     trace_number = v.trace_number + 1;
-    began_empty = is_nil v.hand;
+    began_empty = is_nil v.held;
   }
 
 module _ {W : Type 0} (m : Ghosts W) where
@@ -215,7 +205,7 @@ module _ {W : Type 0} (m : Ghosts W) where
     pub no_data : d ≢ 0 → changed v.changes (m.kind world) d ≡ 0
 
   -- The gate is given back with w, where u was taken: an entry is added to the part, slots that became live
-  -- leave the hand, and slots that ended join it, each as of its block's kind.
+  -- are held no more, and slots that ended are held, each as of its block's kind.
   abbrev pub gave_back : W → W → View W → View W
   gave_back u w v = record v {
     has_gate = false;
@@ -224,27 +214,27 @@ module _ {W : Type 0} (m : Ghosts W) where
     changes = [];
     part = part_of (m.journal w) v.number;
     room = v.room - (length (m.journal w) - length (m.journal u));
-    hand = filter (λ p. not (m.live w p.0)) v.hand
+    held = filter (λ p. not (m.live w p.0)) v.held
         ++ picks slot_count (λ r. m.live u (ROWS + r) && not (m.live w (ROWS + r))) ROWS
-        (λ r. m.kind w (block_of (ROWS + r)));
+        (λ r. m.kind w (slot_block (ROWS + r)));
   }
 
   -- what `leave` asks of w, where u was taken: its kinds are the kind words, its numbers are the same, each
-  -- live slot was live or is in the hand, and the journal goes on
+  -- live slot was live or is held, and the journal goes on
   pub record Follows (u w : W) (v : View W) : Type 0 where
     pub kinds : (b : ℕ) → 0 < b → b < BLOCKS + 1 → m.kind w b ≡ changed v.changes (m.kind u) b
     pub sized : m.numbers w ≡ numbers_of v.limits
-    pub lives : (x : ℕ) → ROWS ≤ x → m.live w x ≡ true → (m.live u x ≡ true) ⊎ Has x v.hand
+    pub lives : (x : ℕ) → ROWS ≤ x → m.live w x ≡ true → (m.live u x ≡ true) ⊎ Has x v.held
     pub goes_on : Continues v.number v.room (m.journal u) (m.spare u) (m.journal w) (m.spare w)
 
-  -- what was live stood in blocks of handles, and in w these are so too
+  -- what was live was in blocks of handles, and in w these are so too
   abbrev pub Sorted : W → W → Type 0
-  Sorted u w = (x : ℕ) → ROWS ≤ x → m.live u x ≡ true → named (m.kind w (block_of x)) ≡ 1
+  Sorted u w = (x : ℕ) → ROWS ≤ x → m.live u x ≡ true → named (m.kind w (slot_block x)) ≡ 1
 
-  -- the slot x was not in the hand, and is not live in what a holder of the gate took
+  -- the slot x was not held, and is not live in what a holder of the gate took
   abbrev pub Fresh : View W → ℕ → Type 0
   Fresh v x =
-      (ROWS ≤ x) × (x < ROWS * (BLOCKS + 1)) × (in_hand x v.hand ≡ 0)
+      (ROWS ≤ x) × (x < ROWS * (BLOCKS + 1)) × (held_times x v.held ≡ 0)
       × ((u : W) → v.has_gate ≡ true → v.taken ≡ Some u → m.live u x ≡ false)
 
   -- block b has the kind word k in what a holder of the gate took, with its grants and withdrawals

@@ -1,18 +1,18 @@
 //! Slots by the cache and the masks: the calls that take neither the gate nor memory.
-ghost use Rattle.std.specs.Prelude.{◌≡◌, ◌≢◌, ◌↔◌, ℕ, zero, ◌+◌, ◌-◌, ◌*◌, ◌/◌, ◌%◌, ◌^◌, ◌<◌, ◌≤◌, true, false, ◌==◌, cond};
-ghost use Rattle.std.specs.Prelude.{List, ◌∷◌, ◌++◌, IfSome, IsNone, Some, None};
+ghost use Rattle.std.specs.Prelude.{◌≡◌, ◌≢◌, ◌↔◌, ℕ, zero, ◌+◌, ◌*◌, ◌/◌, ◌%◌, ◌<◌, ◌≤◌, true, false, ◌==◌, cond};
+ghost use Rattle.std.specs.Prelude.{List, [], ◌∷◌, ◌++◌, IfSome, IsNone, Some, None};
 ghost use Rattle.std.specs.Int.{bit_at};
 ghost use Rattle.hd_model.specs.Kinds.{kind_number};
-ghost use Rattle.hd_custody.specs.Counts.{mask_word, block_of, row_of, IsSlot, in_hand, HasAs, Has, with_slot, without, rows};
-ghost use Rattle.hd_custody.specs.Views.{Kinded, Fresh, KindIs, restored};
-ghost use Rattle.hd_custody.specs.Traces.{probe, look, sweep, push, found, missed, to_look, to_bank, to_sweep, to_push, to_look_whole};
+ghost use Rattle.hd_custody.specs.Counts.{slot_block, IsSlot, held_times, HasAs, Has, with_slot, put_out, without, without_rows, rows};
+ghost use Rattle.hd_custody.specs.Views.{Kinded, Fresh, KindIs};
+ghost use Rattle.hd_custody.specs.Traces.{probe, look, again, sweep, push, found, missed, to_look, to_bank, to_sweep, to_look_whole};
 ghost use Rattle.hd_custody.specs.Traces.{every_row, look_whole, back_part};
-ghost use Rattle.hd_custody.specs.Misses.{WholeMiss, FoundNone};
-ghost use Rattle.hd_custody.specs.Calls.{held, Apart, At, Made, Began, told, slot_number, Allocates, Releases, Gathers, Offers, with_block, swept_to, drained_to};
+ghost use Rattle.hd_custody.specs.Misses.{WholeMiss};
+ghost use Rattle.hd_custody.specs.Calls.{slot_number, Allocates, Releases, Gathers};
+ghost use Rattle.hd_custody.specs.CallSteps.{IsBlock, HasRowsAs, told, with_block, pushed_to, swept_to, drained_to, into_mask, calling, went, Made, Banked, Offers};
 
-use crate::rule::Place;
-use crate::types::{Custody, Seat};
-use crate::words::{BANK, CACHE, block_of, probed, pushed, reserved, row_of, swept};
+use crate::types::{Caller, Custody, Seat};
+use crate::words::{BANK, CACHE, probed, pushed, reserved, slot_block, slot_row, swept};
 use hd_mask::{bit, lowest};
 use hd_model::limits::{BLOCKS, KINDS, ROWS};
 use hd_model::{Held, Kind, Slot};
@@ -21,7 +21,7 @@ use hd_model::{Held, Kind, Slot};
 const ALL_ROWS: u64 = u64::MAX;
 
 impl<W: Held> Custody<W> {
-    /// A slot of the kind that was in no other hand, and now is in this one: from the kind's quick
+    /// A slot of the kind that no seat held, and that this one holds now: from the kind's quick
     /// word, its cells, or the mask of a block, which then fills the reserve cells. `None` comes
     /// where all of these gave none, also while others carry slots between them. It never waits.
     pub fn allocate(&self, seat: &mut Seat<W>, kind: Kind) -> Option<Slot>
@@ -31,15 +31,13 @@ impl<W: Held> Custody<W> {
             seat.old.view seat.new.view }
         ensures none { IsNone result ↔ WholeMiss (kind_number kind) self.now.blocks
             seat.new.view.trace }
-        ensures each_word { IsNone result → FoundNone (kind_number kind) self.now.blocks
-            seat.new.view.trace }
         ensures fresh { IfSome result (λ slot. Fresh W.Held seat.old.view slot.0) }
-        ensures kind { IfSome result (λ slot. KindIs W.Held seat.old.view (block_of slot.0)
+        ensures kind { IfSome result (λ slot. KindIs W.Held seat.old.view (slot_block slot.0)
             (kind_number kind + 1)) }
     {
         // Read for the proof alone: it states the number of blocks.
         let _blocks = self.blocks;
-        let slot = self.find(&mut seat.place, kind.number());
+        let slot = self.find(&mut seat.caller, kind.number());
         if slot == 0 {
             None
         } else {
@@ -47,39 +45,35 @@ impl<W: Held> Custody<W> {
         }
     }
 
-    fn find(&self, place: &mut Place<W>, kind: u32) -> u64
-        requires seat { (place.old.table_id ≡ self.now.table) × (place.old.me.0.is_spent ≡ false) }
+    fn find(&self, caller: &mut Caller<W>, kind: u32) -> u64
+        requires seat { caller.old.table ≡ self.now.table }
         requires kind { kind < KINDS }
-        requires kinded { Kinded place.old.me.0.hand }
-        ensures table { place.new.table_id ≡ place.old.table_id }
-        ensures made { Began kind self.now.blocks (probe 0)
-            (with_slot result (kind + 1) place.old.me.0.hand)
-            (told missed result) place.old.me place.new.me }
-        ensures offers { Offers W.Held kind place.old.me.0 result }
+        requires kinded { Kinded caller.old.view.held }
+        ensures made { Made kind self.now.blocks (probe 0) (told missed result)
+            (with_slot result (kind + 1) caller.old.view.held) (calling caller.old) caller.new }
+        ensures offers { Offers W.Held kind caller.old.view result }
     {
-        let slot = self.probe(place, kind);
+        let slot = self.probe(caller, kind);
         if slot != 0 {
             return slot;
         }
-        self.search(place, kind)
+        self.search(caller, kind)
     }
 
     // The quick word and the cells, one after another.
-    fn probe(&self, place: &mut Place<W>, kind: u32) -> u64
-        requires seat { (place.old.table_id ≡ self.now.table) × (place.old.me.0.is_spent ≡ false) }
+    fn probe(&self, caller: &mut Caller<W>, kind: u32) -> u64
+        requires seat { caller.old.table ≡ self.now.table }
         requires kind { kind < KINDS }
-        ensures table { place.new.table_id ≡ place.old.table_id }
-        ensures made { Began kind self.now.blocks (probe 0)
-            (with_slot result (kind + 1) place.old.me.0.hand)
-            (told (to_look self.now.blocks 1) result) place.old.me place.new.me }
-        ensures offers { Offers W.Held kind place.old.me.0 result }
+        ensures made { Made kind self.now.blocks (probe 0) (told (to_look self.now.blocks 1) result)
+            (with_slot result (kind + 1) caller.old.view.held) (calling caller.old) caller.new }
+        ensures offers { Offers W.Held kind caller.old.view result }
     {
-        let first = self.begin(place, probed(kind, 0), 0);
+        let first = self.begin(caller, probed(kind, 0), 0);
         if first != 0 {
             return first;
         }
         for n in 1..CACHE {
-            let slot = self.exchange(place, probed(kind, n), 0);
+            let slot = self.exchange(caller, probed(kind, n), 0);
             if slot != 0 {
                 return slot;
             }
@@ -88,19 +82,16 @@ impl<W: Held> Custody<W> {
     }
 
     // The masks of the blocks, one after another.
-    fn search(&self, place: &mut Place<W>, kind: u32) -> u64
-        requires seat { (place.old.table_id ≡ self.now.table) × (place.old.me.0.is_spent ≡ false) }
+    fn search(&self, caller: &mut Caller<W>, kind: u32) -> u64
+        requires seat { caller.old.table ≡ self.now.table }
         requires kind { kind < KINDS }
-        requires kinded { Kinded place.old.me.0.hand }
-        requires due { At kind self.now.blocks (probe 0) (to_look self.now.blocks 1) place.old.me }
-        ensures table { place.new.table_id ≡ place.old.table_id }
-        ensures made { Made kind self.now.blocks (probe 0)
-            (with_slot result (kind + 1) place.old.me.0.hand)
-            (told missed result) place.old.me place.new.me }
-        ensures offers { Offers W.Held kind place.old.me.0 result }
+        requires kinded { Kinded caller.old.view.held }
+        ensures made { Made kind self.now.blocks (to_look self.now.blocks 1) (told missed result)
+            (with_slot result (kind + 1) caller.old.view.held) caller.old caller.new }
+        ensures offers { Offers W.Held kind caller.old.view result }
     {
         for block in 1..self.blocks + 1 {
-            let slot = self.take_from(place, kind, block);
+            let slot = self.take_from(caller, kind, block);
             if slot != 0 {
                 return slot;
             }
@@ -108,177 +99,162 @@ impl<W: Held> Custody<W> {
         0
     }
 
-    // One block: where it is of the kind and its mask gives something, the least row is the answer.
-    fn take_from(&self, place: &mut Place<W>, kind: u32, block: u32) -> u64
-        requires seat { (place.old.table_id ≡ self.now.table) × (place.old.me.0.is_spent ≡ false) }
+    // One block: where it is of the kind and its mask gives something, the least row is returned.
+    fn take_from(&self, caller: &mut Caller<W>, kind: u32, block: u32) -> u64
+        requires seat { caller.old.table ≡ self.now.table }
         requires kind { kind < KINDS }
-        requires block { (0 < block) × (block < BLOCKS + 1) }
-        requires kinded { Kinded place.old.me.0.hand }
-        requires due { At kind self.now.blocks (probe 0) (look block) place.old.me }
-        ensures table { place.new.table_id ≡ place.old.table_id }
-        ensures made { Made kind self.now.blocks (probe 0)
-            (with_slot result (kind + 1) place.old.me.0.hand)
-            (told (to_look self.now.blocks (block + 1)) result) place.old.me place.new.me }
-        ensures offers { Offers W.Held kind place.old.me.0 result }
+        requires block { IsBlock block }
+        requires kinded { Kinded caller.old.view.held }
+        ensures made { Made kind self.now.blocks (look block)
+            (told (to_look self.now.blocks (block + 1)) result)
+            (with_slot result (kind + 1) caller.old.view.held) caller.old caller.new }
+        ensures offers { Offers W.Held kind caller.old.view result }
     {
-        if self.look(place, block) != kind as u64 + 1 {
-            return 0;
-        }
-        let mask = self.drain(place, block);
+        let mask = self.take_rows(caller, kind, block);
         let Some(row) = lowest(mask) else {
             return 0;
         };
-        let again = self.look(place, block);
+        let again = self.look(caller, block);
         if again != kind as u64 + 1 {
             // The block lost its kind, or got another, between the two loads.
-            self.put_back(place, block, mask);
+            self.put_back(caller, block, mask);
             return 0;
         }
-        self.share_out(place, kind, block, row, mask ^ bit(row));
+        self.share_out(caller, kind, block, mask ^ bit(row));
         ROWS as u64 * block as u64 + row as u64
     }
 
-    // The rows of a block but its answer go into the reserve cells, and what is left after the last
-    // cell goes back into the mask.
-    fn share_out(&self, place: &mut Place<W>, kind: u32, block: u32, row: u32, mask: u64)
-        requires seat { (place.old.table_id ≡ self.now.table) × (place.old.me.0.is_spent ≡ false) }
-        requires kind { kind < KINDS }
-        requires block { (0 < block) × (block < BLOCKS + 1) }
-        requires row { (row < ROWS) × (bit_at mask row ≡ 0) }
-        requires hand { (h : List (ℕ × ℕ)) × (place.old.me.0.hand ≡ held block row mask
-            (kind + 1) ++ h) × Apart block mask h }
-        requires due { At kind self.now.blocks (probe 0) (to_bank block (ROWS * block + row) 0 mask)
-            place.old.me }
-        ensures table { place.new.table_id ≡ place.old.table_id }
-        ensures made { (h : List (ℕ × ℕ)) → place.old.me.0.hand ≡ held block row mask
-            (kind + 1) ++ h → Apart block mask h
-            → Made kind self.now.blocks (probe 0) ((ROWS * block + row, kind + 1) ∷ h)
-            (found (ROWS * block + row)) place.old.me place.new.me }
+    // What the mask of a block gave, where the block is of the kind: its slots have no kind yet.
+    fn take_rows(&self, caller: &mut Caller<W>, kind: u32, block: u32) -> u64
+        requires seat { caller.old.table ≡ self.now.table }
+        requires block { IsBlock block }
+        requires kinded { Kinded caller.old.view.held }
+        ensures fresh { (r : ℕ) → r < ROWS → bit_at result r ≡ 1
+            → Fresh W.Held caller.old.view (ROWS * block + r) }
+        ensures probed { Made kind self.now.blocks (look block)
+            (cond (result == 0) (to_look self.now.blocks (block + 1)) (again block result))
+            (rows block result 0 ++ caller.old.view.held) caller.old caller.new }
+        ensures gathered { Made kind self.now.blocks (look_whole block)
+            (cond (result == 0) (to_look_whole self.now.blocks (block + 1)) (drained_to block result))
+            (rows block result 0 ++ caller.old.view.held) caller.old caller.new }
     {
-        let left = self.fill_cells(place, kind, block, row, mask);
+        if self.look(caller, block) != kind as u64 + 1 {
+            return 0;
+        }
+        self.drain(caller, block)
+    }
+
+    // The rows of a block go into the reserve cells, and what is left after the last cell goes back
+    // into the mask.
+    fn share_out(&self, caller: &mut Caller<W>, kind: u32, block: u32, mask: u64)
+        requires seat { caller.old.table ≡ self.now.table }
+        requires kind { kind < KINDS }
+        requires block { IsBlock block }
+        requires rows { HasRowsAs block mask (kind + 1) caller.old.view.held }
+        ensures made { (slot : ℕ) → Made kind self.now.blocks (to_bank block slot 0 mask)
+            (found slot) (without_rows block mask caller.old.view.held) caller.old caller.new }
+    {
+        let left = self.fill_cells(caller, kind, block, mask);
         if left != 0 {
-            self.put_back(place, block, left);
+            self.put_back(caller, block, left);
         }
     }
 
-    // Offers the rows to the reserve cells, one to each, and answers those that are left.
-    fn fill_cells(&self, place: &mut Place<W>, kind: u32, block: u32, row: u32, mask: u64) -> u64
-        requires seat { (place.old.table_id ≡ self.now.table) × (place.old.me.0.is_spent ≡ false) }
+    // Offers the rows to the reserve cells, one to each, and returns those that are left.
+    fn fill_cells(&self, caller: &mut Caller<W>, kind: u32, block: u32, mask: u64) -> u64
+        requires seat { caller.old.table ≡ self.now.table }
         requires kind { kind < KINDS }
-        requires block { (0 < block) × (block < BLOCKS + 1) }
-        requires row { (row < ROWS) × (bit_at mask row ≡ 0) }
-        requires hand { (h : List (ℕ × ℕ)) × (place.old.me.0.hand ≡ held block row mask
-            (kind + 1) ++ h) × Apart block mask h }
-        requires due { At kind self.now.blocks (probe 0) (to_bank block (ROWS * block + row) 0 mask)
-            place.old.me }
-        ensures table { place.new.table_id ≡ place.old.table_id }
-        ensures row { bit_at result row ≡ 0 }
-        ensures within { (r : ℕ) → bit_at result r ≤ bit_at mask r }
-        ensures made { (h : List (ℕ × ℕ)) → place.old.me.0.hand ≡ held block row mask
-            (kind + 1) ++ h → Apart block mask h
-            → Made kind self.now.blocks (probe 0) (held block row result (kind + 1) ++ h)
-            (to_bank block (ROWS * block + row) BANK result) place.old.me place.new.me }
+        requires block { IsBlock block }
+        requires rows { HasRowsAs block mask (kind + 1) caller.old.view.held }
+        ensures banked { Banked kind self.now.blocks block (0, mask) (BANK, result) caller.old
+            caller.new }
     {
         let mut left = mask;
         for i in 0..BANK {
-            left = self.offer(place, kind, block, row, i, left);
+            left = self.offer(caller, kind, block, i, left);
         }
         left
     }
 
     // Offers the least row that is left, if there is one, to one reserve cell.
-    fn offer(&self, place: &mut Place<W>, kind: u32, block: u32, row: u32, i: u32, left: u64) -> u64
-        requires seat { (place.old.table_id ≡ self.now.table) × (place.old.me.0.is_spent ≡ false) }
+    fn offer(&self, caller: &mut Caller<W>, kind: u32, block: u32, i: u32, left: u64) -> u64
+        requires seat { caller.old.table ≡ self.now.table }
         requires kind { (kind < KINDS) × (i < BANK) }
-        requires block { (0 < block) × (block < BLOCKS + 1) }
-        requires row { (row < ROWS) × (bit_at left row ≡ 0) }
-        requires hand { (h : List (ℕ × ℕ)) × (place.old.me.0.hand ≡ held block row left
-            (kind + 1) ++ h) × Apart block left h }
-        requires due { At kind self.now.blocks (probe 0) (to_bank block (ROWS * block + row) i left)
-            place.old.me }
-        ensures table { place.new.table_id ≡ place.old.table_id }
-        ensures row { bit_at result row ≡ 0 }
-        ensures within { (r : ℕ) → bit_at result r ≤ bit_at left r }
-        ensures made { (h : List (ℕ × ℕ)) → place.old.me.0.hand ≡ held block row left
-            (kind + 1) ++ h → Apart block left h
-            → Made kind self.now.blocks (probe 0) (held block row result (kind + 1) ++ h)
-            (to_bank block (ROWS * block + row) (i + 1) result) place.old.me place.new.me }
+        requires block { IsBlock block }
+        requires rows { HasRowsAs block left (kind + 1) caller.old.view.held }
+        ensures banked { Banked kind self.now.blocks block (i, left) (i + 1, result) caller.old
+            caller.new }
     {
         let Some(next) = lowest(left) else {
             return left;
         };
         let slot = ROWS as u64 * block as u64 + next as u64;
-        if !self.bank(place, reserved(kind, i), slot) {
+        if !self.bank(caller, reserved(kind, i), slot) {
             return left;
         }
         left ^ bit(next)
     }
 
-    /// Puts a slot of the hand, of this kind, where others can take it: into the kind's quick word,
+    /// Puts a slot held, of this kind, where others can take it: into the kind's quick word,
     /// whose slot goes into a free cell, whose slot goes into the next, and the last into the mask
     /// of its block. It never waits.
     pub fn release(&self, seat: &mut Seat<W>, kind: Kind, slot: Slot)
         requires seat { seat.old.table ≡ self.now.table }
-        requires slot { HasAs (slot.0, kind_number kind + 1) seat.old.view.hand }
+        requires slot { HasAs (slot.0, kind_number kind + 1) seat.old.view.held }
         ensures table { seat.new.table ≡ seat.old.table }
         ensures done { Releases (kind_number kind) self.now.blocks slot.0 seat.old.view
             seat.new.view }
     {
         // Read for the proof alone: it states the number of blocks.
         let _blocks = self.blocks;
-        self.let_go(&mut seat.place, kind.number(), slot.0 as u64);
+        self.let_go(&mut seat.caller, kind.number(), slot.0 as u64);
     }
 
-    fn let_go(&self, place: &mut Place<W>, kind: u32, slot: u64)
-        requires seat { (place.old.table_id ≡ self.now.table) × (place.old.me.0.is_spent ≡ false) }
+    fn let_go(&self, caller: &mut Caller<W>, kind: u32, slot: u64)
+        requires seat { caller.old.table ≡ self.now.table }
         requires kind { kind < KINDS }
-        requires slot { (ROWS ≤ slot) × HasAs (slot, kind + 1) place.old.me.0.hand }
-        ensures table { place.new.table_id ≡ place.old.table_id }
-        ensures made { Began kind self.now.blocks (push 0 slot) (without slot place.old.me.0.hand)
-            (found 0) place.old.me place.new.me }
+        requires slot { (ROWS ≤ slot) × HasAs (slot, kind + 1) caller.old.view.held }
+        ensures made { Made kind self.now.blocks (push 0 slot) (found 0)
+            (without slot caller.old.view.held) (calling caller.old) caller.new }
     {
-        let left = self.push(place, kind, slot);
+        let left = self.push(caller, kind, slot);
         if left != 0 {
-            self.put_slot_back(place, left);
+            self.put_slot_back(caller, left);
         }
     }
 
     // A slot goes into the mask of its block.
-    fn put_slot_back(&self, place: &mut Place<W>, slot: u64)
-        requires seat { (place.old.table_id ≡ self.now.table) × (place.old.me.0.is_spent ≡ false) }
-        requires slot { IsSlot slot × Has slot place.old.me.0.hand }
-        ensures table { place.new.table_id ≡ place.old.table_id }
-        ensures view { (there : ℕ) × (place.new.me ≡ (
-          restored (mask_word (block_of slot)) (2 ^ row_of slot) there place.old.me.0,
-          place.old.me.1,
-        )) }
+    fn put_slot_back(&self, caller: &mut Caller<W>, slot: u64)
+        requires seat { caller.old.table ≡ self.now.table }
+        requires slot { IsSlot slot × Has slot caller.old.view.held }
+        ensures view { (there : ℕ) × (caller.new ≡ went (without slot caller.old.view.held)
+            (into_mask slot there ∷ []) caller.old) }
     {
-        self.put_back(place, block_of(slot), bit(row_of(slot)));
+        self.put_back(caller, slot_block(slot), bit(slot_row(slot)));
     }
 
     // The slot goes into the quick word, what was there into a free cell, and so on: what is left.
-    fn push(&self, place: &mut Place<W>, kind: u32, slot: u64) -> u64
-        requires seat { (place.old.table_id ≡ self.now.table) × (place.old.me.0.is_spent ≡ false) }
+    fn push(&self, caller: &mut Caller<W>, kind: u32, slot: u64) -> u64
+        requires seat { caller.old.table ≡ self.now.table }
         requires kind { kind < KINDS }
-        requires slot { (ROWS ≤ slot) × HasAs (slot, kind + 1) place.old.me.0.hand }
-        ensures table { place.new.table_id ≡ place.old.table_id }
-        ensures left { result ≢ 0 → (ROWS ≤ result) × (result < ROWS * (BLOCKS + 1))
-            × (in_hand result (without slot place.old.me.0.hand) ≡ 0) }
-        ensures made { Began kind self.now.blocks (push 0 slot)
-            (with_slot result (kind + 1) (without slot place.old.me.0.hand))
-            (cond (result == 0) (found 0) (to_push ROWS result)) place.old.me place.new.me }
+        requires slot { (ROWS ≤ slot) × HasAs (slot, kind + 1) caller.old.view.held }
+        ensures left { result ≢ 0 → IsSlot result
+            × (held_times result (without slot caller.old.view.held) ≡ 0) }
+        ensures made { Made kind self.now.blocks (push 0 slot) (pushed_to ROWS result)
+            (with_slot result (kind + 1) (without slot caller.old.view.held)) (calling caller.old)
+            caller.new }
     {
-        let mut left = self.begin(place, pushed(kind, 0), slot);
+        let mut left = self.begin(caller, pushed(kind, 0), slot);
         for n in 1..ROWS {
             if left == 0 {
                 return left;
             }
-            left = self.exchange(place, pushed(kind, n), left);
+            left = self.exchange(caller, pushed(kind, n), left);
         }
         left
     }
 
-    /// A block of the kind, all of whose slots now are in this hand: all that the kind's cache has
+    /// A block of the kind, all of whose slots now are held: all that the kind's cache has
     /// goes into the masks, and a mask of all rows is taken. `None` comes where no block's was so.
     /// It never waits.
     pub fn gather(&self, seat: &mut Seat<W>, kind: Kind) -> Option<u32>
@@ -290,23 +266,21 @@ impl<W: Held> Custody<W> {
     {
         // Read for the proof alone: it states the number of blocks.
         let _blocks = self.blocks;
-        let block = self.collect(&mut seat.place, kind.number());
+        let block = self.collect(&mut seat.caller, kind.number());
         if block == 0 { None } else { Some(block) }
     }
 
-    fn collect(&self, place: &mut Place<W>, kind: u32) -> u32
-        requires seat { (place.old.table_id ≡ self.now.table) × (place.old.me.0.is_spent ≡ false) }
+    fn collect(&self, caller: &mut Caller<W>, kind: u32) -> u32
+        requires seat { caller.old.table ≡ self.now.table }
         requires kind { kind < KINDS }
-        requires kinded { Kinded place.old.me.0.hand }
-        ensures table { place.new.table_id ≡ place.old.table_id }
+        requires kinded { Kinded caller.old.view.held }
         ensures block { result ≤ self.now.blocks }
-        ensures made { Began kind self.now.blocks (sweep 0)
-            (with_block result (kind + 1) place.old.me.0.hand)
-            (told missed result) place.old.me place.new.me }
+        ensures made { Made kind self.now.blocks (sweep 0) (told missed result)
+            (with_block result (kind + 1) caller.old.view.held) (calling caller.old) caller.new }
     {
-        self.empty_cache(place, kind);
+        self.empty_cache(caller, kind);
         for block in 1..1 + self.blocks {
-            if self.take_whole(place, kind, block) {
+            if self.take_whole(caller, kind, block) {
                 return block;
             }
         }
@@ -314,87 +288,69 @@ impl<W: Held> Custody<W> {
     }
 
     // All that the cache has goes into the masks.
-    fn empty_cache(&self, place: &mut Place<W>, kind: u32)
-        requires seat { (place.old.table_id ≡ self.now.table) × (place.old.me.0.is_spent ≡ false) }
+    fn empty_cache(&self, caller: &mut Caller<W>, kind: u32)
+        requires seat { caller.old.table ≡ self.now.table }
         requires kind { kind < KINDS }
-        ensures table { place.new.table_id ≡ place.old.table_id }
-        ensures made { Began kind self.now.blocks (sweep 0) place.old.me.0.hand
-            (to_look_whole self.now.blocks 1) place.old.me place.new.me }
+        ensures made { Made kind self.now.blocks (sweep 0) (to_look_whole self.now.blocks 1)
+            caller.old.view.held (calling caller.old) caller.new }
     {
-        let first = self.begin(place, swept(kind, 0), 0);
-        self.settle(place, kind, 0, first);
+        let first = self.begin(caller, swept(kind, 0), 0);
+        self.settle(caller, first);
         for n in 1..CACHE {
-            let slot = self.exchange(place, swept(kind, n), 0);
-            self.settle(place, kind, n, slot);
+            let slot = self.exchange(caller, swept(kind, n), 0);
+            self.settle(caller, slot);
         }
     }
 
     // A slot that came from the cache goes into its mask.
-    fn settle(&self, place: &mut Place<W>, kind: u32, n: u32, slot: u64)
-        requires seat { (place.old.table_id ≡ self.now.table) × (place.old.me.0.is_spent ≡ false) }
-        requires slot { slot ≢ 0 → IsSlot slot }
-        requires hand { (h : List (ℕ × ℕ)) × (place.old.me.0.hand ≡ with_slot slot (kind + 1) h)
-            × (slot ≢ 0 → in_hand slot h ≡ 0) }
-        requires due { At kind self.now.blocks (sweep 0) (swept_to self.now.blocks n slot)
-            place.old.me }
-        ensures table { place.new.table_id ≡ place.old.table_id }
-        ensures made { (h : List (ℕ × ℕ)) → place.old.me.0.hand ≡ with_slot slot (kind + 1) h
-            → (slot ≢ 0 → in_hand slot h ≡ 0)
-            → Made kind self.now.blocks (sweep 0) h (to_sweep self.now.blocks (n + 1)) place.old.me
-            place.new.me }
+    fn settle(&self, caller: &mut Caller<W>, slot: u64)
+        requires seat { caller.old.table ≡ self.now.table }
+        requires slot { slot ≢ 0 → IsSlot slot × Has slot caller.old.view.held }
+        ensures made { (k n : ℕ) → Made k self.now.blocks (swept_to self.now.blocks n slot)
+            (to_sweep self.now.blocks (n + 1)) (put_out slot caller.old.view.held) caller.old
+            caller.new }
     {
         if slot != 0 {
-            self.put_slot_back(place, slot);
+            self.put_slot_back(caller, slot);
         }
     }
 
     // One block: whether it is of the kind and all its slots came.
-    fn take_whole(&self, place: &mut Place<W>, kind: u32, block: u32) -> bool
-        requires seat { (place.old.table_id ≡ self.now.table) × (place.old.me.0.is_spent ≡ false) }
-        requires block { (0 < block) × (block < BLOCKS + 1) }
-        requires kinded { Kinded place.old.me.0.hand }
-        requires due { At kind self.now.blocks (sweep 0) (look_whole block) place.old.me }
-        ensures table { place.new.table_id ≡ place.old.table_id }
-        ensures made { Made kind self.now.blocks (sweep 0)
-            (cond result (rows block every_row (kind + 1) ++ place.old.me.0.hand)
-            place.old.me.0.hand)
-            (cond result (found block) (to_look_whole self.now.blocks (block + 1))) place.old.me
-            place.new.me }
+    fn take_whole(&self, caller: &mut Caller<W>, kind: u32, block: u32) -> bool
+        requires seat { caller.old.table ≡ self.now.table }
+        requires block { IsBlock block }
+        requires kinded { Kinded caller.old.view.held }
+        ensures whole { result ≡ true → Made kind self.now.blocks (look_whole block) (found block)
+            (rows block every_row (kind + 1) ++ caller.old.view.held) caller.old caller.new }
+        ensures part { result ≡ false → Made kind self.now.blocks (look_whole block)
+            (to_look_whole self.now.blocks (block + 1)) caller.old.view.held caller.old caller.new }
     {
-        if self.look(place, block) != kind as u64 + 1 {
-            return false;
-        }
-        let mask = self.drain(place, block);
+        let mask = self.take_rows(caller, kind, block);
         if mask == 0 {
             return false;
         }
-        if self.stays_whole(place, kind, block, mask) {
+        if self.stays_whole(caller, kind, block, mask) {
             return true;
         }
-        self.put_back(place, block, mask);
+        self.put_back(caller, block, mask);
         false
     }
 
     // Whether all rows came, and the block still is of the kind.
-    fn stays_whole(&self, place: &mut Place<W>, kind: u32, block: u32, mask: u64) -> bool
-        requires seat { (place.old.table_id ≡ self.now.table) × (place.old.me.0.is_spent ≡ false) }
-        requires block { (0 < block) × (block < BLOCKS + 1) }
-        requires hand { (h : List (ℕ × ℕ)) × (place.old.me.0.hand ≡ rows block mask 0 ++ h)
-            × Kinded h }
-        requires due { At kind self.now.blocks (sweep 0) (drained_to block mask) place.old.me }
-        ensures table { place.new.table_id ≡ place.old.table_id }
-        ensures whole { (h : List (ℕ × ℕ)) → place.old.me.0.hand ≡ rows block mask 0 ++ h → Kinded h
-            → result ≡ true
-            → Made kind self.now.blocks (sweep 0) (rows block every_row (kind + 1) ++ h)
-            (found block) place.old.me place.new.me }
-        ensures part { (h : List (ℕ × ℕ)) → place.old.me.0.hand ≡ rows block mask 0 ++ h → Kinded h
-            → result ≡ false
-            → (y : ℕ) × Made kind self.now.blocks (sweep 0) (rows block mask y ++ h)
-            (back_part block mask) place.old.me place.new.me }
+    fn stays_whole(&self, caller: &mut Caller<W>, kind: u32, block: u32, mask: u64) -> bool
+        requires seat { caller.old.table ≡ self.now.table }
+        requires block { IsBlock block }
+        ensures whole { (h : List (ℕ × ℕ)) → caller.old.view.held ≡ rows block mask 0 ++ h
+            → Kinded h → result ≡ true → Made kind self.now.blocks (drained_to block mask)
+            (found block) (rows block every_row (kind + 1) ++ h) caller.old caller.new }
+        ensures part { (h : List (ℕ × ℕ)) → caller.old.view.held ≡ rows block mask 0 ++ h
+            → Kinded h → result ≡ false → (y : ℕ) × Made kind self.now.blocks
+            (drained_to block mask) (back_part block mask) (rows block mask y ++ h) caller.old
+            caller.new }
     {
         if mask != ALL_ROWS {
             return false;
         }
-        self.look(place, block) == kind as u64 + 1
+        self.look(caller, block) == kind as u64 + 1
     }
 }

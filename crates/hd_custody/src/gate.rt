@@ -3,19 +3,21 @@ ghost use Rattle.std.specs.Prelude.{◌≡◌, ◌≢◌, ℕ, ◌+◌, ◌*◌,
 ghost use Rattle.std.specs.Prelude.{IfOk, IfSome, OnSome, IfNone, Some};
 ghost use Rattle.std.specs.Bool.{OnTrue, OnFalse};
 ghost use Rattle.hd_model.specs.Kinds.{kind_number, is_paired};
-ghost use Rattle.hd_custody.specs.Counts.{in_hand, changed, Has};
-ghost use Rattle.hd_custody.specs.Views.{starting, shared_out, given, joined, took, opened, closed, granted, gave_back, with_data};
+ghost use Rattle.hd_custody.specs.Counts.{held_times, changed, Has};
+ghost use Rattle.hd_custody.specs.Views.{starting, shared_out, given, joined, took, opened, closed, granted, gave_back};
+ghost use Rattle.hd_custody.specs.CallSteps.{IsBlock, with_view, carrying, storing_data};
 ghost use Rattle.hd_custody.specs.Views.{Follows, MayGrant, GrowsByBlocks, handle_block, extra_block};
 ghost use Rattle.hd_custody.specs.Rule.{Entered, Divided, IsUnused};
 
 use crate::plays::{Assign, Clear, Cut, Ends, Enter, Leave, Share};
-use crate::rule::{Board, Place};
-use crate::types::{Custody, Seat};
+use crate::rule::Board;
+use crate::types::{Caller, Custody, Seat};
 use crate::words::{EXTRA_DATA, GATE, WORDS};
 use atomic_table::{Refused, Table};
 use hd_model::limits::{BLOCKS, KINDS, ROWS};
 use hd_model::{Grown, Held, Kind, Memory};
 use std::alloc::{AllocError, Global};
+use std::hint::spin_loop;
 use std::marker::Brand;
 use std::snapshot::Snapshot;
 use std::sync::Wait;
@@ -33,8 +35,10 @@ const HELD: u32 = 1;
 // All rows of a block but row 0.
 const ROWS_AFTER_FIRST: u64 = u64::MAX - 1;
 
-// How often a caller that lost the gate looks whether it is free before it sleeps.
-const LOOKS: u32 = 64;
+// How often a caller that lost the gate looks whether it is free before it sleeps, with a pause of
+// the processor after each look: some tens of microseconds in all. Chosen by measuring, see
+// benches/README.md.
+const LOOKS: u32 = 2000;
 
 fn zeros(alloc: Global) -> Result<Vec<u64>, AllocError>
     ensures { IfOk result (λ v. v.items ≡ replicate WORDS 0) }
@@ -76,13 +80,14 @@ impl<W: Held> Custody<W> {
                     blocks,
                     sleepers,
                 };
-                Ok((custody, Seat { place }))
+                let caller = Caller { place };
+                Ok((custody, Seat { caller }))
             }
             Err(Refused { slots: _ }) => Err(Memory),
         }
     }
 
-    /// A seat for one caller more, with the next number and nothing in its hand. Of the entries
+    /// A seat for one caller more, with the next number and no slot held. Of the entries
     /// that seat 0 may still add, it gets `share`.
     pub fn split(&self, first: &mut Seat<W>, share: u32) -> Seat<W>
         requires seat { first.old.table ≡ self.now.table }
@@ -110,22 +115,28 @@ impl<W: Held> Custody<W> {
               given _share first.old.view;
         } }
     {
-        let place = self.table.shared.split_seat::<Cut<N>>(&mut first.place);
-        Seat { place }
+        let caller = &mut first.caller;
+        let place = self.table.shared.split_seat::<Cut<N>>(&mut caller.place);
+        let other = Caller { place };
+        Seat { caller: other }
     }
 
-    /// Ends a seat whose hand is empty and which has not got the gate. Its part is kept with seat
+    /// Ends a seat that holds no slot and has not got the gate. Its part is kept with seat
     /// 0, which also gets the entries that it might still have added.
     pub fn join(&self, first: &mut Seat<W>, ended: Seat<W>)
         requires seat { first.old.table ≡ self.now.table }
         requires other { ended.table ≡ self.now.table }
         requires first { first.old.view.number ≡ 0 }
-        requires empty { ended.view.hand ≡ [] }
+        requires empty { ended.view.held ≡ [] }
         requires gate { ended.view.has_gate ≡ false }
         ensures first { first.new ≡ record first.old { view = joined first.old.view ended.view } }
     {
-        let Seat { place } = ended;
-        self.table.shared.join_seat::<Ends>(&mut first.place, place);
+        let Seat { caller: other } = ended;
+        let Caller { place } = other;
+        let caller = &mut first.caller;
+        self.table
+            .shared
+            .join_seat::<Ends>(&mut caller.place, place);
     }
 
     /// The world, once all other seats were joined to seat 0. Its journal has of each caller
@@ -142,21 +153,19 @@ impl<W: Held> Custody<W> {
             blocks: _,
             sleepers: _,
         } = self;
-        let Seat { place } = first;
-        home(table, place)
+        let Seat { caller } = first;
+        home(table, caller)
     }
 
     // An exchange of the gate word with 1: whether the gate was free, and is this seat's now.
-    fn win(&self, place: &mut Place<W>) -> bool
-        requires seat { (place.old.table_id ≡ self.now.table) × (place.old.me.0.is_spent ≡ false) }
-        ensures table { place.new.table_id ≡ place.old.table_id }
-        ensures won { OnTrue result ((w : W)
-            × (place.new.me ≡ (took w place.old.me.0, (0, Some w) ∷ place.old.me.1))
-            × Entered W.Held place.old.me.0 w) }
-        ensures lost { OnFalse result (place.new.me ≡ place.old.me) }
+    fn win(&self, caller: &mut Caller<W>) -> bool
+        requires seat { caller.old.table ≡ self.now.table }
+        ensures won { OnTrue result ((w : W) × (caller.new ≡ carrying w caller.old)
+            × Entered W.Held caller.old.view w) }
+        ensures lost { OnFalse result (caller.new ≡ caller.old) }
     {
         let shared = &self.table.shared;
-        shared.swap::<Enter>(place, GATE, HELD as u64) == FREE
+        shared.swap::<Enter>(&mut caller.place, GATE, HELD as u64) == FREE
     }
 
     // The world, where the gate was free.
@@ -169,18 +178,20 @@ impl<W: Held> Custody<W> {
         }) }
         ensures entered { IfSome result (Entered W.Held seat.old.view) }
     {
-        if !self.win(&mut seat.place) {
+        let caller = &mut seat.caller;
+        if !self.win(caller) {
             return None;
         }
-        self.table.shared.exchange(&mut seat.place, WORLD, None)
+        self.table.shared.exchange(&mut caller.place, WORLD, None)
     }
 
-    // Whether the gate was free at one of a few looks. It says nothing for certain.
+    // Whether the gate was free at one of some looks. It says nothing for certain.
     fn looks_free(&self) -> bool {
         for _look in 0..LOOKS {
             if self.table.shared.peek(GATE) == FREE {
                 return true;
             }
+            spin_loop();
         }
         false
     }
@@ -201,7 +212,7 @@ impl<W: Held> Custody<W> {
     }
 
     /// Takes the gate, and with it the world. It may wait for whoever has it, and counts one step on
-    /// the gate: a try that fails changes nothing. No slot of the hand
+    /// the gate: a try that fails changes nothing. No slot held
     /// is live in that world, each that has a kind is there in a block of that kind, its journal
     /// has of this caller exactly the seat's part, and it has room for the entries that the seat
     /// may still add.
@@ -223,8 +234,8 @@ impl<W: Held> Custody<W> {
     }
 
     /// Gives the gate back with the world, and wakes a caller if any may sleep at it. Slots that
-    /// became live leave the hand, and slots that are live no more come into it, each with its
-    /// block's kind.
+    /// became live are held no more, and slots that are live no more are held, each with its block's
+    /// kind.
     pub fn leave(&self, seat: &mut Seat<W>, world: W)
         requires seat { seat.old.table ≡ self.now.table }
         requires gate { seat.old.view.has_gate ≡ true }
@@ -234,29 +245,29 @@ impl<W: Held> Custody<W> {
             → seat.new ≡ record seat.old { view = gave_back W.Held u world seat.old.view } }
     {
         let shared = &self.table.shared;
-        shared.exchange(&mut seat.place, WORLD, Some(world));
-        shared.store::<Leave>(&mut seat.place, GATE, FREE);
+        let caller = &mut seat.caller;
+        shared.exchange(&mut caller.place, WORLD, Some(world));
+        shared.store::<Leave>(&mut caller.place, GATE, FREE);
         self.wake();
     }
 
     // Stores the kind word of a block that has no kind.
-    fn assign(&self, place: &mut Place<W>, block: u32, kind: u64)
-        requires seat { (place.old.table_id ≡ self.now.table) × (place.old.me.0.is_spent ≡ false) }
-        requires gate { place.old.me.0.has_gate ≡ true }
-        requires block { (0 < block) × (block < BLOCKS + 1) × (0 < kind) }
-        requires no_kind { (u : W) × (place.old.me.0.taken ≡ Some u)
-            × (changed place.old.me.0.changes (W.kind u) block ≡ 0) }
-        ensures table { place.new.table_id ≡ place.old.table_id }
-        ensures view { place.new.me ≡ (opened block kind place.old.me.0, place.old.me.1) }
-        ensures apart { (r : ℕ) → r < ROWS → in_hand (ROWS * block + r) place.old.me.0.hand ≡ 0 }
+    fn assign(&self, caller: &mut Caller<W>, block: u32, kind: u64)
+        requires seat { caller.old.table ≡ self.now.table }
+        requires gate { caller.old.view.has_gate ≡ true }
+        requires block { IsBlock block × (0 < kind) }
+        requires no_kind { (u : W) × (caller.old.view.taken ≡ Some u)
+            × (changed caller.old.view.changes (W.kind u) block ≡ 0) }
+        ensures view { caller.new ≡ with_view (opened block kind caller.old.view) caller.old }
+        ensures apart { (r : ℕ) → r < ROWS → held_times (ROWS * block + r) caller.old.view.held ≡ 0 }
     {
         self.table
             .shared
-            .store::<Assign>(place, block as usize, kind);
+            .store::<Assign>(&mut caller.place, block as usize, kind);
     }
 
     /// Gives a kind to a block without one, and for a paired kind makes another its data block. Row
-    /// 0 of the block stays in the hand, and the others go into its mask.
+    /// 0 of the block stays held, and the others go into its mask.
     pub fn grant(&self, seat: &mut Seat<W>, kind: Kind, grown: Grown)
         requires seat { seat.old.table ≡ self.now.table }
         requires gate { seat.old.view.has_gate ≡ true }
@@ -271,71 +282,64 @@ impl<W: Held> Custody<W> {
         let _blocks = self.blocks;
         match grown {
             Grown::Zero => unreachable!(),
-            Grown::One(block) => self.give(&mut seat.place, kind.number(), block, 0),
-            Grown::Two(block, extra) => self.give(&mut seat.place, kind.number(), block, extra),
+            Grown::One(block) => self.give(&mut seat.caller, kind.number(), block, 0),
+            Grown::Two(block, extra) => self.give(&mut seat.caller, kind.number(), block, extra),
             Grown::Back(_) => unreachable!(),
         }
     }
 
     // Makes a block without a kind a data block. Block 0 is none.
-    fn assign_data(&self, place: &mut Place<W>, block: u32)
-        requires seat { (place.old.table_id ≡ self.now.table) × (place.old.me.0.is_spent ≡ false) }
-        requires gate { place.old.me.0.has_gate ≡ true }
+    fn assign_data(&self, caller: &mut Caller<W>, block: u32)
+        requires seat { caller.old.table ≡ self.now.table }
+        requires gate { caller.old.view.has_gate ≡ true }
         requires block { block < BLOCKS + 1 }
-        requires no_kind { (u : W) × (place.old.me.0.taken ≡ Some u)
-            × (block ≢ 0 → changed place.old.me.0.changes (W.kind u) block ≡ 0) }
-        ensures table { place.new.table_id ≡ place.old.table_id }
-        ensures view { place.new.me ≡ (
-          record place.old.me.0 {
-            changes =
-                with_data block place.old.me.0.changes;
-          },
-          place.old.me.1,
-        ) }
+        requires no_kind { (u : W) × (caller.old.view.taken ≡ Some u)
+            × (block ≢ 0 → changed caller.old.view.changes (W.kind u) block ≡ 0) }
+        ensures view { caller.new ≡ with_view (storing_data block caller.old.view) caller.old }
     {
         if block != 0 {
-            self.assign(place, block, EXTRA_DATA);
+            self.assign(caller, block, EXTRA_DATA);
         }
     }
 
     // The stores of a grant, by the number of the kind. Block 0 is no data block.
-    fn give(&self, place: &mut Place<W>, kind: u32, block: u32, extra: u32)
-        requires seat { (place.old.table_id ≡ self.now.table) × (place.old.me.0.is_spent ≡ false) }
-        requires gate { place.old.me.0.has_gate ≡ true }
+    fn give(&self, caller: &mut Caller<W>, kind: u32, block: u32, extra: u32)
+        requires seat { caller.old.table ≡ self.now.table }
+        requires gate { caller.old.view.has_gate ≡ true }
         requires kind { kind < KINDS }
-        requires blocks { MayGrant W.Held self.now.blocks block extra place.old.me.0 }
-        ensures table { place.new.table_id ≡ place.old.table_id }
-        ensures view { place.new.me ≡ (granted kind block extra place.old.me.0, place.old.me.1) }
+        requires blocks { MayGrant W.Held self.now.blocks block extra caller.old.view }
+        ensures view { caller.new ≡ with_view (granted kind block extra caller.old.view) caller.old }
     {
         // Read for the proof alone: it states how many blocks there are at most.
         let _blocks = self.blocks;
-        self.assign(place, block, kind as u64 + 1);
-        self.assign_data(place, extra);
-        self.fill(place, block, ROWS_AFTER_FIRST);
+        self.assign(caller, block, kind as u64 + 1);
+        self.assign_data(caller, extra);
+        self.fill(caller, block, ROWS_AFTER_FIRST);
     }
 
-    /// Takes the kind of a block whose slots are all in the hand, which they leave.
+    /// Takes the kind of a block whose slots are all held, and then are held no more.
     pub fn withdraw(&self, seat: &mut Seat<W>, block: u32)
         requires seat { seat.old.table ≡ self.now.table }
         requires gate { seat.old.view.has_gate ≡ true }
-        requires all { (r : ℕ) → r < ROWS → Has (ROWS * block + r) seat.old.view.hand }
+        requires all { (r : ℕ) → r < ROWS → Has (ROWS * block + r) seat.old.view.held }
         ensures view { seat.new ≡ record seat.old { view = closed block seat.old.view } }
     {
+        let caller = &mut seat.caller;
         self.table
             .shared
-            .store::<Clear>(&mut seat.place, block as usize, 0);
+            .store::<Clear>(&mut caller.place, block as usize, 0);
     }
 }
 
 // What the slot of a table has at its end.
-fn home<W: Held>(table: Board<W>, place: Place<W>) -> W
-    requires seat { place.table_id ≡ table.shared.table_id }
+fn home<W: Held>(table: Board<W>, caller: Caller<W>) -> W
+    requires seat { caller.table ≡ table.shared.table_id }
     requires slots { table.shared.table_id.slots ≡ 1 }
-    requires first { (place.me.0.is_spent ≡ false) × (place.me.0.number ≡ 0)
-        × (place.me.0.has_gate ≡ false) }
-    requires all { length place.me.0.ended + 1 ≡ place.me.0.made }
-    ensures { Divided W.Held place.me.0 result }
+    requires first { (caller.view.number ≡ 0) × (caller.view.has_gate ≡ false) }
+    requires all { length caller.view.ended + 1 ≡ caller.view.made }
+    ensures { Divided W.Held caller.view result }
 {
+    let Caller { place } = caller;
     let mut closed = table.close_with(place);
     let world = closed.take(WORLD);
     closed.free();

@@ -1,3 +1,4 @@
+ghost use Rattle.hd_custody.specs.Misses.{MissesFoundNone};
 ghost use Rattle.hd_custody.specs.Laws.{EachSlotIsInOnePlace, WordsAreNumbered, KindWordsAreNumbered, BoundsAreNumbered};
 
 use hd_model::Held;
@@ -7,6 +8,12 @@ use hd_model::Held;
 /// any other block is in none. So no slot is given twice, and none is lost.
 pub fn each_slot_is_in_one_place<W: Held>()
     ensures { EachSlotIsInOnePlace W.Held }
+{}
+
+/// A whole miss found no slot in any word of the kind: each quick word and cell gave 0, and the mask
+/// of each block whose kind word was the kind gave 0, or the kind word loaded after it was another.
+pub fn misses_found_none()
+    ensures { MissesFoundNone }
 {}
 
 /// The numbers of the words, the values of a kind word, and the bounds of the calls, as numerals.

@@ -4,6 +4,19 @@
 //! free. A caller has a `Seat`. It allocates, releases and gathers slots by single steps on the
 //! words; for all else it enters the gate, which gives it the world, and leaves it again. Each slot
 //! is in exactly one place, so no slot is given twice and none is lost.
+//!
+//! ```text
+//! gate         0 free, 1 taken. enter: 0 -> 1, takes the world.  leave: stores the world, 1 -> 0
+//! world        in the table's slot while the gate is free, else with the caller that has the gate
+//! kind   [b]   0 none, kind + 1, or extra data. grant and withdraw store it, all others load it
+//! mask   [b]   a bit for each row: a free slot of block b
+//! quick  [k]   0 or a free slot ---+
+//! reserve[k]   63 cells, each so --+-- the cache of kind k; its slots are in blocks of that kind
+//! free   [k]   63 cells, each so --+
+//! allocate     quick, reserve and free: exchange with 0, until a slot comes; else each block: load
+//!              kind, exchange mask with 0, load kind: one row is kept, others to reserve or back
+//! release      exchange into quick, what was there into free[0], free[1], ..; the last: mask
+//! ```
 #![tactic(auto)]
 
 mod calls;
@@ -18,6 +31,6 @@ mod types;
 mod view;
 mod words;
 
-pub use laws::{each_slot_is_in_one_place, numbers_are_these};
+pub use laws::{each_slot_is_in_one_place, misses_found_none, numbers_are_these};
 pub use types::{Custody, Seat};
 pub use view::{Limits, View};

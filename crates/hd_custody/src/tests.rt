@@ -64,7 +64,7 @@ impl Blocks {
 fn open(alloc: Global, blocks: u32) -> Result<(Custody<Blocks>, Seat<Blocks>), Fail>
     requires { (1 ≤ blocks) × (blocks ≤ 2) }
     ensures { IfOk result (λ r. (r.1.table ≡ r.0.table) × (r.0.blocks ≡ blocks)
-        × (r.1.view.number ≡ 0) × (r.1.view.has_gate ≡ false) × (r.1.view.hand ≡ [])) }
+        × (r.1.view.number ≡ 0) × (r.1.view.has_gate ≡ false) × (r.1.view.held ≡ [])) }
 {
     let world = Blocks {
         first: 0,
@@ -77,7 +77,7 @@ fn open(alloc: Global, blocks: u32) -> Result<(Custody<Blocks>, Seat<Blocks>), F
 }
 
 // Whether the block had no kind, and has this one now.
-fn grow<R: Wait>(
+fn give_kind<R: Wait>(
     rt: &R,
     custody: &Custody<Blocks>,
     seat: &mut Seat<Blocks>,
@@ -89,8 +89,8 @@ fn grow<R: Wait>(
     requires block { (0 < block) × (block < 3) × (block ≤ custody.now.blocks) }
     ensures seat { (seat.new.table ≡ seat.old.table) × (seat.new.view.has_gate ≡ false)
         × (seat.new.view.number ≡ seat.old.view.number) }
-    ensures hand { MatchBool result (seat.new.view.hand ≡ (64 * block, kind_number kind + 1)
-        ∷ seat.old.view.hand) (seat.new.view.hand ≡ seat.old.view.hand) }
+    ensures held { MatchBool result (seat.new.view.held ≡ (64 * block, kind_number kind + 1)
+        ∷ seat.old.view.held) (seat.new.view.held ≡ seat.old.view.held) }
 {
     let world = custody.enter(rt, seat);
     if world.kind_word(block) != 0 {
@@ -103,11 +103,11 @@ fn grow<R: Wait>(
     true
 }
 
-// Takes the kind of a block whose slots are all in the hand.
+// Takes the kind of a block whose slots are all held.
 fn shrink<R: Wait>(rt: &R, custody: &Custody<Blocks>, seat: &mut Seat<Blocks>, block: u32)
     requires seat { (seat.old.table ≡ custody.now.table) × (seat.old.view.has_gate ≡ false) }
     requires block { (0 < block) × (block < 3) × (block ≤ custody.now.blocks) }
-    requires all { (r : ℕ) → r < 64 → Has (64 * block + r) seat.old.view.hand }
+    requires all { (r : ℕ) → r < 64 → Has (64 * block + r) seat.old.view.held }
     ensures seat { (seat.new.table ≡ seat.old.table) × (seat.new.view.has_gate ≡ false)
         × (seat.new.view.number ≡ seat.old.view.number) }
 {
@@ -123,7 +123,7 @@ fn hold(custody: &Custody<Blocks>, seat: &mut Seat<Blocks>, kind: Kind, n: u32) 
     ensures seat { (seat.new.table ≡ seat.old.table)
         × (seat.new.view.has_gate ≡ seat.old.view.has_gate)
         × (seat.new.view.number ≡ seat.old.view.number) }
-    ensures hand { seat.new.view.hand ≡ seat.old.view.hand }
+    ensures held { seat.new.view.held ≡ seat.old.view.held }
 {
     if n == 0 {
         return None;
@@ -143,7 +143,7 @@ fn word(custody: &Custody<Blocks>, number: usize) -> u64
 #[test]
 fn a_slot_is_taken_and_given_back(rt: HostRuntime) -> Result<(), Fail> {
     let (custody, mut seat) = open(rt.alloc(), 1)?;
-    assert!(rt; grow(&rt, &custody, &mut seat, Kind::Strong, 1));
+    assert!(rt; give_kind(&rt, &custody, &mut seat, Kind::Strong, 1));
     let slot = custody.allocate(&mut seat, Kind::Strong).ok_or("no slot")?;
     assert_eq!(rt; slot, Slot(65));
     custody.release(&mut seat, Kind::Strong, slot);
@@ -154,7 +154,7 @@ fn a_slot_is_taken_and_given_back(rt: HostRuntime) -> Result<(), Fail> {
 #[test]
 fn the_other_rows_go_into_reserve_cells(rt: HostRuntime) -> Result<(), Fail> {
     let (custody, mut seat) = open(rt.alloc(), 1)?;
-    assert!(rt; grow(&rt, &custody, &mut seat, Kind::Strong, 1));
+    assert!(rt; give_kind(&rt, &custody, &mut seat, Kind::Strong, 1));
     assert!(rt; custody.allocate(&mut seat, Kind::Strong) == Some(Slot(65)));
     for i in 0..62 {
         assert!(rt; word(&custody, 514 + 127 * 2 + i) == 66 + i as u64);
@@ -167,8 +167,8 @@ fn the_other_rows_go_into_reserve_cells(rt: HostRuntime) -> Result<(), Fail> {
 #[test]
 fn the_65th_release_reaches_the_mask(rt: HostRuntime) -> Result<(), Fail> {
     let (custody, mut seat) = open(rt.alloc(), 2)?;
-    assert!(rt; grow(&rt, &custody, &mut seat, Kind::Strong, 1));
-    assert!(rt; grow(&rt, &custody, &mut seat, Kind::Strong, 2));
+    assert!(rt; give_kind(&rt, &custody, &mut seat, Kind::Strong, 1));
+    assert!(rt; give_kind(&rt, &custody, &mut seat, Kind::Strong, 2));
     let Some(Slot(first)) = hold(&custody, &mut seat, Kind::Strong, 65) else {
         panic!(rt; "there are slots");
     };
@@ -195,7 +195,7 @@ fn is_nowhere(custody: &Custody<Blocks>, block: u64) -> bool {
 #[test]
 fn a_gathered_block_gets_another_kind(rt: HostRuntime) -> Result<(), Fail> {
     let (custody, mut seat) = open(rt.alloc(), 1)?;
-    assert!(rt; grow(&rt, &custody, &mut seat, Kind::Strong, 1));
+    assert!(rt; give_kind(&rt, &custody, &mut seat, Kind::Strong, 1));
     hold(&custody, &mut seat, Kind::Strong, 10);
     custody.release(&mut seat, Kind::Strong, Slot(64));
     let Some(block) = custody.gather(&mut seat, Kind::Strong) else {
@@ -204,15 +204,15 @@ fn a_gathered_block_gets_another_kind(rt: HostRuntime) -> Result<(), Fail> {
     shrink(&rt, &custody, &mut seat, block);
     assert!(rt; block == 1 && word(&custody, 1) == 0 && word(&custody, 257) == 0);
     assert!(rt; is_nowhere(&custody, 1));
-    assert!(rt; grow(&rt, &custody, &mut seat, Kind::Pinned, 1));
+    assert!(rt; give_kind(&rt, &custody, &mut seat, Kind::Pinned, 1));
     assert!(rt; custody.allocate(&mut seat, Kind::Pinned) == Some(Slot(65)));
     Ok(())
 }
 
 #[test]
-fn a_slot_in_another_hand_keeps_its_block(rt: HostRuntime) -> Result<(), Fail> {
+fn a_slot_that_another_holds_keeps_its_block(rt: HostRuntime) -> Result<(), Fail> {
     let (custody, mut seat) = open(rt.alloc(), 1)?;
-    assert!(rt; grow(&rt, &custody, &mut seat, Kind::Strong, 1));
+    assert!(rt; give_kind(&rt, &custody, &mut seat, Kind::Strong, 1));
     custody.release(&mut seat, Kind::Strong, Slot(64));
     let mut other = custody.split(&mut seat, 0);
     let Some(slot) = custody.allocate(&mut other, Kind::Strong) else {
@@ -228,7 +228,7 @@ fn a_slot_in_another_hand_keeps_its_block(rt: HostRuntime) -> Result<(), Fail> {
 // One slot is taken and given back, many times over; there may be none meanwhile.
 fn churn(custody: &Custody<Blocks>, mut seat: Seat<Blocks>) -> Seat<Blocks>
     requires { seat.table ≡ custody.now.table }
-    ensures seat { (result.table ≡ seat.table) × (result.view.hand ≡ seat.view.hand) }
+    ensures seat { (result.table ≡ seat.table) × (result.view.held ≡ seat.view.held) }
     ensures gate { result.view.has_gate ≡ seat.view.has_gate }
     ensures number { result.view.number ≡ seat.view.number }
 {
@@ -264,7 +264,7 @@ fn both<R: Threads + Wait + Sync>(
 ) -> Seat<Blocks>
     requires first { (first.table ≡ custody.now.table) × (first.view.number ≡ 0) }
     requires second { (second.table ≡ custody.now.table) × (second.view.has_gate ≡ false)
-        × (second.view.hand ≡ []) }
+        × (second.view.held ≡ []) }
     ensures { result.table ≡ custody.now.table }
 {
     let (mut first, second) = join(
@@ -275,7 +275,7 @@ fn both<R: Threads + Wait + Sync>(
         { churn(custody, first) },
         || -> Seat<Blocks>
             requires { second.table ≡ custody.now.table }
-            ensures { (result.table ≡ second.table) × (result.view.hand ≡ second.view.hand)
+            ensures { (result.table ≡ second.table) × (result.view.held ≡ second.view.held)
                 × (result.view.has_gate ≡ second.view.has_gate) }
         { churn(custody, second) },
     );
@@ -287,12 +287,12 @@ fn both<R: Threads + Wait + Sync>(
 fn two_threads_lose_no_slot(rt: HostRuntime) -> Result<(), Fail> {
     let (custody, mut seat) = open(rt.alloc(), 2)?;
     let other = custody.split(&mut seat, 0);
-    assert!(rt; grow(&rt, &custody, &mut seat, Kind::Strong, 1));
-    assert!(rt; grow(&rt, &custody, &mut seat, Kind::Strong, 2));
+    assert!(rt; give_kind(&rt, &custody, &mut seat, Kind::Strong, 1));
+    assert!(rt; give_kind(&rt, &custody, &mut seat, Kind::Strong, 2));
     let mut seat = both(&rt, &custody, seat, other);
     let mut marks = [0u64; 3];
     assert!(rt; drain(&custody, &mut seat, &mut marks));
-    // Row 0 of each block was kept in the hand.
+    // Row 0 of each block stayed held.
     assert!(rt; marks == [0, !1, !1]);
     Ok(())
 }
@@ -316,8 +316,8 @@ fn wake_each<R: Wait>(
     others: u32,
 ) -> Seat<Blocks>
     requires { (seat.table ≡ custody.now.table) × (seat.view.has_gate ≡ false)
-        × (seat.view.hand ≡ []) }
-    ensures seat { (result.table ≡ seat.table) × (result.view.hand ≡ []) }
+        × (seat.view.held ≡ []) }
+    ensures seat { (result.table ≡ seat.table) × (result.view.held ≡ []) }
     ensures gate { result.view.has_gate ≡ false }
     ensures number { result.view.number ≡ seat.view.number }
 {
@@ -340,7 +340,7 @@ fn wake_all<R: Threads + Wait + Sync>(
     more: u32,
 ) -> Seat<Blocks>
     requires { (first.table ≡ custody.now.table) × (first.view.number ≡ 0)
-        × (first.view.has_gate ≡ false) × (first.view.hand ≡ []) }
+        × (first.view.has_gate ≡ false) × (first.view.held ≡ []) }
     ensures { (result.table ≡ first.table) × (result.view.number ≡ 0) }
 {
     if more == 0 {
@@ -351,13 +351,13 @@ fn wake_all<R: Threads + Wait + Sync>(
         rt,
         || -> Seat<Blocks>
             requires { (first.table ≡ custody.now.table) × (first.view.number ≡ 0)
-                × (first.view.has_gate ≡ false) × (first.view.hand ≡ []) × (0 < more) }
+                × (first.view.has_gate ≡ false) × (first.view.held ≡ []) × (0 < more) }
             ensures { (result.table ≡ first.table) × (result.view.number ≡ 0) }
         { wake_all(rt, custody, first, ended, others, more - 1) },
         || -> Seat<Blocks>
             requires { (other.table ≡ custody.now.table) × (other.view.has_gate ≡ false)
-                × (other.view.hand ≡ []) }
-            ensures { (result.table ≡ other.table) × (result.view.hand ≡ [])
+                × (other.view.held ≡ []) }
+            ensures { (result.table ≡ other.table) × (result.view.held ≡ [])
                 × (result.view.has_gate ≡ false) }
         { wake_each(rt, custody, other, ended, others) },
     );

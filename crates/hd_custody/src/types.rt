@@ -3,10 +3,28 @@ use hd_model::Held;
 use std::marker::Model;
 use std::sync::atomic::AtomicU32;
 
+/// A seat that has not ended, as the steps of a call change it. Contracts see the table, what its
+/// caller knows, and what it has taken out of the table's slot.
+#[derive(Drop)]
+pub(crate) struct Caller<W: Held> {
+    pub(crate) place: Place<W>,
+}
+
+impl<W: Held> Model for Caller<W> {
+    ghost use Rattle.std.specs.Prelude.{◌≡◌, false};
+    ghost use Rattle.hd_custody.specs.Views.{Acting};
+
+    ghost Value = { Acting W };
+
+    ghost view = { λ c. record { table = c.place.table_id; view = c.place.me.0; out = c.place.me.1 } };
+
+    ghost invariant = { λ c. c.place.me.0.is_spent ≡ false };
+}
+
 /// A caller's token at a table. It has no bytes. Contracts see the table and what the caller knows.
 #[derive(Drop)]
 pub struct Seat<W: Held> {
-    pub(crate) place: Place<W>,
+    pub(crate) caller: Caller<W>,
 }
 
 impl<W: Held> Model for Seat<W> {
@@ -14,9 +32,9 @@ impl<W: Held> Model for Seat<W> {
 
     ghost Value = { Known W };
 
-    ghost view = { λ s. record { table = s.place.table_id; view = s.place.me.0 } };
+    ghost view = { λ s. record { table = s.caller.table; view = s.caller.view } };
 
-    ghost invariant = { λ s. IsSeated s.place.me };
+    ghost invariant = { λ s. IsSeated (s.caller.view, s.caller.out) };
 }
 
 /// The words that callers share, and the world under its gate. Contracts see the table, its number

@@ -33,12 +33,12 @@ pub struct View<W> {
     pub changes: LinkedList<(u64, u64)>,
     /// The slots that only this seat may use, each with its block's kind word, or with 0 while it
     /// has not loaded that.
-    pub hand: LinkedList<(u64, u64)>,
+    pub held: LinkedList<(u64, u64)>,
     /// The steps of the last `allocate`, `release` or `gather`: the word, what was found, what is
     /// there after.
     pub trace: LinkedList<(u64, u64, u64)>,
     /// How many such calls there were.
     pub trace_number: u64,
-    /// Whether the hand was empty as the last of them began.
+    /// Whether no slot was held as the last of them began.
     pub began_empty: bool,
 }

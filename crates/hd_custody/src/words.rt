@@ -1,7 +1,7 @@
 //! The words of a table, by their numbers, and those of a kind in the order in which each call goes
 //! over them.
 ghost use Rattle.std.specs.Prelude.{◌≡◌, ◌+◌, ◌*◌, ◌/◌, ◌%◌, ◌<◌, ◌≤◌};
-ghost use Rattle.hd_custody.specs.Counts.{mask_word, block_of, row_of, quick_word, reserve_cell, kind_at, IsCell};
+ghost use Rattle.hd_custody.specs.Counts.{mask_word, slot_block, slot_row, quick_word, reserve_cell, cell_kind, IsCell};
 ghost use Rattle.hd_custody.specs.Traces.{probe_word, sweep_word, push_word};
 
 use hd_model::limits::{BLOCKS, KINDS, ROWS};
@@ -36,16 +36,16 @@ pub(crate) fn mask_word(block: u32) -> usize
 }
 
 /// The block of a slot.
-pub(crate) fn block_of(slot: u64) -> u32
+pub(crate) fn slot_block(slot: u64) -> u32
     requires { slot < ROWS * (BLOCKS + 1) }
-    ensures { result ≡ block_of slot }
+    ensures { result ≡ slot_block slot }
 {
     (slot / ROWS as u64) as u32
 }
 
 /// The row of a slot in its block.
-pub(crate) fn row_of(slot: u64) -> u32
-    ensures value { result ≡ row_of slot }
+pub(crate) fn slot_row(slot: u64) -> u32
+    ensures value { result ≡ slot_row slot }
     ensures row { result < ROWS }
 {
     (slot % ROWS as u64) as u32
@@ -66,7 +66,7 @@ pub(crate) fn probed(kind: u32, n: u32) -> usize
     requires place { n < CACHE }
     ensures value { result ≡ probe_word kind n }
     ensures cell { IsCell result }
-    ensures kind { kind_at result ≡ kind }
+    ensures kind { cell_kind result ≡ kind }
 {
     let quick = quick_word(kind);
     if n == 0 {
@@ -85,7 +85,7 @@ pub(crate) fn swept(kind: u32, n: u32) -> usize
     requires place { n < CACHE }
     ensures value { result ≡ sweep_word kind n }
     ensures cell { IsCell result }
-    ensures kind { kind_at result ≡ kind }
+    ensures kind { cell_kind result ≡ kind }
 {
     quick_word(kind) + n as usize
 }
@@ -97,7 +97,7 @@ pub(crate) fn pushed(kind: u32, n: u32) -> usize
     requires place { n < ROWS }
     ensures value { result ≡ push_word kind n }
     ensures cell { IsCell result }
-    ensures kind { kind_at result ≡ kind }
+    ensures kind { cell_kind result ≡ kind }
 {
     let quick = quick_word(kind);
     if n == 0 {
@@ -113,7 +113,7 @@ pub(crate) fn reserved(kind: u32, i: u32) -> usize
     requires place { i < BANK }
     ensures value { result ≡ reserve_cell kind i }
     ensures cell { IsCell result }
-    ensures kind { kind_at result ≡ kind }
+    ensures kind { cell_kind result ≡ kind }
 {
     quick_word(kind) + 1 + i as usize
 }

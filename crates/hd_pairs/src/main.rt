@@ -27,7 +27,7 @@ struct Plan {
 fn hold(custody: &Custody<Pages>, seat: &mut Seat<Pages>, n: u32) -> u32
     requires { seat.old.table ≡ custody.now.table }
     ensures table { seat.new.table ≡ seat.old.table }
-    ensures hand { seat.new.view.hand ≡ seat.old.view.hand }
+    ensures held { seat.new.view.held ≡ seat.old.view.held }
 {
     if n == 0 {
         return 0;
@@ -77,7 +77,7 @@ fn churn_all<R: Threads + Sync>(
     rest.saturating_add(own)
 }
 
-// Gives the next block strong handles, if one is left. Its row 0 stays in the hand.
+// Gives the next block strong handles, if one is left. Its row 0 stays held.
 fn add<R: Wait>(rt: &R, custody: &Custody<Pages>, seat: &mut Seat<Pages>)
     requires seat { (seat.old.table ≡ custody.now.table) × (seat.old.view.has_gate ≡ false) }
     requires blocks { custody.now.blocks ≡ 256 }

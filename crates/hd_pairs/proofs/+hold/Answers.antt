@@ -5,10 +5,10 @@ use Rattle.hd_custody.proofs.Canon.{slot_goes}
 use Rattle.hd_pairs.specs.declared.pages.Pages.{Pages}
 use Rattle.hd_pairs.proofs.+hold.Goals as goal
 
-pub returns-clause-hand : goal.returns-clause-hand
-returns-clause-hand t c =
+pub returns-clause-held : goal.returns-clause-held
+returns-clause-held t c =
     let slot = c.in-Some.slot.0 in
-    let hand = c.args.seat.now.view.hand in
-    ap (λ (v : View Pages). v.hand) c.release.ensures.done.view
-    ∙ ap (without slot) (c.hold-more.ensures.hand ∙ ap (λ (v : View Pages). v.hand) c.in-Some.ensures.done.view)
-    ∙ slot_goes slot 3 hand c.in-Some.ensures.fresh.2
+    let held = c.args.seat.now.view.held in
+    ap (λ (v : View Pages). v.held) c.release.ensures.done.view
+    ∙ ap (without slot) (c.hold-more.ensures.held ∙ ap (λ (v : View Pages). v.held) c.in-Some.ensures.done.view)
+    ∙ slot_goes slot 3 held c.in-Some.ensures.fresh.2

@@ -6,11 +6,11 @@ use Rattle.hd_custody.specs.Counts.{without}
 use Rattle.hd_custody.proofs.Canon.{slot_goes}
 use Rattle.hd_custody.proofs.tests.+hold.Goals as goal
 
-pub returns-clause-hand : goal.returns-clause-hand
-returns-clause-hand t c =
+pub returns-clause-held : goal.returns-clause-held
+returns-clause-held t c =
     let slot = c.in_ok-slot.slot.0 in
-    let hand = c.args.seat.now.view.hand in
-    ap (λ (v : View Blocks). v.hand) c.release.ensures.done.view
-    ∙ ap (without slot) (c.hold-first.ensures.hand
-    ∙ ap (λ (v : View Blocks). v.hand) c.in_ok-slot.ensures.done.view)
-    ∙ slot_goes slot (kind_number c.args.kind + 1) hand c.in_ok-slot.ensures.fresh.2
+    let held = c.args.seat.now.view.held in
+    ap (λ (v : View Blocks). v.held) c.release.ensures.done.view
+    ∙ ap (without slot) (c.hold-first.ensures.held
+    ∙ ap (λ (v : View Blocks). v.held) c.in_ok-slot.ensures.done.view)
+    ∙ slot_goes slot (kind_number c.args.kind + 1) held c.in_ok-slot.ensures.fresh.2

@@ -10,5 +10,5 @@ use Rattle.hd_custody.proofs.tests.a_gathered_block_gets_another_kind.Goals as g
 pub shrink-requires-clause-all : goal.shrink-requires-clause-all
 shrink-requires-clause-all g c r lt =
     subst (λ (h : List (ℕ × ℕ)). Has (64 * c.in-Some.block + r) h)
-    (sym (ap (λ (v : View Blocks). v.hand) c.in-Some.ensures.done.view))
-    (row_has c.in-Some.block every_row 3 r c.release.new.seat.view.hand lt (bit_at_ones 64 r lt))
+    (sym (ap (λ (v : View Blocks). v.held) c.in-Some.ensures.done.view))
+    (row_has c.in-Some.block every_row 3 r c.release.new.seat.view.held lt (bit_at_ones 64 r lt))

@@ -13,9 +13,9 @@ loop-round-preserved g c =
       table = ap (λ (s : Known Blocks). s.table) left ∙ ap (λ (s : Known Blocks). s.table) entered
           ∙ c.loop-round.invariant.table;
       gate = ap (λ (s : Known Blocks). s.view.has_gate) left;
-      hand = ap (λ (s : Known Blocks). s.view.hand) left
+      held = ap (λ (s : Known Blocks). s.view.held) left
           ∙ none_ended ghosts world world c.enter-world.new.seat.view (λ x le. refl) (λ n p e. refl)
-          ∙ ap (λ (s : Known Blocks). s.view.hand) entered ∙ c.loop-round.invariant.hand;
+          ∙ ap (λ (s : Known Blocks). s.view.held) entered ∙ c.loop-round.invariant.held;
       number = ap (λ (s : Known Blocks). s.view.number) left ∙ ap (λ (s : Known Blocks). s.view.number) entered
           ∙ c.loop-round.invariant.number;
     }

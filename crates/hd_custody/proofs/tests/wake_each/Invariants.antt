@@ -5,6 +5,6 @@ abbrev pub invariant-loop-round : goal.invariant-loop-round
 invariant-loop-round g l = record {
   table : l.seat.table ≡ l.fn.seat.table;
   gate : l.seat.view.has_gate ≡ false;
-  hand : l.seat.view.hand ≡ [];
+  held : l.seat.view.held ≡ [];
   number : l.seat.view.number ≡ l.fn.seat.view.number;
 }

@@ -3,7 +3,7 @@ use Rattle.hd_custody.specs.declared.view.View.{View}
 use Rattle.hd_custody.specs.Views.{Named, Known}
 use Rattle.hd_custody.specs.Calls.{slot_number, Allocates}
 use Rattle.hd_custody.proofs.Ends.{answer, answer_none, answer_some, allocates}
-use Rattle.hd_custody.proofs.Misses.{none_is_whole, none_found_none}
+use Rattle.hd_custody.proofs.Misses.{none_is_whole}
 use Rattle.hd_custody.proofs.types.Custody.allocate.Goals as goal
 use Rattle.hd_custody.proofs.types.Custody.allocate.Goals.{then-slot-eq0, else-slot-eq0}
 
@@ -19,16 +19,12 @@ returns-clause-done g c =
           ∙ sym (answer_some c.find-slot.result w.if-slot-eq0.false))
     ] in
     subst (λ k. Allocates k blocks (slot_number c.if-slot-eq0.result) c.args.seat.now.view
-    c.find-slot.new.place.me.0) c.number.ensures.value
+    c.find-slot.new.caller.view) c.number.ensures.value
     (subst (λ (v : View W). Allocates c.number.result blocks (slot_number c.if-slot-eq0.result) v
-    c.find-slot.new.place.me.0) (ap (λ (k : Known W). k.view) c.seat.view_is)
-    (allocates c.number.result blocks (omega (arith, size, c.self.invariant)) c.seat.inside.place.me
-    c.find-slot.new.place.me c.find-slot.result _ answers c.find-slot.ensures.made))
+    c.find-slot.new.caller.view) (ap (λ (k : Known W). k.view) c.seat.view_is)
+    (allocates c.number.result blocks (omega (arith, size, c.self.invariant)) c.seat.inside.caller
+    c.find-slot.new.caller c.find-slot.result _ answers c.find-slot.ensures.made))
 
 pub returns-clause-none : goal.returns-clause-none
 returns-clause-none g c =
-    none_is_whole _ _ c.if-slot-eq0.result c.find-slot.new.place.me.0.trace (returns-clause-done g c).steps
-
-pub returns-clause-each_word : goal.returns-clause-each_word
-returns-clause-each_word g c =
-    none_found_none _ _ c.if-slot-eq0.result c.find-slot.new.place.me.0.trace (returns-clause-done g c).steps
+    none_is_whole _ _ c.if-slot-eq0.result c.find-slot.new.caller.view.trace (returns-clause-done g c).steps

@@ -1,15 +1,20 @@
-use Rattle.std.proofs.Common.{sym, ◌∙◌, ap, arith}
-use Rattle.hd_custody.specs.Views.{Named}
+use Rattle.std.proofs.Common.{◌≡◌, true, Some, sym, ap, subst, arith}
+use Rattle.hd_custody.specs.Counts.{changed}
+use Rattle.hd_custody.specs.Views.{Acting}
 use Rattle.hd_custody.proofs.Gives.{assign_steps}
+use Rattle.hd_custody.proofs.Keeps.{same_table}
 use Rattle.hd_custody.proofs.types.Custody.assign.Goals as goal
 
 pub store-requires : goal.store-requires
 store-requires g c =
-    let place = c.args.place.now in
-    let block = c.requires.block in (
-      c.requires.seat.0 ∙ ap (λ (n : Named). n.table) (sym c.self.view_is),
+    let place = c.caller.inside.place in
+    let block = c.requires.block in
+    let world = c.requires.no_kind.0 in
+    let now = subst (λ (a : Acting g.row.W.Denot). (a.view.has_gate ≡ true) × (a.view.taken ≡ Some world)
+    × (changed a.view.changes (g.W.Held.kind world) c.args.block ≡ 0)) (sym c.caller.view_is)
+    (c.requires.gate, c.requires.no_kind.1, c.requires.no_kind.2) in (
+      same_table c.caller.view_is c.requires.seat c.self.view_is,
       omega (arith, c.self.invariant.0, block),
-      assign_steps g.W.Held _ _ place.id place.me.0 place.me.1 c.requires.seat.1 c.args.block c.args.kind
-          c.requires.no_kind.0 block.0 block.1 block.2
-          c.requires.gate c.requires.no_kind.1 c.requires.no_kind.2,
+      assign_steps g.W.Held _ _ place.id place.me.0 place.me.1 c.caller.invariant c.args.block c.args.kind world
+          block.0.0 block.0.1 block.1 now.0 now.1 now.2,
     )

@@ -1,11 +1,7 @@
-use Rattle.std.proofs.Common.{◌≡◌}
 use Rattle.hd_custody.specs.Traces.{sweep, to_look_whole}
-use Rattle.hd_custody.specs.Calls.{Began}
+use Rattle.hd_custody.specs.CallSteps.{calling, Made}
 use Rattle.hd_custody.proofs.types.Custody.collect.Given as goal
 
 abbrev pub invariant-loop-block : goal.invariant-loop-block
-invariant-loop-block g l = record {
-  table : l.place.table_id ≡ l.fn.place.table_id;
-  made : Began l.kind l.self.blocks (sweep 0) l.fn.place.me.0.hand (to_look_whole l.self.blocks l.block)
-      l.fn.place.me l.place.me;
-}
+invariant-loop-block g l = Made l.kind l.self.blocks (sweep 0) (to_look_whole l.self.blocks l.block)
+    l.fn.caller.view.held (calling l.fn.caller) l.caller

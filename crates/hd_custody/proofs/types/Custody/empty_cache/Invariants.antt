@@ -1,11 +1,7 @@
-use Rattle.std.proofs.Common.{◌≡◌}
 use Rattle.hd_custody.specs.Traces.{sweep, to_sweep}
-use Rattle.hd_custody.specs.Calls.{Began}
+use Rattle.hd_custody.specs.CallSteps.{calling, Made}
 use Rattle.hd_custody.proofs.types.Custody.empty_cache.Given as goal
 
 abbrev pub invariant-loop-n : goal.invariant-loop-n
-invariant-loop-n g l = record {
-  table : l.place.table_id ≡ l.fn.place.table_id;
-  made : Began l.kind l.self.blocks (sweep 0) l.fn.place.me.0.hand (to_sweep l.self.blocks l.n) l.fn.place.me
-      l.place.me;
-}
+invariant-loop-n g l = Made l.kind l.self.blocks (sweep 0) (to_sweep l.self.blocks l.n) l.fn.caller.view.held
+    (calling l.fn.caller) l.caller

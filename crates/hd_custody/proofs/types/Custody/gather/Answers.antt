@@ -1,6 +1,6 @@
 use Rattle.std.proofs.Common.{◌≡◌, sym, ◌∙◌, ap, subst, arith}
 use Rattle.hd_custody.specs.declared.view.View.{View}
-use Rattle.hd_custody.specs.Views.{Named, Known, IsSeated}
+use Rattle.hd_custody.specs.Views.{Named, Known, IsSeated, Acting}
 use Rattle.hd_custody.specs.Calls.{Gathers}
 use Rattle.hd_custody.proofs.Seated.{block_kinded}
 use Rattle.hd_custody.proofs.Ends.{answer, answer_none, answer_some, gathers_all}
@@ -9,12 +9,12 @@ use Rattle.hd_custody.proofs.types.Custody.gather.Goals.{then-block-eq0, else-bl
 
 pub invariant_of-seat : goal.invariant_of-seat
 invariant_of-seat g c =
-    let place = c.seat.inside.place in
-    subst IsSeated (sym c.collect-block.ensures.made.1) (
+    let caller = c.seat.inside.caller in
+    subst (λ (a : Acting g.row.W.Denot). IsSeated (a.view, a.out)) (sym c.collect-block.ensures.made.only) (
       c.seat.invariant.0,
       c.seat.invariant.1,
       block_kinded c.collect-block.result c.number.result
-          place.me.0.hand
+          caller.view.held
           (omega (arith, c.collect-block.ensures.block, c.self.invariant, ap (λ (n : Named). n.blocks) c.self.view_is))
           c.seat.invariant.2,
     )
@@ -28,9 +28,9 @@ returns-clause-done g c =
       | then-block-eq0 w ↦ (w.result-is ∙ sym (answer_none c.collect-block.result w.if-block-eq0.true))
       | else-block-eq0 w ↦ (w.result-is ∙ sym (answer_some c.collect-block.result w.if-block-eq0.false))
     ] in
-    subst (λ k. Gathers k blocks c.if-block-eq0.result c.args.seat.now.view c.collect-block.new.place.me.0)
+    subst (λ k. Gathers k blocks c.if-block-eq0.result c.args.seat.now.view c.collect-block.new.caller.view)
     c.number.ensures.value
     (subst (λ (v : View W). Gathers c.number.result blocks c.if-block-eq0.result v
-    c.collect-block.new.place.me.0) (ap (λ (k : Known W). k.view) c.seat.view_is)
-    (gathers_all c.number.result blocks (omega (arith, size, c.self.invariant)) c.seat.inside.place.me
-    c.collect-block.new.place.me c.collect-block.result _ answers c.collect-block.ensures.made))
+    c.collect-block.new.caller.view) (ap (λ (k : Known W). k.view) c.seat.view_is)
+    (gathers_all c.number.result blocks (omega (arith, size, c.self.invariant)) c.seat.inside.caller
+    c.collect-block.new.caller c.collect-block.result _ answers c.collect-block.ensures.made))

@@ -1,55 +1,64 @@
 use Rattle.std.proofs.Common.{◌≡◌, ℕ, true, Option, Some, List, [], ◌∷◌, sym, ◌∙◌, ap, subst, arith}
 use Rattle.atomic_table.specs.Table.{rest, Me}
+use Rattle.atomic_table.specs.Seated.{TableId}
 use Rattle.hd_custody.specs.declared.view.View.{View}
-use Rattle.hd_custody.specs.Views.{Named, Known, Kinded, IsSeated, hand_of, Follows}
+use Rattle.hd_custody.specs.Views.{Named, Known, Kinded, IsSeated, carried_by, Follows, Acting}
 use Rattle.hd_custody.proofs.Gives.{leave_steps}
 use Rattle.hd_custody.proofs.Seated.{left_seated}
 use Rattle.hd_custody.proofs.types.Custody.leave.Goals as goal
 
+-- the seat once the world is in its slot, before the gate is free
+between : {W : Type 0} {t : TableId} (me seat : Me (Option W) (View W)) (a : Acting W) (k : Known W) (w : W)
+    → record { table = t; view = me.0; out = me.1 } ≡ a → record { table = a.table; view = a.view } ≡ k
+    → IsSeated (a.view, a.out) → k.view.has_gate ≡ true → seat ≡ (me.0, (0, Some w) ∷ rest me.1)
+    → (seat.0 ≡ a.view) × (k.view ≡ seat.0) × (seat.1 ≡ (0, Some w) ∷ [])
+between {W} me seat a k w fields view_is seated gate same =
+    let view : seat.0 ≡ a.view = ap (λ (x : Me (Option W) (View W)). x.0) same
+    ∙ ap (λ (x : Acting W). x.view) fields in
+    let known : a.view ≡ k.view = ap (λ (x : Known W). x.view) view_is in (
+      view,
+      sym known ∙ sym view,
+      ap (λ (x : Me (Option W) (View W)). x.1) same ∙ ap (λ (l : List (ℕ × Option W)). (0, Some w) ∷ rest l)
+          (ap (λ (x : Acting W). x.out) fields ∙ seated.1
+          ∙ ap (λ (v : View W). carried_by v.has_gate) known ∙ ap carried_by gate),
+    )
+
 pub store-requires : goal.store-requires
 store-requires g c =
     let W = g.row.W.Denot in
-    let place = c.seat.inside.place in
     let seat = c.exchange.new.seat in
-    let world = c.args.world in
-    let same = c.exchange.ensures.3 in
-    let view : seat.me.0 ≡ place.me.0 = ap (λ (x : Me (Option W) (View W)). x.0) same in
-    let now : c.args.seat.now.view ≡ seat.me.0 = ap (λ (k : Known W). k.view) (sym c.seat.view_is)
-    ∙ sym view in
-    let gate : place.me.0.has_gate ≡ true = ap (λ (k : Known W). k.view.has_gate) c.seat.view_is
-    ∙ c.requires.gate in
-    let out : seat.me.1 ≡ (0, Some world) ∷ [] =
-    ap (λ (x : Me (Option W) (View W)). x.1) same ∙ ap (λ (l : List (ℕ × Option W)). (0, Some world) ∷ rest l)
-    (c.seat.invariant.1 ∙ ap hand_of gate) in (
-      c.exchange.ensures.0 ∙ ap (λ (k : Known W). k.table) c.seat.view_is ∙ c.requires.seat
+    let u = c.requires.follows.0 in
+    let s = between c.caller.inside.place.me seat.me c.seat.inside.caller c.args.seat.now c.args.world
+    c.caller.view_is c.seat.view_is c.seat.invariant c.requires.gate c.exchange.ensures.3 in (
+      c.exchange.ensures.0 ∙ ap (λ (a : Acting W). a.table) c.caller.view_is
+          ∙ ap (λ (k : Known W). k.table) c.seat.view_is ∙ c.requires.seat
           ∙ ap (λ (n : Named). n.table) (sym c.self.view_is),
       omega (arith, c.self.invariant.0),
-      leave_steps g.W.Held _ _ seat.id seat.me.0 seat.me.1 (ap (λ (v : View W). v.is_spent) view
-          ∙ c.seat.invariant.0) c.requires.follows.0 world
-          (ap (λ (v : View W). v.has_gate) view ∙ gate) (ap (λ (v : View W). v.taken) (sym now)
-          ∙ c.requires.follows.1) out
-          (subst (λ v. Follows g.W.Held c.requires.follows.0 world v) now c.requires.follows.2),
+      leave_steps g.W.Held _ _ seat.id seat.me.0 seat.me.1
+          (ap (λ (v : View W). v.is_spent) s.0 ∙ c.seat.invariant.0) u c.args.world
+          (ap (λ (v : View W). v.has_gate) (sym s.1) ∙ c.requires.gate)
+          (ap (λ (v : View W). v.taken) (sym s.1) ∙ c.requires.follows.1) s.2
+          (subst (λ v. Follows g.W.Held u c.args.world v) s.1 c.requires.follows.2),
     )
+
+pub invariant_of-caller : goal.invariant_of-caller
+invariant_of-caller g c =
+    let W = g.row.W.Denot in
+    let s = between c.caller.inside.place.me c.exchange.new.seat.me c.seat.inside.caller c.args.seat.now
+    c.args.world c.caller.view_is c.seat.view_is c.seat.invariant c.requires.gate c.exchange.ensures.3 in
+    let given = c.store.ensures.2 c.args.world c.requires.follows.0 s.2
+    (ap (λ (v : View W). v.taken) (sym s.1) ∙ c.requires.follows.1) in
+    ap (λ (x : Me (Option W) (View W)). x.0.is_spent) given.0 ∙ ap (λ (v : View W). v.is_spent) s.0
+    ∙ c.seat.invariant.0
 
 pub invariant_of-seat : goal.invariant_of-seat
 invariant_of-seat g c =
     let W = g.row.W.Denot in
-    let place = c.seat.inside.place in
-    let seat = c.exchange.new.seat in
-    let world = c.args.world in
-    let same = c.exchange.ensures.3 in
-    let view : seat.me.0 ≡ place.me.0 = ap (λ (x : Me (Option W) (View W)). x.0) same in
-    let now : c.args.seat.now.view ≡ seat.me.0 = ap (λ (k : Known W). k.view) (sym c.seat.view_is)
-    ∙ sym view in
-    let gate : place.me.0.has_gate ≡ true = ap (λ (k : Known W). k.view.has_gate) c.seat.view_is
-    ∙ c.requires.gate in
-    let out : seat.me.1 ≡ (0, Some world) ∷ [] =
-    ap (λ (x : Me (Option W) (View W)). x.1) same ∙ ap (λ (l : List (ℕ × Option W)). (0, Some world) ∷ rest l)
-    (c.seat.invariant.1 ∙ ap hand_of gate) in
-    let taken : seat.me.0.taken ≡ Some c.requires.follows.0 = ap (λ (v : View W). v.taken) (sym now)
-    ∙ c.requires.follows.1 in
-    let told = c.store.ensures.2 world c.requires.follows.0 out taken in
-    subst IsSeated (sym told.0)
-    (left_seated g.W.Held c.requires.follows.0 world seat.me.0 (ap (λ (v : View W). v.is_spent) view
-    ∙ c.seat.invariant.0)
-    (subst (λ (v : View W). Kinded v.hand) (sym view) c.seat.invariant.2) told.1)
+    let s = between c.caller.inside.place.me c.exchange.new.seat.me c.seat.inside.caller c.args.seat.now
+    c.args.world c.caller.view_is c.seat.view_is c.seat.invariant c.requires.gate c.exchange.ensures.3 in
+    let given = c.store.ensures.2 c.args.world c.requires.follows.0 s.2
+    (ap (λ (v : View W). v.taken) (sym s.1) ∙ c.requires.follows.1) in
+    subst IsSeated (sym given.0)
+    (left_seated g.W.Held c.requires.follows.0 c.args.world c.exchange.new.seat.me.0
+    (ap (λ (v : View W). v.is_spent) s.0 ∙ c.seat.invariant.0)
+    (subst (λ (v : View W). Kinded v.held) (sym s.0) c.seat.invariant.2) given.1)

@@ -2,7 +2,7 @@ use Rattle.std.proofs.Common.{ℕ, List, [], ◌∷◌, Option, Some, sym, ◌�
 use Rattle.atomic_table.specs.Table.{opening}
 use Rattle.hd_custody.specs.Views.{starting}
 use Rattle.hd_custody.specs.Rule.{Custodied}
-use Rattle.hd_custody.proofs.Opening.{starts, zero_words}
+use Rattle.hd_custody.proofs.TableOpen.{starts, zero_words}
 use Rattle.hd_custody.proofs.types.Custody.open.Goals as goal
 
 pub new-requires : goal.new-requires

@@ -1,20 +1,20 @@
 use Rattle.std.proofs.Common.{◌≡◌, ◌≢◌, ◌==◌, not, sym, ap, subst, arith}
 use Rattle.hd_custody.specs.declared.view.View.{View}
 use Rattle.hd_custody.specs.Counts.{IsSlot}
-use Rattle.hd_custody.specs.Views.{Named, Known, IsSeated}
+use Rattle.hd_custody.specs.Views.{Named, Known, IsSeated, Acting}
 use Rattle.hd_custody.specs.Calls.{Releases}
-use Rattle.hd_custody.proofs.Hands.{every_filter}
+use Rattle.hd_custody.proofs.HeldSlots.{every_filter}
 use Rattle.hd_custody.proofs.Ends.{releases}
 use Rattle.hd_custody.proofs.types.Custody.release.Goals as goal
 
 pub invariant_of-seat : goal.invariant_of-seat
 invariant_of-seat g c =
-    let place = c.seat.inside.place in
-    subst IsSeated (sym c.let_go.ensures.made.1) (
+    let caller = c.seat.inside.caller in
+    subst (λ (a : Acting g.row.W.Denot). IsSeated (a.view, a.out)) (sym c.let_go.ensures.made.only) (
       c.seat.invariant.0,
       c.seat.invariant.1,
       every_filter (λ p. IsSlot p.0 × (p.1 ≢ 0))
-          (λ p. not (p.0 == c.args.slot.0)) place.me.0.hand c.seat.invariant.2,
+          (λ p. not (p.0 == c.args.slot.0)) caller.view.held c.seat.invariant.2,
     )
 
 pub returns-clause-done : goal.returns-clause-done
@@ -22,9 +22,9 @@ returns-clause-done g c =
     let W = g.row.W.Denot in
     let blocks = c.args.self.now.blocks in
     let size : c.self.inside.blocks ≡ blocks = ap (λ (n : Named). n.blocks) c.self.view_is in
-    subst (λ k. Releases k blocks c.args.slot.0 c.args.seat.now.view c.let_go.new.place.me.0)
+    subst (λ k. Releases k blocks c.args.slot.0 c.args.seat.now.view c.let_go.new.caller.view)
     c.number.ensures.value
-    (subst (λ (v : View W). Releases c.number.result blocks c.args.slot.0 v c.let_go.new.place.me.0)
+    (subst (λ (v : View W). Releases c.number.result blocks c.args.slot.0 v c.let_go.new.caller.view)
     (ap (λ (k : Known W). k.view) c.seat.view_is)
     (releases c.number.result blocks (omega (arith, size, c.self.invariant)) c.args.slot.0
-    c.seat.inside.place.me c.let_go.new.place.me c.let_go.ensures.made))
+    c.seat.inside.caller c.let_go.new.caller c.let_go.ensures.made))

@@ -1,9 +1,14 @@
-use Rattle.std.proofs.Common.{refl}
-use Rattle.hd_custody.proofs.Sweeping.{settles}
+use Rattle.std.proofs.Common.{◌+◌, ◌/◌, ◌%◌, ◌^◌, bit_or, sym, refl}
+use Rattle.hd_model.specs.declared.limits.TheConstants.{BLOCKS, ROWS}
+use Rattle.hd_custody.proofs.Canon.{put_some}
+use Rattle.hd_custody.proofs.Phases.{due, zero_is, zero_not, made_none, one_step, seen_as, from_phase}
 use Rattle.hd_custody.proofs.types.Custody.settle.Goals as goal
 
-pub returns-then-slot-ne0-clause-made : goal.returns-then-slot-ne0-clause-made
-returns-then-slot-ne0-clause-made g c h is none =
-    settles c.args.kind c.args.self.now.blocks c.args.place.now.me c.args.n c.args.slot h is c.requires.due _
-    _ _ c.put_slot_back.new.place.me c.if-slot-ne0.true (none c.if-slot-ne0.true) refl refl
-    c.put_slot_back.ensures.view.1
+pub returns-then-slot-ne0 : goal.returns-then-slot-ne0
+returns-then-slot-ne0 g c = record {
+  made = λ k n. (
+      let back = c.put_slot_back.ensures.view in
+      from_phase (seen_as (one_step _ back.1 (due (BLOCKS + c.args.slot / ROWS) back.0 (bit_or back.0 (2 ^ (c.args.slot % ROWS))) _))
+      (sym (put_some c.args.slot c.args.caller.now.view.held c.if-slot-ne0.true)) refl)
+      (zero_not c.args.slot _ _ c.if-slot-ne0.true));
+}

@@ -1,198 +1,105 @@
-use Rattle.std.proofs.Common.{◌≡◌, ◌≢◌, ℕ, ◌+◌, ◌*◌, ◌^◌, bit_xor, ◌++◌, refl, sym, ◌∙◌, ap, subst, arith}
+use Rattle.std.proofs.Common.{◌≡◌, ◌≢◌, ℕ, ◌+◌, ◌*◌, ◌^◌, bit_or, bit_xor, ◌∷◌, ◌++◌, refl, sym, ◌∙◌, ap, subst, arith}
 use Rattle.std.specs.Int.{bit_at}
-use Rattle.hd_mask.proofs.Bits.{flip_same}
-use Rattle.hd_custody.specs.Counts.{Has}
-use Rattle.hd_custody.specs.Traces.{probe, to_look, to_bank}
-use Rattle.hd_custody.specs.Calls.{Apart, held}
-use Rattle.hd_custody.proofs.Canon.{row_has, with_slot_some}
-use Rattle.hd_custody.proofs.Phases.{same_not, told_some, shaped_as, hand_is, now_at, then_made}
-use Rattle.hd_custody.proofs.Probing.{looked_once, drained_once, drained_none, looked_again, gone_back, shared, fewer_apart, flip_within, set_real, mask_apart, row_offers}
+use Rattle.hd_model.specs.declared.limits.TheConstants.{BLOCKS, ROWS}
+use Rattle.hd_custody.specs.Counts.{Has, rows, without_rows}
+use Rattle.hd_custody.specs.Traces.{to_look, to_bank}
+use Rattle.hd_custody.specs.Views.{Acting}
+use Rattle.hd_custody.specs.CallSteps.{HasRows, HasRowsAs, Made}
+use Rattle.hd_custody.proofs.Canon.{row_has, rows_none, rows_have, lowest_is, flip_within, one_stays, with_slot_some}
+use Rattle.hd_custody.proofs.Phases.{due, zero_is, same_is, same_not, told_some, seen_as, held_is, table_is, then_as}
+use Rattle.hd_custody.proofs.AllocateSteps.{set_real, mask_apart, look_again, rows_back, row_offers}
 use Rattle.hd_custody.proofs.types.Custody.take_from.Goals as goal
-
-pub returns-then-look-kind-clause-made : goal.returns-then-look-kind-clause-made
-returns-then-look-kind-clause-made g c =
-    shaped_as c.args.kind c.args.self.now.blocks (probe 0) _ _ c.args.place.now.me c.look.new.place.me _ _ _ _
-    (looked_once c.args.kind c.args.self.now.blocks c.args.place.now.me c.args.block c.requires.block.0
-    c.requires.block.1 c.requires.kinded c.look.new.place.me c.look.result c.requires.due
-    c.look.ensures.view)
-    refl (same_not c.look.result (c.args.kind + 1) _ _ c.if-look-kind.true)
 
 pub returns-in_default-clause-made : goal.returns-in_default-clause-made
 returns-in_default-clause-made g c =
-    let k = c.args.kind in
-    let blocks = c.args.self.now.blocks in
-    let a = c.args.place.now.me in
-    let block = c.args.block in
-    let real = c.requires.block.0 in
-    let low = c.requires.block.1 in
-    let first = looked_once k blocks a block real low c.requires.kinded c.look.new.place.me c.look.result
-    c.requires.due c.look.ensures.view in
-    drained_none k blocks a block real low c.requires.kinded c.drain-mask.new.place.me c.drain-mask.result
-    (c.in_default.ensures.none.0 refl)
-    (drained_once k blocks a block real low c.requires.kinded c.look.new.place.me c.drain-mask.new.place.me
-    c.look.result c.drain-mask.result c.if-look-kind.false first c.drain-mask.ensures.view)
+    let none = c.in_default.ensures.none.0 refl in
+    seen_as c.take_rows-mask.ensures.probed
+    (ap (λ ps. ps ++ c.args.caller.now.view.held) (rows_none c.args.block c.take_rows-mask.result 0 none))
+    (zero_is c.take_rows-mask.result _ _ none)
 
-pub put_back-requires-clause-slots : goal.put_back-requires-clause-slots
-put_back-requires-clause-slots g c r lt set =
-    let k = c.args.kind in
-    let blocks = c.args.self.now.blocks in
-    let a = c.args.place.now.me in
-    let block = c.args.block in
-    let real = c.requires.block.0 in
-    let low = c.requires.block.1 in
-    let first = looked_once k blocks a block real low c.requires.kinded c.look.new.place.me c.look.result
-    c.requires.due c.look.ensures.view in
-    let second = drained_once k blocks a block real low c.requires.kinded c.look.new.place.me
-    c.drain-mask.new.place.me c.look.result c.drain-mask.result c.if-look-kind.false first
-    c.drain-mask.ensures.view in
-    let third = looked_again k blocks a block real low c.requires.kinded c.drain-mask.new.place.me
-    c.look-again.new.place.me c.drain-mask.result c.look-again.result
-    (set_real c.drain-mask.result r set) second c.look-again.ensures.view in
-    subst (λ hs. Has (64 * block + r) hs) (sym (hand_is k blocks (probe 0) _ _ a c.look-again.new.place.me _
-    _ third)) (row_has block c.drain-mask.result c.look-again.result r a.0.hand lt set)
+pub look-again-requires : goal.look-again-requires
+look-again-requires g c = record {
+  seat = table_is c.take_rows-mask.ensures.probed ∙ c.requires.seat;
+  block = c.requires.block;
+}
+
+pub put_back-requires : goal.put_back-requires
+put_back-requires g c =
+    let so = look_again c.take_rows-mask.new.caller c.look-again.new.caller c.args.block c.take_rows-mask.result
+    c.look-again.result c.args.caller.now.view.held c.requires.kinded
+    (set_real c.take_rows-mask.result c.in-Some.row c.in-Some.ensures.set) c.take_rows-mask.ensures.probed
+    c.look-again.ensures.view in record {
+      seat = table_is so ∙ c.requires.seat;
+      block = c.requires.block;
+      slots = subst (HasRows c.args.block c.take_rows-mask.result) (sym (held_is so))
+          (λ r lt set. row_has c.args.block c.take_rows-mask.result c.look-again.result r
+          c.args.caller.now.view.held lt set);
+    }
 
 pub returns-then-again-kind-clause-made : goal.returns-then-again-kind-clause-made
 returns-then-again-kind-clause-made g c =
-    let k = c.args.kind in
-    let blocks = c.args.self.now.blocks in
-    let a = c.args.place.now.me in
-    let block = c.args.block in
-    let real = c.requires.block.0 in
-    let low = c.requires.block.1 in
-    let first = looked_once k blocks a block real low c.requires.kinded c.look.new.place.me c.look.result
-    c.requires.due c.look.ensures.view in
-    let second = drained_once k blocks a block real low c.requires.kinded c.look.new.place.me
-    c.drain-mask.new.place.me c.look.result c.drain-mask.result c.if-look-kind.false first
-    c.drain-mask.ensures.view in
-    let third = looked_again k blocks a block real low c.requires.kinded c.drain-mask.new.place.me
-    c.look-again.new.place.me c.drain-mask.result c.look-again.result
-    (set_real c.drain-mask.result c.in-Some.row c.in-Some.ensures.set) second c.look-again.ensures.view in
-    let apart = mask_apart g.W.Held c.look.new.place.me.0 block c.drain-mask.result a.0.hand
-    (hand_is k blocks (probe 0) _ _ a c.look.new.place.me _ _ first) c.drain-mask.ensures.fresh in
-    gone_back k blocks a block real low c.requires.kinded c.look-again.new.place.me c.put_back.new.place.me
-    c.drain-mask.result c.look-again.result c.put_back.result (λ e. omega (arith, e, c.if-again-kind.true))
-    apart third c.put_back.ensures.view
+    let so = look_again c.take_rows-mask.new.caller c.look-again.new.caller c.args.block c.take_rows-mask.result
+    c.look-again.result c.args.caller.now.view.held c.requires.kinded
+    (set_real c.take_rows-mask.result c.in-Some.row c.in-Some.ensures.set) c.take_rows-mask.ensures.probed
+    c.look-again.ensures.view in
+    rows_back c.look-again.new.caller c.put_back.new.caller c.args.block c.take_rows-mask.result
+    c.look-again.result c.put_back.result c.args.caller.now.view.held
+    (mask_apart g.W.Held c.args.caller.now.view c.args.block c.take_rows-mask.result c.take_rows-mask.ensures.fresh)
+    (seen_as so refl (same_not c.look-again.result (c.args.kind + 1) _ _ (λ e. omega (arith, e, c.if-again-kind.true))))
+    (due (BLOCKS + c.args.block) c.put_back.result (bit_or c.put_back.result c.take_rows-mask.result) _)
+    c.put_back.ensures.view
 
-pub share_out-requires-clause-row : goal.share_out-requires-clause-row
-share_out-requires-clause-row g c =
-    let flip = flip_same c.drain-mask.result c.in-Some.row in
-    let is = ap (λ m. bit_at (bit_xor c.drain-mask.result m) c.in-Some.row) c.bit.ensures.value in
-    (c.in-Some.ensures.within, omega (arith, flip, is, c.in-Some.ensures.set))
-
-pub share_out-requires-clause-hand : goal.share_out-requires-clause-hand
-share_out-requires-clause-hand g c =
-    let k = c.args.kind in
-    let blocks = c.args.self.now.blocks in
-    let a = c.args.place.now.me in
+pub share_out-requires : goal.share_out-requires
+share_out-requires g c =
     let block = c.args.block in
-    let mask = c.drain-mask.result in
-    let row = c.in-Some.row in
-    let real = c.requires.block.0 in
-    let low = c.requires.block.1 in
-    let first = looked_once k blocks a block real low c.requires.kinded c.look.new.place.me c.look.result
-    c.requires.due c.look.ensures.view in
-    let second = drained_once k blocks a block real low c.requires.kinded c.look.new.place.me
-    c.drain-mask.new.place.me c.look.result mask c.if-look-kind.false first c.drain-mask.ensures.view in
-    let third = looked_again k blocks a block real low c.requires.kinded c.drain-mask.new.place.me
-    c.look-again.new.place.me mask c.look-again.result
-    (set_real mask row c.in-Some.ensures.set) second c.look-again.ensures.view in
-    let rows_left = shared k blocks a block real low c.requires.kinded c.look-again.new.place.me mask row
-    c.look-again.result (omega (arith, c.if-again-kind.false)) c.in-Some.ensures.set
-    c.in-Some.ensures.first third in
-    let apart = mask_apart g.W.Held c.look.new.place.me.0 block mask a.0.hand
-    (hand_is k blocks (probe 0) _ _ a c.look.new.place.me _ _ first) c.drain-mask.ensures.fresh in
-    let hand : c.look-again.new.place.me.0.hand ≡ held block row (bit_xor mask c.bit.result)
-    (k + 1) ++ a.0.hand =
-    hand_is k blocks (probe 0) _ _ a c.look-again.new.place.me _ _ rows_left
-    ∙ ap (λ m. held block row (bit_xor mask m) (k + 1) ++ a.0.hand) (sym c.bit.ensures.value) in
-    let left_apart : Apart block (bit_xor mask c.bit.result) a.0.hand =
-    subst (λ m. Apart block (bit_xor mask m) a.0.hand) (sym c.bit.ensures.value)
-    (fewer_apart block mask (bit_xor mask (2 ^ row)) a.0.hand (flip_within mask row c.in-Some.ensures.set)
-    apart) in
-    (a.0.hand, hand, left_apart)
-
-pub share_out-requires-clause-due : goal.share_out-requires-clause-due
-share_out-requires-clause-due g c =
-    let k = c.args.kind in
-    let blocks = c.args.self.now.blocks in
-    let a = c.args.place.now.me in
-    let block = c.args.block in
-    let mask = c.drain-mask.result in
-    let row = c.in-Some.row in
-    let real = c.requires.block.0 in
-    let low = c.requires.block.1 in
-    let first = looked_once k blocks a block real low c.requires.kinded c.look.new.place.me c.look.result
-    c.requires.due c.look.ensures.view in
-    let second = drained_once k blocks a block real low c.requires.kinded c.look.new.place.me
-    c.drain-mask.new.place.me c.look.result mask c.if-look-kind.false first c.drain-mask.ensures.view in
-    let third = looked_again k blocks a block real low c.requires.kinded c.drain-mask.new.place.me
-    c.look-again.new.place.me mask c.look-again.result
-    (set_real mask row c.in-Some.ensures.set) second c.look-again.ensures.view in
-    let rows_left = shared k blocks a block real low c.requires.kinded c.look-again.new.place.me mask row
-    c.look-again.result (omega (arith, c.if-again-kind.false)) c.in-Some.ensures.set
-    c.in-Some.ensures.first third in
-    now_at k blocks (probe 0) _ _ a c.look-again.new.place.me _ _ rows_left
-    ∙ ap (λ m. to_bank block (64 * block + row) 0 (bit_xor mask m)) (sym c.bit.ensures.value)
+    let mask = c.take_rows-mask.result in
+    let held = c.args.caller.now.view.held in
+    let so = look_again c.take_rows-mask.new.caller c.look-again.new.caller block mask
+    c.look-again.result held c.requires.kinded
+    (set_real mask c.in-Some.row c.in-Some.ensures.set) c.take_rows-mask.ensures.probed
+    c.look-again.ensures.view in
+    let same : c.look-again.result ≡ c.args.kind + 1 = omega (arith, c.if-again-kind.false) in
+    let all : HasRowsAs block mask (c.args.kind + 1) c.look-again.new.caller.view.held =
+    subst (HasRowsAs block mask (c.args.kind + 1)) (sym (held_is so ∙ ap (λ y. rows block mask y ++ held) same))
+    (rows_have block mask (c.args.kind + 1) held) in record {
+      seat = table_is so ∙ c.requires.seat;
+      kind = c.requires.kind;
+      block = c.requires.block;
+      rows = λ r lt set. all r lt (
+          let within = flip_within mask c.in-Some.row c.in-Some.ensures.set r in
+          let is = ap (λ m. bit_at (bit_xor mask m) r) c.bit.ensures.value in
+          let bit = Rattle.std.proofs.lemmas.Nat.Bits.bit_at-lt mask r in omega (arith, within, is, bit, set));
+    }
 
 pub returns-clause-made : goal.returns-clause-made
 returns-clause-made g c =
     let k = c.args.kind in
-    let blocks = c.args.self.now.blocks in
-    let a = c.args.place.now.me in
     let block = c.args.block in
-    let mask = c.drain-mask.result in
     let row = c.in-Some.row in
-    let real = c.requires.block.0 in
-    let low = c.requires.block.1 in
-    let first = looked_once k blocks a block real low c.requires.kinded c.look.new.place.me c.look.result
-    c.requires.due c.look.ensures.view in
-    let second = drained_once k blocks a block real low c.requires.kinded c.look.new.place.me
-    c.drain-mask.new.place.me c.look.result mask c.if-look-kind.false first c.drain-mask.ensures.view in
-    let third = looked_again k blocks a block real low c.requires.kinded c.drain-mask.new.place.me
-    c.look-again.new.place.me mask c.look-again.result
-    (set_real mask row c.in-Some.ensures.set) second c.look-again.ensures.view in
-    let rows_left = shared k blocks a block real low c.requires.kinded c.look-again.new.place.me mask row
-    c.look-again.result (omega (arith, c.if-again-kind.false)) c.in-Some.ensures.set
-    c.in-Some.ensures.first third in
-    let apart = mask_apart g.W.Held c.look.new.place.me.0 block mask a.0.hand
-    (hand_is k blocks (probe 0) _ _ a c.look.new.place.me _ _ first) c.drain-mask.ensures.fresh in
-    let hand : c.look-again.new.place.me.0.hand ≡ held block row (bit_xor mask c.bit.result)
-    (k + 1) ++ a.0.hand =
-    hand_is k blocks (probe 0) _ _ a c.look-again.new.place.me _ _ rows_left
-    ∙ ap (λ m. held block row (bit_xor mask m) (k + 1) ++ a.0.hand) (sym c.bit.ensures.value) in
-    let left_apart : Apart block (bit_xor mask c.bit.result) a.0.hand =
-    subst (λ m. Apart block (bit_xor mask m) a.0.hand) (sym c.bit.ensures.value)
-    (fewer_apart block mask (bit_xor mask (2 ^ row)) a.0.hand (flip_within mask row c.in-Some.ensures.set)
-    apart) in
-    let slot : ℕ = 64 * block + row in
-    let some_slot : slot ≢ 0 = λ e. omega arith in
-    shaped_as k blocks (probe 0) _ _ a c.share_out.new.place.me _ _ _ _
-    (then_made k blocks (probe 0) _ _ a c.look-again.new.place.me c.share_out.new.place.me _ _ _ _ rows_left
-    (c.share_out.ensures.made a.0.hand hand left_apart))
-    (sym (with_slot_some slot (k + 1) a.0.hand some_slot))
-    (sym (told_some (to_look blocks (block + 1)) slot some_slot))
+    let mask = c.take_rows-mask.result in
+    let held = c.args.caller.now.view.held in
+    let slot : ℕ = ROWS * block + row in
+    let so = look_again c.take_rows-mask.new.caller c.look-again.new.caller block mask
+    c.look-again.result held c.requires.kinded
+    (set_real mask row c.in-Some.ensures.set) c.take_rows-mask.ensures.probed c.look-again.ensures.view in
+    let same : c.look-again.result ≡ k + 1 = omega (arith, c.if-again-kind.false) in
+    let real : slot ≢ 0 = λ e. (let b = c.requires.block.0 in omega arith) in
+    let apart = mask_apart g.W.Held c.args.caller.now.view block mask c.take_rows-mask.ensures.fresh in
+    let low = lowest_is mask row c.in-Some.ensures.first in
+    let bits = sym c.bit.ensures.value in
+    let kept = seen_as so (ap (λ y. rows block mask y ++ held) same)
+    (same_is c.look-again.result (k + 1) _ _ same
+    ∙ ap (λ r. to_bank block (ROWS * block + r) 0 (bit_xor mask (2 ^ r))) low
+    ∙ ap (λ m. to_bank block slot 0 (bit_xor mask m)) bits) in
+    seen_as (then_as (without_rows block (bit_xor mask c.bit.result)) kept (c.share_out.ensures.made slot))
+    (ap (λ m. without_rows block (bit_xor mask m) (rows block mask (k + 1) ++ held)) c.bit.ensures.value
+    ∙ one_stays block mask row (k + 1) held c.in-Some.ensures.within c.in-Some.ensures.set apart
+    ∙ sym (with_slot_some slot (k + 1) held real))
+    (sym (told_some (to_look c.args.self.now.blocks (block + 1)) slot real))
 
 pub returns-clause-offers : goal.returns-clause-offers
 returns-clause-offers g c =
-    let k = c.args.kind in
-    let blocks = c.args.self.now.blocks in
-    let a = c.args.place.now.me in
-    let block = c.args.block in
-    let mask = c.drain-mask.result in
-    let row = c.in-Some.row in
-    let real = c.requires.block.0 in
-    let low = c.requires.block.1 in
-    let first = looked_once k blocks a block real low c.requires.kinded c.look.new.place.me c.look.result
-    c.requires.due c.look.ensures.view in
-    let second = drained_once k blocks a block real low c.requires.kinded c.look.new.place.me
-    c.drain-mask.new.place.me c.look.result mask c.if-look-kind.false first c.drain-mask.ensures.view in
-    let third = looked_again k blocks a block real low c.requires.kinded c.drain-mask.new.place.me
-    c.look-again.new.place.me mask c.look-again.result
-    (set_real mask row c.in-Some.ensures.set) second c.look-again.ensures.view in
-    let rows_left = shared k blocks a block real low c.requires.kinded c.look-again.new.place.me mask row
-    c.look-again.result (omega (arith, c.if-again-kind.false)) c.in-Some.ensures.set
-    c.in-Some.ensures.first third in
-    row_offers g.W.Held k blocks (probe 0) _ _ a c.look.new.place.me c.drain-mask.new.place.me block row
-    c.look-again.result _ c.in-Some.ensures.within first second
-    (c.drain-mask.ensures.fresh row c.in-Some.ensures.within c.in-Some.ensures.set) c.look-again.ensures.kind
-    (omega (arith, c.if-again-kind.false))
+    row_offers g.W.Held c.args.block c.in-Some.row c.look-again.result c.in-Some.ensures.within
+    c.take_rows-mask.ensures.probed
+    (c.take_rows-mask.ensures.fresh c.in-Some.row c.in-Some.ensures.within c.in-Some.ensures.set)
+    c.look-again.ensures.kind (omega (arith, c.if-again-kind.false))

@@ -1,156 +1,49 @@
-use Rattle.std.proofs.Common.{◌+◌, ◌*◌, refl, sym, ◌∙◌, subst}
-use Rattle.hd_custody.specs.Counts.{Has}
-use Rattle.hd_custody.specs.Traces.{sweep}
-use Rattle.hd_custody.proofs.Canon.{row_has}
-use Rattle.hd_custody.proofs.Phases.{same_not, shaped_as, then_made, hand_is, now_at, lives_on}
-use Rattle.hd_custody.proofs.Probing.{mask_apart}
-use Rattle.hd_custody.proofs.Sweeping.{whole_looked, whole_drained, whole_none, whole_some, part_back}
+use Rattle.std.proofs.Common.{◌+◌, ◌≢◌, bit_or, ◌++◌, refl, sym, ◌∙◌, ap, subst}
+use Rattle.hd_model.specs.declared.limits.TheConstants.{BLOCKS}
+use Rattle.hd_custody.specs.CallSteps.{HasRows}
+use Rattle.hd_custody.proofs.Canon.{row_has, rows_none}
+use Rattle.hd_custody.proofs.Phases.{due, zero_is, zero_not, seen_as, held_is, table_is, and_then}
+use Rattle.hd_custody.proofs.AllocateSteps.{mask_apart, rows_back}
 use Rattle.hd_custody.proofs.types.Custody.take_whole.Goals as goal
 
-pub returns-then-look-kind-clause-made : goal.returns-then-look-kind-clause-made
-returns-then-look-kind-clause-made g c =
-    shaped_as c.args.kind c.args.self.now.blocks (sweep 0) _ _ c.args.place.now.me c.look.new.place.me _ _ _ _
-    (whole_looked c.args.kind c.args.self.now.blocks c.args.place.now.me c.args.block c.requires.block.0
-    c.requires.block.1 c.requires.kinded c.look.new.place.me c.look.result c.requires.due
-    c.look.ensures.view)
-    refl (same_not c.look.result (c.args.kind + 1) _ _ c.if-look-kind.true)
+pub returns-then-mask-eq0-clause-part : goal.returns-then-mask-eq0-clause-part
+returns-then-mask-eq0-clause-part g c _ =
+    seen_as c.take_rows-mask.ensures.gathered
+    (ap (λ ps. ps ++ c.args.caller.now.view.held)
+    (rows_none c.args.block c.take_rows-mask.result 0 c.if-mask-eq0.true))
+    (zero_is c.take_rows-mask.result _ _ c.if-mask-eq0.true)
 
-pub returns-then-mask-eq0-clause-made : goal.returns-then-mask-eq0-clause-made
-returns-then-mask-eq0-clause-made g c =
-    let k = c.args.kind in
-    let blocks = c.args.self.now.blocks in
-    let a = c.args.place.now.me in
-    let block = c.args.block in
-    let mask = c.drain-mask.result in
-    let real = c.requires.block.0 in
-    let low = c.requires.block.1 in
-    let first = whole_looked k blocks a block real low c.requires.kinded c.look.new.place.me c.look.result
-    c.requires.due c.look.ensures.view in
-    let second = whole_drained k blocks a block real low c.requires.kinded c.look.new.place.me
-    c.drain-mask.new.place.me c.look.result mask c.if-look-kind.false first c.drain-mask.ensures.view in
-    whole_none k blocks a block real low c.requires.kinded c.drain-mask.new.place.me mask c.if-mask-eq0.true
-    second
+pub stays_whole-requires : goal.stays_whole-requires
+stays_whole-requires g c = record {
+  seat = table_is c.take_rows-mask.ensures.gathered ∙ c.requires.seat;
+  block = c.requires.block;
+}
 
-pub stays_whole-requires-clause-hand : goal.stays_whole-requires-clause-hand
-stays_whole-requires-clause-hand g c =
-    let k = c.args.kind in
-    let blocks = c.args.self.now.blocks in
-    let a = c.args.place.now.me in
-    let block = c.args.block in
-    let mask = c.drain-mask.result in
-    let real = c.requires.block.0 in
-    let low = c.requires.block.1 in
-    let first = whole_looked k blocks a block real low c.requires.kinded c.look.new.place.me c.look.result
-    c.requires.due c.look.ensures.view in
-    let second = whole_drained k blocks a block real low c.requires.kinded c.look.new.place.me
-    c.drain-mask.new.place.me c.look.result mask c.if-look-kind.false first c.drain-mask.ensures.view in
-    let third = whole_some k blocks a block real low c.requires.kinded c.drain-mask.new.place.me mask
-    c.if-mask-eq0.false second in
-    let hand = hand_is k blocks (sweep 0) _ _ a c.drain-mask.new.place.me _ _ third in
-    (a.0.hand, hand, c.requires.kinded)
+pub returns-then-stays_whole-clause-whole : goal.returns-then-stays_whole-clause-whole
+returns-then-stays_whole-clause-whole g c _ =
+    let so = seen_as c.take_rows-mask.ensures.gathered refl (zero_not c.take_rows-mask.result _ _ c.if-mask-eq0.false) in
+    and_then so (c.stays_whole.ensures.whole c.args.caller.now.view.held (held_is so) c.requires.kinded
+    c.if-stays_whole.true)
 
-pub stays_whole-requires-clause-due : goal.stays_whole-requires-clause-due
-stays_whole-requires-clause-due g c =
-    let k = c.args.kind in
-    let blocks = c.args.self.now.blocks in
-    let a = c.args.place.now.me in
-    let block = c.args.block in
-    let mask = c.drain-mask.result in
-    let real = c.requires.block.0 in
-    let low = c.requires.block.1 in
-    let first = whole_looked k blocks a block real low c.requires.kinded c.look.new.place.me c.look.result
-    c.requires.due c.look.ensures.view in
-    let second = whole_drained k blocks a block real low c.requires.kinded c.look.new.place.me
-    c.drain-mask.new.place.me c.look.result mask c.if-look-kind.false first c.drain-mask.ensures.view in
-    let third = whole_some k blocks a block real low c.requires.kinded c.drain-mask.new.place.me mask
-    c.if-mask-eq0.false second in
-    let hand = hand_is k blocks (sweep 0) _ _ a c.drain-mask.new.place.me _ _ third in
-    now_at k blocks (sweep 0) _ _ a c.drain-mask.new.place.me _ _ third
+pub put_back-requires : goal.put_back-requires
+put_back-requires g c =
+    let so = seen_as c.take_rows-mask.ensures.gathered refl (zero_not c.take_rows-mask.result _ _ c.if-mask-eq0.false) in
+    let part = c.stays_whole.ensures.part c.args.caller.now.view.held (held_is so) c.requires.kinded
+    c.if-stays_whole.false in record {
+      seat = table_is part.1 ∙ table_is so ∙ c.requires.seat;
+      block = c.requires.block;
+      slots = subst (HasRows c.args.block c.take_rows-mask.result) (sym (held_is part.1))
+          (λ r lt set. row_has c.args.block c.take_rows-mask.result part.0 r c.args.caller.now.view.held lt set);
+    }
 
-pub returns-then-stays_whole-clause-made : goal.returns-then-stays_whole-clause-made
-returns-then-stays_whole-clause-made g c =
-    let k = c.args.kind in
-    let blocks = c.args.self.now.blocks in
-    let a = c.args.place.now.me in
-    let block = c.args.block in
-    let mask = c.drain-mask.result in
-    let real = c.requires.block.0 in
-    let low = c.requires.block.1 in
-    let first = whole_looked k blocks a block real low c.requires.kinded c.look.new.place.me c.look.result
-    c.requires.due c.look.ensures.view in
-    let second = whole_drained k blocks a block real low c.requires.kinded c.look.new.place.me
-    c.drain-mask.new.place.me c.look.result mask c.if-look-kind.false first c.drain-mask.ensures.view in
-    let third = whole_some k blocks a block real low c.requires.kinded c.drain-mask.new.place.me mask
-    c.if-mask-eq0.false second in
-    let hand = hand_is k blocks (sweep 0) _ _ a c.drain-mask.new.place.me _ _ third in
-    then_made k blocks (sweep 0) _ _ a c.drain-mask.new.place.me c.stays_whole.new.place.me _ _ _ _ third
-    (c.stays_whole.ensures.whole a.0.hand hand c.requires.kinded c.if-stays_whole.true)
-
-pub put_back-requires-clause-seat : goal.put_back-requires-clause-seat
-put_back-requires-clause-seat g c =
-    let k = c.args.kind in
-    let blocks = c.args.self.now.blocks in
-    let a = c.args.place.now.me in
-    let block = c.args.block in
-    let mask = c.drain-mask.result in
-    let real = c.requires.block.0 in
-    let low = c.requires.block.1 in
-    let first = whole_looked k blocks a block real low c.requires.kinded c.look.new.place.me c.look.result
-    c.requires.due c.look.ensures.view in
-    let second = whole_drained k blocks a block real low c.requires.kinded c.look.new.place.me
-    c.drain-mask.new.place.me c.look.result mask c.if-look-kind.false first c.drain-mask.ensures.view in
-    let third = whole_some k blocks a block real low c.requires.kinded c.drain-mask.new.place.me mask
-    c.if-mask-eq0.false second in
-    let hand = hand_is k blocks (sweep 0) _ _ a c.drain-mask.new.place.me _ _ third in
-    let part = c.stays_whole.ensures.part a.0.hand hand c.requires.kinded c.if-stays_whole.false in
-    let fourth = then_made k blocks (sweep 0) _ _ a c.drain-mask.new.place.me c.stays_whole.new.place.me _ _ _
-    _ third part.1 in (
-      c.stays_whole.ensures.table ∙ c.drain-mask.ensures.table ∙ c.look.ensures.table ∙ c.requires.seat.0,
-      lives_on k blocks (sweep 0) _ _ a c.stays_whole.new.place.me _ _ fourth c.requires.seat.1,
-    )
-
-pub put_back-requires-clause-slots : goal.put_back-requires-clause-slots
-put_back-requires-clause-slots g c r lt set =
-    let k = c.args.kind in
-    let blocks = c.args.self.now.blocks in
-    let a = c.args.place.now.me in
-    let block = c.args.block in
-    let mask = c.drain-mask.result in
-    let real = c.requires.block.0 in
-    let low = c.requires.block.1 in
-    let first = whole_looked k blocks a block real low c.requires.kinded c.look.new.place.me c.look.result
-    c.requires.due c.look.ensures.view in
-    let second = whole_drained k blocks a block real low c.requires.kinded c.look.new.place.me
-    c.drain-mask.new.place.me c.look.result mask c.if-look-kind.false first c.drain-mask.ensures.view in
-    let third = whole_some k blocks a block real low c.requires.kinded c.drain-mask.new.place.me mask
-    c.if-mask-eq0.false second in
-    let hand = hand_is k blocks (sweep 0) _ _ a c.drain-mask.new.place.me _ _ third in
-    let part = c.stays_whole.ensures.part a.0.hand hand c.requires.kinded c.if-stays_whole.false in
-    let fourth = then_made k blocks (sweep 0) _ _ a c.drain-mask.new.place.me c.stays_whole.new.place.me _ _ _
-    _ third part.1 in
-    subst (λ hs. Has (64 * block + r) hs) (sym (hand_is k blocks (sweep 0) _ _ a c.stays_whole.new.place.me _
-    _ fourth)) (row_has block mask part.0 r a.0.hand lt set)
-
-pub returns-clause-made : goal.returns-clause-made
-returns-clause-made g c =
-    let k = c.args.kind in
-    let blocks = c.args.self.now.blocks in
-    let a = c.args.place.now.me in
-    let block = c.args.block in
-    let mask = c.drain-mask.result in
-    let real = c.requires.block.0 in
-    let low = c.requires.block.1 in
-    let first = whole_looked k blocks a block real low c.requires.kinded c.look.new.place.me c.look.result
-    c.requires.due c.look.ensures.view in
-    let second = whole_drained k blocks a block real low c.requires.kinded c.look.new.place.me
-    c.drain-mask.new.place.me c.look.result mask c.if-look-kind.false first c.drain-mask.ensures.view in
-    let third = whole_some k blocks a block real low c.requires.kinded c.drain-mask.new.place.me mask
-    c.if-mask-eq0.false second in
-    let hand = hand_is k blocks (sweep 0) _ _ a c.drain-mask.new.place.me _ _ third in
-    let part = c.stays_whole.ensures.part a.0.hand hand c.requires.kinded c.if-stays_whole.false in
-    let fourth = then_made k blocks (sweep 0) _ _ a c.drain-mask.new.place.me c.stays_whole.new.place.me _ _ _
-    _ third part.1 in
-    let apart = mask_apart g.W.Held c.look.new.place.me.0 block mask a.0.hand
-    (hand_is k blocks (sweep 0) _ _ a c.look.new.place.me _ _ first) c.drain-mask.ensures.fresh in
-    part_back k blocks a block real low c.requires.kinded c.stays_whole.new.place.me c.put_back.new.place.me
-    mask part.0 c.put_back.result apart fourth c.put_back.ensures.view
+pub returns-clause-part : goal.returns-clause-part
+returns-clause-part g c _ =
+    let so = seen_as c.take_rows-mask.ensures.gathered refl (zero_not c.take_rows-mask.result _ _ c.if-mask-eq0.false) in
+    let part = c.stays_whole.ensures.part c.args.caller.now.view.held (held_is so) c.requires.kinded
+    c.if-stays_whole.false in
+    rows_back c.stays_whole.new.caller c.put_back.new.caller c.args.block c.take_rows-mask.result part.0
+    c.put_back.result c.args.caller.now.view.held
+    (mask_apart g.W.Held c.args.caller.now.view c.args.block c.take_rows-mask.result c.take_rows-mask.ensures.fresh)
+    (and_then so part.1)
+    (due (BLOCKS + c.args.block) c.put_back.result (bit_or c.put_back.result c.take_rows-mask.result) _)
+    c.put_back.ensures.view

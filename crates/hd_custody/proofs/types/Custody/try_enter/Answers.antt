@@ -1,17 +1,16 @@
 use Rattle.std.proofs.Common.{ℕ, Option, Some, List, ◌∷◌, sym, ◌∙◌, ap, rules}
-use Rattle.atomic_table.specs.Table.{rest, Me}
-use Rattle.hd_custody.specs.declared.view.View.{View}
-use Rattle.hd_custody.specs.Views.{Named, Known}
+use Rattle.atomic_table.specs.Table.{rest}
+use Rattle.hd_custody.specs.Views.{Named, Known, Acting}
 use Rattle.hd_custody.proofs.Phases.{if_true}
 use Rattle.hd_custody.proofs.types.Custody.try_enter.Goals as goal
 
 pub exchange-requires : goal.exchange-requires
 exchange-requires g c =
     let W = g.row.W.Denot in
-    let place = c.seat.inside.place in
     let won = if_true c.win.result _ (search rules) c.win.ensures.won in
-    let is = ap (λ (x : Me (Option W) (View W)). x.1) won.1 in (
-      c.win.ensures.table ∙ ap (λ (k : Known W). k.table) c.seat.view_is ∙ c.requires.seat
+    let is = c.caller.view_is ∙ won.1 in
+    let out = ap (λ (a : Acting W). a.out) is in (
+      ap (λ (a : Acting W). a.table) is ∙ ap (λ (k : Known W). k.table) c.seat.view_is ∙ c.requires.seat
           ∙ ap (λ (n : Named). n.table) (sym c.self.view_is),
-      (Some won.0, is ∙ ap (λ (l : List (ℕ × Option W)). (0, Some won.0) ∷ rest l) (sym is)),
+      (Some won.0, out ∙ ap (λ (l : List (ℕ × Option W)). (0, Some won.0) ∷ rest l) (sym out)),
     )

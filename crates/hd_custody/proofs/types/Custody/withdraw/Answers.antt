@@ -1,7 +1,8 @@
 use Rattle.std.proofs.Common.{◌≡◌, ℕ, ◌+◌, ◌*◌, ◌<◌, sym, ◌∙◌, ap, subst, arith}
+use Rattle.hd_model.specs.declared.limits.TheConstants.{ROWS}
 use Rattle.hd_custody.specs.declared.view.View.{View}
 use Rattle.hd_custody.specs.Counts.{Has}
-use Rattle.hd_custody.specs.Views.{Named, Known, IsSeated}
+use Rattle.hd_custody.specs.Views.{Named, Known, Kinded, IsSeated, closed, Acting}
 use Rattle.hd_custody.proofs.Gives.{clear_steps}
 use Rattle.hd_custody.proofs.Seated.{closed_kinded, block_real}
 use Rattle.hd_custody.proofs.types.Custody.withdraw.Goals as goal
@@ -9,20 +10,23 @@ use Rattle.hd_custody.proofs.types.Custody.withdraw.Goals as goal
 pub store-requires : goal.store-requires
 store-requires g c =
     let W = g.row.W.Denot in
-    let place = c.seat.inside.place in
-    let now : c.args.seat.now.view ≡ place.me.0 = ap (λ (k : Known W). k.view) (sym c.seat.view_is) in
-    let has : (r : ℕ) → r < 64 → Has (64 * c.args.block + r) place.me.0.hand =
-    λ r lt. subst (λ (v : View W). Has (64 * c.args.block + r) v.hand) now (c.requires.all r lt) in
-    let real = block_real c.args.block 0 place.me.0.hand (omega arith) c.seat.invariant.2 (has 0 (omega arith)) in (
-      ap (λ (k : Known W). k.table) c.seat.view_is ∙ c.requires.seat
+    let place = c.caller.inside.place in
+    let now : c.args.seat.now.view ≡ place.me.0 = ap (λ (k : Known W). k.view) (sym c.seat.view_is)
+    ∙ ap (λ (a : Acting W). a.view) (sym c.caller.view_is) in
+    let kinded = subst (λ (a : Acting W). Kinded a.view.held) (sym c.caller.view_is) c.seat.invariant.2 in
+    let has : (r : ℕ) → r < ROWS → Has (ROWS * c.args.block + r) place.me.0.held =
+    λ r lt. subst (λ (v : View W). Has (ROWS * c.args.block + r) v.held) now (c.requires.all r lt) in
+    let real = block_real c.args.block 0 place.me.0.held (omega arith) kinded (has 0 (omega arith)) in (
+      ap (λ (a : Acting W). a.table) c.caller.view_is ∙ ap (λ (k : Known W). k.table) c.seat.view_is ∙ c.requires.seat
           ∙ ap (λ (n : Named). n.table) (sym c.self.view_is),
       omega (arith, c.self.invariant, real.1),
-      clear_steps g.W.Held _ _ place.id place.me.0 place.me.1 c.seat.invariant.0 c.args.block
+      clear_steps g.W.Held _ _ place.id place.me.0 place.me.1 c.caller.invariant c.args.block
           real.0 real.1 (ap (λ (v : View W). v.has_gate) (sym now) ∙ c.requires.gate) has,
     )
 
 pub invariant_of-seat : goal.invariant_of-seat
 invariant_of-seat g c =
-    let place = c.seat.inside.place in
+    let W = g.row.W.Denot in
     subst IsSeated (sym c.store.ensures.2)
-    (c.seat.invariant.0, c.seat.invariant.1, closed_kinded c.args.block place.me.0.hand c.seat.invariant.2)
+    (subst (λ (a : Acting W). IsSeated (closed c.args.block a.view, a.out)) (sym c.caller.view_is)
+    (c.seat.invariant.0, c.seat.invariant.1, closed_kinded c.args.block c.seat.inside.caller.view.held c.seat.invariant.2))

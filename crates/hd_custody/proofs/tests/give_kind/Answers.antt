@@ -4,7 +4,7 @@ use Rattle.hd_custody.specs.declared.tests.Blocks.{Blocks}
 use Rattle.hd_custody.specs.contracts.tests.BlocksHeld.TheImpl.{ghosts}
 use Rattle.hd_custody.specs.Views.{Known}
 use Rattle.hd_custody.proofs.Left.{none_ended}
-use Rattle.hd_custody.proofs.tests.grow.Goals as goal
+use Rattle.hd_custody.proofs.tests.give_kind.Goals as goal
 
 pub returns-then-kind_word-ne0-clause-seat : goal.returns-then-kind_word-ne0-clause-seat
 returns-then-kind_word-ne0-clause-seat g c =
@@ -16,14 +16,14 @@ returns-then-kind_word-ne0-clause-seat g c =
       ap (λ (s : Known Blocks). s.view.number) left ∙ ap (λ (s : Known Blocks). s.view.number) entered,
     )
 
-pub returns-then-kind_word-ne0-clause-hand : goal.returns-then-kind_word-ne0-clause-hand
-returns-then-kind_word-ne0-clause-hand g c =
+pub returns-then-kind_word-ne0-clause-held : goal.returns-then-kind_word-ne0-clause-held
+returns-then-kind_word-ne0-clause-held g c =
     let entered = c.enter-world.ensures.view in
     let left = c.leave.ensures.view c.enter-world.result (ap (λ (s : Known Blocks). s.view.taken) entered) in
-    ap (λ (s : Known Blocks). s.view.hand) left
+    ap (λ (s : Known Blocks). s.view.held) left
     ∙ none_ended ghosts c.enter-world.result c.enter-world.result c.enter-world.new.seat.view (λ x le. refl)
     (λ n p e. refl)
-    ∙ ap (λ (s : Known Blocks). s.view.hand) entered
+    ∙ ap (λ (s : Known Blocks). s.view.held) entered
 
 pub returns-clause-seat : goal.returns-clause-seat
 returns-clause-seat g c =
@@ -39,15 +39,15 @@ returns-clause-seat g c =
           ∙ ap (λ (s : Known Blocks). s.view.number) entered,
     )
 
-pub returns-clause-hand : goal.returns-clause-hand
-returns-clause-hand g c =
+pub returns-clause-held : goal.returns-clause-held
+returns-clause-held g c =
     let entered = c.enter-world.ensures.view in
     let granted = c.grant.ensures.view in
     let taken = ap (λ (s : Known Blocks). s.view.taken) granted
     ∙ ap (λ (s : Known Blocks). s.view.taken) entered in
     let left = c.leave-2.ensures.view c.enter-world.result taken in
-    ap (λ (s : Known Blocks). s.view.hand) left
+    ap (λ (s : Known Blocks). s.view.held) left
     ∙ none_ended ghosts c.enter-world.result c.with-world.result c.grant.new.seat.view (λ x le. refl)
     (λ n p e. refl)
-    ∙ ap (λ (s : Known Blocks). s.view.hand) granted
-    ∙ ap (λ (s : Known Blocks). (64 * c.args.block, kind_number c.args.kind + 1) ∷ s.view.hand) entered
+    ∙ ap (λ (s : Known Blocks). s.view.held) granted
+    ∙ ap (λ (s : Known Blocks). (64 * c.args.block, kind_number c.args.kind + 1) ∷ s.view.held) entered

@@ -10,18 +10,18 @@ use Rattle.hd_model.specs.declared.data.Entry.{Entry}
 use Rattle.hd_model.specs.State.{Numbers}
 use Rattle.hd_model.specs.Run.{part_of}
 use Rattle.hd_custody.specs.declared.view.View.{View}
-use Rattle.hd_custody.specs.Counts.{in_hand}
+use Rattle.hd_custody.specs.Counts.{held_times}
 use Rattle.hd_custody.specs.Views.{spent, joined}
 use Rattle.hd_custody.specs.Rule.{tally, room_of, held_by, Fits, HasNumber, Out, Custodied}
 use Rattle.hd_custody.proofs.Totals.{total_set}
-use Rattle.hd_custody.proofs.Hands.{true_false}
+use Rattle.hd_custody.proofs.HeldSlots.{true_false}
 use Rattle.hd_custody.proofs.Slots.{held_alive}
-use Rattle.hd_custody.proofs.Alike.{place_there}
-use Rattle.hd_custody.proofs.Seating.{at_end, at_last, Related, gate_related, slots_related}
+use Rattle.hd_custody.proofs.Alike.{place_there, fits_as, out_set}
+use Rattle.hd_custody.proofs.SeatSplit.{at_end, at_last, Relates, Related, gate_related, slots_related}
 
 module _ {W : Type 0} (m : Ghosts W) (numbers : Numbers) (id other : ℕ) (v w : View W)
     (lives : v.is_spent ≡ false) (first : v.number ≡ 0)
-    (lives' : w.is_spent ≡ false) (gateless : w.has_gate ≡ false) (empty : w.hand ≡ [])
+    (lives' : w.is_spent ≡ false) (gateless : w.has_gate ≡ false) (empty : w.held ≡ [])
     (s : State (Option W) (View W)) (c : Custodied m numbers s) (there : get_elem? s.views id ≡ some v)
     (apart : ¬ (other ≡ id))
     (there' : get_elem? (set s.views id (joined v w)) other ≡ some w) where
@@ -95,8 +95,7 @@ module _ {W : Type 0} (m : Ghosts W) (numbers : Numbers) (id other : ℕ) (v w :
         ended_parts = ended_at;
         sized = own.sized;
       } in
-      subst (λ z. Fits c.made owner' (m.journal c.world) numbers j z) here.1
-      (subst (λ i. Fits c.made owner' (m.journal c.world) numbers i both) (sym here.0) mine)
+      fits_as mine here
   fits_at j u alive (inr (inr rest)) =
       let h = c.seats.each j u rest.2 alive in record {
         low = h.low;
@@ -159,45 +158,26 @@ module _ {W : Type 0} (m : Ghosts W) (numbers : Numbers) (id other : ℕ) (v w :
   related : Related s.views fewer
   related j u at alive = at_case (case_of j u at)
     where
-      at_case : Case j u → ((z : View W) × (get_elem? s.views j ≡ some z) × (z.is_spent ≡ false)
-          × (u.has_gate ≡ z.has_gate) × (u.taken ≡ z.taken) × (u.changes ≡ z.changes) × (u.hand ≡ z.hand))
-          ⊎ ((u.has_gate ≡ false) × (u.hand ≡ []))
+      at_case : Case j u → Relates s.views fewer j u
       at_case (inl gone) = absurd (spent_dead u gone.1 alive)
-      at_case (inr (inl here)) = inl (
-        v,
-        ap (get_elem? s.views) here.0
-            ∙ there,
-        lives,
-        ap (λ (z : View W). z.has_gate) (sym here.1),
-        ap (λ (z : View W). z.taken)
-            (sym here.1),
-        ap (λ (z : View W). z.changes) (sym here.1),
-        ap (λ (z : View W). z.hand) (sym here.1),
-      )
+      at_case (inr (inl here)) = subst (Relates s.views fewer j) here.1
+          (inl (v, ap (get_elem? s.views) here.0 ∙ there, lives, refl, refl, refl, refl))
       at_case (inr (inr rest)) = inl (u, rest.2, alive, refl, refl, refl, refl)
 
   out_at : (o : Out c.world c.holder s.homes s.views) → (c.holder ≡ other) ⊎ (c.holder ≢ other)
-      → (c.holder ≡ id) ⊎ (c.holder ≢ id) → Out c.world c.holder s.homes fewer
-  out_at o (inl gone) _ =
+      → Out c.world c.holder s.homes fewer
+  out_at o (inl gone) =
       let same : o.view ≡ w = some-injective o.view w (sym o.there ∙ ap (get_elem? s.views) gone ∙ old_there)
       in
       absurd (true_false w.has_gate (ap (λ (z : View W). z.has_gate) (sym same) ∙ o.has) gateless)
-  out_at o (inr stay) (inl here) =
-      let same : o.view ≡ v = some-injective o.view v (sym o.there ∙ ap (get_elem? s.views) here
-      ∙ there) in record {
-        view = both;
-        gone = o.gone;
-        there = ap (get_elem? fewer) here ∙ there_both;
-        lives = lives;
-        has = ap (λ (z : View W). z.has_gate) (sym same) ∙ o.has;
+  out_at o (inr stay) =
+      let b = out_set s.views id v both there refl refl c.world c.holder s.homes o in record {
+        view = b.view;
+        gone = b.gone;
+        there = set_else halfway other c.holder spent stay ∙ b.there;
+        lives = b.lives;
+        has = b.has;
       }
-  out_at o (inr stay) (inr far) = record {
-    view = o.view;
-    gone = o.gone;
-    there = set_else halfway other c.holder spent stay ∙ set_else s.views id c.holder both far ∙ o.there;
-    lives = o.lives;
-    has = o.has;
-  }
 
   pub joins : Custodied m numbers (record { words = s.words; homes = s.homes; views = fewer })
   joins = record {
@@ -209,7 +189,7 @@ module _ {W : Type 0} (m : Ghosts W) (numbers : Numbers) (id other : ℕ) (v w :
     wide = c.wide;
     sized = c.sized;
     gate = gate_related s.views fewer related c.world c.holder c.changes s.words s.homes c.gate
-        (λ o. out_at o (cases_eq c.holder other) (cases_eq c.holder id));
+        (λ o. out_at o (cases_eq c.holder other));
     seats = record {
       each = λ j u at alive. fits_at j u alive (case_of j u at);
       begun = c.seats.begun;
@@ -241,6 +221,6 @@ module _ {W : Type 0} (m : Ghosts W) (numbers : Numbers) (id other : ℕ) (v w :
         let a = total_set (held_by x) halfway other w spent there' in
         let b = total_set (held_by x) s.views id v both there in
         let e : held_by x both ≡ held_by x v = refl in
-        let none : held_by x w ≡ 0 = held_alive x w lives' ∙ ap (λ h. in_hand x h) empty in
+        let none : held_by x w ≡ 0 = held_alive x w lives' ∙ ap (λ h. held_times x h) empty in
         omega arith);
   }

@@ -1,5 +1,5 @@
 -- The table at its start and at its end.
-use Rattle.std.proofs.Common.{◌≡◌, ◌≢◌, ◌⊎◌, ℕ, zero, suc, ◌+◌, ◌/◌, ◌<◌, ◌≤◌, ◌==◌, false, cond, List, [], ◌∷◌, length, get_or, replicate, Option, Some, inl, inr, sym, ap, subst, refl, ◌∙◌, arith}
+use Rattle.std.proofs.Common.{◌^◌, ◌≡◌, ◌≢◌, ◌⊎◌, ℕ, zero, suc, ◌+◌, ◌/◌, ◌<◌, ◌≤◌, ◌==◌, false, cond, List, [], ◌∷◌, length, get_or, replicate, Option, Some, inl, inr, sym, ap, subst, refl, ◌∙◌, arith}
 use Rattle.std.proofs.lemmas.Bool.{cases_eq, cases_lt}
 use Rattle.std.proofs.Math.ListN.{length-replicate}
 use mathlib.Core.Option.{some, some-injective, some-ne-none}
@@ -9,12 +9,15 @@ use Rattle.hd_model.specs.declared.held.Held.{Ghosts}
 use Rattle.hd_model.specs.declared.data.Entry.{Entry}
 use Rattle.hd_model.specs.State.{Numbers}
 use Rattle.hd_model.specs.Run.{part_of}
+use Rattle.hd_model.specs.declared.limits.TheConstants.{BLOCKS, ROWS}
+use Rattle.hd_custody.specs.declared.words.TheConstants.{FIRST_MASK, WORDS}
 use Rattle.hd_custody.specs.declared.view.View.{View}
 use Rattle.hd_custody.specs.Counts.{one_if, weight, kind_word}
 use Rattle.hd_custody.specs.Views.{starting}
 use Rattle.hd_custody.specs.Rule.{tally, Fits, HasNumber, Custodied, Divided, IsUnused}
 use Rattle.hd_custody.proofs.Totals.{total_two, total_at_none}
-use Rattle.hd_custody.proofs.Hands.{true_false}
+use Rattle.hd_custody.proofs.HeldSlots.{true_false}
+use Rattle.hd_custody.proofs.Alike.{fits_as}
 use Rattle.hd_custody.proofs.Weights.{weight_zero, kind_word_is, kind_word_out, named_none}
 
 -- ---- the table at its start
@@ -26,14 +29,14 @@ nothing : (a b d k : ℕ) → a ≡ 0 → b ≡ 0 → d ≡ 0 → k ≡ 0 → a 
 nothing a b d k ea eb ed ek = omega arith
 
 abbrev pub zero_words : List ℕ
-zero_words = replicate 1402 0
+zero_words = replicate WORDS 0
 
 module _ {W : Type 0} (m : Ghosts W) (world : W) (unused : IsUnused m world) where
   abbrev firstly : View W
   firstly = starting (m.spare world) (m.numbers world)
 
   zeros : (i : ℕ) → get_or zero_words i 0 ≡ 0
-  zeros = at 1402
+  zeros = at WORDS
     where
       at : (n i : ℕ) → get_or (replicate {A = ℕ} n 0) i 0 ≡ 0
       at zero i = refl
@@ -41,7 +44,7 @@ module _ {W : Type 0} (m : Ghosts W) (world : W) (unused : IsUnused m world) whe
       at (suc n) (suc i) = at n i
 
   no_kind : (b : ℕ) → kind_word (zero_words) b ≡ 0
-  no_kind b = elim (cases_lt b 257) [
+  no_kind b = elim (cases_lt b FIRST_MASK) [
     | inl lt ↦ kind_word_is (zero_words) b lt ∙ zeros b
     | inr le ↦ kind_word_out (zero_words) b le
   ]
@@ -68,7 +71,7 @@ module _ {W : Type 0} (m : Ghosts W) (world : W) (unused : IsUnused m world) whe
     changes = [];
     made = 1;
     owner = λ n. cond (n == 0) 1 0;
-    wide = length-replicate {A = ℕ} 1402 0;
+    wide = length-replicate {A = ℕ} WORDS 0;
     sized = refl;
     gate = record {
       free_or_held = inl (zeros 0, refl, refl);
@@ -76,10 +79,7 @@ module _ {W : Type 0} (m : Ghosts W) (world : W) (unused : IsUnused m world) whe
           (sym (only j u at).1)));
     };
     seats = record {
-      each = λ j u at alive. (let o = only j u at in subst (λ z. Fits 1 (λ n. cond (n == 0) 1 0)
-          (m.journal world) (m.numbers world) j z) o.1
-          (subst (λ i. Fits 1 (λ n. cond (n == 0) 1 0) (m.journal world) (m.numbers world) i firstly)
-          (sym o.0) first_fits));
+      each = λ j u at alive. fits_as first_fits (only j u at);
       begun = omega arith;
       unmade = λ n le. ap (λ j. part_of j n) unused.no_entries;
       counted = refl;
@@ -88,14 +88,14 @@ module _ {W : Type 0} (m : Ghosts W) (world : W) (unused : IsUnused m world) whe
     };
     kinds = λ b real lt. zeros b ∙ sym (unused.no_kinds b);
     slots = record {
-      in_one_place = λ x real. nothing _ _ _ _ (total_at_none (weight x) 1402 0 (λ i. weight_zero x i real))
+      in_one_place = λ x real. nothing _ _ _ _ (total_at_none (weight x) WORDS 0 (λ i. weight_zero x i real))
           refl
-          (ap one_if (unused.nothing_live x)) (named_none _ (no_kind (x / 64)));
+          (ap one_if (unused.nothing_live x)) (named_none _ (no_kind (x / ROWS)));
       cells = λ i le ne. absurd (ne (zeros i));
-      hands = λ j u at alive n p e. absurd (some-ne-none p
-          (sym (ap (λ (z : View W). get_elem? z.hand n) (only j u at).1 ∙ e)));
-      masks = λ i le lt. subst (λ n. n < 18446744073709551616) (sym (zeros i)) (omega arith);
-      empty_masks = λ b real lt none. zeros (256 + b);
+      held = λ j u at alive n p e. absurd (some-ne-none p
+          (sym (ap (λ (z : View W). get_elem? z.held n) (only j u at).1 ∙ e)));
+      masks = λ i le lt. subst (λ n. n < (2 ^ ROWS)) (sym (zeros i)) (omega arith);
+      empty_masks = λ b real lt none. zeros (BLOCKS + b);
     };
   }
 
@@ -120,12 +120,12 @@ module _ {W : Type 0} (m : Ghosts W) (numbers : Numbers) (id : ℕ) (v : View W)
   home : s.homes ≡ some (Some c.world) ∷ []
   home = elim c.gate.free_or_held [
     | inl free ↦ free.1
-    | inr held ↦ absurd (elim (cases_eq c.holder id) [
+    | inr taken ↦ absurd (elim (cases_eq c.holder id) [
       | inl here ↦ (
-          let same : held.1.view ≡ v = some-injective held.1.view v (sym held.1.there
+          let same : taken.1.view ≡ v = some-injective taken.1.view v (sym taken.1.there
           ∙ ap (get_elem? s.views) here ∙ there) in
-          true_false v.has_gate (ap (λ (z : View W). z.has_gate) (sym same) ∙ held.1.has) gateless)
-      | inr far ↦ others_spent c.holder held.1.view held.1.there held.1.lives far
+          true_false v.has_gate (ap (λ (z : View W). z.has_gate) (sym same) ∙ taken.1.has) gateless)
+      | inr far ↦ others_spent c.holder taken.1.view taken.1.there taken.1.lives far
     ])
   ]
 

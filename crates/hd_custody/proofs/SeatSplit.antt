@@ -14,8 +14,8 @@ use Rattle.hd_custody.specs.Counts.{total}
 use Rattle.hd_custody.specs.Views.{shared_out, given}
 use Rattle.hd_custody.specs.Rule.{tally, room_of, held_by, Fits, HasNumber, Slots, Out, Gate, Custodied}
 use Rattle.hd_custody.proofs.Totals.{total_set, total_snoc}
-use Rattle.hd_custody.proofs.Hands.{true_false}
-use Rattle.hd_custody.proofs.Alike.{place_there}
+use Rattle.hd_custody.proofs.HeldSlots.{true_false}
+use Rattle.hd_custody.proofs.Alike.{fits_as, kept_set, out_set}
 
 pub at_end : {A : Type 0} (l : List A) (a b : A) (j : ℕ) → get_elem? (l ++ a ∷ []) j ≡ some b
     → ((j < length l) × (get_elem? l j ≡ some b)) ⊎ ((j ≡ length l) × (a ≡ b))
@@ -33,12 +33,15 @@ at_last l a n e = Rattle.atomic_table.proofs.Lists.at_last l a n (sym e)
 -- ---- views that change in what neither the gate nor slots depend on
 
 module _ {W : Type 0} (views views' : List (View W)) where
-  -- each seat is as it was in this, or new
+  -- the seat is as it was in this, or new
+  abbrev pub Relates : ℕ → View W → Type 0
+  Relates j u =
+      ((z : View W) × (get_elem? views j ≡ some z) × (z.is_spent ≡ false) × (u.has_gate ≡ z.has_gate)
+      × (u.taken ≡ z.taken) × (u.changes ≡ z.changes) × (u.held ≡ z.held))
+      ⊎ ((u.has_gate ≡ false) × (u.held ≡ []))
+
   abbrev pub Related : Type 0
-  Related = (j : ℕ) (u : View W) → get_elem? views' j ≡ some u → u.is_spent ≡ false
-      → ((z : View W) × (get_elem? views j ≡ some z) × (z.is_spent ≡ false) × (u.has_gate ≡ z.has_gate)
-      × (u.taken ≡ z.taken) × (u.changes ≡ z.changes) × (u.hand ≡ z.hand))
-      ⊎ ((u.has_gate ≡ false) × (u.hand ≡ []))
+  Related = (j : ℕ) (u : View W) → get_elem? views' j ≡ some u → u.is_spent ≡ false → Relates j u
 
   module _ (related : Related) where
     pub gate_related : (world : W) (holder : ℕ) (changes : List (ℕ × ℕ)) (words : List ℕ)
@@ -49,7 +52,7 @@ module _ {W : Type 0} (views views' : List (View W)) where
     gate_related world holder changes words homes g out = record {
       free_or_held = elim g.free_or_held [
         | inl free ↦ inl free
-        | inr held ↦ inr (held.0, out held.1)
+        | inr taken ↦ inr (taken.0, out taken.1)
       ];
       holding = λ j u at alive has. elim (related j u at alive) [
         | inl was ↦ (
@@ -65,8 +68,8 @@ module _ {W : Type 0} (views views' : List (View W)) where
     slots_related live words s same = record {
       in_one_place = λ x real. (let one = s.in_one_place x real in let e = same x in omega arith);
       cells = s.cells;
-      hands = λ j u at alive n p e. elim (related j u at alive) [
-        | inl was ↦ s.hands j was.0 was.1 was.2 n p (ap (λ h. get_elem? h n) (sym was.6) ∙ e)
+      held = λ j u at alive n p e. elim (related j u at alive) [
+        | inl was ↦ s.held j was.0 was.1 was.2 n p (ap (λ h. get_elem? h n) (sym was.6) ∙ e)
         | inr new ↦ absurd (some-ne-none p (sym (ap (λ h. get_elem? h n) (sym new.1) ∙ e)))
       ];
       masks = s.masks;
@@ -135,8 +138,7 @@ module _ {W : Type 0} (m : Ghosts W) (numbers : Numbers) (id share : ℕ) (v : V
         ));
         sized = own.sized;
       } in
-      subst (λ z. Fits (c.made + 1) owner' (m.journal c.world) numbers j z) here.1
-      (subst (λ i. Fits (c.made + 1) owner' (m.journal c.world) numbers i left) (sym here.0) mine)
+      fits_as mine here
   fits_at j u alive (inr (inl other)) =
       let h = c.seats.each j u other.1 alive in record {
         low = (let low = h.low in omega arith);
@@ -163,22 +165,7 @@ module _ {W : Type 0} (m : Ghosts W) (numbers : Numbers) (id share : ℕ) (v : V
         ended_parts = λ k e at. absurd (some-ne-none e (sym at));
         sized = own.sized;
       } in
-      subst (λ z. Fits (c.made + 1) owner' (m.journal c.world) numbers j z) last.1
-      (subst (λ i. Fits (c.made + 1) owner' (m.journal c.world) numbers i new) (sym last.0) mine)
-
-  kept_at : (n i : ℕ) (u : View W) → get_elem? s.views i ≡ some u → HasNumber n u → (i ≡ id) ⊎ (i ≢ id)
-      → (j : ℕ) × (z : View W) × (get_elem? more j ≡ some z) × HasNumber n z
-  kept_at n i u at his (inl here) =
-      let same : u ≡ v = some-injective u v (sym at ∙ ap (get_elem? s.views) here ∙ there) in
-      let mine : HasNumber n v = subst (λ z. HasNumber n z) same his in
-      (id, left, at_longer cut (new ∷ []) id left (place_there s.views id v left there), mine)
-  kept_at n i u at his (inr other) = (
-    i,
-    u,
-    at_longer cut (new ∷ []) i u (set_else s.views id i left other
-        ∙ at),
-    his,
-  )
+      fits_as mine last
 
   kept_all : (n : ℕ) → n < c.made + 1 → (n ≡ c.made) ⊎ (n ≢ c.made) → (j : ℕ) × (z : View W)
       × (get_elem? more j ≡ some z) × HasNumber n z
@@ -188,52 +175,29 @@ module _ {W : Type 0} (m : Ghosts W) (numbers : Numbers) (id share : ℕ) (v : V
     at_last cut new (length s.views) (sym (length-set s.views id left)),
     (refl, inl (made_is ∙ sym same)),
   )
-  kept_all n lt (inr other) = let a = c.seats.kept n (omega arith) in kept_at n a.0 a.1 a.2 a.3
-      (cases_eq a.0 id)
+  kept_all n lt (inr other) =
+      let a = c.seats.kept n (omega arith) in
+      let b = kept_set s.views id v left there (λ n h. h) n a.0 a.1 a.2 a.3 in
+      (b.0, b.1, at_longer cut (new ∷ []) b.0 b.1 b.2, b.3)
 
   related : Related s.views more
   related j u at alive = at_case (case_of j u at)
     where
-      at_case : Case j u → ((z : View W) × (get_elem? s.views j ≡ some z) × (z.is_spent ≡ false)
-          × (u.has_gate ≡ z.has_gate) × (u.taken ≡ z.taken) × (u.changes ≡ z.changes) × (u.hand ≡ z.hand))
-          ⊎ ((u.has_gate ≡ false) × (u.hand ≡ []))
-      at_case (inl here) = inl (
-        v,
-        ap (get_elem? s.views) here.0
-            ∙ there,
-        lives,
-        ap (λ (z : View W). z.has_gate) (sym here.1),
-        ap (λ (z : View W). z.taken)
-            (sym here.1),
-        ap (λ (z : View W). z.changes) (sym here.1),
-        ap (λ (z : View W). z.hand) (sym here.1),
-      )
+      at_case : Case j u → Relates s.views more j u
+      at_case (inl here) = subst (Relates s.views more j) here.1
+          (inl (v, ap (get_elem? s.views) here.0 ∙ there, lives, refl, refl, refl, refl))
       at_case (inr (inl other)) = inl (u, other.1, alive, refl, refl, refl, refl)
-      at_case (inr (inr last)) = inr (
-        ap (λ (z : View W). z.has_gate) (sym last.1),
-        ap
-            (λ (z : View W). z.hand) (sym last.1),
-      )
+      at_case (inr (inr last)) = subst (Relates s.views more j) last.1 (inr (refl, refl))
 
-  out_at : (o : Out c.world c.holder s.homes s.views) → (c.holder ≡ id) ⊎ (c.holder ≢ id)
-      → Out c.world c.holder s.homes more
-  out_at o (inl here) =
-      let same : o.view ≡ v = some-injective o.view v (sym o.there ∙ ap (get_elem? s.views) here
-      ∙ there) in record {
-        view = left;
-        gone = o.gone;
-        there = ap (get_elem? more) here ∙ at_longer cut (new ∷ []) id left
-            (place_there s.views id v left there);
-        lives = lives;
-        has = ap (λ (z : View W). z.has_gate) (sym same) ∙ o.has;
+  out_at : Out c.world c.holder s.homes s.views → Out c.world c.holder s.homes more
+  out_at o =
+      let b = out_set s.views id v left there refl refl c.world c.holder s.homes o in record {
+        view = b.view;
+        gone = b.gone;
+        there = at_longer cut (new ∷ []) c.holder b.view b.there;
+        lives = b.lives;
+        has = b.has;
       }
-  out_at o (inr other) = record {
-    view = o.view;
-    gone = o.gone;
-    there = at_longer cut (new ∷ []) c.holder o.view (set_else s.views id c.holder left other ∙ o.there);
-    lives = o.lives;
-    has = o.has;
-  }
 
   pub splits : Custodied m numbers (record { words = s.words; homes = s.homes; views = more })
   splits = record {
@@ -245,7 +209,7 @@ module _ {W : Type 0} (m : Ghosts W) (numbers : Numbers) (id share : ℕ) (v : V
     wide = c.wide;
     sized = c.sized;
     gate = gate_related s.views more related c.world c.holder c.changes s.words s.homes c.gate
-        (λ o. out_at o (cases_eq c.holder id));
+        out_at;
     seats = record {
       each = λ j u at alive. fits_at j u alive (case_of j u at);
       begun = omega arith;
