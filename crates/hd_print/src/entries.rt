@@ -1,5 +1,5 @@
 // The lines of a journal.
-ghost use Rattle.std.specs.Prelude.{◌≡◌, ◌+◌, ◌^◌, ◌<◌, slice_index, slice_set, All, OnOk, OnErr};
+ghost use Rattle.std.specs.Prelude.{◌≡◌, ◌+◌, ◌^◌, ◌<◌, ◌≤◌, [], decimal, length, slice_index, slice_set, All, OnOk, OnErr};
 ghost use Rattle.hd_io.specs.Sink.{Took, WriteBrokeOff};
 ghost use Rattle.hd_model.specs.Text.{entry_text, lines_of};
 
@@ -17,13 +17,35 @@ pub fn entry_line(entry: Entry, number: u32) -> Line
     ensures { result ≡ entry_text entry number }
 {
     let mut line = Line::new();
-    line.push_number(entry.caller);
+    set_entry(&mut line, entry, number);
+    line
+}
+
+// Makes a line that of an entry.
+fn set_entry(line: &mut Line, entry: Entry, number: u32)
+    ensures { line.new ≡ entry_text entry number }
+{
+    line.clear();
+    push_caller(line, entry.caller);
     line.push_str(" ");
     line.push_number(number);
     line.push_str(" ");
-    push_reply(&mut line, entry.reply);
+    push_reply(line, entry.reply);
     line.push_str("\n");
-    line
+}
+
+// Appends the number of a caller, which is mostly one digit.
+#[tactic(auto, using(std::proofs::lemmas::Fmt::decimal_digit))]
+fn push_caller(line: &mut Line, caller: u32)
+    requires { line.old ≡ [] }
+    ensures text { line.new ≡ decimal caller }
+    ensures short { length line.new ≤ 10 }
+{
+    if caller < 10 {
+        line.push_digit(caller as u8);
+    } else {
+        line.push_number(caller);
+    }
 }
 
 // Counts one more entry of a caller, and returns its number.
@@ -48,10 +70,11 @@ pub fn write_entries<K: Sink>(journal: &Journal, sink: &mut K) -> Result<(), Fai
         (WriteBrokeOff (K.seen sink.old) (K.seen sink.new) (lines_of journal.now.entries)) }
 {
     let mut counts = [0; COUNTS];
+    let mut line = Line::new();
     for i in 0..journal.len() {
         let entry = journal.entry(i);
         let number = count_entry(&mut counts, entry.caller);
-        let line = entry_line(entry, number);
+        set_entry(&mut line, entry, number);
         write_all(sink, line.as_bytes())?;
     }
     Ok(())

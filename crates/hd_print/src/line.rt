@@ -1,5 +1,5 @@
 // A line of text that takes no memory.
-ghost use Rattle.std.specs.Prelude.{◌≡◌, ◌==◌, ◌+◌, ◌≤◌, [], ◌++◌, length};
+ghost use Rattle.std.specs.Prelude.{◌≡◌, ◌==◌, ◌+◌, ◌<◌, ◌≤◌, [], ◌∷◌, ◌++◌, length};
 
 use itoa::{Buffer, Integer};
 use std::marker::Model;
@@ -35,6 +35,13 @@ impl Line {
         }
     }
 
+    /// Makes it empty again.
+    pub fn clear(&mut self)
+        ensures { self.new ≡ [] }
+    {
+        self.len = 0;
+    }
+
     /// The number of bytes.
     pub fn len(&self) -> usize
         ensures value { result ≡ length self.now }
@@ -64,6 +71,17 @@ impl Line {
     {
         let end = self.len + text.len();
         self.bytes[self.len..end].copy_from_slice(text.as_bytes());
+        self.len = end;
+    }
+
+    /// Appends one digit, for which there is room.
+    pub(crate) fn push_digit(&mut self, digit: u8)
+        requires digit { digit < 10 }
+        requires room { length self.old + 1 ≤ Line.CAPACITY }
+        ensures { self.new ≡ self.old ++ (48 + digit) ∷ [] }
+    {
+        let end = self.len + 1;
+        self.bytes[self.len..end].copy_from_slice(&[b'0' + digit]);
         self.len = end;
     }
 

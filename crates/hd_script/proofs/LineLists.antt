@@ -1,14 +1,16 @@
 -- What further lines add to the lists so far, and which of them is the first at fault.
 use Rattle.std.proofs.Common.{◌≡◌, ℕ, suc, zero, ◌+◌, ◌<◌, ◌≤◌, max, Bool, true, false, cond, eqb, ltb, List, [], ◌∷◌, ◌++◌, length, map, get_or, set, Option, Some, None, Ok, Err, refl, sym, ap, subst, ◌∙◌, ⊎_elim, arith, sum_by, append_assoc, get_or-set_same, get_or-set_other, length-set}
-use Rattle.std.specs.List.{range_with_len}
+use Rattle.std.specs.List.{range_with_len, before_first}
 use Rattle.std.proofs.lemmas.Bool.{cases_eq, cond-true, cond-false, eq-eqb, ne_eqb, lt-ltb, le-ltb}
 use Rattle.std.proofs.lemmas.List.{append-nil, length_push, nil_from_length}
 use Rattle.std.proofs.lemmas.List.Sums.{sum_by-set}
 use Rattle.std.proofs.lemmas.List.FromFn.{fill_by_all}
 use Rattle.hd_model.specs.declared.command.Cmd.{Cmd}
-use Rattle.hd_model.specs.Grammar.{Reading, blank, caller, command, reading_of, words_of, lines_in, readings_of, commands_for, callers_of, lists_of, first_fault, script_of, AreLists}
+use Rattle.hd_model.specs.Grammar.{Reading, blank, caller, command, reading_of, words_of, lines_in, is_line_end, readings_of, commands_for, callers_of, lists_of, first_fault, script_of, AreLists}
 use Rattle.hd_model.specs.declared.limits.TheConstants.{MOST_COMMANDS}
 use Rattle.hd_script.specs.Lists.{IsOpened}
+use Rattle.hd_script.specs.Words.{words_at, line_after}
+use Rattle.hd_script.proofs.LineSplit.{first_line, shorter}
 
 -- the lists so far with what further lines add to them, where `now` is the caller whose commands come first
 pub lists_with : ℕ → List (List Cmd) → List (Option Reading) → List (List Cmd)
@@ -176,74 +178,83 @@ finished bytes lists now number rest empty follows =
     ∙ at_end now lists follows.right.least in
     is_script bytes no_fault ∙ ap Ok whole
 
-module _ (bytes : List ℕ) (lists : List (List Cmd)) (now number : ℕ) (rest line after : List ℕ)
-    (follows : Follows bytes lists now number rest) (cut : lines_in rest ≡ line ∷ lines_in after) where
+module _ {bytes : List ℕ} {lists : List (List Cmd)} {now number : ℕ} {rest : List ℕ} (after : List ℕ)
+    (follows : Follows bytes lists now number rest) (some : 0 < length rest) (e : after ≡ line_after rest) where
   -- the readings of what is left are that of the line, and then those of the rest
-  said_first : (reading : Option Reading) → reading ≡ reading_of (words_of line)
+  said_first : (reading : Option Reading) → reading ≡ reading_of (words_at rest)
       → readings_of rest ≡ reading ∷ readings_of after
-  said_first reading said = first_reading rest line after cut
+  unfolding words_at
+  said_first reading said =
+      let line = before_first is_line_end rest in
+      first_reading rest line after
+      (first_line rest some ∙ ap (λ (r : List ℕ). line ∷ lines_in r) (sym e))
       ∙ ap (λ (r : Option Reading). r ∷ readings_of after) (sym said)
 
-  pub unreadable : None ≡ reading_of (words_of line) → script_of bytes ≡ Err (number + 1)
+  pub fewer : length after < length rest
+  fewer = omega (arith, ap length e, shorter rest some)
+
+  left : number + 1 + length after ≤ length bytes
+  left = omega (arith, follows.room, fewer)
+
+  pub unreadable : None ≡ reading_of (words_at rest) → script_of bytes ≡ Err (number + 1)
   unreadable said = is_fault bytes (number + 1)
       (sym follows.faults ∙ ap (first_fault (number + 1) (sum_by length lists)) (said_first None said))
 
-  pub one_too_many : (cmd : Cmd) → Some (command cmd) ≡ reading_of (words_of line)
+  pub one_too_many : (cmd : Cmd) → Some (command cmd) ≡ reading_of (words_at rest)
       → MOST_COMMANDS ≤ sum_by length lists → script_of bytes ≡ Err (number + 1)
   one_too_many cmd said many =
       is_fault bytes (number + 1) (sym follows.faults
       ∙ ap (first_fault (number + 1) (sum_by length lists)) (said_first (Some (command cmd)) said)
       ∙ fault_here (number + 1) (sum_by length lists) cmd (readings_of after) many)
 
-  module _ (shorter : length after < length rest) where
-    pub after_blank : Some blank ≡ reading_of (words_of line) → Follows bytes lists now (number + 1) after
-    after_blank said =
-        let first = said_first (Some blank) said in
-        record {
-          right = follows.right;
-          faults = sym (ap (first_fault (number + 1) (sum_by length lists)) first) ∙ follows.faults;
-          adds = sym (lists_after_blank now lists (readings_of after))
-              ∙ sym (ap (lists_with now lists) first) ∙ follows.adds;
-          caller = follows.caller;
-          room = omega (arith, follows.room);
-        }
+  pub after_blank : Some blank ≡ reading_of (words_at rest) → Follows bytes lists now (number + 1) after
+  after_blank said =
+      let first = said_first (Some blank) said in
+      record {
+        right = follows.right;
+        faults = sym (ap (first_fault (number + 1) (sum_by length lists)) first) ∙ follows.faults;
+        adds = sym (lists_after_blank now lists (readings_of after))
+            ∙ sym (ap (lists_with now lists) first) ∙ follows.adds;
+        caller = follows.caller;
+        room = left;
+      }
 
-    pub after_caller : (n : ℕ) (opened : List (List Cmd)) → Some (caller n) ≡ reading_of (words_of line)
-        → AreLists opened → sum_by length opened ≡ sum_by length lists → IsOpened lists opened (n + 1)
-        → Follows bytes opened n (number + 1) after
-    after_caller n opened said right total is =
-        let first = said_first (Some (caller n)) said in
-        record {
-          right = right;
-          faults = rw total (sym (ap (first_fault (number + 1) (sum_by length lists)) first)
-              ∙ follows.faults);
-          adds = sym (lists_after_caller now n lists opened (readings_of after) is)
-              ∙ sym (ap (lists_with now lists) first) ∙ follows.adds;
-          caller = omega (arith, is.number);
-          room = omega (arith, follows.room);
-        }
+  pub after_caller : (n : ℕ) (opened : List (List Cmd)) → Some (caller n) ≡ reading_of (words_at rest)
+      → AreLists opened → sum_by length opened ≡ sum_by length lists → IsOpened lists opened (n + 1)
+      → Follows bytes opened n (number + 1) after
+  after_caller n opened said right total is =
+      let first = said_first (Some (caller n)) said in
+      record {
+        right = right;
+        faults = rw total (sym (ap (first_fault (number + 1) (sum_by length lists)) first)
+            ∙ follows.faults);
+        adds = sym (lists_after_caller now n lists opened (readings_of after) is)
+            ∙ sym (ap (lists_with now lists) first) ∙ follows.adds;
+        caller = omega (arith, is.number);
+        room = left;
+      }
 
-    pub after_command : (cmd : Cmd) (added : List (List Cmd))
-        → Some (command cmd) ≡ reading_of (words_of line) → AreLists added
-        → added ≡ set lists now (get_or lists now [] ++ cmd ∷ []) → sum_by length lists < MOST_COMMANDS
-        → Follows bytes added now (number + 1) after
-    after_command cmd added said right e few =
-        let first = said_first (Some (command cmd)) said in
-        let longer = get_or lists now [] ++ cmd ∷ [] in
-        let total : sum_by length added ≡ sum_by length lists + 1 =
-        omega (
-          arith,
-          ap (sum_by length) e,
-          sum_by-set length lists now longer [] follows.caller,
-          length_push (get_or lists now []) cmd,
-        ) in
-        record {
-          right = right;
-          faults = rw total (sym (fault_after (number + 1) (sum_by length lists) cmd (readings_of after) few)
-              ∙ sym (ap (first_fault (number + 1) (sum_by length lists)) first) ∙ follows.faults);
-          adds = ap (λ (ls : List (List Cmd)). lists_with now ls (readings_of after)) e
-              ∙ sym (lists_after_command now lists cmd (readings_of after) follows.caller)
-              ∙ sym (ap (lists_with now lists) first) ∙ follows.adds;
-          caller = omega (arith, ap length e, length-set lists now longer, follows.caller);
-          room = omega (arith, follows.room);
-        }
+  pub after_command : (cmd : Cmd) (added : List (List Cmd))
+      → Some (command cmd) ≡ reading_of (words_at rest) → AreLists added
+      → added ≡ set lists now (get_or lists now [] ++ cmd ∷ []) → sum_by length lists < MOST_COMMANDS
+      → Follows bytes added now (number + 1) after
+  after_command cmd added said right added_is few =
+      let first = said_first (Some (command cmd)) said in
+      let longer = get_or lists now [] ++ cmd ∷ [] in
+      let total : sum_by length added ≡ sum_by length lists + 1 =
+      omega (
+        arith,
+        ap (sum_by length) added_is,
+        sum_by-set length lists now longer [] follows.caller,
+        length_push (get_or lists now []) cmd,
+      ) in
+      record {
+        right = right;
+        faults = rw total (sym (fault_after (number + 1) (sum_by length lists) cmd (readings_of after) few)
+            ∙ sym (ap (first_fault (number + 1) (sum_by length lists)) first) ∙ follows.faults);
+        adds = ap (λ (ls : List (List Cmd)). lists_with now ls (readings_of after)) added_is
+            ∙ sym (lists_after_command now lists cmd (readings_of after) follows.caller)
+            ∙ sym (ap (lists_with now lists) first) ∙ follows.adds;
+        caller = omega (arith, ap length added_is, length-set lists now longer, follows.caller);
+        room = left;
+      }

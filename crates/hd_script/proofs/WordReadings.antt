@@ -4,79 +4,80 @@ use Rattle.std.specs.Prelude.{codes, is_some, MatchOption}
 use Rattle.std.specs.Borrow.{Bor}
 use Rattle.std.proofs.lemmas.Bool.{cond-true, cond-false}
 use Rattle.hd_model.specs.declared.command.Cmd.{Cmd}
-use Rattle.hd_model.specs.Grammar.{words_in, number_of, two_words, three_words, four_words, five_words, blank, caller, command, reading_of}
+use Rattle.hd_script.specs.Words.{words_at}
+use Rattle.hd_model.specs.Grammar.{number_of, two_words, three_words, four_words, five_words, blank, caller, command, reading_of}
 
 -- what the search for the next word found
 abbrev pub IsNext : Option (Bor (List ℕ) × Bor (List ℕ)) → List ℕ → Type 0
-IsNext next rest = MatchOption next (words_in rest ≡ [])
-    (λ found. words_in rest ≡ found.0.now ∷ words_in found.1.now)
+IsNext next rest = MatchOption next (words_at rest ≡ [])
+    (λ found. words_at rest ≡ found.0.now ∷ words_at found.1.now)
 
 pub ends : (next : Option (Bor (List ℕ) × Bor (List ℕ))) (rest : List ℕ) → IsNext next rest
-    → is_some next ≡ false → words_in rest ≡ []
+    → is_some next ≡ false → words_at rest ≡ []
 ends None rest is_next lacks = is_next
 ends (Some found) rest is_next lacks = absurd cc
 
 pub goes_on : (next : Option (Bor (List ℕ) × Bor (List ℕ))) (rest : List ℕ) → IsNext next rest
-    → is_some next ≡ true → (word : List ℕ) × (others : List ℕ) × (words_in rest ≡ word ∷ words_in others)
+    → is_some next ≡ true → (word : List ℕ) × (others : List ℕ) × (words_at rest ≡ word ∷ words_at others)
 goes_on None rest is_next has = absurd cc
 goes_on (Some found) rest is_next has = (found.0.now, found.1.now, is_next)
 
-pub none : (bytes : List ℕ) → words_in bytes ≡ [] → Some blank ≡ reading_of (words_in bytes)
+pub none : (bytes : List ℕ) → words_at bytes ≡ [] → Some blank ≡ reading_of (words_at bytes)
 unfolding reading_of
 none bytes e = sym (ap reading_of e)
 
-pub lone : (bytes word rest : List ℕ) → words_in bytes ≡ word ∷ words_in rest → words_in rest ≡ []
-    → None ≡ reading_of (words_in bytes)
+pub lone : (bytes word rest : List ℕ) → words_at bytes ≡ word ∷ words_at rest → words_at rest ≡ []
+    → None ≡ reading_of (words_at bytes)
 unfolding reading_of
-lone bytes word rest e f = let all : words_in bytes ≡ word ∷ [] = cc in sym (ap reading_of all)
+lone bytes word rest e f = let all : words_at bytes ≡ word ∷ [] = cc in sym (ap reading_of all)
 
-module _ (bytes word r a s : List ℕ) (e : words_in bytes ≡ word ∷ words_in r)
-    (f : words_in r ≡ a ∷ words_in s) where
+module _ (bytes word r a s : List ℕ) (e : words_at bytes ≡ word ∷ words_at r)
+    (f : words_at r ≡ a ∷ words_at s) where
   -- `caller` and a number
-  pub names_caller : (n : Option ℕ) → words_in s ≡ [] → bytes_eq word (codes "caller") ≡ true
-      → n ≡ number_of 15 a → option_map caller n ≡ reading_of (words_in bytes)
+  pub names_caller : (n : Option ℕ) → words_at s ≡ [] → bytes_eq word (codes "caller") ≡ true
+      → n ≡ number_of 15 a → option_map caller n ≡ reading_of (words_at bytes)
   unfolding reading_of
   names_caller n g is number =
-      let all : words_in bytes ≡ word ∷ a ∷ [] = cc in
+      let all : words_at bytes ≡ word ∷ a ∷ [] = cc in
       sym (ap reading_of all ∙ cond-true (bytes_eq word (codes "caller"))
       (option_map caller (number_of 15 a)) (option_map command (two_words word a)) is
       ∙ ap (option_map caller) (sym number))
 
-  pub of_two : (c : Option Cmd) → words_in s ≡ [] → bytes_eq word (codes "caller") ≡ false
-      → c ≡ two_words word a → option_map command c ≡ reading_of (words_in bytes)
+  pub of_two : (c : Option Cmd) → words_at s ≡ [] → bytes_eq word (codes "caller") ≡ false
+      → c ≡ two_words word a → option_map command c ≡ reading_of (words_at bytes)
   unfolding reading_of
   of_two c g is_not same =
-      let all : words_in bytes ≡ word ∷ a ∷ [] = cc in
+      let all : words_at bytes ≡ word ∷ a ∷ [] = cc in
       sym (ap reading_of all ∙ cond-false (bytes_eq word (codes "caller"))
       (option_map caller (number_of 15 a)) (option_map command (two_words word a)) is_not
       ∙ ap (option_map command) (sym same))
 
-  module _ (b t : List ℕ) (g : words_in s ≡ b ∷ words_in t) where
-    pub of_three : (c : Option Cmd) → words_in t ≡ [] → c ≡ three_words word a b
-        → option_map command c ≡ reading_of (words_in bytes)
+  module _ (b t : List ℕ) (g : words_at s ≡ b ∷ words_at t) where
+    pub of_three : (c : Option Cmd) → words_at t ≡ [] → c ≡ three_words word a b
+        → option_map command c ≡ reading_of (words_at bytes)
     unfolding reading_of
     of_three c h same =
-        let all : words_in bytes ≡ word ∷ a ∷ b ∷ [] = cc in
+        let all : words_at bytes ≡ word ∷ a ∷ b ∷ [] = cc in
         sym (ap reading_of all ∙ ap (option_map command) (sym same))
 
-    module _ (d u : List ℕ) (h : words_in t ≡ d ∷ words_in u) where
-      pub of_four : (c : Option Cmd) → words_in u ≡ [] → c ≡ four_words word a b d
-          → option_map command c ≡ reading_of (words_in bytes)
+    module _ (d u : List ℕ) (h : words_at t ≡ d ∷ words_at u) where
+      pub of_four : (c : Option Cmd) → words_at u ≡ [] → c ≡ four_words word a b d
+          → option_map command c ≡ reading_of (words_at bytes)
       unfolding reading_of
       of_four c i same =
-          let all : words_in bytes ≡ word ∷ a ∷ b ∷ d ∷ [] = cc in
+          let all : words_at bytes ≡ word ∷ a ∷ b ∷ d ∷ [] = cc in
           sym (ap reading_of all ∙ ap (option_map command) (sym same))
 
-      module _ (x v : List ℕ) (i : words_in u ≡ x ∷ words_in v) where
-        pub of_five : (c : Option Cmd) → words_in v ≡ [] → c ≡ five_words word a b d x
-            → option_map command c ≡ reading_of (words_in bytes)
+      module _ (x v : List ℕ) (i : words_at u ≡ x ∷ words_at v) where
+        pub of_five : (c : Option Cmd) → words_at v ≡ [] → c ≡ five_words word a b d x
+            → option_map command c ≡ reading_of (words_at bytes)
         unfolding reading_of
         of_five c j same =
-            let all : words_in bytes ≡ word ∷ a ∷ b ∷ d ∷ x ∷ [] = cc in
+            let all : words_at bytes ≡ word ∷ a ∷ b ∷ d ∷ x ∷ [] = cc in
             sym (ap reading_of all ∙ ap (option_map command) (sym same))
 
-        pub of_more : (y w : List ℕ) → words_in v ≡ y ∷ words_in w → None ≡ reading_of (words_in bytes)
+        pub of_more : (y w : List ℕ) → words_at v ≡ y ∷ words_at w → None ≡ reading_of (words_at bytes)
         unfolding reading_of
         of_more y w j =
-            let all : words_in bytes ≡ word ∷ a ∷ b ∷ d ∷ x ∷ y ∷ words_in w = cc in
+            let all : words_at bytes ≡ word ∷ a ∷ b ∷ d ∷ x ∷ y ∷ words_at w = cc in
             sym (ap reading_of all)

@@ -1,5 +1,6 @@
 -- The readings of the code, as readings of the grammar.
-use Rattle.std.specs.Prelude.{◌<◌}
+use Rattle.std.specs.Prelude.{ℕ, ◌<◌, List}
+use Rattle.std.specs.Borrow.{Bor}
 use Rattle.hd_model.specs.Grammar.{Reading as Said, blank, caller, command}
 use Rattle.hd_model.specs.declared.limits.TheConstants.{CALLERS}
 use Rattle.hd_model.specs.Valid.{IsValid}
@@ -11,6 +12,10 @@ abbrev pub seen : Reading → Said
 seen Blank = blank
 seen (Caller n) = caller n
 seen (Command c) = command c
+
+-- the grammar's reading of a line that was read, whatever follows it
+abbrev pub reading_in : Reading × Bor (List ℕ) → Said
+reading_in read = seen read.0
 
 -- a caller is below the limit, and a command is valid
 abbrev pub IsValidReading : Reading → Type 0

@@ -5,7 +5,6 @@ ghost use Rattle.hd_script.specs.Fault.{IsFaultOf};
 use crate::fault::ScriptFault;
 use crate::reading::{Reading, read_line};
 use crate::scripts::Scripts;
-use crate::text::first_line;
 use hd_model::limits::{MOST_BYTES, MOST_COMMANDS};
 use std::alloc::Global;
 
@@ -25,17 +24,18 @@ pub fn parse(alloc: Global, bytes: &[u8]) -> Result<Scripts, ScriptFault>
     let mut number = 0;
     let mut rest = bytes;
     'lines: while !rest.is_empty() {
-        let (line, after) = first_line(rest);
+        let Some((reading, after)) = read_line(rest) else {
+            return Err(ScriptFault::Line(number + 1));
+        };
         rest = after;
         number += 1;
-        match read_line(line) {
-            None => return Err(ScriptFault::Line(number)),
-            Some(Reading::Blank) => {}
-            Some(Reading::Caller(named)) => {
+        match reading {
+            Reading::Blank => {}
+            Reading::Caller(named) => {
                 scripts.open(alloc, named)?;
                 caller = named;
             }
-            Some(Reading::Command(cmd)) => {
+            Reading::Command(cmd) => {
                 if scripts.total() == MOST_COMMANDS {
                     return Err(ScriptFault::Line(number));
                 }

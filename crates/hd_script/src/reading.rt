@@ -3,10 +3,11 @@ ghost use Rattle.std.specs.Prelude.{◌≡◌, false, IfSome, bytes_eq, option_m
 ghost use Rattle.hd_model.specs.Grammar as grammar;
 ghost use Rattle.hd_model.specs.Kinds.{is_paired};
 ghost use Rattle.hd_model.specs.Valid.{IsValid, IsValidMake};
-ghost use Rattle.hd_script.specs.Said.{seen, IsValidReading};
+ghost use Rattle.hd_script.specs.Said.{reading_in, IsValidReading};
+ghost use Rattle.hd_script.specs.Words.{words_at, line_after};
 
 use crate::numbers::{LAST_REGISTER, handle, number, object, small};
-use crate::text::{content, next_word};
+use crate::text::{after_line, next_word};
 use hd_model::limits::{CALLERS, FIELDS, OLDEST};
 use hd_model::{Cmd, Kind, Make, Strength};
 
@@ -25,41 +26,43 @@ pub(crate) enum Reading {
     Command(Cmd),
 }
 
-/// The reading of a line, or none where it has none.
-#[tactic(auto, unfolding(hd_model::specs::Grammar::words_of))]
-pub(crate) fn read_line(line: &[u8]) -> Option<Reading>
-    ensures exact { option_map seen result ≡ grammar.reading_of (grammar.words_of line.now) }
-    ensures valid { IfSome result IsValidReading }
+/// The reading of the first line, and the bytes after it. None where the line has no reading.
+pub(crate) fn read_line(bytes: &[u8]) -> Option<(Reading, &[u8])>
+    ensures exact { option_map reading_in result ≡ grammar.reading_of (words_at bytes.now) }
+    ensures valid { IfSome result (λ read. IsValidReading read.0) }
+    ensures line { IfSome result (λ read. read.1.now ≡ line_after bytes.now) }
 {
-    read_words(content(line))
+    let (reading, rest) = read_words(bytes)?;
+    Some((reading, after_line(rest)))
 }
 
-// The reading of words.
-fn read_words(bytes: &[u8]) -> Option<Reading>
-    ensures exact { option_map seen result ≡ grammar.reading_of (grammar.words_in bytes.now) }
-    ensures valid { IfSome result IsValidReading }
+// The reading of the first line's words, and the bytes from behind the last word that was read.
+fn read_words(bytes: &[u8]) -> Option<(Reading, &[u8])>
+    ensures exact { option_map reading_in result ≡ grammar.reading_of (words_at bytes.now) }
+    ensures valid { IfSome result (λ read. IsValidReading read.0) }
+    ensures line { IfSome result (λ read. line_after read.1.now ≡ line_after bytes.now) }
 {
     let Some((word, rest)) = next_word(bytes) else {
-        return Some(Reading::Blank);
+        return Some((Reading::Blank, bytes));
     };
     let (a, rest) = next_word(rest)?;
-    let Some((b, rest)) = next_word(rest) else {
+    let Some((b, rest_b)) = next_word(rest) else {
         return if spells(word, "caller") {
-            Some(Reading::Caller(small(a, LAST_CALLER)?))
+            Some((Reading::Caller(small(a, LAST_CALLER)?), rest))
         } else {
-            Some(Reading::Command(two_words(word, a)?))
+            Some((Reading::Command(two_words(word, a)?), rest))
         };
     };
-    let Some((c, rest)) = next_word(rest) else {
-        return Some(Reading::Command(three_words(word, a, b)?));
+    let Some((c, rest_c)) = next_word(rest_b) else {
+        return Some((Reading::Command(three_words(word, a, b)?), rest_b));
     };
-    let Some((d, rest)) = next_word(rest) else {
-        return Some(Reading::Command(four_words(word, a, b, c)?));
+    let Some((d, rest_d)) = next_word(rest_c) else {
+        return Some((Reading::Command(four_words(word, a, b, c)?), rest_c));
     };
-    if next_word(rest).is_some() {
+    if next_word(rest_d).is_some() {
         return None;
     }
-    Some(Reading::Command(five_words(word, a, b, c, d)?))
+    Some((Reading::Command(five_words(word, a, b, c, d)?), rest_d))
 }
 
 // A command of two words.

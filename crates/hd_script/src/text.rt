@@ -1,19 +1,18 @@
-// Lines, and words within a line. A word is a part of the input, and none is copied.
-ghost use Rattle.std.specs.Prelude.{◌≡◌, ◌<◌, [], ◌∷◌, length, position, MatchOption};
-ghost use Rattle.std.specs.List.{before_first};
+// Lines, and words within a line. A word is a part of the input, and none is copied. One pass goes
+// over a line: each word ends where the search for its end finds a blank, a comment or the line's end.
+ghost use Rattle.std.specs.Prelude.{◌≡◌, ◌≤◌, false, [], ◌∷◌, length, position, MatchOption, IfSome};
+ghost use Rattle.std.specs.List.{position_or_len};
 ghost use Rattle.std.specs.Str.Lines.{strip_carriage_return};
-ghost use Rattle.hd_model.specs.Grammar.{is_line_end, is_hash, is_blank, lines_in, words_in};
-ghost use Rattle.hd_script.specs.Words.{is_word_byte, BeginsWord};
+ghost use Rattle.hd_model.specs.Grammar.{is_line_end};
+ghost use Rattle.hd_script.specs.Words.{is_stop, starts_blank, starts_end, words_at, line_after, with_word};
 
-/// The first line, without its end, and the bytes after it.
-pub(crate) fn first_line(bytes: &[u8]) -> (&[u8], &[u8])
-    requires { 0 < length bytes.now }
-    ensures lines { lines_in bytes.now ≡ result.0.now ∷ lines_in result.1.now }
-    ensures shorter { length result.1.now < length bytes.now }
+/// The bytes after the first line and its end.
+pub(crate) fn after_line(bytes: &[u8]) -> &[u8]
+    ensures { result.now ≡ line_after bytes.now }
 {
     match line_end(bytes) {
-        Some(end) => (&bytes[..end], &bytes[end + 1..]),
-        None => (bytes, &bytes[bytes.len()..]),
+        Some(end) => &bytes[end + 1..],
+        None => &bytes[bytes.len()..],
     }
 }
 
@@ -24,25 +23,101 @@ fn line_end(bytes: &[u8]) -> Option<usize>
     bytes.iter().position(|b| *b == b'\n')
 }
 
-/// A line without the carriage return at its end and without its comment.
-pub(crate) fn content(line: &[u8]) -> &[u8]
-    ensures { result.now ≡ before_first is_hash (strip_carriage_return line.now) }
+/// The first word of the first line, and the bytes after it.
+pub(crate) fn next_word(bytes: &[u8]) -> Option<(&[u8], &[u8])>
+    ensures words { MatchOption result (words_at bytes.now ≡ [])
+        (λ found. words_at bytes.now ≡ found.0.now ∷ words_at found.1.now) }
+    ensures line { IfSome result (λ found. line_after found.1.now ≡ line_after bytes.now) }
 {
-    let line = without_return(line);
-    match hash(line) {
-        Some(end) => &line[..end],
-        None => line,
+    let bytes = from_word(bytes);
+    if begins_end(bytes) {
+        return None;
+    }
+    let (word, rest) = first_word(bytes);
+    if word.is_empty() {
+        None
+    } else {
+        Some((word, rest))
     }
 }
 
-// Where the comment begins.
-fn hash(line: &[u8]) -> Option<usize>
-    ensures { result ≡ position is_hash line.now }
+// Whether the line ends here.
+fn begins_end(bytes: &[u8]) -> bool
+    ensures { result ≡ starts_end bytes.now }
 {
-    line.iter().position(|b| *b == b'#')
+    match bytes.first() {
+        Some(first) => *first == b'\n',
+        None => false,
+    }
 }
 
-// The line without the one carriage return directly before its end.
+// The bytes from the first one on that is not blank.
+fn from_word(bytes: &[u8]) -> &[u8]
+    ensures words { words_at result.now ≡ words_at bytes.now }
+    ensures line { line_after result.now ≡ line_after bytes.now }
+    ensures begins { starts_blank result.now ≡ false }
+{
+    let mut rest = bytes;
+    'blanks: while begins_blank(rest) {
+        rest = &rest[1..];
+    }
+    rest
+}
+
+// Whether the first byte is blank.
+fn begins_blank(bytes: &[u8]) -> bool
+    ensures { result ≡ starts_blank bytes.now }
+{
+    match bytes.first() {
+        Some(first) => *first == b' ' || *first == b'\t',
+        None => false,
+    }
+}
+
+// The word with which the bytes begin, empty where the line has no more, and the bytes after it.
+fn first_word(bytes: &[u8]) -> (&[u8], &[u8])
+    requires { starts_blank bytes.now ≡ false }
+    ensures words { words_at bytes.now ≡ with_word result.0.now (words_at result.1.now) }
+    ensures line { line_after result.1.now ≡ line_after bytes.now }
+{
+    let end = word_end(bytes);
+    if end == bytes.len() {
+        return (without_return(bytes), &bytes[end..]);
+    }
+    let word = &bytes[..end];
+    if bytes[end] == b'\n' {
+        (without_return(word), &bytes[end..])
+    } else if bytes[end] == b'#' {
+        (word, &bytes[end..])
+    } else {
+        (word, &bytes[end + 1..])
+    }
+}
+
+// Where the first word ends. Out of line, since it is faster where its registers are its own.
+#[inline(never)]
+fn word_end(bytes: &[u8]) -> usize
+    ensures first { result ≡ position_or_len is_stop bytes.now }
+    ensures within { result ≤ length bytes.now }
+{
+    let mut end = 0;
+    'bytes: while end < bytes.len() {
+        if stops(bytes[end]) {
+            return end;
+        }
+        end += 1;
+    }
+    end
+}
+
+// Whether a word ends before this byte.
+fn stops(b: u8) -> bool
+    ensures { result ≡ is_stop b }
+{
+    b == b' ' || b == b'\n' || b == b'\t' || b == b'#'
+}
+
+// The bytes without the one carriage return directly before their end.
 fn without_return(line: &[u8]) -> &[u8]
     ensures { result.now ≡ strip_carriage_return line.now }
 {
@@ -52,54 +127,4 @@ fn without_return(line: &[u8]) -> &[u8]
     } else {
         line
     }
-}
-
-/// The first word, and the bytes after it.
-pub(crate) fn next_word(bytes: &[u8]) -> Option<(&[u8], &[u8])>
-    ensures { MatchOption result (words_in bytes.now ≡ [])
-        (λ found. words_in bytes.now ≡ found.0.now ∷ words_in found.1.now) }
-{
-    let bytes = from_word(bytes);
-    if bytes.is_empty() {
-        None
-    } else {
-        Some(first_word(bytes))
-    }
-}
-
-// The bytes from the first word on.
-fn from_word(bytes: &[u8]) -> &[u8]
-    ensures same { words_in result.now ≡ words_in bytes.now }
-    ensures word { BeginsWord result.now }
-{
-    match word_start(bytes) {
-        Some(start) => &bytes[start..],
-        None => &bytes[bytes.len()..],
-    }
-}
-
-// Where the first word begins.
-fn word_start(bytes: &[u8]) -> Option<usize>
-    ensures { result ≡ position is_word_byte bytes.now }
-{
-    bytes.iter().position(|b| *b != b' ' && *b != b'\t')
-}
-
-// The word with which the bytes begin, and the bytes after it.
-fn first_word(bytes: &[u8]) -> (&[u8], &[u8])
-    requires some { 0 < length bytes.now }
-    requires word { BeginsWord bytes.now }
-    ensures { words_in bytes.now ≡ result.0.now ∷ words_in result.1.now }
-{
-    match word_end(bytes) {
-        Some(end) => (&bytes[..end], &bytes[end + 1..]),
-        None => (bytes, &bytes[bytes.len()..]),
-    }
-}
-
-// Where the first word ends.
-fn word_end(bytes: &[u8]) -> Option<usize>
-    ensures { result ≡ position is_blank bytes.now }
-{
-    bytes.iter().position(|b| *b == b' ' || *b == b'\t')
 }

@@ -19,7 +19,7 @@ pub returns-in_err-write_all-clause-broke_off : goal.returns-in_err-write_all-cl
 returns-in_err-write_all-clause-broke_off g c =
     let loop = c.loop-i in
     let number = c.count_entry-number in
-    let its_line = c.as_bytes.ensures ∙ c.entry_line-line.ensures in
+    let its_line = c.as_bytes.ensures ∙ c.set_entry.ensures in
     let failed = err_from_is_err_and c.from_residual.result c.from_residual.ensures.1 in
     rw failed.1 (broke_in_line c.args.journal.now.entries loop.i c.entry-entry.result (omega arith)
     c.entry-entry.ensures c.requires loop.counts loop.invariant.counts number.result number.ensures.number
@@ -29,7 +29,7 @@ pub loop-i-preserved : goal.loop-i-preserved
 loop-i-preserved g c =
     let loop = c.loop-i in
     let number = c.count_entry-number in
-    let its_line = c.as_bytes.ensures ∙ c.entry_line-line.ensures in record {
+    let its_line = c.as_bytes.ensures ∙ c.set_entry.ensures in record {
       lines = took_line c.args.journal.now.entries loop.i c.entry-entry.result (omega arith)
           c.entry-entry.ensures c.requires loop.counts loop.invariant.counts number.result
           number.ensures.number _ _ _ c.as_bytes.result.now loop.invariant.lines its_line

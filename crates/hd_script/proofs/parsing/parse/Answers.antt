@@ -1,64 +1,59 @@
-use Rattle.std.proofs.Common.{◌≡◌, Some, arith}
+use Rattle.std.proofs.Common.{◌≡◌, Some, refl, arith}
 use Rattle.std.proofs.lemmas.Bool.Decides.{nat_tests}
-use Rattle.hd_model.specs.Grammar.{reading_of, words_of, blank, caller, command}
+use Rattle.hd_model.specs.Grammar.{reading_of}
 use Rattle.hd_script.specs.Said.{seen}
-use Rattle.hd_script.proofs.LineLists.{begun, finished, unreadable, one_too_many, after_blank, after_caller, after_command}
+use Rattle.hd_script.specs.Words.{words_at, line_after}
+use Rattle.hd_script.proofs.LineLists.{begun, finished, unreadable, one_too_many, after_blank, after_caller, after_command, fewer}
 use Rattle.hd_script.proofs.parsing.parse.Goals as goal
 
 pub lines-init : goal.lines-init
 lines-init c = begun c.args.bytes.now c.in_ok-scripts.scripts c.in_ok-scripts.ensures.empty
     c.in_ok-scripts.ensures.lists
 
-pub returns-in-None-clause-line : goal.returns-in-None-clause-line
-returns-in-None-clause-line c =
-    unreadable c.args.bytes.now c.lines.scripts c.lines.caller c.lines.number c.lines.rest.now
-    c.first_line.result.0.now c.first_line.result.1.now c.lines.invariant c.first_line.ensures.lines
-    c.in-None.ensures.exact
+pub returns-in_default-clause-line : goal.returns-in_default-clause-line
+returns-in_default-clause-line c =
+    unreadable (line_after c.lines.rest.now) c.lines.invariant (grind (arith, nat_tests)) refl
+    c.in_default.ensures.exact
 
-pub lines-preserved-in-Some-Blank : goal.lines-preserved-in-Some-Blank
-lines-preserved-in-Some-Blank c =
-    let exact : Some (seen c.in-Some-Blank.field-0) ≡ reading_of (words_of c.first_line.result.0.now) =
-    c.in-Some-Blank.ensures.exact in
-    let said : Some blank ≡ reading_of (words_of c.first_line.result.0.now) =
-    rw c.in-Some-Blank.field-0-is at exact in
-    after_blank c.args.bytes.now c.lines.scripts c.lines.caller c.lines.number c.lines.rest.now
-    c.first_line.result.0.now c.first_line.result.1.now c.lines.invariant c.first_line.ensures.lines
-    c.first_line.ensures.shorter said
+pub lines-preserved-in-Blank : goal.lines-preserved-in-Blank
+lines-preserved-in-Blank c =
+    let exact : Some (seen c.in-Some.reading) ≡ reading_of (words_at c.lines.rest.now) =
+    c.in-Some.ensures.exact in
+    after_blank c.in-Some.after.now c.lines.invariant (grind (arith, nat_tests)) c.in-Some.ensures.line
+    (rw c.in-Blank.is at exact)
 
-pub lines-preserved-in-Some-Caller : goal.lines-preserved-in-Some-Caller
-lines-preserved-in-Some-Caller c =
-    let exact : Some (seen c.in-Some-Caller.field-0) ≡ reading_of (words_of c.first_line.result.0.now) =
-    c.in-Some-Caller.ensures.exact in
-    let said : Some (caller c.in-Some-Caller.named) ≡ reading_of (words_of c.first_line.result.0.now) =
-    rw c.in-Some-Caller.field-0-is at exact in
-    after_caller c.args.bytes.now c.lines.scripts c.lines.caller c.lines.number c.lines.rest.now
-    c.first_line.result.0.now c.first_line.result.1.now c.lines.invariant c.first_line.ensures.lines
-    c.first_line.ensures.shorter
-    c.in-Some-Caller.named c.open.new.self said c.open.ensures.lists c.open.ensures.total
-    c.in_ok-open-in-Some-Caller.ensures.opened
+pub lines-preserved-in-Caller : goal.lines-preserved-in-Caller
+lines-preserved-in-Caller c =
+    let exact : Some (seen c.in-Some.reading) ≡ reading_of (words_at c.lines.rest.now) =
+    c.in-Some.ensures.exact in
+    after_caller c.in-Some.after.now c.lines.invariant (grind (arith, nat_tests)) c.in-Some.ensures.line
+    c.in-Caller.named c.open.new.self (rw c.in-Caller.is at exact) c.open.ensures.lists c.open.ensures.total
+    c.in_ok-open-in-Caller.ensures.opened
 
 pub returns-then-total-eq-MOST_COMMANDS-clause-line : goal.returns-then-total-eq-MOST_COMMANDS-clause-line
 returns-then-total-eq-MOST_COMMANDS-clause-line c =
-    let exact : Some (seen c.in-Some-Command.field-0) ≡ reading_of (words_of c.first_line.result.0.now) =
-    c.in-Some-Command.ensures.exact in
-    let said : Some (command c.in-Some-Command.cmd) ≡ reading_of (words_of c.first_line.result.0.now) =
-    rw c.in-Some-Command.field-0-is at exact in
-    one_too_many c.args.bytes.now c.lines.scripts c.lines.caller c.lines.number c.lines.rest.now
-    c.first_line.result.0.now c.first_line.result.1.now c.lines.invariant c.first_line.ensures.lines
-    c.in-Some-Command.cmd said (omega arith)
+    let exact : Some (seen c.in-Some.reading) ≡ reading_of (words_at c.lines.rest.now) =
+    c.in-Some.ensures.exact in
+    one_too_many c.in-Some.after.now c.lines.invariant (grind (arith, nat_tests)) c.in-Some.ensures.line
+    c.in-Command.cmd (rw c.in-Command.is at exact) (omega arith)
 
 pub lines-preserved : goal.lines-preserved
 lines-preserved c =
-    let exact : Some (seen c.in-Some-Command.field-0) ≡ reading_of (words_of c.first_line.result.0.now) =
-    c.in-Some-Command.ensures.exact in
-    let said : Some (command c.in-Some-Command.cmd) ≡ reading_of (words_of c.first_line.result.0.now) =
-    rw c.in-Some-Command.field-0-is at exact in
-    after_command c.args.bytes.now c.lines.scripts c.lines.caller c.lines.number c.lines.rest.now
-    c.first_line.result.0.now c.first_line.result.1.now c.lines.invariant c.first_line.ensures.lines
-    c.first_line.ensures.shorter
-    c.in-Some-Command.cmd c.add.new.self said c.add.ensures.lists c.in_ok-add-in-Some-Command.ensures.added
-    (omega (arith, c.total.ensures.most))
+    let exact : Some (seen c.in-Some.reading) ≡ reading_of (words_at c.lines.rest.now) =
+    c.in-Some.ensures.exact in
+    after_command c.in-Some.after.now c.lines.invariant (grind (arith, nat_tests)) c.in-Some.ensures.line
+    c.in-Command.cmd c.add.new.self (rw c.in-Command.is at exact) c.add.ensures.lists
+    c.in_ok-add-in-Command.ensures.added (omega (arith, c.total.ensures.most))
 
 pub returns-clause-ok : goal.returns-clause-ok
 returns-clause-ok c = finished c.args.bytes.now c.lines.scripts c.lines.caller c.lines.number
     c.lines.rest.now (grind (arith, nat_tests)) c.lines.invariant
+
+pub lines-smaller-in-Blank : goal.lines-smaller-in-Blank
+lines-smaller-in-Blank c = fewer c.in-Some.after.now c.lines.invariant (grind (arith, nat_tests)) c.in-Some.ensures.line
+
+pub lines-smaller-in-Caller : goal.lines-smaller-in-Caller
+lines-smaller-in-Caller c = fewer c.in-Some.after.now c.lines.invariant (grind (arith, nat_tests)) c.in-Some.ensures.line
+
+pub lines-smaller : goal.lines-smaller
+lines-smaller c = fewer c.in-Some.after.now c.lines.invariant (grind (arith, nat_tests)) c.in-Some.ensures.line

@@ -1,11 +1,20 @@
-use Rattle.std.proofs.Common.{sym, ap, ◌∙◌, arith}
+use Rattle.std.proofs.Common.{sym, ◌∙◌, arith}
 use Rattle.std.proofs.lemmas.Bool.Decides.{nat_tests}
-use Rattle.std.proofs.lemmas.List.{nil_from_length}
-use Rattle.hd_model.specs.Grammar.{words_in}
+use Rattle.hd_script.specs.Words.{words_at}
+use Rattle.hd_script.proofs.LineSplit.{no_word, one_word, end_first}
 use Rattle.hd_script.proofs.text.next_word.Goals as goal
 
-pub returns-then-is_empty : goal.returns-then-is_empty
-unfolding words_in
-returns-then-is_empty c =
-    let none = nil_from_length c.from_word-bytes.result.now (grind (arith, nat_tests)) in
-    sym c.from_word-bytes.ensures.same ∙ ap words_in none
+pub returns-then-begins_end-clause-words : goal.returns-then-begins_end-clause-words
+returns-then-begins_end-clause-words c =
+    sym c.from_word-bytes.ensures.words
+    ∙ end_first c.from_word-bytes.result.now (sym c.begins_end.ensures ∙ c.if-begins_end.true)
+
+pub returns-then-is_empty-clause-words : goal.returns-then-is_empty-clause-words
+returns-then-is_empty-clause-words c =
+    sym c.from_word-bytes.ensures.words ∙ c.first_word.ensures.words
+    ∙ no_word c.first_word.result.0.now (words_at c.first_word.result.1.now) (grind (arith, nat_tests))
+
+pub returns-else-is_empty-clause-words : goal.returns-else-is_empty-clause-words
+returns-else-is_empty-clause-words c =
+    sym c.from_word-bytes.ensures.words ∙ c.first_word.ensures.words
+    ∙ one_word c.first_word.result.0.now (words_at c.first_word.result.1.now) (grind (arith, nat_tests))

@@ -1,0 +1,10 @@
+use Rattle.std.proofs.Common.{sym}
+use Rattle.std.proofs.lemmas.List.{take_rest}
+use Rattle.hd_script.proofs.LineSplit.{rest_at, rest_of_last}
+use Rattle.hd_script.proofs.text.after_line.Goals as goal
+
+pub returns-in-Some : goal.returns-in-Some
+returns-in-Some c = rw take_rest (rest_at c.args.bytes.now c.in-Some.end (sym c.in-Some.ensures))
+
+pub returns-in-None : goal.returns-in-None
+returns-in-None c = rw take_rest (rest_of_last c.args.bytes.now (sym c.in-None.ensures))
