@@ -1,59 +1,57 @@
 -- What each command does with the pinned addresses.
-use Rattle.std.proofs.Common.{◌≡◌, ℕ, ◌<◌, ◌≤◌, cond, Bool, true, false, Option, Some, None, refl, sym, ap, ◌∙◌, subst}
-use Rattle.std.specs.Prelude.{Result, Ok, Err, IfOk, T, if◌then◌else◌, option_and_then}
-use Rattle.std.specs.Option.{option_map_or}
-use Rattle.std.specs.FinMap.{FinMap, get, insert, empty}
-use Rattle.std.specs.Ordering.{nat_cmp}
-use Rattle.hd_model.specs.declared.data.Id.{Id}
-use Rattle.hd_model.specs.declared.data.Addr.{Addr}
-use Rattle.hd_model.specs.declared.data.Slot.{Slot}
-use Rattle.hd_model.specs.declared.data.Refusal.{Refusal}
-use Rattle.hd_model.specs.declared.data.Refusal.TheVariants as refusal
-use Rattle.hd_model.specs.declared.data.Entry.{Entry}
+use Rattle.hd_world.proofs.StoreWords.{Numbers, ◌≡◌, ℕ, ◌<◌, ◌≤◌, cond, Bool, true, false, Option, Some, None, refl, sym, ap, ◌∙◌, subst, Result, Ok, Err, MatchResult, T, if◌then◌else◌, option_and_then, option_map_or, FinMap, get, insert, empty, nat_cmp, Id, Addr, Slot, Refusal, Entry, Report, Reply, Cmd, State, Handle, handle_register_of, handle_at, with_place, pins, Outcome, answers, refuses, answer_place, with_places, MayAnswer, touched_by, IsValid, StepOf, Step, IsOutcome, AnswersPlace, pinned_by, pinned_target, aged_by, is_collect, Machine, KeepsNames, HasNames, Moves, KeepsPlaces, kept_places, HasCollected, HasPlace, LeavesHeap, name_in, pinned_in, entry_of, done_of, MayRun, IsDone, HasRun, RanOut, asks_of, no_room, IsOffer, MayOffer, GrowsFor, CollectedSteps, TakesSteps, true≢false, get_inserted, same_Some}
+use Rattle.hd_world.proofs.IdentityReadings.{no_some}
 use Rattle.hd_model.specs.declared.data.Grown.TheVariants.{Zero}
-use Rattle.hd_model.specs.declared.data.Report.{Report}
 use Rattle.hd_model.specs.declared.data.Memory.{Memory}
-use Rattle.hd_model.specs.declared.data.Reply.{Reply}
-use Rattle.hd_model.specs.declared.data.Reply.TheVariants as reply
-use Rattle.hd_model.specs.declared.command.Cmd.{Cmd}
-use Rattle.hd_model.specs.declared.command.Cmd.TheVariants as cmd
-use Rattle.hd_model.specs.State.{State, Handle, handle_register_of, handle_at, with_place}
-use Rattle.hd_model.specs.Role.{pins}
-use Rattle.hd_model.specs.Command.{Outcome, answers, refuses, answer_place}
-use Rattle.hd_model.specs.Places.{with_places, MayAnswer}
-use Rattle.hd_model.specs.Touched.{touched_by}
-use Rattle.hd_model.specs.Valid.{IsValid}
-use Rattle.hd_model.specs.Step.{StepOf, Step, AnswersPlace, pinned_by, pinned_target}
-use Rattle.hd_model.specs.Aging.{aged_by}
 use Rattle.hd_model.proofs.OutcomePlaces.{step_placed}
 use Rattle.hd_model.proofs.Journals.{ages_placed}
-use Rattle.hd_world.specs.Store.{Machine}
-use Rattle.hd_world.specs.Places.{KeepsNames, HasNames, Moves, KeepsPlaces, kept_places, HasCollected, HasPlace}
-use Rattle.hd_world.specs.StateHeap.{LeavesHeap}
-use Rattle.hd_world.specs.Reading.{name_in}
-use Rattle.hd_world.specs.Commands.{pinned_in}
-use Rattle.hd_world.specs.Visited.{CollectedSteps, TakesSteps}
-use Rattle.std.proofs.lemmas.Bool.{true≢false}
+use Rattle.hd_world.specs.declared.done.CallerCommand.{CallerCommand}
+use Rattle.hd_world.specs.declared.done.Done.{Done}
 use Rattle.hd_model.proofs.AgedRuns.{nothing_at}
-use Rattle.hd_world.proofs.EntryMaps.{some_same, get-put}
-use Rattle.hd_world.proofs.IdentityReadings.{no_some}
+use Rattle.hd_model.specs.declared.data.Refusal.TheVariants as refusal
+use Rattle.hd_model.specs.declared.data.Reply.TheVariants as reply
+use Rattle.hd_model.specs.declared.command.Cmd.TheVariants as cmd
+
+-- an entry of `addr` or `collect`
+abbrev pub entry_with : ℕ → Cmd → Reply → Entry
+entry_with caller c answer =
+    record { caller = caller; cmd = c; slot = None; grown = Zero; reply = answer }
+
+-- what no collection leaves of the heap, and how many steps it takes
+module _ (e : Entry) (f : Cmd → Bool) (is : f e.cmd ≡ false) (each : (n : ℕ) → f (cmd.Collect n) ≡ true) where
+  none : (n : ℕ) → e.cmd ≡ cmd.Collect n → ⊥
+  none n same = true≢false (sym (each n) ∙ ap f (sym same) ∙ is)
+
+  others-heap : (k : Machine) → LeavesHeap e k.state.handles k.heap
+  others-heap k = record {
+    cards = λ n report same answer. absurd (none n same);
+    compact = λ report same answer. absurd (none 2 same);
+  }
+
+  pub others-steps : (m : Machine) (steps : ℕ) → TakesSteps m.state m.ages e steps steps
+  others-steps m steps =
+      record { others = λ _. refl; collects = λ n report same answer. absurd (none n same) }
+
+abbrev uses_places : Cmd → Bool
+uses_places c = (touched_by c).places
 
 -- a command that uses no pinned address
-pub plain-moves : (m k : Machine) (e : Entry) → (touched_by e.cmd).places ≡ false
+plain-moves : (m k : Machine) (e : Entry) → uses_places e.cmd ≡ false
     → Step m.numbers m.state e k.state → KeepsNames m.names k.names → k.ages ≡ aged_by m.state e m.ages
-    → KeepsPlaces m e k
-plain-moves m k e plain step keeps aged p are = record {
+    → k.numbers ≡ m.numbers → KeepsPlaces m e k
+plain-moves m k e plain step keeps aged numbers p are = record {
   places = p;
   step = step_placed p m.numbers m.state e k.state plain step;
   addresses = λ x a is. keeps a (record { 0 = x }) (are x a is);
   ages = aged ∙ sym (ages_placed m.state p e m.ages);
+  numbers = numbers;
+  heap = others-heap e uses_places plain (λ n. refl) k;
 }
 
 -- a collection
 pub collect-moves : (m k : Machine) (n : ℕ) (report : Report) (caller : ℕ) → caller < m.numbers.callers
-    → n ≤ 2 → HasCollected m k n report → KeepsPlaces m
-    (record { caller = caller; cmd = cmd.Collect n; slot = None; grown = Zero; reply = reply.Report report })
-    k
+    → n ≤ 2 → HasCollected m k n report
+    → KeepsPlaces m (entry_with caller (cmd.Collect n) (reply.Report report)) k
 collect-moves m k n report caller known low has p are = record {
   places = kept_places m.state p;
   step = record {
@@ -63,130 +61,91 @@ collect-moves m k n report caller known low has p are = record {
   };
   addresses = has.addresses p are;
   ages = has.ages;
+  numbers = has.numbers;
+  heap = record {
+    cards = λ j other same answer. has.cards;
+    compact = λ other same answer. has.compact (ap (number_in n) same);
+  };
 }
+  where
+    number_in : ℕ → Cmd → ℕ
+    number_in d (cmd.Collect j) = j
+    number_in d c = d
 
 -- a command that makes no object keeps all identities as they are
-pub names-kept : (b : Bool) (old new : FinMap nat_cmp Id) → HasNames b old new → KeepsNames old new
+names-kept : (b : Bool) (old new : FinMap nat_cmp Id) → HasNames b old new → KeepsNames old new
 names-kept true old new has a x is = has a x is
 names-kept false old new same a x is = ap (λ names. get names a) same ∙ is
 
--- `addr`: what the handle pins decides the reply
-abbrev is_ok : {A : Type 0} → Result A Refusal → Bool
-is_ok (Ok a) = true
-is_ok (Err r) = false
+-- `addr`: what the handle pins decides the reply and the state
+abbrev answered : State → Result Id Refusal → ℕ → Outcome
+answered s (Ok id) place = answers (reply.Place place) (with_place s id place)
+answered s (Err refused) place = refuses refused s
 
-abbrev ok_or : {A : Type 0} → A → Result A Refusal → A
-ok_or d (Ok a) = a
-ok_or d (Err r) = d
-
-abbrev refusal_or : {A : Type 0} → Refusal → Result A Refusal → Refusal
-refusal_or d (Ok a) = d
-refusal_or d (Err r) = r
-
-not_ok : {A : Type 0} (a : A) (r : Refusal) → Ok a ≡ Err r → ⊥
-not_ok a r is = subst T (ap is_ok is) tt
+abbrev target_of : Result Id Refusal → Option Id
+target_of (Ok id) = Some id
+target_of (Err refused) = None
 
 module _ (s : State) where
-  abbrev pin_at : Bool → Option Id → Result Id Refusal
-  pin_at b t = if b then option_map_or Ok t (Err refusal.Null) else Err refusal.WrongKind
+  -- what is pinned, as a result, an option and an outcome
+  abbrev Agree : Result Id Refusal → Option Id → (ℕ → Outcome) → Type 0
+  Agree r target answer = (target ≡ target_of r) × ((place : ℕ) → answer place ≡ answered s r place)
 
-  abbrev answer_at : ℕ → Bool → Option Id → Outcome
-  answer_at place b t =
-      if b then (option_map_or (λ id. answers (reply.Place place) (with_place s id place)) t
-      (refuses refusal.Null s)) else refuses refusal.WrongKind s
+  agree_at : (b : Bool) (t : Option Id)
+      → Agree (if b then option_map_or Ok t (Err refusal.Null) else Err refusal.WrongKind) (cond b t None)
+      (λ place. if b then option_map_or (λ id. answers (reply.Place place) (with_place s id place)) t
+      (refuses refusal.Null s) else refuses refusal.WrongKind s)
+  agree_at true None = (refl, λ place. refl)
+  agree_at true (Some id) = (refl, λ place. refl)
+  agree_at false t = (refl, λ place. refl)
 
-  abbrev pin_by : Option (Handle Id) → Result Id Refusal
-  pin_by o = option_map_or (λ handle. pin_at (pins handle) handle.target) o (Err refusal.NotLive)
+  agree_by : (o : Option (Handle Id))
+      → Agree (option_map_or (λ handle. if pins handle then option_map_or Ok handle.target (Err refusal.Null)
+      else Err refusal.WrongKind) o (Err refusal.NotLive)) (pinned_by o)
+      (λ place. option_map_or (λ handle. if pins handle then option_map_or
+      (λ id. answers (reply.Place place) (with_place s id place)) handle.target (refuses refusal.Null s)
+      else refuses refusal.WrongKind s) o (refuses refusal.NotLive s))
+  agree_by None = (refl, λ place. refl)
+  agree_by (Some handle) = agree_at (pins handle) handle.target
 
-  abbrev answer_by : ℕ → Option (Handle Id) → Outcome
-  answer_by place o = option_map_or (λ handle. answer_at place (pins handle) handle.target) o
-      (refuses refusal.NotLive s)
-
-  -- what is pinned is returned
-  abbrev Pins : Id → Option Id → (ℕ → Outcome) → Type 0
-  Pins id o answer = (o ≡ Some id) × ((place : ℕ)
-      → answer place ≡ answers (reply.Place place) (with_place s id place))
-
-  -- where nothing is, there is a refusal
-  abbrev PinsNone : Refusal → Option Id → (ℕ → Outcome) → Type 0
-  PinsNone refused o answer = (o ≡ None) × ((place : ℕ) → answer place ≡ refuses refused s)
-
-  ok_at : (id : Id) (b : Bool) (t : Option Id) → Ok id ≡ pin_at b t
-      → Pins id (cond b t None) (λ place. answer_at place b t)
-  ok_at id true None is = absurd (not_ok id refusal.Null is)
-  ok_at id true (Some x) is =
-      let same : id ≡ x = ap (ok_or id) is in
-      (ap Some (sym same), λ place. ap (λ i. answers (reply.Place place) (with_place s i place)) (sym same))
-  ok_at id false t is = absurd (not_ok id refusal.WrongKind is)
-
-  ok_by : (id : Id) (o : Option (Handle Id)) → Ok id ≡ pin_by o
-      → Pins id (pinned_by o) (λ place. answer_by place o)
-  ok_by id None is = absurd (not_ok id refusal.NotLive is)
-  ok_by id (Some handle) is = ok_at id (pins handle) handle.target is
-
-  ok_in : (id : Id) (o : Option Slot) → Ok id ≡ option_map_or (λ slot. pin_by (handle_at s slot)) o
-      (Err refusal.EmptyRegister)
-      → Pins id (option_and_then (λ slot. pinned_by (handle_at s slot)) o)
-      (λ place. option_map_or (λ slot. answer_by place (handle_at s slot)) o
-      (refuses refusal.EmptyRegister s))
-  ok_in id None is = absurd (not_ok id refusal.EmptyRegister is)
-  ok_in id (Some slot) is = ok_by id (handle_at s slot) is
+  agree : (caller h : ℕ)
+      → Agree (pinned_in s caller h) (pinned_target s caller h) (answer_place s caller h)
+  agree caller h = by (handle_register_of s caller h)
+    where
+      by : (o : Option Slot)
+          → Agree (option_map_or (λ slot. option_map_or (λ handle. if pins handle then option_map_or Ok
+          handle.target (Err refusal.Null) else Err refusal.WrongKind) (handle_at s slot) (Err refusal.NotLive))
+          o (Err refusal.EmptyRegister)) (option_and_then (λ slot. pinned_by (handle_at s slot)) o)
+          (λ place. option_map_or (λ slot. option_map_or (λ handle. if pins handle then option_map_or
+          (λ id. answers (reply.Place place) (with_place s id place)) handle.target (refuses refusal.Null s)
+          else refuses refusal.WrongKind s) (handle_at s slot) (refuses refusal.NotLive s)) o
+          (refuses refusal.EmptyRegister s))
+      by None = (refl, λ place. refl)
+      by (Some slot) = agree_by (handle_at s slot)
 
   -- the address of what is pinned is returned
-  at_target : (x : Id) (b : Bool) (t : Option Id) → cond b t None ≡ Some x → (place : ℕ)
-      → answer_at place b t ≡ answers (reply.Place place) (with_place s x place)
-  at_target x true None is place = absurd (no_some x (sym is))
-  at_target x true (Some y) is place =
-      ap (λ i. answers (reply.Place place) (with_place s i place)) (some_same y x is)
-  at_target x false t is place = absurd (no_some x (sym is))
-
-  at_handle : (x : Id) (o : Option (Handle Id)) → pinned_by o ≡ Some x → (place : ℕ)
-      → answer_by place o ≡ answers (reply.Place place) (with_place s x place)
-  at_handle x None is place = absurd (no_some x (sym is))
-  at_handle x (Some handle) is place = at_target x (pins handle) handle.target is place
-
-  at_slot : (x : Id) (o : Option Slot) → option_and_then (λ slot. pinned_by (handle_at s slot)) o ≡ Some x
-      → (place : ℕ) → option_map_or (λ slot. answer_by place (handle_at s slot)) o
-      (refuses refusal.EmptyRegister s) ≡ answers (reply.Place place) (with_place s x place)
-  at_slot x None is place = absurd (no_some x (sym is))
-  at_slot x (Some slot) is place = at_handle x (handle_at s slot) is place
-
-  none_at : (r : Refusal) (b : Bool) (t : Option Id) → Err r ≡ pin_at b t
-      → PinsNone r (cond b t None) (λ place. answer_at place b t)
-  none_at r true None is = (refl, λ place. ap (λ q. refuses q s) (sym (ap (refusal_or r) is)))
-  none_at r true (Some x) is = absurd (not_ok x r (sym is))
-  none_at r false t is = (refl, λ place. ap (λ q. refuses q s) (sym (ap (refusal_or r) is)))
-
-  none_by : (r : Refusal) (o : Option (Handle Id)) → Err r ≡ pin_by o
-      → PinsNone r (pinned_by o) (λ place. answer_by place o)
-  none_by r None is = (refl, λ place. ap (λ q. refuses q s) (sym (ap (refusal_or r) is)))
-  none_by r (Some handle) is = none_at r (pins handle) handle.target is
-
-  none_in : (r : Refusal) (o : Option Slot)
-      → Err r ≡ option_map_or (λ slot. pin_by (handle_at s slot)) o (Err refusal.EmptyRegister)
-      → PinsNone r (option_and_then (λ slot. pinned_by (handle_at s slot)) o)
-      (λ place. option_map_or (λ slot. answer_by place (handle_at s slot)) o
-      (refuses refusal.EmptyRegister s))
-  none_in r None is = (refl, λ place. ap (λ q. refuses q s) (sym (ap (refusal_or r) is)))
-  none_in r (Some slot) is = none_by r (handle_at s slot) is
-
--- an entry of `addr`
-abbrev pub addr_entry : ℕ → ℕ → Reply → Entry
-addr_entry caller h answer = record {
-  caller = caller;
-  cmd = cmd.AddrOf h;
-  slot = None;
-  grown = Zero;
-  reply =
-      answer;
-}
+  pinned_answer : (caller h : ℕ) (x : Id) → pinned_target s caller h ≡ Some x → (place : ℕ)
+      → answer_place s caller h place ≡ answers (reply.Place place) (with_place s x place)
+  pinned_answer caller h x is place = by (pinned_in s caller h) (agree caller h)
+    where
+      by : (r : Result Id Refusal) → Agree r (pinned_target s caller h) (answer_place s caller h)
+          → answer_place s caller h place ≡ answers (reply.Place place) (with_place s x place)
+      by (Ok id) a = a.1 place ∙ ap (λ i. answers (reply.Place place) (with_place s i place))
+          (same_Some id x (sym a.0 ∙ is))
+      by (Err refused) a = absurd (no_some x (sym is ∙ a.0))
 
 module _ (m : Machine) (caller h : ℕ) (known : caller < m.numbers.callers) (low : h < 16) where
+  came_to : {w : Outcome} {after : State} (answer : Reply) → answers answer after ≡ w
+      → IsOutcome (entry_with caller (cmd.AddrOf h) answer) w after
+  came_to {w} {after} answer is = subst (λ o. IsOutcome (entry_with caller (cmd.AddrOf h) answer) o after) is
+      (record { reply = refl; slot = refl; grown = refl; after = refl })
+
   pub addr-answers : (at : Addr) → HasPlace m at → Ok (name_in m.names at) ≡ pinned_in m.state caller h
-      → KeepsPlaces m (addr_entry caller h (reply.Place at.0)) m
+      → KeepsPlaces m (entry_with caller (cmd.AddrOf h) (reply.Place at.0)) m
   addr-answers at has is p are =
       let id = name_in m.names at in
-      let pinned = ok_in (with_places m.state p) id (handle_register_of m.state caller h) is in
+      let pinned = subst (λ r. Agree (with_places m.state p) r (pinned_target m.state caller h)
+      (answer_place (with_places m.state p) caller h)) (sym is) (agree (with_places m.state p) caller h) in
       record {
         places = insert p id.0 at.0;
         step = record {
@@ -195,23 +154,21 @@ module _ (m : Machine) (caller h : ℕ) (known : caller < m.numbers.callers) (lo
           does = record {
             place = at.0;
             may = λ x same. subst (λ y. MayAnswer (with_places m.state p) y at.0)
-                (some_same id x (sym pinned.0 ∙ same)) (has.may p are);
-            outcome = record {
-              reply = ap (λ (o : Outcome). o.reply) (sym (pinned.1 at.0));
-              slot = ap (λ (o : Outcome). o.slot) (sym (pinned.1 at.0));
-              grown = refl;
-              after = ap (λ (o : Outcome). o.after) (sym (pinned.1 at.0));
-            };
+                (same_Some id x (sym pinned.0 ∙ same)) (has.may p are);
+            outcome = came_to (reply.Place at.0) (sym (pinned.1 at.0));
           };
         };
         addresses = has.addresses p are;
         ages = refl;
+        numbers = refl;
+        heap = others-heap (entry_with caller (cmd.AddrOf h) (reply.Place at.0)) is_collect refl (λ n. refl) m;
       }
 
   pub addr-refused : (refused : Refusal) → Err refused ≡ pinned_in m.state caller h
-      → KeepsPlaces m (addr_entry caller h (reply.Refused refused)) m
+      → KeepsPlaces m (entry_with caller (cmd.AddrOf h) (reply.Refused refused)) m
   addr-refused refused is p are =
-      let none = none_in (with_places m.state p) refused (handle_register_of m.state caller h) is in
+      let none = subst (λ r. Agree (with_places m.state p) r (pinned_target m.state caller h)
+      (answer_place (with_places m.state p) caller h)) (sym is) (agree (with_places m.state p) caller h) in
       record {
         places = p;
         step = record {
@@ -220,29 +177,19 @@ module _ (m : Machine) (caller h : ℕ) (known : caller < m.numbers.callers) (lo
           does = record {
             place = 0;
             may = λ x same. absurd (no_some x (sym same ∙ none.0));
-            outcome = record {
-              reply = ap (λ (o : Outcome). o.reply) (sym (none.1 0));
-              slot = ap (λ (o : Outcome). o.slot) (sym (none.1 0));
-              grown = refl;
-              after = ap (λ (o : Outcome). o.after) (sym (none.1 0));
-            };
+            outcome = came_to (reply.Refused refused) (sym (none.1 0));
           };
         };
         addresses = are;
         ages = refl;
+        numbers = refl;
+        heap = others-heap (entry_with caller (cmd.AddrOf h) (reply.Refused refused)) is_collect refl (λ n. refl) m;
       }
 
--- the steps of a collection, and of a command that uses no pinned address
+-- the steps of a collection
 pub collect-steps : (m : Machine) (n : ℕ) (report : Report) (caller before after : ℕ)
     → CollectedSteps m.state m.ages n report.kept before after
-    → TakesSteps m.state m.ages (record {
-      caller = caller;
-      cmd = cmd.Collect n;
-      slot = None;
-      grown = Zero;
-      reply =
-          reply.Report report;
-    }) before after
+    → TakesSteps m.state m.ages (entry_with caller (cmd.Collect n) (reply.Report report)) before after
 collect-steps m n report caller before after steps = record {
   others = λ not. absurd (true≢false not);
   collects = λ k other same_n same_report.
@@ -259,65 +206,29 @@ collect-steps m n report caller before after steps = record {
     report_in d (reply.Report r) = r
     report_in d r = d
 
--- what a collection leaves of the heap, and any other command
-pub collect-heap : (m k : Machine) (n : ℕ) (report : Report) (caller : ℕ) → HasCollected m k n report
-    → LeavesHeap (record {
-      caller = caller;
-      cmd = cmd.Collect n;
-      slot = None;
-      grown = Zero;
-      reply = reply.Report report;
-    }) k.state.handles k.heap
-collect-heap m k n report caller has = record {
-  cards = λ j other same answer. has.cards;
-  compact = λ other same answer. has.compact (ap number_in same);
-}
-  where
-    number_in : Cmd → ℕ
-    number_in (cmd.Collect j) = j
-    number_in c = n
-
-pub plain-heap : (e : Entry) (k : Machine) → (touched_by e.cmd).places ≡ false
-    → LeavesHeap e k.state.handles k.heap
-plain-heap e k plain = record {
-  cards = λ n report is answer. absurd
-      (true≢false (ap (λ (c : Cmd). (touched_by c).places) (sym is) ∙ plain));
-  compact = λ report is answer. absurd
-      (true≢false (ap (λ (c : Cmd). (touched_by c).places) (sym is) ∙ plain));
-}
-
-pub plain-steps : (m : Machine) (e : Entry) (before after : ℕ) → (touched_by e.cmd).places ≡ false
-    → after ≡ before → TakesSteps m.state m.ages e before after
-plain-steps m e before after plain same = record {
-  others = λ _. same;
-  collects = λ n report is answer. absurd
-      (true≢false (ap (λ (c : Cmd). (touched_by c).places) (sym is) ∙ plain));
-}
-
--- what a command returns that uses no pinned address
-module _ (m k : Machine) (caller : ℕ) (c : Cmd) (known : caller < m.numbers.callers) (valid : IsValid c)
-    (plain : (touched_by c).places ≡ false) where
-  pub plain-keeps : (r : Result Entry Memory) → IfOk r (λ e. e.caller ≡ caller) → IfOk r (λ e. e.cmd ≡ c)
-      → IfOk r (λ e. StepOf m.numbers m.state e k.state c) → IfOk r (λ e. k.ages ≡ aged_by m.state e m.ages)
-      → IfOk r (λ e. HasNames (touched_by c).makes_object m.names k.names) → IfOk r (λ e. KeepsPlaces m e k)
-  plain-keeps (Ok e) mine is does aged names =
-      plain-moves m k e (ap (λ (d : Cmd). (touched_by d).places) is ∙ plain) (record {
-        caller = subst (λ x. x < m.numbers.callers) (sym mine) known;
-        valid = subst IsValid (sym is) valid;
-        does = subst (StepOf m.numbers m.state e k.state) (sym is) does;
-      }) (names-kept (touched_by c).makes_object m.names k.names names) aged
-  plain-keeps (Err e) mine is does aged names = tt
-
-  pub plain-leaves : (r : Result Entry Memory) → IfOk r (λ e. e.cmd ≡ c)
-      → IfOk r (λ e. LeavesHeap e k.state.handles k.heap)
-  plain-leaves (Ok e) is = plain-heap e k (ap (λ (d : Cmd). (touched_by d).places) is ∙ plain)
-  plain-leaves (Err e) is = tt
-
-  pub plain-takes : (r : Result Entry Memory) (before : ℕ) → IfOk r (λ e. e.cmd ≡ c)
-      → IfOk r (λ e. TakesSteps m.state m.ages e before before)
-  plain-takes (Ok e) before is = plain-steps m e before before
-      (ap (λ (d : Cmd). (touched_by d).places) is ∙ plain) refl
-  plain-takes (Err e) before is = tt
+-- what was done without a use of pinned addresses was done with any
+pub plain-runs : (m k : Machine) (asked : CallerCommand) (offer : Option Slot) → MayRun m asked offer
+    → (steps : ℕ) (r : Result Entry Memory)
+    → MatchResult r (IsDone m asked offer k) (λ _. RanOut m asked.cmd k)
+    → MatchResult r (λ e. HasRun m asked offer k e × TakesSteps m.state m.ages e steps steps)
+    (λ _. RanOut m asked.cmd k × (steps ≡ steps))
+plain-runs m k asked offer may steps (Ok e) did =
+    let still : uses_places e.cmd ≡ false = ap uses_places did.command ∙ did.plain in (
+      record {
+        caller = did.caller;
+        command = did.command;
+        moves = plain-moves m k e still (record {
+          caller = subst (λ x. x < m.numbers.callers) (sym did.caller) may.caller;
+          valid = subst IsValid (sym did.command) may.valid;
+          does = subst (StepOf m.numbers m.state e k.state) (sym did.command)
+              did.step;
+        }) (names-kept (touched_by asked.cmd).makes_object m.names k.names did.names) did.ages did.numbers;
+        offer = did.offer;
+        growth = did.growth;
+      },
+      others-steps e uses_places still (λ n. refl) m steps,
+    )
+plain-runs m k asked offer may steps (Err e) out = (out, refl)
 
 -- `addr` returns the address of what the handle pins
 module _ (m k : Machine) (e : Entry) (keeps : KeepsPlaces m e k) (h place : ℕ) (x : Id)
@@ -332,7 +243,7 @@ module _ (m k : Machine) (e : Entry) (keeps : KeepsPlaces m e k) (h place : ℕ)
 
   outcome_is : answer_place (with_places m.state empty) e.caller h does.place
       ≡ answers (reply.Place does.place) (with_place (with_places m.state empty) x does.place)
-  outcome_is = at_slot (with_places m.state empty) x (handle_register_of m.state e.caller h) pinned does.place
+  outcome_is = pinned_answer (with_places m.state empty) e.caller h x pinned does.place
 
   abbrev place_in : Reply → ℕ
   place_in (reply.Place p) = p
@@ -346,4 +257,25 @@ module _ (m k : Machine) (e : Entry) (keeps : KeepsPlaces m e k) (h place : ℕ)
       moved.addresses x.0 place
       (ap (λ (s : State). get s.places x.0)
       (does.outcome.after ∙ ap (λ (o : Outcome). o.after) outcome_is)
-      ∙ get-put empty x.0 does.place ∙ ap Some place_is)
+      ∙ get_inserted empty x.0 does.place ∙ ap Some place_is)
+
+-- and so was what takes no slot and gives none back
+pub others-run : (m k : Machine) (asked : CallerCommand) (offered : Option Slot) (c : Cmd) → asked.cmd ≡ c
+    → asks_of c ≡ no_room → (r : Result Done Refusal) (before after : ℕ) → MayRun m asked offered
+    → KeepsPlaces m (entry_of (record { caller = asked.caller; cmd = c }) (done_of r)) k
+    → TakesSteps m.state m.ages (entry_of (record { caller = asked.caller; cmd = c }) (done_of r)) before after
+    → (e : Entry) → e ≡ entry_of asked (done_of r)
+    → HasRun m asked offered k e × TakesSteps m.state m.ages e before after
+others-run m k asked offered c is none r before after may keeps steps e entry =
+    let same = entry ∙ (λ i. entry_of (record { caller = asked.caller; cmd = is i }) (done_of r)) in
+    let nothing = ap asks_of is ∙ none in (
+      record {
+        caller = ap (λ (x : Entry). x.caller) entry;
+        command = ap (λ (x : Entry). x.cmd) entry;
+        moves = subst (λ x. KeepsPlaces m x k) (sym same) keeps;
+        offer = λ slot given. absurd (subst (λ a. MayOffer m.state a slot) nothing
+            (subst (IsOffer m.state asked.cmd) given may.offer));
+        growth = subst (λ a. GrowsFor m.numbers m.state a offered e) (sym nothing) tt;
+      },
+      subst (λ x. TakesSteps m.state m.ages x before after) (sym same) steps,
+    )

@@ -1,9 +1,6 @@
 -- An age of a store is lowered.
-use Rattle.std.proofs.Common.{ℕ, List, sym, ◌∙◌, arith}
-use Rattle.std.proofs.lemmas.List.{length-set}
-use Rattle.hd_model.specs.Ages.{clump_of, lowered}
+use Rattle.hd_world.proofs.StoreWords.{ℕ, List, sym, ◌∙◌, arith, length-set, clump_of, lowered, Parts, IsStored}
 use Rattle.hd_model.proofs.Ages.{lowered_below}
-use Rattle.hd_world.specs.Stored.{Parts, IsStored}
 
 -- the parts with other ages
 abbrev pub with_ages : Parts → List ℕ → Parts

@@ -1,24 +1,10 @@
 -- A field of an object of a store is written through the barrier.
-use Rattle.std.proofs.Common.{◌≡◌, ℕ, ◌<◌, Bool, true, false, ◌||◌, List, map, length, get_or, set, Option, Some, refl, sym, ap, ◌∙◌, ◌⊎◌, subst, inl, inr, arith}
-use Rattle.std.specs.Prelude.{option_map, IfSome, Contains, T, if◌then◌else◌}
-use Rattle.std.specs.FinSet as set
-use Rattle.std.specs.Ordering.{nat_cmp, eq_by_cmp}
-use Rattle.std.specs.Cmp.{nat_cmp_total}
-use Rattle.std.proofs.lemmas.Bool.{cases_eq, lt-ltb}
-use Rattle.std.proofs.lemmas.List.{map-set, length-set, get_or-set_same, get_or-set_other}
-use Rattle.hd_model.specs.declared.data.Id.{Id}
-use Rattle.hd_model.specs.declared.data.Addr.{Addr}
-use Rattle.hd_model.specs.State.{Object}
-use Rattle.hd_model.specs.Scene.{fields_in, generation_at, IsField}
-use Rattle.hd_model.specs.Heap.{Placed, Heap, card_of, object_at, has_object, placed_at, id_at}
+use Rattle.hd_world.proofs.StoreWords.{unsigned_tied, eq-eqb, ◌≡◌, ℕ, ◌<◌, Bool, true, false, ◌||◌, List, map, length, get_or, set, Option, Some, refl, sym, ap, ◌∙◌, ◌⊎◌, subst, inl, inr, arith, option_map, IfSome, Contains, T, if◌then◌else◌, nat_cmp, eq_by_cmp, nat_cmp_total, cases_eq, lt-ltb, map-set, length-set, get_or-set_same, get_or-set_other, Id, Addr, Object, fields_in, generation_at, IsField, Placed, Heap, card_of, object_at, has_object, placed_at, id_at, read_object, named_in, Parts, IsStored, Machine, machine_of}
 use Rattle.hd_heap.specs.Calls.{stored as with_stored, with_field, is_younger}
-use Rattle.hd_world.specs.Reading.{read_object, named_in}
-use Rattle.hd_world.specs.Stored.{Parts, IsStored}
-use Rattle.hd_world.specs.Store.{Machine, machine_of}
-use Rattle.hd_world.proofs.EntryMaps.{tied}
 use Rattle.hd_world.proofs.IdentityReadings.{named-is}
 use Rattle.hd_world.proofs.NamedAddresses.{placed_is, object_is}
 use Rattle.hd_world.proofs.StoreWrite.{Writes}
+use Rattle.std.specs.FinSet as set
 
 -- what is in a list with one item written
 pub contains_set : {A : Type 0} (xs : List A) (i : ℕ) (v x : A) → Contains (set xs i v) x
@@ -47,7 +33,7 @@ still_set false s card c is = is
 now_set : (b : Bool) (s : set.FinSet nat_cmp) (card : ℕ) → b ≡ true
     → set.contains (if b then set.insert s card else s) card ≡ true
 now_set true s card is =
-    set.contains-insert nat_cmp_total s card card ∙ ap (λ t. t || set.contains s card) (tied card card refl)
+    set.contains-insert nat_cmp_total s card card ∙ ap (λ t. t || set.contains s card) (unsigned_tied card card ∙ eq-eqb card card refl)
 now_set false s card is = absurd (subst T (sym is) tt)
 
 younger_is : (h : Heap) (at y : Addr) (v : Option Addr) → v ≡ Some y

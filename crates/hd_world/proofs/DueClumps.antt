@@ -1,5 +1,5 @@
 -- The chain of a kind has as many due clumps as the blocks of the kind in any order.
-use Rattle.std.proofs.Common.{◌≡◌, ◌≢◌, ℕ, ◌+◌, ◌*◌, ◌<◌, ◌&&◌, T, Bool, true, false, List, [], ◌∷◌, map, length, Option, Some, None, refl, sym, ap, ◌∙◌, subst, arith, ⊎_elim, length-append, nat_le}
+use Rattle.std.proofs.Common.{◌≡◌, ◌≢◌, ℕ, ◌+◌, ◌*◌, ◌<◌, ◌&&◌, T, Bool, true, false, List, [], ◌∷◌, map, length, Option, Some, None, refl, sym, ap, ◌∙◌, subst, arith, add-mul, ⊎_elim, length-append, nat_le}
 use Rattle.std.specs.Prelude.{sum_by, filter, Contains, AllPairs, slice_index}
 use Rattle.std.specs.FinMap.{FinMap, get, keys, entries, entries_sorted, is_sorted}
 use Rattle.std.specs.FinMap.Entries.{below_all}
@@ -7,18 +7,18 @@ use Rattle.std.specs.Ordering.{nat_cmp, is_lt}
 use Rattle.std.proofs.lemmas.Bool.Decides.{nat_tests}
 use Rattle.std.proofs.lemmas.Bool.{eq-eqb, false≢true}
 use Rattle.std.proofs.lemmas.List.Sums.{sum_by-cons}
-use Rattle.hd_model.specs.declared.data.Kind.{Kind}
+use Rattle.hd_world.specs.MachineData.{Kind}
 use Rattle.hd_model.specs.declared.data.Kind.TheVariants as kind
-use Rattle.hd_model.specs.Kinds.{kind_number}
+use Rattle.hd_model.specs.Kinds.{kind_number, all_kinds}
 use Rattle.hd_model.specs.Ages.{clumps_of, visits}
 use Rattle.hd_model.specs.State.{State, BlockUse, handles_of, extra_data}
 use Rattle.hd_model.specs.Table.{Table, IsTable, chain_of}
-use Rattle.hd_model.specs.Visits.{visits_of}
+use Rattle.hd_model.specs.Visits.{visits_of, visits_over}
 use Rattle.hd_model.proofs.Members.{not_in_none, pairs_none, pairs_cons, mapped_in, mapped_from, member_cases, passing_from, passing_in, pairs_passing}
 use Rattle.hd_model.proofs.Entries.{entry_of}
 use Rattle.hd_model.proofs.KindTests.{same_kind}
 use Rattle.hd_model.proofs.MemberWeights.{lighter}
-use Rattle.hd_gc.specs.Steps.{CollectSteps}
+use Rattle.hd_gc.specs.Steps.{CollectSteps, all_task_visits}
 use Rattle.hd_world.specs.Visited.{has_kind, blocks_of, due_in, CollectedSteps}
 
 -- the due clumps of a block
@@ -106,14 +106,32 @@ module _ (s : State) (t : Table) (uses : t.uses ≡ s.blocks) (table : IsTable t
 
   pub steps-collected : (kept before after : ℕ) → CollectSteps t ages n kept before after
       → CollectedSteps s ages n kept before after
-  steps-collected kept before after steps = record {
-    passes = steps.passes;
-    least = steps.least;
-    most = steps.most;
-    steps_are =
-        steps.steps_are ∙ (λ i. before
-        + 2 * (visits_same kind.Short i + visits_same kind.Long i + visits_same kind.Strong i + visits_same
-        kind.Pinned i)
-        + 4 * visits_same kind.Variable i + 3 * visits_same kind.Counted i + steps.passes * visits_same
-        kind.Dependent i);
-  }
+  steps-collected kept before after steps =
+      let v : Kind → ℕ = visits_of t ages n in
+      let tasks : all_task_visits t ages n
+      ≡ (0 + v kind.Strong + v kind.Pinned + v kind.Variable + v kind.Counted)
+      + (0 + v kind.Short + v kind.Variable) + (0 + v kind.Long + v kind.Variable + v kind.Counted) = refl in
+      let kinds : visits_over t ages n all_kinds
+      ≡ 0 + v kind.Short + v kind.Long + v kind.Strong + v kind.Pinned + v kind.Variable + v kind.Counted
+      + v kind.Dependent = refl in
+      record {
+        passes = steps.passes + 1;
+        least = omega (arith, steps.least);
+        most = omega (arith, steps.most);
+        steps_are =
+            omega (
+              arith,
+              steps.steps_are,
+              tasks,
+              kinds,
+              add-mul steps.passes 1 (due_in s ages n kind.Dependent),
+              ap (λ k. steps.passes * k) (visits_same kind.Dependent),
+              visits_same kind.Short,
+              visits_same kind.Long,
+              visits_same kind.Strong,
+              visits_same kind.Pinned,
+              visits_same kind.Variable,
+              visits_same kind.Counted,
+              visits_same kind.Dependent,
+            );
+      }

@@ -1,41 +1,12 @@
 -- Maps by number that are made from the entries of another: with the same keys, and with new ones.
-use Rattle.std.proofs.Common.{◌≡◌, ℕ, ◌<◌, Bool, true, false, ◌&&◌, T, cond, List, [], ◌∷◌, map, Option, Some, refl, sym, ap, ◌∙◌, subst, inl, inr, arith}
-use Rattle.std.specs.Prelude.{option_map, unwrap_or, is_some}
-use Rattle.std.specs.FinMap.{FinMap, get, insert, find, is_sorted, entries, from_entries, entries_sorted, get-entries, get-from_entries, get-insert, same_map, nat_cmp-IsAntisymmetric}
+use Rattle.hd_world.proofs.StoreWords.{◌≡◌, ℕ, ◌<◌, Bool, true, false, ◌&&◌, T, cond, List, [], ◌∷◌, map, Option, Some, refl, sym, ap, ◌∙◌, subst, inl, inr, arith, option_map, unwrap_or, is_some, FinMap, get, insert, find, is_sorted, entries, from_entries, entries_sorted, get-entries, get-from_entries, get-insert, same_map, nat_cmp-IsAntisymmetric, nat_cmp, eq_by_cmp, is_lt, nat_cmp_total, unsigned_tied, le-ltb, eq-eqb, ne_eqb, cases_eq, cases_order, get_beside, get_inserted, same_Some}
 use Rattle.std.specs.FinMap.Entries.{below_all}
-use Rattle.std.specs.Ordering.{nat_cmp, eq_by_cmp, is_lt}
-use Rattle.std.specs.Cmp.{nat_cmp_total, unsigned_tied}
-use Rattle.std.specs.declared.cmp.Ordering.TheVariants.{Equal, Greater}
-use Rattle.std.proofs.lemmas.Bool.{le-ltb, eq-eqb, ne_eqb, cases_eq, cases_order}
-
-pub tied : (q i : ℕ) → q ≡ i → eq_by_cmp nat_cmp q i ≡ true
-tied q i same = unsigned_tied q i ∙ eq-eqb q i same
-
-pub untied : (q i : ℕ) → (q ≡ i → ⊥) → eq_by_cmp nat_cmp q i ≡ false
-untied q i apart = unsigned_tied q i ∙ ne_eqb q i apart
-
--- what is found at a key that is the first one, and at another
-pub found_first : {A : Type 0} (q i : ℕ) (x : A) (o : Option A) → q ≡ i
-    → cond (eq_by_cmp nat_cmp q i) (Some x) o ≡ Some x
-found_first q i x o same = ap (λ b. cond b (Some x) o) (tied q i same)
-
-pub found_later : {A : Type 0} (q i : ℕ) (x o : Option A) → (q ≡ i → ⊥) → cond (eq_by_cmp nat_cmp q i) x o ≡ o
-found_later q i x o apart = ap (λ b. cond b x o) (untied q i apart)
-
--- a read of a map with one value put
-pub get-put : {A : Type 0} (m : FinMap nat_cmp A) (k : ℕ) (v : A) → get (insert m k v) k ≡ Some v
-get-put m k v = get-insert nat_cmp_total m k v k ∙ found_first k k v (get m k) refl
-
-pub get-put_other : {A : Type 0} (m : FinMap nat_cmp A) (k : ℕ) (v : A) (q : ℕ) → (q ≡ k → ⊥)
-    → get (insert m k v) q ≡ get m q
-get-put_other m k v q apart = get-insert nat_cmp_total m k v q ∙ found_later q k (Some v) (get m q) apart
+use Rattle.std.proofs.lemmas.Bool.Decides.{nat_tests}
+use Rattle.hd_model.proofs.Entries.{found_first, found_later}
 
 -- two maps with the same items are equal
 pub same_numbers : {A : Type 0} (m n : FinMap nat_cmp A) → ((q : ℕ) → get m q ≡ get n q) → m ≡ n
 same_numbers m n is = same_map nat_cmp_total nat_cmp-IsAntisymmetric m n is
-
-pub some_same : {A : Type 0} (x y : A) → Some x ≡ Some y → x ≡ y
-some_same x y e = ap (λ o. unwrap_or o x) e
 
 -- the entries with other values
 pub find-mapped : {X Y : Type 0} (f : ℕ → X → Y) (k : ℕ) (es : List (ℕ × X))
@@ -69,19 +40,8 @@ pub both : (a b : Bool) → T (a && b) → T a × T b
 both true b p = (tt, p)
 both false b p = absurd p
 
-ranks_equal : (k x : ℕ) → k ≡ x → nat_cmp k x ≡ Equal
-ranks_equal k x h = rw (le-ltb k x (omega arith), eq-eqb k x h)
-
-ranks_greater : (k x : ℕ) → x < k → nat_cmp k x ≡ Greater
-ranks_greater k x h = rw (le-ltb k x (omega arith), ne_eqb k x (λ same. omega arith))
-
 less : (x y : ℕ) → T (is_lt (nat_cmp x y)) → x < y
-less x y h =
-    elim (cases_order x y) [
-      | inl same ↦ absurd (subst T (ap is_lt (ranks_equal x y same)) h)
-      | inr (inl is) ↦ is
-      | inr (inr more) ↦ absurd (subst T (ap is_lt (ranks_greater x y more)) h)
-    ]
+less x y h = grind (arith, nat_tests)
 
 -- a key below all others is none of them
 pub below : {A : Type 0} (x k : ℕ) (v : A) (es : List (ℕ × A)) → T (below_all nat_cmp x es) → Among k v es
@@ -106,7 +66,7 @@ among-find k v [] is = absurd (subst T (sym (ap is_some is)) tt)
 among-find k v (e ∷ es) is =
     elim (cases_eq k e.0) [
       | inl same ↦ let here : e.1 ≡ v =
-          some_same e.1 v (sym (found_first k e.0 e.1 (find nat_cmp k es) same) ∙ is) in
+          same_Some e.1 v (sym (found_first k e.0 e.1 (find nat_cmp k es) same) ∙ is) in
           subst (λ w. Among k w (e ∷ es)) here (subst (λ j. Among j e.1 (e ∷ es)) (sym same) first)
       | inr apart ↦ later
           (among-find k v es (sym (found_later k e.0 (Some e.1) (find nat_cmp k es) apart) ∙ is))
@@ -143,7 +103,7 @@ source key f (e ∷ es) x y is =
         value = e.1;
         among = first;
         keyed = sym same;
-        is = some_same y (f e.0 e.1)
+        is = same_Some y (f e.0 e.1)
             (sym is ∙ found_first x (key e.1) (f e.0 e.1) (find nat_cmp x (rekeyed key f es)) same);
       }
       | inr apart ↦ let s = source key f es x y
@@ -198,5 +158,5 @@ module _ {X Y : Type 0} (key : X → ℕ) (f : ℕ → X → Y) (m : FinMap nat_
       get-from_entries nat_cmp_total (rekeyed key f (entries m)) (key p) ∙ found.1 in
       let u = under (key p) found.0 it in
       let same : u.at ≡ a = apart u.at a u.value p u.stands is u.keyed in
-      let value : u.value ≡ p = some_same u.value p (sym u.stands ∙ ap (get m) same ∙ is) in
+      let value : u.value ≡ p = same_Some u.value p (sym u.stands ∙ ap (get m) same ∙ is) in
       it ∙ ap Some (u.is ∙ ap (λ j. f j u.value) same ∙ ap (f a) value)

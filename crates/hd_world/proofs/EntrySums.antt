@@ -1,11 +1,6 @@
 -- Lengths and sums of maps that are made from the entries of another.
-use Rattle.std.proofs.Common.{◌≡◌, ℕ, ◌+◌, ◌<◌, T, cond, List, [], ◌∷◌, map, length, Option, Some, None, refl, sym, ap, ◌∙◌, arith}
-use Rattle.std.specs.Prelude.{is_some, sum_by, option_map}
-use Rattle.std.specs.FinMap.{FinMap, get, find, is_sorted, entries, values, len, from_entries, entries_sorted, get-entries, get-from_entries, len-insert, len-empty, len-entries}
+use Rattle.hd_world.proofs.StoreWords.{◌≡◌, ℕ, ◌+◌, ◌<◌, T, cond, List, [], ◌∷◌, map, length, Option, Some, None, refl, sym, ap, ◌∙◌, arith, is_some, sum_by, option_map, FinMap, get, find, is_sorted, entries, values, len, from_entries, entries_sorted, get-entries, get-from_entries, len-insert, len-empty, len-entries, nat_cmp, nat_cmp_total, length-map}
 use Rattle.std.specs.FinMap.Entries.{below_all}
-use Rattle.std.specs.Ordering.{nat_cmp}
-use Rattle.std.specs.Cmp.{nat_cmp_total}
-use Rattle.std.proofs.lemmas.List.{length-map}
 use Rattle.std.proofs.lemmas.List.Sums.{sum_by-cons}
 use Rattle.hd_world.proofs.EntryMaps.{Among, both, below, find-mapped, source, AreApart, rekeyed, among-find, find-among, first, later}
 use Rattle.hd_model.proofs.Sums.{share, sum-insert}

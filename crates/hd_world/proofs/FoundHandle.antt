@@ -1,13 +1,6 @@
 -- What is known of the live handle that a command found.
-use Rattle.std.proofs.Common.{◌≡◌, ℕ, Option, Some, None, refl, sym, ap, ◌∙◌, subst}
-use Rattle.std.specs.Prelude.{Result, Ok, Err}
-use Rattle.std.specs.Option.{option_map_or}
-use Rattle.hd_model.specs.declared.data.Id.{Id}
-use Rattle.hd_model.specs.declared.data.Slot.{Slot}
-use Rattle.hd_model.specs.declared.data.Refusal.{Refusal}
+use Rattle.hd_world.proofs.StoreWords.{◌≡◌, ℕ, Option, Some, None, refl, sym, ap, ◌∙◌, subst, Result, Ok, Err, option_map_or, Id, Slot, Refusal, State, Handle, handle_register_of, handle_at, live_in}
 use Rattle.hd_model.specs.declared.data.Refusal.TheVariants as refusal
-use Rattle.hd_model.specs.State.{State, Handle, handle_register_of, handle_at}
-use Rattle.hd_world.specs.Commands.{live_in}
 
 abbrev ok_or : {A : Type 0} → A → Result A Refusal → A
 ok_or d (Ok a) = a

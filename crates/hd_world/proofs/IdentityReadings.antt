@@ -1,15 +1,6 @@
 -- How a heap, its rows and its roots read by identity, and how that changes with the heap.
-use Rattle.std.proofs.Common.{◌≡◌, ℕ, Option, Some, None, refl, sym, ap, ◌∙◌, subst, inl, inr}
-use Rattle.std.specs.Prelude.{option_map, unwrap_or, is_some, T}
-use Rattle.std.specs.FinMap.{FinMap, get, insert}
-use Rattle.std.specs.Ordering.{nat_cmp}
-use Rattle.std.proofs.lemmas.Bool.{cases_eq}
-use Rattle.hd_model.specs.declared.data.Id.{Id}
-use Rattle.hd_model.specs.declared.data.Addr.{Addr}
-use Rattle.hd_model.specs.State.{Object, Handle, rename_object, rename_handle}
-use Rattle.hd_model.specs.Heap.{Placed, Heap, region_of, object_in, id_in, id_at, HasIdentities}
-use Rattle.hd_world.specs.Reading.{names_of, read_object, objects_by_id, rows_by_id, name_in, named_in}
-use Rattle.hd_world.proofs.EntryMaps.{get-put, get-put_other, same_numbers, some_same, get-mapped, Under, AreApart, under, get-rekeyed}
+use Rattle.hd_world.proofs.StoreWords.{◌≡◌, ℕ, Option, Some, None, refl, sym, ap, ◌∙◌, subst, inl, inr, option_map, unwrap_or, is_some, T, FinMap, get, insert, nat_cmp, cases_eq, Id, Addr, Object, Handle, rename_object, rename_handle, Placed, Heap, region_of, object_in, id_in, id_at, HasIdentities, names_of, read_object, objects_by_id, rows_by_id, name_in, named_in, get_beside, get_inserted, same_Some}
+use Rattle.hd_world.proofs.EntryMaps.{same_numbers, get-mapped, Under, AreApart, under, get-rekeyed}
 
 pub no_some : {A : Type 0} (x : A) → Some x ≡ None → ⊥
 no_some x e = subst T (ap is_some e) tt
@@ -98,10 +89,10 @@ pub record Replaces (h k : Heap) (a : ℕ) (old new : Placed) : Type 0 where
 
 module _ (h k : Heap) (a : ℕ) (old new : Placed) (r : Replaces h k a old new) where
   at_it : get k.objects a ≡ Some new
-  at_it = ap (λ m. get m a) r.objects ∙ get-put h.objects a new
+  at_it = ap (λ m. get m a) r.objects ∙ get_inserted h.objects a new
 
   elsewhere : (b : ℕ) → (b ≡ a → ⊥) → get k.objects b ≡ get h.objects b
-  elsewhere b apart = ap (λ m. get m b) r.objects ∙ get-put_other h.objects a new b apart
+  elsewhere b apart = ap (λ m. get m b) r.objects ∙ get_beside h.objects a new b apart
 
   id_same : (b : ℕ) → id_in (get k.objects b) ≡ id_in (get h.objects b)
   id_same b =
@@ -147,7 +138,7 @@ module _ (h k : Heap) (a : ℕ) (old new : Placed) (r : Replaces h k a old new) 
             ap (get h.objects) here ∙ r.was,
             sym r.same
                 ∙ ap (λ (q : Placed). q.id)
-                (some_same new p (sym at_it ∙ ap (get k.objects) (sym here) ∙ is)),
+                (same_Some new p (sym at_it ∙ ap (get k.objects) (sym here) ∙ is)),
           ),
         )
         | inr apart ↦ (p, (sym (elsewhere b apart) ∙ is, refl))
@@ -176,16 +167,16 @@ module _ (h k : Heap) (a : ℕ) (old new : Placed) (r : Replaces h k a old new) 
       each b p is =
           elim (cases_eq b a) [
             | inl here ↦
-                let it : new ≡ p = some_same new p (sym at_it ∙ ap (get k.objects) (sym here) ∙ is) in
+                let it : new ≡ p = same_Some new p (sym at_it ∙ ap (get k.objects) (sym here) ∙ is) in
                 ap (λ (q : Placed). get (insert (objects_by_id h) old.id.0 (read_object h a new)) q.id.0)
                 (sym it)
                 ∙ ap (λ (x : Id). get (insert (objects_by_id h) old.id.0 (read_object h a new)) x.0) r.same
-                ∙ get-put (objects_by_id h) old.id.0 (read_object h a new)
+                ∙ get_inserted (objects_by_id h) old.id.0 (read_object h a new)
                 ∙ ap Some (ap (λ f. f a new) (sym read) ∙ ap (λ c. read_object k c new) (sym here)
                 ∙ ap (read_object k b) it)
             | inr apart ↦
                 let before : get h.objects b ≡ Some p = sym (elsewhere b apart) ∙ is in
-                get-put_other (objects_by_id h) old.id.0 (read_object h a new) p.id.0
+                get_beside (objects_by_id h) old.id.0 (read_object h a new) p.id.0
                 (λ same. apart (identities b a p old before r.was (same_id p.id old.id same)))
                 ∙ objects-get h identities b p before ∙ ap Some (ap (λ f. f b p) (sym read))
           ]
@@ -202,13 +193,13 @@ module _ (h k : Heap) (a : ℕ) (old new : Placed) (r : Replaces h k a old new) 
             }
             | inr apart ↦
                 let u = objects-under h x o
-                (sym (get-put_other (objects_by_id h) old.id.0 (read_object h a new) x apart) ∙ is) in
+                (sym (get_beside (objects_by_id h) old.id.0 (read_object h a new) x apart) ∙ is) in
                 record {
                   at = u.at;
                   value = u.value;
                   stands = elsewhere u.at
                       (λ here. apart (sym u.keyed ∙ ap (λ (p : Placed). p.id.0)
-                      (some_same u.value old (sym u.stands ∙ ap (get h.objects) here ∙ r.was)))) ∙ u.stands;
+                      (same_Some u.value old (sym u.stands ∙ ap (get h.objects) here ∙ r.was)))) ∙ u.stands;
                   named = u.keyed;
                 }
           ]

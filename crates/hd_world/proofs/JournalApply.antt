@@ -1,25 +1,12 @@
 -- What a world's journal states before a command, and that it is a run after it. Only the state of the
 -- machine has pinned addresses.
-use Rattle.std.proofs.Common.{◌≡◌, ℕ, ◌<◌, ◌+◌, ◌*◌, ◌^◌, List, ◌++◌, ◌∷◌, [], length, replicate, None, sym, ap, subst, arith}
-use Rattle.std.specs.FinMap.{FinMap, get, empty}
-use Rattle.std.specs.Ordering.{nat_cmp}
-use Rattle.hd_model.specs.declared.data.Entry.{Entry}
-use Rattle.hd_model.specs.State.{State, start_of, last_serial, identity_of}
-use Rattle.hd_model.specs.Places.{with_places}
-use Rattle.hd_model.specs.Step.{Step}
-use Rattle.hd_model.specs.Run.{Run, stay}
-use Rattle.hd_model.specs.Aging.{AgedRun, aged_by}
-use Rattle.hd_model.specs.WellFormed.{IsWellFormed, HasHandles}
+use Rattle.hd_world.proofs.StoreWords.{◌≡◌, ℕ, ◌<◌, ◌+◌, ◌*◌, ◌^◌, List, ◌++◌, ◌∷◌, [], length, replicate, Option, None, Some, sym, ap, subst, arith, FinMap, get, empty, nat_cmp, Entry, Slot, Cmd, Numbers, State, start_of, last_serial, identity_of, with_places, Step, Run, stay, AgedRun, aged_by, IsWellFormed, HasHandles, Machine, KeepsPlaces, Moves, TakesSteps, HasLimits, Asks, object_room, handle_slot, block_back, no_room, asks_of, MayOffer, IsOffer, GrowsFor, GrowsUnoffered}
 use Rattle.hd_model.proofs.AgedRuns.{nothing_at}
 use Rattle.hd_model.proofs.StepChains.{aged_run_is_run, push}
 use Rattle.hd_model.proofs.RunCounts.{fresh}
 use Rattle.hd_model.proofs.Serials.{last_serial-le, count-le}
 use Rattle.hd_model.proofs.WellFormedSteps.{run_is_well_formed}
 use Rattle.hd_world.specs.Counts.{HasSmallCounts}
-use Rattle.hd_world.specs.Store.{Machine}
-use Rattle.hd_world.specs.Places.{KeepsPlaces, Moves}
-use Rattle.hd_world.specs.Visited.{TakesSteps}
-use Rattle.hd_world.specs.World.{HasLimits}
 use Rattle.hd_world.specs.Placed.{IsTrueRun, Placed, same_places}
 
 -- what steps an entry takes does not depend on pinned addresses
@@ -31,6 +18,30 @@ steps_placed s p ages e before after is = record {
       let did = is.collects n report c answer in
       record { passes = did.passes; least = did.least; most = did.most; steps_are = did.steps_are };
 }
+
+-- nor does what is offered, and whether the table grows
+module _ (n : Numbers) (s : State) (p : FinMap nat_cmp ℕ) where
+  pub offer_placed : (c : Cmd) (o : Option Slot) → IsOffer (with_places s p) c o → IsOffer s c o
+  offer_placed c None is = tt
+  offer_placed c (Some slot) is = by (asks_of c) is
+    where
+      by : (a : Asks) → MayOffer (with_places s p) a slot → MayOffer s a slot
+      by (object_room fields) is = is
+      by (handle_slot kind) is = is
+      by (block_back kind) is = is
+      by no_room is = is
+
+  pub growth_placed : (c : Cmd) (o : Option Slot) (e : Entry) → GrowsUnoffered n s c o e
+      → GrowsUnoffered n (with_places s p) c o e
+  growth_placed c o e = by (asks_of c) o
+    where
+      by : (a : Asks) (o : Option Slot) → GrowsFor n s a o e → GrowsFor n (with_places s p) a o e
+      by (object_room fields) o is = is
+      by (handle_slot kind) None is = record { full = is.full; grows = is.grows }
+      by (handle_slot kind) (Some slot) is = is
+      by (block_back kind) None is = is
+      by (block_back kind) (Some slot) is = is
+      by no_room o is = is
 
 -- what is true with the pinned addresses of a journal is true of any that are said to be those
 pub at_places : (m : Machine) (journal : List Entry) (p q : FinMap nat_cmp ℕ)
@@ -70,7 +81,7 @@ module _ (m : Machine) (journal : List Entry) (p : FinMap nat_cmp ℕ) (is : IsT
 
   -- where a command keeps pinned addresses and the journal gets its entry
   module _ (next : Machine) (e : Entry) (entries : List Entry) (keeps : KeepsPlaces m e next)
-      (same : next.numbers ≡ m.numbers) (longer : entries ≡ journal ++ e ∷ []) where
+      (longer : entries ≡ journal ++ e ∷ []) where
     moved : Moves m e next p
     moved = keeps p is.addresses
 
@@ -78,10 +89,10 @@ module _ (m : Machine) (journal : List Entry) (p : FinMap nat_cmp ℕ) (is : IsT
     goes_on = record {
       run = subst (λ es. AgedRun next.numbers es (with_places next.state moved.places) next.ages) (sym longer)
           (subst (λ k. AgedRun k (journal ++ e ∷ []) (with_places next.state moved.places) next.ages)
-          (sym same)
+          (sym moved.numbers)
           (push is.run (record { step = moved.step; ages = moved.ages })));
       addresses = moved.addresses;
-      limits = subst HasLimits (sym same) is.limits;
+      limits = subst HasLimits (sym moved.numbers) is.limits;
     }
 
     -- there are pinned addresses with which it leads on

@@ -1,10 +1,10 @@
+mod StoreWords
 mod EntryMaps
 mod IdentityReadings
 mod NameAgreement
 mod StoreAdd
 mod RootRows
 mod NamedAddresses
-mod StoreParts
 mod StoreWrite
 mod Barrier
 mod RootAccess

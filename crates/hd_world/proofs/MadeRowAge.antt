@@ -1,30 +1,12 @@
 -- The row of a new handle may be stored once the age of its clump is lowered for it.
-use Rattle.std.proofs.Common.{◌≡◌, ℕ, ◌≤◌, true, false, List, [], Option, Some, None, refl, sym, ap, ◌∙◌, subst, arith, T}
-use Rattle.std.specs.Prelude.{IfSome, unwrap_or}
-use Rattle.std.specs.FinMap.{get}
-use Rattle.hd_model.specs.declared.data.Id.{Id}
-use Rattle.hd_model.specs.declared.data.Addr.{Addr}
-use Rattle.hd_model.specs.declared.data.Slot.{Slot}
-use Rattle.hd_model.specs.declared.data.Kind.{Kind}
-use Rattle.hd_model.specs.declared.data.Make.{Make}
-use Rattle.hd_model.specs.declared.data.Make.TheVariants as make
-use Rattle.hd_model.specs.declared.data.Grown.{Grown}
-use Rattle.hd_model.specs.State.{Object, Extra, nothing, strength, secondary, count, State, secondary_of, object_by_id}
-use Rattle.hd_model.specs.Scene.{scene_of, generation_in, generation_at}
-use Rattle.hd_model.specs.Ages.{age_of}
-use Rattle.hd_model.specs.Aging.{lowered_to, lowered_by_new}
-use Rattle.hd_model.specs.Kinds.{kind_of}
-use Rattle.hd_model.specs.Step.{with_growth}
-use Rattle.hd_model.specs.Table.{fits}
+use Rattle.hd_world.proofs.StoreWords.{◌≡◌, ℕ, ◌≤◌, true≢false, false, List, [], Option, Some, None, refl, sym, ap, ◌∙◌, subst, arith, option_map, option_and_then, option_map_or, IfSome, IsSome, unwrap_or, FinMap, get, nat_cmp, Id, Addr, Slot, Kind, Make, Grown, Object, Handle, State, secondary_of, object_by_id, scene_of, generation_in, generation_at, age_of, lowered_to, lowered_by_new, lowered_at, kind_of, secondary_register, with_growth, name_in, named_in, Machine, MayStand}
+use Rattle.hd_world.proofs.IdentityReadings.{no_some}
 use Rattle.hd_model.proofs.Ages.{lowered_here}
+use Rattle.hd_model.proofs.KindTests.{made_secondary}
+use Rattle.hd_model.proofs.RenamedReach.{secondary_renamed}
 use Rattle.hd_seg.specs.declared.row.Row.{Row}
 use Rattle.hd_seg.specs.Row.{extra_of}
-use Rattle.hd_world.specs.Reading.{name_in, named_in, IsNamed}
-use Rattle.hd_world.specs.Store.{Machine}
-use Rattle.hd_world.specs.Objects.{object_named}
-use Rattle.hd_world.specs.Handles.{MayStand}
 use Rattle.hd_world.specs.Making.{IsMadeRow}
-use Rattle.hd_world.proofs.IdentityReadings.{no_some}
 
 generation_read : (o : Option (Object Id))
     → generation_in o
@@ -44,38 +26,38 @@ lowered_target s ages slot x =
 module _ (s : State) (ages : List ℕ) (slot : Slot) (m : Make) where
   target_low : (x : Id) → age_of (lowered_by_new s ages (Some slot) m (Some x)) slot.0
       ≤ (object_by_id s x).generation
-  target_low x = by m
+  target_low x = by (secondary_register m)
     where
-      by : (g : Make) → age_of (lowered_by_new s ages (Some slot) g (Some x)) slot.0
-          ≤ (object_by_id s x).generation
-      by make.Short = lowered_target s ages slot x
-      by make.Long = lowered_target s ages slot x
-      by make.Strong = lowered_target s ages slot x
-      by make.Pinned = lowered_target s ages slot x
-      by (make.Variable given) = lowered_target s ages slot x
-      by make.Counted = lowered_target s ages slot x
-      by (make.Dependent r) = let low = lowered_here ages slot.0 0 in omega arith
+      by : (o : Option ℕ) → age_of (option_map_or (λ _. lowered_at ages (Some slot) 0) o
+          (lowered_to s ages (Some slot) (Some x))) slot.0 ≤ (object_by_id s x).generation
+      by None = lowered_target s ages slot x
+      by (Some r) = let low = lowered_here ages slot.0 0 in omega arith
 
-  second_low : (e : Extra Addr) → fits (kind_of m) e ≡ true → (o : Option Id) (g : ℕ) (a : Addr)
-      → secondary_of e ≡ Some a → age_of (lowered_by_new s ages (Some slot) m o) slot.0 ≤ g
-  second_low e fit o g a is = by m e fit is
+  second_low : (t : Option Id) (g : ℕ) → IsSome (secondary_register m)
+      → age_of (lowered_by_new s ages (Some slot) m t) slot.0 ≤ g
+  second_low t g = by (secondary_register m)
     where
-      by : (k : Make) (x : Extra Addr) → fits (kind_of k) x ≡ true → secondary_of x ≡ Some a
-          → age_of (lowered_by_new s ages (Some slot) k o) slot.0 ≤ g
-      by k nothing f e = absurd (no_some a (sym e))
-      by k (strength t) f e = absurd (no_some a (sym e))
-      by k (count c) f e = absurd (no_some a (sym e))
-      by make.Short (secondary v) f e = absurd (subst T (sym f) tt)
-      by make.Long (secondary v) f e = absurd (subst T (sym f) tt)
-      by make.Strong (secondary v) f e = absurd (subst T (sym f) tt)
-      by make.Pinned (secondary v) f e = absurd (subst T (sym f) tt)
-      by (make.Variable given) (secondary v) f e = absurd (subst T (sym f) tt)
-      by make.Counted (secondary v) f e = absurd (subst T (sym f) tt)
-      by (make.Dependent r) (secondary v) f e = let low = lowered_here ages slot.0 0 in omega arith
+      by : (o : Option ℕ) → IsSome o → age_of (option_map_or (λ _. lowered_at ages (Some slot) 0) o
+          (lowered_to s ages (Some slot) t)) slot.0 ≤ g
+      by None none = absurd (true≢false (sym none))
+      by (Some r) some = let low = lowered_here ages slot.0 0 in omega arith
 
-each_some : {A : Type 0} (o : Option A) (P : A → Type 0) → ((a : A) → o ≡ Some a → P a) → IfSome o P
-each_some None P each = tt
-each_some (Some a) P each = each a refl
+  targets_low : (names : FinMap nat_cmp Id) (o : Option Addr) → IfSome o (λ a.
+      age_of (lowered_by_new s ages (Some slot) m (named_in names o)) slot.0
+      ≤ (object_by_id s (name_in names a)).generation)
+  targets_low names None = tt
+  targets_low names (Some a) = target_low (name_in names a)
+
+  seconds_low : (t : Option Id) (o : Option Addr) (g : Addr → ℕ)
+      → ((a : Addr) → o ≡ Some a → IsSome (secondary_register m))
+      → IfSome o (λ a. age_of (lowered_by_new s ages (Some slot) m t) slot.0 ≤ g a)
+  seconds_low t None g has = tt
+  seconds_low t (Some a) g has = second_low t (g a) (has a refl)
+
+there_before : {A B : Type 0} (o : Option A) (f : A → Option B) (y : B) → option_and_then f o ≡ Some y
+    → IsSome o
+there_before None f y is = absurd (no_some y (sym is))
+there_before (Some x) f y is = refl
 
 -- m0 is the store before, m1 once the table has grown, m2 once the age is lowered
 pub made_may : (m0 m1 m2 : Machine) (k : Kind) (g : Grown) (slot : Slot) (caller t : ℕ) (given : Make)
@@ -85,32 +67,20 @@ pub made_may : (m0 m1 m2 : Machine) (k : Kind) (g : Grown) (slot : Slot) (caller
           (named_in m1.names row.target);
     } → IsMadeRow m0 caller given t row → MayStand m2 slot (kind_of given) row
 made_may m0 m1 m2 k g slot caller t given row grows lowers made =
-    let names : m2.names ≡ m0.names =
-    ap (λ (m : Machine). m.names) lowers ∙ ap (λ (m : Machine). m.names) grows in
-    let ages : m2.ages ≡ lowered_by_new m1.state m1.ages (Some slot) given (named_in m1.names row.target) =
-    ap (λ (m : Machine). m.ages) lowers in
-    let state : m2.state ≡ m1.state = ap (λ (m : Machine). m.state) lowers in
-    let name1 : m2.names ≡ m1.names = ap (λ (m : Machine). m.names) lowers in
-    record {
+    let s = with_growth m0.state k g in
+    subst (λ m. MayStand m slot (kind_of given) row)
+    (sym (lowers ∙ ap (λ (m : Machine). record m {
+      ages = lowered_by_new m.state m.ages (Some slot) given (named_in m.names row.target);
+    }) grows)) (record {
       fits = made.fits;
-      target = subst (λ n. IsNamed n row.target) (sym names) made.target;
-      secondary = subst (λ n. IsNamed n (secondary_of (extra_of row.extra))) (sym names) made.secondary;
+      target = made.target;
+      secondary = made.secondary;
       paired = made.paired;
-      target_age = each_some row.target (λ a. age_of m2.ages slot.0 ≤ (object_named m2 a).generation) (λ a is.
-          subst (λ x. age_of x slot.0 ≤ (object_named m2 a).generation) (sym ages)
-          (subst
-          (λ s. age_of (lowered_by_new m1.state m1.ages (Some slot) given (named_in m1.names row.target))
-          slot.0 ≤ (object_by_id s (name_in m2.names a)).generation) (sym state)
-          (subst
-          (λ n. age_of (lowered_by_new m1.state m1.ages (Some slot) given (named_in m1.names row.target))
-          slot.0 ≤ (object_by_id m1.state (name_in n a)).generation) (sym name1)
-          (subst
-          (λ o. age_of (lowered_by_new m1.state m1.ages (Some slot) given (named_in m1.names o)) slot.0
-          ≤ (object_by_id m1.state (name_in m1.names a)).generation) (sym is)
-          (target_low m1.state m1.ages slot given (name_in m1.names a))))));
-      secondary_age = each_some (secondary_of (extra_of row.extra))
-          (λ a. age_of m2.ages slot.0 ≤ (object_named m2 a).generation) (λ a is.
-          subst (λ x. age_of x slot.0 ≤ (object_named m2 a).generation) (sym ages)
-          (second_low m1.state m1.ages slot given (extra_of row.extra) made.fits
-          (named_in m1.names row.target) (object_named m2 a).generation a is));
-    }
+      target_age = targets_low s m0.ages slot given m0.names row.target;
+      secondary_age = seconds_low s m0.ages slot given (named_in m0.names row.target)
+          (secondary_of (extra_of row.extra)) (λ a. (object_by_id s (name_in m0.names a)).generation) (λ a is.
+          there_before (secondary_register given) _ (name_in m0.names a)
+          (sym (made_secondary m0.state caller given t)
+          ∙ ap (λ (h : Handle Id). secondary_of h.extra) (sym made.handle)
+          ∙ secondary_renamed (name_in m0.names) (extra_of row.extra) ∙ ap (option_map (name_in m0.names)) is));
+    })

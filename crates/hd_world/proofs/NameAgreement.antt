@@ -1,7 +1,5 @@
 -- Two maps from references to identities that agree on the references of a row or a list read it alike.
-use Rattle.std.proofs.Common.{◌≡◌, suc, List, [], ◌∷◌, map, Option, Some, None, refl, ap, subst, arith}
-use Rattle.std.specs.Prelude.{option_map, Contains}
-use Rattle.hd_model.specs.State.{Object, Extra, nothing, strength, secondary, count, Handle, secondary_of, rename_extra, rename_object, rename_handle}
+use Rattle.hd_world.proofs.StoreWords.{◌≡◌, suc, List, [], ◌∷◌, map, Option, Some, None, refl, ap, subst, arith, option_map, Contains, Object, Extra, nothing, strength, secondary, count, Handle, secondary_of, rename_extra, rename_object, rename_handle}
 
 pub map_agrees : {A B : Type 0} (f g : A → B) (xs : List A) → ((x : A) → Contains xs x → f x ≡ g x)
     → map f xs ≡ map g xs

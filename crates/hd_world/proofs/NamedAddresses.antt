@@ -1,18 +1,6 @@
 -- What the calls of a heap return, in the words of the store.
-use Rattle.std.proofs.Common.{◌≡◌, ℕ, zero, suc, ◌<◌, true, false, List, [], ◌∷◌, map, length, get_or, Option, Some, None, refl, sym, ap, ◌∙◌, subst}
-use Rattle.std.specs.Prelude.{option_map, unwrap_or, is_some, IsSome, IfSome, Contains, T}
-use Rattle.std.proofs.lemmas.List.{length-map}
+use Rattle.hd_world.proofs.StoreWords.{◌≡◌, ℕ, zero, suc, ◌<◌, true, false, List, [], ◌∷◌, map, length, get_or, Option, Some, None, refl, sym, ap, ◌∙◌, subst, option_map, unwrap_or, is_some, IsSome, IfSome, Contains, T, length-map, get, Id, Addr, Object, object_by_id, field_of, fields_in, generation_in, fields_at, generation_at, Placed, Heap, region_generation, region_of, object_in, object_at, has_object, placed_at, id_in, id_at, names_of, read_object, name_in, named_in, IsNamed, Parts, state_of, IsStored, Machine, machine_of, object_named}
 use Rattle.std.proofs.lemmas.List.Elements.{Contains-get_or}
-use Rattle.std.specs.FinMap.{get}
-use Rattle.hd_model.specs.declared.data.Id.{Id}
-use Rattle.hd_model.specs.declared.data.Addr.{Addr}
-use Rattle.hd_model.specs.State.{Object, object_by_id, field_of}
-use Rattle.hd_model.specs.Scene.{fields_in, generation_in, fields_at, generation_at}
-use Rattle.hd_model.specs.Heap.{Placed, Heap, region_generation, region_of, object_in, object_at, has_object, placed_at, id_in, id_at}
-use Rattle.hd_world.specs.Reading.{names_of, read_object, name_in, named_in, IsNamed}
-use Rattle.hd_world.specs.Stored.{Parts, state_of, IsStored}
-use Rattle.hd_world.specs.Store.{Machine, machine_of}
-use Rattle.hd_world.specs.Objects.{object_named}
 use Rattle.hd_world.proofs.IdentityReadings.{names-get, name-is, named-is, objects-get}
 
 -- an address that has an identity has an object, and the other way round

@@ -1,20 +1,8 @@
 -- A new handle's slot in a block that has just come into use.
-use Rattle.std.proofs.Common.{◌≡◌, ℕ, ◌+◌, ◌*◌, ◌/◌, ◌≤◌, true, false, Option, Some, None, refl, sym, ap, ◌∙◌, subst, arith}
-use Rattle.std.specs.FinMap.{get, insert}
-use Rattle.hd_model.specs.declared.data.Id.{Id}
-use Rattle.hd_model.specs.declared.data.Slot.{Slot}
-use Rattle.hd_model.specs.declared.data.Kind.{Kind}
-use Rattle.hd_model.specs.declared.data.Grown.{Grown}
-use Rattle.hd_model.specs.declared.data.Grown.TheVariants.{Zero, One, Two, Back}
-use Rattle.hd_model.specs.State.{Handle, handles_of, extra_data, given_of, block_of, first_slot, handle_at, use_of, IsFree}
-use Rattle.hd_model.specs.Kinds.{is_paired}
-use Rattle.hd_model.specs.Step.{blocks_needed, IsLeastUnused}
-use Rattle.hd_model.specs.WellFormed.{HasHandles}
-use Rattle.hd_model.specs.Step.{with_growth}
-use Rattle.hd_world.specs.Making.{IsPlace}
-use Rattle.hd_world.specs.Store.{Machine}
-use Rattle.hd_world.proofs.EntryMaps.{get-put, get-put_other}
+use Rattle.hd_world.proofs.StoreWords.{◌≡◌, ℕ, ◌+◌, ◌*◌, ◌/◌, ◌≤◌, true, false, Option, Some, None, refl, sym, ap, ◌∙◌, subst, arith, get, insert, Id, Slot, Kind, Grown, Handle, handles_of, extra_data, given_of, block_of, first_slot, handle_at, use_of, IsFree, is_paired, blocks_needed, IsLeastUnused, HasHandles, with_growth, Machine, get_beside, get_inserted}
 use Rattle.hd_world.proofs.IdentityReadings.{no_some}
+use Rattle.hd_model.specs.declared.data.Grown.TheVariants.{Zero, One, Two, Back}
+use Rattle.hd_world.specs.Making.{IsPlace}
 
 abbrev is_growth : Grown → Type 0
 is_growth Zero = ⊥
@@ -47,7 +35,7 @@ module _ (old new : Machine) (kind : Kind) (slot : Slot) (handles : HasHandles o
 
   use_is : get (insert old.state.blocks block (handles_of kind)) (block_of slot) ≡ Some (handles_of kind)
   use_is = ap (get (insert old.state.blocks block (handles_of kind))) block_is
-      ∙ get-put old.state.blocks block (handles_of kind)
+      ∙ get_inserted old.state.blocks block (handles_of kind)
 
   pub placed_one : is_paired kind ≡ false
       → new ≡ record old { state = with_growth old.state kind (One block) }
@@ -72,7 +60,7 @@ module _ (old new : Machine) (kind : Kind) (slot : Slot) (handles : HasHandles o
     store = store;
     free = subst (λ (m : Machine). IsFree m.state kind slot) (sym store) (
       vacant,
-      get-put_other (insert old.state.blocks block (handles_of kind)) other extra_data
+      get_beside (insert old.state.blocks block (handles_of kind)) other extra_data
           (block_of slot) (λ same. let low = next.low in let is = block_is in absurd (omega arith)) ∙ use_is,
     );
     low = subst (λ b. 1 ≤ b) (sym block_is) least.low;

@@ -1,22 +1,6 @@
 -- The address of an object may be returned as its pinned address.
-use Rattle.std.proofs.Common.{◌≡◌, ℕ, ◌<◌, ◌^◌, true, Option, Some, None, refl, sym, ap, ◌∙◌, subst, inl, inr, arith}
-use Rattle.std.specs.Prelude.{option_map, is_some, IsSome}
-use Rattle.std.specs.Option.{MatchOption}
-use Rattle.std.specs.FinMap.{FinMap, get, insert}
-use Rattle.std.specs.Ordering.{nat_cmp}
-use Rattle.std.proofs.lemmas.Bool.{cases_eq}
-use Rattle.hd_model.specs.declared.data.Id.{Id}
-use Rattle.hd_model.specs.declared.data.Addr.{Addr}
-use Rattle.hd_model.specs.State.{object_by_id, size_of}
-use Rattle.hd_model.specs.Places.{range_at, Meet, IsFreePlace, MayAnswer, with_places}
-use Rattle.hd_model.specs.Heap.{Placed, region_of, has_object, placed_at, cells_of}
+use Rattle.hd_world.proofs.StoreWords.{◌≡◌, ℕ, ◌<◌, ◌^◌, true, Option, Some, None, refl, sym, ap, ◌∙◌, subst, inl, inr, arith, option_map, is_some, IsSome, MatchOption, FinMap, get, insert, nat_cmp, cases_eq, Id, Addr, object_by_id, size_of, range_at, Meet, IsFreePlace, MayAnswer, with_places, Placed, region_of, has_object, placed_at, cells_of, names_of, name_in, Parts, state_of, IsStored, Machine, machine_of, object_named, AreAddresses, HasPlace, get_beside, get_inserted, same_Some}
 use Rattle.hd_heap.specs.Sound.{IsSound}
-use Rattle.hd_world.specs.Reading.{names_of, name_in}
-use Rattle.hd_world.specs.Stored.{Parts, state_of, IsStored}
-use Rattle.hd_world.specs.Store.{Machine, machine_of}
-use Rattle.hd_world.specs.Objects.{object_named}
-use Rattle.hd_world.specs.Places.{AreAddresses, HasPlace}
-use Rattle.hd_world.proofs.EntryMaps.{get-put, get-put_other, some_same}
 use Rattle.hd_world.proofs.IdentityReadings.{no_some, names-get}
 use Rattle.hd_world.proofs.NamedAddresses.{object-named, known_object}
 use Rattle.hd_world.proofs.StateCounts.{read-size}
@@ -64,9 +48,9 @@ module _ (f : Parts) (stored : IsStored f) (sound : IsSound f.heap) where
           (sym second ∙ names-get f.heap b ∙ ap (option_map (λ (w : Placed). w.id)) k))
       by (Some o) (Some p) e k =
           stored.identities a b o p e k
-          (some_same o.id x (sym (ap (option_map (λ (w : Placed). w.id)) e) ∙ sym (names-get f.heap a)
+          (same_Some o.id x (sym (ap (option_map (λ (w : Placed). w.id)) e) ∙ sym (names-get f.heap a)
           ∙ first)
-          ∙ sym (some_same p.id x (sym (ap (option_map (λ (w : Placed). w.id)) k) ∙ sym (names-get f.heap b)
+          ∙ sym (same_Some p.id x (sym (ap (option_map (λ (w : Placed). w.id)) k) ∙ sym (names-get f.heap b)
           ∙ second)))
 
   module _ (at : Addr) (known : IsSome (get (names_of f.heap) at.0)) where
@@ -101,7 +85,7 @@ module _ (f : Parts) (stored : IsStored f) (sound : IsSound f.heap) where
             let mine = name_from other (record { 0 = y.0 }) name in
             meets_none at there here object
             (λ same. no_some other (sym is ∙ ap (λ (i : Id). get p i.0)
-            (some_same y (name_in (names_of f.heap) at)
+            (same_Some y (name_in (names_of f.heap) at)
             (sym name ∙ ap (get (names_of f.heap)) (sym same) ∙ name_at)) ∙ none))
             (subst (λ i. Meet (range_at at.0 (object_by_id (state_of f) (name_in (names_of f.heap) at)))
             (range_at other (object_by_id (state_of f) i))) (sym mine) meet);
@@ -121,11 +105,11 @@ module _ (f : Parts) (stored : IsStored f) (sound : IsSound f.heap) where
       addresses_with x a is =
           elim (cases_eq x (name_in (names_of f.heap) at).0) [
             | inl same ↦
-                let it : at.0 ≡ a = some_same at.0 a
-                (sym (get-put p (name_in (names_of f.heap) at).0 at.0)
+                let it : at.0 ≡ a = same_Some at.0 a
+                (sym (get_inserted p (name_in (names_of f.heap) at).0 at.0)
                 ∙ ap (get (insert p (name_in (names_of f.heap) at).0 at.0)) (sym same) ∙ is) in
                 ap (get (names_of f.heap)) (sym it) ∙ name_at ∙ (λ i. Some (record { 0 = sym same i }))
-            | inr apart ↦ are x a (sym (get-put_other p (name_in (names_of f.heap) at).0 at.0 x apart) ∙ is)
+            | inr apart ↦ are x a (sym (get_beside p (name_in (names_of f.heap) at).0 at.0 x apart) ∙ is)
           ]
 
 pub has-place : (f : Parts) (m : Machine) → machine_of f ≡ m → IsStored f → IsSound f.heap → (at : Addr)

@@ -1,13 +1,5 @@
 -- The first object is taken out of a store's queue.
-use Rattle.std.proofs.Common.{◌≡◌, suc, map, ◌∷◌, [], Option, Some, None, refl, sym, ap, ◌∙◌, subst, arith}
-use Rattle.std.specs.Prelude.{Contains, MatchOption}
-use Rattle.hd_model.specs.declared.data.Addr.{Addr}
-use Rattle.hd_model.specs.State.{with_queue}
-use Rattle.hd_model.specs.Heap.{id_at}
-use Rattle.hd_model.specs.Table.{Queue}
-use Rattle.hd_world.specs.Reading.{names_of, name_in, IsNamed}
-use Rattle.hd_world.specs.Stored.{Parts, IsStored}
-use Rattle.hd_world.specs.Store.{Machine, machine_of}
+use Rattle.hd_world.proofs.StoreWords.{◌≡◌, suc, map, ◌∷◌, [], Option, Some, None, refl, sym, ap, ◌∙◌, subst, arith, Contains, MatchOption, Addr, with_queue, id_at, Queue, names_of, name_in, IsNamed, Parts, IsStored, Machine, machine_of, same_Some}
 use Rattle.hd_world.proofs.IdentityReadings.{name-is}
 use Rattle.hd_world.proofs.NamedAddresses.{objects_named}
 
@@ -41,7 +33,7 @@ module _ (f : Parts) (m : Machine) (view : machine_of f ≡ m) (q : Queue) where
         (waits y (subst (Contains (at ∷ q.waiting)) (some_is y same) (0, omega arith, refl)))))
       where
         some_is : (y : Addr) → Some at ≡ Some y → at ≡ y
-        some_is y same = Rattle.hd_world.proofs.EntryMaps.some_same at y same
+        some_is y same = same_Some at y same
 
     pub stored-queue : IsStored f → IsStored (with_waiting f q)
     stored-queue stored = record {

@@ -1,14 +1,5 @@
 -- What the roots of a store reference: registers and statics read and written.
-use Rattle.std.proofs.Common.{◌≡◌, ℕ, ◌+◌, ◌*◌, ◌<◌, true, map, length, get_or, set, Option, Some, None, refl, sym, ap, ◌∙◌, subst, inl, inr, arith}
-use Rattle.std.specs.Prelude.{option_map, Contains, IfSome}
-use Rattle.std.proofs.lemmas.List.{map-set, length-set, get_or_default}
-use Rattle.hd_model.specs.declared.data.Addr.{Addr}
-use Rattle.hd_model.specs.State.{register_of, static_of, with_register, with_static}
-use Rattle.hd_model.specs.Heap.{has_object, id_at}
-use Rattle.hd_world.specs.Rows.{rows_of, rest_of}
-use Rattle.hd_world.specs.Reading.{named_in, IsNamed}
-use Rattle.hd_world.specs.Stored.{Parts, callers_of, state_of, IsStored}
-use Rattle.hd_world.specs.Store.{Machine, machine_of}
+use Rattle.hd_world.proofs.StoreWords.{◌≡◌, ℕ, ◌+◌, ◌*◌, ◌<◌, true, map, length, get_or, set, Option, Some, None, refl, sym, ap, ◌∙◌, subst, inl, inr, arith, option_map, Contains, IfSome, map-set, length-set, get_or_default, Addr, register_of, static_of, with_register, with_static, has_object, id_at, rows_of, rest_of, named_in, IsNamed, Parts, callers_of, state_of, IsStored, Machine, machine_of}
 use Rattle.hd_world.proofs.RootRows.{rows-get, rest-get, rows-set, rest-set_row, rest-set, rows-set_rest}
 use Rattle.hd_world.proofs.IdentityReadings.{named-is}
 use Rattle.hd_world.proofs.NamedAddresses.{named_objects, objects_named, field-read}

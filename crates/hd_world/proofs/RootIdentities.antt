@@ -1,28 +1,12 @@
 -- The roots of a store by identity are those of its table, each with the identity of its object.
-use Rattle.std.proofs.Common.{◌≡◌, ℕ, ◌≤◌, ◌<◌, ◌^◌, length, Result, Ok, Err, IfOk, Vec, Global, arith, true, ◌&&◌, T, List, [], ◌∷◌, ◌++◌, All, map, Option, Some, None, refl, sym, ap, ◌∙◌, subst}
-use Rattle.std.specs.Prelude.{option_map}
-use Rattle.std.specs.Option.{option_to_list}
-use Rattle.std.specs.FinMap.{FinMap, is_sorted, entries, from_entries, from_sorted, entries_sorted, entries-from_sorted, get-entries, len, len-entries, get-from_sorted, get-from_entries}
+use Rattle.hd_world.proofs.StoreWords.{◌≡◌, ℕ, ◌≤◌, ◌<◌, ◌^◌, length, Result, Ok, Err, IfOk, Vec, Global, arith, true, ◌&&◌, T, List, [], ◌∷◌, ◌++◌, All, map, Option, Some, None, refl, sym, ap, ◌∙◌, subst, option_map, option_to_list, FinMap, is_sorted, entries, from_entries, from_sorted, entries_sorted, entries-from_sorted, get-entries, len, len-entries, get-from_sorted, get-from_entries, nat_cmp, is_lt, nat_cmp_total, map-append, length-append, Id, Addr, Kind, RootId, Slot, Handle, State, rename_handle, Role, holds, short, long, attaches, role, Heap, id_at, has_object, rows_by_id, Parts, IsStored}
 use Rattle.std.specs.FinMap.Entries.{below_all}
-use Rattle.std.specs.Ordering.{nat_cmp, is_lt}
-use Rattle.std.specs.Cmp.{nat_cmp_total}
-use Rattle.std.proofs.lemmas.List.{map-append, length-append}
 use Rattle.std.proofs.lemmas.List.Elements.{All-nil, All-cons, All-append}
-use Rattle.hd_model.specs.declared.data.Id.{Id}
-use Rattle.hd_model.specs.declared.data.Addr.{Addr}
-use Rattle.hd_model.specs.declared.data.Kind.{Kind}
-use Rattle.hd_model.specs.declared.data.RootId.{RootId}
-use Rattle.hd_model.specs.declared.data.Slot.{Slot}
-use Rattle.hd_model.specs.State.{Handle, State, rename_handle}
-use Rattle.hd_model.specs.Role.{Role, holds, short, long, attaches, role}
-use Rattle.hd_model.specs.Heap.{Heap, id_at, has_object}
 use Rattle.hd_model.specs.RootText.{held_by, held_of, root_in, roots_in, root_id}
-use Rattle.hd_model.proofs.RenamedReach.{role_renamed}
+use Rattle.hd_model.proofs.RenamedPins.{role_renamed}
 use Rattle.hd_scan.specs.declared.gathering.Root.{Root}
 use Rattle.hd_scan.specs.Gathering.{root_by, roots_of}
 use Rattle.hd_world.specs.Listing.{root_named}
-use Rattle.hd_world.specs.Reading.{rows_by_id}
-use Rattle.hd_world.specs.Stored.{Parts, IsStored}
 use Rattle.hd_world.proofs.EntryMaps.{Among, first, later, find-among, same_numbers}
 
 -- ---- entries of a map with other values

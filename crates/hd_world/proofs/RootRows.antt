@@ -1,8 +1,6 @@
 -- One list of roots as rows of 16 registers and the statics after them.
-use Rattle.std.proofs.Common.{◌≡◌, ℕ, zero, suc, ◌+◌, ◌*◌, ◌-◌, ◌<◌, List, [], ◌∷◌, length, take, drop, get_or, set, replicate, refl, ap, ◌∙◌, arith}
-use Rattle.std.proofs.lemmas.List.{get_or-take, get_or-drop, take-set-le, drop-set-lt, drop-set-add}
+use Rattle.hd_world.proofs.StoreWords.{◌≡◌, ℕ, zero, suc, ◌+◌, ◌*◌, ◌-◌, ◌<◌, List, [], ◌∷◌, length, take, drop, get_or, set, replicate, refl, ap, ◌∙◌, arith, get_or-take, get_or-drop, take-set-le, drop-set-lt, drop-set-add, rows_of, rest_of}
 use Rattle.std.proofs.Math.Seq.{take-set-lt}
-use Rattle.hd_world.specs.Rows.{rows_of, rest_of}
 
 module _ {A : Type 0} where
   -- register d of caller c is at 16 * c + d, and static k at 16 * n + k

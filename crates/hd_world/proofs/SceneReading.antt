@@ -1,16 +1,5 @@
 -- The state of a store is a reading of what its collection reads.
-use Rattle.std.proofs.Common.{◌≡◌, ℕ, zero, suc, ◌++◌, true, List, map, take, drop, Option, Some, None, refl, sym, ap, ◌∙◌, subst}
-use Rattle.std.specs.Prelude.{option_map, is_some, T}
-use Rattle.std.specs.FinMap.{get}
-use Rattle.std.proofs.lemmas.List.{take-append-drop, append_assoc}
-use Rattle.hd_model.specs.declared.data.Id.{Id}
-use Rattle.hd_model.specs.declared.data.Addr.{Addr}
-use Rattle.hd_model.specs.State.{rename_object}
-use Rattle.hd_model.specs.Scene.{scene_of, joined, is_object, IsReading}
-use Rattle.hd_model.specs.Heap.{Placed, region_of, region_generation, object_in, object_at, has_object, placed_at, id_in, id_at, HasIdentities}
-use Rattle.hd_world.specs.Rows.{rows_of, rest_of}
-use Rattle.hd_world.specs.Reading.{objects_by_id}
-use Rattle.hd_world.specs.Stored.{Parts, callers_of, state_of, scene_of_parts}
+use Rattle.hd_world.proofs.StoreWords.{◌≡◌, ℕ, zero, suc, ◌++◌, true, List, map, take, drop, Option, Some, None, refl, sym, ap, ◌∙◌, subst, option_map, is_some, T, get, take-append-drop, append_assoc, Id, Addr, rename_object, scene_of, joined, is_object, IsReading, Placed, region_of, region_generation, object_in, object_at, has_object, placed_at, id_in, id_at, HasIdentities, rows_of, rest_of, objects_by_id, Parts, callers_of, state_of, scene_of_parts}
 use Rattle.hd_world.proofs.IdentityReadings.{same_id, rows-get, objects-get, objects-under}
 use Rattle.hd_world.proofs.NamedAddresses.{placed_is, object_is}
 

@@ -1,9 +1,6 @@
 -- How many objects a heap can have: each takes at least three words.
-use Rattle.std.proofs.Common.{ℕ, ◌*◌, ◌≤◌, List, [], ◌∷◌, map, length, arith}
-use Rattle.std.specs.Prelude.{sum_by}
-use Rattle.std.specs.FinMap.{len, entries, len-entries}
+use Rattle.hd_world.proofs.StoreWords.{ℕ, ◌*◌, ◌≤◌, List, [], ◌∷◌, map, length, arith, sum_by, len, entries, len-entries, Placed, Heap, cells_of, used_of}
 use Rattle.std.proofs.lemmas.List.Sums.{sum_by-cons}
-use Rattle.hd_model.specs.Heap.{Placed, Heap, cells_of, used_of}
 
 cells_least : (es : List (ℕ × Placed)) → 3 * length es ≤ sum_by cells_of (map (λ e. e.1) es)
 cells_least [] = omega arith

@@ -1,24 +1,7 @@
 -- The handle in a slot of a store, as commands find it.
-use Rattle.std.proofs.Common.{◌≡◌, ◌≤◌, true, Option, Some, None, refl, sym, ap, ◌∙◌, subst}
-use Rattle.std.specs.Prelude.{option_map, IfSome}
-use Rattle.std.specs.FinMap.{get}
-use Rattle.hd_model.specs.declared.data.Addr.{Addr}
-use Rattle.hd_model.specs.declared.data.Slot.{Slot}
-use Rattle.hd_model.specs.declared.data.Kind.{Kind}
-use Rattle.hd_model.specs.State.{Extra, nothing, strength, secondary, count, Handle, secondary_of, handle_at, use_of, block_of, rename_handle}
-use Rattle.hd_model.specs.Scene.{is_object, generation_at}
-use Rattle.hd_model.specs.Ages.{age_of}
-use Rattle.hd_model.specs.Heap.{object_at, id_at}
-use Rattle.hd_model.specs.Table.{IsTable, fits}
+use Rattle.hd_world.proofs.StoreWords.{◌≡◌, ◌≤◌, true, Option, Some, None, refl, sym, ap, ◌∙◌, subst, option_map, IfSome, get, Addr, Slot, Kind, Extra, nothing, strength, secondary, count, Handle, secondary_of, handle_at, use_of, block_of, rename_handle, is_object, generation_at, age_of, object_at, id_at, IsTable, fits, IsNamed, kind_in_use, Parts, IsStored, Machine, machine_of, object_named, handle_named, MayStand, same_Some}
 use Rattle.hd_seg.specs.declared.row.Row.{Row}
 use Rattle.hd_seg.specs.Row.{extra_of, extra_from, handle_of, row_of}
-use Rattle.hd_world.specs.Reading.{IsNamed}
-use Rattle.hd_world.specs.Growth.{kind_in_use}
-use Rattle.hd_world.specs.Stored.{Parts, IsStored}
-use Rattle.hd_world.specs.Store.{Machine, machine_of}
-use Rattle.hd_world.specs.Objects.{object_named}
-use Rattle.hd_world.specs.Handles.{handle_named, MayStand}
-use Rattle.hd_world.proofs.EntryMaps.{some_same}
 use Rattle.hd_world.proofs.IdentityReadings.{no_some, names-are}
 use Rattle.hd_world.proofs.NamedAddresses.{objects_named, generation-is}
 use Rattle.hd_world.proofs.StoreRows.{row-read}
@@ -49,7 +32,7 @@ found f slot row is = by (get f.table.rows slot.0) refl
     by : (o : Option (Handle Addr)) → get f.table.rows slot.0 ≡ o → Found f slot row
     by None e = absurd (no_some row (is ∙ ap (option_map row_of) e))
     by (Some h) e =
-        record { handle = h; stands = e; row_is = some_same row (row_of h) (is ∙ ap (option_map row_of) e) }
+        record { handle = h; stands = e; row_is = same_Some row (row_of h) (is ∙ ap (option_map row_of) e) }
 
 module _ (f : Parts) (m : Machine) (view : machine_of f ≡ m) (stored : IsStored f) (table : IsTable f.table)
     (slot : Slot) (row : Row) (is : Some row ≡ option_map row_of (get f.table.rows slot.0)) where
@@ -67,7 +50,7 @@ module _ (f : Parts) (m : Machine) (view : machine_of f ≡ m) (stored : IsStore
 
   module _ (kind : Kind) (known : Some kind ≡ kind_in_use (use_of m.state (block_of slot))) where
     kind_is : kind ≡ at.handle.kind
-    kind_is = some_same kind at.handle.kind (known ∙ kind_use)
+    kind_is = same_Some kind at.handle.kind (known ∙ kind_use)
 
     whole : handle_of kind row ≡ at.handle
     whole = (λ i. handle_of (kind_is i) (at.row_is i)) ∙ same_handle at.handle

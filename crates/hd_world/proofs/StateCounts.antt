@@ -1,14 +1,6 @@
 -- Objects, rows and words are as many by identity as by address.
-use Rattle.std.proofs.Common.{◌≡◌, ℕ, ◌+◌, List, [], ◌∷◌, map, refl, ap, ◌∙◌, arith}
-use Rattle.std.specs.Prelude.{sum_by, option_map}
-use Rattle.std.specs.FinMap.{FinMap, len, entries, values}
-use Rattle.std.specs.Ordering.{nat_cmp}
-use Rattle.std.proofs.lemmas.List.{length-map}
+use Rattle.hd_world.proofs.StoreWords.{◌≡◌, ℕ, ◌+◌, List, [], ◌∷◌, map, refl, ap, ◌∙◌, arith, sum_by, option_map, FinMap, len, entries, values, nat_cmp, length-map, Addr, Handle, size_of, rename_handle, Placed, Heap, id_at, cells_of, used_of, HasIdentities, read_object, objects_by_id, rows_by_id}
 use Rattle.std.proofs.lemmas.List.Sums.{sum_by-cons}
-use Rattle.hd_model.specs.declared.data.Addr.{Addr}
-use Rattle.hd_model.specs.State.{Handle, size_of, rename_handle}
-use Rattle.hd_model.specs.Heap.{Placed, Heap, id_at, cells_of, used_of, HasIdentities}
-use Rattle.hd_world.specs.Reading.{read_object, objects_by_id, rows_by_id}
 use Rattle.hd_world.proofs.EntryMaps.{rekeyed}
 use Rattle.hd_world.proofs.EntrySums.{sum-fresh, fresh-rekeyed, len-rekeyed, len-mapped}
 use Rattle.hd_world.proofs.IdentityReadings.{apart_by_number}

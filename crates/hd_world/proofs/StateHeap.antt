@@ -1,30 +1,12 @@
 -- The state of a store is that of its heap, and what keeps its pinned address is kept at it.
-use Rattle.std.proofs.Common.{◌≡◌, ℕ, ◌⊎◌, cond, true, false, Some, None, refl, sym, ap, ◌∙◌, subst, inl, inr}
-use Rattle.std.specs.Option.{MatchOption}
-use Rattle.std.specs.FinMap.{FinMap, get, insert, empty}
-use Rattle.std.specs.Ordering.{nat_cmp}
-use Rattle.std.proofs.lemmas.Bool.{cases_eq, true≢false}
-use Rattle.hd_model.specs.declared.data.Id.{Id}
-use Rattle.hd_model.specs.declared.data.Entry.{Entry}
-use Rattle.hd_model.specs.declared.data.Reply.TheVariants as reply
-use Rattle.hd_model.specs.declared.command.Cmd.{Cmd}
-use Rattle.hd_model.specs.declared.command.Cmd.TheVariants as cmd
-use Rattle.hd_model.specs.State.{Numbers, State}
-use Rattle.hd_model.specs.Places.{is_pinned, with_places, IsFreePlace}
-use Rattle.hd_model.specs.Reach.{IsPinned}
-use Rattle.hd_model.specs.Text.{is_collect}
-use Rattle.hd_model.specs.Step.{pinned_target}
+use Rattle.hd_world.proofs.StoreWords.{◌≡◌, ℕ, ◌⊎◌, cond, true, false, Some, None, refl, sym, ap, ◌∙◌, subst, inl, inr, MatchOption, FinMap, get, insert, empty, nat_cmp, cases_eq, true≢false, Id, Entry, Cmd, Numbers, State, is_pinned, with_places, IsFreePlace, IsPinned, is_collect, pinned_target, names_of, objects_by_id, rows_by_id, Parts, IsStored, Machine, machine_of, IsOverHeap, IsStoredAt, IsOfHeap, AreAddresses, KeepsPlaces, get_beside, get_inserted, same_Some}
 use Rattle.hd_model.proofs.AgedRuns.{nothing_at}
 use Rattle.hd_model.proofs.Effects.{Effect, answers_place, collects, effect}
 use Rattle.hd_model.proofs.PinTest.{pinned_decides}
-use Rattle.hd_world.specs.Reading.{names_of, objects_by_id, rows_by_id}
-use Rattle.hd_world.specs.Stored.{Parts, IsStored}
-use Rattle.hd_world.specs.Store.{Machine, machine_of, IsOverHeap}
-use Rattle.hd_world.specs.StateHeap.{IsStoredAt, IsOfHeap}
-use Rattle.hd_world.specs.Places.{AreAddresses, KeepsPlaces}
-use Rattle.hd_world.proofs.EntryMaps.{get-put, get-put_other, some_same}
 use Rattle.hd_world.proofs.IdentityReadings.{names-get}
 use Rattle.hd_world.proofs.AddressSteps.{returns-address}
+use Rattle.hd_model.specs.declared.data.Reply.TheVariants as reply
+use Rattle.hd_model.specs.declared.command.Cmd.TheVariants as cmd
 
 module _ (f : Parts) (stored : IsStored f) where
   over : IsOverHeap (machine_of f)
@@ -62,10 +44,10 @@ module _ (n : Numbers) (s : State) (e : Entry) (x a : ℕ) where
       did.collects.places x ∙ ap (λ b. cond b (get s.places x) None) pinned ∙ is
   place_stays c t (answers_place slot handle id place found target may reply) is why =
       elim (cases_eq x id.0) [
-        | inl same ↦ ap (get (insert s.places id.0 place)) same ∙ get-put s.places id.0 place ∙ ap Some
+        | inl same ↦ ap (get (insert s.places id.0 place)) same ∙ get_inserted s.places id.0 place ∙ ap Some
             (subst (λ o. MatchOption o (IsFreePlace s id place) (λ own. place ≡ own))
             (ap (get s.places) (sym same) ∙ is) may)
-        | inr apart ↦ get-put_other s.places id.0 place x apart ∙ is
+        | inr apart ↦ get_beside s.places id.0 place x apart ∙ is
       ]
   place_stays c t _ is why = is
 
@@ -74,9 +56,9 @@ one_address : (names : FinMap nat_cmp Id) (x : Id) (a : ℕ) → get names a ≡
     → AreAddresses names (insert empty x.0 a)
 one_address names x a named y b is =
     elim (cases_eq y x.0) [
-      | inl same ↦ ap (get names) (sym (some_same a b (sym (get-put empty x.0 a) ∙ ap (get (insert empty x.0 a)) (sym same) ∙ is)))
+      | inl same ↦ ap (get names) (sym (same_Some a b (sym (get_inserted empty x.0 a) ∙ ap (get (insert empty x.0 a)) (sym same) ∙ is)))
           ∙ named ∙ (λ i. Some (record { 0 = sym same i }))
-      | inr apart ↦ absurd (nothing_at y b (sym (get-put_other empty x.0 a y apart) ∙ is))
+      | inr apart ↦ absurd (nothing_at y b (sym (get_beside empty x.0 a y apart) ∙ is))
     ]
 
 module _ (m k : Machine) (e : Entry) (keeps : KeepsPlaces m e k) (before : IsOverHeap m) (after : IsOverHeap k)
@@ -89,7 +71,7 @@ module _ (m k : Machine) (e : Entry) (keeps : KeepsPlaces m e k) (before : IsOve
       moved.addresses x.0 a (place_stays m.numbers (with_places m.state p) e x.0 a e.cmd
       (with_places k.state moved.places)
       (effect m.numbers (with_places m.state p) e (with_places k.state moved.places) moved.step)
-      (get-put empty x.0 a) why)
+      (get_inserted empty x.0 a) why)
 
   pub keeps-address : (is_collect e.cmd ≡ false) ⊎ (is_pinned m.state.handles x.0 ≡ true)
       → IsStoredAt m.heap x a → IsStoredAt k.heap x a

@@ -1,16 +1,6 @@
 -- One more object in a heap: the readings of all else stay.
-use Rattle.std.proofs.Common.{◌≡◌, ℕ, true, List, map, Option, Some, None, refl, sym, ap, ◌∙◌, subst, inl, inr}
-use Rattle.std.specs.Prelude.{option_map, is_some, IsSome, Contains, T}
-use Rattle.std.specs.FinMap.{FinMap, get, insert}
-use Rattle.std.specs.Ordering.{nat_cmp}
-use Rattle.std.proofs.lemmas.Bool.{cases_eq}
-use Rattle.hd_model.specs.declared.data.Id.{Id}
-use Rattle.hd_model.specs.declared.data.Addr.{Addr}
-use Rattle.hd_model.specs.State.{Object, Handle, secondary_of, rename_object, rename_handle}
-use Rattle.hd_model.specs.Scene.{is_object, fields_in, IsField}
-use Rattle.hd_model.specs.Heap.{Placed, Heap, region_generation, region_of, object_in, object_at, id_in, id_at, HasIdentities}
-use Rattle.hd_world.specs.Reading.{names_of, read_object, objects_by_id, rows_by_id}
-use Rattle.hd_world.proofs.EntryMaps.{get-put, get-put_other, same_numbers, some_same}
+use Rattle.hd_world.proofs.StoreWords.{◌≡◌, ℕ, true, List, map, Option, Some, None, refl, sym, ap, ◌∙◌, subst, inl, inr, option_map, is_some, IsSome, Contains, T, FinMap, get, insert, nat_cmp, cases_eq, Id, Addr, Object, Handle, secondary_of, rename_object, rename_handle, is_object, fields_in, IsField, Placed, Heap, region_generation, region_of, object_in, object_at, id_in, id_at, HasIdentities, names_of, read_object, objects_by_id, rows_by_id, get_beside, get_inserted, same_Some}
+use Rattle.hd_world.proofs.EntryMaps.{same_numbers}
 use Rattle.hd_world.proofs.NameAgreement.{map_agrees, names_agree, object_agrees, handle_agrees}
 use Rattle.hd_world.proofs.IdentityReadings.{names-get, rows-get, objects-get, objects-under, Stands, objects-are}
 
@@ -32,10 +22,10 @@ placed h x e = is_placed h x (get h.objects x.0) e
 
 module _ (h k : Heap) (a : ℕ) (new : Placed) (r : Adds h k a new) where
   at_it : get k.objects a ≡ Some new
-  at_it = ap (λ m. get m a) r.objects ∙ get-put h.objects a new
+  at_it = ap (λ m. get m a) r.objects ∙ get_inserted h.objects a new
 
   elsewhere : (b : ℕ) → (b ≡ a → ⊥) → get k.objects b ≡ get h.objects b
-  elsewhere b apart = ap (λ m. get m b) r.objects ∙ get-put_other h.objects a new b apart
+  elsewhere b apart = ap (λ m. get m b) r.objects ∙ get_beside h.objects a new b apart
 
   other : (b : ℕ) → is_some (get h.objects b) ≡ true → b ≡ a → ⊥
   other b there same = subst T (sym there ∙ ap (λ c. is_some (get h.objects c)) same ∙ ap is_some r.vacant) tt
@@ -50,10 +40,10 @@ module _ (h k : Heap) (a : ℕ) (new : Placed) (r : Adds h k a new) where
       elim (cases_eq b a) [
         | inl same ↦ names-get k b ∙ ap (λ c. option_map (λ (p : Placed). p.id) (get k.objects c)) same
             ∙ ap (option_map (λ (p : Placed). p.id)) at_it
-            ∙ sym (get-put (names_of h) a new.id) ∙ ap (get (insert (names_of h) a new.id)) (sym same)
+            ∙ sym (get_inserted (names_of h) a new.id) ∙ ap (get (insert (names_of h) a new.id)) (sym same)
         | inr apart ↦ names-get k b ∙ ap (option_map (λ (p : Placed). p.id)) (elsewhere b apart)
             ∙ sym (names-get h b)
-            ∙ sym (get-put_other (names_of h) a new.id b apart)
+            ∙ sym (get_beside (names_of h) a new.id b apart)
       ])
 
   pub identities-add : HasIdentities h → HasIdentities k
@@ -62,13 +52,13 @@ module _ (h k : Heap) (a : ℕ) (new : Placed) (r : Adds h k a new) where
         | inl here ↦ elim (cases_eq c a) [
           | inl there ↦ here ∙ sym there
           | inr apart ↦
-              let it : new ≡ p = some_same new p (sym at_it ∙ ap (get k.objects) (sym here) ∙ first) in
+              let it : new ≡ p = same_Some new p (sym at_it ∙ ap (get k.objects) (sym here) ∙ first) in
               absurd (r.fresh c q (sym (elsewhere c apart) ∙ second)
               (ap (λ (i : Id). i.0) (sym same) ∙ ap (λ (o : Placed). o.id.0) (sym it)))
         ]
         | inr away ↦ elim (cases_eq c a) [
           | inl there ↦
-              let it : new ≡ q = some_same new q (sym at_it ∙ ap (get k.objects) (sym there) ∙ second) in
+              let it : new ≡ q = same_Some new q (sym at_it ∙ ap (get k.objects) (sym there) ∙ second) in
               absurd (r.fresh b p (sym (elsewhere b away) ∙ first)
               (ap (λ (i : Id). i.0) same ∙ ap (λ (o : Placed). o.id.0) (sym it)))
           | inr apart ↦ identities b c p q (sym (elsewhere b away) ∙ first)
@@ -132,14 +122,14 @@ module _ (h k : Heap) (a : ℕ) (new : Placed) (r : Adds h k a new) where
       each b p is =
           elim (cases_eq b a) [
             | inl here ↦
-                let it : new ≡ p = some_same new p (sym at_it ∙ ap (get k.objects) (sym here) ∙ is) in
+                let it : new ≡ p = same_Some new p (sym at_it ∙ ap (get k.objects) (sym here) ∙ is) in
                 ap (λ (q : Placed). get (insert (objects_by_id h) new.id.0 (read_object k a new)) q.id.0)
                 (sym it)
-                ∙ get-put (objects_by_id h) new.id.0 (read_object k a new)
+                ∙ get_inserted (objects_by_id h) new.id.0 (read_object k a new)
                 ∙ ap Some (ap (λ c. read_object k c new) (sym here) ∙ ap (read_object k b) it)
             | inr apart ↦
                 let before : get h.objects b ≡ Some p = sym (elsewhere b apart) ∙ is in
-                get-put_other (objects_by_id h) new.id.0 (read_object k a new) p.id.0 (r.fresh b p before)
+                get_beside (objects_by_id h) new.id.0 (read_object k a new) p.id.0 (r.fresh b p before)
                 ∙ objects-get h identities b p before ∙ ap Some (sym (read-add whole b p before))
           ]
 
@@ -150,7 +140,7 @@ module _ (h k : Heap) (a : ℕ) (new : Placed) (r : Adds h k a new) where
             | inl here ↦ record { at = a; value = new; stands = at_it; named = sym here }
             | inr apart ↦
                 let u = objects-under h x o
-                (sym (get-put_other (objects_by_id h) new.id.0 (read_object k a new) x apart) ∙ is) in
+                (sym (get_beside (objects_by_id h) new.id.0 (read_object k a new) x apart) ∙ is) in
                 record {
                   at = u.at;
                   value = u.value;

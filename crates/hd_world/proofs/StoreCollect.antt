@@ -1,12 +1,11 @@
 -- A collection of a store's parts is one of its state, and leaves a store.
+use Rattle.hd_world.proofs.StoreWords.{same_Some}
 use Rattle.std.proofs.Common.{◌≡◌, ℕ, ◌++◌, ◌∷◌, [], true, false, Bool, cond, List, map, take, drop, length, Option, Some, None, refl, sym, ap, ◌∙◌, subst, arith}
 use Rattle.std.specs.Prelude.{option_map, is_some, IsSome, Result, Ok, Err, MatchResult}
 use Rattle.std.specs.FinMap.{FinMap, get, get-retain_keys, nat_cmp-IsAntisymmetric}
 use Rattle.std.specs.Ordering.{nat_cmp}
 use Rattle.std.proofs.lemmas.List.{length-map}
-use Rattle.hd_model.specs.declared.data.Id.{Id}
-use Rattle.hd_model.specs.declared.data.Addr.{Addr}
-use Rattle.hd_model.specs.declared.data.Report.{Report}
+use Rattle.hd_world.specs.MachineData.{Id, Addr, Report}
 use Rattle.hd_model.specs.declared.data.Memory.{Memory}
 use Rattle.hd_model.specs.State.{Handle, BlockUse, rename_handle}
 use Rattle.hd_model.specs.Role.{pins}
@@ -20,6 +19,7 @@ use Rattle.hd_model.specs.Heap.{Heap, Placed, id_at, id_in, has_object}
 use Rattle.hd_model.specs.Table.{Table, IsTable, Queue, row_at}
 use Rattle.hd_model.proofs.PinTest.{pinned_decides}
 use Rattle.hd_model.proofs.RenamedPins.{pins_renamed}
+use Rattle.hd_gc.specs.Ready.{parts, Parts as Lent}
 use Rattle.hd_gc.specs.Collected.{Collected}
 use Rattle.hd_world.specs.Rows.{rows_of, rest_of}
 use Rattle.hd_world.specs.Reading.{names_of, objects_by_id, rows_by_id}
@@ -29,7 +29,6 @@ use Rattle.hd_world.specs.Places.{AreAddresses, kept_places, HasCollected}
 use Rattle.hd_world.specs.StateHeap.{IsCompactStore}
 use Rattle.hd_world.specs.Visited.{CollectedSteps}
 use Rattle.hd_world.proofs.DueClumps.{steps-collected}
-use Rattle.hd_world.proofs.EntryMaps.{some_same}
 use Rattle.hd_world.proofs.IdentityReadings.{no_some, names-get, rows-get}
 use Rattle.hd_world.proofs.NamedAddresses.{placed_is}
 use Rattle.hd_world.proofs.SceneReading.{rows-all, apart_here, state-reads}
@@ -42,12 +41,12 @@ left_parts f h t ages q roots = record f { heap = h; table = t; ages = ages; que
 unnamed : (g : Addr → Id) (o : Option Addr) (x : Id) → option_map g o ≡ Some x → (y : Addr)
     × ((o ≡ Some y) × (g y ≡ x))
 unnamed g None x is = absurd (no_some x (sym is))
-unnamed g (Some y) x is = (y, (refl, some_same (g y) x is))
+unnamed g (Some y) x is = (y, (refl, same_Some (g y) x is))
 
 unread : (g : Addr → Id) (o : Option (Handle Addr)) (h : Handle Id) → option_map (rename_handle g) o ≡ Some h
     → (row : Handle Addr) × ((o ≡ Some row) × (rename_handle g row ≡ h))
 unread g None h is = absurd (no_some h (sym is))
-unread g (Some row) h is = (row, (refl, some_same (rename_handle g row) h is))
+unread g (Some row) h is = (row, (refl, same_Some (rename_handle g row) h is))
 
 named_at : (h : Heap) (a : ℕ) (x : Id) → get (names_of h) a ≡ Some x → (p : Placed)
     × ((get h.objects a ≡ Some p) × (p.id ≡ x))
@@ -59,7 +58,7 @@ named_at h a x is = by (get h.objects a) refl
       p,
       (
         there,
-        some_same p.id x
+        same_Some p.id x
             (sym (ap (option_map (λ (q : Placed). q.id)) there) ∙ sym (names-get h a) ∙ is),
       ),
     )
@@ -120,7 +119,8 @@ module _ (f : Parts) (stored : IsStored f) where
 module _ (f : Parts) (stored : IsStored f) (h : Heap) (t : Table) (ages : List ℕ) (q : Queue)
     (roots : List (Option Addr))
     (n : ℕ) (report : Report) (before after : ℕ)
-    (done : Collected f.heap h f.table t f.ages ages f.queue q f.roots roots n report before after) where
+    (done : Collected (parts f.heap f.table f.ages f.queue f.roots) (parts h t ages q roots) n report before
+    after) where
   by_state : Collects (λ (x : Id). x.0) n (scene_of (state_of f))
       (scene_of (state_of (left_parts f h t ages q roots))) report
   by_state =
@@ -277,13 +277,12 @@ lent (x ∷ xs) (y ∷ ys) n e same =
     ∙ ap (λ zs. x ∷ zs) (lent xs ys (length ys) refl (omega (arith, same)))
 
 -- what a collection returns and leaves of a store's parts
-abbrev pub IsAnswer : Parts → Heap → Table → List ℕ → Queue → List (Option Addr) → ℕ → ℕ → ℕ
-    → Result Report Memory → Type 0
-IsAnswer f h t ages q roots n before after r =
-    MatchResult r (λ report. Collected f.heap h f.table t f.ages ages f.queue q f.roots roots n report before
-    after)
-    (λ _. (h ≡ record f.heap { spare = h.spare }) × (t ≡ f.table) × (ages ≡ f.ages) × (q ≡ f.queue)
-    × (roots ≡ f.roots) × (after ≡ before))
+abbrev pub IsAnswer : Parts → Lent → ℕ → ℕ → ℕ → Result Report Memory → Type 0
+IsAnswer f left n before after r =
+    MatchResult r
+    (λ report. Collected (parts f.heap f.table f.ages f.queue f.roots) left n report before after)
+    (λ _. (left.heap ≡ record f.heap { spare = left.heap.spare }) × (left.table ≡ f.table)
+    × (left.ages ≡ f.ages) × (left.queue ≡ f.queue) × (left.roots ≡ f.roots) × (after ≡ before))
 
 module _ (f : Parts) (stored : IsStored f) (h : Heap) (t : Table) (ages : List ℕ) (q : Queue)
     (roots : List (Option Addr)) (n before after : ℕ) where
@@ -293,18 +292,18 @@ module _ (f : Parts) (stored : IsStored f) (h : Heap) (t : Table) (ages : List �
   parts_same e = λ i. record f { heap = e.0 i; table = e.1 i; ages = e.2 i; queue = e.3 i; roots = e.4 i }
 
   pub lent-roots : (r : Result Report Memory) (len : ℕ) → len ≡ length f.roots
-      → IsAnswer f h t ages q roots n before after r → take len (roots ++ drop (length roots) f.roots) ≡ roots
+      → IsAnswer f (parts h t ages q roots) n before after r → take len (roots ++ drop (length roots) f.roots) ≡ roots
   lent-roots (Ok report) len is done = lent roots f.roots len is
       (as_long f stored h t ages q roots n report before after done)
   lent-roots (Err e) len is done = lent roots f.roots len is (ap length done.4)
 
-  pub stored-after : (r : Result Report Memory) → IsAnswer f h t ages q roots n before after r
+  pub stored-after : (r : Result Report Memory) → IsAnswer f (parts h t ages q roots) n before after r
       → IsStored (left_parts f h t ages q roots)
   stored-after (Ok report) done = stored-left f stored h t ages q roots n report before after done
   stored-after (Err e) done = subst IsStored (sym (parts_same done)) (stored-spare f h.spare stored)
 
   pub machine-after : (m : Machine) → machine_of f ≡ m → IsTable f.table → (r : Result Report Memory)
-      → IsAnswer f h t ages q roots n before after r
+      → IsAnswer f (parts h t ages q roots) n before after r
       → MatchResult r (λ report. HasCollected m (machine_of (left_parts f h t ages q roots)) n report
       × CollectedSteps m.state m.ages n report.kept before after)
       (λ _. (machine_of (left_parts f h t ages q roots) ≡ m) × (after ≡ before))

@@ -1,35 +1,16 @@
 -- A new object of a store: what the machine sees, and that the store keeps what it keeps.
-use Rattle.std.proofs.Common.{◌≡◌, ℕ, zero, suc, ◌+◌, ◌<◌, ◌≤◌, Bool, true, false, cond, List, ◌∷◌, map, length, get_or, replicate, set, Option, Some, None, refl, sym, ap, ◌∙◌, subst, inl, inr, arith}
-use Rattle.std.specs.Prelude.{option_map, unwrap_or, is_some, Contains, T, sum_by, max, ◌⊎◌}
-use Rattle.std.specs.FinMap.{get, insert, values, len, len-insert}
-use Rattle.std.specs.Cmp.{nat_cmp_total}
-use Rattle.std.proofs.lemmas.Bool.{cases_eq}
-use Rattle.std.proofs.lemmas.List.{length-set, length-replicate}
-use Rattle.hd_model.specs.declared.data.Id.{Id}
-use Rattle.hd_model.specs.declared.data.Addr.{Addr}
-use Rattle.hd_model.specs.State.{Object, last_serial, identity_of, with_object, with_serial, total_size}
-use Rattle.hd_model.specs.Scene.{is_object, fields_in, generation_in, generation_at, IsField}
-use Rattle.hd_model.specs.Heap.{Placed, Region, Heap, region_of, region_at, region_generation, is_held, object_in, object_at, is_carded, cells_of, used_of, id_at}
-use Rattle.hd_model.specs.Ages.{age_of}
-use Rattle.hd_model.specs.Table.{Queue}
+use Rattle.hd_world.proofs.StoreWords.{◌≡◌, ℕ, zero, suc, ◌+◌, ◌<◌, ◌≤◌, Bool, true, false, cond, List, ◌∷◌, map, length, get_or, replicate, set, Option, Some, None, refl, sym, ap, ◌∙◌, subst, inl, inr, arith, option_map, unwrap_or, is_some, Contains, T, sum_by, max, ◌⊎◌, get, insert, values, len, len-insert, nat_cmp_total, cases_eq, length-set, length-replicate, Id, Addr, Object, last_serial, identity_of, with_object, with_serial, total_size, is_object, fields_in, generation_in, generation_at, IsField, Placed, Region, Heap, region_of, region_at, region_generation, is_in_use, object_in, object_at, is_carded, cells_of, used_of, id_at, age_of, Queue, rows_of, rest_of, names_of, read_object, objects_by_id, Parts, callers_of, state_of, IsStored, Machine, machine_of, without_spare, fresh_object, IsObjectRefused, KeepsNames, get_beside, get_inserted}
 use Rattle.hd_heap.specs.Calls.{new_object, IsMade, IsRefused as IsRefusedBy}
 use Rattle.hd_heap.specs.declared.fault.NewFault.{NewFault}
 use Rattle.hd_heap.specs.declared.fault.NewFault.TheVariants.{Full, Memory}
-use Rattle.hd_world.specs.Rows.{rows_of, rest_of}
-use Rattle.hd_world.specs.Reading.{names_of, read_object, objects_by_id}
-use Rattle.hd_world.specs.Stored.{Parts, callers_of, state_of, IsStored}
 use Rattle.hd_plan.specs.Plan.{HasNoEmptyRegion}
-use Rattle.hd_world.specs.Store.{Machine, machine_of, without_spare}
-use Rattle.hd_model.specs.Command.{fresh_object}
-use Rattle.hd_world.specs.Objects.{IsObjectRefused}
 use Rattle.std.proofs.Math.Nat.{le-max_left, le-max_right}
 use Rattle.hd_world.proofs.StateCounts.{used-is}
-use Rattle.hd_world.proofs.EntryMaps.{get-put, get-put_other}
 use Rattle.hd_model.proofs.Sums.{share, sum-insert}
-use Rattle.hd_world.specs.Places.{KeepsNames}
 use Rattle.hd_world.proofs.IdentityReadings.{no_some, names-get, objects-get}
 use Rattle.hd_world.proofs.NamedAddresses.{has-placed}
 use Rattle.hd_world.proofs.StoreAdd.{Adds, placed, names-add, identities-add, roots-add, queue-add, rows-add, objects-add}
+use Rattle.hd_heap.proofs.HeapValues.{same_address}
 
 none_at : {A : Type 0} (n k : ℕ) (x : A) → k < n → get_or (replicate n None) k (Some x) ≡ Some x → ⊥
 none_at zero k x within is = absurd (omega arith)
@@ -66,10 +47,10 @@ module _ (f : Parts) (k : Heap) (at : Addr) (id : Id) (count : ℕ) (fin : Bool)
       ∙ elim (cases_eq (region_of b) (region_of at)) [
         | inl same ↦ ap (λ (o : Option Region). region_of_option o)
             (ap (get (insert f.heap.regions (region_of at) put_region)) same
-            ∙ get-put f.heap.regions (region_of at) put_region)
+            ∙ get_inserted f.heap.regions (region_of at) put_region)
             ∙ sym made.young ∙ ap (region_generation f.heap) (sym same)
         | inr apart ↦ ap (λ (o : Option Region). region_of_option o)
-            (get-put_other f.heap.regions (region_of at) put_region (region_of b) apart)
+            (get_beside f.heap.regions (region_of at) put_region (region_of b) apart)
       ]
     where
       put_region : Region
@@ -91,11 +72,11 @@ module _ (f : Parts) (k : Heap) (at : Addr) (id : Id) (count : ℕ) (fin : Bool)
   }
 
   there : get k.objects at.0 ≡ Some (new_object id count fin)
-  there = ap (λ m. get m at.0) put_at ∙ get-put f.heap.objects at.0 (new_object id count fin)
+  there = ap (λ m. get m at.0) put_at ∙ get_inserted f.heap.objects at.0 (new_object id count fin)
 
   elsewhere : (x : Addr) → (x.0 ≡ at.0 → ⊥) → get k.objects x.0 ≡ get f.heap.objects x.0
   elsewhere x apart = ap (λ m. get m x.0) put_at
-      ∙ get-put_other f.heap.objects at.0 (new_object id count fin) x.0 apart
+      ∙ get_beside f.heap.objects at.0 (new_object id count fin) x.0 apart
 
   object_same : (x : Addr) → (x.0 ≡ at.0 → ⊥) → object_at k x ≡ object_at f.heap x
   object_same x apart =
@@ -113,9 +94,6 @@ module _ (f : Parts) (k : Heap) (at : Addr) (id : Id) (count : ℕ) (fin : Bool)
   generation_same : (x : Addr) → is_object (object_at f.heap) x ≡ true
       → generation_at (object_at k) x ≡ generation_at (object_at f.heap) x
   generation_same x is = ap generation_in (object_same x (not_there x is))
-
-  same_address : (x y : Addr) → x.0 ≡ y.0 → x ≡ y
-  same_address x y e = λ i. record { 0 = e i }
 
   -- a field of the heap after was one before
   field_was : (x y : Addr) → IsField (object_at k) x y → (x.0 ≡ at.0 → ⊥) × IsField (object_at f.heap) x y
@@ -156,14 +134,14 @@ module _ (f : Parts) (k : Heap) (at : Addr) (id : Id) (count : ℕ) (fin : Bool)
       ap len put_at ∙ len-insert nat_cmp_total f.heap.objects at.0 (new_object id count fin)
       ∙ ap (λ o. cond (is_some o) (len f.heap.objects) (len f.heap.objects + 1)) was_none
 
-  held_was : (r : ℕ) → (r ≡ region_of at → ⊥) → is_held k r ≡ true → is_held f.heap r ≡ true
+  held_was : (r : ℕ) → (r ≡ region_of at → ⊥) → is_in_use k r ≡ true → is_in_use f.heap r ≡ true
   held_was r apart held =
-      ap is_some (sym (get-put_other f.heap.regions (region_of at)
+      ap is_some (sym (get_beside f.heap.regions (region_of at)
       (record {
         generation = 0;
         fill = (region_at f.heap (region_of at)).fill + cells_of (new_object id count fin);
       }) r apart))
-      ∙ sym (ap (λ (g : Heap). is_held g r) made.made) ∙ held
+      ∙ sym (ap (λ (g : Heap). is_in_use g r) made.made) ∙ held
 
   -- each region in use still has an object
   full_made : HasNoEmptyRegion k
@@ -292,7 +270,7 @@ module _ (f : Parts) (m : Machine) (view : machine_of f ≡ m) (stored : IsStore
             (no_some x (sym is ∙ ap (get m.names) same ∙ ap (λ (n : Machine). get n.names at.0) (sym view)
             ∙ names-get f.heap at.0 ∙ ap (option_map (λ (p : Placed). p.id))
             (adds f k at id count fin stored made free).vacant))
-        | inr apart ↦ get-put_other m.names at.0 (identity_of caller (last_serial m.state caller + 1)) a apart
+        | inr apart ↦ get_beside m.names at.0 (identity_of caller (last_serial m.state caller + 1)) a apart
             ∙ is
       ]
 

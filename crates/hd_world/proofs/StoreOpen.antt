@@ -1,21 +1,9 @@
 -- A store at first: nothing is made, and each register, static and entry of the board is null or empty.
-use Rattle.std.proofs.Common.{◌≡◌, ℕ, zero, suc, ◌+◌, ◌*◌, ◌≤◌, List, [], ◌∷◌, map, length, replicate, Option, Some, None, refl, sym, ap, ◌∙◌, subst, arith}
-use Rattle.std.specs.Prelude.{option_map, IsSome, Contains, T, sum_by, is_some, true}
-use Rattle.std.specs.FinMap.{get, empty, entries, values, from_entries, get-empty, len-empty, len-entries}
-use Rattle.std.specs.Ordering.{nat_cmp}
-use Rattle.std.proofs.lemmas.List.{length-replicate}
-use Rattle.hd_model.specs.declared.data.Addr.{Addr}
-use Rattle.hd_model.specs.State.{Object, Handle, rename_handle, start_of}
-use Rattle.hd_model.specs.Scene.{fields_in}
-use Rattle.hd_model.specs.Heap.{Placed, Region, is_held, region_of, region_generation, object_in, object_at, cells_of, id_at}
-use Rattle.hd_model.specs.Table.{empty_table}
+use Rattle.hd_world.proofs.StoreWords.{◌≡◌, ℕ, zero, suc, ◌+◌, ◌*◌, ◌≤◌, List, [], ◌∷◌, map, length, replicate, Option, Some, None, refl, sym, ap, ◌∙◌, subst, arith, option_map, IsSome, Contains, T, sum_by, is_some, true, get, empty, entries, values, from_entries, get-empty, len-empty, len-entries, nat_cmp, length-replicate, Addr, Object, Handle, rename_handle, start_of, fields_in, Placed, Region, is_in_use, region_of, region_generation, object_in, object_at, cells_of, id_at, empty_table, rows_of, rest_of, names_of, read_object, objects_by_id, rows_by_id, Parts, callers_of, state_of, numbers_of, IsStored}
+use Rattle.hd_world.proofs.IdentityReadings.{no_some}
 use Rattle.hd_model.proofs.Members.{not_in_none}
 use Rattle.hd_heap.specs.Calls.{empty_heap}
-use Rattle.hd_world.specs.Rows.{rows_of, rest_of}
-use Rattle.hd_world.specs.Reading.{names_of, read_object, objects_by_id, rows_by_id}
-use Rattle.hd_world.specs.Stored.{Parts, callers_of, state_of, numbers_of, IsStored}
 use Rattle.hd_world.proofs.StoreNew.{no_names}
-use Rattle.hd_world.proofs.IdentityReadings.{no_some}
 use Rattle.hd_world.proofs.RootRows.{rows-first, rest-first}
 
 nothing_at : {A : Type 0} (q : ℕ) (x : A) → get (empty {X = A} {R = nat_cmp}) q ≡ Some x → ⊥
@@ -53,7 +41,7 @@ module _ (limit blocks callers : ℕ) where
       (get-empty nat_cmp x.0) in
       not_in_none (Some y) (subst (λ (o : Option (Object Addr)). Contains (fields_in o) (Some y)) none field)
 
-  no_region : (r : ℕ) → is_held (empty_heap limit) r ≡ true → ⊥
+  no_region : (r : ℕ) → is_in_use (empty_heap limit) r ≡ true → ⊥
   no_region r held = subst T (sym (sym (ap is_some (get-empty {X = Region} nat_cmp r)) ∙ held)) tt
 
   -- parts are those of an opened store where each is as it was made

@@ -1,36 +1,13 @@
 -- Rows of a store that change: what the machine sees, and that the store keeps what it keeps.
-use Rattle.std.proofs.Common.{◌≡◌, ℕ, ◌*◌, ◌/◌, ◌≤◌, Bool, true, false, not, cond, Option, Some, None, refl, sym, ap, ◌∙◌, subst, inl, inr, arith}
-use Rattle.std.specs.Prelude.{option_map, unwrap_or, IsSome, IfSome, is_some, T, Result, Ok, Err, IfOk, OnErr}
-use Rattle.std.specs.FinMap.{FinMap, get, insert, remove, get-remove}
-use Rattle.std.specs.Ordering.{nat_cmp, eq_by_cmp}
-use Rattle.std.specs.Cmp.{nat_cmp_total}
-use Rattle.std.proofs.lemmas.Bool.{cases_eq}
-use Rattle.hd_model.specs.declared.data.Id.{Id}
-use Rattle.hd_model.specs.declared.data.Addr.{Addr}
-use Rattle.hd_model.specs.declared.data.Slot.{Slot}
-use Rattle.hd_model.specs.declared.data.Kind.{Kind}
-use Rattle.hd_model.specs.declared.data.Kind.TheVariants as kind
-use Rattle.hd_model.specs.declared.data.Grown.{Grown}
+use Rattle.hd_world.proofs.StoreWords.{◌≡◌, ℕ, ◌*◌, ◌/◌, ◌≤◌, Bool, true, false, not, cond, Option, Some, None, refl, sym, ap, ◌∙◌, subst, inl, inr, arith, option_map, unwrap_or, IsSome, IfSome, is_some, T, Result, Ok, Err, IfOk, OnErr, FinMap, get, insert, remove, get-remove, nat_cmp, eq_by_cmp, nat_cmp_total, cases_eq, Id, Addr, Slot, Kind, Grown, Extra, nothing, strength, secondary, count, Handle, BlockUse, handles_of, extra_data, handle_at, use_of, block_of, secondary_of, rename_handle, with_handle, without_handle, role, attaches, is_object, generation_at, age_of, Heap, object_at, id_at, Table, fits, kind_in, kind_at, live_at, is_single, grown_by, IsGrowth, without_block, with_row, without_row, rows_by_id, IsNamed, Parts, state_of, IsStored, Machine, machine_of, object_named, kind_in_use, is_paired, handle_named, MayStand, get_beside, get_inserted, same_Some}
 use Rattle.hd_model.specs.declared.data.Grown.TheVariants.{Zero, One, Two, Back}
 use Rattle.hd_seg.specs.declared.row.Full.{Full}
-use Rattle.hd_model.specs.State.{Extra, nothing, strength, secondary, count, Handle, BlockUse, handles_of, extra_data, handle_at, use_of, block_of, secondary_of, rename_handle, with_handle, without_handle}
-use Rattle.hd_model.specs.Role.{role, attaches}
-use Rattle.hd_model.specs.Scene.{is_object, generation_at}
-use Rattle.hd_model.specs.Ages.{age_of}
-use Rattle.hd_model.specs.Heap.{Heap, object_at, id_at}
-use Rattle.hd_model.specs.Table.{Table, fits, kind_in, kind_at, live_at, is_single, grown_by, IsGrowth, without_block, with_row, without_row}
 use Rattle.hd_seg.specs.declared.row.Row.{Row}
 use Rattle.hd_seg.specs.Row.{handle_of, extra_of}
-use Rattle.hd_world.specs.Reading.{rows_by_id, IsNamed}
-use Rattle.hd_world.specs.Stored.{Parts, state_of, IsStored}
-use Rattle.hd_world.specs.Store.{Machine, machine_of}
-use Rattle.hd_world.specs.Objects.{object_named}
-use Rattle.hd_world.specs.Growth.{kind_in_use}
-use Rattle.hd_model.specs.Kinds.{is_paired}
-use Rattle.hd_world.specs.Handles.{handle_named, MayStand}
-use Rattle.hd_world.proofs.EntryMaps.{get-put, get-put_other, same_numbers, some_same}
+use Rattle.hd_world.proofs.EntryMaps.{same_numbers}
 use Rattle.hd_world.proofs.IdentityReadings.{no_some, rows-get, names-are}
 use Rattle.hd_world.proofs.NamedAddresses.{known_object, generation-is}
+use Rattle.hd_model.specs.declared.data.Kind.TheVariants as kind
 
 -- the parts with another table
 abbrev pub with_table : Parts → Table → Parts
@@ -92,16 +69,16 @@ stored-table f t stored blocks uses each = record {
   uses = uses;
 }
 
-pub stored-put : (f : Parts) (slot : ℕ) (row : Handle Addr) → IsStored f → Stands f slot row
+stored-put : (f : Parts) (slot : ℕ) (row : Handle Addr) → IsStored f → Stands f slot row
     → IsStored (with_table f (with_row f.table slot row))
 stored-put f slot row stored may =
     stored-table f (with_row f.table slot row) stored refl stored.uses (λ s r is.
     elim (cases_eq s slot) [
       | inl same ↦
-          let it : row ≡ r = some_same row r
-          (sym (get-put f.table.rows slot row) ∙ ap (get (insert f.table.rows slot row)) (sym same) ∙ is) in
+          let it : row ≡ r = same_Some row r
+          (sym (get_inserted f.table.rows slot row) ∙ ap (get (insert f.table.rows slot row)) (sym same) ∙ is) in
           subst (Stands f s) it (subst (λ k. Stands f k row) (sym same) may)
-      | inr apart ↦ stands f stored s r (sym (get-put_other f.table.rows slot row s apart) ∙ is)
+      | inr apart ↦ stands f stored s r (sym (get_beside f.table.rows slot row s apart) ∙ is)
     ])
 
 without_other : (b : Bool) (o : Option (Handle Addr)) (r : Handle Addr) → cond b None o ≡ Some r → o ≡ Some r
@@ -123,12 +100,12 @@ rows-put h rows slot row =
     rows-get h (insert rows slot row) s
     ∙ elim (cases_eq s slot) [
       | inl same ↦ ap (λ k. option_map (rename_handle (id_at h)) (get (insert rows slot row) k)) same
-          ∙ ap (option_map (rename_handle (id_at h))) (get-put rows slot row)
-          ∙ sym (get-put (rows_by_id h rows) slot (rename_handle (id_at h) row))
+          ∙ ap (option_map (rename_handle (id_at h))) (get_inserted rows slot row)
+          ∙ sym (get_inserted (rows_by_id h rows) slot (rename_handle (id_at h) row))
           ∙ ap (get (insert (rows_by_id h rows) slot (rename_handle (id_at h) row))) (sym same)
-      | inr apart ↦ ap (option_map (rename_handle (id_at h))) (get-put_other rows slot row s apart)
+      | inr apart ↦ ap (option_map (rename_handle (id_at h))) (get_beside rows slot row s apart)
           ∙ sym (rows-get h rows s)
-          ∙ sym (get-put_other (rows_by_id h rows) slot (rename_handle (id_at h) row) s apart)
+          ∙ sym (get_beside (rows_by_id h rows) slot (rename_handle (id_at h) row) s apart)
     ])
 
 none_mapped : (g : Handle Addr → Handle Id) (b : Bool) (o : Option (Handle Addr))
@@ -147,7 +124,7 @@ rows-end h rows slot =
     ∙ sym (get-remove nat_cmp_total (rows_by_id h rows) slot s))
 
 module _ (f : Parts) (m : Machine) (view : machine_of f ≡ m) where
-  pub machine-put : (slot : Slot) (kind : Kind) (row : Row)
+  machine-put : (slot : Slot) (kind : Kind) (row : Row)
       → machine_of (with_table f (with_row f.table slot.0 (handle_of kind row)))
       ≡ record m { state = with_handle m.state slot (handle_named m kind row) }
   machine-put slot kind row =
@@ -204,7 +181,7 @@ module _ (f : Parts) (m : Machine) (view : machine_of f ≡ m) (stored : IsStore
   object o x named is = known_object f.heap x
       (subst (λ (n : Machine). IsSome (get n.names x.0)) (sym view) (is_there o x named is))
 
-  pub may-stand : (slot : Slot) (kind : Kind) (row : Row) → MayStand m slot kind row
+  may-stand : (slot : Slot) (kind : Kind) (row : Row) → MayStand m slot kind row
       → Stands f slot.0 (handle_of kind row)
   may-stand slot kind row may = record {
     target = λ x is. object row.target x may.target is;
@@ -214,6 +191,18 @@ module _ (f : Parts) (m : Machine) (view : machine_of f ≡ m) (stored : IsStore
     target_age = λ x is. aged slot.0 row.target x may.target may.target_age is;
     second_age = λ x is. aged slot.0 (secondary_of (extra_of row.extra)) x may.secondary may.secondary_age is;
   }
+
+-- a table with that row
+pub row-put : (f : Parts) (m : Machine) → machine_of f ≡ m → IsStored f → (slot : Slot) (kind : Kind) (row : Row)
+    → MayStand m slot kind row → (t : Table) → t ≡ with_row f.table slot.0 (handle_of kind row)
+    → IsStored (with_table f t) × (machine_of (with_table f t)
+    ≡ record m { state = with_handle m.state slot (handle_named m kind row) })
+row-put f m view stored slot kind row may t is =
+    subst (λ u. IsStored (with_table f u) × (machine_of (with_table f u)
+    ≡ record m { state = with_handle m.state slot (handle_named m kind row) })) (sym is) (
+      stored-put f slot.0 (handle_of kind row) stored (may-stand f m view stored slot kind row may),
+      machine-put f m view slot kind row,
+    )
 
 -- a live slot has a row
 mapped_some : (g : Handle Addr → Handle Id) (o : Option (Handle Addr)) → is_some (option_map g o) ≡ is_some o
@@ -269,7 +258,7 @@ within_insert : {A : Type 0} (m : FinMap nat_cmp A) (k most : ℕ) (v : A) → (
 within_insert m k most v new old b is =
     elim (cases_eq b k) [
       | inl same ↦ subst (λ j. (1 ≤ j) × (j ≤ most)) (sym same) new
-      | inr apart ↦ old b (sym (ap is_some (get-put_other m k v b apart)) ∙ is)
+      | inr apart ↦ old b (sym (ap is_some (get_beside m k v b apart)) ∙ is)
     ]
 
 grown_within : (t : Table) (k : Kind) (g : Grown) → IsGrowth t k g → IsWithin t → IsWithin (grown_by t k g)
@@ -338,10 +327,10 @@ put_again t slot a b =
     (same_numbers (insert (insert t.rows slot a) slot b) (insert t.rows slot b) (λ s.
     elim (cases_eq s slot) [
       | inl same ↦ ap (get (insert (insert t.rows slot a) slot b)) same
-          ∙ get-put (insert t.rows slot a) slot b ∙ sym (get-put t.rows slot b)
+          ∙ get_inserted (insert t.rows slot a) slot b ∙ sym (get_inserted t.rows slot b)
           ∙ ap (get (insert t.rows slot b)) (sym same)
-      | inr apart ↦ get-put_other (insert t.rows slot a) slot b s apart ∙ get-put_other t.rows slot a s apart
-          ∙ sym (get-put_other t.rows slot b s apart)
+      | inr apart ↦ get_beside (insert t.rows slot a) slot b s apart ∙ get_beside t.rows slot a s apart
+          ∙ sym (get_beside t.rows slot b s apart)
     ]))
 
 row_there : (o : Option (Handle Addr)) (d : Handle Addr) → is_some o ≡ true → o ≡ Some (unwrap_or o d)
@@ -354,7 +343,7 @@ live-is t slot live = row_there (get t.rows slot)
 
 pub live-put : (t : Table) (slot : ℕ) (row : Handle Addr) → live_at (with_row t slot row) slot ≡ row
 live-put t slot row = ap (λ o. unwrap_or o (record { kind = kind.Short; target = None; extra = nothing }))
-    (get-put t.rows slot row)
+    (get_inserted t.rows slot row)
 
 kind_mapped : (g : Addr → Id) (o : Option (Handle Addr)) → option_map (λ (h : Handle Id). h.kind)
     (option_map (rename_handle g) o) ≡ option_map (λ (h : Handle Addr). h.kind) o
@@ -362,7 +351,7 @@ kind_mapped g None = refl
 kind_mapped g (Some row) = refl
 
 some_kind : (x y : Kind) → Some x ≡ Some y → x ≡ y
-some_kind x y e = some_same x y e
+some_kind x y e = same_Some x y e
 
 module _ (f : Parts) (m : Machine) (view : machine_of f ≡ m) (slot : Slot) (k : Kind)
     (live : option_map (λ (h : Handle Id). h.kind) (handle_at m.state slot) ≡ Some k) where

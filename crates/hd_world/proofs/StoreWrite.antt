@@ -1,27 +1,12 @@
 -- Another object with the same identity at an address of a store: what the machine sees, and that the store
 -- keeps what it keeps.
-use Rattle.std.proofs.Common.{◌≡◌, ℕ, ◌+◌, ◌<◌, ◌≤◌, true, cond, map, length, Some, refl, sym, ap, ◌∙◌, ◌⊎◌, subst, inl, inr, arith}
-use Rattle.std.specs.Prelude.{option_map, is_some, IsSome, Contains, sum_by}
-use Rattle.std.specs.FinMap.{get, insert, values, len, len-insert}
-use Rattle.std.specs.Cmp.{nat_cmp_total}
-use Rattle.std.proofs.lemmas.Bool.{cases_eq}
-use Rattle.hd_model.specs.declared.data.Id.{Id}
-use Rattle.hd_model.specs.declared.data.Addr.{Addr}
-use Rattle.hd_model.specs.State.{Object, with_object}
-use Rattle.hd_model.specs.Scene.{is_object, fields_in, generation_in, generation_at, IsField}
-use Rattle.hd_model.specs.Heap.{Placed, Heap, region_generation, region_of, is_held, object_in, object_at, has_object, placed_at, cells_of, is_carded, used_of}
-use Rattle.hd_model.specs.Ages.{HasSoundCards, age_of}
-use Rattle.hd_world.specs.Rows.{rows_of, rest_of}
-use Rattle.hd_world.specs.Reading.{read_object, name_in}
-use Rattle.hd_world.specs.Stored.{Parts, callers_of, state_of, IsStored}
+use Rattle.hd_world.proofs.StoreWords.{◌≡◌, ℕ, ◌+◌, ◌<◌, ◌≤◌, true, cond, map, length, Some, refl, sym, ap, ◌∙◌, ◌⊎◌, subst, inl, inr, arith, option_map, is_some, IsSome, Contains, sum_by, get, insert, values, len, len-insert, nat_cmp_total, cases_eq, Id, Addr, Object, with_object, is_object, fields_in, generation_in, generation_at, IsField, Placed, Heap, region_generation, region_of, is_in_use, object_in, object_at, has_object, placed_at, cells_of, is_carded, used_of, HasSoundCards, age_of, rows_of, rest_of, read_object, name_in, Parts, callers_of, state_of, IsStored, Machine, machine_of, without_spare, object_named, get_beside, get_inserted}
 use Rattle.hd_plan.specs.Plan.{HasNoEmptyRegion}
-use Rattle.hd_world.specs.Store.{Machine, machine_of, without_spare}
-use Rattle.hd_world.specs.Objects.{object_named}
 use Rattle.hd_heap.specs.Calls.{with_object as with_placed}
-use Rattle.hd_world.proofs.NamedAddresses.{placed_is, object_is, identity-is, named_object}
-use Rattle.hd_world.proofs.EntryMaps.{get-put, get-put_other}
+use Rattle.hd_world.proofs.NamedAddresses.{in_heap, placed_is, object_is, identity-is, named_object}
 use Rattle.hd_model.proofs.Sums.{share, sum-insert}
 use Rattle.hd_world.proofs.IdentityReadings.{Replaces, ids-replace, names-replace, rows-replace, identities-replace, objects-replace}
+use Rattle.hd_heap.proofs.HeapValues.{same_address}
 
 -- the heap k is h with another object of the same size at an address, which references objects, and with the
 -- cards that it needs
@@ -34,18 +19,15 @@ pub record Writes (h k : Heap) (at : Addr) (old new : Placed) : Type 0 where
   pub needed : (y : Addr) → Contains new.fields (Some y)
       → generation_at (object_at h) y < generation_at (object_at h) at → is_carded k at ≡ true
 
-same_address : (x y : Addr) → x.0 ≡ y.0 → x ≡ y
-same_address x y e = λ i. record { 0 = e i }
-
 module _ (h k : Heap) (at : Addr) (old new : Placed) (w : Writes h k at old new) where
   r : Replaces h k at.0 old new
   r = w.replaces
 
   there : get k.objects at.0 ≡ Some new
-  there = ap (λ m. get m at.0) r.objects ∙ get-put h.objects at.0 new
+  there = ap (λ m. get m at.0) r.objects ∙ get_inserted h.objects at.0 new
 
   elsewhere : (x : Addr) → (x.0 ≡ at.0 → ⊥) → get k.objects x.0 ≡ get h.objects x.0
-  elsewhere x apart = ap (λ m. get m x.0) r.objects ∙ get-put_other h.objects at.0 new x.0 apart
+  elsewhere x apart = ap (λ m. get m x.0) r.objects ∙ get_beside h.objects at.0 new x.0 apart
 
   region_same : (x : Addr) → region_generation k (region_of x) ≡ region_generation h (region_of x)
   region_same x = ap (λ rs. region_generation (record h { regions = rs }) (region_of x)) r.regions
@@ -128,8 +110,8 @@ with_heap f k = record f { heap = k }
 
 module _ (f : Parts) (k : Heap) (at : Addr) (old new : Placed) (w : Writes f.heap k at old new)
     (stored : IsStored f) where
-  held_same : (r : ℕ) → is_held k r ≡ is_held f.heap r
-  held_same r = ap (λ rs. is_held (record f.heap { regions = rs }) r) w.replaces.regions
+  held_same : (r : ℕ) → is_in_use k r ≡ is_in_use f.heap r
+  held_same r = ap (λ rs. is_in_use (record f.heap { regions = rs }) r) w.replaces.regions
 
   full_write : HasNoEmptyRegion k
   full_write r held =
@@ -223,7 +205,7 @@ written f m view stored at known k new w change is =
     })
 
 -- a write that leaves the fields and the cards
-pub writes_beside : (f : Parts) (stored : IsStored f) (at : Addr) → has_object f.heap at ≡ true
+writes_beside : (f : Parts) (stored : IsStored f) (at : Addr) → has_object f.heap at ≡ true
     → (new : Placed) → new.id ≡ (placed_at f.heap at).id → new.fields ≡ (placed_at f.heap at).fields
     → Writes f.heap (with_placed f.heap at new) at (placed_at f.heap at) new
 writes_beside f stored at known new same fields =
@@ -238,3 +220,21 @@ writes_beside f stored at known new same fields =
       carded = λ x e. e;
       needed = λ y c younger. stored.cards at y (is-field y c) younger;
     }
+
+-- such a write, as the store and the machine have it
+pub written-beside : (f : Parts) (m : Machine) → machine_of f ≡ m → IsStored f → (at : Addr)
+    → IsSome (get m.names at.0) → (new : Placed) → new.id ≡ (placed_at f.heap at).id
+    → new.fields ≡ (placed_at f.heap at).fields → (change : Object Id → Object Id)
+    → read_object f.heap at.0 new ≡ change (read_object f.heap at.0 (placed_at f.heap at))
+    → (k : Heap) → k ≡ with_placed f.heap at new → IsStored (with_heap f k) × (machine_of (with_heap f k)
+    ≡ record m {
+      state = with_object m.state (name_in m.names at) (change (object_named m at));
+      heap = without_spare k;
+    })
+written-beside f m view stored at known new same fields change is k made =
+    let w : Writes f.heap k at (placed_at f.heap at) new =
+    subst (λ h. Writes f.heap h at (placed_at f.heap at) new) (sym made)
+    (writes_beside f stored at (in_heap f m view stored at known) new same fields) in (
+      stored-write f k at (placed_at f.heap at) new w stored,
+      written f m view stored at known k new w change is,
+    )

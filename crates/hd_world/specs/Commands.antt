@@ -1,34 +1,95 @@
 -- What a command returns, and how it leaves the store.
-use Rattle.std.specs.Prelude.{◌≡◌, ℕ, false, Result, Ok, Err, if◌then◌else◌}
-use Rattle.std.specs.Option.{option_map_or}
-use Rattle.hd_model.specs.declared.data.Id.{Id}
-use Rattle.hd_model.specs.declared.data.Addr.{Addr}
-use Rattle.hd_model.specs.declared.data.Slot.{Slot}
-use Rattle.hd_model.specs.declared.data.Refusal.{Refusal}
+use Rattle.std.specs.Prelude.{◌≡◌, ℕ, ◌+◌, ◌<◌, ◌^◌, ◌⊎◌, true, false, Result, Ok, Err, Option, None, List, if◌then◌else◌}
+use Rattle.std.specs.Option.{option_map_or, ForSome}
+use Rattle.std.specs.FinMap.{get}
+use Rattle.hd_world.specs.MachineData.{Id, Addr, Slot, Refusal, Reply, Entry, Cmd}
 use Rattle.hd_model.specs.declared.data.Refusal.TheVariants as refusal
-use Rattle.hd_model.specs.declared.data.Entry.{Entry}
+use Rattle.hd_model.specs.declared.data.Reply.TheVariants as reply
 use Rattle.hd_model.specs.declared.data.Grown.TheVariants.{Zero}
-use Rattle.hd_model.specs.declared.command.Cmd.{Cmd}
-use Rattle.hd_model.specs.declared.command.Cmd.TheVariants as cmd
 use Rattle.hd_model.specs.Touched.{touched_by}
-use Rattle.hd_world.specs.declared.commands.Placing.{Placing}
-use Rattle.hd_world.specs.declared.commands.Placing.TheVariants.{Collects, Answers, Nothing}
-use Rattle.hd_model.specs.State.{State, Handle, handle_register_of, handle_at}
+use Rattle.hd_model.specs.State.{State, Handle, handle_register_of, handle_at, last_serial, identity_of}
+use Rattle.hd_model.specs.Step.{StepOf}
+use Rattle.hd_model.specs.declared.command.Cmd.TheVariants as cmd
+use Rattle.hd_model.specs.Aging.{aged_by}
+use Rattle.hd_model.specs.Valid.{IsValid, takes_memory}
+use Rattle.hd_model.specs.WellFormed.{HasHandles}
 use Rattle.hd_model.specs.Command.{Outcome}
-use Rattle.hd_world.specs.declared.handles.Live.{Live}
-use Rattle.hd_world.specs.Handles.{handle_named}
 use Rattle.hd_model.specs.Role.{pins}
+use Rattle.hd_world.specs.declared.handles.Live.{Live}
+use Rattle.hd_world.specs.declared.done.CallerCommand.{CallerCommand}
+use Rattle.hd_world.specs.declared.done.Done.{Done}
+use Rattle.hd_world.specs.Counts.{HasSmallCounts}
+use Rattle.hd_world.specs.Handles.{handle_named}
+use Rattle.hd_world.specs.Places.{HasNames, KeepsPlaces}
 use Rattle.hd_world.specs.Reading.{name_in}
 use Rattle.hd_world.specs.Store.{Machine}
+use Rattle.hd_world.specs.World.{IsOffer, GrowsUnoffered, Takes, FitsHeap}
 
--- the entry of a caller's command that comes to an outcome
-abbrev pub entry_of : ℕ → Cmd → Outcome → Entry
-entry_of caller cmd wanted =
-    record { caller = caller; cmd = cmd; slot = wanted.slot; grown = Zero; reply = wanted.reply }
+-- the entry of a command that came to something
+abbrev pub entry_of : CallerCommand → Done → Entry
+entry_of asked done = record {
+  caller = asked.caller;
+  cmd = asked.cmd;
+  slot = done.slot;
+  grown = done.grown;
+  reply = done.reply;
+}
 
--- the store with the state of an outcome
-abbrev pub after : Machine → Outcome → Machine
-after m wanted = record m { state = wanted.after }
+-- a command gives and frees no slot
+abbrev pub Replies : Reply → Done → Type 0
+Replies answer done = done ≡ record { reply = answer; slot = None; grown = Zero }
+
+-- what a command came to: a refused one gives and frees no slot
+abbrev pub done_of : Result Done Refusal → Done
+done_of (Ok done) = done
+done_of (Err refused) = record { reply = reply.Refused refused; slot = None; grown = Zero }
+
+-- a command came to an outcome and left such ages; what the heap has beside the state is not said
+abbrev pub ComesToAged : Outcome → List ℕ → Machine → Machine → Result Done Refusal → Type 0
+ComesToAged wanted ages old new result =
+    (done_of result ≡ record { reply = wanted.reply; slot = wanted.slot; grown = Zero })
+    × (new ≡ record old { state = wanted.after; ages = ages; heap = new.heap })
+
+abbrev pub ComesTo : Outcome → Machine → Machine → Result Done Refusal → Type 0
+ComesTo wanted old new result = ComesToAged wanted old.ages old new result
+
+-- what a command of a caller asks of a store
+pub record MayRun (m : Machine) (asked : CallerCommand) (offered : Option Slot) : Type 0 where
+  pub handles : HasHandles m.numbers m.state
+  pub caller : asked.caller < m.numbers.callers
+  pub valid : IsValid asked.cmd
+  pub offer : IsOffer m.state asked.cmd offered
+  pub serial : last_serial m.state asked.caller + 1 < 2 ^ 32
+  pub fresh : get m.state.objects (identity_of asked.caller (last_serial m.state asked.caller + 1)).0 ≡ None
+  pub counts : HasSmallCounts m.state
+
+-- a command that neither reads nor changes a pinned address was done, with its entry
+pub record IsDone (old : Machine) (asked : CallerCommand) (offered : Option Slot) (new : Machine)
+    (e : Entry) : Type 0 where
+  pub caller : e.caller ≡ asked.caller
+  pub command : e.cmd ≡ asked.cmd
+  pub plain : (touched_by asked.cmd).places ≡ false
+  pub step : StepOf old.numbers old.state e new.state asked.cmd
+  pub numbers : new.numbers ≡ old.numbers
+  pub names : HasNames (touched_by asked.cmd).makes_object old.names new.names
+  pub ages : new.ages ≡ aged_by old.state e old.ages
+  pub offer : ForSome offered (Takes e asked.cmd)
+  pub growth : GrowsUnoffered old.numbers old.state asked.cmd offered e
+
+-- any command was done, with its entry, from whatever pinned addresses
+pub record HasRun (old : Machine) (asked : CallerCommand) (offered : Option Slot) (new : Machine)
+    (e : Entry) : Type 0 where
+  pub caller : e.caller ≡ asked.caller
+  pub command : e.cmd ≡ asked.cmd
+  pub moves : KeepsPlaces old e new
+  pub offer : ForSome offered (Takes e asked.cmd)
+  pub growth : GrowsUnoffered old.numbers old.state asked.cmd offered e
+
+-- a command ran out of memory, which it may take, and not where the heap was full; nothing is changed
+pub record RanOut (old : Machine) (command : Cmd) (new : Machine) : Type 0 where
+  pub memory : takes_memory command ≡ true
+  pub fits : FitsHeap old.numbers old.state command
+  pub unchanged : new ≡ old
 
 -- the slot in a handle register with its handle, or why there is none
 abbrev pub live_in : State → ℕ → ℕ → Result (Slot × Handle Id) Refusal
@@ -57,9 +118,3 @@ pinned_in s caller h =
 abbrev pub as_pinned : Machine → Result Addr Refusal → Result Id Refusal
 as_pinned m (Ok at) = Ok (name_in m.names at)
 as_pinned m (Err refused) = Err refused
-
--- how a command uses the pinned addresses: it collects, returns one, or neither reads nor changes them
-abbrev pub IsPlacing : Cmd → Placing → Type 0
-IsPlacing c (Collects n) = c ≡ cmd.Collect n
-IsPlacing c (Answers h) = c ≡ cmd.AddrOf h
-IsPlacing c Nothing = (touched_by c).places ≡ false

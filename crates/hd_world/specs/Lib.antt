@@ -1,12 +1,15 @@
 -- What public clauses cite.
+pub mod MachineData
 pub mod World
 pub mod StateHeap
 pub mod Visited
 pub mod Growth
+pub mod Applied
 pub mod Reading
 -- What the store inside says of its calls.
 pub mod Rows
 pub mod Stored
+pub mod StoreParts
 pub mod Store
 pub mod Places
 pub mod Placed

@@ -2,10 +2,7 @@
 use Rattle.std.specs.Prelude.{◌≡◌, ◌↔◌, ℕ, Bool, true, false, Some}
 use Rattle.std.specs.FinMap.{FinMap, get, insert, retain_keys}
 use Rattle.std.specs.Ordering.{nat_cmp}
-use Rattle.hd_model.specs.declared.data.Id.{Id}
-use Rattle.hd_model.specs.declared.data.Addr.{Addr}
-use Rattle.hd_model.specs.declared.data.Entry.{Entry}
-use Rattle.hd_model.specs.declared.data.Report.{Report}
+use Rattle.hd_world.specs.MachineData.{Id, Addr, Entry, Report}
 use Rattle.hd_model.specs.State.{State}
 use Rattle.hd_model.specs.Places.{is_pinned, with_places, MayAnswer}
 use Rattle.hd_model.specs.Step.{Step}
@@ -16,7 +13,7 @@ use Rattle.hd_model.specs.Heap.{is_set}
 use Rattle.hd_plan.specs.Commit.{NeedsCard}
 use Rattle.hd_world.specs.Reading.{name_in}
 use Rattle.hd_world.specs.Store.{Machine}
-use Rattle.hd_world.specs.StateHeap.{IsCompactStore}
+use Rattle.hd_world.specs.StateHeap.{IsCompactStore, LeavesHeap}
 
 -- each pinned address is that of its object
 abbrev pub AreAddresses : FinMap nat_cmp Id → FinMap nat_cmp ℕ → Type 0
@@ -39,6 +36,8 @@ pub record Moves (old : Machine) (e : Entry) (new : Machine) (before : FinMap na
   pub step : Step old.numbers (with_places old.state before) e (with_places new.state places)
   pub addresses : AreAddresses new.names places
   pub ages : new.ages ≡ aged_by (with_places old.state before) e old.ages
+  pub numbers : new.numbers ≡ old.numbers
+  pub heap : LeavesHeap e new.state.handles new.heap
 
 -- whatever pinned addresses were returned before, if they are those of their objects
 abbrev pub KeepsPlaces : Machine → Entry → Machine → Type 0

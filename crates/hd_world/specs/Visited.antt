@@ -1,11 +1,9 @@
 -- What a collection of a store costs, in the words of the machine.
 use Rattle.std.specs.Prelude.{◌≡◌, ℕ, ◌+◌, ◌*◌, ◌≤◌, Bool, false, List, filter, Option, Some, None}
 use Rattle.std.specs.FinMap.{get, keys}
-use Rattle.hd_model.specs.declared.data.Entry.{Entry}
-use Rattle.hd_model.specs.declared.data.Report.{Report}
+use Rattle.hd_world.specs.MachineData.{Entry, Report, Kind}
 use Rattle.hd_model.specs.declared.data.Reply.TheVariants as reply
 use Rattle.hd_model.specs.declared.command.Cmd.TheVariants as cmd
-use Rattle.hd_model.specs.declared.data.Kind.{Kind}
 use Rattle.hd_model.specs.declared.data.Kind.TheVariants as kind
 use Rattle.hd_model.specs.Kinds.{is_kind}
 use Rattle.hd_model.specs.Ages.{visits}

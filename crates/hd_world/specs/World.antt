@@ -2,14 +2,12 @@
 use Rattle.std.specs.Prelude.{◌≡◌, ◌≢◌, ℕ, ◌+◌, ◌<◌, ◌≤◌, List, Option, Some, None, refl}
 use Rattle.std.specs.Coded.{Coded, code_by, coded×, coded_ℕ, coded_list}
 use Rattle.hd_model.specs.declared.limits.TheConstants.{HEAP, BLOCKS, CALLERS}
-use Rattle.hd_model.specs.declared.data.Entry.{Entry}
-use Rattle.hd_model.specs.declared.data.Slot.{Slot}
-use Rattle.hd_model.specs.declared.data.Kind.{Kind}
+use Rattle.hd_world.specs.MachineData.{Entry, Slot, Kind, Cmd, Class}
 use Rattle.hd_model.specs.declared.data.Grown.TheVariants.{Zero, Back}
 use Rattle.hd_model.specs.declared.data.Refusal.TheVariants as refusal
 use Rattle.hd_model.specs.declared.data.Reply.TheVariants as reply
-use Rattle.hd_model.specs.declared.command.Cmd.{Cmd}
-use Rattle.hd_model.specs.declared.command.Cmd.TheVariants as cmd
+use Rattle.hd_model.specs.declared.class.Class.TheVariants as class
+use Rattle.hd_model.specs.Class.{class_of}
 use Rattle.hd_model.specs.State.{Numbers, State, given_of, total_size, block_of, first_slot, IsFree, IsAllFree}
 use Rattle.hd_model.specs.Kinds.{kind_of}
 use Rattle.hd_model.specs.Step.{blocks_needed}
@@ -56,34 +54,19 @@ pub data Asks : Type 0 where
   block_back : Kind → Asks
   no_room : Asks
 
+abbrev pub class_asks : Class → Asks
+class_asks (class.MakesObject fields) = object_room fields
+class_asks (class.TakesSlot make t) = handle_slot (kind_of make)
+class_asks (class.StoresTarget h t) = no_room
+class_asks (class.StoresSecondary h) = no_room
+class_asks class.Frees = no_room
+class_asks (class.GivesBack kind) = block_back kind
+class_asks (class.Collects n) = no_room
+class_asks (class.AnswersPlace h) = no_room
+class_asks class.Plain = no_room
+
 abbrev pub asks_of : Cmd → Asks
-asks_of (cmd.New d fields fin) = object_room fields
-asks_of (cmd.Set o i v) = no_room
-asks_of (cmd.Get d o i) = no_room
-asks_of (cmd.Val o v) = no_room
-asks_of (cmd.Read o) = no_room
-asks_of (cmd.Copy d r) = no_room
-asks_of (cmd.Clear d) = no_room
-asks_of (cmd.SPut k r) = no_room
-asks_of (cmd.SGet d k) = no_room
-asks_of (cmd.Gen o) = no_room
-asks_of (cmd.Suppress o) = no_room
-asks_of (cmd.Reregister o) = no_room
-asks_of (cmd.Final d) = no_room
-asks_of (cmd.Collect n) = no_room
-asks_of (cmd.HNew d make t) = handle_slot (kind_of make)
-asks_of (cmd.HGet d h) = no_room
-asks_of (cmd.HSet h t) = no_room
-asks_of (cmd.HSec h r) = no_room
-asks_of (cmd.HDep d h) = no_room
-asks_of (cmd.HVar h given) = no_room
-asks_of (cmd.HFree h) = no_room
-asks_of (cmd.HPut k h) = no_room
-asks_of (cmd.HPick d k) = no_room
-asks_of (cmd.AddrOf h) = no_room
-asks_of (cmd.HUp h) = no_room
-asks_of (cmd.HDown h) = no_room
-asks_of (cmd.Trim kind) = block_back kind
+asks_of c = class_asks (class_of c)
 
 -- what may be offered: to `hnew` a free slot of its kind, and to `trim` the first slot of a block of its kind
 -- all of whose slots are free

@@ -1,17 +1,16 @@
 // `collect`: a collection of a store, which leaves each pinned object at its address.
-ghost use Rattle.std.specs.Prelude.{◌≡◌, ◌≤◌, MatchResult, IfOk, OnErr};
+ghost use Rattle.std.specs.Prelude.{◌≡◌, ◌<◌, ◌≤◌, MatchResult};
 ghost use Rattle.hd_model.specs.declared.command.Cmd.TheVariants as cmds;
+ghost use Rattle.hd_world.specs.declared.done.CallerCommand.{CallerCommand};
+ghost use Rattle.hd_world.specs.Commands.{entry_of};
 ghost use Rattle.hd_world.specs.Places.{HasCollected, KeepsPlaces};
-ghost use Rattle.hd_world.specs.StateHeap.{LeavesHeap};
 ghost use Rattle.hd_world.specs.Visited.{CollectedSteps, TakesSteps};
-ghost use Rattle.hd_model.specs.Aging.{aged_by};
-ghost use Rattle.std.specs.Prelude.{◌<◌};
 
-use crate::caller_command::CallerCommand;
+use crate::done::Done;
 use crate::store::Store;
 use hd_gc::collect;
 use hd_model::limits::OLDEST;
-use hd_model::{Entry, Memory, Reply, Report, Steps};
+use hd_model::{Memory, Reply, Report, Steps};
 use std::sync::ledger::Ledger;
 
 impl Store {
@@ -46,23 +45,18 @@ impl Store {
 /// `collect N`.
 pub(crate) fn collect_up_to<L: Ledger>(
     store: &mut Store,
-    asked: CallerCommand,
+    caller: u32,
     n: u8,
     steps: &mut Steps<L>,
-) -> Result<Entry, Memory>
-    requires command { asked.cmd ≡ cmds.Collect n }
-    requires caller { asked.caller < store.old.numbers.callers }
+) -> Result<Done, Memory>
+    requires caller { caller < store.old.numbers.callers }
     requires generation { n ≤ OLDEST }
-    ensures caller { IfOk result (λ e. e.caller ≡ asked.caller) }
-    ensures command { IfOk result (λ e. e.cmd ≡ asked.cmd) }
-    ensures moves { IfOk result (λ e. KeepsPlaces store.old e store.new) }
-    ensures numbers { store.new.numbers ≡ store.old.numbers }
-    ensures ages { IfOk result (λ e. store.new.ages ≡ aged_by store.old.state e store.old.ages) }
-    ensures heap { IfOk result (λ e. LeavesHeap e store.new.state.handles store.new.heap) }
-    ensures steps { let s = store.old.state in let ages = store.old.ages in
-        IfOk result (λ e. TakesSteps s ages e steps.old steps.new) }
-    ensures unchanged { OnErr result ((store.new ≡ store.old) × (steps.new ≡ steps.old)) }
+    ensures { let asked : CallerCommand = record { caller = caller; cmd = cmds.Collect n } in
+        MatchResult result
+        (λ done. KeepsPlaces store.old (entry_of asked done) store.new
+        × TakesSteps store.old.state store.old.ages (entry_of asked done) steps.old steps.new)
+        (λ _. (store.new ≡ store.old) × (steps.new ≡ steps.old)) }
 {
     let report = store.collect(n, steps)?;
-    Ok(asked.reply(Reply::Report(report)))
+    Ok(Done::of(Reply::Report(report)))
 }

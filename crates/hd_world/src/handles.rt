@@ -1,8 +1,6 @@
 // What a store does with rows, blocks and ages.
-ghost use Rattle.std.specs.Prelude.{◌≡◌, ℕ, ◌+◌, ◌*◌, ◌/◌, ◌<◌, ◌≤◌, false};
-ghost use Rattle.std.specs.Prelude.{Some, None, IsSome, IfOk, IfErr, OnOk, OnErr, OnSome, IfSome, option_map};
-ghost use Rattle.hd_model.specs.State.{handle_at, use_of, given_of, without_handle, without_use};
-ghost use Rattle.hd_model.specs.State.{with_handle, block_of, IsFree, IsAllFree};
+ghost use Rattle.std.specs.Prelude.{◌≡◌, ℕ, ◌+◌, ◌*◌, ◌/◌, ◌<◌, ◌≤◌, false, Some, None, IsSome, IfOk, IfErr, OnOk, OnErr, OnSome, IfSome, option_map};
+ghost use Rattle.hd_model.specs.State.{handle_at, use_of, given_of, without_handle, without_use, with_handle, block_of, IsFree, IsAllFree};
 ghost use Rattle.hd_model.specs.Kinds.{is_paired};
 ghost use Rattle.hd_model.specs.Step.{blocks_needed, with_growth};
 ghost use Rattle.hd_model.specs.Ages.{lowered};

@@ -2,9 +2,9 @@
 //! the registers, with the journal of all that was done.
 #![tactic(auto)]
 
-mod caller_command;
 mod collection;
 mod commands;
+mod done;
 mod handles;
 mod listing;
 mod making;

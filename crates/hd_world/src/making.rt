@@ -1,23 +1,23 @@
 // `hnew` and `trim`: handles are made, and blocks come into use and go out of it.
-ghost use Rattle.std.specs.Prelude.{◌≡◌, ℕ, ◌+◌, ◌*◌, ◌<◌, ◌≤◌, Some, None, false};
-ghost use Rattle.std.specs.Prelude.{IfOk, IfErr, IfSome, OnErr, OnSome};
+ghost use Rattle.std.specs.Prelude.{◌≡◌, ℕ, ◌+◌, ◌*◌, ◌<◌, ◌≤◌, Some, None, false, IfOk, IfErr, IfSome, OnErr, OnSome};
 ghost use Rattle.hd_model.specs.declared.command.Cmd.TheVariants as cmds;
 ghost use Rattle.hd_model.specs.Kinds.{kind_of, is_paired};
 ghost use Rattle.hd_model.specs.State.{given_of, block_of, first_slot, IsFree, IsAllFree};
-ghost use Rattle.hd_model.specs.Step.{blocks_needed, StepOf};
+ghost use Rattle.hd_model.specs.Step.{blocks_needed};
 ghost use Rattle.hd_model.specs.Valid.{IsValidMake};
 ghost use Rattle.hd_model.specs.WellFormed.{HasHandles};
-ghost use Rattle.hd_model.specs.Aging.{aged_by, lowered_by_new};
+ghost use Rattle.hd_model.specs.Aging.{lowered_by_new};
 ghost use Rattle.hd_world.specs.Reading.{named_in, IsNamed};
 ghost use Rattle.hd_world.specs.Making.{IsPlace, IsMadeRow};
-ghost use Rattle.hd_world.specs.World.{GrowsUnoffered, IsOffer, Takes};
-ghost use Rattle.std.specs.Option.{ForSome};
+ghost use Rattle.hd_world.specs.World.{IsOffer};
+ghost use Rattle.hd_world.specs.Commands.{entry_of, done_of, IsDone};
+ghost use Rattle.hd_world.specs.declared.done.CallerCommand.{CallerCommand};
 
-use crate::caller_command::CallerCommand;
+use crate::done::{CallerCommand, Done};
 use crate::on_handles::lower_to;
 use crate::store::Store;
 use hd_model::limits::{BLOCKS, REGISTERS, ROWS};
-use hd_model::{Addr, Entry, Grown, Kind, Make, Refusal, Reply, Slot};
+use hd_model::{Addr, Grown, Kind, Make, Refusal, Reply, Slot};
 use hd_seg::{Extra, Full, Row};
 
 // The first slot of a block.
@@ -108,74 +108,49 @@ fn lower_for(store: &mut Store, slot: Slot, make: Make, target: Option<Addr>)
 /// `hnew hD KIND rT ..`: takes the offered slot or, without one, the first slot of a new block.
 pub(crate) fn new_handle(
     store: &mut Store,
-    asked: CallerCommand,
+    caller: u32,
     d: u8,
     make: Make,
     t: u8,
     offer: Option<Slot>,
-) -> Entry
+) -> Result<Done, Refusal>
     requires handles { HasHandles store.old.numbers store.old.state }
-    requires command { asked.cmd ≡ cmds.HNew d make t }
-    requires caller { asked.caller < store.old.numbers.callers }
+    requires caller { caller < store.old.numbers.callers }
     requires registers { (d < REGISTERS) × (t < REGISTERS) }
     requires make { IsValidMake make }
     requires offer { IfSome offer (IsFree store.old.state (kind_of make)) }
-    ensures caller { result.caller ≡ asked.caller }
-    ensures command { result.cmd ≡ asked.cmd }
-    ensures step { let cmd = cmds.HNew d make t in
-        StepOf store.old.numbers store.old.state result store.new.state cmd }
-    ensures numbers { store.new.numbers ≡ store.old.numbers }
-    ensures names { store.new.names ≡ store.old.names }
-    ensures ages { store.new.ages ≡ aged_by store.old.state result store.old.ages }
-    ensures offer { let cmd = cmds.HNew d make t in
-        ForSome offer (Takes result cmd) }
-    ensures growth { let cmd = cmds.HNew d make t in
-        GrowsUnoffered store.old.numbers store.old.state cmd offer result }
+    ensures { let asked : CallerCommand = record { caller = caller; cmd = cmds.HNew d make t } in
+        IsDone store.old asked offer store.new (entry_of asked (done_of result)) }
 {
-    let row = made_row(store, asked.caller, make, t);
+    let row = made_row(store, caller, make, t);
     let (slot, grown) = match place(store, make.kind(), offer) {
         Ok(place) => place,
-        Err(full) => return asked.refuse(Refusal::TableFull { given: full.given }),
+        Err(full) => return Err(Refusal::TableFull { given: full.given }),
     };
     lower_for(store, slot, make, row.target);
     store.put_row(slot, make.kind(), row);
-    store.set_handle_register(asked.caller, d, Some(slot));
-    Entry {
+    store.set_handle_register(caller, d, Some(slot));
+    Ok(Done {
         slot: Some(slot),
         grown,
-        ..asked.reply(Reply::Done)
-    }
+        ..Done::of(Reply::Done)
+    })
 }
 
 /// `trim KIND`: gives back the block of the offered slot or, without one, none.
-pub(crate) fn trim(
-    store: &mut Store,
-    asked: CallerCommand,
-    kind: Kind,
-    offer: Option<Slot>,
-) -> Entry
-    requires command { asked.cmd ≡ cmds.Trim kind }
+pub(crate) fn trim(store: &mut Store, caller: u32, kind: Kind, offer: Option<Slot>) -> Done
     requires single { is_paired kind ≡ false }
     requires offer { IsOffer store.old.state (cmds.Trim kind) offer }
-    ensures caller { result.caller ≡ asked.caller }
-    ensures command { result.cmd ≡ asked.cmd }
-    ensures step { let cmd = cmds.Trim kind in
-        StepOf store.old.numbers store.old.state result store.new.state cmd }
-    ensures numbers { store.new.numbers ≡ store.old.numbers }
-    ensures names { store.new.names ≡ store.old.names }
-    ensures ages { store.new.ages ≡ aged_by store.old.state result store.old.ages }
-    ensures offer { let cmd = cmds.Trim kind in
-        ForSome offer (Takes result cmd) }
-    ensures growth { let cmd = cmds.Trim kind in
-        GrowsUnoffered store.old.numbers store.old.state cmd offer result }
+    ensures { let asked : CallerCommand = record { caller = caller; cmd = cmds.Trim kind } in
+        IsDone store.old asked offer store.new (entry_of asked result) }
 {
     let Some(slot) = offer else {
-        return asked.reply(Reply::Value(0));
+        return Done::of(Reply::Value(0));
     };
     let block = slot.0 / ROWS;
     store.take_back(kind, block);
-    Entry {
+    Done {
         grown: Grown::Back(block),
-        ..asked.reply(Reply::Value(1))
+        ..Done::of(Reply::Value(1))
     }
 }

@@ -1,10 +1,8 @@
 // What a store does with objects.
-ghost use Rattle.std.specs.Prelude.{◌≡◌, ◌≢◌, ℕ, ◌+◌, ◌<◌, ◌≤◌, ◌^◌, length, slice_set};
-ghost use Rattle.std.specs.Prelude.{Some, None, IsSome, IfOk, IfErr, OnOk, MatchResult, MatchOption, max, ◌⊎◌, [], ◌∷◌};
+ghost use Rattle.std.specs.Prelude.{◌≡◌, ◌≢◌, ℕ, ◌+◌, ◌<◌, ◌≤◌, ◌^◌, length, slice_set, Some, None, IsSome, IfOk, IfErr, OnOk, MatchResult, MatchOption, max, ◌⊎◌, [], ◌∷◌};
 ghost use Rattle.std.specs.FinMap.{get, insert, len};
 ghost use Rattle.hd_heap.specs.Calls.{IsMade, new_object, IsRefused as IsRefusedBy};
-ghost use Rattle.hd_model.specs.State.{object_by_id, field_of, last_serial, identity_of, total_size};
-ghost use Rattle.hd_model.specs.State.{with_object, with_serial, with_queue};
+ghost use Rattle.hd_model.specs.State.{object_by_id, field_of, last_serial, identity_of, total_size, with_object, with_serial, with_queue};
 ghost use Rattle.hd_world.specs.Reading.{name_in, named_in, IsNamed};
 ghost use Rattle.hd_model.specs.Command.{fresh_object};
 ghost use Rattle.hd_world.specs.Objects.{object_named, IsObjectRefused};

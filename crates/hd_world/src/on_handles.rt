@@ -1,28 +1,23 @@
 // The commands on handles.
-ghost use Rattle.std.specs.Prelude.{◌≡◌, ◌+◌, ◌&&◌, ◌<◌, ◌≤◌, Some, None, IfOk, true, false};
-ghost use Rattle.std.specs.Prelude.{cond, is_some, MatchResult};
+ghost use Rattle.std.specs.Prelude.{◌≡◌, ◌+◌, ◌&&◌, ◌<◌, ◌≤◌, Ok, Some, None, IfOk, true, false, cond, is_some, MatchResult};
 ghost use Rattle.hd_model.specs.declared.data.Kind.TheVariants as kind;
 ghost use Rattle.hd_model.specs.declared.data.Refusal.TheVariants as refusal;
-ghost use Rattle.hd_model.specs.State.{block_of, handle_at, without_secondary};
+ghost use Rattle.hd_model.specs.State.{block_of, handle_at, without_secondary, register_of, handle_register_of};
 ghost use Rattle.hd_model.specs.Aging.{lowered_to, lowered_at, is_refused};
 ghost use Rattle.hd_model.specs.Table.{is_secondary};
+ghost use Rattle.hd_model.specs.Command.{get_target, set_target, set_secondary, get_secondary, set_strength, raise_count, lower_count, free_handle, with_count, put_board, pick_board};
 ghost use Rattle.hd_seg.specs.Row.{extra_of};
 ghost use Rattle.hd_world.specs.Reading.{named_in, IsNamed};
 ghost use Rattle.hd_world.specs.Counts.{HasSmallCounts};
-ghost use Rattle.hd_model.specs.State.{register_of, handle_register_of};
-ghost use Rattle.hd_model.specs.Command.{get_target, set_target, set_secondary, get_secondary};
-ghost use Rattle.hd_model.specs.Command.{set_strength, raise_count, lower_count, free_handle};
-ghost use Rattle.hd_model.specs.Command.{with_count};
-ghost use Rattle.hd_model.specs.Command.{put_board, pick_board};
 ghost use Rattle.hd_world.specs.Handles.{handle_named, MayStand};
-ghost use Rattle.hd_world.specs.Commands.{entry_of, after, live_in, as_found};
+ghost use Rattle.hd_world.specs.Commands.{ComesTo, ComesToAged, live_in, as_found};
 
-use crate::caller_command::CallerCommand;
+use crate::done::Done;
 use crate::handles::Live;
-use crate::on_objects::loaded;
+use crate::on_objects::load;
 use crate::store::Store;
 use hd_model::limits::REGISTERS;
-use hd_model::{Addr, Entry, Refusal, Reply, Slot, Strength};
+use hd_model::{Addr, Grown, Refusal, Reply, Slot, Strength};
 use hd_seg::{Extra, Row};
 
 /// The slot in a handle register with its handle, which is refused where the register is empty and
@@ -45,118 +40,83 @@ pub(crate) fn live_in(store: &Store, caller: u32, h: u8) -> Result<(Slot, Live),
 }
 
 /// `hget rD hS`.
-pub(crate) fn get_target(store: &mut Store, asked: CallerCommand, d: u8, s: u8) -> Entry
-    requires caller { asked.caller < store.old.numbers.callers }
+pub(crate) fn get_target(store: &mut Store, caller: u32, d: u8, s: u8) -> Result<Done, Refusal>
+    requires caller { caller < store.old.numbers.callers }
     requires registers { (d < REGISTERS) × (s < REGISTERS) }
-    ensures entry { let wanted = get_target store.old.state asked.caller d s in
-        result ≡ entry_of asked.caller asked.cmd wanted }
-    ensures store { let wanted = get_target store.old.state asked.caller d s in
-        store.new ≡ after store.old wanted }
+    ensures { ComesTo (get_target store.old.state caller d s) store.old store.new result }
 {
-    let (_, live) = match live_in(store, asked.caller, s) {
-        Ok(found) => found,
-        Err(refusal) => return asked.refuse(refusal),
-    };
-    let target = live.row.target;
-    let reply = loaded(store, target);
-    store.set_register(asked.caller, d, target);
-    asked.reply(reply)
+    let (_, live) = live_in(store, caller, s)?;
+    Ok(load(store, caller, d, live.row.target))
 }
 
 /// `hdep rD hS`.
-pub(crate) fn get_secondary(store: &mut Store, asked: CallerCommand, d: u8, s: u8) -> Entry
-    requires caller { asked.caller < store.old.numbers.callers }
+pub(crate) fn get_secondary(store: &mut Store, caller: u32, d: u8, s: u8) -> Result<Done, Refusal>
+    requires caller { caller < store.old.numbers.callers }
     requires registers { (d < REGISTERS) × (s < REGISTERS) }
-    ensures entry { let wanted = get_secondary store.old.state asked.caller d s in
-        result ≡ entry_of asked.caller asked.cmd wanted }
-    ensures store { let wanted = get_secondary store.old.state asked.caller d s in
-        store.new ≡ after store.old wanted }
+    ensures { ComesTo (get_secondary store.old.state caller d s) store.old store.new result }
 {
-    let (_, live) = match live_in(store, asked.caller, s) {
-        Ok(found) => found,
-        Err(refusal) => return asked.refuse(refusal),
-    };
+    let (_, live) = live_in(store, caller, s)?;
     let Extra::Secondary(secondary) = live.row.extra else {
-        return asked.refuse(Refusal::WrongKind);
+        return Err(Refusal::WrongKind);
     };
-    let reply = loaded(store, secondary);
-    store.set_register(asked.caller, d, secondary);
-    asked.reply(reply)
+    Ok(load(store, caller, d, secondary))
 }
 
 /// `hvar hS STRENGTH`.
 pub(crate) fn set_strength(
     store: &mut Store,
-    asked: CallerCommand,
+    caller: u32,
     s: u8,
     strength: Strength,
-) -> Entry
-    requires caller { asked.caller < store.old.numbers.callers }
+) -> Result<Done, Refusal>
+    requires caller { caller < store.old.numbers.callers }
     requires register { s < REGISTERS }
-    ensures entry { let wanted = set_strength store.old.state asked.caller s strength in
-        result ≡ entry_of asked.caller asked.cmd wanted }
-    ensures store { let wanted = set_strength store.old.state asked.caller s strength in
-        store.new ≡ after store.old wanted }
+    ensures { ComesTo (set_strength store.old.state caller s strength) store.old store.new result }
 {
-    let (slot, live) = match live_in(store, asked.caller, s) {
-        Ok(found) => found,
-        Err(refusal) => return asked.refuse(refusal),
-    };
+    let (slot, live) = live_in(store, caller, s)?;
     let Extra::Strength(_) = live.row.extra else {
-        return asked.refuse(Refusal::WrongKind);
+        return Err(Refusal::WrongKind);
     };
     let extra = Extra::Strength(strength);
     store.set_row(slot, live.kind, Row { extra, ..live.row });
-    asked.reply(Reply::Done)
+    Ok(Done::of(Reply::Done))
 }
 
 /// `hfree hS`.
-pub(crate) fn free_handle(store: &mut Store, asked: CallerCommand, s: u8) -> Entry
-    requires caller { asked.caller < store.old.numbers.callers }
+pub(crate) fn free_handle(store: &mut Store, caller: u32, s: u8) -> Result<Done, Refusal>
+    requires caller { caller < store.old.numbers.callers }
     requires register { s < REGISTERS }
-    ensures entry { let wanted = free_handle store.old.state asked.caller s in
-        result ≡ entry_of asked.caller asked.cmd wanted }
-    ensures store { let wanted = free_handle store.old.state asked.caller s in
-        store.new ≡ after store.old wanted }
+    ensures { ComesTo (free_handle store.old.state caller s) store.old store.new result }
 {
-    let (slot, _) = match live_in(store, asked.caller, s) {
-        Ok(found) => found,
-        Err(refusal) => return asked.refuse(refusal),
-    };
+    let (slot, _) = live_in(store, caller, s)?;
     store.take_row(slot);
-    store.set_handle_register(asked.caller, s, None);
-    Entry {
+    store.set_handle_register(caller, s, None);
+    Ok(Done {
         slot: Some(slot),
-        ..asked.reply(Reply::Done)
-    }
+        ..Done::of(Reply::Done)
+    })
 }
 
-/// `hput k hS`.
-pub(crate) fn put_board(store: &mut Store, asked: CallerCommand, k: u8, s: u8) -> Entry
-    requires caller { asked.caller < store.old.numbers.callers }
+/// Puts the slot of a handle register on the board.
+pub(crate) fn put_board(store: &mut Store, caller: u32, k: u8, s: u8) -> Done
+    requires caller { caller < store.old.numbers.callers }
     requires registers { (k < REGISTERS) × (s < REGISTERS) }
-    ensures entry { let wanted = put_board store.old.state asked.caller k s in
-        result ≡ entry_of asked.caller asked.cmd wanted }
-    ensures store { let wanted = put_board store.old.state asked.caller k s in
-        store.new ≡ after store.old wanted }
+    ensures { ComesTo (put_board store.old.state caller k s) store.old store.new (Ok result) }
 {
-    let slot = store.handle_register(asked.caller, s);
+    let slot = store.handle_register(caller, s);
     store.set_board(k, slot);
-    asked.reply(Reply::Done)
+    Done::of(Reply::Done)
 }
 
-/// `hpick hD k`.
-pub(crate) fn pick_board(store: &mut Store, asked: CallerCommand, d: u8, k: u8) -> Entry
-    requires caller { asked.caller < store.old.numbers.callers }
+/// Gives a handle register the slot at a board index.
+pub(crate) fn pick_board(store: &mut Store, caller: u32, d: u8, k: u8) -> Done
+    requires caller { caller < store.old.numbers.callers }
     requires registers { (d < REGISTERS) × (k < REGISTERS) }
-    ensures entry { let wanted = pick_board store.old.state asked.caller d k in
-        result ≡ entry_of asked.caller asked.cmd wanted }
-    ensures store { let wanted = pick_board store.old.state asked.caller d k in
-        store.new ≡ after store.old wanted }
+    ensures { ComesTo (pick_board store.old.state caller d k) store.old store.new (Ok result) }
 {
     let slot = store.board_at(k);
-    store.set_handle_register(asked.caller, d, slot);
-    asked.reply(Reply::Done)
+    store.set_handle_register(caller, d, slot);
+    Done::of(Reply::Done)
 }
 
 /// Lowers the age of a slot's clump to the generation of what is stored there. Null lowers none.
@@ -193,114 +153,87 @@ fn extra_beside(extra: Extra, target: Option<Addr>) -> Result<Extra, Refusal>
 }
 
 /// `hset hS rT`.
-pub(crate) fn set_target(store: &mut Store, asked: CallerCommand, s: u8, t: u8) -> Entry
-    requires caller { asked.caller < store.old.numbers.callers }
+pub(crate) fn set_target(store: &mut Store, caller: u32, s: u8, t: u8) -> Result<Done, Refusal>
+    requires caller { caller < store.old.numbers.callers }
     requires registers { (s < REGISTERS) × (t < REGISTERS) }
-    ensures entry { let wanted = set_target store.old.state asked.caller s t in
-        result ≡ entry_of asked.caller asked.cmd wanted }
-    ensures store { let wanted = set_target store.old.state asked.caller s t in
-        let slot = handle_register_of store.old.state asked.caller s in
-        let target = register_of store.old.state asked.caller t in
+    ensures { let wanted = set_target store.old.state caller s t in
+        let slot = handle_register_of store.old.state caller s in
+        let target = register_of store.old.state caller t in
         let lowered = lowered_to store.old.state store.old.ages slot target in
         let ages = cond (is_refused wanted.reply) store.old.ages lowered in
-        store.new ≡ record (after store.old wanted) { ages = ages } }
+        ComesToAged wanted ages store.old store.new result }
 {
-    let (slot, live) = match live_in(store, asked.caller, s) {
-        Ok(found) => found,
-        Err(refusal) => return asked.refuse(refusal),
-    };
-    let target = store.register(asked.caller, t);
-    let extra = match extra_beside(live.row.extra, target) {
-        Ok(extra) => extra,
-        Err(refusal) => return asked.refuse(refusal),
-    };
+    let (slot, live) = live_in(store, caller, s)?;
+    let target = store.register(caller, t);
+    let extra = extra_beside(live.row.extra, target)?;
     lower_to(store, slot, target);
     store.set_row(slot, live.kind, Row { target, extra });
-    asked.reply(Reply::Done)
+    Ok(Done::of(Reply::Done))
 }
 
 /// `hsec hS rS`.
-pub(crate) fn set_secondary(store: &mut Store, asked: CallerCommand, h: u8, s: u8) -> Entry
-    requires caller { asked.caller < store.old.numbers.callers }
+pub(crate) fn set_secondary(store: &mut Store, caller: u32, h: u8, s: u8) -> Result<Done, Refusal>
+    requires caller { caller < store.old.numbers.callers }
     requires registers { (h < REGISTERS) × (s < REGISTERS) }
-    ensures entry { let wanted = set_secondary store.old.state asked.caller h s in
-        result ≡ entry_of asked.caller asked.cmd wanted }
-    ensures store { let wanted = set_secondary store.old.state asked.caller h s in
-        let slot = handle_register_of store.old.state asked.caller h in
+    ensures { let wanted = set_secondary store.old.state caller h s in
+        let slot = handle_register_of store.old.state caller h in
         let lowered = lowered_at store.old.ages slot 0 in
         let ages = cond (is_refused wanted.reply) store.old.ages lowered in
-        store.new ≡ record (after store.old wanted) { ages = ages } }
+        ComesToAged wanted ages store.old store.new result }
 {
-    let (slot, live) = match live_in(store, asked.caller, h) {
-        Ok(found) => found,
-        Err(refusal) => return asked.refuse(refusal),
-    };
+    let (slot, live) = live_in(store, caller, h)?;
     let Extra::Secondary(_) = live.row.extra else {
-        return asked.refuse(Refusal::WrongKind);
+        return Err(Refusal::WrongKind);
     };
     if live.row.target.is_none() {
-        return asked.refuse(Refusal::Null);
+        return Err(Refusal::Null);
     }
-    let extra = Extra::Secondary(store.register(asked.caller, s));
+    let extra = Extra::Secondary(store.register(caller, s));
     store.lower_age(slot, 0);
     store.set_row(slot, live.kind, Row { extra, ..live.row });
-    asked.reply(Reply::Done)
+    Ok(Done::of(Reply::Done))
 }
 
 // A ref-counted handle gets a count, which is returned.
-fn set_count(store: &mut Store, asked: CallerCommand, slot: Slot, live: Live, count: u32) -> Entry
+fn set_count(store: &mut Store, slot: Slot, live: Live, count: u32) -> Done
     requires live { let named = handle_named store.old live.kind live.row in
         handle_at store.old.state slot ≡ Some named }
     requires may { MayStand store.old slot live.kind live.row }
     requires counted { live.kind ≡ kind.Counted }
-    ensures entry { let named = handle_named store.old live.kind live.row in
-        result ≡ entry_of asked.caller asked.cmd (with_count store.old.state slot named count) }
-    ensures store { let named = handle_named store.old live.kind live.row in
-        store.new ≡ after store.old (with_count store.old.state slot named count) }
+    ensures { let named = handle_named store.old live.kind live.row in
+        ComesTo (with_count store.old.state slot named count) store.old store.new (Ok result) }
 {
     let extra = Extra::Count(count);
     store.set_row(slot, live.kind, Row { extra, ..live.row });
-    asked.reply(Reply::Value(u64::from(count)))
+    Done::of(Reply::Value(u64::from(count)))
 }
 
 /// `hup hS`.
-pub(crate) fn raise_count(store: &mut Store, asked: CallerCommand, s: u8) -> Entry
-    requires caller { asked.caller < store.old.numbers.callers }
+pub(crate) fn raise_count(store: &mut Store, caller: u32, s: u8) -> Result<Done, Refusal>
+    requires caller { caller < store.old.numbers.callers }
     requires register { s < REGISTERS }
     requires small { HasSmallCounts store.old.state }
-    ensures entry { let wanted = raise_count store.old.state asked.caller s in
-        result ≡ entry_of asked.caller asked.cmd wanted }
-    ensures store { let wanted = raise_count store.old.state asked.caller s in
-        store.new ≡ after store.old wanted }
+    ensures { ComesTo (raise_count store.old.state caller s) store.old store.new result }
 {
-    let (slot, live) = match live_in(store, asked.caller, s) {
-        Ok(found) => found,
-        Err(refusal) => return asked.refuse(refusal),
-    };
+    let (slot, live) = live_in(store, caller, s)?;
     let Extra::Count(count) = live.row.extra else {
-        return asked.refuse(Refusal::WrongKind);
+        return Err(Refusal::WrongKind);
     };
-    set_count(store, asked, slot, live, count + 1)
+    Ok(set_count(store, slot, live, count + 1))
 }
 
 /// `hdown hS`.
-pub(crate) fn lower_count(store: &mut Store, asked: CallerCommand, s: u8) -> Entry
-    requires caller { asked.caller < store.old.numbers.callers }
+pub(crate) fn lower_count(store: &mut Store, caller: u32, s: u8) -> Result<Done, Refusal>
+    requires caller { caller < store.old.numbers.callers }
     requires register { s < REGISTERS }
-    ensures entry { let wanted = lower_count store.old.state asked.caller s in
-        result ≡ entry_of asked.caller asked.cmd wanted }
-    ensures store { let wanted = lower_count store.old.state asked.caller s in
-        store.new ≡ after store.old wanted }
+    ensures { ComesTo (lower_count store.old.state caller s) store.old store.new result }
 {
-    let (slot, live) = match live_in(store, asked.caller, s) {
-        Ok(found) => found,
-        Err(refusal) => return asked.refuse(refusal),
-    };
+    let (slot, live) = live_in(store, caller, s)?;
     let Extra::Count(count) = live.row.extra else {
-        return asked.refuse(Refusal::WrongKind);
+        return Err(Refusal::WrongKind);
     };
     if count == 0 {
-        return asked.refuse(Refusal::CountZero);
+        return Err(Refusal::CountZero);
     }
-    set_count(store, asked, slot, live, count - 1)
+    Ok(set_count(store, slot, live, count - 1))
 }

@@ -4,16 +4,16 @@ ghost use Rattle.std.specs.FinMap.{FinMap, get};
 ghost use Rattle.std.specs.Ordering.{nat_cmp};
 ghost use Rattle.hd_model.specs.declared.command.Cmd.TheVariants as cmds;
 ghost use Rattle.hd_model.specs.Role.{pins_by, pins_by_strength};
-ghost use Rattle.hd_model.specs.Aging.{aged_by};
 ghost use Rattle.hd_seg.specs.Row.{extra_of};
 ghost use Rattle.hd_world.specs.Places.{HasPlace, KeepsPlaces};
-ghost use Rattle.hd_world.specs.Commands.{pinned_in, as_pinned};
+ghost use Rattle.hd_world.specs.Commands.{pinned_in, as_pinned, entry_of, done_of};
+ghost use Rattle.hd_world.specs.declared.done.CallerCommand.{CallerCommand};
 
-use crate::caller_command::CallerCommand;
+use crate::done::Done;
 use crate::on_handles::live_in;
 use crate::store::Store;
 use hd_model::limits::REGISTERS;
-use hd_model::{Addr, Entry, Kind, Refusal, Reply, Strength};
+use hd_model::{Addr, Kind, Refusal, Reply, Strength};
 use hd_seg::Extra;
 
 // Whether a strength pins.
@@ -71,17 +71,14 @@ fn pinned_in(store: &Store, caller: u32, h: u8) -> Result<Addr, Refusal>
 }
 
 /// `addr hS`.
-pub(crate) fn answer_place(store: &Store, asked: CallerCommand, h: u8) -> Entry
-    requires command { asked.cmd ≡ cmds.AddrOf h }
-    requires caller { asked.caller < store.now.numbers.callers }
+pub(crate) fn answer_place(store: &Store, caller: u32, h: u8) -> Result<Done, Refusal>
+    requires caller { caller < store.now.numbers.callers }
     requires register { h < REGISTERS }
-    ensures caller { result.caller ≡ asked.caller }
-    ensures command { result.cmd ≡ asked.cmd }
-    ensures moves { KeepsPlaces store.now result store.now }
-    ensures ages { store.now.ages ≡ aged_by store.now.state result store.now.ages }
+    ensures { let asked : CallerCommand = record { caller = caller; cmd = cmds.AddrOf h } in
+        KeepsPlaces store.now (entry_of asked (done_of result)) store.now }
 {
-    match pinned_in(store, asked.caller, h) {
-        Ok(at) => asked.reply(Reply::Place(store.place(at))),
-        Err(refusal) => asked.refuse(refusal),
+    match pinned_in(store, caller, h) {
+        Ok(at) => Ok(Done::of(Reply::Place(store.place(at)))),
+        Err(refusal) => Err(refusal),
     }
 }

@@ -1,10 +1,6 @@
-ghost use Rattle.std.specs.Prelude.{◌≡◌, ℕ, ◌+◌, ◌*◌, ◌<◌, ◌≤◌, ◌^◌, replicate};
-ghost use Rattle.std.specs.Prelude.{None, IfOk};
+ghost use Rattle.std.specs.Prelude.{◌≡◌, ℕ, ◌+◌, ◌*◌, ◌<◌, ◌≤◌, ◌^◌, replicate, None, IfOk};
 ghost use Rattle.std.specs.FinMap.{len, empty};
-ghost use Rattle.hd_model.specs.State.{Numbers, start_of, register_of, handle_register_of};
-ghost use Rattle.hd_model.specs.State.{static_of, board_of, total_size};
-ghost use Rattle.hd_model.specs.State.{with_register, with_handle_register, with_static};
-ghost use Rattle.hd_model.specs.State.{with_board};
+ghost use Rattle.hd_model.specs.State.{Numbers, start_of, register_of, handle_register_of, static_of, board_of, total_size, with_register, with_handle_register, with_static, with_board};
 ghost use Rattle.hd_world.specs.Reading.{named_in, IsNamed};
 ghost use Rattle.hd_world.specs.Store.{IsOverHeap};
 
@@ -38,32 +34,15 @@ pub(crate) struct Store {
 impl Model for Store {
     ghost use Rattle.hd_world.specs.Store.{Machine, machine_of, machine_code};
     ghost use Rattle.hd_world.specs.Stored.{IsStored};
+    ghost use Rattle.hd_world.specs.StoreParts.{parts};
 
     ghost Value = { Machine };
 
     ghost coded = { machine_code };
 
-    ghost view = { λ s. machine_of (record {
-      heap = s.heap;
-      table = s.table;
-      ages = s.ages;
-      queue = s.queue;
-      roots = s.roots.items;
-      handle_registers = s.handle_registers.items;
-      board = s.board;
-      serials = s.serials.items;
-    }) };
+    ghost view = { λ s. machine_of (parts s) };
 
-    ghost invariant = { λ s. IsStored (record {
-      heap = s.heap;
-      table = s.table;
-      ages = s.ages;
-      queue = s.queue;
-      roots = s.roots.items;
-      handle_registers = s.handle_registers.items;
-      board = s.board;
-      serials = s.serials.items;
-    }) };
+    ghost invariant = { λ s. IsStored (parts s) };
 }
 
 // `count` copies of a value.

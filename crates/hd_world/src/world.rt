@@ -1,28 +1,26 @@
-ghost use Rattle.std.specs.Prelude.{◌≡◌, ◌+◌, ◌<◌, ◌≤◌, ◌^◌, [], ◌∷◌, ◌++◌, length, IsTrue, IfOk};
-ghost use Rattle.std.specs.Prelude.{OnOk, OnErr};
-ghost use Rattle.std.specs.Option.{ForSome};
+ghost use Rattle.std.specs.Prelude.{◌≡◌, ◌+◌, ◌<◌, ◌≤◌, ◌^◌, [], length, IsTrue, IfOk, OnErr};
 ghost use Rattle.std.specs.FinMap.{len};
 ghost use Rattle.hd_model.specs.State.{Numbers, start_of, use_of, block_of};
-ghost use Rattle.hd_model.specs.Step.{Step};
 ghost use Rattle.hd_model.specs.Run.{Run};
-ghost use Rattle.hd_model.specs.Aging.{AgedRun, aged_by};
+ghost use Rattle.hd_model.specs.Aging.{AgedRun};
 ghost use Rattle.hd_model.specs.Valid.{IsValid, takes_memory};
 ghost use Rattle.hd_model.specs.RootText.{roots_of};
 ghost use Rattle.hd_model.specs.Text.{collections_of, is_collect};
 ghost use Rattle.hd_world.specs.Growth.{kind_in_use};
 ghost use Rattle.hd_world.specs.Placed.{Placed, Placed-prop};
-ghost use Rattle.hd_world.specs.World.{HasLimits, IsOffer, GrowsWithout, Takes, FitsHeap};
-ghost use Rattle.hd_world.specs.StateHeap.{IsOfHeap, KeepsAddresses, LeavesHeap};
+ghost use Rattle.hd_world.specs.Applied.{Applied};
+ghost use Rattle.hd_world.specs.World.{HasLimits, IsOffer, FitsHeap};
+ghost use Rattle.hd_world.specs.StateHeap.{IsOfHeap};
 ghost use Rattle.hd_world.specs.Visited.{TakesSteps};
 
-use crate::caller_command::CallerCommand;
 use crate::commands;
+use crate::done::CallerCommand;
 use crate::store::Store;
 use hd_model::limits::{BLOCKS, CALLERS, HEAP};
-use hd_model::{Cmd, Entry, Held, Journal, Kind, Memory, RootId, Slot, Steps};
+use hd_model::{Class, Cmd, Entry, Held, Journal, Kind, Memory, RootId, Slot, Steps};
 use std::alloc::Global;
-use std::marker::Model;
-use std::sync::ledger::Ledger;
+use std::marker::{Brand, Model};
+use std::sync::ledger::{Blank, Ledger};
 use std::thread::Threads;
 
 /// A world of objects and handles, seen as its numbers, its state, the ages of its clumps, its
@@ -115,31 +113,15 @@ impl World {
         requires caller { caller < self.old.numbers.callers }
         requires valid { IsValid cmd }
         requires offer { IsOffer self.old.state cmd offer }
-        // The returned entry is of this command and is appended. It is a step from the state
-        // before to the one after, and ages the clumps.
-        ensures command { IfOk result (λ e. (e.caller ≡ caller) × (e.cmd ≡ cmd)) }
-        ensures journal { IfOk result (λ e. self.new.journal ≡ self.old.journal ++ e ∷ []) }
-        ensures spare { OnOk result (self.new.spare + 1 ≡ self.old.spare) }
-        ensures step { IfOk result (λ e. Step self.old.numbers self.old.state e self.new.state) }
-        ensures ages { IfOk result (λ e. self.new.ages ≡ aged_by self.old.state e self.old.ages) }
-        ensures numbers { self.new.numbers ≡ self.old.numbers }
-        // An offer is taken. Without one `hnew` grows, or finds the table full exactly where too
-        // few blocks are without a use, and `trim` gives nothing back.
-        ensures offer { IfOk result (λ e. ForSome offer (Takes e cmd)) }
-        ensures growth { IfOk result (λ e. GrowsWithout self.old cmd offer e) }
+        ensures done { IfOk result (Applied self.old caller cmd offer self.new) }
         // Only commands that may take memory run out of it. A full heap is reported first.
         ensures memory { OnErr result (IsTrue (takes_memory cmd)) }
         ensures fits { OnErr result (FitsHeap self.old.numbers self.old.state cmd) }
         ensures unchanged { OnErr result (self.new ≡ self.old) }
-        // A collection leaves exactly the needed cards set, and one of generation 2 leaves the heap
-        // compact. It takes a step for each visit of a due clump; no other command takes one.
-        ensures heap { IfOk result (λ e. LeavesHeap e self.new.state.handles self.new.heap) }
+        // A collection takes a step for each visit of a due clump; no other command takes one.
         ensures steps { let s = self.old.state in let ages = self.old.ages in
             IfOk result (λ e. TakesSteps s ages e steps.old steps.new) }
         ensures unstepped { OnErr result (steps.new ≡ steps.old) }
-        // `addr` returns the object's address, which it keeps while a handle pins it, and over all
-        // commands but collections.
-        ensures addresses { IfOk result (λ e. KeepsAddresses e self.old self.new) }
     {
         // Read for the proof alone: the journal's length bounds the serials and the counts, and
         // the store is one over its heap.
@@ -149,6 +131,47 @@ impl World {
         let _after = self.store.objects();
         self.journal.push(entry);
         Ok(entry)
+    }
+
+    /// Does the same where nobody asks for the steps.
+    pub fn apply_uncounted(
+        &mut self,
+        caller: u32,
+        cmd: Cmd,
+        offer: Option<Slot>,
+    ) -> Result<Entry, Memory>
+        requires room { 1 ≤ self.old.spare }
+        requires caller { caller < self.old.numbers.callers }
+        requires valid { IsValid cmd }
+        requires offer { IsOffer self.old.state cmd offer }
+        ensures done { IfOk result (Applied self.old caller cmd offer self.new) }
+        ensures memory { OnErr result (IsTrue (takes_memory cmd)) }
+        ensures fits { OnErr result (FitsHeap self.old.numbers self.old.state cmd) }
+        ensures unchanged { OnErr result (self.new ≡ self.old) }
+    {
+        self.apply_on::<Brand>(caller, cmd, offer, Blank::new(1))
+    }
+
+    // The same, with a counter that nothing reads.
+    fn apply_on<L: Ledger>(
+        &mut self,
+        caller: u32,
+        cmd: Cmd,
+        offer: Option<Slot>,
+        blank: Blank,
+    ) -> Result<Entry, Memory>
+        requires blank { (L.name ≡ blank.name) × (L.parts ≡ blank.parts) × (0 < blank.parts) }
+        requires room { 1 ≤ self.old.spare }
+        requires caller { caller < self.old.numbers.callers }
+        requires valid { IsValid cmd }
+        requires offer { IsOffer self.old.state cmd offer }
+        ensures done { IfOk result (Applied self.old caller cmd offer self.new) }
+        ensures memory { OnErr result (IsTrue (takes_memory cmd)) }
+        ensures fits { OnErr result (FitsHeap self.old.numbers self.old.state cmd) }
+        ensures unchanged { OnErr result (self.new ≡ self.old) }
+    {
+        let mut steps = Steps::<L>::open(blank);
+        self.apply(caller, cmd, offer, &mut steps)
     }
 
     /// The journal. Its world has a state that is read from its heap, and numbers within limits.
@@ -210,8 +233,7 @@ impl World {
     {
         let mut count = 0;
         for i in 0..self.journal.len() {
-            let cmd = self.journal.entry(i).cmd;
-            if is_collect(cmd) {
+            if is_collect(self.journal.entry(i).cmd) {
                 count += 1;
             }
         }
@@ -223,5 +245,5 @@ impl World {
 fn is_collect(cmd: Cmd) -> bool
     ensures { result ≡ is_collect cmd }
 {
-    matches!(cmd, Cmd::Collect { .. })
+    matches!(cmd.class(), Class::Collects(_))
 }

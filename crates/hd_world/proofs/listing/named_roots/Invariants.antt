@@ -1,4 +1,4 @@
-use Rattle.std.proofs.Common.{◌≡◌, map, take}
+use Rattle.hd_world.proofs.StoreWords.{◌≡◌, map, take}
 use Rattle.hd_world.specs.Listing.{root_named}
 use Rattle.hd_world.proofs.listing.named_roots.Given as goal
 

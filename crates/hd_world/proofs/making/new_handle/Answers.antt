@@ -1,5 +1,4 @@
-use Rattle.std.proofs.Common.{sym, subst}
-use Rattle.hd_world.specs.Handles.{MayStand}
+use Rattle.hd_world.proofs.StoreWords.{sym, subst, MayStand}
 use Rattle.hd_world.proofs.MadeRowAge.{made_may}
 use Rattle.hd_world.proofs.making.new_handle.Goals as goal
 
@@ -7,5 +6,5 @@ pub put_row-requires-clause-may : goal.put_row-requires-clause-may
 put_row-requires-clause-may c =
     subst (λ k. MayStand c.lower_for.new.store c.in-Ok.place.0 k c.made_row-row.result) (sym c.kind-2.ensures)
     (made_may c.args.store.now c.place.new.store c.lower_for.new.store c.kind.result c.in-Ok.place.1
-    c.in-Ok.place.0 c.args.asked.caller c.args.t c.args.make c.made_row-row.result
+    c.in-Ok.place.0 c.args.caller c.args.t c.args.make c.made_row-row.result
     c.in-Ok.ensures.place.store c.lower_for.ensures c.made_row-row.ensures)

@@ -1,6 +1,4 @@
-use Rattle.std.proofs.Common.{◌≡◌, subst}
-use Rattle.hd_world.specs.Growth.{GrowsBy}
-use Rattle.hd_model.specs.Step.{with_growth}
+use Rattle.hd_world.proofs.StoreWords.{◌≡◌, subst, GrowsBy, with_growth}
 use Rattle.hd_world.proofs.NewBlockSlot.{placed_one, placed_two}
 use Rattle.hd_world.proofs.making.new_place.Goals as goal
 

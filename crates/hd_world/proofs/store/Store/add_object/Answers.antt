@@ -1,21 +1,11 @@
-use Rattle.std.proofs.Common.{◌≡◌, ◌+◌, ◌<◌, None, length, sym, ap, ◌∙◌, subst, arith}
-use Rattle.std.specs.Prelude.{Option, is_some}
-use Rattle.std.specs.FinMap.{get}
+use Rattle.hd_world.proofs.StoreWords.{parts, ◌≡◌, ◌+◌, ◌<◌, None, length, sym, ap, ◌∙◌, subst, arith, Option, is_some, get, length-replicate, Addr, used_of, last_serial, identity_of, total_size, Machine, KeepsNames, get_inserted}
 use Rattle.std.proofs.lemmas.Grind.{get_or_default_zero}
-use Rattle.std.proofs.lemmas.List.{length-replicate}
-use Rattle.hd_model.specs.declared.data.Addr.{Addr}
-use Rattle.hd_model.specs.Heap.{used_of}
-use Rattle.hd_model.specs.State.{last_serial, identity_of, total_size}
 use Rattle.hd_heap.specs.Calls.{new_object, IsMade, IsRefused as IsRefusedBy}
-use Rattle.hd_world.specs.Store.{Machine}
-use Rattle.hd_world.specs.Places.{KeepsNames}
-use Rattle.hd_world.proofs.EntryMaps.{get-put}
 use Rattle.hd_world.proofs.StateCounts.{used-is}
 use Rattle.hd_world.proofs.Sizes.{few_objects}
-use Rattle.hd_world.proofs.StoreParts.{parts}
 use Rattle.hd_world.proofs.StoreNew.{stored-next, machine-next, names-next, refused-next, stored-refused, roomier, room_enough, either_roomier}
-use Rattle.hd_world.proofs.store.Store.add_object.Goals as goal
 use Rattle.hd_world.proofs.store.Store.add_object.Goals.{After-from}
+use Rattle.hd_world.proofs.store.Store.add_object.Goals as goal
 
 -- the serial of the new object
 last : (c : After-from) → c.index.result.now + 1 ≡ last_serial c.args.self.now.state c.args.caller + 1
@@ -84,7 +74,7 @@ returns-in-Ok-clause-fits c =
 pub returns-in-Ok-clause-known : goal.returns-in-Ok-clause-known
 returns-in-Ok-clause-known c = ap (λ (m : Machine). is_some (get m.names c.in-Ok.at.0))
     (returns-in-Ok-clause-made c) ∙ ap is_some
-    (get-put c.args.self.now.names c.in-Ok.at.0
+    (get_inserted c.args.self.now.names c.in-Ok.at.0
     (identity_of c.args.caller (last_serial c.args.self.now.state c.args.caller + 1)))
 
 pub returns-in-Ok-clause-kept : goal.returns-in-Ok-clause-kept

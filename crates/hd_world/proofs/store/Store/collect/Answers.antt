@@ -4,17 +4,18 @@ use Rattle.hd_world.specs.Stored.{IsStored}
 use Rattle.hd_world.specs.Store.{machine_of}
 use Rattle.hd_world.specs.Places.{HasCollected}
 use Rattle.hd_world.specs.Visited.{CollectedSteps}
-use Rattle.hd_world.proofs.StoreParts.{parts}
+use Rattle.hd_gc.specs.Ready.{parts as lent}
+use Rattle.hd_world.specs.StoreParts.{parts}
 use Rattle.hd_world.proofs.StoreCollect.{IsAnswer, left_parts, lent-roots, stored-after, machine-after}
 use Rattle.hd_world.proofs.store.Store.collect.Given.{Over}
 use Rattle.hd_world.proofs.store.Store.collect.Goals as goal
 
 answer : (g : Over) (c : goal.After-self-1 g)
-    → IsAnswer (parts c.self.inside) c.collect.new.heap c.collect.new.seg c.collect.new.ages c.collect.new.fin
-    c.collect.new.roots c.args.n c.args.steps.now c.collect.new.steps c.collect.result
+    → IsAnswer (parts c.self.inside) (lent c.collect.new.heap c.collect.new.seg c.collect.new.ages
+    c.collect.new.fin c.collect.new.roots) c.args.n c.args.steps.now c.collect.new.steps c.collect.result
 answer g c =
-    subst (λ roots. IsAnswer (record (parts c.self.inside) { roots = roots }) c.collect.new.heap
-    c.collect.new.seg c.collect.new.ages c.collect.new.fin c.collect.new.roots c.args.n c.args.steps.now
+    subst (λ roots. IsAnswer (record (parts c.self.inside) { roots = roots }) (lent c.collect.new.heap
+    c.collect.new.seg c.collect.new.ages c.collect.new.fin c.collect.new.roots) c.args.n c.args.steps.now
     c.collect.new.steps c.collect.result)
     c.deref_mut.ensures.value c.collect.ensures
 

@@ -1,8 +1,4 @@
-use Rattle.std.proofs.Common.{◌<◌, length, sym, ap, ◌∙◌, subst}
-use Rattle.hd_world.proofs.StoreParts.{parts}
-use Rattle.hd_model.specs.State.{field_of}
-use Rattle.hd_world.specs.Reading.{named_in, IsNamed}
-use Rattle.hd_world.specs.Objects.{object_named}
+use Rattle.hd_world.proofs.StoreWords.{parts, ◌<◌, length, sym, ap, ◌∙◌, subst, field_of, named_in, IsNamed, object_named}
 use Rattle.hd_world.proofs.NamedAddresses.{in_heap, count-is, field-is, field-named}
 use Rattle.hd_world.proofs.store.Store.field.Goals as goal
 

@@ -1,4 +1,4 @@
-use Rattle.hd_world.proofs.StoreParts.{parts}
+use Rattle.hd_world.proofs.StoreWords.{parts}
 use Rattle.hd_world.proofs.StoreRows.{stored-grown}
 use Rattle.hd_world.proofs.store.Store.grow.Goals as goal
 

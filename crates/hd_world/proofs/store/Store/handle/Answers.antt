@@ -1,10 +1,5 @@
-use Rattle.std.proofs.Common.{sym, ap, ◌∙◌}
-use Rattle.std.specs.Prelude.{option_map}
-use Rattle.hd_model.specs.State.{rename_handle}
-use Rattle.hd_model.specs.Heap.{id_at}
+use Rattle.hd_world.proofs.StoreWords.{parts, sym, ap, ◌∙◌, option_map, rename_handle, id_at, handle_named}
 use Rattle.hd_world.specs.declared.handles.Live.{Live}
-use Rattle.hd_world.specs.Handles.{handle_named}
-use Rattle.hd_world.proofs.StoreParts.{parts}
 use Rattle.hd_world.proofs.StoreRows.{row-read}
 use Rattle.hd_world.proofs.SlotHandle.{no_row, kind-there, handle-is, handle-may}
 use Rattle.hd_world.proofs.store.Store.handle.Goals as goal

@@ -1,5 +1,4 @@
-use Rattle.std.proofs.Common.{◌∙◌}
-use Rattle.hd_world.proofs.StoreParts.{parts}
+use Rattle.hd_world.proofs.StoreWords.{parts, ◌∙◌}
 use Rattle.hd_world.proofs.NamedAddresses.{in_heap, identity-is}
 use Rattle.hd_world.proofs.store.Store.id.Goals as goal
 

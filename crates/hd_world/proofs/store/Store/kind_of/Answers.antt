@@ -1,8 +1,7 @@
-use Rattle.std.proofs.Common.{◌/◌, arith}
-use Rattle.hd_world.proofs.StoreParts.{parts}
+use Rattle.hd_world.proofs.StoreWords.{parts, ◌/◌, arith}
 use Rattle.hd_world.proofs.StoreRows.{kind-outside}
-use Rattle.hd_world.proofs.store.Store.kind_of.Goals as goal
 use Rattle.hd_world.proofs.store.Store.kind_of.Goals.{then-block-eq0-via-then-block-eq0, then-block-eq0-via-else-block-eq0+then-block-blocks}
+use Rattle.hd_world.proofs.store.Store.kind_of.Goals as goal
 
 pub returns-then-block-eq0 : goal.returns-then-block-eq0
 returns-then-block-eq0 c =

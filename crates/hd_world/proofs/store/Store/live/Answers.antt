@@ -1,6 +1,4 @@
-use Rattle.std.proofs.Common.{sym, ap, ◌∙◌}
-use Rattle.std.specs.FinMap.{len}
-use Rattle.hd_world.specs.Store.{Machine}
+use Rattle.hd_world.proofs.StoreWords.{sym, ap, ◌∙◌, len, Machine}
 use Rattle.hd_world.proofs.StateCounts.{len-rows}
 use Rattle.hd_world.proofs.store.Store.live.Goals as goal
 

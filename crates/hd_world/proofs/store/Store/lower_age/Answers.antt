@@ -1,11 +1,7 @@
-use Rattle.std.proofs.Common.{◌≡◌, sym, ap, ◌∙◌, subst, refl, arith}
-use Rattle.hd_model.specs.Ages.{lowered}
-use Rattle.hd_world.specs.Stored.{IsStored}
-use Rattle.hd_world.specs.Store.{Machine, machine_of}
-use Rattle.hd_world.proofs.StoreParts.{parts}
+use Rattle.hd_world.proofs.StoreWords.{parts, ◌≡◌, sym, ap, ◌∙◌, subst, refl, arith, lowered, IsStored, Machine, machine_of}
 use Rattle.hd_world.proofs.AgeLower.{with_ages, stored-lowered}
-use Rattle.hd_world.proofs.store.Store.lower_age.Goals as goal
 use Rattle.hd_world.proofs.store.Store.lower_age.Goals.{After-lower}
+use Rattle.hd_world.proofs.store.Store.lower_age.Goals as goal
 
 pub lower-requires-clause-low : goal.lower-requires-clause-low
 lower-requires-clause-low c = c.requires.low

@@ -1,4 +1,4 @@
-use Rattle.hd_world.proofs.StoreParts.{parts}
+use Rattle.hd_world.proofs.StoreWords.{parts}
 use Rattle.hd_world.proofs.QueueTake.{stored-popped, machine-popped, named-popped}
 use Rattle.hd_world.proofs.store.Store.next_queued.Goals as goal
 

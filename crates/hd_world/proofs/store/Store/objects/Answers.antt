@@ -1,8 +1,5 @@
-use Rattle.std.proofs.Common.{sym, ap, ◌∙◌}
-use Rattle.std.specs.FinMap.{len}
-use Rattle.hd_world.specs.Store.{Machine}
+use Rattle.hd_world.proofs.StoreWords.{parts, sym, ap, ◌∙◌, len, Machine}
 use Rattle.hd_world.proofs.StateCounts.{len-objects}
-use Rattle.hd_world.proofs.StoreParts.{parts}
 use Rattle.hd_world.proofs.StateHeap.{over-heap}
 use Rattle.hd_world.proofs.store.Store.objects.Goals as goal
 

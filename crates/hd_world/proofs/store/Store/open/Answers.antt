@@ -1,7 +1,4 @@
-use Rattle.std.proofs.Common.{refl, ap, subst, ◌∙◌, ◌≡◌, replicate, None}
-use Rattle.hd_model.specs.State.{start_of}
-use Rattle.hd_world.specs.Reading.{names_of}
-use Rattle.hd_world.specs.Stored.{IsStored, state_of, numbers_of}
+use Rattle.hd_world.proofs.StoreWords.{refl, ap, subst, ◌∙◌, ◌≡◌, replicate, None, start_of, names_of, IsStored, state_of, numbers_of}
 use Rattle.hd_world.proofs.StoreOpen.{opened, are_opened, stored-opened, names-opened, state-opened}
 use Rattle.hd_world.proofs.store.Store.open.Goals as goal
 

@@ -1,4 +1,4 @@
-use Rattle.hd_world.proofs.StoreParts.{parts}
+use Rattle.hd_world.proofs.StoreWords.{parts}
 use Rattle.hd_world.proofs.PinnedAddress.{has-place}
 use Rattle.hd_world.proofs.store.Store.place.Goals as goal
 

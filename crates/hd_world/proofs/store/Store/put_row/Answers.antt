@@ -1,13 +1,8 @@
-use Rattle.std.proofs.Common.{◌≡◌, ◌/◌, true, Some, sym, ap, ◌∙◌, subst}
-use Rattle.hd_model.specs.State.{handles_of}
-use Rattle.hd_model.specs.Table.{with_row, fits_in}
+use Rattle.hd_world.proofs.StoreWords.{parts, ◌≡◌, ◌/◌, true, Some, sym, ap, ◌∙◌, subst, handles_of, with_row, fits_in}
 use Rattle.hd_seg.specs.Row.{handle_of, extra_of}
-use Rattle.hd_world.specs.Stored.{IsStored}
-use Rattle.hd_world.specs.Store.{machine_of}
-use Rattle.hd_world.proofs.StoreParts.{parts}
-use Rattle.hd_world.proofs.StoreRows.{with_table, stored-put, machine-put, may-stand, vacant-row, use-read, kind-read}
-use Rattle.hd_world.proofs.store.Store.put_row.Goals as goal
+use Rattle.hd_world.proofs.StoreRows.{vacant-row, use-read, kind-read, row-put}
 use Rattle.hd_world.proofs.store.Store.put_row.Goals.{After-put_row}
+use Rattle.hd_world.proofs.store.Store.put_row.Goals as goal
 
 pub put_row-requires-clause-vacant : goal.put_row-requires-clause-vacant
 put_row-requires-clause-vacant c =
@@ -28,13 +23,10 @@ after c =
 
 pub invariant_of-self : goal.invariant_of-self
 invariant_of-self c =
-    let f = parts c.self.inside in
-    subst (λ t. IsStored (with_table f t)) (sym (after c))
-    (stored-put f c.args.slot.0 (handle_of c.args.kind c.args.row) c.self.invariant
-    (may-stand f c.args.self.now c.self.view_is c.self.invariant c.args.slot c.args.kind c.args.row
-    c.requires.may))
+    (row-put (parts c.self.inside) c.args.self.now c.self.view_is c.self.invariant c.args.slot c.args.kind
+    c.args.row c.requires.may c.put_row.new.self (after c)).0
 
 pub returns : goal.returns
 returns c =
-    ap (λ t. machine_of (with_table (parts c.self.inside) t)) (after c)
-    ∙ machine-put (parts c.self.inside) c.args.self.now c.self.view_is c.args.slot c.args.kind c.args.row
+    (row-put (parts c.self.inside) c.args.self.now c.self.view_is c.self.invariant c.args.slot c.args.kind
+    c.args.row c.requires.may c.put_row.new.self (after c)).1

@@ -1,5 +1,4 @@
-use Rattle.std.proofs.Common.{◌+◌, ◌*◌}
-use Rattle.hd_world.proofs.StoreParts.{parts}
+use Rattle.hd_world.proofs.StoreWords.{parts, ◌+◌, ◌*◌}
 use Rattle.hd_world.proofs.RootAccess.{register-is, register-within, root-named}
 use Rattle.hd_world.proofs.store.Store.register.Goals as goal
 

@@ -1,10 +1,7 @@
-use Rattle.std.proofs.Common.{◌≡◌, ◌∙◌, All, true, map, List, sym, ap, subst}
-use Rattle.hd_model.specs.Heap.{has_object}
+use Rattle.hd_world.proofs.StoreWords.{parts, ◌≡◌, ◌∙◌, All, true, map, List, sym, ap, subst, has_object, Machine}
 use Rattle.hd_model.specs.RootText.{roots_of}
 use Rattle.hd_scan.specs.declared.gathering.Root.{Root}
 use Rattle.hd_world.specs.Listing.{root_named}
-use Rattle.hd_world.specs.Store.{Machine}
-use Rattle.hd_world.proofs.StoreParts.{parts}
 use Rattle.hd_world.proofs.RootIdentities.{roots-are, roots-hold}
 use Rattle.hd_world.proofs.store.Store.roots.Goals as goal
 

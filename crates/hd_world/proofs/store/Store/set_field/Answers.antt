@@ -1,16 +1,9 @@
-use Rattle.std.proofs.Common.{◌≡◌, ◌<◌, length, slice_set, sym, ap, ◌∙◌, subst}
-use Rattle.std.specs.Prelude.{IfSome, true}
-use Rattle.hd_model.specs.Heap.{placed_at, has_object}
-use Rattle.hd_model.specs.State.{with_object}
-use Rattle.hd_world.specs.Reading.{name_in, named_in, IsNamed}
-use Rattle.hd_world.specs.Store.{Machine}
-use Rattle.hd_world.specs.Objects.{object_named}
-use Rattle.hd_world.proofs.StoreParts.{parts}
+use Rattle.hd_world.proofs.StoreWords.{parts, ◌≡◌, ◌<◌, length, slice_set, sym, ap, ◌∙◌, subst, IfSome, true, placed_at, has_object, with_object, name_in, named_in, IsNamed, Machine, object_named}
 use Rattle.hd_world.proofs.NamedAddresses.{in_heap, count-is, named_objects}
 use Rattle.hd_world.proofs.StoreWrite.{Writes, stored-write, written}
 use Rattle.hd_world.proofs.Barrier.{field_new, writes_field, reads_field}
-use Rattle.hd_world.proofs.store.Store.set_field.Goals as goal
 use Rattle.hd_world.proofs.store.Store.set_field.Goals.{After-from, After-store}
+use Rattle.hd_world.proofs.store.Store.set_field.Goals as goal
 
 known : (c : After-from) → has_object c.self.inside.heap c.args.at ≡ true
 known c = in_heap (parts c.self.inside) c.args.self.now c.self.view_is c.self.invariant c.args.at

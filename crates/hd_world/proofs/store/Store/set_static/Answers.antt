@@ -1,8 +1,4 @@
-use Rattle.std.proofs.Common.{◌≡◌, ◌+◌, ◌*◌, length, sym, subst, arith}
-use Rattle.hd_world.specs.Store.{machine_of}
-use Rattle.hd_model.specs.State.{with_static}
-use Rattle.hd_world.specs.Reading.{named_in}
-use Rattle.hd_world.proofs.StoreParts.{parts}
+use Rattle.hd_world.proofs.StoreWords.{parts, ◌≡◌, ◌+◌, ◌*◌, length, sym, subst, arith, machine_of, with_static, named_in}
 use Rattle.hd_world.proofs.RootAccess.{with_root, stored-root, machine-static}
 use Rattle.hd_world.proofs.store.Store.set_static.Goals as goal
 

@@ -1,6 +1,4 @@
-use Rattle.std.proofs.Common.{◌≡◌, ◌+◌, ◌*◌, get_or, length, subst, arith}
-use Rattle.hd_world.specs.Stored.{callers_of}
-use Rattle.hd_world.proofs.StoreParts.{parts}
+use Rattle.hd_world.proofs.StoreWords.{parts, ◌≡◌, ◌+◌, ◌*◌, get_or, length, subst, arith, callers_of}
 use Rattle.hd_world.proofs.RootAccess.{static-is, static-within, root-named}
 use Rattle.hd_world.proofs.store.Store.static_at.Goals as goal
 

@@ -1,8 +1,4 @@
-use Rattle.std.proofs.Common.{◌≡◌, ◌*◌, Some, ap, ◌∙◌, subst, arith}
-use Rattle.hd_model.specs.State.{handles_of, use_of, without_use}
-use Rattle.hd_model.specs.Table.{kind_at}
-use Rattle.hd_world.specs.Store.{Machine, machine_of}
-use Rattle.hd_world.proofs.StoreParts.{parts}
+use Rattle.hd_world.proofs.StoreWords.{parts, ◌≡◌, ◌*◌, Some, ap, ◌∙◌, subst, arith, handles_of, use_of, without_use, kind_at, Machine, machine_of}
 use Rattle.hd_world.proofs.StoreRows.{with_table, stored-back, block-single, vacant-row}
 use Rattle.hd_world.proofs.store.Store.take_back.Goals as goal
 

@@ -1,7 +1,4 @@
-use Rattle.std.proofs.Common.{sym, ap, ◌∙◌, subst}
-use Rattle.hd_world.specs.Stored.{IsStored}
-use Rattle.hd_world.specs.Store.{machine_of}
-use Rattle.hd_world.proofs.StoreParts.{parts}
+use Rattle.hd_world.proofs.StoreWords.{parts, sym, ap, ◌∙◌, subst, IsStored, machine_of}
 use Rattle.hd_world.proofs.StoreRows.{with_table, stored-end, machine-end, live-row}
 use Rattle.hd_world.proofs.store.Store.take_row.Goals as goal
 

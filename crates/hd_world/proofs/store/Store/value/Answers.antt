@@ -1,5 +1,4 @@
-use Rattle.std.proofs.Common.{◌∙◌}
-use Rattle.hd_world.proofs.StoreParts.{parts}
+use Rattle.hd_world.proofs.StoreWords.{parts, ◌∙◌}
 use Rattle.hd_world.proofs.NamedAddresses.{in_heap, value-is}
 use Rattle.hd_world.proofs.store.Store.value.Goals as goal
 

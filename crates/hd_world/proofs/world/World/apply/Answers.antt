@@ -1,17 +1,8 @@
-use Rattle.std.proofs.Common.{◌≡◌, ℕ, ◌<◌, ◌+◌, ◌^◌, length, sym, ap, ◌∙◌, subst, inl, arith}
-use Rattle.std.specs.Prelude.{Result, Ok, Err, OnErr}
-use Rattle.std.specs.FinMap.{FinMap}
-use Rattle.std.specs.Ordering.{nat_cmp}
-use Rattle.hd_model.specs.Places.{with_places}
-use Rattle.hd_model.specs.Step.{Step}
-use Rattle.hd_model.specs.Aging.{aged_by}
-use Rattle.hd_world.specs.Store.{Machine}
+use Rattle.hd_world.proofs.StoreWords.{◌≡◌, ℕ, ◌<◌, ◌+◌, ◌^◌, length, sym, ap, ◌∙◌, subst, inl, arith, Result, Ok, Err, OnErr, FinMap, nat_cmp, with_places, Machine, TakesSteps, WorldView, IsOffer}
 use Rattle.hd_world.specs.Placed.{IsTrueRun, Placed}
-use Rattle.hd_world.specs.Visited.{TakesSteps}
-use Rattle.hd_world.specs.World.{WorldView}
-use Rattle.hd_world.specs.StateHeap.{KeepsAddresses}
+use Rattle.hd_world.specs.Applied.{Applied}
 use Rattle.hd_world.proofs.StateHeap.{returns-stored, keeps-pinned, keeps-address}
-use Rattle.hd_world.proofs.JournalApply.{handles_of, small_of, fresh_of, counts_of, steps_placed, at_places, placed_on, run_on, step_on, ages_on}
+use Rattle.hd_world.proofs.JournalApply.{handles_of, small_of, fresh_of, counts_of, steps_placed, offer_placed, growth_placed, at_places, placed_on, run_on, step_on, ages_on}
 use Rattle.hd_model.specs.Journal.{Recorded}
 use Rattle.hd_world.proofs.world.World.apply.Goals as goal
 
@@ -26,29 +17,24 @@ has_room g c = omega (
   c.requires.room,
 )
 
-pub run-requires-clause-handles : goal.run-requires-clause-handles
-run-requires-clause-handles g c =
-    handles_of c.self.inside.store c.self.inside.journal.entries c.self.inside.placed.0 c.self.invariant
-
-pub run-requires-clause-serial : goal.run-requires-clause-serial
-run-requires-clause-serial g c =
-    small_of c.self.inside.store c.self.inside.journal.entries c.self.inside.placed.0 c.self.invariant
-    (has_room g c) c.args.caller
-
-pub run-requires-clause-fresh : goal.run-requires-clause-fresh
-run-requires-clause-fresh g c =
-    fresh_of c.self.inside.store c.self.inside.journal.entries c.self.inside.placed.0 c.self.invariant
-    (has_room g c) c.args.caller
-
-pub run-requires-clause-counts : goal.run-requires-clause-counts
-run-requires-clause-counts g c =
-    counts_of c.self.inside.store c.self.inside.journal.entries c.self.inside.placed.0 c.self.invariant
-    (has_room g c)
+pub run-requires : goal.run-requires
+run-requires g c =
+    let w = c.self.inside in record {
+      handles = handles_of w.store w.journal.entries w.placed.0 c.self.invariant;
+      caller = subst (λ (v : WorldView). c.args.caller < v.numbers.callers) (sym c.self.view_is) c.requires.caller;
+      valid = c.requires.valid;
+      offer = offer_placed w.store.numbers w.store.state w.placed.0 c.args.cmd c.args.offer
+          (subst (λ (v : WorldView). IsOffer v.state c.args.cmd c.args.offer) (sym c.self.view_is)
+          c.requires.offer);
+      serial = small_of w.store w.journal.entries w.placed.0 c.self.invariant (has_room g c) c.args.caller;
+      fresh = fresh_of w.store w.journal.entries w.placed.0 c.self.invariant (has_room g c) c.args.caller;
+      counts = counts_of w.store w.journal.entries w.placed.0 c.self.invariant (has_room g c);
+    }
 
 -- the world as it was, where memory ran out
 pub invariant_of-self-inside : goal.invariant_of-self-inside
 invariant_of-self-inside g c =
-    subst (λ m. Placed m c.self.inside.journal.entries × Unit {0}) (sym c.in_err-entry.ensures.unchanged.0)
+    subst (λ m. Placed m c.self.inside.journal.entries × Unit {0}) (sym c.in_err-entry.ensures.0.unchanged)
     (c.self.inside.placed, tt)
 
 pub invariant_of-self : goal.invariant_of-self
@@ -56,7 +42,7 @@ invariant_of-self g c =
     let entries = c.self.inside.journal.entries in
     let before : IsTrueRun c.run.new.store entries c.self.inside.placed.0 =
     subst (λ m. IsTrueRun m entries c.self.inside.placed.0)
-    (sym c.in_err-entry.ensures.unchanged.0) c.self.invariant in
+    (sym c.in_err-entry.ensures.0.unchanged) c.self.invariant in
     let at : (q : Placed c.run.new.store entries) → IsTrueRun c.run.new.store entries q.0 =
     λ q. at_places c.run.new.store entries c.self.inside.placed.0 q.0
     (λ r. IsTrueRun c.run.new.store entries r) before q.1 before in
@@ -83,19 +69,18 @@ returns-in_err-entry-clause-unchanged g c =
     let m = c.run.new.store in
     let p = c.self.inside.placed.0 in
     let before : IsTrueRun m j.entries p =
-    subst (λ x. IsTrueRun x j.entries p) (sym c.in_err-entry.ensures.unchanged.0) c.self.invariant in
+    subst (λ x. IsTrueRun x j.entries p) (sym c.in_err-entry.ensures.0.unchanged) c.self.invariant in
     let at : (q : Placed m j.entries) → OnErr c.from_residual.result (seen m j q.0 ≡ c.args.self.now) =
     λ q. on_err c.from_residual.result (seen m j q.0 ≡ c.args.self.now)
     (at_places m j.entries p q.0 (λ r. seen m j r ≡ c.args.self.now) before q.1
-    (ap (λ x. seen x j p) c.in_err-entry.ensures.unchanged.0 ∙ c.self.view_is)) in
+    (ap (λ x. seen x j p) c.in_err-entry.ensures.0.unchanged ∙ c.self.view_is)) in
     search at
 
 pub invariant_of-self-inside-2 : goal.invariant_of-self-inside-2
 invariant_of-self-inside-2 g c =
     let w = c.self.inside in (
       placed_on w.store w.journal.entries w.placed.0 c.self.invariant c.run.new.store
-          c.in_ok-entry.entry c.push.new.self.entries c.in_ok-entry.ensures.moves
-          c.in_ok-entry.ensures.numbers c.push.ensures.entries,
+          c.in_ok-entry.entry c.push.new.self.entries c.in_ok-entry.ensures.0.moves c.push.ensures.entries,
       tt,
     )
 
@@ -103,30 +88,41 @@ pub invariant_of-self-2 : goal.invariant_of-self-2
 invariant_of-self-2 g c =
     let w = c.self.inside in
     let at = run_on w.store w.journal.entries w.placed.0 c.self.invariant c.run.new.store
-    c.in_ok-entry.entry c.push.new.self.entries c.in_ok-entry.ensures.moves c.in_ok-entry.ensures.numbers
-    c.push.ensures.entries in
+    c.in_ok-entry.entry c.push.new.self.entries c.in_ok-entry.ensures.0.moves c.push.ensures.entries in
     search at
 
-pub returns-clause-step : goal.returns-clause-step
-returns-clause-step g c =
+pub returns-clause-done : goal.returns-clause-done
+returns-clause-done g c =
     let w = c.self.inside in
+    let j = c.push.new.self in
     let next = c.run.new.store in
-    let at : (q : Placed next c.push.new.self.entries)
-    → Step c.args.self.now.numbers c.args.self.now.state c.in_ok-entry.entry (with_places next.state q.0) =
-    λ q. subst (λ (v : WorldView). Step v.numbers v.state c.in_ok-entry.entry (with_places next.state q.0))
-    c.self.view_is
-    (step_on w.store w.journal.entries w.placed.0 c.self.invariant next
-    c.in_ok-entry.entry c.push.new.self.entries c.in_ok-entry.ensures.moves c.in_ok-entry.ensures.numbers
-    c.push.ensures.entries q) in
+    let e = c.in_ok-entry.entry in
+    let ran = c.in_ok-entry.ensures.0 in
+    let at : (q : Placed next j.entries)
+    → Applied c.args.self.now c.args.caller c.args.cmd c.args.offer (seen next j q.0) e =
+    λ q. subst (λ (v : WorldView). Applied v c.args.caller c.args.cmd c.args.offer (seen next j q.0) e)
+    c.self.view_is (record {
+      command = (ran.caller, ran.command);
+      journal = c.push.ensures.entries;
+      spare = c.push.ensures.spare;
+      step = step_on w.store w.journal.entries w.placed.0 c.self.invariant next e j.entries ran.moves
+          c.push.ensures.entries q;
+      ages = ages_on w.store w.journal.entries w.placed.0 c.self.invariant next e j.entries ran.moves
+          c.push.ensures.entries;
+      numbers = (ran.moves w.placed.0 c.self.invariant.addresses).numbers;
+      offer = ran.offer;
+      growth = growth_placed w.store.numbers w.store.state w.placed.0 c.args.cmd c.args.offer e ran.growth;
+      heap = (ran.moves w.placed.0 c.self.invariant.addresses).heap;
+      addresses = record {
+        returned = λ h place x. returns-stored w.store next e ran.moves c.objects-before.ensures.heap
+            c.objects-after.ensures.heap x place h;
+        pinned = keeps-pinned w.store next e ran.moves c.objects-before.ensures.heap
+            c.objects-after.ensures.heap;
+        others = λ plain x a. keeps-address w.store next e ran.moves c.objects-before.ensures.heap
+            c.objects-after.ensures.heap x a (inl plain);
+      };
+    }) in
     search at
-
-pub returns-clause-ages : goal.returns-clause-ages
-returns-clause-ages g c =
-    let w = c.self.inside in
-    subst (λ (v : WorldView). c.run.new.store.ages ≡ aged_by v.state c.in_ok-entry.entry v.ages) c.self.view_is
-    (ages_on w.store w.journal.entries w.placed.0 c.self.invariant c.run.new.store
-    c.in_ok-entry.entry c.push.new.self.entries c.in_ok-entry.ensures.moves c.in_ok-entry.ensures.numbers
-    c.push.ensures.entries)
 
 pub returns-clause-steps : goal.returns-clause-steps
 returns-clause-steps g c =
@@ -135,21 +131,4 @@ returns-clause-steps g c =
     (λ (v : WorldView). TakesSteps v.state v.ages c.in_ok-entry.entry c.args.steps.now c.run.new.steps)
     c.self.view_is
     (steps_placed w.store.state w.placed.0 w.store.ages c.in_ok-entry.entry c.args.steps.now
-    c.run.new.steps c.in_ok-entry.ensures.steps)
-
-pub returns-clause-addresses : goal.returns-clause-addresses
-returns-clause-addresses g c =
-    let w = c.self.inside in
-    let j = c.push.new.self in
-    let next = c.run.new.store in
-    let e = c.in_ok-entry.entry in
-    let at : (q : Placed next j.entries) → KeepsAddresses e c.args.self.now (seen next j q.0) =
-    λ q. subst (λ (v : WorldView). KeepsAddresses e v (seen next j q.0)) c.self.view_is (record {
-      returned = λ h place x. returns-stored w.store next e c.in_ok-entry.ensures.moves
-          c.objects-before.ensures.heap c.objects-after.ensures.heap x place h;
-      pinned = keeps-pinned w.store next e c.in_ok-entry.ensures.moves c.objects-before.ensures.heap
-          c.objects-after.ensures.heap;
-      others = λ plain x a. keeps-address w.store next e c.in_ok-entry.ensures.moves
-          c.objects-before.ensures.heap c.objects-after.ensures.heap x a (inl plain);
-    }) in
-    search at
+    c.run.new.steps c.in_ok-entry.ensures.1)

@@ -1,10 +1,8 @@
-use Rattle.std.proofs.Common.{◌≡◌, ℕ, zero, suc, ◌+◌, ◌<◌, cond, List, [], ◌∷◌, length, get_or, take, Some, refl, sym, ap, ◌∙◌, arith}
+use Rattle.hd_world.proofs.StoreWords.{◌≡◌, ℕ, zero, suc, ◌+◌, ◌<◌, cond, List, [], ◌∷◌, length, get_or, take, Some, refl, sym, ap, ◌∙◌, arith, Entry, collections_of, is_collect}
 use Rattle.std.specs.List.{slice_get}
 use Rattle.std.proofs.lemmas.List.Sums.{sum_by_more}
-use Rattle.hd_model.specs.declared.data.Entry.{Entry}
-use Rattle.hd_model.specs.Text.{collections_of, is_collect}
-use Rattle.hd_world.proofs.world.World.collections.Goals as goal
 use Rattle.hd_world.proofs.world.World.collections.Goals.{Joined-is_collect, then-is_collect, else-is_collect}
+use Rattle.hd_world.proofs.world.World.collections.Goals as goal
 
 -- the entry that is read is the one at its index
 at_place : (xs : List Entry) (i : ℕ) (e : Entry) → slice_get xs i ≡ Some e → get_or xs i e ≡ e
@@ -24,7 +22,7 @@ step : (c : Joined-is_collect) → collections_of (take (c.loop-i.i + 1) c.self.
 step c =
     let within : c.loop-i.i < length c.self.inside.journal.entries =
     omega (arith, c.loop-i-test.true, c.len-i-end.ensures.value) in
-    more c.self.inside.journal.entries c.loop-i.i c.entry-cmd.result within c.entry-cmd.ensures
+    more c.self.inside.journal.entries c.loop-i.i c.entry.result within c.entry.ensures
     ∙ ap (λ b. collections_of (take c.loop-i.i c.self.inside.journal.entries) + cond b 1 0)
     (sym c.is_collect.ensures)
 

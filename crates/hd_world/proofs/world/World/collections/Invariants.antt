@@ -1,5 +1,4 @@
-use Rattle.std.proofs.Common.{◌≡◌, ◌≤◌, take}
-use Rattle.hd_model.specs.Text.{collections_of}
+use Rattle.hd_world.proofs.StoreWords.{◌≡◌, ◌≤◌, take, collections_of}
 use Rattle.hd_world.proofs.world.World.collections.Given as goal
 
 abbrev pub invariant-loop-i : goal.invariant-loop-i

@@ -1,8 +1,4 @@
-use Rattle.std.proofs.Common.{subst}
-use Rattle.hd_model.specs.Run.{Run}
-use Rattle.hd_model.specs.Aging.{AgedRun}
-use Rattle.hd_world.specs.World.{WorldView, HasLimits}
-use Rattle.hd_world.specs.StateHeap.{IsOfHeap}
+use Rattle.hd_world.proofs.StoreWords.{subst, Run, AgedRun, WorldView, HasLimits, IsOfHeap}
 use Rattle.hd_world.proofs.JournalApply.{run_of}
 use Rattle.hd_world.proofs.StateHeap.{of-heap}
 use Rattle.hd_world.proofs.world.World.journal.Goals as goal

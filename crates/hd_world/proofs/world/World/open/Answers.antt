@@ -1,9 +1,7 @@
-use Rattle.std.proofs.Common.{◌≡◌, ◌*◌, ◌∙◌, replicate, sym, ap, subst}
-use Rattle.hd_model.specs.State.{Numbers}
-use Rattle.hd_world.specs.World.{HasLimits}
+use Rattle.hd_world.proofs.StoreWords.{◌≡◌, ◌*◌, ◌∙◌, replicate, sym, ap, subst, Numbers, HasLimits}
 use Rattle.hd_world.proofs.JournalApply.{placed_first, run_first, state_first}
-use Rattle.hd_world.proofs.world.World.open.Goals as goal
 use Rattle.hd_world.proofs.world.World.open.Goals.{In_ok-journal}
+use Rattle.hd_world.proofs.world.World.open.Goals as goal
 
 -- each clump is as old as it may be
 oldest : (c : In_ok-journal) → c.in_ok-store.store.ages ≡ replicate (4 * c.in_ok-store.store.numbers.blocks) 2
