@@ -84,7 +84,7 @@ module _ {W : Type 0} (begun v : View W) (numbers : Numbers) (begins : begun
     number = ap (λ (x : View W). x.made) first.view;
     known = subst (λ c. seats < c) (sym (ap (λ (x : View W). x.limits.callers) (first.view ∙ ap
         (λ (x : View W). record x { made = seats; room = v.room }) begins))) low;
-    hand = refl;
+    held = refl;
     gate = refl;
     ended = refl;
     made = λ none. absurd (omega (arith, none, some));
@@ -102,7 +102,7 @@ module _ {W : Type 0} (begun v : View W) (numbers : Numbers) (begins : begun
       subst (λ (x : View W). IsIdle x 0) (sym is) (record {
         number = refl;
         known = some;
-        hand = refl;
+        held = refl;
         gate = refl;
         ended = refl;
         made = λ none. refl;

@@ -7,7 +7,7 @@ use Rattle.std.proofs.Math.Seq.{get_or-append_seam}
 use Rattle.hd_model.specs.declared.data.Entry.{Entry}
 use Rattle.hd_custody.specs.declared.view.View.{View}
 use Rattle.hd_custody.specs.Views.{joined}
-use Rattle.hd_custody.proofs.Seating.{at_end}
+use Rattle.hd_custody.proofs.SeatSplit.{at_end}
 use Rattle.hd_custody.specs.Rule.{Divided}
 use Rattle.hd_world.specs.World.{WorldView}
 use Rattle.hd_world.specs.contracts.world.WorldHeld.TheImpl.{ghosts}

@@ -9,43 +9,30 @@ use Rattle.hd_model.specs.declared.data.Slot.{Slot}
 use Rattle.hd_model.specs.declared.data.Grown.{Grown}
 use Rattle.hd_model.specs.declared.data.Grown.TheVariants.{Zero, One, Two, Back}
 use Rattle.hd_model.specs.declared.command.Cmd.{Cmd}
-use Rattle.hd_model.specs.declared.command.Cmd.TheVariants as cmd
+use Rattle.hd_model.specs.declared.class.Class.{Class}
+use Rattle.hd_model.specs.declared.class.Class.TheVariants as class
+use Rattle.hd_model.specs.Class.{class_of}
 use Rattle.hd_model.specs.State.{block_of, first_slot}
 use Rattle.hd_model.specs.Kinds.{kind_of}
 use Rattle.hd_pool.specs.Pool.{FreeSlots, slots_of, IsLeastFreeFor, HasNoneFor, IsWhole, IsLeastWholeOf, HasNoWholeOf}
 use Rattle.hd_gate.specs.declared.change.Change.{Change}
 use Rattle.hd_gate.specs.declared.change.Change.TheVariants.{Takes, Frees, GivesBack, Keeps}
 
--- what a command does to the free slots: `hnew` takes one of its kind, `hfree` frees one, and `trim` gives a
--- whole block of its kind back
+-- what a command of a class does to the free slots: `hnew` takes one of its kind, `hfree` frees one, and `trim`
+-- gives a whole block of its kind back
+abbrev pub change_by : Class → Change
+change_by (class.MakesObject fields) = Keeps
+change_by (class.TakesSlot make t) = Takes (kind_of make)
+change_by (class.StoresTarget h t) = Keeps
+change_by (class.StoresSecondary h) = Keeps
+change_by class.Frees = Frees
+change_by (class.GivesBack kind) = GivesBack kind
+change_by (class.Collects n) = Keeps
+change_by (class.AnswersPlace h) = Keeps
+change_by class.Plain = Keeps
+
 abbrev pub change_of : Cmd → Change
-change_of (cmd.New d fields fin) = Keeps
-change_of (cmd.Set o i v) = Keeps
-change_of (cmd.Get d o i) = Keeps
-change_of (cmd.Val o n) = Keeps
-change_of (cmd.Read o) = Keeps
-change_of (cmd.Copy d s) = Keeps
-change_of (cmd.Clear d) = Keeps
-change_of (cmd.SPut k s) = Keeps
-change_of (cmd.SGet d k) = Keeps
-change_of (cmd.Gen s) = Keeps
-change_of (cmd.Suppress s) = Keeps
-change_of (cmd.Reregister s) = Keeps
-change_of (cmd.Final d) = Keeps
-change_of (cmd.Collect n) = Keeps
-change_of (cmd.HNew d make t) = Takes (kind_of make)
-change_of (cmd.HGet d s) = Keeps
-change_of (cmd.HSet s t) = Keeps
-change_of (cmd.HSec h s) = Keeps
-change_of (cmd.HDep d s) = Keeps
-change_of (cmd.HVar s strength) = Keeps
-change_of (cmd.HFree s) = Frees
-change_of (cmd.HPut k s) = Keeps
-change_of (cmd.HPick d k) = Keeps
-change_of (cmd.AddrOf s) = Keeps
-change_of (cmd.HUp s) = Keeps
-change_of (cmd.HDown s) = Keeps
-change_of (cmd.Trim kind) = GivesBack kind
+change_of c = change_by (class_of c)
 
 -- what is offered from a pool p, which is q then: the least free slot of the kind, or the first slot of the
 -- least block of the kind whose slots are all free

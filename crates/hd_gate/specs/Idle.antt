@@ -7,7 +7,7 @@ use Rattle.hd_custody.specs.declared.view.View.{View}
 pub record IsIdle {W : Type 0} (v : View W) (caller : ℕ) : Type 0 where
   pub number : v.number ≡ caller
   pub known : caller < v.limits.callers
-  pub hand : v.hand ≡ []
+  pub held : v.held ≡ []
   pub gate : v.has_gate ≡ false
   pub ended : v.ended ≡ []
   pub made : caller ≡ 0 → v.made ≡ v.limits.callers

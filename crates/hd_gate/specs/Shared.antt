@@ -22,18 +22,22 @@ use Rattle.hd_gate.specs.declared.change.Change.{Change}
 use Rattle.hd_gate.specs.declared.change.Change.TheVariants.{Takes, Frees, GivesBack, Keeps}
 use Rattle.hd_gate.specs.Change.{change_of}
 
--- a caller: its table with the numbers of the run, its own number, its entries so far, and how many more it
--- may add; then, of its last call that looked for slots or released one, the steps on the shared words, how
--- many such calls there were, and whether it held no slot as that one began
+-- of the last call that looked for slots or released one: the steps on the shared words, how many such calls there
+-- were, and whether the caller held no slot as that one began
+pub record SearchView : Type 0 where
+  pub trace : List Did
+  pub trace_number : ℕ
+  pub began_empty : Bool
+
+-- a caller: its table with the numbers of the run, its own number, its entries so far, how many more it may add,
+-- and its last search
 pub record CallerView : Type 0 where
   pub table : TableId
   pub numbers : Numbers
   pub number : ℕ
   pub part : List Entry
   pub room : ℕ
-  pub trace : List Did
-  pub trace_number : ℕ
-  pub began_empty : Bool
+  pub search : SearchView
 
 -- a caller of the shared world s
 pub record IsCallerOf (s : Named) (p : CallerView) : Type 0 where
@@ -65,67 +69,60 @@ pub record IsSameCaller (old new : CallerView) : Type 0 where
 
 -- between old and new there was one call that looks for slots or lets one go, which began without a slot, and
 -- the trace has its steps
-pub record OwnSteps (old new : CallerView) : Type 0 where
+pub record OwnSteps (old new : SearchView) : Type 0 where
   pub one : new.trace_number ≡ old.trace_number + 1
   pub began_empty : new.began_empty ≡ true
 
--- between old and new a search for a slot of the kind went over all words of the kind and all blocks, and
--- each gave none
-pub record OwnMiss (kind : Kind) (old new : CallerView) : Type 0 where
+-- between old and new a search for a slot of the kind, in a table of so many blocks, went over all words of the kind
+-- and all blocks, and each gave none
+pub record OwnMiss (kind : Kind) (blocks : ℕ) (old new : SearchView) : Type 0 where
   pub own : OwnSteps old new
-  pub miss : WholeMiss (kind_number kind) new.numbers.blocks new.trace
+  pub miss : WholeMiss (kind_number kind) blocks new.trace
 
 -- between old and new a search for a whole block of the kind ended with none: no mask of all rows came with
 -- the kind loaded after it
-pub record OwnSweep (kind : Kind) (old new : CallerView) : Type 0 where
+pub record OwnSweep (kind : Kind) (blocks : ℕ) (old new : SearchView) : Type 0 where
   pub own : OwnSteps old new
-  pub ended : follow (kind_number kind) new.numbers.blocks (sweep 0) new.trace ≡ missed
+  pub ended : follow (kind_number kind) blocks (sweep 0) new.trace ≡ missed
   pub none : ShowsNone (kind_number kind) new.trace
 
 -- `hnew` grows the table, or finds it full, only on a miss of its own; and it finds it full only where fewer
 -- blocks are without a use than the kind needs
-pub record GrowsOnMiss (kind : Kind) (old new : CallerView) (e : Entry) : Type 0 where
-  pub grows : e.grown ≢ Zero → OwnMiss kind old new
-  pub full : (given : ℕ) → e.reply ≡ reply.Refused (refusal.TableFull given) → OwnMiss kind old new
-  pub few : (given : ℕ) → e.reply ≡ reply.Refused (refusal.TableFull given)
-      → new.numbers.blocks < given + blocks_needed kind
+pub record GrowsOnMiss (kind : Kind) (blocks : ℕ) (old new : SearchView) (e : Entry) : Type 0 where
+  pub grows : e.grown ≢ Zero → OwnMiss kind blocks old new
+  pub full : (given : ℕ) → e.reply ≡ reply.Refused (refusal.TableFull given) → OwnMiss kind blocks old new
+  pub few : (given : ℕ) → e.reply ≡ reply.Refused (refusal.TableFull given) → blocks < given + blocks_needed kind
 
 -- what was looked for before the entry that says that it is not there; `trim` gives no block back only on a
 -- sweep of its own
-abbrev pub LookedFor : Asks → CallerView → CallerView → Entry → Type 0
-LookedFor (object_room fields) old new e = Unit {0}
-LookedFor (handle_slot kind) old new e = GrowsOnMiss kind old new e
-LookedFor (block_back kind) old new e = e.reply ≡ reply.Value 0 → OwnSweep kind old new
-LookedFor no_room old new e = Unit {0}
-
--- between old and new it neither looked for a slot nor released one
-pub record NoSlotCall (old new : CallerView) : Type 0 where
-  pub trace : new.trace ≡ old.trace
-  pub trace_number : new.trace_number ≡ old.trace_number
-  pub began_empty : new.began_empty ≡ old.began_empty
+abbrev pub LookedFor : Asks → ℕ → SearchView → SearchView → Entry → Type 0
+LookedFor (object_room fields) blocks old new e = Unit {0}
+LookedFor (handle_slot kind) blocks old new e = GrowsOnMiss kind blocks old new e
+LookedFor (block_back kind) blocks old new e = e.reply ≡ reply.Value 0 → OwnSweep kind blocks old new
+LookedFor no_room blocks old new e = Unit {0}
 
 -- between old and new it released the slot that the entry freed, once, in these steps, as one of the kind that
 -- its block had, and looked for none
-pub record OwnRelease (before : State) (old new : CallerView) (e : Entry) : Type 0 where
+pub record OwnRelease (before : State) (blocks : ℕ) (old new : SearchView) (e : Entry) : Type 0 where
   pub slot : Slot
   pub kind : Kind
   pub freed : e.slot ≡ Some slot
   pub of_kind : use_of before (block_of slot) ≡ Some (handles_of kind)
   pub one : new.trace_number ≡ old.trace_number + 1
-  pub steps : follow (kind_number kind) new.numbers.blocks (push 0 slot.0) new.trace ≡ found 0
+  pub steps : follow (kind_number kind) blocks (push 0 slot.0) new.trace ≡ found 0
 
 -- `hfree` that is done releases the slot that it freed, and one that is refused releases none
-pub record LetsOneGo (before : State) (old new : CallerView) (e : Entry) : Type 0 where
-  pub done : e.reply ≡ reply.Done → OwnRelease before old new e
-  pub refused : e.reply ≢ reply.Done → NoSlotCall old new
+pub record LetsOneGo (before : State) (blocks : ℕ) (old new : SearchView) (e : Entry) : Type 0 where
+  pub done : e.reply ≡ reply.Done → OwnRelease before blocks old new e
+  pub refused : e.reply ≢ reply.Done → new ≡ old
 
 -- how often it looked for slots or released one, at a step from the state `before`: `hnew` and `trim` look
 -- once, and other commands than these and `hfree` do neither
-abbrev pub SlotCalls : Change → State → CallerView → CallerView → Entry → Type 0
-SlotCalls (Takes kind) before old new e = OwnSteps old new
-SlotCalls Frees before old new e = LetsOneGo before old new e
-SlotCalls (GivesBack kind) before old new e = OwnSteps old new
-SlotCalls Keeps before old new e = NoSlotCall old new
+abbrev pub SlotCalls : Change → State → ℕ → SearchView → SearchView → Entry → Type 0
+SlotCalls (Takes kind) before blocks old new e = OwnSteps old new
+SlotCalls Frees before blocks old new e = LetsOneGo before blocks old new e
+SlotCalls (GivesBack kind) before blocks old new e = OwnSteps old new
+SlotCalls Keeps before blocks old new e = new ≡ old
 
 -- what the caller found under the gate: a journal that is a run of the machine to a state, and in which its own
 -- part is what it was as the call began
@@ -152,5 +149,5 @@ pub record HasDone (old new : CallerView) (command : Cmd) (answer : Reply) : Typ
   pub answer_is : entry.reply ≡ answer
   pub part : new.part ≡ old.part ++ entry ∷ []
   pub room : new.room + 1 ≡ old.room
-  pub looked_for : LookedFor (asks_of command) old new entry
-  pub slot_calls : SlotCalls (change_of command) found.state old new entry
+  pub looked_for : LookedFor (asks_of command) old.numbers.blocks old.search new.search entry
+  pub slot_calls : SlotCalls (change_of command) found.state old.numbers.blocks old.search new.search entry

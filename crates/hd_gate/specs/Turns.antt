@@ -1,5 +1,5 @@
 -- What a turn does: what the world under the gate is after it, and what its seat is.
-use Rattle.std.specs.Prelude.{◌≡◌, ℕ, ◌+◌, ◌≤◌, [], ◌∷◌, ◌++◌, Option, Some, None, option_map}
+use Rattle.std.specs.Prelude.{◌≡◌, ℕ, ◌+◌, ◌<◌, ◌≤◌, [], ◌∷◌, ◌++◌, Option, Some, None, option_map, IsTrue}
 use Rattle.std.specs.Option.{ForSome}
 use Rattle.hd_model.specs.declared.data.Entry.{Entry}
 use Rattle.hd_model.specs.declared.data.Grown.{Grown}
@@ -13,13 +13,18 @@ use Rattle.hd_model.specs.Kinds.{kind_number}
 use Rattle.hd_model.specs.State.{State, use_of, block_of}
 use Rattle.hd_model.specs.Run.{Run}
 use Rattle.hd_model.specs.Step.{Step}
-use Rattle.hd_world.specs.World.{WorldView, GrowsWithout, Takes}
+use Rattle.hd_model.specs.Valid.{IsValid, takes_memory}
+use Rattle.hd_world.specs.World.{WorldView, IsOffer, GrowsWithout, Takes, FitsHeap}
 use Rattle.hd_custody.specs.declared.view.View.{View}
 use Rattle.hd_custody.specs.Views.{Named, Known, numbers_of, granted, closed}
 use Rattle.hd_custody.specs.Calls.{Releases}
 use Rattle.hd_world.specs.Growth.{kind_in_use}
-use Rattle.hd_gate.specs.Shared.{CallerView, HasDone}
+use Rattle.hd_gate.specs.Shared.{SearchView, CallerView, HadRoom, HasDone}
 use Rattle.hd_gate.specs.Idle.{IsIdle}
+
+-- the last search of a seat
+abbrev pub search_of : {W : Type 0} → View W → SearchView
+search_of v = record { trace = v.trace; trace_number = v.trace_number; began_empty = v.began_empty }
 
 -- a seat, as what its caller is to others
 abbrev pub caller_view_of : {W : Type 0} → Known W → ℕ → ℕ → CallerView
@@ -29,18 +34,17 @@ caller_view_of seat number room = record {
   number = number;
   part = seat.view.part;
   room = room;
-  trace = seat.view.trace;
-  trace_number = seat.view.trace_number;
-  began_empty = seat.view.began_empty;
+  search = search_of seat.view;
 }
 
 -- a seat may take its turn: it is one of this table, idle, and has room for an entry
-pub record MayTurn (custody : Named) (seat : Known WorldView) (caller : ℕ) : Type 0 where
+pub record MayTurn (custody : Named) (seat : Known WorldView) (caller : ℕ) (command : Cmd) : Type 0 where
   pub table : seat.table ≡ custody.table
   pub blocks : custody.blocks ≡ seat.view.limits.blocks
   pub few : custody.blocks ≤ BLOCKS
   pub idle : IsIdle seat.view caller
   pub room : 1 ≤ seat.view.room
+  pub valid : IsValid command
 
 -- it took its turn: it is idle again, and its command was done
 pub record Turned (old new : Known WorldView) (caller : ℕ) (command : Cmd) (answer : Reply) : Type 0 where
@@ -50,16 +54,25 @@ pub record Turned (old new : Known WorldView) (caller : ℕ) (command : Cmd) (an
   pub done : HasDone (caller_view_of old caller old.view.room) (caller_view_of new caller new.view.room) command answer
 
 -- it found no memory: it is idle again, and its caller is as it was
-pub record Stayed (old new : Known WorldView) (caller : ℕ) : Type 0 where
+pub record Stayed (old new : Known WorldView) (caller : ℕ) (command : Cmd) : Type 0 where
   pub idle : IsIdle new.view caller
   pub party : caller_view_of new caller new.view.room ≡ caller_view_of old caller old.view.room
+  pub memory : IsTrue (takes_memory command)
+  pub fits : HadRoom (caller_view_of old caller old.view.room) command
 
--- Under the gate a command of a caller took one step of the machine, from the world u, whose journal is a run to
--- its state, to the world w, and its entry is the one more of the journal. An offer was taken; without one the
--- table grew, or was found full.
-pub record Stepped (u w : WorldView) (number : ℕ) (command : Cmd) (offer : Option Slot) (e : Entry) : Type 0
+-- a command may take a step from the world u
+pub record MayStep (u : WorldView) (number : ℕ) (command : Cmd) (offered : Option Slot) : Type 0 where
+  pub room : 1 ≤ u.spare
+  pub caller : number < u.numbers.callers
+  pub valid : IsValid command
+  pub offer : IsOffer u.state command offered
+
+-- A command of a caller took one step of the machine, from the world u, whose journal is a run to its state, to the
+-- world w, and its entry is the one more of the journal. An offer was taken; without one the table grew, or was found
+-- full.
+pub record Stepped (u w : WorldView) (caller : ℕ) (command : Cmd) (offer : Option Slot) (e : Entry) : Type 0
   where
-    pub caller_is : e.caller ≡ number
+    pub caller_is : e.caller ≡ caller
     pub command_is : e.cmd ≡ command
     pub journal : w.journal ≡ u.journal ++ e ∷ []
     pub spare : w.spare + 1 ≡ u.spare
@@ -68,6 +81,13 @@ pub record Stepped (u w : WorldView) (number : ℕ) (command : Cmd) (offer : Opt
     pub step : Step u.numbers u.state e w.state
     pub takes : ForSome offer (Takes e command)
     pub grows : GrowsWithout u command offer e
+
+-- it found no memory, and not since the heap was full, and the world is as it was
+pub record WantsMemory (u w : WorldView) (command : Cmd) : Type 0 where
+  pub memory : IsTrue (takes_memory command)
+  pub fits : FitsHeap u.numbers u.state command
+  pub run : Run u.numbers u.journal u.state
+  pub unchanged : w ≡ u
 
 -- the seat once the words know by which blocks the table grew for the kind with number k
 abbrev pub with_grown : {W : Type 0} → ℕ → Grown → View W → View W

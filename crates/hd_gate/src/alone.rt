@@ -5,12 +5,12 @@ ghost use Rattle.hd_world.specs.World.{FitsHeap};
 ghost use Rattle.hd_gate.specs.Alone.{HasCalled, FindsFullExactly, TrimsExactly};
 
 use crate::change::{note, offer};
-use hd_model::{Cmd, Memory, Reply, Steps};
+use crate::step::step;
+use hd_model::{Cmd, Memory, Reply};
 use hd_pool::Pool;
 use hd_world::World;
 use std::alloc::Global;
-use std::marker::{Brand, Model};
-use std::sync::ledger::{Blank, Ledger};
+use std::marker::Model;
 
 /// A world for one thread, seen as that world. Its callers take turns as they like.
 #[derive(Drop)]
@@ -61,30 +61,8 @@ impl Alone {
         ensures fits { OnErr result (FitsHeap self.old.numbers self.old.state cmd) }
         ensures unchanged { OnErr result (self.new ≡ self.old) }
     {
-        self.call_counted::<Brand>(caller, cmd, Blank::new(1))
-    }
-
-    // The same, with a counter that nothing reads.
-    fn call_counted<L: Ledger>(
-        &mut self,
-        caller: u32,
-        cmd: Cmd,
-        blank: Blank,
-    ) -> Result<Reply, Memory>
-        requires blank { (L.name ≡ blank.name) × (L.parts ≡ blank.parts) × (0 < blank.parts) }
-        requires room { 1 ≤ self.old.spare }
-        requires caller { caller < self.old.numbers.callers }
-        requires valid { IsValid cmd }
-        ensures done { IfOk result (HasCalled self.old self.new caller cmd) }
-        ensures full { IfOk result (FindsFullExactly self.old cmd) }
-        ensures trims { IfOk result (TrimsExactly self.old cmd) }
-        ensures memory { OnErr result (IsTrue (takes_memory cmd)) }
-        ensures fits { OnErr result (FitsHeap self.old.numbers self.old.state cmd) }
-        ensures unchanged { OnErr result (self.new ≡ self.old) }
-    {
-        let mut steps = Steps::<L>::open(blank);
         let offered = offer(&mut self.pool, cmd);
-        let entry = self.world.apply(caller, cmd, offered, &mut steps)?;
+        let entry = step(&mut self.world, caller, cmd, offered)?;
         note(&mut self.pool, &entry);
         Ok(entry.reply)
     }

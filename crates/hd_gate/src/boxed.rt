@@ -1,6 +1,8 @@
-ghost use Rattle.std.specs.Prelude.{◌≡◌, IfOk};
+ghost use Rattle.std.specs.Prelude.{◌≡◌, IfOk, MatchResult};
+ghost use Rattle.hd_gate.specs.Turns.{MayStep, Stepped, WantsMemory};
 
-use hd_model::{Held, Memory};
+use crate::step::step;
+use hd_model::{Cmd, Entry, Held, Memory, Slot};
 use hd_world::World;
 use std::alloc::Global;
 use std::boxed::Box;
@@ -43,6 +45,19 @@ impl Boxed {
             Ok(inside) => Ok(Boxed { inside }),
             Err(_) => Err(Memory),
         }
+    }
+
+    pub(crate) fn step(
+        &mut self,
+        caller: u32,
+        cmd: Cmd,
+        offer: Option<Slot>,
+    ) -> Result<Entry, Memory>
+        requires { MayStep self.old caller cmd offer }
+        ensures { MatchResult result (Stepped self.old self.new caller cmd offer)
+            (λ _. WantsMemory self.old self.new cmd) }
+    {
+        step(&mut self.inside, caller, cmd, offer)
     }
 
     pub(crate) fn into_inner(self) -> World

@@ -2,7 +2,7 @@ ghost use Rattle.std.specs.Prelude.{◌≡◌};
 ghost use Rattle.hd_gate.specs.Change.{change_of, Offers, noted, MayNote, grown_by, MayGrow};
 
 use hd_model::limits::ROWS;
-use hd_model::{Cmd, Entry, Grown, Kind, Slot};
+use hd_model::{Class, Cmd, Entry, Grown, Kind, Slot};
 use hd_pool::Pool;
 
 // What a command does to the free slots.
@@ -18,38 +18,20 @@ pub(crate) enum Change {
     Keeps,
 }
 
-// What a command does to the free slots.
+// What a command does to the free slots, by its class.
 pub(crate) fn change_of(cmd: Cmd) -> Change
     ensures { result ≡ change_of cmd }
 {
-    match cmd {
-        Cmd::HNew { make, .. } => Change::Takes(make.kind()),
-        Cmd::HFree { .. } => Change::Frees,
-        Cmd::Trim { kind } => Change::GivesBack(kind),
-        Cmd::New { .. }
-        | Cmd::Set { .. }
-        | Cmd::Get { .. }
-        | Cmd::Val { .. }
-        | Cmd::Read { .. }
-        | Cmd::Copy { .. }
-        | Cmd::Clear { .. }
-        | Cmd::SPut { .. }
-        | Cmd::SGet { .. }
-        | Cmd::Gen { .. }
-        | Cmd::Suppress { .. }
-        | Cmd::Reregister { .. }
-        | Cmd::Final { .. }
-        | Cmd::Collect { .. }
-        | Cmd::HGet { .. }
-        | Cmd::HSet { .. }
-        | Cmd::HSec { .. }
-        | Cmd::HDep { .. }
-        | Cmd::HVar { .. }
-        | Cmd::HPut { .. }
-        | Cmd::HPick { .. }
-        | Cmd::AddrOf { .. }
-        | Cmd::HUp { .. }
-        | Cmd::HDown { .. } => Change::Keeps,
+    match cmd.class() {
+        Class::TakesSlot { make, .. } => Change::Takes(make.kind()),
+        Class::Frees => Change::Frees,
+        Class::GivesBack(kind) => Change::GivesBack(kind),
+        Class::MakesObject(_)
+        | Class::StoresTarget { .. }
+        | Class::StoresSecondary { .. }
+        | Class::Collects(_)
+        | Class::AnswersPlace { .. }
+        | Class::Plain => Change::Keeps,
     }
 }
 

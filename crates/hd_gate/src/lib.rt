@@ -8,6 +8,7 @@ mod callers;
 mod change;
 mod opening;
 mod shared;
+mod step;
 #[cfg(test)]
 mod tests;
 mod turns;

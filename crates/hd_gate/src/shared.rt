@@ -107,9 +107,13 @@ impl Shared {
     {
         let number = caller.number;
         let room = *caller.room;
-        let reply = turn(&self.custody, rt, &mut caller.seat, number, cmd)?;
-        caller.room = CachePadded::new(room - 1);
-        Ok(reply)
+        match turn(&self.custody, rt, &mut caller.seat, number, cmd) {
+            Ok(reply) => {
+                caller.room = CachePadded::new(room - 1);
+                Ok(reply)
+            }
+            Err(Memory) => Err(Memory),
+        }
     }
 
     /// Ends with the world, in which the callers have done exactly what each was asked.

@@ -1,26 +1,20 @@
 //! What a caller does at its turn, by what its command does to the free slots.
-ghost use Rattle.std.specs.Prelude.{◌≡◌, ◌≢◌, ◌<◌, ◌≤◌, ◌+◌, ◌*◌, true, false, ℕ, IsTrue, IfOk, OnErr, IfSome, option_map};
-ghost use Rattle.hd_model.specs.Valid.{IsValid, takes_memory};
-ghost use Rattle.hd_world.specs.World.{IsOffer, FitsHeap};
-ghost use Rattle.hd_model.specs.Run.{Run};
-ghost use Rattle.hd_model.specs.State.{first_slot};
-ghost use Rattle.hd_gate.specs.Shared.{HadRoom};
+ghost use Rattle.std.specs.Prelude.{◌≡◌, ◌≢◌, ◌<◌, ◌≤◌, ◌+◌, ◌*◌, true, false, ℕ, IfSome, MatchResult, option_map};
 ghost use Rattle.hd_model.specs.Kinds.{kind_number, is_paired};
+ghost use Rattle.hd_model.specs.State.{first_slot};
+ghost use Rattle.hd_model.specs.Valid.{takes_memory};
 ghost use Rattle.hd_custody.specs.Counts.{Has, HasAs};
 ghost use Rattle.hd_custody.specs.Views.{GrowsByBlocks, MayGrant, handle_block, extra_block};
 ghost use Rattle.hd_gate.specs.Change.{change_of};
 ghost use Rattle.hd_gate.specs.declared.change.Change.TheVariants.{Takes, Frees, GivesBack, Keeps};
-ghost use Rattle.hd_gate.specs.Turns.{MayTurn, Turned, Stayed, Stepped, with_grown, without_gathered, freed_in, LetsGo, caller_view_of};
+ghost use Rattle.hd_gate.specs.Turns.{MayTurn, Turned, Stayed, MayStep, Stepped, with_grown, without_gathered, freed_in, LetsGo};
 
 use crate::boxed::Boxed;
 use crate::change::{Change, change_of};
 use hd_custody::{Custody, Seat};
 use hd_model::limits::{BLOCKS, ROWS};
-use hd_model::{Cmd, Entry, Grown, Held, Kind, Memory, Reply, Slot, Steps};
-use hd_world::World;
-use std::marker::Brand;
+use hd_model::{Cmd, Entry, Grown, Held, Kind, Memory, Reply, Slot};
 use std::sync::Wait;
-use std::sync::ledger::{Blank, Ledger};
 
 /// Does a command of the caller with this number, whose seat holds no slot before and after it.
 pub(crate) fn turn<R: Wait>(
@@ -30,12 +24,9 @@ pub(crate) fn turn<R: Wait>(
     number: u32,
     cmd: Cmd,
 ) -> Result<Reply, Memory>
-    requires turn { MayTurn custody.now seat.old number }
-    requires valid { IsValid cmd }
-    ensures done { IfOk result (Turned seat.old seat.new number cmd) }
-    ensures memory { OnErr result (IsTrue (takes_memory cmd)) }
-    ensures fits { OnErr result (HadRoom (caller_view_of seat.old number seat.old.view.room) cmd) }
-    ensures unchanged { OnErr result (Stayed seat.old seat.new number) }
+    requires { MayTurn custody.now seat.old number cmd }
+    ensures { MatchResult result (Turned seat.old seat.new number cmd)
+        (λ _. Stayed seat.old seat.new number cmd) }
 {
     match change_of(cmd) {
         Change::Takes(kind) => Ok(make(custody, rt, seat, number, cmd, kind)),
@@ -53,19 +44,18 @@ fn plainly<R: Wait>(
     number: u32,
     cmd: Cmd,
 ) -> Result<Reply, Memory>
-    requires turn { MayTurn custody.now seat.old number }
-    requires valid { IsValid cmd }
+    requires turn { MayTurn custody.now seat.old number cmd }
     requires keeps { change_of cmd ≡ Keeps }
-    ensures done { IfOk result (Turned seat.old seat.new number cmd) }
-    ensures memory { OnErr result (IsTrue (takes_memory cmd)) }
-    ensures fits { OnErr result (HadRoom (caller_view_of seat.old number seat.old.view.room) cmd) }
-    ensures unchanged { OnErr result (Stayed seat.old seat.new number) }
+    ensures { MatchResult result (Turned seat.old seat.new number cmd)
+        (λ _. Stayed seat.old seat.new number cmd) }
 {
     let mut world = custody.enter(rt, seat);
-    let done = step(&mut world, number, cmd, None);
+    let done = world.step(number, cmd, None);
     custody.leave(seat, world);
-    let entry = done?;
-    Ok(entry.reply)
+    match done {
+        Ok(entry) => Ok(entry.reply),
+        Err(Memory) => Err(Memory),
+    }
 }
 
 // `hnew`: a slot is looked for before the gate; where none was found, the table may grow.
@@ -77,8 +67,7 @@ fn make<R: Wait>(
     cmd: Cmd,
     kind: Kind,
 ) -> Reply
-    requires turn { MayTurn custody.now seat.old number }
-    requires valid { IsValid cmd }
+    requires turn { MayTurn custody.now seat.old number cmd }
     requires takes { change_of cmd ≡ Takes kind }
     ensures { Turned seat.old seat.new number cmd result }
 {
@@ -98,8 +87,7 @@ fn free<R: Wait>(
     number: u32,
     cmd: Cmd,
 ) -> Reply
-    requires turn { MayTurn custody.now seat.old number }
-    requires valid { IsValid cmd }
+    requires turn { MayTurn custody.now seat.old number cmd }
     requires frees { change_of cmd ≡ Frees }
     ensures { Turned seat.old seat.new number cmd result }
 {
@@ -120,8 +108,7 @@ fn trim<R: Wait>(
     cmd: Cmd,
     kind: Kind,
 ) -> Reply
-    requires turn { MayTurn custody.now seat.old number }
-    requires valid { IsValid cmd }
+    requires turn { MayTurn custody.now seat.old number cmd }
     requires gives_back { change_of cmd ≡ GivesBack kind }
     ensures { Turned seat.old seat.new number cmd result }
 {
@@ -165,7 +152,7 @@ fn withdraw(custody: &Custody<Boxed>, seat: &mut Seat<Boxed>, block: Option<u32>
     requires seat { seat.old.table ≡ custody.now.table }
     requires gate { seat.old.view.has_gate ≡ true }
     requires all { IfSome block (λ b. (r : ℕ) → r < ROWS
-        → Has (ROWS * b + r) seat.old.view.hand) }
+        → Has (ROWS * b + r) seat.old.view.held) }
     ensures { seat.new ≡ record seat.old { view = without_gathered block seat.old.view } }
 {
     if let Some(block) = block {
@@ -185,7 +172,7 @@ fn freed(world: &Boxed, slot: Option<Slot>) -> Option<(Slot, Kind)>
 // Lets a freed slot go, if there is one.
 fn let_go(custody: &Custody<Boxed>, seat: &mut Seat<Boxed>, freed: Option<(Slot, Kind)>)
     requires seat { seat.old.table ≡ custody.now.table }
-    requires slot { IfSome freed (λ f. HasAs (f.0.0, kind_number f.1 + 1) seat.old.view.hand) }
+    requires slot { IfSome freed (λ f. HasAs (f.0.0, kind_number f.1 + 1) seat.old.view.held) }
     ensures table { seat.new.table ≡ seat.old.table }
     ensures gone { LetsGo custody.now.blocks freed seat.old.view seat.new.view }
 {
@@ -196,54 +183,12 @@ fn let_go(custody: &Custody<Boxed>, seat: &mut Seat<Boxed>, freed: Option<(Slot,
 
 // A step of a command that takes no memory.
 fn step_surely(world: &mut Boxed, number: u32, cmd: Cmd, offer: Option<Slot>) -> Entry
-    requires room { 1 ≤ world.old.spare }
-    requires caller { number < world.old.numbers.callers }
-    requires valid { IsValid cmd }
+    requires step { MayStep world.old number cmd offer }
     requires memory { takes_memory cmd ≡ false }
-    requires offer { IsOffer world.old.state cmd offer }
     ensures { Stepped world.old world.new number cmd offer result }
 {
-    match step(world, number, cmd, offer) {
+    match world.step(number, cmd, offer) {
         Ok(entry) => entry,
         Err(Memory) => unreachable!(),
     }
-}
-
-// A step of a command in the world, with a counter of visits that nothing reads.
-fn step(world: &mut Boxed, number: u32, cmd: Cmd, offer: Option<Slot>) -> Result<Entry, Memory>
-    requires room { 1 ≤ world.old.spare }
-    requires caller { number < world.old.numbers.callers }
-    requires valid { IsValid cmd }
-    requires offer { IsOffer world.old.state cmd offer }
-    ensures run { Run world.old.numbers world.old.journal world.old.state }
-    ensures stepped { IfOk result (Stepped world.old world.new number cmd offer) }
-    ensures memory { OnErr result (IsTrue (takes_memory cmd)) }
-    ensures fits { OnErr result (FitsHeap world.old.numbers world.old.state cmd) }
-    ensures unchanged { OnErr result (world.new ≡ world.old) }
-{
-    step_counted::<Brand>(&mut world.inside, number, cmd, offer, Blank::new(1))
-}
-
-fn step_counted<L: Ledger>(
-    world: &mut World,
-    number: u32,
-    cmd: Cmd,
-    offer: Option<Slot>,
-    blank: Blank,
-) -> Result<Entry, Memory>
-    requires blank { (L.name ≡ blank.name) × (L.parts ≡ blank.parts) × (0 < blank.parts) }
-    requires room { 1 ≤ world.old.spare }
-    requires caller { number < world.old.numbers.callers }
-    requires valid { IsValid cmd }
-    requires offer { IsOffer world.old.state cmd offer }
-    ensures run { Run world.old.numbers world.old.journal world.old.state }
-    ensures stepped { IfOk result (Stepped world.old world.new number cmd offer) }
-    ensures memory { OnErr result (IsTrue (takes_memory cmd)) }
-    ensures fits { OnErr result (FitsHeap world.old.numbers world.old.state cmd) }
-    ensures unchanged { OnErr result (world.new ≡ world.old) }
-{
-    // The journal states that it is a run to the world's state.
-    let _journal = world.journal();
-    let mut steps = Steps::<L>::open(blank);
-    world.apply(number, cmd, offer, &mut steps)
 }

@@ -1,4 +1,4 @@
-use Rattle.hd_gate.proofs.Following.{grows}
+use Rattle.hd_gate.proofs.PoolStep.{grows}
 use Rattle.hd_gate.proofs.change.grow.Goals as goal
 
 pub returns : goal.returns

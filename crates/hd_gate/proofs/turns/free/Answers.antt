@@ -1,82 +1,79 @@
-use Rattle.std.proofs.Common.{◌+◌, ◌≤◌, Option, sym, ap, ◌∙◌, subst}
+use Rattle.std.proofs.Common.{◌≡◌, ◌+◌, ◌≤◌, Option, None, refl, sym, ap, ◌∙◌, subst}
 use Rattle.std.specs.Prelude.{IfSome}
 use Rattle.atomic_table.specs.Seated.{TableId}
 use Rattle.hd_model.specs.declared.data.Kind.{Kind}
 use Rattle.hd_model.specs.declared.data.Slot.{Slot}
 use Rattle.hd_model.specs.Kinds.{kind_number}
-use Rattle.hd_custody.specs.declared.view.View.{View}
 use Rattle.hd_custody.specs.Counts.{HasAs}
-use Rattle.hd_custody.specs.Views.{Known, Follows, gave_back, took}
+use Rattle.hd_custody.specs.Views.{Known, gave_back, took}
 use Rattle.hd_world.specs.World.{WorldView}
 use Rattle.hd_world.specs.contracts.world.WorldHeld.TheImpl.{ghosts}
-use Rattle.hd_gate.specs.Shared.{HasDone}
-use Rattle.hd_gate.specs.Turns.{caller_view_of, freed_in, LetsGo}
-use Rattle.hd_gate.proofs.Freeing.{frees_slot}
+use Rattle.hd_gate.specs.Turns.{Turned, freed_in, LetsGo}
+use Rattle.hd_gate.proofs.HandleFree.{Freed, frees_slot}
+use Rattle.hd_gate.proofs.GateLeave.{may_step, may_leave_with}
+use Rattle.hd_gate.proofs.turns.free.Given.{Over}
 use Rattle.hd_gate.proofs.turns.free.Goals as goal
+use Rattle.hd_gate.proofs.turns.free.Goals.{After-step_surely-entry, After-leave}
+
+-- what its caller may leave the gate with, and what it is once it released what was freed
+all : (g : Over) (c : After-step_surely-entry g) → Freed c.args.number c.args.cmd c.requires.frees
+    c.enter-world.result c.step_surely-entry.new.world c.args.seat.now.view c.requires.turn.idle
+    c.requires.turn.room (subst (λ b. b ≤ 256) c.requires.turn.blocks c.requires.turn.few)
+    c.enter-world.ensures.entered c.step_surely-entry.result c.step_surely-entry.ensures
+    (freed_in c.step_surely-entry.new.world.state c.step_surely-entry.result.slot)
+all g c =
+    frees_slot c.args.number c.args.cmd c.requires.frees c.enter-world.result c.step_surely-entry.new.world
+    c.args.seat.now.view c.requires.turn.idle c.requires.turn.room
+    (subst (λ b. b ≤ 256) c.requires.turn.blocks c.requires.turn.few) c.enter-world.ensures.entered
+    c.step_surely-entry.result c.step_surely-entry.ensures
+
+left : (g : Over) (c : After-leave g) → c.leave.new.seat ≡ record {
+  table = c.args.seat.now.table;
+  view = gave_back ghosts c.enter-world.result c.step_surely-entry.new.world
+      (took c.enter-world.result c.args.seat.now.view);
+}
+left g c =
+    let busy = c.enter-world.ensures.view in
+    c.leave.ensures.view c.enter-world.result (ap (λ (s : Known WorldView). s.view.taken) busy)
+    ∙ ap (λ (s : Known WorldView). record s {
+      view = gave_back ghosts c.enter-world.result c.step_surely-entry.new.world s.view;
+    }) busy
+
+pub step_surely-entry-requires-clause-step : goal.step_surely-entry-requires-clause-step
+step_surely-entry-requires-clause-step g c =
+    may_step c.enter-world.result c.args.seat.now.view c.args.number c.args.cmd None c.enter-world.ensures.entered
+    c.requires.turn.room c.requires.turn.idle.known c.requires.turn.valid tt
 
 pub leave-requires-clause-follows : goal.leave-requires-clause-follows
 leave-requires-clause-follows g c =
     let u = c.enter-world.result in
-    let w = c.step_surely-entry.new.world in
-    let e = c.step_surely-entry.result in
-    let seat = c.args.seat.now in
-    let number = c.args.number in
-    let few = subst (λ b. b ≤ 256) c.requires.turn.blocks c.requires.turn.few in
-    let all = frees_slot number c.args.cmd c.requires.frees u w seat.view c.requires.turn.idle
-    c.requires.turn.room few c.enter-world.ensures.entered e c.step_surely-entry.ensures in
-    let at = ap (λ (s : Known WorldView). s.view) c.enter-world.ensures.view in (
-      u,
-      ap (λ (x : View WorldView). x.taken) at,
-      subst (λ (x : View WorldView). Follows ghosts u w x) (sym at) all.follows,
-    )
+    may_leave_with c.args.seat.now.table c.enter-world.new.seat u c.step_surely-entry.new.world
+    (took u c.args.seat.now.view) c.enter-world.ensures.view refl
+    (all g (goal.at.leave-requires-clause-follows g c).After-step_surely-entry).follows
 
 pub let_go-requires-clause-slot : goal.let_go-requires-clause-slot
 let_go-requires-clause-slot g c =
-    let u = c.enter-world.result in
-    let w = c.step_surely-entry.new.world in
-    let e = c.step_surely-entry.result in
-    let seat = c.args.seat.now in
-    let number = c.args.number in
-    let few = subst (λ b. b ≤ 256) c.requires.turn.blocks c.requires.turn.few in
-    let all = frees_slot number c.args.cmd c.requires.frees u w seat.view c.requires.turn.idle
-    c.requires.turn.room few c.enter-world.ensures.entered e c.step_surely-entry.ensures in
-    let busy = c.enter-world.ensures.view in
-    let taken = ap (λ (s : Known WorldView). s.view.taken) busy in
-    let left = c.leave.ensures.view u taken
-    ∙ ap (λ (s : Known WorldView). record s { view = gave_back ghosts u w s.view }) busy in
-    let has = subst (λ (x : View WorldView). IfSome (freed_in w.state e.slot)
-    (λ f. HasAs (f.0.0, kind_number f.1 + 1) x.hand)) (sym (ap (λ
-    (s : Known WorldView). s.view) left)) all.has in
-    subst (λ (f : Option (Slot × Kind)). IfSome f
-    (λ q. HasAs (q.0.0, kind_number q.1 + 1) c.leave.new.seat.view.hand)) (sym c.freed-freed.ensures) has
+    let at = goal.at.let_go-requires-clause-slot g c in
+    rw c.freed-freed.ensures
+    (subst (λ (s : Known WorldView). IfSome
+    (freed_in c.step_surely-entry.new.world.state c.step_surely-entry.result.slot)
+    (λ f. HasAs (f.0.0, kind_number f.1 + 1) s.view.held)) (sym (left g at.After-leave))
+    (all g at.After-step_surely-entry).has)
 
 pub returns : goal.returns
 returns g c =
-    let u = c.enter-world.result in
-    let w = c.step_surely-entry.new.world in
+    let at = goal.at.returns g c in
     let e = c.step_surely-entry.result in
-    let number = c.args.number in
+    let w = c.step_surely-entry.new.world in
     let seat = c.args.seat.now in
     let n = c.let_go.new.seat.view in
-    let blocks = c.args.custody.now.blocks in
-    let few = subst (λ b. b ≤ 256) c.requires.turn.blocks c.requires.turn.few in
-    let all = frees_slot number c.args.cmd c.requires.frees u w seat.view c.requires.turn.idle
-    c.requires.turn.room few c.enter-world.ensures.entered e c.step_surely-entry.ensures in
-    let busy = c.enter-world.ensures.view in
-    let taken = ap (λ (s : Known WorldView). s.view.taken) busy in
-    let left = c.leave.ensures.view u taken
-    ∙ ap (λ (s : Known WorldView). record s { view = gave_back ghosts u w s.view }) busy in
-    let gone = subst (λ (f : Option (Slot × Kind)). LetsGo blocks f c.leave.new.seat.view n)
-    c.freed-freed.ensures c.let_go.ensures.gone in
-    let away : LetsGo blocks (freed_in w.state e.slot) (gave_back ghosts u w (took u seat.view)) n =
-    subst (λ (x : View WorldView). LetsGo blocks (freed_in w.state e.slot) x n)
-    (ap (λ (s : Known WorldView). s.view) left) gone in
-    let table = c.let_go.ensures.table ∙ ap (λ (s : Known WorldView). s.table) left in
-    record {
-      table = table;
-      limits = all.limits blocks n away;
-      idle = all.stays_idle blocks n away;
-      done = subst (λ (t : TableId). HasDone (caller_view_of seat number seat.view.room)
-          (caller_view_of (record { table = t; view = n }) number n.room) c.args.cmd e.reply) (sym table)
-          (all.done blocks n away c.requires.turn.blocks seat.table);
-    }
+    let left = left g at.After-leave in
+    let away : LetsGo seat.view.limits.blocks (freed_in w.state e.slot)
+    (gave_back ghosts c.enter-world.result w (took c.enter-world.result seat.view)) n =
+    subst (λ (s : Known WorldView). LetsGo seat.view.limits.blocks (freed_in w.state e.slot) s.view n) left
+    (subst (λ b. LetsGo b (freed_in w.state e.slot) c.leave.new.seat.view n) c.requires.turn.blocks
+    (subst (λ (f : Option (Slot × Kind)). LetsGo c.args.custody.now.blocks f c.leave.new.seat.view n)
+    c.freed-freed.ensures c.let_go.ensures.gone)) in
+    subst (λ (t : TableId). Turned seat (record { table = t; view = n }) c.args.number c.args.cmd e.reply)
+    (sym (c.let_go.ensures.table ∙ ap (λ (s : Known WorldView). s.table) left))
+    ((all g at.After-step_surely-entry).turned seat.table n away)

@@ -1,89 +1,76 @@
-use Rattle.std.proofs.Common.{Option, sym, ap, ◌∙◌, subst}
+use Rattle.std.proofs.Common.{◌≡◌, ◌<◌, ◌≤◌, Option, sym, ap, ◌∙◌, subst}
 use Rattle.atomic_table.specs.Seated.{TableId}
 use Rattle.hd_model.specs.declared.data.Slot.{Slot}
 use Rattle.hd_model.specs.Kinds.{kind_number}
 use Rattle.hd_custody.specs.declared.view.View.{View}
 use Rattle.hd_custody.specs.Calls.{gathered}
-use Rattle.hd_custody.specs.Views.{Known, Follows, gave_back, took}
+use Rattle.hd_custody.specs.Views.{Known, took}
 use Rattle.hd_world.specs.World.{WorldView, IsOffer}
-use Rattle.hd_world.specs.contracts.world.WorldHeld.TheImpl.{ghosts}
-use Rattle.hd_gate.specs.Shared.{HasDone}
-use Rattle.hd_gate.specs.Idle.{IsIdle}
-use Rattle.hd_gate.specs.Turns.{caller_view_of, Stepped, without_gathered}
-use Rattle.hd_gate.proofs.Trimming.{may_offer, trim_leaves, may_withdraw, withdrawn_taken, withdrawn_limits}
+use Rattle.hd_gate.specs.Turns.{Stepped, without_gathered}
+use Rattle.hd_gate.proofs.GateLeave.{may_step, Leaves, may_leave, turned}
+use Rattle.hd_gate.proofs.BlockTrim.{may_offer, trim_leaves, may_withdraw}
+use Rattle.hd_gate.proofs.turns.trim.Given.{Over}
 use Rattle.hd_gate.proofs.turns.trim.Goals as goal
+use Rattle.hd_gate.proofs.turns.trim.Goals.{After-withdraw}
 
-pub step_surely-entry-requires-clause-offer : goal.step_surely-entry-requires-clause-offer
-step_surely-entry-requires-clause-offer g c =
-    let k = kind_number c.args.kind in
-    let o = c.gather-block.result in
+pub step_surely-entry-requires-clause-step : goal.step_surely-entry-requires-clause-step
+step_surely-entry-requires-clause-step g c =
     let v = c.gather-block.new.seat.view in
-    subst (λ (p : Option Slot). IsOffer c.enter-world.result.state c.args.cmd p)
-    (sym c.first_slot-first.ensures)
-    (may_offer c.enter-world.result v c.args.kind c.enter-world.ensures.entered c.args.cmd
-    c.requires.gives_back o
-    (ap (λ (x : View WorldView). x.hand) c.gather-block.ensures.done.view
-    ∙ ap (gathered k o) c.requires.turn.idle.hand))
+    let view = c.gather-block.ensures.done.view in
+    let o = c.gather-block.result in
+    may_step c.enter-world.result v c.args.number c.args.cmd c.first_slot-first.result c.enter-world.ensures.entered
+    (subst (λ (x : View WorldView). 1 ≤ x.room) (sym view) c.requires.turn.room)
+    (subst (λ (x : View WorldView). c.args.number < x.limits.callers) (sym view) c.requires.turn.idle.known)
+    c.requires.turn.valid
+    (subst (λ (p : Option Slot). IsOffer c.enter-world.result.state c.args.cmd p) (sym c.first_slot-first.ensures)
+    (may_offer c.enter-world.result v c.args.kind c.enter-world.ensures.entered c.args.cmd c.requires.gives_back o
+    (ap (λ (x : View WorldView). x.held) view
+    ∙ ap (gathered (kind_number c.args.kind) o) c.requires.turn.idle.held)))
 
 pub withdraw-requires-clause-all : goal.withdraw-requires-clause-all
 withdraw-requires-clause-all g c =
     let k = kind_number c.args.kind in
     let o = c.gather-block.result in
-    may_withdraw k o c.enter-world.new.seat.view.hand
-    (ap (λ (s : Known WorldView). s.view.hand) c.enter-world.ensures.view
-    ∙ ap (λ (x : View WorldView). x.hand) c.gather-block.ensures.done.view
-    ∙ ap (gathered k o) c.requires.turn.idle.hand)
+    may_withdraw k o c.enter-world.new.seat.view.held
+    (ap (λ (s : Known WorldView). s.view.held) c.enter-world.ensures.view
+    ∙ ap (λ (x : View WorldView). x.held) c.gather-block.ensures.done.view
+    ∙ ap (gathered k o) c.requires.turn.idle.held)
+
+-- the seat under the gate, and what it may leave with
+busy : (g : Over) (c : After-withdraw g) → c.withdraw.new.seat ≡ record {
+  table = c.args.seat.now.table;
+  view = without_gathered c.gather-block.result (took c.enter-world.result c.gather-block.new.seat.view);
+}
+busy g c = c.withdraw.ensures
+    ∙ ap (λ (s : Known WorldView). record s { view = without_gathered c.gather-block.result s.view })
+    c.enter-world.ensures.view
+    ∙ ap (λ (t : TableId). record {
+      table = t;
+      view = without_gathered c.gather-block.result (took c.enter-world.result c.gather-block.new.seat.view);
+    }) c.gather-block.ensures.table
+
+all : (g : Over) (c : After-withdraw g) → Leaves c.args.number c.args.cmd c.enter-world.result
+    c.step_surely-entry.new.world c.step_surely-entry.result c.args.seat.now.view
+    (without_gathered c.gather-block.result (took c.enter-world.result c.gather-block.new.seat.view))
+all g c =
+    let u = c.enter-world.result in
+    let w = c.step_surely-entry.new.world in
+    let e = c.step_surely-entry.result in
+    trim_leaves c.args.number c.args.cmd c.args.kind c.requires.gives_back u w c.args.seat.now.view
+    c.gather-block.new.seat.view c.requires.turn.idle c.requires.turn.room c.gather-block.result
+    c.args.custody.now.blocks c.requires.turn.blocks c.gather-block.ensures.done c.enter-world.ensures.entered e
+    (subst (λ (p : Option Slot). Stepped u w c.args.number c.args.cmd p e) c.first_slot-first.ensures
+    c.step_surely-entry.ensures)
 
 pub leave-requires-clause-follows : goal.leave-requires-clause-follows
 leave-requires-clause-follows g c =
-    let u = c.enter-world.result in
-    let w = c.step_surely-entry.new.world in
-    let e = c.step_surely-entry.result in
-    let o = c.gather-block.result in
-    let seat = c.args.seat.now in
-    let found = c.gather-block.new.seat in
-    let busy = c.withdraw.ensures ∙ ap (λ (s : Known WorldView). record s { view = without_gathered o s.view })
-    c.enter-world.ensures.view in
-    let at = ap (λ (s : Known WorldView). s.view) busy in (
-      u,
-      ap (λ (x : View WorldView). x.taken) at ∙ withdrawn_taken o (took u found.view),
-      subst (λ (x : View WorldView). Follows ghosts u w x) (sym at)
-          (trim_leaves c.args.number c.args.cmd c.args.kind c.requires.gives_back u w seat.view found.view
-          c.requires.turn.idle c.requires.turn.room o c.args.custody.now.blocks c.requires.turn.blocks
-          c.gather-block.ensures.done
-          c.enter-world.ensures.entered e (subst (λ
-          (p : Option Slot). Stepped u w c.args.number c.args.cmd p e)
-          c.first_slot-first.ensures c.step_surely-entry.ensures)).follows,
-    )
+    let at = (goal.at.leave-requires-clause-follows g c).After-withdraw in
+    may_leave c.args.seat.now c.withdraw.new.seat c.args.number c.args.cmd c.enter-world.result
+    c.step_surely-entry.new.world c.step_surely-entry.result _ (busy g at) (all g at)
 
 pub returns : goal.returns
 returns g c =
-    let u = c.enter-world.result in
-    let w = c.step_surely-entry.new.world in
-    let e = c.step_surely-entry.result in
-    let o = c.gather-block.result in
-    let number = c.args.number in
-    let seat = c.args.seat.now in
-    let found = c.gather-block.new.seat in
-    let all = trim_leaves number c.args.cmd c.args.kind c.requires.gives_back u w seat.view found.view
-    c.requires.turn.idle c.requires.turn.room o c.args.custody.now.blocks c.requires.turn.blocks
-    c.gather-block.ensures.done c.enter-world.ensures.entered e
-    (subst (λ (p : Option Slot). Stepped u w number c.args.cmd p e) c.first_slot-first.ensures
-    c.step_surely-entry.ensures) in
-    let busy = c.withdraw.ensures ∙ ap (λ (s : Known WorldView). record s { view = without_gathered o s.view })
-    c.enter-world.ensures.view in
-    let taken = ap (λ (s : Known WorldView). s.view.taken) busy ∙ withdrawn_taken o (took u found.view) in
-    let left = c.leave.ensures.view u taken
-    ∙ ap (λ (s : Known WorldView). record s { view = gave_back ghosts u w s.view }) busy
-    ∙ ap (λ (t : TableId). record {
-      table = t;
-      view = gave_back ghosts u w (without_gathered o (took u found.view));
-    }) c.gather-block.ensures.table in
-    record {
-      table = ap (λ (s : Known WorldView). s.table) left;
-      limits = ap (λ (s : Known WorldView). s.view.limits) left ∙ withdrawn_limits o (took u found.view)
-          ∙ ap (λ (x : View WorldView). x.limits) c.gather-block.ensures.done.view;
-      idle = subst (λ (s : Known WorldView). IsIdle s.view number) (sym left) all.idle;
-      done = subst (λ (s : Known WorldView). HasDone (caller_view_of seat number seat.view.room)
-          (caller_view_of s number s.view.room) c.args.cmd e.reply) (sym left) (all.done seat.table);
-    }
+    let at = (goal.at.returns g c).After-withdraw in
+    turned c.args.seat.now c.withdraw.new.seat c.args.number c.args.cmd c.enter-world.result
+    c.step_surely-entry.new.world c.step_surely-entry.result _ (busy g at) (all g at) c.leave.new.seat
+    c.leave.ensures.view

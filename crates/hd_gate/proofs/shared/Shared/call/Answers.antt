@@ -1,33 +1,29 @@
-use Rattle.std.proofs.Common.{◌≡◌, ◌+◌, ◌≤◌, Result, Ok, Err, OnErr, sym, subst, arith}
+use Rattle.std.proofs.Common.{◌≡◌, ◌+◌, ◌≤◌, sym, subst, arith}
 use Rattle.crossbeam_utils.specs.Padded.{padded_value}
 use Rattle.hd_gate.specs.Shared.{CallerView, HadRoom, HasDone}
 use Rattle.hd_gate.specs.Turns.{caller_view_of}
-use Rattle.hd_gate.proofs.Looking.{done_with, room_with}
+use Rattle.hd_gate.proofs.CallDone.{done_with, room_with}
 use Rattle.hd_gate.proofs.shared.Shared.call.Goals as goal
 
-pub returns-clause-done : goal.returns-clause-done
-returns-clause-done g c =
+pub returns-in-Ok-clause-done : goal.returns-in-Ok-clause-done
+returns-in-Ok-clause-done g c =
     let seat = c.caller.inside.seat in
     let number = c.caller.inside.number in
     let room = padded_value c.caller.inside.room in
     let left = padded_value c.new-caller-inside.result in
     let some : 1 ≤ room = subst (λ (p : CallerView). 1 ≤ p.room) (sym c.caller.view_is) c.requires.room in
     let less : left + 1 ≡ room = omega (arith, some, c.new-caller-inside.ensures, c.deref-room.ensures) in
-    subst (λ (p : CallerView). HasDone p (caller_view_of c.turn.new.seat number left) c.args.cmd c.in_ok-reply.reply)
+    subst (λ (p : CallerView). HasDone p (caller_view_of c.turn.new.seat number left) c.args.cmd c.in-Ok.reply)
     c.caller.view_is
     (done_with (caller_view_of seat number seat.view.room)
-    (caller_view_of c.turn.new.seat number c.turn.new.seat.view.room) room left c.args.cmd c.in_ok-reply.reply
-    less c.in_ok-reply.ensures.done.done)
+    (caller_view_of c.turn.new.seat number c.turn.new.seat.view.room) room left c.args.cmd c.in-Ok.reply
+    less c.in-Ok.ensures.done)
 
-on_err : {A E : Type 0} {P : Type 0} (r : Result A E) → P → OnErr r P
-on_err (Ok x) p = tt
-on_err (Err e) p = p
-
-pub returns-in_err-reply-clause-fits : goal.returns-in_err-reply-clause-fits
-returns-in_err-reply-clause-fits g c =
+pub returns-in-Err-clause-fits : goal.returns-in-Err-clause-fits
+returns-in-Err-clause-fits g c =
     let seat = c.caller.inside.seat in
     let number = c.caller.inside.number in
     let room = padded_value c.caller.inside.room in
     let p = caller_view_of seat number seat.view.room in
-    on_err c.from_residual.result (subst (λ (q : CallerView). HadRoom q c.args.cmd) c.caller.view_is
-    (room_with p p room room c.args.cmd c.in_err-reply.ensures.fits))
+    subst (λ (q : CallerView). HadRoom q c.args.cmd) c.caller.view_is
+    (room_with p p room room c.args.cmd c.in-Err.ensures.fits)

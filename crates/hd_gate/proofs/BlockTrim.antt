@@ -9,7 +9,6 @@ use Rattle.std.proofs.lemmas.Bool.{cases_eq}
 use Rattle.std.proofs.lemmas.Nat.Bits.{bit_at_ones}
 use mathlib.Core.Option.{some}
 use lib.ListN.{get_elem?}
-use Rattle.atomic_table.specs.Seated.{TableId}
 use Rattle.hd_model.specs.declared.data.Entry.{Entry}
 use Rattle.hd_model.specs.declared.data.Grown.TheVariants.{Back}
 use Rattle.hd_model.specs.declared.data.Kind.{Kind}
@@ -24,14 +23,13 @@ use Rattle.hd_model.specs.Table.{kind_word}
 use Rattle.hd_model.proofs.WellFormedSteps.{first_block}
 use Rattle.hd_model.proofs.ReadAfterWrite.{get_removed, get_left}
 use Rattle.hd_custody.specs.declared.view.View.{View}
-use Rattle.hd_custody.specs.declared.view.Limits.{Limits}
 use Rattle.hd_custody.specs.Counts.{Has, Every, rows, is_nil, without_block}
-use Rattle.hd_custody.specs.Views.{called, closed, numbers_of, gave_back, took}
+use Rattle.hd_custody.specs.Views.{called, closed, numbers_of, took}
 use Rattle.hd_custody.specs.Calls.{gathered, Gathers, ShowsNone}
 use Rattle.hd_custody.specs.Traces.{every_row, follow, sweep, missed, ending}
 use Rattle.hd_custody.specs.Rule.{Entered}
 use Rattle.hd_custody.proofs.Canon.{row_has, filter_append, filter_picks, picks_none}
-use Rattle.hd_custody.proofs.Hands.{member_at, every_append, every_picks}
+use Rattle.hd_custody.proofs.HeldSlots.{member_at, every_append, every_picks}
 use Rattle.hd_world.specs.World.{WorldView, IsOffer, GrowsUnoffered, Takes as TakesOffer, asks_of}
 use Rattle.hd_world.specs.contracts.world.WorldHeld.TheImpl.{ghosts}
 use Rattle.hd_gate.specs.declared.change.Change.TheVariants.{GivesBack as Gives}
@@ -39,10 +37,10 @@ use Rattle.hd_gate.specs.Change.{change_of}
 use Rattle.hd_gate.specs.Shared.{OwnSteps, LookedFor, SlotCalls}
 use Rattle.hd_gate.specs.declared.change.Change.{Change}
 use Rattle.hd_gate.specs.Idle.{IsIdle}
-use Rattle.hd_gate.specs.Turns.{caller_view_of, Stepped, without_gathered}
-use Rattle.hd_gate.proofs.Granting.{free_in_hand}
-use Rattle.hd_gate.proofs.Living.{zero_is_not_one}
-use Rattle.hd_gate.proofs.Leaving.{SameSeat, same_seat, Leaves, leaves, every_nil, hand_stays}
+use Rattle.hd_gate.specs.Turns.{search_of, Stepped, without_gathered}
+use Rattle.hd_gate.proofs.HandleMake.{free_in_hand}
+use Rattle.hd_gate.proofs.StepLiveSlots.{zero_is_not_one}
+use Rattle.hd_gate.proofs.GateLeave.{SameSeat, same_seat, Leaves, leaves, every_nil, hand_stays}
 
 Gives-injective : (j k : Kind) → Gives j ≡ Gives k → j ≡ k
 Gives-injective j k e = cc
@@ -66,7 +64,7 @@ module _ (k block : ℕ) where
       (every_picks (λ p. p.1 ≡ k + 1) 64 (λ r. bit_at every_row r == 1) (64 * block) (λ _. k + 1)
       (λ r lt on. refl)) (every_nil (λ p. p.1 ≡ k + 1))
 
-  -- one of them, as the hand has it
+  -- one of them, as it is held
   pub there : (x : ℕ) → x / 64 ≡ block → (n : ℕ) × (get_elem? all n ≡ some (x, k + 1))
   there x of =
       let has : Has x all = subst (λ y. Has y all) (omega (arith, of)) (all_has (x % 64) (omega arith)) in
@@ -89,15 +87,15 @@ module _ (k block : ℕ) where
 
 -- what was gathered may be offered
 module _ (u : WorldView) (v : View WorldView) (kind : Kind) (entered : Entered ghosts v u) where
-  pub may_offer : (c : Cmd) → change_of c ≡ Gives kind → (o : Option ℕ) → v.hand
+  pub may_offer : (c : Cmd) → change_of c ≡ Gives kind → (o : Option ℕ) → v.held
       ≡ gathered (kind_number kind) o []
       → IsOffer u.state c (option_map first_slot o)
-  may_offer c gives None hand = tt
-  may_offer c gives (Some block) hand =
+  may_offer c gives None held = tt
+  may_offer c gives (Some block) held =
       subst (λ (x : Cmd). IsOffer u.state x (Some (first_slot block))) (sym (is_trim kind c gives)) (
         ap first_slot (sym (first_block block)),
         (λ slot of. let at = there (kind_number kind) block slot.0 (of ∙ first_block block) in
-            free_in_hand u v kind entered at.0 slot (ap (λ h. get_elem? h at.0) hand ∙ at.1)),
+            free_in_hand u v kind entered at.0 slot (ap (λ h. get_elem? h at.0) held ∙ at.1)),
       )
 
 closed_kind : (s t : map.FinMap nat_cmp BlockUse) (block : ℕ) → t ≡ map.remove s block → (c : ℕ)
@@ -124,7 +122,7 @@ module _ (number : ℕ) (command : Cmd) (kind : Kind) (gives : change_of command
   K = kind_number kind
 
   same : SameSeat v v'
-  same = same_seat v' (called (gathered K o v.hand) v'.trace v) found.view
+  same = same_seat v' (called (gathered K o v.held) v'.trace v) found.view
 
   own : part_of u.journal v.number ≡ v.part
   own = ap (part_of u.journal) (sym same.0) ∙ entered.part ∙ same.2
@@ -132,45 +130,32 @@ module _ (number : ℕ) (command : Cmd) (kind : Kind) (gives : change_of command
   sized : u.numbers ≡ numbers_of v.limits
   sized = entered.sized ∙ ap numbers_of same.1
 
-  hand : v'.hand ≡ gathered K o []
-  hand = ap (λ (x : View WorldView). x.hand) found.view ∙ ap (gathered K o) idle.hand
+  held : v'.held ≡ gathered K o []
+  held = ap (λ (x : View WorldView). x.held) found.view ∙ ap (gathered K o) idle.held
 
   does : StepOf u.numbers u.state e w.state (cmd.Trim kind)
   does = subst (StepOf u.numbers u.state e w.state) (stepped.command_is ∙ is_trim kind command gives)
       stepped.step.does
 
-  own_steps : (t : TableId) (n : View WorldView) → n.trace_number ≡ v'.trace_number
-      → n.began_empty ≡ v'.began_empty → OwnSteps (caller_view_of (record { table = t; view = v }) number v.room)
-      (caller_view_of (record { table = t; view = n }) number n.room)
-  own_steps t n count began =
-      let calls = ap (λ (x : View WorldView). x.trace_number) found.view in
-      record {
-        one = omega (arith, count, calls);
-        began_empty = began ∙ ap (λ (x : View WorldView). x.began_empty) found.view ∙ ap is_nil idle.hand;
-      }
+  own_steps : OwnSteps (search_of v) (search_of v')
+  own_steps = record {
+    one = ap (λ (x : View WorldView). x.trace_number) found.view;
+    began_empty = ap (λ (x : View WorldView). x.began_empty) found.view ∙ ap is_nil idle.held;
+  }
 
-  slot_calls : (t : TableId) (n : View WorldView) → n.trace_number ≡ v'.trace_number
-      → n.began_empty ≡ v'.began_empty
-      → SlotCalls (change_of command) u.state (caller_view_of (record { table = t; view = v }) number v.room)
-      (caller_view_of (record { table = t; view = n }) number n.room) e
-  slot_calls t n count began = subst
-      (λ (c : Change). SlotCalls c u.state (caller_view_of (record { table = t; view = v }) number v.room)
-      (caller_view_of (record { table = t; view = n }) number n.room) e) (sym gives) (own_steps t n count began)
+  slot_calls : SlotCalls (change_of command) u.state v.limits.blocks (search_of v) (search_of v') e
+  slot_calls = subst (λ (c : Change). SlotCalls c u.state v.limits.blocks (search_of v) (search_of v') e) (sym gives)
+      own_steps
 
-  looked_for : (t : TableId) (n : View WorldView) → n.limits ≡ v.limits → n.trace ≡ v'.trace
-      → n.trace_number ≡ v'.trace_number → n.began_empty ≡ v'.began_empty → (e.reply ≡ reply.Value 0 → o
-      ≡ None)
-      → LookedFor (asks_of command) (caller_view_of (record { table = t; view = v }) number v.room)
-      (caller_view_of (record { table = t; view = n }) number n.room) e
-  looked_for t n limits trace count began only =
-      subst (λ (c : Cmd). LookedFor (asks_of c) (caller_view_of (record { table = t; view = v }) number v.room)
-      (caller_view_of (record { table = t; view = n }) number n.room) e) (sym (is_trim kind command gives))
+  looked_for : (e.reply ≡ reply.Value 0 → o ≡ None)
+      → LookedFor (asks_of command) v.limits.blocks (search_of v) (search_of v') e
+  looked_for only =
+      subst (λ (c : Cmd). LookedFor (asks_of c) v.limits.blocks (search_of v) (search_of v') e)
+      (sym (is_trim kind command gives))
       (λ says. record {
-        own = own_steps t n count began;
-        ended = subst (λ (l : Limits). follow K l.blocks (sweep 0) n.trace ≡ missed) (sym limits)
-            (subst (λ b. follow K b (sweep 0) n.trace ≡ missed) are
-            (ap (follow K blocks (sweep 0)) trace ∙ found.steps ∙ ap ending (only says)));
-        none = subst (ShowsNone K) (sym trace) (found.none (only says));
+        own = own_steps;
+        ended = subst (λ b. follow K b (sweep 0) v'.trace ≡ missed) are (found.steps ∙ ap ending (only says));
+        none = found.none (only says);
       })
 
   -- nothing was gathered, and nothing is given back
@@ -184,11 +169,11 @@ module _ (number : ℕ) (command : Cmd) (kind : Kind) (gives : change_of command
         | inl m ↦ absurd (zero_is_not_one (sym grows ∙ m.reply))
         | inr out ↦ leaves number command (option_map first_slot o) u w e stepped v
             (took u v') idle some_room own sized
-            same (λ t. slot_calls t (gave_back ghosts u w (took u v')) refl refl) (λ b _ _. ap (λ (s : State). kind_word (use_of s b)) out.after)
+            same refl slot_calls (λ b _ _. ap (λ (s : State). kind_word (use_of s b)) out.after)
             (λ x _ on. inl (sym (ap (λ (s : State). is_some (get s.handles x)) out.after) ∙ on))
             (hand_stays u w (took u v') (λ x. ap (λ (s : State). is_some (get s.handles x)) out.after)
-            (hand ∙ ap (λ p. gathered K p []) none))
-            (λ t. looked_for t (gave_back ghosts u w (took u v')) same.1 refl refl refl (λ _. none))
+            (held ∙ ap (λ p. gathered K p []) none))
+            (looked_for (λ _. none))
       ]
 
   -- a block was gathered, and is given back
@@ -203,15 +188,14 @@ module _ (number : ℕ) (command : Cmd) (kind : Kind) (gives : change_of command
             let which : m.block ≡ block = Back-injective m.block block
             (sym m.grown ∙ takes.1 ∙ ap Back (first_block block)) in
             let after : w.state ≡ without_use u.state block = m.after ∙ ap (without_use u.state) which in
-            leaves number command (option_map first_slot o) u w e stepped v busy idle some_room own sized same
-            (λ t. slot_calls t (gave_back ghosts u w busy) refl refl)
+            leaves number command (option_map first_slot o) u w e stepped v busy idle some_room own sized same refl
+            slot_calls
             (λ b _ _. closed_kind u.state.blocks w.state.blocks block
             (ap (λ (s : State). s.blocks) after) b)
             (λ x _ on. inl (sym (ap (λ (s : State). is_some (get s.handles x)) after) ∙ on))
             (hand_stays u w busy (λ x. ap (λ (s : State). is_some (get s.handles x)) after)
-            (ap (without_block block) (hand ∙ ap (λ p. gathered K p []) is) ∙ all_go K block))
-            (λ t. looked_for t (gave_back ghosts u w busy) same.1 refl refl refl
-            (λ says. absurd (zero_is_not_one (sym says ∙ m.reply)))))
+            (ap (without_block block) (held ∙ ap (λ p. gathered K p []) is) ∙ all_go K block))
+            (looked_for (λ says. absurd (zero_is_not_one (sym says ∙ m.reply)))))
         | inr out ↦ absurd (zero_is_not_one (sym out.reply ∙ takes.0))
       ]
 
@@ -228,11 +212,3 @@ pub may_withdraw : (k : ℕ) (o : Option ℕ) (held : List (ℕ × ℕ)) → hel
 may_withdraw k None held is = tt
 may_withdraw k (Some block) held is =
     λ r lt. subst (λ h. Has (64 * block + r) h) (sym is) (all_has k block r lt)
-
-pub withdrawn_taken : (o : Option ℕ) (v : View WorldView) → (without_gathered o v).taken ≡ v.taken
-withdrawn_taken None v = refl
-withdrawn_taken (Some block) v = refl
-
-pub withdrawn_limits : (o : Option ℕ) (v : View WorldView) → (without_gathered o v).limits ≡ v.limits
-withdrawn_limits None v = refl
-withdrawn_limits (Some block) v = refl

@@ -1,5 +1,5 @@
 -- What a seat is once its caller took a step under the gate and left.
-use Rattle.std.proofs.Common.{◌≡◌, ◌≢◌, ◌⊎◌, ℕ, ◌+◌, ◌/◌, ◌<◌, ◌≤◌, Bool, true, false, not, ◌&&◌, cond, List, [], ◌∷◌, ◌++◌, length, filter, Option, inl, inr, refl, sym, ap, ◌∙◌, subst, eq-eqb, ne_eqb, length-append, arith}
+use Rattle.std.proofs.Common.{◌≡◌, ◌≢◌, ◌⊎◌, ℕ, ◌+◌, ◌/◌, ◌<◌, ◌≤◌, Bool, true, false, not, ◌&&◌, cond, List, [], ◌∷◌, ◌++◌, length, filter, Option, Some, inl, inr, refl, sym, ap, ◌∙◌, subst, eq-eqb, ne_eqb, length-append, arith}
 use Rattle.std.specs.Prelude.{◌==◌}
 use Rattle.std.proofs.lemmas.Bool.{cases_eq}
 use mathlib.Core.Option.{some-ne-none}
@@ -15,15 +15,30 @@ use Rattle.hd_model.proofs.WellFormedSteps.{run_is_well_formed}
 use Rattle.hd_custody.specs.declared.view.View.{View}
 use Rattle.hd_custody.specs.declared.view.Limits.{Limits}
 use Rattle.hd_custody.specs.Counts.{Every, Has, changed, picks, slot_count}
-use Rattle.hd_custody.specs.Views.{Continues, Follows, numbers_of, gave_back}
+use Rattle.hd_custody.specs.Views.{Known, Continues, Follows, numbers_of, gave_back}
 use Rattle.hd_custody.proofs.Canon.{picks_none, picks_one}
 use Rattle.hd_custody.proofs.Left.{none_ended}
-use Rattle.hd_world.specs.World.{WorldView, asks_of}
+use Rattle.hd_model.specs.Valid.{IsValid}
+use Rattle.hd_custody.specs.Rule.{Entered}
+use Rattle.hd_world.specs.World.{WorldView, IsOffer, asks_of}
 use Rattle.hd_world.specs.contracts.world.WorldHeld.TheImpl.{ghosts}
 use Rattle.hd_gate.specs.Change.{change_of}
 use Rattle.hd_gate.specs.Shared.{LookedFor, SlotCalls, Found, HasDone}
 use Rattle.hd_gate.specs.Idle.{IsIdle}
-use Rattle.hd_gate.specs.Turns.{caller_view_of, Stepped}
+use Rattle.hd_gate.specs.Turns.{caller_view_of, search_of, MayStep, Stepped, Turned}
+
+-- a caller that entered may take a step
+pub may_step : (u : WorldView) (v : View WorldView) (number : ℕ) (command : Cmd) (offer : Option Slot)
+    → Entered ghosts v u → 1 ≤ v.room → number < v.limits.callers → IsValid command → IsOffer u.state command offer
+    → MayStep u number command offer
+may_step u v number command offer entered room known valid offered =
+    let spare : v.room ≤ u.spare = entered.room in
+    record {
+      room = omega (arith, spare, room);
+      caller = omega (arith, known, ap (λ (n : Numbers). n.callers) entered.sized);
+      valid = valid;
+      offer = offered;
+    }
 
 -- a view is that of the same seat, which has the same part and may add as many entries
 abbrev pub SameSeat : View WorldView → View WorldView → Type 0
@@ -43,13 +58,13 @@ same_seat v w e = (
 
 -- such a seat is idle where it has no slot and not the gate
 pub idle_of : (v n : View WorldView) (number : ℕ) → IsIdle v number → n.number ≡ v.number → n.limits ≡ v.limits
-    → n.ended ≡ v.ended → n.made ≡ v.made → n.hand ≡ [] → n.has_gate ≡ false → IsIdle n number
-idle_of v n number idle same limits ended made hand gate =
+    → n.ended ≡ v.ended → n.made ≡ v.made → n.held ≡ [] → n.has_gate ≡ false → IsIdle n number
+idle_of v n number idle same limits ended made held gate =
     let callers = ap (λ (l : Limits). l.callers) limits in
     record {
       number = same ∙ idle.number;
       known = subst (λ c. number < c) (sym callers) idle.known;
-      hand = hand;
+      held = held;
       gate = gate;
       ended = ended ∙ idle.ended;
       made = λ first. made ∙ idle.made first ∙ sym callers;
@@ -71,20 +86,11 @@ pub well_formed : {u w : WorldView} {number : ℕ} {command : Cmd} {offer : Opti
     → Stepped u w number command offer e → IsWellFormed u.numbers u.state
 well_formed {u} s = run_is_well_formed u.numbers u.journal u.state s.run
 
--- what the caller of a seat found, by the world that it took
-abbrev pub found_in : (u : WorldView) (v : View WorldView) (number : ℕ) (t : TableId) (room : ℕ)
-    → Run u.numbers u.journal u.state → v.number ≡ number → part_of u.journal v.number ≡ v.part
-    → u.numbers ≡ numbers_of v.limits → Found (caller_view_of (record { table = t; view = v }) number room)
-found_in u v number t room run is own sized = record {
-  journal = u.journal;
-  state = u.state;
-  run = subst (λ (n : Numbers). Run n u.journal u.state) sized run;
-  part = ap (part_of u.journal) (sym is) ∙ own;
-}
-
 -- the gate may be left with the world w, and the caller is then idle and its command done
 pub record Leaves (number : ℕ) (command : Cmd) (u w : WorldView) (e : Entry)
     (v busy : View WorldView) : Type 0 where
+  pub taken : busy.taken ≡ Some u
+  pub limits : busy.limits ≡ v.limits
   pub follows : Follows ghosts u w busy
   pub idle : IsIdle (gave_back ghosts u w busy) number
   pub done : (t : TableId) → HasDone (caller_view_of (record { table = t; view = v }) number v.room)
@@ -122,21 +128,24 @@ module _ (number : ℕ) (command : Cmd) (offer : Option Slot) (u w : WorldView) 
       let longer = ap length stepped.journal ∙ length-append u.journal (e ∷ []) in
       omega (arith, longer, some, same.3)
 
-  -- the seat is idle again, where its hand is empty
-  pub idle_after : after.hand ≡ [] → IsIdle after number
+  -- the seat is idle again, where nothing is held
+  pub idle_after : after.held ≡ [] → IsIdle after number
   idle_after empty = idle_of v after number idle same.0 same.1 same.4 same.5 empty refl
 
   -- and the command was done, where what it looked for is stated
   pub done_after : (t : TableId) (n : View WorldView) → n.part ≡ after.part → n.room ≡ after.room
-      → LookedFor (asks_of command) (caller_view_of (record { table = t; view = v }) number v.room)
-      (caller_view_of (record { table = t; view = n }) number n.room) e
-      → SlotCalls (change_of command) u.state (caller_view_of (record { table = t; view = v }) number v.room)
-      (caller_view_of (record { table = t; view = n }) number n.room) e
+      → LookedFor (asks_of command) v.limits.blocks (search_of v) (search_of n) e
+      → SlotCalls (change_of command) u.state v.limits.blocks (search_of v) (search_of n) e
       → HasDone (caller_view_of (record { table = t; view = v }) number v.room)
       (caller_view_of (record { table = t; view = n }) number n.room) command e.reply
   done_after t n part room looked_for slot_calls = record {
     entry = e;
-    found = found_in u v number t v.room stepped.run idle.number entered sized;
+    found = record {
+      journal = u.journal;
+      state = u.state;
+      run = subst (λ (n : Numbers). Run n u.journal u.state) sized stepped.run;
+      part = ap (part_of u.journal) (sym idle.number) ∙ entered;
+    };
     after = w.state;
     step = subst (λ (n : Numbers). Step n u.state e w.state) sized stepped.step;
     caller_is = stepped.caller_is;
@@ -149,25 +158,56 @@ module _ (number : ℕ) (command : Cmd) (offer : Option Slot) (u w : WorldView) 
   }
 
   -- so the gate may be left, and the call is then done
-  pub leaves : ((t : TableId)
-      → SlotCalls (change_of command) u.state (caller_view_of (record { table = t; view = v }) number v.room)
-      (caller_view_of (record { table = t; view = after }) number after.room) e)
+  pub leaves : busy.taken ≡ Some u
+      → SlotCalls (change_of command) u.state v.limits.blocks (search_of v) (search_of busy) e
       → ((b : ℕ) → 0 < b → b < 257 → ghosts.kind w b ≡ changed busy.changes (ghosts.kind u) b)
-      → ((x : ℕ) → 64 ≤ x → ghosts.live w x ≡ true → (ghosts.live u x ≡ true) ⊎ Has x busy.hand)
-      → after.hand ≡ []
-      → ((t : TableId) → LookedFor (asks_of command) (caller_view_of (record { table = t; view = v }) number v.room)
-      (caller_view_of (record { table = t; view = after }) number after.room) e)
+      → ((x : ℕ) → 64 ≤ x → ghosts.live w x ≡ true → (ghosts.live u x ≡ true) ⊎ Has x busy.held)
+      → after.held ≡ [] → LookedFor (asks_of command) v.limits.blocks (search_of v) (search_of busy) e
       → Leaves number command u w e v busy
-  leaves slot_calls kinds lives hand looked_for = record {
+  leaves taken slot_calls kinds lives held looked_for = record {
+    taken = taken;
+    limits = same.1;
     follows = record {
       kinds = kinds;
       sized = stepped.numbers ∙ sized ∙ sym (ap numbers_of same.1);
       lives = lives;
       goes_on = goes_on;
     };
-    idle = idle_after hand;
-    done = λ t. done_after t after refl refl (looked_for t) (slot_calls t);
+    idle = idle_after held;
+    done = λ t. done_after t after refl refl looked_for slot_calls;
   }
+
+-- ---- a turn, by the seat as it leaves the gate
+
+pub may_leave_with : (t : TableId) (mid : Known WorldView) (u w : WorldView) (busy : View WorldView)
+    → mid ≡ record { table = t; view = busy } → busy.taken ≡ Some u → Follows ghosts u w busy
+    → (x : WorldView) × (mid.view.taken ≡ Some x) × Follows ghosts x w mid.view
+may_leave_with t mid u w busy is taken follows =
+    let at = ap (λ (s : Known WorldView). s.view) is in (
+      u,
+      ap (λ (x : View WorldView). x.taken) at ∙ taken,
+      subst (λ (x : View WorldView). Follows ghosts u w x) (sym at) follows,
+    )
+
+module _ (seat mid : Known WorldView) (number : ℕ) (command : Cmd) (u w : WorldView) (e : Entry)
+    (busy : View WorldView) (is : mid ≡ record { table = seat.table; view = busy })
+    (all : Leaves number command u w e seat.view busy) where
+  pub may_leave : (x : WorldView) × (mid.view.taken ≡ Some x) × Follows ghosts x w mid.view
+  may_leave = may_leave_with seat.table mid u w busy is all.taken all.follows
+
+  pub turned : (out : Known WorldView)
+      → ((x : WorldView) → mid.view.taken ≡ Some x → out ≡ record mid { view = gave_back ghosts x w mid.view })
+      → Turned seat out number command e.reply
+  turned out leave =
+      let left = leave u (ap (λ (s : Known WorldView). s.view.taken) is ∙ all.taken)
+      ∙ ap (λ (s : Known WorldView). record s { view = gave_back ghosts u w s.view }) is in
+      record {
+        table = ap (λ (s : Known WorldView). s.table) left;
+        limits = ap (λ (s : Known WorldView). s.view.limits) left ∙ all.limits;
+        idle = subst (λ (s : Known WorldView). IsIdle s.view number) (sym left) all.idle;
+        done = subst (λ (s : Known WorldView). HasDone (caller_view_of seat number seat.view.room)
+            (caller_view_of s number s.view.room) command e.reply) (sym left) (all.done seat.table);
+      }
 
 -- ---- hands
 
@@ -189,14 +229,14 @@ module _ (u w : WorldView) (v : View WorldView) where
       (λ r. ghosts.kind w ((64 + r) / 64))
 
   -- no slot became live and none ended
-  pub hand_stays : ((x : ℕ) → ghosts.live w x ≡ ghosts.live u x) → v.hand ≡ []
-      → (gave_back ghosts u w v).hand ≡ []
+  pub hand_stays : ((x : ℕ) → ghosts.live w x ≡ ghosts.live u x) → v.held ≡ []
+      → (gave_back ghosts u w v).held ≡ []
   hand_stays same empty =
       none_ended ghosts u w v (λ x _. same x)
       (subst (Every (λ p. ghosts.live w p.0 ≡ false)) (sym empty) (every_nil _)) ∙ empty
 
-  -- one became live, which was the hand
-  module _ (x k : ℕ) (only : v.hand ≡ (x, k) ∷ []) (on : ghosts.live w x ≡ true)
+  -- one became live, which was held
+  module _ (x k : ℕ) (only : v.held ≡ (x, k) ∷ []) (on : ghosts.live w x ≡ true)
       (others : (y : ℕ) → y ≢ x → ghosts.live w y ≡ ghosts.live u y) where
     none_ends : (y : ℕ) → (ghosts.live u y && not (ghosts.live w y)) ≡ false
     none_ends y = elim (cases_eq y x) [
@@ -205,7 +245,7 @@ module _ (u w : WorldView) (v : View WorldView) where
           ap (λ b. ghosts.live u y && not b) (others y apart) ∙ both_off (ghosts.live u y))
     ]
 
-    pub hand_lives : (gave_back ghosts u w v).hand ≡ []
+    pub hand_lives : (gave_back ghosts u w v).held ≡ []
     unfolding ended
     hand_lives =
         ap (λ h. filter (λ (p : ℕ × ℕ). not (ghosts.live w p.0)) h ++ ended slot_count) only
@@ -213,10 +253,10 @@ module _ (u w : WorldView) (v : View WorldView) where
         ∙ picks_none slot_count (λ r. ghosts.live u (64 + r) && not (ghosts.live w (64 + r))) 64
         (λ r. ghosts.kind w ((64 + r) / 64)) (λ r _. none_ends (64 + r))
 
-  -- one ended, and comes to the hand
-  pub hand_ends : (a : ℕ) → a < 16384 → v.hand ≡ [] → ghosts.live u (64 + a) ≡ true
+  -- one ended, and is held
+  pub hand_ends : (a : ℕ) → a < 16384 → v.held ≡ [] → ghosts.live u (64 + a) ≡ true
       → ghosts.live w (64 + a) ≡ false → ((y : ℕ) → y ≢ 64 + a → ghosts.live w y ≡ ghosts.live u y)
-      → (gave_back ghosts u w v).hand ≡ (64 + a, ghosts.kind w ((64 + a) / 64)) ∷ []
+      → (gave_back ghosts u w v).held ≡ (64 + a, ghosts.kind w ((64 + a) / 64)) ∷ []
   unfolding ended slot_count
   hand_ends a low empty was off others =
       ap (λ h. filter (λ (p : ℕ × ℕ). not (ghosts.live w p.0)) h ++ ended slot_count) empty

@@ -19,9 +19,8 @@ use Rattle.hd_model.specs.Step.{StepOf}
 use Rattle.hd_model.specs.Table.{kind_word}
 use Rattle.hd_model.proofs.ReadAfterWrite.{get_removed, get_left}
 use Rattle.hd_custody.specs.declared.view.View.{View}
-use Rattle.hd_custody.specs.Traces.{follow, push, found as ends}
 use Rattle.hd_custody.specs.Counts.{HasAs, without}
-use Rattle.hd_custody.specs.Views.{Follows, gave_back, took}
+use Rattle.hd_custody.specs.Views.{Known, Follows, gave_back, took}
 use Rattle.hd_custody.specs.Rule.{Entered}
 use Rattle.hd_world.specs.World.{WorldView, asks_of}
 use Rattle.hd_world.specs.Growth.{kind_in_use}
@@ -29,11 +28,11 @@ use Rattle.hd_world.specs.contracts.world.WorldHeld.TheImpl.{ghosts}
 use Rattle.hd_gate.specs.declared.change.Change.TheVariants.{Frees}
 use Rattle.hd_gate.specs.Change.{change_of}
 use Rattle.hd_gate.specs.declared.change.Change.{Change}
-use Rattle.hd_gate.specs.Shared.{CallerView, LookedFor, LetsOneGo, SlotCalls, HasDone}
+use Rattle.hd_gate.specs.Shared.{SearchView, LookedFor, LetsOneGo, SlotCalls, HasDone}
 use Rattle.hd_gate.specs.Idle.{IsIdle}
-use Rattle.hd_gate.specs.Turns.{caller_view_of, Stepped, freed_in, LetsGo}
-use Rattle.hd_gate.proofs.Living.{FreesAt, frees_at}
-use Rattle.hd_gate.proofs.Leaving.{well_formed, idle_of, goes_on, done_after, hand_stays, hand_ends}
+use Rattle.hd_gate.specs.Turns.{caller_view_of, search_of, Stepped, Turned, freed_in, LetsGo}
+use Rattle.hd_gate.proofs.StepLiveSlots.{FreesAt, frees_at}
+use Rattle.hd_gate.proofs.GateLeave.{well_formed, idle_of, goes_on, done_after, hand_stays, hand_ends}
 
 -- a command that frees a slot is `hfree`
 is_free : (c : Cmd) → change_of c ≡ Frees → (h : ℕ) × (c ≡ cmd.HFree h)
@@ -49,21 +48,20 @@ module _ (number : ℕ) (command : Cmd) (frees : change_of command ≡ Frees) (u
   abbrev left : View WorldView
   left = gave_back ghosts u w busy
 
-  looks_for_none : (old new : CallerView) → LookedFor (asks_of command) old new e
+  looks_for_none : (old new : SearchView) → LookedFor (asks_of command) v.limits.blocks old new e
   looks_for_none old new =
       let is = is_free command frees in
-      subst (λ (c : Cmd). LookedFor (asks_of c) old new e) (sym is.1) tt
+      subst (λ (c : Cmd). LookedFor (asks_of c) v.limits.blocks old new e) (sym is.1) tt
+
+  abbrev seat : TableId → View WorldView → Known WorldView
+  seat t view = record { table = t; view = view }
 
   -- the caller once it released what was freed
   pub record Freed (freed : Option (Slot × Kind)) : Type 0 where
     pub follows : Follows ghosts u w busy
-    pub has : IfSome freed (λ f. HasAs (f.0.0, kind_number f.1 + 1) left.hand)
-    pub stays_idle : (blocks : ℕ) (n : View WorldView) → LetsGo blocks freed left n → IsIdle n number
-    pub done : (blocks : ℕ) (n : View WorldView) → LetsGo blocks freed left n → blocks ≡ v.limits.blocks
-        → (t : TableId)
-        → HasDone (caller_view_of (record { table = t; view = v }) number v.room)
-        (caller_view_of (record { table = t; view = n }) number n.room) command e.reply
-    pub limits : (blocks : ℕ) (n : View WorldView) → LetsGo blocks freed left n → n.limits ≡ v.limits
+    pub has : IfSome freed (λ f. HasAs (f.0.0, kind_number f.1 + 1) left.held)
+    pub turned : (t : TableId) (n : View WorldView) → LetsGo v.limits.blocks freed left n
+        → Turned (seat t v) (seat t n) number command e.reply
 
   follows_from : ((x : ℕ) → ghosts.live w x ≡ true → ghosts.live u x ≡ true) → w.state.blocks ≡ u.state.blocks
       → Follows ghosts u w busy
@@ -76,38 +74,29 @@ module _ (number : ℕ) (command : Cmd) (frees : change_of command ≡ Frees) (u
   }
 
   done_at : (n : View WorldView) → n.part ≡ left.part → n.room ≡ left.room → (t : TableId)
-      → LetsOneGo u.state (caller_view_of (record { table = t; view = v }) number v.room)
-      (caller_view_of (record { table = t; view = n }) number n.room) e
-      → HasDone (caller_view_of (record { table = t; view = v }) number v.room)
+      → LetsOneGo u.state v.limits.blocks (search_of v) (search_of n) e → HasDone (caller_view_of (record { table = t; view = v }) number v.room)
       (caller_view_of (record { table = t; view = n }) number n.room) command e.reply
   done_at n part room t lets = done_after number command None u w e stepped v busy idle some_room entered.part entered.sized
       (refl, refl, refl, refl, refl, refl) t n part room (looks_for_none _ _)
-      (subst (λ (c : Change). SlotCalls c u.state (caller_view_of (record { table = t; view = v }) number v.room)
-      (caller_view_of (record { table = t; view = n }) number n.room) e) (sym frees) lets)
+      (subst (λ (c : Change). SlotCalls c u.state v.limits.blocks (search_of v) (search_of n) e) (sym frees) lets)
 
   -- nothing was freed
   kept : w.state.handles ≡ u.state.handles → w.state.blocks ≡ u.state.blocks → e.reply ≢ reply.Done
       → Freed None
   kept handles blocks refused =
       let same : (x : ℕ) → ghosts.live w x ≡ ghosts.live u x = λ x. ap (λ m. is_some (get m x)) handles in
-      let hand = hand_stays u w busy same idle.hand in
+      let held = hand_stays u w busy same idle.held in
       record {
         follows = follows_from (λ x on. sym (same x) ∙ on) blocks;
         has = tt;
-        stays_idle = λ b n is. idle_of v n number idle
-            (ap (λ (x : View WorldView). x.number) is) (ap (λ (x : View WorldView). x.limits) is)
-            (ap (λ (x : View WorldView). x.ended) is) (ap (λ (x : View WorldView). x.made) is)
-            (ap (λ (x : View WorldView). x.hand) is ∙ hand) (ap (λ (x : View WorldView). x.has_gate) is);
-        done = λ b n is _ t. done_at n (ap (λ (x : View WorldView). x.part) is)
-            (ap (λ (x : View WorldView). x.room) is) t (record {
-              done = λ says. absurd (refused says);
-              refused = λ _. record {
-                trace = ap (λ (x : View WorldView). x.trace) is;
-                trace_number = ap (λ (x : View WorldView). x.trace_number) is;
-                began_empty = ap (λ (x : View WorldView). x.began_empty) is;
-              };
+        turned = λ t n is. subst (λ (x : View WorldView). Turned (seat t v) (seat t x) number command e.reply) (sym is)
+            (record {
+              table = refl;
+              limits = refl;
+              idle = idle_of v left number idle refl refl refl refl held refl;
+              done = done_at left refl refl t
+                  (record { done = λ says. absurd (refused says); refused = λ _. refl });
             });
-        limits = λ b n is. ap (λ (x : View WorldView). x.limits) is;
       }
 
   -- a slot was freed
@@ -137,16 +126,16 @@ module _ (number : ℕ) (command : Cmd) (frees : change_of command ≡ Frees) (u
     place : 64 + (slot.0 - 64) ≡ slot.0
     place = omega (arith, inside.0)
 
-    hand : left.hand ≡ (slot.0, kind_number handle.kind + 1) ∷ []
-    hand =
-        hand_ends u w busy (slot.0 - 64) (omega (arith, inside.0, inside.1, limit)) idle.hand
+    held : left.held ≡ (slot.0, kind_number handle.kind + 1) ∷ []
+    held =
+        hand_ends u w busy (slot.0 - 64) (omega (arith, inside.0, inside.1, limit)) idle.held
         (ap (ghosts.live u) place ∙ ap is_some live) (ap (ghosts.live w) place ∙ off)
         (λ y apart. others y (λ is. apart (is ∙ sym place)))
         ∙ ap (λ x. (x, ghosts.kind w (x / 64)) ∷ []) place
         ∙ ap (λ o. (slot.0, kind_word o) ∷ []) used'
 
-    gone : without slot.0 left.hand ≡ []
-    gone = ap (without slot.0) hand
+    gone : without slot.0 left.held ≡ []
+    gone = ap (without slot.0) held
         ∙ ap (λ b. cond (not b) ((slot.0, kind_number handle.kind + 1) ∷ []) []) (eq-eqb slot.0 slot.0 refl)
 
     freed : Freed (Some (slot, handle.kind))
@@ -155,26 +144,28 @@ module _ (number : ℕ) (command : Cmd) (frees : change_of command ≡ Frees) (u
         | inl here ↦ (ap (ghosts.live u) here ∙ ap is_some live)
         | inr apart ↦ (sym (others x apart) ∙ on)
       ]) blocks;
-      has = (0, ap (λ h. get_elem? h 0) hand);
-      stays_idle = λ b n is. idle_of v n number idle
-          (ap (λ (x : View WorldView). x.number) is.view) (ap (λ (x : View WorldView). x.limits) is.view)
-          (ap (λ (x : View WorldView). x.ended) is.view) (ap (λ (x : View WorldView). x.made) is.view)
-          (ap (λ (x : View WorldView). x.hand) is.view ∙ gone)
-          (ap (λ (x : View WorldView). x.has_gate) is.view);
-      done = λ b n is are t. done_at n (ap (λ (x : View WorldView). x.part) is.view)
-          (ap (λ (x : View WorldView). x.room) is.view) t (record {
-            done = λ _. record {
-              slot = slot;
-              kind = handle.kind;
-              freed = is_slot;
-              of_kind = used;
-              one = ap (λ (x : View WorldView). x.trace_number) is.view;
-              steps = subst (λ (c : ℕ). follow (kind_number handle.kind) c (push 0 slot.0) n.trace ≡ ends 0)
-                  (are ∙ sym (ap (λ (x : View WorldView). x.limits.blocks) is.view)) is.steps;
-            };
-            refused = λ apart. absurd (apart says_done);
-          });
-      limits = λ b n is. ap (λ (x : View WorldView). x.limits) is.view;
+      has = (0, ap (λ h. get_elem? h 0) held);
+      turned = λ t n is. record {
+        table = refl;
+        limits = ap (λ (x : View WorldView). x.limits) is.view;
+        idle = idle_of v n number idle
+            (ap (λ (x : View WorldView). x.number) is.view) (ap (λ (x : View WorldView). x.limits) is.view)
+            (ap (λ (x : View WorldView). x.ended) is.view) (ap (λ (x : View WorldView). x.made) is.view)
+            (ap (λ (x : View WorldView). x.held) is.view ∙ gone)
+            (ap (λ (x : View WorldView). x.has_gate) is.view);
+        done = done_at n (ap (λ (x : View WorldView). x.part) is.view)
+            (ap (λ (x : View WorldView). x.room) is.view) t (record {
+              done = λ _. record {
+                slot = slot;
+                kind = handle.kind;
+                freed = is_slot;
+                of_kind = used;
+                one = ap (λ (x : View WorldView). x.trace_number) is.view;
+                steps = is.steps;
+              };
+              refused = λ apart. absurd (apart says_done);
+            });
+      };
     }
 
     found : freed_in w.state (Some slot) ≡ Some (slot, handle.kind)

@@ -1,7 +1,7 @@
 -- What a step does to the slots that are live and to the uses of blocks, by what its command does to the free
 -- slots.
-use Rattle.std.proofs.Common.{◌≡◌, ◌≢◌, ℕ, ◌+◌, ◌*◌, ◌<◌, true, false, Option, Some, None, inl, inr, refl, sym, ap, ◌∙◌, subst, lit<, arith}
-use Rattle.std.specs.Prelude.{is_some, nat_eq, cond}
+use Rattle.std.proofs.Common.{◌≡◌, ◌≢◌, ℕ, ◌+◌, ◌*◌, ◌<◌, true, false, Option, Some, None, inl, inr, refl, sym, ap, ◌∙◌, subst, arith}
+use Rattle.std.specs.Prelude.{is_some}
 use Rattle.std.specs.FinMap as map
 use Rattle.std.specs.FinMap.{get}
 use Rattle.std.specs.Ordering.{nat_cmp}
@@ -11,7 +11,6 @@ use Rattle.hd_model.specs.declared.data.Entry.{Entry}
 use Rattle.hd_model.specs.declared.data.Grown.{Grown}
 use Rattle.hd_model.specs.declared.data.Grown.TheVariants.{Zero, One, Two, Back}
 use Rattle.hd_model.specs.declared.data.Kind.{Kind}
-use Rattle.hd_model.specs.declared.data.Kind.TheVariants as kind
 use Rattle.hd_model.specs.declared.data.Make.{Make}
 use Rattle.hd_model.specs.declared.data.Slot.{Slot}
 use Rattle.hd_model.specs.declared.data.Refusal.{Refusal}
@@ -27,46 +26,20 @@ use Rattle.hd_model.specs.Table.{kind_word}
 use Rattle.hd_model.specs.Touched.{touched_by}
 use Rattle.hd_model.specs.WellFormed.{IsWellFormed}
 use Rattle.hd_model.proofs.Effects.{effect}
+use Rattle.hd_model.proofs.KindTests.{same_number, few_kinds}
 use Rattle.hd_model.proofs.StepFrames.{untouched_stays}
-use Rattle.hd_model.proofs.StepWrites.{HandleChange, handle_stays, is_made, target_is_set, secondary_is_set, strength_is_set, count_is_raised, count_is_lowered, is_freed, is_collected, handle_change}
+use Rattle.hd_model.proofs.StepWrites.{HandleChange, handle_stays, is_made, target_is_set, extra_is_set, is_freed, is_collected, handle_change}
 use Rattle.hd_model.proofs.Outcomes.{on_handle_cases}
 use Rattle.hd_world.specs.World.{GrowsUnoffered, Takes as TakesOffer}
 use Rattle.hd_gate.specs.declared.change.Change.TheVariants.{Keeps}
 use Rattle.hd_gate.specs.Change.{change_of}
 
--- ---- kinds by their words
-
-kind_from : ℕ → Kind
-kind_from n = cond (nat_eq n 0) kind.Short
-    (cond (nat_eq n 1) kind.Long (cond (nat_eq n 2) kind.Strong (cond (nat_eq n 3) kind.Pinned
-    (cond (nat_eq n 4) kind.Variable (cond (nat_eq n 5) kind.Counted kind.Dependent)))))
-
-from-number : (k : Kind) → kind_from (kind_number k) ≡ k
-unfolding kind_from
-from-number kind.Short = refl
-from-number kind.Long = refl
-from-number kind.Strong = refl
-from-number kind.Pinned = refl
-from-number kind.Variable = refl
-from-number kind.Counted = refl
-from-number kind.Dependent = refl
-
-pub kind_small : (k : Kind) → kind_number k < 7
-kind_small kind.Short = lit< tt
-kind_small kind.Long = lit< tt
-kind_small kind.Strong = lit< tt
-kind_small kind.Pinned = lit< tt
-kind_small kind.Variable = lit< tt
-kind_small kind.Counted = lit< tt
-kind_small kind.Dependent = lit< tt
-
 -- a block whose kind word is that of a kind has handles of the kind
 pub use_by_word : (u : Option BlockUse) (k : Kind) → kind_word u ≡ kind_number k + 1 → u ≡ Some (handles_of k)
 use_by_word None k e = absurd (omega (arith, e))
 use_by_word (Some (handles_of j)) k e =
-    let same : kind_number j ≡ kind_number k = omega (arith, e) in
-    ap (λ x. Some (handles_of x)) (sym (from-number j) ∙ ap kind_from same ∙ from-number k)
-use_by_word (Some extra_data) k e = absurd (omega (arith, e, kind_small k))
+    ap (λ x. Some (handles_of x)) (same_number j k (omega (arith, e)))
+use_by_word (Some extra_data) k e = absurd (omega (arith, e, few_kinds k))
 
 pub Some-injective : {A : Type 0} (a b : A) → Some a ≡ Some b → a ≡ b
 Some-injective a b e = cc
@@ -84,10 +57,7 @@ module _ (n : Numbers) (s : State) (well : IsWellFormed n s) (e : Entry) (t : St
   live_stays slot c o handle_stays keeps = refl
   live_stays slot c o (is_made given replies free) keeps = cc
   live_stays slot c o (target_is_set handle finds replies) keeps = sym (ap is_some finds.live)
-  live_stays slot c o (secondary_is_set handle finds same replies) keeps = sym (ap is_some finds.live)
-  live_stays slot c o (strength_is_set handle finds same replies) keeps = sym (ap is_some finds.live)
-  live_stays slot c o (count_is_raised handle finds same replies) keeps = sym (ap is_some finds.live)
-  live_stays slot c o (count_is_lowered handle finds same replies) keeps = sym (ap is_some finds.live)
+  live_stays slot c o (extra_is_set handle finds fits sets) keeps = sym (ap is_some finds.live)
   live_stays slot c o (is_freed handle finds replies) keeps = cc
   live_stays slot c o (is_collected reach kept handle live) keeps = sym (ap is_some live)
 
@@ -132,18 +102,24 @@ module _ (n : Numbers) (s : State) (well : IsWellFormed n s) (e : Entry) (t : St
   GrowsBy kind (Back block) = ⊥
 
   module _ (d : ℕ) (make : Make) (r : ℕ) where
+    stands_in : (slot : Slot) (u : State) → u.handles ≡ map.insert s.handles slot.0 (made_handle s e.caller make r)
+        → t ≡ u → (x : ℕ) → slot.0 ≡ x → Stands x u.blocks
+    stands_in slot u made after x same = (
+      made_handle s e.caller make r,
+      ap (λ (v : State). v.handles) after ∙ made
+          ∙ ap (λ y. map.insert s.handles y (made_handle s e.caller make r)) same,
+      ap (λ (v : State). v.blocks) after,
+    )
+
     pub takes_it : (slot : Slot) → TakesOffer e (cmd.HNew d make r) slot → StepOf n s e t (cmd.HNew d make r)
         → TakesIt slot
     takes_it slot takes (inl m) =
         let same : m.slot ≡ slot = Some-injective m.slot slot (sym m.given ∙ takes.0) in
-        let is : t ≡ with_made s e.caller Zero d make r slot = m.after ∙
-        (λ i. with_made s e.caller (takes.1 i) d make r (same i)) in
+        let is : t ≡ with_made s e.caller Zero d make r m.slot = m.after ∙
+        ap (λ g. with_made s e.caller g d make r m.slot) takes.1 in
         record {
-          stands = (
-            made_handle s e.caller make r,
-            ap (λ (x : State). x.handles) is,
-            ap (λ (x : State). x.blocks) is,
-          );
+          stands = stands_in m.slot (with_made s e.caller Zero d make r m.slot) refl is slot.0
+              (ap (λ (x : Slot). x.0) same);
           grown = takes.1;
           reply = takes.2;
         }
@@ -157,24 +133,16 @@ module _ (n : Numbers) (s : State) (well : IsWellFormed n s) (e : Entry) (t : St
     by_growth m (One block) is apart may after = (
       may.0,
       may.1,
-      (
-        made_handle s e.caller make r,
-        ap (λ (x : State). x.handles) after
-            ∙ ap (λ (x : Slot). map.insert s.handles x.0 (made_handle s e.caller make r)) may.2,
-        ap (λ (x : State). x.blocks) after,
-      ),
+      stands_in m.slot (with_made s e.caller (One block) d make r m.slot) refl after (block * 64)
+          (ap (λ (x : Slot). x.0) may.2),
       m.reply,
     )
     by_growth m (Two block other) is apart may after = (
       may.0,
       may.1,
       may.2,
-      (
-        made_handle s e.caller make r,
-        ap (λ (x : State). x.handles) after
-            ∙ ap (λ (x : Slot). map.insert s.handles x.0 (made_handle s e.caller make r)) may.3,
-        ap (λ (x : State). x.blocks) after,
-      ),
+      stands_in m.slot (with_made s e.caller (Two block other) d make r m.slot) refl after (block * 64)
+          (ap (λ (x : Slot). x.0) may.3),
       m.reply,
     )
     by_growth m (Back block) is apart may after = may

@@ -1,0 +1,28 @@
+-- A call that was done, read with the rooms of its caller.
+use Rattle.std.proofs.Common.{◌≡◌, ℕ, ◌+◌}
+use Rattle.hd_model.specs.declared.data.Reply.{Reply}
+use Rattle.hd_model.specs.declared.command.Cmd.{Cmd}
+use Rattle.hd_gate.specs.Shared.{CallerView, Found, HadRoom, HasDone}
+
+module _ (old new : CallerView) (before after : ℕ) (command : Cmd) where
+  abbrev found_with : Found old → Found (record old { room = before })
+  found_with f = record { journal = f.journal; state = f.state; run = f.run; part = f.part }
+
+  pub room_with : HadRoom old command → HadRoom (record old { room = before }) command
+  room_with h = record { found = found_with h.found; fits = h.fits }
+
+  pub done_with : (answer : Reply) → after + 1 ≡ before → HasDone old new command answer
+      → HasDone (record old { room = before }) (record new { room = after }) command answer
+  done_with answer less d = record {
+    entry = d.entry;
+    found = found_with d.found;
+    after = d.after;
+    step = d.step;
+    caller_is = d.caller_is;
+    command_is = d.command_is;
+    answer_is = d.answer_is;
+    part = d.part;
+    room = less;
+    looked_for = d.looked_for;
+    slot_calls = d.slot_calls;
+  }
