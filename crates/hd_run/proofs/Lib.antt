@@ -7,9 +7,10 @@ mod WordOutcome
 mod PlaySteps
 mod JournalSums
 mod SharedRun
-mod SoloCauses
 mod CallClaims
-mod ModeCauses
+mod RunEndings
+mod LoadClaims
+mod WorkCauses
 mod ThreadClaims
 mod RootLines
 mod StillEnds

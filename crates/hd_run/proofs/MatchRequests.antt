@@ -15,9 +15,11 @@ use Rattle.clap.specs.declared.error.kind.ErrorKind.TheVariants as kind
 use Rattle.clap.specs.declared.parser.matches.Found.{Found}
 use Rattle.clap.proofs.WalkLemmas.{first_value-rows, one_text-rows}
 use Rattle.hd_model.specs.declared.limits.TheConstants.{HEAP, BLOCKS, MOST_ROUNDS}
-use Rattle.hd_run.specs.declared.request.TheConstants.{LEAST_HEAP, ROUNDS}
-use Rattle.hd_run.specs.declared.request.Mode.{Mode}
-use Rattle.hd_run.specs.Words.{program, mode_of, number_in, number_of, with_numbers, asked_by, unless_faulty, request_of, IsInLimits, GivesNumber, GivesNumbers}
+use Rattle.hd_run.specs.declared.limits.TheConstants.{LEAST_HEAP}
+use Rattle.hd_run.specs.declared.request.TheConstants.{ROUNDS}
+use Rattle.hd_run.specs.declared.mode.Mode.{Mode}
+use Rattle.hd_run.specs.Modes.{mode_of}
+use Rattle.hd_run.specs.Words.{program, number_in, number_of, with_numbers, asked_by, unless_faulty, request_of, IsInLimits, GivesNumber, GivesNumbers}
 
 -- what an option's text reads as, where it is a number of 32 bits
 pub number_read : {E : Type 0} (G : Text → Result ℕ E → Type 0) (o : Option Text) (r : Option ℕ) (default : ℕ)
@@ -43,21 +45,21 @@ in_limits found name least most default gives low high =
     go None is = (low, high)
     go (Some t) is = let number = is t refl in (number.2, number.3)
 
+pub heap_in_limits : (found : Found) → GivesNumbers found →
+    (LEAST_HEAP ≤ number_of (rows_of found) (codes "heap") HEAP) × (number_of (rows_of found) (codes "heap") HEAP ≤ HEAP)
+heap_in_limits found gives =
+    in_limits found (codes "heap") LEAST_HEAP HEAP HEAP gives.heap (omega arith) (omega arith)
+
+pub blocks_in_limits : (found : Found) → GivesNumbers found →
+    (1 ≤ number_of (rows_of found) (codes "blocks") BLOCKS) × (number_of (rows_of found) (codes "blocks") BLOCKS ≤ BLOCKS)
+blocks_in_limits found gives =
+    in_limits found (codes "blocks") 1 BLOCKS BLOCKS gives.blocks (omega arith) (omega arith)
+
 pub asked_in_limits : (found : Found) (mode : Mode) → GivesNumbers found
     → IsInLimits (with_numbers (rows_of found) mode)
 asked_in_limits found mode gives =
-    let heap = in_limits found (codes "heap") LEAST_HEAP HEAP HEAP gives.heap (omega arith) (omega arith) in
-    let blocks = in_limits found (codes "blocks") 1 BLOCKS BLOCKS gives.blocks (omega arith) (omega arith) in
-    let rounds = in_limits found (codes "rounds") 1 MOST_ROUNDS ROUNDS gives.rounds (omega arith)
-    (omega arith) in
-    record {
-      heap_least = heap.0;
-      heap_most = heap.1;
-      blocks_least = blocks.0;
-      blocks_most = blocks.1;
-      rounds_least = rounds.0;
-      rounds_most = rounds.1;
-    }
+    let rounds = in_limits found (codes "rounds") 1 MOST_ROUNDS ROUNDS gives.rounds (omega arith) (omega arith) in
+    record { least = rounds.0; most = rounds.1 }
 
 -- what is asked for, by the name of the mode that was found
 pub asked_none : (found : Found) → first_value found (codes "mode") ≡ None → None ≡ asked_by (rows_of found)

@@ -1,5 +1,5 @@
 -- What the command finds for its options: numbers within their limits.
-use Rattle.std.proofs.Common.{◌≡◌, ℕ, zero, suc, ◌<◌, true, false, ◌⊎◌, List, [], ◌∷◌, map, length, Option, Some, None, inl, inr, refl, sym, ◌∙◌, ap, subst, arith, codes}
+use Rattle.std.proofs.Common.{◌≡◌, ℕ, zero, suc, ◌<◌, true, false, List, [], ◌∷◌, map, length, Option, Some, None, inl, inr, refl, sym, ◌∙◌, ap, subst, arith, codes}
 use Rattle.std.specs.Prelude.{option_map, slice_get}
 use Rattle.std.specs.List.{All, slice_index_or}
 use Rattle.std.specs.Borrow.{Bor}
@@ -25,7 +25,7 @@ use Rattle.clap.specs.declared.parser.matches.MatchedArg.{MatchedArg}
 use Rattle.clap.proofs.CallerLemmas.{entry_by_id, same_rules_by_id}
 use Rattle.clap.proofs.SimpleLemmas.{all_simple, plain_fields, simple_groups}
 use Rattle.hd_model.specs.declared.limits.TheConstants.{HEAP, BLOCKS, MOST_ROUNDS}
-use Rattle.hd_run.specs.declared.request.TheConstants.{LEAST_HEAP}
+use Rattle.hd_run.specs.declared.limits.TheConstants.{LEAST_HEAP}
 use Rattle.hd_run.specs.Words.{program, GivesNumber, GivesNumbers}
 
 -- the first value of an entry, each value of which has a fact, has it
@@ -86,7 +86,7 @@ module _ (old : Command) (m : ArgMatches) (p : IsParsedFrom old m) (app : app_of
       (named : slice_index_or names k [] ≡ name) (some : name ≡ [] → ⊥)
       (limits : (r : Rule) → (slice_index_or program.top.rules k r).parser ≡ Some (Unsigned least most))
       (unique : (j : ℕ) → j < 4 → bytes_eq (slice_index_or names j []) name ≡ true → j ≡ k)
-      (own : (name ≡ codes "help") ⊎ (name ≡ codes "version") → ⊥) where
+      (own : (bytes_eq name (codes "help") ≡ false) × (bytes_eq name (codes "version") ≡ false)) where
     id_at : (d : Arg) → (slice_index_or (args_of old) k d).id.now ≡ name
     id_at d = name_at k d lt ∙ named
 
@@ -99,8 +99,8 @@ module _ (old : Command) (m : ArgMatches) (p : IsParsedFrom old m) (app : app_of
         (subst (λ (t : Text). bytes_eq (slice_index_or (args_of old) j e).id.now t ≡ true) (id_at d) same))
 
     not_auto : (d : Arg) → IsAuto (slice_index_or (args_of old) k d) → ⊥
-    not_auto d (inl help) = own (inl (sym (id_at d) ∙ help))
-    not_auto d (inr version) = own (inr (sym (id_at d) ∙ version))
+    not_auto d (inl help) = apart _ _ own.0 (sym (id_at d) ∙ help)
+    not_auto d (inr version) = apart _ _ own.1 (sym (id_at d) ∙ version)
 
     -- an argument of the built command with the name of the option is the option
     parser_at : (j : ℕ) (x : Arg) → j < length (args_of p.built) → slice_index_or (args_of p.built) j x ≡ x
@@ -160,12 +160,12 @@ module _ (old : Command) (m : ArgMatches) (p : IsParsedFrom old m) (app : app_of
   pub gives_numbers : GivesNumbers (found_of m)
   gives_numbers = record {
     heap = given 1 (codes "heap") LEAST_HEAP HEAP (omega arith) refl (apart _ _ refl) (λ r. refl) heap_alone
-        heap_own;
+        (refl, refl);
     blocks = given 2 (codes "blocks") 1 BLOCKS (omega arith) refl (apart _ _ refl) (λ r. refl) blocks_alone
-        blocks_own;
+        (refl, refl);
     rounds = given 3 (codes "rounds") 1 MOST_ROUNDS (omega arith) refl (apart _ _ refl) (λ r. refl)
         rounds_alone
-        rounds_own;
+        (refl, refl);
   }
     where
       heap_alone : (j : ℕ) → j < 4 → bytes_eq (slice_index_or names j []) (codes "heap") ≡ true → j ≡ 1
@@ -188,15 +188,3 @@ module _ (old : Command) (m : ArgMatches) (p : IsParsedFrom old m) (app : app_of
       rounds_alone (suc (suc zero)) lt same = cc
       rounds_alone (suc (suc (suc zero))) lt same = refl
       rounds_alone (suc (suc (suc (suc j)))) lt same = absurd (omega arith)
-
-      heap_own : (codes "heap" ≡ codes "help") ⊎ (codes "heap" ≡ codes "version") → ⊥
-      heap_own (inl e) = apart _ _ refl e
-      heap_own (inr e) = apart _ _ refl e
-
-      blocks_own : (codes "blocks" ≡ codes "help") ⊎ (codes "blocks" ≡ codes "version") → ⊥
-      blocks_own (inl e) = apart _ _ refl e
-      blocks_own (inr e) = apart _ _ refl e
-
-      rounds_own : (codes "rounds" ≡ codes "help") ⊎ (codes "rounds" ≡ codes "version") → ⊥
-      rounds_own (inl e) = apart _ _ refl e
-      rounds_own (inr e) = apart _ _ refl e

@@ -16,8 +16,8 @@ use Rattle.hd_world.specs.World.{WorldView}
 use Rattle.hd_run.specs.Turns.{list_of}
 use Rattle.hd_run.specs.Together.{RanAllTogether, StoppedTogether, MayWantMemory, HasPlayed, HavePlayed, IsReadyToPlay}
 use Rattle.hd_run.specs.Report.{HasFewCallers}
-use Rattle.hd_run.specs.declared.request.Mode.TheVariants as mode
-use Rattle.hd_run.specs.Ending.{RunCause, Keeps, together_ending, world_of, kept_of, journal_in}
+use Rattle.hd_run.specs.declared.ending.Ran.TheVariants as ran
+use Rattle.hd_run.specs.Ending.{RunCause, run_ending}
 
 -- an element of a list that has one
 some_of : {X : Type 0} (xs : List X) (c : ℕ) → c < length xs → X
@@ -44,16 +44,6 @@ pub few_callers : (n : Numbers) (journal : List Entry) (s : State) → n.callers
 few_callers n journal s few run =
     All-weaker (λ (e : Entry). e.caller < n.callers) (λ (e : Entry). e.caller < CALLERS)
     (λ e lt. omega arith) journal (run_callers run)
-
--- the ending of callers in threads keeps their world, whatever became of them
-pub together_keeps : (done : Bool) (w : WorldView) → Keeps (together_ending done w)
-together_keeps true w = tt
-together_keeps false w = tt
-
-pub together_callers : (w : WorldView) → w.numbers.callers ≤ CALLERS → Run w.numbers w.journal w.state →
-    (done : Bool) → HasFewCallers (journal_in (world_of (kept_of (together_ending done w))))
-together_callers w few run true = few_callers w.numbers w.journal w.state few run
-together_callers w few run false = few_callers w.numbers w.journal w.state few run
 
 module _ (s : Named) (lists : List (List Cmd)) (before : List CallerView)
     (as_many : s.numbers.callers ≡ length lists) (all : AreAll s before)
@@ -182,6 +172,7 @@ module _ (s : Named) (lists : List (List Cmd)) (before : List CallerView)
         }
 
         pub together_cause : (done : Bool) → MatchBool done (All (λ (p : CallerView). p.room ≡ 0) after)
-            (Any (λ (p : CallerView). 1 ≤ p.room) after) → RunCause mode.Run n lists (together_ending done w)
-        together_cause true all = whole all
+            (Any (λ (p : CallerView). 1 ≤ p.room) after) → RunCause true false n lists
+            (run_ending done (ran.Shared w))
+        together_cause true all = (whole all, refl)
         together_cause false some = stopped some

@@ -7,5 +7,5 @@ none_rose : Rose 0 0 → ⊥
 none_rose rose = grind arith
 
 pub never_fail : StillEndsNeverFail
-never_fail asked source_old source_new sink_old sink_new o promise =
+never_fail asked source sink o promise =
     ((λ status. none_rose (promise.read status).1), (λ status. none_rose (promise.write status)))

@@ -1,15 +1,13 @@
 -- How a run of callers one after another goes on, turn by turn.
-use Rattle.std.proofs.Common.{◌≡◌, ℕ, ◌+◌, ◌<◌, ◌≤◌, List, [], ◌∷◌, ◌++◌, map, length, drop, get_or, refl, sym, ◌∙◌, ap, subst, arith, append_assoc, All, IsTrue}
+use Rattle.std.proofs.Common.{◌≡◌, ℕ, ◌+◌, ◌<◌, ◌≤◌, List, [], ◌∷◌, ◌++◌, map, length, drop, get_or, refl, sym, ◌∙◌, ap, subst, arith, append_assoc, IsTrue}
 use Rattle.std.specs.Prelude.{sum_by}
 use Rattle.std.proofs.lemmas.List.Sums.{sum_by-cons}
 use Rattle.std.proofs.lemmas.List.Sorted.{IsNonDecreasingBy-short}
 use Rattle.std.proofs.lemmas.List.{drop_more, map-append, length-append, length-map}
-use Rattle.std.proofs.lemmas.List.Elements.{All-nil, All-cons, All-weaker}
 use Rattle.hd_model.specs.declared.command.Cmd.{Cmd}
 use Rattle.hd_model.specs.declared.data.Entry.{Entry}
-use Rattle.hd_model.specs.declared.limits.TheConstants.{CALLERS}
 use Rattle.hd_model.specs.State.{Numbers, State, start_of}
-use Rattle.hd_model.specs.Run.{Chain, stay, link, SoloStep, SoloRun}
+use Rattle.hd_model.specs.Run.{Chain, stay, SoloStep}
 use Rattle.hd_model.specs.Valid.{takes_memory}
 use Rattle.hd_model.proofs.StepChains.{push}
 use Rattle.hd_model.specs.declared.data.Reply.{Reply}
@@ -106,16 +104,3 @@ module _ (n : Numbers) (lists : List (List Cmd)) (turn : ℕ × Cmd) (rest : Lis
     wants = wants;
     fits = subst (λ (m : Numbers). FitsHeap m w.state turn.1) ready.ran.numbers fits;
   }
-
--- each caller of a chain is one of the run
-chain_callers : {n : Numbers} {s t : State} {es : List Entry} → Chain (SoloStep n) s es t →
-    All (λ (e : Entry). e.caller < n.callers) es
-chain_callers {n} stay = All-nil (λ (e : Entry). e.caller < n.callers)
-chain_callers {n} (link {e = e} {es = es} step more) =
-    All-cons (λ (e : Entry). e.caller < n.callers) e es step.step.caller (chain_callers more)
-
-pub callers_below : (n : Numbers) (journal : List Entry) (s : State) → n.callers ≤ CALLERS →
-    SoloRun n journal s → All (λ (e : Entry). e.caller < CALLERS) journal
-callers_below n journal s few run =
-    All-weaker (λ (e : Entry). e.caller < n.callers) (λ (e : Entry). e.caller < CALLERS)
-    (λ e lt. omega arith) journal (chain_callers run.steps)

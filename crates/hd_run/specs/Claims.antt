@@ -1,6 +1,6 @@
 -- What a call promises, in the words of a user. Each claim follows from the ending, its cause and
 -- its report. The statuses are this project's own.
-use Rattle.std.specs.Prelude.{◌≡◌, ◌≢◌, ℕ, ◌+◌, ◌<◌, ◌⊎◌, List, [], ◌∷◌, length, Contains, Option, None, Some, IfSome, IsSomeAnd, IsErr}
+use Rattle.std.specs.Prelude.{◌≡◌, ◌≢◌, true, false, ℕ, ◌+◌, ◌<◌, ◌⊎◌, List, [], ◌∷◌, length, Contains, Option, None, Some, IfSome, IsSomeAnd, IsErr}
 use Rattle.std.specs.FinMap.{len}
 use Rattle.hd_model.specs.declared.command.Cmd.{Cmd}
 use Rattle.hd_model.specs.declared.limits.TheConstants.{MOST_BYTES}
@@ -19,35 +19,35 @@ use Rattle.hd_run.specs.declared.ending.Ran.{Ran}
 use Rattle.hd_run.specs.declared.outcome.Kept.{Kept}
 use Rattle.hd_run.specs.declared.outcome.Kept.TheVariants.{Nothing, Alone, Shared}
 use Rattle.hd_run.specs.declared.outcome.Outcome.{Outcome}
-use Rattle.hd_run.specs.declared.report.Form.{Form}
-use Rattle.hd_run.specs.declared.request.Mode.{Mode}
-use Rattle.hd_run.specs.declared.request.Mode.TheVariants as mode
+use Rattle.hd_run.specs.declared.mode.Form.{Form}
 use Rattle.hd_run.specs.declared.request.Request.{Request}
 use Rattle.hd_run.specs.Together.{RanAllTogether, StoppedTogether}
-use Rattle.hd_run.specs.Ending.{world_of, kept_that, ReadWhole, ScriptBy, RanBy, StoppedBy, RefusedBy, RunCause, numbers_by, journal_in, Cause}
+use Rattle.hd_run.specs.Modes.{traits_of}
+use Rattle.hd_run.specs.Ending.{world_of, world_that, kept_that, ReadWhole, ScriptBy, RanBy, StoppedBy, RefusedBy, RunCause, numbers_by, journal_in, Cause}
 use Rattle.hd_run.specs.Report.{whole_text, stopped_text, form_for, Reports, text_by}
 
 -- There was a script, read whole or made. What ran all of it, as its mode does, is kept, and its text was
 -- written.
 abbrev pub RunsWhole : Option Request → SourceView → SourceView → SinkView → SinkView → Kept → Type 0
-RunsWhole asked old new before after kept = IsSomeAnd asked (λ r.
-    (lists : List (List Cmd)) × ScriptBy r.mode r old new lists
-    × (run : Ran) × (kept ≡ kept_that run) × RanBy r.mode (numbers_by r.mode r lists) lists run
-    × IsSomeAnd (world_of kept) (λ w. Took before after (text_by r.mode w)))
+RunsWhole asked old new before after kept = IsSomeAnd asked (λ r. let t = traits_of r.mode in
+    (lists : List (List Cmd)) × ScriptBy t.reads r old new lists
+    × (run : Ran) × (kept ≡ kept_that run) × RanBy t.threads (numbers_by t.reads r lists) lists run
+    × Took before after (text_by t (world_that run)))
 
 -- What was read where nothing is kept: at most the limit of bytes, and nothing where no mode asks for it. Of
 -- a run it says nothing.
 abbrev pub ReadAtMost : Option Request → SourceView → SourceView → Type 0
 ReadAtMost None old new = new ≡ old
-ReadAtMost (Some r) old new = RefusedBy r.mode old new NoMemory
+ReadAtMost (Some r) old new = RefusedBy (traits_of r.mode).reads old new NoMemory
 
 -- Nothing is kept, be it that nothing was run or that a world was dropped; or there was a script, and what is
 -- kept ran it up to commands that may take memory.
 abbrev pub StopsForMemory : Option Request → SourceView → SourceView → Kept → Type 0
 StopsForMemory asked old new kept =
     (ReadAtMost asked old new × (kept ≡ Nothing))
-    ⊎ IsSomeAnd asked (λ r. (lists : List (List Cmd)) × ScriptBy r.mode r old new lists
-    × (run : Ran) × (kept ≡ kept_that run) × StoppedBy r.mode (numbers_by r.mode r lists) lists run)
+    ⊎ IsSomeAnd asked (λ r. let t = traits_of r.mode in
+    (lists : List (List Cmd)) × ScriptBy t.reads r old new lists × (run : Ran) × (kept ≡ kept_that run)
+    × StoppedBy t.threads t.lists_roots (numbers_by t.reads r lists) lists run)
 
 -- bytes that are no program
 abbrev pub IsNoProgram : List ℕ → Type 0
@@ -63,20 +63,13 @@ RefusesScript old new =
 abbrev pub IsStatus : ℕ → Type 0
 IsStatus status = Contains (0 ∷ 2 ∷ 3 ∷ 4 ∷ 5 ∷ 6 ∷ []) status
 
--- the modes that read the source
-abbrev pub Reads : Mode → Type 0
-Reads mode.Solo = Unit {0}
-Reads mode.Run = Unit {0}
-Reads mode.Load = ⊥
-Reads mode.Roots = Unit {0}
-
 -- words that are valid and name a mode that reads
 abbrev pub AsksToRead : Option Request → Type 0
-AsksToRead asked = IsSomeAnd asked (λ r. Reads r.mode)
+AsksToRead asked = IsSomeAnd asked (λ r. (traits_of r.mode).reads ≡ true)
 
--- words that are valid and name `load`
+-- words that are valid and name a mode that makes the script of a load: `load`
 abbrev pub AsksForLoad : Option Request → Type 0
-AsksForLoad asked = IsSomeAnd asked (λ r. r.mode ≡ mode.Load)
+AsksForLoad asked = IsSomeAnd asked (λ r. (traits_of r.mode).reads ≡ false)
 
 -- bytes that are refused: too many, or no program
 abbrev pub AreBytesRefused : List ℕ → Type 0
@@ -104,46 +97,45 @@ abbrev pub HasLine : ℕ → SinkView → SinkView → ℕ → Type 0
 HasLine rounds before after status = status ≡ 0 → Took before after (line_of_rounds rounds)
 
 -- What a call promises, for what its words ask (`None`: they are not valid), by what was seen of
--- the source and the sink before it and after it.
+-- the source and the sink, each before it and after it.
 pub record Promise {S K : Type 0} (seen : S → SourceView) (shown : K → SinkView)
-    (asked : Option Request) (source_old source_new : S) (sink_old sink_new : K)
-    (o : Outcome) : Type 0 where
+    (asked : Option Request) (source : S × S) (sink : K × K) (o : Outcome) : Type 0 where
   -- whatever the words and the bytes: the work ended with a cause, and its ending is reported
-  pub work : (ending : Ending) × Cause asked (seen source_old) (seen source_new) ending
-      × Reports (shown sink_old) (shown sink_new) (form_for asked) ending o
+  pub work : (ending : Ending) × Cause asked (seen source.0) (seen source.1) ending
+      × Reports (shown sink.0) (shown sink.1) (form_for asked) ending o
   -- on status 0 the script was run whole, and its text is written
-  pub whole : o.status ≡ 0 → RunsWhole asked (seen source_old) (seen source_new) (shown sink_old)
-      (shown sink_new) o.kept
+  pub whole : o.status ≡ 0 → RunsWhole asked (seen source.0) (seen source.1) (shown sink.0)
+      (shown sink.1) o.kept
   -- each other status has a cause, and no other is returned
   pub usage : o.status ≡ 2 → (asked ≡ None) × (o.kept ≡ Nothing)
   pub script : o.status ≡ 3 → AsksToRead asked
-      × RefusesScript (seen source_old) (seen source_new) × (o.kept ≡ Nothing)
+      × RefusesScript (seen source.0) (seen source.1) × (o.kept ≡ Nothing)
   pub read : o.status ≡ 4 → AsksToRead asked
-      × Rose (seen source_old).faults (seen source_new).faults × (o.kept ≡ Nothing)
-  pub write : o.status ≡ 5 → Rose (shown sink_old).faults (shown sink_new).faults
-  pub memory : o.status ≡ 6 → StopsForMemory asked (seen source_old) (seen source_new) o.kept
-      × Took (shown sink_old) (shown sink_new) (stopped_text (form_for asked)
+      × Rose (seen source.0).faults (seen source.1).faults × (o.kept ≡ Nothing)
+  pub write : o.status ≡ 5 → Rose (shown sink.0).faults (shown sink.1).faults
+  pub memory : o.status ≡ 6 → StopsForMemory asked (seen source.0) (seen source.1) o.kept
+      × Took (shown sink.0) (shown sink.1) (stopped_text (form_for asked)
       (journal_in (world_of o.kept)))
   pub statuses : IsStatus o.status
   -- no fault of the source or the sink is passed over
   pub source_faults : o.status ≢ 4 → o.status ≢ 5 →
-      (seen source_new).faults ≡ (seen source_old).faults
-  pub sink_faults : o.status ≢ 5 → (shown sink_new).faults ≡ (shown sink_old).faults
+      (seen source.1).faults ≡ (seen source.0).faults
+  pub sink_faults : o.status ≢ 5 → (shown sink.1).faults ≡ (shown sink.0).faults
   -- words that are not valid are refused, though that may fail to be written, and nothing is read; memory
   -- may run out before
   pub words : asked ≡ None →
-      (source_new ≡ source_old) × ((o.status ≡ 2) ⊎ (o.status ≡ 5) ⊎ (o.status ≡ 6))
+      (source.1 ≡ source.0) × ((o.status ≡ 2) ⊎ (o.status ≡ 5) ⊎ (o.status ≡ 6))
   -- a load reads nothing, and its line is known; where the sink does not fail its status is 0 or 6
-  pub load : AsksForLoad asked → source_new ≡ source_old
-  pub line : IfSome asked (λ r. r.mode ≡ mode.Load →
-      HasLine r.rounds (shown sink_old) (shown sink_new) o.status)
-  pub goes_on : AsksForLoad asked → ¬ (Rose (shown sink_old).faults (shown sink_new).faults) →
+  pub load : AsksForLoad asked → source.1 ≡ source.0
+  pub line : IfSome asked (λ r. (traits_of r.mode).reads ≡ false →
+      HasLine r.rounds (shown sink.0) (shown sink.1) o.status)
+  pub goes_on : AsksForLoad asked → ¬ (Rose (shown sink.0).faults (shown sink.1).faults) →
       (o.status ≡ 0) ⊎ (o.status ≡ 6)
   -- of valid words for a mode that reads, where nothing failed and the source states its bytes
   pub answers : AsksToRead asked →
-      ¬ (Rose (seen source_old).faults (seen source_new).faults) →
-      ¬ (Rose (shown sink_old).faults (shown sink_new).faults) →
-      (bytes : List ℕ) → (seen source_old).left ≡ Some bytes → Answers bytes o.status
+      ¬ (Rose (seen source.0).faults (seen source.1).faults) →
+      ¬ (Rose (shown sink.0).faults (shown sink.1).faults) →
+      (bytes : List ℕ) → (seen source.0).left ≡ Some bytes → Answers bytes o.status
   -- whatever the status: the journal of what is kept is a run, and its live handles are those that were made,
   -- less those that were freed
   pub journal : KeepsRun o.kept
@@ -153,7 +145,7 @@ pub record Promise {S K : Type 0} (seen : S → SourceView) (shown : K → SinkV
 pub record Together {K : Type 0} (shown : K → SinkView) (form : Form) (n : Numbers)
     (lists : List (List Cmd)) (sink_old sink_new : K) (o : Outcome) : Type 0 where
   -- whatever happens: the run ended with a cause, and its ending is reported
-  pub work : (ending : Ending) × RunCause mode.Run n lists ending
+  pub work : (ending : Ending) × RunCause true false n lists ending
       × Reports (shown sink_old) (shown sink_new) form ending o
   -- on status 0 each caller did its whole list, in the journal of one run, and its text is written
   pub whole : o.status ≡ 0 → (w : WorldView) × (o.kept ≡ Shared w) × RanAllTogether n lists w

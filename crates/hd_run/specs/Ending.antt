@@ -6,7 +6,7 @@ use Rattle.hd_model.specs.declared.command.Cmd.{Cmd}
 use Rattle.hd_model.specs.declared.data.Entry.{Entry}
 use Rattle.hd_model.specs.declared.data.Memory.{Memory}
 use Rattle.hd_model.specs.declared.data.RootId.{RootId}
-use Rattle.hd_model.specs.declared.limits.TheConstants.{MOST_BYTES}
+use Rattle.hd_model.specs.declared.limits.TheConstants.{MOST_BYTES, MOST_ROUNDS}
 use Rattle.hd_model.specs.Generated.{load_numbers, generated_lists}
 use Rattle.hd_model.specs.Grammar.{script_of, AreLists}
 use Rattle.hd_model.specs.RootText.{roots_of}
@@ -25,9 +25,9 @@ use Rattle.hd_run.specs.declared.ending.Ending.{Ending}
 use Rattle.hd_run.specs.declared.ending.Ending.TheVariants.{Refused, Stopped, Done}
 use Rattle.hd_run.specs.declared.outcome.Kept.{Kept}
 use Rattle.hd_run.specs.declared.outcome.Kept.TheVariants.{Nothing, Alone, Shared}
-use Rattle.hd_run.specs.declared.request.Mode.{Mode}
-use Rattle.hd_run.specs.declared.request.Mode.TheVariants.{Solo, Run, Load, Roots}
 use Rattle.hd_run.specs.declared.request.Request.{Request}
+use Rattle.hd_run.specs.Bounds.{numbers_for}
+use Rattle.hd_run.specs.Modes.{traits_of}
 use Rattle.hd_run.specs.Turns.{RanWhole, StoppedAt}
 use Rattle.hd_run.specs.Together.{RanAllTogether, StoppedTogether}
 
@@ -46,25 +46,35 @@ journal_in (Some w) = w.journal
 abbrev pub world_that : Ran → WorldView
 world_that (ran.Alone w) = w
 world_that (ran.Shared w) = w
-world_that (ran.Rooted w roots) = w
 
 -- what is kept of a run
 abbrev pub kept_that : Ran → Kept
 kept_that (ran.Alone w) = Alone w
 kept_that (ran.Shared w) = Shared w
-kept_that (ran.Rooted w roots) = Alone w
 
 -- what an ending keeps
 abbrev pub kept_of : Ending → Kept
 kept_of (Refused fault) = Nothing
 kept_of (Stopped run) = kept_that run
-kept_of (Done run) = kept_that run
+kept_of (Done run roots) = kept_that run
+
+-- the ending of a run that keeps its world, by whether it was whole
+abbrev pub run_ending : Bool → Ran → Ending
+run_ending true run = Done run None
+run_ending false run = Stopped run
+
+-- an ending once roots were to be listed: those of a world that ran its whole script, unless memory ran out
+abbrev pub Lists : Ending → Ending → Type 0
+Lists (Refused fault) after = after ≡ Refused fault
+Lists (Stopped run) after = after ≡ Stopped run
+Lists (Done run roots) after =
+    (after ≡ Stopped run) ⊎ (after ≡ Done run (Some (roots_of (world_that run).state)))
 
 -- an ending that keeps the world that ran
 abbrev pub Keeps : Ending → Type 0
 Keeps (Refused fault) = ⊥
 Keeps (Stopped run) = Unit {0}
-Keeps (Done run) = Unit {0}
+Keeps (Done run roots) = Unit {0}
 
 -- why nothing was run, where not all was read
 abbrev pub unread_fault : ReadFault → Fault
@@ -82,21 +92,6 @@ abbrev pub script_or_fault : Result (List (List Cmd)) ScriptFault → Result (Li
 script_or_fault (Ok lists) = Ok lists
 script_or_fault (Err fault) = Err (unparsed_fault fault)
 
--- the ending of a run of one thread, which keeps its world: it took all turns, or stopped because memory ran out
-abbrev pub ran_ending : Result (Unit {0}) Memory → WorldView → Ending
-ran_ending (Ok all) w = Done (ran.Alone w)
-ran_ending (Err memory) w = Stopped (ran.Alone w)
-
--- and where it listed the roots of its world, or found no memory for them
-abbrev pub rooted_ending : Result (List RootId) Memory → WorldView → Ending
-rooted_ending (Ok roots) w = Done (ran.Rooted w roots)
-rooted_ending (Err memory) w = Stopped (ran.Alone w)
-
--- a run of callers in threads keeps its world: all went to their ends, or some stopped because memory ran out
-abbrev pub together_ending : Bool → WorldView → Ending
-together_ending true w = Done (ran.Shared w)
-together_ending false w = Stopped (ran.Shared w)
-
 -- the source was read to its end, within the limit, and gave these bytes
 pub record ReadWhole (old new : SourceView) (bytes : List ℕ) : Type 0 where
   pub all : GaveAll old new bytes
@@ -113,56 +108,48 @@ pub record ReadProgram (old new : SourceView) (lists : List (List Cmd)) : Type 0
   pub read : ReadWhole old new bytes
   pub program : IsProgram bytes lists
 
--- the numbers of a run of a script: the limits, and as many callers as the script has lists
-abbrev pub numbers_for : ℕ → ℕ → List (List Cmd) → Numbers
-numbers_for heap blocks lists = record { heap = heap; blocks = blocks; callers = length lists }
+-- the script of a load of so many rounds
+pub record IsLoadScript (rounds : ℕ) (lists : List (List Cmd)) : Type 0 where
+  pub least : 1 ≤ rounds
+  pub most : rounds ≤ MOST_ROUNDS
+  pub lists_are : lists ≡ generated_lists rounds
 
--- the numbers of a run by mode: `load` has those of every load
-abbrev pub numbers_by : Mode → Request → List (List Cmd) → Numbers
-numbers_by Solo r lists = numbers_for r.heap r.blocks lists
-numbers_by Run r lists = numbers_for r.heap r.blocks lists
-numbers_by Load r lists = load_numbers
-numbers_by Roots r lists = numbers_for r.heap r.blocks lists
+-- the lists that are run, by whether the mode reads: those of the bytes that were read; or nothing is read, and
+-- they are those of a load
+abbrev pub ScriptBy : Bool → Request → SourceView → SourceView → List (List Cmd) → Type 0
+ScriptBy true r old new lists = ReadProgram old new lists
+ScriptBy false r old new lists = (new ≡ old) × IsLoadScript r.rounds lists
 
--- the lists that are run: those of the bytes that were read; `load` reads nothing, and runs those of its
--- rounds
-abbrev pub ScriptBy : Mode → Request → SourceView → SourceView → List (List Cmd) → Type 0
-ScriptBy Solo r old new lists = ReadProgram old new lists
-ScriptBy Run r old new lists = ReadProgram old new lists
-ScriptBy Load r old new lists = (new ≡ old) × (lists ≡ generated_lists r.rounds)
-ScriptBy Roots r old new lists = ReadProgram old new lists
+-- the numbers of their run: a load has those of every load
+abbrev pub numbers_by : Bool → Request → List (List Cmd) → Numbers
+numbers_by true r lists = numbers_for r.limits lists
+numbers_by false r lists = load_numbers
 
--- the whole script was run: by one thread in `solo`; in `roots` too, and its roots were listed; and else by
--- callers in threads
-abbrev pub RanBy : Mode → Numbers → List (List Cmd) → Ran → Type 0
-RanBy Solo n lists (ran.Alone w) = RanWhole n lists w
-RanBy Solo n lists (ran.Shared w) = ⊥
-RanBy Solo n lists (ran.Rooted w roots) = ⊥
-RanBy Run n lists (ran.Alone w) = ⊥
-RanBy Run n lists (ran.Shared w) = RanAllTogether n lists w
-RanBy Run n lists (ran.Rooted w roots) = ⊥
-RanBy Load n lists (ran.Alone w) = ⊥
-RanBy Load n lists (ran.Shared w) = RanAllTogether n lists w
-RanBy Load n lists (ran.Rooted w roots) = ⊥
-RanBy Roots n lists (ran.Alone w) = ⊥
-RanBy Roots n lists (ran.Shared w) = ⊥
-RanBy Roots n lists (ran.Rooted w roots) = RanWhole n lists w × (roots ≡ roots_of w.state)
+-- the world that ran a script, by whether its callers had threads: P is true of that of one thread, and Q of one
+-- that they shared
+abbrev pub RunBy : Bool → (WorldView → Type 0) → (WorldView → Type 0) → Ran → Type 0
+RunBy false P Q (ran.Alone w) = P w
+RunBy false P Q (ran.Shared w) = ⊥
+RunBy true P Q (ran.Alone w) = ⊥
+RunBy true P Q (ran.Shared w) = Q w
 
--- the run stopped at commands that may take memory; in `roots` it may also have been whole, since their list
--- takes memory too
-abbrev pub StoppedBy : Mode → Numbers → List (List Cmd) → Ran → Type 0
-StoppedBy Solo n lists (ran.Alone w) = StoppedAt n lists w
-StoppedBy Solo n lists (ran.Shared w) = ⊥
-StoppedBy Solo n lists (ran.Rooted w roots) = ⊥
-StoppedBy Run n lists (ran.Alone w) = ⊥
-StoppedBy Run n lists (ran.Shared w) = StoppedTogether n lists w
-StoppedBy Run n lists (ran.Rooted w roots) = ⊥
-StoppedBy Load n lists (ran.Alone w) = ⊥
-StoppedBy Load n lists (ran.Shared w) = StoppedTogether n lists w
-StoppedBy Load n lists (ran.Rooted w roots) = ⊥
-StoppedBy Roots n lists (ran.Alone w) = StoppedAt n lists w ⊎ RanWhole n lists w
-StoppedBy Roots n lists (ran.Shared w) = ⊥
-StoppedBy Roots n lists (ran.Rooted w roots) = ⊥
+-- the whole script was run
+abbrev pub RanBy : Bool → Numbers → List (List Cmd) → Ran → Type 0
+RanBy threads n lists run = RunBy threads (RanWhole n lists) (RanAllTogether n lists) run
+
+-- the run stopped at commands that may take memory
+abbrev pub StoppedAtBy : Bool → Numbers → List (List Cmd) → Ran → Type 0
+StoppedAtBy threads n lists run = RunBy threads (StoppedAt n lists) (StoppedTogether n lists) run
+
+-- or, where roots are to be listed, it may have been whole, since their list takes memory too
+abbrev pub StoppedBy : Bool → Bool → Numbers → List (List Cmd) → Ran → Type 0
+StoppedBy threads false n lists run = StoppedAtBy threads n lists run
+StoppedBy threads true n lists run = StoppedAtBy threads n lists run ⊎ RanBy threads n lists run
+
+-- the roots that are listed of a world, if they are to be
+abbrev pub roots_by : Bool → WorldView → Option (List RootId)
+roots_by false w = None
+roots_by true w = Some (roots_of w.state)
 
 -- The cause of each fault of reading. Out of memory is free.
 abbrev pub FaultCause : SourceView → SourceView → Fault → Type 0
@@ -173,29 +160,32 @@ FaultCause old new (BadLine k) =
     (bytes : List ℕ) × ReadWhole old new bytes × (script_of bytes ≡ Err k)
 FaultCause old new NoMemory = GaveCount old new (λ n. n ≤ MOST_BYTES)
 
--- why no run is kept, by mode: `load` reads nothing, and only out of memory keeps it from a run
-abbrev pub RefusedBy : Mode → SourceView → SourceView → Fault → Type 0
-RefusedBy Solo old new fault = FaultCause old new fault
-RefusedBy Run old new fault = FaultCause old new fault
-RefusedBy Load old new fault = (fault ≡ NoMemory) × (new ≡ old)
-RefusedBy Roots old new fault = FaultCause old new fault
+-- why no run is kept, by whether the mode reads: one that reads nothing is kept from a run by memory alone
+abbrev pub RefusedBy : Bool → SourceView → SourceView → Fault → Type 0
+RefusedBy true old new fault = FaultCause old new fault
+RefusedBy false old new fault = (fault ≡ NoMemory) × (new ≡ old)
 
--- the cause of each ending of a request by mode, and what it keeps
-abbrev pub CauseBy : Mode → Request → SourceView → SourceView → Ending → Type 0
-CauseBy mode r old new (Refused fault) = RefusedBy mode old new fault
-CauseBy mode r old new (Stopped run) = (lists : List (List Cmd)) × ScriptBy mode r old new lists
-    × StoppedBy mode (numbers_by mode r lists) lists run
-CauseBy mode r old new (Done run) = (lists : List (List Cmd)) × ScriptBy mode r old new lists
-    × RanBy mode (numbers_by mode r lists) lists run
+-- The cause of each ending of a run of these lists, by whether its callers had threads and whether roots were to be
+-- listed. Out of memory is free where no world is kept.
+abbrev pub RunCause : Bool → Bool → Numbers → List (List Cmd) → Ending → Type 0
+RunCause threads listed n lists (Refused fault) = fault ≡ NoMemory
+RunCause threads listed n lists (Stopped run) = StoppedBy threads listed n lists run
+RunCause threads listed n lists (Done run roots) = RanBy threads n lists run × (roots ≡ roots_by listed (world_that run))
+
+-- there was a script, read whole or made, and the run of it has its cause
+abbrev pub RunsFor : Bool → Bool → Bool → Request → SourceView → SourceView → Ending → Type 0
+RunsFor reads threads listed r old new ending = (lists : List (List Cmd)) × ScriptBy reads r old new lists
+    × RunCause threads listed (numbers_by reads r lists) lists ending
+
+-- the cause of each ending of a request, by whether its mode reads, whether its callers have threads and whether it
+-- lists roots
+abbrev pub CauseBy : Bool → Bool → Bool → Request → SourceView → SourceView → Ending → Type 0
+CauseBy reads threads listed r old new (Refused fault) = RefusedBy reads old new fault
+CauseBy reads threads listed r old new (Stopped run) = RunsFor reads threads listed r old new (Stopped run)
+CauseBy reads threads listed r old new (Done run roots) = RunsFor reads threads listed r old new (Done run roots)
 
 -- The cause of each ending, by what the words ask for. Words that aren't valid are refused unread; memory may
 -- run out as they are read.
 abbrev pub Cause : Option Request → SourceView → SourceView → Ending → Type 0
 Cause None old new ending = ((ending ≡ Refused Usage) ⊎ (ending ≡ Refused NoMemory)) × (new ≡ old)
-Cause (Some r) old new ending = CauseBy r.mode r old new ending
-
--- The cause of each ending of a run of these lists. Out of memory is free where no world is kept.
-abbrev pub RunCause : Mode → Numbers → List (List Cmd) → Ending → Type 0
-RunCause mode n lists (Refused fault) = fault ≡ NoMemory
-RunCause mode n lists (Stopped run) = StoppedBy mode n lists run
-RunCause mode n lists (Done run) = RanBy mode n lists run
+Cause (Some r) old new ending = let t = traits_of r.mode in CauseBy t.reads t.threads t.lists_roots r old new ending

@@ -1,16 +1,17 @@
 -- What the turns of a journal say of each caller's part of it; and the limits as numbers, since a definition
 -- cites the program's own constants, which another number would change with them.
-use Rattle.std.specs.Prelude.{◌≡◌, ℕ, List, [], ◌++◌, map, codes}
+use Rattle.std.specs.Prelude.{◌≡◌, ℕ, List, [], ◌++◌, map, codes, Option}
 use Rattle.clap.specs.Words.{new_app, with_rule}
 use Rattle.hd_model.specs.declared.command.Cmd.{Cmd}
 use Rattle.hd_model.specs.declared.data.Entry.{Entry}
+use Rattle.hd_model.specs.declared.data.RootId.{RootId}
 use Rattle.hd_model.specs.declared.limits.TheConstants.{HEAP, BLOCKS, MOST_ROUNDS, MOST_BYTES}
 use Rattle.hd_model.specs.Run.{part_of, commands_of}
 use Rattle.hd_run.specs.declared.ending.Fault.TheVariants.{Usage, Unread, OverSize, BadLine, NoMemory}
 use Rattle.hd_run.specs.declared.ending.Ending.TheVariants.{Refused, Stopped, Done}
 use Rattle.hd_run.specs.declared.ending.Ran.{Ran}
-use Rattle.hd_run.specs.declared.request.TheConstants.{LEAST_HEAP}
-use Rattle.hd_run.specs.declared.request.Mode.{Mode}
+use Rattle.hd_run.specs.declared.limits.TheConstants.{LEAST_HEAP}
+use Rattle.hd_run.specs.declared.mode.Mode.{Mode}
 use Rattle.hd_run.specs.Report.{status_of}
 use Rattle.hd_run.specs.Turns.{list_of, turns_from, turn_of, taken_by}
 use Rattle.hd_run.specs.Words.{program, mode_rule, number_rule, with_numbers}
@@ -30,7 +31,7 @@ pub record LimitsAreThese : Type 0 where
       (number_rule (codes "rounds") 1 3000)
   -- where they name no number, the heap has 1,000,000 cells, there are 256 blocks, and a load has 100 rounds
   pub defaults : (mode : Mode) → with_numbers [] mode
-      ≡ record { mode = mode; heap = 1000000; blocks = 256; rounds = 100 }
+      ≡ record { mode = mode; limits = record { heap = 1000000; blocks = 256 }; rounds = 100 }
   -- the same limits hold where no words are read
   pub heap : (LEAST_HEAP ≡ 3) × (HEAP ≡ 1000000)
   pub blocks : BLOCKS ≡ 256
@@ -38,7 +39,7 @@ pub record LimitsAreThese : Type 0 where
   -- a script has at most 8,388,608 bytes
   pub bytes : MOST_BYTES ≡ 8388608
   -- the statuses
-  pub done : (run : Ran) → status_of (Done run) ≡ 0
+  pub done : (run : Ran) (roots : Option (List RootId)) → status_of (Done run roots) ≡ 0
   pub usage : status_of (Refused Usage) ≡ 2
   pub size : status_of (Refused OverSize) ≡ 3
   pub line : (k : ℕ) → status_of (Refused (BadLine k)) ≡ 3

@@ -1,7 +1,10 @@
+pub mod Modes
+pub mod Bounds
 pub mod Words
 pub mod Turns
 pub mod Together
 pub mod Ending
+pub mod Work
 pub mod Report
 pub mod Claims
 pub mod Laws

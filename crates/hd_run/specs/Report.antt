@@ -1,25 +1,24 @@
 -- What a call writes and returns. The texts and the statuses are this project's own.
 use Rattle.std.specs.Prelude.{◌≡◌, ℕ, ◌^◌, ◌<◌, sum_by, List, ◌++◌, ◌⊎◌, codes, decimal, Option, None, Some, Result, MatchResult, All}
 use Rattle.hd_model.specs.declared.data.Entry.{Entry}
+use Rattle.hd_model.specs.declared.data.RootId.{RootId}
 use Rattle.hd_model.specs.declared.limits.TheConstants.{CALLERS}
 use Rattle.hd_model.specs.Generated.{load_text_of, value_told}
-use Rattle.hd_model.specs.RootText.{list_text, roots_text}
+use Rattle.hd_model.specs.RootText.{list_text}
 use Rattle.hd_model.specs.Text.{newline, lines_of, text_of}
 use Rattle.hd_io.specs.Sink.{SinkView, Took, WriteBrokeOff}
 use Rattle.hd_world.specs.World.{WorldView}
 use Rattle.hd_run.specs.declared.ending.Fault.{Fault}
 use Rattle.hd_run.specs.declared.ending.Fault.TheVariants.{Usage, Unread, OverSize, BadLine, NoMemory}
-use Rattle.hd_run.specs.declared.ending.Ran.{Ran}
-use Rattle.hd_run.specs.declared.ending.Ran.TheVariants as ran
 use Rattle.hd_run.specs.declared.ending.Ending.{Ending}
 use Rattle.hd_run.specs.declared.ending.Ending.TheVariants.{Refused, Stopped, Done}
 use Rattle.hd_run.specs.declared.outcome.Outcome.{Outcome}
-use Rattle.hd_run.specs.declared.report.Form.{Form}
-use Rattle.hd_run.specs.declared.report.Form.TheVariants.{Lines, Summary}
-use Rattle.hd_run.specs.declared.request.Mode.{Mode}
-use Rattle.hd_run.specs.declared.request.Mode.TheVariants.{Solo, Run, Load, Roots}
+use Rattle.hd_run.specs.declared.mode.Form.{Form}
+use Rattle.hd_run.specs.declared.mode.Form.TheVariants.{Lines, Summary}
+use Rattle.hd_run.specs.declared.mode.Traits.{Traits}
 use Rattle.hd_run.specs.declared.request.Request.{Request}
-use Rattle.hd_run.specs.Ending.{world_that, kept_of}
+use Rattle.hd_run.specs.Modes.{traits_of}
+use Rattle.hd_run.specs.Ending.{world_that, kept_of, world_of, journal_in, roots_by}
 
 -- the status of each fault, and of each ending
 abbrev pub fault_status : Fault → ℕ
@@ -32,7 +31,7 @@ fault_status NoMemory = 6
 abbrev pub status_of : Ending → ℕ
 status_of (Refused fault) = fault_status fault
 status_of (Stopped run) = 6
-status_of (Done run) = 0
+status_of (Done run roots) = 0
 
 -- the line of each fault
 abbrev pub memory_text : List ℕ
@@ -57,34 +56,24 @@ whole_text Lines w = text_of w.journal w.state
 whole_text Summary w = load_text_of w.journal w.state
 
 -- what is written of what ran: after that the lines of the roots, where they were listed
-abbrev pub ran_text : Form → Ran → List ℕ
-ran_text form (ran.Alone w) = whole_text form w
-ran_text form (ran.Shared w) = whole_text form w
-ran_text form (ran.Rooted w roots) = whole_text form w ++ list_text roots
+abbrev pub ran_text : Form → WorldView → Option (List RootId) → List ℕ
+ran_text form w None = whole_text form w
+ran_text form w (Some roots) = whole_text form w ++ list_text roots
 
--- what each mode writes of a whole run
-abbrev pub text_by : Mode → WorldView → List ℕ
-text_by Solo w = text_of w.journal w.state
-text_by Run w = text_of w.journal w.state
-text_by Load w = load_text_of w.journal w.state
-text_by Roots w = text_of w.journal w.state ++ roots_text w.state
+-- what a mode writes of a whole run
+abbrev pub text_by : Traits → WorldView → List ℕ
+text_by t w = ran_text t.form w (roots_by t.lists_roots w)
 
 -- what each ending writes
 abbrev pub text_for : Form → Ending → List ℕ
 text_for form (Refused fault) = fault_text fault
 text_for form (Stopped run) = stopped_text form (world_that run).journal
-text_for form (Done run) = ran_text form run
+text_for form (Done run roots) = ran_text form (world_that run) roots
 
--- how each mode writes a run, and how a refusal of the words is written
-abbrev pub form_of : Mode → Form
-form_of Solo = Lines
-form_of Run = Lines
-form_of Load = Summary
-form_of Roots = Lines
-
+-- how the mode of a request writes a run, and how a refusal of the words is written
 abbrev pub form_for : Option Request → Form
 form_for None = Lines
-form_for (Some r) = form_of r.mode
+form_for (Some r) = (traits_of r.mode).form
 
 -- the sink took all of a text; or a write failed, after a prefix of it
 abbrev pub Writes : {T E : Type 0} → SinkView → SinkView → List ℕ → Result T E → Type 0
@@ -100,10 +89,15 @@ abbrev pub HasSum : Form → WorldView → Type 0
 HasSum Lines w = Unit {0}
 HasSum Summary w = sum_by (λ (e : Entry). value_told e.reply) w.journal < 2 ^ 64
 
-abbrev pub IsWritable : Form → Ending → Type 0
-IsWritable form (Refused fault) = Unit {0}
-IsWritable form (Stopped run) = Unit {0}
-IsWritable form (Done run) = HasSum form (world_that run)
+abbrev pub HasSumOf : Form → Ending → Type 0
+HasSumOf form (Refused fault) = Unit {0}
+HasSumOf form (Stopped run) = Unit {0}
+HasSumOf form (Done run roots) = HasSum form (world_that run)
+
+-- the text of an ending can be written
+pub record IsWritable (form : Form) (ending : Ending) : Type 0 where
+  pub callers : HasFewCallers (journal_in (world_of (kept_of ending)))
+  pub sum : HasSumOf form ending
 
 -- The ending is reported, and what it keeps is kept: all of its text is written and its status
 -- returned; or a write failed after a prefix of the text, and the status is 5.

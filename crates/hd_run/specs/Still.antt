@@ -9,7 +9,7 @@ use Rattle.hd_run.specs.declared.request.Request.{Request}
 -- status is neither that of a failed read nor that of a failed write.
 abbrev pub StillEndsNeverFail : Type 0
 StillEndsNeverFail =
-    (asked : Option Request) (source_old source_new : StillReading) (sink_old sink_new : StillWriting)
+    (asked : Option Request) (source : StillReading × StillReading) (sink : StillWriting × StillWriting)
     (o : Outcome) →
-    Promise still_source_view still_sink_view asked source_old source_new sink_old sink_new o →
+    Promise still_source_view still_sink_view asked source sink o →
     (o.status ≢ 4) × (o.status ≢ 5)

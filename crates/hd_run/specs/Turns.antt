@@ -1,10 +1,10 @@
 -- Runs of callers one after another, as lists of turns: a caller and a command. That callers are
 -- taken so is this project's own.
-use Rattle.std.specs.Prelude.{◌≡◌, ℕ, ◌+◌, ◌≤◌, List, [], ◌∷◌, ◌++◌, map, filter, length, slice_index_or, ◌==◌, IsTrue}
+use Rattle.std.specs.Prelude.{◌≡◌, ℕ, ◌+◌, ◌≤◌, List, [], ◌∷◌, ◌++◌, map, filter, length, slice_index_or, ◌==◌, IsTrue, sum_by}
 use Rattle.hd_model.specs.declared.command.Cmd.{Cmd}
 use Rattle.hd_model.specs.declared.data.Entry.{Entry}
 use Rattle.hd_model.specs.declared.limits.TheConstants.{CALLERS}
-use Rattle.hd_model.specs.State.{Numbers}
+use Rattle.hd_model.specs.State.{Numbers, start_of}
 use Rattle.hd_model.specs.Run.{SoloRun}
 use Rattle.hd_model.specs.Valid.{takes_memory}
 use Rattle.hd_world.specs.World.{WorldView, FitsHeap}
@@ -55,6 +55,15 @@ pub record IsReadyFor (n : Numbers) (lists : List (List Cmd)) (left : List (ℕ 
     (w : WorldView) : Type 0 where
   pub ran : RanUpTo n lists left w
   pub room : length left ≤ w.spare
+
+-- an empty world for a script of at most as many callers as a world may have, with these numbers and room for all
+-- its commands
+pub record IsOpenFor (lists : List (List Cmd)) (n : Numbers) (w : WorldView) : Type 0 where
+  pub numbers : w.numbers ≡ n
+  pub empty : w.journal ≡ []
+  pub state : w.state ≡ start_of w.numbers
+  pub room : w.spare ≡ sum_by length lists
+  pub few : length lists ≤ CALLERS
 
 -- an empty world for a script, of at most as many callers as a world may have, with all its turns left
 pub record IsReadyToRun (lists : List (List Cmd)) (w : WorldView) : Type 0 where

@@ -1,6 +1,6 @@
 ghost use Rattle.std.specs.Prelude.{◌≡◌};
 ghost use Rattle.hd_run.specs.Ending.{kept_of, kept_that, world_that, unread_fault, unparsed_fault};
-ghost use Rattle.hd_run.specs.Ending.{ran_ending, rooted_ending, together_ending};
+ghost use Rattle.hd_run.specs.Ending.{run_ending, Lists};
 ghost use Rattle.hd_run.specs.Report.{fault_status, status_of};
 
 use crate::Kept;
@@ -10,6 +10,8 @@ use hd_io::ReadFault;
 use hd_model::Memory;
 use hd_script::ScriptFault;
 use hd_world::World;
+use std::alloc::Global;
+use std::thread::Threads;
 
 /// Why nothing was run.
 #[derive(Clone, Copy)]
@@ -21,12 +23,11 @@ pub(crate) enum Fault {
     NoMemory,
 }
 
-/// What ran a script: one thread, its callers in threads, or one thread that listed the roots then.
+/// The world that ran a script: that of one thread, or one that callers in threads shared.
 #[derive(Drop)]
 pub(crate) enum Ran {
     Alone(World),
     Shared(Closed),
-    Rooted(World, RootList),
 }
 
 /// How the work of a call ends, before its report is written, and what it keeps. One that keeps a
@@ -35,7 +36,8 @@ pub(crate) enum Ending {
     Refused(Fault),
     /// Memory ran out.
     Stopped(Ran),
-    Done(Ran),
+    /// The whole script was run, and its roots were listed if they were to be.
+    Done(Ran, Option<RootList>),
 }
 
 impl Drop for Ending {
@@ -44,7 +46,8 @@ impl Drop for Ending {
     {
         match self {
             Ending::Refused(_fault) => {}
-            Ending::Stopped(_ran) | Ending::Done(_ran) => {}
+            Ending::Stopped(_ran) => {}
+            Ending::Done(_ran, _roots) => {}
         }
     }
 }
@@ -55,7 +58,7 @@ impl Ran {
         ensures { result.now ≡ world_that self.now }
     {
         match self {
-            Ran::Alone(world) | Ran::Rooted(world, _) => world,
+            Ran::Alone(world) => world,
             Ran::Shared(closed) => closed.world(),
         }
     }
@@ -66,7 +69,6 @@ impl Ran {
         match self {
             Ran::Alone(world) => Kept::Alone(world),
             Ran::Shared(closed) => Kept::Shared(closed),
-            Ran::Rooted(world, _roots) => Kept::Alone(world),
         }
     }
 }
@@ -91,7 +93,7 @@ impl Ending {
         match self {
             Ending::Refused(fault) => fault.status(),
             Ending::Stopped(_) => 6,
-            Ending::Done(_) => 0,
+            Ending::Done(..) => 0,
         }
     }
 
@@ -100,7 +102,34 @@ impl Ending {
     {
         match self {
             Ending::Refused(_fault) => Kept::Nothing,
-            Ending::Stopped(ran) | Ending::Done(ran) => ran.kept(),
+            Ending::Stopped(ran) => ran.kept(),
+            Ending::Done(ran, _roots) => ran.kept(),
+        }
+    }
+
+    /// A whole run, or one that stopped because memory ran out.
+    pub(crate) fn of(done: bool, ran: Ran) -> Ending
+        ensures { result ≡ run_ending done ran }
+    {
+        if done {
+            Ending::Done(ran, None)
+        } else {
+            Ending::Stopped(ran)
+        }
+    }
+
+    /// Lists the roots of a world that ran its whole script. Where memory runs out, the run has
+    /// stopped.
+    pub(crate) fn list_roots(self, rt: &(impl Threads + Sync), alloc: Global) -> Ending
+        ensures { Lists self result }
+    {
+        match self {
+            Ending::Done(ran, _roots) => match RootList::of(rt, alloc, ran.world()) {
+                Ok(roots) => Ending::Done(ran, Some(roots)),
+                Err(Memory) => Ending::Stopped(ran),
+            },
+            Ending::Refused(fault) => Ending::Refused(fault),
+            Ending::Stopped(ran) => Ending::Stopped(ran),
         }
     }
 }
@@ -123,36 +152,5 @@ pub(crate) fn unparsed(fault: ScriptFault) -> Fault
     match fault {
         ScriptFault::Line(number) => Fault::BadLine(number),
         ScriptFault::Memory => Fault::NoMemory,
-    }
-}
-
-/// A run of one thread came to its end, or stopped because memory ran out.
-pub(crate) fn ended(taken: Result<(), Memory>, world: World) -> Ending
-    ensures { result ≡ ran_ending taken world }
-{
-    match taken {
-        Ok(()) => Ending::Done(Ran::Alone(world)),
-        Err(Memory) => Ending::Stopped(Ran::Alone(world)),
-    }
-}
-
-/// A run of one thread listed the roots of its world, or stopped because memory ran out.
-pub(crate) fn rooted(listed: Result<RootList, Memory>, world: World) -> Ending
-    ensures { result ≡ rooted_ending listed world }
-{
-    match listed {
-        Ok(roots) => Ending::Done(Ran::Rooted(world, roots)),
-        Err(Memory) => ended(Err(Memory), world),
-    }
-}
-
-/// A run of callers in threads came to its end, or some of them stopped because memory ran out.
-pub(crate) fn ended_together(done: bool, closed: Closed) -> Ending
-    ensures { result ≡ together_ending done closed }
-{
-    if done {
-        Ending::Done(Ran::Shared(closed))
-    } else {
-        Ending::Stopped(Ran::Shared(closed))
     }
 }

@@ -1,16 +1,18 @@
 //! Runs a script, from its bytes to the text of its journal.
 #![tactic(auto)]
 
-ghost use Rattle.std.specs.Prelude.{◌≡◌, ◌≤◌, Some};
+ghost use Rattle.std.specs.Prelude.{◌≡◌, ◌≤◌};
 ghost use Rattle.hd_model.specs.Generated.{load_numbers, generated_lists};
-ghost use Rattle.hd_run.specs.declared.report.Form.TheVariants.{Lines, Summary};
-ghost use Rattle.hd_run.specs.declared.request.TheConstants.{LEAST_HEAP};
-ghost use Rattle.hd_run.specs.Words.{request_of, solo_of, listing_of, IsInLimits};
-ghost use Rattle.hd_run.specs.Ending.{numbers_for};
+ghost use Rattle.hd_run.specs.declared.mode.Form.TheVariants.{Lines, Summary};
+ghost use Rattle.hd_run.specs.declared.limits.TheConstants.{LEAST_HEAP};
+ghost use Rattle.hd_run.specs.Bounds.{numbers_for};
+ghost use Rattle.hd_run.specs.Words.{request_of, solo_of, listing_of};
 ghost use Rattle.hd_run.specs.Claims.{Promise, Together, HasLine};
 
 mod ending;
 mod laws;
+mod limits;
+mod mode;
 mod outcome;
 mod report;
 mod request;
@@ -22,10 +24,12 @@ mod turns;
 mod work;
 
 use crate::ending::{Ending, Fault};
-use crate::report::{Form, report};
-use crate::request::{Mode, Request, read_roots_words, read_solo_words, read_words};
+use crate::limits::Limits;
+use crate::mode::Form;
+use crate::report::report;
+use crate::request::{read_words, read_words_alone};
 use crate::threads::run_callers;
-use crate::work::{read_script, run_alone, run_rooted};
+use crate::work::{work, work_alone};
 use hd_io::{Pace, Sink, Source};
 use hd_model::limits::{BLOCKS, HEAP, MOST_ROUNDS};
 use hd_script::{Scripts, generate};
@@ -47,11 +51,15 @@ pub fn top<R: Threads + Wait + Sync, S: Source, K: Sink, P: Pace>(
     sink: &mut K,
     pace: &P,
 ) -> Outcome
-    ensures { Promise S.seen K.seen (request_of words.now) source.old source.new
-        sink.old sink.new result }
+    ensures { Promise S.seen K.seen (request_of words.now)
+        (source.old, source.new) (sink.old, sink.new) result }
 {
     match read_words(alloc, words) {
-        Ok(request) => answer(rt, alloc, request, source, sink, pace),
+        Ok(request) => {
+            let form = request.mode.traits().form;
+            let ending = work(rt, alloc, request, source, pace);
+            report(sink, form, ending)
+        }
         Err(fault) => report(sink, Form::Lines, Ending::Refused(fault)),
     }
 }
@@ -66,11 +74,15 @@ pub fn solo<S: Source, K: Sink>(
     source: &mut S,
     sink: &mut K,
 ) -> Outcome
-    ensures { Promise S.seen K.seen (solo_of (request_of words.now)) source.old source.new
-        sink.old sink.new result }
+    ensures { Promise S.seen K.seen (solo_of (request_of words.now))
+        (source.old, source.new) (sink.old, sink.new) result }
 {
-    match read_solo_words(alloc, words) {
-        Ok(request) => answer_solo(alloc, request, source, sink),
+    match read_words_alone(alloc, words, false) {
+        Ok(request) => {
+            let form = request.mode.traits().form;
+            let ending = work_alone(alloc, request, source);
+            report(sink, form, ending)
+        }
         Err(fault) => report(sink, Form::Lines, Ending::Refused(fault)),
     }
 }
@@ -85,11 +97,15 @@ pub fn roots<R: Threads + Sync, S: Source, K: Sink>(
     source: &mut S,
     sink: &mut K,
 ) -> Outcome
-    ensures { Promise S.seen K.seen (listing_of (request_of words.now)) source.old source.new
-        sink.old sink.new result }
+    ensures { Promise S.seen K.seen (listing_of (request_of words.now))
+        (source.old, source.new) (sink.old, sink.new) result }
 {
-    match read_roots_words(alloc, words) {
-        Ok(request) => answer_roots(rt, alloc, request, source, sink),
+    match read_words_alone(alloc, words, true) {
+        Ok(request) => {
+            let form = request.mode.traits().form;
+            let ending = work_alone(alloc, request, source).list_roots(rt, alloc);
+            report(sink, form, ending)
+        }
         Err(fault) => report(sink, Form::Lines, Ending::Refused(fault)),
     }
 }
@@ -108,10 +124,12 @@ pub fn run<R: Threads + Wait + Sync, K: Sink, P: Pace>(
 ) -> Outcome
     requires heap { (LEAST_HEAP ≤ heap) × (heap ≤ HEAP) }
     requires blocks { (1 ≤ blocks) × (blocks ≤ BLOCKS) }
-    ensures { Together K.seen Lines (numbers_for heap blocks scripts.now) scripts.now
-        sink.old sink.new result }
+    ensures { Together K.seen Lines (numbers_for (record { heap = heap; blocks = blocks }) scripts.now)
+        scripts.now sink.old sink.new result }
 {
-    let ending = run_callers(rt, alloc, scripts, heap, blocks, pace);
+    // The scripts state that they are of few callers.
+    let _callers = scripts.callers();
+    let ending = run_callers(rt, alloc, scripts, &Limits::new(heap, blocks), pace);
     report(sink, Form::Lines, ending)
 }
 
@@ -131,89 +149,8 @@ pub fn load<R: Threads + Wait + Sync, K: Sink, P: Pace>(
     let Ok(scripts) = generate(alloc, rounds) else {
         return report(sink, Form::Summary, Ending::Refused(Fault::NoMemory));
     };
-    let ending = run_callers(rt, alloc, &scripts, HEAP, BLOCKS, pace);
+    let ending = run_callers(rt, alloc, &scripts, &Limits::new(HEAP, BLOCKS), pace);
     report(sink, Form::Summary, ending)
-}
-
-// Does what was asked.
-fn answer<R: Threads + Wait + Sync, S: Source, K: Sink, P: Pace>(
-    rt: &R,
-    alloc: Global,
-    request: Request,
-    source: &mut S,
-    sink: &mut K,
-    pace: &P,
-) -> Outcome
-    requires { IsInLimits request }
-    ensures { Promise S.seen K.seen (Some request) source.old source.new sink.old sink.new result }
-{
-    match request.mode {
-        Mode::Solo => answer_solo(alloc, request, source, sink),
-        Mode::Run => answer_run(rt, alloc, request, source, sink, pace),
-        Mode::Load => load(rt, alloc, request.rounds, sink, pace),
-        Mode::Roots => answer_roots(rt, alloc, request, source, sink),
-    }
-}
-
-fn answer_solo<S: Source, K: Sink>(
-    alloc: Global,
-    request: Request,
-    source: &mut S,
-    sink: &mut K,
-) -> Outcome
-    requires limits { IsInLimits request }
-    requires mode { request.mode ≡ Mode.Solo }
-    ensures { Promise S.seen K.seen (Some request) source.old source.new sink.old sink.new result }
-{
-    let ending = match read_script(alloc, source) {
-        Ok(scripts) => run_alone(alloc, &scripts, request.heap, request.blocks),
-        Err(fault) => Ending::Refused(fault),
-    };
-    report(sink, Form::Lines, ending)
-}
-
-fn answer_roots<R: Threads + Sync, S: Source, K: Sink>(
-    rt: &R,
-    alloc: Global,
-    request: Request,
-    source: &mut S,
-    sink: &mut K,
-) -> Outcome
-    requires limits { IsInLimits request }
-    requires mode { request.mode ≡ Mode.Roots }
-    ensures { Promise S.seen K.seen (Some request) source.old source.new sink.old sink.new result }
-{
-    let ending = match read_script(alloc, source) {
-        Ok(scripts) => run_rooted(rt, alloc, &scripts, request.heap, request.blocks),
-        Err(fault) => Ending::Refused(fault),
-    };
-    report(sink, Form::Lines, ending)
-}
-
-fn answer_run<R: Threads + Wait + Sync, S: Source, K: Sink, P: Pace>(
-    rt: &R,
-    alloc: Global,
-    request: Request,
-    source: &mut S,
-    sink: &mut K,
-    pace: &P,
-) -> Outcome
-    requires limits { IsInLimits request }
-    requires mode { request.mode ≡ Mode.Run }
-    ensures { Promise S.seen K.seen (Some request) source.old source.new sink.old sink.new result }
-{
-    match read_script(alloc, source) {
-        Ok(scripts) => run(
-            rt,
-            alloc,
-            &scripts,
-            request.heap,
-            request.blocks,
-            sink,
-            pace,
-        ),
-        Err(fault) => report(sink, Form::Lines, Ending::Refused(fault)),
-    }
 }
 
 #[cfg(test)]

@@ -1,12 +1,12 @@
 ghost use Rattle.std.specs.Prelude.{◌≡◌, ◌++◌};
 ghost use Rattle.hd_model.specs.Text.{lines_of};
-ghost use Rattle.hd_model.specs.RootText.{list_text};
-ghost use Rattle.hd_run.specs.Ending.{world_of, world_that, journal_in, kept_of};
+ghost use Rattle.hd_run.specs.Ending.{world_that};
 ghost use Rattle.hd_run.specs.Report.{Reports, Writes, HasFewCallers, HasSum, IsWritable};
 ghost use Rattle.hd_run.specs.Report.{text_for, stopped_text, ran_text, whole_text, fault_text};
 
 use crate::Outcome;
-use crate::ending::{Ending, Fault, Ran};
+use crate::ending::{Ending, Fault};
+use crate::mode::Form;
 use crate::root_list::RootList;
 use crate::summary::summary;
 use hd_io::{Failed, Sink, write_all};
@@ -21,17 +21,9 @@ const MEMORY: &str = "fault memory\n";
 
 const USAGE: &str = "usage: hdt solo|run|load|roots [--heap CELLS] [--blocks COUNT] [--rounds N]\n";
 
-/// How a run is written: a line for each entry and one for its end, or one line for all.
-#[derive(Clone, Copy)]
-pub(crate) enum Form {
-    Lines,
-    Summary,
-}
-
 /// Writes what an ending has to say, and returns its status and what it keeps.
 pub(crate) fn report<K: Sink>(sink: &mut K, form: Form, ending: Ending) -> Outcome
-    requires callers { HasFewCallers (journal_in (world_of (kept_of ending))) }
-    requires sum { IsWritable form ending }
+    requires { IsWritable form ending }
     ensures { Reports (K.seen sink.old) (K.seen sink.new) form ending result }
 {
     let status = match write_text(sink, form, &ending) {
@@ -45,14 +37,13 @@ pub(crate) fn report<K: Sink>(sink: &mut K, form: Form, ending: Ending) -> Outco
 }
 
 fn write_text<K: Sink>(sink: &mut K, form: Form, ending: &Ending) -> Result<(), Failed>
-    requires callers { HasFewCallers (journal_in (world_of (kept_of ending.now))) }
-    requires sum { IsWritable form ending.now }
+    requires { IsWritable form ending.now }
     ensures { Writes (K.seen sink.old) (K.seen sink.new) (text_for form ending.now) result }
 {
     match ending {
         Ending::Refused(fault) => write_all(sink, fault_line(*fault).as_bytes()),
         Ending::Stopped(ran) => write_stopped(sink, form, ran.world().journal()),
-        Ending::Done(ran) => write_ran(sink, form, ran),
+        Ending::Done(ran, roots) => write_ran(sink, form, ran.world(), roots),
     }
 }
 
@@ -68,33 +59,25 @@ fn write_stopped<K: Sink>(sink: &mut K, form: Form, journal: &Journal) -> Result
     }
 }
 
-// What is written of what ran a script.
-fn write_ran<K: Sink>(sink: &mut K, form: Form, ran: &Ran) -> Result<(), Failed>
-    requires callers { HasFewCallers (world_that ran.now).journal }
-    requires sum { HasSum form (world_that ran.now) }
-    ensures { Writes (K.seen sink.old) (K.seen sink.new) (ran_text form ran.now) result }
-{
-    match ran {
-        Ran::Alone(_) | Ran::Shared(_) => write_whole(sink, form, ran.world()),
-        Ran::Rooted(world, roots) => write_rooted(sink, form, world, roots),
-    }
-}
-
-// What is written of a whole run, and then the lines of its roots.
+// What is written of a whole run, and then the lines of its roots, if they were listed.
 #[tactic(auto, using(hd_io::proofs::SinkPieces::appending))]
-fn write_rooted<K: Sink>(
+fn write_ran<K: Sink>(
     sink: &mut K,
     form: Form,
     world: &World,
-    roots: &RootList,
+    roots: &Option<RootList>,
 ) -> Result<(), Failed>
     requires callers { HasFewCallers world.now.journal }
     requires sum { HasSum form world.now }
-    ensures { Writes (K.seen sink.old) (K.seen sink.new)
-        (whole_text form world.now ++ list_text roots.now) result }
+    ensures { Writes (K.seen sink.old) (K.seen sink.new) (ran_text form world.now roots.now) result }
 {
-    write_whole(sink, form, world)?;
-    roots.write(sink)
+    match roots {
+        None => write_whole(sink, form, world),
+        Some(roots) => {
+            write_whole(sink, form, world)?;
+            roots.write(sink)
+        }
+    }
 }
 
 // What is written of a whole run.

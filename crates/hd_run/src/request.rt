@@ -1,37 +1,27 @@
-ghost use Rattle.std.specs.Prelude.{◌≡◌, false, Some, ◌^◌, ◌-◌, IfOk, IfErr, IsErrAnd, IfSome};
+ghost use Rattle.std.specs.Prelude.{◌≡◌, true, false, Some, ◌^◌, ◌-◌, IfOk, IfErr, IsErrAnd, IfSome};
 ghost use Rattle.clap.specs.Words.{app_of, rule_of, found_of, kind_of, rows_of};
-ghost use Rattle.hd_run.specs.Words.{request_of, solo_of, listing_of, asked_by, number_rule, program, mode_of};
+ghost use Rattle.hd_run.specs.Modes.{traits_of, runs_alone};
+ghost use Rattle.hd_run.specs.Words.{request_of, if_alone, asked_by, number_rule, program};
 ghost use Rattle.hd_run.specs.Words.{number_of, request_or_usage, IsRefusal};
 ghost use Rattle.hd_run.specs.Words.{IsFaultOfWords, IsInLimits, GivesNumbers, GivesNumber};
 
 use crate::ending::Fault;
+use crate::limits::{LEAST_HEAP, Limits};
+use crate::mode::Mode;
 use clap::builder::ValueParser;
 use clap::error::ErrorKind;
 use clap::{Arg, ArgMatches, Command, Error};
 use hd_model::limits::{BLOCKS, HEAP, MOST_ROUNDS};
 use std::alloc::{AllocError, Global};
 
-// The cells of a heap, at least: those of an object without fields.
-const LEAST_HEAP: u32 = 3;
-
 // The rounds of a load where the words give no number.
 const ROUNDS: u32 = 100;
 
-/// The modes of the program.
-#[derive(Clone, Copy)]
-pub(crate) enum Mode {
-    Solo,
-    Run,
-    Load,
-    Roots,
-}
-
-/// What the words ask for: a mode, its limits, in cells and in blocks, and the rounds of a load.
-#[derive(Clone, Copy)]
+/// What the words ask for: a mode, its limits, and the rounds of a load.
+#[derive(Drop)]
 pub(crate) struct Request {
     pub(crate) mode: Mode,
-    pub(crate) heap: u32,
-    pub(crate) blocks: u32,
+    pub(crate) limits: Limits,
     pub(crate) rounds: u32,
 }
 
@@ -47,29 +37,23 @@ pub(crate) fn read_words(alloc: Global, words: &[String]) -> Result<Request, Fau
     request_or_fault(command.try_get_matches_from(words))
 }
 
-/// What the words ask for, where they are valid and name the mode `solo`.
-pub(crate) fn read_solo_words(alloc: Global, words: &[String]) -> Result<Request, Fault>
-    ensures value { IfOk result (λ r. Some r ≡ solo_of (request_of words.now)) }
+/// What the words ask for, where they are valid and name a mode in which one thread runs the script,
+/// and lists the roots or not.
+pub(crate) fn read_words_alone(
+    alloc: Global,
+    words: &[String],
+    lists_roots: bool,
+) -> Result<Request, Fault>
+    ensures value { IfOk result (λ r. Some r ≡ if_alone lists_roots (request_of words.now)) }
     ensures limits { IfOk result IsInLimits }
-    ensures fault { IfErr result (IsFaultOfWords (solo_of (request_of words.now))) }
+    ensures alone { IfOk result (λ r. runs_alone lists_roots (traits_of r.mode) ≡ true) }
+    ensures fault { IfErr result (IsFaultOfWords (if_alone lists_roots (request_of words.now))) }
 {
     let request = read_words(alloc, words)?;
-    match request.mode {
-        Mode::Solo => Ok(request),
-        Mode::Run | Mode::Load | Mode::Roots => Err(Fault::Usage),
-    }
-}
-
-/// What the words ask for, where they are valid and name the mode `roots`.
-pub(crate) fn read_roots_words(alloc: Global, words: &[String]) -> Result<Request, Fault>
-    ensures value { IfOk result (λ r. Some r ≡ listing_of (request_of words.now)) }
-    ensures limits { IfOk result IsInLimits }
-    ensures fault { IfErr result (IsFaultOfWords (listing_of (request_of words.now))) }
-{
-    let request = read_words(alloc, words)?;
-    match request.mode {
-        Mode::Roots => Ok(request),
-        Mode::Solo | Mode::Run | Mode::Load => Err(Fault::Usage),
+    if request.mode.traits().runs_alone(lists_roots) {
+        Ok(request)
+    } else {
+        Err(Fault::Usage)
     }
 }
 
@@ -124,26 +108,15 @@ fn asked_by(matches: &ArgMatches) -> Option<Request>
     ensures value { result ≡ asked_by (rows_of (found_of matches.now)) }
     ensures limits { IfSome result IsInLimits }
 {
-    let mode = mode_of(matches.get_str("mode")?)?;
+    let mode = Mode::of(matches.get_str("mode")?)?;
+    let heap = number_of(matches, "heap", HEAP);
+    let blocks = number_of(matches, "blocks", BLOCKS);
+    let rounds = number_of(matches, "rounds", ROUNDS);
     Some(Request {
         mode,
-        heap: number_of(matches, "heap", HEAP),
-        blocks: number_of(matches, "blocks", BLOCKS),
-        rounds: number_of(matches, "rounds", ROUNDS),
+        limits: Limits::new(heap, blocks),
+        rounds,
     })
-}
-
-// The mode of a name.
-fn mode_of(name: &str) -> Option<Mode>
-    ensures { result ≡ mode_of name.now }
-{
-    match name {
-        "solo" => Some(Mode::Solo),
-        "run" => Some(Mode::Run),
-        "load" => Some(Mode::Load),
-        "roots" => Some(Mode::Roots),
-        _ => None,
-    }
 }
 
 // The number of an option, or its default where the words give none.

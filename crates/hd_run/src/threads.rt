@@ -1,19 +1,16 @@
 // The callers of a script in threads of their own.
-ghost use Rattle.std.specs.Prelude.{◌≡◌, ◌<◌, ◌≤◌, [], length, map, All, Any, IfOk, MatchBool};
-ghost use Rattle.hd_run.specs.declared.request.TheConstants.{LEAST_HEAP};
-ghost use Rattle.hd_run.specs.declared.request.Mode.TheVariants.{Run};
-ghost use Rattle.hd_run.specs.Ending.{RunCause, Keeps, numbers_for, world_of, kept_of, journal_in};
-ghost use Rattle.hd_run.specs.Report.{HasFewCallers};
+ghost use Rattle.std.specs.Prelude.{◌≡◌, ◌<◌, ◌≤◌, true, false, [], length, map, All, Any, IfOk, MatchBool};
+ghost use Rattle.hd_run.specs.Bounds.{numbers_for};
+ghost use Rattle.hd_run.specs.Ending.{RunCause, Keeps};
 ghost use Rattle.hd_run.specs.Together.{IsReadyToPlay, AreReadyToPlay, HasPlayed, HavePlayed};
 ghost use Rattle.hd_run.specs.Turns.{list_of};
 
-use crate::ending::{Ending, Fault, ended_together};
+use crate::ending::{Ending, Fault, Ran};
+use crate::limits::Limits;
 use hd_gate::{Caller, Callers, Shared};
 use hd_io::Pace;
 use hd_model::Memory;
-use hd_model::limits::{BLOCKS, CALLERS, HEAP};
 use hd_script::Scripts;
-use hd_world::World;
 use std::alloc::{AllocError, Global};
 use std::sync::Wait;
 use std::thread;
@@ -24,16 +21,12 @@ pub(crate) fn run_callers<R: Threads + Wait + Sync, P: Pace>(
     rt: &R,
     alloc: Global,
     scripts: &Scripts,
-    heap: u32,
-    blocks: u32,
+    limits: &Limits,
     pace: &P,
 ) -> Ending
-    requires heap { (LEAST_HEAP ≤ heap) × (heap ≤ HEAP) }
-    requires blocks { (1 ≤ blocks) × (blocks ≤ BLOCKS) }
-    ensures cause { RunCause Run (numbers_for heap blocks scripts.now) scripts.now result }
-    ensures callers { HasFewCallers (journal_in (world_of (kept_of result))) }
+    ensures { RunCause true false (numbers_for limits.now scripts.now) scripts.now result }
 {
-    match Team::open(alloc, scripts, heap, blocks) {
+    match Team::open(alloc, scripts, limits) {
         Ok(team) => team.run(rt, scripts, pace),
         Err(Memory) => Ending::Refused(Fault::NoMemory),
     }
@@ -58,18 +51,15 @@ impl Drop for Team {
 
 impl Team {
     // An empty world that is shared, with a caller for each list, which has room for it.
-    fn open(alloc: Global, scripts: &Scripts, heap: u32, blocks: u32) -> Result<Team, Memory>
-        requires heap { (LEAST_HEAP ≤ heap) × (heap ≤ HEAP) }
-        requires blocks { (1 ≤ blocks) × (blocks ≤ BLOCKS) }
-        ensures numbers { IfOk result (λ t.
-            t.shared.numbers ≡ numbers_for heap blocks scripts.now) }
+    fn open(alloc: Global, scripts: &Scripts, limits: &Limits) -> Result<Team, Memory>
+        ensures numbers { IfOk result (λ t. t.shared.numbers ≡ numbers_for limits.now scripts.now) }
         ensures ready { IfOk result (λ t. AreReadyToPlay scripts.now t.shared t.callers) }
     {
         let Ok(rooms) = rooms(alloc, scripts) else {
             return Err(Memory);
         };
-        let world = World::open(alloc, heap, blocks, scripts.callers(), scripts.total())?;
-        let (shared, callers) = Shared::open(alloc, world, blocks, &rooms)?;
+        let world = limits.open(alloc, scripts)?;
+        let (shared, callers) = Shared::open(alloc, world, limits.blocks, &rooms)?;
         Ok(Team { shared, callers })
     }
 
@@ -77,15 +67,14 @@ impl Team {
     fn run<R: Threads + Wait + Sync, P: Pace>(self, rt: &R, scripts: &Scripts, pace: &P) -> Ending
         requires { AreReadyToPlay scripts.now self.shared self.callers }
         ensures kept { Keeps result }
-        ensures cause { RunCause Run self.shared.numbers scripts.now result }
-        ensures callers { HasFewCallers (journal_in (world_of (kept_of result))) }
+        ensures cause { RunCause true false self.shared.numbers scripts.now result }
     {
         let Team {
             shared,
             mut callers,
         } = self;
         let done = play_all(rt, &shared, &mut callers, scripts, pace);
-        ended_together(done, shared.close(callers))
+        Ending::of(done, Ran::Shared(shared.close(callers)))
     }
 }
 

@@ -1,21 +1,110 @@
-ghost use Rattle.std.specs.Prelude.{◌≡◌, ◌≤◌, IfOk, IfErr};
-ghost use Rattle.hd_run.specs.declared.request.TheConstants.{LEAST_HEAP};
-ghost use Rattle.hd_run.specs.declared.request.Mode.TheVariants.{Solo, Roots};
-ghost use Rattle.hd_run.specs.Ending.{FaultCause, ReadProgram, RunCause, numbers_for};
-ghost use Rattle.hd_run.specs.Ending.{world_of, kept_of, journal_in, script_or_fault};
-ghost use Rattle.hd_run.specs.Report.{HasFewCallers};
+ghost use Rattle.std.specs.Prelude.{◌≡◌, true, false, IfOk, IfErr};
+ghost use Rattle.hd_run.specs.Bounds.{numbers_for};
+ghost use Rattle.hd_run.specs.Modes.{traits_of};
+ghost use Rattle.hd_run.specs.Ending.{FaultCause, ReadProgram, RefusedBy, RunCause, script_or_fault};
+ghost use Rattle.hd_run.specs.Words.{IsInLimits};
+ghost use Rattle.hd_run.specs.Work.{IsJob, Worked};
 
 use crate::ending::{Ending, Fault, unparsed, unread};
+use crate::limits::Limits;
+use crate::request::Request;
+use crate::threads::run_callers;
 use crate::turns::Opened;
-use hd_io::{Source, read_all};
+use hd_io::{Pace, Source, read_all};
 use hd_model::Memory;
 use hd_model::limits::{BLOCKS, HEAP, MOST_BYTES};
-use hd_script::{ScriptFault, Scripts, parse};
+use hd_script::{ScriptFault, Scripts, generate, parse};
 use std::alloc::Global;
+use std::sync::Wait;
 use std::thread::Threads;
 
-/// Reads the source to its end, and the script of its bytes.
-pub(crate) fn read_script<S: Source>(alloc: Global, source: &mut S) -> Result<Scripts, Fault>
+/// Does what was asked, in the mode that it names.
+pub(crate) fn work<R: Threads + Wait + Sync, S: Source, P: Pace>(
+    rt: &R,
+    alloc: Global,
+    request: Request,
+    source: &mut S,
+    pace: &P,
+) -> Ending
+    requires { IsInLimits request }
+    ensures { let t = traits_of request.mode in
+        Worked S.seen t.threads t.lists_roots request (source.old, source.new) result }
+{
+    let traits = request.mode.traits();
+    let ending = run_by(rt, alloc, traits.threads, request, source, pace);
+    if traits.lists_roots {
+        ending.list_roots(rt, alloc)
+    } else {
+        ending
+    }
+}
+
+// Does what was asked by callers in threads or by one thread.
+fn run_by<R: Threads + Wait + Sync, S: Source, P: Pace>(
+    rt: &R,
+    alloc: Global,
+    threads: bool,
+    request: Request,
+    source: &mut S,
+    pace: &P,
+) -> Ending
+    requires { IsInLimits request }
+    ensures { Worked S.seen threads false request (source.old, source.new) result }
+{
+    if !threads {
+        return work_alone(alloc, request, source);
+    }
+    match prepare(alloc, request, source) {
+        Ok((scripts, limits)) => run_callers(rt, alloc, &scripts, &limits, pace),
+        Err(fault) => Ending::Refused(fault),
+    }
+}
+
+/// Does what was asked by one thread, and lists no roots.
+pub(crate) fn work_alone<S: Source>(alloc: Global, request: Request, source: &mut S) -> Ending
+    requires { IsInLimits request }
+    ensures { Worked S.seen false false request (source.old, source.new) result }
+{
+    match prepare(alloc, request, source) {
+        Ok((scripts, limits)) => run_alone(alloc, &scripts, &limits),
+        Err(fault) => Ending::Refused(fault),
+    }
+}
+
+// The script that was asked for, and the limits of its run: that of the source, or that of a load.
+fn prepare<S: Source>(
+    alloc: Global,
+    request: Request,
+    source: &mut S,
+) -> Result<(Scripts, Limits), Fault>
+    requires { IsInLimits request }
+    ensures job { IfOk result (IsJob request (S.seen source.old) (S.seen source.new)) }
+    ensures fault { IfErr result (RefusedBy (traits_of request.mode).reads (S.seen source.old)
+        (S.seen source.new)) }
+    ensures unread { (traits_of request.mode).reads ≡ false → source.new ≡ source.old }
+{
+    if request.mode.traits().reads {
+        let scripts = read_script(alloc, source)?;
+        return Ok((scripts, request.limits));
+    }
+    match generate(alloc, request.rounds) {
+        Ok(scripts) => Ok((scripts, Limits::new(HEAP, BLOCKS))),
+        Err(Memory) => Err(Fault::NoMemory),
+    }
+}
+
+// Runs a script by one thread, its callers one after another.
+fn run_alone(alloc: Global, scripts: &Scripts, limits: &Limits) -> Ending
+    ensures { RunCause false false (numbers_for limits.now scripts.now) scripts.now result }
+{
+    match Opened::open(alloc, scripts, limits) {
+        Ok(opened) => opened.run(scripts),
+        Err(Memory) => Ending::Refused(Fault::NoMemory),
+    }
+}
+
+// Reads the source to its end, and the script of its bytes.
+fn read_script<S: Source>(alloc: Global, source: &mut S) -> Result<Scripts, Fault>
     ensures read { IfOk result (ReadProgram (S.seen source.old) (S.seen source.new)) }
     ensures fault { IfErr result (FaultCause (S.seen source.old) (S.seen source.new)) }
 {
@@ -32,37 +121,5 @@ fn script_or_fault(parsed: Result<Scripts, ScriptFault>) -> Result<Scripts, Faul
     match parsed {
         Ok(scripts) => Ok(scripts),
         Err(fault) => Err(unparsed(fault)),
-    }
-}
-
-/// Runs a script by one thread, its callers one after another.
-pub(crate) fn run_alone(alloc: Global, scripts: &Scripts, heap: u32, blocks: u32) -> Ending
-    requires heap { (LEAST_HEAP ≤ heap) × (heap ≤ HEAP) }
-    requires blocks { (1 ≤ blocks) × (blocks ≤ BLOCKS) }
-    ensures cause { RunCause Solo (numbers_for heap blocks scripts.now) scripts.now result }
-    ensures callers { HasFewCallers (journal_in (world_of (kept_of result))) }
-{
-    match Opened::open(alloc, scripts, heap, blocks) {
-        Ok(opened) => opened.run(scripts),
-        Err(Memory) => Ending::Refused(Fault::NoMemory),
-    }
-}
-
-/// Runs a script as `run_alone` does, and then lists the roots of its world.
-pub(crate) fn run_rooted(
-    rt: &(impl Threads + Sync),
-    alloc: Global,
-    scripts: &Scripts,
-    heap: u32,
-    blocks: u32,
-) -> Ending
-    requires heap { (LEAST_HEAP ≤ heap) × (heap ≤ HEAP) }
-    requires blocks { (1 ≤ blocks) × (blocks ≤ BLOCKS) }
-    ensures cause { RunCause Roots (numbers_for heap blocks scripts.now) scripts.now result }
-    ensures callers { HasFewCallers (journal_in (world_of (kept_of result))) }
-{
-    match Opened::open(alloc, scripts, heap, blocks) {
-        Ok(opened) => opened.run_rooted(rt, alloc, scripts),
-        Err(Memory) => Ending::Refused(Fault::NoMemory),
     }
 }

@@ -1,21 +1,45 @@
-use Rattle.std.proofs.Common.{refl}
-use Rattle.hd_run.specs.declared.ending.Ending.TheVariants.{Refused}
-use Rattle.hd_run.specs.declared.report.Form.TheVariants.{Lines}
-use Rattle.hd_run.specs.Report.{form_for}
+use Rattle.std.proofs.Common.{true, false, subst, Option}
+use Rattle.hd_run.specs.declared.request.Request.{Request}
+use Rattle.hd_run.specs.Claims.{Promise}
+use Rattle.hd_run.specs.Modes.{traits_of}
 use Rattle.hd_run.specs.Words.{request_of, listing_of}
-use Rattle.hd_run.proofs.CallClaims.{promise}
-use Rattle.hd_run.proofs.ModeCauses.{words_cause, fault_reports, no_line}
+use Rattle.hd_run.specs.Work.{Worked}
+use Rattle.hd_run.proofs.CallClaims.{asked_promise, refused_promise}
+use Rattle.hd_run.proofs.WorkCauses.{alone_worked, listed_worked, worked_writable}
+use Rattle.hd_run.proofs.RunEndings.{fault_writable}
+use Rattle.hd_run.proofs.roots.Given.{Over}
 use Rattle.hd_run.proofs.roots.Goals as goal
+use Rattle.hd_run.proofs.roots.Goals.{After-list_roots-ending}
+
+worked : (g : Over) (c : After-list_roots-ending g) → Worked g.S.Source.seen (traits_of c.in-Ok.request.mode).threads
+    (traits_of c.in-Ok.request.mode).lists_roots c.in-Ok.request
+    (c.args.source.now, c.work_alone.new.source) c.list_roots-ending.result
+worked g c =
+    alone_worked g.S.Source.seen c.in-Ok.request (c.args.source.now, c.work_alone.new.source) true
+    c.list_roots-ending.result c.in-Ok.ensures.alone
+    (listed_worked g.S.Source.seen c.in-Ok.request (c.args.source.now, c.work_alone.new.source) false
+    c.work_alone.result c.list_roots-ending.result c.work_alone.ensures c.list_roots-ending.ensures)
+
+pub report-requires : goal.report-requires
+report-requires g c =
+    rw c.traits-form.ensures (worked_writable g.S.Source.seen c.in-Ok.request
+    (c.args.source.now, c.work_alone.new.source) c.list_roots-ending.result
+    (worked g (goal.at.report-requires g c).After-list_roots-ending))
+
+pub returns-in-Ok : goal.returns-in-Ok
+returns-in-Ok g c =
+    subst (λ (asked : Option Request). Promise g.S.Source.seen g.K.Sink.seen asked
+    (c.args.source.now, c.work_alone.new.source) (c.args.sink.now, c.report.new.sink) c.report.result)
+    c.in-Ok.ensures.value
+    (asked_promise g.S.Source.seen g.K.Sink.seen (c.args.source.now, c.work_alone.new.source)
+    (c.args.sink.now, c.report.new.sink) c.report.result c.in-Ok.request c.list_roots-ending.result
+    (worked g (goal.at.returns-in-Ok g c).After-list_roots-ending) (rw c.traits-form.ensures at c.report.ensures))
+
+pub report-requires-in-Err : goal.report-requires-in-Err
+report-requires-in-Err g c = fault_writable _ c.in-Err.fault
 
 pub returns-in-Err : goal.returns-in-Err
 returns-in-Err g c =
-    let asked = listing_of (request_of c.args.words.now) in
-    let before = g.K.Sink.seen c.args.sink.now in
-    let after = g.K.Sink.seen c.report.new.sink in
-    let fault = c.in-Err.fault in
-    promise g.S.Source.seen g.K.Sink.seen asked c.args.source.now c.args.source.now c.args.sink.now
-    c.report.new.sink (Refused fault) c.report.result
-    (words_cause asked (g.S.Source.seen c.args.source.now) fault c.in-Err.ensures.fault)
-    (fault_reports before after Lines (form_for asked) fault c.report.result c.report.ensures)
-    (λ unread. refl)
-    (no_line before after Lines fault c.report.result c.report.ensures asked)
+    refused_promise g.S.Source.seen g.K.Sink.seen (listing_of (request_of c.args.words.now)) c.args.source.now
+    (c.args.sink.now, c.report-in-Err.new.sink) c.in-Err.fault c.report-in-Err.result c.in-Err.ensures.fault
+    c.report-in-Err.ensures

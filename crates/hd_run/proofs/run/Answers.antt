@@ -1,15 +1,23 @@
-use Rattle.hd_run.specs.declared.report.Form.TheVariants.{Lines}
-use Rattle.hd_run.specs.Ending.{numbers_for}
-use Rattle.hd_run.proofs.ModeCauses.{lines_writable}
+use Rattle.std.proofs.Common.{◌≤◌, true, false, length, arith}
+use Rattle.hd_model.specs.declared.limits.TheConstants.{CALLERS}
+use Rattle.hd_run.specs.declared.mode.Form.TheVariants.{Lines}
+use Rattle.hd_run.specs.Bounds.{numbers_for}
+use Rattle.hd_run.proofs.RunEndings.{lines_writable}
 use Rattle.hd_run.proofs.ThreadClaims.{together}
 use Rattle.hd_run.proofs.run.Goals as goal
 
-pub report-requires-clause-sum : goal.report-requires-clause-sum
-report-requires-clause-sum g c = lines_writable c.run_callers-ending.result
+pub report-requires : goal.report-requires
+report-requires g c =
+    let few : length c.args.scripts.now ≤ CALLERS = omega (
+      arith,
+      c.callers-callers.ensures.most,
+      c.callers-callers.ensures.value,
+    ) in
+    lines_writable true false (numbers_for c.new.result c.args.scripts.now) c.args.scripts.now
+    c.run_callers-ending.result c.run_callers-ending.ensures few
 
 pub returns : goal.returns
 returns g c =
-    together g.K.Sink.seen Lines (numbers_for c.args.heap c.args.blocks c.args.scripts.now) c.args.scripts.now
-    c.args.sink.now c.report.new.sink c.run_callers-ending.result c.report.result
-    c.run_callers-ending.ensures.cause
-    c.report.ensures
+    together g.K.Sink.seen Lines (numbers_for (record { heap = c.args.heap; blocks = c.args.blocks }) c.args.scripts.now)
+    c.args.scripts.now c.args.sink.now c.report.new.sink c.run_callers-ending.result c.report.result
+    (rw c.new.ensures at c.run_callers-ending.ensures) c.report.ensures

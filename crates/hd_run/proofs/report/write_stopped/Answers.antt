@@ -1,6 +1,6 @@
 use Rattle.std.proofs.Common.{rules, ◌≡◌, ◌++◌, sym, subst, ℕ, List}
 use Rattle.hd_model.specs.Text.{lines_of}
-use Rattle.hd_run.specs.declared.report.Form.{Form}
+use Rattle.hd_run.specs.declared.mode.Form.{Form}
 use Rattle.hd_run.specs.Report.{Writes, stopped_text, memory_text}
 use Rattle.hd_run.proofs.report.write_stopped.Goals as goal
 

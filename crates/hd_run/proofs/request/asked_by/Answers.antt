@@ -1,6 +1,6 @@
 use Rattle.std.proofs.Common.{rules, ◌∙◌, Some, None}
 use Rattle.clap.specs.Words.{found_of}
-use Rattle.hd_run.proofs.MatchRequests.{asked_in_limits, asked_none, asked_mode}
+use Rattle.hd_run.proofs.MatchRequests.{heap_in_limits, blocks_in_limits, asked_in_limits, asked_none, asked_mode}
 use Rattle.hd_run.proofs.request.asked_by.Goals as goal
 
 pub returns-in_err-get_str-clause-value : goal.returns-in_err-get_str-clause-value
@@ -12,14 +12,21 @@ returns-in_err-mode-clause-value c =
     c.from_residual-in_err-mode.ensures
     ∙ asked_mode (found_of c.args.matches.now) c.in_ok-get_str.field-0.now None (search rules) (search rules)
 
+pub new-requires-clause-heap : goal.new-requires-clause-heap
+new-requires-clause-heap c = rw c.number_of-heap.ensures (heap_in_limits (found_of c.args.matches.now) c.requires)
+
+pub new-requires-clause-blocks : goal.new-requires-clause-blocks
+new-requires-clause-blocks c =
+    rw c.number_of-blocks.ensures (blocks_in_limits (found_of c.args.matches.now) c.requires)
+
 pub returns-clause-value : goal.returns-clause-value
 returns-clause-value c =
-    rw (c.number_of.ensures, c.number_of-2.ensures, c.number_of-3.ensures)
+    rw (c.new.ensures, c.number_of-heap.ensures, c.number_of-blocks.ensures, c.number_of-rounds.ensures)
     (asked_mode (found_of c.args.matches.now) c.in_ok-get_str.field-0.now (Some c.in_ok-mode.mode)
     (search rules)
     (search rules))
 
 pub returns-clause-limits : goal.returns-clause-limits
 returns-clause-limits c =
-    rw (c.number_of.ensures, c.number_of-2.ensures, c.number_of-3.ensures)
+    rw (c.new.ensures, c.number_of-heap.ensures, c.number_of-blocks.ensures, c.number_of-rounds.ensures)
     (asked_in_limits (found_of c.args.matches.now) c.in_ok-mode.mode c.requires)

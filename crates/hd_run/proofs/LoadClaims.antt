@@ -1,0 +1,85 @@
+-- The run of a load: its numbers, the sum in its line, and the line.
+use Rattle.std.proofs.Common.{◌≡◌, ℕ, ◌+◌, ◌*◌, ◌^◌, ◌<◌, ◌≤◌, true, false, List, inl, inr, Option, refl, sym, ◌∙◌, ap, subst, arith, append-nil}
+use Rattle.std.specs.List.{range_with_len}
+use Rattle.std.proofs.lemmas.List.{length-map}
+use Rattle.std.proofs.lemmas.Nat.{mul-le}
+use Rattle.hd_model.specs.declared.command.Cmd.{Cmd}
+use Rattle.hd_model.specs.declared.data.RootId.{RootId}
+use Rattle.hd_model.specs.declared.limits.TheConstants.{HEAP, BLOCKS, LOAD_CALLERS}
+use Rattle.hd_model.specs.Generated.{load_numbers, generated_list, generated_lists}
+use Rattle.hd_model.specs.Run.{part_of, commands_of}
+use Rattle.hd_script.specs.Load.{IsLoadRun}
+use Rattle.hd_script.proofs.LoadLine.{told, loads_have_their_line}
+use Rattle.hd_io.specs.Sink.{SinkView, Took}
+use Rattle.hd_world.specs.World.{WorldView}
+use Rattle.hd_run.specs.declared.ending.Fault.{Fault}
+use Rattle.hd_run.specs.declared.ending.Ran.TheVariants as ran
+use Rattle.hd_run.specs.declared.ending.Ending.{Ending}
+use Rattle.hd_run.specs.declared.ending.Ending.TheVariants.{Refused, Stopped, Done}
+use Rattle.hd_run.specs.declared.mode.Form.{Form}
+use Rattle.hd_run.specs.declared.mode.Form.TheVariants.{Summary}
+use Rattle.hd_run.specs.declared.outcome.Outcome.{Outcome}
+use Rattle.hd_run.specs.Bounds.{numbers_for}
+use Rattle.hd_run.specs.Together.{RanAllTogether}
+use Rattle.hd_run.specs.Ending.{IsLoadScript, RunCause}
+use Rattle.hd_run.specs.Report.{status_of, text_for, ran_text, HasSumOf, Reports}
+use Rattle.hd_run.specs.Claims.{HasLine}
+use Rattle.hd_run.proofs.RunEndings.{no_whole, told as all_told}
+
+-- its script has four callers, so its numbers are those of every load
+pub load_is : (rounds : ℕ) → numbers_for (record { heap = HEAP; blocks = BLOCKS }) (generated_lists rounds) ≡ load_numbers
+unfolding generated_lists
+load_is rounds = λ i. record {
+  heap = HEAP;
+  blocks = BLOCKS;
+  callers = length-map (range_with_len 0 LOAD_CALLERS) (generated_list rounds) i;
+}
+
+-- of a fault there is no line
+pub refused_line : (rounds : ℕ) (before after : SinkView) (form : Form) (f : Fault) (o : Outcome) →
+    Reports before after form (Refused f) o → HasLine rounds before after o.status
+refused_line rounds before after form f o reports zero =
+    absurd (no_whole f (all_told before after form (Refused f) o reports 0 zero (λ five. cc)).0)
+
+module _ (rounds : ℕ) (lists : List (List Cmd)) (load : IsLoadScript rounds lists) where
+  load_run : (w : WorldView) → RanAllTogether load_numbers lists w → IsLoadRun rounds w.journal w.state
+  load_run w all =
+      let same : RanAllTogether load_numbers (generated_lists rounds) w =
+      subst (λ (ls : List (List Cmd)). RanAllTogether load_numbers ls w) load.lists_are all in
+      record {
+        run = same.run;
+        parts = λ caller. sym (same.parts caller ∙ append-nil (commands_of (part_of w.journal caller)));
+      }
+
+  -- the sum of what is read fits in its line
+  small : 2 * rounds * (rounds + 1) < 2 ^ 64
+  small =
+      let most_rounds : rounds ≤ 3000 = load.most in
+      let double : 2 * rounds ≤ 6000 = omega (arith, most_rounds) in
+      let next : rounds + 1 ≤ 3001 = omega (arith, most_rounds) in
+      let product : 2 * rounds * (rounds + 1) ≤ 6000 * 3001 = mul-le (2 * rounds) (rounds + 1) 6000 3001
+      double next in
+      omega (arith, product)
+
+  pub load_sum : (e : Ending) → RunCause true false load_numbers lists e → HasSumOf Summary e
+  load_sum (Refused f) is = tt
+  load_sum (Stopped run) at = tt
+  load_sum (Done (ran.Alone w) roots) all = absurd all.0
+  load_sum (Done (ran.Shared w) roots) all =
+      omega (arith, told rounds w.journal w.state load.most (load_run w all.0), small)
+
+  -- and the line is known
+  module _ (before after : SinkView) where
+    line_at : (e : Ending) → RunCause true false load_numbers lists e → status_of e ≡ 0 →
+        Took before after (text_for Summary e) → HasLine rounds before after 0
+    line_at (Refused f) is zero took = absurd (no_whole f zero)
+    line_at (Stopped run) at zero took = cc
+    line_at (Done (ran.Alone w) roots) all zero took = absurd all.0
+    line_at (Done (ran.Shared w) roots) all zero took = λ _. subst (Took before after)
+        (loads_have_their_line rounds w.journal w.state load.least load.most (load_run w all.0))
+        (subst (λ (rs : Option (List RootId)). Took before after (ran_text Summary w rs)) all.1 took)
+
+    pub line_of : (e : Ending) (o : Outcome) → RunCause true false load_numbers lists e →
+        Reports before after Summary e o → HasLine rounds before after o.status
+    line_of e o cause reports zero = let at = all_told before after Summary e o reports 0 zero (λ five. cc) in
+        line_at e cause at.0 at.1 refl

@@ -1,0 +1,153 @@
+-- The endings of a run: their statuses, what is kept, and that their text can be written.
+use Rattle.std.proofs.Common.{◌≡◌, ◌≢◌, ◌≤◌, ◌⊎◌, ℕ, Bool, true, false, List, [], inl, inr, length, Result, Ok, Err, OnOk, OnErr, refl, sym, ◌∙◌, ap, subst, arith, lit<}
+use Rattle.std.specs.Prelude.{is_ok}
+use Rattle.hd_model.specs.declared.command.Cmd.{Cmd}
+use Rattle.hd_model.specs.declared.data.Memory.{Memory}
+use Rattle.hd_model.specs.declared.limits.TheConstants.{CALLERS}
+use Rattle.hd_model.specs.Run.{Run, SoloRun}
+use Rattle.hd_model.specs.State.{Numbers}
+use Rattle.hd_model.proofs.StepChains.{run_from_solo}
+use Rattle.hd_io.specs.Counts.{Rose}
+use Rattle.hd_io.specs.Sink.{SinkView, Took}
+use Rattle.hd_world.specs.World.{WorldView}
+use Rattle.hd_run.specs.declared.ending.Fault.{Fault}
+use Rattle.hd_run.specs.declared.ending.Fault.TheVariants.{Usage, Unread, OverSize, BadLine, NoMemory}
+use Rattle.hd_run.specs.declared.ending.Ran.{Ran}
+use Rattle.hd_run.specs.declared.ending.Ran.TheVariants as ran
+use Rattle.hd_run.specs.declared.ending.Ending.{Ending}
+use Rattle.hd_run.specs.declared.ending.Ending.TheVariants.{Refused, Stopped, Done}
+use Rattle.hd_run.specs.declared.mode.Form.{Form}
+use Rattle.hd_run.specs.declared.mode.Form.TheVariants.{Lines, Summary}
+use Rattle.hd_run.specs.declared.outcome.Kept.{Kept}
+use Rattle.hd_run.specs.declared.outcome.Kept.TheVariants.{Nothing, Alone, Shared}
+use Rattle.hd_run.specs.declared.outcome.Outcome.{Outcome}
+use Rattle.hd_run.specs.Turns.{RanWhole, IsReadyFor, StoppedAt}
+use Rattle.hd_run.specs.Together.{RanAllTogether, StoppedTogether}
+use Rattle.hd_run.specs.Ending.{world_of, world_that, journal_in, kept_of, kept_that, run_ending, Keeps, RunBy, RanBy, StoppedAtBy, RunCause}
+use Rattle.hd_run.specs.Report.{fault_status, status_of, text_for, stopped_text, memory_text, HasFewCallers, HasSumOf, IsWritable, Reports}
+use Rattle.hd_run.specs.Claims.{IsStatus, KeepsRun}
+use Rattle.hd_run.proofs.SharedRun.{few_callers}
+
+pub ending_status : (e : Ending) → IsStatus (status_of e)
+ending_status (Refused Usage) = (1, lit< tt, refl)
+ending_status (Refused Unread) = (3, lit< tt, refl)
+ending_status (Refused OverSize) = (2, lit< tt, refl)
+ending_status (Refused (BadLine k)) = (2, lit< tt, refl)
+ending_status (Refused NoMemory) = (5, lit< tt, refl)
+ending_status (Stopped run) = (5, lit< tt, refl)
+ending_status (Done run roots) = (0, lit< tt, refl)
+
+-- the status of a fault is not that of a whole run
+pub no_whole : (f : Fault) → fault_status f ≢ 0
+no_whole NoMemory is = cc
+no_whole f is = cc
+
+-- the status of an ending is not that of a fault of the sink
+pub not_five : (e : Ending) → status_of e ≢ 5
+not_five (Refused NoMemory) is = cc
+not_five (Refused f) is = cc
+not_five (Stopped run) is = cc
+not_five (Done run roots) is = cc
+
+-- the journal that ran, and that of what is kept of it, is the same
+pub journal_told : (run : Ran) → (world_that run).journal ≡ journal_in (world_of (kept_that run))
+journal_told (ran.Alone w) = refl
+journal_told (ran.Shared w) = refl
+
+pub nothing_told : (form : Form) → memory_text ≡ stopped_text form []
+nothing_told Lines = refl
+nothing_told Summary = refl
+
+-- the ending of a run keeps its world
+pub ending_keeps : (done : Bool) (run : Ran) → Keeps (run_ending done run)
+ending_keeps true run = tt
+ending_keeps false run = tt
+
+-- ---- what is kept of a run
+
+run_by : {P Q : WorldView → Type 0} (threads : Bool) (X : Ran → Type 0) → ((w : WorldView) → P w → X (ran.Alone w)) →
+    ((w : WorldView) → Q w → X (ran.Shared w)) → (run : Ran) → RunBy threads P Q run → X run
+run_by false X alone shared (ran.Alone w) at = alone w at
+run_by false X alone shared (ran.Shared w) at = absurd at
+run_by true X alone shared (ran.Alone w) at = absurd at
+run_by true X alone shared (ran.Shared w) at = shared w at
+
+-- what is true of nothing, and of each world that a run leaves, is true of what an ending keeps
+module _ (n : Numbers) (lists : List (List Cmd)) (X : Kept → Type 0) (nothing : X Nothing)
+    (alone : (w : WorldView) → w.numbers ≡ n → SoloRun n w.journal w.state → X (Alone w))
+    (shared : (w : WorldView) → w.numbers ≡ n → Run n w.journal w.state → X (Shared w)) where
+  ran_has : (threads : Bool) (run : Ran) → RanBy threads n lists run → X (kept_that run)
+  ran_has threads = run_by threads (λ run. X (kept_that run))
+      (λ w (all : RanWhole n lists w). alone w all.numbers all.run)
+      (λ w (all : RanAllTogether n lists w). shared w all.numbers all.run)
+
+  stopped_has : (threads : Bool) (run : Ran) → StoppedAtBy threads n lists run → X (kept_that run)
+  stopped_has threads = run_by threads (λ run. X (kept_that run))
+      (λ w (at : StoppedAt n lists w). alone w at.ran.numbers at.ran.run)
+      (λ w (at : StoppedTogether n lists w). shared w at.ran.numbers at.ran.run)
+
+  ending_has : (threads listed : Bool) (e : Ending) → RunCause threads listed n lists e → X (kept_of e)
+  ending_has threads listed (Refused f) is = nothing
+  ending_has threads false (Stopped run) at = stopped_has threads run at
+  ending_has threads true (Stopped run) (inl at) = stopped_has threads run at
+  ending_has threads true (Stopped run) (inr all) = ran_has threads run all
+  ending_has threads listed (Done run roots) all = ran_has threads run all.0
+
+module _ (threads listed : Bool) (n : Numbers) (lists : List (List Cmd)) (e : Ending)
+    (cause : RunCause threads listed n lists e) where
+  -- its journal is a run
+  pub run_keeps : KeepsRun (kept_of e)
+  run_keeps = ending_has n lists KeepsRun tt
+      (λ w numbers run. subst (λ (m : Numbers). SoloRun m w.journal w.state) (sym numbers) run)
+      (λ w numbers run. subst (λ (m : Numbers). Run m w.journal w.state) (sym numbers) run)
+      threads listed e cause
+
+  -- of few callers
+  pub run_callers : n.callers ≤ CALLERS → HasFewCallers (journal_in (world_of (kept_of e)))
+  run_callers few = ending_has n lists (λ kept. HasFewCallers (journal_in (world_of kept))) (λ k d lt. absurd (omega arith))
+      (λ w numbers run. few_callers n w.journal w.state few (run_from_solo n w.journal w.state run))
+      (λ w numbers run. few_callers n w.journal w.state few run) threads listed e cause
+
+pub lines_sum : (e : Ending) → HasSumOf Lines e
+lines_sum (Refused f) = tt
+lines_sum (Stopped run) = tt
+lines_sum (Done run roots) = tt
+
+-- the run of few callers can be written by lines
+pub lines_writable : (threads listed : Bool) (n : Numbers) (lists : List (List Cmd)) (e : Ending) →
+    RunCause threads listed n lists e → n.callers ≤ CALLERS → IsWritable Lines e
+lines_writable threads listed n lists e cause few =
+    record { callers = run_callers threads listed n lists e cause few; sum = lines_sum e }
+
+-- a fault can be written in any form
+pub fault_writable : (form : Form) (f : Fault) → IsWritable form (Refused f)
+fault_writable form f = record { callers = λ k d lt. absurd (omega arith); sum = tt }
+
+-- the run of one thread took all turns, or stopped
+pub turns_cause : (lists : List (List Cmd)) (n : Numbers) (w : WorldView) (taken : Result (Unit {0}) Memory) →
+    OnOk taken (IsReadyFor n lists [] w) → OnErr taken (StoppedAt n lists w) →
+    RunCause false false n lists (run_ending (is_ok taken) (ran.Alone w))
+turns_cause lists n w (Ok all) done stopped = (done.ran, refl)
+turns_cause lists n w (Err memory) done stopped = stopped
+
+-- ---- a report
+
+module _ (before after : SinkView) (form : Form) (e : Ending) (o : Outcome) (reports : Reports before after form e o)
+  where
+    -- but on status 5 all was written
+    pub told : (k : ℕ) → o.status ≡ k → k ≢ 5 → (status_of e ≡ k) × Took before after (text_for form e)
+    told k s other = elim reports.written [
+      | inl (is, took) ↦ (sym is ∙ s, took)
+      | inr (is, broke) ↦ absurd (other (sym s ∙ is))
+    ]
+
+    -- and then a write failed
+    pub write_rose : o.status ≡ 5 → Rose before.faults after.faults
+    write_rose s = elim reports.written [
+      | inl (is, took) ↦ absurd (not_five e (sym is ∙ s))
+      | inr (is, broke) ↦ subst (λ n. Rose n after.faults) broke.took.unfailed broke.failed.rose
+    ]
+
+    -- the status is that of the ending, or 5
+    pub status_cases : (o.status ≡ status_of e) ⊎ (o.status ≡ 5)
+    status_cases = elim reports.written [ inl (is, took) ↦ inl is | inr (is, broke) ↦ inr is ]

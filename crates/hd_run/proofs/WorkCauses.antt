@@ -1,0 +1,139 @@
+-- What the work of a request comes to, and that its ending can be written.
+use Rattle.std.proofs.Common.{◌≡◌, ◌≤◌, Bool, true, false, not, ◌&&◌, List, inl, inr, refl, sym, ap, subst, arith}
+use Rattle.hd_model.specs.declared.command.Cmd.{Cmd}
+use Rattle.hd_model.specs.declared.limits.TheConstants.{HEAP, BLOCKS, CALLERS}
+use Rattle.hd_model.specs.Generated.{generated_lists}
+use Rattle.hd_model.specs.State.{Numbers}
+use Rattle.hd_io.specs.Source.{SourceView}
+use Rattle.hd_run.specs.declared.ending.Fault.{Fault}
+use Rattle.hd_run.specs.declared.ending.Fault.TheVariants.{NoMemory}
+use Rattle.hd_run.specs.declared.ending.Ending.{Ending}
+use Rattle.hd_run.specs.declared.ending.Ending.TheVariants.{Refused, Stopped, Done}
+use Rattle.hd_run.specs.declared.mode.Mode.{Mode}
+use Rattle.hd_run.specs.declared.mode.Mode.TheVariants.{Load}
+use Rattle.hd_run.specs.declared.mode.Traits.{Traits}
+use Rattle.hd_run.specs.declared.request.Request.{Request}
+use Rattle.hd_run.specs.Bounds.{Bounds, numbers_for}
+use Rattle.hd_run.specs.Modes.{traits_of, runs_alone}
+use Rattle.hd_run.specs.Words.{IsInLimits}
+use Rattle.hd_run.specs.Ending.{ReadProgram, ScriptBy, numbers_by, RefusedBy, FaultCause, StoppedBy, RanBy, RunCause, CauseBy, Lists}
+use Rattle.hd_run.specs.Work.{IsJob, Worked}
+use Rattle.hd_run.specs.Report.{HasSumOf, IsWritable}
+use Rattle.hd_run.proofs.RunEndings.{run_callers, lines_sum, fault_writable}
+use Rattle.hd_run.proofs.LoadClaims.{load_is, load_sum}
+
+-- one thread runs the script, and lists the roots or not
+alone : (listed : Bool) (t : Traits) → runs_alone listed t ≡ true → (t.threads ≡ false) × (t.lists_roots ≡ listed)
+alone true t is = listing t.threads t.lists_roots is
+  where
+    listing : (a b : Bool) → (not a && b) ≡ true → (a ≡ false) × (b ≡ true)
+    listing false true is = (refl, refl)
+    listing false false is = cc
+    listing true b is = cc
+alone false t is = plain t.threads t.lists_roots is
+  where
+    plain : (a b : Bool) → (not a && not b) ≡ true → (a ≡ false) × (b ≡ false)
+    plain false false is = (refl, refl)
+    plain false true is = cc
+    plain true b is = cc
+
+module _ (r : Request) (old new : SourceView) where
+  abbrev reads : Bool
+  reads = (traits_of r.mode).reads
+
+  -- the script of the source, and the limits of the request
+  pub read_job : (lists : List (List Cmd)) → reads ≡ true → ReadProgram old new lists → IsJob r old new (lists, r.limits)
+  read_job lists is read = record {
+    script = subst (λ b. ScriptBy b r old new lists) (sym is) read;
+    numbers = subst (λ b. numbers_for r.limits lists ≡ numbers_by b r lists) (sym is) refl;
+  }
+
+  -- the script of a load
+  pub made_job : (lists : List (List Cmd)) → reads ≡ false → new ≡ old → IsInLimits r →
+      lists ≡ generated_lists r.rounds → IsJob r old new (lists, record { heap = HEAP; blocks = BLOCKS })
+  made_job lists is unread limits are = record {
+    script = subst (λ b. ScriptBy b r old new lists) (sym is)
+        (unread, record { least = limits.least; most = limits.most; lists_are = are });
+    numbers = subst (λ b. numbers_for (record { heap = HEAP; blocks = BLOCKS }) lists ≡ numbers_by b r lists)
+        (sym is)
+        (subst (λ (ls : List (List Cmd)). numbers_for (record { heap = HEAP; blocks = BLOCKS }) ls
+        ≡ numbers_by false r ls) (sym are) (load_is r.rounds));
+  }
+
+  -- where there was a script, only memory keeps it from a run
+  refused_by : (b : Bool) (lists : List (List Cmd)) (f : Fault) → ScriptBy b r old new lists → f ≡ NoMemory →
+      RefusedBy b old new f
+  refused_by true lists f read is = subst (FaultCause old new) (sym is)
+      (record { bytes = read.bytes; gave = read.read.all.gave; count = read.read.within })
+  refused_by false lists f script is = (is, script.0)
+
+  pub job_cause : (threads : Bool) (lists : List (List Cmd)) (b : Bounds) (e : Ending) → IsJob r old new (lists, b) →
+      RunCause threads false (numbers_for b lists) lists e → CauseBy reads threads false r old new e
+  job_cause threads lists b (Refused f) job is = refused_by reads lists f job.script is
+  job_cause threads lists b (Stopped run) job at =
+      (lists, job.script, subst (λ (n : Numbers). StoppedBy threads false n lists run) job.numbers at)
+  job_cause threads lists b (Done run roots) job all =
+      (lists, job.script, (subst (λ (n : Numbers). RanBy threads n lists run) job.numbers all.0, all.1))
+
+  -- and then its roots were listed
+  pub listed_cause : (b threads : Bool) (e after : Ending) → CauseBy b threads false r old new e →
+      Lists e after → CauseBy b threads true r old new after
+  listed_cause b threads (Refused f) after cause is =
+      subst (CauseBy b threads true r old new) (sym is) cause
+  listed_cause b threads (Stopped run) after (lists, script, at) is =
+      subst (CauseBy b threads true r old new) (sym is) (lists, script, inl at)
+  listed_cause b threads (Done run roots) after (lists, script, all) (inl stopped) =
+      subst (CauseBy b threads true r old new) (sym stopped) (lists, script, inr all.0)
+  listed_cause b threads (Done run roots) after (lists, script, all) (inr done) =
+      subst (CauseBy b threads true r old new) (sym done) (lists, script, (all.0, refl))
+
+  -- ---- what is written
+
+  few : (b : Bool) (lists : List (List Cmd)) → ScriptBy b r old new lists → (numbers_by b r lists).callers ≤ CALLERS
+  few true lists read = read.program.shape.most
+  few false lists script = omega arith
+
+  sum_of : (m : Mode) (e : Ending) →
+      CauseBy (traits_of m).reads (traits_of m).threads (traits_of m).lists_roots r old new e →
+      HasSumOf (traits_of m).form e
+  sum_of Load (Refused f) cause = tt
+  sum_of Load (Stopped run) cause = tt
+  sum_of Load (Done run roots) (lists, script, all) = load_sum r.rounds lists script.1 (Done run roots) all
+  sum_of m e cause = lines_sum e
+
+  pub cause_writable : (e : Ending) →
+      CauseBy reads (traits_of r.mode).threads (traits_of r.mode).lists_roots r old new e →
+      IsWritable (traits_of r.mode).form e
+  cause_writable (Refused f) cause = fault_writable (traits_of r.mode).form f
+  cause_writable (Stopped run) (lists, script, at) = record {
+    callers = run_callers _ _ _ lists (Stopped run) at (few reads lists script);
+    sum = sum_of r.mode (Stopped run) (lists, script, at);
+  }
+  cause_writable (Done run roots) (lists, script, all) = record {
+    callers = run_callers _ _ _ lists (Done run roots) all (few reads lists script);
+    sum = sum_of r.mode (Done run roots) (lists, script, all);
+  }
+
+-- ---- the same of a source
+
+module _ {S : Type 0} (seen : S → SourceView) (r : Request) (source : S × S) where
+  pub listed_worked : (threads : Bool) (e after : Ending) → Worked seen threads false r source e → Lists e after →
+      Worked seen threads true r source after
+  listed_worked threads e after worked is = record {
+    cause = listed_cause r (seen source.0) (seen source.1) (traits_of r.mode).reads threads e after worked.cause
+        is;
+    unread = worked.unread;
+  }
+
+  pub alone_worked : (listed : Bool) (e : Ending) → runs_alone listed (traits_of r.mode) ≡ true →
+      Worked seen false listed r source e →
+      Worked seen (traits_of r.mode).threads (traits_of r.mode).lists_roots r source e
+  alone_worked listed e is worked =
+      let says = alone listed (traits_of r.mode) is in
+      subst (λ b. Worked seen (traits_of r.mode).threads b r source e) (sym says.1)
+      (subst (λ b. Worked seen b listed r source e) (sym says.0) worked)
+
+  pub worked_writable : (e : Ending) →
+      Worked seen (traits_of r.mode).threads (traits_of r.mode).lists_roots r source e →
+      IsWritable (traits_of r.mode).form e
+  worked_writable e worked = cause_writable r (seen source.0) (seen source.1) e worked.cause
