@@ -1,4 +1,4 @@
-pub mod Settling
+pub mod ToyMarks
 pub mod Walks
 pub mod Handles
 pub mod Readiness

@@ -4,7 +4,7 @@ use Rattle.std.specs.Prelude.{option_map}
 use Rattle.std.specs.FinMap as map
 use Rattle.std.proofs.lemmas.Bool.{cases_eq, false≢true}
 use Rattle.hd_model.specs.declared.data.Addr.{Addr}
-use Rattle.hd_model.specs.Heap.{Heap, Placed, Region, has_object, object_in, region_at, region_of, region_generation, is_held, cells_of}
+use Rattle.hd_model.specs.Heap.{Heap, Placed, Region, has_object, object_in, region_at, region_of, region_generation, is_in_use, cells_of}
 use Rattle.hd_model.proofs.ReadAfterWrite.{get_inserted, get_beside}
 use Rattle.hd_heap.specs.Calls.{empty_heap, IsMade}
 use Rattle.hd_plan.specs.Plan.{HasNoEmptyRegion, StartsInRegion}
@@ -12,7 +12,7 @@ use Rattle.hd_plan.specs.Plan.{HasNoEmptyRegion, StartsInRegion}
 pub full_empty : (h : Heap) (limit : ℕ) → h ≡ empty_heap limit → HasNoEmptyRegion h
 full_empty h limit e r held =
     absurd (false≢true (sym (ap is_some (map.get-empty {X = Region} nat_cmp r))
-    ∙ subst (λ (g : Heap). is_held g r ≡ true) e held))
+    ∙ subst (λ (g : Heap). is_in_use g r ≡ true) e held))
 
 -- whether there is an object does not depend on its generation
 stands_in : (g : ℕ) (o : Option Placed) → is_some (option_map (object_in g) o) ≡ is_some o
@@ -60,7 +60,7 @@ module _ (old new : Heap) (at : Addr) (o : Placed) (m : IsMade old new at o)
       elim (cases_eq r (region_of at)) [
         | inl same ↦ record { at = at; object = made_stands; region = sym same }
         | inr other ↦
-            let was : is_held old r ≡ true =
+            let was : is_in_use old r ≡ true =
             sym (ap is_some (get_beside old.regions (region_of at) Held r other))
             ∙ sym (ap (λ (rs : map.FinMap nat_cmp Region). is_some (map.get rs r)) regions_are) ∙ held in
             let start : StartsInRegion old r = full r was in

@@ -12,7 +12,7 @@ use Rattle.hd_model.specs.Heap.{Heap, HasIdentities, Placed, has_object, object_
 use Rattle.hd_model.specs.Table.{Table, Queue}
 use Rattle.hd_model.proofs.Members.{not_in_none}
 use Rattle.hd_plan.specs.Plan.{HasNoEmptyRegion}
-use Rattle.hd_gc.specs.Ready.{IsReady}
+use Rattle.hd_gc.specs.Ready.{IsReady, parts}
 use Rattle.hd_rows.specs.Checks.{IsBare, AreAlone, ArePlain}
 
 module _ (h : Heap) (bare : IsBare h) where
@@ -48,7 +48,7 @@ identities_differ h alone a b p q at_a at_b same =
 pub is_ready : (h : Heap) (t : Table) (ages : List ℕ) (q : Queue) (roots : List (Option Addr))
     → HasNoEmptyRegion h → length ages ≡ 4 * t.blocks → len h.objects ≤ q.room → IsBare h → AreAlone h
     → ArePlain h t ages → ((x : Addr) → Contains roots (Some x) → has_object h x ≡ true)
-    → length q.waiting ≡ 0 → IsReady h t ages q roots
+    → length q.waiting ≡ 0 → IsReady (parts h t ages q roots)
 is_ready h t ages q roots full clumps room bare alone plain named empty = record {
   whole = record {
     fields = λ x y f. absurd (no_field h bare x y f);

@@ -2,7 +2,7 @@
 ghost use Rattle.std.specs.Prelude.{◌≡◌, ◌*◌, ◌<◌, ◌≤◌, true, length, IfOk};
 ghost use Rattle.std.specs.FinMap.{len};
 ghost use Rattle.hd_plan.specs.Plan.{HasNoEmptyRegion};
-ghost use Rattle.hd_gc.specs.Ready.{IsReady};
+ghost use Rattle.hd_gc.specs.Ready.{IsReady, parts};
 
 use crate::checks::{are_alone, are_plain, is_bare, roots_stand, stands};
 use hd_ages::AgeMap;
@@ -135,7 +135,8 @@ fn is_ready(s: &State) -> bool
     requires full { HasNoEmptyRegion s.now.heap }
     requires clumps { length s.now.ages ≡ CLUMPS * s.now.seg.blocks }
     requires room { len s.now.heap.objects ≤ s.now.fin.room }
-    ensures { result ≡ true → IsReady s.now.heap s.now.seg s.now.ages s.now.fin s.now.roots.items }
+    ensures { result ≡ true →
+        IsReady (parts s.now.heap s.now.seg s.now.ages s.now.fin s.now.roots.items) }
 {
     if !is_bare(&s.heap) {
         return false;

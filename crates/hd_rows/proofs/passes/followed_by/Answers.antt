@@ -1,6 +1,6 @@
 use Rattle.std.proofs.Common.{length, refl}
 use Rattle.hd_rows.specs.Toy.{is_in}
-use Rattle.hd_rows.proofs.Settling.{toy_closed, toy_settled}
+use Rattle.hd_rows.proofs.ToyMarks.{toy_closed, toy_settled}
 use Rattle.hd_rows.proofs.passes.followed_by.Goals as goal
 
 pub rescan-requires-clause-fields : goal.rescan-requires-clause-fields

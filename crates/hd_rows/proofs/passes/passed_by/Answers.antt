@@ -1,5 +1,5 @@
 use Rattle.std.proofs.Common.{length, refl}
-use Rattle.hd_rows.proofs.Settling.{toy_settled}
+use Rattle.hd_rows.proofs.ToyMarks.{toy_settled}
 use Rattle.hd_rows.proofs.passes.passed_by.Goals as goal
 
 pub pass-requires-clause-settled : goal.pass-requires-clause-settled

@@ -4,7 +4,7 @@ use Rattle.hd_model.specs.Names.{NamesObjects}
 use Rattle.hd_model.specs.Table.{row_at}
 use Rattle.hd_scan.specs.Relocation.{CanRelocate}
 use Rattle.hd_rows.specs.Toy.{toy_basis, is_below}
-use Rattle.hd_rows.proofs.Settling.{named_kept}
+use Rattle.hd_rows.proofs.ToyMarks.{named_kept}
 use Rattle.hd_rows.proofs.relocations.relocate_by.Goals as goal
 
 pub relocate-requires-clause-kept : goal.relocate-requires-clause-kept

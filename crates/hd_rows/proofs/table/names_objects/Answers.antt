@@ -1,7 +1,7 @@
 use Rattle.std.proofs.Common.{ℕ, length, ap, ◌∙◌, arith}
 use Rattle.hd_model.specs.State.{secondary_of}
 use Rattle.hd_seg.proofs.RowRewrite.{extra_again}
-use Rattle.hd_rows.proofs.Settling.{object_below}
+use Rattle.hd_rows.proofs.ToyMarks.{object_below}
 use Rattle.hd_rows.proofs.table.names_objects.Goals as goal
 
 pub returns : goal.returns

@@ -1,7 +1,7 @@
 use Rattle.std.proofs.Common.{◌<◌, ℕ, Bool, List, length, sym, subst}
 use Rattle.hd_model.specs.Marking.{Gains}
 use Rattle.hd_rows.specs.Toy.{is_in}
-use Rattle.hd_rows.proofs.Settling.{below_object, toy_gains}
+use Rattle.hd_rows.proofs.ToyMarks.{below_object, toy_gains}
 use Rattle.hd_rows.proofs.toy.ToyMarker.pin.Goals as goal
 
 pub join-requires : goal.join-requires

@@ -3,7 +3,7 @@ use Rattle.hd_model.specs.Heap.{objects_of}
 use Rattle.hd_model.specs.Leads.{Grows}
 use Rattle.hd_model.specs.Scene.{IsYoungField}
 use Rattle.hd_rows.specs.Toy.{toy_basis, is_in}
-use Rattle.hd_rows.proofs.Settling.{below_object, toy_settled, toy_grows}
+use Rattle.hd_rows.proofs.ToyMarks.{below_object, toy_settled, toy_grows}
 use Rattle.hd_rows.proofs.toy.ToyMarker.promote.Goals as goal
 
 pub join-requires : goal.join-requires

@@ -1,4 +1,4 @@
-use Rattle.hd_rows.proofs.Settling.{turned_keeps}
+use Rattle.hd_rows.proofs.ToyMarks.{turned_keeps}
 use Rattle.hd_rows.proofs.toy.Turned.of.Goals as goal
 
 pub returns-clause-laid : goal.returns-clause-laid

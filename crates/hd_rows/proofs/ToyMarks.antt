@@ -17,6 +17,7 @@ use Rattle.hd_model.proofs.Members.{not_in_none}
 use Rattle.hd_seg.proofs.FunctionMaps.{get-mapped, get-mapped_out}
 use Rattle.hd_scan.specs.Relocation.{CanRelocate}
 use Rattle.hd_rows.specs.Toy.{toy_heap, toy_basis, is_in, is_below, turned}
+use Rattle.hd_heap.proofs.HeapValues.{same_address}
 
 module _ (size : ℕ) where
   -- an object is one whose number is below their number, and has no fields and generation 0
@@ -119,7 +120,7 @@ turned_keeps size = record {
   objects = λ x k. object_below size x (ltb-true x.0 size k);
   older = λ x up. absurd (none_older x up);
   in_place = λ x up. absurd (none_older x up);
-  apart = λ x y k l same. same_number x y
+  apart = λ x y k l same. same_address x y
       (let low_x = ltb-true x.0 size k in
       let low_y = ltb-true y.0 size l in
       let e = ap (λ (a : Addr). a.0) same in
@@ -128,9 +129,6 @@ turned_keeps size = record {
   where
     none_older : (x : Addr) → 2 < generation_at (object_at (toy_heap size)) x → ⊥
     none_older x up = let zero_is = youngest size x in omega arith
-
-    same_number : (x y : Addr) → x.0 ≡ y.0 → x ≡ y
-    same_number x y e i = record { 0 = e i }
 
 -- what rows reference is kept where all of it are objects
 pub named_kept : (size n : ℕ) (t : Table) (ages : List ℕ) (m : ℕ) (kind : Kind)
