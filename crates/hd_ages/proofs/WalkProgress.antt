@@ -135,7 +135,8 @@ module _ {t : Table} {ages : List ℕ} {n : ℕ} {k : Kind} where
     pub to_come_same : slots_to_come new ages w ≡ slots_to_come now ages w
     to_come_same = slots_same now new r.table ages (rewrites_live now new slot h live r) w
 
-    pub rewritten : (Contains (slots_to_come now ages w) slot → ⊥) → IsUnderway t ages n k new w (before, steps)
+    pub rewritten : (Contains (slots_to_come now ages w) slot → ⊥)
+        → IsUnderway t ages n k new w (before, steps)
     rewritten past = record {
       on = on_same now new r.table ages w u.on;
       table = record {

@@ -44,7 +44,8 @@ module _ (t : Table) (ages : List ℕ) (n : ℕ) (k : Kind) (f : ℕ → Handle 
       few = let l = few_to_come t ages n k is w slots in omega arith;
     }
 
-module _ {t : Table} {ages : List ℕ} {n : ℕ} {k : Kind} {f : ℕ → Handle Addr → Handle Addr} {P : ℕ → Type 0} where
+module _ {t : Table} {ages : List ℕ} {n : ℕ} {k : Kind} {f : ℕ → Handle Addr → Handle Addr}
+    {P : ℕ → Type 0} where
   -- the walk writes a row
   module _ {now next : Table} {old new : DueRows} {slot : Slot} {before steps count : ℕ}
       (s : IsChanging t ages n k f P now old before steps count) (gives : Gives now ages old new slot)

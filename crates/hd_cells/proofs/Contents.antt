@@ -219,7 +219,8 @@ pub new_laid_out : {d : List ℕ} {fill : ℕ} {r : Contents} → IsRead d fill 
 new_laid_out read = subst IsLaidOut (sym read.view) (laid_out read)
 
 -- the region after the cells of an object were changed, and it still is an object of its length
-pub rewritten_region : {c : List ℕ} {fill : ℕ} {r : Contents} → IsRead c fill r → (d : List ℕ) (at : ℕ) (o : Object)
+pub rewritten_region : {c : List ℕ} {fill : ℕ} {r : Contents} → IsRead c fill r
+    → (d : List ℕ) (at : ℕ) (o : Object)
     → IsHeld c r at → IsRewrite c d at → IsBody d at → object_in d at ≡ o → IsRead d fill (with_object r at o)
 rewritten_region {fill = fill} {r = r} read d at o h rewrite new e =
     let P : Object → Type 0 = λ x. IsRead d fill (with_object r at x) in

@@ -106,8 +106,8 @@ module _ (starts : List ℕ) (r : Contents) (long : length starts ≡ 86) (index
       ]
 
 -- a region after a write, with its index
-pub whole : {d : List ℕ} {fill : ℕ} {r : Contents} {starts : List ℕ} → IsRegion d fill → contents_of d fill ≡ r
-    → IsIndexed starts r → IsWhole d fill starts
+pub whole : {d : List ℕ} {fill : ℕ} {r : Contents} {starts : List ℕ} → IsRegion d fill
+    → contents_of d fill ≡ r → IsIndexed starts r → IsWhole d fill starts
 whole {starts = starts} region view indexed = record {
   region = region;
   indexed = subst (IsIndexed starts) (sym view) indexed;
@@ -143,6 +143,7 @@ module _ {c : List ℕ} {fill : ℕ} {starts : List ℕ} {r : Contents} (read : 
       (put_indexed starts r long seen_indexed o (laid_out read) room)))
 
 -- no object begins near the end
-pub none_late : {c : List ℕ} {fill : ℕ} {r : Contents} → IsRead c fill r → (at : ℕ) → 254 ≤ at → IsObject r at → ⊥
+pub none_late : {c : List ℕ} {fill : ℕ} {r : Contents} → IsRead c fill r → (at : ℕ) → 254 ≤ at
+    → IsObject r at → ⊥
 none_late read at late there =
     omega (arith, late, (laid_out read).below_fill at there, (laid_out read).within_region)

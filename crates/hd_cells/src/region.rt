@@ -118,7 +118,8 @@ impl Region {
     /// Gives the object at `at` another value.
     pub fn set_value(&mut self, at: u32, v: u64)
         requires { IsObject self.old at }
-        ensures written { self.new ≡ with_object self.old at (with_value (object_at self.old at) v) }
+        ensures written { self.new
+            ≡ with_object self.old at (with_value (object_at self.old at) v) }
         ensures laid_out { IsLaidOut self.new }
     {
         let place = at as usize + VALUE;

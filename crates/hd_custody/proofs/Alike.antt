@@ -190,8 +190,8 @@ module _ {W : Type 0} (m : Ghosts W) (numbers : Numbers) (s : State (Rattle.std.
     sized = c.sized;
     gate = gate_alike s.views id v there h t k e c.world c.holder c.changes s.words s.homes c.gate i n
         (λ z. omega arith);
-    seats = seats_alike s.views id v there h t k e v.has_gate v.gate_steps v.taken v.changes c.made c.owner _ _ numbers
-        c.seats;
+    seats = seats_alike s.views id v there h t k e v.has_gate v.gate_steps v.taken v.changes c.made c.owner
+        _ _ numbers c.seats;
     kinds = λ b real lt. get_or-set_other s.words i b n 0 (λ z. omega arith) ∙ c.kinds b real lt;
     slots = slots;
   }

@@ -70,7 +70,8 @@ module _ {W : Type 0} {k blocks : ℕ} where
   back_step c d block mask there next step =
       let block_is : BLOCKS + block - BLOCKS ≡ block = omega arith in
       one_step (BLOCKS + block, there, bit_or there mask)
-      (step ∙ ap (λ e. went (without_rows e mask c.view.held) ((BLOCKS + block, there, bit_or there mask) ∷ []) c)
+      (step ∙ ap (λ e.
+      went (without_rows e mask c.view.held) ((BLOCKS + block, there, bit_or there mask) ∷ []) c)
       block_is) next
 
   module _ (block : ℕ) (h : List (ℕ × ℕ)) (kinded : Kinded h) where
@@ -83,7 +84,8 @@ module _ {W : Type 0} {k blocks : ℕ} where
         (ap (naming block y) is ∙ naming_kinded block y h kinded)) next
 
     pub drain_step : (a b : Acting W) (mask : ℕ) {p q : Phase} → a.view.held ≡ h
-        → next_phase k blocks p (BLOCKS + block, mask, 0) ≡ q → b ≡ with_view (drained (BLOCKS + block) mask a.view) a
+        → next_phase k blocks p (BLOCKS + block, mask, 0) ≡ q
+        → b ≡ with_view (drained (BLOCKS + block) mask a.view) a
         → Made k blocks p q (rows block mask 0 ++ h) a b
     drain_step a b mask is next step =
         let block_is : BLOCKS + block - BLOCKS ≡ block = omega arith in
@@ -142,22 +144,27 @@ module _ {W : Type 0} {k blocks : ℕ} where
   }
 
 module _ {W : Type 0} (k blocks : ℕ) where
-  module _ (a c : Acting W) (b i left next word y : ℕ) (lt : i < BANK) (has : HasRowsAs b left (k + 1) a.view.held)
+  module _ (a c : Acting W) (b i left next word y : ℕ) (lt : i < BANK)
+      (has : HasRowsAs b left (k + 1) a.view.held)
       (set : bit_at left next ≡ 1) (within : next < ROWS) (first : Some next ≡ slice_get (set_bits left) 0)
-      (word_is : word ≡ FIRST_QUICK + 1 + CACHE * k + i) (step : c ≡ with_view (banked word y (ROWS * b + next) a.view) a)
+      (word_is : word ≡ FIRST_QUICK + 1 + CACHE * k + i)
+      (step : c ≡ with_view (banked word y (ROWS * b + next) a.view) a)
     where
-      bank_due : (x : ℕ) → next_phase k blocks (to_bank b x i left) (word, y, cond (y == 0) (ROWS * b + next) y) ≡
+      bank_due : (x : ℕ)
+          → next_phase k blocks (to_bank b x i left) (word, y, cond (y == 0) (ROWS * b + next) y) ≡
           to_bank b x (i + 1) (cond (y == 0) (bit_xor left (2 ^ next)) left)
       bank_due x =
           ap (λ p. next_phase k blocks p (word, y, cond (y == 0) (ROWS * b + next) y))
           (zero_not left _ _ (set_real left next set) ∙ less_is i BANK (bank b x i left) (rest b x left) lt)
           ∙ ap (λ j. next_phase k blocks (bank b x i left) (j, y, cond (y == 0) (ROWS * b + next) y)) word_is
-          ∙ ap (λ r. is_step (FIRST_QUICK + 1 + CACHE * k + i, y, cond (y == 0) (ROWS * b + next) y) (FIRST_QUICK + 1 + CACHE * k + i)
+          ∙ ap (λ r. is_step (FIRST_QUICK + 1 + CACHE * k + i, y, cond (y == 0) (ROWS * b + next) y)
+          (FIRST_QUICK + 1 + CACHE * k + i)
           (cond (y == 0) (ROWS * b + r) y) (to_bank b x (i + 1) (cond (y == 0) (bit_xor left (2 ^ r)) left)))
           (lowest_is left next first)
           ∙ due (FIRST_QUICK + 1 + CACHE * k + i) y (cond (y == 0) (ROWS * b + next) y) _
 
-      offer_step : (x : ℕ) {h : List (ℕ × ℕ)} {m : ℕ} → cond (y == 0) (put_out (ROWS * b + next) a.view.held) a.view.held
+      offer_step : (x : ℕ) {h : List (ℕ × ℕ)} {m : ℕ}
+          → cond (y == 0) (put_out (ROWS * b + next) a.view.held) a.view.held
           ≡ h → cond (y == 0) (bit_xor left (2 ^ next)) left ≡ m
           → Made k blocks (to_bank b x i left) (to_bank b x (i + 1) m) h a c
       offer_step x held is =
@@ -177,7 +184,8 @@ module _ {W : Type 0} (k blocks : ℕ) where
 
       pub offer_put : y ≡ 0 → 0 < b → Banked k blocks b (i, left) (i + 1, bit_xor left (2 ^ next)) a c
       offer_put empty real =
-          let so : (x : ℕ) → Made k blocks (to_bank b x i left) (to_bank b x (i + 1) (bit_xor left (2 ^ next)))
+          let so : (x : ℕ)
+          → Made k blocks (to_bank b x i left) (to_bank b x (i + 1) (bit_xor left (2 ^ next)))
           (without (ROWS * b + next) a.view.held) a c =
           λ x. offer_step x (zero_is y _ _ empty ∙ put_some (ROWS * b + next) a.view.held (λ e. omega arith))
           (zero_is y _ _ empty) in

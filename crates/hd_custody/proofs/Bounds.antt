@@ -64,7 +64,8 @@ bank_first : (b x m : ℕ) → rank (to_bank b x 0 m) ≤ ROWS
 bank_first b x m = either_most (m == 0) _ _ _ (λ _. omega arith) (λ _. omega arith)
 
 push_next : (n x : ℕ) → rank (to_push (n + 1) x) ≤ (BANK - n) + 1
-push_next n x = either_most (nat_lt (n + 1) ROWS) _ _ _ (λ e. (let lt = ltb-true (n + 1) ROWS e in omega arith))
+push_next n x =
+    either_most (nat_lt (n + 1) ROWS) _ _ _ (λ e. (let lt = ltb-true (n + 1) ROWS e in omega arith))
     (λ _. omega arith)
 
 module _ (k blocks : ℕ) (few : blocks ≤ BLOCKS) where
@@ -110,7 +111,8 @@ module _ (k blocks : ℕ) (few : blocks ≤ BLOCKS) where
   falls (drain_whole b) t = lower_step t _ _ _ _ (either_lower (t.1 == 0) (to_look_whole blocks (b + 1))
       (cond (t.1 == every_row) (again_whole b) (back_part b t.1)) _ (let n = whole_next b in omega arith)
       (either_lower (t.1 == every_row) (again_whole b) (back_part b t.1) _ (omega arith) (omega arith)))
-  falls (again_whole b) t = lower_step t _ _ _ _ (either_lower (t.1 == k + 1) (found b) (back_part b every_row) _
+  falls (again_whole b) t =
+      lower_step t _ _ _ _ (either_lower (t.1 == k + 1) (found b) (back_part b every_row) _
       (omega arith) (omega arith))
   falls (back_part b m) t = lower_step t _ _ _ _ (let n = whole_next b in omega arith)
   falls (push n x) t = lower_step t _ _ _ _ (either_lower (t.1 == 0) (found 0) (to_push (n + 1) t.1) _

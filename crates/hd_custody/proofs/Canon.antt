@@ -159,7 +159,8 @@ absent_stays x held none = filter_stays (λ p. not (p.0 == x)) held (λ n p at. 
     (cases_eq p.0 x))
   where
     out : (p : ℕ × ℕ) → Has p.0 held → (p.0 ≡ x) ⊎ (p.0 ≢ x) → not (p.0 == x) ≡ true
-    out p has (inl same) = let z = ap (λ y. held_times y held) same in let some_has : 1 ≤ held_times p.0 held =
+    out p has (inl same) = let z = ap (λ y. held_times y held) same in
+        let some_has : 1 ≤ held_times p.0 held =
         has in absurd (omega arith)
     out p has (inr far) = ap not (ne_eqb _ _ far)
 
@@ -181,8 +182,8 @@ pub rows_go : (b m k : ℕ) (held : List (ℕ × ℕ)) → Apart b m held
     → without_rows b m (rows b m k ++ held) ≡ held
 rows_go b m k held apart =
     filter_append (λ p. outside b m p.0) (rows b m k) held
-    ∙ ap (λ ps. ps ++ without_rows b m held) (filter_picks (outside b m) ROWS (λ r. bit_at m r == 1) (ROWS * b)
-    (λ _. k)
+    ∙ ap (λ ps. ps ++ without_rows b m held)
+    (filter_picks (outside b m) ROWS (λ r. bit_at m r == 1) (ROWS * b) (λ _. k)
     ∙ picks_none ROWS (λ r. (bit_at m r == 1) && outside b m (ROWS * b + r)) (ROWS * b) (λ _. k)
     (λ r lt. ap (λ t. (bit_at m r == 1) && t) (outside_at b m r lt) ∙ both_off (bit_at m r == 1)))
     ∙ apart_stays b m held apart
@@ -196,7 +197,8 @@ pub row_has : (b m k r : ℕ) (held : List (ℕ × ℕ)) → r < ROWS → bit_at
     → Has (ROWS * b + r) (rows b m k ++ held)
 row_has b m k r held lt set =
     let j = held_times_append (ROWS * b + r) (rows b m k) held in
-    let one = held_times_picks (λ s. bit_at m s == 1) (ROWS * b) (λ _. k) ROWS r lt ∙ hit (bit_at m r) 1 set in
+    let one = held_times_picks (λ s. bit_at m s == 1) (ROWS * b) (λ _. k) ROWS r lt
+    ∙ hit (bit_at m r) 1 set in
     omega arith
 
 -- ---- the kind of slots is seen
@@ -256,8 +258,8 @@ pub one_stays : (b m a k : ℕ) (held : List (ℕ × ℕ)) → a < ROWS → bit_
 one_stays b m a k held lt set apart =
     let m' : ℕ = bit_xor m (2 ^ a) in
     filter_append (λ p. outside b m' p.0) (rows b m k) held
-    ∙ ap (λ ps. ps ++ without_rows b m' held) (filter_picks (outside b m') ROWS (λ r. bit_at m r == 1) (ROWS * b)
-    (λ _. k)
+    ∙ ap (λ ps. ps ++ without_rows b m' held)
+    (filter_picks (outside b m') ROWS (λ r. bit_at m r == 1) (ROWS * b) (λ _. k)
     ∙ picks_one ROWS a (λ r. (bit_at m r == 1) && outside b m' (ROWS * b + r)) (ROWS * b) (λ _. k) lt
     (λ r under. ap (λ t. (bit_at m r == 1) && t) (outside_at b m' r under) ∙ only r (cases_eq r a)))
     ∙ ap (λ qs. (ROWS * b + a, k) ∷ qs)
@@ -359,7 +361,8 @@ put_some zero held real = absurd (real refl)
 put_some (suc x) held real = refl
 
 -- a slot goes into its mask
-pub slot_leaves : (x : ℕ) (held : List (ℕ × ℕ)) → without_rows (x / ROWS) (2 ^ (x % ROWS)) held ≡ without x held
+pub slot_leaves : (x : ℕ) (held : List (ℕ × ℕ))
+    → without_rows (x / ROWS) (2 ^ (x % ROWS)) held ≡ without x held
 slot_leaves x held = filter_same (outside (x / ROWS) (2 ^ (x % ROWS))) (λ y. not (y == x)) held
     (λ y. at y (cases_eq y x) (cases_eq (y / ROWS) (x / ROWS)))
   where
@@ -397,7 +400,8 @@ with_slot_some (suc x) k held ne = refl
 pub with_slot_none : (x k : ℕ) (held : List (ℕ × ℕ)) → x ≡ 0 → with_slot x k held ≡ held
 with_slot_none x k held e = ap (λ y. with_slot y k held) e
 
-pub with_block_some : (x k : ℕ) (held : List (ℕ × ℕ)) → x ≢ 0 → with_block x k held ≡ rows x every_row k ++ held
+pub with_block_some : (x k : ℕ) (held : List (ℕ × ℕ)) → x ≢ 0
+    → with_block x k held ≡ rows x every_row k ++ held
 with_block_some zero k held ne = absurd (ne refl)
 with_block_some (suc x) k held ne = refl
 
@@ -435,7 +439,8 @@ abbrev after_first : ℕ
 after_first = 18446744073709551614
 
 module _ {W : Type 0} (k b d : ℕ) (a x y : Acting W) (lt : k < KINDS) (apart : (r : ℕ)
-    → r < ROWS → held_times (ROWS * b + r) a.view.held ≡ 0) (assigned : x ≡ with_view (opened b (k + 1) a.view) a)
+    → r < ROWS → held_times (ROWS * b + r) a.view.held ≡ 0)
+    (assigned : x ≡ with_view (opened b (k + 1) a.view) a)
     (extra : y ≡ with_view (storing_data d x.view) x) where
   abbrev grown : Bool → List (ℕ × ℕ)
   grown t = cond t (whole b (k + 1) ++ a.view.held) a.view.held

@@ -149,8 +149,10 @@ module _ {W : Type 0} (m : Ghosts W) (numbers : Numbers) (s : State (Option W) (
       each = λ j u at alive. fits_at j u alive (at_set s.views id j given_back u at);
       begun = c.seats.begun;
       unmade = λ n le. (let low = fits.low in part_stays n (λ e. omega arith) ∙ c.seats.unmade n le);
-      counted = (let k = total_set tally s.views id v given_back there in let d = c.seats.counted in omega arith);
-      kept = λ n lt. (let a = c.seats.kept n lt in kept_set s.views id v given_back there (λ n h. h) n a.0 a.1 a.2 a.3);
+      counted =
+          (let k = total_set tally s.views id v given_back there in let d = c.seats.counted in omega arith);
+      kept = λ n lt.
+          (let a = c.seats.kept n lt in kept_set s.views id v given_back there (λ n h. h) n a.0 a.1 a.2 a.3);
       roomy = (
           let k = total_set room_of s.views id v given_back there in
           let is : room_of v ≡ v.room = ap (λ b. cond b 0 v.room) lives in
@@ -189,8 +191,8 @@ module _ {W : Type 0} (m : Ghosts W) (numbers : Numbers) (s : State (Option W) (
         (held_times_picks ends ROWS (λ r. m.kind w ((ROWS + r) / ROWS)) slot_count (x - ROWS) (omega arith)
         ∙ ap (λ y. one_if (m.live before y && not (m.live w y))) at ∙ ap one_if is)
     ended_in x real true is under (inr le) = absurd (let lt = under refl in omega arith)
-    ended_in x real false is under (inr le) = held_times_out ends ROWS (λ r. m.kind w ((ROWS + r) / ROWS)) slot_count x
-        (λ r lt e. omega arith)
+    ended_in x real false is under (inr le) =
+        held_times_out ends ROWS (λ r. m.kind w ((ROWS + r) / ROWS)) slot_count x (λ r lt e. omega arith)
 
     stays : ℕ → Bool
     stays x = not (m.live w x)
@@ -208,13 +210,14 @@ module _ {W : Type 0} (m : Ghosts W) (numbers : Numbers) (s : State (Option W) (
         under false b was e = cc
 
         both : (a b : Bool) → m.live before x ≡ a → m.live w x ≡ b
-            → held_times x (filter (λ p. not (m.live w p.0)) v.held) + one_if (a && not b) + one_if b ≡ held_times x
+            → held_times x (filter (λ p. not (m.live w p.0)) v.held) + one_if (a && not b) + one_if b
+            ≡ held_times x
             v.held + one_if a
         both true true was is =
             let out = held_times_dropped (λ y. not (m.live w y)) x v.held (ap not is) in
             let none = (live_low x real was).2 in omega arith
-        both true false was is = let kept = held_times_kept (λ y. not (m.live w y)) x v.held (ap not is) in omega
-            arith
+        both true false was is = let kept =
+            held_times_kept (λ y. not (m.live w y)) x v.held (ap not is) in omega arith
         both false true was is =
             let out = held_times_dropped (λ y. not (m.live w y)) x v.held (ap not is) in
             let got : Has x v.held = elim (f.lives x real is) [
@@ -292,12 +295,14 @@ module _ {W : Type 0} (m : Ghosts W) (numbers : Numbers) (s : State (Option W) (
           (every_filter (Belongs words') (λ p. not (m.live w p.0)) v.held
           (λ k p e. belongs_gate m numbers s c id v there lives 0 p
           (c.slots.held id v there lives k p e)))
-          (every_picks (Belongs words') slot_count ends ROWS (λ r. m.kind w ((ROWS + r) / ROWS)) ended_belongs));
+          (every_picks (Belongs words') slot_count ends ROWS (λ r. m.kind w ((ROWS + r) / ROWS))
+          ended_belongs));
     }
 
   -- ---- a store of 0 into the kind word of a block whose slots are all held
 
-  module _ (b : ℕ) (real : 0 < b) (lt : b < FIRST_MASK) (all : (r : ℕ) → r < ROWS → Has (ROWS * b + r) v.held) where
+  module _ (b : ℕ) (real : 0 < b) (lt : b < FIRST_MASK)
+      (all : (r : ℕ) → r < ROWS → Has (ROWS * b + r) v.held) where
     abbrev zeroed : List ℕ
     zeroed = set s.words b 0
 
@@ -314,7 +319,8 @@ module _ {W : Type 0} (m : Ghosts W) (numbers : Numbers) (s : State (Option W) (
         (subst (λ n. i < n) (sym c.wide) under) (got x here)
 
     close_moves : (x : ℕ) → ROWS ≤ x → (x / ROWS ≡ b) ⊎ (x / ROWS ≢ b)
-        → held_times x bare + one_if (m.live before x) + named (kind_word s.words (x / ROWS)) ≡ held_times x v.held +
+        → held_times x bare + one_if (m.live before x) + named (kind_word s.words (x / ROWS))
+        ≡ held_times x v.held +
         one_if (m.live before x) + named (kind_word zeroed (x / ROWS))
     close_moves x low (inl here) =
         let out = held_times_dropped (λ y. not (y / ROWS == b)) x v.held (ap not (eq-eqb _ _ here)) in
@@ -327,8 +333,8 @@ module _ {W : Type 0} (m : Ghosts W) (numbers : Numbers) (s : State (Option W) (
         let w = ap named (word_other m numbers s c id v there lives has b 0 real lt bare x other) in
         omega arith
 
-    close_cells : (j : ℕ) → FIRST_QUICK ≤ j → get_or s.words j 0 ≢ 0 → kind_word zeroed (get_or s.words j 0 / ROWS) ≡
-        kind_word s.words (get_or s.words j 0 / ROWS)
+    close_cells : (j : ℕ) → FIRST_QUICK ≤ j → get_or s.words j 0 ≢ 0
+        → kind_word zeroed (get_or s.words j 0 / ROWS) ≡ kind_word s.words (get_or s.words j 0 / ROWS)
     close_cells j le ne = word_other m numbers s c id v there lives has b 0 real lt bare (get_or s.words j 0)
         (λ here. elim (cases_lt j WORDS) [
           | inl under ↦ (

@@ -11,7 +11,8 @@ true_false b on off = cc
 
 -- ---- counting
 
-pub held_times_append : (x : ℕ) (xs ys : List (ℕ × ℕ)) → held_times x (xs ++ ys) ≡ held_times x xs + held_times x ys
+pub held_times_append : (x : ℕ) (xs ys : List (ℕ × ℕ))
+    → held_times x (xs ++ ys) ≡ held_times x xs + held_times x ys
 held_times_append x xs ys = total_append (λ p. one_if (p.0 == x)) xs ys
 
 pub held_times_naming : (x b k : ℕ) (held : List (ℕ × ℕ)) → held_times x (naming b k held) ≡ held_times x held
@@ -19,21 +20,21 @@ held_times_naming x b k [] = refl
 held_times_naming x b k (p ∷ ps) = ap (λ n. one_if (p.0 == x) + n) (held_times_naming x b k ps)
 
 module _ (g : ℕ → Bool) (x : ℕ) where
-  kept_at : (p : ℕ × ℕ) (ps rest : List (ℕ × ℕ)) → g x ≡ true → held_times x rest ≡ held_times x ps → (b : Bool)
-      → g p.0 ≡ b
+  kept_at : (p : ℕ × ℕ) (ps rest : List (ℕ × ℕ)) → g x ≡ true → held_times x rest ≡ held_times x ps
+      → (b : Bool) → g p.0 ≡ b
       → held_times x (cond b (p ∷ rest) rest) ≡ one_if (p.0 == x) + held_times x ps
   kept_at p ps rest on r true e = ap (λ n. one_if (p.0 == x) + n) r
   kept_at p ps rest on r false e =
       let none : one_if (p.0 == x) ≡ 0 = miss p.0 x (λ same. true_false (g x) on (ap g (sym same) ∙ e)) in
       omega (arith, r, none)
 
-  pub held_times_kept : (held : List (ℕ × ℕ)) → g x ≡ true → held_times x (filter (λ p. g p.0) held) ≡ held_times x
-      held
+  pub held_times_kept : (held : List (ℕ × ℕ)) → g x ≡ true
+      → held_times x (filter (λ p. g p.0) held) ≡ held_times x held
   held_times_kept [] on = refl
   held_times_kept (p ∷ ps) on = kept_at p ps _ on (held_times_kept ps on) (g p.0) refl
 
-  dropped_at : (p : ℕ × ℕ) (rest : List (ℕ × ℕ)) → g x ≡ false → held_times x rest ≡ 0 → (b : Bool) → g p.0 ≡ b
-      → held_times x (cond b (p ∷ rest) rest) ≡ 0
+  dropped_at : (p : ℕ × ℕ) (rest : List (ℕ × ℕ)) → g x ≡ false → held_times x rest ≡ 0 → (b : Bool)
+      → g p.0 ≡ b → held_times x (cond b (p ∷ rest) rest) ≡ 0
   dropped_at p rest off r true e =
       let none : one_if (p.0 == x) ≡ 0 = miss p.0 x (λ same. true_false (g x) (ap g (sym same) ∙ e) off) in
       omega (arith, r, none)
@@ -70,7 +71,8 @@ module _ (keep : ℕ → Bool) (base : ℕ) (kind : ℕ → ℕ) where
   out_at x s rest apart r true = omega (arith, r, miss (base + s) x apart)
   out_at x s rest apart r false = r
 
-  pub held_times_out : (n x : ℕ) → ((r : ℕ) → r < n → base + r ≢ x) → held_times x (picks n keep base kind) ≡ 0
+  pub held_times_out : (n x : ℕ) → ((r : ℕ) → r < n → base + r ≢ x)
+      → held_times x (picks n keep base kind) ≡ 0
   unfolding picks
   held_times_out zero x apart = refl
   held_times_out (suc n) x apart =
@@ -95,7 +97,8 @@ module _ (keep : ℕ → Bool) (base : ℕ) (kind : ℕ → ℕ) where
   unfolding picks
   held_times_picks zero r lt = absurd (omega arith)
   held_times_picks (suc n) r lt = elim (cases_eq r n) [
-    | inl same ↦ subst (λ s. held_times (base + s) (picks (suc n) keep base kind) ≡ one_if (keep s)) (sym same)
+    | inl same ↦
+        subst (λ s. held_times (base + s) (picks (suc n) keep base kind) ≡ one_if (keep s)) (sym same)
         (here_at n _ (held_times_out n (base + n) (λ s below e. omega arith)) (keep n))
     | inr other ↦ above_at r n _ _ other (held_times_picks n r (omega arith)) (keep n)
   ]

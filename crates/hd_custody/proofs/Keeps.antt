@@ -138,7 +138,8 @@ module _ {W : Type 0} (m : Ghosts W) (numbers : Numbers) (s : State (Option W) (
         }) in
         subst P (sym (set-get_or s.words i 0)) (subst P (set-get_or s.words (WORDS - 1) 0) last)
 
-    module _ (i n : ℕ) (cell : FIRST_QUICK ≤ i) (within : i < WORDS) (has : n ≢ 0 → HasAs (n, cell_kind i + 1) v.held)
+    module _ (i n : ℕ) (cell : FIRST_QUICK ≤ i) (within : i < WORDS)
+        (has : n ≢ 0 → HasAs (n, cell_kind i + 1) v.held)
       where
         put_cell : n ≢ 0 → (ROWS ≤ n) × (kind_word s.words (n / ROWS) ≡ cell_kind i + 1)
         put_cell ne =
@@ -218,8 +219,8 @@ module _ {W : Type 0} (m : Ghosts W) (numbers : Numbers) (s : State (Option W) (
         (λ n p at. named_in p (c.slots.held id v there lives n p at) (cases_eq (p.0 / ROWS) b)
         (cases_eq p.1 0))) b
       where
-        named_in : (p : ℕ × ℕ) → Belongs s.words p → (p.0 / ROWS ≡ b) ⊎ (p.0 / ROWS ≢ b) → (p.1 ≡ 0) ⊎ (p.1 ≢ 0)
-            → Belongs s.words (named_by b (word b) p)
+        named_in : (p : ℕ × ℕ) → Belongs s.words p → (p.0 / ROWS ≡ b) ⊎ (p.0 / ROWS ≢ b)
+            → (p.1 ≡ 0) ⊎ (p.1 ≢ 0) → Belongs s.words (named_by b (word b) p)
         named_in p h (inl here) (inl none) =
             let is : (named_by b (word b) p).1 ≡ word b = ap (λ t. cond (t && (p.1 == 0)) (word b) p.1)
             (eq-eqb _ _ here) ∙ ap (λ t. cond t (word b) p.1) (eq-eqb _ _ none) in
@@ -248,7 +249,8 @@ module _ {W : Type 0} (m : Ghosts W) (numbers : Numbers) (s : State (Option W) (
       row_fresh r row set = fresh_at (ROWS * b + r) i (omega arith) (omega arith) (row_weighs r row set)
 
       drain_moves : (x : ℕ) → ROWS ≤ x → (x / ROWS + BLOCKS ≡ i) ⊎ (x / ROWS + BLOCKS ≢ i)
-          → weight x i 0 + held_times x (rows b (word i) 0 ++ v.held) ≡ weight x i (word i) + held_times x v.held
+          → weight x i 0 + held_times x (rows b (word i) 0 ++ v.held)
+          ≡ weight x i (word i) + held_times x v.held
       drain_moves x real (inl here) =
           let z = weight_zero x i real in
           let a = weight_mask x i (word i) low lt here in
@@ -279,8 +281,8 @@ module _ {W : Type 0} (m : Ghosts W) (numbers : Numbers) (s : State (Option W) (
           (c.slots.held id v there lives))
 
       module _ (mask : ℕ) (fits : mask < (2 ^ ROWS)) (has : HasRows b mask v.held) where
-        back_moves : (x : ℕ) → ROWS ≤ x → (x / ROWS + BLOCKS ≡ i) ⊎ (x / ROWS + BLOCKS ≢ i) → (bit_at mask (x % ROWS) ≡ 1)
-            ⊎ (bit_at mask (x % ROWS) ≢ 1)
+        back_moves : (x : ℕ) → ROWS ≤ x → (x / ROWS + BLOCKS ≡ i) ⊎ (x / ROWS + BLOCKS ≢ i)
+            → (bit_at mask (x % ROWS) ≡ 1) ⊎ (bit_at mask (x % ROWS) ≢ 1)
             → weight x i (bit_or (word i) mask) + held_times x (without_rows b mask v.held) ≡ weight x i
             (word i) + held_times x v.held
         back_moves x real (inl here) (inl set) =
@@ -312,8 +314,8 @@ module _ {W : Type 0} (m : Ghosts W) (numbers : Numbers) (s : State (Option W) (
         pub backs : Kept i (bit_or (word i) mask) (without_rows b mask v.held)
         backs =
             moved i (bit_or (word i) mask) (without_rows b mask v.held) low (omega arith)
-            (λ x real. back_moves x real (cases_eq (x / ROWS + BLOCKS) i) (cases_eq (bit_at mask (x % ROWS)) 1))
-            (λ le ne. absurd (omega arith))
+            (λ x real. back_moves x real (cases_eq (x / ROWS + BLOCKS) i)
+            (cases_eq (bit_at mask (x % ROWS)) 1)) (λ le ne. absurd (omega arith))
             (λ _. or_lt ROWS (word i) mask (c.slots.masks i low lt) fits)
             (every_filter (Belongs s.words) (λ p. outside b mask p.0) v.held (c.slots.held id v there lives))
 

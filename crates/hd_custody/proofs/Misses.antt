@@ -232,7 +232,8 @@ module _ (k blocks : ℕ) where
       due b y y (cond (y == k + 1) (drain b) (to_look blocks (b + 1)))
       ∙ same_not y (k + 1) (drain b) (to_look blocks (b + 1)) other
   block_leads b nothing is =
-      ap (λ p. next_phase k blocks p (BLOCKS + b, 0, 0)) (look_leads b) ∙ due (BLOCKS + b) 0 0 (to_look blocks (b + 1))
+      ap (λ p. next_phase k blocks p (BLOCKS + b, 0, 0)) (look_leads b)
+      ∙ due (BLOCKS + b) 0 0 (to_look blocks (b + 1))
   block_leads b (regiven m y o) is =
       let p = to_bank b (ROWS * b + lowest m) 0 (next_rows m) in
       let second : Phase → Phase = λ q. next_phase k blocks q (BLOCKS + b, m, 0) in

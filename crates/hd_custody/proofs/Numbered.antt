@@ -13,7 +13,8 @@ pub probe-reserve : (k n : ℕ) → n ≢ 0 → n < ROWS → probe_word k n ≡ 
 unfolding probe_word
 probe-reserve k n ne lt = zero_not n _ _ ne ∙ less_not BANK n _ _ (omega arith)
 
-pub probe-free : (k n : ℕ) → n ≢ 0 → ROWS ≤ n → probe_word k n ≡ FIRST_QUICK + 1 + BANK + CACHE * k + (2 * BANK - n)
+pub probe-free : (k n : ℕ) → n ≢ 0 → ROWS ≤ n
+    → probe_word k n ≡ FIRST_QUICK + 1 + BANK + CACHE * k + (2 * BANK - n)
 unfolding probe_word
 probe-free k n ne le = zero_not n _ _ ne ∙ less_is BANK n _ _ le
 

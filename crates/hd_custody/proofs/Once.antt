@@ -33,7 +33,8 @@ module _ {W : Type 0} (m : Ghosts W) (numbers : Numbers) (s : State (Option W) (
   -- ---- what a place weighs
 
   mask_weighs : At mask → weight x (BLOCKS + x / ROWS) (word (BLOCKS + x / ROWS)) ≡ 1
-  mask_weighs at = weight_mask x (BLOCKS + x / ROWS) (word (BLOCKS + x / ROWS)) (omega (arith, real.0, real.1))
+  mask_weighs at =
+      weight_mask x (BLOCKS + x / ROWS) (word (BLOCKS + x / ROWS)) (omega (arith, real.0, real.1))
       (omega (arith, real.0, real.1)) (omega arith) ∙ at
 
   cell_weighs : (i : ℕ) → At (cell i) → weight x i (word i) ≡ 1
@@ -49,7 +50,8 @@ module _ {W : Type 0} (m : Ghosts W) (numbers : Numbers) (s : State (Option W) (
   cell_sums : (i : ℕ) → At (cell i) → 1 ≤ in_words
   cell_sums i at =
       let one = cell_weighs i at in
-      let in_sum = total_at_member (weight x) s.words 0 i i (omega (arith, rule.wide, at.0.1)) (omega arith) in
+      let in_sum =
+      total_at_member (weight x) s.words 0 i i (omega (arith, rule.wide, at.0.1)) (omega arith) in
       omega (arith, one, in_sum)
 
   seat_sums : (i : ℕ) (v : View W) → HoldsIt m rule.world s x i v → held_times x v.held ≤ in_seats
@@ -76,7 +78,8 @@ module _ {W : Type 0} (m : Ghosts W) (numbers : Numbers) (s : State (Option W) (
   module _ (one : named (kind_word s.words (x / ROWS)) ≡ 1) where
     -- ---- no two
 
-    two_words : (i j : ℕ) → i < WORDS → j < WORDS → i ≢ j → weight x i (word i) ≡ 1 → weight x j (word j) ≡ 1 → ⊥
+    two_words : (i j : ℕ) → i < WORDS → j < WORDS → i ≢ j → weight x i (word i) ≡ 1
+        → weight x j (word j) ≡ 1 → ⊥
     two_words i j low low' apart a b =
         let both = total_at_two (weight x) s.words 0 i j i j (omega (arith, rule.wide, low))
         (omega (arith, rule.wide, low')) (omega arith) (omega arith) apart in

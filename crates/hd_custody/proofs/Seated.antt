@@ -40,7 +40,8 @@ closed_kinded b held kinded = every_filter (λ p. IsSlot p.0 × (p.1 ≢ 0)) (λ
     kinded
 
 -- the slots held with a whole block of a kind on top
-pub block_kinded : (b k : ℕ) (held : List (ℕ × ℕ)) → b < FIRST_MASK → Kinded held → Kinded (with_block b (k + 1) held)
+pub block_kinded : (b k : ℕ) (held : List (ℕ × ℕ)) → b < FIRST_MASK → Kinded held
+    → Kinded (with_block b (k + 1) held)
 block_kinded zero k held low kinded = kinded
 block_kinded (suc b) k held low kinded =
     every_append (λ p. IsSlot p.0 × (p.1 ≢ 0)) (rows (suc b) every_row (k + 1)) held
@@ -56,8 +57,8 @@ block_real b r held lt kinded has =
     (omega (arith, slot.0, at.3, lt), omega (arith, slot.1, at.3))
 
 -- a seat that gave a block a kind
-pub granted_seated : {W : Type 0} (k b d : ℕ) (m : Me (Option W) (View W)) → 0 < b → b < FIRST_MASK → IsSeated m
-    → IsSeated (granted k b d m.0, m.1)
+pub granted_seated : {W : Type 0} (k b d : ℕ) (m : Me (Option W) (View W)) → 0 < b → b < FIRST_MASK
+    → IsSeated m → IsSeated (granted k b d m.0, m.1)
 granted_seated k b d m real low seated = (
   seated.0,
   seated.1,

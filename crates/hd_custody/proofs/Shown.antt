@@ -13,8 +13,8 @@ use Rattle.hd_custody.specs.Calls.{ShowsNone}
 use Rattle.hd_custody.proofs.Keeps.{and_off}
 use Rattle.hd_custody.proofs.Phases.{due, unless, same_is}
 
--- Two sets of phases that no step leaves: those of a `gather` and of each end (where g is true), and those from
--- which no steps lead to a Miss (where it is false).
+-- Two sets of phases that no step leaves: those of a `gather` and of each end (where g is true), and those
+-- from which no steps lead to a Miss (where it is false).
 abbrev pub stays_in : Bool → Phase → Bool
 stays_in g (probe n) = false
 stays_in g (look b) = false
@@ -52,7 +52,8 @@ module _ (g : Bool) where
   whole_in blocks b on = either_in (nat_lt blocks b) missed (look_whole b) on on
 
   sweep_in : (blocks n : ℕ) → g ≡ true → stays_in g (to_sweep blocks n) ≡ true
-  sweep_in blocks n on = either_in (nat_lt n CACHE) (sweep n) (to_look_whole blocks 1) on (whole_in blocks 1 on)
+  sweep_in blocks n on =
+      either_in (nat_lt n CACHE) (sweep n) (to_look_whole blocks 1) on (whole_in blocks 1 on)
 
   pub next_in : (k blocks : ℕ) (p : Phase) (t : Did) → stays_in g p ≡ true
       → stays_in g (next_phase k blocks p t) ≡ true
@@ -96,7 +97,8 @@ module _ (k blocks : ℕ) where
         omega arith
 
     not_step : (i z : ℕ) (p : Phase) → z ≢ 0 → is_step all i z p ≡ wrong
-    not_step i z p real = unless _ p wrong (and_off (BLOCKS + b == i) (0 == z) (ne_eqb 0 z (λ e. real (sym e))))
+    not_step i z p real =
+        unless _ p wrong (and_off (BLOCKS + b == i) (0 == z) (ne_eqb 0 z (λ e. real (sym e))))
 
     other_word : (i z : ℕ) (p : Phase) → BLOCKS + b ≢ i → is_step all i z p ≡ wrong
     other_word i z p other = unless _ p wrong (ap (λ t. t && (0 == z)) (ne_eqb (BLOCKS + b) i other))

@@ -23,12 +23,13 @@ belongs_same ws ws' e p h = (h.0, ap named (e (p.0 / ROWS)) ∙ h.1, λ ne. e (p
 
 -- ---- slots that go through a cell
 
-pub held_times_with_slot : (x y k : ℕ) (held : List (ℕ × ℕ)) → 0 < x → held_times x (with_slot y k held) ≡ one_if
-    (y == x) + held_times x held
+pub held_times_with_slot : (x y k : ℕ) (held : List (ℕ × ℕ)) → 0 < x
+    → held_times x (with_slot y k held) ≡ one_if (y == x) + held_times x held
 held_times_with_slot x zero k held real = let none = miss 0 x (λ e. omega arith) in omega arith
 held_times_with_slot x (suc y) k held real = refl
 
-pub held_times_put_other : (x n : ℕ) (held : List (ℕ × ℕ)) → x ≢ n → held_times x (put_out n held) ≡ held_times x held
+pub held_times_put_other : (x n : ℕ) (held : List (ℕ × ℕ)) → x ≢ n
+    → held_times x (put_out n held) ≡ held_times x held
 held_times_put_other x zero held other = refl
 held_times_put_other x (suc n) held other = held_times_kept (λ z. not (z == suc n)) x held
     (ap not (ne_eqb x (suc n) other))
@@ -52,7 +53,8 @@ module _ {W : Type 0} (live : ℕ → Bool) (words : List ℕ) (views : List (Vi
     (id : ℕ) (v : View W) (there : get_elem? views id ≡ some v) (lives : v.is_spent ≡ false) where
   -- what is in one word, is held here and is live, together
   pub placed : (x i : ℕ) → ROWS ≤ x → i < length words
-      → weight x i (get_or words i 0) + held_times x v.held + one_if (live x) ≤ named (kind_word words (x / ROWS))
+      → weight x i (get_or words i 0) + held_times x v.held + one_if (live x)
+      ≤ named (kind_word words (x / ROWS))
   placed x i real lt =
       let one = s.in_one_place x real in
       let word = total_at_member (weight x) words 0 i i lt (omega arith) in
@@ -81,7 +83,8 @@ module _ {W : Type 0} (live : ℕ → Bool) (words : List ℕ) (views : List (Vi
 
   -- a slot that is in a word is not held and not live
   pub seen_once : (x i : ℕ) → ROWS ≤ x → i < length words → 1 ≤ weight x i (get_or words i 0)
-      → (held_times x v.held ≡ 0) × (live x ≡ false) × (named (kind_word words (x / ROWS)) ≡ 1) × (x < (ROWS * (BLOCKS + 1)))
+      → (held_times x v.held ≡ 0) × (live x ≡ false) × (named (kind_word words (x / ROWS)) ≡ 1)
+      × (x < (ROWS * (BLOCKS + 1)))
   seen_once x i real lt has =
       let most = placed x i real lt in
       let small = named_most (kind_word words (x / ROWS)) in
@@ -90,8 +93,10 @@ module _ {W : Type 0} (live : ℕ → Bool) (words : List ℕ) (views : List (Vi
       (omega arith, off_of (live x) (omega arith), one, omega arith)
 
   -- a step on a mask or cell
-  module _ (w : View W) (lives' : w.is_spent ≡ false) (i n : ℕ) (low : FIRST_MASK ≤ i) (within : i < length words)
-      (moves : (x : ℕ) → ROWS ≤ x → weight x i n + held_times x w.held ≡ weight x i (get_or words i 0) + held_times x
+  module _ (w : View W) (lives' : w.is_spent ≡ false) (i n : ℕ) (low : FIRST_MASK ≤ i)
+      (within : i < length words)
+      (moves : (x : ℕ) → ROWS ≤ x
+      → weight x i n + held_times x w.held ≡ weight x i (get_or words i 0) + held_times x
       v.held)
       (cell : FIRST_QUICK ≤ i → n ≢ 0 → (ROWS ≤ n) × (kind_word words (n / ROWS) ≡ cell_kind i + 1))
       (mask : i < FIRST_QUICK → n < (2 ^ ROWS)) (held : Every (Belongs words) w.held) where
@@ -109,7 +114,8 @@ module _ {W : Type 0} (live : ℕ → Bool) (words : List ℕ) (views : List (Vi
         omega arith
 
     cell_at : (j : ℕ) → FIRST_QUICK ≤ j → (j ≡ i) ⊎ (j ≢ i) → get_or (set words i n) j 0 ≢ 0
-        → (ROWS ≤ get_or (set words i n) j 0) × (kind_word (set words i n) (get_or (set words i n) j 0 / ROWS) ≡
+        → (ROWS ≤ get_or (set words i n) j 0)
+        × (kind_word (set words i n) (get_or (set words i n) j 0 / ROWS) ≡
         cell_kind j + 1)
     cell_at j le (inl same) ne =
         let is : get_or (set words i n) j 0 ≡ n = ap (λ a. get_or (set words i n) a 0) same

@@ -115,7 +115,8 @@ module _ (f : ℕ → ℕ → ℕ) where
       → (i : ℕ) × (i < length ws) × (1 ≤ f i (get_or ws i 0))
   total_at_some ws le =
       let r = total_at_from ws 0 le in
-      let s : f (0 + r.0) (get_or ws r.0 0) ≡ f r.0 (get_or ws r.0 0) = ap (λ x. f x (get_or ws r.0 0)) (omega arith) in
+      let s : f (0 + r.0) (get_or ws r.0 0) ≡ f r.0 (get_or ws r.0 0) =
+      ap (λ x. f x (get_or ws r.0 0)) (omega arith) in
       (r.0, r.1, omega (arith, s, r.2))
 
   pub total_at_none : (n k : ℕ) → ((i : ℕ) → f i 0 ≡ 0) → total_at f k (replicate n 0) ≡ 0

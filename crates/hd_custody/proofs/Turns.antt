@@ -35,13 +35,15 @@ module _ {W : Type 0} (live : ℕ → Bool) (words : List ℕ) (views : List (Vi
   Same x = kind_word words' (x / ROWS) ≡ kind_word words (x / ROWS)
 
   module _
-      (moves : (x : ℕ) → ROWS ≤ x → held_times x w.held + one_if (live' x) + named (kind_word words (x / ROWS)) ≡
+      (moves : (x : ℕ) → ROWS ≤ x
+      → held_times x w.held + one_if (live' x) + named (kind_word words (x / ROWS)) ≡
       held_times x v.held + one_if (live x) + named (kind_word words' (x / ROWS)))
       (cells : (j : ℕ) → FIRST_QUICK ≤ j → get_or words j 0 ≢ 0 → Same (get_or words j 0))
       (others : (j : ℕ) (u : View W) → j ≢ id → get_elem? views j ≡ some u → u.is_spent ≡ false
       → Every (λ p. Same p.0) u.held)
       (held : Every (Belongs words') w.held) where
-    one_place : (x : ℕ) → ROWS ≤ x → total_at (weight x) 0 words' + total (held_by x) (set views id w) + one_if
+    one_place : (x : ℕ) → ROWS ≤ x
+        → total_at (weight x) 0 words' + total (held_by x) (set views id w) + one_if
         (live' x) ≡ named (kind_word words' (x / ROWS))
     one_place x real =
         let one = s.in_one_place x real in
@@ -98,7 +100,8 @@ module _ {W : Type 0} (m : Ghosts W) (numbers : Numbers) (s : State (Option W) (
   word i = get_or s.words i 0
 
   -- a store into the gate word leaves the kind words of all slots
-  pub gate_kinds : (n x : ℕ) → ROWS ≤ x → kind_word (set s.words 0 n) (x / ROWS) ≡ kind_word s.words (x / ROWS)
+  pub gate_kinds : (n x : ℕ) → ROWS ≤ x
+      → kind_word (set s.words 0 n) (x / ROWS) ≡ kind_word s.words (x / ROWS)
   gate_kinds n x real = kind_word_set s.words (x / ROWS) 0 n (λ e. omega arith)
 
   pub cell_real : (j : ℕ) → FIRST_QUICK ≤ j → word j ≢ 0 → ROWS ≤ word j
@@ -163,8 +166,8 @@ module _ {W : Type 0} (m : Ghosts W) (numbers : Numbers) (s : State (Option W) (
         );
         holding = λ j u at alive. won_holding j u alive (at_set s.views id j (took c.world v) u at);
       };
-      seats = seats_alike s.views id v there v.held v.trace v.trace_number v.began_empty true (v.gate_steps + 1)
-          (Some c.world) [] c.made c.owner _ _ numbers c.seats;
+      seats = seats_alike s.views id v there v.held v.trace v.trace_number v.began_empty true
+          (v.gate_steps + 1) (Some c.world) [] c.made c.owner _ _ numbers c.seats;
       kinds = λ b real lt. kind_same 1 b real ∙ c.kinds b real lt
           ∙ ap (λ cs. changed cs (m.kind c.world) b) home.1;
       slots = slots_low (m.live c.world) s.words s.views c.slots id v there lives c.wide 0 1 (omega arith)
@@ -183,14 +186,16 @@ module _ {W : Type 0} (m : Ghosts W) (numbers : Numbers) (s : State (Option W) (
         let block = named_block s.words (p.0 / ROWS) h.1 in
         let at : 0 < p.0 / ROWS = (let real = h.0 in omega arith) in (
           once.2,
-          λ ne. sym (c.kinds (p.0 / ROWS) at block ∙ ap (λ cs. changed cs (m.kind c.world) (p.0 / ROWS)) home.1)
+          λ ne. sym (c.kinds (p.0 / ROWS) at block
+              ∙ ap (λ cs. changed cs (m.kind c.world) (p.0 / ROWS)) home.1)
               ∙ sym (kind_word_is s.words (p.0 / ROWS) block) ∙ h.2 ne,
         )
 
     pub learned : Entered m v c.world
     learned =
         let f = c.seats.each id v there lives in record {
-          had_not = not_on v.has_gate (λ has. (let h = c.gate.holding id v there lives has in omega (arith, h.0, free)));
+          had_not = not_on v.has_gate
+              (λ has. (let h = c.gate.holding id v there lives has in omega (arith, h.0, free)));
           part = sym f.own_part;
           room = (let r = total_member room_of s.views id v there in let is : room_of v ≡ v.room =
               ap (λ b. cond b 0 v.room) lives in let most = c.seats.roomy in omega arith);
@@ -230,8 +235,8 @@ module _ {W : Type 0} (m : Ghosts W) (numbers : Numbers) (s : State (Option W) (
       )
       store_holding j u alive (inr other) his = absurd (alone_holds j u other.0 other.1 alive his)
 
-      store_kind : (d : ℕ) → 0 < d → d < FIRST_MASK → (d ≡ b) ⊎ (d ≢ b) → get_or (set s.words b k) d 0 ≡ changed
-          ((b, k) ∷ c.changes) (m.kind c.world) d
+      store_kind : (d : ℕ) → 0 < d → d < FIRST_MASK → (d ≡ b) ⊎ (d ≢ b)
+          → get_or (set s.words b k) d 0 ≡ changed ((b, k) ∷ c.changes) (m.kind c.world) d
       store_kind d low under (inl same) =
           ap (λ j. get_or (set s.words b k) j 0) same ∙ get_or-set_same s.words b k 0 (omega (arith, c.wide))
           ∙ sym (ap (λ t. cond t k (changed c.changes (m.kind c.world) d)) (eq-eqb b d (sym same)))
@@ -315,15 +320,15 @@ module _ {W : Type 0} (m : Ghosts W) (numbers : Numbers) (s : State (Option W) (
         whole_here : (x : ℕ) → x / ROWS ≡ b → held_times x (whole b k) ≡ 1
         whole_here x here =
             let at : ROWS * b + x % ROWS ≡ x = omega arith in
-            subst (λ y. held_times y (whole b k) ≡ 1) at (held_times_picks (λ _. true) (ROWS * b) (λ _. k) ROWS (x % ROWS)
-            (omega arith))
+            subst (λ y. held_times y (whole b k) ≡ 1) at
+            (held_times_picks (λ _. true) (ROWS * b) (λ _. k) ROWS (x % ROWS) (omega arith))
 
         whole_other : (x : ℕ) → x / ROWS ≢ b → held_times x (whole b k) ≡ 0
         whole_other x other = held_times_out (λ _. true) (ROWS * b) (λ _. k) ROWS x
             (λ r under same. other (omega arith))
 
-        cells_stay : (j : ℕ) → FIRST_QUICK ≤ j → word j ≢ 0 → kind_word (set s.words b k) (word j / ROWS) ≡ kind_word
-            s.words (word j / ROWS)
+        cells_stay : (j : ℕ) → FIRST_QUICK ≤ j → word j ≢ 0
+            → kind_word (set s.words b k) (word j / ROWS) ≡ kind_word s.words (word j / ROWS)
         cells_stay j le ne =
             let h = c.slots.cells j le ne in
             word_other (word j) (λ here. let z = ap (kind_word s.words) here ∙ kind_word_is s.words b lt
@@ -337,7 +342,8 @@ module _ {W : Type 0} (m : Ghosts W) (numbers : Numbers) (s : State (Option W) (
         own_stay : Every (Belongs (set s.words b k)) v.held
         own_stay n p e = let h = c.slots.held id v there lives n p e in old_belongs p (not_here p.0 h.1) h
 
-        row_belongs : k < EXTRA_DATA → (r : ℕ) → r < ROWS → true ≡ true → Belongs (set s.words b k) (ROWS * b + r, k)
+        row_belongs : k < EXTRA_DATA → (r : ℕ) → r < ROWS → true ≡ true
+            → Belongs (set s.words b k) (ROWS * b + r, k)
         row_belongs few r row _ =
             let here : (ROWS * b + r) / ROWS ≡ b = omega arith in (
               omega arith,
@@ -352,8 +358,8 @@ module _ {W : Type 0} (m : Ghosts W) (numbers : Numbers) (s : State (Option W) (
     (has : v.has_gate ≡ true)
     (b k : ℕ) (real : 0 < b) (lt : b < FIRST_MASK) where
   module _ (some_kind : 0 < k) (empty : get_or s.words b 0 ≡ 0) where
-    open_moves : (t : Bool) → (t ≡ true → k < EXTRA_DATA) → (t ≡ false → named k ≡ 0) → (x : ℕ) → ROWS ≤ x → (x / ROWS ≡ b)
-        ⊎ (x / ROWS ≢ b)
+    open_moves : (t : Bool) → (t ≡ true → k < EXTRA_DATA) → (t ≡ false → named k ≡ 0) → (x : ℕ) → ROWS ≤ x
+        → (x / ROWS ≡ b) ⊎ (x / ROWS ≢ b)
         → held_times x (cond t (whole b k ++ v.held) v.held) + one_if (m.live c.world x) + named
         (kind_word s.words (x / ROWS))
         ≡ held_times x v.held + one_if (m.live c.world x) + named (kind_word (set s.words b k) (x / ROWS))

@@ -14,19 +14,24 @@ use Rattle.hd_custody.proofs.Totals.{total_at_member}
 
 pub weight_low : (x i w : ℕ) → i < FIRST_MASK → weight x i w ≡ 0
 unfolding weight
-weight_low x i w lt = ap (λ b. cond b 0 (cond (nat_lt i FIRST_QUICK) (cond (BLOCKS + x / ROWS == i) (bit_at w (x % ROWS)) 0)
+weight_low x i w lt =
+    ap (λ b. cond b 0 (cond (nat_lt i FIRST_QUICK) (cond (BLOCKS + x / ROWS == i) (bit_at w (x % ROWS)) 0)
     (one_if (w == x)))) (lt-ltb i FIRST_MASK lt)
 
-mask_is : (x i w : ℕ) → FIRST_MASK ≤ i → i < FIRST_QUICK → weight x i w ≡ cond (BLOCKS + x / ROWS == i) (bit_at w (x % ROWS)) 0
+mask_is : (x i w : ℕ) → FIRST_MASK ≤ i → i < FIRST_QUICK
+    → weight x i w ≡ cond (BLOCKS + x / ROWS == i) (bit_at w (x % ROWS)) 0
 unfolding weight
 mask_is x i w le lt =
     ap (λ b. cond b 0 (cond (nat_lt i FIRST_QUICK) (cond (BLOCKS + x / ROWS == i) (bit_at w (x % ROWS)) 0)
     (one_if (w == x)))) (le-ltb i FIRST_MASK le)
-    ∙ ap (λ b. cond b (cond (BLOCKS + x / ROWS == i) (bit_at w (x % ROWS)) 0) (one_if (w == x))) (lt-ltb i FIRST_QUICK lt)
+    ∙ ap (λ b. cond b (cond (BLOCKS + x / ROWS == i) (bit_at w (x % ROWS)) 0) (one_if (w == x)))
+    (lt-ltb i FIRST_QUICK lt)
 
-pub weight_mask : (x i w : ℕ) → FIRST_MASK ≤ i → i < FIRST_QUICK → x / ROWS + BLOCKS ≡ i → weight x i w ≡ bit_at w (x % ROWS)
+pub weight_mask : (x i w : ℕ) → FIRST_MASK ≤ i → i < FIRST_QUICK → x / ROWS + BLOCKS ≡ i
+    → weight x i w ≡ bit_at w (x % ROWS)
 weight_mask x i w le lt e =
-    mask_is x i w le lt ∙ ap (λ b. cond b (bit_at w (x % ROWS)) 0) (eq-eqb (BLOCKS + x / ROWS) i (omega arith))
+    mask_is x i w le lt
+    ∙ ap (λ b. cond b (bit_at w (x % ROWS)) 0) (eq-eqb (BLOCKS + x / ROWS) i (omega arith))
 
 pub weight_other : (x i w : ℕ) → FIRST_MASK ≤ i → i < FIRST_QUICK → x / ROWS + BLOCKS ≢ i → weight x i w ≡ 0
 weight_other x i w le lt n =
@@ -39,7 +44,8 @@ weight_cell x i w le =
     let low : FIRST_MASK ≤ i = omega arith in
     ap (λ b. cond b 0 (cond (nat_lt i FIRST_QUICK) (cond (BLOCKS + x / ROWS == i) (bit_at w (x % ROWS)) 0)
     (one_if (w == x)))) (le-ltb i FIRST_MASK low)
-    ∙ ap (λ b. cond b (cond (BLOCKS + x / ROWS == i) (bit_at w (x % ROWS)) 0) (one_if (w == x))) (le-ltb i FIRST_QUICK le)
+    ∙ ap (λ b. cond b (cond (BLOCKS + x / ROWS == i) (bit_at w (x % ROWS)) 0) (one_if (w == x)))
+    (le-ltb i FIRST_QUICK le)
 
 -- a slot weighs nothing in a word that is 0
 pub weight_zero : (x i : ℕ) → ROWS ≤ x → weight x i 0 ≡ 0
@@ -74,7 +80,8 @@ kind_word_set ws b i n other = elim (cases_lt b FIRST_MASK) [
   | inr le ↦ kind_word_out (set ws i n) b le ∙ sym (kind_word_out ws b le)
 ]
 
-pub kind_word_high : (ws : List ℕ) (i n : ℕ) → FIRST_MASK ≤ i → (b : ℕ) → kind_word (set ws i n) b ≡ kind_word ws b
+pub kind_word_high : (ws : List ℕ) (i n : ℕ) → FIRST_MASK ≤ i → (b : ℕ)
+    → kind_word (set ws i n) b ≡ kind_word ws b
 kind_word_high ws i n le b = elim (cases_lt b FIRST_MASK) [
   | inl lt ↦ kind_word_set ws b i n (λ e. omega arith)
   | inr out ↦ kind_word_out (set ws i n) b out ∙ sym (kind_word_out ws b out)
@@ -82,7 +89,8 @@ kind_word_high ws i n le b = elim (cases_lt b FIRST_MASK) [
 
 pub named_kind : (k : ℕ) → 0 < k → k < EXTRA_DATA → named k ≡ 1
 named_kind k real lt =
-    ap (λ b. cond (b && nat_lt k EXTRA_DATA) 1 0) (lt-ltb 0 k real) ∙ ap (λ b. cond b 1 0) (lt-ltb k EXTRA_DATA lt)
+    ap (λ b. cond (b && nat_lt k EXTRA_DATA) 1 0) (lt-ltb 0 k real)
+    ∙ ap (λ b. cond b 1 0) (lt-ltb k EXTRA_DATA lt)
 
 pub named_none : (k : ℕ) → k ≡ 0 → named k ≡ 0
 named_none k e = ap named e
@@ -124,22 +132,26 @@ past (w ∷ ws) (suc j) le = past ws j (omega arith)
 
 -- where no slot stands twice, and none in a block without a kind of handle, the mask of such a block is 0
 module _ (words : List ℕ) (others : ℕ → ℕ)
-    (placed : (x : ℕ) → ROWS ≤ x → total_at (weight x) 0 words + others x ≡ named (kind_word words (x / ROWS)))
+    (placed : (x : ℕ) → ROWS ≤ x
+    → total_at (weight x) 0 words + others x ≡ named (kind_word words (x / ROWS)))
     (fits : (i : ℕ) → FIRST_MASK ≤ i → i < FIRST_QUICK → get_or words i 0 < (2 ^ ROWS)) where
-  bit_none : (b : ℕ) → 0 < b → b < FIRST_MASK → named (kind_word words b) ≡ 0 → BLOCKS + b < length words → (r : ℕ)
-      → r < ROWS → bit_at (get_or words (BLOCKS + b) 0) r ≡ 0
+  bit_none : (b : ℕ) → 0 < b → b < FIRST_MASK → named (kind_word words b) ≡ 0 → BLOCKS + b < length words
+      → (r : ℕ) → r < ROWS → bit_at (get_or words (BLOCKS + b) 0) r ≡ 0
   bit_none b real low none within r lt =
       let block : (ROWS * b + r) / ROWS ≡ b = omega arith in
       let row : (ROWS * b + r) % ROWS ≡ r = omega arith in
       let one = placed (ROWS * b + r) (omega arith) in
-      let member = total_at_member (weight (ROWS * b + r)) words 0 (BLOCKS + b) (BLOCKS + b) within (omega arith) in
-      let is = weight_mask (ROWS * b + r) (BLOCKS + b) (get_or words (BLOCKS + b) 0) (omega arith) (omega arith)
+      let member =
+      total_at_member (weight (ROWS * b + r)) words 0 (BLOCKS + b) (BLOCKS + b) within (omega arith) in
+      let is =
+      weight_mask (ROWS * b + r) (BLOCKS + b) (get_or words (BLOCKS + b) 0) (omega arith) (omega arith)
       (omega arith) in
       let same = ap (bit_at (get_or words (BLOCKS + b) 0)) row in
       let kind = ap (λ d. named (kind_word words d)) block in
       omega arith
 
-  pub mask_empty : (b : ℕ) → 0 < b → b < FIRST_MASK → named (kind_word words b) ≡ 0 → get_or words (BLOCKS + b) 0 ≡ 0
+  pub mask_empty : (b : ℕ) → 0 < b → b < FIRST_MASK → named (kind_word words b) ≡ 0
+      → get_or words (BLOCKS + b) 0 ≡ 0
   mask_empty b real low none = elim (cases_lt (BLOCKS + b) (length words)) [
     | inl within ↦ same_from_bits_below ROWS (get_or words (BLOCKS + b) 0) 0
         (fits (BLOCKS + b) (omega arith) (omega arith)) (omega arith)

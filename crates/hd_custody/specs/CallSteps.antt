@@ -75,8 +75,8 @@ module _ {W : Type 0} where
       pub only : b ≡ went held steps a
       pub lead : follow k blocks p steps ≡ q
 
-    -- Rows of block b were offered to reserve cells: from the i-th cell and the rows m on, up to the j-th with
-    -- the rows l left, which still are held.
+    -- Rows of block b were offered to reserve cells: from the i-th cell and the rows m on, up to the j-th
+    -- with the rows l left, which still are held.
     pub record Banked (b : ℕ) (from to : ℕ × ℕ) (a c : Acting W) : Type 0 where
       pub has : HasRowsAs b to.1 (k + 1) c.view.held
       pub left : without_rows b to.1 c.view.held ≡ without_rows b from.1 a.view.held

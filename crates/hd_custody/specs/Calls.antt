@@ -32,9 +32,9 @@ slot_number (Some slot) = Some slot.0
 slot_number None = None
 
 module _ {W : Type 0} (k blocks : ℕ) where
-  -- An `allocate` of the kind with number k: the slot returned comes on top of those held, the steps are those that
-  -- are due, and the trace is the next one. They are at most one for each word of the cache, four for each
-  -- block, and one for each reserve cell that the rows of the last block are offered to: 1,214.
+  -- An `allocate` of the kind with number k: the slot returned comes on top of those held, the steps are
+  -- those that are due, and the trace is the next one. They are at most one for each word of the cache, four
+  -- for each block, and one for each reserve cell that the rows of the last block are offered to: 1,214.
   pub record Allocates (answer : Option ℕ) (v w : View W) : Type 0 where
     pub view : w ≡ called (offered k answer v.held) w.trace v
     pub steps : follow k blocks (probe 0) w.trace ≡ ending answer

@@ -1,9 +1,9 @@
--- Slots in words and held by seats, counted; the words of the table; and what a kind word names. All of it is this
--- project's own. A slot is 64 times its block, from 1 to 256, and its row, from 0 to 63. What a seat holds is a list of
--- slots, each with a kind word: 1 more than the number of its kind, or 0 while the slot has no kind yet. Kind
--- words: 0 no kind, 1 to 7 handles, 8 extra data. The words are: 0 the gate, 1 to 256 the kind words of the
--- blocks, 257 to 512 their masks, and from 513 on 127 words for each kind, which are its quick word, 63
--- reserve cells and 63 free cells.
+-- Slots in words and held by seats, counted; the words of the table; and what a kind word names. All of it is
+-- this project's own. A slot is 64 times its block, from 1 to 256, and its row, from 0 to 63. What a seat
+-- holds is a list of slots, each with a kind word: 1 more than the number of its kind, or 0 while the slot
+-- has no kind yet. Kind words: 0 no kind, 1 to 7 handles, 8 extra data. The words are: 0 the gate, 1 to 256
+-- the kind words of the blocks, 257 to 512 their masks, and from 513 on 127 words for each kind, which are
+-- its quick word, 63 reserve cells and 63 free cells.
 use Rattle.std.specs.Prelude.{◌≡◌, ℕ, zero, suc, ◌+◌, ◌-◌, ◌*◌, ◌/◌, ◌%◌, ◌<◌, ◌≤◌, Bool, true, false, cond, not, nat_lt}
 use Rattle.std.specs.Prelude.{◌==◌, ◌&&◌, List, [], ◌∷◌, filter, map, slice_index}
 use mathlib.Core.Option.{some}

@@ -1,5 +1,5 @@
--- A whole miss, described by what its steps found. How a call decides them is in `Traces`; that both say the same
--- of each `allocate` is proved.
+-- A whole miss, described by what its steps found. How a call decides them is in `Traces`; that both say the
+-- same of each `allocate` is proved.
 use Rattle.std.specs.Prelude.{◌≡◌, ◌≢◌, ◌⊎◌, ℕ, zero, suc, ◌+◌, ◌<◌, ◌≤◌, bit_or, List, [], ◌∷◌, ◌++◌, length}
 use mathlib.Core.Option.{some}
 use lib.ListN.{get_elem?}
@@ -44,8 +44,8 @@ module _ (k : ℕ) where
 
 -- A whole Miss of the kind with number k, of a table of so many blocks: every quick word and cell of the kind
 -- gave 0; the kind word of each block was loaded, and the mask of each block that was loaded as of the kind
--- gave 0, or it gave rows and the kind word loaded once more after it was another. These are all steps, in this
--- order.
+-- gave 0, or it gave rows and the kind word loaded once more after it was another. These are all steps, in
+-- this order.
 pub record WholeMiss (k blocks : ℕ) (trace : List Did) : Type 0 where
   pub gave : List Gave
   pub each_block : length gave ≡ blocks

@@ -88,7 +88,8 @@ module _ {W : Type 0} where
         ≡ named (kind_word words (slot_block x))
     -- (b) A slot in a quick word or cell of a kind is in a block of that kind.
     pub cells : (i : ℕ) → FIRST_QUICK ≤ i → slice_index words i ≢ 0
-        → (ROWS ≤ slice_index words i) × (kind_word words (slot_block (slice_index words i)) ≡ cell_kind i + 1)
+        → (ROWS ≤ slice_index words i)
+        × (kind_word words (slot_block (slice_index words i)) ≡ cell_kind i + 1)
     -- (b) So is a slot held with that kind. One without a kind is in a block of handles.
     pub held : (j : ℕ) (v : View W) → get_elem? views j ≡ some v → v.is_spent ≡ false
         → Every (Belongs words) v.held
@@ -141,8 +142,8 @@ module _ {W : Type 0} (m : Ghosts W) where
   abbrev M : Type 0
   M = Me (Option W) (View W)
 
-  -- what a seat that wins the gate learns: that it had not got it, and of the world its own part, its room, and
-  -- that no slot held is live
+  -- what a seat that wins the gate learns: that it had not got it, and of the world its own part, its room,
+  -- and that no slot held is live
   pub record Entered (v : View W) (w : W) : Type 0 where
     pub had_not : v.has_gate ≡ false
     pub part : part_of (m.journal w) v.number ≡ v.part

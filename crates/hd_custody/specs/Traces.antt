@@ -99,7 +99,8 @@ module _ (blocks : ℕ) where
 module _ (k blocks : ℕ) where
   -- where the call stands after the step t, of a kind with number k and a table with so many blocks
   abbrev pub next_phase : Phase → Did → Phase
-  next_phase (probe n) t = is_step t (probe_word k n) 0 (cond (t.1 == 0) (to_probe blocks (n + 1)) (found t.1))
+  next_phase (probe n) t =
+      is_step t (probe_word k n) 0 (cond (t.1 == 0) (to_probe blocks (n + 1)) (found t.1))
   next_phase (look b) t = is_step t b t.1 (cond (t.1 == k + 1) (drain b) (to_look blocks (b + 1)))
   next_phase (drain b) t = is_step t (mask_word b) 0 (cond (t.1 == 0) (to_look blocks (b + 1)) (again b t.1))
   next_phase (again b m) t =
@@ -109,7 +110,8 @@ module _ (k blocks : ℕ) where
       is_step t (reserve_cell k i) (cond (t.1 == 0) (ROWS * b + lowest m) t.1)
       (to_bank b x (i + 1) (cond (t.1 == 0) (next_rows m) m))
   next_phase (rest b x m) t = is_step t (mask_word b) (bit_or t.1 m) (found x)
-  next_phase (sweep n) t = is_step t (sweep_word k n) 0 (cond (t.1 == 0) (to_sweep blocks (n + 1)) (settle n t.1))
+  next_phase (sweep n) t =
+      is_step t (sweep_word k n) 0 (cond (t.1 == 0) (to_sweep blocks (n + 1)) (settle n t.1))
   next_phase (settle n x) t =
       is_step t (mask_word (slot_block x)) (bit_or t.1 (2 ^ slot_row x)) (to_sweep blocks (n + 1))
   next_phase (look_whole b) t = is_step t b t.1 (cond (t.1 == k + 1) (drain_whole b)

@@ -135,7 +135,8 @@ impl<W: Held> Custody<W> {
             (cond (result == 0) (to_look self.now.blocks (block + 1)) (again block result))
             (rows block result 0 ++ caller.old.view.held) caller.old caller.new }
         ensures gathered { Made kind self.now.blocks (look_whole block)
-            (cond (result == 0) (to_look_whole self.now.blocks (block + 1)) (drained_to block result))
+            (cond (result == 0) (to_look_whole self.now.blocks (block + 1))
+            (drained_to block result))
             (rows block result 0 ++ caller.old.view.held) caller.old caller.new }
     {
         if self.look(caller, block) != kind as u64 + 1 {

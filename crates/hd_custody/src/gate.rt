@@ -211,11 +211,10 @@ impl<W: Held> Custody<W> {
         }
     }
 
-    /// Takes the gate, and with it the world. It may wait for whoever has it, and counts one step on
-    /// the gate: a try that fails changes nothing. No slot held
-    /// is live in that world, each that has a kind is there in a block of that kind, its journal
-    /// has of this caller exactly the seat's part, and it has room for the entries that the seat
-    /// may still add.
+    /// Takes the gate, and with it the world. It may wait for whoever has it, and counts one step
+    /// on the gate: a try that fails changes nothing. No slot held is live in that world, each that
+    /// has a kind is there in a block of that kind, its journal has of this caller exactly the
+    /// seat's part, and it has room for the entries that the seat may still add.
     pub fn enter<R: Wait>(&self, rt: &R, seat: &mut Seat<W>) -> W
         requires seat { seat.old.table ≡ self.now.table }
         requires gate { seat.old.view.has_gate ≡ false }
@@ -234,8 +233,8 @@ impl<W: Held> Custody<W> {
     }
 
     /// Gives the gate back with the world, and wakes a caller if any may sleep at it. Slots that
-    /// became live are held no more, and slots that are live no more are held, each with its block's
-    /// kind.
+    /// became live are held no more, and slots that are live no more are held, each with its
+    /// block's kind.
     pub fn leave(&self, seat: &mut Seat<W>, world: W)
         requires seat { seat.old.table ≡ self.now.table }
         requires gate { seat.old.view.has_gate ≡ true }
@@ -259,7 +258,8 @@ impl<W: Held> Custody<W> {
         requires no_kind { (u : W) × (caller.old.view.taken ≡ Some u)
             × (changed caller.old.view.changes (W.kind u) block ≡ 0) }
         ensures view { caller.new ≡ with_view (opened block kind caller.old.view) caller.old }
-        ensures apart { (r : ℕ) → r < ROWS → held_times (ROWS * block + r) caller.old.view.held ≡ 0 }
+        ensures apart { (r : ℕ) → r < ROWS
+            → held_times (ROWS * block + r) caller.old.view.held ≡ 0 }
     {
         self.table
             .shared
@@ -308,7 +308,8 @@ impl<W: Held> Custody<W> {
         requires gate { caller.old.view.has_gate ≡ true }
         requires kind { kind < KINDS }
         requires blocks { MayGrant W.Held self.now.blocks block extra caller.old.view }
-        ensures view { caller.new ≡ with_view (granted kind block extra caller.old.view) caller.old }
+        ensures view { caller.new
+            ≡ with_view (granted kind block extra caller.old.view) caller.old }
     {
         // Read for the proof alone: it states how many blocks there are at most.
         let _blocks = self.blocks;

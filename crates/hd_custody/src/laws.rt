@@ -4,14 +4,15 @@ ghost use Rattle.hd_custody.specs.Laws.{EachSlotIsInOnePlace, WordsAreNumbered, 
 use hd_model::Held;
 
 /// Between any two steps each slot of a block of handles is in exactly one place: a set bit of its
-/// block's mask, one quick word or cell, the slots held by one seat, or live in the world. A slot of
-/// any other block is in none. So no slot is given twice, and none is lost.
+/// block's mask, one quick word or cell, the slots held by one seat, or live in the world. A slot
+/// of any other block is in none. So no slot is given twice, and none is lost.
 pub fn each_slot_is_in_one_place<W: Held>()
     ensures { EachSlotIsInOnePlace W.Held }
 {}
 
-/// A whole miss found no slot in any word of the kind: each quick word and cell gave 0, and the mask
-/// of each block whose kind word was the kind gave 0, or the kind word loaded after it was another.
+/// A whole miss found no slot in any word of the kind: each quick word and cell gave 0, and the
+/// mask of each block whose kind word was the kind gave 0, or the kind word loaded after it was
+/// another.
 pub fn misses_found_none()
     ensures { MissesFoundNone }
 {}

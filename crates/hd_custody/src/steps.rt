@@ -18,7 +18,8 @@ impl<W: Held> Custody<W> {
         requires seat { caller.old.table ≡ self.now.table }
         requires cell { IsCell word }
         requires slot { new ≢ 0 → HasAs (new, cell_kind word + 1) caller.old.view.held }
-        ensures view { caller.new ≡ with_view (swapped word result new (begun caller.old.view)) caller.old }
+        ensures view { caller.new
+            ≡ with_view (swapped word result new (begun caller.old.view)) caller.old }
         ensures offers { Offers W.Held (cell_kind word) caller.old.view result }
     {
         self.table
@@ -44,7 +45,8 @@ impl<W: Held> Custody<W> {
         requires seat { caller.old.table ≡ self.now.table }
         requires cell { IsCell word }
         requires slot { new ≢ 0 → HasAs (new, cell_kind word + 1) caller.old.view.held }
-        ensures won { OnTrue result (caller.new ≡ with_view (banked word 0 new caller.old.view) caller.old) }
+        ensures won { OnTrue result
+            (caller.new ≡ with_view (banked word 0 new caller.old.view) caller.old) }
         ensures lost { OnFalse result ((there : ℕ) × (there ≢ 0)
             × (caller.new ≡ with_view (banked word there new caller.old.view) caller.old)) }
     {
@@ -68,7 +70,8 @@ impl<W: Held> Custody<W> {
     pub(crate) fn drain(&self, caller: &mut Caller<W>, block: u32) -> u64
         requires seat { caller.old.table ≡ self.now.table }
         requires block { IsBlock block }
-        ensures view { caller.new ≡ with_view (drained (mask_word block) result caller.old.view) caller.old }
+        ensures view { caller.new
+            ≡ with_view (drained (mask_word block) result caller.old.view) caller.old }
         ensures fresh { (r : ℕ) → r < ROWS → bit_at result r ≡ 1
             → Fresh W.Held caller.old.view (ROWS * block + r) }
     {
@@ -82,7 +85,8 @@ impl<W: Held> Custody<W> {
         requires seat { caller.old.table ≡ self.now.table }
         requires block { IsBlock block }
         requires slots { HasRows block rows caller.old.view.held }
-        ensures view { caller.new ≡ with_view (restored (mask_word block) rows result caller.old.view) caller.old }
+        ensures view { caller.new
+            ≡ with_view (restored (mask_word block) rows result caller.old.view) caller.old }
     {
         self.table
             .shared
@@ -94,7 +98,8 @@ impl<W: Held> Custody<W> {
         requires seat { caller.old.table ≡ self.now.table }
         requires block { IsBlock block }
         requires slots { HasRows block rows caller.old.view.held }
-        ensures view { caller.new ≡ with_view (put_in (mask_word block) rows caller.old.view) caller.old }
+        ensures view { caller.new
+            ≡ with_view (put_in (mask_word block) rows caller.old.view) caller.old }
     {
         self.table
             .shared

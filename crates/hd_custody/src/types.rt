@@ -16,7 +16,8 @@ impl<W: Held> Model for Caller<W> {
 
     ghost Value = { Acting W };
 
-    ghost view = { λ c. record { table = c.place.table_id; view = c.place.me.0; out = c.place.me.1 } };
+    ghost view = { λ c.
+        record { table = c.place.table_id; view = c.place.me.0; out = c.place.me.1 } };
 
     ghost invariant = { λ c. c.place.me.0.is_spent ≡ false };
 }

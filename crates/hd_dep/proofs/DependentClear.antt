@@ -186,3 +186,5 @@ module _ (o : Objects Addr) (t now : Table) (ages : List ℕ) (n : ℕ) (p : Add
         lost = r.lost;
       })
       counts
+
+pub ruleset detached_rows = (detached_written, dependent_fits)

@@ -49,7 +49,7 @@ pub fn clear<M: Marker, L: Ledger>(
 }
 
 /// Clears a dependent handle, if its target is not promoted.
-#[tactic(auto, using(crate::proofs::DependentClear::detached_written, crate::proofs::DependentClear::dependent_fits))]
+#[tactic(auto, using(crate::proofs::DependentClear::detached_rows))]
 fn clear_row<M: Marker>(seg: &mut Seg, slot: Slot, marker: &M) -> bool
     requires live { IsSome (get seg.old.rows slot.0) }
     requires of_kind { (live_at seg.old slot.0).kind ≡ kind.Dependent }

@@ -56,7 +56,8 @@ all_new s rooms first list new news zero d below = new
 all_new s rooms first list new news (suc k) d below = subst
     (λ j. IsNew s j (slice_index rooms j) (slice_index_or list k d)) (add-one k) (news k d (omega arith))
 
-module _ (s : Named) (rooms : List ℕ) (first : CallerView) (list all : List CallerView) (are : all ≡ first ∷ list)
+module _ (s : Named) (rooms : List ℕ) (first : CallerView) (list all : List CallerView)
+    (are : all ≡ first ∷ list)
     (count : length list + 1 ≡ length rooms) (callers : length rooms ≡ s.numbers.callers)
     (new : IsNew s 0 (slice_index rooms 0) first) (news : AreNew s rooms list) where
   pub are_all : AreAll s all

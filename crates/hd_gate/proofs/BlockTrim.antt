@@ -144,7 +144,8 @@ module _ (number : ℕ) (command : Cmd) (kind : Kind) (gives : change_of command
   }
 
   slot_calls : SlotCalls (change_of command) u.state v.limits.blocks (search_of v) (search_of v') e
-  slot_calls = subst (λ (c : Change). SlotCalls c u.state v.limits.blocks (search_of v) (search_of v') e) (sym gives)
+  slot_calls =
+      subst (λ (c : Change). SlotCalls c u.state v.limits.blocks (search_of v) (search_of v') e) (sym gives)
       own_steps
 
   looked_for : (e.reply ≡ reply.Value 0 → o ≡ None)
@@ -188,7 +189,8 @@ module _ (number : ℕ) (command : Cmd) (kind : Kind) (gives : change_of command
             let which : m.block ≡ block = Back-injective m.block block
             (sym m.grown ∙ takes.1 ∙ ap Back (first_block block)) in
             let after : w.state ≡ without_use u.state block = m.after ∙ ap (without_use u.state) which in
-            leaves number command (option_map first_slot o) u w e stepped v busy idle some_room own sized same refl
+            leaves number command (option_map first_slot o) u w e stepped v busy idle some_room own sized
+            same refl
             slot_calls
             (λ b _ _. closed_kind u.state.blocks w.state.blocks block
             (ap (λ (s : State). s.blocks) after) b)

@@ -56,11 +56,12 @@ module _ (all xs ys : List CallerView) (x : CallerView) (popped : xs ≡ ys ++ x
       ∙ rest (length ys) d (omega (arith, shorter))
 
 -- the journal of a world that all have left has of each exactly its part
-module _ (callers : List CallerView) (first : View WorldView) (w : WorldView) (divided : Divided ghosts first w)
-    (made : first.made ≡ length callers)
+module _ (callers : List CallerView) (first : View WorldView) (w : WorldView)
+    (divided : Divided ghosts first w) (made : first.made ≡ length callers)
     (part : (d : CallerView) → first.part ≡ (slice_index_or callers 0 d).part)
     (ended : HasEnded (drop 1 callers) first.ended) where
-  part_at : (c : ℕ) (d : CallerView) → c < length callers → part_of w.journal c ≡ (slice_index_or callers c d).part
+  part_at : (c : ℕ) (d : CallerView) → c < length callers
+      → part_of w.journal c ≡ (slice_index_or callers c d).part
   part_at zero d below = divided.own_part ∙ part d
   part_at (suc k) d below = elim (divided.each (suc k) (omega (arith, made, below))) [
     | inl none ↦ absurd (omega (arith, none))

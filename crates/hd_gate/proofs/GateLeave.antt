@@ -29,7 +29,8 @@ use Rattle.hd_gate.specs.Turns.{caller_view_of, search_of, MayStep, Stepped, Tur
 
 -- a caller that entered may take a step
 pub may_step : (u : WorldView) (v : View WorldView) (number : ℕ) (command : Cmd) (offer : Option Slot)
-    → Entered ghosts v u → 1 ≤ v.room → number < v.limits.callers → IsValid command → IsOffer u.state command offer
+    → Entered ghosts v u → 1 ≤ v.room → number < v.limits.callers → IsValid command
+    → IsOffer u.state command offer
     → MayStep u number command offer
 may_step u v number command offer entered room known valid offered =
     let spare : v.room ≤ u.spare = entered.room in
@@ -57,7 +58,8 @@ same_seat v w e = (
 )
 
 -- such a seat is idle where it has no slot and not the gate
-pub idle_of : (v n : View WorldView) (number : ℕ) → IsIdle v number → n.number ≡ v.number → n.limits ≡ v.limits
+pub idle_of : (v n : View WorldView) (number : ℕ) → IsIdle v number → n.number ≡ v.number
+    → n.limits ≡ v.limits
     → n.ended ≡ v.ended → n.made ≡ v.made → n.held ≡ [] → n.has_gate ≡ false → IsIdle n number
 idle_of v n number idle same limits ended made held gate =
     let callers = ap (λ (l : Limits). l.callers) limits in
@@ -196,7 +198,8 @@ module _ (seat mid : Known WorldView) (number : ℕ) (command : Cmd) (u w : Worl
   may_leave = may_leave_with seat.table mid u w busy is all.taken all.follows
 
   pub turned : (out : Known WorldView)
-      → ((x : WorldView) → mid.view.taken ≡ Some x → out ≡ record mid { view = gave_back ghosts x w mid.view })
+      → ((x : WorldView) → mid.view.taken ≡ Some x
+      → out ≡ record mid { view = gave_back ghosts x w mid.view })
       → Turned seat out number command e.reply
   turned out leave =
       let left = leave u (ap (λ (s : Known WorldView). s.view.taken) is ∙ all.taken)

@@ -39,8 +39,8 @@ is_free : (c : Cmd) → change_of c ≡ Frees → (h : ℕ) × (c ≡ cmd.HFree 
 is_free (cmd.HFree h) frees = (h, refl)
 is_free c frees = cc
 
-module _ (number : ℕ) (command : Cmd) (frees : change_of command ≡ Frees) (u w : WorldView) (v : View WorldView)
-    (idle : IsIdle v number) (some_room : 1 ≤ v.room) (few : v.limits.blocks ≤ 256)
+module _ (number : ℕ) (command : Cmd) (frees : change_of command ≡ Frees) (u w : WorldView)
+    (v : View WorldView) (idle : IsIdle v number) (some_room : 1 ≤ v.room) (few : v.limits.blocks ≤ 256)
     (entered : Entered ghosts v u) (e : Entry) (stepped : Stepped u w number command None e) where
   abbrev busy : View WorldView
   busy = took u v
@@ -74,11 +74,14 @@ module _ (number : ℕ) (command : Cmd) (frees : change_of command ≡ Frees) (u
   }
 
   done_at : (n : View WorldView) → n.part ≡ left.part → n.room ≡ left.room → (t : TableId)
-      → LetsOneGo u.state v.limits.blocks (search_of v) (search_of n) e → HasDone (caller_view_of (record { table = t; view = v }) number v.room)
+      → LetsOneGo u.state v.limits.blocks (search_of v) (search_of n) e
+      → HasDone (caller_view_of (record { table = t; view = v }) number v.room)
       (caller_view_of (record { table = t; view = n }) number n.room) command e.reply
-  done_at n part room t lets = done_after number command None u w e stepped v busy idle some_room entered.part entered.sized
+  done_at n part room t lets =
+      done_after number command None u w e stepped v busy idle some_room entered.part entered.sized
       (refl, refl, refl, refl, refl, refl) t n part room (looks_for_none _ _)
-      (subst (λ (c : Change). SlotCalls c u.state v.limits.blocks (search_of v) (search_of n) e) (sym frees) lets)
+      (subst (λ (c : Change). SlotCalls c u.state v.limits.blocks (search_of v) (search_of n) e)
+      (sym frees) lets)
 
   -- nothing was freed
   kept : w.state.handles ≡ u.state.handles → w.state.blocks ≡ u.state.blocks → e.reply ≢ reply.Done
@@ -89,7 +92,8 @@ module _ (number : ℕ) (command : Cmd) (frees : change_of command ≡ Frees) (u
       record {
         follows = follows_from (λ x on. sym (same x) ∙ on) blocks;
         has = tt;
-        turned = λ t n is. subst (λ (x : View WorldView). Turned (seat t v) (seat t x) number command e.reply) (sym is)
+        turned = λ t n is.
+            subst (λ (x : View WorldView). Turned (seat t v) (seat t x) number command e.reply) (sym is)
             (record {
               table = refl;
               limits = refl;

@@ -113,11 +113,12 @@ module _ (u w : WorldView) (busy : View WorldView) (x k y : ℕ) (only : busy.he
   new_hand = hand_lives u w busy x k only here else
 
 -- the kind words once a block has a use
-word_after : (s t : map.FinMap nat_cmp BlockUse) (given : BlockUse) (block : ℕ) → t ≡ map.insert s block given → (c : ℕ)
-    → kind_word (get t c) ≡ cond (block == c) (kind_word (Some given)) (kind_word (get s c))
+word_after : (s t : map.FinMap nat_cmp BlockUse) (given : BlockUse) (block : ℕ) → t ≡ map.insert s block given
+    → (c : ℕ) → kind_word (get t c) ≡ cond (block == c) (kind_word (Some given)) (kind_word (get s c))
 word_after s t given block is c = ap (λ m. kind_word (get m c)) is ∙ elim (cases_eq block c) [
   | inl same ↦ (
-      ap (λ n. kind_word (get (map.insert s block given) n)) (sym same) ∙ ap kind_word (get_inserted s block given)
+      ap (λ n. kind_word (get (map.insert s block given) n)) (sym same)
+      ∙ ap kind_word (get_inserted s block given)
       ∙ sym (ap (λ b. cond b (kind_word (Some given)) (kind_word (get s c))) (eq-eqb block c same)))
   | inr apart ↦ (
       ap kind_word (get_beside s block given c (λ e. apart (sym e)))
@@ -166,7 +167,8 @@ module _ (number : ℕ) (command : Cmd) (kind : Kind) (takes : change_of command
   }
 
   slot_calls : SlotCalls (change_of command) u.state v.limits.blocks (search_of v) (search_of v') e
-  slot_calls = subst (λ (c : Cmd). SlotCalls (change_of c) u.state v.limits.blocks (search_of v) (search_of v') e)
+  slot_calls =
+      subst (λ (c : Cmd). SlotCalls (change_of c) u.state v.limits.blocks (search_of v) (search_of v') e)
       (sym new.is) own_steps
 
   own_miss : o ≡ None → OwnMiss kind v.limits.blocks (search_of v) (search_of v')
@@ -179,9 +181,10 @@ module _ (number : ℕ) (command : Cmd) (kind : Kind) (takes : change_of command
       → ((given : ℕ) → e.reply ≡ reply.Refused (refusal.TableFull given)
       → (o ≡ None) × (v.limits.blocks < given + blocks_needed kind))
       → LookedFor (asks_of command) v.limits.blocks (search_of v) (search_of v') e
-  looked_for grows full = subst (λ (c : Cmd). LookedFor (asks_of c) v.limits.blocks (search_of v) (search_of v') e)
-      (sym new.is)
-      (subst (λ (j : Kind). GrowsOnMiss j v.limits.blocks (search_of v) (search_of v') e) (sym new.kind_is) (record {
+  looked_for grows full =
+      subst (λ (c : Cmd). LookedFor (asks_of c) v.limits.blocks (search_of v) (search_of v') e) (sym new.is)
+      (subst (λ (j : Kind). GrowsOnMiss j v.limits.blocks (search_of v) (search_of v') e) (sym new.kind_is)
+      (record {
         grows = λ apart. own_miss (grows apart);
         full = λ given says. own_miss (full given says).0;
         few = λ given says. (full given says).1;
@@ -205,16 +208,18 @@ module _ (number : ℕ) (command : Cmd) (kind : Kind) (takes : change_of command
         (sym search) slot_calls)
         kinds (new_lives u w busy x (K + 1) y only at handle handles)
         (new_hand u w busy x (K + 1) y only at handle handles)
-        (subst (λ (x : SearchView). LookedFor (asks_of command) v.limits.blocks (search_of v) x e) (sym search)
-        (looked_for grows (λ given says. (let clash = sym replies ∙ says in cc))))
+        (subst (λ (x : SearchView). LookedFor (asks_of command) v.limits.blocks (search_of v) x e)
+        (sym search) (looked_for grows (λ given says. (let clash = sym replies ∙ says in cc))))
 
   -- an offered slot was taken
   took_it : (slot : Slot) → o ≡ Some slot
       → TakesIt u.numbers u.state (well_formed stepped) e w.state stepped.step slot
       → LeavesBy Zero
   took_it slot is it =
-      stands Zero slot.0 slot.0 (held ∙ ap (λ p. offered K (slot_number p) []) is) refl it.stands.0 it.stands.1 refl
-      same refl (λ b _ _. ap (λ m. kind_word (get m b)) it.stands.2) (λ apart. absurd (apart it.grown)) it.reply
+      stands Zero slot.0 slot.0 (held ∙ ap (λ p. offered K (slot_number p) []) is) refl it.stands.0
+      it.stands.1 refl
+      same refl (λ b _ _. ap (λ m. kind_word (get m b)) it.stands.2) (λ apart. absurd (apart it.grown))
+      it.reply
 
   -- none was offered
   module _ (is_none : o ≡ None) where
@@ -235,18 +240,23 @@ module _ (number : ℕ) (command : Cmd) (kind : Kind) (takes : change_of command
               let limit = ap (λ (n : Numbers). n.blocks) sized in omega (arith, by.2, same_given, limit)),
         )))
     none_offered (One block) by =
-        stands (One block) (64 * block) (block * 64) (ap (λ h. (64 * block, K + 1) ∷ h) empty) (omega arith) by.2.0
-        by.2.1 refl same refl (λ b _ _. word_after u.state.blocks w.state.blocks (handles_of kind) block by.2.2 b) (λ _. is_none)
+        stands (One block) (64 * block) (block * 64) (ap (λ h. (64 * block, K + 1) ∷ h) empty)
+        (omega arith) by.2.0
+        by.2.1 refl same refl (λ b _ _.
+        word_after u.state.blocks w.state.blocks (handles_of kind) block by.2.2 b) (λ _. is_none)
         by.3
     none_offered (Two block other) by =
         let changes : (granted K block other (took u v')).changes ≡ (other, 8) ∷ (block, K + 1) ∷ [] =
         with_data_some other ((block, K + 1) ∷ []) (λ zero_is. absurd (omega (arith, zero_is, by.2.low))) in
-        stands (Two block other) (64 * block) (block * 64) (ap (λ h. (64 * block, K + 1) ∷ h) empty) (omega arith)
+        stands (Two block other) (64 * block) (block * 64) (ap (λ h. (64 * block, K + 1) ∷ h) empty)
+        (omega arith)
         by.3.0 by.3.1 refl same refl
-        (λ b _ _. word_after (map.insert u.state.blocks block (handles_of kind)) w.state.blocks extra_data other
+        (λ b _ _. word_after (map.insert u.state.blocks block (handles_of kind)) w.state.blocks
+        extra_data other
         by.3.2 b
         ∙ ap (cond (other == b) 8)
-        (word_after u.state.blocks (map.insert u.state.blocks block (handles_of kind)) (handles_of kind) block refl b)
+        (word_after u.state.blocks (map.insert u.state.blocks block (handles_of kind))
+        (handles_of kind) block refl b)
         ∙ sym (ap (λ cs. changed cs (ghosts.kind u) b) changes))
         (λ _. is_none) by.4
     none_offered (Back block) by = absurd by
@@ -257,10 +267,13 @@ module _ (number : ℕ) (command : Cmd) (kind : Kind) (takes : change_of command
         new.kind_is
         (grows_by u.numbers u.state (well_formed stepped) e w.state stepped.step new.d new.make new.r
         (subst (λ (c : Cmd). GrowsUnoffered u.numbers u.state c None e) new.is
-        (subst (λ (p : Option Slot). GrowsUnoffered u.numbers u.state command p e) is_none stepped.grows)) does)
+        (subst (λ (p : Option Slot). GrowsUnoffered u.numbers u.state command p e) is_none
+        stepped.grows)) does)
 
-  it : (slot : Slot) → o ≡ Some slot → TakesIt u.numbers u.state (well_formed stepped) e w.state stepped.step slot
-  it slot is = takes_it u.numbers u.state (well_formed stepped) e w.state stepped.step new.d new.make new.r slot
+  it : (slot : Slot) → o ≡ Some slot
+      → TakesIt u.numbers u.state (well_formed stepped) e w.state stepped.step slot
+  it slot is =
+      takes_it u.numbers u.state (well_formed stepped) e w.state stepped.step new.d new.make new.r slot
       (subst (λ (c : Cmd). TakesOffer e c slot) new.is (stepped.takes slot is)) does
 
   leaves_at : (p : Option Slot) → o ≡ p → LeavesBy e.grown
@@ -273,7 +286,8 @@ module _ (number : ℕ) (command : Cmd) (kind : Kind) (takes : change_of command
   -- ---- what a grant asks
 
   abbrev Grants : Grown → Type 0
-  Grants g = GrowsKind (is_paired kind) g × MayGrant ghosts blocks (handle_block g) (extra_block g) (took u v')
+  Grants g =
+      GrowsKind (is_paired kind) g × MayGrant ghosts blocks (handle_block g) (extra_block g) (took u v')
 
   grants : (g : Grown) → g ≢ Zero
       → GrowsBy u.numbers u.state (well_formed stepped) e w.state stepped.step kind g → Grants g

@@ -32,7 +32,8 @@ looks_for_none (cmd.HNew d make r) keeps blocks old new e = cc
 looks_for_none (cmd.Trim kind) keeps blocks old new e = cc
 looks_for_none c keeps blocks old new e = tt
 
-module _ (number : ℕ) (command : Cmd) (keeps : change_of command ≡ Keeps) (u w : WorldView) (v : View WorldView)
+module _ (number : ℕ) (command : Cmd) (keeps : change_of command ≡ Keeps) (u w : WorldView)
+    (v : View WorldView)
     (idle : IsIdle v number) (some : 1 ≤ v.room) (entered : Entered ghosts v u) where
   module _ (e : Entry) (stepped : Stepped u w number command None e) where
     keeps' : change_of e.cmd ≡ Keeps
@@ -44,8 +45,8 @@ module _ (number : ℕ) (command : Cmd) (keeps : change_of command ≡ Keeps) (u
     pub plain_leaves : Leaves number command u w e v (took u v)
     plain_leaves = leaves number command None u w e stepped v (took u v) idle some entered.part entered.sized
         (refl, refl, refl, refl, refl, refl) refl
-        (subst (λ (c : Change). SlotCalls c u.state v.limits.blocks (search_of v) (search_of v) e) (sym keeps) refl)
-        (λ b _ _. ap (λ m. kind_word (get m b))
+        (subst (λ (c : Change). SlotCalls c u.state v.limits.blocks (search_of v) (search_of v) e)
+        (sym keeps) refl) (λ b _ _. ap (λ m. kind_word (get m b))
         (keeps_blocks u.numbers u.state (well_formed stepped) e w.state stepped.step keeps'))
         (λ x _ on. inl (sym (same_live x) ∙ on)) (hand_stays u w (took u v) same_live idle.held)
         (looks_for_none command keeps v.limits.blocks (search_of v) (search_of v) e)

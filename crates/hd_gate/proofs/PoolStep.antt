@@ -77,8 +77,8 @@ module _ (n : Numbers) (s : State) (p : FreeSlots) (tied : IsTied n s p) (e : En
   Follows q change slot grown = MayNote q change slot grown × IsTied n t (noted q change slot grown)
 
   -- whether a slot is free after the step
-  free_after : (x : Slot) (a b : Bool) → is_none (get t.handles x.0) ≡ a → is_some (kind_of_block t (block_of x)) ≡ b
-      → (a && b) ≡ is_free t x
+  free_after : (x : Slot) (a b : Bool) → is_none (get t.handles x.0) ≡ a
+      → is_some (kind_of_block t (block_of x)) ≡ b → (a && b) ≡ is_free t x
   free_after x a b a_is b_is = sym (λ i. a_is i && b_is i)
 
   -- ---- `hnew`
@@ -86,7 +86,8 @@ module _ (n : Numbers) (s : State) (p : FreeSlots) (tied : IsTied n s p) (e : En
   module _ (slot : Slot) (handle : Handle Id) (handles : t.handles ≡ map.insert s.handles slot.0 handle) where
     live_here : (x : Slot) → x.0 ≡ slot.0 → is_none (get t.handles x.0) ≡ false
     live_here x same = ap (λ m. is_none (get m x.0)) handles
-        ∙ ap is_none (ap (get (map.insert s.handles slot.0 handle)) same ∙ get_inserted s.handles slot.0 handle)
+        ∙ ap is_none
+        (ap (get (map.insert s.handles slot.0 handle)) same ∙ get_inserted s.handles slot.0 handle)
 
     live_beside : (x : Slot) → x.0 ≢ slot.0 → is_none (get t.handles x.0) ≡ is_none (get s.handles x.0)
     live_beside x apart = ap (λ m. is_none (get m x.0)) handles
@@ -99,7 +100,8 @@ module _ (n : Numbers) (s : State) (p : FreeSlots) (tied : IsTied n s p) (e : En
       blocks = tied.blocks;
       kinds = λ block. tied.kinds block ∙ sym (ap (λ m. kind_in_use (get m block)) blocks);
       free = λ other. elim (cases_eq other.0 slot.0) [
-        | inl same ↦ remove_same p.free slot.0 other.0 same ∙ free_after other false _ (live_here other same) refl
+        | inl same ↦ remove_same p.free slot.0 other.0 same
+            ∙ free_after other false _ (live_here other same) refl
         | inr apart ↦ remove_other p.free slot.0 other.0 apart ∙ tied.free other
             ∙ free_after other _ _ (live_beside other apart)
             (ap (λ m. is_some (kind_in_use (get m (block_of other)))) blocks)
@@ -108,8 +110,8 @@ module _ (n : Numbers) (s : State) (p : FreeSlots) (tied : IsTied n s p) (e : En
     })
 
     -- a handle was made in the first slot of a block by which the table grew
-    module _ (kind : Kind) (block : ℕ) (unused : use_of s block ≡ None) (first : slot.0 ≡ (first_slot block).0)
-        (has : use_of t block ≡ Some (handles_of kind))
+    module _ (kind : Kind) (block : ℕ) (unused : use_of s block ≡ None)
+        (first : slot.0 ≡ (first_slot block).0) (has : use_of t block ≡ Some (handles_of kind))
         (others : (other : ℕ) → other ≢ block → kind_of_block t other ≡ kind_of_block s other) where
       made_grown : IsTied n t (grown_by p kind block)
       made_grown = record {
@@ -118,7 +120,8 @@ module _ (n : Numbers) (s : State) (p : FreeSlots) (tied : IsTied n s p) (e : En
           | inl same ↦
               ap (get (map.insert p.kinds block kind)) same ∙ get_inserted p.kinds block kind
               ∙ sym (ap kind_in_use (ap (use_of t) same ∙ has))
-          | inr apart ↦ get_beside p.kinds block kind other apart ∙ tied.kinds other ∙ sym (others other apart)
+          | inr apart ↦ get_beside p.kinds block kind other apart ∙ tied.kinds other
+              ∙ sym (others other apart)
         ];
         free = λ other. at other (cases_eq other.0 (first_slot block).0) (cases_eq (block_of other) block);
         well_formed = well;
@@ -135,7 +138,8 @@ module _ (n : Numbers) (s : State) (p : FreeSlots) (tied : IsTied n s p) (e : En
               remove_other (set.union p.free (slots_of block)) (first_slot block).0 other.0 apart
               ∙ union_same block other.0 p.free here
               ∙ free_after other true true
-              (live_beside other (λ e'. apart (e' ∙ first)) ∙ ap is_none (unused_not_live n s p tied block unused other here))
+              (live_beside other (λ e'. apart (e' ∙ first))
+              ∙ ap is_none (unused_not_live n s p tied block unused other here))
               (ap (λ k. is_some (kind_in_use k)) (ap (use_of t) here ∙ has))
           at other (inr apart) (inr away) =
               remove_other (set.union p.free (slots_of block)) (first_slot block).0 other.0 apart
@@ -156,7 +160,8 @@ module _ (n : Numbers) (s : State) (p : FreeSlots) (tied : IsTied n s p) (e : En
 
     by_growth : (grown : Grown) → GrowsBy n s tied.well_formed e t step kind grown
         → Follows p (Takes kind) e.slot grown
-    by_growth Zero by = (tt, unchanged (ap (λ (x : State). x.handles) by.0) (ap (λ (x : State). x.blocks) by.0))
+    by_growth Zero by =
+        (tt, unchanged (ap (λ (x : State). x.handles) by.0) (ap (λ (x : State). x.blocks) by.0))
     by_growth (One block) by = (
       may_grow block by.1,
       made_grown (record { 0 = block * 64 }) by.2.0 by.2.1 kind block by.1.unused refl
@@ -181,7 +186,8 @@ module _ (n : Numbers) (s : State) (p : FreeSlots) (tied : IsTied n s p) (e : En
         )
     by_growth (Back block) by = absurd by
 
-  by_new : (d : ℕ) (make : Make) (r : ℕ) (q : FreeSlots) (o : Option Slot) → Offers p q (Takes (kind_of make)) o
+  by_new : (d : ℕ) (make : Make) (r : ℕ) (q : FreeSlots) (o : Option Slot)
+      → Offers p q (Takes (kind_of make)) o
       → ForSome o (TakesOffer e (cmd.HNew d make r)) → GrowsUnoffered n s (cmd.HNew d make r) o e
       → StepOf n s e t (cmd.HNew d make r) → Follows q (Takes (kind_of make)) e.slot e.grown
   by_new d make r q None offers taken grows does =
@@ -364,8 +370,8 @@ module _ (n : Numbers) (s : State) (p q : FreeSlots) (tied : IsTied n s p) (e : 
   trims_some kind None offers taken some = absurd (some (none_whole_in_state n s p tied kind offers.0))
   trims_some kind (Some slot) offers taken some = (taken slot refl).0
 
--- a call of one thread: its entry may be noted in the pool, which is then tied to the world after it, and its slots
--- and blocks are the least
+-- a call of one thread: its entry may be noted in the pool, which is then tied to the world after it, and its
+-- slots and blocks are the least
 module _ (u w : WorldView) (p q : FreeSlots) (tied : IsTied u.numbers u.state p) (caller : ℕ) (c : Cmd)
     (o : Option Slot) (offers : Offers p q (change_of c) o) (e : Entry) (did : Stepped u w caller c o e) where
   does : StepOf u.numbers u.state e w.state c
@@ -406,7 +412,8 @@ module _ (u w : WorldView) (p q : FreeSlots) (tied : IsTied u.numbers u.state p)
   pub full_exactly : FindsFullExactly u c e.reply
   full_exactly d make r is =
       finds_full u.numbers u.state p q tied e w.state d make r o
-      (subst (λ x. Offers p q (change_of x) o) is offers) (subst (λ x. ForSome o (TakesOffer e x)) is did.takes)
+      (subst (λ x. Offers p q (change_of x) o) is offers)
+      (subst (λ x. ForSome o (TakesOffer e x)) is did.takes)
       (subst (λ x. GrowsUnoffered u.numbers u.state x o e) is did.grows)
       (subst (StepOf u.numbers u.state e w.state) is does)
 

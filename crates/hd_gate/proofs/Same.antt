@@ -21,7 +21,8 @@ still_of s p q of same = record { table = same.table ∙ of.table; numbers = sam
 
 -- and all are still all
 pub still_all : (s : Named) (xs ys : List CallerView) → AreAll s xs → length ys ≡ length xs
-    → ((c : ℕ) (d : CallerView) → c < length xs → IsSameCaller (slice_index_or xs c d) (slice_index_or ys c d))
+    → ((c : ℕ) (d : CallerView) → c < length xs
+    → IsSameCaller (slice_index_or xs c d) (slice_index_or ys c d))
     → AreAll s ys
 still_all s xs ys all long same = record {
   count = long ∙ all.count;
@@ -36,7 +37,8 @@ pub refilled : (xs ys : List CallerView) → length ys ≡ length xs → refill 
 refilled xs ys long = take_at ys (drop (length ys) xs) (length xs) long
 
 pub still_all_lent : (s : Named) (xs ys : List CallerView) → AreAll s xs → length ys ≡ length xs
-    → ((c : ℕ) (d : CallerView) → c < length xs → IsSameCaller (slice_index_or xs c d) (slice_index_or ys c d))
+    → ((c : ℕ) (d : CallerView) → c < length xs
+    → IsSameCaller (slice_index_or xs c d) (slice_index_or ys c d))
     → AreAll s (refill (length xs) xs ys)
 still_all_lent s xs ys all long same = subst (AreAll s) (sym (refilled xs ys long))
     (still_all s xs ys all long same)

@@ -102,7 +102,8 @@ module _ (n : Numbers) (s : State) (well : IsWellFormed n s) (e : Entry) (t : St
   GrowsBy kind (Back block) = ⊥
 
   module _ (d : ℕ) (make : Make) (r : ℕ) where
-    stands_in : (slot : Slot) (u : State) → u.handles ≡ map.insert s.handles slot.0 (made_handle s e.caller make r)
+    stands_in : (slot : Slot) (u : State)
+        → u.handles ≡ map.insert s.handles slot.0 (made_handle s e.caller make r)
         → t ≡ u → (x : ℕ) → slot.0 ≡ x → Stands x u.blocks
     stands_in slot u made after x same = (
       made_handle s e.caller make r,

@@ -18,8 +18,8 @@ use Rattle.hd_pool.specs.Pool.{FreeSlots, slots_of, IsLeastFreeFor, HasNoneFor, 
 use Rattle.hd_gate.specs.declared.change.Change.{Change}
 use Rattle.hd_gate.specs.declared.change.Change.TheVariants.{Takes, Frees, GivesBack, Keeps}
 
--- what a command of a class does to the free slots: `hnew` takes one of its kind, `hfree` frees one, and `trim`
--- gives a whole block of its kind back
+-- what a command of a class does to the free slots: `hnew` takes one of its kind, `hfree` frees one, and
+-- `trim` gives a whole block of its kind back
 abbrev pub change_by : Class → Change
 change_by (class.MakesObject fields) = Keeps
 change_by (class.TakesSlot make t) = Takes (kind_of make)

@@ -29,4 +29,5 @@ pub record IsFirst {W : Type 0} (begun v : View W) (seats spared : ℕ) : Type 0
 -- from number 1 on
 pub record HasEnded (others : List CallerView) (ended : List (ℕ × List Entry)) : Type 0 where
   pub each : (k : ℕ) (e : ℕ × List Entry) → get_elem? ended k ≡ some e
-      → (c : ℕ) × (c < length others) × (e.0 ≡ c + 1) × ((d : CallerView) → e.1 ≡ (slice_index_or others c d).part)
+      → (c : ℕ) × (c < length others) × (e.0 ≡ c + 1)
+      × ((d : CallerView) → e.1 ≡ (slice_index_or others c d).part)

@@ -22,15 +22,15 @@ use Rattle.hd_gate.specs.declared.change.Change.{Change}
 use Rattle.hd_gate.specs.declared.change.Change.TheVariants.{Takes, Frees, GivesBack, Keeps}
 use Rattle.hd_gate.specs.Change.{change_of}
 
--- of the last call that looked for slots or released one: the steps on the shared words, how many such calls there
--- were, and whether the caller held no slot as that one began
+-- of the last call that looked for slots or released one: the steps on the shared words, how many such calls
+-- there were, and whether the caller held no slot as that one began
 pub record SearchView : Type 0 where
   pub trace : List Did
   pub trace_number : ℕ
   pub began_empty : Bool
 
--- a caller: its table with the numbers of the run, its own number, its entries so far, how many more it may add,
--- and its last search
+-- a caller: its table with the numbers of the run, its own number, its entries so far, how many more it may
+-- add, and its last search
 pub record CallerView : Type 0 where
   pub table : TableId
   pub numbers : Numbers
@@ -58,7 +58,8 @@ pub record Begin (given : List ℕ) (callers : List CallerView) : Type 0 where
 
 -- a journal has of each caller exactly its part, and of nobody else an entry
 pub record HasParts (callers : List CallerView) (journal : List Entry) : Type 0 where
-  pub each : (c : ℕ) (d : CallerView) → c < length callers → part_of journal c ≡ (slice_index_or callers c d).part
+  pub each : (c : ℕ) (d : CallerView) → c < length callers
+      → part_of journal c ≡ (slice_index_or callers c d).part
   pub others : (c : ℕ) → length callers ≤ c → part_of journal c ≡ []
 
 -- the same caller, at another time
@@ -73,8 +74,8 @@ pub record OwnSteps (old new : SearchView) : Type 0 where
   pub one : new.trace_number ≡ old.trace_number + 1
   pub began_empty : new.began_empty ≡ true
 
--- between old and new a search for a slot of the kind, in a table of so many blocks, went over all words of the kind
--- and all blocks, and each gave none
+-- between old and new a search for a slot of the kind, in a table of so many blocks, went over all words of
+-- the kind and all blocks, and each gave none
 pub record OwnMiss (kind : Kind) (blocks : ℕ) (old new : SearchView) : Type 0 where
   pub own : OwnSteps old new
   pub miss : WholeMiss (kind_number kind) blocks new.trace
@@ -91,7 +92,8 @@ pub record OwnSweep (kind : Kind) (blocks : ℕ) (old new : SearchView) : Type 0
 pub record GrowsOnMiss (kind : Kind) (blocks : ℕ) (old new : SearchView) (e : Entry) : Type 0 where
   pub grows : e.grown ≢ Zero → OwnMiss kind blocks old new
   pub full : (given : ℕ) → e.reply ≡ reply.Refused (refusal.TableFull given) → OwnMiss kind blocks old new
-  pub few : (given : ℕ) → e.reply ≡ reply.Refused (refusal.TableFull given) → blocks < given + blocks_needed kind
+  pub few : (given : ℕ) → e.reply ≡ reply.Refused (refusal.TableFull given)
+      → blocks < given + blocks_needed kind
 
 -- what was looked for before the entry that says that it is not there; `trim` gives no block back only on a
 -- sweep of its own
@@ -101,8 +103,8 @@ LookedFor (handle_slot kind) blocks old new e = GrowsOnMiss kind blocks old new 
 LookedFor (block_back kind) blocks old new e = e.reply ≡ reply.Value 0 → OwnSweep kind blocks old new
 LookedFor no_room blocks old new e = Unit {0}
 
--- between old and new it released the slot that the entry freed, once, in these steps, as one of the kind that
--- its block had, and looked for none
+-- between old and new it released the slot that the entry freed, once, in these steps, as one of the kind
+-- that its block had, and looked for none
 pub record OwnRelease (before : State) (blocks : ℕ) (old new : SearchView) (e : Entry) : Type 0 where
   pub slot : Slot
   pub kind : Kind
@@ -124,8 +126,8 @@ SlotCalls Frees before blocks old new e = LetsOneGo before blocks old new e
 SlotCalls (GivesBack kind) before blocks old new e = OwnSteps old new
 SlotCalls Keeps before blocks old new e = new ≡ old
 
--- what the caller found under the gate: a journal that is a run of the machine to a state, and in which its own
--- part is what it was as the call began
+-- what the caller found under the gate: a journal that is a run of the machine to a state, and in which its
+-- own part is what it was as the call began
 pub record Found (old : CallerView) : Type 0 where
   pub journal : List Entry
   pub state : State
@@ -137,8 +139,8 @@ pub record HadRoom (old : CallerView) (command : Cmd) : Type 0 where
   pub found : Found old
   pub fits : FitsHeap old.numbers found.state command
 
--- A command was done: the caller has one entry more, with the command and its reply, and room for one less. The
--- entry is a step of the machine from the state that the caller found.
+-- A command was done: the caller has one entry more, with the command and its reply, and room for one less.
+-- The entry is a step of the machine from the state that the caller found.
 pub record HasDone (old new : CallerView) (command : Cmd) (answer : Reply) : Type 0 where
   pub entry : Entry
   pub found : Found old

@@ -51,7 +51,8 @@ pub record Turned (old new : Known WorldView) (caller : ℕ) (command : Cmd) (an
   pub table : new.table ≡ old.table
   pub limits : new.view.limits ≡ old.view.limits
   pub idle : IsIdle new.view caller
-  pub done : HasDone (caller_view_of old caller old.view.room) (caller_view_of new caller new.view.room) command answer
+  pub done : HasDone (caller_view_of old caller old.view.room) (caller_view_of new caller new.view.room)
+      command answer
 
 -- it found no memory: it is idle again, and its caller is as it was
 pub record Stayed (old new : Known WorldView) (caller : ℕ) (command : Cmd) : Type 0 where
@@ -67,9 +68,9 @@ pub record MayStep (u : WorldView) (number : ℕ) (command : Cmd) (offered : Opt
   pub valid : IsValid command
   pub offer : IsOffer u.state command offered
 
--- A command of a caller took one step of the machine, from the world u, whose journal is a run to its state, to the
--- world w, and its entry is the one more of the journal. An offer was taken; without one the table grew, or was found
--- full.
+-- A command of a caller took one step of the machine, from the world u, whose journal is a run to its state,
+-- to the world w, and its entry is the one more of the journal. An offer was taken; without one the table
+-- grew, or was found full.
 pub record Stepped (u w : WorldView) (caller : ℕ) (command : Cmd) (offer : Option Slot) (e : Entry) : Type 0
   where
     pub caller_is : e.caller ≡ caller

@@ -44,7 +44,8 @@ module _ {f : Handle Addr → Bool} {old now : Table} {m k : MarksOf} {a : ℕ}
   cleared_by t {next} {j} ages n b clearing settled basis passed whole =
       let pass : ClearPass ages n t (marked_table now k) (marked_table next j) b =
       subst (λ c. MatchBool c (ClearPass ages n t (marked_table now k) (marked_table next j) b)
-      (RootPass (objects_of k.basis) ages n t (marked_table now k) (marked_table next j) b)) clearing passed in
+      (RootPass (objects_of k.basis) ages n t (marked_table now k) (marked_table next j) b))
+      clearing passed in
       let then : WholeClear (takes t) (marked_table now k) next b =
       subst (λ c. MatchBool c (WholeClear (takes t) (marked_table now k) next b)
       (WholeRoots (objects_of k.basis) n (takes t) (marked_table now k) (marked_table next j))) clearing whole

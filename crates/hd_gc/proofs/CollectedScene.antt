@@ -227,7 +227,8 @@ module _ {A Z : Parts} {t2 : Table} {q2 : Queue} {n : ℕ} {plan : PlanOf} {foun
   few_objects : len Z.heap.objects ≤ len A.heap.objects
   few_objects =
       let (k, of_k) =
-      counts_where (λ x. is_object (object_at A.heap) x ≡ true) (kept_in plan) (len A.heap.objects) (counts_objects A.heap)
+      counts_where (λ x. is_object (object_at A.heap) x ≡ true) (kept_in plan) (len A.heap.objects)
+      (counts_objects A.heap)
       in
       let arrived : Counts (λ x. is_object (object_at Z.heap) x ≡ true) k =
       counts_named Place (λ x. (is_object (object_at A.heap) x ≡ true) × (kept_in plan x ≡ true))
@@ -236,10 +237,12 @@ module _ {A Z : Parts} {t2 : Table} {q2 : Queue} {n : ℕ} {plan : PlanOf} {foun
       (λ b e. let (x, both) = sh.commits.only b e in
       (x, ((sf.keeping.objects x both.0, both.0), both.1))) of_k in
       let same : k ≡ len Z.heap.objects =
-      counts_once (λ x. is_object (object_at Z.heap) x ≡ true) k (len Z.heap.objects) arrived (counts_objects Z.heap) in
+      counts_once (λ x. is_object (object_at Z.heap) x ≡ true) k (len Z.heap.objects) arrived
+      (counts_objects Z.heap) in
       let less : k ≤ len A.heap.objects =
       counts_le (λ x. (is_object (object_at A.heap) x ≡ true) × (kept_in plan x ≡ true))
-      (λ x. is_object (object_at A.heap) x ≡ true) k (len A.heap.objects) (λ x w. w.0) of_k (counts_objects A.heap) in
+      (λ x. is_object (object_at A.heap) x ≡ true) k (len A.heap.objects) (λ x w. w.0) of_k
+      (counts_objects A.heap) in
       omega arith
 
   table_after : IsSameTable A.table Z.table
@@ -273,7 +276,8 @@ module _ {A Z : Parts} {t2 : Table} {q2 : Queue} {n : ℕ} {plan : PlanOf} {foun
       ∙ (sf.sets.kept_is x).1
       (reached_kept n S x (root_reached n S x (held (pinned_held (row_at A.table) x p))))
 
-  pinned_stays : (x : Addr) → IsPinned (row_at A.table) x → (has_object Z.heap x ≡ true) × (id_at Z.heap x ≡ id_at A.heap x)
+  pinned_stays : (x : Addr) → IsPinned (row_at A.table) x
+      → (has_object Z.heap x ≡ true) × (id_at Z.heap x ≡ id_at A.heap x)
   pinned_stays x p =
       let kept : kept_in plan x ≡ true = pinned_kept x p in
       let here : Place x ≡ x = sf.pinned x p in (
@@ -337,13 +341,15 @@ module _ {A Z : Parts} {t2 : Table} {q2 : Queue} {n : ℕ} {plan : PlanOf} {foun
 
   compact_after : n ≡ 2 → IsCompact Z.heap (row_at Z.table)
   compact_after two =
-      let (a, before) = pinned_count A.heap A.table (λ x p. ready.whole.targets p.slot p.handle x p.stands p.target) in
+      let (a, before) =
+      pinned_count A.heap A.table (λ x p. ready.whole.targets p.slot p.handle x p.stands p.target) in
       let (b, after) =
       pinned_count Z.heap Z.table (λ x p. whole_after.targets p.slot p.handle x p.stands p.target) in
       let few : stays_in plan ≤ a =
-      counts_le (λ x. IsCondemned (object_at A.heap) n x × IsPinned (row_at A.table) x) (IsPinned (row_at A.table))
-      (stays_in plan) a (λ x w. w.1) sf.stays before in
-      let more : a ≤ b = counts_le (IsPinned (row_at A.table)) (IsPinned (row_at Z.table)) a b still_pinned before after
+      counts_le (λ x. IsCondemned (object_at A.heap) n x × IsPinned (row_at A.table) x)
+      (IsPinned (row_at A.table)) (stays_in plan) a (λ x w. w.1) sf.stays before in
+      let more : a ≤ b =
+      counts_le (IsPinned (row_at A.table)) (IsPinned (row_at Z.table)) a b still_pinned before after
       in
       let regions : len Z.heap.regions ≤ used_of Z.heap / 193 + 3 + stays_in plan =
       sh.commits.compact (generation_is ∙ two) in

@@ -51,7 +51,8 @@ module _ {f : Handle Addr → Bool} {t now : Table} {m k : MarksOf} (done : IsHo
   held_by task {next} {j} ages n b clearing generation settled basis passed whole =
       let pass : RootPass (objects_of k.basis) ages n task (marked_table now k) (marked_table next j) b =
       subst (λ c. MatchBool c (ClearPass ages n task (marked_table now k) (marked_table next j) b)
-      (RootPass (objects_of k.basis) ages n task (marked_table now k) (marked_table next j) b)) clearing passed
+      (RootPass (objects_of k.basis) ages n task (marked_table now k) (marked_table next j) b)) clearing
+      passed
       in
       let over : WholeRoots (objects_of k.basis) n (takes task) (marked_table now k) (marked_table next j) =
       subst (λ c. MatchBool c (WholeClear (takes task) (marked_table now k) next b)
@@ -142,7 +143,8 @@ all_held {t} {now} {m} {k} w =
       basis = w.basis;
       grows =
           grows_like (IsYoungField o m.basis.condemned) (IsTargetOf (row_at t) (has_role holds))
-          (IsHeld (row_at t)) (promoted_in m) (promoted_in k) (held_target (row_at t)) (target_held (row_at t))
+          (IsHeld (row_at t)) (promoted_in m) (promoted_in k) (held_target (row_at t))
+          (target_held (row_at t))
           roots.promotes;
       pins = λ x young. (
         λ e. ⊎_elim (λ earlier. inl earlier) (λ p. inr (pinned_target (row_at t) x p))

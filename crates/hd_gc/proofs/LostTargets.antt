@@ -63,7 +63,8 @@ module _ {N : Type 0} (s : Scene N) (reach kept : N → Bool) {r1 r2 r3 : Rows N
       → s.handle slot ≡ Some h
   long_before slot h is e = row_before short reach s.handle r1 by_short slot h e is
 
-  pub long_losses : (k : ℕ) → Counts (IsUnder r1 (has_role long) kept) k → Counts (LosesAs s reach kept long) k
+  pub long_losses : (k : ℕ) → Counts (IsUnder r1 (has_role long) kept) k
+      → Counts (LosesAs s reach kept long) k
   long_losses k =
       losses_as long kept r1 k (λ o. refl) (λ slot h is e. long_before slot h (ap (is_role short) is) e)
       (λ slot h is e. row_after short reach s.handle r1 by_short slot h e (ap (is_role short) is))

@@ -140,7 +140,8 @@ module _ {A : Parts} {n s0 s1 : ℕ} {m1 : MarksOf} (ready : IsReady A) (tr : Tr
     abbrev Kept : Addr → Bool
     Kept = promoted_in m3
 
-    revival : Revival (λ x. (id_at A.heap x).0) (record S { handle = row_at t1; named = [] }) n Reach Kept after
+    revival : Revival (λ x. (id_at A.heap x).0) (record S { handle = row_at t1; named = [] }) n Reach
+        Kept after
     revival =
         subst (λ p. Revival (λ x. (id_at A.heap x).0) (record S { handle = row_at t1; named = [] }) n p Kept
         after) same2.promoted rv.revival
@@ -226,8 +227,8 @@ module _ {A : Parts} {n s0 s1 : ℕ} {m1 : MarksOf} (ready : IsReady A) (tr : Tr
                 );
           }
 
-      module _ {plan : PlanOf} {g : Basis} (laid : IsLaid plan) (start : g ≡ basis_of A n) (same : plan.basis ≡ g)
-          (plan_kept : (a : Addr) → kept_in plan a ≡ promoted_in m4 a)
+      module _ {plan : PlanOf} {g : Basis} (laid : IsLaid plan) (start : g ≡ basis_of A n)
+          (same : plan.basis ≡ g) (plan_kept : (a : Addr) → kept_in plan a ≡ promoted_in m4 a)
           (in_place : (a : Addr) → promoted_in m4 a ≡ true → pinned_in m4 a ≡ true → place_in plan a ≡ a)
           (stay : Counts (λ a. IsCondemned (objects_of g) g.condemned a
           × (promoted_in m4 a ≡ true) × (pinned_in m4 a ≡ true)) (stays_in plan)) where

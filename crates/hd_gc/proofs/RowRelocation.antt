@@ -18,7 +18,8 @@ use Rattle.hd_gc.specs.RelocateAll.{NamesKept, IsRenamed}
 module _ (place : Addr → Addr) (ages : List ℕ) (n : ℕ) where
   -- a handle after the kinds whose number is below i
   abbrev pub renamed_below : ℕ → ℕ → Handle Addr → Handle Addr
-  renamed_below i slot h = cond (nat_lt (kind_number h.kind) i && is_due ages n slot) (rename_handle place h) h
+  renamed_below i slot h =
+      cond (nat_lt (kind_number h.kind) i && is_due ages n slot) (rename_handle place h) h
 
   pub record IsRelocating (i : ℕ) (old now : Table) : Type 0 where
     pub rows : (slot : ℕ) → row_at now slot ≡ option_map (renamed_below i slot) (row_at old slot)
@@ -40,7 +41,8 @@ module _ (place : Addr → Addr) (ages : List ℕ) (n : ℕ) where
   one_more : (a b c due : Bool) (h : Handle Addr) → (a ≡ true → b ≡ false) → c ≡ (a || b)
       → relocated (b && due) place (cond (a && due) (rename_handle place h) h)
       ≡ cond (c && due) (rename_handle place h) h
-  one_more a b c due h apart e = by a b due apart ∙ ap (λ v. cond (v && due) (rename_handle place h) h) (sym e)
+  one_more a b c due h apart e =
+      by a b due apart ∙ ap (λ v. cond (v && due) (rename_handle place h) h) (sym e)
     where
       by : (a b due : Bool) → (a ≡ true → b ≡ false)
           → relocated (b && due) place (cond (a && due) (rename_handle place h) h)
@@ -56,7 +58,8 @@ module _ (place : Addr → Addr) (ages : List ℕ) (n : ℕ) where
   kind_kept false h = refl
 
   -- a kind with the number i
-  module _ {i : ℕ} {old now : Table} (done : IsRelocating i old now) (k : Kind) (number : kind_number k ≡ i) where
+  module _ {i : ℕ} {old now : Table} (done : IsRelocating i old now) (k : Kind)
+      (number : kind_number k ≡ i) where
     not_below : (j : Kind) → is_kind k j ≡ true → nat_lt (kind_number j) i ≡ false
     not_below j e =
         let same : kind_number k ≡ kind_number j = eqb-true (kind_number k) (kind_number j) e in
@@ -86,7 +89,8 @@ module _ (place : Addr → Addr) (ages : List ℕ) (n : ℕ) where
 
     pub can_relocate : (kept : Addr → Bool) → NamesKept kept (row_at old) → CanRelocate kept ages n k now
     can_relocate kept w slot h stands visited =
-        let (g, both) = mapped_value (renamed_below i slot) (row_at old slot) h (sym (done.rows slot) ∙ stands) in
+        let (g, both) =
+        mapped_value (renamed_below i slot) (row_at old slot) h (sym (done.rows slot) ∙ stands) in
         let kind_is : h.kind ≡ g.kind = ap (λ (q : Handle Addr). q.kind) (sym both.1) ∙ kind_kept _ g in
         let still : g ≡ h =
         sym (ap (λ b. cond (b && is_due ages n slot) (rename_handle place g) g)

@@ -61,7 +61,8 @@ module _ {A : Parts} {n : ℕ} {m0 m1 m2 m3 m4 : MarksOf} (first : m0 ≡ first_
   settled4 : IsSettled (object_at A.heap) n (promoted_in m4)
   settled4 = settled_over Start m4 basis4 d.settled
 
-  by_fields : Grows (IsYoungField (object_at A.heap) n) (IsOldField A.heap n) (promoted_in m3) (promoted_in m4)
+  by_fields : Grows (IsYoungField (object_at A.heap) n) (IsOldField A.heap n) (promoted_in m3)
+      (promoted_in m4)
   by_fields = subst (GrowsFrom (IsOldField A.heap n) m3 m4) basis3 d.grows
 
   older_object : (x : Addr) → n < generation_at (object_at A.heap) x → is_object (object_at A.heap) x ≡ true
@@ -98,7 +99,8 @@ module _ {A : Parts} {n : ℕ} {m0 m1 m2 m3 m4 : MarksOf} (first : m0 ≡ first_
       ≡ true = subst (λ (m : MarksOf). pinned_in m x ≡ true) first start
       in
       ⊎_elim
-      (λ above. let l : n < generation_at (object_at A.heap) x = ltb-true n (generation_at (object_at A.heap) x) above
+      (λ above. let l : n < generation_at (object_at A.heap) x =
+      ltb-true n (generation_at (object_at A.heap) x) above
       in
       let low : generation_at (object_at A.heap) x ≤ n = young.young in absurd (omega arith))
       (λ in_none. true≢false (sym in_none ∙ contains-empty nat_cmp x.0))
@@ -114,7 +116,8 @@ module _ {A : Parts} {n : ℕ} {m0 m1 m2 m3 m4 : MarksOf} (first : m0 ≡ first_
       → m5.basis ≡ m4.basis → pinned_in m5 ≡ pinned_in m4
       → IsClosure (IsEdge (object_at A.heap) (row_at A.table)) (promoted_in m4) (promoted_in m5)
       → between ≡ before + task_visits A.table A.ages n root_tasks
-      → RescanSteps (visits_of A.table A.ages n kind.Dependent) (promoted_in m4) (promoted_in m5) between after
+      → RescanSteps (visits_of A.table A.ages n kind.Dependent) (promoted_in m4)
+      (promoted_in m5) between after
       → Traced A n m5 before after
   traced_marks {before} {between} {after} {m5} settled basis pinned closure held rescan = record {
     settled = settled;
@@ -136,7 +139,8 @@ module _ {A : Parts} {n : ℕ} {m0 m1 m2 m3 m4 : MarksOf} (first : m0 ≡ first_
       set = promoted_in m4;
       older = settled4.older;
       rescan =
-          subst (λ k. RescanSteps (visits_of A.table A.ages n kind.Dependent) (promoted_in m4) (promoted_in m5) k
+          subst (λ k. RescanSteps (visits_of A.table A.ages n kind.Dependent) (promoted_in m4)
+          (promoted_in m5) k
           after)
           held rescan;
     };

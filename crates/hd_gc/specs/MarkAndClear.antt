@@ -39,7 +39,8 @@ pub record FoundSets (p : Parts) (n : ℕ) (found : Found) : Type 0 where
 pub record MarkedAndCleared (p q : Parts) (n : ℕ) (plan : PlanOf) (found : Found) (before after : ℕ)
     : Type 0 where
   pub sets : FoundSets p n found
-  pub rows : (slot : ℕ) → row_at q.table slot ≡ option_map (cleared sets.reach sets.kept) (row_at p.table slot)
+  pub rows : (slot : ℕ)
+      → row_at q.table slot ≡ option_map (cleared sets.reach sets.kept) (row_at p.table slot)
   pub table : IsSameTable p.table q.table
   pub queue : q.queue ≡ record p.queue { waiting = p.queue.waiting ++ sets.joins }
   pub laid : IsLaid plan

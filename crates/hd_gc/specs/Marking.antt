@@ -55,4 +55,5 @@ pub record Revived (p : Parts) (n : ℕ) (old new : MarksOf) (after : List Addr)
   pub revival :
       Revival (λ x. (id_at p.heap x).0) (scene_of p) n (promoted_in old) (promoted_in new) after
   pub steps : (set : Addr → Bool) × (((x : Addr) → promoted_in old x ≡ true → set x ≡ true)
-      × RescanSteps (visits_of p.table p.ages n kind.Dependent) set (promoted_in new) steps_before steps_after)
+      × RescanSteps (visits_of p.table p.ages n kind.Dependent) set (promoted_in new) steps_before
+      steps_after)

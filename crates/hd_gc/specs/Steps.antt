@@ -16,8 +16,8 @@ all_task_visits t ages n =
     task_visits t ages n root_tasks + task_visits t ages n short_tasks + task_visits t ages n long_tasks
 
 -- the steps up to the plan, of a collection that kept this number of condemned objects: each task makes a
--- pass, and so does the clearing of dependent handles; the two rescans make at least one each, and at most one
--- more each than the objects that they promoted, which are kept
+-- pass, and so does the clearing of dependent handles; the two rescans make at least one each, and at most
+-- one more each than the objects that they promoted, which are kept
 pub record MarkAndClearSteps (t : Table) (ages : List ℕ) (n kept before after : ℕ) : Type 0 where
   pub passes : ℕ
   pub least : 3 ≤ passes

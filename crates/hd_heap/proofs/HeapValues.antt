@@ -155,7 +155,8 @@ put_there old mid r o false free is =
       region = region;
       put = (λ i. record (is i) {
         objects = fin.insert (is i).objects (r * 256 + (region i).fill) o;
-        regions = fin.insert (is i).regions r (record { generation = 0; fill = (region i).fill + cells_of o });
+        regions =
+            fin.insert (is i).regions r (record { generation = 0; fill = (region i).fill + cells_of o });
       })
           ∙ ap (λ rs. record old {
             objects = fin.insert old.objects (r * 256 + (region_at old r).fill) o;
@@ -172,7 +173,8 @@ made old mid new r size at o fits room place region free put =
     subst (λ n. IsRoom old mid n size → at.0 ≡ n * 256 + (region_at mid n).fill
     → new ≡ with_put mid n (region_generation mid n) o → IsMade old new at o) region made_there room place put
   where
-    made_there : IsRoom old mid (region_of at) size → at.0 ≡ region_of at * 256 + (region_at mid (region_of at)).fill
+    made_there : IsRoom old mid (region_of at) size
+        → at.0 ≡ region_of at * 256 + (region_at mid (region_of at)).fill
         → new ≡ with_put mid (region_of at) (region_generation mid (region_of at)) o → IsMade old new at o
     made_there room place put =
         let n = region_of at in
@@ -180,7 +182,8 @@ made old mid new r size at o fits room place region free put =
         record {
           fits = fits;
           place = place ∙ ap (λ (g : Region). n * 256 + g.fill) p.region;
-          was_free = has-get old at ∙ ap (λ m. is_some (fin.get m at.0)) (sym p.objects) ∙ sym (has-get mid at) ∙ free;
+          was_free = has-get old at ∙ ap (λ m. is_some (fin.get m at.0)) (sym p.objects)
+              ∙ sym (has-get mid at) ∙ free;
           young = ap (λ (g : Region). g.generation) (sym p.region) ∙ room.room.young;
           full = room.full;
           first = room.first;
@@ -206,14 +209,17 @@ pub record IsCopied (h now : Heap) (from copy : Addr) (o : Placed) : Type 0 wher
   pub from_is : placed_at now from ≡ placed_at h from
   pub fields : fields_at (object_at now) from ≡ fields_at (object_at h) from
 
-module _ (h : Heap) (from copy : Addr) (r : ℕ) (is : has_object h from ≡ true) (free : has_object h copy ≡ false)
+module _ (h : Heap) (from copy : Addr) (r : ℕ) (is : has_object h from ≡ true)
+    (free : has_object h copy ≡ false)
     (place : copy.0 ≡ r * 256 + (region_at h r).fill) where
-  pub put_read : (now : Heap) (o : Placed) → now ≡ with_put h r (region_generation h r) o → IsCopied h now from copy o
+  pub put_read : (now : Heap) (o : Placed) → now ≡ with_put h r (region_generation h r) o
+      → IsCopied h now from copy o
   put_read now o put =
       let objects : now.objects ≡ fin.insert h.objects copy.0 o = ap (λ (x : Heap). x.objects) put
       ∙ ap (λ k. fin.insert h.objects k o) (sym place) in
       let apart : from.0 ≢ copy.0 = λ e. both_ways _
-      (sym (has-get h copy ∙ ap (λ k. is_some (fin.get h.objects k)) (sym e)) ∙ free) (sym (has-get h from) ∙ is) in
+      (sym (has-get h copy ∙ ap (λ k. is_some (fin.get h.objects k)) (sym e)) ∙ free)
+      (sym (has-get h from) ∙ is) in
       let got = ap (λ m. fin.get m copy.0) objects ∙ get_inserted h.objects copy.0 o in
       let was = ap (λ m. fin.get m from.0) objects ∙ get_other h.objects copy.0 from.0 o apart in
       let from_there = has-get now from ∙ ap is_some was ∙ sym (has-get h from) ∙ is in
@@ -250,7 +256,8 @@ pub record IsCopying (h now : Heap) (from : Addr) (r i : ℕ) : Type 0 where
 
 pub copying_starts : (h now : Heap) (from : Addr) (r : ℕ) (id : Id) (count : ℕ) (on : Bool) (v : ℕ)
     → now ≡ with_put h r (region_generation h r) (record (new_object id count on) { value = v })
-    → id ≡ (placed_at h from).id → count ≡ length (placed_at h from).fields → on ≡ (placed_at h from).registered
+    → id ≡ (placed_at h from).id → count ≡ length (placed_at h from).fields
+    → on ≡ (placed_at h from).registered
     → v ≡ (placed_at h from).value → IsCopying h now from r 0
 copying_starts h now from r id count on v is id_is count_is on_is v_is = record {
   object = record (new_object id count on) { value = v };
@@ -265,7 +272,8 @@ copying_starts h now from r id count on v is id_is count_is on_is v_is = record 
   done = λ j below. absurd (omega (arith, below));
 }
 
-pub copying_next : (h now new : Heap) (from copy : Addr) (r i : ℕ) (v : Option Addr) → has_object h from ≡ true
+pub copying_next : (h now new : Heap) (from copy : Addr) (r i : ℕ) (v : Option Addr)
+    → has_object h from ≡ true
     → has_object h copy ≡ false → copy.0 ≡ r * 256 + (region_at h r).fill → IsCopying h now from r i
     → i < length (placed_at h from).fields → v ≡ get_or (placed_at h from).fields i None
     → new ≡ with_object now copy (with_field (placed_at now copy) i v) → IsCopying h new from r (i + 1)

@@ -45,7 +45,8 @@ module _ {areas : List Area} {spares : List ℕ} {limit capacity cells objects h
     (heap : IsHeap areas spares limit capacity (cells, objects, holds) current h) where
   -- the address of an object is read as it was written
   pub address_stored : (a : Addr) → has_object h a ≡ true → address a.0 ≡ Some a
-  address_stored a is = address_is a.0 (λ e. let p = (found heap a is).2.home.place in omega (arith, e, p.number))
+  address_stored a is =
+      address_is a.0 (λ e. let p = (found heap a is).2.home.place in omega (arith, e, p.number))
 
   -- a region gets another generation
   pub generation_changed : {r k : ℕ} {a : Area} (g d : ℕ) → IsHeldAt areas h r k a → g ≤ 2
@@ -68,7 +69,8 @@ module _ {areas : List Area} {spares : List ℕ} {limit capacity cells objects h
       (regions_put at.place b (seen b) (in_use b at.held)
       ∙ (λ i. fin.insert (heap.view i).regions r (record { generation = g; fill = (sym at.region i).fill })))
       refl refl (cards_same at.place b (λ j. refl) ∙ ap (λ (x : Heap). x.cards) heap.view) (used_is heap) refl
-      (count_is heap) (λ full. subst (AreOthersFull (with_generation h r g)) (sym known) (others_raised h current r g full))
+      (count_is heap) (λ full.
+      subst (AreOthersFull (with_generation h r g)) (sym known) (others_raised h current r g full))
 
   -- the card of an object is set or cleared
   pub card_changed : (at : Addr) {k : ℕ} {a : Area} (on : Bool) → IsFound areas h at k a
@@ -104,8 +106,8 @@ module _ {areas : List Area} {spares : List ℕ} {limit capacity cells objects h
       ] in
       let marks : cards_in (set areas k b) ≡ cond on (set_of.insert old_cards (at.0 / 32))
       (set_of.remove old_cards (at.0 / 32)) = same_sets (λ c. elim (cases_eq c (at.0 / 32)) [
-        | inl same ↦ card_here place b c (omega (arith, same)) ∙ ap (card_in (Some b)) (omega (arith, same)) ∙ here
-            ∙ sym (ap (set_of.contains (cond on (set_of.insert old_cards (at.0 / 32))
+        | inl same ↦ card_here place b c (omega (arith, same)) ∙ ap (card_in (Some b)) (omega (arith, same))
+            ∙ here ∙ sym (ap (set_of.contains (cond on (set_of.insert old_cards (at.0 / 32))
             (set_of.remove old_cards (at.0 / 32)))) same ∙ marked_here old_cards (at.0 / 32) on)
         | inr apart ↦ elsewhere c apart ∙ sym (marked_other old_cards (at.0 / 32) c on apart)
       ]) in
@@ -145,14 +147,16 @@ module _ {areas : List Area} {spares : List ℕ} {limit capacity cells objects h
         registered = on;
       } in
       let fill : (contents a).fill ≡ (region_at h r).fill = ap (λ (x : Region). x.fill) (sym at.region) in
-      let added = objects_put at.place b (contents a).fill o (omega arith) (ap (λ (c : Contents). c.objects) put)
+      let added =
+      objects_put at.place b (contents a).fill o (omega arith) (ap (λ (c : Contents). c.objects) put)
       ∙ (λ i. fin.insert (heap.view i).objects (r * 256 + fill i) (blank i)) in
       let sizes : size_of o ≡ cells_of p = sym (cells_placed o) ∙ ap cells_of blank in
       let none = free_here at (omega arith) free in
       let sum = sum-insert cells_of h.objects (r * 256 + (region_at h r).fill) p in
       let share_none = ap (share cells_of) none in
       let nulls = length-replicate n (let x : Option Addr = None in x) in
-      heap_set at.place b heap (cells + (n + 3)) (objects + 1) current (with_put h r (region_generation h r) p) new at.held held
+      heap_set at.place b heap (cells + (n + 3)) (objects + 1) current
+      (with_put h r (region_generation h r) p) new at.held held
       added
       (regions_put at.place b (seen b) (in_use b held) ∙ (λ i. fin.insert (heap.view i).regions r (record {
         generation = (generation ∙ ap (λ (x : Region). x.generation) (sym at.region)) i;
@@ -165,8 +169,8 @@ module _ {areas : List Area} {spares : List ℕ} {limit capacity cells objects h
       (others_placed h current r p at.there)
 
   -- an object was removed from its region
-  pub object_removed : (at : Addr) {k : ℕ} {a : Area} (b : Area) (size : ℕ) → IsFound areas h at k a → IsArea b
-      → IsTaken a b (at.0 % 256) size → IsHeap (set areas k b) spares limit capacity
+  pub object_removed : (at : Addr) {k : ℕ} {a : Area} (b : Area) (size : ℕ) → IsFound areas h at k a
+      → IsArea b → IsTaken a b (at.0 % 256) size → IsHeap (set areas k b) spares limit capacity
       (cells - size, objects - 1, holds) current
       (record h { objects = fin.remove h.objects at.0; cards = cards_in (set areas k b) })
   object_removed at {k} {a} b size f new taken =
@@ -185,8 +189,8 @@ module _ {areas : List Area} {spares : List ℕ} {limit capacity cells objects h
       (Some (record { generation = taken.generation i; fill = (taken.removed i).fill })) None)
       ∙ ap (λ (x : Heap). x.regions) heap.view)
       refl refl refl (omega (arith, sums, size_is, taken.size, used_is heap))
-      (omega (arith, taken.live, sums, size_is, taken.size, used_is heap)) (omega (arith, lens, count_is heap))
-      (λ x. x)
+      (omega (arith, taken.live, sums, size_is, taken.size, used_is heap))
+      (omega (arith, lens, count_is heap)) (λ x. x)
 
   -- what is removed was counted
   pub counted : (at : Addr) {k : ℕ} {a : Area} (b : Area) (size : ℕ) → IsFound areas h at k a
@@ -201,10 +205,13 @@ module _ {areas : List Area} {spares : List ℕ} {limit capacity cells objects h
 
 -- the cards after an object was removed
 module _ {areas : List Area} {spares : List ℕ} {limit capacity cells objects holds current : ℕ} {h : Heap}
-    (heap : IsHeap areas spares limit capacity (cells, objects, holds) current h) (at : Addr) {k : ℕ} {a : Area}
-    (b : Area) (size : ℕ) (f : IsFound areas h at k a) (new : IsArea b) (taken : IsTaken a b (at.0 % 256) size)
+    (heap : IsHeap areas spares limit capacity (cells, objects, holds) current h) (at : Addr) {k : ℕ}
+    {a : Area}
+    (b : Area) (size : ℕ) (f : IsFound areas h at k a) (new : IsArea b)
+    (taken : IsTaken a b (at.0 % 256) size)
     {after : Heap}
-    (now : IsHeap (set areas k b) spares limit capacity (cells - size, objects - 1, holds) current after) where
+    (now : IsHeap (set areas k b) spares limit capacity (cells - size, objects - 1, holds) current
+    after) where
   there : (x : Addr) → x.0 / 256 ≡ at.0 / 256 → has_object after x ≡ is_some
       (fin.get (contents b).objects (x.0 % 256))
   there x same = has_there now x b (ap (area_at (set areas k b)) same ∙ area_here f.home.place b)
@@ -222,7 +229,8 @@ module _ {areas : List Area} {spares : List ℕ} {limit capacity cells objects h
   removed_cards removed = record {
     removed = removed;
     others = λ c apart. ap (λ (x : Heap). is_set x c) (sym now.view) ∙ elim (cases_eq (c / 8) (at.0 / 256)) [
-      | inl same ↦ card_here f.home.place b c same ∙ taken.others (c % 8) (λ e. apart (omega (arith, e, same)))
+      | inl same ↦ card_here f.home.place b c same
+          ∙ taken.others (c % 8) (λ e. apart (omega (arith, e, same)))
           ∙ sym (was c ∙ card_was f.home.place b c same)
       | inr other ↦ card_other f.home.place b c other ∙ sym (was c)
     ];
@@ -235,6 +243,7 @@ module _ {areas : List Area} {spares : List ℕ} {limit capacity cells objects h
         let within = new.laid_out.within_region in
         let x : Addr = record { 0 = (at.0 / 256) * 256 + j } in
         let offset : x.0 % 256 ≡ j = omega arith in
-        let there_is = there x (omega arith) ∙ ap (λ n. is_some (fin.get (contents b).objects n)) offset ∙ is in
+        let there_is = there x (omega arith) ∙ ap (λ n. is_some (fin.get (contents b).objects n)) offset
+        ∙ is in
         none x there_is (omega (arith, e, fits, within)));
   }

@@ -113,7 +113,8 @@ pub has-get : (h : Heap) (a : Addr) → has_object h a ≡ is_some (fin.get h.ob
 has-get h a = is_some_map _ (fin.get h.objects a.0)
 
 -- the fields of a heap, with its numbers of cells, of objects and of regions in use, and its value
-pub record IsHeap (areas : List Area) (spares : List ℕ) (limit capacity : ℕ) (counts : ℕ × ℕ × ℕ) (current : ℕ)
+pub record IsHeap (areas : List Area) (spares : List ℕ) (limit capacity : ℕ) (counts : ℕ × ℕ × ℕ)
+    (current : ℕ)
     (h : Heap) : Type 0 where
   pub view : heap_of areas spares limit ≡ h
   pub kept : IsKept areas spares capacity counts.0 counts.1 counts.2
@@ -122,7 +123,8 @@ pub record IsHeap (areas : List Area) (spares : List ℕ) (limit capacity : ℕ)
 pub opened : (s : Inside) {h : Heap} → heap_of s.areas.items s.spare.items s.limit ≡ h
     → IsKept s.areas.items s.spare.items (deque_capacity s.spare) s.used s.count s.held
     × AreOthersFull (heap_of s.areas.items s.spare.items s.limit) s.current
-    → IsHeap s.areas.items s.spare.items s.limit (deque_capacity s.spare) (s.used, s.count, s.held) s.current h
+    → IsHeap s.areas.items s.spare.items s.limit (deque_capacity s.spare)
+    (s.used, s.count, s.held) s.current h
 opened s view invariant = record { view = view; kept = invariant.0; full = invariant.1 }
 
 module _ {areas : List Area} {spares : List ℕ} {limit capacity cells objects holds current : ℕ} {h : Heap}
@@ -223,7 +225,8 @@ module _ {areas : List Area} {spares : List ℕ} {limit capacity cells objects h
       → x ≡ get_or areas k x → IsFound areas h at k x
   found_read at is k e x read =
       let p = (found at is).2.home.place in
-      found_at at (place_read areas (at.0 / 256) k x (omega (arith, e, p.number)) (index_of at is k e) read) is
+      found_at at (place_read areas (at.0 / 256) k x (omega (arith, e, p.number))
+      (index_of at is k e) read) is
 
   pub held_read : (r : ℕ) → is_in_use h r ≡ true → (k : ℕ) → k ≡ r - 1 → (x : Area) → x ≡ get_or areas k x
       → IsHeldAt areas h r k x

@@ -22,11 +22,12 @@ use Rattle.hd_heap.proofs.RegionWrites.{same_maps, same_sets, objects_same, regi
 use Rattle.hd_heap.proofs.FullRegions.{others_fresh, others_left, others_unknown}
 
 -- what holds of each number of a list, and of one more
-pushed : (P : ℕ → Type 0) (ns : List ℕ) (n : ℕ) → ((i : ℕ) → i < length ns → P (get_or ns i 0)) → P n → (i : ℕ)
-    → i < length (ns ++ n ∷ []) → P (get_or (ns ++ n ∷ []) i 0)
+pushed : (P : ℕ → Type 0) (ns : List ℕ) (n : ℕ) → ((i : ℕ) → i < length ns → P (get_or ns i 0)) → P n
+    → (i : ℕ) → i < length (ns ++ n ∷ []) → P (get_or (ns ++ n ∷ []) i 0)
 pushed P ns n old new i below = elim (cases_lt i (length ns)) [
   | inl inside ↦ subst P (sym (get_or_append_left ns (n ∷ []) 0 i inside)) (old i inside)
-  | inr past ↦ subst P (sym (get_or_push ns n 0 i (omega (arith, past, below, length-append ns (n ∷ []))))) new
+  | inr past ↦
+      subst P (sym (get_or_push ns n 0 i (omega (arith, past, below, length-append ns (n ∷ []))))) new
 ]
 
 pushed_apart : (ns : List ℕ) (n : ℕ) → ((i j : ℕ) → i < j → j < length ns → get_or ns i 0 ≢ get_or ns j 0)
@@ -97,17 +98,20 @@ module _ (areas : List Area) (b : Area) where
 module _ {areas : List Area} {spares : List ℕ} {limit capacity cells objects holds current : ℕ} {h : Heap}
     (heap : IsHeap areas spares limit capacity (cells, objects, holds) current h) where
   -- the heap where the objects and cards are as before
-  heap_moved : {areas2 : List Area} {spares2 : List ℕ} {capacity2 holds2 d : ℕ} (rs : fin.FinMap nat_cmp Region)
+  heap_moved : {areas2 : List Area} {spares2 : List ℕ} {capacity2 holds2 d : ℕ}
+      (rs : fin.FinMap nat_cmp Region)
       (ns : List ℕ) → ((q : ℕ) (x : Area) → area_at areas2 q ≡ Some x → IsArea x) → length areas2 < 2 ^ 24
       → sum_by (λ (x : Area). x.live) areas2 ≡ sum_by (λ (x : Area). x.live) areas
       → objects_in areas2 ≡ objects_in areas → cards_in areas2 ≡ cards_in areas → regions_in areas2 ≡ rs
-      → holds2 ≡ fin.len rs → spares2 ≡ ns → holds2 + length spares2 ≡ length areas2 → length areas2 ≤ capacity2
+      → holds2 ≡ fin.len rs → spares2 ≡ ns → holds2 + length spares2 ≡ length areas2
+      → length areas2 ≤ capacity2
       → ((i : ℕ) → i < length spares2 → IsSpare areas2 (get_or spares2 i 0))
       → ((i j : ℕ) → i < j → j < length spares2 → get_or spares2 i 0 ≢ get_or spares2 j 0)
       → (AreOthersFull h current → AreOthersFull (record h { regions = rs; spare = ns }) d)
-      → IsHeap areas2 spares2 limit capacity2 (cells, objects, holds2) d (record h { regions = rs; spare = ns })
-  heap_moved {areas2} {spares2} {capacity2} {holds2} rs ns each few lives same_objects same_cards regions held list
-      parted room spare apart step =
+      → IsHeap areas2 spares2 limit capacity2 (cells, objects, holds2) d
+      (record h { regions = rs; spare = ns })
+  heap_moved {areas2} {spares2} {capacity2} {holds2} rs ns each few lives same_objects same_cards regions
+      held list parted room spare apart step =
       let kept : IsKept areas2 spares2 capacity2 cells objects holds2 = record {
         each = each;
         few = few;
@@ -157,7 +161,8 @@ module _ {areas : List Area} {spares : List ℕ} {limit capacity cells objects h
       let some : 0 < length spares = omega (arith, lengths, ap (λ (y : Heap). length y.spare) heap.view) in
       let first : n ≡ get_or spares 0 0 = get_or_read spares 0 n some is 0 in
       let s = heap.kept.spare 0 some in
-      let p = place_read areas n k x (omega (arith, first, e, s.low)) (omega (arith, first, e, s.low, s.high)) read in
+      let p = place_read areas n k x (omega (arith, first, e, s.low))
+      (omega (arith, first, e, s.low, s.high)) read in
       let free = false_from_ne_true _ (λ held. let e = sym (in_use x held) ∙ sym (ap region_in p.here)
       ∙ ap (λ m. region_in (area_at areas m)) first ∙ s.free in absurd (cc e)) in
       record {
@@ -197,7 +202,8 @@ module _ {areas : List Area} {spares : List ℕ} {limit capacity cells objects h
       (λ i below.
       let inside : 1 + i < length spares = omega (arith, length-drop 1 spares, below) in
       subst (IsSpare (set areas k b)) (sym (get_or-drop 1 spares i 0))
-      (spare_set p b (get_or spares (1 + i) 0) (λ e. heap.kept.apart 0 (1 + i) (omega arith) inside (sym (e ∙ at.first)))
+      (spare_set p b (get_or spares (1 + i) 0)
+      (λ e. heap.kept.apart 0 (1 + i) (omega arith) inside (sym (e ∙ at.first)))
       (heap.kept.spare (1 + i) inside)))
       (λ i j order below e. heap.kept.apart (1 + i) (1 + j) (omega (arith, order))
       (omega (arith, length-drop 1 spares, below))
@@ -228,7 +234,8 @@ module _ {areas : List Area} {spares : List ℕ} {limit capacity cells objects h
       let p = at.place in
       let bare_b = λ (j : ℕ) (there : IsObject (contents b) j). none_in_empty j
       (subst (λ (c : Contents). IsObject c j) empty there) in
-      let nothing : (contents b).objects ≡ (contents a).objects = same_maps (λ q. absent (contents b) q (bare_b q)
+      let nothing : (contents b).objects ≡ (contents a).objects =
+      same_maps (λ q. absent (contents b) q (bare_b q)
       ∙ sym (absent (contents a) q (bare at no_object q))) in
       let none = not_in_use b free in
       let lens = len_less h.regions r at.there in
@@ -238,7 +245,8 @@ module _ {areas : List Area} {spares : List ℕ} {limit capacity cells objects h
       ∙ (heap.kept.spare i below).free)) at.there in
       heap_lists refl more
       (heap_moved (fin.remove h.regions r) (h.spare ++ r ∷ []) (each_set p b new heap.kept.each)
-      (omega (arith, length_new, heap.kept.few)) (omega (arith, lives_set p b, live)) (objects_same p b nothing)
+      (omega (arith, length_new, heap.kept.few)) (omega (arith, lives_set p b, live))
+      (objects_same p b nothing)
       (cards_same p b (λ j. no_cards b new bare_b j ∙ sym (no_cards a at.area (bare at no_object) j)))
       (regions_gone p b none ∙ ap (λ (y : Heap). fin.remove y.regions r) heap.view)
       (omega (arith, lens, held_is)) (ap (λ (y : Heap). y.spare ++ r ∷ []) heap.view)
@@ -256,7 +264,8 @@ module _ {areas : List Area} {spares : List ℕ} {limit capacity cells objects h
   pub region_added : (b : Area) {areas2 : List Area} {spares2 : List ℕ} {capacity2 : ℕ} (n : ℕ) → IsArea b
       → b.held ≡ false → contents b ≡ empty_region → b.live ≡ 0 → areas2 ≡ areas ++ b ∷ []
       → n ≡ length areas + 1 → n < 2 ^ 24 → spares2 ≡ spares ++ n ∷ [] → length areas + 1 ≤ capacity2
-      → IsHeap areas2 spares2 limit capacity2 (cells, objects, holds) current (record h { spare = h.spare ++ n ∷ [] })
+      → IsHeap areas2 spares2 limit capacity2 (cells, objects, holds) current
+      (record h { spare = h.spare ++ n ∷ [] })
   region_added b n new free empty live areas_are n_is small spares_are room =
       let bare : (j : ℕ) → ¬ (IsObject (contents b) j) = λ j there. none_in_empty j
       (subst (λ (c : Contents). IsObject c j) empty there) in
@@ -266,9 +275,15 @@ module _ {areas : List Area} {spares : List ℕ} {limit capacity cells objects h
       heap_lists areas_are spares_are
       (heap_moved h.regions (h.spare ++ n ∷ []) (each_push areas b new heap.kept.each)
       (omega (arith, lengths, n_is, small))
-      (omega (arith, sum_by-append (λ (x : Area). x.live) areas (b ∷ []), sum_by-cons (λ (x : Area). x.live) b [], live))
+      (omega (
+        arith,
+        sum_by-append (λ (x : Area). x.live) areas (b ∷ []),
+        sum_by-cons (λ (x : Area). x.live) b [],
+        live,
+      ))
       (same_maps (λ q. get-objects list q ∙ reads_push areas b (λ o. placed_in o (q % 256)) (q / 256)
-      (ap (option_map placed_of) (absent (contents b) (q % 256) (bare (q % 256)))) ∙ sym (get-objects areas q)))
+      (ap (option_map placed_of) (absent (contents b) (q % 256) (bare (q % 256))))
+      ∙ sym (get-objects areas q)))
       (same_sets (λ c. contains-cards list c ∙ reads_push areas b (λ o. card_in o (c % 8)) (c / 8)
       (no_cards b new bare (c % 8)) ∙ sym (contains-cards areas c)))
       (same_maps (λ q. get-regions list q ∙ reads_push areas b region_in q none ∙ sym (get-regions areas q))
@@ -286,8 +301,8 @@ module _ {areas : List Area} {spares : List ℕ} {limit capacity cells objects h
         free = reads_push areas b region_in n none ∙ ap (λ m. region_in (area_at areas m)) n_is
             ∙ ap region_in (area_beyond areas b);
       }))
-      (pushed_apart spares n heap.kept.apart (λ i below e. omega (arith, e, (heap.kept.spare i below).high, n_is)))
-      (λ x. x))
+      (pushed_apart spares n heap.kept.apart
+      (λ i below e. omega (arith, e, (heap.kept.spare i below).high, n_is))) (λ x. x))
 
 -- a heap without regions
 pub no_regions : (areas : List Area) (spares : List ℕ) (limit capacity : ℕ) → areas ≡ [] → spares ≡ []

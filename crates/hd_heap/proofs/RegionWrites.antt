@@ -52,12 +52,14 @@ module _ {areas : List Area} {r k : ℕ} {a : Area} (p : IsPlace areas r k a) (b
   objects_changed off w low change q =
       let at = r * 256 + off in
       let old = get-objects areas q in
-      let later = λ (apart : q ≢ at). found_later q at (option_map placed_of w) (fin.get (objects_in areas) q) apart in
+      let later = λ (apart : q ≢ at).
+      found_later q at (option_map placed_of w) (fin.get (objects_in areas) q) apart in
       get-objects (set areas k b) q ∙ elim (cases_eq (q / 256) r) [
         | inl same ↦ reads_here (λ o. placed_in o (q % 256)) (q / 256) same
             ∙ ap (option_map placed_of) (change (q % 256)) ∙ elim (cases_eq (q % 256) off) [
               | inl is ↦ ap (option_map placed_of) (found_here (q % 256) off w _ is)
-                  ∙ sym (found_here q at (option_map placed_of w) (fin.get (objects_in areas) q) (omega arith))
+                  ∙ sym (found_here q at (option_map placed_of w) (fin.get (objects_in areas) q)
+                  (omega arith))
               | inr apart ↦ ap (option_map placed_of) (found_later (q % 256) off w _ apart)
                   ∙ sym (old ∙ ap (λ n. placed_in (area_at areas n) (q % 256)) same
                   ∙ ap (λ o. placed_in o (q % 256)) p.here) ∙ sym (later (λ e. apart (omega (arith, e))))
@@ -163,8 +165,8 @@ module _ {areas : List Area} {r k : ℕ} {a : Area} (p : IsPlace areas r k a) (b
       → cards_in (set areas k b) ≡ new.cards → cells2 ≡ used_of new → cells2 + a.live ≡ cells + b.live
       → objects2 ≡ fin.len new.objects → (AreOthersFull h current → AreOthersFull new current2)
       → IsHeap (set areas k b) spares limit capacity (cells2, objects2, holds) current2 new
-  heap_set {spares} {holds = holds} heap cells2 objects2 current2 new area was held objects regions spare limit
-      cards used lives count step =
+  heap_set {spares} {holds = holds} heap cells2 objects2 current2 new area was held objects regions
+      spare limit cards used lives count step =
       let kept = heap.kept in
       let there : is_some (fin.get (regions_in areas) r) ≡ true =
       ap is_some (get-regions areas r ∙ ap region_in p.here ∙ in_use a was) in
@@ -213,29 +215,35 @@ part_within o (Registered on) has = has
 part_within o (Field i n) has = omega (arith, has, length-map o.fields address)
 
 -- a part of an object is written
-pub part_written : {areas : List Area} {spares : List ℕ} {limit capacity cells objects holds current : ℕ} {h : Heap}
-    → IsHeap areas spares limit capacity (cells, objects, holds) current h → (at : Addr) {k : ℕ} {a : Area} (b : Area)
+pub part_written : {areas : List Area} {spares : List ℕ} {limit capacity cells objects holds current : ℕ}
+    {h : Heap}
+    → IsHeap areas spares limit capacity (cells, objects, holds) current h
+    → (at : Addr) {k : ℕ} {a : Area} (b : Area)
     (p : Part) → IsFound areas h at k a → IsArea b → IsWritten a b (at.0 % 256) p
     → IsHeap (set areas k b) spares limit capacity (cells, objects, holds) current
     (with_object h at (with_part (placed_at h at) p))
-part_written {areas} {cells = cells} {objects = objects} {current = current} {h = h} heap at {k} {a} b p f new w =
+part_written {areas} {cells = cells} {objects = objects} {current = current} {h = h} heap at {k} {a} b p f
+    new w =
     let place = f.home.place in
     let old = object_in_region (contents a) (at.0 % 256) in
     let o = with_part (placed_at h at) p in
-    let is : placed_of (region_with_part old p) ≡ o = part_placed old p ∙ ap (λ x. with_part x p) (sym f.placed) in
+    let is : placed_of (region_with_part old p) ≡ o =
+    part_placed old p ∙ ap (λ x. with_part x p) (sym f.placed) in
     let whole : (at.0 / 256) * 256 + at.0 % 256 ≡ at.0 = omega arith in
     let put : objects_in (set areas k b) ≡ fin.insert h.objects at.0 o =
     objects_put place b (at.0 % 256) (region_with_part old p) (omega arith)
     (ap (λ (c : Contents). c.objects) w.contents_are)
     ∙ (λ i. fin.insert (heap.view i).objects (whole i) (is i)) in
     let regions : region_in (Some b) ≡ region_in (Some a) =
-    λ i. cond (w.held i) (Some (record { generation = w.generation i; fill = (w.contents_are i).fill })) None in
+    λ i. cond (w.held i)
+    (Some (record { generation = w.generation i; fill = (w.contents_are i).fill })) None in
     let sums = sum-insert cells_of h.objects at.0 o in
     let was : share cells_of (fin.get h.objects at.0) ≡ cells_of (placed_at h at) =
     ap (share cells_of) (f.get ∙ ap Some (sym f.placed)) in
     let used = heap.kept.used ∙ ap used_of heap.view in
     let size = part_cells (placed_at h at) p in
-    heap_set place b heap cells objects current (with_object h at o) new f.home.held (w.held ∙ f.home.held) put
+    heap_set place b heap cells objects current (with_object h at o) new f.home.held
+    (w.held ∙ f.home.held) put
     (regions_same place b regions ∙ ap (λ (x : Heap). x.regions) heap.view) refl refl
     (cards_same place b (λ j. ap (λ bs. get_or bs j false) w.cards) ∙ ap (λ (x : Heap). x.cards) heap.view)
     (omega (arith, sums, was, used, size)) (omega (arith, w.live))

@@ -27,8 +27,8 @@ AreOthersFull h current =
     (r : ℕ) → current ≢ 0 → is_in_use h r ≡ true → region_generation h r ≡ 0 → r ≢ current
     → LEFT ≤ (region_at h r).fill
 
--- there is such a region. It was in use; or all of generation 0 are full, and it is the first free one, or one
--- for which memory was taken
+-- there is such a region. It was in use; or all of generation 0 are full, and it is the first free one, or
+-- one for which memory was taken
 pub record IsRoom (old new : Heap) (region cells : ℕ) : Type 0 where
   pub room : HasRoom new region cells
   pub full : is_in_use old region ≡ false → AreFull old

@@ -15,7 +15,8 @@ use Rattle.hd_mark.proofs.MarkBits.{bit_read, bit_joins}
 use Rattle.hd_mark.proofs.UnmarkedCount.{left_falls}
 use Rattle.hd_mark.proofs.MarkDrain.{is_young}
 
-module _ (b : Basis) (places : List (Option ℕ)) (regions : ℕ) (marks pins : List ℕ) (stack : List Addr) (room : ℕ)
+module _ (b : Basis) (places : List (Option ℕ)) (regions : ℕ) (marks pins : List ℕ) (stack : List Addr)
+    (room : ℕ)
     (t : IsTrace b places regions marks pins stack room) where
   -- what is seen of the fields
   abbrev pub seen : List ℕ → List ℕ → List Addr → MarksOf

@@ -1,5 +1,5 @@
--- No public clause needs what is defined here: how marks and pins are stored in bits, and what is always true of
--- the fields of a trace.
+-- No public clause needs what is defined here: how marks and pins are stored in bits, and what is always true
+-- of the fields of a trace.
 use Rattle.std.specs.Prelude.{◌≡◌, ℕ, ◌+◌, ◌*◌, ◌/◌, ◌%◌, ◌<◌, ◌≤◌, ◌==◌, not, Bool, true, false, List, length, filter, slice_index, slice_index_or, Contains, Option, Some, None, IsSome}
 use Rattle.std.specs.Int.{bit_at}
 use Rattle.std.specs.FinSet.{FinSet, contains}

@@ -52,10 +52,11 @@ pub record IsTaken (mask left n : ℕ) : Type 0 where
   pub apart : bit_and (bit_xor mask left) left ≡ 0
   pub below : (i k : ℕ) → bit_at (bit_xor mask left) i ≡ 1 → bit_at left k ≡ 1 → i < k
   pub number : count_ones (bit_xor mask left) ≡ min n (count_ones mask)
-  pub list : (set_bits (bit_xor mask left) ≡ take n (set_bits mask)) × (set_bits left ≡ drop n (set_bits mask))
+  pub list : (set_bits (bit_xor mask left) ≡ take n (set_bits mask))
+      × (set_bits left ≡ drop n (set_bits mask))
 
-pub taken_parts : (mask left taken n : ℕ) → Left mask left taken → taken ≡ min n (count_ones mask) → mask < 2 ^ 64
-    → left < 2 ^ 64 → IsTaken mask left n
+pub taken_parts : (mask left taken n : ℕ) → Left mask left taken → taken ≡ min n (count_ones mask)
+    → mask < 2 ^ 64 → left < 2 ^ 64 → IsTaken mask left n
 taken_parts mask left taken n done limit fits fits' = record {
   at = at;
   together = or_from_parts mask _ left at;

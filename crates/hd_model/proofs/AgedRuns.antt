@@ -135,8 +135,8 @@ unwrapped None d h = absurd (true≢false (sym h))
 unwrapped (Some p) d h = refl
 
 -- a write that keeps an object's generation, and a new object, leave the generation of each object
-rewritten : (s : State) (id : Id) (new : Object Id) → new.generation ≡ (object_by_id s id).generation → (x : Id)
-    → IsSome (get s.objects x.0)
+rewritten : (s : State) (id : Id) (new : Object Id) → new.generation ≡ (object_by_id s id).generation
+    → (x : Id) → IsSome (get s.objects x.0)
     → generation_in (get (insert s.objects id.0 new) x.0) ≡ generation_in (get s.objects x.0)
 rewritten s id new same x some =
     insert_cases s.objects id.0 (λ j o. IsSome (get s.objects j)

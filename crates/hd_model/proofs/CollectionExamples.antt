@@ -22,7 +22,8 @@ abbrev each : List (Handle Addr)
 each =
     handle_of kind.Short nothing ∷ handle_of kind.Long nothing ∷ handle_of kind.Strong nothing
     ∷ handle_of kind.Pinned nothing ∷ handle_of kind.Variable (strength strength_of.Short)
-    ∷ handle_of kind.Variable (strength strength_of.Long) ∷ handle_of kind.Variable (strength strength_of.Strong)
+    ∷ handle_of kind.Variable (strength strength_of.Long)
+    ∷ handle_of kind.Variable (strength strength_of.Strong)
     ∷ handle_of kind.Variable (strength strength_of.Pinned) ∷ handle_of kind.Counted (count 2)
     ∷ handle_of kind.Counted (count 0) ∷ handle_of kind.Dependent (secondary somewhere) ∷ []
 

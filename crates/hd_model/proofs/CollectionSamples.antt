@@ -63,7 +63,8 @@ abbrev two_blocks : State
 two_blocks = with_use one_block 2 (handles_of kind.Long)
 
 one_block_is : IsWellFormed few one_block
-one_block_is = use_keeps few made_one made_one_is 1 (handles_of kind.Short) (get-empty nat_cmp 1) (omega arith)
+one_block_is =
+    use_keeps few made_one made_one_is 1 (handles_of kind.Short) (get-empty nat_cmp 1) (omega arith)
     (omega arith)
 
 two_blocks_is : IsWellFormed few two_blocks
@@ -124,7 +125,8 @@ with_two_is = object_keeps few calm calm_is (id_of 2) (object_with [] 0 false) (
     (omega arith) (omega arith) (omega arith)
 
 with_four_is : IsWellFormed few with_four
-with_four_is = object_keeps few with_two with_two_is (id_of 4) (object_with [] 0 false) (λ i. tt) (omega arith)
+with_four_is =
+    object_keeps few with_two with_two_is (id_of 4) (object_with [] 0 false) (λ i. tt) (omega arith)
     (omega arith) (omega arith) (omega arith)
 
 four_then : get with_three.objects 4 ≡ Some (object_with [] 0 false)
@@ -256,7 +258,8 @@ few_used x (in_static k e) =
 few_used x (in_queue h) = absurd (not_in_none x h)
 few_used x (by_handle slot h e holding target) =
     absurd (all_handles (λ k g. role g ≡ holds → ⊥) (λ r. false≢true (ap is_holding r))
-    (λ r. false≢true (ap is_holding r)) (λ r. false≢true (ap is_holding r)) (λ r. false≢true (ap is_holding r))
+    (λ r. false≢true (ap is_holding r)) (λ r. false≢true (ap is_holding r))
+    (λ r. false≢true (ap is_holding r))
     (λ r. false≢true (ap is_holding r)) (λ r. false≢true (ap is_holding r)) slot h e holding)
 
 few_older : (x : Id) → IsOlder 0 busy x → Few x
@@ -402,7 +405,8 @@ premises_are_met = record {
   none_resurrected = calm_resurrects_none;
   dependent = record { handle = attaching; stands = at_192; kind_is = refl; target = refl };
   without =
-      collections_exist few 0 (without_handle busy (slot_of 192)) (removal_keeps few busy busy_is (slot_of 192));
+      collections_exist few 0 (without_handle busy (slot_of 192))
+      (removal_keeps few busy busy_is (slot_of 192));
   ages = busy_ages;
   not_due = refl;
   due = refl;

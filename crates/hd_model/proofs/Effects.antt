@@ -48,11 +48,11 @@ pub data Effect (n : Numbers) (s : State) (e : Entry) : Cmd → State → Type 0
       → Effect n s e (cmd.New d fields fin) (with_register
       (with_serial (with_object s (next_identity s e.caller) (fresh_object fields fin)) e.caller
       (last_serial s e.caller + 1)) e.caller d (Some (next_identity s e.caller)))
-  sets_field : {o i v : ℕ} (id : Id) → register_of s e.caller o ≡ Some id → i < length (object_by_id s id).fields
-      → e.reply ≡ reply.Done → Effect n s e (cmd.Set o i v)
+  sets_field : {o i v : ℕ} (id : Id) → register_of s e.caller o ≡ Some id
+      → i < length (object_by_id s id).fields → e.reply ≡ reply.Done → Effect n s e (cmd.Set o i v)
       (with_object s id (with_field (object_by_id s id) i (register_of s e.caller v)))
-  gets_field : {d o i : ℕ} (id : Id) → register_of s e.caller o ≡ Some id → i < length (object_by_id s id).fields
-      → e.reply ≡ loaded (field_of (object_by_id s id) i)
+  gets_field : {d o i : ℕ} (id : Id) → register_of s e.caller o ≡ Some id
+      → i < length (object_by_id s id).fields → e.reply ≡ loaded (field_of (object_by_id s id) i)
       → Effect n s e (cmd.Get d o i) (with_register s e.caller d (field_of (object_by_id s id) i))
   sets_value : {o v : ℕ} (id : Id) → register_of s e.caller o ≡ Some id → e.reply ≡ reply.Done
       → Effect n s e (cmd.Val o v) (with_object s id (record (object_by_id s id) { value = v }))
@@ -90,7 +90,8 @@ pub data Effect (n : Numbers) (s : State) (e : Entry) : Cmd → State → Type 0
             without_secondary handle.extra;
       }))
   sets_secondary : {h r : ℕ} (slot : Slot) (handle : Handle Id) → Finds s e.caller h slot handle
-      → FitsKind {N = Id} handle.kind (secondary (register_of s e.caller r)) → IsSome handle.target → e.reply ≡ reply.Done
+      → FitsKind {N = Id} handle.kind (secondary (register_of s e.caller r)) → IsSome handle.target
+      → e.reply ≡ reply.Done
       → Effect n s e (cmd.HSec h r) (with_extra s slot handle (secondary (register_of s e.caller r)))
   gets_secondary : {d h : ℕ} (slot : Slot) (handle : Handle Id) → Finds s e.caller h slot handle
       → e.reply ≡ loaded (secondary_of handle.extra)
@@ -99,10 +100,12 @@ pub data Effect (n : Numbers) (s : State) (e : Entry) : Cmd → State → Type 0
       → Finds s e.caller h slot handle → FitsKind {N = Id} handle.kind (strength given) → e.reply ≡ reply.Done
       → Effect n s e (cmd.HVar h given) (with_extra s slot handle (strength given))
   raises_count : {h : ℕ} (slot : Slot) (handle : Handle Id) → Finds s e.caller h slot handle
-      → FitsKind {N = Id} handle.kind (count (count_of handle.extra + 1)) → e.reply ≡ reply.Value (count_of handle.extra + 1)
+      → FitsKind {N = Id} handle.kind (count (count_of handle.extra + 1))
+      → e.reply ≡ reply.Value (count_of handle.extra + 1)
       → Effect n s e (cmd.HUp h) (with_extra s slot handle (count (count_of handle.extra + 1)))
   lowers_count : {h : ℕ} (slot : Slot) (handle : Handle Id) → Finds s e.caller h slot handle
-      → FitsKind {N = Id} handle.kind (count (count_of handle.extra - 1)) → e.reply ≡ reply.Value (count_of handle.extra - 1)
+      → FitsKind {N = Id} handle.kind (count (count_of handle.extra - 1))
+      → e.reply ≡ reply.Value (count_of handle.extra - 1)
       → Effect n s e (cmd.HDown h) (with_extra s slot handle (count (count_of handle.extra - 1)))
   frees_handle : {h : ℕ} (slot : Slot) (handle : Handle Id) → Finds s e.caller h slot handle
       → e.reply ≡ reply.Done → e.slot ≡ Some slot → Effect n s e (cmd.HFree h)

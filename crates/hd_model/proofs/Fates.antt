@@ -187,7 +187,8 @@ module _ (n : ℕ) (s t : State) (r : Report) (w : IsWhole (scene_of s))
   pub rises_once : (id : ℕ) (old new : Object Id) → get s.objects id ≡ Some old → get t.objects id ≡ Some new
       → RisesOnce n old.generation new.generation
   rises_once id old new before after =
-      let (p, both) = (object_before rank n (scene_of s) (scene_of t) r w c (record { 0 = id }) new after).1 in
+      let (p, both) =
+      (object_before rank n (scene_of s) (scene_of t) r w c (record { 0 = id }) new after).1 in
       let same : p.generation ≡ old.generation = ap (λ (o : Object Id). o.generation)
       (same_Some p old (sym both.0 ∙ before)) in
       let now : new.generation ≡ raised n old.generation =

@@ -181,7 +181,8 @@ module _ (n : Numbers) (s : State) (w : IsWellFormed n s) (e : Entry) (t : State
       → without_secondary x ≡ x → (FitsKind kind.Dependent x → ⊥)
       → ((h : ℕ) (handle : Handle Id) (y : Extra Id) → Finds s e.caller h slot handle → FitsKind handle.kind x
       → FitsKind handle.kind y → SetsExtra s e handle c h y → ⊥)
-      → ((h : ℕ) (handle : Handle Id) → c ≡ cmd.HFree h → Finds s e.caller h slot handle → e.reply ≡ reply.Done
+      → ((h : ℕ) (handle : Handle Id) → c ≡ cmd.HFree h → Finds s e.caller h slot handle
+      → e.reply ≡ reply.Done
       → ⊥) → HandleIs s slot (ExtraIs x) → IsSomeAnd o (ExtraIs x)
   extra_stays x c o handle_stays same apart sets frees had = had
   extra_stays x c o (is_made given_is done none) same apart sets frees had = absurd (not_none _ _ none had)
@@ -189,7 +190,8 @@ module _ (n : Numbers) (s : State) (w : IsWellFormed n s) (e : Entry) (t : State
       ap without_secondary (at_live s slot handle (ExtraIs x) f.live had) ∙ same
   extra_stays x c o (extra_is_set {h = h} handle {x = y} f fits set_by) same apart sets frees had =
       absurd (sets h handle y f (fits_there handle x f.live had) fits set_by)
-  extra_stays x c o (is_freed {h = h} handle f done) same apart sets frees had = absurd (frees h handle refl f done)
+  extra_stays x c o (is_freed {h = h} handle f done) same apart sets frees had =
+      absurd (frees h handle refl f done)
   extra_stays x c o (is_collected reach kept handle live) same apart sets frees had =
       not_attaching (is_attaching (role handle)) (is_lost kept handle.target) handle.extra
       (λ attaches. apart (subst (λ k. FitsKind k x) (attaching_kind handle.kind handle.extra attaches)
@@ -203,22 +205,25 @@ module _ (n : Numbers) (s : State) (w : IsWellFormed n s) (e : Entry) (t : State
       (λ h handle y. sets e.cmd h handle y refl)
       (λ h handle is f done. apart (law.WritesStrength.frees (done_on s e slot h handle is f (done_is done))))
     where
-      sets : (c : Cmd) (h : ℕ) (handle : Handle Id) (y : Extra Id) → e.cmd ≡ c → Finds s e.caller h slot handle
-          → FitsKind {N = Id} handle.kind (strength given) → FitsKind handle.kind y → SetsExtra s e handle c h y → ⊥
+      sets : (c : Cmd) (h : ℕ) (handle : Handle Id) (y : Extra Id) → e.cmd ≡ c
+          → Finds s e.caller h slot handle
+          → FitsKind {N = Id} handle.kind (strength given) → FitsKind handle.kind y
+          → SetsExtra s e handle c h y → ⊥
       sets c h handle z is f x y (by_strength {given = other} done) =
           apart (law.WritesStrength.sets other (done_on s e slot h handle is f (done_is done)))
       sets c h handle z is f x y (by_secondary done) = variable_or_dependent x y
       sets c h handle z is f x y (by_raise done) = variable_or_counted x y
       sets c h handle z is f x y (by_lower done) = variable_or_counted x y
 
-  count_stays : (x : ℕ) (o : Option (Handle Id)) → HandleChange s e slot e.cmd o → (WritesCount slot s e t → ⊥)
-      → HandleIs s slot (ExtraIs (count x)) → IsSomeAnd o (ExtraIs (count x))
+  count_stays : (x : ℕ) (o : Option (Handle Id)) → HandleChange s e slot e.cmd o
+      → (WritesCount slot s e t → ⊥) → HandleIs s slot (ExtraIs (count x)) → IsSomeAnd o (ExtraIs (count x))
   count_stays x o change apart =
       extra_stays (count x) e.cmd o change refl (λ fits. counted_or_dependent fits refl)
       (λ h handle y. sets e.cmd h handle y refl)
       (λ h handle is f done. apart (law.WritesCount.frees (done_on s e slot h handle is f (done_is done))))
     where
-      sets : (c : Cmd) (h : ℕ) (handle : Handle Id) (y : Extra Id) → e.cmd ≡ c → Finds s e.caller h slot handle
+      sets : (c : Cmd) (h : ℕ) (handle : Handle Id) (y : Extra Id) → e.cmd ≡ c
+          → Finds s e.caller h slot handle
           → FitsKind {N = Id} handle.kind (count x) → FitsKind handle.kind y → SetsExtra s e handle c h y → ⊥
       sets c h handle z is f a b (by_strength done) = variable_or_counted b a
       sets c h handle z is f a b (by_secondary done) = counted_or_dependent a b
@@ -286,7 +291,8 @@ strength_put n s e t slot given step (law.GivesStrength.by_set {h = h} is has) d
     by t (sets_strength other handle f same p) =
         written_has s e.caller h slot other handle _ (ExtraIs _) f has refl
 strength_put n s e t slot given step (law.GivesStrength.by_new {d = d} {t = x} is has) done =
-    made_has n s e t slot (ExtraIs _) refl (effect_of n s e t (cmd.HNew d (make.Variable given) x) step is) has
+    made_has n s e t slot (ExtraIs _) refl
+    (effect_of n s e t (cmd.HNew d (make.Variable given) x) step is) has
     done
 
 value_or_refused : {r : Reply} {c : ℕ} {why : Refusal} → r ≡ reply.Value c → r ≡ reply.Refused why → ⊥

@@ -38,15 +38,18 @@ one_places n journal s ages p q a b =
     ap (λ (x : State). x.places) (one_aged_run n journal (with_places s p) (with_places s q) ages ages a b).0
 
 module _ (s : State) (p : FinMap nat_cmp ℕ) (caller : ℕ) (slot : Option Slot) (ages : List ℕ) where
-  lowered_placed : (at : Option Slot) (t : Option Id) → lowered_to (with_places s p) ages at t ≡ lowered_to s ages at t
+  lowered_placed : (at : Option Slot) (t : Option Id)
+      → lowered_to (with_places s p) ages at t ≡ lowered_to s ages at t
   lowered_placed at None = refl
   lowered_placed at (Some x) = refl
 
   made_placed : (given : Make) (t : Option Id)
       → lowered_by_new (with_places s p) ages slot given t ≡ lowered_by_new s ages slot given t
-  made_placed given t = ap (option_map_or (λ _. lowered_at ages slot 0) (secondary_register given)) (lowered_placed slot t)
+  made_placed given t =
+      ap (option_map_or (λ _. lowered_at ages slot 0) (secondary_register given)) (lowered_placed slot t)
 
-  class_placed : (c : Class) → aged_by_class (with_places s p) caller slot ages c ≡ aged_by_class s caller slot ages c
+  class_placed : (c : Class)
+      → aged_by_class (with_places s p) caller slot ages c ≡ aged_by_class s caller slot ages c
   class_placed (class.MakesObject fields) = refl
   class_placed (class.TakesSlot given t) = made_placed given (register_of s caller t)
   class_placed (class.StoresTarget h t) = lowered_placed _ (register_of s caller t)

@@ -49,7 +49,8 @@ strength_holds strength_of.Strong h = absurd (false≢true h)
 strength_holds strength_of.Pinned h = refl
 
 -- a handle that pins holds
-pinning_by : (k : Kind) (given : Option Strength) (c : ℕ) → pins_with k given ≡ true → role_by k given c ≡ holds
+pinning_by : (k : Kind) (given : Option Strength) (c : ℕ) → pins_with k given ≡ true
+    → role_by k given c ≡ holds
 pinning_by kind.Short given c h = absurd (false≢true h)
 pinning_by kind.Long given c h = absurd (false≢true h)
 pinning_by kind.Strong given c h = absurd (false≢true h)

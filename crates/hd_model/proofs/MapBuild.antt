@@ -47,8 +47,8 @@ module _ {X : Type 0} (f : ℕ → Option X) where
       ⊎_elim
       (λ same. inl (subst (λ j. get (put_value k (f k) (built ks)) j ≡ f j) (sym same)
       (put_here k (f k) (built ks)
-      (⊎_elim (λ e. inl e) (λ (e : (get (built ks) k ≡ None) × (Contains ks k → ⊥)). inr e.0) (built_or ks k)))))
-      (λ ne. ⊎_elim (λ e. inl (put_beside k (f k) (built ks) q ne ∙ e))
+      (⊎_elim (λ e. inl e) (λ (e : (get (built ks) k ≡ None) × (Contains ks k → ⊥)). inr e.0)
+      (built_or ks k))))) (λ ne. ⊎_elim (λ e. inl (put_beside k (f k) (built ks) q ne ∙ e))
       (λ (e : (get (built ks) q ≡ None) × (Contains ks q → ⊥)).
       inr (
         put_beside k (f k) (built ks) q ne ∙ e.0,

@@ -31,8 +31,8 @@ module _ {N : Type 0} (rank : N → ℕ) (n : ℕ) (s : Scene N) (reach revived 
   pub whole_in_place : IsWhole (left_by n reach revived kept joins s)
   whole_in_place = whole_after rank n s (left_by n reach revived kept joins s) r w collects_in_place
 
--- Where t is what a collection leaves of s, with each kept object x at its forwarding address `place x` and no
--- two at one address, it is whole and its ages are sound.
+-- Where t is what a collection leaves of s, with each kept object x at its forwarding address `place x` and
+-- no two at one address, it is whole and its ages are sound.
 module _ {N : Type 0} (rank : N → ℕ) (n : ℕ) (s t : Scene N) (reach revived kept : N → Bool) (joins : List N)
     (r : Report) (place : N → N) (w : IsWhole s) (d : GoesBy rank n s reach revived kept joins r)
     (m : IsReading place (left_by n reach revived kept joins s) t) where
@@ -123,7 +123,8 @@ module _ {N : Type 0} (f g : N → Id) (n : ℕ) (s t : Scene N) (u v : Scene Id
     (joins : List N) (r : Report) (place : N → N) where
   pub moved_by_identity : (k : ℕ) → Counts (λ x. is_object s.object x ≡ true) k → IsWhole s → IsReading f s u
       → IsReading g t v
-      → GoesBy (λ x. (f x).0) n s reach revived kept joins r → IsReading place (left_by n reach revived kept joins s) t
+      → GoesBy (λ x. (f x).0) n s reach revived kept joins r
+      → IsReading place (left_by n reach revived kept joins s) t
       → ((x : N) → kept x ≡ true → g (place x) ≡ f x) → Collects (λ (x : Id). x.0) n u v r
   moved_by_identity k p w fs gt d m same =
       moved_collects f g (find_named f p.members)

@@ -80,7 +80,8 @@ module _ (n : ℕ) (s : State) (reach revived kept : Id → Bool) where
   resurrected : ((x : Id) → revived x ≡ true → IsSome (get s.objects x.0))
       → (k : ℕ) × Counts (λ x. revived x ≡ true) k
   resurrected object =
-      let some = counts_where (λ (x : Id). IsSome (get s.objects x.0)) revived (len s.objects) (counts_state s)
+      let some =
+      counts_where (λ (x : Id). IsSome (get s.objects x.0)) revived (len s.objects) (counts_state s)
       in
       (some.0, counts_like _ (λ x. revived x ≡ true) some.0 (λ x h. h.1) (λ x h. (object x h, h)) some.1)
 
@@ -140,7 +141,8 @@ module _ (n : ℕ) (s : State) (reach revived kept : Id → Bool) where
   -- the objects, handles and pinned addresses that stay
   object_left : ℕ → Option (Object Id)
   object_left k =
-      let x : Id = record { 0 = k } in cond (kept x) (option_map (survivor n (revived x)) (get s.objects k)) None
+      let x : Id = record { 0 = k } in
+      cond (kept x) (option_map (survivor n (revived x)) (get s.objects k)) None
 
   handle_left : ℕ → Option (Handle Id)
   handle_left slot = option_map (cleared reach kept) (get s.handles slot)

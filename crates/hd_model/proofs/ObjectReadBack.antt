@@ -100,7 +100,8 @@ module _ (s : State) (e : Entry) (t : State) (k : ℕ) (x : DoesCollect s e t k)
     joins = record {
       before = λ waits. ((x.collects.scene.revived_is id).0 revived).lost (id, (queued waits, here));
       queued = member_same (s.queue ++ x.collects.scene.joins) t.queue (sym x.collects.scene.queue) id
-          (Contains-append_right s.queue x.collects.scene.joins id ((x.collects.scene.joins_are id).0 revived));
+          (Contains-append_right s.queue x.collects.scene.joins id
+          ((x.collects.scene.joins_are id).0 revived));
     };
   }
 

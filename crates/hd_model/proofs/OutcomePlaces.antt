@@ -28,7 +28,8 @@ module _ (p : FinMap nat_cmp ℕ) where
     by_test x y v w true on off = on
     by_test x y v w false on off = off
 
-    by_first : (s : State) (c d : ℕ) (q : List Id) → P (take_first (with_places s p) c d q) (take_first s c d q)
+    by_first : (s : State) (c d : ℕ) (q : List Id)
+        → P (take_first (with_places s p) c d q) (take_first s c d q)
     by_first s c d [] = leaf _
     by_first s c d (x ∷ q) = leaf _
 
@@ -39,23 +40,28 @@ module _ (p : FinMap nat_cmp ℕ) where
     object_placed : (o : ℕ) (f g : Id → Outcome) → ((id : Id) → P (f id) (g id))
         → P (on_object at c o f) (on_object s c o g)
     object_placed o f g each =
-        by_option P leaf f g (refuses refusal.Null at) (refuses refusal.Null s) (register_of s c o) each (leaf _)
+        by_option P leaf f g (refuses refusal.Null at) (refuses refusal.Null s) (register_of s c o) each
+        (leaf _)
 
     field_placed : (o i : ℕ) (f g : Id → Outcome) → ((id : Id) → P (f id) (g id))
         → P (on_field at c o i f) (on_field s c o i g)
     field_placed o i f g each =
-        object_placed o _ _ (λ id. by_test P leaf (f id) (g id) (refuses refusal.BadField at) (refuses refusal.BadField s)
+        object_placed o
+        _ _ (λ id. by_test P leaf (f id) (g id) (refuses refusal.BadField at) (refuses refusal.BadField s)
         (nat_lt i (length (object_by_id s id).fields)) (each id) (leaf _))
 
-    handle_placed : (h : ℕ) (f g : Slot → Handle Id → Outcome) → ((slot : Slot) (x : Handle Id) → P (f slot x) (g slot x))
+    handle_placed : (h : ℕ) (f g : Slot → Handle Id → Outcome)
+        → ((slot : Slot) (x : Handle Id) → P (f slot x) (g slot x))
         → P (on_handle at c h f) (on_handle s c h g)
     handle_placed h f g each =
-        by_option P leaf _ _ (refuses refusal.EmptyRegister at) (refuses refusal.EmptyRegister s) (handle_register_of s c h)
-        (λ slot. by_option P leaf (f slot) (g slot) (refuses refusal.NotLive at) (refuses refusal.NotLive s) (get s.handles slot.0)
-        (each slot) (leaf _)) (leaf _)
+        by_option P leaf _ _ (refuses refusal.EmptyRegister at) (refuses refusal.EmptyRegister s)
+        (handle_register_of s c h)
+        (λ slot. by_option P leaf (f slot) (g slot) (refuses refusal.NotLive at) (refuses refusal.NotLive s)
+        (get s.handles slot.0) (each slot) (leaf _)) (leaf _)
 
     kind_placed : (h : ℕ) (k : Kind) (f g : Slot → Handle Id → Outcome)
-        → ((slot : Slot) (x : Handle Id) → P (f slot x) (g slot x)) → P (on_handle_of at c h k f) (on_handle_of s c h k g)
+        → ((slot : Slot) (x : Handle Id) → P (f slot x) (g slot x))
+        → P (on_handle_of at c h k f) (on_handle_of s c h k g)
     kind_placed h k f g each =
         handle_placed h _ _ (λ slot x. by_test P leaf (f slot x) (g slot x) (refuses refusal.WrongKind at)
         (refuses refusal.WrongKind s) (is_kind x.kind k) (each slot x) (leaf _))
@@ -97,14 +103,25 @@ module _ (p : FinMap nat_cmp ℕ) where
     alike o q is each = outcome_placed o q (each (λ x y. x ≡ placed y) (λ x. refl)) is
 
     does_placed : (c : Cmd) → (touched_by c).places ≡ false → StepOf n s e t c → StepOf n before e after c
-    does_placed (cmd.New d f fin) h is = (is.0, alike _ _ is.1 (λ P leaf. by_test P leaf _ _ _ _ (nat_lt n.heap (total_size s + (f + 3))) (leaf _) (leaf _)))
-    does_placed (cmd.Set o i v) h is = alike _ _ is (λ P leaf. field_placed P leaf s e.caller o i _ _ (λ id. leaf _))
-    does_placed (cmd.Get d o i) h is = alike _ _ is (λ P leaf. field_placed P leaf s e.caller o i _ _ (λ id. leaf _))
-    does_placed (cmd.Val o v) h is = alike _ _ is (λ P leaf. object_placed P leaf s e.caller o _ _ (λ id. leaf _))
-    does_placed (cmd.Read o) h is = alike _ _ is (λ P leaf. object_placed P leaf s e.caller o _ _ (λ id. leaf _))
-    does_placed (cmd.Gen o) h is = alike _ _ is (λ P leaf. object_placed P leaf s e.caller o _ _ (λ id. leaf _))
-    does_placed (cmd.Suppress o) h is = alike _ _ is (λ P leaf. object_placed P leaf s e.caller o _ _ (λ id. leaf _))
-    does_placed (cmd.Reregister o) h is = alike _ _ is (λ P leaf. object_placed P leaf s e.caller o _ _ (λ id. leaf _))
+    does_placed (cmd.New d f fin) h is = (
+      is.0,
+      alike _ _ is.1
+          (λ P leaf. by_test P leaf _ _ _ _ (nat_lt n.heap (total_size s + (f + 3))) (leaf _) (leaf _)),
+    )
+    does_placed (cmd.Set o i v) h is =
+        alike _ _ is (λ P leaf. field_placed P leaf s e.caller o i _ _ (λ id. leaf _))
+    does_placed (cmd.Get d o i) h is =
+        alike _ _ is (λ P leaf. field_placed P leaf s e.caller o i _ _ (λ id. leaf _))
+    does_placed (cmd.Val o v) h is =
+        alike _ _ is (λ P leaf. object_placed P leaf s e.caller o _ _ (λ id. leaf _))
+    does_placed (cmd.Read o) h is =
+        alike _ _ is (λ P leaf. object_placed P leaf s e.caller o _ _ (λ id. leaf _))
+    does_placed (cmd.Gen o) h is =
+        alike _ _ is (λ P leaf. object_placed P leaf s e.caller o _ _ (λ id. leaf _))
+    does_placed (cmd.Suppress o) h is =
+        alike _ _ is (λ P leaf. object_placed P leaf s e.caller o _ _ (λ id. leaf _))
+    does_placed (cmd.Reregister o) h is =
+        alike _ _ is (λ P leaf. object_placed P leaf s e.caller o _ _ (λ id. leaf _))
     does_placed (cmd.Final d) h is = alike _ _ is (λ P leaf. by_first P leaf s e.caller d s.queue)
     does_placed (cmd.Collect k) h is = absurd (true≢false h)
     does_placed (cmd.HNew d given r) h is = ⊎_elim
@@ -119,17 +136,25 @@ module _ (p : FinMap nat_cmp ℕ) where
           few = x.few;
           refused = alike _ _ x.refused (λ P leaf. leaf _);
         })) is
-    does_placed (cmd.HGet d o) h is = alike _ _ is (λ P leaf. handle_placed P leaf s e.caller o _ _ (λ slot x. leaf _))
+    does_placed (cmd.HGet d o) h is =
+        alike _ _ is (λ P leaf. handle_placed P leaf s e.caller o _ _ (λ slot x. leaf _))
     does_placed (cmd.HSet o v) h is = alike _ _ is (λ P leaf. handle_placed P leaf s e.caller o _ _ (λ slot x.
-        by_test P leaf _ _ _ _ (is_kind x.kind kind.Dependent && is_some (register_of s e.caller v)) (leaf _) (leaf _)))
-    does_placed (cmd.HSec o r) h is = alike _ _ is (λ P leaf. kind_placed P leaf s e.caller o kind.Dependent _ _ (λ slot x.
+        by_test P leaf _ _ _ _ (is_kind x.kind kind.Dependent && is_some (register_of s e.caller v)) (leaf _)
+        (leaf _)))
+    does_placed (cmd.HSec o r) h is =
+        alike _ _ is (λ P leaf. kind_placed P leaf s e.caller o kind.Dependent _ _ (λ slot x.
         by_option P leaf _ _ _ _ x.target (λ y. leaf _) (leaf _)))
-    does_placed (cmd.HDep d o) h is = alike _ _ is (λ P leaf. kind_placed P leaf s e.caller o kind.Dependent _ _ (λ slot x. leaf _))
-    does_placed (cmd.HVar o given) h is = alike _ _ is (λ P leaf. kind_placed P leaf s e.caller o kind.Variable _ _ (λ slot x. leaf _))
-    does_placed (cmd.HFree o) h is = alike _ _ is (λ P leaf. handle_placed P leaf s e.caller o _ _ (λ slot x. leaf _))
+    does_placed (cmd.HDep d o) h is =
+        alike _ _ is (λ P leaf. kind_placed P leaf s e.caller o kind.Dependent _ _ (λ slot x. leaf _))
+    does_placed (cmd.HVar o given) h is =
+        alike _ _ is (λ P leaf. kind_placed P leaf s e.caller o kind.Variable _ _ (λ slot x. leaf _))
+    does_placed (cmd.HFree o) h is =
+        alike _ _ is (λ P leaf. handle_placed P leaf s e.caller o _ _ (λ slot x. leaf _))
     does_placed (cmd.AddrOf o) h is = absurd (true≢false h)
-    does_placed (cmd.HUp o) h is = alike _ _ is (λ P leaf. kind_placed P leaf s e.caller o kind.Counted _ _ (λ slot x. leaf _))
-    does_placed (cmd.HDown o) h is = alike _ _ is (λ P leaf. kind_placed P leaf s e.caller o kind.Counted _ _ (λ slot x.
+    does_placed (cmd.HUp o) h is =
+        alike _ _ is (λ P leaf. kind_placed P leaf s e.caller o kind.Counted _ _ (λ slot x. leaf _))
+    does_placed (cmd.HDown o) h is =
+        alike _ _ is (λ P leaf. kind_placed P leaf s e.caller o kind.Counted _ _ (λ slot x.
         by_test P leaf _ _ _ _ (count_of x.extra == 0) (leaf _) (leaf _)))
     does_placed (cmd.Trim k) h is = ⊎_elim
         (λ (x : GivesBack s e t k). inl (record {

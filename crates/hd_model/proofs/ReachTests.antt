@@ -48,7 +48,8 @@ target_decides : (x : Id) (o : Option Id) → Decides (is_target x.0 o) (o ≡ S
 target_decides x o = (target_is x o, is_the_target x o)
 
 -- whether a list has a name
-named_decides : (x : Id) (xs : List (Option Id)) → Decides (list_any (is_target x.0) xs) (Contains xs (Some x))
+named_decides : (x : Id) (xs : List (Option Id))
+    → Decides (list_any (is_target x.0) xs) (Contains xs (Some x))
 named_decides x xs =
     decides_like (list_any (is_target x.0) xs) (λ h. subst (λ o. Contains xs o) h.1.1 h.1.0)
     (λ h. (Some x, (h, refl)))
@@ -66,7 +67,8 @@ module _ (s : State) where
       (mapped_in (λ (g : ℕ × Object Id). g.0) _ (x.0, o) (entry_of s.objects x.0 o e))
 
   -- whether some live handle passes
-  handle_decides : (P : Handle Id → Type 0) (test : Handle Id → Bool) → ((h : Handle Id) → Decides (test h) (P h))
+  handle_decides : (P : Handle Id → Type 0) (test : Handle Id → Bool)
+      → ((h : Handle Id) → Decides (test h) (P h))
       → Decides (list_any test (values s.handles)) ((slot : ℕ) × ((h : Handle Id)
       × ((get s.handles slot ≡ Some h) × P h)))
   handle_decides P test each =
@@ -160,7 +162,8 @@ module _ (s : State) where
       where
         back : IsRoot (scene_of s) n x
             → Contains (scene_of s).named (Some x)
-            ⊎ (Contains s.queue x ⊎ (IsHeld (scene_of s).handle x ⊎ (n < generation_at (scene_of s).object x)))
+            ⊎ (Contains s.queue x
+            ⊎ (IsHeld (scene_of s).handle x ⊎ (n < generation_at (scene_of s).object x)))
         back (named a) = inl a
         back (queued b) = inr (inl b)
         back (held c) = inr (inr (inl c))

@@ -30,7 +30,8 @@ decides_any P test each xs = (
 )
 
 module _ {N : Type 0} (E : N → N → Type 0) (same step : N → N → Bool)
-    (same_is : (x y : N) → Decides (same x y) (x ≡ y)) (step_is : (x y : N) → Decides (step x y) (E x y)) where
+    (same_is : (x y : N) → Decides (same x y) (x ≡ y))
+    (step_is : (x y : N) → Decides (step x y) (E x y)) where
   -- whether a chain leads from one to another and passes members of a list alone
   abbrev pub through : List N → N → N → Bool
   through [] x y = same x y || step x y

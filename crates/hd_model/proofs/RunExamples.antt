@@ -57,7 +57,8 @@ step1 = record {
   valid = (lit< tt, omega arith);
   does = (
     lit< tt,
-    subst (λ o. IsOutcome e1 o s1) (sym made) (record { reply = refl; slot = refl; grown = refl; after = refl }),
+    subst (λ o. IsOutcome e1 o s1) (sym made)
+        (record { reply = refl; slot = refl; grown = refl; after = refl }),
   );
 }
 
@@ -82,7 +83,8 @@ step_full = record {
   valid = (lit< tt, omega arith);
   does = (
     lit< tt,
-    subst (λ o. IsOutcome e_full o s0) (sym refused) (record { reply = refl; slot = refl; grown = refl; after = refl }),
+    subst (λ o. IsOutcome e_full o s0) (sym refused)
+        (record { reply = refl; slot = refl; grown = refl; after = refl }),
   );
 }
 

@@ -128,7 +128,8 @@ entry_same : (n : Numbers) (s : State) (e f : Entry) (t u : State) → IsWellFor
 entry_same n s e f t u w other a b callers cmds =
     let turned : f ≡ with_rest e f = λ i. record f { caller = sym callers i; cmd = sym cmds i } in
     let b' : SoloStep n s (with_rest e f) u = subst (λ x. SoloStep n s x u) turned b in
-    let same : Same e (with_rest e f) = way_same n s e f t u e.cmd (way_of s e.caller e.cmd) (way_command s e.caller e.cmd) w other a.step.does b'.step.does
+    let same : Same e (with_rest e f) = way_same n s e f t u e.cmd (way_of s e.caller e.cmd)
+    (way_command s e.caller e.cmd) w other a.step.does b'.step.does
     a.least b'.least in
     (λ i. record e { slot = same.0 i; grown = same.1 i; reply = same.2 i }) ∙ sym turned
 

@@ -229,7 +229,14 @@ module _ (n : Numbers) (s : State) (w : IsWellFormed n s) (caller : ℕ) (known 
   by_way c (collects k) is command valid has =
       let next = collections_exist n k s w in
       record {
-        entry = record { caller = caller; cmd = c; slot = None; grown = Zero; reply = reply.Report next.report };
+        entry = record {
+          caller = caller;
+          cmd = c;
+          slot = None;
+          grown = Zero;
+          reply =
+              reply.Report next.report;
+        };
         after = next.after;
         caller_is = refl;
         command = refl;

@@ -322,9 +322,11 @@ module _ (n : Numbers) (s : State) (w : IsWellFormed n s) (e : Entry) (slot : Sl
   handle_change c t (sets_target {h = h} other handle f p) =
       handle_written _ other _ (λ same. target_is_set handle (found h other handle f same) p)
   handle_change c t (sets_secondary {h = h} other handle f fits target p) =
-      handle_written _ other _ (λ same. extra_is_set handle (found h other handle f same) fits (by_secondary p))
+      handle_written _ other
+      _ (λ same. extra_is_set handle (found h other handle f same) fits (by_secondary p))
   handle_change c t (sets_strength {h = h} other handle f fits p) =
-      handle_written _ other _ (λ same. extra_is_set handle (found h other handle f same) fits (by_strength p))
+      handle_written _ other
+      _ (λ same. extra_is_set handle (found h other handle f same) fits (by_strength p))
   handle_change c t (raises_count {h = h} other handle f fits p) =
       handle_written _ other _ (λ same. extra_is_set handle (found h other handle f same) fits (by_raise p))
   handle_change c t (lowers_count {h = h} other handle f fits p) =

@@ -59,7 +59,8 @@ module _ (s : State) where
   led_on Start x y chain edge =
       ⊎_elim (λ f. field_led Start x y chain (get s.objects x.0) refl f)
       (λ (a : IsAttached (scene_of s).handle x y).
-      by_dependent chain a.slot a.handle a.stands (attached_kind a.handle a.attaches) a.target a.secondary) edge
+      by_dependent chain a.slot a.handle a.stands (attached_kind a.handle a.attaches) a.target
+      a.secondary) edge
 
   pub chain_led : (Start : Id → Type 0) {r y : Id} → Start r → Leads (Edge s) r y → IsLedTo s Start y
   chain_led Start h Leads.here = from_start h

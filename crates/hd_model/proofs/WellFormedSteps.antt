@@ -37,7 +37,8 @@ and_then_names s (Some id) v h = h
 
 made_named : (n : Numbers) (s : State) → IsWellFormed n s → (c : ℕ) (given : Make) (t : ℕ)
     → Names s (secondary_of (made_extra s c given t))
-made_named n s w c given t = subst (Names s) (sym (made_secondary s c given t)) (by (secondary_register given))
+made_named n s w c given t =
+    subst (Names s) (sym (made_secondary s c given t)) (by (secondary_register given))
   where
     by : (o : Option ℕ) → Names s (option_and_then (λ r. option_and_then (λ _. register_of s c r)
         (register_of s c t)) o)
@@ -49,8 +50,8 @@ made_paired : (s : State) (c : ℕ) (given : Make) (t : ℕ) → register_of s c
     → secondary_of (made_extra s c given t) ≡ None
 made_paired s c given t e = made_secondary s c given t ∙ by (secondary_register given)
   where
-    by : (o : Option ℕ) → option_and_then (λ r. option_and_then (λ _. register_of s c r) (register_of s c t)) o
-        ≡ None
+    by : (o : Option ℕ)
+        → option_and_then (λ r. option_and_then (λ _. register_of s c r) (register_of s c t)) o ≡ None
     by None = refl
     by (Some r) = ap (option_and_then (λ _. register_of s c r)) e
 
@@ -168,7 +169,8 @@ module _ (n : Numbers) (s : State) (w : IsWellFormed n s) (e : Entry) (l : e.cal
       (length-set (object_by_id s id).fields i (register_of s e.caller r)) refl
   effect_keeps c t v (gets_field {d = d} {o = o} {i = i} id f within p) =
       register_keeps n s w e.caller d _ l (field_named id (has n s e.caller o id w f) i)
-  effect_keeps c t v (sets_value {o = o} {v = x} id f p) = rewrite_keeps o id x (object_by_id s id).registered f
+  effect_keeps c t v (sets_value {o = o} {v = x} id f p) =
+      rewrite_keeps o id x (object_by_id s id).registered f
   effect_keeps c t v (reads_value id f p) = w
   effect_keeps c t v (copies {d = d} {r = r} p) =
       register_keeps n s w e.caller d _ l (w.names.registers e.caller r)

@@ -84,8 +84,8 @@ module _ (n : Numbers) (s : State) (w : IsWellFormed n s) where
   pub register_keeps : (c d : ℕ) (v : Option Id) → c < n.callers → Names s v
       → IsWellFormed n (with_register s c d v)
   register_keeps c d v l h = record {
-    shape = shape_again n s _ (length-set s.registers c _) (λ i. rows_keep s.registers c d i v) refl (λ _. refl)
-        refl refl refl w.shape;
+    shape = shape_again n s _ (length-set s.registers c _) (λ i. rows_keep s.registers c d i v) refl
+        (λ _. refl) refl refl refl w.shape;
     names = record {
       fields = w.names.fields;
       registers = λ i j. cell_cases (Names s) s.registers c d i j v None (λ _ _. h) (w.names.registers i j);

@@ -1,5 +1,5 @@
--- What a command does, as far as memory, slots, ages, addresses and collections are concerned. Each table that
--- needs no more of a command goes by its class.
+-- What a command does, as far as memory, slots, ages, addresses and collections are concerned. Each table
+-- that needs no more of a command goes by its class.
 use Rattle.std.specs.Prelude.{Bool, true, false}
 use Rattle.hd_model.specs.Data.{Class, Cmd}
 use Rattle.hd_model.specs.declared.class.Class.TheVariants as class

@@ -64,7 +64,8 @@ fresh_object fields fin =
 -- serial, unless the heap would pass its limit. With `fin` it is registered for finalization.
 abbrev pub new_object : Numbers → State → ℕ → ℕ → ℕ → Bool → Outcome
 new_object n s caller d fields fin =
-    if nat_lt n.heap (total_size s + (fields + 3)) then refuses (refusal.HeapFull (total_size s) (fields + 3)) s
+    if nat_lt n.heap (total_size s + (fields + 3))
+    then refuses (refusal.HeapFull (total_size s) (fields + 3)) s
     else (
     let serial = last_serial s caller + 1 in
     let id = identity_of caller serial in

@@ -55,7 +55,8 @@ region_generation h r = (region_at h r).generation
 
 -- an object with its generation
 abbrev pub object_in : ℕ → Placed → Object Addr
-object_in generation p = record { fields = p.fields; value = p.value; generation = generation; registered = p.registered }
+object_in generation p =
+    record { fields = p.fields; value = p.value; generation = generation; registered = p.registered }
 
 -- the object at an address, if there is one
 abbrev pub object_at : Heap → Objects Addr
@@ -67,7 +68,8 @@ has_object h a = is_object (object_at h) a
 
 -- the stored object at an address
 abbrev pub placed_at : Heap → Addr → Placed
-placed_at h a = unwrap_or (get h.objects a.0) (record { id = record { 0 = 0 }; fields = []; value = 0; registered = false })
+placed_at h a = unwrap_or (get h.objects a.0)
+    (record { id = record { 0 = 0 }; fields = []; value = 0; registered = false })
 
 -- the identity in the header of the object at an address, 0 where there is none
 abbrev pub id_in : Option Placed → Id
@@ -94,7 +96,8 @@ used_of h = sum_by cells_of (values h.objects)
 
 -- no two objects have one identity
 abbrev pub HasIdentities : Heap → Type 0
-HasIdentities h = (a b : ℕ) (p q : Placed) → get h.objects a ≡ Some p → get h.objects b ≡ Some q → p.id ≡ q.id → a ≡ b
+HasIdentities h = (a b : ℕ) (p q : Placed) → get h.objects a ≡ Some p → get h.objects b ≡ Some q → p.id ≡ q.id
+    → a ≡ b
 
 -- a heap that is collected, and the condemned generation
 pub record Basis : Type 0 where

@@ -56,7 +56,8 @@ pins_by_strength strength_of.Long = false
 pins_by_strength strength_of.Strong = false
 pins_by_strength strength_of.Pinned = true
 
--- whether a handle of a kind with a strength keeps its target from moving (GCHandleType.Pinned, and VHT_PINNED)
+-- whether a handle of a kind with a strength keeps its target from moving (GCHandleType.Pinned, and
+-- VHT_PINNED)
 abbrev pub pins_with : Kind → Option Strength → Bool
 pins_with kind.Short given = false
 pins_with kind.Long given = false

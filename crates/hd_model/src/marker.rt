@@ -37,7 +37,8 @@ pub trait Marker {
         requires object { is_object (objects_of (basis self.old)) at ≡ true }
         ensures settled { settled self.new }
         ensures basis { basis self.new ≡ basis self.old }
-        ensures grows { Grows (IsYoungField (objects_of (basis self.old)) (basis self.old).condemned)
+        ensures grows { Grows
+            (IsYoungField (objects_of (basis self.old)) (basis self.old).condemned)
             (λ x. x ≡ at) (promoted self.old) (promoted self.new) }
         ensures pinned { pinned self.new ≡ pinned self.old };
 

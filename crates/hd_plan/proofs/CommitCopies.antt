@@ -120,7 +120,12 @@ module _ (old h : Heap) (ms : List Move) (i : ℕ) (can : CanCopy old ms) (low :
         from_has,
         (can.generations i low).1,
         omega arith,
-        omega (arith, f.free, ap {B = ℕ} (λ (ns : List ℕ). length ns) spare_now, length-drop opened old.spare),
+        omega (
+          arith,
+          f.free,
+          ap {B = ℕ} (λ (ns : List ℕ). length ns) spare_now,
+          length-drop opened old.spare,
+        ),
       )
   may_by Moves f =
       let q = room_at old ms i in

@@ -217,7 +217,8 @@ module _ (p : PlanOf) (old h1 h2 h3 h4 : Heap) (m : AreMoved p old h1 h2 h3 h4) 
     }
 
     -- a region in use has an object that stays, or was opened, or is older
-    held_stays : (r : ℕ) → is_in_use h7 r ≡ true → IsCondemnedRegion old p.basis.condemned r → HasStay p.moves r
+    held_stays : (r : ℕ) → is_in_use h7 r ≡ true → IsCondemnedRegion old p.basis.condemned r
+        → HasStay p.moves r
     held_stays r held young =
         let (k, listed) = (regions_now p old c).all r young in
         elim (cases_Bool (condemned_at p.regions k).pinned) [
@@ -237,7 +238,8 @@ module _ (p : PlanOf) (old h1 h2 h3 h4 : Heap) (m : AreMoved p old h1 h2 h3 h4) 
     held_room : (r : ℕ) → is_in_use h7 r ≡ true → is_in_use old r ≡ false
         → has_region (room_at old p.moves (length p.moves)).regions r ≡ true
     held_room r held new =
-        sym (ap is_some (region_now r ∙ region_older p old h1 h2 h3 h4 m h5 r5 r (λ is. both_ways _ new is.held)
+        sym (ap is_some
+        (region_now r ∙ region_older p old h1 h2 h3 h4 m h5 r5 r (λ is. both_ways _ new is.held)
         ∙ ap (λ rs. fin.get rs r) (regions_room p old h1 h2 h3 h4 m))) ∙ held
 
     held_taken : (r : ℕ) → is_in_use h7 r ≡ true → is_older_region old p.basis.condemned r ≡ false
@@ -376,6 +378,7 @@ module _ (p : PlanOf) (old h1 h2 h3 h4 : Heap) (m : AreMoved p old h1 h2 h3 h4) 
           let above = ltb-true _ _ both.1 in absurd (omega arith))) packed_now;
     }
       where
-        no_older : (r : ℕ) → ((is_in_use old r ≡ true) × (nat_lt p.basis.condemned (region_generation old r) ≡ true)
+        no_older : (r : ℕ)
+            → ((is_in_use old r ≡ true) × (nat_lt p.basis.condemned (region_generation old r) ≡ true)
             → ⊥) → is_older_region old p.basis.condemned r ≡ false
         no_older r none = false_from_ne_true _ (λ is. none (and_parts _ _ is))

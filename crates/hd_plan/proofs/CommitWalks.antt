@@ -16,10 +16,11 @@ pub walked_more : (P : Addr → Type 0) (h : Heap) (after : Option Addr) (at : A
     after at
     → ((x : Addr) → has_object h x ≡ true → is_after after x ≡ false → P x) → P at
     → (x : Addr) → has_object h x ≡ true → is_after (Some at) x ≡ false → P x
-walked_more P h after at next before here x is up = elim (reached_cases (has_object h) after at x next is up) [
-  | inl was ↦ before x is was
-  | inr same ↦ subst P (sym same) here
-]
+walked_more P h after at next before here x is up =
+    elim (reached_cases (has_object h) after at x next is up) [
+      | inl was ↦ before x is was
+      | inr same ↦ subst P (sym same) here
+    ]
 
 -- a property of each field that is read one after another
 pub each_field : (P : Addr → Type 0) (xs : List (Option Addr)) (i : ℕ) → length xs ≤ i

@@ -203,7 +203,8 @@ module _ (h : Heap) (n : ℕ) (sound : IsSound h) where
             (subst (λ (x : Addr). has_object h x ≡ true) by.from (is_condemned_at k by.within).object)
             (subst (λ (x : Addr). place x ≡ x) by.from
             (move_place k by.within
-            ∙ unmoved _ h.spare (room_at h ms k).cursors _ _ _ _ (ap is_moving staying) (moves.fits k by.within)))
+            ∙ unmoved _ h.spare (room_at h ms k).cursors _ _ _ _ (ap is_moving staying)
+            (moves.fits k by.within)))
       ]
     ]
 

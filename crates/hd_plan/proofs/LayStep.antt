@@ -221,7 +221,8 @@ module _ (h : Heap) (n : ℕ) (sound : IsSound h) (promoted pinned : Addr → Bo
       spare.small spare.enough)
 
   laying_from : (ms : List Move) (old new : AllocCursors) (after : Option Addr) (m : Move)
-      → IsLaying h n promoted pinned ms old after → HasFreeRegions h n → IsNext (is_condemned h n) after m.from
+      → IsLaying h n promoted pinned ms old after → HasFreeRegions h n
+      → IsNext (is_condemned h n) after m.from
       → IsMoveOf h n (promoted m.from) (pinned m.from) old new m
       → IsLaying h n promoted pinned (ms ++ m ∷ []) new (Some m.from)
   laying_from ms old new after m laying spare next is =

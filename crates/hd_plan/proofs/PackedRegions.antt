@@ -119,7 +119,8 @@ taken_in h ms r (inr was) =
     let opened = (room_at h ms (length ms)).cursors.opened in
     let before = was.before in
     let within = was.within in
-    Contains-append_right (map (λ (m : Move). region_of m.from) (filter (λ (m : Move). is_staying m.fate) ms)) _ r
+    Contains-append_right
+    (map (λ (m : Move). region_of m.from) (filter (λ (m : Move). is_staying m.fate) ms)) _ r
     (member_at (take opened h.spare) was.at 0 r (omega (arith, length-take opened h.spare))
     (get_or-take opened h.spare was.at 0 before ∙ was.number))
 
@@ -212,7 +213,8 @@ sum_within f w [] m apart found = omega arith
 sum_within f w (x ∷ xs) m apart found =
     let rest = sum_within f w xs (remove m x.0) (pairs_rest (λ y z. y ≢ z) x xs apart)
     (λ a is. subst (λ o. w a ≤ share f o)
-    (sym (get_left m x.0 a.0 (λ same. pairs_first (λ y z. y ≢ z) x xs apart a is (same_address x a (sym same)))))
+    (sym (get_left m x.0 a.0
+    (λ same. pairs_first (λ y z. y ≢ z) x xs apart a is (same_address x a (sym same)))))
     (found a (later_in x xs a is))) in
     omega (arith, rest, found x (first_in x xs), sum-remove f m x.0, sum_by-cons w x xs)
 

@@ -245,7 +245,8 @@ module _ (h : Heap) where
               → HasSlack p.cursors p.cells → IsRoom h p
           all first second slack = record {
             held = put_held;
-            old = λ s is. puts.regions.other s (λ same. true≢false (sym is ∙ ap (is_in_use h) same ∙ puts.new))
+            old = λ s is.
+                puts.regions.other s (λ same. true≢false (sym is ∙ ap (is_in_use h) same ∙ puts.new))
                 ∙ room.old s is;
             first = first;
             second = second;
@@ -303,7 +304,8 @@ module _ (h : Heap) where
         → (to : Addr) (g cells : ℕ) → Goes false q p to g cells
     rests q p room regions cursors cells to g size =
         subst (λ (x : Room). Goes false q x to g size)
-        {x = q} {y = p} (λ i. record { regions = sym regions i; cursors = sym cursors i; cells = sym cells i })
+        {x = q} {y = p}
+        (λ i. record { regions = sym regions i; cursors = sym cursors i; cells = sym cells i })
         (record {
           room = room;
           stays = λ x k c is. is;

@@ -1,5 +1,5 @@
--- No public clause needs what is defined here: these are words of private functions, for what each step of the
--- moving leaves of a heap.
+-- No public clause needs what is defined here: these are words of private functions, for what each step of
+-- the moving leaves of a heap.
 use Rattle.std.specs.Prelude.{◌≡◌, ◌≢◌, ℕ, ◌+◌, ◌*◌, ◌<◌, ◌≤◌, ◌⊎◌, ◌↔◌, ◌&&◌, Bool, true, false, not, List, length, Option, Some, None, option_map, map as list_map, drop, slice_index, nat_eq}
 use Rattle.std.specs.FinMap as map
 use Rattle.hd_model.specs.declared.data.Addr.{Addr}

@@ -1,5 +1,5 @@
--- No public clause needs what is defined here: these are words of private functions and fields, for the laying of
--- a plan.
+-- No public clause needs what is defined here: these are words of private functions and fields, for the
+-- laying of a plan.
 use Rattle.std.specs.Prelude.{◌≡◌, ◌≢◌, ℕ, ◌+◌, ◌*◌, ◌<◌, ◌≤◌, ◌⊎◌, cond, nat_eq, true, false, List, length, slice_index, ◌^◌, ◌%◌, ◌-◌, ◌&&◌, ◌||◌, ◌++◌, Bool, nat_lt, slice_set, [], ◌∷◌, slice_index_or, suc, zero}
 use Rattle.std.specs.FinMap.{FinMap, get}
 use Rattle.std.specs.Ordering.{nat_cmp}
@@ -150,7 +150,8 @@ pub record AreChosen (promoted pinned : Addr → Bool) (ms : List Move) : Type 0
       → is_staying (move_at ms k).fate ≡ (promoted (move_at ms k).from && pinned (move_at ms k).from)
 
 -- one object is laid
-pub record IsMoveOf (h : Heap) (n : ℕ) (promoted pinned : Bool) (old new : AllocCursors) (m : Move) : Type 0 where
+pub record IsMoveOf (h : Heap) (n : ℕ) (promoted pinned : Bool) (old new : AllocCursors)
+    (m : Move) : Type 0 where
   pub generation : m.generation ≡ raised n (generation_at (object_at h) m.from)
   pub kept : is_kept_fate m.fate ≡ promoted
   pub stays : is_staying m.fate ≡ (promoted && pinned)

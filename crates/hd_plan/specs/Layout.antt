@@ -64,7 +64,12 @@ pub record Room : Type 0 where
 abbrev pub room_of : Heap → Room
 room_of h = record {
   regions = h.regions;
-  cursors = record { first = record { region = 0; fill = 0 }; second = record { region = 0; fill = 0 }; opened = 0 };
+  cursors =
+      record {
+        first = record { region = 0; fill = 0 };
+        second = record { region = 0; fill = 0 };
+        opened = 0;
+      };
   cells = 0;
 }
 

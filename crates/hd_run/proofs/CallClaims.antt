@@ -316,7 +316,8 @@ module _ {S K : Type 0} (seen : S → SourceView) (shown : K → SinkView) (sour
     promise : Promise seen shown asked source sink o
     promise = record {
       work = (e, cause, reports);
-      whole = λ s. let at = all 0 s (λ f. cc) in subst (RunsWhole asked old new before after) (sym reports.kept)
+      whole = λ s.
+          let at = all 0 s (λ f. cc) in subst (RunsWhole asked old new before after) (sym reports.kept)
           (whole_of old new before after asked e cause at.0 at.1);
       usage = λ s. let at = fault_at 2 s (λ f. cc) (λ f. cc) (λ f. cc) in
           (usage_of old new asked at.0 at.1 at.2, at.3);
@@ -363,7 +364,8 @@ module _ {S K : Type 0} (seen : S → SourceView) (shown : K → SinkView) (sour
   -- what was asked was done
   pub asked_promise : (r : Request) (e : Ending) →
       Worked seen (traits_of r.mode).threads (traits_of r.mode).lists_roots r source e →
-      Reports (shown sink.0) (shown sink.1) (traits_of r.mode).form e o → Promise seen shown (Some r) source sink o
+      Reports (shown sink.0) (shown sink.1) (traits_of r.mode).form e o
+      → Promise seen shown (Some r) source sink o
   asked_promise r e worked reports = promise (Some r) e worked.cause reports
       (λ unread. worked.unread (is_false (traits_of r.mode).reads unread))
       (λ load. line_by (seen source.0) (seen source.1) (shown sink.0) (shown sink.1) r.mode r e o load
@@ -388,7 +390,8 @@ words_cause (Some r) v f (inr (usage, none)) = cc
 
 pub refused_promise : {S K : Type 0} (seen : S → SourceView) (shown : K → SinkView) (asked : Option Request)
     (source : S) (sink : K × K) (f : Fault) (o : Outcome) → IsFaultOfWords asked f →
-    Reports (shown sink.0) (shown sink.1) Lines (Refused f) o → Promise seen shown asked (source, source) sink o
+    Reports (shown sink.0) (shown sink.1) Lines (Refused f) o
+    → Promise seen shown asked (source, source) sink o
 refused_promise seen shown asked source sink f o fault reports =
     promise seen shown (source, source) sink o asked (Refused f) (words_cause asked (seen source) f fault)
     (record { kept = reports.kept; written = reports.written }) (λ unread. refl) (no_line asked)

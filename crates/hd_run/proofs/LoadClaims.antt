@@ -27,7 +27,8 @@ use Rattle.hd_run.specs.Claims.{HasLine}
 use Rattle.hd_run.proofs.RunEndings.{no_whole, told as all_told}
 
 -- its script has four callers, so its numbers are those of every load
-pub load_is : (rounds : ℕ) → numbers_for (record { heap = HEAP; blocks = BLOCKS }) (generated_lists rounds) ≡ load_numbers
+pub load_is : (rounds : ℕ)
+    → numbers_for (record { heap = HEAP; blocks = BLOCKS }) (generated_lists rounds) ≡ load_numbers
 unfolding generated_lists
 load_is rounds = λ i. record {
   heap = HEAP;

@@ -46,19 +46,22 @@ in_limits found name least most default gives low high =
     go (Some t) is = let number = is t refl in (number.2, number.3)
 
 pub heap_in_limits : (found : Found) → GivesNumbers found →
-    (LEAST_HEAP ≤ number_of (rows_of found) (codes "heap") HEAP) × (number_of (rows_of found) (codes "heap") HEAP ≤ HEAP)
+    (LEAST_HEAP ≤ number_of (rows_of found) (codes "heap") HEAP)
+    × (number_of (rows_of found) (codes "heap") HEAP ≤ HEAP)
 heap_in_limits found gives =
     in_limits found (codes "heap") LEAST_HEAP HEAP HEAP gives.heap (omega arith) (omega arith)
 
 pub blocks_in_limits : (found : Found) → GivesNumbers found →
-    (1 ≤ number_of (rows_of found) (codes "blocks") BLOCKS) × (number_of (rows_of found) (codes "blocks") BLOCKS ≤ BLOCKS)
+    (1 ≤ number_of (rows_of found) (codes "blocks") BLOCKS)
+    × (number_of (rows_of found) (codes "blocks") BLOCKS ≤ BLOCKS)
 blocks_in_limits found gives =
     in_limits found (codes "blocks") 1 BLOCKS BLOCKS gives.blocks (omega arith) (omega arith)
 
 pub asked_in_limits : (found : Found) (mode : Mode) → GivesNumbers found
     → IsInLimits (with_numbers (rows_of found) mode)
 asked_in_limits found mode gives =
-    let rounds = in_limits found (codes "rounds") 1 MOST_ROUNDS ROUNDS gives.rounds (omega arith) (omega arith) in
+    let rounds =
+    in_limits found (codes "rounds") 1 MOST_ROUNDS ROUNDS gives.rounds (omega arith) (omega arith) in
     record { least = rounds.0; most = rounds.1 }
 
 -- what is asked for, by the name of the mode that was found

@@ -24,7 +24,8 @@ module _ (list : List Cmd) (begun : CallerView) where
   }
 
   -- one command more was done
-  pub goes_on : (p q : CallerView) (i : ℕ) (cmd : Cmd) {answer : Reply} → i < length list → get_or list i cmd ≡ cmd
+  pub goes_on : (p q : CallerView) (i : ℕ) (cmd : Cmd) {answer : Reply} → i < length list
+      → get_or list i cmd ≡ cmd
       → IsAt list begun p i → IsSameCaller p q → HasDone p q cmd answer → IsAt list begun q (i + 1)
   goes_on p q i cmd lt here at same did = record {
     same = same_on p q at.same same;

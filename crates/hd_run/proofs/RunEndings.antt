@@ -65,7 +65,8 @@ ending_keeps false run = tt
 
 -- ---- what is kept of a run
 
-run_by : {P Q : WorldView → Type 0} (threads : Bool) (X : Ran → Type 0) → ((w : WorldView) → P w → X (ran.Alone w)) →
+run_by : {P Q : WorldView → Type 0} (threads : Bool) (X : Ran → Type 0)
+    → ((w : WorldView) → P w → X (ran.Alone w)) →
     ((w : WorldView) → Q w → X (ran.Shared w)) → (run : Ran) → RunBy threads P Q run → X run
 run_by false X alone shared (ran.Alone w) at = alone w at
 run_by false X alone shared (ran.Shared w) at = absurd at
@@ -104,7 +105,8 @@ module _ (threads listed : Bool) (n : Numbers) (lists : List (List Cmd)) (e : En
 
   -- of few callers
   pub run_callers : n.callers ≤ CALLERS → HasFewCallers (journal_in (world_of (kept_of e)))
-  run_callers few = ending_has n lists (λ kept. HasFewCallers (journal_in (world_of kept))) (λ k d lt. absurd (omega arith))
+  run_callers few =
+      ending_has n lists (λ kept. HasFewCallers (journal_in (world_of kept))) (λ k d lt. absurd (omega arith))
       (λ w numbers run. few_callers n w.journal w.state few (run_from_solo n w.journal w.state run))
       (λ w numbers run. few_callers n w.journal w.state few run) threads listed e cause
 
@@ -132,7 +134,8 @@ turns_cause lists n w (Err memory) done stopped = stopped
 
 -- ---- a report
 
-module _ (before after : SinkView) (form : Form) (e : Ending) (o : Outcome) (reports : Reports before after form e o)
+module _ (before after : SinkView) (form : Form) (e : Ending) (o : Outcome)
+    (reports : Reports before after form e o)
   where
     -- but on status 5 all was written
     pub told : (k : ℕ) → o.status ≡ k → k ≢ 5 → (status_of e ≡ k) × Took before after (text_for form e)

@@ -32,8 +32,12 @@ module _ (n : Numbers) (lists : List (List Cmd)) where
     whole_of (Refused f) cause is took = absurd (no_whole f is)
     whole_of (Stopped run) at is took = cc
     whole_of (Done (ran.Alone w) roots) all is took = absurd all.0
-    whole_of (Done (ran.Shared w) roots) all is took =
-        (w, refl, all.0, subst (λ (rs : Option (List RootId)). Took before after (ran_text form w rs)) all.1 took)
+    whole_of (Done (ran.Shared w) roots) all is took = (
+      w,
+      refl,
+      all.0,
+      subst (λ (rs : Option (List RootId)). Took before after (ran_text form w rs)) all.1 took,
+    )
 
     abbrev Wants : Ending → Type 0
     Wants e = ((kept_of e ≡ Nothing) ⊎ ((w : WorldView) × (kept_of e ≡ Shared w) × StoppedTogether n lists w))

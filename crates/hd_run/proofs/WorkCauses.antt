@@ -23,7 +23,8 @@ use Rattle.hd_run.proofs.RunEndings.{run_callers, lines_sum, fault_writable}
 use Rattle.hd_run.proofs.LoadClaims.{load_is, load_sum}
 
 -- one thread runs the script, and lists the roots or not
-alone : (listed : Bool) (t : Traits) → runs_alone listed t ≡ true → (t.threads ≡ false) × (t.lists_roots ≡ listed)
+alone : (listed : Bool) (t : Traits) → runs_alone listed t ≡ true
+    → (t.threads ≡ false) × (t.lists_roots ≡ listed)
 alone true t is = listing t.threads t.lists_roots is
   where
     listing : (a b : Bool) → (not a && b) ≡ true → (a ≡ false) × (b ≡ true)
@@ -42,7 +43,8 @@ module _ (r : Request) (old new : SourceView) where
   reads = (traits_of r.mode).reads
 
   -- the script of the source, and the limits of the request
-  pub read_job : (lists : List (List Cmd)) → reads ≡ true → ReadProgram old new lists → IsJob r old new (lists, r.limits)
+  pub read_job : (lists : List (List Cmd)) → reads ≡ true → ReadProgram old new lists
+      → IsJob r old new (lists, r.limits)
   read_job lists is read = record {
     script = subst (λ b. ScriptBy b r old new lists) (sym is) read;
     numbers = subst (λ b. numbers_for r.limits lists ≡ numbers_by b r lists) (sym is) refl;
@@ -67,7 +69,8 @@ module _ (r : Request) (old new : SourceView) where
       (record { bytes = read.bytes; gave = read.read.all.gave; count = read.read.within })
   refused_by false lists f script is = (is, script.0)
 
-  pub job_cause : (threads : Bool) (lists : List (List Cmd)) (b : Bounds) (e : Ending) → IsJob r old new (lists, b) →
+  pub job_cause : (threads : Bool) (lists : List (List Cmd)) (b : Bounds) (e : Ending)
+      → IsJob r old new (lists, b) →
       RunCause threads false (numbers_for b lists) lists e → CauseBy reads threads false r old new e
   job_cause threads lists b (Refused f) job is = refused_by reads lists f job.script is
   job_cause threads lists b (Stopped run) job at =
@@ -89,7 +92,8 @@ module _ (r : Request) (old new : SourceView) where
 
   -- ---- what is written
 
-  few : (b : Bool) (lists : List (List Cmd)) → ScriptBy b r old new lists → (numbers_by b r lists).callers ≤ CALLERS
+  few : (b : Bool) (lists : List (List Cmd)) → ScriptBy b r old new lists
+      → (numbers_by b r lists).callers ≤ CALLERS
   few true lists read = read.program.shape.most
   few false lists script = omega arith
 
@@ -117,11 +121,11 @@ module _ (r : Request) (old new : SourceView) where
 -- ---- the same of a source
 
 module _ {S : Type 0} (seen : S → SourceView) (r : Request) (source : S × S) where
-  pub listed_worked : (threads : Bool) (e after : Ending) → Worked seen threads false r source e → Lists e after →
-      Worked seen threads true r source after
+  pub listed_worked : (threads : Bool) (e after : Ending) → Worked seen threads false r source e
+      → Lists e after → Worked seen threads true r source after
   listed_worked threads e after worked is = record {
-    cause = listed_cause r (seen source.0) (seen source.1) (traits_of r.mode).reads threads e after worked.cause
-        is;
+    cause = listed_cause r (seen source.0) (seen source.1) (traits_of r.mode).reads threads e after
+        worked.cause is;
     unread = worked.unread;
   }
 

@@ -114,8 +114,8 @@ pub record IsLoadScript (rounds : ℕ) (lists : List (List Cmd)) : Type 0 where
   pub most : rounds ≤ MOST_ROUNDS
   pub lists_are : lists ≡ generated_lists rounds
 
--- the lists that are run, by whether the mode reads: those of the bytes that were read; or nothing is read, and
--- they are those of a load
+-- the lists that are run, by whether the mode reads: those of the bytes that were read; or nothing is read,
+-- and they are those of a load
 abbrev pub ScriptBy : Bool → Request → SourceView → SourceView → List (List Cmd) → Type 0
 ScriptBy true r old new lists = ReadProgram old new lists
 ScriptBy false r old new lists = (new ≡ old) × IsLoadScript r.rounds lists
@@ -125,8 +125,8 @@ abbrev pub numbers_by : Bool → Request → List (List Cmd) → Numbers
 numbers_by true r lists = numbers_for r.limits lists
 numbers_by false r lists = load_numbers
 
--- the world that ran a script, by whether its callers had threads: P is true of that of one thread, and Q of one
--- that they shared
+-- the world that ran a script, by whether its callers had threads: P is true of that of one thread, and Q of
+-- one that they shared
 abbrev pub RunBy : Bool → (WorldView → Type 0) → (WorldView → Type 0) → Ran → Type 0
 RunBy false P Q (ran.Alone w) = P w
 RunBy false P Q (ran.Shared w) = ⊥
@@ -165,27 +165,30 @@ abbrev pub RefusedBy : Bool → SourceView → SourceView → Fault → Type 0
 RefusedBy true old new fault = FaultCause old new fault
 RefusedBy false old new fault = (fault ≡ NoMemory) × (new ≡ old)
 
--- The cause of each ending of a run of these lists, by whether its callers had threads and whether roots were to be
--- listed. Out of memory is free where no world is kept.
+-- The cause of each ending of a run of these lists, by whether its callers had threads and whether roots were
+-- to be listed. Out of memory is free where no world is kept.
 abbrev pub RunCause : Bool → Bool → Numbers → List (List Cmd) → Ending → Type 0
 RunCause threads listed n lists (Refused fault) = fault ≡ NoMemory
 RunCause threads listed n lists (Stopped run) = StoppedBy threads listed n lists run
-RunCause threads listed n lists (Done run roots) = RanBy threads n lists run × (roots ≡ roots_by listed (world_that run))
+RunCause threads listed n lists (Done run roots) =
+    RanBy threads n lists run × (roots ≡ roots_by listed (world_that run))
 
 -- there was a script, read whole or made, and the run of it has its cause
 abbrev pub RunsFor : Bool → Bool → Bool → Request → SourceView → SourceView → Ending → Type 0
 RunsFor reads threads listed r old new ending = (lists : List (List Cmd)) × ScriptBy reads r old new lists
     × RunCause threads listed (numbers_by reads r lists) lists ending
 
--- the cause of each ending of a request, by whether its mode reads, whether its callers have threads and whether it
--- lists roots
+-- the cause of each ending of a request, by whether its mode reads, whether its callers have threads and
+-- whether it lists roots
 abbrev pub CauseBy : Bool → Bool → Bool → Request → SourceView → SourceView → Ending → Type 0
 CauseBy reads threads listed r old new (Refused fault) = RefusedBy reads old new fault
 CauseBy reads threads listed r old new (Stopped run) = RunsFor reads threads listed r old new (Stopped run)
-CauseBy reads threads listed r old new (Done run roots) = RunsFor reads threads listed r old new (Done run roots)
+CauseBy reads threads listed r old new (Done run roots) =
+    RunsFor reads threads listed r old new (Done run roots)
 
 -- The cause of each ending, by what the words ask for. Words that aren't valid are refused unread; memory may
 -- run out as they are read.
 abbrev pub Cause : Option Request → SourceView → SourceView → Ending → Type 0
 Cause None old new ending = ((ending ≡ Refused Usage) ⊎ (ending ≡ Refused NoMemory)) × (new ≡ old)
-Cause (Some r) old new ending = let t = traits_of r.mode in CauseBy t.reads t.threads t.lists_roots r old new ending
+Cause (Some r) old new ending = let t = traits_of r.mode in
+    CauseBy t.reads t.threads t.lists_roots r old new ending

@@ -15,8 +15,8 @@ mode_of name = if bytes_eq name (codes "solo") then Some Solo
     else if bytes_eq name (codes "roots") then Some Roots
     else None
 
--- what each mode is: whether it reads a script, and else makes that of a load; whether its callers have threads;
--- whether it lists roots; and how it writes a run
+-- what each mode is: whether it reads a script, and else makes that of a load; whether its callers have
+-- threads; whether it lists roots; and how it writes a run
 abbrev pub traits_of : Mode → Traits
 traits_of Solo = record { reads = true; threads = false; lists_roots = false; form = Lines }
 traits_of Run = record { reads = true; threads = true; lists_roots = false; form = Lines }

@@ -56,8 +56,8 @@ pub record IsReadyFor (n : Numbers) (lists : List (List Cmd)) (left : List (ℕ 
   pub ran : RanUpTo n lists left w
   pub room : length left ≤ w.spare
 
--- an empty world for a script of at most as many callers as a world may have, with these numbers and room for all
--- its commands
+-- an empty world for a script of at most as many callers as a world may have, with these numbers and room for
+-- all its commands
 pub record IsOpenFor (lists : List (List Cmd)) (n : Numbers) (w : WorldView) : Type 0 where
   pub numbers : w.numbers ≡ n
   pub empty : w.journal ≡ []

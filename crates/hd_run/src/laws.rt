@@ -1,5 +1,5 @@
-// What is true of every run, and the limits as numbers. The functions do nothing: their clauses are the
-// laws.
+// What is true of every run, and the limits as numbers. The functions do nothing: their clauses are
+// the laws.
 ghost use Rattle.hd_run.specs.Laws.{LimitsAreThese, PartsFollowTheTurns};
 
 /// Each caller's list is the commands of its part of the journal, and then those that are left.

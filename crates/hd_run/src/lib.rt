@@ -124,7 +124,8 @@ pub fn run<R: Threads + Wait + Sync, K: Sink, P: Pace>(
 ) -> Outcome
     requires heap { (LEAST_HEAP ≤ heap) × (heap ≤ HEAP) }
     requires blocks { (1 ≤ blocks) × (blocks ≤ BLOCKS) }
-    ensures { Together K.seen Lines (numbers_for (record { heap = heap; blocks = blocks }) scripts.now)
+    ensures { Together K.seen Lines
+        (numbers_for (record { heap = heap; blocks = blocks }) scripts.now)
         scripts.now sink.old sink.new result }
 {
     // The scripts state that they are of few callers.

@@ -69,7 +69,8 @@ fn write_ran<K: Sink>(
 ) -> Result<(), Failed>
     requires callers { HasFewCallers world.now.journal }
     requires sum { HasSum form world.now }
-    ensures { Writes (K.seen sink.old) (K.seen sink.new) (ran_text form world.now roots.now) result }
+    ensures { Writes (K.seen sink.old) (K.seen sink.new) (ran_text form world.now roots.now)
+        result }
 {
     match roots {
         None => write_whole(sink, form, world),

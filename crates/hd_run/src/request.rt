@@ -37,8 +37,8 @@ pub(crate) fn read_words(alloc: Global, words: &[String]) -> Result<Request, Fau
     request_or_fault(command.try_get_matches_from(words))
 }
 
-/// What the words ask for, where they are valid and name a mode in which one thread runs the script,
-/// and lists the roots or not.
+/// What the words ask for, where they are valid and name a mode in which one thread runs the
+/// script, and lists the roots or not.
 pub(crate) fn read_words_alone(
     alloc: Global,
     words: &[String],
@@ -61,7 +61,8 @@ pub(crate) fn read_words_alone(
 // in the command.
 fn request_or_fault(taken: Result<ArgMatches, Error>) -> Result<Request, Fault>
     requires { IfOk taken (λ m. GivesNumbers (found_of m)) }
-    ensures matches { IfOk taken.entry (λ m. result ≡ request_or_usage (asked_by (rows_of (found_of m)))) }
+    ensures matches { IfOk taken.entry
+        (λ m. result ≡ request_or_usage (asked_by (rows_of (found_of m)))) }
     ensures limits { IfOk result IsInLimits }
     ensures error { IfErr taken.entry (λ e. IsErrAnd result (IsRefusal (kind_of e))) }
 {

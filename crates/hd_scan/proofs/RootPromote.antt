@@ -72,7 +72,8 @@ module _ {o : Objects Addr} {t : Table} {ages : List ℕ} {n : ℕ} {task : Task
         let all = all_to_come t ages n (task_kind task) is w slots in
         record {
           under = begins t ages n (task_kind task) is w slots before on clumps;
-          promotes = grows_none (IsYoungField o n) (IsPastTaken o t ages n task p0 pin0 (slots_to_come t ages w)) p0
+          promotes =
+              grows_none (IsYoungField o n) (IsPastTaken o t ages n task p0 pin0 (slots_to_come t ages w)) p0
               (λ x s. s.1 (all s.0.slot (taken_due x s.0)));
           pinned = λ x h. h;
           pin_joins = λ x s. absurd (s.1 (all s.0.taken.slot (taken_due x s.0.taken)));
@@ -83,7 +84,8 @@ module _ {o : Objects Addr} {t : Table} {ages : List ℕ} {n : ℕ} {task : Task
         }
 
   module _ {old new : DueRows} {slot : Slot} {before steps held : ℕ} {p pin : Addr → Bool}
-      (s : IsRooting o t ages n task p0 pin0 old before steps held p pin) (gives : Gives t ages old new slot) where
+      (s : IsRooting o t ages n task p0 pin0 old before steps held p pin)
+      (gives : Gives t ages old new slot) where
     due : IsDueRow t ages n (task_kind task) slot.0
     due = row_due s.under gives
 
@@ -136,7 +138,8 @@ module _ {o : Objects Addr} {t : Table} {ages : List ℕ} {n : ℕ} {task : Task
         → Grows (IsYoungField o n) (IsPastTaken o t ages n task p0 pin0 (slots_to_come t ages new)) p0 q
     promotes {q} g =
         grows_like (IsYoungField o n)
-        (λ x. IsPastTaken o t ages n task p0 pin0 (slots_to_come t ages old) x ⊎ IsTargetBy task (live_at t slot.0) x)
+        (λ x. IsPastTaken o t ages n task p0 pin0 (slots_to_come t ages old) x
+        ⊎ IsTargetBy task (live_at t slot.0) x)
         (IsPastTaken o t ages n task p0 pin0 (slots_to_come t ages new)) p0 q
         (λ x. ⊎_elim (λ r. (r.0, still r.0.slot r.1)) (λ b. (taken_here x b, past)))
         (λ x r. ⊎_elim (λ e. inr (target_here x r.0 e)) (λ ne. inl (r.0, before_or r.0.slot ne r.1))
@@ -218,7 +221,8 @@ module _ {o : Objects Addr} {t : Table} {ages : List ℕ} {n : ℕ} {task : Task
     pub root_end : RootPass o ages n task (view_at t p0 pin0) (view_at t p pin) held
     root_end = record {
       table = refl;
-      promotes = grows_like (IsYoungField o n) (IsPastTaken o t ages n task p0 pin0 (slots_to_come t ages old))
+      promotes =
+          grows_like (IsYoungField o n) (IsPastTaken o t ages n task p0 pin0 (slots_to_come t ages old))
           (IsTaken (row_at t) ages n task)
           p0 p (λ x r. r.0) (λ x r. (r, none r.slot)) s.promotes;
       pins = record {

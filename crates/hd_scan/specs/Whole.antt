@@ -34,8 +34,8 @@ pub record IsLostAt {N : Type 0} (rows : Rows N) (f : Handle N → Bool) (p : N 
   pub passes : f handle ≡ true
   pub lost : is_lost p handle.target ≡ true
 
--- all targets of the handles that pass are promoted, with what they lead to, and nothing else is; of condemned
--- objects, exactly the targets of those that pin are pinned
+-- all targets of the handles that pass are promoted, with what they lead to, and nothing else is; of
+-- condemned objects, exactly the targets of those that pin are pinned
 pub record WholeRoots (o : Objects Addr) (n : ℕ) (f : Handle Addr → Bool) (before after : PassView)
     : Type 0 where
   pub promotes :
@@ -44,7 +44,8 @@ pub record WholeRoots (o : Objects Addr) (n : ℕ) (f : Handle Addr → Bool) (b
       → (after.pinned x ≡ true) ↔ ((before.pinned x ≡ true) ⊎ IsPinTargetOf (row_at before.table) f x)
 
 -- every handle that passes is cleared where its target is not promoted, and this is how many
-pub record WholeClear (f : Handle Addr → Bool) (before : PassView) (after : Table) (cleared : ℕ) : Type 0 where
+pub record WholeClear (f : Handle Addr → Bool) (before : PassView) (after : Table)
+    (cleared : ℕ) : Type 0 where
   pub swept :
       (slot : ℕ) → row_at after slot ≡ option_map (swept true f before.promoted) (row_at before.table slot)
   pub count : Counts (IsLostAt (row_at before.table) f before.promoted) cleared

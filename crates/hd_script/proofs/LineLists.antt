@@ -179,7 +179,8 @@ finished bytes lists now number rest empty follows =
     is_script bytes no_fault ∙ ap Ok whole
 
 module _ {bytes : List ℕ} {lists : List (List Cmd)} {now number : ℕ} {rest : List ℕ} (after : List ℕ)
-    (follows : Follows bytes lists now number rest) (some : 0 < length rest) (e : after ≡ line_after rest) where
+    (follows : Follows bytes lists now number rest) (some : 0 < length rest)
+    (e : after ≡ line_after rest) where
   -- the readings of what is left are that of the line, and then those of the rest
   said_first : (reading : Option Reading) → reading ≡ reading_of (words_at rest)
       → readings_of rest ≡ reading ∷ readings_of after

@@ -156,7 +156,8 @@ strip_is x xs =
 strip_past : (x y : ℕ) (ys : List ℕ)
     → strip_carriage_return (x ∷ y ∷ ys) ≡ x ∷ strip_carriage_return (y ∷ ys)
 strip_past x y ys =
-    strip_is x (y ∷ ys) ∙ elim (eqb (get_or (y ∷ ys) (length ys) 0) 13) as (λ t. cond t (x ∷ take (length ys) (y ∷ ys)) (x ∷ y ∷ ys)
+    strip_is x (y ∷ ys) ∙ elim (eqb (get_or (y ∷ ys) (length ys) 0) 13) as
+    (λ t. cond t (x ∷ take (length ys) (y ∷ ys)) (x ∷ y ∷ ys)
     ≡ x ∷ cond t (take (length ys) (y ∷ ys)) (y ∷ ys))
     [ true ↦ refl | false ↦ refl ] ∙ ap (λ (l : List ℕ). x ∷ l) (sym (strip_is y ys))
 
@@ -272,7 +273,8 @@ word_then x w s xs h stop no_end =
     ap strip_carriage_return (front_fails is_line_end (x ∷ w) (s ∷ xs) free.1
     ∙ ap (λ (l : List ℕ). (x ∷ w) ++ l) (first_fails is_line_end s xs no_end))
     ∙ strip_front (x ∷ w) s (before_first is_line_end xs)
-    ∙ ap (λ (l : List ℕ). (x ∷ w) ++ l) (strip_first s (before_first is_line_end xs) (grind (arith, nat_tests))) in
+    ∙ ap (λ (l : List ℕ). (x ∷ w) ++ l)
+    (strip_first s (before_first is_line_end xs) (grind (arith, nat_tests))) in
     let content = ap (before_first is_hash) cut ∙ front_fails is_hash (x ∷ w) (s ∷ line) free.2 in
     let rest : words_at (s ∷ xs) ≡ words_in (before_first is_hash (s ∷ line)) =
     ap (λ (l : List ℕ). words_in (before_first is_hash l)) past in
@@ -320,7 +322,8 @@ stop_at xs i h within e = sym (position_or_len_is is_stop xs i 0 (omega (arith, 
 pub no_stop_at : (xs : List ℕ) (i : ℕ) → ((k : ℕ) → k < i → is_stop (get_or xs k 0) ≡ false) → i ≡ length xs
     → i ≡ position_or_len is_stop xs
 no_stop_at xs i h all =
-    sym (position_or_len_is is_stop xs i 0 (omega (arith, all)) h (λ inside. absurd (omega (arith, all, inside))))
+    sym (position_or_len_is is_stop xs i 0 (omega (arith, all)) h
+    (λ inside. absurd (omega (arith, all, inside))))
 
 module _ (xs : List ℕ) (i : ℕ) (e : i ≡ position_or_len is_stop xs) where
   pub word_to_end : i ≡ length xs

@@ -1,5 +1,6 @@
 // Lines, and words within a line. A word is a part of the input, and none is copied. One pass goes
-// over a line: each word ends where the search for its end finds a blank, a comment or the line's end.
+// over a line: each word ends where the search for its end finds a blank, a comment or the line's
+// end.
 ghost use Rattle.std.specs.Prelude.{◌≡◌, ◌≤◌, false, [], ◌∷◌, length, position, MatchOption, IfSome};
 ghost use Rattle.std.specs.List.{position_or_len};
 ghost use Rattle.std.specs.Str.Lines.{strip_carriage_return};

@@ -114,7 +114,8 @@ module _ (s : State) where
     where
       by : (o : Option Slot)
           → Agree (option_map_or (λ slot. option_map_or (λ handle. if pins handle then option_map_or Ok
-          handle.target (Err refusal.Null) else Err refusal.WrongKind) (handle_at s slot) (Err refusal.NotLive))
+          handle.target (Err refusal.Null) else Err refusal.WrongKind) (handle_at s slot)
+          (Err refusal.NotLive))
           o (Err refusal.EmptyRegister)) (option_and_then (λ slot. pinned_by (handle_at s slot)) o)
           (λ place. option_map_or (λ slot. option_map_or (λ handle. if pins handle then option_map_or
           (λ id. answers (reply.Place place) (with_place s id place)) handle.target (refuses refusal.Null s)
@@ -161,7 +162,8 @@ module _ (m : Machine) (caller h : ℕ) (known : caller < m.numbers.callers) (lo
         addresses = has.addresses p are;
         ages = refl;
         numbers = refl;
-        heap = others-heap (entry_with caller (cmd.AddrOf h) (reply.Place at.0)) is_collect refl (λ n. refl) m;
+        heap = others-heap (entry_with caller (cmd.AddrOf h) (reply.Place at.0)) is_collect refl
+            (λ n. refl) m;
       }
 
   pub addr-refused : (refused : Refusal) → Err refused ≡ pinned_in m.state caller h
@@ -183,7 +185,8 @@ module _ (m : Machine) (caller h : ℕ) (known : caller < m.numbers.callers) (lo
         addresses = are;
         ages = refl;
         numbers = refl;
-        heap = others-heap (entry_with caller (cmd.AddrOf h) (reply.Refused refused)) is_collect refl (λ n. refl) m;
+        heap = others-heap (entry_with caller (cmd.AddrOf h) (reply.Refused refused)) is_collect refl
+            (λ n. refl) m;
       }
 
 -- the steps of a collection
@@ -263,7 +266,8 @@ module _ (m k : Machine) (e : Entry) (keeps : KeepsPlaces m e k) (h place : ℕ)
 pub others-run : (m k : Machine) (asked : CallerCommand) (offered : Option Slot) (c : Cmd) → asked.cmd ≡ c
     → asks_of c ≡ no_room → (r : Result Done Refusal) (before after : ℕ) → MayRun m asked offered
     → KeepsPlaces m (entry_of (record { caller = asked.caller; cmd = c }) (done_of r)) k
-    → TakesSteps m.state m.ages (entry_of (record { caller = asked.caller; cmd = c }) (done_of r)) before after
+    → TakesSteps m.state m.ages (entry_of (record { caller = asked.caller; cmd = c }) (done_of r))
+    before after
     → (e : Entry) → e ≡ entry_of asked (done_of r)
     → HasRun m asked offered k e × TakesSteps m.state m.ages e before after
 others-run m k asked offered c is none r before after may keeps steps e entry =

@@ -33,7 +33,8 @@ still_set false s card c is = is
 now_set : (b : Bool) (s : set.FinSet nat_cmp) (card : ℕ) → b ≡ true
     → set.contains (if b then set.insert s card else s) card ≡ true
 now_set true s card is =
-    set.contains-insert nat_cmp_total s card card ∙ ap (λ t. t || set.contains s card) (unsigned_tied card card ∙ eq-eqb card card refl)
+    set.contains-insert nat_cmp_total s card card
+    ∙ ap (λ t. t || set.contains s card) (unsigned_tied card card ∙ eq-eqb card card refl)
 now_set false s card is = absurd (subst T (sym is) tt)
 
 younger_is : (h : Heap) (at y : Addr) (v : Option Addr) → v ≡ Some y

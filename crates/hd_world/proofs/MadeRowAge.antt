@@ -82,5 +82,6 @@ made_may m0 m1 m2 k g slot caller t given row grows lowers made =
           there_before (secondary_register given) _ (name_in m0.names a)
           (sym (made_secondary m0.state caller given t)
           ∙ ap (λ (h : Handle Id). secondary_of h.extra) (sym made.handle)
-          ∙ secondary_renamed (name_in m0.names) (extra_of row.extra) ∙ ap (option_map (name_in m0.names)) is));
+          ∙ secondary_renamed (name_in m0.names) (extra_of row.extra)
+          ∙ ap (option_map (name_in m0.names)) is));
     })

@@ -56,12 +56,16 @@ one_address : (names : FinMap nat_cmp Id) (x : Id) (a : ℕ) → get names a ≡
     → AreAddresses names (insert empty x.0 a)
 one_address names x a named y b is =
     elim (cases_eq y x.0) [
-      | inl same ↦ ap (get names) (sym (same_Some a b (sym (get_inserted empty x.0 a) ∙ ap (get (insert empty x.0 a)) (sym same) ∙ is)))
+      | inl same ↦
+          ap (get names)
+          (sym (same_Some a b
+          (sym (get_inserted empty x.0 a) ∙ ap (get (insert empty x.0 a)) (sym same) ∙ is)))
           ∙ named ∙ (λ i. Some (record { 0 = sym same i }))
       | inr apart ↦ absurd (nothing_at y b (sym (get_beside empty x.0 a y apart) ∙ is))
     ]
 
-module _ (m k : Machine) (e : Entry) (keeps : KeepsPlaces m e k) (before : IsOverHeap m) (after : IsOverHeap k)
+module _ (m k : Machine) (e : Entry) (keeps : KeepsPlaces m e k) (before : IsOverHeap m)
+    (after : IsOverHeap k)
     (x : Id) (a : ℕ) where
   keeps_name : (is_collect e.cmd ≡ false) ⊎ (is_pinned m.state.handles x.0 ≡ true) → get m.names a ≡ Some x
       → get k.names a ≡ Some x

@@ -292,7 +292,8 @@ module _ (f : Parts) (stored : IsStored f) (h : Heap) (t : Table) (ages : List �
   parts_same e = λ i. record f { heap = e.0 i; table = e.1 i; ages = e.2 i; queue = e.3 i; roots = e.4 i }
 
   pub lent-roots : (r : Result Report Memory) (len : ℕ) → len ≡ length f.roots
-      → IsAnswer f (parts h t ages q roots) n before after r → take len (roots ++ drop (length roots) f.roots) ≡ roots
+      → IsAnswer f (parts h t ages q roots) n before after r
+      → take len (roots ++ drop (length roots) f.roots) ≡ roots
   lent-roots (Ok report) len is done = lent roots f.roots len is
       (as_long f stored h t ages q roots n report before after done)
   lent-roots (Err e) len is done = lent roots f.roots len is (ap length done.4)

@@ -76,7 +76,8 @@ stored-put f slot row stored may =
     elim (cases_eq s slot) [
       | inl same ↦
           let it : row ≡ r = same_Some row r
-          (sym (get_inserted f.table.rows slot row) ∙ ap (get (insert f.table.rows slot row)) (sym same) ∙ is) in
+          (sym (get_inserted f.table.rows slot row) ∙ ap (get (insert f.table.rows slot row)) (sym same)
+          ∙ is) in
           subst (Stands f s) it (subst (λ k. Stands f k row) (sym same) may)
       | inr apart ↦ stands f stored s r (sym (get_beside f.table.rows slot row s apart) ∙ is)
     ])
@@ -193,7 +194,8 @@ module _ (f : Parts) (m : Machine) (view : machine_of f ≡ m) (stored : IsStore
   }
 
 -- a table with that row
-pub row-put : (f : Parts) (m : Machine) → machine_of f ≡ m → IsStored f → (slot : Slot) (kind : Kind) (row : Row)
+pub row-put : (f : Parts) (m : Machine) → machine_of f ≡ m → IsStored f
+    → (slot : Slot) (kind : Kind) (row : Row)
     → MayStand m slot kind row → (t : Table) → t ≡ with_row f.table slot.0 (handle_of kind row)
     → IsStored (with_table f t) × (machine_of (with_table f t)
     ≡ record m { state = with_handle m.state slot (handle_named m kind row) })

@@ -32,7 +32,8 @@ pub(crate) fn load(store: &mut Store, caller: u32, d: u8, v: Option<Addr>) -> Do
     requires register { d < REGISTERS }
     requires named { IsNamed store.old.names v }
     ensures reply { Replies (loaded (named_in store.old.names v)) result }
-    ensures store { let state = with_register store.old.state caller d (named_in store.old.names v) in
+    ensures store { let state =
+        with_register store.old.state caller d (named_in store.old.names v) in
         store.new ≡ record store.old { state = state } }
 {
     let reply = loaded(store, v);

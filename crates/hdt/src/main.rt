@@ -9,8 +9,8 @@ use std::io::ErrorKind;
 use std::process::ExitCode;
 use std::rt::Env;
 
-// The status of a call whose words could not be collected because memory ran out. Nothing is written
-// then.
+// The status of a call whose words could not be collected because memory ran out. Nothing is
+// written then.
 const NO_MEMORY: u8 = 6;
 
 // The words of the command line, the program's name first; none where one of them is not text.

@@ -11,8 +11,8 @@ loop-taken-preserved c =
 
 pub returns : goal.returns
 returns c =
-    let parts = taken_parts c.args.mask c.loop-taken.left _ c.args.n c.loop-taken.invariant (omega arith) (omega arith)
-    (omega arith) in
+    let parts = taken_parts c.args.mask c.loop-taken.left _ c.args.n c.loop-taken.invariant (omega arith)
+    (omega arith) (omega arith) in
     record {
       lowest = parts.list.0;
       rest = parts.list.1;

@@ -10,5 +10,6 @@ returns-clause-held t c =
     let slot = c.in-Some.slot.0 in
     let held = c.args.seat.now.view.held in
     ap (λ (v : View Pages). v.held) c.release.ensures.done.view
-    ∙ ap (without slot) (c.hold-more.ensures.held ∙ ap (λ (v : View Pages). v.held) c.in-Some.ensures.done.view)
+    ∙ ap (without slot)
+    (c.hold-more.ensures.held ∙ ap (λ (v : View Pages). v.held) c.in-Some.ensures.done.view)
     ∙ slot_goes slot 3 held c.in-Some.ensures.fresh.2

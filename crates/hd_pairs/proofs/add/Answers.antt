@@ -19,7 +19,8 @@ pub returns : goal.returns
 returns g c =
     let entered = c.enter-world.ensures.view in
     let granted = c.grant.ensures.view in
-    let taken = ap (λ (s : Known Pages). s.view.taken) granted ∙ ap (λ (s : Known Pages). s.view.taken) entered in
+    let taken = ap (λ (s : Known Pages). s.view.taken) granted
+    ∙ ap (λ (s : Known Pages). s.view.taken) entered in
     let left = c.leave-2.ensures.view c.enter-world.result taken in record {
       seat = (
         ap (λ (s : Known Pages). s.table) left ∙ ap (λ (s : Known Pages). s.table) granted

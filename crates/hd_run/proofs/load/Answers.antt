@@ -23,7 +23,8 @@ cause g c = subst (λ (n : Numbers). RunCause true false n (generated_lists c.ar
     (numbers_for (record { heap = HEAP; blocks = BLOCKS }) lists) lists c.run_callers-ending.result)
     c.in-Ok.ensures (rw c.new.ensures at c.run_callers-ending.ensures))
 
-script : (g : Over) (c : After-run_callers-ending g) → IsLoadScript c.args.rounds (generated_lists c.args.rounds)
+script : (g : Over) (c : After-run_callers-ending g)
+    → IsLoadScript c.args.rounds (generated_lists c.args.rounds)
 script g c = record { least = c.requires.0; most = c.requires.1; lists_are = refl }
 
 pub report-requires : goal.report-requires

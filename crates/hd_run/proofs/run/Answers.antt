@@ -18,6 +18,7 @@ report-requires g c =
 
 pub returns : goal.returns
 returns g c =
-    together g.K.Sink.seen Lines (numbers_for (record { heap = c.args.heap; blocks = c.args.blocks }) c.args.scripts.now)
+    together g.K.Sink.seen Lines
+    (numbers_for (record { heap = c.args.heap; blocks = c.args.blocks }) c.args.scripts.now)
     c.args.scripts.now c.args.sink.now c.report.new.sink c.run_callers-ending.result c.report.result
     (rw c.new.ensures at c.run_callers-ending.ensures) c.report.ensures

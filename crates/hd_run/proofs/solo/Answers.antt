@@ -11,7 +11,8 @@ use Rattle.hd_run.proofs.solo.Given.{Over}
 use Rattle.hd_run.proofs.solo.Goals as goal
 use Rattle.hd_run.proofs.solo.Goals.{After-work_alone-ending}
 
-worked : (g : Over) (c : After-work_alone-ending g) → Worked g.S.Source.seen (traits_of c.in-Ok.request.mode).threads
+worked : (g : Over) (c : After-work_alone-ending g)
+    → Worked g.S.Source.seen (traits_of c.in-Ok.request.mode).threads
     (traits_of c.in-Ok.request.mode).lists_roots c.in-Ok.request
     (c.args.source.now, c.work_alone-ending.new.source) c.work_alone-ending.result
 worked g c =
@@ -31,7 +32,8 @@ returns-in-Ok g c =
     c.in-Ok.ensures.value
     (asked_promise g.S.Source.seen g.K.Sink.seen (c.args.source.now, c.work_alone-ending.new.source)
     (c.args.sink.now, c.report.new.sink) c.report.result c.in-Ok.request c.work_alone-ending.result
-    (worked g (goal.at.returns-in-Ok g c).After-work_alone-ending) (rw c.traits-form.ensures at c.report.ensures))
+    (worked g (goal.at.returns-in-Ok g c).After-work_alone-ending)
+    (rw c.traits-form.ensures at c.report.ensures))
 
 pub report-requires-in-Err : goal.report-requires-in-Err
 report-requires-in-Err g c = fault_writable _ c.in-Err.fault

@@ -16,6 +16,6 @@ loop-round-preserved g c =
       held = ap (λ (s : Known Blocks). s.view.held) left
           ∙ none_ended ghosts world world c.enter-world.new.seat.view (λ x le. refl) (λ n p e. refl)
           ∙ ap (λ (s : Known Blocks). s.view.held) entered ∙ c.loop-round.invariant.held;
-      number = ap (λ (s : Known Blocks). s.view.number) left ∙ ap (λ (s : Known Blocks). s.view.number) entered
-          ∙ c.loop-round.invariant.number;
+      number = ap (λ (s : Known Blocks). s.view.number) left
+          ∙ ap (λ (s : Known Blocks). s.view.number) entered ∙ c.loop-round.invariant.number;
     }

@@ -31,7 +31,8 @@ returns-in-Ok-clause-all c =
 
 pub returns-in-Ok-clause-begin : goal.returns-in-Ok-clause-begin
 returns-in-Ok-clause-begin c =
-    begin c.args.custody.now c.args.rooms.now (caller_view_of c.others.new.first 0 (padded_value c.new-room.result))
+    begin c.args.custody.now c.args.rooms.now
+    (caller_view_of c.others.new.first 0 (padded_value c.new-room.result))
     c.in_ok-list.list.items c.insert.new.self.items
     c.in-Ok.ensures.items c.in_ok-list.ensures.count c.requires.callers.2 (new_one c)
     c.in_ok-list.ensures.others

@@ -41,7 +41,8 @@ left g c =
 
 pub step_surely-entry-requires-clause-step : goal.step_surely-entry-requires-clause-step
 step_surely-entry-requires-clause-step g c =
-    may_step c.enter-world.result c.args.seat.now.view c.args.number c.args.cmd None c.enter-world.ensures.entered
+    may_step c.enter-world.result c.args.seat.now.view c.args.number c.args.cmd None
+    c.enter-world.ensures.entered
     c.requires.turn.room c.requires.turn.idle.known c.requires.turn.valid tt
 
 pub leave-requires-clause-follows : goal.leave-requires-clause-follows

@@ -18,7 +18,8 @@ pub step_surely-entry-requires-clause-step : goal.step_surely-entry-requires-cla
 step_surely-entry-requires-clause-step g c =
     let v = c.allocate-offer.new.seat.view in
     let view = c.allocate-offer.ensures.done.view in
-    may_step c.enter-world.result v c.args.number c.args.cmd c.allocate-offer.result c.enter-world.ensures.entered
+    may_step c.enter-world.result v c.args.number c.args.cmd c.allocate-offer.result
+    c.enter-world.ensures.entered
     (subst (λ (x : View WorldView). 1 ≤ x.room) (sym view) c.requires.turn.room)
     (subst (λ (x : View WorldView). c.args.number < x.limits.callers) (sym view) c.requires.turn.idle.known)
     c.requires.turn.valid

@@ -9,7 +9,8 @@ use Rattle.hd_gate.proofs.turns.plainly.Goals as goal
 
 pub step-done-requires : goal.step-done-requires
 step-done-requires g c =
-    may_step c.enter-world.result c.args.seat.now.view c.args.number c.args.cmd None c.enter-world.ensures.entered
+    may_step c.enter-world.result c.args.seat.now.view c.args.number c.args.cmd None
+    c.enter-world.ensures.entered
     c.requires.turn.room c.requires.turn.idle.known c.requires.turn.valid tt
 
 pub leave-requires-clause-follows : goal.leave-requires-clause-follows
@@ -40,5 +41,6 @@ returns-in-Ok g c =
     let seat = c.args.seat.now in
     let all = plain_leaves c.args.number c.args.cmd c.requires.keeps u w seat.view c.requires.turn.idle
     c.requires.turn.room c.enter-world.ensures.entered c.in-Ok.entry c.in-Ok.ensures in
-    turned seat c.enter-world.new.seat c.args.number c.args.cmd u w c.in-Ok.entry _ c.enter-world.ensures.view all
+    turned seat c.enter-world.new.seat c.args.number c.args.cmd u w c.in-Ok.entry
+    _ c.enter-world.ensures.view all
     c.leave.new.seat c.leave.ensures.view

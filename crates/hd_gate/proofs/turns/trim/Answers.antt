@@ -18,13 +18,15 @@ step_surely-entry-requires-clause-step g c =
     let v = c.gather-block.new.seat.view in
     let view = c.gather-block.ensures.done.view in
     let o = c.gather-block.result in
-    may_step c.enter-world.result v c.args.number c.args.cmd c.first_slot-first.result c.enter-world.ensures.entered
+    may_step c.enter-world.result v c.args.number c.args.cmd c.first_slot-first.result
+    c.enter-world.ensures.entered
     (subst (λ (x : View WorldView). 1 ≤ x.room) (sym view) c.requires.turn.room)
     (subst (λ (x : View WorldView). c.args.number < x.limits.callers) (sym view) c.requires.turn.idle.known)
     c.requires.turn.valid
-    (subst (λ (p : Option Slot). IsOffer c.enter-world.result.state c.args.cmd p) (sym c.first_slot-first.ensures)
-    (may_offer c.enter-world.result v c.args.kind c.enter-world.ensures.entered c.args.cmd c.requires.gives_back o
-    (ap (λ (x : View WorldView). x.held) view
+    (subst (λ (p : Option Slot). IsOffer c.enter-world.result.state c.args.cmd p)
+    (sym c.first_slot-first.ensures)
+    (may_offer c.enter-world.result v c.args.kind c.enter-world.ensures.entered c.args.cmd
+    c.requires.gives_back o (ap (λ (x : View WorldView). x.held) view
     ∙ ap (gathered (kind_number c.args.kind) o) c.requires.turn.idle.held)))
 
 pub withdraw-requires-clause-all : goal.withdraw-requires-clause-all
@@ -58,7 +60,8 @@ all g c =
     let e = c.step_surely-entry.result in
     trim_leaves c.args.number c.args.cmd c.args.kind c.requires.gives_back u w c.args.seat.now.view
     c.gather-block.new.seat.view c.requires.turn.idle c.requires.turn.room c.gather-block.result
-    c.args.custody.now.blocks c.requires.turn.blocks c.gather-block.ensures.done c.enter-world.ensures.entered e
+    c.args.custody.now.blocks c.requires.turn.blocks c.gather-block.ensures.done
+    c.enter-world.ensures.entered e
     (subst (λ (p : Option Slot). Stepped u w c.args.number c.args.cmd p e) c.first_slot-first.ensures
     c.step_surely-entry.ensures)
 

@@ -45,14 +45,18 @@ lay-requires-clause-closed g c =
 
 pub returns-clause-found : goal.returns-clause-found
 returns-clause-found g c =
-    marked_and_cleared c.requires.ready c.trace.ensures.traced c.trace.ensures.table c.clear_short-short.ensures.marks
+    marked_and_cleared c.requires.ready c.trace.ensures.traced c.trace.ensures.table
+    c.clear_short-short.ensures.marks
     c.clear_short-short.ensures.clears c.revive-revived.ensures.revived c.clear_long-long.ensures.marks
-    c.clear_long-long.ensures.clears c.clear-dep.ensures.whole c.clear-dep.ensures.table c.clear-dep.ensures.whole_count
+    c.clear_long-long.ensures.clears c.clear-dep.ensures.whole c.clear-dep.ensures.table
+    c.clear-dep.ensures.whole_count
     c.revive-revived.ensures.count
     c.lay.ensures.laid c.requires.basis c.lay.ensures.basis c.lay.ensures.kept c.lay.ensures.pinned
     c.lay.ensures.stays (λ i. c.revive-revived.new.fin.waiting) c.revive-revived.ensures.room
-    (mark_and_clear_steps c.requires.ready c.trace.ensures.traced c.trace.ensures.table c.clear_short-short.ensures.marks
+    (mark_and_clear_steps c.requires.ready c.trace.ensures.traced c.trace.ensures.table
+    c.clear_short-short.ensures.marks
     c.clear_short-short.ensures.clears c.revive-revived.ensures.revived c.clear_long-long.ensures.marks
-    c.clear_long-long.ensures.clears c.clear-dep.ensures.whole c.clear-dep.ensures.table c.clear-dep.ensures.whole_count
+    c.clear_long-long.ensures.clears c.clear-dep.ensures.whole c.clear-dep.ensures.table
+    c.clear-dep.ensures.whole_count
     c.revive-revived.ensures.count
     c.clear_short-short.ensures.steps c.clear_long-long.ensures.steps c.clear-dep.ensures.steps)

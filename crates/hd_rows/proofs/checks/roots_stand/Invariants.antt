@@ -6,4 +6,5 @@ use Rattle.hd_rows.proofs.checks.roots_stand.Given as goal
 
 abbrev pub invariant-loop-root : goal.invariant-loop-root
 invariant-loop-root l =
-    (k : ℕ) (x : Addr) → k < l.root-index → slice_index_or l.roots k None ≡ Some x → has_object l.heap x ≡ true
+    (k : ℕ) (x : Addr) → k < l.root-index → slice_index_or l.roots k None ≡ Some x
+    → has_object l.heap x ≡ true

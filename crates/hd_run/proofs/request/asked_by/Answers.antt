@@ -13,7 +13,8 @@ returns-in_err-mode-clause-value c =
     ∙ asked_mode (found_of c.args.matches.now) c.in_ok-get_str.field-0.now None (search rules) (search rules)
 
 pub new-requires-clause-heap : goal.new-requires-clause-heap
-new-requires-clause-heap c = rw c.number_of-heap.ensures (heap_in_limits (found_of c.args.matches.now) c.requires)
+new-requires-clause-heap c =
+    rw c.number_of-heap.ensures (heap_in_limits (found_of c.args.matches.now) c.requires)
 
 pub new-requires-clause-blocks : goal.new-requires-clause-blocks
 new-requires-clause-blocks c =

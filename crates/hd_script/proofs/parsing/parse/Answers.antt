@@ -50,10 +50,13 @@ returns-clause-ok c = finished c.args.bytes.now c.lines.scripts c.lines.caller c
     c.lines.rest.now (grind (arith, nat_tests)) c.lines.invariant
 
 pub lines-smaller-in-Blank : goal.lines-smaller-in-Blank
-lines-smaller-in-Blank c = fewer c.in-Some.after.now c.lines.invariant (grind (arith, nat_tests)) c.in-Some.ensures.line
+lines-smaller-in-Blank c =
+    fewer c.in-Some.after.now c.lines.invariant (grind (arith, nat_tests)) c.in-Some.ensures.line
 
 pub lines-smaller-in-Caller : goal.lines-smaller-in-Caller
-lines-smaller-in-Caller c = fewer c.in-Some.after.now c.lines.invariant (grind (arith, nat_tests)) c.in-Some.ensures.line
+lines-smaller-in-Caller c =
+    fewer c.in-Some.after.now c.lines.invariant (grind (arith, nat_tests)) c.in-Some.ensures.line
 
 pub lines-smaller : goal.lines-smaller
-lines-smaller c = fewer c.in-Some.after.now c.lines.invariant (grind (arith, nat_tests)) c.in-Some.ensures.line
+lines-smaller c =
+    fewer c.in-Some.after.now c.lines.invariant (grind (arith, nat_tests)) c.in-Some.ensures.line

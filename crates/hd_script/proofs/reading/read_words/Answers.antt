@@ -7,14 +7,16 @@ returns-in_default-clause-exact c = none c.args.bytes.now c.in_default.ensures.w
 
 pub returns-in_err-a-clause-exact : goal.returns-in_err-a-clause-exact
 returns-in_err-a-clause-exact c =
-    rw c.from_residual.ensures (lone c.args.bytes.now c.in-Some.word.now c.in-Some.rest.now c.in-Some.ensures.words
+    rw c.from_residual.ensures
+    (lone c.args.bytes.now c.in-Some.word.now c.in-Some.rest.now c.in-Some.ensures.words
     c.in_err-a.ensures.words)
 
 pub returns-in_err-small-clause-exact : goal.returns-in_err-small-clause-exact
 returns-in_err-small-clause-exact c =
     rw c.from_residual-in_err-small.ensures
     (names_caller c.args.bytes.now c.in-Some.word.now c.in-Some.rest.now c.in_ok-a.a.now
-    c.in_ok-a.rest.now c.in-Some.ensures.words c.in_ok-a.ensures.words None c.in_default-next_word.ensures.words
+    c.in_ok-a.rest.now c.in-Some.ensures.words c.in_ok-a.ensures.words None
+    c.in_default-next_word.ensures.words
     (sym c.spells.ensures ∙ c.if-spells.true) c.in_err-small.ensures.value)
 
 pub returns-in_err-two_words-clause-exact : goal.returns-in_err-two_words-clause-exact
@@ -27,13 +29,15 @@ returns-in_err-two_words-clause-exact c =
 pub returns-in_ok-small-clause-exact : goal.returns-in_ok-small-clause-exact
 returns-in_ok-small-clause-exact c =
     names_caller c.args.bytes.now c.in-Some.word.now c.in-Some.rest.now c.in_ok-a.a.now c.in_ok-a.rest.now
-    c.in-Some.ensures.words c.in_ok-a.ensures.words (Some c.in_ok-small.field-0) c.in_default-next_word.ensures.words
+    c.in-Some.ensures.words c.in_ok-a.ensures.words (Some c.in_ok-small.field-0)
+    c.in_default-next_word.ensures.words
     (sym c.spells.ensures ∙ c.if-spells.true) c.in_ok-small.ensures.value
 
 pub returns-in_ok-two_words-clause-exact : goal.returns-in_ok-two_words-clause-exact
 returns-in_ok-two_words-clause-exact c =
     of_two c.args.bytes.now c.in-Some.word.now c.in-Some.rest.now c.in_ok-a.a.now c.in_ok-a.rest.now
-    c.in-Some.ensures.words c.in_ok-a.ensures.words (Some c.in_ok-two_words.field-0) c.in_default-next_word.ensures.words
+    c.in-Some.ensures.words c.in_ok-a.ensures.words (Some c.in_ok-two_words.field-0)
+    c.in_default-next_word.ensures.words
     (sym c.spells.ensures ∙ c.if-spells.false) c.in_ok-two_words.ensures.exact
 
 pub returns-in_err-three_words-clause-exact : goal.returns-in_err-three_words-clause-exact
@@ -48,7 +52,8 @@ pub returns-in_default-next_word-2-clause-exact : goal.returns-in_default-next_w
 returns-in_default-next_word-2-clause-exact c =
     of_three c.args.bytes.now c.in-Some.word.now c.in-Some.rest.now c.in_ok-a.a.now c.in_ok-a.rest.now
     c.in-Some.ensures.words c.in_ok-a.ensures.words c.in-Some-next_word.b.now c.in-Some-next_word.rest_b.now
-    c.in-Some-next_word.ensures.words (Some c.in_ok-three_words.field-0) c.in_default-next_word-2.ensures.words
+    c.in-Some-next_word.ensures.words (Some c.in_ok-three_words.field-0)
+    c.in_default-next_word-2.ensures.words
     c.in_ok-three_words.ensures.exact
 
 pub returns-in_err-four_words-clause-exact : goal.returns-in_err-four_words-clause-exact

@@ -9,7 +9,8 @@ returns g c =
     let m = c.args.store.now in
     let k = c.collect.new.self in
     subst
-    (λ (d : Done). KeepsPlaces m (entry_of (record { caller = c.args.caller; cmd = cmd.Collect c.args.n }) d) k
+    (λ (d : Done).
+    KeepsPlaces m (entry_of (record { caller = c.args.caller; cmd = cmd.Collect c.args.n }) d) k
     × TakesSteps m.state m.ages (entry_of (record { caller = c.args.caller; cmd = cmd.Collect c.args.n }) d)
     c.args.steps.now c.collect.new.steps) (sym c.of.ensures) (
       collect-moves m k c.args.n c.in_ok-report.report c.args.caller c.requires.caller c.requires.generation

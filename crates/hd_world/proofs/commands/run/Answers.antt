@@ -5,7 +5,8 @@ use Rattle.hd_world.proofs.commands.run.Goals as goal
 
 pub returns-in-Collect : goal.returns-in-Collect
 returns-in-Collect g c =
-    others-run c.args.store.now c.collect_up_to.new.store c.args.asked c.args.offer (cmd.Collect c.in-Collect.n)
+    others-run c.args.store.now c.collect_up_to.new.store c.args.asked c.args.offer
+    (cmd.Collect c.in-Collect.n)
     c.in-Collect.is refl (Ok c.in_ok-done.done) c.args.steps.now c.collect_up_to.new.steps c.requires
     c.in_ok-done.ensures.0 c.in_ok-done.ensures.1 c.entry.result c.entry.ensures
 

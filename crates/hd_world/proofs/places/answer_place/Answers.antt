@@ -14,7 +14,9 @@ returns-in-Err c =
 pub returns-in-Ok : goal.returns-in-Ok
 returns-in-Ok c =
     let m = c.args.store.now in
-    subst (λ (d : Done). KeepsPlaces m (entry_of (record { caller = c.args.caller; cmd = cmd.AddrOf c.args.h }) d) m)
-    (sym (c.of.ensures ∙ (λ i. record { reply = reply.Place (c.place.ensures.value i); slot = None; grown = Zero })))
+    subst (λ (d : Done).
+    KeepsPlaces m (entry_of (record { caller = c.args.caller; cmd = cmd.AddrOf c.args.h }) d) m)
+    (sym (c.of.ensures
+    ∙ (λ i. record { reply = reply.Place (c.place.ensures.value i); slot = None; grown = Zero })))
     (addr-answers m c.args.caller c.args.h c.requires.caller c.requires.register c.in-Ok.at
     c.place.ensures.place c.in-Ok.ensures.value)

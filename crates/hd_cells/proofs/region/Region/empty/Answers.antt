@@ -14,4 +14,5 @@ returns c =
 pub invariant_of-result : goal.invariant_of-result
 invariant_of-result c =
     let laid = blank_laid c.blank.result c.blank.ensures in
-    whole (laid_region laid) (laid_contents laid empty refl) (empty_indexed c.no_starts.result c.no_starts.ensures)
+    whole (laid_region laid) (laid_contents laid empty refl)
+    (empty_indexed c.no_starts.result c.no_starts.ensures)

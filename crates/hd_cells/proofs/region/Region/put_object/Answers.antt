@@ -10,12 +10,15 @@ returns-clause-was_free c = get-fill (opened c.self.inside c.self.told c.self.in
 
 pub returns-clause-put : goal.returns-clause-put
 returns-clause-put c =
-    (object_put (opened c.self.inside c.self.told c.self.invariant c.self.view_is) c.args.id c.args.fields c.args.registered c.shape.result c.requires.identified
+    (object_put (opened c.self.inside c.self.told c.self.invariant c.self.view_is) c.args.id c.args.fields
+    c.args.registered c.shape.result c.requires.identified
     c.requires.few_fields c.requires.room (rw c.from.ensures at c.shape.ensures)).view
 
 pub returns-clause-laid_out : goal.returns-clause-laid_out
 returns-clause-laid_out c =
-    new_laid_out (object_put (opened c.self.inside c.self.told c.self.invariant c.self.view_is) c.args.id c.args.fields c.args.registered c.shape.result c.requires.identified
+    new_laid_out
+    (object_put (opened c.self.inside c.self.told c.self.invariant c.self.view_is) c.args.id c.args.fields
+    c.args.registered c.shape.result c.requires.identified
     c.requires.few_fields c.requires.room (rw c.from.ensures at c.shape.ensures))
 
 pub invariant_of-self : goal.invariant_of-self

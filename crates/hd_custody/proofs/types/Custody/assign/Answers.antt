@@ -15,6 +15,7 @@ store-requires g c =
     (c.requires.gate, c.requires.no_kind.1, c.requires.no_kind.2) in (
       same_table c.caller.view_is c.requires.seat c.self.view_is,
       omega (arith, c.self.invariant.0, block),
-      assign_steps g.W.Held _ _ place.id place.me.0 place.me.1 c.caller.invariant c.args.block c.args.kind world
+      assign_steps g.W.Held _ _ place.id place.me.0 place.me.1 c.caller.invariant c.args.block
+          c.args.kind world
           block.0.0 block.0.1 block.1 now.0 now.1 now.2,
     )

@@ -14,7 +14,8 @@ split_seat-place-requires g c =
     ap (λ (v : View W). v.room) view in
     let enough : g.N.Share.share ≤ place.me.0.room = omega (arith, room, c.requires.share, c.requires.picked)
     in (
-      ap (λ (a : Acting W). a.table) c.caller.view_is ∙ ap (λ (k : Known W). k.table) c.first.view_is ∙ c.requires.seat
+      ap (λ (a : Acting W). a.table) c.caller.view_is ∙ ap (λ (k : Known W). k.table) c.first.view_is
+          ∙ c.requires.seat
           ∙ ap (λ (n : Named). n.table) (sym c.self.view_is),
       omega (arith, c.self.invariant.0),
       λ s rule at. splits g.W.Held _ place.id g.N.Share.share place.me.0 c.caller.invariant

@@ -10,7 +10,8 @@ use Rattle.hd_custody.proofs.types.Custody.empty_cache.Goals as goal
 pub settle-requires : goal.settle-requires
 settle-requires g c =
     let a = c.args.caller.now in
-    let so = sweep_step {blocks = c.args.self.now.blocks} (calling a) c.begin-first.new.caller 0 _ c.begin-first.result (omega arith)
+    let so = sweep_step {blocks = c.args.self.now.blocks} (calling a) c.begin-first.new.caller 0
+    _ c.begin-first.result (omega arith)
     c.swept.ensures.value c.swept.ensures.kind c.begin-first.ensures.view in record {
       seat = table_is so ∙ c.requires.seat;
       slot = λ ne. (
@@ -26,7 +27,8 @@ loop-n-init g c =
     (sweep_step (calling a) c.begin-first.new.caller 0 _ c.begin-first.result (omega arith)
     c.swept.ensures.value c.swept.ensures.kind c.begin-first.ensures.view)
     (c.settle.ensures.made c.args.kind 0))
-    (put_goes c.begin-first.result (c.args.kind + 1) a.view.held (λ ne. (c.begin-first.ensures.offers ne).0.2))
+    (put_goes c.begin-first.result (c.args.kind + 1) a.view.held
+    (λ ne. (c.begin-first.ensures.offers ne).0.2))
     refl
 
 pub exchange-slot-requires : goal.exchange-slot-requires
@@ -39,7 +41,8 @@ exchange-slot-requires g c = record {
 pub settle-requires-in-loop-n : goal.settle-requires-in-loop-n
 settle-requires-in-loop-n g c =
     let slot = c.exchange-slot.result in
-    let so = sweep_step {blocks = c.args.self.now.blocks} c.loop-n.caller c.exchange-slot.new.caller c.loop-n.n _ slot c.loop-n-test.true
+    let so = sweep_step {blocks = c.args.self.now.blocks} c.loop-n.caller c.exchange-slot.new.caller
+    c.loop-n.n _ slot c.loop-n-test.true
     c.swept-in-loop-n.ensures.value c.swept-in-loop-n.ensures.kind c.exchange-slot.ensures.view in record {
       seat = table_is so ∙ table_is c.loop-n.invariant ∙ c.requires.seat;
       slot = λ ne. (
@@ -55,5 +58,6 @@ loop-n-preserved g c =
     (sweep_step c.loop-n.caller c.exchange-slot.new.caller c.loop-n.n _ slot c.loop-n-test.true
     c.swept-in-loop-n.ensures.value c.swept-in-loop-n.ensures.kind c.exchange-slot.ensures.view)
     (c.settle-in-loop-n.ensures.made c.args.kind c.loop-n.n))
-    (put_goes slot (c.args.kind + 1) c.loop-n.caller.view.held (λ ne. (c.exchange-slot.ensures.offers ne).0.2))
+    (put_goes slot (c.args.kind + 1) c.loop-n.caller.view.held
+    (λ ne. (c.exchange-slot.ensures.offers ne).0.2))
     refl)

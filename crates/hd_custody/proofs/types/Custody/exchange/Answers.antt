@@ -11,6 +11,7 @@ swap-requires g c =
       omega (arith, c.self.invariant.0, c.requires.cell),
       exchange_steps g.W.Held _ _ _ place.me.0 place.me.1 c.caller.invariant c.args.word c.args.new
           c.requires.cell.0 c.requires.cell.1
-          (subst (λ (a : Acting g.row.W.Denot). c.args.new ≢ 0 → HasAs (c.args.new, cell_kind c.args.word + 1) a.view.held)
+          (subst (λ (a : Acting g.row.W.Denot).
+          c.args.new ≢ 0 → HasAs (c.args.new, cell_kind c.args.word + 1) a.view.held)
           (sym c.caller.view_is) c.requires.slot),
     )

@@ -29,5 +29,6 @@ returns-clause-made g c =
 
 pub returns-clause-offers : goal.returns-clause-offers
 returns-clause-offers g c =
-    offers_since g.W.Held c.args.kind c.search.result (came_none (to_look c.args.self.now.blocks 1) c.probe-slot.result
+    offers_since g.W.Held c.args.kind c.search.result
+    (came_none (to_look c.args.self.now.blocks 1) c.probe-slot.result
     c.args.caller.now.view.held c.if-slot-ne0.false c.probe-slot.ensures.made) c.search.ensures.offers

@@ -15,7 +15,12 @@ invariant_of-seat g c =
       c.seat.invariant.1,
       block_kinded c.collect-block.result c.number.result
           caller.view.held
-          (omega (arith, c.collect-block.ensures.block, c.self.invariant, ap (λ (n : Named). n.blocks) c.self.view_is))
+          (omega (
+            arith,
+            c.collect-block.ensures.block,
+            c.self.invariant,
+            ap (λ (n : Named). n.blocks) c.self.view_is,
+          ))
           c.seat.invariant.2,
     )
 

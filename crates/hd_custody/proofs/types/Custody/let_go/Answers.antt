@@ -10,7 +10,8 @@ pub put_slot_back-requires : goal.put_slot_back-requires
 put_slot_back-requires g c =
     let so = c.push-left.ensures.made in
     let left = c.push-left.ensures.left c.if-left-ne0.true in
-    let h = with_slot_has c.push-left.result (c.args.kind + 1) (without c.args.slot c.args.caller.now.view.held)
+    let h = with_slot_has c.push-left.result (c.args.kind + 1)
+    (without c.args.slot c.args.caller.now.view.held)
     c.if-left-ne0.true in record {
       seat = table_is so ∙ c.requires.seat;
       slot = (left.0, subst (Has c.push-left.result) (sym (held_is so)) (has_member _ h.0 _ h.1));

@@ -10,9 +10,13 @@ put_back-requires g c =
     let held = c.args.caller.now.view.held in
     let row = c.bit.ensures.value ∙ ap (λ r. 2 ^ r) c.slot_row.ensures.value in record {
       seat = c.requires.seat;
-      block = (omega (arith, c.requires.slot.0, c.slot_block.ensures), omega (arith, c.requires.slot.0, c.slot_block.ensures));
+      block = (
+        omega (arith, c.requires.slot.0, c.slot_block.ensures),
+        omega (arith, c.requires.slot.0, c.slot_block.ensures),
+      );
       slots = subst (λ b. HasRows b c.bit.result held) (sym c.slot_block.ensures)
-          (subst (λ m. HasRows (c.args.slot / ROWS) m held) (sym row) (slot_held c.args.slot held c.requires.slot.1));
+          (subst (λ m. HasRows (c.args.slot / ROWS) m held) (sym row)
+          (slot_held c.args.slot held c.requires.slot.1));
     }
 
 pub returns : goal.returns
@@ -20,6 +24,7 @@ returns g c = record {
   view = (
     c.put_back.result,
     slot_back c.args.caller.now c.put_back.new.caller c.args.slot c.slot_block.result c.bit.result
-        c.put_back.result c.slot_block.ensures (c.bit.ensures.value ∙ ap (λ r. 2 ^ r) c.slot_row.ensures.value) c.put_back.ensures.view,
+        c.put_back.result c.slot_block.ensures
+        (c.bit.ensures.value ∙ ap (λ r. 2 ^ r) c.slot_row.ensures.value) c.put_back.ensures.view,
   );
 }

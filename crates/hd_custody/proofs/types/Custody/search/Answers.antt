@@ -39,7 +39,8 @@ returns-then-slot-ne0-clause-made g c =
 
 pub returns-then-slot-ne0-clause-offers : goal.returns-then-slot-ne0-clause-offers
 returns-then-slot-ne0-clause-offers g c =
-    offers_since g.W.Held c.args.kind c.take_from-slot.result c.loop-block.invariant c.take_from-slot.ensures.offers
+    offers_since g.W.Held c.args.kind c.take_from-slot.result c.loop-block.invariant
+    c.take_from-slot.ensures.offers
 
 pub returns-clause-made : goal.returns-clause-made
 returns-clause-made g c =

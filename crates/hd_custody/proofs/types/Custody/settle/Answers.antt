@@ -8,7 +8,9 @@ pub returns-then-slot-ne0 : goal.returns-then-slot-ne0
 returns-then-slot-ne0 g c = record {
   made = λ k n. (
       let back = c.put_slot_back.ensures.view in
-      from_phase (seen_as (one_step _ back.1 (due (BLOCKS + c.args.slot / ROWS) back.0 (bit_or back.0 (2 ^ (c.args.slot % ROWS))) _))
+      from_phase (seen_as
+      (one_step _ back.1
+      (due (BLOCKS + c.args.slot / ROWS) back.0 (bit_or back.0 (2 ^ (c.args.slot % ROWS))) _))
       (sym (put_some c.args.slot c.args.caller.now.view.held c.if-slot-ne0.true)) refl)
       (zero_not c.args.slot _ _ c.if-slot-ne0.true));
 }

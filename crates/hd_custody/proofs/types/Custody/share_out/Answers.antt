@@ -22,7 +22,8 @@ returns-then-left-ne0 g c = record {
       let left = c.fill_cells-left.result in
       seen_as (and_then (seen_as (so.made slot) refl (zero_not left _ _ c.if-left-ne0.true))
       (back_step c.fill_cells-left.new.caller c.put_back.new.caller c.args.block left c.put_back.result
-      (due (BLOCKS + c.args.block) c.put_back.result (bit_or c.put_back.result left) _) c.put_back.ensures.view))
+      (due (BLOCKS + c.args.block) c.put_back.result (bit_or c.put_back.result left) _)
+      c.put_back.ensures.view))
       so.left refl;
 }
 
@@ -32,6 +33,6 @@ returns-else-left-ne0 g c = record {
       let so = c.fill_cells-left.ensures.banked in
       let left = c.fill_cells-left.result in
       seen_as (so.made slot)
-      (sym (none_leaves c.args.block left c.fill_cells-left.new.caller.view.held c.if-left-ne0.false) ∙ so.left)
-      (zero_is left _ _ c.if-left-ne0.false);
+      (sym (none_leaves c.args.block left c.fill_cells-left.new.caller.view.held c.if-left-ne0.false)
+      ∙ so.left) (zero_is left _ _ c.if-left-ne0.false);
 }

@@ -25,7 +25,8 @@ look-again-requires g c = record {
 
 pub put_back-requires : goal.put_back-requires
 put_back-requires g c =
-    let so = look_again c.take_rows-mask.new.caller c.look-again.new.caller c.args.block c.take_rows-mask.result
+    let so =
+    look_again c.take_rows-mask.new.caller c.look-again.new.caller c.args.block c.take_rows-mask.result
     c.look-again.result c.args.caller.now.view.held c.requires.kinded
     (set_real c.take_rows-mask.result c.in-Some.row c.in-Some.ensures.set) c.take_rows-mask.ensures.probed
     c.look-again.ensures.view in record {
@@ -38,14 +39,17 @@ put_back-requires g c =
 
 pub returns-then-again-kind-clause-made : goal.returns-then-again-kind-clause-made
 returns-then-again-kind-clause-made g c =
-    let so = look_again c.take_rows-mask.new.caller c.look-again.new.caller c.args.block c.take_rows-mask.result
+    let so =
+    look_again c.take_rows-mask.new.caller c.look-again.new.caller c.args.block c.take_rows-mask.result
     c.look-again.result c.args.caller.now.view.held c.requires.kinded
     (set_real c.take_rows-mask.result c.in-Some.row c.in-Some.ensures.set) c.take_rows-mask.ensures.probed
     c.look-again.ensures.view in
     rows_back c.look-again.new.caller c.put_back.new.caller c.args.block c.take_rows-mask.result
     c.look-again.result c.put_back.result c.args.caller.now.view.held
-    (mask_apart g.W.Held c.args.caller.now.view c.args.block c.take_rows-mask.result c.take_rows-mask.ensures.fresh)
-    (seen_as so refl (same_not c.look-again.result (c.args.kind + 1) _ _ (λ e. omega (arith, e, c.if-again-kind.true))))
+    (mask_apart g.W.Held c.args.caller.now.view c.args.block c.take_rows-mask.result
+    c.take_rows-mask.ensures.fresh)
+    (seen_as so refl
+    (same_not c.look-again.result (c.args.kind + 1) _ _ (λ e. omega (arith, e, c.if-again-kind.true))))
     (due (BLOCKS + c.args.block) c.put_back.result (bit_or c.put_back.result c.take_rows-mask.result) _)
     c.put_back.ensures.view
 
@@ -60,7 +64,8 @@ share_out-requires g c =
     c.look-again.ensures.view in
     let same : c.look-again.result ≡ c.args.kind + 1 = omega (arith, c.if-again-kind.false) in
     let all : HasRowsAs block mask (c.args.kind + 1) c.look-again.new.caller.view.held =
-    subst (HasRowsAs block mask (c.args.kind + 1)) (sym (held_is so ∙ ap (λ y. rows block mask y ++ held) same))
+    subst (HasRowsAs block mask (c.args.kind + 1))
+    (sym (held_is so ∙ ap (λ y. rows block mask y ++ held) same))
     (rows_have block mask (c.args.kind + 1) held) in record {
       seat = table_is so ∙ c.requires.seat;
       kind = c.requires.kind;
@@ -68,7 +73,8 @@ share_out-requires g c =
       rows = λ r lt set. all r lt (
           let within = flip_within mask c.in-Some.row c.in-Some.ensures.set r in
           let is = ap (λ m. bit_at (bit_xor mask m) r) c.bit.ensures.value in
-          let bit = Rattle.std.proofs.lemmas.Nat.Bits.bit_at-lt mask r in omega (arith, within, is, bit, set));
+          let bit = Rattle.std.proofs.lemmas.Nat.Bits.bit_at-lt mask r in
+          omega (arith, within, is, bit, set));
     }
 
 pub returns-clause-made : goal.returns-clause-made

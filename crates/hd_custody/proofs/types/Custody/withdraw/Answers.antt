@@ -17,7 +17,8 @@ store-requires g c =
     let has : (r : ℕ) → r < ROWS → Has (ROWS * c.args.block + r) place.me.0.held =
     λ r lt. subst (λ (v : View W). Has (ROWS * c.args.block + r) v.held) now (c.requires.all r lt) in
     let real = block_real c.args.block 0 place.me.0.held (omega arith) kinded (has 0 (omega arith)) in (
-      ap (λ (a : Acting W). a.table) c.caller.view_is ∙ ap (λ (k : Known W). k.table) c.seat.view_is ∙ c.requires.seat
+      ap (λ (a : Acting W). a.table) c.caller.view_is ∙ ap (λ (k : Known W). k.table) c.seat.view_is
+          ∙ c.requires.seat
           ∙ ap (λ (n : Named). n.table) (sym c.self.view_is),
       omega (arith, c.self.invariant, real.1),
       clear_steps g.W.Held _ _ place.id place.me.0 place.me.1 c.caller.invariant c.args.block
@@ -28,5 +29,8 @@ pub invariant_of-seat : goal.invariant_of-seat
 invariant_of-seat g c =
     let W = g.row.W.Denot in
     subst IsSeated (sym c.store.ensures.2)
-    (subst (λ (a : Acting W). IsSeated (closed c.args.block a.view, a.out)) (sym c.caller.view_is)
-    (c.seat.invariant.0, c.seat.invariant.1, closed_kinded c.args.block c.seat.inside.caller.view.held c.seat.invariant.2))
+    (subst (λ (a : Acting W). IsSeated (closed c.args.block a.view, a.out)) (sym c.caller.view_is) (
+      c.seat.invariant.0,
+      c.seat.invariant.1,
+      closed_kinded c.args.block c.seat.inside.caller.view.held c.seat.invariant.2,
+    ))

@@ -13,7 +13,8 @@ returns-in-Ok-clause-done g c =
     let left = padded_value c.new-caller-inside.result in
     let some : 1 ≤ room = subst (λ (p : CallerView). 1 ≤ p.room) (sym c.caller.view_is) c.requires.room in
     let less : left + 1 ≡ room = omega (arith, some, c.new-caller-inside.ensures, c.deref-room.ensures) in
-    subst (λ (p : CallerView). HasDone p (caller_view_of c.turn.new.seat number left) c.args.cmd c.in-Ok.reply)
+    subst (λ (p : CallerView).
+    HasDone p (caller_view_of c.turn.new.seat number left) c.args.cmd c.in-Ok.reply)
     c.caller.view_is
     (done_with (caller_view_of seat number seat.view.room)
     (caller_view_of c.turn.new.seat number c.turn.new.seat.view.room) room left c.args.cmd c.in-Ok.reply

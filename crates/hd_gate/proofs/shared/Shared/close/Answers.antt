@@ -13,5 +13,6 @@ returns-clause-parts c =
     subst (λ (w : WorldView). HasParts c.args.callers w.journal) (sym c.into_inner-world.ensures)
     (subst (λ (l : List CallerView). HasParts l closed.journal) c.callers.view_is
     (has_parts c.callers.inside.list.items c.join_all-first.result.view closed c.close.ensures.world
-    (told.all.0 ∙ callers ∙ sym c.requires.count ∙ ap (λ (l : List CallerView). Rattle.std.proofs.Common.length l)
+    (told.all.0 ∙ callers ∙ sym c.requires.count
+    ∙ ap (λ (l : List CallerView). Rattle.std.proofs.Common.length l)
     (sym c.callers.view_is)) told.part told.ended))

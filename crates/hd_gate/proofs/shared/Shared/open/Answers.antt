@@ -10,7 +10,8 @@ use Rattle.hd_gate.proofs.shared.Shared.open.Goals as goal
 pub open-requires-clause-unused : goal.open-requires-clause-unused
 open-requires-clause-unused c =
     let state = ap (λ (w : WorldView). w.state) c.in_ok-boxed.ensures ∙ c.requires.start.0 in record {
-      nothing_live = λ x. ap (λ (s : State). is_some (get s.handles x)) state ∙ ap is_some (get-empty nat_cmp x);
+      nothing_live =
+          λ x. ap (λ (s : State). is_some (get s.handles x)) state ∙ ap is_some (get-empty nat_cmp x);
       no_kinds = λ b. ap (λ (s : State). kind_word (use_of s b)) state ∙ ap kind_word (get-empty nat_cmp b);
       no_entries = ap (λ (w : WorldView). w.journal) c.in_ok-boxed.ensures ∙ c.requires.start.1;
     }

@@ -6,7 +6,8 @@ use Rattle.hd_heap.proofs.area.Area.write.Goals as goal
 
 pub returns-clause-area : goal.returns-clause-area
 returns-clause-area c =
-    let write = λ (r : Contents). with_object r c.args.at (region_with_part (object_at r c.args.at) c.args.part) in
+    let write =
+    λ (r : Contents). with_object r c.args.at (region_with_part (object_at r c.args.at) c.args.part) in
     area_written c.args.self.now _ c.args.at c.args.part c.requires.area c.requires.object
     c.write_part.ensures.laid_out record {
       contents_are = c.write_part.ensures.written ∙ ap write c.deref_mut.ensures.value;

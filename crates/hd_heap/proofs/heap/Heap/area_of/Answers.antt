@@ -5,10 +5,15 @@ use Rattle.hd_heap.proofs.heap.Heap.area_of.Goals as goal
 
 pub index-requires : goal.index-requires
 index-requires c =
-    omega (arith, index_of (opened c.self.inside c.self.view_is c.self.invariant) c.args.at c.requires c.place_of.result c.place_of.ensures)
+    omega (
+      arith,
+      index_of (opened c.self.inside c.self.view_is c.self.invariant) c.args.at c.requires
+          c.place_of.result c.place_of.ensures,
+    )
 
 pub returns : goal.returns
 returns c =
     subst (IsObjectOf c.args.self.now c.args.at c.index.result.now) (sym c.offset_of.ensures)
-    (object_of c.args.at (found_read (opened c.self.inside c.self.view_is c.self.invariant) c.args.at c.requires
+    (object_of c.args.at
+    (found_read (opened c.self.inside c.self.view_is c.self.invariant) c.args.at c.requires
     c.place_of.result c.place_of.ensures c.index.result.now c.index.ensures))

@@ -24,8 +24,10 @@ loop-i-init c =
     let v = c.value.result in
     let written = c.write.ensures ∙ ap
     (λ (x : Placed). with_object c.put-copy.new.self c.put-copy.result (record x { value = v })) p.copy_is in
-    copying_starts c.args.self.now c.write.new.self c.args.from c.args.region c.id.result c.fields-fields.result
-    c.registered.result v (put_written c.args.self.now c.args.from c.put-copy.result c.args.region c.requires.object
+    copying_starts c.args.self.now c.write.new.self c.args.from c.args.region c.id.result
+    c.fields-fields.result
+    c.registered.result v
+    (put_written c.args.self.now c.args.from c.put-copy.result c.args.region c.requires.object
     c.put-copy.ensures.was_free c.put-copy.ensures.place c.put-copy.new.self c.write.new.self start
     (record start { value = v }) c.put-copy.ensures.put written refl) c.id.ensures.identity
     (c.fields-fields.ensures.count ∙ ap length (fields_placed c.args.self.now c.args.from c.requires.object))
@@ -50,7 +52,8 @@ write-requires-in-loop-i c =
     let size = ap (λ (x : Placed). length x.fields) p.copy_is in
     record {
       object = p.there;
-      within = omega (arith, c.loop-i-test.true, c.fields-fields.ensures.count, whole, size, c.loop-i.invariant.many);
+      within = omega
+          (arith, c.loop-i-test.true, c.fields-fields.ensures.count, whole, size, c.loop-i.invariant.many);
     }
 
 pub loop-i-preserved : goal.loop-i-preserved
@@ -59,10 +62,12 @@ loop-i-preserved c =
     c.put-copy.ensures.was_free c.put-copy.ensures.place c.loop-i.self c.loop-i.invariant.object
     c.loop-i.invariant.is in
     let whole = fields_placed c.args.self.now c.args.from c.requires.object in
-    copying_next c.args.self.now c.loop-i.self c.write-in-loop-i.new.self c.args.from c.put-copy.result c.args.region c.loop-i.i
+    copying_next c.args.self.now c.loop-i.self c.write-in-loop-i.new.self c.args.from c.put-copy.result
+    c.args.region c.loop-i.i
     _ c.requires.object c.put-copy.ensures.was_free c.put-copy.ensures.place c.loop-i.invariant
     (omega (arith, c.loop-i-test.true, c.fields-fields.ensures.count, ap length whole))
-    (c.field-field.ensures ∙ ap (λ xs. get_or xs c.loop-i.i None) (p.fields ∙ whole)) c.write-in-loop-i.ensures
+    (c.field-field.ensures ∙ ap (λ xs. get_or xs c.loop-i.i None) (p.fields ∙ whole))
+    c.write-in-loop-i.ensures
 
 pub returns-clause-copied : goal.returns-clause-copied
 returns-clause-copied c =

@@ -13,7 +13,8 @@ first_wanted-requires c =
 
 pub address_in-requires-clause-offset : goal.address_in-requires-clause-offset
 address_in-requires-clause-offset c =
-    let p = place_read c.self.inside.areas.items (c.loop-place.place + 1) c.loop-place.place c.index.result.now
+    let p = place_read c.self.inside.areas.items (c.loop-place.place + 1) c.loop-place.place
+    c.index.result.now
     refl (omega (arith, c.loop-place-test.true, c.len-place-end.ensures)) c.index.ensures in
     wants_low c.args.wanted c.index.result.now c.in-Some.offset (c.self.invariant.0.each _ _ p.here)
     c.in-Some.ensures.0
@@ -21,7 +22,8 @@ address_in-requires-clause-offset c =
 pub returns-in-Some : goal.returns-in-Some
 returns-in-Some c =
     let heap = opened c.self.inside c.self.view_is c.self.invariant in
-    let p = place_read c.self.inside.areas.items (c.loop-place.place + 1) c.loop-place.place c.index.result.now
+    let p = place_read c.self.inside.areas.items (c.loop-place.place + 1) c.loop-place.place
+    c.index.result.now
     refl (omega (arith, c.loop-place-test.true, c.len-place-end.ensures)) c.index.ensures in
     let g = given_some heap c.args.wanted 0 c.in-Some.offset ((c.loop-place.place + 1) * 256) 0
     c.address_in.result p c.in-Some.ensures c.address_in.ensures (omega arith) in
@@ -37,7 +39,8 @@ returns-in-Some c =
 pub loop-place-preserved : goal.loop-place-preserved
 loop-place-preserved c = λ b want after.
     let heap = opened c.self.inside c.self.view_is c.self.invariant in
-    let p = place_read c.self.inside.areas.items (c.loop-place.place + 1) c.loop-place.place c.index.result.now
+    let p = place_read c.self.inside.areas.items (c.loop-place.place + 1) c.loop-place.place
+    c.index.result.now
     refl (omega (arith, c.loop-place-test.true, c.len-place-end.ensures)) c.index.ensures in
     given_none heap c.args.wanted 0 ((c.loop-place.place + 1) * 256) ((c.loop-place.place + 1 + 1) * 256) p
     c.in_default.ensures (omega arith) refl b want (c.loop-place.invariant b want after)

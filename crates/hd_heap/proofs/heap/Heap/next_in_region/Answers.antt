@@ -8,7 +8,8 @@ pub returns-then-at-lt-REGION : goal.returns-then-at-lt-REGION
 returns-then-at-lt-REGION c =
     let heap = opened c.self.inside c.self.view_is c.self.invariant in
     record {
-      next = λ a want after. omega (arith, (wanted_place heap c.args.wanted a want).1, c.if-at-lt-REGION.true);
+      next = λ a want after.
+          omega (arith, (wanted_place heap c.args.wanted a want).1, c.if-at-lt-REGION.true);
       sound = sound heap;
     }
 
@@ -38,8 +39,8 @@ wanted_after-requires-clause-area c = c.self.invariant.0.each (c.args.at.0 / 256
 
 pub address_in-requires-clause-offset : goal.address_in-requires-clause-offset
 address_in-requires-clause-offset c =
-    let p = place_read c.self.inside.areas.items (c.args.at.0 / 256) c.place_of-place.result c.index.result.now
-    (omega (arith, c.place_of-place.ensures, c.if-at-lt-REGION.false))
+    let p = place_read c.self.inside.areas.items (c.args.at.0 / 256) c.place_of-place.result
+    c.index.result.now (omega (arith, c.place_of-place.ensures, c.if-at-lt-REGION.false))
     (omega (arith, c.if-place-regions.false, c.len-regions.ensures)) c.index.ensures in
     wants_low c.args.wanted c.index.result.now c.in-Some.offset (c.self.invariant.0.each _ _ p.here)
     c.in-Some.ensures.0
@@ -47,8 +48,8 @@ address_in-requires-clause-offset c =
 pub returns-in-Some : goal.returns-in-Some
 returns-in-Some c =
     let heap = opened c.self.inside c.self.view_is c.self.invariant in
-    let p = place_read c.self.inside.areas.items (c.args.at.0 / 256) c.place_of-place.result c.index.result.now
-    (omega (arith, c.place_of-place.ensures, c.if-at-lt-REGION.false))
+    let p = place_read c.self.inside.areas.items (c.args.at.0 / 256) c.place_of-place.result
+    c.index.result.now (omega (arith, c.place_of-place.ensures, c.if-at-lt-REGION.false))
     (omega (arith, c.if-place-regions.false, c.len-regions.ensures)) c.index.ensures in
     record {
       next = given_some heap c.args.wanted (c.offset_of.result + 1) c.in-Some.offset (c.args.at.0 + 1) 0
@@ -59,8 +60,8 @@ returns-in-Some c =
 pub returns-in-None : goal.returns-in-None
 returns-in-None c =
     let heap = opened c.self.inside c.self.view_is c.self.invariant in
-    let p = place_read c.self.inside.areas.items (c.args.at.0 / 256) c.place_of-place.result c.index.result.now
-    (omega (arith, c.place_of-place.ensures, c.if-at-lt-REGION.false))
+    let p = place_read c.self.inside.areas.items (c.args.at.0 / 256) c.place_of-place.result
+    c.index.result.now (omega (arith, c.place_of-place.ensures, c.if-at-lt-REGION.false))
     (omega (arith, c.if-place-regions.false, c.len-regions.ensures)) c.index.ensures in
     record {
       next = given_none heap c.args.wanted (c.offset_of.result + 1) (c.args.at.0 + 1) _ p c.in-None.ensures

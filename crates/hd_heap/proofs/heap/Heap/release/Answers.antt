@@ -5,7 +5,11 @@ use Rattle.hd_heap.proofs.heap.Heap.release.Goals as goal
 
 pub index_mut-requires : goal.index_mut-requires
 index_mut-requires c =
-    omega (arith, (held_index (opened c.self.inside c.self.view_is c.self.invariant) c.args.region c.requires.held c.place_of.result c.place_of.ensures).1)
+    omega (
+      arith,
+      (held_index (opened c.self.inside c.self.view_is c.self.invariant) c.args.region c.requires.held
+          c.place_of.result c.place_of.ensures).1,
+    )
 
 pub give_up-requires : goal.give_up-requires
 give_up-requires c =
@@ -26,16 +30,20 @@ push_back_reserved-requires c =
 pub invariant_of-self : goal.invariant_of-self
 invariant_of-self c =
     let heap = opened c.self.inside c.self.view_is c.self.invariant in
-    let at = held_read heap c.args.region c.requires.held c.place_of.result c.place_of.ensures c.index_mut.result.now c.index_mut.ensures.value in
+    let at = held_read heap c.args.region c.requires.held c.place_of.result c.place_of.ensures
+    c.index_mut.result.now c.index_mut.ensures.value in
     let free = c.give_up.ensures in
-    let is = region_released heap c.give_up.new.self at free.area c.requires.no_object free.contents free.held free.live
+    let is = region_released heap c.give_up.new.self at free.area c.requires.no_object free.contents free.held
+    free.live
     c.push_back_reserved.ensures.items c.push_back_reserved.ensures.capacity in
     (is.kept, is.full)
 
 pub returns : goal.returns
 returns c =
     let heap = opened c.self.inside c.self.view_is c.self.invariant in
-    let at = held_read heap c.args.region c.requires.held c.place_of.result c.place_of.ensures c.index_mut.result.now c.index_mut.ensures.value in
+    let at = held_read heap c.args.region c.requires.held c.place_of.result c.place_of.ensures
+    c.index_mut.result.now c.index_mut.ensures.value in
     let free = c.give_up.ensures in
-    (region_released heap c.give_up.new.self at free.area c.requires.no_object free.contents free.held free.live
+    (region_released heap c.give_up.new.self at free.area c.requires.no_object free.contents free.held
+    free.live
     c.push_back_reserved.ensures.items c.push_back_reserved.ensures.capacity).view

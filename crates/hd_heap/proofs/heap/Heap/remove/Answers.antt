@@ -7,7 +7,11 @@ use Rattle.hd_heap.proofs.heap.Heap.remove.Goals as goal
 
 pub index_mut-requires : goal.index_mut-requires
 index_mut-requires c =
-    omega (arith, index_of (opened c.self.inside c.self.view_is c.self.invariant) c.args.at c.requires c.place_of.result c.place_of.ensures)
+    omega (
+      arith,
+      index_of (opened c.self.inside c.self.view_is c.self.invariant) c.args.at c.requires
+          c.place_of.result c.place_of.ensures,
+    )
 
 pub remove-cells-requires : goal.remove-cells-requires
 remove-cells-requires c =
@@ -18,21 +22,24 @@ remove-cells-requires c =
 pub overflow_sub-self : goal.overflow_sub-self
 overflow_sub-self c =
     let heap = opened c.self.inside c.self.view_is c.self.invariant in
-    let f = found_read heap c.args.at c.requires c.place_of.result c.place_of.ensures c.index_mut.result.now c.index_mut.ensures.value in
+    let f = found_read heap c.args.at c.requires c.place_of.result c.place_of.ensures
+    c.index_mut.result.now c.index_mut.ensures.value in
     (counted heap c.args.at c.remove-cells.new.self c.remove-cells.result f
     (rw c.offset_of.ensures at c.remove-cells.ensures.taken)).0
 
 pub overflow_sub-self-2 : goal.overflow_sub-self-2
 overflow_sub-self-2 c =
     let heap = opened c.self.inside c.self.view_is c.self.invariant in
-    let f = found_read heap c.args.at c.requires c.place_of.result c.place_of.ensures c.index_mut.result.now c.index_mut.ensures.value in
+    let f = found_read heap c.args.at c.requires c.place_of.result c.place_of.ensures
+    c.index_mut.result.now c.index_mut.ensures.value in
     (counted heap c.args.at c.remove-cells.new.self c.remove-cells.result f
     (rw c.offset_of.ensures at c.remove-cells.ensures.taken)).1
 
 pub invariant_of-self : goal.invariant_of-self
 invariant_of-self c =
     let heap = opened c.self.inside c.self.view_is c.self.invariant in
-    let f = found_read heap c.args.at c.requires c.place_of.result c.place_of.ensures c.index_mut.result.now c.index_mut.ensures.value in
+    let f = found_read heap c.args.at c.requires c.place_of.result c.place_of.ensures
+    c.index_mut.result.now c.index_mut.ensures.value in
     let is = object_removed heap c.args.at c.remove-cells.new.self c.remove-cells.result f
     c.remove-cells.ensures.area (rw c.offset_of.ensures at c.remove-cells.ensures.taken) in
     (is.kept, is.full)
@@ -40,7 +47,8 @@ invariant_of-self c =
 pub returns : goal.returns
 returns c =
     let heap = opened c.self.inside c.self.view_is c.self.invariant in
-    let f = found_read heap c.args.at c.requires c.place_of.result c.place_of.ensures c.index_mut.result.now c.index_mut.ensures.value in
+    let f = found_read heap c.args.at c.requires c.place_of.result c.place_of.ensures
+    c.index_mut.result.now c.index_mut.ensures.value in
     let taken = rw c.offset_of.ensures at c.remove-cells.ensures.taken in
     let is = object_removed heap c.args.at c.remove-cells.new.self c.remove-cells.result f
     c.remove-cells.ensures.area taken in

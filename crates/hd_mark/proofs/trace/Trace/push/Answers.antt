@@ -20,7 +20,8 @@ push_reserved-requires c =
 pub invariant_of-self : goal.invariant_of-self
 invariant_of-self c =
     let none = unmarked (goal.at.invariant_of-self c).After-insert in
-    rw c.push_reserved.ensures.capacity (push_kept _ _ _ _ _ _ _ c.self.invariant c.args.self.now c.self.view_is
+    rw c.push_reserved.ensures.capacity
+    (push_kept _ _ _ _ _ _ _ c.self.invariant c.args.self.now c.self.view_is
     c.args.at c.requires (or_parts _ _ none).0 c.bit.result c.bit.ensures c.insert.new.self.words.items
     c.insert.ensures.joins c.insert.ensures.others none c.push_reserved.new.self.items
     c.push_reserved.ensures.items c.insert.ensures.long)

@@ -21,7 +21,8 @@ pub run-requires : goal.run-requires
 run-requires g c =
     let w = c.self.inside in record {
       handles = handles_of w.store w.journal.entries w.placed.0 c.self.invariant;
-      caller = subst (λ (v : WorldView). c.args.caller < v.numbers.callers) (sym c.self.view_is) c.requires.caller;
+      caller =
+          subst (λ (v : WorldView). c.args.caller < v.numbers.callers) (sym c.self.view_is) c.requires.caller;
       valid = c.requires.valid;
       offer = offer_placed w.store.numbers w.store.state w.placed.0 c.args.cmd c.args.offer
           (subst (λ (v : WorldView). IsOffer v.state c.args.cmd c.args.offer) (sym c.self.view_is)

@@ -15,7 +15,9 @@ returns-clause-ages c =
 pub returns-clause-heap : goal.returns-clause-heap
 returns-clause-heap c =
     subst (λ (w : WorldView). IsOfHeap w.state w.heap) c.self.view_is
-    (of-heap c.self.inside.store c.self.inside.placed.0 c.objects-objects.ensures.heap c.self.invariant.addresses)
+    (of-heap c.self.inside.store c.self.inside.placed.0 c.objects-objects.ensures.heap
+    c.self.invariant.addresses)
 
 pub returns-clause-limits : goal.returns-clause-limits
-returns-clause-limits c = subst (λ (w : WorldView). HasLimits w.numbers) c.self.view_is c.self.invariant.limits
+returns-clause-limits c =
+    subst (λ (w : WorldView). HasLimits w.numbers) c.self.view_is c.self.invariant.limits
