@@ -70,7 +70,7 @@ module _ {t : Table} {ages : List ℕ} {n : ℕ} {k : Kind} where
       row_kept = u.kept slot.0 (member_same _ _ (sym g.slots) slot.0 (first_in slot.0 _))
 
       pub row_here : row_at now slot.0 ≡ Some row_due.handle
-      row_here = row_kept ∙ row_due.stands
+      row_here = row_kept ∙ row_due.is_stored
 
       pub row_live : IsSome (get now.rows slot.0)
       row_live = ap is_some row_here
@@ -85,7 +85,7 @@ module _ {t : Table} {ages : List ℕ} {n : ℕ} {k : Kind} where
       pub row_target : (o : Objects Addr) → NamesObjects o (row_at t) → (x : Addr)
           → (live_at now slot.0).target ≡ Some x → is_object o x ≡ true
       row_target o names x e =
-          names.targets slot.0 row_due.handle x row_due.stands
+          names.targets slot.0 row_due.handle x row_due.is_stored
           (ap (λ (h : Handle Addr). h.target) (sym row_same) ∙ e)
 
       pub fewer_left : length (slots_to_come now ages new) < length (slots_to_come now ages old)
@@ -175,14 +175,14 @@ module _ (f : ℕ → Handle Addr → Handle Addr) where
   pub updated_more : (left rest : List ℕ) (old mid new : Table) (slot : ℕ) (h : Handle Addr)
       → left ≡ slot ∷ rest → (Contains rest slot → ⊥) → IsUpdated f left old mid → row_at old slot ≡ Some h
       → Rewrites slot (f slot h) mid new → IsUpdated f rest old new
-  updated_more left rest old mid new slot h is past u stands r = record {
+  updated_more left rest old mid new slot h is past u is_stored r = record {
     kept = λ other inside.
         r.others other (λ e. past (subst (Contains rest) e inside))
         ∙ u.kept other (member_same _ _ (sym is) other (later_in slot rest other inside));
     made = λ other gone.
         ⊎_elim
         (λ e. subst (λ s. row_at new s ≡ option_map (f s) (row_at old s)) (sym e)
-        (r.at ∙ sym (ap (option_map (f slot)) stands)))
+        (r.at ∙ sym (ap (option_map (f slot)) is_stored)))
         (λ ne. r.others other ne
         ∙ u.made other (λ inside. ⊎_elim (λ e. ne (sym e)) gone
         (member_cases slot rest other (member_same _ _ is other inside))))

@@ -154,22 +154,22 @@ module _ (t : Table) (is : IsTable t) (ages : List ℕ) (n : ℕ) (k : Kind) whe
       let (live, rest) = in_slots t (due_clumps ages n (chain_of t k)) slot h in
       let low : 64 ≤ slot = rest.0 in
       let (inside, due) = in_due ages n (chain_of t k) (clump_of slot) low_blocks rest.1 in
-      let (handle, stands) = some_value (get t.rows slot) live in
+      let (handle, is_stored) = some_value (get t.rows slot) live in
       let e : clump_of slot / 4 + 1 ≡ slot / 64 = omega arith in
       let here : get t.uses (slot / 64) ≡ Some (handles_of k) =
       ap (get t.uses) (sym e) ∙ (is.chained k (clump_of slot / 4 + 1)).0 inside in
       let there : get t.uses (slot / 64) ≡ Some (handles_of handle.kind) =
-      (is.rows slot handle stands).block in
-      record { handle = handle; stands = stands; of_kind = cc; due = due }
+      (is.rows slot handle is_stored).block in
+      record { handle = handle; is_stored = is_stored; of_kind = cc; due = due }
 
   all_due : (slot : ℕ) → IsDueRow t ages n k slot → Contains (due_slots t ages n k) slot
   all_due slot r =
-      let row = is.rows slot r.handle r.stands in
+      let row = is.rows slot r.handle r.is_stored in
       let low : 64 ≤ slot = row.low in
       let e : slot / 64 ≡ clump_of slot / 4 + 1 = omega arith in
       let inside : Contains (chain_of t k) (slot / 64) =
       (is.chained k (slot / 64)).1 (row.block ∙ ap (λ q. Some (handles_of q)) r.of_kind) in
-      of_slots t (due_clumps ages n (chain_of t k)) slot (ap is_some r.stands) low
+      of_slots t (due_clumps ages n (chain_of t k)) slot (ap is_some r.is_stored) low
       (of_due ages n (chain_of t k) (clump_of slot) (subst (Contains (chain_of t k)) e inside) r.due)
 
   pub due_slots_list : IsListOf (IsDueRow t ages n k) (due_slots t ages n k)
@@ -184,7 +184,7 @@ module _ (t : Table) (is : IsTable t) (ages : List ℕ) (n : ℕ) (k : Kind) whe
   pub due_slots_few : length (due_slots t ages n k) ≤ 16384
   due_slots_few =
       let few = counts_le (IsDueRow t ages n k) (λ (slot : ℕ). IsSome (get t.rows slot))
-      (length (due_slots t ages n k)) (len t.rows) (λ slot r. ap is_some r.stands)
+      (length (due_slots t ages n k)) (len t.rows) (λ slot r. ap is_some r.is_stored)
       (record {
         members = due_slots t ages n k;
         apart = due_slots_list.apart;

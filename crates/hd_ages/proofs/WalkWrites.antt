@@ -38,7 +38,8 @@ module _ (t : Table) (ages : List ℕ) (n : ℕ) (k : Kind) (f : ℕ → Handle 
     change_start others due = record {
       under = begins t ages n k is w slots before on clumps;
       updated = updated_start f (slots_to_come t ages w) t
-          (λ slot h past stands. others slot h stands (λ r. past (all_to_come t ages n k is w slots slot r)));
+          (λ slot h past is_stored.
+          others slot h is_stored (λ r. past (all_to_come t ages n k is w slots slot r)));
       counted = counted_start P (slots_to_come t ages w)
           (λ slot r. all_to_come t ages n k is w slots slot (due slot r));
       few = let l = few_to_come t ages n k is w slots in omega arith;
@@ -78,7 +79,7 @@ module _ {t : Table} {ages : List ℕ} {n : ℕ} {k : Kind} {f : ℕ → Handle 
         under = rewritten (goes_on s.under gives on counted) live r past;
         updated = subst (λ xs. IsUpdated f xs t next) (sym left)
             (updated_more f (slots_to_come now ages old) (slots_to_come now ages new) t now next slot.0
-            due.handle gives.slots past s.updated due.stands r);
+            due.handle gives.slots past s.updated due.is_stored r);
         counted = subst (λ xs. Counts (IsPastWith P xs) count') (sym left) counts;
         few = let e = ap length gives.slots in let l = ap length left in let f = s.few in omega arith;
       }

@@ -9,6 +9,6 @@ use Rattle.hd_model.specs.Table.{Table, row_at}
 -- a live slot of a kind in a clump that is due
 pub record IsDueRow (t : Table) (ages : List ℕ) (n : ℕ) (kind : Kind) (slot : ℕ) : Type 0 where
   pub handle : Handle Addr
-  pub stands : row_at t slot ≡ Some handle
+  pub is_stored : row_at t slot ≡ Some handle
   pub of_kind : handle.kind ≡ kind
   pub due : is_due ages n slot ≡ true

@@ -100,7 +100,7 @@ impl DueRows {
         ensures goes { MatchOption result (IsOver seg.now ages.now self.old)
             (λ _. Advances seg.now ages.now self.old self.new steps.old steps.new) }
         ensures kept { IfNone result (self.new ≡ self.old) }
-        ensures stands { IfNone result (steps.new ≡ steps.old) }
+        ensures unmoved { IfNone result (steps.new ≡ steps.old) }
     {
         let block = self.block?;
         match lowest(self.clumps) {

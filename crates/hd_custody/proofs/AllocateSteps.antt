@@ -10,9 +10,9 @@ use Rattle.hd_custody.specs.declared.view.View.{View}
 use Rattle.hd_custody.specs.Counts.{held_times, cell_kind, changed, with_slot, put_out, naming, rows, without_rows, without}
 use Rattle.hd_custody.specs.Views.{swapped, banked, looked, drained, restored, Kinded, Fresh, KindIs, Acting}
 use Rattle.hd_custody.specs.Traces.{Phase, probe, look, again, back, bank, rest, found, is_step, next_phase, to_probe, to_look, to_bank, lowest, next_rows, probe_word}
-use Rattle.hd_custody.specs.CallSteps.{HasRowsAs, told, with_view, went, Made, Banked, Offers}
+use Rattle.hd_custody.specs.CallSteps.{HasRowsAs, found_or, with_view, went, Made, Banked, Offers}
 use Rattle.hd_custody.proofs.Canon.{Apart, rows_go, rows_none, naming_kinded, naming_rows, lowest_is, put_some, one_leaves, others_held, one_stays, with_slot_none}
-use Rattle.hd_custody.proofs.Phases.{due, zero_is, zero_not, same_is, same_not, less_is, told_none, told_some, told_cond, made_none, one_step, seen_as, held_is, and_then, then_as}
+use Rattle.hd_custody.proofs.Phases.{due, zero_is, zero_not, same_is, same_not, less_is, found_or_none, found_or_some, found_or_cond, made_none, one_step, seen_as, held_is, and_then, then_as}
 
 pub set_real : (m r : ℕ) → bit_at m r ≡ 1 → m ≢ 0
 set_real m r set none = let z = ap (λ n. bit_at n r) none ∙ bit_at-zero r in absurd (omega arith)
@@ -44,21 +44,22 @@ module _ {W : Type 0} {k blocks : ℕ} where
 
   pub probe_step : (a b : Acting W) (n i y : ℕ) → n < CACHE → i ≡ probe_word k n → cell_kind i ≡ k
       → b ≡ with_view (swapped i y 0 a.view) a
-      → Made k blocks (to_probe blocks n) (told (to_probe blocks (n + 1)) y) (with_slot y (k + 1) a.view.held)
+      → Made k blocks (to_probe blocks n) (found_or (to_probe blocks (n + 1)) y)
+      (with_slot y (k + 1) a.view.held)
       a b
   probe_step a b n i y lt e kind step =
       one_step (i, y, 0) (step ∙ ap (λ q. went (with_slot y (q + 1) a.view.held) ((i, y, 0) ∷ []) a) kind)
       (ap (λ p. next_phase k blocks p (i, y, 0)) (less_is n CACHE (probe n) (to_look blocks 1) lt)
       ∙ ap (λ j. next_phase k blocks (probe n) (j, y, 0)) e ∙ due (probe_word k n) y 0 _
-      ∙ told_cond (to_probe blocks (n + 1)) y)
+      ∙ found_or_cond (to_probe blocks (n + 1)) y)
 
   pub came_none : (q : Phase) (y : ℕ) (h : List (ℕ × ℕ)) {p : Phase} {a b : Acting W} → y ≡ 0
-      → Made k blocks p (told q y) (with_slot y (k + 1) h) a b → Made k blocks p q h a b
-  came_none q y h none so = seen_as so (with_slot_none y (k + 1) h none) (told_none q y none)
+      → Made k blocks p (found_or q y) (with_slot y (k + 1) h) a b → Made k blocks p q h a b
+  came_none q y h none so = seen_as so (with_slot_none y (k + 1) h none) (found_or_none q y none)
 
   pub came_some : (q q' : Phase) (y : ℕ) {h : List (ℕ × ℕ)} {p : Phase} {a b : Acting W} → y ≢ 0
-      → Made k blocks p (told q y) h a b → Made k blocks p (told q' y) h a b
-  came_some q q' y real so = seen_as so refl (told_some q y real ∙ sym (told_some q' y real))
+      → Made k blocks p (found_or q y) h a b → Made k blocks p (found_or q' y) h a b
+  came_some q q' y real so = seen_as so refl (found_or_some q y real ∙ sym (found_or_some q' y real))
 
   -- ---- one block, of an `allocate` or a `gather`
 

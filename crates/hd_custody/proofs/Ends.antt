@@ -5,7 +5,7 @@ use Rattle.hd_custody.specs.Counts.{with_slot, without}
 use Rattle.hd_custody.specs.Views.{called, Acting}
 use Rattle.hd_custody.specs.Traces.{Phase, probe, sweep, push, found, missed, wrong, follow, ending}
 use Rattle.hd_custody.specs.Calls.{offered, gathered, Allocates, Releases, Gathers}
-use Rattle.hd_custody.specs.CallSteps.{told, with_block, calling, Made}
+use Rattle.hd_custody.specs.CallSteps.{found_or, with_block, calling, Made}
 use Rattle.hd_custody.proofs.Bounds.{allocate_bound, gather_bound, release_bound, found_real, missed_real}
 use Rattle.hd_custody.proofs.Shown.{shows_none}
 
@@ -21,7 +21,7 @@ pub answer_some : (x : ℕ) → x ≢ 0 → answer x ≡ Some x
 answer_some zero e = absurd (e refl)
 answer_some (suc x) e = refl
 
-ending_is : (x : ℕ) → told missed x ≡ ending (answer x)
+ending_is : (x : ℕ) → found_or missed x ≡ ending (answer x)
 ending_is zero = refl
 ending_is (suc x) = refl
 
@@ -37,7 +37,7 @@ gathered_is : (k x : ℕ) (held : List (ℕ × ℕ)) → with_block x (k + 1) he
 gathered_is k zero held = refl
 gathered_is k (suc x) held = refl
 
-ended_none : (x : ℕ) → answer x ≡ None → told missed x ≡ missed
+ended_none : (x : ℕ) → answer x ≡ None → found_or missed x ≡ missed
 ended_none zero e = refl
 ended_none (suc x) e = cc
 
@@ -55,7 +55,7 @@ module _ {W : Type 0} {k blocks : ℕ} {start p : Phase} {h : List (ℕ × ℕ)}
 
 module _ {W : Type 0} (k blocks : ℕ) (few : blocks ≤ BLOCKS) (a b : Acting W) (x : ℕ) (r : Option ℕ)
     (is : r ≡ answer x) where
-  pub allocates : Made k blocks (probe 0) (told missed x) (with_slot x (k + 1) a.view.held) (calling a) b
+  pub allocates : Made k blocks (probe 0) (found_or missed x) (with_slot x (k + 1) a.view.held) (calling a) b
       → Allocates k blocks r a.view b.view
   allocates so =
       let steps : follow k blocks (probe 0) b.view.trace ≡ ending (answer x) = steps_are a so ∙ ending_is x in
@@ -65,8 +65,8 @@ module _ {W : Type 0} (k blocks : ℕ) (few : blocks ≤ BLOCKS) (a b : Acting W
         bound = allocate_bound k blocks few b.view.trace _ steps (ending_real x);
       })
 
-  pub gathers_all : Made k blocks (sweep 0) (told missed x) (with_block x (k + 1) a.view.held) (calling a) b
-      → Gathers k blocks r a.view b.view
+  pub gathers_all : Made k blocks (sweep 0) (found_or missed x) (with_block x (k + 1) a.view.held)
+      (calling a) b → Gathers k blocks r a.view b.view
   gathers_all so =
       let ends = steps_are a so in
       let steps : follow k blocks (sweep 0) b.view.trace ≡ ending (answer x) = ends ∙ ending_is x in

@@ -1,4 +1,4 @@
--- The steps on words from 257 on, and the load of a kind word, keep the rule and tell what they should.
+-- The steps on words from 257 on, and the load of a kind word, keep the rule and return what they should.
 use Rattle.std.proofs.Common.{◌^◌, ◌≡◌, ◌≢◌, ◌⊎◌, ℕ, zero, suc, ◌+◌, ◌-◌, ◌*◌, ◌/◌, ◌%◌, ◌<◌, ◌≤◌, ◌==◌, Bool, true, false, cond, not, bit_or, List, [], ◌∷◌, ◌++◌, get_or, set, Option, Some, inl, inr, sym, ap, subst, refl, ◌∙◌, eq-eqb, ne_eqb, arith}
 use Rattle.std.specs.Prelude.{◌&&◌}
 use Rattle.std.specs.Int.{bit_at}
@@ -191,8 +191,8 @@ module _ {W : Type 0} (m : Ghosts W) (numbers : Numbers) (s : State (Option W) (
             (every_with_slot (Belongs s.words) (word i) (cell_kind i + 1) (put_out n v.held) come_belongs
             (every_put_out (Belongs s.words) n v.held (c.slots.held id v there lives)))
 
-        pub swap_tells : word i ≢ 0 → Fresh m v (word i) × KindIs m v (word i / ROWS) (cell_kind i + 1)
-        swap_tells ne =
+        pub swap_shows : word i ≢ 0 → Fresh m v (word i) × KindIs m v (word i / ROWS) (cell_kind i + 1)
+        swap_shows ne =
             let h = come_belongs ne in
             let b = named_block s.words (word i / ROWS) h.1 in
             let is = sym (kind_word_is s.words (word i / ROWS) b) ∙ h.2 (λ z. omega arith) in
@@ -334,7 +334,7 @@ module _ {W : Type 0} (m : Ghosts W) (numbers : Numbers) (slots id : ℕ) (v : V
     tt,
     swaps m numbers s c id v at lives (v.trace ++ (i, get_or s.words i 0, n) ∷ []) v.trace_number
         v.began_empty i n cell within has,
-    (refl, swap_tells m numbers s c id v at lives [] 0 true i n cell within has),
+    (refl, swap_shows m numbers s c id v at lives [] 0 true i n cell within has),
   )
 
   pub begin_steps : (i n : ℕ) → FIRST_QUICK ≤ i → i < WORDS → (n ≢ 0 → HasAs (n, cell_kind i + 1) v.held)
@@ -345,7 +345,7 @@ module _ {W : Type 0} (m : Ghosts W) (numbers : Numbers) (slots id : ℕ) (v : V
     tt,
     swaps m numbers s c id v at lives ((i, get_or s.words i 0, n) ∷ []) (v.trace_number + 1)
         (Rattle.hd_custody.specs.Counts.is_nil v.held) i n cell within has,
-    (refl, swap_tells m numbers s c id v at lives [] 0 true i n cell within has),
+    (refl, swap_shows m numbers s c id v at lives [] 0 true i n cell within has),
   )
 
   pub bank_steps : (i n : ℕ) → FIRST_QUICK ≤ i → i < WORDS → (n ≢ 0 → HasAs (n, cell_kind i + 1) v.held)

@@ -6,7 +6,7 @@ use Rattle.std.proofs.lemmas.Bool.{lt-ltb, le-ltb}
 use Rattle.std.proofs.lemmas.List.{append_assoc, append-nil}
 use Rattle.hd_custody.specs.Traces.{Did, Phase, found, wrong, is_step, next_phase, follow}
 use Rattle.hd_custody.specs.Views.{Acting}
-use Rattle.hd_custody.specs.CallSteps.{told, with_view, went, Made}
+use Rattle.hd_custody.specs.CallSteps.{found_or, with_view, went, Made}
 
 -- the step that is due
 pub due : (i y z : ℕ) (p : Phase) → is_step (i, y, z) i z p ≡ p
@@ -47,16 +47,16 @@ less_is m n x y e = when (nat_lt m n) x y (lt-ltb m n e)
 pub less_not : {A : Type 0} (m n : ℕ) (x y : A) → n ≤ m → cond (nat_lt m n) x y ≡ y
 less_not m n x y e = unless (nat_lt m n) x y (le-ltb m n e)
 
-pub told_none : (p : Phase) (x : ℕ) → x ≡ 0 → told p x ≡ p
-told_none p x e = ap (told p) e
+pub found_or_none : (p : Phase) (x : ℕ) → x ≡ 0 → found_or p x ≡ p
+found_or_none p x e = ap (found_or p) e
 
-pub told_some : (p : Phase) (x : ℕ) → x ≢ 0 → told p x ≡ found x
-told_some p zero e = absurd (e refl)
-told_some p (suc x) e = refl
+pub found_or_some : (p : Phase) (x : ℕ) → x ≢ 0 → found_or p x ≡ found x
+found_or_some p zero e = absurd (e refl)
+found_or_some p (suc x) e = refl
 
-pub told_cond : (p : Phase) (x : ℕ) → cond (x == 0) p (found x) ≡ told p x
-told_cond p zero = refl
-told_cond p (suc x) = zero_not (suc x) p (found (suc x)) (λ e. omega arith)
+pub found_or_cond : (p : Phase) (x : ℕ) → cond (x == 0) p (found x) ≡ found_or p x
+found_or_cond p zero = refl
+found_or_cond p (suc x) = zero_not (suc x) p (found (suc x)) (λ e. omega arith)
 
 pub follow_append : (k blocks : ℕ) (p : Phase) (ts us : List Did)
     → follow k blocks p (ts ++ us) ≡ follow k blocks (follow k blocks p ts) us

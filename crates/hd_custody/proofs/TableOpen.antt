@@ -117,8 +117,8 @@ module _ {W : Type 0} (m : Ghosts W) (numbers : Numbers) (id : ℕ) (v : View W)
       let tu : tally u ≡ length u.ended + 1 = ap (λ t. cond t 0 (length u.ended + 1)) alive in
       omega arith
 
-  home : s.homes ≡ some (Some c.world) ∷ []
-  home = elim c.gate.free_or_held [
+  stored_world : s.homes ≡ some (Some c.world) ∷ []
+  stored_world = elim c.gate.free_or_held [
     | inl free ↦ free.1
     | inr taken ↦ absurd (elim (cases_eq c.holder id) [
       | inl here ↦ (
@@ -161,7 +161,8 @@ module _ {W : Type 0} (m : Ghosts W) (numbers : Numbers) (id : ℕ) (v : View W)
       let c = f.1.0 in
       let at = f.1.1 in (
         c.world,
-        f.4 0 (Some c.world) (ap (λ hs. get_elem? hs 0) (home m numbers id v lives first gateless all s c
+        f.4 0 (Some c.world)
+            (ap (λ hs. get_elem? hs 0) (stored_world m numbers id v lives first gateless all s c
             at)),
         divides m numbers id v lives first gateless all s c at,
       )

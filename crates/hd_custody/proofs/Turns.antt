@@ -120,8 +120,8 @@ module _ {W : Type 0} (m : Ghosts W) (numbers : Numbers) (s : State (Option W) (
   -- ---- the gate is won
 
   module _ (free : word 0 ≡ 0) where
-    home : (s.homes ≡ some (Some c.world) ∷ []) × (c.changes ≡ [])
-    home = elim c.gate.free_or_held [
+    stored_world : (s.homes ≡ some (Some c.world) ∷ []) × (c.changes ≡ [])
+    stored_world = elim c.gate.free_or_held [
       | inl f ↦ (f.1, f.2)
       | inr h ↦ absurd (let one = h.0 in omega arith)
     ]
@@ -158,7 +158,7 @@ module _ {W : Type 0} (m : Ghosts W) (numbers : Numbers) (s : State (Option W) (
           get_or-set_same s.words 0 1 0 (omega (arith, c.wide)),
           record {
             view = took c.world v;
-            gone = ap (λ hs. set hs 0 none) home.0;
+            gone = ap (λ hs. set hs 0 none) stored_world.0;
             there = place_there s.views id v (took c.world v) there;
             lives = lives;
             has = refl;
@@ -169,7 +169,7 @@ module _ {W : Type 0} (m : Ghosts W) (numbers : Numbers) (s : State (Option W) (
       seats = seats_alike s.views id v there v.held v.trace v.trace_number v.began_empty true
           (v.gate_steps + 1) (Some c.world) [] c.made c.owner _ _ numbers c.seats;
       kinds = λ b real lt. kind_same 1 b real ∙ c.kinds b real lt
-          ∙ ap (λ cs. changed cs (m.kind c.world) b) home.1;
+          ∙ ap (λ cs. changed cs (m.kind c.world) b) stored_world.1;
       slots = slots_low (m.live c.world) s.words s.views c.slots id v there lives c.wide 0 1 (omega arith)
           (m.live c.world) (took c.world v) lives
           (λ x real. ap (λ n. held_times x v.held + one_if (m.live c.world x) + named n)
@@ -187,7 +187,7 @@ module _ {W : Type 0} (m : Ghosts W) (numbers : Numbers) (s : State (Option W) (
         let at : 0 < p.0 / ROWS = (let real = h.0 in omega arith) in (
           once.2,
           λ ne. sym (c.kinds (p.0 / ROWS) at block
-              ∙ ap (λ cs. changed cs (m.kind c.world) (p.0 / ROWS)) home.1)
+              ∙ ap (λ cs. changed cs (m.kind c.world) (p.0 / ROWS)) stored_world.1)
               ∙ sym (kind_word_is s.words (p.0 / ROWS) block) ∙ h.2 ne,
         )
 

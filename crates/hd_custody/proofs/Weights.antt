@@ -1,4 +1,4 @@
--- How often a slot stands in a word, and what a kind word names.
+-- How often a slot is in a word, and what a kind word names.
 use Rattle.std.proofs.Common.{◌^◌, ◌≡◌, ◌≢◌, ℕ, zero, suc, ◌+◌, ◌*◌, ◌/◌, ◌%◌, ◌<◌, ◌≤◌, ◌==◌, Bool, true, false, cond, List, [], ◌∷◌, length, get_or, set, inl, inr, sym, ap, refl, ◌∙◌, eq-eqb, ne_eqb, arith}
 use Rattle.std.proofs.lemmas.Bool.{cases_eq, cases_lt, lt-ltb, le-ltb}
 use Rattle.std.proofs.lemmas.List.{get_or-set_other}
@@ -130,7 +130,7 @@ past [] j le = refl
 past (w ∷ ws) zero le = absurd (omega arith)
 past (w ∷ ws) (suc j) le = past ws j (omega arith)
 
--- where no slot stands twice, and none in a block without a kind of handle, the mask of such a block is 0
+-- where no slot is there twice, and none in a block without a kind of handle, the mask of such a block is 0
 module _ (words : List ℕ) (others : ℕ → ℕ)
     (placed : (x : ℕ) → ROWS ≤ x
     → total_at (weight x) 0 words + others x ≡ named (kind_word words (x / ROWS)))

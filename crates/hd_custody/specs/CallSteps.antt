@@ -21,9 +21,9 @@ abbrev pub HasRowsAs : ℕ → ℕ → ℕ → List (ℕ × ℕ) → Type 0
 HasRowsAs b m k held = (r : ℕ) → r < ROWS → bit_at m r ≡ 1 → HasAs (ROWS * b + r, k) held
 
 -- the phase p where a step gave 0, and else the call's end with what came
-abbrev pub told : Phase → ℕ → Phase
-told p zero = p
-told p (suc x) = found (suc x)
+abbrev pub found_or : Phase → ℕ → Phase
+found_or p zero = p
+found_or p (suc x) = found (suc x)
 
 -- the slots held with all slots of a block of the kind word k on top: 0 is no block
 abbrev pub with_block : ℕ → ℕ → List (ℕ × ℕ) → List (ℕ × ℕ)

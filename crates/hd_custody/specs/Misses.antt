@@ -42,10 +42,10 @@ module _ (k : ℕ) where
   IsGiven nothing = Unit {0}
   IsGiven (regiven m y o) = (m ≢ 0) × (y ≢ k + 1)
 
--- A whole Miss of the kind with number k, of a table of so many blocks: every quick word and cell of the kind
--- gave 0; the kind word of each block was loaded, and the mask of each block that was loaded as of the kind
--- gave 0, or it gave rows and the kind word loaded once more after it was another. These are all steps, in
--- this order.
+-- A whole Miss of the kind with number k, of a table of this number of blocks: every quick word and cell of
+-- the kind gave 0; the kind word of each block was loaded, and the mask of each block that was loaded as of
+-- the kind gave 0, or it gave rows and the kind word loaded once more after it was another. These are all
+-- steps, in this order.
 pub record WholeMiss (k blocks : ℕ) (trace : List Did) : Type 0 where
   pub gave : List Gave
   pub each_block : length gave ≡ blocks

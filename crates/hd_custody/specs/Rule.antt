@@ -113,7 +113,8 @@ module _ {W : Type 0} where
   Holds gate holder world changes i v =
       v.has_gate ≡ true → (gate ≡ 1) × (holder ≡ i) × (v.taken ≡ Some world) × (v.changes ≡ changes)
 
-  -- (d) Word 0 is 1 where exactly one seat has the gate, and 0 where none has it and the world is home.
+  -- (d) Word 0 is 1 where exactly one seat has the gate, and 0 where none has it and the world is stored in
+  -- the table.
   pub record Gate (world : W) (holder : ℕ) (changes : List (ℕ × ℕ)) (words : List ℕ)
       (homes : List (maybe.Option (Option W))) (views : List (View W)) : Type 0 where
     pub free_or_held :

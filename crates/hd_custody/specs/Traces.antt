@@ -38,7 +38,7 @@ next_rows m = bit_xor m (2 ^ lowest m)
 abbrev pub every_row : ℕ
 every_row = 2 ^ ROWS - 1
 
--- where a call stands before its next step
+-- where a call is before its next step
 pub data Phase : Type 0 where
   -- allocate: the n-th exchange of the cache
   probe : ℕ → Phase
@@ -97,7 +97,7 @@ module _ (blocks : ℕ) where
   to_sweep n = cond (nat_lt n CACHE) (sweep n) (to_look_whole 1)
 
 module _ (k blocks : ℕ) where
-  -- where the call stands after the step t, of a kind with number k and a table with so many blocks
+  -- where the call is after the step t, of a kind with number k and a table with this number of blocks
   abbrev pub next_phase : Phase → Did → Phase
   next_phase (probe n) t =
       is_step t (probe_word k n) 0 (cond (t.1 == 0) (to_probe blocks (n + 1)) (found t.1))

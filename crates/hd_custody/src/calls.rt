@@ -9,7 +9,7 @@ ghost use Rattle.hd_custody.specs.Traces.{probe, look, again, sweep, push, found
 ghost use Rattle.hd_custody.specs.Traces.{every_row, look_whole, back_part};
 ghost use Rattle.hd_custody.specs.Misses.{WholeMiss};
 ghost use Rattle.hd_custody.specs.Calls.{slot_number, Allocates, Releases, Gathers};
-ghost use Rattle.hd_custody.specs.CallSteps.{IsBlock, HasRowsAs, told, with_block, pushed_to, swept_to, drained_to, into_mask, calling, went, Made, Banked, Offers};
+ghost use Rattle.hd_custody.specs.CallSteps.{IsBlock, HasRowsAs, found_or, with_block, pushed_to, swept_to, drained_to, into_mask, calling, went, Made, Banked, Offers};
 
 use crate::types::{Caller, Custody, Seat};
 use crate::words::{BANK, CACHE, probed, pushed, reserved, slot_block, slot_row, swept};
@@ -49,7 +49,7 @@ impl<W: Held> Custody<W> {
         requires seat { caller.old.table ≡ self.now.table }
         requires kind { kind < KINDS }
         requires kinded { Kinded caller.old.view.held }
-        ensures made { Made kind self.now.blocks (probe 0) (told missed result)
+        ensures made { Made kind self.now.blocks (probe 0) (found_or missed result)
             (with_slot result (kind + 1) caller.old.view.held) (calling caller.old) caller.new }
         ensures offers { Offers W.Held kind caller.old.view result }
     {
@@ -64,7 +64,8 @@ impl<W: Held> Custody<W> {
     fn probe(&self, caller: &mut Caller<W>, kind: u32) -> u64
         requires seat { caller.old.table ≡ self.now.table }
         requires kind { kind < KINDS }
-        ensures made { Made kind self.now.blocks (probe 0) (told (to_look self.now.blocks 1) result)
+        ensures made { Made kind self.now.blocks (probe 0)
+            (found_or (to_look self.now.blocks 1) result)
             (with_slot result (kind + 1) caller.old.view.held) (calling caller.old) caller.new }
         ensures offers { Offers W.Held kind caller.old.view result }
     {
@@ -86,7 +87,8 @@ impl<W: Held> Custody<W> {
         requires seat { caller.old.table ≡ self.now.table }
         requires kind { kind < KINDS }
         requires kinded { Kinded caller.old.view.held }
-        ensures made { Made kind self.now.blocks (to_look self.now.blocks 1) (told missed result)
+        ensures made { Made kind self.now.blocks (to_look self.now.blocks 1)
+            (found_or missed result)
             (with_slot result (kind + 1) caller.old.view.held) caller.old caller.new }
         ensures offers { Offers W.Held kind caller.old.view result }
     {
@@ -106,7 +108,7 @@ impl<W: Held> Custody<W> {
         requires block { IsBlock block }
         requires kinded { Kinded caller.old.view.held }
         ensures made { Made kind self.now.blocks (look block)
-            (told (to_look self.now.blocks (block + 1)) result)
+            (found_or (to_look self.now.blocks (block + 1)) result)
             (with_slot result (kind + 1) caller.old.view.held) caller.old caller.new }
         ensures offers { Offers W.Held kind caller.old.view result }
     {
@@ -276,7 +278,7 @@ impl<W: Held> Custody<W> {
         requires kind { kind < KINDS }
         requires kinded { Kinded caller.old.view.held }
         ensures block { result ≤ self.now.blocks }
-        ensures made { Made kind self.now.blocks (sweep 0) (told missed result)
+        ensures made { Made kind self.now.blocks (sweep 0) (found_or missed result)
             (with_block result (kind + 1) caller.old.view.held) (calling caller.old) caller.new }
     {
         self.empty_cache(caller, kind);

@@ -154,7 +154,7 @@ impl<W: Held> Custody<W> {
             sleepers: _,
         } = self;
         let Seat { caller } = first;
-        home(table, caller)
+        stored_world(table, caller)
     }
 
     // An exchange of the gate word with 1: whether the gate was free, and is this seat's now.
@@ -333,7 +333,7 @@ impl<W: Held> Custody<W> {
 }
 
 // What the slot of a table has at its end.
-fn home<W: Held>(table: Board<W>, caller: Caller<W>) -> W
+fn stored_world<W: Held>(table: Board<W>, caller: Caller<W>) -> W
     requires seat { caller.table ≡ table.shared.table_id }
     requires slots { table.shared.table_id.slots ≡ 1 }
     requires first { (caller.view.number ≡ 0) × (caller.view.has_gate ≡ false) }

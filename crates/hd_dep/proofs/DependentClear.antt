@@ -98,20 +98,20 @@ module _ (t : Table) (ages : List ℕ) (n : ℕ) (p : Addr → Bool) where
       → IsDueRow t ages n kind.Dependent slot
   detached_due slot r = record {
     handle = r.handle;
-    stands = r.stands;
+    is_stored = r.is_stored;
     of_kind = attaching_kind r.handle.kind r.handle.extra r.attaches;
     due = r.due;
   }
 
   pub undue_kept : (slot : ℕ) (h : Handle Addr) → row_at t slot ≡ Some h
       → (IsDueRow t ages n kind.Dependent slot → ⊥) → detach slot h ≡ h
-  undue_kept slot h stands undue =
+  undue_kept slot h is_stored undue =
       detached_kept p h (is_due ages n slot)
       (⊎_elim
       (λ attaching. ⊎_elim
       (λ due. absurd (undue (record {
         handle = h;
-        stands = stands;
+        is_stored = is_stored;
         of_kind = attaching_kind h.kind h.extra (attaching_role (role h) attaching);
         due = due;
       })))
@@ -133,7 +133,7 @@ module _ {t : Table} {ages : List ℕ} {n : ℕ} (p : Addr → Bool) where
     pub detached_has : is_lost p g.target ≡ true → IsDetachedAt (row_at t) ages n p slot
     detached_has lost = record {
       handle = due.handle;
-      stands = due.stands;
+      is_stored = due.is_stored;
       due = due.due;
       attaches = attaches_by due.handle due.of_kind;
       lost = ap (λ (h : Handle Addr). is_lost p h.target) (sym same) ∙ lost;
@@ -142,7 +142,7 @@ module _ {t : Table} {ages : List ℕ} {n : ℕ} (p : Addr → Bool) where
     pub detached_hasnt : is_lost p g.target ≡ false → IsDetachedAt (row_at t) ages n p slot → ⊥
     detached_hasnt kept q =
         let e : q.handle ≡ g =
-        same_Some q.handle g (sym q.stands ∙ due.stands ∙ ap (λ h. Some h) (sym same)) in
+        same_Some q.handle g (sym q.is_stored ∙ due.is_stored ∙ ap (λ h. Some h) (sym same)) in
         both_ways (is_lost p g.target) kept (ap (λ (h : Handle Addr). is_lost p h.target) (sym e) ∙ q.lost)
 
 -- where ages are sound, the rows that are not visited have lost nothing
@@ -151,9 +151,9 @@ module _ (o : Objects Addr) (t now : Table) (ages : List ℕ) (n : ℕ) (p : Add
     (sound : HasSoundAges o (row_at t) ages) where
   undue_found : (slot : ℕ) (h : Handle Addr) → row_at t slot ≡ Some h → is_due ages n slot ≡ false
       → is_lost p h.target ≡ false
-  undue_found slot h stands undue =
+  undue_found slot h is_stored undue =
       kept_target p h.target
-      (λ x e. settled.older x (undue_target o n (row_at t) ages sound slot h stands undue x e))
+      (λ x e. settled.older x (undue_target o n (row_at t) ages sound slot h is_stored undue x e))
 
   whole_row : (slot : ℕ) (r : Option (Handle Addr)) → row_at t slot ≡ r
       → option_map (detached (is_due ages n slot) p) r ≡ option_map (detached true p) r
@@ -174,13 +174,13 @@ module _ (o : Objects Addr) (t now : Table) (ages : List ℕ) (n : ℕ) (p : Add
       → Counts (IsLostAt (row_at t) p) answer
   detached_whole_count answer counts =
       counts_like (IsDetachedAt (row_at t) ages n p) (IsLostAt (row_at t) p) answer
-      (λ slot r. record { handle = r.handle; stands = r.stands; attaches = r.attaches; lost = r.lost })
+      (λ slot r. record { handle = r.handle; is_stored = r.is_stored; attaches = r.attaches; lost = r.lost })
       (λ slot r. record {
         handle = r.handle;
-        stands = r.stands;
+        is_stored = r.is_stored;
         due = ⊎_elim (λ due. due)
             (λ undue. absurd (both_ways (is_lost p r.handle.target)
-            (undue_found slot r.handle r.stands undue) r.lost))
+            (undue_found slot r.handle r.is_stored undue) r.lost))
             (cases_Bool (is_due ages n slot));
         attaches = r.attaches;
         lost = r.lost;

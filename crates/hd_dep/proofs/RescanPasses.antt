@@ -197,10 +197,10 @@ module _ (o : Objects Addr) (n : ℕ) (rows : Rows Addr) (ages : List ℕ) (p0 p
 
   attached_closed : (x y : Addr) → p x ≡ true → IsAttached rows x y → p y ≡ true
   attached_closed x y promoted a =
-      ⊎_elim (λ due. (followed a.slot a.handle a.stands a.attaches due).follows x y a.target a.secondary
+      ⊎_elim (λ due. (followed a.slot a.handle a.is_stored a.attaches due).follows x y a.target a.secondary
       promoted)
       (λ undue. settled.older y
-      (undue_secondary o n rows ages sound a.slot a.handle a.stands undue y a.secondary))
+      (undue_secondary o n rows ages sound a.slot a.handle a.is_stored undue y a.secondary))
       (cases_Bool (is_due ages n a.slot))
 
   pub rescan_closure : IsClosure (IsEdge o rows) p0 p
@@ -221,6 +221,6 @@ module _ (rows : Rows Addr) (ages : List ℕ) (n : ℕ) (p q : Addr → Bool) wh
   pub followed_after : (more : Bool) → MatchBool more (Gained p q) (IsSpread rows ages n p q) → more ≡ false
       → (slot : ℕ) (h : Handle Addr) → rows slot ≡ Some h → role h ≡ attaches → is_due ages n slot ≡ true
       → IsFollowed h q
-  followed_after true found e slot h stands role_is due = absurd (true≢false e)
-  followed_after false found e slot h stands role_is due =
-      subst (IsFollowed h) (sym found.same) (found.followed slot h stands role_is due)
+  followed_after true found e slot h is_stored role_is due = absurd (true≢false e)
+  followed_after false found e slot h is_stored role_is due =
+      subst (IsFollowed h) (sym found.same) (found.followed slot h is_stored role_is due)

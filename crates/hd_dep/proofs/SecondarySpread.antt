@@ -12,7 +12,7 @@ use Rattle.hd_model.specs.Reach.{IsEdge}
 use Rattle.hd_model.specs.Scene.{Objects, Rows, IsYoungField}
 use Rattle.hd_model.specs.Ages.{is_due, due_clumps}
 use Rattle.hd_model.specs.Table.{Table, IsTable, chain_of, live_at, row_at}
-use Rattle.hd_model.proofs.EdgeChains.{one_arrow, leads_on}
+use Rattle.hd_model.proofs.EdgeChains.{one_edge, leads_on}
 use Rattle.hd_ages.specs.declared.due_rows.DueRows.{DueRows}
 use Rattle.hd_ages.specs.Walk.{IsOn, Ends, Gives, due_slots, clumps_to_come, slots_to_come}
 use Rattle.hd_ages.specs.Rows.{IsDueRow}
@@ -38,11 +38,11 @@ module _ {N : Type 0} (E : N → N → Type 0) where
   gained_on p q r g s = record { member = g.member; new = s.keeps g.member g.new; old = g.old }
 
 -- fields of condemned objects are edges
-pub young_arrows : {N : Type 0} (o : Objects N) (n : ℕ) (rows : Rows N) {x y : N}
+pub young_edges : {N : Type 0} (o : Objects N) (n : ℕ) (rows : Rows N) {x y : N}
     → Leads (IsYoungField o n) x y
     → Leads (IsEdge o rows) x y
-young_arrows o n rows Leads.here = Leads.here
-young_arrows o n rows (Leads.more chain e) = Leads.more (young_arrows o n rows chain) (inl e.field)
+young_edges o n rows Leads.here = Leads.here
+young_edges o n rows (Leads.more chain e) = Leads.more (young_edges o n rows chain) (inl e.field)
 
 module _ (o : Objects Addr) (n : ℕ) (t : Table) where
   -- the secondary of a handle is promoted with its target
@@ -50,13 +50,13 @@ module _ (o : Objects Addr) (n : ℕ) (t : Table) where
       → h.kind ≡ kind.Dependent → h.target ≡ Some x → secondary_of h.extra ≡ Some y
       → (p x && not (p y)) ≡ true → Grows (IsYoungField o n) (λ z. z ≡ y) p q
       → Spreads (IsEdge o (row_at t)) p q × Gained p q
-  promoted_beyond slot h x y p q stands dependent target secondary beyond grows =
+  promoted_beyond slot h x y p q is_stored dependent target secondary beyond grows =
       let parts = and_parts (p x) (not (p y)) beyond in
-      let arrow : IsEdge o (row_at t) x y =
+      let edge : IsEdge o (row_at t) x y =
       inr (record {
         slot = slot;
         handle = h;
-        stands = stands;
+        is_stored = is_stored;
         attaches = attaches_by h dependent;
         target = target;
         secondary = secondary;
@@ -69,9 +69,9 @@ module _ (o : Objects Addr) (n : ℕ) (t : Table) where
                 x,
                 (
                   parts.0,
-                  leads_on (IsEdge o (row_at t)) (one_arrow (IsEdge o (row_at t)) arrow)
+                  leads_on (IsEdge o (row_at t)) (one_edge (IsEdge o (row_at t)) edge)
                       (subst (λ r. Leads (IsEdge o (row_at t)) r z) w.1.0
-                      (young_arrows o n (row_at t) w.1.1)),
+                      (young_edges o n (row_at t) w.1.1)),
                 ),
               ))
               (grows.only z h);
@@ -105,10 +105,10 @@ module _ {o : Objects Addr} {n : ℕ} {t : Table} {ages : List ℕ} {p0 : Addr �
       spreads = spreads_none (IsEdge o (row_at t)) p0;
       found = record {
         same = refl;
-        followed = λ slot h stands role_is due past.
+        followed = λ slot h is_stored role_is due past.
             absurd (past (all_to_come t ages n kind.Dependent is w slots slot (record {
               handle = h;
-              stands = stands;
+              is_stored = is_stored;
               of_kind = attaching_kind h.kind h.extra role_is;
               due = due;
             })));
@@ -128,13 +128,13 @@ module _ {o : Objects Addr} {n : ℕ} {t : Table} {ages : List ℕ} {p0 : Addr �
     quiet : IsQuiet o n t ages p0 old p → IsSpreadRow (live_at t slot.0) p q → IsQuiet o n t ages p0 new q
     quiet a b = record {
       same = b.same ∙ a.same;
-      followed = λ k h stands role_is is_due past.
+      followed = λ k h is_stored role_is is_due past.
           ⊎_elim
           (λ e. let here : live_at t slot.0 ≡ h =
           same_Some (live_at t slot.0) h
-          (ap (λ g. Some g) same ∙ sym due.stands ∙ ap (row_at t) (sym e) ∙ stands) in
+          (ap (λ g. Some g) same ∙ sym due.is_stored ∙ ap (row_at t) (sym e) ∙ is_stored) in
           subst (λ g. IsFollowed g p0) here (subst (IsFollowed (live_at t slot.0)) a.same b.followed))
-          (λ ne. a.followed k h stands role_is is_due
+          (λ ne. a.followed k h is_stored role_is is_due
           (past_else s.under gives k ne past))
           (cases_eq k slot.0);
     }
@@ -163,8 +163,8 @@ module _ {o : Objects Addr} {n : ℕ} {t : Table} {ages : List ℕ} {p0 : Addr �
     at_end true a = a
     at_end false a = record {
       same = a.same;
-      followed = λ slot h stands role_is due.
-          a.followed slot h stands role_is due
+      followed = λ slot h is_stored role_is due.
+          a.followed slot h is_stored role_is due
           (all_past s.under ends slot);
     }
 

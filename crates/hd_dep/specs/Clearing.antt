@@ -27,7 +27,7 @@ IsAllDetached p before after = (slot : ℕ) → after slot ≡ option_map (detac
 pub record IsDetachedAt {N : Type 0} (rows : Rows N) (ages : List ℕ) (n : ℕ) (p : N → Bool) (slot : ℕ)
     : Type 0 where
   pub handle : Handle N
-  pub stands : rows slot ≡ Some handle
+  pub is_stored : rows slot ≡ Some handle
   pub due : is_due ages n slot ≡ true
   pub attaches : role handle ≡ attaches
   pub lost : is_lost p handle.target ≡ true
@@ -35,6 +35,6 @@ pub record IsDetachedAt {N : Type 0} (rows : Rows N) (ages : List ℕ) (n : ℕ)
 -- a slot, visited or not, whose handle loses its target
 pub record IsLostAt {N : Type 0} (rows : Rows N) (p : N → Bool) (slot : ℕ) : Type 0 where
   pub handle : Handle N
-  pub stands : rows slot ≡ Some handle
+  pub is_stored : rows slot ≡ Some handle
   pub attaches : role handle ≡ attaches
   pub lost : is_lost p handle.target ≡ true

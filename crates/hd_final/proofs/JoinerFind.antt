@@ -14,7 +14,7 @@ use Rattle.hd_model.specs.Heap.{Heap, object_at, object_in, id_at, placed_at, ha
 use Rattle.hd_model.proofs.Members.{mapped_from}
 use Rattle.hd_heap.specs.Calls.{is_after, is_condemned, IsNext}
 use Rattle.hd_final.specs.declared.joiners.Joiner.{Joiner}
-use Rattle.hd_final.specs.Revival.{IsOut}
+use Rattle.hd_final.specs.Resurrection.{IsOut}
 use Rattle.hd_final.specs.Joiners.{places}
 use Rattle.hd_final.proofs.ObjectLookup.{object_there, few_differ}
 use Rattle.hd_heap.proofs.HeapValues.{same_address}
@@ -48,26 +48,26 @@ passed_on (Some s) at b e f =
 module _ (h : Heap) (n : ℕ) (p : Addr → Bool) where
   out_condemned : (a : Addr) → IsOut (object_at h) n p a → is_condemned h n a ≡ true
   out_condemned a out =
-      and_from _ _ (ap is_some out.stands)
-      (le-leb _ _ (subst (λ (o : Option (Object Addr)). generation_in o ≤ n) (sym out.stands) out.young))
+      and_from _ _ (ap is_some out.is_stored)
+      (le-leb _ _ (subst (λ (o : Option (Object Addr)). generation_in o ≤ n) (sym out.is_stored) out.young))
 
   pub out_from : (a : Addr) → is_condemned h n a ≡ true → is_out h p a ≡ true → IsOut (object_at h) n p a
   out_from a condemned out =
       let (there, young) = and_parts _ _ condemned in
       let (registered, outside) = and_parts _ _ out in
-      let stands = object_there h a there in record {
+      let is_stored = object_there h a there in record {
         object = object_in (region_generation h (region_of a)) (placed_at h a);
-        stands = stands;
+        is_stored = is_stored;
         registered = registered;
-        young = subst (λ (o : Option (Object Addr)). generation_in o ≤ n) stands (leb-true _ _ young);
+        young = subst (λ (o : Option (Object Addr)). generation_in o ≤ n) is_stored (leb-true _ _ young);
         out = not-true _ outside;
       }
 
   pub out_is : (a : Addr) → IsOut (object_at h) n p a → is_out h p a ≡ true
   out_is a out =
-      let stands = object_there h a (ap is_some out.stands) in
+      let is_stored = object_there h a (ap is_some out.is_stored) in
       let same : (placed_at h a).registered ≡ out.object.registered =
-      ap (λ (o : Object Addr). o.registered) (same_Some _ _ (sym stands ∙ out.stands)) in
+      ap (λ (o : Object Addr). o.registered) (same_Some _ _ (sym is_stored ∙ out.is_stored)) in
       and_from _ _ (same ∙ out.registered) (not_from_false _ out.out)
 
   module _ (after : Option Addr) (js : List Joiner) (at : Addr) (found : IsFoundUpTo h n p after js)
@@ -107,7 +107,7 @@ module _ (h : Heap) (n : ℕ) (p : Addr → Bool) where
         few_differ h (places js ++ at ∷ []) once_more
         (λ a k. ⊎_elim (λ early.
         let (j, rest) = mapped_from (λ (j : Joiner). j.at) js a early in
-        subst (λ b. has_object h b ≡ true) rest.1 (ap is_some (found.outside j rest.0).stands))
+        subst (λ b. has_object h b ≡ true) rest.1 (ap is_some (found.outside j rest.0).is_stored))
         (λ same. subst (λ b. has_object h b ≡ true) same (and_parts _ _ next.member).0)
         (Contains-push_cases (places js) at a k)) in
         omega (arith, few, length_push (places js) at, length-map js (λ (j : Joiner). j.at))

@@ -8,8 +8,8 @@ use Rattle.hd_model.proofs.Entries.{some_value, counts_keys}
 use Rattle.hd_model.proofs.PropertyCounts.{counts_le}
 
 -- what is at the address of an object
-pub stands_there : (h : Heap) (a : Addr) → has_object h a ≡ true → get h.objects a.0 ≡ Some (placed_at h a)
-stands_there h a is =
+pub placed_there : (h : Heap) (a : Addr) → has_object h a ≡ true → get h.objects a.0 ≡ Some (placed_at h a)
+placed_there h a is =
     let (p, found) = some_value (get h.objects a.0) (sym (has-get h a) ∙ is) in
     found
     ∙ sym (ap (λ o. Some (unwrap_or o
@@ -18,10 +18,10 @@ stands_there h a is =
 pub object_there : (h : Heap) (a : Addr) → has_object h a ≡ true
     → object_at h a ≡ Some (object_in (region_generation h (region_of a)) (placed_at h a))
 object_there h a is =
-    ap (option_map (object_in (region_generation h (region_of a)))) (stands_there h a is)
+    ap (option_map (object_in (region_generation h (region_of a)))) (placed_there h a is)
 
 pub id_there : (h : Heap) (a : Addr) → has_object h a ≡ true → id_at h a ≡ (placed_at h a).id
-id_there h a is = ap id_in (stands_there h a is)
+id_there h a is = ap id_in (placed_there h a is)
 
 -- objects that differ are at most as many as the heap has
 pub few_differ : (h : Heap) (xs : List Addr) → AllPairs (λ x y. x ≢ y) xs

@@ -19,35 +19,37 @@ use Rattle.hd_model.specs.Heap.{Heap, object_at, id_at, placed_at, has_object, H
 use Rattle.hd_model.proofs.EdgeChains.{grows_like}
 use Rattle.hd_model.proofs.Members.{mapped_from, pairs_mapped, pairs_append}
 use Rattle.hd_final.specs.declared.joiners.Joiner.{Joiner}
-use Rattle.hd_final.specs.Revival.{IsOut, Revives}
+use Rattle.hd_final.specs.Resurrection.{IsOut, Resurrects}
 use Rattle.hd_final.specs.Joiners.{places, IsFound}
-use Rattle.hd_final.proofs.ObjectLookup.{stands_there, id_there, few_differ}
+use Rattle.hd_final.proofs.ObjectLookup.{placed_there, id_there, few_differ}
 use Rattle.hd_heap.proofs.HeapValues.{same_address}
 
 -- a permutation of addresses that differ has addresses that differ
 abbrev is_address : Addr → Addr → Bool
 is_address a b = a.0 == b.0
 
-tells : (a b : Addr) → Decides (is_address a b) (a ≡ b)
-tells a b = Decides-like (a.0 == b.0) (same_address a b) (λ e. ap (λ (c : Addr). c.0) e) (Decides-eqb a.0 b.0)
+address_decides : (a b : Addr) → Decides (is_address a b) (a ≡ b)
+address_decides a b =
+    Decides-like (a.0 == b.0) (same_address a b) (λ e. ap (λ (c : Addr). c.0) e) (Decides-eqb a.0 b.0)
 
 either_way : (a b : Addr) → is_address a b ≡ is_address b a
-either_way a b = same_from_decides (is_address a b) (is_address b a) (tells a b)
-    (Decides-like (is_address b a) (λ e. sym e) (λ e. sym e) (tells b a))
+either_way a b = same_from_decides (is_address a b) (is_address b a) (address_decides a b)
+    (Decides-like (is_address b a) (λ e. sym e) (λ e. sym e) (address_decides b a))
 
 once_moved : (xs ys : List Addr) → IsPermutation xs ys → AllPairs (λ x y. x ≢ y) xs
     → AllPairs (λ x y. x ≢ y) ys
 once_moved xs ys moves once =
-    AllPairs-from_IsDistinct tells ys
-    (IsDistinct-IsPermutation is_address either_way xs ys moves (IsDistinct-from_AllPairs tells xs once))
+    AllPairs-from_IsDistinct address_decides ys
+    (IsDistinct-IsPermutation is_address either_way xs ys moves
+    (IsDistinct-from_AllPairs address_decides xs once))
 
 -- two objects with one identity are one
 one_identity : (h : Heap) → HasIdentities h → (a b : Addr) → has_object h a ≡ true → has_object h b ≡ true
     → (id_at h a).0 ≡ (id_at h b).0 → a ≡ b
 one_identity h identities a b is_a is_b same =
     let ids : id_at h a ≡ id_at h b = λ i. record { 0 = same i } in
-    same_address a b (identities a.0 b.0 (placed_at h a) (placed_at h b) (stands_there h a is_a)
-    (stands_there h b is_b) (sym (id_there h a is_a) ∙ ids ∙ id_there h b is_b))
+    same_address a b (identities a.0 b.0 (placed_at h a) (placed_at h b) (placed_there h a is_a)
+    (placed_there h b is_b) (sym (id_there h a is_a) ∙ ids ∙ id_there h b is_b))
 
 -- those that were found, in another order
 module _ {h : Heap} {n : ℕ} {p : Addr → Bool} {js ls ks : List Joiner} (found : IsFound h n p js)
@@ -64,7 +66,7 @@ module _ {h : Heap} {n : ℕ} {p : Addr → Bool} {js ls ks : List Joiner} (foun
       subst (λ b. IsOut (object_at h) n p b) rest.1 (found.outside j (was_found j rest.0))
 
   pub joins_object : (a : Addr) → Contains (places ks) a → has_object h a ≡ true
-  joins_object a k = ap is_some (joins_each a k).stands
+  joins_object a k = ap is_some (joins_each a k).is_stored
 
   joins_all : (a : Addr) → IsOut (object_at h) n p a → Contains (places ks) a
   joins_all a out =
@@ -89,8 +91,8 @@ module _ {h : Heap} {n : ℕ} {p : Addr → Bool} {js ls ks : List Joiner} (foun
       let up : x.id.0 ≤ y.id.0 = rising i j d (omega arith) high in
       let id_x : x.id.0 ≡ (id_at h x.at).0 = ap (λ (z : Id). z.0) (found.identified x (was_found x in_x)) in
       let id_y : y.id.0 ≡ (id_at h y.at).0 = ap (λ (z : Id). z.0) (found.identified y (was_found y in_y)) in
-      let there_x : has_object h x.at ≡ true = ap is_some (found.outside x (was_found x in_x)).stands in
-      let there_y : has_object h y.at ≡ true = ap is_some (found.outside y (was_found y in_y)).stands in
+      let there_x : has_object h x.at ≡ true = ap is_some (found.outside x (was_found x in_x)).is_stored in
+      let there_y : has_object h y.at ≡ true = ap is_some (found.outside y (was_found y in_y)).is_stored in
       let all_differ : length (places ks) ≡ length ks = length-map ks (λ (j : Joiner). j.at) in
       let differ : x.at ≢ y.at = λ e. joins_once i j d.at low (omega arith)
       (get_or-map (λ (z : Joiner). z.at) ks i d d.at early ∙ e
@@ -108,11 +110,11 @@ module _ {h : Heap} {n : ℕ} {p : Addr → Bool} {js ls ks : List Joiner} (foun
     number = length-map ks (λ (j : Joiner). j.at);
   }
 
-  pub revived : HasIdentities h → IsNonDecreasingBy (λ (j : Joiner). j.id.0) ks → (q : Addr → Bool)
+  pub resurrected : HasIdentities h → IsNonDecreasingBy (λ (j : Joiner). j.id.0) ks → (q : Addr → Bool)
       → (queue after : List Addr) → after ≡ queue ++ places ks
       → Grows (IsYoungField (object_at h) n) (λ a. Contains (places ks) a) p q
-      → Revives (λ a. (id_at h a).0) (object_at h) n p q queue after
-  revived identities rising q queue after is grows = record {
+      → Resurrects (λ a. (id_at h a).0) (object_at h) n p q queue after
+  resurrected identities rising q queue after is grows = record {
     grows = grows_like (IsYoungField (object_at h) n) (λ a. Contains (places ks) a) (IsOut (object_at h) n p)
         p q joins_each joins_all grows;
     joins = places ks;

@@ -10,7 +10,7 @@ use Rattle.hd_model.specs.Heap.{Heap, object_at, object_in, id_at, id_in, placed
 use Rattle.hd_heap.specs.Calls.{with_object}
 use Rattle.hd_final.specs.Settling.{Unregisters, unregistered}
 use Rattle.hd_model.proofs.Members.{not_in_none, first_in, later_in, member_cases}
-use Rattle.hd_final.proofs.ObjectLookup.{stands_there}
+use Rattle.hd_final.proofs.ObjectLookup.{placed_there}
 use Rattle.hd_model.proofs.ReadAfterWrite.{get_inserted, get_beside}
 use Rattle.hd_heap.proofs.HeapValues.{same_address}
 
@@ -45,7 +45,7 @@ module _ (xs : List Addr) (h now new : Heap) (x : Addr) (u : Unregisters xs h no
     (there : has_object now x ≡ true)
     (written : new ≡ with_object now x (record (placed_at now x) { registered = false })) where
   found : get now.objects x.0 ≡ Some (placed_at now x)
-  found = stands_there now x there
+  found = placed_there now x there
 
   hit : object_at new x ≡ option_map unregistered (object_at now x)
   hit =

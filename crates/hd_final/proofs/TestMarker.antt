@@ -18,10 +18,10 @@ use Rattle.hd_model.proofs.Members.{not_in_none}
 use Rattle.hd_model.proofs.ReadAfterWrite.{insert_all}
 use Rattle.hd_heap.specs.Sound.{IsSound}
 use Rattle.hd_heap.specs.Calls.{IsMade, new_object, empty_heap}
-use Rattle.hd_final.specs.Revival.{Revives}
+use Rattle.hd_final.specs.Resurrection.{Resurrects}
 use Rattle.hd_model.proofs.Entries.{any_from, any_of}
 use Rattle.hd_final.specs.Bare.{IsBare, IsList, IsReady, is_in, is_promoted, mirrored}
-use Rattle.hd_final.proofs.ObjectLookup.{stands_there, object_there, few_differ}
+use Rattle.hd_final.proofs.ObjectLookup.{placed_there, object_there, few_differ}
 use Rattle.hd_heap.proofs.HeapValues.{same_address}
 
 is_in_from : (xs : List Addr) (a : Addr) → is_in xs a ≡ true → Contains xs a
@@ -45,12 +45,12 @@ module _ (h : Heap) (n : ℕ) (xs : List Addr) (room : ℕ) where
 
   -- no object has a field
   no_field : IsBare h 0 → (x y : Addr) → IsYoungField (object_at h) n x y → ⊥
-  no_field bare x y arrow =
-      let there = stands_there h x arrow.condemned.object in
+  no_field bare x y edge =
+      let there = placed_there h x edge.condemned.object in
       let fields : fields_at (object_at h) x ≡ [] =
-      ap fields_in (object_there h x arrow.condemned.object)
+      ap fields_in (object_there h x edge.condemned.object)
       ∙ bare.bare x.0 (placed_at h x) there in
-      not_in_none (Some y) (subst (λ fs. Contains fs (Some y)) fields arrow.field)
+      not_in_none (Some y) (subst (λ fs. Contains fs (Some y)) fields edge.field)
 
   pub ready : (pins : List Addr) (space : ℕ) → IsBare h 0 → IsList h xs room → IsList h pins space
       → IsReady h n xs room pins space
@@ -61,7 +61,7 @@ module _ (h : Heap) (n : ℕ) (xs : List Addr) (room : ℕ) where
     settled = record {
       objects = λ x p. ⊎_elim (older_object n (object_at h x)) (keeps.objects x) (promoted_cases x p);
       older = λ x up. or_left _ _ (lt-ltb _ _ up);
-      closed = λ x y p arrow. absurd (no_field heap x y arrow);
+      closed = λ x y p edge. absurd (no_field heap x y edge);
     };
   }
 
@@ -167,13 +167,13 @@ bare_empty limit low = record {
     nothing k p found = none-some p (sym (get-empty nat_cmp k) ∙ found)
 
 -- queued objects are objects still, after others joined
-pub waiting_objects : (h : Heap) (n : ℕ) (rank : Addr → ℕ) (p q : Addr → Bool) (queue after : List Addr)
-    → Revives rank (object_at h) n p q queue after
+pub queued_objects : (h : Heap) (n : ℕ) (rank : Addr → ℕ) (p q : Addr → Bool) (queue after : List Addr)
+    → Resurrects rank (object_at h) n p q queue after
     → ((a : Addr) → Contains queue a → has_object h a ≡ true) → (a : Addr) → Contains after a
     → has_object h a ≡ true
-waiting_objects h n rank p q queue after revives objects a k =
-    ⊎_elim (objects a) (λ late. ap is_some (revives.each a late).stands)
-    (Contains-append_cases queue revives.joins a (subst (λ xs. Contains xs a) revives.queue_is k))
+queued_objects h n rank p q queue after resurrects objects a k =
+    ⊎_elim (objects a) (λ late. ap is_some (resurrects.each a late).is_stored)
+    (Contains-append_cases queue resurrects.joins a (subst (λ xs. Contains xs a) resurrects.queue_is k))
 
 -- all objects kept, each at its mirrored address
 module _ (h : Heap) (sound : IsSound h) where

@@ -3,7 +3,7 @@ use Rattle.std.specs.Prelude.{◌≡◌, ◌≢◌, ℕ, Bool, List, map, Contai
 use Rattle.hd_model.specs.declared.data.Addr.{Addr}
 use Rattle.hd_model.specs.Heap.{Heap, object_at, id_at}
 use Rattle.hd_final.specs.declared.joiners.Joiner.{Joiner}
-use Rattle.hd_final.specs.Revival.{IsOut}
+use Rattle.hd_final.specs.Resurrection.{IsOut}
 
 -- their addresses
 abbrev pub places : List Joiner → List Addr

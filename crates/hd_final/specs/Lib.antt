@@ -1,5 +1,5 @@
 pub mod Queue
-pub mod Revival
+pub mod Resurrection
 pub mod Settling
 pub mod Joiners
 pub mod Inside

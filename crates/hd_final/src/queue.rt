@@ -6,7 +6,7 @@ ghost use Rattle.hd_model.specs.Counting.{Counts};
 ghost use Rattle.hd_model.specs.Heap.{HasIdentities, has_object, id_at, object_at};
 ghost use Rattle.hd_model.specs.declared.data.Addr.{Addr};
 ghost use Rattle.hd_final.specs.Queue.{IsQueue};
-ghost use Rattle.hd_final.specs.Revival.{IsOut, Revives};
+ghost use Rattle.hd_final.specs.Resurrection.{IsOut, Resurrects};
 ghost use Rattle.hd_final.specs.Settling.{Unregisters};
 
 use crate::joiners;
@@ -93,7 +93,7 @@ impl Final {
         ensures basis { M.basis marker.new ≡ M.basis marker.old }
         ensures pinned { M.pinned marker.new ≡ M.pinned marker.old }
         ensures room { self.new.room ≡ self.old.room }
-        ensures revives { Revives (λ a. (id_at heap.now a).0) (object_at heap.now) n
+        ensures resurrects { Resurrects (λ a. (id_at heap.now a).0) (object_at heap.now) n
             (M.promoted marker.old) (M.promoted marker.new) self.old.waiting self.new.waiting }
         ensures count { Counts (IsOut (object_at heap.now) n (M.promoted marker.old)) result }
     {

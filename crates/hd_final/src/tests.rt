@@ -146,7 +146,7 @@ fn settling_spares_those_before_a_place(rt: HostRuntime) -> Result<(), Fail> {
 }
 
 #[test]
-fn each_that_waits_goes_to_its_new_place(rt: HostRuntime) -> Result<(), Fail> {
+fn each_queued_object_goes_to_its_new_address(rt: HostRuntime) -> Result<(), Fail> {
     let heap = heap_of(rt.alloc(), &[true, true])?;
     let mut queue = Final::open(rt.alloc())?;
     assert_eq!(rt; revive(rt.alloc(), &heap, &mut queue, 2, false)?, 2);

@@ -47,7 +47,7 @@ one_more s rooms list p number count new last k d below = elim (cases_eq k (leng
       (sym (get_or-append list (p ∷ []) d k lower)) (new k d lower))
 ]
 
--- all callers, once the first one stands before the others
+-- all callers, once the first one is before the others
 pub all_new : (s : Named) (rooms : List ℕ) (first : CallerView) (list : List CallerView)
     → IsNew s 0 (slice_index rooms 0) first → AreNew s rooms list
     → (c : ℕ) (d : CallerView) → c < length (first ∷ list)

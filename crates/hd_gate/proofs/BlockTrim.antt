@@ -38,9 +38,9 @@ use Rattle.hd_gate.specs.Shared.{OwnSteps, LookedFor, SlotCalls}
 use Rattle.hd_gate.specs.declared.change.Change.{Change}
 use Rattle.hd_gate.specs.Idle.{IsIdle}
 use Rattle.hd_gate.specs.Turns.{search_of, Stepped, without_gathered}
-use Rattle.hd_gate.proofs.HandleMake.{free_in_hand}
+use Rattle.hd_gate.proofs.HandleMake.{free_among_held}
 use Rattle.hd_gate.proofs.StepLiveSlots.{zero_is_not_one}
-use Rattle.hd_gate.proofs.GateLeave.{SameSeat, same_seat, Leaves, leaves, every_nil, hand_stays}
+use Rattle.hd_gate.proofs.GateLeave.{SameSeat, same_seat, Leaves, leaves, every_nil, held_stays}
 
 Gives-injective : (j k : Kind) → Gives j ≡ Gives k → j ≡ k
 Gives-injective j k e = cc
@@ -95,7 +95,7 @@ module _ (u : WorldView) (v : View WorldView) (kind : Kind) (entered : Entered g
       subst (λ (x : Cmd). IsOffer u.state x (Some (first_slot block))) (sym (is_trim kind c gives)) (
         ap first_slot (sym (first_block block)),
         (λ slot of. let at = there (kind_number kind) block slot.0 (of ∙ first_block block) in
-            free_in_hand u v kind entered at.0 slot (ap (λ h. get_elem? h at.0) held ∙ at.1)),
+            free_among_held u v kind entered at.0 slot (ap (λ h. get_elem? h at.0) held ∙ at.1)),
       )
 
 closed_kind : (s t : map.FinMap nat_cmp BlockUse) (block : ℕ) → t ≡ map.remove s block → (c : ℕ)
@@ -172,7 +172,7 @@ module _ (number : ℕ) (command : Cmd) (kind : Kind) (gives : change_of command
             (took u v') idle some_room own sized
             same refl slot_calls (λ b _ _. ap (λ (s : State). kind_word (use_of s b)) out.after)
             (λ x _ on. inl (sym (ap (λ (s : State). is_some (get s.handles x)) out.after) ∙ on))
-            (hand_stays u w (took u v') (λ x. ap (λ (s : State). is_some (get s.handles x)) out.after)
+            (held_stays u w (took u v') (λ x. ap (λ (s : State). is_some (get s.handles x)) out.after)
             (held ∙ ap (λ p. gathered K p []) none))
             (looked_for (λ _. none))
       ]
@@ -195,7 +195,7 @@ module _ (number : ℕ) (command : Cmd) (kind : Kind) (gives : change_of command
             (λ b _ _. closed_kind u.state.blocks w.state.blocks block
             (ap (λ (s : State). s.blocks) after) b)
             (λ x _ on. inl (sym (ap (λ (s : State). is_some (get s.handles x)) after) ∙ on))
-            (hand_stays u w busy (λ x. ap (λ (s : State). is_some (get s.handles x)) after)
+            (held_stays u w busy (λ x. ap (λ (s : State). is_some (get s.handles x)) after)
             (ap (without_block block) (held ∙ ap (λ p. gathered K p []) is) ∙ all_go K block))
             (looked_for (λ says. absurd (zero_is_not_one (sym says ∙ m.reply)))))
         | inr out ↦ absurd (zero_is_not_one (sym out.reply ∙ takes.0))

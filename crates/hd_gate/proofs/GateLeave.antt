@@ -212,7 +212,7 @@ module _ (seat mid : Known WorldView) (number : ℕ) (command : Cmd) (u w : Worl
             (caller_view_of s number s.view.room) command e.reply) (sym left) (all.done seat.table);
       }
 
--- ---- hands
+-- ---- slots held
 
 pub every_nil : (P : ℕ × ℕ → Type 0) → Every P []
 every_nil P n p e = absurd (some-ne-none p (sym e))
@@ -232,9 +232,9 @@ module _ (u w : WorldView) (v : View WorldView) where
       (λ r. ghosts.kind w ((64 + r) / 64))
 
   -- no slot became live and none ended
-  pub hand_stays : ((x : ℕ) → ghosts.live w x ≡ ghosts.live u x) → v.held ≡ []
+  pub held_stays : ((x : ℕ) → ghosts.live w x ≡ ghosts.live u x) → v.held ≡ []
       → (gave_back ghosts u w v).held ≡ []
-  hand_stays same empty =
+  held_stays same empty =
       none_ended ghosts u w v (λ x _. same x)
       (subst (Every (λ p. ghosts.live w p.0 ≡ false)) (sym empty) (every_nil _)) ∙ empty
 
@@ -248,20 +248,20 @@ module _ (u w : WorldView) (v : View WorldView) where
           ap (λ b. ghosts.live u y && not b) (others y apart) ∙ both_off (ghosts.live u y))
     ]
 
-    pub hand_lives : (gave_back ghosts u w v).held ≡ []
+    pub held_lives : (gave_back ghosts u w v).held ≡ []
     unfolding ended
-    hand_lives =
+    held_lives =
         ap (λ h. filter (λ (p : ℕ × ℕ). not (ghosts.live w p.0)) h ++ ended slot_count) only
         ∙ ap (λ b. cond (not b) ((x, k) ∷ []) [] ++ ended slot_count) on
         ∙ picks_none slot_count (λ r. ghosts.live u (64 + r) && not (ghosts.live w (64 + r))) 64
         (λ r. ghosts.kind w ((64 + r) / 64)) (λ r _. none_ends (64 + r))
 
   -- one ended, and is held
-  pub hand_ends : (a : ℕ) → a < 16384 → v.held ≡ [] → ghosts.live u (64 + a) ≡ true
+  pub held_ends : (a : ℕ) → a < 16384 → v.held ≡ [] → ghosts.live u (64 + a) ≡ true
       → ghosts.live w (64 + a) ≡ false → ((y : ℕ) → y ≢ 64 + a → ghosts.live w y ≡ ghosts.live u y)
       → (gave_back ghosts u w v).held ≡ (64 + a, ghosts.kind w ((64 + a) / 64)) ∷ []
   unfolding ended slot_count
-  hand_ends a low empty was off others =
+  held_ends a low empty was off others =
       ap (λ h. filter (λ (p : ℕ × ℕ). not (ghosts.live w p.0)) h ++ ended slot_count) empty
       ∙ picks_one slot_count a (λ r. ghosts.live u (64 + r) && not (ghosts.live w (64 + r))) 64
       (λ r. ghosts.kind w ((64 + r) / 64)) low

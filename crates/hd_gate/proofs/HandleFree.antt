@@ -28,11 +28,11 @@ use Rattle.hd_world.specs.contracts.world.WorldHeld.TheImpl.{ghosts}
 use Rattle.hd_gate.specs.declared.change.Change.TheVariants.{Frees}
 use Rattle.hd_gate.specs.Change.{change_of}
 use Rattle.hd_gate.specs.declared.change.Change.{Change}
-use Rattle.hd_gate.specs.Shared.{SearchView, LookedFor, LetsOneGo, SlotCalls, HasDone}
+use Rattle.hd_gate.specs.Shared.{SearchView, LookedFor, ReleasesOne, SlotCalls, HasDone}
 use Rattle.hd_gate.specs.Idle.{IsIdle}
-use Rattle.hd_gate.specs.Turns.{caller_view_of, search_of, Stepped, Turned, freed_in, LetsGo}
+use Rattle.hd_gate.specs.Turns.{caller_view_of, search_of, Stepped, Turned, freed_in, ReleasesFreed}
 use Rattle.hd_gate.proofs.StepLiveSlots.{FreesAt, frees_at}
-use Rattle.hd_gate.proofs.GateLeave.{well_formed, idle_of, goes_on, done_after, hand_stays, hand_ends}
+use Rattle.hd_gate.proofs.GateLeave.{well_formed, idle_of, goes_on, done_after, held_stays, held_ends}
 
 -- a command that frees a slot is `hfree`
 is_free : (c : Cmd) → change_of c ≡ Frees → (h : ℕ) × (c ≡ cmd.HFree h)
@@ -60,7 +60,7 @@ module _ (number : ℕ) (command : Cmd) (frees : change_of command ≡ Frees) (u
   pub record Freed (freed : Option (Slot × Kind)) : Type 0 where
     pub follows : Follows ghosts u w busy
     pub has : IfSome freed (λ f. HasAs (f.0.0, kind_number f.1 + 1) left.held)
-    pub turned : (t : TableId) (n : View WorldView) → LetsGo v.limits.blocks freed left n
+    pub turned : (t : TableId) (n : View WorldView) → ReleasesFreed v.limits.blocks freed left n
         → Turned (seat t v) (seat t n) number command e.reply
 
   follows_from : ((x : ℕ) → ghosts.live w x ≡ true → ghosts.live u x ≡ true) → w.state.blocks ≡ u.state.blocks
@@ -74,21 +74,21 @@ module _ (number : ℕ) (command : Cmd) (frees : change_of command ≡ Frees) (u
   }
 
   done_at : (n : View WorldView) → n.part ≡ left.part → n.room ≡ left.room → (t : TableId)
-      → LetsOneGo u.state v.limits.blocks (search_of v) (search_of n) e
+      → ReleasesOne u.state v.limits.blocks (search_of v) (search_of n) e
       → HasDone (caller_view_of (record { table = t; view = v }) number v.room)
       (caller_view_of (record { table = t; view = n }) number n.room) command e.reply
-  done_at n part room t lets =
+  done_at n part room t releases =
       done_after number command None u w e stepped v busy idle some_room entered.part entered.sized
       (refl, refl, refl, refl, refl, refl) t n part room (looks_for_none _ _)
       (subst (λ (c : Change). SlotCalls c u.state v.limits.blocks (search_of v) (search_of n) e)
-      (sym frees) lets)
+      (sym frees) releases)
 
   -- nothing was freed
   kept : w.state.handles ≡ u.state.handles → w.state.blocks ≡ u.state.blocks → e.reply ≢ reply.Done
       → Freed None
   kept handles blocks refused =
       let same : (x : ℕ) → ghosts.live w x ≡ ghosts.live u x = λ x. ap (λ m. is_some (get m x)) handles in
-      let held = hand_stays u w busy same idle.held in
+      let held = held_stays u w busy same idle.held in
       record {
         follows = follows_from (λ x on. sym (same x) ∙ on) blocks;
         has = tt;
@@ -132,7 +132,7 @@ module _ (number : ℕ) (command : Cmd) (frees : change_of command ≡ Frees) (u
 
     held : left.held ≡ (slot.0, kind_number handle.kind + 1) ∷ []
     held =
-        hand_ends u w busy (slot.0 - 64) (omega (arith, inside.0, inside.1, limit)) idle.held
+        held_ends u w busy (slot.0 - 64) (omega (arith, inside.0, inside.1, limit)) idle.held
         (ap (ghosts.live u) place ∙ ap is_some live) (ap (ghosts.live w) place ∙ off)
         (λ y apart. others y (λ is. apart (is ∙ sym place)))
         ∙ ap (λ x. (x, ghosts.kind w (x / 64)) ∷ []) place

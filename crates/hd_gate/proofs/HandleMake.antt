@@ -40,7 +40,7 @@ use Rattle.hd_gate.specs.Shared.{SearchView, OwnSteps, OwnMiss, GrowsOnMiss, Loo
 use Rattle.hd_gate.specs.Idle.{IsIdle}
 use Rattle.hd_gate.specs.Turns.{search_of, Stepped, with_grown}
 use Rattle.hd_gate.proofs.StepLiveSlots.{use_by_word, TakesIt, GrowsBy, takes_it, grows_by}
-use Rattle.hd_gate.proofs.GateLeave.{well_formed, SameSeat, same_seat, Leaves, leaves, hand_stays, hand_lives}
+use Rattle.hd_gate.proofs.GateLeave.{well_formed, SameSeat, same_seat, Leaves, leaves, held_stays, held_lives}
 
 -- a command that takes a slot is `hnew`
 pub record IsNew (kind : Kind) (c : Cmd) : Type 0 where
@@ -71,9 +71,9 @@ module _ (u : WorldView) (v : View WorldView) (kind : Kind) (entered : Entered g
   none_there (Some x) e = cc
 
   -- one slot held, of the kind
-  pub free_in_hand : (n : ℕ) (slot : Slot) → get_elem? v.held n ≡ some (slot.0, kind_number kind + 1)
+  pub free_among_held : (n : ℕ) (slot : Slot) → get_elem? v.held n ≡ some (slot.0, kind_number kind + 1)
       → IsFree u.state kind slot
-  free_in_hand n slot at =
+  free_among_held n slot at =
       let has = entered.held n (slot.0, kind_number kind + 1) at in (
         none_there (get u.state.handles slot.0) has.0,
         use_by_word (use_of u.state (block_of slot)) kind (has.1 (λ e. absurd (omega (arith, e)))),
@@ -87,7 +87,7 @@ module _ (u : WorldView) (v : View WorldView) (kind : Kind) (entered : Entered g
   may_offer c new (Some slot) held =
       subst (λ (x : Cmd). IsOffer u.state x (Some slot)) (sym new.is)
       (subst (λ (j : Kind). IsFree u.state j slot) (sym new.kind_is)
-      (free_in_hand 0 slot (ap (λ h. get_elem? h 0) held)))
+      (free_among_held 0 slot (ap (λ h. get_elem? h 0) held)))
 
 -- ---- a handle in the one slot held
 
@@ -109,8 +109,8 @@ module _ (u w : WorldView) (busy : View WorldView) (x k y : ℕ) (only : busy.he
     | inr apart ↦ inl (sym (else z apart) ∙ on)
   ]
 
-  pub new_hand : (gave_back ghosts u w busy).held ≡ []
-  new_hand = hand_lives u w busy x k only here else
+  pub new_held : (gave_back ghosts u w busy).held ≡ []
+  new_held = held_lives u w busy x k only here else
 
 -- the kind words once a block has a use
 word_after : (s t : map.FinMap nat_cmp BlockUse) (given : BlockUse) (block : ℕ) → t ≡ map.insert s block given
@@ -198,16 +198,16 @@ module _ (number : ℕ) (command : Cmd) (kind : Kind) (takes : change_of command
       (handle : Handle Id) (handles : w.state.handles ≡ map.insert u.state.handles y handle)
       (taken : (with_grown K g (took u v')).taken ≡ Some u) (seat : SameSeat v (with_grown K g (took u v')))
       (search : search_of (with_grown K g (took u v')) ≡ search_of v') where
-    stands : ((b : ℕ) → 0 < b → b < 257
+    is_stored : ((b : ℕ) → 0 < b → b < 257
         → ghosts.kind w b ≡ changed (with_grown K g (took u v')).changes (ghosts.kind u) b)
         → (e.grown ≢ Zero → o ≡ None) → e.reply ≡ reply.Done → LeavesBy g
-    stands kinds grows replies =
+    is_stored kinds grows replies =
         let busy = with_grown K g (took u v') in
         leaves number command o u w e stepped v busy idle some_room own sized seat taken
         (subst (λ (x : SearchView). SlotCalls (change_of command) u.state v.limits.blocks (search_of v) x e)
         (sym search) slot_calls)
         kinds (new_lives u w busy x (K + 1) y only at handle handles)
-        (new_hand u w busy x (K + 1) y only at handle handles)
+        (new_held u w busy x (K + 1) y only at handle handles)
         (subst (λ (x : SearchView). LookedFor (asks_of command) v.limits.blocks (search_of v) x e)
         (sym search) (looked_for grows (λ given says. (let clash = sym replies ∙ says in cc))))
 
@@ -216,9 +216,9 @@ module _ (number : ℕ) (command : Cmd) (kind : Kind) (takes : change_of command
       → TakesIt u.numbers u.state (well_formed stepped) e w.state stepped.step slot
       → LeavesBy Zero
   took_it slot is it =
-      stands Zero slot.0 slot.0 (held ∙ ap (λ p. offered K (slot_number p) []) is) refl it.stands.0
-      it.stands.1 refl
-      same refl (λ b _ _. ap (λ m. kind_word (get m b)) it.stands.2) (λ apart. absurd (apart it.grown))
+      is_stored Zero slot.0 slot.0 (held ∙ ap (λ p. offered K (slot_number p) []) is) refl it.is_stored.0
+      it.is_stored.1 refl
+      same refl (λ b _ _. ap (λ m. kind_word (get m b)) it.is_stored.2) (λ apart. absurd (apart it.grown))
       it.reply
 
   -- none was offered
@@ -232,7 +232,7 @@ module _ (number : ℕ) (command : Cmd) (kind : Kind) (takes : change_of command
         leaves number command o u w e stepped v (took u v') idle some_room own sized same refl slot_calls
         (λ b _ _. ap (λ (s : State). kind_word (use_of s b)) by.0)
         (λ x _ on. inl (sym (ap (λ (s : State). is_some (get s.handles x)) by.0) ∙ on))
-        (hand_stays u w (took u v') (λ x. ap (λ (s : State). is_some (get s.handles x)) by.0) empty)
+        (held_stays u w (took u v') (λ x. ap (λ (s : State). is_some (get s.handles x)) by.0) empty)
         (looked_for (λ _. is_none)
         (λ given says. (
           is_none,
@@ -240,7 +240,7 @@ module _ (number : ℕ) (command : Cmd) (kind : Kind) (takes : change_of command
               let limit = ap (λ (n : Numbers). n.blocks) sized in omega (arith, by.2, same_given, limit)),
         )))
     none_offered (One block) by =
-        stands (One block) (64 * block) (block * 64) (ap (λ h. (64 * block, K + 1) ∷ h) empty)
+        is_stored (One block) (64 * block) (block * 64) (ap (λ h. (64 * block, K + 1) ∷ h) empty)
         (omega arith) by.2.0
         by.2.1 refl same refl (λ b _ _.
         word_after u.state.blocks w.state.blocks (handles_of kind) block by.2.2 b) (λ _. is_none)
@@ -248,7 +248,7 @@ module _ (number : ℕ) (command : Cmd) (kind : Kind) (takes : change_of command
     none_offered (Two block other) by =
         let changes : (granted K block other (took u v')).changes ≡ (other, 8) ∷ (block, K + 1) ∷ [] =
         with_data_some other ((block, K + 1) ∷ []) (λ zero_is. absurd (omega (arith, zero_is, by.2.low))) in
-        stands (Two block other) (64 * block) (block * 64) (ap (λ h. (64 * block, K + 1) ∷ h) empty)
+        is_stored (Two block other) (64 * block) (block * 64) (ap (λ h. (64 * block, K + 1) ∷ h) empty)
         (omega arith)
         by.3.0 by.3.1 refl same refl
         (λ b _ _. word_after (map.insert u.state.blocks block (handles_of kind)) w.state.blocks

@@ -23,7 +23,7 @@ use Rattle.hd_gate.specs.Shared.{SearchView, LookedFor, SlotCalls}
 use Rattle.hd_gate.specs.Idle.{IsIdle}
 use Rattle.hd_gate.specs.Turns.{caller_view_of, search_of, Stayed, Stepped, WantsMemory}
 use Rattle.hd_gate.proofs.StepLiveSlots.{keeps_live, keeps_blocks}
-use Rattle.hd_gate.proofs.GateLeave.{well_formed, Leaves, leaves, hand_stays}
+use Rattle.hd_gate.proofs.GateLeave.{well_formed, Leaves, leaves, held_stays}
 
 -- it looks for nothing
 looks_for_none : (c : Cmd) → change_of c ≡ Keeps → (blocks : ℕ) (old new : SearchView) (e : Entry)
@@ -48,7 +48,7 @@ module _ (number : ℕ) (command : Cmd) (keeps : change_of command ≡ Keeps) (u
         (subst (λ (c : Change). SlotCalls c u.state v.limits.blocks (search_of v) (search_of v) e)
         (sym keeps) refl) (λ b _ _. ap (λ m. kind_word (get m b))
         (keeps_blocks u.numbers u.state (well_formed stepped) e w.state stepped.step keeps'))
-        (λ x _ on. inl (sym (same_live x) ∙ on)) (hand_stays u w (took u v) same_live idle.held)
+        (λ x _ on. inl (sym (same_live x) ∙ on)) (held_stays u w (took u v) same_live idle.held)
         (looks_for_none command keeps v.limits.blocks (search_of v) (search_of v) e)
 
   -- it may be left after it, whether it found memory or not
@@ -78,7 +78,7 @@ module _ (number : ℕ) (command : Cmd) (keeps : change_of command ≡ Keeps) (u
           idle = record {
             number = idle.number;
             known = idle.known;
-            held = hand_stays u w (took u v) (λ x. ap (λ (s : WorldView). ghosts.live s x) same) idle.held;
+            held = held_stays u w (took u v) (λ x. ap (λ (s : WorldView). ghosts.live s x) same) idle.held;
             gate = refl;
             ended = idle.ended;
             made = idle.made;

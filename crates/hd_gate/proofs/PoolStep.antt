@@ -197,7 +197,7 @@ module _ (n : Numbers) (s : State) (p : FreeSlots) (tied : IsTied n s p) (e : En
   by_new d make r q (Some slot) offers taken grows does =
       let it = takes_it n s tied.well_formed e t step d make r slot (taken slot refl) does in
       subst (Follows q (Takes (kind_of make)) e.slot) (sym it.grown)
-      (tt, made_free slot it.stands.0 it.stands.1 q offers.1 it.stands.2)
+      (tt, made_free slot it.is_stored.0 it.is_stored.1 q offers.1 it.is_stored.2)
 
   -- ---- `hfree`
 

@@ -77,13 +77,14 @@ module _ (n : Numbers) (s : State) (well : IsWellFormed n s) (e : Entry) (t : St
 
   -- ---- `hnew`
 
-  -- a new handle stands in a slot, and the blocks are these
-  abbrev pub Stands : ℕ → map.FinMap nat_cmp BlockUse → Type 0
-  Stands x blocks = (handle : Handle Id) × (t.handles ≡ map.insert s.handles x handle) × (t.blocks ≡ blocks)
+  -- a new handle is stored in a slot, and the blocks are these
+  abbrev pub HasNewHandle : ℕ → map.FinMap nat_cmp BlockUse → Type 0
+  HasNewHandle x blocks = (handle : Handle Id) × (t.handles ≡ map.insert s.handles x handle)
+      × (t.blocks ≡ blocks)
 
   -- an offered slot was taken
   pub record TakesIt (slot : Slot) : Type 0 where
-    pub stands : Stands slot.0 s.blocks
+    pub is_stored : HasNewHandle slot.0 s.blocks
     pub grown : e.grown ≡ Zero
     pub reply : e.reply ≡ reply.Done
 
@@ -94,18 +95,18 @@ module _ (n : Numbers) (s : State) (well : IsWellFormed n s) (e : Entry) (t : St
       × (n.blocks < given_of s + blocks_needed kind)
   GrowsBy kind (One block) =
       (is_paired kind ≡ false) × IsLeastUnused n s 1 block
-      × Stands (block * 64) (map.insert s.blocks block (handles_of kind)) × (e.reply ≡ reply.Done)
+      × HasNewHandle (block * 64) (map.insert s.blocks block (handles_of kind)) × (e.reply ≡ reply.Done)
   GrowsBy kind (Two block other) =
       (is_paired kind ≡ true) × IsLeastUnused n s 1 block × IsLeastUnused n s (block + 1) other
-      × Stands (block * 64) (map.insert (map.insert s.blocks block (handles_of kind)) other extra_data)
+      × HasNewHandle (block * 64) (map.insert (map.insert s.blocks block (handles_of kind)) other extra_data)
       × (e.reply ≡ reply.Done)
   GrowsBy kind (Back block) = ⊥
 
   module _ (d : ℕ) (make : Make) (r : ℕ) where
-    stands_in : (slot : Slot) (u : State)
+    new_handle_in : (slot : Slot) (u : State)
         → u.handles ≡ map.insert s.handles slot.0 (made_handle s e.caller make r)
-        → t ≡ u → (x : ℕ) → slot.0 ≡ x → Stands x u.blocks
-    stands_in slot u made after x same = (
+        → t ≡ u → (x : ℕ) → slot.0 ≡ x → HasNewHandle x u.blocks
+    new_handle_in slot u made after x same = (
       made_handle s e.caller make r,
       ap (λ (v : State). v.handles) after ∙ made
           ∙ ap (λ y. map.insert s.handles y (made_handle s e.caller make r)) same,
@@ -119,7 +120,7 @@ module _ (n : Numbers) (s : State) (well : IsWellFormed n s) (e : Entry) (t : St
         let is : t ≡ with_made s e.caller Zero d make r m.slot = m.after ∙
         ap (λ g. with_made s e.caller g d make r m.slot) takes.1 in
         record {
-          stands = stands_in m.slot (with_made s e.caller Zero d make r m.slot) refl is slot.0
+          is_stored = new_handle_in m.slot (with_made s e.caller Zero d make r m.slot) refl is slot.0
               (ap (λ (x : Slot). x.0) same);
           grown = takes.1;
           reply = takes.2;
@@ -134,7 +135,7 @@ module _ (n : Numbers) (s : State) (well : IsWellFormed n s) (e : Entry) (t : St
     by_growth m (One block) is apart may after = (
       may.0,
       may.1,
-      stands_in m.slot (with_made s e.caller (One block) d make r m.slot) refl after (block * 64)
+      new_handle_in m.slot (with_made s e.caller (One block) d make r m.slot) refl after (block * 64)
           (ap (λ (x : Slot). x.0) may.2),
       m.reply,
     )
@@ -142,7 +143,7 @@ module _ (n : Numbers) (s : State) (well : IsWellFormed n s) (e : Entry) (t : St
       may.0,
       may.1,
       may.2,
-      stands_in m.slot (with_made s e.caller (Two block other) d make r m.slot) refl after (block * 64)
+      new_handle_in m.slot (with_made s e.caller (Two block other) d make r m.slot) refl after (block * 64)
           (ap (λ (x : Slot). x.0) may.3),
       m.reply,
     )

@@ -97,7 +97,7 @@ module _ (n : Numbers) (s : State) (p : FreeSlots) (tied : IsTied n s p) where
       Some kind
   block_added block kind used = tied.kinds block ∙ ap kind_in_use used
 
-  -- a live slot is not free, and stands in a block of the pool
+  -- a live slot is not free, and is in a block of the pool
   pub live_not_free : (slot : Slot) (handle : Handle Id) → handle_at s slot ≡ Some handle → contains p.free
       slot.0 ≡ false
   live_not_free slot handle live = tied.free slot ∙ ap

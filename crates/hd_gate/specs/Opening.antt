@@ -20,7 +20,8 @@ AreNew s rooms list =
     (k : ℕ) (d : CallerView) → k < length list → IsNew s (k + 1) (slice_index rooms (k + 1))
     (slice_index_or list k d)
 
--- the seat of caller 0 once so many seats were made: it has no more given, and has room for these entries
+-- the seat of caller 0 once this number of seats was made: it has no more given, and has room for these
+-- entries
 pub record IsFirst {W : Type 0} (begun v : View W) (seats spared : ℕ) : Type 0 where
   pub view : v ≡ record begun { made = seats; room = v.room }
   pub room : spared ≤ v.room

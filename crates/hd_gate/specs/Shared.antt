@@ -68,14 +68,14 @@ pub record IsSameCaller (old new : CallerView) : Type 0 where
   pub numbers : new.numbers ≡ old.numbers
   pub number : new.number ≡ old.number
 
--- between old and new there was one call that looks for slots or lets one go, which began without a slot, and
--- the trace has its steps
+-- between old and new there was one call that looks for slots or releases one, which began without a slot,
+-- and the trace has its steps
 pub record OwnSteps (old new : SearchView) : Type 0 where
   pub one : new.trace_number ≡ old.trace_number + 1
   pub began_empty : new.began_empty ≡ true
 
--- between old and new a search for a slot of the kind, in a table of so many blocks, went over all words of
--- the kind and all blocks, and each gave none
+-- between old and new a search for a slot of the kind, in a table of this number of blocks, went over all
+-- words of the kind and all blocks, and each gave none
 pub record OwnMiss (kind : Kind) (blocks : ℕ) (old new : SearchView) : Type 0 where
   pub own : OwnSteps old new
   pub miss : WholeMiss (kind_number kind) blocks new.trace
@@ -114,7 +114,7 @@ pub record OwnRelease (before : State) (blocks : ℕ) (old new : SearchView) (e 
   pub steps : follow (kind_number kind) blocks (push 0 slot.0) new.trace ≡ found 0
 
 -- `hfree` that is done releases the slot that it freed, and one that is refused releases none
-pub record LetsOneGo (before : State) (blocks : ℕ) (old new : SearchView) (e : Entry) : Type 0 where
+pub record ReleasesOne (before : State) (blocks : ℕ) (old new : SearchView) (e : Entry) : Type 0 where
   pub done : e.reply ≡ reply.Done → OwnRelease before blocks old new e
   pub refused : e.reply ≢ reply.Done → new ≡ old
 
@@ -122,7 +122,7 @@ pub record LetsOneGo (before : State) (blocks : ℕ) (old new : SearchView) (e :
 -- once, and other commands than these and `hfree` do neither
 abbrev pub SlotCalls : Change → State → ℕ → SearchView → SearchView → Entry → Type 0
 SlotCalls (Takes kind) before blocks old new e = OwnSteps old new
-SlotCalls Frees before blocks old new e = LetsOneGo before blocks old new e
+SlotCalls Frees before blocks old new e = ReleasesOne before blocks old new e
 SlotCalls (GivesBack kind) before blocks old new e = OwnSteps old new
 SlotCalls Keeps before blocks old new e = new ≡ old
 

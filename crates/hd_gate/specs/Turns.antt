@@ -108,6 +108,6 @@ freed_in s None = None
 freed_in s (Some slot) = option_map (λ kind. (slot, kind)) (kind_in_use (use_of s (block_of slot)))
 
 -- a freed slot was released
-abbrev pub LetsGo : {W : Type 0} → ℕ → Option (Slot × Kind) → View W → View W → Type 0
-LetsGo blocks None v w = w ≡ v
-LetsGo blocks (Some f) v w = Releases (kind_number f.1) blocks f.0.0 v w
+abbrev pub ReleasesFreed : {W : Type 0} → ℕ → Option (Slot × Kind) → View W → View W → Type 0
+ReleasesFreed blocks None v w = w ≡ v
+ReleasesFreed blocks (Some f) v w = Releases (kind_number f.1) blocks f.0.0 v w

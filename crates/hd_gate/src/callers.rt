@@ -14,7 +14,7 @@ use std::marker::Model;
 pub struct Caller {
     pub(crate) seat: Seat<Boxed>,
     pub(crate) number: u32,
-    // How many more entries it may add. It stands on cache lines of its own, since each call writes
+    // How many more entries it may add. It is on cache lines of its own, since each call writes
     // it.
     pub(crate) room: CachePadded<u32>,
 }

@@ -7,7 +7,7 @@ ghost use Rattle.hd_custody.specs.Counts.{Has, HasAs};
 ghost use Rattle.hd_custody.specs.Views.{GrowsByBlocks, MayGrant, handle_block, extra_block};
 ghost use Rattle.hd_gate.specs.Change.{change_of};
 ghost use Rattle.hd_gate.specs.declared.change.Change.TheVariants.{Takes, Frees, GivesBack, Keeps};
-ghost use Rattle.hd_gate.specs.Turns.{MayTurn, Turned, Stayed, MayStep, Stepped, with_grown, without_gathered, freed_in, LetsGo};
+ghost use Rattle.hd_gate.specs.Turns.{MayTurn, Turned, Stayed, MayStep, Stepped, with_grown, without_gathered, freed_in, ReleasesFreed};
 
 use crate::boxed::Boxed;
 use crate::change::{Change, change_of};
@@ -174,7 +174,7 @@ fn let_go(custody: &Custody<Boxed>, seat: &mut Seat<Boxed>, freed: Option<(Slot,
     requires seat { seat.old.table ≡ custody.now.table }
     requires slot { IfSome freed (λ f. HasAs (f.0.0, kind_number f.1 + 1) seat.old.view.held) }
     ensures table { seat.new.table ≡ seat.old.table }
-    ensures gone { LetsGo custody.now.blocks freed seat.old.view seat.new.view }
+    ensures gone { ReleasesFreed custody.now.blocks freed seat.old.view seat.new.view }
 {
     if let Some((slot, kind)) = freed {
         custody.release(seat, kind, slot);

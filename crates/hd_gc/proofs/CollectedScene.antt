@@ -47,13 +47,13 @@ use Rattle.hd_model.proofs.PinnedTargets.{counts_objects, pinned_count}
 use Rattle.hd_gc.proofs.KeptScene.{goes_by, left_kept}
 
 -- an object that was resurrected loses its registration before it moves
-registered_by : (revived : Bool) → Option (Object Addr) → Option (Object Addr)
+registered_by : (resurrected : Bool) → Option (Object Addr) → Option (Object Addr)
 registered_by true o = option_map unregistered o
 registered_by false o = o
 
-moved_survivor : (place : Addr → Addr) (n : ℕ) (revived : Bool) (v : Option (Object Addr))
-    → option_map (moved_object place n) (registered_by revived v)
-    ≡ option_map (rename_object place) (option_map (survivor n revived) v)
+moved_survivor : (place : Addr → Addr) (n : ℕ) (resurrected : Bool) (v : Option (Object Addr))
+    → option_map (moved_object place n) (registered_by resurrected v)
+    ≡ option_map (rename_object place) (option_map (survivor n resurrected) v)
 unfolding registered_by
 moved_survivor place n true None = refl
 moved_survivor place n true (Some o) = λ i. Some (record {
@@ -94,7 +94,7 @@ module _ {A Z : Parts} {t2 : Table} {q2 : Queue} {n : ℕ} {plan : PlanOf} {foun
   T = scene_of Z
 
   abbrev Left : Scene Addr
-  Left = left_by n sf.sets.reach sf.sets.revived sf.sets.kept sf.sets.joins S
+  Left = left_by n sf.sets.reach sf.sets.resurrected sf.sets.kept sf.sets.joins S
 
   abbrev Place : Addr → Addr
   Place = place_in plan
@@ -109,11 +109,13 @@ module _ {A Z : Parts} {t2 : Table} {q2 : Queue} {n : ℕ} {plan : PlanOf} {foun
       ((λ i. drop (joined_is i) (sf.queue i).waiting) ∙ drop-append_seam A.queue.waiting sf.sets.joins)
       sh.unregisters
 
-  object_middle : (x : Addr) → object_at sh.middle x ≡ registered_by (sf.sets.revived x) (object_at A.heap x)
+  object_middle : (x : Addr)
+      → object_at sh.middle x ≡ registered_by (sf.sets.resurrected x) (object_at A.heap x)
   unfolding registered_by
-  object_middle x = by (sf.sets.revived x) refl
+  object_middle x = by (sf.sets.resurrected x) refl
     where
-      by : (b : Bool) → sf.sets.revived x ≡ b → object_at sh.middle x ≡ registered_by b (object_at A.heap x)
+      by : (b : Bool) → sf.sets.resurrected x ≡ b
+          → object_at sh.middle x ≡ registered_by b (object_at A.heap x)
       by true e = unregisters.among x ((sf.sets.joins_are x).0 e)
       by false e =
           unregisters.others x (λ inside. true≢false (sym ((sf.sets.joins_are x).1 inside) ∙ e))
@@ -129,19 +131,22 @@ module _ {A Z : Parts} {t2 : Table} {q2 : Queue} {n : ℕ} {plan : PlanOf} {foun
       in
       sh.commits.objects x kept
       ∙ (λ i. option_map (moved_object Place (generation_is i)) (object_middle x i))
-      ∙ moved_survivor Place n (sf.sets.revived x) (object_at A.heap x)
+      ∙ moved_survivor Place n (sf.sets.resurrected x) (object_at A.heap x)
       ∙ ap (option_map (rename_object Place))
-      (sym (cond-true (sf.sets.kept x) (option_map (survivor n (sf.sets.revived x)) (object_at A.heap x)) None
+      (sym (cond-true (sf.sets.kept x)
+      (option_map (survivor n (sf.sets.resurrected x)) (object_at A.heap x)) None
       (sym (sf.plan_kept x) ∙ kept)))
 
   -- what is kept is in what is left
   in_left : (x : Addr) → kept_in plan x ≡ true → is_object Left.object x ≡ true
   in_left x kept =
       ap is_some (cond-true (sf.sets.kept x)
-      (option_map (survivor n (sf.sets.revived x)) (object_at A.heap x)) None (sym (sf.plan_kept x) ∙ kept))
+      (option_map (survivor n (sf.sets.resurrected x)) (object_at A.heap x)) None
+      (sym (sf.plan_kept x) ∙ kept))
       ∙ by (object_at A.heap x) ∙ sf.keeping.objects x kept
     where
-      by : (o : Option (Object Addr)) → is_some (option_map (survivor n (sf.sets.revived x)) o) ≡ is_some o
+      by : (o : Option (Object Addr))
+          → is_some (option_map (survivor n (sf.sets.resurrected x)) o) ≡ is_some o
       by None = refl
       by (Some o) = refl
 
@@ -165,7 +170,7 @@ module _ {A Z : Parts} {t2 : Table} {q2 : Queue} {n : ℕ} {plan : PlanOf} {foun
           sf.keeping.in_place))
 
   pub moved :
-      IsReading Place (left_by n sf.sets.reach sf.sets.revived sf.sets.kept sf.sets.joins S) T
+      IsReading Place (left_by n sf.sets.reach sf.sets.resurrected sf.sets.kept sf.sets.joins S) T
   moved = record {
     objects = object_moved;
     only = λ b e.
@@ -186,14 +191,14 @@ module _ {A Z : Parts} {t2 : Table} {q2 : Queue} {n : ℕ} {plan : PlanOf} {foun
   pub collects : (u v : Scene Id) → IsReading (id_at A.heap) S u → IsReading (id_at Z.heap) T v
       → Collects (λ (x : Id). x.0) n u v report
   collects u v fs gt =
-      moved_by_identity (id_at A.heap) (id_at Z.heap) n S T u v sf.sets.reach sf.sets.revived sf.sets.kept
+      moved_by_identity (id_at A.heap) (id_at Z.heap) n S T u v sf.sets.reach sf.sets.resurrected sf.sets.kept
       sf.sets.joins report Place (len A.heap.objects) (counts_objects A.heap) ready.whole fs gt
       (goes_by ready sf rp) moved
       (λ x kept. same_id x (sf.plan_kept x ∙ kept))
 
   whole_after : IsWhole T
   whole_after =
-      moved_whole Rank n S T sf.sets.reach sf.sets.revived sf.sets.kept sf.sets.joins report Place
+      moved_whole Rank n S T sf.sets.reach sf.sets.resurrected sf.sets.kept sf.sets.joins report Place
       ready.whole (goes_by ready sf rp) moved
 
   identities_after : HasIdentities Z.heap
@@ -257,7 +262,7 @@ module _ {A Z : Parts} {t2 : Table} {q2 : Queue} {n : ℕ} {plan : PlanOf} {foun
     identities = identities_after;
     ages_sound =
         subst (λ a. HasSoundAges (object_at Z.heap) (row_at Z.table) a) (sym sh.aged)
-        (moved_ages Rank n S T sf.sets.reach sf.sets.revived sf.sets.kept sf.sets.joins report Place
+        (moved_ages Rank n S T sf.sets.reach sf.sets.resurrected sf.sets.kept sf.sets.joins report Place
         ready.whole (goes_by ready sf rp) moved A.ages
         ready.ages_sound);
     cards_sound = λ x y field younger.
@@ -309,10 +314,10 @@ module _ {A Z : Parts} {t2 : Table} {q2 : Queue} {n : ℕ} {plan : PlanOf} {foun
       record {
         slot = p.slot;
         handle = rename_handle Place p.handle;
-        stands =
+        is_stored =
             moved.handles p.slot
             ∙ ap (λ o. option_map (rename_handle Place) (option_map (cleared sf.sets.reach sf.sets.kept) o))
-            p.stands
+            p.is_stored
             ∙ ap (λ g. Some (rename_handle Place g)) same;
         pins = pins_renamed Place p.handle ∙ p.pins;
         target = ap (option_map Place) p.target ∙ ap (λ y. Some y) (sf.pinned x p);
@@ -342,9 +347,9 @@ module _ {A Z : Parts} {t2 : Table} {q2 : Queue} {n : ℕ} {plan : PlanOf} {foun
   compact_after : n ≡ 2 → IsCompact Z.heap (row_at Z.table)
   compact_after two =
       let (a, before) =
-      pinned_count A.heap A.table (λ x p. ready.whole.targets p.slot p.handle x p.stands p.target) in
+      pinned_count A.heap A.table (λ x p. ready.whole.targets p.slot p.handle x p.is_stored p.target) in
       let (b, after) =
-      pinned_count Z.heap Z.table (λ x p. whole_after.targets p.slot p.handle x p.stands p.target) in
+      pinned_count Z.heap Z.table (λ x p. whole_after.targets p.slot p.handle x p.is_stored p.target) in
       let few : stays_in plan ≤ a =
       counts_le (λ x. IsCondemned (object_at A.heap) n x × IsPinned (row_at A.table) x)
       (IsPinned (row_at A.table)) (stays_in plan) a (λ x w. w.1) sf.stays before in

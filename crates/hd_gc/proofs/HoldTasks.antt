@@ -97,7 +97,7 @@ module _ (rows : Rows Addr) where
   held_target x a = record {
     slot = a.slot;
     handle = a.handle;
-    stands = a.stands;
+    is_stored = a.is_stored;
     holds = same_role holds (role a.handle) a.passes;
     target = a.target;
   }
@@ -106,7 +106,7 @@ module _ (rows : Rows Addr) where
   target_held x h = record {
     slot = h.slot;
     handle = h.handle;
-    stands = h.stands;
+    is_stored = h.is_stored;
     passes = is_same_role holds (role h.handle) h.holds;
     target = h.target;
   }
@@ -115,7 +115,7 @@ module _ (rows : Rows Addr) where
   pinned_target x a = record {
     slot = a.of.slot;
     handle = a.of.handle;
-    stands = a.of.stands;
+    is_stored = a.of.is_stored;
     pins = a.pins;
     target = a.of.target;
   }
@@ -125,7 +125,7 @@ module _ (rows : Rows Addr) where
     of = record {
       slot = p.slot;
       handle = p.handle;
-      stands = p.stands;
+      is_stored = p.is_stored;
       passes = is_same_role holds (role p.handle) (pins_hold p.handle.kind p.handle.extra p.pins);
       target = p.target;
     };

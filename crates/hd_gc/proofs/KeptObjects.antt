@@ -7,14 +7,14 @@ use Rattle.hd_model.specs.State.{Object, Handle}
 use Rattle.hd_model.specs.Role.{Role, short, attaches, role}
 use Rattle.hd_model.specs.Counting.{Counts}
 use Rattle.hd_model.specs.Scene.{Scene, Objects, Rows, generation_in, generation_at}
-use Rattle.hd_model.specs.Reach.{IsAttached, IsEdge, IsReached, IsRevived, IsKept}
+use Rattle.hd_model.specs.Reach.{IsAttached, IsEdge, IsReached, IsToBeFinalized, IsKept}
 use Rattle.hd_model.proofs.SceneCollection.{mapped_value}
 use Rattle.hd_model.proofs.PropertyCounts.{counts_like}
 use Rattle.hd_model.proofs.MarkReach.{decides_kept}
 use Rattle.hd_model.proofs.EdgeInvariants.{leads_like}
 use Rattle.hd_scan.specs.Tasks.{is_role, has_role, swept}
-use Rattle.hd_final.specs.Revival.{IsOut}
-use Rattle.hd_gc.specs.Marking.{Revival}
+use Rattle.hd_final.specs.Resurrection.{IsOut}
+use Rattle.hd_gc.specs.Marking.{Resurrection}
 use Rattle.hd_gc.proofs.HandleRoles.{other_stays}
 
 -- the rows of another role stay where those of a role lose targets
@@ -39,7 +39,7 @@ module _ {N : Type 0} (r : Role) (p : N → Bool) (before after : Rows N)
     attached_after x y a = record {
       slot = a.slot;
       handle = a.handle;
-      stands = row_after a.slot a.handle a.stands (ap (is_role r) a.attaches ∙ apart);
+      is_stored = row_after a.slot a.handle a.is_stored (ap (is_role r) a.attaches ∙ apart);
       attaches = a.attaches;
       target = a.target;
       secondary = a.secondary;
@@ -49,17 +49,17 @@ module _ {N : Type 0} (r : Role) (p : N → Bool) (before after : Rows N)
     attached_before x y a = record {
       slot = a.slot;
       handle = a.handle;
-      stands = row_before a.slot a.handle a.stands (ap (is_role r) a.attaches ∙ apart);
+      is_stored = row_before a.slot a.handle a.is_stored (ap (is_role r) a.attaches ∙ apart);
       attaches = a.attaches;
       target = a.target;
       secondary = a.secondary;
     }
 
-    pub arrow_after : (o : Objects N) (x y : N) → IsEdge o before x y → IsEdge o after x y
-    arrow_after o x y = ⊎_elim (λ f. inl f) (λ a. inr (attached_after x y a))
+    pub edge_after : (o : Objects N) (x y : N) → IsEdge o before x y → IsEdge o after x y
+    edge_after o x y = ⊎_elim (λ f. inl f) (λ a. inr (attached_after x y a))
 
-    pub arrow_before : (o : Objects N) (x y : N) → IsEdge o after x y → IsEdge o before x y
-    arrow_before o x y = ⊎_elim (λ f. inl f) (λ a. inr (attached_before x y a))
+    pub edge_before : (o : Objects N) (x y : N) → IsEdge o after x y → IsEdge o before x y
+    edge_before o x y = ⊎_elim (λ f. inl f) (λ a. inr (attached_before x y a))
 
 -- a test for a registered condemned object outside a set
 abbrev pub is_registered : {N : Type 0} → Option (Object N) → Bool
@@ -75,7 +75,7 @@ module _ {N : Type 0} (o : Objects N) (n : ℕ) (p : N → Bool) where
   out_from x None e registered young out = absurd (false≢true registered)
   out_from x (Some object) e registered young out = record {
     object = object;
-    stands = e;
+    is_stored = e;
     registered = registered;
     young = young;
     out = out;
@@ -88,53 +88,54 @@ module _ {N : Type 0} (o : Objects N) (n : ℕ) (p : N → Bool) where
         let (young, out) = and_parts (nat_le (generation_at o x) n) (not (p x)) rest in
         out_from x (o x) refl registered (leb-true (generation_at o x) n young) (not-true (p x) out),
     λ h.
-        and_from (is_registered (o x)) _ (ap is_registered h.stands ∙ h.registered)
+        and_from (is_registered (o x)) _ (ap is_registered h.is_stored ∙ h.registered)
         (and_from (nat_le (generation_at o x) n) (not (p x))
-        (ap (λ v. nat_le (generation_in v) n) h.stands ∙ le-leb h.object.generation n h.young)
+        (ap (λ v. nat_le (generation_in v) n) h.is_stored ∙ le-leb h.object.generation n h.young)
         (not_from_false (p x) h.out)),
   )
 
 module _ {N : Type 0} (s : Scene N) (n : ℕ) (reach : N → Bool)
     (reach_is : (x : N) → Decides (reach x) (IsReached s n x)) where
-  pub out_revived : (x : N) → IsOut s.object n reach x → IsRevived s n x
-  out_revived x h = record {
+  pub out_resurrected : (x : N) → IsOut s.object n reach x → IsToBeFinalized s n x
+  out_resurrected x h = record {
     object = h.object;
-    stands = h.stands;
+    is_stored = h.is_stored;
     registered = h.registered;
     young = h.young;
     lost = λ r. true≢false (sym ((reach_is x).1 r) ∙ h.out);
   }
 
-  pub revived_out : (x : N) → IsRevived s n x → IsOut s.object n reach x
-  revived_out x v = record {
+  pub resurrected_out : (x : N) → IsToBeFinalized s n x → IsOut s.object n reach x
+  resurrected_out x v = record {
     object = v.object;
-    stands = v.stands;
+    is_stored = v.is_stored;
     registered = v.registered;
     young = v.young;
     out = ⊎_elim (λ e. absurd (v.lost ((reach_is x).0 e))) (λ e. e) (cases_Bool (reach x));
   }
 
-  pub revived_decides : (x : N) → Decides (is_out s.object n reach x) (IsRevived s n x)
-  revived_decides x = (
-    λ e. out_revived x ((out_decides s.object n reach x).0 e),
-    λ v. (out_decides s.object n reach x).1 (revived_out x v),
+  pub resurrected_decides : (x : N) → Decides (is_out s.object n reach x) (IsToBeFinalized s n x)
+  resurrected_decides x = (
+    λ e. out_resurrected x ((out_decides s.object n reach x).0 e),
+    λ v. (out_decides s.object n reach x).1 (resurrected_out x v),
   )
 
   module _ {rows : Rows N}
       (short_rows : (slot : ℕ) → rows slot ≡ option_map (swept true (has_role short) reach) (s.handle slot))
       {rank : N → ℕ} {kept : N → Bool} {after : List N}
-      (v : Revival rank (record s { handle = rows; named = [] }) n reach kept after) where
+      (v : Resurrection rank (record s { handle = rows; named = [] }) n reach kept after) where
     pub kept_decides : (x : N) → Decides (kept x) (IsKept s n x)
     kept_decides =
-        decides_kept s n kept (λ x r. v.keeps x ((reach_is x).1 r)) (λ x h. v.revives x (revived_out x h))
-        (λ x y h a. v.closed x y h (arrow_after short reach s.handle rows short_rows refl s.object x y a))
+        decides_kept s n kept (λ x r. v.keeps x ((reach_is x).1 r))
+        (λ x h. v.resurrects x (resurrected_out x h))
+        (λ x y h a. v.closed x y h (edge_after short reach s.handle rows short_rows refl s.object x y a))
         (λ x h.
         let (r, rest) = v.only x h in (
           r,
           (
-            ⊎_elim (λ e. inl ((reach_is r).0 e)) (λ e. inr (out_revived r e)) rest.0,
+            ⊎_elim (λ e. inl ((reach_is r).0 e)) (λ e. inr (out_resurrected r e)) rest.0,
             leads_like (IsEdge s.object rows) (IsEdge s.object s.handle)
-                (λ x y a. arrow_before short reach s.handle rows short_rows refl s.object x y a) rest.1,
+                (λ x y a. edge_before short reach s.handle rows short_rows refl s.object x y a) rest.1,
           ),
         ))
 
@@ -144,8 +145,8 @@ module _ {N : Type 0} (s : Scene N) (n : ℕ) (reach : N → Bool)
       λ h. (out_decides s.object n reach x).1 ((v.joins_are x).0 h),
     )
 
-  pub revivals_counted : (k : ℕ) → Counts (IsOut s.object n reach) k
+  pub resurrections_counted : (k : ℕ) → Counts (IsOut s.object n reach) k
       → Counts (λ x. is_out s.object n reach x ≡ true) k
-  revivals_counted k =
+  resurrections_counted k =
       counts_like (IsOut s.object n reach) (λ x. is_out s.object n reach x ≡ true) k
       (λ x h. (out_decides s.object n reach x).1 h) (λ x e. (out_decides s.object n reach x).0 e)

@@ -27,7 +27,7 @@ module _ {A : Parts} {t2 : Table} {q2 : Queue} {n : ℕ} {plan : PlanOf} {found 
   S = scene_of A
 
   abbrev Left : Scene Addr
-  Left = left_by n sf.sets.reach sf.sets.revived sf.sets.kept sf.sets.joins S
+  Left = left_by n sf.sets.reach sf.sets.resurrected sf.sets.kept sf.sets.joins S
 
   abbrev Rank : Addr → ℕ
   Rank x = (id_at A.heap x).0
@@ -50,10 +50,10 @@ module _ {A : Parts} {t2 : Table} {q2 : Queue} {n : ℕ} {plan : PlanOf} {found 
       (subst (λ (g : Basis). Counts (λ a. (is_object (objects_of g) a ≡ true) × (kept_in plan a ≡ false))
       report.removed) sf.basis rp.removed)
 
-  pub goes_by : GoesBy Rank n S sf.sets.reach sf.sets.revived sf.sets.kept sf.sets.joins report
+  pub goes_by : GoesBy Rank n S sf.sets.reach sf.sets.resurrected sf.sets.kept sf.sets.joins report
   goes_by = record {
     reach_is = sf.sets.reach_is;
-    revived_is = sf.sets.revived_is;
+    resurrected_is = sf.sets.resurrected_is;
     kept_is = sf.sets.kept_is;
     joins_are = sf.sets.joins_are;
     rising = sf.sets.rising;
@@ -66,13 +66,14 @@ module _ {A : Parts} {t2 : Table} {q2 : Queue} {n : ℕ} {plan : PlanOf} {found 
           subst (λ k. Counts (LosesAs S sf.sets.reach sf.sets.kept long) k) (sym rp.long) sf.sets.long;
       dep =
           subst (λ k. Counts (LosesAs S sf.sets.reach sf.sets.kept attaches) k) (sym rp.dep) sf.sets.dep;
-      revived = subst (λ k. Counts (λ x. sf.sets.revived x ≡ true) k) (sym rp.revived) sf.sets.revivals;
+      resurrected = subst (λ k. Counts (λ x. sf.sets.resurrected x ≡ true) k)
+          (sym rp.resurrected) sf.sets.resurrections;
     };
   }
 
   pub whole_left : IsWhole Left
   whole_left =
-      whole_in_place Rank n S sf.sets.reach sf.sets.revived sf.sets.kept sf.sets.joins report ready.whole
+      whole_in_place Rank n S sf.sets.reach sf.sets.resurrected sf.sets.kept sf.sets.joins report ready.whole
       goes_by
 
   -- what is in that scene is kept
@@ -80,22 +81,23 @@ module _ {A : Parts} {t2 : Table} {q2 : Queue} {n : ℕ} {plan : PlanOf} {found 
   left_kept x e =
       let (o, at) = some_value (Left.object x) e in
       sf.plan_kept x
-      ∙ (left_from (sf.sets.kept x) (survivor n (sf.sets.revived x)) (object_at A.heap x) o at).0
+      ∙ (left_from (sf.sets.kept x) (survivor n (sf.sets.resurrected x)) (object_at A.heap x) o at).0
 
   pub rows_kept : NamesKept (kept_in plan) (row_at t2)
   rows_kept = record {
-    targets = λ slot g x stands e. left_kept x (whole_left.targets slot g x (sym (sf.rows slot) ∙ stands) e);
-    secondaries = λ slot g x stands e.
-        left_kept x (whole_left.secondaries slot g x (sym (sf.rows slot) ∙ stands) e);
+    targets =
+        λ slot g x is_stored e. left_kept x (whole_left.targets slot g x (sym (sf.rows slot) ∙ is_stored) e);
+    secondaries = λ slot g x is_stored e.
+        left_kept x (whole_left.secondaries slot g x (sym (sf.rows slot) ∙ is_stored) e);
   }
 
-  pub waiting_kept : (x : Addr) → Contains q2.waiting x → kept_in plan x ≡ true
-  waiting_kept x waits =
+  pub queued_kept : (x : Addr) → Contains q2.waiting x → kept_in plan x ≡ true
+  queued_kept x is_queued =
       left_kept x (whole_left.queue x
-      (subst (λ (p : Queue). Contains p.waiting x) sf.queue waits))
+      (subst (λ (p : Queue). Contains p.waiting x) sf.queue is_queued))
 
-  pub waiting_objects : (x : Addr) → Contains q2.waiting x → is_object (object_at A.heap) x ≡ true
-  waiting_objects x waits = sf.keeping.objects x (waiting_kept x waits)
+  pub queued_objects : (x : Addr) → Contains q2.waiting x → is_object (object_at A.heap) x ≡ true
+  queued_objects x is_queued = sf.keeping.objects x (queued_kept x is_queued)
 
   pub roots_kept : (x : Addr) → Contains A.roots (Some x) → kept_in plan x ≡ true
   roots_kept x names = left_kept x (whole_left.named x names)

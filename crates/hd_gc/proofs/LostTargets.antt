@@ -42,13 +42,13 @@ module _ {N : Type 0} (s : Scene N) (reach kept : N → Bool) {r1 r2 r3 : Rows N
       (λ slot d. let is : role d.handle ≡ r = same_role r (role d.handle) d.passes in
       record {
         handle = d.handle;
-        stands = before slot d.handle is d.stands;
+        is_stored = before slot d.handle is d.is_stored;
         role_is = is;
         loses = ap (λ j. loses_by j reach kept d.handle.target) is ∙ same d.handle.target ∙ d.lost;
       })
       (λ slot l. record {
         handle = l.handle;
-        stands = after slot l.handle l.role_is l.stands;
+        is_stored = after slot l.handle l.role_is l.is_stored;
         passes = is_same_role r (role l.handle) l.role_is;
         lost =
             sym (same l.handle.target) ∙ sym (ap (λ j. loses_by j reach kept l.handle.target) l.role_is)
@@ -79,13 +79,13 @@ module _ {N : Type 0} (s : Scene N) (reach kept : N → Bool) {r1 r2 r3 : Rows N
       (counts_like (IsLostAt r2 kept) (IsUnder r2 (has_role attaches) kept) k
       (λ slot d. record {
         handle = d.handle;
-        stands = d.stands;
+        is_stored = d.is_stored;
         passes = is_same_role attaches (role d.handle) d.attaches;
         lost = d.lost;
       })
       (λ slot l. record {
         handle = l.handle;
-        stands = l.stands;
+        is_stored = l.is_stored;
         attaches = same_role attaches (role l.handle) l.passes;
         lost = l.lost;
       }) counts)

@@ -20,18 +20,18 @@ use Rattle.hd_model.proofs.SceneCollection.{root_reached, reached_on}
 use Rattle.hd_mark.specs.Marks.{MarksOf, promoted_in, pinned_in}
 use Rattle.hd_dep.specs.Rescan.{RescanSteps}
 use Rattle.hd_dep.specs.Clearing.{IsAllDetached, IsLostAt}
-use Rattle.hd_final.specs.Revival.{IsOut}
+use Rattle.hd_final.specs.Resurrection.{IsOut}
 use Rattle.hd_plan.specs.Plan.{PlanOf, IsLaid, kept_in, place_in, stays_in}
 use Rattle.hd_scan.specs.declared.task.Task.{Task}
 use Rattle.hd_scan.specs.Tasks.{task_kind, has_role, short_tasks, long_tasks}
 use Rattle.hd_gc.specs.Ready.{Parts, IsReady, parts, scene_of, basis_of}
 use Rattle.hd_gc.specs.Clearing.{SameMarks, Clears}
-use Rattle.hd_gc.specs.Marking.{Traced, Revived, Revival, Rescans}
+use Rattle.hd_gc.specs.Marking.{Traced, Resurrected, Resurrection, Rescans}
 use Rattle.hd_gc.specs.Steps.{MarkAndClearSteps, task_visits}
 use Rattle.hd_gc.specs.MarkAndClear.{FoundSets, MarkedAndCleared}
 use Rattle.hd_model.proofs.EqualTables.{visits_same, same_table_on, due_again}
 use Rattle.hd_gc.proofs.ClearedRows.{ready_due, cleared_due, tasks_alike}
-use Rattle.hd_gc.proofs.KeptObjects.{is_out, revived_decides, kept_decides, joins_decide, revivals_counted}
+use Rattle.hd_gc.proofs.KeptObjects.{is_out, resurrected_decides, kept_decides, joins_decide, resurrections_counted}
 use Rattle.hd_gc.proofs.LostTargets.{cleared_rows, short_losses, long_losses, dependent_losses}
 use Rattle.hd_gc.proofs.TraceMarks.{settled_over}
 
@@ -114,11 +114,11 @@ module _ {A : Parts} {n s0 s1 : ℕ} {m1 : MarksOf} (ready : IsReady A) (tr : Tr
   fields2 x y e f = has_reached y (reached_on n S x y (is_reached x e) (inl f))
 
   pub waiting2 : (x : Addr) → Contains A.queue.waiting x → promoted_in m2 x ≡ true
-  waiting2 x waits = has_reached x (root_reached n S x (queued waits))
+  waiting2 x is_queued = has_reached x (root_reached n S x (queued is_queued))
 
   -- up to that of long ones
   module _ {m3 m4 : MarksOf} {after : List Addr} {s2 s3 : ℕ}
-      (rv : Revived (parts A.heap t1 A.ages A.queue []) n m2 m3 after s2 s3) {t2 : Table} {long_n : ℕ}
+      (rv : Resurrected (parts A.heap t1 A.ages A.queue []) n m2 m3 after s2 s3) {t2 : Table} {long_n : ℕ}
       (same4 : SameMarks m3 m4) (clear2 : Clears (has_role long) t1 t2 m3 long_n) where
     pub basis3 : m3.basis ≡ basis_of A n
     basis3 = rv.basis ∙ basis2
@@ -132,7 +132,7 @@ module _ {A : Parts} {n s0 s1 : ℕ} {m1 : MarksOf} (ready : IsReady A) (tr : Tr
     pub closed4 : IsClosed (IsField O) (promoted_in m4)
     closed4 x y e f =
         ap (λ p. p y) same4.promoted
-        ∙ rv.revival.closed x y (ap (λ p. p x) (sym same4.promoted) ∙ e) (inl f)
+        ∙ rv.resurrection.closed x y (ap (λ p. p x) (sym same4.promoted) ∙ e) (inl f)
 
     abbrev Reach : Addr → Bool
     Reach = promoted_in m1
@@ -140,11 +140,12 @@ module _ {A : Parts} {n s0 s1 : ℕ} {m1 : MarksOf} (ready : IsReady A) (tr : Tr
     abbrev Kept : Addr → Bool
     Kept = promoted_in m3
 
-    revival : Revival (λ x. (id_at A.heap x).0) (record S { handle = row_at t1; named = [] }) n Reach
-        Kept after
-    revival =
-        subst (λ p. Revival (λ x. (id_at A.heap x).0) (record S { handle = row_at t1; named = [] }) n p Kept
-        after) same2.promoted rv.revival
+    resurrection : Resurrection (λ x. (id_at A.heap x).0) (record S { handle = row_at t1; named = [] })
+        n Reach Kept after
+    resurrection =
+        subst (λ p. Resurrection (λ x. (id_at A.heap x).0) (record S { handle = row_at t1; named = [] }) n
+        p Kept
+        after) same2.promoted rv.resurrection
 
     older_reached : (x : Addr) → n < generation_at O x → Reach x ≡ true
     older_reached x above = (tr.reach_is x).1 (root_reached n S x (older above))
@@ -155,7 +156,7 @@ module _ {A : Parts} {n s0 s1 : ℕ} {m1 : MarksOf} (ready : IsReady A) (tr : Tr
     held_kept : (x : Addr) → IsPinned S.handle x → promoted_in m4 x ≡ true
     held_kept x p =
         ap (λ r. r x) same4.promoted
-        ∙ revival.keeps x ((tr.reach_is x).1 (root_reached n S x (held (pinned_held S.handle x p))))
+        ∙ resurrection.keeps x ((tr.reach_is x).1 (root_reached n S x (held (pinned_held S.handle x p))))
 
     pins4 : pinned_in m4 ≡ pinned_in m1
     pins4 = same4.pinned ∙ rv.pinned ∙ same2.pinned
@@ -163,21 +164,22 @@ module _ {A : Parts} {n s0 s1 : ℕ} {m1 : MarksOf} (ready : IsReady A) (tr : Tr
     -- up to that of dependent ones
     module _ {t3 : Table} {dep_n : ℕ} (detaches : IsAllDetached (promoted_in m4) (row_at t2) (row_at t3))
         (same3 : IsSameTable t2 t3) (lost : Counts (IsLostAt (row_at t2) (promoted_in m4)) dep_n)
-        {revived_n : ℕ} (revivals : Counts (IsOut O n (promoted_in m2)) revived_n) where
+        {resurrected_n : ℕ} (resurrections : Counts (IsOut O n (promoted_in m2)) resurrected_n) where
       detaches3 : IsAllDetached Kept (row_at t2) (row_at t3)
       detaches3 = subst (λ p. IsAllDetached p (row_at t2) (row_at t3)) same4.promoted detaches
 
-      pub sets : FoundSets A n (record { short = short_n; long = long_n; dep = dep_n; revived = revived_n })
+      pub sets : FoundSets A n
+          (record { short = short_n; long = long_n; dep = dep_n; revived = resurrected_n })
       sets = record {
         reach = Reach;
-        revived = is_out O n Reach;
+        resurrected = is_out O n Reach;
         kept = Kept;
-        joins = revival.joins;
+        joins = resurrection.joins;
         reach_is = tr.reach_is;
-        revived_is = revived_decides S n Reach tr.reach_is;
-        kept_is = kept_decides S n Reach tr.reach_is clear1.whole.swept revival;
-        joins_are = joins_decide S n Reach tr.reach_is clear1.whole.swept revival;
-        rising = revival.rising;
+        resurrected_is = resurrected_decides S n Reach tr.reach_is;
+        kept_is = kept_decides S n Reach tr.reach_is clear1.whole.swept resurrection;
+        joins_are = joins_decide S n Reach tr.reach_is clear1.whole.swept resurrection;
+        rising = resurrection.rising;
         short =
             short_losses S Reach Kept clear1.whole.swept clear2.whole.swept detaches3 short_n
             clear1.whole.count;
@@ -187,9 +189,9 @@ module _ {A : Parts} {n s0 s1 : ℕ} {m1 : MarksOf} (ready : IsReady A) (tr : Tr
         dep =
             dependent_losses S Reach Kept clear1.whole.swept clear2.whole.swept detaches3 dep_n
             (subst (λ p. Counts (IsLostAt (row_at t2) p) dep_n) same4.promoted lost);
-        revivals =
-            revivals_counted S n Reach tr.reach_is revived_n
-            (subst (λ p. Counts (IsOut O n p) revived_n) same2.promoted revivals);
+        resurrections =
+            resurrections_counted S n Reach tr.reach_is resurrected_n
+            (subst (λ p. Counts (IsOut O n p) resurrected_n) same2.promoted resurrections);
       }
 
       same12 : IsSameTable A.table t2
@@ -206,7 +208,7 @@ module _ {A : Parts} {n s0 s1 : ℕ} {m1 : MarksOf} (ready : IsReady A) (tr : Tr
           (visits_same A.table t1 A.ages n kind.Dependent clear1.table) rest.1 in
           let within : tr.steps.rescan.promoted + second.promoted ≤ k =
           rescans_within tr.steps (λ x e. rest.0 x (ap (λ p. p x) same2.promoted ∙ e)) second older_reached
-          revival.keeps kept_objects k (surviving_as_pairs S n Kept k of_k) in
+          resurrection.keeps kept_objects k (surviving_as_pairs S n Kept k of_k) in
           record {
             passes = tr.steps.rescan.passes + second.passes + 1;
             least = omega (arith, tr.steps.rescan.least, second.least);
@@ -244,7 +246,7 @@ module _ {A : Parts} {n s0 s1 : ℕ} {m1 : MarksOf} (ready : IsReady A) (tr : Tr
         pinned_target x p =
             ⊎_elim (λ above. keeping.in_place x above)
             (λ low.
-            let object : is_object O x ≡ true = ready.whole.targets p.slot p.handle x p.stands p.target in
+            let object : is_object O x ≡ true = ready.whole.targets p.slot p.handle x p.is_stored p.target in
             in_place x (held_kept x p)
             (ap (λ r. r x) pins4 ∙ (tr.pins x (record { object = object; young = low })).1 p))
             (cases_lt n (generation_at O x))
@@ -262,13 +264,13 @@ module _ {A : Parts} {n s0 s1 : ℕ} {m1 : MarksOf} (ready : IsReady A) (tr : Tr
         pub marked_and_cleared : {q2 : Queue} {s5 : ℕ} → q2.waiting ≡ after → q2.room ≡ A.queue.room
             → ((k : ℕ) → Counts (IsSurviving n S Kept) k → MarkAndClearSteps A.table A.ages n k s0 s5)
             → MarkedAndCleared A (record A { table = t3; queue = q2 }) n plan
-            (record { short = short_n; long = long_n; dep = dep_n; revived = revived_n }) s0 s5
+            (record { short = short_n; long = long_n; dep = dep_n; revived = resurrected_n }) s0 s5
         unfolding sets
         marked_and_cleared waiting room steps = record {
           sets = sets;
           rows = cleared_rows S Reach Kept clear1.whole.swept clear2.whole.swept detaches3;
           table = same_table_on A.table t2 t3 same12 same3;
-          queue = λ i. record { waiting = (waiting ∙ revival.queue_is) i; room = room i };
+          queue = λ i. record { waiting = (waiting ∙ resurrection.queue_is) i; room = room i };
           laid = laid;
           basis = basis;
           keeping = keeping;

@@ -8,14 +8,14 @@ use Rattle.hd_model.specs.Reach.{IsEdge, IsHeld, IsRoot, named, queued, held, ol
 use Rattle.hd_model.proofs.EdgeChains.{leads_on}
 use Rattle.hd_model.proofs.MarkReach.{decides_reached}
 use Rattle.hd_model.proofs.SceneCollection.{root_reached, reached_on}
-use Rattle.hd_final.specs.Revival.{IsOut, Revives}
-use Rattle.hd_gc.specs.Marking.{Revival}
+use Rattle.hd_final.specs.Resurrection.{IsOut, Resurrects}
+use Rattle.hd_gc.specs.Marking.{Resurrection}
 use Rattle.hd_model.proofs.EdgeInvariants.{leads_like, grown_within}
 
 -- a field of a condemned object is an edge
-pub young_arrow : {N : Type 0} (o : Objects N) (rows : Rows N) (n : ℕ) (x y : N) → IsYoungField o n x y
+pub young_edge : {N : Type 0} (o : Objects N) (rows : Rows N) (n : ℕ) (x y : N) → IsYoungField o n x y
     → IsEdge o rows x y
-young_arrow o rows n x y e = inl e.field
+young_edge o rows n x y e = inl e.field
 
 -- from older objects, what the roots reference, the queue, the handles that hold, and what a set of fields of
 -- older objects references, and then along all edges, exactly what is reached is promoted
@@ -71,12 +71,12 @@ module _ {N : Type 0} (s : Scene N) (n : ℕ) (F : N → Type 0) (p0 p1 p2 p3 p4
   traced = decides_reached s n q roots_in closure.closed only
 
 -- what is out and joins, and what chains lead to from there
-pub revival : {N : Type 0} {rank : N → ℕ} (s : Scene N) {n : ℕ} {p r q : N → Bool} {after : List N}
-    → Revives rank s.object n p r s.queue after → IsClosure (IsEdge s.object s.handle) r q
-    → Revival rank s n p q after
-revival {N} {rank} s {n} {p} by_out closure = record {
+pub resurrection : {N : Type 0} {rank : N → ℕ} (s : Scene N) {n : ℕ} {p r q : N → Bool} {after : List N}
+    → Resurrects rank s.object n p r s.queue after → IsClosure (IsEdge s.object s.handle) r q
+    → Resurrection rank s n p q after
+resurrection {N} {rank} s {n} {p} by_out closure = record {
   keeps = λ x h. closure.keeps x (by_out.grows.keeps x h);
-  revives = λ x h. closure.keeps x (by_out.grows.joins x h);
+  resurrects = λ x h. closure.keeps x (by_out.grows.joins x h);
   closed = closure.closed;
   only = λ x h.
       let (y, rest) = closure.only x h in
@@ -87,7 +87,7 @@ revival {N} {rank} s {n} {p} by_out closure = record {
           inr w.1.0,
           leads_on (IsEdge s.object s.handle)
               (leads_like (IsYoungField s.object n) (IsEdge s.object s.handle)
-              (young_arrow s.object s.handle n) w.1.1) rest.1,
+              (young_edge s.object s.handle n) w.1.1) rest.1,
         ),
       ))
       (by_out.grows.only y rest.0);

@@ -88,9 +88,9 @@ module _ (place : Addr → Addr) (ages : List ℕ) (n : ℕ) where
         (cases_lt (kind_number j) i)
 
     pub can_relocate : (kept : Addr → Bool) → NamesKept kept (row_at old) → CanRelocate kept ages n k now
-    can_relocate kept w slot h stands visited =
+    can_relocate kept w slot h is_stored visited =
         let (g, both) =
-        mapped_value (renamed_below i slot) (row_at old slot) h (sym (done.rows slot) ∙ stands) in
+        mapped_value (renamed_below i slot) (row_at old slot) h (sym (done.rows slot) ∙ is_stored) in
         let kind_is : h.kind ≡ g.kind = ap (λ (q : Handle Addr). q.kind) (sym both.1) ∙ kind_kept _ g in
         let still : g ≡ h =
         sym (ap (λ b. cond (b && is_due ages n slot) (rename_handle place g) g)

@@ -6,7 +6,7 @@ use Rattle.hd_model.specs.declared.data.Report.{Report}
 use Rattle.hd_model.specs.Role.{short, long, attaches}
 use Rattle.hd_model.specs.Counting.{Counts}
 use Rattle.hd_model.specs.Scene.{is_object, IsCondemned}
-use Rattle.hd_model.specs.Reach.{IsReached, IsRevived, IsKept, IsPinned}
+use Rattle.hd_model.specs.Reach.{IsReached, IsToBeFinalized, IsKept, IsPinned}
 use Rattle.hd_model.specs.Collect.{cleared, LosesAs, IsSurviving}
 use Rattle.hd_model.specs.Marking.{IsKeeping}
 use Rattle.hd_model.specs.Heap.{Heap, object_at, objects_of, id_at}
@@ -21,18 +21,18 @@ use Rattle.hd_gc.specs.Steps.{MarkAndClearSteps}
 -- those that lose their target or are resurrected
 pub record FoundSets (p : Parts) (n : ℕ) (found : Found) : Type 0 where
   pub reach : Addr → Bool
-  pub revived : Addr → Bool
+  pub resurrected : Addr → Bool
   pub kept : Addr → Bool
   pub joins : List Addr
   pub reach_is : (x : Addr) → Decides (reach x) (IsReached (scene_of p) n x)
-  pub revived_is : (x : Addr) → Decides (revived x) (IsRevived (scene_of p) n x)
+  pub resurrected_is : (x : Addr) → Decides (resurrected x) (IsToBeFinalized (scene_of p) n x)
   pub kept_is : (x : Addr) → Decides (kept x) (IsKept (scene_of p) n x)
-  pub joins_are : (x : Addr) → Decides (revived x) (Contains joins x)
+  pub joins_are : (x : Addr) → Decides (resurrected x) (Contains joins x)
   pub rising : AllPairs (λ x y. (id_at p.heap x).0 < (id_at p.heap y).0) joins
   pub short : Counts (LosesAs (scene_of p) reach kept short) found.short
   pub long : Counts (LosesAs (scene_of p) reach kept long) found.long
   pub dep : Counts (LosesAs (scene_of p) reach kept attaches) found.dep
-  pub revivals : Counts (λ x. revived x ≡ true) found.revived
+  pub resurrections : Counts (λ x. resurrected x ≡ true) found.revived
 
 -- the handles are cleared, the resurrected have joined the queue, and the plan keeps what is kept, the
 -- targets of pinning handles in place
@@ -61,4 +61,4 @@ pub record Reports (plan : PlanOf) (found : Found) (report : Report) : Type 0 wh
   pub short : report.short ≡ found.short
   pub long : report.long ≡ found.long
   pub dep : report.dep ≡ found.dep
-  pub revived : report.revived ≡ found.revived
+  pub resurrected : report.revived ≡ found.revived

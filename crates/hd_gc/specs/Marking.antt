@@ -11,7 +11,7 @@ use Rattle.hd_model.specs.Table.{Table, row_at}
 use Rattle.hd_model.specs.Visits.{visits_of}
 use Rattle.hd_mark.specs.Marks.{MarksOf, promoted_in, pinned_in, IsSettledMarks}
 use Rattle.hd_dep.specs.Rescan.{RescanSteps}
-use Rattle.hd_final.specs.Revival.{IsOut}
+use Rattle.hd_final.specs.Resurrection.{IsOut}
 use Rattle.hd_scan.specs.Tasks.{root_tasks}
 use Rattle.hd_gc.specs.Ready.{Parts, scene_of, basis_of}
 use Rattle.hd_gc.specs.Steps.{task_visits}
@@ -34,10 +34,10 @@ pub record Traced (p : Parts) (n : ℕ) (new : MarksOf) (before after : ℕ) : T
 
 -- q is p with what is registered, condemned and outside p, and with what chains of edges lead to; those
 -- outside join the queue in rising rank
-pub record Revival {N : Type 0} (rank : N → ℕ) (s : Scene N) (n : ℕ) (p q : N → Bool) (after : List N)
+pub record Resurrection {N : Type 0} (rank : N → ℕ) (s : Scene N) (n : ℕ) (p q : N → Bool) (after : List N)
     : Type 0 where
   pub keeps : (x : N) → p x ≡ true → q x ≡ true
-  pub revives : (x : N) → IsOut s.object n p x → q x ≡ true
+  pub resurrects : (x : N) → IsOut s.object n p x → q x ≡ true
   pub closed : IsClosed (IsEdge s.object s.handle) q
   pub only : (x : N) → q x ≡ true
       → (r : N) × (((p r ≡ true) ⊎ IsOut s.object n p r) × Leads (IsEdge s.object s.handle) r x)
@@ -47,13 +47,14 @@ pub record Revival {N : Type 0} (rank : N → ℕ) (s : Scene N) (n : ℕ) (p q 
   pub rising : AllPairs (λ x y. rank x < rank y) joins
 
 -- marks and a queue that the resurrection left; what was promoted before the rescan has what was before
-pub record Revived (p : Parts) (n : ℕ) (old new : MarksOf) (after : List Addr) (steps_before steps_after : ℕ)
+pub record Resurrected (p : Parts) (n : ℕ) (old new : MarksOf) (after : List Addr)
+    (steps_before steps_after : ℕ)
     : Type 0 where
   pub settled : IsSettledMarks new
   pub basis : new.basis ≡ old.basis
   pub pinned : pinned_in new ≡ pinned_in old
-  pub revival :
-      Revival (λ x. (id_at p.heap x).0) (scene_of p) n (promoted_in old) (promoted_in new) after
+  pub resurrection :
+      Resurrection (λ x. (id_at p.heap x).0) (scene_of p) n (promoted_in old) (promoted_in new) after
   pub steps : (set : Addr → Bool) × (((x : Addr) → promoted_in old x ≡ true → set x ≡ true)
       × RescanSteps (visits_of p.table p.ages n kind.Dependent) set (promoted_in new) steps_before
       steps_after)

@@ -2,7 +2,7 @@
 ghost use Rattle.std.specs.Prelude.{◌≡◌, ◌≤◌, true, [], Contains, IfOk, OnErr};
 ghost use Rattle.std.specs.FinMap.{len};
 ghost use Rattle.hd_model.specs.Counting.{Counts};
-ghost use Rattle.hd_final.specs.Revival.{IsOut};
+ghost use Rattle.hd_final.specs.Resurrection.{IsOut};
 ghost use Rattle.hd_model.specs.Scene.{IsField};
 ghost use Rattle.hd_model.specs.Leads.{IsClosed};
 ghost use Rattle.hd_model.specs.Heap.{HasIdentities, is_carded, object_at};
@@ -11,7 +11,7 @@ ghost use Rattle.hd_model.specs.Ages.{HasSoundCards};
 ghost use Rattle.hd_mark.specs.Marks.{IsSettledMarks, promoted_in};
 ghost use Rattle.hd_plan.specs.Plan.{IsTakenPlan};
 ghost use Rattle.hd_gc.specs.Ready.{IsReady, parts};
-ghost use Rattle.hd_gc.specs.Marking.{Revived};
+ghost use Rattle.hd_gc.specs.Marking.{Resurrected};
 ghost use Rattle.hd_gc.specs.MarkAndClear.{MarkedAndCleared};
 
 use crate::clearing::{clear_long, clear_short};
@@ -57,8 +57,8 @@ fn revive<L: Ledger>(
     requires identities { HasIdentities heap.now }
     requires room { len heap.now.objects ≤ fin.old.room }
     ensures room { fin.new.room ≡ fin.old.room }
-    ensures revived { Revived (parts heap.now seg.now ages.now fin.old []) n marks.old marks.new
-        fin.new.waiting steps.old steps.new }
+    ensures resurrected { Resurrected (parts heap.now seg.now ages.now fin.old []) n marks.old
+        marks.new fin.new.waiting steps.old steps.new }
     ensures count { Counts (IsOut (object_at heap.now) n (promoted_in marks.old)) result }
 {
     let revived = fin.revive(heap, marks, n);

@@ -69,25 +69,25 @@ module _ {areas : List Area} {spares : List ℕ} {limit capacity cells objects h
   pub sound : IsSound h
   unfolding region_of card_of
   sound = record {
-    held = λ a is. (found heap a is).2.home.there;
+    held = λ a is. (found heap a is).2.located.there;
     within = λ a is.
         let f = (found heap a is).2 in
         omega (
           arith,
-          f.home.area.laid_out.below_fill (a.0 % 256) f.object,
+          f.located.area.laid_out.below_fill (a.0 % 256) f.object,
           cells_placed (object_in_region (contents (found heap a is).1) (a.0 % 256)),
           ap cells_of f.placed,
-          ap (λ (g : Region). g.fill) f.home.region,
+          ap (λ (g : Region). g.fill) f.located.region,
         );
     apart = λ a b is_a is_b below.
         let f = (found heap a is_a).2 in
         let g = (found heap b is_b).2 in
-        let laid = f.home.area.laid_out in
+        let laid = f.located.area.laid_out in
         let size = cells_placed (object_in_region (contents (found heap a is_a).1) (a.0 % 256)) in
         let low = laid.below_fill (a.0 % 256) f.object in
         elim (cases_eq (a.0 / 256) (b.0 / 256)) [
           | inl same ↦
-              let one = sym g.home.place.here ∙ ap (area_at areas) (sym same) ∙ f.home.place.here in
+              let one = sym g.located.place.here ∙ ap (area_at areas) (sym same) ∙ f.located.place.here in
               let area_same : (found heap b is_b).1 ≡ (found heap a is_a).1 = cc one in
               let there = subst (λ (x : Area). IsObject (contents x) (b.0 % 256)) area_same g.object in
               let next = laid.apart (a.0 % 256) (b.0 % 256) f.object there (omega (arith, same, below)) in
@@ -95,13 +95,13 @@ module _ {areas : List Area} {spares : List ℕ} {limit capacity cells objects h
           | inr other ↦ omega (arith, other, below, low, size, laid.within_region, ap cells_of f.placed)
         ];
     identified = λ a is e. let f = (found heap a is).2 in
-        (f.home.area.laid_out.well_formed (a.0 % 256) f.object).identified
+        (f.located.area.laid_out.well_formed (a.0 % 256) f.object).identified
         (sym (ap (λ (p : Placed). p.id.0) f.placed) ∙ e);
     few_fields = λ a is.
         let f = (found heap a is).2 in
         omega (
           arith,
-          (f.home.area.laid_out.well_formed (a.0 % 256) f.object).few_fields,
+          (f.located.area.laid_out.well_formed (a.0 % 256) f.object).few_fields,
           length-map (object_in_region (contents (found heap a is).1) (a.0 % 256)).fields address,
           ap (λ (p : Placed). length p.fields) f.placed,
         );

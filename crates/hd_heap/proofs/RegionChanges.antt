@@ -46,7 +46,7 @@ module _ {areas : List Area} {spares : List ℕ} {limit capacity cells objects h
   -- the address of an object is read as it was written
   pub address_stored : (a : Addr) → has_object h a ≡ true → address a.0 ≡ Some a
   address_stored a is =
-      address_is a.0 (λ e. let p = (found heap a is).2.home.place in omega (arith, e, p.number))
+      address_is a.0 (λ e. let p = (found heap a is).2.located.place in omega (arith, e, p.number))
 
   -- a region gets another generation
   pub generation_changed : {r k : ℕ} {a : Area} (g d : ℕ) → IsHeldAt areas h r k a → g ≤ 2
@@ -80,8 +80,8 @@ module _ {areas : List Area} {spares : List ℕ} {limit capacity cells objects h
   card_changed at {k} {a} on f =
       let card = (at.0 % 256) / 32 in
       let b : Area = record a { cards = set a.cards card on } in
-      let old = f.home.area in
-      let place = f.home.place in
+      let old = f.located.area in
+      let place = f.located.place in
       let here : card_in (Some b) card ≡ on =
       get_or-set_same a.cards card on false (omega (arith, old.card_count)) in
       let other = λ (j : ℕ) (apart : j ≢ card). get_or-set_other a.cards card j on false apart in
@@ -111,8 +111,8 @@ module _ {areas : List Area} {spares : List ℕ} {limit capacity cells objects h
             (set_of.remove old_cards (at.0 / 32)))) same ∙ marked_here old_cards (at.0 / 32) on)
         | inr apart ↦ elsewhere c apart ∙ sym (marked_other old_cards (at.0 / 32) c on apart)
       ]) in
-      heap_set place b heap cells objects current (with_card h (at.0 / 32) on) new f.home.held f.home.held
-      (objects_same place b refl ∙ ap (λ (x : Heap). x.objects) heap.view)
+      heap_set place b heap cells objects current (with_card h (at.0 / 32) on) new f.located.held
+      f.located.held (objects_same place b refl ∙ ap (λ (x : Heap). x.objects) heap.view)
       (regions_same place b refl ∙ ap (λ (x : Heap). x.regions) heap.view) refl refl
       (marks ∙ ap (λ (x : Heap). cond on (set_of.insert x.cards (at.0 / 32))
       (set_of.remove x.cards (at.0 / 32))) heap.view) (used_is heap) refl (count_is heap) (λ x. x)
@@ -174,15 +174,15 @@ module _ {areas : List Area} {spares : List ℕ} {limit capacity cells objects h
       (cells - size, objects - 1, holds) current
       (record h { objects = fin.remove h.objects at.0; cards = cards_in (set areas k b) })
   object_removed at {k} {a} b size f new taken =
-      let place = f.home.place in
+      let place = f.located.place in
       let whole : (at.0 / 256) * 256 + at.0 % 256 ≡ at.0 = omega arith in
       let old = placed_of (object_in_region (contents a) (at.0 % 256)) in
       let sums = sum-taken cells_of h.objects at.0 old f.get in
       let size_is = cells_placed (object_in_region (contents a) (at.0 % 256)) in
       let lens = len_less h.objects at.0 (ap is_some f.get) in
       heap_set place b heap (cells - size) (objects - 1) current
-      (record h { objects = fin.remove h.objects at.0; cards = cards_in (set areas k b) }) new f.home.held
-      (taken.held ∙ f.home.held)
+      (record h { objects = fin.remove h.objects at.0; cards = cards_in (set areas k b) }) new f.located.held
+      (taken.held ∙ f.located.held)
       (objects_gone place b (at.0 % 256) (omega arith) (ap (λ (c : Contents). c.objects) taken.removed)
       ∙ (λ i. fin.remove (heap.view i).objects (whole i)))
       (regions_same place b (λ i. cond (taken.held i)
@@ -214,11 +214,11 @@ module _ {areas : List Area} {spares : List ℕ} {limit capacity cells objects h
     after) where
   there : (x : Addr) → x.0 / 256 ≡ at.0 / 256 → has_object after x ≡ is_some
       (fin.get (contents b).objects (x.0 % 256))
-  there x same = has_there now x b (ap (area_at (set areas k b)) same ∙ area_here f.home.place b)
+  there x same = has_there now x b (ap (area_at (set areas k b)) same ∙ area_here f.located.place b)
 
   here : is_set after (at.0 / 32) ≡ card_in (Some b) ((at.0 % 256) / 32)
   here = ap (λ (x : Heap). is_set x (at.0 / 32)) (sym now.view)
-      ∙ card_here f.home.place b (at.0 / 32) (omega arith) ∙ ap (card_in (Some b)) (omega arith)
+      ∙ card_here f.located.place b (at.0 / 32) (omega arith) ∙ ap (card_in (Some b)) (omega arith)
 
   was : (c : ℕ) → is_set h c ≡ set_of.contains (cards_in areas) c
   was c = ap (λ (x : Heap). is_set x c) (sym heap.view)
@@ -229,14 +229,14 @@ module _ {areas : List Area} {spares : List ℕ} {limit capacity cells objects h
   removed_cards removed = record {
     removed = removed;
     others = λ c apart. ap (λ (x : Heap). is_set x c) (sym now.view) ∙ elim (cases_eq (c / 8) (at.0 / 256)) [
-      | inl same ↦ card_here f.home.place b c same
+      | inl same ↦ card_here f.located.place b c same
           ∙ taken.others (c % 8) (λ e. apart (omega (arith, e, same)))
-          ∙ sym (was c ∙ card_was f.home.place b c same)
-      | inr other ↦ card_other f.home.place b c other ∙ sym (was c)
+          ∙ sym (was c ∙ card_was f.located.place b c same)
+      | inr other ↦ card_other f.located.place b c other ∙ sym (was c)
     ];
     shared = λ x is in_card. here
         ∙ taken.shared (x.0 % 256) (sym (there x (omega (arith, in_card))) ∙ is) (omega (arith, in_card))
-        ∙ sym (was (at.0 / 32) ∙ card_was f.home.place b (at.0 / 32) (omega arith)
+        ∙ sym (was (at.0 / 32) ∙ card_was f.located.place b (at.0 / 32) (omega arith)
         ∙ ap (card_in (Some a)) (omega arith));
     last = λ none. here ∙ taken.last (λ j is e.
         let fits = new.laid_out.below_fill j is in

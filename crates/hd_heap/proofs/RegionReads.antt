@@ -100,7 +100,7 @@ pub record IsHeldAt (areas : List Area) (h : Heap) (r k : ℕ) (a : Area) : Type
 
 -- an object of a region in use
 pub record IsFound (areas : List Area) (h : Heap) (at : Addr) (k : ℕ) (a : Area) : Type 0 where
-  pub home : IsHeldAt areas h (at.0 / 256) k a
+  pub located : IsHeldAt areas h (at.0 / 256) k a
   pub object : IsObject (contents a) (at.0 % 256)
   pub get : fin.get h.objects at.0 ≡ Some (placed_of (object_in_region (contents a) (at.0 % 256)))
   pub placed : placed_at h at ≡ placed_of (object_in_region (contents a) (at.0 % 256))
@@ -163,8 +163,8 @@ module _ {areas : List Area} {spares : List ℕ} {limit capacity cells objects h
       ∙ is_some_map placed_of (fin.get (contents a).objects (at.0 % 256))
 
   -- a region in use
-  pub home_by : {r k : ℕ} {a : Area} → IsPlace areas r k a → a.held ≡ true → IsHeldAt areas h r k a
-  home_by {r} {a = a} p held =
+  pub located_by : {r k : ℕ} {a : Area} → IsPlace areas r k a → a.held ≡ true → IsHeldAt areas h r k a
+  located_by {r} {a = a} p held =
       let got = regions_at r ∙ ap region_in p.here ∙ in_use a held in
       record {
         place = p;
@@ -175,7 +175,7 @@ module _ {areas : List Area} {spares : List ℕ} {limit capacity cells objects h
       }
 
   pub held_at : {r k : ℕ} {a : Area} → IsPlace areas r k a → is_in_use h r ≡ true → IsHeldAt areas h r k a
-  held_at {r} {a = a} p is = home_by p (held_of a.held refl)
+  held_at {r} {a = a} p is = located_by p (held_of a.held refl)
     where
       held_of : (b : Bool) → a.held ≡ b → a.held ≡ true
       held_of true e = e
@@ -189,7 +189,7 @@ module _ {areas : List Area} {spares : List ℕ} {limit capacity cells objects h
       let got = objects_at at.0 ∙ ap (λ o. placed_in o (at.0 % 256)) p.here
       ∙ ap (option_map placed_of) (object_there (contents a) (at.0 % 256) there) in
       record {
-        home = home_by p (held_by_object a (heap.kept.each _ a p.here) (at.0 % 256) there);
+        located = located_by p (held_by_object a (heap.kept.each _ a p.here) (at.0 % 256) there);
         object = there;
         get = got;
         placed = ap (λ (o : Option Placed). unwrap_or o
@@ -214,7 +214,7 @@ module _ {areas : List Area} {spares : List ℕ} {limit capacity cells objects h
 
   -- the index of an object's region, and of a region in use
   pub index_of : (at : Addr) → has_object h at ≡ true → (k : ℕ) → k ≡ at.0 / 256 - 1 → k < length areas
-  index_of at is k e = let p = (found at is).2.home.place in omega (arith, e, p.number, p.within)
+  index_of at is k e = let p = (found at is).2.located.place in omega (arith, e, p.number, p.within)
 
   pub held_index : (r : ℕ) → is_in_use h r ≡ true → (k : ℕ) → k ≡ r - 1 → (0 < r) × (k < length areas)
   held_index r is k e = let p = (held_found r is).2.place in
@@ -224,7 +224,7 @@ module _ {areas : List Area} {spares : List ℕ} {limit capacity cells objects h
   pub found_read : (at : Addr) → has_object h at ≡ true → (k : ℕ) → k ≡ at.0 / 256 - 1 → (x : Area)
       → x ≡ get_or areas k x → IsFound areas h at k x
   found_read at is k e x read =
-      let p = (found at is).2.home.place in
+      let p = (found at is).2.located.place in
       found_at at (place_read areas (at.0 / 256) k x (omega (arith, e, p.number))
       (index_of at is k e) read) is
 
@@ -241,13 +241,13 @@ unfolding region_of
 object_of {h = h} at f =
     let whole = λ (p : Option Placed). option_map (object_in (region_generation h (at.0 / 256))) p in
     record {
-      area = f.home.area;
+      area = f.located.area;
       offset_is = refl;
       object = f.object;
       placed = f.placed;
       fields = ap (λ (p : Option Placed). fields_in (whole p)) f.get;
       generation = ap (λ (p : Option Placed). generation_in (whole p)) f.get
-          ∙ ap (λ (g : Region). g.generation) f.home.region;
+          ∙ ap (λ (g : Region). g.generation) f.located.region;
     }
 
 pub address_is : (n : ℕ) → n ≢ 0 → address n ≡ Some (record { 0 = n })

@@ -79,7 +79,7 @@ module _ {areas : List Area} {spares : List ℕ} {limit capacity cells objects h
   -- what is wanted is in some region
   pub wanted_place : (w : Wanted) (at : Addr) → is_wanted h w at ≡ true → (k : ℕ) × (at.0 / 256 ≡ suc k)
       × (k < length areas)
-  wanted_place w at is = let p = (found heap at (wanted_has h w at is)).2.home.place in
+  wanted_place w at is = let p = (found heap at (wanted_has h w at is)).2.located.place in
       ((found heap at (wanted_has h w at is)).0, p.number, p.within)
 
   -- the first of a region from an offset on has the least address there

@@ -224,7 +224,7 @@ pub part_written : {areas : List Area} {spares : List ℕ} {limit capacity cells
     (with_object h at (with_part (placed_at h at) p))
 part_written {areas} {cells = cells} {objects = objects} {current = current} {h = h} heap at {k} {a} b p f
     new w =
-    let place = f.home.place in
+    let place = f.located.place in
     let old = object_in_region (contents a) (at.0 % 256) in
     let o = with_part (placed_at h at) p in
     let is : placed_of (region_with_part old p) ≡ o =
@@ -242,8 +242,8 @@ part_written {areas} {cells = cells} {objects = objects} {current = current} {h 
     ap (share cells_of) (f.get ∙ ap Some (sym f.placed)) in
     let used = heap.kept.used ∙ ap used_of heap.view in
     let size = part_cells (placed_at h at) p in
-    heap_set place b heap cells objects current (with_object h at o) new f.home.held
-    (w.held ∙ f.home.held) put
+    heap_set place b heap cells objects current (with_object h at o) new f.located.held
+    (w.held ∙ f.located.held) put
     (regions_same place b regions ∙ ap (λ (x : Heap). x.regions) heap.view) refl refl
     (cards_same place b (λ j. ap (λ bs. get_or bs j false) w.cards) ∙ ap (λ (x : Heap). x.cards) heap.view)
     (omega (arith, sums, was, used, size)) (omega (arith, w.live))

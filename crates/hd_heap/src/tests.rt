@@ -8,7 +8,7 @@ use std::process::Abort;
 use std::test::Fail;
 
 /// Whether an object is at an address.
-fn stands(heap: &Heap, at: Addr) -> bool
+fn is_object_at(heap: &Heap, at: Addr) -> bool
     ensures { result ≡ true → has_object heap.now at ≡ true }
 {
     let before = if at.0 == 0 {
@@ -58,7 +58,7 @@ fn a_removed_object_leaves_a_gap_that_a_walk_passes(rt: HostRuntime) -> Result<(
     let second = heap.new_object(Id(2), 5, true)?;
     let third = heap.new_object(Id(3), 1, false)?;
     assert_eq!(rt; walked(&heap), [Some(first), Some(second), Some(third)]);
-    assert!(rt; stands(&heap, second));
+    assert!(rt; is_object_at(&heap, second));
     heap.remove(second);
     assert_eq!(rt; walked(&heap), [Some(first), Some(third), None]);
     assert_eq!(rt; heap.next(Some(second)), Some(third));
@@ -70,14 +70,14 @@ fn a_removed_object_leaves_a_gap_that_a_walk_passes(rt: HostRuntime) -> Result<(
 
 /// Stores a reference to an object in a field of another one.
 fn store(rt: &impl Abort, heap: &mut Heap, at: Addr, i: u32, v: Addr) {
-    assert!(rt; stands(heap, at) && stands(heap, v));
+    assert!(rt; is_object_at(heap, at) && is_object_at(heap, v));
     assert!(rt; i < heap.fields(at));
     heap.store(at, i, Some(v));
 }
 
 /// Sets or clears the card of an object.
 fn set_card(rt: &impl Abort, heap: &mut Heap, at: Addr, on: bool) {
-    assert!(rt; stands(heap, at));
+    assert!(rt; is_object_at(heap, at));
     heap.set_card(at, on);
 }
 
@@ -108,7 +108,7 @@ fn a_card_is_set_by_a_younger_object_and_goes_with_its_last(rt: HostRuntime) -> 
     let mut heap = Heap::open(rt.alloc(), 1_000)?;
     let first = heap.new_object(Id(1), 61, false)?;
     let second = heap.new_object(Id(2), 1, false)?;
-    assert!(rt; stands(&heap, first));
+    assert!(rt; is_object_at(&heap, first));
     raise(&mut heap, first, 1);
     let young = heap.new_object(Id(3), 1, false)?;
     assert_eq!(rt; young.0, 512);
@@ -125,10 +125,10 @@ fn a_card_is_set_by_a_younger_object_and_goes_with_its_last(rt: HostRuntime) -> 
 
     set_card(&rt, &mut heap, second, true);
     assert_eq!(rt; heap.next_carded(None, 0), Some(second));
-    assert!(rt; stands(&heap, second));
+    assert!(rt; is_object_at(&heap, second));
     heap.remove(second);
     let third = heap.new_object(Id(4), 1, false)?;
-    assert!(rt; stands(&heap, third));
+    assert!(rt; is_object_at(&heap, third));
     raise(&mut heap, third, 1);
     assert_eq!(rt; heap.next_carded(None, 0), None);
     Ok(())
@@ -141,7 +141,7 @@ fn a_walk_of_condemned_objects_passes_an_older_region(rt: HostRuntime) -> Result
         let _ = heap.new_object(Id(serial), 61, false)?;
     }
     let old = heap.new_object(Id(5), 0, false)?;
-    assert!(rt; stands(&heap, old));
+    assert!(rt; is_object_at(&heap, old));
     raise(&mut heap, old, 1);
     let last = heap.new_object(Id(6), 0, false)?;
     assert_eq!(rt; [old.0, last.0], [512, 768]);
@@ -159,16 +159,16 @@ fn a_walk_of_condemned_objects_passes_an_older_region(rt: HostRuntime) -> Result
 fn a_region_that_is_held_again_has_no_old_cells(rt: HostRuntime) -> Result<(), Fail> {
     let mut heap = Heap::open(rt.alloc(), 1_000)?;
     let old = heap.new_object(Id(1), 2, true)?;
-    assert!(rt; stands(&heap, old));
+    assert!(rt; is_object_at(&heap, old));
     heap.set_value(old, 7);
     store(&rt, &mut heap, old, 1, old);
-    assert!(rt; stands(&heap, old));
+    assert!(rt; is_object_at(&heap, old));
     give_up(&rt, &mut heap, old);
     assert_eq!(rt; (heap.count(), heap.regions()), (0, 0));
 
     let new = heap.new_object(Id(2), 2, false)?;
     assert_eq!(rt; new, old);
-    assert!(rt; stands(&heap, new));
+    assert!(rt; is_object_at(&heap, new));
     assert_eq!(rt; (heap.id(new), heap.value(new)), (Id(2), 0));
     assert!(rt; 1 < heap.fields(new));
     assert_eq!(rt; heap.load(new, 1), None);

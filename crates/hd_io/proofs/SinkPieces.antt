@@ -21,13 +21,13 @@ appends_more (Some xs) (Some ys) (Some zs) p q first then =
 
 -- where nothing was done, nothing was taken
 pub took_none : (a : SinkView) → Took a a []
-took_none a = record { told = appends_none a.written; unfailed = refl }
+took_none a = record { appended = appends_none a.written; unfailed = refl }
 
 module _ (a b c : SinkView) (p q : List ℕ) where
   -- one piece and then another are the two as one
   pub took_more : Took a b p → Took b c q → Took a c (p ++ q)
   took_more first then = record {
-    told = appends_more a.written b.written c.written p q first.told then.told;
+    appended = appends_more a.written b.written c.written p q first.appended then.appended;
     unfailed = then.unfailed ∙ first.unfailed;
   }
 
@@ -39,8 +39,8 @@ module _ (a b c : SinkView) (p q : List ℕ) where
     parts = ap (λ v. p ++ v) then.parts ∙ sym (append_assoc p then.prefix then.rest);
     before = then.before;
     took = record {
-      told = appends_more a.written b.written then.before.written p then.prefix first.told
-          then.took.told;
+      appended = appends_more a.written b.written then.before.written p then.prefix first.appended
+          then.took.appended;
       unfailed = then.took.unfailed ∙ first.unfailed;
     };
     failed = then.failed;

@@ -18,7 +18,7 @@ rose_by_more a b c m n first then = grind arith
 -- these bytes and then those are both as one
 pub gave_more : (a b c : SourceView) (p q : List ℕ) → Gave a b p → Gave b c q → Gave a c (p ++ q)
 gave_more a b c p q first then = record {
-  told = consumes_more a.left b.left c.left p q first.told then.told;
+  consumed = consumes_more a.left b.left c.left p q first.consumed then.consumed;
   counted = subst (λ n. RoseBy a.given c.given n) (sym (length-append p q))
       (rose_by_more a.given b.given c.given _ _ first.counted then.counted);
   unfailed = then.unfailed ∙ first.unfailed;

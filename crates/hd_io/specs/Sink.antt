@@ -16,7 +16,7 @@ Appends (Some before) (Some after) piece = after ≡ before ++ piece
 
 -- the sink took this piece, and no write failed
 pub record Took (old new : SinkView) (piece : List ℕ) : Type 0 where
-  pub told : Appends old.written new.written piece
+  pub appended : Appends old.written new.written piece
   pub unfailed : new.faults ≡ old.faults
 
 -- a write failed: it added nothing, and the count of faults rose

@@ -14,7 +14,7 @@ pub record SourceView : Type 0 where
 -- The source gave these bytes, and no read failed. Where it stated what was left they were the
 -- next of it, and it states the rest.
 pub record Gave (old new : SourceView) (bytes : List ℕ) : Type 0 where
-  pub told : Consumes old.left new.left bytes
+  pub consumed : Consumes old.left new.left bytes
   pub counted : RoseBy old.given new.given (length bytes)
   pub unfailed : new.faults ≡ old.faults
 

@@ -32,7 +32,7 @@ impl<R: Read> StdSource<R> {
 
     // What one call of the reader comes to: bytes that are given, or one fault.
     fn count_read(&mut self, answer: io::Result<usize>) -> Result<usize, Failed>
-        ensures told { MatchResult answer
+        ensures counted { MatchResult answer
             (λ n. (result ≡ Ok n)
             × (self.new ≡ record self.old { given = count_up self.old.given n }))
             (λ _. IsErr result

@@ -114,12 +114,12 @@ push_traced m a t object =
 -- ---- a drain
 
 -- an edge of a collection: a field of a condemned object
-abbrev Arrow : MarksOf → Addr → Addr → Type 0
-Arrow m = IsYoungField (objects_of m.basis) m.basis.condemned
+abbrev YoungEdge : MarksOf → Addr → Addr → Type 0
+YoungEdge m = IsYoungField (objects_of m.basis) m.basis.condemned
 
 -- edges lead to x from what is stacked
 abbrev IsLed : MarksOf → Addr → Type 0
-IsLed m x = (r : Addr) × (Contains m.stacked r × Leads (Arrow m) r x)
+IsLed m x = (r : Addr) × (Contains m.stacked r × Leads (YoungEdge m) r x)
 
 -- how far a drain has come from m
 pub record IsDraining (m n : MarksOf) : Type 0 where
@@ -171,10 +171,10 @@ module _ (m n : MarksOf) (d : IsDraining m n) (x : Addr) (rest : List Addr) (top
       → IsLed m y
   named y f =
       let (r, chain) = d.led x on_top in
-      let arrow : Arrow m x y =
+      let edge : YoungEdge m x y =
       subst (λ (b : Basis). IsYoungField (objects_of b) b.condemned x y) d.basis
       (record { condemned = d.traced.marked x x_marked; field = f }) in
-      (r, (chain.0, Leads.more chain.1 arrow))
+      (r, (chain.0, Leads.more chain.1 edge))
 
   -- it was scanned now
   scanned_now : (z : Addr) → contains n.marks z.0 ≡ true → Contains rest z
@@ -305,7 +305,7 @@ pin_gains m a =
 promote_grows : (m : MarksOf) (q : Addr → Bool) (a : Addr) → IsSettledMarks m
     → Grows (IsYoungField (objects_of (pushed m a).basis) (pushed m a).basis.condemned)
     (λ x. Contains (pushed m a).stacked x) (promoted_in (pushed m a)) q
-    → Grows (Arrow m) (λ x. x ≡ a) (promoted_in m) q
+    → Grows (YoungEdge m) (λ x. x ≡ a) (promoted_in m) q
 promote_grows m q a s = push_cases Follows m a old new
   where
     Follows : MarksOf → Type 0
@@ -313,7 +313,7 @@ promote_grows m q a s = push_cases Follows m a old new
         Grows (IsYoungField (objects_of n.basis) n.basis.condemned) (λ x. Contains n.stacked x)
         (promoted_in n)
         q
-        → Grows (Arrow m) (λ x. x ≡ a) (promoted_in m)
+        → Grows (YoungEdge m) (λ x. x ≡ a) (promoted_in m)
         q
 
     none : (r : Addr) → Contains m.stacked r → ⊥
@@ -336,7 +336,7 @@ promote_grows m q a s = push_cases Follows m a old new
       only = λ x h. ⊎_elim
           (λ before. ⊎_elim (λ was. inl was) (λ (same : x ≡ a). inr (x, (same, Leads.here)))
           (joined_only (is_older m.basis x) m.marks a x before))
-          (λ (w : (r : Addr) × (Contains (a ∷ m.stacked) r × Leads (Arrow m) r x)).
+          (λ (w : (r : Addr) × (Contains (a ∷ m.stacked) r × Leads (YoungEdge m) r x)).
           ⊎_elim (λ (same : a ≡ w.0). inr (w.0, (sym same, w.1.1))) (λ later. absurd (none w.0 later))
           (member_cases a m.stacked w.0 w.1.0)) (g.only x h);
     }
@@ -347,11 +347,11 @@ pub pinned_traced : (m k : MarksOf) (a : Addr) → k ≡ pinned_also m a → IsT
 pinned_traced m k a is t = subst IsTraced (sym is) (pin_traced m a t)
 
 pub promoted_grows : (m j : MarksOf) (q : Addr → Bool) (a : Addr) → j ≡ pushed m a → IsSettledMarks m
-    → Grows (Arrow j) (λ x. Contains j.stacked x) (promoted_in j) q
-    → Grows (Arrow m) (λ x. x ≡ a) (promoted_in m) q
+    → Grows (YoungEdge j) (λ x. Contains j.stacked x) (promoted_in j) q
+    → Grows (YoungEdge m) (λ x. x ≡ a) (promoted_in m) q
 promoted_grows m j q a is s =
-    subst (λ (i : MarksOf). Grows (Arrow i) (λ x. Contains i.stacked x) (promoted_in i) q
-    → Grows (Arrow m) (λ x. x ≡ a) (promoted_in m) q) (sym is) (promote_grows m q a s)
+    subst (λ (i : MarksOf). Grows (YoungEdge i) (λ x. Contains i.stacked x) (promoted_in i) q
+    → Grows (YoungEdge m) (λ x. x ≡ a) (promoted_in m) q) (sym is) (promote_grows m q a s)
 
 -- for `grind`: what a pin does to settled marks
 pub ruleset pins_settled = (pin_settled, pin_gains)

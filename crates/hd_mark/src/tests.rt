@@ -20,7 +20,7 @@ fn address(k: u32) -> Addr
 }
 
 /// Whether an object is at an address.
-fn stands(heap: &Heap, at: Addr) -> bool
+fn is_object_at(heap: &Heap, at: Addr) -> bool
     ensures { result ≡ true → has_object heap.now at ≡ true }
 {
     let before = if at.0 == 0 {
@@ -40,7 +40,7 @@ fn object(rt: &impl Abort, heap: &Heap, k: u32) -> Addr
 {
     assert!(rt; k < 12);
     let at = address(k);
-    assert!(rt; stands(heap, at));
+    assert!(rt; is_object_at(heap, at));
     at
 }
 
@@ -52,7 +52,7 @@ fn names_objects(heap: &Heap, at: Addr) -> bool
 {
     for i in 0..heap.fields(at) {
         if let Some(y) = heap.load(at, i) {
-            if !stands(heap, y) {
+            if !is_object_at(heap, y) {
                 return false;
             }
         }
@@ -94,7 +94,7 @@ fn raise(heap: &mut Heap, at: Addr, generation: u8)
 
 /// Twelve objects in three regions, the second of which is of generation 1. Field `.1` of object
 /// `.0` references object `.2`.
-fn graph(rt: &impl Abort, alloc: Global, arrows: &[(u32, u32, u32)]) -> Result<Heap, Memory>
+fn graph(rt: &impl Abort, alloc: Global, edges: &[(u32, u32, u32)]) -> Result<Heap, Memory>
     ensures { IfOk result (λ h. HasClosedFields (object_at h)) }
 {
     let mut heap = Heap::open(alloc, 1_000)?;
@@ -102,7 +102,7 @@ fn graph(rt: &impl Abort, alloc: Global, arrows: &[(u32, u32, u32)]) -> Result<H
         let at = heap.new_object(Id(u64::from(k) + 1), 61, false);
         assert!(rt; at == Ok(address(k)));
     }
-    for (from, i, to) in arrows {
+    for (from, i, to) in edges {
         store(rt, &mut heap, *from, *i, *to);
     }
     let old = object(rt, &heap, 4);
@@ -148,7 +148,7 @@ fn promote(rt: &impl Abort, heap: &Heap, marks: &mut Marks, objects: &[u32])
 #[test]
 fn what_fields_of_condemned_objects_lead_to_is_promoted(rt: HostRuntime) -> Result<(), Fail> {
     // A cycle with a tail, a diamond, a chain through other regions, and an older object's field.
-    let arrows = [
+    let edges = [
         (0, 0, 1),
         (1, 5, 2),
         (2, 60, 0),
@@ -160,7 +160,7 @@ fn what_fields_of_condemned_objects_lead_to_is_promoted(rt: HostRuntime) -> Resu
         (3, 2, 4),
         (4, 2, 8),
     ];
-    let heap = graph(&rt, rt.alloc(), &arrows)?;
+    let heap = graph(&rt, rt.alloc(), &edges)?;
     let cases: [(u8, &[u32], &[u32]); 6] = [
         (0, &[], &[4, 5, 6, 7]),
         (0, &[4], &[4, 5, 6, 7]),

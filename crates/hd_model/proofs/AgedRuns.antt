@@ -38,16 +38,16 @@ module _ (s : State) (ages : List ℕ) (sound : IsSound s ages) where
       → age_of later slot.0 ≤ generation_at (scene_of s).object x)
       → HasSoundAges (scene_of s).object (λ q. get (insert s.handles slot.0 new) q) later
   written later slot new below target second = record {
-    targets = λ q h x stands e.
+    targets = λ q h x is_stored e.
         ⊎_elim (λ was. le_trans (below q) (sound.targets q h x was e))
         (λ here. subst (λ k. age_of later k ≤ generation_at (scene_of s).object x) (sym here.0)
         (target x (ap (λ (g : Handle Id). g.target) here.1 ∙ e)))
-        (row_cases s.handles slot.0 new q h stands);
-    secondaries = λ q h x stands e.
+        (row_cases s.handles slot.0 new q h is_stored);
+    secondaries = λ q h x is_stored e.
         ⊎_elim (λ was. le_trans (below q) (sound.secondaries q h x was e))
         (λ here. subst (λ k. age_of later k ≤ generation_at (scene_of s).object x) (sym here.0)
         (second x (ap (λ (g : Handle Id). secondary_of g.extra) here.1 ∙ e)))
-        (row_cases s.handles slot.0 new q h stands);
+        (row_cases s.handles slot.0 new q h is_stored);
   }
 
   same_ages : (q : ℕ) → age_of ages q ≤ age_of ages q
@@ -57,8 +57,8 @@ module _ (s : State) (ages : List ℕ) (sound : IsSound s ages) where
   same_names : (slot : Slot) (old new : Handle Id) → get s.handles slot.0 ≡ Some old → new.target ≡ old.target
       → secondary_of new.extra ≡ None
       → HasSoundAges (scene_of s).object (λ q. get (insert s.handles slot.0 new) q) ages
-  same_names slot old new stands same none =
-      written ages slot new same_ages (λ x e. sound.targets slot.0 old x stands (sym same ∙ e))
+  same_names slot old new is_stored same none =
+      written ages slot new same_ages (λ x e. sound.targets slot.0 old x is_stored (sym same ∙ e))
       (λ x e. absurd (none-some x (sym none ∙ e)))
 
   -- a row whose target is stored
@@ -101,12 +101,12 @@ module _ (s : State) (ages : List ℕ) (sound : IsSound s ages) where
 
   freed : (slot : Slot) → HasSoundAges (scene_of s).object (λ q. get (remove s.handles slot.0) q) ages
   freed slot = record {
-    targets = λ q h x stands e. remove_all s.handles slot.0
+    targets = λ q h x is_stored e. remove_all s.handles slot.0
         (λ j g. g.target ≡ Some x → age_of ages j ≤ generation_at (scene_of s).object x)
-        (λ j g was at. sound.targets j g x was at) q h stands e;
-    secondaries = λ q h x stands e. remove_all s.handles slot.0
+        (λ j g was at. sound.targets j g x was at) q h is_stored e;
+    secondaries = λ q h x is_stored e. remove_all s.handles slot.0
         (λ j g. secondary_of g.extra ≡ Some x → age_of ages j ≤ generation_at (scene_of s).object x)
-        (λ j g was at. sound.secondaries j g x was at) q h stands e;
+        (λ j g was at. sound.secondaries j g x was at) q h is_stored e;
   }
 
   -- objects may change where each one referenced keeps its generation
@@ -114,10 +114,11 @@ module _ (s : State) (ages : List ℕ) (sound : IsSound s ages) where
       → generation_at o x ≡ generation_at (scene_of s).object x)
       → (n : Numbers) → IsWellFormed n s → HasSoundAges o (scene_of s).handle ages
   regrouped o same n w = record {
-    targets = λ q h x stands e. subst (λ g. age_of ages q ≤ g)
-        (sym (same x ((whole_scene n s w).targets q h x stands e))) (sound.targets q h x stands e);
-    secondaries = λ q h x stands e. subst (λ g. age_of ages q ≤ g)
-        (sym (same x ((whole_scene n s w).secondaries q h x stands e))) (sound.secondaries q h x stands e);
+    targets = λ q h x is_stored e. subst (λ g. age_of ages q ≤ g)
+        (sym (same x ((whole_scene n s w).targets q h x is_stored e))) (sound.targets q h x is_stored e);
+    secondaries = λ q h x is_stored e. subst (λ g. age_of ages q ≤ g)
+        (sym (same x ((whole_scene n s w).secondaries q h x is_stored e)))
+        (sound.secondaries q h x is_stored e);
   }
 
 without_none : (x : Extra Id) → secondary_of (without_secondary x) ≡ None
@@ -248,7 +249,7 @@ pub ages_of_runs_are_sound : AgesOfRunsAreSound
 ages_of_runs_are_sound n journal s ages run =
     chain_sound n (start_is_well_formed n)
     (record {
-      targets = λ q h x stands e. absurd (nothing_at q h stands);
+      targets = λ q h x is_stored e. absurd (nothing_at q h is_stored);
       secondaries =
-          λ q h x stands e. absurd (nothing_at q h stands);
+          λ q h x is_stored e. absurd (nothing_at q h is_stored);
     }) run

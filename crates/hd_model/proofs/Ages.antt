@@ -56,10 +56,10 @@ module _ {N : Type 0} (o : Objects N) (old new : Rows N) (ages : List ℕ) (slot
       → (old other ≡ Some h) ⊎ ((other ≡ slot) × (g ≤ generation_at o x)))
       → HasSoundAges o new (lowered ages slot g)
   lowered_sound target second = record {
-    targets = λ other h x stands e. by other (generation_at o x) (λ k. sound.targets other h x k e)
-        (target other h x stands e);
-    secondaries = λ other h x stands e. by other (generation_at o x) (λ k. sound.secondaries other h x k e)
-        (second other h x stands e);
+    targets = λ other h x is_stored e. by other (generation_at o x) (λ k. sound.targets other h x k e)
+        (target other h x is_stored e);
+    secondaries = λ other h x is_stored e. by other (generation_at o x) (λ k. sound.secondaries other h x k e)
+        (second other h x is_stored e);
   }
     where
       by : {P : Type 0} (other young : ℕ) → (P → age_of ages other ≤ young) → P
@@ -88,14 +88,14 @@ module _ {N : Type 0} (rank : N → ℕ) (n : ℕ) (s t : Scene N) (r : Report) 
   pub grown_sound : (ages : List ℕ) → HasSoundAges s.object s.handle ages
       → HasSoundAges t.object t.handle (grown n ages)
   grown_sound ages sound = record {
-    targets = λ slot h x stands e.
-        let (g, both) = handle_before rank n s t r w c slot h stands in
+    targets = λ slot h x is_stored e.
+        let (g, both) = handle_before rank n s t r w c slot h is_stored in
         let (stays, before) = cleared_target c.reach c.kept g x
         (ap (λ (q : Handle N). q.target) both.1 ∙ e) in
         raised_sound ages slot x (target_kept rank n s t r w c slot g x both.0 stays before)
         (sound.targets slot g x both.0 before);
-    secondaries = λ slot h x stands e.
-        let (g, both) = handle_before rank n s t r w c slot h stands in
+    secondaries = λ slot h x is_stored e.
+        let (g, both) = handle_before rank n s t r w c slot h is_stored in
         let (stays, before) = cleared_secondary c.reach c.kept g x
         (ap (λ (q : Handle N). secondary_of q.extra) both.1 ∙ e) in
         raised_sound ages slot x (secondary_kept rank n s t r w c slot g x both.0 stays before)

@@ -10,8 +10,8 @@ use Rattle.hd_model.specs.CollectionLaws.{CollectionsKeepWellFormed, UsedObjects
 use Rattle.hd_model.proofs.WellFormedCollection.{collection_keeps_well_formed}
 use Rattle.hd_model.proofs.SceneCollection.{keeps_root, still_object, object_after, root_reached}
 use Rattle.hd_model.proofs.WholeScenes.{whole_scene, register_named, static_named}
-use Rattle.hd_model.proofs.IdleCollection.{raised_older, idle_removed, idle_short, idle_long, idle_dep, idle_revived, idle_handles, idle_queue}
-use Rattle.hd_model.proofs.RenamedReach.{reached_read, reached_same, revived_read, revived_same, kept_read, kept_same}
+use Rattle.hd_model.proofs.IdleCollection.{raised_older, idle_removed, idle_short, idle_long, idle_dep, idle_resurrected, idle_handles, idle_queue}
+use Rattle.hd_model.proofs.RenamedReach.{reached_read, reached_same, resurrected_read, resurrected_same, kept_read, kept_same}
 use Rattle.hd_model.proofs.Ages.{lowered_sound, grown_sound}
 
 pub collections_keep_well_formed : CollectionsKeepWellFormed
@@ -22,8 +22,8 @@ pub used_root : (n : ℕ) (s : State) (x : Id) → IsUsed s x → IsRoot (scene_
 used_root n s x (in_register c d e) = named (register_named s c d x e)
 used_root n s x (in_static k e) = named (static_named s k x e)
 used_root n s x (in_queue h) = queued h
-used_root n s x (by_handle slot h stands holding e) =
-    held (record { slot = slot; handle = h; stands = stands; holds = holding; target = e })
+used_root n s x (by_handle slot h is_stored holding e) =
+    held (record { slot = slot; handle = h; is_stored = is_stored; holds = holding; target = e })
 
 pub used_objects_stay : UsedObjectsStay
 used_objects_stay m n s t r x h used =
@@ -42,28 +42,29 @@ unregistered true b e = ap not e
 unregistered false b e = refl
 
 -- an older object that is not resurrected stays as it was
-survivor_same : (n : ℕ) (revived : Bool) (o : Object Id) → n < o.generation → revived ≡ false
-    → survivor n revived o ≡ o
-survivor_same n revived o l e = λ i. record {
+survivor_same : (n : ℕ) (resurrected : Bool) (o : Object Id) → n < o.generation → resurrected ≡ false
+    → survivor n resurrected o ≡ o
+survivor_same n resurrected o l e = λ i. record {
   fields = o.fields;
   value = o.value;
   generation = raised_older n o.generation l i;
-  registered = unregistered o.registered revived e i;
+  registered = unregistered o.registered resurrected e i;
 }
 
 pub older_objects_stay : OlderObjectsStay
-older_objects_stay m n s t r id o h stands above =
+older_objects_stay m n s t r id o h is_stored above =
     let w = whole_scene m s h.well_formed in
     let rank : Id → ℕ = λ y. y.0 in
     let c = h.collects.scene in
     let x : Id = record { 0 = id } in
-    let root : IsRoot (scene_of s) n x = older (subst (λ g. n < g) (sym (ap generation_in stands)) above) in
-    let not_revived : c.revived x ≡ false =
-    ⊎_elim (λ yes. absurd (((c.revived_is x).0 yes).lost (root_reached n (scene_of s) x root))) (λ no. no)
-    (cases_Bool (c.revived x)) in
+    let root : IsRoot (scene_of s) n x =
+    older (subst (λ g. n < g) (sym (ap generation_in is_stored)) above) in
+    let not_resurrected : c.resurrected x ≡ false =
+    ⊎_elim (λ yes. absurd (((c.resurrected_is x).0 yes).lost (root_reached n (scene_of s) x root))) (λ no. no)
+    (cases_Bool (c.resurrected x)) in
     object_after rank n (scene_of s) (scene_of t) r w c x o
-    (keeps_root rank n (scene_of s) (scene_of t) r w c x root) stands
-    ∙ ap (λ p. Some p) (survivor_same n (c.revived x) o above not_revived)
+    (keeps_root rank n (scene_of s) (scene_of t) r w c x root) is_stored
+    ∙ ap (λ p. Some p) (survivor_same n (c.resurrected x) o above not_resurrected)
 
 pub second_collection_is_idle : SecondCollectionIsIdle
 second_collection_is_idle m n s t u r q h again =
@@ -76,7 +77,7 @@ second_collection_is_idle m n s t u r q h again =
       short = idle_short rank n (scene_of s) (scene_of t) (scene_of u) r q w c d;
       long = idle_long rank n (scene_of s) (scene_of t) (scene_of u) r q w c d;
       dep = idle_dep rank n (scene_of s) (scene_of t) (scene_of u) r q w c d;
-      revived = idle_revived rank n (scene_of s) (scene_of t) (scene_of u) r q w c d;
+      resurrected = idle_resurrected rank n (scene_of s) (scene_of t) (scene_of u) r q w c d;
       handles =
           same_map nat_cmp_total nat_cmp-IsAntisymmetric u.handles t.handles
           (idle_handles rank n (scene_of s) (scene_of t) (scene_of u) r q w c d);
@@ -86,17 +87,17 @@ second_collection_is_idle m n s t u r q h again =
 pub readings_keep_what_is_kept : ReadingsKeepWhatIsKept
 readings_keep_what_is_kept f n s t x w g h = record {
   reached = (reached_read f n s t w g x, reached_same f n s t w g x h);
-  revived = (revived_read f n s t w g x, revived_same f n s t w g x h);
+  resurrected = (resurrected_read f n s t w g x, resurrected_same f n s t w g x h);
   kept = (kept_read f n s t w g x, kept_same f n s t w g x h);
 }
 
 pub lowered_ages_are_sound : LoweredAgesAreSound
 lowered_ages_are_sound o old new ages slot g sound stores =
     lowered_sound o old new ages slot g sound
-    (λ other h x stands e. ⊎_elim (λ was. inl was) (λ here. inr (here.0, here.1.target x e))
-    (stores.rows other h stands))
-    (λ other h x stands e. ⊎_elim (λ was. inl was) (λ here. inr (here.0, here.1.secondary x e))
-    (stores.rows other h stands))
+    (λ other h x is_stored e. ⊎_elim (λ was. inl was) (λ here. inr (here.0, here.1.target x e))
+    (stores.rows other h is_stored))
+    (λ other h x is_stored e. ⊎_elim (λ was. inl was) (λ here. inr (here.0, here.1.secondary x e))
+    (stores.rows other h is_stored))
 
 pub grown_ages_are_sound : GrownAgesAreSound
 grown_ages_are_sound m n s t r ages h sound =

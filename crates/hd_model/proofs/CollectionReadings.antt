@@ -5,14 +5,14 @@ use Rattle.hd_model.specs.State.{Object, Extra, secondary, Handle, rename_extra,
 use Rattle.hd_model.specs.Role.{Role, holds, short, long, attaches, role}
 use Rattle.hd_model.specs.Counting.{Counts}
 use Rattle.hd_model.specs.Scene.{Scene, is_object, IsCondemned, IsWhole, IsReading}
-use Rattle.hd_model.specs.Reach.{IsReached, IsRevived, IsKept}
+use Rattle.hd_model.specs.Reach.{IsReached, IsToBeFinalized, IsKept}
 use Rattle.hd_model.specs.Collect.{is_lost, loses_by, loses, is_attaching, cleared, survivor, LosesAs, IsSurviving, IsRemoved, Collects}
 use Rattle.hd_model.proofs.Members.{mapped_in, mapped_from, pairs_mapped}
 use Rattle.hd_model.proofs.PropertyCounts.{counts_like, counts_named}
 use Rattle.hd_model.proofs.Entries.{some_value}
 use Rattle.hd_model.proofs.SceneCollection.{object_before, object_after, kept_object}
 use Rattle.hd_model.proofs.RenamedPins.{role_renamed}
-use Rattle.hd_model.proofs.RenamedReach.{object_read, is_object_read, generation_read, handle_read, handle_unread, reached_read, reached_unread, revived_read, revived_unread, kept_read, kept_unread}
+use Rattle.hd_model.proofs.RenamedReach.{object_read, is_object_read, generation_read, handle_read, handle_unread, reached_read, reached_unread, resurrected_read, resurrected_unread, kept_read, kept_unread}
 
 -- a set under other names: false where no object has the name
 abbrev pub asked : {N : Type 0} → (N → Bool) → Option N → Bool
@@ -113,7 +113,7 @@ module _ {N M : Type 0} (f : N → M) (back : M → Option N) (rank : M → ℕ)
 
   abbrev Left : M → Option N → Type 0
   Left y o = v.object y ≡ cond (asked c.kept o)
-      (option_map (survivor n (asked c.revived o)) (u.object y)) None
+      (option_map (survivor n (asked c.resurrected o)) (u.object y)) None
 
   object_by : (y : M) (o : Option N) → back y ≡ o → Left y o
   object_by y None e =
@@ -125,19 +125,19 @@ module _ {N M : Type 0} (f : N → M) (back : M → Option N) (rank : M → ℕ)
       at = b.found y x e
 
       by : (k : Bool) → c.kept x ≡ k
-          → v.object y ≡ cond (c.kept x) (option_map (survivor n (c.revived x)) (u.object y)) None
+          → v.object y ≡ cond (c.kept x) (option_map (survivor n (c.resurrected x)) (u.object y)) None
       by true kept =
-          let (p, stands) = some_value (s.object x) at.0 in
-          let after = object_after (λ z. rank (f z)) n s t r w c x p kept stands in
-          ap v.object (sym at.1) ∙ object_read f t v ft x (survivor n (c.revived x) p) after
-          ∙ ap (option_map (survivor n (c.revived x)))
-          (sym (object_read f s u fs x p stands) ∙ ap u.object at.1)
-          ∙ sym (cond-true (c.kept x) (option_map (survivor n (c.revived x)) (u.object y)) None kept)
+          let (p, is_stored) = some_value (s.object x) at.0 in
+          let after = object_after (λ z. rank (f z)) n s t r w c x p kept is_stored in
+          ap v.object (sym at.1) ∙ object_read f t v ft x (survivor n (c.resurrected x) p) after
+          ∙ ap (option_map (survivor n (c.resurrected x)))
+          (sym (object_read f s u fs x p is_stored) ∙ ap u.object at.1)
+          ∙ sym (cond-true (c.kept x) (option_map (survivor n (c.resurrected x)) (u.object y)) None kept)
       by false lost =
           none_called y
           (λ z kept same. true≢false (sym kept
           ∙ ap c.kept (fs.apart z x (was_object z kept) at.0 (same ∙ sym at.1)) ∙ lost)) (v.object y) refl
-          ∙ sym (cond-false (c.kept x) (option_map (survivor n (c.revived x)) (u.object y)) None lost)
+          ∙ sym (cond-false (c.kept x) (option_map (survivor n (c.resurrected x)) (u.object y)) None lost)
 
   row_by : (slot : ℕ) (o : Option (Handle N)) → s.handle slot ≡ o
       → v.handle slot ≡ option_map (cleared (λ y. asked c.reach (back y)) (λ y. asked c.kept (back y)))
@@ -219,15 +219,15 @@ module _ {N M : Type 0} (f : N → M) (back : M → Option N) (rank : M → ℕ)
       ))
       c.report_is.removed
 
-  revived_object : (x : N) → c.revived x ≡ true → is_object s.object x ≡ true
-  revived_object x h = ap is_some ((c.revived_is x).0 h).stands
+  resurrected_object : (x : N) → c.resurrected x ≡ true → is_object s.object x ≡ true
+  resurrected_object x h = ap is_some ((c.resurrected_is x).0 h).is_stored
 
-  revived_named : Counts (λ y. asked c.revived (back y) ≡ true) r.revived
-  revived_named =
-      counts_named f (λ x. c.revived x ≡ true) (λ y. asked c.revived (back y) ≡ true) r.revived
-      (λ x y h k. fs.apart x y (revived_object x h) (revived_object y k))
-      (λ x h. asked_at f back s b c.revived x (revived_object x h) ∙ h)
-      (λ y h. let (x, rest) = asked_from c.revived y h in (x, rest.1)) c.report_is.revived
+  resurrected_named : Counts (λ y. asked c.resurrected (back y) ≡ true) r.revived
+  resurrected_named =
+      counts_named f (λ x. c.resurrected x ≡ true) (λ y. asked c.resurrected (back y) ≡ true) r.revived
+      (λ x y h k. fs.apart x y (resurrected_object x h) (resurrected_object y k))
+      (λ x h. asked_at f back s b c.resurrected x (resurrected_object x h) ∙ h)
+      (λ y h. let (x, rest) = asked_from c.resurrected y h in (x, rest.1)) c.report_is.resurrected
 
   same_loss : (slot : ℕ) (h : Handle N) → s.handle slot ≡ Some h
       → loses (λ y. asked c.reach (back y)) (λ y. asked c.kept (back y))
@@ -244,13 +244,13 @@ module _ {N M : Type 0} (f : N → M) (back : M → Option N) (rank : M → ℕ)
       (LosesAs u (λ y. asked c.reach (back y)) (λ y. asked c.kept (back y)) wanted) k
       (λ slot l. record {
         handle = rename_handle f l.handle;
-        stands = handle_read f s u fs slot l.handle l.stands;
+        is_stored = handle_read f s u fs slot l.handle l.is_stored;
         role_is = role_renamed f l.handle.kind l.handle.extra ∙ l.role_is;
-        loses = same_loss slot l.handle l.stands ∙ l.loses;
+        loses = same_loss slot l.handle l.is_stored ∙ l.loses;
       })
-      (λ slot l. let (h, both) = handle_unread f s u fs slot l.handle l.stands in record {
+      (λ slot l. let (h, both) = handle_unread f s u fs slot l.handle l.is_stored in record {
         handle = h;
-        stands = both.0;
+        is_stored = both.0;
         role_is = sym (role_renamed f h.kind h.extra) ∙ ap (λ (q : Handle M). role q) both.1 ∙ l.role_is;
         loses = sym (same_loss slot h both.0)
             ∙ ap (λ (q : Handle M). loses (λ y. asked c.reach (back y)) (λ y. asked c.kept (back y)) q) both.1
@@ -261,25 +261,25 @@ module _ {N M : Type 0} (f : N → M) (back : M → Option N) (rank : M → ℕ)
   pub collects_read : Collects rank n u v r
   collects_read = record {
     reach = λ y. asked c.reach (back y);
-    revived = λ y. asked c.revived (back y);
+    resurrected = λ y. asked c.resurrected (back y);
     kept = λ y. asked c.kept (back y);
     joins = map f c.joins;
     goes_by = record {
       reach_is =
           decided f back s b c.reach (IsReached s n) (IsReached u n) c.reach_is (reached_read f n s u w fs)
           (reached_unread f n s u w fs);
-      revived_is =
-          decided f back s b c.revived (IsRevived s n) (IsRevived u n) c.revived_is
-          (revived_read f n s u w fs)
-          (revived_unread f n s u w fs);
+      resurrected_is =
+          decided f back s b c.resurrected (IsToBeFinalized s n) (IsToBeFinalized u n) c.resurrected_is
+          (resurrected_read f n s u w fs)
+          (resurrected_unread f n s u w fs);
       kept_is =
           decided f back s b c.kept (IsKept s n) (IsKept u n) c.kept_is (kept_read f n s u w fs)
           (kept_unread f n s u w fs);
       joins_are =
-          decided f back s b c.revived (λ x. Contains c.joins x) (λ y. Contains (map f c.joins) y) c.joins_are
-          (λ x h. mapped_in f c.joins x h)
+          decided f back s b c.resurrected (λ x. Contains c.joins x) (λ y. Contains (map f c.joins) y)
+          c.joins_are (λ x h. mapped_in f c.joins x h)
           (λ y h. let (x, rest) = mapped_from f c.joins y h in
-          (x, (revived_object x ((c.joins_are x).1 rest.0), rest)));
+          (x, (resurrected_object x ((c.joins_are x).1 rest.0), rest)));
       rising =
           pairs_mapped (λ x y. rank (f x) < rank (f y)) (λ p q. rank p < rank q) f c.joins
           (λ x y h. h) c.rising;
@@ -289,7 +289,7 @@ module _ {N M : Type 0} (f : N → M) (back : M → Option N) (rank : M → ℕ)
         short = losses_named short r.short c.report_is.short;
         long = losses_named long r.long c.report_is.long;
         dep = losses_named attaches r.dep c.report_is.dep;
-        revived = revived_named;
+        resurrected = resurrected_named;
       };
     };
     objects = λ y. object_by y (back y) refl;

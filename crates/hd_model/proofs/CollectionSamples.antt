@@ -266,14 +266,15 @@ few_older : (x : Id) → IsOlder 0 busy x → Few x
 few_older x old =
     all_objects (λ k o. 0 < o.generation → (k ≡ 1) ⊎ (k ≡ 5)) (λ l. inl refl) (λ l. absurd (omega arith))
     (λ l. absurd (omega arith)) (λ l. absurd (omega arith)) (λ l. absurd (omega arith)) x.0 old.object
-    old.stored old.above
+    old.is_stored old.above
 
 few_fields : (x y : Id) (object : Object Id) (i : ℕ) → Few x → get busy.objects x.0 ≡ Some object
     → field_of object i ≡ Some y → Few y
-few_fields x y object i used stored e =
+few_fields x y object i used is_stored e =
     absurd (all_objects (λ k o. (k ≡ 1) ⊎ (k ≡ 5) → field_of o i ≡ Some y → ⊥) (λ _ f. none-some y f)
     (λ _ f. none-some y f) (λ _ f. none-some y f)
-    (λ k _. ⊎_elim (λ e. omega arith) (λ e. omega arith) k) (λ _ f. none-some y f) x.0 object stored used e)
+    (λ k _. ⊎_elim (λ e. omega arith) (λ e. omega arith) k) (λ _ f. none-some y f) x.0 object is_stored
+    used e)
 
 few_seconds : (x y : Id) (slot : ℕ) (h : Handle Id) → Few x → get busy.handles slot ≡ Some h
     → h.kind ≡ kind.Dependent → h.target ≡ Some x → secondary_of h.extra ≡ Some y → Few y
@@ -296,7 +297,7 @@ led_start : (x : Id) → IsResurrected 0 busy x → Led x
 led_start x v =
     all_objects (λ k o. o.registered ≡ true → (k ≡ 3) ⊎ (k ≡ 4)) (λ r. absurd (false≢true r))
     (λ r. absurd (false≢true r)) (λ r. absurd (false≢true r)) (λ r. inl refl) (λ r. absurd (false≢true r)) x.0
-    v.object v.stored v.registered
+    v.object v.is_stored v.registered
 
 led_from_leading : (i : ℕ) (y : Id) → field_of leading i ≡ Some y → Led y
 led_from_leading zero y e = inr (number_is 4 y e)
@@ -304,10 +305,10 @@ led_from_leading (suc i) y e = absurd (none-some y e)
 
 led_fields : (x y : Id) (object : Object Id) (i : ℕ) → Led x → get busy.objects x.0 ≡ Some object
     → field_of object i ≡ Some y → Led y
-led_fields x y object i led stored e =
+led_fields x y object i led is_stored e =
     all_objects (λ k o. field_of o i ≡ Some y → Led y) (λ f. absurd (none-some y f))
     (λ f. absurd (none-some y f)) (λ f. absurd (none-some y f)) (led_from_leading i y)
-    (λ f. absurd (none-some y f)) x.0 object stored e
+    (λ f. absurd (none-some y f)) x.0 object is_stored e
 
 led_seconds : (x y : Id) (slot : ℕ) (h : Handle Id) → Led x → get busy.handles slot ≡ Some h
     → h.kind ≡ kind.Dependent → h.target ≡ Some x → secondary_of h.extra ≡ Some y → Led y
@@ -325,7 +326,7 @@ rescued_led chain = led_within busy (IsResurrected 0 busy) Led led_start led_fie
 three_resurrected : IsResurrected 0 busy (id_of 3)
 three_resurrected = record {
   object = leading;
-  stored = at_three;
+  is_stored = at_three;
   registered = refl;
   young = omega arith;
   out_of_use = out 3 (λ e. omega arith) (λ e. omega arith);
@@ -356,11 +357,11 @@ busy_ages = record {
 -- in the calm state nothing is registered
 calm_resurrects_none : (t : State) (r : Report) → CollectsState 1 calm t r → r.revived ≡ 0
 calm_resurrects_none t r c =
-    counts_zero (λ x. c.scene.revived x ≡ true) r.revived
-    (λ x h. let v = (c.scene.revived_is x).0 h in
+    counts_zero (λ x. c.scene.resurrected x ≡ true) r.revived
+    (λ x h. let v = (c.scene.resurrected_is x).0 h in
     insert_all counted.objects 1 (λ k o. o.registered ≡ true → ⊥) (object_with [] 1 false)
-    (λ q. false≢true q) (none_there (λ k o. o.registered ≡ true → ⊥)) x.0 v.object v.stands v.registered)
-    c.scene.report_is.revived
+    (λ q. false≢true q) (none_there (λ k o. o.registered ≡ true → ⊥)) x.0 v.object v.is_stored v.registered)
+    c.scene.report_is.resurrected
 
 pub premises_are_met : PremisesAreMet
 premises_are_met = record {
@@ -379,12 +380,12 @@ premises_are_met = record {
     led_to = by_field (from_start three_resurrected) leading 0 at_three refl;
     out_of_use = out 4 (λ e. omega arith) (λ e. omega arith);
   };
-  older = record { object = object_with [] 1 false; stored = at_one; above = omega arith };
+  older = record { object = object_with [] 1 false; is_stored = at_one; above = omega arith };
   apart = record {
     weak_short = weak_to kind.Short 4;
     weak_long = weak_to kind.Long 4;
-    short_stands = at_64;
-    long_stands = at_128;
+    short_is_stored = at_64;
+    long_is_stored = at_128;
     short_role = refl;
     long_role = refl;
     short_target = refl;
@@ -393,17 +394,17 @@ premises_are_met = record {
   alike = record {
     weak_short = weak_to kind.Short 1;
     weak_long = weak_to kind.Long 1;
-    short_stands =
+    short_is_stored =
         get_beside with_short.handles 129 (weak_to kind.Long 1) 65 (λ e. omega arith)
         ∙ get_inserted with_blocks.handles 65 (weak_to kind.Short 1);
-    long_stands = get_inserted with_short.handles 129 (weak_to kind.Long 1);
+    long_is_stored = get_inserted with_short.handles 129 (weak_to kind.Long 1);
     short_role = refl;
     long_role = refl;
     short_target = refl;
     long_target = refl;
   };
   none_resurrected = calm_resurrects_none;
-  dependent = record { handle = attaching; stands = at_192; kind_is = refl; target = refl };
+  dependent = record { handle = attaching; is_stored = at_192; kind_is = refl; target = refl };
   without =
       collections_exist few 0 (without_handle busy (slot_of 192))
       (removal_keeps few busy busy_is (slot_of 192));

@@ -10,9 +10,9 @@ use Rattle.hd_model.proofs.PropertyCounts.{counts_once}
 use Rattle.hd_model.proofs.Members.{rising_once}
 
 -- what a report counts depends on the sets at each name alone
-module _ {N : Type 0} (n : ℕ) (s : Scene N) (reach revived kept reach' revived' kept' : N → Bool)
-    (er : reach ≡ reach') (ev : revived ≡ revived') (ek : kept ≡ kept') (r q : Report) where
-  report_once : IsReport n s reach revived kept r → IsReport n s reach' revived' kept' q → r ≡ q
+module _ {N : Type 0} (n : ℕ) (s : Scene N) (reach resurrected kept reach' resurrected' kept' : N → Bool)
+    (er : reach ≡ reach') (ev : resurrected ≡ resurrected') (ek : kept ≡ kept') (r q : Report) where
+  report_once : IsReport n s reach resurrected kept r → IsReport n s reach' resurrected' kept' q → r ≡ q
   report_once a b = λ i. record {
     kept = counts_once (IsSurviving n s kept') r.kept q.kept
         (subst (λ p. Counts (IsSurviving n s p) r.kept) ek a.kept) b.kept i;
@@ -27,8 +27,8 @@ module _ {N : Type 0} (n : ℕ) (s : Scene N) (reach revived kept reach' revived
     dep = counts_once (LosesAs s reach' kept' attaches) r.dep q.dep
         (subst (λ p. Counts (LosesAs s p kept' attaches) r.dep) er
         (subst (λ p. Counts (LosesAs s reach p attaches) r.dep) ek a.dep)) b.dep i;
-    revived = counts_once (λ x. revived' x ≡ true) r.revived q.revived
-        (subst (λ (p : N → Bool). Counts (λ x. p x ≡ true) r.revived) ev a.revived) b.revived i;
+    revived = counts_once (λ x. resurrected' x ≡ true) r.revived q.revived
+        (subst (λ (p : N → Bool). Counts (λ x. p x ≡ true) r.revived) ev a.resurrected) b.resurrected i;
   }
 
 module _ {N : Type 0} (rank : N → ℕ) (n : ℕ) (s t u : Scene N) (r q : Report) (a : Collects rank n s t r)
@@ -36,15 +36,17 @@ module _ {N : Type 0} (rank : N → ℕ) (n : ℕ) (s t u : Scene N) (r q : Repo
   same_reach : a.reach ≡ b.reach
   same_reach = λ i x. same_from_decides (a.reach x) (b.reach x) (a.reach_is x) (b.reach_is x) i
 
-  same_revived : a.revived ≡ b.revived
-  same_revived = λ i x. same_from_decides (a.revived x) (b.revived x) (a.revived_is x) (b.revived_is x) i
+  same_resurrected : a.resurrected ≡ b.resurrected
+  same_resurrected =
+      λ i x. same_from_decides (a.resurrected x) (b.resurrected x) (a.resurrected_is x) (b.resurrected_is x) i
 
   same_kept : a.kept ≡ b.kept
   same_kept = λ i x. same_from_decides (a.kept x) (b.kept x) (a.kept_is x) (b.kept_is x) i
 
   pub same_objects : (x : N) → t.object x ≡ u.object x
   same_objects x =
-      a.objects x ∙ (λ i. cond (same_kept i x) (option_map (survivor n (same_revived i x)) (s.object x)) None)
+      a.objects x ∙ (λ i.
+      cond (same_kept i x) (option_map (survivor n (same_resurrected i x)) (s.object x)) None)
       ∙ sym (b.objects x)
 
   pub same_handles : (slot : ℕ) → t.handle slot ≡ u.handle slot
@@ -55,14 +57,15 @@ module _ {N : Type 0} (rank : N → ℕ) (n : ℕ) (s t u : Scene N) (r q : Repo
   same_joins : a.joins ≡ b.joins
   same_joins =
       rising_once rank a.joins b.joins a.rising b.rising
-      (λ z h. (b.joins_are z).0 ((b.revived_is z).1 ((a.revived_is z).0 ((a.joins_are z).1 h))))
-      (λ z h. (a.joins_are z).0 ((a.revived_is z).1 ((b.revived_is z).0 ((b.joins_are z).1 h))))
+      (λ z h. (b.joins_are z).0 ((b.resurrected_is z).1 ((a.resurrected_is z).0 ((a.joins_are z).1 h))))
+      (λ z h. (a.joins_are z).0 ((a.resurrected_is z).1 ((b.resurrected_is z).0 ((b.joins_are z).1 h))))
 
   pub same_queue : t.queue ≡ u.queue
   same_queue = a.queue ∙ ap (λ xs. s.queue ++ xs) same_joins ∙ sym b.queue
 
   pub same_report : r ≡ q
-  same_report = report_once n s a.reach a.revived a.kept b.reach b.revived b.kept same_reach same_revived
+  same_report =
+      report_once n s a.reach a.resurrected a.kept b.reach b.resurrected b.kept same_reach same_resurrected
       same_kept r q a.report_is b.report_is
 
 -- from a state, a collection leads to at most one state, with one report

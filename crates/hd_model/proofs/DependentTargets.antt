@@ -6,7 +6,7 @@ use Rattle.hd_model.specs.State.{Handle, State, secondary, secondary_of, without
 use Rattle.hd_model.specs.Role.{holds, attaches, role}
 use Rattle.hd_model.specs.Leads.{Leads}
 use Rattle.hd_model.specs.Scene.{scene_of, IsWhole}
-use Rattle.hd_model.specs.Reach.{IsAttached, IsHeld, IsRoot, named, queued, held, older, IsReached, IsRevived, IsKept}
+use Rattle.hd_model.specs.Reach.{IsAttached, IsHeld, IsRoot, named, queued, held, older, IsReached, IsToBeFinalized, IsKept}
 use Rattle.hd_model.specs.Collect.{is_lost, loses_by, loses, is_attaching, Collects}
 use Rattle.hd_model.specs.InUse.{IsInUse}
 use Rattle.hd_model.specs.CollectionLaws.{IsDependent, Follows, SecondariesFollowTargets, DependentsUseNoTarget, DependentsKeepNoTarget}
@@ -15,7 +15,7 @@ use Rattle.hd_model.proofs.EdgeInvariants.{leads_like}
 use Rattle.hd_model.proofs.ReadAfterWrite.{get_left, remove_all}
 use Rattle.hd_model.proofs.WellFormedWrites.{removal_keeps}
 use Rattle.hd_model.proofs.WholeScenes.{whole_scene}
-use Rattle.hd_model.proofs.SceneCollection.{keeps_arrow, still_object}
+use Rattle.hd_model.proofs.SceneCollection.{keeps_edge, still_object}
 use Rattle.hd_model.proofs.IdleCollection.{cleared_same, attaching_lost}
 use Rattle.hd_model.proofs.Reports.{kept_since, lost_since}
 use Rattle.hd_model.proofs.UseChains.{Edge, dependent_role, use_reached, reached_use}
@@ -34,11 +34,11 @@ module _ (s : State) (slot : Slot) (x : Id) (d : IsDependent s slot x) where
         → IsSome (get t.objects y.0)
     secondary_stays kept y second =
         still_object rank n (scene_of s) (scene_of t) r w c y
-        (keeps_arrow rank n (scene_of s) (scene_of t) r w c x y kept
+        (keeps_edge rank n (scene_of s) (scene_of t) r w c x y kept
         (inr (record {
           slot = slot.0;
           handle = d.handle;
-          stands = d.stands;
+          is_stored = d.is_stored;
           attaches = dependent_attaches;
           target = d.target;
           secondary = second;
@@ -47,7 +47,7 @@ module _ (s : State) (slot : Slot) (x : Id) (d : IsDependent s slot x) where
     stays_with : c.kept x ≡ true → get t.handles slot.0 ≡ Some d.handle
     stays_with kept =
         let lost : is_lost c.kept d.handle.target ≡ false = ap (is_lost c.kept) d.target ∙ ap not kept in
-        handle_after n s t r w c slot.0 d.handle d.stands
+        handle_after n s t r w c slot.0 d.handle d.is_stored
         ∙ ap (λ q. Some q) (cleared_same c.reach c.kept d.handle
         (ap (λ q. loses_by q c.reach c.kept d.handle.target) dependent_attaches ∙ lost)
         (attaching_lost (role d.handle) (is_lost c.kept d.handle.target) lost))
@@ -61,7 +61,7 @@ module _ (s : State) (slot : Slot) (x : Id) (d : IsDependent s slot x) where
         ap (λ q. loses_by q c.reach c.kept d.handle.target) dependent_attaches ∙ loses_it in
         let loses_second : (is_attaching (role d.handle) && is_lost c.kept d.handle.target) ≡ true =
         ap (λ q. is_attaching q && is_lost c.kept d.handle.target) dependent_attaches ∙ loses_it in
-        handle_after n s t r w c slot.0 d.handle d.stands
+        handle_after n s t r w c slot.0 d.handle d.is_stored
         ∙ (λ i. Some (record {
           kind = d.kind_is i;
           target = cond-true (loses c.reach c.kept d.handle) None d.handle.target loses_target i;
@@ -88,7 +88,7 @@ module _ (s : State) (slot : Slot) (x : Id) (d : IsDependent s slot x) where
   handle_or : (q : ℕ) (h : Handle Id) → get s.handles q ≡ Some h
       → (h ≡ d.handle) ⊎ (get less.handles q ≡ Some h)
   handle_or q h e =
-      ⊎_elim (λ same. inl (same_Some h d.handle (sym e ∙ ap (get s.handles) same ∙ d.stands)))
+      ⊎_elim (λ same. inl (same_Some h d.handle (sym e ∙ ap (get s.handles) same ∙ d.is_stored)))
       (λ other. inr (get_left s.handles slot.0 q other ∙ e)) (cases_eq q slot.0)
 
   edge_was : (y z : Id) → Edge less y z → Edge s y z
@@ -96,7 +96,7 @@ module _ (s : State) (slot : Slot) (x : Id) (d : IsDependent s slot x) where
       (λ (a : IsAttached (scene_of less).handle y z). inr (record {
         slot = a.slot;
         handle = a.handle;
-        stands = handle_was a.slot a.handle a.stands;
+        is_stored = handle_was a.slot a.handle a.is_stored;
         attaches = a.attaches;
         target = a.target;
         secondary = a.secondary;
@@ -107,15 +107,15 @@ module _ (s : State) (slot : Slot) (x : Id) (d : IsDependent s slot x) where
       (λ (a : IsAttached (scene_of s).handle y z). ⊎_elim
       (λ same. inr (same_Some y x
       (sym a.target ∙ ap (λ (h : Handle Id). h.target) same ∙ d.target)))
-      (λ stands. inl (inr (record {
+      (λ is_stored. inl (inr (record {
         slot = a.slot;
         handle = a.handle;
-        stands = stands;
+        is_stored = is_stored;
         attaches = a.attaches;
         target = a.target;
         secondary = a.secondary;
       })))
-      (handle_or a.slot a.handle a.stands)) e
+      (handle_or a.slot a.handle a.is_stored)) e
 
   -- a chain does without the handle, or leads to its target without it
   chain_or : {y z : Id} → Leads (Edge s) y z → Leads (Edge less) y z ⊎ Leads (Edge less) y x
@@ -139,14 +139,14 @@ module _ (s : State) (slot : Slot) (x : Id) (d : IsDependent s slot x) where
     held_less : (y : Id) → IsHeld (scene_of s).handle y → IsHeld (scene_of less).handle y
     held_less y h =
         ⊎_elim (λ same. absurd (never_holds (ap role (sym same) ∙ h.holds)))
-        (λ stands. record {
+        (λ is_stored. record {
           slot = h.slot;
           handle = h.handle;
-          stands = stands;
+          is_stored = is_stored;
           holds = h.holds;
           target = h.target;
         })
-        (handle_or h.slot h.handle h.stands)
+        (handle_or h.slot h.handle h.is_stored)
 
     root_less : (y : Id) → IsRoot (scene_of s) n y → IsRoot (scene_of less) n y
     root_less y (named h) = named h
@@ -160,7 +160,7 @@ module _ (s : State) (slot : Slot) (x : Id) (d : IsDependent s slot x) where
     root_was y (held h) = held (record {
       slot = h.slot;
       handle = h.handle;
-      stands = handle_was h.slot h.handle h.stands;
+      is_stored = handle_was h.slot h.handle h.is_stored;
       holds = h.holds;
       target = h.target;
     })
@@ -184,12 +184,12 @@ module _ (s : State) (slot : Slot) (x : Id) (d : IsDependent s slot x) where
         (λ (reached : IsReached (scene_of s) n start).
         let there = reached_less (reached.0, (reached.1.0, leads_on (Edge s) reached.1.1 from.1)) in
         (x, (inl there, Leads.here)))
-        (λ (v : IsRevived (scene_of s) n start). (
+        (λ (v : IsToBeFinalized (scene_of s) n start). (
           start,
           (
             inr (record {
               object = v.object;
-              stands = v.stands;
+              is_stored = v.is_stored;
               registered = v.registered;
               young = v.young;
               lost = λ reached. v.lost (reached_was start reached);
@@ -207,14 +207,14 @@ module _ (s : State) (slot : Slot) (x : Id) (d : IsDependent s slot x) where
         ⊎_elim
         (λ (reached : IsReached (scene_of less) n start).
         (start, (inl (reached_was start reached), chain_was from.1)))
-        (λ (v : IsRevived (scene_of less) n start). ⊎_elim
+        (λ (v : IsToBeFinalized (scene_of less) n start). ⊎_elim
         (λ yes. (start, (inl (to start yes), chain_was from.1)))
         (λ no. (
           start,
           (
             inr (record {
               object = v.object;
-              stands = v.stands;
+              is_stored = v.is_stored;
               registered = v.registered;
               young = v.young;
               lost = λ reached. true≢false (sym (back start reached) ∙ no);

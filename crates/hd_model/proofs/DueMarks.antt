@@ -40,7 +40,7 @@ module _ (s : State) where
           young = subst (λ (q : Option (Object Id)). generation_in q ≤ n) (sym e) (omega arith);
         })
     older_or (Some object) x e h =
-        ⊎_elim (λ above. inl (record { object = object; stored = e; above = above }))
+        ⊎_elim (λ above. inl (record { object = object; is_stored = e; above = above }))
         (λ low. inr (record {
           object = ap is_some e;
           young = subst (λ (q : Option (Object Id)). generation_in q ≤ n) (sym e) low;
@@ -55,7 +55,8 @@ module _ (s : State) where
     pub never_both : (x : Id) → IsOlder n s x → IsCondemned (scene_of s).object n x → ⊥
     never_both x old young =
         let low : generation_in (get s.objects x.0) ≤ n = young.young in
-        let same : generation_in (get s.objects x.0) ≡ old.object.generation = ap generation_in old.stored in
+        let same : generation_in (get s.objects x.0) ≡ old.object.generation =
+        ap generation_in old.is_stored in
         let high : n < old.object.generation = old.above in
         omega arith
 
@@ -66,13 +67,13 @@ module _ (s : State) where
         subst (λ (q : Option (Object Id)). n < generation_in q) e l in absurd (omega arith)
     older_above x l (Some object) e = record {
       object = object;
-      stored = e;
+      is_stored = e;
       above = subst (λ (q : Option (Object Id)). n < generation_in q) e l;
     }
 
     module _ (w : IsWhole (scene_of s)) (ages : List ℕ)
         (sound : HasSoundAges (scene_of s).object (scene_of s).handle ages) (S : Id → Type 0)
-        (stands : (x : Id) → S x → is_object (scene_of s).object x ≡ true) where
+        (is_stored : (x : Id) → S x → is_object (scene_of s).object x ≡ true) where
       -- more starts, and the starts of the marking
       abbrev Begins : Id → Type 0
       Begins x = (IsUsed s x ⊎ IsOlder n s x) ⊎ S x
@@ -99,7 +100,7 @@ module _ (s : State) where
       found_used x (by_handle slot h is holding e) =
           ⊎_elim
           (λ due. found_start x (w.targets slot h x is e)
-          (inl (due_holder slot h (record { stands = is; due = due }) holding e)))
+          (inl (due_holder slot h (record { is_stored = is; due = due }) holding e)))
           (λ undue. undue_older x
           (undue_target (scene_of s).object n (scene_of s).handle ages sound slot h is undue x e))
           (cases_Bool (is_due ages n slot))
@@ -117,8 +118,9 @@ module _ (s : State) where
           again : IsOlder n s x → IsOlder n s x
           again old = record {
             object = object;
-            stored = is;
-            above = subst (λ (q : Option (Object Id)). n < generation_in q) (sym old.stored ∙ is) old.above;
+            is_stored = is;
+            above = subst (λ (q : Option (Object Id)). n < generation_in q)
+                (sym old.is_stored ∙ is) old.above;
           }
 
       -- along a dependent handle
@@ -128,9 +130,9 @@ module _ (s : State) where
           ⊎_elim
           (λ due. ⊎_elim (λ old. inl old)
           (λ young. ⊎_elim
-          (λ old. inr (mark_start (inl (older_target x old slot h (record { stands = is; due = due })
+          (λ old. inr (mark_start (inl (older_target x old slot h (record { is_stored = is; due = due })
           dependent target second)) young))
-          (λ marked. inr (mark_secondary marked slot h (record { stands = is; due = due }) dependent target
+          (λ marked. inr (mark_secondary marked slot h (record { is_stored = is; due = due }) dependent target
           second young)) found)
           (older_or_condemned y (w.secondaries slot h y is second)))
           (λ undue. undue_older y
@@ -140,7 +142,7 @@ module _ (s : State) where
       pub led_found : {y : Id} → IsLedTo s Begins y → Found y
       led_found (from_start {x} h) =
           ⊎_elim (λ root. ⊎_elim (λ used. found_used x used) (λ old. inl old) root)
-          (λ start. found_start x (stands x start) (inr start)) h
+          (λ start. found_start x (is_stored x start) (inr start)) h
       led_found (by_field {x} {y} chain object i is e) = found_field x y (led_found chain) object i is e
       led_found (by_dependent {x} {y} chain slot h is dependent target second) =
           found_secondary x y (led_found chain) slot h is dependent target second
@@ -151,17 +153,17 @@ module _ (s : State) where
       root_led x (due_static k e) = from_start (inl (inl (in_static k e)))
       root_led x (due_queue h) = from_start (inl (inl (in_queue h)))
       root_led x (due_holder slot h due holding e) =
-          from_start (inl (inl (by_handle slot h due.stands holding e)))
-      root_led x (older_field y old i e) = by_field (from_start (inl (inr old))) old.object i old.stored e
+          from_start (inl (inl (by_handle slot h due.is_stored holding e)))
+      root_led x (older_field y old i e) = by_field (from_start (inl (inr old))) old.object i old.is_stored e
       root_led x (older_target y old slot h due dependent target second) =
-          by_dependent (from_start (inl (inr old))) slot h due.stands dependent target second
+          by_dependent (from_start (inl (inr old))) slot h due.is_stored dependent target second
 
       pub marked_led : {y : Id} → Marks y → IsLedTo s Begins y
       marked_led (mark_start {x} h young) =
           ⊎_elim (λ root. root_led x root) (λ start. from_start (inr start)) h
       marked_led (mark_field chain object i is e young) = by_field (marked_led chain) object i is e
       marked_led (mark_secondary chain slot h due dependent target second young) =
-          by_dependent (marked_led chain) slot h due.stands dependent target second
+          by_dependent (marked_led chain) slot h due.is_stored dependent target second
 
       pub condemned_marked : (x : Id) → IsCondemned (scene_of s).object n x → IsLedTo s Begins x → Marks x
       condemned_marked x young led =
@@ -211,12 +213,12 @@ module _ (n : ℕ) (s t : State) (r : Report) (w : IsWhole (scene_of s))
   hides_nothing = record {
     used = λ x young. (used_marked x young, marked_used x);
     kept = λ x young. (
-      λ h. condemned_marked s n w ages sound (IsResurrected n s) (λ y v. ap is_some v.stored) x young
+      λ h. condemned_marked s n w ages sound (IsResurrected n s) (λ y v. ap is_some v.is_stored) x young
           (⊎_elim (λ used. led_like s Roots (λ y. Roots y ⊎ IsResurrected n s y) (λ y a. inl a) used)
           (λ rescued. led_like s (IsResurrected n s) (λ y. Roots y ⊎ IsResurrected n s y) (λ y a. inr a)
           rescued) h),
       λ marked. led_either s Roots (IsResurrected n s)
-          (marked_led s n w ages sound (IsResurrected n s) (λ y v. ap is_some v.stored) marked),
+          (marked_led s n w ages sound (IsResurrected n s) (λ y v. ap is_some v.is_stored) marked),
     );
     handles = λ slot undue. undue_handle slot undue (get s.handles slot) refl;
   }

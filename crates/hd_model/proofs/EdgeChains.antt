@@ -5,8 +5,8 @@ use Rattle.hd_model.specs.Leads.{Leads, IsClosed, Grows}
 
 module _ {N : Type 0} (E : N → N → Type 0) where
   -- one edge, and one chain after another
-  pub one_arrow : {x y : N} → E x y → Leads E x y
-  one_arrow e = Leads.more Leads.here e
+  pub one_edge : {x y : N} → E x y → Leads E x y
+  one_edge e = Leads.more Leads.here e
 
   pub leads_on : {x y z : N} → Leads E x y → Leads E y z → Leads E x z
   leads_on a Leads.here = a

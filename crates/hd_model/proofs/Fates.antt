@@ -5,18 +5,18 @@ use Rattle.hd_model.specs.State.{Object, Handle, State}
 use Rattle.hd_model.specs.Role.{Role, holds, short, long, attaches, role}
 use Rattle.hd_model.specs.Scene.{scene_of, IsWhole}
 use Rattle.hd_model.specs.Ages.{raised}
-use Rattle.hd_model.specs.Reach.{held, IsRevived, IsReached}
+use Rattle.hd_model.specs.Reach.{held, IsToBeFinalized, IsReached}
 use Rattle.hd_model.specs.Collect.{is_lost, loses_by, loses, cleared, survivor, Collects}
 use Rattle.hd_model.specs.InUse.{in_queue, from_start, IsInUse, IsResurrected, IsRescued, IsGarbage}
 use Rattle.hd_model.specs.CollectionLaws.{KeepsContents, RescuedObjectsStay, IsLeftAlone, InUseIsLeftAlone, InUseIsReached, HasTarget, IsGone, GarbageGoes, Joins, IsUnregistered, ResurrectsOnce, ObjectsAreResurrectedOnce, QueueGrowsInTurn, RisesOnce, GenerationsRiseOnce}
 use Rattle.hd_model.proofs.EdgeChains.{leads_on}
 use Rattle.hd_model.proofs.Entries.{some_value}
 use Rattle.hd_model.proofs.WholeScenes.{whole_scene}
-use Rattle.hd_model.proofs.SceneCollection.{kept_object, object_before, object_after, keeps_root, keeps_reached, keeps_revived}
+use Rattle.hd_model.proofs.SceneCollection.{kept_object, object_before, object_after, keeps_root, keeps_reached, keeps_resurrected}
 use Rattle.hd_model.proofs.IdleCollection.{raised_older, kept_target, loses_none, attaching_lost, cleared_same}
 use Rattle.hd_model.proofs.Reports.{gone}
 use Rattle.hd_model.proofs.CollectionLaws.{unregistered}
-use Rattle.hd_model.proofs.UseChains.{Edge, led_chain, chain_led, use_reached, reached_use, resurrected_revived, revived_resurrected}
+use Rattle.hd_model.proofs.UseChains.{Edge, led_chain, chain_led, use_reached, reached_use, resurrected_to_be_finalized, to_be_finalized_resurrected}
 
 pub young_raised : (n g : ℕ) → g ≤ n → raised n g ≡ min (g + 1) 2
 young_raised n g l = grind (arith, nat_tests)
@@ -42,7 +42,7 @@ module _ (n : ℕ) (s t : State) (r : Report) (w : IsWhole (scene_of s))
   -- a handle after the collection
   pub handle_after : (slot : ℕ) (g : Handle Id) → get s.handles slot ≡ Some g
       → get t.handles slot ≡ Some (cleared c.reach c.kept g)
-  handle_after slot g stands = c.handles slot ∙ ap (option_map (cleared c.reach c.kept)) stands
+  handle_after slot g is_stored = c.handles slot ∙ ap (option_map (cleared c.reach c.kept)) is_stored
 
   -- what is in use is reached, and what is reached is kept and not resurrected
   pub use_in_reach : (x : Id) → IsInUse n s x → c.reach x ≡ true
@@ -55,27 +55,27 @@ module _ (n : ℕ) (s t : State) (r : Report) (w : IsWhole (scene_of s))
   pub reach_in_kept : (x : Id) → c.reach x ≡ true → c.kept x ≡ true
   reach_in_kept x e = keeps_reached rank n (scene_of s) (scene_of t) r w c x e
 
-  reached_not_revived : (x : Id) → c.reach x ≡ true → c.revived x ≡ false
-  reached_not_revived x e =
-      ⊎_elim (λ yes. absurd (((c.revived_is x).0 yes).lost ((c.reach_is x).0 e))) (λ no. no)
-      (cases_Bool (c.revived x))
+  reached_not_resurrected : (x : Id) → c.reach x ≡ true → c.resurrected x ≡ false
+  reached_not_resurrected x e =
+      ⊎_elim (λ yes. absurd (((c.resurrected_is x).0 yes).lost ((c.reach_is x).0 e))) (λ no. no)
+      (cases_Bool (c.resurrected x))
 
   -- a handle whose target is in both sets stays as it was
   pub handle_stays : (slot : ℕ) (g : Handle Id) (x : Id) → get s.handles slot ≡ Some g → g.target ≡ Some x
       → c.reach x ≡ true → c.kept x ≡ true → get t.handles slot ≡ Some g
-  handle_stays slot g x stands target reached kept =
+  handle_stays slot g x is_stored target reached kept =
       let in_reach : (y : Id) → g.target ≡ Some y → c.reach y ≡ true =
       λ y e. subst (λ z. c.reach z ≡ true) (same_Some x y (sym target ∙ e)) reached in
       let in_kept : (y : Id) → g.target ≡ Some y → c.kept y ≡ true =
       λ y e. subst (λ z. c.kept z ≡ true) (same_Some x y (sym target ∙ e)) kept in
-      handle_after slot g stands
+      handle_after slot g is_stored
       ∙ ap (λ q. Some q) (cleared_same c.reach c.kept g
       (loses_none (role g) c.reach c.kept g.target in_reach in_kept)
       (attaching_lost (role g) (is_lost c.kept g.target) (kept_target c.kept g.target in_kept)))
 
   -- what joins the queue is resurrected
-  joined_revived : (x : Id) → Contains t.queue x → (Contains s.queue x → ⊥) → c.revived x ≡ true
-  joined_revived x in_after never =
+  joined_resurrected : (x : Id) → Contains t.queue x → (Contains s.queue x → ⊥) → c.resurrected x ≡ true
+  joined_resurrected x in_after never =
       ⊎_elim (λ before. absurd (never before)) (λ joins. (c.joins_are x).1 joins)
       (Contains-append_cases s.queue c.joins x (subst (λ xs. Contains xs x) c.queue in_after))
 
@@ -84,9 +84,9 @@ module _ (n : ℕ) (s t : State) (r : Report) (w : IsWhole (scene_of s))
       let (o, e) = some_value (get s.objects x.0) (kept_object n (scene_of s) w x ((c.kept_is x).0 kept)) in
       record {
         old = o;
-        stood = e;
-        new = survivor n (c.revived x) o;
-        stands = object_after rank n (scene_of s) (scene_of t) r w c x o kept e;
+        was_stored = e;
+        new = survivor n (c.resurrected x) o;
+        is_stored = object_after rank n (scene_of s) (scene_of t) r w c x o kept e;
         fields = refl;
         value = refl;
       }
@@ -94,7 +94,7 @@ module _ (n : ℕ) (s t : State) (r : Report) (w : IsWhole (scene_of s))
   left_queue : (x : Id) → c.reach x ≡ true → Contains t.queue x → Contains s.queue x
   left_queue x reached in_after =
       ⊎_elim (λ before. before)
-      (λ joins. absurd (true≢false (sym ((c.joins_are x).1 joins) ∙ reached_not_revived x reached)))
+      (λ joins. absurd (true≢false (sym ((c.joins_are x).1 joins) ∙ reached_not_resurrected x reached)))
       (Contains-append_cases s.queue c.joins x (subst (λ xs. Contains xs x) c.queue in_after))
 
   pub left_alone : (x : Id) → IsInUse n s x → IsLeftAlone s t x
@@ -103,8 +103,8 @@ module _ (n : ℕ) (s t : State) (r : Report) (w : IsWhole (scene_of s))
       let reached = use_in_reach x used in
       record {
         object = kept_contents x (reach_in_kept x reached);
-        registered = unregistered _ (c.revived x) (reached_not_revived x reached);
-        handles = λ slot g stands target. handle_stays slot g x stands target reached
+        registered = unregistered _ (c.resurrected x) (reached_not_resurrected x reached);
+        handles = λ slot g is_stored target. handle_stays slot g x is_stored target reached
             (reach_in_kept x reached);
         queue = left_queue x reached;
       }
@@ -112,7 +112,7 @@ module _ (n : ℕ) (s t : State) (r : Report) (w : IsWhole (scene_of s))
   pub rescued_kept : (x : Id) → IsRescued n s x → c.kept x ≡ true
   rescued_kept x h =
       let (start, rest) = led_chain s (IsResurrected n s) h.led_to in
-      (c.kept_is x).1 (start, (inr (resurrected_revived s n start rest.0), rest.1))
+      (c.kept_is x).1 (start, (inr (resurrected_to_be_finalized s n start rest.0), rest.1))
 
   pub rescued_contents : (x : Id) → IsRescued n s x → KeepsContents s t x
   rescued_contents x h = kept_contents x (rescued_kept x h)
@@ -126,21 +126,21 @@ module _ (n : ℕ) (s t : State) (r : Report) (w : IsWhole (scene_of s))
       (λ (reached : IsReached (scene_of s) n start). absurd
       (g.out_of_use (reached_use s n x
       (reached.0, (reached.1.0, leads_on (Edge s) reached.1.1 rest.1)))))
-      (λ (v : IsRevived (scene_of s) n start). absurd
-      (g.not_rescued (chain_led s (IsResurrected n s) (revived_resurrected s n start v) rest.1)))
+      (λ (v : IsToBeFinalized (scene_of s) n start). absurd
+      (g.not_rescued (chain_led s (IsResurrected n s) (to_be_finalized_resurrected s n start v) rest.1)))
       rest.0)
       (λ no. no) (cases_Bool (c.kept x))
 
   -- a handle whose target is neither reached nor kept has null after it
   pub handle_null : (slot : ℕ) (g : Handle Id) (x : Id) → get s.handles slot ≡ Some g → g.target ≡ Some x
       → c.reach x ≡ false → c.kept x ≡ false → HasTarget t slot None
-  handle_null slot g x stands target unreached lost = record {
+  handle_null slot g x is_stored target unreached lost = record {
     handle = cleared c.reach c.kept g;
-    stands = handle_after slot g stands;
+    is_stored = handle_after slot g is_stored;
     target = cond-true (loses c.reach c.kept g) None g.target
         (loses_gone (role g) c.reach c.kept g.target x target unreached lost
         (λ holding. true≢false (sym (keeps_root rank n (scene_of s) (scene_of t) r w c x
-        (held (record { slot = slot; handle = g; stands = stands; holds = holding; target = target })))
+        (held (record { slot = slot; handle = g; is_stored = is_stored; holds = holding; target = target })))
         ∙ lost)));
   }
 
@@ -149,17 +149,19 @@ module _ (n : ℕ) (s t : State) (r : Report) (w : IsWhole (scene_of s))
       let lost = garbage_lost x g in
       record {
         object = gone rank n (scene_of s) (scene_of t) r w c x lost;
-        handles = λ slot q stands target. handle_null slot q x stands target (unused_out x g.out_of_use) lost;
+        handles =
+            λ slot q is_stored target. handle_null slot q x is_stored target (unused_out x g.out_of_use) lost;
       }
 
   join_resurrected : (x : Id) → Joins s t x → IsResurrected n s x
-  join_resurrected x j = revived_resurrected s n x ((c.revived_is x).0 (joined_revived x j.queued j.before))
+  join_resurrected x j =
+      to_be_finalized_resurrected s n x ((c.resurrected_is x).0 (joined_resurrected x j.queued j.before))
 
   resurrected_join : (x : Id) → IsResurrected n s x → Joins s t x
   resurrected_join x v = record {
     queued = subst (λ xs. Contains xs x) (sym c.queue)
         (Contains-append_right s.queue c.joins x
-        ((c.joins_are x).0 ((c.revived_is x).1 (resurrected_revived s n x v))));
+        ((c.joins_are x).0 ((c.resurrected_is x).1 (resurrected_to_be_finalized s n x v))));
     before = λ in_before. v.out_of_use (from_start (inl (in_queue in_before)));
   }
 
@@ -169,13 +171,13 @@ module _ (n : ℕ) (s t : State) (r : Report) (w : IsWhole (scene_of s))
 
   join_unregistered : (x : Id) → Joins s t x → IsUnregistered t x
   join_unregistered x j =
-      let revived = joined_revived x j.queued j.before in
-      let v = (c.revived_is x).0 revived in
+      let resurrected = joined_resurrected x j.queued j.before in
+      let v = (c.resurrected_is x).0 resurrected in
       record {
-        object = survivor n (c.revived x) v.object;
-        stands = object_after rank n (scene_of s) (scene_of t) r w c x v.object
-            (keeps_revived rank n (scene_of s) (scene_of t) r w c x revived) v.stands;
-        registered = registered_no_more v.object.registered (c.revived x) revived;
+        object = survivor n (c.resurrected x) v.object;
+        is_stored = object_after rank n (scene_of s) (scene_of t) r w c x v.object
+            (keeps_resurrected rank n (scene_of s) (scene_of t) r w c x resurrected) v.is_stored;
+        registered = registered_no_more v.object.registered (c.resurrected x) resurrected;
       }
 
   pub resurrects_once : ResurrectsOnce n s t

@@ -74,11 +74,11 @@ module _ (n : Numbers) (s : State) (w : IsWellFormed n s) (e : Entry) where
       (λ low. low) (cases_lt n.heap (total_size s + (fields + 3))) in
       omega arith
 
-  left_share : (k : ℕ) (kept revived : Bool) (o : Option (Object Id))
-      → share size_of (cond kept (option_map (survivor k revived) o) None) ≤ share size_of o
-  left_share k true revived None = omega arith
-  left_share k true revived (Some x) = omega arith
-  left_share k false revived o = omega arith
+  left_share : (k : ℕ) (kept resurrected : Bool) (o : Option (Object Id))
+      → share size_of (cond kept (option_map (survivor k resurrected) o) None) ≤ share size_of o
+  left_share k true resurrected None = omega arith
+  left_share k true resurrected (Some x) = omega arith
+  left_share k false resurrected o = omega arith
 
   within : (c : Cmd) (t : State) → StepOf n s e t c → Effect n s e c t → total_size s ≤ n.heap
       → total_size t ≤ n.heap
@@ -101,7 +101,7 @@ module _ (n : Numbers) (s : State) (w : IsWellFormed n s) (e : Entry) where
       le_trans (sum-le size_of t.objects s.objects (λ q.
       let id : Id = record { 0 = q } in
       subst (λ x. share size_of x ≤ share size_of (get s.objects q)) (sym (did.collects.scene.objects id))
-      (left_share k (did.collects.scene.kept id) (did.collects.scene.revived id) (get s.objects q)))) low
+      (left_share k (did.collects.scene.kept id) (did.collects.scene.resurrected id) (get s.objects q)))) low
   within c t does _ low = low
 
 nothing : (es : List (ℕ × Object Id)) → length es ≡ 0 → sum_by size_of (map (λ x. x.1) es) ≡ 0

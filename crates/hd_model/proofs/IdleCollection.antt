@@ -6,13 +6,13 @@ use Rattle.hd_model.specs.Role.{Role, holds, short, long, attaches, role}
 use Rattle.hd_model.specs.Leads.{Leads}
 use Rattle.hd_model.specs.Scene.{Scene, is_object, fields_in, generation_in, generation_at, IsField, IsWhole}
 use Rattle.hd_model.specs.Ages.{raised}
-use Rattle.hd_model.specs.Reach.{IsAttached, IsEdge, IsHeld, IsRoot, named, queued, held, older, IsReached, IsRevived}
+use Rattle.hd_model.specs.Reach.{IsAttached, IsEdge, IsHeld, IsRoot, named, queued, held, older, IsReached, IsToBeFinalized}
 use Rattle.hd_model.specs.Collect.{is_lost, loses_by, loses, is_attaching, cleared, LosesAs, IsRemoved, Collects}
 use Rattle.hd_model.proofs.EdgeChains.{leads_on, leads_turn}
 use Rattle.hd_model.proofs.Members.{not_in_none, first_in}
 use Rattle.hd_model.proofs.Entries.{some_value}
 use Rattle.hd_model.proofs.PropertyCounts.{counts_zero}
-use Rattle.hd_model.proofs.SceneCollection.{keeps_root, keeps_arrow, object_before, object_after, whole_after, reached_kept}
+use Rattle.hd_model.proofs.SceneCollection.{keeps_root, keeps_edge, object_before, object_after, whole_after, reached_kept}
 
 -- a generation above n is not raised
 pub raised_older : (n g : ℕ) → n < g → raised n g ≡ g
@@ -60,7 +60,7 @@ module _ {N : Type 0} (rank : N → ℕ) (n : ℕ) (s t : Scene N) (r : Report) 
       record {
         slot = h.slot;
         handle = h.handle;
-        stands = c.handles h.slot ∙ ap (option_map (cleared c.reach c.kept)) h.stands
+        is_stored = c.handles h.slot ∙ ap (option_map (cleared c.reach c.kept)) h.is_stored
             ∙ ap (λ g. Some g) (cleared_same c.reach c.kept h.handle target extra);
         holds = h.holds;
         target = h.target;
@@ -102,33 +102,33 @@ module _ {N : Type 0} (rank : N → ℕ) (n : ℕ) (s t : Scene N) (r : Report) 
       record {
         slot = a.slot;
         handle = a.handle;
-        stands = c.handles a.slot ∙ ap (option_map (cleared c.reach c.kept)) a.stands
+        is_stored = c.handles a.slot ∙ ap (option_map (cleared c.reach c.kept)) a.is_stored
             ∙ ap (λ g. Some g) (cleared_same c.reach c.kept a.handle target extra);
         attaches = a.attaches;
         target = a.target;
         secondary = a.secondary;
       }
 
-  pub arrow_stays : (x y : N) → c.kept x ≡ true → IsEdge s.object s.handle x y
+  pub edge_stays : (x y : N) → c.kept x ≡ true → IsEdge s.object s.handle x y
       → IsEdge t.object t.handle x y
-  arrow_stays x y kept a = ⊎_elim (λ f. inl (field_stays x y kept (s.object x) refl f))
+  edge_stays x y kept a = ⊎_elim (λ f. inl (field_stays x y kept (s.object x) refl f))
       (λ d. inr (attached_stays x y kept d)) a
 
   chain_stays : {x y : N} → c.kept x ≡ true → Leads (IsEdge s.object s.handle) x y
       → Leads (IsEdge t.object t.handle) x y
   chain_stays kept chain =
       (leads_turn (IsEdge s.object s.handle) (IsEdge t.object t.handle) (λ x. x) (λ x. c.kept x ≡ true)
-      (λ x y k a. keeps_arrow rank n s t r w c x y k a) (λ x y k a. arrow_stays x y k a) kept chain).1
+      (λ x y k a. keeps_edge rank n s t r w c x y k a) (λ x y k a. edge_stays x y k a) kept chain).1
 
   pub reached_stays : (x : N) → IsReached s n x → IsReached t n x
   reached_stays x h = (h.0, (root_stays h.0 h.1.0, chain_stays (keeps_root rank n s t r w c h.0 h.1.0) h.1.1))
 
-  revived_reached : (x : N) → IsRevived s n x → IsReached t n x
-  revived_reached x h = (
+  resurrected_reached : (x : N) → IsToBeFinalized s n x → IsReached t n x
+  resurrected_reached x h = (
     x,
     (
       queued (subst (λ xs. Contains xs x) (sym c.queue)
-          (Contains-append_right s.queue c.joins x ((c.joins_are x).0 ((c.revived_is x).1 h)))),
+          (Contains-append_right s.queue c.joins x ((c.joins_are x).0 ((c.resurrected_is x).1 h)))),
       Leads.here,
     ),
   )
@@ -138,7 +138,8 @@ module _ {N : Type 0} (rank : N → ℕ) (n : ℕ) (s t : Scene N) (r : Report) 
   all_reached x h =
       let (o, e) = some_value (t.object x) h in
       let kept = (c.kept_is x).0 (object_before rank n s t r w c x o e).0 in
-      let start : IsReached t n kept.0 = ⊎_elim (reached_stays kept.0) (revived_reached kept.0) kept.1.0 in
+      let start : IsReached t n kept.0 =
+      ⊎_elim (reached_stays kept.0) (resurrected_reached kept.0) kept.1.0 in
       let first : c.kept kept.0 ≡ true = (c.kept_is kept.0).1 (kept.0, (kept.1.0, Leads.here)) in
       (start.0, (start.1.0, leads_on (IsEdge t.object t.handle) start.1.1 (chain_stays first kept.1.1)))
 
@@ -153,9 +154,9 @@ module _ {N : Type 0} (rank : N → ℕ) (n : ℕ) (s t u : Scene N) (r q : Repo
   whole : IsWhole t
   whole = whole_after rank n s t r w c
 
-  none_revived : (x : N) → d.revived x ≡ true → ⊥
-  none_revived x h = let v = (d.revived_is x).0 h in
-      v.lost (all_reached rank n s t r w c x (ap is_some v.stands))
+  none_resurrected : (x : N) → d.resurrected x ≡ true → ⊥
+  none_resurrected x h = let v = (d.resurrected_is x).0 h in
+      v.lost (all_reached rank n s t r w c x (ap is_some v.is_stored))
 
   none_lost : (slot : ℕ) (h : Handle N) → t.handle slot ≡ Some h → loses d.reach d.kept h ≡ false
   none_lost slot h e =
@@ -169,7 +170,7 @@ module _ {N : Type 0} (rank : N → ℕ) (n : ℕ) (s t u : Scene N) (r q : Repo
       (kept_target d.kept h.target (λ x at. in_kept x (whole.targets slot h x e at)))
 
   none_loses : (wanted : Role) (slot : ℕ) → LosesAs t d.reach d.kept wanted slot → ⊥
-  none_loses wanted slot l = false≢true (sym (none_lost slot l.handle l.stands) ∙ l.loses)
+  none_loses wanted slot l = false≢true (sym (none_lost slot l.handle l.is_stored) ∙ l.loses)
 
   none_removed : (x : N) → IsRemoved t d.kept x → ⊥
   none_removed x h = true≢false (sym (in_kept x h.object) ∙ h.lost)
@@ -188,7 +189,8 @@ module _ {N : Type 0} (rank : N → ℕ) (n : ℕ) (s t u : Scene N) (r q : Repo
 
   pub idle_queue : u.queue ≡ t.queue
   idle_queue =
-      d.queue ∙ ap (λ xs. t.queue ++ xs) (empty_joins d.joins (λ x h. none_revived x ((d.joins_are x).1 h)))
+      d.queue ∙ ap (λ xs. t.queue ++ xs)
+      (empty_joins d.joins (λ x h. none_resurrected x ((d.joins_are x).1 h)))
       ∙ append-nil t.queue
 
   pub idle_removed : q.removed ≡ 0
@@ -203,5 +205,6 @@ module _ {N : Type 0} (rank : N → ℕ) (n : ℕ) (s t u : Scene N) (r q : Repo
   pub idle_dep : q.dep ≡ 0
   idle_dep = counts_zero (LosesAs t d.reach d.kept attaches) q.dep (none_loses attaches) d.report_is.dep
 
-  pub idle_revived : q.revived ≡ 0
-  idle_revived = counts_zero (λ x. d.revived x ≡ true) q.revived none_revived d.report_is.revived
+  pub idle_resurrected : q.revived ≡ 0
+  idle_resurrected =
+      counts_zero (λ x. d.resurrected x ≡ true) q.revived none_resurrected d.report_is.resurrected

@@ -4,7 +4,7 @@ use Rattle.hd_model.specs.State.{Extra, nothing, strength, secondary, count, Han
 use Rattle.hd_model.specs.Leads.{IsClosed}
 use Rattle.hd_model.specs.Scene.{Scene, Objects, Rows, generation_at, IsField}
 use Rattle.hd_model.specs.Ages.{age_of, is_due, HasSoundAges, HasSoundCards}
-use Rattle.hd_model.specs.Reach.{IsEdge, IsRoot, IsReached, IsRevived, IsKept}
+use Rattle.hd_model.specs.Reach.{IsEdge, IsRoot, IsReached, IsToBeFinalized, IsKept}
 use Rattle.hd_model.specs.Collect.{cleared}
 use Rattle.hd_model.specs.Marking.{IsSettled}
 use Rattle.hd_model.proofs.EdgeChains.{leads_inside}
@@ -30,13 +30,13 @@ module _ {N : Type 0} (o : Objects N) (n : ℕ) where
       let above : n < age_of ages slot = leb-false (age_of ages slot) n undue in omega arith
 
   module _ (rows : Rows N) (ages : List ℕ) (sound : HasSoundAges o rows ages) (slot : ℕ) (h : Handle N)
-      (stands : rows slot ≡ Some h) (undue : is_due ages n slot ≡ false) where
+      (is_stored : rows slot ≡ Some h) (undue : is_due ages n slot ≡ false) where
     pub undue_target : (x : N) → h.target ≡ Some x → n < generation_at o x
-    undue_target x e = undue_above ages slot (generation_at o x) undue (sound.targets slot h x stands e)
+    undue_target x e = undue_above ages slot (generation_at o x) undue (sound.targets slot h x is_stored e)
 
     pub undue_secondary : (x : N) → secondary_of h.extra ≡ Some x → n < generation_at o x
     undue_secondary x e = undue_above ages slot (generation_at o x) undue
-        (sound.secondaries slot h x stands e)
+        (sound.secondaries slot h x is_stored e)
 
     -- a clearing leaves such a row as it is
     pub undue_stays : (reach kept : N → Bool) → ((x : N) → n < generation_at o x → reach x ≡ true)
@@ -79,10 +79,11 @@ module _ {N : Type 0} (s : Scene N) (n : ℕ) where
 
   -- and one that has what is reached and resurrected decides what is kept
   pub decides_kept : (p : N → Bool) → ((x : N) → IsReached s n x → p x ≡ true)
-      → ((x : N) → IsRevived s n x → p x ≡ true)
+      → ((x : N) → IsToBeFinalized s n x → p x ≡ true)
       → IsClosed (IsEdge s.object s.handle) p → ((x : N) → p x ≡ true → IsKept s n x) → (x : N)
       → Decides (p x) (IsKept s n x)
-  decides_kept p reached revived closed only x = (
+  decides_kept p reached resurrected closed only x = (
     only x,
-    λ h. leads_inside (IsEdge s.object s.handle) p closed (⊎_elim (reached h.0) (revived h.0) h.1.0) h.1.1,
+    λ h. leads_inside (IsEdge s.object s.handle) p closed (⊎_elim (reached h.0) (resurrected h.0) h.1.0)
+        h.1.1,
   )

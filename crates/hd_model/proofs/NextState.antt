@@ -14,7 +14,7 @@ use Rattle.hd_model.proofs.Entries.{keys_rise, counts_keys}
 use Rattle.hd_model.proofs.WholeScenes.{whole_scene}
 use Rattle.hd_model.proofs.Reports.{counts_state}
 use Rattle.hd_model.proofs.MapBuild.{in_keys, had_value, had_source, built, built_is}
-use Rattle.hd_model.proofs.ReachTests.{ids, in_ids, attaching_is, is_reach, is_revived, is_kept, reach_is, revived_is, kept_is}
+use Rattle.hd_model.proofs.ReachTests.{ids, in_ids, attaching_is, is_reach, is_resurrected, is_kept, reach_is, resurrected_is, kept_is}
 
 not_true : (b : Bool) → not b ≡ true → b ≡ false
 not_true true h = absurd (false≢true h)
@@ -44,7 +44,7 @@ long_is short = (λ h. absurd (false≢true h), λ e. ap is_long e)
 long_is long = (λ _. refl, λ _. refl)
 long_is attaches = (λ h. absurd (false≢true h), λ e. ap is_long e)
 
-module _ (n : ℕ) (s : State) (reach revived kept : Id → Bool) where
+module _ (n : ℕ) (s : State) (reach resurrected kept : Id → Bool) where
   -- the numbers of a report
   surviving : (k : ℕ) × Counts (IsSurviving n (scene_of s) kept) k
   surviving =
@@ -77,13 +77,13 @@ module _ (n : ℕ) (s : State) (reach revived kept : Id → Bool) where
             (λ x h. (h.object, not_from_false (kept x) h.lost)) some.1,
       )
 
-  resurrected : ((x : Id) → revived x ≡ true → IsSome (get s.objects x.0))
-      → (k : ℕ) × Counts (λ x. revived x ≡ true) k
-  resurrected object =
+  resurrected_count : ((x : Id) → resurrected x ≡ true → IsSome (get s.objects x.0))
+      → (k : ℕ) × Counts (λ x. resurrected x ≡ true) k
+  resurrected_count object =
       let some =
-      counts_where (λ (x : Id). IsSome (get s.objects x.0)) revived (len s.objects) (counts_state s)
+      counts_where (λ (x : Id). IsSome (get s.objects x.0)) resurrected (len s.objects) (counts_state s)
       in
-      (some.0, counts_like _ (λ x. revived x ≡ true) some.0 (λ x h. h.1) (λ x h. (object x h, h)) some.1)
+      (some.0, counts_like _ (λ x. resurrected x ≡ true) some.0 (λ x h. h.1) (λ x h. (object x h, h)) some.1)
 
   module _ (wanted : Role) (is : Role → Bool) (decides : (r : Role) → Decides (is r) (r ≡ wanted)) where
     losing : Option (Handle Id) → Bool
@@ -99,11 +99,11 @@ module _ (n : ℕ) (s : State) (reach revived kept : Id → Bool) where
         at None e h = absurd (false≢true h)
         at (Some g) e h =
             let both = and_parts (is (role g)) (loses reach kept g) h in
-            record { handle = g; stands = e; role_is = (decides (role g)).0 both.0; loses = both.1 }
+            record { handle = g; is_stored = e; role_is = (decides (role g)).0 both.0; loses = both.1 }
 
     as_losing : (slot : ℕ) → LosesAs (scene_of s) reach kept wanted slot → losing (get s.handles slot) ≡ true
     unfolding losing
-    as_losing slot l = ap losing l.stands
+    as_losing slot l = ap losing l.is_stored
         ∙ and_from (is (role l.handle)) (loses reach kept l.handle) ((decides (role l.handle)).1 l.role_is)
         l.loses
 
@@ -114,11 +114,11 @@ module _ (n : ℕ) (s : State) (reach revived kept : Id → Bool) where
           some.0,
           counts_like _ (LosesAs (scene_of s) reach kept wanted) some.0
               (λ slot h. losing_as slot h.1)
-              (λ slot l. (ap is_some l.stands, as_losing slot l)) some.1,
+              (λ slot l. (ap is_some l.is_stored, as_losing slot l)) some.1,
         )
 
-  has_report : ((x : Id) → revived x ≡ true → IsSome (get s.objects x.0))
-      → (r : Report) × IsReport n (scene_of s) reach revived kept r
+  has_report : ((x : Id) → resurrected x ≡ true → IsSome (get s.objects x.0))
+      → (r : Report) × IsReport n (scene_of s) reach resurrected kept r
   has_report object = (
     record {
       kept = surviving.0;
@@ -126,7 +126,7 @@ module _ (n : ℕ) (s : State) (reach revived kept : Id → Bool) where
       short = (losses short is_short short_is).0;
       long = (losses long is_long long_is).0;
       dep = (losses attaches is_attaching attaching_is).0;
-      revived = (resurrected object).0;
+      revived = (resurrected_count object).0;
     },
     record {
       kept = surviving.1;
@@ -134,7 +134,7 @@ module _ (n : ℕ) (s : State) (reach revived kept : Id → Bool) where
       short = (losses short is_short short_is).1;
       long = (losses long is_long long_is).1;
       dep = (losses attaches is_attaching attaching_is).1;
-      revived = (resurrected object).1;
+      resurrected = (resurrected_count object).1;
     },
   )
 
@@ -142,7 +142,7 @@ module _ (n : ℕ) (s : State) (reach revived kept : Id → Bool) where
   object_left : ℕ → Option (Object Id)
   object_left k =
       let x : Id = record { 0 = k } in
-      cond (kept x) (option_map (survivor n (revived x)) (get s.objects k)) None
+      cond (kept x) (option_map (survivor n (resurrected x)) (get s.objects k)) None
 
   handle_left : ℕ → Option (Handle Id)
   handle_left slot = option_map (cleared reach kept) (get s.handles slot)
@@ -154,7 +154,7 @@ module _ (n : ℕ) (s : State) (reach revived kept : Id → Bool) where
   after = record s {
     objects = built object_left (keys s.objects);
     handles = built handle_left (keys s.handles);
-    queue = s.queue ++ filter revived (ids s);
+    queue = s.queue ++ filter resurrected (ids s);
     places = built place_left (keys s.places);
   }
 
@@ -162,9 +162,9 @@ module _ (n : ℕ) (s : State) (reach revived kept : Id → Bool) where
   unfolding object_left
   objects_after = built_is object_left (keys s.objects)
       (λ k h. in_keys s.objects k
-      (had_source (survivor n (revived (record { 0 = k }))) (get s.objects k)
+      (had_source (survivor n (resurrected (record { 0 = k }))) (get s.objects k)
       (had_value (kept (record { 0 = k }))
-      (option_map (survivor n (revived (record { 0 = k }))) (get s.objects k)) h)))
+      (option_map (survivor n (resurrected (record { 0 = k }))) (get s.objects k)) h)))
 
   handles_after : (slot : ℕ) → get (built handle_left (keys s.handles)) slot ≡ handle_left slot
   unfolding handle_left
@@ -176,47 +176,47 @@ module _ (n : ℕ) (s : State) (reach revived kept : Id → Bool) where
   places_after = built_is place_left (keys s.places)
       (λ k h. in_keys s.places k (had_value (is_pinned s.handles k) (get s.places k) h))
 
-  joins_rise : AllPairs (λ (x y : Id). x.0 < y.0) (filter revived (ids s))
+  joins_rise : AllPairs (λ (x y : Id). x.0 < y.0) (filter resurrected (ids s))
   joins_rise =
-      pairs_passing revived (λ (x y : Id). x.0 < y.0) (ids s)
+      pairs_passing resurrected (λ (x y : Id). x.0 < y.0) (ids s)
       (pairs_mapped (λ a b. a < b) (λ (x y : Id). x.0 < y.0) (λ (k : ℕ). record { 0 = k }) (keys s.objects)
       (λ a b h. h) (keys_rise (entries s.objects) (entries_sorted s.objects)))
 
 module _ (n : ℕ) (s : State) (w : IsWhole (scene_of s)) where
-  revived_object : (x : Id) → is_revived s n x ≡ true → IsSome (get s.objects x.0)
-  revived_object x h = ap is_some ((revived_is s n w x).0 h).stands
+  resurrected_object : (x : Id) → is_resurrected s n x ≡ true → IsSome (get s.objects x.0)
+  resurrected_object x h = ap is_some ((resurrected_is s n w x).0 h).is_stored
 
-  reported : (r : Report) × IsReport n (scene_of s) (is_reach s n) (is_revived s n) (is_kept s n) r
-  reported = has_report n s (is_reach s n) (is_revived s n) (is_kept s n) revived_object
+  reported : (r : Report) × IsReport n (scene_of s) (is_reach s n) (is_resurrected s n) (is_kept s n) r
+  reported = has_report n s (is_reach s n) (is_resurrected s n) (is_kept s n) resurrected_object
 
   next : State
-  next = after n s (is_reach s n) (is_revived s n) (is_kept s n)
+  next = after n s (is_reach s n) (is_resurrected s n) (is_kept s n)
 
   next_collects : CollectsState n s next reported.0
   unfolding next after object_left handle_left place_left
   next_collects = record {
     scene = record {
       reach = is_reach s n;
-      revived = is_revived s n;
+      resurrected = is_resurrected s n;
       kept = is_kept s n;
-      joins = filter (is_revived s n) (ids s);
+      joins = filter (is_resurrected s n) (ids s);
       goes_by = record {
         reach_is = reach_is s n w;
-        revived_is = revived_is s n w;
+        resurrected_is = resurrected_is s n w;
         kept_is = kept_is s n w;
         joins_are = λ x. (
-          λ h. passing_in (is_revived s n) (ids s) x (in_ids s x (revived_object x h)) h,
-          λ h. (passing_from (is_revived s n) (ids s) x h).1,
+          λ h. passing_in (is_resurrected s n) (ids s) x (in_ids s x (resurrected_object x h)) h,
+          λ h. (passing_from (is_resurrected s n) (ids s) x h).1,
         );
-        rising = joins_rise n s (is_reach s n) (is_revived s n) (is_kept s n);
+        rising = joins_rise n s (is_reach s n) (is_resurrected s n) (is_kept s n);
         report_is = reported.1;
       };
-      objects = λ x. objects_after n s (is_reach s n) (is_revived s n) (is_kept s n) x.0;
-      handles = λ slot. handles_after n s (is_reach s n) (is_revived s n) (is_kept s n) slot;
+      objects = λ x. objects_after n s (is_reach s n) (is_resurrected s n) (is_kept s n) x.0;
+      handles = λ slot. handles_after n s (is_reach s n) (is_resurrected s n) (is_kept s n) slot;
       named = refl;
       queue = refl;
     };
-    places = λ x. places_after n s (is_reach s n) (is_revived s n) (is_kept s n) x;
+    places = λ x. places_after n s (is_reach s n) (is_resurrected s n) (is_kept s n) x;
     registers = refl;
     statics = refl;
     handle_registers = refl;

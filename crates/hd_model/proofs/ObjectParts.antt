@@ -53,7 +53,7 @@ pub record Leaves (s : State) (e : Entry) (id : Id) (P : Object Id
   pub on : (o : ℕ) (x : Object Id) → c ≡ cmd.Reregister o → register_of s e.caller o ≡ Some id
       → e.reply ≡ reply.Done → P x → P (record x { registered = true })
   pub collected : (k : ℕ) (did : DoesCollect s e t k) (x : Object Id) → c ≡ cmd.Collect k
-      → get s.objects id.0 ≡ Some x → P x → P (survivor k (did.collects.scene.revived id) x)
+      → get s.objects id.0 ≡ Some x → P x → P (survivor k (did.collects.scene.resurrected id) x)
 
 module _ (n : Numbers) (s : State) (w : IsWellFormed n s) (e : Entry) (id : Id) (P : Object Id → Type 0) where
   -- an object that a register references is written
@@ -68,12 +68,12 @@ module _ (n : Numbers) (s : State) (w : IsWellFormed n s) (e : Entry) (id : Id) 
       (sym same) (there n s e.caller o other w named)))))
       (had.each x)
 
-  pub collected : (k : ℕ) (kept revived : Bool) (o : Option (Object Id)) (x : Object Id)
-      → ((y : Object Id) → o ≡ Some y → P (survivor k revived y))
-      → cond kept (option_map (survivor k revived) o) None ≡ Some x → P x
-  collected k true revived (Some y) x leaves is = subst P (same_Some _ x is) (leaves y refl)
-  collected k true revived None x leaves is = absurd (none-some x is)
-  collected k false revived o x leaves is = absurd (none-some x is)
+  pub collected : (k : ℕ) (kept resurrected : Bool) (o : Option (Object Id)) (x : Object Id)
+      → ((y : Object Id) → o ≡ Some y → P (survivor k resurrected y))
+      → cond kept (option_map (survivor k resurrected) o) None ≡ Some x → P x
+  collected k true resurrected (Some y) x leaves is = subst P (same_Some _ x is) (leaves y refl)
+  collected k true resurrected None x leaves is = absurd (none-some x is)
+  collected k false resurrected o x leaves is = absurd (none-some x is)
 
   object_after : (c : Cmd) (t : State) → Effect n s e c t → Leaves s e id P c t → Holds s id P
       → (x : Object Id) → get t.objects id.0 ≡ Some x → P x
@@ -90,8 +90,8 @@ module _ (n : Numbers) (s : State) (w : IsWellFormed n s) (e : Entry) (id : Id) 
   object_after c t (reregisters {o = o} other f p) l had =
       written o other _ f (λ same h. l.on o _ refl (f ∙ ap Some same) p h) had
   object_after c t (collects {k = k} did) l had =
-      λ x is. collected k (did.collects.scene.kept id) (did.collects.scene.revived id) (get s.objects id.0) x
-      (λ y there. l.collected k did y refl there (had.each y there))
+      λ x is. collected k (did.collects.scene.kept id) (did.collects.scene.resurrected id)
+      (get s.objects id.0) x (λ y there. l.collected k did y refl there (had.each y there))
       (sym (did.collects.scene.objects id) ∙ is)
   object_after c t _ l had = had.each
 

@@ -6,7 +6,7 @@ use Rattle.hd_model.specs.declared.command.Cmd.TheVariants as cmd
 use Rattle.hd_model.specs.State.{Numbers, Object, State, register_of, object_by_id}
 use Rattle.hd_model.specs.Scene.{scene_of}
 use Rattle.hd_model.specs.Leads.{here}
-use Rattle.hd_model.specs.Reach.{queued, IsRevived}
+use Rattle.hd_model.specs.Reach.{queued, IsToBeFinalized}
 use Rattle.hd_model.specs.Command.{Outcome, read_generation, fresh_object}
 use Rattle.hd_model.specs.Step.{IsOutcome, DoesCollect, Step}
 use Rattle.hd_model.specs.WellFormed.{IsWellFormed}
@@ -40,8 +40,8 @@ pub has_it : {A : Type 0} (o : Option A) (x d : A) → o ≡ Some x → unwrap_o
 has_it o x d is = ap (λ y. unwrap_or y d) is
 
 pub gen_returns_the_generation : GenReturnsTheGeneration
-gen_returns_the_generation n s t e o id object step is named stands =
-    let same : object_by_id s id ≡ object = has_it (get s.objects id.0) object _ stands in
+gen_returns_the_generation n s t e o id object step is named is_stored =
+    let same : object_by_id s id ≡ object = has_it (get s.objects id.0) object _ is_stored in
     (gen_is n s t e o id step is named).0 ∙ ap (λ (x : Object Id). reply.Generation x.generation) same
 
 -- the object after a `new`
@@ -64,12 +64,12 @@ generation_put n s e t id g w step (law.GivesGeneration.by_new {d} {fields} {fin
     made n s e t d fields fin id (IsOf 0) w step is answered refl
 generation_put n s e t id g w step (by_gen {o = o} is named answered) =
     let (says, same) = gen_is n s t e o id step is named in
-    let stands = there n s e.caller o id w named in
+    let is_stored = there n s e.caller o id w named in
     let number : (object_by_id s id).generation ≡ g = same_generation says answered in
     subst (λ x. Holds x id (IsOf g)) (sym same) (record {
-      given = given_of_object n s id (object_by_id s id) w stands;
+      given = given_of_object n s id (object_by_id s id) w is_stored;
       each = λ x is'. ap (λ (y : Object Id). y.generation) (same_Some x (object_by_id s id) (sym is'
-          ∙ stands))
+          ∙ is_stored))
           ∙ number;
     })
 
@@ -88,25 +88,26 @@ pub generation_is_read_back : GenerationIsReadBack
 generation_is_read_back n old now new written reading id g p since gives step reads named =
     let put = generation_put n old written since.after id g since.well_formed since.first gives in
     let kept = still (λ s. Holds s id (IsOf g)) (generation_since n id g) since put in
-    let stands = there n now reading.caller p id kept.0 named in
-    (gen_is n now new reading p id step reads named).0 ∙ ap reply.Generation (kept.1.each _ stands)
+    let is_stored = there n now reading.caller p id kept.0 named in
+    (gen_is n now new reading p id step reads named).0 ∙ ap reply.Generation (kept.1.each _ is_stored)
 
 -- what joins the queue of a collection is resurrected, and what is resurrected joins
 module _ (s : State) (e : Entry) (t : State) (k : ℕ) (x : DoesCollect s e t k) (id : Id) where
-  pub joins_of : e.cmd ≡ cmd.Collect k → x.collects.scene.revived id ≡ true → JoinsBy id s e t
-  joins_of is revived = record {
+  pub joins_of : e.cmd ≡ cmd.Collect k → x.collects.scene.resurrected id ≡ true → JoinsBy id s e t
+  joins_of is resurrected = record {
     k = k;
     command = is;
     joins = record {
-      before = λ waits. ((x.collects.scene.revived_is id).0 revived).lost (id, (queued waits, here));
+      before = λ is_queued.
+          ((x.collects.scene.resurrected_is id).0 resurrected).lost (id, (queued is_queued, here));
       queued = member_same (s.queue ++ x.collects.scene.joins) t.queue (sym x.collects.scene.queue) id
           (Contains-append_right s.queue x.collects.scene.joins id
-          ((x.collects.scene.joins_are id).0 revived));
+          ((x.collects.scene.joins_are id).0 resurrected));
     };
   }
 
-  pub revived_of : JoinsBy id s e t → x.collects.scene.revived id ≡ true
-  revived_of j =
+  pub resurrected_of : JoinsBy id s e t → x.collects.scene.resurrected id ≡ true
+  resurrected_of j =
       ⊎_elim (λ before. absurd (j.joins.before before)) (λ joined. (x.collects.scene.joins_are id).1 joined)
       (Contains-append_cases s.queue x.collects.scene.joins id
       (member_same t.queue (s.queue ++ x.collects.scene.joins) x.collects.scene.queue id j.joins.queued))
@@ -138,8 +139,8 @@ registration_since n id b s e t w does apart had =
           { o = o; command_is = is; named = named; done = done })));
       on = λ o x is named done h. absurd (apart (reregisters (record
           { o = o; command_is = is; named = named; done = done })));
-      collected = λ k x y is there h. registration_on y.registered (x.collects.scene.revived id) b
-          (λ revived. apart (joins (joins_of s e t k x id is revived))) h;
+      collected = λ k x y is there h. registration_on y.registered (x.collects.scene.resurrected id) b
+          (λ resurrected. apart (joins (joins_of s e t k x id is resurrected))) h;
     }) had
 
 -- the effect of an entry that does something to an object
@@ -162,9 +163,9 @@ set_on n s e t o id (did.reregisters other f p) done named =
     (get_inserted s.objects other.0 _)
 
 -- an object that is there
-stands_there : (n : Numbers) (t : State) (id : Id) (object : Object Id) (P : Object Id → Type 0)
+object_kept : (n : Numbers) (t : State) (id : Id) (object : Object Id) (P : Object Id → Type 0)
     → IsWellFormed n t → get t.objects id.0 ≡ Some object → P object → Holds t id P
-stands_there n t id object P w is p = record {
+object_kept n t id object P w is p = record {
   given = given_of_object n t id object w is;
   each = λ x there. subst P (same_Some object x (sym is ∙ there)) p;
 }
@@ -175,12 +176,12 @@ joined_off : (n : Numbers) (s : State) (e : Entry) (t : State) (id : Id) → IsW
 joined_off n s e t id w step j =
     let x : DoesCollect s e t j.k = step_of n s e t (cmd.Collect j.k) step j.command in
     let after : IsWellFormed n t = step_keeps n s t e w step in
-    let revived = revived_of s e t j.k x id j in
+    let resurrected = resurrected_of s e t j.k x id j in
     record {
       given = after.serials.to_last id.0 (after.names.queue id j.joins.queued);
       each = λ y is. collected n s w e id (IsRegistered false) j.k (x.collects.scene.kept id)
-          (x.collects.scene.revived id) (get s.objects id.0) y
-          (λ z there. ap (λ r. z.registered && not r) revived ∙ and_not z.registered)
+          (x.collects.scene.resurrected id) (get s.objects id.0) y
+          (λ z there. ap (λ r. z.registered && not r) resurrected ∙ and_not z.registered)
           (sym (x.collects.scene.objects id) ∙ is);
     }
 
@@ -189,10 +190,10 @@ registration_put : (n : Numbers) (s : State) (e : Entry) (t : State) (id : Id) (
 registration_put n s e t id b w step (law.GivesRegistration.by_new {d} {fields} {fin} is answered) =
     made n s e t d fields fin id (IsRegistered fin) w step is answered refl
 registration_put n s e t id b w step (by_suppress d) =
-    stands_there n t id _ (IsRegistered false) (step_keeps n s t e w step)
+    object_kept n t id _ (IsRegistered false) (step_keeps n s t e w step)
     (set_off n s e t d.o id (effect_of n s e t (cmd.Suppress d.o) step d.command_is) d.done d.named) refl
 registration_put n s e t id b w step (by_reregister d) =
-    stands_there n t id _ (IsRegistered true) (step_keeps n s t e w step)
+    object_kept n t id _ (IsRegistered true) (step_keeps n s t e w step)
     (set_on n s e t d.o id (effect_of n s e t (cmd.Reregister d.o) step d.command_is) d.done d.named) refl
 registration_put n s e t id b w step (by_joining j) = joined_off n s e t id w step j
 
@@ -211,7 +212,7 @@ off_since n id s e t w does apart had =
       off = λ o x is named done h. refl;
       on = λ o x is named done h. absurd (apart (record
           { o = o; command_is = is; named = named; done = done }));
-      collected = λ k x y is there h. ap (λ r. r && not (x.collects.scene.revived id)) h;
+      collected = λ k x y is there h. ap (λ r. r && not (x.collects.scene.resurrected id)) h;
     }) had
 
 pub joins_once : JoinsOnce
@@ -221,6 +222,6 @@ joins_once n old now new first second id since joined step again =
     let x : DoesCollect now second new again.k = step_of n now second new
     (cmd.Collect again.k) step again.command
     in
-    let revived : IsRevived (scene_of now) again.k id =
-    (x.collects.scene.revived_is id).0 (revived_of now second new again.k x id again) in
-    true≢false (sym revived.registered ∙ kept.1.each revived.object revived.stands)
+    let resurrected : IsToBeFinalized (scene_of now) again.k id =
+    (x.collects.scene.resurrected_is id).0 (resurrected_of now second new again.k x id again) in
+    true≢false (sym resurrected.registered ∙ kept.1.each resurrected.object resurrected.is_stored)

@@ -27,14 +27,14 @@ pinned_decides handles x = (
       record {
         slot = slot;
         handle = g;
-        stands = found;
+        is_stored = found;
         pins = pinning;
         target =
             target_is x g.target target;
       },
   λ p.
       any_of (λ (g : Handle Id). pins g && is_target x.0 g.target) (values handles) p.handle
-      (value_of handles p.slot p.handle p.stands)
+      (value_of handles p.slot p.handle p.is_stored)
       (and_from (pins p.handle) (is_target x.0 p.handle.target) p.pins
       (is_the_target x p.handle.target p.target)),
 )
@@ -44,7 +44,7 @@ pub pinned_held : {N : Type 0} (rows : ℕ → Option (Handle N)) (x : N) → Is
 pinned_held rows x p = record {
   slot = p.slot;
   handle = p.handle;
-  stands = p.stands;
+  is_stored = p.is_stored;
   holds = pins_hold p.handle.kind p.handle.extra p.pins;
   target = p.target;
 }

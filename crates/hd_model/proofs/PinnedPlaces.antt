@@ -44,7 +44,7 @@ module _ (s : State) (caller h : ℕ) (id : Id) (by : PinsBy s caller h id) wher
   pinned_by_it = record {
     slot = by.slot.0;
     handle = by.handle;
-    stands = by.live;
+    is_stored = by.live;
     pins = by.pins;
     target = by.target;
   }

@@ -34,10 +34,10 @@ pinned_decides t x = (
       let (g, rest) = any_from test (values t.rows) h in
       let (slot, found) = value_found t.rows g rest.0 in
       let (pinning, target) = and_parts (pins g) (is_at x g.target) rest.1 in
-      record { slot = slot; handle = g; stands = found; pins = pinning; target = at_is x g.target target },
+      record { slot = slot; handle = g; is_stored = found; pins = pinning; target = at_is x g.target target },
   λ p.
       any_of (λ (g : Handle Addr). pins g && is_at x g.target) (values t.rows) p.handle
-      (value_of t.rows p.slot p.handle p.stands)
+      (value_of t.rows p.slot p.handle p.is_stored)
       (and_from (pins p.handle) (is_at x p.handle.target) p.pins (is_the_target x p.handle.target p.target)),
 )
 

@@ -4,7 +4,7 @@ use Rattle.hd_model.specs.Data.{Id, Entry, Cmd}
 use Rattle.hd_model.specs.State.{Numbers, Object, State, object_by_id, register_of, with_place}
 use Rattle.hd_model.specs.Places.{IsFreePlace, MayAnswer, is_pinned}
 use Rattle.hd_model.specs.WellFormed.{IsWellFormed}
-use Rattle.hd_model.specs.UserLaws.{TakesCells, HasPlacesApart, PlacesStandApart}
+use Rattle.hd_model.specs.UserLaws.{TakesCells, HasPlacesApart, PinnedObjectsDoNotOverlap}
 use Rattle.hd_model.proofs.ReadAfterWrite.{write_cases}
 use Rattle.hd_model.proofs.StepChains.{chain_keeps}
 use Rattle.hd_model.proofs.WellFormedSteps.{step_keeps, start_is_well_formed}
@@ -52,10 +52,10 @@ module _ (n : Numbers) (s : State) (w : IsWellFormed n s) (e : Entry) where
       → get s.places id.0 ≡ Some a → TakesCells s id a b
   before c t does id a b takes is = record {
     object = object_by_id s id;
-    stands = placed id a is;
+    is_stored = placed id a is;
     place = is;
     end_is = takes.end_is ∙ ap (λ k. a + (k + 3))
-        (fields_alike c t does id (object_by_id s id) takes.object (placed id a is) takes.stands);
+        (fields_alike c t does id (object_by_id s id) takes.object (placed id a is) takes.is_stored);
   }
 
   -- an object that gets a pinned address now is apart from those that have one
@@ -64,9 +64,10 @@ module _ (n : Numbers) (s : State) (w : IsWellFormed n s) (e : Entry) where
   fresh_apart id other p a b c d none may takes same has =
       let free : IsFreePlace s id p =
       subst (λ o. MatchOption o (IsFreePlace s id p) (λ own. p ≡ own)) none may in
-      let mine : object_by_id s id ≡ takes.object = held (get s.objects id.0) takes.object _ takes.stands in
+      let mine : object_by_id s id ≡ takes.object =
+      held (get s.objects id.0) takes.object _ takes.is_stored in
       let other's : object_by_id s other ≡ has.object = held
-      (get s.objects other.0) has.object _ has.stands in
+      (get s.objects other.0) has.object _ has.is_stored in
       let first_end : p + (length (object_by_id s id).fields + 3) ≡ b =
       (λ i. same i + (length (mine i).fields + 3)) ∙ sym takes.end_is in
       let other_end : c + (length (object_by_id s other).fields + 3) ≡ d =
@@ -86,27 +87,27 @@ module _ (n : Numbers) (s : State) (w : IsWellFormed n s) (e : Entry) where
           let same : p ≡ own = subst (λ o. MatchOption o (IsFreePlace s id p) (λ own. p ≡ own)) some may in
           subst (λ k. k < 2 ^ 32) (sym same) (old.small id own _ (record {
             object = object_by_id s id;
-            stands = placed id own some;
+            is_stored = placed id own some;
             place = some;
             end_is = refl;
           }))
 
   -- a pinned address after `addr`: that of the object is the returned one
   data Was (id : Id) (p : ℕ) (x : Id) (a : ℕ) : Type 0 where
-    stood : get s.places x.0 ≡ Some a → Was id p x a
+    was_stored : get s.places x.0 ≡ Some a → Was id p x a
     came : x ≡ id → p ≡ a → get s.places id.0 ≡ None → Was id p x a
 
   was : (id : Id) (p : ℕ) → MayAnswer s id p → (x : Id) (a : ℕ) → get (insert s.places id.0 p) x.0 ≡ Some a
       → Was id p x a
   was id p may x a =
       write_cases s.places id.0 (λ o. o ≡ Some a → Was id p x a) p x.0
-      (λ same is. by (same_id x id same) (same_Some p a is) (get s.places id.0) refl) (λ is. stood is)
+      (λ same is. by (same_id x id same) (same_Some p a is) (get s.places id.0) refl) (λ is. was_stored is)
     where
       by : x ≡ id → p ≡ a → (o : Option ℕ) → get s.places id.0 ≡ o → Was id p x a
       by same number None none = came same number none
       by same number (Some own) some =
           let here : p ≡ own = subst (λ o. MatchOption o (IsFreePlace s id p) (λ own. p ≡ own)) some may in
-          stood (ap (λ (y : Id). get s.places y.0) same ∙ some ∙ ap Some (sym here ∙ number))
+          was_stored (ap (λ (y : Id). get s.places y.0) same ∙ some ∙ ap Some (sym here ∙ number))
 
   -- the same, where no pinned address is new
   all_stood : (c : Cmd) (t : State) → Effect n s e c t
@@ -131,7 +132,7 @@ module _ (n : Numbers) (s : State) (w : IsWellFormed n s) (e : Entry) where
   }
     where
       few : (x : Id) (a : ℕ) → Was id p x a → (b : ℕ) → TakesCells (with_place s id p) x a b → a < 2 ^ 32
-      few x a (stood is) b takes = old.small x a b (before c (with_place s id p) does x a b takes is)
+      few x a (was_stored is) b takes = old.small x a b (before c (with_place s id p) does x a b takes is)
       few x a (came same number none) b takes = subst (λ k. k < 2 ^ 32) number (answered id p may old)
 
       new : (x : Id) (a b : ℕ) → x ≡ id → TakesCells (with_place s id p) x a b
@@ -140,13 +141,13 @@ module _ (n : Numbers) (s : State) (w : IsWellFormed n s) (e : Entry) where
 
       pair : (x y : Id) (a b f g : ℕ) → TakesCells (with_place s id p) x a b
           → TakesCells (with_place s id p) y f g → x ≢ y → Was id p x a → Was id p y f → (b ≤ f) ⊎ (g ≤ a)
-      pair x y a b f g takes other ne (stood is) (stood are) =
+      pair x y a b f g takes other ne (was_stored is) (was_stored are) =
           old.apart x y a b f g (before c (with_place s id p) does x a b takes is)
           (before c (with_place s id p) does y f g other are) ne
-      pair x y a b f g takes other ne (came same number none) (stood are) =
+      pair x y a b f g takes other ne (came same number none) (was_stored are) =
           fresh_apart id y p a b f g none may (new x a b same takes) number
           (before c (with_place s id p) does y f g other are)
-      pair x y a b f g takes other ne (stood is) (came same number none) =
+      pair x y a b f g takes other ne (was_stored is) (came same number none) =
           swap (fresh_apart id x p f g a b none may (new y f g same other) number
           (before c (with_place s id p) does x a b takes is))
       pair x y a b f g takes other ne (came same number none) (came again _ _) = absurd (ne (same
@@ -165,8 +166,8 @@ module _ (n : Numbers) (s : State) (w : IsWellFormed n s) (e : Entry) where
   effect_apart c t does old = all_stood c t does (λ x a is. subst (λ
       (m : FinMap nat_cmp ℕ). get m x.0 ≡ Some a) refl is) old
 
-pub places_stand_apart : PlacesStandApart
-places_stand_apart n journal s run =
+pub pinned_objects_do_not_overlap : PinnedObjectsDoNotOverlap
+pinned_objects_do_not_overlap n journal s run =
     (chain_keeps (λ x. IsWellFormed n x × HasPlacesApart x)
     (λ x e y step w. (
       step_keeps n x y e w.0 step,

@@ -5,13 +5,13 @@ use Rattle.hd_model.specs.State.{Object, Handle, State, secondary_of}
 use Rattle.hd_model.specs.Role.{Role, holds, short, long, attaches, role}
 use Rattle.hd_model.specs.Leads.{Leads}
 use Rattle.hd_model.specs.Scene.{scene_of, is_object, fields_in, generation_at, IsWhole}
-use Rattle.hd_model.specs.Reach.{IsAttached, IsHeld, IsRoot, named, queued, held, older, IsReached, IsRevived, IsKept}
+use Rattle.hd_model.specs.Reach.{IsAttached, IsHeld, IsRoot, named, queued, held, older, IsReached, IsToBeFinalized, IsKept}
 use Rattle.hd_model.specs.Collect.{is_attaching}
 use Rattle.hd_model.specs.Places.{is_target}
 use Rattle.hd_model.proofs.Members.{mapped_in}
 use Rattle.hd_model.proofs.Entries.{some_value, entry_of, value_of, value_found}
 use Rattle.hd_model.proofs.PinTest.{target_is, is_the_target}
-use Rattle.hd_model.proofs.SceneCollection.{root_object, arrow_object, reached_object}
+use Rattle.hd_model.proofs.SceneCollection.{root_object, edge_object, reached_object}
 use Rattle.hd_model.proofs.Reachability.{decides_or, decides_and, decides_like, decides_any, through, decides_led}
 use Rattle.hd_model.proofs.UseChains.{Edge}
 
@@ -94,13 +94,13 @@ module _ (s : State) where
       (λ h. record {
         slot = h.0;
         handle = h.1.0;
-        stands = h.1.1.0;
+        is_stored = h.1.1.0;
         attaches = h.1.1.1.0;
         target = h.1.1.1.1.0;
         secondary = h.1.1.1.1.1;
       })
       (λ (a : IsAttached (scene_of s).handle x y).
-      (a.slot, (a.handle, (a.stands, (a.attaches, (a.target, a.secondary))))))
+      (a.slot, (a.handle, (a.is_stored, (a.attaches, (a.target, a.secondary))))))
       (handle_decides
       (λ h. (role h ≡ attaches) × ((h.target ≡ Some x) × (secondary_of h.extra ≡ Some y))) (attaching x y)
       (λ h. decides_and (is_attaching (role h))
@@ -118,11 +118,11 @@ module _ (s : State) where
       (λ h. record {
         slot = h.0;
         handle = h.1.0;
-        stands = h.1.1.0;
+        is_stored = h.1.1.0;
         holds = h.1.1.1.0;
         target = h.1.1.1.1;
       })
-      (λ (h : IsHeld (scene_of s).handle x). (h.slot, (h.handle, (h.stands, (h.holds, h.target)))))
+      (λ (h : IsHeld (scene_of s).handle x). (h.slot, (h.handle, (h.is_stored, (h.holds, h.target)))))
       (handle_decides (λ h. (role h ≡ holds) × (h.target ≡ Some x)) (holding x)
       (λ h. decides_and (is_holding (role h)) (is_target x.0 h.target) (holding_is (role h))
       (target_decides x h.target)))
@@ -176,15 +176,15 @@ module _ (s : State) where
     pub is_reach : Id → Bool
     is_reach = is_led is_root
 
-    revives : Option (Object Id) → Bool → Bool
-    revives None reached = false
-    revives (Some o) reached = o.registered && (nat_le o.generation n && not reached)
+    resurrects : Option (Object Id) → Bool → Bool
+    resurrects None reached = false
+    resurrects (Some o) reached = o.registered && (nat_le o.generation n && not reached)
 
-    pub is_revived : Id → Bool
-    is_revived x = revives (get s.objects x.0) (is_reach x)
+    pub is_resurrected : Id → Bool
+    is_resurrected x = resurrects (get s.objects x.0) (is_reach x)
 
     pub is_kept : Id → Bool
-    is_kept = is_led (λ x. is_reach x || is_revived x)
+    is_kept = is_led (λ x. is_reach x || is_resurrected x)
 
     module _ (w : IsWhole (scene_of s)) where
       led_is : (Start : Id → Type 0) (start : Id → Bool) → ((x : Id) → Decides (start x) (Start x))
@@ -194,30 +194,30 @@ module _ (s : State) where
       led_is Start start start_is objects y =
           decides_led (Edge s) same_id is_edge same_is edge_is ids
           (λ x. is_object (scene_of s).object x ≡ true) in_ids
-          (λ x z h e. arrow_object n (scene_of s) w x z e) Start start start_is objects y
+          (λ x z h e. edge_object n (scene_of s) w x z e) Start start start_is objects y
 
       pub reach_is : (x : Id) → Decides (is_reach x) (IsReached (scene_of s) n x)
       unfolding is_reach
       reach_is x = led_is (IsRoot (scene_of s) n) is_root root_is (root_object n (scene_of s) w) x
 
-      revives_is : (x : Id) (o : Option (Object Id)) → get s.objects x.0 ≡ o
-          → Decides (revives o (is_reach x)) (IsRevived (scene_of s) n x)
-      unfolding revives
-      revives_is x None e = (
+      resurrects_is : (x : Id) (o : Option (Object Id)) → get s.objects x.0 ≡ o
+          → Decides (resurrects o (is_reach x)) (IsToBeFinalized (scene_of s) n x)
+      unfolding resurrects
+      resurrects_is x None e = (
         λ h. absurd (false≢true h),
-        λ v. absurd (false≢true (sym (ap is_some e) ∙ ap is_some v.stands)),
+        λ v. absurd (false≢true (sym (ap is_some e) ∙ ap is_some v.is_stored)),
       )
-      revives_is x (Some o) e =
+      resurrects_is x (Some o) e =
           decides_like (o.registered && (nat_le o.generation n && not (is_reach x)))
           (λ h. record {
             object = o;
-            stands = e;
+            is_stored = e;
             registered = h.0;
             young = h.1.0;
             lost = h.1.1;
           })
-          (λ (v : IsRevived (scene_of s) n x).
-          let same : v.object ≡ o = same_Some v.object o (sym v.stands ∙ e) in (
+          (λ (v : IsToBeFinalized (scene_of s) n x).
+          let same : v.object ≡ o = same_Some v.object o (sym v.is_stored ∙ e) in (
             ap (λ (q : Object Id). q.registered) (sym same) ∙ v.registered,
             (subst (λ (q : Object Id). q.generation ≤ n) same v.young, v.lost),
           ))
@@ -233,15 +233,15 @@ module _ (s : State) where
           not_true true h = absurd (false≢true h)
           not_true false h = refl
 
-      pub revived_is : (x : Id) → Decides (is_revived x) (IsRevived (scene_of s) n x)
-      unfolding is_revived
-      revived_is x = revives_is x (get s.objects x.0) refl
+      pub resurrected_is : (x : Id) → Decides (is_resurrected x) (IsToBeFinalized (scene_of s) n x)
+      unfolding is_resurrected
+      resurrected_is x = resurrects_is x (get s.objects x.0) refl
 
       pub kept_is : (x : Id) → Decides (is_kept x) (IsKept (scene_of s) n x)
       unfolding is_kept
       kept_is x =
-          led_is (λ r. IsReached (scene_of s) n r ⊎ IsRevived (scene_of s) n r)
-          (λ r. is_reach r || is_revived r)
-          (λ r. decides_or (is_reach r) (is_revived r) (reach_is r) (revived_is r))
+          led_is (λ r. IsReached (scene_of s) n r ⊎ IsToBeFinalized (scene_of s) n r)
+          (λ r. is_reach r || is_resurrected r)
+          (λ r. decides_or (is_reach r) (is_resurrected r) (reach_is r) (resurrected_is r))
           (λ r h. ⊎_elim (λ a. reached_object n (scene_of s) w r a)
-          (λ (v : IsRevived (scene_of s) n r). ap is_some v.stands) h) x
+          (λ (v : IsToBeFinalized (scene_of s) n r). ap is_some v.is_stored) h) x

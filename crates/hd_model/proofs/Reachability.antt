@@ -3,7 +3,7 @@ use Rattle.hd_model.proofs.Basics.{◌≡◌, Bool, true, ◌||◌, ◌&&◌, Li
 use Rattle.hd_model.specs.Leads.{Leads}
 use Rattle.hd_model.proofs.Members.{not_in_none, member_cases}
 use Rattle.hd_model.proofs.Entries.{any_from, any_of}
-use Rattle.hd_model.proofs.EdgeChains.{one_arrow, leads_on}
+use Rattle.hd_model.proofs.EdgeChains.{one_edge, leads_on}
 
 -- one test or another, and one with another
 pub decides_or : {P Q : Type 0} (a b : Bool) → Decides a P → Decides b Q → Decides (a || b) (P ⊎ Q)
@@ -40,7 +40,7 @@ module _ {N : Type 0} (E : N → N → Type 0) (same step : N → N → Bool)
   through_from : (vs : List N) (x y : N) → through vs x y ≡ true → Leads E x y
   through_from [] x y h =
       ⊎_elim (λ e. subst (λ z. Leads E x z) ((same_is x y).0 e) Leads.here)
-      (λ e. one_arrow E ((step_is x y).0 e))
+      (λ e. one_edge E ((step_is x y).0 e))
       (or_cases (same x y) (step x y) h)
   through_from (v ∷ vs) x y h =
       ⊎_elim (λ e. through_from vs x y e)

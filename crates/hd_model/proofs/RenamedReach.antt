@@ -5,12 +5,12 @@ use Rattle.hd_model.specs.State.{Object, Extra, nothing, strength, secondary, co
 use Rattle.hd_model.specs.Role.{holds, attaches, role_of, role}
 use Rattle.hd_model.specs.Leads.{Leads}
 use Rattle.hd_model.specs.Scene.{Scene, is_object, fields_in, generation_in, generation_at, IsField, IsWhole, IsReading}
-use Rattle.hd_model.specs.Reach.{IsAttached, IsEdge, IsRoot, named, queued, held, older, IsReached, IsRevived, IsKept}
+use Rattle.hd_model.specs.Reach.{IsAttached, IsEdge, IsRoot, named, queued, held, older, IsReached, IsToBeFinalized, IsKept}
 use Rattle.hd_model.proofs.RenamedPins.{role_renamed}
 use Rattle.hd_model.proofs.EdgeChains.{leads_turn, leads_lift}
 use Rattle.hd_model.proofs.Members.{mapped_in, mapped_from}
 use Rattle.hd_model.proofs.Entries.{some_value}
-use Rattle.hd_model.proofs.SceneCollection.{mapped_value, root_object, arrow_object, reached_object}
+use Rattle.hd_model.proofs.SceneCollection.{mapped_value, root_object, edge_object, reached_object}
 
 -- a secondary is renamed as a target is
 pub secondary_renamed : {N M : Type 0} (f : N → M) (e : Extra N)
@@ -56,7 +56,7 @@ module _ {N M : Type 0} (f : N → M) (n : ℕ) (s : Scene N) (t : Scene M) (w :
   root_read x (held h) = held (record {
     slot = h.slot;
     handle = rename_handle f h.handle;
-    stands = handle_read f s t g h.slot h.handle h.stands;
+    is_stored = handle_read f s t g h.slot h.handle h.is_stored;
     holds = role_renamed f h.handle.kind h.handle.extra ∙ h.holds;
     target = ap (option_map f) h.target;
   })
@@ -74,21 +74,21 @@ module _ {N M : Type 0} (f : N → M) (n : ℕ) (s : Scene N) (t : Scene M) (w :
   attached_read x y a = record {
     slot = a.slot;
     handle = rename_handle f a.handle;
-    stands = handle_read f s t g a.slot a.handle a.stands;
+    is_stored = handle_read f s t g a.slot a.handle a.is_stored;
     attaches = role_renamed f a.handle.kind a.handle.extra ∙ a.attaches;
     target = ap (option_map f) a.target;
     secondary = secondary_renamed f a.handle.extra ∙ ap (option_map f) a.secondary;
   }
 
-  arrow_read : (x y : N) → is_object s.object x ≡ true → IsEdge s.object s.handle x y
+  edge_read : (x y : N) → is_object s.object x ≡ true → IsEdge s.object s.handle x y
       → IsEdge t.object t.handle (f x) (f y)
-  arrow_read x y h a = ⊎_elim (λ c. inl (field_read x y h c)) (λ d. inr (attached_read x y d)) a
+  edge_read x y h a = ⊎_elim (λ c. inl (field_read x y h c)) (λ d. inr (attached_read x y d)) a
 
   chain_read : {x y : N} → is_object s.object x ≡ true → Leads (IsEdge s.object s.handle) x y
       → Leads (IsEdge t.object t.handle) (f x) (f y)
   chain_read h chain =
       (leads_turn (IsEdge s.object s.handle) (IsEdge t.object t.handle) f (λ x. is_object s.object x ≡ true)
-      (λ x y k a. arrow_object n s w x y a) arrow_read h chain).1
+      (λ x y k a. edge_object n s w x y a) edge_read h chain).1
 
   -- and back: a root of t is the new name of one, and an edge in t from an object of s is one of s
   abbrev pub Called : (N → Type 0) → M → Type 0
@@ -105,7 +105,7 @@ module _ {N M : Type 0} (f : N → M) (n : ℕ) (s : Scene N) (t : Scene M) (w :
       let (x, rest) = mapped_from f s.queue b (subst (λ xs. Contains xs b) g.queue h) in
       (x, (w.queue x rest.0, (queued rest.0, rest.1)))
   root_unread b (held h) =
-      let (o, both) = handle_unread f s t g h.slot h.handle h.stands in
+      let (o, both) = handle_unread f s t g h.slot h.handle h.is_stored in
       let (x, at) = mapped_value f o.target b (ap (λ (q : Handle M). q.target) both.1 ∙ h.target) in
       let holding : role o ≡ holds = sym (role_renamed f o.kind o.extra)
       ∙ ap (λ (q : Handle M). role q) both.1 ∙ h.holds in (
@@ -113,7 +113,7 @@ module _ {N M : Type 0} (f : N → M) (n : ℕ) (s : Scene N) (t : Scene M) (w :
         (
           w.targets h.slot o x both.0 at.0,
           (
-            held (record { slot = h.slot; handle = o; stands = both.0; holds = holding; target = at.0 }),
+            held (record { slot = h.slot; handle = o; is_stored = both.0; holds = holding; target = at.0 }),
             at.1,
           ),
         ),
@@ -135,9 +135,9 @@ module _ {N M : Type 0} (f : N → M) (n : ℕ) (s : Scene N) (t : Scene M) (w :
       object_older None l = absurd (omega arith)
       object_older (Some o) l = refl
 
-  arrow_unread : (x : N) (b : M) → is_object s.object x ≡ true → IsEdge t.object t.handle (f x) b
+  edge_unread : (x : N) (b : M) → is_object s.object x ≡ true → IsEdge t.object t.handle (f x) b
       → (y : N) × ((is_object s.object y ≡ true) × (IsEdge s.object s.handle x y × (f y ≡ b)))
-  arrow_unread x b h a = ⊎_elim by_field by_handle a
+  edge_unread x b h a = ⊎_elim by_field by_handle a
     where
       by_field : IsField t.object (f x) b → (y : N)
           × ((is_object s.object y ≡ true) × (IsEdge s.object s.handle x y × (f y ≡ b)))
@@ -155,7 +155,7 @@ module _ {N M : Type 0} (f : N → M) (n : ℕ) (s : Scene N) (t : Scene M) (w :
       by_handle : IsAttached t.handle (f x) b → (y : N)
           × ((is_object s.object y ≡ true) × (IsEdge s.object s.handle x y × (f y ≡ b)))
       by_handle d =
-          let (o, both) = handle_unread f s t g d.slot d.handle d.stands in
+          let (o, both) = handle_unread f s t g d.slot d.handle d.is_stored in
           let (z, at) = mapped_value f o.target (f x) (ap (λ (q : Handle M). q.target) both.1 ∙ d.target) in
           let (y, second) = mapped_value f (secondary_of o.extra) b
           (sym (secondary_renamed f o.extra) ∙ ap (λ (q : Handle M). secondary_of q.extra) both.1
@@ -170,7 +170,7 @@ module _ {N M : Type 0} (f : N → M) (n : ℕ) (s : Scene N) (t : Scene M) (w :
                 inr (record {
                   slot = d.slot;
                   handle = o;
-                  stands = both.0;
+                  is_stored = both.0;
                   attaches = attaching;
                   target = at.0 ∙ ap (λ v. Some v) same;
                   secondary = second.0;
@@ -188,7 +188,7 @@ module _ {N M : Type 0} (f : N → M) (n : ℕ) (s : Scene N) (t : Scene M) (w :
       let (r, rest) = root_unread h.0 h.1.0 in
       let (y, last) =
       leads_lift (IsEdge s.object s.handle) (IsEdge t.object t.handle) f
-      (λ x. is_object s.object x ≡ true) arrow_unread
+      (λ x. is_object s.object x ≡ true) edge_unread
       r rest.0 rest.1.1 h.1.1 in
       (y, (last.0, ((r, (rest.1.0, last.1.0)), last.1.1)))
 
@@ -199,44 +199,45 @@ module _ {N M : Type 0} (f : N → M) (n : ℕ) (s : Scene N) (t : Scene M) (w :
   pub reached_same : (x : N) → is_object s.object x ≡ true → IsReached t n (f x) → IsReached s n x
   reached_same x h r = back (IsReached s n) x h (reached_unread (f x) r)
 
-  pub revived_read : (x : N) → IsRevived s n x → IsRevived t n (f x)
-  revived_read x v = record {
+  pub resurrected_read : (x : N) → IsToBeFinalized s n x → IsToBeFinalized t n (f x)
+  resurrected_read x v = record {
     object = rename_object f v.object;
-    stands = object_read f s t g x v.object v.stands;
+    is_stored = object_read f s t g x v.object v.is_stored;
     registered = v.registered;
     young = v.young;
-    lost = λ r. v.lost (reached_same x (ap is_some v.stands) r);
+    lost = λ r. v.lost (reached_same x (ap is_some v.is_stored) r);
   }
 
-  pub revived_same : (x : N) → is_object s.object x ≡ true → IsRevived t n (f x) → IsRevived s n x
-  revived_same x h v =
-      let (o, both) = object_unread f s t g x v.object h v.stands in record {
+  pub resurrected_same : (x : N) → is_object s.object x ≡ true → IsToBeFinalized t n (f x)
+      → IsToBeFinalized s n x
+  resurrected_same x h v =
+      let (o, both) = object_unread f s t g x v.object h v.is_stored in record {
         object = o;
-        stands = both.0;
+        is_stored = both.0;
         registered = ap (λ (p : Object M). p.registered) both.1 ∙ v.registered;
         young = subst (λ (p : Object M). p.generation ≤ n) (sym both.1) v.young;
         lost = λ r. v.lost (reached_read x r);
       }
 
-  pub revived_unread : (b : M) → IsRevived t n b → Called (IsRevived s n) b
-  revived_unread b v =
-      let (x, rest) = g.only b (ap is_some v.stands) in
-      (x, (rest.0, (revived_same x rest.0 (subst (IsRevived t n) (sym rest.1) v), rest.1)))
+  pub resurrected_unread : (b : M) → IsToBeFinalized t n b → Called (IsToBeFinalized s n) b
+  resurrected_unread b v =
+      let (x, rest) = g.only b (ap is_some v.is_stored) in
+      (x, (rest.0, (resurrected_same x rest.0 (subst (IsToBeFinalized t n) (sym rest.1) v), rest.1)))
 
-  start_unread : (b : M) → IsReached t n b ⊎ IsRevived t n b
-      → Called (λ x. IsReached s n x ⊎ IsRevived s n x) b
+  start_unread : (b : M) → IsReached t n b ⊎ IsToBeFinalized t n b
+      → Called (λ x. IsReached s n x ⊎ IsToBeFinalized s n x) b
   start_unread b h =
       ⊎_elim (λ r. let (x, rest) = reached_unread b r in (x, (rest.0, (inl rest.1.0, rest.1.1))))
-      (λ v. let (x, rest) = revived_unread b v in (x, (rest.0, (inr rest.1.0, rest.1.1)))) h
+      (λ v. let (x, rest) = resurrected_unread b v in (x, (rest.0, (inr rest.1.0, rest.1.1)))) h
 
-  start_object : (x : N) → IsReached s n x ⊎ IsRevived s n x → is_object s.object x ≡ true
-  start_object x h = ⊎_elim (reached_object n s w x) (λ (v : IsRevived s n x). ap is_some v.stands) h
+  start_object : (x : N) → IsReached s n x ⊎ IsToBeFinalized s n x → is_object s.object x ≡ true
+  start_object x h = ⊎_elim (reached_object n s w x) (λ (v : IsToBeFinalized s n x). ap is_some v.is_stored) h
 
   pub kept_read : (x : N) → IsKept s n x → IsKept t n (f x)
   kept_read x h = (
     f h.0,
     (
-      ⊎_elim (λ r. inl (reached_read h.0 r)) (λ v. inr (revived_read h.0 v)) h.1.0,
+      ⊎_elim (λ r. inl (reached_read h.0 r)) (λ v. inr (resurrected_read h.0 v)) h.1.0,
       chain_read
           (start_object h.0 h.1.0) h.1.1,
     ),
@@ -247,7 +248,7 @@ module _ {N M : Type 0} (f : N → M) (n : ℕ) (s : Scene N) (t : Scene M) (w :
       let (r, rest) = start_unread h.0 h.1.0 in
       let (y, last) =
       leads_lift (IsEdge s.object s.handle) (IsEdge t.object t.handle) f
-      (λ x. is_object s.object x ≡ true) arrow_unread
+      (λ x. is_object s.object x ≡ true) edge_unread
       r rest.0 rest.1.1 h.1.1 in
       (y, (last.0, ((r, (rest.1.0, last.1.0)), last.1.1)))
 

@@ -29,7 +29,8 @@ had_target attaches reach kept o h = lost_some kept o h
 module _ {N : Type 0} (rank : N → ℕ) (n : ℕ) (s t : Scene N) (r : Report) (w : IsWhole s)
     (c : Collects rank n s t r) where
   pub gone : (x : N) → c.kept x ≡ false → t.object x ≡ None
-  gone x h = c.objects x ∙ cond-false (c.kept x) (option_map (survivor n (c.revived x)) (s.object x)) None h
+  gone x h =
+      c.objects x ∙ cond-false (c.kept x) (option_map (survivor n (c.resurrected x)) (s.object x)) None h
 
   pub kept_since : (x : N) → is_object t.object x ≡ true → c.kept x ≡ true
   kept_since x h = let (o, e) = some_value (t.object x) h in (object_before rank n s t r w c x o e).0
@@ -77,7 +78,7 @@ module _ {N : Type 0} (rank : N → ℕ) (n : ℕ) (s t : Scene N) (r : Report) 
   pub counts_joins : (apart : (x y : N) → rank x < rank y → x ≢ y)
       → length t.queue ≡ length s.queue + r.revived
   counts_joins apart =
-      let joined : Counts (λ x. c.revived x ≡ true) (length c.joins) = record {
+      let joined : Counts (λ x. c.resurrected x ≡ true) (length c.joins) = record {
         members = c.joins;
         apart = pairs_like (λ x y. rank x < rank y) (λ x y. x ≢ y) c.joins apart c.rising;
         each = λ x h. (c.joins_are x).1 h;
@@ -86,7 +87,7 @@ module _ {N : Type 0} (rank : N → ℕ) (n : ℕ) (s t : Scene N) (r : Report) 
       } in
       ap length c.queue ∙ length-append s.queue c.joins
       ∙ ap (λ k. length s.queue + k)
-      (counts_once (λ x. c.revived x ≡ true) (length c.joins) r.revived joined c.report_is.revived)
+      (counts_once (λ x. c.resurrected x ≡ true) (length c.joins) r.revived joined c.report_is.resurrected)
 
 -- a loss by the sets is a loss that the states show
 module _ (n : ℕ) (s t : State) (r : Report) (w : IsWhole (scene_of s))
@@ -94,25 +95,25 @@ module _ (n : ℕ) (s t : State) (r : Report) (w : IsWhole (scene_of s))
   loss_shown : (slot : ℕ) → LosesAs (scene_of s) c.reach c.kept wanted slot → LosesTarget s t wanted slot
   loss_shown slot l = record {
     old = l.handle;
-    stood = l.stands;
+    was_stored = l.is_stored;
     role_is = l.role_is;
     had = had_target (role l.handle) c.reach c.kept l.handle.target l.loses;
     new = cleared c.reach c.kept l.handle;
-    stands = c.handles slot ∙ ap (option_map (cleared c.reach c.kept)) l.stands;
+    is_stored = c.handles slot ∙ ap (option_map (cleared c.reach c.kept)) l.is_stored;
     lost = cond-true (loses c.reach c.kept l.handle) None l.handle.target l.loses;
   }
 
   loss_meant : (slot : ℕ) → LosesTarget s t wanted slot → LosesAs (scene_of s) c.reach c.kept wanted slot
   loss_meant slot l = record {
     handle = l.old;
-    stands = l.stood;
+    is_stored = l.was_stored;
     role_is = l.role_is;
     loses =
         meant (loses c.reach c.kept l.old) refl;
   }
     where
       after : get t.handles slot ≡ Some (cleared c.reach c.kept l.old)
-      after = c.handles slot ∙ ap (option_map (cleared c.reach c.kept)) l.stood
+      after = c.handles slot ∙ ap (option_map (cleared c.reach c.kept)) l.was_stored
 
       meant : (b : Bool) → loses c.reach c.kept l.old ≡ b → b ≡ true
       meant true e = refl
@@ -122,7 +123,7 @@ module _ (n : ℕ) (s t : State) (r : Report) (w : IsWhole (scene_of s))
           cond-false (loses c.reach c.kept l.old) None l.old.target e ∙ at in
           absurd (none-some x (sym l.lost
           ∙ ap (λ (h : Handle Id). h.target)
-          (same_Some l.new (cleared c.reach c.kept l.old) (sym l.stands ∙ after)) ∙ stays))
+          (same_Some l.new (cleared c.reach c.kept l.old) (sym l.is_stored ∙ after)) ∙ stays))
 
   pub counts_losses : (k : ℕ) → Counts (LosesAs (scene_of s) c.reach c.kept wanted) k
       → Counts (LosesTarget s t wanted) k
@@ -160,6 +161,6 @@ report_says m n s t r h =
       short = counts_losses n s t r w c short r.short c.report_is.short;
       long = counts_losses n s t r w c long r.long c.report_is.long;
       dep = counts_losses n s t r w c attaches r.dep c.report_is.dep;
-      revived = counts_joins rank n (scene_of s) (scene_of t) r w c
+      resurrected = counts_joins rank n (scene_of s) (scene_of t) r w c
           (λ x y low same. let tied : x.0 ≡ y.0 = ap (λ (z : Id). z.0) same in absurd (omega arith));
     }

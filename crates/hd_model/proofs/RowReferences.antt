@@ -23,11 +23,11 @@ module _ {N : Type 0} (before after : Rows N) where
       → ((h : Handle N) (x : N) → secondary_of (f h).extra ≡ Some x → secondary_of h.extra ≡ Some x)
       → Fades before after
   fades_by f rows target second = record {
-    targets = λ slot h x stands e.
-        let (g, both) = mapped_value f (before slot) h (sym (rows slot) ∙ stands) in
+    targets = λ slot h x is_stored e.
+        let (g, both) = mapped_value f (before slot) h (sym (rows slot) ∙ is_stored) in
         (g, (both.0, target g x (ap (λ (q : Handle N). q.target) both.1 ∙ e)));
-    secondaries = λ slot h x stands e.
-        let (g, both) = mapped_value f (before slot) h (sym (rows slot) ∙ stands) in
+    secondaries = λ slot h x is_stored e.
+        let (g, both) = mapped_value f (before slot) h (sym (rows slot) ∙ is_stored) in
         (g, (both.0, second g x (ap (λ (q : Handle N). secondary_of q.extra) both.1 ∙ e)));
   }
 
@@ -40,16 +40,16 @@ module _ {N : Type 0} (before after : Rows N) where
   module _ (o : Objects N) (f : Fades before after) where
     pub faded_names : NamesObjects o before → NamesObjects o after
     faded_names w = record {
-      targets = λ slot h x stands e.
-          let (g, both) = f.targets slot h x stands e in w.targets slot g x both.0 both.1;
-      secondaries = λ slot h x stands e.
-          let (g, both) = f.secondaries slot h x stands e in w.secondaries slot g x both.0 both.1;
+      targets = λ slot h x is_stored e.
+          let (g, both) = f.targets slot h x is_stored e in w.targets slot g x both.0 both.1;
+      secondaries = λ slot h x is_stored e.
+          let (g, both) = f.secondaries slot h x is_stored e in w.secondaries slot g x both.0 both.1;
     }
 
     pub faded_ages : (ages : List ℕ) → HasSoundAges o before ages → HasSoundAges o after ages
     faded_ages ages w = record {
-      targets = λ slot h x stands e.
-          let (g, both) = f.targets slot h x stands e in w.targets slot g x both.0 both.1;
-      secondaries = λ slot h x stands e.
-          let (g, both) = f.secondaries slot h x stands e in w.secondaries slot g x both.0 both.1;
+      targets = λ slot h x is_stored e.
+          let (g, both) = f.targets slot h x is_stored e in w.targets slot g x both.0 both.1;
+      secondaries = λ slot h x is_stored e.
+          let (g, both) = f.secondaries slot h x is_stored e in w.secondaries slot g x both.0 both.1;
     }

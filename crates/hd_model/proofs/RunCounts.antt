@@ -187,7 +187,7 @@ module _ (n : Numbers) (s : State) (e : Entry) (w : IsWellFormed n s) where
       omega arith
   removes c t (collects {k = k} did) =
       let fall = objects_fall n k s t e w did in
-      let told = ap removed_in did.reply in
+      let in_reply = ap removed_in did.reply in
       omega arith
   removes c t (gets_field {i = i} id f l p) = ap (λ x. len s.objects + x)
       (ap removed_in p ∙ loaded_removes (field_of (object_by_id s id) i))

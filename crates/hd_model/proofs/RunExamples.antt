@@ -205,7 +205,7 @@ has_place = get_inserted s2.places first.0 256
 pub takes_cells : TakesCells s4 first 256 260
 takes_cells = record {
   object = fresh_object 1 true;
-  stands = get_inserted s0.objects first.0 (fresh_object 1 true);
+  is_stored = get_inserted s0.objects first.0 (fresh_object 1 true);
   place = has_place;
   end_is = refl;
 }

@@ -5,7 +5,7 @@ use Rattle.hd_model.specs.State.{Object, Extra, secondary, Handle, secondary_of}
 use Rattle.hd_model.specs.Role.{Role, holds, short, long, attaches, role_of, role}
 use Rattle.hd_model.specs.Leads.{Leads}
 use Rattle.hd_model.specs.Scene.{Scene, is_object, fields_in, generation_in, IsField, IsWhole}
-use Rattle.hd_model.specs.Reach.{IsAttached, IsEdge, IsRoot, named, queued, held, older, IsReached, IsRevived, IsKept}
+use Rattle.hd_model.specs.Reach.{IsAttached, IsEdge, IsRoot, named, queued, held, older, IsReached, IsToBeFinalized, IsKept}
 use Rattle.hd_model.specs.Collect.{is_lost, loses_by, loses, is_attaching, cleared, survivor, Collects}
 use Rattle.hd_model.proofs.Members.{not_in_none}
 use Rattle.hd_model.proofs.Entries.{some_value}
@@ -72,25 +72,26 @@ module _ {N : Type 0} (n : ℕ) (s : Scene N) (w : IsWhole s) where
   pub root_object : (x : N) → IsRoot s n x → is_object s.object x ≡ true
   root_object x (named h) = w.named x h
   root_object x (queued h) = w.queue x h
-  root_object x (held h) = w.targets h.slot h.handle x h.stands h.target
+  root_object x (held h) = w.targets h.slot h.handle x h.is_stored h.target
   root_object x (older l) = some_older (s.object x) l
 
-  pub arrow_object : (x y : N) → IsEdge s.object s.handle x y → is_object s.object y ≡ true
-  arrow_object x y a =
+  pub edge_object : (x y : N) → IsEdge s.object s.handle x y → is_object s.object y ≡ true
+  edge_object x y a =
       ⊎_elim (λ f. w.fields x y f) (λ (d : IsAttached s.handle x y).
-      w.secondaries d.slot d.handle y d.stands d.secondary) a
+      w.secondaries d.slot d.handle y d.is_stored d.secondary) a
 
   pub leads_object : {x y : N} → is_object s.object x ≡ true → Leads (IsEdge s.object s.handle) x y
       → is_object s.object y ≡ true
   leads_object h Leads.here = h
-  leads_object h (Leads.more {y = y} {z = z} chain e) = arrow_object y z e
+  leads_object h (Leads.more {y = y} {z = z} chain e) = edge_object y z e
 
   pub reached_object : (x : N) → IsReached s n x → is_object s.object x ≡ true
   reached_object x h = leads_object (root_object h.0 h.1.0) h.1.1
 
   pub kept_object : (x : N) → IsKept s n x → is_object s.object x ≡ true
   kept_object x h =
-      leads_object (⊎_elim (λ a. reached_object h.0 a) (λ (v : IsRevived s n h.0). ap is_some v.stands) h.1.0)
+      leads_object
+      (⊎_elim (λ a. reached_object h.0 a) (λ (v : IsToBeFinalized s n h.0). ap is_some v.is_stored) h.1.0)
       h.1.1
 
 -- what is reached is closed under edges and kept, and so is what is resurrected
@@ -104,8 +105,8 @@ module _ {N : Type 0} (n : ℕ) (s : Scene N) where
   pub reached_kept : (x : N) → IsReached s n x → IsKept s n x
   reached_kept x h = (x, (inl h, Leads.here))
 
-  pub revived_kept : (x : N) → IsRevived s n x → IsKept s n x
-  revived_kept x h = (x, (inr h, Leads.here))
+  pub resurrected_kept : (x : N) → IsToBeFinalized s n x → IsKept s n x
+  resurrected_kept x h = (x, (inr h, Leads.here))
 
   pub kept_on : (x y : N) → IsKept s n x → IsEdge s.object s.handle x y → IsKept s n y
   kept_on x y h a = (h.0, (h.1.0, Leads.more h.1.1 a))
@@ -118,22 +119,23 @@ module _ {N : Type 0} (rank : N → ℕ) (n : ℕ) (s t : Scene N) (r : Report) 
   pub keeps_reached : (x : N) → c.reach x ≡ true → c.kept x ≡ true
   keeps_reached x h = (c.kept_is x).1 (reached_kept n s x ((c.reach_is x).0 h))
 
-  pub keeps_revived : (x : N) → c.revived x ≡ true → c.kept x ≡ true
-  keeps_revived x h = (c.kept_is x).1 (revived_kept n s x ((c.revived_is x).0 h))
+  pub keeps_resurrected : (x : N) → c.resurrected x ≡ true → c.kept x ≡ true
+  keeps_resurrected x h = (c.kept_is x).1 (resurrected_kept n s x ((c.resurrected_is x).0 h))
 
-  pub keeps_arrow : (x y : N) → c.kept x ≡ true → IsEdge s.object s.handle x y → c.kept y ≡ true
-  keeps_arrow x y h a = (c.kept_is y).1 (kept_on n s x y ((c.kept_is x).0 h) a)
+  pub keeps_edge : (x y : N) → c.kept x ≡ true → IsEdge s.object s.handle x y → c.kept y ≡ true
+  keeps_edge x y h a = (c.kept_is y).1 (kept_on n s x y ((c.kept_is x).0 h) a)
 
   -- an object after the collection was one before it and is kept, and a kept object is one after it
   pub object_before : (x : N) (o : Object N) → t.object x ≡ Some o
-      → (c.kept x ≡ true) × ((p : Object N) × ((s.object x ≡ Some p) × (survivor n (c.revived x) p ≡ o)))
-  object_before x o e = left_from (c.kept x) (survivor n (c.revived x)) (s.object x) o (sym (c.objects x) ∙ e)
+      → (c.kept x ≡ true) × ((p : Object N) × ((s.object x ≡ Some p) × (survivor n (c.resurrected x) p ≡ o)))
+  object_before x o e =
+      left_from (c.kept x) (survivor n (c.resurrected x)) (s.object x) o (sym (c.objects x) ∙ e)
 
   pub object_after : (x : N) (p : Object N) → c.kept x ≡ true → s.object x ≡ Some p
-      → t.object x ≡ Some (survivor n (c.revived x) p)
+      → t.object x ≡ Some (survivor n (c.resurrected x) p)
   object_after x p h e =
-      c.objects x ∙ cond-true (c.kept x) (option_map (survivor n (c.revived x)) (s.object x)) None h
-      ∙ ap (option_map (survivor n (c.revived x))) e
+      c.objects x ∙ cond-true (c.kept x) (option_map (survivor n (c.resurrected x)) (s.object x)) None h
+      ∙ ap (option_map (survivor n (c.resurrected x))) e
 
   pub still_object : (x : N) → c.kept x ≡ true → is_object t.object x ≡ true
   still_object x h =
@@ -148,22 +150,22 @@ module _ {N : Type 0} (rank : N → ℕ) (n : ℕ) (s t : Scene N) (r : Report) 
   pub target_kept : (slot : ℕ) (g : Handle N) (x : N) → s.handle slot ≡ Some g
       → loses c.reach c.kept g ≡ false → g.target ≡ Some x
       → c.kept x ≡ true
-  target_kept slot g x stands stays e =
+  target_kept slot g x is_stored stays e =
       ⊎_elim (λ is_in_use. keeps_root x
-      (held (record { slot = slot; handle = g; stands = stands; holds = is_in_use; target = e })))
+      (held (record { slot = slot; handle = g; is_stored = is_stored; holds = is_in_use; target = e })))
       (λ set. ⊎_elim (keeps_reached x) (λ k. k) set) (role_cases (role g) c.reach c.kept g.target x stays e)
 
   secondary_by : (slot : ℕ) (g : Handle N) (y : N) → s.handle slot ≡ Some g → is_lost c.kept g.target ≡ false
       → secondary_of g.extra ≡ Some y
       → role g ≡ attaches → (o : Option N) → g.target ≡ o → c.kept y ≡ true
-  secondary_by slot g y stands stays e attached None none =
-      absurd (none-some y (sym (w.paired slot g stands none) ∙ e))
-  secondary_by slot g y stands stays e attached (Some x) some =
-      keeps_arrow x y (not_lost c.kept g.target x stays some)
+  secondary_by slot g y is_stored stays e attached None none =
+      absurd (none-some y (sym (w.paired slot g is_stored none) ∙ e))
+  secondary_by slot g y is_stored stays e attached (Some x) some =
+      keeps_edge x y (not_lost c.kept g.target x stays some)
       (inr (record {
         slot = slot;
         handle = g;
-        stands = stands;
+        is_stored = is_stored;
         attaches = attached;
         target = some;
         secondary =
@@ -173,9 +175,9 @@ module _ {N : Type 0} (rank : N → ℕ) (n : ℕ) (s t : Scene N) (r : Report) 
   pub secondary_kept : (slot : ℕ) (g : Handle N) (y : N) → s.handle slot ≡ Some g
       → (is_attaching (role g) && is_lost c.kept g.target) ≡ false
       → secondary_of g.extra ≡ Some y → c.kept y ≡ true
-  secondary_kept slot g y stands stays e =
-      let attached : role g ≡ attaches = w.fits slot g y stands e in
-      secondary_by slot g y stands (attached_kept (role g) (is_lost c.kept g.target) attached stays) e
+  secondary_kept slot g y is_stored stays e =
+      let attached : role g ≡ attaches = w.fits slot g y is_stored e in
+      secondary_by slot g y is_stored (attached_kept (role g) (is_lost c.kept g.target) attached stays) e
       attached g.target refl
 
   -- a field after the collection is one before, of a kept object
@@ -197,28 +199,28 @@ module _ {N : Type 0} (rank : N → ℕ) (n : ℕ) (s t : Scene N) (r : Report) 
   attached_target : (slot : ℕ) (g : Handle N) (y : N) → s.handle slot ≡ Some g
       → (is_attaching (role g) && is_lost c.kept g.target) ≡ false
       → secondary_of g.extra ≡ Some y → (cleared c.reach c.kept g).target ≡ None → ⊥
-  attached_target slot g y stands stays e none =
-      let attached : role g ≡ attaches = w.fits slot g y stands e in
+  attached_target slot g y is_stored stays e none =
+      let attached : role g ≡ attaches = w.fits slot g y is_stored e in
       let lost : is_lost c.kept g.target ≡ false =
       attached_kept (role g) (is_lost c.kept g.target) attached stays in
       let loses_none : loses c.reach c.kept g ≡ false = ap (λ q. loses_by q c.reach c.kept g.target) attached
       ∙ lost in
       let target_none : g.target ≡ None = sym (cond-false (loses c.reach c.kept g) None g.target loses_none)
       ∙ none in
-      none-some y (sym (w.paired slot g stands target_none) ∙ e)
+      none-some y (sym (w.paired slot g is_stored target_none) ∙ e)
 
   attached_role : (slot : ℕ) (g : Handle N) (y : N) → s.handle slot ≡ Some g
       → (is_attaching (role g) && is_lost c.kept g.target) ≡ false
       → secondary_of g.extra ≡ Some y → role (cleared c.reach c.kept g) ≡ attaches
-  attached_role slot g y stands stays e =
-      ap (λ b. role_of g.kind (cond b (secondary None) g.extra)) stays ∙ w.fits slot g y stands e
+  attached_role slot g y is_stored stays e =
+      ap (λ b. role_of g.kind (cond b (secondary None) g.extra)) stays ∙ w.fits slot g y is_stored e
 
   paired_after : (slot : ℕ) (h : Handle N) → t.handle slot ≡ Some h → h.target ≡ None → (o : Option N)
       → secondary_of h.extra ≡ o
       → secondary_of h.extra ≡ None
-  paired_after slot h stands none None e = e
-  paired_after slot h stands none (Some y) e =
-      let (g, both) = handle_before slot h stands in
+  paired_after slot h is_stored none None e = e
+  paired_after slot h is_stored none (Some y) e =
+      let (g, both) = handle_before slot h is_stored in
       let (stays, before) = cleared_secondary c.reach c.kept g y
       (ap (λ (q : Handle N). secondary_of q.extra) both.1 ∙ e) in
       absurd (attached_target slot g y both.0 stays before (ap (λ (q : Handle N). q.target) both.1 ∙ none))
@@ -227,25 +229,25 @@ module _ {N : Type 0} (rank : N → ℕ) (n : ℕ) (s t : Scene N) (r : Report) 
   pub whole_after : IsWhole t
   whole_after = record {
     fields = λ x y f. let (kept, field) = field_before x y f in
-        still_object y (keeps_arrow x y kept (inl field));
+        still_object y (keeps_edge x y kept (inl field));
     named = λ x h. still_object x (keeps_root x (named (subst (λ xs. Contains xs (Some x)) c.named h)));
     queue = λ x h.
-        still_object x (⊎_elim (λ waits. keeps_root x (queued waits))
-        (λ joined. keeps_revived x ((c.joins_are x).1 joined))
+        still_object x (⊎_elim (λ is_queued. keeps_root x (queued is_queued))
+        (λ joined. keeps_resurrected x ((c.joins_are x).1 joined))
         (Contains-append_cases s.queue c.joins x (subst (λ xs. Contains xs x) c.queue h)));
-    targets = λ slot h x stands target.
-        let (g, both) = handle_before slot h stands in
+    targets = λ slot h x is_stored target.
+        let (g, both) = handle_before slot h is_stored in
         let (stays, before) = cleared_target c.reach c.kept g x
         (ap (λ (q : Handle N). q.target) both.1 ∙ target) in
         still_object x (target_kept slot g x both.0 stays before);
-    secondaries = λ slot h y stands second.
-        let (g, both) = handle_before slot h stands in
+    secondaries = λ slot h y is_stored second.
+        let (g, both) = handle_before slot h is_stored in
         let (stays, before) = cleared_secondary c.reach c.kept g y
         (ap (λ (q : Handle N). secondary_of q.extra) both.1 ∙ second) in
         still_object y (secondary_kept slot g y both.0 stays before);
-    paired = λ slot h stands none. paired_after slot h stands none (secondary_of h.extra) refl;
-    fits = λ slot h y stands second.
-        let (g, both) = handle_before slot h stands in
+    paired = λ slot h is_stored none. paired_after slot h is_stored none (secondary_of h.extra) refl;
+    fits = λ slot h y is_stored second.
+        let (g, both) = handle_before slot h is_stored in
         let (stays, before) = cleared_secondary c.reach c.kept g y
         (ap (λ (q : Handle N). secondary_of q.extra) both.1 ∙ second) in
         subst (λ (q : Handle N). role q ≡ attaches) both.1 (attached_role slot g y both.0 stays before);

@@ -189,20 +189,20 @@ module _ {N M : Type 0} (f : N → M) (s : Scene N) (t : Scene M) (w : IsWhole s
         named_object x y (w.named x (subst (λ q. Contains s.named q) both.0 rest.0)) both.1;
     queue = λ y h. let (x, rest) = mapped_from f s.queue y (subst (λ xs. Contains xs y) a.queue h) in
         named_object x y (w.queue x rest.0) rest.1;
-    targets = λ slot h y stands e.
-        let (g, both) = row_unread slot h stands in
+    targets = λ slot h y is_stored e.
+        let (g, both) = row_unread slot h is_stored in
         let (x, at) = target_unread g h y both.1 e in named_object x y (w.targets slot g x both.0 at.0) at.1;
-    secondaries = λ slot h y stands e.
-        let (g, both) = row_unread slot h stands in
+    secondaries = λ slot h y is_stored e.
+        let (g, both) = row_unread slot h is_stored in
         let (x, at) = secondary_unread g h y both.1 e in
         named_object x y (w.secondaries slot g x both.0 at.0) at.1;
-    paired = λ slot h stands none.
-        let (g, both) = row_unread slot h stands in
+    paired = λ slot h is_stored none.
+        let (g, both) = row_unread slot h is_stored in
         sym (ap (λ (q : Handle M). secondary_of q.extra) both.1) ∙ secondary_renamed f g.extra
         ∙ ap (option_map f) (w.paired slot g both.0
         (none_before g.target (ap (λ (q : Handle M). q.target) both.1 ∙ none)));
-    fits = λ slot h y stands e.
-        let (g, both) = row_unread slot h stands in
+    fits = λ slot h y is_stored e.
+        let (g, both) = row_unread slot h is_stored in
         let (x, at) = secondary_unread g h y both.1 e in
         sym (ap (λ (q : Handle M). role q) both.1) ∙ role_renamed f g.kind g.extra
         ∙ w.fits slot g x both.0 at.0;
@@ -221,12 +221,12 @@ module _ {N M : Type 0} (f : N → M) (s : Scene N) (t : Scene M) (w : IsWhole s
 
   pub ages_read : (ages : List ℕ) → HasSoundAges s.object s.handle ages → HasSoundAges t.object t.handle ages
   ages_read ages sound = record {
-    targets = λ slot h y stands e.
-        let (g, both) = row_unread slot h stands in
+    targets = λ slot h y is_stored e.
+        let (g, both) = row_unread slot h is_stored in
         let (x, at) = target_unread g h y both.1 e in
         aged slot ages x y (w.targets slot g x both.0 at.0) at.1 (sound.targets slot g x both.0 at.0);
-    secondaries = λ slot h y stands e.
-        let (g, both) = row_unread slot h stands in
+    secondaries = λ slot h y is_stored e.
+        let (g, both) = row_unread slot h is_stored in
         let (x, at) = secondary_unread g h y both.1 e in
         aged slot ages x y (w.secondaries slot g x both.0 at.0) at.1 (sound.secondaries slot g x both.0 at.0);
   }

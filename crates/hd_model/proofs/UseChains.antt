@@ -7,7 +7,7 @@ use Rattle.hd_model.specs.Role.{attaches, role_of, role}
 use Rattle.hd_model.specs.Leads.{Leads}
 use Rattle.hd_model.specs.Scene.{scene_of, joined, fields_in, generation_in}
 use Rattle.hd_model.specs.Collect.{is_attaching}
-use Rattle.hd_model.specs.Reach.{IsAttached, IsEdge, IsRoot, named, queued, held, older, IsReached, IsRevived}
+use Rattle.hd_model.specs.Reach.{IsAttached, IsEdge, IsRoot, named, queued, held, older, IsReached, IsToBeFinalized}
 use Rattle.hd_model.specs.InUse.{IsUsed, in_register, in_static, in_queue, by_handle, IsOlder, IsLedTo, from_start, by_field, by_dependent, IsInUse, IsResurrected}
 use Rattle.hd_model.proofs.Members.{not_in_none, joined_from}
 use Rattle.hd_model.proofs.KindExtras.{attaching_kind}
@@ -29,10 +29,10 @@ module _ (s : State) where
   pub led_chain : (Start : Id → Type 0) {y : Id} → IsLedTo s Start y
       → (r : Id) × (Start r × Leads (Edge s) r y)
   led_chain Start (from_start {x} h) = (x, (h, Leads.here))
-  led_chain Start (by_field {x} {y} chain object i stored e) =
+  led_chain Start (by_field {x} {y} chain object i is_stored e) =
       let (r, rest) = led_chain Start chain in
-      (r, (rest.0, Leads.more rest.1 (inl (field_in s x.0 object i y stored e))))
-  led_chain Start (by_dependent {x} {y} chain slot h stands is target second) =
+      (r, (rest.0, Leads.more rest.1 (inl (field_in s x.0 object i y is_stored e))))
+  led_chain Start (by_dependent {x} {y} chain slot h is_stored is target second) =
       let (r, rest) = led_chain Start chain in (
         r,
         (
@@ -40,7 +40,7 @@ module _ (s : State) where
           Leads.more rest.1 (inr (record {
             slot = slot;
             handle = h;
-            stands = stands;
+            is_stored = is_stored;
             attaches = dependent_role h is;
             target = target;
             secondary = second;
@@ -59,7 +59,7 @@ module _ (s : State) where
   led_on Start x y chain edge =
       ⊎_elim (λ f. field_led Start x y chain (get s.objects x.0) refl f)
       (λ (a : IsAttached (scene_of s).handle x y).
-      by_dependent chain a.slot a.handle a.stands (attached_kind a.handle a.attaches) a.target
+      by_dependent chain a.slot a.handle a.is_stored (attached_kind a.handle a.attaches) a.target
       a.secondary) edge
 
   pub chain_led : (Start : Id → Type 0) {r y : Id} → Start r → Leads (Edge s) r y → IsLedTo s Start y
@@ -79,17 +79,17 @@ module _ (s : State) where
 
   module _ (n : ℕ) where
     older_root : (x : Id) → IsOlder n s x → IsRoot (scene_of s) n x
-    older_root x h = older (subst (λ g. n < g) (sym (ap generation_in h.stored)) h.above)
+    older_root x h = older (subst (λ g. n < g) (sym (ap generation_in h.is_stored)) h.above)
 
     root_older : (x : Id) → (o : Option (Object Id)) → get s.objects x.0 ≡ o → n < generation_in o
         → IsOlder n s x
     root_older x None e l = absurd (omega arith)
-    root_older x (Some object) e l = record { object = object; stored = e; above = l }
+    root_older x (Some object) e l = record { object = object; is_stored = e; above = l }
 
     pub root_used : (x : Id) → IsRoot (scene_of s) n x → IsUsed s x ⊎ IsOlder n s x
     root_used x (named h) = inl (named_used x h)
     root_used x (queued h) = inl (in_queue h)
-    root_used x (held h) = inl (by_handle h.slot h.handle h.stands h.holds h.target)
+    root_used x (held h) = inl (by_handle h.slot h.handle h.is_stored h.holds h.target)
     root_used x (older l) = inr (root_older x (get s.objects x.0) refl l)
 
     pub start_root : (x : Id) → IsUsed s x ⊎ IsOlder n s x → IsRoot (scene_of s) n x
@@ -104,19 +104,19 @@ module _ (s : State) where
     reached_use x h = chain_led (λ y. IsUsed s y ⊎ IsOlder n s y) (root_used h.0 h.1.0) h.1.1
 
     -- and what is resurrected is what the collector finds so
-    pub resurrected_revived : (x : Id) → IsResurrected n s x → IsRevived (scene_of s) n x
-    resurrected_revived x h = record {
+    pub resurrected_to_be_finalized : (x : Id) → IsResurrected n s x → IsToBeFinalized (scene_of s) n x
+    resurrected_to_be_finalized x h = record {
       object = h.object;
-      stands = h.stored;
+      is_stored = h.is_stored;
       registered = h.registered;
       young = h.young;
       lost = λ reached. h.out_of_use (reached_use x reached);
     }
 
-    pub revived_resurrected : (x : Id) → IsRevived (scene_of s) n x → IsResurrected n s x
-    revived_resurrected x h = record {
+    pub to_be_finalized_resurrected : (x : Id) → IsToBeFinalized (scene_of s) n x → IsResurrected n s x
+    to_be_finalized_resurrected x h = record {
       object = h.object;
-      stored = h.stands;
+      is_stored = h.is_stored;
       registered = h.registered;
       young = h.young;
       out_of_use = λ used. h.lost (use_reached x used);

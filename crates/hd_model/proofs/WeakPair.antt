@@ -3,7 +3,7 @@ use Rattle.hd_model.proofs.Basics.{◌≡◌, ℕ, ◌<◌, true, false, not, le
 use Rattle.hd_model.specs.Data.{Id, Report}
 use Rattle.hd_model.specs.State.{State}
 use Rattle.hd_model.specs.Scene.{scene_of, IsWhole}
-use Rattle.hd_model.specs.Reach.{IsReached, IsRevived}
+use Rattle.hd_model.specs.Reach.{IsReached, IsToBeFinalized}
 use Rattle.hd_model.specs.Counting.{Counts}
 use Rattle.hd_model.specs.Collect.{is_lost, loses_by, loses, cleared, Collects}
 use Rattle.hd_model.specs.InUse.{IsRescued}
@@ -29,9 +29,9 @@ module _ (n : ℕ) (s t : State) (r : Report) (w : IsWhole (scene_of s))
       ⊎_elim
       (λ (reached : IsReached (scene_of s) n start).
       (c.reach_is x).1 (reached.0, (reached.1.0, leads_on (Edge s) reached.1.1 rest.1)))
-      (λ (v : IsRevived (scene_of s) n start). absurd
-      (none_counted (λ y. c.revived y ≡ true) r.revived c.report_is.revived none start
-      ((c.revived_is start).1 v)))
+      (λ (v : IsToBeFinalized (scene_of s) n start). absurd
+      (none_counted (λ y. c.resurrected y ≡ true) r.revived c.report_is.resurrected none start
+      ((c.resurrected_is start).1 v)))
       rest.0
 
   both_stay : c.reach x ≡ true → FareAlike t a b
@@ -39,13 +39,13 @@ module _ (n : ℕ) (s t : State) (r : Report) (w : IsWhole (scene_of s))
     target = Some x;
     by_short = record {
       handle = p.weak_short;
-      stands = handle_stays n s t r w c a p.weak_short x p.short_stands p.short_target reached
+      is_stored = handle_stays n s t r w c a p.weak_short x p.short_is_stored p.short_target reached
           (reach_in_kept n s t r w c x reached);
       target = p.short_target;
     };
     by_long = record {
       handle = p.weak_long;
-      stands = handle_stays n s t r w c b p.weak_long x p.long_stands p.long_target reached
+      is_stored = handle_stays n s t r w c b p.weak_long x p.long_is_stored p.long_target reached
           (reach_in_kept n s t r w c x reached);
       target = p.long_target;
     };
@@ -54,8 +54,8 @@ module _ (n : ℕ) (s t : State) (r : Report) (w : IsWhole (scene_of s))
   both_null : c.reach x ≡ false → c.kept x ≡ false → FareAlike t a b
   both_null unreached lost = record {
     target = None;
-    by_short = handle_null n s t r w c a p.weak_short x p.short_stands p.short_target unreached lost;
-    by_long = handle_null n s t r w c b p.weak_long x p.long_stands p.long_target unreached lost;
+    by_short = handle_null n s t r w c a p.weak_short x p.short_is_stored p.short_target unreached lost;
+    by_long = handle_null n s t r w c b p.weak_long x p.long_is_stored p.long_target unreached lost;
   }
 
   pub fare_alike : r.revived ≡ 0 → FareAlike t a b
@@ -79,12 +79,12 @@ module _ (n : ℕ) (s t : State) (r : Report) (w : IsWhole (scene_of s))
       record {
         by_short = record {
           handle = cleared c.reach c.kept p.weak_short;
-          stands = handle_after n s t r w c a p.weak_short p.short_stands;
+          is_stored = handle_after n s t r w c a p.weak_short p.short_is_stored;
           target = cond-true (loses c.reach c.kept p.weak_short) None p.weak_short.target short_loses;
         };
         by_long = record {
           handle = cleared c.reach c.kept p.weak_long;
-          stands = handle_after n s t r w c b p.weak_long p.long_stands;
+          is_stored = handle_after n s t r w c b p.weak_long p.long_is_stored;
           target = cond-false (loses c.reach c.kept p.weak_long) None p.weak_long.target long_stays
               ∙ p.long_target;
         };

@@ -4,7 +4,7 @@ use Rattle.hd_model.specs.Data.{Id, Report, Slot}
 use Rattle.hd_model.specs.State.{Numbers, Object, Handle, State, handles_of, use_of}
 use Rattle.hd_model.specs.Scene.{scene_of, IsWhole}
 use Rattle.hd_model.specs.Ages.{raised}
-use Rattle.hd_model.specs.Reach.{queued, held, IsReached, IsRevived}
+use Rattle.hd_model.specs.Reach.{queued, held, IsReached, IsToBeFinalized}
 use Rattle.hd_model.specs.Places.{is_pinned}
 use Rattle.hd_model.specs.Collect.{survivor, cleared, CollectsState}
 use Rattle.hd_model.specs.WellFormed.{HasShape, HasObjects, HasSerials, FitsKind, HasHandles, IsWellFormed}
@@ -32,7 +32,7 @@ module _ (n : Numbers) (k : ℕ) (s t : State) (r : Report) (w : IsWellFormed n 
   before : (id : ℕ) (o : Object Id) → get t.objects id ≡ Some o
       → (c.scene.kept (record { 0 = id }) ≡ true)
       × ((p : Object Id) × ((get s.objects id ≡ Some p)
-      × (survivor k (c.scene.revived (record { 0 = id })) p ≡ o)))
+      × (survivor k (c.scene.resurrected (record { 0 = id })) p ≡ o)))
   before id o e = object_before (λ (x : Id). x.0) k (scene_of s) (scene_of t) r (whole_scene n s w) c.scene
       (record { 0 = id }) o e
 
@@ -58,8 +58,8 @@ module _ (n : Numbers) (k : ℕ) (s t : State) (r : Report) (w : IsWellFormed n 
       (pairs_like (λ (x y : Id). x.0 < y.0) (λ x y. x ≢ y) c.scene.joins
       (λ x y low same. let tied : x.0 ≡ y.0 = ap (λ (z : Id). z.0) same in absurd (omega arith))
       c.scene.rising)
-      (λ x y in_queue joins same. let lost : IsRevived (scene_of s) k y =
-      (c.scene.revived_is y).0 ((c.scene.joins_are y).1 joins) in
+      (λ x y in_queue joins same. let lost : IsToBeFinalized (scene_of s) k y =
+      (c.scene.resurrected_is y).0 ((c.scene.joins_are y).1 joins) in
       lost.lost (subst (λ z. IsReached (scene_of s) k z) same (waiting x in_queue))))
 
   shape_after : HasShape n t

@@ -3,7 +3,7 @@ use Rattle.hd_model.proofs.Basics.{◌≡◌, ◌≢◌, ℕ, ◌<◌, ◌≤◌
 use Rattle.hd_model.specs.Data.{Id, Slot}
 use Rattle.hd_model.specs.declared.limits.TheConstants.{REGISTERS, FIELDS, OLDEST, ROWS}
 use Rattle.hd_model.specs.State.{Numbers, Object, Handle, BlockUse, handles_of, secondary_of, State, last_serial, field_of, use_of, with_register, with_handle_register, with_static, with_board, with_object, with_handle, without_handle, with_use, without_use, with_queue, with_place, with_serial}
-use Rattle.hd_model.specs.WellFormed.{Names, HasShape, NamesStand, HasObjects, HasSerials, FitsKind, HasHandles, IsWellFormed}
+use Rattle.hd_model.specs.WellFormed.{Names, HasShape, HasSoundReferences, HasObjects, HasSerials, FitsKind, HasHandles, IsWellFormed}
 use Rattle.hd_model.proofs.ReadAfterWrite.{set_cases, cell_cases, rows_keep, insert_all, remove_all, still_some, some_cases, insert_cases, remove_cases}
 
 -- what references an object in one state does in another that has its objects
@@ -31,8 +31,8 @@ shape_again n s t r rs h hs k b c w = record {
 
 -- each other part of a well formed state, where only other parts differ
 names_again : (s : State) (handle_registers : List (List (Option Slot))) (board : List (Option Slot))
-    (blocks : FinMap nat_cmp BlockUse) (serials : List ℕ) → NamesStand s
-    → NamesStand (record s {
+    (blocks : FinMap nat_cmp BlockUse) (serials : List ℕ) → HasSoundReferences s
+    → HasSoundReferences (record s {
       handle_registers = handle_registers;
       board = board;
       blocks = blocks;

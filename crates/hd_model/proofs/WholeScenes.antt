@@ -3,7 +3,7 @@ use Rattle.hd_model.proofs.Basics.{◌≡◌, ℕ, List, [], length, get_or, Opt
 use Rattle.hd_model.specs.Data.{Id}
 use Rattle.hd_model.specs.State.{Numbers, Object, State, secondary_of, register_of, static_of, field_of}
 use Rattle.hd_model.specs.Scene.{scene_of, joined, fields_in, IsField, IsWhole}
-use Rattle.hd_model.specs.WellFormed.{NamesStand, IsWellFormed}
+use Rattle.hd_model.specs.WellFormed.{HasSoundReferences, IsWellFormed}
 use Rattle.hd_model.proofs.Members.{not_in_none, member_at, joined_in, joined_from}
 use Rattle.hd_model.proofs.KindExtras.{fits_secondary}
 
@@ -48,11 +48,11 @@ module _ (s : State) where
   pub field_in : (id : ℕ) (object : Object Id) (i : ℕ) (y : Id) → get s.objects id ≡ Some object
       → field_of object i ≡ Some y
       → IsField (scene_of s).object (record { 0 = id }) y
-  field_in id object i y stands e =
-      subst (λ (o : Option (Object Id)). Contains (fields_in o) (Some y)) (sym stands)
+  field_in id object i y is_stored e =
+      subst (λ (o : Option (Object Id)). Contains (fields_in o) (Some y)) (sym is_stored)
       (named_at object.fields i y e)
 
-module _ (s : State) (w : NamesStand s) where
+module _ (s : State) (w : HasSoundReferences s) where
   field_object : (x y : Id) (o : Option (Object Id)) → get s.objects x.0 ≡ o → Contains (fields_in o) (Some y)
       → IsSome (get s.objects y.0)
   field_object x y None e h = absurd (not_in_none (Some y) h)
@@ -80,32 +80,32 @@ whole_scene n s w = record {
   fields = λ x y f. field_object s w.names x y (get s.objects x.0) refl f;
   named = λ x h. named_object s w.names x h;
   queue = λ x h. w.names.queue x h;
-  targets = λ slot h x stands e. if_some_at (λ (id : Id). IsSome (get s.objects id.0)) h.target x
-      (w.names.targets slot h stands) e;
-  secondaries = λ slot h x stands e.
+  targets = λ slot h x is_stored e. if_some_at (λ (id : Id). IsSome (get s.objects id.0)) h.target x
+      (w.names.targets slot h is_stored) e;
+  secondaries = λ slot h x is_stored e.
       if_some_at (λ (id : Id). IsSome (get s.objects id.0)) (secondary_of h.extra) x
-      (w.names.secondaries slot h stands) e;
-  paired = λ slot h stands none. w.handles.dependents slot h stands none;
-  fits = λ slot h x stands e. fits_secondary h.kind h.extra x (w.handles.extras slot h stands) e;
+      (w.names.secondaries slot h is_stored) e;
+  paired = λ slot h is_stored none. w.handles.dependents slot h is_stored none;
+  fits = λ slot h x is_stored e. fits_secondary h.kind h.extra x (w.handles.extras slot h is_stored) e;
 }
 
 -- a state with a whole scene, whose pinned addresses are those of objects, references objects
 pub names_of_whole : (s : State) → IsWhole (scene_of s)
-    → ((id : ℕ) → IsSome (get s.places id) → IsSome (get s.objects id)) → NamesStand s
+    → ((id : ℕ) → IsSome (get s.places id) → IsSome (get s.objects id)) → HasSoundReferences s
 names_of_whole s w places = record {
-  fields = λ id object stands i.
+  fields = λ id object is_stored i.
       if_some_from (λ (x : Id). IsSome (get s.objects x.0)) (field_of object i)
-      (λ y e. w.fields (record { 0 = id }) y (field_in s id object i y stands e));
+      (λ y e. w.fields (record { 0 = id }) y (field_in s id object i y is_stored e));
   registers = λ c d.
       if_some_from (λ (x : Id). IsSome (get s.objects x.0)) (register_of s c d)
       (λ x e. w.named x (register_named s c d x e));
   statics = λ k. if_some_from (λ (x : Id). IsSome (get s.objects x.0)) (static_of s k)
       (λ x e. w.named x (static_named s k x e));
-  targets = λ slot h stands. if_some_from (λ (x : Id). IsSome (get s.objects x.0)) h.target
-      (λ x e. w.targets slot h x stands e);
-  secondaries = λ slot h stands.
+  targets = λ slot h is_stored. if_some_from (λ (x : Id). IsSome (get s.objects x.0)) h.target
+      (λ x e. w.targets slot h x is_stored e);
+  secondaries = λ slot h is_stored.
       if_some_from (λ (x : Id). IsSome (get s.objects x.0)) (secondary_of h.extra)
-      (λ x e. w.secondaries slot h x stands e);
+      (λ x e. w.secondaries slot h x is_stored e);
   queue = λ id h. w.queue id h;
   places = places;
 }

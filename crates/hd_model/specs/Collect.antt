@@ -9,7 +9,7 @@ use Rattle.hd_model.specs.Role.{Role, holds, short, long, attaches, role}
 use Rattle.hd_model.specs.Counting.{Counts}
 use Rattle.hd_model.specs.Scene.{Scene, scene_of, is_object, IsCondemned}
 use Rattle.hd_model.specs.Ages.{raised}
-use Rattle.hd_model.specs.Reach.{IsReached, IsRevived, IsKept}
+use Rattle.hd_model.specs.Reach.{IsReached, IsToBeFinalized, IsKept}
 use Rattle.hd_model.specs.Places.{is_pinned}
 
 -- whether a target is outside a set; null is outside none
@@ -48,18 +48,18 @@ cleared reach kept h = record {
 -- a kept object after the collection: its generation is raised (a survivor's promotion), and a resurrected
 -- one is no longer registered, as a finalizer runs once
 abbrev pub survivor : {N : Type 0} → ℕ → Bool → Object N → Object N
-survivor n revived o = record {
+survivor n resurrected o = record {
   fields = o.fields;
   value = o.value;
   generation = raised n o.generation;
-  registered = o.registered && not revived;
+  registered = o.registered && not resurrected;
 }
 
 -- the slot's handle has a role and loses its target
 pub record LosesAs {N : Type 0} (s : Scene N) (reach kept : N → Bool) (wanted : Role)
     (slot : ℕ) : Type 0 where
   pub handle : Handle N
-  pub stands : s.handle slot ≡ Some handle
+  pub is_stored : s.handle slot ≡ Some handle
   pub role_is : role handle ≡ wanted
   pub loses : loses reach kept handle ≡ true
 
@@ -74,31 +74,31 @@ pub record IsRemoved {N : Type 0} (s : Scene N) (kept : N → Bool) (x : N) : Ty
 
 -- the numbers of a report (this project's own): condemned objects that stay, removed objects, handles that
 -- lose their target by their role, and resurrected objects
-pub record IsReport {N : Type 0} (n : ℕ) (s : Scene N) (in_reach in_revived in_kept : N → Bool)
+pub record IsReport {N : Type 0} (n : ℕ) (s : Scene N) (in_reach in_resurrected in_kept : N → Bool)
     (report : Report) : Type 0 where
   pub kept : Counts (IsSurviving n s in_kept) report.kept
   pub removed : Counts (IsRemoved s in_kept) report.removed
   pub short : Counts (LosesAs s in_reach in_kept short) report.short
   pub long : Counts (LosesAs s in_reach in_kept long) report.long
   pub dep : Counts (LosesAs s in_reach in_kept attaches) report.dep
-  pub revived : Counts (λ x. in_revived x ≡ true) report.revived
+  pub resurrected : Counts (λ x. in_resurrected x ≡ true) report.revived
 
 -- what decides a collection of n of s: what is reached, resurrected and kept, the resurrected objects in the
 -- order of `rank`, the number of their identity, and the report
-pub record GoesBy {N : Type 0} (rank : N → ℕ) (n : ℕ) (s : Scene N) (reach revived kept : N → Bool)
+pub record GoesBy {N : Type 0} (rank : N → ℕ) (n : ℕ) (s : Scene N) (reach resurrected kept : N → Bool)
     (joins : List N) (report : Report) : Type 0 where
   pub reach_is : (x : N) → Decides (reach x) (IsReached s n x)
-  pub revived_is : (x : N) → Decides (revived x) (IsRevived s n x)
+  pub resurrected_is : (x : N) → Decides (resurrected x) (IsToBeFinalized s n x)
   pub kept_is : (x : N) → Decides (kept x) (IsKept s n x)
-  pub joins_are : (x : N) → Decides (revived x) (Contains joins x)
+  pub joins_are : (x : N) → Decides (resurrected x) (Contains joins x)
   pub rising : AllPairs (λ x y. rank x < rank y) joins
-  pub report_is : IsReport n s reach revived kept report
+  pub report_is : IsReport n s reach resurrected kept report
 
 -- the scene after it: what is kept stays, handles are cleared, what registers and statics reference is as it
 -- was, and what is resurrected is appended to the queue
-abbrev pub left_by : {N : Type 0} → ℕ → (reach revived kept : N → Bool) → List N → Scene N → Scene N
-left_by n reach revived kept joins s = record {
-  object = λ x. cond (kept x) (option_map (survivor n (revived x)) (s.object x)) None;
+abbrev pub left_by : {N : Type 0} → ℕ → (reach resurrected kept : N → Bool) → List N → Scene N → Scene N
+left_by n reach resurrected kept joins s = record {
+  object = λ x. cond (kept x) (option_map (survivor n (resurrected x)) (s.object x)) None;
   handle = λ slot. option_map (cleared reach kept) (s.handle slot);
   named = s.named;
   queue = s.queue ++ joins;
@@ -107,13 +107,13 @@ left_by n reach revived kept joins s = record {
 -- a collection of n leads from scene s to scene t
 pub record Collects {N : Type 0} (rank : N → ℕ) (n : ℕ) (s t : Scene N) (report : Report) : Type 0 where
   pub reach : N → Bool
-  pub revived : N → Bool
+  pub resurrected : N → Bool
   pub kept : N → Bool
   pub joins : List N
-  pub goes_by : GoesBy rank n s reach revived kept joins report
+  pub goes_by : GoesBy rank n s reach resurrected kept joins report
   pub open goes_by use *
-  pub objects : (x : N) → t.object x ≡ (left_by n reach revived kept joins s).object x
-  pub handles : (slot : ℕ) → t.handle slot ≡ (left_by n reach revived kept joins s).handle slot
+  pub objects : (x : N) → t.object x ≡ (left_by n reach resurrected kept joins s).object x
+  pub handles : (slot : ℕ) → t.handle slot ≡ (left_by n reach resurrected kept joins s).handle slot
   pub named : t.named ≡ s.named
   pub queue : t.queue ≡ s.queue ++ joins
 

@@ -8,7 +8,7 @@ use Rattle.hd_model.specs.declared.limits.TheConstants.{OLDEST}
 use Rattle.hd_model.specs.State.{Numbers, Object, Handle, secondary, State, secondary_of, register_of, static_of, without_handle}
 use Rattle.hd_model.specs.Role.{Role, short, long, attaches, role}
 use Rattle.hd_model.specs.Scene.{Objects, Rows, Scene, scene_of, is_object, generation_at, IsCondemned, IsWhole, IsReading}
-use Rattle.hd_model.specs.Reach.{IsReached, IsRevived, IsKept}
+use Rattle.hd_model.specs.Reach.{IsReached, IsToBeFinalized, IsKept}
 use Rattle.hd_model.specs.InUse.{IsUsed, IsInUse, IsResurrected, IsRescued, IsGarbage}
 use Rattle.hd_model.specs.DueClumps.{HidesNothing}
 use Rattle.hd_model.specs.Counting.{Counts}
@@ -56,11 +56,11 @@ OlderObjectsStay =
 -- a handle of a role whose target is null after the collection and was not before
 pub record LosesTarget (s t : State) (wanted : Role) (slot : ℕ) : Type 0 where
   pub old : Handle Id
-  pub stood : get s.handles slot ≡ Some old
+  pub was_stored : get s.handles slot ≡ Some old
   pub role_is : role old ≡ wanted
   pub had : IsSome old.target
   pub new : Handle Id
-  pub stands : get t.handles slot ≡ Some new
+  pub is_stored : get t.handles slot ≡ Some new
   pub lost : new.target ≡ None
 
 -- a condemned object that stays, and an object that is removed
@@ -81,7 +81,7 @@ pub record ReportSays (n : ℕ) (s t : State) (r : Report) : Type 0 where
   pub short : Counts (LosesTarget s t short) r.short
   pub long : Counts (LosesTarget s t long) r.long
   pub dep : Counts (LosesTarget s t attaches) r.dep
-  pub revived : length t.queue ≡ length s.queue + r.revived
+  pub resurrected : length t.queue ≡ length s.queue + r.revived
 
 abbrev pub ReportsAddUp : Type 0
 ReportsAddUp = (m : Numbers) (n : ℕ) (s t : State) (r : Report) → Collected m n s t r → ReportSays n s t r
@@ -92,7 +92,7 @@ pub record IsIdle (t u : State) (q : Report) : Type 0 where
   pub short : q.short ≡ 0
   pub long : q.long ≡ 0
   pub dep : q.dep ≡ 0
-  pub revived : q.revived ≡ 0
+  pub resurrected : q.revived ≡ 0
   pub handles : u.handles ≡ t.handles
   pub queue : u.queue ≡ t.queue
 
@@ -105,7 +105,7 @@ SecondCollectionIsIdle =
 -- an object is reached, resurrected and kept alike under both names
 pub record IsSameTo {N M : Type 0} (f : N → M) (n : ℕ) (s : Scene N) (t : Scene M) (x : N) : Type 0 where
   pub reached : IsReached s n x ↔ IsReached t n (f x)
-  pub revived : IsRevived s n x ↔ IsRevived t n (f x)
+  pub resurrected : IsToBeFinalized s n x ↔ IsToBeFinalized t n (f x)
   pub kept : IsKept s n x ↔ IsKept t n (f x)
 
 -- what is reached, resurrected and kept is the same by address and by identity
@@ -147,9 +147,9 @@ AgesOfRunsAreSound =
 -- an object stays with its fields and its value
 pub record KeepsContents (s t : State) (x : Id) : Type 0 where
   pub old : Object Id
-  pub stood : get s.objects x.0 ≡ Some old
+  pub was_stored : get s.objects x.0 ≡ Some old
   pub new : Object Id
-  pub stands : get t.objects x.0 ≡ Some new
+  pub is_stored : get t.objects x.0 ≡ Some new
   pub fields : new.fields ≡ old.fields
   pub value : new.value ≡ old.value
 
@@ -182,7 +182,7 @@ RescuedObjectsStay =
 -- a live handle has a target, or null
 pub record HasTarget (t : State) (slot : ℕ) (o : Option Id) : Type 0 where
   pub handle : Handle Id
-  pub stands : get t.handles slot ≡ Some handle
+  pub is_stored : get t.handles slot ≡ Some handle
   pub target : handle.target ≡ o
 
 -- an object is gone, and each handle to it is null
@@ -205,7 +205,7 @@ pub record Joins (s t : State) (x : Id) : Type 0 where
 -- an object stays, and is not registered
 pub record IsUnregistered (t : State) (x : Id) : Type 0 where
   pub object : Object Id
-  pub stands : get t.objects x.0 ≡ Some object
+  pub is_stored : get t.objects x.0 ≡ Some object
   pub registered : object.registered ≡ false
 
 -- exactly what was condemned, registered and out of use joins the queue, and stays, no longer registered
@@ -244,8 +244,8 @@ GenerationsRiseOnce =
 pub record IsWeakPair (s : State) (short_slot long_slot : ℕ) (x : Id) : Type 0 where
   pub weak_short : Handle Id
   pub weak_long : Handle Id
-  pub short_stands : get s.handles short_slot ≡ Some weak_short
-  pub long_stands : get s.handles long_slot ≡ Some weak_long
+  pub short_is_stored : get s.handles short_slot ≡ Some weak_short
+  pub long_is_stored : get s.handles long_slot ≡ Some weak_long
   pub short_role : role weak_short ≡ short
   pub long_role : role weak_long ≡ long
   pub short_target : weak_short.target ≡ Some x
@@ -277,7 +277,7 @@ FinalizationPartsWeakHandles =
 -- a dependent handle of a state, by its slot, and its target
 pub record IsDependent (s : State) (slot : Slot) (x : Id) : Type 0 where
   pub handle : Handle Id
-  pub stands : get s.handles slot.0 ≡ Some handle
+  pub is_stored : get s.handles slot.0 ≡ Some handle
   pub kind_is : handle.kind ≡ kind.Dependent
   pub target : handle.target ≡ Some x
 

@@ -12,7 +12,7 @@ use Rattle.hd_model.specs.InUse.{IsOlder, IsLedTo, IsInUse, IsResurrected}
 
 -- a live handle in a clump that is due
 pub record IsDueHandle (ages : List ℕ) (n : ℕ) (s : State) (slot : ℕ) (h : Handle Id) : Type 0 where
-  pub stands : get s.handles slot ≡ Some h
+  pub is_stored : get s.handles slot ≡ Some h
   pub due : is_due ages n slot ≡ true
 
 -- where marking begins: what registers, statics and the queue reference, what a due handle holds, what a

@@ -61,19 +61,19 @@ load_text commands made live collections sum =
     ++ codes " collections " ++ decimal collections ++ codes " sum " ++ decimal sum ++ newline
 
 -- the value that a reply states, and 0 where it states none
-abbrev pub value_told : Reply → ℕ
-value_told Done = 0
-value_told (Object id) = 0
-value_told Nothing = 0
-value_told (Value n) = n
-value_told (Generation g) = 0
-value_told (Place p) = 0
-value_told (Report r) = 0
-value_told NoneQueued = 0
-value_told (Refused r) = 0
+abbrev pub value_returned : Reply → ℕ
+value_returned Done = 0
+value_returned (Object id) = 0
+value_returned Nothing = 0
+value_returned (Value n) = n
+value_returned (Generation g) = 0
+value_returned (Place p) = 0
+value_returned (Report r) = 0
+value_returned NoneQueued = 0
+value_returned (Refused r) = 0
 
 -- the line of a load whose journal replays to a state
 abbrev pub load_text_of : List Entry → State → List ℕ
 load_text_of journal s =
     load_text (length journal) (count_entries makes_object journal) (len s.handles)
-    (collections_of journal) (sum_by (λ (e : Entry). value_told e.reply) journal)
+    (collections_of journal) (sum_by (λ (e : Entry). value_returned e.reply) journal)

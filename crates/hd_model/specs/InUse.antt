@@ -18,7 +18,7 @@ pub data IsUsed (s : State) (x : Id) : Type 0 where
 -- an object of a generation above n, which a collection of n does not condemn
 pub record IsOlder (n : ℕ) (s : State) (x : Id) : Type 0 where
   pub object : Object Id
-  pub stored : get s.objects x.0 ≡ Some object
+  pub is_stored : get s.objects x.0 ≡ Some object
   pub above : n < object.generation
 
 -- what chains of edges lead to from starts: the starts, what their fields reference, and the secondaries of
@@ -37,7 +37,7 @@ IsInUse n s = IsLedTo s (λ x. IsUsed s x ⊎ IsOlder n s x)
 -- what a collection of n resurrects: a condemned object that is registered and out of use
 pub record IsResurrected (n : ℕ) (s : State) (x : Id) : Type 0 where
   pub object : Object Id
-  pub stored : get s.objects x.0 ≡ Some object
+  pub is_stored : get s.objects x.0 ≡ Some object
   pub registered : object.registered ≡ true
   pub young : object.generation ≤ n
   pub out_of_use : IsInUse n s x → ⊥

@@ -9,7 +9,7 @@ use Rattle.hd_model.specs.Scene.{Scene, Objects, Rows, IsField, generation_at}
 pub record IsAttached {N : Type 0} (rows : Rows N) (x y : N) : Type 0 where
   pub slot : ℕ
   pub handle : Handle N
-  pub stands : rows slot ≡ Some handle
+  pub is_stored : rows slot ≡ Some handle
   pub attaches : role handle ≡ attaches
   pub target : handle.target ≡ Some x
   pub secondary : secondary_of handle.extra ≡ Some y
@@ -23,7 +23,7 @@ IsEdge o rows x y = IsField o x y ⊎ IsAttached rows x y
 pub record IsHeld {N : Type 0} (rows : Rows N) (x : N) : Type 0 where
   pub slot : ℕ
   pub handle : Handle N
-  pub stands : rows slot ≡ Some handle
+  pub is_stored : rows slot ≡ Some handle
   pub holds : role handle ≡ holds
   pub target : handle.target ≡ Some x
 
@@ -31,7 +31,7 @@ pub record IsHeld {N : Type 0} (rows : Rows N) (x : N) : Type 0 where
 pub record IsPinned {N : Type 0} (rows : Rows N) (x : N) : Type 0 where
   pub slot : ℕ
   pub handle : Handle N
-  pub stands : rows slot ≡ Some handle
+  pub is_stored : rows slot ≡ Some handle
   pub pins : pins handle ≡ true
   pub target : handle.target ≡ Some x
 
@@ -48,15 +48,16 @@ pub data IsRoot {N : Type 0} (s : Scene N) (n : ℕ) (x : N) : Type 0 where
 abbrev pub IsReached : {N : Type 0} → Scene N → ℕ → N → Type 0
 IsReached {N} s n x = (r : N) × (IsRoot s n r × Leads (IsEdge s.object s.handle) r x)
 
--- x is resurrected: it is registered for finalization, condemned and not reached (.NET makes such an object
--- reachable again, to be finalized)
-pub record IsRevived {N : Type 0} (s : Scene N) (n : ℕ) (x : N) : Type 0 where
+-- x is to be finalized: it is registered for finalization, condemned and not reached (.NET makes such an
+-- object reachable again, to be finalized)
+pub record IsToBeFinalized {N : Type 0} (s : Scene N) (n : ℕ) (x : N) : Type 0 where
   pub object : Object N
-  pub stands : s.object x ≡ Some object
+  pub is_stored : s.object x ≡ Some object
   pub registered : object.registered ≡ true
   pub young : object.generation ≤ n
   pub lost : IsReached s n x → ⊥
 
 -- a chain of edges leads to x from what is reached or resurrected
 abbrev pub IsKept : {N : Type 0} → Scene N → ℕ → N → Type 0
-IsKept {N} s n x = (r : N) × ((IsReached s n r ⊎ IsRevived s n r) × Leads (IsEdge s.object s.handle) r x)
+IsKept {N} s n x =
+    (r : N) × ((IsReached s n r ⊎ IsToBeFinalized s n r) × Leads (IsEdge s.object s.handle) r x)

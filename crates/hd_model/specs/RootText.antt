@@ -20,11 +20,11 @@ held_of h = held_by (role h) h.target
 
 -- what is listed of a slot's handle, by slot, kind and target, if it is a root
 abbrev pub root_in : {N R : Type 0} → (Slot → Kind → N → R) → ℕ × Handle N → List R
-root_in tell e = option_to_list (option_map (tell (record { 0 = e.0 }) e.1.kind) (held_of e.1))
+root_in make e = option_to_list (option_map (make (record { 0 = e.0 }) e.1.kind) (held_of e.1))
 
 -- what is listed of all roots, in the order of the handles
 abbrev pub roots_in : {N R : Type 0} → (Slot → Kind → N → R) → List (ℕ × Handle N) → List R
-roots_in tell handles = flat_map (root_in tell) handles
+roots_in make handles = flat_map (root_in make) handles
 
 -- a root of the machine
 abbrev pub root_id : Slot → Kind → Id → RootId

@@ -37,7 +37,7 @@ PlaceIsReturnedAgain =
 -- an object has a pinned address, and its cells go from there to an end: one for each field, and three
 pub record TakesCells (s : State) (x : Id) (first end : ℕ) : Type 0 where
   pub object : Object Id
-  pub stands : get s.objects x.0 ≡ Some object
+  pub is_stored : get s.objects x.0 ≡ Some object
   pub place : get s.places x.0 ≡ Some first
   pub end_is : end ≡ first + (length object.fields + 3)
 
@@ -49,8 +49,9 @@ pub record HasPlacesApart (s : State) : Type 0 where
       (x y : Id) (first end other other_end : ℕ) → TakesCells s x first end → TakesCells s y other other_end
       → x ≢ y → (end ≤ other) ⊎ (other_end ≤ first)
 
-abbrev pub PlacesStandApart : Type 0
-PlacesStandApart = (n : Numbers) (journal : List Entry) (s : State) → Run n journal s → HasPlacesApart s
+abbrev pub PinnedObjectsDoNotOverlap : Type 0
+PinnedObjectsDoNotOverlap = (n : Numbers) (journal : List Entry) (s : State) → Run n journal s
+    → HasPlacesApart s
 
 -- an entry after which no handle pins an object
 abbrev pub Unpins : Id → State → Entry → State → Type 0

@@ -24,7 +24,7 @@ pub record HasShape (n : Numbers) (s : State) : Type 0 where
 
 -- every identity in use is that of an object: in fields, registers, statics, targets and secondaries of
 -- handles, the queue and the pinned addresses
-pub record NamesStand (s : State) : Type 0 where
+pub record HasSoundReferences (s : State) : Type 0 where
   pub fields :
       (id : ℕ) (object : Object Id) → get s.objects id ≡ Some object → (i : ℕ) → Names s (field_of object i)
   pub registers : (c d : ℕ) → Names s (register_of s c d)
@@ -72,7 +72,7 @@ pub record HasHandles (n : Numbers) (s : State) : Type 0 where
 -- a state that a run may reach
 pub record IsWellFormed (n : Numbers) (s : State) : Type 0 where
   pub shape : HasShape n s
-  pub names : NamesStand s
+  pub names : HasSoundReferences s
   pub objects : HasObjects s
   pub serials : HasSerials s
   pub handles : HasHandles n s

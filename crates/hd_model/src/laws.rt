@@ -8,7 +8,7 @@ ghost use Rattle.hd_model.specs.Laws.{TargetIsReadBack, SecondaryIsReadBack, Str
 ghost use Rattle.hd_model.specs.Laws.{CountIsReadBack, FreedIsNotLive, SoloRunsAreOne};
 ghost use Rattle.hd_model.specs.Laws.{SoloTextIsOne};
 ghost use Rattle.hd_model.specs.Constants.{NumbersAreThese};
-ghost use Rattle.hd_model.specs.UserLaws.{PlaceIsReturnedAgain, PlacesStandApart};
+ghost use Rattle.hd_model.specs.UserLaws.{PlaceIsReturnedAgain, PinnedObjectsDoNotOverlap};
 ghost use Rattle.hd_model.specs.UserLaws.{PinnedPlaceIsReadBack, FinalTakesTheFirst, QueueIsLeft};
 ghost use Rattle.hd_model.specs.UserLaws.{QueueGoesInTurn, GenerationIsReadBack};
 ghost use Rattle.hd_model.specs.UserLaws.{GenReturnsTheGeneration, RegistrationIsKept, JoinsOnce};
@@ -151,8 +151,8 @@ pub fn place_is_returned_again()
 {}
 
 /// In every state of a run, two objects that have pinned addresses share no cell.
-pub fn places_stand_apart()
-    ensures { PlacesStandApart }
+pub fn pinned_objects_do_not_overlap()
+    ensures { PinnedObjectsDoNotOverlap }
 {}
 
 /// `addr` returns the same number as long as the object is pinned, by this handle or another,

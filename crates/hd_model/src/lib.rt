@@ -38,11 +38,11 @@ pub use laws::{
     generation_is_read_back, handle_register_is_read_back, handles_are_made_less_freed,
     heap_is_within_its_limit, joins_once, new_field_is_null, new_is_refused_where_full,
     new_value_is_zero, numbers_are_these, objects_are_made_less_removed, one_state_after,
-    pinned_place_is_read_back, place_is_returned_again, places_stand_apart, queue_goes_in_turn,
-    queue_is_left, register_is_read_back, registration_is_kept, runs_are_never_stuck,
-    runs_are_well_formed, runs_have_ages, secondary_is_read_back, solo_runs_are_one,
-    solo_text_is_one, static_is_read_back, steps_keep_well_formed, strength_is_kept,
-    target_is_read_back, untouched_stays, value_is_read_back,
+    pinned_objects_do_not_overlap, pinned_place_is_read_back, place_is_returned_again,
+    queue_goes_in_turn, queue_is_left, register_is_read_back, registration_is_kept,
+    runs_are_never_stuck, runs_are_well_formed, runs_have_ages, secondary_is_read_back,
+    solo_runs_are_one, solo_text_is_one, static_is_read_back, steps_keep_well_formed,
+    strength_is_kept, target_is_read_back, untouched_stays, value_is_read_back,
 };
 pub use marker::{Marker, is_lost};
 pub use steps::Steps;

@@ -283,20 +283,20 @@ module _ (old h : Heap) (after : Option Addr) (sound : IsSound h) (grown : (a : 
     exact_next : (new : Heap) (needed : Bool) (last : Addr) → last.0 + 1 ≡ (card_of at + 1) * 32
         → ((needed ≡ true) ↔ NeedsCard h (card_of at)) → new ≡ with_card h (card_of at) needed
         → IsExactBehind old new (Some last)
-    exact_next new needed last is tells step = record {
+    exact_next new needed last is decides step = record {
       end = card_of at + 1;
       same = only_cards old h new (card_of at) needed r.same step;
       needed = λ c low set. elim (cases_eq c (card_of at)) [
         | inl here ↦
             let on : needed ≡ true = sym (card_here h new (card_of at) needed step)
             ∙ ap (is_set new) (sym here) ∙ set in
-            subst (NeedsCard old) (sym here) (needs_like old h (card_of at) r.same (tells.0 on))
+            subst (NeedsCard old) (sym here) (needs_like old h (card_of at) r.same (decides.0 on))
         | inr apart ↦ between c apart low (sym (card_beside h new (card_of at) c needed apart step) ∙ set)
       ];
       kept = λ c n. elim (cases_eq c (card_of at)) [
         | inl here ↦
             let on : needed ≡ true =
-            tells.1 (needs_back old h (card_of at) r.same (subst (NeedsCard old) here n)) in
+            decides.1 (needs_back old h (card_of at) r.same (subst (NeedsCard old) here n)) in
             ap (is_set new) here ∙ card_here h new (card_of at) needed step ∙ on
         | inr apart ↦ card_beside h new (card_of at) c needed apart step ∙ r.kept c n
       ];
@@ -319,7 +319,7 @@ module _ (old h : Heap) (after : Option Addr) (sound : IsSound h) (grown : (a : 
 
     pub exact_step : (new : Heap) (last : Addr) → last.0 + 1 ≡ (card_of at + 1) * 32
         → IsExactAt h new (card_of at) → IsExactBehind old new (Some last)
-    exact_step new last is exact = exact_next new exact.needed last is exact.tells exact.is
+    exact_step new last is exact = exact_next new exact.needed last is exact.decides exact.is
 
   pub exact_ends : ((a : Addr) → is_old_carded h 0 a ≡ true → is_after after a ≡ false) → (c : ℕ)
       → (is_set h c ≡ true) ↔ NeedsCard h c

@@ -21,7 +21,7 @@ use Rattle.hd_plan.proofs.KeptMoves.{all_put, moving_kept, fate_stays, fate_rest
 use Rattle.hd_plan.specs.PackedRegions.{is_older_region, IsPacked}
 use Rattle.hd_plan.proofs.PackedRegions.{IsTaken, packed, compact}
 use Rattle.hd_plan.proofs.CommitCards.{has_from}
-use Rattle.hd_plan.proofs.CommitTotals.{sum-stands}
+use Rattle.hd_plan.proofs.CommitTotals.{sum-coming}
 use Rattle.hd_plan.proofs.CommitCopies.{get_placed, has_got, has_alike}
 use Rattle.hd_plan.proofs.CommitShape.{IsCommitting, moves_now, regions_now, closed_now}
 use Rattle.hd_plan.proofs.CommitImage.{kept_by, kept_older, place_older, kept_move, place_move, kept_object, from_condemned, stays_there, image_at, image_only}
@@ -296,13 +296,13 @@ module _ (p : PlanOf) (old h1 h2 h3 h4 : Heap) (m : AreMoved p old h1 h2 h3 h4) 
     ]
 
     -- a new object comes from the one that it was
-    record StandsFor (q r : ℕ) : Type 0 where
+    record ComesFrom (q r : ℕ) : Type 0 where
       was : Addr
       number : was.0 ≡ r
       place : (place_in p was).0 ≡ q
 
     used : used_of h7 ≤ used_of old
-    used = sum-stands cells_of StandsFor
+    used = sum-coming cells_of ComesFrom
         (λ q s r a b. sym a.place
         ∙ ap (λ (x : Addr). (place_in p x).0) (same_address a.was b.was (a.number ∙ sym b.number)) ∙ b.place)
         h7.objects old.objects
@@ -316,11 +316,11 @@ module _ (p : PlanOf) (old h1 h2 h3 h4 : Heap) (m : AreMoved p old h1 h2 h3 h4) 
         let cells : cells_of (rewritten (place_in p) (placed_at old a)) ≡ cells_of v =
         ap cells_of (some_is _ _ now) in
         let long = length-map (placed_at old a).fields (option_map (place_in p)) in
-        let stands : StandsFor q a.0 =
+        let comes : ComesFrom q a.0 =
         record { was = a; number = refl; place = ap (λ (x : Addr). x.0) is.1 } in
         let size : share cells_of (fin.get old.objects a.0) ≡ cells_of (placed_at old a) =
         ap (share cells_of) there in
-        (a.0, (stands, omega arith)))
+        (a.0, (comes, omega arith)))
 
     -- what moves is at its new address with as many words
     moved_there : (j : ℕ) → j < length p.moves → is_moving (move_at p.moves j).fate ≡ true

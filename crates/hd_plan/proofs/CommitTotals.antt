@@ -26,34 +26,35 @@ first_alone x (e ∷ es) h =
     let above : x < e.0 = less x e.0 parts.0 in
     found_later x e.0 (Some e.1) (find nat_cmp x es) (λ same. omega arith) ∙ first_alone x es parts.1
 
-module _ {A : Type 0} (f : A → ℕ) (Stands : ℕ → ℕ → Type 0) (once : (q s r : ℕ) → Stands q r → Stands s r
+module _ {A : Type 0} (f : A → ℕ) (ComesFrom : ℕ → ℕ → Type 0)
+    (once : (q s r : ℕ) → ComesFrom q r → ComesFrom s r
     → q ≡ s) where
-  total-stands : (es : List (ℕ × A)) (m : FinMap nat_cmp A) → T (is_sorted nat_cmp es)
-      → ((q : ℕ) (v : A) → find nat_cmp q es ≡ Some v → (r : ℕ) × (Stands q r × (f v ≤ share f (get m r))))
+  total-coming : (es : List (ℕ × A)) (m : FinMap nat_cmp A) → T (is_sorted nat_cmp es)
+      → ((q : ℕ) (v : A) → find nat_cmp q es ≡ Some v → (r : ℕ) × (ComesFrom q r × (f v ≤ share f (get m r))))
       → sum_by f (map (λ e. e.1) es) ≤ sum_by f (values m)
-  total-stands [] m sorted found = omega arith
-  total-stands (e ∷ es) m sorted found =
+  total-coming [] m sorted found = omega arith
+  total-coming (e ∷ es) m sorted found =
       let parts : T (below_all nat_cmp e.0 es) × T (is_sorted nat_cmp es) = both _ _ sorted in
       let here = found e.0 e.1 (found_first e.0 e.0 e.1 (find nat_cmp e.0 es) refl) in
-      let rest = total-stands es (remove m here.0) parts.1 (later e es m here.0 here.1.0 parts.0 found) in
+      let rest = total-coming es (remove m here.0) parts.1 (later e es m here.0 here.1.0 parts.0 found) in
       let first = here.1.1 in
       omega (arith, sum_by-cons f e.1 (map (λ w. w.1) es), rest, first, sum-remove f m here.0)
     where
-      later : (e : ℕ × A) (es : List (ℕ × A)) (m : FinMap nat_cmp A) (r : ℕ) → Stands e.0 r
+      later : (e : ℕ × A) (es : List (ℕ × A)) (m : FinMap nat_cmp A) (r : ℕ) → ComesFrom e.0 r
           → T (below_all nat_cmp e.0 es)
           → ((q : ℕ) (v : A) → find nat_cmp q (e ∷ es) ≡ Some v
-          → (s : ℕ) × (Stands q s × (f v ≤ share f (get m s))))
+          → (s : ℕ) × (ComesFrom q s × (f v ≤ share f (get m s))))
           → (q : ℕ) (v : A) → find nat_cmp q es ≡ Some v
-          → (s : ℕ) × (Stands q s × (f v ≤ share f (get (remove m r) s)))
-      later e es m r stands below found q v is =
+          → (s : ℕ) × (ComesFrom q s × (f v ≤ share f (get (remove m r) s)))
+      later e es m r comes below found q v is =
           let other : q ≢ e.0 =
           λ same. none-some v (sym (ap (λ k. find nat_cmp k es) same ∙ first_alone e.0 es below) ∙ is) in
           let there = found q v (found_later q e.0 (Some e.1) (find nat_cmp q es) other ∙ is) in
-          let apart : there.0 ≢ r = λ same. other (once q e.0 r (subst (Stands q) same there.1.0) stands) in
+          let apart : there.0 ≢ r = λ same. other (once q e.0 r (subst (ComesFrom q) same there.1.0) comes) in
           (there.0, (there.1.0, subst (λ o. f v ≤ share f o) (sym (get_left m r there.0 apart)) there.1.1))
 
-  pub sum-stands : (m k : FinMap nat_cmp A)
-      → ((q : ℕ) (v : A) → get m q ≡ Some v → (r : ℕ) × (Stands q r × (f v ≤ share f (get k r))))
+  pub sum-coming : (m k : FinMap nat_cmp A)
+      → ((q : ℕ) (v : A) → get m q ≡ Some v → (r : ℕ) × (ComesFrom q r × (f v ≤ share f (get k r))))
       → sum_by f (values m) ≤ sum_by f (values k)
-  sum-stands m k found =
-      total-stands (entries m) k (entries_sorted m) (λ q v is. found q v (get-entries m q ∙ is))
+  sum-coming m k found =
+      total-coming (entries m) k (entries_sorted m) (λ q v is. found q v (get-entries m q ∙ is))

@@ -183,9 +183,9 @@ module _ (h : Heap) (n : ℕ) (sound : IsSound h) where
     ]
 
     -- a kept object stays in place, or is moved
-    pub data Stands (a : Addr) : Type 0 where
-      rests : has_object h a ≡ true → place a ≡ a → Stands a
-      moves_by : (k : ℕ) → IsMovedBy ms a k → Stands a
+    pub data RestsOrMoves (a : Addr) : Type 0 where
+      rests : has_object h a ≡ true → place a ≡ a → RestsOrMoves a
+      moves_by : (k : ℕ) → IsMovedBy ms a k → RestsOrMoves a
 
     older_object : (a : Addr) → n < generation_at (object_at h) a → has_object h a ≡ true
     older_object a older = elim (cases_Bool (has_object h a)) [
@@ -194,8 +194,8 @@ module _ (h : Heap) (n : ℕ) (sound : IsSound h) where
           no_generation (object_at h a) none in omega arith)
     ]
 
-    pub stands : (a : Addr) → kept a ≡ true → Stands a
-    stands a e = elim (kept_cases a e) [
+    pub rests_or_moves : (a : Addr) → kept a ≡ true → RestsOrMoves a
+    rests_or_moves a e = elim (kept_cases a e) [
       | inl older ↦ rests (older_object a older) (older_place a older)
       | inr (k, by) ↦ elim (moving_or_staying (move_at ms k).fate by.kept) [
         | inl moving ↦ moves_by k (record { within = by.within; from = by.from; moving = moving })
@@ -239,12 +239,12 @@ module _ (h : Heap) (n : ℕ) (sound : IsSound h) where
         ]
 
     pub places_apart : (a b : Addr) → kept a ≡ true → kept b ≡ true → place a ≡ place b → a ≡ b
-    places_apart a b ka kb same = elim (stands a ka) [
-      | rests object rest ↦ elim (stands b kb) [
+    places_apart a b ka kb same = elim (rests_or_moves a ka) [
+      | rests object rest ↦ elim (rests_or_moves b kb) [
         | rests object2 rest2 ↦ sym rest ∙ same ∙ rest2
         | moves_by k by ↦ absurd (rest_put a b object rest k by same)
       ]
-      | moves_by j by ↦ elim (stands b kb) [
+      | moves_by j by ↦ elim (rests_or_moves b kb) [
         | rests object rest ↦ absurd (rest_put b a object rest j by (sym same))
         | moves_by k by2 ↦ moved_apart a b j k by by2 same
       ]

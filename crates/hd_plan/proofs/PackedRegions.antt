@@ -148,7 +148,7 @@ pub packed : (h : Heap) → IsSound h → (n : ℕ) (ms : List Move) → AreMove
     × (cells_of (placed_at new (move_at ms j).to) ≡ cells_of (placed_at h (move_at ms j).from)))
     → ((r : ℕ) → is_in_use new r ≡ true → is_older_region h n r ≡ false → IsTaken h ms r)
     → IsPacked h new n (stays_among ms)
-packed h sound n ms moves new older stand held =
+packed h sound n ms moves new older moved_there held =
     let put = all_put h n sound ms moves in
     let young : ℕ → Bool = λ r. not (is_older_region h n r) in
     let keys = counts_keys new.regions (λ r. r) (λ r. r) (λ r. refl) (λ r. refl) in
@@ -165,14 +165,14 @@ packed h sound n ms moves new older stand held =
     lighter cells (tos ms (length ms)) inside (apart_tos ms (length ms) put.apart)
     (λ a is.
     let t = from_tos ms (length ms) a is in
-    let s = stand t.at t.before t.moves in
+    let s = moved_there t.at t.before t.moves in
     let there : Contains addresses.members (move_at ms t.at).to =
     addresses.all (move_at ms t.at).to (sym (has-get new (move_at ms t.at).to) ∙ s.0) in
     let new_one : is_older_region h n (region_of (move_at ms t.at).to) ≡ false =
     no_older (region_of (move_at ms t.at).to) ((put.put t.at t.before t.moves).fresh.new) in
     subst (Contains inside) t.is (passing_in here addresses.members (move_at ms t.at).to there
     (ap not new_one))) in
-    let sums = cells_tos h ms cells (length ms) (λ j low moving. (stand j low moving).1) in
+    let sums = cells_tos h ms cells (length ms) (λ j low moving. (moved_there j low moving).1) in
     let bound = put.room.slack in
     let one = begun_most (room_at h ms (length ms)).cursors.first in
     let two = begun_most (room_at h ms (length ms)).cursors.second in

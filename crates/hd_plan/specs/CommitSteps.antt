@@ -143,7 +143,7 @@ pub record NamesYounger (h : Heap) (a : Addr) : Type 0 where
 -- one card is set where an object needs it, and clear otherwise
 pub record IsExactAt (old h : Heap) (card : ℕ) : Type 0 where
   pub needed : Bool
-  pub tells : (needed ≡ true) ↔ NeedsCard old card
+  pub decides : (needed ≡ true) ↔ NeedsCard old card
   pub is : h ≡ with_card old card needed
 
 -- an object that starts in a card

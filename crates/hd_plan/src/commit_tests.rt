@@ -9,7 +9,7 @@ ghost use Rattle.hd_plan.specs.Plan.{IsTakenPlan, IsLaid, HasNoEmptyRegion};
 
 use super::*;
 use crate::carding::names_younger;
-use crate::tests::{heap_of, marks_of, promote, stands};
+use crate::tests::{heap_of, is_object_at, marks_of, promote};
 use hd_heap::Heap;
 use hd_mark::Marks;
 use hd_model::{Addr, Id, Marker, Memory};
@@ -25,7 +25,7 @@ struct Case<'a> {
     // The objects at these addresses have this generation, and with them their regions.
     raised: &'a [(u32, u8)],
     // Field `.1` of the object at `.0` references the object at `.2`.
-    arrows: &'a [(u32, u32, u32)],
+    edges: &'a [(u32, u32, u32)],
     // The cards of these objects are set too.
     carded: &'a [u32],
     condemned: u8,
@@ -46,7 +46,7 @@ fn names_objects(heap: &Heap, at: Addr) -> bool
 {
     for i in 0..heap.fields(at) {
         if let Some(y) = heap.load(at, i) {
-            if !stands(heap, y) {
+            if !is_object_at(heap, y) {
                 return false;
             }
         }
@@ -137,8 +137,8 @@ fn store(rt: &impl Abort, heap: &mut Heap, at: u32, i: u32, to: u32)
     requires full { HasNoEmptyRegion heap.old }
     ensures full { HasNoEmptyRegion heap.new }
 {
-    assert!(rt; stands(heap, Addr(at)));
-    assert!(rt; stands(heap, Addr(to)));
+    assert!(rt; is_object_at(heap, Addr(at)));
+    assert!(rt; is_object_at(heap, Addr(to)));
     assert!(rt; i < heap.fields(Addr(at)));
     heap.store(Addr(at), i, Some(Addr(to)));
 }
@@ -148,7 +148,7 @@ fn set_card(rt: &impl Abort, heap: &mut Heap, at: u32)
     requires full { HasNoEmptyRegion heap.old }
     ensures full { HasNoEmptyRegion heap.new }
 {
-    assert!(rt; stands(heap, Addr(at)));
+    assert!(rt; is_object_at(heap, Addr(at)));
     heap.set_card(Addr(at), true);
 }
 
@@ -157,7 +157,7 @@ fn linked_heap(rt: &impl Abort, alloc: Global, case: &Case) -> Result<Heap, Memo
     ensures full { IfOk result HasNoEmptyRegion }
 {
     let mut heap = heap_of(rt, alloc, case.cells, case.raised)?;
-    for (from, i, to) in case.arrows {
+    for (from, i, to) in case.edges {
         store(rt, &mut heap, *from, *i, *to);
     }
     for at in case.carded {
@@ -198,7 +198,7 @@ fn shows(rt: &impl Abort, heap: &Heap, case: &Case) {
     let mut last = None;
     for (at, id, generation, carded) in case.after {
         assert!(rt; heap.next(last) == Some(Addr(*at)), "{at}");
-        assert!(rt; stands(heap, Addr(*at)));
+        assert!(rt; is_object_at(heap, Addr(*at)));
         assert!(rt; heap.id(Addr(*at)) == Id(*id), "{at}");
         assert!(rt; heap.generation(Addr(*at)) == *generation, "{at}");
         assert!(rt; has_card(heap, Addr(*at)) == *carded, "{at}");
@@ -206,7 +206,7 @@ fn shows(rt: &impl Abort, heap: &Heap, case: &Case) {
     }
     assert!(rt; heap.next(last).is_none());
     for (at, i, to) in case.names {
-        assert!(rt; stands(heap, Addr(*at)));
+        assert!(rt; is_object_at(heap, Addr(*at)));
         assert!(rt; *i < heap.fields(Addr(*at)));
         assert!(rt; heap.load(Addr(*at), *i) == Some(Addr(*to)), "{at}");
     }
@@ -233,7 +233,7 @@ fn an_older_object_in_a_set_card_names_the_new_place(rt: HostRuntime) -> Result<
     let case = Case {
         cells: &[64, 64, 64, 64, 64, 64],
         raised: &[(256, 2)],
-        arrows: &[(256, 0, 576), (320, 60, 384)],
+        edges: &[(256, 0, 576), (320, 60, 384)],
         carded: &[384],
         condemned: 0,
         roots: &[576],
@@ -266,7 +266,7 @@ fn a_card_is_clear_once_nothing_younger_is_named(rt: HostRuntime) -> Result<(), 
     let young = Case {
         cells: &[64, 64, 64, 64, 64],
         raised: &[(256, 2), (512, 1)],
-        arrows: &[(256, 0, 512)],
+        edges: &[(256, 0, 512)],
         carded: &[320],
         condemned: 0,
         roots: &[],
@@ -304,7 +304,7 @@ fn a_region_stays_raised_where_a_kept_object_is_pinned(rt: HostRuntime) -> Resul
     let one = Case {
         cells: &[64, 64, 64, 64],
         raised: &[],
-        arrows: &[(320, 0, 448), (448, 3, 320)],
+        edges: &[(320, 0, 448), (448, 3, 320)],
         carded: &[],
         condemned: 0,
         roots: &[320],
@@ -344,7 +344,7 @@ fn a_kept_object_that_names_a_younger_one_has_its_card_set(rt: HostRuntime) -> R
     let pinned = Case {
         cells: &[64, 64, 64, 64, 64],
         raised: &[(256, 1)],
-        arrows: &[(256, 0, 512)],
+        edges: &[(256, 0, 512)],
         carded: &[],
         condemned: 1,
         roots: &[256],

@@ -30,7 +30,7 @@ struct Case<'a> {
 }
 
 // Whether an object is at an address.
-pub(crate) fn stands(heap: &Heap, at: Addr) -> bool
+pub(crate) fn is_object_at(heap: &Heap, at: Addr) -> bool
     ensures { result ≡ true → has_object heap.now at ≡ true }
 {
     if at.0 == 0 {
@@ -95,7 +95,7 @@ pub(crate) fn raise(rt: &impl Abort, heap: &mut Heap, at: Addr, generation: u8)
     ensures full { HasNoEmptyRegion heap.new }
 {
     assert!(rt; generation < 3);
-    assert!(rt; stands(heap, at));
+    assert!(rt; is_object_at(heap, at));
     give(heap, at, generation);
 }
 
@@ -145,7 +145,7 @@ pub(crate) fn marks_of<'h>(
 {
     let mut marks = Marks::start(alloc, heap, condemned)?;
     for at in pinned {
-        assert!(rt; stands(heap, Addr(*at)));
+        assert!(rt; is_object_at(heap, Addr(*at)));
         marks.pin(Addr(*at));
     }
     Ok(marks)
@@ -158,7 +158,7 @@ pub(crate) fn promote(rt: &impl Abort, heap: &Heap, marks: &mut Marks, at: u32)
     ensures settled { IsSettledMarks marks.new }
     ensures basis { marks.new.basis ≡ marks.old.basis }
 {
-    assert!(rt; stands(heap, Addr(at)));
+    assert!(rt; is_object_at(heap, Addr(at)));
     marks.promote(Addr(at));
 }
 
@@ -185,7 +185,7 @@ fn lay(
     }
     plan.lay(heap, &marks);
     for (from, to) in case.moved {
-        assert!(rt; stands(heap, Addr(*from)));
+        assert!(rt; is_object_at(heap, Addr(*from)));
         assert!(rt; marks.promoted(Addr(*from)));
         assert!(rt; plan.moved(Addr(*from)) == Addr(*to), "{from} to {to}");
     }
@@ -228,12 +228,12 @@ fn a_region_is_left_only_where_the_next_object_does_not_fit(rt: HostRuntime) -> 
         moved: &[(256, 768), (320, 832), (384, 896), (446, 958), (512, 1024)],
         ..full
     };
-    let just = Case {
+    let exact = Case {
         cells: &[64, 64, 62, 3, 63],
         moved: &[(256, 512), (320, 576), (384, 640), (446, 702), (449, 705)],
         ..full
     };
-    lay_all(&rt, rt.alloc(), &[full, over, just])?;
+    lay_all(&rt, rt.alloc(), &[full, over, exact])?;
     Ok(())
 }
 

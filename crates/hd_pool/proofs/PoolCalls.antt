@@ -273,9 +273,9 @@ module _ {kinds : List (Option Kind)} {free ready : Held} (inv : IsPool kinds fr
     kind_of_free : (slot : Slot) → IsFreeFor (seen kinds free) k slot → kind_at kinds (slot.0 / 64) ≡ Some k
     kind_of_free slot is = sym (get-by_place kinds (slot.0 / 64)) ∙ is.1
 
-    stands : (slot : Slot) → IsFreeFor (seen kinds free) k slot → contains ready.members
+    block_is_ready : (slot : Slot) → IsFreeFor (seen kinds free) k slot → contains ready.members
         (place_of k (slot.0 / 64)) ≡ true
-    stands slot is = inv.opened k slot.0 (kind_of_free slot is) is.0
+    block_is_ready slot is = inv.opened k slot.0 (kind_of_free slot is) is.0
 
     low_block : (slot : Slot) → IsFreeFor (seen kinds free) k slot → slot.0 / 64 ≤ 256
     low_block slot is = block_small (slot.0 / 64) (is_there kinds (slot.0 / 64) k (kind_of_free slot is))
@@ -285,7 +285,7 @@ module _ {kinds : List (Option Kind)} {free ready : Held} (inv : IsPool kinds fr
         HasNoneFor (seen kinds free) k
     none_ready none slot is =
         let low = low_block slot is in
-        not_both _ (none (place_of k (slot.0 / 64)) (omega arith) (omega arith)) (stands slot is)
+        not_both _ (none (place_of k (slot.0 / 64)) (omega arith) (omega arith)) (block_is_ready slot is)
 
     module _ {at : ℕ} (first : IsLeastBetween ready.members (64 * (kind_number k * 5))
         (64 * (kind_number k * 5 + 5)) at) {block : ℕ} (block_is : block ≡ at - place_of k 0) where
@@ -324,7 +324,7 @@ module _ {kinds : List (Option Kind)} {free ready : Held} (inv : IsPool kinds fr
             at_most other is _ (inr le) = le
             at_most other is (inl before) (inl less) =
                 not_both _ (first.least (place_of k (other.0 / 64)) (omega arith) (omega (arith, at_is)))
-                (stands other is)
+                (block_is_ready other is)
             at_most other is (inr after) (inl less) =
                 not_both _ (least.least other.0 (omega arith) less) is.0
 

@@ -14,14 +14,14 @@ use Rattle.hd_model.specs.Grammar.{value_of, number_of}
 abbrev worth : ℕ → List ℕ → ℕ
 worth n digits = fold (λ m b. m * 10 + (b - 48)) n digits
 
-tells : IsDigitsTest (λ ds. list_all is_ascii_digit ds ≡ true)
-tells = search rules
+digits_test : IsDigitsTest (λ ds. list_all is_ascii_digit ds ≡ true)
+digits_test = search rules
 
 folds : FoldsDigits worth
 folds = search rules
 
 model : IsNumeralModel (λ ds. list_all is_ascii_digit ds ≡ true) (worth 0)
-model = numerals_by_fold _ tells worth folds
+model = numerals_by_fold _ digits_test worth folds
 
 -- a number up to a limit is read from its numeral
 pub number_again : (most n : ℕ) → n ≤ most → most < 2 ^ 64 → number_of most (decimal n) ≡ Some n

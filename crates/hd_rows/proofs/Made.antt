@@ -15,9 +15,9 @@ full_empty h limit e r held =
     ∙ subst (λ (g : Heap). is_in_use g r ≡ true) e held))
 
 -- whether there is an object does not depend on its generation
-stands_in : (g : ℕ) (o : Option Placed) → is_some (option_map (object_in g) o) ≡ is_some o
-stands_in g None = refl
-stands_in g (Some p) = refl
+there_in : (g : ℕ) (o : Option Placed) → is_some (option_map (object_in g) o) ≡ is_some o
+there_in g None = refl
+there_in g (Some p) = refl
 
 module _ (old new : Heap) (at : Addr) (o : Placed) (m : IsMade old new at o)
     (full : HasNoEmptyRegion old) where
@@ -33,21 +33,21 @@ module _ (old new : Heap) (at : Addr) (o : Placed) (m : IsMade old new at o)
   regions_are : new.regions ≡ map.insert old.regions (region_of at) Held
   regions_are = ap (λ (h : Heap). h.regions) m.made
 
-  stands_now : (a : Addr) → is_some (map.get new.objects a.0) ≡ true → has_object new a ≡ true
-  stands_now a e = stands_in (region_generation new (region_of a)) (map.get new.objects a.0) ∙ e
+  there_now : (a : Addr) → is_some (map.get new.objects a.0) ≡ true → has_object new a ≡ true
+  there_now a e = there_in (region_generation new (region_of a)) (map.get new.objects a.0) ∙ e
 
-  made_stands : has_object new at ≡ true
-  made_stands =
-      stands_now at
+  made_is_there : has_object new at ≡ true
+  made_is_there =
+      there_now at
       (ap (λ k. is_some (map.get new.objects k)) m.place
       ∙ ap (λ (os : map.FinMap nat_cmp Placed). is_some (map.get os Key)) objects_are
       ∙ ap is_some (get_inserted old.objects Key o))
 
-  still_stands : (a : Addr) → has_object old a ≡ true → has_object new a ≡ true
-  still_stands a e =
+  still_there : (a : Addr) → has_object old a ≡ true → has_object new a ≡ true
+  still_there a e =
       let was : is_some (map.get old.objects a.0) ≡ true =
-      sym (stands_in (region_generation old (region_of a)) (map.get old.objects a.0)) ∙ e in
-      stands_now a
+      sym (there_in (region_generation old (region_of a)) (map.get old.objects a.0)) ∙ e in
+      there_now a
       (ap (λ (os : map.FinMap nat_cmp Placed). is_some (map.get os a.0)) objects_are
       ∙ elim (cases_eq a.0 Key) [
         | inl same ↦ ap (λ k. is_some (map.get (map.insert old.objects Key o) k)) same
@@ -58,11 +58,11 @@ module _ (old new : Heap) (at : Addr) (o : Placed) (m : IsMade old new at o)
   pub full_made : HasNoEmptyRegion new
   full_made r held =
       elim (cases_eq r (region_of at)) [
-        | inl same ↦ record { at = at; object = made_stands; region = sym same }
+        | inl same ↦ record { at = at; object = made_is_there; region = sym same }
         | inr other ↦
             let was : is_in_use old r ≡ true =
             sym (ap is_some (get_beside old.regions (region_of at) Held r other))
             ∙ sym (ap (λ (rs : map.FinMap nat_cmp Region). is_some (map.get rs r)) regions_are) ∙ held in
             let start : StartsInRegion old r = full r was in
-            record { at = start.at; object = still_stands start.at start.object; region = start.region }
+            record { at = start.at; object = still_there start.at start.object; region = start.region }
       ]

@@ -16,7 +16,7 @@ use hd_model::{Addr, Slot};
 use hd_seg::{Extra, Seg};
 
 /// Whether there is an object at an address.
-pub(crate) fn stands(heap: &Heap, at: Addr) -> bool
+pub(crate) fn is_object_at(heap: &Heap, at: Addr) -> bool
     ensures { result ≡ true → has_object heap.now at ≡ true }
 {
     if at.0 == 0 {
@@ -63,7 +63,7 @@ fn names_objects(heap: &Heap, at: Addr) -> bool
 {
     for i in 0..heap.fields(at) {
         if let Some(y) = heap.load(at, i) {
-            if !stands(heap, y) {
+            if !is_object_at(heap, y) {
                 return false;
             }
         }
@@ -138,7 +138,7 @@ fn is_plain(heap: &Heap, seg: &Seg, ages: &AgeMap, slot: u32) -> bool
     let Some(at) = row.target else {
         return true;
     };
-    if slot < ROWS || slot / ROWS > ages.blocks() || !stands(heap, at) {
+    if slot < ROWS || slot / ROWS > ages.blocks() || !is_object_at(heap, at) {
         return false;
     }
     ages.age(slot / ROWS, slot % ROWS / CLUMP) <= heap.generation(at)
@@ -160,13 +160,13 @@ pub(crate) fn are_plain(heap: &Heap, seg: &Seg, ages: &AgeMap) -> bool
 }
 
 /// Whether each root is null or an object.
-pub(crate) fn roots_stand(heap: &Heap, roots: &[Option<Addr>]) -> bool
+pub(crate) fn roots_are_objects(heap: &Heap, roots: &[Option<Addr>]) -> bool
     ensures { result ≡ true → (x : Addr) → Contains roots.now (Some x) →
         has_object heap.now x ≡ true }
 {
     for root in roots {
         if let Some(at) = *root {
-            if !stands(heap, at) {
+            if !is_object_at(heap, at) {
                 return false;
             }
         }

@@ -13,7 +13,7 @@ mod passes;
 #[cfg(test)]
 mod relocations;
 #[cfg(test)]
-mod revivals;
+mod resurrections;
 #[cfg(test)]
 mod rounds;
 #[cfg(test)]

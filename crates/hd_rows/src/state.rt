@@ -4,7 +4,7 @@ ghost use Rattle.std.specs.FinMap.{len};
 ghost use Rattle.hd_plan.specs.Plan.{HasNoEmptyRegion};
 ghost use Rattle.hd_gc.specs.Ready.{IsReady, parts};
 
-use crate::checks::{are_alone, are_plain, is_bare, roots_stand, stands};
+use crate::checks::{are_alone, are_plain, is_bare, is_object_at, roots_are_objects};
 use hd_ages::AgeMap;
 use hd_final::Final;
 use hd_gc::collect;
@@ -123,7 +123,7 @@ fn lower(rt: &impl Abort, s: &mut State, slot: Slot, target: Option<Addr>)
     let Some(at) = target else {
         return;
     };
-    assert!(rt; stands(&s.heap, at));
+    assert!(rt; is_object_at(&s.heap, at));
     let block = slot.0 / ROWS;
     assert!(rt; 1 <= block && block <= s.ages.blocks());
     let generation = s.heap.generation(at);
@@ -147,7 +147,7 @@ fn is_ready(s: &State) -> bool
     if !are_plain(&s.heap, &s.seg, &s.ages) {
         return false;
     }
-    if !roots_stand(&s.heap, &s.roots) {
+    if !roots_are_objects(&s.heap, &s.roots) {
         return false;
     }
     s.fin.len() == 0

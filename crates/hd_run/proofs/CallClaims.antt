@@ -33,7 +33,7 @@ use Rattle.hd_run.specs.Ending.{world_of, world_that, journal_in, kept_of, kept_
 use Rattle.hd_run.specs.Work.{Worked}
 use Rattle.hd_run.specs.Report.{fault_status, status_of, text_for, ran_text, stopped_text, memory_text, form_for, Reports}
 use Rattle.hd_run.specs.Claims.{RunsWhole, StopsForMemory, RefusesScript, IsStatus, AsksToRead, AsksForLoad, AreBytesRefused, Answers, KeepsRun, KeepsCount, HasLine, Promise}
-use Rattle.hd_run.proofs.RunEndings.{no_whole, ending_status, journal_told, nothing_told, run_keeps, told, write_rose, status_cases}
+use Rattle.hd_run.proofs.RunEndings.{no_whole, ending_status, journal_kept, nothing_reported, run_keeps, reported_as, write_rose, status_cases}
 use Rattle.hd_run.proofs.LoadClaims.{line_of, refused_line}
 
 -- the handles of what is kept are those that were made, less those that were freed
@@ -48,19 +48,19 @@ kept_handles (Shared w) run = handles_are_made_less_freed w.numbers w.journal w.
 -- the bytes that a read took are among those that were left, and all that it read are all of them
 among : (old new : Option (List ℕ)) (bytes read : List ℕ) → old ≡ Some bytes →
     Consumes old new read → length read ≤ length bytes
-among None new bytes read e told = cc
-among (Some xs) None bytes read e told = absurd told
-among (Some xs) (Some ys) bytes read e told =
+among None new bytes read e reported_as = cc
+among (Some xs) None bytes read e reported_as = absurd reported_as
+among (Some xs) (Some ys) bytes read e reported_as =
     let same : xs ≡ bytes = cc in
-    omega (arith, ap length told, ap length same, length-append read ys)
+    omega (arith, ap length reported_as, ap length same, length-append read ys)
 
 all_of : (old new : Option (List ℕ)) (bytes read : List ℕ) → old ≡ Some bytes →
     Consumes old new read → IsAtEnd new → read ≡ bytes
-all_of None new bytes read e told end = cc
-all_of (Some xs) None bytes read e told end = absurd told
-all_of (Some xs) (Some ys) bytes read e told end =
+all_of None new bytes read e reported_as end = cc
+all_of (Some xs) None bytes read e reported_as end = absurd reported_as
+all_of (Some xs) (Some ys) bytes read e reported_as end =
     let same : xs ≡ bytes = cc in
-    sym (told ∙ ap (λ v. read ++ v) end ∙ append-nil read) ∙ same
+    sym (reported_as ∙ ap (λ v. read ++ v) end ∙ append-nil read) ∙ same
 
 -- a program of few bytes is not refused
 not_refused : (lists : List (List Cmd)) (bytes : List ℕ) → length bytes ≤ MOST_BYTES →
@@ -74,7 +74,7 @@ not_refused lists bytes few program (inr fault) =
 nothing_read : (v : SourceView) → GaveCount v v (λ n. n ≤ MOST_BYTES)
 nothing_read v = record {
   bytes = [];
-  gave = record { told = none_consumed v.left; counted = inl (omega arith); unfailed = refl };
+  gave = record { consumed = none_consumed v.left; counted = inl (omega arith); unfailed = refl };
   count = omega arith;
 }
   where
@@ -173,17 +173,17 @@ module _ (old new : SourceView) where
     refused_answers Usage cause is ne = absurd cause
     refused_answers Unread cause is ne = absurd (unfailed (unread_rose cause))
     refused_answers OverSize cause is ne =
-        let few = among old.left new.left bytes cause.bytes left cause.gave.told in
+        let few = among old.left new.left bytes cause.bytes left cause.gave.consumed in
         inl (is, inl (omega (arith, few, cause.count)))
     refused_answers (BadLine k) (read, whole, fault) is ne =
-        let same = all_of old.left new.left bytes read left whole.all.gave.told whole.all.end in
+        let same = all_of old.left new.left bytes read left whole.all.gave.consumed whole.all.end in
         inl (is, inr (subst (λ v. IsErr (script_of v)) same (subst IsErr (sym fault) refl)))
     refused_answers NoMemory cause is ne = absurd (ne is)
 
     whole_answers : (lists : List (List Cmd)) → ReadProgram old new lists → status ≡ 0 → Answers bytes status
     whole_answers lists read is ne =
         let whole = read.read in
-        let same = all_of old.left new.left bytes read.bytes left whole.all.gave.told whole.all.end in
+        let same = all_of old.left new.left bytes read.bytes left whole.all.gave.consumed whole.all.end in
         inr (
           is,
           subst (λ v. ¬ (AreBytesRefused v)) same (not_refused lists read.bytes whole.within read.program),
@@ -244,12 +244,12 @@ module _ (old new : SourceView) where
         (sym memory)
         (inl (unread, refl), subst (λ (f : Ending). Took before after (text_for Lines f)) memory took)
     memory_of (Some r) (Refused NoMemory) cause is took =
-        (inl (cause, refl), subst (Took before after) (nothing_told (traits_of r.mode).form) took)
+        (inl (cause, refl), subst (Took before after) (nothing_reported (traits_of r.mode).form) took)
     memory_of (Some r) (Refused f) cause is took = cc
     memory_of (Some r) (Stopped run) (lists, script, at) is took = (
       inr (lists, script, run, refl, at),
       subst (λ (es : List Entry). Took before after (stopped_text (traits_of r.mode).form es))
-          (journal_told run) took,
+          (journal_kept run) took,
     )
     memory_of (Some r) (Done run roots) cause is took = cc
 
@@ -296,7 +296,7 @@ module _ {S K : Type 0} (seen : S → SourceView) (shown : K → SinkView) (sour
     load_unread (Some r) load reads = let both : true ≡ false = sym reads ∙ load in cc
 
     all : (k : ℕ) → o.status ≡ k → k ≢ 5 → (status_of e ≡ k) × Took before after (text_for (form_for asked) e)
-    all = told before after (form_for asked) e o reports
+    all = reported_as before after (form_for asked) e o reports
 
     rose : o.status ≡ 5 → Rose before.faults after.faults
     rose = write_rose before after (form_for asked) e o reports

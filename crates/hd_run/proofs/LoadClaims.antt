@@ -9,7 +9,7 @@ use Rattle.hd_model.specs.declared.limits.TheConstants.{HEAP, BLOCKS, LOAD_CALLE
 use Rattle.hd_model.specs.Generated.{load_numbers, generated_list, generated_lists}
 use Rattle.hd_model.specs.Run.{part_of, commands_of}
 use Rattle.hd_script.specs.Load.{IsLoadRun}
-use Rattle.hd_script.proofs.LoadLine.{told, loads_have_their_line}
+use Rattle.hd_script.proofs.LoadLine.{returned, loads_have_their_line}
 use Rattle.hd_io.specs.Sink.{SinkView, Took}
 use Rattle.hd_world.specs.World.{WorldView}
 use Rattle.hd_run.specs.declared.ending.Fault.{Fault}
@@ -24,7 +24,7 @@ use Rattle.hd_run.specs.Together.{RanAllTogether}
 use Rattle.hd_run.specs.Ending.{IsLoadScript, RunCause}
 use Rattle.hd_run.specs.Report.{status_of, text_for, ran_text, HasSumOf, Reports}
 use Rattle.hd_run.specs.Claims.{HasLine}
-use Rattle.hd_run.proofs.RunEndings.{no_whole, told as all_told}
+use Rattle.hd_run.proofs.RunEndings.{no_whole, reported_as as all_reported}
 
 -- its script has four callers, so its numbers are those of every load
 pub load_is : (rounds : ℕ)
@@ -40,7 +40,7 @@ load_is rounds = λ i. record {
 pub refused_line : (rounds : ℕ) (before after : SinkView) (form : Form) (f : Fault) (o : Outcome) →
     Reports before after form (Refused f) o → HasLine rounds before after o.status
 refused_line rounds before after form f o reports zero =
-    absurd (no_whole f (all_told before after form (Refused f) o reports 0 zero (λ five. cc)).0)
+    absurd (no_whole f (all_reported before after form (Refused f) o reports 0 zero (λ five. cc)).0)
 
 module _ (rounds : ℕ) (lists : List (List Cmd)) (load : IsLoadScript rounds lists) where
   load_run : (w : WorldView) → RanAllTogether load_numbers lists w → IsLoadRun rounds w.journal w.state
@@ -67,7 +67,7 @@ module _ (rounds : ℕ) (lists : List (List Cmd)) (load : IsLoadScript rounds li
   load_sum (Stopped run) at = tt
   load_sum (Done (ran.Alone w) roots) all = absurd all.0
   load_sum (Done (ran.Shared w) roots) all =
-      omega (arith, told rounds w.journal w.state load.most (load_run w all.0), small)
+      omega (arith, returned rounds w.journal w.state load.most (load_run w all.0), small)
 
   -- and the line is known
   module _ (before after : SinkView) where
@@ -82,5 +82,6 @@ module _ (rounds : ℕ) (lists : List (List Cmd)) (load : IsLoadScript rounds li
 
     pub line_of : (e : Ending) (o : Outcome) → RunCause true false load_numbers lists e →
         Reports before after Summary e o → HasLine rounds before after o.status
-    line_of e o cause reports zero = let at = all_told before after Summary e o reports 0 zero (λ five. cc) in
+    line_of e o cause reports zero = let at =
+        all_reported before after Summary e o reports 0 zero (λ five. cc) in
         line_at e cause at.0 at.1 refl

@@ -78,19 +78,20 @@ asked_mode found t o some is = let same = first_value-rows found (codes "mode") 
     (sym some ∙ same)
 
 -- where the command finds no fault in the words, they ask for what its matches ask for
-pub lawful : (words : List (String Global)) (rows : List Row) → fault_of program (map string_bytes words) ≡ []
+pub valid_words : (words : List (String Global)) (rows : List Row)
+    → fault_of program (map string_bytes words) ≡ []
     → rows ≡ matches_of program (map string_bytes words) → asked_by rows ≡ request_of words
 unfolding request_of
-lawful words rows none is = ap asked_by is
+valid_words words rows none is = ap asked_by is
     ∙ ap (λ v. unless_faulty v (asked_by (matches_of program (map string_bytes words)))) (sym none)
 
 -- and where it finds one, for nothing
-pub unlawful : (words : List (String Global)) (k : ErrorKind)
+pub invalid_words : (words : List (String Global)) (k : ErrorKind)
     → (k ≡ kind.OutOfMemory) ⊎ IsAmong k (fault_of program (map string_bytes words)) → k ≢ kind.OutOfMemory
     → None ≡ request_of words
 unfolding request_of
-unlawful words k (inl memory) other = absurd (other memory)
-unlawful words k (inr among) other = go (fault_of program (map string_bytes words)) refl among
+invalid_words words k (inl memory) other = absurd (other memory)
+invalid_words words k (inr among) other = go (fault_of program (map string_bytes words)) refl among
   where
     go : (faults : Kinds) → fault_of program (map string_bytes words) ≡ faults → IsAmong k faults
         → None ≡ request_of words

@@ -50,13 +50,13 @@ not_five (Stopped run) is = cc
 not_five (Done run roots) is = cc
 
 -- the journal that ran, and that of what is kept of it, is the same
-pub journal_told : (run : Ran) → (world_that run).journal ≡ journal_in (world_of (kept_that run))
-journal_told (ran.Alone w) = refl
-journal_told (ran.Shared w) = refl
+pub journal_kept : (run : Ran) → (world_that run).journal ≡ journal_in (world_of (kept_that run))
+journal_kept (ran.Alone w) = refl
+journal_kept (ran.Shared w) = refl
 
-pub nothing_told : (form : Form) → memory_text ≡ stopped_text form []
-nothing_told Lines = refl
-nothing_told Summary = refl
+pub nothing_reported : (form : Form) → memory_text ≡ stopped_text form []
+nothing_reported Lines = refl
+nothing_reported Summary = refl
 
 -- the ending of a run keeps its world
 pub ending_keeps : (done : Bool) (run : Ran) → Keeps (run_ending done run)
@@ -138,8 +138,8 @@ module _ (before after : SinkView) (form : Form) (e : Ending) (o : Outcome)
     (reports : Reports before after form e o)
   where
     -- but on status 5 all was written
-    pub told : (k : ℕ) → o.status ≡ k → k ≢ 5 → (status_of e ≡ k) × Took before after (text_for form e)
-    told k s other = elim reports.written [
+    pub reported_as : (k : ℕ) → o.status ≡ k → k ≢ 5 → (status_of e ≡ k) × Took before after (text_for form e)
+    reported_as k s other = elim reports.written [
       | inl (is, took) ↦ (sym is ∙ s, took)
       | inr (is, broke) ↦ absurd (other (sym s ∙ is))
     ]

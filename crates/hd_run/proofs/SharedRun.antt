@@ -84,7 +84,7 @@ module _ (s : Named) (lists : List (List Cmd)) (before : List CallerView)
           (played c d within).same.number ∙ all.in_order c d within;
     }
 
-    module _ (w : WorldView) (told : HasParts after w.journal) where
+    module _ (w : WorldView) (has_parts : HasParts after w.journal) where
       -- what is left of a caller's list after its part
       abbrev left : ℕ → List Cmd
       left c = drop (length (part_of w.journal c)) (list_of lists c)
@@ -102,7 +102,7 @@ module _ (s : Named) (lists : List (List Cmd)) (before : List CallerView)
           let p = subst (λ k. HasPlayed (list_of lists k) (slice_index_or before c d)
           (slice_index_or after c d))
           number (played c d within) in
-          let part = told.each c d lt in
+          let part = has_parts.each c d lt in
           let split : list_of lists c ≡ commands_of (part_of w.journal c) ++ p.left =
           p.parts ∙ ap (λ es. commands_of es ++ p.left) (sym part) in
           let rest : left c ≡ p.left =
@@ -128,7 +128,7 @@ module _ (s : Named) (lists : List (List Cmd)) (before : List CallerView)
       split_at c = elim (cases_lt c (length after)) [
         | inl lt ↦ (did c (some_of after c lt) lt).parts
         | inr ge ↦ no_list c ge
-            ∙ (λ i. commands_of (sym (told.others c ge) i) ++ sym (nothing_left c ge) i)
+            ∙ (λ i. commands_of (sym (has_parts.others c ge) i) ++ sym (nothing_left c ge) i)
       ]
 
       wants_at : (c : ℕ) → MayWantMemory (left c)

@@ -16,7 +16,7 @@ use Rattle.hd_run.specs.Together.{RanAllTogether, StoppedTogether}
 use Rattle.hd_run.specs.Ending.{world_of, journal_in, kept_of, RunCause}
 use Rattle.hd_run.specs.Report.{fault_status, status_of, text_for, ran_text, whole_text, stopped_text, Reports}
 use Rattle.hd_run.specs.Claims.{KeepsRun, Together}
-use Rattle.hd_run.proofs.RunEndings.{no_whole, nothing_told, run_keeps, told, write_rose, status_cases}
+use Rattle.hd_run.proofs.RunEndings.{no_whole, nothing_reported, run_keeps, reported_as, write_rose, status_cases}
 use Rattle.hd_run.proofs.CallClaims.{kept_handles}
 
 module _ (n : Numbers) (lists : List (List Cmd)) where
@@ -47,7 +47,7 @@ module _ (n : Numbers) (lists : List (List Cmd)) where
         Took before after (text_for form e) → Wants e
     memory_of (Refused f) cause is took = (
       inl refl,
-      subst (Took before after) (nothing_told form)
+      subst (Took before after) (nothing_reported form)
           (subst (λ (k : Fault). Took before after (text_for form (Refused k))) cause took),
     )
     memory_of (Stopped (ran.Alone w)) at is took = absurd at
@@ -69,11 +69,11 @@ module _ {K : Type 0} (shown : K → SinkView) (form : Form) (n : Numbers) (list
   pub together : Together shown form n lists sink_old sink_new o
   together = record {
     work = (e, cause, reports);
-    whole = λ s. let at = told before after form e o reports 0 s (λ f. cc) in
+    whole = λ s. let at = reported_as before after form e o reports 0 s (λ f. cc) in
         let says = whole_of n lists form before after e cause at.0 at.1 in
         (says.0, reports.kept ∙ says.1, says.2, says.3);
     write = write_rose before after form e o reports;
-    memory = λ s. let at = told before after form e o reports 6 s (λ f. cc) in
+    memory = λ s. let at = reported_as before after form e o reports 6 s (λ f. cc) in
         subst (λ k. ((k ≡ Nothing) ⊎ ((w : WorldView) × (k ≡ Shared w) × StoppedTogether n lists w))
         × Took before after (stopped_text form (journal_in (world_of k)))) (sym reports.kept)
         (memory_of n lists form before after e cause at.0 at.1);
@@ -81,7 +81,7 @@ module _ {K : Type 0} (shown : K → SinkView) (form : Form) (n : Numbers) (list
       | inl is ↦ subst (Contains (0 ∷ 5 ∷ 6 ∷ [])) (sym is) (run_status n lists e cause)
       | inr is ↦ subst (Contains (0 ∷ 5 ∷ 6 ∷ [])) (sym is) (1, lit< tt, refl)
     ];
-    sink_faults = λ five. (told before after form e o reports o.status refl five).1.unfailed;
+    sink_faults = λ five. (reported_as before after form e o reports o.status refl five).1.unfailed;
     journal = run_kept;
     handles = kept_handles o.kept run_kept;
   }

@@ -13,7 +13,7 @@ use Rattle.clap.specs.declared.parser.matches.ArgMatches.{ArgMatches}
 use Rattle.hd_run.specs.declared.ending.Fault.{Fault}
 use Rattle.hd_run.specs.declared.request.Request.{Request}
 use Rattle.hd_run.specs.Words.{program, request_of, asked_by, request_or_usage, GivesNumbers, IsFaultOfWords, IsRefusal}
-use Rattle.hd_run.proofs.MatchRequests.{lawful, unlawful}
+use Rattle.hd_run.proofs.MatchRequests.{valid_words, invalid_words}
 use Rattle.hd_run.proofs.OptionLimits.{gives_numbers}
 
 simple : is_simple program ≡ true
@@ -56,7 +56,7 @@ module _ (c : Command) (app : app_of c ≡ program) (words : List (String Global
   asks : (m : ArgMatches) → AreKinds (Ok m) → AreMatches (Ok m)
       → asked_by (rows_of (found_of m)) ≡ request_of words
   asks m kinds matches =
-      lawful words (rows_of (found_of m))
+      valid_words words (rows_of (found_of m))
       (ap (λ (a : App). fault_of a (map string_bytes words)) (sym app) ∙ kinds is_free)
       ((matches (ap is_simple app ∙ simple)).0 ∙ ap (λ (a : App). matches_of a (map string_bytes words)) app)
 
@@ -80,5 +80,5 @@ module _ (c : Command) (app : app_of c ≡ program) (words : List (String Global
       let has = subst (λ (a : App). HasKind (fault_of a (map string_bytes words)) e) app (kinds is_free) in
       elim says.1 [
         | inl (memory, want) ↦ inl memory
-        | inr (usage, other) ↦ inr (usage, sym (unlawful words (kind_of e) has other))
+        | inr (usage, other) ↦ inr (usage, sym (invalid_words words (kind_of e) has other))
       ]

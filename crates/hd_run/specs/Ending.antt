@@ -108,7 +108,7 @@ pub record ReadProgram (old new : SourceView) (lists : List (List Cmd)) : Type 0
   pub read : ReadWhole old new bytes
   pub program : IsProgram bytes lists
 
--- the script of a load of so many rounds
+-- the script of a load of this number of rounds
 pub record IsLoadScript (rounds : ℕ) (lists : List (List Cmd)) : Type 0 where
   pub least : 1 ≤ rounds
   pub most : rounds ≤ MOST_ROUNDS

@@ -3,7 +3,7 @@ use Rattle.std.specs.Prelude.{◌≡◌, ℕ, ◌^◌, ◌<◌, sum_by, List, �
 use Rattle.hd_model.specs.declared.data.Entry.{Entry}
 use Rattle.hd_model.specs.declared.data.RootId.{RootId}
 use Rattle.hd_model.specs.declared.limits.TheConstants.{CALLERS}
-use Rattle.hd_model.specs.Generated.{load_text_of, value_told}
+use Rattle.hd_model.specs.Generated.{load_text_of, value_returned}
 use Rattle.hd_model.specs.RootText.{list_text}
 use Rattle.hd_model.specs.Text.{newline, lines_of, text_of}
 use Rattle.hd_io.specs.Sink.{SinkView, Took, WriteBrokeOff}
@@ -87,7 +87,7 @@ HasFewCallers journal = All (λ (e : Entry). e.caller < CALLERS) journal
 -- the sum that a load reports fits in 64 bits
 abbrev pub HasSum : Form → WorldView → Type 0
 HasSum Lines w = Unit {0}
-HasSum Summary w = sum_by (λ (e : Entry). value_told e.reply) w.journal < 2 ^ 64
+HasSum Summary w = sum_by (λ (e : Entry). value_returned e.reply) w.journal < 2 ^ 64
 
 abbrev pub HasSumOf : Form → Ending → Type 0
 HasSumOf form (Refused fault) = Unit {0}

@@ -1,6 +1,6 @@
 // The line of a load.
 ghost use Rattle.std.specs.Prelude.{◌≡◌, ◌^◌, ◌<◌, sum_by};
-ghost use Rattle.hd_model.specs.Generated.{load_text_of, value_told};
+ghost use Rattle.hd_model.specs.Generated.{load_text_of, value_returned};
 ghost use Rattle.hd_model.specs.Laws.{makes_object, count_entries};
 
 use hd_model::{Cmd, Entry, Journal, Reply};
@@ -10,7 +10,7 @@ use hd_world::World;
 /// The line of a load that a world ran: its commands, the objects that were made, the live handles,
 /// the collections, and the sum of the values that were read.
 pub(crate) fn summary(world: &World) -> Line
-    requires { sum_by (λ e. value_told e.reply) world.now.journal < 2 ^ 64 }
+    requires { sum_by (λ e. value_returned e.reply) world.now.journal < 2 ^ 64 }
     ensures { result ≡ load_text_of world.now.journal world.now.state }
 {
     let journal = world.journal();
@@ -48,19 +48,19 @@ fn makes_object(entry: Entry) -> bool
 
 // The sum of the values that were read.
 fn sum(journal: &Journal) -> u64
-    requires { sum_by (λ e. value_told e.reply) journal.now.entries < 2 ^ 64 }
-    ensures { result ≡ sum_by (λ e. value_told e.reply) journal.now.entries }
+    requires { sum_by (λ e. value_returned e.reply) journal.now.entries < 2 ^ 64 }
+    ensures { result ≡ sum_by (λ e. value_returned e.reply) journal.now.entries }
 {
     let mut sum = 0;
     for i in 0..journal.len() {
-        sum += value_told(journal.entry(i).reply);
+        sum += value_returned(journal.entry(i).reply);
     }
     sum
 }
 
 // The value that a reply states, or 0.
-fn value_told(reply: Reply) -> u64
-    ensures { result ≡ value_told reply }
+fn value_returned(reply: Reply) -> u64
+    ensures { result ≡ value_returned reply }
 {
     match reply {
         Reply::Value(value) => value,

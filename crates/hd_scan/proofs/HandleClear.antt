@@ -62,20 +62,20 @@ module _ (t : Table) (ages : List ℕ) (n : ℕ) (task : Task) (p : Addr → Boo
       → IsDueRow t ages n (task_kind task) slot
   swept_due slot r = record {
     handle = r.handle;
-    stands = r.stands;
+    is_stored = r.is_stored;
     of_kind = taken_kind task r.handle r.takes;
     due = r.due;
   }
 
   pub undue_kept : (slot : ℕ) (h : Handle Addr) → row_at t slot ≡ Some h
       → (IsDueRow t ages n (task_kind task) slot → ⊥) → sweep slot h ≡ h
-  undue_kept slot h stands undue =
+  undue_kept slot h is_stored undue =
       swept_kept task p h (is_due ages n slot)
       (⊎_elim
       (λ taken. ⊎_elim
       (λ due. absurd (undue (record {
         handle = h;
-        stands = stands;
+        is_stored = is_stored;
         of_kind = taken_kind task h taken;
         due = due;
       })))
@@ -99,7 +99,7 @@ module _ {t : Table} {ages : List ℕ} {n : ℕ} (task : Task) (p : Addr → Boo
         let parts = and_parts (takes task g) (is_lost p g.target) lost in
         record {
           handle = due.handle;
-          stands = due.stands;
+          is_stored = due.is_stored;
           due = due.due;
           takes = ap (takes task) (sym same) ∙ parts.0;
           lost = ap (λ (h : Handle Addr). is_lost p h.target) (sym same) ∙ parts.1;
@@ -109,7 +109,7 @@ module _ {t : Table} {ages : List ℕ} {n : ℕ} (task : Task) (p : Addr → Boo
         → ⊥
     swept_hasnt kept q =
         let e : q.handle ≡ g =
-        same_Some q.handle g (sym q.stands ∙ due.stands ∙ ap (λ h. Some h) (sym same)) in
+        same_Some q.handle g (sym q.is_stored ∙ due.is_stored ∙ ap (λ h. Some h) (sym same)) in
         both_ways (takes task g && is_lost p g.target) kept
         (and_from (takes task g) (is_lost p g.target) (ap (takes task) (sym e) ∙ q.takes)
         (ap (λ (h : Handle Addr). is_lost p h.target) (sym e) ∙ q.lost))
@@ -119,9 +119,9 @@ module _ (o : Objects Addr) (t : Table) (ages : List ℕ) (n : ℕ) (task : Task
     (settled : IsSettled o n p) (sound : HasSoundAges o (row_at t) ages) where
   undue_found : (slot : ℕ) (h : Handle Addr) → row_at t slot ≡ Some h → is_due ages n slot ≡ false
       → is_lost p h.target ≡ false
-  undue_found slot h stands undue =
+  undue_found slot h is_stored undue =
       kept_target p h.target
-      (λ x e. settled.older x (undue_target o n (row_at t) ages sound slot h stands undue x e))
+      (λ x e. settled.older x (undue_target o n (row_at t) ages sound slot h is_stored undue x e))
 
   whole_row : (slot : ℕ) (r : Option (Handle Addr)) → row_at t slot ≡ r
       → option_map (swept (is_due ages n slot) (takes task) p) r ≡ option_map (swept true (takes task) p) r
@@ -141,13 +141,13 @@ module _ (o : Objects Addr) (t : Table) (ages : List ℕ) (n : ℕ) (task : Task
   sweep_whole pin after answer pass = record {
     swept = λ slot. pass.swept slot ∙ whole_row slot (row_at t slot) refl;
     count = counts_like (IsSweptAt (row_at t) ages n task p) (IsLostAt (row_at t) (takes task) p) answer
-        (λ slot r. record { handle = r.handle; stands = r.stands; passes = r.takes; lost = r.lost })
+        (λ slot r. record { handle = r.handle; is_stored = r.is_stored; passes = r.takes; lost = r.lost })
         (λ slot r. record {
           handle = r.handle;
-          stands = r.stands;
+          is_stored = r.is_stored;
           due = ⊎_elim (λ due. due)
               (λ undue. absurd (both_ways (is_lost p r.handle.target)
-              (undue_found slot r.handle r.stands undue) r.lost))
+              (undue_found slot r.handle r.is_stored undue) r.lost))
               (cases_Bool (is_due ages n slot));
           takes = r.passes;
           lost = r.lost;

@@ -51,13 +51,13 @@ module _ (t : Table) (ages : List ℕ) (n : ℕ) (k : Kind) (place : Addr → Ad
   -- what it is not to visit stays as it is
   pub undue_left : (slot : ℕ) (h : Handle Addr) → row_at t slot ≡ Some h → (IsDueRow t ages n k slot → ⊥)
       → relocation slot h ≡ h
-  undue_left slot h stands undue =
+  undue_left slot h is_stored undue =
       left_by (is_kind k h.kind && is_due ages n slot) h
       (⊎_elim
       (λ due. let parts = and_parts (is_kind k h.kind) (is_due ages n slot) due in
       absurd (undue (record {
         handle = h;
-        stands = stands;
+        is_stored = is_stored;
         of_kind = sym (same_kind k h.kind parts.0);
         due = parts.1;
       })))
@@ -105,4 +105,4 @@ module _ {t : Table} {ages : List ℕ} {n : ℕ} {k : Kind} {slot : ℕ} (due : 
       subst (λ h. Rewrites slot h now next) (λ i. relocated (sym visited i) place (same i)) r
 
   pub kept_names : (kept : Addr → Bool) → CanRelocate kept ages n k t → KeepsNames kept g
-  kept_names kept can = subst (KeepsNames kept) (sym same) (can slot due.handle due.stands visited)
+  kept_names kept can = subst (KeepsNames kept) (sym same) (can slot due.handle due.is_stored visited)

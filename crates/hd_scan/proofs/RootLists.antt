@@ -70,17 +70,17 @@ module _ (t : Table) (is : IsTable t) (b : ℕ) where
   -- a row is of the kind of its block
   pub of_kind : (kind : Kind) (row : ℕ) → row < ROWS → block.Rows kind ≡ block_kind_of (get t.uses b)
       → (h : Handle Addr) → row_at t (ROWS * b + row) ≡ Some h → h.kind ≡ kind
-  of_kind kind row less use_is h stands =
+  of_kind kind row less use_is h is_stored =
       same_use (get t.uses b) h.kind kind use_is
       (ap (get t.uses) (sym (at_block (ROWS * b + row) (omega arith) (omega arith)))
-      ∙ (is.rows (ROWS * b + row) h stands).block)
+      ∙ (is.rows (ROWS * b + row) h is_stored).block)
 
   -- and a block that is not of handles has none
   no_row : (o : Option (Handle Addr)) (slot : ℕ) → row_at t slot ≡ o → slot / ROWS ≡ b
       → ((j : Kind) → get t.uses b ≢ Some (handles_of j)) → o ≡ None
-  no_row None slot stands at none = refl
-  no_row (Some h) slot stands at none =
-      absurd (none h.kind (ap (get t.uses) (sym at) ∙ (is.rows slot h stands).block))
+  no_row None slot is_stored at none = refl
+  no_row (Some h) slot is_stored at none =
+      absurd (none h.kind (ap (get t.uses) (sym at) ∙ (is.rows slot h is_stored).block))
 
   pub no_roots : (k : BlockKind) → k ≡ block_kind_of (get t.uses b) → ((j : Kind) → k ≢ block.Rows j)
       → [] ≡ roots_of_block t b
@@ -108,8 +108,8 @@ module _ (t : Table) where
   pub all_blocks : IsTable t → flat_map (roots_of_block t) (range_with_len 1 t.blocks) ≡ roots_of t
   all_blocks is =
       blocks_join 1 t.blocks
-      ∙ ap (roots_in root_by) (sym (entries-are t.rows (ROWS * 1) (ROWS * t.blocks) (λ q h stands.
-      let row = is.rows q h stands in (omega (arith, row.low), omega (arith, row.high)))))
+      ∙ ap (roots_in root_by) (sym (entries-are t.rows (ROWS * 1) (ROWS * t.blocks) (λ q h is_stored.
+      let row = is.rows q h is_stored in (omega (arith, row.low), omega (arith, row.high)))))
 
 -- the lists of all blocks, each as it was returned
 pub in_order : (E : Type 0) (g : ℕ → List Root) (bs : List ℕ) (vs : List (Vec Root Global))

@@ -50,7 +50,7 @@ module _ {t : Table} {ages : List ℕ} {n : ℕ} {task : Task} where
   taken_due : (x : Addr) (r : IsTaken (row_at t) ages n task x) → IsDueRow t ages n (task_kind task) r.slot
   taken_due x r = record {
     handle = r.handle;
-    stands = r.stands;
+    is_stored = r.is_stored;
     of_kind = taken_kind task r.handle r.takes;
     due = r.due;
   }
@@ -58,7 +58,7 @@ module _ {t : Table} {ages : List ℕ} {n : ℕ} {task : Task} where
   root_due : (slot : ℕ) → IsRootAt (row_at t) ages n task slot → IsDueRow t ages n (task_kind task) slot
   root_due slot r = record {
     handle = r.handle;
-    stands = r.stands;
+    is_stored = r.is_stored;
     of_kind = taken_kind task r.handle r.takes;
     due = r.due;
   }
@@ -111,15 +111,15 @@ module _ {o : Objects Addr} {t : Table} {ages : List ℕ} {n : ℕ} {task : Task
 
     -- a handle in this slot is the one that was looked at
     it : (h : Handle Addr) (k : ℕ) → row_at t k ≡ Some h → k ≡ slot.0 → h ≡ live_at t slot.0
-    it h k stands e =
+    it h k is_stored e =
         same_Some h (live_at t slot.0)
-        (sym stands ∙ ap (row_at t) e ∙ due.stands ∙ ap (λ g. Some g) (sym same))
+        (sym is_stored ∙ ap (row_at t) e ∙ due.is_stored ∙ ap (λ g. Some g) (sym same))
 
     abbrev taken_here : (x : Addr) → IsTargetBy task (live_at t slot.0) x → IsTaken (row_at t) ages n task x
     taken_here x b = record {
       slot = slot.0;
       handle = due.handle;
-      stands = due.stands;
+      is_stored = due.is_stored;
       due = due.due;
       takes = ap (takes task) (sym same) ∙ b.takes;
       target = ap (λ (h : Handle Addr). h.target) (sym same) ∙ b.target;
@@ -128,7 +128,7 @@ module _ {o : Objects Addr} {t : Table} {ages : List ℕ} {n : ℕ} {task : Task
     target_here : (x : Addr) (r : IsTaken (row_at t) ages n task x) → r.slot ≡ slot.0
         → IsTargetBy task (live_at t slot.0) x
     target_here x r e =
-        let h = it r.handle r.slot r.stands e in
+        let h = it r.handle r.slot r.is_stored e in
         record {
           takes = ap (takes task) (sym h) ∙ r.takes;
           target = ap (λ (h : Handle Addr). h.target) (sym h) ∙ r.target;
@@ -155,7 +155,7 @@ module _ {o : Objects Addr} {t : Table} {ages : List ℕ} {n : ℕ} {task : Task
         record {
           handle = due.handle;
           object = x;
-          stands = due.stands;
+          is_stored = due.is_stored;
           due = due.due;
           takes = ap (takes task) (sym same) ∙ parts.0;
           target = ap (λ (h : Handle Addr). h.target) (sym same) ∙ e;
@@ -164,7 +164,7 @@ module _ {o : Objects Addr} {t : Table} {ages : List ℕ} {n : ℕ} {task : Task
     no_root : (takes task (live_at t slot.0) && is_some (live_at t slot.0).target) ≡ false
         → IsRootAt (row_at t) ages n task slot.0 → ⊥
     no_root hasnt r =
-        let h = it r.handle slot.0 r.stands refl in
+        let h = it r.handle slot.0 r.is_stored refl in
         both_ways (takes task (live_at t slot.0) && is_some (live_at t slot.0).target) hasnt
         (and_from (takes task (live_at t slot.0)) (is_some (live_at t slot.0).target)
         (ap (takes task) (sym h) ∙ r.takes) (ap (λ (g : Handle Addr). is_some g.target) (sym h)
@@ -204,7 +204,7 @@ module _ {o : Objects Addr} {t : Table} {ages : List ℕ} {n : ℕ} {task : Task
       pinned = λ x h. by.keeps x (s.pinned x h);
       pin_joins = λ x r. ⊎_elim
           (λ same_slot. by.joins x (target_here x r.0.taken same_slot)
-          (ap pins (sym (it r.0.taken.handle r.0.taken.slot r.0.taken.stands same_slot)) ∙ r.0.pins))
+          (ap pins (sym (it r.0.taken.handle r.0.taken.slot r.0.taken.is_stored same_slot)) ∙ r.0.pins))
           (λ ne. by.keeps x (s.pin_joins x (r.0, before_or r.0.taken.slot ne r.1)))
           (cases_eq r.0.taken.slot slot.0);
       pin_only = λ x h. ⊎_elim (λ earlier. s.pin_only x earlier)
@@ -239,14 +239,15 @@ module _ {o : Objects Addr} {t : Table} {ages : List ℕ} {n : ℕ} {task : Task
       (pass : RootPass o ages n task (view_at t p0 pin0) (view_at t p pin) held) where
     undue_older : (x : Addr) (r : IsTargetOf (row_at t) (takes task) x) → is_due ages n r.slot ≡ false
         → n < generation_at o x
-    undue_older x r undue = undue_target o n (row_at t) ages sound r.slot r.handle r.stands undue x r.target
+    undue_older x r undue =
+        undue_target o n (row_at t) ages sound r.slot r.handle r.is_stored undue x r.target
 
     abbrev visited : (x : Addr) (r : IsTargetOf (row_at t) (takes task) x) → is_due ages n r.slot ≡ true
         → IsTaken (row_at t) ages n task x
     visited x r due = record {
       slot = r.slot;
       handle = r.handle;
-      stands = r.stands;
+      is_stored = r.is_stored;
       due = due;
       takes = r.passes;
       target = r.target;
@@ -254,7 +255,14 @@ module _ {o : Objects Addr} {t : Table} {ages : List ℕ} {n : ℕ} {task : Task
 
     abbrev anywhere : (x : Addr) (r : IsTaken (row_at t) ages n task x) → IsTargetOf (row_at t) (takes task) x
     anywhere x r =
-        record { slot = r.slot; handle = r.handle; stands = r.stands; passes = r.takes; target = r.target }
+        record {
+          slot = r.slot;
+          handle = r.handle;
+          is_stored = r.is_stored;
+          passes = r.takes;
+          target =
+              r.target;
+        }
 
     pub root_whole : WholeRoots o n (takes task) (view_at t p0 pin0) (view_at t p pin)
     root_whole = record {

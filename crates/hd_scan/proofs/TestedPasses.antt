@@ -72,13 +72,13 @@ module _ {N : Type 0} (p : N → Bool) where
 
     -- a slot is counted once
     after_first : (slot : ℕ) (h : Handle N) → r0 slot ≡ Some h → r1 slot ≡ Some (swept true f p h)
-    after_first slot h stands = first slot ∙ ap (option_map (swept true f p)) stands
+    after_first slot h is_stored = first slot ∙ ap (option_map (swept true f p)) is_stored
 
     lost_once : (slot : ℕ) → IsLostAt r0 f p slot → IsLostAt r1 g p slot → ⊥
     lost_once slot a b =
         let same : swept true f p a.handle ≡ b.handle =
         same_Some (swept true f p a.handle) b.handle
-        (sym (after_first slot a.handle a.stands) ∙ b.stands) in
+        (sym (after_first slot a.handle a.is_stored) ∙ b.is_stored) in
         let gone : (swept true f p a.handle).target ≡ None =
         (λ i. cond (a.passes i && is_lost p a.handle.target) None a.handle.target)
         ∙ ap (λ v. cond v None a.handle.target) a.lost in
@@ -90,15 +90,15 @@ module _ {N : Type 0} (p : N → Bool) where
         ⊎_elim
         (λ (a : IsLostAt r0 f p slot). record {
           handle = a.handle;
-          stands = a.stands;
+          is_stored = a.is_stored;
           passes = or_left (f a.handle) (g a.handle) a.passes;
           lost = a.lost;
         })
         (λ (b : IsLostAt r1 g p slot).
-        let (h, both) = mapped_value (swept true f p) (r0 slot) b.handle (sym (first slot) ∙ b.stands) in
+        let (h, both) = mapped_value (swept true f p) (r0 slot) b.handle (sym (first slot) ∙ b.is_stored) in
         record {
           handle = h;
-          stands = both.0;
+          is_stored = both.0;
           passes = or_right (f h) (g h) (sym (over h) ∙ ap g both.1 ∙ b.passes);
           lost = lost_before (f h) h.target (ap (λ (k : Handle N). is_lost p k.target) both.1 ∙ b.lost);
         })
@@ -106,10 +106,10 @@ module _ {N : Type 0} (p : N → Bool) where
     from_either : (slot : ℕ) → IsLostAt r0 Either p slot → IsLostAt r0 f p slot ⊎ IsLostAt r1 g p slot
     from_either slot d =
         ⊎_elim
-        (λ yes. inl (record { handle = d.handle; stands = d.stands; passes = yes; lost = d.lost }))
+        (λ yes. inl (record { handle = d.handle; is_stored = d.is_stored; passes = yes; lost = d.lost }))
         (λ no. inr (record {
           handle = swept true f p d.handle;
-          stands = after_first slot d.handle d.stands;
+          is_stored = after_first slot d.handle d.is_stored;
           passes =
               over d.handle
               ∙ ⊎_elim (λ yes. absurd (true≢false (sym yes ∙ no))) (λ other. other)
@@ -176,14 +176,14 @@ module _ {N : Type 0} (f g : Handle N → Bool) (rows : Rows N) where
       (λ (a : IsTargetOf rows f x). record {
         slot = a.slot;
         handle = a.handle;
-        stands = a.stands;
+        is_stored = a.is_stored;
         passes = or_left (f a.handle) (g a.handle) a.passes;
         target = a.target;
       })
       (λ (b : IsTargetOf rows g x). record {
         slot = b.slot;
         handle = b.handle;
-        stands = b.stands;
+        is_stored = b.is_stored;
         passes = or_right (f b.handle) (g b.handle) b.passes;
         target = b.target;
       })
@@ -191,7 +191,7 @@ module _ {N : Type 0} (f g : Handle N → Bool) (rows : Rows N) where
   with_test : (k : Handle N → Bool) (x : N) (s : IsTargetOf rows (λ h. f h || g h) x) → k s.handle ≡ true
       → IsTargetOf rows k x
   with_test k x s e =
-      record { slot = s.slot; handle = s.handle; stands = s.stands; passes = e; target = s.target }
+      record { slot = s.slot; handle = s.handle; is_stored = s.is_stored; passes = e; target = s.target }
 
   pub target_either : (x : N) → IsTargetOf rows (λ h. f h || g h) x
       → IsTargetOf rows f x ⊎ IsTargetOf rows g x

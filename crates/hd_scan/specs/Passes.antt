@@ -29,7 +29,7 @@ pub record PinsBy {N : Type 0} (task : Task) (handle : Handle N) (before after :
 pub record IsTaken {N : Type 0} (rows : Rows N) (ages : List ℕ) (n : ℕ) (task : Task) (x : N) : Type 0 where
   pub slot : ℕ
   pub handle : Handle N
-  pub stands : rows slot ≡ Some handle
+  pub is_stored : rows slot ≡ Some handle
   pub due : is_due ages n slot ≡ true
   pub takes : takes task handle ≡ true
   pub target : handle.target ≡ Some x
@@ -39,7 +39,7 @@ pub record IsRootAt {N : Type 0} (rows : Rows N) (ages : List ℕ) (n : ℕ) (ta
     : Type 0 where
   pub handle : Handle N
   pub object : N
-  pub stands : rows slot ≡ Some handle
+  pub is_stored : rows slot ≡ Some handle
   pub due : is_due ages n slot ≡ true
   pub takes : takes task handle ≡ true
   pub target : handle.target ≡ Some object
@@ -48,7 +48,7 @@ pub record IsRootAt {N : Type 0} (rows : Rows N) (ages : List ℕ) (n : ℕ) (ta
 pub record IsSweptAt {N : Type 0} (rows : Rows N) (ages : List ℕ) (n : ℕ) (task : Task) (p : N → Bool)
     (slot : ℕ) : Type 0 where
   pub handle : Handle N
-  pub stands : rows slot ≡ Some handle
+  pub is_stored : rows slot ≡ Some handle
   pub due : is_due ages n slot ≡ true
   pub takes : takes task handle ≡ true
   pub lost : is_lost p handle.target ≡ true

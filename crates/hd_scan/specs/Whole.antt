@@ -17,7 +17,7 @@ use Rattle.hd_scan.specs.Passes.{PassView}
 pub record IsTargetOf {N : Type 0} (rows : Rows N) (f : Handle N → Bool) (x : N) : Type 0 where
   pub slot : ℕ
   pub handle : Handle N
-  pub stands : rows slot ≡ Some handle
+  pub is_stored : rows slot ≡ Some handle
   pub passes : f handle ≡ true
   pub target : handle.target ≡ Some x
 
@@ -30,7 +30,7 @@ pub record IsPinTargetOf {N : Type 0} (rows : Rows N) (f : Handle N → Bool) (x
 pub record IsLostAt {N : Type 0} (rows : Rows N) (f : Handle N → Bool) (p : N → Bool) (slot : ℕ)
     : Type 0 where
   pub handle : Handle N
-  pub stands : rows slot ≡ Some handle
+  pub is_stored : rows slot ≡ Some handle
   pub passes : f handle ≡ true
   pub lost : is_lost p handle.target ≡ true
 

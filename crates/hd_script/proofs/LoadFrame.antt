@@ -7,7 +7,7 @@ use Rattle.hd_model.specs.declared.data.Slot.{Slot}
 use Rattle.hd_model.specs.State.{State, handle_register_of, handle_at, total_size}
 use Rattle.hd_model.specs.WellFormed.{IsWellFormed}
 use Rattle.hd_model.specs.Generated.{load_numbers}
-use Rattle.hd_script.proofs.LoadPosition.{Line, news, hnews, vals, hgets, reads, drops, others, frees, collects, Place, Owns, AnyValue, OwnsBy, Stands, Frame, nowhere, at, left_of, Fits}
+use Rattle.hd_script.proofs.LoadPosition.{Line, news, hnews, vals, hgets, reads, drops, others, frees, collects, Place, Owns, AnyValue, OwnsBy, IsAtPlace, Frame, nowhere, at, left_of, Fits}
 
 module _ (s t : State) (c d : ℕ) (frame : Frame s t c) (apart : d ≡ c → ⊥) where
   owns_stays : (V : ℕ → Type 0) → Owns s d V → Owns t d V
@@ -29,13 +29,13 @@ module _ (s t : State) (c d : ℕ) (frame : Frame s t c) (apart : d ≡ c → �
   owns_by_stays frees j o = tt
   owns_by_stays collects j o = tt
 
-  pub stands_stays : (p : Place) → ((x : Slot) → p.held ≡ Some x → handle_register_of s c 0 ≡ Some x → ⊥)
-      → Stands s d p → Stands t d p
-  stands_stays p mine stands = record {
-    owns = owns_by_stays p.line p.round stands.owns;
-    held = frame.handle_registers d apart ∙ stands.held;
-    empty = stands.empty;
-    live = λ x e. frame.live x (mine x e) (stands.live x e);
+  pub place_stays : (p : Place) → ((x : Slot) → p.held ≡ Some x → handle_register_of s c 0 ≡ Some x → ⊥)
+      → IsAtPlace s d p → IsAtPlace t d p
+  place_stays p mine at_place = record {
+    owns = owns_by_stays p.line p.round at_place.owns;
+    held = frame.handle_registers d apart ∙ at_place.held;
+    empty = at_place.empty;
+    live = λ x e. frame.live x (mine x e) (at_place.live x e);
   }
 
 -- one caller moves to its next position
@@ -61,22 +61,22 @@ module _ (s t : State) (places : List Place) (c : ℕ) (next : Place) (fits : Fi
       → (at places d).held ≡ Some x → ⊥
   apart_from fresh d small_d apart x new old =
       ⊎_elim (λ (kept : (at places c).held ≡ Some x). fits.apart d c small_d small apart x old kept)
-      (λ (none : handle_at s x ≡ None). not_live x ((fits.stands d small_d).live x old) none) (fresh x new)
+      (λ (none : handle_at s x ≡ None). not_live x ((fits.at_place d small_d).live x old) none) (fresh x new)
 
-  pub fits_moved : IsWellFormed load_numbers t → Stands t c next
+  pub fits_moved : IsWellFormed load_numbers t → IsAtPlace t c next
       → total_size t + 10 * next.left ≤ total_size s + 10 * (at places c).left
       → IsFresh → Fits t (set places c next)
-  fits_moved well stands room fresh = record {
+  fits_moved well at_place room fresh = record {
     four = length-set places c next ∙ fits.four;
     well = well;
     room = omega (arith, sum_by-set left_of places c next nowhere within, fits.room, room);
-    stands = λ d small_d. ⊎_elim
-        (λ (e : d ≡ c). subst (λ (k : ℕ). Stands t k (at (set places c next) k)) (sym e)
-        (subst (Stands t c) (sym here) stands))
-        (λ (ne : d ≡ c → ⊥). subst (Stands t d) (sym (beside d ne))
-        (stands_stays s t c d frame ne (at places d)
-        (λ x e g. fits.apart d c small_d small ne x e (sym (fits.stands c small).held ∙ g))
-        (fits.stands d small_d)))
+    at_place = λ d small_d. ⊎_elim
+        (λ (e : d ≡ c). subst (λ (k : ℕ). IsAtPlace t k (at (set places c next) k)) (sym e)
+        (subst (IsAtPlace t c) (sym here) at_place))
+        (λ (ne : d ≡ c → ⊥). subst (IsAtPlace t d) (sym (beside d ne))
+        (place_stays s t c d frame ne (at places d)
+        (λ x e g. fits.apart d c small_d small ne x e (sym (fits.at_place c small).held ∙ g))
+        (fits.at_place d small_d)))
         (cases_eq d c);
     apart = λ b d small_b small_d ne x e g. ⊎_elim
         (λ (mine : b ≡ c). ⊎_elim

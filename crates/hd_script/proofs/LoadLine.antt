@@ -14,13 +14,13 @@ use Rattle.hd_model.specs.Run.{part_of, commands_of}
 use Rattle.hd_model.specs.Text.{is_collect}
 use Rattle.hd_model.specs.Touched.{touched_by}
 use Rattle.hd_model.specs.Laws.{makes_object, count_entries}
-use Rattle.hd_model.specs.Generated.{load_numbers, load_text, load_text_of, value_told}
+use Rattle.hd_model.specs.Generated.{load_numbers, load_text, load_text_of, value_returned}
 use Rattle.hd_model.proofs.WellFormedSteps.{start_is_well_formed}
 use Rattle.hd_model.proofs.ReadAfterWrite.{replicate_cases}
 use Rattle.hd_model.proofs.RunCounts.{handles_are_made_less_freed}
 use Rattle.hd_script.specs.Load.{IsLoadRun, collections_in, line_of_rounds, LoadsHaveTheirLine}
 use Rattle.hd_script.proofs.LoadRounds.{rounds_of, rounds_length}
-use Rattle.hd_script.proofs.LoadPosition.{news, Place, left_at, pending, holding, Stands, nowhere, at, left_of, Fits}
+use Rattle.hd_script.proofs.LoadPosition.{news, Place, left_at, pending, holding, IsAtPlace, nowhere, at, left_of, Fits}
 use Rattle.hd_script.proofs.LoadStep.{bit, written, place}
 use Rattle.hd_script.proofs.LoadRun.{Totals, totals}
 use Rattle.hd_script.proofs.LoadCount.{by_parts, callers_small, sum_ones, list_of_caller, collects_in, news_in, written_in}
@@ -39,8 +39,8 @@ nothing_held c =
     replicate_cases (λ (row : List (Option Slot)). get_or row 0 None ≡ None) 4 c (replicate 16 None) []
     (replicate_cases (λ (o : Option Slot). o ≡ None) 16 0 None None refl refl) refl
 
-stands_first : (c j m : ℕ) → Stands (start_of load_numbers) c (place news j m None)
-stands_first c j m = record {
+place_first : (c j m : ℕ) → IsAtPlace (start_of load_numbers) c (place news j m None)
+place_first c j m = record {
   owns = tt;
   held = nothing_held c;
   empty = refl;
@@ -59,8 +59,8 @@ fits_first rounds few = record {
   four = length-replicate 4 (first rounds);
   well = start_is_well_formed load_numbers;
   room = omega (arith, nothing_used, sum_by-replicate left_of 4 (first rounds));
-  stands = λ c small. replicate_cases (Stands (start_of load_numbers) c) 4 c (first rounds) nowhere
-      (stands_first c 1 rounds) (stands_first c 0 0);
+  at_place = λ c small. replicate_cases (IsAtPlace (start_of load_numbers) c) 4 c (first rounds) nowhere
+      (place_first c 1 rounds) (place_first c 0 0);
   apart = λ b c small_b small_c ne x e g.
       none-some x (sym (replicate_cases (λ (p : Place). p.held ≡ None) 4 b (first rounds) nowhere refl refl)
       ∙ e);
@@ -149,16 +149,16 @@ module _ (rounds : ℕ) (journal : List Entry) (s : State) (few : rounds ≤ 300
         sum_by-replicate holding 4 (first rounds),
       )
 
-  pub told : sum_by (λ (e : Entry). value_told e.reply) journal ≡ 2 * rounds * (rounds + 1)
-  told =
+  pub returned : sum_by (λ (e : Entry). value_returned e.reply) journal ≡ 2 * rounds * (rounds + 1)
+  returned =
       let double : 2 * (rounds * (rounds + 1)) ≡ 2 * rounds * (rounds + 1) = grind arith in
-      omega (arith, all.told, written_in_all, sum_by-replicate pending 4 (first rounds), double)
+      omega (arith, all.returned, written_in_all, sum_by-replicate pending 4 (first rounds), double)
 
-  sum : sum_by (λ (e : Entry). value_told e.reply) journal ≡ 4 * (rounds * (rounds + 1) / 2)
+  sum : sum_by (λ (e : Entry). value_returned e.reply) journal ≡ 4 * (rounds * (rounds + 1) / 2)
   sum =
       omega (
         arith,
-        all.told,
+        all.returned,
         over_lists written,
         written_in 0 rounds,
         written_in 1 rounds,

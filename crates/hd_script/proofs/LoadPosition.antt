@@ -138,7 +138,7 @@ EmptyBy others h = Unit {0}
 EmptyBy frees h = Unit {0}
 EmptyBy collects h = h ≡ None
 
-pub record Stands (s : State) (c : ℕ) (p : Place) : Type 0 where
+pub record IsAtPlace (s : State) (c : ℕ) (p : Place) : Type 0 where
   pub owns : OwnsBy s c p.line p.round
   pub held : handle_register_of s c 0 ≡ p.held
   pub empty : EmptyBy p.line p.held
@@ -172,7 +172,7 @@ pub record Fits (s : State) (places : List Place) : Type 0 where
   pub four : length places ≡ 4
   pub well : IsWellFormed load_numbers s
   pub room : total_size s + 10 * sum_by left_of places ≤ 120000
-  pub stands : (c : ℕ) → c < 4 → Stands s c (at places c)
+  pub at_place : (c : ℕ) → c < 4 → IsAtPlace s c (at places c)
   pub apart :
       (b c : ℕ) → b < 4 → c < 4 → (b ≡ c → ⊥) → (x : Slot) → (at places b).held ≡ Some x
       → (at places c).held ≡ Some x → ⊥

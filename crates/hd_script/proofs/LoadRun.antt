@@ -14,9 +14,9 @@ use Rattle.hd_model.specs.Step.{StepOf, Step}
 use Rattle.hd_model.specs.Run.{Chain, stay, link, part_of, commands_of}
 use Rattle.hd_model.specs.Touched.{touched_by}
 use Rattle.hd_model.specs.Laws.{makes_object, makes_handle, frees_handle, count_entries}
-use Rattle.hd_model.specs.Generated.{value_told, load_numbers}
+use Rattle.hd_model.specs.Generated.{value_returned, load_numbers}
 use Rattle.hd_model.proofs.WellFormedSteps.{step_keeps}
-use Rattle.hd_script.proofs.LoadPosition.{Line, news, hnews, vals, hgets, reads, drops, others, frees, collects, Place, left_by, left_at, pending, one_if_some, holding, Stands, nowhere, at, left_of, Fits}
+use Rattle.hd_script.proofs.LoadPosition.{Line, news, hnews, vals, hgets, reads, drops, others, frees, collects, Place, left_by, left_at, pending, one_if_some, holding, IsAtPlace, nowhere, at, left_of, Fits}
 use Rattle.hd_script.proofs.LoadFrame.{fits_moved}
 use Rattle.hd_script.proofs.LoadStep.{bit, written, place, Does, does_new, does_hnew, does_val, does_hget, does_read, does_drop, does_other, does_free, does_collect}
 
@@ -38,40 +38,46 @@ module _ (s t : State) (e : Entry) (c : ℕ) (is : e.caller ≡ c) (small : c < 
       subst (λ (y : Cmd). Does s t c p y e.reply) same
       (does (subst (StepOf load_numbers s e t) (sym same) step))
 
-  by_line : (line : Line) (j m : ℕ) (h : Option Slot) → Stands s c (place line j m h)
+  by_line : (line : Line) (j m : ℕ) (h : Option Slot) → IsAtPlace s c (place line j m h)
       → total_size s + 10 * m ≤ 120000 → left_by c line j m ≡ e.cmd ∷ rest
       → Does s t c (place line j m h) e.cmd e.reply
-  by_line news j zero h stands room next = absurd cc
-  by_line news j (suc m) None stands room next =
-      by_command _ _ _ next (does_new s c small well j m t e is stands room)
-  by_line news j (suc m) (Some slot) stands room next = absurd (none-some slot (sym stands.empty))
-  by_line hnews j m None stands room next = by_command _ _ _ next (does_hnew s c small well j m t e is stands)
-  by_line hnews j m (Some slot) stands room next = absurd (none-some slot (sym stands.empty))
-  by_line vals j m h stands room next = by_command _ _ _ next (does_val s c small well j m t e h is stands)
-  by_line hgets j m h stands room next = by_command _ _ _ next (does_hget s c small well j m t e h is stands)
-  by_line reads j m h stands room next = by_command _ _ _ next (does_read s c small well j m t e h is stands)
-  by_line drops j m h stands room next = by_command _ _ _ next (does_drop s c small well j m t e h is stands)
-  by_line others j m h stands room next =
-      by_command _ _ _ next (does_other s c small well j m t e h is stands)
-  by_line frees j m h stands room next = by_command _ _ _ next (does_free s c small well j m t e h is stands)
-  by_line collects j m None stands room next =
-      by_command _ _ _ next (does_collect s c small well j m t e is stands)
-  by_line collects j m (Some slot) stands room next = absurd (none-some slot (sym stands.empty))
+  by_line news j zero h at_place room next = absurd cc
+  by_line news j (suc m) None at_place room next =
+      by_command _ _ _ next (does_new s c small well j m t e is at_place room)
+  by_line news j (suc m) (Some slot) at_place room next = absurd (none-some slot (sym at_place.empty))
+  by_line hnews j m None at_place room next =
+      by_command _ _ _ next (does_hnew s c small well j m t e is at_place)
+  by_line hnews j m (Some slot) at_place room next = absurd (none-some slot (sym at_place.empty))
+  by_line vals j m h at_place room next =
+      by_command _ _ _ next (does_val s c small well j m t e h is at_place)
+  by_line hgets j m h at_place room next =
+      by_command _ _ _ next (does_hget s c small well j m t e h is at_place)
+  by_line reads j m h at_place room next =
+      by_command _ _ _ next (does_read s c small well j m t e h is at_place)
+  by_line drops j m h at_place room next =
+      by_command _ _ _ next (does_drop s c small well j m t e h is at_place)
+  by_line others j m h at_place room next =
+      by_command _ _ _ next (does_other s c small well j m t e h is at_place)
+  by_line frees j m h at_place room next =
+      by_command _ _ _ next (does_free s c small well j m t e h is at_place)
+  by_line collects j m None at_place room next =
+      by_command _ _ _ next (does_collect s c small well j m t e is at_place)
+  by_line collects j m (Some slot) at_place room next = absurd (none-some slot (sym at_place.empty))
 
 -- ---- at the end
 
-ended : (s : State) (c : ℕ) (line : Line) (j m : ℕ) (h : Option Slot) → Stands s c (place line j m h)
+ended : (s : State) (c : ℕ) (line : Line) (j m : ℕ) (h : Option Slot) → IsAtPlace s c (place line j m h)
     → left_by c line j m ≡ []
     → (pending (place line j m h) ≡ 0) × (holding (place line j m h) ≡ 0)
-ended s c news j m h stands none = (refl, ap one_if_some stands.empty)
-ended s c hnews j m h stands none = absurd cc
-ended s c vals j m h stands none = absurd cc
-ended s c hgets j m h stands none = absurd cc
-ended s c reads j m h stands none = absurd cc
-ended s c drops j m h stands none = absurd cc
-ended s c others j m h stands none = absurd cc
-ended s c frees j m h stands none = absurd cc
-ended s c collects j m h stands none = absurd cc
+ended s c news j m h at_place none = (refl, ap one_if_some at_place.empty)
+ended s c hnews j m h at_place none = absurd cc
+ended s c vals j m h at_place none = absurd cc
+ended s c hgets j m h at_place none = absurd cc
+ended s c reads j m h at_place none = absurd cc
+ended s c drops j m h at_place none = absurd cc
+ended s c others j m h at_place none = absurd cc
+ended s c frees j m h at_place none = absurd cc
+ended s c collects j m h at_place none = absurd cc
 
 sum_none : (f : Place → ℕ) (places : List Place) → ((i : ℕ) → i < length places → f (at places i) ≡ 0)
     → sum_by f places ≡ 0
@@ -87,7 +93,7 @@ sum_none f (p ∷ places) zero_each =
 -- ---- the whole way
 
 pub record Totals (es : List Entry) (places : List Place) : Type 0 where
-  pub told : sum_by (λ (e : Entry). value_told e.reply) es
+  pub returned : sum_by (λ (e : Entry). value_returned e.reply) es
       ≡ sum_by (λ (e : Entry). written e.cmd) es + sum_by pending places
   pub made : count_entries makes_object es ≡ sum_by (λ (e : Entry). bit (touched_by e.cmd).makes_object) es
   pub handles : count_entries makes_handle es + sum_by holding places ≡ count_entries frees_handle es
@@ -120,7 +126,7 @@ module _ (s t : State) (e : Entry) (es : List Entry) (places : List Place) (fits
       let p = at places e.caller in
       by_line s t e e.caller refl step.caller fits.well (commands_of (part_of es e.caller)) step.does p.line
       p.round p.left p.held
-      (fits.stands e.caller step.caller)
+      (fits.at_place e.caller step.caller)
       (omega (arith, fits.room, get_or-le-sum_by left_of places e.caller nowhere within))
       (follow e.caller step.caller ∙ own_first e es)
 
@@ -132,7 +138,7 @@ module _ (s t : State) (e : Entry) (es : List Entry) (places : List Place) (fits
   fits_after =
       fits_moved s t places e.caller goes.next fits step.caller goes.frame
       (step_keeps load_numbers s t e fits.well step)
-      goes.stands goes.room goes.fresh
+      goes.at_place goes.room goes.fresh
 
   follow_after : Follow es after
   unfolding after
@@ -152,11 +158,11 @@ module _ (s t : State) (e : Entry) (es : List Entry) (places : List Place) (fits
   more : Totals es after → Totals (e ∷ es) places
   unfolding after
   more rest = record {
-    told = omega (
+    returned = omega (
       arith,
-      rest.told,
-      goes.told,
-      sum_by-cons (λ (x : Entry). value_told x.reply) e es,
+      rest.returned,
+      goes.returned,
+      sum_by-cons (λ (x : Entry). value_returned x.reply) e es,
       sum_by-cons (λ (x : Entry). written x.cmd) e es,
       sum_by-set pending places e.caller goes.next nowhere within,
     );
@@ -183,9 +189,9 @@ pub totals : {s t : State} {es : List Entry} → Chain (Step load_numbers) s es 
 totals (stay {s = s}) places fits follow =
     let at_end : (i : ℕ) → i < 4 → (pending (at places i) ≡ 0) × (holding (at places i) ≡ 0) =
     λ i small. let p = at places i in
-    ended s i p.line p.round p.left p.held (fits.stands i small) (follow i small) in
+    ended s i p.line p.round p.left p.held (fits.at_place i small) (follow i small) in
     record {
-      told = omega (arith, sum_none pending places (λ i h. (at_end i (omega (arith, fits.four))).0));
+      returned = omega (arith, sum_none pending places (λ i h. (at_end i (omega (arith, fits.four))).0));
       made = refl;
       handles = omega (arith, sum_none holding places (λ i h. (at_end i (omega (arith, fits.four))).1));
     }

@@ -25,7 +25,7 @@ use Rattle.hd_model.specs.Reach.{named}
 use Rattle.hd_model.specs.Collect.{cleared, survivor}
 use Rattle.hd_model.specs.Touched.{touched_by}
 use Rattle.hd_model.specs.Laws.{makes_object, makes_handle, frees_handle}
-use Rattle.hd_model.specs.Generated.{make_of_round, value_told, load_numbers}
+use Rattle.hd_model.specs.Generated.{make_of_round, value_returned, load_numbers}
 use Rattle.hd_model.proofs.Effects.{growth_is}
 use Rattle.hd_model.proofs.WholeScenes.{register_named, whole_scene}
 use Rattle.hd_model.proofs.SceneCollection.{keeps_root, object_after}
@@ -34,7 +34,7 @@ use Rattle.hd_model.proofs.WellFormedSteps.{has}
 use Rattle.hd_model.proofs.RunCounts.{fresh, given_vacant}
 use Rattle.hd_model.proofs.Sums.{share, sum-insert, sum-le}
 use Rattle.hd_model.proofs.ReadAfterWrite.{cell_here, get_inserted, get_beside, get_left, still_some}
-use Rattle.hd_script.proofs.LoadPosition.{Line, news, hnews, vals, hgets, reads, drops, others, frees, collects, Place, rounds_from, left_at, after_round, left_after_round, pending, one_if_some, holding, Owns, Stands, Frame}
+use Rattle.hd_script.proofs.LoadPosition.{Line, news, hnews, vals, hgets, reads, drops, others, frees, collects, Place, rounds_from, left_at, after_round, left_after_round, pending, one_if_some, holding, Owns, IsAtPlace, Frame}
 
 -- 1 for a test that passes
 abbrev pub bit : Bool → ℕ
@@ -53,10 +53,10 @@ pub record Does (s t : State) (c : ℕ) (p : Place) (x : Cmd) (r : Reply) : Type
   pub next : Place
   pub rest : left_at c p ≡ x ∷ left_at c next
   pub frame : Frame s t c
-  pub stands : Stands t c next
+  pub at_place : IsAtPlace t c next
   pub room : total_size t + 10 * next.left ≤ total_size s + 10 * p.left
   pub fresh : (y : Slot) → next.held ≡ Some y → (p.held ≡ Some y) ⊎ (handle_at s y ≡ None)
-  pub told : value_told r + pending next ≡ written x + pending p
+  pub returned : value_returned r + pending next ≡ written x + pending p
   pub made : makes_object x r ≡ (touched_by x).makes_object
   pub handles : bit (makes_handle x r) + holding p ≡ bit (frees_handle x r) + holding next
 
@@ -149,13 +149,13 @@ some_object s id there = by (get s.objects id.0) there
 
 module _ (s : State) (c : ℕ) (small : c < 4) (well : IsWellFormed load_numbers s) (j m : ℕ) where
   -- `new`: r0 references a new object
-  made_new : Stands s c (place news j (suc m) None) → last_serial s c + 1 < 2 ^ 32 →
+  made_new : IsAtPlace s c (place news j (suc m) None) → last_serial s c + 1 < 2 ^ 32 →
       (let id = identity_of c (last_serial s c + 1) in
       let made = with_serial (with_object s id (fresh_object ((c + j) % 8) false)) c
       (last_serial s c + 1) in
       Does s (with_register made c 0 (Some id)) c (place news j (suc m) None) (cmd.New 0 ((c + j) % 8) false)
       (reply.Object id))
-  made_new stands serial =
+  made_new at_place serial =
       let id = identity_of c (last_serial s c + 1) in
       let object = fresh_object ((c + j) % 8) false in
       let own : id.0 / 2 ^ 32 ≡ c = omega arith in
@@ -170,15 +170,15 @@ module _ (s : State) (c : ℕ) (small : c < 4) (well : IsWellFormed load_numbers
           values = λ d other apart names owner. value_beside s c id object own d other apart owner;
           live = λ x mine h. h;
         };
-        stands = record {
+        at_place = record {
           owns = record { id = id; names = register_here s c small well (Some id); own = own; value = tt };
-          held = stands.held;
+          held = at_place.held;
           empty = refl;
-          live = stands.live;
+          live = at_place.live;
         };
         room = omega (arith, cells, ap (share size_of) unused, length_replicate ((c + j) % 8));
         fresh = λ y h. inl h;
-        told = refl;
+        returned = refl;
         made = refl;
         handles = refl;
       }
@@ -186,11 +186,11 @@ module _ (s : State) (c : ℕ) (small : c < 4) (well : IsWellFormed load_numbers
       length_replicate : (k : ℕ) → size_of (fresh_object k false) ≡ k + 3
       length_replicate k = ap (λ (n : ℕ). n + 3) (length-replicate k None)
 
-  pub does_new : (t : State) (e : Entry) → e.caller ≡ c → Stands s c (place news j (suc m) None)
+  pub does_new : (t : State) (e : Entry) → e.caller ≡ c → IsAtPlace s c (place news j (suc m) None)
       → total_size s + 10 * suc m ≤ 120000 →
       StepOf load_numbers s e t (cmd.New 0 ((c + j) % 8) false)
       → Does s t c (place news j (suc m) None) (cmd.New 0 ((c + j) % 8) false) e.reply
-  does_new t e is stands room step =
+  does_new t e is at_place room step =
       let x = cmd.New 0 ((c + j) % 8) false in
       let p = place news j (suc m) None in
       let outcome : IsOutcome e (new_object load_numbers s c 0 ((c + j) % 8) false) t =
@@ -199,19 +199,19 @@ module _ (s : State) (c : ℕ) (small : c < 4) (well : IsWellFormed load_numbers
       test_cases (λ o. IsOutcome e o t → Does s t c p x e.reply)
       (ltb 1000000 (total_size s + ((c + j) % 8 + 3))) _ _
       (λ full. let over = ltb-true 1000000 (total_size s + ((c + j) % 8 + 3)) full in absurd (omega arith))
-      (λ fits o. carry s t e c p x _ (made_new stands serial) o) outcome
+      (λ fits o. carry s t e c p x _ (made_new at_place serial) o) outcome
 
   -- `hnew`: h0 has a new slot, or the table is full and h0 stays empty
-  not_made : (why : Refusal) → Stands s c (place hnews j m None)
+  not_made : (why : Refusal) → IsAtPlace s c (place hnews j m None)
       → Does s s c (place hnews j m None) (cmd.HNew 0 (make_of_round j) 0) (reply.Refused why)
-  not_made why stands = record {
+  not_made why at_place = record {
     next = place vals j m None;
     rest = refl;
     frame = frame_same s c;
-    stands = record { owns = stands.owns; held = stands.held; empty = tt; live = stands.live };
+    at_place = record { owns = at_place.owns; held = at_place.held; empty = tt; live = at_place.live };
     room = omega arith;
     fresh = λ y h. inl h;
-    told = refl;
+    returned = refl;
     made = refl;
     handles = refl;
   }
@@ -223,9 +223,10 @@ module _ (s : State) (c : ℕ) (small : c < 4) (well : IsWellFormed load_numbers
       (made_handle u c (make_of_round j) 0))
       c 0 (Some slot)
 
-  made_handle_in : (grown : Grown) (slot : Slot) → handle_at s slot ≡ None → Stands s c (place hnews j m None)
+  made_handle_in : (grown : Grown) (slot : Slot) → handle_at s slot ≡ None
+      → IsAtPlace s c (place hnews j m None)
       → Does s (with_slot s grown slot) c (place hnews j m None) (cmd.HNew 0 (make_of_round j) 0) reply.Done
-  made_handle_in grown slot vacant stands =
+  made_handle_in grown slot vacant at_place =
       let handle = made_handle s c (make_of_round j) 0 in
       record {
         next = place vals j m (Some slot);
@@ -236,8 +237,8 @@ module _ (s : State) (c : ℕ) (small : c < 4) (well : IsWellFormed load_numbers
           values = λ d id apart names own. refl;
           live = λ x mine h. still_some s.handles slot.0 handle x.0 h;
         };
-        stands = record {
-          owns = let o = stands.owns in record { id = o.id; names = o.names; own = o.own; value = tt };
+        at_place = record {
+          owns = let o = at_place.owns in record { id = o.id; names = o.names; own = o.own; value = tt };
           held = handle_register_here s c small well (Some slot);
           empty = tt;
           live = λ x h. subst (λ (y : Slot). IsSome (get (insert s.handles slot.0 handle) y.0))
@@ -246,15 +247,15 @@ module _ (s : State) (c : ℕ) (small : c < 4) (well : IsWellFormed load_numbers
         };
         room = omega arith;
         fresh = λ y h. inr (subst (λ (x : Slot). handle_at s x ≡ None) (same_Some slot y h) vacant);
-        told = refl;
+        returned = refl;
         made = refl;
         handles = refl;
       }
 
-  pub does_hnew : (t : State) (e : Entry) → e.caller ≡ c → Stands s c (place hnews j m None) →
+  pub does_hnew : (t : State) (e : Entry) → e.caller ≡ c → IsAtPlace s c (place hnews j m None) →
       StepOf load_numbers s e t (cmd.HNew 0 (make_of_round j) 0)
       → Does s t c (place hnews j m None) (cmd.HNew 0 (make_of_round j) 0) e.reply
-  does_hnew t e is stands step =
+  does_hnew t e is at_place step =
       let x = cmd.HNew 0 (make_of_round j) 0 in
       let p = place hnews j m None in
       ⊎_elim
@@ -267,17 +268,17 @@ module _ (s : State) (c : ℕ) (small : c < 4) (well : IsWellFormed load_numbers
       (growth_is s (kind_of (make_of_round j)) e.grown) in
       subst (λ (r : Reply). Does s t c p x r) (sym made.reply)
       (subst (λ (u : State). Does s u c p x reply.Done) (sym after)
-      (made_handle_in e.grown made.slot vacant stands)))
+      (made_handle_in e.grown made.slot vacant at_place)))
       (λ (full : FindsTableFull load_numbers s e t (kind_of (make_of_round j))).
-      carry s t e c p x _ (not_made _ stands) full.refused)
+      carry s t e c p x _ (not_made _ at_place) full.refused)
       step
 
   -- `val`: the value of r0's object is the number of the round
-  set_to : (h : Option Slot) → Stands s c (place vals j m h) → (id : Id) → register_of s c 0 ≡ Some id
+  set_to : (h : Option Slot) → IsAtPlace s c (place vals j m h) → (id : Id) → register_of s c 0 ≡ Some id
       → id.0 / 2 ^ 32 ≡ c
       → IsSome (get s.objects id.0) → Does s (with_object s id (record (object_by_id s id) { value = j })) c
       (place vals j m h) (cmd.Val 0 j) reply.Done
-  set_to h stands id names own there =
+  set_to h at_place id names own there =
       let object : Object Id = record (object_by_id s id) { value = j } in
       let cells = sum-insert size_of s.objects id.0 object in
       let before : share size_of (get s.objects id.0) ≡ size_of object =
@@ -291,7 +292,7 @@ module _ (s : State) (c : ℕ) (small : c < 4) (well : IsWellFormed load_numbers
           values = λ d other apart named owner. value_beside s c id object own d other apart owner;
           live = λ x mine l. l;
         };
-        stands = record {
+        at_place = record {
           owns = record {
             id = id;
             names = names;
@@ -301,36 +302,37 @@ module _ (s : State) (c : ℕ) (small : c < 4) (well : IsWellFormed load_numbers
                 { fields = []; value = 0; generation = 0; registered = false })).value)
                 (get_inserted s.objects id.0 object);
           };
-          held = stands.held;
+          held = at_place.held;
           empty = tt;
-          live = stands.live;
+          live = at_place.live;
         };
         room = omega (arith, cells, before);
         fresh = λ y l. inl l;
-        told = omega arith;
+        returned = omega arith;
         made = refl;
         handles = omega arith;
       }
 
-  pub does_val : (t : State) (e : Entry) (h : Option Slot) → e.caller ≡ c → Stands s c (place vals j m h) →
+  pub does_val : (t : State) (e : Entry) (h : Option Slot) → e.caller ≡ c → IsAtPlace s c (place vals j m h) →
       StepOf load_numbers s e t (cmd.Val 0 j) → Does s t c (place vals j m h) (cmd.Val 0 j) e.reply
-  does_val t e h is stands step =
+  does_val t e h is at_place step =
       let p = place vals j m h in
       let outcome : IsOutcome e (set_value s c 0 j) t =
       subst (λ (k : ℕ). IsOutcome e (set_value s k 0 j) t) is step in
-      let o = stands.owns in
+      let o = at_place.owns in
       on_object_cases (λ w. IsOutcome e w t → Does s t c p (cmd.Val 0 j) e.reply) s c 0 _
       (λ none. absurd (none-some o.id (sym none ∙ o.names)))
       (λ id names. carry s t e c p (cmd.Val 0 j) _
-      (set_to h stands id names (subst
+      (set_to h at_place id names (subst
       (λ (i : Id). i.0 / 2 ^ 32 ≡ c) (same_Some o.id id (sym o.names ∙ names)) o.own)
       (has load_numbers s c 0 id well names)))
       outcome
 
   -- `hget`: r1 gets the target, or nothing where h0 is empty; r0 stays
-  pub does_hget : (t : State) (e : Entry) (h : Option Slot) → e.caller ≡ c → Stands s c (place hgets j m h) →
+  pub does_hget : (t : State) (e : Entry) (h : Option Slot) → e.caller ≡ c
+      → IsAtPlace s c (place hgets j m h) →
       StepOf load_numbers s e t (cmd.HGet 1 0) → Does s t c (place hgets j m h) (cmd.HGet 1 0) e.reply
-  does_hget t e h is stands step =
+  does_hget t e h is at_place step =
       let p = place hgets j m h in
       let outcome : IsOutcome e (get_target s c 1 0) t =
       subst (λ (k : ℕ). IsOutcome e (get_target s k 1 0) t) is step in
@@ -345,96 +347,99 @@ module _ (s : State) (c : ℕ) (small : c < 4) (well : IsWellFormed load_numbers
         next = place reads j m h;
         rest = refl;
         frame = frame_same s c;
-        stands = record { owns = stands.owns; held = stands.held; empty = tt; live = stands.live };
+        at_place = record { owns = at_place.owns; held = at_place.held; empty = tt; live = at_place.live };
         room = omega arith;
         fresh = λ y l. inl l;
-        told = refl;
+        returned = refl;
         made = refl;
         handles = omega arith;
       }
 
-      untold : (v : Option Id) → value_told (loaded v) ≡ 0
-      untold None = refl
-      untold (Some id) = refl
+      none_returned : (v : Option Id) → value_returned (loaded v) ≡ 0
+      none_returned None = refl
+      none_returned (Some id) = refl
 
       gets : (v : Option Id) → Does s (with_register s c 1 v) c (place hgets j m h) (cmd.HGet 1 0) (loaded v)
       gets v = record {
         next = place reads j m h;
         rest = refl;
         frame = frame_register s c 1 v;
-        stands = record {
-          owns = owns_kept s c small well v (λ w. w ≡ j) stands.owns;
-          held = stands.held;
+        at_place = record {
+          owns = owns_kept s c small well v (λ w. w ≡ j) at_place.owns;
+          held = at_place.held;
           empty = tt;
-          live = stands.live;
+          live = at_place.live;
         };
         room = omega arith;
         fresh = λ y l. inl l;
-        told = omega (arith, untold v);
+        returned = omega (arith, none_returned v);
         made = refl;
         handles = omega arith;
       }
 
   -- `read`: the number of the round is read
-  pub does_read : (t : State) (e : Entry) (h : Option Slot) → e.caller ≡ c → Stands s c (place reads j m h) →
+  pub does_read : (t : State) (e : Entry) (h : Option Slot) → e.caller ≡ c
+      → IsAtPlace s c (place reads j m h) →
       StepOf load_numbers s e t (cmd.Read 0) → Does s t c (place reads j m h) (cmd.Read 0) e.reply
-  does_read t e h is stands step =
+  does_read t e h is at_place step =
       let p = place reads j m h in
       let outcome : IsOutcome e (read_value s c 0) t =
       subst (λ (k : ℕ). IsOutcome e (read_value s k 0) t) is step in
-      let o = stands.owns in
+      let o = at_place.owns in
       on_object_cases (λ w. IsOutcome e w t → Does s t c p (cmd.Read 0) e.reply) s c 0 _
       (λ none. absurd (none-some o.id (sym none ∙ o.names)))
       (λ id names. carry s t e c p (cmd.Read 0) _
-      (tells id (subst (λ (i : Id). (object_by_id s i).value ≡ j) (same_Some o.id id (sym o.names ∙ names))
+      (returns_value id
+      (subst (λ (i : Id). (object_by_id s i).value ≡ j) (same_Some o.id id (sym o.names ∙ names))
       o.value)))
       outcome
     where
-      tells : (id : Id) → (object_by_id s id).value ≡ j
+      returns_value : (id : Id) → (object_by_id s id).value ≡ j
           → Does s s c (place reads j m h) (cmd.Read 0) (reply.Value (object_by_id s id).value)
-      tells id value = record {
+      returns_value id value = record {
         next = place drops j m h;
         rest = refl;
         frame = frame_same s c;
-        stands = record { owns = tt; held = stands.held; empty = tt; live = stands.live };
+        at_place = record { owns = tt; held = at_place.held; empty = tt; live = at_place.live };
         room = omega arith;
         fresh = λ y l. inl l;
-        told = omega (arith, value);
+        returned = omega (arith, value);
         made = refl;
         handles = omega arith;
       }
 
   -- `drop r0` and `drop r1`
-  pub does_drop : (t : State) (e : Entry) (h : Option Slot) → e.caller ≡ c → Stands s c (place drops j m h) →
+  pub does_drop : (t : State) (e : Entry) (h : Option Slot) → e.caller ≡ c
+      → IsAtPlace s c (place drops j m h) →
       StepOf load_numbers s e t (cmd.Clear 0) → Does s t c (place drops j m h) (cmd.Clear 0) e.reply
-  does_drop t e h is stands step =
+  does_drop t e h is at_place step =
       carry s t e c (place drops j m h) (cmd.Clear 0) (clear_register s c 0)
       (record {
         next = place others j m h;
         rest = refl;
         frame = frame_register s c 0 None;
-        stands = record { owns = tt; held = stands.held; empty = tt; live = stands.live };
+        at_place = record { owns = tt; held = at_place.held; empty = tt; live = at_place.live };
         room = omega arith;
         fresh = λ y l. inl l;
-        told = refl;
+        returned = refl;
         made = refl;
         handles = omega arith;
       })
       (subst (λ (k : ℕ). IsOutcome e (clear_register s k 0) t) is step)
 
-  pub does_other : (t : State) (e : Entry) (h : Option Slot) → e.caller ≡ c → Stands s c (place others j m h)
-      →
+  pub does_other : (t : State) (e : Entry) (h : Option Slot) → e.caller ≡ c
+      → IsAtPlace s c (place others j m h) →
       StepOf load_numbers s e t (cmd.Clear 1) → Does s t c (place others j m h) (cmd.Clear 1) e.reply
-  does_other t e h is stands step =
+  does_other t e h is at_place step =
       carry s t e c (place others j m h) (cmd.Clear 1) (clear_register s c 1)
       (record {
         next = place frees j m h;
         rest = refl;
         frame = frame_register s c 1 None;
-        stands = record { owns = tt; held = stands.held; empty = tt; live = stands.live };
+        at_place = record { owns = tt; held = at_place.held; empty = tt; live = at_place.live };
         room = omega arith;
         fresh = λ y l. inl l;
-        told = refl;
+        returned = refl;
         made = refl;
         handles = omega arith;
       })
@@ -453,15 +458,15 @@ module _ (s : State) (c : ℕ) (small : c < 4) (well : IsWellFormed load_numbers
   after_pending true = refl
   after_pending false = refl
 
-  stands_after : (u : State) (b : Bool) → handle_register_of u c 0 ≡ None → Stands u c (after_round b j m)
-  stands_after u true none = record {
+  place_after : (u : State) (b : Bool) → handle_register_of u c 0 ≡ None → IsAtPlace u c (after_round b j m)
+  place_after u true none = record {
     owns = tt;
     held = none;
     empty = refl;
     live =
         λ x h. absurd (none-some x h);
   }
-  stands_after u false none = record {
+  place_after u false none = record {
     owns = tt;
     held = none;
     empty = refl;
@@ -471,35 +476,36 @@ module _ (s : State) (c : ℕ) (small : c < 4) (well : IsWellFormed load_numbers
 
   goes_on : (t : State) (h : Option Slot) (r : Reply) (b : Bool) → eqb (j % 16) 0 ≡ b → Frame s t c
       → handle_register_of t c 0 ≡ None → total_size t ≤ total_size s
-      → value_told r ≡ 0 → bit (makes_handle (cmd.HFree 0) r) + one_if_some h
+      → value_returned r ≡ 0 → bit (makes_handle (cmd.HFree 0) r) + one_if_some h
       ≡ bit (frees_handle (cmd.HFree 0) r)
       → Does s t c (place frees j m h) (cmd.HFree 0) r
-  goes_on t h r b is frame none room told handles = record {
+  goes_on t h r b is frame none room returned handles = record {
     next = after_round b j m;
     rest = ap (λ (rest : List Cmd). cmd.HFree 0 ∷ rest)
         (ap (λ (q : Bool). cond q (cmd.Collect (j % 3) ∷ []) [] ++ rounds_from c (j + 1) m) is
         ∙ left_after_round c j m b);
     frame = frame;
-    stands = stands_after t b none;
+    at_place = place_after t b none;
     room = omega (arith, after_left b, room);
     fresh = λ y l. absurd (none-some y (sym (after_held b) ∙ l));
-    told = omega (arith, told, after_pending b);
+    returned = omega (arith, returned, after_pending b);
     made = refl;
     handles = omega (arith, handles, ap one_if_some (after_held b));
   }
 
-  pub does_free : (t : State) (e : Entry) (h : Option Slot) → e.caller ≡ c → Stands s c (place frees j m h) →
+  pub does_free : (t : State) (e : Entry) (h : Option Slot) → e.caller ≡ c
+      → IsAtPlace s c (place frees j m h) →
       StepOf load_numbers s e t (cmd.HFree 0) → Does s t c (place frees j m h) (cmd.HFree 0) e.reply
-  does_free t e h is stands step =
+  does_free t e h is at_place step =
       let p = place frees j m h in
       let outcome : IsOutcome e (free_handle s c 0) t =
       subst (λ (k : ℕ). IsOutcome e (free_handle s k 0) t) is step in
       on_handle_cases (λ w. IsOutcome e w t → Does s t c p (cmd.HFree 0) e.reply) s c 0 _
       (λ empty. carry s t e c p (cmd.HFree 0) _
       (goes_on s h _ (eqb (j % 16) 0) refl (frame_same s c) empty (omega arith) refl
-      (omega (arith, ap one_if_some (sym stands.held ∙ empty)))))
+      (omega (arith, ap one_if_some (sym at_place.held ∙ empty)))))
       (λ slot has gone. absurd (false≢true
-      (sym (ap is_some gone) ∙ stands.live slot (sym stands.held ∙ has))))
+      (sym (ap is_some gone) ∙ at_place.live slot (sym at_place.held ∙ has))))
       (λ slot handle has live. carry s t e c p (cmd.HFree 0) _ (freed slot has))
       outcome
     where
@@ -518,13 +524,13 @@ module _ (s : State) (c : ℕ) (small : c < 4) (well : IsWellFormed load_numbers
                 (has ∙ ap (λ (k : ℕ). Some (record { 0 = k })) (sym same))))) l;
           })
           (handle_register_here s c small well None) (omega arith) refl
-          (omega (arith, ap one_if_some (sym stands.held ∙ has)))
+          (omega (arith, ap one_if_some (sym at_place.held ∙ has)))
 
   -- `collect`: what registers reference is kept with its value, no live slot is freed, and no object grows
-  pub does_collect : (t : State) (e : Entry) → e.caller ≡ c → Stands s c (place collects j m None) →
+  pub does_collect : (t : State) (e : Entry) → e.caller ≡ c → IsAtPlace s c (place collects j m None) →
       StepOf load_numbers s e t (cmd.Collect (j % 3))
       → Does s t c (place collects j m None) (cmd.Collect (j % 3)) e.reply
-  does_collect t e is stands did =
+  does_collect t e is at_place did =
       let scene = did.collects.scene in
       let same_rows : (d : ℕ) → handle_register_of t d 0 ≡ handle_register_of s d 0 =
       λ d. ap (λ (rows : List (List (Option Slot))). get_or (get_or rows d []) 0 None)
@@ -544,16 +550,16 @@ module _ (s : State) (c : ℕ) (small : c < 4) (well : IsWellFormed load_numbers
               kept_value did id (has load_numbers s d 0 id well names) (register_named s d 0 id names);
           live = λ x mine l. live x l;
         };
-        stands = record {
+        at_place = record {
           owns = tt;
-          held = same_rows c ∙ stands.held;
+          held = same_rows c ∙ at_place.held;
           empty = refl;
           live =
               λ x h. absurd (none-some x h);
         };
         room = omega (arith, no_more did);
         fresh = λ y h. absurd (none-some y h);
-        told = refl;
+        returned = refl;
         made = refl;
         handles = refl;
       })
@@ -588,4 +594,4 @@ module _ (s : State) (c : ℕ) (small : c < 4) (well : IsWellFormed load_numbers
           sum-le size_of t.objects s.objects (λ q.
           let x : Id = record { 0 = q } in
           subst (λ o. share size_of o ≤ share size_of (get s.objects q)) (sym (scene.objects x))
-          (smaller (j % 3) (scene.kept x) (scene.revived x) (get s.objects q)))
+          (smaller (j % 3) (scene.kept x) (scene.resurrected x) (get s.objects q)))

@@ -136,11 +136,11 @@ module _ {number given : ℕ} {table : List Block} {chains : List (List ℕ)}
   pub fits : p < length chain
   fits = slice_get_within chain p b at
 
-  stands : get_or chain p 0 ≡ b
-  stands = get_or_from_slice_get chain p b 0 at
+  at_index : get_or chain p 0 ≡ b
+  at_index = get_or_from_slice_get chain p b 0 at
 
   pub its : IsListed number table k b p
-  its = subst (λ q. IsListed number table k q p) stands (inv.linked.listed k p fits)
+  its = subst (λ q. IsListed number table k q p) at_index (inv.linked.listed k p fits)
 
   pub inside : b < length table
   inside = omega (arith, its.high, inv.size)
@@ -272,7 +272,7 @@ module _ {number given : ℕ} {table : List Block} {chains : List (List ℕ)}
   found_here : (q : ℕ) → 1 ≤ q → q ≤ number → use_at moved q ≡ Some (handles_of k) → Contains short q
   found_here q first last now =
       Contains-remove chain p q (found_in inv.linked k q first last (was k q now).1) fits
-      (λ same. (was k q now).0 (sym same ∙ stands))
+      (λ same. (was k q now).0 (sym same ∙ at_index))
 
   -- a block of another kind
   kept : (j : Kind) (q i : ℕ) → kind_number j ≢ kind_number k → IsListed number table j q i
@@ -281,13 +281,13 @@ module _ {number given : ℕ} {table : List Block} {chains : List (List ℕ)}
       let out : (o : ℕ) → o < length chain → get_or chain o 0 ≢ q =
       λ o lt same. other (ap kind_number (one_kind (use_at table q) j k is.use_is
       (ap (use_at table) (sym same) ∙ (listed_was o lt).use_is))) in
-      let away : q ≢ b = λ same. out p fits (stands ∙ sym same) in
+      let away : q ≢ b = λ same. out p fits (at_index ∙ sym same) in
       listed_like (use_other q away) (place_kept q away (λ o after last. out o last)) is
 
   -- the chain without the block
   filtered : filter (λ x. not (x == b)) chain ≡ short
   filtered =
-      filter-one (λ x. not (x == b)) chain p fits (ap not (eq-eqb (get_or chain p 0) b stands))
+      filter-one (λ x. not (x == b)) chain p fits (ap not (eq-eqb (get_or chain p 0) b at_index))
       (λ j lt other. ap not (ne_eqb (get_or chain j 0) b (not_b j lt other)))
 
   pub length-moved : length moved ≡ length table

@@ -65,7 +65,7 @@ found_in {number} {table} {chains} linked k b low high is =
       (block_at table b).place,
       lt,
       get_or_default (get_or chains (kind_number k) []) (block_at table b).place b 0 lt
-          ∙ linked.standing k b low high is,
+          ∙ linked.indexed k b low high is,
     )
 
 -- it is enough that each chain lists its blocks, and that each block of handles is in a chain
@@ -80,7 +80,7 @@ linked_by {number} {table} {chains} kinds listed found = record {
   within = λ k b low high is.
       let h = found k b low high is in
       let lt = h.1 in omega (arith, lt, place k b h);
-  standing = λ k b low high is.
+  indexed = λ k b low high is.
       let h = found k b low high is in
       ap (λ i. get_or (get_or chains (kind_number k) []) i 0) (place k b h) ∙ at k b h;
   listed = listed;
@@ -253,7 +253,7 @@ module _ {number given : ℕ} {table : List Block} {chains : List (List ℕ)}
         ∙ ap (λ (v : Uses). slice_get (chain_of v.table (kind_at u.table b)) (block_at table b).place) (sym
         seen)
         ∙ slice_get-get_or _ (block_at table b).place 0 listed_in
-        ∙ ap Some (inv.linked.standing (kind_at u.table b) b at_block.0 at_block.1 at_block.2)
+        ∙ ap Some (inv.linked.indexed (kind_at u.table b) b at_block.0 at_block.1 at_block.2)
 
     pub read_small : x.place < 256
     read_small =

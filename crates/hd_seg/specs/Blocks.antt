@@ -69,7 +69,7 @@ pub record IsLinked (number : ℕ) (table : List Block) (chains : List (List ℕ
   pub kinds : length chains ≡ KINDS
   pub within : (k : Kind) (b : ℕ) → 1 ≤ b → b ≤ number → use_at table b ≡ Some (handles_of k)
       → (block_at table b).place < length (slice_index_or chains (kind_number k) [])
-  pub standing : (k : Kind) (b : ℕ) → 1 ≤ b → b ≤ number → use_at table b ≡ Some (handles_of k)
+  pub indexed : (k : Kind) (b : ℕ) → 1 ≤ b → b ≤ number → use_at table b ≡ Some (handles_of k)
       → slice_index (slice_index_or chains (kind_number k) []) (block_at table b).place ≡ b
   pub listed : (k : Kind) (i : ℕ) → i < length (slice_index_or chains (kind_number k) [])
       → IsListed number table k (slice_index (slice_index_or chains (kind_number k) []) i) i

@@ -235,7 +235,7 @@ plain-runs m k asked offer may steps (Err e) out = (out, refl)
 
 -- `addr` returns the address of what the handle pins
 module _ (m k : Machine) (e : Entry) (keeps : KeepsPlaces m e k) (h place : ℕ) (x : Id)
-    (same : e.cmd ≡ cmd.AddrOf h) (told : e.reply ≡ reply.Place place)
+    (same : e.cmd ≡ cmd.AddrOf h) (in_reply : e.reply ≡ reply.Place place)
     (pinned : pinned_target m.state e.caller h ≡ Some x) where
   moved : Moves m e k empty
   moved = keeps empty (λ y b is. absurd (nothing_at y b is))
@@ -253,7 +253,7 @@ module _ (m k : Machine) (e : Entry) (keeps : KeepsPlaces m e k) (h place : ℕ)
   place_in r = place
 
   place_is : does.place ≡ place
-  place_is = ap place_in (sym (does.outcome.reply ∙ ap (λ (o : Outcome). o.reply) outcome_is) ∙ told)
+  place_is = ap place_in (sym (does.outcome.reply ∙ ap (λ (o : Outcome). o.reply) outcome_is) ∙ in_reply)
 
   pub returns-address : get k.names place ≡ Some x
   returns-address =

@@ -81,7 +81,7 @@ pub record Under {X Y : Type 0} (key : X → ℕ) (f : ℕ → X → Y) (m : Fin
     (y : Y) : Type 0 where
   pub at : ℕ
   pub value : X
-  pub stands : get m at ≡ Some value
+  pub is_stored : get m at ≡ Some value
   pub keyed : key value ≡ x
   pub is : y ≡ f at value
 
@@ -144,7 +144,7 @@ module _ {X Y : Type 0} (key : X → ℕ) (f : ℕ → X → Y) (m : FinMap nat_
       record {
         at = s.at;
         value = s.value;
-        stands = get-entries m s.at ∙ find-among s.at s.value (entries m) (entries_sorted m) s.among;
+        is_stored = get-entries m s.at ∙ find-among s.at s.value (entries m) (entries_sorted m) s.among;
         keyed = s.keyed;
         is = s.is;
       }
@@ -157,6 +157,6 @@ module _ {X Y : Type 0} (key : X → ℕ) (f : ℕ → X → Y) (m : FinMap nat_
       let it : get (from_entries {R = nat_cmp} (rekeyed key f (entries m))) (key p) ≡ Some found.0 =
       get-from_entries nat_cmp_total (rekeyed key f (entries m)) (key p) ∙ found.1 in
       let u = under (key p) found.0 it in
-      let same : u.at ≡ a = apart u.at a u.value p u.stands is u.keyed in
-      let value : u.value ≡ p = same_Some u.value p (sym u.stands ∙ ap (get m) same ∙ is) in
+      let same : u.at ≡ a = apart u.at a u.value p u.is_stored is u.keyed in
+      let value : u.value ≡ p = same_Some u.value p (sym u.is_stored ∙ ap (get m) same ∙ is) in
       it ∙ ap Some (u.is ∙ ap (λ j. f j u.value) same ∙ ap (f a) value)

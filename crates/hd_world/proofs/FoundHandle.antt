@@ -19,16 +19,16 @@ abbrev by_handle : Slot → Option (Handle Id) → Result (Slot × Handle Id) Re
 by_handle slot o = option_map_or (λ handle. Ok (slot, handle)) o (Err refusal.NotLive)
 
 -- the handle is in the slot that was found
-pub stands_found : (s : State) (caller h : ℕ) (slot : Slot) (handle : Handle Id)
+pub found_is_live : (s : State) (caller h : ℕ) (slot : Slot) (handle : Handle Id)
     → Ok (slot, handle) ≡ live_in s caller h → handle_at s slot ≡ Some handle
-stands_found s caller h slot handle is = first (handle_register_of s caller h) is
+found_is_live s caller h slot handle is = first (handle_register_of s caller h) is
   where
     second : (at : Slot) (o : Option (Handle Id)) → handle_at s at ≡ o → Ok (slot, handle) ≡ by_handle at o
         → handle_at s slot ≡ Some handle
-    second at None stands is = absurd (subst is_found is tt)
-    second at (Some found) stands is =
+    second at None is_stored is = absurd (subst is_found is tt)
+    second at (Some found) is_stored is =
         let pair : (slot, handle) ≡ (at, found) = ap (ok_or (slot, handle)) is in
-        ap (handle_at s) (ap (λ p. p.0) pair) ∙ stands ∙ ap Some (sym (ap (λ p. p.1) pair))
+        ap (handle_at s) (ap (λ p. p.0) pair) ∙ is_stored ∙ ap Some (sym (ap (λ p. p.1) pair))
 
     first : (o : Option Slot) → Ok (slot, handle) ≡ by_slot s o → handle_at s slot ≡ Some handle
     first None is = absurd (subst is_found is tt)

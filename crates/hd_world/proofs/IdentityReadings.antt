@@ -49,16 +49,16 @@ unfolding objects_by_id
 objects-under h x o is = under (λ (p : Placed). p.id.0) (read_object h) h.objects x o is
 
 -- an object with an identity
-pub record Stands (h : Heap) (x : ℕ) : Type 0 where
+pub record HasObjectOf (h : Heap) (x : ℕ) : Type 0 where
   pub at : ℕ
   pub value : Placed
-  pub stands : get h.objects at ≡ Some value
+  pub is_stored : get h.objects at ≡ Some value
   pub named : value.id.0 ≡ x
 
 -- a map with each object's reading at its identity, and at no other key, is the objects by identity
 pub objects-are : (h : Heap) (m : FinMap nat_cmp (Object Id)) → HasIdentities h
     → ((a : ℕ) (p : Placed) → get h.objects a ≡ Some p → get m p.id.0 ≡ Some (read_object h a p))
-    → ((x : ℕ) (o : Object Id) → get m x ≡ Some o → Stands h x) → objects_by_id h ≡ m
+    → ((x : ℕ) (o : Object Id) → get m x ≡ Some o → HasObjectOf h x) → objects_by_id h ≡ m
 objects-are h m identities each only =
     same_numbers (objects_by_id h) m (λ x. by x (get (objects_by_id h) x) (get m x) refl refl)
   where
@@ -68,10 +68,11 @@ objects-are h m identities each only =
     by x None (Some p) first second =
         let s = only x p second in
         absurd (no_some (read_object h s.at s.value)
-        (sym (objects-get h identities s.at s.value s.stands) ∙ ap (get (objects_by_id h)) s.named ∙ first))
+        (sym (objects-get h identities s.at s.value s.is_stored) ∙ ap (get (objects_by_id h)) s.named
+        ∙ first))
     by x (Some o) p first second =
         let u = objects-under h x o first in
-        first ∙ ap Some u.is ∙ sym (each u.at u.value u.stands) ∙ ap (get m) u.keyed
+        first ∙ ap Some u.is ∙ sym (each u.at u.value u.is_stored) ∙ ap (get m) u.keyed
 
 -- the readings of two heaps with the same identities and regions
 read_same : (h k : Heap) → id_at k ≡ id_at h → k.regions ≡ h.regions → read_object k ≡ read_object h
@@ -182,13 +183,13 @@ module _ (h k : Heap) (a : ℕ) (old new : Placed) (r : Replaces h k a old new) 
           ]
 
       only : (x : ℕ) (o : Object Id)
-          → get (insert (objects_by_id h) old.id.0 (read_object h a new)) x ≡ Some o → Stands k x
+          → get (insert (objects_by_id h) old.id.0 (read_object h a new)) x ≡ Some o → HasObjectOf k x
       only x o is =
           elim (cases_eq x old.id.0) [
             | inl here ↦ record {
               at = a;
               value = new;
-              stands = at_it;
+              is_stored = at_it;
               named = ap (λ (i : Id). i.0) r.same ∙ sym here;
             }
             | inr apart ↦
@@ -197,9 +198,10 @@ module _ (h k : Heap) (a : ℕ) (old new : Placed) (r : Replaces h k a old new) 
                 record {
                   at = u.at;
                   value = u.value;
-                  stands = elsewhere u.at
+                  is_stored = elsewhere u.at
                       (λ here. apart (sym u.keyed ∙ ap (λ (p : Placed). p.id.0)
-                      (same_Some u.value old (sym u.stands ∙ ap (get h.objects) here ∙ r.was)))) ∙ u.stands;
+                      (same_Some u.value old (sym u.is_stored ∙ ap (get h.objects) here ∙ r.was))))
+                      ∙ u.is_stored;
                   named = u.keyed;
                 }
           ]

@@ -46,7 +46,7 @@ module _ (n : Numbers) (s : State) (p : FinMap nat_cmp ℕ) where
 -- what is true with the pinned addresses of a journal is true of any that are said to be those
 pub at_places : (m : Machine) (journal : List Entry) (p q : FinMap nat_cmp ℕ)
     (P : FinMap nat_cmp ℕ → Type 0) → IsTrueRun m journal p → ∥ IsTrueRun m journal q ∥₁ → P p → P q
-at_places m journal p q P is told x = subst P (same_places m journal p q ∣ is ∣₁ told) x
+at_places m journal p q P is in_reply x = subst P (same_places m journal p q ∣ is ∣₁ in_reply) x
 
 module _ (m : Machine) (journal : List Entry) (p : FinMap nat_cmp ℕ) (is : IsTrueRun m journal p) where
   pub run_of : Run m.numbers journal (with_places m.state p)
@@ -71,11 +71,11 @@ module _ (m : Machine) (journal : List Entry) (p : FinMap nat_cmp ℕ) (is : IsT
     fresh_of caller = fresh m.numbers (with_places m.state p) caller well_of (small_of caller)
 
     pub counts_of : HasSmallCounts m.state
-    counts_of = λ slot handle stands.
+    counts_of = λ slot handle is_stored.
         omega (
           arith,
           count-le m.numbers journal (with_places m.state p)
-              (record { 0 = slot }) handle run_of stands,
+              (record { 0 = slot }) handle run_of is_stored,
           room,
         )
 

@@ -1,5 +1,5 @@
 -- The row of a new handle may be stored once the age of its clump is lowered for it.
-use Rattle.hd_world.proofs.StoreWords.{◌≡◌, ℕ, ◌≤◌, true≢false, false, List, [], Option, Some, None, refl, sym, ap, ◌∙◌, subst, arith, option_map, option_and_then, option_map_or, IfSome, IsSome, unwrap_or, FinMap, get, nat_cmp, Id, Addr, Slot, Kind, Make, Grown, Object, Handle, State, secondary_of, object_by_id, scene_of, generation_in, generation_at, age_of, lowered_to, lowered_by_new, lowered_at, kind_of, secondary_register, with_growth, name_in, named_in, Machine, MayStand}
+use Rattle.hd_world.proofs.StoreWords.{◌≡◌, ℕ, ◌≤◌, true≢false, false, List, [], Option, Some, None, refl, sym, ap, ◌∙◌, subst, arith, option_map, option_and_then, option_map_or, IfSome, IsSome, unwrap_or, FinMap, get, nat_cmp, Id, Addr, Slot, Kind, Make, Grown, Object, Handle, State, secondary_of, object_by_id, scene_of, generation_in, generation_at, age_of, lowered_to, lowered_by_new, lowered_at, kind_of, secondary_register, with_growth, name_in, named_in, Machine, MayBeStored}
 use Rattle.hd_world.proofs.IdentityReadings.{no_some}
 use Rattle.hd_model.proofs.Ages.{lowered_here}
 use Rattle.hd_model.proofs.KindTests.{made_secondary}
@@ -65,10 +65,10 @@ pub made_may : (m0 m1 m2 : Machine) (k : Kind) (g : Grown) (slot : Slot) (caller
     → m2 ≡ record m1 {
       ages = lowered_by_new m1.state m1.ages (Some slot) given
           (named_in m1.names row.target);
-    } → IsMadeRow m0 caller given t row → MayStand m2 slot (kind_of given) row
+    } → IsMadeRow m0 caller given t row → MayBeStored m2 slot (kind_of given) row
 made_may m0 m1 m2 k g slot caller t given row grows lowers made =
     let s = with_growth m0.state k g in
-    subst (λ m. MayStand m slot (kind_of given) row)
+    subst (λ m. MayBeStored m slot (kind_of given) row)
     (sym (lowers ∙ ap (λ (m : Machine). record m {
       ages = lowered_by_new m.state m.ages (Some slot) given (named_in m.names row.target);
     }) grows)) (record {

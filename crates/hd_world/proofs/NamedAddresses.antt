@@ -34,13 +34,13 @@ pub objects_named : (h : Heap) (v : Option Addr) → ((y : Addr) → v ≡ Some 
 objects_named h None each = tt
 objects_named h (Some y) each = object_known h y (each y refl)
 
-stands_by : (o : Option Placed) (d : Placed) → is_some o ≡ true → o ≡ Some (unwrap_or o d)
-stands_by None d e = absurd (subst T (sym e) tt)
-stands_by (Some p) d e = refl
+some_or : (o : Option Placed) (d : Placed) → is_some o ≡ true → o ≡ Some (unwrap_or o d)
+some_or None d e = absurd (subst T (sym e) tt)
+some_or (Some p) d e = refl
 
 -- what is stored at the address of an object
 pub placed_is : (h : Heap) (at : Addr) → has_object h at ≡ true → get h.objects at.0 ≡ Some (placed_at h at)
-placed_is h at known = stands_by (get h.objects at.0)
+placed_is h at known = some_or (get h.objects at.0)
     (record { id = record { 0 = 0 }; fields = []; value = 0; registered = false })
     (sym (has-placed h at) ∙ known)
 

@@ -4,14 +4,14 @@ use Rattle.hd_world.proofs.IdentityReadings.{name-is}
 use Rattle.hd_world.proofs.NamedAddresses.{objects_named}
 
 -- the parts with another queue
-abbrev pub with_waiting : Parts → Queue → Parts
-with_waiting f q = record f { queue = q }
+abbrev pub with_new_queue : Parts → Queue → Parts
+with_new_queue f q = record f { queue = q }
 
 module _ (f : Parts) (m : Machine) (view : machine_of f ≡ m) (q : Queue) where
   pub queue-none : f.queue.waiting ≡ [] → m.state.queue ≡ []
   queue-none none = ap (λ (n : Machine). n.state.queue) (sym view) ∙ ap (map (id_at f.heap)) none
 
-  pub machine-queue : machine_of (with_waiting f q) ≡ record m
+  pub machine-queue : machine_of (with_new_queue f q) ≡ record m
       { state = with_queue m.state (map (id_at f.heap) q.waiting) }
   machine-queue = ap (λ (n : Machine). record n { state = with_queue n.state (map (id_at f.heap) q.waiting) })
       view
@@ -23,24 +23,24 @@ module _ (f : Parts) (m : Machine) (view : machine_of f ≡ m) (q : Queue) where
         ∙ ap (λ x. x ∷ map (id_at f.heap) q.waiting)
         (sym (name-is f.heap at) ∙ ap (λ (n : Machine). name_in n.names at) view)
 
-    waits : (x : Addr) → Contains (at ∷ q.waiting) x → Contains f.queue.waiting x
-    waits x c = subst (λ (w : Queue). Contains w.waiting x) (sym is) c
+    is_queued : (x : Addr) → Contains (at ∷ q.waiting) x → Contains f.queue.waiting x
+    is_queued x c = subst (λ (w : Queue). Contains w.waiting x) (sym is) c
 
     pub first-named : IsStored f → IsNamed m.names (Some at)
     first-named stored =
         subst (λ (n : Machine). IsNamed n.names (Some at)) view
         (objects_named f.heap (Some at) (λ y same. stored.whole.queue y
-        (waits y (subst (Contains (at ∷ q.waiting)) (some_is y same) (0, omega arith, refl)))))
+        (is_queued y (subst (Contains (at ∷ q.waiting)) (some_is y same) (0, omega arith, refl)))))
       where
         some_is : (y : Addr) → Some at ≡ Some y → at ≡ y
         some_is y same = same_Some at y same
 
-    pub stored-queue : IsStored f → IsStored (with_waiting f q)
+    pub stored-queue : IsStored f → IsStored (with_new_queue f q)
     stored-queue stored = record {
       whole = record {
         fields = stored.whole.fields;
         named = stored.whole.named;
-        queue = λ x c. stored.whole.queue x (waits x (let within = c.1 in (suc c.0, omega arith, c.2)));
+        queue = λ x c. stored.whole.queue x (is_queued x (let within = c.1 in (suc c.0, omega arith, c.2)));
         targets = stored.whole.targets;
         secondaries = stored.whole.secondaries;
         paired = stored.whole.paired;
@@ -66,16 +66,16 @@ IsPop f q r = MatchOption r ((f.queue.waiting ≡ []) × (q ≡ f.queue))
     (λ at. f.queue ≡ record q { waiting = at ∷ q.waiting })
 
 module _ (f : Parts) (m : Machine) (view : machine_of f ≡ m) (stored : IsStored f) (q : Queue) where
-  pub stored-popped : (r : Option Addr) → IsPop f q r → IsStored (with_waiting f q)
-  stored-popped None is = subst (λ w. IsStored (with_waiting f w)) (sym is.1) stored
+  pub stored-popped : (r : Option Addr) → IsPop f q r → IsStored (with_new_queue f q)
+  stored-popped None is = subst (λ w. IsStored (with_new_queue f w)) (sym is.1) stored
   stored-popped (Some at) is = stored-queue f m view q at is stored
 
   pub machine-popped : (r : Option Addr) → IsPop f q r
-      → MatchOption r ((m.state.queue ≡ []) × (machine_of (with_waiting f q) ≡ m))
-      (λ at. (m.state.queue ≡ name_in m.names at ∷ (machine_of (with_waiting f q)).state.queue)
-      × (machine_of (with_waiting f q) ≡ record m
-      { state = with_queue m.state (machine_of (with_waiting f q)).state.queue }))
-  machine-popped None is = (queue-none f m view q is.0, ap (λ w. machine_of (with_waiting f w)) is.1 ∙ view)
+      → MatchOption r ((m.state.queue ≡ []) × (machine_of (with_new_queue f q) ≡ m))
+      (λ at. (m.state.queue ≡ name_in m.names at ∷ (machine_of (with_new_queue f q)).state.queue)
+      × (machine_of (with_new_queue f q) ≡ record m
+      { state = with_queue m.state (machine_of (with_new_queue f q)).state.queue }))
+  machine-popped None is = (queue-none f m view q is.0, ap (λ w. machine_of (with_new_queue f w)) is.1 ∙ view)
   machine-popped (Some at) is = (queue-first f m view q at is, machine-queue f m view q)
 
   pub named-popped : (r : Option Addr) → IsPop f q r → IsNamed (names_of f.heap) r

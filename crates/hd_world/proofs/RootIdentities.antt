@@ -42,11 +42,11 @@ held-renamed f long o = refl
 held-renamed f attaches o = refl
 
 module _ (h : Heap) where
-  told : (slot : Slot) (k : Kind) (o : Option Addr)
+  listed_as : (slot : Slot) (k : Kind) (o : Option Addr)
       → option_to_list (option_map (root_id slot k) (option_map (id_at h) o))
       ≡ map (root_named h) (option_to_list (option_map (root_by slot k) o))
-  told slot k None = refl
-  told slot k (Some a) = refl
+  listed_as slot k None = refl
+  listed_as slot k (Some a) = refl
 
   one_named : (e : ℕ × Handle Addr) → root_in root_id (e.0, rename_handle (id_at h) e.1)
       ≡ map (root_named h) (root_in root_by e)
@@ -54,7 +54,7 @@ module _ (h : Heap) where
       ap (λ (o : Option Id). option_to_list (option_map (root_id (record { 0 = e.0 }) e.1.kind) o))
       (ap (λ r. held_by r (option_map (id_at h) e.1.target)) (role_renamed (id_at h) e.1.kind e.1.extra)
       ∙ held-renamed (id_at h) (role e.1) e.1.target)
-      ∙ told (record { 0 = e.0 }) e.1.kind (held_of e.1)
+      ∙ listed_as (record { 0 = e.0 }) e.1.kind (held_of e.1)
 
   all_named : (es : List (ℕ × Handle Addr))
       → roots_in root_id (map (λ e. (e.0, rename_handle (id_at h) e.1)) es)

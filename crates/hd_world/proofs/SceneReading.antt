@@ -29,16 +29,18 @@ module _ (f : Parts) (identities : HasIdentities f.heap) where
       ∙ sym (ap (option_map (rename_object (id_at f.heap))) (object_is f.heap x is))
 
   has_it : (a : ℕ) (p : Placed) → get f.heap.objects a ≡ Some p → has_object f.heap (record { 0 = a }) ≡ true
-  has_it a p stands = ap (λ o. is_some
-      (option_map (object_in (region_generation f.heap (region_of (record { 0 = a })))) o)) stands
+  has_it a p is_stored = ap (λ o. is_some
+      (option_map (object_in (region_generation f.heap (region_of (record { 0 = a })))) o)) is_stored
 
   -- an identity that has an object is the one at some address
   pub address_of : (y : Id) → is_object (scene_of (state_of f)).object y ≡ true → (x : Addr)
       × ((has_object f.heap x ≡ true) × (id_at f.heap x ≡ y))
   address_of y is =
       let (o, there) = found (get (objects_by_id f.heap) y.0) is in
-      let u = objects-under f.heap y.0 o there in
-      (record { 0 = u.at }, (has_it u.at u.value u.stands, ap id_in u.stands ∙ same_id u.value.id y u.keyed))
+      let u = objects-under f.heap y.0 o there in (
+        record { 0 = u.at },
+        (has_it u.at u.value u.is_stored, ap id_in u.is_stored ∙ same_id u.value.id y u.keyed),
+      )
 
   pub apart_here : (x y : Addr) → has_object f.heap x ≡ true → has_object f.heap y ≡ true
       → id_at f.heap x ≡ id_at f.heap y → x ≡ y

@@ -1,5 +1,5 @@
 -- The handle in a slot of a store, as commands find it.
-use Rattle.hd_world.proofs.StoreWords.{◌≡◌, ◌≤◌, true, Option, Some, None, refl, sym, ap, ◌∙◌, subst, option_map, IfSome, get, Addr, Slot, Kind, Extra, nothing, strength, secondary, count, Handle, secondary_of, handle_at, use_of, block_of, rename_handle, is_object, generation_at, age_of, object_at, id_at, IsTable, fits, IsNamed, kind_in_use, Parts, IsStored, Machine, machine_of, object_named, handle_named, MayStand, same_Some}
+use Rattle.hd_world.proofs.StoreWords.{◌≡◌, ◌≤◌, true, Option, Some, None, refl, sym, ap, ◌∙◌, subst, option_map, IfSome, get, Addr, Slot, Kind, Extra, nothing, strength, secondary, count, Handle, secondary_of, handle_at, use_of, block_of, rename_handle, is_object, generation_at, age_of, object_at, id_at, IsTable, fits, IsNamed, kind_in_use, Parts, IsStored, Machine, machine_of, object_named, handle_named, MayBeStored, same_Some}
 use Rattle.hd_seg.specs.declared.row.Row.{Row}
 use Rattle.hd_seg.specs.Row.{extra_of, extra_from, handle_of, row_of}
 use Rattle.hd_world.proofs.IdentityReadings.{no_some, names-are}
@@ -22,7 +22,7 @@ no_row (Some h) is = absurd (no_some (row_of h) is)
 -- the handle of a row that was found
 pub record Found (f : Parts) (slot : Slot) (row : Row) : Type 0 where
   pub handle : Handle Addr
-  pub stands : get f.table.rows slot.0 ≡ Some handle
+  pub is_stored : get f.table.rows slot.0 ≡ Some handle
   pub row_is : row ≡ row_of handle
 
 pub found : (f : Parts) (slot : Slot) (row : Row) → Some row ≡ option_map row_of (get f.table.rows slot.0)
@@ -32,7 +32,12 @@ found f slot row is = by (get f.table.rows slot.0) refl
     by : (o : Option (Handle Addr)) → get f.table.rows slot.0 ≡ o → Found f slot row
     by None e = absurd (no_some row (is ∙ ap (option_map row_of) e))
     by (Some h) e =
-        record { handle = h; stands = e; row_is = same_Some row (row_of h) (is ∙ ap (option_map row_of) e) }
+        record {
+          handle = h;
+          is_stored = e;
+          row_is =
+              same_Some row (row_of h) (is ∙ ap (option_map row_of) e);
+        }
 
 module _ (f : Parts) (m : Machine) (view : machine_of f ≡ m) (stored : IsStored f) (table : IsTable f.table)
     (slot : Slot) (row : Row) (is : Some row ≡ option_map row_of (get f.table.rows slot.0)) where
@@ -42,7 +47,7 @@ module _ (f : Parts) (m : Machine) (view : machine_of f ≡ m) (stored : IsStore
   kind_use : kind_in_use (use_of m.state (block_of slot)) ≡ Some at.handle.kind
   kind_use =
       ap (λ (n : Machine). kind_in_use (use_of n.state (block_of slot))) (sym view)
-      ∙ ap kind_in_use (table.rows slot.0 at.handle at.stands).block
+      ∙ ap kind_in_use (table.rows slot.0 at.handle at.is_stored).block
 
   -- its block has a kind
   pub kind-there : None ≡ kind_in_use (use_of m.state (block_of slot)) → ⊥
@@ -57,7 +62,7 @@ module _ (f : Parts) (m : Machine) (view : machine_of f ≡ m) (stored : IsStore
 
     pub handle-is : handle_at m.state slot ≡ Some (handle_named m kind row)
     handle-is =
-        row-read f m view slot ∙ ap (option_map (rename_handle (id_at f.heap))) at.stands
+        row-read f m view slot ∙ ap (option_map (rename_handle (id_at f.heap))) at.is_stored
         ∙ ap (λ h. Some (rename_handle (id_at f.heap) h)) (sym whole)
         ∙ ap (λ g. Some (rename_handle g (handle_of kind row))) (sym (names-are f.heap))
         ∙ ap (λ (n : Machine). Some (handle_named n kind row)) view
@@ -83,21 +88,21 @@ module _ (f : Parts) (m : Machine) (view : machine_of f ≡ m) (stored : IsStore
     second_is : secondary_of (extra_of row.extra) ≡ secondary_of at.handle.extra
     second_is = ap secondary_of extra_is
 
-    pub handle-may : MayStand m slot kind row
+    pub handle-may : MayBeStored m slot kind row
     handle-may =
         let h = at.handle in
         let target : IsNamed m.names row.target =
-        named row.target (λ x e. stored.whole.targets slot.0 h x at.stands (sym target_is ∙ e)) in
+        named row.target (λ x e. stored.whole.targets slot.0 h x at.is_stored (sym target_is ∙ e)) in
         let second : IsNamed m.names (secondary_of (extra_of row.extra)) =
         named (secondary_of (extra_of row.extra))
-        (λ x e. stored.whole.secondaries slot.0 h x at.stands (sym second_is ∙ e)) in
+        (λ x e. stored.whole.secondaries slot.0 h x at.is_stored (sym second_is ∙ e)) in
         record {
-          fits = (λ i. fits (kind_is i) (extra_is i)) ∙ (table.rows slot.0 h at.stands).fits;
+          fits = (λ i. fits (kind_is i) (extra_is i)) ∙ (table.rows slot.0 h at.is_stored).fits;
           target = target;
           secondary = second;
-          paired = λ none. second_is ∙ stored.whole.paired slot.0 h at.stands (sym target_is ∙ none);
+          paired = λ none. second_is ∙ stored.whole.paired slot.0 h at.is_stored (sym target_is ∙ none);
           target_age =
-              aged row.target target (λ x e. stored.ages.targets slot.0 h x at.stands (sym target_is ∙ e));
+              aged row.target target (λ x e. stored.ages.targets slot.0 h x at.is_stored (sym target_is ∙ e));
           secondary_age = aged (secondary_of (extra_of row.extra)) second
-              (λ x e. stored.ages.secondaries slot.0 h x at.stands (sym second_is ∙ e));
+              (λ x e. stored.ages.secondaries slot.0 h x at.is_stored (sym second_is ∙ e));
         }

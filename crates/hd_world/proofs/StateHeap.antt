@@ -85,9 +85,9 @@ module _ (m k : Machine) (e : Entry) (keeps : KeepsPlaces m e k) (before : IsOve
 
   pub returns-stored : (h : ℕ) → e.cmd ≡ cmd.AddrOf h → e.reply ≡ reply.Place a
       → pinned_target m.state e.caller h ≡ Some x → IsStoredAt k.heap x a
-  returns-stored h same told pinned =
+  returns-stored h same in_reply pinned =
       sym (names-get k.heap a) ∙ ap (λ names. get names a) (sym after.names)
-      ∙ returns-address m k e keeps h a x same told pinned
+      ∙ returns-address m k e keeps h a x same in_reply pinned
 
   pub keeps-pinned : IsPinned (λ slot. get m.state.handles slot) x → IsStoredAt m.heap x a
       → IsStoredAt k.heap x a

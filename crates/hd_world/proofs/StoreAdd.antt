@@ -2,7 +2,7 @@
 use Rattle.hd_world.proofs.StoreWords.{◌≡◌, ℕ, true, List, map, Option, Some, None, refl, sym, ap, ◌∙◌, subst, inl, inr, option_map, is_some, IsSome, Contains, T, FinMap, get, insert, nat_cmp, cases_eq, Id, Addr, Object, Handle, secondary_of, rename_object, rename_handle, is_object, fields_in, IsField, Placed, Heap, region_generation, region_of, object_in, object_at, id_in, id_at, HasIdentities, names_of, read_object, objects_by_id, rows_by_id, get_beside, get_inserted, same_Some}
 use Rattle.hd_world.proofs.EntryMaps.{same_numbers}
 use Rattle.hd_world.proofs.NameAgreement.{map_agrees, names_agree, object_agrees, handle_agrees}
-use Rattle.hd_world.proofs.IdentityReadings.{names-get, rows-get, objects-get, objects-under, Stands, objects-are}
+use Rattle.hd_world.proofs.IdentityReadings.{names-get, rows-get, objects-get, objects-under, HasObjectOf, objects-are}
 
 -- the heap k is h with one more object, whose identity none has
 pub record Adds (h k : Heap) (a : ℕ) (new : Placed) : Type 0 where
@@ -134,17 +134,17 @@ module _ (h k : Heap) (a : ℕ) (new : Placed) (r : Adds h k a new) where
           ]
 
       only : (x : ℕ) (o : Object Id)
-          → get (insert (objects_by_id h) new.id.0 (read_object k a new)) x ≡ Some o → Stands k x
+          → get (insert (objects_by_id h) new.id.0 (read_object k a new)) x ≡ Some o → HasObjectOf k x
       only x o is =
           elim (cases_eq x new.id.0) [
-            | inl here ↦ record { at = a; value = new; stands = at_it; named = sym here }
+            | inl here ↦ record { at = a; value = new; is_stored = at_it; named = sym here }
             | inr apart ↦
                 let u = objects-under h x o
                 (sym (get_beside (objects_by_id h) new.id.0 (read_object k a new) x apart) ∙ is) in
                 record {
                   at = u.at;
                   value = u.value;
-                  stands = elsewhere u.at (other u.at (ap is_some u.stands)) ∙ u.stands;
+                  is_stored = elsewhere u.at (other u.at (ap is_some u.is_stored)) ∙ u.is_stored;
                   named = u.keyed;
                 }
           ]

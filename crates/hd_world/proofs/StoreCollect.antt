@@ -70,14 +70,15 @@ kept_if false o x is = absurd (no_some x (sym is))
 -- what is pinned by address is pinned by identity, and the other way round
 module _ (f : Parts) (stored : IsStored f) where
   pinned_object : (x : Addr) → IsPinned (row_at f.table) x → has_object f.heap x ≡ true
-  pinned_object x p = stored.whole.targets p.slot p.handle x p.stands p.target
+  pinned_object x p = stored.whole.targets p.slot p.handle x p.is_stored p.target
 
   pub pinned-to : (x : Addr) → IsPinned (row_at f.table) x
       → IsPinned (λ slot. get (state_of f).handles slot) (id_at f.heap x)
   pinned-to x p = record {
     slot = p.slot;
     handle = rename_handle (id_at f.heap) p.handle;
-    stands = rows-get f.heap f.table.rows p.slot ∙ ap (option_map (rename_handle (id_at f.heap))) p.stands;
+    is_stored = rows-get f.heap f.table.rows p.slot
+        ∙ ap (option_map (rename_handle (id_at f.heap))) p.is_stored;
     pins = pins_renamed (id_at f.heap) p.handle ∙ p.pins;
     target = ap (option_map (id_at f.heap)) p.target;
   }
@@ -86,7 +87,7 @@ module _ (f : Parts) (stored : IsStored f) where
       × (IsPinned (row_at f.table) x × (id_at f.heap x ≡ b))
   pinned-from b p =
       let (row, was) = unread (id_at f.heap) (get f.table.rows p.slot) p.handle
-      (sym (rows-get f.heap f.table.rows p.slot) ∙ p.stands) in
+      (sym (rows-get f.heap f.table.rows p.slot) ∙ p.is_stored) in
       let target = ap (λ (k : Handle Id). k.target) was.1 ∙ p.target in
       let (y, to) = unnamed (id_at f.heap) row.target b target in (
         y,
@@ -94,7 +95,7 @@ module _ (f : Parts) (stored : IsStored f) where
           record {
             slot = p.slot;
             handle = row;
-            stands = was.0;
+            is_stored = was.0;
             pins = sym (pins_renamed (id_at f.heap) row)
                 ∙ ap pins was.1 ∙ p.pins;
             target = to.0;
@@ -186,7 +187,7 @@ module _ (f : Parts) (stored : IsStored f) (h : Heap) (t : Table) (ages : List �
       let id : Id = record { 0 = x } in
       let by_id = (pinned_decides (state_of f).handles id).0 pinned in
       let (row, was) = unread (id_at f.heap) (get f.table.rows by_id.slot) by_id.handle
-      (sym (rows-get f.heap f.table.rows by_id.slot) ∙ by_id.stands) in
+      (sym (rows-get f.heap f.table.rows by_id.slot) ∙ by_id.is_stored) in
       let (y, to) = unnamed (id_at f.heap) row.target id
       (ap (λ (k : Handle Id). k.target) was.1 ∙ by_id.target) in
       let (p, mine) = named_at f.heap a id named in
@@ -199,7 +200,7 @@ module _ (f : Parts) (stored : IsStored f) (h : Heap) (t : Table) (ages : List �
       let pinning : IsPinned (row_at f.table) at = record {
         slot = by_id.slot;
         handle = row;
-        stands = was.0;
+        is_stored = was.0;
         pins = sym (pins_renamed (id_at f.heap) row) ∙ ap pins was.1 ∙ by_id.pins;
         target = to.0 ∙ ap Some same;
       } in

@@ -162,11 +162,11 @@ module _ (f : Parts) (k : Heap) (at : Addr) (id : Id) (count : ℕ) (fin : Bool)
 
   pub stored-made : (serials : List ℕ) (q : Queue) → length serials ≡ length f.serials
       → q.waiting ≡ f.queue.waiting → len f.heap.objects + 1 ≤ q.room → IsStored (made_parts serials q)
-  stored-made serials q size waits enough = record {
+  stored-made serials q size is_queued enough = record {
     whole = record {
       fields = λ x y field. still y (stored.whole.fields x y (field_was x y field).1);
       named = λ x c. still x (stored.whole.named x c);
-      queue = λ x c. still x (stored.whole.queue x (subst (λ xs. Contains xs x) waits c));
+      queue = λ x c. still x (stored.whole.queue x (subst (λ xs. Contains xs x) is_queued c));
       targets = λ slot row x is e. still x (stored.whole.targets slot row x is e);
       secondaries = λ slot row x is e. still x (stored.whole.secondaries slot row x is e);
       paired = stored.whole.paired;
@@ -219,7 +219,7 @@ module _ (f : Parts) (k : Heap) (at : Addr) (id : Id) (count : ℕ) (fin : Bool)
             insert (names_of f.heap) at.0 id;
         heap = without_spare k;
       }
-  machine-made serials q waits = λ i. record {
+  machine-made serials q is_queued = λ i. record {
     numbers = record { heap = limit_same i; blocks = f.table.blocks; callers = callers_of f };
     state = record {
       objects =
@@ -233,7 +233,7 @@ module _ (f : Parts) (k : Heap) (at : Addr) (id : Id) (count : ℕ) (fin : Bool)
       statics = rest_of (callers_of f)
           (roots-add f.heap k at.0 (new_object id count fin) adds f.roots stored.whole.named i);
       board = f.board;
-      queue = (ap (map (id_at k)) waits ∙ queue-add f.heap k at.0
+      queue = (ap (map (id_at k)) is_queued ∙ queue-add f.heap k at.0
           (new_object id count fin) adds f.queue.waiting stored.whole.queue) i;
       places = (state_of f).places;
       blocks = f.table.uses;
@@ -250,7 +250,7 @@ module _ (f : Parts) (m : Machine) (view : machine_of f ≡ m) (stored : IsStore
     (caller serial : ℕ) (last : serial ≡ last_serial m.state caller + 1)
     (id_is : id ≡ identity_of caller serial)
     (vacant : get m.state.objects (identity_of caller (last_serial m.state caller + 1)).0 ≡ None) (q : Queue)
-    (waits : q.waiting ≡ f.queue.waiting) (enough : len f.heap.objects + 1 ≤ q.room) where
+    (is_queued : q.waiting ≡ f.queue.waiting) (enough : len f.heap.objects + 1 ≤ q.room) where
   free : get (objects_by_id f.heap) id.0 ≡ None
   free =
       ap (λ (i : Id). get (objects_by_id f.heap) i.0) (id_is ∙ ap (identity_of caller) last)
@@ -259,7 +259,7 @@ module _ (f : Parts) (m : Machine) (view : machine_of f ≡ m) (stored : IsStore
 
   pub stored-next : IsStored (record f { heap = k; serials = set f.serials caller serial; queue = q })
   stored-next = stored-made f k at id count fin stored made free (set f.serials caller serial) q
-      (length-set f.serials caller serial) waits enough
+      (length-set f.serials caller serial) is_queued enough
 
   -- the address of the new object had no identity
   pub names-next : KeepsNames m.names
@@ -282,7 +282,7 @@ module _ (f : Parts) (m : Machine) (view : machine_of f ≡ m) (stored : IsStore
         heap = without_spare k;
       }
   machine-next =
-      machine-made f k at id count fin stored made free (set f.serials caller serial) q waits
+      machine-made f k at id count fin stored made free (set f.serials caller serial) q is_queued
       ∙ (λ i. record (view i) {
         state = with_serial (with_object (view i).state ((id_is ∙ ap (identity_of caller) last) i)
             (fresh_object count fin)) caller (last i);

@@ -1,5 +1,5 @@
 -- Rows of a store that change: what the machine sees, and that the store keeps what it keeps.
-use Rattle.hd_world.proofs.StoreWords.{◌≡◌, ℕ, ◌*◌, ◌/◌, ◌≤◌, Bool, true, false, not, cond, Option, Some, None, refl, sym, ap, ◌∙◌, subst, inl, inr, arith, option_map, unwrap_or, IsSome, IfSome, is_some, T, Result, Ok, Err, IfOk, OnErr, FinMap, get, insert, remove, get-remove, nat_cmp, eq_by_cmp, nat_cmp_total, cases_eq, Id, Addr, Slot, Kind, Grown, Extra, nothing, strength, secondary, count, Handle, BlockUse, handles_of, extra_data, handle_at, use_of, block_of, secondary_of, rename_handle, with_handle, without_handle, role, attaches, is_object, generation_at, age_of, Heap, object_at, id_at, Table, fits, kind_in, kind_at, live_at, is_single, grown_by, IsGrowth, without_block, with_row, without_row, rows_by_id, IsNamed, Parts, state_of, IsStored, Machine, machine_of, object_named, kind_in_use, is_paired, handle_named, MayStand, get_beside, get_inserted, same_Some}
+use Rattle.hd_world.proofs.StoreWords.{◌≡◌, ℕ, ◌*◌, ◌/◌, ◌≤◌, Bool, true, false, not, cond, Option, Some, None, refl, sym, ap, ◌∙◌, subst, inl, inr, arith, option_map, unwrap_or, IsSome, IfSome, is_some, T, Result, Ok, Err, IfOk, OnErr, FinMap, get, insert, remove, get-remove, nat_cmp, eq_by_cmp, nat_cmp_total, cases_eq, Id, Addr, Slot, Kind, Grown, Extra, nothing, strength, secondary, count, Handle, BlockUse, handles_of, extra_data, handle_at, use_of, block_of, secondary_of, rename_handle, with_handle, without_handle, role, attaches, is_object, generation_at, age_of, Heap, object_at, id_at, Table, fits, kind_in, kind_at, live_at, is_single, grown_by, IsGrowth, without_block, with_row, without_row, rows_by_id, IsNamed, Parts, state_of, IsStored, Machine, machine_of, object_named, kind_in_use, is_paired, handle_named, MayBeStored, get_beside, get_inserted, same_Some}
 use Rattle.hd_model.specs.declared.data.Grown.TheVariants.{Zero, One, Two, Back}
 use Rattle.hd_seg.specs.declared.row.Full.{Full}
 use Rattle.hd_seg.specs.declared.row.Row.{Row}
@@ -14,7 +14,7 @@ abbrev pub with_table : Parts → Table → Parts
 with_table f t = record f { table = t }
 
 -- a row may be stored in a slot of these parts
-pub record Stands (f : Parts) (slot : ℕ) (row : Handle Addr) : Type 0 where
+pub record IsStorable (f : Parts) (slot : ℕ) (row : Handle Addr) : Type 0 where
   pub target : (x : Addr) → row.target ≡ Some x → is_object (object_at f.heap) x ≡ true
   pub second : (x : Addr) → secondary_of row.extra ≡ Some x → is_object (object_at f.heap) x ≡ true
   pub paired : row.target ≡ None → secondary_of row.extra ≡ None
@@ -24,9 +24,9 @@ pub record Stands (f : Parts) (slot : ℕ) (row : Handle Addr) : Type 0 where
       → age_of f.ages slot ≤ generation_at (object_at f.heap) x
 
 -- each row of a store may be stored where it is
-pub stands : (f : Parts) → IsStored f → (slot : ℕ) (row : Handle Addr) → get f.table.rows slot ≡ Some row
-    → Stands f slot row
-stands f stored slot row is = record {
+pub storable : (f : Parts) → IsStored f → (slot : ℕ) (row : Handle Addr) → get f.table.rows slot ≡ Some row
+    → IsStorable f slot row
+storable f stored slot row is = record {
   target = λ x e. stored.whole.targets slot row x is e;
   second = λ x e. stored.whole.secondaries slot row x is e;
   paired = stored.whole.paired slot row is;
@@ -40,7 +40,7 @@ abbrev pub IsWithin : Table → Type 0
 IsWithin t = (block : ℕ) → IsSome (get t.uses block) → (1 ≤ block) × (block ≤ t.blocks)
 
 pub stored-table : (f : Parts) (t : Table) → IsStored f → t.blocks ≡ f.table.blocks → IsWithin t
-    → ((slot : ℕ) (row : Handle Addr) → get t.rows slot ≡ Some row → Stands f slot row)
+    → ((slot : ℕ) (row : Handle Addr) → get t.rows slot ≡ Some row → IsStorable f slot row)
     → IsStored (with_table f t)
 stored-table f t stored blocks uses each = record {
   whole = record {
@@ -69,7 +69,7 @@ stored-table f t stored blocks uses each = record {
   uses = uses;
 }
 
-stored-put : (f : Parts) (slot : ℕ) (row : Handle Addr) → IsStored f → Stands f slot row
+stored-put : (f : Parts) (slot : ℕ) (row : Handle Addr) → IsStored f → IsStorable f slot row
     → IsStored (with_table f (with_row f.table slot row))
 stored-put f slot row stored may =
     stored-table f (with_row f.table slot row) stored refl stored.uses (λ s r is.
@@ -78,8 +78,8 @@ stored-put f slot row stored may =
           let it : row ≡ r = same_Some row r
           (sym (get_inserted f.table.rows slot row) ∙ ap (get (insert f.table.rows slot row)) (sym same)
           ∙ is) in
-          subst (Stands f s) it (subst (λ k. Stands f k row) (sym same) may)
-      | inr apart ↦ stands f stored s r (sym (get_beside f.table.rows slot row s apart) ∙ is)
+          subst (IsStorable f s) it (subst (λ k. IsStorable f k row) (sym same) may)
+      | inr apart ↦ storable f stored s r (sym (get_beside f.table.rows slot row s apart) ∙ is)
     ])
 
 without_other : (b : Bool) (o : Option (Handle Addr)) (r : Handle Addr) → cond b None o ≡ Some r → o ≡ Some r
@@ -89,7 +89,7 @@ without_other false o r is = is
 pub stored-end : (f : Parts) (slot : ℕ) → IsStored f → IsStored (with_table f (without_row f.table slot))
 stored-end f slot stored =
     stored-table f (without_row f.table slot) stored refl stored.uses (λ s r is.
-    stands f stored s r (without_other (eq_by_cmp nat_cmp s slot) (get f.table.rows s) r
+    storable f stored s r (without_other (eq_by_cmp nat_cmp s slot) (get f.table.rows s) r
     (sym (get-remove nat_cmp_total f.table.rows slot s) ∙ is)))
 
 -- the rows by identity
@@ -182,9 +182,9 @@ module _ (f : Parts) (m : Machine) (view : machine_of f ≡ m) (stored : IsStore
   object o x named is = known_object f.heap x
       (subst (λ (n : Machine). IsSome (get n.names x.0)) (sym view) (is_there o x named is))
 
-  may-stand : (slot : Slot) (kind : Kind) (row : Row) → MayStand m slot kind row
-      → Stands f slot.0 (handle_of kind row)
-  may-stand slot kind row may = record {
+  may-store : (slot : Slot) (kind : Kind) (row : Row) → MayBeStored m slot kind row
+      → IsStorable f slot.0 (handle_of kind row)
+  may-store slot kind row may = record {
     target = λ x is. object row.target x may.target is;
     second = λ x is. object (secondary_of (extra_of row.extra)) x may.secondary is;
     paired = may.paired;
@@ -196,13 +196,13 @@ module _ (f : Parts) (m : Machine) (view : machine_of f ≡ m) (stored : IsStore
 -- a table with that row
 pub row-put : (f : Parts) (m : Machine) → machine_of f ≡ m → IsStored f
     → (slot : Slot) (kind : Kind) (row : Row)
-    → MayStand m slot kind row → (t : Table) → t ≡ with_row f.table slot.0 (handle_of kind row)
+    → MayBeStored m slot kind row → (t : Table) → t ≡ with_row f.table slot.0 (handle_of kind row)
     → IsStored (with_table f t) × (machine_of (with_table f t)
     ≡ record m { state = with_handle m.state slot (handle_named m kind row) })
 row-put f m view stored slot kind row may t is =
     subst (λ u. IsStored (with_table f u) × (machine_of (with_table f u)
     ≡ record m { state = with_handle m.state slot (handle_named m kind row) })) (sym is) (
-      stored-put f slot.0 (handle_of kind row) stored (may-stand f m view stored slot kind row may),
+      stored-put f slot.0 (handle_of kind row) stored (may-store f m view stored slot kind row may),
       machine-put f m view slot kind row,
     )
 
@@ -252,7 +252,7 @@ grown_blocks t k (Back b) = refl
 pub stored-same : (f : Parts) (t : Table) → IsStored f → t.rows ≡ f.table.rows → t.blocks ≡ f.table.blocks
     → IsWithin t → IsStored (with_table f t)
 stored-same f t stored rows blocks uses = stored-table f t stored blocks uses
-    (λ slot row is. stands f stored slot row (sym (ap (λ m. get m slot) rows) ∙ is))
+    (λ slot row is. storable f stored slot row (sym (ap (λ m. get m slot) rows) ∙ is))
 
 within_insert : {A : Type 0} (m : FinMap nat_cmp A) (k most : ℕ) (v : A) → (1 ≤ k) × (k ≤ most)
     → ((b : ℕ) → IsSome (get m b) → (1 ≤ b) × (b ≤ most)) → (b : ℕ) → IsSome (get (insert m k v) b)

@@ -35,7 +35,7 @@ pub use Rattle.hd_world.specs.Reading.{IsNamed, named_in, read_object, name_in}
 unfoldable pub use Rattle.hd_world.specs.Reading.{names_of, objects_by_id, rows_by_id}
 unfoldable pub use Rattle.hd_world.specs.Rows.{rows_of, rest_of}
 pub use Rattle.hd_world.specs.Objects.{object_named, IsObjectRefused}
-pub use Rattle.hd_world.specs.Handles.{handle_named, MayStand}
+pub use Rattle.hd_world.specs.Handles.{handle_named, MayBeStored}
 pub use Rattle.hd_world.specs.Places.{AreAddresses, KeepsPlaces, KeepsNames, Moves, HasPlace, HasNames, kept_places, HasCollected}
 pub use Rattle.hd_world.specs.StateHeap.{IsStoredAt, IsOfHeap, LeavesHeap, IsCompactStore}
 pub use Rattle.hd_world.specs.World.{HasLimits, Asks, object_room, handle_slot, block_back, no_room, asks_of, MayOffer, IsOffer, GrowsFor, GrowsUnoffered, WorldView}

@@ -17,7 +17,7 @@ handle_named m kind row = rename_handle (name_in m.names) (handle_of kind row)
 -- a row may be stored in a slot of a kind: its extra fits the kind, what it references are objects, a row
 -- without a target has no secondary, and the age of the slot's clump is at most the generation of what it
 -- references
-pub record MayStand (m : Machine) (slot : Slot) (kind : Kind) (row : Row) : Type 0 where
+pub record MayBeStored (m : Machine) (slot : Slot) (kind : Kind) (row : Row) : Type 0 where
   pub fits : fits kind (extra_of row.extra) ≡ true
   pub target : IsNamed m.names row.target
   pub secondary : IsNamed m.names (secondary_of (extra_of row.extra))

@@ -4,7 +4,7 @@ ghost use Rattle.hd_model.specs.State.{handle_at, use_of, given_of, without_hand
 ghost use Rattle.hd_model.specs.Kinds.{is_paired};
 ghost use Rattle.hd_model.specs.Step.{blocks_needed, with_growth};
 ghost use Rattle.hd_model.specs.Ages.{lowered};
-ghost use Rattle.hd_world.specs.Handles.{handle_named, MayStand};
+ghost use Rattle.hd_world.specs.Handles.{handle_named, MayBeStored};
 ghost use Rattle.hd_world.specs.Growth.{GrowsBy, kind_in_use};
 
 use crate::store::Store;
@@ -39,7 +39,7 @@ impl Store {
         ensures value { let named =
             option_map (λ live. handle_named self.now live.kind live.row) result in
             handle_at self.now.state slot ≡ named }
-        ensures may { IfSome result (λ live. MayStand self.now slot live.kind live.row) }
+        ensures may { IfSome result (λ live. MayBeStored self.now slot live.kind live.row) }
         ensures within { OnSome result
             ((1 ≤ block_of slot) × (block_of slot ≤ self.now.numbers.blocks)) }
     {
@@ -60,7 +60,7 @@ impl Store {
     /// Puts a row into a free slot.
     pub(crate) fn put_row(&mut self, slot: Slot, kind: Kind, row: Row)
         requires free { IsFree self.old.state kind slot }
-        requires may { MayStand self.old slot kind row }
+        requires may { MayBeStored self.old slot kind row }
         ensures { let after = with_handle self.old.state slot (handle_named self.old kind row) in
             self.new ≡ record self.old { state = after } }
     {
@@ -71,7 +71,7 @@ impl Store {
     pub(crate) fn set_row(&mut self, slot: Slot, kind: Kind, row: Row)
         requires live { option_map (λ handle. handle.kind) (handle_at self.old.state slot)
             ≡ Some kind }
-        requires may { MayStand self.old slot kind row }
+        requires may { MayBeStored self.old slot kind row }
         ensures { let after = with_handle self.old.state slot (handle_named self.old kind row) in
             self.new ≡ record self.old { state = after } }
     {

@@ -9,7 +9,7 @@ ghost use Rattle.hd_model.specs.Command.{get_target, set_target, set_secondary, 
 ghost use Rattle.hd_seg.specs.Row.{extra_of};
 ghost use Rattle.hd_world.specs.Reading.{named_in, IsNamed};
 ghost use Rattle.hd_world.specs.Counts.{HasSmallCounts};
-ghost use Rattle.hd_world.specs.Handles.{handle_named, MayStand};
+ghost use Rattle.hd_world.specs.Handles.{handle_named, MayBeStored};
 ghost use Rattle.hd_world.specs.Commands.{ComesTo, ComesToAged, live_in, as_found};
 
 use crate::done::Done;
@@ -26,7 +26,7 @@ pub(crate) fn live_in(store: &Store, caller: u32, h: u8) -> Result<(Slot, Live),
     requires caller { caller < store.now.numbers.callers }
     requires register { h < REGISTERS }
     ensures value { as_found store.now result ≡ live_in store.now.state caller h }
-    ensures may { IfOk result (λ found. MayStand store.now found.0 found.1.kind found.1.row) }
+    ensures may { IfOk result (λ found. MayBeStored store.now found.0 found.1.kind found.1.row) }
     ensures low { IfOk result (λ found. 1 ≤ block_of found.0) }
     ensures high { IfOk result (λ found. block_of found.0 ≤ store.now.numbers.blocks) }
 {
@@ -198,7 +198,7 @@ pub(crate) fn set_secondary(store: &mut Store, caller: u32, h: u8, s: u8) -> Res
 fn set_count(store: &mut Store, slot: Slot, live: Live, count: u32) -> Done
     requires live { let named = handle_named store.old live.kind live.row in
         handle_at store.old.state slot ≡ Some named }
-    requires may { MayStand store.old slot live.kind live.row }
+    requires may { MayBeStored store.old slot live.kind live.row }
     requires counted { live.kind ≡ kind.Counted }
     ensures { let named = handle_named store.old live.kind live.row in
         ComesTo (with_count store.old.state slot named count) store.old store.new (Ok result) }

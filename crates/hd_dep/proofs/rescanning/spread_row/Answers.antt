@@ -26,15 +26,15 @@ pub returns-clause-spreads : goal.returns-clause-spreads
 returns-clause-spreads g c =
     let t : Table = c.args.seg.now in
     let h : Handle Addr = live_at t c.args.slot.0 in
-    let stands = live_row t c.args.slot.0 c.requires.live in
-    let stood : c.in-Some.row ≡ row_of h =
-    same_Some _ _ (sym c.in-Some.is ∙ c.row.ensures.value ∙ ap (option_map row_of) stands) in
+    let is_stored = live_row t c.args.slot.0 c.requires.live in
+    let was_stored : c.in-Some.row ≡ row_of h =
+    same_Some _ _ (sym c.in-Some.is ∙ c.row.ensures.value ∙ ap (option_map row_of) is_stored) in
     let extra : h.extra ≡ extra_of c.in-Some.row.extra =
-    sym (extra_again h.extra) ∙ ap (λ (r : Row). extra_of r.extra) (sym stood) in
+    sym (extra_again h.extra) ∙ ap (λ (r : Row). extra_of r.extra) (sym was_stored) in
     (promoted_beyond (objects_of (g.M.Marker.basis c.args.marker.now))
     (g.M.Marker.basis c.args.marker.now).condemned t
     c.args.slot.0 h c.in-Some-parts.target c.in-Some-parts.secondary (g.M.Marker.promoted c.args.marker.now)
-    (g.M.Marker.promoted c.promote.new.self) stands c.requires.of_kind
-    (ap (λ (r : Row). r.target) (sym stood) ∙ c.in-Some-parts.ensures.both.0)
+    (g.M.Marker.promoted c.promote.new.self) is_stored c.requires.of_kind
+    (ap (λ (r : Row). r.target) (sym was_stored) ∙ c.in-Some-parts.ensures.both.0)
     (ap secondary_of extra ∙ c.in-Some-parts.ensures.both.1)
     (sym c.is_left_out.ensures ∙ c.if-not-is_left_out.false) c.promote.ensures.grows).0

@@ -17,14 +17,14 @@ loop-number-preserved c =
     let rooms = c.args.rooms.now in
     let begun = c.args.first.now.view in
     let seat = c.split-seat.new.first in
-    let told = c.split-seat.ensures in
-    let shared = ap (λ (k : Known _). k.view) told.first in
+    let ensured = c.split-seat.ensures in
+    let shared = ap (λ (k : Known _). k.view) ensured.first in
     let last = sum (drop (n + 1) rooms) + slice_index rooms 0 in
     let caller = caller_view_of c.split-seat.result n (padded_value c.new.result) in
     let pushed : c.push_reserved.new.self.items ≡ c.loop-number.list.items ++ caller ∷ [] =
     c.push_reserved.ensures.items in
     let was = subst (λ (k : Known _). IsNew c.args.custody.now n (slice_index rooms n)
-    (caller_view_of k n (padded_value c.new.result))) (sym told.new) (record {
+    (caller_view_of k n (padded_value c.new.result))) (sym ensured.new) (record {
       is_of = record {
         table = refl;
         numbers = limits_are begun c.loop-number.first.view c.args.custody.now.numbers c.requires.starts n _
@@ -37,7 +37,7 @@ loop-number-preserved c =
     let left : sum (drop n rooms) + slice_index rooms 0 ≡ slice_index rooms n + last =
     omega (arith, sum_drop rooms n c.loop-number-test.true) in
     record {
-      table = ap (λ (k : Known _). k.table) told.first ∙ inv.table;
+      table = ap (λ (k : Known _). k.table) ensured.first ∙ inv.table;
       first = first_next begun c.loop-number.first.view seat.view n (slice_index rooms n) last
           (subst (λ r. IsFirst begun c.loop-number.first.view n r) left inv.first) shared;
       count = omega (

@@ -8,7 +8,7 @@ use Rattle.hd_custody.specs.Counts.{HasAs}
 use Rattle.hd_custody.specs.Views.{Known, gave_back, took}
 use Rattle.hd_world.specs.World.{WorldView}
 use Rattle.hd_world.specs.contracts.world.WorldHeld.TheImpl.{ghosts}
-use Rattle.hd_gate.specs.Turns.{Turned, freed_in, LetsGo}
+use Rattle.hd_gate.specs.Turns.{Turned, freed_in, ReleasesFreed}
 use Rattle.hd_gate.proofs.HandleFree.{Freed, frees_slot}
 use Rattle.hd_gate.proofs.GateLeave.{may_step, may_leave_with}
 use Rattle.hd_gate.proofs.turns.free.Given.{Over}
@@ -69,11 +69,12 @@ returns g c =
     let seat = c.args.seat.now in
     let n = c.let_go.new.seat.view in
     let left = left g at.After-leave in
-    let away : LetsGo seat.view.limits.blocks (freed_in w.state e.slot)
+    let away : ReleasesFreed seat.view.limits.blocks (freed_in w.state e.slot)
     (gave_back ghosts c.enter-world.result w (took c.enter-world.result seat.view)) n =
-    subst (λ (s : Known WorldView). LetsGo seat.view.limits.blocks (freed_in w.state e.slot) s.view n) left
-    (subst (λ b. LetsGo b (freed_in w.state e.slot) c.leave.new.seat.view n) c.requires.turn.blocks
-    (subst (λ (f : Option (Slot × Kind)). LetsGo c.args.custody.now.blocks f c.leave.new.seat.view n)
+    subst (λ (s : Known WorldView).
+    ReleasesFreed seat.view.limits.blocks (freed_in w.state e.slot) s.view n) left
+    (subst (λ b. ReleasesFreed b (freed_in w.state e.slot) c.leave.new.seat.view n) c.requires.turn.blocks
+    (subst (λ (f : Option (Slot × Kind)). ReleasesFreed c.args.custody.now.blocks f c.leave.new.seat.view n)
     c.freed-freed.ensures c.let_go.ensures.gone)) in
     subst (λ (t : TableId). Turned seat (record { table = t; view = n }) c.args.number c.args.cmd e.reply)
     (sym (c.let_go.ensures.table ∙ ap (λ (s : Known WorldView). s.table) left))

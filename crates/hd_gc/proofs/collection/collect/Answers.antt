@@ -2,7 +2,7 @@ use Rattle.std.proofs.Common.{ap, refl, arith}
 use Rattle.hd_model.specs.Heap.{Basis}
 use Rattle.hd_model.proofs.EqualTables.{clumps_same}
 use Rattle.hd_gc.proofs.FreeRegions.{ready_spared, collected_spared}
-use Rattle.hd_gc.proofs.KeptScene.{rows_kept, waiting_kept, waiting_objects, roots_kept}
+use Rattle.hd_gc.proofs.KeptScene.{rows_kept, queued_kept, queued_objects, roots_kept}
 use Rattle.hd_gc.proofs.CollectedScene.{collected}
 use Rattle.hd_gc.proofs.collection.collect.Goals as goal
 
@@ -21,12 +21,12 @@ relocate_all-requires-clause-rows g c =
 
 pub relocate_all-requires-clause-waiting : goal.relocate_all-requires-clause-waiting
 relocate_all-requires-clause-waiting g c =
-    waiting_kept (ready_spared c.take.ensures.same c.requires.ready) c.in_ok-found.ensures.found
+    queued_kept (ready_spared c.take.ensures.same c.requires.ready) c.in_ok-found.ensures.found
     c.report-report.ensures
 
 pub relocate_all-requires-clause-objects : goal.relocate_all-requires-clause-objects
 relocate_all-requires-clause-objects g c =
-    waiting_objects (ready_spared c.take.ensures.same c.requires.ready) c.in_ok-found.ensures.found
+    queued_objects (ready_spared c.take.ensures.same c.requires.ready) c.in_ok-found.ensures.found
     c.report-report.ensures
 
 pub relocate_all-requires-clause-roots : goal.relocate_all-requires-clause-roots

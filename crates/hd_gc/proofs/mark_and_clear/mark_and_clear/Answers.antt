@@ -25,14 +25,14 @@ revive-revived-requires-clause-waiting g c =
 
 pub clear_long-long-requires-clause-due : goal.clear_long-long-requires-clause-due
 clear_long-long-requires-clause-due g c =
-    due_again c.revive-revived.ensures.revived.basis refl
+    due_again c.revive-revived.ensures.resurrected.basis refl
     (due2 c.requires.ready c.trace.ensures.traced c.trace.ensures.table c.clear_short-short.ensures.marks
     c.clear_short-short.ensures.clears)
 
 pub clear-dep-requires-clause-due : goal.clear-dep-requires-clause-due
 clear-dep-requires-clause-due g c =
     due4 c.requires.ready c.trace.ensures.traced c.trace.ensures.table c.clear_short-short.ensures.marks
-    c.clear_short-short.ensures.clears c.revive-revived.ensures.revived c.clear_long-long.ensures.marks
+    c.clear_short-short.ensures.clears c.revive-revived.ensures.resurrected c.clear_long-long.ensures.marks
     c.clear_long-long.ensures.clears
 
 pub lay-requires-clause-closed : goal.lay-requires-clause-closed
@@ -40,14 +40,14 @@ lay-requires-clause-closed g c =
     subst (λ (b : Basis). IsClosed (IsField (objects_of b)) (promoted_in c.clear_long-long.new.marks))
     (sym c.requires.basis)
     (closed4 c.requires.ready c.trace.ensures.traced c.trace.ensures.table c.clear_short-short.ensures.marks
-    c.clear_short-short.ensures.clears c.revive-revived.ensures.revived c.clear_long-long.ensures.marks
+    c.clear_short-short.ensures.clears c.revive-revived.ensures.resurrected c.clear_long-long.ensures.marks
     c.clear_long-long.ensures.clears)
 
 pub returns-clause-found : goal.returns-clause-found
 returns-clause-found g c =
     marked_and_cleared c.requires.ready c.trace.ensures.traced c.trace.ensures.table
     c.clear_short-short.ensures.marks
-    c.clear_short-short.ensures.clears c.revive-revived.ensures.revived c.clear_long-long.ensures.marks
+    c.clear_short-short.ensures.clears c.revive-revived.ensures.resurrected c.clear_long-long.ensures.marks
     c.clear_long-long.ensures.clears c.clear-dep.ensures.whole c.clear-dep.ensures.table
     c.clear-dep.ensures.whole_count
     c.revive-revived.ensures.count
@@ -55,7 +55,7 @@ returns-clause-found g c =
     c.lay.ensures.stays (λ i. c.revive-revived.new.fin.waiting) c.revive-revived.ensures.room
     (mark_and_clear_steps c.requires.ready c.trace.ensures.traced c.trace.ensures.table
     c.clear_short-short.ensures.marks
-    c.clear_short-short.ensures.clears c.revive-revived.ensures.revived c.clear_long-long.ensures.marks
+    c.clear_short-short.ensures.clears c.revive-revived.ensures.resurrected c.clear_long-long.ensures.marks
     c.clear_long-long.ensures.clears c.clear-dep.ensures.whole c.clear-dep.ensures.table
     c.clear-dep.ensures.whole_count
     c.revive-revived.ensures.count

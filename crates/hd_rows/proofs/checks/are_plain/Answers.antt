@@ -7,16 +7,16 @@ use Rattle.hd_rows.specs.Checks.{IsPlain}
 use Rattle.hd_rows.proofs.checks.are_plain.Goals as goal
 
 pub loop-slot-preserved : goal.loop-slot-preserved
-loop-slot-preserved c = λ k row low stands.
+loop-slot-preserved c = λ k row low is_object_at.
     elim (cases_eq k c.loop-slot.slot) [
       | inl same ↦
           subst (λ (j : ℕ). IsPlain c.args.heap.now c.args.ages.now j row) (sym same)
           (c.is_plain.ensures c.if-not-is_plain.false row
-          (subst (λ (j : ℕ). row_at c.args.seg.now j ≡ Some row) same stands))
-      | inr other ↦ c.loop-slot.invariant k row (omega (arith, other)) stands
+          (subst (λ (j : ℕ). row_at c.args.seg.now j ≡ Some row) same is_object_at))
+      | inr other ↦ c.loop-slot.invariant k row (omega (arith, other)) is_object_at
     ]
 
 pub returns : goal.returns
-returns c = λ yes0 slot row stands.
-    let high = (c.given.ensures.table.rows slot row stands).high in
-    c.loop-slot.invariant slot row (omega (arith, high, c.blocks-2.ensures.value, c.requires)) stands
+returns c = λ yes0 slot row is_object_at.
+    let high = (c.given.ensures.table.rows slot row is_object_at).high in
+    c.loop-slot.invariant slot row (omega (arith, high, c.blocks-2.ensures.value, c.requires)) is_object_at

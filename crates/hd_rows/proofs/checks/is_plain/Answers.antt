@@ -22,7 +22,7 @@ returns c = λ low.
     let young : c.age.result ≤ c.generation.result = leb-true c.age.result c.generation.result low in
     plain_at c.args.heap.now c.args.seg.now ages c.args.slot c.row.result c.row.ensures.value
     c.in-Some.row c.in-Some.is (c.is_single.ensures c.if-not-is_single.false) c.in-Some-target.at
-    c.in-Some-target.is (c.stands.ensures c.if-not-stands.false)
+    c.in-Some-target.is (c.is_object_at.ensures c.if-not-is_object_at.false)
     (subst (λ k. k ≤ generation_at (object_at c.args.heap.now) c.in-Some-target.at)
     (c.age.ensures.value ∙ clump_is ages c.args.slot)
     (subst (λ k. c.age.result ≤ k) c.generation.ensures.value young))

@@ -14,4 +14,4 @@ returns c = λ none.
     (c.is_bare.ensures c.if-not-is_bare.false) (c.are_alone.ensures c.if-not-are_alone.false)
     (c.are_plain.ensures c.if-not-are_plain.false)
     (subst (λ (xs : List (Option Addr)). (x : Addr) → Contains xs (Some x) → has_object s.heap x ≡ true)
-    c.deref.ensures.value (c.roots_stand.ensures c.if-not-roots_stand.false)) empty
+    c.deref.ensures.value (c.roots_are_objects.ensures c.if-not-roots_are_objects.false)) empty

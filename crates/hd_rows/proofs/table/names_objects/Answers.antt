@@ -9,13 +9,13 @@ returns c = λ e.
     let size : ℕ = length c.args.toy.now.marks.items in
     let is = c.given-given.ensures.table in
     record {
-      targets = λ slot h x stands named.
-          let row = is.rows slot h stands in
+      targets = λ slot h x is_object_at named.
+          let row = is.rows slot h is_object_at in
           object_below size x
-          ((c.loop-slot.invariant slot (omega (arith, row.high)) h row.low stands).target x named);
-      secondaries = λ slot h x stands named.
-          let row = is.rows slot h stands in
+          ((c.loop-slot.invariant slot (omega (arith, row.high)) h row.low is_object_at).target x named);
+      secondaries = λ slot h x is_object_at named.
+          let row = is.rows slot h is_object_at in
           object_below size x
-          ((c.loop-slot.invariant slot (omega (arith, row.high)) h row.low stands).secondary x
+          ((c.loop-slot.invariant slot (omega (arith, row.high)) h row.low is_object_at).secondary x
           (ap secondary_of (extra_again h.extra) ∙ named));
     }

@@ -1,6 +1,6 @@
 use Rattle.hd_world.proofs.StoreWords.{◌≡◌, ◌+◌, ◌<◌, ◌^◌, ap, arith, count_of, rename_extra, name_in, handle_named}
 use Rattle.hd_seg.specs.Row.{extra_of}
-use Rattle.hd_world.proofs.FoundHandle.{stands_found}
+use Rattle.hd_world.proofs.FoundHandle.{found_is_live}
 use Rattle.hd_world.proofs.on_handles.raise_count.Goals as goal
 
 pub overflow_add-count : goal.overflow_add-count
@@ -9,7 +9,7 @@ overflow_add-count c =
     let found = c.in_ok-slot in
     let named = handle_named m found.live.kind found.live.row in
     let low : count_of named.extra + 1 < 2 ^ 32 = c.requires.small found.slot.0 named
-    (stands_found m.state c.args.caller c.args.s found.slot named found.ensures.value) in
+    (found_is_live m.state c.args.caller c.args.s found.slot named found.ensures.value) in
     let is : count_of named.extra ≡ c.in-Count.count =
     ap (λ e. count_of (rename_extra (name_in m.names) (extra_of e))) c.in-Count.is in
     let small : c.in-Count.count + 1 < 2 ^ 32 = omega (arith, low, is) in

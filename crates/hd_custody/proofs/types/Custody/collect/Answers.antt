@@ -3,7 +3,7 @@ use Rattle.hd_custody.specs.Views.{Named, Kinded}
 use Rattle.hd_custody.specs.Traces.{look_whole, missed, every_row}
 use Rattle.hd_custody.specs.Counts.{rows}
 use Rattle.hd_custody.proofs.Canon.{with_block_some}
-use Rattle.hd_custody.proofs.Phases.{less_is, less_not, told_some, seen_as, from_phase, held_is, table_is, then_as}
+use Rattle.hd_custody.proofs.Phases.{less_is, less_not, found_or_some, seen_as, from_phase, held_is, table_is, then_as}
 use Rattle.hd_custody.proofs.types.Custody.collect.Goals as goal
 
 pub take_whole-requires : goal.take_whole-requires
@@ -31,7 +31,7 @@ returns-then-take_whole-clause-made g c =
     (from_phase (c.take_whole.ensures.whole c.if-take_whole.true)
     (less_not blocks block missed (look_whole block) (omega (arith, size, c.loop-block-test.true)))))
     (sym (with_block_some block (c.args.kind + 1) c.args.caller.now.view.held real))
-    (sym (told_some missed block real))
+    (sym (found_or_some missed block real))
 
 pub returns-clause-made : goal.returns-clause-made
 returns-clause-made g c =

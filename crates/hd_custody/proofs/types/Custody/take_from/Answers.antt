@@ -6,7 +6,7 @@ use Rattle.hd_custody.specs.Traces.{to_look, to_bank}
 use Rattle.hd_custody.specs.Views.{Acting}
 use Rattle.hd_custody.specs.CallSteps.{HasRows, HasRowsAs, Made}
 use Rattle.hd_custody.proofs.Canon.{row_has, rows_none, rows_have, lowest_is, flip_within, one_stays, with_slot_some}
-use Rattle.hd_custody.proofs.Phases.{due, zero_is, same_is, same_not, told_some, seen_as, held_is, table_is, then_as}
+use Rattle.hd_custody.proofs.Phases.{due, zero_is, same_is, same_not, found_or_some, seen_as, held_is, table_is, then_as}
 use Rattle.hd_custody.proofs.AllocateSteps.{set_real, mask_apart, look_again, rows_back, row_offers}
 use Rattle.hd_custody.proofs.types.Custody.take_from.Goals as goal
 
@@ -101,7 +101,7 @@ returns-clause-made g c =
     (ap (λ m. without_rows block (bit_xor mask m) (rows block mask (k + 1) ++ held)) c.bit.ensures.value
     ∙ one_stays block mask row (k + 1) held c.in-Some.ensures.within c.in-Some.ensures.set apart
     ∙ sym (with_slot_some slot (k + 1) held real))
-    (sym (told_some (to_look c.args.self.now.blocks (block + 1)) slot real))
+    (sym (found_or_some (to_look c.args.self.now.blocks (block + 1)) slot real))
 
 pub returns-clause-offers : goal.returns-clause-offers
 returns-clause-offers g c =

@@ -7,8 +7,8 @@ use Rattle.hd_model.specs.Scene.{is_object, IsYoungField}
 use Rattle.hd_model.specs.Table.{Queue}
 use Rattle.hd_final.specs.declared.joiners.Joiner.{Joiner}
 use Rattle.hd_final.specs.Joiners.{places}
-use Rattle.hd_final.specs.Revival.{IsOut}
-use Rattle.hd_final.proofs.QueueRevive.{joins_object, joins_count, revived, queue_once, queue_fits, joiners_fit}
+use Rattle.hd_final.specs.Resurrection.{IsOut}
+use Rattle.hd_final.proofs.QueueRevive.{joins_object, joins_count, resurrected, queue_once, queue_fits, joiners_fit}
 use Rattle.hd_final.proofs.queue.Final.revive.Goals as goal
 
 pub join-requires-clause-objects : goal.join-requires-clause-objects
@@ -54,11 +54,11 @@ invariant_of-self g c = record {
   joiners = omega (arith, c.self.invariant.joiners, c.sort.ensures.capacity, c.find.ensures.capacity);
 }
 
-pub returns-clause-revives : goal.returns-clause-revives
-returns-clause-revives g c =
+pub returns-clause-resurrects : goal.returns-clause-resurrects
+returns-clause-resurrects g c =
     let p = g.M.Marker.promoted c.args.marker.now in
     let ks = c.deref.result.now in
-    revived c.find.ensures.found c.sort.ensures.permutation c.deref.ensures.value c.requires.identities
+    resurrected c.find.ensures.found c.sort.ensures.permutation c.deref.ensures.value c.requires.identities
     (subst (λ xs. IsNonDecreasingBy (λ (j : Joiner). j.id.0) xs) (sym c.deref.ensures.value)
     c.sort.ensures.rising)
     (g.M.Marker.promoted c.join.new.marker) c.args.self.now.waiting c.join.new.waiting.items

@@ -12,11 +12,11 @@ loop-i-preserved c =
     omega (arith, c.len-i-end.ensures, c.self.inside.waiting.ok.0, ap length seen) in
     let read : c.index.result.now ≡ get_or waiting c.loop-i.i c.index.result.now =
     c.index.ensures ∙ ap (λ xs. get_or xs c.loop-i.i c.index.result.now) seen in
-    let waits : Contains waiting c.index.result.now =
+    let is_queued : Contains waiting c.index.result.now =
     subst (λ a. Contains waiting a) (sym read)
     (Contains-get_or waiting c.loop-i.i c.index.result.now within) in
     settled_more waiting c.args.from c.loop-i.i c.args.heap.now c.loop-i.heap c.set_registered.new.self
     c.index.result.now (omega arith) within read c.loop-i.invariant
     (settled_has _ c.args.heap.now c.loop-i.heap c.loop-i.invariant c.index.result.now
-    ∙ c.requires c.index.result.now waits)
+    ∙ c.requires c.index.result.now is_queued)
     c.set_registered.ensures

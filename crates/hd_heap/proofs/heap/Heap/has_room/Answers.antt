@@ -3,7 +3,7 @@ use Rattle.std.proofs.lemmas.Bool.{leb-true, le-leb, both_ways}
 use Rattle.hd_model.specs.Heap.{Region}
 use Rattle.hd_cells.specs.Region.{Contents}
 use Rattle.hd_heap.specs.Steps.{HasRoom}
-use Rattle.hd_heap.proofs.RegionReads.{opened, place_read, held_index, held_read, home_by}
+use Rattle.hd_heap.proofs.RegionReads.{opened, place_read, held_index, held_read, located_by}
 use Rattle.hd_heap.proofs.heap.Heap.has_room.Goals as goal
 use Rattle.hd_heap.proofs.heap.Heap.has_room.Goals.{then-region-eq0-via-then-region-eq0, then-region-eq0-via-else-region-eq0+then-region-len}
 
@@ -40,7 +40,7 @@ returns-then-area-ne0 c = (
 
 pub returns : goal.returns
 returns c =
-    let at = home_by (opened c.self.inside c.self.view_is c.self.invariant)
+    let at = located_by (opened c.self.inside c.self.view_is c.self.invariant)
     (place_read c.self.inside.areas.items c.args.region c.place_of.result c.index-area.result.now
     (omega (arith, c.place_of.ensures, c.if-region-eq0.false))
     (omega (arith, c.place_of.ensures, c.if-region-eq0.false, c.if-region-len.false, c.len.ensures))

@@ -17,7 +17,7 @@ pub remove-cells-requires : goal.remove-cells-requires
 remove-cells-requires c =
     let f = found_read (opened c.self.inside c.self.view_is c.self.invariant) c.args.at c.requires
     c.place_of.result c.place_of.ensures c.index_mut.result.now c.index_mut.ensures.value in
-    rw c.offset_of.ensures (record { area = f.home.area; object = f.object })
+    rw c.offset_of.ensures (record { area = f.located.area; object = f.object })
 
 pub overflow_sub-self : goal.overflow_sub-self
 overflow_sub-self c =

@@ -20,7 +20,7 @@ write-requires c =
     let f = found_read (opened c.self.inside c.self.view_is c.self.invariant) c.args.at c.requires.object
     c.place_of.result c.place_of.ensures c.index_mut.result.now c.index_mut.ensures.value in
     rw c.offset_of.ensures (record {
-      area = f.home.area;
+      area = f.located.area;
       object = f.object;
       within = part_within (object_at (contents c.index_mut.result.now) (c.args.at.0 % 256)) c.args.part
           (subst (λ (p : Placed). HasPart p.fields c.args.part) f.placed c.requires.within);

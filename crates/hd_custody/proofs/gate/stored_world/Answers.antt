@@ -4,8 +4,8 @@ use Rattle.hd_custody.specs.Rule.{Divided}
 use Rattle.hd_custody.specs.Views.{Acting}
 use Rattle.hd_custody.proofs.Turns.{some_inj}
 use Rattle.hd_custody.proofs.TableOpen.{ends}
-use Rattle.hd_custody.proofs.gate.home.Goals as goal
-use Rattle.hd_custody.proofs.gate.home.Goals.{In-None, In-Some}
+use Rattle.hd_custody.proofs.gate.stored_world.Goals as goal
+use Rattle.hd_custody.proofs.gate.stored_world.Goals.{In-None, In-Some}
 
 pub close_with-closed-requires : goal.close_with-closed-requires
 close_with-closed-requires g c = ap (λ (a : Acting g.row.W.Denot). a.table) c.caller.view_is ∙ c.requires.seat
@@ -19,9 +19,9 @@ unreachable-requires g c =
     let first = subst (λ (a : Acting g.row.W.Denot). (a.view.number ≡ 0) × (a.view.has_gate ≡ false)
     × (length a.view.ended + 1 ≡ a.view.made)) (sym c.caller.view_is)
     (c.requires.first.0, c.requires.first.1, c.requires.all) in
-    let home = ends g.W.Held _ place.id place.me.0 c.caller.invariant first.0 first.1 first.2 _ _
+    let stored_world = ends g.W.Held _ place.id place.me.0 c.caller.invariant first.0 first.1 first.2 _ _
     c.close_with-closed.ensures.values.2 in
-    none_some home.0 (some-injective (Some home.0) c.take-world.result (sym home.1
+    none_some stored_world.0 (some-injective (Some stored_world.0) c.take-world.result (sym stored_world.1
     ∙ c.take-world.ensures.value) ∙ c.in-None.is)
 
 pub returns : goal.returns
@@ -30,9 +30,10 @@ returns g c =
     let first = subst (λ (a : Acting g.row.W.Denot). (a.view.number ≡ 0) × (a.view.has_gate ≡ false)
     × (length a.view.ended + 1 ≡ a.view.made)) (sym c.caller.view_is)
     (c.requires.first.0, c.requires.first.1, c.requires.all) in
-    let home = ends g.W.Held _ place.id place.me.0 c.caller.invariant first.0 first.1 first.2 _ _
+    let stored_world = ends g.W.Held _ place.id place.me.0 c.caller.invariant first.0 first.1 first.2 _ _
     c.close_with-closed.ensures.values.2 in
-    let is = some_inj home.0 c.in-Some.world (some-injective (Some home.0) c.take-world.result (sym home.1
+    let is = some_inj stored_world.0 c.in-Some.world
+    (some-injective (Some stored_world.0) c.take-world.result (sym stored_world.1
     ∙ c.take-world.ensures.value) ∙ c.in-Some.is) in
     subst (λ (a : Acting g.row.W.Denot). Divided g.W.Held a.view c.in-Some.world) c.caller.view_is
-    (subst (Divided g.W.Held place.me.0) is home.2)
+    (subst (Divided g.W.Held place.me.0) is stored_world.2)

@@ -2,7 +2,7 @@ ghost use Rattle.std.specs.Prelude.{◌≡◌, ◌<◌, true, IfOk};
 ghost use Rattle.hd_model.specs.Heap.{HasIdentities, has_object, object_at};
 ghost use Rattle.hd_model.specs.Names.{HasClosedFields};
 
-use crate::checks::{are_alone, is_closed, stands};
+use crate::checks::{are_alone, is_closed, is_object_at};
 use hd_final::Final;
 use hd_heap::Heap;
 use hd_mark::Marks;
@@ -29,8 +29,8 @@ fn led(rt: &impl Abort, alloc: Global, from: Addr, to: Addr) -> Result<Heap, Mem
     ensures identities { IfOk result HasIdentities }
 {
     let mut heap = three(alloc)?;
-    assert!(rt; stands(&heap, from));
-    assert!(rt; stands(&heap, to));
+    assert!(rt; is_object_at(&heap, from));
+    assert!(rt; is_object_at(&heap, to));
     assert!(rt; heap.fields(from) == 1);
     heap.store(from, 0, Some(to));
     assert!(rt; is_closed(&heap));

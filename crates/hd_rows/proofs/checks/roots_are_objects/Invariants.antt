@@ -2,7 +2,7 @@ use Rattle.std.proofs.Common.{◌≡◌, ◌<◌, ℕ, true, Some, None}
 use Rattle.std.specs.Prelude.{slice_index_or}
 use Rattle.hd_model.specs.declared.data.Addr.{Addr}
 use Rattle.hd_model.specs.Heap.{has_object}
-use Rattle.hd_rows.proofs.checks.roots_stand.Given as goal
+use Rattle.hd_rows.proofs.checks.roots_are_objects.Given as goal
 
 abbrev pub invariant-loop-root : goal.invariant-loop-root
 invariant-loop-root l =

@@ -1,6 +1,6 @@
 use Rattle.std.proofs.Common.{◌≡◌, true, rules}
 use Rattle.hd_rows.proofs.Readiness.{identities_differ}
-use Rattle.hd_rows.proofs.revivals.led.Goals as goal
+use Rattle.hd_rows.proofs.resurrections.led.Goals as goal
 
 pub returns-clause-identities : goal.returns-clause-identities
 returns-clause-identities g c =

@@ -8,13 +8,14 @@ use Rattle.hd_model.specs.Scene.{Objects, IsYoungField}
 -- a registered condemned object that is not promoted
 pub record IsOut {N : Type 0} (o : Objects N) (n : ℕ) (p : N → Bool) (x : N) : Type 0 where
   pub object : Object N
-  pub stands : o x ≡ Some object
+  pub is_stored : o x ≡ Some object
   pub registered : object.registered ≡ true
   pub young : object.generation ≤ n
   pub out : p x ≡ false
 
 -- those outside p join the queue in rising rank, each once, and q is p with them and what they lead to
-pub record Revives {N : Type 0} (rank : N → ℕ) (o : Objects N) (n : ℕ) (p q : N → Bool) (queue after : List N)
+pub record Resurrects {N : Type 0} (rank : N → ℕ) (o : Objects N) (n : ℕ) (p q : N → Bool)
+    (queue after : List N)
     : Type 0 where
   pub grows : Grows (IsYoungField o n) (IsOut o n p) p q
   pub joins : List N
