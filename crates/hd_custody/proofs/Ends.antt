@@ -9,7 +9,7 @@ use Rattle.hd_custody.specs.CallSteps.{found_or, with_block, calling, Made}
 use Rattle.hd_custody.proofs.Bounds.{allocate_bound, gather_bound, release_bound, found_real, missed_real}
 use Rattle.hd_custody.proofs.Shown.{shows_none}
 
--- what a number answers: 0 is none
+-- what a returned number means: 0 is none
 abbrev pub answer : ℕ → Option ℕ
 answer zero = None
 answer (suc x) = Some (suc x)

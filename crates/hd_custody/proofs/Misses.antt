@@ -402,7 +402,7 @@ module _ (k : ℕ) where
             (λ j here. on_all whole.gave 1 j b (omega arith) low whole.given here) n at;
       })
 
--- ---- what a call that answers none has made
+-- ---- what a call that returns none has made
 
 none_ends : (r : Option Slot) → IsNone r → ending (slot_number r) ≡ missed
 none_ends None none = refl

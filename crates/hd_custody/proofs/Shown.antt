@@ -1,4 +1,4 @@
--- A `gather` that answers none shows no mask of all 64 rows with the kind loaded after it.
+-- A `gather` that returns none shows no mask of all 64 rows with the kind loaded after it.
 use Rattle.std.proofs.Common.{◌≡◌, ◌≢◌, ◌⊎◌, ℕ, zero, suc, ◌+◌, ◌/◌, ◌%◌, ◌^◌, ◌<◌, ◌≤◌, ◌==◌, Bool, true, false, cond, not, bit_or, List, [], ◌∷◌, inl, inr, sym, ap, refl, ◌∙◌, ne_eqb, arith}
 use Rattle.std.specs.Prelude.{◌&&◌, nat_lt}
 use Rattle.std.specs.Int.{bit_at}

@@ -46,7 +46,7 @@ module _ {W : Type 0} (k blocks : ℕ) where
     pub steps : follow k blocks (push 0 x) w.trace ≡ found 0
     pub bound : length w.trace ≤ 1 + BANK + 1
 
-  -- A `gather`, in at most 1,278 steps: two for each word of the cache, four for each block. Where it answers
+  -- A `gather`, in at most 1,278 steps: two for each word of the cache, four for each block. Where it returns
   -- none, its trace shows no mask of all rows with the kind loaded after it.
   pub record Gathers (answer : Option ℕ) (v w : View W) : Type 0 where
     pub view : w ≡ called (gathered k answer v.held) w.trace v

@@ -48,7 +48,7 @@ pub data Phase : Type 0 where
   again : ℕ → ℕ → Phase
   -- the rows m, all that came, go back
   back : ℕ → ℕ → Phase
-  -- x is the answer, and reserve cell i is offered the least of the rows m that are left
+  -- x is returned, and reserve cell i is offered the least of the rows m that are left
   bank : ℕ → ℕ → ℕ → ℕ → Phase
   -- what is left of them after the last cell goes back
   rest : ℕ → ℕ → ℕ → Phase
@@ -63,7 +63,7 @@ pub data Phase : Type 0 where
   -- release: the n-th exchange puts x; x goes to its mask
   push : ℕ → ℕ → Phase
   last : ℕ → Phase
-  -- the call has ended: with a slot, a block, or 0 where the call answers nothing; with none
+  -- the call has ended: with a slot, a block, or 0 where the call returns nothing; with none
   found : ℕ → Phase
   missed : Phase
   -- no step of the call is this
@@ -133,7 +133,7 @@ module _ (k blocks : ℕ) where
   follow p [] = p
   follow p (t ∷ ts) = follow (next_phase p t) ts
 
--- how a call ends that may answer none
+-- how a call ends that may return none
 abbrev pub ending : Option ℕ → Phase
 ending (Some x) = found x
 ending None = missed

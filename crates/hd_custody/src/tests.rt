@@ -116,7 +116,7 @@ fn shrink<R: Wait>(rt: &R, custody: &Custody<Blocks>, seat: &mut Seat<Blocks>, b
     custody.leave(seat, world.with(block, 0));
 }
 
-// Takes up to `n` slots, one after the other, gives all of them back, and answers the one that was
+// Takes up to `n` slots, one after the other, gives all of them back, and returns the one that was
 // given back first.
 fn hold(custody: &Custody<Blocks>, seat: &mut Seat<Blocks>, kind: Kind, n: u32) -> Option<Slot>
     requires { seat.old.table ≡ custody.now.table }

@@ -15,7 +15,7 @@ pub(crate) const FIRST_MASK: usize = BLOCKS as usize + 1;
 /// The quick word of the first kind.
 pub(crate) const FIRST_QUICK: usize = FIRST_MASK + BLOCKS as usize;
 
-/// The reserve cells of a kind, and as many free cells: of a block one row is answered, and each
+/// The reserve cells of a kind, and as many free cells: of a block one row is returned, and each
 /// other has a cell.
 pub(crate) const BANK: u32 = ROWS - 1;
 

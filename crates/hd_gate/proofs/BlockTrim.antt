@@ -208,7 +208,7 @@ module _ (number : ℕ) (command : Cmd) (kind : Kind) (gives : change_of command
   pub trim_leaves : Leaves number command u w e v (without_gathered o (took u v'))
   trim_leaves = leaves_at o refl
 
--- what `gather` answered may be withdrawn
+-- what `gather` returned may be withdrawn
 pub may_withdraw : (k : ℕ) (o : Option ℕ) (held : List (ℕ × ℕ)) → held ≡ gathered k o []
     → IfSome o (λ b. (r : ℕ) → r < 64 → Has (64 * b + r) held)
 may_withdraw k None held is = tt

@@ -339,7 +339,7 @@ module _ (n : Numbers) (s : State) (p q : FreeSlots) (tied : IsTied n s p) (e : 
       )
   takes_least_of c o offers taken = tt
 
-  -- a full table is answered exactly where no slot is free and too few blocks are without a use
+  -- a full table is reported exactly where no slot is free and too few blocks are without a use
   finds_full : (t : State) (d : ℕ) (make : Make) (r : ℕ) (o : Option Slot) → Offers p q (Takes (kind_of make))
       o → ForSome o (TakesOffer e (cmd.HNew d make r))
       → GrowsUnoffered n s (cmd.HNew d make r) o e → StepOf n s e t (cmd.HNew d make r)
@@ -354,7 +354,7 @@ module _ (n : Numbers) (s : State) (p q : FreeSlots) (tied : IsTied n s p) (e : 
     λ both. absurd (both.0 slot (in_state n s p tied (kind_of make) slot offers.0.free)),
   )
 
-  -- `trim` answers 0 exactly where no block may go, and else 1
+  -- `trim` returns 0 exactly where no block may go, and else 1
   trims_none : (kind : Kind) (o : Option Slot) → Offers p q (Gives kind) o → ForSome o
       (TakesOffer e (cmd.Trim kind)) → GrowsUnoffered n s (cmd.Trim kind) o e
       → (e.reply ≡ reply.Value 0) ↔ NoneAllFree s kind

@@ -33,7 +33,7 @@ FindsFullExactly w command answer =
     → (answer ≡ reply.Refused (refusal.TableFull (given_of w.state)))
     ↔ (NoneFree w.state (kind_of make) × (w.numbers.blocks < given_of w.state + blocks_needed (kind_of make)))
 
--- `trim` answers 0 exactly where no block of its kind has all its slots free, and else 1
+-- `trim` returns 0 exactly where no block of its kind has all its slots free, and else 1
 pub record TrimsExactly (w : WorldView) (command : Cmd) (answer : Reply) : Type 0 where
   pub none : (kind : Kind) → command ≡ cmd.Trim kind → (answer ≡ reply.Value 0) ↔ NoneAllFree w.state kind
   pub some : (kind : Kind) → command ≡ cmd.Trim kind → ¬ (NoneAllFree w.state kind) → answer ≡ reply.Value 1

@@ -46,7 +46,7 @@ impl Alone {
         Ok(Alone { world, pool })
     }
 
-    /// Does a command of a caller, and answers its reply. A new handle takes the least free slot of
+    /// Does a command of a caller, and returns its reply. A new handle takes the least free slot of
     /// its kind, and the table grows only where there is none; `trim` gives back the least block
     /// of its kind whose slots are all free.
     pub fn call(&mut self, caller: u32, cmd: Cmd) -> Result<Reply, Memory>
@@ -56,7 +56,7 @@ impl Alone {
         ensures done { IfOk result (HasCalled self.old self.new caller cmd) }
         ensures full { IfOk result (FindsFullExactly self.old cmd) }
         ensures trims { IfOk result (TrimsExactly self.old cmd) }
-        // Out of memory comes for commands that may take it. A full heap is answered first.
+        // Out of memory comes for commands that may take it. A full heap is reported first.
         ensures memory { OnErr result (IsTrue (takes_memory cmd)) }
         ensures fits { OnErr result (FitsHeap self.old.numbers self.old.state cmd) }
         ensures unchanged { OnErr result (self.new ≡ self.old) }

@@ -57,7 +57,7 @@ pub data ObjectChange (s : State) (e : Entry) (id : Id) : Cmd → Option (Object
   registration_is_set : {c : Cmd} (registered : Bool) → IsSome (get s.objects id.0)
       → ObjectChange s e id c (Some (record (object_by_id s id) { registered = registered }))
   survives : {k : ℕ} (resurrected : Bool) (object : Object Id) → get s.objects id.0 ≡ Some object
-      → ObjectChange s e id (cmd.Collect k) (Some (survivor k resurrected_count object))
+      → ObjectChange s e id (cmd.Collect k) (Some (survivor k resurrected object))
   goes : {k : ℕ} → ObjectChange s e id (cmd.Collect k) None
 
 module _ (n : Numbers) (s : State) (w : IsWellFormed n s) (e : Entry) where
@@ -65,7 +65,7 @@ module _ (n : Numbers) (s : State) (w : IsWellFormed n s) (e : Entry) where
       → get s.objects id.0 ≡ o → ObjectChange s e id (cmd.Collect k)
       (cond kept (option_map (survivor k resurrected) o) None)
   object_collected k t id true resurrected None is = goes
-  object_collected k t id true resurrected (Some object) is = survives resurrected_count object is
+  object_collected k t id true resurrected (Some object) is = survives resurrected object is
   object_collected k t id false resurrected o is = goes
 
   -- a write of the object that a register references
@@ -149,7 +149,7 @@ module _ (n : Numbers) (s : State) (w : IsWellFormed n s) (e : Entry) (id : Id) 
   gone_stays c o (field_is_set {o = r} f l p) gone = absurd (gone_some s id gone (has n s e.caller r id w f))
   gone_stays c o (value_is_set {o = r} f p) gone = absurd (gone_some s id gone (has n s e.caller r id w f))
   gone_stays c o (registration_is_set registered there) gone = absurd (gone_some s id gone there)
-  gone_stays c o (survives resurrected_count object is) gone = absurd (none-some object (sym gone.none ∙ is))
+  gone_stays c o (survives resurrected object is) gone = absurd (none-some object (sym gone.none ∙ is))
   gone_stays c o goes gone = refl
 
   live_stays : (c : Cmd) (o : Option (Object Id)) → ObjectChange s e id c o
@@ -167,7 +167,7 @@ module _ (n : Numbers) (s : State) (w : IsWellFormed n s) (e : Entry) (id : Id) 
       inr (value r v refl f p (at_some P (get s.objects id.0) _ had))
   live_stays c o (registration_is_set registered there) field value had =
       inr (alike (object_by_id s id) _ refl refl (at_some P (get s.objects id.0) _ had))
-  live_stays c o (survives resurrected_count object is) field value had =
+  live_stays c o (survives resurrected object is) field value had =
       inr (alike object _ refl refl (subst (λ x. IsSomeAnd x P) is had))
   live_stays c o goes field value had = inl refl
 

@@ -165,7 +165,7 @@ module _ (old new : SourceView) where
   source_faults_of (Some r) (Done run roots) (lists, script, all) ne =
       script_unfailed (traits_of r.mode).reads r lists script
 
-  -- ---- what a run of bytes that were left answers
+  -- ---- what a run of bytes that were left returns
 
   module _ (status : ℕ) (unfailed : ¬ (Rose old.faults new.faults)) (bytes : List ℕ)
       (left : old.left ≡ Some bytes) where
