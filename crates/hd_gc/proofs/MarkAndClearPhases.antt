@@ -140,8 +140,8 @@ module _ {A : Parts} {n s0 s1 : ℕ} {m1 : MarksOf} (ready : IsReady A) (tr : Tr
     abbrev Kept : Addr → Bool
     Kept = promoted_in m3
 
-    resurrection : Resurrection (λ x. (id_at A.heap x).0) (record S { handle = row_at t1; named = [] })
-        n Reach Kept after
+    resurrection : Resurrection (λ x. (id_at A.heap x).0) (record S { handle = row_at t1; named = [] }) n
+        Reach Kept after
     resurrection =
         subst (λ p. Resurrection (λ x. (id_at A.heap x).0) (record S { handle = row_at t1; named = [] }) n
         p Kept

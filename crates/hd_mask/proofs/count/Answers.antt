@@ -1,7 +1,7 @@
 -- The list of the set bits is as long as the count of ones.
-use Rattle.std.proofs.Common.{sym, arith}
+use Rattle.std.proofs.Common.{arith}
 use Rattle.hd_mask.proofs.SetBits.{length-set_bits}
 use Rattle.hd_mask.proofs.count.Goals as goal
 
 pub returns-clause-number : goal.returns-clause-number
-returns-clause-number c = sym (length-set_bits c.args.mask (omega arith))
+returns-clause-number c = omega (arith, length-set_bits c.args.mask (omega arith))

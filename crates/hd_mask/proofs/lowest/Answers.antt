@@ -1,6 +1,6 @@
 -- The count of trailing zeros is the index of the lowest set bit.
-use Rattle.std.proofs.Common.{ap, sym, ◌∙◌, slice_get, arith}
-use Rattle.std.specs.Int.{w64}
+use Rattle.std.proofs.Common.{◌≡◌, ◌<◌, ℕ, Some, ap, sym, subst, ◌∙◌, slice_get, arith}
+use Rattle.std.specs.Int.{bit_at, w64}
 use Rattle.std.proofs.lemmas.Nat.Bits.{bit_at-trailing_zeros}
 use Rattle.hd_mask.specs.Mask.{set_bits}
 use Rattle.hd_mask.proofs.SetBits.{set_bits-zero, first-set_bits}
@@ -14,12 +14,15 @@ returns-then-mask-eq0-clause-first c =
 pub returns-else-mask-eq0-clause-first : goal.returns-else-mask-eq0-clause-first
 returns-else-mask-eq0-clause-first c =
     let least = bit_at-trailing_zeros w64 c.args.mask (omega arith) (omega arith) in
-    sym (first-set_bits c.args.mask _ least.1 least.2 least.0)
+    subst (λ t. Some t ≡ slice_get (set_bits c.args.mask) 0) (omega arith)
+    (sym (first-set_bits c.args.mask _ least.1 least.2 least.0))
 
 pub returns-else-mask-eq0-clause-set : goal.returns-else-mask-eq0-clause-set
 returns-else-mask-eq0-clause-set c =
-    (bit_at-trailing_zeros w64 c.args.mask (omega arith) (omega arith)).1
+    let least = bit_at-trailing_zeros w64 c.args.mask (omega arith) (omega arith) in
+    subst (λ t. bit_at c.args.mask t ≡ 1) (omega arith) least.1
 
 pub returns-else-mask-eq0-clause-least : goal.returns-else-mask-eq0-clause-least
 returns-else-mask-eq0-clause-least c =
-    (bit_at-trailing_zeros w64 c.args.mask (omega arith) (omega arith)).2
+    let least = bit_at-trailing_zeros w64 c.args.mask (omega arith) (omega arith) in
+    subst (λ t. (k : ℕ) → k < t → bit_at c.args.mask k ≡ 0) (omega arith) least.2

@@ -1,5 +1,6 @@
-use Rattle.std.proofs.Common.{◌≡◌, ℕ, ◌+◌, ◌<◌, Bool, true, cond, refl, sym, ◌∙◌, subst}
+use Rattle.std.proofs.Common.{◌≡◌, ℕ, ◌+◌, ◌<◌, Bool, true, cond, refl, sym, ◌∙◌, subst, arith}
 use Rattle.std.proofs.lemmas.Bool.{true≢false}
+use Rattle.std.proofs.lemmas.Grind.{common_steps}
 use Rattle.hd_model.specs.declared.data.Addr.{Addr}
 use Rattle.hd_model.specs.declared.data.Kind.TheVariants as kind
 use Rattle.hd_model.specs.Heap.{Basis, objects_of}
@@ -64,8 +65,8 @@ loop-more-preserved g c =
           passed c.spread-more.ensures.steps
           (gained_or_same (row_at c.args.seg.now) c.args.ages.now c.args.n p q c.spread-more.result
           c.spread-more.ensures.more);
-      followed = followed_after (row_at c.args.seg.now) c.args.ages.now c.args.n p q c.spread-more.result
-          c.spread-more.ensures.more;
+      followed = λ last. followed_after (row_at c.args.seg.now) c.args.ages.now c.args.n p q
+          c.spread-more.result c.spread-more.ensures.more (grind (arith, common_steps));
     }
 
 pub loop-more-smaller : goal.loop-more-smaller

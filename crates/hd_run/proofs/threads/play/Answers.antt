@@ -1,4 +1,4 @@
-use Rattle.std.proofs.Common.{◌≡◌, ◌<◌, ℕ, ap, get_or, length, arith, subst, sym, refl}
+use Rattle.std.proofs.Common.{◌≡◌, ◌<◌, ℕ, Some, ap, get_or, slice_get, length, arith, subst, sym, refl}
 use Rattle.std.proofs.lemmas.Option.{get_or_from_slice_get}
 use Rattle.hd_gate.specs.Shared.{CallerView}
 use Rattle.hd_run.specs.Turns.{list_of}
@@ -24,7 +24,8 @@ here g c = subst (λ (k : ℕ). get_or (list_of c.args.scripts.now k) c.commands
     c.number-number.ensures
     (get_or_from_slice_get (list_of c.args.scripts.now c.number-number.result) c.commands.i c.cmd.result
     c.cmd.result
-    c.cmd.ensures.value)
+    (subst (λ n. slice_get (list_of c.args.scripts.now c.number-number.result) n ≡ Some c.cmd.result)
+    (omega arith) c.cmd.ensures.value))
 
 pub returns-in-Err : goal.returns-in-Err
 returns-in-Err g c =

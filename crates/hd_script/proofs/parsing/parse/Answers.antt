@@ -1,9 +1,9 @@
-use Rattle.std.proofs.Common.{◌≡◌, Some, refl, arith}
+use Rattle.std.proofs.Common.{◌≡◌, ◌+◌, Some, Err, refl, subst, arith}
 use Rattle.std.proofs.lemmas.Bool.Decides.{nat_tests}
-use Rattle.hd_model.specs.Grammar.{reading_of}
+use Rattle.hd_model.specs.Grammar.{reading_of, script_of}
 use Rattle.hd_script.specs.Said.{seen}
 use Rattle.hd_script.specs.Words.{words_at, line_after}
-use Rattle.hd_script.proofs.LineLists.{begun, finished, unreadable, one_too_many, after_blank, after_caller, after_command, fewer}
+use Rattle.hd_script.proofs.LineLists.{Follows, begun, finished, unreadable, one_too_many, after_blank, after_caller, after_command, fewer}
 use Rattle.hd_script.proofs.parsing.parse.Goals as goal
 
 pub lines-init : goal.lines-init
@@ -12,8 +12,9 @@ lines-init c = begun c.args.bytes.now c.in_ok-scripts.scripts c.in_ok-scripts.en
 
 pub returns-in_default-clause-line : goal.returns-in_default-clause-line
 returns-in_default-clause-line c =
-    unreadable (line_after c.lines.rest.now) c.lines.invariant (grind (arith, nat_tests)) refl
-    c.in_default.ensures.exact
+    subst (λ n. script_of c.args.bytes.now ≡ Err n) (omega arith)
+    (unreadable (line_after c.lines.rest.now) c.lines.invariant (grind (arith, nat_tests)) refl
+    c.in_default.ensures.exact)
 
 pub lines-preserved-in-Blank : goal.lines-preserved-in-Blank
 lines-preserved-in-Blank c =
@@ -26,9 +27,11 @@ pub lines-preserved-in-Caller : goal.lines-preserved-in-Caller
 lines-preserved-in-Caller c =
     let exact : Some (seen c.in-Some.reading) ≡ reading_of (words_at c.lines.rest.now) =
     c.in-Some.ensures.exact in
-    after_caller c.in-Some.after.now c.lines.invariant (grind (arith, nat_tests)) c.in-Some.ensures.line
+    subst (λ n. Follows c.args.bytes.now c.open.new.self n (c.lines.number + 1) c.in-Some.after.now)
+    (omega arith)
+    (after_caller c.in-Some.after.now c.lines.invariant (grind (arith, nat_tests)) c.in-Some.ensures.line
     c.in-Caller.named c.open.new.self (rw c.in-Caller.is at exact) c.open.ensures.lists c.open.ensures.total
-    c.in_ok-open-in-Caller.ensures.opened
+    c.in_ok-open-in-Caller.ensures.opened)
 
 pub returns-then-total-eq-MOST_COMMANDS-clause-line : goal.returns-then-total-eq-MOST_COMMANDS-clause-line
 returns-then-total-eq-MOST_COMMANDS-clause-line c =

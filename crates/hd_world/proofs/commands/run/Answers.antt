@@ -1,4 +1,4 @@
-use Rattle.hd_world.proofs.StoreWords.{refl, Ok, is_collect, entry_of, done_of}
+use Rattle.hd_world.proofs.StoreWords.{subst, arith, refl, Ok, TakesSteps, is_collect, entry_of, done_of}
 use Rattle.hd_world.proofs.AddressSteps.{plain-runs, others-run, others-steps}
 use Rattle.hd_model.specs.declared.command.Cmd.TheVariants as cmd
 use Rattle.hd_world.proofs.commands.run.Goals as goal
@@ -7,8 +7,12 @@ pub returns-in-Collect : goal.returns-in-Collect
 returns-in-Collect g c =
     others-run c.args.store.now c.collect_up_to.new.store c.args.asked c.args.offer
     (cmd.Collect c.in-Collect.n)
-    c.in-Collect.is refl (Ok c.in_ok-done.done) c.args.steps.now c.collect_up_to.new.steps c.requires
-    c.in_ok-done.ensures.0 c.in_ok-done.ensures.1 c.entry.result c.entry.ensures
+    c.in-Collect.is refl (Ok c.in_ok-done.done) c.args.steps.now _ c.requires
+    c.in_ok-done.ensures.0
+    (subst (λ n. TakesSteps c.args.store.now.state c.args.store.now.ages
+    (entry_of (record { caller = c.args.asked.caller; cmd = cmd.Collect c.in-Collect.n }) c.in_ok-done.done)
+    c.args.steps.now n) (omega arith) c.in_ok-done.ensures.1)
+    c.entry.result c.entry.ensures
 
 pub returns-in-AddrOf : goal.returns-in-AddrOf
 returns-in-AddrOf g c =

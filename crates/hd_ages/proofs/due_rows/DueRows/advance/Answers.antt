@@ -36,7 +36,7 @@ pub returns-in-Some-clause-goes : goal.returns-in-Some-clause-goes
 returns-in-Some-clause-goes g c =
     new_clump c.args.seg.now c.args.ages.now c.args.self.now c.enter.new.self c.in_ok-block.block
     c.in-Some.clump
-    c.args.steps.now c.tick.new.self c.tick.ensures c.in_ok-block.was c.requires.none
+    c.args.steps.now _ (omega arith) c.in_ok-block.was c.requires.none
     (first_and_rest _ _ c.in-Some.clump (sym c.lowest.ensures.first ∙ c.in-Some.is) c.enter.ensures.clumps)
     c.enter.ensures.block c.enter.ensures.n
     (ap (λ (f : ℕ). map (λ row. f + row) (set_bits c.enter.new.self.rows)) c.enter.ensures.first

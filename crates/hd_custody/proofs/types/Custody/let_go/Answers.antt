@@ -1,6 +1,6 @@
-use Rattle.std.proofs.Common.{◌≡◌, ◌+◌, bit_or, ◌^◌, ◌/◌, ◌%◌, refl, sym, ◌∙◌, ap, subst}
+use Rattle.std.proofs.Common.{◌≡◌, ◌+◌, bit_or, ◌^◌, ◌/◌, ◌%◌, refl, sym, ◌∙◌, ap, subst, arith}
 use Rattle.hd_model.specs.declared.limits.TheConstants.{BLOCKS, ROWS}
-use Rattle.hd_custody.specs.Counts.{Has, without}
+use Rattle.hd_custody.specs.Counts.{IsSlot, Has, without}
 use Rattle.hd_custody.proofs.HeldSlots.{has_member}
 use Rattle.hd_custody.proofs.Canon.{put_goes, put_some, with_slot_has, with_slot_none}
 use Rattle.hd_custody.proofs.Phases.{due, zero_is, zero_not, one_step, seen_as, held_is, table_is, then_as}
@@ -14,7 +14,8 @@ put_slot_back-requires g c =
     (without c.args.slot c.args.caller.now.view.held)
     c.if-left-ne0.true in record {
       seat = table_is so ∙ c.requires.seat;
-      slot = (left.0, subst (Has c.push-left.result) (sym (held_is so)) (has_member _ h.0 _ h.1));
+      slot = subst (λ s. IsSlot s × Has s c.push-left.new.caller.view.held) (omega arith)
+          (left.0, subst (Has c.push-left.result) (sym (held_is so)) (has_member _ h.0 _ h.1));
     }
 
 pub returns-then-left-ne0 : goal.returns-then-left-ne0

@@ -39,6 +39,8 @@ invariant_of-self c =
     let of_kind : kind_at kinds (c.args.slot.0 / 64) ≡ Some c.unwrap-kind.result =
     sym (read_kind c.self.invariant c.self.view_is (c.args.slot.0 / 64) c.requires.added c.index.ensures)
     ∙ c.unwrap-kind.ensures in
-    along c.insert.ensures (c.insert-2.ensures ∙ ap
+    along (c.insert.ensures ∙ ap
+    (λ n. record c.self.inside.free { members = insert c.self.inside.free.members n }) (omega arith))
+    (c.insert-2.ensures ∙ ap
     (λ n. record c.self.inside.ready { members = insert c.self.inside.ready.members n }) c.place.ensures)
     (pools.put c.self.invariant c.args.slot.0 of_kind)

@@ -1,4 +1,5 @@
-use Rattle.std.proofs.Common.{ap}
+use Rattle.std.proofs.Common.{ap, ◌∙◌, arith}
+use Rattle.std.specs.FinSet.{remove}
 use Rattle.std.specs.Prelude.{is_some}
 use Rattle.std.proofs.lemmas.Bool.{true≢false}
 use Rattle.hd_pool.proofs.PoolCalls.{take_none, take_room, take_some, take_least, take_more, take_last}
@@ -27,7 +28,9 @@ invariant_of-self c =
     take_last c.self.invariant c.self.view_is c.args.kind c.number-first.ensures.value
     c.in_ok-at.ensures.found c.place.ensures
     c.least_between-2.result c.unwrap-slot.ensures c.least_between-2.ensures.found
-    c.remove.ensures c.least_between-3.result c.least_between-3.ensures.none
+    (c.remove.ensures ∙ ap
+    (λ n. record c.self.inside.free { members = remove c.self.inside.free.members n }) (omega arith))
+    c.least_between-3.result c.least_between-3.ensures.none
     c.if-is_none.ensures
     c.remove-then-is_none.ensures
 
@@ -36,7 +39,9 @@ invariant_of-self-else-is_none c =
     take_more c.self.invariant c.self.view_is c.args.kind c.number-first.ensures.value
     c.in_ok-at.ensures.found c.place.ensures
     c.least_between-2.result c.unwrap-slot.ensures c.least_between-2.ensures.found
-    c.remove.ensures c.least_between-3.result c.least_between-3.ensures.found
+    (c.remove.ensures ∙ ap
+    (λ n. record c.self.inside.free { members = remove c.self.inside.free.members n }) (omega arith))
+    c.least_between-3.result c.least_between-3.ensures.found
     c.if-is_none.ensures
 
 pub returns-then-is_none-clause-least : goal.returns-then-is_none-clause-least

@@ -1,4 +1,4 @@
-use Rattle.hd_world.proofs.StoreWords.{◌≡◌, ℕ, ◌<◌, ◌+◌, ◌^◌, length, sym, ap, ◌∙◌, subst, inl, arith, Result, Ok, Err, OnErr, FinMap, nat_cmp, with_places, Machine, TakesSteps, WorldView, IsOffer}
+use Rattle.hd_world.proofs.StoreWords.{◌≡◌, ℕ, ◌<◌, ◌+◌, ◌^◌, [], ◌∷◌, ◌++◌, length, sym, ap, ◌∙◌, subst, inl, arith, Result, Ok, Err, OnErr, FinMap, nat_cmp, with_places, Machine, TakesSteps, WorldView, IsOffer}
 use Rattle.hd_world.specs.Placed.{IsTrueRun, Placed}
 use Rattle.hd_world.specs.Applied.{Applied}
 use Rattle.hd_world.proofs.StateHeap.{returns-stored, keeps-pinned, keeps-address}
@@ -104,7 +104,8 @@ returns-clause-done g c =
     λ q. subst (λ (v : WorldView). Applied v c.args.caller c.args.cmd c.args.offer (seen next j q.0) e)
     c.self.view_is (record {
       command = (ran.caller, ran.command);
-      journal = c.push.ensures.entries;
+      journal = c.push.ensures.entries
+          ∙ ap (λ n. w.journal.entries ++ record e { caller = n } ∷ []) (omega arith);
       spare = c.push.ensures.spare;
       step = step_on w.store w.journal.entries w.placed.0 c.self.invariant next e j.entries ran.moves
           c.push.ensures.entries q;
