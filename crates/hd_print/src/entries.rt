@@ -7,7 +7,7 @@ use crate::line::Line;
 use crate::reply::push_reply;
 use hd_io::{Failed, Sink, write_all};
 use hd_model::limits::CALLERS;
-use hd_model::{Entry, Journal};
+use hd_model::{Entry, Journal, Reply};
 
 // A count for each caller.
 const COUNTS: usize = CALLERS as usize;
@@ -29,9 +29,13 @@ fn set_entry(line: &mut Line, entry: Entry, number: u32)
     push_caller(line, entry.caller);
     line.push_str(" ");
     line.push_number(number);
-    line.push_str(" ");
-    push_reply(line, entry.reply);
-    line.push_str("\n");
+    if let Reply::Done = entry.reply {
+        line.push_str(" ok\n");
+    } else {
+        line.push_str(" ");
+        push_reply(line, entry.reply);
+        line.push_str("\n");
+    }
 }
 
 // Appends the number of a caller, which is mostly one digit.

@@ -1,5 +1,5 @@
 // Numbers and registers, as words.
-ghost use Rattle.std.specs.Prelude.{◌≡◌, ◌<◌, ◌≤◌, IfSome};
+ghost use Rattle.std.specs.Prelude.{◌≡◌, ◌<◌, ◌≤◌, [], ◌∷◌, IfSome};
 ghost use Rattle.hd_model.specs.Grammar.{number_of, register_in, object_register_in, handle_register_in};
 
 use hd_model::limits::REGISTERS;
@@ -31,8 +31,24 @@ pub(crate) fn small(word: &[u8], most: u8) -> Option<u8>
     ensures value { result ≡ number_of most word.now }
     ensures bound { IfSome result (λ n. n ≤ most) }
 {
+    if word.len() == 1 {
+        return digit(word[0], most);
+    }
     let value = number(word, u64::from(most))?;
     Some(value as u8)
+}
+
+// The number that one digit writes.
+#[tactic(auto, unfolding(hd_model::specs::Grammar::number_of, hd_model::specs::Grammar::value_of))]
+fn digit(byte: u8, most: u8) -> Option<u8>
+    ensures value { result ≡ number_of most (byte ∷ []) }
+    ensures bound { IfSome result (λ n. n ≤ most) }
+{
+    if byte.is_ascii_digit() && byte - b'0' <= most {
+        Some(byte - b'0')
+    } else {
+        None
+    }
 }
 
 // The register that a word denotes, by its letter.

@@ -311,5 +311,6 @@ fn fin(word: &[u8]) -> Option<bool>
 fn spells(word: &[u8], text: &str) -> bool
     ensures { result ≡ bytes_eq word.now text.now }
 {
-    word == text.as_bytes()
+    let text = text.as_bytes();
+    word.first() == text.first() && word == text
 }
