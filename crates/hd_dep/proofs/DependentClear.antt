@@ -1,20 +1,20 @@
 -- What the clearing of dependent handles makes of one handle, and of all along a walk.
-use Rattle.std.proofs.Common.{◌≡◌, ◌&&◌, ℕ, zero, suc, Bool, true, false, cond, List, Option, Some, None, refl, sym, ap, ◌∙◌, subst, ⊎_elim}
+use Rattle.std.proofs.Common.{◌≡◌, ◌&&◌, ℕ, Bool, true, false, cond, List, Option, Some, None, refl, sym, ap, ◌∙◌, subst, ⊎_elim}
 use Rattle.std.specs.Prelude.{option_map}
 use Rattle.std.proofs.lemmas.Bool.{both_ways, cases_Bool, and_left, and_right}
 use Rattle.std.proofs.lemmas.Option.{same_Some}
 use Rattle.hd_model.specs.declared.data.Addr.{Addr}
 use Rattle.hd_model.specs.declared.data.Kind.{Kind}
 use Rattle.hd_model.specs.declared.data.Kind.TheVariants as kind
-use Rattle.hd_model.specs.declared.data.Strength.TheVariants as strength_of
-use Rattle.hd_model.specs.State.{Extra, nothing, strength, secondary, count, Handle}
-use Rattle.hd_model.specs.Role.{Role, holds, short, long, attaches, role_of, role}
+use Rattle.hd_model.specs.State.{secondary, Handle}
+use Rattle.hd_model.specs.Role.{attaches, role_of, role}
 use Rattle.hd_model.specs.Scene.{Objects}
 use Rattle.hd_model.specs.Marking.{IsSettled}
 use Rattle.hd_model.specs.Ages.{is_due, HasSoundAges}
 use Rattle.hd_model.specs.Collect.{is_attaching, is_lost}
 use Rattle.hd_model.specs.Counting.{Counts}
 use Rattle.hd_model.specs.Table.{Table, row_at, fits}
+use Rattle.hd_model.proofs.KindExtras.{attaching_kind}
 use Rattle.hd_model.proofs.PropertyCounts.{counts_like}
 use Rattle.hd_model.proofs.IdleCollection.{kept_target}
 use Rattle.hd_model.proofs.MarkReach.{undue_target}
@@ -23,32 +23,6 @@ use Rattle.hd_ages.specs.Rows.{IsDueRow}
 use Rattle.hd_seg.specs.Rewriting.{Rewrites}
 use Rattle.hd_ages.proofs.WalkWrites.{IsChanging}
 use Rattle.hd_dep.specs.Clearing.{detached, IsDetached, IsAllDetached, IsDetachedAt, IsLostAt}
-
--- only dependent handles attach
-pub attaching_kind : {N : Type 0} (k : Kind) (e : Extra N) → role_of k e ≡ attaches → k ≡ kind.Dependent
-attaching_kind kind.Short e is = cc
-attaching_kind kind.Long e is = cc
-attaching_kind kind.Strong e is = cc
-attaching_kind kind.Pinned e is = cc
-attaching_kind kind.Variable (strength strength_of.Short) is = cc
-attaching_kind kind.Variable (strength strength_of.Long) is = cc
-attaching_kind kind.Variable (strength strength_of.Strong) is = cc
-attaching_kind kind.Variable (strength strength_of.Pinned) is = cc
-attaching_kind kind.Variable nothing is = cc
-attaching_kind kind.Variable (secondary o) is = cc
-attaching_kind kind.Variable (count c) is = cc
-attaching_kind kind.Counted (count zero) is = cc
-attaching_kind kind.Counted (count (suc c)) is = cc
-attaching_kind kind.Counted nothing is = cc
-attaching_kind kind.Counted (strength given) is = cc
-attaching_kind kind.Counted (secondary o) is = cc
-attaching_kind kind.Dependent e is = refl
-
-attaching_role : (r : Role) → is_attaching r ≡ true → r ≡ attaches
-attaching_role holds e = cc
-attaching_role short e = cc
-attaching_role long e = cc
-attaching_role attaches e = refl
 
 module _ {N : Type 0} (p : N → Bool) (h : Handle N) where
   -- one that loses its target and its secondary, and one that does not
@@ -99,7 +73,7 @@ module _ (t : Table) (ages : List ℕ) (n : ℕ) (p : Addr → Bool) where
   detached_due slot r = record {
     handle = r.handle;
     is_stored = r.is_stored;
-    of_kind = attaching_kind r.handle.kind r.handle.extra r.attaches;
+    of_kind = attaching_kind r.handle.kind r.handle.extra (ap is_attaching r.attaches);
     due = r.due;
   }
 
@@ -112,7 +86,7 @@ module _ (t : Table) (ages : List ℕ) (n : ℕ) (p : Addr → Bool) where
       (λ due. absurd (undue (record {
         handle = h;
         is_stored = is_stored;
-        of_kind = attaching_kind h.kind h.extra (attaching_role (role h) attaching);
+        of_kind = attaching_kind h.kind h.extra attaching;
         due = due;
       })))
       (λ not_due. and_right (is_attaching (role h)) (is_due ages n slot && is_lost p h.target)

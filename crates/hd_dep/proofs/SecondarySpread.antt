@@ -12,6 +12,8 @@ use Rattle.hd_model.specs.Reach.{IsEdge}
 use Rattle.hd_model.specs.Scene.{Objects, Rows, IsYoungField}
 use Rattle.hd_model.specs.Ages.{is_due, due_clumps}
 use Rattle.hd_model.specs.Table.{Table, IsTable, chain_of, live_at, row_at}
+use Rattle.hd_model.specs.Collect.{is_attaching}
+use Rattle.hd_model.proofs.KindExtras.{attaching_kind}
 use Rattle.hd_model.proofs.EdgeChains.{one_edge, leads_on}
 use Rattle.hd_ages.specs.declared.due_rows.DueRows.{DueRows}
 use Rattle.hd_ages.specs.Walk.{IsOn, Ends, Gives, due_slots, clumps_to_come, slots_to_come}
@@ -19,7 +21,7 @@ use Rattle.hd_ages.specs.Rows.{IsDueRow}
 use Rattle.hd_ages.proofs.WalkProgress.{IsUnderway, begins, all_to_come, row_due, row_same, past_else, goes_on, all_past}
 use Rattle.std.proofs.lemmas.Option.{same_Some}
 use Rattle.hd_dep.specs.Rescan.{Spreads, Gained, IsFollowed, IsSpreadRow, IsSpread}
-use Rattle.hd_dep.proofs.DependentClear.{attaching_kind, attaches_by}
+use Rattle.hd_dep.proofs.DependentClear.{attaches_by}
 
 module _ {N : Type 0} (E : N → N → Type 0) where
   pub spreads_none : (p : N → Bool) → Spreads E p p
@@ -109,7 +111,7 @@ module _ {o : Objects Addr} {n : ℕ} {t : Table} {ages : List ℕ} {p0 : Addr �
             absurd (past (all_to_come t ages n kind.Dependent is w slots slot (record {
               handle = h;
               is_stored = is_stored;
-              of_kind = attaching_kind h.kind h.extra role_is;
+              of_kind = attaching_kind h.kind h.extra (ap is_attaching role_is);
               due = due;
             })));
       };

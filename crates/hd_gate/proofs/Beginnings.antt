@@ -1,5 +1,5 @@
 -- Callers as they are made.
-use Rattle.std.proofs.Common.{◌≡◌, ℕ, ◌+◌, ◌-◌, ◌<◌, ◌≤◌, List, [], ◌∷◌, ◌++◌, length, get_or, drop, sum, slice_index, zero, suc, inl, inr, slice_index_or, length-append, refl, sym, ap, ◌∙◌, subst, arith}
+use Rattle.std.proofs.Common.{[], ◌≡◌, ℕ, ◌+◌, ◌-◌, ◌<◌, ◌≤◌, List, ◌∷◌, ◌++◌, length, get_or, drop, sum, slice_index, zero, suc, inl, inr, slice_index_or, length-append, sym, ap, ◌∙◌, subst, arith}
 use Rattle.std.proofs.Math.ListN.{get_or-append}
 use Rattle.std.proofs.Math.Seq.{get_or-append_seam}
 use Rattle.std.proofs.lemmas.List.Sums.{sum_by-drop_more}
@@ -7,9 +7,8 @@ use Rattle.std.proofs.Math.Numerals.{add-one}
 use Rattle.std.proofs.lemmas.Bool.{cases_eq}
 use Rattle.hd_model.specs.State.{Numbers}
 use Rattle.hd_custody.specs.declared.view.View.{View}
-use Rattle.hd_custody.specs.Views.{Named, starting, shared_out, given, numbers_of}
+use Rattle.hd_custody.specs.Views.{Named, starting, shared_out, numbers_of}
 use Rattle.hd_gate.specs.Shared.{CallerView, AreAll, Begin}
-use Rattle.hd_gate.specs.Idle.{IsIdle}
 use Rattle.hd_gate.specs.Opening.{IsNew, AreNew, IsFirst}
 
 -- what is still to be given: the next one's, and the rest
@@ -77,37 +76,9 @@ module _ (s : Named) (rooms : List ℕ) (first : CallerView) (list all : List Ca
 
 module _ {W : Type 0} (begun v : View W) (numbers : Numbers) (begins : begun
     ≡ starting begun.room numbers) where
-  -- a new seat is idle, and its caller is of the run
-  pub given_idle : (seats share spared : ℕ) → IsFirst begun v seats spared → 1 ≤ seats
-      → seats < numbers.callers
-      → IsIdle (given share v) seats
-  given_idle seats share spared first some low = record {
-    number = ap (λ (x : View W). x.made) first.view;
-    known = subst (λ c. seats < c) (sym (ap (λ (x : View W). x.limits.callers) (first.view ∙ ap
-        (λ (x : View W). record x { made = seats; room = v.room }) begins))) low;
-    held = refl;
-    gate = refl;
-    ended = refl;
-    made = λ none. absurd (omega (arith, none, some));
-  }
-
   pub limits_are : (seats spared : ℕ) → IsFirst begun v seats spared → numbers_of v.limits ≡ numbers
   limits_are seats spared first = ap (λ (x : View W). numbers_of x.limits) (first.view ∙ ap
       (λ (x : View W). record x { made = seats; room = v.room }) begins)
-
-  -- and so is the first, once all others were made
-  pub first_idle : (spared : ℕ) → IsFirst begun v numbers.callers spared → 1 ≤ numbers.callers → IsIdle v 0
-  first_idle spared first some =
-      let is : v ≡ record (starting v.room numbers) { made = numbers.callers } = first.view ∙ ap
-      (λ (x : View W). record x { made = numbers.callers; room = v.room }) begins in
-      subst (λ (x : View W). IsIdle x 0) (sym is) (record {
-        number = refl;
-        known = some;
-        held = refl;
-        gate = refl;
-        ended = refl;
-        made = λ none. refl;
-      })
 
   pub first_part : (seats spared : ℕ) → IsFirst begun v seats spared → v.part ≡ []
   first_part seats spared first = ap (λ (x : View W). x.part) (first.view ∙ ap

@@ -134,8 +134,8 @@ module _ (number : ℕ) (command : Cmd) (kind : Kind) (gives : change_of command
   held = ap (λ (x : View WorldView). x.held) found.view ∙ ap (gathered K o) idle.held
 
   does : StepOf u.numbers u.state e w.state (cmd.Trim kind)
-  does = subst (StepOf u.numbers u.state e w.state) (stepped.command_is ∙ is_trim kind command gives)
-      stepped.step.does
+  does = subst (StepOf u.numbers u.state e w.state) (stepped.applied.command.1 ∙ is_trim kind command gives)
+      stepped.applied.step.does
 
   own_steps : OwnSteps (search_of v) (search_of v')
   own_steps = record {
@@ -165,7 +165,7 @@ module _ (number : ℕ) (command : Cmd) (kind : Kind) (gives : change_of command
       let grows : e.reply ≡ reply.Value 0 = subst (λ (c : Cmd). GrowsUnoffered u.numbers u.state c None e)
       (is_trim kind command gives)
       (subst (λ (p : Option ℕ). GrowsUnoffered u.numbers u.state command (option_map first_slot p) e) none
-      stepped.grows) in
+      stepped.applied.growth) in
       elim does [
         | inl m ↦ absurd (zero_is_not_one (sym grows ∙ m.reply))
         | inr out ↦ leaves number command (option_map first_slot o) u w e stepped v
@@ -183,7 +183,7 @@ module _ (number : ℕ) (command : Cmd) (kind : Kind) (gives : change_of command
       let busy = closed block (took u v') in
       let takes : TakesOffer e (cmd.Trim kind) (first_slot block) = subst
       (λ (c : Cmd). TakesOffer e c (first_slot block)) (is_trim kind command gives)
-      (stepped.takes (first_slot block) (ap (option_map first_slot) is)) in
+      (stepped.applied.offer (first_slot block) (ap (option_map first_slot) is)) in
       elim does [
         | inl m ↦ (
             let which : m.block ≡ block = Back-injective m.block block

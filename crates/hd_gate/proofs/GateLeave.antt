@@ -1,5 +1,5 @@
 -- What a seat is once its caller took a step under the gate and left.
-use Rattle.std.proofs.Common.{◌≡◌, ◌≢◌, ◌⊎◌, ℕ, ◌+◌, ◌/◌, ◌<◌, ◌≤◌, Bool, true, false, not, ◌&&◌, cond, List, [], ◌∷◌, ◌++◌, length, filter, Option, Some, inl, inr, refl, sym, ap, ◌∙◌, subst, eq-eqb, ne_eqb, length-append, arith}
+use Rattle.std.proofs.Common.{[], ◌≡◌, ◌≢◌, ◌⊎◌, ℕ, ◌+◌, ◌/◌, ◌<◌, ◌≤◌, Bool, true, false, not, ◌&&◌, cond, List, ◌∷◌, ◌++◌, length, filter, Option, Some, inl, inr, refl, sym, ap, ◌∙◌, subst, eq-eqb, ne_eqb, length-append, arith}
 use Rattle.std.specs.Prelude.{◌==◌}
 use Rattle.std.proofs.lemmas.Bool.{cases_eq}
 use mathlib.Core.Option.{some-ne-none}
@@ -23,15 +23,16 @@ use Rattle.hd_custody.specs.Rule.{Entered}
 use Rattle.hd_world.specs.World.{WorldView, IsOffer, asks_of}
 use Rattle.hd_world.specs.contracts.world.WorldHeld.TheImpl.{ghosts}
 use Rattle.hd_gate.specs.Change.{change_of}
-use Rattle.hd_gate.specs.Shared.{LookedFor, SlotCalls, Found, HasDone}
+use Rattle.hd_gate.specs.Shared.{LookedFor, SlotCalls, HasDone}
 use Rattle.hd_gate.specs.Idle.{IsIdle}
-use Rattle.hd_gate.specs.Turns.{caller_view_of, search_of, MayStep, Stepped, Turned}
+use Rattle.hd_gate.specs.Turns.{caller_view_of, search_of, Stepped, Turned}
+use Rattle.hd_world.specs.World.{MayApply}
 
 -- a caller that entered may take a step
 pub may_step : (u : WorldView) (v : View WorldView) (number : ℕ) (command : Cmd) (offer : Option Slot)
     → Entered ghosts v u → 1 ≤ v.room → number < v.limits.callers → IsValid command
     → IsOffer u.state command offer
-    → MayStep u number command offer
+    → MayApply u number command offer
 may_step u v number command offer entered room known valid offered =
     let spare : v.room ≤ u.spare = entered.room in
     record {
@@ -110,16 +111,16 @@ module _ (number : ℕ) (command : Cmd) (offer : Option Slot) (u w : WorldView) 
   pub goes_on : Continues busy.number busy.room u.journal u.spare w.journal w.spare
   goes_on = inr (
     e,
-    stepped.journal,
-    stepped.caller_is ∙ sym (same.0 ∙ idle.number),
-    stepped.spare,
+    stepped.applied.journal,
+    stepped.applied.command.0 ∙ sym (same.0 ∙ idle.number),
+    stepped.applied.spare,
     omega (arith, some, same.3),
   )
 
   part_after : after.part ≡ v.part ++ e ∷ []
   part_after =
-      let of : e.caller ≡ busy.number = stepped.caller_is ∙ sym (same.0 ∙ idle.number) in
-      ap (λ j. part_of j busy.number) stepped.journal
+      let of : e.caller ≡ busy.number = stepped.applied.command.0 ∙ sym (same.0 ∙ idle.number) in
+      ap (λ j. part_of j busy.number) stepped.applied.journal
       ∙ subst (λ n. part_of (u.journal ++ e ∷ []) n ≡ part_of u.journal n ++ e ∷ []) of
       (one_more e u.journal)
       ∙ ap (λ n. part_of u.journal n ++ e ∷ []) same.0
@@ -127,7 +128,7 @@ module _ (number : ℕ) (command : Cmd) (offer : Option Slot) (u w : WorldView) 
 
   room_after : after.room + 1 ≡ v.room
   room_after =
-      let longer = ap length stepped.journal ∙ length-append u.journal (e ∷ []) in
+      let longer = ap length stepped.applied.journal ∙ length-append u.journal (e ∷ []) in
       omega (arith, longer, some, same.3)
 
   -- the seat is idle again, where nothing is held
@@ -149,9 +150,9 @@ module _ (number : ℕ) (command : Cmd) (offer : Option Slot) (u w : WorldView) 
       part = ap (part_of u.journal) (sym idle.number) ∙ entered;
     };
     after = w.state;
-    step = subst (λ (n : Numbers). Step n u.state e w.state) sized stepped.step;
-    caller_is = stepped.caller_is;
-    command_is = stepped.command_is;
+    step = subst (λ (n : Numbers). Step n u.state e w.state) sized stepped.applied.step;
+    caller_is = stepped.applied.command.0;
+    command_is = stepped.applied.command.1;
     answer_is = refl;
     part = part ∙ part_after;
     room = omega (arith, room, room_after);
@@ -171,7 +172,7 @@ module _ (number : ℕ) (command : Cmd) (offer : Option Slot) (u w : WorldView) 
     limits = same.1;
     follows = record {
       kinds = kinds;
-      sized = stepped.numbers ∙ sized ∙ sym (ap numbers_of same.1);
+      sized = stepped.applied.numbers ∙ sized ∙ sym (ap numbers_of same.1);
       lives = lives;
       goes_on = goes_on;
     };

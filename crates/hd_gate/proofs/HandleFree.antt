@@ -67,7 +67,7 @@ module _ (number : ℕ) (command : Cmd) (frees : change_of command ≡ Frees) (u
       → Follows ghosts u w busy
   follows_from lives blocks = record {
     kinds = λ b _ _. ap (λ m. kind_word (get m b)) blocks;
-    sized = stepped.numbers ∙ entered.sized;
+    sized = stepped.applied.numbers ∙ entered.sized;
     lives = λ x _ on. inl (lives x on);
     goes_on = goes_on number command None u w e stepped v busy idle some_room entered.part entered.sized
         (refl, refl, refl, refl, refl, refl);
@@ -176,7 +176,8 @@ module _ (number : ℕ) (command : Cmd) (frees : change_of command ≡ Frees) (u
     found = ap (λ o. option_map (λ (k : Kind). (slot, k)) (kind_in_use o)) used'
 
   freed_at : (o : Option Slot) → e.slot ≡ o
-      → FreesAt u.numbers u.state (well_formed stepped) e w.state stepped.step o → Freed (freed_in w.state o)
+      → FreesAt u.numbers u.state (well_formed stepped) e w.state stepped.applied.step o → Freed
+      (freed_in w.state o)
   freed_at None is at = kept at.0 at.1 at.2
   freed_at (Some slot) is at = subst Freed (sym (found slot at.0 at.1 at.2 at.3 at.4 is))
       (freed slot at.0 at.1 at.2 at.3 at.4 is)
@@ -184,5 +185,7 @@ module _ (number : ℕ) (command : Cmd) (frees : change_of command ≡ Frees) (u
   pub frees_slot : Freed (freed_in w.state e.slot)
   frees_slot =
       let is = is_free command frees in
-      freed_at e.slot refl (frees_at u.numbers u.state (well_formed stepped) e w.state stepped.step is.0
-      (subst (StepOf u.numbers u.state e w.state) (stepped.command_is ∙ is.1) stepped.step.does))
+      freed_at e.slot refl (frees_at u.numbers u.state
+      (well_formed stepped) e w.state stepped.applied.step is.0
+      (subst (StepOf u.numbers u.state e w.state)
+      (stepped.applied.command.1 ∙ is.1) stepped.applied.step.does))

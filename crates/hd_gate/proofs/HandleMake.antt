@@ -157,7 +157,8 @@ module _ (number : ℕ) (command : Cmd) (kind : Kind) (takes : change_of command
   held = ap (λ (x : View WorldView). x.held) found.view ∙ ap (offered K (slot_number o)) idle.held
 
   does : StepOf u.numbers u.state e w.state (cmd.HNew new.d new.make new.r)
-  does = subst (StepOf u.numbers u.state e w.state) (stepped.command_is ∙ new.is) stepped.step.does
+  does = subst (StepOf u.numbers u.state e w.state)
+      (stepped.applied.command.1 ∙ new.is) stepped.applied.step.does
 
   -- what the caller knows of its search
   own_steps : OwnSteps (search_of v) (search_of v')
@@ -213,7 +214,7 @@ module _ (number : ℕ) (command : Cmd) (kind : Kind) (takes : change_of command
 
   -- an offered slot was taken
   took_it : (slot : Slot) → o ≡ Some slot
-      → TakesIt u.numbers u.state (well_formed stepped) e w.state stepped.step slot
+      → TakesIt u.numbers u.state (well_formed stepped) e w.state stepped.applied.step slot
       → LeavesBy Zero
   took_it slot is it =
       is_stored Zero slot.0 slot.0 (held ∙ ap (λ p. offered K (slot_number p) []) is) refl it.is_stored.0
@@ -226,7 +227,8 @@ module _ (number : ℕ) (command : Cmd) (kind : Kind) (takes : change_of command
     empty : v'.held ≡ []
     empty = held ∙ ap (λ p. offered K (slot_number p) []) is_none
 
-    none_offered : (g : Grown) → GrowsBy u.numbers u.state (well_formed stepped) e w.state stepped.step kind g
+    none_offered : (g : Grown) → GrowsBy u.numbers u.state
+        (well_formed stepped) e w.state stepped.applied.step kind g
         → LeavesBy g
     none_offered Zero by =
         leaves number command o u w e stepped v (took u v') idle some_room own sized same refl slot_calls
@@ -261,20 +263,21 @@ module _ (number : ℕ) (command : Cmd) (kind : Kind) (takes : change_of command
         (λ _. is_none) by.4
     none_offered (Back block) by = absurd by
 
-    grown : GrowsBy u.numbers u.state (well_formed stepped) e w.state stepped.step kind e.grown
-    grown = subst (λ (j : Kind). GrowsBy u.numbers u.state (well_formed stepped) e w.state stepped.step j
+    grown : GrowsBy u.numbers u.state (well_formed stepped) e w.state stepped.applied.step kind e.grown
+    grown = subst (λ (j : Kind). GrowsBy u.numbers u.state
+        (well_formed stepped) e w.state stepped.applied.step j
         e.grown)
         new.kind_is
-        (grows_by u.numbers u.state (well_formed stepped) e w.state stepped.step new.d new.make new.r
+        (grows_by u.numbers u.state (well_formed stepped) e w.state stepped.applied.step new.d new.make new.r
         (subst (λ (c : Cmd). GrowsUnoffered u.numbers u.state c None e) new.is
         (subst (λ (p : Option Slot). GrowsUnoffered u.numbers u.state command p e) is_none
-        stepped.grows)) does)
+        stepped.applied.growth)) does)
 
-  it : (slot : Slot) → o ≡ Some slot
-      → TakesIt u.numbers u.state (well_formed stepped) e w.state stepped.step slot
-  it slot is =
-      takes_it u.numbers u.state (well_formed stepped) e w.state stepped.step new.d new.make new.r slot
-      (subst (λ (c : Cmd). TakesOffer e c slot) new.is (stepped.takes slot is)) does
+  it : (slot : Slot) → o ≡ Some slot → TakesIt u.numbers u.state
+      (well_formed stepped) e w.state stepped.applied.step slot
+  it slot is = takes_it u.numbers u.state
+      (well_formed stepped) e w.state stepped.applied.step new.d new.make new.r slot
+      (subst (λ (c : Cmd). TakesOffer e c slot) new.is (stepped.applied.offer slot is)) does
 
   leaves_at : (p : Option Slot) → o ≡ p → LeavesBy e.grown
   leaves_at None is = none_offered is e.grown (grown is)
@@ -290,7 +293,7 @@ module _ (number : ℕ) (command : Cmd) (kind : Kind) (takes : change_of command
       GrowsKind (is_paired kind) g × MayGrant ghosts blocks (handle_block g) (extra_block g) (took u v')
 
   grants : (g : Grown) → g ≢ Zero
-      → GrowsBy u.numbers u.state (well_formed stepped) e w.state stepped.step kind g → Grants g
+      → GrowsBy u.numbers u.state (well_formed stepped) e w.state stepped.applied.step kind g → Grants g
   grants Zero apart by = absurd (apart refl)
   grants (One block) apart by =
       let limit = ap (λ (n : Numbers). n.blocks) sized in (

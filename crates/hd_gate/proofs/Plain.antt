@@ -37,17 +37,17 @@ module _ (number : ℕ) (command : Cmd) (keeps : change_of command ≡ Keeps) (u
     (idle : IsIdle v number) (some : 1 ≤ v.room) (entered : Entered ghosts v u) where
   module _ (e : Entry) (stepped : Stepped u w number command None e) where
     keeps' : change_of e.cmd ≡ Keeps
-    keeps' = ap change_of stepped.command_is ∙ keeps
+    keeps' = ap change_of stepped.applied.command.1 ∙ keeps
 
     same_live : (x : ℕ) → ghosts.live w x ≡ ghosts.live u x
-    same_live = keeps_live u.numbers u.state (well_formed stepped) e w.state stepped.step keeps'
+    same_live = keeps_live u.numbers u.state (well_formed stepped) e w.state stepped.applied.step keeps'
 
     pub plain_leaves : Leaves number command u w e v (took u v)
     plain_leaves = leaves number command None u w e stepped v (took u v) idle some entered.part entered.sized
         (refl, refl, refl, refl, refl, refl) refl
         (subst (λ (c : Change). SlotCalls c u.state v.limits.blocks (search_of v) (search_of v) e)
         (sym keeps) refl) (λ b _ _. ap (λ m. kind_word (get m b))
-        (keeps_blocks u.numbers u.state (well_formed stepped) e w.state stepped.step keeps'))
+        (keeps_blocks u.numbers u.state (well_formed stepped) e w.state stepped.applied.step keeps'))
         (λ x _ on. inl (sym (same_live x) ∙ on)) (held_stays u w (took u v) same_live idle.held)
         (looks_for_none command keeps v.limits.blocks (search_of v) (search_of v) e)
 
@@ -56,7 +56,8 @@ module _ (number : ℕ) (command : Cmd) (keeps : change_of command ≡ Keeps) (u
       → MatchResult r (Stepped u w number command None) (λ _. WantsMemory u w command)
       → Follows ghosts u w (took u v)
   plain_follows (Ok e) stepped = (plain_leaves e stepped).follows
-  plain_follows (Err m) wants = subst (λ (x : WorldView). Follows ghosts u x (took u v)) (sym wants.unchanged)
+  plain_follows (Err m) wants = subst (λ (x : WorldView). Follows ghosts u x (took u v))
+      (sym wants.out.unchanged)
       (unchanged ghosts v u entered)
 
   -- and where it found none, the seat is as it was
@@ -69,7 +70,7 @@ module _ (number : ℕ) (command : Cmd) (keeps : change_of command ≡ Keeps) (u
 
     pub stays : Stayed seat back number command
     stays =
-        let same = wants.unchanged in
+        let same = wants.out.unchanged in
         let part : part_of w.journal v.number ≡ v.part =
         ap (λ (s : WorldView). part_of s.journal v.number) same ∙ entered.part in
         let long : length w.journal ≡ length u.journal = ap (λ (s : WorldView). length s.journal) same in
@@ -84,7 +85,7 @@ module _ (number : ℕ) (command : Cmd) (keeps : change_of command ≡ Keeps) (u
             made = idle.made;
           };
           party = λ i. record (caller_view_of seat number v.room) { part = part i; room = room i };
-          memory = wants.memory;
+          memory = wants.out.memory;
           fits = record {
             found = record {
               journal = u.journal;
@@ -92,6 +93,6 @@ module _ (number : ℕ) (command : Cmd) (keeps : change_of command ≡ Keeps) (u
               run = subst (λ (n : Numbers). Run n u.journal u.state) entered.sized wants.run;
               part = ap (part_of u.journal) (sym idle.number) ∙ entered.part;
             };
-            fits = subst (λ (n : Numbers). FitsHeap n u.state command) entered.sized wants.fits;
+            fits = subst (λ (n : Numbers). FitsHeap n u.state command) entered.sized wants.out.fits;
           };
         }

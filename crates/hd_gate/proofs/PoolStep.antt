@@ -372,60 +372,63 @@ module _ (n : Numbers) (s : State) (p q : FreeSlots) (tied : IsTied n s p) (e : 
 
 -- a call of one thread: its entry may be noted in the pool, which is then tied to the world after it, and its
 -- slots and blocks are the least
-module _ (u w : WorldView) (p q : FreeSlots) (tied : IsTied u.numbers u.state p) (caller : ℕ) (c : Cmd)
-    (o : Option Slot) (offers : Offers p q (change_of c) o) (e : Entry) (did : Stepped u w caller c o e) where
+module _ {u w : WorldView} {p : FreeSlots} (tied : IsTied u.numbers u.state p) (q : FreeSlots) {caller : ℕ}
+    {c : Cmd} {o : Option Slot} (offers : Offers p q (change_of c) o) {e : Entry}
+    (did : Stepped u w caller c o e) where
   does : StepOf u.numbers u.state e w.state c
-  does = subst (StepOf u.numbers u.state e w.state) did.command_is did.step.does
+  does = subst (StepOf u.numbers u.state e w.state) did.applied.command.1 did.applied.step.does
 
   follows : MayNote q (change_of e.cmd) e.slot e.grown
       × IsTied u.numbers w.state (noted q (change_of e.cmd) e.slot e.grown)
   follows =
       subst (λ x. MayNote q (change_of x) e.slot e.grown
-      × IsTied u.numbers w.state (noted q (change_of x) e.slot e.grown)) (sym did.command_is)
-      (by_command u.numbers u.state p tied e w.state did.step c q o offers did.takes did.grows does
-      (λ keeps. by_keeping u.numbers u.state p tied e w.state did.step (ap change_of did.command_is ∙ keeps)))
+      × IsTied u.numbers w.state (noted q (change_of x) e.slot e.grown)) (sym did.applied.command.1)
+      (by_command u.numbers u.state p tied e w.state did.applied.step c q o offers did.applied.offer
+      did.applied.growth does
+      (λ keeps. by_keeping u.numbers u.state p tied e w.state did.applied.step
+      (ap change_of did.applied.command.1 ∙ keeps)))
 
   pub may_note : MayNote q (change_of e.cmd) e.slot e.grown
   may_note = follows.0
 
   pub tied_after : (after : FreeSlots) → after ≡ noted q (change_of e.cmd) e.slot e.grown
       → IsTied w.numbers w.state after
-  tied_after after is = subst (λ (n : Numbers). IsTied n w.state after) (sym did.numbers)
+  tied_after after is = subst (λ (n : Numbers). IsTied n w.state after) (sym did.applied.numbers)
       (subst (IsTied u.numbers w.state) (sym is) follows.1)
 
   pub has_called : HasCalled u w caller c e.reply
   has_called = record {
     entry = e;
-    caller_is = did.caller_is;
-    command_is = did.command_is;
+    caller_is = did.applied.command.0;
+    command_is = did.applied.command.1;
     answer_is = refl;
-    journal = did.journal;
+    journal = did.applied.journal;
     step = record {
-      step = did.step;
-      least = subst (TakesLeast u.state e) (sym did.command_is)
-          (takes_least_of u.numbers u.state p q tied e c o offers did.takes);
+      step = did.applied.step;
+      least = subst (TakesLeast u.state e) (sym did.applied.command.1)
+          (takes_least_of u.numbers u.state p q tied e c o offers did.applied.offer);
     };
-    numbers = did.numbers;
-    spare = did.spare;
+    numbers = did.applied.numbers;
+    spare = did.applied.spare;
   }
 
   pub full_exactly : FindsFullExactly u c e.reply
   full_exactly d make r is =
       finds_full u.numbers u.state p q tied e w.state d make r o
       (subst (λ x. Offers p q (change_of x) o) is offers)
-      (subst (λ x. ForSome o (TakesOffer e x)) is did.takes)
-      (subst (λ x. GrowsUnoffered u.numbers u.state x o e) is did.grows)
+      (subst (λ x. ForSome o (TakesOffer e x)) is did.applied.offer)
+      (subst (λ x. GrowsUnoffered u.numbers u.state x o e) is did.applied.growth)
       (subst (StepOf u.numbers u.state e w.state) is does)
 
   pub trims_exactly : TrimsExactly u c e.reply
   trims_exactly = record {
     none = λ kind is. trims_none u.numbers u.state p q tied e kind o
         (subst (λ x. Offers p q (change_of x) o) is offers)
-        (subst (λ x. ForSome o (TakesOffer e x)) is did.takes)
-        (subst (λ x. GrowsUnoffered u.numbers u.state x o e) is did.grows);
+        (subst (λ x. ForSome o (TakesOffer e x)) is did.applied.offer)
+        (subst (λ x. GrowsUnoffered u.numbers u.state x o e) is did.applied.growth);
     some = λ kind is. trims_some u.numbers u.state p q tied e kind o
         (subst (λ x. Offers p q (change_of x) o) is offers)
-        (subst (λ x. ForSome o (TakesOffer e x)) is did.takes);
+        (subst (λ x. ForSome o (TakesOffer e x)) is did.applied.offer);
   }
 
 -- a block that is added to a pool without a free slot of its kind, and the slot that is taken then

@@ -1,6 +1,5 @@
 -- What a turn does: what the world under the gate is after it, and what its seat is.
-use Rattle.std.specs.Prelude.{◌≡◌, ℕ, ◌+◌, ◌<◌, ◌≤◌, [], ◌∷◌, ◌++◌, Option, Some, None, option_map, IsTrue}
-use Rattle.std.specs.Option.{ForSome}
+use Rattle.std.specs.Prelude.{◌≡◌, ℕ, ◌≤◌, Option, Some, None, option_map, IsTrue}
 use Rattle.hd_model.specs.declared.data.Entry.{Entry}
 use Rattle.hd_model.specs.declared.data.Grown.{Grown}
 use Rattle.hd_model.specs.declared.data.Grown.TheVariants.{Zero, One, Two, Back}
@@ -12,9 +11,9 @@ use Rattle.hd_model.specs.declared.command.Cmd.{Cmd}
 use Rattle.hd_model.specs.Kinds.{kind_number}
 use Rattle.hd_model.specs.State.{State, use_of, block_of}
 use Rattle.hd_model.specs.Run.{Run}
-use Rattle.hd_model.specs.Step.{Step}
 use Rattle.hd_model.specs.Valid.{IsValid, takes_memory}
-use Rattle.hd_world.specs.World.{WorldView, IsOffer, GrowsWithout, Takes, FitsHeap}
+use Rattle.hd_world.specs.Applied.{Applied}
+use Rattle.hd_world.specs.World.{WorldView, RanOut}
 use Rattle.hd_custody.specs.declared.view.View.{View}
 use Rattle.hd_custody.specs.Views.{Named, Known, numbers_of, granted, closed}
 use Rattle.hd_custody.specs.Calls.{Releases}
@@ -61,34 +60,16 @@ pub record Stayed (old new : Known WorldView) (caller : ℕ) (command : Cmd) : T
   pub memory : IsTrue (takes_memory command)
   pub fits : HadRoom (caller_view_of old caller old.view.room) command
 
--- a command may take a step from the world u
-pub record MayStep (u : WorldView) (number : ℕ) (command : Cmd) (offered : Option Slot) : Type 0 where
-  pub room : 1 ≤ u.spare
-  pub caller : number < u.numbers.callers
-  pub valid : IsValid command
-  pub offer : IsOffer u.state command offered
-
--- A command of a caller took one step of the machine, from the world u, whose journal is a run to its state,
--- to the world w, and its entry is the one more of the journal. An offer was taken; without one the table
--- grew, or was found full.
+-- a command of a caller took one step, from the world u, whose journal is a run to its state, to the world w
 pub record Stepped (u w : WorldView) (caller : ℕ) (command : Cmd) (offer : Option Slot) (e : Entry) : Type 0
   where
-    pub caller_is : e.caller ≡ caller
-    pub command_is : e.cmd ≡ command
-    pub journal : w.journal ≡ u.journal ++ e ∷ []
-    pub spare : w.spare + 1 ≡ u.spare
-    pub numbers : w.numbers ≡ u.numbers
+    pub applied : Applied u caller command offer w e
     pub run : Run u.numbers u.journal u.state
-    pub step : Step u.numbers u.state e w.state
-    pub takes : ForSome offer (Takes e command)
-    pub grows : GrowsWithout u command offer e
 
--- it found no memory, and not since the heap was full, and the world is as it was
+-- it ran out of memory, and the world is as it was
 pub record WantsMemory (u w : WorldView) (command : Cmd) : Type 0 where
-  pub memory : IsTrue (takes_memory command)
-  pub fits : FitsHeap u.numbers u.state command
+  pub out : RanOut u.numbers u.state command u w
   pub run : Run u.numbers u.journal u.state
-  pub unchanged : w ≡ u
 
 -- the seat once the words know by which blocks the table grew for the kind with number k
 abbrev pub with_grown : {W : Type 0} → ℕ → Grown → View W → View W

@@ -1,5 +1,6 @@
 ghost use Rattle.std.specs.Prelude.{◌≡◌, IfOk, MatchResult};
-ghost use Rattle.hd_gate.specs.Turns.{MayStep, Stepped, WantsMemory};
+ghost use Rattle.hd_gate.specs.Turns.{Stepped, WantsMemory};
+ghost use Rattle.hd_world.specs.World.{MayApply};
 
 use crate::step::step;
 use hd_model::{Cmd, Entry, Held, Memory, Slot};
@@ -53,7 +54,7 @@ impl Boxed {
         cmd: Cmd,
         offer: Option<Slot>,
     ) -> Result<Entry, Memory>
-        requires { MayStep self.old caller cmd offer }
+        requires { MayApply self.old caller cmd offer }
         ensures { MatchResult result (Stepped self.old self.new caller cmd offer)
             (λ _. WantsMemory self.old self.new cmd) }
     {

@@ -1,5 +1,6 @@
 ghost use Rattle.std.specs.Prelude.{MatchResult};
-ghost use Rattle.hd_gate.specs.Turns.{MayStep, Stepped, WantsMemory};
+ghost use Rattle.hd_gate.specs.Turns.{Stepped, WantsMemory};
+ghost use Rattle.hd_world.specs.World.{MayApply};
 
 use hd_model::{Cmd, Entry, Memory, Slot};
 use hd_world::World;
@@ -11,11 +12,14 @@ pub(crate) fn step(
     cmd: Cmd,
     offer: Option<Slot>,
 ) -> Result<Entry, Memory>
-    requires { MayStep world.old caller cmd offer }
+    requires { MayApply world.old caller cmd offer }
     ensures { MatchResult result (Stepped world.old world.new caller cmd offer)
         (λ _. WantsMemory world.old world.new cmd) }
 {
     // The journal states that it is a run to the world's state.
     let _journal = world.journal();
-    world.apply_uncounted(caller, cmd, offer)
+    match world.apply_uncounted(caller, cmd, offer) {
+        Ok(entry) => Ok(entry),
+        Err(Memory) => Err(Memory),
+    }
 }

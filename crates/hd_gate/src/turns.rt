@@ -7,7 +7,8 @@ ghost use Rattle.hd_custody.specs.Counts.{Has, HasAs};
 ghost use Rattle.hd_custody.specs.Views.{GrowsByBlocks, MayGrant, handle_block, extra_block};
 ghost use Rattle.hd_gate.specs.Change.{change_of};
 ghost use Rattle.hd_gate.specs.declared.change.Change.TheVariants.{Takes, Frees, GivesBack, Keeps};
-ghost use Rattle.hd_gate.specs.Turns.{MayTurn, Turned, Stayed, MayStep, Stepped, with_grown, without_gathered, freed_in, ReleasesFreed};
+ghost use Rattle.hd_gate.specs.Turns.{MayTurn, Turned, Stayed, Stepped, with_grown, without_gathered, freed_in, ReleasesFreed};
+ghost use Rattle.hd_world.specs.World.{MayApply};
 
 use crate::boxed::Boxed;
 use crate::change::{Change, change_of};
@@ -183,7 +184,7 @@ fn let_go(custody: &Custody<Boxed>, seat: &mut Seat<Boxed>, freed: Option<(Slot,
 
 // A step of a command that takes no memory.
 fn step_surely(world: &mut Boxed, number: u32, cmd: Cmd, offer: Option<Slot>) -> Entry
-    requires step { MayStep world.old number cmd offer }
+    requires step { MayApply world.old number cmd offer }
     requires memory { takes_memory cmd ≡ false }
     ensures { Stepped world.old world.new number cmd offer result }
 {

@@ -1,5 +1,5 @@
 -- A finite map by numbers against the lists of its entries, keys and values; and how many keys it has.
-use Rattle.hd_model.proofs.Basics.{◌≡◌, ◌≢◌, ℕ, ◌<◌, Bool, true, false, cond, ◌&&◌, T, List, [], ◌∷◌, map, Option, Some, None, is_some, IsSome, refl, sym, ap, ◌∙◌, subst, ⊎_elim, arith, Contains, AllPairs, list_any, FinMap, get, len, find, is_sorted, entries, keys, values, entries_sorted, get-entries, len-entries, below_all, nat_cmp, is_lt, eq_by_cmp, unsigned_tied, eq-eqb, ne_eqb, cases_eq, or_cases, or_left, or_right, false≢true, nat_tests, length-map, none-some, same_Some}
+use Rattle.hd_model.proofs.Basics.{[], ◌≡◌, ◌≢◌, ℕ, ◌<◌, Bool, true, false, cond, ◌&&◌, T, List, ◌∷◌, map, Option, Some, None, is_some, IsSome, refl, sym, ap, ◌∙◌, subst, ⊎_elim, arith, Contains, AllPairs, list_any, FinMap, get, len, find, is_sorted, entries, keys, values, entries_sorted, get-entries, len-entries, below_all, nat_cmp, is_lt, eq_by_cmp, unsigned_tied, eq-eqb, ne_eqb, cases_eq, or_cases, or_left, or_right, false≢true, nat_tests, length-map, none-some, same_Some}
 use Rattle.hd_model.specs.Counting.{Counts}
 use Rattle.hd_model.proofs.Members.{not_in_none, first_in, later_in, member_cases, mapped_in, mapped_from, pairs_none, pairs_cons, pairs_like, pairs_mapped}
 
@@ -15,15 +15,16 @@ pub some_value : {A : Type 0} (o : Option A) → is_some o ≡ true → (x : A) 
 some_value None h = absurd (false≢true h)
 some_value (Some x) h = (x, refl)
 
-both : (a b : Bool) → T (a && b) → T a × T b
+pub both : (a b : Bool) → T (a && b) → T a × T b
 both true b p = (tt, p)
 both false b p = absurd p
 
-less : (x y : ℕ) → T (is_lt (nat_cmp x y)) → x < y
+pub less : (x y : ℕ) → T (is_lt (nat_cmp x y)) → x < y
 less x y h = grind (arith, nat_tests)
 
 module _ {A : Type 0} where
-  below : (x : ℕ) (es : List (ℕ × A)) → T (below_all nat_cmp x es) → (e : ℕ × A) → Contains es e → x < e.0
+  -- a key below all keys of a list is below each
+  pub below : (x : ℕ) (es : List (ℕ × A)) → T (below_all nat_cmp x es) → (e : ℕ × A) → Contains es e → x < e.0
   below x [] h e c = absurd (not_in_none e c)
   below x (f ∷ es) h e c =
       let parts : T (is_lt (nat_cmp x f.0)) × T (below_all nat_cmp x es) = both _ _ h in
@@ -31,7 +32,8 @@ module _ {A : Type 0} where
       (λ later. below x es parts.1 e later)
       (member_cases f es e c)
 
-  find_entry : (es : List (ℕ × A)) → T (is_sorted nat_cmp es) → (e : ℕ × A) → Contains es e
+  -- what is found in a sorted list is an entry, and each entry is found
+  pub find_entry : (es : List (ℕ × A)) → T (is_sorted nat_cmp es) → (e : ℕ × A) → Contains es e
       → find nat_cmp e.0 es ≡ Some e.1
   find_entry [] h e c = absurd (not_in_none e c)
   find_entry (f ∷ es) h e c =
@@ -43,7 +45,7 @@ module _ {A : Type 0} where
       ∙ find_entry es parts.1 e later)
       (member_cases f es e c)
 
-  entry_found : (es : List (ℕ × A)) (k : ℕ) (v : A) → find nat_cmp k es ≡ Some v → Contains es (k, v)
+  pub entry_found : (es : List (ℕ × A)) (k : ℕ) (v : A) → find nat_cmp k es ≡ Some v → Contains es (k, v)
   entry_found [] k v e = absurd (none-some v e)
   entry_found (f ∷ es) k v e =
       ⊎_elim
@@ -65,7 +67,7 @@ module _ {A : Type 0} where
       subst (λ k. f.0 < k) rest.1 (below f.0 es parts.0 e rest.0))
       (keys_rise es parts.1)
 
-  keys_apart : (es : List (ℕ × A)) → T (is_sorted nat_cmp es)
+  pub keys_apart : (es : List (ℕ × A)) → T (is_sorted nat_cmp es)
       → AllPairs (λ x y. x ≢ y) (map (λ (e : ℕ × A). e.0) es)
   keys_apart es h = pairs_like (λ x y. x < y) (λ x y. x ≢ y) (map (λ (e : ℕ × A). e.0) es)
       (λ x y low same. absurd (omega arith)) (keys_rise es h)

@@ -6,6 +6,7 @@ use Rattle.hd_model.specs.declared.data.Strength.TheVariants as strength_of
 use Rattle.hd_model.specs.State.{Extra, nothing, strength, secondary, count, strength_in, count_of, secondary_of}
 use Rattle.hd_model.specs.Role.{holds, attaches, role_of_strength, role_of_count, role_by, role_of, pins_by_strength, pins_with, pins_by}
 use Rattle.hd_model.specs.Collect.{is_attaching}
+use Rattle.hd_model.specs.Table.{fits}
 use Rattle.hd_model.specs.WellFormed.{FitsKind}
 
 -- a handle with a secondary attaches it
@@ -15,6 +16,16 @@ fits_secondary k nothing x f h = absurd (none-some x h)
 fits_secondary k (strength given) x f h = absurd (none-some x h)
 fits_secondary k (secondary o) x f h = ap (λ j. role_of j (secondary o)) f
 fits_secondary k (count c) x f h = absurd (none-some x h)
+
+-- only a dependent handle may have a secondary
+pub fits_dependent : {N : Type 0} (k : Kind) (o : Option N) → fits k (secondary o) ≡ true → k ≡ kind.Dependent
+fits_dependent kind.Short o h = absurd (false≢true h)
+fits_dependent kind.Long o h = absurd (false≢true h)
+fits_dependent kind.Strong o h = absurd (false≢true h)
+fits_dependent kind.Pinned o h = absurd (false≢true h)
+fits_dependent kind.Variable o h = absurd (false≢true h)
+fits_dependent kind.Counted o h = absurd (false≢true h)
+fits_dependent kind.Dependent o h = refl
 
 strength_attaches : (given : Strength) → is_attaching (role_of_strength given) ≡ false
 strength_attaches strength_of.Short = refl

@@ -1,6 +1,6 @@
 -- The sum over the values of a map whose keys are numbers.
-use Rattle.hd_model.proofs.Basics.{◌≡◌, ◌≢◌, ℕ, suc, ◌+◌, ◌*◌, ◌<◌, ◌≤◌, Bool, true, false, ◌&&◌, T, List, [], ◌∷◌, map, length, Option, Some, None, refl, sym, ap, ◌∙◌, subst, inl, inr, arith, ⊎_elim, sum_by, nat_cmp, is_lt, FinMap, get, insert, remove, find, put, is_sorted, entries, values, entries_sorted, entries-insert, get-entries, len, len-entries, same_map, nat_cmp-IsAntisymmetric, below_all, by_order, Ordering, Less, Equal, Greater, nat_cmp_total, lt-ltb, le-ltb, eq-eqb, ne_eqb, cases_order, cases_eq, sum_by-cons}
-use Rattle.hd_model.proofs.Entries.{found_first, found_later}
+use Rattle.hd_model.proofs.Basics.{[], ◌≡◌, ◌≢◌, ℕ, suc, ◌+◌, ◌*◌, ◌<◌, ◌≤◌, T, List, ◌∷◌, map, length, Option, Some, None, refl, sym, ap, ◌∙◌, subst, inl, inr, arith, ⊎_elim, sum_by, nat_cmp, FinMap, get, insert, remove, find, put, is_sorted, entries, values, entries_sorted, entries-insert, get-entries, len, len-entries, same_map, nat_cmp-IsAntisymmetric, below_all, by_order, Ordering, Less, Equal, Greater, nat_cmp_total, lt-ltb, le-ltb, eq-eqb, ne_eqb, cases_order, cases_eq, sum_by-cons}
+use Rattle.hd_model.proofs.Entries.{both, less, found_first, found_later}
 use Rattle.hd_model.proofs.ReadAfterWrite.{get_inserted, get_beside, get_removed, get_left}
 
 -- what a value that may be there adds
@@ -11,10 +11,6 @@ share f (Some x) = f x
 abbrev total : {A : Type 0} → (A → ℕ) → List (ℕ × A) → ℕ
 total f es = sum_by f (map (λ e. e.1) es)
 
-both : (a b : Bool) → T (a && b) → T a × T b
-both true b p = (tt, p)
-both false b p = absurd p
-
 ranks_less : (k x : ℕ) → k < x → nat_cmp k x ≡ Less
 ranks_less k x h = rw (lt-ltb k x h)
 
@@ -23,14 +19,6 @@ ranks_equal k x h = rw (le-ltb k x (omega arith), eq-eqb k x h)
 
 ranks_greater : (k x : ℕ) → x < k → nat_cmp k x ≡ Greater
 ranks_greater k x h = rw (le-ltb k x (omega arith), ne_eqb k x (λ same. omega arith))
-
-less : (x y : ℕ) → T (is_lt (nat_cmp x y)) → x < y
-less x y h =
-    elim (cases_order x y) [
-      | inl same ↦ absurd (subst T (ap is_lt (ranks_equal x y same)) h)
-      | inr (inl is) ↦ is
-      | inr (inr more) ↦ absurd (subst T (ap is_lt (ranks_greater x y more)) h)
-    ]
 
 find_below : {A : Type 0} (k x : ℕ) (es : List (ℕ × A)) → k < x → T (below_all nat_cmp x es)
     → find nat_cmp k es ≡ None
@@ -41,7 +29,8 @@ find_below k x (e ∷ es) low h =
     found_later k e.0 (Some e.1) (find nat_cmp k es) (λ same. omega arith) ∙ find_below k x es low parts.1
 
 -- no later entry has the key of the first one
-first_alone : {A : Type 0} (x : ℕ) (es : List (ℕ × A)) → T (below_all nat_cmp x es) → find nat_cmp x es ≡ None
+pub first_alone : {A : Type 0} (x : ℕ) (es : List (ℕ × A)) → T (below_all nat_cmp x es)
+    → find nat_cmp x es ≡ None
 first_alone x [] h = refl
 first_alone x (e ∷ es) h =
     let parts = both _ _ h in

@@ -1,5 +1,5 @@
 ghost use Rattle.std.specs.Prelude.{◌≡◌, ◌<◌};
-ghost use Rattle.hd_model.specs.Kinds.{kind_of, kind_number, is_paired};
+ghost use Rattle.hd_model.specs.Kinds.{kind_of, kind_number, is_paired, secondary_register};
 ghost use Rattle.hd_model.specs.declared.limits.TheConstants.{KINDS};
 
 use crate::command::Cmd;
@@ -128,6 +128,21 @@ impl Make {
             Make::Variable(_) => Kind::Variable,
             Make::Counted => Kind::Counted,
             Make::Dependent(_) => Kind::Dependent,
+        }
+    }
+
+    /// The register of the secondary, where a dependent handle is made.
+    pub fn secondary(self) -> Option<u8>
+        ensures { result ≡ secondary_register self }
+    {
+        match self {
+            Make::Dependent(r) => Some(r),
+            Make::Short
+            | Make::Long
+            | Make::Strong
+            | Make::Pinned
+            | Make::Variable(_)
+            | Make::Counted => None,
         }
     }
 }

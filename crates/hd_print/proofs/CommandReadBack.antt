@@ -1,9 +1,9 @@
 -- The line of a command is read as that command.
-use Rattle.std.proofs.Common.{◌≡◌, ℕ, ◌<◌, ◌^◌, true, false, ltb, List, [], ◌∷◌, ◌++◌, length, map, Option, Some, Ok, refl, ap, ◌∙◌, arith, option_map}
+use Rattle.std.proofs.Common.{◌≡◌, ℕ, ◌<◌, ◌^◌, ◌&&◌, true, false, ltb, List, [], ◌∷◌, ◌++◌, length, map, Option, Some, Ok, refl, ap, ◌∙◌, arith, option_map}
 use Rattle.std.specs.Prelude.{codes, decimal}
 use Rattle.std.specs.List.{join_with_byte, list_all}
 use Rattle.std.specs.Option.{option_or}
-use Rattle.std.proofs.lemmas.Bool.{ltb-true, and_from}
+use Rattle.std.proofs.lemmas.Bool.{ltb-true, and_from, and_parts}
 use Rattle.std.proofs.lemmas.Fmt.{decimal_nonempty}
 use Rattle.hd_model.specs.declared.data.Kind.{Kind}
 use Rattle.hd_model.specs.declared.data.Kind.TheVariants as kind
@@ -73,24 +73,21 @@ read_again said c e = ap (option_map command) e
 
 module _ (d t : ℕ) (small_d : d < 16) (small_t : t < 16) where
   -- a new handle
+  made_again : (make : Make)
+      → option_map command
+      (three cmd.HNew (handle_register_in (handle_word d)) (Some make) (object_register_in (object_word t)))
+      ≡ Some (command (cmd.HNew d make t))
+  made_again make = read_again _ _
+      (three_said cmd.HNew _ (Some make) _ d make t (handle_again d small_d) refl (object_again t small_t))
+
   hnew_again : (make : Make) → IsValidMake make
       → reading_of (command_words (cmd.HNew d make t)) ≡ Some (command (cmd.HNew d make t))
   unfolding reading_of four_words five_words hnew_of make_of
-  hnew_again make.Short v = read_again _ _
-      (three_said cmd.HNew _ (Some make.Short) _ d make.Short t (handle_again d small_d) refl
-      (object_again t small_t))
-  hnew_again make.Long v = read_again _ _
-      (three_said cmd.HNew _ (Some make.Long) _ d make.Long t (handle_again d small_d) refl
-      (object_again t small_t))
-  hnew_again make.Strong v = read_again _ _
-      (three_said cmd.HNew _ (Some make.Strong) _ d make.Strong t (handle_again d small_d) refl
-      (object_again t small_t))
-  hnew_again make.Pinned v = read_again _ _
-      (three_said cmd.HNew _ (Some make.Pinned) _ d make.Pinned t (handle_again d small_d) refl
-      (object_again t small_t))
-  hnew_again make.Counted v = read_again _ _
-      (three_said cmd.HNew _ (Some make.Counted) _ d make.Counted t (handle_again d small_d) refl
-      (object_again t small_t))
+  hnew_again make.Short v = made_again make.Short
+  hnew_again make.Long v = made_again make.Long
+  hnew_again make.Strong v = made_again make.Strong
+  hnew_again make.Pinned v = made_again make.Pinned
+  hnew_again make.Counted v = made_again make.Counted
   hnew_again (make.Variable s) v =
       read_again _ _ (three_said (λ h u x. cmd.HNew h (make.Variable x) u) _ _ _ d t s
       (handle_again d small_d) (object_again t small_t) (strength_again s))
@@ -152,8 +149,10 @@ said_again (cmd.Trim k) v = one_said cmd.Trim _ k (trimmed_again k v)
 
 -- ---- the words as words of a line
 
-literal : (word : List ℕ) → ltb 0 (length word) ≡ true → list_all is_high word ≡ true → IsWord word
-literal word some high = record { some = ltb-true 0 (length word) some; high = high }
+literal : (word : List ℕ) → (ltb 0 (length word) && list_all is_high word) ≡ true → IsWord word
+literal word is =
+    let both = and_parts (ltb 0 (length word)) (list_all is_high word) is in
+    record { some = ltb-true 0 (length word) both.0; high = both.1 }
 
 numeral : (n : ℕ) → n < 2 ^ 64 → IsWord (decimal n)
 numeral n h = record { some = decimal_nonempty n h; high = digit_bytes n h }
@@ -172,19 +171,19 @@ handle_is : (d : ℕ) → d < 16 → IsWord (handle_word d)
 handle_is d h = register 104 d refl h
 
 strength_is : (s : Strength) → IsWord (strength_word s)
-strength_is strength.Short = literal (codes "short") refl refl
-strength_is strength.Long = literal (codes "long") refl refl
-strength_is strength.Strong = literal (codes "strong") refl refl
-strength_is strength.Pinned = literal (codes "pinned") refl refl
+strength_is strength.Short = literal (codes "short") refl
+strength_is strength.Long = literal (codes "long") refl
+strength_is strength.Strong = literal (codes "strong") refl
+strength_is strength.Pinned = literal (codes "pinned") refl
 
 kind_is : (k : Kind) → IsWord (kind_name k)
-kind_is kind.Short = literal (codes "short") refl refl
-kind_is kind.Long = literal (codes "long") refl refl
-kind_is kind.Strong = literal (codes "strong") refl refl
-kind_is kind.Pinned = literal (codes "pinned") refl refl
-kind_is kind.Variable = literal (codes "var") refl refl
-kind_is kind.Counted = literal (codes "ref") refl refl
-kind_is kind.Dependent = literal (codes "dep") refl refl
+kind_is kind.Short = literal (codes "short") refl
+kind_is kind.Long = literal (codes "long") refl
+kind_is kind.Strong = literal (codes "strong") refl
+kind_is kind.Pinned = literal (codes "pinned") refl
+kind_is kind.Variable = literal (codes "var") refl
+kind_is kind.Counted = literal (codes "ref") refl
+kind_is kind.Dependent = literal (codes "dep") refl
 
 extra_are : (make : Make) → IsValidMake make → AreWords (extra_words make)
 extra_are make.Short v = tt
@@ -197,58 +196,46 @@ extra_are (make.Dependent s) v = (object_is s v, tt)
 
 words_are : (c : Cmd) → IsValid c → AreWords (command_words c)
 words_are (cmd.New d fields false) v =
-    (literal (codes "new") refl refl, (object_is d v.0, (numeral fields (omega (arith, v.1)), tt)))
+    (literal (codes "new") refl, (object_is d v.0, (numeral fields (omega (arith, v.1)), tt)))
 words_are (cmd.New d fields true) v = (
-  literal (codes "new") refl refl,
-  (object_is d v.0, (numeral fields (omega (arith, v.1)), (literal (codes "fin") refl refl, tt))),
+  literal (codes "new") refl,
+  (object_is d v.0, (numeral fields (omega (arith, v.1)), (literal (codes "fin") refl, tt))),
 )
-words_are (cmd.Set o i r) v = (
-  literal (codes "set") refl refl,
-  (object_is o v.0, (numeral i (omega (arith, v.1)), (object_is r v.2, tt))),
-)
-words_are (cmd.Get d o i) v = (
-  literal (codes "get") refl refl,
-  (object_is d v.0, (object_is o v.1, (numeral i (omega (arith, v.2)), tt))),
-)
-words_are (cmd.Val o n) v = (literal (codes "val") refl refl, (object_is o v.0, (numeral n v.1, tt)))
-words_are (cmd.Read o) v = (literal (codes "read") refl refl, (object_is o v, tt))
-words_are (cmd.Copy d r) v = (literal (codes "copy") refl refl, (object_is d v.0, (object_is r v.1, tt)))
-words_are (cmd.Clear d) v = (literal (codes "drop") refl refl, (object_is d v, tt))
-words_are (cmd.SPut k r) v = (
-  literal (codes "sput") refl refl,
-  (numeral k (omega (arith, v.0)), (object_is r v.1, tt)),
-)
-words_are (cmd.SGet d k) v = (
-  literal (codes "sget") refl refl,
-  (object_is d v.0, (numeral k (omega (arith, v.1)), tt)),
-)
-words_are (cmd.Gen r) v = (literal (codes "gen") refl refl, (object_is r v, tt))
-words_are (cmd.Suppress r) v = (literal (codes "suppress") refl refl, (object_is r v, tt))
-words_are (cmd.Reregister r) v = (literal (codes "reregister") refl refl, (object_is r v, tt))
-words_are (cmd.Final d) v = (literal (codes "final") refl refl, (object_is d v, tt))
-words_are (cmd.Collect n) v = (literal (codes "collect") refl refl, (numeral n (omega (arith, v)), tt))
+words_are (cmd.Set o i r) v =
+    (literal (codes "set") refl, (object_is o v.0, (numeral i (omega (arith, v.1)), (object_is r v.2, tt))))
+words_are (cmd.Get d o i) v =
+    (literal (codes "get") refl, (object_is d v.0, (object_is o v.1, (numeral i (omega (arith, v.2)), tt))))
+words_are (cmd.Val o n) v = (literal (codes "val") refl, (object_is o v.0, (numeral n v.1, tt)))
+words_are (cmd.Read o) v = (literal (codes "read") refl, (object_is o v, tt))
+words_are (cmd.Copy d r) v = (literal (codes "copy") refl, (object_is d v.0, (object_is r v.1, tt)))
+words_are (cmd.Clear d) v = (literal (codes "drop") refl, (object_is d v, tt))
+words_are (cmd.SPut k r) v =
+    (literal (codes "sput") refl, (numeral k (omega (arith, v.0)), (object_is r v.1, tt)))
+words_are (cmd.SGet d k) v =
+    (literal (codes "sget") refl, (object_is d v.0, (numeral k (omega (arith, v.1)), tt)))
+words_are (cmd.Gen r) v = (literal (codes "gen") refl, (object_is r v, tt))
+words_are (cmd.Suppress r) v = (literal (codes "suppress") refl, (object_is r v, tt))
+words_are (cmd.Reregister r) v = (literal (codes "reregister") refl, (object_is r v, tt))
+words_are (cmd.Final d) v = (literal (codes "final") refl, (object_is d v, tt))
+words_are (cmd.Collect n) v = (literal (codes "collect") refl, (numeral n (omega (arith, v)), tt))
 words_are (cmd.HNew d make t) v = (
-  literal (codes "hnew") refl refl,
+  literal (codes "hnew") refl,
   (handle_is d v.0, (kind_is (kind_of make), (object_is t v.2, extra_are make v.1))),
 )
-words_are (cmd.HGet d h) v = (literal (codes "hget") refl refl, (object_is d v.0, (handle_is h v.1, tt)))
-words_are (cmd.HSet h t) v = (literal (codes "hset") refl refl, (handle_is h v.0, (object_is t v.1, tt)))
-words_are (cmd.HSec h r) v = (literal (codes "hsec") refl refl, (handle_is h v.0, (object_is r v.1, tt)))
-words_are (cmd.HDep d h) v = (literal (codes "hdep") refl refl, (object_is d v.0, (handle_is h v.1, tt)))
-words_are (cmd.HVar h s) v = (literal (codes "hvar") refl refl, (handle_is h v, (strength_is s, tt)))
-words_are (cmd.HFree h) v = (literal (codes "hfree") refl refl, (handle_is h v, tt))
-words_are (cmd.HPut k h) v = (
-  literal (codes "hput") refl refl,
-  (numeral k (omega (arith, v.0)), (handle_is h v.1, tt)),
-)
-words_are (cmd.HPick d k) v = (
-  literal (codes "hpick") refl refl,
-  (handle_is d v.0, (numeral k (omega (arith, v.1)), tt)),
-)
-words_are (cmd.AddrOf h) v = (literal (codes "addr") refl refl, (handle_is h v, tt))
-words_are (cmd.HUp h) v = (literal (codes "hup") refl refl, (handle_is h v, tt))
-words_are (cmd.HDown h) v = (literal (codes "hdown") refl refl, (handle_is h v, tt))
-words_are (cmd.Trim k) v = (literal (codes "trim") refl refl, (kind_is k, tt))
+words_are (cmd.HGet d h) v = (literal (codes "hget") refl, (object_is d v.0, (handle_is h v.1, tt)))
+words_are (cmd.HSet h t) v = (literal (codes "hset") refl, (handle_is h v.0, (object_is t v.1, tt)))
+words_are (cmd.HSec h r) v = (literal (codes "hsec") refl, (handle_is h v.0, (object_is r v.1, tt)))
+words_are (cmd.HDep d h) v = (literal (codes "hdep") refl, (object_is d v.0, (handle_is h v.1, tt)))
+words_are (cmd.HVar h s) v = (literal (codes "hvar") refl, (handle_is h v, (strength_is s, tt)))
+words_are (cmd.HFree h) v = (literal (codes "hfree") refl, (handle_is h v, tt))
+words_are (cmd.HPut k h) v =
+    (literal (codes "hput") refl, (numeral k (omega (arith, v.0)), (handle_is h v.1, tt)))
+words_are (cmd.HPick d k) v =
+    (literal (codes "hpick") refl, (handle_is d v.0, (numeral k (omega (arith, v.1)), tt)))
+words_are (cmd.AddrOf h) v = (literal (codes "addr") refl, (handle_is h v, tt))
+words_are (cmd.HUp h) v = (literal (codes "hup") refl, (handle_is h v, tt))
+words_are (cmd.HDown h) v = (literal (codes "hdown") refl, (handle_is h v, tt))
+words_are (cmd.Trim k) v = (literal (codes "trim") refl, (kind_is k, tt))
 
 -- ---- the line
 

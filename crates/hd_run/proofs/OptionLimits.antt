@@ -1,9 +1,10 @@
 -- What the command finds for its options: numbers within their limits.
-use Rattle.std.proofs.Common.{◌≡◌, ℕ, zero, suc, ◌<◌, true, false, List, [], ◌∷◌, map, length, Option, Some, None, inl, inr, refl, sym, ◌∙◌, ap, subst, arith, codes}
+use Rattle.std.proofs.Common.{◌≡◌, ℕ, zero, suc, ◌<◌, Bool, true, false, eqb, List, [], ◌∷◌, map, length, Option, Some, None, inl, inr, refl, sym, ◌∙◌, ap, subst, arith, codes}
 use Rattle.std.specs.Prelude.{option_map, slice_get}
 use Rattle.std.specs.List.{All, slice_index_or}
 use Rattle.std.specs.Borrow.{Bor}
 use Rattle.std.specs.Str.{bytes_eq}
+use Rattle.std.proofs.lemmas.Bool.{eqb-true}
 use Rattle.std.proofs.lemmas.List.{length-map, get_or-map}
 use Rattle.std.proofs.lemmas.List.Elements.{All-get_or}
 use Rattle.std.proofs.lemmas.Slice.Eq.{bytes_eq-Decides}
@@ -45,6 +46,15 @@ apart s t differ same =
 -- the names of the mode and of the options
 abbrev names : List Text
 names = codes "mode" ∷ codes "heap" ∷ codes "blocks" ∷ codes "rounds" ∷ []
+
+-- a test of four indices that one passes alone
+alone : (test : ℕ → Bool) (k : ℕ) → test 0 ≡ eqb 0 k → test 1 ≡ eqb 1 k → test 2 ≡ eqb 2 k → test 3 ≡ eqb 3 k
+    → (j : ℕ) → j < 4 → test j ≡ true → j ≡ k
+alone test k a b c d zero lt is = eqb-true 0 k (sym a ∙ is)
+alone test k a b c d (suc zero) lt is = eqb-true 1 k (sym b ∙ is)
+alone test k a b c d (suc (suc zero)) lt is = eqb-true 2 k (sym c ∙ is)
+alone test k a b c d (suc (suc (suc zero))) lt is = eqb-true 3 k (sym d ∙ is)
+alone test k a b c d (suc (suc (suc (suc j)))) lt is = absurd (omega arith)
 
 name_of_rule : (j : ℕ) (r : Rule) → j < 4 → (slice_index_or program.top.rules j r).id ≡ slice_index_or names
     j []
@@ -159,32 +169,12 @@ module _ (old : Command) (m : ArgMatches) (p : IsParsedFrom old m) (app : app_of
 
   pub gives_numbers : GivesNumbers (found_of m)
   gives_numbers = record {
-    heap = given 1 (codes "heap") LEAST_HEAP HEAP (omega arith) refl (apart _ _ refl) (λ r. refl) heap_alone
-        (refl, refl);
-    blocks = given 2 (codes "blocks") 1 BLOCKS (omega arith) refl (apart _ _ refl) (λ r. refl) blocks_alone
+    heap = given 1 (codes "heap") LEAST_HEAP HEAP (omega arith) refl (apart _ _ refl) (λ r. refl)
+        (alone (λ j. bytes_eq (slice_index_or names j []) (codes "heap")) 1 refl refl refl refl) (refl, refl);
+    blocks = given 2 (codes "blocks") 1 BLOCKS (omega arith) refl (apart _ _ refl) (λ r. refl)
+        (alone (λ j. bytes_eq (slice_index_or names j []) (codes "blocks")) 2 refl refl refl refl)
         (refl, refl);
     rounds = given 3 (codes "rounds") 1 MOST_ROUNDS (omega arith) refl (apart _ _ refl) (λ r. refl)
-        rounds_alone
+        (alone (λ j. bytes_eq (slice_index_or names j []) (codes "rounds")) 3 refl refl refl refl)
         (refl, refl);
   }
-    where
-      heap_alone : (j : ℕ) → j < 4 → bytes_eq (slice_index_or names j []) (codes "heap") ≡ true → j ≡ 1
-      heap_alone zero lt same = cc
-      heap_alone (suc zero) lt same = refl
-      heap_alone (suc (suc zero)) lt same = cc
-      heap_alone (suc (suc (suc zero))) lt same = cc
-      heap_alone (suc (suc (suc (suc j)))) lt same = absurd (omega arith)
-
-      blocks_alone : (j : ℕ) → j < 4 → bytes_eq (slice_index_or names j []) (codes "blocks") ≡ true → j ≡ 2
-      blocks_alone zero lt same = cc
-      blocks_alone (suc zero) lt same = cc
-      blocks_alone (suc (suc zero)) lt same = refl
-      blocks_alone (suc (suc (suc zero))) lt same = cc
-      blocks_alone (suc (suc (suc (suc j)))) lt same = absurd (omega arith)
-
-      rounds_alone : (j : ℕ) → j < 4 → bytes_eq (slice_index_or names j []) (codes "rounds") ≡ true → j ≡ 3
-      rounds_alone zero lt same = cc
-      rounds_alone (suc zero) lt same = cc
-      rounds_alone (suc (suc zero)) lt same = cc
-      rounds_alone (suc (suc (suc zero))) lt same = refl
-      rounds_alone (suc (suc (suc (suc j)))) lt same = absurd (omega arith)

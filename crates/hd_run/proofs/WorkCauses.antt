@@ -1,22 +1,19 @@
 -- What the work of a request comes to, and that its ending can be written.
-use Rattle.std.proofs.Common.{◌≡◌, ◌≤◌, Bool, true, false, not, ◌&&◌, List, inl, inr, refl, sym, ap, subst, arith}
+use Rattle.std.proofs.Common.{◌≡◌, ◌≤◌, Bool, true, false, not, ◌&&◌, List, inl, inr, refl, sym, subst, arith}
 use Rattle.hd_model.specs.declared.command.Cmd.{Cmd}
 use Rattle.hd_model.specs.declared.limits.TheConstants.{HEAP, BLOCKS, CALLERS}
 use Rattle.hd_model.specs.Generated.{generated_lists}
-use Rattle.hd_model.specs.State.{Numbers}
 use Rattle.hd_io.specs.Source.{SourceView}
-use Rattle.hd_run.specs.declared.ending.Fault.{Fault}
-use Rattle.hd_run.specs.declared.ending.Fault.TheVariants.{NoMemory}
 use Rattle.hd_run.specs.declared.ending.Ending.{Ending}
 use Rattle.hd_run.specs.declared.ending.Ending.TheVariants.{Refused, Stopped, Done}
 use Rattle.hd_run.specs.declared.mode.Mode.{Mode}
 use Rattle.hd_run.specs.declared.mode.Mode.TheVariants.{Load}
 use Rattle.hd_run.specs.declared.mode.Traits.{Traits}
 use Rattle.hd_run.specs.declared.request.Request.{Request}
-use Rattle.hd_run.specs.Bounds.{Bounds, numbers_for}
+use Rattle.hd_run.specs.Bounds.{numbers_for}
 use Rattle.hd_run.specs.Modes.{traits_of, runs_alone}
 use Rattle.hd_run.specs.Words.{IsInLimits}
-use Rattle.hd_run.specs.Ending.{ReadProgram, ScriptBy, numbers_by, RefusedBy, FaultCause, StoppedBy, RanBy, RunCause, CauseBy, Lists}
+use Rattle.hd_run.specs.Ending.{ScriptBy, numbers_by, CauseBy, Lists}
 use Rattle.hd_run.specs.Work.{IsJob, Worked}
 use Rattle.hd_run.specs.Report.{HasSumOf, IsWritable}
 use Rattle.hd_run.proofs.RunEndings.{run_callers, lines_sum, fault_writable}
@@ -42,14 +39,6 @@ module _ (r : Request) (old new : SourceView) where
   abbrev reads : Bool
   reads = (traits_of r.mode).reads
 
-  -- the script of the source, and the limits of the request
-  pub read_job : (lists : List (List Cmd)) → reads ≡ true → ReadProgram old new lists
-      → IsJob r old new (lists, r.limits)
-  read_job lists is read = record {
-    script = subst (λ b. ScriptBy b r old new lists) (sym is) read;
-    numbers = subst (λ b. numbers_for r.limits lists ≡ numbers_by b r lists) (sym is) refl;
-  }
-
   -- the script of a load
   pub made_job : (lists : List (List Cmd)) → reads ≡ false → new ≡ old → IsInLimits r →
       lists ≡ generated_lists r.rounds → IsJob r old new (lists, record { heap = HEAP; blocks = BLOCKS })
@@ -61,22 +50,6 @@ module _ (r : Request) (old new : SourceView) where
         (subst (λ (ls : List (List Cmd)). numbers_for (record { heap = HEAP; blocks = BLOCKS }) ls
         ≡ numbers_by false r ls) (sym are) (load_is r.rounds));
   }
-
-  -- where there was a script, only memory keeps it from a run
-  refused_by : (b : Bool) (lists : List (List Cmd)) (f : Fault) → ScriptBy b r old new lists → f ≡ NoMemory →
-      RefusedBy b old new f
-  refused_by true lists f read is = subst (FaultCause old new) (sym is)
-      (record { bytes = read.bytes; gave = read.read.all.gave; count = read.read.within })
-  refused_by false lists f script is = (is, script.0)
-
-  pub job_cause : (threads : Bool) (lists : List (List Cmd)) (b : Bounds) (e : Ending)
-      → IsJob r old new (lists, b) →
-      RunCause threads false (numbers_for b lists) lists e → CauseBy reads threads false r old new e
-  job_cause threads lists b (Refused f) job is = refused_by reads lists f job.script is
-  job_cause threads lists b (Stopped run) job at =
-      (lists, job.script, subst (λ (n : Numbers). StoppedBy threads false n lists run) job.numbers at)
-  job_cause threads lists b (Done run roots) job all =
-      (lists, job.script, (subst (λ (n : Numbers). RanBy threads n lists run) job.numbers all.0, all.1))
 
   -- and then its roots were listed
   pub listed_cause : (b threads : Bool) (e after : Ending) → CauseBy b threads false r old new e →

@@ -19,41 +19,28 @@ module _ {N : Type 0} where
   unshort_count (count zero) = refl
   unshort_count (count (suc c)) = refl
 
-  roots_by : (k : Kind) (o : Option N) (e : Extra N)
-      → takes_any root_tasks (record { kind = k; target = o; extra = e }) ≡ is_role holds (role_of k e)
-  roots_by kind.Short o e = refl
-  roots_by kind.Long o e = refl
-  roots_by kind.Strong o e = refl
-  roots_by kind.Pinned o e = refl
-  roots_by kind.Variable o e = or_none (is_role holds (role_of kind.Variable e))
-  roots_by kind.Counted o e = refl
-  roots_by kind.Dependent o e = refl
-
-  short_by : (k : Kind) (o : Option N) (e : Extra N)
-      → takes_any short_tasks (record { kind = k; target = o; extra = e }) ≡ is_role short (role_of k e)
-  short_by kind.Short o e = refl
-  short_by kind.Long o e = refl
-  short_by kind.Strong o e = refl
-  short_by kind.Pinned o e = refl
-  short_by kind.Variable o e = refl
-  short_by kind.Counted o e = unshort_count e
-  short_by kind.Dependent o e = refl
-
-  long_by : (k : Kind) (o : Option N) (e : Extra N)
-      → takes_any long_tasks (record { kind = k; target = o; extra = e }) ≡ is_role long (role_of k e)
-  long_by kind.Short o e = refl
-  long_by kind.Long o e = refl
-  long_by kind.Strong o e = refl
-  long_by kind.Pinned o e = refl
-  long_by kind.Variable o e = or_none (is_role long (role_of kind.Variable e))
-  long_by kind.Counted o e = refl
-  long_by kind.Dependent o e = refl
+  -- the tasks of three roles take a handle of a kind where it has the role
+  covers : (k : Kind) (o : Option N) (e : Extra N) →
+      let h : Handle N = record { kind = k; target = o; extra = e } in
+      (takes_any root_tasks h ≡ has_role holds h) × (takes_any short_tasks h ≡ has_role short h)
+      × (takes_any long_tasks h ≡ has_role long h)
+  covers kind.Short o e = (refl, refl, refl)
+  covers kind.Long o e = (refl, refl, refl)
+  covers kind.Strong o e = (refl, refl, refl)
+  covers kind.Pinned o e = (refl, refl, refl)
+  covers kind.Variable o e = (
+    or_none (is_role holds (role_of kind.Variable e)),
+    refl,
+    or_none (is_role long (role_of kind.Variable e)),
+  )
+  covers kind.Counted o e = (refl, unshort_count e, refl)
+  covers kind.Dependent o e = (refl, refl, refl)
 
   pub roots_cover : takes_any root_tasks ≡ has_role {N = N} holds
-  roots_cover = λ i h. roots_by h.kind h.target h.extra i
+  roots_cover = λ i h. (covers h.kind h.target h.extra).0 i
 
   pub short_cover : takes_any short_tasks ≡ has_role {N = N} short
-  short_cover = λ i h. short_by h.kind h.target h.extra i
+  short_cover = λ i h. (covers h.kind h.target h.extra).1 i
 
   pub long_cover : takes_any long_tasks ≡ has_role {N = N} long
-  long_cover = λ i h. long_by h.kind h.target h.extra i
+  long_cover = λ i h. (covers h.kind h.target h.extra).2 i

@@ -169,39 +169,31 @@ roots_none o n u = record {
 
 -- the targets of handles that pass either of two tests
 module _ {N : Type 0} (f g : Handle N → Bool) (rows : Rows N) where
+  -- the handle of a target passes another test
+  with_test : (j k : Handle N → Bool) (x : N) (s : IsTargetOf rows j x) → k s.handle ≡ true
+      → IsTargetOf rows k x
+  with_test j k x s e =
+      record { slot = s.slot; handle = s.handle; is_stored = s.is_stored; passes = e; target = s.target }
+
+  abbrev Any : Handle N → Bool
+  Any h = f h || g h
+
   pub either_target : (x : N) → IsTargetOf rows f x ⊎ IsTargetOf rows g x
       → IsTargetOf rows (λ h. f h || g h) x
   either_target x =
       ⊎_elim
-      (λ (a : IsTargetOf rows f x). record {
-        slot = a.slot;
-        handle = a.handle;
-        is_stored = a.is_stored;
-        passes = or_left (f a.handle) (g a.handle) a.passes;
-        target = a.target;
-      })
-      (λ (b : IsTargetOf rows g x). record {
-        slot = b.slot;
-        handle = b.handle;
-        is_stored = b.is_stored;
-        passes = or_right (f b.handle) (g b.handle) b.passes;
-        target = b.target;
-      })
-
-  with_test : (k : Handle N → Bool) (x : N) (s : IsTargetOf rows (λ h. f h || g h) x) → k s.handle ≡ true
-      → IsTargetOf rows k x
-  with_test k x s e =
-      record { slot = s.slot; handle = s.handle; is_stored = s.is_stored; passes = e; target = s.target }
+      (λ (a : IsTargetOf rows f x). with_test f Any x a (or_left (f a.handle) (g a.handle) a.passes))
+      (λ (b : IsTargetOf rows g x). with_test g Any x b (or_right (f b.handle) (g b.handle) b.passes))
 
   pub target_either : (x : N) → IsTargetOf rows (λ h. f h || g h) x
       → IsTargetOf rows f x ⊎ IsTargetOf rows g x
   target_either x s =
-      ⊎_elim (λ e. inl (with_test f x s e)) (λ e. inr (with_test g x s e))
+      ⊎_elim (λ e. inl (with_test Any f x s e)) (λ e. inr (with_test Any g x s e))
       (or_cases (f s.handle) (g s.handle) s.passes)
 
   pub either_pin : (x : N) → IsPinTargetOf rows f x ⊎ IsPinTargetOf rows g x
       → IsPinTargetOf rows (λ h. f h || g h) x
-  unfolding either_target
+  unfolding either_target with_test
   either_pin x =
       ⊎_elim (λ (a : IsPinTargetOf rows f x). record { of = either_target x (inl a.of); pins = a.pins })
       (λ (b : IsPinTargetOf rows g x). record { of = either_target x (inr b.of); pins = b.pins })
@@ -210,8 +202,8 @@ module _ {N : Type 0} (f g : Handle N → Bool) (rows : Rows N) where
       → IsPinTargetOf rows f x ⊎ IsPinTargetOf rows g x
   unfolding with_test
   pin_either x s =
-      ⊎_elim (λ e. inl (record { of = with_test f x s.of e; pins = s.pins }))
-      (λ e. inr (record { of = with_test g x s.of e; pins = s.pins }))
+      ⊎_elim (λ e. inl (record { of = with_test Any f x s.of e; pins = s.pins }))
+      (λ e. inr (record { of = with_test Any g x s.of e; pins = s.pins }))
       (or_cases (f s.of.handle) (g s.of.handle) s.of.passes)
 
 -- two passes that promote from one table

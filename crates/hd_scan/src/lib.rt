@@ -18,4 +18,4 @@ mod tests;
 pub use gathering::{Root, gather};
 pub use passes::pass;
 pub use relocation::relocate;
-pub use task::Task;
+pub use task::{Task, pins};

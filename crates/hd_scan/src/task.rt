@@ -144,7 +144,7 @@ pub(crate) fn role_by(kind: Kind, extra: Extra) -> Role
     }
 }
 
-/// Whether a strength pins.
+// Whether a strength pins.
 fn pins_by_strength(strength: Strength) -> bool
     ensures { result ≡ pins_by_strength strength }
 {
@@ -154,8 +154,9 @@ fn pins_by_strength(strength: Strength) -> bool
     }
 }
 
-/// Whether a handle of a kind with an extra keeps its target from moving.
-pub(crate) fn pins(kind: Kind, extra: Extra) -> bool
+/// Whether a handle of a kind with an extra keeps its target from moving, as one made with
+/// `GCHandleType.Pinned` does.
+pub fn pins(kind: Kind, extra: Extra) -> bool
     ensures { result ≡ pins_by kind (extra_of extra) }
 {
     match kind {

@@ -1,5 +1,5 @@
 -- The counts of the lists of a load, and of a journal whose parts they are.
-use Rattle.std.proofs.Common.{◌≡◌, ℕ, suc, zero, ◌+◌, ◌*◌, ◌/◌, ◌%◌, ◌<◌, Bool, true, false, cond, eqb, List, [], ◌∷◌, length, get_or, All, refl, ap, ◌∙◌, arith}
+use Rattle.std.proofs.Common.{[], ◌≡◌, ℕ, suc, zero, ◌+◌, ◌*◌, ◌/◌, ◌%◌, ◌<◌, Bool, true, false, cond, eqb, List, ◌∷◌, length, get_or, All, refl, ap, ◌∙◌, arith}
 use Rattle.std.specs.Prelude.{sum_by}
 use Rattle.std.proofs.lemmas.Bool.{cond_both}
 use Rattle.std.proofs.lemmas.List.Elements.{All-cons, All-nil, All-head, All-tail}
@@ -59,10 +59,6 @@ pub callers_small : {s t : State} {es : List Entry} → Chain (Step load_numbers
 callers_small stay = All-nil (λ (e : Entry). e.caller < 4)
 callers_small (link {e = e} {es = es} step rest) =
     All-cons (λ (x : Entry). x.caller < 4) e es step.caller (callers_small rest)
-
-pub sum_ones : {A : Type 0} (xs : List A) → sum_by (λ _. 1) xs ≡ length xs
-sum_ones [] = refl
-sum_ones (x ∷ xs) = omega (arith, sum_by-cons (λ _. 1) x xs, sum_ones xs)
 
 -- ---- the lists of a load
 

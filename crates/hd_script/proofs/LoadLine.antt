@@ -1,5 +1,5 @@
 -- The line of a load.
-use Rattle.std.proofs.Common.{◌≡◌, ℕ, ◌+◌, ◌*◌, ◌/◌, ◌<◌, ◌≤◌, List, [], length, map, get_or, replicate, Option, None, refl, sym, ap, ◌∙◌, arith, nat_cmp}
+use Rattle.std.proofs.Common.{[], ◌≡◌, ℕ, ◌+◌, ◌*◌, ◌/◌, ◌<◌, ◌≤◌, List, length, map, get_or, replicate, Option, None, refl, sym, ap, ◌∙◌, arith, nat_cmp}
 use Rattle.std.specs.Prelude.{sum_by}
 use Rattle.std.specs.FinMap.{empty, entries, len, len-empty, len-entries}
 use Rattle.std.proofs.lemmas.Option.{none-some}
@@ -23,7 +23,8 @@ use Rattle.hd_script.proofs.LoadRounds.{rounds_of, rounds_length}
 use Rattle.hd_script.proofs.LoadPosition.{news, Place, left_at, pending, holding, IsAtPlace, nowhere, at, left_of, Fits}
 use Rattle.hd_script.proofs.LoadStep.{bit, written, place}
 use Rattle.hd_script.proofs.LoadRun.{Totals, totals}
-use Rattle.hd_script.proofs.LoadCount.{by_parts, callers_small, sum_ones, list_of_caller, collects_in, news_in, written_in}
+use Rattle.hd_model.proofs.MemberWeights.{sum_ones}
+use Rattle.hd_script.proofs.LoadCount.{by_parts, callers_small, list_of_caller, collects_in, news_in, written_in}
 
 -- ---- the start
 

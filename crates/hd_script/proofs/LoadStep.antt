@@ -34,7 +34,7 @@ use Rattle.hd_model.proofs.WellFormedSteps.{has}
 use Rattle.hd_model.proofs.RunCounts.{fresh, given_vacant}
 use Rattle.hd_model.proofs.Sums.{share, sum-insert, sum-le}
 use Rattle.hd_model.proofs.ReadAfterWrite.{cell_here, get_inserted, get_beside, get_left, still_some}
-use Rattle.hd_script.proofs.LoadPosition.{Line, news, hnews, vals, hgets, reads, drops, others, frees, collects, Place, rounds_from, left_at, after_round, left_after_round, pending, one_if_some, holding, Owns, IsAtPlace, Frame}
+use Rattle.hd_script.proofs.LoadPosition.{Line, news, hnews, vals, hgets, reads, drops, others, frees, collects, Place, rounds_from, left_at, after_round, left_after_round, pending, pending_by, one_if_some, holding, Owns, IsAtPlace, Frame}
 
 -- 1 for a test that passes
 abbrev pub bit : Bool → ℕ
@@ -201,20 +201,31 @@ module _ (s : State) (c : ℕ) (small : c < 4) (well : IsWellFormed load_numbers
       (λ full. let over = ltb-true 1000000 (total_size s + ((c + j) % 8 + 3)) full in absurd (omega arith))
       (λ fits o. carry s t e c p x _ (made_new at_place serial) o) outcome
 
+  -- a step to a later line of the round, which keeps the handle and the words of all objects
+  goes_to : {t : State} {x : Cmd} {r : Reply} (old new : Line) (h : Option Slot)
+      → left_at c (place old j m h) ≡ x ∷ left_at c (place new j m h) → Frame s t c
+      → IsAtPlace t c (place new j m h) → total_size t ≡ total_size s
+      → value_returned r + pending_by new j ≡ written x + pending_by old j
+      → makes_object x r ≡ (touched_by x).makes_object → bit (makes_handle x r) ≡ bit (frees_handle x r)
+      → Does s t c (place old j m h) x r
+  goes_to old new h rest frame at_place size returned made handles = record {
+    next = place new j m h;
+    rest = rest;
+    frame = frame;
+    at_place = at_place;
+    room = omega (arith, size);
+    fresh = λ y l. inl l;
+    returned = returned;
+    made = made;
+    handles = omega (arith, handles);
+  }
+
   -- `hnew`: h0 has a new slot, or the table is full and h0 stays empty
   not_made : (why : Refusal) → IsAtPlace s c (place hnews j m None)
       → Does s s c (place hnews j m None) (cmd.HNew 0 (make_of_round j) 0) (reply.Refused why)
-  not_made why at_place = record {
-    next = place vals j m None;
-    rest = refl;
-    frame = frame_same s c;
-    at_place = record { owns = at_place.owns; held = at_place.held; empty = tt; live = at_place.live };
-    room = omega arith;
-    fresh = λ y h. inl h;
-    returned = refl;
-    made = refl;
-    handles = refl;
-  }
+  not_made why at_place = goes_to hnews vals None refl (frame_same s c)
+      (record { owns = at_place.owns; held = at_place.held; empty = tt; live = at_place.live }) refl refl
+      refl refl
 
   abbrev with_slot : State → Grown → Slot → State
   with_slot u grown slot =
@@ -343,39 +354,22 @@ module _ (s : State) (c : ℕ) (small : c < 4) (well : IsWellFormed load_numbers
       outcome
     where
       stays : (why : Refusal) → Does s s c (place hgets j m h) (cmd.HGet 1 0) (reply.Refused why)
-      stays why = record {
-        next = place reads j m h;
-        rest = refl;
-        frame = frame_same s c;
-        at_place = record { owns = at_place.owns; held = at_place.held; empty = tt; live = at_place.live };
-        room = omega arith;
-        fresh = λ y l. inl l;
-        returned = refl;
-        made = refl;
-        handles = omega arith;
-      }
+      stays why = goes_to hgets reads h refl (frame_same s c)
+          (record { owns = at_place.owns; held = at_place.held; empty = tt; live = at_place.live })
+          refl refl refl refl
 
       none_returned : (v : Option Id) → value_returned (loaded v) ≡ 0
       none_returned None = refl
       none_returned (Some id) = refl
 
       gets : (v : Option Id) → Does s (with_register s c 1 v) c (place hgets j m h) (cmd.HGet 1 0) (loaded v)
-      gets v = record {
-        next = place reads j m h;
-        rest = refl;
-        frame = frame_register s c 1 v;
-        at_place = record {
-          owns = owns_kept s c small well v (λ w. w ≡ j) at_place.owns;
-          held = at_place.held;
-          empty = tt;
-          live = at_place.live;
-        };
-        room = omega arith;
-        fresh = λ y l. inl l;
-        returned = omega (arith, none_returned v);
-        made = refl;
-        handles = omega arith;
-      }
+      gets v = goes_to hgets reads h refl (frame_register s c 1 v)
+          (record {
+            owns = owns_kept s c small well v (λ w. w ≡ j) at_place.owns;
+            held = at_place.held;
+            empty = tt;
+            live = at_place.live;
+          }) refl (omega (arith, none_returned v)) refl refl
 
   -- `read`: the number of the round is read
   pub does_read : (t : State) (e : Entry) (h : Option Slot) → e.caller ≡ c
@@ -396,17 +390,9 @@ module _ (s : State) (c : ℕ) (small : c < 4) (well : IsWellFormed load_numbers
     where
       returns_value : (id : Id) → (object_by_id s id).value ≡ j
           → Does s s c (place reads j m h) (cmd.Read 0) (reply.Value (object_by_id s id).value)
-      returns_value id value = record {
-        next = place drops j m h;
-        rest = refl;
-        frame = frame_same s c;
-        at_place = record { owns = tt; held = at_place.held; empty = tt; live = at_place.live };
-        room = omega arith;
-        fresh = λ y l. inl l;
-        returned = omega (arith, value);
-        made = refl;
-        handles = omega arith;
-      }
+      returns_value id value = goes_to reads drops h refl (frame_same s c)
+          (record { owns = tt; held = at_place.held; empty = tt; live = at_place.live }) refl
+          (omega (arith, value)) refl refl
 
   -- `drop r0` and `drop r1`
   pub does_drop : (t : State) (e : Entry) (h : Option Slot) → e.caller ≡ c
@@ -414,17 +400,8 @@ module _ (s : State) (c : ℕ) (small : c < 4) (well : IsWellFormed load_numbers
       StepOf load_numbers s e t (cmd.Clear 0) → Does s t c (place drops j m h) (cmd.Clear 0) e.reply
   does_drop t e h is at_place step =
       carry s t e c (place drops j m h) (cmd.Clear 0) (clear_register s c 0)
-      (record {
-        next = place others j m h;
-        rest = refl;
-        frame = frame_register s c 0 None;
-        at_place = record { owns = tt; held = at_place.held; empty = tt; live = at_place.live };
-        room = omega arith;
-        fresh = λ y l. inl l;
-        returned = refl;
-        made = refl;
-        handles = omega arith;
-      })
+      (goes_to drops others h refl (frame_register s c 0 None)
+      (record { owns = tt; held = at_place.held; empty = tt; live = at_place.live }) refl refl refl refl)
       (subst (λ (k : ℕ). IsOutcome e (clear_register s k 0) t) is step)
 
   pub does_other : (t : State) (e : Entry) (h : Option Slot) → e.caller ≡ c
@@ -432,17 +409,8 @@ module _ (s : State) (c : ℕ) (small : c < 4) (well : IsWellFormed load_numbers
       StepOf load_numbers s e t (cmd.Clear 1) → Does s t c (place others j m h) (cmd.Clear 1) e.reply
   does_other t e h is at_place step =
       carry s t e c (place others j m h) (cmd.Clear 1) (clear_register s c 1)
-      (record {
-        next = place frees j m h;
-        rest = refl;
-        frame = frame_register s c 1 None;
-        at_place = record { owns = tt; held = at_place.held; empty = tt; live = at_place.live };
-        room = omega arith;
-        fresh = λ y l. inl l;
-        returned = refl;
-        made = refl;
-        handles = omega arith;
-      })
+      (goes_to others frees h refl (frame_register s c 1 None)
+      (record { owns = tt; held = at_place.held; empty = tt; live = at_place.live }) refl refl refl refl)
       (subst (λ (k : ℕ). IsOutcome e (clear_register s k 1) t) is step)
 
   -- `hfree`: h0 is empty, whether it had a slot or not

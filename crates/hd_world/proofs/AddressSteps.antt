@@ -1,5 +1,5 @@
 -- What each command does with the pinned addresses.
-use Rattle.hd_world.proofs.StoreWords.{Numbers, ◌≡◌, ℕ, ◌<◌, ◌≤◌, cond, Bool, true, false, Option, Some, None, refl, sym, ap, ◌∙◌, subst, Result, Ok, Err, MatchResult, T, if◌then◌else◌, option_and_then, option_map_or, FinMap, get, insert, empty, nat_cmp, Id, Addr, Slot, Refusal, Entry, Report, Reply, Cmd, State, Handle, handle_register_of, handle_at, with_place, pins, Outcome, answers, refuses, answer_place, with_places, MayAnswer, touched_by, IsValid, StepOf, Step, IsOutcome, AnswersPlace, pinned_by, pinned_target, aged_by, is_collect, Machine, KeepsNames, HasNames, Moves, KeepsPlaces, kept_places, HasCollected, HasPlace, LeavesHeap, name_in, pinned_in, entry_of, done_of, MayRun, IsDone, HasRun, RanOut, asks_of, no_room, IsOffer, MayOffer, GrowsFor, CollectedSteps, TakesSteps, true≢false, get_inserted, same_Some}
+use Rattle.hd_world.proofs.StoreWords.{◌≡◌, ℕ, ◌<◌, ◌≤◌, cond, Bool, true, false, Option, Some, None, refl, sym, ap, ◌∙◌, subst, Result, Ok, Err, MatchResult, if◌then◌else◌, option_and_then, option_map_or, FinMap, get, insert, empty, nat_cmp, Id, Addr, Slot, Refusal, Entry, Report, Reply, Cmd, State, Handle, handle_register_of, handle_at, with_place, pins, Outcome, answers, refuses, answer_place, with_places, MayAnswer, touched_by, IsValid, StepOf, Step, IsOutcome, AnswersPlace, pinned_by, pinned_target, aged_by, is_collect, Machine, KeepsNames, HasNames, Moves, KeepsPlaces, kept_places, HasCollected, HasPlace, LeavesHeap, name_in, pinned_in, entry_of, done_of, MayRun, HasRun, IsPlainStep, RanOut, asks_of, no_room, IsOffer, MayOffer, GrowsFor, CollectedSteps, TakesSteps, true≢false, get_inserted, same_Some}
 use Rattle.hd_world.proofs.IdentityReadings.{no_some}
 use Rattle.hd_model.specs.declared.data.Grown.TheVariants.{Zero}
 use Rattle.hd_model.specs.declared.data.Memory.{Memory}
@@ -48,6 +48,11 @@ plain-moves m k e plain step keeps aged numbers p are = record {
   heap = others-heap e uses_places plain (λ n. refl) k;
 }
 
+-- the generation that a command collects
+abbrev number_in : ℕ → Cmd → ℕ
+number_in d (cmd.Collect n) = n
+number_in d c = d
+
 -- a collection
 pub collect-moves : (m k : Machine) (n : ℕ) (report : Report) (caller : ℕ) → caller < m.numbers.callers
     → n ≤ 2 → HasCollected m k n report
@@ -67,10 +72,6 @@ collect-moves m k n report caller known low has p are = record {
     compact = λ other same answer. has.compact (ap (number_in n) same);
   };
 }
-  where
-    number_in : ℕ → Cmd → ℕ
-    number_in d (cmd.Collect j) = j
-    number_in d c = d
 
 -- a command that makes no object keeps all identities as they are
 names-kept : (b : Bool) (old new : FinMap nat_cmp Id) → HasNames b old new → KeepsNames old new
@@ -201,10 +202,6 @@ collect-steps m n report caller before after steps = record {
       (ap (report_in report) same_report) steps);
 }
   where
-    number_in : ℕ → Cmd → ℕ
-    number_in d (cmd.Collect k) = k
-    number_in d c = d
-
     report_in : Report → Reply → Report
     report_in d (reply.Report r) = r
     report_in d r = d
@@ -212,20 +209,22 @@ collect-steps m n report caller before after steps = record {
 -- what was done without a use of pinned addresses was done with any
 pub plain-runs : (m k : Machine) (asked : CallerCommand) (offer : Option Slot) → MayRun m asked offer
     → (steps : ℕ) (r : Result Entry Memory)
-    → MatchResult r (IsDone m asked offer k) (λ _. RanOut m asked.cmd k)
-    → MatchResult r (λ e. HasRun m asked offer k e × TakesSteps m.state m.ages e steps steps)
-    (λ _. RanOut m asked.cmd k × (steps ≡ steps))
+    → MatchResult r (λ e. HasRun m asked offer e (IsPlainStep m asked.cmd k e))
+    (λ _. RanOut m.numbers m.state asked.cmd m k)
+    → MatchResult r (λ e. HasRun m asked offer e
+    (KeepsPlaces m e k) × TakesSteps m.state m.ages e steps steps)
+    (λ _. RanOut m.numbers m.state asked.cmd m k × (steps ≡ steps))
 plain-runs m k asked offer may steps (Ok e) did =
-    let still : uses_places e.cmd ≡ false = ap uses_places did.command ∙ did.plain in (
+    let step = did.effect in
+    let still : uses_places e.cmd ≡ false = ap uses_places did.command ∙ step.plain in (
       record {
         caller = did.caller;
         command = did.command;
-        moves = plain-moves m k e still (record {
+        effect = plain-moves m k e still (record {
           caller = subst (λ x. x < m.numbers.callers) (sym did.caller) may.caller;
           valid = subst IsValid (sym did.command) may.valid;
-          does = subst (StepOf m.numbers m.state e k.state) (sym did.command)
-              did.step;
-        }) (names-kept (touched_by asked.cmd).makes_object m.names k.names did.names) did.ages did.numbers;
+          does = subst (StepOf m.numbers m.state e k.state) (sym did.command) step.step;
+        }) (names-kept (touched_by asked.cmd).makes_object m.names k.names step.names) step.ages step.numbers;
         offer = did.offer;
         growth = did.growth;
       },
@@ -269,14 +268,14 @@ pub others-run : (m k : Machine) (asked : CallerCommand) (offered : Option Slot)
     → TakesSteps m.state m.ages (entry_of (record { caller = asked.caller; cmd = c }) (done_of r))
     before after
     → (e : Entry) → e ≡ entry_of asked (done_of r)
-    → HasRun m asked offered k e × TakesSteps m.state m.ages e before after
+    → HasRun m asked offered e (KeepsPlaces m e k) × TakesSteps m.state m.ages e before after
 others-run m k asked offered c is none r before after may keeps steps e entry =
     let same = entry ∙ (λ i. entry_of (record { caller = asked.caller; cmd = is i }) (done_of r)) in
     let nothing = ap asks_of is ∙ none in (
       record {
         caller = ap (λ (x : Entry). x.caller) entry;
         command = ap (λ (x : Entry). x.cmd) entry;
-        moves = subst (λ x. KeepsPlaces m x k) (sym same) keeps;
+        effect = subst (λ x. KeepsPlaces m x k) (sym same) keeps;
         offer = λ slot given. absurd (subst (λ a. MayOffer m.state a slot) nothing
             (subst (IsOffer m.state asked.cmd) given may.offer));
         growth = subst (λ a. GrowsFor m.numbers m.state a offered e) (sym nothing) tt;

@@ -1,9 +1,11 @@
 -- Lengths and sums of maps that are made from the entries of another.
-use Rattle.hd_world.proofs.StoreWords.{◌≡◌, ℕ, ◌+◌, ◌<◌, T, cond, List, [], ◌∷◌, map, length, Option, Some, None, refl, sym, ap, ◌∙◌, arith, is_some, sum_by, option_map, FinMap, get, find, is_sorted, entries, values, len, from_entries, entries_sorted, get-entries, get-from_entries, len-insert, len-empty, len-entries, nat_cmp, nat_cmp_total, length-map}
+use Rattle.hd_world.proofs.StoreWords.{[], ◌≡◌, ℕ, ◌+◌, ◌<◌, T, cond, List, ◌∷◌, map, length, Option, Some, None, refl, sym, ap, ◌∙◌, arith, is_some, sum_by, option_map, Contains, FinMap, get, find, is_sorted, entries, values, len, from_entries, entries_sorted, get-from_entries, len-insert, len-empty, len-entries, nat_cmp, nat_cmp_total, length-map}
 use Rattle.std.specs.FinMap.Entries.{below_all}
 use Rattle.std.proofs.lemmas.List.Sums.{sum_by-cons}
-use Rattle.hd_world.proofs.EntryMaps.{Among, both, below, find-mapped, source, AreApart, rekeyed, among-find, find-among, first, later}
-use Rattle.hd_model.proofs.Sums.{share, sum-insert}
+use Rattle.hd_model.proofs.Entries.{both, below, get_entry}
+use Rattle.hd_model.proofs.Members.{first_in, later_in}
+use Rattle.hd_model.proofs.Sums.{share, sum-insert, first_alone}
+use Rattle.hd_world.proofs.EntryMaps.{find-mapped, source, AreApart, rekeyed}
 
 -- no key occurs twice
 abbrev pub AreFresh : {A : Type 0} → List (ℕ × A) → Type 0
@@ -22,9 +24,6 @@ len-fresh (e ∷ es) fresh =
     ∙ ap (λ o. cond (is_some o) (len (from_entries {R = nat_cmp} es))
     (len (from_entries {R = nat_cmp} es) + 1)) (found_none es e.0 fresh.0)
     ∙ ap (λ n. n + 1) (len-fresh es fresh.1) ∙ omega arith
-
-abbrev total : {A : Type 0} → (A → ℕ) → List (ℕ × A) → ℕ
-total f es = sum_by f (map (λ e. e.1) es)
 
 no_values : {A : Type 0} (f : A → ℕ) (m : FinMap nat_cmp A) → len m ≡ 0 → sum_by f (values m) ≡ 0
 no_values {A} f m none = by (entries m) (sym (len-entries m) ∙ none)
@@ -46,10 +45,11 @@ sum-fresh f (e ∷ es) fresh =
 module _ {X Y : Type 0} (key : X → ℕ) (f : ℕ → X → Y) where
   -- entries with keys that differ stay fresh under their new keys
   abbrev Apart : List (ℕ × X) → Type 0
-  Apart es = (a b : ℕ) (p q : X) → Among a p es → Among b q es → key p ≡ key q → a ≡ b
+  Apart es = (a b : ℕ) (p q : X) → Contains es (a, p) → Contains es (b, q) → key p ≡ key q → a ≡ b
 
   rest_apart : (e : ℕ × X) (es : List (ℕ × X)) → Apart (e ∷ es) → Apart es
-  rest_apart e es apart a b p q first_in second_in = apart a b p q (later first_in) (later second_in)
+  rest_apart e es apart a b p q first second =
+      apart a b p q (later_in e es (a, p) first) (later_in e es (b, q) second)
 
   not_found : (e : ℕ × X) (es : List (ℕ × X)) → T (below_all nat_cmp e.0 es) → Apart (e ∷ es)
       → find nat_cmp (key e.1) (rekeyed key f es) ≡ None
@@ -60,8 +60,10 @@ module _ {X Y : Type 0} (key : X → ℕ) (f : ℕ → X → Y) where
       by None is = is
       by (Some y) is =
           let s = source key f es (key e.1) y is in
-          let lower : e.0 < s.at = below e.0 s.at s.value es low s.among in
-          let same : e.0 ≡ s.at = apart e.0 s.at e.1 s.value first (later s.among) (sym s.keyed) in
+          let at : ℕ × X = (s.at, s.value) in
+          let lower : e.0 < s.at = below e.0 es low at s.among in
+          let same : e.0 ≡ s.at =
+          apart e.0 s.at e.1 s.value (first_in e es) (later_in e es at s.among) (sym s.keyed) in
           absurd (omega arith)
 
   fresh_rekeyed : (es : List (ℕ × X)) → T (is_sorted nat_cmp es) → Apart es → AreFresh (rekeyed key f es)
@@ -72,9 +74,8 @@ module _ {X Y : Type 0} (key : X → ℕ) (f : ℕ → X → Y) where
 
   pub fresh-rekeyed : (m : FinMap nat_cmp X) → AreApart key m → AreFresh (rekeyed key f (entries m))
   fresh-rekeyed m apart =
-      fresh_rekeyed (entries m) (entries_sorted m) (λ a b p q first_in second_in. apart a b p q
-      (get-entries m a ∙ find-among a p (entries m) (entries_sorted m) first_in)
-      (get-entries m b ∙ find-among b q (entries m) (entries_sorted m) second_in))
+      fresh_rekeyed (entries m) (entries_sorted m)
+      (λ a b p q first second. apart a b p q (get_entry m a p first) (get_entry m b q second))
 
   pub len-rekeyed : (m : FinMap nat_cmp X) → AreApart key m
       → len (from_entries {R = nat_cmp} (map (λ e. (key e.1, f e.0 e.1)) (entries m))) ≡ len m
@@ -83,19 +84,12 @@ module _ {X Y : Type 0} (key : X → ℕ) (f : ℕ → X → Y) where
       ∙ length-map (entries m) (λ e. (key e.1, f e.0 e.1)) ∙ sym (len-entries m)
 
 -- the same keys are as fresh as they were
-none_below : {A : Type 0} (k : ℕ) (es : List (ℕ × A)) → T (below_all nat_cmp k es) → find nat_cmp k es ≡ None
-none_below {A} k es low = by (find nat_cmp k es) refl
-  where
-    by : (o : Option A) → find nat_cmp k es ≡ o → find nat_cmp k es ≡ None
-    by None is = is
-    by (Some v) is = let lower : k < k = below k k v es low (among-find k v es is) in absurd (omega arith)
-
 fresh_mapped : {X Y : Type 0} (f : ℕ → X → Y) (es : List (ℕ × X)) → T (is_sorted nat_cmp es)
     → AreFresh (map (λ e. (e.0, f e.0 e.1)) es)
 fresh_mapped f [] sorted = tt
 fresh_mapped f (e ∷ es) sorted =
     let parts = both (below_all nat_cmp e.0 es) (is_sorted nat_cmp es) sorted in
-    (find-mapped f e.0 es ∙ ap (option_map (f e.0)) (none_below e.0 es parts.0), fresh_mapped f es parts.1)
+    (find-mapped f e.0 es ∙ ap (option_map (f e.0)) (first_alone e.0 es parts.0), fresh_mapped f es parts.1)
 
 pub len-mapped : {X Y : Type 0} (f : ℕ → X → Y) (m : FinMap nat_cmp X)
     → len (from_entries {R = nat_cmp} (map (λ e. (e.0, f e.0 e.1)) (entries m))) ≡ len m

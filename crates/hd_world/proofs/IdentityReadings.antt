@@ -5,6 +5,10 @@ use Rattle.hd_world.proofs.EntryMaps.{same_numbers, get-mapped, Under, AreApart,
 pub no_some : {A : Type 0} (x : A) → Some x ≡ None → ⊥
 no_some x e = subst T (ap is_some e) tt
 
+pub is_some-map : {A B : Type 0} (g : A → B) (o : Option A) → is_some (option_map g o) ≡ is_some o
+is_some-map g None = refl
+is_some-map g (Some x) = refl
+
 pub same_id : (x y : Id) → x.0 ≡ y.0 → x ≡ y
 same_id x y e = λ i. record { 0 = e i }
 
@@ -74,6 +78,86 @@ objects-are h m identities each only =
         let u = objects-under h x o first in
         first ∙ ap Some u.is ∙ sym (each u.at u.value u.is_stored) ∙ ap (get m) u.keyed
 
+-- the heap k is h with an object at an address, whose identity no object elsewhere has, and which has the
+-- identity of what was there
+pub record Puts (h k : Heap) (a : ℕ) (new : Placed) : Type 0 where
+  pub objects : k.objects ≡ insert h.objects a new
+  pub was : (p : Placed) → get h.objects a ≡ Some p → p.id ≡ new.id
+  pub fresh : (b : ℕ) (p : Placed) → (b ≡ a → ⊥) → get h.objects b ≡ Some p → p.id.0 ≡ new.id.0 → ⊥
+
+module _ (h k : Heap) (a : ℕ) (new : Placed) (objects : k.objects ≡ insert h.objects a new) where
+  pub put-here : get k.objects a ≡ Some new
+  put-here = ap (λ m. get m a) objects ∙ get_inserted h.objects a new
+
+  pub put-beside : (b : ℕ) → (b ≡ a → ⊥) → get k.objects b ≡ get h.objects b
+  put-beside b apart = ap (λ m. get m b) objects ∙ get_beside h.objects a new b apart
+
+module _ (h k : Heap) (a : ℕ) (new : Placed) (r : Puts h k a new) where
+  at_put : get k.objects a ≡ Some new
+  at_put = put-here h k a new r.objects
+
+  off_put : (b : ℕ) → (b ≡ a → ⊥) → get k.objects b ≡ get h.objects b
+  off_put = put-beside h k a new r.objects
+
+  pub identities-put : HasIdentities h → HasIdentities k
+  identities-put identities b c p q first second same =
+      elim (cases_eq b a) [
+        | inl here ↦ elim (cases_eq c a) [
+          | inl there ↦ here ∙ sym there
+          | inr apart ↦
+              let it : new ≡ p = same_Some new p (sym at_put ∙ ap (get k.objects) (sym here) ∙ first) in
+              absurd (r.fresh c q apart (sym (off_put c apart) ∙ second)
+              (ap (λ (i : Id). i.0) (sym same) ∙ ap (λ (o : Placed). o.id.0) (sym it)))
+        ]
+        | inr away ↦ elim (cases_eq c a) [
+          | inl there ↦
+              let it : new ≡ q = same_Some new q (sym at_put ∙ ap (get k.objects) (sym there) ∙ second) in
+              absurd (r.fresh b p away (sym (off_put b away) ∙ first)
+              (ap (λ (i : Id). i.0) same ∙ ap (λ (o : Placed). o.id.0) (sym it)))
+          | inr apart ↦ identities b c p q (sym (off_put b away) ∙ first)
+              (sym (off_put c apart) ∙ second) same
+        ]
+      ]
+
+  abbrev after : FinMap nat_cmp (Object Id)
+  after = insert (objects_by_id h) new.id.0 (read_object k a new)
+
+  -- where all others are read as before, the objects by identity have that one too
+  pub objects-put : HasIdentities h
+      → ((b : ℕ) (p : Placed) → get h.objects b ≡ Some p → read_object k b p ≡ read_object h b p)
+      → objects_by_id k ≡ after
+  objects-put identities read = objects-are k after (identities-put identities) each only
+    where
+      each : (b : ℕ) (p : Placed) → get k.objects b ≡ Some p → get after p.id.0 ≡ Some (read_object k b p)
+      each b p is =
+          elim (cases_eq b a) [
+            | inl here ↦
+                let it : new ≡ p = same_Some new p (sym at_put ∙ ap (get k.objects) (sym here) ∙ is) in
+                ap (λ (q : Placed). get after q.id.0) (sym it)
+                ∙ get_inserted (objects_by_id h) new.id.0 (read_object k a new)
+                ∙ ap Some (ap (λ c. read_object k c new) (sym here) ∙ ap (read_object k b) it)
+            | inr apart ↦
+                let before : get h.objects b ≡ Some p = sym (off_put b apart) ∙ is in
+                get_beside (objects_by_id h) new.id.0 (read_object k a new) p.id.0 (r.fresh b p apart before)
+                ∙ objects-get h identities b p before ∙ ap Some (sym (read b p before))
+          ]
+
+      only : (x : ℕ) (o : Object Id) → get after x ≡ Some o → HasObjectOf k x
+      only x o is =
+          elim (cases_eq x new.id.0) [
+            | inl here ↦ record { at = a; value = new; is_stored = at_put; named = sym here }
+            | inr apart ↦
+                let u = objects-under h x o
+                (sym (get_beside (objects_by_id h) new.id.0 (read_object k a new) x apart) ∙ is) in
+                record {
+                  at = u.at;
+                  value = u.value;
+                  is_stored = off_put u.at (λ here. apart (sym u.keyed ∙ ap (λ (i : Id). i.0)
+                      (r.was u.value (ap (get h.objects) (sym here) ∙ u.is_stored)))) ∙ u.is_stored;
+                  named = u.keyed;
+                }
+          ]
+
 -- the readings of two heaps with the same identities and regions
 read_same : (h k : Heap) → id_at k ≡ id_at h → k.regions ≡ h.regions → read_object k ≡ read_object h
 read_same h k ids regions = λ i a p. rename_object (ids i)
@@ -90,10 +174,10 @@ pub record Replaces (h k : Heap) (a : ℕ) (old new : Placed) : Type 0 where
 
 module _ (h k : Heap) (a : ℕ) (old new : Placed) (r : Replaces h k a old new) where
   at_it : get k.objects a ≡ Some new
-  at_it = ap (λ m. get m a) r.objects ∙ get_inserted h.objects a new
+  at_it = put-here h k a new r.objects
 
   elsewhere : (b : ℕ) → (b ≡ a → ⊥) → get k.objects b ≡ get h.objects b
-  elsewhere b apart = ap (λ m. get m b) r.objects ∙ get_beside h.objects a new b apart
+  elsewhere = put-beside h k a new r.objects
 
   id_same : (b : ℕ) → id_in (get k.objects b) ≡ id_in (get h.objects b)
   id_same b =
@@ -128,80 +212,21 @@ module _ (h k : Heap) (a : ℕ) (old new : Placed) (r : Replaces h k a old new) 
       rows-get k rows slot ∙ ap (λ f. option_map (rename_handle f) (get rows slot)) ids-replace
       ∙ sym (rows-get h rows slot))
 
-  -- an object of k was one of h with the same identity
-  was_there : (b : ℕ) (p : Placed) → get k.objects b ≡ Some p
-      → (q : Placed) × ((get h.objects b ≡ Some q) × (q.id ≡ p.id))
-  was_there b p is =
-      elim (cases_eq b a) [
-        | inl here ↦ (
-          old,
-          (
-            ap (get h.objects) here ∙ r.was,
-            sym r.same
-                ∙ ap (λ (q : Placed). q.id)
-                (same_Some new p (sym at_it ∙ ap (get k.objects) (sym here) ∙ is)),
-          ),
-        )
-        | inr apart ↦ (p, (sym (elsewhere b apart) ∙ is, refl))
-      ]
+  puts : HasIdentities h → Puts h k a new
+  puts identities = record {
+    objects = r.objects;
+    was = λ p is. ap (λ (q : Placed). q.id) (same_Some p old (sym is ∙ r.was)) ∙ sym r.same;
+    fresh = λ b p apart is same.
+        apart (identities b a p old is r.was (same_id p.id old.id (same ∙ ap (λ (i : Id). i.0) r.same)));
+  }
 
   pub identities-replace : HasIdentities h → HasIdentities k
-  identities-replace identities b c p q first second same =
-      let u = was_there b p first in
-      let v = was_there c q second in
-      identities b c u.0 v.0 u.1.0 v.1.0 (u.1.1 ∙ same ∙ sym v.1.1)
+  identities-replace identities = identities-put h k a new (puts identities) identities
 
   -- and the objects by identity have the new one in place of the old
   pub objects-replace : HasIdentities h → objects_by_id k ≡ insert (objects_by_id h) old.id.0
       (read_object h a new)
-  objects-replace identities = objects-are k (insert (objects_by_id h) old.id.0 (read_object h a new))
-      (identities-replace identities) each only
-    where
-      m : FinMap nat_cmp (Object Id)
-      m = insert (objects_by_id h) old.id.0 (read_object h a new)
-
-      read : read_object k ≡ read_object h
-      read = read_same h k ids-replace r.regions
-
-      each : (b : ℕ) (p : Placed) → get k.objects b ≡ Some p
-          → get (insert (objects_by_id h) old.id.0 (read_object h a new)) p.id.0 ≡ Some (read_object k b p)
-      each b p is =
-          elim (cases_eq b a) [
-            | inl here ↦
-                let it : new ≡ p = same_Some new p (sym at_it ∙ ap (get k.objects) (sym here) ∙ is) in
-                ap (λ (q : Placed). get (insert (objects_by_id h) old.id.0 (read_object h a new)) q.id.0)
-                (sym it)
-                ∙ ap (λ (x : Id). get (insert (objects_by_id h) old.id.0 (read_object h a new)) x.0) r.same
-                ∙ get_inserted (objects_by_id h) old.id.0 (read_object h a new)
-                ∙ ap Some (ap (λ f. f a new) (sym read) ∙ ap (λ c. read_object k c new) (sym here)
-                ∙ ap (read_object k b) it)
-            | inr apart ↦
-                let before : get h.objects b ≡ Some p = sym (elsewhere b apart) ∙ is in
-                get_beside (objects_by_id h) old.id.0 (read_object h a new) p.id.0
-                (λ same. apart (identities b a p old before r.was (same_id p.id old.id same)))
-                ∙ objects-get h identities b p before ∙ ap Some (ap (λ f. f b p) (sym read))
-          ]
-
-      only : (x : ℕ) (o : Object Id)
-          → get (insert (objects_by_id h) old.id.0 (read_object h a new)) x ≡ Some o → HasObjectOf k x
-      only x o is =
-          elim (cases_eq x old.id.0) [
-            | inl here ↦ record {
-              at = a;
-              value = new;
-              is_stored = at_it;
-              named = ap (λ (i : Id). i.0) r.same ∙ sym here;
-            }
-            | inr apart ↦
-                let u = objects-under h x o
-                (sym (get_beside (objects_by_id h) old.id.0 (read_object h a new) x apart) ∙ is) in
-                record {
-                  at = u.at;
-                  value = u.value;
-                  is_stored = elsewhere u.at
-                      (λ here. apart (sym u.keyed ∙ ap (λ (p : Placed). p.id.0)
-                      (same_Some u.value old (sym u.is_stored ∙ ap (get h.objects) here ∙ r.was))))
-                      ∙ u.is_stored;
-                  named = u.keyed;
-                }
-          ]
+  objects-replace identities =
+      let read = read_same h k ids-replace r.regions in
+      objects-put h k a new (puts identities) identities (λ b p is. ap (λ f. f b p) read)
+      ∙ (λ i. insert (objects_by_id h) (r.same i).0 (read i a new))

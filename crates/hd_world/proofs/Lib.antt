@@ -11,7 +11,6 @@ mod RootAccess
 mod EntrySums
 mod StateCounts
 mod StoreRows
-mod AgeLower
 mod SlotHandle
 mod StoreNew
 mod FoundHandle
@@ -19,7 +18,6 @@ mod NewBlockSlot
 mod MadeRowAge
 mod JournalApply
 mod StoreOpen
-mod Sizes
 mod QueueTake
 mod SceneReading
 mod DueClumps

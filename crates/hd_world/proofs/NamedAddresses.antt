@@ -1,22 +1,16 @@
 -- What the calls of a heap return, in the words of the store.
-use Rattle.hd_world.proofs.StoreWords.{◌≡◌, ℕ, zero, suc, ◌<◌, true, false, List, [], ◌∷◌, map, length, get_or, Option, Some, None, refl, sym, ap, ◌∙◌, subst, option_map, unwrap_or, is_some, IsSome, IfSome, Contains, T, length-map, get, Id, Addr, Object, object_by_id, field_of, fields_in, generation_in, fields_at, generation_at, Placed, Heap, region_generation, region_of, object_in, object_at, has_object, placed_at, id_in, id_at, names_of, read_object, name_in, named_in, IsNamed, Parts, state_of, IsStored, Machine, machine_of, object_named}
+use Rattle.hd_world.proofs.StoreWords.{◌≡◌, ℕ, zero, suc, ◌<◌, true, false, List, [], ◌∷◌, map, length, get_or, Option, Some, None, refl, sym, ap, ◌∙◌, subst, option_map, unwrap_or, is_some, IsSome, IfSome, Contains, T, length-map, get, Id, Addr, Object, object_by_id, field_of, fields_in, generation_in, fields_at, generation_at, Placed, Heap, region_generation, region_of, object_in, object_at, has_object, placed_at, id_in, id_at, names_of, read_object, name_in, named_in, IsNamed, Parts, parts, state_of, IsStored, Machine, machine_of, object_named}
 use Rattle.std.proofs.lemmas.List.Elements.{Contains-get_or}
-use Rattle.hd_world.proofs.IdentityReadings.{names-get, name-is, named-is, objects-get}
+use Rattle.hd_world.specs.declared.store.Store.TheInside.{Inside}
+use Rattle.hd_world.proofs.IdentityReadings.{is_some-map, names-get, name-is, named-is, objects-get}
 
 -- an address that has an identity has an object, and the other way round
-named_placed : (o : Option Placed) → is_some (option_map (λ (p : Placed). p.id) o) ≡ is_some o
-named_placed None = refl
-named_placed (Some p) = refl
-
-placed_object : (g : ℕ) (o : Option Placed) → is_some (option_map (object_in g) o) ≡ is_some o
-placed_object g None = refl
-placed_object g (Some p) = refl
-
 pub named-placed : (h : Heap) (at : Addr) → is_some (get (names_of h) at.0) ≡ is_some (get h.objects at.0)
-named-placed h at = ap is_some (names-get h at.0) ∙ named_placed (get h.objects at.0)
+named-placed h at =
+    ap is_some (names-get h at.0) ∙ is_some-map (λ (p : Placed). p.id) (get h.objects at.0)
 
 pub has-placed : (h : Heap) (at : Addr) → has_object h at ≡ is_some (get h.objects at.0)
-has-placed h at = placed_object (region_generation h (region_of at)) (get h.objects at.0)
+has-placed h at = is_some-map (object_in (region_generation h (region_of at))) (get h.objects at.0)
 
 pub known_object : (h : Heap) (at : Addr) → IsSome (get (names_of h) at.0) → has_object h at ≡ true
 known_object h at known = has-placed h at ∙ sym (named-placed h at) ∙ known
@@ -34,9 +28,9 @@ pub objects_named : (h : Heap) (v : Option Addr) → ((y : Addr) → v ≡ Some 
 objects_named h None each = tt
 objects_named h (Some y) each = object_known h y (each y refl)
 
-some_or : (o : Option Placed) (d : Placed) → is_some o ≡ true → o ≡ Some (unwrap_or o d)
+pub some_or : {A : Type 0} (o : Option A) (d : A) → is_some o ≡ true → o ≡ Some (unwrap_or o d)
 some_or None d e = absurd (subst T (sym e) tt)
-some_or (Some p) d e = refl
+some_or (Some x) d e = refl
 
 -- what is stored at the address of an object
 pub placed_is : (h : Heap) (at : Addr) → has_object h at ≡ true → get h.objects at.0 ≡ Some (placed_at h at)
@@ -114,3 +108,24 @@ module _ (f : Parts) (m : Machine) (view : machine_of f ≡ m) (stored : IsStore
       (objects_named f.heap (get_or (fields_at (object_at f.heap) at) i None) (λ y is.
       stored.whole.fields at y (subst (λ o. Contains (fields_at (object_at f.heap) at) o) is
       (Contains-get_or (fields_at (object_at f.heap) at) i None (subst (λ n. i < n) (sym count-is) within)))))
+
+-- the same of what a store has inside, for what a call of its heap returns
+module _ (i : Inside) (m : Machine) (view : machine_of (parts i) ≡ m) (stored : IsStored (parts i))
+    (at : Addr) (known : IsSome (get m.names at.0)) where
+  pub known-in : has_object i.heap at ≡ true
+  known-in = in_heap (parts i) m view stored at known
+
+  pub id-in : (x : Id) → x ≡ (placed_at i.heap at).id → x ≡ name_in m.names at
+  id-in x is = is ∙ identity-is (parts i) m view stored at known
+
+  pub count-in : (n : ℕ) → n ≡ length (fields_at (object_at i.heap) at)
+      → n ≡ length (object_named m at).fields
+  count-in n is = is ∙ count-is (parts i) m view stored at known
+
+  pub value-in : (v : ℕ) → v ≡ (placed_at i.heap at).value → v ≡ (object_named m at).value
+  value-in v is = is ∙ value-is (parts i) m view stored at known
+
+  pub generation-in : (g : ℕ) → g ≡ generation_at (object_at i.heap) at → g ≡ (object_named m at).generation
+  generation-in g is = is ∙ generation-is (parts i) m view stored at known
+
+pub ruleset object_reads = (known-in, id-in, count-in, value-in, generation-in)

@@ -1,13 +1,10 @@
 -- The address of an object may be returned as its pinned address.
-use Rattle.hd_world.proofs.StoreWords.{◌≡◌, ℕ, ◌<◌, ◌^◌, true, Option, Some, None, refl, sym, ap, ◌∙◌, subst, inl, inr, arith, option_map, is_some, IsSome, MatchOption, FinMap, get, insert, nat_cmp, cases_eq, Id, Addr, object_by_id, size_of, range_at, Meet, IsFreePlace, MayAnswer, with_places, Placed, region_of, has_object, placed_at, cells_of, names_of, name_in, Parts, state_of, IsStored, Machine, machine_of, object_named, AreAddresses, HasPlace, get_beside, get_inserted, same_Some}
+use Rattle.hd_world.proofs.StoreWords.{is_some, ◌≡◌, ℕ, ◌<◌, ◌^◌, true, Option, Some, None, refl, sym, ap, ◌∙◌, subst, inl, inr, arith, IsSome, MatchOption, FinMap, get, insert, nat_cmp, cases_eq, Id, Addr, object_by_id, size_of, range_at, Meet, IsFreePlace, MayAnswer, with_places, Placed, region_of, has_object, placed_at, cells_of, names_of, name_in, Parts, state_of, IsStored, Machine, machine_of, object_named, AreAddresses, HasPlace, get_beside, get_inserted, same_Some}
 use Rattle.hd_heap.specs.Sound.{IsSound}
+use Rattle.hd_model.proofs.SceneCollection.{mapped_value}
 use Rattle.hd_world.proofs.IdentityReadings.{no_some, names-get}
 use Rattle.hd_world.proofs.NamedAddresses.{object-named, known_object}
 use Rattle.hd_world.proofs.StateCounts.{read-size}
-
--- an address with an identity
-named_there : {A : Type 0} (o : Option A) (x : A) → o ≡ Some x → IsSome o
-named_there o x is = subst IsSome (sym is) refl
 
 module _ (f : Parts) (stored : IsStored f) (sound : IsSound f.heap) where
   abbrev m : Machine
@@ -36,22 +33,19 @@ module _ (f : Parts) (stored : IsStored f) (sound : IsSound f.heap) where
         | inr (inr more) ↦ let gap = sound.apart y x there here more in omega (arith, gap, meet.left, yours)
       ]
 
+  -- the object at an address with an identity
+  identified : (a : ℕ) (x : Id) → get (names_of f.heap) a ≡ Some x → (p : Placed)
+      × ((get f.heap.objects a ≡ Some p) × (p.id ≡ x))
+  identified a x named =
+      mapped_value (λ (p : Placed). p.id) (get f.heap.objects a) x (sym (names-get f.heap a) ∙ named)
+
   -- two addresses with one identity are one
   one_address : (a b : ℕ) (x : Id) → get (names_of f.heap) a ≡ Some x → get (names_of f.heap) b ≡ Some x
       → a ≡ b
-  one_address a b x first second = by (get f.heap.objects a) (get f.heap.objects b) refl refl
-    where
-      by : (o p : Option Placed) → get f.heap.objects a ≡ o → get f.heap.objects b ≡ p → a ≡ b
-      by None p e k = absurd (no_some x (sym first ∙ names-get f.heap a
-          ∙ ap (option_map (λ (w : Placed). w.id)) e))
-      by (Some o) None e k = absurd (no_some x
-          (sym second ∙ names-get f.heap b ∙ ap (option_map (λ (w : Placed). w.id)) k))
-      by (Some o) (Some p) e k =
-          stored.identities a b o p e k
-          (same_Some o.id x (sym (ap (option_map (λ (w : Placed). w.id)) e) ∙ sym (names-get f.heap a)
-          ∙ first)
-          ∙ sym (same_Some p.id x (sym (ap (option_map (λ (w : Placed). w.id)) k) ∙ sym (names-get f.heap b)
-          ∙ second)))
+  one_address a b x first second =
+      let (o, one) = identified a x first in
+      let (p, other) = identified b x second in
+      stored.identities a b o p one.0 other.0 (one.1 ∙ sym other.1)
 
   module _ (at : Addr) (known : IsSome (get (names_of f.heap) at.0)) where
     abbrev id : Id
@@ -81,7 +75,7 @@ module _ (f : Parts) (stored : IsStored f) (sound : IsSound f.heap) where
             let there : Addr = record { 0 = other } in
             let name = are y.0 other is in
             let object = known_object f.heap there
-            (named_there (get (names_of f.heap) other) (record { 0 = y.0 }) name) in
+            (ap is_some name) in
             let mine = name_from other (record { 0 = y.0 }) name in
             meets_none at there here object
             (λ same. no_some other (sym is ∙ ap (λ (i : Id). get p i.0)

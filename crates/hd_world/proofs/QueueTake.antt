@@ -1,11 +1,20 @@
 -- The first object is taken out of a store's queue.
-use Rattle.hd_world.proofs.StoreWords.{◌≡◌, suc, map, ◌∷◌, [], Option, Some, None, refl, sym, ap, ◌∙◌, subst, arith, Contains, MatchOption, Addr, with_queue, id_at, Queue, names_of, name_in, IsNamed, Parts, IsStored, Machine, machine_of, same_Some}
+use Rattle.hd_world.proofs.StoreWords.{refl, [], ◌≡◌, ◌≤◌, map, len, ◌∷◌, Option, Some, None, sym, ap, ◌∙◌, subst, arith, Contains, MatchOption, Addr, with_queue, id_at, Queue, names_of, name_in, IsNamed, Parts, IsStored, Machine, machine_of, same_Some}
+use Rattle.hd_model.proofs.Members.{first_in, later_in}
 use Rattle.hd_world.proofs.IdentityReadings.{name-is}
+use Rattle.hd_world.proofs.RootAccess.{stored-named}
 use Rattle.hd_world.proofs.NamedAddresses.{objects_named}
 
 -- the parts with another queue
 abbrev pub with_new_queue : Parts → Queue → Parts
 with_new_queue f q = record f { queue = q }
+
+-- a queue that has no more in it, and room for all objects
+pub stored-waiting : (f : Parts) (q : Queue) → IsStored f
+    → ((x : Addr) → Contains q.waiting x → Contains f.queue.waiting x) → len f.heap.objects ≤ q.room
+    → IsStored (with_new_queue f q)
+stored-waiting f q stored is_queued room =
+    stored-named f f.roots q stored refl stored.whole.named (λ x c. stored.whole.queue x (is_queued x c)) room
 
 module _ (f : Parts) (m : Machine) (view : machine_of f ≡ m) (q : Queue) where
   pub queue-none : f.queue.waiting ≡ [] → m.state.queue ≡ []
@@ -30,35 +39,13 @@ module _ (f : Parts) (m : Machine) (view : machine_of f ≡ m) (q : Queue) where
     first-named stored =
         subst (λ (n : Machine). IsNamed n.names (Some at)) view
         (objects_named f.heap (Some at) (λ y same. stored.whole.queue y
-        (is_queued y (subst (Contains (at ∷ q.waiting)) (some_is y same) (0, omega arith, refl)))))
-      where
-        some_is : (y : Addr) → Some at ≡ Some y → at ≡ y
-        some_is y same = same_Some at y same
+        (is_queued y (subst (Contains (at ∷ q.waiting)) (same_Some at y same) (first_in at q.waiting)))))
 
     pub stored-queue : IsStored f → IsStored (with_new_queue f q)
-    stored-queue stored = record {
-      whole = record {
-        fields = stored.whole.fields;
-        named = stored.whole.named;
-        queue = λ x c. stored.whole.queue x (is_queued x (let within = c.1 in (suc c.0, omega arith, c.2)));
-        targets = stored.whole.targets;
-        secondaries = stored.whole.secondaries;
-        paired = stored.whole.paired;
-        fits = stored.whole.fits;
-      };
-      identities = stored.identities;
-      ages = stored.ages;
-      cards = stored.cards;
-      full = stored.full;
-      room = let same = ap (λ (w : Queue). w.room) is in omega (arith, stored.room, same);
-      within = stored.within;
-      limit = stored.limit;
-      roots = stored.roots;
-      serials = stored.serials;
-      clumps = stored.clumps;
-      blocks = stored.blocks;
-      uses = stored.uses;
-    }
+    stored-queue stored =
+        let same = ap (λ (w : Queue). w.room) is in
+        stored-waiting f q stored (λ x c. is_queued x (later_in at q.waiting x c))
+        (omega (arith, stored.room, same))
 
 -- what the queue returns, whether it is empty or not
 abbrev pub IsPop : Parts → Queue → Option Addr → Type 0

@@ -1,5 +1,5 @@
 -- What the roots of a store reference: registers and statics read and written.
-use Rattle.hd_world.proofs.StoreWords.{◌≡◌, ℕ, ◌+◌, ◌*◌, ◌<◌, true, map, length, get_or, set, Option, Some, None, refl, sym, ap, ◌∙◌, subst, inl, inr, arith, option_map, Contains, IfSome, map-set, length-set, get_or_default, Addr, register_of, static_of, with_register, with_static, has_object, id_at, rows_of, rest_of, named_in, IsNamed, Parts, callers_of, state_of, IsStored, Machine, machine_of}
+use Rattle.hd_world.proofs.StoreWords.{◌≡◌, ℕ, ◌+◌, ◌*◌, ◌<◌, ◌≤◌, true, List, map, len, length, get_or, set, Option, Some, None, refl, sym, ap, ◌∙◌, subst, inl, inr, arith, option_map, Contains, IfSome, map-set, length-set, get_or_default, Addr, register_of, static_of, with_register, with_static, has_object, id_at, rows_of, rest_of, named_in, IsNamed, Queue, Parts, callers_of, state_of, IsStored, Machine, machine_of}
 use Rattle.hd_world.proofs.RootRows.{rows-get, rest-get, rows-set, rest-set_row, rest-set, rows-set_rest}
 use Rattle.hd_world.proofs.IdentityReadings.{named-is}
 use Rattle.hd_world.proofs.NamedAddresses.{named_objects, objects_named, field-read}
@@ -8,6 +8,35 @@ use Rattle.hd_world.proofs.Barrier.{contains_set}
 -- the parts with another root at an index
 abbrev pub with_root : Parts → ℕ → Option Addr → Parts
 with_root f i v = record f { roots = set f.roots i v }
+
+-- other roots and another queue, which reference objects
+pub stored-named : (f : Parts) (roots : List (Option Addr)) (q : Queue) → IsStored f
+    → length f.roots ≡ length roots → ((x : Addr) → Contains roots (Some x) → has_object f.heap x ≡ true)
+    → ((x : Addr) → Contains q.waiting x → has_object f.heap x ≡ true) → len f.heap.objects ≤ q.room
+    → IsStored (record f { roots = roots; queue = q })
+stored-named f roots q stored long named queue room = record {
+  identities = stored.identities;
+  ages = stored.ages;
+  cards = stored.cards;
+  full = stored.full;
+  room = room;
+  whole = record {
+    fields = stored.whole.fields;
+    named = named;
+    queue = queue;
+    targets = stored.whole.targets;
+    secondaries = stored.whole.secondaries;
+    paired = stored.whole.paired;
+    fits = stored.whole.fits;
+  };
+  within = stored.within;
+  limit = stored.limit;
+  serials = stored.serials;
+  clumps = stored.clumps;
+  roots = stored.roots ∙ long;
+  blocks = stored.blocks;
+  uses = stored.uses;
+}
 
 module _ (f : Parts) (m : Machine) (view : machine_of f ≡ m) (stored : IsStored f) where
   -- how a root is read
@@ -56,32 +85,11 @@ module _ (f : Parts) (m : Machine) (view : machine_of f ≡ m) (stored : IsStore
   stored-root i v named =
       let objects : IfSome v (λ y. has_object f.heap y ≡ true) =
       named_objects f.heap v (subst (λ (n : Machine). IsNamed n.names v) (sym view) named) in
-      record {
-        whole = record {
-          fields = stored.whole.fields;
-          named = λ x c. elim (contains_set f.roots i v (Some x) c) [
-            | inl was ↦ stored.whole.named x was
-            | inr is ↦ subst (λ o. IfSome o (λ z. has_object f.heap z ≡ true)) is objects
-          ];
-          queue = stored.whole.queue;
-          targets = stored.whole.targets;
-          secondaries = stored.whole.secondaries;
-          paired = stored.whole.paired;
-          fits = stored.whole.fits;
-        };
-        identities = stored.identities;
-        ages = stored.ages;
-        cards = stored.cards;
-        full = stored.full;
-        room = stored.room;
-        within = stored.within;
-        limit = stored.limit;
-        roots = stored.roots ∙ sym (length-set f.roots i v);
-        serials = stored.serials;
-        clumps = stored.clumps;
-        blocks = stored.blocks;
-        uses = stored.uses;
-      }
+      stored-named f (set f.roots i v) f.queue stored (sym (length-set f.roots i v)) (λ x c.
+      elim (contains_set f.roots i v (Some x) c) [
+        | inl was ↦ stored.whole.named x was
+        | inr is ↦ subst (λ o. IfSome o (λ z. has_object f.heap z ≡ true)) is objects
+      ]) stored.whole.queue stored.room
 
   roots_set : (i : ℕ) (v : Option Addr) → map (option_map (id_at f.heap)) (set f.roots i v) ≡ set
       (map (option_map (id_at f.heap)) f.roots) i (named_in m.names v)

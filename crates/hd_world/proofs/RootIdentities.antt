@@ -1,5 +1,5 @@
 -- The roots of a store by identity are those of its table, each with the identity of its object.
-use Rattle.hd_world.proofs.StoreWords.{◌≡◌, ℕ, ◌≤◌, ◌<◌, ◌^◌, length, Result, Ok, Err, IfOk, Vec, Global, arith, true, ◌&&◌, T, List, [], ◌∷◌, ◌++◌, All, map, Option, Some, None, refl, sym, ap, ◌∙◌, subst, option_map, option_to_list, FinMap, is_sorted, entries, from_entries, from_sorted, entries_sorted, entries-from_sorted, get-entries, len, len-entries, get-from_sorted, get-from_entries, nat_cmp, is_lt, nat_cmp_total, map-append, length-append, Id, Addr, Kind, RootId, Slot, Handle, State, rename_handle, Role, holds, short, long, attaches, role, Heap, id_at, has_object, rows_by_id, Parts, IsStored}
+use Rattle.hd_world.proofs.StoreWords.{[], ◌≡◌, ℕ, ◌≤◌, ◌<◌, ◌^◌, length, Result, Ok, Err, IfOk, Vec, Global, arith, true, ◌&&◌, T, List, ◌∷◌, ◌++◌, All, Contains, map, Option, Some, None, refl, sym, ap, ◌∙◌, subst, option_map, option_to_list, FinMap, is_sorted, entries, from_entries, from_sorted, entries_sorted, entries-from_sorted, len, len-entries, get-from_sorted, get-from_entries, nat_cmp, is_lt, nat_cmp_total, map-append, length-append, Id, Addr, Kind, RootId, Slot, Handle, State, rename_handle, Role, holds, short, long, attaches, role, Heap, id_at, has_object, rows_by_id, Parts, IsStored}
 use Rattle.std.specs.FinMap.Entries.{below_all}
 use Rattle.std.proofs.lemmas.List.Elements.{All-nil, All-cons, All-append}
 use Rattle.hd_model.specs.RootText.{held_by, held_of, root_in, roots_in, root_id}
@@ -7,7 +7,9 @@ use Rattle.hd_model.proofs.RenamedPins.{role_renamed}
 use Rattle.hd_scan.specs.declared.gathering.Root.{Root}
 use Rattle.hd_scan.specs.Gathering.{root_by, roots_of}
 use Rattle.hd_world.specs.Listing.{root_named}
-use Rattle.hd_world.proofs.EntryMaps.{Among, first, later, find-among, same_numbers}
+use Rattle.hd_model.proofs.Entries.{get_entry}
+use Rattle.hd_model.proofs.Members.{first_in, later_in}
+use Rattle.hd_world.proofs.EntryMaps.{same_numbers}
 
 -- ---- entries of a map with other values
 
@@ -87,21 +89,20 @@ module _ (h : Heap) where
   holds_object slot k attaches o is = All-nil IsSound
 
   all_hold : (es : List (ℕ × Handle Addr))
-      → ((k : ℕ) (v : Handle Addr) → Among k v es → (a : Addr) → v.target ≡ Some a → has_object h a ≡ true)
+      → ((k : ℕ) (v : Handle Addr) → Contains es (k, v) → (a : Addr) → v.target ≡ Some a
+      → has_object h a ≡ true)
       → All IsSound (roots_in root_by es)
   all_hold [] of = All-nil IsSound
   all_hold (e ∷ es) of =
       All-append IsSound (root_in root_by e) (roots_in root_by es)
-      (holds_object (record { 0 = e.0 }) e.1.kind (role e.1) e.1.target (of e.0 e.1 first))
-      (all_hold es (λ k v among. of k v (later among)))
+      (holds_object (record { 0 = e.0 }) e.1.kind (role e.1) e.1.target (of e.0 e.1 (first_in e es)))
+      (all_hold es (λ k v among. of k v (later_in e es (k, v) among)))
 
 pub roots-hold : (f : Parts) → IsStored f
     → All (λ (root : Root). has_object f.heap root.at ≡ true) (roots_of f.table)
 roots-hold f stored =
-    all_hold f.heap (entries f.table.rows) (λ k v among a is.
-    stored.whole.targets k v a
-    (get-entries f.table.rows k
-    ∙ find-among k v (entries f.table.rows) (entries_sorted f.table.rows) among) is)
+    all_hold f.heap (entries f.table.rows)
+    (λ k v among a is. stored.whole.targets k v a (get_entry f.table.rows k v among) is)
 
 -- ---- there are no more roots than handles
 

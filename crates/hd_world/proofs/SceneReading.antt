@@ -1,5 +1,6 @@
 -- The state of a store is a reading of what its collection reads.
-use Rattle.hd_world.proofs.StoreWords.{◌≡◌, ℕ, zero, suc, ◌++◌, true, List, map, take, drop, Option, Some, None, refl, sym, ap, ◌∙◌, subst, option_map, is_some, T, get, take-append-drop, append_assoc, Id, Addr, rename_object, scene_of, joined, is_object, IsReading, Placed, region_of, region_generation, object_in, object_at, has_object, placed_at, id_in, id_at, HasIdentities, rows_of, rest_of, objects_by_id, Parts, callers_of, state_of, scene_of_parts}
+use Rattle.hd_world.proofs.StoreWords.{◌≡◌, ℕ, zero, suc, ◌++◌, true, List, map, take, drop, Some, refl, sym, ap, ◌∙◌, option_map, is_some, get, take-append-drop, append_assoc, Id, Addr, rename_object, scene_of, joined, is_object, IsReading, Placed, region_of, region_generation, object_in, object_at, has_object, placed_at, id_in, id_at, HasIdentities, rows_of, rest_of, objects_by_id, Parts, callers_of, state_of, scene_of_parts}
+use Rattle.hd_model.proofs.Entries.{some_value}
 use Rattle.hd_world.proofs.IdentityReadings.{same_id, rows-get, objects-get, objects-under}
 use Rattle.hd_world.proofs.NamedAddresses.{placed_is, object_is}
 
@@ -10,11 +11,6 @@ rows-all zero xs = refl
 rows-all (suc n) xs =
     append_assoc (take 16 xs) (joined (rows_of n (drop 16 xs))) (rest_of n (drop 16 xs))
     ∙ ap (λ ys. take 16 xs ++ ys) (rows-all n (drop 16 xs)) ∙ take-append-drop 16 xs
-
--- the item of an option that has one
-pub found : {A : Type 0} (o : Option A) → is_some o ≡ true → (x : A) × (o ≡ Some x)
-found None e = absurd (subst T (sym e) tt)
-found (Some x) e = (x, refl)
 
 module _ (f : Parts) (identities : HasIdentities f.heap) where
   id_here : (x : Addr) → has_object f.heap x ≡ true → id_at f.heap x ≡ (placed_at f.heap x).id
@@ -36,7 +32,7 @@ module _ (f : Parts) (identities : HasIdentities f.heap) where
   pub address_of : (y : Id) → is_object (scene_of (state_of f)).object y ≡ true → (x : Addr)
       × ((has_object f.heap x ≡ true) × (id_at f.heap x ≡ y))
   address_of y is =
-      let (o, there) = found (get (objects_by_id f.heap) y.0) is in
+      let (o, there) = some_value (get (objects_by_id f.heap) y.0) is in
       let u = objects-under f.heap y.0 o there in (
         record { 0 = u.at },
         (has_it u.at u.value u.is_stored, ap id_in u.is_stored ∙ same_id u.value.id y u.keyed),

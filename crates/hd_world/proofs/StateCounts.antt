@@ -1,5 +1,5 @@
 -- Objects, rows and words are as many by identity as by address.
-use Rattle.hd_world.proofs.StoreWords.{◌≡◌, ℕ, ◌+◌, List, [], ◌∷◌, map, refl, ap, ◌∙◌, arith, sum_by, option_map, FinMap, len, entries, values, nat_cmp, length-map, Addr, Handle, size_of, rename_handle, Placed, Heap, id_at, cells_of, used_of, HasIdentities, read_object, objects_by_id, rows_by_id}
+use Rattle.hd_world.proofs.StoreWords.{◌≡◌, ℕ, ◌+◌, ◌*◌, ◌≤◌, List, [], ◌∷◌, map, length, refl, ap, ◌∙◌, arith, sum_by, option_map, FinMap, len, len-entries, entries, values, nat_cmp, length-map, Addr, Handle, size_of, rename_handle, Placed, Heap, id_at, cells_of, used_of, HasIdentities, read_object, objects_by_id, rows_by_id}
 use Rattle.std.proofs.lemmas.List.Sums.{sum_by-cons}
 use Rattle.hd_world.proofs.EntryMaps.{rekeyed}
 use Rattle.hd_world.proofs.EntrySums.{sum-fresh, fresh-rekeyed, len-rekeyed, len-mapped}
@@ -35,3 +35,12 @@ used-is h identities =
     sum-fresh size_of (rekeyed (λ (p : Placed). p.id.0) (read_object h) (entries h.objects))
     (fresh-rekeyed (λ (p : Placed). p.id.0) (read_object h) h.objects (apart_by_number h identities))
     ∙ sum_read h (entries h.objects)
+
+-- each object takes at least three words
+cells_least : (es : List (ℕ × Placed)) → 3 * length es ≤ sum_by cells_of (map (λ e. e.1) es)
+cells_least [] = omega arith
+cells_least (e ∷ es) = let sum = sum_by-cons cells_of e.1 (map (λ w. w.1) es) in omega
+    (arith, sum, cells_least es)
+
+pub few_objects : (h : Heap) → 3 * len h.objects ≤ used_of h
+few_objects h = let long = len-entries h.objects in omega (arith, long, cells_least (entries h.objects))

@@ -1,8 +1,9 @@
 -- One more object in a heap: the readings of all else stay.
-use Rattle.hd_world.proofs.StoreWords.{◌≡◌, ℕ, true, List, map, Option, Some, None, refl, sym, ap, ◌∙◌, subst, inl, inr, option_map, is_some, IsSome, Contains, T, FinMap, get, insert, nat_cmp, cases_eq, Id, Addr, Object, Handle, secondary_of, rename_object, rename_handle, is_object, fields_in, IsField, Placed, Heap, region_generation, region_of, object_in, object_at, id_in, id_at, HasIdentities, names_of, read_object, objects_by_id, rows_by_id, get_beside, get_inserted, same_Some}
+use Rattle.hd_world.proofs.StoreWords.{◌≡◌, ℕ, true, List, map, Option, Some, None, refl, sym, ap, ◌∙◌, subst, inl, inr, option_map, is_some, IsSome, Contains, T, FinMap, get, insert, nat_cmp, cases_eq, Addr, Handle, secondary_of, rename_object, rename_handle, is_object, fields_in, IsField, Placed, Heap, region_generation, region_of, object_in, object_at, id_in, id_at, HasIdentities, names_of, read_object, objects_by_id, rows_by_id, get_beside, get_inserted}
 use Rattle.hd_world.proofs.EntryMaps.{same_numbers}
+use Rattle.hd_world.proofs.NamedAddresses.{has-placed}
 use Rattle.hd_world.proofs.NameAgreement.{map_agrees, names_agree, object_agrees, handle_agrees}
-use Rattle.hd_world.proofs.IdentityReadings.{names-get, rows-get, objects-get, objects-under, HasObjectOf, objects-are}
+use Rattle.hd_world.proofs.IdentityReadings.{no_some, names-get, rows-get, put-here, put-beside, Puts, identities-put, objects-put}
 
 -- the heap k is h with one more object, whose identity none has
 pub record Adds (h k : Heap) (a : ℕ) (new : Placed) : Type 0 where
@@ -12,20 +13,22 @@ pub record Adds (h k : Heap) (a : ℕ) (new : Placed) : Type 0 where
   pub generations : (b : Addr) → IsSome (get h.objects b.0)
       → region_generation k (region_of b) ≡ region_generation h (region_of b)
 
-is_placed : (h : Heap) (x : Addr) (o : Option Placed)
-    → is_some (option_map (object_in (region_generation h (region_of x))) o) ≡ true → is_some o ≡ true
-is_placed h x None e = e
-is_placed h x (Some p) e = refl
-
 pub placed : (h : Heap) (x : Addr) → is_object (object_at h) x ≡ true → is_some (get h.objects x.0) ≡ true
-placed h x e = is_placed h x (get h.objects x.0) e
+placed h x e = sym (has-placed h x) ∙ e
 
 module _ (h k : Heap) (a : ℕ) (new : Placed) (r : Adds h k a new) where
   at_it : get k.objects a ≡ Some new
-  at_it = ap (λ m. get m a) r.objects ∙ get_inserted h.objects a new
+  at_it = put-here h k a new r.objects
 
   elsewhere : (b : ℕ) → (b ≡ a → ⊥) → get k.objects b ≡ get h.objects b
-  elsewhere b apart = ap (λ m. get m b) r.objects ∙ get_beside h.objects a new b apart
+  elsewhere = put-beside h k a new r.objects
+
+  puts : Puts h k a new
+  puts = record {
+    objects = r.objects;
+    was = λ p is. absurd (no_some p (sym is ∙ r.vacant));
+    fresh = λ b p apart is same. r.fresh b p is same;
+  }
 
   other : (b : ℕ) → is_some (get h.objects b) ≡ true → b ≡ a → ⊥
   other b there same = subst T (sym there ∙ ap (λ c. is_some (get h.objects c)) same ∙ ap is_some r.vacant) tt
@@ -47,24 +50,7 @@ module _ (h k : Heap) (a : ℕ) (new : Placed) (r : Adds h k a new) where
       ])
 
   pub identities-add : HasIdentities h → HasIdentities k
-  identities-add identities b c p q first second same =
-      elim (cases_eq b a) [
-        | inl here ↦ elim (cases_eq c a) [
-          | inl there ↦ here ∙ sym there
-          | inr apart ↦
-              let it : new ≡ p = same_Some new p (sym at_it ∙ ap (get k.objects) (sym here) ∙ first) in
-              absurd (r.fresh c q (sym (elsewhere c apart) ∙ second)
-              (ap (λ (i : Id). i.0) (sym same) ∙ ap (λ (o : Placed). o.id.0) (sym it)))
-        ]
-        | inr away ↦ elim (cases_eq c a) [
-          | inl there ↦
-              let it : new ≡ q = same_Some new q (sym at_it ∙ ap (get k.objects) (sym there) ∙ second) in
-              absurd (r.fresh b p (sym (elsewhere b away) ∙ first)
-              (ap (λ (i : Id). i.0) same ∙ ap (λ (o : Placed). o.id.0) (sym it)))
-          | inr apart ↦ identities b c p q (sym (elsewhere b away) ∙ first)
-              (sym (elsewhere c apart) ∙ second) same
-        ]
-      ]
+  identities-add = identities-put h k a new puts
 
   -- references to objects of h are read as they were
   pub roots-add : (names : List (Option Addr))
@@ -114,37 +100,4 @@ module _ (h k : Heap) (a : ℕ) (new : Placed) (r : Adds h k a new) where
   pub objects-add : HasIdentities h
       → ((x y : Addr) → IsField (object_at h) x y → is_object (object_at h) y ≡ true)
       → objects_by_id k ≡ insert (objects_by_id h) new.id.0 (read_object k a new)
-  objects-add identities whole = objects-are k (insert (objects_by_id h) new.id.0 (read_object k a new))
-      (identities-add identities) each only
-    where
-      each : (b : ℕ) (p : Placed) → get k.objects b ≡ Some p
-          → get (insert (objects_by_id h) new.id.0 (read_object k a new)) p.id.0 ≡ Some (read_object k b p)
-      each b p is =
-          elim (cases_eq b a) [
-            | inl here ↦
-                let it : new ≡ p = same_Some new p (sym at_it ∙ ap (get k.objects) (sym here) ∙ is) in
-                ap (λ (q : Placed). get (insert (objects_by_id h) new.id.0 (read_object k a new)) q.id.0)
-                (sym it)
-                ∙ get_inserted (objects_by_id h) new.id.0 (read_object k a new)
-                ∙ ap Some (ap (λ c. read_object k c new) (sym here) ∙ ap (read_object k b) it)
-            | inr apart ↦
-                let before : get h.objects b ≡ Some p = sym (elsewhere b apart) ∙ is in
-                get_beside (objects_by_id h) new.id.0 (read_object k a new) p.id.0 (r.fresh b p before)
-                ∙ objects-get h identities b p before ∙ ap Some (sym (read-add whole b p before))
-          ]
-
-      only : (x : ℕ) (o : Object Id)
-          → get (insert (objects_by_id h) new.id.0 (read_object k a new)) x ≡ Some o → HasObjectOf k x
-      only x o is =
-          elim (cases_eq x new.id.0) [
-            | inl here ↦ record { at = a; value = new; is_stored = at_it; named = sym here }
-            | inr apart ↦
-                let u = objects-under h x o
-                (sym (get_beside (objects_by_id h) new.id.0 (read_object k a new) x apart) ∙ is) in
-                record {
-                  at = u.at;
-                  value = u.value;
-                  is_stored = elsewhere u.at (other u.at (ap is_some u.is_stored)) ∙ u.is_stored;
-                  named = u.keyed;
-                }
-          ]
+  objects-add identities whole = objects-put h k a new puts identities (read-add whole)

@@ -1,11 +1,13 @@
 -- A collection of a store's parts is one of its state, and leaves a store.
 use Rattle.hd_world.proofs.StoreWords.{same_Some}
-use Rattle.std.proofs.Common.{◌≡◌, ℕ, ◌++◌, ◌∷◌, [], true, false, Bool, cond, List, map, take, drop, length, Option, Some, None, refl, sym, ap, ◌∙◌, subst, arith}
+use Rattle.std.proofs.Common.{[], ◌≡◌, ℕ, ◌++◌, ◌∷◌, true, false, Bool, cond, List, map, take, drop, length, Option, Some, None, refl, sym, ap, ◌∙◌, subst, arith}
 use Rattle.std.specs.Prelude.{option_map, is_some, IsSome, Result, Ok, Err, MatchResult}
 use Rattle.std.specs.FinMap.{FinMap, get, get-retain_keys, nat_cmp-IsAntisymmetric}
 use Rattle.std.specs.Ordering.{nat_cmp}
 use Rattle.std.proofs.lemmas.List.{length-map}
-use Rattle.hd_world.specs.MachineData.{Id, Addr, Report}
+use Rattle.hd_model.specs.declared.data.Id.{Id}
+use Rattle.hd_model.specs.declared.data.Addr.{Addr}
+use Rattle.hd_model.specs.declared.data.Report.{Report}
 use Rattle.hd_model.specs.declared.data.Memory.{Memory}
 use Rattle.hd_model.specs.State.{Handle, BlockUse, rename_handle}
 use Rattle.hd_model.specs.Role.{pins}

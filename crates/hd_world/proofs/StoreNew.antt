@@ -9,6 +9,7 @@ use Rattle.hd_world.proofs.StateCounts.{used-is}
 use Rattle.hd_model.proofs.Sums.{share, sum-insert}
 use Rattle.hd_world.proofs.IdentityReadings.{no_some, names-get, objects-get}
 use Rattle.hd_world.proofs.NamedAddresses.{has-placed}
+use Rattle.hd_world.proofs.QueueTake.{stored-waiting}
 use Rattle.hd_world.proofs.StoreAdd.{Adds, placed, names-add, identities-add, roots-add, queue-add, rows-add, objects-add}
 use Rattle.hd_heap.proofs.HeapValues.{same_address}
 
@@ -19,6 +20,11 @@ none_at (suc n) (suc k) x within is = none_at n k x (omega arith) is
 
 pub no_names : {A : Type 0} (n : ℕ) (x : A) → Contains (replicate n None) (Some x) → ⊥
 no_names {A} n x c = none_at n c.0 x (subst (λ size. c.0 < size) (length-replicate n None) c.1) c.2
+
+pub nothing_mapped : {A B : Type 0} (f : A → B) (n : ℕ)
+    → map (option_map f) (replicate n None) ≡ replicate n None
+nothing_mapped f zero = refl
+nothing_mapped f (suc n) = ap (λ xs. None ∷ xs) (nothing_mapped f n)
 
 abbrev region_of_option : Option Region → ℕ
 region_of_option o = (unwrap_or {T = Region} o (record { generation = 0; fill = 0 })).generation
@@ -199,13 +205,9 @@ module _ (f : Parts) (k : Heap) (at : Addr) (id : Id) (count : ℕ) (fin : Bool)
     uses = stored.uses;
   }
 
-  map_none : (g : Addr → Id) (n : ℕ) → map (option_map g) (replicate n None) ≡ replicate n None
-  map_none g zero = refl
-  map_none g (suc n) = ap (λ xs. None ∷ xs) (map_none g n)
-
   read_new : read_object k at.0 (new_object id count fin) ≡ fresh_object count fin
   read_new = λ i. record {
-    fields = map_none (id_at k) count i;
+    fields = nothing_mapped (id_at k) count i;
     value = 0;
     generation = (kept_generation at ∙ made.young) i;
     registered = fin;
@@ -320,22 +322,8 @@ module _ (f : Parts) (m : Machine) (view : machine_of f ≡ m) (stored : IsStore
   pub stored-room : IsStored (record f { heap = k; queue = q })
   stored-room =
       subst (λ h. IsStored (record f { heap = h; queue = q })) (sym same)
-      (subst (λ waiting. IsStored (record f { queue = record { waiting = waiting; room = q.room } }))
-      (sym more.0) (record {
-        whole = stored.whole;
-        identities = stored.identities;
-        ages = stored.ages;
-        cards = stored.cards;
-        full = stored.full;
-        room = omega (arith, stored.room, more.1);
-        within = stored.within;
-        limit = stored.limit;
-        roots = stored.roots;
-        serials = stored.serials;
-        clumps = stored.clumps;
-        blocks = stored.blocks;
-        uses = stored.uses;
-      }))
+      (stored-waiting f q stored (λ x c. subst (λ xs. Contains xs x) more.0 c)
+      (omega (arith, stored.room, more.1)))
 
 -- a refused object, in the words of the machine
 module _ (f : Parts) (m : Machine) (view : machine_of f ≡ m) (stored : IsStored f) (k : Heap) (q : Queue)

@@ -1,17 +1,13 @@
 -- A store at first: nothing is made, and each register, static and entry of the board is null or empty.
-use Rattle.hd_world.proofs.StoreWords.{◌≡◌, ℕ, zero, suc, ◌+◌, ◌*◌, ◌≤◌, List, [], ◌∷◌, map, length, replicate, Option, Some, None, refl, sym, ap, ◌∙◌, subst, arith, option_map, IsSome, Contains, T, sum_by, is_some, true, get, empty, entries, values, from_entries, get-empty, len-empty, len-entries, nat_cmp, length-replicate, Addr, Object, Handle, rename_handle, start_of, fields_in, Placed, Region, is_in_use, region_of, region_generation, object_in, object_at, cells_of, id_at, empty_table, rows_of, rest_of, names_of, read_object, objects_by_id, rows_by_id, Parts, callers_of, state_of, numbers_of, IsStored}
+use Rattle.hd_world.proofs.StoreWords.{◌≡◌, ℕ, ◌+◌, ◌*◌, ◌≤◌, List, [], ◌∷◌, map, length, replicate, Option, Some, None, refl, sym, ap, ◌∙◌, subst, arith, option_map, IsSome, Contains, T, sum_by, is_some, true, get, empty, entries, values, from_entries, get-empty, len-empty, len-entries, nat_cmp, length-replicate, Addr, Object, Handle, rename_handle, start_of, fields_in, Placed, Region, is_in_use, region_of, region_generation, object_in, object_at, cells_of, id_at, empty_table, rows_of, rest_of, names_of, read_object, objects_by_id, rows_by_id, Parts, callers_of, state_of, numbers_of, IsStored}
 use Rattle.hd_world.proofs.IdentityReadings.{no_some}
 use Rattle.hd_model.proofs.Members.{not_in_none}
 use Rattle.hd_heap.specs.Calls.{empty_heap}
-use Rattle.hd_world.proofs.StoreNew.{no_names}
+use Rattle.hd_world.proofs.StoreNew.{no_names, nothing_mapped}
 use Rattle.hd_world.proofs.RootRows.{rows-first, rest-first}
 
 nothing_at : {A : Type 0} (q : ℕ) (x : A) → get (empty {X = A} {R = nat_cmp}) q ≡ Some x → ⊥
 nothing_at q x e = no_some x (sym e ∙ get-empty nat_cmp q)
-
-nothing_mapped : {A B : Type 0} (f : A → B) (n : ℕ) → map (option_map f) (replicate n None) ≡ replicate n None
-nothing_mapped f zero = refl
-nothing_mapped f (suc n) = ap (λ xs. None ∷ xs) (nothing_mapped f n)
 
 no_entries : {A : Type 0} → entries (empty {X = A} {R = nat_cmp}) ≡ []
 no_entries {A} = by (entries (empty {X = A} {R = nat_cmp}))

@@ -1,12 +1,15 @@
 -- Rows of a store that change: what the machine sees, and that the store keeps what it keeps.
-use Rattle.hd_world.proofs.StoreWords.{◌≡◌, ℕ, ◌*◌, ◌/◌, ◌≤◌, Bool, true, false, not, cond, Option, Some, None, refl, sym, ap, ◌∙◌, subst, inl, inr, arith, option_map, unwrap_or, IsSome, IfSome, is_some, T, Result, Ok, Err, IfOk, OnErr, FinMap, get, insert, remove, get-remove, nat_cmp, eq_by_cmp, nat_cmp_total, cases_eq, Id, Addr, Slot, Kind, Grown, Extra, nothing, strength, secondary, count, Handle, BlockUse, handles_of, extra_data, handle_at, use_of, block_of, secondary_of, rename_handle, with_handle, without_handle, role, attaches, is_object, generation_at, age_of, Heap, object_at, id_at, Table, fits, kind_in, kind_at, live_at, is_single, grown_by, IsGrowth, without_block, with_row, without_row, rows_by_id, IsNamed, Parts, state_of, IsStored, Machine, machine_of, object_named, kind_in_use, is_paired, handle_named, MayBeStored, get_beside, get_inserted, same_Some}
+use Rattle.hd_world.proofs.StoreWords.{◌≡◌, ℕ, ◌*◌, ◌/◌, ◌≤◌, Bool, true, false, not, cond, List, length, length-set, Option, Some, None, refl, sym, ap, ◌∙◌, subst, inl, inr, arith, option_map, unwrap_or, IsSome, IfSome, is_some, T, Result, Ok, Err, IfOk, OnErr, FinMap, get, insert, remove, get-remove, nat_cmp, eq_by_cmp, nat_cmp_total, cases_eq, Id, Addr, Slot, Kind, Grown, Extra, nothing, strength, secondary, count, Handle, BlockUse, handles_of, extra_data, handle_at, use_of, block_of, secondary_of, rename_handle, with_handle, without_handle, role, attaches, is_object, generation_at, age_of, clump_of, lowered, Heap, object_at, id_at, Table, fits, kind_in, kind_at, live_at, is_single, grown_by, IsGrowth, without_block, with_row, without_row, rows_by_id, IsNamed, Parts, state_of, IsStored, Machine, machine_of, object_named, kind_in_use, is_paired, handle_named, MayBeStored, get_beside, get_inserted, same_Some}
 use Rattle.hd_model.specs.declared.data.Grown.TheVariants.{Zero, One, Two, Back}
 use Rattle.hd_seg.specs.declared.row.Full.{Full}
 use Rattle.hd_seg.specs.declared.row.Row.{Row}
 use Rattle.hd_seg.specs.Row.{handle_of, extra_of}
+use Rattle.hd_model.specs.Role.{role_of}
+use Rattle.hd_model.proofs.Ages.{lowered_below}
+use Rattle.hd_model.proofs.KindExtras.{fits_dependent}
 use Rattle.hd_world.proofs.EntryMaps.{same_numbers}
-use Rattle.hd_world.proofs.IdentityReadings.{no_some, rows-get, names-are}
-use Rattle.hd_world.proofs.NamedAddresses.{known_object, generation-is}
+use Rattle.hd_world.proofs.IdentityReadings.{no_some, is_some-map, rows-get, names-are}
+use Rattle.hd_world.proofs.NamedAddresses.{known_object, some_or, generation-is}
 use Rattle.hd_model.specs.declared.data.Kind.TheVariants as kind
 
 -- the parts with another table
@@ -39,10 +42,14 @@ storable f stored slot row is = record {
 abbrev pub IsWithin : Table → Type 0
 IsWithin t = (block : ℕ) → IsSome (get t.uses block) → (1 ≤ block) × (block ≤ t.blocks)
 
-pub stored-table : (f : Parts) (t : Table) → IsStored f → t.blocks ≡ f.table.blocks → IsWithin t
-    → ((slot : ℕ) (row : Handle Addr) → get t.rows slot ≡ Some row → IsStorable f slot row)
-    → IsStored (with_table f t)
-stored-table f t stored blocks uses each = record {
+-- another table, and as many ages, under which its rows may be stored
+pub stored-rows : (f : Parts) (t : Table) (ages : List ℕ) → IsStored f → t.blocks ≡ f.table.blocks
+    → IsWithin t
+    → length f.ages ≡ length ages
+    → ((slot : ℕ) (row : Handle Addr) → get t.rows slot ≡ Some row → IsStorable
+    (record f { ages = ages }) slot row)
+    → IsStored (record f { table = t; ages = ages })
+stored-rows f t ages stored blocks uses long each = record {
   whole = record {
     fields = stored.whole.fields;
     named = stored.whole.named;
@@ -64,10 +71,32 @@ stored-table f t stored blocks uses each = record {
   limit = stored.limit;
   roots = stored.roots;
   serials = stored.serials;
-  clumps = ap (λ n. 4 * n) blocks ∙ stored.clumps;
+  clumps = ap (λ n. 4 * n) blocks ∙ stored.clumps ∙ long;
   blocks = omega (arith, blocks, stored.blocks);
   uses = uses;
 }
+
+stored-table : (f : Parts) (t : Table) → IsStored f → t.blocks ≡ f.table.blocks → IsWithin t
+    → ((slot : ℕ) (row : Handle Addr) → get t.rows slot ≡ Some row → IsStorable f slot row)
+    → IsStored (with_table f t)
+stored-table f t stored blocks uses each = stored-rows f t f.ages stored blocks uses refl each
+
+-- an age is lowered
+pub stored-lowered : (f : Parts) (slot g : ℕ) → IsStored f
+    → IsStored (record f { ages = lowered f.ages slot g })
+stored-lowered f slot g stored =
+    stored-rows f f.table (lowered f.ages slot g) stored refl stored.uses
+    (sym (length-set f.ages (clump_of slot) _)) (λ s row is.
+    let was = storable f stored s row is in
+    let low = lowered_below f.ages slot g s in
+    record {
+      target = was.target;
+      second = was.second;
+      paired = was.paired;
+      attaching = was.attaching;
+      target_age = λ x e. let old = was.target_age x e in omega arith;
+      second_age = λ x e. let old = was.second_age x e in omega arith;
+    })
 
 stored-put : (f : Parts) (slot : ℕ) (row : Handle Addr) → IsStored f → IsStorable f slot row
     → IsStored (with_table f (with_row f.table slot row))
@@ -148,18 +177,12 @@ module _ (f : Parts) (m : Machine) (view : machine_of f ≡ m) where
       ∙ ap (λ (n : Machine). record n { state = without_handle n.state slot }) view
 
 -- only a dependent row has a secondary
-attaching : (k : Kind) (e : Extra Addr) (target : Option Addr) (x : Addr) → fits k e ≡ true
-    → secondary_of e ≡ Some x → role (record { kind = k; target = target; extra = e }) ≡ attaches
-attaching kind.Dependent e target x fit is = refl
-attaching k nothing target x fit is = absurd (no_some x (sym is))
-attaching k (strength s) target x fit is = absurd (no_some x (sym is))
-attaching k (count c) target x fit is = absurd (no_some x (sym is))
-attaching kind.Short (secondary o) target x fit is = absurd (subst T (sym fit) tt)
-attaching kind.Long (secondary o) target x fit is = absurd (subst T (sym fit) tt)
-attaching kind.Strong (secondary o) target x fit is = absurd (subst T (sym fit) tt)
-attaching kind.Pinned (secondary o) target x fit is = absurd (subst T (sym fit) tt)
-attaching kind.Variable (secondary o) target x fit is = absurd (subst T (sym fit) tt)
-attaching kind.Counted (secondary o) target x fit is = absurd (subst T (sym fit) tt)
+attaching : (k : Kind) (e : Extra Addr) (x : Addr) → fits k e ≡ true → secondary_of e ≡ Some x
+    → role_of k e ≡ attaches
+attaching k nothing x fit is = absurd (no_some x (sym is))
+attaching k (strength s) x fit is = absurd (no_some x (sym is))
+attaching k (count c) x fit is = absurd (no_some x (sym is))
+attaching k (secondary o) x fit is = ap (λ j. role_of j (secondary o)) (fits_dependent k o fit)
 
 -- a row that may be stored in the words of the store may be stored in its parts
 module _ (f : Parts) (m : Machine) (view : machine_of f ≡ m) (stored : IsStored f) where
@@ -188,7 +211,7 @@ module _ (f : Parts) (m : Machine) (view : machine_of f ≡ m) (stored : IsStore
     target = λ x is. object row.target x may.target is;
     second = λ x is. object (secondary_of (extra_of row.extra)) x may.secondary is;
     paired = may.paired;
-    attaching = λ x is. attaching kind (extra_of row.extra) row.target x may.fits is;
+    attaching = λ x is. attaching kind (extra_of row.extra) x may.fits is;
     target_age = λ x is. aged slot.0 row.target x may.target may.target_age is;
     second_age = λ x is. aged slot.0 (secondary_of (extra_of row.extra)) x may.secondary may.secondary_age is;
   }
@@ -207,10 +230,6 @@ row-put f m view stored slot kind row may t is =
     )
 
 -- a live slot has a row
-mapped_some : (g : Handle Addr → Handle Id) (o : Option (Handle Addr)) → is_some (option_map g o) ≡ is_some o
-mapped_some g None = refl
-mapped_some g (Some row) = refl
-
 module _ (f : Parts) (m : Machine) (view : machine_of f ≡ m) where
   pub row-read : (slot : Slot) → handle_at m.state slot ≡ option_map (rename_handle (id_at f.heap))
       (get f.table.rows slot.0)
@@ -218,7 +237,7 @@ module _ (f : Parts) (m : Machine) (view : machine_of f ≡ m) where
       ∙ rows-get f.heap f.table.rows slot.0
 
   pub live-row : (slot : Slot) → IsSome (handle_at m.state slot) → IsSome (get f.table.rows slot.0)
-  live-row slot live = sym (mapped_some (rename_handle (id_at f.heap)) (get f.table.rows slot.0))
+  live-row slot live = sym (is_some-map (rename_handle (id_at f.heap)) (get f.table.rows slot.0))
       ∙ sym (ap is_some (row-read slot)) ∙ live
 
   none_from : (o : Option (Handle Addr)) → option_map (rename_handle (id_at f.heap)) o ≡ None → o ≡ None
@@ -335,12 +354,8 @@ put_again t slot a b =
           ∙ sym (get_beside t.rows slot b s apart)
     ]))
 
-row_there : (o : Option (Handle Addr)) (d : Handle Addr) → is_some o ≡ true → o ≡ Some (unwrap_or o d)
-row_there None d e = absurd (subst T (sym e) tt)
-row_there (Some row) d e = refl
-
 pub live-is : (t : Table) (slot : ℕ) → IsSome (get t.rows slot) → get t.rows slot ≡ Some (live_at t slot)
-live-is t slot live = row_there (get t.rows slot)
+live-is t slot live = some_or (get t.rows slot)
     (record { kind = kind.Short; target = None; extra = nothing }) live
 
 pub live-put : (t : Table) (slot : ℕ) (row : Handle Addr) → live_at (with_row t slot row) slot ≡ row
@@ -352,9 +367,6 @@ kind_mapped : (g : Addr → Id) (o : Option (Handle Addr)) → option_map (λ (h
 kind_mapped g None = refl
 kind_mapped g (Some row) = refl
 
-some_kind : (x y : Kind) → Some x ≡ Some y → x ≡ y
-some_kind x y e = same_Some x y e
-
 module _ (f : Parts) (m : Machine) (view : machine_of f ≡ m) (slot : Slot) (k : Kind)
     (live : option_map (λ (h : Handle Id). h.kind) (handle_at m.state slot) ≡ Some k) where
   kinds : option_map (λ (h : Handle Addr). h.kind) (get f.table.rows slot.0) ≡ Some k
@@ -362,14 +374,10 @@ module _ (f : Parts) (m : Machine) (view : machine_of f ≡ m) (slot : Slot) (k 
       sym (kind_mapped (id_at f.heap) (get f.table.rows slot.0))
       ∙ ap (option_map (λ (h : Handle Id). h.kind)) (sym (row-read f m view slot)) ∙ live
 
-  there_from : (o : Option (Handle Addr)) → option_map (λ (h : Handle Addr). h.kind) o ≡ Some k → IsSome o
-  there_from None e = absurd (no_some k (sym e))
-  there_from (Some row) e = refl
-
   pub live-kinded : IsSome (get f.table.rows slot.0)
-  live-kinded = there_from (get f.table.rows slot.0) kinds
+  live-kinded = sym (is_some-map (λ (h : Handle Addr). h.kind) (get f.table.rows slot.0)) ∙ ap is_some kinds
 
   pub live-kind : (live_at f.table slot.0).kind ≡ k
   live-kind =
-      some_kind (live_at f.table slot.0).kind k
+      same_Some (live_at f.table slot.0).kind k
       (sym (ap (option_map (λ (h : Handle Addr). h.kind)) (live-is f.table slot.0 live-kinded)) ∙ kinds)

@@ -9,7 +9,18 @@ pub use Rattle.std.proofs.lemmas.Bool.{cases_eq, true≢false, lt-ltb, eq-eqb, f
 pub use Rattle.std.proofs.lemmas.List.{length-set, map-set, get_or_default, get_or-set_same, get_or-set_other, length-map, length-replicate, get_or-take, get_or-drop, take-set-le, drop-set-lt, drop-set-add, take-append-drop, append_assoc, map-append}
 pub use Rattle.std.proofs.lemmas.Option.{same_Some}
 pub use Rattle.hd_model.proofs.ReadAfterWrite.{get_inserted, get_beside}
-pub use Rattle.hd_world.specs.MachineData.{Addr, Slot, Kind, Id, Entry, Cmd, Grown, Make, Refusal, Report, Reply, RootId}
+pub use Rattle.hd_model.specs.declared.data.Addr.{Addr}
+pub use Rattle.hd_model.specs.declared.data.Slot.{Slot}
+pub use Rattle.hd_model.specs.declared.data.Kind.{Kind}
+pub use Rattle.hd_model.specs.declared.data.Id.{Id}
+pub use Rattle.hd_model.specs.declared.data.Entry.{Entry}
+pub use Rattle.hd_model.specs.declared.command.Cmd.{Cmd}
+pub use Rattle.hd_model.specs.declared.data.Grown.{Grown}
+pub use Rattle.hd_model.specs.declared.data.Make.{Make}
+pub use Rattle.hd_model.specs.declared.data.Refusal.{Refusal}
+pub use Rattle.hd_model.specs.declared.data.Report.{Report}
+pub use Rattle.hd_model.specs.declared.data.Reply.{Reply}
+pub use Rattle.hd_model.specs.declared.data.RootId.{RootId}
 pub use Rattle.hd_model.specs.State.{Extra, nothing, strength, secondary, count, Handle, secondary_of, handle_at, use_of, block_of, rename_handle, register_of, static_of, with_register, with_static, Numbers, State, BlockUse, handles_of, extra_data, with_handle, without_handle, Object, rename_object, given_of, first_slot, IsFree, object_by_id, field_of, last_serial, identity_of, with_object, with_serial, total_size, start_of, size_of, handle_register_of, with_place, with_queue, rename_extra, without_use, count_of}
 pub use Rattle.hd_model.specs.Scene.{is_object, generation_at, fields_in, IsField, generation_in, fields_at, scene_of, joined, IsReading}
 pub use Rattle.hd_model.specs.Heap.{object_at, id_at, has_object, Heap, Placed, card_of, placed_at, region_generation, object_in, id_in, HasIdentities, cells_of, used_of, Region, region_at, is_in_use, is_carded}
@@ -38,7 +49,7 @@ pub use Rattle.hd_world.specs.Objects.{object_named, IsObjectRefused}
 pub use Rattle.hd_world.specs.Handles.{handle_named, MayBeStored}
 pub use Rattle.hd_world.specs.Places.{AreAddresses, KeepsPlaces, KeepsNames, Moves, HasPlace, HasNames, kept_places, HasCollected}
 pub use Rattle.hd_world.specs.StateHeap.{IsStoredAt, IsOfHeap, LeavesHeap, IsCompactStore}
-pub use Rattle.hd_world.specs.World.{HasLimits, Asks, object_room, handle_slot, block_back, no_room, asks_of, MayOffer, IsOffer, GrowsFor, GrowsUnoffered, WorldView}
+pub use Rattle.hd_world.specs.World.{HasLimits, Asks, object_room, handle_slot, block_back, no_room, asks_of, MayOffer, IsOffer, GrowsFor, GrowsUnoffered, WorldView, RanOut}
 pub use Rattle.hd_world.specs.Growth.{kind_in_use, GrowsBy}
 pub use Rattle.hd_world.specs.Visited.{has_kind, blocks_of, due_in, CollectedSteps, TakesSteps}
-pub use Rattle.hd_world.specs.Commands.{pinned_in, entry_of, done_of, MayRun, IsDone, HasRun, RanOut, live_in}
+pub use Rattle.hd_world.specs.Commands.{pinned_in, entry_of, done_of, MayRun, HasRun, IsPlainStep, live_in}

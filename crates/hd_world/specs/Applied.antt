@@ -1,12 +1,15 @@
 -- What a command of a world does.
-use Rattle.std.specs.Prelude.{◌≡◌, ℕ, ◌+◌, [], ◌∷◌, ◌++◌, Option}
+use Rattle.std.specs.Prelude.{[], ◌≡◌, ℕ, ◌+◌, ◌∷◌, ◌++◌, Option}
 use Rattle.std.specs.Option.{ForSome}
-use Rattle.hd_world.specs.MachineData.{Entry, Slot, Cmd}
+use Rattle.hd_model.specs.declared.data.Entry.{Entry}
+use Rattle.hd_model.specs.declared.data.Slot.{Slot}
+use Rattle.hd_model.specs.declared.command.Cmd.{Cmd}
 use Rattle.hd_model.specs.Step.{Step}
 use Rattle.hd_model.specs.Aging.{aged_by}
 use Rattle.hd_world.specs.World.{WorldView, GrowsWithout, Takes}
 use Rattle.hd_world.specs.StateHeap.{KeepsAddresses, LeavesHeap}
 
+-- all that callers of a world learn of a command, where those of its store say its effect alone (`HasRun`):
 -- the returned entry is of this command and is appended; it is a step from the state before to the one after,
 -- and ages the clumps. An offer is taken; without one `hnew` grows, or finds the table full exactly where too
 -- few blocks are without a use, and `trim` gives nothing back. A collection leaves exactly the needed cards

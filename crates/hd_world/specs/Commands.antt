@@ -1,8 +1,14 @@
 -- What a command returns, and how it leaves the store.
-use Rattle.std.specs.Prelude.{◌≡◌, ℕ, ◌+◌, ◌<◌, ◌^◌, ◌⊎◌, true, false, Result, Ok, Err, Option, None, List, if◌then◌else◌}
+use Rattle.std.specs.Prelude.{◌≡◌, ℕ, ◌+◌, ◌<◌, ◌^◌, false, Result, Ok, Err, Option, None, List, if◌then◌else◌}
 use Rattle.std.specs.Option.{option_map_or, ForSome}
 use Rattle.std.specs.FinMap.{get}
-use Rattle.hd_world.specs.MachineData.{Id, Addr, Slot, Refusal, Reply, Entry, Cmd}
+use Rattle.hd_model.specs.declared.data.Id.{Id}
+use Rattle.hd_model.specs.declared.data.Addr.{Addr}
+use Rattle.hd_model.specs.declared.data.Slot.{Slot}
+use Rattle.hd_model.specs.declared.data.Refusal.{Refusal}
+use Rattle.hd_model.specs.declared.data.Reply.{Reply}
+use Rattle.hd_model.specs.declared.data.Entry.{Entry}
+use Rattle.hd_model.specs.declared.command.Cmd.{Cmd}
 use Rattle.hd_model.specs.declared.data.Refusal.TheVariants as refusal
 use Rattle.hd_model.specs.declared.data.Reply.TheVariants as reply
 use Rattle.hd_model.specs.declared.data.Grown.TheVariants.{Zero}
@@ -11,7 +17,7 @@ use Rattle.hd_model.specs.State.{State, Handle, handle_register_of, handle_at, l
 use Rattle.hd_model.specs.Step.{StepOf}
 use Rattle.hd_model.specs.declared.command.Cmd.TheVariants as cmd
 use Rattle.hd_model.specs.Aging.{aged_by}
-use Rattle.hd_model.specs.Valid.{IsValid, takes_memory}
+use Rattle.hd_model.specs.Valid.{IsValid}
 use Rattle.hd_model.specs.WellFormed.{HasHandles}
 use Rattle.hd_model.specs.Command.{Outcome}
 use Rattle.hd_model.specs.Role.{pins}
@@ -20,10 +26,10 @@ use Rattle.hd_world.specs.declared.done.CallerCommand.{CallerCommand}
 use Rattle.hd_world.specs.declared.done.Done.{Done}
 use Rattle.hd_world.specs.Counts.{HasSmallCounts}
 use Rattle.hd_world.specs.Handles.{handle_named}
-use Rattle.hd_world.specs.Places.{HasNames, KeepsPlaces}
+use Rattle.hd_world.specs.Places.{HasNames}
 use Rattle.hd_world.specs.Reading.{name_in}
 use Rattle.hd_world.specs.Store.{Machine}
-use Rattle.hd_world.specs.World.{IsOffer, GrowsUnoffered, Takes, FitsHeap}
+use Rattle.hd_world.specs.World.{IsOffer, GrowsUnoffered, Takes}
 
 -- the entry of a command that came to something
 abbrev pub entry_of : CallerCommand → Done → Entry
@@ -63,33 +69,23 @@ pub record MayRun (m : Machine) (asked : CallerCommand) (offered : Option Slot) 
   pub fresh : get m.state.objects (identity_of asked.caller (last_serial m.state asked.caller + 1)).0 ≡ None
   pub counts : HasSmallCounts m.state
 
--- a command that neither reads nor changes a pinned address was done, with its entry
-pub record IsDone (old : Machine) (asked : CallerCommand) (offered : Option Slot) (new : Machine)
-    (e : Entry) : Type 0 where
+-- a command was done, with its entry, and had an effect on the store; an offer is taken, and without one the
+-- table grows as it has to
+pub record HasRun (old : Machine) (asked : CallerCommand) (offered : Option Slot) (e : Entry)
+    (effect_is : Type 0) : Type 0 where
   pub caller : e.caller ≡ asked.caller
   pub command : e.cmd ≡ asked.cmd
-  pub plain : (touched_by asked.cmd).places ≡ false
-  pub step : StepOf old.numbers old.state e new.state asked.cmd
+  pub effect : effect_is
+  pub offer : ForSome offered (Takes e asked.cmd)
+  pub growth : GrowsUnoffered old.numbers old.state asked.cmd offered e
+
+-- the effect of a command that neither reads nor changes a pinned address; of any, it is `KeepsPlaces`
+pub record IsPlainStep (old : Machine) (c : Cmd) (new : Machine) (e : Entry) : Type 0 where
+  pub plain : (touched_by c).places ≡ false
+  pub step : StepOf old.numbers old.state e new.state c
   pub numbers : new.numbers ≡ old.numbers
-  pub names : HasNames (touched_by asked.cmd).makes_object old.names new.names
+  pub names : HasNames (touched_by c).makes_object old.names new.names
   pub ages : new.ages ≡ aged_by old.state e old.ages
-  pub offer : ForSome offered (Takes e asked.cmd)
-  pub growth : GrowsUnoffered old.numbers old.state asked.cmd offered e
-
--- any command was done, with its entry, from whatever pinned addresses
-pub record HasRun (old : Machine) (asked : CallerCommand) (offered : Option Slot) (new : Machine)
-    (e : Entry) : Type 0 where
-  pub caller : e.caller ≡ asked.caller
-  pub command : e.cmd ≡ asked.cmd
-  pub moves : KeepsPlaces old e new
-  pub offer : ForSome offered (Takes e asked.cmd)
-  pub growth : GrowsUnoffered old.numbers old.state asked.cmd offered e
-
--- a command ran out of memory, which it may take, and not where the heap was full; nothing is changed
-pub record RanOut (old : Machine) (command : Cmd) (new : Machine) : Type 0 where
-  pub memory : takes_memory command ≡ true
-  pub fits : FitsHeap old.numbers old.state command
-  pub unchanged : new ≡ old
 
 -- the slot in a handle register with its handle, or why there is none
 abbrev pub live_in : State → ℕ → ℕ → Result (Slot × Handle Id) Refusal

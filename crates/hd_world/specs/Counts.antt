@@ -1,7 +1,7 @@
 -- How high the counts of ref-counted handles may be.
 use Rattle.std.specs.Prelude.{◌≡◌, ℕ, ◌+◌, ◌<◌, ◌^◌, Some}
 use Rattle.std.specs.FinMap.{get}
-use Rattle.hd_world.specs.MachineData.{Id}
+use Rattle.hd_model.specs.declared.data.Id.{Id}
 use Rattle.hd_model.specs.State.{Handle, State, count_of}
 
 -- each count may rise by one within its type

@@ -1,6 +1,7 @@
 -- By which blocks a table grows, in the words of the machine.
 use Rattle.std.specs.Prelude.{◌≡◌, ◌+◌, true, false, Option, Some, None}
-use Rattle.hd_world.specs.MachineData.{Kind, Grown}
+use Rattle.hd_model.specs.declared.data.Kind.{Kind}
+use Rattle.hd_model.specs.declared.data.Grown.{Grown}
 use Rattle.hd_model.specs.declared.data.Grown.TheVariants.{Zero, One, Two, Back}
 use Rattle.hd_model.specs.State.{Numbers, State, BlockUse, handles_of, extra_data}
 use Rattle.hd_model.specs.Kinds.{is_paired}

@@ -1,6 +1,8 @@
 -- Rows of a store, in the words of the machine.
 use Rattle.std.specs.Prelude.{◌≡◌, ◌≤◌, true, None, IfSome}
-use Rattle.hd_world.specs.MachineData.{Id, Slot, Kind}
+use Rattle.hd_model.specs.declared.data.Id.{Id}
+use Rattle.hd_model.specs.declared.data.Slot.{Slot}
+use Rattle.hd_model.specs.declared.data.Kind.{Kind}
 use Rattle.hd_model.specs.State.{Handle, secondary_of, rename_handle}
 use Rattle.hd_model.specs.Ages.{age_of}
 use Rattle.hd_model.specs.Table.{fits}

@@ -1,5 +1,4 @@
 -- What public clauses cite.
-pub mod MachineData
 pub mod World
 pub mod StateHeap
 pub mod Visited

@@ -1,5 +1,5 @@
 -- The roots of a store, with the identities of their objects.
-use Rattle.hd_world.specs.MachineData.{RootId}
+use Rattle.hd_model.specs.declared.data.RootId.{RootId}
 use Rattle.hd_model.specs.Heap.{Heap, id_at}
 use Rattle.hd_scan.specs.declared.gathering.Root.{Root}
 

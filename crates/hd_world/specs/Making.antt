@@ -1,6 +1,9 @@
 -- The slot and the row of a new handle.
 use Rattle.std.specs.Prelude.{◌≡◌, ◌≢◌, ℕ, ◌+◌, ◌≤◌, true, Option, None, IfSome}
-use Rattle.hd_world.specs.MachineData.{Slot, Kind, Make, Grown}
+use Rattle.hd_model.specs.declared.data.Slot.{Slot}
+use Rattle.hd_model.specs.declared.data.Kind.{Kind}
+use Rattle.hd_model.specs.declared.data.Make.{Make}
+use Rattle.hd_model.specs.declared.data.Grown.{Grown}
 use Rattle.hd_model.specs.declared.data.Grown.TheVariants.{Zero}
 use Rattle.hd_model.specs.State.{given_of, block_of, secondary_of, IsFree, register_of}
 use Rattle.hd_model.specs.Kinds.{kind_of}

@@ -1,6 +1,7 @@
 -- Objects of a store, by address.
 use Rattle.std.specs.Prelude.{◌≡◌, ℕ, ◌+◌, ◌<◌, ◌≤◌}
-use Rattle.hd_world.specs.MachineData.{Id, Addr}
+use Rattle.hd_model.specs.declared.data.Id.{Id}
+use Rattle.hd_model.specs.declared.data.Addr.{Addr}
 use Rattle.hd_heap.specs.declared.fault.NewFault.{NewFault}
 use Rattle.hd_heap.specs.declared.fault.NewFault.TheVariants.{Full, Memory}
 use Rattle.hd_model.specs.State.{Object, object_by_id, total_size}

@@ -6,7 +6,7 @@ use Rattle.std.specs.FinMap as map
 use Rattle.std.specs.Ordering.{nat_cmp}
 use mathlib.Core.HLevel.{Σ_prop_path}
 use Rattle.std.proofs.Math.Logic.{∥∥₁_prop, ∥∥₁_elim}
-use Rattle.hd_world.specs.MachineData.{Entry}
+use Rattle.hd_model.specs.declared.data.Entry.{Entry}
 use Rattle.hd_model.specs.Places.{with_places}
 use Rattle.hd_model.specs.Aging.{AgedRun}
 use Rattle.hd_model.proofs.Journals.{one_places}

@@ -2,7 +2,10 @@
 use Rattle.std.specs.Prelude.{◌≡◌, ◌↔◌, ℕ, Bool, true, false, Some}
 use Rattle.std.specs.FinMap.{FinMap, get, insert, retain_keys}
 use Rattle.std.specs.Ordering.{nat_cmp}
-use Rattle.hd_world.specs.MachineData.{Id, Addr, Entry, Report}
+use Rattle.hd_model.specs.declared.data.Id.{Id}
+use Rattle.hd_model.specs.declared.data.Addr.{Addr}
+use Rattle.hd_model.specs.declared.data.Entry.{Entry}
+use Rattle.hd_model.specs.declared.data.Report.{Report}
 use Rattle.hd_model.specs.State.{State}
 use Rattle.hd_model.specs.Places.{is_pinned, with_places, MayAnswer}
 use Rattle.hd_model.specs.Step.{Step}

@@ -3,7 +3,8 @@
 use Rattle.std.specs.Prelude.{ℕ, Option, unwrap_or, option_map, map, IsSome, IfSome}
 use Rattle.std.specs.FinMap.{FinMap, get, entries, from_entries}
 use Rattle.std.specs.Ordering.{nat_cmp}
-use Rattle.hd_world.specs.MachineData.{Id, Addr}
+use Rattle.hd_model.specs.declared.data.Id.{Id}
+use Rattle.hd_model.specs.declared.data.Addr.{Addr}
 use Rattle.hd_model.specs.State.{Object, Handle, rename_object, rename_handle}
 use Rattle.hd_model.specs.Heap.{Placed, Heap, region_generation, region_of, object_in, id_at}
 

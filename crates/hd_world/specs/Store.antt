@@ -1,10 +1,10 @@
 -- What contracts see of a store.
-use Rattle.std.specs.Prelude.{◌≡◌, ℕ, List, [], refl}
+use Rattle.std.specs.Prelude.{[], ◌≡◌, ℕ, List, refl}
 use Rattle.std.specs.Coded.{Coded, code_by, coded×, coded_ℕ, coded_list}
 use Rattle.std.specs.FinMap.{FinMap}
 use Rattle.std.specs.FinMap as map
 use Rattle.std.specs.Ordering.{nat_cmp}
-use Rattle.hd_world.specs.MachineData.{Id}
+use Rattle.hd_model.specs.declared.data.Id.{Id}
 use Rattle.hd_model.specs.State.{Numbers, State}
 use Rattle.hd_model.specs.Heap.{Heap}
 use Rattle.hd_model.specs.Code.{numbers_code, state_code, id_code, heap_code}

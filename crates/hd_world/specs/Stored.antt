@@ -2,7 +2,8 @@
 -- them.
 use Rattle.std.specs.Prelude.{◌≡◌, ℕ, ◌+◌, ◌*◌, ◌≤◌, List, length, map, Option, option_map, IsSome}
 use Rattle.std.specs.FinMap.{get, empty, len}
-use Rattle.hd_world.specs.MachineData.{Addr, Slot}
+use Rattle.hd_model.specs.declared.data.Addr.{Addr}
+use Rattle.hd_model.specs.declared.data.Slot.{Slot}
 use Rattle.hd_model.specs.declared.limits.TheConstants.{HEAP, BLOCKS, CLUMPS, REGISTERS}
 use Rattle.hd_model.specs.State.{Numbers, State}
 use Rattle.hd_model.specs.Scene.{Scene, IsWhole}

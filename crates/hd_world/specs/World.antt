@@ -1,8 +1,12 @@
 -- What contracts see of a world, and what a call takes and returns beyond its step.
-use Rattle.std.specs.Prelude.{◌≡◌, ◌≢◌, ℕ, ◌+◌, ◌<◌, ◌≤◌, List, Option, Some, None, refl}
+use Rattle.std.specs.Prelude.{◌≡◌, ◌≢◌, ℕ, ◌+◌, ◌<◌, ◌≤◌, true, List, Option, Some, None, refl}
 use Rattle.std.specs.Coded.{Coded, code_by, coded×, coded_ℕ, coded_list}
 use Rattle.hd_model.specs.declared.limits.TheConstants.{HEAP, BLOCKS, CALLERS}
-use Rattle.hd_world.specs.MachineData.{Entry, Slot, Kind, Cmd, Class}
+use Rattle.hd_model.specs.declared.data.Entry.{Entry}
+use Rattle.hd_model.specs.declared.data.Slot.{Slot}
+use Rattle.hd_model.specs.declared.data.Kind.{Kind}
+use Rattle.hd_model.specs.declared.command.Cmd.{Cmd}
+use Rattle.hd_model.specs.declared.class.Class.{Class}
 use Rattle.hd_model.specs.declared.data.Grown.TheVariants.{Zero, Back}
 use Rattle.hd_model.specs.declared.data.Refusal.TheVariants as refusal
 use Rattle.hd_model.specs.declared.data.Reply.TheVariants as reply
@@ -11,6 +15,7 @@ use Rattle.hd_model.specs.Class.{class_of}
 use Rattle.hd_model.specs.State.{Numbers, State, given_of, total_size, block_of, first_slot, IsFree, IsAllFree}
 use Rattle.hd_model.specs.Kinds.{kind_of}
 use Rattle.hd_model.specs.Step.{blocks_needed}
+use Rattle.hd_model.specs.Valid.{IsValid, takes_memory}
 use Rattle.hd_model.specs.Code.{numbers_code, state_code, entry_code, heap_code}
 use Rattle.hd_model.specs.Heap.{Heap}
 
@@ -126,3 +131,16 @@ HasRoom n s no_room = Unit {0}
 
 abbrev pub FitsHeap : Numbers → State → Cmd → Type 0
 FitsHeap n s c = HasRoom n s (asks_of c)
+
+-- what a command of a caller asks of a world
+pub record MayApply (w : WorldView) (number : ℕ) (c : Cmd) (offered : Option Slot) : Type 0 where
+  pub room : 1 ≤ w.spare
+  pub caller : number < w.numbers.callers
+  pub valid : IsValid c
+  pub offer : IsOffer w.state c offered
+
+-- a command ran out of memory, which it may take, and not where the heap was full; nothing is changed
+pub record RanOut {V : Type 0} (n : Numbers) (s : State) (c : Cmd) (old new : V) : Type 0 where
+  pub memory : takes_memory c ≡ true
+  pub fits : FitsHeap n s c
+  pub unchanged : new ≡ old

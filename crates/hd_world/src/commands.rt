@@ -1,8 +1,10 @@
 // One command of a caller, as a step of the machine.
 ghost use Rattle.std.specs.Prelude.{◌≡◌, false, MatchResult};
 ghost use Rattle.hd_model.specs.Touched.{touched_by};
-ghost use Rattle.hd_world.specs.Commands.{MayRun, IsDone, HasRun, RanOut};
+ghost use Rattle.hd_world.specs.Commands.{MayRun, HasRun, IsPlainStep};
+ghost use Rattle.hd_world.specs.Places.{KeepsPlaces};
 ghost use Rattle.hd_world.specs.Visited.{TakesSteps};
+ghost use Rattle.hd_world.specs.World.{RanOut};
 
 use crate::done::CallerCommand;
 use crate::store::Store;
@@ -16,8 +18,9 @@ use std::sync::ledger::Ledger;
 fn carry_out(store: &mut Store, asked: CallerCommand, offer: Option<Slot>) -> Result<Entry, Memory>
     requires may { MayRun store.old asked offer }
     requires plain { (touched_by asked.cmd).places ≡ false }
-    ensures { MatchResult result (IsDone store.old asked offer store.new)
-        (λ _. RanOut store.old asked.cmd store.new) }
+    ensures { let m = store.old in let k = store.new in
+        MatchResult result (λ e. HasRun m asked offer e (IsPlainStep m asked.cmd k e))
+        (λ _. RanOut m.numbers m.state asked.cmd m k) }
 {
     let caller = asked.caller;
     match asked.cmd {
@@ -69,10 +72,10 @@ pub(crate) fn run<L: Ledger>(
     steps: &mut Steps<L>,
 ) -> Result<Entry, Memory>
     requires { MayRun store.old asked offer }
-    ensures { MatchResult result
-        (λ e. HasRun store.old asked offer store.new e
-        × TakesSteps store.old.state store.old.ages e steps.old steps.new)
-        (λ _. RanOut store.old asked.cmd store.new × (steps.new ≡ steps.old)) }
+    ensures { let m = store.old in let k = store.new in
+        MatchResult result (λ e. HasRun m asked offer e (KeepsPlaces m e k)
+        × TakesSteps m.state m.ages e steps.old steps.new)
+        (λ _. RanOut m.numbers m.state asked.cmd m k × (steps.new ≡ steps.old)) }
 {
     if let Cmd::Collect { n } = asked.cmd {
         let done = collection::collect_up_to(store, asked.caller, n, steps)?;

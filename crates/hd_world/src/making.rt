@@ -10,7 +10,7 @@ ghost use Rattle.hd_model.specs.Aging.{lowered_by_new};
 ghost use Rattle.hd_world.specs.Reading.{named_in, IsNamed};
 ghost use Rattle.hd_world.specs.Making.{IsPlace, IsMadeRow};
 ghost use Rattle.hd_world.specs.World.{IsOffer};
-ghost use Rattle.hd_world.specs.Commands.{entry_of, done_of, IsDone};
+ghost use Rattle.hd_world.specs.Commands.{entry_of, done_of, HasRun, IsPlainStep};
 ghost use Rattle.hd_world.specs.declared.done.CallerCommand.{CallerCommand};
 
 use crate::done::{CallerCommand, Done};
@@ -94,14 +94,9 @@ fn lower_for(store: &mut Store, slot: Slot, make: Make, target: Option<Addr>)
         let ages = lowered_by_new store.old.state store.old.ages (Some slot) make named in
         store.new ≡ record store.old { ages = ages } }
 {
-    match make {
-        Make::Short
-        | Make::Long
-        | Make::Strong
-        | Make::Pinned
-        | Make::Variable(_)
-        | Make::Counted => lower_to(store, slot, target),
-        Make::Dependent(_) => store.lower_age(slot, 0),
+    match make.secondary() {
+        Some(_) => store.lower_age(slot, 0),
+        None => lower_to(store, slot, target),
     }
 }
 
@@ -120,7 +115,8 @@ pub(crate) fn new_handle(
     requires make { IsValidMake make }
     requires offer { IfSome offer (IsFree store.old.state (kind_of make)) }
     ensures { let asked : CallerCommand = record { caller = caller; cmd = cmds.HNew d make t } in
-        IsDone store.old asked offer store.new (entry_of asked (done_of result)) }
+        let e = entry_of asked (done_of result) in
+        HasRun store.old asked offer e (IsPlainStep store.old asked.cmd store.new e) }
 {
     let row = made_row(store, caller, make, t);
     let (slot, grown) = match place(store, make.kind(), offer) {
@@ -142,7 +138,8 @@ pub(crate) fn trim(store: &mut Store, caller: u32, kind: Kind, offer: Option<Slo
     requires single { is_paired kind ≡ false }
     requires offer { IsOffer store.old.state (cmds.Trim kind) offer }
     ensures { let asked : CallerCommand = record { caller = caller; cmd = cmds.Trim kind } in
-        IsDone store.old asked offer store.new (entry_of asked result) }
+        let e = entry_of asked result in
+        HasRun store.old asked offer e (IsPlainStep store.old asked.cmd store.new e) }
 {
     let Some(slot) = offer else {
         return Done::of(Reply::Value(0));

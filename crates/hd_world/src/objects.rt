@@ -69,6 +69,7 @@ fn make(
 
 impl Store {
     /// The identity of the object at an address.
+    #[tactic(auto, using(crate::proofs::NamedAddresses::object_reads))]
     pub(crate) fn id(&self, at: Addr) -> Id
         requires { IsSome (get self.now.names at.0) }
         ensures { result ≡ name_in self.now.names at }
@@ -77,6 +78,7 @@ impl Store {
     }
 
     /// The number of its fields.
+    #[tactic(auto, using(crate::proofs::NamedAddresses::object_reads))]
     pub(crate) fn fields(&self, at: Addr) -> u32
         requires { IsSome (get self.now.names at.0) }
         ensures { result ≡ length (object_named self.now at).fields }
@@ -109,6 +111,7 @@ impl Store {
     }
 
     /// The value of it.
+    #[tactic(auto, using(crate::proofs::NamedAddresses::object_reads))]
     pub(crate) fn value(&self, at: Addr) -> u64
         requires { IsSome (get self.now.names at.0) }
         ensures { result ≡ (object_named self.now at).value }
@@ -127,6 +130,7 @@ impl Store {
     }
 
     /// Its generation.
+    #[tactic(auto, using(crate::proofs::NamedAddresses::object_reads))]
     pub(crate) fn generation(&self, at: Addr) -> u8
         requires { IsSome (get self.now.names at.0) }
         ensures { result ≡ (object_named self.now at).generation }

@@ -1,10 +1,8 @@
 // `addr`: the address of a pinned object, which no collection changes.
-ghost use Rattle.std.specs.Prelude.{◌≡◌, ◌<◌, IsSome, IfOk, true, false};
+ghost use Rattle.std.specs.Prelude.{◌≡◌, ◌<◌, IsSome, IfOk};
 ghost use Rattle.std.specs.FinMap.{FinMap, get};
 ghost use Rattle.std.specs.Ordering.{nat_cmp};
 ghost use Rattle.hd_model.specs.declared.command.Cmd.TheVariants as cmds;
-ghost use Rattle.hd_model.specs.Role.{pins_by, pins_by_strength};
-ghost use Rattle.hd_seg.specs.Row.{extra_of};
 ghost use Rattle.hd_world.specs.Places.{HasPlace, KeepsPlaces};
 ghost use Rattle.hd_world.specs.Commands.{pinned_in, as_pinned, entry_of, done_of};
 ghost use Rattle.hd_world.specs.declared.done.CallerCommand.{CallerCommand};
@@ -13,32 +11,8 @@ use crate::done::Done;
 use crate::on_handles::live_in;
 use crate::store::Store;
 use hd_model::limits::REGISTERS;
-use hd_model::{Addr, Kind, Refusal, Reply, Strength};
-use hd_seg::Extra;
-
-// Whether a strength pins.
-fn pins_by_strength(strength: Strength) -> bool
-    ensures { result ≡ pins_by_strength strength }
-{
-    match strength {
-        Strength::Short | Strength::Long | Strength::Strong => false,
-        Strength::Pinned => true,
-    }
-}
-
-// Whether a handle of a kind with an extra pins its target.
-fn pins(kind: Kind, extra: Extra) -> bool
-    ensures { result ≡ pins_by kind (extra_of extra) }
-{
-    match kind {
-        Kind::Pinned => true,
-        Kind::Variable => match extra {
-            Extra::Strength(strength) => pins_by_strength(strength),
-            Extra::Nothing | Extra::Secondary(_) | Extra::Count(_) => false,
-        },
-        Kind::Short | Kind::Long | Kind::Strong | Kind::Counted | Kind::Dependent => false,
-    }
-}
+use hd_model::{Addr, Refusal, Reply};
+use hd_scan::pins;
 
 impl Store {
     /// The address of an object, as `addr` returns it.

@@ -1,4 +1,4 @@
-ghost use Rattle.std.specs.Prelude.{◌≡◌, ◌+◌, ◌<◌, ◌≤◌, ◌^◌, [], length, IsTrue, IfOk, OnErr};
+ghost use Rattle.std.specs.Prelude.{◌≡◌, ◌+◌, ◌<◌, ◌≤◌, ◌^◌, [], length, IsTrue, IfOk, OnErr, MatchResult};
 ghost use Rattle.std.specs.FinMap.{len};
 ghost use Rattle.hd_model.specs.State.{Numbers, start_of, use_of, block_of};
 ghost use Rattle.hd_model.specs.Run.{Run};
@@ -9,7 +9,7 @@ ghost use Rattle.hd_model.specs.Text.{collections_of, is_collect};
 ghost use Rattle.hd_world.specs.Growth.{kind_in_use};
 ghost use Rattle.hd_world.specs.Placed.{Placed, Placed-prop};
 ghost use Rattle.hd_world.specs.Applied.{Applied};
-ghost use Rattle.hd_world.specs.World.{HasLimits, IsOffer, FitsHeap};
+ghost use Rattle.hd_world.specs.World.{HasLimits, IsOffer, FitsHeap, MayApply, RanOut};
 ghost use Rattle.hd_world.specs.StateHeap.{IsOfHeap};
 ghost use Rattle.hd_world.specs.Visited.{TakesSteps};
 
@@ -140,14 +140,10 @@ impl World {
         cmd: Cmd,
         offer: Option<Slot>,
     ) -> Result<Entry, Memory>
-        requires room { 1 ≤ self.old.spare }
-        requires caller { caller < self.old.numbers.callers }
-        requires valid { IsValid cmd }
-        requires offer { IsOffer self.old.state cmd offer }
-        ensures done { IfOk result (Applied self.old caller cmd offer self.new) }
-        ensures memory { OnErr result (IsTrue (takes_memory cmd)) }
-        ensures fits { OnErr result (FitsHeap self.old.numbers self.old.state cmd) }
-        ensures unchanged { OnErr result (self.new ≡ self.old) }
+        requires { MayApply self.old caller cmd offer }
+        ensures { let n = self.old.numbers in let s = self.old.state in
+            MatchResult result (Applied self.old caller cmd offer self.new)
+            (λ _. RanOut n s cmd self.old self.new) }
     {
         self.apply_on::<Brand>(caller, cmd, offer, Blank::new(1))
     }
@@ -160,18 +156,17 @@ impl World {
         offer: Option<Slot>,
         blank: Blank,
     ) -> Result<Entry, Memory>
+        requires may { MayApply self.old caller cmd offer }
         requires blank { (L.name ≡ blank.name) × (L.parts ≡ blank.parts) × (0 < blank.parts) }
-        requires room { 1 ≤ self.old.spare }
-        requires caller { caller < self.old.numbers.callers }
-        requires valid { IsValid cmd }
-        requires offer { IsOffer self.old.state cmd offer }
-        ensures done { IfOk result (Applied self.old caller cmd offer self.new) }
-        ensures memory { OnErr result (IsTrue (takes_memory cmd)) }
-        ensures fits { OnErr result (FitsHeap self.old.numbers self.old.state cmd) }
-        ensures unchanged { OnErr result (self.new ≡ self.old) }
+        ensures { let n = self.old.numbers in let s = self.old.state in
+            MatchResult result (Applied self.old caller cmd offer self.new)
+            (λ _. RanOut n s cmd self.old self.new) }
     {
         let mut steps = Steps::<L>::open(blank);
-        self.apply(caller, cmd, offer, &mut steps)
+        match self.apply(caller, cmd, offer, &mut steps) {
+            Ok(entry) => Ok(entry),
+            Err(Memory) => Err(Memory),
+        }
     }
 
     /// The journal. Its world has a state that is read from its heap, and numbers within limits.

@@ -16,38 +16,25 @@ step-requires c = record {
 
 pub note-requires : goal.note-requires
 note-requires c =
-    may_note c.self.inside.world c.step.new.world c.self.inside.pool c.offer-offered.new.pool c.self.invariant
-    c.args.caller c.args.cmd c.offer-offered.result c.offer-offered.ensures c.in_ok-entry.entry
-    c.in_ok-entry.ensures
+    may_note c.self.invariant c.offer-offered.new.pool c.offer-offered.ensures c.in_ok-entry.ensures
 
 pub invariant_of-self-2 : goal.invariant_of-self-2
 invariant_of-self-2 c =
-    tied_after c.self.inside.world c.step.new.world c.self.inside.pool c.offer-offered.new.pool
-    c.self.invariant
-    c.args.caller c.args.cmd c.offer-offered.result c.offer-offered.ensures c.in_ok-entry.entry
-    c.in_ok-entry.ensures c.note.new.pool c.note.ensures
+    tied_after c.self.invariant c.offer-offered.new.pool c.offer-offered.ensures c.in_ok-entry.ensures
+    c.note.new.pool c.note.ensures
 
 pub returns-clause-done : goal.returns-clause-done
 returns-clause-done c =
     subst (λ (w : WorldView). HasCalled w c.step.new.world c.args.caller c.args.cmd c.in_ok-entry.entry.reply)
     c.self.view_is
-    (has_called c.self.inside.world c.step.new.world c.self.inside.pool c.offer-offered.new.pool
-    c.self.invariant
-    c.args.caller c.args.cmd c.offer-offered.result c.offer-offered.ensures c.in_ok-entry.entry
-    c.in_ok-entry.ensures)
+    (has_called c.self.invariant c.offer-offered.new.pool c.offer-offered.ensures c.in_ok-entry.ensures)
 
 pub returns-clause-full : goal.returns-clause-full
 returns-clause-full c =
     subst (λ (w : WorldView). FindsFullExactly w c.args.cmd c.in_ok-entry.entry.reply) c.self.view_is
-    (full_exactly c.self.inside.world c.step.new.world c.self.inside.pool c.offer-offered.new.pool
-    c.self.invariant c.args.caller c.args.cmd c.offer-offered.result c.offer-offered.ensures
-    c.in_ok-entry.entry
-    c.in_ok-entry.ensures)
+    (full_exactly c.self.invariant c.offer-offered.new.pool c.offer-offered.ensures c.in_ok-entry.ensures)
 
 pub returns-clause-trims : goal.returns-clause-trims
 returns-clause-trims c =
     subst (λ (w : WorldView). TrimsExactly w c.args.cmd c.in_ok-entry.entry.reply) c.self.view_is
-    (trims_exactly c.self.inside.world c.step.new.world c.self.inside.pool c.offer-offered.new.pool
-    c.self.invariant c.args.caller c.args.cmd c.offer-offered.result c.offer-offered.ensures
-    c.in_ok-entry.entry
-    c.in_ok-entry.ensures)
+    (trims_exactly c.self.invariant c.offer-offered.new.pool c.offer-offered.ensures c.in_ok-entry.ensures)

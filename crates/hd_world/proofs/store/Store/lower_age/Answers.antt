@@ -1,5 +1,5 @@
 use Rattle.hd_world.proofs.StoreWords.{parts, ◌≡◌, sym, ap, ◌∙◌, subst, refl, arith, lowered, IsStored, Machine, machine_of}
-use Rattle.hd_world.proofs.AgeLower.{with_ages, stored-lowered}
+use Rattle.hd_world.proofs.StoreRows.{stored-lowered}
 use Rattle.hd_world.proofs.store.Store.lower_age.Goals.{After-lower}
 use Rattle.hd_world.proofs.store.Store.lower_age.Goals as goal
 
@@ -17,10 +17,10 @@ after c = c.lower.ensures c.args.slot.0 (record { in_block = refl; in_clump = om
 
 pub invariant_of-self : goal.invariant_of-self
 invariant_of-self c =
-    subst (λ ages. IsStored (with_ages (parts c.self.inside) ages)) (sym (after c))
+    subst (λ ages. IsStored (record (parts c.self.inside) { ages = ages })) (sym (after c))
     (stored-lowered (parts c.self.inside) c.args.slot.0 c.args.g c.self.invariant)
 
 pub returns : goal.returns
 returns c =
-    ap (λ ages. machine_of (with_ages (parts c.self.inside) ages)) (after c)
+    ap (λ ages. machine_of (record (parts c.self.inside) { ages = ages })) (after c)
     ∙ ap (λ (m : Machine). record m { ages = lowered m.ages c.args.slot.0 c.args.g }) c.self.view_is

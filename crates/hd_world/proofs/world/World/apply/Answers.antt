@@ -81,7 +81,7 @@ pub invariant_of-self-inside-2 : goal.invariant_of-self-inside-2
 invariant_of-self-inside-2 g c =
     let w = c.self.inside in (
       placed_on w.store w.journal.entries w.placed.0 c.self.invariant c.run.new.store
-          c.in_ok-entry.entry c.push.new.self.entries c.in_ok-entry.ensures.0.moves c.push.ensures.entries,
+          c.in_ok-entry.entry c.push.new.self.entries c.in_ok-entry.ensures.0.effect c.push.ensures.entries,
       tt,
     )
 
@@ -89,7 +89,7 @@ pub invariant_of-self-2 : goal.invariant_of-self-2
 invariant_of-self-2 g c =
     let w = c.self.inside in
     let at = run_on w.store w.journal.entries w.placed.0 c.self.invariant c.run.new.store
-    c.in_ok-entry.entry c.push.new.self.entries c.in_ok-entry.ensures.0.moves c.push.ensures.entries in
+    c.in_ok-entry.entry c.push.new.self.entries c.in_ok-entry.ensures.0.effect c.push.ensures.entries in
     search at
 
 pub returns-clause-done : goal.returns-clause-done
@@ -107,20 +107,20 @@ returns-clause-done g c =
       journal = c.push.ensures.entries
           ∙ ap (λ n. w.journal.entries ++ record e { caller = n } ∷ []) (omega arith);
       spare = c.push.ensures.spare;
-      step = step_on w.store w.journal.entries w.placed.0 c.self.invariant next e j.entries ran.moves
+      step = step_on w.store w.journal.entries w.placed.0 c.self.invariant next e j.entries ran.effect
           c.push.ensures.entries q;
-      ages = ages_on w.store w.journal.entries w.placed.0 c.self.invariant next e j.entries ran.moves
+      ages = ages_on w.store w.journal.entries w.placed.0 c.self.invariant next e j.entries ran.effect
           c.push.ensures.entries;
-      numbers = (ran.moves w.placed.0 c.self.invariant.addresses).numbers;
+      numbers = (ran.effect w.placed.0 c.self.invariant.addresses).numbers;
       offer = ran.offer;
       growth = growth_placed w.store.numbers w.store.state w.placed.0 c.args.cmd c.args.offer e ran.growth;
-      heap = (ran.moves w.placed.0 c.self.invariant.addresses).heap;
+      heap = (ran.effect w.placed.0 c.self.invariant.addresses).heap;
       addresses = record {
-        returned = λ h place x. returns-stored w.store next e ran.moves c.objects-before.ensures.heap
+        returned = λ h place x. returns-stored w.store next e ran.effect c.objects-before.ensures.heap
             c.objects-after.ensures.heap x place h;
-        pinned = keeps-pinned w.store next e ran.moves c.objects-before.ensures.heap
+        pinned = keeps-pinned w.store next e ran.effect c.objects-before.ensures.heap
             c.objects-after.ensures.heap;
-        others = λ plain x a. keeps-address w.store next e ran.moves c.objects-before.ensures.heap
+        others = λ plain x a. keeps-address w.store next e ran.effect c.objects-before.ensures.heap
             c.objects-after.ensures.heap x a (inl plain);
       };
     }) in
