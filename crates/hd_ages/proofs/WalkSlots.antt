@@ -5,13 +5,15 @@ use Rattle.std.specs.List.{range_with_len}
 use Rattle.std.specs.FinMap.{get, contains_key, len}
 use Rattle.std.proofs.lemmas.Bool.{cases_eq}
 use Rattle.std.proofs.lemmas.List.Elements.{Contains-append_left, Contains-append_right, Contains-append_cases}
+use Rattle.std.proofs.lemmas.List.FromFn.{length-range_with_len}
 use Rattle.hd_model.specs.declared.data.Kind.{Kind}
 use Rattle.hd_model.specs.State.{handles_of}
 use Rattle.hd_model.specs.Ages.{clump_of, clumps_of, due_clumps}
 use Rattle.hd_model.specs.Table.{Table, IsTable, chain_of}
 use Rattle.hd_model.proofs.Members.{not_in_none, first_in, later_in, member_cases, pairs_first, pairs_rest, pairs_none, pairs_cons, pairs_append, passing_from, passing_in, pairs_passing}
+use Rattle.hd_model.proofs.Basics.{length-append}
 use Rattle.hd_model.proofs.Entries.{some_value, counts_keys}
-use Rattle.hd_model.proofs.PropertyCounts.{counts_le}
+use Rattle.hd_model.proofs.PropertyCounts.{counts_le, fewer}
 use Rattle.hd_ages.specs.Walk.{slots_in, slots_of, due_slots}
 use Rattle.hd_ages.specs.Rows.{IsDueRow}
 
@@ -67,6 +69,19 @@ module _ (t : Table) where
   clump_apart c =
       pairs_passing (λ s. contains_key t.rows s) (λ x y. x ≢ y) (range_with_len (16 * c + 64) 16)
       (range_apart (16 * c + 64) 16)
+
+  -- a clump has as many live slots as it has slots, at most
+  clump_few : (c : ℕ) → length (slots_in t c) ≤ 16
+  unfolding slots_in
+  clump_few c =
+      let few = fewer (slots_in t c) (range_with_len (16 * c + 64) 16) (clump_apart c)
+      (λ s h. (passing_from (λ s. contains_key t.rows s) (range_with_len (16 * c + 64) 16) s h).0) in
+      omega (arith, few, length-range_with_len (16 * c + 64) 16)
+
+  pub slots_few : (cs : List ℕ) → length (slots_of t cs) ≤ 16 * length cs
+  slots_few [] = omega arith
+  slots_few (c ∷ cs) =
+      omega (arith, length-append (slots_in t c) (slots_of t cs), clump_few c, slots_few cs)
 
   in_slots : (cs : List ℕ) (slot : ℕ) → Contains (slots_of t cs) slot
       → (contains_key t.rows slot ≡ true) × ((64 ≤ slot) × Contains cs (clump_of slot))
@@ -179,6 +194,17 @@ module _ (t : Table) (is : IsTable t) (ages : List ℕ) (n : ℕ) (k : Kind) whe
     each = each_due;
     all = all_due;
   }
+
+  -- their clumps are as few as those of the largest table
+  pub due_clumps_few : length (due_clumps ages n (chain_of t k)) ≤ 1024
+  due_clumps_few =
+      let few = fewer (due_clumps ages n (chain_of t k)) (range_with_len 0 1024)
+      (due_apart ages n (chain_of t k) low_blocks (is.once k))
+      (λ c h. let inside = (in_due ages n (chain_of t k) c low_blocks h).0 in
+      let high = (is.uses (c / 4 + 1) (ap is_some ((is.chained k (c / 4 + 1)).0 inside))).1 in
+      let limit = is.limit in
+      of_range 0 1024 c (omega arith) (omega arith)) in
+      omega (arith, few, length-range_with_len 0 1024)
 
   -- they are as few as the rows of the largest table
   pub due_slots_few : length (due_slots t ages n k) ≤ 16384

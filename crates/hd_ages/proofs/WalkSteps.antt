@@ -1,6 +1,7 @@
 -- How a walk goes on: to the first block of its chain, to the next due clump, and to the next block.
-use Rattle.std.proofs.Common.{◌≡◌, ℕ, ◌+◌, ◌<◌, true, List, [], ◌∷◌, ◌++◌, length, map, slice_get, Option, Some, None, refl, sym, ap, ◌∙◌, arith}
-use Rattle.std.specs.Prelude.{Contains}
+use Rattle.std.proofs.Common.{◌≡◌, ℕ, ◌+◌, ◌<◌, ◌≤◌, true, List, [], ◌∷◌, ◌++◌, length, map, slice_get, Option, Some, None, refl, sym, ap, ◌∙◌, subst, arith}
+use Rattle.std.specs.Prelude.{Contains, IfSome}
+use Rattle.std.specs.Option.{ForSome}
 use Rattle.std.specs.FinMap.{get}
 use Rattle.hd_mask.specs.Mask.{set_bits}
 use Rattle.hd_model.specs.declared.data.Kind.{Kind}
@@ -8,10 +9,11 @@ use Rattle.hd_model.specs.declared.data.Slot.{Slot}
 use Rattle.hd_model.specs.State.{BlockUse, handles_of, extra_data}
 use Rattle.hd_model.specs.Ages.{due_clumps}
 use Rattle.hd_model.specs.Table.{Table, IsTable, chain_of, has_handles, kind_in, kind_at}
+use Rattle.hd_model.proofs.Basics.{length-append, length-map}
 use Rattle.hd_model.proofs.Members.{first_in, member_same}
 use Rattle.hd_ages.specs.Clumps.{clump_at}
 use Rattle.hd_ages.specs.declared.due_rows.DueRows.{DueRows}
-use Rattle.hd_ages.specs.Walk.{slots_in, slots_of, due_slots, after_first, blocks_after, blocks_from, clumps_by, due_in, clumps_to_come, slots_to_come, Advances, IsOver}
+use Rattle.hd_ages.specs.Walk.{slots_in, slots_of, due_slots, after_first, blocks_after, blocks_from, clumps_by, due_in, clumps_to_come, slots_to_come, IsHandleBlock, Advances, IsOver}
 use Rattle.hd_mask.proofs.SetBits.{set_bits-zero}
 use Rattle.hd_ages.proofs.ChainRest.{after_here, split_after, within_after, after_next}
 
@@ -26,7 +28,7 @@ module _ (t : Table) (is : IsTable t) where
   kind_here k b h = ap kind_in ((is.chained k b).0 h)
 
   -- a block with handles is in the chain of its kind
-  chained_here : (b : ℕ) → has_handles (get t.uses b) ≡ true → Contains (chain_of t (kind_at t b)) b
+  pub chained_here : (b : ℕ) → has_handles (get t.uses b) ≡ true → Contains (chain_of t (kind_at t b)) b
   chained_here b h = (is.chained (kind_at t b) b).1 (handles_kind (get t.uses b) h)
 
   -- what follows the first block of a chain, and the next one
@@ -38,7 +40,7 @@ module _ (t : Table) (is : IsTable t) where
       ap (λ kind. after_first b (chain_of t kind)) (kind_here k b inside)
       ∙ ap (after_first b) e ∙ after_here b b rest refl
 
-  next_after : (b : ℕ) → (c : ℕ) (rest : List ℕ) → blocks_after t (Some b) ≡ c ∷ rest
+  pub next_after : (b : ℕ) → (c : ℕ) (rest : List ℕ) → blocks_after t (Some b) ≡ c ∷ rest
       → blocks_after t (Some c) ≡ rest
   next_after b c rest e =
       let k : Kind = kind_at t b in
@@ -48,7 +50,53 @@ module _ (t : Table) (is : IsTable t) where
       ap (λ kind. after_first c (chain_of t kind)) (kind_here k c inside)
       ∙ after_next b c (chain_of t k) rest (is.once k) e
 
+  -- what the first block of some leads to, where each leads to what follows it
+  blocks_are : (bs : List ℕ) (block : Option ℕ) → block ≡ slice_get bs 0
+      → ((b : ℕ) (rest : List ℕ) → bs ≡ b ∷ rest → blocks_after t (Some b) ≡ rest)
+      → blocks_from t block ≡ bs
+  blocks_are [] block first after = ap (blocks_from t) first
+  blocks_are (b ∷ rest) block first after =
+      ap (blocks_from t) first ∙ ap (λ xs. b ∷ xs) (after b rest refl)
+
+  pub from_first : (k : Kind) (block : Option ℕ) → block ≡ slice_get (chain_of t k) 0
+      → blocks_from t block ≡ chain_of t k
+  from_first k block first = blocks_are (chain_of t k) block first (first_after k)
+
+  pub from_next : (b : ℕ) (next : Option ℕ) → has_handles (get t.uses b) ≡ true
+      → ((from to : List ℕ) → chain_of t (kind_at t b) ≡ from ++ b ∷ to → next ≡ slice_get to 0)
+      → blocks_from t next ≡ blocks_after t (Some b)
+  from_next b next handles after =
+      let (from, split) = split_after b (chain_of t (kind_at t b)) (chained_here b handles) in
+      blocks_are (blocks_after t (Some b)) next (after from (blocks_after t (Some b)) split) (next_after b)
+
+-- a block that a table gives is one with handles
+pub handle_block : (t : Table) (block : Option ℕ) (k : Kind) → IfSome block (λ b. (1 ≤ b) × (b ≤ t.blocks))
+    → IfSome block (λ b. get t.uses b ≡ Some (handles_of k)) → ForSome block (IsHandleBlock t)
+handle_block t block k within of_kind = λ b e.
+    let bounds = subst (λ o. IfSome o (λ b. (1 ≤ b) × (b ≤ t.blocks))) e within in
+    record {
+      handles = ap has_handles (subst (λ o. IfSome o (λ b. get t.uses b ≡ Some (handles_of k))) e of_kind);
+      low = bounds.0;
+      high = bounds.1;
+    }
+
 module _ (t : Table) (ages : List ℕ) where
+  -- a block's due clumps are counted beside those of the blocks after it
+  pub block_counted : (block : Option ℕ) (b mask n clumps count total : ℕ) → block ≡ Some b
+      → count ≡ length (set_bits mask) → map (clump_at b) (set_bits mask) ≡ due_in ages n (Some b)
+      → clumps + length (due_clumps ages n (blocks_from t block)) ≡ total
+      → clumps + count + length (due_clumps ages n (blocks_after t (Some b))) ≡ total
+  block_counted block b mask n clumps count total here number due sum =
+      omega (
+        arith,
+        sum,
+        number,
+        ap (λ o. length (due_clumps ages n (blocks_from t o))) here,
+        length-append (due_in ages n (Some b)) (due_clumps ages n (blocks_after t (Some b))),
+        ap length due,
+        length-map (set_bits mask) (clump_at b),
+      )
+
   clumps_are : (w : DueRows) → clumps_to_come t ages w
       ≡ clumps_by w.block w.clumps ++ due_clumps ages w.n (blocks_after t w.block)
   unfolding clumps_to_come
@@ -119,14 +167,6 @@ module _ (t : Table) (ages : List ℕ) where
         less = omega (arith, ap length whole, ap (λ o. length (blocks_from t o)) block);
       }
 
-  fewer_blocks : (bs : List ℕ) (b : ℕ) (next : Option ℕ) → next ≡ slice_get bs 0
-      → bs ≡ blocks_after t (Some b)
-      → ((c : ℕ) (rest : List ℕ) → bs ≡ c ∷ rest → blocks_after t (Some c) ≡ rest)
-      → length (blocks_from t next) < length (blocks_from t (Some b))
-  fewer_blocks [] b next first is after = omega (arith, ap (λ o. length (blocks_from t o)) first)
-  fewer_blocks (c ∷ rest) b next first is after =
-      omega (arith, ap (λ o. length (blocks_from t o)) first, ap length (after c rest refl), ap length is)
-
   -- on to the next block of the chain
   pub new_block : IsTable t → (old new : DueRows) (b before : ℕ) (next : Option ℕ) → old.block ≡ Some b
       → has_handles (get t.uses b) ≡ true → old.rows ≡ 0 → set_bits old.clumps ≡ []
@@ -149,7 +189,7 @@ module _ (t : Table) (ages : List ℕ) where
       ∙ at_block bs old.n next new.clumps first due (next_after t is b) in
       let clumps : clumps_to_come t ages new ≡ clumps_to_come t ages old = new_clumps ∙ sym old_clumps in
       let new_none : new.rows ≡ 0 = ap (λ (w : DueRows). w.rows) same ∙ none in
-      let less = fewer_blocks bs b next first refl (next_after t is b) in
+      let less = ap length (from_next t is b next handles after) in
       record {
         slots = between new new_none ∙ ap (slots_of t) clumps ∙ sym (between old none);
         steps = ap (λ xs. before + length xs) clumps;

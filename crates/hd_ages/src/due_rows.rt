@@ -5,12 +5,13 @@ ghost use Rattle.std.specs.Option.{ForSome};
 ghost use Rattle.hd_mask.specs.Mask.{set_bits};
 ghost use Rattle.hd_model.specs.Ages.{due_clumps};
 ghost use Rattle.hd_model.specs.Table.{IsTable, chain_of};
+ghost use Rattle.hd_model.specs.Visits.{visits_of};
 ghost use Rattle.hd_ages.specs.Clumps.{CoversTable, clump_at};
 ghost use Rattle.hd_ages.specs.Walk.{IsOn, Advances, IsOver, Ends, Gives};
 ghost use Rattle.hd_ages.specs.Walk.{clumps_by, due_in, clumps_to_come, slots_in, slots_to_come, due_slots};
 
 use crate::age_map::AgeMap;
-use hd_mask::{lowest, take_lowest};
+use hd_mask::{count, lowest, take_lowest};
 use hd_model::limits::{BLOCKS, CLUMP, CLUMPS, ROWS};
 use hd_model::{Kind, Slot, Steps};
 use hd_seg::Seg;
@@ -144,4 +145,19 @@ impl DueRows {
         self.rows = take_lowest(self.rows, 1).1;
         Slot(self.first + row)
     }
+}
+
+/// The number of clumps that a walk over the rows of a kind visits. It looks at no row.
+pub fn count_due(seg: &Seg, ages: &AgeMap, kind: Kind, n: u8) -> u32
+    requires blocks { CoversTable ages.now seg.now }
+    ensures value { result ≡ visits_of seg.now ages.now n kind }
+    ensures few { result ≤ CLUMPS * BLOCKS }
+{
+    let mut clumps = 0;
+    let mut block = seg.first(kind);
+    while let Some(at) = block {
+        clumps += count(u64::from(ages.due(at, n)));
+        block = seg.after(at);
+    }
+    clumps
 }

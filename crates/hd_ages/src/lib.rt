@@ -12,4 +12,4 @@ mod tests;
 mod word;
 
 pub use age_map::AgeMap;
-pub use due_rows::DueRows;
+pub use due_rows::{DueRows, count_due};

@@ -1,3 +1,5 @@
 pub mod DependentClear
 pub mod SecondarySpread
 pub mod RescanPasses
+pub mod WaitingLists
+pub mod SecondaryFollow

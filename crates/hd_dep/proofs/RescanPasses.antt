@@ -181,6 +181,18 @@ rescan_steps h n visits p0 p old new settled passed = record {
   steps_are = passed.steps_are;
 }
 
+-- one pass is a rescan's where nothing is left to be promoted
+pub one_pass_steps : (h : Heap) (n visits : ℕ) (p0 p : Addr → Bool) (old new : ℕ)
+    → IsSettled (object_at h) n p → new ≡ old + visits → RescanSteps visits p0 p old new
+one_pass_steps h n visits p0 p old new settled is =
+    rescan_steps h n visits p0 p old new settled
+    (record {
+      passes = 1;
+      steps_are = omega (arith, is);
+      most = omega arith;
+      least = λ e. omega arith;
+    })
+
 -- ---- the closure
 
 module _ (o : Objects Addr) (n : ℕ) (rows : Rows Addr) (ages : List ℕ) (p0 p : Addr → Bool)

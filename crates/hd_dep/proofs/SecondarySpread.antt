@@ -1,6 +1,7 @@
 -- One pass of a rescan: what it promotes, and when there is nothing to promote.
-use Rattle.std.proofs.Common.{◌≡◌, ◌&&◌, ◌||◌, ℕ, ◌+◌, not, Bool, true, false, List, length, Some, refl, sym, ap, ◌∙◌, subst, ⊎_elim, inl, inr}
-use Rattle.std.specs.Prelude.{Contains, MatchBool}
+use Rattle.std.proofs.Common.{◌≡◌, ◌&&◌, ◌||◌, ℕ, ◌+◌, not, Bool, true, false, List, length, Option, Some, refl, sym, ap, ◌∙◌, subst, ⊎_elim, inl, inr}
+use Rattle.std.specs.Prelude.{Contains, MatchBool, IsSome, option_map}
+use Rattle.std.specs.FinMap.{get}
 use Rattle.std.proofs.lemmas.Bool.{cases_eq, and_parts, not-true}
 use Rattle.hd_model.specs.declared.data.Addr.{Addr}
 use Rattle.hd_model.specs.declared.data.Kind.TheVariants as kind
@@ -9,7 +10,7 @@ use Rattle.hd_model.specs.State.{Handle, secondary_of}
 use Rattle.hd_model.specs.Role.{attaches, role}
 use Rattle.hd_model.specs.Leads.{Leads, Grows}
 use Rattle.hd_model.specs.Reach.{IsEdge}
-use Rattle.hd_model.specs.Scene.{Objects, Rows, IsYoungField}
+use Rattle.hd_model.specs.Scene.{Objects, IsYoungField}
 use Rattle.hd_model.specs.Ages.{is_due, due_clumps}
 use Rattle.hd_model.specs.Table.{Table, IsTable, chain_of, live_at, row_at}
 use Rattle.hd_model.specs.Collect.{is_attaching}
@@ -20,6 +21,9 @@ use Rattle.hd_ages.specs.Walk.{IsOn, Ends, Gives, due_slots, clumps_to_come, slo
 use Rattle.hd_ages.specs.Rows.{IsDueRow}
 use Rattle.hd_ages.proofs.WalkProgress.{IsUnderway, begins, all_to_come, row_due, row_same, past_else, goes_on, all_past}
 use Rattle.std.proofs.lemmas.Option.{same_Some}
+use Rattle.hd_seg.specs.Row.{extra_of, row_of}
+use Rattle.hd_seg.specs.declared.row.Row.{Row}
+use Rattle.hd_seg.proofs.RowRewrite.{extra_again, live_row}
 use Rattle.hd_dep.specs.Rescan.{Spreads, Gained, IsFollowed, IsSpreadRow, IsSpread}
 use Rattle.hd_dep.proofs.DependentClear.{attaches_by}
 
@@ -39,45 +43,71 @@ module _ {N : Type 0} (E : N → N → Type 0) where
   pub gained_on : (p q r : N → Bool) → Gained p q → Spreads E q r → Gained p r
   gained_on p q r g s = record { member = g.member; new = s.keeps g.member g.new; old = g.old }
 
--- fields of condemned objects are edges
-pub young_edges : {N : Type 0} (o : Objects N) (n : ℕ) (rows : Rows N) {x y : N}
-    → Leads (IsYoungField o n) x y
-    → Leads (IsEdge o rows) x y
-young_edges o n rows Leads.here = Leads.here
-young_edges o n rows (Leads.more chain e) = Leads.more (young_edges o n rows chain) (inl e.field)
+-- chains of some edges are chains of others, and sets that spread along them spread along the others
+module _ {N : Type 0} (E F : N → N → Type 0) (turn : (x y : N) → E x y → F x y) where
+  leads_like : {x y : N} → Leads E x y → Leads F x y
+  leads_like Leads.here = Leads.here
+  leads_like (Leads.more {y = y} {z = z} chain e) = Leads.more (leads_like chain) (turn y z e)
+
+  pub spreads_like : (p q : N → Bool) → Spreads E p q → Spreads F p q
+  spreads_like p q s = record {
+    keeps = s.keeps;
+    only = λ x h. let (r, rest) = s.only x h in (r, (rest.0, leads_like rest.1));
+  }
+
+  -- a set that grows from what edges of F lead to from a member spreads along F
+  pub grows_spread : (Start : N → Type 0) (p q : N → Bool) (from : N) → p from ≡ true
+      → ((y : N) → Start y → F from y) → Grows E Start p q → Spreads F p q
+  grows_spread Start p q from h step grows = record {
+    keeps = grows.keeps;
+    only = λ z k.
+        ⊎_elim (λ earlier. (z, (earlier, Leads.here)))
+        (λ (w : (r : N) × (Start r × Leads E r z)). (
+          from,
+          (h, leads_on F (one_edge F (step w.0 w.1.0)) (leads_like w.1.1)),
+        ))
+        (grows.only z k);
+  }
+
+-- the parts of a live handle are those of the row that is read
+pub row_parts : (t : Table) (slot : ℕ) (r : Option Row) (row : Row) → r ≡ option_map row_of (get t.rows slot)
+    → IsSome (get t.rows slot) → r ≡ Some row
+    → ((live_at t slot).target ≡ row.target)
+    × (secondary_of (live_at t slot).extra ≡ secondary_of (extra_of row.extra))
+row_parts t slot r row read live is =
+    let was_stored : row_of (live_at t slot) ≡ row =
+    same_Some _ _ (sym (ap (option_map row_of) (live_row t slot live)) ∙ sym read ∙ is) in (
+      ap (λ (a : Row). a.target) was_stored,
+      ap secondary_of
+          (sym (extra_again (live_at t slot).extra) ∙ ap (λ (a : Row). extra_of a.extra) was_stored),
+    )
 
 module _ (o : Objects Addr) (n : ℕ) (t : Table) where
-  -- the secondary of a handle is promoted with its target
-  pub promoted_beyond : (slot : ℕ) (h : Handle Addr) (x y : Addr) (p q : Addr → Bool) → row_at t slot ≡ Some h
+  pub young_edge : (x y : Addr) → IsYoungField o n x y → IsEdge o (row_at t) x y
+  young_edge x y e = inl e.field
+
+  -- the secondary of a handle is promoted, whose target is
+  pub promoted_next : (slot : ℕ) (h : Handle Addr) (x y : Addr) (p q : Addr → Bool) → row_at t slot ≡ Some h
       → h.kind ≡ kind.Dependent → h.target ≡ Some x → secondary_of h.extra ≡ Some y
-      → (p x && not (p y)) ≡ true → Grows (IsYoungField o n) (λ z. z ≡ y) p q
-      → Spreads (IsEdge o (row_at t)) p q × Gained p q
-  promoted_beyond slot h x y p q is_stored dependent target secondary beyond grows =
-      let parts = and_parts (p x) (not (p y)) beyond in
-      let edge : IsEdge o (row_at t) x y =
-      inr (record {
+      → p x ≡ true → Grows (IsYoungField o n) (λ z. z ≡ y) p q → Spreads (IsEdge o (row_at t)) p q
+  promoted_next slot h x y p q is_stored dependent target secondary promoted =
+      grows_spread (IsYoungField o n) (IsEdge o (row_at t)) young_edge (λ z. z ≡ y) p q x promoted
+      (λ z e. inr (record {
         slot = slot;
         handle = h;
         is_stored = is_stored;
         attaches = attaches_by h dependent;
         target = target;
-        secondary = secondary;
-      }) in (
-        record {
-          keeps = grows.keeps;
-          only = λ z h.
-              ⊎_elim (λ earlier. (z, (earlier, Leads.here)))
-              (λ (w : (r : Addr) × ((r ≡ y) × Leads (IsYoungField o n) r z)). (
-                x,
-                (
-                  parts.0,
-                  leads_on (IsEdge o (row_at t)) (one_edge (IsEdge o (row_at t)) edge)
-                      (subst (λ r. Leads (IsEdge o (row_at t)) r z) w.1.0
-                      (young_edges o n (row_at t) w.1.1)),
-                ),
-              ))
-              (grows.only z h);
-        },
+        secondary = secondary ∙ ap (λ a. Some a) (sym e);
+      }))
+
+  pub promoted_beyond : (slot : ℕ) (h : Handle Addr) (x y : Addr) (p q : Addr → Bool) → row_at t slot ≡ Some h
+      → h.kind ≡ kind.Dependent → h.target ≡ Some x → secondary_of h.extra ≡ Some y
+      → (p x && not (p y)) ≡ true → Grows (IsYoungField o n) (λ z. z ≡ y) p q
+      → Spreads (IsEdge o (row_at t)) p q × Gained p q
+  promoted_beyond slot h x y p q is_stored dependent target secondary beyond grows =
+      let parts = and_parts (p x) (not (p y)) beyond in (
+        promoted_next slot h x y p q is_stored dependent target secondary parts.0 grows,
         record { member = y; new = grows.joins y refl; old = not-true (p y) parts.1 },
       )
 

@@ -104,7 +104,7 @@ fn spread_row<M: Marker>(seg: &Seg, slot: Slot, marker: &mut M) -> bool
 }
 
 /// The target and the secondary of a row that has both.
-fn parts(row: Row) -> Option<(Addr, Addr)>
+pub(crate) fn parts(row: Row) -> Option<(Addr, Addr)>
     ensures both { IfSome result (λ parts. (row.target ≡ Some parts.0)
         × (secondary_of (extra_of row.extra) ≡ Some parts.1)) }
     ensures none { IfNone result ((x y : Addr) → row.target ≡ Some x →

@@ -44,5 +44,5 @@ pub use laws::{
     solo_runs_are_one, solo_text_is_one, static_is_read_back, steps_keep_well_formed,
     strength_is_kept, target_is_read_back, untouched_stays, value_is_read_back,
 };
-pub use marker::{Marker, is_lost};
+pub use marker::{Marker, PromotionLog, is_lost};
 pub use steps::Steps;

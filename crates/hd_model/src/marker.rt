@@ -1,8 +1,8 @@
-ghost use Rattle.std.specs.Prelude.{◌≡◌, ◌||◌, ℕ, Bool, true};
+ghost use Rattle.std.specs.Prelude.{◌≡◌, ◌||◌, ◌<◌, ℕ, Bool, true, List, Some, length, slice_get, take};
 ghost use Rattle.hd_model.specs.Heap.{Basis, objects_of};
 ghost use Rattle.hd_model.specs.Scene.{is_object, IsYoungField};
 ghost use Rattle.hd_model.specs.Leads.{Grows};
-ghost use Rattle.hd_model.specs.Marking.{IsSettled, Gains};
+ghost use Rattle.hd_model.specs.Marking.{IsSettled, IsPromotionLog, Gains};
 ghost use Rattle.hd_model.specs.Collect.{is_lost};
 ghost use Rattle.std.specs.Option.{ForSome};
 
@@ -60,6 +60,42 @@ pub trait Marker {
     /// under these fields.
     ghost settles: { (m : Self) → settled m →
         IsSettled (objects_of (basis m)) (basis m).condemned (promoted m) };
+}
+
+/// A marker that also lists the condemned objects that it promoted, each once, in the order in
+/// which it promoted them.
+pub trait PromotionLog: Marker {
+    ghost use Rattle.std.specs.Prelude.{List};
+    ghost use Rattle.hd_model.specs.declared.data.Addr.{Addr};
+
+    /// The condemned objects that were promoted, the first one first.
+    ghost log: { Self → List Addr };
+
+    /// The number of condemned objects that were promoted.
+    fn logged(&self) -> usize
+        ensures { result ≡ length (log self.now) };
+
+    /// The condemned object that was promoted after `i` others.
+    fn logged_at(&self, i: usize) -> Addr
+        requires { i < length (log self.now) }
+        ensures { slice_get (log self.now) i ≡ Some result };
+
+    /// Promotes as `promote` does. What was not promoted before follows in the list.
+    fn promote_logged(&mut self, at: Addr)
+        requires settled { Self.settled self.old }
+        requires object { is_object (objects_of (Self.basis self.old)) at ≡ true }
+        ensures settled { Self.settled self.new }
+        ensures basis { Self.basis self.new ≡ Self.basis self.old }
+        ensures grows { let basis = Self.basis self.old in
+            Grows (IsYoungField (objects_of basis) basis.condemned)
+            (λ x. x ≡ at) (Self.promoted self.old) (Self.promoted self.new) }
+        ensures pinned { Self.pinned self.new ≡ Self.pinned self.old }
+        ensures log { take (length (log self.old)) (log self.new) ≡ log self.old };
+
+    /// Where it is settled, the list has exactly the promoted objects that are condemned.
+    ghost logs: { (m : Self) → Self.settled m →
+        IsPromotionLog (objects_of (Self.basis m)) (Self.basis m).condemned (Self.promoted m)
+        (log m) };
 }
 
 /// Whether a target is not promoted. Null is not lost.

@@ -8,7 +8,7 @@ use Rattle.hd_model.specs.Kinds.{is_kind, kind_number}
 use Rattle.hd_model.specs.Scene.{Objects}
 use Rattle.hd_model.specs.Ages.{is_due, HasSoundAges}
 use Rattle.hd_model.specs.Marking.{IsKeeping}
-use Rattle.hd_model.specs.Table.{Table, row_at, fits}
+use Rattle.hd_model.specs.Table.{Table, row_at}
 use Rattle.hd_model.proofs.KindTests.{same_kind}
 use Rattle.hd_model.proofs.MarkReach.{undue_in_place}
 use Rattle.hd_model.specs.State as state
@@ -16,7 +16,6 @@ use Rattle.hd_model.specs.State.{Handle, secondary, secondary_of, rename_extra}
 use Rattle.hd_ages.specs.declared.due_rows.DueRows.{DueRows}
 use Rattle.hd_ages.specs.Rows.{IsDueRow}
 use Rattle.hd_seg.specs.Rewriting.{Rewrites}
-use Rattle.hd_seg.proofs.RowRewrite.{fits_secondary}
 use Rattle.hd_ages.proofs.WalkWrites.{IsChanging}
 use Rattle.hd_scan.specs.Relocation.{relocated, KeepsNames, CanRelocate, Relocates, RelocatesAll}
 
@@ -27,14 +26,10 @@ pub handle_moved : (place : Addr → Addr) (h : Handle Addr) (target : Option Ad
 handle_moved place h target extra first second =
     λ i. record { kind = h.kind; target = first i; extra = second i }
 
--- what fits a kind still does when it is relocated
-pub fits_renamed : (place : Addr → Addr) (k : Kind) (e : state.Extra Addr) → fits k e ≡ true
-    → fits k (rename_extra place e) ≡ true
-fits_renamed place k state.nothing fitting = fitting
-fits_renamed place k (state.strength given) fitting = fitting
-fits_renamed place k (state.secondary o) fitting =
-    fits_secondary k (secondary o) o (option_map place o) refl fitting
-fits_renamed place k (state.count c) fitting = fitting
+-- an extra without a secondary stays as it is
+pub extra_stays : (place : Addr → Addr) (e d : state.Extra Addr) → e ≡ d → rename_extra place d ≡ d
+    → e ≡ rename_extra place e
+extra_stays place e d is same = is ∙ sym same ∙ sym (ap (rename_extra place) is)
 
 module _ (t : Table) (ages : List ℕ) (n : ℕ) (k : Kind) (place : Addr → Addr) where
   abbrev pub relocation : ℕ → Handle Addr → Handle Addr

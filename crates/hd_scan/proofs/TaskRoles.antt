@@ -1,10 +1,17 @@
 -- The tasks of a role take exactly the handles that have it.
-use Rattle.std.proofs.Common.{◌≡◌, ◌||◌, zero, suc, Bool, true, false, Option, refl}
+use Rattle.std.proofs.Common.{◌≡◌, ◌&&◌, ◌||◌, zero, suc, Bool, true, false, Option, refl, sym, ap, ◌∙◌}
+use Rattle.hd_model.specs.declared.data.Addr.{Addr}
 use Rattle.hd_model.specs.declared.data.Kind.{Kind}
 use Rattle.hd_model.specs.declared.data.Kind.TheVariants as kind
 use Rattle.hd_model.specs.State.{Extra, nothing, strength, secondary, count, Handle}
 use Rattle.hd_model.specs.Role.{holds, short, long, role_of}
-use Rattle.hd_scan.specs.Tasks.{root_tasks, short_tasks, long_tasks, takes_any, is_role, has_role}
+use Rattle.hd_model.specs.Kinds.{is_kind, is_paired}
+use Rattle.hd_seg.specs.Row.{extra_of, row_of}
+use Rattle.hd_seg.specs.declared.row.Row.{Row}
+use Rattle.hd_seg.proofs.RowRewrite.{extra_again}
+use Rattle.hd_scan.specs.declared.task.Task.{Task}
+use Rattle.hd_scan.specs.declared.task.Task.TheVariants as task
+use Rattle.hd_scan.specs.Tasks.{task_kind, task_role, takes, root_tasks, short_tasks, long_tasks, takes_any, is_role, has_role}
 
 or_none : (b : Bool) → (b || false) ≡ b
 or_none true = refl
@@ -44,3 +51,39 @@ module _ {N : Type 0} where
 
   pub long_cover : takes_any long_tasks ≡ has_role {N = N} long
   long_cover = λ i h. (covers h.kind h.target h.extra).2 i
+
+-- a task takes a handle of its kind by its role, and each one where the kind has no extra data
+kind_itself : (k : Kind) → is_kind k k ≡ true
+kind_itself kind.Short = refl
+kind_itself kind.Long = refl
+kind_itself kind.Strong = refl
+kind_itself kind.Pinned = refl
+kind_itself kind.Variable = refl
+kind_itself kind.Counted = refl
+kind_itself kind.Dependent = refl
+
+takes_plain : {N : Type 0} (t : Task) (e : Extra N) → is_paired (task_kind t) ≡ false
+    → is_role (task_role t) (role_of (task_kind t) e) ≡ true
+takes_plain task.Strong e plain = refl
+takes_plain task.Pinned e plain = refl
+takes_plain task.VariableRoots e plain = cc
+takes_plain task.CountedRoots e plain = cc
+takes_plain task.ClearShort e plain = refl
+takes_plain task.ClearLong e plain = refl
+takes_plain task.ClearVariableShort e plain = cc
+takes_plain task.ClearVariableLong e plain = cc
+takes_plain task.ClearCounted e plain = cc
+
+module _ (t : Task) (h : Handle Addr) (of_kind : h.kind ≡ task_kind t) where
+  takes_by : takes t h ≡ is_role (task_role t) (role_of (task_kind t) h.extra)
+  takes_by = ap (λ k. is_kind (task_kind t) k && is_role (task_role t) (role_of k h.extra)) of_kind
+      ∙ ap (λ b. b && is_role (task_role t) (role_of (task_kind t) h.extra)) (kind_itself (task_kind t))
+
+  pub takes_all : is_paired (task_kind t) ≡ false → true ≡ takes t h
+  takes_all plain = sym (takes_by ∙ takes_plain t h.extra plain)
+
+  pub takes_read : (row : Row) → row ≡ row_of h
+      → is_role (task_role t) (role_of (task_kind t) (extra_of row.extra)) ≡ takes t h
+  takes_read row is =
+      ap (λ (r : Row). is_role (task_role t) (role_of (task_kind t) (extra_of r.extra))) is
+      ∙ ap (λ e. is_role (task_role t) (role_of (task_kind t) e)) (extra_again h.extra) ∙ sym takes_by

@@ -60,10 +60,7 @@ fn clear_row<M: Marker>(seg: &mut Seg, slot: Slot, task: Task, marker: &M) -> bo
     ensures lost { let handle = live_at seg.old slot.0 in
         result ≡ (takes task handle && is_lost (M.promoted marker.now) handle.target) }
 {
-    let Some(row) = seg.row(slot) else {
-        return false;
-    };
-    let lost = task.takes(row.extra) && is_lost(row.target, marker);
+    let lost = task.takes_at(seg, slot) && is_lost(seg.target(slot), marker);
     if lost {
         seg.set_row(slot, None);
     }

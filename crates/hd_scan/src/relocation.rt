@@ -1,12 +1,10 @@
 ghost use Rattle.std.specs.Prelude.{◌≡◌, ◌+◌, ◌*◌, length, option_map, IsSome, true};
 ghost use Rattle.std.specs.Option.{ForSome};
 ghost use Rattle.std.specs.FinMap.{get};
-ghost use Rattle.hd_model.specs.State.{rename_extra, secondary_of};
 ghost use Rattle.hd_model.specs.Heap.{objects_of};
 ghost use Rattle.hd_model.specs.Table.{live_at, row_at};
 ghost use Rattle.hd_model.specs.Visits.{IsSameTable, visits_of};
 ghost use Rattle.hd_model.specs.Ages.{HasSoundAges};
-ghost use Rattle.hd_seg.specs.Row.{extra_of};
 ghost use Rattle.hd_seg.specs.Rewriting.{Rewrites};
 ghost use Rattle.hd_ages.specs.Clumps.{CoversTable};
 ghost use Rattle.hd_scan.specs.Relocation.{CanRelocate, KeepsNames, Relocates, RelocatesAll, relocated};
@@ -40,37 +38,27 @@ pub fn relocate<F: Forward, L: Ledger>(
 {
     let mut rows = DueRows::start(seg, ages, kind, n);
     while let Some(slot) = rows.next(seg, ages, steps) {
-        relocate_row(seg, slot, forward);
+        relocate_row(seg, slot, kind, forward);
     }
 }
 
-/// Gives a row the forwarding addresses of what it references.
-fn relocate_row<F: Forward>(seg: &mut Seg, slot: Slot, forward: &F)
+/// Gives a row of a kind the forwarding addresses of what it references.
+fn relocate_row<F: Forward>(seg: &mut Seg, slot: Slot, kind: Kind, forward: &F)
     requires live { IsSome (get seg.old.rows slot.0) }
+    requires of_kind { (live_at seg.old slot.0).kind ≡ kind }
     requires laid { F.laid forward.now }
     requires kept { KeepsNames (F.kept forward.now) (live_at seg.old slot.0) }
     ensures { let handle = live_at seg.old slot.0 in
         Rewrites slot.0 (relocated true (F.place forward.now) handle) seg.old seg.new }
 {
-    let Some(row) = seg.row(slot) else {
-        return;
-    };
-    let moved = Row {
-        target: moved_name(row.target, forward),
-        extra: moved_extra(row.extra, forward),
-    };
-    rewrite_row(seg, slot, moved);
-}
-
-/// An extra with the forwarding address of its secondary, if it has one.
-fn moved_extra<F: Forward>(extra: Extra, forward: &F) -> Extra
-    requires laid { F.laid forward.now }
-    requires kept { ForSome (secondary_of (extra_of extra)) (λ x. F.kept forward.now x ≡ true) }
-    ensures { extra_of result ≡ rename_extra (F.place forward.now) (extra_of extra) }
-{
-    match extra {
-        Extra::Secondary(secondary) => Extra::Secondary(moved_name(secondary, forward)),
-        Extra::Nothing | Extra::Strength(_) | Extra::Count(_) => extra,
+    let row = seg.row_of_kind(slot, kind);
+    let target = moved_name(row.target, forward);
+    match row.extra {
+        Extra::Secondary(secondary) => {
+            let extra = Extra::Secondary(moved_name(secondary, forward));
+            rewrite_row(seg, slot, Row { target, extra });
+        }
+        Extra::Nothing | Extra::Strength(_) | Extra::Count(_) => seg.set_row(slot, target),
     }
 }
 

@@ -67,16 +67,14 @@ fn promote_row<M: Marker>(seg: &Seg, slot: Slot, task: Task, marker: &mut M) -> 
     ensures answer { let handle = live_at seg.now slot.0 in
         result ≡ (takes task handle && is_some handle.target) }
 {
-    let Some(row) = seg.row(slot) else {
+    let Some(at) = seg.target(slot) else {
         return false;
     };
-    let Some(at) = row.target else {
-        return false;
-    };
-    if !task.takes(row.extra) {
+    if !task.takes_at(seg, slot) {
         return false;
     }
     marker.promote(at);
+    let row = seg.row_of_kind(slot, task.kind());
     if pins(task.kind(), row.extra) {
         marker.pin(at);
     }

@@ -1,10 +1,12 @@
-ghost use Rattle.std.specs.Prelude.{◌≡◌};
+ghost use Rattle.std.specs.Prelude.{◌≡◌, IsSome};
+ghost use Rattle.std.specs.FinMap.{get};
+ghost use Rattle.hd_model.specs.Table.{live_at};
 ghost use Rattle.hd_model.specs.Role.{role_of, role_of_strength, role_of_count, pins_by, pins_by_strength};
-ghost use Rattle.hd_scan.specs.Tasks.{task_kind, task_role, is_clearing, is_role, role_from};
+ghost use Rattle.hd_scan.specs.Tasks.{takes, task_kind, task_role, is_clearing, is_role, role_from};
 ghost use Rattle.hd_seg.specs.Row.{extra_of};
 
-use hd_model::{Kind, Strength};
-use hd_seg::Extra;
+use hd_model::{Kind, Slot, Strength};
+use hd_seg::{Extra, Seg};
 
 /// What a pass does, and to which handles. The first four promote the targets of the handles that
 /// hold them, and pin those of the ones that pin; the others clear the handles whose target is not
@@ -95,6 +97,19 @@ impl Task {
             | Task::ClearVariableLong
             | Task::ClearCounted => true,
         }
+    }
+
+    /// Whether it takes the handle of its kind in a slot. The extra is read only if that decides.
+    pub(crate) fn takes_at(self, seg: &Seg, slot: Slot) -> bool
+        requires live { IsSome (get seg.now.rows slot.0) }
+        requires of_kind { (live_at seg.now slot.0).kind ≡ task_kind self }
+        ensures { result ≡ takes self (live_at seg.now slot.0) }
+    {
+        let kind = self.kind();
+        if !kind.paired() {
+            return true;
+        }
+        self.takes(seg.row_of_kind(slot, kind).extra)
     }
 
     /// Whether it takes a handle of its kind with an extra.

@@ -1,18 +1,18 @@
 -- What the reading calls return, by the fields and the value of a table.
 use Rattle.std.proofs.Common.{◌≡◌, ℕ, zero, suc, ◌+◌, ◌*◌, ◌/◌, ◌%◌, ◌^◌, ◌<◌, ◌≤◌, true, cond, List, [], ◌∷◌, ◌++◌, length, get_or, take, drop, replicate, Option, Some, None, IfSome, Contains, refl, sym, ap, ◌∙◌, subst, arith, bit_and}
-use Rattle.std.specs.Prelude.{is_some, slice_get}
+use Rattle.std.specs.Prelude.{is_some, IsSome, slice_get}
 use Rattle.std.specs.Option.{option_map}
 use Rattle.std.specs.FinMap.{get, len, empty, get-empty, len-empty, contains_key}
 use Rattle.std.specs.Int.{bit_at}
 use Rattle.std.specs.Ordering.{nat_cmp}
 use Rattle.std.proofs.lemmas.List.{length-replicate, take-append-drop, drop_more}
-use Rattle.std.proofs.lemmas.Option.{get_or_from_slice_get, slice_get_within}
+use Rattle.std.proofs.lemmas.Option.{same_Some, get_or_from_slice_get, slice_get_within}
 use Rattle.std.proofs.lemmas.Nat.Bits.{bit_at-zero, bit_at_and, bit_at_ones, bit_at-lt}
 use Rattle.hd_mask.proofs.Bits.{bit_at-shr}
 use Rattle.hd_model.specs.declared.data.Addr.{Addr}
 use Rattle.hd_model.specs.declared.data.Kind.{Kind}
 use Rattle.hd_model.specs.State.{Handle, BlockUse, handles_of}
-use Rattle.hd_model.specs.Table.{Table, IsTable, IsLeastWithout, empty_table, chain_of, kind_at, kind_in, has_handles, with_block}
+use Rattle.hd_model.specs.Table.{Table, IsTable, IsLeastWithout, empty_table, chain_of, kind_at, kind_in, live_at, has_handles, with_block}
 use Rattle.hd_model.proofs.WholeScenes.{if_some_from}
 use Rattle.hd_model.proofs.ReadAfterWrite.{get_beside}
 use Rattle.hd_seg.specs.declared.row.Extra.{Extra}
@@ -25,6 +25,7 @@ use Rattle.hd_seg.specs.Cells.{cell_at, cell_in, extra_held, place_in, extra_pla
 use Rattle.hd_seg.specs.Mapped.{mapped}
 use Rattle.hd_seg.proofs.FunctionMaps.{mapped-empty}
 use Rattle.hd_seg.proofs.ChainLinks.{none_is_some, some_of, handles_in}
+use Rattle.hd_seg.proofs.RowRewrite.{live_row}
 use Rattle.hd_seg.proofs.RowCells.{extra-from-of, row-empty, row-extra, row_is}
 
 -- an element by its index
@@ -118,6 +119,17 @@ module _ {u : Uses} {cells : List Cell} {masks : List ℕ} {live : ℕ} (inv : I
       ap (λ x. let r : Row = record { target = target; extra = x } in Some r)
       (held ∙ sym (extra-from-of (extra_held (cell_in cells (extra_place u slot)))))
       ∙ sym (ap (option_map row_of) (seen ∙ row))
+
+  -- the target of a live row, which no other cell has
+  pub target_read : (target : Option Addr) → cell_at cells slot ≡ cell.Target target
+      → IsSome (get t.rows slot) → target ≡ (live_at t slot).target
+  target_read target is live =
+      ap (λ (r : Row). r.target)
+      (same_Some _ _ (row_read target (extra_held (cell_in cells (extra_place u slot))) is refl
+      ∙ ap (option_map row_of) (live_row t slot live)))
+
+  pub live_read : None ≡ option_map row_of (get t.rows slot) → IsSome (get t.rows slot) → ⊥
+  live_read none live = let e = none ∙ ap (option_map row_of) (live_row t slot live) in cc
 
 -- the live rows of a clump, by the bits of its block's mask
 module _ {u : Uses} {cells : List Cell} {masks : List ℕ} {live : ℕ} (inv : IsSeg u cells masks live)

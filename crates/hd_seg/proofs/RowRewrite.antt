@@ -11,6 +11,7 @@ use Rattle.hd_model.specs.State.{Handle, secondary}
 use Rattle.hd_model.specs.Kinds.{is_paired}
 use Rattle.hd_model.specs.Table.{Table, row_at, live_at, with_row, fits, is_nothing, is_strength, is_count, is_secondary}
 use Rattle.hd_model.proofs.ReadAfterWrite.{get_beside}
+use Rattle.hd_seg.specs.declared.row.Extra.TheVariants.{Nothing}
 use Rattle.hd_seg.specs.Row.{extra_of, extra_from}
 use Rattle.hd_seg.proofs.FunctionMaps.{get-insert_same}
 use Rattle.hd_seg.specs.Rewriting.{Rewrites}
@@ -53,6 +54,19 @@ pub fits_secondary : (k : Kind) (e : state.Extra Addr) (x y : Option Addr) → e
 fits_secondary k e x y is fitting =
     by_fit (λ paired test. test (secondary y) ≡ test (secondary x)) refl refl refl refl k
     ∙ ap (fits k) (sym is) ∙ fitting
+
+-- a kind without extra data has no extra
+no_extra : (e : state.Extra Addr) → is_nothing e ≡ true → extra_from e ≡ Nothing
+no_extra state.nothing h = refl
+no_extra (state.strength s) h = cc
+no_extra (state.secondary o) h = cc
+no_extra (state.count c) h = cc
+
+pub plain_extra : (k : Kind) (e : state.Extra Addr) → is_paired k ≡ false → fits k e ≡ true
+    → extra_from e ≡ Nothing
+plain_extra k e =
+    by_fit (λ paired test. paired ≡ false → test e ≡ true → extra_from e ≡ Nothing) (λ is h. no_extra e h)
+    (λ is h. cc) (λ is h. cc) (λ is h. cc) k
 
 module _ (t : Table) (slot : ℕ) where
   some_live : (o : Option (Handle Addr)) → IsSome o

@@ -139,6 +139,34 @@ impl Seg {
         }
     }
 
+    /// The row of a live slot, whose kind is known: where that has no extra data, one cell is read.
+    pub fn row_of_kind(&self, slot: Slot, kind: Kind) -> Row
+        requires live { IsSome (get self.now.rows slot.0) }
+        requires kind { (live_at self.now slot.0).kind ≡ kind }
+        ensures value { result ≡ row_of (live_at self.now slot.0) }
+        ensures table { IsTable self.now }
+    {
+        if !kind.paired() {
+            return Row {
+                target: self.target(slot),
+                extra: Extra::Nothing,
+            };
+        }
+        self.row(slot).unwrap()
+    }
+
+    /// The target of a live row.
+    pub fn target(&self, slot: Slot) -> Option<Addr>
+        requires { IsSome (get self.now.rows slot.0) }
+        ensures value { result ≡ (live_at self.now slot.0).target }
+        ensures table { IsTable self.now }
+    {
+        match self.cells[slot.0 as usize] {
+            Cell::Target(target) => target,
+            Cell::Empty | Cell::Extra(_) => None,
+        }
+    }
+
     /// Puts a row into a slot that is not live.
     pub fn put_row(&mut self, slot: Slot, row: Row)
         requires vacant { get self.old.rows slot.0 ≡ None }

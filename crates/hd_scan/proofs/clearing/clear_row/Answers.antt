@@ -7,7 +7,7 @@ use Rattle.hd_seg.proofs.RowRewrite.{put_row}
 use Rattle.hd_scan.specs.Tasks.{takes}
 use Rattle.hd_scan.proofs.HandleClear.{swept_lost}
 use Rattle.hd_scan.proofs.clearing.clear_row.Goals as goal
-use Rattle.hd_scan.proofs.clearing.clear_row.Goals.{then-takes, else-takes}
+use Rattle.hd_scan.proofs.clearing.clear_row.Goals.{then-takes_at, else-takes_at}
 
 pub returns-then-lost-clause-row : goal.returns-then-lost-clause-row
 returns-then-lost-clause-row g c =

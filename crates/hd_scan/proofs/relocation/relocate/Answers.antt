@@ -2,7 +2,7 @@ use Rattle.std.proofs.Common.{false, refl, subst}
 use Rattle.std.proofs.lemmas.Bool.{false≢true}
 use Rattle.hd_model.specs.Heap.{objects_of}
 use Rattle.hd_model.specs.Marking.{IsKeeping}
-use Rattle.hd_ages.proofs.WalkProgress.{row_due, row_live, row_same}
+use Rattle.hd_ages.proofs.WalkProgress.{row_due, row_live, row_of_kind, row_same}
 use Rattle.hd_ages.proofs.WalkWrites.{change_start, change_row, change_smaller, changed, changed_steps}
 use Rattle.hd_scan.proofs.HandleRelocate.{undue_left, moved_row, kept_names, relocates_all}
 use Rattle.hd_scan.proofs.relocation.relocate.Goals as goal
@@ -17,6 +17,9 @@ loop-slot-init g c =
 
 pub relocate_row-requires-clause-live : goal.relocate_row-requires-clause-live
 relocate_row-requires-clause-live g c = row_live c.loop-slot.invariant.under c.in-Some.ensures.row
+
+pub relocate_row-requires-clause-of_kind : goal.relocate_row-requires-clause-of_kind
+relocate_row-requires-clause-of_kind g c = row_of_kind c.loop-slot.invariant.under c.in-Some.ensures.row
 
 pub relocate_row-requires-clause-kept : goal.relocate_row-requires-clause-kept
 relocate_row-requires-clause-kept g c =

@@ -1,0 +1,62 @@
+use Rattle.std.proofs.Common.{◌≡◌, ◌≤◌, ℕ, Bool, List, length, sym, ◌∙◌, subst}
+use Rattle.hd_model.specs.declared.data.Addr.{Addr}
+use Rattle.hd_model.specs.Heap.{Basis, objects_of}
+use Rattle.hd_model.specs.Marking.{IsSettled, IsPromotionLog}
+use Rattle.hd_model.specs.Table.{Table, row_at}
+use Rattle.hd_dep.specs.Waiting.{AreObjects, IsWaitingEdge}
+use Rattle.hd_dep.specs.Rescan.{Spreads}
+use Rattle.hd_dep.proofs.RescanPasses.{rescan_closure}
+use Rattle.hd_dep.proofs.SecondaryFollow.{both_spread, followed_at_last, queued_objects, kept_on, kept_long}
+use Rattle.hd_dep.proofs.following.follow.Goals as goal
+
+pub promote_since-requires-clause-objects : goal.promote_since-requires-clause-objects
+promote_since-requires-clause-objects g c =
+    let b : Basis = g.M.Marker.basis c.args.marker.now in
+    let t : Table = c.args.seg.now in
+    subst (λ (a : Basis). AreObjects (objects_of a) c.gather.new.waiting.rows.items)
+    (sym c.gather.ensures.basis)
+    (queued_objects (objects_of b) c.args.n t c.args.ages.now (g.M.Marker.promoted c.args.marker.now)
+    (g.M.Marker.promoted c.gather.new.marker) c.gather.new.waiting.rows.items c.gather.ensures.gathered
+    c.requires.due.visit.names)
+
+pub returns-clause-closure : goal.returns-clause-closure
+returns-clause-closure g c =
+    let b : Basis = g.M.Marker.basis c.args.marker.now in
+    let t : Table = c.args.seg.now in
+    let rows = c.gather.new.waiting.rows.items in
+    let p0 : Addr → Bool = g.M.Marker.promoted c.args.marker.now in
+    let p1 : Addr → Bool = g.M.Marker.promoted c.gather.new.marker in
+    let p2 : Addr → Bool = g.M.Marker.promoted c.promote_since.new.marker in
+    let log0 : List Addr = g.M.PromotionLog.log c.args.marker.now in
+    let log1 : List Addr = g.M.PromotionLog.log c.gather.new.marker in
+    let log2 : List Addr = g.M.PromotionLog.log c.promote_since.new.marker in
+    let basis = c.promote_since.ensures.basis ∙ c.gather.ensures.basis in
+    let first : IsSettled (objects_of b) c.args.n p0 =
+    subst (λ n. IsSettled (objects_of b) n p0) c.requires.due.visit.generation
+    (g.met.M.Marker.settles c.args.marker.now c.requires.settled) in
+    let last : IsSettled (objects_of b) c.args.n p2 =
+    subst (λ n. IsSettled (objects_of b) n p2) c.requires.due.visit.generation
+    (subst (λ (a : Basis). IsSettled (objects_of a) a.condemned p2) basis
+    (g.met.M.Marker.settles c.promote_since.new.marker c.promote_since.ensures.settled)) in
+    let log_first : IsPromotionLog (objects_of b) c.args.n p0 log0 =
+    subst (λ n. IsPromotionLog (objects_of b) n p0 log0) c.requires.due.visit.generation
+    (g.met.M.PromotionLog.logs c.args.marker.now c.requires.settled) in
+    let log_last : IsPromotionLog (objects_of b) c.args.n p2 log2 =
+    subst (λ n. IsPromotionLog (objects_of b) n p2 log2) c.requires.due.visit.generation
+    (subst (λ (a : Basis). IsPromotionLog (objects_of a) a.condemned p2 log2) basis
+    (g.met.M.PromotionLog.logs c.promote_since.new.marker c.promote_since.ensures.settled)) in
+    let second : Spreads (IsWaitingEdge (objects_of b) c.args.n rows) p1 p2 =
+    subst (λ n. Spreads (IsWaitingEdge (objects_of b) n rows) p1 p2) c.requires.due.visit.generation
+    (subst (λ (a : Basis). Spreads (IsWaitingEdge (objects_of a) a.condemned rows) p1 p2)
+    c.gather.ensures.basis c.promote_since.ensures.spreads) in
+    let start : c.logged-start.result ≡ length log0 = c.logged-start.ensures in
+    rescan_closure (objects_of b) c.args.n (row_at t) c.args.ages.now p0 p2 first last
+    c.requires.fields c.requires.due.sound
+    (both_spread (objects_of b) c.args.n t c.args.ages.now p0 p1 rows c.gather.ensures.gathered
+    c.requires.due.visit.names p2 c.gather.ensures.spreads second)
+    (followed_at_last (objects_of b) c.args.n t c.args.ages.now p0 p1 rows c.gather.ensures.gathered
+    c.requires.due.visit.names p2 log0 log2 first log_first log_last
+    (kept_on log0 log1 log2 c.gather.ensures.log c.promote_since.ensures.log
+    (kept_long log0 log1 c.gather.ensures.log))
+    second.keeps
+    (λ k x y low. c.promote_since.ensures.followed k x y (subst (λ (s : ℕ). s ≤ k) (sym start) low)))
