@@ -36,9 +36,9 @@ const HELD: u32 = 1;
 const ROWS_AFTER_FIRST: u64 = u64::MAX - 1;
 
 // How often a caller that lost the gate looks whether it is free before it sleeps, with a pause of
-// the processor after each look: some tens of microseconds in all. Chosen by measuring, see
-// benches/README.md.
-const LOOKS: u32 = 2000;
+// the processor after each look: 31 microseconds in all where it was measured, and several times
+// that where a pause is long. See benches/README.md.
+const LOOKS: u32 = 8000;
 
 fn zeros(alloc: Global) -> Result<Vec<u64>, AllocError>
     ensures { IfOk result (λ v. v.items ≡ replicate WORDS 0) }
