@@ -7,8 +7,6 @@
 
 mod age_map;
 mod due_rows;
-#[cfg(test)]
-mod tests;
 mod word;
 
 pub use age_map::AgeMap;

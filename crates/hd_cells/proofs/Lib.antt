@@ -3,5 +3,4 @@ pub mod RegionTiles
 pub mod Contents
 pub mod CellWrites
 pub mod CellWalk
-pub mod ObjectPresence
 pub mod ObjectStarts

@@ -7,8 +7,6 @@
 mod cells;
 mod constants;
 mod region;
-#[cfg(test)]
-mod tests;
 
 pub use cells::{CELLS, FIELDS, HEADER};
 pub use constants::limits_are_these;

@@ -12,8 +12,6 @@
 mod clearing;
 mod following;
 mod rescanning;
-#[cfg(test)]
-mod tests;
 mod waiting;
 
 pub use clearing::clear;

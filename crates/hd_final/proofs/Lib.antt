@@ -4,4 +4,3 @@ pub mod QueueSettle
 pub mod QueueJoin
 pub mod JoinerFind
 pub mod QueueRevive
-pub mod TestMarker

@@ -3,4 +3,3 @@ pub mod Resurrection
 pub mod Settling
 pub mod Joiners
 pub mod Inside
-pub mod Bare

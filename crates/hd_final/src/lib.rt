@@ -4,10 +4,6 @@
 #![tactic(auto)]
 
 mod joiners;
-#[cfg(test)]
-mod marks;
 mod queue;
-#[cfg(test)]
-mod tests;
 
 pub use queue::Final;

@@ -1,7 +1,6 @@
 pub mod TiedPool
 pub mod PoolStep
 pub mod Beginnings
-pub mod Same
 pub mod StepLiveSlots
 pub mod Plain
 pub mod HandleMake

@@ -9,8 +9,6 @@ mod change;
 mod opening;
 mod shared;
 mod step;
-#[cfg(test)]
-mod tests;
 mod turns;
 
 pub use alone::Alone;

@@ -5,8 +5,6 @@
 mod area;
 mod fault;
 mod heap;
-#[cfg(test)]
-mod tests;
 
 pub use fault::NewFault;
 pub use heap::Heap;

@@ -15,7 +15,7 @@ use std::io::{Read, Write};
 pub struct StdSource<R> {
     reader: R,
     given: u64,
-    pub(crate) faults: u64,
+    faults: u64,
 }
 
 impl<R: Read> StdSource<R> {
@@ -78,7 +78,7 @@ impl<R: Read> Source for StdSource<R> {
 #[derive(Drop)]
 pub struct StdSink<W> {
     writer: W,
-    pub(crate) faults: u64,
+    faults: u64,
 }
 
 impl<W: Write> StdSink<W> {

@@ -5,8 +5,6 @@
 mod bits;
 mod marks;
 mod places;
-#[cfg(test)]
-mod tests;
 mod trace;
 
 pub use marks::Marks;

@@ -11,8 +11,6 @@ ghost use Rattle.std.specs.Int.{bit_at};
 ghost use Rattle.hd_mask.specs.Mask.{set_bits};
 
 mod laws;
-#[cfg(test)]
-mod tests;
 
 pub use laws::limits_are_these;
 

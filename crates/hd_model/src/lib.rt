@@ -12,8 +12,6 @@ mod laws;
 pub mod limits;
 mod marker;
 mod steps;
-#[cfg(test)]
-mod tests;
 
 pub use class::Class;
 pub use collection_laws::{

@@ -6,6 +6,3 @@ mod masks;
 mod pool;
 
 pub use pool::Pool;
-
-#[cfg(test)]
-mod tests;

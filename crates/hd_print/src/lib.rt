@@ -14,6 +14,3 @@ pub use end::{end_line, load_line};
 pub use entries::{entry_line, write_entries};
 pub use line::Line;
 pub use roots::{root_line, roots_line};
-
-#[cfg(test)]
-mod tests;

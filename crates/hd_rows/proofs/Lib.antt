@@ -3,3 +3,5 @@ pub mod Walks
 pub mod Handles
 pub mod Readiness
 pub mod Made
+pub mod Mirrors
+pub mod SameCaller

@@ -1,7 +1,11 @@
 //! Tests alone: worked rows, whole runs of the program with the status and the text that they must
-//! give; and tests of crates that need several of those below.
+//! give; the calls of single crates, in a file for each crate; and tests that need several crates.
 #![tactic(auto)]
 
+#[cfg(test)]
+mod ages;
+#[cfg(test)]
+mod cells;
 #[cfg(test)]
 mod checks;
 #[cfg(test)]
@@ -9,7 +13,25 @@ mod collecting;
 #[cfg(test)]
 mod faults;
 #[cfg(test)]
+mod gate;
+#[cfg(test)]
+mod heap;
+#[cfg(test)]
+mod io;
+#[cfg(test)]
+mod mark;
+#[cfg(test)]
+mod mask;
+#[cfg(test)]
+mod model;
+#[cfg(test)]
 mod passes;
+#[cfg(test)]
+mod pool;
+#[cfg(test)]
+mod print;
+#[cfg(test)]
+mod queue;
 #[cfg(test)]
 mod relocations;
 #[cfg(test)]
@@ -20,6 +42,12 @@ mod rounds;
 mod row;
 #[cfg(test)]
 mod rows;
+#[cfg(test)]
+mod run;
+#[cfg(test)]
+mod script;
+#[cfg(test)]
+mod seg;
 #[cfg(test)]
 mod state;
 #[cfg(test)]

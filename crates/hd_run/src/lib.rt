@@ -153,6 +153,3 @@ pub fn load<R: Threads + Wait + Sync, K: Sink, P: Pace>(
     let ending = run_callers(rt, alloc, &scripts, &Limits::new(HEAP, BLOCKS), pace);
     report(sink, Form::Summary, ending)
 }
-
-#[cfg(test)]
-mod tests;

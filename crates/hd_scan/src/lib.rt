@@ -12,8 +12,6 @@ mod passes;
 mod relocation;
 mod roots;
 mod task;
-#[cfg(test)]
-mod tests;
 
 pub use gathering::{Root, gather};
 pub use passes::pass;

@@ -10,8 +10,6 @@ mod numbers;
 mod parsing;
 mod reading;
 mod scripts;
-#[cfg(test)]
-mod tests;
 mod text;
 
 pub use fault::ScriptFault;

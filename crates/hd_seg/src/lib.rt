@@ -12,8 +12,6 @@ mod change;
 mod filled;
 mod row;
 mod seg;
-#[cfg(test)]
-mod tests;
 mod writes;
 
 pub use change::rewrite_row;

@@ -1,0 +1,102 @@
+use hd_cells::{CELLS, FIELDS, HEADER, Region};
+use std::process::Abort;
+
+// Puts objects into a region, each with an identity, a number of fields and whether it is
+// registered: where each of them is. None of these helpers has a clause.
+fn put(rt: &impl Abort, region: &mut Region, objects: &[(u64, u32, bool, u32)]) {
+    for (id, fields, registered, at) in objects {
+        assert!(rt; *id > 0 && *fields <= FIELDS);
+        assert!(rt; region.fill() + fields + HEADER as u32 <= CELLS as u32);
+        assert_eq!(rt; region.put_object(*id, *fields, *registered), *at);
+    }
+}
+
+// What an object has: its identity, its fields, its value, and whether it is registered.
+fn shows(rt: &impl Abort, region: &Region, at: u32, has: (u64, &[u32], u64, bool)) {
+    assert!(rt; region.is_object(at));
+    assert!(rt; region.fields(at) as usize == has.1.len());
+    for i in 0..region.fields(at) {
+        assert!(rt; Some(&region.field(at, i)) == has.1.get(i as usize));
+    }
+    assert_eq!(rt; (region.id(at), region.value(at)), (has.0, has.2));
+    assert!(rt; region.registered(at) == has.3);
+}
+
+// Writes a field.
+fn set_field(rt: &impl Abort, region: &mut Region, at: u32, i: u32, v: u32) {
+    assert!(rt; region.is_object(at));
+    assert!(rt; i < region.fields(at));
+    region.set_field(at, i, v);
+}
+
+// Writes a value, and whether an object is registered.
+fn set_header(rt: &impl Abort, region: &mut Region, at: u32, v: u64, registered: bool) {
+    assert!(rt; region.is_object(at));
+    region.set_value(at, v);
+    assert!(rt; region.is_object(at));
+    region.set_registered(at, registered);
+}
+
+// Walks from some places on: the first object that starts there or later.
+fn walks(rt: &impl Abort, region: &Region, table: &[(u32, Option<u32>)]) {
+    for (from, found) in table {
+        assert_eq!(rt; region.walk(*from), *found, "from {from}");
+    }
+}
+
+// Removes an object.
+fn remove(rt: &impl Abort, region: &mut Region, at: u32) {
+    assert!(rt; region.is_object(at));
+    region.remove(at);
+}
+
+// An object is at a place, and the next one at another.
+fn is_stored(rt: &impl Abort, region: &Region, at: u32, next: Option<u32>) {
+    assert!(rt; region.is_object(at));
+    assert_eq!(rt; region.after(at), next);
+}
+
+#[test]
+fn four_objects_of_61_fields_leave_no_room(rt: HostRuntime) {
+    let mut region = Region::empty();
+    assert_eq!(rt; region.fill(), 0);
+    let table = [
+        (1, 61, false, 0),
+        (2, 61, true, 64),
+        (3, 61, false, 128),
+        (4, 61, true, 192),
+    ];
+    put(&rt, &mut region, &table);
+    assert_eq!(rt; region.fill(), 256);
+    let found = [(0, Some(0)), (1, Some(64)), (129, Some(192)), (193, None)];
+    walks(&rt, &region, &found);
+}
+
+#[test]
+fn an_object_keeps_what_is_written(rt: HostRuntime) {
+    let mut region = Region::empty();
+    let large = 4_294_967_297;
+    put(&rt, &mut region, &[(7, 0, false, 0), (large, 2, true, 3)]);
+    shows(&rt, &region, 3, (large, &[0, 0], 0, true));
+    set_field(&rt, &mut region, 3, 1, 515);
+    set_header(&rt, &mut region, 3, u64::MAX, false);
+    shows(&rt, &region, 3, (large, &[0, 515], u64::MAX, false));
+    shows(&rt, &region, 0, (7, &[], 0, false));
+    assert_eq!(rt; region.fill(), 8);
+}
+
+#[test]
+fn a_removed_object_is_a_gap_that_is_passed(rt: HostRuntime) {
+    let mut region = Region::empty();
+    let table = [(1, 0, false, 0), (2, 3, true, 3), (3, 1, false, 9)];
+    put(&rt, &mut region, &table);
+    is_stored(&rt, &region, 3, Some(9));
+    remove(&rt, &mut region, 3);
+    walks(&rt, &region, &[(0, Some(0)), (1, Some(9))]);
+    is_stored(&rt, &region, 0, Some(9));
+    is_stored(&rt, &region, 9, None);
+    assert_eq!(rt; region.fill(), 13);
+    for at in [0, 3, 9, 253, 254, 300, u32::MAX] {
+        assert_eq!(rt; region.is_object(at), at == 0 || at == 9, "at {at}");
+    }
+}

@@ -1,0 +1,162 @@
+ghost use Rattle.std.specs.Prelude.{◌≡◌, ◌≤◌, true};
+ghost use Rattle.hd_model.specs.Heap.{has_object};
+
+use crate::checks::is_object_at;
+use hd_heap::{Heap, NewFault};
+use hd_model::limits::{OLDEST, REGION};
+use hd_model::{Addr, Id};
+use std::process::Abort;
+use std::test::Fail;
+
+// The objects of a heap that a walk returns, up to three.
+fn walked(heap: &Heap) -> [Option<Addr>; 3] {
+    let first = heap.next(None);
+    let second = if first.is_some() {
+        heap.next(first)
+    } else {
+        None
+    };
+    let third = if second.is_some() {
+        heap.next(second)
+    } else {
+        None
+    };
+    [first, second, third]
+}
+
+#[test]
+fn a_fifth_object_of_61_fields_goes_to_a_second_region(rt: HostRuntime) -> Result<(), Fail> {
+    let mut heap = Heap::open(rt.alloc(), 320)?;
+    for (serial, place) in [(1, 256), (2, 320), (3, 384), (4, 448), (5, 512)] {
+        let at = heap.new_object(Id(serial), 61, false)?;
+        assert_eq!(rt; at.0, place);
+    }
+    assert_eq!(rt; (heap.used(), heap.count(), heap.regions()), (320, 5, 2));
+    let full = heap.new_object(Id(6), 0, false);
+    assert_eq!(rt; full, Err(NewFault::Full { used: 320, size: 3 }));
+    Ok(())
+}
+
+#[test]
+fn a_removed_object_leaves_a_gap_that_a_walk_passes(rt: HostRuntime) -> Result<(), Fail> {
+    let mut heap = Heap::open(rt.alloc(), 1_000)?;
+    let first = heap.new_object(Id(1), 0, false)?;
+    let second = heap.new_object(Id(2), 5, true)?;
+    let third = heap.new_object(Id(3), 1, false)?;
+    assert_eq!(rt; walked(&heap), [Some(first), Some(second), Some(third)]);
+    assert!(rt; is_object_at(&heap, second));
+    heap.remove(second);
+    assert_eq!(rt; walked(&heap), [Some(first), Some(third), None]);
+    assert_eq!(rt; heap.next(Some(second)), Some(third));
+    assert_eq!(rt; (heap.used(), heap.count(), heap.regions()), (7, 2, 1));
+    let fourth = heap.new_object(Id(4), 0, false)?;
+    assert_eq!(rt; [third.0, fourth.0], [267, 271]);
+    Ok(())
+}
+
+// Stores a reference to an object in a field of another one.
+fn store(rt: &impl Abort, heap: &mut Heap, at: Addr, i: u32, v: Addr) {
+    assert!(rt; is_object_at(heap, at) && is_object_at(heap, v));
+    assert!(rt; i < heap.fields(at));
+    heap.store(at, i, Some(v));
+}
+
+// Sets or clears the card of an object.
+fn set_card(rt: &impl Abort, heap: &mut Heap, at: Addr, on: bool) {
+    assert!(rt; is_object_at(heap, at));
+    heap.set_card(at, on);
+}
+
+// Gives the region of an object another generation.
+fn raise(heap: &mut Heap, at: Addr, generation: u8)
+    requires object { has_object heap.old at ≡ true }
+    requires generation { generation ≤ OLDEST }
+{
+    // A read for the proof: it states that the heap is sound, so that the region is in use.
+    let _ = heap.regions();
+    heap.set_generation(at.0 / REGION, generation);
+}
+
+// Removes the last object of all, and releases its region.
+fn give_up(rt: &impl Abort, heap: &mut Heap, last: Addr)
+    requires { has_object heap.old last ≡ true }
+{
+    // A read for the proof: it states that the heap is sound, so that the region is in use.
+    let _ = heap.regions();
+    heap.remove(last);
+    let next = heap.next(None);
+    assert!(rt; next.is_none());
+    heap.release(last.0 / REGION);
+}
+
+#[test]
+fn a_card_is_set_by_a_younger_object_and_goes_with_its_last(rt: HostRuntime) -> Result<(), Fail> {
+    let mut heap = Heap::open(rt.alloc(), 1_000)?;
+    let first = heap.new_object(Id(1), 61, false)?;
+    let second = heap.new_object(Id(2), 1, false)?;
+    assert!(rt; is_object_at(&heap, first));
+    raise(&mut heap, first, 1);
+    let young = heap.new_object(Id(3), 1, false)?;
+    assert_eq!(rt; young.0, 512);
+
+    store(&rt, &mut heap, first, 0, second);
+    store(&rt, &mut heap, young, 0, first);
+    assert_eq!(rt; heap.next_carded(None, 0), None);
+    store(&rt, &mut heap, first, 60, young);
+    assert_eq!(rt; heap.next_carded(None, 0), Some(first));
+    assert_eq!(rt; heap.next_carded(Some(first), 0), None);
+    assert_eq!(rt; heap.next_carded(None, 1), None);
+    set_card(&rt, &mut heap, first, false);
+    assert_eq!(rt; heap.next_carded(None, 0), None);
+
+    set_card(&rt, &mut heap, second, true);
+    assert_eq!(rt; heap.next_carded(None, 0), Some(second));
+    assert!(rt; is_object_at(&heap, second));
+    heap.remove(second);
+    let third = heap.new_object(Id(4), 1, false)?;
+    assert!(rt; is_object_at(&heap, third));
+    raise(&mut heap, third, 1);
+    assert_eq!(rt; heap.next_carded(None, 0), None);
+    Ok(())
+}
+
+#[test]
+fn a_walk_of_condemned_objects_passes_an_older_region(rt: HostRuntime) -> Result<(), Fail> {
+    let mut heap = Heap::open(rt.alloc(), 1_000)?;
+    for serial in 1..5 {
+        let _ = heap.new_object(Id(serial), 61, false)?;
+    }
+    let old = heap.new_object(Id(5), 0, false)?;
+    assert!(rt; is_object_at(&heap, old));
+    raise(&mut heap, old, 1);
+    let last = heap.new_object(Id(6), 0, false)?;
+    assert_eq!(rt; [old.0, last.0], [512, 768]);
+
+    assert_eq!(rt; heap.next_condemned(None, 0), Some(Addr(256)));
+    assert_eq!(rt; heap.next_condemned(Some(Addr(256)), 0), Some(Addr(320)));
+    for (n, next) in [(0, last), (1, old), (2, old)] {
+        assert_eq!(rt; heap.next_condemned(Some(Addr(448)), n), Some(next));
+    }
+    assert_eq!(rt; heap.next_condemned(Some(last), 2), None);
+    Ok(())
+}
+
+#[test]
+fn a_region_that_is_held_again_has_no_old_cells(rt: HostRuntime) -> Result<(), Fail> {
+    let mut heap = Heap::open(rt.alloc(), 1_000)?;
+    let old = heap.new_object(Id(1), 2, true)?;
+    assert!(rt; is_object_at(&heap, old));
+    heap.set_value(old, 7);
+    store(&rt, &mut heap, old, 1, old);
+    assert!(rt; is_object_at(&heap, old));
+    give_up(&rt, &mut heap, old);
+    assert_eq!(rt; (heap.count(), heap.regions()), (0, 0));
+
+    let new = heap.new_object(Id(2), 2, false)?;
+    assert_eq!(rt; new, old);
+    assert!(rt; is_object_at(&heap, new));
+    assert_eq!(rt; (heap.id(new), heap.value(new)), (Id(2), 0));
+    assert!(rt; 1 < heap.fields(new));
+    assert_eq!(rt; heap.load(new, 1), None);
+    Ok(())
+}
