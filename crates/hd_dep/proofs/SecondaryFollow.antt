@@ -27,6 +27,7 @@ use Rattle.hd_ages.proofs.WalkProgress.{IsUnderway, begins, all_to_come, row_due
 use Rattle.hd_dep.specs.declared.waiting.Waiting.{Waiting}
 use Rattle.hd_dep.specs.Rescan.{Spreads, IsFollowed}
 use Rattle.hd_dep.specs.Waiting.{waiting_row, AreWaiting, AreObjects, HasJoined, IsGathered, IsVisited, IsWaitingEdge, Waits}
+use Rattle.hd_model.specs.Collect.{is_attaching}
 use Rattle.hd_model.proofs.KindExtras.{attaching_kind}
 use Rattle.hd_dep.proofs.DependentClear.{attaches_by}
 use Rattle.hd_dep.proofs.RescanPasses.{addresses, listed}
@@ -63,7 +64,7 @@ module _ {o : Objects Addr} {n : ℕ} {t : Table} {ages : List ℕ} {p0 : Addr �
         absurd (past (all_to_come t ages n kind.Dependent is w slots slot (record {
           handle = h;
           is_stored = is_stored;
-          of_kind = attaching_kind h.kind h.extra role_is;
+          of_kind = attaching_kind h.kind h.extra (ap is_attaching role_is);
           due = due;
         })));
     few = omega (
