@@ -7,14 +7,16 @@ use Rattle.std.specs.Ordering.{nat_cmp}
 use Rattle.std.specs.FinMap as map
 use Rattle.hd_cells.specs.Object.{Object}
 use Rattle.hd_cells.specs.Region.{Contents, IsObject, IsFirstFrom}
+use Rattle.hd_cells.specs.Headers.{IsEnd}
 use Rattle.hd_cells.specs.Cells.{cell, object_in, extent_at, objects_of, contents_of, IsTiled, ended, gap, body, IsRegion, IsReached, IsFirstIn}
 use Rattle.hd_cells.proofs.OffsetLookup.{find_here, find_beyond}
-use Rattle.hd_cells.proofs.RegionTiles.{extent_at-gap, extent_at-body, tiled_upwards, none_before, found}
+use Rattle.hd_cells.proofs.RegionTiles.{extent_at-gap, extent_at-body, tiled_upwards, none_before, none_beyond, found}
 use Rattle.hd_cells.proofs.Contents.{get-objects, IsRead, held}
 
 -- from the first cell on nothing is left out
 pub start_reached : (c : List ℕ) (fill from : ℕ) → IsRegion c fill → IsReached c fill from 0
-start_reached c fill from laid = record { rest = objects_of c; tiled = laid.tiled; skipped = λ q low. refl }
+start_reached c fill from laid =
+    record { rest = objects_of c fill; tiled = laid.tiled; skipped = λ q low. refl }
 
 -- what remains after an object or gap
 pub record IsStep (c : List ℕ) (stop from at : ℕ) (os : List (ℕ × Object)) : Type 0 where
@@ -82,7 +84,7 @@ reached_within c fill from at reached = tiled_upwards reached.tiled
 
 -- where the end is reached, there is no object at or after `from`
 pub none_reached : (c : List ℕ) (fill from at : ℕ) → IsReached c fill from at → fill ≤ at
-    → IsFirstIn c from None
+    → IsFirstIn c fill from None
 none_reached c fill from at reached past = λ q low. reached.skipped q low
     ∙ ap (map.find nat_cmp q) (tiling_ended reached.tiled past)
 
@@ -95,7 +97,7 @@ object_here {c} {at = at} {os = (k, o) ∷ os} (body b t) below named = find_her
 
 -- an object that is reached is the first at or after `from`
 pub object_reached : (c : List ℕ) (fill from at : ℕ) → IsReached c fill from at → at < fill → from ≤ at
-    → cell c at ≢ 0 → IsFirstIn c from (Some at)
+    → cell c at ≢ 0 → IsFirstIn c fill from (Some at)
 object_reached c fill from at reached below low named = (
   low,
   reached.skipped at low ∙ object_here reached.tiled below named,
@@ -103,11 +105,11 @@ object_reached c fill from at reached below low named = (
 )
 
 -- an offset has an object where one is found in the cells, and else none
-found_object : (c : List ℕ) (fill q : ℕ) (o : Object) → map.find nat_cmp q (objects_of c) ≡ Some o
+found_object : (c : List ℕ) (fill q : ℕ) (o : Object) → map.find nat_cmp q (objects_of c fill) ≡ Some o
     → IsObject (contents_of c fill) q
 found_object c fill q o e = ap is_some (get-objects c fill q ∙ e)
 
-found_none : (c : List ℕ) (fill q : ℕ) → map.find nat_cmp q (objects_of c) ≡ None
+found_none : (c : List ℕ) (fill q : ℕ) → map.find nat_cmp q (objects_of c fill) ≡ None
     → ¬ (IsObject (contents_of c fill) q)
 found_none c fill q e is =
     let none : is_some (map.get (contents_of c fill).objects q) ≡ false =
@@ -115,7 +117,7 @@ found_none c fill q e is =
     absurd (cc (none, is))
 
 -- the first object of the cells is the first that callers see
-first_in_cells : (c : List ℕ) (fill from : ℕ) (answer : Option ℕ) → IsFirstIn c from answer
+first_in_cells : (c : List ℕ) (fill from : ℕ) (answer : Option ℕ) → IsFirstIn c fill from answer
     → IsFirstFrom (contents_of c fill) from answer
 first_in_cells c fill from None none = λ q low. found_none c fill q (none q low)
 first_in_cells c fill from (Some at) first = (
@@ -126,7 +128,7 @@ first_in_cells c fill from (Some at) first = (
 )
 
 pub first_seen : (c : List ℕ) (fill : ℕ) (r : Contents) (from : ℕ) (answer : Option ℕ)
-    → contents_of c fill ≡ r → IsFirstIn c from answer → IsFirstFrom r from answer
+    → contents_of c fill ≡ r → IsFirstIn c fill from answer → IsFirstFrom r from answer
 first_seen c fill r from answer view first =
     let P : Contents → Type 0 = λ x. IsFirstFrom x from answer in
     subst P view (first_in_cells c fill from answer first)
@@ -167,3 +169,25 @@ pub object_passed : {c : List ℕ} {fill : ℕ} {r : Contents} → IsRead c fill
 object_passed {c} read at is =
     let step = beyond_object read.region.tiled at (object_in c at) (held read at is).finds in
     record { rest = step.rest; tiled = step.tiled; skipped = step.skipped }
+
+-- past the allocation pointer there is no object
+pub none_past : {c : List ℕ} {fill : ℕ} {r : Contents} → IsRead c fill r → (from : ℕ) → fill ≤ from
+    → IsFirstFrom r from None
+none_past {c} {fill} {r} read from past =
+    first_seen c fill r from None read.view
+    (λ q low. none_beyond read.region.tiled q (omega (arith, past, low)))
+
+-- where an object ends nothing at or after it is left out
+pub end_reached : {c : List ℕ} {fill : ℕ} {r : Contents} → IsRead c fill r → (from : ℕ) → IsEnd r from
+    → IsReached c fill from from
+end_reached {c} {fill} read from (inl first) =
+    subst (λ (n : ℕ). IsReached c fill n n) (sym first) (start_reached c fill 0 read.region)
+end_reached {c} {fill} read from (inr (at, (is, ends))) =
+    let h = held read at is in
+    let next = object_passed read at is in
+    let here : at + extent_at c at ≡ from = omega (arith, h.reach, h.count, ends) in
+    subst (λ (n : ℕ). IsReached c fill from n) here record {
+      rest = next.rest;
+      tiled = next.tiled;
+      skipped = λ q low. next.skipped q (omega (arith, low, ends));
+    }

@@ -1,15 +1,16 @@
 -- Lemmas on the writes into a region's cells: what callers see after each.
-use Rattle.std.proofs.Common.{◌≡◌, ◌≢◌, ℕ, ◌+◌, ◌%◌, ◌^◌, ◌<◌, ◌≤◌, inl, inr, Bool, true, false, cond, leb, List, [], ◌∷◌, ◌++◌, length, take, drop, set, replicate, get_or, None, sym, ap, ◌∙◌, subst, arith, le-leb, length-set, length-take, length-drop, get_or-take, get_or-drop, get_or-set_other, get_or-set_same, ext_get_or}
+use Rattle.std.proofs.Common.{◌≡◌, ◌≢◌, ℕ, ◌+◌, ◌%◌, ◌^◌, ◌<◌, ◌≤◌, inl, inr, Bool, true, false, cond, leb, List, [], ◌∷◌, ◌++◌, length, take, drop, set, replicate, get_or, None, refl, sym, ap, ◌∙◌, subst, arith, le-leb, length-set, length-take, length-drop, get_or-take, get_or-drop, get_or-set_other, get_or-set_same, ext_get_or}
 use Rattle.std.proofs.lemmas.Bool.{cases_eq, lt-leb}
 use Rattle.std.proofs.lemmas.List.{length-replicate, get_or-replicate}
 use Rattle.std.specs.Ordering.{nat_cmp}
 use Rattle.std.specs.Cmp.{nat_cmp_total}
 use Rattle.std.specs.FinMap as map
 use Rattle.hd_cells.specs.Object.{Object, with_value, with_registered, with_field, new_object}
-use Rattle.hd_cells.specs.Region.{Contents, IsObject, object_at, fields_at, with_object, with_put, without_object}
-use Rattle.hd_cells.specs.Cells.{cell, count_at, object_in, extent_at, objects_of, contents_of, IsBody, IsGap, IsTiled, ended, IsLaid}
+use Rattle.hd_cells.specs.Region.{Contents, IsObject, IsLaidOut, object_at, fields_at, with_object, with_put, without_object, empty_region}
+use Rattle.hd_cells.specs.Cells.{cell, count_at, object_in, extent_at, objects_of, contents_of, IsBody, IsGap, IsTiled, ended, IsLaid, IsWhole}
 use Rattle.hd_cells.proofs.RegionTiles.{extent_at-body, extent_at-gap, same_fields, longer_tiling, none_beyond, as_gap}
-use Rattle.hd_cells.proofs.Contents.{laid_region, laid_contents, get-objects, held, IsRead, changed_region, rewritten_region}
+use Rattle.hd_cells.proofs.Contents.{laid_region, laid_contents, get-objects, held, IsRead, changed_region, rewritten_region, empty_laid_out}
+use Rattle.hd_cells.proofs.ObjectStarts.{empty_indexed, whole}
 
 -- the fields and the registration that the second cell of an object encodes
 shape_parts : (n : ℕ) (on : Bool) (s : ℕ) → n < 256 → s ≡ cond on (n + 256) n → (s % 256 ≡ n) × (s < 512)
@@ -174,79 +175,118 @@ module _ {c : List ℕ} {fill : ℕ} {r : Contents} (read : IsRead c fill r) (at
       (rw shape b.shaped) counts (λ low. fits)
       (λ j. record { identity = identities j; fields = fields j; value = values j; registered = flags j })
 
--- cells in which nothing was put are an empty region
-pub blank_laid : (c : List ℕ) → ((k : ℕ) → get_or c k 0 ≡ 0) → IsLaid c 0 []
-blank_laid c blank = record { tiled = ended; within = omega arith; unused = λ k past. blank k }
+-- a region from which all is taken out, whatever its cells have
+reset_laid : (c : List ℕ) → IsLaid c 0 []
+reset_laid c = record { tiled = ended; within = omega arith }
+
+pub reset_seen : (c : List ℕ) → contents_of c 0 ≡ empty_region
+reset_seen c = laid_contents (reset_laid c) map.empty refl
+
+pub reset_laid_out : (c : List ℕ) → IsLaidOut (contents_of c 0)
+reset_laid_out c = subst IsLaidOut (sym (reset_seen c)) empty_laid_out
+
+pub reset_whole : (c starts : List ℕ) → ((k : ℕ) → k < 86 → get_or starts k 0 ≡ 255) → IsWhole c 0 starts
+reset_whole c starts none = whole (laid_region (reset_laid c)) (reset_seen c) (empty_indexed starts none)
+
+-- the cells after an object without references was put at the allocation pointer
+pub record IsNew (c d : List ℕ) (fill id n s : ℕ) : Type 0 where
+  pub lengths : length d ≡ length c
+  pub before : (k : ℕ) → k < fill → cell d k ≡ cell c k
+  pub first : cell d fill ≡ id
+  pub shape : cell d (fill + 1) ≡ s
+  pub nulls : (k : ℕ) → fill + 2 ≤ k → k < fill + n + 3 → cell d k ≡ 0
+
+-- three cells are written, and the rest is cleared
+pub cells_new : (c d : List ℕ) (fill id n s : ℕ) → fill + n + 3 ≤ 256 → length c ≡ 256 → length d ≡ 256
+    → ((k : ℕ) → fill + 3 ≤ k → k < fill + n + 3 → cell d k ≡ 0)
+    → ((k : ℕ) → k < fill + 3 → cell d k ≡ cell (set (set (set c fill id) (fill + 1) s) (fill + 2) 0) k)
+    → IsNew c d fill id n s
+cells_new c d fill id n s room long lengths cleared kept =
+    let one = set c fill id in
+    let two = set one (fill + 1) s in
+    let first = length-set c fill id in
+    let second = length-set one (fill + 1) s in
+    let last = λ (k : ℕ) (ne : k ≢ fill + 2). other_cells two (fill + 2) 0 k ne in
+    record {
+      lengths = lengths ∙ sym long;
+      before = λ k below. kept k (omega (arith, below)) ∙ last k (λ e. omega (arith, e, below))
+          ∙ other_cells one (fill + 1) s k (λ e. omega (arith, e, below))
+          ∙ other_cells c fill id k (λ e. omega (arith, e, below));
+      first = kept fill (omega arith) ∙ last fill (λ e. omega (arith, e))
+          ∙ other_cells one (fill + 1) s fill (λ e. omega (arith, e))
+          ∙ get_or-set_same c fill id 0 (omega (arith, room, long));
+      shape = kept (fill + 1) (omega arith) ∙ last (fill + 1) (λ e. omega (arith, e))
+          ∙ get_or-set_same one (fill + 1) s 0 (omega (arith, room, first, long));
+      nulls = λ k low high. elim (cases_eq k (fill + 2)) [
+        | inl same ↦ ap (cell d) same ∙ kept (fill + 2) (omega arith)
+            ∙ get_or-set_same two (fill + 2) 0 0 (omega (arith, room, first, second, long))
+        | inr other ↦ cleared k (omega (arith, low, other)) high
+      ];
+    }
 
 -- an object put at the allocation pointer
 module _ {c : List ℕ} {fill : ℕ} {r : Contents} (read : IsRead c fill r) where
-  put_cells : (k id s : ℕ) → (k ≡ fill → ⊥) → (k ≡ fill + 1 → ⊥)
-      → cell (set (set c fill id) (fill + 1) s) k ≡ cell c k
-  put_cells k id s first second = other_cells (set c fill id) (fill + 1) s k second
-      ∙ other_cells c fill id k first
-
-  put_at_fill : (id n : ℕ) (on : Bool) (s : ℕ) → id ≢ 0 → n ≤ 61 → fill + n + 3 ≤ 256
-      → s ≡ cond on (n + 256) n → IsRead (set (set c fill id) (fill + 1) s) (fill + n + 3)
+  put_at_fill : (d : List ℕ) (id n : ℕ) (on : Bool) (s : ℕ) → id ≢ 0 → n ≤ 61 → fill + n + 3 ≤ 256
+      → s ≡ cond on (n + 256) n → IsNew c d fill id n s → IsRead d (fill + n + 3)
       (with_put (contents_of c fill) (new_object id n on))
   unfolding object_in
-  put_at_fill id n on s identified few room is_shape =
+  put_at_fill d id n on s identified few room is_shape put =
       let laid = read.region in
-      let len = read.len in
-      let d = set (set c fill id) (fill + 1) s in
       let parts = shape_parts n on s (omega arith) is_shape in
-      let length_set = length-set c fill id in
-      let length_d : length d ≡ length c = length-set (set c fill id) (fill + 1) s ∙ length_set in
-      let shape : cell d (fill + 1) ≡ s = get_or-set_same (set c fill id) (fill + 1) s 0 (omega arith) in
-      let first : cell d fill ≡ id = other_cells (set c fill id) (fill + 1) s fill (λ e. omega (arith, e))
-      ∙ get_or-set_same c fill id 0 (omega arith) in
-      let unused : (k : ℕ) → fill + 2 ≤ k → cell d k ≡ 0 = λ k past. put_cells k id s (λ e. omega (arith, e))
-      (λ e. omega (arith, e)) ∙ laid.unused k (omega arith) in
-      let count : count_at d fill ≡ n = ap (λ (x : ℕ). x % 256) shape ∙ parts.0 in
+      let count : count_at d fill ≡ n = ap (λ (x : ℕ). x % 256) put.shape ∙ parts.0 in
       let new : IsBody d fill = record {
-        identified = λ e. identified (sym first ∙ e);
-        shaped = rw shape parts.1;
+        identified = λ e. identified (sym put.first ∙ e);
+        shaped = rw put.shape parts.1;
         few_fields = rw count few;
-        addresses = λ i below. let null : cell d (fill + 3 + i) ≡ 0 = unused (fill + 3 + i) (omega arith) in
-            omega (arith, null);
+        addresses = λ i below. omega (
+          arith,
+          put.nulls (fill + 3 + i) (omega arith) (omega (arith, below, count)),
+        );
       } in
       let reach = extent_at-body new in
-      let fields : take (count_at d fill) (drop (fill + 3) d) ≡ replicate n 0 =
       let zero_here : ℕ = 0 in
-      let length_new = length-take (count_at d fill) (drop (fill + 3) d) in
-      let length_rest = length-drop (fill + 3) d in
-      let length_nulls = length-replicate n zero_here in
-      ext_get_or 0 _ _ (omega arith) (λ i short.
-      get_or-take (count_at d fill) (drop (fill + 3) d) i 0 (omega arith) ∙ get_or-drop (fill + 3) d i 0
-      ∙ unused (fill + 3 + i) (omega arith)
-      ∙ sym (get_or-replicate n i zero_here 0 (omega arith))) in
-      let values : cell d (fill + 2) ≡ 0 = unused (fill + 2) (omega arith) in
-      let flags : leb 256 (cell d (fill + 1)) ≡ on = ap (leb 256) shape ∙ parts.2 in
+      let fields : take (count_at d fill) (drop (fill + 3) d) ≡ replicate n zero_here =
+      let lengths : length (take (count_at d fill) (drop (fill + 3) d)) ≡ length (replicate n zero_here) =
+      omega (
+        arith,
+        length-take (count_at d fill) (drop (fill + 3) d),
+        length-drop (fill + 3) d,
+        length-replicate n zero_here,
+        put.lengths,
+        read.len,
+        count,
+        room,
+      ) in
+      ext_get_or 0 _ _ lengths (λ i short.
+      let inside : i < n = omega (arith, short, length-take (count_at d fill) (drop (fill + 3) d), count) in
+      get_or-take (count_at d fill) (drop (fill + 3) d) i 0 (omega (arith, inside, count))
+      ∙ get_or-drop (fill + 3) d i 0 ∙ put.nulls (fill + 3 + i) (omega arith) (omega (arith, inside))
+      ∙ sym (get_or-replicate n i zero_here 0 inside)) in
+      let values = put.nulls (fill + 2) (omega arith) (omega arith) in
+      let flags : leb 256 (cell d (fill + 1)) ≡ on = ap (leb 256) put.shape ∙ parts.2 in
       let object : object_in d fill ≡ new_object id n on = λ i. record {
-        identity = first i;
+        identity = put.first i;
         fields = fields i;
         value = values i;
         registered = flags i;
       } in
-      let longer = longer_tiling laid.tiled d length_d
-      (λ k low below. put_cells k id s (λ e. omega (arith, e)) (λ e. omega (arith, e))) new in
+      let longer = longer_tiling laid.tiled d put.lengths (λ k low below. put.before k below) new in
       let end : fill + extent_at d fill ≡ fill + n + 3 = omega (arith, reach, count) in
-      let P : ℕ → Type 0 = λ m. IsTiled d m 0 (objects_of c ++ (fill, object_in d fill) ∷ []) in
-      let now : IsLaid d (fill + n + 3) (objects_of c ++ (fill, object_in d fill) ∷ []) = record {
-        tiled = subst P end longer;
-        within = omega arith;
-        unused = λ k past. unused k (omega arith);
-      } in
-      let absent : map.find nat_cmp fill (objects_of c) ≡ None = none_beyond laid.tiled fill (omega arith) in
-      let maps : map.from_entries (objects_of c ++ (fill, object_in d fill) ∷ []) ≡ map.insert
+      let P : ℕ → Type 0 = λ m. IsTiled d m 0 (objects_of c fill ++ (fill, object_in d fill) ∷ []) in
+      let now : IsLaid d (fill + n + 3) (objects_of c fill ++ (fill, object_in d fill) ∷ []) =
+      record { tiled = subst P end longer; within = room } in
+      let absent : map.find nat_cmp fill (objects_of c fill) ≡ None =
+      none_beyond laid.tiled fill (omega arith) in
+      let maps : map.from_entries (objects_of c fill ++ (fill, object_in d fill) ∷ []) ≡ map.insert
       (contents_of c fill).objects fill (new_object id n on) =
-      map.from_entries_push nat_cmp_total map.nat_cmp-IsAntisymmetric (objects_of c) fill
+      map.from_entries_push nat_cmp_total map.nat_cmp-IsAntisymmetric (objects_of c fill) fill
       (object_in d fill) absent
       ∙ (λ i. map.insert (contents_of c fill).objects fill (object i)) in
       let seen = laid_contents now (map.insert (contents_of c fill).objects fill (new_object id n on)) maps in
-      let size : fill + n + 3 ≡ fill + (length (replicate n (let z : ℕ = 0 in z)) + 3) =
-      omega (arith, length-replicate n (let z : ℕ = 0 in z)) in
+      let size : fill + n + 3 ≡ fill + (length (replicate n zero_here) + 3) =
+      omega (arith, length-replicate n zero_here) in
       record {
-        len = length_d ∙ len;
+        len = put.lengths ∙ read.len;
         region = laid_region now;
         view = seen
             ∙ (λ i. record {
@@ -255,13 +295,13 @@ module _ {c : List ℕ} {fill : ℕ} {r : Contents} (read : IsRead c fill r) whe
             });
       }
 
-  pub object_put : (id n : ℕ) (on : Bool) (s : ℕ) → id ≢ 0 → n ≤ 61 → r.fill + n + 3 ≤ 256
-      → s ≡ cond on (n + 256) n → IsRead (set (set c fill id) (fill + 1) s) (fill + n + 3)
-      (with_put r (new_object id n on))
-  object_put id n on s identified few room is_shape =
-      let P : Contents → Type 0 = λ x. x.fill + n + 3 ≤ 256 → IsRead (set (set c fill id) (fill + 1) s)
-      (fill + n + 3) (with_put x (new_object id n on)) in
-      subst P read.view (λ fits. put_at_fill id n on s identified few fits is_shape) room
+  pub object_put : (d : List ℕ) (id n : ℕ) (on : Bool) (s : ℕ) → id ≢ 0 → n ≤ 61 → r.fill + n + 3 ≤ 256
+      → s ≡ cond on (n + 256) n → IsNew c d fill id n s
+      → IsRead d (fill + n + 3) (with_put r (new_object id n on))
+  object_put d id n on s identified few room is_shape put =
+      let P : Contents → Type 0 = λ x. x.fill + n + 3 ≤ 256
+      → IsRead d (fill + n + 3) (with_put x (new_object id n on)) in
+      subst P read.view (λ fits. put_at_fill d id n on s identified few fits is_shape put) room
 
   -- no object is where the next one is put
   pub get-fill : map.get r.objects fill ≡ None

@@ -13,10 +13,8 @@ use Rattle.hd_cells.specs.declared.region.Region.TheInside.{Inside}
 use Rattle.hd_cells.proofs.RegionTiles.{extent_at-body, tiling_read, found, found_apart, IsTile, as_body, changed_tiling}
 
 -- a region is read as its cells are laid out
-pub laid_read : {c : List ℕ} {fill : ℕ} {os : List (ℕ × Object)} → IsLaid c fill os → objects_of c ≡ os
-laid_read {fill = fill} l =
-    let within = l.within in
-    tiling_read l.tiled 256 (omega arith) (l.unused fill (omega arith)) (l.unused (fill + 1) (omega arith))
+pub laid_read : {c : List ℕ} {fill : ℕ} {os : List (ℕ × Object)} → IsLaid c fill os → objects_of c fill ≡ os
+laid_read l = tiling_read l.tiled 256 l.within
 
 pub laid_region : {c : List ℕ} {fill : ℕ} {os : List (ℕ × Object)} → IsLaid c fill os → IsRegion c fill
 laid_region {c} {fill} l =
@@ -27,13 +25,13 @@ pub laid_contents : {c : List ℕ} {fill : ℕ} {os : List (ℕ × Object)} → 
     → (m : map.FinMap nat_cmp Object) → map.from_entries os ≡ m
     → contents_of c fill ≡ record { objects = m; fill = fill }
 laid_contents {fill = fill} l m e =
-    let maps : map.from_entries (objects_of _) ≡ m = ap map.from_entries (laid_read l) ∙ e in
+    let maps : map.from_entries (objects_of _ fill) ≡ m = ap map.from_entries (laid_read l) ∙ e in
     λ i. record { objects = maps i; fill = fill }
 
 -- what the map has at an offset
 pub get-objects : (c : List ℕ) (fill q : ℕ) → map.get (contents_of c fill).objects q ≡ map.find nat_cmp q
-    (objects_of c)
-get-objects c fill q = map.get-from_entries nat_cmp_total (objects_of c) q
+    (objects_of c fill)
+get-objects c fill q = map.get-from_entries nat_cmp_total (objects_of c fill) q
 
 some_of : (o : Option Object) → is_some o ≡ true → (x : Object) × (o ≡ Some x)
 some_of None e = absurd (cc e)
@@ -50,12 +48,12 @@ pub opened : (s : Inside) {r : Contents} → (length s.cells ≡ 256) × (length
 opened s lengths whole view = record { len = lengths.0; region = whole.region; view = view }
 
 -- what the cells hold where callers see an object
-pub record IsHeld (c : List ℕ) (r : Contents) (at : ℕ) : Type 0 where
+pub record IsHeld (c : List ℕ) (fill : ℕ) (r : Contents) (at : ℕ) : Type 0 where
   pub is_body : IsBody c at
   pub reach : extent_at c at ≡ count_at c at + 3
   pub high : at + (count_at c at + 3) ≤ r.fill
   pub within : r.fill ≤ 256
-  pub finds : map.find nat_cmp at (objects_of c) ≡ Some (object_in c at)
+  pub finds : map.find nat_cmp at (objects_of c fill) ≡ Some (object_in c at)
   pub identity : (object_at r at).identity ≡ cell c at
   pub value : (object_at r at).value ≡ cell c (at + 2)
   pub registered : (object_at r at).registered ≡ leb 256 (cell c (at + 1))
@@ -71,11 +69,12 @@ get_or_field : (c : List ℕ) (at n i : ℕ) → i < n → get_or (take n (drop 
 get_or_field c at n i below = get_or-take n (drop (at + 3) c) i 0 below ∙ get_or-drop (at + 3) c i 0
 
 held_by_cells : (c : List ℕ) (fill : ℕ) → length c ≡ 256 → IsRegion c fill → (at : ℕ)
-    → IsObject (contents_of c fill) at → IsHeld c (contents_of c fill) at
+    → IsObject (contents_of c fill) at → IsHeld c fill (contents_of c fill) at
 unfolding object_in
 held_by_cells c fill len r at is =
     let some = some_of (map.get (contents_of c fill).objects at) is in
-    let finds : map.find nat_cmp at (objects_of c) ≡ Some some.0 = sym (get-objects c fill at) ∙ some.1 in
+    let finds : map.find nat_cmp at (objects_of c fill) ≡ Some some.0 = sym (get-objects c fill at)
+    ∙ some.1 in
     let f = found r.tiled at some.0 finds in
     let reach = extent_at-body f.is_body in
     let high = f.high in
@@ -106,9 +105,9 @@ take_all (x ∷ xs) zero low = absurd (omega (arith, low))
 take_all (x ∷ xs) (suc n) low = ap (λ ys. x ∷ ys) (take_all xs n (omega (arith, low)))
 
 module _ {c : List ℕ} {fill : ℕ} {r : Contents} (read : IsRead c fill r) where
-  pub held : (at : ℕ) → IsObject r at → IsHeld c r at
+  pub held : (at : ℕ) → IsObject r at → IsHeld c fill r at
   held at is =
-      let P : Contents → Type 0 = λ x. IsObject x at → IsHeld c x at in
+      let P : Contents → Type 0 = λ x. IsObject x at → IsHeld c fill x at in
       subst P read.view (held_by_cells c fill read.len read.region at) is
 
   -- the first three cells of an object
@@ -178,7 +177,8 @@ pub record IsRewrite (c d : List ℕ) (at : ℕ) : Type 0 where
 
 -- the region after such a change: its map has the new tile there and else is as it was
 pub changed_region : {c : List ℕ} {fill : ℕ} {r : Contents} → IsRead c fill r → (d : List ℕ) (at : ℕ)
-    (w : Option Object) (m : map.FinMap nat_cmp Object) → IsHeld c r at → IsRewrite c d at → IsTile d at w
+    (w : Option Object) (m : map.FinMap nat_cmp Object) → IsHeld c fill r at → IsRewrite c d at
+    → IsTile d at w
     → ((q : ℕ) → map.get m q ≡ cond (eq_by_cmp nat_cmp q at) w (map.get r.objects q))
     → IsRead d fill (record r { objects = m })
 changed_region {c} {fill} read d at w m h rewrite tile gets =
@@ -189,7 +189,6 @@ changed_region {c} {fill} read d at w m h rewrite tile gets =
     let now : IsLaid d fill changed.after = record {
       tiled = changed.tiled;
       within = laid.within;
-      unused = λ k past. rewrite.beyond k (omega (arith, past, h.reach, h.high, fills)) ∙ laid.unused k past;
     } in
     let maps : map.from_entries changed.after ≡ m = map.same_map nat_cmp_total map.nat_cmp-IsAntisymmetric _ _
     (λ q. map.get-from_entries nat_cmp_total changed.after q ∙ changed.finds q
@@ -221,7 +220,8 @@ new_laid_out read = subst IsLaidOut (sym read.view) (laid_out read)
 -- the region after the cells of an object were changed, and it still is an object of its length
 pub rewritten_region : {c : List ℕ} {fill : ℕ} {r : Contents} → IsRead c fill r
     → (d : List ℕ) (at : ℕ) (o : Object)
-    → IsHeld c r at → IsRewrite c d at → IsBody d at → object_in d at ≡ o → IsRead d fill (with_object r at o)
+    → IsHeld c fill r at → IsRewrite c d at → IsBody d at → object_in d at ≡ o
+    → IsRead d fill (with_object r at o)
 rewritten_region {fill = fill} {r = r} read d at o h rewrite new e =
     let P : Object → Type 0 = λ x. IsRead d fill (with_object r at x) in
     subst P e (changed_region read d at (Some (object_in d at)) (map.insert r.objects at (object_in d at)) h

@@ -1,6 +1,6 @@
 -- Lemmas on the cells of a region: what one object or gap takes, and the tiling by them.
-use Rattle.std.proofs.Common.{◌≡◌, ℕ, zero, suc, ◌+◌, ◌%◌, ◌<◌, ◌≤◌, inl, inr, cond, eqb, leb, List, [], ◌∷◌, ◌++◌, length, take, drop, Option, Some, None, refl, sym, ap, ap₂, ◌∙◌, subst, arith, eq-eqb, ne_eqb, length-take, length-drop, get_or-take, get_or-drop, add-zero, ext_get_or}
-use Rattle.std.proofs.lemmas.Bool.{cases_eq, cond-true, cond-false}
+use Rattle.std.proofs.Common.{◌≡◌, ℕ, zero, suc, ◌+◌, ◌%◌, ◌<◌, ◌≤◌, inl, inr, cond, eqb, leb, List, [], ◌∷◌, ◌++◌, length, take, drop, Option, Some, None, refl, sym, ap, ap₂, ◌∙◌, subst, arith, eq-eqb, ne_eqb, length-take, length-drop, get_or-take, get_or-drop, ext_get_or, le-leb}
+use Rattle.std.proofs.lemmas.Bool.{cases_eq, cond-true, cond-false, lt-leb}
 use Rattle.std.proofs.lemmas.Option.{none-some, same_Some}
 use Rattle.std.specs.Ordering.{nat_cmp, eq_by_cmp}
 use Rattle.std.specs.FinMap.{find}
@@ -12,7 +12,7 @@ use Rattle.hd_cells.proofs.OffsetLookup.{find_here, find_beyond, asked_twice, ei
 abbrev pub AgreeWithin : List ℕ → List ℕ → ℕ → ℕ → Type 0
 AgreeWithin c d from to = (k : ℕ) → from ≤ k → k < to → cell d k ≡ cell c k
 
--- the number of cells of a gap, of an object, and of unused cells, which is 0
+-- the number of cells of a gap, and of an object
 pub extent_at-gap : {c : List ℕ} {at : ℕ} → IsGap c at → extent_at c at ≡ cell c (at + 1)
 unfolding extent_at
 extent_at-gap {c} {at} g = cond-true (eqb (cell c at) 0) _ _ (eq-eqb (cell c at) 0 g.unnamed)
@@ -20,10 +20,6 @@ extent_at-gap {c} {at} g = cond-true (eqb (cell c at) 0) _ _ (eq-eqb (cell c at)
 pub extent_at-body : {c : List ℕ} {at : ℕ} → IsBody c at → extent_at c at ≡ count_at c at + 3
 unfolding extent_at
 extent_at-body {c} {at} b = cond-false (eqb (cell c at) 0) _ _ (ne_eqb (cell c at) 0 b.identified)
-
-pub extent_at-unused : (c : List ℕ) (at : ℕ) → cell c at ≡ 0 → cell c (at + 1) ≡ 0 → extent_at c at ≡ 0
-unfolding extent_at
-extent_at-unused c at e f = cond-true (eqb (cell c at) 0) _ _ (eq-eqb (cell c at) 0 e) ∙ f
 
 -- the first two cells determine its number of cells
 pub same_extent : (c d : List ℕ) (at : ℕ) → cell d at ≡ cell c at → cell d (at + 1) ≡ cell c (at + 1)
@@ -296,27 +292,23 @@ changed_tiling {c} {stop} {from} {os = (k, x) ∷ os} (body b t) at o e d w tile
           }
     ]
 
--- where nothing was put, nothing is read
-unused_read : (n : ℕ) (c : List ℕ) (at : ℕ) → cell c at ≡ 0 → cell c (at + 1) ≡ 0 → objects_from n c at ≡ []
-unfolding objects_from
-unused_read zero c at e f = refl
-unused_read (suc n) c at e f =
-    let stays : at + extent_at c at ≡ at = ap (λ (x : ℕ). at + x) (extent_at-unused c at e f) ∙ add-zero at in
-    cond-true (eqb (cell c at) 0) _ _ (eq-eqb (cell c at) 0 e) ∙ ap (objects_from n c) stays
-    ∙ unused_read n c at e f
-
 -- the cells are read as they are tiled
 pub tiling_read : {c : List ℕ} {stop at : ℕ} {os : List (ℕ × Object)} → IsTiled c stop at os → (n : ℕ)
-    → stop ≤ at + n → cell c stop ≡ 0 → cell c (stop + 1) ≡ 0 → objects_from n c at ≡ os
+    → stop ≤ at + n → objects_from n c stop at ≡ os
 unfolding objects_from
-tiling_read {c} {stop} ended n most e f = unused_read n c stop e f
-tiling_read (gap g t) zero most e f = absurd (omega (arith, tiled_upwards t, extent_at-gap g, g.long))
-tiling_read {c} {stop} {at} (gap g t) (suc n) most e f =
+tiling_read ended zero most = refl
+tiling_read {stop = stop} ended (suc n) most = cond-true (leb stop stop) _ _ (le-leb stop stop (omega arith))
+tiling_read (gap g t) zero most = absurd (omega (arith, tiled_upwards t, extent_at-gap g, g.long))
+tiling_read {c} {stop} {at} (gap g t) (suc n) most =
     let reach = extent_at-gap g in
     let long = g.long in
-    cond-true (eqb (cell c at) 0) _ _ (eq-eqb (cell c at) 0 g.unnamed) ∙ tiling_read t n (omega arith) e f
-tiling_read (body b t) zero most e f = absurd (omega (arith, tiled_upwards t, extent_at-body b))
-tiling_read {c} {stop} {at} (body b t) (suc n) most e f =
+    let up = tiled_upwards t in
+    cond-false (leb stop at) _ _ (lt-leb stop at (omega arith))
+    ∙ cond-true (eqb (cell c at) 0) _ _ (eq-eqb (cell c at) 0 g.unnamed) ∙ tiling_read t n (omega arith)
+tiling_read (body b t) zero most = absurd (omega (arith, tiled_upwards t, extent_at-body b))
+tiling_read {c} {stop} {at} (body b t) (suc n) most =
     let reach = extent_at-body b in
-    cond-false (eqb (cell c at) 0) _ _ (ne_eqb (cell c at) 0 b.identified)
-    ∙ ap (λ (os : List (ℕ × Object)). (at, object_in c at) ∷ os) (tiling_read t n (omega arith) e f)
+    let up = tiled_upwards t in
+    cond-false (leb stop at) _ _ (lt-leb stop at (omega arith))
+    ∙ cond-false (eqb (cell c at) 0) _ _ (ne_eqb (cell c at) 0 b.identified)
+    ∙ ap (λ (os : List (ℕ × Object)). (at, object_in c at) ∷ os) (tiling_read t n (omega arith))

@@ -25,24 +25,24 @@ object_in cells at = record {
   registered = nat_le REGISTERED (cell cells (at + SHAPE));
 }
 
--- the number of cells of what begins at `at`, which is 0 where nothing was put
+-- the number of cells of what begins at `at`
 unfoldable pub extent_at : List ℕ → ℕ → ℕ
 extent_at cells at = if cell cells at == 0 then cell cells (at + SHAPE) else count_at cells at + HEADER
 
--- the objects from `at` on, each with its offset, among the next n objects and gaps
-unfoldable pub objects_from : ℕ → List ℕ → ℕ → List (ℕ × Object)
-objects_from zero cells at = []
-objects_from (suc n) cells at =
-    let rest = objects_from n cells (at + extent_at cells at) in
-    if cell cells at == 0 then rest else (at, object_in cells at) ∷ rest
+-- the objects from `at` up to `stop`, each with its offset, among the next n objects and gaps
+unfoldable pub objects_from : ℕ → List ℕ → (stop at : ℕ) → List (ℕ × Object)
+objects_from zero cells stop at = []
+objects_from (suc n) cells stop at =
+    let rest = objects_from n cells stop (at + extent_at cells at) in
+    if nat_le stop at then [] else if cell cells at == 0 then rest else (at, object_in cells at) ∷ rest
 
 -- the objects of a region, which has fewer objects and gaps than cells
-abbrev pub objects_of : List ℕ → List (ℕ × Object)
-objects_of cells = objects_from CELLS cells 0
+abbrev pub objects_of : List ℕ → ℕ → List (ℕ × Object)
+objects_of cells fill = objects_from CELLS cells fill 0
 
 -- a region with these cells and this allocation pointer as its callers see it
 abbrev pub contents_of : List ℕ → ℕ → Contents
-contents_of cells fill = record { objects = map.from_entries (objects_of cells); fill = fill }
+contents_of cells fill = record { objects = map.from_entries (objects_of cells fill); fill = fill }
 
 -- an object is at `at`; the limit of its fields is this project's own
 pub record IsBody (cells : List ℕ) (at : ℕ) : Type 0 where
@@ -64,15 +64,15 @@ pub data IsTiled (cells : List ℕ) (stop : ℕ) : ℕ → List (ℕ × Object) 
   body : {at : ℕ} {os : List (ℕ × Object)} → IsBody cells at → IsTiled cells stop (at + extent_at cells at) os
       → IsTiled cells stop at ((at, object_in cells at) ∷ os)
 
--- the allocation pointer and objects of a region with these cells; a cell in which nothing was put is 0
+-- the allocation pointer and objects of a region with these cells; nothing is said of the cells from the
+-- pointer on
 pub record IsLaid (cells : List ℕ) (fill : ℕ) (os : List (ℕ × Object)) : Type 0 where
   pub tiled : IsTiled cells fill 0 os
   pub within : fill ≤ CELLS
-  pub unused : (k : ℕ) → fill ≤ k → cell cells k ≡ 0
 
 -- these are the cells and the allocation pointer of a region
 abbrev pub IsRegion : List ℕ → ℕ → Type 0
-IsRegion cells fill = IsLaid cells fill (objects_of cells)
+IsRegion cells fill = IsLaid cells fill (objects_of cells fill)
 
 -- where objects begin: an object takes three cells or more, so at most one begins among cells 3 k to 3 k + 2,
 -- and entry k is its offset (an object-start map, as other collectors have)
@@ -90,14 +90,14 @@ pub record IsWhole (cells : List ℕ) (fill : ℕ) (starts : List ℕ) : Type 0 
 pub record IsReached (cells : List ℕ) (fill from at : ℕ) : Type 0 where
   pub rest : List (ℕ × Object)
   pub tiled : IsTiled cells fill at rest
-  pub skipped : (q : ℕ) → from ≤ q → map.find nat_cmp q (objects_of cells) ≡ map.find nat_cmp q rest
+  pub skipped : (q : ℕ) → from ≤ q → map.find nat_cmp q (objects_of cells fill) ≡ map.find nat_cmp q rest
 
 -- the first object of the cells at or after `from`
-abbrev pub IsFirstIn : List ℕ → ℕ → Option ℕ → Type 0
-IsFirstIn cells from answer = MatchOption answer
-    ((q : ℕ) → from ≤ q → map.find nat_cmp q (objects_of cells) ≡ None)
-    (λ at. (from ≤ at) × (map.find nat_cmp at (objects_of cells) ≡ Some (object_in cells at))
-    × ((q : ℕ) → from ≤ q → q < at → map.find nat_cmp q (objects_of cells) ≡ None))
+abbrev pub IsFirstIn : List ℕ → (fill from : ℕ) → Option ℕ → Type 0
+IsFirstIn cells fill from answer = MatchOption answer
+    ((q : ℕ) → from ≤ q → map.find nat_cmp q (objects_of cells fill) ≡ None)
+    (λ at. (from ≤ at) × (map.find nat_cmp at (objects_of cells fill) ≡ Some (object_in cells at))
+    × ((q : ℕ) → from ≤ q → q < at → map.find nat_cmp q (objects_of cells fill) ≡ None))
 
 -- these cells begin with an object, as it was put or written
 pub record HoldsObject (cells : List ℕ) (o : Object) : Type 0 where

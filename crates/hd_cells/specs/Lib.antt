@@ -2,3 +2,4 @@ pub mod Object
 pub mod Region
 pub mod Cells
 pub mod Limits
+pub mod Headers

@@ -29,13 +29,6 @@ pub(crate) const VALUE: usize = 2;
 /// What is added to the number of fields where the object is registered for finalisation.
 pub(crate) const REGISTERED: u64 = 256;
 
-/// Cells in which nothing was put.
-pub(crate) fn blank() -> [u64; CELLS]
-    ensures { (k : ℕ) → slice_index result k ≡ 0 }
-{
-    [0; CELLS]
-}
-
 /// The part of a region that a cell is in.
 pub(crate) fn part_of(at: usize) -> usize
     ensures { result ≡ at / HEADER }
@@ -62,6 +55,17 @@ pub(crate) fn shape(fields: u64, registered: bool) -> u64
     }
 }
 
+/// Writes 0 into the cells from one offset up to another.
+pub(crate) fn clear(cells: &mut [u64; CELLS], from: usize, to: usize)
+    requires { to ≤ CELLS }
+    ensures cleared { (k : ℕ) → from ≤ k → k < to → slice_index cells.new k ≡ 0 }
+    ensures before { (k : ℕ) → k < from → slice_index cells.new k ≡ slice_index cells.old k }
+{
+    for k in from..to {
+        cells[k] = 0;
+    }
+}
+
 /// The number of cells of the object or gap that begins at `at`.
 #[tactic(auto, unfolding(crate::specs::Cells::extent_at))]
 pub(crate) fn extent(cells: &[u64; CELLS], at: usize) -> usize
@@ -81,7 +85,7 @@ pub(crate) fn extent(cells: &[u64; CELLS], at: usize) -> usize
 pub(crate) fn first_from(cells: &[u64; CELLS], fill: u32, start: usize, from: usize) -> Option<u32>
     requires within { fill ≤ CELLS }
     requires reached { IsReached cells.now fill from start }
-    ensures { IsFirstIn cells.now from result }
+    ensures { IsFirstIn cells.now fill from result }
 {
     let mut at = start;
     while at < fill as usize {

@@ -10,4 +10,4 @@ mod region;
 
 pub use cells::{CELLS, FIELDS, HEADER};
 pub use constants::limits_are_these;
-pub use region::Region;
+pub use region::{Header, Region};

@@ -5,10 +5,11 @@ ghost use Rattle.hd_cells.specs.Object.{new_object, with_field, with_registered,
 ghost use Rattle.hd_cells.specs.Region.{empty_region, IsFirstFrom, IsLaidOut, IsObject};
 ghost use Rattle.hd_cells.specs.Region.{fields_at, object_at, with_object, with_put};
 ghost use Rattle.hd_cells.specs.Region.{without_object};
+ghost use Rattle.hd_cells.specs.Headers.{IsEnd, IsHeader, IsHeaderFrom};
 ghost use Rattle.hd_cells.specs.Cells.{HoldsObject};
 
 use crate::cells::{
-    CELLS, FIELDS, HEADER, NONE, PARTS, REGISTERED, SHAPE, VALUE, blank, extent, first_from,
+    CELLS, FIELDS, HEADER, NONE, PARTS, REGISTERED, SHAPE, VALUE, clear, extent, first_from,
     no_starts, part_of, shape,
 };
 use std::marker::Model;
@@ -20,6 +21,15 @@ pub struct Region {
     cells: [u64; CELLS],
     starts: [u8; PARTS],
     fill: u32,
+}
+
+/// What the header of an object says: its offset, the number of its fields, and whether it is
+/// registered for finalisation.
+#[derive(Clone, Copy, Debug, PartialEq, Eq)]
+pub struct Header {
+    pub at: u32,
+    pub fields: u8,
+    pub registered: bool,
 }
 
 // Callers see the objects by their offsets and the allocation pointer, but no cells and no gaps.
@@ -43,10 +53,19 @@ impl Region {
         ensures laid_out { IsLaidOut result }
     {
         Region {
-            cells: blank(),
+            cells: [0; CELLS],
             starts: no_starts(),
             fill: 0,
         }
+    }
+
+    /// Takes all objects out. No cell is written.
+    pub fn reset(&mut self)
+        ensures empty { self.new ≡ empty_region }
+        ensures laid_out { IsLaidOut self.new }
+    {
+        self.starts = no_starts();
+        self.fill = 0;
     }
 
     /// The allocation pointer: the first cell after the last object put. It never falls.
@@ -69,10 +88,13 @@ impl Region {
         ensures laid_out { IsLaidOut self.new }
     {
         let at = self.fill;
+        let end = at + fields + HEADER as u32;
         self.cells[at as usize] = id;
         self.cells[at as usize + SHAPE] = shape(u64::from(fields), registered);
+        self.cells[at as usize + VALUE] = 0;
+        clear(&mut self.cells, at as usize + HEADER, end as usize);
         self.starts[part_of(at as usize)] = at as u8;
-        self.fill = at + fields + HEADER as u32;
+        self.fill = end;
         at
     }
 
@@ -183,11 +205,14 @@ impl Region {
     }
 
     /// The offset of the first object at or after `from`, which may be any number. Takes time by
-    /// the objects and gaps before it.
+    /// the objects and gaps before it, and constant time past the allocation pointer.
     pub fn walk(&self, from: u32) -> Option<u32>
         ensures first { IsFirstFrom self.now from result }
         ensures laid_out { IsLaidOut self.now }
     {
+        if from >= self.fill {
+            return None;
+        }
         first_from(&self.cells, self.fill, 0, from as usize)
     }
 
@@ -199,6 +224,31 @@ impl Region {
     {
         let next = at as usize + extent(&self.cells, at as usize);
         first_from(&self.cells, self.fill, next, at as usize + 1)
+    }
+
+    /// The first object at or after `end`, and what its header says. `end` is 0, or where another
+    /// object ends. Takes time by the gaps between them.
+    pub fn object_from(&self, end: u32) -> Option<Header>
+        requires { IsEnd self.now end }
+        ensures { IsHeaderFrom self.now end result }
+    {
+        match first_from(&self.cells, self.fill, end as usize, end as usize) {
+            Some(at) => Some(self.header(at)),
+            None => None,
+        }
+    }
+
+    /// What the header of the object at `at` says.
+    fn header(&self, at: u32) -> Header
+        requires { IsObject self.now at }
+        ensures { IsHeader self.now at result }
+    {
+        let shape = self.object(at)[SHAPE];
+        Header {
+            at,
+            fields: (shape % REGISTERED) as u8,
+            registered: shape >= REGISTERED,
+        }
     }
 
     /// The cells from the object at `at` on.

@@ -1,5 +1,5 @@
 -- Lemmas on one region of a heap.
-use Rattle.std.proofs.Common.{◌≡◌, ◌≢◌, ℕ, zero, suc, map as each, ◌+◌, ◌-◌, ◌/◌, ◌≤◌, inl, inr, Bool, true, false, List, [], ◌∷◌, length, get_or, replicate, Option, Some, None, refl, sym, ap, ◌∙◌, subst, arith, length-set}
+use Rattle.std.proofs.Common.{◌≡◌, ◌≢◌, ℕ, zero, suc, map as each, ◌+◌, ◌-◌, ◌/◌, ◌≤◌, inl, inr, Bool, true, false, cond, List, [], ◌∷◌, length, get_or, replicate, Option, Some, None, refl, sym, ap, ◌∙◌, subst, arith}
 use Rattle.std.specs.Prelude.{is_some, unwrap_or, sum_by}
 use Rattle.std.proofs.lemmas.Bool.{cases_eq, both_ways, false_from_ne_true}
 use Rattle.std.specs.Ordering.{nat_cmp}
@@ -9,12 +9,10 @@ use Rattle.hd_cells.specs.Object.{Object, size_of, no_object}
 use Rattle.hd_cells.specs.Region.{Contents, IsObject, IsLaidOut, object_at, without_object, empty_region}
 use Rattle.hd_heap.specs.declared.area.Area.{Area}
 use Rattle.hd_heap.specs.Areas.{contents, card_in, BeginsIn, IsArea}
-use Rattle.hd_heap.specs.Steps.{IsTaken, IsWritten, region_with_part}
-use Rattle.hd_heap.specs.declared.area.Part.{Part}
-use Rattle.hd_heap.specs.declared.area.Part.TheVariants.{Value, Registered, Field}
-use Rattle.hd_model.proofs.ReadAfterWrite.{still_some}
+use Rattle.hd_heap.specs.Steps.{IsPutInto, IsTaken, IsWritten}
+use Rattle.hd_model.proofs.ReadAfterWrite.{still_some, len_less}
 use Rattle.hd_model.proofs.Entries.{found_later}
-use Rattle.hd_model.proofs.Sums.{share, sum-insert, sum-taken, sum-at}
+use Rattle.hd_model.proofs.Sums.{share, sum-insert, sum-taken, sum-at, sum-many}
 
 -- the object at an offset
 pub some_of : {A : Type 0} (o : Option A) → is_some o ≡ true → (x : A) × (o ≡ Some x)
@@ -43,9 +41,10 @@ held_by_object a is k there = true_unless a.held (λ free.
 pub area_inserted : (a b : Area) (k : ℕ) (o : Object) → IsArea a → a.held ≡ true
     → (contents b).objects ≡ map.insert (contents a).objects k o → IsLaidOut (contents b)
     → b.live + share size_of (map.get (contents a).objects k) ≡ a.live + size_of o
+    → b.count ≡ cond (is_some (map.get (contents a).objects k)) a.count (a.count + 1)
     → (contents b).fill + a.live ≡ (contents a).fill + b.live → b.held ≡ a.held
     → b.generation ≡ a.generation → b.cards ≡ a.cards → IsArea b
-area_inserted a b k o is held put laid live fill held_same generation cards =
+area_inserted a b k o is held put laid live count fill held_same generation cards =
     let sum = sum-insert size_of (contents a).objects k o in
     let total = ap (λ (m : map.FinMap nat_cmp Object). sum_by size_of (map.values m)) put in
     let old = is.live in
@@ -54,6 +53,8 @@ area_inserted a b k o is held put laid live fill held_same generation cards =
     record {
       laid_out = laid;
       live = omega arith;
+      count = count ∙ ap (λ n. cond (is_some (map.get (contents a).objects k)) n (n + 1)) is.count
+          ∙ sym (ap map.len put ∙ map.len-insert nat_cmp_total (contents a).objects k o);
       within = omega arith;
       generation = omega arith;
       card_count = ap length cards ∙ is.card_count;
@@ -68,21 +69,27 @@ area_inserted a b k o is held put laid live fill held_same generation cards =
       spare = λ free. absurd (both_ways b.held free (held_same ∙ held));
     }
 
--- a part of an object is written
-same_size : (o : Object) (p : Part) → size_of (region_with_part o p) ≡ size_of o
-same_size o (Value v) = refl
-same_size o (Registered on) = refl
-same_size o (Field i n) = ap (λ k. k + 3) (length-set o.fields i n)
-
-pub area_written : (a b : Area) (at : ℕ) (p : Part) → IsArea a → IsObject (contents a) at
-    → IsLaidOut (contents b) → IsWritten a b at p → IsArea b
-area_written a b at p is there laid w =
-    let o = object_at (contents a) at in
+-- an object is written
+pub area_written : (a b : Area) (at : ℕ) (o : Object) → IsArea a → IsObject (contents a) at
+    → IsLaidOut (contents b) → size_of o ≡ size_of (object_at (contents a) at) → IsWritten a b at o → IsArea b
+area_written a b at o is there laid same_size w =
     let fill = ap (λ (r : Contents). r.fill) w.contents_are in
     let size = ap (share size_of) (object_there (contents a) at there) in
-    area_inserted a b at (region_with_part o p) is (held_by_object a is at there)
-    (ap (λ (r : Contents). r.objects) w.contents_are) laid (omega (arith, size, same_size o p, w.live))
-    (omega (arith, fill, w.live)) w.held w.generation w.cards
+    area_inserted a b at o is (held_by_object a is at there)
+    (ap (λ (r : Contents). r.objects) w.contents_are) laid (omega (arith, size, same_size, w.live))
+    (w.count ∙ sym (ap (λ t. cond t a.count (a.count + 1)) there)) (omega (arith, fill, w.live)) w.held
+    w.generation
+    w.cards
+
+-- an object is put after all others
+pub area_put : (a b : Area) (o : Object) → IsArea a → a.held ≡ true
+    → map.get (contents a).objects (contents a).fill ≡ None → IsLaidOut (contents b) → IsPutInto a b o
+    → IsArea b
+area_put a b o is held free laid w =
+    area_inserted a b (contents a).fill o is held (ap (λ (r : Contents). r.objects) w.contents_are) laid
+    (omega (arith, ap (share size_of) free, w.live))
+    (w.count ∙ sym (ap (λ x. cond (is_some x) a.count (a.count + 1)) free))
+    (omega (arith, ap (λ (r : Contents). r.fill) w.contents_are, w.live)) w.held w.generation w.cards
 
 -- the sum over nothing
 pub sum_none : {A : Type 0} (f : A → ℕ) → sum_by f (map.values (map.empty {X = A} {R = nat_cmp})) ≡ 0
@@ -109,14 +116,15 @@ falses (suc n) zero = refl
 falses (suc n) (suc k) = falses n k
 
 -- a region without objects and set cards
-pub area_empty : (b : Area) → contents b ≡ empty_region → IsLaidOut (contents b) → b.live ≡ 0
+pub area_empty : (b : Area) → contents b ≡ empty_region → IsLaidOut (contents b) → b.live ≡ 0 → b.count ≡ 0
     → b.generation ≤ 2 → length b.cards ≡ 8 → ((card : ℕ) → card_in (Some b) card ≡ false) → IsArea b
-area_empty b empty laid live few card_count clear =
+area_empty b empty laid live count few card_count clear =
     let none : sum_by size_of (map.values (contents b).objects) ≡ 0 =
     ap (λ (r : Contents). sum_by size_of (map.values r.objects)) empty ∙ sum_none size_of in
     record {
       laid_out = laid;
       live = omega arith;
+      count = count ∙ sym (ap (λ (r : Contents). map.len r.objects) empty ∙ map.len-empty nat_cmp Object);
       within = omega arith;
       generation = few;
       card_count = card_count;
@@ -137,14 +145,6 @@ none_live a is zero_live k there =
     let live = is.live in
     omega arith
 
--- and none are taken where there is none
-pub live_none : (a : Area) → IsArea a → ((k : ℕ) → ¬ (IsObject (contents a) k)) → a.live ≡ 0
-live_none a is none =
-    let nothing : (contents a).objects ≡ map.empty =
-    map.same_map nat_cmp_total map.nat_cmp-IsAntisymmetric _ _ (λ q. absent (contents a) q (none q)
-    ∙ sym (map.get-empty nat_cmp q)) in
-    is.live ∙ ap (λ (m : map.FinMap nat_cmp Object). sum_by size_of (map.values m)) nothing ∙ sum_none size_of
-
 -- an object's size is taken
 pub live_at : (a : Area) → IsArea a → (k : ℕ) → IsObject (contents a) k
     → size_of (object_at (contents a) k) ≤ a.live
@@ -153,6 +153,21 @@ live_at a is k there =
     (object_there (contents a) k there) in
     let live = is.live in
     omega arith
+
+-- an object takes three cells or more
+pub count_small : (a : Area) → IsArea a → a.count ≤ 85
+count_small a is = omega (
+  arith,
+  is.count,
+  is.live,
+  is.within,
+  is.laid_out.within_region,
+  sum-many size_of 3 (λ o. omega arith) (contents a).objects,
+)
+
+-- an object is counted
+pub count_at : (a : Area) → IsArea a → (k : ℕ) → IsObject (contents a) k → 1 ≤ a.count
+count_at a is k there = omega (arith, is.count, len_less (contents a).objects k there)
 
 object_stays : (r : Contents) (at k : ℕ) → (k ≢ at) → IsObject r k → IsObject (without_object r at) k
 object_stays r at k apart is = ap is_some (map.get-remove nat_cmp_total r.objects at k
@@ -165,6 +180,7 @@ pub record IsRest (a b : Area) (at cells : ℕ) : Type 0 where
   pub laid_out : IsLaidOut (contents b)
   pub size : cells ≡ size_of (object_at (contents a) at)
   pub live : b.live ≡ a.live - cells
+  pub count : b.count + 1 ≡ a.count
   pub held : b.held ≡ a.held
   pub generation : b.generation ≤ 2
   pub same : b.generation ≡ a.generation
@@ -191,6 +207,13 @@ area_taken a b at cells is t =
       record {
         laid_out = t.laid_out;
         live = omega arith;
+        count = omega (
+          arith,
+          t.count,
+          is.count,
+          len_less (contents a).objects at there,
+          ap (λ (r : Contents). map.len r.objects) t.removed,
+        );
         within = omega arith;
         generation = t.generation;
         card_count = t.card_count;
@@ -213,6 +236,7 @@ area_taken a b at cells is t =
         removed = t.removed;
         size = sizes;
         live = omega arith;
+        count = t.count;
         held = t.held;
         generation = t.same;
         others = t.others;

@@ -1,11 +1,11 @@
 -- Which regions of generation 0 may have room for another object.
-use Rattle.std.proofs.Common.{◌≡◌, ◌≢◌, ℕ, ◌≤◌, inl, inr, true, cond, List, Option, refl, sym, ap, ◌∙◌, subst, arith}
+use Rattle.std.proofs.Common.{◌≡◌, ◌≢◌, ℕ, ◌≤◌, inl, inr, true, cond, Option, refl, sym, ap, ◌∙◌, subst, arith}
 use Rattle.std.specs.Prelude.{is_some, unwrap_or, nat_eq}
 use Rattle.std.proofs.lemmas.Bool.{cases_eq, both_ways, eq-eqb, ne_eqb}
 use Rattle.std.specs.Ordering.{nat_cmp}
 use Rattle.std.specs.FinMap as fin
 use Rattle.hd_model.specs.Heap.{Heap, Placed, Region, is_in_use, region_at, region_generation}
-use Rattle.hd_heap.specs.Calls.{with_fresh, with_put, with_generation, AreFull}
+use Rattle.hd_heap.specs.Calls.{with_fresh, with_put, with_generation, without_region, AreFull}
 use Rattle.hd_heap.specs.Steps.{AreOthersFull}
 use Rattle.hd_model.proofs.ReadAfterWrite.{get_left, get_removed}
 use Rattle.hd_heap.proofs.HeapValues.{get_same, get_other}
@@ -68,15 +68,14 @@ others_placed h c r o held full =
     others_put h (with_put h r (region_generation h r) o) c r _ refl
     (λ some young other. let low = full r some held young other in omega (arith, low)) full
 
--- a region was released
-pub others_left : (h : Heap) (c r : ℕ) (spare : List ℕ) → AreOthersFull h c
-    → AreOthersFull (record h { regions = fin.remove h.regions r; spare = spare }) c
-others_left h c r spare full q some held young other = elim (cases_eq q r) [
+-- a region was given up
+pub others_left : (h : Heap) (c r : ℕ) → AreOthersFull h c → AreOthersFull (without_region h r) c
+others_left h c r full q some held young other = elim (cases_eq q r) [
   | inl same ↦ absurd (both_ways _ (ap (λ n. is_some (fin.get (fin.remove h.regions r) n)) same
       ∙ ap is_some (get_removed h.regions r)) held)
   | inr apart ↦
       let got = get_left h.regions r q apart in
-      let is : region_at (record h { regions = fin.remove h.regions r; spare = spare }) q ≡ region_at h q =
+      let is : region_at (without_region h r) q ≡ region_at h q =
       ap (λ (o : Option Region). unwrap_or o (record { generation = 0; fill = 0 })) got in
       subst (λ (g : Region). 193 ≤ g.fill) (sym is)
       (full q some (sym (ap is_some got) ∙ held) (sym (ap (λ (g : Region). g.generation) is) ∙ young)

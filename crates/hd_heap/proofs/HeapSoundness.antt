@@ -13,7 +13,7 @@ use Rattle.hd_heap.specs.Areas.{contents, area_at, address, card_in}
 use Rattle.hd_heap.specs.Sound.{IsSound, StartsIn}
 use Rattle.hd_model.proofs.Sums.{sum-many}
 use Rattle.hd_heap.proofs.RegionReads.{IsHeap, get-regions, found, held_found, has_there, set_at, used_is, count_is}
-use Rattle.hd_heap.proofs.RegionWrites.{cells_placed}
+use Rattle.hd_heap.proofs.RegionSums.{cells_placed}
 
 -- the cells of all objects are at most those of all regions
 lives_small : (areas : List Area) → ((k : ℕ) (a : Area) → get_or (map Some areas) k None ≡ Some a

@@ -42,6 +42,14 @@ put_twice m k x y = fin.same_map nat_cmp_total fin.nat_cmp-IsAntisymmetric _ _ (
       ∙ sym (get_other m k q y apart)
 ])
 
+-- and what is there may be put again
+pub put_same : {A : Type 0} (m : fin.FinMap nat_cmp A) (k : ℕ) (x : A) → fin.get m k ≡ Some x
+    → m ≡ fin.insert m k x
+put_same m k x there = fin.same_map nat_cmp_total fin.nat_cmp-IsAntisymmetric _ _ (λ q. elim (cases_eq q k) [
+  | inl same ↦ ap (fin.get m) same ∙ there ∙ sym (get_same m k q x same)
+  | inr apart ↦ sym (get_other m k q x apart)
+])
+
 -- an object that is written to stays one, and so does each other
 pub has_with_object : (h : Heap) (a x : Addr) (p : Placed) → has_object h x ≡ true
     → has_object (with_object h a p) x ≡ true
@@ -193,13 +201,8 @@ made old mid new r size at o fits room place region free put =
 pub write_same : (h : Heap) (a : Addr) → has_object h a ≡ true → h ≡ with_object h a (placed_at h a)
 write_same h a is =
     let some = some_of (fin.get h.objects a.0) (sym (has-get h a) ∙ is) in
-    let got : fin.get h.objects a.0 ≡ Some (placed_at h a) = some.1
-    ∙ ap Some (sym (ap (λ o. unwrap_or o no_placed) some.1)) in
-    ap (λ m. record h { objects = m }) (fin.same_map nat_cmp_total fin.nat_cmp-IsAntisymmetric _ _
-    (λ q. elim (cases_eq q a.0) [
-      | inl same ↦ ap (fin.get h.objects) same ∙ got ∙ sym (get_same h.objects a.0 q (placed_at h a) same)
-      | inr apart ↦ sym (get_other h.objects a.0 q (placed_at h a) apart)
-    ]))
+    ap (λ m. record h { objects = m }) (put_same h.objects a.0 (placed_at h a) (some.1
+    ∙ ap Some (sym (ap (λ o. unwrap_or o no_placed) some.1))))
 
 -- an object was put after all others of a region, at a free address, and another one is as it was
 pub record IsCopied (h now : Heap) (from copy : Addr) (o : Placed) : Type 0 where

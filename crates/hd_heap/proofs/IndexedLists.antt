@@ -1,5 +1,5 @@
 -- Lemmas on lists that are read as maps and sets by index.
-use Rattle.std.proofs.Common.{◌≡◌, ℕ, zero, suc, ◌+◌, ◌-◌, ◌*◌, ◌<◌, Bool, true, false, ◌||◌, cond, List, [], ◌∷◌, ◌++◌, length, get_or, Option, Some, None, refl, sym, ap, ◌∙◌, arith}
+use Rattle.std.proofs.Common.{◌≡◌, ℕ, zero, suc, ◌+◌, ◌-◌, ◌*◌, ◌<◌, Bool, true, false, ◌||◌, cond, List, [], ◌∷◌, ◌++◌, length, get_or, Option, None, refl, sym, ap, ◌∙◌, arith}
 use Rattle.std.specs.List.{list_any}
 use Rattle.std.specs.FinSet as set
 use Rattle.std.specs.Ordering.{nat_cmp, eq_by_cmp}
@@ -42,12 +42,12 @@ pub contains-places_of : (bs : List Bool) (q : ℕ) → set.contains (places_of 
 contains-places_of bs q = set.contains-from_list nat_cmp_total (flagged 0 bs) q
     ∙ any-flagged 0 q q bs (omega arith)
 
-length-table : {A : Type 0} (n : ℕ) (f : ℕ → A) → length (table n f) ≡ n
+pub length-table : {A : Type 0} (n : ℕ) (f : ℕ → A) → length (table n f) ≡ n
 unfolding table
 length-table zero f = refl
 length-table (suc n) f = ap suc (length-table n (λ k. f (suc k)))
 
-get_or-table : {A : Type 0} (n : ℕ) (f : ℕ → A) (k : ℕ) (d : A) → k < n → get_or (table n f) k d ≡ f k
+pub get_or-table : {A : Type 0} (n : ℕ) (f : ℕ → A) (k : ℕ) (d : A) → k < n → get_or (table n f) k d ≡ f k
 unfolding table
 get_or-table zero f k d below = absurd (omega arith)
 get_or-table (suc n) f zero d below = refl

@@ -1,8 +1,10 @@
 pub mod IndexedLists
 pub mod Areas
 pub mod WantedObjects
+pub mod RegionSums
 pub mod RegionReads
 pub mod RegionWrites
+pub mod RegionGiveUp
 pub mod RegionChanges
 pub mod HeapSoundness
 pub mod RegionUse
@@ -10,3 +12,7 @@ pub mod RegionWalk
 pub mod RegionReserve
 pub mod HeapValues
 pub mod FullRegions
+pub mod FieldForward
+pub mod HeapReferences
+pub mod RegionCopy
+pub mod ObjectSurvey

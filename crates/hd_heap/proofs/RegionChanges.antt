@@ -1,25 +1,24 @@
 -- Lemmas on a heap after one of its regions got or lost an object, a generation or a set card.
-use Rattle.std.proofs.Common.{◌≡◌, ◌≢◌, ℕ, zero, suc, ◌+◌, ◌-◌, ◌*◌, ◌/◌, ◌%◌, ◌<◌, ◌≤◌, inl, inr, Bool, true, false, ◌||◌, ◌&&◌, cond, List, ◌∷◌, map, set, get_or, Option, Some, None, refl, sym, ap, ◌∙◌, subst, arith, length-set, get_or-set_same, get_or-set_other, replicate}
+use Rattle.std.proofs.Common.{◌≡◌, ◌≢◌, ℕ, zero, suc, ◌+◌, ◌-◌, ◌*◌, ◌/◌, ◌%◌, ◌<◌, ◌≤◌, inl, inr, Bool, true, false, ◌||◌, ◌&&◌, cond, List, ◌∷◌, map, set, get_or, Some, None, refl, sym, ap, ◌∙◌, subst, arith, length-set, get_or-set_same, get_or-set_other, replicate}
 use Rattle.std.specs.Prelude.{is_some, option_map, not, nat_eq}
 use Rattle.std.proofs.lemmas.Bool.{cases_eq}
-use Rattle.std.proofs.lemmas.List.{length-replicate}
 use Rattle.std.specs.Ordering.{nat_cmp}
 use Rattle.std.specs.Cmp.{nat_cmp_total}
 use Rattle.std.specs.FinMap as fin
 use Rattle.std.specs.FinSet as set_of
-use Rattle.hd_cells.specs.Object.{size_of, new_object as new_region_object}
-use Rattle.hd_cells.specs.Region.{Contents, object_at as object_in_region, with_put as region_with_put}
+use Rattle.hd_cells.specs.Object.{Object, size_of, new_object as new_region_object}
+use Rattle.hd_cells.specs.Region.{Contents}
 use Rattle.hd_model.specs.declared.data.Addr.{Addr}
-use Rattle.hd_model.specs.Heap.{Region, Heap, card_of, region_at, region_generation, has_object, cells_of, is_set}
+use Rattle.hd_model.specs.Heap.{Placed, Region, Heap, card_of, region_at, region_generation, has_object, cells_of, is_set}
 use Rattle.hd_heap.specs.declared.area.Area.{Area}
-use Rattle.hd_heap.specs.Areas.{contents, area_at, address, placed_of, placed_in, card_in, cards_in, IsArea}
+use Rattle.hd_heap.specs.Areas.{contents, area_at, address, placed_of, placed_in, card_in, objects_in, cards_in, IsArea}
 use Rattle.hd_heap.specs.Calls.{with_put, with_card, with_generation, new_object, IsRemoved}
-use Rattle.hd_heap.specs.Steps.{AreOthersFull, IsTaken}
+use Rattle.hd_heap.specs.Steps.{AreOthersFull, IsPutInto, IsTaken}
 use Rattle.hd_heap.proofs.IndexedLists.{tied, untied}
-use Rattle.hd_model.proofs.ReadAfterWrite.{len_new, len_less}
-use Rattle.hd_model.proofs.Sums.{share, sum-insert, sum-taken}
-use Rattle.hd_heap.proofs.RegionReads.{get-objects, seen, in_use, area_here, IsHeldAt, IsFound, IsHeap, used_is, count_is, found, address_is, has_there}
-use Rattle.hd_heap.proofs.RegionWrites.{same_sets, objects_put, objects_gone, objects_same, regions_same, regions_put, cards_same, card_here, card_was, card_other, heap_set, cells_placed}
+use Rattle.hd_heap.proofs.Areas.{absent}
+use Rattle.hd_heap.proofs.RegionReads.{get-objects, seen, in_use, area_here, IsHeldAt, IsFound, IsHeap, has-get, found, address_is, has_there}
+use Rattle.hd_heap.proofs.RegionWrites.{same_sets, objects_put, objects_gone, objects_same, regions_same, regions_put, cards_same, card_here, card_was, card_other, sum_set, heap_set}
+use Rattle.hd_heap.proofs.RegionSums.{cells_placed}
 use Rattle.hd_heap.proofs.FullRegions.{others_raised, others_placed}
 
 -- whether a card is in a set after one was set or cleared: that one, and another
@@ -41,6 +40,16 @@ nulls_of : (n : ℕ) → map address (replicate n 0) ≡ replicate n None
 nulls_of zero = refl
 nulls_of (suc n) = ap (λ xs. None ∷ xs) (nulls_of n)
 
+-- a new object as the heap's users see it
+pub new_placed : (id n : ℕ) (on : Bool)
+    → placed_of (new_region_object id n on) ≡ new_object (record { 0 = id }) n on
+new_placed id n on = λ i. record {
+  id = record { 0 = id };
+  fields = nulls_of n i;
+  value = 0;
+  registered = on;
+}
+
 module _ {areas : List Area} {spares : List ℕ} {limit capacity cells objects holds current : ℕ} {h : Heap}
     (heap : IsHeap areas spares limit capacity (cells, objects, holds) current h) where
   -- the address of an object is read as it was written
@@ -58,6 +67,7 @@ module _ {areas : List Area} {spares : List ℕ} {limit capacity cells objects h
       let new : IsArea b = record {
         laid_out = old.laid_out;
         live = old.live;
+        count = old.count;
         within = old.within;
         generation = low;
         card_count = old.card_count;
@@ -68,8 +78,8 @@ module _ {areas : List Area} {spares : List ℕ} {limit capacity cells objects h
       (objects_same at.place b refl ∙ ap (λ (x : Heap). x.objects) heap.view)
       (regions_put at.place b (seen b) (in_use b at.held)
       ∙ (λ i. fin.insert (heap.view i).regions r (record { generation = g; fill = (sym at.region i).fill })))
-      refl refl (cards_same at.place b (λ j. refl) ∙ ap (λ (x : Heap). x.cards) heap.view) (used_is heap) refl
-      (count_is heap) (λ full.
+      refl refl (cards_same at.place b (λ j. refl) ∙ ap (λ (x : Heap). x.cards) heap.view) refl
+      refl (λ full.
       subst (AreOthersFull (with_generation h r g)) (sym known) (others_raised h current r g full))
 
   -- the card of an object is set or cleared
@@ -88,6 +98,7 @@ module _ {areas : List Area} {spares : List ℕ} {limit capacity cells objects h
       let new : IsArea b = record {
         laid_out = old.laid_out;
         live = old.live;
+        count = old.count;
         within = old.within;
         generation = old.generation;
         card_count = length-set a.cards card on ∙ old.card_count;
@@ -115,7 +126,7 @@ module _ {areas : List Area} {spares : List ℕ} {limit capacity cells objects h
       f.located.held (objects_same place b refl ∙ ap (λ (x : Heap). x.objects) heap.view)
       (regions_same place b refl ∙ ap (λ (x : Heap). x.regions) heap.view) refl refl
       (marks ∙ ap (λ (x : Heap). cond on (set_of.insert x.cards (at.0 / 32))
-      (set_of.remove x.cards (at.0 / 32))) heap.view) (used_is heap) refl (count_is heap) (λ x. x)
+      (set_of.remove x.cards (at.0 / 32))) heap.view) refl refl (λ x. x)
 
   -- nothing is where the next object of a region goes
   pub free_here : {r k : ℕ} {a : Area} → IsHeldAt areas h r k a → (contents a).fill < 256
@@ -131,42 +142,49 @@ module _ {areas : List Area} {spares : List ℕ} {limit capacity cells objects h
       ∙ ap (λ j. option_map placed_of (fin.get (contents a).objects j)) off ∙ ap (option_map placed_of) free
 
   -- an object was put after all others of a region
-  pub object_put : {r k : ℕ} {a : Area} (b : Area) (id n : ℕ) (on : Bool) → IsHeldAt areas h r k a → IsArea b
-      → fin.get (contents a).objects (contents a).fill ≡ None → (contents a).fill + (n + 3) ≤ 256
-      → contents b ≡ region_with_put (contents a) (new_region_object id n on) → b.held ≡ true
-      → b.generation ≡ a.generation → b.cards ≡ a.cards → b.live ≡ a.live + (n + 3)
-      → IsHeap (set areas k b) spares limit capacity (cells + (n + 3), objects + 1, holds) current
-      (with_put h r (region_generation h r) (new_object (record { 0 = id }) n on))
-  object_put {r} {a = a} b id n on at new free room put held generation cards live =
-      let o = new_region_object id n on in
-      let p = new_object (record { 0 = id }) n on in
-      let blank : placed_of o ≡ p = λ i. record {
-        id = record { 0 = id };
-        fields = nulls_of n i;
-        value = 0;
-        registered = on;
-      } in
+  pub object_put : {r k : ℕ} {a : Area} (b : Area) (o : Object) (p : Placed) → placed_of o ≡ p
+      → (size : ℕ) → size ≡ size_of o → IsHeldAt areas h r k a → IsArea b → (contents a).fill + size ≤ 256
+      → IsPutInto a b o
+      → IsHeap (set areas k b) spares limit capacity (cells + size, objects + 1, holds) current
+      (with_put h r (region_generation h r) p)
+  object_put {r} {k} {a} b o p is size size_is at new room w =
       let fill : (contents a).fill ≡ (region_at h r).fill = ap (λ (x : Region). x.fill) (sym at.region) in
-      let added =
-      objects_put at.place b (contents a).fill o (omega arith) (ap (λ (c : Contents). c.objects) put)
-      ∙ (λ i. fin.insert (heap.view i).objects (r * 256 + fill i) (blank i)) in
-      let sizes : size_of o ≡ cells_of p = sym (cells_placed o) ∙ ap cells_of blank in
-      let none = free_here at (omega arith) free in
-      let sum = sum-insert cells_of h.objects (r * 256 + (region_at h r).fill) p in
-      let share_none = ap (share cells_of) none in
-      let nulls = length-replicate n (let x : Option Addr = None in x) in
-      heap_set at.place b heap (cells + (n + 3)) (objects + 1) current
-      (with_put h r (region_generation h r) p) new at.held held
-      added
+      let sizes : size_of o ≡ cells_of p = sym (cells_placed o) ∙ ap cells_of is in
+      let added : objects_in (set areas k b) ≡ fin.insert h.objects (r * 256 + (region_at h r).fill) p =
+      objects_put at.place b (contents a).fill o (omega (arith, room, size_is))
+      (ap (λ (c : Contents). c.objects) w.contents_are)
+      ∙ (λ i. fin.insert (heap.view i).objects (r * 256 + fill i) (is i)) in
+      let held : b.held ≡ true = w.held ∙ at.held in
+      heap_set at.place b heap (cells + size) (objects + 1) current
+      (with_put h r (region_generation h r) p) new
+      at.held held added
       (regions_put at.place b (seen b) (in_use b held) ∙ (λ i. fin.insert (heap.view i).regions r (record {
-        generation = (generation ∙ ap (λ (x : Region). x.generation) (sym at.region)) i;
-        fill = (ap (λ (c : Contents). c.fill) put ∙ (λ j. fill j + sizes j)) i;
+        generation = (w.generation ∙ ap (λ (x : Region). x.generation) (sym at.region)) i;
+        fill = (ap (λ (c : Contents). c.fill) w.contents_are ∙ (λ j. fill j + sizes j)) i;
       })))
       refl refl
-      (cards_same at.place b (λ j. ap (λ bs. get_or bs j false) cards) ∙ ap (λ (x : Heap). x.cards) heap.view)
-      (omega (arith, sum, share_none, used_is heap, nulls)) (omega (arith, live))
-      (omega (arith, count_is heap, len_new h.objects (r * 256 + (region_at h r).fill) p none))
-      (others_placed h current r p at.there)
+      (cards_same at.place b (λ j. ap (λ bs. get_or bs j false) w.cards)
+      ∙ ap (λ (x : Heap). x.cards) heap.view)
+      (omega (arith, w.live, size_is)) (omega (arith, w.count)) (others_placed h current r p at.there)
+
+  -- nothing was where it is put
+  pub place_free : {r k : ℕ} {a : Area} (at : Addr) → IsHeldAt areas h r k a → (contents a).fill < 256
+      → at.0 ≡ r * 256 + (region_at h r).fill → has_object h at ≡ false
+  place_free {a = a} at located low place = has-get h at ∙ ap (λ n. is_some (fin.get h.objects n)) place
+      ∙ ap is_some (free_here located low (absent (contents a) (contents a).fill (λ there. omega (
+        arith,
+        located.area.laid_out.below_fill (contents a).fill there,
+      ))))
+
+  -- what is removed was counted
+  pub counted : (at : Addr) {k : ℕ} {a : Area} (b : Area) (size : ℕ) → IsFound areas h at k a
+      → IsTaken a b (at.0 % 256) size → (size ≤ cells) × (1 ≤ objects)
+  counted at {a = a} b size f taken =
+      let place = f.located.place in
+      let one = sum_set place (record a { live = 0; count = 0 }) in (
+        omega (arith, one (λ (x : Area). x.live), heap.kept.lives, taken.live),
+        omega (arith, one (λ (x : Area). x.count), heap.kept.counts, taken.count),
+      )
 
   -- an object was removed from its region
   pub object_removed : (at : Addr) {k : ℕ} {a : Area} (b : Area) (size : ℕ) → IsFound areas h at k a
@@ -176,10 +194,6 @@ module _ {areas : List Area} {spares : List ℕ} {limit capacity cells objects h
   object_removed at {k} {a} b size f new taken =
       let place = f.located.place in
       let whole : (at.0 / 256) * 256 + at.0 % 256 ≡ at.0 = omega arith in
-      let old = placed_of (object_in_region (contents a) (at.0 % 256)) in
-      let sums = sum-taken cells_of h.objects at.0 old f.get in
-      let size_is = cells_placed (object_in_region (contents a) (at.0 % 256)) in
-      let lens = len_less h.objects at.0 (ap is_some f.get) in
       heap_set place b heap (cells - size) (objects - 1) current
       (record h { objects = fin.remove h.objects at.0; cards = cards_in (set areas k b) }) new f.located.held
       (taken.held ∙ f.located.held)
@@ -188,20 +202,8 @@ module _ {areas : List Area} {spares : List ℕ} {limit capacity cells objects h
       (regions_same place b (λ i. cond (taken.held i)
       (Some (record { generation = taken.generation i; fill = (taken.removed i).fill })) None)
       ∙ ap (λ (x : Heap). x.regions) heap.view)
-      refl refl refl (omega (arith, sums, size_is, taken.size, used_is heap))
-      (omega (arith, taken.live, sums, size_is, taken.size, used_is heap))
-      (omega (arith, lens, count_is heap)) (λ x. x)
-
-  -- what is removed was counted
-  pub counted : (at : Addr) {k : ℕ} {a : Area} (b : Area) (size : ℕ) → IsFound areas h at k a
-      → IsTaken a b (at.0 % 256) size → (size ≤ cells) × (1 ≤ objects)
-  counted at {a = a} b size f taken =
-      let o = object_in_region (contents a) (at.0 % 256) in
-      let sums = sum-taken cells_of h.objects at.0 (placed_of o) f.get in
-      let lens = len_less h.objects at.0 (ap is_some f.get) in (
-        omega (arith, sums, cells_placed o, taken.size, used_is heap),
-        omega (arith, lens, count_is heap),
-      )
+      refl refl refl (omega (arith, taken.live, (counted at b size f taken).0))
+      (omega (arith, taken.count, (counted at b size f taken).1)) (λ x. x)
 
 -- the cards after an object was removed
 module _ {areas : List Area} {spares : List ℕ} {limit capacity cells objects holds current : ℕ} {h : Heap}

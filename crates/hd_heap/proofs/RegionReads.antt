@@ -18,6 +18,7 @@ use Rattle.hd_heap.specs.Steps.{AreOthersFull, IsObjectOf}
 use Rattle.hd_model.proofs.IndexedItems.{get-by_place}
 use Rattle.hd_heap.proofs.IndexedLists.{contains-places_of, get_or-tables}
 use Rattle.hd_heap.proofs.Areas.{object_there, held_by_object}
+use Rattle.hd_heap.proofs.RegionSums.{cells_sum, count_sum}
 
 -- a read of a list of options through a function
 get_or-option : {A B : Type 0} (f : Option A → Option B) (os : List (Option A)) (k : ℕ) → f None ≡ None
@@ -78,6 +79,13 @@ place_read areas r k x e within read =
       within = within;
       here = ap (area_at areas) number ∙ get_or-map Some areas k x None within ∙ ap Some (sym read);
     }
+
+pub place_reads : {areas : List Area} {r k : ℕ} {a : Area} → IsPlace areas r k a → a ≡ get_or areas k a
+place_reads {areas} {r} {k} {a} p =
+    let some : Some (get_or areas k a) ≡ Some a = sym (get_or-map Some areas k a None p.within)
+    ∙ ap (area_at areas) (sym p.number) ∙ p.here in
+    let read : get_or areas k a ≡ a = cc some in
+    sym read
 
 -- after another region was put there
 module _ {areas : List Area} {r k : ℕ} {a : Area} (p : IsPlace areas r k a) (b : Area) where
@@ -142,10 +150,11 @@ module _ {areas : List Area} {spares : List ℕ} {limit capacity cells objects h
   }
 
   pub used_is : cells ≡ used_of h
-  used_is = heap.kept.used ∙ ap used_of heap.view
+  used_is = heap.kept.lives ∙ cells_sum areas heap.kept.each ∙ ap used_of heap.view
 
   pub count_is : objects ≡ fin.len h.objects
-  count_is = heap.kept.count ∙ ap (λ (x : Heap). fin.len x.objects) heap.view
+  count_is = heap.kept.counts ∙ count_sum areas heap.kept.each
+      ∙ ap (λ (x : Heap). fin.len x.objects) heap.view
 
   pub objects_at : (a : ℕ) → fin.get h.objects a ≡ placed_in (area_at areas (a / 256)) (a % 256)
   objects_at a = ap (λ (x : Heap). fin.get x.objects a) (sym heap.view) ∙ get-objects areas a

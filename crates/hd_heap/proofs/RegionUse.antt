@@ -1,5 +1,5 @@
 -- Lemmas on a heap after a region was taken into use, released, or added as a free one.
-use Rattle.std.proofs.Common.{◌≡◌, ◌≢◌, ℕ, zero, suc, ◌+◌, ◌-◌, ◌*◌, ◌/◌, ◌%◌, ◌^◌, ◌<◌, ◌≤◌, inl, inr, true, false, cond, List, [], ◌∷◌, ◌++◌, map, length, set, get_or, drop, Option, Some, None, refl, sym, ap, ◌∙◌, subst, arith, length-set, length-append, length-drop, get_or-drop}
+use Rattle.std.proofs.Common.{◌≡◌, ◌≢◌, ℕ, zero, suc, ◌+◌, ◌-◌, ◌/◌, ◌%◌, ◌^◌, ◌<◌, ◌≤◌, inl, inr, true, false, cond, List, [], ◌∷◌, ◌++◌, map, length, set, get_or, drop, Option, Some, None, refl, sym, ap, ◌∙◌, subst, arith, length-set, length-append, length-drop, get_or-drop}
 use Rattle.std.specs.Prelude.{is_some, option_map, sum_by, nat_eq}
 use Rattle.std.proofs.lemmas.Bool.{cases_eq, cases_lt, both_ways, false_from_ne_true}
 use Rattle.std.proofs.lemmas.List.{length-map, map_push, get_or_push, get_or_append_left, get_or_past, get_or_read}
@@ -7,18 +7,18 @@ use Rattle.std.proofs.lemmas.List.Sums.{sum_by-append, sum_by-cons}
 use Rattle.std.specs.Ordering.{nat_cmp}
 use Rattle.std.specs.FinMap as fin
 use Rattle.std.specs.FinSet as set_of
-use Rattle.hd_cells.specs.Region.{Contents, IsObject, empty_region}
-use Rattle.hd_model.specs.Heap.{Placed, Region, Heap, region_of, is_in_use, has_object, cells_of}
-use Rattle.hd_model.specs.declared.data.Addr.{Addr}
+use Rattle.hd_cells.specs.Region.{Contents, IsObject}
+use Rattle.hd_model.specs.Heap.{Region, Heap, region_of, is_in_use}
 use Rattle.hd_heap.specs.declared.area.Area.{Area}
 use Rattle.hd_heap.specs.Areas.{contents, area_at, placed_of, placed_in, region_in, card_in, objects_in, regions_in, cards_in, heap_of, IsArea}
-use Rattle.hd_heap.specs.Calls.{with_fresh, empty_heap}
+use Rattle.hd_heap.specs.Calls.{with_fresh, without_region, empty_heap}
 use Rattle.hd_heap.specs.Kept.{IsKept, IsSpare}
-use Rattle.hd_heap.specs.Steps.{AreOthersFull}
+use Rattle.hd_heap.specs.Steps.{AreOthersFull, IsFreed}
 use Rattle.hd_model.proofs.ReadAfterWrite.{len_new, len_less}
-use Rattle.hd_heap.proofs.Areas.{absent, no_cards, none_in_empty, sum_none}
-use Rattle.hd_heap.proofs.RegionReads.{get-objects, get-regions, contains-cards, in_use, not_in_use, IsPlace, place_read, area_here, IsHeldAt, IsHeap, heap_by, regions_at, has_there}
-use Rattle.hd_heap.proofs.RegionWrites.{same_maps, same_sets, objects_same, regions_put, regions_gone, cards_same, lives_set, each_set, spare_set}
+use Rattle.hd_heap.proofs.Areas.{absent, none_in_empty}
+use Rattle.hd_heap.proofs.RegionReads.{get-objects, get-regions, contains-cards, in_use, not_in_use, IsPlace, place_read, area_here, IsHeldAt, IsHeap, heap_by, regions_at}
+use Rattle.hd_heap.proofs.RegionWrites.{same_maps, same_sets, objects_same, objects_here, objects_other, regions_put, regions_gone, cards_same, card_here, card_other, sum_set, each_set, spare_set}
+use Rattle.hd_heap.proofs.RegionGiveUp.{object_gone, object_left, card_gone, card_left}
 use Rattle.hd_heap.proofs.FullRegions.{others_fresh, others_left, others_unknown}
 
 -- what holds of each number of a list, and of one more
@@ -97,27 +97,24 @@ module _ (areas : List Area) (b : Area) where
 
 module _ {areas : List Area} {spares : List ℕ} {limit capacity cells objects holds current : ℕ} {h : Heap}
     (heap : IsHeap areas spares limit capacity (cells, objects, holds) current h) where
-  -- the heap where the objects and cards are as before
-  heap_moved : {areas2 : List Area} {spares2 : List ℕ} {capacity2 holds2 d : ℕ}
-      (rs : fin.FinMap nat_cmp Region)
-      (ns : List ℕ) → ((q : ℕ) (x : Area) → area_at areas2 q ≡ Some x → IsArea x) → length areas2 < 2 ^ 24
-      → sum_by (λ (x : Area). x.live) areas2 ≡ sum_by (λ (x : Area). x.live) areas
-      → objects_in areas2 ≡ objects_in areas → cards_in areas2 ≡ cards_in areas → regions_in areas2 ≡ rs
-      → holds2 ≡ fin.len rs → spares2 ≡ ns → holds2 + length spares2 ≡ length areas2
-      → length areas2 ≤ capacity2
+  -- the heap with other regions in use
+  heap_moved : {areas2 : List Area} {spares2 : List ℕ} {capacity2 cells2 objects2 holds2 d : ℕ} (new : Heap)
+      → ((q : ℕ) (x : Area) → area_at areas2 q ≡ Some x → IsArea x) → length areas2 < 2 ^ 24
+      → cells2 ≡ sum_by (λ (x : Area). x.live) areas2 → objects2 ≡ sum_by (λ (x : Area). x.count) areas2
+      → objects_in areas2 ≡ new.objects → cards_in areas2 ≡ new.cards → regions_in areas2 ≡ new.regions
+      → holds2 ≡ fin.len new.regions → spares2 ≡ new.spare → h.limit ≡ new.limit
+      → holds2 + length spares2 ≡ length areas2 → length areas2 ≤ capacity2
       → ((i : ℕ) → i < length spares2 → IsSpare areas2 (get_or spares2 i 0))
       → ((i j : ℕ) → i < j → j < length spares2 → get_or spares2 i 0 ≢ get_or spares2 j 0)
-      → (AreOthersFull h current → AreOthersFull (record h { regions = rs; spare = ns }) d)
-      → IsHeap areas2 spares2 limit capacity2 (cells, objects, holds2) d
-      (record h { regions = rs; spare = ns })
-  heap_moved {areas2} {spares2} {capacity2} {holds2} rs ns each few lives same_objects same_cards regions
-      held list parted room spare apart step =
-      let kept : IsKept areas2 spares2 capacity2 cells objects holds2 = record {
+      → (AreOthersFull h current → AreOthersFull new d)
+      → IsHeap areas2 spares2 limit capacity2 (cells2, objects2, holds2) d new
+  heap_moved {areas2} {spares2} {capacity2} {cells2} {objects2} {holds2} new each few cells count same_objects
+      same_cards regions held list same_limit parted room spare apart step =
+      let kept : IsKept areas2 spares2 capacity2 cells2 objects2 holds2 = record {
         each = each;
         few = few;
-        used = heap.kept.used ∙ ap (λ m. sum_by cells_of (fin.values m)) (sym same_objects);
-        lives = heap.kept.lives ∙ sym lives;
-        count = heap.kept.count ∙ ap fin.len (sym same_objects);
+        lives = cells;
+        counts = count;
         held = held ∙ ap fin.len (sym regions);
         parted = parted;
         room = room;
@@ -125,12 +122,18 @@ module _ {areas : List Area} {spares : List ℕ} {limit capacity cells objects h
         apart = apart;
       } in
       heap_by heap kept (λ i. record {
-        objects = (same_objects ∙ ap (λ (x : Heap). x.objects) heap.view) i;
+        objects = same_objects i;
         regions = regions i;
         spare = list i;
-        limit = (heap.view i).limit;
-        cards = (same_cards ∙ ap (λ (x : Heap). x.cards) heap.view) i;
+        limit = (ap (λ (x : Heap). x.limit) heap.view ∙ same_limit) i;
+        cards = same_cards i;
       }) step
+
+  same_objects : (areas2 : List Area) → objects_in areas2 ≡ objects_in areas → objects_in areas2 ≡ h.objects
+  same_objects areas2 same = same ∙ ap (λ (x : Heap). x.objects) heap.view
+
+  same_cards : (areas2 : List Area) → cards_in areas2 ≡ cards_in areas → cards_in areas2 ≡ h.cards
+  same_cards areas2 same = same ∙ ap (λ (x : Heap). x.cards) heap.view
 
   held_is : holds ≡ fin.len h.regions
   held_is = heap.kept.held ∙ ap (λ (x : Heap). fin.len x.regions) heap.view
@@ -142,9 +145,10 @@ module _ {areas : List Area} {spares : List ℕ} {limit capacity cells objects h
   pub heap_roomy : {capacity2 : ℕ} → capacity ≤ capacity2
       → IsHeap areas spares limit capacity2 (cells, objects, holds) current h
   heap_roomy more =
-      heap_moved h.regions h.spare heap.kept.each heap.kept.few refl refl refl
-      (ap (λ (x : Heap). x.regions) heap.view) held_is (ap (λ (x : Heap). x.spare) heap.view) heap.kept.parted
-      (omega (arith, heap.kept.room, more)) heap.kept.spare heap.kept.apart (λ x. x)
+      heap_moved h heap.kept.each heap.kept.few heap.kept.lives heap.kept.counts (same_objects areas refl)
+      (same_cards areas refl)
+      (ap (λ (x : Heap). x.regions) heap.view) held_is (ap (λ (x : Heap). x.spare) heap.view) refl
+      heap.kept.parted (omega (arith, heap.kept.room, more)) heap.kept.spare heap.kept.apart (λ x. x)
 
   -- the first free region, at its index of the list
   pub record IsFirstSpare (n k : ℕ) (a : Area) : Type 0 where
@@ -190,13 +194,14 @@ module _ {areas : List Area} {spares : List ℕ} {limit capacity cells objects h
       let lens = len_new h.regions r x none in
       let length_new = length-set areas k b in
       heap_lists refl rest
-      (heap_moved (fin.insert h.regions r x) (drop 1 h.spare) (each_set p b new heap.kept.each)
+      (heap_moved (with_fresh h r g) (each_set p b new heap.kept.each)
       (omega (arith, length_new, heap.kept.few))
-      (omega (arith, lives_set p b, ap (λ (y : Area). y.live) is))
-      (objects_same p b (ap (λ (y : Area). (contents y).objects) is))
-      (cards_same p b (λ j. ap (λ (y : Area). get_or y.cards j false) is))
+      (omega (arith, sum_set p b (λ (y : Area). y.live), ap (λ (y : Area). y.live) is, heap.kept.lives))
+      (omega (arith, sum_set p b (λ (y : Area). y.count), ap (λ (y : Area). y.count) is, heap.kept.counts))
+      (same_objects _ (objects_same p b (ap (λ (y : Area). (contents y).objects) is)))
+      (same_cards _ (cards_same p b (λ j. ap (λ (y : Area). get_or y.cards j false) is)))
       (regions_put p b x one ∙ ap (λ (y : Heap). fin.insert y.regions r x) heap.view)
-      (omega (arith, lens, held_is)) (ap (λ (y : Heap). drop 1 y.spare) heap.view)
+      (omega (arith, lens, held_is)) (ap (λ (y : Heap). drop 1 y.spare) heap.view) refl
       (omega (arith, length-drop 1 spares, some, heap.kept.parted, length_new))
       (omega (arith, length_new, same_capacity, heap.kept.room))
       (λ i below.
@@ -210,46 +215,52 @@ module _ {areas : List Area} {spares : List ℕ} {limit capacity cells objects h
       (sym (get_or-drop 1 spares i 0) ∙ e ∙ get_or-drop 1 spares j 0))
       (λ full. subst (AreOthersFull (with_fresh h r g)) (sym known) (others_fresh h current r g full)))
 
-  -- a region in which no object of the heap is has none
-  pub bare : {r k : ℕ} {a : Area} → IsHeldAt areas h r k a
-      → ((x : Addr) → has_object h x ≡ true → region_of x ≢ r) → (j : ℕ) → ¬ (IsObject (contents a) j)
-  unfolding region_of
-  bare {r} {a = a} at none j there =
-      let low = at.area.laid_out.below_fill j there in
-      let fill = at.area.laid_out.within_region in
-      let x : Addr = record { 0 = r * 256 + j } in
-      let number : x.0 / 256 ≡ r = omega (arith, low, fill) in
-      let offset : x.0 % 256 ≡ j = omega (arith, low, fill) in
-      none x (has_there heap x a (ap (area_at areas) number ∙ at.place.here)
-      ∙ ap (λ n. is_some (fin.get (contents a).objects n)) offset ∙ there) number
+  -- what a region counts is counted of all
+  pub cells_counted : {r k : ℕ} {a : Area} → IsPlace areas r k a → a.live ≤ cells
+  cells_counted {a = a} p =
+      omega (arith, sum_set p (record a { live = 0 }) (λ (x : Area). x.live), heap.kept.lives)
 
-  -- a region in use without objects becomes the last free one
-  pub region_released : {r k : ℕ} {a : Area} (b : Area) {spares2 : List ℕ} {capacity2 : ℕ}
-      → IsHeldAt areas h r k a → IsArea b
-      → ((x : Addr) → has_object h x ≡ true → region_of x ≢ r) → contents b ≡ empty_region
-      → b.held ≡ false → b.live ≡ a.live → spares2 ≡ spares ++ r ∷ [] → capacity2 ≡ capacity
-      → IsHeap (set areas k b) spares2 limit capacity2 (cells, objects, holds - 1) current
-      (record h { regions = fin.remove h.regions r; spare = h.spare ++ r ∷ [] })
-  region_released {r} {k} {a} b at new no_object empty free live more same_capacity =
+  pub objects_counted : {r k : ℕ} {a : Area} → IsPlace areas r k a → a.count ≤ objects
+  objects_counted {a = a} p =
+      omega (arith, sum_set p (record a { count = 0 }) (λ (x : Area). x.count), heap.kept.counts)
+
+  -- a region in use becomes the last free one, and its objects are gone
+  pub region_freed : {r k : ℕ} {a : Area} (b : Area) {spares2 : List ℕ} {capacity2 : ℕ} (taken gone : ℕ)
+      → IsHeldAt areas h r k a → IsArea b → IsFreed b → taken ≡ a.live → gone ≡ a.count
+      → spares2 ≡ spares ++ r ∷ [] → capacity2 ≡ capacity
+      → IsHeap (set areas k b) spares2 limit capacity2 (cells - taken, objects - gone, holds - 1) current
+      (without_region h r)
+  unfolding region_of
+  region_freed {r} {k} {a} b taken gone at new free taken_is gone_is more same_capacity =
       let p = at.place in
-      let bare_b = λ (j : ℕ) (there : IsObject (contents b) j). none_in_empty j
-      (subst (λ (c : Contents). IsObject c j) empty there) in
-      let nothing : (contents b).objects ≡ (contents a).objects =
-      same_maps (λ q. absent (contents b) q (bare_b q)
-      ∙ sym (absent (contents a) q (bare at no_object q))) in
-      let none = not_in_use b free in
+      let none = not_in_use b free.held in
       let lens = len_less h.regions r at.there in
       let length_new = length-set areas k b in
+      let bare : (q : ℕ) → placed_in (Some b) q ≡ None = λ q.
+      ap (λ (c : Contents). option_map placed_of (fin.get c.objects q)) free.contents_are
+      ∙ ap (option_map placed_of) (fin.get-empty nat_cmp q) in
+      let objects_left : objects_in (set areas k b) ≡ (without_region h r).objects =
+      same_maps (λ q. elim (cases_eq (q / 256) r) [
+        | inl same ↦ objects_here p b q same ∙ bare (q % 256) ∙ sym (object_gone h r (record { 0 = q }) same)
+        | inr other ↦ objects_other p b q other ∙ ap (λ (x : Heap). fin.get x.objects q) heap.view
+            ∙ sym (object_left h r (record { 0 = q }) other)
+      ]) in
+      let cards_left : cards_in (set areas k b) ≡ (without_region h r).cards =
+      same_sets (λ c. elim (cases_eq (c / 8) r) [
+        | inl same ↦ card_here p b c same ∙ free.cards (c % 8) ∙ sym (card_gone h r c same)
+        | inr other ↦ card_other p b c other ∙ ap (λ (x : Heap). set_of.contains x.cards c) heap.view
+            ∙ sym (card_left h r c other)
+      ]) in
       let unlike : (i : ℕ) → i < length spares → get_or spares i 0 ≢ r = λ i below e. both_ways _
       (ap is_some (regions_at heap r ∙ ap (λ n. region_in (area_at areas n)) (sym e)
       ∙ (heap.kept.spare i below).free)) at.there in
       heap_lists refl more
-      (heap_moved (fin.remove h.regions r) (h.spare ++ r ∷ []) (each_set p b new heap.kept.each)
-      (omega (arith, length_new, heap.kept.few)) (omega (arith, lives_set p b, live))
-      (objects_same p b nothing)
-      (cards_same p b (λ j. no_cards b new bare_b j ∙ sym (no_cards a at.area (bare at no_object) j)))
-      (regions_gone p b none ∙ ap (λ (y : Heap). fin.remove y.regions r) heap.view)
-      (omega (arith, lens, held_is)) (ap (λ (y : Heap). y.spare ++ r ∷ []) heap.view)
+      (heap_moved (without_region h r) (each_set p b new heap.kept.each)
+      (omega (arith, length_new, heap.kept.few))
+      (omega (arith, sum_set p b (λ (x : Area). x.live), free.live, heap.kept.lives, taken_is))
+      (omega (arith, sum_set p b (λ (x : Area). x.count), free.count, heap.kept.counts, gone_is)) objects_left
+      cards_left (regions_gone p b none ∙ ap (λ (y : Heap). fin.remove y.regions r) heap.view)
+      (omega (arith, lens, held_is)) (ap (λ (y : Heap). y.spare ++ r ∷ []) heap.view) refl
       (omega (arith, length-append spares (r ∷ []), heap.kept.parted, length_new, lens, held_is))
       (omega (arith, length_new, same_capacity, heap.kept.room))
       (pushed (IsSpare (set areas k b)) spares r
@@ -258,37 +269,47 @@ module _ {areas : List Area} {spares : List ℕ} {limit capacity cells objects h
         high = omega (arith, p.number, p.within, length_new);
         free = ap region_in (area_here p b) ∙ none;
       }))
-      (pushed_apart spares r heap.kept.apart unlike) (others_left h current r (h.spare ++ r ∷ [])))
+      (pushed_apart spares r heap.kept.apart unlike) (others_left h current r))
 
   -- memory was taken for one more free region
   pub region_added : (b : Area) {areas2 : List Area} {spares2 : List ℕ} {capacity2 : ℕ} (n : ℕ) → IsArea b
-      → b.held ≡ false → contents b ≡ empty_region → b.live ≡ 0 → areas2 ≡ areas ++ b ∷ []
+      → IsFreed b → areas2 ≡ areas ++ b ∷ []
       → n ≡ length areas + 1 → n < 2 ^ 24 → spares2 ≡ spares ++ n ∷ [] → length areas + 1 ≤ capacity2
       → IsHeap areas2 spares2 limit capacity2 (cells, objects, holds) current
       (record h { spare = h.spare ++ n ∷ [] })
-  region_added b n new free empty live areas_are n_is small spares_are room =
+  region_added b n new free areas_are n_is small spares_are room =
       let bare : (j : ℕ) → ¬ (IsObject (contents b) j) = λ j there. none_in_empty j
-      (subst (λ (c : Contents). IsObject c j) empty there) in
+      (subst (λ (c : Contents). IsObject c j) free.contents_are there) in
       let list = areas ++ b ∷ [] in
-      let none = not_in_use b free in
+      let none = not_in_use b free.held in
       let lengths = length-append areas (b ∷ []) in
       heap_lists areas_are spares_are
-      (heap_moved h.regions (h.spare ++ n ∷ []) (each_push areas b new heap.kept.each)
+      (heap_moved (record h { spare = h.spare ++ n ∷ [] }) (each_push areas b new heap.kept.each)
       (omega (arith, lengths, n_is, small))
       (omega (
         arith,
+        heap.kept.lives,
         sum_by-append (λ (x : Area). x.live) areas (b ∷ []),
         sum_by-cons (λ (x : Area). x.live) b [],
-        live,
+        free.live,
       ))
-      (same_maps (λ q. get-objects list q ∙ reads_push areas b (λ o. placed_in o (q % 256)) (q / 256)
+      (omega (
+        arith,
+        heap.kept.counts,
+        sum_by-append (λ (x : Area). x.count) areas (b ∷ []),
+        sum_by-cons (λ (x : Area). x.count) b [],
+        free.count,
+      ))
+      (same_objects
+      _ (same_maps (λ q. get-objects list q ∙ reads_push areas b (λ o. placed_in o (q % 256)) (q / 256)
       (ap (option_map placed_of) (absent (contents b) (q % 256) (bare (q % 256))))
-      ∙ sym (get-objects areas q)))
-      (same_sets (λ c. contains-cards list c ∙ reads_push areas b (λ o. card_in o (c % 8)) (c / 8)
-      (no_cards b new bare (c % 8)) ∙ sym (contains-cards areas c)))
+      ∙ sym (get-objects areas q))))
+      (same_cards _ (same_sets
+      (λ c. contains-cards list c ∙ reads_push areas b (λ o. card_in o (c % 8)) (c / 8)
+      (free.cards (c % 8)) ∙ sym (contains-cards areas c))))
       (same_maps (λ q. get-regions list q ∙ reads_push areas b region_in q none ∙ sym (get-regions areas q))
       ∙ ap (λ (y : Heap). y.regions) heap.view)
-      held_is (ap (λ (y : Heap). y.spare ++ n ∷ []) heap.view)
+      held_is (ap (λ (y : Heap). y.spare ++ n ∷ []) heap.view) refl
       (omega (arith, length-append spares (n ∷ []), lengths, heap.kept.parted)) (omega (arith, lengths, room))
       (pushed (IsSpare list) spares n
       (λ i below. let s = heap.kept.spare i below in record {
@@ -336,9 +357,8 @@ no_regions areas spares limit capacity no_areas no_spares = heap_lists no_areas 
       kept = record {
         each = λ r a e. absurd (let none = nothing r in cc (none, e));
         few = omega arith;
-        used = sym (ap (λ m. sum_by cells_of (fin.values m)) objects ∙ sum_none cells_of);
         lives = refl;
-        count = sym (ap fin.len objects ∙ fin.len-empty nat_cmp Placed);
+        counts = refl;
         held = sym (ap fin.len regions ∙ fin.len-empty nat_cmp Region);
         parted = refl;
         room = omega arith;

@@ -2,16 +2,16 @@
 use Rattle.std.proofs.Common.{◌≡◌, ◌≢◌, ℕ, ◌+◌, ◌*◌, ◌/◌, ◌%◌, ◌<◌, inl, inr, true, false, cond, List, set, get_or, Option, Some, None, refl, sym, ap, ◌∙◌, subst, arith, length-set}
 use Rattle.std.specs.Prelude.{is_some, option_map, sum_by}
 use Rattle.std.proofs.lemmas.Bool.{cases_eq, both_ways}
-use Rattle.std.proofs.lemmas.List.{length-map, map-set, get_or-map}
+use Rattle.std.proofs.lemmas.List.{length-map, map-set}
 use Rattle.std.proofs.lemmas.List.Sums.{sum_by-set}
 use Rattle.std.specs.Ordering.{nat_cmp, eq_by_cmp}
 use Rattle.std.specs.Cmp.{nat_cmp_total}
 use Rattle.std.specs.FinMap as fin
 use Rattle.std.specs.FinSet as set_of
 use Rattle.hd_cells.specs.Object.{Object, size_of}
-use Rattle.hd_cells.specs.Region.{Contents, object_at as object_in_region}
+use Rattle.hd_cells.specs.Region.{Contents}
 use Rattle.hd_model.specs.declared.data.Addr.{Addr}
-use Rattle.hd_model.specs.Heap.{Placed, Region, Heap, cells_of, used_of, placed_at}
+use Rattle.hd_model.specs.Heap.{Placed, Region, Heap}
 use Rattle.hd_heap.specs.declared.area.Area.{Area}
 use Rattle.hd_heap.specs.declared.area.Part.{Part}
 use Rattle.hd_heap.specs.declared.area.Part.TheVariants.{Value, Registered, Field}
@@ -22,8 +22,7 @@ use Rattle.hd_heap.specs.Steps.{AreOthersFull, HasPart, IsWritten, with_part, re
 use Rattle.hd_model.proofs.Entries.{found_later}
 use Rattle.hd_heap.proofs.IndexedLists.{found_here}
 use Rattle.hd_model.proofs.ReadAfterWrite.{len_again}
-use Rattle.hd_model.proofs.Sums.{share, sum-insert}
-use Rattle.hd_heap.proofs.RegionReads.{get-objects, get-regions, contains-cards, seen, in_use, IsPlace, area_here, area_other, IsFound, IsHeap, heap_by}
+use Rattle.hd_heap.proofs.RegionReads.{get-objects, get-regions, contains-cards, seen, in_use, IsPlace, place_reads, area_here, area_other, IsFound, IsHeap, heap_by}
 
 pub same_maps : {A : Type 0} {m k : fin.FinMap nat_cmp A} → ((q : ℕ) → fin.get m q ≡ fin.get k q) → m ≡ k
 same_maps each = fin.same_map nat_cmp_total fin.nat_cmp-IsAntisymmetric _ _ each
@@ -45,27 +44,34 @@ module _ {areas : List Area} {r k : ℕ} {a : Area} (p : IsPlace areas r k a) (b
   reads_here : {B : Type 0} (f : Option Area → B) (q : ℕ) → q ≡ r → f (area_at (set areas k b) q) ≡ f (Some b)
   reads_here f q is = ap (λ n. f (area_at (set areas k b) n)) is ∙ ap f (area_here p b)
 
+  pub objects_here : (q : ℕ) → q / 256 ≡ r
+      → fin.get (objects_in (set areas k b)) q ≡ placed_in (Some b) (q % 256)
+  objects_here q is = get-objects (set areas k b) q ∙ reads_here (λ o. placed_in o (q % 256)) (q / 256) is
+
+  pub objects_other : (q : ℕ) → q / 256 ≢ r
+      → fin.get (objects_in (set areas k b)) q ≡ fin.get (objects_in areas) q
+  objects_other q apart = get-objects (set areas k b) q
+      ∙ ap (λ o. placed_in o (q % 256)) (area_other p b (q / 256) apart) ∙ sym (get-objects areas q)
+
   objects_changed : (off : ℕ) (w : Option Object) → off < 256
       → ((j : ℕ) → fin.get (contents b).objects j ≡ cond (eq_by_cmp nat_cmp j off) w
       (fin.get (contents a).objects j)) → (q : ℕ) → fin.get (objects_in (set areas k b)) q ≡ cond
       (eq_by_cmp nat_cmp q (r * 256 + off)) (option_map placed_of w) (fin.get (objects_in areas) q)
   objects_changed off w low change q =
       let at = r * 256 + off in
-      let old = get-objects areas q in
       let later = λ (apart : q ≢ at).
       found_later q at (option_map placed_of w) (fin.get (objects_in areas) q) apart in
-      get-objects (set areas k b) q ∙ elim (cases_eq (q / 256) r) [
-        | inl same ↦ reads_here (λ o. placed_in o (q % 256)) (q / 256) same
+      elim (cases_eq (q / 256) r) [
+        | inl same ↦ objects_here q same
             ∙ ap (option_map placed_of) (change (q % 256)) ∙ elim (cases_eq (q % 256) off) [
               | inl is ↦ ap (option_map placed_of) (found_here (q % 256) off w _ is)
                   ∙ sym (found_here q at (option_map placed_of w) (fin.get (objects_in areas) q)
                   (omega arith))
               | inr apart ↦ ap (option_map placed_of) (found_later (q % 256) off w _ apart)
-                  ∙ sym (old ∙ ap (λ n. placed_in (area_at areas n) (q % 256)) same
+                  ∙ sym (get-objects areas q ∙ ap (λ n. placed_in (area_at areas n) (q % 256)) same
                   ∙ ap (λ o. placed_in o (q % 256)) p.here) ∙ sym (later (λ e. apart (omega (arith, e))))
             ]
-        | inr other ↦ ap (λ o. placed_in o (q % 256)) (area_other p b (q / 256) other) ∙ sym old
-            ∙ sym (later (λ e. other (omega (arith, e))))
+        | inr other ↦ objects_other q other ∙ sym (later (λ e. other (omega (arith, e))))
       ]
 
   pub objects_put : (off : ℕ) (o : Object) → off < 256 → (contents b).objects ≡ fin.insert
@@ -128,16 +134,11 @@ module _ {areas : List Area} {r k : ℕ} {a : Area} (p : IsPlace areas r k a) (b
   regions_gone is = same_maps (λ q.
       region_reads None is q ∙ sym (fin.get-remove nat_cmp_total (regions_in areas) r q))
 
-  -- the cells of the objects, region by region
-  pub lives_set : sum_by (λ (x : Area). x.live) (set areas k b) + a.live ≡ sum_by
-      (λ (x : Area). x.live) areas + b.live
-  lives_set =
-      let some : Some (get_or areas k a) ≡ Some a = sym (get_or-map Some areas k a None p.within)
-      ∙ ap (area_at areas) (sym p.number) ∙ p.here in
-      let read : get_or areas k a ≡ a = cc some in
-      subst (λ (x : Area). sum_by (λ (y : Area). y.live) (set areas k b) + x.live ≡ sum_by
-      (λ (y : Area). y.live) areas + b.live) read
-      (sum_by-set (λ (y : Area). y.live) areas k b a p.within)
+  -- what is counted of each region
+  pub sum_set : (f : Area → ℕ) → sum_by f (set areas k b) + f a ≡ sum_by f areas + f b
+  sum_set f =
+      subst (λ (x : Area). sum_by f (set areas k b) + f x ≡ sum_by f areas + f b) (sym (place_reads p))
+      (sum_by-set f areas k b a p.within)
 
   pub each_set : IsArea b → ((q : ℕ) (y : Area) → area_at areas q ≡ Some y → IsArea y) → (q : ℕ) (x : Area)
       → area_at (set areas k b) q ≡ Some x → IsArea x
@@ -162,11 +163,11 @@ module _ {areas : List Area} {r k : ℕ} {a : Area} (p : IsPlace areas r k a) (b
       → IsHeap areas spares limit capacity (cells, objects, holds) current h → (cells2 objects2 current2 : ℕ)
       (new : Heap) → IsArea b → a.held ≡ true → b.held ≡ true → objects_in (set areas k b) ≡ new.objects
       → regions_in (set areas k b) ≡ new.regions → h.spare ≡ new.spare → h.limit ≡ new.limit
-      → cards_in (set areas k b) ≡ new.cards → cells2 ≡ used_of new → cells2 + a.live ≡ cells + b.live
-      → objects2 ≡ fin.len new.objects → (AreOthersFull h current → AreOthersFull new current2)
+      → cards_in (set areas k b) ≡ new.cards → cells2 + a.live ≡ cells + b.live
+      → objects2 + a.count ≡ objects + b.count → (AreOthersFull h current → AreOthersFull new current2)
       → IsHeap (set areas k b) spares limit capacity (cells2, objects2, holds) current2 new
   heap_set {spares} {holds = holds} heap cells2 objects2 current2 new area was held objects regions
-      spare limit cards used lives count step =
+      spare limit cards lives count step =
       let kept = heap.kept in
       let there : is_some (fin.get (regions_in areas) r) ≡ true =
       ap is_some (get-regions areas r ∙ ap region_in p.here ∙ in_use a was) in
@@ -175,9 +176,8 @@ module _ {areas : List Area} {r k : ℕ} {a : Area} (p : IsPlace areas r k a) (b
       let keeps : IsKept (set areas k b) spares _ cells2 objects2 holds = record {
         each = each_set area kept.each;
         few = omega (arith, length-set areas k b, kept.few);
-        used = used ∙ ap (λ m. sum_by cells_of (fin.values m)) (sym objects);
-        lives = omega (arith, lives_set, kept.lives, lives);
-        count = count ∙ ap fin.len (sym objects);
+        lives = omega (arith, sum_set (λ (x : Area). x.live), kept.lives, lives);
+        counts = omega (arith, sum_set (λ (x : Area). x.count), kept.counts, count);
         held = kept.held ∙ sym lens;
         parted = omega (arith, length-set areas k b, kept.parted);
         room = omega (arith, length-set areas k b, kept.room);
@@ -194,58 +194,43 @@ module _ {areas : List Area} {r k : ℕ} {a : Area} (p : IsPlace areas r k a) (b
         cards = cards i;
       }) step
 
-pub cells_placed : (o : Object) → cells_of (placed_of o) ≡ size_of o
-cells_placed o = ap (λ n. n + 3) (length-map o.fields address)
+-- an object of the heap is another one, of the same size
+pub object_written : {areas : List Area} {spares : List ℕ} {limit capacity cells objects holds current : ℕ}
+    {h : Heap}
+    → IsHeap areas spares limit capacity (cells, objects, holds) current h
+    → (at : Addr) {k : ℕ} {a : Area} (b : Area)
+    (o : Object) (p : Placed) → placed_of o ≡ p → IsFound areas h at k a → IsArea b
+    → IsWritten a b (at.0 % 256) o
+    → IsHeap (set areas k b) spares limit capacity (cells, objects, holds) current (with_object h at p)
+object_written {areas} {cells = cells} {objects = objects} {current = current} {h = h} heap at {k} {a} b o p
+    is f new w =
+    let place = f.located.place in
+    let whole : (at.0 / 256) * 256 + at.0 % 256 ≡ at.0 = omega arith in
+    let put : objects_in (set areas k b) ≡ fin.insert h.objects at.0 p =
+    objects_put place b (at.0 % 256) o (omega arith) (ap (λ (c : Contents). c.objects) w.contents_are)
+    ∙ (λ i. fin.insert (heap.view i).objects (whole i) (is i)) in
+    let regions : region_in (Some b) ≡ region_in (Some a) =
+    λ i. cond (w.held i)
+    (Some (record { generation = w.generation i; fill = (w.contents_are i).fill })) None in
+    heap_set place b heap cells objects current (with_object h at p) new f.located.held
+    (w.held ∙ f.located.held) put
+    (regions_same place b regions ∙ ap (λ (x : Heap). x.regions) heap.view) refl refl
+    (cards_same place b (λ j. ap (λ bs. get_or bs j false) w.cards) ∙ ap (λ (x : Heap). x.cards) heap.view)
+    (omega (arith, w.live)) (omega (arith, w.count)) (λ x. x)
 
--- what is written is seen by the heap's users
-part_placed : (o : Object) (p : Part) → placed_of (region_with_part o p) ≡ with_part (placed_of o) p
+-- a part that is written is seen by the heap's users
+pub part_placed : (o : Object) (p : Part) → placed_of (region_with_part o p) ≡ with_part (placed_of o) p
 part_placed o (Value v) = refl
 part_placed o (Registered on) = refl
 part_placed o (Field i n) = ap (λ fs. record (placed_of o) { fields = fs }) (map-set address o.fields i n)
 
-pub part_cells : (o : Placed) (p : Part) → cells_of (with_part o p) ≡ cells_of o
-part_cells o (Value v) = refl
-part_cells o (Registered on) = refl
-part_cells o (Field i n) = ap (λ k. k + 3) (length-set o.fields i (address n))
+pub part_size : (o : Object) (p : Part) → size_of (region_with_part o p) ≡ size_of o
+part_size o (Value v) = refl
+part_size o (Registered on) = refl
+part_size o (Field i n) = ap (λ k. k + 3) (length-set o.fields i n)
 
 -- an object has the part in its region too
 pub part_within : (o : Object) (p : Part) → HasPart (placed_of o).fields p → HasPart o.fields p
 part_within o (Value v) has = has
 part_within o (Registered on) has = has
 part_within o (Field i n) has = omega (arith, has, length-map o.fields address)
-
--- a part of an object is written
-pub part_written : {areas : List Area} {spares : List ℕ} {limit capacity cells objects holds current : ℕ}
-    {h : Heap}
-    → IsHeap areas spares limit capacity (cells, objects, holds) current h
-    → (at : Addr) {k : ℕ} {a : Area} (b : Area)
-    (p : Part) → IsFound areas h at k a → IsArea b → IsWritten a b (at.0 % 256) p
-    → IsHeap (set areas k b) spares limit capacity (cells, objects, holds) current
-    (with_object h at (with_part (placed_at h at) p))
-part_written {areas} {cells = cells} {objects = objects} {current = current} {h = h} heap at {k} {a} b p f
-    new w =
-    let place = f.located.place in
-    let old = object_in_region (contents a) (at.0 % 256) in
-    let o = with_part (placed_at h at) p in
-    let is : placed_of (region_with_part old p) ≡ o =
-    part_placed old p ∙ ap (λ x. with_part x p) (sym f.placed) in
-    let whole : (at.0 / 256) * 256 + at.0 % 256 ≡ at.0 = omega arith in
-    let put : objects_in (set areas k b) ≡ fin.insert h.objects at.0 o =
-    objects_put place b (at.0 % 256) (region_with_part old p) (omega arith)
-    (ap (λ (c : Contents). c.objects) w.contents_are)
-    ∙ (λ i. fin.insert (heap.view i).objects (whole i) (is i)) in
-    let regions : region_in (Some b) ≡ region_in (Some a) =
-    λ i. cond (w.held i)
-    (Some (record { generation = w.generation i; fill = (w.contents_are i).fill })) None in
-    let sums = sum-insert cells_of h.objects at.0 o in
-    let was : share cells_of (fin.get h.objects at.0) ≡ cells_of (placed_at h at) =
-    ap (share cells_of) (f.get ∙ ap Some (sym f.placed)) in
-    let used = heap.kept.used ∙ ap used_of heap.view in
-    let size = part_cells (placed_at h at) p in
-    heap_set place b heap cells objects current (with_object h at o) new f.located.held
-    (w.held ∙ f.located.held) put
-    (regions_same place b regions ∙ ap (λ (x : Heap). x.regions) heap.view) refl refl
-    (cards_same place b (λ j. ap (λ bs. get_or bs j false) w.cards) ∙ ap (λ (x : Heap). x.cards) heap.view)
-    (omega (arith, sums, was, used, size)) (omega (arith, w.live))
-    (heap.kept.count ∙ ap (λ (x : Heap). fin.len x.objects) heap.view
-    ∙ sym (len_again h.objects at.0 o (ap is_some f.get))) (λ x. x)

@@ -1,6 +1,6 @@
 -- The regions of a heap, read as its objects, its regions in use and its set cards.
 use Rattle.std.specs.Prelude.{◌≡◌, ℕ, zero, suc, ◌/◌, ◌≤◌, Bool, true, false, if◌then◌else◌, List, map, length, sum_by, IsTrue, slice_index_or, Option, Some, None, option_map}
-use Rattle.std.specs.FinMap.{FinMap, get, values, contains_key}
+use Rattle.std.specs.FinMap.{FinMap, get, len, values, contains_key}
 use Rattle.std.specs.FinSet.{FinSet}
 use Rattle.std.specs.Ordering.{nat_cmp}
 use Rattle.hd_cells.specs.Object.{Object, size_of}
@@ -75,11 +75,12 @@ pub record BeginsIn (r : Contents) (card : ℕ) : Type 0 where
   pub object : IsTrue (contains_key r.objects at)
   pub in_card : at / CARD ≡ card
 
--- what every region of a heap keeps: `live` is the sum of its objects' sizes, a set card has an object, and a
--- free region is empty
+-- what every region of a heap keeps: `live` is the sum of its objects' sizes and `count` their number, a set
+-- card has an object, and a free region is empty
 pub record IsArea (a : Area) : Type 0 where
   pub laid_out : IsLaidOut (contents a)
   pub live : a.live ≡ sum_by size_of (values (contents a).objects)
+  pub count : a.count ≡ len (contents a).objects
   pub within : a.live ≤ (contents a).fill
   pub generation : a.generation ≤ OLDEST
   pub card_count : length a.cards ≡ CARDS

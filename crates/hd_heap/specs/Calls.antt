@@ -1,12 +1,16 @@
 -- What the calls of a heap return, and how they leave it.
-use Rattle.std.specs.Prelude.{◌≡◌, ◌≢◌, ℕ, ◌+◌, ◌*◌, ◌<◌, ◌≤◌, ◌&&◌, Bool, true, false, if◌then◌else◌, [], drop, length, replicate, slice_set, slice_index, nat_lt, nat_le, Option, Some, None, MatchOption}
+use Rattle.std.specs.Prelude.{◌≡◌, ◌≢◌, ℕ, ◌+◌, ◌*◌, ◌^◌, ◌/◌, ◌<◌, ◌≤◌, ◌&&◌, ◌++◌, ◌∷◌, Bool, true, false, not, if◌then◌else◌, List, [], map as each, drop, length, replicate, slice_set, slice_index, slice_index_or, sum_by, nat_lt, nat_le, nat_eq, Option, Some, None, MatchOption, option_map}
 use Rattle.std.specs.FinMap as map
 use Rattle.std.specs.FinSet as set
-use Rattle.hd_model.specs.declared.limits.TheConstants.{REGION, LEFT}
+use Rattle.hd_model.specs.declared.limits.TheConstants.{REGION, LEFT, HEADER}
 use Rattle.hd_model.specs.declared.data.Id.{Id}
 use Rattle.hd_model.specs.declared.data.Addr.{Addr}
-use Rattle.hd_model.specs.Scene.{generation_at}
+use Rattle.hd_model.specs.Scene.{generation_at, IsField}
+use Rattle.hd_model.specs.Counting.{Counts}
 use Rattle.hd_model.specs.Heap.{Placed, Heap, region_of, card_of, region_at, region_generation, is_in_use, has_object, object_at, placed_at, cells_of, used_of, is_set, is_carded}
+use Rattle.hd_heap.specs.declared.area.TheConstants.{CARDS}
+use Rattle.hd_heap.specs.declared.survey.CondemnedObject.{CondemnedObject}
+use Rattle.hd_heap.specs.declared.survey.Survey.{Survey}
 use Rattle.hd_heap.specs.declared.fault.NewFault.{NewFault}
 use Rattle.hd_heap.specs.declared.fault.NewFault.TheVariants.{Full, Memory}
 
@@ -139,3 +143,56 @@ abbrev pub with_generation : Heap → ℕ → ℕ → Heap
 with_generation h r generation = record h {
   regions = map.insert h.regions r (record { generation = generation; fill = (region_at h r).fill });
 }
+
+-- a region is given up with its objects and its set cards, and becomes the last free one
+abbrev pub without_region : Heap → ℕ → Heap
+without_region h r = record h {
+  objects = map.retain_keys h.objects (λ a. not (nat_eq (a / REGION) r));
+  regions = map.remove h.regions r;
+  spare = h.spare ++ r ∷ [];
+  cards = set.retain h.cards (λ c. not (nat_eq (c / CARDS) r));
+}
+
+-- an object whose fields hold forwarding addresses
+abbrev pub forwarded : (Addr → Addr) → Placed → Placed
+forwarded place o = record o { fields = each (option_map place) o.fields }
+
+-- an object is in the heap a second time, after all others of a region; the fields of the copy hold
+-- forwarding addresses
+abbrev pub with_moved : Heap → Addr → ℕ → (Addr → Addr) → Heap
+with_moved h from r place = with_put h r (region_generation h r) (forwarded place (placed_at h from))
+
+-- a field of an object references one of a generation below n
+pub record NamesBelow (h : Heap) (at : Addr) (n : ℕ) : Type 0 where
+  pub target : Addr
+  pub field : IsField (object_at h) at target
+  pub younger : generation_at (object_at h) target < n
+
+-- an object of no generation above n is in this region
+abbrev pub HasCondemned : Heap → ℕ → ℕ → Type 0
+HasCondemned h n r = (a : Addr) × ((is_condemned h n a ≡ true) × (region_of a ≡ r))
+
+-- the k-th object of a survey
+abbrev pub surveyed : List CondemnedObject → ℕ → CondemnedObject
+surveyed s k = slice_index_or s k (record { at = record { 0 = 0 }; fields = 0; registered = false })
+
+-- the cells of an object of a survey
+abbrev pub cells_surveyed : CondemnedObject → ℕ
+cells_surveyed o = o.fields + HEADER
+
+-- the condemned objects of generation n or a younger one, each once, in rising address, with what their
+-- headers say
+pub record AreSurveyed (h : Heap) (n : ℕ) (s : List CondemnedObject) : Type 0 where
+  pub condemned : (k : ℕ) → k < length s → is_condemned h n (surveyed s k).at ≡ true
+  pub rising : (j k : ℕ) → j < k → k < length s → (surveyed s j).at.0 < (surveyed s k).at.0
+  pub all : (a : Addr) → is_condemned h n a ≡ true → (k : ℕ) × ((k < length s) × ((surveyed s k).at ≡ a))
+  pub fields : (k : ℕ) → k < length s → (surveyed s k).fields ≡ length (placed_at h (surveyed s k).at).fields
+  pub registered : (k : ℕ) → k < length s
+      → (surveyed s k).registered ≡ (placed_at h (surveyed s k).at).registered
+  pub few : length s < 2 ^ 32
+
+-- these objects, the cells that they take together, and the number of regions that have one
+pub record IsSurvey (h : Heap) (n : ℕ) (s : Survey) : Type 0 where
+  pub objects : AreSurveyed h n s.objects.items
+  pub cells : s.cells ≡ sum_by cells_surveyed s.objects.items
+  pub regions : Counts (HasCondemned h n) s.regions

@@ -1,10 +1,9 @@
 -- What is always true of the fields of a heap.
 use Rattle.std.specs.Prelude.{◌≡◌, ◌≢◌, ℕ, ◌+◌, ◌<◌, ◌≤◌, List, length, sum_by, slice_index, Some, None}
-use Rattle.std.specs.FinMap.{len, values}
+use Rattle.std.specs.FinMap.{len}
 use Rattle.hd_model.specs.declared.limits.TheConstants.{REGIONS}
-use Rattle.hd_model.specs.Heap.{cells_of}
 use Rattle.hd_heap.specs.declared.area.Area.{Area}
-use Rattle.hd_heap.specs.Areas.{area_at, region_in, objects_in, regions_in, IsArea}
+use Rattle.hd_heap.specs.Areas.{area_at, region_in, regions_in, IsArea}
 
 -- a number of a region that is not in use
 pub record IsSpare (areas : List Area) (n : ℕ) : Type 0 where
@@ -12,14 +11,13 @@ pub record IsSpare (areas : List Area) (n : ℕ) : Type 0 where
   pub high : n ≤ length areas
   pub free : region_in (area_at areas n) ≡ None
 
--- the cells, objects and regions in use are counted; each region is in use or once in the list of free ones,
--- which has room for all
+-- the cells and the objects of all regions, and the regions in use, are counted; each region is in use or
+-- once in the list of free ones, which has room for all
 pub record IsKept (areas : List Area) (spares : List ℕ) (capacity cells objects holds : ℕ) : Type 0 where
   pub each : (r : ℕ) (a : Area) → area_at areas r ≡ Some a → IsArea a
   pub few : length areas < REGIONS
-  pub used : cells ≡ sum_by cells_of (values (objects_in areas))
   pub lives : cells ≡ sum_by (λ (a : Area). a.live) areas
-  pub count : objects ≡ len (objects_in areas)
+  pub counts : objects ≡ sum_by (λ (a : Area). a.count) areas
   pub held : holds ≡ len (regions_in areas)
   pub parted : holds + length spares ≡ length areas
   pub room : length areas ≤ capacity

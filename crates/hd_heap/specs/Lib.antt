@@ -4,3 +4,4 @@ pub mod Places
 pub mod Areas
 pub mod Kept
 pub mod Steps
+pub mod Forwarding

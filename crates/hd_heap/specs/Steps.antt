@@ -1,7 +1,7 @@
 -- What the private steps of a heap do.
-use Rattle.std.specs.Prelude.{◌≡◌, ◌≢◌, ℕ, ◌+◌, ◌/◌, ◌<◌, ◌≤◌, ◌&&◌, Bool, true, false, if◌then◌else◌, nat_lt, nat_le, List, map, length, slice_index, ⊤, Option, Some, None, MatchOption}
+use Rattle.std.specs.Prelude.{◌≡◌, ◌≢◌, ℕ, ◌+◌, ◌*◌, ◌/◌, ◌<◌, ◌≤◌, ◌&&◌, Bool, true, false, if◌then◌else◌, nat_lt, nat_le, List, map, length, slice_index, slice_set, sum_by, ⊤, Option, Some, None, MatchOption}
 use Rattle.std.specs.FinMap.{contains_key}
-use Rattle.hd_model.specs.declared.limits.TheConstants.{REGION, CARD, LEFT}
+use Rattle.hd_model.specs.declared.limits.TheConstants.{REGION, CARD, LEFT, HEADER}
 use Rattle.hd_model.specs.declared.data.Addr.{Addr}
 use Rattle.hd_model.specs.Heap.{Placed, Heap, offset_of, has_object, placed_at, object_at, is_in_use, region_at, region_generation}
 use Rattle.hd_model.specs.Scene.{fields_at, generation_at}
@@ -10,10 +10,14 @@ use Rattle.hd_heap.specs.declared.area.Part.{Part}
 use Rattle.hd_heap.specs.declared.area.Part.TheVariants.{Value, Registered, Field}
 use Rattle.hd_heap.specs.declared.area.Wanted.{Wanted}
 use Rattle.hd_heap.specs.declared.area.Wanted.TheVariants.{Any, Carded, Condemned}
-use Rattle.hd_cells.specs.Region.{IsObject, object_at as object_in_region, with_object as region_with_object, without_object}
+use Rattle.hd_cells.specs.Region.{IsObject, object_at as object_in_region, with_object as region_with_object, with_put as region_with_put, without_object, empty_region}
 use Rattle.hd_cells.specs.Object.{Object, size_of, with_value, with_registered, with_field as region_with_field}
 use Rattle.hd_heap.specs.Areas.{contents, card_in, address, placed_of, IsArea}
-use Rattle.hd_heap.specs.Calls.{is_old_carded, with_field, with_fresh, is_condemned, AreFull}
+use Rattle.hd_heap.specs.Forwarding.{region_forwarded, MayForward}
+use Rattle.hd_heap.specs.Calls.{is_old_carded, with_field, with_fresh, is_condemned, surveyed, cells_surveyed, HasCondemned, AreFull}
+use Rattle.hd_heap.specs.declared.survey.CondemnedObject.{CondemnedObject}
+use Rattle.hd_heap.specs.declared.survey.Survey.{Survey}
+use Rattle.hd_model.specs.Counting.{Counts}
 
 -- a region in use of generation 0 with `cells` cells left
 pub record HasRoom (h : Heap) (region cells : ℕ) : Type 0 where
@@ -81,6 +85,7 @@ pub record IsTaken (old new : Area) (at cells : ℕ) : Type 0 where
   pub removed : contents new ≡ without_object (contents old) at
   pub size : cells ≡ size_of (object_in_region (contents old) at)
   pub live : new.live + cells ≡ old.live
+  pub count : new.count + 1 ≡ old.count
   pub held : new.held ≡ old.held
   pub generation : new.generation ≡ old.generation
   pub others : (c : ℕ) → c ≢ at / CARD → card_in (Some new) c ≡ card_in (Some old) c
@@ -115,11 +120,80 @@ HasPart fields (Value v) = ⊤
 HasPart fields (Registered on) = ⊤
 HasPart fields (Field i n) = i < length fields
 
--- a part of an object is written
-pub record IsWritten (old new : Area) (at : ℕ) (part : Part) : Type 0 where
-  pub contents_are : contents new ≡ region_with_object (contents old) at
-      (region_with_part (object_in_region (contents old) at) part)
+-- an object is another one, of the same size
+pub record IsWritten (old new : Area) (at : ℕ) (o : Object) : Type 0 where
+  pub contents_are : contents new ≡ region_with_object (contents old) at o
   pub held : new.held ≡ old.held
   pub generation : new.generation ≡ old.generation
   pub live : new.live ≡ old.live
+  pub count : new.count ≡ old.count
   pub cards : new.cards ≡ old.cards
+
+-- an object is put after all others
+pub record IsPutInto (old new : Area) (o : Object) : Type 0 where
+  pub contents_are : contents new ≡ region_with_put (contents old) o
+  pub held : new.held ≡ old.held
+  pub generation : new.generation ≡ old.generation
+  pub live : new.live ≡ old.live + size_of o
+  pub count : new.count ≡ old.count + 1
+  pub cards : new.cards ≡ old.cards
+
+-- a region is free, without objects and set cards
+pub record IsFreed (a : Area) : Type 0 where
+  pub held : a.held ≡ false
+  pub contents_are : contents a ≡ empty_region
+  pub cards : (card : ℕ) → card_in (Some a) card ≡ false
+  pub live : a.live ≡ 0
+  pub count : a.count ≡ 0
+
+-- an object of a region may be copied into another one
+pub record MayCopy (kept : Addr → Bool) (a b : Area) (from : ℕ) : Type 0 where
+  pub source : IsArea a
+  pub object : IsObject (contents a) from
+  pub target : IsArea b
+  pub held : b.held ≡ true
+  pub room : (contents b).fill + size_of (object_in_region (contents a) from) ≤ REGION
+  pub fields : MayForward kept (object_in_region (contents a) from).fields
+
+-- it is copied, with forwarding addresses in its fields
+pub record IsCopiedInto (place : Addr → Addr) (old new : List Area) (a b : Area)
+    (from target offset cells : ℕ) : Type 0 where
+  pub after : Area
+  pub area : IsArea after
+  pub list : new ≡ slice_set old target after
+  pub put : IsPutInto b after (region_forwarded place (object_in_region (contents a) from))
+  pub offset_is : offset ≡ (contents b).fill
+  pub cells_is : cells ≡ size_of (object_in_region (contents a) from)
+
+-- a reference to an object of a generation below n
+abbrev pub is_below : Heap → Option Addr → ℕ → Bool
+is_below h None n = false
+is_below h (Some y) n = nat_lt (generation_at (object_at h) y) n
+
+-- what a survey says of a condemned object below an address
+pub record IsListed (h : Heap) (n bound : ℕ) (o : CondemnedObject) : Type 0 where
+  pub condemned : is_condemned h n o.at ≡ true
+  pub below : o.at.0 < bound
+  pub fields : o.fields ≡ length (placed_at h o.at).fields
+  pub registered : o.registered ≡ (placed_at h o.at).registered
+
+-- the condemned objects below an address are surveyed, and these cells are theirs; no region has the
+-- addresses below REGION
+pub record IsSurveyedTo (h : Heap) (n bound : ℕ) (s : List CondemnedObject) (cells : ℕ) : Type 0 where
+  pub each : (k : ℕ) → k < length s → IsListed h n bound (surveyed s k)
+  pub rising : (j k : ℕ) → j < k → k < length s → (surveyed s j).at.0 < (surveyed s k).at.0
+  pub all : (a : Addr) → is_condemned h n a ≡ true → a.0 < bound
+      → (k : ℕ) × ((k < length s) × ((surveyed s k).at ≡ a))
+  pub sum : cells ≡ sum_by cells_surveyed s
+  pub small : cells + REGION ≤ bound
+  pub few : HEADER * length s ≤ cells
+
+-- a region that begins below an address has a condemned object
+abbrev pub HasCondemnedBelow : Heap → (n bound : ℕ) → ℕ → Type 0
+HasCondemnedBelow h n bound r = HasCondemned h n r × (r * REGION < bound)
+
+-- how far a survey has come
+pub record IsSurveying (h : Heap) (n bound : ℕ) (s : Survey) : Type 0 where
+  pub objects : IsSurveyedTo h n bound s.objects.items s.cells
+  pub regions : Counts (HasCondemnedBelow h n bound) s.regions
+  pub fewer : (s.regions + 1) * REGION ≤ bound

@@ -2,14 +2,18 @@
 ghost use Rattle.std.specs.Prelude.{◌≡◌, ◌≢◌, ℕ, ◌+◌, ◌/◌, ◌<◌, ◌≤◌, ◌&&◌, ◌⊎◌, true, false, nat_lt, nat_eq, not};
 ghost use Rattle.std.specs.Prelude.{Some, None, IfSome, IsTrue, length};
 ghost use Rattle.std.specs.FinMap as map;
-ghost use Rattle.hd_cells.specs.Object.{new_object};
-ghost use Rattle.hd_cells.specs.Region.{IsFirstFrom, IsLaidOut, IsObject, empty_region, with_put};
+ghost use Rattle.hd_cells.specs.Object.{new_object, size_of};
+ghost use Rattle.hd_cells.specs.Region.{IsFirstFrom, IsLaidOut, IsObject, empty_region};
 ghost use Rattle.hd_cells.specs.Region.{object_at, with_object};
 ghost use Rattle.hd_heap.specs.Areas.{contents, card_in, BeginsIn, IsArea};
 ghost use Rattle.hd_heap.specs.Steps.{wants, HasPart, IsAsked, IsFirstAt, IsFirstSince, IsTaken};
-ghost use Rattle.hd_heap.specs.Steps.{IsWritten, region_with_part};
+ghost use Rattle.hd_heap.specs.Steps.{IsFreed, IsPutInto, IsWritten, region_with_part};
+ghost use Rattle.hd_heap.specs.Forwarding.{region_forwarded, MayForward};
+ghost use Rattle.hd_heap.specs.declared.area.Wanted.TheVariants.{Condemned};
 
+use crate::forwarding::{copy_forwarded, forward_fields};
 use hd_cells::Region;
+use hd_model::Forward;
 use hd_model::limits::{CARD, FIELDS, HEADER, OLDEST, REGION};
 use std::boxed::Box;
 
@@ -17,7 +21,7 @@ use std::boxed::Box;
 pub(crate) const CARDS: usize = (REGION / CARD) as usize;
 
 /// A region of a heap, in use or free: its objects, its generation, whether each of its cards is
-/// set, and the number of cells that its objects take.
+/// set, the number of cells that its objects take, and the number of its objects.
 #[derive(Drop)]
 pub(crate) struct Area {
     pub(crate) region: Box<Region>,
@@ -25,6 +29,7 @@ pub(crate) struct Area {
     pub(crate) generation: u8,
     pub(crate) cards: [bool; CARDS],
     pub(crate) live: u32,
+    pub(crate) count: u32,
 }
 
 /// What a walk returns: any object, one of a generation above a number that starts in a set card,
@@ -79,9 +84,7 @@ impl Area {
         requires empty { region.value ≡ empty_region }
         requires laid_out { IsLaidOut region.value }
         ensures area { IsArea result }
-        ensures held { result.held ≡ false }
-        ensures contents { contents result ≡ empty_region }
-        ensures live { result.live ≡ 0 }
+        ensures freed { IsFreed result }
     {
         Area {
             region,
@@ -89,6 +92,7 @@ impl Area {
             generation: 0,
             cards: [false; CARDS],
             live: 0,
+            count: 0,
         }
     }
 
@@ -103,17 +107,22 @@ impl Area {
         self.generation = generation;
     }
 
-    /// Frees a region without objects. What its cells had is gone.
-    pub(crate) fn give_up(&mut self)
+    /// Frees a region with its objects, and returns the cells that they took and their number. What
+    /// its cells had is gone.
+    pub(crate) fn give_up(&mut self) -> (u32, u32)
         requires area { IsArea self.old }
-        requires no_object { (k : ℕ) → ¬ (IsObject (contents self.old) k) }
         ensures area { IsArea self.new }
-        ensures held { self.new.held ≡ false }
-        ensures contents { contents self.new ≡ empty_region }
-        ensures live { self.new.live ≡ self.old.live }
+        ensures freed { IsFreed self.new }
+        ensures cells { result.0 ≡ self.old.live }
+        ensures count { result.1 ≡ self.old.count }
     {
-        *self.region = Region::empty();
+        let taken = (self.live, self.count);
+        self.region.reset();
         self.held = false;
+        self.cards = [false; CARDS];
+        self.live = 0;
+        self.count = 0;
+        taken
     }
 
     /// Puts an object after all others, and returns its offset.
@@ -126,15 +135,54 @@ impl Area {
         ensures area { IsArea self.new }
         ensures offset { result ≡ (contents self.old).fill }
         ensures was_free { map.get (contents self.old).objects result ≡ None }
-        ensures put { let object = new_object id fields registered in
-            contents self.new ≡ with_put (contents self.old) object }
-        ensures held { self.new.held ≡ true }
-        ensures generation { self.new.generation ≡ self.old.generation }
-        ensures cards { self.new.cards ≡ self.old.cards }
-        ensures live { self.new.live ≡ self.old.live + (fields + HEADER) }
+        ensures put { IsPutInto self.old self.new (new_object id fields registered) }
     {
         self.live += fields + HEADER;
+        self.count += 1;
         self.region.put_object(id, fields, registered)
+    }
+
+    /// Puts a copy of an object of another region after all others, with its fields as `forward`
+    /// moves them, and returns its offset and its size.
+    pub(crate) fn put_forwarded<F: Forward>(
+        &mut self,
+        source: &Region,
+        from: u32,
+        forward: &F,
+    ) -> (u32, u32)
+        requires area { IsArea self.old }
+        requires held { self.old.held ≡ true }
+        requires object { IsObject source.now from }
+        requires room { (contents self.old).fill + size_of (object_at source.now from) ≤ REGION }
+        requires laid { F.laid forward.now }
+        requires kept { MayForward (F.kept forward.now) (object_at source.now from).fields }
+        ensures area { IsArea self.new }
+        ensures offset { result.0 ≡ (contents self.old).fill }
+        ensures size { result.1 ≡ size_of (object_at source.now from) }
+        ensures put { let object =
+            region_forwarded (F.place forward.now) (object_at source.now from)
+            in IsPutInto self.old self.new object }
+    {
+        let cells = source.fields(from) + HEADER;
+        self.live += cells;
+        self.count += 1;
+        (
+            copy_forwarded(&mut self.region, source, from, forward),
+            cells,
+        )
+    }
+
+    /// Gives the fields of an object their forwarding addresses.
+    pub(crate) fn forward_fields<F: Forward>(&mut self, at: u32, forward: &F)
+        requires area { IsArea self.old }
+        requires object { IsObject (contents self.old) at }
+        requires laid { F.laid forward.now }
+        requires kept { MayForward (F.kept forward.now) (object_at (contents self.old) at).fields }
+        ensures area { IsArea self.new }
+        ensures written { let object = object_at (contents self.old) at in
+            IsWritten self.old self.new at (region_forwarded (F.place forward.now) object) }
+    {
+        forward_fields(&mut self.region, at, forward);
     }
 
     /// Writes a part of an object.
@@ -143,7 +191,8 @@ impl Area {
         requires object { IsObject (contents self.old) at }
         requires within { HasPart (object_at (contents self.old) at).fields part }
         ensures area { IsArea self.new }
-        ensures written { IsWritten self.old self.new at part }
+        ensures written { let after = region_with_part (object_at (contents self.old) at) part in
+            IsWritten self.old self.new at after }
     {
         write_part(&mut self.region, at, part);
     }
@@ -158,6 +207,7 @@ impl Area {
         let cells = self.region.fields(at) + HEADER;
         self.region.remove(at);
         self.live -= cells;
+        self.count -= 1;
         let card = at / CARD;
         if self.cards[card as usize] {
             self.cards[card as usize] = self.starts_in(card);
@@ -201,6 +251,16 @@ impl Area {
         } else {
             None
         }
+    }
+
+    /// Whether the region is in use and of no generation above `n`.
+    pub(crate) fn is_condemned(&self, n: u8) -> bool
+        requires { IsArea self.now }
+        ensures held { result ≡ true → self.now.held ≡ true }
+        ensures young { result ≡ true → self.now.generation ≤ n }
+        ensures none { result ≡ false → (k : ℕ) → wants (Condemned n) self.now k ≡ false }
+    {
+        self.held && self.generation <= n
     }
 
     /// Whether there may be an object that is wanted, as far as can be said without a look at any.

@@ -1,12 +1,12 @@
 // A heap, seen by its callers as maps from addresses to objects and from numbers to regions in use.
-ghost use Rattle.std.specs.Prelude.{◌≡◌, ◌≢◌, ℕ, ◌+◌, ◌-◌, ◌*◌, ◌/◌, ◌%◌, ◌<◌, ◌≤◌, ◌++◌, ◌∷◌, []};
+ghost use Rattle.std.specs.Prelude.{◌≡◌, ◌≢◌, ℕ, ◌+◌, ◌-◌, ◌*◌, ◌/◌, ◌%◌, ◌<◌, ◌≤◌, ◌↔◌, ◌++◌, ◌∷◌, []};
 ghost use Rattle.std.specs.Prelude.{Bool, true, false, length, max, take, replicate};
 ghost use Rattle.std.specs.Prelude.{slice_index, slice_index_or};
 ghost use Rattle.std.specs.Prelude.{None, Some, IfOk, IfErr, IfSome, OnOk, OnErr, MatchResult, MatchOption};
 ghost use Rattle.std.specs.Prelude.{cond, nat_eq};
 ghost use Rattle.std.specs.Bool.{Decides};
 ghost use Rattle.std.specs.FinMap as map;
-ghost use Rattle.hd_model.specs.Scene.{fields_at, generation_at};
+ghost use Rattle.hd_model.specs.Scene.{fields_at, generation_at, IsField};
 ghost use Rattle.hd_model.specs.Heap.{has_object, object_at, placed_at, cells_of, used_of};
 ghost use Rattle.hd_model.specs.Heap.{is_in_use, region_at, region_of, offset_of, region_generation, card_of};
 ghost use Rattle.hd_heap.specs.Sound.{IsSound};
@@ -14,15 +14,17 @@ ghost use Rattle.hd_heap.specs.Calls.{empty_heap, new_object, with_object, with_
 ghost use Rattle.hd_heap.specs.Calls.{IsMade, IsRefused, LacksSpare, AreFull};
 ghost use Rattle.hd_heap.specs.Calls.{stored, is_younger, with_card, IsWalk, is_old_carded, is_condemned};
 ghost use Rattle.hd_heap.specs.Calls.{with_fresh, with_copy, IsRemoved, with_generation};
+ghost use Rattle.hd_heap.specs.Calls.{with_moved, forwarded, without_region, NamesBelow, IsSurvey};
 ghost use Rattle.hd_heap.specs.Areas.{address};
 ghost use Rattle.hd_heap.specs.Steps.{HasPart, HasRoom, IsObjectOf, IsRoom, with_part};
 ghost use Rattle.hd_heap.specs.Steps.{is_wanted, IsLeastBetween, IsLeastFrom};
+ghost use Rattle.hd_heap.specs.Steps.{is_below, MayCopy, IsCopiedInto, IsSurveying};
 
-use crate::NewFault;
 use crate::area::{Area, Part, Wanted};
+use crate::{CondemnedObject, NewFault, Survey};
 use hd_cells::Region;
 use hd_model::limits::{CARD, FIELDS, HEADER, OLDEST, REGION, REGIONS};
-use hd_model::{Addr, Id, Memory};
+use hd_model::{Addr, Forward, Id, Memory};
 use std::alloc::Global;
 use std::boxed::Box;
 use std::collections::VecDeque;
@@ -63,6 +65,9 @@ impl Model for Heap {
         × AreOthersFull (heap_of h.areas.items h.spare.items h.limit) h.current };
 }
 
+/// More than the objects that a region can have.
+const MOST: usize = 86;
+
 /// The index in the heap's list of a region, by its number from 1 on.
 fn place_of(region: u32) -> usize
     ensures { result ≡ region - 1 }
@@ -101,6 +106,34 @@ fn address_of(cell: u32) -> Option<Addr>
     if cell == 0 { None } else { Some(Addr(cell)) }
 }
 
+/// Copies an object from a region of the list to another one, with forwarding addresses, and
+/// returns the offset of the copy and its size.
+fn copy_between<F: Forward>(
+    areas: &mut [Area],
+    source: usize,
+    from: u32,
+    target: usize,
+    forward: &F,
+) -> (u32, u32)
+    requires source { source < length areas.old }
+    requires target { target < length areas.old }
+    requires apart { source ≢ target }
+    requires laid { F.laid forward.now }
+    requires may_copy { (a b : Area) → a ≡ slice_index_or areas.old source a
+        → b ≡ slice_index_or areas.old target b → MayCopy (F.kept forward.now) a b from }
+    ensures { (a b : Area) → a ≡ slice_index_or areas.old source a
+        → b ≡ slice_index_or areas.old target b → IsCopiedInto (F.place forward.now) areas.old
+        areas.new a b from target result.0 result.1 }
+{
+    if source < target {
+        let (low, high) = areas.split_at_mut(target);
+        high[0].put_forwarded(&low[source].region, from, forward)
+    } else {
+        let (low, high) = areas.split_at_mut(source);
+        low[target].put_forwarded(&high[0].region, from, forward)
+    }
+}
+
 impl Heap {
     /// An empty heap. `limit` bounds the sizes of all objects together, in cells. No memory is
     /// taken.
@@ -130,11 +163,9 @@ impl Heap {
         ensures spare { IfErr result (LacksSpare self.old) }
     {
         let size = fields + HEADER;
-        if u64::from(self.used) + u64::from(size) > u64::from(self.limit) {
-            return Err(NewFault::Full {
-                used: self.used,
-                size,
-            });
+        let used = self.used();
+        if u64::from(used) + u64::from(size) > u64::from(self.limit) {
+            return Err(NewFault::Full { used, size });
         }
         match self.room_for(size) {
             Ok(region) => Ok(self.put(region, id, fields, registered)),
@@ -301,6 +332,41 @@ impl Heap {
         self.walk(after, Wanted::Condemned(n))
     }
 
+    /// Lists the objects of no generation above `n` in rising address. A region of an older
+    /// generation or without objects is passed at once, and each header is read once. It takes
+    /// memory by the objects that it lists.
+    pub fn survey(&self, n: u8) -> Result<Survey, Memory>
+        ensures survey { IfOk result (λ s. IsSurvey self.now n s) }
+        ensures sound { IsSound self.now }
+    {
+        let mut survey = Survey {
+            objects: Vec::new(self.alloc),
+            cells: 0,
+            regions: 0,
+        };
+        for place in 0..self.areas.len() {
+            if self.areas[place].is_condemned(n) {
+                self.survey_region(place as u32 + 1, n, &mut survey)?;
+            }
+        }
+        Ok(survey)
+    }
+
+    /// Whether a field of the object at `at` references one of a generation below `n`.
+    pub fn names_below(&self, at: Addr, n: u8) -> bool
+        requires object { has_object self.now at ≡ true }
+        requires fields { (y : Addr) → IsField (object_at self.now) at y →
+            has_object self.now y ≡ true }
+        ensures { (result ≡ true) ↔ NamesBelow self.now at n }
+    {
+        for i in 0..self.fields(at) {
+            if self.is_below(self.load(at, i), n) {
+                return true;
+            }
+        }
+        false
+    }
+
     /// Takes memory for free regions, so that there are at least `count`. Where memory runs out,
     /// those that were taken stay free.
     pub fn reserve_regions(&mut self, count: u32) -> Result<(), Memory>
@@ -362,6 +428,53 @@ impl Heap {
         copy
     }
 
+    /// Copies the object at `from` after all others of another region, with the forwarding
+    /// addresses of what it references in its fields. It is in the heap twice from then on. No card
+    /// is set.
+    pub fn copy_moved<F: Forward>(&mut self, from: Addr, region: u32, forward: &F) -> Addr
+        requires object { has_object self.old from ≡ true }
+        requires held { is_in_use self.old region ≡ true }
+        requires other { region_of from ≢ region }
+        requires room { let fill = (region_at self.old region).fill in
+            fill + cells_of (placed_at self.old from) ≤ REGION }
+        requires laid { F.laid forward.now }
+        requires kept { (y : Addr) → IsField (object_at self.old) from y
+            → F.kept forward.now y ≡ true }
+        requires places { (y : Addr) → IsField (object_at self.old) from y
+            → (F.place forward.now y).0 ≢ 0 }
+        ensures place { result.0 ≡ region * REGION + (region_at self.old region).fill }
+        ensures was_free { has_object self.old result ≡ false }
+        ensures copied { self.new ≡ with_moved self.old from region (F.place forward.now) }
+    {
+        let source = place_of(from.0 / REGION);
+        let target = place_of(region);
+        let (offset, cells) = copy_between(
+            &mut self.areas,
+            source,
+            offset_of(from),
+            target,
+            forward,
+        );
+        self.used += cells;
+        self.count += 1;
+        address_in(region, offset)
+    }
+
+    /// Gives the fields of the object at `at` the forwarding addresses of what they reference. No
+    /// card is set.
+    pub fn rewrite_fields<F: Forward>(&mut self, at: Addr, forward: &F)
+        requires object { has_object self.old at ≡ true }
+        requires laid { F.laid forward.now }
+        requires kept { (y : Addr) → IsField (object_at self.old) at y
+            → F.kept forward.now y ≡ true }
+        requires places { (y : Addr) → IsField (object_at self.old) at y
+            → (F.place forward.now y).0 ≢ 0 }
+        ensures { let after = forwarded (F.place forward.now) (placed_at self.old at) in
+            self.new ≡ with_object self.old at after }
+    {
+        self.areas[place_of(at.0 / REGION)].forward_fields(offset_of(at), forward);
+    }
+
     /// Removes the object at `at`. Fields that reference it stay as they are.
     pub fn remove(&mut self, at: Addr)
         requires { has_object self.old at ≡ true }
@@ -391,9 +504,50 @@ impl Heap {
           spare = self.old.spare ++ region ∷ [];
         } }
     {
-        self.areas[place_of(region)].give_up();
+        // The result is not used: the call states to the proof what every heap keeps.
+        let _regions = self.regions();
+        self.give_up(region);
+    }
+
+    /// Gives up a region in use with its objects. It becomes the last free one, and its cards are
+    /// clear. Fields that reference its objects stay as they are. No object is looked at.
+    pub fn give_up(&mut self, region: u32)
+        requires held { is_in_use self.old region ≡ true }
+        ensures { self.new ≡ without_region self.old region }
+    {
+        let (cells, objects) = self.areas[place_of(region)].give_up();
+        self.used -= cells;
+        self.count -= objects;
         self.held -= 1;
         self.spare.push_back_reserved(region);
+    }
+
+    /// Adds the objects of a condemned region to a survey.
+    fn survey_region(&self, region: u32, n: u8, survey: &mut Survey) -> Result<(), Memory>
+        requires held { is_in_use self.now region ≡ true }
+        requires condemned { region_generation self.now region ≤ n }
+        requires so_far { IsSurveying self.now n (region * REGION) survey.old }
+        ensures { IfOk result (λ _. IsSurveying self.now n ((region + 1) * REGION) survey.new) }
+    {
+        if survey.objects.reserve(MOST).is_err() {
+            return Err(Memory);
+        }
+        let objects = &self.areas[place_of(region)].region;
+        let mut end = 0;
+        while let Some(header) = objects.object_from(end) {
+            survey.objects.push_reserved(CondemnedObject {
+                at: address_in(region, header.at),
+                fields: header.fields,
+                registered: header.registered,
+            });
+            let cells = u32::from(header.fields) + HEADER;
+            survey.cells += cells;
+            end = header.at + cells;
+        }
+        if end != 0 {
+            survey.regions += 1;
+        }
+        Ok(())
     }
 
     /// The number of free regions.
@@ -508,6 +662,17 @@ impl Heap {
         self.used += fields + HEADER;
         self.count += 1;
         address_in(region, offset)
+    }
+
+    /// Whether a reference is to an object of a generation below `n`.
+    fn is_below(&self, v: Option<Addr>, n: u8) -> bool
+        requires { IfSome v (λ y. has_object self.now y ≡ true) }
+        ensures { result ≡ is_below self.now v n }
+    {
+        match v {
+            Some(target) => self.generation(target) < n,
+            None => false,
+        }
     }
 
     /// Whether an object, or null, is of a younger generation than the object at `at`.

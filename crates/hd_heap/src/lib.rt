@@ -4,7 +4,10 @@
 
 mod area;
 mod fault;
+mod forwarding;
 mod heap;
+mod survey;
 
 pub use fault::NewFault;
 pub use heap::Heap;
+pub use survey::{CondemnedObject, Survey};

@@ -1,4 +1,4 @@
-use hd_cells::{CELLS, FIELDS, HEADER, Region};
+use hd_cells::{CELLS, FIELDS, HEADER, Header, Region};
 use std::process::Abort;
 
 // Puts objects into a region, each with an identity, a number of fields and whether it is
@@ -98,5 +98,42 @@ fn a_removed_object_is_a_gap_that_is_passed(rt: HostRuntime) {
     assert_eq!(rt; region.fill(), 13);
     for at in [0, 3, 9, 253, 254, 300, u32::MAX] {
         assert_eq!(rt; region.is_object(at), at == 0 || at == 9, "at {at}");
+    }
+}
+
+#[test]
+fn a_region_that_is_reset_is_as_a_new_one(rt: HostRuntime) {
+    let mut region = Region::empty();
+    let old = region.put_object(1, 2, true);
+    assert!(rt; region.is_object(old));
+    region.set_value(old, 7);
+    region.reset();
+    assert_eq!(rt; (region.fill(), region.walk(0)), (0, None));
+    assert!(rt; !region.is_object(0));
+    let new = region.put_object(2, 3, false);
+    assert!(rt; region.is_object(new));
+    assert_eq!(rt; (new, region.id(new), region.value(new)), (0, 2, 0));
+    for i in 0..region.fields(new) {
+        assert_eq!(rt; region.field(new, i), 0);
+    }
+}
+
+#[test]
+fn the_first_header_is_that_of_the_first_object(rt: HostRuntime) {
+    let mut region = Region::empty();
+    assert_eq!(rt; region.object_from(0), None);
+    for (id, at, fields, registered) in [(1, 0, 0, true), (2, 3, 61, false), (3, 67, 3, true)] {
+        let room = region.fill() <= 67;
+        assert!(rt; room);
+        let put = region.put_object(id, fields, registered);
+        assert_eq!(rt; put, at);
+        let header = Header {
+            at,
+            fields: fields as u8,
+            registered,
+        };
+        assert_eq!(rt; region.object_from(0), Some(header));
+        assert!(rt; region.is_object(put));
+        region.remove(put);
     }
 }

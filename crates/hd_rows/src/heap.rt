@@ -4,7 +4,7 @@ ghost use Rattle.hd_model.specs.Heap.{has_object};
 use crate::checks::is_object_at;
 use hd_heap::{Heap, NewFault};
 use hd_model::limits::{OLDEST, REGION};
-use hd_model::{Addr, Id};
+use hd_model::{Addr, Id, Memory};
 use std::process::Abort;
 use std::test::Fail;
 
@@ -158,5 +158,105 @@ fn a_region_that_is_held_again_has_no_old_cells(rt: HostRuntime) -> Result<(), F
     assert_eq!(rt; (heap.id(new), heap.value(new)), (Id(2), 0));
     assert!(rt; 1 < heap.fields(new));
     assert_eq!(rt; heap.load(new, 1), None);
+    Ok(())
+}
+
+/// Gives up the region of an object.
+fn give_up_whole(heap: &mut Heap, at: Addr)
+    requires { has_object heap.old at ≡ true }
+{
+    // A read for the proof: it states that the heap is sound, so that the region is in use.
+    let _ = heap.regions();
+    heap.give_up(at.0 / REGION);
+}
+
+#[test]
+fn a_region_that_is_given_up_takes_its_objects_and_cards(rt: HostRuntime) -> Result<(), Fail> {
+    let mut heap = Heap::open(rt.alloc(), 1_000)?;
+    for serial in 1..5 {
+        let at = heap.new_object(Id(serial), 61, true)?;
+        assert!(rt; is_object_at(&heap, at));
+        heap.set_value(at, 7);
+        set_card(&rt, &mut heap, at, true);
+    }
+    let first = Addr(256);
+    assert!(rt; is_object_at(&heap, first));
+    raise(&mut heap, first, 1);
+    let other = heap.new_object(Id(5), 1, false)?;
+    store(&rt, &mut heap, first, 60, other);
+    assert_eq!(rt; heap.next_carded(None, 0), Some(first));
+    assert!(rt; is_object_at(&heap, first));
+    give_up_whole(&mut heap, first);
+    assert_eq!(rt; (heap.used(), heap.count(), heap.regions()), (4, 1, 1));
+    assert_eq!(rt; walked(&heap), [Some(other), None, None]);
+
+    for serial in 6..9 {
+        let _ = heap.new_object(Id(serial), 61, false)?;
+    }
+    let again = heap.new_object(Id(9), 61, false)?;
+    assert_eq!(rt; again, first);
+    assert!(rt; is_object_at(&heap, again));
+    assert_eq!(rt; (heap.value(again), heap.registered(again)), (0, false));
+    assert!(rt; 60 < heap.fields(again));
+    assert_eq!(rt; heap.load(again, 60), None);
+    assert!(rt; is_object_at(&heap, again));
+    raise(&mut heap, again, 1);
+    assert_eq!(rt; heap.next_carded(None, 0), None);
+    Ok(())
+}
+
+#[test]
+fn a_survey_lists_what_is_condemned(rt: HostRuntime) -> Result<(), Fail> {
+    let mut heap = Heap::open(rt.alloc(), 1_000)?;
+    for serial in 1..5 {
+        let _ = heap.new_object(Id(serial), 61, serial == 2)?;
+    }
+    let old = heap.new_object(Id(5), 0, true)?;
+    assert!(rt; is_object_at(&heap, old));
+    raise(&mut heap, old, 1);
+    let last = heap.new_object(Id(6), 2, false)?;
+    assert!(rt; is_object_at(&heap, Addr(384)));
+    heap.remove(Addr(384));
+
+    let young = [
+        (256, 61, false),
+        (320, 61, true),
+        (448, 61, false),
+        (768, 2, false),
+    ];
+    let all = [
+        (256, 61, false),
+        (320, 61, true),
+        (448, 61, false),
+        (512, 0, true),
+        (768, 2, false),
+    ];
+    assert_eq!(rt; last, Addr(768));
+    check_survey(&rt, &heap, 0, &young, (197, 2))?;
+    check_survey(&rt, &heap, 1, &all, (200, 3))?;
+    check_survey(&rt, &heap, 2, &all, (200, 3))?;
+    Ok(())
+}
+
+/// A survey of a heap lists these objects, and has these numbers of cells and of regions.
+fn check_survey(
+    rt: &impl Abort,
+    heap: &Heap,
+    n: u8,
+    objects: &[(u32, u8, bool)],
+    sums: (u32, u32),
+) -> Result<(), Memory> {
+    let survey = heap.survey(n)?;
+    assert_eq!(rt; (survey.cells, survey.regions), sums);
+    assert_eq!(rt; survey.objects.len(), objects.len());
+    for (object, found) in objects.iter().zip(survey.objects.iter()) {
+        let (at, fields, registered) = *object;
+        let wanted = CondemnedObject {
+            at: Addr(at),
+            fields,
+            registered,
+        };
+        assert_eq!(rt; *found, wanted);
+    }
     Ok(())
 }

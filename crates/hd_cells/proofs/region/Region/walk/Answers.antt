@@ -1,5 +1,6 @@
+use Rattle.std.proofs.Common.{arith}
 use Rattle.hd_cells.proofs.Contents.{opened, laid_out}
-use Rattle.hd_cells.proofs.CellWalk.{start_reached, first_seen}
+use Rattle.hd_cells.proofs.CellWalk.{start_reached, first_seen, none_past}
 use Rattle.hd_cells.proofs.region.Region.walk.Goals as goal
 
 pub first_from-requires : goal.first_from-requires
@@ -7,6 +8,15 @@ first_from-requires c = record {
   within = c.self.invariant.region.within;
   reached = start_reached c.self.inside.cells c.self.inside.fill c.args.from c.self.invariant.region;
 }
+
+pub returns-then-from-self : goal.returns-then-from-self
+returns-then-from-self c =
+    let read = opened c.self.inside c.self.told c.self.invariant c.self.view_is in
+    record {
+      first = none_past read c.args.from (omega (arith, c.if-from-self.true));
+      laid_out =
+          laid_out read;
+    }
 
 pub returns : goal.returns
 returns c = record {

@@ -1,8 +1,18 @@
-use Rattle.hd_heap.proofs.Areas.{area_empty, no_cards, live_none}
+use Rattle.std.proofs.Common.{false, refl}
+use Rattle.std.proofs.lemmas.List.{length-replicate}
+use Rattle.hd_heap.proofs.Areas.{area_empty, falses}
 use Rattle.hd_heap.proofs.area.Area.give_up.Goals as goal
 
 pub returns-clause-area : goal.returns-clause-area
 returns-clause-area c =
-    area_empty _ c.empty.ensures.empty c.empty.ensures.laid_out
-    (live_none c.args.self.now c.requires.area c.requires.no_object) c.requires.area.generation
-    c.requires.area.card_count (no_cards c.args.self.now c.requires.area c.requires.no_object)
+    area_empty _ c.reset.ensures.empty c.reset.ensures.laid_out refl refl c.requires.area.generation
+    (length-replicate 8 false) (falses 8)
+
+pub returns-clause-freed : goal.returns-clause-freed
+returns-clause-freed c = record {
+  held = refl;
+  contents_are = c.reset.ensures.empty;
+  cards = falses 8;
+  live = refl;
+  count = refl;
+}

@@ -1,10 +1,13 @@
-use Rattle.std.proofs.Common.{◌≡◌, ◌≢◌, ℕ, ◌+◌, ◌-◌, ◌/◌, ◌∙◌, false, true, set, get_or, ap, sym, subst, refl, length, length-set, get_or-set_same, get_or-set_other, arith}
+use Rattle.std.proofs.Common.{◌≡◌, ◌≢◌, ℕ, ◌≤◌, ◌+◌, ◌-◌, ◌/◌, ◌∙◌, false, true, set, get_or, ap, sym, subst, refl, length, length-set, get_or-set_same, get_or-set_other, arith}
 use Rattle.std.proofs.lemmas.Bool.{both_ways}
 use Rattle.hd_cells.specs.Object.{size_of}
 use Rattle.hd_cells.specs.Region.{Contents, object_at, without_object}
 use Rattle.hd_heap.specs.Areas.{contents}
-use Rattle.hd_heap.proofs.Areas.{live_at, area_taken}
+use Rattle.hd_heap.proofs.Areas.{live_at, count_at, area_taken}
 use Rattle.hd_heap.proofs.area.Area.remove.Goals as goal
+
+fewer : (n : ℕ) → 1 ≤ n → n - 1 + 1 ≡ n
+fewer n some = omega (arith, some)
 
 pub overflow_sub-self : goal.overflow_sub-self
 overflow_sub-self c =
@@ -12,6 +15,9 @@ overflow_sub-self c =
     ap (λ (n : ℕ). n + 3) (c.fields-cells.ensures.count
     ∙ ap (λ (r : Contents). length (object_at r c.args.at).fields) c.deref.ensures) in
     omega (arith, live_at c.args.self.now c.requires.area c.args.at c.requires.object)
+
+pub overflow_sub-self-2 : goal.overflow_sub-self-2
+overflow_sub-self-2 c = count_at c.args.self.now c.requires.area c.args.at c.requires.object
 
 pub returns-then-self-card : goal.returns-then-self-card
 returns-then-self-card c =
@@ -33,6 +39,7 @@ returns-then-self-card c =
       size = ap (λ (n : ℕ). n + 3) (c.fields-cells.ensures.count
           ∙ ap (λ (r : Contents). length (object_at r c.args.at).fields) c.deref.ensures);
       live = refl;
+      count = fewer c.args.self.now.count (count_at a c.requires.area c.args.at c.requires.object);
       held = refl;
       generation = c.requires.area.generation;
       same = refl;
@@ -59,6 +66,7 @@ returns-else-self-card c =
       size = ap (λ (n : ℕ). n + 3) (c.fields-cells.ensures.count
           ∙ ap (λ (r : Contents). length (object_at r c.args.at).fields) c.deref.ensures);
       live = refl;
+      count = fewer c.args.self.now.count (count_at a c.requires.area c.args.at c.requires.object);
       held = refl;
       generation = c.requires.area.generation;
       same = refl;

@@ -2,5 +2,15 @@ use Rattle.std.proofs.Common.{refl, arith}
 use Rattle.hd_heap.proofs.Areas.{area_empty, falses}
 use Rattle.hd_heap.proofs.area.Area.spare.Goals as goal
 
-pub returns-clause-area : goal.returns-clause-area
-returns-clause-area c = area_empty _ c.requires.empty c.requires.laid_out refl (omega arith) refl (falses 8)
+pub returns : goal.returns
+returns c = record {
+  area = area_empty _ c.requires.empty c.requires.laid_out refl refl (omega arith) refl (falses 8);
+  freed = record {
+    held = refl;
+    contents_are = c.requires.empty;
+    cards = falses 8;
+    live = refl;
+    count =
+        refl;
+  };
+}

@@ -1,18 +1,26 @@
 use Rattle.std.proofs.Common.{ap, ◌∙◌, refl}
 use Rattle.hd_cells.specs.Region.{Contents, object_at, with_object}
-use Rattle.hd_heap.specs.Steps.{region_with_part}
+use Rattle.hd_heap.specs.Areas.{contents}
+use Rattle.hd_heap.specs.Steps.{region_with_part, IsWritten}
 use Rattle.hd_heap.proofs.Areas.{area_written}
+use Rattle.hd_heap.proofs.RegionWrites.{part_size}
 use Rattle.hd_heap.proofs.area.Area.write.Goals as goal
 
-pub returns-clause-area : goal.returns-clause-area
-returns-clause-area c =
+pub returns : goal.returns
+returns c =
     let write =
     λ (r : Contents). with_object r c.args.at (region_with_part (object_at r c.args.at) c.args.part) in
-    area_written c.args.self.now _ c.args.at c.args.part c.requires.area c.requires.object
-    c.write_part.ensures.laid_out record {
+    let old = object_at (contents c.args.self.now) c.args.at in
+    let written : IsWritten c.args.self.now _ c.args.at (region_with_part old c.args.part) = record {
       contents_are = c.write_part.ensures.written ∙ ap write c.deref_mut.ensures.value;
       held = refl;
       generation = refl;
       live = refl;
+      count = refl;
       cards = refl;
+    } in
+    record {
+      area = area_written c.args.self.now _ c.args.at (region_with_part old c.args.part) c.requires.area
+          c.requires.object c.write_part.ensures.laid_out (part_size old c.args.part) written;
+      written = written;
     }

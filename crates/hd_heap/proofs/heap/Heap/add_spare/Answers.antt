@@ -35,7 +35,7 @@ added c =
     let room = from_ok c.reserve-2.result _ (sym c.is_err-2.ensures.value ∙ c.if-is_err-2.false)
     c.reserve-2.ensures.ok in
     region_added heap c.spare.result n
-    c.spare.ensures.area c.spare.ensures.held c.spare.ensures.contents c.spare.ensures.live
+    c.spare.ensures.area c.spare.ensures.freed
     (c.push_reserved.ensures.items
     ∙ ap (λ (xs : List Area). xs ++ c.spare.result ∷ []) c.reserve.ensures.items)
     (omega (arith, c.len-number.ensures)) (omega (arith, c.if-number.false))

@@ -1,15 +1,14 @@
-use Rattle.std.proofs.Common.{◌≡◌, ◌+◌, ap, ◌∙◌, Option, None, arith}
+use Rattle.std.proofs.Common.{◌+◌, ap, Option, None, arith}
 use Rattle.std.proofs.lemmas.List.{length-replicate}
 use Rattle.hd_model.specs.declared.data.Addr.{Addr}
-use Rattle.hd_model.specs.Heap.{Heap, used_of}
+use Rattle.hd_model.specs.Heap.{Heap}
 use Rattle.hd_heap.specs.Calls.{new_object}
 use Rattle.hd_heap.proofs.HeapValues.{made}
 use Rattle.hd_heap.proofs.heap.Heap.new_object.Goals as goal
 
 pub returns-in-Ok-clause-made : goal.returns-in-Ok-clause-made
 returns-in-Ok-clause-made c =
-    let used : c.self.inside.used ≡ used_of c.args.self.now = c.self.invariant.0.used
-    ∙ ap used_of c.self.view_is in
+    let used = c.used-used.ensures.value in
     let limit = ap (λ (h : Heap). h.limit) c.self.view_is in
     let null : Option Addr = None in
     let nulls = length-replicate c.args.fields null in

@@ -1,12 +1,13 @@
-use Rattle.std.proofs.Common.{◌≡◌, ◌≤◌, None, ◌+◌, ◌*◌, ap, ◌∙◌, arith}
-use Rattle.std.specs.Prelude.{is_some}
-use Rattle.std.specs.FinMap.{get}
-use Rattle.hd_model.specs.Heap.{Region, region_of, region_at}
-use Rattle.hd_heap.specs.Areas.{contents}
-use Rattle.hd_heap.proofs.RegionReads.{opened, held_index, held_read, has-get}
-use Rattle.hd_heap.proofs.RegionChanges.{object_put, free_here}
+use Rattle.std.proofs.Common.{◌≡◌, ℕ, ◌+◌, ◌*◌, set, sym, ap, arith, deque_capacity}
+use Rattle.std.proofs.lemmas.List.{length-replicate}
+use Rattle.hd_cells.specs.Object.{size_of, new_object as new_region_object}
+use Rattle.hd_model.specs.Heap.{Region, region_of, region_at, region_generation}
+use Rattle.hd_heap.specs.Calls.{with_put, new_object}
+use Rattle.hd_heap.proofs.RegionReads.{opened, held_index, held_read, IsHeap}
+use Rattle.hd_heap.proofs.RegionChanges.{object_put, place_free, new_placed}
 use Rattle.hd_heap.proofs.HeapSoundness.{cells_small, objects_small}
 use Rattle.hd_heap.proofs.heap.Heap.put.Goals as goal
+use Rattle.hd_heap.proofs.heap.Heap.put.Goals.{After-put-offset}
 
 pub index_mut-requires : goal.index_mut-requires
 index_mut-requires c =
@@ -50,20 +51,26 @@ address_in-requires c =
       offset = omega (arith, c.requires.room, c.put-offset.ensures.offset, fill);
     }
 
-pub invariant_of-self : goal.invariant_of-self
-invariant_of-self c =
+put : (c : After-put-offset) → IsHeap (set c.self.inside.areas.items c.place_of.result c.put-offset.new.self)
+    c.self.inside.spare.items c.self.inside.limit (deque_capacity c.self.inside.spare)
+    (c.self.inside.used + (c.args.fields + 3), c.self.inside.count + 1, c.self.inside.held)
+    c.self.inside.current
+    (with_put c.args.self.now c.args.region (region_generation c.args.self.now c.args.region)
+    (new_object c.args.id c.args.fields c.args.registered))
+put c =
     let heap = opened c.self.inside c.self.view_is c.self.invariant in
     let at = held_read heap c.args.region c.requires.held c.place_of.result c.place_of.ensures
     c.index_mut.result.now c.index_mut.ensures.value in
-    let put = c.put-offset.ensures in
-    let free : get (contents c.index_mut.result.now).objects (contents c.index_mut.result.now).fill ≡ None =
-    rw put.offset at put.was_free in
-    let room : (contents c.index_mut.result.now).fill + (c.args.fields + 3) ≤ 256 =
-    omega (arith, c.requires.room, ap (λ (x : Region). x.fill) at.region) in
-    let is =
-    object_put heap c.put-offset.new.self c.args.id.0 c.args.fields c.args.registered at put.area free
-    room put.put put.held put.generation put.cards put.live in
-    (is.kept, is.full)
+    let o = new_region_object c.args.id.0 c.args.fields c.args.registered in
+    let size : c.args.fields + 3 ≡ size_of o =
+    ap (λ n. n + 3) (sym (length-replicate c.args.fields (let z : ℕ = 0 in z))) in
+    object_put heap c.put-offset.new.self o (new_object c.args.id c.args.fields c.args.registered)
+    (new_placed c.args.id.0 c.args.fields c.args.registered) (c.args.fields + 3) size at
+    c.put-offset.ensures.area
+    (omega (arith, c.requires.room, ap (λ (x : Region). x.fill) at.region)) c.put-offset.ensures.put
+
+pub invariant_of-self : goal.invariant_of-self
+invariant_of-self c = let is = put ((goal.at.invariant_of-self c).After-put-offset) in (is.kept, is.full)
 
 pub returns : goal.returns
 unfolding region_of
@@ -71,20 +78,13 @@ returns c =
     let heap = opened c.self.inside c.self.view_is c.self.invariant in
     let at = held_read heap c.args.region c.requires.held c.place_of.result c.place_of.ensures
     c.index_mut.result.now c.index_mut.ensures.value in
-    let put = c.put-offset.ensures in
     let fill = ap (λ (x : Region). x.fill) at.region in
-    let free : get (contents c.index_mut.result.now).objects (contents c.index_mut.result.now).fill ≡ None =
-    rw put.offset at put.was_free in
-    let room : (contents c.index_mut.result.now).fill + (c.args.fields + 3) ≤ 256 =
-    omega (arith, c.requires.room, fill) in
+    let offset = c.put-offset.ensures.offset in
     let place : c.address_in.result.0 ≡ c.args.region * 256 + (region_at c.args.self.now c.args.region).fill =
-    omega (arith, c.address_in.ensures, put.offset, fill) in
+    omega (arith, c.address_in.ensures, offset, fill) in
     record {
       place = place;
       region = omega (arith, place, fill, c.requires.room);
-      was_free = has-get c.args.self.now c.address_in.result
-          ∙ ap (λ k. is_some (get c.args.self.now.objects k)) place
-          ∙ ap is_some (free_here heap at (omega (arith, c.requires.room, fill)) free);
-      put = (object_put heap c.put-offset.new.self c.args.id.0 c.args.fields c.args.registered at
-          put.area free room put.put put.held put.generation put.cards put.live).view;
+      was_free = place_free heap c.address_in.result at (omega (arith, c.requires.room, fill)) place;
+      put = (put ((goal.at.returns c).After-put-offset)).view;
     }

@@ -1,6 +1,8 @@
-use Rattle.hd_heap.proofs.RegionReads.{opened}
+use Rattle.hd_heap.proofs.RegionReads.{opened, used_is}
 use Rattle.hd_heap.proofs.HeapSoundness.{sound}
 use Rattle.hd_heap.proofs.heap.Heap.used.Goals as goal
 
-pub returns-clause-sound : goal.returns-clause-sound
-returns-clause-sound c = sound (opened c.self.inside c.self.view_is c.self.invariant)
+pub returns : goal.returns
+returns c =
+    let heap = opened c.self.inside c.self.view_is c.self.invariant in
+    record { value = used_is heap; sound = sound heap }

@@ -1,11 +1,13 @@
-use Rattle.std.proofs.Common.{◌%◌, subst, arith}
-use Rattle.hd_model.specs.Heap.{Placed}
+use Rattle.std.proofs.Common.{◌%◌, set, sym, ap, ◌∙◌, subst, arith, deque_capacity}
+use Rattle.hd_model.specs.Heap.{Placed, placed_at}
 use Rattle.hd_cells.specs.Region.{object_at}
 use Rattle.hd_heap.specs.Areas.{contents}
-use Rattle.hd_heap.specs.Steps.{HasPart}
-use Rattle.hd_heap.proofs.RegionReads.{opened, index_of, found_read}
-use Rattle.hd_heap.proofs.RegionWrites.{part_written, part_within}
+use Rattle.hd_heap.specs.Calls.{with_object}
+use Rattle.hd_heap.specs.Steps.{HasPart, with_part, region_with_part}
+use Rattle.hd_heap.proofs.RegionReads.{opened, index_of, found_read, IsHeap}
+use Rattle.hd_heap.proofs.RegionWrites.{object_written, part_placed, part_within}
 use Rattle.hd_heap.proofs.heap.Heap.write.Goals as goal
+use Rattle.hd_heap.proofs.heap.Heap.write.Goals.{After-write}
 
 pub index_mut-requires : goal.index_mut-requires
 index_mut-requires c =
@@ -26,19 +28,21 @@ write-requires c =
           (subst (λ (p : Placed). HasPart p.fields c.args.part) f.placed c.requires.within);
     })
 
-pub invariant_of-self : goal.invariant_of-self
-invariant_of-self c =
+written : (c : After-write) → IsHeap (set c.self.inside.areas.items c.place_of.result c.write.new.self)
+    c.self.inside.spare.items c.self.inside.limit (deque_capacity c.self.inside.spare)
+    (c.self.inside.used, c.self.inside.count, c.self.inside.held) c.self.inside.current
+    (with_object c.args.self.now c.args.at (with_part (placed_at c.args.self.now c.args.at) c.args.part))
+written c =
     let heap = opened c.self.inside c.self.view_is c.self.invariant in
     let f = found_read heap c.args.at c.requires.object c.place_of.result c.place_of.ensures
     c.index_mut.result.now c.index_mut.ensures.value in
-    let is = part_written heap c.args.at c.write.new.self c.args.part f c.write.ensures.area
-    (rw c.offset_of.ensures at c.write.ensures.written) in
-    (is.kept, is.full)
+    let old = object_at (contents c.index_mut.result.now) (c.args.at.0 % 256) in
+    object_written heap c.args.at c.write.new.self (region_with_part old c.args.part) _
+    (part_placed old c.args.part ∙ ap (λ p. with_part p c.args.part) (sym f.placed)) f c.write.ensures.area
+    (rw c.offset_of.ensures at c.write.ensures.written)
+
+pub invariant_of-self : goal.invariant_of-self
+invariant_of-self c = let is = written ((goal.at.invariant_of-self c).After-write) in (is.kept, is.full)
 
 pub returns : goal.returns
-returns c =
-    let heap = opened c.self.inside c.self.view_is c.self.invariant in
-    let f = found_read heap c.args.at c.requires.object c.place_of.result c.place_of.ensures
-    c.index_mut.result.now c.index_mut.ensures.value in
-    (part_written heap c.args.at c.write.new.self c.args.part f c.write.ensures.area
-    (rw c.offset_of.ensures at c.write.ensures.written)).view
+returns c = (written ((goal.at.returns c).After-write)).view

@@ -1,0 +1,31 @@
+use Rattle.std.proofs.Common.{ℕ, Some, None, sym, subst}
+use Rattle.hd_cells.specs.Headers.{IsHeader}
+use Rattle.hd_cells.specs.Region.{IsFirstFrom}
+use Rattle.hd_cells.proofs.Contents.{opened}
+use Rattle.hd_cells.proofs.CellWalk.{end_reached, first_seen}
+use Rattle.hd_cells.proofs.region.Region.object_from.Goals as goal
+use Rattle.hd_cells.proofs.region.Region.object_from.Goals.{In-Some}
+
+pub first_from-requires-clause-reached : goal.first_from-requires-clause-reached
+first_from-requires-clause-reached c =
+    end_reached (opened c.self.inside c.self.told c.self.invariant c.self.view_is) c.args.end c.requires
+
+first : (c : In-Some) → IsFirstFrom c.args.self.now c.args.end (Some c.in-Some.at)
+first c = first_seen c.self.inside.cells c.self.inside.fill c.args.self.now c.args.end (Some c.in-Some.at)
+    c.self.view_is (rw c.in-Some.is at c.first_from.ensures)
+
+pub header-requires : goal.header-requires
+header-requires c = (first c).1
+
+pub returns-in-Some : goal.returns-in-Some
+returns-in-Some c = (
+  subst (λ (at : ℕ). IsFirstFrom c.args.self.now c.args.end (Some at)) (sym c.header.ensures.offset)
+      (first ((goal.at.returns-in-Some c).In-Some)),
+  subst (λ (at : ℕ). IsHeader c.args.self.now at c.header.result) (sym c.header.ensures.offset)
+      c.header.ensures,
+)
+
+pub returns-in-None : goal.returns-in-None
+returns-in-None c =
+    first_seen c.self.inside.cells c.self.inside.fill c.args.self.now c.args.end None c.self.view_is
+    (rw c.in-None.is at c.first_from.ensures)

@@ -1,0 +1,146 @@
+-- Lemmas on a list of regions that is split, and on a copy from one part into the other.
+use Rattle.std.proofs.Common.{◌≡◌, ◌≢◌, ℕ, ◌+◌, ◌%◌, ◌<◌, ◌≤◌, Bool, true, List, ◌++◌, length, set, get_or, refl, sym, ap, ◌∙◌, subst, arith}
+use Rattle.std.proofs.lemmas.List.{get_or_append_left, get_or-append_right, get_or_read, length-map, set-append_left, set-append_right}
+use Rattle.hd_cells.specs.Object.{size_of}
+use Rattle.hd_cells.specs.Region.{Contents, IsObject, object_at as object_in_region}
+use Rattle.hd_model.specs.declared.data.Addr.{Addr}
+use Rattle.hd_model.specs.Scene.{IsField}
+use Rattle.hd_model.specs.Heap.{Region, Heap, region_at, object_at, placed_at, cells_of}
+use Rattle.hd_heap.specs.declared.area.Area.{Area}
+use Rattle.hd_heap.specs.Areas.{contents, IsArea}
+use Rattle.hd_heap.specs.Calls.{forwarded, with_moved}
+use Rattle.hd_heap.specs.Forwarding.{stored_place, region_forwarded, MayForward}
+use Rattle.hd_heap.specs.Steps.{IsPutInto, MayCopy, IsCopiedInto}
+use Rattle.hd_heap.proofs.RegionReads.{IsHeap, IsHeldAt, IsFound, object_of}
+use Rattle.hd_heap.proofs.RegionSums.{cells_placed}
+use Rattle.hd_heap.proofs.RegionChanges.{object_put}
+use Rattle.hd_heap.proofs.RegionUse.{heap_lists}
+use Rattle.hd_heap.proofs.FieldForward.{field_of, forwarded_placed}
+
+-- a list in two parts, the first of this length
+pub record IsSplit (xs low high : List Area) (mid : ℕ) : Type 0 where
+  pub whole : xs ≡ low ++ high
+  pub front : length low ≡ mid
+  pub within : mid < length xs
+
+module _ {xs low high : List Area} {mid : ℕ} (s : IsSplit xs low high mid) where
+  -- what is read of the parts
+  pub read_low : (k : ℕ) (a : Area) → k < mid → a ≡ get_or low k a → a ≡ get_or xs k a
+  read_low k a below is = is ∙ sym (ap (λ ys. get_or ys k a) s.whole
+      ∙ get_or_append_left low high a k (omega (arith, below, s.front)))
+
+  pub read_high : (a : Area) → a ≡ get_or high 0 a → a ≡ get_or xs mid a
+  read_high a is = is ∙ sym (ap (λ ys. get_or ys mid a) s.whole
+      ∙ get_or-append_right low high mid mid a s.front (omega arith)
+      ∙ ap (λ n. get_or high n a) (omega arith))
+
+  -- and written
+  pub written_low : (k : ℕ) (b : Area) → k < mid → set low k b ++ high ≡ set xs k b
+  written_low k b below = sym (ap (λ ys. set ys k b) s.whole
+      ∙ set-append_left low high k b (omega (arith, below, s.front)))
+
+  pub written_high : (b : Area) → low ++ set high 0 b ≡ set xs mid b
+  written_high b =
+      sym (ap (λ ys. set ys mid b) s.whole ∙ set-append_right low high mid mid b s.front (omega arith)
+      ∙ ap (λ n. low ++ set high n b) (omega arith))
+
+-- a region of the list is the one that is read there
+pub one_area : (xs : List Area) (k : ℕ) (a b : Area) → k < length xs → a ≡ get_or xs k a → b ≡ get_or xs k b
+    → a ≡ b
+one_area xs k a b below is_a is_b = get_or_read xs k a below is_a b ∙ sym is_b
+
+-- an object may be copied from a region with these contents into the region that is read
+pub record IsReady (kept : Addr → Bool) (s : Contents) (b : Area) (from : ℕ) : Type 0 where
+  pub object : IsObject s from
+  pub area : IsArea b
+  pub held : b.held ≡ true
+  pub room : (contents b).fill + size_of (object_in_region s from) ≤ 256
+  pub fields : MayForward kept (object_in_region s from).fields
+
+pub ready : {kept : Addr → Bool} {a c b d : Area} {from : ℕ} {s : Contents} → MayCopy kept a b from → a ≡ c
+    → b ≡ d → s ≡ contents c → IsReady kept s d from
+ready {kept} {a} {c} {b} {d} {from} {s} may is_a is_b is =
+    subst (λ (x : Area). IsReady kept s x from) is_b
+    (subst (λ (x : Contents). IsReady kept x b from) (ap contents is_a ∙ sym is) record {
+      object = may.object;
+      area = may.target;
+      held = may.held;
+      room = may.room;
+      fields = may.fields;
+    })
+
+pub copied : {place : Addr → Addr} {xs new : List Area} {a b d after : Area}
+    {s : Contents} {from target off cells : ℕ}
+    → contents a ≡ s → b ≡ d → IsArea after → new ≡ set xs target after
+    → IsPutInto d after (region_forwarded place (object_in_region s from)) → off ≡ (contents d).fill
+    → cells ≡ size_of (object_in_region s from) → IsCopiedInto place xs new a b from target off cells
+copied {place} {xs} {new} {a} {b} {d} {after} {s} {from} {target} {off} {cells} is_a is_b area list put off_is
+    cells_is =
+    subst (λ (x : Area). IsCopiedInto place xs new a x from target off cells) (sym is_b) record {
+      after = after;
+      area = area;
+      list = list;
+      put = subst (λ (x : Contents). IsPutInto d after (region_forwarded place (object_in_region x from)))
+          (sym is_a) put;
+      offset_is = off_is;
+      cells_is = cells_is ∙ ap (λ (x : Contents). size_of (object_in_region x from)) (sym is_a);
+    }
+
+pub copied_there : {place : Addr → Addr} {old xs new : List Area} {a b : Area} {o from target m off cells : ℕ}
+    → IsCopiedInto place old new a b o target off cells → old ≡ xs → o ≡ from → target ≡ m
+    → IsCopiedInto place xs new a b from m off cells
+copied_there {place} {old} {xs} {new} {a} {b} {o} {from} {target} {m} {off} {cells} c list offset index =
+    subst (λ (ys : List Area). IsCopiedInto place ys new a b from m off cells) list
+    (subst (λ (n : ℕ). IsCopiedInto place old new a b n m off cells) offset
+    (subst (λ (n : ℕ). IsCopiedInto place old new a b o n off cells) index c))
+
+-- a copy from one region of a heap into another one
+module _ {areas : List Area} {spares : List ℕ} {limit capacity cells objects holds current : ℕ} {h : Heap}
+    (heap : IsHeap areas spares limit capacity (cells, objects, holds) current h) {from : Addr} {r k m : ℕ}
+    {a b : Area} (f : IsFound areas h from k a) (t : IsHeldAt areas h r m b)
+    (room : (region_at h r).fill + cells_of (placed_at h from) ≤ 256) where
+  size_is : cells_of (placed_at h from) ≡ size_of (object_in_region (contents a) (from.0 % 256))
+  size_is = ap cells_of f.placed ∙ cells_placed (object_in_region (contents a) (from.0 % 256))
+
+  fill_is : (region_at h r).fill ≡ (contents b).fill
+  fill_is = ap (λ (x : Region). x.fill) t.region
+
+  pub may_copy : (kept : Addr → Bool) (off : ℕ) → off ≡ from.0 % 256
+      → ((y : Addr) → IsField (object_at h) from y → kept y ≡ true) → MayCopy kept a b off
+  may_copy kept off off_is each = subst (MayCopy kept a b) (sym off_is) record {
+    source = f.located.area;
+    object = f.object;
+    target = t.area;
+    held = t.held;
+    room = omega (arith, room, size_is, fill_is);
+    fields = field_of (λ y. kept y ≡ true) h from (object_in_region (contents a) (from.0 % 256)).fields
+        (object_of from f).fields each;
+  }
+
+  -- where it is and what it takes
+  pub record IsSmall (start size : ℕ) : Type 0 where
+    pub start_is : start ≡ (region_at h r).fill
+    pub low : (contents b).fill < 256
+    pub few : size ≤ 64
+
+  pub moved_small : {place : Addr → Addr} {new : List Area} {start size : ℕ}
+      → IsCopiedInto place areas new a b (from.0 % 256) m start size → IsSmall start size
+  moved_small c = record {
+    start_is = c.offset_is ∙ sym fill_is;
+    low = omega (arith, room, size_is, fill_is);
+    few = omega (arith, c.cells_is, (f.located.area.laid_out.well_formed (from.0 % 256) f.object).few_fields);
+  }
+
+  pub object_moved : (place : Addr → Addr) (new : List Area) (size : ℕ)
+      → ((y : Addr) → IsField (object_at h) from y → (place y).0 ≢ 0) → (start : ℕ)
+      → IsCopiedInto place areas new a b (from.0 % 256) m start size
+      → IsHeap new spares limit capacity (cells + size, objects + 1, holds) current
+      (with_moved h from r place)
+  object_moved place new size each start c =
+      let o = object_in_region (contents a) (from.0 % 256) in
+      let some = field_of (λ y. (place y).0 ≢ 0) h from o.fields (object_of from f).fields each in
+      heap_lists c.list refl
+      (object_put heap c.after (region_forwarded place o) (forwarded place (placed_at h from))
+      (forwarded_placed place o some ∙ ap (forwarded place) (sym f.placed)) size
+      (c.cells_is ∙ sym (ap (λ n. n + 3) (length-map o.fields (stored_place place)))) t c.area
+      (omega (arith, room, size_is, fill_is, c.cells_is)) c.put)

@@ -1,0 +1,84 @@
+-- What a heap has after a region was given up with its objects.
+use Rattle.std.proofs.Common.{◌≡◌, ◌≢◌, ℕ, ◌/◌, ◌++◌, ◌∷◌, [], inl, inr, Bool, true, false, ◌&&◌, cond, None, refl, sym, ap, ◌∙◌, arith}
+use Rattle.std.specs.Prelude.{not, nat_eq}
+use Rattle.std.proofs.lemmas.Bool.{cases_eq, false_from_ne_true, eq-eqb, ne_eqb}
+use Rattle.std.specs.FinMap as fin
+use Rattle.std.specs.FinSet as set_of
+use Rattle.hd_model.specs.declared.data.Addr.{Addr}
+use Rattle.hd_model.specs.Heap.{Heap, region_of, card_of, has_object, is_set}
+use Rattle.hd_heap.specs.Calls.{without_region}
+use Rattle.hd_heap.specs.Sound.{IsSound}
+use Rattle.hd_heap.proofs.HeapValues.{not_there}
+use Rattle.hd_heap.proofs.RegionReads.{has-get}
+use Rattle.hd_heap.proofs.RegionWrites.{same_maps, same_sets}
+
+kept_there : (n r : ℕ) → n ≡ r → not (nat_eq n r) ≡ false
+kept_there n r same = ap not (eq-eqb n r same)
+
+kept_elsewhere : (n r : ℕ) → n ≢ r → not (nat_eq n r) ≡ true
+kept_elsewhere n r apart = ap not (ne_eqb n r apart)
+
+and-true : (b : Bool) → (b && true) ≡ b
+and-true true = refl
+and-true false = refl
+
+and-false : (b : Bool) → (b && false) ≡ false
+and-false true = refl
+and-false false = refl
+
+module _ (h : Heap) (r : ℕ) where
+  -- a number is kept by its region
+  pub objects_by : (a : ℕ)
+      → fin.get (without_region h r).objects a ≡ cond (not (nat_eq (a / 256) r)) (fin.get h.objects a) None
+  objects_by a = fin.get-retain_keys h.objects (λ n. not (nat_eq (n / 256) r)) a
+      (λ x tie. ap (λ n. not (nat_eq (n / 256) r)) (sym (fin.nat_cmp-IsAntisymmetric a x tie)))
+
+  pub cards_by : (c : ℕ) → is_set (without_region h r) c ≡ (is_set h c && not (nat_eq (c / 8) r))
+  cards_by c = set_of.contains-retain h.cards (λ n. not (nat_eq (n / 8) r)) c
+      (λ x tie. ap (λ n. not (nat_eq (n / 8) r)) (sym (fin.nat_cmp-IsAntisymmetric c x tie)))
+
+  -- an object of the region is gone, and one of another region is as before
+  pub object_gone : (a : Addr) → region_of a ≡ r → fin.get (without_region h r).objects a.0 ≡ None
+  unfolding region_of
+  object_gone a is =
+      objects_by a.0 ∙ ap (λ b. cond b (fin.get h.objects a.0) None) (kept_there (a.0 / 256) r is)
+
+  pub object_left : (a : Addr) → region_of a ≢ r
+      → fin.get (without_region h r).objects a.0 ≡ fin.get h.objects a.0
+  unfolding region_of
+  object_left a apart = objects_by a.0
+      ∙ ap (λ b. cond b (fin.get h.objects a.0) None) (kept_elsewhere (a.0 / 256) r apart)
+
+  -- so it is with cards
+  pub card_gone : (c : ℕ) → c / 8 ≡ r → is_set (without_region h r) c ≡ false
+  card_gone c is = cards_by c ∙ ap (λ b. is_set h c && b) (kept_there (c / 8) r is) ∙ and-false (is_set h c)
+
+  pub card_left : (c : ℕ) → c / 8 ≢ r → is_set (without_region h r) c ≡ is_set h c
+  card_left c apart = cards_by c ∙ ap (λ b. is_set h c && b) (kept_elsewhere (c / 8) r apart)
+      ∙ and-true (is_set h c)
+
+  -- where it had no object, nothing else changes
+  pub released : IsSound h → ((a : Addr) → has_object h a ≡ true → region_of a ≢ r)
+      → without_region h r ≡ record h { regions = fin.remove h.regions r; spare = h.spare ++ r ∷ [] }
+  unfolding region_of card_of
+  released sound none = λ i. record h {
+    objects = objects i;
+    regions = fin.remove h.regions r;
+    spare = h.spare ++ r ∷ [];
+    cards = cards i;
+  }
+    where
+      objects : (without_region h r).objects ≡ h.objects
+      objects = same_maps (λ q. elim (cases_eq (q / 256) r) [
+        | inl same ↦ object_gone (record { 0 = q }) same
+            ∙ sym (not_there (fin.get h.objects q) (false_from_ne_true _
+            (λ is. none (record { 0 = q }) (has-get h (record { 0 = q }) ∙ is) same)))
+        | inr apart ↦ object_left (record { 0 = q }) apart
+      ])
+
+      cards : (without_region h r).cards ≡ h.cards
+      cards = same_sets (λ c. elim (cases_eq (c / 8) r) [
+        | inl same ↦ card_gone c same ∙ sym (false_from_ne_true (is_set h c) (λ set.
+            let s = sound.cards c set in none s.at s.object (omega (arith, s.in_card, same))))
+        | inr apart ↦ card_left c apart
+      ])

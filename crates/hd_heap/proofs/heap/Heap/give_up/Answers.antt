@@ -1,0 +1,71 @@
+use Rattle.std.proofs.Common.{◌-◌, set, arith, deque_capacity}
+use Rattle.hd_heap.specs.Calls.{without_region}
+use Rattle.hd_heap.proofs.RegionReads.{opened, held_index, held_read, IsHeap, IsHeldAt}
+use Rattle.hd_heap.proofs.RegionUse.{cells_counted, objects_counted, region_freed, held_counted}
+use Rattle.hd_heap.proofs.heap.Heap.give_up.Goals as goal
+use Rattle.hd_heap.proofs.heap.Heap.give_up.Goals.{After-index_mut, After-push_back_reserved}
+
+pub index_mut-requires : goal.index_mut-requires
+index_mut-requires c =
+    omega (
+      arith,
+      (held_index (opened c.self.inside c.self.view_is c.self.invariant) c.args.region c.requires.held
+          c.place_of.result c.place_of.ensures).1,
+    )
+
+located : (c : After-index_mut)
+    → IsHeldAt c.self.inside.areas.items c.args.self.now c.args.region c.place_of.result
+    c.index_mut.result.now
+located c = held_read (opened c.self.inside c.self.view_is c.self.invariant) c.args.region c.requires.held
+    c.place_of.result c.place_of.ensures c.index_mut.result.now c.index_mut.ensures.value
+
+pub give_up-cells-requires : goal.give_up-cells-requires
+give_up-cells-requires c = record { area = (located c).area }
+
+pub overflow_sub-self : goal.overflow_sub-self
+overflow_sub-self c = omega (
+  arith,
+  cells_counted (opened c.self.inside c.self.view_is c.self.invariant)
+      (located ((goal.at.overflow_sub-self c).After-index_mut)).place,
+  c.give_up-cells.ensures.cells,
+)
+
+pub overflow_sub-self-2 : goal.overflow_sub-self-2
+overflow_sub-self-2 c = omega (
+  arith,
+  objects_counted (opened c.self.inside c.self.view_is c.self.invariant)
+      (located ((goal.at.overflow_sub-self-2 c).After-index_mut)).place,
+  c.give_up-cells.ensures.count,
+)
+
+pub overflow_sub-self-3 : goal.overflow_sub-self-3
+overflow_sub-self-3 c =
+    held_counted (opened c.self.inside c.self.view_is c.self.invariant) c.args.region c.requires.held
+
+pub push_back_reserved-requires : goal.push_back_reserved-requires
+push_back_reserved-requires c =
+    let heap = opened c.self.inside c.self.view_is c.self.invariant in
+    omega (arith, held_counted heap c.args.region c.requires.held, heap.kept.parted, heap.kept.room)
+
+freed : (c : After-push_back_reserved)
+    → IsHeap (set c.self.inside.areas.items c.place_of.result c.give_up-cells.new.self)
+    c.push_back_reserved.new.self.items c.self.inside.limit (deque_capacity c.push_back_reserved.new.self) (
+      c.self.inside.used - c.give_up-cells.result.0,
+      c.self.inside.count - c.give_up-cells.result.1,
+      c.self.inside.held - 1,
+    )
+    c.self.inside.current (without_region c.args.self.now c.args.region)
+freed c =
+    let heap = opened c.self.inside c.self.view_is c.self.invariant in
+    let located = held_read heap c.args.region c.requires.held c.place_of.result c.place_of.ensures
+    c.index_mut.result.now c.index_mut.ensures.value in
+    let now = c.give_up-cells.ensures in
+    region_freed heap c.give_up-cells.new.self c.give_up-cells.result.0 c.give_up-cells.result.1 located
+    now.area now.freed
+    now.cells now.count c.push_back_reserved.ensures.items c.push_back_reserved.ensures.capacity
+
+pub invariant_of-self : goal.invariant_of-self
+invariant_of-self c = ((freed c).kept, (freed c).full)
+
+pub returns : goal.returns
+returns c = (freed c).view

@@ -1,0 +1,60 @@
+use Rattle.std.proofs.Common.{◌≡◌, ◌≢◌, ◌%◌, true, set, sym, ap, ◌∙◌, arith, deque_capacity}
+use Rattle.hd_cells.specs.Region.{object_at}
+use Rattle.hd_model.specs.Heap.{placed_at}
+use Rattle.hd_heap.specs.Areas.{contents}
+use Rattle.hd_heap.specs.Calls.{with_object, forwarded}
+use Rattle.hd_heap.specs.Forwarding.{region_forwarded}
+use Rattle.hd_heap.proofs.RegionReads.{opened, index_of, found_read, object_of, IsHeap}
+use Rattle.hd_heap.proofs.RegionWrites.{object_written}
+use Rattle.hd_heap.proofs.FieldForward.{field_of, forwarded_placed}
+use Rattle.hd_heap.proofs.heap.Heap.rewrite_fields.Goals as goal
+use Rattle.hd_heap.proofs.heap.Heap.rewrite_fields.Given.{Over}
+use Rattle.hd_heap.proofs.heap.Heap.rewrite_fields.Goals.{After-forward_fields}
+
+pub index_mut-requires : goal.index_mut-requires
+index_mut-requires g c = omega (
+  arith,
+  index_of (opened c.self.inside c.self.view_is c.self.invariant) c.args.at c.requires.object
+      c.place_of.result
+      c.place_of.ensures,
+)
+
+pub forward_fields-requires : goal.forward_fields-requires
+forward_fields-requires g c =
+    let f = found_read (opened c.self.inside c.self.view_is c.self.invariant) c.args.at c.requires.object
+    c.place_of.result c.place_of.ensures c.index_mut.result.now c.index_mut.ensures.value in
+    rw c.offset_of.ensures (record {
+      area = f.located.area;
+      object = f.object;
+      laid = c.requires.laid;
+      kept = field_of (λ y. g.F.Forward.kept c.args.forward.now y ≡ true) c.args.self.now c.args.at
+          (object_at (contents c.index_mut.result.now) (c.args.at.0 % 256)).fields
+          (object_of c.args.at f).fields
+          c.requires.kept;
+    })
+
+written : (g : Over) → (c : After-forward_fields g)
+    → IsHeap (set c.self.inside.areas.items c.place_of.result c.forward_fields.new.self)
+    c.self.inside.spare.items c.self.inside.limit (deque_capacity c.self.inside.spare)
+    (c.self.inside.used, c.self.inside.count, c.self.inside.held) c.self.inside.current
+    (with_object c.args.self.now c.args.at
+    (forwarded (g.F.Forward.place c.args.forward.now) (placed_at c.args.self.now c.args.at)))
+written g c =
+    let heap = opened c.self.inside c.self.view_is c.self.invariant in
+    let place = g.F.Forward.place c.args.forward.now in
+    let f = found_read heap c.args.at c.requires.object c.place_of.result c.place_of.ensures
+    c.index_mut.result.now c.index_mut.ensures.value in
+    let old = object_at (contents c.index_mut.result.now) (c.args.at.0 % 256) in
+    let some =
+    field_of (λ y. (place y).0 ≢ 0) c.args.self.now c.args.at old.fields (object_of c.args.at f).fields
+    c.requires.places in
+    object_written heap c.args.at c.forward_fields.new.self (region_forwarded place old) _
+    (forwarded_placed place old some ∙ ap (forwarded place) (sym f.placed)) f c.forward_fields.ensures.area
+    (rw c.offset_of.ensures at c.forward_fields.ensures.written)
+
+pub invariant_of-self : goal.invariant_of-self
+invariant_of-self g c = let is = written g ((goal.at.invariant_of-self g c).After-forward_fields) in
+    (is.kept, is.full)
+
+pub returns : goal.returns
+returns g c = (written g ((goal.at.returns g c).After-forward_fields)).view

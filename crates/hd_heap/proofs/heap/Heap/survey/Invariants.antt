@@ -1,0 +1,6 @@
+use Rattle.std.proofs.Common.{◌+◌, ◌*◌}
+use Rattle.hd_heap.specs.Steps.{IsSurveying}
+use Rattle.hd_heap.proofs.heap.Heap.survey.Given as goal
+
+abbrev pub invariant-loop-place : goal.invariant-loop-place
+invariant-loop-place l = IsSurveying l.self l.n ((l.place + 1) * 256) l.survey
