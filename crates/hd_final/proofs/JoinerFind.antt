@@ -15,7 +15,7 @@ use Rattle.hd_model.proofs.Members.{mapped_from}
 use Rattle.hd_heap.specs.Calls.{is_after, is_condemned, IsNext}
 use Rattle.hd_final.specs.declared.joiners.Joiner.{Joiner}
 use Rattle.hd_final.specs.Resurrection.{IsOut}
-use Rattle.hd_final.specs.Joiners.{places}
+use Rattle.hd_final.specs.Joiners.{places, IsFound}
 use Rattle.hd_final.proofs.ObjectLookup.{object_there, few_differ}
 use Rattle.hd_heap.proofs.HeapValues.{same_address}
 
@@ -69,6 +69,16 @@ module _ (h : Heap) (n : ℕ) (p : Addr → Bool) where
       let same : (placed_at h a).registered ≡ out.object.registered =
       ap (λ (o : Object Addr). o.registered) (same_Some _ _ (sym is_stored ∙ out.is_stored)) in
       and_from _ _ (same ∙ out.registered) (not_from_false _ out.out)
+
+  -- where none is after it, all are found
+  pub found_all : (after : Option Addr) (js : List Joiner) → IsFoundUpTo h n p after js
+      → ((a : Addr) → is_condemned h n a ≡ true → is_after after a ≡ false) → IsFound h n p js
+  found_all after js found none = record {
+    once = found.once;
+    outside = found.outside;
+    identified = found.identified;
+    all = λ a out. found.all a out (none a (out_condemned a out));
+  }
 
   module _ (after : Option Addr) (js : List Joiner) (at : Addr) (found : IsFoundUpTo h n p after js)
       (next : IsNext (is_condemned h n) after at) where

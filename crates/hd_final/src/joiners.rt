@@ -1,16 +1,17 @@
 // The objects that join the queue in one collection: all are found before any is promoted, since
 // what one leads to joins too.
-ghost use Rattle.std.specs.Prelude.{◌≡◌, ◌+◌, ◌≤◌, ◌++◌, true, length, Contains, not, ◌&&◌, vec_len, vec_capacity};
+ghost use Rattle.std.specs.Prelude.{◌≡◌, ◌+◌, ◌≤◌, ◌++◌, true, length, Contains, not, ◌&&◌, vec_len, vec_capacity, IfSome};
 ghost use Rattle.std.specs.FinMap as map;
 ghost use Rattle.std.specs.List.Sorted.{IsPermutation, IsNonDecreasingBy};
 ghost use Rattle.std.specs.VecDeque.{deque_len, deque_capacity};
 ghost use Rattle.hd_model.specs.Heap.{Basis, has_object, objects_of, placed_at};
 ghost use Rattle.hd_model.specs.Leads.{Grows};
 ghost use Rattle.hd_model.specs.Scene.{is_object, IsYoungField};
+ghost use Rattle.hd_heap.specs.Calls.{AreSurveyed};
 ghost use Rattle.hd_final.specs.declared.joiners.Joiner.{Joiner as JoinerValue};
 ghost use Rattle.hd_final.specs.Joiners.{IsFound, places};
 
-use hd_heap::Heap;
+use hd_heap::{CondemnedObject, Heap};
 use hd_model::{Addr, Id, Marker};
 use std::collections::VecDeque;
 
@@ -21,8 +22,67 @@ pub(crate) struct Joiner {
     pub(crate) at: Addr,
 }
 
-/// Collects the registered condemned objects that are not promoted, in the order of addresses.
-pub(crate) fn find<M: Marker>(joiners: &mut Vec<Joiner>, heap: &Heap, marker: &M, n: u8)
+/// Collects the registered condemned objects that are not promoted, in the order of addresses: from
+/// a survey of the heap, where there is one.
+pub(crate) fn find<M: Marker>(
+    joiners: &mut Vec<Joiner>,
+    heap: &Heap,
+    marker: &M,
+    n: u8,
+    survey: Option<&[CondemnedObject]>,
+)
+    requires settled { M.settled marker.now }
+    requires basis { M.basis marker.now ≡ record { heap = heap.now; condemned = n } }
+    requires room { map.len heap.now.objects ≤ vec_capacity joiners.old }
+    requires survey { IfSome survey (λ s. AreSurveyed heap.now n s.now) }
+    ensures found { IsFound heap.now n (M.promoted marker.now) joiners.new.items }
+    ensures capacity { vec_capacity joiners.new ≡ vec_capacity joiners.old }
+{
+    match survey {
+        Some(objects) => find_among(joiners, heap, marker, n, objects),
+        None => find_in_heap(joiners, heap, marker, n),
+    }
+}
+
+// Collects them from a survey.
+fn find_among<M: Marker>(
+    joiners: &mut Vec<Joiner>,
+    heap: &Heap,
+    marker: &M,
+    n: u8,
+    objects: &[CondemnedObject],
+)
+    requires settled { M.settled marker.now }
+    requires basis { M.basis marker.now ≡ record { heap = heap.now; condemned = n } }
+    requires room { map.len heap.now.objects ≤ vec_capacity joiners.old }
+    requires survey { AreSurveyed heap.now n objects.now }
+    ensures found { IsFound heap.now n (M.promoted marker.now) joiners.new.items }
+    ensures capacity { vec_capacity joiners.new ≡ vec_capacity joiners.old }
+{
+    joiners.clear();
+    for object in objects {
+        if !is_listed_out(heap, marker, *object) {
+            continue;
+        }
+        let id = heap.id(object.at);
+        joiners.push_reserved(Joiner { id, at: object.at });
+    }
+}
+
+// Whether an object of a survey is registered and not promoted.
+fn is_listed_out<M: Marker>(_heap: &Heap, marker: &M, object: CondemnedObject) -> bool
+    requires settled { M.settled marker.now }
+    requires object { has_object _heap.now object.at ≡ true }
+    requires basis { (M.basis marker.now).heap ≡ _heap.now }
+    requires registered { object.registered ≡ (placed_at _heap.now object.at).registered }
+    ensures { result ≡ ((placed_at _heap.now object.at).registered
+        && not (M.promoted marker.now object.at)) }
+{
+    object.registered && !marker.promoted(object.at)
+}
+
+// Collects them by a walk over the condemned objects.
+fn find_in_heap<M: Marker>(joiners: &mut Vec<Joiner>, heap: &Heap, marker: &M, n: u8)
     requires settled { M.settled marker.now }
     requires basis { M.basis marker.now ≡ record { heap = heap.now; condemned = n } }
     requires room { map.len heap.now.objects ≤ vec_capacity joiners.old }

@@ -1,5 +1,5 @@
 -- The scene that a collection leaves, by address: what was left, at its new addresses.
-use Rattle.std.proofs.Common.{◌<◌, ◌≡◌, ℕ, ◌+◌, ◌*◌, ◌/◌, ◌≤◌, Bool, true, false, cond, ◌&&◌, List, Option, Some, None, is_some, length, drop, map, refl, sym, ap, ◌∙◌, subst, arith, add-mul, le_trans}
+use Rattle.std.proofs.Common.{◌<◌, ◌≡◌, ℕ, ◌+◌, ◌*◌, ◌/◌, ◌≤◌, Bool, true, false, cond, ◌&&◌, Option, Some, None, is_some, length, drop, map, refl, sym, ap, ◌∙◌, subst, arith, le_trans}
 use Rattle.std.specs.Prelude.{option_map}
 use Rattle.std.specs.FinMap.{get, len}
 use Rattle.std.proofs.lemmas.Bool.{cond-true, true≢false}

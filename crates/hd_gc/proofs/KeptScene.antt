@@ -1,5 +1,5 @@
 -- The scene that a collection leaves in place, by what was found: what it references is kept.
-use Rattle.std.proofs.Common.{◌≡◌, ℕ, true, false, List, Option, Some, sym, ◌∙◌, subst}
+use Rattle.std.proofs.Common.{◌≡◌, ℕ, true, false, Some, sym, ◌∙◌, subst}
 use Rattle.std.specs.Prelude.{Contains}
 use Rattle.hd_model.specs.declared.data.Addr.{Addr}
 use Rattle.hd_model.specs.declared.data.Report.{Report}
@@ -7,7 +7,7 @@ use Rattle.hd_model.specs.Role.{short, long, attaches}
 use Rattle.hd_model.specs.Counting.{Counts}
 use Rattle.hd_model.specs.Scene.{Scene, is_object, IsCondemned, IsWhole}
 use Rattle.hd_model.specs.Collect.{survivor, GoesBy, left_by, LosesAs, IsSurviving, IsRemoved}
-use Rattle.hd_model.specs.Heap.{Heap, Basis, object_at, objects_of, id_at}
+use Rattle.hd_model.specs.Heap.{Basis, object_at, objects_of, id_at}
 use Rattle.hd_model.specs.Table.{Table, Queue, row_at}
 use Rattle.hd_model.proofs.PropertyCounts.{counts_like}
 use Rattle.hd_model.proofs.Entries.{some_value}

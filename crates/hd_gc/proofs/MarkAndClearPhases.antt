@@ -1,5 +1,5 @@
 -- The phases between the start of the marks and the plan, one after another.
-use Rattle.std.proofs.Common.{◌≡◌, ℕ, ◌+◌, ◌*◌, ◌<◌, ◌≤◌, Bool, true, false, List, [], refl, sym, ap, ◌∙◌, subst, ⊎_elim, inl, ◌⊎◌, arith, add-mul}
+use Rattle.std.proofs.Common.{◌≡◌, ℕ, ◌+◌, ◌<◌, ◌≤◌, Bool, true, false, List, [], refl, sym, ap, ◌∙◌, subst, ⊎_elim, inl, ◌⊎◌, arith, add-mul}
 use Rattle.std.specs.Prelude.{Contains}
 use Rattle.std.proofs.lemmas.Bool.{true≢false, cases_lt}
 use Rattle.hd_model.specs.declared.data.Addr.{Addr}
@@ -22,8 +22,7 @@ use Rattle.hd_dep.specs.Rescan.{RescanSteps}
 use Rattle.hd_dep.specs.Clearing.{IsAllDetached, IsLostAt}
 use Rattle.hd_final.specs.Resurrection.{IsOut}
 use Rattle.hd_plan.specs.Plan.{PlanOf, IsLaid, kept_in, place_in, stays_in}
-use Rattle.hd_scan.specs.declared.task.Task.{Task}
-use Rattle.hd_scan.specs.Tasks.{task_kind, has_role, short_tasks, long_tasks}
+use Rattle.hd_scan.specs.Tasks.{has_role, short_tasks, long_tasks}
 use Rattle.hd_gc.specs.Ready.{Parts, IsReady, parts, scene_of, basis_of}
 use Rattle.hd_gc.specs.Clearing.{SameMarks, Clears}
 use Rattle.hd_gc.specs.Marking.{Traced, Resurrected, Resurrection, Rescans}

@@ -1,5 +1,5 @@
 -- The relocations of one kind after another update every row in a visited slot.
-use Rattle.std.proofs.Common.{◌≡◌, ℕ, ◌+◌, ◌<◌, ◌&&◌, ◌||◌, Bool, true, false, cond, List, length, Option, Some, None, refl, sym, ap, ◌∙◌, subst, ⊎_elim, arith}
+use Rattle.std.proofs.Common.{◌≡◌, ℕ, ◌+◌, ◌&&◌, ◌||◌, Bool, true, false, cond, List, Option, Some, None, refl, sym, ap, ◌∙◌, subst, ⊎_elim, arith}
 use Rattle.std.specs.Prelude.{option_map, nat_lt}
 use Rattle.std.proofs.lemmas.Bool.{and_parts, true≢false, lt-ltb, le-ltb, cases_lt, cases_Bool, or_left, or_right, eqb-true, eq-eqb}
 use Rattle.hd_model.specs.declared.data.Addr.{Addr}

@@ -1,5 +1,5 @@
 -- The marking from first marks: what it promotes is what is reached.
-use Rattle.std.proofs.Common.{◌≡◌, ℕ, ◌+◌, ◌<◌, true, List, Option, Some, sym, ap, ◌∙◌, subst, ⊎_elim, inr, ◌⊎◌, ◌≤◌, arith}
+use Rattle.std.proofs.Common.{◌≡◌, ℕ, ◌+◌, ◌<◌, true, Some, sym, ap, ◌∙◌, subst, ⊎_elim, inr, ◌⊎◌, ◌≤◌, arith}
 use Rattle.std.specs.Prelude.{Contains, nat_lt, ◌↔◌}
 use Rattle.std.specs.FinSet as set
 use Rattle.std.specs.FinSet.{contains-empty}

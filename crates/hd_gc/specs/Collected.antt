@@ -1,5 +1,5 @@
 -- What a collection leaves.
-use Rattle.std.specs.Prelude.{◌≡◌, ◌↔◌, ℕ, ◌<◌, ◌≤◌, true, List, Option}
+use Rattle.std.specs.Prelude.{◌≡◌, ◌↔◌, ℕ, ◌<◌, ◌≤◌, true}
 use Rattle.hd_model.specs.declared.data.Id.{Id}
 use Rattle.hd_model.specs.declared.data.Addr.{Addr}
 use Rattle.hd_model.specs.declared.data.Report.{Report}
@@ -11,7 +11,7 @@ use Rattle.hd_model.specs.Counting.{Counts}
 use Rattle.hd_model.specs.Ages.{grown}
 use Rattle.hd_model.specs.Heap.{Heap, has_object, object_at, id_at, is_set, used_of}
 use Rattle.hd_model.specs.Compact.{IsCompact}
-use Rattle.hd_model.specs.Table.{Table, Queue, row_at}
+use Rattle.hd_model.specs.Table.{Table, row_at}
 use Rattle.hd_model.specs.Visits.{IsSameTable}
 use Rattle.hd_plan.specs.Commit.{NeedsCard}
 use Rattle.hd_plan.specs.PackedRegions.{IsPacked}

@@ -1,5 +1,5 @@
 -- What is true between the marking and the moving.
-use Rattle.std.specs.Prelude.{◌≡◌, ℕ, ◌<◌, ◌≤◌, Bool, true, false, List, ◌++◌, Option, option_map, Contains, AllPairs}
+use Rattle.std.specs.Prelude.{◌≡◌, ℕ, ◌<◌, Bool, true, false, List, ◌++◌, option_map, Contains, AllPairs}
 use Rattle.std.specs.Bool.{Decides}
 use Rattle.hd_model.specs.declared.data.Addr.{Addr}
 use Rattle.hd_model.specs.declared.data.Report.{Report}
@@ -9,8 +9,8 @@ use Rattle.hd_model.specs.Scene.{is_object, IsCondemned}
 use Rattle.hd_model.specs.Reach.{IsReached, IsToBeFinalized, IsKept, IsPinned}
 use Rattle.hd_model.specs.Collect.{cleared, LosesAs, IsSurviving}
 use Rattle.hd_model.specs.Marking.{IsKeeping}
-use Rattle.hd_model.specs.Heap.{Heap, object_at, objects_of, id_at}
-use Rattle.hd_model.specs.Table.{Table, Queue, row_at}
+use Rattle.hd_model.specs.Heap.{object_at, objects_of, id_at}
+use Rattle.hd_model.specs.Table.{row_at}
 use Rattle.hd_model.specs.Visits.{IsSameTable}
 use Rattle.hd_plan.specs.Plan.{PlanOf, IsLaid, kept_in, place_in, stays_in}
 use Rattle.hd_gc.specs.declared.mark_and_clear.Found.{Found}

@@ -1,5 +1,5 @@
 -- What is promoted and pinned after the marking, and after the resurrection.
-use Rattle.std.specs.Prelude.{◌≡◌, ◌↔◌, ◌⊎◌, ℕ, ◌+◌, ◌<◌, Bool, true, List, ◌++◌, Option, Contains, AllPairs}
+use Rattle.std.specs.Prelude.{◌≡◌, ◌↔◌, ◌⊎◌, ℕ, ◌+◌, ◌<◌, Bool, true, List, ◌++◌, Contains, AllPairs}
 use Rattle.std.specs.Bool.{Decides}
 use Rattle.hd_model.specs.declared.data.Addr.{Addr}
 use Rattle.hd_model.specs.declared.data.Kind.TheVariants as kind
@@ -7,7 +7,7 @@ use Rattle.hd_model.specs.Leads.{Leads, IsClosed}
 use Rattle.hd_model.specs.Scene.{Scene, generation_at, IsCondemned}
 use Rattle.hd_model.specs.Reach.{IsEdge, IsReached, IsPinned}
 use Rattle.hd_model.specs.Heap.{Heap, object_at, id_at}
-use Rattle.hd_model.specs.Table.{Table, row_at}
+use Rattle.hd_model.specs.Table.{row_at}
 use Rattle.hd_model.specs.Visits.{visits_of}
 use Rattle.hd_mark.specs.Marks.{MarksOf, promoted_in, pinned_in, IsSettledMarks}
 use Rattle.hd_dep.specs.Rescan.{RescanSteps}

@@ -1,11 +1,11 @@
 -- What the moving leaves.
-use Rattle.std.specs.Prelude.{◌≡◌, ℕ, ◌+◌, Bool, true, cond, List, Option, Some, option_map, map, drop}
+use Rattle.std.specs.Prelude.{◌≡◌, ℕ, ◌+◌, Bool, true, cond, List, Some, option_map, map, drop}
 use Rattle.hd_model.specs.Kinds.{all_kinds}
 use Rattle.hd_model.specs.State.{Handle, secondary_of, rename_handle}
 use Rattle.hd_model.specs.Scene.{Rows}
 use Rattle.hd_model.specs.Ages.{is_due, grown}
 use Rattle.hd_model.specs.Heap.{Heap}
-use Rattle.hd_model.specs.Table.{Table, Queue, row_at}
+use Rattle.hd_model.specs.Table.{row_at}
 use Rattle.hd_model.specs.Visits.{IsSameTable, visits_over}
 use Rattle.hd_final.specs.Settling.{Unregisters}
 use Rattle.hd_plan.specs.Plan.{PlanOf, place_in}

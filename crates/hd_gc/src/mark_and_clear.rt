@@ -8,6 +8,7 @@ ghost use Rattle.hd_model.specs.Leads.{IsClosed};
 ghost use Rattle.hd_model.specs.Heap.{HasIdentities, is_carded, object_at};
 ghost use Rattle.hd_model.specs.Visits.{MayVisitDue};
 ghost use Rattle.hd_model.specs.Ages.{HasSoundCards};
+ghost use Rattle.hd_heap.specs.Calls.{AreSurveyed};
 ghost use Rattle.hd_mark.specs.Marks.{IsSettledMarks, promoted_in};
 ghost use Rattle.hd_plan.specs.Plan.{IsTakenPlan};
 ghost use Rattle.hd_gc.specs.Ready.{IsReady, parts};
@@ -19,7 +20,7 @@ use crate::marking::trace;
 use hd_ages::AgeMap;
 use hd_dep::{clear, rescan};
 use hd_final::Final;
-use hd_heap::Heap;
+use hd_heap::{CondemnedObject, Heap};
 use hd_mark::Marks;
 use hd_model::{Addr, Memory, Steps};
 use hd_plan::Plan;
@@ -44,10 +45,12 @@ fn revive<L: Ledger>(
     seg: &Seg,
     ages: &AgeMap,
     fin: &mut Final,
+    objects: &[CondemnedObject],
     marks: &mut Marks,
     n: u8,
     steps: &mut Steps<L>,
 ) -> u32
+    requires survey { AreSurveyed heap.now n objects.now }
     requires settled { IsSettledMarks marks.old }
     requires basis { marks.old.basis ≡ record { heap = heap.now; condemned = n } }
     requires due { MayVisitDue marks.old.basis seg.now ages.now n }
@@ -61,7 +64,7 @@ fn revive<L: Ledger>(
         marks.new fin.new.waiting steps.old steps.new }
     ensures count { Counts (IsOut (object_at heap.now) n (promoted_in marks.old)) result }
 {
-    let revived = fin.revive(heap, marks, n);
+    let revived = fin.revive_among(heap, marks, n, objects);
     rescan(seg, ages, marks, n, steps);
     revived
 }
@@ -88,10 +91,11 @@ pub(crate) fn mark_and_clear<L: Ledger>(
     ensures memory { OnErr result ((seg.new ≡ seg.old) × (fin.new ≡ fin.old)
         × (steps.new ≡ steps.old)) }
 {
-    let mut marks = Marks::start(alloc, heap, n)?;
+    let objects = plan.objects();
+    let mut marks = Marks::over(alloc, heap, n, objects)?;
     trace(heap, seg, ages, fin, roots, &mut marks, n, steps);
     let short = clear_short(seg, ages, &mut marks, n, steps);
-    let revived = revive(heap, seg, ages, fin, &mut marks, n, steps);
+    let revived = revive(heap, seg, ages, fin, objects, &mut marks, n, steps);
     let long = clear_long(seg, ages, &mut marks, n, steps);
     let dep = clear(seg, ages, &marks, n, steps);
     plan.lay(heap, &marks);

@@ -16,3 +16,4 @@ pub mod FieldForward
 pub mod HeapReferences
 pub mod RegionCopy
 pub mod ObjectSurvey
+pub mod SurveyWalk

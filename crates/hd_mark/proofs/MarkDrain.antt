@@ -3,7 +3,7 @@ use Rattle.std.proofs.Common.{◌≡◌, ℕ, ◌+◌, ◌<◌, ◌≤◌, Bool,
 use Rattle.std.specs.Prelude.{Contains, is_some, if◌then◌else◌}
 use Rattle.std.specs.FinSet.{FinSet, contains, insert, empty, contains-empty}
 use Rattle.std.specs.Ordering.{nat_cmp}
-use Rattle.std.proofs.lemmas.Bool.{cases_eq, cases_lt, both_ways, lt-ltb, le-ltb, or_cases, or_left, or_right}
+use Rattle.std.proofs.lemmas.Bool.{cases_eq, cases_lt, both_ways, lt-ltb, le-ltb, le-leb, and_from, or_cases, or_left, or_right}
 use Rattle.hd_model.specs.declared.data.Addr.{Addr}
 use Rattle.hd_model.specs.State.{Object}
 use Rattle.hd_model.specs.Heap.{Heap, Basis, object_at, objects_of}
@@ -12,6 +12,7 @@ use Rattle.hd_model.specs.Leads.{Leads, Grows}
 use Rattle.hd_model.specs.Marking.{Gains}
 use Rattle.hd_model.specs.Names.{HasClosedFields}
 use Rattle.hd_model.proofs.Members.{not_in_none, first_in, later_in, member_cases}
+use Rattle.hd_heap.specs.Calls.{is_condemned}
 use Rattle.hd_mark.specs.Marks.{MarksOf, is_older, promoted_in, pinned_in, pushed, pinned_also, first_marks, HasNoneYet, IsSettledMarks}
 use Rattle.hd_mark.specs.Steps.{scanned, IsTraced}
 use Rattle.hd_mark.proofs.MarkBits.{insert_here, insert_elsewhere, insert_keeps}
@@ -40,6 +41,16 @@ is_young b x e =
 
 pub young_test : (b : Basis) (x : Addr) → generation_at (objects_of b) x ≤ b.condemned → is_older b x ≡ false
 young_test b x le = le-ltb b.condemned (generation_at (objects_of b) x) le
+
+-- an object that is not condemned is older
+pub not_young : (b : Basis) (x : Addr) → is_condemned b.heap b.condemned x ≡ false
+    → is_object (objects_of b) x ≡ true → is_older b x ≡ true
+not_young b x none object =
+    elim (cases_lt b.condemned (generation_at (objects_of b) x)) [
+      | inl less ↦ older_is b x less
+      | inr le ↦ absurd (both_ways _ none
+          (and_from _ _ object (le-leb (generation_at (objects_of b) x) b.condemned le)))
+    ]
 
 -- what has a generation above 0 is an object
 pub old_object : (b : Basis) (x : Addr) → is_older b x ≡ true → is_object (objects_of b) x ≡ true

@@ -1,12 +1,12 @@
 -- No public clause needs what is defined here: how marks and pins are stored in bits, and what is always true
 -- of the fields of a trace.
-use Rattle.std.specs.Prelude.{◌≡◌, ℕ, ◌+◌, ◌*◌, ◌/◌, ◌%◌, ◌<◌, ◌≤◌, ◌==◌, not, Bool, true, false, List, length, filter, slice_index, slice_index_or, Contains, Option, Some, None, IsSome}
+use Rattle.std.specs.Prelude.{◌≡◌, ℕ, ◌+◌, ◌*◌, ◌/◌, ◌%◌, ◌<◌, ◌≤◌, ◌==◌, not, Bool, true, false, List, length, filter, slice_index, slice_index_or, Contains, Option, Some, None, is_some, option_map}
 use Rattle.std.specs.Int.{bit_at}
 use Rattle.std.specs.FinSet.{FinSet, contains}
 use Rattle.std.specs.Ordering.{nat_cmp}
 use Rattle.hd_model.specs.declared.limits.TheConstants.{REGION, REGIONS}
 use Rattle.hd_model.specs.declared.data.Addr.{Addr}
-use Rattle.hd_model.specs.Heap.{Heap, Basis, region_of}
+use Rattle.hd_model.specs.Heap.{Heap, Basis, region_of, offset_of, has_object}
 use Rattle.hd_heap.specs.Calls.{is_condemned}
 use Rattle.hd_heap.specs.Places.{places_of, tables}
 use Rattle.hd_mark.specs.declared.bits.TheConstants.{BITS, WORDS}
@@ -34,20 +34,14 @@ pub record IsTable (places : List (Option ℕ)) (regions : ℕ) : Type 0 where
   pub within : (r p : ℕ) → place_at places r ≡ Some p → p < regions
   pub apart : (r s p : ℕ) → place_at places r ≡ Some p → place_at places s ≡ Some p → r ≡ s
 
--- the region of each condemned object has an index
+-- the number of the bit of an address, if its region has an index
+abbrev pub bit_of : List (Option ℕ) → Addr → Option ℕ
+bit_of places a = option_map (λ p. p * REGION + offset_of a) (place_at places (region_of a))
+
+-- the regions of condemned objects have an index, those of older ones have none
 abbrev pub Covers : Heap → ℕ → List (Option ℕ) → Type 0
-Covers h n places = (a : Addr) → is_condemned h n a ≡ true → IsSome (place_at places (region_of a))
-
--- the number after that of the region of an address; 0 for none
-abbrev pub end_of : Option Addr → ℕ
-end_of None = 0
-end_of (Some a) = region_of a + 1
-
--- at most `count` addresses pass a test: they are in a list of that length
-pub record HasMembers (p : Addr → Bool) (count : ℕ) : Type 0 where
-  pub members : List ℕ
-  pub all : (a : Addr) → p a ≡ true → Contains members a.0
-  pub number : length members ≡ count
+Covers h n places =
+    (a : Addr) → has_object h a ≡ true → is_some (place_at places (region_of a)) ≡ is_condemned h n a
 
 -- how many of these addresses are not in a set
 abbrev pub left : FinSet nat_cmp → List ℕ → ℕ

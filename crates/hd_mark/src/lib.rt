@@ -8,3 +8,4 @@ mod places;
 mod trace;
 
 pub use marks::Marks;
+pub use places::end_of;

@@ -4,11 +4,12 @@ ghost use Rattle.hd_model.specs.Leads.{Grows};
 ghost use Rattle.hd_model.specs.Scene.{is_object, IsYoungField};
 ghost use Rattle.hd_model.specs.Heap.{object_at, objects_of};
 ghost use Rattle.hd_model.specs.Names.{HasClosedFields};
+ghost use Rattle.hd_heap.specs.Calls.{AreSurveyed};
 ghost use Rattle.hd_mark.specs.Marks.{first_marks, pushed, promoted_in};
 ghost use Rattle.hd_mark.specs.Marks.{HasNoneYet, IsSettledMarks};
 
 use crate::trace::Trace;
-use hd_heap::Heap;
+use hd_heap::{CondemnedObject, Heap};
 use hd_model::{Addr, Marker, Memory};
 use std::alloc::Global;
 use std::marker::Model;
@@ -46,7 +47,24 @@ impl<'h> Marks<'h> {
         ensures settled { IfOk result IsSettledMarks }
         ensures none { IfOk result HasNoneYet }
     {
-        let trace = Trace::start(alloc, heap, n)?;
+        let survey = heap.survey(n)?;
+        Marks::over(alloc, heap, n, &survey.objects)
+    }
+
+    /// The same over a survey of the heap.
+    pub fn over(
+        alloc: Global,
+        heap: &'h Heap,
+        n: u8,
+        objects: &[CondemnedObject],
+    ) -> Result<Marks<'h>, Memory>
+        requires fields { HasClosedFields (object_at heap.now) }
+        requires survey { AreSurveyed heap.now n objects.now }
+        ensures marks { IfOk result (λ m. m ≡ first_marks heap.now n) }
+        ensures settled { IfOk result IsSettledMarks }
+        ensures none { IfOk result HasNoneYet }
+    {
+        let trace = Trace::over(alloc, heap, n, objects)?;
         Ok(Marks { trace })
     }
 

@@ -1,21 +1,13 @@
-// The condemned regions of a heap: how many objects they have, and their indices among themselves.
-ghost use Rattle.std.specs.Prelude.{◌≡◌, ℕ, ◌+◌, ◌*◌, ◌/◌, ◌%◌, ◌-◌, ◌<◌, ◌≤◌, true, length};
-ghost use Rattle.std.specs.Prelude.{IfOk, IfSome, IsSome};
-ghost use Rattle.hd_model.specs.Heap.{region_of, offset_of};
-ghost use Rattle.hd_heap.specs.Calls.{is_condemned};
-ghost use Rattle.hd_mark.specs.Inside.{place_at, end_of, IsTable, Covers, HasMembers};
+// The condemned regions of a heap: their indices among themselves.
+ghost use Rattle.std.specs.Prelude.{◌≡◌, ℕ, ◌+◌, ◌*◌, ◌/◌, ◌%◌, ◌-◌, ◌<◌, ◌≤◌, true, length, IfOk};
+ghost use Rattle.hd_model.specs.Heap.{region_of};
+ghost use Rattle.hd_heap.specs.Calls.{is_condemned, surveyed};
+ghost use Rattle.hd_mark.specs.Inside.{bit_of, IsTable, Covers};
 
-use hd_heap::Heap;
+use hd_heap::{CondemnedObject, Heap};
 use hd_model::limits::{REGION, REGIONS};
 use hd_model::{Addr, Memory};
 use std::alloc::Global;
-
-/// How many condemned objects a heap has, and a number above those of their regions.
-#[derive(Clone, Copy)]
-pub(crate) struct Extent {
-    pub(crate) objects: u32,
-    pub(crate) end: u32,
-}
 
 /// The indices of condemned regions among themselves, by the number of the region. An older region
 /// has none.
@@ -25,35 +17,20 @@ pub(crate) struct Places {
     pub(crate) regions: u32,
 }
 
-impl Extent {
-    /// Walks the objects of no generation above `n`.
-    pub(crate) fn of(heap: &Heap, n: u8) -> Extent
-        ensures members { HasMembers (is_condemned heap.now n) result.objects }
-        ensures end { (a : Addr) → is_condemned heap.now n a ≡ true → region_of a < result.end }
-        ensures small { result.end ≤ REGIONS }
-    {
-        let mut objects = 0;
-        let mut after = None;
-        while let Some(at) = heap.next_condemned(after, n) {
-            objects += 1;
-            after = Some(at);
-        }
-        Extent {
-            objects,
-            end: end_of(after),
-        }
-    }
-}
-
-/// The number after that of the region of an address, or 0.
+/// A number above those of the regions of objects in rising address.
 #[tactic(auto, unfolding(hd_model::specs::Heap::region_of))]
-fn end_of(last: Option<Addr>) -> u32
-    ensures { result ≡ end_of last }
+pub fn end_of(objects: &[CondemnedObject]) -> u32
+    requires { (j k : ℕ) → j < k → k < length objects.now →
+        (surveyed objects.now j).at.0 < (surveyed objects.now k).at.0 }
+    ensures above { (k : ℕ) → k < length objects.now →
+        region_of (surveyed objects.now k).at < result }
+    ensures small { result ≤ REGIONS }
 {
-    match last {
-        Some(at) => at.0 / REGION + 1,
-        None => 0,
+    let count = objects.len();
+    if count == 0 {
+        return 0;
     }
+    objects[count - 1].at.0 / REGION + 1
 }
 
 impl Places {
@@ -81,17 +58,21 @@ impl Places {
         Ok(Places { places, regions })
     }
 
-    /// The number of the bit of an address that lies in a condemned region.
+    /// The number of the bit of an address, if it lies in a condemned region.
     #[tactic(auto, unfolding(hd_model::specs::Heap::region_of))]
-    pub(crate) fn bit(&self, at: Addr) -> u32
+    pub(crate) fn bit(&self, at: Addr) -> Option<u32>
         requires table { IsTable self.now.places.items self.now.regions }
         requires few { self.now.regions ≤ REGIONS }
-        requires place { IsSome (place_at self.now.places.items (region_of at)) }
-        ensures { IfSome (place_at self.now.places.items (region_of at))
-            (λ p. result ≡ p * REGION + offset_of at) }
+        ensures { result ≡ bit_of self.now.places.items at }
     {
-        let place = self.places[(at.0 / REGION) as usize].unwrap();
-        place * REGION + at.0 % REGION
+        let region = (at.0 / REGION) as usize;
+        if region >= self.places.len() {
+            return None;
+        }
+        match self.places[region] {
+            Some(place) => Some(place * REGION + at.0 % REGION),
+            None => None,
+        }
     }
 }
 

@@ -1,15 +1,16 @@
 // What a collection has promoted and pinned so far, and what is still to be scanned.
-ghost use Rattle.std.specs.Prelude.{◌≡◌, ℕ, ◌∷◌, [], true, nat_lt, length, IfOk, MatchOption};
+ghost use Rattle.std.specs.Prelude.{◌≡◌, ℕ, ◌∷◌, [], true, length, IfOk, MatchOption};
 ghost use Rattle.hd_model.specs.Scene.{fields_at, generation_at, is_object};
 ghost use Rattle.hd_model.specs.Heap.{objects_of};
 ghost use Rattle.hd_model.specs.Names.{HasClosedFields};
-ghost use Rattle.hd_mark.specs.Marks.{first_marks, is_older, promoted_in, pinned_in};
+ghost use Rattle.hd_heap.specs.Calls.{AreSurveyed};
+ghost use Rattle.hd_mark.specs.Marks.{first_marks, promoted_in, pinned_in};
 ghost use Rattle.hd_mark.specs.Marks.{pushed, pinned_also};
 ghost use Rattle.hd_mark.specs.Steps.{scanned};
 
 use crate::bits::Bits;
-use crate::places::{Extent, Places};
-use hd_heap::Heap;
+use crate::places::{Places, end_of};
+use hd_heap::{CondemnedObject, Heap};
 use hd_model::{Addr, Memory};
 use std::alloc::Global;
 use std::marker::Model;
@@ -48,15 +49,21 @@ impl<'h> Model for Trace<'h> {
 }
 
 impl<'h> Trace<'h> {
-    /// At first only what is of a generation above `n` is promoted. All memory is taken here.
-    pub(crate) fn start(alloc: Global, heap: &'h Heap, n: u8) -> Result<Trace<'h>, Memory>
+    /// The trace of a collection of generation `n` before its roots, over a survey of the heap. All
+    /// memory is taken here.
+    pub(crate) fn over(
+        alloc: Global,
+        heap: &'h Heap,
+        n: u8,
+        objects: &[CondemnedObject],
+    ) -> Result<Trace<'h>, Memory>
+        requires { AreSurveyed heap.now n objects.now }
         ensures { IfOk result (λ t. t ≡ first_marks heap.now n) }
     {
-        let extent = Extent::of(heap, n);
-        let places = Places::of(alloc, heap, n, extent.end)?;
+        let places = Places::of(alloc, heap, n, end_of(objects))?;
         let marks = Bits::open(alloc, places.regions)?;
         let pins = Bits::open(alloc, places.regions)?;
-        let Ok(stack) = Vec::with_capacity(alloc, extent.objects as usize) else {
+        let Ok(stack) = Vec::with_capacity(alloc, objects.len()) else {
             return Err(Memory);
         };
         Ok(Trace {
@@ -69,20 +76,15 @@ impl<'h> Trace<'h> {
         })
     }
 
-    /// Whether an object is of an older generation, and so neither moves nor dies.
-    fn is_older(&self, at: Addr) -> bool
-        requires { is_object (objects_of self.now.basis) at ≡ true }
-        ensures { result ≡ is_older self.now.basis at }
-    {
-        self.heap.generation(at) > self.condemned
-    }
-
-    /// Whether an object is promoted.
+    /// Whether an object is promoted: all that has no bit is older.
     pub(crate) fn promoted(&self, at: Addr) -> bool
         requires { is_object (objects_of self.now.basis) at ≡ true }
         ensures { result ≡ promoted_in self.now at }
     {
-        self.is_older(at) || self.marks.has(self.places.bit(at))
+        match self.places.bit(at) {
+            Some(bit) => self.marks.has(bit),
+            None => true,
+        }
     }
 
     /// Whether an object is pinned.
@@ -90,7 +92,11 @@ impl<'h> Trace<'h> {
         requires { is_object (objects_of self.now.basis) at ≡ true }
         ensures { result ≡ pinned_in self.now at }
     {
-        self.is_older(at) || self.pins.has(self.places.bit(at))
+        if let Some(bit) = self.places.bit(at) {
+            self.pins.has(bit)
+        } else {
+            true
+        }
     }
 
     /// Pins an object.
@@ -98,8 +104,8 @@ impl<'h> Trace<'h> {
         requires { is_object (objects_of self.old.basis) at ≡ true }
         ensures { self.new ≡ pinned_also self.old at }
     {
-        if !self.is_older(at) {
-            self.pins.insert(self.places.bit(at));
+        if let Some(bit) = self.places.bit(at) {
+            self.pins.insert(bit);
         }
     }
 
@@ -108,9 +114,11 @@ impl<'h> Trace<'h> {
         requires { is_object (objects_of self.old.basis) at ≡ true }
         ensures { self.new ≡ pushed self.old at }
     {
-        if !self.promoted(at) {
-            self.marks.insert(self.places.bit(at));
-            self.stack.push_reserved(at);
+        if let Some(bit) = self.places.bit(at) {
+            if !self.marks.has(bit) {
+                self.marks.insert(bit);
+                self.stack.push_reserved(at);
+            }
         }
     }
 

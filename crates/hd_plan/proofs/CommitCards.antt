@@ -1,17 +1,15 @@
 -- Lemmas on cards that are set and cleared.
-use Rattle.std.proofs.Common.{◌≡◌, ◌≢◌, ℕ, ◌+◌, ◌*◌, ◌/◌, ◌^◌, ◌<◌, ◌≤◌, inl, inr, Bool, true, false, not, ◌&&◌, List, length, get_or, Option, Some, None, refl, sym, ap, ◌∙◌, subst, arith}
+use Rattle.std.proofs.Common.{◌≡◌, ◌≢◌, ℕ, ◌+◌, ◌*◌, ◌/◌, ◌^◌, ◌<◌, ◌≤◌, inl, inr, Bool, true, false, not, ◌&&◌, List, Option, Some, None, refl, sym, ap, ◌∙◌, subst, arith}
 use Rattle.std.specs.Prelude.{◌||◌, is_some, ◌-◌, ◌↔◌, nat_lt, Contains}
-use Rattle.std.proofs.lemmas.Bool.{cases_eq, cases_lt, cases_Bool, both_ways, and_parts, and_from, and_left, or_left, lt-ltb, ltb-true, ltb-false, eq-eqb, eqb-true, false_from_ne_true}
-use Rattle.std.proofs.lemmas.List.{get_or_default}
+use Rattle.std.proofs.lemmas.Bool.{cases_eq, cases_lt, both_ways, and_parts, and_from, and_left, or_left, lt-ltb, ltb-true, ltb-false, eq-eqb, eqb-true, false_from_ne_true}
 use Rattle.std.specs.Ordering.{nat_cmp, eq_by_cmp}
 use Rattle.std.specs.Cmp.{nat_cmp_total}
 use Rattle.std.specs.FinSet as set_of
 use Rattle.hd_model.specs.declared.data.Addr.{Addr}
 use Rattle.hd_model.specs.Names.{HasClosedFields}
 use Rattle.hd_model.specs.State.{Object}
-use Rattle.hd_model.specs.Scene.{fields_at, fields_in, generation_at, IsField}
+use Rattle.hd_model.specs.Scene.{fields_in, generation_at, IsField}
 use Rattle.hd_model.specs.Heap.{Heap, card_of, has_object, object_at, is_set}
-use Rattle.hd_model.proofs.Members.{member_at}
 use Rattle.hd_heap.specs.Calls.{with_card, is_after, is_old_carded, IsWalk, IsNext}
 use Rattle.hd_heap.specs.Sound.{IsSound}
 use Rattle.hd_heap.proofs.IndexedLists.{tied, untied}
@@ -19,9 +17,9 @@ use Rattle.hd_plan.specs.declared.moves.Move.{Move}
 use Rattle.hd_plan.specs.Layout.{move_at, is_kept_fate}
 use Rattle.hd_plan.specs.Commit.{NeedsCard}
 use Rattle.hd_plan.proofs.CondemnedAddresses.{some_is}
-use Rattle.hd_plan.specs.CommitSteps.{AreCarded, IsExactAt, NamesYounger, starts_in}
+use Rattle.hd_plan.specs.CommitSteps.{AreCarded, MayCard, IsExactAt, NamesYounger, starts_in}
 use Rattle.hd_plan.proofs.LayStep.{address_low, reach_of, reach_on}
-use Rattle.hd_plan.proofs.MoveEnds.{ends_cases, ends_skip}
+use Rattle.hd_plan.proofs.MoveEnds.{ends_cases}
 use Rattle.hd_heap.proofs.HeapValues.{same_address}
 
 module _ (old h new : Heap) (k : ℕ) (on : Bool) (same : h ≡ record old { cards = h.cards })
@@ -45,18 +43,37 @@ card_beside h new k c true apart step = ap (λ (x : Heap). is_set x c) step
 card_beside h new k c false apart step = ap (λ (x : Heap). is_set x c) step
     ∙ set_of.contains-remove nat_cmp_total h.cards k c ∙ ap (λ b. not b && is_set h c) (untied c k apart)
 
+names_like : (old h : Heap) (a : Addr) → h ≡ record old { cards = h.cards } → NamesYounger old a
+    → NamesYounger h a
+names_like old h a same n =
+    let m : NamesYounger (record old { cards = h.cards }) a =
+    record { target = n.target; field = n.field; younger = n.younger } in
+    subst (λ (x : Heap). NamesYounger x a) (sym same) m
+
+pub names_back : (old h : Heap) (a : Addr) → h ≡ record old { cards = h.cards } → NamesYounger h a
+    → NamesYounger old a
+names_back old h a same n =
+    let is : (k : Heap) → h ≡ k → NamesYounger k a = λ k e. subst (λ (x : Heap). NamesYounger x a) e n in
+    let m = is (record old { cards = h.cards }) same in
+    record { target = m.target; field = m.field; younger = m.younger }
+
 -- the cards of kept objects, one more
 module _ (old h : Heap) (ms : List Move) (i : ℕ) (r : AreCarded old h ms i) where
-  carded_gone : is_kept_fate (move_at ms i).fate ≡ false → AreCarded old h ms (i + 1)
-  carded_gone gone = record {
+  carded_none : (is_kept_fate (move_at ms i).fate ≡ true → NamesYounger h (move_at ms i).to → ⊥)
+      → AreCarded old h ms (i + 1)
+  carded_none none = record {
     same = r.same;
     more = r.more;
-    done = λ b e. r.done b (ends_skip is_kept_fate (λ m. m.to) ms b i gone e);
+    done = λ b e n. elim (ends_cases is_kept_fate (λ m. m.to) ms b i e) [
+      | inl was ↦ r.done b was n
+      | inr here ↦ absurd (none here.0
+          (names_like old h (move_at ms i).to r.same (subst (NamesYounger old) (sym here.1) n)))
+    ];
   }
 
-  carded_kept : (new : Heap) → is_kept_fate (move_at ms i).fate ≡ true
-      → new ≡ with_card h (card_of (move_at ms i).to) true → AreCarded old new ms (i + 1)
-  carded_kept new kept step =
+  carded_also : (new : Heap) → new ≡ with_card h (card_of (move_at ms i).to) true
+      → AreCarded old new ms (i + 1)
+  carded_also new step =
       let k = card_of (move_at ms i).to in
       let more : (c : ℕ) → is_set h c ≡ true → is_set new c ≡ true = λ c was. elim (cases_eq c k) [
         | inl here ↦ ap (is_set new) here ∙ card_here h new k true step
@@ -65,36 +82,16 @@ module _ (old h : Heap) (ms : List Move) (i : ℕ) (r : AreCarded old h ms i) wh
       record {
         same = only_cards old h new k true r.same step;
         more = λ c was. more c (r.more c was);
-        done = λ b e. elim (ends_cases is_kept_fate (λ m. m.to) ms b i e) [
-          | inl was ↦ more (card_of b) (r.done b was)
+        done = λ b e n. elim (ends_cases is_kept_fate (λ m. m.to) ms b i e) [
+          | inl was ↦ more (card_of b) (r.done b was n)
           | inr here ↦ ap (λ x. is_set new (card_of x)) (sym here.1) ∙ card_here h new k true step
         ];
       }
 
-  pub carded_step : (new : Heap) → (is_kept_fate (move_at ms i).fate ≡ false → new ≡ h)
-      → (is_kept_fate (move_at ms i).fate ≡ true → new ≡ with_card h (card_of (move_at ms i).to) true)
-      → AreCarded old new ms (i + 1)
-  carded_step new gone kept = elim (cases_Bool (is_kept_fate (move_at ms i).fate)) [
-    | inl is ↦ carded_kept new is (kept is)
-    | inr none ↦ subst (λ (x : Heap). AreCarded old x ms (i + 1)) (sym (gone none)) (carded_gone none)
-  ]
-
--- the fields of an object, one after another
-pub field_read : (xs : List (Option Addr)) (i : ℕ) (y : Addr) → i < length xs → Some y ≡ get_or xs i None
-    → Contains xs (Some y)
-field_read xs i y within read = member_at xs i None (Some y) within (sym read)
-
-pub none_younger : (h : Heap) (a : Addr) (i : ℕ) → length (fields_at (object_at h) a) ≤ i
-    → ((j : ℕ) (y : Addr) → j < i → get_or (fields_at (object_at h) a) j None ≡ Some y
-    → generation_at (object_at h) a ≤ generation_at (object_at h) y)
-    → NamesYounger h a → ⊥
-none_younger h a i all older n =
-    let f = n.field in
-    let within = f.1 in
-    let low = older f.0 n.target (omega arith)
-    (get_or_default (fields_at (object_at h) a) f.0 None (Some n.target) f.1 ∙ f.2) in
-    let young = n.younger in
-    omega arith
+  pub carded_step : (new : Heap) → MayCard h new (move_at ms i) → AreCarded old new ms (i + 1)
+  carded_step new (inl step) = carded_also new step
+  carded_step new (inr none) =
+      subst (λ (x : Heap). AreCarded old x ms (i + 1)) (sym none.0) (carded_none none.1)
 
 -- what has a field is an object
 pub has_from : (h : Heap) (x y : Addr) → IsField (object_at h) x y → has_object h x ≡ true

@@ -1,21 +1,21 @@
 -- The regions and the cards after the moving: what its last steps leave.
-use Rattle.std.proofs.Common.{◌≡◌, ◌≢◌, ℕ, ◌+◌, ◌<◌, ◌≤◌, inl, inr, true, false, length, Option, Some, None, refl, sym, ap, ◌∙◌, subst, arith, min}
-use Rattle.std.specs.Prelude.{nat_lt, is_some, unwrap_or}
+use Rattle.std.proofs.Common.{◌≡◌, ℕ, ◌+◌, ◌<◌, ◌≤◌, inl, inr, true, false, length, Option, Some, None, refl, sym, ap, ◌∙◌, subst, arith, min}
+use Rattle.std.specs.Prelude.{nat_lt, unwrap_or}
 use Rattle.std.proofs.lemmas.Bool.{both_ways, cases_lt, le-ltb, lt-ltb, cond-true, cond-false, false_from_ne_true}
 use Rattle.std.specs.FinMap as fin
 use Rattle.hd_model.specs.declared.data.Addr.{Addr}
 use Rattle.hd_model.specs.Ages.{raised}
 use Rattle.hd_model.specs.Scene.{generation_at}
-use Rattle.hd_model.specs.Heap.{Region, Heap, region_of, region_at, region_generation, is_in_use, has_object, object_at}
+use Rattle.hd_model.specs.Heap.{Region, Heap, region_of, region_at, region_generation, is_in_use, object_at}
 use Rattle.hd_heap.specs.Calls.{is_old_carded}
 use Rattle.hd_plan.specs.Layout.{move_at, condemned_at, is_moving, is_staying, room_at, IsCondemnedRegion, HasStay}
 use Rattle.hd_plan.specs.LaySteps.{IsRoom}
 use Rattle.hd_plan.specs.Plan.{PlanOf, kept_in, place_in}
-use Rattle.hd_plan.specs.CommitSteps.{IsKeptAt, SameCards, AreCopied, AreRewritten, AreRemoved, AreSettled}
+use Rattle.hd_plan.specs.CommitSteps.{IsKeptAt, SameCards, AreCopied, AreRewritten}
 use Rattle.hd_plan.proofs.CondemnedAddresses.{generation_is}
 use Rattle.hd_plan.proofs.KeptMoves.{moving_or_staying, all_put}
-use Rattle.hd_plan.proofs.CommitShape.{IsCommitting, moves_now, regions_now}
-use Rattle.hd_plan.proofs.CommitImage.{kept_by, place_older, place_move, kept_object, from_condemned, stays_there, to_put, image_only}
+use Rattle.hd_plan.proofs.CommitShape.{AreRemoved, AreSettled, IsCommitting, moves_now, regions_now}
+use Rattle.hd_plan.proofs.CommitImage.{kept_by, place_older, place_move, kept_object, from_condemned, stays_there, to_put}
 
 -- the generation of what is not condemned stays, and no generation falls
 pub raised_older : (n g : ℕ) → n < g → raised n g ≡ g
@@ -68,6 +68,16 @@ are_moved p q old h1 h2 h3 h4 e base copied carded same kept removed = record {
   removed = removed;
 }
 
+-- the next generation of a region is one
+pub settled_generations : (p : PlanOf) (old : Heap) → IsCommitting p old → (k : ℕ) → k < length p.regions
+    → (condemned_at p.regions k).generation ≤ 2
+settled_generations p old c k within =
+    let is = (regions_now p old c).condemned k within in
+    let e = (regions_now p old c).generations k within in
+    let most = (raised_most p.basis.condemned
+    (region_generation old (condemned_at p.regions k).region) is.young).1 in
+    (omega arith)
+
 module _ (p : PlanOf) (old h1 h2 h3 h4 : Heap) (m : AreMoved p old h1 h2 h3 h4) where
   c : IsCommitting p old
   c = m.committing
@@ -84,55 +94,6 @@ module _ (p : PlanOf) (old h1 h2 h3 h4 : Heap) (m : AreMoved p old h1 h2 h3 h4) 
 
   pub region_kept : (r : ℕ) → is_in_use old r ≡ true → fin.get h4.regions r ≡ fin.get old.regions r
   region_kept r held = ap (λ rs. fin.get rs r) regions_room ∙ room.old r held
-
-  pub settled_held : (k : ℕ) → k < length p.regions → is_in_use h4 (condemned_at p.regions k).region ≡ true
-  settled_held k within =
-      let is = (regions_now p old c).condemned k within in
-      ap is_some (region_kept (condemned_at p.regions k).region is.held) ∙ is.held
-
-  pub settled_generations : (k : ℕ) → k < length p.regions → (condemned_at p.regions k).generation ≤ 2
-  settled_generations k within =
-      let is = (regions_now p old c).condemned k within in
-      let e = (regions_now p old c).generations k within in
-      let most = (raised_most p.basis.condemned
-      (region_generation old (condemned_at p.regions k).region) is.young).1 in
-      (omega arith)
-
-  -- a kept object in a condemned region stays there
-  stays_in_region : (a : Addr) (r : ℕ) → kept_in p a ≡ true → IsCondemnedRegion old p.basis.condemned r
-      → region_of (place_in p a) ≡ r → HasStay p.moves r
-  stays_in_region a r kept young in_region = elim (kept_by p old c a kept) [
-    | inl older ↦
-        let there = kept_object p old c a kept in
-        let region : region_of a ≡ r = ap region_of (sym (place_older p old c a older)) ∙ in_region in
-        let low : region_generation old (region_of a) ≤ p.basis.condemned =
-        subst (λ q. region_generation old q ≤ p.basis.condemned) (sym region) young.young in
-        let same = generation_is old a there in
-        absurd (omega arith)
-    | inr (k, by) ↦
-        let to : place_in p a ≡ (move_at p.moves k).to =
-        ap (place_in p) (sym by.from) ∙ place_move p old c k by.within in
-        let region : region_of (move_at p.moves k).to ≡ r = ap region_of (sym to) ∙ in_region in
-        elim (moving_or_staying (move_at p.moves k).fate by.kept) [
-          | inl moving ↦ absurd
-              (both_ways _ (to_put p old c k by.within moving).fresh.new
-              (subst (λ q. is_in_use old q ≡ true) (sym region) young.held))
-          | inr stays ↦ record {
-            at = k;
-            within = by.within;
-            stays = ap is_staying stays;
-            region = ap region_of (sym (stays_there p old c k by.within (ap is_moving stays))) ∙ region;
-          }
-        ]
-  ]
-
-  pub settled_empty : (k : ℕ) (a : Addr) → k < length p.regions → (condemned_at p.regions k).pinned ≡ false
-      → has_object h4 a ≡ true → region_of a ≢ (condemned_at p.regions k).region
-  settled_empty k a within unpinned there same =
-      let (x, is) = image_only p old c h1 m.copied h2 m.carded h3 m.kept h4 m.removed a there in
-      let young = (regions_now p old c).condemned k within in
-      let stay = stays_in_region x (condemned_at p.regions k).region is.0 young (ap region_of is.1 ∙ same) in
-      both_ways _ unpinned (((regions_now p old c).pinned k within).1 stay)
 
   module _ (h5 : Heap) (r5 : AreSettled h4 h5 p.regions (length p.regions)) where
     -- a region that is not condemned, one that stays, and one that is freed

@@ -10,16 +10,16 @@ use Rattle.hd_model.proofs.Members.{member_same, first_in, later_in}
 use Rattle.hd_heap.specs.Calls.{is_old_carded}
 use Rattle.hd_heap.proofs.RegionReads.{has-get}
 use Rattle.hd_heap.proofs.HeapValues.{fields_placed, same_address}
-use Rattle.hd_plan.specs.Layout.{move_at, is_kept_fate, is_moving, is_staying, room_at}
+use Rattle.hd_plan.specs.Layout.{move_at, is_kept_fate, is_moving, is_staying, room_at, IsCondemnedRegion, HasStay}
 use Rattle.hd_plan.specs.LaySteps.{IsPut}
 use Rattle.hd_plan.specs.Plan.{PlanOf, kept_in, place_in}
-use Rattle.hd_plan.specs.CommitSteps.{IsKeptAt, IsLeft, AreCopied, rewritten, AreRewritten, AreRemoved}
-use Rattle.hd_plan.proofs.CondemnedAddresses.{older_or_young}
+use Rattle.hd_plan.specs.CommitSteps.{IsKeptAt, IsLeft, AreCopied, rewritten, AreRewritten}
+use Rattle.hd_plan.proofs.CondemnedAddresses.{older_or_young, condemned_is, generation_is}
 use Rattle.hd_plan.proofs.KeptMoves.{IsKeptBy, moving_or_staying, moving_kept, fate_stays, fate_rests, unmoved, kept_cases, older_kept, older_place, move_kept, move_place, put_new, all_put, is_condemned_at}
 use Rattle.hd_plan.proofs.MoveEnds.{ends_decided}
 use Rattle.hd_plan.proofs.CommitCopies.{get_placed, has_got, has_alike}
 use Rattle.hd_plan.proofs.CommitRewrites.{fields_alike, generation_alike, rewritten_has}
-use Rattle.hd_plan.proofs.CommitShape.{IsCommitting, moves_now, kept_now, closed_now}
+use Rattle.hd_plan.proofs.CommitShape.{AreRemoved, IsCommitting, moves_now, kept_now, closed_now}
 
 -- fields that reference what stays in place are as they were
 unchanged : (place : Addr → Addr) (fs : List (Option Addr))
@@ -252,6 +252,32 @@ module _ (p : PlanOf) (old : Heap) (c : IsCommitting p old) where
         from_there k within = has_third (move_at p.moves k).from ∙ has_second (move_at p.moves k).from
             ∙ has_still (move_at p.moves k).from (from_condemned k within).object
 
+        -- all in a condemned region in which nothing stays is left
+        pub left_there : (a : Addr) (r : ℕ) → has_object h3 a ≡ true
+            → IsCondemnedRegion old p.basis.condemned r → (HasStay p.moves r → ⊥) → region_of a ≡ r
+            → IsLeft p.moves (length p.moves) a
+        left_there a r there young none inside =
+            elim (c1.only a (sym (has_second a) ∙ sym (has_third a) ∙ there)) [
+              | inl was ↦
+                  let low : generation_at (object_at old) a ≤ p.basis.condemned =
+                  (let y =
+                  subst (λ q. region_generation old q ≤ p.basis.condemned) (sym inside) young.young in
+                  let same = generation_is old a was in omega arith) in
+                  let (k, listed) = (moves_now p old c).all a
+                  (condemned_is old p.basis.condemned a (record { object = was; young = low })) in
+                  elim (cases_Bool (is_staying (move_at p.moves k).fate)) [
+                    | inl stays ↦ absurd (none (record {
+                      at = k;
+                      within = listed.0;
+                      stays = stays;
+                      region = ap region_of listed.1 ∙ inside;
+                    }))
+                    | inr goes ↦ record { at = k; before = listed.0; goes = ap not goes; is = listed.1 }
+                  ]
+              | inr e ↦ absurd (both_ways _ (to_put e.at e.before e.goes).fresh.new
+                  (subst (λ q. is_in_use old q ≡ true) (sym (ap region_of e.is ∙ inside)) young.held))
+            ]
+
         -- an older object whose card is clear references no object that moves
         older_same : (a : Addr) → has_object old a ≡ true
             → p.basis.condemned < generation_at (object_at old) a → is_carded old a ≡ false
@@ -334,15 +360,16 @@ module _ (p : PlanOf) (old : Heap) (c : IsCommitting p old) where
           pub image_at : (a : Addr) → kept_in p a ≡ true
               → fin.get h4.objects (place_in p a).0 ≡ option_map (rewritten (place_in p))
               (fin.get old.objects a.0)
-          image_at a kept = r4.others (place_in p a) (place_left a kept) ∙ third_at a kept
+          image_at a kept = r4.others (place_in p a) (λ e. absurd (place_left a kept e)) ∙ third_at a kept
 
           pub image_only : (b : Addr) → has_object h4 b ≡ true
               → (a : Addr) × ((kept_in p a ≡ true) × (place_in p a ≡ b))
           image_only b there =
               elim (ends_decided (λ w. not (is_staying w)) (λ m. m.from) p.moves b (length p.moves)) [
-                | inl left ↦ absurd (true≢false (sym there ∙ has-get h4 b ∙ ap is_some (r4.gone b left)))
+                | inl left ↦ absurd (true≢false (sym there ∙ has-get h4 b ∙ ap is_some (r4.gone b left refl)))
                 | inr none ↦
-                    let third : has_object h3 b ≡ true = sym (has_alike h3 h4 b (r4.others b none)) ∙ there in
+                    let third : has_object h3 b ≡ true =
+                    sym (has_alike h3 h4 b (r4.others b (λ e. absurd (none e)))) ∙ there in
                     elim (c1.only b (sym (has_second b) ∙ sym (has_third b) ∙ third)) [
                       | inl was ↦ elim (older_or_young old p.basis.condemned b was) [
                         | inl older ↦ (b, (kept_older b older, place_older b older))

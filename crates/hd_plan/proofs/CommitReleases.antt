@@ -1,30 +1,35 @@
 -- Lemmas on what is removed.
-use Rattle.std.proofs.Common.{◌≡◌, ◌≢◌, ℕ, ◌+◌, ◌<◌, inl, inr, true, false, not, List, [], ◌∷◌, ◌++◌, length, Option, Some, None, refl, sym, ap, ◌∙◌, subst, arith}
+use Rattle.std.proofs.Common.{◌≡◌, ◌≢◌, ℕ, ◌+◌, ◌/◌, ◌<◌, inl, inr, Bool, true, false, not, List, length, Option, Some, None, refl, sym, ap, ◌∙◌, subst, arith}
 use Rattle.std.specs.Prelude.{is_some, unwrap_or}
 use Rattle.std.proofs.lemmas.Bool.{cases_eq, cases_lt, cases_Bool, both_ways, false≢true}
 use Rattle.std.specs.Ordering.{nat_cmp}
 use Rattle.std.specs.FinMap as fin
 use Rattle.hd_model.specs.declared.data.Addr.{Addr}
-use Rattle.hd_model.specs.Heap.{Region, Heap, card_of, region_at, has_object, is_set}
+use Rattle.hd_model.specs.Heap.{Region, Heap, region_of, card_of, region_at, has_object, is_set}
 use Rattle.hd_model.proofs.ReadAfterWrite.{get_removed, get_left}
-use Rattle.hd_heap.specs.Calls.{IsRemoved, with_generation}
+use Rattle.hd_heap.specs.Calls.{IsRemoved, with_generation, without_region}
+use Rattle.hd_heap.proofs.RegionGiveUp.{object_gone, object_left, card_left}
 use Rattle.hd_heap.proofs.RegionReads.{has-get}
 use Rattle.hd_heap.proofs.HeapValues.{get_same, get_other, same_address}
 use Rattle.hd_plan.specs.declared.moves.Move.{Move}
 use Rattle.hd_plan.specs.declared.moves.Condemned.{Condemned}
 use Rattle.hd_plan.specs.Layout.{move_at, condemned_at, is_staying}
-use Rattle.hd_plan.specs.CommitSteps.{AreRemoved, AreSettled}
-use Rattle.hd_plan.proofs.MoveEnds.{ends_more, ends_here, ends_cases, ends_skip}
+use Rattle.hd_plan.specs.CommitSteps.{AreRemovedIn, AreGivenUp}
+use Rattle.hd_plan.proofs.MoveEnds.{ends_more, ends_here, ends_cases}
 use Rattle.hd_plan.proofs.CommitCopies.{has_alike}
 
 -- what a map has where something was removed
 get_gone : {A : Type 0} (m : fin.FinMap nat_cmp A) (k q : ℕ) → q ≡ k → fin.get (fin.remove m k) q ≡ None
 get_gone m k q same = ap (fin.get (fin.remove m k)) same ∙ get_removed m k
 
-module _ (old h : Heap) (ms : List Move) (i : ℕ) (r : AreRemoved old h ms i) where
-  removed_stays : not (is_staying (move_at ms i).fate) ≡ false → AreRemoved old h ms (i + 1)
-  removed_stays stays = record {
-    gone = λ a e. r.gone a (ends_skip (λ w. not (is_staying w)) (λ m. m.from) ms a i stays e);
+module _ (here : ℕ → Bool) (old h : Heap) (ms : List Move) (i : ℕ) (r : AreRemovedIn here old h ms i) where
+  removed_rest : (not (is_staying (move_at ms i).fate) ≡ true → here (region_of (move_at ms i).from) ≡ false)
+      → AreRemovedIn here old h ms (i + 1)
+  removed_rest rest = record {
+    gone = λ a e on. elim (ends_cases (λ w. not (is_staying w)) (λ m. m.from) ms a i e) [
+      | inl was ↦ r.gone a was on
+      | inr now ↦ absurd (both_ways _ (rest now.0) (ap (λ (x : Addr). here (region_of x)) now.1 ∙ on))
+    ];
     others = λ a none. r.others a
         (λ e. none (ends_more (λ w. not (is_staying w)) (λ m. m.from) ms a i (i + 1) (omega arith) e));
     same = r.same;
@@ -32,25 +37,28 @@ module _ (old h : Heap) (ms : List Move) (i : ℕ) (r : AreRemoved old h ms i) w
   }
 
   removed_one : (new : Heap) → not (is_staying (move_at ms i).fate) ≡ true
-      → IsRemoved h new (move_at ms i).from → AreRemoved old new ms (i + 1)
-  removed_one new left step =
+      → here (region_of (move_at ms i).from) ≡ true
+      → IsRemoved h new (move_at ms i).from → AreRemovedIn here old new ms (i + 1)
+  removed_one new left on step =
       let at = (move_at ms i).from in
-      let here : (a : Addr) → a.0 ≡ at.0 → fin.get new.objects a.0 ≡ None =
+      let gone : (a : Addr) → a.0 ≡ at.0 → fin.get new.objects a.0 ≡ None =
       λ a e. ap (λ (x : Heap). fin.get x.objects a.0) step.removed ∙ get_gone h.objects at.0 a.0 e in
       let beside : (a : Addr) → a.0 ≢ at.0 → fin.get new.objects a.0 ≡ fin.get h.objects a.0 =
       λ a apart. ap (λ (x : Heap). fin.get x.objects a.0) step.removed
       ∙ get_left h.objects at.0 a.0 apart in
       record {
-        gone = λ a e. elim (cases_eq a.0 at.0) [
-          | inl same ↦ here a same
+        gone = λ a e o. elim (cases_eq a.0 at.0) [
+          | inl same ↦ gone a same
           | inr apart ↦ beside a apart ∙ elim (ends_cases (λ w. not (is_staying w)) (λ m. m.from) ms a i e) [
-            | inl was ↦ r.gone a was
+            | inl was ↦ r.gone a was o
             | inr new_one ↦ absurd (apart (ap (λ (x : Addr). x.0) (sym new_one.1)))
           ]
         ];
         others = λ a none.
-            beside a (λ same. none
-            (ends_here (λ w. not (is_staying w)) (λ m. m.from) ms a i left (sym (same_address a at same))))
+            beside a (λ same.
+            let is : at ≡ a = sym (same_address a at same) in
+            both_ways _ (none (ends_here (λ w. not (is_staying w)) (λ m. m.from) ms a i left is))
+            (ap (λ (x : Addr). here (region_of x)) (sym is) ∙ on))
             ∙ r.others a (λ e. none
             (ends_more (λ w. not (is_staying w)) (λ m. m.from) ms a i (i + 1) (omega arith) e));
         same = step.removed ∙ ap (λ (x : Heap). record x {
@@ -61,7 +69,7 @@ module _ (old h : Heap) (ms : List Move) (i : ℕ) (r : AreRemoved old h ms i) w
             (sym (ap (λ (x : Heap). x.objects) step.removed));
         cards = λ a is.
             let apart : a.0 ≢ at.0 =
-            λ e. false≢true (ap is_some (sym (here a e)) ∙ sym (has-get new a) ∙ is) in
+            λ e. false≢true (ap is_some (sym (gone a e)) ∙ sym (has-get new a) ∙ is) in
             let was : has_object h a ≡ true = sym (has_alike h new a (beside a apart)) ∙ is in
             elim (cases_eq (card_of a) (card_of at)) [
               | inl same ↦ ap (is_set new) same ∙ step.shared a is same ∙ ap (is_set h) (sym same)
@@ -71,35 +79,60 @@ module _ (old h : Heap) (ms : List Move) (i : ℕ) (r : AreRemoved old h ms i) w
       }
 
   pub removed_step : (new : Heap) → (is_staying (move_at ms i).fate ≡ true → new ≡ h)
-      → (is_staying (move_at ms i).fate ≡ false → IsRemoved h new (move_at ms i).from)
-      → AreRemoved old new ms (i + 1)
-  removed_step new stays left = elim (cases_Bool (is_staying (move_at ms i).fate)) [
-    | inl here ↦ subst (λ (x : Heap). AreRemoved old x ms (i + 1)) (sym (stays here))
-        (removed_stays (ap not here))
-    | inr away ↦ removed_one new (ap not away) (left away)
+      → (here (region_of (move_at ms i).from) ≡ false → new ≡ h)
+      → (is_staying (move_at ms i).fate ≡ false → here (region_of (move_at ms i).from) ≡ true
+      → IsRemoved h new (move_at ms i).from)
+      → AreRemovedIn here old new ms (i + 1)
+  removed_step new stays whole left = elim (cases_Bool (here (region_of (move_at ms i).from))) [
+    | inr off ↦ subst (λ (x : Heap). AreRemovedIn here old x ms (i + 1)) (sym (whole off))
+        (removed_rest (λ e. off))
+    | inl on ↦ elim (cases_Bool (is_staying (move_at ms i).fate)) [
+      | inl still ↦ subst (λ (x : Heap). AreRemovedIn here old x ms (i + 1)) (sym (stays still))
+          (removed_rest (λ left. absurd (both_ways _ (ap not still) left)))
+      | inr away ↦ removed_one new (ap not away) on (left away on)
+    ]
   ]
+
+-- a region has eight cards
+card_region : (a : Addr) → card_of a / 8 ≡ region_of a
+unfolding region_of card_of
+card_region a = omega arith
 
 -- the regions, one after another
 module _ (old h : Heap) (cs : List Condemned) (i : ℕ) (low : i < length cs) (rising : (j k : ℕ) → j < k
     → k < length cs → (condemned_at cs j).region < (condemned_at cs k).region)
-    (r : AreSettled old h cs i) where
+    (r : AreGivenUp old h cs i) where
   region_apart : (k : ℕ) → k < i → (condemned_at cs k).region ≢ (condemned_at cs i).region
   region_apart k below same = (let less = rising k i below low in omega arith)
 
-  settled_on : (new : Heap) (g : Option Region)
-      → ((q : ℕ) → q ≡ (condemned_at cs i).region → fin.get new.regions q ≡ g)
-      → ((q : ℕ) → q ≢ (condemned_at cs i).region → fin.get new.regions q ≡ fin.get h.regions q)
-      → ((condemned_at cs i).pinned ≡ true
-      → g ≡ Some (record {
-        generation = (condemned_at cs i).generation;
-        fill = (region_at old (condemned_at cs i).region).fill;
-      }))
-      → ((condemned_at cs i).pinned ≡ false → g ≡ None)
-      → new ≡ record h { regions = new.regions; spare = new.spare }
-      → AreSettled old new cs (i + 1)
-  settled_on new g here beside raised given_up step = record {
+  -- what one more leaves
+  record LeavesRegion (new : Heap) (g : Option Region) : Type 0 where
+    here : (q : ℕ) → q ≡ (condemned_at cs i).region → fin.get new.regions q ≡ g
+    beside : (q : ℕ) → q ≢ (condemned_at cs i).region → fin.get new.regions q ≡ fin.get h.regions q
+    raised : (condemned_at cs i).pinned ≡ true
+        → g ≡ Some (record {
+          generation = (condemned_at cs i).generation;
+          fill = (region_at old (condemned_at cs i).region).fill;
+        })
+    given_up : (condemned_at cs i).pinned ≡ false → g ≡ None
+    gone : (condemned_at cs i).pinned ≡ false → (a : Addr) → region_of a ≡ (condemned_at cs i).region
+        → fin.get new.objects a.0 ≡ None
+    left : (a : Addr) → ((condemned_at cs i).pinned ≡ false → (condemned_at cs i).region ≢ region_of a)
+        → fin.get new.objects a.0 ≡ fin.get h.objects a.0
+    cards : (a : Addr) → has_object new a ≡ true
+        → (has_object h a ≡ true) × (is_set new (card_of a) ≡ is_set h (card_of a))
+    same : new ≡ record h {
+      objects = new.objects;
+      regions = new.regions;
+      spare = new.spare;
+      cards =
+          new.cards;
+    }
+
+  settled_on : (new : Heap) (g : Option Region) → LeavesRegion new g → AreGivenUp old new cs (i + 1)
+  settled_on new g is = record {
     raised = λ k before pinned. elim (cases_lt k i) [
-      | inl below ↦ beside (condemned_at cs k).region (region_apart k below) ∙ r.raised k below pinned
+      | inl below ↦ is.beside (condemned_at cs k).region (region_apart k below) ∙ r.raised k below pinned
       | inr high ↦
           let same : i ≡ k = omega arith in
           subst (λ j. (condemned_at cs j).pinned ≡ true
@@ -108,60 +141,105 @@ module _ (old h : Heap) (cs : List Condemned) (i : ℕ) (low : i < length cs) (r
             generation = (condemned_at cs j).generation;
             fill = (region_at old (condemned_at cs j).region).fill;
           })) same
-          (λ p. here (condemned_at cs i).region refl ∙ raised p) pinned
+          (λ p. is.here (condemned_at cs i).region refl ∙ is.raised p) pinned
     ];
     given_up = λ k before unpinned. elim (cases_lt k i) [
-      | inl below ↦ beside (condemned_at cs k).region (region_apart k below) ∙ r.given_up k below unpinned
+      | inl below ↦ is.beside (condemned_at cs k).region (region_apart k below) ∙ r.given_up k below unpinned
       | inr high ↦
           let same : i ≡ k = omega arith in
           subst (λ j. (condemned_at cs j).pinned ≡ false
           → fin.get new.regions (condemned_at cs j).region ≡ None) same
-          (λ p. here (condemned_at cs i).region refl ∙ given_up p) unpinned
+          (λ p. is.here (condemned_at cs i).region refl ∙ is.given_up p) unpinned
     ];
-    others = λ q none. beside q (λ same. none i (omega arith) (sym same))
+    others = λ q none. is.beside q (λ same. none i (omega arith) (sym same))
         ∙ r.others q (λ k below. none k (omega arith));
-    same = step ∙ ap (λ (x : Heap). record x { regions = new.regions; spare = new.spare }) r.same;
+    gone = λ k before unpinned a inside. elim (cases_lt k i) [
+      | inl below ↦ is.left a (λ p same. region_apart k below (sym (same ∙ inside)))
+          ∙ r.gone k below unpinned a inside
+      | inr high ↦
+          let same : i ≡ k = omega arith in
+          subst (λ j. (condemned_at cs j).pinned ≡ false → region_of a ≡ (condemned_at cs j).region
+          → fin.get new.objects a.0 ≡ None) same (λ p q. is.gone p a q) unpinned inside
+    ];
+    left = λ a none. is.left a (none i (omega arith)) ∙ r.left a (λ k below. none k (omega arith));
+    cards = λ a there.
+        let now = is.cards a there in
+        let was = r.cards a now.0 in
+        (was.0, now.1 ∙ was.1);
+    same = is.same ∙ ap (λ (x : Heap). record x {
+      objects = new.objects;
+      regions = new.regions;
+      spare = new.spare;
+      cards = new.cards;
+    }) r.same;
   }
 
   settled_raised : (new : Heap) → (condemned_at cs i).pinned ≡ true
       → new ≡ with_generation h (condemned_at cs i).region (condemned_at cs i).generation
-      → AreSettled old new cs (i + 1)
+      → AreGivenUp old new cs (i + 1)
   settled_raised new pinned step =
       let n = (condemned_at cs i).region in
       let g : Region = record { generation = (condemned_at cs i).generation; fill = (region_at h n).fill } in
       let was : fin.get h.regions n ≡ fin.get old.regions n = r.others n region_apart in
-      settled_on new (Some g)
-      (λ q same. ap (λ (x : Heap). fin.get x.regions q) step ∙ get_same h.regions n q g same)
-      (λ q apart. ap (λ (x : Heap). fin.get x.regions q) step ∙ get_other h.regions n q g apart)
-      (λ p. ap (λ (o : Option Region).
-      Some (record {
-        generation = (condemned_at cs i).generation;
-        fill = (unwrap_or o (record { generation = 0; fill = 0 })).fill;
-      })) was)
-      (λ p. absurd (both_ways _ p pinned))
-      (step ∙ ap (λ rs. record h { regions = rs }) (sym (ap (λ (x : Heap). x.regions) step))
-      ∙ ap (λ ns. record h { regions = new.regions; spare = ns }) (sym (ap (λ (x : Heap). x.spare) step)))
+      let objects : new.objects ≡ h.objects = ap (λ (x : Heap). x.objects) step in
+      settled_on new (Some g) (record {
+        here = λ q same. ap (λ (x : Heap). fin.get x.regions q) step ∙ get_same h.regions n q g same;
+        beside = λ q apart. ap (λ (x : Heap). fin.get x.regions q) step ∙ get_other h.regions n q g apart;
+        raised = λ p. ap (λ (o : Option Region).
+            Some (record {
+              generation = (condemned_at cs i).generation;
+              fill = (unwrap_or o (record { generation = 0; fill = 0 })).fill;
+            })) was;
+        given_up = λ p. absurd (both_ways _ p pinned);
+        gone = λ p. absurd (both_ways _ p pinned);
+        left = λ a other. ap (λ os. fin.get os a.0) objects;
+        cards = λ a there. (
+          sym (has_alike h new a (ap (λ os. fin.get os a.0) objects)) ∙ there,
+          ap (λ (x : Heap). is_set x (card_of a)) step,
+        );
+        same = step ∙ (λ k. record h {
+          objects = sym objects k;
+          regions = sym (ap (λ (x : Heap). x.regions) step) k;
+          spare = sym (ap (λ (x : Heap). x.spare) step) k;
+          cards = sym (ap (λ (x : Heap). x.cards) step) k;
+        });
+      })
 
-  settled_given_up : (new : Heap) (spare : List ℕ) → (condemned_at cs i).pinned ≡ false
-      → new ≡ record h { regions = fin.remove h.regions (condemned_at cs i).region; spare = spare }
-      → AreSettled old new cs (i + 1)
-  settled_given_up new spare unpinned step =
+  settled_given_up : (new : Heap) → (condemned_at cs i).pinned ≡ false
+      → new ≡ without_region h (condemned_at cs i).region → AreGivenUp old new cs (i + 1)
+  settled_given_up new unpinned step =
       let n = (condemned_at cs i).region in
-      settled_on new None
-      (λ q same. ap (λ (x : Heap). fin.get x.regions q) step ∙ get_gone h.regions n q same)
-      (λ q apart. ap (λ (x : Heap). fin.get x.regions q) step ∙ get_left h.regions n q apart)
-      (λ p. absurd (both_ways _ unpinned p))
-      (λ p. refl)
-      (step ∙ ap (λ rs. record h { regions = rs; spare = spare }) (sym (ap (λ (x : Heap). x.regions) step))
-      ∙ ap (λ ns. record h { regions = new.regions; spare = ns }) (sym (ap (λ (x : Heap). x.spare) step)))
+      let gone : (a : Addr) → region_of a ≡ n → fin.get new.objects a.0 ≡ None =
+      λ a inside. ap (λ (x : Heap). fin.get x.objects a.0) step ∙ object_gone h n a inside in
+      let left : (a : Addr) → region_of a ≢ n → fin.get new.objects a.0 ≡ fin.get h.objects a.0 =
+      λ a apart. ap (λ (x : Heap). fin.get x.objects a.0) step ∙ object_left h n a apart in
+      settled_on new None (record {
+        here = λ q same. ap (λ (x : Heap). fin.get x.regions q) step ∙ get_gone h.regions n q same;
+        beside = λ q apart. ap (λ (x : Heap). fin.get x.regions q) step ∙ get_left h.regions n q apart;
+        raised = λ p. absurd (both_ways _ unpinned p);
+        given_up = λ p. refl;
+        gone = λ p a inside. gone a inside;
+        left = λ a other. left a (λ same. other unpinned (sym same));
+        cards = λ a there.
+            let apart : region_of a ≢ n =
+            λ same. false≢true (ap is_some (sym (gone a same)) ∙ sym (has-get new a) ∙ there) in (
+              sym (has_alike h new a (left a apart)) ∙ there,
+              ap (λ (x : Heap). is_set x (card_of a)) step
+                  ∙ card_left h n (card_of a) (λ same. apart (sym (card_region a) ∙ same)),
+            );
+        same = step ∙ (λ k. record h {
+          objects = sym (ap (λ (x : Heap). x.objects) step) k;
+          regions = sym (ap (λ (x : Heap). x.regions) step) k;
+          spare = sym (ap (λ (x : Heap). x.spare) step) k;
+          cards = sym (ap (λ (x : Heap). x.cards) step) k;
+        });
+      })
 
   pub settled_step : (new : Heap) → ((condemned_at cs i).pinned ≡ true
       → new ≡ with_generation h (condemned_at cs i).region (condemned_at cs i).generation)
-      → ((condemned_at cs i).pinned ≡ false → new ≡ record h {
-        regions = fin.remove h.regions (condemned_at cs i).region;
-        spare = h.spare ++ (condemned_at cs i).region ∷ [];
-      }) → AreSettled old new cs (i + 1)
-  settled_step new stays freed = elim (cases_Bool (condemned_at cs i).pinned) [
+      → ((condemned_at cs i).pinned ≡ false → new ≡ without_region h (condemned_at cs i).region)
+      → AreGivenUp old new cs (i + 1)
+  settled_step new stays given_up = elim (cases_Bool (condemned_at cs i).pinned) [
     | inl pinned ↦ settled_raised new pinned (stays pinned)
-    | inr unpinned ↦ settled_given_up new _ unpinned (freed unpinned)
+    | inr unpinned ↦ settled_given_up new unpinned (given_up unpinned)
   ]

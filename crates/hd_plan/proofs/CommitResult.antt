@@ -15,15 +15,15 @@ use Rattle.hd_plan.specs.Layout.{move_at, condemned_at, is_moving, room_at, has_
 use Rattle.hd_plan.specs.LaySteps.{ArePut}
 use Rattle.hd_plan.specs.Plan.{PlanOf, kept_in, place_in, stays_in, HasNoEmptyRegion}
 use Rattle.hd_plan.specs.Commit.{moved_object, NeedsCard, ChangesRegions, Commits}
-use Rattle.hd_plan.specs.CommitSteps.{IsKeptAt, rewritten, AreSettled, AreCarded}
+use Rattle.hd_plan.specs.CommitSteps.{IsKeptAt, rewritten, AreCarded}
 use Rattle.hd_plan.proofs.CondemnedAddresses.{some_is, generation_is}
 use Rattle.hd_plan.proofs.KeptMoves.{all_put, moving_kept, fate_stays, fate_rests}
 use Rattle.hd_plan.specs.PackedRegions.{is_older_region, IsPacked}
 use Rattle.hd_plan.proofs.PackedRegions.{IsTaken, packed, compact}
-use Rattle.hd_plan.proofs.CommitCards.{has_from}
+use Rattle.hd_plan.proofs.CommitCards.{has_from, names_back}
 use Rattle.hd_plan.proofs.CommitTotals.{sum-coming}
 use Rattle.hd_plan.proofs.CommitCopies.{get_placed, has_got, has_alike}
-use Rattle.hd_plan.proofs.CommitShape.{IsCommitting, moves_now, regions_now, closed_now}
+use Rattle.hd_plan.proofs.CommitShape.{AreSettled, IsCommitting, moves_now, regions_now, closed_now}
 use Rattle.hd_plan.proofs.CommitImage.{kept_by, kept_older, place_older, kept_move, place_move, kept_object, from_condemned, stays_there, image_at, image_only}
 use Rattle.hd_plan.proofs.CommitGenerations.{AreMoved, raised_above, raised_some, raised_older, place_generation, regions_room, region_kept, region_older, region_raised, region_given_up}
 use Rattle.hd_heap.proofs.HeapValues.{same_address}
@@ -180,6 +180,7 @@ module _ (p : PlanOf) (old h1 h2 h3 h4 : Heap) (m : AreMoved p old h1 h2 h3 h4) 
               let to : (move_at p.moves k).to ≡ x =
               sym (ap (place_in p) (sym by.from) ∙ place_move p old c k by.within) ∙ is.1 in
               r6.done x (record { at = k; before = by.within; goes = by.kept; is = to })
+              (names_back h5 h6 x r6.same (record { target = y; field = field; younger = younger }))
         ]
       where
         carded_still : (a : Addr) → has_object h6 a ≡ true → is_carded old a ≡ true → is_carded h6 a ≡ true

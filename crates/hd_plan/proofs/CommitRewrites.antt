@@ -1,181 +1,34 @@
 -- Lemmas on the rewriting of fields.
-use Rattle.std.proofs.Common.{◌≡◌, ◌≢◌, ℕ, ◌+◌, ◌-◌, ◌^◌, ◌<◌, ◌≤◌, inl, inr, ◌⊎◌, Bool, ◌&&◌, true, false, cond, List, map, length, set, get_or, Option, Some, None, refl, sym, ap, ◌∙◌, subst, arith, length-set, get_or-set_same, get_or-set_other, ext_get_or}
-use Rattle.std.specs.Prelude.{option_map, is_some, nat_lt, ◌||◌}
-use Rattle.std.proofs.lemmas.Bool.{cases_eq, cases_lt, cases_Bool, both_ways, and_parts, or_right, le-ltb}
-use Rattle.std.proofs.lemmas.List.{get_or-map, length-map}
-use Rattle.std.specs.Ordering.{nat_cmp, eq_by_cmp}
-use Rattle.std.specs.Cmp.{nat_cmp_total}
-use Rattle.std.specs.FinSet as set_of
+use Rattle.std.proofs.Common.{◌≡◌, ◌≢◌, ℕ, ◌+◌, ◌-◌, ◌^◌, ◌<◌, inl, inr, ◌⊎◌, ◌&&◌, true, false, cond, List, length, Option, Some, None, refl, sym, ap, ◌∙◌, subst, arith}
+use Rattle.std.specs.Prelude.{option_map, is_some, nat_lt}
+use Rattle.std.proofs.lemmas.Bool.{cases_eq, cases_Bool, both_ways, and_parts, le-ltb}
 use Rattle.std.specs.FinMap as map_of
 use Rattle.hd_model.specs.declared.data.Addr.{Addr}
 use Rattle.hd_model.specs.Scene.{fields_at, fields_in, generation_at, generation_in, IsField}
 use Rattle.hd_model.specs.Heap.{Placed, Heap, region_of, card_of, region_generation, has_object, object_at, object_in, placed_at, is_set}
-use Rattle.hd_model.proofs.Members.{member_at, member_same}
-use Rattle.hd_heap.specs.Calls.{with_object, with_field, stored, is_younger, is_after, is_old_carded, IsNext}
+use Rattle.hd_model.proofs.Members.{member_same}
+use Rattle.hd_heap.specs.Calls.{with_object, is_after, is_old_carded, IsNext}
 use Rattle.hd_heap.specs.Sound.{IsSound}
 use Rattle.hd_heap.proofs.RegionReads.{has-get}
-use Rattle.hd_heap.proofs.IndexedLists.{untied}
-use Rattle.hd_heap.proofs.HeapValues.{get_same, get_other, has_with_object, placed_with_object, write_twice, write_same, fields_placed, same_address}
+use Rattle.hd_heap.proofs.HeapValues.{get_same, get_other, same_address}
 use Rattle.hd_plan.specs.declared.moves.Move.{Move}
 use Rattle.hd_plan.specs.Layout.{move_at, is_kept_fate}
-use Rattle.hd_plan.specs.CommitSteps.{HasRenamed, rewritten, MoreCards, SameCards, IsRewritten, AreRewritten, IsKeptAt}
+use Rattle.hd_plan.specs.CommitSteps.{rewritten, SameCards, IsRewritten, AreRewritten, IsKeptAt}
 use Rattle.hd_plan.proofs.MoveEnds.{ends_more, ends_here, ends_cases, ends_skip, ends_decided}
 use Rattle.hd_plan.proofs.LayStep.{address_low, reach_of, reach_on, after_past, reached_cases}
 use Rattle.hd_plan.proofs.CommitCopies.{get_placed, has_alike}
 
-abbrev Cards : Type 0
-Cards = set_of.FinSet nat_cmp
-
--- a set with a member more, or the set
-pub insert_more : (b : Bool) (s : Cards) (k q : ℕ) → set_of.contains s q ≡ true
-    → set_of.contains (cond b (set_of.insert s k) s) q ≡ true
-insert_more false s k q is = is
-insert_more true s k q is = set_of.contains-insert nat_cmp_total s k q
-    ∙ or_right (eq_by_cmp nat_cmp q k) (set_of.contains s q) is
-
-pub insert_other : (b : Bool) (s : Cards) (k q : ℕ) → q ≢ k
-    → set_of.contains (cond b (set_of.insert s k) s) q ≡ set_of.contains s q
-insert_other false s k q apart = refl
-insert_other true s k q apart = set_of.contains-insert nat_cmp_total s k q
-    ∙ ap (λ b. b || set_of.contains s q) (untied q k apart)
-
--- the first i fields of one object are rewritten
-pub record AreFieldsRewritten (old h : Heap) (place : Addr → Addr) (x : Addr) (i : ℕ) : Type 0 where
-  pub fields : List (Option Addr)
-  pub object : h
-      ≡ record (with_object old x (record (placed_at old x) { fields = fields })) { cards = h.cards }
-  pub number : length fields ≡ length (placed_at old x).fields
-  pub below : (j : ℕ) → j < i
-      → get_or fields j None ≡ option_map place (get_or (placed_at old x).fields j None)
-  pub above : (j : ℕ) → i ≤ j → get_or fields j None ≡ get_or (placed_at old x).fields j None
-  pub more : MoreCards old h
-  pub others : (c : ℕ) → c ≢ card_of x → is_set h c ≡ is_set old c
-
-pub rewriting_starts : (h : Heap) (place : Addr → Addr) (x : Addr) → has_object h x ≡ true
-    → AreFieldsRewritten h h place x 0
-rewriting_starts h place x is = record {
-  fields = (placed_at h x).fields;
-  object = write_same h x is;
-  number = refl;
-  below = λ j low. absurd (omega arith);
-  above = λ j high. refl;
-  more = λ c set. set;
-  others = λ c apart. refl;
-}
-
-module _ (old h : Heap) (place : Addr
-    → Addr) (x : Addr) (i : ℕ) (is : has_object old x ≡ true) (r : AreFieldsRewritten old h place x i) where
-  -- objects are there as before
-  pub rewriting_has : (y : Addr) → has_object old y ≡ true → has_object h y ≡ true
-  rewriting_has y there = ap (λ (k : Heap). has_object k y) r.object ∙ has_with_object old x y _ there
-
-  placed_now : placed_at h x ≡ record (placed_at old x) { fields = r.fields }
-  placed_now = ap (λ (k : Heap). placed_at k x) r.object ∙ placed_with_object old x _
-
-  fields_now : fields_at (object_at h) x ≡ r.fields
-  fields_now = fields_placed h x (rewriting_has x is) ∙ ap (λ (p : Placed). p.fields) placed_now
-
-  -- their number is that of before
-  pub rewriting_number : length (fields_at (object_at h) x) ≡ length (fields_at (object_at old) x)
-  rewriting_number = ap length fields_now ∙ r.number ∙ sym (ap length (fields_placed old x is))
-
-  field_now : (v : Option Addr) → v ≡ get_or (fields_at (object_at h) x) i None
-      → v ≡ get_or (placed_at old x).fields i None
-  field_now v read = read ∙ ap (λ xs. get_or xs i None) fields_now ∙ r.above i (omega arith)
-
-  -- the field that is read was there before
-  pub rewriting_field : (y : Addr) → i < length (fields_at (object_at old) x)
-      → Some y ≡ get_or (fields_at (object_at h) x) i None → IsField (object_at old) x y
-  rewriting_field y within read =
-      let there : get_or (fields_at (object_at old) x) i None ≡ Some y =
-      ap (λ xs. get_or xs i None) (fields_placed old x is) ∙ sym (field_now (Some y) read) in
-      member_at (fields_at (object_at old) x) i None (Some y) within there
-
-  -- a null field stays
-  rewriting_null : None ≡ get_or (fields_at (object_at h) x) i None
-      → AreFieldsRewritten old h place x (i + 1)
-  rewriting_null read = record {
-    fields = r.fields;
-    object = r.object;
-    number = r.number;
-    below = λ j low. elim (cases_lt j i) [
-      | inl before ↦ r.below j before
-      | inr past ↦
-          let same : j ≡ i = omega arith in
-          let null : None ≡ get_or (placed_at old x).fields j None =
-          field_now None read ∙ ap (λ k. get_or (placed_at old x).fields k None) (sym same) in
-          r.above j past ∙ sym null ∙ ap (option_map place) null
-    ];
-    above = λ j high. r.above j (omega arith);
-    more = r.more;
-    others = r.others;
-  }
-
-  -- a field is written
-  rewriting_written : (new : Heap) (y : Addr) → i < length (fields_at (object_at old) x)
-      → Some y ≡ get_or (fields_at (object_at h) x) i None → new ≡ stored h x i (Some (place y))
-      → AreFieldsRewritten old new place x (i + 1)
-  rewriting_written new y within read written =
-      let v : Option Addr = Some (place y) in
-      let fields = set r.fields i v in
-      let cards : new.cards ≡ cond (is_younger h x v) (set_of.insert h.cards (card_of x)) h.cards =
-      ap (λ (k : Heap). k.cards) written in
-      let long : i < length r.fields = omega (arith, within, r.number, ap length (fields_placed old x is)) in
-      let p : Placed = record (placed_at old x) { fields = r.fields } in
-      record {
-        fields = fields;
-        object = written ∙ ap
-            (λ cs. record (with_object h x (with_field (placed_at h x) i v)) { cards = cs }) (sym cards)
-            ∙ ap (λ (q : Placed).
-            record (with_object h x (with_field q i v)) { cards = new.cards }) placed_now
-            ∙ ap (λ (k : Heap). record (with_object k x (with_field p i v)) { cards = new.cards }) r.object
-            ∙ ap (λ (k : Heap). record k { cards = new.cards }) (write_twice old x p (with_field p i v));
-        number = length-set r.fields i v ∙ r.number;
-        below = λ j low. elim (cases_eq j i) [
-          | inl same ↦
-              ap (λ k. get_or fields k None) same ∙ get_or-set_same r.fields i v None long
-              ∙ ap (option_map place) (field_now (Some y) read
-              ∙ ap (λ k. get_or (placed_at old x).fields k None) (sym same))
-          | inr apart ↦ get_or-set_other r.fields i j v None apart ∙ r.below j (omega arith)
-        ];
-        above = λ j high. get_or-set_other r.fields i j v None (λ same. omega arith)
-            ∙ r.above j (omega arith);
-        more = λ c was. ap (λ cs. set_of.contains cs c) cards
-            ∙ insert_more (is_younger h x v) h.cards (card_of x) c (r.more c was);
-        others = λ c apart. ap (λ cs. set_of.contains cs c) cards
-            ∙ insert_other (is_younger h x v) h.cards (card_of x) c apart ∙ r.others c apart;
-      }
-
-  rewriting_by : (v : Option Addr) (new : Heap) → i < length (fields_at (object_at old) x)
-      → get_or (fields_at (object_at h) x) i None ≡ v → HasRenamed v place h new x i
-      → AreFieldsRewritten old new place x (i + 1)
-  rewriting_by None new within read same =
-      subst (λ (k : Heap). AreFieldsRewritten old k place x (i + 1)) (sym same) (rewriting_null (sym read))
-  rewriting_by (Some y) new within read written = rewriting_written new y within (sym read) written
-
-  pub rewriting_step : (new : Heap) → i < length (fields_at (object_at old) x)
-      → HasRenamed (get_or (fields_at (object_at h) x) i None) place h new x i
-      → AreFieldsRewritten old new place x (i + 1)
-  rewriting_step new within done =
-      rewriting_by (get_or (fields_at (object_at h) x) i None) new within refl done
-
-  -- all are
-  pub rewriting_ends : length (fields_at (object_at old) x) ≤ i → IsRewritten old h place x
-  rewriting_ends past =
-      let many : length r.fields ≤ i = omega (arith, past, r.number, ap length (fields_placed old x is)) in
-      let all : r.fields ≡ map (option_map place) (placed_at old x).fields =
-      ext_get_or None r.fields (map (option_map place) (placed_at old x).fields) (r.number
-      ∙ sym (length-map (placed_at old x).fields (option_map place)))
-      (λ j low. r.below j (omega arith)
-      ∙ sym (get_or-map (option_map place) (placed_at old x).fields j None None
-      (omega (arith, low, r.number)))) in
-      record {
-        object = r.object ∙ ap
-            (λ fs. record (with_object old x (record (placed_at old x) { fields = fs })) { cards = h.cards })
-            all;
-        more = r.more;
-        others = r.others;
-      }
+-- a heap that has such an object in place of the one at an address, and is as before elsewhere
+pub rewritten_alone : (old h : Heap) (place : Addr → Addr) (x : Addr)
+    → h ≡ with_object old x (rewritten place (placed_at old x)) → IsRewritten old h place x
+rewritten_alone old h place x is =
+    let cards : h.cards ≡ old.cards = ap (λ (k : Heap). k.cards) is in
+    record {
+      object = is ∙ ap (λ cs. record (with_object old x (rewritten place (placed_at old x))) { cards = cs })
+          (sym cards);
+      more = λ c set. ap (λ (k : Heap). is_set k c) is ∙ set;
+      others = λ c apart. ap (λ (k : Heap). is_set k c) is;
+    }
 
 -- what an object has, read at its address
 generation_of : (g : ℕ) (o : Option Placed)

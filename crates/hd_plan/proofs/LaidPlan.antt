@@ -12,7 +12,9 @@ use Rattle.hd_heap.specs.Sound.{IsSound}
 use Rattle.hd_plan.specs.declared.moves.Move.{Move}
 use Rattle.hd_plan.specs.declared.moves.Condemned.{Condemned}
 use Rattle.hd_plan.specs.Layout.{move_at, room_at, is_kept_fate, is_staying, stays_among, AreMoves, AreRegions}
-use Rattle.hd_plan.specs.LaySteps.{AreChosen, AreListedTo, HasMove, HasRegionRoom, HasCondemned, IsPlan, first_at, place_among}
+use Rattle.hd_heap.specs.declared.survey.CondemnedObject.{CondemnedObject}
+use Rattle.hd_heap.specs.Calls.{HasCondemned}
+use Rattle.hd_plan.specs.LaySteps.{AreChosen, AreListedTo, HasMove, HasRegionRoom, IsPlan, first_at, place_among}
 use Rattle.hd_plan.specs.Plan.{PlanOf, kept_in, place_in, stays_in, IsLaid, HasNoEmptyCondemned}
 use Rattle.hd_plan.proofs.CondemnedAddresses.{condemned_is, older_or_young, same_tests, not_true, generation_is}
 use Rattle.hd_plan.proofs.KeptMoves.{is_condemned_at, kept, place, older_kept, older_place, move_kept, move_place, kept_cases, keeping, unmoved, fate_rests}
@@ -155,23 +157,22 @@ laid_plan p sound generation moves promoted pinned chosen settled closed full li
 
 -- regions with condemned objects are those that have moves
 pub region_room : (h : Heap) (n room cells : ℕ) → IsSound h → (ms : List Move) → AreMoves h n ms
-    → HasRegionRoom (HasCondemned (object_at h) n) room cells → HasRegionRoom (HasMove ms) room cells
+    → HasRegionRoom (HasCondemned h n) room cells → HasRegionRoom (HasMove ms) room cells
 region_room h n room cells sound ms moves is = record {
   count = is.count;
-  count_is = counts_like (HasCondemned (object_at h) n) (HasMove ms) is.count
-      (λ r p. let (k, at) = moves.all p.0 (condemned_is h n p.0 p.1.0) in
-      (k, (at.0, ap region_of at.1 ∙ p.1.1)))
-      (λ r p. ((move_at ms p.0).from, (is_condemned_at h n sound ms moves p.0 p.1.0, p.1.1))) is.count_is;
+  count_is = counts_like (HasCondemned h n) (HasMove ms) is.count
+      (λ r p. let (k, at) = moves.all p.0 p.1.0 in (k, (at.0, ap region_of at.1 ∙ p.1.1)))
+      (λ r p. ((move_at ms p.0).from, (moves.condemned p.0 p.1.0, p.1.1))) is.count_is;
   small = is.small;
   enough = is.enough;
   table = is.table;
 }
 
 -- the new address of a kept object is found in the table
-pub place_found : (p : PlanOf) (room_ms room_cs : ℕ) (firsts : List ℕ) (cells : List Addr) → IsLaid p
-    → IsPlan p.basis p.moves p.regions room_ms room_cs firsts cells
+pub place_found : (p : PlanOf) (objects : List CondemnedObject) (room_ms room_cs : ℕ) (firsts : List ℕ)
+    (cells : List Addr) → IsLaid p → IsPlan p.basis objects p.moves p.regions room_ms room_cs firsts cells
     → (a : Addr) → kept_in p a ≡ true → place_among firsts cells a ≡ place_in p a
-place_found p room_ms room_cs firsts cells laid is a kept_is =
+place_found p objects room_ms room_cs firsts cells laid is a kept_is =
     let h : Heap = p.basis.heap in
     let n : ℕ = p.basis.condemned in
     elim (kept_cases h n laid.sound p.moves laid.moves a kept_is) [

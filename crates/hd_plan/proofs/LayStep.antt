@@ -11,13 +11,13 @@ use Rattle.hd_heap.specs.Calls.{is_condemned, is_after, IsNext}
 use Rattle.hd_heap.specs.Sound.{IsSound}
 use Rattle.hd_plan.specs.declared.moves.Move.{Move}
 use Rattle.hd_plan.specs.declared.cursors.AllocCursors.{AllocCursors}
-use Rattle.hd_plan.specs.Layout.{Room, room_at, room_of, put_move, put_cursors, Fits, FitsMove, IsRising, move_at, is_kept_fate, is_moving, is_staying}
+use Rattle.hd_plan.specs.Layout.{Room, room_at, room_of, put_move, put_cursors, AreMoves, Fits, FitsMove, IsRising, move_at, is_kept_fate, is_moving, is_staying}
 use Rattle.hd_plan.specs.Plan.{HasFreeRegions}
-use Rattle.hd_plan.specs.LaySteps.{IsRoom, AreChosen, IsMoveOf, CanPut, HasMoveRoom}
+use Rattle.hd_plan.specs.LaySteps.{IsRoom, AreChosen, IsMoveOf, CanPut}
 use Rattle.hd_plan.proofs.CondemnedAddresses.{condemned_of}
 use Rattle.hd_plan.proofs.KeptMoves.{raised_some, cells_some}
 use Rattle.hd_plan.proofs.RoomSteps.{region_low, region_high, goes, can_put, room_start}
-use Rattle.hd_plan.proofs.MoveWeights.{cells_laid, moves_fit, cells_fit}
+use Rattle.hd_plan.proofs.MoveWeights.{cells_laid, cells_fit}
 use Rattle.hd_heap.proofs.HeapValues.{same_address}
 
 -- what is read among moves with one more
@@ -156,7 +156,17 @@ module _ (h : Heap) (n : ℕ) where
         (to.fits k low))
         (subst (λ (q : Room). FitsMove h q m) (sym (push_room h ms m (length ms) (omega arith))) fits);
   }
+
   -- where none is left, all that is condemned has a move
+  pub to_end : (ms : List Move) (after : Option Addr) → AreMovesTo h n ms after
+      → ((a : Addr) → is_condemned h n a ≡ true → is_after after a ≡ false) → AreMoves h n ms
+  to_end ms after to none = record {
+    condemned = to.condemned;
+    rising = to.rising;
+    all = λ a is. to.all a is (none a is);
+    generations = to.generations;
+    fits = to.fits;
+  }
 
 -- the choices
 pub chosen_start : (promoted pinned : Addr → Bool) → AreChosen promoted pinned []
@@ -264,11 +274,3 @@ module _ (h : Heap) (n : ℕ) (sound : IsSound h) (promoted pinned : Addr → Bo
       subst (λ (x : Addr). IsNext (is_condemned h n) after x → IsMoveOf h n (promoted x) (pinned x) old new m
       → IsLaying h n promoted pinned (ms ++ m ∷ []) new (Some x)) from
       (laying_from ms old new after m laying spare) next is
-
-  -- there is room for one move more
-  pub one_more : (ms : List Move) (cursors : AllocCursors) (after : Option Addr) (room : ℕ)
-      → IsLaying h n promoted pinned ms cursors after → HasMoveRoom (object_at h) n room → length ms ≤ room
-  one_more ms cursors after room laying is =
-      let fit : length ms ≤ is.count =
-      moves_fit ms laying.to.rising h n (laid_condemned ms after laying.to) is.count is.count_is in
-      let e = is.enough in omega arith

@@ -22,3 +22,4 @@ pub mod FreeRegionCount
 pub mod LaidPlan
 pub mod RegionsInUse
 pub mod CommitWalks
+pub mod CommitClears

@@ -9,7 +9,7 @@ use Rattle.hd_model.specs.Counting.{Counts}
 use Rattle.hd_model.specs.Scene.{IsCondemned}
 use Rattle.hd_model.specs.Heap.{Heap, object_at, placed_at, cells_of}
 use Rattle.hd_model.proofs.Members.{mapped_from, passing_from, passing_in, pairs_passing}
-use Rattle.hd_model.proofs.PropertyCounts.{counts_le, counts_named}
+use Rattle.hd_model.proofs.PropertyCounts.{counts_named}
 use Rattle.hd_model.proofs.MemberWeights.{lighter}
 use Rattle.hd_plan.specs.declared.moves.Move.{Move}
 use Rattle.hd_plan.specs.Layout.{move_at, is_staying, stays_among, IsRising}
@@ -19,7 +19,7 @@ use Rattle.hd_plan.specs.Plan.{Takes}
 abbrev pub cells_laid : Heap → List Move → ℕ
 cells_laid h ms = sum_by (λ m. cells_of (placed_at h m.from)) ms
 
-sum_map : {A B : Type 0} (f : A → B) (w : B → ℕ) (xs : List A)
+pub sum_map : {A B : Type 0} (f : A → B) (w : B → ℕ) (xs : List A)
     → sum_by w (map f xs) ≡ sum_by (λ x. w (f x)) xs
 sum_map f w [] = refl
 sum_map f w (x ∷ xs) = sum_by-cons w (f x) (map f xs) ∙ ap (λ s. w (f x) + s) (sum_map f w xs)
@@ -99,21 +99,7 @@ module _ (ms : List Move) (rising : IsRising ms) where
         (sym (get_or-map (λ (m : Move). m.from) ms i _ d (omega arith)) ∙ same
         ∙ get_or-map (λ (m : Move). m.from) ms j _ d (omega arith)) in omega arith
 
-    -- moves of what is condemned are at most as many as that
-    pub moves_fit : (c : ℕ) → Counts (IsCondemned (object_at h) n) c → length ms ≤ c
-    moves_fit c counts =
-        let own : Counts (λ a. Contains froms a) (length ms) =
-        record {
-          members = froms;
-          apart = froms_once;
-          each = λ x k. k;
-          all = λ x k. k;
-          number =
-              length-map ms (λ (m : Move). m.from);
-        } in
-        counts_le (λ a. Contains froms a) (IsCondemned (object_at h) n) (length ms) c froms_in own counts
-
-    -- and take at most as many words
+    -- moves of what is condemned take at most as many words as that
     pub cells_fit : (cells : ℕ) → Takes h (IsCondemned (object_at h) n) cells → cells_laid h ms ≤ cells
     cells_fit cells takes =
         omega (

@@ -1,19 +1,19 @@
 -- No public clause needs what is defined here: these are words of private functions, for what each step of
 -- the moving leaves of a heap.
-use Rattle.std.specs.Prelude.{◌≡◌, ◌≢◌, ℕ, ◌+◌, ◌*◌, ◌<◌, ◌≤◌, ◌⊎◌, ◌↔◌, ◌&&◌, Bool, true, false, not, List, length, Option, Some, None, option_map, map as list_map, drop, slice_index, nat_eq}
+use Rattle.std.specs.Prelude.{◌≡◌, ◌≢◌, ℕ, ◌+◌, ◌*◌, ◌<◌, ◌≤◌, ◌⊎◌, ◌↔◌, ◌&&◌, Bool, true, false, not, ◌-◌, List, length, Some, None, option_map, map as list_map, drop, slice_index, nat_eq}
 use Rattle.std.specs.FinMap as map
 use Rattle.hd_model.specs.declared.data.Addr.{Addr}
 use Rattle.hd_model.specs.declared.limits.TheConstants.{OLDEST, REGION}
-use Rattle.hd_model.specs.Scene.{IsField, generation_at}
+use Rattle.hd_model.specs.Scene.{generation_at}
 use Rattle.hd_model.specs.Heap.{Placed, Heap, region_of, card_of, region_at, is_in_use, has_object, object_at, placed_at, cells_of, is_set, is_carded}
-use Rattle.hd_heap.specs.Calls.{with_object, with_fresh, with_copy, with_card, stored}
+use Rattle.hd_heap.specs.Calls.{NamesBelow, with_object, with_fresh, with_copy, with_card}
 use Rattle.hd_heap.specs.Sound.{IsSound}
 use Rattle.hd_plan.specs.declared.moves.Fate.{Fate}
 use Rattle.hd_plan.specs.declared.moves.Fate.TheVariants.{Dead, Pinned, MovesToNewRegion, Moves}
 use Rattle.hd_plan.specs.declared.moves.Move.{Move}
 use Rattle.hd_plan.specs.declared.moves.Condemned.{Condemned}
 use Rattle.hd_plan.specs.Layout.{move_at, condemned_at, is_kept_fate, is_moving, is_staying, room_at, FitsMove}
-use Rattle.hd_plan.specs.LaySteps.{ArePut}
+use Rattle.hd_plan.specs.LaySteps.{ArePut, first_at}
 use Rattle.hd_plan.specs.Commit.{NeedsCard}
 
 -- one of the first i moves has such a fate, and has this end
@@ -102,20 +102,21 @@ pub record AreRewritten (Those : Addr → Type 0) (place : Addr → Addr) (old h
   pub same : h ≡ record old { objects = h.objects; cards = h.cards }
   pub more : MoreCards old h
 
--- field i of an object is rewritten: a null one stays null
-abbrev pub HasRenamed : Option Addr → (place : Addr → Addr) → Heap → Heap → Addr → ℕ → Type 0
-HasRenamed None place old h x i = h ≡ old
-HasRenamed (Some y) place old h x i = h ≡ stored old x i (Some (place y))
+-- whether a listed region stays, by the number that is stored for it
+abbrev pub is_pinned : List Condemned → List ℕ → ℕ → Bool
+is_pinned cs firsts r = (condemned_at cs (first_at firsts r - 1)).pinned
 
--- the first i objects that do not stay are gone from their old addresses; cards of objects are as before
-pub record AreRemoved (old h : Heap) (ms : List Move) (i : ℕ) : Type 0 where
-  pub gone : (a : Addr) → IsLeft ms i a → map.get h.objects a.0 ≡ None
-  pub others : (a : Addr) → (IsLeft ms i a → ⊥) → map.get h.objects a.0 ≡ map.get old.objects a.0
+-- the first i objects that do not stay are gone from their old addresses where their region is `here`; cards
+-- of objects are as before
+pub record AreRemovedIn (here : ℕ → Bool) (old h : Heap) (ms : List Move) (i : ℕ) : Type 0 where
+  pub gone : (a : Addr) → IsLeft ms i a → here (region_of a) ≡ true → map.get h.objects a.0 ≡ None
+  pub others : (a : Addr) → (IsLeft ms i a → here (region_of a) ≡ false)
+      → map.get h.objects a.0 ≡ map.get old.objects a.0
   pub same : h ≡ record old { objects = h.objects; cards = h.cards }
   pub cards : (a : Addr) → has_object h a ≡ true → is_carded h a ≡ is_carded old a
 
--- the first i condemned regions have their new generation, or are freed
-pub record AreSettled (old h : Heap) (cs : List Condemned) (i : ℕ) : Type 0 where
+-- the first i condemned regions have their new generation, or are given up with their objects
+pub record AreGivenUp (old h : Heap) (cs : List Condemned) (i : ℕ) : Type 0 where
   pub raised : (k : ℕ) → k < i → (condemned_at cs k).pinned ≡ true
       → map.get h.regions (condemned_at cs k).region
       ≡ Some (record {
@@ -126,19 +127,30 @@ pub record AreSettled (old h : Heap) (cs : List Condemned) (i : ℕ) : Type 0 wh
       → map.get h.regions (condemned_at cs k).region ≡ None
   pub others : (r : ℕ) → ((k : ℕ) → k < i → (condemned_at cs k).region ≢ r)
       → map.get h.regions r ≡ map.get old.regions r
-  pub same : h ≡ record old { regions = h.regions; spare = h.spare }
+  pub gone : (k : ℕ) → k < i → (condemned_at cs k).pinned ≡ false → (a : Addr)
+      → region_of a ≡ (condemned_at cs k).region → map.get h.objects a.0 ≡ None
+  pub left : (a : Addr) → ((k : ℕ) → k < i → (condemned_at cs k).pinned ≡ false
+      → (condemned_at cs k).region ≢ region_of a) → map.get h.objects a.0 ≡ map.get old.objects a.0
+  pub cards : (a : Addr) → has_object h a ≡ true
+      → (has_object old a ≡ true) × (is_carded h a ≡ is_carded old a)
+  pub same : h ≡ record old { objects = h.objects; regions = h.regions; spare = h.spare; cards = h.cards }
 
--- the cards of the first i kept objects are set, at their new addresses
+-- an object has a field to a younger one
+abbrev pub NamesYounger : Heap → Addr → Type 0
+NamesYounger h a = NamesBelow h a (generation_at (object_at h) a)
+
+-- the card of one object is set, or it is not kept or references no younger one
+abbrev pub MayCard : Heap → Heap → Move → Type 0
+MayCard old h m =
+    (h ≡ with_card old (card_of m.to) true)
+    ⊎ ((h ≡ old) × (is_kept_fate m.fate ≡ true → NamesYounger old m.to → ⊥))
+
+-- the cards of those of the first i kept objects are set, at their new addresses, that reference a younger
+-- one
 pub record AreCarded (old h : Heap) (ms : List Move) (i : ℕ) : Type 0 where
   pub same : h ≡ record old { cards = h.cards }
   pub more : MoreCards old h
-  pub done : (b : Addr) → IsKeptAt ms i b → is_carded h b ≡ true
-
--- an object has a field to one of a younger generation
-pub record NamesYounger (h : Heap) (a : Addr) : Type 0 where
-  pub target : Addr
-  pub field : IsField (object_at h) a target
-  pub younger : generation_at (object_at h) target < generation_at (object_at h) a
+  pub done : (b : Addr) → IsKeptAt ms i b → NamesYounger old b → is_carded h b ≡ true
 
 -- one card is set where an object needs it, and clear otherwise
 pub record IsExactAt (old h : Heap) (card : ℕ) : Type 0 where

@@ -4,17 +4,19 @@ use Rattle.std.specs.Prelude.{◌≡◌, ◌≢◌, ℕ, ◌+◌, ◌*◌, ◌<�
 use Rattle.std.specs.FinMap.{FinMap, get}
 use Rattle.std.specs.Ordering.{nat_cmp}
 use Rattle.hd_model.specs.declared.data.Addr.{Addr}
-use Rattle.hd_model.specs.declared.limits.TheConstants.{REGION, LEFT, FIELDS, REGIONS}
-use Rattle.hd_model.specs.Heap.{Heap, Region, region_of, is_in_use, placed_at, cells_of, Basis, objects_of, object_at}
+use Rattle.hd_model.specs.declared.limits.TheConstants.{REGION, LEFT, REGIONS}
+use Rattle.hd_model.specs.Heap.{Heap, Region, region_of, is_in_use, placed_at, cells_of, Basis, object_at}
 use Rattle.hd_plan.specs.declared.moves.Move.{Move}
 use Rattle.hd_plan.specs.declared.cursors.AllocCursor.{AllocCursor}
 use Rattle.hd_plan.specs.declared.cursors.AllocCursors.{AllocCursors}
 use Rattle.hd_plan.specs.Layout.{Room, has_region, region_in, move_at, is_moving, room_at, put_cursors, condemned_at, is_kept_fate, is_staying, Fits, HasStay}
 use Rattle.hd_model.specs.Ages.{raised}
 use Rattle.hd_model.specs.Counting.{Counts}
-use Rattle.hd_model.specs.Scene.{Objects, generation_at, IsCondemned}
+use Rattle.hd_model.specs.Scene.{generation_at, IsCondemned}
 use Rattle.hd_plan.specs.declared.moves.Condemned.{Condemned}
-use Rattle.hd_plan.specs.declared.survey.Survey.{Survey}
+use Rattle.hd_heap.specs.declared.survey.Survey.{Survey}
+use Rattle.hd_heap.specs.declared.survey.CondemnedObject.{CondemnedObject}
+use Rattle.hd_heap.specs.Calls.{HasCondemned, AreSurveyed, surveyed}
 use Rattle.hd_plan.specs.Plan.{Takes}
 
 -- ---- where objects are put
@@ -76,33 +78,11 @@ pub record ArePut (h : Heap) (ms : List Move) (i : ℕ) : Type 0 where
 
 -- ---- what a plan has and how it is made
 
--- a condemned object is in this region
-abbrev pub HasCondemned : Objects Addr → ℕ → ℕ → Type 0
-HasCondemned o n r = (a : Addr) × (IsCondemned o n a × (region_of a ≡ r))
-
--- what a walk over all condemned objects found: their number, their words, the number of their regions and
--- the last of these
-pub record IsSurvey (h : Heap) (n : ℕ) (s : Survey) : Type 0 where
-  pub objects : Counts (IsCondemned (object_at h) n) s.objects
+-- the condemned objects, their words, and the number of their regions
+pub record IsExtent (h : Heap) (n : ℕ) (s : Survey) : Type 0 where
+  pub objects : AreSurveyed h n s.objects.items
   pub cells : Takes h (IsCondemned (object_at h) n) s.cells
-  pub regions : Counts (HasCondemned (object_at h) n) s.regions
-  pub last : (a : Addr) → IsCondemned (object_at h) n a → region_of a ≤ s.last
-  pub small : s.cells ≤ (FIELDS + 3) * s.objects
-
--- what was found with one object more, of `cells` words, in the last region or in a later one
-abbrev pub counted_also : Survey → ℕ → ℕ → Survey
-counted_also s cells region = record {
-  objects = s.objects + 1;
-  cells = s.cells + cells;
-  regions = s.regions + cond (nat_eq region s.last) 0 1;
-  last = region;
-}
-
--- there is room for one move for each condemned object
-pub record HasMoveRoom (o : Objects Addr) (n room : ℕ) : Type 0 where
-  pub count : ℕ
-  pub count_is : Counts (IsCondemned o n) count
-  pub enough : count ≤ room
+  pub regions : Counts (HasCondemned h n) s.regions
 
 -- a move is of an object in this region
 abbrev pub HasMove : List Move → ℕ → Type 0
@@ -135,12 +115,14 @@ pub record HasPlaces (ms : List Move) (cs : List Condemned) (i : ℕ) (firsts : 
   pub places : (j k : ℕ) → j < i → k < length cs → (condemned_at cs k).region ≡ region_of (move_at ms j).from
       → cell_at cells (REGION * k + (move_at ms j).from.0 % REGION) ≡ (move_at ms j).to
 
--- what a plan's parts keep: room for all that is condemned, and the table of new addresses
-pub record IsPlan (b : Basis) (ms : List Move) (cs : List Condemned) (room_ms room_cs : ℕ) (firsts : List ℕ)
-    (cells : List Addr) : Type 0 where
-  pub moves : HasMoveRoom (objects_of b) b.condemned room_ms
-  pub regions : HasRegionRoom (HasCondemned (objects_of b) b.condemned) room_cs (length cells)
-  pub span : (a : Addr) → IsCondemned (objects_of b) b.condemned a → region_of a < length firsts
+-- what a plan's parts keep: the survey of its heap, room for all that is condemned, and the table of new
+-- addresses
+pub record IsPlan (b : Basis) (objects : List CondemnedObject) (ms : List Move) (cs : List Condemned)
+    (room_ms room_cs : ℕ) (firsts : List ℕ) (cells : List Addr) : Type 0 where
+  pub survey : AreSurveyed b.heap b.condemned objects
+  pub moves : length objects ≤ room_ms
+  pub regions : HasRegionRoom (HasCondemned b.heap b.condemned) room_cs (length cells)
+  pub span : (k : ℕ) → k < length objects → region_of (surveyed objects k).at < length firsts
   pub places : HasPlaces ms cs (length ms) firsts cells
 
 -- what is promoted is kept, and stays where it is pinned

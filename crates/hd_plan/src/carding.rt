@@ -8,7 +8,7 @@ ghost use Rattle.hd_heap.specs.Calls.{IsWalk, with_card};
 ghost use Rattle.hd_heap.specs.Sound.{IsSound};
 ghost use Rattle.hd_plan.specs.Layout.{is_kept_fate};
 ghost use Rattle.hd_plan.specs.Commit.{NeedsCard};
-ghost use Rattle.hd_plan.specs.CommitSteps.{AreCarded, IsKeptAt};
+ghost use Rattle.hd_plan.specs.CommitSteps.{AreCarded, IsKeptAt, MayCard};
 ghost use Rattle.hd_plan.specs.CommitSteps.{NamesYounger, IsExactAt, starts_in};
 
 use crate::moves::Move;
@@ -16,25 +16,29 @@ use hd_heap::Heap;
 use hd_model::Addr;
 use hd_model::limits::CARD;
 
-/// Sets the card of each kept object of these moves, at its new address.
+/// Sets the card of each kept object of these moves that references a younger one, at its new
+/// address.
 pub(crate) fn card_kept(heap: &mut Heap, moves: &[Move])
-    requires { (a : Addr) → IsKeptAt moves.now (length moves.now) a → has_object heap.old a ≡ true }
+    requires objects { (a : Addr) → IsKeptAt moves.now (length moves.now) a
+        → has_object heap.old a ≡ true }
+    requires fields { HasClosedFields (object_at heap.old) }
     ensures { AreCarded heap.old heap.new moves.now (length moves.now) }
 {
     for object in moves {
-        card_if_kept(heap, *object);
+        card_if_needed(heap, *object);
     }
 }
 
-// Sets the card of one object if it is kept.
-fn card_if_kept(heap: &mut Heap, object: Move)
-    requires { is_kept_fate object.fate ≡ true → has_object heap.old object.to ≡ true }
-    ensures gone { is_kept_fate object.fate ≡ false → heap.new ≡ heap.old }
-    ensures kept { is_kept_fate object.fate ≡ true
-        → heap.new ≡ with_card heap.old (card_of object.to) true }
+// Sets the card of one object if it is kept and references a younger one.
+fn card_if_needed(heap: &mut Heap, object: Move)
+    requires object { is_kept_fate object.fate ≡ true → has_object heap.old object.to ≡ true }
+    requires fields { HasClosedFields (object_at heap.old) }
+    ensures { MayCard heap.old heap.new object }
 {
     if object.fate.is_kept() {
-        heap.set_card(object.to, true);
+        if names_younger(heap, object.to) {
+            heap.set_card(object.to, true);
+        }
     }
 }
 
@@ -110,13 +114,5 @@ pub(crate) fn names_younger(heap: &Heap, at: Addr) -> bool
     requires fields { HasClosedFields (object_at heap.now) }
     ensures { (result ≡ true) ↔ NamesYounger heap.now at }
 {
-    let generation = heap.generation(at);
-    for i in 0..heap.fields(at) {
-        if let Some(target) = heap.load(at, i) {
-            if heap.generation(target) < generation {
-                return true;
-            }
-        }
-    }
-    false
+    heap.names_below(at, heap.generation(at))
 }

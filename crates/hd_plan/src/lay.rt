@@ -1,12 +1,12 @@
-ghost use Rattle.std.specs.Prelude.{◌≡◌, ◌&&◌, ◌^◌, ◌<◌, ◌≤◌, [], true, vec_capacity};
+ghost use Rattle.std.specs.Prelude.{◌≡◌, ◌&&◌, ◌^◌, ◌<◌, ◌≤◌, [], true, length, vec_capacity};
 ghost use Rattle.hd_model.specs.Counting.{Counts};
 ghost use Rattle.hd_model.specs.Leads.{IsClosed};
 ghost use Rattle.hd_model.specs.Scene.{IsField, IsCondemned};
-ghost use Rattle.hd_model.specs.Heap.{objects_of, object_at};
-ghost use Rattle.hd_heap.specs.Calls.{is_condemned};
+ghost use Rattle.hd_model.specs.Heap.{objects_of, placed_at};
+ghost use Rattle.hd_heap.specs.Calls.{is_condemned, AreSurveyed};
 ghost use Rattle.hd_heap.specs.Sound.{IsSound};
 ghost use Rattle.hd_plan.specs.Layout.{AreMoves};
-ghost use Rattle.hd_plan.specs.LaySteps.{HasMoveRoom, AreChosen, CanPut, IsMoveOf};
+ghost use Rattle.hd_plan.specs.LaySteps.{AreChosen, CanPut, IsMoveOf};
 ghost use Rattle.hd_plan.specs.Plan.{IsTakenPlan, IsLaid, HasFreeRegions, HasNoEmptyCondemned};
 ghost use Rattle.hd_plan.specs.Plan.{kept_in, place_in, stays_in};
 
@@ -14,7 +14,7 @@ use crate::cursors::AllocCursors;
 use crate::list::list_moves;
 use crate::moves::{Fate, Move};
 use crate::plan::Plan;
-use hd_heap::Heap;
+use hd_heap::{CondemnedObject, Heap};
 use hd_model::limits::{HEADER, OLDEST};
 use hd_model::{Addr, Marker};
 
@@ -39,44 +39,60 @@ impl Plan {
             × (M.promoted marker.now a ≡ true) × (M.pinned marker.now a ≡ true))
             (stays_in self.new) }
     {
-        lay_moves(heap, marker, self.condemned, &mut self.moves);
+        let objects: &[CondemnedObject] = &self.objects;
+        lay_moves(heap, marker, self.condemned, objects, &mut self.moves);
         list_moves(&self.moves, &mut self.regions, &mut self.places);
     }
 }
 
 // Lists the condemned objects with their new addresses.
-fn lay_moves<M: Marker>(heap: &Heap, marker: &M, n: u8, moves: &mut Vec<Move>)
+fn lay_moves<M: Marker>(
+    heap: &Heap,
+    marker: &M,
+    n: u8,
+    objects: &[CondemnedObject],
+    moves: &mut Vec<Move>,
+)
     requires generation { n ≤ OLDEST }
     requires marker { M.basis marker.now ≡ record { heap = heap.now; condemned = n } }
     requires settled { M.settled marker.now }
+    requires survey { AreSurveyed heap.now n objects.now }
     requires none { moves.old.items ≡ [] }
-    requires room { HasMoveRoom (object_at heap.now) n (vec_capacity moves.old) }
+    requires room { length objects.now ≤ vec_capacity moves.old }
     requires spare { HasFreeRegions heap.now n }
     ensures laid { AreMoves heap.now n moves.new.items }
     ensures chosen { AreChosen (M.promoted marker.now) (M.pinned marker.now) moves.new.items }
     ensures sound { IsSound heap.now }
     ensures capacity { vec_capacity moves.new ≡ vec_capacity moves.old }
 {
+    // The result is not used: the call states to the proof what every heap keeps.
+    let _regions = heap.regions();
     let mut cursors = AllocCursors::new();
-    let mut after = None;
-    'walk: while let Some(at) = heap.next_condemned(after, n) {
-        let object = lay_one(heap, marker, n, at, &mut cursors);
-        moves.push_reserved(object);
-        after = Some(at);
+    for object in objects {
+        let laid = lay_one(heap, marker, n, *object, &mut cursors);
+        moves.push_reserved(laid);
     }
 }
 
 // Gives one condemned object its new address.
-fn lay_one<M: Marker>(heap: &Heap, marker: &M, n: u8, at: Addr, cursors: &mut AllocCursors) -> Move
+fn lay_one<M: Marker>(
+    heap: &Heap,
+    marker: &M,
+    n: u8,
+    object: CondemnedObject,
+    cursors: &mut AllocCursors,
+) -> Move
     requires marker { M.basis marker.now ≡ record { heap = heap.now; condemned = n } }
     requires settled { M.settled marker.now }
     requires sound { IsSound heap.now }
-    requires condemned { is_condemned heap.now n at ≡ true }
+    requires condemned { is_condemned heap.now n object.at ≡ true }
+    requires fields { object.fields ≡ length (placed_at heap.now object.at).fields }
     requires can_put { CanPut heap.now cursors.old }
-    ensures from { result.from ≡ at }
-    ensures laid { IsMoveOf heap.now n (M.promoted marker.now at) (M.pinned marker.now at)
-        cursors.old cursors.new result }
+    ensures from { result.from ≡ object.at }
+    ensures laid { IsMoveOf heap.now n (M.promoted marker.now object.at)
+        (M.pinned marker.now object.at) cursors.old cursors.new result }
 {
+    let at = object.at;
     let generation = (heap.generation(at) + 1).min(OLDEST);
     let from = at;
     if !marker.promoted(at) {
@@ -95,7 +111,7 @@ fn lay_one<M: Marker>(heap: &Heap, marker: &M, n: u8, at: Addr, cursors: &mut Al
             fate: Fate::Pinned,
         };
     }
-    let (fate, to) = cursors.put(heap, generation, heap.fields(at) + HEADER);
+    let (fate, to) = cursors.put(heap, generation, u32::from(object.fields) + HEADER);
     Move {
         from,
         to,

@@ -33,14 +33,14 @@ fn spot(place: u32, at: Addr) -> usize
 }
 
 impl Places {
-    /// Room for this number of regions, with indexes up to `last`. None is listed. It takes memory,
-    /// and time to fill it, for a number for each region up to `last` and for an address for each
+    /// Room for this number of regions, with indexes below `end`. None is listed. It takes memory,
+    /// and time to fill it, for a number for each region below `end` and for an address for each
     /// word of those that may be listed.
-    pub(crate) fn open(alloc: Global, regions: u32, last: u32) -> Result<Places, Memory>
-        ensures firsts { IfOk result (λ p. p.firsts.items ≡ replicate (last + 1) 0) }
+    pub(crate) fn open(alloc: Global, regions: u32, end: u32) -> Result<Places, Memory>
+        ensures firsts { IfOk result (λ p. p.firsts.items ≡ replicate end 0) }
         ensures cells { IfOk result (λ p. length p.cells.items ≡ REGION * regions) }
     {
-        let Ok(firsts) = vec![in alloc; 0; last as usize + 1] else {
+        let Ok(firsts) = vec![in alloc; 0; end as usize] else {
             return Err(Memory);
         };
         match vec![in alloc; Addr(0); REGION as usize * regions as usize] {

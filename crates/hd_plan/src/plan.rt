@@ -2,15 +2,17 @@ ghost use Rattle.std.specs.Prelude.{◌≡◌, ◌^◌, ◌<◌, ◌≤◌, true
 ghost use Rattle.hd_model.specs.Counting.{Counts};
 ghost use Rattle.hd_model.specs.Scene.{is_object, IsCondemned};
 ghost use Rattle.hd_model.specs.Heap.{objects_of};
-ghost use Rattle.hd_plan.specs.LaySteps.{IsSurvey};
+ghost use Rattle.hd_plan.specs.LaySteps.{IsExtent};
+ghost use Rattle.hd_heap.specs.Calls.{AreSurveyed};
 ghost use Rattle.hd_plan.specs.Layout.{is_kept_fate};
 ghost use Rattle.hd_plan.specs.Plan.{IsTakenPlan, IsLaid, kept_in, place_in, HasFreeRegions};
 ghost use Rattle.hd_plan.specs.Plan.{SparesNeeded, SparesAtMost};
 
 use crate::moves::{Condemned, Move};
 use crate::places::Places;
-use crate::survey::{Survey, count_condemned};
-use hd_heap::Heap;
+use crate::survey::survey;
+use hd_heap::{CondemnedObject, Heap, Survey};
+use hd_mark::end_of;
 use hd_model::limits::{LEFT, OLDEST, OPEN};
 use hd_model::{Addr, Forward, Memory};
 use std::alloc::Global;
@@ -23,6 +25,8 @@ pub struct Plan {
     // The heap for which the plan is, for clauses alone.
     pub(crate) heap: Snapshot<Heap>,
     pub(crate) condemned: u8,
+    // The condemned objects as a survey found them.
+    pub(crate) objects: Vec<CondemnedObject>,
     pub(crate) moves: Vec<Move>,
     pub(crate) regions: Vec<Condemned>,
     pub(crate) places: Places,
@@ -45,8 +49,8 @@ impl Model for Plan {
     } };
 
     ghost invariant = { λ p. IsPlan (record { heap = p.heap.value; condemned = p.condemned })
-        p.moves.items p.regions.items (vec_capacity p.moves) (vec_capacity p.regions)
-        p.places.firsts.items p.places.cells.items };
+        p.objects.items p.moves.items p.regions.items (vec_capacity p.moves)
+        (vec_capacity p.regions) p.places.firsts.items p.places.cells.items };
 }
 
 impl Plan {
@@ -64,14 +68,14 @@ impl Plan {
           condemned = n;
         }) }
     {
-        let found = count_condemned(heap, n);
-        heap.reserve_regions((found.cells / LEFT as u64) as u32 + OPEN)?;
-        Plan::with_room(alloc, heap, n, &found)
+        let found = survey(heap, n)?;
+        heap.reserve_regions(found.cells / LEFT + OPEN)?;
+        Plan::with_room(alloc, heap, n, found)
     }
 
     /// An empty plan with room for what the survey found.
-    fn with_room(alloc: Global, heap: &Heap, n: u8, found: &Survey) -> Result<Plan, Memory>
-        requires found { IsSurvey heap.now n found.now }
+    fn with_room(alloc: Global, heap: &Heap, n: u8, found: Survey) -> Result<Plan, Memory>
+        requires found { IsExtent heap.now n found }
         requires generation { n ≤ OLDEST }
         requires spare { HasFreeRegions heap.now n }
         ensures taken { IfOk result (λ plan. IsTakenPlan plan) }
@@ -80,20 +84,29 @@ impl Plan {
           condemned = n;
         }) }
     {
-        let places = Places::open(alloc, found.regions, found.last)?;
-        let Ok(moves) = Vec::with_capacity(alloc, found.objects as usize) else {
+        let places = Places::open(alloc, found.regions, end_of(&found.objects))?;
+        let Ok(moves) = Vec::with_capacity(alloc, found.objects.len()) else {
             return Err(Memory);
         };
         match Vec::with_capacity(alloc, found.regions as usize) {
             Ok(regions) => Ok(Plan {
                 heap: Snapshot::of(heap),
                 condemned: n,
+                objects: found.objects,
                 moves,
                 regions,
                 places,
             }),
             Err(_) => Err(Memory),
         }
+    }
+
+    /// The condemned objects in rising address, as they were when the plan was taken.
+    pub fn objects(&self) -> &[CondemnedObject]
+        ensures { AreSurveyed self.now.basis.heap self.now.basis.condemned result.now }
+    {
+        let objects: &[CondemnedObject] = &self.objects;
+        objects
     }
 
     /// How many condemned objects are kept.

@@ -1,40 +1,67 @@
 // What is not kept is removed, and regions without objects are freed.
-ghost use Rattle.std.specs.Prelude.{◌≡◌, ◌≢◌, ◌<◌, ◌≤◌, ◌++◌, ◌∷◌, [], ℕ, true, false, length};
-ghost use Rattle.std.specs.FinMap.{remove};
+ghost use Rattle.std.specs.Prelude.{◌≡◌, ◌<◌, ◌≤◌, ℕ, true, false, length};
 ghost use Rattle.hd_model.specs.Heap.{has_object, is_in_use, region_of};
 ghost use Rattle.hd_plan.specs.Layout.{move_at, condemned_at, is_staying, IsRising};
-ghost use Rattle.hd_plan.specs.CommitSteps.{AreRemoved, AreSettled};
-ghost use Rattle.hd_heap.specs.Calls.{IsRemoved, with_generation};
+ghost use Rattle.hd_plan.specs.LaySteps.{first_at};
+ghost use Rattle.hd_plan.specs.CommitSteps.{AreRemovedIn, AreGivenUp, is_pinned};
+ghost use Rattle.hd_heap.specs.Calls.{IsRemoved, with_generation, without_region};
 
 use crate::moves::{Condemned, Move};
+use crate::places::{Places, region_number};
 use hd_heap::Heap;
 use hd_model::Addr;
 use hd_model::limits::OLDEST;
 
-/// Removes the objects of these moves from their old addresses, but for those that stay.
-pub(crate) fn remove_left(heap: &mut Heap, moves: &[Move])
+/// Removes the objects of these moves from their old addresses, but for those that stay, where
+/// their region stays. The other regions are given up whole.
+pub(crate) fn remove_left(heap: &mut Heap, moves: &[Move], regions: &[Condemned], places: &Places)
     requires objects { (k : ℕ) → k < length moves.now
         → has_object heap.old (move_at moves.now k).from ≡ true }
     requires rising { IsRising moves.now }
-    ensures { AreRemoved heap.old heap.new moves.now (length moves.now) }
+    requires low { (k : ℕ) → k < length moves.now
+        → 0 < first_at places.now.firsts.items (region_of (move_at moves.now k).from) }
+    requires high { (k : ℕ) → k < length moves.now
+        → first_at places.now.firsts.items (region_of (move_at moves.now k).from)
+        ≤ length regions.now }
+    ensures { AreRemovedIn (is_pinned regions.now places.now.firsts.items) heap.old heap.new
+        moves.now (length moves.now) }
 {
     for object in moves {
-        remove_if_left(heap, *object);
+        remove_if_left(heap, *object, regions, places);
     }
 }
 
-// Removes one object from its old address, unless it stays.
-fn remove_if_left(heap: &mut Heap, object: Move)
-    requires { has_object heap.old object.from ≡ true }
+// Removes one object from its old address, unless it stays or its region is given up.
+fn remove_if_left(heap: &mut Heap, object: Move, regions: &[Condemned], places: &Places)
+    requires object { has_object heap.old object.from ≡ true }
+    requires low { 0 < first_at places.now.firsts.items (region_of object.from) }
+    requires high { first_at places.now.firsts.items (region_of object.from) ≤ length regions.now }
     ensures stays { is_staying object.fate ≡ true → heap.new ≡ heap.old }
-    ensures left { is_staying object.fate ≡ false → IsRemoved heap.old heap.new object.from }
+    ensures whole { is_pinned regions.now places.now.firsts.items (region_of object.from) ≡ false
+        → heap.new ≡ heap.old }
+    ensures left { is_staying object.fate ≡ false
+        → is_pinned regions.now places.now.firsts.items (region_of object.from) ≡ true
+        → IsRemoved heap.old heap.new object.from }
 {
     if !object.fate.stays() {
-        heap.remove(object.from);
+        if is_pinned(regions, places, object.from) {
+            heap.remove(object.from);
+        }
     }
 }
 
-/// Gives a condemned region its new generation if an object in it stays, and frees it otherwise.
+// Whether a listed region stays, by an address in it.
+fn is_pinned(regions: &[Condemned], places: &Places, at: Addr) -> bool
+    requires low { 0 < first_at places.now.firsts.items (region_of at) }
+    requires high { first_at places.now.firsts.items (region_of at) ≤ length regions.now }
+    ensures { result ≡ is_pinned regions.now places.now.firsts.items (region_of at) }
+{
+    let first = places.firsts[region_number(at) as usize];
+    regions[first as usize - 1].pinned
+}
+
+/// Gives a condemned region its new generation if an object in it stays, and gives it up with its
+/// objects otherwise.
 pub(crate) fn settle_regions(heap: &mut Heap, regions: &[Condemned])
     requires held { (k : ℕ) → k < length regions.now
         → is_in_use heap.old (condemned_at regions.now k).region ≡ true }
@@ -42,32 +69,25 @@ pub(crate) fn settle_regions(heap: &mut Heap, regions: &[Condemned])
         → (condemned_at regions.now j).region < (condemned_at regions.now k).region }
     requires generations { (k : ℕ) → k < length regions.now
         → (condemned_at regions.now k).generation ≤ OLDEST }
-    requires empty { (k : ℕ) (a : Addr) → k < length regions.now
-        → (condemned_at regions.now k).pinned ≡ false → has_object heap.old a ≡ true
-        → region_of a ≢ (condemned_at regions.now k).region }
-    ensures { AreSettled heap.old heap.new regions.now (length regions.now) }
+    ensures { AreGivenUp heap.old heap.new regions.now (length regions.now) }
 {
     for condemned in regions {
         settle_region(heap, *condemned);
     }
 }
 
-// Raises the generation of one condemned region, or frees it.
+// Raises the generation of one condemned region, or gives it up.
 fn settle_region(heap: &mut Heap, condemned: Condemned)
     requires held { is_in_use heap.old condemned.region ≡ true }
     requires generation { condemned.generation ≤ OLDEST }
-    requires empty { condemned.pinned ≡ false → (a : Addr) → has_object heap.old a ≡ true
-        → region_of a ≢ condemned.region }
     ensures stays { condemned.pinned ≡ true
         → heap.new ≡ with_generation heap.old condemned.region condemned.generation }
-    ensures freed { condemned.pinned ≡ false → heap.new ≡ record heap.old {
-      regions = remove heap.old.regions condemned.region;
-      spare = heap.old.spare ++ condemned.region ∷ [];
-    } }
+    ensures given_up { condemned.pinned ≡ false
+        → heap.new ≡ without_region heap.old condemned.region }
 {
     if condemned.pinned {
         heap.set_generation(condemned.region, condemned.generation);
     } else {
-        heap.release(condemned.region);
+        heap.give_up(condemned.region);
     }
 }

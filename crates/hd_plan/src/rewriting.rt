@@ -1,12 +1,10 @@
 // The fields of kept objects come to hold the new addresses.
 ghost use Rattle.std.specs.Prelude.{◌≡◌, ◌≢◌, ◌+◌, ◌-◌, ◌*◌, ◌^◌, ◌≤◌, ◌<◌, ℕ, true, length};
-ghost use Rattle.std.specs.Prelude.{slice_index_or, None};
-ghost use Rattle.std.specs.Option.{ForSome};
-ghost use Rattle.hd_model.specs.Scene.{IsField, fields_at};
+ghost use Rattle.hd_model.specs.Scene.{IsField};
 ghost use Rattle.hd_model.specs.Heap.{has_object, object_at};
 ghost use Rattle.hd_heap.specs.Calls.{is_old_carded};
 ghost use Rattle.hd_plan.specs.Layout.{move_at, is_kept_fate};
-ghost use Rattle.hd_plan.specs.CommitSteps.{HasRenamed, IsRewritten, AreRewritten};
+ghost use Rattle.hd_plan.specs.CommitSteps.{IsRewritten, AreRewritten};
 ghost use Rattle.hd_plan.specs.CommitSteps.{SameCards, IsKeptAt};
 
 use crate::moves::{Fate, Move};
@@ -22,26 +20,9 @@ fn rewrite_object<F: Forward>(heap: &mut Heap, forward: &F, at: Addr)
         has_object heap.old (F.place forward.now y) ≡ true }
     ensures { IsRewritten heap.old heap.new (F.place forward.now) at }
 {
-    for i in 0..heap.fields(at) {
-        rewrite_field(heap, forward, at, i);
-    }
-}
-
-// Rewrites one field of an object.
-fn rewrite_field<F: Forward>(heap: &mut Heap, forward: &F, at: Addr, i: u32)
-    requires laid { F.laid forward.now }
-    requires object { has_object heap.old at ≡ true }
-    requires within { i < length (fields_at (object_at heap.old) at) }
-    requires kept { ForSome (slice_index_or (fields_at (object_at heap.old) at) i None)
-        (λ y. F.kept forward.now y ≡ true) }
-    requires there { ForSome (slice_index_or (fields_at (object_at heap.old) at) i None)
-        (λ y. has_object heap.old (F.place forward.now y) ≡ true) }
-    ensures { HasRenamed (slice_index_or (fields_at (object_at heap.old) at) i None)
-        (F.place forward.now) heap.old heap.new at i }
-{
-    if let Some(target) = heap.load(at, i) {
-        heap.store(at, i, Some(forward.moved(target)));
-    }
+    // The result is not used: the call states to the proof what every heap keeps.
+    let _regions = heap.regions();
+    heap.rewrite_fields(at, forward);
 }
 
 /// Rewrites the fields of the older objects in set cards, which are all that may reference a

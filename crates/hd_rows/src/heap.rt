@@ -2,7 +2,7 @@ ghost use Rattle.std.specs.Prelude.{◌≡◌, ◌≤◌, true};
 ghost use Rattle.hd_model.specs.Heap.{has_object};
 
 use crate::checks::is_object_at;
-use hd_heap::{Heap, NewFault};
+use hd_heap::{CondemnedObject, Heap, NewFault};
 use hd_model::limits::{OLDEST, REGION};
 use hd_model::{Addr, Id, Memory};
 use std::process::Abort;
@@ -161,7 +161,7 @@ fn a_region_that_is_held_again_has_no_old_cells(rt: HostRuntime) -> Result<(), F
     Ok(())
 }
 
-/// Gives up the region of an object.
+// Gives up the region of an object.
 fn give_up_whole(heap: &mut Heap, at: Addr)
     requires { has_object heap.old at ≡ true }
 {
@@ -238,7 +238,7 @@ fn a_survey_lists_what_is_condemned(rt: HostRuntime) -> Result<(), Fail> {
     Ok(())
 }
 
-/// A survey of a heap lists these objects, and has these numbers of cells and of regions.
+// A survey of a heap lists these objects, and has these numbers of cells and of regions.
 fn check_survey(
     rt: &impl Abort,
     heap: &Heap,

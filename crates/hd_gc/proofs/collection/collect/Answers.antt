@@ -1,6 +1,4 @@
-use Rattle.std.proofs.Common.{ap, refl, arith}
-use Rattle.hd_model.specs.Heap.{Basis}
-use Rattle.hd_model.proofs.EqualTables.{clumps_same}
+use Rattle.std.proofs.Common.{arith}
 use Rattle.hd_gc.proofs.FreeRegions.{ready_spared, collected_spared}
 use Rattle.hd_gc.proofs.KeptScene.{rows_kept, queued_kept, queued_objects, roots_kept}
 use Rattle.hd_gc.proofs.CollectedScene.{collected}

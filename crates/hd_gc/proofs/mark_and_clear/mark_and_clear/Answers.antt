@@ -1,12 +1,22 @@
-use Rattle.std.proofs.Common.{◌∙◌, refl, sym, subst, ap}
+use Rattle.std.proofs.Common.{refl, sym, subst}
 use Rattle.hd_model.specs.Heap.{Basis, objects_of}
 use Rattle.hd_model.specs.Leads.{IsClosed}
 use Rattle.hd_model.specs.Scene.{IsField}
+use Rattle.hd_heap.specs.Calls.{AreSurveyed}
 use Rattle.hd_mark.specs.Marks.{promoted_in}
 use Rattle.hd_model.proofs.EqualTables.{due_again}
-use Rattle.hd_gc.proofs.ClearedRows.{ready_due}
-use Rattle.hd_gc.proofs.MarkAndClearPhases.{basis4, due2, fields2, waiting2, due4, closed4, mark_and_clear_steps, marked_and_cleared}
+use Rattle.hd_gc.proofs.MarkAndClearPhases.{due2, fields2, waiting2, due4, closed4, mark_and_clear_steps, marked_and_cleared}
 use Rattle.hd_gc.proofs.mark_and_clear.mark_and_clear.Goals as goal
+
+pub over-requires-clause-survey : goal.over-requires-clause-survey
+over-requires-clause-survey g c =
+    subst (λ (b : Basis). AreSurveyed b.heap b.condemned c.objects-objects.result.now) c.requires.basis
+    c.objects-objects.ensures
+
+pub revive-revived-requires-clause-survey : goal.revive-revived-requires-clause-survey
+revive-revived-requires-clause-survey g c =
+    subst (λ (b : Basis). AreSurveyed b.heap b.condemned c.objects-objects.result.now) c.requires.basis
+    c.objects-objects.ensures
 
 pub revive-revived-requires-clause-due : goal.revive-revived-requires-clause-due
 revive-revived-requires-clause-due g c =

@@ -1,36 +1,38 @@
-use Rattle.std.proofs.Common.{◌∙◌, [], refl, subst}
+use Rattle.std.proofs.Common.{◌∙◌, [], subst}
 use Rattle.hd_model.specs.Heap.{Basis, objects_of}
 use Rattle.hd_model.specs.Table.{row_at}
 use Rattle.hd_model.specs.Leads.{IsClosure}
 use Rattle.hd_model.specs.Reach.{IsEdge}
 use Rattle.hd_mark.specs.Marks.{MarksOf, promoted_in}
-use Rattle.hd_model.proofs.EqualTables.{due_again}
 use Rattle.hd_gc.specs.Ready.{parts, scene_of}
-use Rattle.hd_gc.proofs.TraceMarks.{settled_over, still_closed}
+use Rattle.hd_gc.proofs.TraceMarks.{still_closed}
 use Rattle.hd_gc.proofs.MarkParts.{resurrection}
 use Rattle.hd_gc.proofs.mark_and_clear.revive.Goals as goal
 
 pub rescan-requires-clause-fields : goal.rescan-requires-clause-fields
 rescan-requires-clause-fields g c =
-    still_closed c.args.heap.now c.args.n c.args.marks.now c.revive-revived.new.marker c.requires.basis
-    (c.revive-revived.ensures.basis ∙ c.requires.basis) c.requires.settled c.revive-revived.ensures.settled
-    c.requires.cards c.requires.fields c.revive-revived.ensures.resurrects.grows.keeps
+    still_closed c.args.heap.now c.args.n c.args.marks.now c.revive_among-resurrected.new.marker
+    c.requires.basis
+    (c.revive_among-resurrected.ensures.basis ∙ c.requires.basis) c.requires.settled
+    c.revive_among-resurrected.ensures.settled
+    c.requires.cards c.requires.fields c.revive_among-resurrected.ensures.resurrects.grows.keeps
 
 pub returns-clause-resurrected : goal.returns-clause-resurrected
 returns-clause-resurrected g c =
-    let m1 : MarksOf = c.revive-revived.new.marker in
+    let m1 : MarksOf = c.revive_among-resurrected.new.marker in
     let m2 : MarksOf = c.rescan.new.marker in
     record {
       settled = c.rescan.ensures.settled;
-      basis = c.rescan.ensures.basis ∙ c.revive-revived.ensures.basis;
-      pinned = c.rescan.ensures.pinned ∙ c.revive-revived.ensures.pinned;
+      basis = c.rescan.ensures.basis ∙ c.revive_among-resurrected.ensures.basis;
+      pinned = c.rescan.ensures.pinned ∙ c.revive_among-resurrected.ensures.pinned;
       resurrection =
           resurrection (scene_of (parts c.args.heap.now c.args.seg.now c.args.ages.now c.args.fin.now []))
-          c.revive-revived.ensures.resurrects
+          c.revive_among-resurrected.ensures.resurrects
           (subst (λ (b : Basis). IsClosure (IsEdge (objects_of b) (row_at c.args.seg.now)) (promoted_in m1)
-          (promoted_in m2)) (c.revive-revived.ensures.basis ∙ c.requires.basis) c.rescan.ensures.closure);
+          (promoted_in m2)) (c.revive_among-resurrected.ensures.basis ∙ c.requires.basis)
+          c.rescan.ensures.closure);
       steps = (
         promoted_in m1,
-        (c.revive-revived.ensures.resurrects.grows.keeps, c.rescan.ensures.steps),
+        (c.revive_among-resurrected.ensures.resurrects.grows.keeps, c.rescan.ensures.steps),
       );
     }

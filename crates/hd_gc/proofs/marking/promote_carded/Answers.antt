@@ -1,7 +1,6 @@
-use Rattle.std.proofs.Common.{◌∙◌, subst, ap}
-use Rattle.hd_model.specs.Heap.{Basis}
+use Rattle.std.proofs.Common.{subst}
 use Rattle.hd_heap.specs.Calls.{is_old_carded, IsWalk}
-use Rattle.hd_gc.proofs.CardWalk.{carded_none, carded_next, carded_all, left_less, carded_object}
+use Rattle.hd_gc.proofs.CardWalk.{carded_next, carded_all}
 use Rattle.hd_gc.proofs.marking.promote_carded.Goals as goal
 
 pub promote_fields-requires-clause-objects : goal.promote_fields-requires-clause-objects

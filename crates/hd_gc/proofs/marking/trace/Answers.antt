@@ -1,15 +1,13 @@
-use Rattle.std.proofs.Common.{◌≡◌, true, ◌∙◌, refl, sym, subst, ap}
+use Rattle.std.proofs.Common.{◌≡◌, sym, subst}
 use Rattle.hd_model.specs.declared.data.Kind.TheVariants as kind
 use Rattle.hd_model.specs.Heap.{Basis, object_at, objects_of}
 use Rattle.hd_model.specs.Table.{Table, row_at}
 use Rattle.hd_model.specs.Leads.{IsClosed, IsClosure}
 use Rattle.hd_model.specs.Reach.{IsEdge}
-use Rattle.hd_model.specs.Scene.{is_object, IsField}
+use Rattle.hd_model.specs.Scene.{IsField}
 use Rattle.hd_model.specs.Visits.{visits_of}
 use Rattle.hd_mark.specs.Marks.{MarksOf, promoted_in}
 use Rattle.hd_dep.specs.Rescan.{RescanSteps}
-use Rattle.hd_model.proofs.EqualTables.{due_again}
-use Rattle.hd_gc.proofs.ClearedRows.{ready_due}
 use Rattle.hd_gc.proofs.TraceMarks.{basis4, fields_closed, traced_marks}
 use Rattle.hd_gc.proofs.marking.trace.Goals as goal
 

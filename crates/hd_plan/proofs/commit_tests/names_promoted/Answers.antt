@@ -1,8 +1,8 @@
-use Rattle.std.proofs.Common.{◌≡◌, true, arith, sym, subst}
+use Rattle.std.proofs.Common.{◌≡◌, true, Some, None, arith, sym, subst}
 use Rattle.hd_model.specs.Heap.{Heap, has_object, object_at}
 use Rattle.hd_model.specs.Scene.{fields_at}
 use Rattle.hd_mark.specs.Marks.{promoted_in}
-use Rattle.hd_plan.proofs.CommitCards.{field_read}
+use Rattle.hd_model.proofs.Members.{member_at}
 use Rattle.hd_plan.proofs.CommitWalks.{each_field}
 use Rattle.hd_plan.proofs.commit_tests.names_promoted.Goals as goal
 
@@ -10,8 +10,8 @@ pub promoted-requires-clause-object : goal.promoted-requires-clause-object
 promoted-requires-clause-object c =
     subst (λ (h : Heap). has_object h c.in-Some.y ≡ true) (sym c.requires.basis)
     (c.requires.fields c.args.at c.in-Some.y
-    (field_read (fields_at (object_at c.args.heap.now) c.args.at) c.loop-i.i c.in-Some.y
-    (omega (arith, c.fields-i-end.ensures.count, c.loop-i-test.true)) c.in-Some.ensures))
+    (member_at (fields_at (object_at c.args.heap.now) c.args.at) c.loop-i.i None (Some c.in-Some.y)
+    (omega (arith, c.fields-i-end.ensures.count, c.loop-i-test.true)) (sym c.in-Some.ensures)))
 
 pub returns : goal.returns
 returns c = λ e.

@@ -1,11 +1,14 @@
-use Rattle.std.proofs.Common.{◌∷◌, ◌++◌, [], ◌≤◌, List, length, Some, None, refl, sym, ◌∙◌, subst, vec_capacity, arith}
+use Rattle.std.proofs.Common.{◌≡◌, ◌∷◌, ◌++◌, [], true, false, List, length, ◌+◌, None, refl, sym, ap, ◌∙◌, subst, arith, add-one}
+use Rattle.hd_model.specs.declared.data.Addr.{Addr}
+use Rattle.hd_heap.specs.Calls.{is_after, is_condemned}
+use Rattle.hd_heap.proofs.SurveyWalk.{before, next_at, none_after}
 use Rattle.hd_plan.specs.declared.moves.Move.{Move}
 use Rattle.hd_plan.specs.declared.cursors.AllocCursors.{AllocCursors}
-use Rattle.hd_plan.proofs.LayStep.{IsLaying, laying_start, laying_next, may_put, one_more, push_length}
+use Rattle.hd_plan.proofs.LayStep.{IsLaying, laying_start, laying_next, may_put, push_length, to_end}
 use Rattle.hd_plan.proofs.lay.lay_moves.Goals as goal
 
-pub walk-init : goal.walk-init
-walk-init g c =
+pub loop-object-init : goal.loop-object-init
+loop-object-init g c =
     let h = c.args.heap.now in
     let promoted = g.M.Marker.promoted c.args.marker.now in
     let pinned = g.M.Marker.pinned c.args.marker.now in
@@ -15,49 +18,69 @@ walk-init g c =
           (sym c.requires.none)
           (subst (λ (s : AllocCursors). IsLaying h c.args.n promoted pinned [] s None)
           (sym c.new-cursors.ensures) (laying_start h c.args.n promoted pinned));
+      count = ap length c.requires.none;
       capacity = refl;
     }
 
-pub lay_one-object-requires-clause-can_put : goal.lay_one-object-requires-clause-can_put
-lay_one-object-requires-clause-can_put g c =
-    may_put c.args.heap.now c.args.n c.in-Some.ensures.sound (g.M.Marker.promoted c.args.marker.now)
-    (g.M.Marker.pinned c.args.marker.now) c.walk.moves.items c.walk.cursors c.walk.after
-    c.walk.invariant.laying c.requires.spare
+pub lay_one-laid-requires-clause-can_put : goal.lay_one-laid-requires-clause-can_put
+lay_one-laid-requires-clause-can_put g c =
+    may_put c.args.heap.now c.args.n c.regions-regions.ensures.sound (g.M.Marker.promoted c.args.marker.now)
+    (g.M.Marker.pinned c.args.marker.now) c.loop-object.moves.items c.loop-object.cursors _
+    c.loop-object.invariant.laying c.requires.spare
+
+pub lay_one-laid-requires-clause-condemned : goal.lay_one-laid-requires-clause-condemned
+lay_one-laid-requires-clause-condemned g c =
+    c.requires.survey.condemned c.loop-object.object-index c.loop-object-test.true
+
+pub lay_one-laid-requires-clause-fields : goal.lay_one-laid-requires-clause-fields
+lay_one-laid-requires-clause-fields g c =
+    c.requires.survey.fields c.loop-object.object-index c.loop-object-test.true
 
 pub push_reserved-requires : goal.push_reserved-requires
 push_reserved-requires g c =
-    let promoted = g.M.Marker.promoted c.args.marker.now in
-    let pinned = g.M.Marker.pinned c.args.marker.now in
-    let one : length (c.walk.moves.items ++ c.lay_one-object.result ∷ []) ≤ vec_capacity c.args.moves.now =
-    one_more c.args.heap.now c.args.n c.in-Some.ensures.sound promoted pinned
-    (c.walk.moves.items ++ c.lay_one-object.result ∷ []) c.lay_one-object.new.cursors (Some c.in-Some.at)
-    (vec_capacity c.args.moves.now)
-    (laying_next c.args.heap.now c.args.n c.in-Some.ensures.sound promoted pinned c.walk.moves.items
-    c.walk.cursors
-    c.lay_one-object.new.cursors c.walk.after c.in-Some.at c.lay_one-object.result c.walk.invariant.laying
-    c.requires.spare c.in-Some.ensures.walk c.lay_one-object.ensures.from
-    c.lay_one-object.ensures.laid)
-    c.requires.room in
     omega (
       arith,
-      push_length c.walk.moves.items c.lay_one-object.result,
-      c.walk.moves.ok.0,
-      c.walk.invariant.capacity,
+      c.loop-object-test.true,
+      c.loop-object.invariant.count,
+      c.loop-object.invariant.capacity,
+      c.loop-object.moves.ok.0,
+      c.requires.room,
     )
 
-pub walk-preserved : goal.walk-preserved
-walk-preserved g c =
+pub loop-object-preserved : goal.loop-object-preserved
+loop-object-preserved g c =
+    let h = c.args.heap.now in
+    let k = c.loop-object.object-index in
     let promoted = g.M.Marker.promoted c.args.marker.now in
     let pinned = g.M.Marker.pinned c.args.marker.now in
     record {
       laying =
           subst
-          (λ (ms : List Move). IsLaying c.args.heap.now c.args.n promoted pinned ms
-          c.lay_one-object.new.cursors (Some c.in-Some.at))
+          (λ (ms : List Move). IsLaying h c.args.n promoted pinned ms
+          c.lay_one-laid.new.cursors (before c.args.objects.now (k + 1)))
           (sym c.push_reserved.ensures.items)
-          (laying_next c.args.heap.now c.args.n c.in-Some.ensures.sound promoted pinned c.walk.moves.items
-          c.walk.cursors c.lay_one-object.new.cursors c.walk.after c.in-Some.at c.lay_one-object.result
-          c.walk.invariant.laying c.requires.spare c.in-Some.ensures.walk c.lay_one-object.ensures.from
-          c.lay_one-object.ensures.laid);
-      capacity = c.push_reserved.ensures.capacity ∙ c.walk.invariant.capacity;
+          (subst (λ j.
+          IsLaying h c.args.n promoted pinned (c.loop-object.moves.items ++ c.lay_one-laid.result ∷ [])
+          c.lay_one-laid.new.cursors (before c.args.objects.now j)) (sym (add-one k))
+          (laying_next h c.args.n c.regions-regions.ensures.sound promoted pinned c.loop-object.moves.items
+          c.loop-object.cursors c.lay_one-laid.new.cursors (before c.args.objects.now k) _
+          c.lay_one-laid.result
+          c.loop-object.invariant.laying c.requires.spare
+          (next_at c.requires.survey k c.loop-object-test.true)
+          c.lay_one-laid.ensures.from
+          c.lay_one-laid.ensures.laid));
+      count = ap length c.push_reserved.ensures.items
+          ∙ push_length c.loop-object.moves.items c.lay_one-laid.result
+          ∙ (let count = c.loop-object.invariant.count in omega arith);
+      capacity = c.push_reserved.ensures.capacity ∙ c.loop-object.invariant.capacity;
     }
+
+pub returns-clause-laid : goal.returns-clause-laid
+returns-clause-laid g c =
+    let all : length c.args.objects.now ≡ c.loop-object.object-index =
+    omega (arith, c.loop-object-test.false, c.loop-object.auto.object-index-end) in
+    to_end c.args.heap.now c.args.n c.loop-object.moves.items
+    (before c.args.objects.now c.loop-object.object-index)
+    c.loop-object.invariant.laying.to
+    (subst (λ k. (a : Addr) → is_condemned c.args.heap.now c.args.n a ≡ true
+    → is_after (before c.args.objects.now k) a ≡ false) all (none_after c.requires.survey))

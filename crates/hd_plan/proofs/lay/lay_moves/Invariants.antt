@@ -1,13 +1,12 @@
-use Rattle.std.proofs.Common.{◌≡◌, ◌-◌, ◌^◌, vec_capacity}
-use Rattle.hd_plan.proofs.LayStep.{IsLaying, reach_of}
+use Rattle.std.proofs.Common.{◌≡◌, length, vec_capacity}
+use Rattle.hd_heap.proofs.SurveyWalk.{before}
+use Rattle.hd_plan.proofs.LayStep.{IsLaying}
 use Rattle.hd_plan.proofs.lay.lay_moves.Given as goal
 
-abbrev pub invariant-walk : goal.invariant-walk
-invariant-walk g l = record {
+abbrev pub invariant-loop-object : goal.invariant-loop-object
+invariant-loop-object g l = record {
   laying : IsLaying l.heap l.n (g.M.Marker.promoted l.marker) (g.M.Marker.pinned l.marker) l.moves.items
-      l.cursors l.after;
+      l.cursors (before l.objects l.object-index);
+  count : length l.moves.items ≡ l.object-index;
   capacity : vec_capacity l.moves ≡ vec_capacity l.fn.moves;
 }
-
-abbrev pub decreases-walk : goal.decreases-walk
-decreases-walk g l = 2 ^ 32 - reach_of l.after

@@ -1,6 +1,5 @@
 use Rattle.std.proofs.Common.{◌≡◌, ◌-◌, length}
-use Rattle.hd_mark.specs.Inside.{end_of}
-use Rattle.hd_mark.proofs.CondemnedWalks.{IsPlaced}
+use Rattle.hd_mark.proofs.CondemnedWalks.{IsPlaced, end_of}
 use Rattle.hd_mark.proofs.places.Places.of.Given as goal
 
 abbrev pub invariant-loop-at : goal.invariant-loop-at

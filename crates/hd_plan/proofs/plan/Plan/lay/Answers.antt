@@ -1,15 +1,43 @@
-use Rattle.std.proofs.Common.{◌≡◌, ◌≤◌, true, sym, ap, ◌∙◌, subst, length, vec_capacity}
+use Rattle.std.proofs.Common.{◌≡◌, ◌<◌, ◌≤◌, true, List, sym, ap, ◌∙◌, subst, length, vec_capacity, arith}
+use Rattle.hd_model.specs.declared.data.Addr.{Addr}
 use Rattle.hd_model.specs.Counting.{Counts}
 use Rattle.hd_model.specs.Leads.{IsClosed}
 use Rattle.hd_model.specs.Marking.{IsSettled}
 use Rattle.hd_model.specs.Scene.{IsField, IsCondemned}
-use Rattle.hd_model.specs.Heap.{Heap, Basis, objects_of, object_at}
-use Rattle.hd_plan.specs.LaySteps.{HasRegionRoom, HasCondemned}
+use Rattle.hd_model.specs.Heap.{Heap, Basis, objects_of, region_of}
+use Rattle.hd_heap.specs.declared.survey.CondemnedObject.{CondemnedObject}
+use Rattle.hd_heap.specs.Calls.{HasCondemned, AreSurveyed, is_condemned}
+use Rattle.hd_plan.specs.Layout.{move_at}
+use Rattle.hd_plan.specs.LaySteps.{HasRegionRoom}
 use Rattle.hd_plan.specs.Plan.{PlanOf, HasNoEmptyCondemned, stays_in}
 use Rattle.hd_plan.proofs.LaidPlan.{IsLaidFrom, from_heap, laid_from, kept_from, pinned_from, stays_from, region_room}
 use Rattle.hd_plan.proofs.plan.Plan.lay.Goals as goal
 use Rattle.hd_plan.proofs.plan.Plan.lay.Goals.{After-list_moves}
 use Rattle.hd_plan.proofs.plan.Plan.lay.Given.{Over}
+
+pub lay_moves-requires-clause-survey : goal.lay_moves-requires-clause-survey
+lay_moves-requires-clause-survey g c =
+    let same : c.self.inside.heap.value ≡ c.args.heap.now = ap (λ (p : PlanOf). p.basis.heap) c.self.view_is
+    ∙ c.requires.heap in
+    subst (λ (xs : List CondemnedObject). AreSurveyed c.args.heap.now c.self.inside.condemned xs)
+    (sym c.deref-objects.ensures.value)
+    (subst (λ (h : Heap). AreSurveyed h c.self.inside.condemned c.self.inside.objects.items) same
+    c.self.invariant.survey)
+
+pub lay_moves-requires-clause-room : goal.lay_moves-requires-clause-room
+lay_moves-requires-clause-room g c =
+    omega (arith, ap length c.deref-objects.ensures.value, c.self.invariant.moves)
+
+pub list_moves-requires-clause-span : goal.list_moves-requires-clause-span
+list_moves-requires-clause-span g c = λ k low.
+    let same : c.self.inside.heap.value ≡ c.args.heap.now = ap (λ (p : PlanOf). p.basis.heap) c.self.view_is
+    ∙ c.requires.heap in
+    let from : Addr = (move_at c.lay_moves.new.moves.items k).from in
+    let (j, rest) = c.self.invariant.survey.all from
+    (subst (λ (h : Heap). is_condemned h c.self.inside.condemned from ≡ true) (sym same)
+    (c.lay_moves.ensures.laid.condemned k low)) in
+    subst (λ (x : Addr). region_of x < length c.self.inside.places.firsts.items) rest.1
+    (c.self.invariant.span j rest.0)
 
 pub list_moves-requires-clause-room : goal.list_moves-requires-clause-room
 list_moves-requires-clause-room g c =
@@ -19,7 +47,7 @@ list_moves-requires-clause-room g c =
     (length c.self.inside.places.cells.items) c.lay_moves.ensures.sound c.lay_moves.new.moves.items
     c.lay_moves.ensures.laid
     (subst
-    (λ (h : Heap). HasRegionRoom (HasCondemned (object_at h) c.self.inside.condemned)
+    (λ (h : Heap). HasRegionRoom (HasCondemned h c.self.inside.condemned)
     (vec_capacity c.self.inside.regions)
     (length c.self.inside.places.cells.items))
     same c.self.invariant.regions)

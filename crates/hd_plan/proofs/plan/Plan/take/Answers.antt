@@ -1,24 +1,30 @@
 use Rattle.std.proofs.Common.{sym, subst, arith}
 use Rattle.std.proofs.lemmas.Result.{err_from_is_err_and}
 use Rattle.hd_model.specs.Heap.{Heap}
-use Rattle.hd_plan.specs.LaySteps.{IsSurvey}
-use Rattle.hd_plan.proofs.SurveyCount.{survey_spare}
-use Rattle.hd_plan.proofs.FreeRegionCount.{spares_at_most}
+use Rattle.hd_plan.specs.LaySteps.{IsExtent}
+use Rattle.hd_plan.proofs.SurveyCount.{extent_spare}
+use Rattle.hd_plan.proofs.FreeRegionCount.{spares_at_most, spares_as_before}
 use Rattle.hd_plan.proofs.plan.Plan.take.Goals as goal
 
 pub with_room-requires-clause-found : goal.with_room-requires-clause-found
 with_room-requires-clause-found c =
-    subst (λ (h : Heap). IsSurvey h c.args.n c.count_condemned-found.result)
+    subst (λ (h : Heap). IsExtent h c.args.n c.in_ok-found.found)
     (sym c.reserve_regions.ensures.same)
-    (survey_spare c.args.heap.now c.args.n c.reserve_regions.new.self.spare c.count_condemned-found.result
-    c.count_condemned-found.ensures)
+    (extent_spare c.args.heap.now c.args.n c.reserve_regions.new.self.spare c.in_ok-found.found
+    c.in_ok-found.ensures)
 
 pub returns-in_err-reserve_regions-clause-needed : goal.returns-in_err-reserve_regions-clause-needed
 returns-in_err-reserve_regions-clause-needed c =
-    let failed = err_from_is_err_and c.from_residual.result c.from_residual.ensures.1 in
+    let failed =
+    err_from_is_err_and
+    c.from_residual-in_err-reserve_regions.result c.from_residual-in_err-reserve_regions.ensures.1 in
     rw failed.1 (spares_at_most c.args.heap.now c.reserve_regions.new.self c.args.n
-    c.count_condemned-found.result c.count_condemned-found.ensures (omega (
+    c.in_ok-found.found c.in_ok-found.ensures (omega (
       arith,
       c.in_err-reserve_regions.ensures.enough,
-      c.count_condemned-found.ensures.small,
     )))
+
+pub returns-in_err-found-clause-needed : goal.returns-in_err-found-clause-needed
+returns-in_err-found-clause-needed c =
+    let failed = err_from_is_err_and c.from_residual.result c.from_residual.ensures.1 in
+    rw failed.1 (spares_as_before c.args.heap.now c.args.n)

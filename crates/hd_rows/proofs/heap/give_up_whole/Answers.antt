@@ -1,5 +1,5 @@
 use Rattle.hd_model.specs.Heap.{region_of}
-use Rattle.hd_heap.proofs.tests.give_up_whole.Goals as goal
+use Rattle.hd_rows.proofs.heap.give_up_whole.Goals as goal
 
 pub give_up-requires : goal.give_up-requires
 unfolding region_of

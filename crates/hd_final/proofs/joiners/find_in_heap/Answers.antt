@@ -4,7 +4,7 @@ use Rattle.hd_model.specs.declared.data.Id.{Id}
 use Rattle.hd_model.specs.Heap.{id_at, placed_at, has_object}
 use Rattle.hd_final.proofs.ObjectLookup.{id_there}
 use Rattle.hd_final.proofs.JoinerFind.{IsFoundUpTo, found_room, found_more, found_past}
-use Rattle.hd_final.proofs.joiners.find.Goals as goal
+use Rattle.hd_final.proofs.joiners.find_in_heap.Goals as goal
 
 pub push_reserved-requires : goal.push_reserved-requires
 push_reserved-requires g c =

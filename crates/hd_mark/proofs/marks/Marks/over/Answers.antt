@@ -2,7 +2,7 @@ use Rattle.std.proofs.Common.{sym, subst, refl}
 use Rattle.hd_mark.specs.Marks.{first_marks, HasNoneYet, IsSettledMarks}
 use Rattle.hd_mark.specs.Steps.{IsTraced}
 use Rattle.hd_mark.proofs.MarkDrain.{first_traced, first_none, settled_empty}
-use Rattle.hd_mark.proofs.marks.Marks.start.Goals as goal
+use Rattle.hd_mark.proofs.marks.Marks.over.Goals as goal
 
 pub invariant_of-result : goal.invariant_of-result
 invariant_of-result c =

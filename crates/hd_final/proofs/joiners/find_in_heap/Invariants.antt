@@ -1,6 +1,6 @@
 use Rattle.std.proofs.Common.{◌≡◌, vec_capacity}
 use Rattle.hd_final.proofs.JoinerFind.{IsFoundUpTo, left_of}
-use Rattle.hd_final.proofs.joiners.find.Given as goal
+use Rattle.hd_final.proofs.joiners.find_in_heap.Given as goal
 
 abbrev pub invariant-loop-at : goal.invariant-loop-at
 invariant-loop-at g l =
