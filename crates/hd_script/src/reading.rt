@@ -311,6 +311,14 @@ fn fin(word: &[u8]) -> Option<bool>
 fn spells(word: &[u8], text: &str) -> bool
     ensures { result ≡ bytes_eq word.now text.now }
 {
-    let text = text.as_bytes();
-    word.first() == text.first() && word == text
+    let letters = text.as_bytes();
+    if word.len() != letters.len() {
+        return false;
+    }
+    'letters: for i in 0..letters.len() {
+        if word[i] != letters[i] {
+            return false;
+        }
+    }
+    true
 }
