@@ -23,7 +23,7 @@ pub queued_objects : (h : Heap) (n : ℕ) (rank : Addr → ℕ) (p q : Addr → 
     → ((a : Addr) → Contains queue a → has_object h a ≡ true) → (a : Addr) → Contains after a
     → has_object h a ≡ true
 queued_objects h n rank p q queue after resurrects objects a k =
-    ⊎_elim (objects a) (λ late. ap is_some (resurrects.each a late).is_object_at)
+    ⊎_elim (objects a) (λ late. ap is_some (resurrects.each a late).is_stored)
     (Contains-append_cases queue resurrects.joins a (subst (λ xs. Contains xs a) resurrects.queue_is k))
 
 -- all objects kept, each at its mirrored address

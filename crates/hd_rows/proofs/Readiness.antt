@@ -54,15 +54,15 @@ is_ready h t ages q roots full clumps room bare alone plain named empty = record
     fields = λ x y f. absurd (no_field h bare x y f);
     named = named;
     queue = λ x is_queued. let low = is_queued.1 in absurd (omega (arith, low, empty));
-    targets = λ slot g x is_object_at e. (plain slot g is_object_at).object x e;
-    secondaries = λ slot g x is_object_at e. absurd (none-some x (sym (plain slot g is_object_at).alone ∙ e));
-    paired = λ slot g is_object_at none. (plain slot g is_object_at).alone;
-    fits = λ slot g x is_object_at e. absurd (none-some x (sym (plain slot g is_object_at).alone ∙ e));
+    targets = λ slot g x is_stored e. (plain slot g is_stored).object x e;
+    secondaries = λ slot g x is_stored e. absurd (none-some x (sym (plain slot g is_stored).alone ∙ e));
+    paired = λ slot g is_stored none. (plain slot g is_stored).alone;
+    fits = λ slot g x is_stored e. absurd (none-some x (sym (plain slot g is_stored).alone ∙ e));
   };
   identities = identities_differ h alone;
   ages_sound = record {
-    targets = λ slot g x is_object_at e. (plain slot g is_object_at).age x e;
-    secondaries = λ slot g x is_object_at e. absurd (none-some x (sym (plain slot g is_object_at).alone ∙ e));
+    targets = λ slot g x is_stored e. (plain slot g is_stored).age x e;
+    secondaries = λ slot g x is_stored e. absurd (none-some x (sym (plain slot g is_stored).alone ∙ e));
   };
   cards_sound = λ x y f younger. absurd (no_field h bare x y f);
   full = full;

@@ -133,7 +133,7 @@ turned_keeps size = record {
 -- what rows reference is kept where all of it are objects
 pub named_kept : (size n : ℕ) (t : Table) (ages : List ℕ) (m : ℕ) (kind : Kind)
     → NamesObjects (objects_of (toy_basis size n)) (row_at t) → CanRelocate (is_below size) ages m kind t
-named_kept size n t ages m kind named slot h is_object_at due = record {
-  target = λ x e. lt-ltb x.0 size (below_object size x (named.targets slot h x is_object_at e));
-  secondary = λ x e. lt-ltb x.0 size (below_object size x (named.secondaries slot h x is_object_at e));
+named_kept size n t ages m kind named slot h is_stored due = record {
+  target = λ x e. lt-ltb x.0 size (below_object size x (named.targets slot h x is_stored e));
+  secondary = λ x e. lt-ltb x.0 size (below_object size x (named.secondaries slot h x is_stored e));
 }

@@ -11,28 +11,28 @@ use Rattle.hd_gc.proofs.mark_and_clear.revive.Goals as goal
 
 pub rescan-requires-clause-fields : goal.rescan-requires-clause-fields
 rescan-requires-clause-fields g c =
-    still_closed c.args.heap.now c.args.n c.args.marks.now c.revive_among-resurrected.new.marker
+    still_closed c.args.heap.now c.args.n c.args.marks.now c.revive_among-revived.new.marker
     c.requires.basis
-    (c.revive_among-resurrected.ensures.basis ∙ c.requires.basis) c.requires.settled
-    c.revive_among-resurrected.ensures.settled
-    c.requires.cards c.requires.fields c.revive_among-resurrected.ensures.resurrects.grows.keeps
+    (c.revive_among-revived.ensures.basis ∙ c.requires.basis) c.requires.settled
+    c.revive_among-revived.ensures.settled
+    c.requires.cards c.requires.fields c.revive_among-revived.ensures.resurrects.grows.keeps
 
 pub returns-clause-resurrected : goal.returns-clause-resurrected
 returns-clause-resurrected g c =
-    let m1 : MarksOf = c.revive_among-resurrected.new.marker in
+    let m1 : MarksOf = c.revive_among-revived.new.marker in
     let m2 : MarksOf = c.rescan.new.marker in
     record {
       settled = c.rescan.ensures.settled;
-      basis = c.rescan.ensures.basis ∙ c.revive_among-resurrected.ensures.basis;
-      pinned = c.rescan.ensures.pinned ∙ c.revive_among-resurrected.ensures.pinned;
+      basis = c.rescan.ensures.basis ∙ c.revive_among-revived.ensures.basis;
+      pinned = c.rescan.ensures.pinned ∙ c.revive_among-revived.ensures.pinned;
       resurrection =
           resurrection (scene_of (parts c.args.heap.now c.args.seg.now c.args.ages.now c.args.fin.now []))
-          c.revive_among-resurrected.ensures.resurrects
+          c.revive_among-revived.ensures.resurrects
           (subst (λ (b : Basis). IsClosure (IsEdge (objects_of b) (row_at c.args.seg.now)) (promoted_in m1)
-          (promoted_in m2)) (c.revive_among-resurrected.ensures.basis ∙ c.requires.basis)
+          (promoted_in m2)) (c.revive_among-revived.ensures.basis ∙ c.requires.basis)
           c.rescan.ensures.closure);
       steps = (
         promoted_in m1,
-        (c.revive_among-resurrected.ensures.resurrects.grows.keeps, c.rescan.ensures.steps),
+        (c.revive_among-revived.ensures.resurrects.grows.keeps, c.rescan.ensures.steps),
       );
     }
