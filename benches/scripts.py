@@ -1,0 +1,105 @@
+#!/usr/bin/env python3
+"""scripts.py FOLDER: writes the scripts of collect.py.
+
+Objects of two fields reference the one before and the first. Old objects were moved by two collections before."""
+import os
+import sys
+from typing import NamedTuple
+
+BESIDE = {"strong handles": [], "weak short too": ["hnew h1 short r0"], "dependent too": ["hnew h1 dep r0 r1"]}
+AGED = ["drop r0", "drop r1", "drop r2", "collect 2", "collect 2"]
+MOST = 100000
+
+
+class Row(NamedTuple):
+    """What is measured: a script does it so often, and one without it else does the same.
+
+    Where that one takes more memory, the difference in time is none of the collections."""
+    name: str
+    script: list
+    without: list
+    often: int
+    timed: bool = True
+
+
+def collected(name, before, repeated, often, timed=True):
+    """A collection that is the last of the repeated lines: a `drop` stands in its place in the other script."""
+    return Row(name, before + repeated * often, before + (repeated[:-1] + ["drop r15"]) * often, often, timed)
+
+
+def graph(objects, beside, tenth=()):
+    """Objects of two fields, each with a strong handle and what comes beside it, every tenth with some more."""
+    lines = ["new r2 2"]
+    for number in range(objects):
+        lines += ["new r0 2", "hnew h0 strong r0", "set r0 0 r1", "set r0 1 r2"] + beside
+        lines += list(tenth) * (number % 10 == 0) + ["copy r1 r0"]
+    return lines
+
+
+def chain(handles, order):
+    """Each object but the first is kept by a dependent handle of the one before, and the first by a strong handle.
+
+    In the good order the first object's handle comes first. In the worse order it comes last, so that a pass over all handles
+    finds one object."""
+    if order == "good":
+        return ["new r0 0", "hnew h0 strong r0"] + ["new r1 0", "hnew h1 dep r0 r1", "copy r0 r1"] * handles
+    return ["new r1 0"] + ["new r0 0", "hnew h1 dep r0 r1", "copy r1 r0"] * handles + ["hnew h0 strong r0"]
+
+
+def of_fields():
+    """Objects of two fields."""
+    for generation, often in ((0, 2000), (2, 20)):
+        for objects in (1000, 5000):
+            for name, beside in BESIDE.items():
+                yield collected(f"`collect {generation}`, {objects:,} old, {name}", graph(objects, beside) + AGED,
+                                [f"collect {generation}"], often)
+    pins = graph(5000, [], ["hnew h1 pinned r0"])
+    yield collected("`collect 2`, 5,000 old, every tenth pinned too", pins + AGED, ["collect 2"], 20)
+    yield collected("`collect 0`, 5,000 young", [], ["new r0 2", "hnew h0 strong r0"] * 5000 + ["collect 0"], 3)
+
+
+def without_fields():
+    """Objects without fields: many, by handles of one object, and chains."""
+    strong = ["new r0 0", "hnew h0 strong r0"]
+    yield collected("`collect 2`, 10,000 strong handles", strong * 10000 + AGED, ["collect 2"], 20)
+    yield collected("`collect 2`, 8,000 dependent handles of one", strong + ["new r1 0", "hnew h1 dep r0 r1"] * 8000 + AGED,
+                    ["collect 2"], 20)
+    for order, handles, often in (("good", 4000, 20), ("worse", 2000, 2), ("worse", 4000, 2)):
+        yield collected(f"`collect 2`, chain of {handles:,}, {order} order", chain(handles, order) + AGED, ["collect 2"], often)
+
+
+def churn():
+    """New objects that are soon gone."""
+    new = ["new r0 0"]
+    for objects in (50, 150):
+        yield collected(f"`collect 0` after {objects} new objects", [], new * objects + ["collect 0"], 500, timed=False)
+    fewer = new * 50 + ["drop r15"] * 100 + ["collect 0"]
+    yield Row("100 more new objects, with their `new`", (new * 150 + ["collect 0"]) * 500, fewer * 500, 500)
+    some = ["new r0 2", "hnew h0 short r0", "set r0 0 r1", "new r1 1", "hnew h1 strong r1", "copy r2 r0", "hget r3 h0",
+            "hfree h0", "hfree h1"]
+    yield Row("100 commands, the last a `collect 0`", (some * 11 + ["collect 0"]) * 1000, [], 1000)
+
+
+def rows():
+    return [*of_fields(), *without_fields(), *churn()]
+
+
+def write_all(folder):
+    """Writes both scripts of each row, and returns the rows with their paths."""
+    written = []
+    for number, row in enumerate(rows()):
+        paths = [os.path.join(folder, f"{number:02}{end}.hdt") for end in ("", "-without")]
+        for path, lines in zip(paths, (row.script, row.without)):
+            if len(lines) > MOST:
+                sys.exit(f"{row.name}: {len(lines)} lines")
+            with open(path, "w") as script:
+                script.writelines(line + "\n" for line in lines)
+        written.append((row, paths))
+    return written
+
+
+if __name__ == "__main__":
+    if len(sys.argv) != 2:
+        sys.exit("usage: scripts.py FOLDER")
+    for row, paths in write_all(sys.argv[1]):
+        print(row.name, *paths)
