@@ -129,19 +129,17 @@ fn lines_done(alloc: Global, count: u32) -> Result<Vec<u8>, AllocError> {
 }
 
 #[test]
-fn a_script_has_at_most_100_000_commands(rt: HostRuntime) -> Result<(), Fail> {
+fn a_script_has_at_most_100_000_commands_and_8_388_608_bytes(rt: HostRuntime) -> Result<(), Fail> {
     let alloc = rt.alloc();
-    let most = copies(alloc, b"drop r0\n", 100_000)?;
-    assert_still(&rt, &most, LONG_ROOM, 0, &lines_done(alloc, 100_000)?)?;
-    let over = copies(alloc, b"drop r0\n", 100_001)?;
-    assert_still(&rt, &over, ROOM, 3, b"fault line 100001\n")
-}
-
-#[test]
-fn a_script_has_at_most_8_388_608_bytes(rt: HostRuntime) -> Result<(), Fail> {
-    let alloc = rt.alloc();
-    let most = copies(alloc, b"#", 8_388_608)?;
-    assert_still(&rt, &most, ROOM, 0, &lines_done(alloc, 0)?)?;
-    let over = copies(alloc, b"#", 8_388_609)?;
-    assert_still(&rt, &over, ROOM, 3, b"fault size\n")
+    let limits: [(&[u8], u32, u32, &[u8]); 2] = [
+        (b"drop r0\n", 100_000, 100_000, b"fault line 100001\n"),
+        (b"#", 8_388_608, 0, b"fault size\n"),
+    ];
+    for (piece, most, commands, fault) in limits {
+        let text = copies(alloc, piece, most)?;
+        assert_still(&rt, &text, LONG_ROOM, 0, &lines_done(alloc, commands)?)?;
+        let over = copies(alloc, piece, most + 1)?;
+        assert_still(&rt, &over, ROOM, 3, fault)?;
+    }
+    Ok(())
 }

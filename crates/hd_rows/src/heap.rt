@@ -77,6 +77,12 @@ fn raise(heap: &mut Heap, at: Addr, generation: u8)
     heap.set_generation(at.0 / REGION, generation);
 }
 
+// Raises the region of an object, which is there, to generation 1.
+fn age(rt: &impl Abort, heap: &mut Heap, at: Addr) {
+    assert!(rt; is_object_at(heap, at));
+    raise(heap, at, 1);
+}
+
 // Removes the last object of all, and releases its region.
 fn give_up(rt: &impl Abort, heap: &mut Heap, last: Addr)
     requires { has_object heap.old last ≡ true }
@@ -94,8 +100,7 @@ fn a_card_is_set_by_a_younger_object_and_goes_with_its_last(rt: HostRuntime) -> 
     let mut heap = Heap::open(rt.alloc(), 1_000)?;
     let first = heap.new_object(Id(1), 61, false)?;
     let second = heap.new_object(Id(2), 1, false)?;
-    assert!(rt; is_object_at(&heap, first));
-    raise(&mut heap, first, 1);
+    age(&rt, &mut heap, first);
     let young = heap.new_object(Id(3), 1, false)?;
     assert_eq!(rt; young.0, 512);
 
@@ -114,8 +119,7 @@ fn a_card_is_set_by_a_younger_object_and_goes_with_its_last(rt: HostRuntime) -> 
     assert!(rt; is_object_at(&heap, second));
     heap.remove(second);
     let third = heap.new_object(Id(4), 1, false)?;
-    assert!(rt; is_object_at(&heap, third));
-    raise(&mut heap, third, 1);
+    age(&rt, &mut heap, third);
     assert_eq!(rt; heap.next_carded(None, 0), None);
     Ok(())
 }
@@ -127,8 +131,7 @@ fn a_walk_of_condemned_objects_passes_an_older_region(rt: HostRuntime) -> Result
         let _ = heap.new_object(Id(serial), 61, false)?;
     }
     let old = heap.new_object(Id(5), 0, false)?;
-    assert!(rt; is_object_at(&heap, old));
-    raise(&mut heap, old, 1);
+    age(&rt, &mut heap, old);
     let last = heap.new_object(Id(6), 0, false)?;
     assert_eq!(rt; [old.0, last.0], [512, 768]);
 
@@ -161,50 +164,6 @@ fn a_region_that_is_held_again_has_no_old_cells(rt: HostRuntime) -> Result<(), F
     Ok(())
 }
 
-// Gives up the region of an object.
-fn give_up_whole(heap: &mut Heap, at: Addr)
-    requires { has_object heap.old at ≡ true }
-{
-    // A read for the proof: it states that the heap is sound, so that the region is in use.
-    let _ = heap.regions();
-    heap.give_up(at.0 / REGION);
-}
-
-#[test]
-fn a_region_that_is_given_up_takes_its_objects_and_cards(rt: HostRuntime) -> Result<(), Fail> {
-    let mut heap = Heap::open(rt.alloc(), 1_000)?;
-    for serial in 1..5 {
-        let at = heap.new_object(Id(serial), 61, true)?;
-        assert!(rt; is_object_at(&heap, at));
-        heap.set_value(at, 7);
-        set_card(&rt, &mut heap, at, true);
-    }
-    let first = Addr(256);
-    assert!(rt; is_object_at(&heap, first));
-    raise(&mut heap, first, 1);
-    let other = heap.new_object(Id(5), 1, false)?;
-    store(&rt, &mut heap, first, 60, other);
-    assert_eq!(rt; heap.next_carded(None, 0), Some(first));
-    assert!(rt; is_object_at(&heap, first));
-    give_up_whole(&mut heap, first);
-    assert_eq!(rt; (heap.used(), heap.count(), heap.regions()), (4, 1, 1));
-    assert_eq!(rt; walked(&heap), [Some(other), None, None]);
-
-    for serial in 6..9 {
-        let _ = heap.new_object(Id(serial), 61, false)?;
-    }
-    let again = heap.new_object(Id(9), 61, false)?;
-    assert_eq!(rt; again, first);
-    assert!(rt; is_object_at(&heap, again));
-    assert_eq!(rt; (heap.value(again), heap.registered(again)), (0, false));
-    assert!(rt; 60 < heap.fields(again));
-    assert_eq!(rt; heap.load(again, 60), None);
-    assert!(rt; is_object_at(&heap, again));
-    raise(&mut heap, again, 1);
-    assert_eq!(rt; heap.next_carded(None, 0), None);
-    Ok(())
-}
-
 #[test]
 fn a_survey_lists_what_is_condemned(rt: HostRuntime) -> Result<(), Fail> {
     let mut heap = Heap::open(rt.alloc(), 1_000)?;
@@ -212,8 +171,7 @@ fn a_survey_lists_what_is_condemned(rt: HostRuntime) -> Result<(), Fail> {
         let _ = heap.new_object(Id(serial), 61, serial == 2)?;
     }
     let old = heap.new_object(Id(5), 0, true)?;
-    assert!(rt; is_object_at(&heap, old));
-    raise(&mut heap, old, 1);
+    age(&rt, &mut heap, old);
     let last = heap.new_object(Id(6), 2, false)?;
     assert!(rt; is_object_at(&heap, Addr(384)));
     heap.remove(Addr(384));
@@ -258,5 +216,47 @@ fn check_survey(
         };
         assert_eq!(rt; *found, wanted);
     }
+    Ok(())
+}
+
+// Gives up the region of an object.
+fn give_up_whole(heap: &mut Heap, at: Addr)
+    requires { has_object heap.old at ≡ true }
+{
+    // A read for the proof: it states that the heap is sound, so that the region is in use.
+    let _ = heap.regions();
+    heap.give_up(at.0 / REGION);
+}
+
+#[test]
+fn a_region_that_is_given_up_takes_its_objects_and_cards(rt: HostRuntime) -> Result<(), Fail> {
+    let mut heap = Heap::open(rt.alloc(), 1_000)?;
+    for serial in 1..5 {
+        let at = heap.new_object(Id(serial), 61, true)?;
+        assert!(rt; is_object_at(&heap, at));
+        heap.set_value(at, 7);
+        set_card(&rt, &mut heap, at, true);
+    }
+    let first = Addr(256);
+    age(&rt, &mut heap, first);
+    let other = heap.new_object(Id(5), 1, false)?;
+    store(&rt, &mut heap, first, 60, other);
+    assert_eq!(rt; heap.next_carded(None, 0), Some(first));
+    assert!(rt; is_object_at(&heap, first));
+    give_up_whole(&mut heap, first);
+    assert_eq!(rt; (heap.used(), heap.count(), heap.regions()), (4, 1, 1));
+    assert_eq!(rt; walked(&heap), [Some(other), None, None]);
+
+    for serial in 6..9 {
+        let _ = heap.new_object(Id(serial), 61, false)?;
+    }
+    let again = heap.new_object(Id(9), 61, false)?;
+    assert_eq!(rt; again, first);
+    assert!(rt; is_object_at(&heap, again));
+    assert_eq!(rt; (heap.value(again), heap.registered(again)), (0, false));
+    assert!(rt; 60 < heap.fields(again));
+    assert_eq!(rt; heap.load(again, 60), None);
+    age(&rt, &mut heap, again);
+    assert_eq!(rt; heap.next_carded(None, 0), None);
     Ok(())
 }

@@ -89,15 +89,20 @@ fn promote_by<M: Marker>(marker: &mut M, at: Addr)
     marker.promote(at);
 }
 
-// Promotes objects by number.
-fn promote(rt: &impl Abort, heap: &Heap, marks: &mut Marks, objects: &[u32])
+// Pins objects by number, or promotes them.
+fn mark(rt: &impl Abort, heap: &Heap, marks: &mut Marks, objects: &[u32], pins: bool)
     requires settled { IsSettledMarks marks.old }
     requires heap { marks.old.basis.heap ≡ heap.now }
     ensures settled { IsSettledMarks marks.new }
     ensures basis { marks.new.basis ≡ marks.old.basis }
 {
     for k in objects {
-        promote_by(marks, object(rt, heap, *k));
+        let at = object(rt, heap, *k);
+        if pins {
+            marks.pin(at);
+        } else {
+            promote_by(marks, at);
+        }
     }
 }
 
@@ -127,33 +132,21 @@ fn what_fields_of_condemned_objects_lead_to_is_promoted(rt: HostRuntime) -> Resu
     ];
     for (n, roots, promoted) in cases {
         let mut marks = Marks::start(rt.alloc(), &heap, n)?;
-        promote(&rt, &heap, &mut marks, roots);
-        promote(&rt, &heap, &mut marks, roots);
+        mark(&rt, &heap, &mut marks, roots, false);
+        mark(&rt, &heap, &mut marks, roots, false);
         let older: &[u32] = if n == 0 { &[4, 5, 6, 7] } else { &[] };
         shows(&rt, &heap, &marks, promoted, older);
     }
     Ok(())
 }
 
-// Pins objects by number.
-fn pin(rt: &impl Abort, heap: &Heap, marks: &mut Marks, objects: &[u32])
-    requires settled { IsSettledMarks marks.old }
-    requires heap { marks.old.basis.heap ≡ heap.now }
-    ensures settled { IsSettledMarks marks.new }
-    ensures basis { marks.new.basis ≡ marks.old.basis }
-{
-    for k in objects {
-        marks.pin(object(rt, heap, *k));
-    }
-}
-
 #[test]
 fn a_pinned_object_is_not_promoted_for_that(rt: HostRuntime) -> Result<(), Fail> {
     let heap = graph(&rt, rt.alloc(), &[(0, 0, 1)])?;
     let mut marks = Marks::start(rt.alloc(), &heap, 0)?;
-    pin(&rt, &heap, &mut marks, &[0, 11, 5]);
+    mark(&rt, &heap, &mut marks, &[0, 11, 5], true);
     shows(&rt, &heap, &marks, &[4, 5, 6, 7], &[0, 4, 5, 6, 7, 11]);
-    promote(&rt, &heap, &mut marks, &[0]);
+    mark(&rt, &heap, &mut marks, &[0], false);
     shows(
         &rt,
         &heap,

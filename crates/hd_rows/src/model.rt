@@ -45,21 +45,13 @@ fn a_made_handle_has_its_kind(rt: HostRuntime) {
 
 #[test]
 fn kinds_with_extra_data_come_last(rt: HostRuntime) {
-    let kinds = [
-        Kind::Short,
-        Kind::Long,
-        Kind::Strong,
-        Kind::Pinned,
-        Kind::Variable,
-        Kind::Counted,
-        Kind::Dependent,
-    ];
     let mut number = 0;
-    for kind in kinds {
+    for kind in Kind::ALL {
         assert_eq!(rt; kind.number(), number);
         assert_eq!(rt; kind.paired(), number > 3);
         number += 1;
     }
+    assert_eq!(rt; number, 7);
 }
 
 // Each command, and whether it may take memory.

@@ -106,20 +106,20 @@ fn an_empty_queue_gives_nothing_whatever_its_room(rt: HostRuntime) -> Result<(),
 }
 
 #[test]
-fn registered_objects_join_in_the_order_of_their_identities(rt: HostRuntime) -> Result<(), Fail> {
+fn registered_objects_that_are_not_promoted_join_by_identity(rt: HostRuntime) -> Result<(), Fail> {
     let heap = heap_of(rt.alloc(), &[true, false, true, true])?;
-    let mut queue = Final::open(rt.alloc())?;
-    assert_eq!(rt; revive(&rt, rt.alloc(), &heap, &mut queue, 2, false)?, 3);
-    take_all(&rt, &heap, &mut queue, &[(1, true), (2, true), (4, true)]);
-    Ok(())
-}
-
-#[test]
-fn a_promoted_object_does_not_join(rt: HostRuntime) -> Result<(), Fail> {
-    let heap = heap_of(rt.alloc(), &[true, false, true, true])?;
-    let mut queue = Final::open(rt.alloc())?;
-    assert_eq!(rt; revive(&rt, rt.alloc(), &heap, &mut queue, 2, true)?, 2);
-    take_all(&rt, &heap, &mut queue, &[(1, true), (2, true)]);
+    let cases: [(bool, u32, &[(u64, bool)]); 2] = [
+        (false, 3, &[(1, true), (2, true), (4, true)]),
+        (true, 2, &[(1, true), (2, true)]),
+    ];
+    for (keeps_first, count, joined) in cases {
+        let mut queue = Final::open(rt.alloc())?;
+        assert_eq!(rt;
+            revive(&rt, rt.alloc(), &heap, &mut queue, 2, keeps_first)?,
+            count
+        );
+        take_all(&rt, &heap, &mut queue, joined);
+    }
     Ok(())
 }
 

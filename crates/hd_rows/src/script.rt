@@ -252,29 +252,25 @@ fn a_command_too_many_is_a_fault(rt: HostRuntime) -> Result<(), Fail> {
     Ok(())
 }
 
-const CALLER_0: &str =
-    "new r0 1\nhnew h0 pinned r0\nval r0 1\nhget r1 h0\nread r0\ndrop r0\ndrop r1\nhfree h0\n\
-new r0 0\nhnew h0 dep r0 r0\nval r0 16\nhget r1 h0\nread r0\ndrop r0\ndrop r1\nhfree h0\n\
-collect 1\n\
-new r0 1\nhnew h0 var r0 strong\nval r0 17\nhget r1 h0\nread r0\ndrop r0\ndrop r1\nhfree h0\n";
-
-const CALLER_1: &str =
-    "new r0 2\nhnew h0 pinned r0\nval r0 1\nhget r1 h0\nread r0\ndrop r0\ndrop r1\nhfree h0\n\
-new r0 1\nhnew h0 dep r0 r0\nval r0 16\nhget r1 h0\nread r0\ndrop r0\ndrop r1\nhfree h0\n\
-collect 1\n\
-new r0 2\nhnew h0 var r0 strong\nval r0 17\nhget r1 h0\nread r0\ndrop r0\ndrop r1\nhfree h0\n";
-
-const CALLER_2: &str =
-    "new r0 3\nhnew h0 pinned r0\nval r0 1\nhget r1 h0\nread r0\ndrop r0\ndrop r1\nhfree h0\n\
-new r0 2\nhnew h0 dep r0 r0\nval r0 16\nhget r1 h0\nread r0\ndrop r0\ndrop r1\nhfree h0\n\
-collect 1\n\
-new r0 3\nhnew h0 var r0 strong\nval r0 17\nhget r1 h0\nread r0\ndrop r0\ndrop r1\nhfree h0\n";
-
-const CALLER_3: &str =
-    "new r0 4\nhnew h0 pinned r0\nval r0 1\nhget r1 h0\nread r0\ndrop r0\ndrop r1\nhfree h0\n\
-new r0 3\nhnew h0 dep r0 r0\nval r0 16\nhget r1 h0\nread r0\ndrop r0\ndrop r1\nhfree h0\n\
-collect 1\n\
-new r0 4\nhnew h0 var r0 strong\nval r0 17\nhget r1 h0\nread r0\ndrop r0\ndrop r1\nhfree h0\n";
+// The commands of a caller in the rounds 1, 16 and 17 of a load.
+fn rounds_of(alloc: Global, caller: u8) -> Result<Vec<u8>, AllocError> {
+    let caller = u32::from(caller);
+    let rounds = [
+        (caller + 1, "pinned r0", 1, ""),
+        (caller, "dep r0 r0", 16, "collect 1\n"),
+        (caller + 1, "var r0 strong", 17, ""),
+    ];
+    let mut text = Vec::new(alloc);
+    for (fields, make, value, after) in rounds {
+        let round = format!(in alloc;
+            "new r0 {}\nhnew h0 {}\nval r0 {}\nhget r1 h0\nread r0\n\
+            drop r0\ndrop r1\nhfree h0\n{}",
+            fields, make, value, after
+        )?;
+        text.extend_from_slice(round.as_bytes())?;
+    }
+    Ok(text)
+}
 
 // The script of a load. It has no clause.
 fn load(rt: &impl Abort, alloc: Global, rounds: u32) -> Result<Scripts, Memory> {
@@ -286,10 +282,10 @@ fn load(rt: &impl Abort, alloc: Global, rounds: u32) -> Result<Scripts, Memory> 
 fn each_caller_of_a_load_has_its_rounds(rt: HostRuntime) -> Result<(), Fail> {
     let scripts = load(&rt, rt.alloc(), 17)?;
     assert_eq!(rt; counts(&scripts), (4, 548));
-    for (caller, text) in [(0, CALLER_0), (1, CALLER_1), (2, CALLER_2), (3, CALLER_3)] {
-        let want = commands(rt.alloc(), &read(&rt, rt.alloc(), text.as_bytes())?, 0)?;
-        let found = commands(rt.alloc(), &scripts, caller)?;
-        // Rounds 1, 16 and 17 are shown.
+    for caller in [0u8, 1, 2, 3] {
+        let text = rounds_of(rt.alloc(), caller)?;
+        let want = commands(rt.alloc(), &read(&rt, rt.alloc(), &text)?, 0)?;
+        let found = commands(rt.alloc(), &scripts, u32::from(caller))?;
         assert!(rt; want.len() == 25 && found.len() == 137);
         assert_eq!(rt; &found[..8], &want[..8], "caller {caller}");
         assert_eq!(rt; &found[120..], &want[8..], "caller {caller}");
