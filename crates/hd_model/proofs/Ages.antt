@@ -1,10 +1,5 @@
 -- Ages stay sound where they are lowered, and where a collection raises them with the generations.
-use Rattle.hd_model.proofs.Basics.{◌≡◌, ℕ, zero, suc, ◌≤◌, true, min, List, [], ◌∷◌, get_or, set, map, Some, sym, ap, ◌∙◌, subst, ⊎_elim, ◌⊎◌, arith, le_trans, nat_tests}
-use Rattle.hd_model.specs.Data.{Report}
-use Rattle.hd_model.specs.State.{Handle, secondary_of}
-use Rattle.hd_model.specs.Scene.{Scene, Objects, Rows, generation_in, generation_at, IsWhole}
-use Rattle.hd_model.specs.Ages.{raised, clump_of, age_of, lowered, grown, HasSoundAges}
-use Rattle.hd_model.specs.Collect.{Collects}
+use Rattle.hd_model.proofs.Basics.{Collects, Handle, HasSoundAges, IsWhole, List, Objects, Report, Rows, Scene, Some, [], age_of, ap, arith, clump_of, generation_at, generation_in, get_or, grown, le_trans, lowered, map, min, nat_tests, raised, secondary_of, set, subst, suc, sym, true, zero, ℕ, ⊎_elim, ◌∙◌, ◌∷◌, ◌≡◌, ◌≤◌, ◌⊎◌}
 use Rattle.hd_model.proofs.Entries.{some_value}
 use Rattle.hd_model.proofs.SceneCollection.{cleared_target, cleared_secondary, handle_before, target_kept, secondary_kept, object_after, kept_object}
 
@@ -79,8 +74,7 @@ module _ {N : Type 0} (rank : N → ℕ) (n : ℕ) (s t : Scene N) (r : Report) 
       ap generation_in (object_after rank n s t r w c x p kept e) ∙ ap (raised n) (sym (ap generation_in e))
 
   raised_sound : (ages : List ℕ) (slot : ℕ) (x : N) → c.kept x ≡ true
-      → age_of ages slot ≤ generation_at s.object x
-      → age_of (grown n ages) slot ≤ generation_at t.object x
+      → age_of ages slot ≤ generation_at s.object x → age_of (grown n ages) slot ≤ generation_at t.object x
   raised_sound ages slot x kept l =
       subst (λ k. age_of (grown n ages) slot ≤ k) (sym (kept_generation x kept))
       (le_trans (grown_at n ages slot) (raised_order n (age_of ages slot) (generation_at s.object x) l))

@@ -1,5 +1,5 @@
 -- The laws of collections, from what is proved of scenes.
-use Rattle.hd_model.proofs.Basics.{◌≡◌, ℕ, ◌<◌, Bool, true, false, not, ◌&&◌, Some, refl, sym, ap, ◌∙◌, subst, ⊎_elim, inl, inr, nat_cmp_total, same_map, nat_cmp-IsAntisymmetric, cases_Bool}
+use Rattle.hd_model.proofs.Basics.{◌≡◌, get, ℕ, ◌<◌, Bool, true, false, not, ◌&&◌, Some, refl, sym, ap, ◌∙◌, subst, ⊎_elim, inl, inr, nat_cmp_total, same_map, nat_cmp-IsAntisymmetric, cases_Bool}
 use Rattle.hd_model.specs.Data.{Id}
 use Rattle.hd_model.specs.State.{Object, State}
 use Rattle.hd_model.specs.Scene.{scene_of, generation_in}
@@ -7,10 +7,11 @@ use Rattle.hd_model.specs.Reach.{IsRoot, named, queued, held, older}
 use Rattle.hd_model.specs.Collect.{survivor}
 use Rattle.hd_model.specs.InUse.{IsUsed, in_register, in_static, in_queue, by_handle}
 use Rattle.hd_model.specs.CollectionLaws.{CollectionsKeepWellFormed, UsedObjectsStay, NoneDanglesAfter, OlderObjectsStay, SecondCollectionIsIdle, ReadingsKeepWhatIsKept, LoweredAgesAreSound, GrownAgesAreSound}
+use Rattle.hd_model.proofs.WeakSlots.{handle_left, weak_left}
 use Rattle.hd_model.proofs.WellFormedCollection.{collection_keeps_well_formed}
 use Rattle.hd_model.proofs.SceneCollection.{keeps_root, still_object, object_after, root_reached}
 use Rattle.hd_model.proofs.WholeScenes.{whole_scene, register_named, static_named}
-use Rattle.hd_model.proofs.IdleCollection.{raised_older, idle_removed, idle_short, idle_long, idle_dep, idle_resurrected, idle_handles, idle_queue}
+use Rattle.hd_model.proofs.IdleCollection.{raised_older, idle_removed, idle_short, idle_long, idle_dep, idle_resurrected, idle_row, idle_queue}
 use Rattle.hd_model.proofs.RenamedReach.{reached_read, reached_same, resurrected_read, resurrected_same, kept_read, kept_same}
 use Rattle.hd_model.proofs.Ages.{lowered_sound, grown_sound}
 
@@ -72,6 +73,8 @@ second_collection_is_idle m n s t u r q h again =
     let rank : Id → ℕ = λ y. y.0 in
     let c = h.collects.scene in
     let d = again.scene in
+    let after = collection_keeps_well_formed m n s t r h.well_formed h.collects in
+    let row = idle_row rank n (scene_of s) (scene_of t) (scene_of u) r q w c d in
     record {
       removed = idle_removed rank n (scene_of s) (scene_of t) (scene_of u) r q w c d;
       short = idle_short rank n (scene_of s) (scene_of t) (scene_of u) r q w c d;
@@ -80,7 +83,12 @@ second_collection_is_idle m n s t u r q h again =
       resurrected = idle_resurrected rank n (scene_of s) (scene_of t) (scene_of u) r q w c d;
       handles =
           same_map nat_cmp_total nat_cmp-IsAntisymmetric u.handles t.handles
-          (idle_handles rank n (scene_of s) (scene_of t) (scene_of u) r q w c d);
+          (λ slot. again.handles slot
+          ∙ handle_left t d.reach d.kept slot (row slot) (get t.handles slot) refl);
+      weak =
+          same_map nat_cmp_total nat_cmp-IsAntisymmetric u.weak t.weak
+          (λ slot. again.weak slot
+          ∙ weak_left t d.reach d.kept slot (row slot) (after.weak.apart slot) (get t.weak slot) refl);
       queue = idle_queue rank n (scene_of s) (scene_of t) (scene_of u) r q w c d;
     }
 

@@ -6,7 +6,7 @@ use Rattle.hd_model.specs.Role.{Role, holds, short, long, attaches, role}
 use Rattle.hd_model.specs.Counting.{Counts}
 use Rattle.hd_model.specs.Scene.{Scene, is_object, IsCondemned, IsWhole, IsReading}
 use Rattle.hd_model.specs.Reach.{IsReached, IsToBeFinalized, IsKept}
-use Rattle.hd_model.specs.Collect.{is_lost, loses_by, loses, is_attaching, cleared, survivor, LosesAs, IsSurviving, IsRemoved, Collects}
+use Rattle.hd_model.specs.Collect.{is_lost, loses_by, loses, is_attaching, cleared, survivor, LosesAs, IsSurviving, IsRemoved, Decision, Collects}
 use Rattle.hd_model.proofs.Members.{mapped_in, mapped_from, pairs_mapped}
 use Rattle.hd_model.proofs.PropertyCounts.{counts_like, counts_named}
 use Rattle.hd_model.proofs.Entries.{some_value}
@@ -71,19 +71,28 @@ cond_extra f false e = refl
 module _ {N M : Type 0} (f : N → M) (back : M → Option N) (rank : M → ℕ) (n : ℕ) (s t : Scene N)
     (u v : Scene M) (r : Report) (w : IsWhole s) (c : Collects (λ x. rank (f x)) n s t r)
     (fs : IsReading f s u) (ft : IsReading f t v) (b : IsBack f back s) where
+  -- what it decides, under the other names
+  abbrev Under : Decision M
+  Under = record {
+    reach = λ y. asked c.reach (back y);
+    resurrected = λ y. asked c.resurrected (back y);
+    kept = λ y. asked c.kept (back y);
+    joins = map f c.joins;
+  }
+
   cleared_asked : (slot : ℕ) (h : Handle N) → s.handle slot ≡ Some h
-      → rename_handle f (cleared c.reach c.kept h) ≡ cleared (λ y. asked c.reach (back y))
-      (λ y. asked c.kept (back y)) (rename_handle f h)
+      → rename_handle f (cleared c.reach c.kept h) ≡ cleared Under.reach
+      Under.kept (rename_handle f h)
   cleared_asked slot h e =
       let objects : (x : N) → h.target ≡ Some x
       → is_object s.object x ≡ true = λ x at. w.targets slot h x e at in
       let same_role : role (rename_handle f h) ≡ role h = role_renamed f h.kind h.extra in
-      let target : loses (λ y. asked c.reach (back y)) (λ y. asked c.kept (back y))
+      let target : loses Under.reach Under.kept
       (rename_handle f h) ≡ loses c.reach c.kept h =
-      ap (λ q. loses_by q (λ y. asked c.reach (back y)) (λ y. asked c.kept (back y)) (option_map f h.target))
+      ap (λ q. loses_by q Under.reach Under.kept (option_map f h.target))
       same_role
       ∙ loses_asked f back s b (role h) c.reach c.kept h.target objects in
-      let detached : (is_attaching (role (rename_handle f h)) && is_lost (λ y. asked c.kept (back y))
+      let detached : (is_attaching (role (rename_handle f h)) && is_lost Under.kept
       (option_map f h.target))
       ≡ (is_attaching (role h) && is_lost c.kept h.target) =
       λ i. is_attaching (same_role i) && lost_asked f back s b c.kept h.target objects i in
@@ -140,18 +149,18 @@ module _ {N M : Type 0} (f : N → M) (back : M → Option N) (rank : M → ℕ)
           ∙ sym (cond-false (c.kept x) (option_map (survivor n (c.resurrected x)) (u.object y)) None lost)
 
   row_by : (slot : ℕ) (o : Option (Handle N)) → s.handle slot ≡ o
-      → v.handle slot ≡ option_map (cleared (λ y. asked c.reach (back y)) (λ y. asked c.kept (back y)))
+      → v.handle slot ≡ option_map (cleared Under.reach Under.kept)
       (u.handle slot)
   row_by slot None e =
       ft.handles slot ∙ ap (option_map (rename_handle f))
       (c.handles slot ∙ ap (option_map (cleared c.reach c.kept)) e)
-      ∙ sym (ap (option_map (cleared (λ y. asked c.reach (back y)) (λ y. asked c.kept (back y))))
+      ∙ sym (ap (option_map (cleared Under.reach Under.kept))
       (fs.handles slot ∙ ap (option_map (rename_handle f)) e))
   row_by slot (Some h) e =
       ft.handles slot ∙ ap (option_map (rename_handle f))
       (c.handles slot ∙ ap (option_map (cleared c.reach c.kept)) e)
       ∙ ap (λ q. Some q) (cleared_asked slot h e)
-      ∙ sym (ap (option_map (cleared (λ y. asked c.reach (back y)) (λ y. asked c.kept (back y))))
+      ∙ sym (ap (option_map (cleared Under.reach Under.kept))
       (fs.handles slot ∙ ap (option_map (rename_handle f)) e))
 
   -- a set that has a name has the object with it
@@ -175,9 +184,9 @@ module _ {N M : Type 0} (f : N → M) (back : M → Option N) (rank : M → ℕ)
   condemned_unread x k h = record
       { object = k; young = subst (λ g. g ≤ n) (generation_read f s u fs x k) h.young }
 
-  surviving_named : Counts (IsSurviving n u (λ y. asked c.kept (back y))) r.kept
+  surviving_named : Counts (IsSurviving n u Under.kept) r.kept
   surviving_named =
-      counts_named f (IsSurviving n s c.kept) (IsSurviving n u (λ y. asked c.kept (back y))) r.kept
+      counts_named f (IsSurviving n s c.kept) (IsSurviving n u Under.kept) r.kept
       (λ x y h k. fs.apart x y h.condemned.object k.condemned.object)
       (λ x h. record {
         condemned = condemned_read x h.condemned;
@@ -197,9 +206,9 @@ module _ {N M : Type 0} (f : N → M) (back : M → Option N) (rank : M → ℕ)
       ))
       c.report_is.kept
 
-  removed_named : Counts (IsRemoved u (λ y. asked c.kept (back y))) r.removed
+  removed_named : Counts (IsRemoved u Under.kept) r.removed
   removed_named =
-      counts_named f (IsRemoved s c.kept) (IsRemoved u (λ y. asked c.kept (back y))) r.removed
+      counts_named f (IsRemoved s c.kept) (IsRemoved u Under.kept) r.removed
       (λ x y h k. fs.apart x y h.object k.object)
       (λ x h. record {
         object = is_object_read f s u fs x h.object;
@@ -212,7 +221,7 @@ module _ {N M : Type 0} (f : N → M) (back : M → Option N) (rank : M → ℕ)
           record {
             object = rest.0;
             lost = sym (asked_at f back s b c.kept x rest.0)
-                ∙ ap (λ z. asked c.kept (back z)) rest.1 ∙ h.lost;
+                ∙ ap Under.kept rest.1 ∙ h.lost;
           },
           rest.1,
         ),
@@ -222,26 +231,26 @@ module _ {N M : Type 0} (f : N → M) (back : M → Option N) (rank : M → ℕ)
   resurrected_object : (x : N) → c.resurrected x ≡ true → is_object s.object x ≡ true
   resurrected_object x h = ap is_some ((c.resurrected_is x).0 h).is_stored
 
-  resurrected_named : Counts (λ y. asked c.resurrected (back y) ≡ true) r.revived
+  resurrected_named : Counts (λ y. Under.resurrected y ≡ true) r.revived
   resurrected_named =
-      counts_named f (λ x. c.resurrected x ≡ true) (λ y. asked c.resurrected (back y) ≡ true) r.revived
+      counts_named f (λ x. c.resurrected x ≡ true) (λ y. Under.resurrected y ≡ true) r.revived
       (λ x y h k. fs.apart x y (resurrected_object x h) (resurrected_object y k))
       (λ x h. asked_at f back s b c.resurrected x (resurrected_object x h) ∙ h)
       (λ y h. let (x, rest) = asked_from c.resurrected y h in (x, rest.1)) c.report_is.resurrected
 
   same_loss : (slot : ℕ) (h : Handle N) → s.handle slot ≡ Some h
-      → loses (λ y. asked c.reach (back y)) (λ y. asked c.kept (back y))
+      → loses Under.reach Under.kept
       (rename_handle f h) ≡ loses c.reach c.kept h
   same_loss slot h e =
-      ap (λ q. loses_by q (λ y. asked c.reach (back y)) (λ y. asked c.kept (back y)) (option_map f h.target))
+      ap (λ q. loses_by q Under.reach Under.kept (option_map f h.target))
       (role_renamed f h.kind h.extra)
       ∙ loses_asked f back s b (role h) c.reach c.kept h.target (λ x at. w.targets slot h x e at)
 
   losses_named : (wanted : Role) (k : ℕ) → Counts (LosesAs s c.reach c.kept wanted) k
-      → Counts (LosesAs u (λ y. asked c.reach (back y)) (λ y. asked c.kept (back y)) wanted) k
+      → Counts (LosesAs u Under.reach Under.kept wanted) k
   losses_named wanted k =
       counts_like (LosesAs s c.reach c.kept wanted)
-      (LosesAs u (λ y. asked c.reach (back y)) (λ y. asked c.kept (back y)) wanted) k
+      (LosesAs u Under.reach Under.kept wanted) k
       (λ slot l. record {
         handle = rename_handle f l.handle;
         is_stored = handle_read f s u fs slot l.handle l.is_stored;
@@ -253,17 +262,14 @@ module _ {N M : Type 0} (f : N → M) (back : M → Option N) (rank : M → ℕ)
         is_stored = both.0;
         role_is = sym (role_renamed f h.kind h.extra) ∙ ap (λ (q : Handle M). role q) both.1 ∙ l.role_is;
         loses = sym (same_loss slot h both.0)
-            ∙ ap (λ (q : Handle M). loses (λ y. asked c.reach (back y)) (λ y. asked c.kept (back y)) q) both.1
+            ∙ ap (λ (q : Handle M). loses Under.reach Under.kept q) both.1
             ∙ l.loses;
       })
 
   -- so the scenes under other names are before and after a collection too, with the same report
   pub collects_read : Collects rank n u v r
   collects_read = record {
-    reach = λ y. asked c.reach (back y);
-    resurrected = λ y. asked c.resurrected (back y);
-    kept = λ y. asked c.kept (back y);
-    joins = map f c.joins;
+    decision = Under;
     goes_by = record {
       reach_is =
           decided f back s b c.reach (IsReached s n) (IsReached u n) c.reach_is (reached_read f n s u w fs)
@@ -276,7 +282,7 @@ module _ {N M : Type 0} (f : N → M) (back : M → Option N) (rank : M → ℕ)
           decided f back s b c.kept (IsKept s n) (IsKept u n) c.kept_is (kept_read f n s u w fs)
           (kept_unread f n s u w fs);
       joins_are =
-          decided f back s b c.resurrected (λ x. Contains c.joins x) (λ y. Contains (map f c.joins) y)
+          decided f back s b c.resurrected (λ x. Contains c.joins x) (λ y. Contains Under.joins y)
           c.joins_are (λ x h. mapped_in f c.joins x h)
           (λ y h. let (x, rest) = mapped_from f c.joins y h in
           (x, (resurrected_object x ((c.joins_are x).1 rest.0), rest)));

@@ -2,7 +2,7 @@
 use Rattle.hd_model.proofs.Basics.{◌≡◌, ◌≢◌, ℕ, zero, suc, ◌<◌, ◌≤◌, true, false, [], ◌∷◌, get_or, replicate, Some, None, IsSome, is_some, nat_cmp, refl, sym, ap, ◌∙◌, subst, ⊎_elim, inl, inr, ◌⊎◌, arith, get, empty, get-empty, false≢true, none-some, same_Some}
 use Rattle.hd_model.specs.Data.{Id, Report}
 use Rattle.hd_model.specs.declared.data.Kind.TheVariants as kind
-use Rattle.hd_model.specs.State.{Object, Handle, handles_of, State, start_of, secondary_of, field_of, with_object, with_handle, with_use, with_serial, without_handle}
+use Rattle.hd_model.specs.State.{Object, Handle, handles_of, State, start_of, row_of, secondary_of, field_of, with_object, with_handle, with_use, with_serial, without_handle, WeakEntry, with_weak}
 use Rattle.hd_model.specs.Kinds.{is_paired}
 use Rattle.hd_model.specs.Role.{holds, role}
 use Rattle.hd_model.specs.Scene.{scene_of, generation_in, generation_at}
@@ -10,12 +10,15 @@ use Rattle.hd_model.specs.Collect.{CollectsState}
 use Rattle.hd_model.specs.Ages.{age_of, HasSoundAges}
 use Rattle.hd_model.specs.WellFormed.{Names, IsWellFormed}
 use Rattle.hd_model.specs.InUse.{IsUsed, in_register, in_static, in_queue, by_handle, IsOlder, IsLedTo, from_start, by_field, by_dependent, IsInUse, IsResurrected}
-use Rattle.hd_model.specs.CollectionSamples.{few, id_of, slot_of, object_with, weak_to, made_one, with_blocks, calm, with_objects, attaching, busy, ages_of_busy, PremisesAreMet}
+use Rattle.hd_model.specs.CollectionSamples.{few, id_of, slot_of, object_with, weak_to, made_one, with_blocks, calm, with_objects, attaching, busy, entry_of_one, entered, ages_of_busy, PremisesAreMet}
 use Rattle.hd_model.proofs.Members.{not_in_none}
 use Rattle.hd_model.proofs.ReadAfterWrite.{cell_cases, replicate_cases, get_inserted, get_beside, insert_all}
 use Rattle.hd_model.proofs.PropertyCounts.{counts_zero}
-use Rattle.hd_model.proofs.WellFormedWrites.{register_keeps, object_keeps, handle_keeps, removal_keeps, use_keeps, serial_keeps}
+use Rattle.hd_model.proofs.WeakSlots.{handle_row, row_cases}
+use Rattle.hd_model.proofs.WellFormedWrites.{register_keeps, object_keeps, handle_keeps, removal_keeps, use_keeps, serial_keeps, weak_keeps}
 use Rattle.hd_model.proofs.WellFormedSteps.{start_is_well_formed}
+use Rattle.hd_model.proofs.Entries.{none_from, some_value}
+use Rattle.hd_model.proofs.EntryKeys.{taken_out}
 use Rattle.hd_model.proofs.ReachTests.{is_holding}
 use Rattle.hd_model.proofs.NextState.{collections_exist}
 
@@ -23,7 +26,7 @@ use Rattle.hd_model.proofs.NextState.{collections_exist}
 led_within : (s : State) (S P : Id → Type 0) → ((x : Id) → S x → P x)
     → ((x y : Id) (object : Object Id) (i : ℕ) → P x → get s.objects x.0 ≡ Some object
     → field_of object i ≡ Some y → P y)
-    → ((x y : Id) (slot : ℕ) (h : Handle Id) → P x → get s.handles slot ≡ Some h → h.kind ≡ kind.Dependent
+    → ((x y : Id) (slot : ℕ) (h : Handle Id) → P x → row_of s slot ≡ Some h → h.kind ≡ kind.Dependent
     → h.target ≡ Some x → secondary_of h.extra ≡ Some y → P y)
     → {y : Id} → IsLedTo s S y → P y
 led_within s S P starts fields seconds (from_start {x} h) = starts x h
@@ -100,11 +103,13 @@ abbrev with_short : State
 with_short = with_handle with_blocks (slot_of 65) (weak_to kind.Short 1)
 
 with_short_is : IsWellFormed few with_short
-with_short_is = handle_keeps few with_blocks with_blocks_is (slot_of 65) (weak_to kind.Short 1) one_there tt
+with_short_is = handle_keeps few with_blocks with_blocks_is (slot_of 65) (weak_to kind.Short 1)
+    (get-empty nat_cmp 65) one_there tt
     block_one refl (λ e. refl)
 
 calm_is : IsWellFormed few calm
-calm_is = handle_keeps few with_short with_short_is (slot_of 129) (weak_to kind.Long 1) one_there tt block_two
+calm_is = handle_keeps few with_short with_short_is (slot_of 129) (weak_to kind.Long 1)
+    (get-empty nat_cmp 129) one_there tt block_two
     refl (λ e. refl)
 
 -- four more objects
@@ -195,18 +200,22 @@ with_80 = with_handle with_128 (slot_of 80) (weak_to kind.Short 1)
 
 with_64_is : IsWellFormed few with_64
 with_64_is = handle_keeps few with_objects with_objects_is (slot_of 64) (weak_to kind.Short 4)
+    (get-empty nat_cmp 64)
     (ap is_some at_four) tt block_one refl (λ e. refl)
 
 with_128_is : IsWellFormed few with_128
-with_128_is = handle_keeps few with_64 with_64_is (slot_of 128) (weak_to kind.Long 4) (ap is_some at_four) tt
+with_128_is = handle_keeps few with_64 with_64_is (slot_of 128) (weak_to kind.Long 4)
+    (get-empty nat_cmp 128) (ap is_some at_four) tt
     block_two refl (λ e. refl)
 
 with_80_is : IsWellFormed few with_80
-with_80_is = handle_keeps few with_128 with_128_is (slot_of 80) (weak_to kind.Short 1) (ap is_some at_one) tt
+with_80_is = handle_keeps few with_128 with_128_is (slot_of 80) (weak_to kind.Short 1)
+    (get-empty nat_cmp 80) (ap is_some at_one) tt
     block_one refl (λ e. refl)
 
 busy_is : IsWellFormed few busy
-busy_is = handle_keeps few with_80 with_80_is (slot_of 192) attaching (ap is_some at_one) (ap is_some at_five)
+busy_is = handle_keeps few with_80 with_80_is (slot_of 192) attaching (get-empty nat_cmp 192)
+    (ap is_some at_one) (ap is_some at_five)
     block_three refl (λ e. absurd (none-some (id_of 1) (sym e)))
 
 all_handles : (P : ℕ → Handle Id → Type 0) → P 65 (weak_to kind.Short 1) → P 129 (weak_to kind.Long 1)
@@ -219,6 +228,12 @@ all_handles P a b c d e f =
     (insert_all with_objects.handles 64 P (weak_to kind.Short 4) c
     (insert_all with_short.handles 129 P (weak_to kind.Long 1) b
     (insert_all with_blocks.handles 65 P (weak_to kind.Short 1) a (none_there P))))))
+
+-- its weak table is empty, so its rows are its handles
+row_is : (slot : ℕ) (h : Handle Id) → row_of busy slot ≡ Some h → get busy.handles slot ≡ Some h
+row_is slot h e =
+    ⊎_elim (λ live. live) (λ weak. absurd (none-some weak.1.0 (sym (get-empty nat_cmp slot) ∙ weak.1.1.0)))
+    (row_cases busy slot h e)
 
 at_64 : get busy.handles 64 ≡ Some (weak_to kind.Short 4)
 at_64 =
@@ -235,6 +250,23 @@ at_128 =
 
 at_192 : get busy.handles 192 ≡ Some attaching
 at_192 = get_inserted with_80.handles 192 attaching
+
+-- the state with an entry
+free_193 : get busy.handles 193 ≡ None
+free_193 = none_from (get busy.handles 193) (λ h.
+    let (g, e) = some_value (get busy.handles 193) h in
+    all_handles (λ k _. k ≡ 193 → ⊥) (λ e. omega arith) (λ e. omega arith) (λ e. omega arith)
+    (λ e. omega arith) (λ e. omega arith) (λ e. omega arith) 193 g e refl)
+
+entered_is : IsWellFormed few entered
+entered_is =
+    weak_keeps few busy busy_is (slot_of 193) (Some entry_of_one)
+    (λ x is. subst (λ (y : WeakEntry Id). Names busy (Some y.key) × Names busy y.value)
+    (same_Some entry_of_one x is) (ap is_some at_one, ap is_some at_five))
+    (λ x is q d at same. absurd (none-some (Some d) (sym (get-empty nat_cmp q) ∙ at))) block_three free_193
+
+held_193 : get entered.weak 193 ≡ Some (Some entry_of_one)
+held_193 = get_inserted busy.weak 193 (Some entry_of_one)
 
 -- what is in use in it: 1 and 5
 abbrev Few : Id → Type 0
@@ -260,7 +292,7 @@ few_used x (by_handle slot h e holding target) =
     absurd (all_handles (λ k g. role g ≡ holds → ⊥) (λ r. false≢true (ap is_holding r))
     (λ r. false≢true (ap is_holding r)) (λ r. false≢true (ap is_holding r))
     (λ r. false≢true (ap is_holding r))
-    (λ r. false≢true (ap is_holding r)) (λ r. false≢true (ap is_holding r)) slot h e holding)
+    (λ r. false≢true (ap is_holding r)) (λ r. false≢true (ap is_holding r)) slot h (row_is slot h e) holding)
 
 few_older : (x : Id) → IsOlder 0 busy x → Few x
 few_older x old =
@@ -276,11 +308,11 @@ few_fields x y object i used is_stored e =
     (λ k _. ⊎_elim (λ e. omega arith) (λ e. omega arith) k) (λ _ f. none-some y f) x.0 object is_stored
     used e)
 
-few_seconds : (x y : Id) (slot : ℕ) (h : Handle Id) → Few x → get busy.handles slot ≡ Some h
+few_seconds : (x y : Id) (slot : ℕ) (h : Handle Id) → Few x → row_of busy slot ≡ Some h
     → h.kind ≡ kind.Dependent → h.target ≡ Some x → secondary_of h.extra ≡ Some y → Few y
 few_seconds x y slot h used e is target second =
     all_handles (λ k g. secondary_of g.extra ≡ Some y → Few y) (few_named y) (few_named y) (few_named y)
-    (few_named y) (few_named y) (λ f. inr (number_is 5 y f)) slot h e second
+    (few_named y) (few_named y) (λ f. inr (number_is 5 y f)) slot h (row_is slot h e) second
 
 in_use_few : {x : Id} → IsInUse 0 busy x → Few x
 in_use_few used = led_within busy (λ x. IsUsed busy x ⊎ IsOlder 0 busy x) Few
@@ -310,14 +342,15 @@ led_fields x y object i led is_stored e =
     (λ f. absurd (none-some y f)) (λ f. absurd (none-some y f)) (led_from_leading i y)
     (λ f. absurd (none-some y f)) x.0 object is_stored e
 
-led_seconds : (x y : Id) (slot : ℕ) (h : Handle Id) → Led x → get busy.handles slot ≡ Some h
+led_seconds : (x y : Id) (slot : ℕ) (h : Handle Id) → Led x → row_of busy slot ≡ Some h
     → h.kind ≡ kind.Dependent → h.target ≡ Some x → secondary_of h.extra ≡ Some y → Led y
 led_seconds x y slot h led e is target second =
     let one : x.0 ≡ 1 =
     all_handles (λ k g. g.kind ≡ kind.Dependent → g.target ≡ Some x → x.0 ≡ 1)
     (λ q _. absurd (false≢true (ap is_paired q))) (λ q _. absurd (false≢true (ap is_paired q)))
     (λ q _. absurd (false≢true (ap is_paired q))) (λ q _. absurd (false≢true (ap is_paired q)))
-    (λ q _. absurd (false≢true (ap is_paired q))) (λ _ t. number_is 1 x t) slot h e is target in
+    (λ q _. absurd (false≢true (ap is_paired q)))
+    (λ _ t. number_is 1 x t) slot h (row_is slot h e) is target in
     absurd (⊎_elim (λ three. omega arith) (λ four. omega arith) led)
 
 rescued_led : {x : Id} → IsLedTo busy (IsResurrected 0 busy) x → Led x
@@ -346,12 +379,13 @@ busy_ages = record {
   targets = λ slot h x e target.
       all_handles (λ k g. g.target ≡ Some x → age_of ages_of_busy k ≤ generation_at (scene_of busy).object x)
       (λ _. low _ _ refl) (λ _. low _ _ refl) (λ _. low _ _ refl) (λ _. low _ _ refl) (one_old x)
-      (λ _. low _ _ refl) slot h e target;
+      (λ _. low _ _ refl) slot h (row_is slot h e) target;
   secondaries = λ slot h x e second.
       all_handles
       (λ k g. secondary_of g.extra ≡ Some x → age_of ages_of_busy k ≤ generation_at (scene_of busy).object x)
       (λ f. absurd (none-some x f)) (λ f. absurd (none-some x f)) (λ f. absurd (none-some x f))
-      (λ f. absurd (none-some x f)) (λ f. absurd (none-some x f)) (λ _. low _ _ refl) slot h e second;
+      (λ f. absurd (none-some x f)) (λ f. absurd (none-some x f))
+      (λ _. low _ _ refl) slot h (row_is slot h e) second;
 }
 
 -- in the calm state nothing is registered
@@ -369,7 +403,8 @@ premises_are_met = record {
   busy_is = busy_is;
   after_calm = collections_exist few 1 calm calm_is;
   after_busy = collections_exist few 0 busy busy_is;
-  in_use = by_dependent (from_start (inl (in_register 0 0 refl))) 192 attaching at_192 refl refl refl;
+  in_use = by_dependent (from_start (inl (in_register 0 0 refl))) 192 attaching
+      (handle_row busy 192 attaching at_192) refl refl refl;
   garbage = record {
     object = ap is_some at_two;
     out_of_use = out 2 (λ e. omega arith) (λ e. omega arith);
@@ -408,6 +443,11 @@ premises_are_met = record {
   without =
       collections_exist few 0 (without_handle busy (slot_of 192))
       (removal_keeps few busy busy_is (slot_of 192));
+  entered_is = entered_is;
+  entry = held_193;
+  after_entered = collections_exist few 0 entered entered_is;
+  taken_out = collections_exist few 0 (with_weak entered (slot_of 193) None)
+      (taken_out few entered entered_is (slot_of 193) (ap is_some held_193));
   ages = busy_ages;
   not_due = refl;
   due = refl;

@@ -1,20 +1,20 @@
 -- What is marked over due clumps and condemned objects alone is what chains of edges lead to.
-use Rattle.hd_model.proofs.Basics.{◌≡◌, ℕ, ◌<◌, ◌≤◌, true, false, List, Option, Some, None, IsSome, refl, sym, ap, ◌∙◌, subst, ⊎_elim, inl, inr, ◌⊎◌, arith, option_map, is_some, get, cases_Bool, cases_lt}
+use Rattle.hd_model.proofs.Basics.{◌≡◌, ℕ, ◌<◌, ◌≤◌, true, false, List, Option, Some, None, IsSome, refl, sym, ap, ◌∙◌, subst, ⊎_elim, inl, inr, ◌⊎◌, arith, is_some, get, cases_Bool, cases_lt}
 use Rattle.hd_model.specs.Data.{Id, Report}
 use Rattle.hd_model.specs.declared.data.Kind.TheVariants as kind
-use Rattle.hd_model.specs.State.{Object, Handle, State, secondary_of, field_of}
+use Rattle.hd_model.specs.State.{Object, Handle, State, row_of, secondary_of, field_of}
 use Rattle.hd_model.specs.Scene.{scene_of, is_object, generation_in, generation_at, IsCondemned, IsWhole}
 use Rattle.hd_model.specs.Ages.{is_due, HasSoundAges}
 use Rattle.hd_model.specs.Reach.{older}
-use Rattle.hd_model.specs.Collect.{cleared, Collects}
+use Rattle.hd_model.specs.Collect.{cleared, Collects, CollectsState}
 use Rattle.hd_model.specs.InUse.{IsUsed, in_register, in_static, in_queue, by_handle, IsOlder, IsLedTo, from_start, by_field, by_dependent, IsInUse, IsResurrected}
 use Rattle.hd_model.specs.DueClumps.{IsDueRoot, due_register, due_static, due_queue, due_holder, older_field, older_target, IsMarked, mark_start, mark_field, mark_secondary, HidesNothing}
 use Rattle.hd_model.specs.CollectionLaws.{AgesHideNothing}
+use Rattle.hd_model.proofs.WeakSlots.{handle_left, weak_left}
 use Rattle.hd_model.proofs.WholeScenes.{whole_scene, register_named, static_named, field_in}
 use Rattle.hd_model.proofs.SceneCollection.{keeps_root, root_reached}
 use Rattle.hd_model.proofs.MarkReach.{undue_target, undue_secondary, undue_stays}
 use Rattle.hd_model.proofs.UseChains.{led_chain, chain_led}
-use Rattle.hd_model.proofs.Fates.{handle_after}
 
 module _ (s : State) where
   -- chains from more starts
@@ -124,7 +124,7 @@ module _ (s : State) where
           }
 
       -- along a dependent handle
-      found_secondary : (x y : Id) → Found x → (slot : ℕ) (h : Handle Id) → get s.handles slot ≡ Some h
+      found_secondary : (x y : Id) → Found x → (slot : ℕ) (h : Handle Id) → row_of s slot ≡ Some h
           → h.kind ≡ kind.Dependent → h.target ≡ Some x → secondary_of h.extra ≡ Some y → Found y
       found_secondary x y found slot h is dependent target second =
           ⊎_elim
@@ -179,8 +179,11 @@ marked_like ages n s A B turn (mark_secondary chain slot h due dependent target 
     mark_secondary (marked_like ages n s A B turn chain) slot h due dependent target second young
 
 module _ (n : ℕ) (s t : State) (r : Report) (w : IsWhole (scene_of s))
-    (c : Collects (λ (x : Id). x.0) n (scene_of s) (scene_of t) r) (ages : List ℕ)
+    (did : CollectsState n s t r) (ages : List ℕ)
     (sound : HasSoundAges (scene_of s).object (scene_of s).handle ages) where
+  abbrev c : Collects (λ (x : Id). x.0) n (scene_of s) (scene_of t) r
+  c = did.scene
+
   abbrev Roots : Id → Type 0
   Roots x = IsUsed s x ⊎ IsOlder n s x
 
@@ -199,18 +202,16 @@ module _ (n : ℕ) (s t : State) (r : Report) (w : IsWhole (scene_of s))
       (marked_led s n w ages sound (λ _. ⊥) (λ y never. absurd never)
       (marked_like ages n s (IsDueRoot ages n s) (λ y. IsDueRoot ages n s y ⊎ ⊥) (λ y h. inl h) marked)))
 
-  undue_handle : (slot : ℕ) → is_due ages n slot ≡ false → (o : Option (Handle Id)) → get s.handles slot ≡ o
-      → get t.handles slot ≡ get s.handles slot
-  undue_handle slot undue None e = c.handles slot ∙ ap (option_map (cleared c.reach c.kept)) e ∙ sym e
-  undue_handle slot undue (Some h) e =
-      handle_after n s t r w c slot h e
-      ∙ ap (λ q. Some q) (undue_stays (scene_of s).object n (scene_of s).handle ages sound slot h e undue
+  undue_row : (slot : ℕ) → is_due ages n slot ≡ false → (h : Handle Id) → row_of s slot ≡ Some h
+      → cleared c.reach c.kept h ≡ h
+  undue_row slot undue h e =
+      undue_stays (scene_of s).object n (scene_of s).handle ages sound slot h e undue
       c.reach c.kept (λ x l. (c.reach_is x).1 (root_reached n (scene_of s) x (older l)))
-      (λ x l. keeps_root (λ (y : Id). y.0) n (scene_of s) (scene_of t) r w c x (older l)))
-      ∙ sym e
+      (λ x l. keeps_root (λ (y : Id). y.0) n (scene_of s) (scene_of t) r w c x (older l))
 
-  pub hides_nothing : HidesNothing ages n s t
-  hides_nothing = record {
+  pub hides_nothing : ((slot : ℕ) → IsSome (get s.weak slot) → get s.handles slot ≡ None)
+      → HidesNothing ages n s t
+  hides_nothing apart = record {
     used = λ x young. (used_marked x young, marked_used x);
     kept = λ x young. (
       λ h. condemned_marked s n w ages sound (IsResurrected n s) (λ y v. ap is_some v.is_stored) x young
@@ -220,9 +221,12 @@ module _ (n : ℕ) (s t : State) (r : Report) (w : IsWhole (scene_of s))
       λ marked. led_either s Roots (IsResurrected n s)
           (marked_led s n w ages sound (IsResurrected n s) (λ y v. ap is_some v.is_stored) marked),
     );
-    handles = λ slot undue. undue_handle slot undue (get s.handles slot) refl;
+    handles = λ slot undue. did.handles slot
+        ∙ handle_left s c.reach c.kept slot (undue_row slot undue) (get s.handles slot) refl;
+    weak = λ slot undue. did.weak slot
+        ∙ weak_left s c.reach c.kept slot (undue_row slot undue) (apart slot) (get s.weak slot) refl;
   }
 
 pub ages_hide_nothing : AgesHideNothing
 ages_hide_nothing m n s t r ages h sound =
-    hides_nothing n s t r (whole_scene m s h.well_formed) h.collects.scene ages sound
+    hides_nothing n s t r (whole_scene m s h.well_formed) h.collects ages sound h.well_formed.weak.apart

@@ -1,18 +1,20 @@
 -- What each command does where it is not refused, one case for each way.
-use Rattle.hd_model.proofs.Basics.{◌≡◌, ℕ, ◌<◌, ◌+◌, ◌-◌, ◌^◌, ◌==◌, ◌&&◌, Bool, true, false, length, set, Option, Some, None, is_some, IsSome, cond, List, [], ◌∷◌, refl, sym, ap, ◌∙◌, subst, ⊎_elim, option_and_then}
+use Rattle.hd_model.proofs.Basics.{◌≡◌, ℕ, ◌<◌, ◌+◌, ◌-◌, ◌^◌, ◌==◌, ◌&&◌, Bool, true, false, length, set, Option, Some, None, is_some, IsSome, cond, List, [], ◌∷◌, refl, sym, ap, ◌∙◌, subst, ⊎_elim, ◌⊎◌, inl, inr, option_and_then, get}
 use Rattle.hd_model.specs.Data.{Id, Slot, Entry, Kind, Make, Strength, Grown, Refusal, Cmd}
 use Rattle.hd_model.specs.declared.data.Kind.TheVariants as kind
 use Rattle.hd_model.specs.declared.data.Grown.TheVariants.{Zero, One, Two, Back}
+use Rattle.hd_model.specs.declared.data.Refusal.TheVariants as refusal
 use Rattle.hd_model.specs.declared.data.Reply.TheVariants as reply
 use Rattle.hd_model.specs.declared.command.Cmd.TheVariants as cmd
 use Rattle.hd_model.specs.Kinds.{kind_of, is_kind}
-use Rattle.hd_model.specs.State.{Numbers, Object, Extra, strength, secondary, count, Handle, State, secondary_of, count_of, without_secondary, register_of, handle_register_of, static_of, board_of, last_serial, object_by_id, field_of, handle_at, identity_of, IsAllFree, with_register, with_handle_register, with_static, with_board, with_object, with_handle, without_handle, without_use, with_queue, with_place, with_serial}
+use Rattle.hd_model.specs.State.{Numbers, Object, Extra, strength, secondary, count, Handle, State, secondary_of, count_of, without_secondary, register_of, handle_register_of, static_of, board_of, last_serial, object_by_id, field_of, handle_at, identity_of, IsAllFree, with_weak, with_register, with_handle_register, with_static, with_board, with_object, with_handle, without_handle, without_use, with_queue, with_place, with_serial}
 use Rattle.hd_model.specs.Role.{pins}
 use Rattle.hd_model.specs.Places.{MayAnswer}
-use Rattle.hd_model.specs.Command.{Outcome, refuses, loaded, on_handle, on_handle_of, fresh_object, take_first, set_registered, made_handle}
-use Rattle.hd_model.specs.Step.{IsOutcome, MayGive, with_growth, MakesHandle, pinned_by, AnswersPlace, DoesCollect, GivesBack, StepOf, Step}
+use Rattle.hd_model.specs.Command.{Outcome, refuses, loaded, on_handle, on_handle_of, fresh_object, take_first, set_registered, made_handle, answers, Adding, is_refused, in_idle, in_new, adding_key, adding_of, with_entry, slot_of_key, idle_slot, value_at}
+use Rattle.hd_model.specs.Step.{IsOutcome, MayGive, with_growth, MakesHandle, AddsEntry, pinned_by, AnswersPlace, DoesCollect, GivesBack, way_of_adding, TakesWay, StepOf, Step}
 use Rattle.hd_model.specs.WellFormed.{FitsKind}
 use Rattle.hd_model.proofs.KindTests.{same_kind}
+use Rattle.hd_model.proofs.WeakSlots.{HasNoKey, HasKey, key_found, key_none, idle_found, value_is}
 use Rattle.hd_model.proofs.Outcomes.{option_cases, test_cases, on_object_cases, on_field_cases, on_handle_cases, on_handle_of_cases}
 
 -- the identity that a `new` gives
@@ -39,6 +41,12 @@ with_made_parts s caller grown d given t slot =
     (with_handle (record s { blocks = (with_growth s (kind_of given) grown).blocks }) slot
     (made_handle s caller given t))
     caller d (Some slot)
+
+-- the slot that a done `cadd` may take: an idle one of the weak table, or one that the table gets as a
+-- dependent handle does
+abbrev pub MayHold : Numbers → State → Grown → Slot → Type 0
+MayHold n s grown slot = ((get s.weak slot.0 ≡ Some None) × (grown ≡ Zero))
+    ⊎ MayGive n s kind.Dependent grown slot
 
 -- what an entry of a command does to a state
 pub data Effect (n : Numbers) (s : State) (e : Entry) : Cmd → State → Type 0 where
@@ -119,6 +127,19 @@ pub data Effect (n : Numbers) (s : State) (e : Entry) : Cmd → State → Type 0
       → Effect n s e (cmd.AddrOf h) (with_place s id p)
   gives_back : {given : Kind} (block : ℕ) → IsAllFree s given block → e.reply ≡ reply.Value 1
       → Effect n s e (cmd.Trim given) (without_use s block)
+  adds_entry : {k v : ℕ} (key : Id) (slot : Slot) → register_of s e.caller k ≡ Some key → HasNoKey s key
+      → MayHold n s e.grown slot → e.reply ≡ reply.Done → e.slot ≡ Some slot
+      → Effect n s e (cmd.CAdd k v)
+      (with_entry (record s { blocks = (with_growth s kind.Dependent e.grown).blocks }) s e.caller v slot key)
+  finds_value : {d k : ℕ} (key : Id) (slot : Slot) (has : HasKey s key slot.0)
+      → register_of s e.caller k ≡ Some key → e.reply ≡ loaded has.entry.value
+      → Effect n s e (cmd.CFind d k) (with_register s e.caller d has.entry.value)
+  finds_no_entry : {d k : ℕ} (key : Id) → register_of s e.caller k ≡ Some key → HasNoKey s key
+      → e.reply ≡ reply.Absent → Effect n s e (cmd.CFind d k) (with_register s e.caller d None)
+  removes_entry : {k : ℕ} (key : Id) (slot : Slot) → HasKey s key slot.0 → register_of s e.caller k ≡ Some key
+      → e.reply ≡ reply.Done → Effect n s e (cmd.CRemove k) (with_weak s slot None)
+  removes_none : {k : ℕ} (key : Id) → register_of s e.caller k ≡ Some key → HasNoKey s key
+      → e.reply ≡ reply.Absent → Effect n s e (cmd.CRemove k) s
   gives_none : {given : Kind} → e.reply ≡ reply.Value 0 → Effect n s e (cmd.Trim given) s
 
 -- growth changes the use of blocks and nothing else
@@ -195,6 +216,44 @@ module _ (n : Numbers) (s : State) (e : Entry) (t : State) where
       on_handle_cases (Comes c) s e.caller h act (λ _. refuses_it _ _) (λ _ _ _. refuses_it _ _)
       (λ slot handle f g. does slot handle (record { names = f; live = g }))
 
+  abbrev Adds : ℕ → ℕ → Adding → Type 0
+  Adds k v a = TakesWay n s e t (way_of_adding s e.caller v a) → Effect n s e (cmd.CAdd k v) t
+
+  -- the state with the entry, as a write to each part of the state
+  abbrev added : ℕ → Slot → Id → Grown → State
+  added v slot key g =
+      with_entry (record s { blocks = (with_growth s kind.Dependent g).blocks }) s e.caller v slot key
+
+  adds_idle : (k v : ℕ) (key : Id) (slot : Slot) → register_of s e.caller k ≡ Some key → HasNoKey s key
+      → get s.weak slot.0 ≡ Some None → Adds k v (in_idle slot key)
+  adds_idle k v key slot f none idle o =
+      subst (Effect n s e (cmd.CAdd k v)) (sym (o.after ∙ ap (added v slot key) (sym o.grown)))
+      (adds_entry key slot f none (inl (idle, o.grown)) o.reply o.slot)
+
+  adds_new : (k v : ℕ) (key : Id) → register_of s e.caller k ≡ Some key → HasNoKey s key
+      → AddsEntry n s e t v key → Effect n s e (cmd.CAdd k v) t
+  adds_new k v key f none a =
+      subst (Effect n s e (cmd.CAdd k v))
+      (sym (a.after ∙ ap (λ x. with_entry x s e.caller v a.slot key) (growth_is s kind.Dependent e.grown)))
+      (adds_entry key a.slot f none (inr a.may) a.reply a.given)
+
+  adds_it : (k v : ℕ) → Adds k v (adding_of s e.caller k)
+  adds_it k v =
+      option_cases (Adds k v) (adding_key s) (register_of s e.caller k) _
+      (λ _. refuses_it _ _)
+      (λ key f. option_cases (Adds k v) (λ _. is_refused refusal.Present) (slot_of_key s key) _
+      (λ none. option_cases (Adds k v) (λ slot. in_idle slot key) (idle_slot s) (in_new key)
+      (λ _. ⊎_elim (adds_new k v key f (key_none s key none)) (λ full. refuses_it _ _ full.refused))
+      (λ slot is. adds_idle k v key slot f (key_none s key none) (idle_found s slot is)))
+      (λ _ _. refuses_it _ _))
+
+  finds_it : (d k : ℕ) (key : Id) (slot : Slot) → HasKey s key slot.0 → register_of s e.caller k ≡ Some key
+      → Comes (cmd.CFind d k) (answers (loaded (value_at s slot)) (with_register s e.caller d
+      (value_at s slot)))
+  finds_it d k key slot has f =
+      subst (λ x. Comes (cmd.CFind d k) (answers (loaded x) (with_register s e.caller d x)))
+      (sym (value_is s slot has.entry has.held)) (comes _ _ (λ p _. finds_value key slot has f p))
+
   command_effect : (c : Cmd) → StepOf n s e t c → Effect n s e c t
   command_effect (cmd.New d fields fin) h =
       test_cases (Comes (cmd.New d fields fin)) _ _ _
@@ -252,6 +311,17 @@ module _ (n : Numbers) (s : State) (e : Entry) (t : State) where
   command_effect (cmd.Trim given) h =
       ⊎_elim (λ (g : GivesBack s e t given). subst (Effect n s e (cmd.Trim given)) (sym g.after)
       (gives_back g.block g.free g.reply)) (comes _ _ (λ p _. gives_none p)) h
+  command_effect (cmd.CAdd k v) h = adds_it k v h
+  command_effect (cmd.CFind d k) h =
+      on_object_cases (Comes (cmd.CFind d k)) s e.caller k _ (λ _. refuses_it _ _)
+      (λ key f. option_cases (Comes (cmd.CFind d k)) _ (slot_of_key s key) _
+      (λ none. comes _ _ (λ p _. finds_no_entry key f (key_none s key none) p))
+      (λ slot is. finds_it d k key slot (key_found s key slot is) f)) h
+  command_effect (cmd.CRemove k) h =
+      on_object_cases (Comes (cmd.CRemove k)) s e.caller k _ (λ _. refuses_it _ _)
+      (λ key f. option_cases (Comes (cmd.CRemove k)) _ (slot_of_key s key) _
+      (λ none. comes _ _ (λ p _. removes_none key f (key_none s key none) p))
+      (λ slot is. comes _ _ (λ p _. removes_entry key slot (key_found s key slot is) f p))) h
 
   pub effect : Step n s e t → Effect n s e e.cmd t
   effect step = command_effect e.cmd step.does

@@ -1,5 +1,5 @@
 -- A finite map by numbers against the lists of its entries, keys and values; and how many keys it has.
-use Rattle.hd_model.proofs.Basics.{[], ◌≡◌, ◌≢◌, ℕ, ◌<◌, Bool, true, false, cond, ◌&&◌, T, List, ◌∷◌, map, Option, Some, None, is_some, IsSome, refl, sym, ap, ◌∙◌, subst, ⊎_elim, arith, Contains, AllPairs, list_any, FinMap, get, len, find, is_sorted, entries, keys, values, entries_sorted, get-entries, len-entries, below_all, nat_cmp, is_lt, eq_by_cmp, unsigned_tied, eq-eqb, ne_eqb, cases_eq, or_cases, or_left, or_right, false≢true, nat_tests, length-map, none-some, same_Some}
+use Rattle.hd_model.proofs.Basics.{AllPairs, Bool, Contains, FinMap, IsSome, List, None, Option, Some, T, [], ap, arith, below_all, cases_eq, cond, entries, entries_sorted, eq-eqb, eq_by_cmp, false, false≢true, find, get, get-entries, is_lt, is_some, is_sorted, keys, len, len-entries, length-map, list_any, map, nat_cmp, nat_tests, ne_eqb, none-some, or_cases, or_left, or_right, refl, same_Some, subst, sym, true, unsigned_tied, values, ℕ, ⊎_elim, ◌&&◌, ◌<◌, ◌∙◌, ◌∷◌, ◌≡◌, ◌≢◌}
 use Rattle.hd_model.specs.Counting.{Counts}
 use Rattle.hd_model.proofs.Members.{not_in_none, first_in, later_in, member_cases, mapped_in, mapped_from, pairs_none, pairs_cons, pairs_like, pairs_mapped}
 
@@ -15,6 +15,10 @@ pub some_value : {A : Type 0} (o : Option A) → is_some o ≡ true → (x : A) 
 some_value None h = absurd (false≢true h)
 some_value (Some x) h = (x, refl)
 
+pub none_from : {X : Type 0} (o : Option X) → (IsSome o → ⊥) → o ≡ None
+none_from None h = refl
+none_from (Some x) h = absurd (h refl)
+
 pub both : (a b : Bool) → T (a && b) → T a × T b
 both true b p = (tt, p)
 both false b p = absurd p
@@ -29,8 +33,7 @@ module _ {A : Type 0} where
   below x (f ∷ es) h e c =
       let parts : T (is_lt (nat_cmp x f.0)) × T (below_all nat_cmp x es) = both _ _ h in
       ⊎_elim (λ same. subst (λ (g : ℕ × A). x < g.0) same (less x f.0 parts.0))
-      (λ later. below x es parts.1 e later)
-      (member_cases f es e c)
+      (λ later. below x es parts.1 e later) (member_cases f es e c)
 
   -- what is found in a sorted list is an entry, and each entry is found
   pub find_entry : (es : List (ℕ × A)) → T (is_sorted nat_cmp es) → (e : ℕ × A) → Contains es e
@@ -91,8 +94,7 @@ module _ {X : Type 0} (m : FinMap nat_cmp X) where
 
   -- a map has as many keys as its length says, under any name for numbers that distinguishes them
   pub counts_keys : {A : Type 0} (name : ℕ → A) (number : A → ℕ) → ((k : ℕ) → number (name k) ≡ k)
-      → ((x : A) → name (number x) ≡ x)
-      → Counts (λ x. IsSome (get m (number x))) (len m)
+      → ((x : A) → name (number x) ≡ x) → Counts (λ x. IsSome (get m (number x))) (len m)
   counts_keys name number there back = record {
     members = map name (keys m);
     apart =

@@ -1,10 +1,6 @@
 -- What holds of one basis and one table holds of equal ones.
-use Rattle.hd_model.proofs.Basics.{[], ◌≡◌, ◌*◌, ℕ, List, length, sym, subst, ap, ◌∙◌, slice_index_or, sum_by}
-use Rattle.hd_model.specs.Heap.{Basis, objects_of}
-use Rattle.hd_model.specs.Table.{Table, row_at}
-use Rattle.hd_model.specs.Data.{Kind}
-use Rattle.hd_model.specs.Kinds.{kind_number}
-use Rattle.hd_model.specs.Ages.{visits}
+use Rattle.hd_model.proofs.Basics.{Kind, List, [], ap, kind_number, length, slice_index_or, subst, sum_by, sym, visits, ℕ, ◌*◌, ◌∙◌, ◌≡◌}
+use Rattle.hd_model.specs.{Heap.Basis, Heap.objects_of, Table.Table, Table.row_at}
 use Rattle.hd_model.specs.Visits.{visits_of, visits_over, MayVisitDue, IsSameTable}
 use Rattle.hd_model.proofs.RowReferences.{Fades, faded_names, faded_ages}
 

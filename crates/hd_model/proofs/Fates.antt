@@ -6,11 +6,12 @@ use Rattle.hd_model.specs.Role.{Role, holds, short, long, attaches, role}
 use Rattle.hd_model.specs.Scene.{scene_of, IsWhole}
 use Rattle.hd_model.specs.Ages.{raised}
 use Rattle.hd_model.specs.Reach.{held, IsToBeFinalized, IsReached}
-use Rattle.hd_model.specs.Collect.{is_lost, loses_by, loses, cleared, survivor, Collects}
+use Rattle.hd_model.specs.Collect.{is_lost, loses_by, loses, cleared, survivor, Collects, CollectsState}
 use Rattle.hd_model.specs.InUse.{in_queue, from_start, IsInUse, IsResurrected, IsRescued, IsGarbage}
 use Rattle.hd_model.specs.CollectionLaws.{KeepsContents, RescuedObjectsStay, IsLeftAlone, InUseIsLeftAlone, InUseIsReached, HasTarget, IsGone, GarbageGoes, Joins, IsUnregistered, ResurrectsOnce, ObjectsAreResurrectedOnce, QueueGrowsInTurn, RisesOnce, GenerationsRiseOnce}
 use Rattle.hd_model.proofs.EdgeChains.{leads_on}
 use Rattle.hd_model.proofs.Entries.{some_value}
+use Rattle.hd_model.proofs.WeakSlots.{handle_row}
 use Rattle.hd_model.proofs.WholeScenes.{whole_scene}
 use Rattle.hd_model.proofs.SceneCollection.{kept_object, object_before, object_after, keeps_root, keeps_reached, keeps_resurrected}
 use Rattle.hd_model.proofs.IdleCollection.{raised_older, kept_target, loses_none, attaching_lost, cleared_same}
@@ -35,14 +36,17 @@ loses_gone long reach kept o x e a b never = lost_target kept o x e b
 loses_gone attaches reach kept o x e a b never = lost_target kept o x e b
 
 module _ (n : ℕ) (s t : State) (r : Report) (w : IsWhole (scene_of s))
-    (c : Collects (λ (x : Id). x.0) n (scene_of s) (scene_of t) r) where
+    (did : CollectsState n s t r) where
   abbrev rank : Id → ℕ
   rank x = x.0
+
+  abbrev c : Collects rank n (scene_of s) (scene_of t) r
+  c = did.scene
 
   -- a handle after the collection
   pub handle_after : (slot : ℕ) (g : Handle Id) → get s.handles slot ≡ Some g
       → get t.handles slot ≡ Some (cleared c.reach c.kept g)
-  handle_after slot g is_stored = c.handles slot ∙ ap (option_map (cleared c.reach c.kept)) is_stored
+  handle_after slot g is_stored = did.handles slot ∙ ap (option_map (cleared c.reach c.kept)) is_stored
 
   -- what is in use is reached, and what is reached is kept and not resurrected
   pub use_in_reach : (x : Id) → IsInUse n s x → c.reach x ≡ true
@@ -140,7 +144,13 @@ module _ (n : ℕ) (s t : State) (r : Report) (w : IsWhole (scene_of s))
     target = cond-true (loses c.reach c.kept g) None g.target
         (loses_gone (role g) c.reach c.kept g.target x target unreached lost
         (λ holding. true≢false (sym (keeps_root rank n (scene_of s) (scene_of t) r w c x
-        (held (record { slot = slot; handle = g; is_stored = is_stored; holds = holding; target = target })))
+        (held (record {
+          slot = slot;
+          handle = g;
+          is_stored = handle_row s slot g is_stored;
+          holds = holding;
+          target = target;
+        })))
         ∙ lost)));
   }
 
@@ -202,18 +212,18 @@ module _ (n : ℕ) (s t : State) (r : Report) (w : IsWhole (scene_of s))
 
 pub in_use_is_left_alone : InUseIsLeftAlone
 in_use_is_left_alone m n s t r x h used =
-    left_alone n s t r (whole_scene m s h.well_formed) h.collects.scene x used
+    left_alone n s t r (whole_scene m s h.well_formed) h.collects x used
 
 pub rescued_objects_stay : RescuedObjectsStay
 rescued_objects_stay m n s t r x h rescued =
-    rescued_contents n s t r (whole_scene m s h.well_formed) h.collects.scene x rescued
+    rescued_contents n s t r (whole_scene m s h.well_formed) h.collects x rescued
 
 pub garbage_goes : GarbageGoes
-garbage_goes m n s t r x h g = garbage_gone n s t r (whole_scene m s h.well_formed) h.collects.scene x g
+garbage_goes m n s t r x h g = garbage_gone n s t r (whole_scene m s h.well_formed) h.collects x g
 
 pub objects_are_resurrected_once : ObjectsAreResurrectedOnce
 objects_are_resurrected_once m n s t r h =
-    resurrects_once n s t r (whole_scene m s h.well_formed) h.collects.scene
+    resurrects_once n s t r (whole_scene m s h.well_formed) h.collects
 
 pub queue_grows_in_turn : QueueGrowsInTurn
 queue_grows_in_turn m n s t r h =
@@ -221,7 +231,7 @@ queue_grows_in_turn m n s t r h =
 
 pub generations_rise_once : GenerationsRiseOnce
 generations_rise_once m n s t r id old new h before after =
-    rises_once n s t r (whole_scene m s h.well_formed) h.collects.scene id old new before after
+    rises_once n s t r (whole_scene m s h.well_formed) h.collects id old new before after
 
 pub in_use_is_reached : InUseIsReached
 in_use_is_reached n s x = (use_reached s n x, reached_use s n x)

@@ -1,16 +1,6 @@
 -- In every state of a run there is a free place for each object, so no caller is ever stuck.
-use Rattle.hd_model.proofs.Basics.{◌≡◌, ℕ, zero, suc, ◌+◌, ◌*◌, ◌/◌, ◌<◌, ◌≤◌, ◌⊎◌, Bool, true, false, cond, List, [], ◌∷◌, length, Option, Some, None, IsSome, is_some, nat_cmp, refl, sym, ap, ◌∙◌, subst, arith, inl, inr, ⊎_elim, unwrap_or, true≢false, FinMap, get, insert, empty, find, len, entries, len-empty, len-entries, len-insert, get-entries, contains_key, nat_cmp_total, cases_eq}
-use Rattle.hd_model.specs.Data.{Id}
-use Rattle.hd_model.specs.State.{Numbers, Object, State, object_by_id, size_of, total_size}
-use Rattle.hd_model.specs.Places.{IsFreePlace}
-use Rattle.hd_model.specs.WellFormed.{IsWellFormed}
-use Rattle.hd_model.specs.UserLaws.{RunsAreNeverStuck}
-use Rattle.hd_model.proofs.Entries.{found_later}
-use Rattle.hd_model.proofs.HeapLimit.{heap_is_within_its_limit}
-use Rattle.hd_model.proofs.StepExistence.{filled, every_command_has_a_step}
-use Rattle.hd_model.proofs.Sums.{sum-many}
-use Rattle.hd_model.proofs.WellFormedSteps.{run_is_well_formed}
-use Rattle.hd_model.proofs.ReadAfterWrite.{get_inserted, still_some}
+use Rattle.hd_model.proofs.Basics.{Bool, FinMap, Id, IsFreePlace, IsSome, IsWellFormed, List, None, Numbers, Object, Option, RunsAreNeverStuck, Some, State, [], ap, arith, cases_eq, cond, contains_key, empty, entries, false, find, get, get-entries, inl, inr, insert, is_some, len, len-empty, len-entries, len-insert, length, nat_cmp, nat_cmp_total, object_by_id, refl, size_of, subst, suc, sym, total_size, true, true≢false, unwrap_or, zero, ℕ, ⊎_elim, ◌*◌, ◌+◌, ◌/◌, ◌<◌, ◌∙◌, ◌∷◌, ◌≡◌, ◌≤◌, ◌⊎◌}
+use Rattle.hd_model.proofs.{Entries.found_later, HeapLimit.heap_is_within_its_limit, StepExistence.filled, StepExistence.every_command_has_a_step, Sums.sum-many, WellFormedSteps.run_is_well_formed, ReadAfterWrite.get_inserted, ReadAfterWrite.still_some}
 
 -- a key that a map lacks, among some from a number on
 data Lacks {X : Type 0} (m : FinMap nat_cmp X) (from fuel : ℕ) : Type 0 where

@@ -1,14 +1,7 @@
 -- The table grows in one way: by its least unused blocks, and it is full only where there are too few.
-use Rattle.hd_model.proofs.Basics.{◌≡◌, ◌≢◌, ℕ, zero, suc, ◌+◌, ◌-◌, ◌<◌, ◌≤◌, Bool, true, false, cond, Option, None, is_some, IsSome, sym, ap, ◌∙◌, subst, arith, nat_cmp, ⊎_elim, true≢false, le_of_eq, FinMap, get, insert, remove, empty, len, get-empty, len-empty, len-remove, same_map, nat_cmp-IsAntisymmetric, nat_cmp_total, cases_order}
-use Rattle.hd_model.specs.Data.{Slot, Kind, Grown}
-use Rattle.hd_model.specs.declared.data.Grown.TheVariants.{Zero, One, Two, Back}
-use Rattle.hd_model.specs.State.{Numbers, extra_data, State, use_of, given_of, first_slot, with_use}
-use Rattle.hd_model.specs.Step.{blocks_needed, IsLeastUnused, MayGive}
-use Rattle.hd_model.specs.Run.{NoneFree}
-use Rattle.hd_model.specs.WellFormed.{IsWellFormed}
+use Rattle.hd_model.proofs.Basics.{Back, Bool, FinMap, Grown, IsLeastUnused, IsSome, IsWellFormed, Kind, MayGive, None, NoneFree, Numbers, One, Option, Slot, State, Two, Zero, ap, arith, blocks_needed, cases_order, cond, empty, extra_data, false, first_slot, get, get-empty, given_of, insert, is_some, le_of_eq, len, len-empty, len-remove, nat_cmp, nat_cmp-IsAntisymmetric, nat_cmp_total, remove, same_map, subst, suc, sym, true, true≢false, use_of, with_use, zero, ℕ, ⊎_elim, ◌+◌, ◌-◌, ◌<◌, ◌∙◌, ◌≡◌, ◌≢◌, ◌≤◌}
 use Rattle.hd_model.proofs.ReadAfterWrite.{some_cases, remove_cases, len_new, get_beside}
-use Rattle.hd_model.proofs.WellFormedWrites.{use_keeps}
-use Rattle.hd_model.proofs.RunCounts.{none_from}
+use Rattle.hd_model.proofs.{WellFormedWrites.use_keeps, Entries.none_from}
 
 nothing_some : {X : Type 0} (o : Option X) → o ≡ None → IsSome o → ⊥
 nothing_some o e h = true≢false (sym h ∙ ap is_some e)

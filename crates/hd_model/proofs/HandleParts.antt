@@ -1,29 +1,16 @@
 -- What a handle has is read back, and a freed slot is not live.
-use Rattle.hd_model.proofs.Basics.{◌≡◌, ℕ, ◌+◌, ◌-◌, ◌⊎◌, ◌&&◌, ◌==◌, Bool, true, false, cond, if◌then◌else◌, Option, Some, None, IsSome, IsSomeAnd, refl, sym, ap, ◌∙◌, subst, inl, inr, ⊎_elim, true≢false, option_and_then, option_map, get, insert, option_map_or, none-some, same_Some}
-use Rattle.hd_model.specs.Data.{Id, Slot, Kind, Make, Strength, Entry, Refusal, Reply, Cmd}
+use Rattle.hd_model.proofs.Basics.{AnswersCount, Bool, Cmd, CountIsReadBack, Entry, Extra, FitsKind, FreedIsNotLive, GivesCount, GivesSecondary, GivesStrength, GivesTarget, Handle, Id, IsDoneOn, IsOutcome, IsSome, IsSomeAnd, IsWellFormed, Kind, Make, MakesIn, None, Numbers, Option, Outcome, Refusal, Reply, SecondaryIsReadBack, Slot, Some, State, Step, StepOf, Strength, StrengthIsKept, TargetIsReadBack, WritesCount, WritesSecondary, WritesStrength, WritesTarget, ap, cond, count, count_of, false, get, handle_at, handle_register_of, if◌then◌else◌, inl, inr, insert, is_attaching, is_kind, is_lost, is_refused, loaded, loses, lowered_answer, made_handle, none-some, on_handle, on_handle_of, option_and_then, option_map, option_map_or, refl, refuses, register_of, role, same_Some, secondary, secondary_of, strength, subst, sym, touched_by, true, true≢false, with_count, with_handle, without_secondary, ℕ, ⊎_elim, ◌&&◌, ◌+◌, ◌-◌, ◌==◌, ◌∙◌, ◌≡◌, ◌⊎◌}
+use Rattle.hd_model.specs.Laws.{makes_handle as is_making}
+use Rattle.hd_model.proofs.{ReadAfterWrite.get_inserted, ReadAfterWrite.get_removed, OneState.done_or_refused, KindExtras.attaching_kind, StateReadBack.step_of, StateReadBack.effect_of}
+use Rattle.hd_model.proofs.KindTests.{variable_or_dependent, variable_or_counted, counted_or_dependent}
+use Rattle.hd_model.proofs.Effects.{Effect, Finds, refused, makes_handle, sets_target, sets_secondary, sets_strength, raises_count, lowers_count, frees_handle}
+use Rattle.hd_model.proofs.StepWrites.{still, not_none, HandleChange, handle_stays, is_made, target_is_set, extra_is_set, SetsExtra, by_secondary, by_strength, by_raise, by_lower, is_freed, is_collected, handle_change}
 use Rattle.hd_model.specs.declared.data.Kind.TheVariants as kind
 use Rattle.hd_model.specs.declared.data.Make.TheVariants as make
 use Rattle.hd_model.specs.declared.data.Refusal.TheVariants as refusal
 use Rattle.hd_model.specs.declared.data.Reply.TheVariants as reply
 use Rattle.hd_model.specs.declared.command.Cmd.TheVariants as cmd
-use Rattle.hd_model.specs.Kinds.{is_kind}
-use Rattle.hd_model.specs.State.{Numbers, Extra, strength, secondary, count, Handle, State, secondary_of, count_of, without_secondary, register_of, handle_register_of, handle_at, with_handle}
-use Rattle.hd_model.specs.Role.{role}
-use Rattle.hd_model.specs.Collect.{is_lost, loses, is_attaching, cleared}
-use Rattle.hd_model.specs.Command.{Outcome, refuses, loaded, with_count, made_handle, on_handle, on_handle_of}
-use Rattle.hd_model.specs.Touched.{touched_by}
-use Rattle.hd_model.specs.Step.{IsOutcome, StepOf, Step}
-use Rattle.hd_model.specs.WellFormed.{FitsKind, IsWellFormed}
-use Rattle.hd_model.specs.Aging.{is_refused}
-use Rattle.hd_model.specs.Laws.{makes_handle as is_making, IsDoneOn, WritesTarget, GivesTarget, WritesSecondary, GivesSecondary, WritesStrength, GivesStrength, WritesCount, GivesCount, lowered_answer, AnswersCount, MakesIn, TargetIsReadBack, SecondaryIsReadBack, StrengthIsKept, CountIsReadBack, FreedIsNotLive}
 use Rattle.hd_model.specs.Laws as law
-use Rattle.hd_model.proofs.ReadAfterWrite.{get_inserted, get_removed}
-use Rattle.hd_model.proofs.OneState.{done_or_refused}
-use Rattle.hd_model.proofs.KindTests.{variable_or_dependent, variable_or_counted, counted_or_dependent}
-use Rattle.hd_model.proofs.KindExtras.{attaching_kind}
-use Rattle.hd_model.proofs.Effects.{Effect, Finds, refused, makes_handle, sets_target, sets_secondary, sets_strength, raises_count, lowers_count, frees_handle}
-use Rattle.hd_model.proofs.StepWrites.{still, not_none, HandleChange, handle_stays, is_made, target_is_set, extra_is_set, SetsExtra, by_secondary, by_strength, by_raise, by_lower, is_freed, is_collected, handle_change}
-use Rattle.hd_model.proofs.StateReadBack.{step_of, effect_of}
 
 -- the handle in a slot has a property
 abbrev HandleIs : State → Slot → (Handle Id → Type 0) → Type 0
@@ -292,8 +279,7 @@ strength_put n s e t slot given step (law.GivesStrength.by_set {h = h} is has) d
         written_has s e.caller h slot other handle _ (ExtraIs _) f has refl
 strength_put n s e t slot given step (law.GivesStrength.by_new {d = d} {t = x} is has) done =
     made_has n s e t slot (ExtraIs _) refl
-    (effect_of n s e t (cmd.HNew d (make.Variable given) x) step is) has
-    done
+    (effect_of n s e t (cmd.HNew d (make.Variable given) x) step is) has done
 
 value_or_refused : {r : Reply} {c : ℕ} {why : Refusal} → r ≡ reply.Value c → r ≡ reply.Refused why → ⊥
 value_or_refused value other = cc
@@ -355,8 +341,7 @@ strength_is_kept n old now written slot given since gives done =
 
 -- `hup` and `hdown` return what follows from the count
 count_answered : (n : Numbers) (s : State) (e : Entry) (t : State) (slot : Slot) (c h : ℕ)
-    (handle : Handle Id)
-    → IsWellFormed n s → Step n s e t → handle_register_of s e.caller h ≡ Some slot
+    (handle : Handle Id) → IsWellFormed n s → Step n s e t → handle_register_of s e.caller h ≡ Some slot
     → handle_at s slot ≡ Some handle → handle.extra ≡ count c → AnswersCount c h e
 count_answered n s e t slot c h handle w step named live has =
     let counted = kind_with n s slot handle (count c) w live has in
@@ -398,8 +383,7 @@ vacant_stays : (s : State) (e : Entry) (t : State) (slot : Slot) (c : Cmd) (o : 
 vacant_stays s e t slot c o is handle_stays apart had = had
 vacant_stays s e t slot c o is (is_made {d = d} {t = r} {given = given} given_is done none) apart had =
     absurd (apart (record {
-      makes = ap (λ x. is_making x e.reply) is
-          ∙ ap (is_making (cmd.HNew d given r)) done;
+      makes = ap (λ x. is_making x e.reply) is ∙ ap (is_making (cmd.HNew d given r)) done;
       given = given_is;
     }))
 vacant_stays s e t slot c o is (target_is_set handle f done) apart had =
@@ -429,7 +413,7 @@ module _ (n : Numbers) (s : State) (e : Entry) (t : State) (h : ℕ) (slot : Slo
       comes ∙ ap (λ (y : Outcome). y.reply) (on_handle_gone s e.caller x act slot
       (ap (handle_register_of s e.caller) (same_Some x h uses) ∙ names) gone)
 
-  not_live : (c : Cmd) → StepOf n s e t c → (touched_by c).handle ≡ Some h
+  pub not_live : (c : Cmd) → StepOf n s e t c → (touched_by c).handle ≡ Some h
       → e.reply ≡ reply.Refused refusal.NotLive
   not_live (cmd.HGet d x) comes uses = gone_there x _ uses comes.reply
   not_live (cmd.HSet x r) comes uses = gone_there x _ uses comes.reply

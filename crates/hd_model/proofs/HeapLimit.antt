@@ -1,23 +1,11 @@
 -- The heap is within its limit, and found full only where it is.
-use Rattle.hd_model.proofs.Basics.{◌≡◌, ℕ, ◌+◌, ◌<◌, ◌≤◌, ◌^◌, Bool, true, false, cond, length, List, [], ◌∷◌, map, Option, Some, None, nat_cmp, refl, sym, ap, ◌∙◌, subst, arith, ltb-true, ltb-false, ⊎_elim, le_trans, length-set, option_map, sum_by, get, insert, values, entries, len-empty, len-entries, cases_lt, length-replicate}
-use Rattle.hd_model.specs.Data.{Id, Entry, Refusal, Reply, Cmd}
+use Rattle.hd_model.proofs.Basics.{Bool, Cmd, Entry, HeapIsWithinItsLimit, Id, IsOutcome, IsWellFormed, List, NewIsRefusedWhereFull, NewReturns, None, Numbers, Object, Option, Outcome, Refusal, Reply, Some, State, StepOf, [], answers, ap, arith, cases_lt, cond, entries, false, fresh_object, get, insert, last_serial, le_trans, len-empty, len-entries, length, length-replicate, length-set, ltb-false, ltb-true, map, nat_cmp, new_object, object_by_id, option_map, refl, refuses, register_of, size_of, start_of, subst, sum_by, survivor, sym, total_size, true, values, ℕ, ⊎_elim, ◌+◌, ◌<◌, ◌^◌, ◌∙◌, ◌∷◌, ◌≡◌, ◌≤◌}
+use Rattle.hd_model.proofs.{Outcomes.test_cases, StepChains.chain_keeps, RunCounts.fresh, WellFormedSteps.step_keeps, WellFormedSteps.start_is_well_formed, StateReadBack.step_of, ObjectParts.there}
+use Rattle.hd_model.proofs.Sums.{share, sum-insert, sum-le}
+use Rattle.hd_model.proofs.Effects.{Effect, makes_object, sets_field, sets_value, suppresses, reregisters, collects, effect, next_identity, with_field}
 use Rattle.hd_model.specs.declared.data.Refusal.TheVariants as refusal
 use Rattle.hd_model.specs.declared.data.Reply.TheVariants as reply
 use Rattle.hd_model.specs.declared.command.Cmd.TheVariants as cmd
-use Rattle.hd_model.specs.State.{Numbers, Object, State, size_of, total_size, start_of, object_by_id, last_serial, register_of}
-use Rattle.hd_model.specs.Command.{Outcome, answers, refuses, new_object, fresh_object}
-use Rattle.hd_model.specs.Collect.{survivor}
-use Rattle.hd_model.specs.Step.{IsOutcome, StepOf}
-use Rattle.hd_model.specs.WellFormed.{IsWellFormed}
-use Rattle.hd_model.specs.UserLaws.{HeapIsWithinItsLimit, NewReturns, NewIsRefusedWhereFull}
-use Rattle.hd_model.proofs.Outcomes.{test_cases}
-use Rattle.hd_model.proofs.Sums.{share, sum-insert, sum-le}
-use Rattle.hd_model.proofs.StepChains.{chain_keeps}
-use Rattle.hd_model.proofs.RunCounts.{fresh}
-use Rattle.hd_model.proofs.WellFormedSteps.{step_keeps, start_is_well_formed}
-use Rattle.hd_model.proofs.Effects.{Effect, makes_object, sets_field, sets_value, suppresses, reregisters, collects, effect, next_identity, with_field}
-use Rattle.hd_model.proofs.StateReadBack.{step_of}
-use Rattle.hd_model.proofs.ObjectParts.{there}
 
 module _ (n : Numbers) (s : State) (e : Entry) (t : State) (d fields : ℕ) (fin : Bool) where
   abbrev whole : ℕ
@@ -119,7 +107,6 @@ heap_is_within_its_limit n journal s run =
     (chain_keeps (λ x. IsWellFormed n x × (total_size x ≤ n.heap))
     (λ x e y step w. (
       step_keeps n x y e w.0 step,
-      within n x w.0 e e.cmd y step.does
-          (effect n x e y step) w.1,
+      within n x w.0 e e.cmd y step.does (effect n x e y step) w.1,
     ))
     run (start_is_well_formed n, (let none = start_total n in omega arith))).1

@@ -175,13 +175,8 @@ module _ {N : Type 0} (rank : N → ℕ) (n : ℕ) (s t u : Scene N) (r q : Repo
   none_removed : (x : N) → IsRemoved t d.kept x → ⊥
   none_removed x h = true≢false (sym (in_kept x h.object) ∙ h.lost)
 
-  same_by : (slot : ℕ) (o : Option (Handle N)) → t.handle slot ≡ o → option_map (cleared d.reach d.kept) o ≡ o
-  same_by slot None e = refl
-  same_by slot (Some h) e = ap (λ g. Some g)
-      (cleared_same d.reach d.kept h (none_lost slot h e) (none_detached slot h e))
-
-  pub idle_handles : (slot : ℕ) → u.handle slot ≡ t.handle slot
-  idle_handles slot = d.handles slot ∙ same_by slot (t.handle slot) refl
+  pub idle_row : (slot : ℕ) (h : Handle N) → t.handle slot ≡ Some h → cleared d.reach d.kept h ≡ h
+  idle_row slot h e = cleared_same d.reach d.kept h (none_lost slot h e) (none_detached slot h e)
 
   empty_joins : (xs : List N) → ((x : N) → Contains xs x → ⊥) → xs ≡ []
   empty_joins [] never = refl

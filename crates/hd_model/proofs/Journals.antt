@@ -1,14 +1,8 @@
 -- A journal leads to one state, and to one map of pinned addresses. Ages depend on no such address.
-use Rattle.hd_model.proofs.Basics.{◌≡◌, ℕ, cond, List, Option, Some, None, refl, sym, ap, ◌∙◌, subst, nat_cmp, FinMap, option_map_or}
-use Rattle.hd_model.specs.Data.{Slot, Id, Make, Entry, Class}
-use Rattle.hd_model.specs.declared.class.Class.TheVariants as class
-use Rattle.hd_model.specs.Kinds.{secondary_register}
+use Rattle.hd_model.proofs.Basics.{Aged, AgedRun, AgedStep, Chain, Class, Entry, FinMap, Id, List, Make, None, Numbers, Option, Slot, Some, State, aged_by, aged_by_class, ap, cond, is_refused, link, lowered_at, lowered_by_new, lowered_to, nat_cmp, option_map_or, refl, register_of, secondary_register, stay, subst, sym, with_places, ℕ, ◌∙◌, ◌≡◌}
 use Rattle.hd_model.specs.Class.{class_of}
-use Rattle.hd_model.specs.State.{Numbers, State, register_of}
-use Rattle.hd_model.specs.Places.{with_places}
-use Rattle.hd_model.specs.Run.{Chain, stay, link}
-use Rattle.hd_model.specs.Aging.{Aged, AgedStep, aged_by_class, aged_by, AgedRun, is_refused, lowered_at, lowered_to, lowered_by_new}
 use Rattle.hd_model.proofs.OneState.{one_state_after}
+use Rattle.hd_model.specs.declared.class.Class.TheVariants as class
 
 -- where each entry leaves at most one state, a list of entries does
 pub one_chain : {S : Type 0} {R : S → Entry → S → Type 0}
@@ -58,6 +52,8 @@ module _ (s : State) (p : FinMap nat_cmp ℕ) (caller : ℕ) (slot : Option Slot
   class_placed (class.GivesBack kind) = refl
   class_placed (class.Collects n) = refl
   class_placed (class.AnswersPlace h) = refl
+  class_placed (class.AddsEntry k v) = refl
+  class_placed (class.LooksUp k) = refl
   class_placed class.Plain = refl
 
 -- an entry leaves the same ages whatever the pinned addresses

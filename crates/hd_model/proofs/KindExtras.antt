@@ -1,13 +1,8 @@
 -- What a handle's extra states where it is that of its kind.
-use Rattle.hd_model.proofs.Basics.{◌≡◌, ℕ, zero, suc, Bool, true, false, cond, ◌&&◌, Option, Some, None, refl, sym, ap, ◌∙◌, and_parts, cond_both, false≢true, none-some}
-use Rattle.hd_model.specs.Data.{Kind, Strength}
+use Rattle.hd_model.proofs.Basics.{Bool, Extra, FitsKind, Kind, None, Option, Some, Strength, and_parts, ap, attaches, cond, cond_both, count, count_of, false, false≢true, holds, is_attaching, none-some, nothing, pins_by, pins_by_strength, pins_with, refl, role_by, role_of, role_of_count, role_of_strength, secondary, secondary_of, strength, strength_in, suc, sym, true, zero, ℕ, ◌&&◌, ◌∙◌, ◌≡◌}
+use Rattle.hd_model.specs.Table.{fits}
 use Rattle.hd_model.specs.declared.data.Kind.TheVariants as kind
 use Rattle.hd_model.specs.declared.data.Strength.TheVariants as strength_of
-use Rattle.hd_model.specs.State.{Extra, nothing, strength, secondary, count, strength_in, count_of, secondary_of}
-use Rattle.hd_model.specs.Role.{holds, attaches, role_of_strength, role_of_count, role_by, role_of, pins_by_strength, pins_with, pins_by}
-use Rattle.hd_model.specs.Collect.{is_attaching}
-use Rattle.hd_model.specs.Table.{fits}
-use Rattle.hd_model.specs.WellFormed.{FitsKind}
 
 -- a handle with a secondary attaches it
 pub fits_secondary : {N : Type 0} (k : Kind) (e : Extra N) (x : N) → FitsKind k e → secondary_of e ≡ Some x

@@ -1,12 +1,7 @@
 -- What tests of kinds state, and the extra that fits a kind.
-use Rattle.hd_model.proofs.Basics.{◌≡◌, ℕ, zero, suc, ◌<◌, ◌≤◌, true, get_or, arith, refl, sym, ap, ◌∙◌, None, lit<, eqb-true, option_and_then}
-use Rattle.hd_model.specs.Data.{Kind, Make}
+use Rattle.hd_model.proofs.Basics.{Extra, FitsKind, Kind, Make, None, State, all_kinds, ap, arith, count, count_of, eqb-true, get_or, is_kind, kind_number, kind_of, lit<, made_extra, nothing, option_and_then, refl, register_of, secondary, secondary_of, secondary_register, strength, suc, sym, true, without_secondary, zero, ℕ, ◌<◌, ◌∙◌, ◌≡◌, ◌≤◌}
 use Rattle.hd_model.specs.declared.data.Kind.TheVariants as kind
 use Rattle.hd_model.specs.declared.data.Make.TheVariants as make
-use Rattle.hd_model.specs.Kinds.{all_kinds, kind_number, is_kind, kind_of, secondary_register}
-use Rattle.hd_model.specs.State.{Extra, nothing, strength, secondary, count, State, secondary_of, count_of, without_secondary, register_of}
-use Rattle.hd_model.specs.Command.{made_extra}
-use Rattle.hd_model.specs.WellFormed.{FitsKind}
 
 -- the kind with a number
 kind_from : ℕ → Kind

@@ -9,6 +9,7 @@ pub mod KindExtras
 pub mod PinTest
 pub mod RenamedPins
 pub mod PinnedTargets
+pub mod WeakSlots
 pub mod WholeScenes
 pub mod SceneCollection
 pub mod RowReferences
@@ -27,7 +28,9 @@ pub mod CollectionLaws
 pub mod UseChains
 pub mod Fates
 pub mod WeakPair
+pub mod AttachingRows
 pub mod DependentTargets
+pub mod EntryKeys
 pub mod DueMarks
 pub mod Reachability
 pub mod ReachTests
@@ -52,6 +55,8 @@ pub mod StepWrites
 pub mod Sums
 pub mod StateReadBack
 pub mod HandleParts
+pub mod AttachedValues
+pub mod WeakSlotUse
 pub mod Growth
 pub mod Serials
 pub mod SoloRuns
@@ -67,3 +72,4 @@ pub mod RunExamples
 pub mod CollectionExamples
 pub mod RootExamples
 pub mod StepExamples
+pub mod WeakExamples

@@ -1,6 +1,5 @@
 -- Members of lists: of a list by cases, of what a map gives, of rows joined, and of lists that rise.
-use Rattle.hd_model.proofs.Basics.{◌≡◌, Bool, true, false, cond, ℕ, zero, suc, ◌<◌, List, [], ◌∷◌, ◌++◌, length, get_or, map, refl, sym, ap, ◌∙◌, subst, arith, ⊎_elim, inl, inr, ◌⊎◌, Contains, AllPairs, filter, cond_both, get_or_default, Contains-append_left, Contains-append_right, Contains-append_cases}
-use Rattle.hd_model.specs.Scene.{joined}
+use Rattle.hd_model.proofs.Basics.{AllPairs, Bool, Contains, Contains-append_cases, Contains-append_left, Contains-append_right, List, [], ap, arith, cond, cond_both, false, filter, get_or, get_or_default, inl, inr, joined, length, map, refl, subst, suc, sym, true, zero, ℕ, ⊎_elim, ◌++◌, ◌<◌, ◌∙◌, ◌∷◌, ◌≡◌, ◌⊎◌}
 
 module _ {A : Type 0} where
   pub not_in_none : (x : A) → Contains [] x → ⊥
@@ -90,8 +89,7 @@ Rises rank xs = AllPairs (λ x y. rank x < rank y) xs
 module _ {A : Type 0} (rank : A → ℕ) where
   -- of the rest of a list that rises, each member is among those of another but for its first
   rest_within : (x y : A) (xs ys : List A) → x ≡ y → Rises rank (x ∷ xs)
-      → ((z : A) → Contains (x ∷ xs) z → Contains (y ∷ ys) z)
-      → (z : A) → Contains xs z → Contains ys z
+      → ((z : A) → Contains (x ∷ xs) z → Contains (y ∷ ys) z) → (z : A) → Contains xs z → Contains ys z
   rest_within x y xs ys same rising within z h =
       let above : rank x < rank z = pairs_first (λ a b. rank a < rank b) x xs rising z h in
       ⊎_elim (λ e. let tied : rank x ≡ rank z = ap rank (same ∙ e) in absurd (omega arith)) (λ later. later)
@@ -99,8 +97,7 @@ module _ {A : Type 0} (rank : A → ℕ) where
 
   -- two lists that rise strictly and have the same members are equal
   pub rising_once : (xs ys : List A) → Rises rank xs → Rises rank ys
-      → ((z : A) → Contains xs z → Contains ys z)
-      → ((z : A) → Contains ys z → Contains xs z) → xs ≡ ys
+      → ((z : A) → Contains xs z → Contains ys z) → ((z : A) → Contains ys z → Contains xs z) → xs ≡ ys
   rising_once [] [] a b to back = refl
   rising_once [] (y ∷ ys) a b to back = absurd (not_in_none y (back y (first_in y ys)))
   rising_once (x ∷ xs) [] a b to back = absurd (not_in_none x (to x (first_in x xs)))
@@ -163,8 +160,7 @@ pairs_mapped R S f (x ∷ xs) turn pairs =
 
 module _ {A : Type 0} (p : A → Bool) where
   passing_step : (y : A) (xs ys : List A) (x : A) → (Contains ys x → Contains xs x × (p x ≡ true))
-      → (b : Bool) → p y ≡ b
-      → Contains (cond b (y ∷ ys) ys) x → Contains (y ∷ xs) x × (p x ≡ true)
+      → (b : Bool) → p y ≡ b → Contains (cond b (y ∷ ys) ys) x → Contains (y ∷ xs) x × (p x ≡ true)
   passing_step y xs ys x rest true e h =
       ⊎_elim (λ same. (subst (λ z. Contains (y ∷ xs) z) same (first_in y xs), subst (λ z. p z ≡ true) same e))
       (λ later. let (inside, passes) = rest later in (later_in y xs x inside, passes)) (member_cases y ys x h)

@@ -3,7 +3,7 @@ use Rattle.hd_model.proofs.Basics.{◌≡◌, ℕ, Bool, true, false, cond, List
 use Rattle.hd_model.specs.Data.{Id, Report}
 use Rattle.hd_model.specs.Scene.{Scene, is_object, IsWhole, IsReading}
 use Rattle.hd_model.specs.Ages.{grown, HasSoundAges}
-use Rattle.hd_model.specs.Collect.{survivor, GoesBy, left_by, Collects}
+use Rattle.hd_model.specs.Collect.{survivor, Decision, GoesBy, left_by, Collects}
 use Rattle.hd_model.specs.Counting.{Counts}
 use Rattle.hd_model.proofs.Members.{not_in_none, first_in, later_in, member_cases}
 use Rattle.hd_model.proofs.Entries.{some_value}
@@ -12,64 +12,49 @@ use Rattle.hd_model.proofs.Ages.{grown_sound}
 use Rattle.hd_model.proofs.SceneReadings.{reading_on, reading_like, whole_read, ages_read}
 use Rattle.hd_model.proofs.CollectionReadings.{IsBack, collects_read}
 
-module _ {N : Type 0} (rank : N → ℕ) (n : ℕ) (s : Scene N) (reach resurrected kept : N → Bool)
-    (joins : List N)
-    (r : Report) (w : IsWhole s) (d : GoesBy rank n s reach resurrected kept joins r) where
+module _ {N : Type 0} {rank : N → ℕ} {n : ℕ} {s : Scene N} {d : Decision N} {r : Report} (w : IsWhole s)
+    (g : GoesBy rank n s d r) where
   -- with no object moved, it is a collection
-  pub collects_in_place : Collects rank n s (left_by n reach resurrected kept joins s) r
+  pub collects_in_place : Collects rank n s (left_by n d s) r
   collects_in_place = record {
-    reach = reach;
-    resurrected = resurrected;
-    kept = kept;
-    joins = joins;
-    goes_by = d;
+    decision = d;
+    goes_by = g;
     objects = λ x. refl;
     handles = λ slot. refl;
     named = refl;
     queue = refl;
   }
 
-  pub whole_in_place : IsWhole (left_by n reach resurrected kept joins s)
-  whole_in_place = whole_after rank n s (left_by n reach resurrected kept joins s) r w collects_in_place
+  pub whole_in_place : IsWhole (left_by n d s)
+  whole_in_place = whole_after rank n s (left_by n d s) r w collects_in_place
 
--- Where t is what a collection leaves of s, with each kept object x at its forwarding address `place x` and
--- no two at one address, it is whole and its ages are sound.
-module _ {N : Type 0} (rank : N → ℕ) (n : ℕ) (s t : Scene N) (reach resurrected kept : N → Bool)
-    (joins : List N)
-    (r : Report) (place : N → N) (w : IsWhole s) (d : GoesBy rank n s reach resurrected kept joins r)
-    (m : IsReading place (left_by n reach resurrected kept joins s) t) where
-  pub moved_whole : IsWhole t
-  moved_whole =
-      whole_read place (left_by n reach resurrected kept joins s) t
-      (whole_in_place rank n s reach resurrected kept joins r w d) m
+  -- Where t is what a collection leaves of s, with each kept object x at its forwarding address `place x` and
+  -- no two at one address, it is whole and its ages are sound.
+  module _ {t : Scene N} {place : N → N} (m : IsReading place (left_by n d s) t) where
+    pub moved_whole : IsWhole t
+    moved_whole = whole_read place (left_by n d s) t whole_in_place m
 
-  pub moved_ages : (ages : List ℕ) → HasSoundAges s.object s.handle ages
-      → HasSoundAges t.object t.handle (grown n ages)
-  moved_ages ages sound =
-      ages_read place (left_by n reach resurrected kept joins s) t
-      (whole_in_place rank n s reach resurrected kept joins r w d) m (grown n ages)
-      (grown_sound rank n s (left_by n reach resurrected kept joins s) r w
-      (collects_in_place rank n s reach resurrected kept joins r w d) ages sound)
+    pub moved_ages : (ages : List ℕ) → HasSoundAges s.object s.handle ages
+        → HasSoundAges t.object t.handle (grown n ages)
+    moved_ages ages sound =
+        ages_read place (left_by n d s) t whole_in_place m (grown n ages)
+        (grown_sound rank n s (left_by n d s) r w collects_in_place ages sound)
 
 -- where each kept object has the same identity at its forwarding address, it is a collection by identity
 module _ {N M : Type 0} (f g : N → M) (back : M → Option N) (rank : M → ℕ) (n : ℕ) (s t : Scene N)
-    (u v : Scene M) (reach resurrected kept : N → Bool) (joins : List N) (r : Report) (place : N → N) where
+    (u v : Scene M) (d : Decision N) (r : Report) (place : N → N) where
   pub moved_collects : IsWhole s → IsReading f s u → IsReading g t v → IsBack f back s
-      → GoesBy (λ x. rank (f x)) n s reach resurrected kept joins r
-      → IsReading place (left_by n reach resurrected kept joins s) t
-      → ((x : N) → kept x ≡ true → g (place x) ≡ f x) → Collects rank n u v r
-  moved_collects w fs gt b d m same =
-      let in_place = left_by n reach resurrected kept joins s in
-      let c : Collects (λ x. rank (f x)) n s in_place r =
-      collects_in_place (λ x. rank (f x)) n s reach resurrected kept joins r w d in
-      let whole : IsWhole in_place =
-      whole_in_place (λ x. rank (f x)) n s reach resurrected kept joins r w d in
+      → GoesBy (λ x. rank (f x)) n s d r → IsReading place (left_by n d s) t
+      → ((x : N) → d.kept x ≡ true → g (place x) ≡ f x) → Collects rank n u v r
+  moved_collects w fs gt b by m same =
+      let in_place : Scene N = left_by n d s in
+      let whole : IsWhole in_place = whole_in_place w by in
       let after : IsReading (λ x. g (place x)) in_place v = reading_on place g in_place t v whole m gt in
       let after_f : IsReading f in_place v =
       reading_like (λ x. g (place x)) f in_place v whole after
       (λ x h. let (o, e) = some_value (in_place.object x) h in
-      same x (left_from (kept x) (survivor n (resurrected x)) (s.object x) o e).0) in
-      collects_read f back rank n s in_place u v r w c fs after_f b
+      same x (left_from (d.kept x) (survivor n (d.resurrected x)) (s.object x) o e).0) in
+      collects_read f back rank n s in_place u v r w (collects_in_place w by) fs after_f b
 
 -- the first of a list that has an identity
 pub find_named : {N : Type 0} → (N → Id) → List N → Id → Option N
@@ -121,15 +106,11 @@ module _ {N : Type 0} (f : N → Id) where
   }
 
 -- by identity alone: what the collector promises of addresses is a collection of the machine
-module _ {N : Type 0} (f g : N → Id) (n : ℕ) (s t : Scene N) (u v : Scene Id)
-    (reach resurrected kept : N → Bool)
-    (joins : List N) (r : Report) (place : N → N) where
+module _ {N : Type 0} (f g : N → Id) (n : ℕ) (s t : Scene N) (u v : Scene Id) (d : Decision N) (r : Report)
+    (place : N → N) where
   pub moved_by_identity : (k : ℕ) → Counts (λ x. is_object s.object x ≡ true) k → IsWhole s → IsReading f s u
-      → IsReading g t v
-      → GoesBy (λ x. (f x).0) n s reach resurrected kept joins r
-      → IsReading place (left_by n reach resurrected kept joins s) t
-      → ((x : N) → kept x ≡ true → g (place x) ≡ f x) → Collects (λ (x : Id). x.0) n u v r
-  moved_by_identity k p w fs gt d m same =
-      moved_collects f g (find_named f p.members)
-      (λ (x : Id). x.0) n s t u v reach resurrected kept joins r place w fs gt
-      (back_by_search f s k p fs.apart) d m same
+      → IsReading g t v → GoesBy (λ x. (f x).0) n s d r → IsReading place (left_by n d s) t
+      → ((x : N) → d.kept x ≡ true → g (place x) ≡ f x) → Collects (λ (x : Id). x.0) n u v r
+  moved_by_identity k p w fs gt by m same =
+      moved_collects f g (find_named f p.members) (λ (x : Id). x.0) n s t u v d r place w fs gt
+      (back_by_search f s k p fs.apart) by m same

@@ -1,16 +1,17 @@
 -- The state and the report that a collection leaves.
-use Rattle.hd_model.proofs.Basics.{◌≡◌, ℕ, ◌<◌, nat_le, Bool, true, false, cond, not, ◌&&◌, ◌++◌, Option, Some, None, IsSome, is_some, refl, ap, ◌∙◌, AllPairs, filter, option_map, Decides, get, len, keys, entries, entries_sorted, and_parts, and_from, false≢true, leb-true, le-leb, not_from_false}
+use Rattle.hd_model.proofs.Basics.{◌≡◌, ℕ, ◌+◌, ◌<◌, nat_le, sym, ⊎_elim, inl, inr, true≢false, Bool, true, false, cond, not, ◌&&◌, ◌++◌, Option, Some, None, IsSome, is_some, refl, ap, ◌∙◌, AllPairs, filter, option_map, Decides, get, len, keys, entries, entries_sorted, and_parts, and_from, false≢true, leb-true, le-leb, not_from_false}
 use Rattle.hd_model.specs.Data.{Id, Report}
-use Rattle.hd_model.specs.State.{Object, Handle, State}
+use Rattle.hd_model.specs.State.{Object, Handle, WeakEntry, State, row_of}
 use Rattle.hd_model.specs.Role.{Role, holds, short, long, attaches, role}
 use Rattle.hd_model.specs.Counting.{Counts}
 use Rattle.hd_model.specs.Scene.{scene_of, generation_at, IsWhole}
 use Rattle.hd_model.specs.Places.{is_pinned}
-use Rattle.hd_model.specs.Collect.{loses, is_attaching, cleared, survivor, LosesAs, IsSurviving, IsRemoved, IsReport, CollectsState}
+use Rattle.hd_model.specs.Collect.{loses, is_attaching, cleared, swept, survivor, LosesAs, IsSurviving, IsRemoved, Decision, IsReport, CollectsState}
 use Rattle.hd_model.specs.CollectionLaws.{CollectionsExist}
 use Rattle.hd_model.proofs.Members.{passing_from, passing_in, pairs_mapped, pairs_passing}
-use Rattle.hd_model.proofs.PropertyCounts.{counts_where, counts_like}
-use Rattle.hd_model.proofs.Entries.{keys_rise, counts_keys}
+use Rattle.hd_model.proofs.PropertyCounts.{counts_where, counts_like, counts_join}
+use Rattle.hd_model.proofs.Entries.{keys_rise, counts_keys, some_value}
+use Rattle.hd_model.proofs.WeakSlots.{handle_row, weak_row, row_cases, rows_cleared}
 use Rattle.hd_model.proofs.WholeScenes.{whole_scene}
 use Rattle.hd_model.proofs.Reports.{counts_state}
 use Rattle.hd_model.proofs.MapBuild.{in_keys, had_value, had_source, built, built_is}
@@ -44,15 +45,15 @@ long_is short = (λ h. absurd (false≢true h), λ e. ap is_long e)
 long_is long = (λ _. refl, λ _. refl)
 long_is attaches = (λ h. absurd (false≢true h), λ e. ap is_long e)
 
-module _ (n : ℕ) (s : State) (reach resurrected kept : Id → Bool) where
+module _ (n : ℕ) (s : State) (d : Decision Id) where
   -- the numbers of a report
-  surviving : (k : ℕ) × Counts (IsSurviving n (scene_of s) kept) k
+  surviving : (k : ℕ) × Counts (IsSurviving n (scene_of s) d.kept) k
   surviving =
       let some = counts_where (λ (x : Id). IsSome (get s.objects x.0))
-      (λ x. nat_le (generation_at (scene_of s).object x) n && kept x) (len s.objects) (counts_state s) in (
+      (λ x. nat_le (generation_at (scene_of s).object x) n && d.kept x) (len s.objects) (counts_state s) in (
         some.0,
-        counts_like _ (IsSurviving n (scene_of s) kept) some.0
-            (λ x h. let both = and_parts (nat_le (generation_at (scene_of s).object x) n) (kept x) h.1 in
+        counts_like _ (IsSurviving n (scene_of s) d.kept) some.0
+            (λ x h. let both = and_parts (nat_le (generation_at (scene_of s).object x) n) (d.kept x) h.1 in
             record {
               condemned = record {
                 object = h.0;
@@ -62,63 +63,88 @@ module _ (n : ℕ) (s : State) (reach resurrected kept : Id → Bool) where
             })
             (λ x h. (
               h.condemned.object,
-              and_from (nat_le (generation_at (scene_of s).object x) n) (kept x)
+              and_from (nat_le (generation_at (scene_of s).object x) n) (d.kept x)
                   (le-leb (generation_at (scene_of s).object x) n h.condemned.young) h.stays,
             )) some.1,
       )
 
-  removed : (k : ℕ) × Counts (IsRemoved (scene_of s) kept) k
+  removed : (k : ℕ) × Counts (IsRemoved (scene_of s) d.kept) k
   removed =
-      let some = counts_where (λ (x : Id). IsSome (get s.objects x.0)) (λ x. not (kept x)) (len s.objects)
+      let some = counts_where (λ (x : Id). IsSome (get s.objects x.0)) (λ x. not (d.kept x)) (len s.objects)
       (counts_state s) in (
         some.0,
-        counts_like _ (IsRemoved (scene_of s) kept) some.0
-            (λ x h. record { object = h.0; lost = not_true (kept x) h.1 })
-            (λ x h. (h.object, not_from_false (kept x) h.lost)) some.1,
+        counts_like _ (IsRemoved (scene_of s) d.kept) some.0
+            (λ x h. record { object = h.0; lost = not_true (d.kept x) h.1 })
+            (λ x h. (h.object, not_from_false (d.kept x) h.lost)) some.1,
       )
 
-  resurrected_count : ((x : Id) → resurrected x ≡ true → IsSome (get s.objects x.0))
-      → (k : ℕ) × Counts (λ x. resurrected x ≡ true) k
+  resurrected_count : ((x : Id) → d.resurrected x ≡ true → IsSome (get s.objects x.0))
+      → (k : ℕ) × Counts (λ x. d.resurrected x ≡ true) k
   resurrected_count object =
       let some =
-      counts_where (λ (x : Id). IsSome (get s.objects x.0)) resurrected (len s.objects) (counts_state s)
-      in
-      (some.0, counts_like _ (λ x. resurrected x ≡ true) some.0 (λ x h. h.1) (λ x h. (object x h, h)) some.1)
+      counts_where (λ (x : Id). IsSome (get s.objects x.0)) d.resurrected (len s.objects) (counts_state s)
+      in (
+        some.0,
+        counts_like _ (λ x. d.resurrected x ≡ true) some.0 (λ x h. h.1) (λ x h. (object x h, h)) some.1,
+      )
+
+  -- the slots that have a row: those with a handle, and those of the weak table without one
+  rows : (k : ℕ) × Counts (λ slot. IsSome (row_of s slot)) k
+  rows =
+      let some = counts_where (λ slot. IsSome (get s.weak slot)) (λ slot. not (is_some (get s.handles slot)))
+      (len s.weak) (counts_keys s.weak (λ k. k) (λ k. k) (λ k. refl) (λ k. refl)) in (
+        len s.handles + some.0,
+        counts_like _ (λ slot. IsSome (row_of s slot)) (len s.handles + some.0)
+            (λ slot. ⊎_elim
+            (λ h. let (g, is) = some_value (get s.handles slot) h in ap is_some (handle_row s slot g is))
+            (λ h. let (c, is) = some_value (get s.weak slot) h.0 in
+            ap is_some (weak_row s slot c (none_there (get s.handles slot) h.1) is)))
+            (λ slot h. let (g, is) = some_value (row_of s slot) h in
+            ⊎_elim (λ live. inl (ap is_some live))
+            (λ weak. inr (ap is_some weak.1.1.0, ap (λ o. not (is_some o)) weak.0)) (row_cases s slot g is))
+            (counts_join (λ slot. IsSome (get s.handles slot)) _ (len s.handles) some.0
+            (λ slot a b. true≢false (sym a ∙ not_true (is_some (get s.handles slot)) b.1))
+            (counts_keys s.handles (λ k. k) (λ k. k) (λ k. refl) (λ k. refl)) some.1),
+      )
+    where
+      none_there : (o : Option (Handle Id)) → not (is_some o) ≡ true → o ≡ None
+      none_there None h = refl
+      none_there (Some g) h = absurd (false≢true h)
 
   module _ (wanted : Role) (is : Role → Bool) (decides : (r : Role) → Decides (is r) (r ≡ wanted)) where
     losing : Option (Handle Id) → Bool
     losing None = false
-    losing (Some h) = is (role h) && loses reach kept h
+    losing (Some h) = is (role h) && loses d.reach d.kept h
 
-    losing_as : (slot : ℕ) → losing (get s.handles slot) ≡ true → LosesAs (scene_of s) reach kept wanted slot
+    losing_as : (slot : ℕ) → losing (row_of s slot) ≡ true → LosesAs (scene_of s) d.reach d.kept wanted slot
     unfolding losing
-    losing_as slot h = at (get s.handles slot) refl h
+    losing_as slot h = at (row_of s slot) refl h
       where
-        at : (o : Option (Handle Id)) → get s.handles slot ≡ o → losing o ≡ true
-            → LosesAs (scene_of s) reach kept wanted slot
+        at : (o : Option (Handle Id)) → row_of s slot ≡ o → losing o ≡ true
+            → LosesAs (scene_of s) d.reach d.kept wanted slot
         at None e h = absurd (false≢true h)
         at (Some g) e h =
-            let both = and_parts (is (role g)) (loses reach kept g) h in
+            let both = and_parts (is (role g)) (loses d.reach d.kept g) h in
             record { handle = g; is_stored = e; role_is = (decides (role g)).0 both.0; loses = both.1 }
 
-    as_losing : (slot : ℕ) → LosesAs (scene_of s) reach kept wanted slot → losing (get s.handles slot) ≡ true
+    as_losing : (slot : ℕ) → LosesAs (scene_of s) d.reach d.kept wanted slot → losing (row_of s slot) ≡ true
     unfolding losing
     as_losing slot l = ap losing l.is_stored
-        ∙ and_from (is (role l.handle)) (loses reach kept l.handle) ((decides (role l.handle)).1 l.role_is)
-        l.loses
+        ∙ and_from (is (role l.handle)) (loses d.reach d.kept l.handle)
+        ((decides (role l.handle)).1 l.role_is) l.loses
 
-    losses : (k : ℕ) × Counts (LosesAs (scene_of s) reach kept wanted) k
+    losses : (k : ℕ) × Counts (LosesAs (scene_of s) d.reach d.kept wanted) k
     losses =
-        let some = counts_where (λ slot. IsSome (get s.handles slot)) (λ slot. losing (get s.handles slot))
-        (len s.handles) (counts_keys s.handles (λ k. k) (λ k. k) (λ k. refl) (λ k. refl)) in (
+        let some = counts_where (λ slot. IsSome (row_of s slot))
+        (λ slot. losing (row_of s slot)) rows.0 rows.1 in (
           some.0,
-          counts_like _ (LosesAs (scene_of s) reach kept wanted) some.0
+          counts_like _ (LosesAs (scene_of s) d.reach d.kept wanted) some.0
               (λ slot h. losing_as slot h.1)
               (λ slot l. (ap is_some l.is_stored, as_losing slot l)) some.1,
         )
 
-  has_report : ((x : Id) → resurrected x ≡ true → IsSome (get s.objects x.0))
-      → (r : Report) × IsReport n (scene_of s) reach resurrected kept r
+  has_report : ((x : Id) → d.resurrected x ≡ true → IsSome (get s.objects x.0))
+      → (r : Report) × IsReport n (scene_of s) d r
   has_report object = (
     record {
       kept = surviving.0;
@@ -142,10 +168,13 @@ module _ (n : ℕ) (s : State) (reach resurrected kept : Id → Bool) where
   object_left : ℕ → Option (Object Id)
   object_left k =
       let x : Id = record { 0 = k } in
-      cond (kept x) (option_map (survivor n (resurrected x)) (get s.objects k)) None
+      cond (d.kept x) (option_map (survivor n (d.resurrected x)) (get s.objects k)) None
 
   handle_left : ℕ → Option (Handle Id)
-  handle_left slot = option_map (cleared reach kept) (get s.handles slot)
+  handle_left slot = option_map (cleared d.reach d.kept) (get s.handles slot)
+
+  weak_left : ℕ → Option (Option (WeakEntry Id))
+  weak_left slot = option_map (swept d.kept) (get s.weak slot)
 
   place_left : ℕ → Option ℕ
   place_left k = cond (is_pinned s.handles k) (get s.places k) None
@@ -154,7 +183,8 @@ module _ (n : ℕ) (s : State) (reach resurrected kept : Id → Bool) where
   after = record s {
     objects = built object_left (keys s.objects);
     handles = built handle_left (keys s.handles);
-    queue = s.queue ++ filter resurrected (ids s);
+    weak = built weak_left (keys s.weak);
+    queue = s.queue ++ d.joins;
     places = built place_left (keys s.places);
   }
 
@@ -162,44 +192,63 @@ module _ (n : ℕ) (s : State) (reach resurrected kept : Id → Bool) where
   unfolding object_left
   objects_after = built_is object_left (keys s.objects)
       (λ k h. in_keys s.objects k
-      (had_source (survivor n (resurrected (record { 0 = k }))) (get s.objects k)
-      (had_value (kept (record { 0 = k }))
-      (option_map (survivor n (resurrected (record { 0 = k }))) (get s.objects k)) h)))
+      (had_source (survivor n (d.resurrected (record { 0 = k }))) (get s.objects k)
+      (had_value (d.kept (record { 0 = k }))
+      (option_map (survivor n (d.resurrected (record { 0 = k }))) (get s.objects k)) h)))
 
   handles_after : (slot : ℕ) → get (built handle_left (keys s.handles)) slot ≡ handle_left slot
   unfolding handle_left
   handles_after = built_is handle_left (keys s.handles)
-      (λ k h. in_keys s.handles k (had_source (cleared reach kept) (get s.handles k) h))
+      (λ k h. in_keys s.handles k (had_source (cleared d.reach d.kept) (get s.handles k) h))
+
+  weak_after : (slot : ℕ) → get (built weak_left (keys s.weak)) slot ≡ weak_left slot
+  unfolding weak_left
+  weak_after = built_is weak_left (keys s.weak)
+      (λ k h. in_keys s.weak k (had_source (swept d.kept) (get s.weak k) h))
 
   places_after : (k : ℕ) → get (built place_left (keys s.places)) k ≡ place_left k
   unfolding place_left
   places_after = built_is place_left (keys s.places)
       (λ k h. in_keys s.places k (had_value (is_pinned s.handles k) (get s.places k) h))
 
-  joins_rise : AllPairs (λ (x y : Id). x.0 < y.0) (filter resurrected (ids s))
+  joins_rise : AllPairs (λ (x y : Id). x.0 < y.0) (filter d.resurrected (ids s))
   joins_rise =
-      pairs_passing resurrected (λ (x y : Id). x.0 < y.0) (ids s)
+      pairs_passing d.resurrected (λ (x y : Id). x.0 < y.0) (ids s)
       (pairs_mapped (λ a b. a < b) (λ (x y : Id). x.0 < y.0) (λ (k : ℕ). record { 0 = k }) (keys s.objects)
       (λ a b h. h) (keys_rise (entries s.objects) (entries_sorted s.objects)))
 
 module _ (n : ℕ) (s : State) (w : IsWhole (scene_of s)) where
+  abbrev D : Decision Id
+  D = record {
+    reach = is_reach s n;
+    resurrected = is_resurrected s n;
+    kept = is_kept s n;
+    joins = filter (is_resurrected s n) (ids s);
+  }
+
   resurrected_object : (x : Id) → is_resurrected s n x ≡ true → IsSome (get s.objects x.0)
   resurrected_object x h = ap is_some ((resurrected_is s n w x).0 h).is_stored
 
-  reported : (r : Report) × IsReport n (scene_of s) (is_reach s n) (is_resurrected s n) (is_kept s n) r
-  reported = has_report n s (is_reach s n) (is_resurrected s n) (is_kept s n) resurrected_object
+  reported : (r : Report) × IsReport n (scene_of s) D r
+  reported = has_report n s D resurrected_object
 
   next : State
-  next = after n s (is_reach s n) (is_resurrected s n) (is_kept s n)
+  next = after n s D
+
+  next_handles : (slot : ℕ) → get next.handles slot
+      ≡ option_map (cleared (is_reach s n) (is_kept s n)) (get s.handles slot)
+  unfolding next after handle_left
+  next_handles slot = handles_after n s D slot
+
+  next_weak : (slot : ℕ) → get next.weak slot ≡ option_map (swept (is_kept s n)) (get s.weak slot)
+  unfolding next after weak_left
+  next_weak slot = weak_after n s D slot
 
   next_collects : CollectsState n s next reported.0
-  unfolding next after object_left handle_left place_left
+  unfolding next after object_left handle_left weak_left place_left
   next_collects = record {
     scene = record {
-      reach = is_reach s n;
-      resurrected = is_resurrected s n;
-      kept = is_kept s n;
-      joins = filter (is_resurrected s n) (ids s);
+      decision = D;
       goes_by = record {
         reach_is = reach_is s n w;
         resurrected_is = resurrected_is s n w;
@@ -208,15 +257,17 @@ module _ (n : ℕ) (s : State) (w : IsWhole (scene_of s)) where
           λ h. passing_in (is_resurrected s n) (ids s) x (in_ids s x (resurrected_object x h)) h,
           λ h. (passing_from (is_resurrected s n) (ids s) x h).1,
         );
-        rising = joins_rise n s (is_reach s n) (is_resurrected s n) (is_kept s n);
+        rising = joins_rise n s D;
         report_is = reported.1;
       };
-      objects = λ x. objects_after n s (is_reach s n) (is_resurrected s n) (is_kept s n) x.0;
-      handles = λ slot. handles_after n s (is_reach s n) (is_resurrected s n) (is_kept s n) slot;
+      objects = λ x. objects_after n s D x.0;
+      handles = rows_cleared s next (is_reach s n) (is_kept s n) next_handles next_weak;
       named = refl;
       queue = refl;
     };
-    places = λ x. places_after n s (is_reach s n) (is_resurrected s n) (is_kept s n) x;
+    handles = next_handles;
+    weak = next_weak;
+    places = places_after n s D;
     registers = refl;
     statics = refl;
     handle_registers = refl;

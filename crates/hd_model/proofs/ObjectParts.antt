@@ -1,16 +1,9 @@
 -- What each object under an identity has stays, where each command that writes objects leaves it.
-use Rattle.hd_model.proofs.Basics.{◌≡◌, ℕ, ◌+◌, ◌<◌, ◌≤◌, ◌/◌, ◌%◌, ◌^◌, Bool, true, false, cond, Option, Some, None, IsSome, is_some, refl, sym, ap, ◌∙◌, subst, arith, unwrap_or, le_trans, true≢false, option_map, get, insert, none-some, same_Some}
-use Rattle.hd_model.specs.Data.{Id, Entry, Cmd}
+use Rattle.hd_model.proofs.Basics.{Bool, Cmd, DoesCollect, Entry, Id, IsSome, IsWellFormed, None, Numbers, Object, Option, Some, State, ap, arith, cond, false, get, insert, is_some, last_serial, le_trans, none-some, object_by_id, option_map, refl, register_of, same_Some, subst, survivor, sym, true, true≢false, unwrap_or, ℕ, ◌%◌, ◌+◌, ◌/◌, ◌<◌, ◌^◌, ◌∙◌, ◌≡◌, ◌≤◌}
+use Rattle.hd_model.proofs.{ReadAfterWrite.write_cases, StepWrites.same_id, StepWrites.serials_rise, WellFormedSteps.has}
+use Rattle.hd_model.proofs.Effects.{Effect, makes_object, sets_field, sets_value, suppresses, reregisters, collects, next_identity, with_field}
 use Rattle.hd_model.specs.declared.data.Reply.TheVariants as reply
 use Rattle.hd_model.specs.declared.command.Cmd.TheVariants as cmd
-use Rattle.hd_model.specs.State.{Numbers, Object, State, register_of, last_serial, object_by_id}
-use Rattle.hd_model.specs.Collect.{survivor}
-use Rattle.hd_model.specs.Step.{DoesCollect}
-use Rattle.hd_model.specs.WellFormed.{IsWellFormed}
-use Rattle.hd_model.proofs.ReadAfterWrite.{write_cases}
-use Rattle.hd_model.proofs.Effects.{Effect, makes_object, sets_field, sets_value, suppresses, reregisters, collects, next_identity, with_field}
-use Rattle.hd_model.proofs.StepWrites.{same_id, serials_rise}
-use Rattle.hd_model.proofs.WellFormedSteps.{has}
 
 -- an identity that was given, and what the object under it has, if it is not gone
 pub record Holds (s : State) (id : Id) (P : Object Id → Type 0) : Type 0 where

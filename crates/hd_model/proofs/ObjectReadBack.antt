@@ -1,26 +1,13 @@
 -- Generation and registration are read back.
-use Rattle.hd_model.proofs.Basics.{◌≡◌, ℕ, Bool, true, false, ◌&&◌, not, ◌++◌, Option, Some, refl, sym, ap, ◌∙◌, subst, ⊎_elim, true≢false, unwrap_or, get, insert, same_Some, Contains-append_right, Contains-append_cases}
-use Rattle.hd_model.specs.Data.{Id, Entry, Reply}
-use Rattle.hd_model.specs.declared.data.Reply.TheVariants as reply
-use Rattle.hd_model.specs.declared.command.Cmd.TheVariants as cmd
-use Rattle.hd_model.specs.State.{Numbers, Object, State, register_of, object_by_id}
-use Rattle.hd_model.specs.Scene.{scene_of}
+use Rattle.hd_model.proofs.Basics.{Bool, Contains-append_cases, Contains-append_right, DoesCollect, Entry, GenReturnsTheGeneration, GenerationIsReadBack, GivesGeneration, GivesRegistration, Id, IsCollection, IsDoneTo, IsOutcome, IsToBeFinalized, IsWellFormed, JoinsBy, JoinsOnce, Numbers, Object, Option, Outcome, RegistrationIsKept, Reply, Some, State, Step, WritesRegistration, ap, by_gen, by_joining, by_reregister, by_suppress, false, fresh_object, get, insert, joins, not, object_by_id, queued, read_generation, refl, register_of, reregisters, same_Some, scene_of, subst, suppresses, sym, true, true≢false, unwrap_or, ℕ, ⊎_elim, ◌&&◌, ◌++◌, ◌∙◌, ◌≡◌}
 use Rattle.hd_model.specs.Leads.{here}
-use Rattle.hd_model.specs.Reach.{queued, IsToBeFinalized}
-use Rattle.hd_model.specs.Command.{Outcome, read_generation, fresh_object}
-use Rattle.hd_model.specs.Step.{IsOutcome, DoesCollect, Step}
-use Rattle.hd_model.specs.WellFormed.{IsWellFormed}
-use Rattle.hd_model.specs.UserLaws.{IsCollection, GivesGeneration, by_gen, GenerationIsReadBack, GenReturnsTheGeneration, JoinsBy, IsDoneTo, WritesRegistration, suppresses, reregisters, joins, GivesRegistration, by_suppress, by_reregister, by_joining, RegistrationIsKept, JoinsOnce}
-use Rattle.hd_model.specs.UserLaws as law
-use Rattle.hd_model.proofs.ReadAfterWrite.{get_inserted}
-use Rattle.hd_model.proofs.Members.{member_same}
-use Rattle.hd_model.proofs.OneState.{done_or_refused}
-use Rattle.hd_model.proofs.WellFormedSteps.{step_keeps}
-use Rattle.hd_model.proofs.Effects.{Effect, refused}
-use Rattle.hd_model.proofs.Effects as did
-use Rattle.hd_model.proofs.StepWrites.{still}
+use Rattle.hd_model.proofs.{ReadAfterWrite.get_inserted, Members.member_same, OneState.done_or_refused, WellFormedSteps.step_keeps, Effects.Effect, Effects.refused, StepWrites.still}
 use Rattle.hd_model.proofs.StateReadBack.{step_of, effect_of, on_object_is, new_put}
 use Rattle.hd_model.proofs.ObjectParts.{Holds, given_of_object, there, collected, holds_on}
+use Rattle.hd_model.specs.declared.data.Reply.TheVariants as reply
+use Rattle.hd_model.specs.declared.command.Cmd.TheVariants as cmd
+use Rattle.hd_model.specs.UserLaws as law
+use Rattle.hd_model.proofs.Effects as did
 
 same_generation : {r : Reply} {g k : ℕ} → r ≡ reply.Generation g → r ≡ reply.Generation k → g ≡ k
 same_generation a b = cc

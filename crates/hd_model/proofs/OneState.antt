@@ -1,15 +1,10 @@
 -- An entry leaves at most one state.
-use Rattle.hd_model.proofs.Basics.{◌≡◌, ℕ, Bool, true, false, if◌then◌else◌, Option, Some, None, sym, ap, ◌∙◌, ⊎_elim, refl, option_map_or, same_Some}
-use Rattle.hd_model.specs.Data.{Slot, Entry, Make, Refusal, Reply, Cmd}
-use Rattle.hd_model.specs.declared.command.Cmd.TheVariants as cmd
-use Rattle.hd_model.specs.declared.data.Reply.TheVariants as reply
-use Rattle.hd_model.specs.declared.data.Grown.TheVariants.{Zero, Back}
-use Rattle.hd_model.specs.State.{Numbers, State, handle_register_of, handle_at, with_place, without_use}
-use Rattle.hd_model.specs.Role.{pins}
-use Rattle.hd_model.specs.Command.{Outcome, answers, answer_place}
-use Rattle.hd_model.specs.Laws.{OneStateAfter}
-use Rattle.hd_model.specs.Step.{IsOutcome, MakesHandle, with_made, AnswersPlace, DoesCollect, Way, decided, makes_object, makes_handle, collects, answers_place, gives_back, way_of, TakesWay}
+use Rattle.hd_model.proofs.Basics.{Adding, AddsEntry, AnswersPlace, Back, Bool, Cmd, DoesCollect, Entry, Id, IsOutcome, Make, MakesHandle, None, Numbers, OneStateAfter, Option, Outcome, Refusal, Reply, Slot, Some, State, TakesWay, Way, Zero, adding_of, adds_entry, answer_place, answers, answers_place, ap, collects, decided, false, gives_back, handle_at, handle_register_of, if◌then◌else◌, in_idle, in_new, makes_handle, makes_object, option_map_or, pins, refl, same_Some, sym, true, way_of, way_of_adding, with_entry, with_growth, with_made, with_place, without_use, ℕ, ⊎_elim, ◌∙◌, ◌≡◌}
+use Rattle.hd_model.specs.Command.{is_refused}
 use Rattle.hd_model.proofs.Collections.{one_collection}
+use Rattle.hd_model.specs.declared.command.Cmd.TheVariants as cmd
+use Rattle.hd_model.specs.declared.data.Kind.TheVariants as kind
+use Rattle.hd_model.specs.declared.data.Reply.TheVariants as reply
 
 -- the command of a way that the state alone does not decide
 abbrev pub CommandOf : Cmd → Way → Type 0
@@ -19,6 +14,7 @@ CommandOf c (makes_handle d make t) = c ≡ cmd.HNew d make t
 CommandOf c (collects n) = c ≡ cmd.Collect n
 CommandOf c (answers_place h) = c ≡ cmd.AddrOf h
 CommandOf c (gives_back kind) = c ≡ cmd.Trim kind
+CommandOf c (adds_entry v key) = (k : ℕ) × (c ≡ cmd.CAdd k v)
 
 pub way_command : (s : State) (caller : ℕ) (c : Cmd) → CommandOf c (way_of s caller c)
 way_command s caller (cmd.New d fields fin) = refl
@@ -26,6 +22,12 @@ way_command s caller (cmd.HNew d make t) = refl
 way_command s caller (cmd.Collect n) = refl
 way_command s caller (cmd.AddrOf h) = refl
 way_command s caller (cmd.Trim kind) = refl
+way_command s caller (cmd.CAdd k v) = by (adding_of s caller k)
+  where
+    by : (a : Adding) → CommandOf (cmd.CAdd k v) (way_of_adding s caller v a)
+    by (is_refused refusal) = tt
+    by (in_idle slot key) = tt
+    by (in_new key) = (k, refl)
 way_command s caller _ = tt
 
 pub done_or_refused : {r : Reply} {refusal : Refusal} → r ≡ reply.Done → r ≡ reply.Refused refusal → ⊥
@@ -67,11 +69,15 @@ module _ (n : Numbers) (s : State) (e : Entry) (t u : State) where
       a.after ∙ ap (λ (x : Slot). with_made s e.caller e.grown d given r x)
       (same_Some a.slot b.slot (sym a.given ∙ b.given)) ∙ sym b.after
 
+  one_added : (v : ℕ) (key : Id) → AddsEntry n s e t v key → AddsEntry n s e u v key → t ≡ u
+  one_added v key a b =
+      a.after ∙ ap (λ (x : Slot). with_entry (with_growth s kind.Dependent e.grown) s e.caller v x key)
+      (same_Some a.slot b.slot (sym a.given ∙ b.given)) ∙ sym b.after
+
   one_place : (h : ℕ) → AnswersPlace s e t h → AnswersPlace s e u h → t ≡ u
   one_place h a b =
       a.outcome.after ∙ ap (λ (o : Outcome). o.after)
-      (places_same s e.caller h a.place b.place e.reply a.outcome.reply b.outcome.reply)
-      ∙ sym b.outcome.after
+      (places_same s e.caller h a.place b.place e.reply a.outcome.reply b.outcome.reply) ∙ sym b.outcome.after
 
   one_collected : (k : ℕ) → DoesCollect s e t k → DoesCollect s e u k → t ≡ u
   one_collected k a b = (one_collection k s t u a.report b.report a.collects b.collects).0
@@ -87,6 +93,11 @@ module _ (n : Numbers) (s : State) (e : Entry) (t u : State) where
   one_of (makes_object d fields fin) a b = one_outcome _ a.1 b.1
   one_of (makes_handle d given r) a b =
       ⊎_elim (λ x. ⊎_elim (λ y. one_made d given r x y)
+      (λ y. absurd (done_or_refused x.reply y.refused.reply)) b)
+      (λ x. ⊎_elim (λ y. absurd (done_or_refused y.reply x.refused.reply))
+      (λ y. one_outcome _ x.refused y.refused) b) a
+  one_of (adds_entry v key) a b =
+      ⊎_elim (λ x. ⊎_elim (λ y. one_added v key x y)
       (λ y. absurd (done_or_refused x.reply y.refused.reply)) b)
       (λ x. ⊎_elim (λ y. absurd (done_or_refused y.reply x.refused.reply))
       (λ y. one_outcome _ x.refused y.refused) b) a

@@ -1,16 +1,16 @@
 -- What a command does depends on no pinned address, but for `addr` and `collect`.
 use Rattle.hd_model.proofs.Basics.{◌≡◌, ℕ, inl, inr, ⊎_elim, Bool, true, false, true≢false, if◌then◌else◌, nat_lt, length, is_some, ◌+◌, ◌&&◌, List, [], ◌∷◌, Option, Some, None, refl, sym, ap, ◌∙◌, ◌==◌, nat_cmp, option_map_or, FinMap, get}
-use Rattle.hd_model.specs.Data.{Kind, Make, Grown, Slot, Strength, Entry, Id, Cmd}
+use Rattle.hd_model.specs.Data.{Kind, Make, Grown, Slot, Entry, Id, Cmd}
 use Rattle.hd_model.specs.declared.data.Grown.TheVariants.{Zero, One, Two, Back}
 use Rattle.hd_model.specs.declared.command.Cmd.TheVariants as cmd
-use Rattle.hd_model.specs.State.{Numbers, Handle, State, register_of, handle_register_of, object_by_id, total_size, count_of}
+use Rattle.hd_model.specs.State.{Numbers, Handle, State, IsFree, register_of, handle_register_of, object_by_id, total_size, count_of}
 use Rattle.hd_model.specs.Places.{with_places}
 use Rattle.hd_model.specs.Touched.{touched_by}
 use Rattle.hd_model.specs.Kinds.{kind_of, is_kind}
 use Rattle.hd_model.specs.declared.data.Refusal.TheVariants as refusal
 use Rattle.hd_model.specs.declared.data.Kind.TheVariants as kind
-use Rattle.hd_model.specs.Command.{Outcome, refuses, on_object, on_field, on_handle, on_handle_of, take_first}
-use Rattle.hd_model.specs.Step.{with_growth, IsLeastUnused, IsOutcome, MayGive, MakesHandle, FindsTableFull, GivesBack, with_made, StepOf, Step}
+use Rattle.hd_model.specs.Command.{Outcome, refuses, on_object, on_field, on_handle, on_handle_of, take_first, Adding, is_refused, in_idle, in_new, adding_of, slot_of_key, with_entry}
+use Rattle.hd_model.specs.Step.{with_growth, IsLeastUnused, IsOutcome, MayGive, MakesHandle, AddsEntry, FindsTableFull, GivesBack, with_made, way_of_adding, TakesWay, StepOf, Step}
 
 module _ (p : FinMap nat_cmp ℕ) where
   -- an outcome with these pinned addresses in its state
@@ -84,8 +84,12 @@ module _ (p : FinMap nat_cmp ℕ) where
     least_placed : (from block : ℕ) → IsLeastUnused n s from block → IsLeastUnused n before from block
     least_placed from block is = record { low = is.low; high = is.high; unused = is.unused; least = is.least }
 
+    free_placed : (k : Kind) (slot : Slot) → IsFree s k slot → IsFree before k slot
+    free_placed k slot free =
+        record { no_handle = free.no_handle; not_weak = free.not_weak; of_kind = free.of_kind }
+
     give_placed : (k : Kind) (g : Grown) (slot : Slot) → MayGive n s k g slot → MayGive n before k g slot
-    give_placed k Zero slot may = may
+    give_placed k Zero slot may = free_placed k slot may
     give_placed k (One b) slot may = (may.0, least_placed 1 b may.1, may.2)
     give_placed k (Two b o) slot may = (may.0, least_placed 1 b may.1, least_placed (b + 1) o may.2, may.3)
     give_placed k (Back b) slot may = may
@@ -101,6 +105,31 @@ module _ (p : FinMap nat_cmp ℕ) where
     alike : (o q : Outcome) → IsOutcome e q t
         → ((P : Outcome → Outcome → Type 0) → ((x : Outcome) → P (placed x) x) → P o q) → IsOutcome e o after
     alike o q is each = outcome_placed o q (each (λ x y. x ≡ placed y) (λ x. refl)) is
+
+    entry_placed : (g : Grown) (v : ℕ) (slot : Slot) (key : Id)
+        → with_places (with_entry (with_growth s kind.Dependent g) s e.caller v slot key) p
+        ≡ with_entry (with_growth before kind.Dependent g) before e.caller v slot key
+    entry_placed Zero v slot key = refl
+    entry_placed (One b) v slot key = refl
+    entry_placed (Two b o) v slot key = refl
+    entry_placed (Back b) v slot key = refl
+
+    added_placed : (v : ℕ) (a : Adding) → TakesWay n s e t (way_of_adding s e.caller v a)
+        → TakesWay n before e after (way_of_adding before e.caller v a)
+    added_placed v (is_refused r) is = alike _ _ is (λ P leaf. leaf _)
+    added_placed v (in_idle slot key) is = alike _ _ is (λ P leaf. leaf _)
+    added_placed v (in_new key) is = ⊎_elim
+        (λ (x : AddsEntry n s e t v key). inl (record {
+          slot = x.slot;
+          given = x.given;
+          may = give_placed kind.Dependent e.grown x.slot x.may;
+          reply = x.reply;
+          after = ap (λ u. with_places u p) x.after ∙ entry_placed e.grown v x.slot key;
+        }))
+        (λ (x : FindsTableFull n s e t kind.Dependent). inr (record {
+          few = x.few;
+          refused = alike _ _ x.refused (λ P leaf. leaf _);
+        })) is
 
     does_placed : (c : Cmd) → (touched_by c).places ≡ false → StepOf n s e t c → StepOf n before e after c
     does_placed (cmd.New d f fin) h is = (
@@ -159,13 +188,18 @@ module _ (p : FinMap nat_cmp ℕ) where
     does_placed (cmd.Trim k) h is = ⊎_elim
         (λ (x : GivesBack s e t k). inl (record {
           block = x.block;
-          free = x.free;
+          free = λ slot here. free_placed k slot (x.free slot here);
           reply = x.reply;
           slot = x.slot;
           grown = x.grown;
           after = ap (λ u. with_places u p) x.after;
         }))
         (λ x. inr (alike _ _ x (λ P leaf. leaf _))) is
+    does_placed (cmd.CAdd k v) h is = added_placed v (adding_of s e.caller k) is
+    does_placed (cmd.CFind d k) h is = alike _ _ is (λ P leaf. object_placed P leaf s e.caller k _ _ (λ key.
+        by_option P leaf _ _ _ _ (slot_of_key s key) (λ slot. leaf _) (leaf _)))
+    does_placed (cmd.CRemove k) h is = alike _ _ is (λ P leaf. object_placed P leaf s e.caller k _ _ (λ key.
+        by_option P leaf _ _ _ _ (slot_of_key s key) (λ slot. leaf _) (leaf _)))
     does_placed _ h is = alike _ _ is (λ P leaf. leaf _)
 
     -- a step of a command that touches no pinned address is one with any such addresses

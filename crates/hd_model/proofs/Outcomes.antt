@@ -1,10 +1,6 @@
 -- What holds of each way in which a command can come out holds of its outcome.
-use Rattle.hd_model.proofs.Basics.{◌≡◌, ℕ, ◌<◌, ◌≤◌, Bool, true, false, nat_lt, if◌then◌else◌, length, Option, Some, None, refl, ltb-true, ltb-false, option_map_or}
-use Rattle.hd_model.specs.Data.{Id, Slot, Kind}
+use Rattle.hd_model.proofs.Basics.{Bool, Handle, Id, Kind, None, Option, Outcome, Slot, Some, State, false, handle_at, handle_register_of, if◌then◌else◌, is_kind, length, ltb-false, ltb-true, nat_lt, object_by_id, on_field, on_handle, on_handle_of, on_object, option_map_or, refl, refuses, register_of, true, ℕ, ◌<◌, ◌≡◌, ◌≤◌}
 use Rattle.hd_model.specs.declared.data.Refusal.TheVariants as refusal
-use Rattle.hd_model.specs.Kinds.{is_kind}
-use Rattle.hd_model.specs.State.{Handle, State, register_of, handle_register_of, object_by_id, handle_at}
-use Rattle.hd_model.specs.Command.{Outcome, refuses, on_object, on_field, on_handle, on_handle_of}
 
 pub option_cases : {A B : Type 0} (P : B → Type 0) (act : A → B) (o : Option A) (r : B) → (o ≡ None → P r)
     → ((x : A) → o ≡ Some x → P (act x)) → P (option_map_or act o r)

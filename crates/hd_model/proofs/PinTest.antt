@@ -1,10 +1,5 @@
 -- The test for what is pinned, against its definition.
-use Rattle.hd_model.proofs.Basics.{◌≡◌, ℕ, Bool, true, ◌&&◌, Option, Some, None, nat_cmp, refl, ap, ◌∙◌, Decides, FinMap, get, values, and_parts, and_from, eqb-true, eq-eqb, false≢true}
-use Rattle.hd_model.specs.Data.{Id}
-use Rattle.hd_model.specs.State.{Handle}
-use Rattle.hd_model.specs.Role.{pins}
-use Rattle.hd_model.specs.Reach.{IsPinned, IsHeld}
-use Rattle.hd_model.specs.Places.{is_target, is_pinned}
+use Rattle.hd_model.proofs.Basics.{Bool, Decides, FinMap, Handle, Id, IsHeld, IsPinned, None, Option, Some, and_from, and_parts, ap, eq-eqb, eqb-true, false≢true, get, is_pinned, is_target, nat_cmp, pins, refl, true, values, ℕ, ◌&&◌, ◌∙◌, ◌≡◌}
 use Rattle.hd_model.proofs.Entries.{value_of, value_found, any_from, any_of}
 use Rattle.hd_model.proofs.KindExtras.{pins_hold}
 
@@ -29,11 +24,9 @@ pinned_decides handles x = (
         handle = g;
         is_stored = found;
         pins = pinning;
-        target =
-            target_is x g.target target;
+        target = target_is x g.target target;
       },
-  λ p.
-      any_of (λ (g : Handle Id). pins g && is_target x.0 g.target) (values handles) p.handle
+  λ p. any_of (λ (g : Handle Id). pins g && is_target x.0 g.target) (values handles) p.handle
       (value_of handles p.slot p.handle p.is_stored)
       (and_from (pins p.handle) (is_target x.0 p.handle.target) p.pins
       (is_the_target x p.handle.target p.target)),

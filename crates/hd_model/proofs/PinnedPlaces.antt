@@ -1,21 +1,10 @@
 -- A pinned address is returned again, as long as its object is pinned.
-use Rattle.hd_model.proofs.Basics.{◌≡◌, ℕ, Bool, true, false, cond, Some, None, refl, sym, ap, ◌∙◌, subst, if◌then◌else◌, true≢false, option_and_then, option_map_or, MatchOption, get}
-use Rattle.hd_model.specs.Data.{Id, Slot, Entry, Reply, Cmd}
+use Rattle.hd_model.proofs.Basics.{AnswersPlace, Bool, Cmd, Entry, Handle, Id, IsFreePlace, IsPinned, MatchOption, MayAnswer, None, Numbers, Outcome, PinnedPlaceIsReadBack, PinsBy, PlaceIsReturnedAgain, Reply, Slot, Some, State, Step, Unpins, answer_place, answers, ap, cond, false, get, handle_at, if◌then◌else◌, is_pinned, option_and_then, option_map_or, pinned_by, pinned_target, pins, refl, refuses, subst, sym, true, true≢false, with_place, ℕ, ◌∙◌, ◌≡◌}
+use Rattle.hd_model.proofs.{ReadAfterWrite.write_cases, ReadAfterWrite.get_inserted, PinTest.pinned_decides, StepWrites.still, StepWrites.same_id, StateReadBack.step_of}
+use Rattle.hd_model.proofs.Effects.{Effect, collects, answers_place}
 use Rattle.hd_model.specs.declared.data.Refusal.TheVariants as refusal
 use Rattle.hd_model.specs.declared.data.Reply.TheVariants as reply
 use Rattle.hd_model.specs.declared.command.Cmd.TheVariants as cmd
-use Rattle.hd_model.specs.State.{Numbers, Handle, State, handle_at, with_place}
-use Rattle.hd_model.specs.Role.{pins}
-use Rattle.hd_model.specs.Reach.{IsPinned}
-use Rattle.hd_model.specs.Places.{is_pinned, MayAnswer, IsFreePlace}
-use Rattle.hd_model.specs.Command.{Outcome, answers, refuses, answer_place}
-use Rattle.hd_model.specs.Step.{pinned_by, pinned_target, AnswersPlace, Step}
-use Rattle.hd_model.specs.UserLaws.{PinsBy, PlaceIsReturnedAgain, Unpins, PinnedPlaceIsReadBack}
-use Rattle.hd_model.proofs.ReadAfterWrite.{write_cases, get_inserted}
-use Rattle.hd_model.proofs.PinTest.{pinned_decides}
-use Rattle.hd_model.proofs.Effects.{Effect, collects, answers_place}
-use Rattle.hd_model.proofs.StepWrites.{still, same_id}
-use Rattle.hd_model.proofs.StateReadBack.{step_of}
 
 module _ (s : State) (caller h : ℕ) (id : Id) (by : PinsBy s caller h id) where
   -- what the register's handle pins
@@ -74,8 +63,7 @@ place_put n s e t h id p step is by answered =
     let same : does.place ≡ p =
     same_number (does.outcome.reply ∙ ap (λ (o : Outcome). o.reply) comes) answered in
     let after : t ≡ with_place s id does.place = does.outcome.after ∙ ap (λ (o : Outcome). o.after) comes in (
-      ap (λ (x : State). get x.places id.0) after
-          ∙ get_inserted s.places id.0 does.place ∙ ap Some same,
+      ap (λ (x : State). get x.places id.0) after ∙ get_inserted s.places id.0 does.place ∙ ap Some same,
       ap (λ (x : State). x.handles) after,
     )
 

@@ -1,16 +1,7 @@
 -- In every state of a run, the objects at pinned addresses share no cell.
-use Rattle.hd_model.proofs.Basics.{◌≡◌, ◌≢◌, ℕ, ◌+◌, ◌<◌, ◌≤◌, ◌^◌, ◌⊎◌, Bool, true, false, cond, length, Option, Some, None, IsSome, is_some, refl, sym, ap, ◌∙◌, subst, inl, inr, ⊎_elim, true≢false, nat_cmp, length-set, unwrap_or, MatchOption, FinMap, get, insert, get-empty, cases_lt, none-some, same_Some}
-use Rattle.hd_model.specs.Data.{Id, Entry, Cmd}
-use Rattle.hd_model.specs.State.{Numbers, Object, State, object_by_id, register_of, with_place}
-use Rattle.hd_model.specs.Places.{IsFreePlace, MayAnswer, is_pinned}
-use Rattle.hd_model.specs.WellFormed.{IsWellFormed}
-use Rattle.hd_model.specs.UserLaws.{TakesCells, HasPlacesApart, PinnedObjectsDoNotOverlap}
-use Rattle.hd_model.proofs.ReadAfterWrite.{write_cases}
-use Rattle.hd_model.proofs.StepChains.{chain_keeps}
-use Rattle.hd_model.proofs.WellFormedSteps.{step_keeps, start_is_well_formed}
+use Rattle.hd_model.proofs.Basics.{Bool, Cmd, Entry, FinMap, HasPlacesApart, Id, IsFreePlace, IsSome, IsWellFormed, MatchOption, MayAnswer, None, Numbers, Object, Option, PinnedObjectsDoNotOverlap, Some, State, TakesCells, ap, cases_lt, cond, false, get, get-empty, inl, inr, insert, is_pinned, is_some, length, length-set, nat_cmp, none-some, object_by_id, refl, register_of, same_Some, subst, sym, true, true≢false, unwrap_or, with_place, ℕ, ⊎_elim, ◌+◌, ◌<◌, ◌^◌, ◌∙◌, ◌≡◌, ◌≢◌, ◌≤◌, ◌⊎◌}
+use Rattle.hd_model.proofs.{ReadAfterWrite.write_cases, StepChains.chain_keeps, WellFormedSteps.step_keeps, WellFormedSteps.start_is_well_formed, StepWrites.same_id, ObjectParts.given_of_object, ObjectParts.holds_on}
 use Rattle.hd_model.proofs.Effects.{Effect, collects, answers_place, effect}
-use Rattle.hd_model.proofs.StepWrites.{same_id}
-use Rattle.hd_model.proofs.ObjectParts.{given_of_object, holds_on}
 
 -- ranges that do not meet are one after the other
 apart_from : (a b c d : ℕ) → (a < d → c < b → ⊥) → (b ≤ c) ⊎ (d ≤ a)
@@ -171,8 +162,7 @@ pinned_objects_do_not_overlap n journal s run =
     (chain_keeps (λ x. IsWellFormed n x × HasPlacesApart x)
     (λ x e y step w. (
       step_keeps n x y e w.0 step,
-      effect_apart n x w.0 e e.cmd y
-          (effect n x e y step) w.1,
+      effect_apart n x w.0 e e.cmd y (effect n x e y step) w.1,
     )) run (
       start_is_well_formed n,
       record {

@@ -1,8 +1,8 @@
 -- A property has one number of things, and such numbers add up.
-use Rattle.hd_model.proofs.Basics.{◌≡◌, ◌≢◌, Bool, true, ℕ, ◌+◌, ◌≤◌, List, [], ◌∷◌, ◌++◌, map, length, refl, ap, ◌∙◌, subst, arith, ⊎_elim, inl, inr, ◌⊎◌, length-append, Contains, AllPairs, filter, Contains-append_left, Contains-append_right, Contains-append_cases, length-map}
+use Rattle.hd_model.proofs.Basics.{◌≡◌, ◌≢◌, Bool, true, ℕ, ◌+◌, ◌≤◌, List, [], ◌++◌, map, length, refl, ◌∙◌, subst, arith, ⊎_elim, inl, inr, ◌⊎◌, length-append, Contains, AllPairs, filter, Contains-append_left, Contains-append_right, Contains-append_cases, length-map}
 use Rattle.hd_model.proofs.MemberWeights.{lighter, sum_ones}
 use Rattle.hd_model.specs.Counting.{Counts}
-use Rattle.hd_model.proofs.Members.{not_in_none, first_in, later_in, member_cases, member_same, split_at, pairs_first, pairs_rest, pairs_none, pairs_append, passing_from, passing_in, pairs_passing, pairs_mapped, pairs_among, mapped_in, mapped_from}
+use Rattle.hd_model.proofs.Members.{not_in_none, pairs_none, pairs_append, passing_from, passing_in, pairs_passing, pairs_mapped, pairs_among, mapped_in, mapped_from}
 
 module _ {A : Type 0} where
   -- members that are apart and are in another list are at most as many as that has

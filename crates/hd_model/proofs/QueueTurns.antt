@@ -1,22 +1,11 @@
 -- The queue is first in, first out.
-use Rattle.hd_model.proofs.Basics.{◌≡◌, ℕ, ◌<◌, Bool, true, false, if◌then◌else◌, List, [], ◌++◌, Option, Some, None, refl, sym, ap, ◌∙◌, subst, option_to_list, append-nil, append_assoc}
-use Rattle.hd_model.specs.Data.{Id, Entry, Reply, Cmd}
+use Rattle.hd_model.proofs.Basics.{Bool, ChangesQueue, Cmd, Entry, FinalTakesTheFirst, Id, IsOutcome, IsValid, IsWellFormed, List, None, Numbers, Option, Outcome, QueueGoesInTurn, QueueIsLeft, REGISTERS, Reply, Some, State, [], answers, ap, append-nil, append_assoc, false, if◌then◌else◌, link, object_answered, option_to_list, refl, register_of, stay, subst, sym, take_first, taken, taken_by, takes, touched_by, true, with_queue, with_register, ℕ, ◌++◌, ◌<◌, ◌∙◌, ◌≡◌}
+use Rattle.hd_model.specs.UserLaws.{collects}
+use Rattle.hd_model.proofs.{ReadAfterWrite.cell_here, StateReadBack.step_of}
+use Rattle.hd_model.proofs.Effects.{Effect, refused, finds_none, takes_first, effect}
 use Rattle.hd_model.specs.declared.data.Reply.TheVariants as reply
 use Rattle.hd_model.specs.declared.command.Cmd.TheVariants as cmd
-use Rattle.hd_model.specs.declared.limits.TheConstants.{REGISTERS}
-use Rattle.hd_model.specs.Valid.{IsValid}
-use Rattle.hd_model.specs.State.{Numbers, State, register_of, with_register, with_queue}
-use Rattle.hd_model.specs.Command.{Outcome, answers, take_first}
-use Rattle.hd_model.specs.Touched.{touched_by}
-use Rattle.hd_model.specs.Step.{IsOutcome}
-use Rattle.hd_model.specs.Run.{stay, link}
-use Rattle.hd_model.specs.WellFormed.{IsWellFormed}
-use Rattle.hd_model.specs.Laws.{object_answered}
-use Rattle.hd_model.specs.UserLaws.{FinalTakesTheFirst, ChangesQueue, takes, collects, QueueIsLeft, taken_by, taken, QueueGoesInTurn}
-use Rattle.hd_model.proofs.ReadAfterWrite.{cell_here}
-use Rattle.hd_model.proofs.Effects.{Effect, refused, finds_none, takes_first, effect}
 use Rattle.hd_model.proofs.Effects as did
-use Rattle.hd_model.proofs.StateReadBack.{step_of}
 
 -- the register of a caller of a well formed state has what is put there
 register_has : (n : Numbers) (s : State) (c d : ℕ) (v : Option Id) → IsWellFormed n s → c < n.callers
@@ -74,15 +63,13 @@ module _ (n : Numbers) (s : State) (e : Entry) where
       → (joined : List Id) × (taken_of c ++ t.queue ≡ s.queue ++ joined)
   turn c t (takes_first id rest is p) = (
     [],
-    ap (λ (r : Reply). option_to_list (object_answered r) ++ rest) p ∙ sym is
-        ∙ sym (append-nil s.queue),
+    ap (λ (r : Reply). option_to_list (object_answered r) ++ rest) p ∙ sym is ∙ sym (append-nil s.queue),
   )
   turn c t (finds_none p) =
       ([], ap (λ (x : List Id). x ++ s.queue) (nothing _ p refl) ∙ sym (append-nil s.queue))
   turn c t (did.collects x) = (
     x.collects.scene.joins,
-    ap (λ (y : List Id). y ++ t.queue) (nothing _ x.reply refl)
-        ∙ x.collects.scene.queue,
+    ap (λ (y : List Id). y ++ t.queue) (nothing _ x.reply refl) ∙ x.collects.scene.queue,
   )
   turn c t (refused {c = x} p) = ([], none_taken (touched_by x).queue ∙ sym (append-nil s.queue))
     where

@@ -1,7 +1,7 @@
 -- Tests for what a collection of a state reaches, resurrects and keeps.
-use Rattle.hd_model.proofs.Basics.{◌≡◌, ℕ, ◌<◌, ◌≤◌, nat_lt, nat_le, ◌==◌, Bool, true, false, not, ◌||◌, ◌&&◌, List, map, Option, Some, None, IsSome, is_some, refl, sym, ap, ◌∙◌, subst, ⊎_elim, inl, inr, ◌⊎◌, Contains, Decides, list_any, get, keys, values, cases_Bool, false≢true, true≢false, eqb-true, eq-eqb, ltb-true, lt-ltb, leb-true, le-leb, not_from_false, same_Some}
+use Rattle.hd_model.proofs.Basics.{◌≡◌, ℕ, ◌<◌, ◌≤◌, nat_lt, nat_le, ◌==◌, Bool, true, false, not, ◌||◌, ◌&&◌, List, map, Option, Some, None, IsSome, is_some, refl, sym, ap, ◌∙◌, subst, ⊎_elim, inl, inr, ◌⊎◌, Contains, Decides, list_any, ◌++◌, get, keys, option_map_or, Contains-append_left, Contains-append_right, none-some, cases_Bool, false≢true, true≢false, eqb-true, eq-eqb, ltb-true, lt-ltb, leb-true, le-leb, not_from_false, same_Some}
 use Rattle.hd_model.specs.Data.{Id}
-use Rattle.hd_model.specs.State.{Object, Handle, State, secondary_of}
+use Rattle.hd_model.specs.State.{Object, Handle, State, row_of, secondary_of}
 use Rattle.hd_model.specs.Role.{Role, holds, short, long, attaches, role}
 use Rattle.hd_model.specs.Leads.{Leads}
 use Rattle.hd_model.specs.Scene.{scene_of, is_object, fields_in, generation_at, IsWhole}
@@ -9,7 +9,9 @@ use Rattle.hd_model.specs.Reach.{IsAttached, IsHeld, IsRoot, named, queued, held
 use Rattle.hd_model.specs.Collect.{is_attaching}
 use Rattle.hd_model.specs.Places.{is_target}
 use Rattle.hd_model.proofs.Members.{mapped_in}
-use Rattle.hd_model.proofs.Entries.{some_value, entry_of, value_of, value_found}
+use Rattle.hd_model.proofs.Entries.{some_value, entry_of}
+use Rattle.hd_model.proofs.MapBuild.{in_keys}
+use Rattle.hd_model.proofs.WeakSlots.{row_cases}
 use Rattle.hd_model.proofs.PinTest.{target_is, is_the_target}
 use Rattle.hd_model.proofs.SceneCollection.{root_object, edge_object, reached_object}
 use Rattle.hd_model.proofs.Reachability.{decides_or, decides_and, decides_like, decides_any, through, decides_led}
@@ -66,31 +68,55 @@ module _ (s : State) where
       mapped_in (λ (k : ℕ). record { 0 = k }) (keys s.objects) x.0
       (mapped_in (λ (g : ℕ × Object Id). g.0) _ (x.0, o) (entry_of s.objects x.0 o e))
 
-  -- whether some live handle passes
-  handle_decides : (P : Handle Id → Type 0) (test : Handle Id → Bool)
-      → ((h : Handle Id) → Decides (test h) (P h))
-      → Decides (list_any test (values s.handles)) ((slot : ℕ) × ((h : Handle Id)
-      × ((get s.handles slot ≡ Some h) × P h)))
-  handle_decides P test each =
-      decides_like (list_any test (values s.handles))
-      (λ h. let (slot, e) = value_found s.handles h.0 h.1.0 in (slot, (h.0, (e, h.1.1))))
-      (λ h. (h.1.0, (value_of s.handles h.0 h.1.0 h.1.1.0, h.1.1.1)))
-      (decides_any P test each (values s.handles))
+  -- the slots that may have a row, and the rows in them
+  abbrev pub slots : List ℕ
+  slots = keys s.handles ++ keys s.weak
+
+  pub in_slots : (slot : ℕ) (h : Handle Id) → row_of s slot ≡ Some h → Contains slots slot
+  in_slots slot h e =
+      ⊎_elim (λ is. Contains-append_left (keys s.handles) (keys s.weak) slot (in_keys s.handles slot
+      (ap is_some is)))
+      (λ weak. Contains-append_right (keys s.handles) (keys s.weak) slot (in_keys s.weak slot
+      (ap is_some weak.1.1.0)))
+      (row_cases s slot h e)
+
+  abbrev tested : (Handle Id → Bool) → ℕ → Bool
+  tested test slot = option_map_or test (row_of s slot) false
+
+  -- whether some row passes
+  row_decides : (P : Handle Id → Type 0) (test : Handle Id → Bool) → ((h : Handle Id)
+      → Decides (test h) (P h))
+      → Decides (list_any (tested test) slots) ((slot : ℕ) × ((h : Handle Id) ×
+      ((row_of s slot ≡ Some h) × P h)))
+  row_decides P test each =
+      decides_like (list_any (tested test) slots)
+      (λ h. (h.0, h.1.1))
+      (λ h. (h.0, (in_slots h.0 h.1.0 h.1.1.0, h.1)))
+      (decides_any (λ slot. (h : Handle Id) × ((row_of s slot ≡ Some h) × P h)) (tested test)
+      (λ slot. of_row slot (row_of s slot) refl) slots)
+    where
+      of_row : (slot : ℕ) (o : Option (Handle Id)) → row_of s slot ≡ o
+          → Decides (option_map_or test o false) ((h : Handle Id) × ((o ≡ Some h) × P h))
+      of_row slot None e = (λ h. absurd (false≢true h), λ h. absurd (none-some h.0 h.1.0))
+      of_row slot (Some g) e = (
+        λ h. (g, (refl, (each g).0 h)),
+        λ h. subst (λ x. test x ≡ true) (sym (same_Some g h.0 h.1.0)) ((each h.0).1 h.1.1),
+      )
 
   attaching : Id → Id → Handle Id → Bool
   attaching x y h = is_attaching (role h) && (is_target x.0 h.target && is_target y.0 (secondary_of h.extra))
 
   pub is_edge : Id → Id → Bool
   is_edge x y =
-      list_any (is_target y.0) (fields_in (get s.objects x.0)) || list_any (attaching x y) (values s.handles)
+      list_any (is_target y.0) (fields_in (get s.objects x.0)) || list_any (tested (attaching x y)) slots
 
   pub edge_is : (x y : Id) → Decides (is_edge x y) (Edge s x y)
   unfolding is_edge attaching
   edge_is x y =
       decides_or (list_any (is_target y.0) (fields_in (get s.objects x.0)))
-      (list_any (attaching x y) (values s.handles))
+      (list_any (tested (attaching x y)) slots)
       (named_decides y (fields_in (get s.objects x.0)))
-      (decides_like (list_any (attaching x y) (values s.handles))
+      (decides_like (list_any (tested (attaching x y)) slots)
       (λ h. record {
         slot = h.0;
         handle = h.1.0;
@@ -101,7 +127,7 @@ module _ (s : State) where
       })
       (λ (a : IsAttached (scene_of s).handle x y).
       (a.slot, (a.handle, (a.is_stored, (a.attaches, (a.target, a.secondary))))))
-      (handle_decides
+      (row_decides
       (λ h. (role h ≡ attaches) × ((h.target ≡ Some x) × (secondary_of h.extra ≡ Some y))) (attaching x y)
       (λ h. decides_and (is_attaching (role h))
       (is_target x.0 h.target && is_target y.0 (secondary_of h.extra)) (attaching_is (role h))
@@ -111,10 +137,10 @@ module _ (s : State) where
   holding : Id → Handle Id → Bool
   holding x h = is_holding (role h) && is_target x.0 h.target
 
-  held_decides : (x : Id) → Decides (list_any (holding x) (values s.handles)) (IsHeld (scene_of s).handle x)
+  held_decides : (x : Id) → Decides (list_any (tested (holding x)) slots) (IsHeld (scene_of s).handle x)
   unfolding holding
   held_decides x =
-      decides_like (list_any (holding x) (values s.handles))
+      decides_like (list_any (tested (holding x)) slots)
       (λ h. record {
         slot = h.0;
         handle = h.1.0;
@@ -123,7 +149,7 @@ module _ (s : State) where
         target = h.1.1.1.1;
       })
       (λ (h : IsHeld (scene_of s).handle x). (h.slot, (h.handle, (h.is_stored, (h.holds, h.target)))))
-      (handle_decides (λ h. (role h ≡ holds) × (h.target ≡ Some x)) (holding x)
+      (row_decides (λ h. (role h ≡ holds) × (h.target ≡ Some x)) (holding x)
       (λ h. decides_and (is_holding (role h)) (is_target x.0 h.target) (holding_is (role h))
       (target_decides x h.target)))
 
@@ -145,7 +171,7 @@ module _ (s : State) where
     is_root x =
         list_any (is_target x.0) (scene_of s).named
         || (list_any (λ y. same_id y x) s.queue
-        || (list_any (holding x) (values s.handles) || nat_lt n (generation_at (scene_of s).object x)))
+        || (list_any (tested (holding x)) slots || nat_lt n (generation_at (scene_of s).object x)))
 
     pub root_is : (x : Id) → Decides (is_root x) (IsRoot (scene_of s) n x)
     unfolding is_root
@@ -157,7 +183,7 @@ module _ (s : State) where
         (decides_or (list_any (is_target x.0) (scene_of s).named) _
         (named_decides x (scene_of s).named)
         (decides_or (list_any (λ y. same_id y x) s.queue) _ (queue_decides x)
-        (decides_or (list_any (holding x) (values s.handles)) (nat_lt n (generation_at (scene_of s).object x))
+        (decides_or (list_any (tested (holding x)) slots) (nat_lt n (generation_at (scene_of s).object x))
         (held_decides x) (older_decides x))))
       where
         back : IsRoot (scene_of s) n x

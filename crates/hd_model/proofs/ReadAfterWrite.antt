@@ -1,5 +1,5 @@
 -- What is read in a list or a map after a write.
-use Rattle.hd_model.proofs.Basics.{◌≡◌, refl, ◌≢◌, ℕ, zero, suc, ◌+◌, ◌-◌, ◌<◌, true≢false, true, false, cond, List, [], ◌∷◌, length, get_or, set, replicate, Option, Some, None, is_some, sym, ap, ◌∙◌, subst, arith, IsSome, nat_cmp, length-set, get_or-set_same, ⊎_elim, FinMap, get, insert, remove, len, get-insert, get-remove, get-empty, empty_of_len, len-insert, len-remove, eq_by_cmp, nat_cmp_total, cases_eq, nat_tests, same_Some, none-some}
+use Rattle.hd_model.proofs.Basics.{FinMap, IsSome, List, None, Option, Some, [], ap, arith, cases_eq, cond, empty_of_len, eq_by_cmp, false, get, get-empty, get-insert, get-remove, get_or, get_or-set_same, inl, inr, insert, is_some, len, len-insert, len-remove, length, length-set, nat_cmp, nat_cmp_total, nat_tests, none-some, refl, remove, replicate, same_Some, set, subst, suc, sym, true, true≢false, zero, ℕ, ⊎_elim, ◌+◌, ◌-◌, ◌<◌, ◌∙◌, ◌∷◌, ◌≡◌, ◌≢◌, ◌⊎◌}
 
 -- what holds of the new element and of what was there holds of what is there
 pub set_cases : {A : Type 0} (P : A → Type 0) (xs : List A) (i j : ℕ) (a d : A) → (j ≡ i → P a)
@@ -89,6 +89,13 @@ module _ {X : Type 0} (m : FinMap nat_cmp X) (k : ℕ) where
       → (q : ℕ) (x : X) → get (insert m k v) q ≡ Some x → P q x
   insert_all P v new old q x =
       insert_cases (λ j o. o ≡ Some x → P j x) v q (λ e. subst (P k) (same_Some v x e) new) (λ ne. old q x)
+
+  -- what is found after a write was there, or is what was written
+  pub inserted_from : (v : X) (q : ℕ) (x : X) → get (insert m k v) q ≡ Some x
+      → (get m q ≡ Some x) ⊎ ((q ≡ k) × (v ≡ x))
+  inserted_from v q x =
+      insert_cases (λ j o. o ≡ Some x → (get m j ≡ Some x) ⊎ ((j ≡ k) × (v ≡ x))) v q
+      (λ e. inr (refl, same_Some v x e)) (λ _ e. inl e)
 
   pub remove_all : (P : ℕ → X → Type 0) → ((q : ℕ) (x : X) → get m q ≡ Some x → P q x) → (q : ℕ) (x : X)
       → get (remove m k) q ≡ Some x → P q x

@@ -1,8 +1,7 @@
 -- A scene read under other names has the same reach, and keeps and resurrects the same objects.
 use Rattle.hd_model.proofs.Basics.{◌≡◌, ℕ, ◌<◌, ◌≤◌, true, Option, Some, None, is_some, refl, sym, ap, ◌∙◌, subst, ⊎_elim, inl, inr, ◌⊎◌, arith, Contains, option_map}
-use Rattle.hd_model.specs.Data.{Kind}
 use Rattle.hd_model.specs.State.{Object, Extra, nothing, strength, secondary, count, Handle, secondary_of, rename_extra, rename_object, rename_handle}
-use Rattle.hd_model.specs.Role.{holds, attaches, role_of, role}
+use Rattle.hd_model.specs.Role.{holds, attaches, role}
 use Rattle.hd_model.specs.Leads.{Leads}
 use Rattle.hd_model.specs.Scene.{Scene, is_object, fields_in, generation_in, generation_at, IsField, IsWhole, IsReading}
 use Rattle.hd_model.specs.Reach.{IsAttached, IsEdge, IsRoot, named, queued, held, older, IsReached, IsToBeFinalized, IsKept}

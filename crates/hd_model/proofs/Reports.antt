@@ -1,17 +1,8 @@
 -- What the numbers of a report say of the states before and after.
-use Rattle.hd_model.proofs.Basics.{◌≡◌, ◌≢◌, ℕ, ◌+◌, ◌<◌, ◌≤◌, Bool, true, false, length, Option, Some, None, is_some, IsSome, refl, sym, ap, ◌∙◌, ⊎_elim, inl, inr, ◌⊎◌, arith, length-append, option_map, get, len, cases_Bool, cases_lt, false≢true, true≢false, cond-true, cond-false, none-some, same_Some}
-use Rattle.hd_model.specs.Data.{Id, Report}
-use Rattle.hd_model.specs.State.{Numbers, Handle, State}
-use Rattle.hd_model.specs.Role.{Role, holds, short, long, attaches, role}
-use Rattle.hd_model.specs.Scene.{Scene, scene_of, is_object, generation_at, IsCondemned, IsWhole}
-use Rattle.hd_model.specs.Reach.{older}
+use Rattle.hd_model.proofs.Basics.{Bool, Collected, Collects, Goes, Handle, Id, IsCondemned, IsRemoved, IsSome, IsSurviving, IsWhole, LosesAs, LosesTarget, None, Numbers, Option, Report, ReportSays, Role, Scene, Some, State, Stays, ap, arith, attaches, cases_Bool, cases_lt, cleared, cond-false, cond-true, false, false≢true, generation_at, get, holds, inl, inr, is_lost, is_object, is_some, len, length, length-append, long, loses, loses_by, none-some, older, option_map, refl, role, row_of, same_Some, scene_of, short, survivor, sym, true, true≢false, ℕ, ⊎_elim, ◌+◌, ◌<◌, ◌∙◌, ◌≡◌, ◌≢◌, ◌≤◌, ◌⊎◌}
 use Rattle.hd_model.specs.Counting.{Counts}
-use Rattle.hd_model.specs.Collect.{is_lost, loses_by, loses, cleared, survivor, LosesAs, IsSurviving, IsRemoved, Collects}
-use Rattle.hd_model.specs.CollectionLaws.{Collected, LosesTarget, Stays, Goes, ReportSays}
-use Rattle.hd_model.proofs.Members.{pairs_like}
-use Rattle.hd_model.proofs.Entries.{some_value, counts_keys}
+use Rattle.hd_model.proofs.{Members.pairs_like, Entries.some_value, Entries.counts_keys, WholeScenes.whole_scene}
 use Rattle.hd_model.proofs.PropertyCounts.{counts_once, counts_like, counts_join}
-use Rattle.hd_model.proofs.WholeScenes.{whole_scene}
 use Rattle.hd_model.proofs.SceneCollection.{keeps_root, object_before, still_object}
 
 -- a handle that loses its target had one and has none after, by its role
@@ -43,8 +34,7 @@ module _ {N : Type 0} (rank : N → ℕ) (n : ℕ) (s t : Scene N) (r : Report) 
   removed_young : (x : N) → c.kept x ≡ false → generation_at s.object x ≤ n
   removed_young x lost =
       ⊎_elim (λ above. absurd (true≢false (sym (keeps_root rank n s t r w c x (older above)) ∙ lost)))
-      (λ l. l)
-      (cases_lt n (generation_at s.object x))
+      (λ l. l) (cases_lt n (generation_at s.object x))
 
   pub counts_condemned : Counts (IsCondemned s.object n) (r.kept + r.removed)
   counts_condemned =
@@ -85,8 +75,7 @@ module _ {N : Type 0} (rank : N → ℕ) (n : ℕ) (s t : Scene N) (r : Report) 
         all = λ x h. (c.joins_are x).0 h;
         number = refl;
       } in
-      ap length c.queue ∙ length-append s.queue c.joins
-      ∙ ap (λ k. length s.queue + k)
+      ap length c.queue ∙ length-append s.queue c.joins ∙ ap (λ k. length s.queue + k)
       (counts_once (λ x. c.resurrected x ≡ true) (length c.joins) r.revived joined c.report_is.resurrected)
 
 -- a loss by the sets is a loss that the states show
@@ -108,11 +97,10 @@ module _ (n : ℕ) (s t : State) (r : Report) (w : IsWhole (scene_of s))
     handle = l.old;
     is_stored = l.was_stored;
     role_is = l.role_is;
-    loses =
-        meant (loses c.reach c.kept l.old) refl;
+    loses = meant (loses c.reach c.kept l.old) refl;
   }
     where
-      after : get t.handles slot ≡ Some (cleared c.reach c.kept l.old)
+      after : row_of t slot ≡ Some (cleared c.reach c.kept l.old)
       after = c.handles slot ∙ ap (option_map (cleared c.reach c.kept)) l.was_stored
 
       meant : (b : Bool) → loses c.reach c.kept l.old ≡ b → b ≡ true
@@ -148,8 +136,7 @@ report_says m n s t r h =
     (λ x a. (a.object, gone rank n (scene_of s) (scene_of t) r w c x a.lost))
     (λ x a. record {
       object = a.0;
-      lost =
-          lost_since rank n (scene_of s) (scene_of t) r w c x a.1 (cases_Bool (c.kept x));
+      lost = lost_since rank n (scene_of s) (scene_of t) r w c x a.1 (cases_Bool (c.kept x));
     }) c.report_is.removed
     in
     record {

@@ -1,12 +1,9 @@
 -- Examples of roots and of their lines, each proved by computing.
-use Rattle.std.specs.Fmt.{digits}
-use Rattle.std.specs.Prelude.{◌≡◌, [], ◌∷◌, ◌++◌, codes, Some, None, refl}
-use Rattle.hd_model.specs.Data.{Id, Kind}
+use Rattle.hd_model.proofs.Basics.{Extra, Handle, Id, Kind, None, Some, [], identity_of, newline, nothing, refl, strength, ◌++◌, ◌∷◌, ◌≡◌}
+use Rattle.std.specs.{Fmt.digits, Prelude.codes}
+use Rattle.hd_model.specs.RootText.{held_of, roots_in, root_id, list_text}
 use Rattle.hd_model.specs.declared.data.Kind.TheVariants as kind
 use Rattle.hd_model.specs.declared.data.Strength.TheVariants as strength_of
-use Rattle.hd_model.specs.State.{Extra, nothing, strength, Handle, identity_of}
-use Rattle.hd_model.specs.RootText.{held_of, roots_in, root_id, list_text}
-use Rattle.hd_model.specs.Text.{newline}
 
 -- a handle to the first object of caller 0
 abbrev pub handle_to_first : Kind → Extra Id → Handle Id
@@ -19,8 +16,7 @@ null_is_no_root = refl
 -- the lines of a weak handle, a strong one and a variable one: those of two roots
 pub lines_of_three :
     list_text (roots_in root_id (
-    (64, handle_to_first kind.Short nothing)
-    ∷ (128, handle_to_first kind.Strong nothing)
+    (64, handle_to_first kind.Short nothing) ∷ (128, handle_to_first kind.Strong nothing)
     ∷ (192, handle_to_first kind.Variable (strength strength_of.Pinned)) ∷ []))
     ≡ codes "root 128 strong 0.1" ++ newline ++ codes "root 192 var 0.1" ++ newline
     ++ codes "roots 2" ++ newline

@@ -1,26 +1,12 @@
 -- The handles and the objects of a run, counted over its journal.
-use Rattle.hd_model.proofs.Basics.{◌≡◌, ℕ, ◌+◌, ◌/◌, ◌%◌, ◌^◌, ◌<◌, ◌≤◌, ◌&&◌, Bool, true, false, cond, List, Option, Some, None, is_some, IsSome, refl, sym, ap, ◌∙◌, subst, arith, nat_cmp, sum_by, option_map, get, len, len-empty, none-some, sum_by-cons}
-use Rattle.hd_model.specs.Data.{Id, Slot, Kind, Grown, Entry, Refusal, Reply, Cmd}
-use Rattle.hd_model.specs.declared.data.Grown.TheVariants.{Zero, One, Two, Back}
-use Rattle.hd_model.specs.declared.limits.TheConstants.{ROWS}
-use Rattle.hd_model.specs.declared.data.Reply.TheVariants as reply
-use Rattle.hd_model.specs.State.{Numbers, Object, Handle, State, start_of, register_of, last_serial, object_by_id, handle_at, field_of, use_of, first_slot, handles_of, with_handle}
-use Rattle.hd_model.specs.Command.{loaded, fresh_object, made_handle}
-use Rattle.hd_model.specs.Scene.{scene_of}
-use Rattle.hd_model.specs.Collect.{cleared}
-use Rattle.hd_model.specs.Touched.{touched_by}
-use Rattle.hd_model.specs.Step.{MayGive, DoesCollect, Step}
-use Rattle.hd_model.specs.Run.{Chain, stay, link}
-use Rattle.hd_model.specs.WellFormed.{IsWellFormed}
-use Rattle.hd_model.specs.Laws.{is_done, object_answered, removed_in, makes_handle, frees_handle, makes_object, HandlesAreMadeLessFreed, ObjectsAreMadeLessRemoved}
+use Rattle.hd_model.proofs.Basics.{Bool, Chain, Cmd, DoesCollect, Entry, Handle, HandlesAreMadeLessFreed, Id, IsSome, IsWellFormed, List, None, Numbers, Object, ObjectsAreMadeLessRemoved, Option, Refusal, Reply, Some, State, Step, ap, arith, cleared, cond, false, field_of, frees_handle, fresh_object, get, is_done, is_some, last_serial, len, len-empty, link, loaded, made_handle, nat_cmp, object_answered, object_by_id, option_map, refl, register_of, removed_in, start_of, stay, subst, sum_by, sum_by-cons, sym, touched_by, true, with_handle, ℕ, ◌%◌, ◌&&◌, ◌+◌, ◌/◌, ◌<◌, ◌^◌, ◌∙◌, ◌≡◌, ◌≤◌}
+use Rattle.hd_model.specs.Laws.{makes_handle, makes_object}
 use Rattle.hd_model.proofs.ReadAfterWrite.{len_new, len_again, len_less}
-use Rattle.hd_model.proofs.PropertyCounts.{counts_like, counts_once}
-use Rattle.hd_model.proofs.Entries.{counts_keys, some_value}
-use Rattle.hd_model.proofs.SceneCollection.{handle_before}
-use Rattle.hd_model.proofs.WholeScenes.{whole_scene}
-use Rattle.hd_model.proofs.Reports.{report_says}
-use Rattle.hd_model.proofs.Effects.{Effect, refused, makes_object as does_make, sets_field, gets_field, sets_value, reads_value, copies, clears, puts_static, gets_static, reads_generation, suppresses, reregisters, finds_none, takes_first, collects, makes_handle as does_make_handle, gets_target, sets_target, sets_secondary, gets_secondary, sets_strength, raises_count, lowers_count, frees_handle as does_free, puts_board, picks_board, answers_place, gives_back, gives_none, effect, next_identity, with_field}
-use Rattle.hd_model.proofs.WellFormedSteps.{has, first_block, step_keeps, start_is_well_formed}
+use Rattle.hd_model.proofs.{PropertyCounts.counts_like, PropertyCounts.counts_once, SceneCollection.mapped_value, Reports.report_says}
+use Rattle.hd_model.proofs.Entries.{counts_keys, some_value, none_from}
+use Rattle.hd_model.proofs.Effects.{Effect, refused, makes_object as does_make, sets_field, gets_field, sets_value, reads_value, copies, clears, puts_static, gets_static, reads_generation, suppresses, reregisters, finds_none, takes_first, collects, makes_handle as does_make_handle, gets_target, sets_target, sets_secondary, gets_secondary, sets_strength, raises_count, lowers_count, frees_handle as does_free, puts_board, picks_board, answers_place, gives_back, gives_none, adds_entry, finds_value, finds_no_entry, removes_entry, removes_none, effect, next_identity, with_field}
+use Rattle.hd_model.proofs.WellFormedSteps.{has, given_vacant, step_keeps, start_is_well_formed}
+use Rattle.hd_model.specs.declared.data.Reply.TheVariants as reply
 
 abbrev one_if : Bool → ℕ
 one_if b = cond b 1 0
@@ -57,10 +43,6 @@ refused_is_none b test r why fails is = as_none _
 done_is_one : (r : Reply) → r ≡ reply.Done → one_if (is_done r) ≡ 1
 done_is_one r is = as_one _ (ap is_done is)
 
-pub none_from : {X : Type 0} (o : Option X) → (IsSome o → ⊥) → o ≡ None
-none_from None h = refl
-none_from (Some x) h = absurd (h refl)
-
 -- the next identity of a caller is that of no object
 pub fresh : (n : Numbers) (s : State) (c : ℕ) → IsWellFormed n s → last_serial s c + 1 < 2 ^ 32
     → get s.objects (next_identity s c).0 ≡ None
@@ -89,31 +71,14 @@ module _ (n : Numbers) (k : ℕ) (s t : State) (e : Entry) (w : IsWellFormed n s
       (counts_like (λ i. IsSome (get t.handles i)) (λ i. IsSome (get s.handles i)) (len t.handles)
       (λ i h.
       let (handle, is) = some_value (get t.handles i) h in
-      let (g, both) = handle_before (λ (x : Id). x.0) k (scene_of s) (scene_of t) did.report
-      (whole_scene n s w) scene i handle is in ap is_some both.0)
-      (λ i h. subst IsSome (sym (scene.handles i)) (mapped_some (cleared scene.reach scene.kept)
+      let (g, both) = mapped_value (cleared scene.reach scene.kept) (get s.handles i) handle
+      (sym (did.collects.handles i) ∙ is) in ap is_some both.0)
+      (λ i h. subst IsSome (sym (did.collects.handles i)) (mapped_some (cleared scene.reach scene.kept)
       (get s.handles i) h)) after) before
 
   objects_fall : len t.objects + did.report.removed ≡ len s.objects
   objects_fall =
       (report_says n k s t did.report (record { well_formed = w; collects = did.collects })).objects
-
--- a slot that may be given holds no handle
-no_handle : (n : Numbers) (s : State) → IsWellFormed n s → (block : ℕ) (slot : Slot) → use_of s block ≡ None
-    → slot ≡ first_slot block → handle_at s slot ≡ None
-no_handle n s w block slot unused first =
-    none_from (handle_at s slot) (λ h.
-    let (handle, is) = some_value (handle_at s slot) h in
-    let here : slot.0 / ROWS ≡ block = ap (λ (x : Slot). x.0 / ROWS) first ∙ first_block block in
-    none-some (handles_of handle.kind) (sym unused ∙ ap (use_of s) (sym here)
-    ∙ w.handles.kinds slot.0 handle is))
-
-pub given_vacant : (n : Numbers) (s : State) → IsWellFormed n s
-    → (wanted : Kind) (grown : Grown) (slot : Slot) → MayGive n s wanted grown slot → handle_at s slot ≡ None
-given_vacant n s w wanted Zero slot may = may.0
-given_vacant n s w wanted (One block) slot may = no_handle n s w block slot may.1.unused may.2
-given_vacant n s w wanted (Two block other) slot may = no_handle n s w block slot may.1.unused may.3
-given_vacant n s w wanted (Back block) slot may = absurd may
 
 module _ (n : Numbers) (s : State) (e : Entry) (w : IsWellFormed n s) where
   again : (h : ℕ) (slot : ℕ) (handle handle' : Handle Id) → get s.handles slot ≡ Some handle
@@ -214,6 +179,11 @@ module _ (n : Numbers) (s : State) (e : Entry) (w : IsWellFormed n s) where
   removes c t (answers_place slot handle id place f target may p) = ap (λ x. len s.objects + removed_in x) p
   removes c t (gives_back block free p) = ap (λ x. len s.objects + removed_in x) p
   removes c t (gives_none p) = ap (λ x. len s.objects + removed_in x) p
+  removes c t (adds_entry key slot f none may p q) = ap (λ x. len s.objects + removed_in x) p
+  removes c t (finds_value key slot x f p) = ap (λ x. len s.objects + x) (ap removed_in p ∙ loaded_removes _)
+  removes c t (finds_no_entry key f none p) = ap (λ x. len s.objects + removed_in x) p
+  removes c t (removes_entry key slot x f p) = ap (λ x. len s.objects + removed_in x) p
+  removes c t (removes_none key f none p) = ap (λ x. len s.objects + removed_in x) p
 
 pub handles_are_made_less_freed : HandlesAreMadeLessFreed
 handles_are_made_less_freed n journal s run =

@@ -1,50 +1,33 @@
 -- Runs and states that meet the premises of laws over steps and runs. What a state of them has is computed,
 -- but for what maps give.
-use Rattle.hd_model.proofs.Basics.{◌≡◌, ℕ, ◌+◌, Bool, true, nat_lt, if◌then◌else◌, [], ◌∷◌, Some, None, refl, sym, ap, ◌∙◌, subst, lit<, arith, inl, ⊎_elim, ◌≢◌, IsSome, is_some, MatchOption, nat_cmp, get, get-empty, none-some}
-use Rattle.hd_model.specs.Data.{Id, Entry}
-use Rattle.hd_model.specs.declared.data.Grown.TheVariants.{Zero, One}
+use Rattle.hd_model.proofs.Basics.{Bool, Entry, GivesGeneration, GivesRegistration, HasCollection, HasWay, Id, IsFreePlace, IsOutcome, IsSome, IsWellFormed, JoinsBy, MatchOption, MayAnswer, None, Numbers, One, PinsBy, Run, Since, Some, State, Step, TakesCells, Unpins, Zero, [], answers, ap, arith, first_slot, fresh_object, get, get-empty, identity_of, if◌then◌else◌, inl, is_some, link, lit<, made_handle, nat_cmp, nat_lt, new_object, none-some, refl, refuses, start_of, stay, subst, sym, total_size, true, with_made, with_object, with_place, with_queue, with_register, with_serial, ℕ, ⊎_elim, ◌+◌, ◌∙◌, ◌∷◌, ◌≡◌, ◌≢◌}
+use Rattle.hd_model.proofs.{ReadAfterWrite.get_inserted, WellFormedWrites.queue_keeps, WellFormedSteps.run_is_well_formed, PinnedPlaces.answer_is, PinnedPlaces.pinned_by_it, HeapLimit.start_total, CollectionSamples.premises_are_met, Fates.objects_are_resurrected_once}
+use Rattle.hd_model.proofs.Members.{not_in_none, member_cases, pairs_none, pairs_cons}
+use Rattle.hd_model.specs.CollectionSamples.{few, id_of, busy}
 use Rattle.hd_model.specs.declared.data.Make.TheVariants as make
 use Rattle.hd_model.specs.declared.data.Reply.TheVariants as reply
 use Rattle.hd_model.specs.declared.data.Refusal.TheVariants as refusal
 use Rattle.hd_model.specs.declared.command.Cmd.TheVariants as cmd
-use Rattle.hd_model.specs.State.{Numbers, State, start_of, identity_of, first_slot, total_size, with_object, with_serial, with_register, with_queue, with_place}
-use Rattle.hd_model.specs.Places.{IsFreePlace, MayAnswer}
-use Rattle.hd_model.specs.Command.{answers, refuses, new_object, fresh_object, made_handle}
-use Rattle.hd_model.specs.Step.{IsOutcome, Step, with_made}
-use Rattle.hd_model.specs.Run.{stay, link, Run}
-use Rattle.hd_model.specs.WellFormed.{IsWellFormed}
-use Rattle.hd_model.specs.UserLaws.{PinsBy, TakesCells, Unpins, GivesGeneration, GivesRegistration, HasWay, JoinsBy}
 use Rattle.hd_model.specs.UserLaws as law
-use Rattle.hd_model.specs.Laws.{Since}
-use Rattle.hd_model.proofs.ReadAfterWrite.{get_inserted}
-use Rattle.hd_model.proofs.Members.{not_in_none, member_cases, pairs_none, pairs_cons}
-use Rattle.hd_model.proofs.WellFormedWrites.{queue_keeps}
-use Rattle.hd_model.proofs.WellFormedSteps.{run_is_well_formed}
-use Rattle.hd_model.proofs.PinnedPlaces.{answer_is, pinned_by_it}
-use Rattle.hd_model.proofs.HeapLimit.{start_total}
-use Rattle.hd_model.specs.CollectionLaws.{HasCollection}
-use Rattle.hd_model.specs.CollectionSamples.{few, id_of, busy}
-use Rattle.hd_model.proofs.CollectionSamples.{premises_are_met}
-use Rattle.hd_model.proofs.Fates.{objects_are_resurrected_once}
 
 -- one caller, four blocks, and a heap of some cells
-abbrev sized : ℕ → Numbers
+abbrev pub sized : ℕ → Numbers
 sized heap = record { heap = heap; blocks = 4; callers = 1 }
 
-abbrev numbers : Numbers
+abbrev pub numbers : Numbers
 numbers = sized 4
 
-abbrev s0 : State
+abbrev pub s0 : State
 s0 = start_of numbers
 
 -- `new r0 1 fin` makes the first object, of 4 cells
-abbrev first : Id
+abbrev pub first : Id
 first = identity_of 0 1
 
-abbrev e1 : Entry
+abbrev pub e1 : Entry
 e1 = record { caller = 0; cmd = cmd.New 0 1 true; slot = None; grown = Zero; reply = reply.Object first }
 
-abbrev s1 : State
+abbrev pub s1 : State
 s1 = with_register (with_serial (with_object s0 first (fresh_object 1 true)) 0 1) 0 0 (Some first)
 
 made : new_object numbers s0 0 0 1 true ≡ answers (reply.Object first) s1
@@ -69,8 +52,7 @@ e_full = record {
   cmd = cmd.New 0 1 true;
   slot = None;
   grown = Zero;
-  reply = reply.Refused
-      (refusal.HeapFull 0 4);
+  reply = reply.Refused (refusal.HeapFull 0 4);
 }
 
 refused : new_object (sized 3) s0 0 0 1 true ≡ refuses (refusal.HeapFull 0 4) s0
@@ -95,8 +77,7 @@ e2 = record {
   cmd = cmd.HNew 0 make.Pinned 0;
   slot = Some (first_slot 1);
   grown = One 1;
-  reply =
-      reply.Done;
+  reply = reply.Done;
 }
 
 abbrev s2 : State
@@ -219,10 +200,7 @@ gives_registration = law.GivesRegistration.by_new refl refl
 
 -- every command but three needs nothing more than that it is valid
 pub has_way : HasWay numbers s0 0 (cmd.Final 3)
-has_way = record {
-  serial = λ d fields fin is. absurd (not_new is);
-  place = λ h id is. absurd (not_addr is);
-}
+has_way = record { serial = λ d fields fin is. absurd (not_new is); place = λ h id is. absurd (not_addr is) }
   where
     not_new : {d fields : ℕ} {fin : Bool} → cmd.Final 3 ≡ cmd.New d fields fin → ⊥
     not_new is = cc

@@ -1,16 +1,7 @@
 -- A caller has made at most as many objects, and a count is at most as high, as the journal has entries.
-use Rattle.hd_model.proofs.Basics.{ℕ, ◌≤◌, ◌+◌, List, length, get_or, subst, sym, arith, le_refl, ◌∙◌, ◌≡◌, ◌&&◌, Bool, true, false, cond, Option, Some, None, IsSomeAnd, nat_cmp, get, get-empty, none-some}
-use Rattle.hd_model.specs.Data.{Id, Slot, Make, Entry, Cmd}
-use Rattle.hd_model.specs.State.{Numbers, Extra, nothing, strength, secondary, count, Handle, State, count_of, without_secondary, start_of, last_serial, handle_at}
-use Rattle.hd_model.specs.Role.{role}
-use Rattle.hd_model.specs.Collect.{is_lost, is_attaching}
-use Rattle.hd_model.specs.WellFormed.{IsWellFormed}
-use Rattle.hd_model.proofs.KindTests.{made_count}
-use Rattle.hd_model.proofs.WellFormedSteps.{step_keeps, start_is_well_formed}
+use Rattle.hd_model.proofs.Basics.{Bool, Chain, Cmd, Entry, Extra, Handle, Id, IsSomeAnd, IsWellFormed, List, None, Numbers, Option, Run, Slot, Some, State, Step, arith, cond, count, count_of, false, get, get-empty, get_or, handle_at, is_attaching, is_lost, last_serial, le_refl, length, link, nat_cmp, none-some, nothing, role, secondary, start_of, stay, strength, subst, sym, true, without_secondary, ℕ, ◌&&◌, ◌+◌, ◌∙◌, ◌≡◌, ◌≤◌}
+use Rattle.hd_model.proofs.{KindTests.made_count, WellFormedSteps.step_keeps, WellFormedSteps.start_is_well_formed, ReadAfterWrite.set_cases, ReadAfterWrite.replicate_cases}
 use Rattle.hd_model.proofs.StepWrites.{HandleChange, handle_stays, is_made, target_is_set, extra_is_set, SetsExtra, by_secondary, by_strength, by_raise, by_lower, is_freed, is_collected, handle_change}
-use Rattle.hd_model.specs.Step.{Step}
-use Rattle.hd_model.specs.Run.{Chain, stay, link, Run}
-use Rattle.hd_model.proofs.ReadAfterWrite.{set_cases, replicate_cases}
 use Rattle.hd_model.proofs.Effects.{Effect, makes_object, collects, effect}
 
 -- a step raises a serial by at most one

@@ -1,22 +1,11 @@
 -- Two runs of the same lists, each of one caller after another, are one.
-use Rattle.hd_model.proofs.Basics.{◌≡◌, ◌⊎◌, ℕ, suc, ◌≤◌, cond, List, [], ◌∷◌, Some, None, refl, sym, ap, ◌∙◌, subst, inl, inr, ⊎_elim, le_trans, le_antisymm, zero-le, suc-le-suc, le_of_eq, eq-eqb, ne_eqb, All, IsNonDecreasingBy, cases_eq, none-some}
-use Rattle.hd_model.specs.Data.{Slot, Entry, Kind, Make, Grown, Cmd}
-use Rattle.hd_model.specs.declared.data.Grown.TheVariants.{Zero, Back}
+use Rattle.hd_model.proofs.Basics.{Adding, AddsEntry, AddsLeast, All, Back, Chain, Cmd, DoesCollect, Entry, FindsTableFull, GivesBack, GivesBackLeast, GivesLeast, Grown, Id, IsLeastFree, IsNonDecreasingBy, IsOutcome, IsWellFormed, Kind, List, Make, MakesHandle, MayGive, None, NoneAllFree, NoneFree, Numbers, Outcome, Slot, SoloRunsAreOne, SoloStep, SoloTextIsOne, Some, State, Step, TakesLeast, TakesWay, Way, Zero, [], adding_of, adds_entry, answers, answers_place, ap, cases_eq, collects, commands_of, cond, decided, eq-eqb, gives_back, in_idle, in_new, inl, inr, kind_of, le_antisymm, le_of_eq, le_trans, link, makes_handle, makes_object, ne_eqb, none-some, part_of, refl, stay, subst, suc, suc-le-suc, sym, text_of, way_of, way_of_adding, zero-le, ℕ, ⊎_elim, ◌∙◌, ◌∷◌, ◌≡◌, ◌≤◌, ◌⊎◌}
+use Rattle.hd_model.specs.Command.{is_refused}
+use Rattle.hd_model.proofs.{Collections.one_collection, StepWrites.same_slot, Growth.grown_or_full, Growth.same_growth, WellFormedSteps.step_keeps, WellFormedSteps.start_is_well_formed}
+use Rattle.hd_model.proofs.OneState.{CommandOf, way_command, one_state_after}
+use Rattle.hd_model.specs.declared.data.Kind.TheVariants as kind
 use Rattle.hd_model.specs.declared.data.Reply.TheVariants as reply
 use Rattle.hd_model.specs.declared.command.Cmd.TheVariants as cmd
-use Rattle.hd_model.specs.State.{Numbers, State}
-use Rattle.hd_model.specs.Kinds.{kind_of}
-use Rattle.hd_model.specs.Command.{Outcome, answers}
-use Rattle.hd_model.specs.Step.{IsOutcome, MakesHandle, FindsTableFull, DoesCollect, GivesBack, Way, decided, makes_object, makes_handle, collects, answers_place, gives_back, way_of, TakesWay, Step}
-use Rattle.hd_model.specs.Run.{Chain, stay, link, NoneFree, IsLeastFree, NoneAllFree, GivesLeast, GivesBackLeast, TakesLeast, SoloStep, part_of, commands_of}
-use Rattle.hd_model.specs.WellFormed.{IsWellFormed}
-use Rattle.hd_model.specs.Text.{text_of}
-use Rattle.hd_model.specs.Laws.{SoloRunsAreOne, SoloTextIsOne}
-use Rattle.hd_model.proofs.Collections.{one_collection}
-use Rattle.hd_model.proofs.OneState.{CommandOf, way_command, one_state_after}
-use Rattle.hd_model.proofs.StepWrites.{same_slot}
-use Rattle.hd_model.proofs.Growth.{grown_or_full, same_growth}
-use Rattle.hd_model.proofs.WellFormedSteps.{step_keeps, start_is_well_formed}
 
 -- what the state and the command decide of an entry in a run of one thread
 abbrev Same : Entry → Entry → Type 0
@@ -29,36 +18,45 @@ same_least : (s : State) (wanted : Kind) (a b : Slot) → IsLeastFree s wanted a
     → a ≡ b
 same_least s wanted a b x y = same_slot a b (le_antisymm (x.least b y.free) (y.least a x.free))
 
--- two entries of an `hnew` of one kind
-module _ (n : Numbers) (s : State) (w : IsWellFormed n s) (e f : Entry) (t u : State) (d : ℕ) (given : Make)
-    (r : ℕ) where
-  abbrev Makes : Entry → State → Type 0
-  Makes x y = MakesHandle n s x y d given r ⊎ FindsTableFull n s x y (kind_of given)
+-- two entries that take a slot of one kind, or find the table full
+record TakesSlot (n : Numbers) (s : State) (wanted : Kind) (e : Entry) : Type 0 where
+  pub slot : Slot
+  pub given : e.slot ≡ Some slot
+  pub may : MayGive n s wanted e.grown slot
+  pub reply : e.reply ≡ reply.Done
 
-  -- an entry that takes the least free slot of a kind
+made_takes : {n : Numbers} {s : State} {e : Entry} {t : State} {d : ℕ} {given : Make} {r : ℕ}
+    → MakesHandle n s e t d given r → TakesSlot n s (kind_of given) e
+made_takes m = record { slot = m.slot; given = m.given; may = m.may; reply = m.reply }
+
+added_takes : {n : Numbers} {s : State} {e : Entry} {t : State} {v : ℕ} {key : Id}
+    → AddsEntry n s e t v key → TakesSlot n s kind.Dependent e
+added_takes a = record { slot = a.slot; given = a.given; may = a.may; reply = a.reply }
+
+module _ (n : Numbers) (s : State) (w : IsWellFormed n s) (e f : Entry) (t u : State) (wanted : Kind) where
+  abbrev Takes : Entry → State → Type 0
+  Takes x y = TakesSlot n s wanted x ⊎ FindsTableFull n s x y wanted
+
+  -- an entry that takes the least free slot of the kind
   abbrev TakesFree : Entry → Type 0
-  TakesFree x = (slot : Slot) × IsLeastFree s (kind_of given) slot × (x.slot ≡ Some slot) × (x.grown ≡ Zero)
+  TakesFree x = (slot : Slot) × IsLeastFree s wanted slot × (x.slot ≡ Some slot) × (x.grown ≡ Zero)
 
-  free_is_done : (x : Entry) (y : State) → TakesFree x → Makes x y → x.reply ≡ reply.Done
+  free_is_done : (x : Entry) (y : State) → TakesFree x → Takes x y → x.reply ≡ reply.Done
   free_is_done x y takes (inl made) = made.reply
   free_is_done x y takes (inr full) = absurd (none-some takes.0 (sym full.refused.slot ∙ takes.2))
 
-  made_same : NoneFree s (kind_of given) → Makes e t → Makes f u → Same e f
+  made_same : NoneFree s wanted → Takes e t → Takes f u → Same e f
   made_same none (inl a) (inl b) =
-      let (grown, slot) = same_growth n s (kind_of given) e.grown f.grown a.slot b.slot none a.may b.may in
+      let (grown, slot) = same_growth n s wanted e.grown f.grown a.slot b.slot none a.may b.may in
       (a.given ∙ ap Some slot ∙ sym b.given, grown, a.reply ∙ sym b.reply)
-  made_same none (inl a) (inr b) = absurd (grown_or_full n s
-      (kind_of given) e.grown a.slot w none a.may b.few)
-  made_same none (inr a) (inl b) = absurd (grown_or_full n s
-      (kind_of given) f.grown b.slot w none b.may a.few)
+  made_same none (inl a) (inr b) = absurd (grown_or_full n s wanted e.grown a.slot w none a.may b.few)
+  made_same none (inr a) (inl b) = absurd (grown_or_full n s wanted f.grown b.slot w none b.may a.few)
   made_same none (inr a) (inr b) = outcomes_same e f _ t u a.refused b.refused
 
-  taken_same : Makes e t → Makes f u → GivesLeast s e (kind_of given) → GivesLeast s f (kind_of given)
-      → Same e f
+  taken_same : Takes e t → Takes f u → GivesLeast s e wanted → GivesLeast s f wanted → Same e f
   taken_same a b (inl x) (inl y) = (
-    x.2 ∙ ap Some (same_least s (kind_of given) x.0 y.0 x.1 y.1) ∙ sym y.2,
-    x.3
-        ∙ sym y.3,
+    x.2 ∙ ap Some (same_least s wanted x.0 y.0 x.1 y.1) ∙ sym y.2,
+    x.3 ∙ sym y.3,
     free_is_done e t x a ∙ sym (free_is_done f u y b),
   )
   taken_same a b (inl x) (inr none) = absurd (none x.0 x.1.free)
@@ -105,19 +103,36 @@ collected_same s e f t u k a b = (
 abbrev with_rest : Entry → Entry → Entry
 with_rest e f = record f { caller = e.caller; cmd = e.cmd }
 
-way_same : (n : Numbers) (s : State) (e f : Entry) (t u : State) (c : Cmd) (way : Way) → CommandOf c way
-    → IsWellFormed n s → ((h : ℕ) → c ≡ cmd.AddrOf h → ⊥) → TakesWay n s e t way
+-- a `cadd` that needs a slot takes it as an `hnew` does
+adds_least : (s : State) (e : Entry) (caller v : ℕ) (key : Id) (a : Adding)
+    → way_of_adding s caller v a ≡ adds_entry v key → AddsLeast s e a → GivesLeast s e kind.Dependent
+adds_least s e caller v key (is_refused refusal) is least = absurd (let other = is in cc)
+adds_least s e caller v key (in_idle slot other) is least = absurd (let other = is in cc)
+adds_least s e caller v key (in_new other) is least = least
+
+way_same : (n : Numbers) (s : State) (e f : Entry) (t u : State) (c : Cmd) (way : Way)
+    → way_of s e.caller c ≡ way → CommandOf c way → IsWellFormed n s → ((h : ℕ) → c ≡ cmd.AddrOf h → ⊥)
+    → TakesWay n s e t way
     → TakesWay n s (with_rest e f) u way → TakesLeast s e c → TakesLeast s (with_rest e f) c
     → Same e (with_rest e f)
-way_same n s e f t u c (decided r) is w other a b x y = outcomes_same e (with_rest e f) r t u a b
-way_same n s e f t u c (makes_object d fields fin) is w other a b x y =
+way_same n s e f t u c (decided r) by is w other a b x y = outcomes_same e (with_rest e f) r t u a b
+way_same n s e f t u c (makes_object d fields fin) by is w other a b x y =
     outcomes_same e (with_rest e f) _ t u a.1 b.1
-way_same n s e f t u c (makes_handle d given r) is w other a b x y =
-    taken_same n s w e (with_rest e f) t u d given r a b (subst (TakesLeast s e) is x)
+way_same n s e f t u c (makes_handle d given r) by is w other a b x y =
+    taken_same n s w e (with_rest e f) t u (kind_of given) (⊎_elim (λ m. inl (made_takes m)) inr a)
+    (⊎_elim (λ m. inl (made_takes m)) inr b) (subst (TakesLeast s e) is x)
     (subst (TakesLeast s (with_rest e f)) is y)
-way_same n s e f t u c (collects k) is w other a b x y = collected_same s e (with_rest e f) t u k a b
-way_same n s e f t u c (answers_place h) is w other a b x y = absurd (other h is)
-way_same n s e f t u c (gives_back wanted) is w other a b x y =
+way_same n s e f t u c (adds_entry v key) by is w other a b x y =
+    let adding = adding_of s e.caller is.0 in
+    let same : way_of_adding s e.caller v adding ≡ adds_entry v key = ap (way_of s e.caller) (sym is.1)
+    ∙ by in
+    taken_same n s w e (with_rest e f) t u kind.Dependent (⊎_elim (λ m. inl (added_takes m)) inr a)
+    (⊎_elim (λ m. inl (added_takes m)) inr b)
+    (adds_least s e e.caller v key adding same (subst (TakesLeast s e) is.1 x))
+    (adds_least s (with_rest e f) e.caller v key adding same (subst (TakesLeast s (with_rest e f)) is.1 y))
+way_same n s e f t u c (collects k) by is w other a b x y = collected_same s e (with_rest e f) t u k a b
+way_same n s e f t u c (answers_place h) by is w other a b x y = absurd (other h is)
+way_same n s e f t u c (gives_back wanted) by is w other a b x y =
     trimmed_same s e (with_rest e f) t u wanted a b (subst (TakesLeast s e) is x)
     (subst (TakesLeast s (with_rest e f)) is y)
 
@@ -128,9 +143,8 @@ entry_same : (n : Numbers) (s : State) (e f : Entry) (t u : State) → IsWellFor
 entry_same n s e f t u w other a b callers cmds =
     let turned : f ≡ with_rest e f = λ i. record f { caller = sym callers i; cmd = sym cmds i } in
     let b' : SoloStep n s (with_rest e f) u = subst (λ x. SoloStep n s x u) turned b in
-    let same : Same e (with_rest e f) = way_same n s e f t u e.cmd (way_of s e.caller e.cmd)
-    (way_command s e.caller e.cmd) w other a.step.does b'.step.does
-    a.least b'.least in
+    let same : Same e (with_rest e f) = way_same n s e f t u e.cmd (way_of s e.caller e.cmd) refl
+    (way_command s e.caller e.cmd) w other a.step.does b'.step.does a.least b'.least in
     (λ i. record e { slot = same.0 i; grown = same.1 i; reply = same.2 i }) ∙ sym turned
 
 -- the commands of a caller

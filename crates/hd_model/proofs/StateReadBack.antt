@@ -1,22 +1,12 @@
 -- What is stored in fields, values, statics, on the board and in registers is read back.
-use Rattle.hd_model.proofs.Basics.{◌≡◌, ℕ, ◌<◌, Bool, false, List, [], length, get_or, set, if◌then◌else◌, Option, Some, None, IsSomeAnd, refl, sym, ap, ◌∙◌, subst, true≢false, get_or-set_same, get_or-set_other, length-set, lt-ltb, inr, get, option_map_or, length-replicate, none-some, same_Some}
-use Rattle.hd_model.specs.Data.{Id, Slot, Entry, Refusal, Reply, Cmd}
+use Rattle.hd_model.proofs.Basics.{BoardIsReadBack, Bool, Cmd, Entry, FieldIsReadBack, HandleRegisterIsReadBack, Id, IsOutcome, IsSomeAnd, IsValid, IsWellFormed, List, NewFieldIsNull, NewValueIsZero, None, Numbers, Object, Option, Outcome, REGISTERS, Refusal, RegisterIsReadBack, Reply, Slot, Some, State, StaticIsReadBack, Step, StepOf, ValueIsReadBack, WritesField, WritesValue, [], ap, board_of, false, field_of, fresh_object, get, get_or, get_or-set_other, get_or-set_same, handle_register_of, if◌then◌else◌, inr, is_refused, length, length-replicate, length-set, loaded, lt-ltb, none-some, object_answered, object_by_id, on_field, on_object, option_map_or, put_in_handle_register, put_in_register, refl, refuses, register_of, same_Some, set, static_of, subst, sym, touched_by, true≢false, ℕ, ◌<◌, ◌∙◌, ◌≡◌}
+use Rattle.hd_model.proofs.ReadAfterWrite.{cell_here, replicate_cases, get_inserted}
+use Rattle.hd_model.proofs.OneState.{done_or_refused}
+use Rattle.hd_model.proofs.Effects.{Effect, refused, makes_object, sets_field, gets_field, sets_value, copies, clears, gets_static, finds_none, takes_first, makes_handle, gets_target, gets_secondary, frees_handle, picks_board, finds_value, finds_no_entry, effect, with_field, next_identity}
+use Rattle.hd_model.proofs.StepWrites.{still, OrGone, object_kept, named_has, static_kept, board_kept, register_kept, handle_register_kept}
 use Rattle.hd_model.specs.declared.data.Refusal.TheVariants as refusal
 use Rattle.hd_model.specs.declared.data.Reply.TheVariants as reply
 use Rattle.hd_model.specs.declared.command.Cmd.TheVariants as cmd
-use Rattle.hd_model.specs.declared.limits.TheConstants.{REGISTERS}
-use Rattle.hd_model.specs.Valid.{IsValid}
-use Rattle.hd_model.specs.State.{Numbers, Object, State, register_of, handle_register_of, static_of, board_of, object_by_id, field_of}
-use Rattle.hd_model.specs.Command.{Outcome, refuses, loaded, fresh_object, on_object, on_field}
-use Rattle.hd_model.specs.Touched.{touched_by}
-use Rattle.hd_model.specs.Step.{IsOutcome, StepOf, Step}
-use Rattle.hd_model.specs.WellFormed.{IsWellFormed}
-use Rattle.hd_model.specs.Aging.{is_refused}
-use Rattle.hd_model.specs.Laws.{object_answered, put_in_register, put_in_handle_register, WritesField, WritesValue, FieldIsReadBack, NewFieldIsNull, ValueIsReadBack, NewValueIsZero, StaticIsReadBack, BoardIsReadBack, RegisterIsReadBack, HandleRegisterIsReadBack}
-use Rattle.hd_model.proofs.ReadAfterWrite.{cell_here, replicate_cases, get_inserted}
-use Rattle.hd_model.proofs.OneState.{done_or_refused}
-use Rattle.hd_model.proofs.Effects.{Effect, refused, makes_object, sets_field, gets_field, sets_value, copies, clears, gets_static, finds_none, takes_first, makes_handle, gets_target, gets_secondary, frees_handle, picks_board, effect, with_field, next_identity}
-use Rattle.hd_model.proofs.StepWrites.{still, OrGone, object_kept, named_has, static_kept, board_kept, register_kept, handle_register_kept}
 
 -- the step of an entry whose command is known
 pub step_of : (n : Numbers) (s : State) (e : Entry) (t : State) (c : Cmd) → Step n s e t → e.cmd ≡ c
@@ -61,8 +51,7 @@ field_put n s e o i v t id (sets_field other named within p) done names =
     (inr (subst (λ y. IsSomeAnd y (FieldIs i x)) (sym
     (get_inserted s.objects other.0 (with_field object i x))) (
       subst (λ l. i < l) (sym (length-set object.fields i x)) within,
-      get_or-set_same object.fields i x None
-          within,
+      get_or-set_same object.fields i x None within,
     )))
 
 -- a field stays until it is set
@@ -81,8 +70,7 @@ field_since n id i v s e t w does apart had =
             v = x;
             command = is ∙ ap (λ k. cmd.Set r k x) (sym here);
             named = named;
-            done =
-                done;
+            done = done;
           })) ∙ h.1,
     ))
     (λ r x is named done h. h) had
@@ -128,8 +116,7 @@ new_field_is_null n old now new written reading id d fields fin i r p within sin
     let put : OrGone since.after id (FieldIs i None) =
     inr (subst (λ y. IsSomeAnd y (FieldIs i None)) (sym there) (
       subst (λ l. i < l) (sym (length-replicate fields None)) within,
-      replicate_cases
-          (λ y. y ≡ None) fields i None None refl refl,
+      replicate_cases (λ y. y ≡ None) fields i None None refl refl,
     )) in
     let kept = still (λ s. OrGone s id (FieldIs i None)) (field_since n id i None) since put in
     field_reads n now reading new id r p i None kept.0 step gets named kept.1
@@ -204,8 +191,7 @@ board_is_read_back n old now new written reading k h d since puts step picks =
     let row = subst (λ l. reading.caller < l) (sym kept.0.shape.handle_registers) step.caller in
     let cell = subst (λ l. d < l) (sym (kept.0.shape.each_handle_registers reading.caller step.caller)) narrow
     in
-    ap (λ (s : State). handle_register_of s reading.caller d)
-    (step_of n now reading new _ step picks).after
+    ap (λ (s : State). handle_register_of s reading.caller d) (step_of n now reading new _ step picks).after
     ∙ cell_here now.handle_registers reading.caller d (board_of now k) None row cell
     ∙ kept.1
 
@@ -240,6 +226,10 @@ module _ (n : Numbers) (s : State) (w : IsWellFormed n s) (e : Entry) (l : e.cal
   register_put c t v (gets_target slot handle f p) puts kept = register_here _ _ v.0 puts ∙ loaded_object _
       ∙ ap object_answered (sym p)
   register_put c t v (gets_secondary slot handle f p) puts kept = register_here _ _ v.0 puts ∙ loaded_object _
+      ∙ ap object_answered (sym p)
+  register_put c t v (finds_value key slot x f p) puts kept = register_here _ _ v.0 puts ∙ loaded_object _
+      ∙ ap object_answered (sym p)
+  register_put c t v (finds_no_entry key f none p) puts kept = register_here _ _ v.0 puts
       ∙ ap object_answered (sym p)
   register_put c t v _ puts kept = absurd (none-some d puts)
 

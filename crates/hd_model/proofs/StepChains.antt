@@ -1,11 +1,5 @@
 -- Chains of steps: joined, grown by one step, and seen as chains of a weaker relation.
-use Rattle.hd_model.proofs.Basics.{ℕ, List, [], ◌∷◌, ◌++◌, refl}
-use Rattle.hd_model.specs.Data.{Entry}
-use Rattle.hd_model.specs.State.{Numbers, State}
-use Rattle.hd_model.specs.Step.{Step}
-use Rattle.hd_model.specs.Run.{Chain, stay, link, Run, SoloRun}
-use Rattle.hd_model.specs.Aging.{Aged, AgedStep, aged_by, aged_start}
-use Rattle.hd_model.specs.Laws.{AgedRunsAreRuns, RunsHaveAges}
+use Rattle.hd_model.proofs.Basics.{Aged, AgedRunsAreRuns, AgedStep, Chain, Entry, List, Numbers, Run, RunsHaveAges, SoloRun, State, Step, [], aged_by, aged_start, link, refl, stay, ℕ, ◌++◌, ◌∷◌}
 
 -- what each step keeps, a chain keeps
 pub chain_keeps : {S : Type 0} {R : S → Entry → S → Type 0} (P : S → Type 0)

@@ -1,14 +1,9 @@
 -- Examples of what steps return and give, each proved by computing.
-use Rattle.std.specs.Fmt.{digits}
-use Rattle.std.specs.Prelude.{◌≡◌, [], ◌∷◌, map, codes, None, refl}
+use Rattle.hd_model.proofs.Basics.{None, Numbers, [], all_kinds, answer_place, block_of, blocks_needed, count, first_slot, identity_of, made_extra, map, read_generation, refl, reply_text, secondary, start_of, take_queued, ◌∷◌, ◌≡◌}
+use Rattle.std.specs.{Fmt.digits, Prelude.codes}
 use Rattle.hd_model.specs.declared.data.Make.TheVariants as make
 use Rattle.hd_model.specs.declared.data.Refusal.TheVariants as refusal
 use Rattle.hd_model.specs.declared.data.Reply.TheVariants as reply
-use Rattle.hd_model.specs.Kinds.{all_kinds}
-use Rattle.hd_model.specs.State.{Numbers, start_of, secondary, count, block_of, first_slot, identity_of}
-use Rattle.hd_model.specs.Command.{made_extra, take_queued, read_generation, answer_place}
-use Rattle.hd_model.specs.Step.{blocks_needed}
-use Rattle.hd_model.specs.Text.{reply_text}
 
 -- the texts of replies
 pub replies_in_text :

@@ -1,22 +1,11 @@
 -- Every command has a step.
-use Rattle.hd_model.proofs.Basics.{◌≡◌, ℕ, zero, suc, ◌+◌, ◌<◌, ◌≤◌, ◌⊎◌, Bool, true, false, cond, Option, Some, None, IsSome, is_some, refl, sym, ap, ◌∙◌, subst, arith, inl, inr, ⊎_elim, option_and_then, MatchOption, nat_cmp, FinMap, get, insert, remove, len, cases_lt, cases_eq, none-some, same_Some}
-use Rattle.hd_model.specs.Data.{Id, Slot, Kind, Make, Grown, Cmd}
-use Rattle.hd_model.specs.declared.data.Grown.TheVariants.{Zero, One, Two}
+use Rattle.hd_model.proofs.Basics.{BlockUse, Bool, Cmd, Does, Entry, EveryCommandHasAStep, FinMap, Grown, Handle, HasWay, Id, IsFreePlace, IsLeastUnused, IsOutcome, IsSome, IsValid, IsWellFormed, Kind, Make, MatchOption, MayAnswer, MayGive, None, Numbers, One, Option, Outcome, PinsBy, Slot, Some, State, StepOf, TakesWay, Two, Way, Zero, adds_entry, answer_place, answers, answers_place, ap, arith, blocks_needed, cases_eq, cases_lt, collects, cond, decided, extra_data, false, first_slot, get, given_of, gives_back, handle_at, handle_register_of, inl, inr, insert, is_paired, is_some, kind_of, len, makes_handle, makes_object, nat_cmp, new_object, none-some, option_and_then, pinned_by, pinned_target, pins, refl, refuses, remove, same_Some, subst, suc, sym, true, use_of, way_of, with_entry, with_growth, with_made, zero, ℕ, ⊎_elim, ◌+◌, ◌<◌, ◌∙◌, ◌≡◌, ◌≤◌, ◌⊎◌}
+use Rattle.hd_model.proofs.{OneState.CommandOf, OneState.way_command, NextState.collections_exist}
+use Rattle.hd_model.proofs.ReadAfterWrite.{get_beside, get_inserted, get_left, len_new, len_less}
+use Rattle.hd_model.specs.declared.data.Kind.TheVariants as kind
 use Rattle.hd_model.specs.declared.data.Refusal.TheVariants as refusal
 use Rattle.hd_model.specs.declared.data.Reply.TheVariants as reply
 use Rattle.hd_model.specs.declared.command.Cmd.TheVariants as cmd
-use Rattle.hd_model.specs.Kinds.{kind_of, is_paired}
-use Rattle.hd_model.specs.State.{Numbers, Handle, BlockUse, extra_data, State, handle_register_of, handle_at, use_of, given_of, first_slot}
-use Rattle.hd_model.specs.Role.{pins}
-use Rattle.hd_model.specs.Places.{IsFreePlace, MayAnswer}
-use Rattle.hd_model.specs.Valid.{IsValid}
-use Rattle.hd_model.specs.Command.{Outcome, answers, refuses, new_object, answer_place}
-use Rattle.hd_model.specs.Step.{IsOutcome, blocks_needed, IsLeastUnused, MayGive, with_made, pinned_by, pinned_target, Way, decided, makes_object, makes_handle, collects, answers_place, gives_back, way_of, TakesWay, StepOf}
-use Rattle.hd_model.specs.WellFormed.{IsWellFormed}
-use Rattle.hd_model.specs.UserLaws.{PinsBy, HasWay, Does, EveryCommandHasAStep}
-use Rattle.hd_model.proofs.OneState.{CommandOf, way_command}
-use Rattle.hd_model.proofs.NextState.{collections_exist}
-use Rattle.hd_model.proofs.ReadAfterWrite.{get_beside, get_inserted, get_left, len_new, len_less}
 
 -- a map with each key from 1 to n has at least n
 pub filled : {X : Type 0} (n : ℕ) (m : FinMap nat_cmp X) → ((q : ℕ) → 1 ≤ q → q ≤ n → IsSome (get m q))
@@ -111,26 +100,13 @@ module _ (n : Numbers) (s : State) where
 
 module _ (n : Numbers) (s : State) (w : IsWellFormed n s) (caller : ℕ) (known : caller < n.callers) where
   -- an outcome has its entry
+  abbrev entry_of : Cmd → Outcome → Entry
+  entry_of c o = record { caller = caller; cmd = c; slot = o.slot; grown = Zero; reply = o.reply }
+
   comes : (c : Cmd) (o : Outcome) → IsValid c
-      → (IsOutcome (record {
-        caller = caller;
-        cmd = c;
-        slot = o.slot;
-        grown = Zero;
-        reply =
-            o.reply;
-      }) o o.after
-      → StepOf n s (record {
-        caller = caller;
-        cmd = c;
-        slot = o.slot;
-        grown = Zero;
-        reply =
-            o.reply;
-      }) o.after c)
-      → Does n s caller c
+      → (IsOutcome (entry_of c o) o o.after → StepOf n s (entry_of c o) o.after c) → Does n s caller c
   comes c o valid does = record {
-    entry = record { caller = caller; cmd = c; slot = o.slot; grown = Zero; reply = o.reply };
+    entry = entry_of c o;
     after = o.after;
     caller_is = refl;
     command = refl;
@@ -168,6 +144,35 @@ module _ (n : Numbers) (s : State) (w : IsWellFormed n s) (caller : ℕ) (known 
         };
       }
 
+  adds : (k v : ℕ) (key : Id) → way_of s caller (cmd.CAdd k v) ≡ adds_entry v key → IsValid (cmd.CAdd k v)
+      → Does n s caller (cmd.CAdd k v)
+  adds k v key is valid =
+      ⊎_elim (λ few. comes (cmd.CAdd k v) (refuses (refusal.TableFull (given_of s)) s) valid
+      (λ x. subst (TakesWay n s _ _) (sym is) (inr (record { few = few; refused = x }))))
+      (λ room. by (can_give n s kind.Dependent room))
+      (cases_lt n.blocks (given_of s + blocks_needed kind.Dependent))
+    where
+      by : (grown : Grown) × ((slot : Slot) × MayGive n s kind.Dependent grown slot)
+          → Does n s caller (cmd.CAdd k v)
+      by x = record {
+        entry = record {
+          caller = caller;
+          cmd = cmd.CAdd k v;
+          slot = Some x.1.0;
+          grown = x.0;
+          reply = reply.Done;
+        };
+        after = with_entry (with_growth s kind.Dependent x.0) s caller v x.1.0 key;
+        caller_is = refl;
+        command = refl;
+        step = record {
+          caller = known;
+          valid = valid;
+          does = subst (TakesWay n s _ _) (sym is)
+              (inl (record { slot = x.1.0; given = refl; may = x.1.1; reply = refl; after = refl }));
+        };
+      }
+
   -- what a handle register's handle pins, and why
   pins_by : (h : ℕ) (id : Id) → pinned_target s caller h ≡ Some id → PinsBy s caller h id
   pins_by h id is = by (handle_register_of s caller h) refl is
@@ -183,15 +188,13 @@ module _ (n : Numbers) (s : State) (w : IsWellFormed n s) (caller : ℕ) (known 
             handle = handle;
             has = has;
             live = live;
-            pins =
-                on;
+            pins = on;
             target = target;
           }
           tested false off target = absurd (none-some id target)
 
       by : (o : Option Slot) → handle_register_of s caller h ≡ o
-          → option_and_then (λ slot. pinned_by (handle_at s slot)) o ≡ Some id
-          → PinsBy s caller h id
+          → option_and_then (λ slot. pinned_by (handle_at s slot)) o ≡ Some id → PinsBy s caller h id
       by None none pinned = absurd (none-some id pinned)
       by (Some slot) has pinned = of_handle slot has (handle_at s slot) refl pinned
 
@@ -226,6 +229,9 @@ module _ (n : Numbers) (s : State) (w : IsWellFormed n s) (caller : ℕ) (known 
       (λ x. subst (TakesWay n s _ _) (sym is) (has.serial d fields fin command, x))
   by_way c (makes_handle d given t) is command valid has =
       subst (Does n s caller) (sym command) (makes d given t (subst IsValid command valid))
+  by_way c (adds_entry v key) is command valid has =
+      subst (Does n s caller) (sym command.1)
+      (adds command.0 v key (ap (way_of s caller) (sym command.1) ∙ is) (subst IsValid command.1 valid))
   by_way c (collects k) is command valid has =
       let next = collections_exist n k s w in
       record {
@@ -234,8 +240,7 @@ module _ (n : Numbers) (s : State) (w : IsWellFormed n s) (caller : ℕ) (known 
           cmd = c;
           slot = None;
           grown = Zero;
-          reply =
-              reply.Report next.report;
+          reply = reply.Report next.report;
         };
         after = next.after;
         caller_is = refl;

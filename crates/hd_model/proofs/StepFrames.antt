@@ -1,10 +1,6 @@
 -- A step changes no part of the state that its command does not touch.
-use Rattle.hd_model.proofs.Basics.{◌≡◌, false, None, refl, sym, true≢false, none-some}
-use Rattle.hd_model.specs.Data.{Entry, Cmd}
-use Rattle.hd_model.specs.State.{Numbers, State}
-use Rattle.hd_model.specs.Touched.{touched_by, Untouched}
-use Rattle.hd_model.specs.Laws.{UntouchedStays}
-use Rattle.hd_model.proofs.Effects.{Effect, makes_object, sets_field, gets_field, sets_value, copies, clears, puts_static, gets_static, suppresses, reregisters, finds_none, takes_first, collects, makes_handle, gets_target, sets_target, sets_secondary, gets_secondary, sets_strength, raises_count, lowers_count, frees_handle, puts_board, picks_board, answers_place, gives_back, effect}
+use Rattle.hd_model.proofs.Basics.{Cmd, Entry, None, Numbers, State, Untouched, UntouchedStays, false, none-some, refl, sym, touched_by, true≢false, ◌≡◌}
+use Rattle.hd_model.proofs.Effects.{Effect, makes_object, sets_field, gets_field, sets_value, copies, clears, puts_static, gets_static, suppresses, reregisters, finds_none, takes_first, collects, makes_handle, gets_target, sets_target, sets_secondary, gets_secondary, sets_strength, raises_count, lowers_count, frees_handle, puts_board, picks_board, answers_place, gives_back, adds_entry, finds_value, finds_no_entry, removes_entry, effect}
 
 module _ (n : Numbers) (s : State) (e : Entry) where
   objects_stay : (c : Cmd) (t : State) → Effect n s e c t → (touched_by c).objects ≡ false
@@ -29,6 +25,12 @@ module _ (n : Numbers) (s : State) (e : Entry) where
   handles_stay c t (collects did) h = absurd (true≢false h)
   handles_stay c t _ h = refl
 
+  weak_stays : (c : Cmd) (t : State) → Effect n s e c t → (touched_by c).weak ≡ false → t.weak ≡ s.weak
+  weak_stays c t (adds_entry key slot f none may p q) h = absurd (true≢false h)
+  weak_stays c t (removes_entry key slot has f p) h = absurd (true≢false h)
+  weak_stays c t (collects did) h = absurd (true≢false h)
+  weak_stays c t _ h = refl
+
   registers_stay : (c : Cmd) (t : State) → Effect n s e c t → (touched_by c).register ≡ None
       → t.registers ≡ s.registers
   registers_stay c t (makes_object {d = d} small p) h = absurd (none-some d (sym h))
@@ -40,6 +42,8 @@ module _ (n : Numbers) (s : State) (e : Entry) where
   registers_stay c t (takes_first {d = d} id rest is p) h = absurd (none-some d (sym h))
   registers_stay c t (gets_target {d = d} slot handle f p) h = absurd (none-some d (sym h))
   registers_stay c t (gets_secondary {d = d} slot handle f p) h = absurd (none-some d (sym h))
+  registers_stay c t (finds_value {d = d} key slot has f p) h = absurd (none-some d (sym h))
+  registers_stay c t (finds_no_entry {d = d} key f none p) h = absurd (none-some d (sym h))
   registers_stay c t (collects did) h = did.collects.registers
   registers_stay c t _ h = refl
 
@@ -75,6 +79,7 @@ module _ (n : Numbers) (s : State) (e : Entry) where
   blocks_stay : (c : Cmd) (t : State) → Effect n s e c t → (touched_by c).blocks ≡ false → t.blocks ≡ s.blocks
   blocks_stay c t (makes_handle slot given may p) h = absurd (true≢false h)
   blocks_stay c t (gives_back block free p) h = absurd (true≢false h)
+  blocks_stay c t (adds_entry key slot f none may p q) h = absurd (true≢false h)
   blocks_stay c t (collects did) h = did.collects.blocks
   blocks_stay c t _ h = refl
 
@@ -88,6 +93,7 @@ module _ (n : Numbers) (s : State) (e : Entry) where
   untouched c t does = record {
     objects = objects_stay c t does;
     handles = handles_stay c t does;
+    weak = weak_stays c t does;
     registers = registers_stay c t does;
     handle_registers = handle_registers_stay c t does;
     statics = statics_stay c t does;

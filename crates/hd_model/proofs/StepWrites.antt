@@ -1,20 +1,11 @@
 -- What a step does to one part of the state: it stays but for the commands that write it.
-use Rattle.hd_model.proofs.Basics.{◌≡◌, ℕ, ◌+◌, ◌-◌, ◌<◌, ◌≤◌, ◌/◌, ◌%◌, ◌^◌, ◌⊎◌, Bool, true, false, cond, List, [], length, get_or, set, Option, Some, None, IsSome, IsSomeAnd, is_some, refl, sym, ap, ◌∙◌, subst, arith, unwrap_or, inl, inr, ⊎_elim, le_trans, true≢false, option_map, get, insert, none-some}
-use Rattle.hd_model.specs.Data.{Id, Slot, Strength, Make, Entry, Cmd}
+use Rattle.hd_model.proofs.Basics.{Bool, Cmd, Entry, Extra, FitsKind, Handle, Id, IsSome, IsSomeAnd, IsWellFormed, List, Make, None, Numbers, Object, Option, Since, Slot, Some, State, Strength, [], ap, arith, board_of, cleared, cond, count, count_of, false, fresh_object, get, get_or, handle_at, handle_register_of, inl, inr, insert, is_refused, is_some, last_serial, le_trans, length, loaded, made_handle, none-some, object_by_id, option_map, refl, register_of, secondary, set, static_of, strength, subst, survivor, sym, touched_by, true, true≢false, unwrap_or, without_secondary, ℕ, ⊎_elim, ◌%◌, ◌+◌, ◌-◌, ◌/◌, ◌<◌, ◌^◌, ◌∙◌, ◌≡◌, ◌≤◌, ◌⊎◌}
+use Rattle.hd_model.proofs.ReadAfterWrite.{set_cases, cell_cases, write_cases, removal_cases}
+use Rattle.hd_model.proofs.{StepChains.chain_keeps, RunCounts.fresh}
+use Rattle.hd_model.proofs.Effects.{Effect, Finds, makes_object, sets_field, gets_field, sets_value, copies, clears, puts_static, gets_static, suppresses, reregisters, finds_none, takes_first, collects, makes_handle, gets_target, sets_target, sets_secondary, gets_secondary, sets_strength, raises_count, lowers_count, frees_handle, puts_board, picks_board, finds_value, finds_no_entry, effect, next_identity, with_field}
+use Rattle.hd_model.proofs.WellFormedSteps.{has, given_vacant, step_keeps}
 use Rattle.hd_model.specs.declared.data.Reply.TheVariants as reply
 use Rattle.hd_model.specs.declared.command.Cmd.TheVariants as cmd
-use Rattle.hd_model.specs.State.{Numbers, Object, Extra, strength, secondary, count, Handle, State, count_of, without_secondary, register_of, handle_register_of, static_of, board_of, last_serial, object_by_id, handle_at}
-use Rattle.hd_model.specs.Command.{loaded, fresh_object, made_handle}
-use Rattle.hd_model.specs.Collect.{cleared, survivor}
-use Rattle.hd_model.specs.Touched.{touched_by}
-use Rattle.hd_model.specs.WellFormed.{FitsKind, IsWellFormed}
-use Rattle.hd_model.specs.Aging.{is_refused}
-use Rattle.hd_model.specs.Laws.{Since}
-use Rattle.hd_model.proofs.ReadAfterWrite.{set_cases, cell_cases, write_cases, removal_cases}
-use Rattle.hd_model.proofs.StepChains.{chain_keeps}
-use Rattle.hd_model.proofs.Effects.{Effect, Finds, makes_object, sets_field, gets_field, sets_value, copies, clears, puts_static, gets_static, suppresses, reregisters, finds_none, takes_first, collects, makes_handle, gets_target, sets_target, sets_secondary, gets_secondary, sets_strength, raises_count, lowers_count, frees_handle, puts_board, picks_board, effect, next_identity, with_field}
-use Rattle.hd_model.proofs.RunCounts.{fresh, given_vacant}
-use Rattle.hd_model.proofs.WellFormedSteps.{has, step_keeps}
 
 -- what each step that does not write keeps, holds since
 pub still : {n : Numbers} {Writes : State → Entry → State → Type 0} {old : State} {written : Entry}
@@ -117,8 +108,7 @@ pub serials_rise : (n : Numbers) (s : State) (e : Entry) (c : Cmd) (t : State) (
     → last_serial s k ≤ last_serial t k
 serials_rise n s e c t k (makes_object small p) =
     set_cases (λ x. last_serial s k ≤ x) s.serials e.caller k (last_serial s e.caller + 1) 0
-    (λ same. subst (λ j. last_serial s j ≤ last_serial s e.caller + 1) (sym same) (omega arith))
-    (omega arith)
+    (λ same. subst (λ j. last_serial s j ≤ last_serial s e.caller + 1) (sym same) (omega arith)) (omega arith)
 serials_rise n s e c t k (collects did) = subst (λ (x : List ℕ). last_serial s k ≤ get_or x k 0)
     (sym did.collects.serials) (omega arith)
 serials_rise n s e c t k _ = omega arith
@@ -137,7 +127,7 @@ some_of : {A : Type 0} (Q : A → Type 0) (o : Option A) → IsSomeAnd o Q → I
 some_of Q None h = absurd h
 some_of Q (Some x) h = refl
 
-gone_some : (s : State) (id : Id) → IsGone s id → IsSome (get s.objects id.0) → ⊥
+pub gone_some : (s : State) (id : Id) → IsGone s id → IsSome (get s.objects id.0) → ⊥
 gone_some s id gone there = true≢false (sym there ∙ ap is_some gone.none)
 
 -- what an object has stays, but for a `set` or a `val` of it, until the object is gone
@@ -186,8 +176,7 @@ module _ (n : Numbers) (s : State) (w : IsWellFormed n s) (e : Entry) (id : Id) 
       ⊎_elim (λ gone. inl (record { none = gone_stays c _ change gone; past = past gone.past }))
       (λ live. ⊎_elim (λ none. inl (record {
         none = none;
-        past =
-            past (w.serials.to_last id.0 (some_of P _ live));
+        past = past (w.serials.to_last id.0 (some_of P _ live));
       })) (λ held. inr held)
       (live_stays c _ change field value live)) had
 
@@ -243,6 +232,10 @@ module _ (n : Numbers) (s : State) (e : Entry) (caller d : ℕ) where
       other_register v _ _ had apart (ap is_refused p ∙ loaded_done _)
   register_kept c t v (gets_secondary slot handle f p) apart had =
       other_register v _ _ had apart (ap is_refused p ∙ loaded_done _)
+  register_kept c t v (finds_value key slot x f p) apart had =
+      other_register v _ _ had apart (ap is_refused p ∙ loaded_done _)
+  register_kept c t v (finds_no_entry key f none p) apart had = other_register v _ _ had apart
+      (ap is_refused p)
   register_kept c t v (collects did) apart had =
       ap (λ (x : List (List (Option Id))). get_or (get_or x caller []) d None) did.collects.registers ∙ had
   register_kept c t v _ apart had = had
@@ -335,6 +328,6 @@ module _ (n : Numbers) (s : State) (w : IsWellFormed n s) (e : Entry) (slot : Sl
       removal_cases s.handles other.0 (λ o. HandleChange s e slot (cmd.HFree h) o) slot.0
       (λ same. is_freed handle (found h other handle f (sym (same_slot slot other same))) p) handle_stays
   handle_change c t (collects {k = k} did) =
-      subst (HandleChange s e slot (cmd.Collect k)) (sym (did.collects.scene.handles slot.0))
+      subst (HandleChange s e slot (cmd.Collect k)) (sym (did.collects.handles slot.0))
       (handle_collected k did.collects.scene.reach did.collects.scene.kept (get s.handles slot.0) refl)
   handle_change c t _ = handle_stays

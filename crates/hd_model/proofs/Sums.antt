@@ -1,5 +1,5 @@
 -- The sum over the values of a map whose keys are numbers.
-use Rattle.hd_model.proofs.Basics.{[], ◌≡◌, ◌≢◌, ℕ, suc, ◌+◌, ◌*◌, ◌<◌, ◌≤◌, T, List, ◌∷◌, map, length, Option, Some, None, refl, sym, ap, ◌∙◌, subst, inl, inr, arith, ⊎_elim, sum_by, nat_cmp, FinMap, get, insert, remove, find, put, is_sorted, entries, values, entries_sorted, entries-insert, get-entries, len, len-entries, same_map, nat_cmp-IsAntisymmetric, below_all, by_order, Ordering, Less, Equal, Greater, nat_cmp_total, lt-ltb, le-ltb, eq-eqb, ne_eqb, cases_order, cases_eq, sum_by-cons}
+use Rattle.hd_model.proofs.Basics.{Equal, FinMap, Greater, Less, List, None, Option, Ordering, Some, T, [], ap, arith, below_all, by_order, cases_eq, cases_order, entries, entries-insert, entries_sorted, eq-eqb, find, get, get-entries, inl, inr, insert, is_sorted, le-ltb, len, len-entries, length, lt-ltb, map, nat_cmp, nat_cmp-IsAntisymmetric, nat_cmp_total, ne_eqb, put, refl, remove, same_map, subst, suc, sum_by, sum_by-cons, sym, values, ℕ, ⊎_elim, ◌*◌, ◌+◌, ◌<◌, ◌∙◌, ◌∷◌, ◌≡◌, ◌≢◌, ◌≤◌}
 use Rattle.hd_model.proofs.Entries.{both, less, found_first, found_later}
 use Rattle.hd_model.proofs.ReadAfterWrite.{get_inserted, get_beside, get_removed, get_left}
 
@@ -57,12 +57,8 @@ total-put {A} f k v (e ∷ es) h =
       | inr (inr high) ↦ ap (λ r. at r + share f (find nat_cmp k (e ∷ es))) (ranks_greater k e.0 high)
           ∙ ap (λ o. total f (e ∷ put nat_cmp k v es) + share f o)
           (found_later k e.0 (Some e.1) (find nat_cmp k es) (λ same. omega arith))
-          ∙ omega (
-            arith,
-            sum_by-cons f e.1 (map (λ w. w.1) (put nat_cmp k v es)),
-            sum_by-cons f e.1 vs,
-            total-put f k v es parts.1,
-          )
+          ∙ (let known = sum_by-cons f e.1 (map (λ w. w.1) (put nat_cmp k v es)) in
+          omega (arith, known, sum_by-cons f e.1 vs, total-put f k v es parts.1))
     ]
 
 -- a value is put for another, or where there was none
@@ -96,13 +92,8 @@ sum-remove {A} f m k = by (get m k) refl
         ∙ sym (ap (get m) e))
         (λ ne. get_beside (remove m k) k v q ne ∙ beside q ne) (cases_eq q k)) in
         let back = sum-insert f (remove m k) k v in
-        omega (
-          arith,
-          ap (λ (x : FinMap nat_cmp A). sum_by f (values x)) same,
-          back,
-          ap (share f)
-              (get_removed m k),
-        )
+        let known = ap (λ (x : FinMap nat_cmp A). sum_by f (values x)) same in
+        omega (arith, known, back, ap (share f) (get_removed m k))
 
 total-le : {A : Type 0} (f : A → ℕ) (es : List (ℕ × A)) (m : FinMap nat_cmp A) → T (is_sorted nat_cmp es)
     → ((q : ℕ) → share f (find nat_cmp q es) ≤ share f (get m q)) → total f es ≤ sum_by f (values m)
@@ -126,8 +117,7 @@ total-le f (e ∷ es) m sorted below =
 
 -- a map that has no more at each key has no more in all
 pub sum-le : {A : Type 0} (f : A → ℕ) (m k : FinMap nat_cmp A)
-    → ((q : ℕ) → share f (get m q) ≤ share f (get k q))
-    → sum_by f (values m) ≤ sum_by f (values k)
+    → ((q : ℕ) → share f (get m q) ≤ share f (get k q)) → sum_by f (values m) ≤ sum_by f (values k)
 sum-le f m k below =
     total-le f (entries m) k (entries_sorted m)
     (λ q. subst (λ o. share f o ≤ share f (get k q)) (get-entries m q) (below q))

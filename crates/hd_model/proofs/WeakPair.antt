@@ -5,7 +5,7 @@ use Rattle.hd_model.specs.State.{State}
 use Rattle.hd_model.specs.Scene.{scene_of, IsWhole}
 use Rattle.hd_model.specs.Reach.{IsReached, IsToBeFinalized}
 use Rattle.hd_model.specs.Counting.{Counts}
-use Rattle.hd_model.specs.Collect.{is_lost, loses_by, loses, cleared, Collects}
+use Rattle.hd_model.specs.Collect.{is_lost, loses_by, loses, cleared, Collects, CollectsState}
 use Rattle.hd_model.specs.InUse.{IsRescued}
 use Rattle.hd_model.specs.CollectionLaws.{IsWeakPair, FareAlike, FareApart, WeakHandlesFareAlike, FinalizationPartsWeakHandles}
 use Rattle.hd_model.proofs.EdgeChains.{leads_on}
@@ -20,8 +20,10 @@ none_counted P c p none x h =
     let number : length p.members ≡ c = p.number in omega arith
 
 module _ (n : ℕ) (s t : State) (r : Report) (w : IsWhole (scene_of s))
-    (c : Collects (λ (x : Id). x.0) n (scene_of s) (scene_of t) r) (a b : ℕ) (x : Id)
-    (p : IsWeakPair s a b x) where
+    (did : CollectsState n s t r) (a b : ℕ) (x : Id) (p : IsWeakPair s a b x) where
+  abbrev c : Collects (λ (y : Id). y.0) n (scene_of s) (scene_of t) r
+  c = did.scene
+
   -- where nothing is resurrected, what is kept is reached
   kept_reached : r.revived ≡ 0 → c.kept x ≡ true → c.reach x ≡ true
   kept_reached none kept =
@@ -39,14 +41,14 @@ module _ (n : ℕ) (s t : State) (r : Report) (w : IsWhole (scene_of s))
     target = Some x;
     by_short = record {
       handle = p.weak_short;
-      is_stored = handle_stays n s t r w c a p.weak_short x p.short_is_stored p.short_target reached
-          (reach_in_kept n s t r w c x reached);
+      is_stored = handle_stays n s t r w did a p.weak_short x p.short_is_stored p.short_target reached
+          (reach_in_kept n s t r w did x reached);
       target = p.short_target;
     };
     by_long = record {
       handle = p.weak_long;
-      is_stored = handle_stays n s t r w c b p.weak_long x p.long_is_stored p.long_target reached
-          (reach_in_kept n s t r w c x reached);
+      is_stored = handle_stays n s t r w did b p.weak_long x p.long_is_stored p.long_target reached
+          (reach_in_kept n s t r w did x reached);
       target = p.long_target;
     };
   }
@@ -54,37 +56,37 @@ module _ (n : ℕ) (s t : State) (r : Report) (w : IsWhole (scene_of s))
   both_null : c.reach x ≡ false → c.kept x ≡ false → FareAlike t a b
   both_null unreached lost = record {
     target = None;
-    by_short = handle_null n s t r w c a p.weak_short x p.short_is_stored p.short_target unreached lost;
-    by_long = handle_null n s t r w c b p.weak_long x p.long_is_stored p.long_target unreached lost;
+    by_short = handle_null n s t r w did a p.weak_short x p.short_is_stored p.short_target unreached lost;
+    by_long = handle_null n s t r w did b p.weak_long x p.long_is_stored p.long_target unreached lost;
   }
 
   pub fare_alike : r.revived ≡ 0 → FareAlike t a b
   fare_alike none =
       ⊎_elim (λ kept. both_stay (kept_reached none kept))
       (λ lost. ⊎_elim
-      (λ reached. absurd (true≢false (sym (reach_in_kept n s t r w c x reached) ∙ lost)))
+      (λ reached. absurd (true≢false (sym (reach_in_kept n s t r w did x reached) ∙ lost)))
       (λ unreached. both_null unreached lost) (cases_Bool (c.reach x)))
       (cases_Bool (c.kept x))
 
   -- the short one loses what is not reached, and the long one has what is kept
   pub fare_apart : IsRescued n s x → FareApart t a b x
   fare_apart h =
-      let unreached : c.reach x ≡ false = unused_out n s t r w c x h.out_of_use in
+      let unreached : c.reach x ≡ false = unused_out n s t r w did x h.out_of_use in
       let short_loses : loses c.reach c.kept p.weak_short ≡ true =
       ap (λ q. loses_by q c.reach c.kept p.weak_short.target) p.short_role
       ∙ ap (is_lost c.reach) p.short_target ∙ ap not unreached in
       let long_stays : loses c.reach c.kept p.weak_long ≡ false =
       ap (λ q. loses_by q c.reach c.kept p.weak_long.target) p.long_role
-      ∙ ap (is_lost c.kept) p.long_target ∙ ap not (rescued_kept n s t r w c x h) in
+      ∙ ap (is_lost c.kept) p.long_target ∙ ap not (rescued_kept n s t r w did x h) in
       record {
         by_short = record {
           handle = cleared c.reach c.kept p.weak_short;
-          is_stored = handle_after n s t r w c a p.weak_short p.short_is_stored;
+          is_stored = handle_after n s t r w did a p.weak_short p.short_is_stored;
           target = cond-true (loses c.reach c.kept p.weak_short) None p.weak_short.target short_loses;
         };
         by_long = record {
           handle = cleared c.reach c.kept p.weak_long;
-          is_stored = handle_after n s t r w c b p.weak_long p.long_is_stored;
+          is_stored = handle_after n s t r w did b p.weak_long p.long_is_stored;
           target = cond-false (loses c.reach c.kept p.weak_long) None p.weak_long.target long_stays
               ∙ p.long_target;
         };
@@ -92,8 +94,8 @@ module _ (n : ℕ) (s t : State) (r : Report) (w : IsWhole (scene_of s))
 
 pub weak_handles_fare_alike : WeakHandlesFareAlike
 weak_handles_fare_alike m n s t r a b x h none pair =
-    fare_alike n s t r (whole_scene m s h.well_formed) h.collects.scene a b x pair none
+    fare_alike n s t r (whole_scene m s h.well_formed) h.collects a b x pair none
 
 pub finalization_parts_weak_handles : FinalizationPartsWeakHandles
 finalization_parts_weak_handles m n s t r a b x h rescued pair =
-    fare_apart n s t r (whole_scene m s h.well_formed) h.collects.scene a b x pair rescued
+    fare_apart n s t r (whole_scene m s h.well_formed) h.collects a b x pair rescued

@@ -1,18 +1,19 @@
 -- A collection keeps a state well formed.
-use Rattle.hd_model.proofs.Basics.{◌≡◌, ◌≢◌, ℕ, ◌/◌, ◌%◌, ◌^◌, ◌<◌, ◌≤◌, Bool, true, false, cond, List, [], length, get_or, Option, Some, None, is_some, IsSome, refl, sym, ap, ◌∙◌, subst, arith, Contains, AllPairs, true≢false, get, nat_tests}
+use Rattle.hd_model.proofs.Basics.{◌≡◌, ◌≢◌, ℕ, ◌/◌, ◌%◌, ◌^◌, ◌<◌, ◌≤◌, Bool, true, false, cond, List, [], length, get_or, Option, Some, None, is_some, IsSome, refl, sym, ap, ◌∙◌, subst, arith, Contains, AllPairs, true≢false, get, nat_tests, option_map, none-some}
 use Rattle.hd_model.specs.Data.{Id, Report, Slot}
-use Rattle.hd_model.specs.State.{Numbers, Object, Handle, State, handles_of, use_of}
+use Rattle.hd_model.specs.State.{Numbers, Object, Handle, WeakEntry, State, handles_of, use_of}
 use Rattle.hd_model.specs.Scene.{scene_of, IsWhole}
 use Rattle.hd_model.specs.Ages.{raised}
 use Rattle.hd_model.specs.Reach.{queued, held, IsReached, IsToBeFinalized}
 use Rattle.hd_model.specs.Places.{is_pinned}
-use Rattle.hd_model.specs.Collect.{survivor, cleared, CollectsState}
-use Rattle.hd_model.specs.WellFormed.{HasShape, HasObjects, HasSerials, FitsKind, HasHandles, IsWellFormed}
+use Rattle.hd_model.specs.Collect.{survivor, cleared, swept, CollectsState}
+use Rattle.hd_model.specs.WellFormed.{HasShape, HasObjects, HasSerials, FitsKind, HasHandles, HasWeakTable, IsWellFormed}
 use Rattle.hd_model.proofs.Members.{pairs_append, pairs_like}
 use Rattle.hd_model.proofs.Entries.{some_value}
 use Rattle.hd_model.proofs.KindExtras.{cleared_fits}
 use Rattle.hd_model.proofs.PinTest.{pinned_decides, pinned_held}
-use Rattle.hd_model.proofs.SceneCollection.{root_reached, keeps_root, object_before, still_object, handle_before, whole_after}
+use Rattle.hd_model.proofs.SceneCollection.{root_reached, mapped_value, keeps_root, object_before, still_object, whole_after}
+use Rattle.hd_model.proofs.WeakSlots.{handle_row, held_row}
 use Rattle.hd_model.proofs.WholeScenes.{whole_scene, names_of_whole}
 
 -- a raised generation is at most 2 where the one before was, and is not below it
@@ -47,7 +48,8 @@ module _ (n : Numbers) (k : ℕ) (s t : State) (r : Report) (w : IsWellFormed n 
       let x : Id = record { 0 = id } in
       still_object (λ (y : Id). y.0) k (scene_of s) (scene_of t) r (whole_scene n s w) c.scene x
       (keeps_root (λ (y : Id). y.0) k (scene_of s) (scene_of t) r (whole_scene n s w) c.scene x
-      (held (pinned_held (scene_of s).handle x ((pinned_decides s.handles x).0 pinning))))
+      (held (held_row s x (pinned_held
+      (λ slot. get s.handles slot) x ((pinned_decides s.handles x).0 pinning)))))
 
   queued_apart : AllPairs (λ x y. x ≢ y) t.queue
   queued_apart =
@@ -101,8 +103,42 @@ module _ (n : Numbers) (k : ℕ) (s t : State) (r : Report) (w : IsWellFormed n 
 
   was_handle : (slot : ℕ) (h : Handle Id) → get t.handles slot ≡ Some h
       → (g : Handle Id) × ((get s.handles slot ≡ Some g) × (cleared c.scene.reach c.scene.kept g ≡ h))
-  was_handle slot h e = handle_before (λ (x : Id). x.0) k (scene_of s) (scene_of t) r
-      (whole_scene n s w) c.scene slot h e
+  was_handle slot h e =
+      mapped_value (cleared c.scene.reach c.scene.kept) (get s.handles slot) h (sym (c.handles slot) ∙ e)
+
+  was_weak : (slot : ℕ) → IsSome (get t.weak slot) → IsSome (get s.weak slot)
+  was_weak slot h =
+      let (content, e) = some_value (get t.weak slot) h in
+      ap is_some (mapped_value (swept c.scene.kept) (get s.weak slot) content (sym (c.weak slot) ∙ e)).1.0
+
+  -- an entry after the collection was there before it
+  entry_from : (kept : Id → Bool) (content : Option (WeakEntry Id)) (e : WeakEntry Id)
+      → swept kept content ≡ Some e → content ≡ Some e
+  entry_from kept None e h = absurd (none-some e h)
+  entry_from kept (Some x) e h = by (kept x.key) h
+    where
+      by : (b : Bool) → cond b (Some x) None ≡ Some e → Some x ≡ Some e
+      by true is = is
+      by false is = absurd (none-some e is)
+
+  pub was_entry : (slot : ℕ) (e : WeakEntry Id) → get t.weak slot ≡ Some (Some e)
+      → get s.weak slot ≡ Some (Some e)
+  was_entry slot e is =
+      let (content, both) = mapped_value (swept c.scene.kept) (get s.weak slot) (Some e)
+      (sym (c.weak slot) ∙ is) in
+      both.0 ∙ ap Some (entry_from c.scene.kept content e both.1)
+
+  apart_after : (slot : ℕ) → IsSome (get t.weak slot) → get t.handles slot ≡ None
+  apart_after slot h =
+      c.handles slot ∙ ap (option_map (cleared c.scene.reach c.scene.kept)) (w.weak.apart slot
+      (was_weak slot h))
+
+  weak_after : HasWeakTable t
+  weak_after = record {
+    kinds = λ slot h. ap (λ m. get m (slot / 64)) c.blocks ∙ w.weak.kinds slot (was_weak slot h);
+    apart = apart_after;
+    once = λ i j d e at_i at_j same. w.weak.once i j d e (was_entry i d at_i) (was_entry j e at_j) same;
+  }
 
   handles_after : HasHandles n t
   handles_after = record {
@@ -114,15 +150,16 @@ module _ (n : Numbers) (k : ℕ) (s t : State) (r : Report) (w : IsWellFormed n 
         let (g, both) = was_handle slot h e in
         subst (λ (q : Handle Id). FitsKind q.kind q.extra) both.1
         (cleared_fits g.kind g.extra _ (w.handles.extras slot g both.0));
-    dependents = λ slot h e none. whole.paired slot h e none;
+    dependents = λ slot h e none. whole.paired slot h (handle_row t slot h e) none;
     blocks = λ block h. w.handles.blocks block (subst (λ m. IsSome (get m block)) c.blocks h);
   }
 
   pub collection_keeps_well_formed : IsWellFormed n t
   collection_keeps_well_formed = record {
     shape = shape_after;
-    names = names_of_whole t whole pinned_stays;
+    names = names_of_whole t whole apart_after pinned_stays;
     objects = objects_after;
     serials = serials_after;
     handles = handles_after;
+    weak = weak_after;
   }

@@ -1,29 +1,20 @@
 -- A step keeps a state well formed, so each state that a run reaches is.
-use Rattle.hd_model.proofs.Basics.{◌≡◌, ◌≢◌, ℕ, Bool, ◌<◌, ◌≤◌, ◌+◌, ◌*◌, ◌/◌, ◌%◌, ◌^◌, List, [], length, get_or, Option, Some, None, is_some, IsSome, true, false, refl, sym, ap, ◌∙◌, subst, arith, nat_cmp, le_of_eq, lit<, true≢false, get_or-set_same, length-set, unwrap_or, option_and_then, Contains, AllPairs, get, empty, get-empty, length-replicate, get_or-replicate, none-some}
-use Rattle.hd_model.specs.Data.{Id, Slot, Entry, Kind, Make, Grown, Cmd}
-use Rattle.hd_model.specs.declared.data.Grown.TheVariants.{Zero, One, Two, Back}
-use Rattle.hd_model.specs.declared.limits.TheConstants.{REGISTERS, FIELDS, OLDEST, ROWS}
-use Rattle.hd_model.specs.Kinds.{kind_of, secondary_register}
-use Rattle.hd_model.specs.Valid.{IsValid}
-use Rattle.hd_model.specs.State.{Numbers, Object, Extra, Handle, handles_of, extra_data, secondary_of, State, start_of, register_of, last_serial, object_by_id, field_of, use_of, first_slot, with_register, with_handle_register, with_object, with_serial, with_handle, without_handle, with_use, with_queue}
-use Rattle.hd_model.specs.Command.{fresh_object, made_extra, made_handle}
-use Rattle.hd_model.specs.Step.{MayGive, with_growth, Step}
-use Rattle.hd_model.specs.Run.{Run}
-use Rattle.hd_model.specs.WellFormed.{Names, FitsKind, IsWellFormed}
+use Rattle.hd_model.proofs.Basics.{AllPairs, Back, BlockUse, Bool, Cmd, Contains, Entry, Extra, FIELDS, FitsKind, Grown, Handle, Id, IsSome, IsValid, IsWellFormed, Kind, List, Make, MayGive, Names, None, Numbers, OLDEST, Object, One, Option, REGISTERS, ROWS, Run, Slot, Some, State, Step, Two, WeakEntry, Zero, [], ap, arith, empty, extra_data, false, field_of, first_slot, fresh_object, get, get-empty, get_or, get_or-replicate, get_or-set_same, handle_at, handles_of, is_some, kind_of, last_serial, le_of_eq, length, length-replicate, length-set, lit<, made_extra, made_handle, nat_cmp, none-some, object_by_id, option_and_then, refl, register_of, same_Some, secondary_of, secondary_register, start_of, subst, sym, true, true≢false, unwrap_or, use_of, with_entry, with_growth, with_handle, with_handle_register, with_object, with_queue, with_register, with_serial, with_use, without_handle, ℕ, ⊎_elim, ◌%◌, ◌*◌, ◌+◌, ◌/◌, ◌<◌, ◌^◌, ◌∙◌, ◌≡◌, ◌≢◌, ◌≤◌}
 use Rattle.hd_model.proofs.ReadAfterWrite.{set_cases, replicate_cases, get_inserted, get_beside, still_some}
 use Rattle.hd_model.proofs.KindTests.{without_secondary_fits, without_secondary_has_none, made_fits, made_secondary}
-use Rattle.hd_model.proofs.WellFormedWrites.{names_more, register_keeps, handle_register_keeps, static_keeps, board_keeps, object_keeps, serial_keeps, handle_keeps, removal_keeps, use_keeps, without_use_keeps, queue_keeps, place_keeps}
+use Rattle.hd_model.proofs.WellFormedWrites.{names_more, register_keeps, handle_register_keeps, static_keeps, board_keeps, object_keeps, serial_keeps, handle_keeps, removal_keeps, use_keeps, without_use_keeps, weak_keeps, live_not_weak, queue_keeps, place_keeps}
 use Rattle.hd_model.proofs.Members.{first_in, later_in, pairs_rest}
-use Rattle.hd_model.proofs.StepChains.{chain_keeps}
-use Rattle.hd_model.proofs.WellFormedCollection.{collection_keeps_well_formed}
-use Rattle.hd_model.proofs.Effects.{Effect, Finds, growth_is, refused, makes_object, sets_field, gets_field, sets_value, reads_value, copies, clears, puts_static, gets_static, reads_generation, suppresses, reregisters, finds_none, takes_first, collects, makes_handle, gets_target, sets_target, sets_secondary, gets_secondary, sets_strength, raises_count, lowers_count, frees_handle, puts_board, picks_board, answers_place, gives_back, gives_none, effect, next_identity}
+use Rattle.hd_model.proofs.{Entries.none_from, Entries.some_value, WeakSlots.HasNoKey, StepChains.chain_keeps, WellFormedCollection.collection_keeps_well_formed}
+use Rattle.hd_model.proofs.Effects.{Effect, Finds, growth_is, refused, makes_object, sets_field, gets_field, sets_value, reads_value, copies, clears, puts_static, gets_static, reads_generation, suppresses, reregisters, finds_none, takes_first, collects, makes_handle, gets_target, sets_target, sets_secondary, gets_secondary, sets_strength, raises_count, lowers_count, frees_handle, puts_board, picks_board, answers_place, gives_back, gives_none, MayHold, adds_entry, finds_value, finds_no_entry, removes_entry, removes_none, effect, next_identity}
+use Rattle.hd_model.specs.declared.data.Kind.TheVariants as kind
 
 or_else : {A : Type 0} (o : Option A) (d : A) → IsSome o → o ≡ Some (unwrap_or o d)
 or_else None d h = cc
 or_else (Some x) d h = refl
 
 -- the identity of an object leads to the object
-some_at : (s : State) (id : Id) → IsSome (get s.objects id.0) → get s.objects id.0 ≡ Some (object_by_id s id)
+pub some_at : (s : State) (id : Id) → IsSome (get s.objects id.0)
+    → get s.objects id.0 ≡ Some (object_by_id s id)
 some_at s id h = or_else (get s.objects id.0) _ h
 
 -- a register that references an object of a well formed state
@@ -67,7 +58,7 @@ at_first s given block slot used e = subst (λ b. use_of s b ≡ Some (handles_o
 growth_keeps : (n : Numbers) (s : State) → IsWellFormed n s → (given : Kind) (grown : Grown) (slot : Slot)
     → MayGive n s given grown slot → IsWellFormed n (with_growth s given grown)
     × (use_of (with_growth s given grown) (slot.0 / ROWS) ≡ Some (handles_of given))
-growth_keeps n s w given Zero slot may = (w, may.1)
+growth_keeps n s w given Zero slot may = (w, may.of_kind)
 growth_keeps n s w given (One block) slot may = (
   use_keeps n s w block (handles_of given) may.1.unused may.1.low may.1.high,
   at_first (with_use s block (handles_of given)) given block slot
@@ -86,6 +77,39 @@ growth_keeps n s w given (Two block other) slot may =
           may.3,
     )
 growth_keeps n s w given (Back block) slot may = absurd may
+
+-- a slot that may be given holds no handle, and is none of the weak table's
+module _ (n : Numbers) (s : State) (w : IsWellFormed n s) where
+  at_unused : (block : ℕ) (slot : Slot) → use_of s block ≡ None
+      → slot ≡ first_slot block → (given : BlockUse) → use_of s (slot.0 / ROWS) ≡ Some given → ⊥
+  at_unused block slot unused first given used =
+      let here : slot.0 / ROWS ≡ block = ap (λ (x : Slot). x.0 / ROWS) first ∙ first_block block in
+      none-some given (sym unused ∙ ap (use_of s) (sym here) ∙ used)
+
+  unused_vacant : (block : ℕ) (slot : Slot) → use_of s block ≡ None → slot ≡ first_slot block
+      → (handle_at s slot ≡ None) × (get s.weak slot.0 ≡ None)
+  unused_vacant block slot unused first = (
+    none_from (handle_at s slot) (λ h.
+        let (handle, is) = some_value (handle_at s slot) h in
+        at_unused block slot unused first (handles_of handle.kind) (w.handles.kinds slot.0 handle is)),
+    none_from (get s.weak slot.0) (λ h.
+        at_unused block slot unused first (handles_of kind.Dependent) (w.weak.kinds slot.0 h)),
+  )
+
+  given_free : (wanted : Kind) (grown : Grown) (slot : Slot) → MayGive n s wanted grown slot
+      → (handle_at s slot ≡ None) × (get s.weak slot.0 ≡ None)
+  given_free wanted Zero slot may = (may.no_handle, may.not_weak)
+  given_free wanted (One block) slot may = unused_vacant block slot may.1.unused may.2
+  given_free wanted (Two block other) slot may = unused_vacant block slot may.1.unused may.3
+  given_free wanted (Back block) slot may = absurd may
+
+  pub given_vacant : (wanted : Kind) (grown : Grown) (slot : Slot) → MayGive n s wanted grown slot
+      → handle_at s slot ≡ None
+  given_vacant wanted grown slot may = (given_free wanted grown slot may).0
+
+  pub given_not_weak : (wanted : Kind) (grown : Grown) (slot : Slot) → MayGive n s wanted grown slot
+      → get s.weak slot.0 ≡ None
+  given_not_weak wanted grown slot may = (given_free wanted grown slot may).1
 
 module _ (n : Numbers) (s : State) (w : IsWellFormed n s) (e : Entry) (l : e.caller < n.callers) where
   field_named : (id : Id) → IsSome (get s.objects id.0) → (i : ℕ) → Names s (field_of (object_by_id s id) i)
@@ -144,7 +168,8 @@ module _ (n : Numbers) (s : State) (w : IsWellFormed n s) (e : Entry) (l : e.cal
       let grows = growth_keeps n s w wanted e.grown slot may in
       let w1 : IsWellFormed n s1 = subst (IsWellFormed n) (growth_is s wanted e.grown) grows.0 in
       let w2 : IsWellFormed n (with_handle s1 slot made) =
-      handle_keeps n s1 w1 slot made (w.names.registers e.caller t)
+      handle_keeps n s1 w1 slot made (given_not_weak n s w wanted e.grown slot may)
+      (w.names.registers e.caller t)
       (made_named n s w e.caller given t) grows.1 (made_fits s e.caller given t)
       (made_paired s e.caller given t) in
       handle_register_keeps n (with_handle s1 slot made) w2 e.caller d (Some slot) l
@@ -155,8 +180,34 @@ module _ (n : Numbers) (s : State) (w : IsWellFormed n s) (e : Entry) (l : e.cal
       → (handle.target ≡ None → secondary_of extra ≡ None)
       → IsWellFormed n (with_handle s slot (record handle { extra = extra }))
   extra_keeps h slot handle extra f fits named paired =
-      handle_keeps n s w slot _ (w.names.targets slot.0 handle f.live) named
-      (w.handles.kinds slot.0 handle f.live) fits paired
+      handle_keeps n s w slot _ (live_not_weak s w.weak slot.0 handle f.live)
+      (w.names.targets slot.0 handle f.live) named (w.handles.kinds slot.0 handle f.live) fits paired
+
+  -- an entry with a key that no other has, in a slot that the weak table holds or may get
+  added_keeps : (k v : ℕ) (key : Id) (slot : Slot) → register_of s e.caller k ≡ Some key → HasNoKey s key
+      → MayHold n s e.grown slot
+      → IsWellFormed n (with_entry (record s { blocks = (with_growth s kind.Dependent e.grown).blocks }) s
+      e.caller v slot key)
+  added_keeps k v key slot f none may =
+      let room : State = record s { blocks = (with_growth s kind.Dependent e.grown).blocks } in
+      let put : WeakEntry Id = record { key = key; value = register_of s e.caller v } in
+      let named : (x : WeakEntry Id) → Some put ≡ Some x → Names s (Some x.key) × Names s x.value = λ x is.
+      subst (λ (y : WeakEntry Id). Names s (Some y.key) × Names s y.value) (same_Some put x is)
+      (has n s e.caller k key w f, w.names.registers e.caller v) in
+      let alone : (x : WeakEntry Id) → Some put ≡ Some x → (q : ℕ) (d : WeakEntry Id)
+      → get s.weak q ≡ Some (Some d) → d.key ≡ x.key → q ≡ slot.0 = λ x is q d at same.
+      absurd (none q d at (same ∙ ap (λ (y : WeakEntry Id). y.key) (sym (same_Some put x is)))) in
+      ⊎_elim
+      (λ idle. let held : IsSome (get s.weak slot.0) = ap is_some idle.0 in
+      let same : s ≡ room = ap (λ g. record s { blocks = (with_growth s kind.Dependent g).blocks })
+      (sym idle.1)
+      in weak_keeps n room (subst (IsWellFormed n) same w) slot (Some put) named alone
+      (ap (λ (x : State). use_of x (slot.0 / ROWS)) (sym same) ∙ w.weak.kinds slot.0 held)
+      (w.weak.apart slot.0 held))
+      (λ give. let grows = growth_keeps n s w kind.Dependent e.grown slot give in
+      weak_keeps n room (subst (IsWellFormed n) (growth_is s kind.Dependent e.grown) grows.0) slot (Some put)
+      named alone grows.1 (given_vacant n s w kind.Dependent e.grown slot give))
+      may
 
   effect_keeps : (c : Cmd) (t : State) → IsValid c → Effect n s e c t → IsWellFormed n t
   effect_keeps c t v (refused p) = w
@@ -193,7 +244,7 @@ module _ (n : Numbers) (s : State) (w : IsWellFormed n s) (e : Entry) (l : e.cal
   effect_keeps c t v (gets_target {d = d} slot handle f p) =
       register_keeps n s w e.caller d handle.target l (w.names.targets slot.0 handle f.live)
   effect_keeps c t v (sets_target {t = r} slot handle f p) =
-      handle_keeps n s w slot _ (w.names.registers e.caller r)
+      handle_keeps n s w slot _ (live_not_weak s w.weak slot.0 handle f.live) (w.names.registers e.caller r)
       (subst (Names s) (sym (without_secondary_has_none handle.extra)) tt)
       (w.handles.kinds slot.0 handle f.live)
       (without_secondary_fits handle.kind handle.extra (w.handles.extras slot.0 handle f.live))
@@ -216,8 +267,18 @@ module _ (n : Numbers) (s : State) (w : IsWellFormed n s) (e : Entry) (l : e.cal
   effect_keeps c t v (answers_place slot handle id p f target may r) =
       place_keeps n s w id p (subst (Names s) target (w.names.targets slot.0 handle f.live))
   effect_keeps c t v (gives_back block free p) =
-      without_use_keeps n s w block (λ slot here. (free (record { 0 = slot }) here).0)
+      without_use_keeps n s w block (λ slot here. (free (record { 0 = slot }) here).no_handle)
+      (λ slot here. (free (record { 0 = slot }) here).not_weak)
   effect_keeps c t v (gives_none p) = w
+  effect_keeps c t v (adds_entry {k = k} {v = r} key slot f none may p q) = added_keeps k r key slot f none
+      may
+  effect_keeps c t v (finds_value {d = d} key slot x f p) =
+      register_keeps n s w e.caller d x.entry.value l (w.names.values slot.0 x.entry x.held)
+  effect_keeps c t v (finds_no_entry {d = d} key f none p) = register_keeps n s w e.caller d None l tt
+  effect_keeps c t v (removes_entry key slot x f p) =
+      weak_keeps n s w slot None (λ y no. absurd (none-some y no)) (λ y no. absurd (none-some y no))
+      (w.weak.kinds slot.0 (ap is_some x.held)) (w.weak.apart slot.0 (ap is_some x.held))
+  effect_keeps c t v (removes_none key f none p) = w
 
 pub step_keeps : (n : Numbers) (s t : State) (e : Entry) → IsWellFormed n s → Step n s e t → IsWellFormed n t
 step_keeps n s t e w step = effect_keeps n s w e step.caller e.cmd t step.valid (effect n s e t step)
@@ -248,6 +309,8 @@ start_is_well_formed n = record {
     secondaries = λ slot handle e. absurd (nothing_at slot handle e);
     queue = λ id h. absurd (omega (arith, h.1));
     places = λ id h. absurd (none_has _ id h);
+    keys = λ slot x e. absurd (nothing_at slot (Some x) e);
+    values = λ slot x e. absurd (nothing_at slot (Some x) e);
   };
   objects = record {
     sizes = λ id object e. absurd (nothing_at id object e);
@@ -264,6 +327,11 @@ start_is_well_formed n = record {
     extras = λ slot handle e. absurd (nothing_at slot handle e);
     dependents = λ slot handle e. absurd (nothing_at slot handle e);
     blocks = λ block h. absurd (none_has _ block h);
+  };
+  weak = record {
+    kinds = λ slot h. absurd (none_has _ slot h);
+    apart = λ slot h. absurd (none_has _ slot h);
+    once = λ i j d e at_i at_j same. absurd (nothing_at i (Some d) at_i);
   };
 }
 

@@ -1,10 +1,8 @@
 -- A write to one part of a state keeps it well formed.
-use Rattle.hd_model.proofs.Basics.{◌≡◌, ◌≢◌, ℕ, ◌<◌, ◌≤◌, ◌/◌, ◌%◌, ◌^◌, List, [], ◌∷◌, length, get_or, Option, Some, None, IsSome, refl, sym, ◌∙◌, subst, nat_cmp, length-set, le_trans, suc, suc-le-suc, true≢false, Contains, AllPairs, FinMap, get, none-some}
-use Rattle.hd_model.specs.Data.{Id, Slot}
-use Rattle.hd_model.specs.declared.limits.TheConstants.{REGISTERS, FIELDS, OLDEST, ROWS}
-use Rattle.hd_model.specs.State.{Numbers, Object, Handle, BlockUse, handles_of, secondary_of, State, last_serial, field_of, use_of, with_register, with_handle_register, with_static, with_board, with_object, with_handle, without_handle, with_use, without_use, with_queue, with_place, with_serial}
-use Rattle.hd_model.specs.WellFormed.{Names, HasShape, HasSoundReferences, HasObjects, HasSerials, FitsKind, HasHandles, IsWellFormed}
-use Rattle.hd_model.proofs.ReadAfterWrite.{set_cases, cell_cases, rows_keep, insert_all, remove_all, still_some, some_cases, insert_cases, remove_cases}
+use Rattle.hd_model.proofs.Basics.{AllPairs, BlockUse, Contains, FIELDS, FinMap, FitsKind, Handle, HasHandles, HasObjects, HasSerials, HasShape, HasSoundReferences, HasWeakTable, Id, IsSome, IsWellFormed, List, Names, None, Numbers, OLDEST, Object, Option, ROWS, Slot, Some, State, WeakEntry, [], ap, field_of, get, get_or, handles_of, is_some, last_serial, le_trans, length, length-set, nat_cmp, none-some, refl, secondary_of, subst, sym, true≢false, use_of, with_board, with_handle, with_handle_register, with_object, with_place, with_queue, with_register, with_serial, with_static, with_use, with_weak, without_handle, without_use, ℕ, ⊎_elim, ◌%◌, ◌/◌, ◌<◌, ◌^◌, ◌∙◌, ◌≡◌, ◌≢◌, ◌≤◌}
+use Rattle.hd_model.proofs.ReadAfterWrite.{set_cases, cell_cases, rows_keep, insert_all, remove_all, still_some, some_cases, insert_cases, remove_cases, get_beside, inserted_from}
+use Rattle.hd_model.proofs.Entries.{none_from}
+use Rattle.hd_model.specs.declared.data.Kind.TheVariants as kind
 
 -- what references an object in one state does in another that has its objects
 pub names_more : (s t : State) → ((id : ℕ) → IsSome (get s.objects id) → IsSome (get t.objects id))
@@ -36,8 +34,7 @@ names_again : (s : State) (handle_registers : List (List (Option Slot))) (board 
       handle_registers = handle_registers;
       board = board;
       blocks = blocks;
-      serials =
-          serials;
+      serials = serials;
     })
 names_again s handle_registers board blocks serials h = record {
   fields = h.fields;
@@ -47,6 +44,8 @@ names_again s handle_registers board blocks serials h = record {
   secondaries = h.secondaries;
   queue = h.queue;
   places = h.places;
+  keys = h.keys;
+  values = h.values;
 }
 
 objects_again : (s t : State) → t.objects ≡ s.objects → t.queue ≡ s.queue → HasObjects s → HasObjects t
@@ -80,62 +79,88 @@ handles_again n s t h b w =
       blocks = λ block e. w.blocks block (subst (λ (m : FinMap nat_cmp BlockUse). IsSome (get m block)) b e);
     }
 
+weak_again : (s t : State) → t.weak ≡ s.weak → t.handles ≡ s.handles → t.blocks ≡ s.blocks → HasWeakTable s
+    → HasWeakTable t
+weak_again s t k h b w =
+    let there : (slot : ℕ) → IsSome (get t.weak slot) → IsSome (get s.weak slot) = λ slot.
+    subst (λ (m : FinMap nat_cmp (Option (WeakEntry Id))). IsSome (get m slot)) k in
+    let entry : (slot : ℕ) (x : WeakEntry Id) → get t.weak slot ≡ Some (Some x)
+    → get s.weak slot ≡ Some (Some x) = λ slot x.
+    subst (λ (m : FinMap nat_cmp (Option (WeakEntry Id))). get m slot ≡ Some (Some x)) k in
+    record {
+      kinds = λ slot i. subst (λ (m : FinMap nat_cmp BlockUse). get m (slot / ROWS)
+          ≡ Some (handles_of kind.Dependent)) (sym b) (w.kinds slot (there slot i));
+      apart = λ slot i. subst (λ (m : FinMap nat_cmp (Handle Id)). get m slot ≡ None) (sym h)
+          (w.apart slot (there slot i));
+      once = λ i j d e at_i at_j same. w.once i j d e (entry i d at_i) (entry j e at_j) same;
+    }
+
+-- a slot with a handle is none of the weak table's
+pub live_not_weak : (s : State) → HasWeakTable s → (slot : ℕ) (h : Handle Id) → get s.handles slot ≡ Some h
+    → get s.weak slot ≡ None
+live_not_weak s w slot h live = none_from (get s.weak slot) (λ i. none-some h (sym (w.apart slot i) ∙ live))
+
 module _ (n : Numbers) (s : State) (w : IsWellFormed n s) where
+  -- objects, the queue, serials, handles, blocks and the weak table are as they were
+  others_again : (t : State) → t.objects ≡ s.objects → t.queue ≡ s.queue → t.serials ≡ s.serials
+      → t.handles ≡ s.handles → t.blocks ≡ s.blocks → t.weak ≡ s.weak → HasShape n t → HasSoundReferences t
+      → IsWellFormed n t
+  others_again t o q c h b k shape names = record {
+    shape = shape;
+    names = names;
+    objects = objects_again s t o q w.objects;
+    serials = serials_again s t o c w.serials;
+    handles = handles_again n s t h b w.handles;
+    weak = weak_again s t k h b w.weak;
+  }
+
   pub register_keeps : (c d : ℕ) (v : Option Id) → c < n.callers → Names s v
       → IsWellFormed n (with_register s c d v)
-  register_keeps c d v l h = record {
-    shape = shape_again n s _ (length-set s.registers c _) (λ i. rows_keep s.registers c d i v) refl
-        (λ _. refl) refl refl refl w.shape;
-    names = record {
-      fields = w.names.fields;
-      registers = λ i j. cell_cases (Names s) s.registers c d i j v None (λ _ _. h) (w.names.registers i j);
-      statics = w.names.statics;
-      targets = w.names.targets;
-      secondaries = w.names.secondaries;
-      queue = w.names.queue;
-      places = w.names.places;
-    };
-    objects = objects_again s _ refl refl w.objects;
-    serials = serials_again s _ refl refl w.serials;
-    handles = handles_again n s _ refl refl w.handles;
-  }
+  register_keeps c d v l h =
+      others_again _ refl refl refl refl refl refl
+      (shape_again n s _ (length-set s.registers c _) (λ i. rows_keep s.registers c d i v) refl (λ _. refl)
+      refl refl refl w.shape)
+      (record {
+        fields = w.names.fields;
+        registers = λ i j. cell_cases (Names s) s.registers c d i j v None (λ _ _. h) (w.names.registers i j);
+        statics = w.names.statics;
+        targets = w.names.targets;
+        secondaries = w.names.secondaries;
+        queue = w.names.queue;
+        places = w.names.places;
+        keys = w.names.keys;
+        values = w.names.values;
+      })
 
   pub handle_register_keeps : (c d : ℕ) (v : Option Slot) → c < n.callers
       → IsWellFormed n (with_handle_register s c d v)
-  handle_register_keeps c d v l = record {
-    shape = shape_again n s _ refl (λ _. refl) (length-set s.handle_registers c _)
-        (λ i. rows_keep s.handle_registers c d i v) refl refl refl w.shape;
-    names = names_again s _ _ _ _ w.names;
-    objects = objects_again s _ refl refl w.objects;
-    serials = serials_again s _ refl refl w.serials;
-    handles = handles_again n s _ refl refl w.handles;
-  }
+  handle_register_keeps c d v l =
+      others_again _ refl refl refl refl refl refl
+      (shape_again n s _ refl (λ _. refl) (length-set s.handle_registers c _)
+      (λ i. rows_keep s.handle_registers c d i v) refl refl refl w.shape)
+      (names_again s _ _ _ _ w.names)
 
   pub static_keeps : (k : ℕ) (v : Option Id) → Names s v → IsWellFormed n (with_static s k v)
-  static_keeps k v h = record {
-    shape = shape_again n s _ refl (λ _. refl) refl (λ _. refl) (length-set s.statics k v) refl refl w.shape;
-    names = record {
-      fields = w.names.fields;
-      registers = w.names.registers;
-      statics = λ j. set_cases (Names s) s.statics k j v None (λ _. h) (w.names.statics j);
-      targets = w.names.targets;
-      secondaries = w.names.secondaries;
-      queue = w.names.queue;
-      places = w.names.places;
-    };
-    objects = objects_again s _ refl refl w.objects;
-    serials = serials_again s _ refl refl w.serials;
-    handles = handles_again n s _ refl refl w.handles;
-  }
+  static_keeps k v h =
+      others_again _ refl refl refl refl refl refl
+      (shape_again n s _ refl (λ _. refl) refl (λ _. refl) (length-set s.statics k v) refl refl w.shape)
+      (record {
+        fields = w.names.fields;
+        registers = w.names.registers;
+        statics = λ j. set_cases (Names s) s.statics k j v None (λ _. h) (w.names.statics j);
+        targets = w.names.targets;
+        secondaries = w.names.secondaries;
+        queue = w.names.queue;
+        places = w.names.places;
+        keys = w.names.keys;
+        values = w.names.values;
+      })
 
   pub board_keeps : (k : ℕ) (v : Option Slot) → IsWellFormed n (with_board s k v)
-  board_keeps k v = record {
-    shape = shape_again n s _ refl (λ _. refl) refl (λ _. refl) refl (length-set s.board k v) refl w.shape;
-    names = names_again s _ _ _ _ w.names;
-    objects = objects_again s _ refl refl w.objects;
-    serials = serials_again s _ refl refl w.serials;
-    handles = handles_again n s _ refl refl w.handles;
-  }
+  board_keeps k v =
+      others_again _ refl refl refl refl refl refl
+      (shape_again n s _ refl (λ _. refl) refl (λ _. refl) refl (length-set s.board k v) refl w.shape)
+      (names_again s _ _ _ _ w.names)
 
   -- an object, new or replacing one, whose serial its caller has given out
   pub object_keeps : (id : Id) (object : Object Id)
@@ -156,6 +181,8 @@ module _ (n : Numbers) (s : State) (w : IsWellFormed n s) where
           secondaries = λ slot handle e. more _ (w.names.secondaries slot handle e);
           queue = λ x h. more (Some x) (w.names.queue x h);
           places = λ q h. still_some s.objects id.0 object q (w.names.places q h);
+          keys = λ slot x e. more (Some x.key) (w.names.keys slot x e);
+          values = λ slot x e. more x.value (w.names.values slot x e);
         };
         objects = record {
           sizes = insert_all s.objects id.0 (λ q x. length x.fields ≤ FIELDS) object small w.objects.sizes;
@@ -170,6 +197,7 @@ module _ (n : Numbers) (s : State) (w : IsWellFormed n s) where
           limit = w.serials.limit;
         };
         handles = handles_again n s _ refl refl w.handles;
+        weak = weak_again s _ refl refl refl w.weak;
       }
 
   pub serial_keeps : (c v : ℕ) → last_serial s c ≤ v → v < 2 ^ 32 → IsWellFormed n (with_serial s c v)
@@ -185,14 +213,15 @@ module _ (n : Numbers) (s : State) (w : IsWellFormed n s) where
       limit = λ k. set_cases (λ x. x < 2 ^ 32) s.serials c k v 0 (λ _. small) (w.serials.limit k);
     };
     handles = handles_again n s _ refl refl w.handles;
+    weak = weak_again s _ refl refl refl w.weak;
   }
 
-  -- a handle with the extra of its kind, in a block of its kind
-  pub handle_keeps : (slot : Slot) (handle : Handle Id) → Names s handle.target
+  -- a handle with the extra of its kind, in a block of its kind, in a slot that is not the weak table's
+  pub handle_keeps : (slot : Slot) (handle : Handle Id) → get s.weak slot.0 ≡ None → Names s handle.target
       → Names s (secondary_of handle.extra) → use_of s (slot.0 / ROWS) ≡ Some (handles_of handle.kind)
       → FitsKind handle.kind handle.extra → (handle.target ≡ None → secondary_of handle.extra ≡ None)
       → IsWellFormed n (with_handle s slot handle)
-  handle_keeps slot handle target second in_use fits paired = record {
+  handle_keeps slot handle not_weak target second in_use fits paired = record {
     shape = shape_again n s _ refl (λ _. refl) refl (λ _. refl) refl refl refl w.shape;
     names = record {
       fields = w.names.fields;
@@ -203,6 +232,8 @@ module _ (n : Numbers) (s : State) (w : IsWellFormed n s) where
           w.names.secondaries;
       queue = w.names.queue;
       places = w.names.places;
+      keys = w.names.keys;
+      values = w.names.values;
     };
     objects = objects_again s _ refl refl w.objects;
     serials = serials_again s _ refl refl w.serials;
@@ -213,6 +244,13 @@ module _ (n : Numbers) (s : State) (w : IsWellFormed n s) where
       dependents = insert_all s.handles slot.0 (λ _ x. x.target ≡ None → secondary_of x.extra ≡ None) handle
           paired w.handles.dependents;
       blocks = w.handles.blocks;
+    };
+    weak = record {
+      kinds = w.weak.kinds;
+      apart = λ q i. get_beside s.handles slot.0 handle q
+          (λ same. true≢false (sym i ∙ ap (λ k. is_some (get s.weak k)) same ∙ ap is_some not_weak))
+          ∙ w.weak.apart q i;
+      once = w.weak.once;
     };
   }
 
@@ -227,6 +265,8 @@ module _ (n : Numbers) (s : State) (w : IsWellFormed n s) where
       secondaries = remove_all s.handles slot.0 (λ _ x. Names s (secondary_of x.extra)) w.names.secondaries;
       queue = w.names.queue;
       places = w.names.places;
+      keys = w.names.keys;
+      values = w.names.values;
     };
     objects = objects_again s _ refl refl w.objects;
     serials = serials_again s _ refl refl w.serials;
@@ -237,6 +277,11 @@ module _ (n : Numbers) (s : State) (w : IsWellFormed n s) where
       dependents = remove_all s.handles slot.0 (λ _ x. x.target ≡ None → secondary_of x.extra ≡ None)
           w.handles.dependents;
       blocks = w.handles.blocks;
+    };
+    weak = record {
+      kinds = w.weak.kinds;
+      apart = λ q i. remove_cases s.handles slot.0 (λ _ o. o ≡ None) q refl (λ _. w.weak.apart q i);
+      once = w.weak.once;
     };
   }
 
@@ -257,12 +302,20 @@ module _ (n : Numbers) (s : State) (w : IsWellFormed n s) where
       dependents = w.handles.dependents;
       blocks = some_cases s.blocks block (λ q. (1 ≤ q) × (q ≤ n.blocks)) given (low, high) w.handles.blocks;
     };
+    weak = record {
+      kinds = λ slot i. insert_cases s.blocks block
+          (λ q o. use_of s q ≡ Some (handles_of kind.Dependent) → o ≡ Some (handles_of kind.Dependent)) given
+          (slot / ROWS) (λ f. absurd (none-some (handles_of kind.Dependent) (sym unused ∙ f))) (λ _ f. f)
+          (w.weak.kinds slot i);
+      apart = w.weak.apart;
+      once = w.weak.once;
+    };
   }
 
-  -- a block without a handle loses its use
+  -- a block whose slots are all free loses its use
   pub without_use_keeps : (block : ℕ) → ((slot : ℕ) → slot / ROWS ≡ block → get s.handles slot ≡ None)
-      → IsWellFormed n (without_use s block)
-  without_use_keeps block vacant = record {
+      → ((slot : ℕ) → slot / ROWS ≡ block → get s.weak slot ≡ None) → IsWellFormed n (without_use s block)
+  without_use_keeps block vacant not_weak = record {
     shape = shape_again n s _ refl (λ _. refl) refl (λ _. refl) refl refl refl w.shape;
     names = names_again s _ _ _ _ w.names;
     objects = objects_again s _ refl refl w.objects;
@@ -277,6 +330,56 @@ module _ (n : Numbers) (s : State) (w : IsWellFormed n s) where
       dependents = w.handles.dependents;
       blocks = λ q h. remove_cases s.blocks block (λ j o. IsSome o → (1 ≤ j) × (j ≤ n.blocks)) q
           (λ gone. absurd (true≢false (sym gone))) (λ _. w.handles.blocks q) h;
+    };
+    weak = record {
+      kinds = λ slot i. remove_cases s.blocks block
+          (λ q o. (slot / ROWS ≡ q) → use_of s q ≡ Some (handles_of kind.Dependent)
+          → o ≡ Some (handles_of kind.Dependent)) (slot / ROWS)
+          (λ here _. absurd (true≢false (sym i ∙ ap is_some (not_weak slot here)))) (λ _ _ f. f) refl
+          (w.weak.kinds slot i);
+      apart = w.weak.apart;
+      once = w.weak.once;
+    };
+  }
+
+  -- a slot of the weak table, new or not, gets an entry with a key that no other slot has, or becomes idle
+  pub weak_keeps : (slot : Slot) (content : Option (WeakEntry Id))
+      → ((x : WeakEntry Id) → content ≡ Some x → Names s (Some x.key) × Names s x.value)
+      → ((x : WeakEntry Id) → content ≡ Some x → (q : ℕ) (d : WeakEntry Id) → get s.weak q ≡ Some (Some d)
+      → d.key ≡ x.key → q ≡ slot.0)
+      → use_of s (slot.0 / ROWS) ≡ Some (handles_of kind.Dependent) → get s.handles slot.0 ≡ None
+      → IsWellFormed n (with_weak s slot content)
+  weak_keeps slot content named alone in_use vacant = record {
+    shape = shape_again n s _ refl (λ _. refl) refl (λ _. refl) refl refl refl w.shape;
+    names = record {
+      fields = w.names.fields;
+      registers = w.names.registers;
+      statics = w.names.statics;
+      targets = w.names.targets;
+      secondaries = w.names.secondaries;
+      queue = w.names.queue;
+      places = w.names.places;
+      keys = λ q x e. insert_all s.weak slot.0 (λ _ c. (y : WeakEntry Id) → c ≡ Some y → Names s (Some y.key))
+          content (λ y is. (named y is).0) (λ k c f y is. w.names.keys k y (f
+          ∙ ap Some is)) q (Some x) e x refl;
+      values = λ q x e. insert_all s.weak slot.0 (λ _ c. (y : WeakEntry Id) → c ≡ Some y → Names s y.value)
+          content (λ y is. (named y is).1) (λ k c f y is. w.names.values k y (f ∙ ap Some is)) q (Some x) e x
+          refl;
+    };
+    objects = objects_again s _ refl refl w.objects;
+    serials = serials_again s _ refl refl w.serials;
+    handles = handles_again n s _ refl refl w.handles;
+    weak = record {
+      kinds = some_cases s.weak slot.0 (λ q. use_of s (q / ROWS) ≡ Some (handles_of kind.Dependent)) content
+          in_use w.weak.kinds;
+      apart = some_cases s.weak slot.0 (λ q. get s.handles q ≡ None) content vacant w.weak.apart;
+      once = λ i j d e at_i at_j same.
+          ⊎_elim (λ old. ⊎_elim (λ other. w.weak.once i j d e old other same)
+          (λ new. alone e new.1 i d old same
+          ∙ sym new.0) (inserted_from s.weak slot.0 content j (Some e) at_j))
+          (λ new. ⊎_elim (λ other. new.0 ∙ sym (alone d new.1 j e other (sym same)))
+          (λ also. new.0 ∙ sym also.0) (inserted_from s.weak slot.0 content j (Some e) at_j))
+          (inserted_from s.weak slot.0 content i (Some d) at_i);
     };
   }
 
@@ -293,6 +396,8 @@ module _ (n : Numbers) (s : State) (w : IsWellFormed n s) where
       secondaries = w.names.secondaries;
       queue = named;
       places = w.names.places;
+      keys = w.names.keys;
+      values = w.names.values;
     };
     objects = record {
       sizes = w.objects.sizes;
@@ -301,22 +406,22 @@ module _ (n : Numbers) (s : State) (w : IsWellFormed n s) where
     };
     serials = serials_again s _ refl refl w.serials;
     handles = handles_again n s _ refl refl w.handles;
+    weak = weak_again s _ refl refl refl w.weak;
   }
 
   -- an object gets a pinned address
   pub place_keeps : (id : Id) (p : ℕ) → IsSome (get s.objects id.0) → IsWellFormed n (with_place s id p)
-  place_keeps id p there = record {
-    shape = shape_again n s _ refl (λ _. refl) refl (λ _. refl) refl refl refl w.shape;
-    names = record {
-      fields = w.names.fields;
-      registers = w.names.registers;
-      statics = w.names.statics;
-      targets = w.names.targets;
-      secondaries = w.names.secondaries;
-      queue = w.names.queue;
-      places = some_cases s.places id.0 (λ q. IsSome (get s.objects q)) p there w.names.places;
-    };
-    objects = objects_again s _ refl refl w.objects;
-    serials = serials_again s _ refl refl w.serials;
-    handles = handles_again n s _ refl refl w.handles;
-  }
+  place_keeps id p there =
+      others_again _ refl refl refl refl refl refl
+      (shape_again n s _ refl (λ _. refl) refl (λ _. refl) refl refl refl w.shape)
+      (record {
+        fields = w.names.fields;
+        registers = w.names.registers;
+        statics = w.names.statics;
+        targets = w.names.targets;
+        secondaries = w.names.secondaries;
+        queue = w.names.queue;
+        places = some_cases s.places id.0 (λ q. IsSome (get s.objects q)) p there w.names.places;
+        keys = w.names.keys;
+        values = w.names.values;
+      })

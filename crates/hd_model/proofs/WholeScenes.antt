@@ -1,11 +1,13 @@
 -- A well formed state has a whole scene, and what a whole scene says of a state's references.
-use Rattle.hd_model.proofs.Basics.{◌≡◌, ℕ, List, [], length, get_or, Option, Some, None, IsSome, IfSome, refl, sym, ap, ◌∙◌, subst, ⊎_elim, Contains, get, get_or_default, get_or_past, Contains-append_left, Contains-append_right, Contains-append_cases, cases_lt, none-some}
+use Rattle.hd_model.proofs.Basics.{◌≡◌, ℕ, List, [], length, get_or, Option, Some, None, is_some, IsSome, IfSome, refl, sym, ap, ◌∙◌, subst, ⊎_elim, Contains, get, get_or_default, get_or_past, Contains-append_left, Contains-append_right, Contains-append_cases, cases_lt, none-some}
 use Rattle.hd_model.specs.Data.{Id}
-use Rattle.hd_model.specs.State.{Numbers, Object, State, secondary_of, register_of, static_of, field_of}
+use Rattle.hd_model.specs.State.{Numbers, Object, Handle, WeakEntry, weak_handle, State, row_of, secondary_of, register_of, static_of, field_of}
+use Rattle.hd_model.specs.Role.{attaches, role}
 use Rattle.hd_model.specs.Scene.{scene_of, joined, fields_in, IsField, IsWhole}
-use Rattle.hd_model.specs.WellFormed.{HasSoundReferences, IsWellFormed}
+use Rattle.hd_model.specs.WellFormed.{Names, HasSoundReferences, IsWellFormed}
 use Rattle.hd_model.proofs.Members.{not_in_none, member_at, joined_in, joined_from}
 use Rattle.hd_model.proofs.KindExtras.{fits_secondary}
+use Rattle.hd_model.proofs.WeakSlots.{handle_row, weak_row, row_cases, weak_attaches}
 
 -- what holds of each value that an option may have
 pub if_some_from : {A : Type 0} (P : A → Type 0) (o : Option A) → ((x : A) → o ≡ Some x → P x) → IfSome o P
@@ -74,6 +76,39 @@ module _ (s : State) (w : HasSoundReferences s) where
       if_some_at (λ (id : Id). IsSome (get s.objects id.0)) (static_of s k) x (w.statics k) at)
       (Contains-append_cases (joined s.registers) s.statics (Some x) h)
 
+-- what the row of a slot references is an object, and it fits
+module _ (n : Numbers) (s : State) (w : IsWellFormed n s) where
+  entry_names : (slot : ℕ) (c : Option (WeakEntry Id)) → get s.weak slot ≡ Some c
+      → Names s (weak_handle c).target × Names s (secondary_of (weak_handle c).extra)
+  entry_names slot None is = (tt, tt)
+  entry_names slot (Some e) is = (w.names.keys slot e is, w.names.values slot e is)
+
+  row_names : (slot : ℕ) (h : Handle Id) → row_of s slot ≡ Some h
+      → Names s h.target × Names s (secondary_of h.extra)
+  row_names slot h e =
+      ⊎_elim (λ is. (w.names.targets slot h is, w.names.secondaries slot h is))
+      (λ weak. subst (λ (g : Handle Id). Names s g.target × Names s (secondary_of g.extra)) weak.1.1.1
+      (entry_names slot weak.1.0 weak.1.1.0)) (row_cases s slot h e)
+
+  entry_paired : (c : Option (WeakEntry Id)) → (weak_handle c).target ≡ None
+      → secondary_of (weak_handle c).extra ≡ None
+  entry_paired None none = refl
+  entry_paired (Some e) none = absurd (none-some e.key (sym none))
+
+  row_paired : (slot : ℕ) (h : Handle Id) → row_of s slot ≡ Some h → h.target ≡ None
+      → secondary_of h.extra ≡ None
+  row_paired slot h e =
+      ⊎_elim (λ is. w.handles.dependents slot h is)
+      (λ weak. subst (λ (g : Handle Id). g.target ≡ None → secondary_of g.extra ≡ None) weak.1.1.1
+      (entry_paired weak.1.0)) (row_cases s slot h e)
+
+  row_fits : (slot : ℕ) (h : Handle Id) (x : Id) → row_of s slot ≡ Some h → secondary_of h.extra ≡ Some x
+      → role h ≡ attaches
+  row_fits slot h x e second =
+      ⊎_elim (λ is. fits_secondary h.kind h.extra x (w.handles.extras slot h is) second)
+      (λ weak. subst (λ (g : Handle Id). role g ≡ attaches) weak.1.1.1 (weak_attaches weak.1.0))
+      (row_cases s slot h e)
+
 -- a well formed state has a whole scene
 pub whole_scene : (n : Numbers) (s : State) → IsWellFormed n s → IsWhole (scene_of s)
 whole_scene n s w = record {
@@ -81,18 +116,19 @@ whole_scene n s w = record {
   named = λ x h. named_object s w.names x h;
   queue = λ x h. w.names.queue x h;
   targets = λ slot h x is_stored e. if_some_at (λ (id : Id). IsSome (get s.objects id.0)) h.target x
-      (w.names.targets slot h is_stored) e;
+      (row_names n s w slot h is_stored).0 e;
   secondaries = λ slot h x is_stored e.
       if_some_at (λ (id : Id). IsSome (get s.objects id.0)) (secondary_of h.extra) x
-      (w.names.secondaries slot h is_stored) e;
-  paired = λ slot h is_stored none. w.handles.dependents slot h is_stored none;
-  fits = λ slot h x is_stored e. fits_secondary h.kind h.extra x (w.handles.extras slot h is_stored) e;
+      (row_names n s w slot h is_stored).1 e;
+  paired = λ slot h is_stored none. row_paired n s w slot h is_stored none;
+  fits = λ slot h x is_stored e. row_fits n s w slot h x is_stored e;
 }
 
 -- a state with a whole scene, whose pinned addresses are those of objects, references objects
 pub names_of_whole : (s : State) → IsWhole (scene_of s)
+    → ((slot : ℕ) → IsSome (get s.weak slot) → get s.handles slot ≡ None)
     → ((id : ℕ) → IsSome (get s.places id) → IsSome (get s.objects id)) → HasSoundReferences s
-names_of_whole s w places = record {
+names_of_whole s w apart places = record {
   fields = λ id object is_stored i.
       if_some_from (λ (x : Id). IsSome (get s.objects x.0)) (field_of object i)
       (λ y e. w.fields (record { 0 = id }) y (field_in s id object i y is_stored e));
@@ -102,10 +138,15 @@ names_of_whole s w places = record {
   statics = λ k. if_some_from (λ (x : Id). IsSome (get s.objects x.0)) (static_of s k)
       (λ x e. w.named x (static_named s k x e));
   targets = λ slot h is_stored. if_some_from (λ (x : Id). IsSome (get s.objects x.0)) h.target
-      (λ x e. w.targets slot h x is_stored e);
+      (λ x e. w.targets slot h x (handle_row s slot h is_stored) e);
   secondaries = λ slot h is_stored.
       if_some_from (λ (x : Id). IsSome (get s.objects x.0)) (secondary_of h.extra)
-      (λ x e. w.secondaries slot h x is_stored e);
+      (λ x e. w.secondaries slot h x (handle_row s slot h is_stored) e);
   queue = λ id h. w.queue id h;
   places = places;
+  keys = λ slot c is. w.targets slot (weak_handle (Some c)) c.key
+      (weak_row s slot (Some c) (apart slot (ap is_some is)) is) refl;
+  values = λ slot c is. if_some_from (λ (x : Id). IsSome (get s.objects x.0)) c.value
+      (λ x e. w.secondaries slot (weak_handle (Some c)) x
+      (weak_row s slot (Some c) (apart slot (ap is_some is)) is) e);
 }

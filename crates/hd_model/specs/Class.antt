@@ -34,6 +34,9 @@ class_of (cmd.AddrOf s) = class.AnswersPlace s
 class_of (cmd.HUp s) = class.Plain
 class_of (cmd.HDown s) = class.Plain
 class_of (cmd.Trim kind) = class.GivesBack kind
+class_of (cmd.CAdd k v) = class.AddsEntry k v
+class_of (cmd.CFind d k) = class.LooksUp k
+class_of (cmd.CRemove k) = class.LooksUp k
 
 -- whether a command of the class may take memory: an object is made, or a collection moves objects
 abbrev pub class_takes_memory : Class → Bool
@@ -45,6 +48,8 @@ class_takes_memory class.Frees = false
 class_takes_memory (class.GivesBack kind) = false
 class_takes_memory (class.Collects n) = true
 class_takes_memory (class.AnswersPlace h) = false
+class_takes_memory (class.AddsEntry k v) = false
+class_takes_memory (class.LooksUp k) = false
 class_takes_memory class.Plain = false
 
 -- whether a command of the class is a collection
@@ -57,4 +62,6 @@ class_collects class.Frees = false
 class_collects (class.GivesBack kind) = false
 class_collects (class.Collects n) = true
 class_collects (class.AnswersPlace h) = false
+class_collects (class.AddsEntry k v) = false
+class_collects (class.LooksUp k) = false
 class_collects class.Plain = false

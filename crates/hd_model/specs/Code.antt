@@ -14,7 +14,7 @@ use Rattle.hd_model.specs.contracts.data.Slot as slot_contract
 use Rattle.hd_model.specs.contracts.data.Kind as kind_contract
 use Rattle.hd_model.specs.contracts.data.Strength as strength_contract
 use Rattle.hd_model.specs.contracts.data.Entry as entry_contract
-use Rattle.hd_model.specs.State.{Numbers, Object, Extra, nothing, strength, secondary, count, Handle, BlockUse, handles_of, extra_data, State}
+use Rattle.hd_model.specs.State.{Numbers, Object, Extra, nothing, strength, secondary, count, Handle, WeakEntry, BlockUse, handles_of, extra_data, State}
 use Rattle.hd_model.specs.Heap.{Placed, Region, Heap, Basis}
 use Rattle.hd_model.specs.Table.{Table, Queue}
 
@@ -75,6 +75,10 @@ handle_code {N} c =
     (λ h. (h.kind, (h.target, h.extra)))
     (λ p. record { kind = p.0; target = p.1.0; extra = p.1.1 }) (λ _. refl)
 
+abbrev pub weak_code : Coded (WeakEntry Id)
+weak_code = code_by (Id × Option Id) (coded× id_code (coded_option id_code)) (λ e. (e.key, e.value))
+    (λ p. record { key = p.0; value = p.1 }) (λ _. refl)
+
 abbrev use_parts : BlockUse → Kind ⊎ Unit {0}
 use_parts (handles_of kind) = inl kind
 use_parts extra_data = inr tt
@@ -90,22 +94,23 @@ use_again extra_data = refl
 abbrev pub use_code : Coded BlockUse
 use_code = code_by (Kind ⊎ Unit {0}) (coded⊎ kind_code coded_unit) use_parts use_from use_again
 
--- the parts of a state, two maps and two lists of registers first
+-- the parts of a state, three maps and two lists of registers first
 abbrev Parts : Type 0
 Parts =
-    FinMap nat_cmp (Object Id) × (FinMap nat_cmp (Handle Id)
+    FinMap nat_cmp (Object Id) × (FinMap nat_cmp (Handle Id) × (FinMap nat_cmp (Option (WeakEntry Id))
     × (List (List (Option Id)) × (List (List (Option Slot)) × (List (Option Id)
-    × (List (Option Slot) × (List Id × (FinMap nat_cmp ℕ × (FinMap nat_cmp BlockUse × List ℕ))))))))
+    × (List (Option Slot) × (List Id × (FinMap nat_cmp ℕ × (FinMap nat_cmp BlockUse × List ℕ)))))))))
 
 abbrev parts_code : Coded Parts
 parts_code =
     coded× (map.code coded_ℕ (object_code id_code))
     (coded× (map.code coded_ℕ (handle_code id_code))
+    (coded× (map.code coded_ℕ (coded_option weak_code))
     (coded× (coded_list (coded_list (coded_option id_code)))
     (coded× (coded_list (coded_list (coded_option slot_code)))
     (coded× (coded_list (coded_option id_code)) (coded× (coded_list (coded_option slot_code))
     (coded× (coded_list id_code) (coded× (map.code coded_ℕ coded_ℕ)
-    (coded× (map.code coded_ℕ use_code) (coded_list coded_ℕ)))))))))
+    (coded× (map.code coded_ℕ use_code) (coded_list coded_ℕ))))))))))
 
 abbrev pub state_code : Coded State
 state_code =
@@ -113,18 +118,19 @@ state_code =
     (λ s.
     let last : List Id × (FinMap nat_cmp ℕ × (FinMap nat_cmp BlockUse × List ℕ)) =
     (s.queue, (s.places, (s.blocks, s.serials))) in
-    (s.objects, (s.handles, (s.registers, (s.handle_registers, (s.statics, (s.board, last)))))))
+    (s.objects, (s.handles, (s.weak, (s.registers, (s.handle_registers, (s.statics, (s.board, last))))))))
     (λ p. record {
       objects = p.0;
       handles = p.1.0;
-      registers = p.1.1.0;
-      handle_registers = p.1.1.1.0;
-      statics = p.1.1.1.1.0;
-      board = p.1.1.1.1.1.0;
-      queue = p.1.1.1.1.1.1.0;
-      places = p.1.1.1.1.1.1.1.0;
-      blocks = p.1.1.1.1.1.1.1.1.0;
-      serials = p.1.1.1.1.1.1.1.1.1;
+      weak = p.1.1.0;
+      registers = p.1.1.1.0;
+      handle_registers = p.1.1.1.1.0;
+      statics = p.1.1.1.1.1.0;
+      board = p.1.1.1.1.1.1.0;
+      queue = p.1.1.1.1.1.1.1.0;
+      places = p.1.1.1.1.1.1.1.1.0;
+      blocks = p.1.1.1.1.1.1.1.1.1.0;
+      serials = p.1.1.1.1.1.1.1.1.1.1;
     })
     (λ _. refl)
 

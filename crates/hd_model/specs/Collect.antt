@@ -4,7 +4,7 @@
 use Rattle.std.specs.Prelude.{◌≡◌, ℕ, ◌<◌, ◌&&◌, not, cond, Bool, true, false, List, ◌++◌, Option, Some, None, option_map, Contains, AllPairs, Decides}
 use Rattle.std.specs.FinMap.{get}
 use Rattle.hd_model.specs.Data.{Id, Report}
-use Rattle.hd_model.specs.State.{Object, secondary, Handle, State}
+use Rattle.hd_model.specs.State.{Object, secondary, Handle, WeakEntry, State}
 use Rattle.hd_model.specs.Role.{Role, holds, short, long, attaches, role}
 use Rattle.hd_model.specs.Counting.{Counts}
 use Rattle.hd_model.specs.Scene.{Scene, scene_of, is_object, IsCondemned}
@@ -72,55 +72,69 @@ pub record IsRemoved {N : Type 0} (s : Scene N) (kept : N → Bool) (x : N) : Ty
   pub object : is_object s.object x ≡ true
   pub lost : kept x ≡ false
 
--- the numbers of a report (this project's own): condemned objects that stay, removed objects, handles that
--- lose their target by their role, and resurrected objects
-pub record IsReport {N : Type 0} (n : ℕ) (s : Scene N) (in_reach in_resurrected in_kept : N → Bool)
-    (report : Report) : Type 0 where
-  pub kept : Counts (IsSurviving n s in_kept) report.kept
-  pub removed : Counts (IsRemoved s in_kept) report.removed
-  pub short : Counts (LosesAs s in_reach in_kept short) report.short
-  pub long : Counts (LosesAs s in_reach in_kept long) report.long
-  pub dep : Counts (LosesAs s in_reach in_kept attaches) report.dep
-  pub resurrected : Counts (λ x. in_resurrected x ≡ true) report.revived
-
--- what decides a collection of n of s: what is reached, resurrected and kept, the resurrected objects in the
--- order of `rank`, the number of their identity, and the report
-pub record GoesBy {N : Type 0} (rank : N → ℕ) (n : ℕ) (s : Scene N) (reach resurrected kept : N → Bool)
-    (joins : List N) (report : Report) : Type 0 where
-  pub reach_is : (x : N) → Decides (reach x) (IsReached s n x)
-  pub resurrected_is : (x : N) → Decides (resurrected x) (IsToBeFinalized s n x)
-  pub kept_is : (x : N) → Decides (kept x) (IsKept s n x)
-  pub joins_are : (x : N) → Decides (resurrected x) (Contains joins x)
-  pub rising : AllPairs (λ x y. rank x < rank y) joins
-  pub report_is : IsReport n s reach resurrected kept report
-
--- the scene after it: what is kept stays, handles are cleared, what registers and statics reference is as it
--- was, and what is resurrected is appended to the queue
-abbrev pub left_by : {N : Type 0} → ℕ → (reach resurrected kept : N → Bool) → List N → Scene N → Scene N
-left_by n reach resurrected kept joins s = record {
-  object = λ x. cond (kept x) (option_map (survivor n (resurrected x)) (s.object x)) None;
-  handle = λ slot. option_map (cleared reach kept) (s.handle slot);
-  named = s.named;
-  queue = s.queue ++ joins;
-}
-
--- a collection of n leads from scene s to scene t
-pub record Collects {N : Type 0} (rank : N → ℕ) (n : ℕ) (s t : Scene N) (report : Report) : Type 0 where
+-- what a collection decides: what is reached, resurrected and kept, and what joins the queue, in its order
+pub record Decision (N : Type 0) : Type 0 where
   pub reach : N → Bool
   pub resurrected : N → Bool
   pub kept : N → Bool
   pub joins : List N
-  pub goes_by : GoesBy rank n s reach resurrected kept joins report
+
+-- the numbers of a report (this project's own): condemned objects that stay, removed objects, handles that
+-- lose their target by their role, entries of the weak table among the dependent ones, and resurrected
+-- objects
+pub record IsReport {N : Type 0} (n : ℕ) (s : Scene N) (d : Decision N) (report : Report) : Type 0 where
+  pub kept : Counts (IsSurviving n s d.kept) report.kept
+  pub removed : Counts (IsRemoved s d.kept) report.removed
+  pub short : Counts (LosesAs s d.reach d.kept short) report.short
+  pub long : Counts (LosesAs s d.reach d.kept long) report.long
+  pub dep : Counts (LosesAs s d.reach d.kept attaches) report.dep
+  pub resurrected : Counts (λ x. d.resurrected x ≡ true) report.revived
+
+-- a collection of n of s decides so, with the resurrected objects in the order of `rank`, the number of their
+-- identity, and reports it
+pub record GoesBy {N : Type 0} (rank : N → ℕ) (n : ℕ) (s : Scene N) (d : Decision N) (report : Report)
+    : Type 0 where
+  pub reach_is : (x : N) → Decides (d.reach x) (IsReached s n x)
+  pub resurrected_is : (x : N) → Decides (d.resurrected x) (IsToBeFinalized s n x)
+  pub kept_is : (x : N) → Decides (d.kept x) (IsKept s n x)
+  pub joins_are : (x : N) → Decides (d.resurrected x) (Contains d.joins x)
+  pub rising : AllPairs (λ x y. rank x < rank y) d.joins
+  pub report_is : IsReport n s d report
+
+-- the scene after it: what is kept stays, handles are cleared, what registers and statics reference is as it
+-- was, and what is resurrected is appended to the queue
+abbrev pub left_by : {N : Type 0} → ℕ → Decision N → Scene N → Scene N
+left_by n d s = record {
+  object = λ x. cond (d.kept x) (option_map (survivor n (d.resurrected x)) (s.object x)) None;
+  handle = λ slot. option_map (cleared d.reach d.kept) (s.handle slot);
+  named = s.named;
+  queue = s.queue ++ d.joins;
+}
+
+-- a collection of n leads from scene s to scene t
+pub record Collects {N : Type 0} (rank : N → ℕ) (n : ℕ) (s t : Scene N) (report : Report) : Type 0 where
+  pub decision : Decision N
+  pub open decision use *
+  pub goes_by : GoesBy rank n s decision report
   pub open goes_by use *
-  pub objects : (x : N) → t.object x ≡ (left_by n reach resurrected kept joins s).object x
-  pub handles : (slot : ℕ) → t.handle slot ≡ (left_by n reach resurrected kept joins s).handle slot
+  pub objects : (x : N) → t.object x ≡ (left_by n decision s).object x
+  pub handles : (slot : ℕ) → t.handle slot ≡ (left_by n decision s).handle slot
   pub named : t.named ≡ s.named
   pub queue : t.queue ≡ s.queue ++ joins
 
--- `collect n` leads from state s to state t: exactly the addresses of pinned objects stay, and all that a
--- scene does not have is as it was
+-- an entry of the weak table leaves it where its key is not kept; its slot stays the table's and is idle
+-- (ConditionalWeakTable: an entry lives as long as its key)
+abbrev pub swept : {N : Type 0} → (kept : N → Bool) → Option (WeakEntry N) → Option (WeakEntry N)
+swept kept None = None
+swept kept (Some e) = cond (kept e.key) (Some e) None
+
+-- `collect n` leads from state s to state t: the slots of handles and of the weak table stay what they are,
+-- exactly the addresses of pinned objects stay, and all that a scene does not have is as it was
 pub record CollectsState (n : ℕ) (s t : State) (report : Report) : Type 0 where
   pub scene : Collects (λ (x : Id). x.0) n (scene_of s) (scene_of t) report
+  pub handles : (slot : ℕ) → get t.handles slot ≡ option_map (cleared scene.reach scene.kept)
+      (get s.handles slot)
+  pub weak : (slot : ℕ) → get t.weak slot ≡ option_map (swept scene.kept) (get s.weak slot)
   pub places : (x : ℕ) → get t.places x ≡ cond (is_pinned s.handles x) (get s.places x) None
   pub registers : t.registers ≡ s.registers
   pub statics : t.statics ≡ s.statics

@@ -5,7 +5,7 @@ use Rattle.std.specs.FinMap.{get, len}
 use Rattle.hd_model.specs.Data.{Id, Addr, Entry, Report, Slot}
 use Rattle.hd_model.specs.declared.data.Kind.TheVariants as kind
 use Rattle.hd_model.specs.declared.limits.TheConstants.{OLDEST}
-use Rattle.hd_model.specs.State.{Numbers, Object, Handle, secondary, State, secondary_of, register_of, static_of, without_handle}
+use Rattle.hd_model.specs.State.{Numbers, Object, Handle, secondary, State, secondary_of, register_of, static_of, row_of, without_handle}
 use Rattle.hd_model.specs.Role.{Role, short, long, attaches, role}
 use Rattle.hd_model.specs.Scene.{Objects, Rows, Scene, scene_of, is_object, generation_at, IsCondemned, IsWhole, IsReading}
 use Rattle.hd_model.specs.Reach.{IsReached, IsToBeFinalized, IsKept}
@@ -53,14 +53,15 @@ OlderObjectsStay =
     (m : Numbers) (n : ℕ) (s t : State) (r : Report) (id : ℕ) (o : Object Id) → Collected m n s t r
     → get s.objects id ≡ Some o → n < o.generation → get t.objects id ≡ Some o
 
--- a handle of a role whose target is null after the collection and was not before
+-- a handle of a role whose target is null after the collection and was not before; an entry that leaves the
+-- weak table counts as a dependent one
 pub record LosesTarget (s t : State) (wanted : Role) (slot : ℕ) : Type 0 where
   pub old : Handle Id
-  pub was_stored : get s.handles slot ≡ Some old
+  pub was_stored : row_of s slot ≡ Some old
   pub role_is : role old ≡ wanted
   pub had : IsSome old.target
   pub new : Handle Id
-  pub is_stored : get t.handles slot ≡ Some new
+  pub is_stored : row_of t slot ≡ Some new
   pub lost : new.target ≡ None
 
 -- a condemned object that stays, and an object that is removed
@@ -94,6 +95,7 @@ pub record IsIdle (t u : State) (q : Report) : Type 0 where
   pub dep : q.dep ≡ 0
   pub resurrected : q.revived ≡ 0
   pub handles : u.handles ≡ t.handles
+  pub weak : u.weak ≡ t.weak
   pub queue : u.queue ≡ t.queue
 
 -- of two collections of the same n, one right after the other, the second is idle
@@ -300,7 +302,7 @@ SecondariesFollowTargets =
 -- a dependent handle never brings its target into use
 abbrev pub DependentsUseNoTarget : Type 0
 DependentsUseNoTarget =
-    (n : ℕ) (s : State) (slot : Slot) (x : Id) → IsDependent s slot x
+    (m : Numbers) (n : ℕ) (s : State) (slot : Slot) (x : Id) → IsWellFormed m s → IsDependent s slot x
     → IsInUse n s x ↔ IsInUse n (without_handle s slot) x
 
 -- and never keeps it: the target stays exactly where it stays without the handle

@@ -1,8 +1,9 @@
 -- Two states in which the premises of each law of collections hold.
-use Rattle.std.specs.Prelude.{◌≡◌, ℕ, Bool, true, false, List, [], ◌∷◌, Option, Some}
+use Rattle.std.specs.Prelude.{◌≡◌, ℕ, Bool, true, false, List, [], ◌∷◌, Option, Some, None}
+use Rattle.std.specs.FinMap.{get}
 use Rattle.hd_model.specs.Data.{Id, Slot, Kind, Report}
 use Rattle.hd_model.specs.declared.data.Kind.TheVariants as kind
-use Rattle.hd_model.specs.State.{Numbers, Object, nothing, secondary, Handle, handles_of, State, start_of, with_register, with_object, with_handle, with_use, with_serial, without_handle}
+use Rattle.hd_model.specs.State.{Numbers, Object, nothing, secondary, Handle, handles_of, State, start_of, with_register, with_object, with_handle, with_use, with_serial, without_handle, WeakEntry, with_weak}
 use Rattle.hd_model.specs.Scene.{scene_of}
 use Rattle.hd_model.specs.Ages.{is_due, HasSoundAges}
 use Rattle.hd_model.specs.Collect.{CollectsState}
@@ -68,6 +69,13 @@ busy =
 abbrev pub ages_of_busy : List ℕ
 ages_of_busy = 0 ∷ 1 ∷ []
 
+-- the same state with an entry of the weak table, which attaches 5 to 1
+abbrev pub entry_of_one : WeakEntry Id
+entry_of_one = record { key = id_of 1; value = Some (id_of 5) }
+
+abbrev pub entered : State
+entered = with_weak busy (slot_of 193) (Some entry_of_one)
+
 -- what the laws of collections ask for is met in these states: in one for a collection of 1, and in the other
 -- for one of 0
 pub record PremisesAreMet : Type 0 where
@@ -85,6 +93,10 @@ pub record PremisesAreMet : Type 0 where
   pub none_resurrected : (t : State) (r : Report) → CollectsState 1 calm t r → r.revived ≡ 0
   pub dependent : IsDependent busy (slot_of 192) (id_of 1)
   pub without : HasCollection 0 (without_handle busy (slot_of 192))
+  pub entered_is : IsWellFormed few entered
+  pub entry : get entered.weak 193 ≡ Some (Some entry_of_one)
+  pub after_entered : HasCollection 0 entered
+  pub taken_out : HasCollection 0 (with_weak entered (slot_of 193) None)
   pub ages : HasSoundAges (scene_of busy).object (scene_of busy).handle ages_of_busy
   pub not_due : is_due ages_of_busy 0 80 ≡ false
   pub due : is_due ages_of_busy 0 64 ≡ true

@@ -1,15 +1,17 @@
 -- What each command returns, and the state after it. These follow .NET's GCHandle (Alloc, Target, Free),
 -- DependentHandle, GC (GetGeneration, SuppressFinalize, ReRegisterForFinalize) and plain loads and stores of
 -- fields, statics and locals; texts, refusals and their order are this project's own.
-use Rattle.std.specs.Prelude.{ℕ, ◌+◌, ◌-◌, ◌==◌, ◌&&◌, Bool, nat_lt, if◌then◌else◌, List, [], ◌∷◌, replicate, length, slice_set, Option, Some, None, is_some, option_and_then}
+use Rattle.std.specs.Prelude.{ℕ, ◌+◌, ◌-◌, ◌==◌, ◌&&◌, Bool, true, false, nat_lt, if◌then◌else◌, List, [], ◌∷◌, replicate, length, slice_set, Option, Some, None, is_some, option_and_then, option_map}
 use Rattle.std.specs.Option.{option_map_or}
+use Rattle.std.specs.List.{find}
+use Rattle.std.specs.FinMap.{entries, get}
 use Rattle.hd_model.specs.Data.{Id, Slot, Kind, Strength, Make, Refusal, Reply}
 use Rattle.hd_model.specs.declared.data.Kind.TheVariants as kind
 use Rattle.hd_model.specs.declared.data.Make.TheVariants as make
 use Rattle.hd_model.specs.declared.data.Refusal.TheVariants as refusal
 use Rattle.hd_model.specs.declared.data.Reply.TheVariants as reply
 use Rattle.hd_model.specs.Kinds.{kind_of, is_kind}
-use Rattle.hd_model.specs.State.{Numbers, Object, Extra, nothing, strength, secondary, count, Handle, State, secondary_of, count_of, without_secondary, register_of, handle_register_of, static_of, board_of, last_serial, object_by_id, field_of, handle_at, total_size, identity_of, with_register, with_handle_register, with_static, with_board, with_object, with_handle, without_handle, with_queue, with_place, with_serial}
+use Rattle.hd_model.specs.State.{Numbers, Object, Extra, nothing, strength, secondary, count, Handle, WeakEntry, State, secondary_of, count_of, without_secondary, register_of, handle_register_of, static_of, board_of, last_serial, object_by_id, field_of, handle_at, with_weak, total_size, identity_of, with_register, with_handle_register, with_static, with_board, with_object, with_handle, without_handle, with_queue, with_place, with_serial}
 use Rattle.hd_model.specs.Role.{pins}
 
 -- the outcome of a command that the state decides: its reply, the slot that it gives or frees, and the state
@@ -228,3 +230,73 @@ made_extra s caller make t = extra_by (register_of s caller) make (register_of s
 abbrev pub made_handle : State → ℕ → Make → ℕ → Handle Id
 made_handle s caller make t =
     record { kind = kind_of make; target = register_of s caller t; extra = made_extra s caller make t }
+
+-- whether a slot of the weak table has an entry with a key, and whether it is idle
+abbrev pub has_key : Id → Option (WeakEntry Id) → Bool
+has_key key None = false
+has_key key (Some e) = e.key.0 == key.0
+
+abbrev pub is_idle : Option (WeakEntry Id) → Bool
+is_idle None = true
+is_idle (Some e) = false
+
+-- the least slot of the weak table whose content passes a test
+abbrev pub weak_slot_where : (Option (WeakEntry Id) → Bool) → State → Option Slot
+weak_slot_where test s = option_map (λ p. record { 0 = p.0 }) (find (λ p. test p.1) (entries s.weak))
+
+-- the slot with the entry of a key, and the least idle slot
+abbrev pub slot_of_key : State → Id → Option Slot
+slot_of_key s key = weak_slot_where (has_key key) s
+
+abbrev pub idle_slot : State → Option Slot
+idle_slot s = weak_slot_where is_idle s
+
+-- the value of the entry in a slot of the weak table, or null where it is idle
+abbrev pub entry_value : Option (WeakEntry Id) → Option Id
+entry_value None = None
+entry_value (Some e) = e.value
+
+abbrev pub value_at : State → Slot → Option Id
+value_at s slot = option_and_then entry_value (get s.weak slot.0)
+
+-- what a `cadd` meets: it is refused, or it adds an entry with a key, in an idle slot of the weak table, or
+-- in one that the table has yet to get
+pub data Adding : Type 0 where
+  is_refused : Refusal → Adding
+  in_idle : Slot → Id → Adding
+  in_new : Id → Adding
+
+abbrev pub adding_key : State → Id → Adding
+adding_key s key =
+    option_map_or (λ _. is_refused refusal.Present)
+    (slot_of_key s key) (option_map_or (λ slot. in_idle slot key) (idle_slot s) (in_new key))
+
+-- `cadd rK rV`: refused where rK is null, and where the table has an entry with this key
+-- (ConditionalWeakTable.Add throws for a null key and for a key that is present)
+abbrev pub adding_of : State → ℕ → ℕ → Adding
+adding_of s caller k = option_map_or (adding_key s) (register_of s caller k) (is_refused refusal.Null)
+
+-- an entry of a key with what rV references as its value, in a slot
+abbrev pub with_entry : State → State → ℕ → ℕ → Slot → Id → State
+with_entry room s caller v slot key =
+    with_weak room slot (Some (record { key = key; value = register_of s caller v }))
+
+-- `cadd` in an idle slot
+abbrev pub add_entry : State → ℕ → ℕ → Slot → Id → Outcome
+add_entry s caller v slot key =
+    record { reply = reply.Done; slot = Some slot; after = with_entry s s caller v slot key }
+
+-- `cfind rD rK`: rD gets the value of the entry of rK, and is null where there is none
+-- (ConditionalWeakTable.TryGetValue)
+abbrev pub find_entry : State → ℕ → ℕ → ℕ → Outcome
+find_entry s caller d k =
+    on_object s caller k (λ key.
+    option_map_or (λ slot. answers (loaded (value_at s slot)) (with_register s caller d (value_at s slot)))
+    (slot_of_key s key) (answers reply.Absent (with_register s caller d None)))
+
+-- `cremove rK`: the entry of rK leaves the table, and its slot is idle (ConditionalWeakTable.Remove)
+abbrev pub remove_entry : State → ℕ → ℕ → Outcome
+remove_entry s caller k =
+    on_object s caller k
+    (λ key. option_map_or (λ slot. answers reply.Done (with_weak s slot None)) (slot_of_key s key)
+    (answers reply.Absent s))

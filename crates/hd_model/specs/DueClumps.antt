@@ -4,15 +4,15 @@ use Rattle.std.specs.Prelude.{◌≡◌, ◌↔◌, ℕ, ◌⊎◌, true, false,
 use Rattle.std.specs.FinMap.{get}
 use Rattle.hd_model.specs.Data.{Id}
 use Rattle.hd_model.specs.declared.data.Kind.TheVariants as kind
-use Rattle.hd_model.specs.State.{Object, Handle, State, secondary_of, field_of, register_of, static_of}
+use Rattle.hd_model.specs.State.{Object, Handle, State, secondary_of, field_of, register_of, static_of, row_of}
 use Rattle.hd_model.specs.Role.{holds, role}
 use Rattle.hd_model.specs.Scene.{scene_of, IsCondemned}
 use Rattle.hd_model.specs.Ages.{is_due}
 use Rattle.hd_model.specs.InUse.{IsOlder, IsLedTo, IsInUse, IsResurrected}
 
--- a live handle in a clump that is due
+-- a live handle in a clump that is due, or what the weak table attaches by a slot of it
 pub record IsDueHandle (ages : List ℕ) (n : ℕ) (s : State) (slot : ℕ) (h : Handle Id) : Type 0 where
-  pub is_stored : get s.handles slot ≡ Some h
+  pub is_stored : row_of s slot ≡ Some h
   pub due : is_due ages n slot ≡ true
 
 -- where marking begins: what registers, statics and the queue reference, what a due handle holds, what a
@@ -38,7 +38,8 @@ pub data IsMarked (ages : List ℕ) (n : ℕ) (s : State) (Start : Id → Type 0
       → secondary_of h.extra ≡ Some y → IsCondemned (scene_of s).object n y → IsMarked ages n s Start y
 
 -- of the condemned objects, exactly those in use are marked from these roots, and exactly those that are kept
--- are marked from these roots and what is resurrected; each handle that is not due stays as it was
+-- are marked from these roots and what is resurrected; each handle that is not due, and each slot of the weak
+-- table that is not, stays as it was
 pub record HidesNothing (ages : List ℕ) (n : ℕ) (s t : State) : Type 0 where
   pub used : (x : Id) → IsCondemned (scene_of s).object n x
       → IsInUse n s x ↔ IsMarked ages n s (IsDueRoot ages n s) x
@@ -46,3 +47,4 @@ pub record HidesNothing (ages : List ℕ) (n : ℕ) (s t : State) : Type 0 where
       → (IsInUse n s x ⊎ IsLedTo s (IsResurrected n s) x)
       ↔ IsMarked ages n s (λ y. IsDueRoot ages n s y ⊎ IsResurrected n s y) x
   pub handles : (slot : ℕ) → is_due ages n slot ≡ false → get t.handles slot ≡ get s.handles slot
+  pub weak : (slot : ℕ) → is_due ages n slot ≡ false → get t.weak slot ≡ get s.weak slot

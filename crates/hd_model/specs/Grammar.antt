@@ -131,6 +131,7 @@ two_words word a = look_up word (
     ∷ (codes "hup", one cmd.HUp (handle_register_in a))
     ∷ (codes "hdown", one cmd.HDown (handle_register_in a))
     ∷ (codes "trim", one cmd.Trim (trimmed_kind_of a))
+    ∷ (codes "cremove", one cmd.CRemove (object_register_in a))
     ∷ [])
 
 -- a command of three words on objects
@@ -141,6 +142,8 @@ three_on_objects word a b = look_up word (
     ∷ (codes "copy", two cmd.Copy (object_register_in a) (object_register_in b))
     ∷ (codes "sput", two cmd.SPut (number_of (REGISTERS - 1) a) (object_register_in b))
     ∷ (codes "sget", two cmd.SGet (object_register_in a) (number_of (REGISTERS - 1) b))
+    ∷ (codes "cadd", two cmd.CAdd (object_register_in a) (object_register_in b))
+    ∷ (codes "cfind", two cmd.CFind (object_register_in a) (object_register_in b))
     ∷ [])
 
 -- a command of three words on handles

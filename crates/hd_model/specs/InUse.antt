@@ -3,7 +3,7 @@ use Rattle.std.specs.Prelude.{◌≡◌, ℕ, ◌<◌, ◌≤◌, ◌⊎◌, tru
 use Rattle.std.specs.FinMap.{get}
 use Rattle.hd_model.specs.Data.{Id}
 use Rattle.hd_model.specs.declared.data.Kind.TheVariants as kind
-use Rattle.hd_model.specs.State.{Object, Handle, State, secondary_of, field_of, register_of, static_of}
+use Rattle.hd_model.specs.State.{Object, Handle, State, secondary_of, field_of, register_of, static_of, row_of}
 use Rattle.hd_model.specs.Role.{holds, role}
 
 -- what keeps an object by itself: a register or static that references it, the queue, or a handle that holds
@@ -12,7 +12,7 @@ pub data IsUsed (s : State) (x : Id) : Type 0 where
   in_register : (c d : ℕ) → register_of s c d ≡ Some x → IsUsed s x
   in_static : (k : ℕ) → static_of s k ≡ Some x → IsUsed s x
   in_queue : Contains s.queue x → IsUsed s x
-  by_handle : (slot : ℕ) (h : Handle Id) → get s.handles slot ≡ Some h → role h ≡ holds → h.target ≡ Some x
+  by_handle : (slot : ℕ) (h : Handle Id) → row_of s slot ≡ Some h → role h ≡ holds → h.target ≡ Some x
       → IsUsed s x
 
 -- an object of a generation above n, which a collection of n does not condemn
@@ -21,13 +21,13 @@ pub record IsOlder (n : ℕ) (s : State) (x : Id) : Type 0 where
   pub is_stored : get s.objects x.0 ≡ Some object
   pub above : n < object.generation
 
--- what chains of edges lead to from starts: the starts, what their fields reference, and the secondaries of
--- dependent handles to them
+-- what chains of edges lead to from starts: the starts, what their fields reference, the secondaries of
+-- dependent handles to them, and the values of the weak table's entries of which they are the keys
 pub data IsLedTo (s : State) (Start : Id → Type 0) : Id → Type 0 where
   from_start : {x : Id} → Start x → IsLedTo s Start x
   by_field : {x y : Id} → IsLedTo s Start x → (object : Object Id) (i : ℕ)
       → get s.objects x.0 ≡ Some object → field_of object i ≡ Some y → IsLedTo s Start y
-  by_dependent : {x y : Id} → IsLedTo s Start x → (slot : ℕ) (h : Handle Id) → get s.handles slot ≡ Some h
+  by_dependent : {x y : Id} → IsLedTo s Start x → (slot : ℕ) (h : Handle Id) → row_of s slot ≡ Some h
       → h.kind ≡ kind.Dependent → h.target ≡ Some x → secondary_of h.extra ≡ Some y → IsLedTo s Start y
 
 -- what a collection of n may not touch: chains lead to it from what is used or older

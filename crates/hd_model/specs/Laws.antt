@@ -55,6 +55,7 @@ is_done (reply.Generation g) = false
 is_done (reply.Place p) = false
 is_done (reply.Report r) = false
 is_done reply.NoneQueued = false
+is_done reply.Absent = false
 is_done (reply.Refused r) = false
 
 -- the object that a reply references
@@ -67,6 +68,7 @@ object_answered (reply.Generation g) = None
 object_answered (reply.Place p) = None
 object_answered (reply.Report r) = None
 object_answered reply.NoneQueued = None
+object_answered reply.Absent = None
 object_answered (reply.Refused r) = None
 
 -- the number of objects that a collection removed, by its reply
@@ -79,6 +81,7 @@ removed_in (reply.Generation g) = 0
 removed_in (reply.Place p) = 0
 removed_in (reply.Report r) = r.removed
 removed_in reply.NoneQueued = 0
+removed_in reply.Absent = 0
 removed_in (reply.Refused r) = 0
 
 -- whether a command with its reply made a handle: an `hnew` that was done

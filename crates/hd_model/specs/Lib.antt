@@ -36,5 +36,6 @@ pub mod CommandText
 pub mod RootText
 pub mod Laws
 pub mod UserLaws
+pub mod WeakLaws
 pub mod Constants
 pub mod Generated

@@ -7,6 +7,8 @@ use Rattle.hd_model.specs.declared.class.Class.TheVariants as class
 use Rattle.hd_model.specs.Class.{class_of}
 use Rattle.hd_model.specs.State.{Numbers, State, start_of, IsFree, IsAllFree}
 use Rattle.hd_model.specs.Kinds.{kind_of}
+use Rattle.hd_model.specs.Command.{Adding, is_refused, in_idle, in_new, adding_of}
+use Rattle.hd_model.specs.declared.data.Kind.TheVariants as kind
 use Rattle.hd_model.specs.Step.{Step}
 
 -- entries one after another, each a step from the state that the one before left
@@ -48,6 +50,12 @@ abbrev pub GivesBackLeast : State → Entry → Kind → Type 0
 GivesBackLeast s e kind =
     ((block : ℕ) × IsLeastAllFree s kind block × (e.grown ≡ Back block)) ⊎ NoneAllFree s kind
 
+-- a `cadd` that needs a slot takes it as an `hnew` of a dependent handle does
+abbrev pub AddsLeast : State → Entry → Adding → Type 0
+AddsLeast s e (is_refused refusal) = Unit {0}
+AddsLeast s e (in_idle slot key) = Unit {0}
+AddsLeast s e (in_new key) = GivesLeast s e kind.Dependent
+
 -- what the one thread of a solo run chooses, where a step leaves a choice
 abbrev pub ChoosesLeast : State → Entry → Class → Type 0
 ChoosesLeast s e (class.MakesObject fields) = Unit {0}
@@ -58,6 +66,8 @@ ChoosesLeast s e class.Frees = Unit {0}
 ChoosesLeast s e (class.GivesBack kind) = GivesBackLeast s e kind
 ChoosesLeast s e (class.Collects n) = Unit {0}
 ChoosesLeast s e (class.AnswersPlace h) = Unit {0}
+ChoosesLeast s e (class.AddsEntry k v) = AddsLeast s e (adding_of s e.caller k)
+ChoosesLeast s e (class.LooksUp k) = Unit {0}
 ChoosesLeast s e class.Plain = Unit {0}
 
 abbrev pub TakesLeast : State → Entry → Cmd → Type 0

@@ -5,7 +5,7 @@ use Rattle.std.specs.Prelude.{◌≡◌, ℕ, ◌≤◌, Bool, true, List, [], �
 use Rattle.std.specs.FinMap.{get}
 use Rattle.hd_model.specs.Data.{Id}
 use Rattle.hd_model.specs.Role.{attaches, role}
-use Rattle.hd_model.specs.State.{Object, Handle, State, secondary_of, rename_object, rename_handle}
+use Rattle.hd_model.specs.State.{Object, Handle, State, row_of, secondary_of, rename_object, rename_handle}
 
 -- lookups: the object with a name, if there is one, and the handle in a slot, if the slot is live
 abbrev pub Objects : Type 0 → Type 0
@@ -27,11 +27,12 @@ abbrev pub joined : {A : Type 0} → List (List A) → List A
 joined [] = []
 joined (xs ∷ xss) = xs ++ joined xss
 
--- the scene of the machine: all callers' object registers and then the statics are one list
+-- the scene of the machine: a slot of the weak table is in it as a dependent handle, and all callers' object
+-- registers and then the statics are one list
 abbrev pub scene_of : State → Scene Id
 scene_of s = record {
   object = λ x. get s.objects x.0;
-  handle = λ slot. get s.handles slot;
+  handle = row_of s;
   named = joined s.registers ++ s.statics;
   queue = s.queue;
 }

@@ -3,7 +3,9 @@
 use Rattle.std.specs.Prelude.{◌≡◌, ℕ, ◌+◌, ◌*◌, ◌/◌, ◌^◌, Bool, false, List, [], replicate, length, sum_by, slice_index, slice_index_or, slice_set, Option, Some, None, unwrap_or, option_map, map}
 use Rattle.std.specs.FinMap.{FinMap, get, insert, remove, empty, values, len}
 use Rattle.std.specs.Ordering.{nat_cmp}
+use Rattle.std.specs.Option.{option_or}
 use Rattle.hd_model.specs.Data.{Id, Slot, Kind, Strength}
+use Rattle.hd_model.specs.declared.data.Kind.TheVariants.{Dependent}
 use Rattle.hd_model.specs.declared.limits.TheConstants.{HEADER, REGISTERS, ROWS}
 
 -- the numbers of a run, which no command changes: the limit of the heap in cells, the blocks and the callers
@@ -35,6 +37,11 @@ pub record Handle (N : Type 0) : Type 0 where
   pub kind : Kind
   pub target : Option N
   pub extra : Extra N
+
+-- an entry of the weak table: its key, and the value attached to it, or null (.NET's ConditionalWeakTable)
+pub record WeakEntry (N : Type 0) : Type 0 where
+  pub key : N
+  pub value : Option N
 
 -- the secondary of an extra, or null
 abbrev pub secondary_of : {N : Type 0} → Extra N → Option N
@@ -88,12 +95,14 @@ pub data BlockUse : Type 0 where
   handles_of : Kind → BlockUse
   extra_data : BlockUse
 
--- the state of a run: objects by the number of their identity, handles by the number of their slot, registers
--- by caller and number, the statics and the board that all callers share, the finalization queue, the pinned
--- addresses that `addr` returned, the use of each block that has one, and each caller's last serial
+-- the state of a run: objects by the number of their identity, handles by the number of their slot, the slots
+-- that the weak table holds, each with its entry or idle, registers by caller and number, the statics and the
+-- board that all callers share, the finalization queue, the pinned addresses that `addr` returned, the use of
+-- each block that has one, and each caller's last serial
 pub record State : Type 0 where
   pub objects : FinMap nat_cmp (Object Id)
   pub handles : FinMap nat_cmp (Handle Id)
+  pub weak : FinMap nat_cmp (Option (WeakEntry Id))
   pub registers : List (List (Option Id))
   pub handle_registers : List (List (Option Slot))
   pub statics : List (Option Id)
@@ -109,6 +118,7 @@ abbrev pub start_of : Numbers → State
 start_of n = record {
   objects = empty;
   handles = empty;
+  weak = empty;
   registers = replicate n.callers (replicate REGISTERS None);
   handle_registers = replicate n.callers (replicate REGISTERS None);
   statics = replicate REGISTERS None;
@@ -153,6 +163,16 @@ field_of object i = slice_index_or object.fields i None
 abbrev pub handle_at : State → Slot → Option (Handle Id)
 handle_at s slot = get s.handles slot.0
 
+-- what a slot of the weak table attaches: a value to its key, or nothing where it is idle, as a dependent
+-- handle does (.NET's ConditionalWeakTable has its entries in dependent handles)
+abbrev pub weak_handle : {N : Type 0} → Option (WeakEntry N) → Handle N
+weak_handle None = record { kind = Dependent; target = None; extra = secondary None }
+weak_handle (Some e) = record { kind = Dependent; target = Some e.key; extra = secondary e.value }
+
+-- the row of a slot: the handle in it, or what the weak table attaches by it
+abbrev pub row_of : State → ℕ → Option (Handle Id)
+row_of s slot = option_or (get s.handles slot) (option_map weak_handle (get s.weak slot))
+
 -- the use of a block, if it has one
 abbrev pub use_of : State → ℕ → Option BlockUse
 use_of s block = get s.blocks block
@@ -177,9 +197,12 @@ block_of slot = slot.0 / ROWS
 abbrev pub first_slot : ℕ → Slot
 first_slot block = record { 0 = block * ROWS }
 
--- a free slot of a kind: it holds no handle, and its block has handles of the kind
-abbrev pub IsFree : State → Kind → Slot → Type 0
-IsFree s kind slot = (handle_at s slot ≡ None) × (use_of s (block_of slot) ≡ Some (handles_of kind))
+-- a free slot of a kind: it holds no handle, the weak table does not hold it, and its block has handles of
+-- the kind
+pub record IsFree (s : State) (kind : Kind) (slot : Slot) : Type 0 where
+  pub no_handle : handle_at s slot ≡ None
+  pub not_weak : get s.weak slot.0 ≡ None
+  pub of_kind : use_of s (block_of slot) ≡ Some (handles_of kind)
 
 -- a block of a kind whose slots are all free
 abbrev pub IsAllFree : State → Kind → ℕ → Type 0
@@ -214,6 +237,9 @@ with_handle s slot handle = record s { handles = insert s.handles slot.0 handle 
 
 abbrev pub without_handle : State → Slot → State
 without_handle s slot = record s { handles = remove s.handles slot.0 }
+
+abbrev pub with_weak : State → Slot → Option (WeakEntry Id) → State
+with_weak s slot entry = record s { weak = insert s.weak slot.0 entry }
 
 abbrev pub with_use : State → ℕ → BlockUse → State
 with_use s block given = record s { blocks = insert s.blocks block given }

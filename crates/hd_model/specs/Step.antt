@@ -7,13 +7,14 @@ use Rattle.hd_model.specs.declared.data.Grown.TheVariants.{Zero, One, Two, Back}
 use Rattle.hd_model.specs.declared.data.Refusal.TheVariants as refusal
 use Rattle.hd_model.specs.declared.data.Reply.TheVariants as reply
 use Rattle.hd_model.specs.declared.command.Cmd.TheVariants as cmd
+use Rattle.hd_model.specs.declared.data.Kind.TheVariants as kind
 use Rattle.hd_model.specs.Kinds.{kind_of, is_paired}
 use Rattle.hd_model.specs.Valid.{IsValid}
 use Rattle.hd_model.specs.State.{Numbers, Handle, State, handles_of, extra_data, handle_register_of, last_serial, handle_at, use_of, given_of, first_slot, IsFree, IsAllFree, with_handle_register, with_handle, with_use, without_use}
 use Rattle.hd_model.specs.Role.{pins}
 use Rattle.hd_model.specs.Places.{MayAnswer}
 use Rattle.hd_model.specs.Collect.{CollectsState}
-use Rattle.hd_model.specs.Command.{Outcome, answers, refuses, made_handle, new_object, set_field, get_field, set_value, read_value, copy_register, clear_register, put_static, get_static, read_generation, set_registered, take_queued, get_target, set_target, set_secondary, get_secondary, set_strength, raise_count, lower_count, free_handle, put_board, pick_board, answer_place}
+use Rattle.hd_model.specs.Command.{Outcome, answers, refuses, made_handle, new_object, set_field, get_field, set_value, read_value, copy_register, clear_register, put_static, get_static, read_generation, set_registered, take_queued, get_target, set_target, set_secondary, get_secondary, set_strength, raise_count, lower_count, free_handle, put_board, pick_board, answer_place, Adding, is_refused, in_idle, in_new, adding_of, with_entry, add_entry, find_entry, remove_entry}
 
 -- an entry of a command that the state decides: its reply and slot are those of the outcome, and the blocks
 -- stay
@@ -72,6 +73,15 @@ pub record FindsTableFull (n : Numbers) (old : State) (e : Entry) (new : State) 
   pub few : n.blocks < given_of old + blocks_needed kind
   pub refused : IsOutcome e (refuses (refusal.TableFull (given_of old)) old) new
 
+-- `cadd` without an idle slot: the weak table gets a slot for the entry, as `hnew` gets one for a dependent
+-- handle
+pub record AddsEntry (n : Numbers) (old : State) (e : Entry) (new : State) (v : ℕ) (key : Id) : Type 0 where
+  pub slot : Slot
+  pub given : e.slot ≡ Some slot
+  pub may : MayGive n old kind.Dependent e.grown slot
+  pub reply : e.reply ≡ reply.Done
+  pub after : new ≡ with_entry (with_growth old kind.Dependent e.grown) old e.caller v slot key
+
 -- what a handle pins, and what the handle in handle register h pins
 abbrev pub pinned_by : Option (Handle Id) → Option Id
 pinned_by None = None
@@ -105,7 +115,7 @@ pub record GivesBack (old : State) (e : Entry) (new : State) (kind : Kind) : Typ
   pub grown : e.grown ≡ Back block
   pub after : new ≡ without_use old block
 
--- how a command goes: the state alone decides its outcome, or it is one of five with a premise or a choice
+-- how a command goes: the state alone decides its outcome, or it is one of six with a premise or a choice
 pub data Way : Type 0 where
   decided : Outcome → Way
   makes_object : (d fields : ℕ) (fin : Bool) → Way
@@ -113,6 +123,13 @@ pub data Way : Type 0 where
   collects : (n : ℕ) → Way
   answers_place : (h : ℕ) → Way
   gives_back : (kind : Kind) → Way
+  adds_entry : (v : ℕ) (key : Id) → Way
+
+-- the way of a `cadd`, by what it meets
+abbrev pub way_of_adding : State → ℕ → ℕ → Adding → Way
+way_of_adding s caller v (is_refused refusal) = decided (refuses refusal s)
+way_of_adding s caller v (in_idle slot key) = decided (add_entry s caller v slot key)
+way_of_adding s caller v (in_new key) = adds_entry v key
 
 -- the way of each command of a caller
 abbrev pub way_of : State → ℕ → Cmd → Way
@@ -143,6 +160,9 @@ way_of s caller (cmd.AddrOf h) = answers_place h
 way_of s caller (cmd.HUp h) = decided (raise_count s caller h)
 way_of s caller (cmd.HDown h) = decided (lower_count s caller h)
 way_of s caller (cmd.Trim kind) = gives_back kind
+way_of s caller (cmd.CAdd k v) = way_of_adding s caller v (adding_of s caller k)
+way_of s caller (cmd.CFind d k) = decided (find_entry s caller d k)
+way_of s caller (cmd.CRemove k) = decided (remove_entry s caller k)
 
 -- what a step does by its way. A caller makes at most 2^32 - 1 objects, so a `new` beyond them is no step.
 abbrev pub TakesWay : Numbers → State → Entry → State → Way → Type 0
@@ -155,6 +175,8 @@ TakesWay n old e new (collects k) = DoesCollect old e new k
 TakesWay n old e new (answers_place h) = AnswersPlace old e new h
 TakesWay n old e new (gives_back kind) =
     GivesBack old e new kind ⊎ IsOutcome e (answers (reply.Value 0) old) new
+TakesWay n old e new (adds_entry v key) =
+    AddsEntry n old e new v key ⊎ FindsTableFull n old e new kind.Dependent
 
 -- what the step of each command does
 abbrev pub StepOf : Numbers → State → Entry → State → Cmd → Type 0

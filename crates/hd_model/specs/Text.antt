@@ -2,8 +2,8 @@
 use Rattle.std.specs.Prelude.{ℕ, ◌+◌, ◌/◌, ◌%◌, ◌^◌, ◌==◌, List, [], ◌∷◌, ◌++◌, codes, decimal, count_by, Bool}
 use Rattle.std.specs.FinMap.{len}
 use Rattle.hd_model.specs.Data.{Id, Report as CollectionReport, Entry, Refusal, Reply, Cmd}
-use Rattle.hd_model.specs.declared.data.Refusal.TheVariants.{Null, BadField, HeapFull, TableFull, NotLive, WrongKind, EmptyRegister, CountZero}
-use Rattle.hd_model.specs.declared.data.Reply.TheVariants.{Done, Object, Nothing, Value, Generation, Place, Report, NoneQueued, Refused}
+use Rattle.hd_model.specs.declared.data.Refusal.TheVariants.{Null, BadField, HeapFull, TableFull, NotLive, WrongKind, EmptyRegister, CountZero, Present}
+use Rattle.hd_model.specs.declared.data.Reply.TheVariants.{Done, Object, Nothing, Value, Generation, Place, Report, NoneQueued, Absent, Refused}
 use Rattle.hd_model.specs.Class.{class_of, class_collects}
 use Rattle.hd_model.specs.State.{State}
 
@@ -17,6 +17,7 @@ refusal_text NotLive = codes "notlive"
 refusal_text WrongKind = codes "wrongkind"
 refusal_text EmptyRegister = codes "empty"
 refusal_text CountZero = codes "countzero"
+refusal_text Present = codes "present"
 
 -- an identity as its caller and its serial
 abbrev pub identity_text : Id → List ℕ
@@ -39,6 +40,7 @@ reply_text (Generation g) = codes "gen " ++ decimal g
 reply_text (Place p) = codes "addr " ++ decimal p
 reply_text (Report r) = report_text r
 reply_text NoneQueued = codes "none"
+reply_text Absent = codes "absent"
 reply_text (Refused refusal) = refusal_text refusal
 
 -- the end of a line

@@ -14,12 +14,17 @@ pub record Touched : Type 0 where
   pub picked : Option ℕ
   -- the handle register whose handle it is about
   pub handle : Option ℕ
+  -- the object registers of the key and the value of the entry that it adds to the weak table, and that of
+  -- the key whose entry it takes out
+  pub adds : Option (ℕ × ℕ)
+  pub takes_out : Option ℕ
   -- the static and the board index that it writes
   pub static : Option ℕ
   pub board : Option ℕ
   -- whether it may change these parts of the state
   pub objects : Bool
   pub handles : Bool
+  pub weak : Bool
   pub queue : Bool
   pub places : Bool
   pub blocks : Bool
@@ -37,10 +42,13 @@ none_touched = record {
   handle_register = None;
   picked = None;
   handle = None;
+  adds = None;
+  takes_out = None;
   static = None;
   board = None;
   objects = false;
   handles = false;
+  weak = false;
   queue = false;
   places = false;
   blocks = false;
@@ -67,7 +75,7 @@ touched_by (cmd.Suppress o) = record none_touched { objects = true }
 touched_by (cmd.Reregister o) = record none_touched { objects = true }
 touched_by (cmd.Final d) = record none_touched { register = Some d; queue = true }
 touched_by (cmd.Collect n) =
-    record none_touched { objects = true; handles = true; queue = true; places = true }
+    record none_touched { objects = true; handles = true; weak = true; queue = true; places = true }
 touched_by (cmd.HNew d make t) =
     record none_touched { handle_register = Some d; handles = true; blocks = true; makes_handle = true }
 touched_by (cmd.HGet d h) = record none_touched { register = Some d; handle = Some h }
@@ -83,11 +91,15 @@ touched_by (cmd.AddrOf h) = record none_touched { handle = Some h; places = true
 touched_by (cmd.HUp h) = record none_touched { handle = Some h; handles = true }
 touched_by (cmd.HDown h) = record none_touched { handle = Some h; handles = true }
 touched_by (cmd.Trim kind) = record none_touched { blocks = true }
+touched_by (cmd.CAdd k v) = record none_touched { adds = Some (k, v); weak = true; blocks = true }
+touched_by (cmd.CFind d k) = record none_touched { register = Some d }
+touched_by (cmd.CRemove k) = record none_touched { takes_out = Some k; weak = true }
 
 -- what is not touched stays
 pub record Untouched (by : Touched) (old new : State) : Type 0 where
   pub objects : by.objects ≡ false → new.objects ≡ old.objects
   pub handles : by.handles ≡ false → new.handles ≡ old.handles
+  pub weak : by.weak ≡ false → new.weak ≡ old.weak
   pub registers : by.register ≡ None → new.registers ≡ old.registers
   pub handle_registers : by.handle_register ≡ None → new.handle_registers ≡ old.handle_registers
   pub statics : by.static ≡ None → new.statics ≡ old.statics

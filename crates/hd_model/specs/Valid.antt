@@ -40,6 +40,9 @@ IsValid (cmd.AddrOf s) = s < REGISTERS
 IsValid (cmd.HUp s) = s < REGISTERS
 IsValid (cmd.HDown s) = s < REGISTERS
 IsValid (cmd.Trim kind) = is_paired kind ≡ false
+IsValid (cmd.CAdd k v) = (k < REGISTERS) × (v < REGISTERS)
+IsValid (cmd.CFind d k) = (d < REGISTERS) × (k < REGISTERS)
+IsValid (cmd.CRemove k) = k < REGISTERS
 
 -- the commands that may take memory: an object is made, or a collection moves objects
 abbrev pub takes_memory : Cmd → Bool

@@ -5,7 +5,7 @@ use Rattle.hd_model.specs.Data.{Id, Kind}
 use Rattle.hd_model.specs.declared.data.Kind.TheVariants as kind
 use Rattle.hd_model.specs.declared.limits.TheConstants.{REGISTERS, FIELDS, OLDEST, ROWS}
 use Rattle.hd_model.specs.Kinds.{is_paired}
-use Rattle.hd_model.specs.State.{Numbers, Object, Extra, nothing, strength, secondary, count, Handle, State, handles_of, secondary_of, register_of, static_of, last_serial, field_of, use_of}
+use Rattle.hd_model.specs.State.{Numbers, Object, Extra, nothing, strength, secondary, count, Handle, WeakEntry, State, handles_of, secondary_of, register_of, static_of, last_serial, field_of, use_of}
 
 -- null, or the identity of an object of the state
 abbrev pub Names : State → Option Id → Type 0
@@ -23,7 +23,7 @@ pub record HasShape (n : Numbers) (s : State) : Type 0 where
   pub serials : length s.serials ≡ n.callers
 
 -- every identity in use is that of an object: in fields, registers, statics, targets and secondaries of
--- handles, the queue and the pinned addresses
+-- handles, the queue, the pinned addresses, and keys and values of the weak table
 pub record HasSoundReferences (s : State) : Type 0 where
   pub fields :
       (id : ℕ) (object : Object Id) → get s.objects id ≡ Some object → (i : ℕ) → Names s (field_of object i)
@@ -34,6 +34,8 @@ pub record HasSoundReferences (s : State) : Type 0 where
       (slot : ℕ) (handle : Handle Id) → get s.handles slot ≡ Some handle → Names s (secondary_of handle.extra)
   pub queue : (id : Id) → Contains s.queue id → Names s (Some id)
   pub places : (id : ℕ) → IsSome (get s.places id) → IsSome (get s.objects id)
+  pub keys : (slot : ℕ) (e : WeakEntry Id) → get s.weak slot ≡ Some (Some e) → Names s (Some e.key)
+  pub values : (slot : ℕ) (e : WeakEntry Id) → get s.weak slot ≡ Some (Some e) → Names s e.value
 
 -- an object has at most 61 fields and a generation up to 2, and no object is queued twice
 pub record HasObjects (s : State) : Type 0 where
@@ -69,6 +71,15 @@ pub record HasHandles (n : Numbers) (s : State) : Type 0 where
       → secondary_of handle.extra ≡ None
   pub blocks : (block : ℕ) → IsSome (use_of s block) → (1 ≤ block) × (block ≤ n.blocks)
 
+-- a slot of the weak table is in a block of dependent handles and holds no handle, and no key has two entries
+pub record HasWeakTable (s : State) : Type 0 where
+  pub kinds : (slot : ℕ) → IsSome (get s.weak slot)
+      → use_of s (slot / ROWS) ≡ Some (handles_of kind.Dependent)
+  pub apart : (slot : ℕ) → IsSome (get s.weak slot) → get s.handles slot ≡ None
+  pub once :
+      (a b : ℕ) (d e : WeakEntry Id) → get s.weak a ≡ Some (Some d) → get s.weak b ≡ Some (Some e)
+      → d.key ≡ e.key → a ≡ b
+
 -- a state that a run may reach
 pub record IsWellFormed (n : Numbers) (s : State) : Type 0 where
   pub shape : HasShape n s
@@ -76,3 +87,4 @@ pub record IsWellFormed (n : Numbers) (s : State) : Type 0 where
   pub objects : HasObjects s
   pub serials : HasSerials s
   pub handles : HasHandles n s
+  pub weak : HasWeakTable s

@@ -19,6 +19,11 @@ pub enum Class {
     Collects(u8),
     /// It returns the address of what the handle in `h` pins.
     AnswersPlace { h: u8 },
+    /// It adds an entry to the weak table, with the key in object register `k` and the value in
+    /// `v`. Where no slot of the table is idle, it takes one as a dependent handle does.
+    AddsEntry { k: u8, v: u8 },
+    /// It looks the key in object register `k` up in the weak table.
+    LooksUp { k: u8 },
     /// It does none of these.
     Plain,
 }

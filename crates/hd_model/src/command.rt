@@ -65,6 +65,13 @@ pub enum Cmd {
     /// `trim KIND`: gives back at most one block of the kind whose 64 slots are all free. The kind
     /// is short, long, strong or pinned.
     Trim { kind: Kind },
+    /// `cadd rK rV`: adds the entry of key rK with value rV to the weak table, as
+    /// `ConditionalWeakTable.Add`.
+    CAdd { k: u8, v: u8 },
+    /// `cfind rD rK`: rD gets the value of the entry of key rK, as `TryGetValue`.
+    CFind { d: u8, k: u8 },
+    /// `cremove rK`: takes the entry of key rK out of the weak table, as `Remove`.
+    CRemove { k: u8 },
 }
 
 impl Cmd {
@@ -82,6 +89,8 @@ impl Cmd {
             Cmd::Trim { kind } => Class::GivesBack(kind),
             Cmd::Collect { n } => Class::Collects(n),
             Cmd::AddrOf { s } => Class::AnswersPlace { h: s },
+            Cmd::CAdd { k, v } => Class::AddsEntry { k, v },
+            Cmd::CFind { k, .. } | Cmd::CRemove { k } => Class::LooksUp { k },
             Cmd::Set { .. }
             | Cmd::Get { .. }
             | Cmd::Val { .. }

@@ -169,14 +169,15 @@ pub struct Report {
     /// The weak long handles, the variable ones of that strength, and the ref-counted ones, whose
     /// target became null.
     pub long: u32,
-    /// The dependent handles whose two parts became null.
+    /// The dependent handles whose two parts became null, and the entries that left the weak table.
     pub dep: u32,
     /// The objects that joined the finalization queue.
     pub revived: u32,
 }
 
 /// Why a command was refused. Where several causes hold, the first of these is returned: empty
-/// register, slot that is not live, wrong kind, count of 0, null, bad field, full heap, full table.
+/// register, slot that is not live, wrong kind, count of 0, null, bad field, key that is present,
+/// full heap, full table.
 #[derive(Clone, Copy, Debug, PartialEq, Eq)]
 pub enum Refusal {
     /// The register, or the handle's target, is null.
@@ -196,6 +197,8 @@ pub enum Refusal {
     EmptyRegister,
     /// The count of the ref-counted handle is 0 already.
     CountZero,
+    /// The weak table has an entry with this key, as `ConditionalWeakTable.Add` throws.
+    Present,
 }
 
 /// What a command returns.
@@ -209,6 +212,8 @@ pub enum Reply {
     Place(u32),
     Report(Report),
     NoneQueued,
+    /// The weak table has no entry with this key.
+    Absent,
     Refused(Refusal),
 }
 

@@ -12,6 +12,7 @@ mod laws;
 pub mod limits;
 mod marker;
 mod steps;
+mod weak_laws;
 
 pub use class::Class;
 pub use collection_laws::{
@@ -44,3 +45,8 @@ pub use laws::{
 };
 pub use marker::{Marker, PromotionLog, is_lost};
 pub use steps::Steps;
+pub use weak_laws::{
+    add_is_refused_where_attached, entries_follow_keys, entries_keep_no_key, entries_use_no_key,
+    find_returns_what_is_attached, null_keys_are_refused, remove_returns_whether_attached,
+    texts_leave_the_weak_table_out, weak_slots_are_not_live, weak_slots_stay_held,
+};

@@ -1,0 +1,89 @@
+-- A run that attaches a value to a key, and a state that has an entry: the premises of the laws of the weak
+-- table are met.
+use Rattle.hd_model.proofs.Basics.{◌≡◌, ℕ, [], ◌∷◌, Option, Some, None, refl, sym, ap, ◌∙◌, subst, lit<, arith, inl, nat_cmp, get, get-empty, option_map_or, none-some}
+use Rattle.hd_model.specs.Data.{Id, Entry}
+use Rattle.hd_model.specs.declared.data.Grown.TheVariants.{Two}
+use Rattle.hd_model.specs.declared.data.Kind.TheVariants as kind
+use Rattle.hd_model.specs.declared.data.Refusal.TheVariants as refusal
+use Rattle.hd_model.specs.declared.data.Reply.TheVariants as reply
+use Rattle.hd_model.specs.declared.command.Cmd.TheVariants as cmd
+use Rattle.hd_model.specs.State.{State, WeakEntry, first_slot}
+use Rattle.hd_model.specs.Command.{is_refused, in_idle, in_new, slot_of_key, idle_slot, with_entry}
+use Rattle.hd_model.specs.Step.{adds_entry, way_of, way_of_adding, TakesWay, Step, with_growth}
+use Rattle.hd_model.specs.Run.{stay, link, Run}
+use Rattle.hd_model.specs.WeakLaws.{attached}
+use Rattle.hd_model.proofs.Entries.{none_from, some_value}
+use Rattle.hd_model.proofs.WeakSlots.{key_found, idle_found}
+use Rattle.hd_model.proofs.RunExamples.{numbers, first, e1, s1, step1}
+
+-- `cadd r0 r0` after `new r0 1 fin`: the table grows by blocks 1 and 2, and the entry is in row 0 of block 1
+abbrev e_add : Entry
+e_add = record {
+  caller = 0;
+  cmd = cmd.CAdd 0 0;
+  slot = Some (first_slot 1);
+  grown = Two 1 2;
+  reply =
+      reply.Done;
+}
+
+abbrev s_add : State
+s_add = with_entry (with_growth s1 kind.Dependent (Two 1 2)) s1 0 0 (first_slot 1) first
+
+none_weak : (q : ℕ) (c : Option (WeakEntry Id)) → get s1.weak q ≡ Some c → ⊥
+none_weak q c e = none-some c (sym (get-empty nat_cmp q) ∙ e)
+
+no_key : slot_of_key s1 first ≡ None
+no_key = none_from (slot_of_key s1 first) (λ h.
+    let (slot, is) = some_value (slot_of_key s1 first) h in
+    let found = key_found s1 first slot is in none_weak slot.0 (Some found.entry) found.held)
+
+none_idle : idle_slot s1 ≡ None
+none_idle = none_from (idle_slot s1) (λ h.
+    let (slot, is) = some_value (idle_slot s1) h in none_weak slot.0 None (idle_found s1 slot is))
+
+way_is : way_of s1 0 (cmd.CAdd 0 0) ≡ adds_entry 0 first
+way_is =
+    ap (λ o. way_of_adding s1 0 0 (option_map_or (λ _. is_refused refusal.Present) o
+    (option_map_or (λ slot. in_idle slot first) (idle_slot s1) (in_new first)))) no_key
+    ∙ ap (λ o. way_of_adding s1 0 0 (option_map_or (λ slot. in_idle slot first) o (in_new first))) none_idle
+
+pub step_add : Step numbers s1 e_add s_add
+step_add = record {
+  caller = lit< tt;
+  valid = (lit< tt, lit< tt);
+  does = subst (TakesWay numbers s1 e_add s_add) (sym way_is) (inl (record {
+    slot = first_slot 1;
+    given = refl;
+    may = (
+      refl,
+      record {
+        low = omega arith;
+        high = omega arith;
+        unused = get-empty nat_cmp 1;
+        least = λ other low high. absurd (omega arith);
+      },
+      record {
+        low = omega arith;
+        high = omega arith;
+        unused = get-empty nat_cmp 2;
+        least = λ other low high. absurd (omega arith);
+      },
+      refl,
+    );
+    reply = refl;
+    after = refl;
+  }));
+}
+
+pub run_add : Run numbers (e1 ∷ e_add ∷ []) s_add
+run_add = link step1 (link step_add stay)
+
+-- it attaches the object to itself, and nothing to another identity
+pub attaches_itself : attached first run_add None ≡ Some (Some first)
+unfolding run_add
+attaches_itself = refl
+
+pub attaches_no_other : attached (record { 0 = 2 }) run_add None ≡ None
+unfolding run_add
+attaches_no_other = refl
