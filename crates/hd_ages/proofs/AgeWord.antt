@@ -1,12 +1,6 @@
 -- Four ages in one word: what an operation does to them is tested on each word.
-use Rattle.std.proofs.Common.{◌≡◌, ℕ, zero, suc, ◌+◌, ◌-◌, ◌*◌, ◌/◌, ◌%◌, ◌^◌, ◌<◌, ◌≤◌, ◌==◌, ◌&&◌, ◌||◌, not, Bool, true, min, cond, [], ◌∷◌, set, bit_and, bit_or, refl, sym, ap, ◌∙◌, arith, inl, inr, ⊎_elim}
-use Rattle.std.specs.Prelude.{nat_le}
-use Rattle.std.specs.Int.{bit_at}
-use Rattle.std.proofs.lemmas.Bool.{and_parts, both_ways, cases_eq, cases_lt, eqb-true, le-leb, lt-leb, ltb-true, not-true, or_cases}
-use Rattle.std.proofs.lemmas.Nat.Bits.{bit_at-lt, bit_at_ones}
-use Rattle.hd_model.specs.Ages.{raised, grown}
+use Rattle.hd_ages.proofs.Basics.{Bool, IsWord, [], age_in, ages_in, and_parts, ap, arith, bit_and, bit_at, bit_at-lt, bit_at_ones, bit_or, both_ways, cases_eq, cases_lt, cond, eqb-true, grown, inl, inr, is_word, le-leb, lt-leb, ltb-true, min, nat_le, not, not-true, or_cases, raised, refl, set, suc, sym, true, zero, ℕ, ⊎_elim, ◌%◌, ◌&&◌, ◌*◌, ◌+◌, ◌-◌, ◌/◌, ◌<◌, ◌==◌, ◌^◌, ◌||◌, ◌∙◌, ◌∷◌, ◌≡◌, ◌≤◌}
 use Rattle.hd_model.proofs.IdleCollection.{raised_older}
-use Rattle.hd_ages.specs.Word.{IsWord, is_word, age_in, ages_in}
 
 -- the clumps of a block
 pub each_clump : (P : ℕ → Type 0) → P 0 → P 1 → P 2 → P 3 → (c : ℕ) → c < 4 → P c
@@ -83,8 +77,7 @@ low_one :
 unfolding all_below
 low_one = refl
 
-none_due :
-    holds_of_words (λ w c. bit_at (bit_and (255 - w) 15) c == cond (nat_le (age_in w c) 0) 1 0) ≡ true
+none_due : holds_of_words (λ w c. bit_at (bit_and (255 - w) 15) c == cond (nat_le (age_in w c) 0) 1 0) ≡ true
 unfolding all_below
 none_due = refl
 

@@ -1,17 +1,6 @@
 -- The ages of all blocks, four to a block: that of a clump, and what becomes of those of one block.
-use Rattle.std.proofs.Common.{◌≡◌, ℕ, zero, suc, ◌+◌, ◌-◌, ◌*◌, ◌^◌, ◌<◌, ◌≤◌, min, cond, Bool, true, false, List, [], ◌∷◌, ◌++◌, length, get_or, set, take, drop, replicate, map, filter, All, refl, sym, ap, ◌∙◌, arith, lit<, lit≤, ◌==◌, inl, inr}
-use Rattle.std.specs.Prelude.{nat_le}
-use Rattle.std.specs.List.{range_with_len}
-use Rattle.std.proofs.lemmas.Bool.{cases_lt}
-use Rattle.std.proofs.lemmas.List.{get_or-take, get_or-drop}
-use Rattle.std.proofs.lemmas.Nat.Bits.{bit_at_above}
-use Rattle.std.specs.Int.{bit_at}
-use Rattle.hd_mask.specs.Mask.{set_bits}
-use Rattle.hd_model.specs.Ages.{clump_of, clumps_of, lowered}
-use Rattle.hd_ages.specs.Word.{age_in, ages_in, ages_of}
-use Rattle.hd_ages.specs.Clumps.{IsSlotOf, ages_at, clump_at, with_ages}
-use Rattle.hd_ages.proofs.ClumpBits.{set_by_bits}
-use Rattle.hd_ages.proofs.AgeWord.{each_clump, age_small}
+use Rattle.hd_ages.proofs.Basics.{All, Bool, IsSlotOf, List, [], age_in, ages_at, ages_in, ages_of, ap, arith, bit_at, bit_at_above, cases_lt, clump_at, clump_of, clumps_of, cond, drop, false, filter, get_or, get_or-drop, get_or-take, inl, inr, length, lit<, lit≤, lowered, map, min, nat_le, range_with_len, refl, replicate, set, set_bits, suc, sym, take, true, with_ages, zero, ℕ, ◌*◌, ◌++◌, ◌+◌, ◌-◌, ◌<◌, ◌==◌, ◌^◌, ◌∙◌, ◌∷◌, ◌≡◌, ◌≤◌}
+use Rattle.hd_ages.proofs.{ClumpBits.set_by_bits, AgeWord.each_clump, AgeWord.age_small}
 
 pub length-ages_of : (ws : List ℕ) → length (ages_of ws) ≡ 4 * length ws
 length-ages_of [] = refl
@@ -47,8 +36,7 @@ module _ (ws ages : List ℕ) (seen : ages_of ws ≡ ages) (block : ℕ) (low : 
   first = omega (arith, low)
 
   pub word_ages : ages_in (get_or ws (block - 1) 0) ≡ ages_at block ages
-  word_ages = sym (ages_of-read ws (block - 1) word_index)
-      ∙ (λ i. take 4 (drop (first i) (seen i)))
+  word_ages = sym (ages_of-read ws (block - 1) word_index) ∙ (λ i. take 4 (drop (first i) (seen i)))
 
   pub word_written : (w : ℕ) → ages_of (set ws (block - 1) w) ≡ with_ages block (ages_in w) ages
   word_written w =
@@ -68,8 +56,7 @@ set_four : (xs : List ℕ) (f c v : ℕ) → f + 4 ≤ length xs → c < 4
     → take f xs ++ set (take 4 (drop f xs)) c v ++ drop (f + 4) xs ≡ set xs (f + c) v
 set_four (x ∷ y ∷ z ∷ u ∷ xs) zero c v fits few =
     each_clump (λ c. set (x ∷ y ∷ z ∷ u ∷ []) c v ++ xs ≡ set (x ∷ y ∷ z ∷ u ∷ xs) c v) refl refl refl refl c
-    few
-    ∙ ap (λ n. set (x ∷ y ∷ z ∷ u ∷ xs) n v) (let e : c ≡ 0 + c = omega arith in e)
+    few ∙ ap (λ n. set (x ∷ y ∷ z ∷ u ∷ xs) n v) (let e : c ≡ 0 + c = omega arith in e)
 set_four (x ∷ xs) (suc f) c v fits few =
     ap (λ n. x ∷ (take f xs ++ set (take 4 (drop f xs)) c v ++ drop n (x ∷ xs)))
     (let e : suc f + 4 ≡ suc (f + 4) = omega arith in e)

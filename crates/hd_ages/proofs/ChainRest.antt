@@ -1,9 +1,5 @@
 -- What follows a block in its chain.
-use Rattle.std.proofs.Common.{◌≡◌, ◌≢◌, ℕ, cond, List, [], ◌∷◌, ◌++◌, refl, sym, ap, ◌∙◌, ⊎_elim}
-use Rattle.std.specs.Prelude.{Contains, AllPairs, ◌==◌}
-use Rattle.std.proofs.lemmas.Bool.{eq-eqb, ne_eqb, cases_eq, cond_both}
-use Rattle.hd_model.proofs.Members.{not_in_none, first_in, later_in, member_cases, member_same, pairs_first, pairs_rest}
-use Rattle.hd_ages.specs.Walk.{after_first}
+use Rattle.hd_ages.proofs.Basics.{AllPairs, Contains, List, [], after_first, ap, cases_eq, cond, cond_both, eq-eqb, first_in, later_in, member_cases, member_same, ne_eqb, not_in_none, pairs_first, pairs_rest, refl, sym, ℕ, ⊎_elim, ◌++◌, ◌==◌, ◌∙◌, ◌∷◌, ◌≡◌, ◌≢◌}
 
 pub after_here : (b c : ℕ) (cs : List ℕ) → c ≡ b → after_first b (c ∷ cs) ≡ cs
 after_here b c cs same = ap (λ t. cond t cs (after_first b cs)) (eq-eqb c b same)

@@ -1,22 +1,8 @@
 -- The rows of a clump, and the due clumps of a block, by the bits of a mask.
-use Rattle.std.proofs.Common.{◌≡◌, ℕ, zero, suc, ◌+◌, ◌-◌, ◌*◌, ◌^◌, ◌<◌, ◌≤◌, ◌==◌, Bool, true, false, cond, List, [], ◌∷◌, map, filter, slice_get, drop, Some, None, refl, sym, ap, ◌∙◌, arith}
-use Rattle.std.specs.Int.{bit_at}
-use Rattle.std.specs.List.{range_with_len}
-use Rattle.std.proofs.lemmas.Nat.Bits.{bit_at_above}
-use Rattle.std.specs.FinMap.{contains_key}
+use Rattle.hd_ages.proofs.Basics.{Bool, List, None, Some, Table, [], ap, arith, bit_at, bit_at_above, cond, contains_key, drop, false, filter, map, range_with_len, refl, slice_get, suc, sym, true, zero, ℕ, ◌*◌, ◌+◌, ◌-◌, ◌<◌, ◌==◌, ◌^◌, ◌∙◌, ◌∷◌, ◌≡◌, ◌≤◌}
 use Rattle.hd_mask.specs.Mask.{set_bits}
-use Rattle.hd_model.specs.Table.{Table}
+use Rattle.hd_mask.proofs.SetBits.{set_from, none_from}
 use Rattle.hd_ages.specs.Walk.{slots_in}
-
--- the set bits among k bit indices from x on
-abbrev set_from : ℕ → ℕ → ℕ → List ℕ
-set_from m k x = filter (λ i. bit_at m i == 1) (range_with_len x k)
-
-none_from : (m k x : ℕ) → ((i : ℕ) → x ≤ i → bit_at m i ≡ 0) → set_from m k x ≡ []
-none_from m zero x clear = refl
-none_from m (suc k) x clear =
-    ap (λ b. cond (b == 1) (x ∷ set_from m k (x + 1)) (set_from m k (x + 1))) (clear x (omega arith))
-    ∙ none_from m k (x + 1) (λ i le. clear i (omega arith))
 
 -- indices at which no bit is set add nothing
 few_from : (m a b x : ℕ) → ((i : ℕ) → x + a ≤ i → bit_at m i ≡ 0) → set_from m (a + b) x ≡ set_from m a x

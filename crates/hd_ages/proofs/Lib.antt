@@ -1,3 +1,4 @@
+pub mod Basics
 pub mod AgeWord
 pub mod BlockAges
 pub mod AgeListLength

@@ -1,10 +1,5 @@
 -- The number of slots with a property, counted along a walk: of the visited ones at first none, at last all.
-use Rattle.std.proofs.Common.{◌≡◌, ◌≢◌, ◌⊎◌, ℕ, ◌+◌, List, [], ◌∷◌, refl, sym, subst, ⊎_elim, inl, inr}
-use Rattle.std.specs.Prelude.{Contains}
-use Rattle.std.proofs.lemmas.Bool.{cases_eq}
-use Rattle.hd_model.specs.Counting.{Counts}
-use Rattle.hd_model.proofs.Members.{not_in_none, first_in, later_in, member_cases, member_same, pairs_none, pairs_cons}
-use Rattle.hd_model.proofs.PropertyCounts.{counts_none, counts_like, counts_join}
+use Rattle.hd_ages.proofs.Basics.{Contains, Counts, List, [], cases_eq, counts_join, counts_like, counts_none, first_in, inl, inr, later_in, member_cases, member_same, not_in_none, pairs_cons, pairs_none, refl, subst, sym, ℕ, ⊎_elim, ◌+◌, ◌∷◌, ◌≡◌, ◌≢◌, ◌⊎◌}
 
 -- a slot that has a property and was visited
 abbrev pub IsPastWith : (ℕ → Type 0) → List ℕ → ℕ → Type 0

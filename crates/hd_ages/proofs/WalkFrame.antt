@@ -1,19 +1,6 @@
 -- A walk goes on as before where rows got other contents, but the same slots are live.
-use Rattle.std.proofs.Common.{◌≡◌, ℕ, ◌+◌, ◌*◌, ◌≤◌, List, [], ◌∷◌, ◌++◌, map, Option, Some, None, is_some, refl, sym, ap, ◌∙◌, subst, ⊎_elim}
-use Rattle.std.specs.Prelude.{IsSome}
-use Rattle.std.specs.List.{range_with_len}
-use Rattle.std.specs.FinMap.{get, contains_key}
-use Rattle.std.proofs.lemmas.Bool.{cases_eq}
-use Rattle.std.proofs.lemmas.List.Elements.{filter_agree}
-use Rattle.hd_mask.specs.Mask.{set_bits}
-use Rattle.hd_model.specs.declared.data.Addr.{Addr}
-use Rattle.hd_model.specs.State.{Handle}
-use Rattle.hd_model.specs.Ages.{due_clumps}
-use Rattle.hd_model.specs.Table.{Table, has_handles}
-use Rattle.hd_model.specs.Visits.{IsSameTable}
-use Rattle.hd_ages.specs.declared.due_rows.DueRows.{DueRows}
-use Rattle.hd_ages.specs.Walk.{slots_in, slots_of, blocks_after, clumps_by, clumps_to_come, slots_to_come, IsOn}
-use Rattle.hd_seg.specs.Rewriting.{Rewrites}
+use Rattle.hd_ages.proofs.Basics.{Addr, DueRows, Handle, IsOn, IsSameTable, IsSome, List, None, Option, Rewrites, Some, Table, [], ap, blocks_after, cases_eq, clumps_by, contains_key, due_clumps, filter_agree, get, has_handles, is_some, map, range_with_len, refl, set_bits, slots_of, subst, sym, ℕ, ⊎_elim, ◌*◌, ◌++◌, ◌+◌, ◌∙◌, ◌∷◌, ◌≡◌, ◌≤◌}
+use Rattle.hd_ages.specs.Walk.{slots_in, clumps_to_come, slots_to_come}
 
 -- the same slots of two tables are live
 abbrev pub HasSameLive : (old new : Table) → Type 0

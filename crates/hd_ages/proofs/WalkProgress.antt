@@ -1,23 +1,7 @@
 -- A walk that is under way, and the rows that it has visited.
-use Rattle.std.proofs.Common.{◌≡◌, ◌≢◌, ℕ, ◌+◌, ◌<◌, ◌≤◌, true, List, ◌∷◌, length, Option, Some, None, is_some, refl, sym, ap, ◌∙◌, subst, arith, ⊎_elim}
-use Rattle.std.specs.Prelude.{Contains, AllPairs, IsSome, option_map}
-use Rattle.std.specs.FinMap.{get}
-use Rattle.std.proofs.lemmas.Bool.{cases_eq}
+use Rattle.hd_ages.proofs.Basics.{Addr, AllPairs, Contains, DueRows, Ends, Gives, Handle, IsDueRow, IsOn, IsSameTable, IsSome, IsTable, Kind, List, None, Option, Rewrites, Slot, Some, Table, ap, arith, cases_eq, chain_of, clumps_to_come, due_clumps, due_slots, first_in, get, is_some, later_in, length, live_at, member_cases, member_same, not_in_none, option_map, pairs_first, pairs_rest, refl, row_at, slots_to_come, subst, sym, true, visits_of, ℕ, ⊎_elim, ◌+◌, ◌<◌, ◌∙◌, ◌∷◌, ◌≡◌, ◌≢◌, ◌≤◌}
 use Rattle.std.proofs.lemmas.Option.{same_Some}
-use Rattle.hd_model.specs.declared.data.Addr.{Addr}
-use Rattle.hd_model.specs.declared.data.Kind.{Kind}
-use Rattle.hd_model.specs.declared.data.Slot.{Slot}
-use Rattle.hd_model.specs.State.{Handle}
-use Rattle.hd_model.specs.Scene.{Objects, is_object}
-use Rattle.hd_model.specs.Names.{NamesObjects}
-use Rattle.hd_model.specs.Ages.{due_clumps}
-use Rattle.hd_model.specs.Table.{Table, IsTable, row_at, chain_of, live_at}
-use Rattle.hd_model.specs.Visits.{IsSameTable, visits_of}
-use Rattle.hd_model.proofs.Members.{first_in, later_in, member_cases, member_same, pairs_first, pairs_rest, not_in_none}
-use Rattle.hd_ages.specs.declared.due_rows.DueRows.{DueRows}
-use Rattle.hd_ages.specs.Walk.{due_slots, clumps_to_come, slots_to_come, IsOn, Ends, Gives}
-use Rattle.hd_ages.specs.Rows.{IsDueRow}
-use Rattle.hd_seg.specs.Rewriting.{Rewrites}
+use Rattle.hd_model.specs.{Scene.Objects, Scene.is_object, Names.NamesObjects}
 use Rattle.hd_seg.proofs.RowRewrite.{live_row}
 use Rattle.hd_ages.proofs.WalkSlots.{due_slots_list, due_slots_few}
 use Rattle.hd_ages.proofs.WalkFrame.{rewrites_live, clumps_same, slots_same, on_same}
@@ -176,11 +160,9 @@ module _ (f : ℕ → Handle Addr → Handle Addr) where
       → left ≡ slot ∷ rest → (Contains rest slot → ⊥) → IsUpdated f left old mid → row_at old slot ≡ Some h
       → Rewrites slot (f slot h) mid new → IsUpdated f rest old new
   updated_more left rest old mid new slot h is past u is_stored r = record {
-    kept = λ other inside.
-        r.others other (λ e. past (subst (Contains rest) e inside))
+    kept = λ other inside. r.others other (λ e. past (subst (Contains rest) e inside))
         ∙ u.kept other (member_same _ _ (sym is) other (later_in slot rest other inside));
-    made = λ other gone.
-        ⊎_elim
+    made = λ other gone. ⊎_elim
         (λ e. subst (λ s. row_at new s ≡ option_map (f s) (row_at old s)) (sym e)
         (r.at ∙ sym (ap (option_map (f slot)) is_stored)))
         (λ ne. r.others other ne

@@ -1,21 +1,8 @@
 -- The slots of a walk are the live slots of its kind in due clumps, each once.
-use Rattle.std.proofs.Common.{◌≡◌, ◌≢◌, ℕ, zero, suc, ◌+◌, ◌-◌, ◌*◌, ◌/◌, ◌<◌, ◌≤◌, Bool, true, List, [], ◌∷◌, length, filter, Some, is_some, refl, sym, ap, ◌∙◌, subst, arith, ⊎_elim}
-use Rattle.std.specs.Prelude.{Contains, AllPairs, nat_le, slice_index, IsSome}
-use Rattle.std.specs.List.{range_with_len}
-use Rattle.std.specs.FinMap.{get, contains_key, len}
-use Rattle.std.proofs.lemmas.Bool.{cases_eq}
-use Rattle.std.proofs.lemmas.List.Elements.{Contains-append_left, Contains-append_right, Contains-append_cases}
+use Rattle.hd_ages.proofs.Basics.{AllPairs, Bool, Contains, Contains-append_cases, Contains-append_left, Contains-append_right, IsDueRow, IsSome, IsTable, Kind, List, Some, Table, [], ap, arith, cases_eq, chain_of, clump_of, clumps_of, contains_key, counts_le, due_clumps, due_slots, fewer, filter, first_in, get, handles_of, is_some, later_in, len, length, length-append, member_cases, nat_le, not_in_none, pairs_append, pairs_cons, pairs_first, pairs_none, pairs_passing, pairs_rest, passing_from, passing_in, range_with_len, refl, slice_index, slots_of, subst, suc, sym, true, zero, ℕ, ⊎_elim, ◌*◌, ◌+◌, ◌-◌, ◌/◌, ◌<◌, ◌∙◌, ◌∷◌, ◌≡◌, ◌≢◌, ◌≤◌}
 use Rattle.std.proofs.lemmas.List.FromFn.{length-range_with_len}
-use Rattle.hd_model.specs.declared.data.Kind.{Kind}
-use Rattle.hd_model.specs.State.{handles_of}
-use Rattle.hd_model.specs.Ages.{clump_of, clumps_of, due_clumps}
-use Rattle.hd_model.specs.Table.{Table, IsTable, chain_of}
-use Rattle.hd_model.proofs.Members.{not_in_none, first_in, later_in, member_cases, pairs_first, pairs_rest, pairs_none, pairs_cons, pairs_append, passing_from, passing_in, pairs_passing}
-use Rattle.hd_model.proofs.Basics.{length-append}
 use Rattle.hd_model.proofs.Entries.{some_value, counts_keys}
-use Rattle.hd_model.proofs.PropertyCounts.{counts_le, fewer}
-use Rattle.hd_ages.specs.Walk.{slots_in, slots_of, due_slots}
-use Rattle.hd_ages.specs.Rows.{IsDueRow}
+use Rattle.hd_ages.specs.Walk.{slots_in}
 
 -- a list has exactly the things of a property, each once
 pub record IsListOf {A : Type 0} (P : A → Type 0) (xs : List A) : Type 0 where
@@ -118,8 +105,7 @@ module _ (ages : List ℕ) (n : ℕ) where
   is_young c = nat_le (slice_index ages c) n
 
   in_due : (chain : List ℕ) (c : ℕ) → ((b : ℕ) → Contains chain b → 1 ≤ b)
-      → Contains (due_clumps ages n chain) c
-      → Contains chain (c / 4 + 1) × (is_young c ≡ true)
+      → Contains (due_clumps ages n chain) c → Contains chain (c / 4 + 1) × (is_young c ≡ true)
   in_due [] c low h = absurd (not_in_none c h)
   in_due (b ∷ chain) c low h =
       ⊎_elim

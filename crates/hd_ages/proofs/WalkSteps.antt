@@ -1,19 +1,6 @@
 -- How a walk goes on: to the first block of its chain, to the next due clump, and to the next block.
-use Rattle.std.proofs.Common.{◌≡◌, ℕ, ◌+◌, ◌<◌, ◌≤◌, true, List, [], ◌∷◌, ◌++◌, length, map, slice_get, Option, Some, None, refl, sym, ap, ◌∙◌, subst, arith}
-use Rattle.std.specs.Prelude.{Contains, IfSome}
-use Rattle.std.specs.Option.{ForSome}
-use Rattle.std.specs.FinMap.{get}
-use Rattle.hd_mask.specs.Mask.{set_bits}
-use Rattle.hd_model.specs.declared.data.Kind.{Kind}
-use Rattle.hd_model.specs.declared.data.Slot.{Slot}
-use Rattle.hd_model.specs.State.{BlockUse, handles_of, extra_data}
-use Rattle.hd_model.specs.Ages.{due_clumps}
-use Rattle.hd_model.specs.Table.{Table, IsTable, chain_of, has_handles, kind_in, kind_at}
-use Rattle.hd_model.proofs.Basics.{length-append, length-map}
-use Rattle.hd_model.proofs.Members.{first_in, member_same}
-use Rattle.hd_ages.specs.Clumps.{clump_at}
-use Rattle.hd_ages.specs.declared.due_rows.DueRows.{DueRows}
-use Rattle.hd_ages.specs.Walk.{slots_in, slots_of, due_slots, after_first, blocks_after, blocks_from, clumps_by, due_in, clumps_to_come, slots_to_come, IsHandleBlock, Advances, IsOver}
+use Rattle.hd_ages.proofs.Basics.{Advances, BlockUse, Contains, DueRows, ForSome, IfSome, IsHandleBlock, IsOver, IsTable, Kind, List, None, Option, Slot, Some, Table, [], after_first, ap, arith, blocks_after, blocks_from, chain_of, clump_at, clumps_by, due_clumps, due_in, due_slots, extra_data, first_in, get, handles_of, has_handles, kind_at, kind_in, length, length-append, length-map, map, member_same, refl, set_bits, slice_get, slots_in, slots_of, subst, sym, true, ℕ, ◌++◌, ◌+◌, ◌<◌, ◌∙◌, ◌∷◌, ◌≡◌, ◌≤◌}
+use Rattle.hd_ages.specs.Walk.{clumps_to_come, slots_to_come}
 use Rattle.hd_mask.proofs.SetBits.{set_bits-zero}
 use Rattle.hd_ages.proofs.ChainRest.{after_here, split_after, within_after, after_next}
 
@@ -52,8 +39,7 @@ module _ (t : Table) (is : IsTable t) where
 
   -- what the first block of some leads to, where each leads to what follows it
   blocks_are : (bs : List ℕ) (block : Option ℕ) → block ≡ slice_get bs 0
-      → ((b : ℕ) (rest : List ℕ) → bs ≡ b ∷ rest → blocks_after t (Some b) ≡ rest)
-      → blocks_from t block ≡ bs
+      → ((b : ℕ) (rest : List ℕ) → bs ≡ b ∷ rest → blocks_after t (Some b) ≡ rest) → blocks_from t block ≡ bs
   blocks_are [] block first after = ap (blocks_from t) first
   blocks_are (b ∷ rest) block first after =
       ap (blocks_from t) first ∙ ap (λ xs. b ∷ xs) (after b rest refl)
@@ -87,15 +73,9 @@ module _ (t : Table) (ages : List ℕ) where
       → clumps + length (due_clumps ages n (blocks_from t block)) ≡ total
       → clumps + count + length (due_clumps ages n (blocks_after t (Some b))) ≡ total
   block_counted block b mask n clumps count total here number due sum =
-      omega (
-        arith,
-        sum,
-        number,
-        ap (λ o. length (due_clumps ages n (blocks_from t o))) here,
-        length-append (due_in ages n (Some b)) (due_clumps ages n (blocks_after t (Some b))),
-        ap length due,
-        length-map (set_bits mask) (clump_at b),
-      )
+      let known = ap (λ o. length (due_clumps ages n (blocks_from t o))) here in
+      let also = length-append (due_in ages n (Some b)) (due_clumps ages n (blocks_after t (Some b))) in
+      omega (arith, sum, number, known, also, ap length due, length-map (set_bits mask) (clump_at b))
 
   clumps_are : (w : DueRows) → clumps_to_come t ages w
       ≡ clumps_by w.block w.clumps ++ due_clumps ages w.n (blocks_after t w.block)
@@ -147,8 +127,7 @@ module _ (t : Table) (ages : List ℕ) where
   -- on to the next due clump of the block
   pub new_clump : (old new : DueRows) (b clump before after : ℕ) → after ≡ before + 1 → old.block ≡ Some b
       → old.rows ≡ 0 → set_bits old.clumps ≡ clump ∷ set_bits new.clumps → new.block ≡ old.block
-      → new.n ≡ old.n
-      → map (λ row. new.first + row) (set_bits new.rows) ≡ slots_in t (clump_at b clump)
+      → new.n ≡ old.n → map (λ row. new.first + row) (set_bits new.rows) ≡ slots_in t (clump_at b clump)
       → Advances t ages old new before after
   new_clump old new b clump before after more here none bits block n rows =
       let rest : List ℕ = due_clumps ages old.n (blocks_after t old.block) in
@@ -193,13 +172,8 @@ module _ (t : Table) (ages : List ℕ) where
       record {
         slots = between new new_none ∙ ap (slots_of t) clumps ∙ sym (between old none);
         steps = ap (λ xs. before + length xs) clumps;
-        less = omega (
-          arith,
-          less,
-          ap length clumps,
-          ap (λ (w : DueRows). length (blocks_from t w.block)) same,
-          ap (λ o. length (blocks_from t o)) here,
-        );
+        less = (let known = ap (λ (w : DueRows). length (blocks_from t w.block)) same in
+            omega (arith, less, ap length clumps, known, ap (λ o. length (blocks_from t o)) here));
       }
 
 module _ (t : Table) (ages : List ℕ) where

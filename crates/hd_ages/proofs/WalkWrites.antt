@@ -1,20 +1,6 @@
 -- A walk that writes rows: f is what becomes of the row in a slot, and slots with the property P are counted.
-use Rattle.std.proofs.Common.{◌≡◌, ℕ, ◌+◌, ◌<◌, ◌≤◌, Bool, true, false, List, length, Some, refl, sym, ap, subst, arith}
-use Rattle.std.specs.Prelude.{Contains, option_map, IsSome}
-use Rattle.std.specs.FinMap.{get}
+use Rattle.hd_ages.proofs.Basics.{Addr, Bool, Contains, Counts, DueRows, Ends, Gives, Handle, IsDueRow, IsOn, IsSome, IsTable, Kind, List, Rewrites, Slot, Some, Table, ap, arith, chain_of, clumps_to_come, due_clumps, due_slots, false, get, length, option_map, refl, row_at, slots_to_come, subst, sym, true, visits_of, ℕ, ◌+◌, ◌<◌, ◌≡◌, ◌≤◌}
 use mir.Val.{bool_byte}
-use Rattle.hd_model.specs.declared.data.Addr.{Addr}
-use Rattle.hd_model.specs.declared.data.Kind.{Kind}
-use Rattle.hd_model.specs.declared.data.Slot.{Slot}
-use Rattle.hd_model.specs.State.{Handle}
-use Rattle.hd_model.specs.Ages.{due_clumps}
-use Rattle.hd_model.specs.Counting.{Counts}
-use Rattle.hd_model.specs.Table.{Table, IsTable, chain_of, row_at}
-use Rattle.hd_model.specs.Visits.{visits_of}
-use Rattle.hd_ages.specs.declared.due_rows.DueRows.{DueRows}
-use Rattle.hd_ages.specs.Walk.{IsOn, Ends, Gives, due_slots, clumps_to_come, slots_to_come}
-use Rattle.hd_ages.specs.Rows.{IsDueRow}
-use Rattle.hd_seg.specs.Rewriting.{Rewrites}
 use Rattle.hd_ages.proofs.WalkProgress.{IsUnderway, begins, all_to_come, few_to_come, row_due, row_live, row_past, fewer_left, goes_on, all_past, steps_at_end, rewritten, IsUpdated, updated_start, updated_more, updated_end}
 use Rattle.hd_ages.proofs.WalkFrame.{rewrites_live, slots_same}
 use Rattle.hd_ages.proofs.WalkCounts.{IsPastWith, counted_start, counted_end, counted_more, counted_else}

@@ -1,17 +1,9 @@
 -- Lemmas on the way through a region from one object or gap to the next.
-use Rattle.std.proofs.Common.{◌≡◌, ◌≢◌, ℕ, ◌+◌, ◌<◌, ◌≤◌, inl, inr, false, List, [], ◌∷◌, Option, Some, None, refl, sym, ap, ◌∙◌, subst, arith}
-use Rattle.std.proofs.lemmas.Bool.{cases_eq}
-use Rattle.std.proofs.lemmas.Option.{none-some}
-use Rattle.std.specs.Prelude.{is_some}
-use Rattle.std.specs.Ordering.{nat_cmp}
-use Rattle.std.specs.FinMap as map
-use Rattle.hd_cells.specs.Object.{Object}
-use Rattle.hd_cells.specs.Region.{Contents, IsObject, IsFirstFrom}
-use Rattle.hd_cells.specs.Headers.{IsEnd}
-use Rattle.hd_cells.specs.Cells.{cell, object_in, extent_at, objects_of, contents_of, IsTiled, ended, gap, body, IsRegion, IsReached, IsFirstIn}
+use Rattle.hd_cells.proofs.Basics.{Contents, IsEnd, IsFirstFrom, IsFirstIn, IsObject, IsReached, IsRegion, IsTiled, List, None, Object, Option, Some, [], ap, arith, body, cases_eq, cell, contents_of, ended, extent_at, false, gap, inl, inr, is_some, nat_cmp, none-some, object_in, objects_of, refl, subst, sym, ℕ, ◌+◌, ◌<◌, ◌∙◌, ◌∷◌, ◌≡◌, ◌≢◌, ◌≤◌}
 use Rattle.hd_cells.proofs.OffsetLookup.{find_here, find_beyond}
 use Rattle.hd_cells.proofs.RegionTiles.{extent_at-gap, extent_at-body, tiled_upwards, none_before, none_beyond, found}
 use Rattle.hd_cells.proofs.Contents.{get-objects, IsRead, held}
+use Rattle.std.specs.FinMap as map
 
 -- from the first cell on nothing is left out
 pub start_reached : (c : List ℕ) (fill from : ℕ) → IsRegion c fill → IsReached c fill from 0
@@ -38,8 +30,7 @@ tile_step {c} {at = at} {os = (k, o) ∷ os} (body b t) from below early =
     record {
       rest = os;
       tiled = t;
-      skipped = λ q low. find_beyond q at (object_in c at) os
-          (λ e. omega (arith, e));
+      skipped = λ q low. find_beyond q at (object_in c at) os (λ e. omega (arith, e));
       long = omega arith;
     }
 
@@ -57,8 +48,7 @@ passed c fill from at reached below early =
       reached = record {
         rest = step.rest;
         tiled = step.tiled;
-        skipped = λ q low. reached.skipped q low
-            ∙ step.skipped q low;
+        skipped = λ q low. reached.skipped q low ∙ step.skipped q low;
       };
       long = step.long;
       within = tiled_upwards step.tiled;
@@ -123,8 +113,7 @@ first_in_cells c fill from None none = λ q low. found_none c fill q (none q low
 first_in_cells c fill from (Some at) first = (
   first.0,
   found_object c fill at (object_in c at) first.1,
-  λ q low below. found_none c fill q
-      (first.2 q low below),
+  λ q low below. found_none c fill q (first.2 q low below),
 )
 
 pub first_seen : (c : List ℕ) (fill : ℕ) (r : Contents) (from : ℕ) (answer : Option ℕ)
@@ -146,8 +135,7 @@ beyond_object {c} {stop} {from} {os = (k, x) ∷ os} (body b t) at o e =
           subst P (sym same) record {
             rest = os;
             tiled = t;
-            skipped = λ q low. find_beyond q from
-                (object_in c from) os (λ is. omega (arith, is));
+            skipped = λ q low. find_beyond q from (object_in c from) os (λ is. omega (arith, is));
             long = omega arith;
           }
       | inr other ↦

@@ -1,16 +1,10 @@
 -- Lemmas on the writes into a region's cells: what callers see after each.
-use Rattle.std.proofs.Common.{◌≡◌, ◌≢◌, ℕ, ◌+◌, ◌%◌, ◌^◌, ◌<◌, ◌≤◌, inl, inr, Bool, true, false, cond, leb, List, [], ◌∷◌, ◌++◌, length, take, drop, set, replicate, get_or, None, refl, sym, ap, ◌∙◌, subst, arith, le-leb, length-set, length-take, length-drop, get_or-take, get_or-drop, get_or-set_other, get_or-set_same, ext_get_or}
-use Rattle.std.proofs.lemmas.Bool.{cases_eq, lt-leb}
-use Rattle.std.proofs.lemmas.List.{length-replicate, get_or-replicate}
-use Rattle.std.specs.Ordering.{nat_cmp}
-use Rattle.std.specs.Cmp.{nat_cmp_total}
-use Rattle.std.specs.FinMap as map
-use Rattle.hd_cells.specs.Object.{Object, with_value, with_registered, with_field, new_object}
-use Rattle.hd_cells.specs.Region.{Contents, IsObject, IsLaidOut, object_at, fields_at, with_object, with_put, without_object, empty_region}
-use Rattle.hd_cells.specs.Cells.{cell, count_at, object_in, extent_at, objects_of, contents_of, IsBody, IsGap, IsTiled, ended, IsLaid, IsWhole}
+use Rattle.hd_cells.proofs.Basics.{Bool, Contents, IsBody, IsGap, IsLaid, IsLaidOut, IsObject, IsTiled, IsWhole, List, None, Object, [], ap, arith, cases_eq, cell, cond, contents_of, count_at, drop, empty_region, ended, ext_get_or, extent_at, false, fields_at, get_or, get_or-drop, get_or-replicate, get_or-set_other, get_or-set_same, get_or-take, inl, inr, le-leb, leb, length, length-drop, length-replicate, length-set, length-take, lt-leb, nat_cmp, nat_cmp_total, new_object, object_at, objects_of, refl, replicate, set, subst, sym, take, true, with_field, with_object, with_put, with_registered, with_value, without_object, ℕ, ◌%◌, ◌++◌, ◌+◌, ◌<◌, ◌^◌, ◌∙◌, ◌∷◌, ◌≡◌, ◌≢◌, ◌≤◌}
+use Rattle.hd_cells.specs.Cells.{object_in}
 use Rattle.hd_cells.proofs.RegionTiles.{extent_at-body, extent_at-gap, same_fields, longer_tiling, none_beyond, as_gap}
 use Rattle.hd_cells.proofs.Contents.{laid_region, laid_contents, get-objects, held, IsRead, changed_region, rewritten_region, empty_laid_out}
 use Rattle.hd_cells.proofs.ObjectStarts.{empty_indexed, whole}
+use Rattle.std.specs.FinMap as map
 
 -- the fields and the registration that the second cell of an object encodes
 shape_parts : (n : ℕ) (on : Bool) (s : ℕ) → n < 256 → s ≡ cond on (n + 256) n → (s % 256 ≡ n) × (s < 512)
@@ -82,8 +76,7 @@ module _ {c : List ℕ} {fill : ℕ} {r : Contents} (read : IsRead c fill r) (at
       let identities : cell (set c (at + 2) v) at ≡ (object_at r at).identity = first ∙ sym h.identity in
       let fields : take (count_at (set c (at + 2) v) at) (drop (at + 3) (set c (at + 2) v)) ≡ fields_at r at =
       same_fields c (set c (at + 2) v) at (count_at c at) (count_at (set c (at + 2) v) at)
-      (length-set c (at + 2) v) counts
-      (λ k low high. other_cells c (at + 2) v k (λ e. omega (arith, e)))
+      (length-set c (at + 2) v) counts (λ k low high. other_cells c (at + 2) v k (λ e. omega (arith, e)))
       ∙ sym h.fields in
       let values : cell (set c (at + 2) v) (at + 2) ≡ v = get_or-set_same c (at + 2) v 0 (omega arith) in
       let flags : leb 256 (cell (set c (at + 2) v) (at + 1)) ≡ (object_at r at).registered =
@@ -111,8 +104,7 @@ module _ {c : List ℕ} {fill : ℕ} {r : Contents} (read : IsRead c fill r) (at
       let identities : cell (set c (at + 1) s) at ≡ (object_at r at).identity = first ∙ sym h.identity in
       let fields : take (count_at (set c (at + 1) s) at) (drop (at + 3) (set c (at + 1) s)) ≡ fields_at r at =
       same_fields c (set c (at + 1) s) at (count_at c at) (count_at (set c (at + 1) s) at)
-      (length-set c (at + 1) s) counts
-      (λ k low high. other_cells c (at + 1) s k (λ e. omega (arith, e)))
+      (length-set c (at + 1) s) counts (λ k low high. other_cells c (at + 1) s k (λ e. omega (arith, e)))
       ∙ sym h.fields in
       let values : cell (set c (at + 1) s) (at + 2) ≡ (object_at r at).value = third ∙ sym h.value in
       let flags : leb 256 (cell (set c (at + 1) s) (at + 1)) ≡ on = ap (leb 256) shape ∙ parts.2 in
@@ -247,16 +239,9 @@ module _ {c : List ℕ} {fill : ℕ} {r : Contents} (read : IsRead c fill r) whe
       let zero_here : ℕ = 0 in
       let fields : take (count_at d fill) (drop (fill + 3) d) ≡ replicate n zero_here =
       let lengths : length (take (count_at d fill) (drop (fill + 3) d)) ≡ length (replicate n zero_here) =
-      omega (
-        arith,
-        length-take (count_at d fill) (drop (fill + 3) d),
-        length-drop (fill + 3) d,
-        length-replicate n zero_here,
-        put.lengths,
-        read.len,
-        count,
-        room,
-      ) in
+      (let known = length-take (count_at d fill) (drop (fill + 3) d) in
+      let also = length-replicate n zero_here in
+      omega (arith, known, length-drop (fill + 3) d, also, put.lengths, read.len, count, room)) in
       ext_get_or 0 _ _ lengths (λ i short.
       let inside : i < n = omega (arith, short, length-take (count_at d fill) (drop (fill + 3) d), count) in
       get_or-take (count_at d fill) (drop (fill + 3) d) i 0 (omega (arith, inside, count))
@@ -280,8 +265,7 @@ module _ {c : List ℕ} {fill : ℕ} {r : Contents} (read : IsRead c fill r) whe
       let maps : map.from_entries (objects_of c fill ++ (fill, object_in d fill) ∷ []) ≡ map.insert
       (contents_of c fill).objects fill (new_object id n on) =
       map.from_entries_push nat_cmp_total map.nat_cmp-IsAntisymmetric (objects_of c fill) fill
-      (object_in d fill) absent
-      ∙ (λ i. map.insert (contents_of c fill).objects fill (object i)) in
+      (object_in d fill) absent ∙ (λ i. map.insert (contents_of c fill).objects fill (object i)) in
       let seen = laid_contents now (map.insert (contents_of c fill).objects fill (new_object id n on)) maps in
       let size : fill + n + 3 ≡ fill + (length (replicate n zero_here) + 3) =
       omega (arith, length-replicate n zero_here) in
@@ -337,5 +321,4 @@ module _ {c : List ℕ} {fill : ℕ} {r : Contents} (read : IsRead c fill r) (at
         beyond = λ k past. others k (λ e. omega (arith, e)) (λ e. omega (arith, e));
         reach = omega arith;
       })
-      (as_gap gap)
-      (λ q. map.get-remove nat_cmp_total r.objects at q)
+      (as_gap gap) (λ q. map.get-remove nat_cmp_total r.objects at q)

@@ -1,16 +1,9 @@
 -- Lemmas on what callers see of a region's cells.
-use Rattle.std.proofs.Common.{◌≡◌, ℕ, zero, suc, [], ◌∷◌, ◌-◌, ◌+◌, ◌%◌, ◌^◌, ◌<◌, ◌≤◌, true, cond, leb, List, length, take, drop, get_or, Option, Some, None, refl, sym, ap, ◌∙◌, subst, arith, length-take, length-drop, get_or-take, get_or-drop}
+use Rattle.hd_cells.proofs.Basics.{Contents, HoldsObject, IsBody, IsLaid, IsLaidOut, IsObject, IsRegion, IsWhole, List, None, Object, Option, Some, [], ap, arith, both_ways, cell, cond, contents_of, count_at, drop, empty_region, eq_by_cmp, extent_at, fields_at, get_or, get_or-drop, get_or-take, is_some, leb, length, length-drop, length-take, nat_cmp, nat_cmp_total, no_object, object_at, objects_of, refl, subst, suc, sym, take, true, unwrap_or, with_object, zero, ℕ, ◌%◌, ◌+◌, ◌-◌, ◌<◌, ◌^◌, ◌∙◌, ◌∷◌, ◌≡◌, ◌≤◌}
 use Rattle.std.proofs.lemmas.List.Elements.{All-from_get_or}
-use Rattle.std.proofs.lemmas.Bool.{both_ways}
-use Rattle.std.specs.Prelude.{is_some, unwrap_or}
-use Rattle.std.specs.Ordering.{nat_cmp, eq_by_cmp}
-use Rattle.std.specs.Cmp.{nat_cmp_total}
-use Rattle.std.specs.FinMap as map
-use Rattle.hd_cells.specs.Object.{Object, no_object}
-use Rattle.hd_cells.specs.Region.{Contents, IsObject, IsLaidOut, object_at, fields_at, with_object, empty_region}
-use Rattle.hd_cells.specs.Cells.{cell, count_at, object_in, extent_at, objects_of, contents_of, IsBody, IsLaid, IsRegion, IsWhole, HoldsObject}
-use Rattle.hd_cells.specs.declared.region.Region.TheInside.{Inside}
+use Rattle.hd_cells.specs.{Cells.object_in, declared.region.Region.TheInside.Inside}
 use Rattle.hd_cells.proofs.RegionTiles.{extent_at-body, tiling_read, found, found_apart, IsTile, as_body, changed_tiling}
+use Rattle.std.specs.FinMap as map
 
 -- a region is read as its cells are laid out
 pub laid_read : {c : List ℕ} {fill : ℕ} {os : List (ℕ × Object)} → IsLaid c fill os → objects_of c fill ≡ os
@@ -43,9 +36,9 @@ pub record IsRead (c : List ℕ) (fill : ℕ) (r : Contents) : Type 0 where
   pub region : IsRegion c fill
   pub view : contents_of c fill ≡ r
 
-pub opened : (s : Inside) {r : Contents} → (length s.cells ≡ 256) × (length s.starts ≡ 86)
-    → IsWhole s.cells s.fill s.starts → contents_of s.cells s.fill ≡ r → IsRead s.cells s.fill r
-opened s lengths whole view = record { len = lengths.0; region = whole.region; view = view }
+pub opened : {c starts : List ℕ} {fill : ℕ} {r : Contents} → (length c ≡ 256) × (length starts ≡ 86)
+    → IsWhole c fill starts → contents_of c fill ≡ r → IsRead c fill r
+opened lengths whole view = record { len = lengths.0; region = whole.region; view = view }
 
 -- what the cells hold where callers see an object
 pub record IsHeld (c : List ℕ) (fill : ℕ) (r : Contents) (at : ℕ) : Type 0 where
@@ -159,13 +152,10 @@ module _ {c : List ℕ} {fill : ℕ} {r : Contents} (read : IsRead c fill r) whe
         below_fill = λ at is. let h = held at is in omega (arith, h.count, h.high);
         apart = λ a b is_a is_b below.
             let h = held a is_a in
-            omega (
-              arith,
-              h.reach,
-              h.count,
-              found_apart read.region.tiled a b (object_in c a) (object_in c b)
-                  h.finds (held b is_b).finds below,
-            );
+            (let known =
+            found_apart read.region.tiled a b (object_in c a) (object_in c b)
+            h.finds (held b is_b).finds below in
+            omega (arith, h.reach, h.count, known));
       }
 
 -- cells changed within an object, so that a tile as long as that object begins there
@@ -178,18 +168,14 @@ pub record IsRewrite (c d : List ℕ) (at : ℕ) : Type 0 where
 -- the region after such a change: its map has the new tile there and else is as it was
 pub changed_region : {c : List ℕ} {fill : ℕ} {r : Contents} → IsRead c fill r → (d : List ℕ) (at : ℕ)
     (w : Option Object) (m : map.FinMap nat_cmp Object) → IsHeld c fill r at → IsRewrite c d at
-    → IsTile d at w
-    → ((q : ℕ) → map.get m q ≡ cond (eq_by_cmp nat_cmp q at) w (map.get r.objects q))
+    → IsTile d at w → ((q : ℕ) → map.get m q ≡ cond (eq_by_cmp nat_cmp q at) w (map.get r.objects q))
     → IsRead d fill (record r { objects = m })
 changed_region {c} {fill} read d at w m h rewrite tile gets =
     let laid = read.region in
     let fills = ap (λ (x : Contents). x.fill) (sym read.view) in
     let changed = changed_tiling laid.tiled at (object_in c at) h.finds d w tile rewrite.lengths
     (λ k low below. rewrite.before k below) (λ k low below. rewrite.beyond k low) rewrite.reach in
-    let now : IsLaid d fill changed.after = record {
-      tiled = changed.tiled;
-      within = laid.within;
-    } in
+    let now : IsLaid d fill changed.after = record { tiled = changed.tiled; within = laid.within } in
     let maps : map.from_entries changed.after ≡ m = map.same_map nat_cmp_total map.nat_cmp-IsAntisymmetric _ _
     (λ q. map.get-from_entries nat_cmp_total changed.after q ∙ changed.finds q
     ∙ ap (λ (o : Option Object). cond (eq_by_cmp nat_cmp q at) w o) (sym (get-objects c fill q)

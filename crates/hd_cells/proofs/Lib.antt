@@ -1,3 +1,4 @@
+pub mod Basics
 pub mod OffsetLookup
 pub mod RegionTiles
 pub mod Contents

@@ -1,15 +1,7 @@
 -- Lemmas on where the objects of a region begin.
-use Rattle.std.proofs.Common.{◌≡◌, ℕ, ◌+◌, ◌/◌, ◌<◌, ◌≤◌, inl, inr, true, false, eqb, List, length, set, get_or, sym, ap, ◌∙◌, subst, arith, eq-eqb, ne_eqb, get_or-set_same, get_or-set_other}
-use Rattle.std.proofs.lemmas.Bool.{cases_eq, cases_lt, false_from_ne_true, cond-true, cond-false}
-use Rattle.std.specs.Prelude.{is_some}
-use Rattle.std.specs.Ordering.{nat_cmp, eq_by_cmp}
-use Rattle.std.specs.Cmp.{nat_cmp_total}
+use Rattle.hd_cells.proofs.Basics.{Contents, IsIndexed, IsLaidOut, IsObject, IsRegion, IsWhole, List, Object, ap, arith, cases_eq, cases_lt, cond-false, cond-true, contents_of, empty_region, eq-eqb, eq_by_cmp, eqb, false, false_from_ne_true, get_or, get_or-set_other, get_or-set_same, inl, inr, is_some, length, nat_cmp, nat_cmp_total, ne_eqb, set, subst, sym, true, with_object, with_put, without_object, ℕ, ◌+◌, ◌/◌, ◌<◌, ◌∙◌, ◌≡◌, ◌≤◌}
+use Rattle.hd_cells.proofs.{OffsetLookup.tied, OffsetLookup.untied, Contents.IsRead, Contents.laid_out}
 use Rattle.std.specs.FinMap as map
-use Rattle.hd_cells.specs.Object.{Object}
-use Rattle.hd_cells.specs.Region.{Contents, IsObject, IsLaidOut, with_object, with_put, without_object, empty_region}
-use Rattle.hd_cells.specs.Cells.{contents_of, IsIndexed, IsRegion, IsWhole}
-use Rattle.hd_cells.proofs.OffsetLookup.{tied, untied}
-use Rattle.hd_cells.proofs.Contents.{IsRead, laid_out}
 
 -- an index that has no entry where no object is
 pub empty_indexed : (starts : List ℕ) → ((k : ℕ) → k < 86 → get_or starts k 0 ≡ 255)

@@ -1,10 +1,5 @@
 -- Lemmas on the look-up of an offset among objects with their offsets.
-use Rattle.std.proofs.Common.{◌≡◌, ℕ, inl, inr, Bool, true, false, cond, List, ◌∷◌, Option, Some, refl, ap, ◌∙◌, eq-eqb, ne_eqb}
-use Rattle.std.proofs.lemmas.Bool.{cases_eq}
-use Rattle.std.specs.Ordering.{nat_cmp, eq_by_cmp}
-use Rattle.std.specs.Cmp.{unsigned_tied}
-use Rattle.std.specs.FinMap.{find}
-use Rattle.hd_cells.specs.Object.{Object}
+use Rattle.hd_cells.proofs.Basics.{Bool, List, Object, Option, Some, ap, cases_eq, cond, eq-eqb, eq_by_cmp, false, find, inl, inr, nat_cmp, ne_eqb, refl, true, unsigned_tied, ℕ, ◌∙◌, ◌∷◌, ◌≡◌}
 
 -- the order's test at two numbers that are equal, and at two that are not
 pub tied : (x y : ℕ) → x ≡ y → eq_by_cmp nat_cmp x y ≡ true

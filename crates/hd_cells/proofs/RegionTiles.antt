@@ -1,11 +1,6 @@
 -- Lemmas on the cells of a region: what one object or gap takes, and the tiling by them.
-use Rattle.std.proofs.Common.{◌≡◌, ℕ, zero, suc, ◌+◌, ◌%◌, ◌<◌, ◌≤◌, inl, inr, cond, eqb, leb, List, [], ◌∷◌, ◌++◌, length, take, drop, Option, Some, None, refl, sym, ap, ap₂, ◌∙◌, subst, arith, eq-eqb, ne_eqb, length-take, length-drop, get_or-take, get_or-drop, ext_get_or, le-leb}
-use Rattle.std.proofs.lemmas.Bool.{cases_eq, cond-true, cond-false, lt-leb}
-use Rattle.std.proofs.lemmas.Option.{none-some, same_Some}
-use Rattle.std.specs.Ordering.{nat_cmp, eq_by_cmp}
-use Rattle.std.specs.FinMap.{find}
-use Rattle.hd_cells.specs.Object.{Object}
-use Rattle.hd_cells.specs.Cells.{cell, count_at, object_in, extent_at, objects_from, IsBody, IsGap, IsTiled, ended, gap, body}
+use Rattle.hd_cells.proofs.Basics.{IsBody, IsGap, IsTiled, List, None, Object, Option, Some, [], ap, ap₂, arith, body, cases_eq, cell, cond, cond-false, cond-true, count_at, drop, ended, eq-eqb, eq_by_cmp, eqb, ext_get_or, find, gap, get_or-drop, get_or-take, inl, inr, le-leb, leb, length, length-drop, length-take, lt-leb, nat_cmp, ne_eqb, none-some, refl, same_Some, subst, suc, sym, take, zero, ℕ, ◌%◌, ◌++◌, ◌+◌, ◌<◌, ◌∙◌, ◌∷◌, ◌≡◌, ◌≤◌}
+use Rattle.hd_cells.specs.Cells.{object_in, extent_at, objects_from}
 use Rattle.hd_cells.proofs.OffsetLookup.{find_here, find_beyond, asked_twice, either_order, tied_same, tied, untied}
 
 -- the cells from one offset up to another are as they were
@@ -32,14 +27,9 @@ pub same_fields : (c d : List ℕ) (at n m : ℕ) → length d ≡ length c → 
     → AgreeWithin c d (at + 3) (at + 3 + n) → take m (drop (at + 3) d) ≡ take n (drop (at + 3) c)
 same_fields c d at n m len e agree =
     let lengths : length (take m (drop (at + 3) d)) ≡ length (take n (drop (at + 3) c)) =
-    omega (
-      arith,
-      length-take m (drop (at + 3) d),
-      length-take n (drop (at + 3) c),
-      length-drop
-          (at + 3) d,
-      length-drop (at + 3) c,
-    ) in
+    (let known = length-take m (drop (at + 3) d) in
+    let also = length-take n (drop (at + 3) c) in
+    omega (arith, known, also, length-drop (at + 3) d, length-drop (at + 3) c)) in
     ext_get_or 0 _ _ lengths (λ i below.
     let short : length (take m (drop (at + 3) d)) ≤ m = omega (arith, length-take m (drop (at + 3) d)) in
     get_or-take m (drop (at + 3) d) i 0 (omega arith) ∙ get_or-drop (at + 3) d i 0
@@ -287,8 +277,7 @@ changed_tiling {c} {stop} {from} {os = (k, x) ∷ os} (body b t) at o e d w tile
                 ap (λ (y : Option Object). cond (eq_by_cmp nat_cmp q from) (Some (object_in c from)) y)
                 (rest.finds q)
                 ∙ either_order (eq_by_cmp nat_cmp q from) (eq_by_cmp nat_cmp q at) (Some (object_in c from)) w
-                (find nat_cmp q os)
-                (λ f g. other (sym (tied_same q at g) ∙ tied_same q from f));
+                (find nat_cmp q os) (λ f g. other (sym (tied_same q at g) ∙ tied_same q from f));
           }
     ]
 

@@ -11,8 +11,7 @@ appends_none : (w : Option (List ℕ)) → Appends w w []
 appends_none None = tt
 appends_none (Some xs) = sym (append-nil xs)
 
-appends_more : (a b c : Option (List ℕ)) (p q : List ℕ) →
-    Appends a b p → Appends b c q → Appends a c (p ++ q)
+appends_more : (a b c : Option (List ℕ)) (p q : List ℕ) → Appends a b p → Appends b c q → Appends a c (p ++ q)
 appends_more a b None p q first then = tt
 appends_more a None (Some zs) p q first then = absurd then
 appends_more None (Some ys) (Some zs) p q first then = absurd first

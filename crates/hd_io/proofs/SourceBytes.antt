@@ -1,16 +1,8 @@
 -- How what a source gave composes.
-use Rattle.std.proofs.Common.{◌≡◌, ◌≤◌, ◌+◌, ℕ, List, ◌++◌, length, take, arith, length-take, Option, None, Some, sym, ◌∙◌, ap, subst, append_assoc, length-append}
-use Rattle.std.specs.Io.KnownBytes.{Consumes}
+use Rattle.std.proofs.Common.{◌≡◌, ◌≤◌, ◌+◌, ℕ, List, ◌++◌, length, take, arith, length-take, sym, ◌∙◌, subst, length-append}
+use Rattle.std.proofs.KnownBytes.{Consumes-trans}
 use Rattle.hd_io.specs.Counts.{RoseBy}
 use Rattle.hd_io.specs.Source.{SourceView, Gave, GaveCount}
-
-consumes_more : (a b c : Option (List ℕ)) (p q : List ℕ) →
-    Consumes a b p → Consumes b c q → Consumes a c (p ++ q)
-consumes_more None b c p q first then = tt
-consumes_more (Some xs) None c p q first then = absurd first
-consumes_more (Some xs) (Some ys) None p q first then = absurd then
-consumes_more (Some xs) (Some ys) (Some zs) p q first then =
-    first ∙ ap (λ v. p ++ v) then ∙ sym (append_assoc p q zs)
 
 rose_by_more : (a b c m n : ℕ) → RoseBy a b m → RoseBy b c n → RoseBy a c (m + n)
 rose_by_more a b c m n first then = grind arith
@@ -18,7 +10,7 @@ rose_by_more a b c m n first then = grind arith
 -- these bytes and then those are both as one
 pub gave_more : (a b c : SourceView) (p q : List ℕ) → Gave a b p → Gave b c q → Gave a c (p ++ q)
 gave_more a b c p q first then = record {
-  consumed = consumes_more a.left b.left c.left p q first.consumed then.consumed;
+  consumed = Consumes-trans a.left b.left c.left p q first.consumed then.consumed;
   counted = subst (λ n. RoseBy a.given c.given n) (sym (length-append p q))
       (rose_by_more a.given b.given c.given _ _ first.counted then.counted);
   unfailed = then.unfailed ∙ first.unfailed;
@@ -26,8 +18,7 @@ gave_more a b c p q first then = record {
 
 -- and so with the first n bytes of a buffer, whose number is known
 pub gave_count : (a b c : SourceView) (p buf : List ℕ) (n : ℕ) (IsCount : ℕ → Type 0) →
-    Gave a b p → Gave b c (take n buf) → n ≤ length buf → IsCount (length p + n) →
-    GaveCount a c IsCount
+    Gave a b p → Gave b c (take n buf) → n ≤ length buf → IsCount (length p + n) → GaveCount a c IsCount
 gave_count a b c p buf n IsCount first then fits count =
     let long : length p + n ≡ length (p ++ take n buf) =
     omega (arith, length-append p (take n buf), length-take n buf) in

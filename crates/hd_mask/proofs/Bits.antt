@@ -1,11 +1,6 @@
 -- The bits of a mask: what setting and clearing one bit do to it, and how two masks split a third.
 -- The mask of row k alone is `2 ^ k`, which is what `bit` makes, and `!m` is `bit_not w64 m`.
-use Rattle.std.proofs.Common.{◌≡◌, ◌≢◌, ◌↔◌, ◌⊎◌, ℕ, suc, ◌+◌, ◌-◌, ◌*◌, ◌/◌, ◌%◌, ◌^◌, ◌<◌, ◌≤◌, min, bit_and, bit_or, bit_xor, inl, inr, sym, ap, ◌∙◌, arith}
-use Rattle.std.specs.Int.{bit_at, bit_not, w64}
-use Rattle.std.proofs.Math.Nat.{zero-mul}
-use Rattle.std.proofs.lemmas.Bool.{cases_lt, cases_eq, cases_order}
-use Rattle.std.proofs.lemmas.Nat.{pow_pos, pow_below, shr-shr, shr_split, mod_below}
-use Rattle.std.proofs.lemmas.Nat.Bits.{bit_at_and, bit_at_or, bit_at_xor, bit_at_not, bit_at-pow_same, bit_at-pow_other, bit_at-trailing_zeros, bit_at_cat_low, bit_at_cat_high, bit_at-lt, bit_at-zero, bit_at_above, bit_at_ones_above, same_from_bits, same_from_bits_below, and_pow}
+use Rattle.hd_mask.proofs.Basics.{and_pow, ap, arith, bit_and, bit_at, bit_at-lt, bit_at-pow_other, bit_at-pow_same, bit_at-trailing_zeros, bit_at-zero, bit_at_above, bit_at_and, bit_at_cat_high, bit_at_cat_low, bit_at_not, bit_at_ones_above, bit_at_or, bit_at_xor, bit_not, bit_or, bit_xor, cases_eq, cases_lt, cases_order, inl, inr, min, mod_below, pow_below, pow_pos, same_from_bits, same_from_bits_below, shr-shr, shr_split, suc, sym, w64, zero-mul, ℕ, ◌%◌, ◌*◌, ◌+◌, ◌-◌, ◌/◌, ◌<◌, ◌^◌, ◌↔◌, ◌∙◌, ◌≡◌, ◌≢◌, ◌≤◌, ◌⊎◌}
 
 -- ---- a mask as a whole
 
@@ -51,8 +46,7 @@ apart_from_bits a b h =
     same_from_bits _ 0 (λ i. omega (arith, bit_at_and a b i, h i, bit_at-zero i))
 
 -- the bits of two masks that share none
-pub or_apart_at : (a b : ℕ) → bit_and a b ≡ 0 → (i : ℕ)
-    → bit_at (bit_or a b) i ≡ bit_at a i + bit_at b i
+pub or_apart_at : (a b : ℕ) → bit_and a b ≡ 0 → (i : ℕ) → bit_at (bit_or a b) i ≡ bit_at a i + bit_at b i
 or_apart_at a b apart i = omega (arith, bit_at_or a b i, apart_at a b apart i)
 
 -- a mask that two masks split, bit by bit
@@ -66,8 +60,7 @@ module _ (m a b : ℕ) (parts : (i : ℕ) → bit_at m i ≡ bit_at a i + bit_at
 -- ---- one bit
 
 -- two masks are equal that agree at the bit k and at each other
-same_at_each : (a b k : ℕ) → bit_at a k ≡ bit_at b k → ((i : ℕ) → i ≢ k → bit_at a i ≡ bit_at b i)
-    → a ≡ b
+same_at_each : (a b k : ℕ) → bit_at a k ≡ bit_at b k → ((i : ℕ) → i ≢ k → bit_at a i ≡ bit_at b i) → a ≡ b
 same_at_each a b k here others = same_from_bits a b (λ i. at i (cases_eq i k))
   where
     at : (i : ℕ) → (i ≡ k) ⊎ (i ≢ k) → bit_at a i ≡ bit_at b i
@@ -123,8 +116,7 @@ module _ (n k : ℕ) where
   -- ---- `n & !bit(k)`
 
   module _ (fits : n < 2 ^ 64) (within : k < 64) where
-    cleared_at : (i : ℕ)
-        → bit_at (bit_and n (bit_not w64 (2 ^ k))) i ≡ bit_at n i - bit_at (2 ^ k) i
+    cleared_at : (i : ℕ) → bit_at (bit_and n (bit_not w64 (2 ^ k))) i ≡ bit_at n i - bit_at (2 ^ k) i
     cleared_at i = without_at n (2 ^ k) i fits (pow_below k 64 within)
 
     pub clear_same : bit_at (bit_and n (bit_not w64 (2 ^ k))) k ≡ 0
@@ -138,16 +130,6 @@ module _ (n k : ℕ) where
         same_at_each _ _ k (omega (arith, flip_same, clear_same))
         (λ i apart. flip_other i apart ∙ sym (clear_other i apart))
 
-    -- a set bit and the mask without it split the mask
-    pub clear_parts : bit_at n k ≡ 1 → (i : ℕ)
-        → bit_at n i ≡ bit_at (2 ^ k) i + bit_at (bit_and n (bit_not w64 (2 ^ k))) i
-    clear_parts set i = at (cases_eq i k)
-      where
-        at : (i ≡ k) ⊎ (i ≢ k)
-            → bit_at n i ≡ bit_at (2 ^ k) i + bit_at (bit_and n (bit_not w64 (2 ^ k))) i
-        at (inl e) = omega (arith, cleared_at i, bit_at-lt (2 ^ k) i, ap (bit_at n) e, set)
-        at (inr apart) = omega (arith, cleared_at i, bit_at-pow_other k i apart)
-
 -- ---- the lowest set bit
 
 -- n without its lowest set bit t is `n & (n - 1)`: below t the number n - 1 has ones where n has zeros
@@ -158,8 +140,7 @@ module _ (n t : ℕ) (set : bit_at n t ≡ 1) (least : (i : ℕ) → i < t → b
   low_is : n % 2 ^ suc t ≡ 2 ^ t
   low_is =
       same_from_bits_below (suc t) _ _ (mod_below n (2 ^ suc t) (pow_pos (suc t)))
-      (pow_below t (suc t) (omega arith))
-      (λ i lt. bit_at-mod n (suc t) i lt ∙ at i lt (cases_eq i t))
+      (pow_below t (suc t) (omega arith)) (λ i lt. bit_at-mod n (suc t) i lt ∙ at i lt (cases_eq i t))
     where
       at : (i : ℕ) → i < suc t → (i ≡ t) ⊎ (i ≢ t) → bit_at n i ≡ bit_at (2 ^ t) i
       at i lt (inl e) =
@@ -192,8 +173,7 @@ module _ (n t : ℕ) (set : bit_at n t ≡ 1) (least : (i : ℕ) → i < t → b
       both : bit_at (bit_and n (n - 1)) i ≡ min (bit_at n i) (bit_at (n - 1) i)
       both = bit_at_and n (n - 1) i
 
-      at : (i ≡ t) ⊎ ((i < t) ⊎ (t < i))
-          → bit_at n i ≡ bit_at (2 ^ t) i + bit_at (bit_and n (n - 1)) i
+      at : (i ≡ t) ⊎ ((i < t) ⊎ (t < i)) → bit_at n i ≡ bit_at (2 ^ t) i + bit_at (bit_and n (n - 1)) i
       at (inl e) =
           let here = ap (bit_at n) e ∙ set in
           let less = ap (bit_at (n - 1)) e ∙ less_at in

@@ -1,3 +1,4 @@
+pub mod Basics
 pub mod Bits
 pub mod Ones
 pub mod SetBits

@@ -1,11 +1,6 @@
 -- What is left of a mask while its lowest bits are taken away, one by one.
-use Rattle.std.proofs.Common.{◌≡◌, ◌≢◌, ◌⊎◌, ℕ, ◌+◌, ◌-◌, ◌^◌, ◌<◌, ◌≤◌, min, ◌++◌, length, take, drop, bit_and, bit_or, bit_xor, inl, inr, sym, ap, ◌∙◌, arith}
+use Rattle.hd_mask.proofs.Basics.{ap, arith, bit_and, bit_at, bit_at-lt, bit_at-pow_other, bit_at_xor, bit_or, bit_xor, cases_eq, cases_order, drop, inl, inr, length, min, set_bits, sym, take, xor_lt, ℕ, ◌++◌, ◌+◌, ◌-◌, ◌<◌, ◌^◌, ◌∙◌, ◌≡◌, ◌≢◌, ◌≤◌, ◌⊎◌}
 use Rattle.std.specs.Int.RustNames.{count_ones}
-use Rattle.std.specs.Int.{bit_at}
-use Rattle.std.proofs.lemmas.Bool.{cases_eq, cases_order}
-use Rattle.std.proofs.lemmas.Nat.{xor_lt}
-use Rattle.std.proofs.lemmas.Nat.Bits.{bit_at_xor, bit_at-lt, bit_at-pow_other}
-use Rattle.hd_mask.specs.Mask.{set_bits}
 use Rattle.hd_mask.proofs.Bits.{least_bit, lowest_parts, or_from_parts, apart_from_parts}
 use Rattle.hd_mask.proofs.Ones.{ones-without_lowest, ones_from_parts}
 use Rattle.hd_mask.proofs.SetBits.{length-set_bits, set_bits_from_parts, front_and_back}

@@ -1,11 +1,7 @@
 -- The number of set bits of a mask.
-use Rattle.std.proofs.Common.{◌≡◌, ℕ, zero, suc, ◌+◌, ◌-◌, ◌/◌, ◌%◌, ◌^◌, ◌<◌, bit_and, bit_or, refl, sym, ap, ◌∙◌, arith}
-use Rattle.std.specs.Int.RustNames.{count_ones}
-use Rattle.std.specs.Int.{bit_at, bit_not, w64}
-use Rattle.std.specs.Int.Bits.{and_step, or_step}
-use Rattle.std.specs.Int.Count.{ones_step}
-use Rattle.std.proofs.Math.Nat.{pow-suc}
-use Rattle.hd_mask.proofs.Bits.{or_from_parts, apart_from_parts, and_bit_zero, clear_parts, least_bit, lowest_parts}
+use Rattle.hd_mask.proofs.Basics.{ap, arith, bit_and, bit_at, bit_not, bit_or, ones_step, pow-suc, refl, suc, sym, w64, zero, ℕ, ◌%◌, ◌+◌, ◌-◌, ◌/◌, ◌<◌, ◌^◌, ◌∙◌, ◌≡◌}
+use Rattle.std.specs.{Int.RustNames.count_ones, Int.Bits.and_step, Int.Bits.or_step}
+use Rattle.hd_mask.proofs.Bits.{or_from_parts, apart_from_parts, and_bit_zero, least_bit, lowest_parts}
 
 -- ---- two masks
 
@@ -31,8 +27,7 @@ below_pow zero = omega arith
 below_pow (suc n) = omega (arith, below_pow n, pow-suc 2 n)
 
 -- the set bits of `a | b` and of `a & b` are as many as those of a and of b
-pub ones_or_and : (a b : ℕ)
-    → count_ones (bit_or a b) + count_ones (bit_and a b) ≡ count_ones a + count_ones b
+pub ones_or_and : (a b : ℕ) → count_ones (bit_or a b) + count_ones (bit_and a b) ≡ count_ones a + count_ones b
 ones_or_and a b =
     let small = below_pow (a + b) in
     ones_or_and_below (a + b) a b (omega (arith, small)) (omega (arith, small))
@@ -41,8 +36,7 @@ pub ones-zero : count_ones 0 ≡ 0
 unfolding count_ones
 ones-zero = refl
 
-pub ones-or_apart : (a b : ℕ) → bit_and a b ≡ 0
-    → count_ones (bit_or a b) ≡ count_ones a + count_ones b
+pub ones-or_apart : (a b : ℕ) → bit_and a b ≡ 0 → count_ones (bit_or a b) ≡ count_ones a + count_ones b
 ones-or_apart a b apart = omega (arith, ones_or_and a b, ap count_ones apart, ones-zero)
 
 -- two masks that split a third have together as many set bits
@@ -60,23 +54,8 @@ ones-pow (suc k) =
     let half : 2 ^ suc k / 2 ≡ 2 ^ k = omega (arith, pow-suc 2 k) in
     omega (arith, ones_step (2 ^ suc k), pow-suc 2 k, ap count_ones half, ones-pow k)
 
--- to set a clear bit adds one
-pub ones-set : (n k : ℕ) → bit_at n k ≡ 0 → count_ones (bit_or n (2 ^ k)) ≡ count_ones n + 1
-ones-set n k clear =
-    ones-or_apart n (2 ^ k) ((and_bit_zero n k).1 clear) ∙ ap (λ c. count_ones n + c) (ones-pow k)
-
--- to clear a set bit takes one away
-pub ones-clear : (n k : ℕ) → n < 2 ^ 64 → k < 64 → bit_at n k ≡ 1
-    → count_ones (bit_and n (bit_not w64 (2 ^ k))) + 1 ≡ count_ones n
-ones-clear n k fits within set =
-    omega (arith, ones_from_parts n (2 ^ k) _ (clear_parts n k fits within set), ones-pow k)
-
 -- so does `n & (n - 1)`, which clears the lowest
-pub ones-without_lowest : (n : ℕ) → 0 < n → n < 2 ^ 64
-    → count_ones (bit_and n (n - 1)) + 1 ≡ count_ones n
+pub ones-without_lowest : (n : ℕ) → 0 < n → n < 2 ^ 64 → count_ones (bit_and n (n - 1)) + 1 ≡ count_ones n
 ones-without_lowest n some fits =
     let h = least_bit n some fits in
     omega (arith, ones_from_parts n (2 ^ h.0) _ (lowest_parts n h.0 h.2 h.3), ones-pow h.0)
-
--- for `grind`: how one bit changes the count
-pub ruleset mask_ones = (ones-zero, ones-pow, ones-set, ones-clear, ones-or_apart)

@@ -1,18 +1,11 @@
 -- The list of a mask's set bits: its length, its first, and the lists of two masks that split it.
-use Rattle.std.proofs.Common.{◌≡◌, ◌≢◌, ◌⊎◌, ℕ, zero, suc, ◌+◌, ◌/◌, ◌^◌, ◌<◌, ◌≤◌, min, cond, ◌==◌, List, [], ◌∷◌, ◌++◌, length, slice_get, take, drop, filter, Some, inl, inr, refl, sym, ap, ◌∙◌, subst, arith}
-use Rattle.std.specs.Int.RustNames.{count_ones}
-use Rattle.std.specs.Int.{bit_at}
-use Rattle.std.specs.Int.Count.{ones_step}
-use Rattle.std.specs.List.{range_with_len}
-use Rattle.std.proofs.Math.Nat.{div-one, div-eq_of_lt, zero-add, add-zero}
-use Rattle.std.proofs.lemmas.Bool.{cases_eq}
-use Rattle.std.proofs.lemmas.Nat.{pow_below, shr-shr}
-use Rattle.std.proofs.lemmas.Nat.Bits.{bit_at-lt, bit_at-zero, bit_at-pow_same, bit_at-pow_other}
+use Rattle.hd_mask.proofs.Basics.{List, Some, [], add-zero, ap, arith, bit_at, bit_at-lt, bit_at-pow_other, bit_at-pow_same, bit_at-zero, cases_eq, cond, div-eq_of_lt, div-one, drop, filter, inl, inr, length, min, ones_step, pow_below, refl, shr-shr, slice_get, subst, suc, sym, take, zero, zero-add, ℕ, ◌++◌, ◌+◌, ◌/◌, ◌<◌, ◌==◌, ◌^◌, ◌∙◌, ◌∷◌, ◌≡◌, ◌≢◌, ◌≤◌, ◌⊎◌}
+use Rattle.std.specs.{Int.RustNames.count_ones, List.range_with_len}
 use Rattle.hd_mask.specs.Mask.{set_bits}
 use Rattle.hd_mask.proofs.Ones.{ones-pow}
 
 -- the set bits among k bit indices from x on
-abbrev set_from : ℕ → ℕ → ℕ → List ℕ
+abbrev pub set_from : ℕ → ℕ → ℕ → List ℕ
 set_from n k x = filter (λ i. bit_at n i == 1) (range_with_len x k)
 
 -- ---- their number
@@ -40,7 +33,7 @@ length-set_bits n fits = length-set_from n 64 0 fits ∙ ap count_ones (div-one 
 
 -- ---- none, and the first
 
-none_from : (n k x : ℕ) → ((i : ℕ) → x ≤ i → bit_at n i ≡ 0) → set_from n k x ≡ []
+pub none_from : (n k x : ℕ) → ((i : ℕ) → x ≤ i → bit_at n i ≡ 0) → set_from n k x ≡ []
 none_from n zero x clear = refl
 none_from n (suc k) x clear =
     let here = clear x (omega arith) in
@@ -86,8 +79,7 @@ set_bits-pow t lt =
 
 -- one bit index more, at which at most one of the two has its bit set
 joined : (p q r x : ℕ) (whole front back : List ℕ) → r ≡ p + q → r < 2 → (q ≡ 1 → front ≡ [])
-    → whole ≡ front ++ back
-    → cond (r == 1) (x ∷ whole) whole
+    → whole ≡ front ++ back → cond (r == 1) (x ∷ whole) whole
     ≡ cond (p == 1) (x ∷ front) front ++ cond (q == 1) (x ∷ back) back
 joined zero zero r x whole front back sum two none e =
     let clear : r ≡ 0 = omega arith in rw clear e
@@ -103,8 +95,7 @@ joined zero (suc (suc q)) r x whole front back sum two none e = absurd (omega ar
 
 module _ (m a b : ℕ) (parts : (i : ℕ) → bit_at m i ≡ bit_at a i + bit_at b i)
     (below : (i k : ℕ) → bit_at a i ≡ 1 → bit_at b k ≡ 1 → i < k) where
-  none_above : (x i : ℕ) → x < i → bit_at b x ≡ 1 → (bit_at a i ≡ 1) ⊎ (bit_at a i ≢ 1)
-      → bit_at a i ≡ 0
+  none_above : (x i : ℕ) → x < i → bit_at b x ≡ 1 → (bit_at a i ≡ 1) ⊎ (bit_at a i ≢ 1) → bit_at a i ≡ 0
   none_above x i lt set (inl one) = absurd (omega (arith, below i x one set))
   none_above x i lt set (inr not_one) = omega (arith, bit_at-lt a i)
 

@@ -1,3 +1,4 @@
+pub mod Basics
 pub mod SetMembers
 pub mod MaskMembers
 pub mod PoolCalls

@@ -1,16 +1,8 @@
 -- Masks read as a set: what a write of one mask does to it.
-use Rattle.std.proofs.Common.{◌≡◌, ◌≢◌, ◌⊎◌, ℕ, ◌+◌, ◌*◌, ◌-◌, ◌/◌, ◌%◌, ◌^◌, ◌<◌, ◌≤◌, ◌==◌, List, length, filter, get_or, set, inl, inr, sym, ap, ◌∙◌, arith, bit_and, bit_or, replicate}
-use Rattle.std.specs.Int.{bit_at, bit_not, w64}
-use Rattle.std.specs.List.{range_with_len}
-use Rattle.std.specs.Ordering.{nat_cmp}
-use Rattle.std.specs.Cmp.{nat_cmp_total}
-use Rattle.std.specs.FinMap.{nat_cmp-IsAntisymmetric}
-use Rattle.std.specs.FinSet.{FinSet, contains, insert, remove, empty, union, difference, same_set, contains-from_list_nat, contains-empty}
-use Rattle.std.proofs.lemmas.Bool.{cases_eq, cases_lt, eqb-true}
-use Rattle.std.proofs.lemmas.List.{get_or_past, get_or-set_same, get_or-set_other, length-set, get_or-replicate, length-replicate}
+use Rattle.hd_pool.proofs.Basics.{FinSet, HasAllOf, HasNoneBetween, Held, IsLeastBetween, List, ap, arith, bit_and, bit_at, bit_not, bit_or, cases_eq, cases_lt, contains, contains-empty, contains-from_list_nat, difference, empty, eqb-true, filter, get_or, get_or-replicate, get_or-set_other, get_or-set_same, get_or_past, inl, inr, insert, is_marked, length, length-replicate, length-set, nat_cmp, nat_cmp-IsAntisymmetric, nat_cmp_total, numbers_of, range_with_len, remove, replicate, same_set, set, sym, union, w64, ℕ, ◌%◌, ◌*◌, ◌+◌, ◌-◌, ◌/◌, ◌<◌, ◌==◌, ◌^◌, ◌∙◌, ◌≡◌, ◌≢◌, ◌≤◌, ◌⊎◌}
 use Rattle.std.proofs.lemmas.Nat.Bits.{bit_at-zero, bit_at_ones, same_from_bits_below}
 use Rattle.hd_mask.proofs.Bits.{set_same, set_other, clear_same, clear_other}
-use Rattle.hd_pool.specs.Masks.{Held, is_marked, set_of, numbers_of, IsLeastBetween, HasNoneBetween, HasAllOf}
+use Rattle.hd_pool.specs.Masks.{set_of}
 use Rattle.hd_pool.proofs.SetMembers.{kept_in, kept_outside, insert_same, insert_other, remove_same, remove_other, union_same, union_other, difference_same, difference_other}
 
 -- a number is in the set of some masks exactly where its bit is set
@@ -130,8 +122,7 @@ module _ (masks : List ℕ) (s : Held) (is : seen masks ≡ s) where
 
   -- what a write of one mask does to what is seen
   pub written : (k word : ℕ) (f : FinSet nat_cmp → FinSet nat_cmp) → set_of (set masks k word) ≡ f
-      (set_of masks)
-      → seen (set masks k word) ≡ record s { members = f s.members }
+      (set_of masks) → seen (set masks k word) ≡ record s { members = f s.members }
   written k word f e =
       let now : seen (set masks k word) ≡ record { room = 64 * length masks; members = f (set_of masks) } =
       λ i. record { room = 64 * length-set masks k word i; members = e i } in
@@ -159,8 +150,7 @@ module _ (masks : List ℕ) (s : Held) (is : seen masks ≡ s) where
       bit j lt =
           let here : (64 * at + j) / 64 ≡ at = omega arith in
           let row : (64 * at + j) % 64 ≡ j = omega arith in
-          ap (bit_at mask) (sym row)
-          ∙ eqb-true (bit_at mask ((64 * at + j) % 64)) 1
+          ap (bit_at mask) (sym row) ∙ eqb-true (bit_at mask ((64 * at + j) % 64)) 1
           (sym (bit_of at mask (64 * at + j) read here) ∙ all (64 * at + j) here)
 
   module _ (at mask : ℕ) (read : mask ≡ get_or masks at 0) (from : ℕ) where

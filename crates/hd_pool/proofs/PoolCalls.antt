@@ -1,31 +1,15 @@
 -- What each call of a pool does to its fields and to the set of free slots.
-use Rattle.std.proofs.Common.{◌≡◌, ◌≢◌, ◌⊎◌, ℕ, ◌+◌, ◌*◌, ◌-◌, ◌/◌, ◌<◌, ◌≤◌, Bool, true, false, List, length, get_or, set, Option, Some, None, IsSome, inl, inr, refl, sym, ap, ◌∙◌, subst, arith}
-use Rattle.std.specs.Prelude.{is_some, IfSome, IfNone}
-use Rattle.std.specs.FinMap as map
-use Rattle.std.specs.FinMap.{get}
-use Rattle.std.specs.FinSet.{FinSet, contains, insert, remove, empty, union, difference, contains-empty}
-use Rattle.std.specs.Ordering.{nat_cmp}
-use Rattle.std.proofs.lemmas.Bool.{cases_eq, cases_lt, both_ways}
-use Rattle.std.proofs.lemmas.List.{get_or_past, get_or-set_same, get_or-set_other, get_or_read, length-set}
-use Rattle.hd_model.specs.declared.data.Kind.{Kind}
-use Rattle.hd_model.specs.declared.data.Slot.{Slot}
-use Rattle.hd_model.specs.Kinds.{kind_number}
+use Rattle.hd_pool.proofs.Basics.{Bool, FinSet, FreeSlots, HasAllOf, HasFree, HasNoneBetween, HasNoneFor, Held, IfNone, IfSome, IsFreeFor, IsLeastBetween, IsLeastFreeFor, IsLeastWholeOf, IsPool, IsSome, IsWholeOf, List, None, Option, Some, ap, arith, both_ways, by_place-clear, by_place-put, cases_eq, cases_lt, contains, contains-empty, difference, empty, false, get, get-by_place, get_or, get_or-set_other, get_or-set_same, get_or_past, get_or_read, inl, inr, insert, is_some, kind_at, length, length-set, nat_cmp, numbers_of, place_of, refl, remove, same_Some, set, subst, sym, true, union, ℕ, ◌*◌, ◌+◌, ◌-◌, ◌/◌, ◌<◌, ◌∙◌, ◌≡◌, ◌≢◌, ◌≤◌, ◌⊎◌}
+use Rattle.hd_model.specs.{declared.data.Kind.Kind, declared.data.Slot.Slot, Kinds.kind_number, Indexed.by_place}
 use Rattle.hd_model.proofs.KindTests.{same_number, few_kinds}
-use Rattle.hd_pool.specs.Masks.{Held, numbers_of, IsLeastBetween, HasNoneBetween, HasAllOf}
-use Rattle.hd_pool.specs.Inside.{kind_at, place_of, HasFree, IsPool}
-use Rattle.hd_model.specs.Indexed.{by_place}
-use Rattle.hd_pool.specs.Pool.{FreeSlots, IsFreeFor, IsLeastFreeFor, HasNoneFor, IsWholeOf, IsLeastWholeOf}
-use Rattle.hd_model.proofs.IndexedItems.{get-by_place, by_place-put, by_place-clear}
 use Rattle.hd_pool.proofs.SetMembers.{insert_same, insert_other, insert_keeps, remove_same, remove_other, union_same, union_other, difference_same, difference_other}
+use Rattle.std.specs.FinMap as map
 
 -- two numbers in `ready` are equal only for the same kind and block
 same_place : (j k : Kind) (a b : ℕ) → a < 320 → b < 320 → place_of j a ≡ place_of k b → (j ≡ k) × (a ≡ b)
 same_place j k a b small small' e =
     let number : kind_number j ≡ kind_number k = omega arith in
     (same_number j k number, omega arith)
-
-Some-injective : (j k : Kind) → Some j ≡ Some k → j ≡ k
-Some-injective j k e = cc
 
 -- ---- a read of the kinds
 
@@ -73,7 +57,7 @@ module _ {kinds : List (Option Kind)} {free ready : Held} (inv : IsPool kinds fr
       ];
       opened = λ j slot of_kind member. elim (cases_eq (slot / 64) block) [
         | inl e ↦ insert_same ready.members (place_of k block) (place_of j (slot / 64))
-            (λ i. place_of (Some-injective j k (sym of_kind ∙ here (slot / 64) e) i) (e i))
+            (λ i. place_of (same_Some j k (sym of_kind ∙ here (slot / 64) e) i) (e i))
         | inr apart ↦ insert_keeps ready.members (place_of k block) (place_of j (slot / 64))
             (inv.opened j slot (sym (other (slot / 64) apart) ∙ of_kind)
             (sym (union_other block slot free.members apart) ∙ member))
@@ -165,7 +149,7 @@ module _ {kinds : List (Option Kind)} {free ready : Held} (inv : IsPool kinds fr
         | inr apart ↦ let old = inv.has_free j b small
             (sym (remove_other ready.members (place_of k (slot / 64)) (place_of j b) apart) ∙ member) in
             let differs : b ≢ slot / 64 = λ e. apart
-            (λ i. place_of (Some-injective j k (sym old.0 ∙ ap (kind_at kinds) e ∙ of_kind) i) (e i)) in (
+            (λ i. place_of (same_Some j k (sym old.0 ∙ ap (kind_at kinds) e ∙ of_kind) i) (e i)) in (
               old.0,
               record {
                 slot = old.1.slot;
@@ -192,7 +176,7 @@ module _ {kinds : List (Option Kind)} {free ready : Held} (inv : IsPool kinds fr
       ];
       opened = λ j q is member. elim (cases_eq q slot) [
         | inl e ↦ insert_same ready.members (place_of k (slot / 64)) (place_of j (q / 64))
-            (λ i. place_of (Some-injective j k (sym is ∙ ap (λ x. kind_at kinds (x / 64)) e ∙ of_kind) i)
+            (λ i. place_of (same_Some j k (sym is ∙ ap (λ x. kind_at kinds (x / 64)) e ∙ of_kind) i)
             (e i / 64))
         | inr apart ↦ insert_keeps ready.members (place_of k (slot / 64)) (place_of j (q / 64))
             (inv.opened j q is (sym (insert_other free.members slot q apart) ∙ member))
@@ -201,11 +185,7 @@ module _ {kinds : List (Option Kind)} {free ready : Held} (inv : IsPool kinds fr
         | inl e ↦ let small' = block_small (slot / 64) (is_there kinds (slot / 64) k of_kind) in
             let same = same_place j k b (slot / 64) small (omega arith) e in (
               ap (kind_at kinds) same.1 ∙ of_kind ∙ ap Some (sym same.0),
-              record {
-                slot = slot;
-                of_block = sym same.1;
-                free = insert_same free.members slot slot refl;
-              },
+              record { slot = slot; of_block = sym same.1; free = insert_same free.members slot slot refl },
             )
         | inr apart ↦ let old = inv.has_free j b small
             (sym (insert_other ready.members (place_of k (slot / 64)) (place_of j b) apart) ∙ member) in (
@@ -245,7 +225,7 @@ module _ {kinds : List (Option Kind)} {free ready : Held} (inv : IsPool kinds fr
         | inr apart ↦ let old = inv.has_free j b small
             (sym (remove_other ready.members (place_of k block) (place_of j b) apart) ∙ member) in
             let differs : b ≢ block = λ e. apart (λ i. place_of
-            (Some-injective j k (sym old.0 ∙ ap (kind_at kinds) e ∙ of_kind) i) (e i)) in (
+            (same_Some j k (sym old.0 ∙ ap (kind_at kinds) e ∙ of_kind) i) (e i)) in (
               other b differs ∙ old.0,
               record {
                 slot = old.1.slot;
@@ -319,8 +299,7 @@ module _ {kinds : List (Option Kind)} {free ready : Held} (inv : IsPool kinds fr
         }
           where
             at_most : (other : Slot) → IsFreeFor (seen kinds free) k other → (other.0 / 64 < block) ⊎
-                (block ≤ other.0 / 64)
-                → (other.0 < slot) ⊎ (slot ≤ other.0) → slot ≤ other.0
+                (block ≤ other.0 / 64) → (other.0 < slot) ⊎ (slot ≤ other.0) → slot ≤ other.0
             at_most other is _ (inr le) = le
             at_most other is (inl before) (inl less) =
                 not_both _ (first.least (place_of k (other.0 / 64)) (omega arith) (omega (arith, at_is)))
@@ -386,8 +365,7 @@ module _ {kinds : List (Option Kind)} {free ready : Held} (inv : IsPool kinds fr
       } =
       λ i. record {
         blocks = length-set kinds block (Some k) i - 1;
-        kinds = by_place-put kinds block k within
-            i;
+        kinds = by_place-put kinds block k within i;
         free = f free.members;
       } in
       ap (seen (set kinds block (Some k))) e ∙ now ∙ ap
@@ -403,8 +381,7 @@ module _ {kinds : List (Option Kind)} {free ready : Held} (inv : IsPool kinds fr
       λ i. record {
         blocks = length-set kinds block None i - 1;
         kinds = by_place-clear kinds block i;
-        free = f
-            free.members;
+        free = f free.members;
       } in
       ap (seen (set kinds block None)) e ∙ now ∙ ap
       (λ (u : FreeSlots). record u { kinds = map.remove u.kinds block; free = f u.free }) is

@@ -1,12 +1,5 @@
 -- Members of sets of numbers after one change, and of runs of numbers.
-use Rattle.std.proofs.Common.{◌≡◌, ◌≢◌, ◌⊎◌, ℕ, zero, suc, ◌+◌, ◌*◌, ◌/◌, ◌<◌, ◌≤◌, Bool, true, false, not, cond, ◌||◌, ◌&&◌, List, ◌∷◌, filter, inl, inr, refl, ap, ◌∙◌, arith}
-use Rattle.std.specs.Prelude.{nat_eq}
-use Rattle.std.specs.List.{list_any, range_with_len}
-use Rattle.std.specs.Ordering.{nat_cmp, eq_by_cmp}
-use Rattle.std.specs.Cmp.{nat_cmp_total, unsigned_tied}
-use Rattle.std.specs.FinSet.{FinSet, contains, insert, remove, union, difference, contains-empty, contains-insert, contains-remove, contains-union, contains-difference, contains-from_list_nat}
-use Rattle.std.specs.FinMap.{get-insert, get-remove, get-empty}
-use Rattle.std.proofs.lemmas.Bool.{eq-eqb, ne_eqb, cases_eq}
+use Rattle.hd_pool.proofs.Basics.{Bool, FinSet, List, ap, arith, cases_eq, cond, contains, contains-difference, contains-empty, contains-from_list_nat, contains-insert, contains-remove, contains-union, difference, eq-eqb, eq_by_cmp, false, filter, get-empty, get-insert, get-remove, inl, inr, insert, list_any, nat_cmp, nat_cmp_total, nat_eq, ne_eqb, not, range_with_len, refl, remove, suc, true, union, unsigned_tied, zero, ℕ, ◌&&◌, ◌*◌, ◌+◌, ◌/◌, ◌<◌, ◌||◌, ◌∙◌, ◌∷◌, ◌≡◌, ◌≢◌, ◌≤◌, ◌⊎◌}
 use Rattle.hd_pool.specs.Masks.{numbers_of}
 
 or-true : (a : Bool) → (a || true) ≡ true

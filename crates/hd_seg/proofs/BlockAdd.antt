@@ -1,23 +1,8 @@
 -- A block comes into use: for handles, at the end of a chain, or for the extras of another block's rows.
-use Rattle.std.proofs.Common.{◌≡◌, ◌≢◌, ℕ, zero, suc, ◌+◌, ◌<◌, ◌≤◌, List, [], ◌∷◌, ◌++◌, length, get_or, set, replicate, sum_by, Option, Some, None, IsSome, Contains, refl, sym, ap, ◌∙◌, subst, inl, inr, arith}
-use Rattle.std.specs.Prelude.{is_some}
-use Rattle.std.specs.FinMap.{len, insert, empty, len-empty}
-use Rattle.std.specs.Ordering.{nat_cmp}
-use Rattle.std.proofs.lemmas.Bool.{cases_eq, cases_lt}
-use Rattle.std.proofs.lemmas.List.{get_or-set_same, get_or-set_other, length-set, length_push, get_or_push, get_or_append_left, length-replicate}
-use Rattle.std.proofs.lemmas.List.Elements.{Contains-push, Contains-append_left}
-use Rattle.std.proofs.lemmas.List.Sums.{sum_by-set}
-use Rattle.hd_model.specs.declared.data.Kind.{Kind}
-use Rattle.hd_model.specs.State.{BlockUse, handles_of, extra_data}
-use Rattle.hd_model.specs.Kinds.{kind_number}
-use Rattle.hd_model.specs.Table.{with_block, with_data, empty_table, IsLeastWithout}
-use Rattle.hd_model.proofs.KindTests.{few_kinds}
-use Rattle.hd_seg.specs.declared.row.BlockKind.TheVariants as block
-use Rattle.hd_seg.specs.declared.block.Block.{Block}
-use Rattle.hd_seg.specs.Blocks.{Uses, use_of, block_at, use_at, extras_at, uses_in, IsListed, IsLinked, IsBlocks}
-use Rattle.hd_seg.specs.Mapped.{mapped}
+use Rattle.hd_seg.proofs.Basics.{Block, BlockUse, Contains, Contains-append_left, Contains-push, IsBlocks, IsLeastWithout, IsLinked, IsListed, IsSome, Kind, List, None, Option, Some, Uses, [], ap, arith, block_at, cases_eq, cases_lt, empty, empty_table, extra_data, extras_at, few_kinds, get_or, get_or-set_other, get_or-set_same, get_or_append_left, get_or_push, handles_of, inl, inr, insert, is_some, kind_number, len, len-empty, length, length-replicate, length-set, length_push, mapped, nat_cmp, refl, replicate, set, subst, suc, sum_by, sum_by-set, sym, use_at, use_of, uses_in, with_block, with_data, zero, ℕ, ◌++◌, ◌+◌, ◌<◌, ◌∙◌, ◌∷◌, ◌≡◌, ◌≢◌, ◌≤◌}
 use Rattle.hd_seg.proofs.FunctionMaps.{mapped-insert, mapped-same, mapped-empty, len-insert_new}
 use Rattle.hd_seg.proofs.ChainLinks.{none_is_some, some_of, use_is, one_kind, listed_like, found_in, linked_by, linked_with}
+use Rattle.hd_seg.specs.declared.row.BlockKind.TheVariants as block
 
 pub extras_apart : (o : Option BlockUse) (k : Kind) → o ≡ Some extra_data → o ≡ Some (handles_of k) → ⊥
 extras_apart o k is is' = let no : Some extra_data ≡ Some (handles_of k) = sym is ∙ is' in cc
@@ -68,13 +53,11 @@ module _ {number given : ℕ} {table : List Block} {chains : List (List ℕ)}
       ])
 
   count-add : given + 1 ≡ len (mapped 1 number (use_at with_rows))
-  count-add = omega (
-    arith,
-    ap len uses-add,
-    len-insert_new (mapped 1 number (use_at table)) b (handles_of k)
-        (use_is inv b low (omega (arith, within, inv.size)) ∙ unused),
-    inv.counted,
-  )
+  count-add =
+      let known =
+      len-insert_new (mapped 1 number (use_at table)) b (handles_of k)
+      (use_is inv b low (omega (arith, within, inv.size)) ∙ unused) in
+      omega (arith, ap len uses-add, known, inv.counted)
 
   kept : (j : Kind) (q i : ℕ) → IsListed number table j q i → IsListed number with_rows j q i
   kept j q i is =
@@ -121,14 +104,10 @@ module _ {number given : ℕ} {table : List Block} {chains : List (List ℕ)}
     limit = inv.limit;
     size = length-set table b (record { kind = block.Rows k; place = p; extras = None }) ∙ inv.size;
     counted = count-add;
-    spare = omega (
-      arith,
-      ap (sum_by length) chains_are,
-      sum_by-set length chains (kind_number k) (chain ++ b ∷ []) []
-          (omega (arith, few_kinds k, inv.linked.kinds)),
-      length_push chain b,
-      inv.spare,
-    );
+    spare = (let known =
+        sum_by-set length chains (kind_number k) (chain ++ b ∷ []) []
+        (omega (arith, few_kinds k, inv.linked.kinds)) in
+        omega (arith, ap (sum_by length) chains_are, known, length_push chain b, inv.spare));
     linked = subst (λ xs. IsLinked number with_rows xs) chains_are
         (linked_with inv.linked k (chain ++ b ∷ []) listed_here found_here (λ j q i other. kept j q i)
         use_was);
@@ -214,8 +193,7 @@ module _ {number given : ℕ} {table : List Block} {chains : List (List ℕ)}
     use_other q apart =
         ap (λ (x : Block). use_of x.kind) (not_d q apart)
         ∙ elim (cases_eq q a) [
-          | inl same ↦ ap (λ (x : Block). use_of x.kind)
-              (block_same table a with_extras (omega arith) q same)
+          | inl same ↦ ap (λ (x : Block). use_of x.kind) (block_same table a with_extras (omega arith) q same)
               ∙ ap (λ (x : Block). use_of x.kind) of_is ∙ ap (use_at table) (sym same)
           | inr other ↦ ap (λ (x : Block). use_of x.kind)
               (block_other table a with_extras (omega arith) q other)
@@ -259,13 +237,10 @@ module _ {number given : ℕ} {table : List Block} {chains : List (List ℕ)}
     blocks-with_data = record {
       limit = inv.limit;
       size = length-set (set table a with_extras) d as_data ∙ size ∙ inv.size;
-      counted = omega (
-        arith,
-        ap len uses-data,
-        len-insert_new (mapped 1 number (use_at table)) d extra_data
-            (use_is inv d (omega arith) (omega (arith, within, inv.size)) ∙ unused),
-        inv.counted,
-      );
+      counted = (let known =
+          len-insert_new (mapped 1 number (use_at table)) d extra_data
+          (use_is inv d (omega arith) (omega (arith, within, inv.size)) ∙ unused) in
+          omega (arith, ap len uses-data, known, inv.counted));
       spare = omega (arith, inv.spare);
       linked = linked_by inv.linked.kinds (λ k i lt. kept_both k _ i (inv.linked.listed k i lt))
           (λ k q first last is. found_in inv.linked k q first last (rows_before k q is));
@@ -333,8 +308,6 @@ module _ (number : ℕ) where
       (replicate (number + 1) (record { kind = block.Unused; place = 0; extras = None })) (replicate 7 [])
       ≡ record { table = empty_table number; extras = empty }
   view-none i = record {
-    table =
-        record { rows = empty; chains = replicate 7 []; uses = uses-none i; blocks = number };
-    extras =
-        extras-none i;
+    table = record { rows = empty; chains = replicate 7 []; uses = uses-none i; blocks = number };
+    extras = extras-none i;
   }

@@ -1,23 +1,9 @@
 -- Rows are unchanged where a block comes into use or is taken back.
-use Rattle.std.proofs.Common.{◌≡◌, ◌≢◌, ℕ, ◌+◌, ◌*◌, ◌/◌, ◌%◌, ◌≤◌, Bool, true, false, cond, List, Option, Some, None, refl, sym, ap, ◌∙◌, inl, inr, arith}
-use Rattle.std.specs.Prelude.{is_some, not}
-use Rattle.std.specs.FinMap.{get, len, insert}
-use Rattle.std.proofs.lemmas.Bool.{cases_eq, true≢false}
-use Rattle.hd_model.specs.declared.data.Addr.{Addr}
-use Rattle.hd_model.specs.declared.data.Kind.{Kind}
-use Rattle.hd_model.specs.State.{BlockUse, handles_of, extra_data}
-use Rattle.hd_model.specs.Kinds.{is_paired}
-use Rattle.hd_model.specs.Table.{Table, IsTable, has_handles, is_single, kind_in, with_block, with_data, without_block}
-use Rattle.hd_model.proofs.ReadAfterWrite.{get_beside, get_left}
-use Rattle.hd_seg.specs.declared.cells.Cell.{Cell}
-use Rattle.hd_seg.specs.declared.cells.Cell.TheVariants as cell
-use Rattle.hd_seg.specs.Blocks.{Uses}
-use Rattle.hd_seg.specs.Cells.{cell_at, cell_in, place_in, extra_place, row_by, row_in, table_in, IsPaired, IsSeg}
-use Rattle.hd_seg.specs.Mapped.{mapped}
+use Rattle.hd_seg.proofs.Basics.{Addr, BlockUse, Cell, IsPaired, IsSeg, IsTable, Kind, List, None, Option, Some, Table, Uses, ap, arith, cases_eq, cell_at, cell_in, cond, extra_data, extra_place, false, get, get_beside, get_left, handles_of, has_handles, inl, inr, insert, is_paired, is_single, is_some, kind_in, len, mapped, not-true, place_in, refl, row_by, row_in, same_Some, sym, table_in, true, true≢false, with_block, with_data, without_block, ℕ, ◌%◌, ◌*◌, ◌+◌, ◌/◌, ◌∙◌, ◌≡◌, ◌≢◌, ◌≤◌}
 use Rattle.hd_seg.proofs.FunctionMaps.{mapped-same, get-insert_same, get-remove_same}
 use Rattle.hd_seg.proofs.ChainLinks.{none_is_some, some_of, one_kind}
-use Rattle.hd_seg.proofs.BlockAdd.{extras_apart}
-use Rattle.hd_seg.proofs.RowCells.{row-unused, row-empty}
+use Rattle.hd_seg.proofs.{BlockAdd.extras_apart, RowCells.row-unused, RowCells.row-empty}
+use Rattle.hd_seg.specs.declared.cells.Cell.TheVariants as cell
 
 -- a use is not nothing
 unused_apart : (o : Option BlockUse) (k : BlockUse) → o ≡ None → o ≡ Some k → ⊥
@@ -59,7 +45,7 @@ module _ {u : Uses} {cells : List Cell} {masks : List ℕ} {live : ℕ} (inv : I
 
   -- ---- a block of handles
   module _ (k : Kind) (b : ℕ) (none : get u.table.uses b ≡ None) (plain : get u.extras b ≡ None) where
-    abbrev one : Uses
+    abbrev pub one : Uses
     one = record u { table = with_block u.table k b }
 
     one_use : (q : ℕ) → q ≢ b → get one.table.uses q ≡ get u.table.uses q
@@ -71,7 +57,7 @@ module _ {u : Uses} {cells : List Cell} {masks : List ℕ} {live : ℕ} (inv : I
     was_none : (q : ℕ) → q ≡ b → get u.table.uses q ≡ None
     was_none q same = ap (get u.table.uses) same ∙ none
 
-    pub one_rows : (q : ℕ) → row_in (record u { table = with_block u.table k b }) cells q ≡ row_in u cells q
+    pub one_rows : (q : ℕ) → row_in one cells q ≡ row_in u cells q
     one_rows q =
         elim (cases_eq (q / 64) b) [
           | inl same ↦ row-empty _ _ _ (unused_cell q (was_none (q / 64) same))
@@ -103,8 +89,7 @@ module _ {u : Uses} {cells : List Cell} {masks : List ℕ} {live : ℕ} (inv : I
       apart = inv.paired.apart;
     }
 
-    pub one-seg : is_paired k ≡ false → IsTable (with_block u.table k b)
-        → IsSeg (record u { table = with_block u.table k b }) cells masks live
+    pub one-seg : is_paired k ≡ false → IsTable (with_block u.table k b) → IsSeg one cells masks live
     one-seg single table =
         seg-same one refl one_rows table
         (λ q nothing not_data.
@@ -114,16 +99,14 @@ module _ {u : Uses} {cells : List Cell} {masks : List ℕ} {live : ℕ} (inv : I
         ])
         one_targets inv.cleared (one_paired single)
 
-    pub one-view : {t : Table} → table_in u cells ≡ t
-        → table_in (record u { table = with_block u.table k b }) cells ≡ with_block t k b
+    pub one-view : {t : Table} → table_in u cells ≡ t → table_in one cells ≡ with_block t k b
     one-view is =
         ap (λ m. let s : Table = record (with_block u.table k b) { rows = m } in s)
-        (rows-same one refl one_rows)
-        ∙ ap (λ s. with_block s k b) is
+        (rows-same one refl one_rows) ∙ ap (λ s. with_block s k b) is
 
     -- ---- and its data block
     module _ (d : ℕ) (unused : get u.table.uses d ≡ None) (apart : d ≢ b) (within : d ≤ u.table.blocks) where
-      abbrev two : Uses
+      abbrev pub two : Uses
       two = record { table = with_data (with_block u.table k b) d; extras = insert u.extras b d }
 
       two_use : (q : ℕ) → q ≢ b → q ≢ d → get two.table.uses q ≡ get u.table.uses q
@@ -142,10 +125,7 @@ module _ {u : Uses} {cells : List Cell} {masks : List ℕ} {live : ℕ} (inv : I
       place_other : (q : ℕ) → q / 64 ≢ b → extra_place two q ≡ extra_place u q
       place_other q not_b = ap (λ o. place_in o (q % 64)) (get_beside u.extras b d (q / 64) not_b)
 
-      pub two_rows : (q : ℕ)
-          → row_in (record { table = with_data (with_block u.table k b) d; extras = insert u.extras b d })
-          cells
-          q ≡ row_in u cells q
+      pub two_rows : (q : ℕ) → row_in two cells q ≡ row_in u cells q
       two_rows q =
           elim (cases_eq (q / 64) b) [
             | inl same ↦ row-empty _ _ _ (unused_cell q (was_none (q / 64) same))
@@ -194,14 +174,11 @@ module _ {u : Uses} {cells : List Cell} {masks : List ℕ} {live : ℕ} (inv : I
             | inr not_b ↦ ap (cell_in cells) (place_other q not_b) ∙ inv.cleared q nothing
           ]
 
-      one_extra : (e f : ℕ) (o : Option ℕ) → o ≡ Some e → o ≡ Some f → e ≡ f
-      one_extra e f o is is' = let same : Some e ≡ Some f = sym is ∙ is' in cc
-
       old_data : (q e : ℕ) → q ≢ b → get two.extras q ≡ Some e → get u.extras q ≡ Some e
       old_data q e not_b is = sym (get_beside u.extras b d q not_b) ∙ is
 
       here_data : (q e : ℕ) → q ≡ b → get two.extras q ≡ Some e → e ≡ d
-      here_data q e same is = one_extra e d _ is (get-insert_same u.extras b d q same)
+      here_data q e same is = same_Some e d (sym is ∙ get-insert_same u.extras b d q same)
 
       not_d_before : (q e : ℕ) → get u.extras q ≡ Some e → e ≢ d
       not_d_before q e is same = unused_apart _ extra_data (d_none e same) (inv.paired.used q e is)
@@ -244,24 +221,20 @@ module _ {u : Uses} {cells : List Cell} {masks : List ℕ} {live : ℕ} (inv : I
       }
 
       pub two-seg : is_paired k ≡ true → IsTable (with_data (with_block u.table k b) d)
-          → IsSeg (record { table = with_data (with_block u.table k b) d; extras = insert u.extras b d })
-          cells
-          masks live
+          → IsSeg two cells masks live
       two-seg paired table = seg-same two refl two_rows table two_vacant two_targets two_cleared
           (two_paired paired)
 
       pub two-view : {t : Table} → table_in u cells ≡ t
-          → table_in (record { table = with_data (with_block u.table k b) d; extras = insert u.extras b d })
-          cells ≡ with_data (with_block t k b) d
+          → table_in two cells ≡ with_data (with_block t k b) d
       two-view is =
           ap (λ m. let s : Table = record (with_data (with_block u.table k b) d) { rows = m } in s)
-          (rows-same two refl two_rows)
-          ∙ ap (λ s. with_data (with_block s k b) d) is
+          (rows-same two refl two_rows) ∙ ap (λ s. with_data (with_block s k b) d) is
 
   -- ---- a block that is taken back
   module _ (b : ℕ) (k : Kind) (in_use : get u.table.uses b ≡ Some (handles_of k))
       (vacant : (q : ℕ) → q / 64 ≡ b → row_in u cells q ≡ None) where
-    abbrev back : Uses
+    abbrev pub back : Uses
     back = record u { table = without_block u.table k b }
 
     back_use : (q : ℕ) → q ≢ b → get back.table.uses q ≡ get u.table.uses q
@@ -270,8 +243,7 @@ module _ {u : Uses} {cells : List Cell} {masks : List ℕ} {live : ℕ} (inv : I
     back_none : (q : ℕ) → q ≡ b → get back.table.uses q ≡ None
     back_none q same = get-remove_same u.table.uses b q same
 
-    pub back_rows : (q : ℕ) → row_in (record u { table = without_block u.table k b }) cells q
-        ≡ row_in u cells q
+    pub back_rows : (q : ℕ) → row_in back cells q ≡ row_in u cells q
     back_rows q =
         elim (cases_eq (q / 64) b) [
           | inl same ↦ row-unused _ _ _ (back_none (q / 64) same) ∙ sym (vacant q same)
@@ -283,8 +255,7 @@ module _ {u : Uses} {cells : List Cell} {masks : List ℕ} {live : ℕ} (inv : I
     bare_cell q same = inv.vacant q (vacant q same)
         (λ extras. extras_apart _ k extras (ap (get u.table.uses) same ∙ in_use))
 
-    pub back-seg : IsTable (without_block u.table k b)
-        → IsSeg (record u { table = without_block u.table k b }) cells masks live
+    pub back-seg : IsTable (without_block u.table k b) → IsSeg back cells masks live
     back-seg table =
         seg-same back refl back_rows table
         (λ q nothing not_data.
@@ -309,20 +280,14 @@ module _ {u : Uses} {cells : List Cell} {masks : List ℕ} {live : ℕ} (inv : I
           apart = inv.paired.apart;
         })
 
-    pub back-view : {t : Table} → table_in u cells ≡ t
-        → table_in (record u { table = without_block u.table k b }) cells ≡ without_block t k b
+    pub back-view : {t : Table} → table_in u cells ≡ t → table_in back cells ≡ without_block t k b
     back-view is =
         ap (λ m. let s : Table = record (without_block u.table k b) { rows = m } in s)
-        (rows-same back refl back_rows)
-        ∙ ap (λ s. without_block s k b) is
+        (rows-same back refl back_rows) ∙ ap (λ s. without_block s k b) is
 
 -- a block that can be taken back has handles of a kind without extras
 pub single_in : (o : Option BlockUse) → is_single o ≡ true → (o ≡ Some (handles_of (kind_in o)))
     × (is_paired (kind_in o) ≡ false)
 single_in None is = absurd (true≢false (sym is))
 single_in (Some extra_data) is = absurd (true≢false (sym is))
-single_in (Some (handles_of k)) is = (refl, off (is_paired k) is)
-  where
-    off : (b : Bool) → not b ≡ true → b ≡ false
-    off true not_true = absurd (true≢false (sym not_true))
-    off false not_true = refl
+single_in (Some (handles_of k)) is = (refl, not-true (is_paired k) is)

@@ -1,26 +1,11 @@
 -- A block is taken from its kind: its chain closes up, and the blocks after it get new chain indices.
-use Rattle.std.proofs.Common.{◌≡◌, ◌≢◌, ℕ, zero, suc, ◌+◌, ◌-◌, ◌<◌, ◌≤◌, ◌==◌, not, Bool, true, false, cond, List, [], ◌∷◌, length, get_or, set, take, drop, ◌++◌, filter, Some, None, Contains, refl, sym, ap, ◌∙◌, subst, inl, inr, arith}
-use Rattle.std.specs.Prelude.{is_some, slice_get}
-use Rattle.std.specs.List as list
-use Rattle.std.specs.FinMap.{get, len, remove, empty, len-remove}
-use Rattle.std.specs.Cmp.{nat_cmp_total}
-use Rattle.std.proofs.lemmas.Bool.{cases_eq, cases_lt, cases_order, eq-eqb, ne_eqb}
-use Rattle.std.proofs.lemmas.List.{get_or_default, get_or-set_other, length-set, get_or-drop, length-drop, take_at}
-use Rattle.std.proofs.lemmas.Option.{get_or_from_slice_get, slice_get_within}
+use Rattle.hd_seg.proofs.Basics.{Block, Bool, Contains, IsBlocks, IsListed, Kind, List, None, Some, Uses, [], ap, arith, block_at, cases_eq, cases_lt, cases_order, chain_of, cond, drop, empty, eq-eqb, extras_at, false, few_kinds, filter, get, get_or, get_or-drop, get_or-set_other, get_or_default, get_or_from_slice_get, handles_of, inl, inr, is_some, kind_number, len, len-remove, length, length-drop, length-set, mapped, nat_cmp_total, ne_eqb, not, numbered, refl, remove, set, slice_get, slice_get_within, subst, suc, sum_by-set, sym, take, take_at, true, use_at, use_of, uses_in, without_block, zero, ℕ, ◌++◌, ◌+◌, ◌-◌, ◌<◌, ◌==◌, ◌∙◌, ◌∷◌, ◌≡◌, ◌≢◌, ◌≤◌}
 use Rattle.std.proofs.lemmas.List.Edits.{length-remove, get_or-remove_below, get_or-remove_above}
-use Rattle.std.proofs.lemmas.List.Sums.{sum_by-set}
-use Rattle.hd_model.specs.declared.data.Kind.{Kind}
-use Rattle.hd_model.specs.State.{handles_of}
-use Rattle.hd_model.specs.Kinds.{kind_number}
-use Rattle.hd_model.specs.Table.{chain_of, without_block}
-use Rattle.hd_model.proofs.KindTests.{few_kinds}
-use Rattle.hd_seg.specs.declared.row.BlockKind.TheVariants as block
-use Rattle.hd_seg.specs.declared.block.Block.{Block}
-use Rattle.hd_seg.specs.Blocks.{Uses, use_of, block_at, use_at, extras_at, uses_in, IsListed, IsBlocks, numbered}
-use Rattle.hd_seg.specs.Mapped.{mapped}
 use Rattle.hd_seg.proofs.FunctionMaps.{mapped-remove, mapped-same, len-mapped_le}
 use Rattle.hd_seg.proofs.ChainLinks.{none_is_some, some_of, use_is, extras_is, one_kind, listed_like, found_in, linked_with, apart, chain_short}
 use Rattle.hd_seg.proofs.BlockAdd.{block_same, block_other}
+use Rattle.std.specs.List as list
+use Rattle.hd_seg.specs.declared.row.BlockKind.TheVariants as block
 
 -- ---- chain indices written one after another
 
@@ -231,15 +216,8 @@ module _ {number given : ℕ} {table : List Block} {chains : List (List ℕ)}
       ∙ place_in p (drop p short) freed (i - p) (omega (arith, length-tail, length-short))
       (λ m n before last same. apart inv k (p + m + 1) (p + n + 1) 0 (omega arith)
       (omega (arith, length-tail)) (sym (tail m) ∙ same ∙ tail n))
-      (omega (
-        arith,
-        in_tail,
-        above i le,
-        o.high,
-        length-set table b
-            (record { kind = block.Unused; place = 0; extras = None }),
-        inv.size,
-      ))
+      (let known = length-set table b (record { kind = block.Unused; place = 0; extras = None }) in
+      omega (arith, in_tail, above i le, o.high, known, inv.size))
       ∙ omega arith
 
   pub listed_here : (i : ℕ) → i < length short → IsListed number moved k (get_or short i 0) i
@@ -318,17 +296,13 @@ module _ {number given : ℕ} {table : List Block} {chains : List (List ℕ)}
             limit = inv.limit;
             size = length-moved ∙ inv.size;
             counted = sym len-gone;
-            spare = omega (
-              arith,
-              sum_by-set length chains (kind_number k) short []
-                  (omega (arith, few_kinds k, inv.linked.kinds)),
-              length-short,
-              inv.spare,
-            );
+            spare = (let known =
+                sum_by-set length chains (kind_number k) short []
+                (omega (arith, few_kinds k, inv.linked.kinds)) in
+                omega (arith, known, length-short, inv.spare));
             linked = linked_with inv.linked k short listed_here found_here kept
                 (λ j q now other. (was j q now).1);
-            plain = λ q none.
-                extras_now q
+            plain = λ q none. extras_now q
                 ∙ elim (cases_eq q b) [
                   | inl same ↦ ap (extras_at table) same ∙ plain
                   | inr away ↦ inv.plain q (sym (use_other q away) ∙ none)
@@ -350,20 +324,11 @@ module _ {number given : ℕ} {table : List Block} {chains : List (List ℕ)}
           })
           ∙ ap (λ (v : Uses). record v { table = without_block v.table k b }) seen
 
-  -- one block at least is in use
-  pub one_used : 1 ≤ given
-  one_used = omega (arith, chain_short inv k, fits)
-
   -- what is left in the chain
   pub short_fits : (i : ℕ) → i < length short → get_or short i 0 < length table
   short_fits i lt = omega (arith, (listed_here i lt).high, inv.size)
 
   pub short_few : length short ≤ 256
-  short_few = omega (
-    arith,
-    length-short,
-    chain_short inv k,
-    inv.counted,
-    len-mapped_le 1 number (use_at table),
-    inv.limit,
-  )
+  short_few =
+      let known = len-mapped_le 1 number (use_at table) in
+      omega (arith, length-short, chain_short inv k, inv.counted, known, inv.limit)

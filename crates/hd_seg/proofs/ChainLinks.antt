@@ -1,29 +1,9 @@
 -- Blocks and chains: what their fields mean for the table without its rows.
-use Rattle.std.proofs.Common.{◌≡◌, ◌≢◌, ℕ, suc, ◌+◌, ◌<◌, ◌≤◌, true, List, [], ◌∷◌, ◌++◌, length, get_or, set, Option, Some, None, IsSome, All, AllPairs, Contains, Vec, Global, vec_capacity, map, refl, sym, ap, ◌∙◌, subst, inl, inr, arith, length-append}
-use Rattle.std.specs.Prelude.{is_some, slice_get}
-use Rattle.std.specs.Borrow.{Bor}
-use Rattle.std.specs.Slice.{IsItemAt}
-use Rattle.std.specs.Option.{option_copied}
-use Rattle.std.proofs.lemmas.Option.{get_or_from_slice_get, slice_get-get_or, slice_get_past, slice_get_read, slice_get_within}
-use Rattle.std.specs.FinMap.{get, len, get-empty, len-empty}
-use Rattle.std.specs.Ordering.{nat_cmp}
-use Rattle.std.proofs.lemmas.Bool.{cases_eq, true≢false}
-use Rattle.std.proofs.lemmas.List.{get_or_default, get_or_at, get_or-map, get_or_read, get_or-set_same, get_or-set_other, length-set, length-map, map-set}
-use Rattle.std.proofs.lemmas.List.Elements.{All-set}
-use Rattle.std.proofs.lemmas.List.Sums.{sum_by-set}
-use Rattle.hd_model.specs.declared.data.Addr.{Addr}
-use Rattle.hd_model.specs.declared.data.Kind.{Kind}
-use Rattle.hd_model.specs.State.{Handle, BlockUse, handles_of, extra_data}
-use Rattle.hd_model.specs.Kinds.{kind_number}
-use Rattle.hd_model.specs.Table.{IsTable, chain_of, has_handles, kind_at, kind_in}
-use Rattle.hd_model.proofs.KindTests.{same_number, few_kinds}
+use Rattle.hd_seg.proofs.Basics.{Addr, All, All-set, AllPairs, Block, BlockUse, Contains, Global, Handle, HasUnused, IsBlocks, IsLinked, IsListed, IsSome, IsTable, Kind, List, None, Option, Some, Uses, Vec, [], ap, arith, block_at, block_kind_of, cases_eq, chain_of, extra_data, extras_at, few_kinds, get, get-empty, get_or, get_or-map, get_or-set_other, get_or-set_same, get_or_at, get_or_default, get_or_from_slice_get, get_or_read, handles_of, has_handles, inl, inr, is_some, kind_at, kind_in, kind_number, len, len-empty, length, length-append, length-map, length-set, map, map-set, mapped, nat_cmp, option_copied, refl, same_number, set, slice_get, slice_get-get_or, slice_get_past, slice_get_read, slice_get_within, subst, suc, sum_by-set, sym, true, true≢false, use_at, use_of, uses_in, vec_capacity, ℕ, ◌++◌, ◌+◌, ◌<◌, ◌∙◌, ◌∷◌, ◌≡◌, ◌≢◌, ◌≤◌}
+use Rattle.std.specs.{Borrow.Bor, Slice.IsItemAt}
 use Rattle.hd_seg.specs.declared.row.BlockKind.{BlockKind}
-use Rattle.hd_seg.specs.declared.row.BlockKind.TheVariants as block
-use Rattle.hd_seg.specs.declared.block.Block.{Block}
-use Rattle.hd_seg.specs.Row.{block_kind_of}
-use Rattle.hd_seg.specs.Blocks.{Uses, use_of, block_at, use_at, extras_at, uses_in, HasUnused, IsListed, IsLinked, IsBlocks}
-use Rattle.hd_seg.specs.Mapped.{mapped}
 use Rattle.hd_seg.proofs.FunctionMaps.{get-mapped, within, len-mapped_le, unanswered}
+use Rattle.hd_seg.specs.declared.row.BlockKind.TheVariants as block
 
 -- nothing is not something
 pub none_is_some : {A : Type 0} (o : Option A) → o ≡ None → IsSome o → ⊥
@@ -193,8 +173,7 @@ module _ {number given : ℕ} {table : List Block} {chains : List (List ℕ)}
         number = found.0;
         low = found.1.0;
         high = omega (arith, found.1.1.0, inv.size);
-        unused =
-            found.1.1.1;
+        unused = found.1.1.1;
       }
 
   -- a block that is in a chain between two lists comes after those of the first
@@ -213,11 +192,9 @@ module _ {number given : ℕ} {table : List Block} {chains : List (List ℕ)}
   -- no chain has more blocks than are in use
   pub chain_short : (k : Kind) → length (get_or chains (kind_number k) []) ≤ given
   chain_short k =
-      omega (
-        arith,
-        sum_by-set length chains (kind_number k) [] [] (omega (arith, few_kinds k, inv.linked.kinds)),
-        inv.spare,
-      )
+      let known =
+      sum_by-set length chains (kind_number k) [] [] (omega (arith, few_kinds k, inv.linked.kinds)) in
+      omega (arith, known, inv.spare)
 
 -- fewer blocks are in use than there are
 pub few_of : {number : ℕ} (table : List Block) {chains : List (List ℕ)} {u : Uses}
@@ -257,15 +234,9 @@ module _ {number given : ℕ} {table : List Block} {chains : List (List ℕ)}
 
     pub read_small : x.place < 256
     read_small =
-        omega (
-          arith,
-          ap (λ (y : Block). y.place) is_read,
-          listed_in,
-          chain_short inv (kind_at u.table b),
-          inv.counted,
-          len-mapped_le 1 number (use_at table),
-          inv.limit,
-        )
+        let known = ap (λ (y : Block). y.place) is_read in
+        let also = len-mapped_le 1 number (use_at table) in
+        omega (arith, known, listed_in, chain_short inv (kind_at u.table b), inv.counted, also, inv.limit)
 
 -- a chain that is read and written at the number of its kind
 module _ {number given : ℕ} {table : List Block} (vs : List (Vec ℕ Global))

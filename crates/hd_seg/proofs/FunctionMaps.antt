@@ -1,13 +1,7 @@
 -- The map of a function's values: the value of a key, one entry more or fewer, and the number of entries.
-use Rattle.std.proofs.Common.{◌≡◌, ◌≢◌, ◌⊎◌, ℕ, zero, suc, ◌+◌, ◌<◌, ◌≤◌, Bool, true, false, cond, List, Option, Some, None, IsSome, refl, sym, ap, ◌∙◌, inl, inr, arith}
-use Rattle.std.specs.Prelude.{is_some}
-use Rattle.std.specs.FinMap.{FinMap, get, insert, remove, empty, len, find, from_entries, get-from_entries, get-empty, len-empty, len-insert, same_map, nat_cmp-IsAntisymmetric}
-use Rattle.std.specs.Ordering.{nat_cmp}
-use Rattle.std.specs.Cmp.{nat_cmp_total}
-use Rattle.std.proofs.lemmas.Bool.{cases_eq, cases_lt, true≢false}
+use Rattle.hd_seg.proofs.Basics.{Bool, FinMap, IsSome, List, None, Option, Some, ap, arith, cases_eq, cases_lt, cond, empty, false, find, from_entries, get, get-empty, get-from_entries, get_inserted, get_removed, inl, inr, insert, insert_cases, is_some, len, len-empty, len-insert, nat_cmp, nat_cmp-IsAntisymmetric, nat_cmp_total, refl, remove, remove_cases, same_map, suc, sym, true, true≢false, with_entry, zero, ℕ, ◌+◌, ◌<◌, ◌∙◌, ◌≡◌, ◌≢◌, ◌≤◌, ◌⊎◌}
 use Rattle.hd_model.proofs.Entries.{found_first, found_later}
-use Rattle.hd_model.proofs.ReadAfterWrite.{get_inserted, get_removed, insert_cases, remove_cases}
-use Rattle.hd_seg.specs.Mapped.{with_entry, entries_of, mapped}
+use Rattle.hd_seg.specs.Mapped.{entries_of, mapped}
 
 pub get-insert_same : {A : Type 0} (m : FinMap nat_cmp A) (k : ℕ) (x : A) (q : ℕ) → q ≡ k
     → get (insert m k x) q ≡ Some x

@@ -1,3 +1,4 @@
+pub mod Basics
 pub mod FunctionMaps
 pub mod ChainLinks
 pub mod BlockAdd

@@ -1,32 +1,11 @@
 -- What the reading calls return, by the fields and the value of a table.
-use Rattle.std.proofs.Common.{◌≡◌, ℕ, zero, suc, ◌+◌, ◌*◌, ◌/◌, ◌%◌, ◌^◌, ◌<◌, ◌≤◌, true, cond, List, [], ◌∷◌, ◌++◌, length, get_or, take, drop, replicate, Option, Some, None, IfSome, Contains, refl, sym, ap, ◌∙◌, subst, arith, bit_and}
-use Rattle.std.specs.Prelude.{is_some, IsSome, slice_get}
-use Rattle.std.specs.Option.{option_map}
-use Rattle.std.specs.FinMap.{get, len, empty, get-empty, len-empty, contains_key}
-use Rattle.std.specs.Int.{bit_at}
-use Rattle.std.specs.Ordering.{nat_cmp}
-use Rattle.std.proofs.lemmas.List.{length-replicate, take-append-drop, drop_more}
-use Rattle.std.proofs.lemmas.Option.{same_Some, get_or_from_slice_get, slice_get_within}
+use Rattle.hd_seg.proofs.Basics.{Addr, BlockUse, Cell, Contains, Extra, Handle, IfSome, IsLeastWithout, IsSeg, IsSome, IsTable, Kind, List, None, Option, Row, Some, Table, Uses, [], ap, arith, bit_and, bit_at, bit_at-shr, cell_at, cell_in, chain_of, cond, contains_key, drop, drop_more, empty, empty_table, extra_held, extra_of, extra_place, get, get-empty, get_beside, get_or, get_or_from_slice_get, handles_of, has_handles, is_some, kind_at, kind_in, len, len-empty, length, length-replicate, live_at, mapped, nat_cmp, option_map, place_in, refl, replicate, row_by, row_in, row_of, same_Some, slice_get, slice_get_within, subst, suc, sym, table_in, take, take-append-drop, true, with_block, zero, ℕ, ◌%◌, ◌*◌, ◌++◌, ◌+◌, ◌/◌, ◌<◌, ◌^◌, ◌∙◌, ◌∷◌, ◌≡◌, ◌≤◌}
 use Rattle.std.proofs.lemmas.Nat.Bits.{bit_at-zero, bit_at_and, bit_at_ones, bit_at-lt}
-use Rattle.hd_mask.proofs.Bits.{bit_at-shr}
-use Rattle.hd_model.specs.declared.data.Addr.{Addr}
-use Rattle.hd_model.specs.declared.data.Kind.{Kind}
-use Rattle.hd_model.specs.State.{Handle, BlockUse, handles_of}
-use Rattle.hd_model.specs.Table.{Table, IsTable, IsLeastWithout, empty_table, chain_of, kind_at, kind_in, live_at, has_handles, with_block}
 use Rattle.hd_model.proofs.WholeScenes.{if_some_from}
-use Rattle.hd_model.proofs.ReadAfterWrite.{get_beside}
-use Rattle.hd_seg.specs.declared.row.Extra.{Extra}
-use Rattle.hd_seg.specs.declared.row.Row.{Row}
-use Rattle.hd_seg.specs.declared.cells.Cell.{Cell}
-use Rattle.hd_seg.specs.declared.cells.Cell.TheVariants as cell
-use Rattle.hd_seg.specs.Row.{extra_of, row_of}
-use Rattle.hd_seg.specs.Blocks.{Uses}
-use Rattle.hd_seg.specs.Cells.{cell_at, cell_in, extra_held, place_in, extra_place, row_by, row_in, table_in, IsSeg}
-use Rattle.hd_seg.specs.Mapped.{mapped}
-use Rattle.hd_seg.proofs.FunctionMaps.{mapped-empty}
+use Rattle.hd_seg.proofs.{FunctionMaps.mapped-empty, RowRewrite.live_row}
 use Rattle.hd_seg.proofs.ChainLinks.{none_is_some, some_of, handles_in}
-use Rattle.hd_seg.proofs.RowRewrite.{live_row}
 use Rattle.hd_seg.proofs.RowCells.{extra-from-of, row-empty, row-extra, row_is}
+use Rattle.hd_seg.specs.declared.cells.Cell.TheVariants as cell
 
 -- an element by its index
 contained : {A : Type 0} (xs : List A) (i : ℕ) (x : A) → slice_get xs i ≡ Some x → Contains xs x
@@ -110,8 +89,7 @@ module _ {u : Uses} {cells : List Cell} {masks : List ℕ} {live : ℕ} (inv : I
       ≡ Some (record {
         kind = kind_in (get u.table.uses (slot / 64));
         target = target;
-        extra =
-            extra_of (extra_held (cell_in cells (extra_place u slot)));
+        extra = extra_of (extra_held (cell_in cells (extra_place u slot)));
       }) =
       ap (λ o. row_by o (cell_at cells slot) (cell_in cells (extra_place u slot))) handles
       ∙ ap (λ c. row_by (Some (handles_of (kind_in (get u.table.uses (slot / 64))))) c
@@ -135,19 +113,13 @@ module _ {u : Uses} {cells : List Cell} {masks : List ℕ} {live : ℕ} (inv : I
 module _ {u : Uses} {cells : List Cell} {masks : List ℕ} {live : ℕ} (inv : IsSeg u cells masks live)
     {t : Table} (view_is : table_in u cells ≡ t) where
   pub clump_bits : (mask block clump i : ℕ) → mask ≡ get_or masks block 0 → block ≤ u.table.blocks → clump < 4
-      → i < 16
-      → bit_at (bit_and (mask / 2 ^ (16 * clump)) 65535) i
+      → i < 16 → bit_at (bit_and (mask / 2 ^ (16 * clump)) 65535) i
       ≡ cond (contains_key t.rows (64 * block + 16 * clump + i)) 1 0
   clump_bits mask block clump i is high few lt =
       (let low : bit_at 65535 i ≡ 1 = bit_at_ones 16 i lt in
       let both : bit_at (bit_and (mask / 2 ^ (16 * clump)) 65535) i ≡ bit_at (mask / 2 ^ (16 * clump)) i =
-      omega (
-        arith,
-        bit_at_and (mask / 2 ^ (16 * clump)) 65535 i,
-        low,
-        bit_at-lt (mask / 2 ^ (16 * clump))
-            i,
-      ) in
+      (let known = bit_at_and (mask / 2 ^ (16 * clump)) 65535 i in
+      omega (arith, known, low, bit_at-lt (mask / 2 ^ (16 * clump)) i)) in
       both)
       ∙ bit_at-shr mask (16 * clump) i
       ∙ ap (λ m. bit_at m (16 * clump + i)) is
@@ -173,8 +145,7 @@ next_least s k b d least = record {
   unused = sym (get_beside s.uses b (handles_of k) d (λ same. absurd (omega (arith, least.low))))
       ∙ least.unused;
   least = λ q low below. ap is_some
-      (sym (get_beside s.uses b (handles_of k) q (λ same. absurd (omega arith))))
-      ∙ least.least q low below;
+      (sym (get_beside s.uses b (handles_of k) q (λ same. absurd (omega arith)))) ∙ least.least q low below;
 }
 
 -- ---- an empty table
@@ -228,8 +199,7 @@ module _ (blocks : ℕ) where
     paired = record {
       paired = λ b k is. no_use b (handles_of k) is;
       used = λ b d is. no_data b d is;
-      within =
-          λ b d is. no_data b d is;
+      within = λ b d is. no_data b d is;
       apart = λ a b d is is'. no_data a d is;
     };
   }

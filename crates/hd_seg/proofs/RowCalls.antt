@@ -1,26 +1,11 @@
 -- Each call on one row, by the fields of a table.
-use Rattle.std.proofs.Common.{◌≡◌, ℕ, ◌+◌, ◌-◌, ◌*◌, ◌/◌, ◌%◌, ◌^◌, ◌<◌, ◌≤◌, true, List, length, get_or, set, Option, Some, None, IsSome, refl, sym, ap, ◌∙◌, inl, inr, arith}
-use Rattle.std.specs.Prelude.{bit_or, bit_xor, unwrap_or}
-use Rattle.std.specs.FinMap.{get}
-use Rattle.std.proofs.lemmas.Bool.{true≢false}
-use Rattle.std.proofs.lemmas.List.{length-set}
-use Rattle.hd_model.specs.declared.data.Addr.{Addr}
-use Rattle.hd_model.specs.declared.data.Kind.{Kind}
-use Rattle.hd_model.specs.declared.data.Kind.TheVariants as kind
-use Rattle.hd_model.specs.State as state
-use Rattle.hd_model.specs.State.{Handle, BlockUse, handles_of, extra_data}
-use Rattle.hd_model.specs.Table.{Table, fits, fits_in, kind_in, kind_at, with_row, without_row, live_at}
-use Rattle.hd_seg.specs.declared.row.Extra.{Extra}
-use Rattle.hd_seg.specs.declared.row.Row.{Row}
-use Rattle.hd_seg.specs.declared.cells.Cell.{Cell}
-use Rattle.hd_seg.specs.declared.cells.Cell.TheVariants as cell
-use Rattle.hd_seg.specs.Row.{extra_of, handle_of}
-use Rattle.hd_seg.specs.Blocks.{Uses}
-use Rattle.hd_seg.specs.Cells.{cell_at, cell_in, with_cell, extra_held, extra_place, row_by, row_in, table_in, IsSeg}
-use Rattle.hd_seg.proofs.FunctionMaps.{len-mapped_le}
-use Rattle.hd_seg.proofs.ChainLinks.{none_is_some}
+use Rattle.hd_seg.proofs.Basics.{Addr, BlockUse, Cell, Extra, Handle, IsSeg, IsSome, Kind, List, None, Option, Row, Some, Table, Uses, ap, arith, bit_or, bit_xor, cell_at, cell_in, extra_data, extra_held, extra_of, extra_place, fits, fits_in, get, get_or, handle_of, handles_of, inl, inr, kind_at, kind_in, length, length-set, live_at, refl, row_by, row_in, set, sym, table_in, true, true≢false, unwrap_or, with_cell, with_row, without_row, ℕ, ◌%◌, ◌*◌, ◌+◌, ◌-◌, ◌/◌, ◌<◌, ◌^◌, ◌∙◌, ◌≡◌, ◌≤◌}
+use Rattle.hd_seg.proofs.{FunctionMaps.len-mapped_le, ChainLinks.none_is_some}
 use Rattle.hd_seg.proofs.RowCells.{cases_option, parts, HasParts, row_is, IsWrite, writes, NoTarget, write_cell, write_extra, cell_now, cell_stays, extra_stays, held_now, emptied}
 use Rattle.hd_seg.proofs.RowChange.{inside, block_inside, view-put, view-take, seg-new, seg-same, seg-gone, some_live}
+use Rattle.hd_model.specs.declared.data.Kind.TheVariants as kind
+use Rattle.hd_model.specs.State as state
+use Rattle.hd_seg.specs.declared.cells.Cell.TheVariants as cell
 
 -- ---- what fits
 

@@ -1,24 +1,9 @@
 -- Rows by their cells: what a write of a cell does to them, and what a table's users see of it.
-use Rattle.std.proofs.Common.{◌≡◌, ◌≢◌, ◌⊎◌, ℕ, zero, suc, ◌+◌, ◌*◌, ◌/◌, ◌%◌, ◌<◌, ◌≤◌, true, List, [], ◌∷◌, ◌++◌, length, set, take, drop, Option, Some, None, refl, sym, ap, ◌∙◌, subst, inl, inr, arith}
-use Rattle.std.specs.Prelude.{is_some}
-use Rattle.std.specs.FinMap.{get}
-use Rattle.std.proofs.lemmas.List.{get_or-set_same, get_or-set_other, length-set, take_at}
-use Rattle.hd_model.specs.declared.data.Addr.{Addr}
-use Rattle.hd_model.specs.declared.data.Kind.{Kind}
-use Rattle.hd_model.specs.State.{Handle, BlockUse, handles_of, extra_data}
-use Rattle.hd_model.specs.Table.{IsTable, fits}
-use Rattle.hd_seg.specs.declared.row.Extra.{Extra}
-use Rattle.hd_seg.specs.declared.row.Extra.TheVariants as extra
-use Rattle.hd_seg.specs.declared.cells.Cell.{Cell}
-use Rattle.hd_seg.specs.declared.cells.Cell.TheVariants as cell
-use Rattle.hd_seg.specs.Row.{extra_of, extra_from}
-use Rattle.hd_seg.specs.Blocks.{Uses}
-use Rattle.hd_seg.specs.Cells.{cell_at, cell_in, with_cell, extra_held, place_in, extra_place, row_by, row_in, table_in, IsPaired, IsSeg}
-use Rattle.hd_seg.specs.Mapped.{mapped}
+use Rattle.hd_seg.proofs.Basics.{Addr, BlockUse, Cell, Extra, Handle, IsPaired, IsSeg, IsTable, Kind, List, None, Option, Some, Table, Uses, [], ap, arith, cell_at, cell_in, drop, extra_data, extra_from, extra_held, extra_of, extra_place, fits, get, get_or-set_other, get_or-set_same, handles_of, inl, inr, is_some, length, length-set, mapped, place_in, refl, row_by, row_in, set, subst, suc, sym, table_in, take, take_at, true, with_cell, zero, ℕ, ◌%◌, ◌*◌, ◌++◌, ◌+◌, ◌/◌, ◌<◌, ◌∙◌, ◌∷◌, ◌≡◌, ◌≢◌, ◌≤◌, ◌⊎◌}
 use Rattle.hd_seg.proofs.FunctionMaps.{get-mapped, get-mapped_out, cases_within, len-mapped_le}
-use Rattle.hd_seg.proofs.ChainLinks.{some_of}
-use Rattle.hd_seg.proofs.BlockAdd.{extras_apart}
-use Rattle.hd_seg.proofs.RowRewrite.{single_nothing}
+use Rattle.hd_seg.proofs.{ChainLinks.some_of, BlockAdd.extras_apart, RowRewrite.single_nothing}
+use Rattle.hd_seg.specs.declared.row.Extra.TheVariants as extra
+use Rattle.hd_seg.specs.declared.cells.Cell.TheVariants as cell
 
 pub cases_option : {A : Type 0} (o : Option A) → (o ≡ None) ⊎ ((x : A) × (o ≡ Some x))
 cases_option None = inl refl
@@ -76,8 +61,7 @@ parts (Some (handles_of k)) (cell.Target t) x h is =
     let same : record { kind = k; target = t; extra = extra_of (extra_held x) } ≡ h = cc in
     record {
       use_is = ap (λ (i : Handle Addr). Some (handles_of i.kind)) same;
-      cell_is =
-          ap (λ (i : Handle Addr). cell.Target i.target) same;
+      cell_is = ap (λ (i : Handle Addr). cell.Target i.target) same;
       extra_is = ap (λ (i : Handle Addr). i.extra) same;
     }
 
@@ -142,8 +126,7 @@ module _ {u : Uses} {cells : List Cell} {masks : List ℕ} {live : ℕ} (inv : I
                 let range : (64 ≤ q) × (q < 64 + 64 * u.table.blocks) = row_within q some.0 some.1 in
                 elim out [
                   | inl below ↦ absurd (omega (arith, range.0))
-                  | inr past ↦ absurd
-                      (omega (arith, range.1))
+                  | inr past ↦ absurd (omega (arith, range.1))
                 ]
           ]
 
@@ -158,8 +141,7 @@ module _ {u : Uses} {cells : List Cell} {masks : List ℕ} {live : ℕ} (inv : I
           block = (parts _ _ _ h here).use_is;
           fits = inv.fitting q h here;
           low = range.0;
-          high =
-              omega (arith, range.1);
+          high = omega (arith, range.1);
         };
     uses = inv.table.uses;
     given = inv.table.given;
@@ -168,6 +150,9 @@ module _ {u : Uses} {cells : List Cell} {masks : List ℕ} {live : ℕ} (inv : I
     once = inv.table.once;
     chained = inv.table.chained;
   }
+
+  pub sound_table : {t : Table} → table_in u cells ≡ t → IsTable t
+  sound_table is = subst (λ (t : Table). IsTable t) is is_table
 
 -- ---- writes
 

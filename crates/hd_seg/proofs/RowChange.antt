@@ -1,32 +1,12 @@
 -- A table after one row changed: what its users see, and what it keeps.
-use Rattle.std.proofs.Common.{◌≡◌, ◌≢◌, ℕ, ◌+◌, ◌-◌, ◌*◌, ◌/◌, ◌%◌, ◌^◌, ◌<◌, ◌≤◌, true, cond, List, length, get_or, set, Option, Some, None, refl, sym, subst, ap, ◌∙◌, inl, inr, arith}
-use Rattle.std.specs.Prelude.{is_some, bit_or, bit_xor}
-use Rattle.std.specs.FinMap.{FinMap, get, len, insert, remove, len-insert, len-remove, get-empty, empty_of_len}
-use Rattle.std.specs.Ordering.{nat_cmp}
-use Rattle.std.specs.Int.{bit_at}
-use Rattle.std.specs.Cmp.{nat_cmp_total}
-use Rattle.std.proofs.lemmas.Bool.{cases_eq, cases_lt}
-use Rattle.std.proofs.lemmas.List.{get_or-set_same, get_or-set_other, length-set}
-use Rattle.hd_mask.proofs.Bits.{set_same, set_other, flip_same, flip_other}
-use Rattle.hd_model.specs.declared.data.Addr.{Addr}
-use Rattle.hd_model.specs.declared.data.Kind.{Kind}
-use Rattle.hd_model.specs.State.{Handle, handles_of, extra_data}
-use Rattle.hd_model.specs.Table.{Table, fits, has_handles, with_row, without_row}
-use Rattle.hd_seg.specs.declared.cells.Cell.{Cell}
-use Rattle.hd_seg.specs.declared.cells.Cell.TheVariants as cell
-use Rattle.hd_seg.specs.Blocks.{Uses}
-use Rattle.hd_seg.specs.Cells.{cell_at, cell_in, extra_place, row_by, row_in, table_in, IsSeg}
-use Rattle.hd_seg.specs.Mapped.{mapped}
-use Rattle.hd_seg.proofs.FunctionMaps.{mapped-insert, mapped-remove}
-use Rattle.hd_seg.proofs.ChainLinks.{none_is_some, some_of}
+use Rattle.hd_seg.proofs.Basics.{Addr, Cell, FinMap, Handle, IsSeg, Kind, List, None, Option, Some, Table, Uses, ap, arith, bit_at, bit_or, bit_xor, cases_eq, cases_lt, cell_at, cell_in, cond, empty_of_len, extra_data, extra_place, fits, flip_other, flip_same, get, get-empty, get_or, get_or-set_other, get_or-set_same, handles_of, has_handles, inl, inr, insert, is_some, len, len-insert, len-remove, length, length-set, mapped, nat_cmp, nat_cmp_total, refl, remove, row_by, row_in, same_Some, set, set_other, set_same, subst, sym, table_in, true, with_row, without_row, ℕ, ◌%◌, ◌*◌, ◌+◌, ◌-◌, ◌/◌, ◌<◌, ◌^◌, ◌∙◌, ◌≡◌, ◌≢◌, ◌≤◌}
+use Rattle.hd_seg.proofs.{FunctionMaps.mapped-insert, FunctionMaps.mapped-remove, ChainLinks.none_is_some, ChainLinks.some_of}
 use Rattle.hd_seg.proofs.RowCells.{cases_use, row-unused, row-extras, row-empty, row_is, IsWrite}
+use Rattle.hd_seg.specs.declared.cells.Cell.TheVariants as cell
 
 -- bit i of a mask
 abbrev pub bit_of : {A : Type 0} → Option A → ℕ
 bit_of o = cond (is_some o) 1 0
-
-one_row : (o : Option (Handle Addr)) (g h : Handle Addr) → o ≡ Some g → o ≡ Some h → g ≡ h
-one_row o g h is is' = let same : Some g ≡ Some h = sym is ∙ is' in cc
 
 one_of : {A : Type 0} (m : FinMap nat_cmp A) (k : ℕ) (x : A) → get m k ≡ Some x → 1 ≤ len m
 one_of m k x is =
@@ -171,7 +151,8 @@ module _ {u : Uses} {cells : List Cell} {masks : List ℕ} {live : ℕ} (inv : I
         → fits h.kind h.extra ≡ true → IsSeg u after new_masks new_live
     seg-put new_masks new_live words counted bits fitting =
         seg-after new_masks new_live words counted bits
-        (λ g is. subst (λ (f : Handle Addr). fits f.kind f.extra ≡ true) (one_row _ _ _ now is) fitting)
+        (λ g is. subst (λ (f : Handle Addr). fits f.kind f.extra ≡ true) (same_Some _ _ (sym now ∙ is))
+        fitting)
         (λ none. absurd (none_is_some _ none (some_of _ _ now)))
 
     -- where there was none
@@ -235,5 +216,4 @@ module _ {u : Uses} {cells : List Cell} {masks : List ℕ} {live : ℕ} (inv : I
           ∙ ap (λ n. 1 - bit_at n (slot % 64)) m_is ∙ ap (λ n. 1 - n) bit_was ∙ sym (ap bit_of none_now))
           (λ i apart. ap (λ c. bit_at (bit_xor m c) i) b_is ∙ flip_other m (slot % 64) i apart
           ∙ ap (λ n. bit_at n i) m_is))
-          (λ h is. absurd (none_is_some _ none_now (some_of _ _ is)))
-          (λ none. (cell_now, extra_now))
+          (λ h is. absurd (none_is_some _ none_now (some_of _ _ is))) (λ none. (cell_now, extra_now))

@@ -1,20 +1,9 @@
 -- A row that is written, once or twice.
-use Rattle.std.proofs.Common.{◌≡◌, ℕ, Bool, true, false, Option, Some, None, refl, sym, ap, ◌∙◌}
-use Rattle.std.specs.Prelude.{IsSome, unwrap_or}
-use Rattle.std.specs.FinMap.{get}
-use Rattle.std.proofs.lemmas.Bool.{false≢true}
-use Rattle.hd_model.specs.declared.data.Addr.{Addr}
-use Rattle.hd_model.specs.declared.data.Kind.{Kind}
+use Rattle.hd_seg.proofs.Basics.{Addr, Bool, Handle, IsSome, Kind, None, Option, Some, Table, ap, extra_from, extra_of, false, false≢true, fits, get, get_beside, is_count, is_nothing, is_paired, is_secondary, is_strength, live_at, refl, row_at, secondary, sym, true, unwrap_or, with_row, ℕ, ◌∙◌, ◌≡◌}
+use Rattle.hd_seg.specs.{declared.row.Extra.TheVariants.Nothing, Rewriting.Rewrites}
+use Rattle.hd_seg.proofs.FunctionMaps.{get-insert_same}
 use Rattle.hd_model.specs.declared.data.Kind.TheVariants as kind
 use Rattle.hd_model.specs.State as state
-use Rattle.hd_model.specs.State.{Handle, secondary}
-use Rattle.hd_model.specs.Kinds.{is_paired}
-use Rattle.hd_model.specs.Table.{Table, row_at, live_at, with_row, fits, is_nothing, is_strength, is_count, is_secondary}
-use Rattle.hd_model.proofs.ReadAfterWrite.{get_beside}
-use Rattle.hd_seg.specs.declared.row.Extra.TheVariants.{Nothing}
-use Rattle.hd_seg.specs.Row.{extra_of, extra_from}
-use Rattle.hd_seg.proofs.FunctionMaps.{get-insert_same}
-use Rattle.hd_seg.specs.Rewriting.{Rewrites}
 
 -- the extra of a row, as the program has it and back
 pub extra_again : (e : state.Extra Addr) → extra_of (extra_from e) ≡ e
@@ -83,8 +72,7 @@ module _ (t : Table) (slot : ℕ) where
   put_row h g new is same = record {
     at = ap (λ (u : Table). get u.rows slot) is ∙ get-insert_same t.rows slot g slot refl
         ∙ ap (λ q. Some q) same;
-    others = λ other ne.
-        ap (λ (u : Table). get u.rows other) is ∙ get_beside t.rows slot g other ne;
+    others = λ other ne. ap (λ (u : Table). get u.rows other) is ∙ get_beside t.rows slot g other ne;
     table = record {
       chains = ap (λ (u : Table). u.chains) is;
       uses = ap (λ (u : Table). u.uses) is;

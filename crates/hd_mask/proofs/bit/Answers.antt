@@ -1,9 +1,5 @@
 -- The word `1 << i` is a power of two, which has no bit but its own.
-use Rattle.std.proofs.Common.{ap, ◌∙◌}
-use Rattle.std.specs.Int.{bit_at}
-use Rattle.std.proofs.lemmas.Nat.{one_shl}
-use Rattle.std.proofs.lemmas.Nat.Bits.{bit_at-pow_other}
-use Rattle.hd_mask.specs.Mask.{set_bits}
+use Rattle.hd_mask.proofs.Basics.{ap, bit_at, bit_at-pow_other, one_shl, set_bits, ◌∙◌}
 use Rattle.hd_mask.proofs.SetBits.{set_bits-pow}
 use Rattle.hd_mask.proofs.bit.Goals as goal
 

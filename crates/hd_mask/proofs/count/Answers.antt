@@ -1,5 +1,5 @@
 -- The list of the set bits is as long as the count of ones.
-use Rattle.std.proofs.Common.{arith}
+use Rattle.hd_mask.proofs.Basics.{arith}
 use Rattle.hd_mask.proofs.SetBits.{length-set_bits}
 use Rattle.hd_mask.proofs.count.Goals as goal
 

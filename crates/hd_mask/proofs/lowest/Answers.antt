@@ -1,8 +1,5 @@
 -- The count of trailing zeros is the index of the lowest set bit.
-use Rattle.std.proofs.Common.{◌≡◌, ◌<◌, ℕ, Some, ap, sym, subst, ◌∙◌, slice_get, arith}
-use Rattle.std.specs.Int.{bit_at, w64}
-use Rattle.std.proofs.lemmas.Nat.Bits.{bit_at-trailing_zeros}
-use Rattle.hd_mask.specs.Mask.{set_bits}
+use Rattle.hd_mask.proofs.Basics.{Some, ap, arith, bit_at, bit_at-trailing_zeros, set_bits, slice_get, subst, sym, w64, ℕ, ◌<◌, ◌∙◌, ◌≡◌}
 use Rattle.hd_mask.proofs.SetBits.{set_bits-zero, first-set_bits}
 use Rattle.hd_mask.proofs.lowest.Goals as goal
 

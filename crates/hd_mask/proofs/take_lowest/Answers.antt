@@ -1,6 +1,5 @@
 -- Each round takes the lowest bit that is left; after the last one the parts are as `Left` says.
-use Rattle.std.proofs.Common.{◌<◌, arith}
-use Rattle.std.proofs.lemmas.Nat.{ones_le_self}
+use Rattle.hd_mask.proofs.Basics.{arith, ones_le_self, ◌<◌}
 use Rattle.hd_mask.proofs.LowestBits.{one_more_taken, taken_parts}
 use Rattle.hd_mask.proofs.take_lowest.Goals as goal
 

@@ -1,9 +1,4 @@
-use Rattle.std.proofs.Common.{◌≡◌, ℕ, ◌+◌, ◌<◌, length, Option, Some, ap, ◌∙◌, arith}
-use Rattle.hd_mask.specs.Mask.{set_bits}
-use Rattle.hd_model.specs.Ages.{due_clumps}
-use Rattle.hd_model.specs.Table.{kind_at}
-use Rattle.hd_model.specs.Visits.{visits_of}
-use Rattle.hd_ages.specs.Walk.{blocks_after, blocks_from}
+use Rattle.hd_ages.proofs.Basics.{Option, Some, ap, arith, blocks_after, blocks_from, due_clumps, kind_at, length, set_bits, visits_of, ℕ, ◌+◌, ◌<◌, ◌∙◌, ◌≡◌}
 use Rattle.hd_ages.proofs.WalkSlots.{due_clumps_few}
 use Rattle.hd_ages.proofs.WalkSteps.{block_counted, from_first, from_next, handle_block}
 use Rattle.hd_ages.proofs.due_rows.count_due.Goals as goal
@@ -12,12 +7,11 @@ pub loop-block-init : goal.loop-block-init
 loop-block-init c = record {
   on = handle_block c.args.seg.now c.first-block.result c.args.kind c.first-block.ensures.within
       c.first-block.ensures.of_kind;
-  counted = omega (
-    arith,
-    ap (λ bs. length (due_clumps c.args.ages.now c.args.n bs))
-        (from_first c.args.seg.now c.first-block.ensures.table c.args.kind c.first-block.result
-        c.first-block.ensures.value),
-  );
+  counted = (let known =
+      ap (λ bs. length (due_clumps c.args.ages.now c.args.n bs))
+      (from_first c.args.seg.now c.first-block.ensures.table c.args.kind c.first-block.result
+      c.first-block.ensures.value) in
+      omega (arith, known));
 }
 
 pub overflow_add-clumps : goal.overflow_add-clumps
@@ -25,8 +19,7 @@ overflow_add-clumps c =
     let few = due_clumps_few c.args.seg.now c.first-block.ensures.table c.args.ages.now c.args.n
     c.args.kind in
     let sum = block_counted c.args.seg.now c.args.ages.now c.loop-block.block c.in-Some.at c.due.result
-    c.args.n
-    c.loop-block.clumps c.count-clumps.result
+    c.args.n c.loop-block.clumps c.count-clumps.result
     (visits_of c.args.seg.now c.args.ages.now c.args.n c.args.kind) c.in-Some.is
     (c.count-clumps.ensures.number ∙ ap (λ m. length (set_bits m)) c.from.ensures) c.due.ensures.clumps
     c.loop-block.invariant.counted in
@@ -40,11 +33,7 @@ next_blocks c =
 
 pub loop-block-smaller : goal.loop-block-smaller
 loop-block-smaller c =
-    omega (
-      arith,
-      ap length (next_blocks c),
-      ap (λ o. length (blocks_from c.args.seg.now o)) c.in-Some.is,
-    )
+    omega (arith, ap length (next_blocks c), ap (λ o. length (blocks_from c.args.seg.now o)) c.in-Some.is)
 
 pub loop-block-preserved : goal.loop-block-preserved
 loop-block-preserved c = record {

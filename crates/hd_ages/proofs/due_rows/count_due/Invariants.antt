@@ -1,8 +1,4 @@
-use Rattle.std.proofs.Common.{◌≡◌, ◌+◌, length}
-use Rattle.std.specs.Option.{ForSome}
-use Rattle.hd_model.specs.Ages.{due_clumps}
-use Rattle.hd_model.specs.Visits.{visits_of}
-use Rattle.hd_ages.specs.Walk.{IsHandleBlock, blocks_from}
+use Rattle.hd_ages.proofs.Basics.{ForSome, IsHandleBlock, blocks_from, due_clumps, length, visits_of, ◌+◌, ◌≡◌}
 use Rattle.hd_ages.proofs.due_rows.count_due.Given as goal
 
 abbrev pub invariant-loop-block : goal.invariant-loop-block

@@ -1,4 +1,4 @@
-use Rattle.std.proofs.Common.{◌≡◌, ℕ, ◌<◌, ◌≤◌, get_or}
+use Rattle.hd_cells.proofs.Basics.{get_or, ℕ, ◌<◌, ◌≡◌, ◌≤◌}
 use Rattle.hd_cells.proofs.cells.clear.Given as goal
 
 abbrev pub invariant-loop-k : goal.invariant-loop-k

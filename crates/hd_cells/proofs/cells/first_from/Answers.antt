@@ -1,8 +1,7 @@
-use Rattle.std.proofs.Common.{◌+◌, ◌<◌, ◌≢◌, subst, sym, ℕ, arith}
-use Rattle.hd_cells.specs.Cells.{cell, IsReached}
+use Rattle.hd_cells.proofs.Basics.{IsReached, arith, cell, subst, sym, ℕ, ◌+◌, ◌<◌, ◌≢◌}
 use Rattle.hd_cells.proofs.CellWalk.{IsPassed, passed, none_reached, object_reached}
-use Rattle.hd_cells.proofs.cells.first_from.Goals as goal
 use Rattle.hd_cells.proofs.cells.first_from.Goals.{else-at-from-via-then-at-from+else-cells-at-ne0, else-at-from-via-else-at-from}
+use Rattle.hd_cells.proofs.cells.first_from.Goals as goal
 
 -- what is passed is a gap, or begins before `from`
 early : (c : goal.Joined-else-at-from) → cell c.args.cells.now c.loop-at.at ≢ 0 → c.loop-at.at < c.args.from

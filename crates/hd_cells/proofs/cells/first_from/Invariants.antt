@@ -1,5 +1,4 @@
-use Rattle.std.proofs.Common.{◌-◌}
-use Rattle.hd_cells.specs.Cells.{IsReached}
+use Rattle.hd_cells.proofs.Basics.{IsReached, ◌-◌}
 use Rattle.hd_cells.proofs.cells.first_from.Given as goal
 
 abbrev pub invariant-loop-at : goal.invariant-loop-at

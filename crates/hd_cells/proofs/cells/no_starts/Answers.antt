@@ -1,4 +1,4 @@
-use Rattle.std.proofs.lemmas.List.{get_or-replicate}
+use Rattle.hd_cells.proofs.Basics.{get_or-replicate}
 use Rattle.hd_cells.proofs.cells.no_starts.Goals as goal
 
 pub returns : goal.returns

@@ -1,4 +1,4 @@
-use Rattle.std.proofs.Common.{◌≡◌, ◌≤◌, [], map, replicate, vec_capacity, vec_len, All}
+use Rattle.hd_seg.proofs.Basics.{All, [], map, replicate, vec_capacity, vec_len, ◌≡◌, ◌≤◌}
 use Rattle.hd_seg.proofs.blocks.empty_chains.Given as goal
 
 -- as many empty chains with room as there were rounds

@@ -1,5 +1,4 @@
-use Rattle.std.proofs.Common.{ℕ, ◌-◌, ◌<◌, ◌≤◌, length, IsSome}
-use Rattle.hd_seg.specs.Blocks.{HasUnused, use_at}
+use Rattle.hd_seg.proofs.Basics.{HasUnused, IsSome, length, use_at, ℕ, ◌-◌, ◌<◌, ◌≤◌}
 use Rattle.hd_seg.proofs.blocks.least_unused.Given as goal
 
 -- all blocks so far are in use, and one that follows is not

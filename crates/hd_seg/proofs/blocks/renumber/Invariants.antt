@@ -1,5 +1,4 @@
-use Rattle.std.proofs.Common.{◌≡◌, length, drop}
-use Rattle.hd_seg.specs.Blocks.{numbered}
+use Rattle.hd_seg.proofs.Basics.{drop, length, numbered, ◌≡◌}
 use Rattle.hd_seg.proofs.blocks.renumber.Given as goal
 
 -- what is left to do leads to the wanted blocks

@@ -1,8 +1,4 @@
-use Rattle.std.proofs.Common.{is_some, refl, ap, ◌∙◌}
-use Rattle.hd_model.specs.declared.data.Addr.{Addr}
-use Rattle.hd_model.specs.State.{Handle}
-use Rattle.hd_model.specs.Table.{Table, fits}
-use Rattle.hd_seg.specs.Row.{extra_of}
+use Rattle.hd_seg.proofs.Basics.{Addr, Handle, Table, ap, extra_of, fits, is_some, refl, ◌∙◌}
 use Rattle.hd_seg.proofs.RowRewrite.{put_row, again, live_after}
 use Rattle.hd_seg.proofs.change.rewrite_row.Goals as goal
 

@@ -1,6 +1,5 @@
-use Rattle.std.proofs.Common.{◌≡◌, replicate, refl, ap, ◌∙◌, arith}
+use Rattle.hd_ages.proofs.Basics.{ages_of, ap, arith, refl, replicate, ◌∙◌, ◌≡◌}
 use Rattle.std.proofs.lemmas.Grind.{common_steps}
-use Rattle.hd_ages.specs.Word.{ages_of}
 use Rattle.hd_ages.proofs.BlockAges.{ages_of-replicate}
 use Rattle.hd_ages.proofs.age_map.AgeMap.open.Goals as goal
 

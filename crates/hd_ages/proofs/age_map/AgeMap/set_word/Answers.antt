@@ -1,7 +1,4 @@
-use Rattle.std.proofs.Common.{◌-◌, arith}
-use Rattle.std.proofs.lemmas.List.{length-set}
-use Rattle.std.proofs.lemmas.List.Elements.{All-set}
-use Rattle.hd_ages.specs.Word.{IsWord}
+use Rattle.hd_ages.proofs.Basics.{All-set, IsWord, arith, length-set, ◌-◌}
 use Rattle.hd_ages.proofs.BlockAges.{word_index, word_written}
 use Rattle.hd_ages.proofs.age_map.AgeMap.set_word.Goals as goal
 

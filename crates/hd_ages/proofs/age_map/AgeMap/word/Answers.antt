@@ -1,9 +1,7 @@
-use Rattle.std.proofs.Common.{◌≡◌, ◌-◌, get_or, sym, ap, ◌∙◌, subst, arith}
-use Rattle.std.proofs.lemmas.List.{get_or_read}
-use Rattle.hd_ages.specs.Word.{IsWord, ages_in}
+use Rattle.hd_ages.proofs.Basics.{IsWord, ages_in, ap, arith, get_or, get_or_read, subst, sym, ◌-◌, ◌∙◌, ◌≡◌}
 use Rattle.hd_ages.proofs.BlockAges.{word_index, word_ages}
-use Rattle.hd_ages.proofs.age_map.AgeMap.word.Goals as goal
 use Rattle.hd_ages.proofs.age_map.AgeMap.word.Goals.{After-row_known-1}
+use Rattle.hd_ages.proofs.age_map.AgeMap.word.Goals as goal
 
 pub index-requires : goal.index-requires
 index-requires c =

@@ -1,8 +1,4 @@
-use Rattle.std.proofs.Common.{ℕ, Option, subst, sym, ap, ◌∙◌, arith, map, ◌+◌, ◌<◌, ⊎_elim}
-use Rattle.std.proofs.lemmas.Bool.{cases_lt}
-use Rattle.std.specs.Prelude.{MatchOption}
-use Rattle.hd_mask.specs.Mask.{set_bits}
-use Rattle.hd_ages.specs.Walk.{IsOver, Advances}
+use Rattle.hd_ages.proofs.Basics.{Advances, IsOver, MatchOption, Option, ap, arith, cases_lt, map, set_bits, subst, sym, ℕ, ⊎_elim, ◌+◌, ◌<◌, ◌∙◌}
 use Rattle.hd_ages.proofs.WalkSteps.{over, new_clump, new_block}
 use Rattle.hd_ages.proofs.ClumpBits.{first_and_rest, none_first}
 use Rattle.hd_ages.proofs.due_rows.DueRows.advance.Goals as goal
@@ -35,8 +31,7 @@ returns-in-Some-clause-on g c = let few : c.in-Some.clump < 4 =
 pub returns-in-Some-clause-goes : goal.returns-in-Some-clause-goes
 returns-in-Some-clause-goes g c =
     new_clump c.args.seg.now c.args.ages.now c.args.self.now c.enter.new.self c.in_ok-block.block
-    c.in-Some.clump
-    c.args.steps.now _ (omega arith) c.in_ok-block.was c.requires.none
+    c.in-Some.clump c.args.steps.now _ (omega arith) c.in_ok-block.was c.requires.none
     (first_and_rest _ _ c.in-Some.clump (sym c.lowest.ensures.first ∙ c.in-Some.is) c.enter.ensures.clumps)
     c.enter.ensures.block c.enter.ensures.n
     (ap (λ (f : ℕ). map (λ row. f + row) (set_bits c.enter.new.self.rows)) c.enter.ensures.first

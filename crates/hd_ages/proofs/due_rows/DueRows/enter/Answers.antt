@@ -1,6 +1,4 @@
-use Rattle.std.proofs.Common.{◌+◌, ◌*◌, ap, ◌∙◌, arith}
-use Rattle.std.specs.Int.{bit_at}
-use Rattle.hd_ages.specs.Clumps.{clump_at}
+use Rattle.hd_ages.proofs.Basics.{ap, arith, bit_at, clump_at, ◌*◌, ◌+◌, ◌∙◌}
 use Rattle.hd_ages.proofs.ClumpBits.{rows_by_bits}
 use Rattle.hd_ages.proofs.due_rows.DueRows.enter.Goals as goal
 

@@ -1,8 +1,6 @@
-use Rattle.std.proofs.Common.{ℕ, ap, ◌∙◌, arith}
-use Rattle.std.specs.Int.{bit_at}
-use Rattle.std.proofs.lemmas.Nat.Bits.{bit_at_above, bit_at-zero}
-use Rattle.hd_ages.proofs.due_rows.DueRows.go_to.Goals as goal
+use Rattle.hd_ages.proofs.Basics.{ap, arith, bit_at, bit_at-zero, bit_at_above, ℕ, ◌∙◌}
 use Rattle.hd_ages.proofs.due_rows.DueRows.go_to.Goals.{in-Some, in-None}
+use Rattle.hd_ages.proofs.due_rows.DueRows.go_to.Goals as goal
 
 pub returns-clause-small : goal.returns-clause-small
 returns-clause-small c = λ i le.

@@ -1,6 +1,4 @@
-use Rattle.std.proofs.Common.{ℕ, ◌+◌, List, length, sym, ap, ◌∙◌, arith}
-use Rattle.std.specs.Int.{bit_at}
-use Rattle.hd_ages.specs.declared.due_rows.DueRows.{DueRows}
+use Rattle.hd_ages.proofs.Basics.{DueRows, List, ap, arith, bit_at, length, sym, ℕ, ◌+◌, ◌∙◌}
 use Rattle.hd_ages.proofs.WalkSteps.{gives, same_clumps}
 use Rattle.hd_ages.proofs.due_rows.DueRows.next.Goals as goal
 

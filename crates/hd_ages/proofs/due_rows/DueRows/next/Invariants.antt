@@ -1,5 +1,4 @@
-use Rattle.std.proofs.Common.{◌≡◌, ◌+◌, length}
-use Rattle.hd_ages.specs.Walk.{IsOn, blocks_from, clumps_to_come, slots_to_come}
+use Rattle.hd_ages.proofs.Basics.{IsOn, blocks_from, clumps_to_come, length, slots_to_come, ◌+◌, ◌≡◌}
 use Rattle.hd_ages.proofs.due_rows.DueRows.next.Given as goal
 
 abbrev pub invariant-loop-self : goal.invariant-loop-self

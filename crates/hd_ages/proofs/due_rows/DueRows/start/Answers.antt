@@ -1,11 +1,7 @@
-use Rattle.std.proofs.Common.{◌≡◌, ℕ, Option, sym, ap, ◌∙◌}
-use Rattle.hd_model.specs.Ages.{due_clumps}
-use Rattle.hd_model.specs.Table.{chain_of}
-use Rattle.hd_ages.specs.declared.due_rows.DueRows.{DueRows}
-use Rattle.hd_ages.specs.Walk.{clumps_by, due_in, due_slots}
+use Rattle.hd_ages.proofs.Basics.{DueRows, Option, ap, chain_of, clumps_by, due_clumps, due_in, due_slots, sym, ℕ, ◌∙◌, ◌≡◌}
 use Rattle.hd_ages.proofs.WalkSteps.{clumps_at_start, slots_at_start}
-use Rattle.hd_ages.proofs.due_rows.DueRows.start.Goals as goal
 use Rattle.hd_ages.proofs.due_rows.DueRows.start.Goals.{After-go_to}
+use Rattle.hd_ages.proofs.due_rows.DueRows.start.Goals as goal
 
 -- where the walk begins
 block_is : (c : After-go_to) → c.go_to.new.self.block ≡ c.first.result

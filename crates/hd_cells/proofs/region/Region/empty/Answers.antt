@@ -1,4 +1,4 @@
-use Rattle.std.proofs.Common.{replicate}
+use Rattle.hd_cells.proofs.Basics.{replicate}
 use Rattle.hd_cells.proofs.CellWrites.{reset_seen, reset_whole, reset_laid_out}
 use Rattle.hd_cells.proofs.region.Region.empty.Goals as goal
 

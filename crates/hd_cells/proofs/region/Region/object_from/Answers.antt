@@ -1,14 +1,11 @@
-use Rattle.std.proofs.Common.{ℕ, Some, None, sym, subst}
-use Rattle.hd_cells.specs.Headers.{IsHeader}
-use Rattle.hd_cells.specs.Region.{IsFirstFrom}
-use Rattle.hd_cells.proofs.Contents.{opened}
-use Rattle.hd_cells.proofs.CellWalk.{end_reached, first_seen}
-use Rattle.hd_cells.proofs.region.Region.object_from.Goals as goal
+use Rattle.hd_cells.proofs.Basics.{IsFirstFrom, IsHeader, None, Some, subst, sym, ℕ}
+use Rattle.hd_cells.proofs.{Contents.opened, CellWalk.end_reached, CellWalk.first_seen}
 use Rattle.hd_cells.proofs.region.Region.object_from.Goals.{In-Some}
+use Rattle.hd_cells.proofs.region.Region.object_from.Goals as goal
 
 pub first_from-requires-clause-reached : goal.first_from-requires-clause-reached
 first_from-requires-clause-reached c =
-    end_reached (opened c.self.inside c.self.told c.self.invariant c.self.view_is) c.args.end c.requires
+    end_reached (opened c.self.told c.self.invariant c.self.view_is) c.args.end c.requires
 
 first : (c : In-Some) → IsFirstFrom c.args.self.now c.args.end (Some c.in-Some.at)
 first c = first_seen c.self.inside.cells c.self.inside.fill c.args.self.now c.args.end (Some c.in-Some.at)

@@ -1,19 +1,17 @@
-use Rattle.std.proofs.Common.{◌+◌, ap, arith}
-use Rattle.hd_cells.specs.Object.{new_object}
-use Rattle.hd_cells.specs.Region.{Contents, with_put}
+use Rattle.hd_cells.proofs.Basics.{Contents, ap, arith, new_object, with_put, ◌+◌}
 use Rattle.hd_cells.proofs.Contents.{opened, IsRead, new_laid_out}
 use Rattle.hd_cells.proofs.CellWrites.{cells_new, object_put, get-fill}
 use Rattle.hd_cells.proofs.ObjectStarts.{whole_put}
-use Rattle.hd_cells.proofs.region.Region.put_object.Goals as goal
 use Rattle.hd_cells.proofs.region.Region.put_object.Goals.{After-clear}
+use Rattle.hd_cells.proofs.region.Region.put_object.Goals as goal
 
 pub returns-clause-was_free : goal.returns-clause-was_free
-returns-clause-was_free c = get-fill (opened c.self.inside c.self.told c.self.invariant c.self.view_is)
+returns-clause-was_free c = get-fill (opened c.self.told c.self.invariant c.self.view_is)
 
 after : (c : After-clear) → IsRead c.clear.new.cells (c.self.inside.fill + c.args.fields + 3)
     (with_put c.args.self.now (new_object c.args.id c.args.fields c.args.registered))
 after c =
-    let read = opened c.self.inside c.self.told c.self.invariant c.self.view_is in
+    let read = opened c.self.told c.self.invariant c.self.view_is in
     object_put read c.clear.new.cells c.args.id c.args.fields c.args.registered c.shape.result
     c.requires.identified c.requires.few_fields c.requires.room (rw c.from.ensures at c.shape.ensures)
     (cells_new c.self.inside.cells c.clear.new.cells c.self.inside.fill c.args.id c.args.fields c.shape.result
@@ -29,7 +27,7 @@ returns-clause-laid_out c = new_laid_out (after ((goal.at.returns-clause-laid_ou
 
 pub invariant_of-self : goal.invariant_of-self
 invariant_of-self c =
-    let read = opened c.self.inside c.self.told c.self.invariant c.self.view_is in
+    let read = opened c.self.told c.self.invariant c.self.view_is in
     whole_put read c.self.invariant c.self.told.1 c.part_of.result
     (new_object c.args.id c.args.fields c.args.registered) c.part_of.ensures (omega (arith, c.requires.room))
     (after ((goal.at.invariant_of-self c).After-clear))

@@ -1,27 +1,21 @@
-use Rattle.std.proofs.Common.{arith}
-use Rattle.hd_cells.specs.Object.{with_value}
-use Rattle.hd_cells.specs.Region.{object_at}
+use Rattle.hd_cells.proofs.Basics.{arith, object_at, with_value}
 use Rattle.hd_cells.proofs.Contents.{opened, object_inside, new_laid_out}
-use Rattle.hd_cells.proofs.CellWrites.{value_written}
-use Rattle.hd_cells.proofs.ObjectStarts.{whole_written}
+use Rattle.hd_cells.proofs.{CellWrites.value_written, ObjectStarts.whole_written}
 use Rattle.hd_cells.proofs.region.Region.set_value.Goals as goal
 
 pub bounds-self-inside-place : goal.bounds-self-inside-place
 bounds-self-inside-place c =
-    omega (
-      arith,
-      object_inside (opened c.self.inside c.self.told c.self.invariant c.self.view_is) c.args.at c.requires,
-    )
+    omega (arith, object_inside (opened c.self.told c.self.invariant c.self.view_is) c.args.at c.requires)
 
 pub returns : goal.returns
 returns c =
-    let new = value_written (opened c.self.inside c.self.told c.self.invariant c.self.view_is) c.args.at
+    let new = value_written (opened c.self.told c.self.invariant c.self.view_is) c.args.at
     c.requires c.args.v in
     record { written = new.view; laid_out = new_laid_out new }
 
 pub invariant_of-self : goal.invariant_of-self
 invariant_of-self c =
-    let read = opened c.self.inside c.self.told c.self.invariant c.self.view_is in
+    let read = opened c.self.told c.self.invariant c.self.view_is in
     whole_written read c.self.invariant c.self.told.1 c.args.at
     (with_value (object_at c.args.self.now c.args.at) c.args.v) c.requires
     (value_written read c.args.at c.requires c.args.v)

@@ -1,6 +1,4 @@
-use Rattle.std.proofs.Common.{◌<◌, length, arith}
-use Rattle.std.specs.FinSet.{difference}
-use Rattle.hd_pool.specs.Masks.{numbers_of}
+use Rattle.hd_pool.proofs.Basics.{arith, difference, length, numbers_of, ◌<◌}
 use Rattle.hd_pool.proofs.MaskMembers.{room_is, cleared, written}
 use Rattle.hd_pool.proofs.masks.MaskSet.clear.Goals as goal
 

@@ -1,6 +1,4 @@
-use Rattle.std.proofs.Common.{◌≡◌, ◌/◌, ◌<◌, length, get_or, ap, ◌∙◌, arith, bit_or}
-use Rattle.std.specs.FinSet.{insert}
-use Rattle.std.proofs.lemmas.Grind.{get_or_default_zero}
+use Rattle.hd_pool.proofs.Basics.{ap, arith, bit_or, get_or, get_or_default_zero, insert, length, ◌/◌, ◌<◌, ◌∙◌, ◌≡◌}
 use Rattle.hd_pool.proofs.MaskMembers.{room_is, inserted, written}
 use Rattle.hd_pool.proofs.masks.MaskSet.insert.Goals as goal
 

@@ -1,6 +1,4 @@
-use Rattle.std.proofs.Common.{◌≡◌, ◌^◌, ◌<◌, length, get_or, ◌∙◌, arith}
-use Rattle.std.proofs.lemmas.Bool.{eq-eqb, eqb-true}
-use Rattle.std.proofs.lemmas.Grind.{get_or_default_zero}
+use Rattle.hd_pool.proofs.Basics.{arith, eq-eqb, eqb-true, get_or, get_or_default_zero, length, ◌<◌, ◌^◌, ◌∙◌, ◌≡◌}
 use Rattle.hd_pool.proofs.MaskMembers.{room_is, all_of, full_from}
 use Rattle.hd_pool.proofs.masks.MaskSet.is_full.Goals as goal
 

@@ -1,7 +1,4 @@
-use Rattle.std.proofs.Common.{◌≡◌, ◌*◌, ◌<◌, length, get_or, ap, subst, ◌∙◌, arith}
-use Rattle.std.specs.Prelude.{is_some}
-use Rattle.std.proofs.lemmas.Grind.{get_or_default_zero}
-use Rattle.hd_pool.specs.Masks.{IsLeastBetween}
+use Rattle.hd_pool.proofs.Basics.{IsLeastBetween, ap, arith, get_or, get_or_default_zero, is_some, length, subst, ◌*◌, ◌<◌, ◌∙◌, ◌≡◌}
 use Rattle.hd_pool.proofs.MaskMembers.{room_is, found, none_more}
 use Rattle.hd_pool.proofs.masks.MaskSet.least_between.Goals as goal
 

@@ -1,5 +1,4 @@
-use Rattle.std.proofs.Common.{◌*◌}
-use Rattle.hd_pool.specs.Masks.{HasNoneBetween}
+use Rattle.hd_pool.proofs.Basics.{HasNoneBetween, ◌*◌}
 use Rattle.hd_pool.proofs.masks.MaskSet.least_between.Given as goal
 
 abbrev pub invariant-loop-at : goal.invariant-loop-at

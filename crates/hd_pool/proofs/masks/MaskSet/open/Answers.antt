@@ -1,6 +1,4 @@
-use Rattle.std.proofs.Common.{◌≡◌, ◌*◌, length, replicate, arith, rules}
-use Rattle.std.specs.FinSet.{empty}
-use Rattle.hd_pool.specs.Masks.{set_of}
+use Rattle.hd_pool.proofs.Basics.{arith, empty, length, replicate, rules, set_of, ◌*◌, ◌≡◌}
 use Rattle.hd_pool.proofs.MaskMembers.{no_marks, zeros}
 use Rattle.hd_pool.proofs.masks.MaskSet.open.Goals as goal
 

@@ -1,7 +1,4 @@
-use Rattle.std.proofs.Common.{◌≡◌, ◌/◌, ◌^◌, ◌<◌, length, get_or, ap, ◌∙◌, arith, bit_and}
-use Rattle.std.specs.FinSet.{remove}
-use Rattle.std.specs.Int.{bit_not, w64}
-use Rattle.std.proofs.lemmas.Grind.{get_or_default_zero}
+use Rattle.hd_pool.proofs.Basics.{ap, arith, bit_and, bit_not, get_or, get_or_default_zero, length, remove, w64, ◌/◌, ◌<◌, ◌^◌, ◌∙◌, ◌≡◌}
 use Rattle.hd_pool.proofs.MaskMembers.{room_is, removed, written}
 use Rattle.hd_pool.proofs.masks.MaskSet.remove.Goals as goal
 

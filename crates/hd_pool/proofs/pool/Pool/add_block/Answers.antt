@@ -1,6 +1,4 @@
-use Rattle.std.proofs.Common.{ap, ◌∙◌, arith}
-use Rattle.std.specs.FinSet.{insert, union}
-use Rattle.hd_pool.specs.Masks.{numbers_of}
+use Rattle.hd_pool.proofs.Basics.{ap, arith, insert, numbers_of, union, ◌∙◌}
 use Rattle.hd_pool.proofs.PoolCalls.{added, along, blocks_is, kind_is, seen_put}
 use Rattle.hd_pool.proofs.pool.Pool.add_block.Goals as goal
 
@@ -15,6 +13,5 @@ invariant_of-self c =
 
 pub returns : goal.returns
 returns c =
-    seen_put c.self.invariant c.self.view_is c.args.block c.args.kind
-    (λ s. union s (numbers_of c.args.block))
+    seen_put c.self.invariant c.self.view_is c.args.block c.args.kind (λ s. union s (numbers_of c.args.block))
     (omega (arith, blocks_is c.self.invariant c.self.view_is, c.self.invariant.some)) c.fill.ensures

@@ -1,17 +1,11 @@
-use Rattle.std.proofs.Common.{◌≡◌, sym, ap, ◌∙◌, arith, Some}
-use Rattle.std.specs.FinSet.{remove, difference}
-use Rattle.hd_pool.specs.Masks.{numbers_of}
-use Rattle.hd_pool.specs.Inside.{kind_at}
+use Rattle.hd_pool.proofs.Basics.{Some, ap, arith, difference, kind_at, numbers_of, remove, sym, ◌∙◌, ◌≡◌}
 use Rattle.hd_pool.proofs.PoolCalls.{dropped, along, in_list, low, has_room, has_place, read_kind, read_some, seen_left, with_left}
 use Rattle.hd_pool.proofs.pool.Pool.drop_block.Goals as goal
 
 pub index-requires : goal.index-requires
 index-requires c =
-    omega (
-      arith,
-      c.self.inside.kinds.ok.0,
-      in_list c.self.invariant c.self.view_is c.args.block c.requires.added,
-    )
+    let known = in_list c.self.invariant c.self.view_is c.args.block c.requires.added in
+    omega (arith, c.self.inside.kinds.ok.0, known)
 
 pub unwrap-kind-requires : goal.unwrap-kind-requires
 unwrap-kind-requires c =
@@ -19,18 +13,12 @@ unwrap-kind-requires c =
 
 pub index_mut-requires : goal.index_mut-requires
 index_mut-requires c =
-    omega (
-      arith,
-      c.self.inside.kinds.ok.0,
-      in_list c.self.invariant c.self.view_is c.args.block c.requires.added,
-    )
+    let known = in_list c.self.invariant c.self.view_is c.args.block c.requires.added in
+    omega (arith, c.self.inside.kinds.ok.0, known)
 
 pub clear-requires : goal.clear-requires
 clear-requires c =
-    omega (
-      arith,
-      has_room c.self.invariant c.self.view_is c.args.block c.requires.added,
-    )
+    omega (arith, has_room c.self.invariant c.self.view_is c.args.block c.requires.added)
 
 pub place-requires : goal.place-requires
 place-requires c = low c.self.invariant c.self.view_is c.args.block c.requires.added

@@ -1,11 +1,7 @@
-use Rattle.std.proofs.Common.{◌≡◌, ◌+◌, ◌*◌, ◌-◌, ℕ, None, length, replicate, get_or, sym, ap, ◌∙◌, arith, rules}
-use Rattle.std.specs.FinSet.{empty}
-use Rattle.hd_pool.specs.Masks.{Held}
-use Rattle.hd_pool.specs.Inside.{kind_at}
-use Rattle.hd_model.proofs.IndexedItems.{by_place-empty, get_or-replicate_None}
+use Rattle.hd_pool.proofs.Basics.{Held, None, ap, arith, by_place-empty, empty, get_or, get_or-replicate_None, kind_at, length, replicate, rules, sym, ℕ, ◌*◌, ◌+◌, ◌-◌, ◌∙◌, ◌≡◌}
 use Rattle.hd_pool.proofs.PoolCalls.{opened_empty}
-use Rattle.hd_pool.proofs.pool.Pool.open.Goals as goal
 use Rattle.hd_pool.proofs.pool.Pool.open.Goals.{After-vec}
+use Rattle.hd_pool.proofs.pool.Pool.open.Goals as goal
 
 all : (c : goal.In-Ok) → c.in-Ok.kinds.items ≡ replicate (c.args.blocks + 1) None
 all c = search rules
@@ -23,8 +19,7 @@ room c = ap (λ n. record { room = 64 * n; members = empty }) (sym (long c))
 pub invariant_of-result : goal.invariant_of-result
 invariant_of-result c =
     opened_empty c.in-Ok.kinds.items c.in_ok-free.free c.in_ok-ready.ready (none c) (omega (arith, long c))
-    (omega (arith, long c, c.requires))
-    (c.in_ok-free.ensures ∙ room c) c.in_ok-ready.ensures
+    (omega (arith, long c, c.requires)) (c.in_ok-free.ensures ∙ room c) c.in_ok-ready.ensures
 
 pub returns-in-Ok : goal.returns-in-Ok
 returns-in-Ok c =
@@ -32,6 +27,5 @@ returns-in-Ok c =
     λ i. record {
       blocks = blocks i;
       kinds = by_place-empty c.in-Ok.kinds.items (none c) i;
-      free = ap
-          (λ (s : Held). s.members) c.in_ok-free.ensures i;
+      free = ap (λ (s : Held). s.members) c.in_ok-free.ensures i;
     }

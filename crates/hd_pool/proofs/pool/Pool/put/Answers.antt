@@ -1,18 +1,12 @@
-use Rattle.std.proofs.Common.{◌≡◌, ◌/◌, sym, ap, ◌∙◌, arith, Some}
-use Rattle.std.specs.FinSet.{insert}
-use Rattle.hd_pool.specs.Inside.{kind_at}
-use Rattle.hd_pool.proofs.PoolCalls as pools
+use Rattle.hd_pool.proofs.Basics.{Some, ap, arith, insert, kind_at, sym, ◌/◌, ◌∙◌, ◌≡◌}
 use Rattle.hd_pool.proofs.PoolCalls.{along, in_list, low, has_room, has_place, read_kind, read_some}
+use Rattle.hd_pool.proofs.PoolCalls as pools
 use Rattle.hd_pool.proofs.pool.Pool.put.Goals as goal
 
 pub index-requires : goal.index-requires
 index-requires c =
-    omega (
-      arith,
-      c.self.inside.kinds.ok.0,
-      in_list c.self.invariant c.self.view_is (c.args.slot.0 / 64)
-          c.requires.added,
-    )
+    let known = in_list c.self.invariant c.self.view_is (c.args.slot.0 / 64) c.requires.added in
+    omega (arith, c.self.inside.kinds.ok.0, known)
 
 pub unwrap-kind-requires : goal.unwrap-kind-requires
 unwrap-kind-requires c =
@@ -20,10 +14,7 @@ unwrap-kind-requires c =
 
 pub insert-requires : goal.insert-requires
 insert-requires c =
-    omega (
-      arith,
-      has_room c.self.invariant c.self.view_is (c.args.slot.0 / 64) c.requires.added,
-    )
+    omega (arith, has_room c.self.invariant c.self.view_is (c.args.slot.0 / 64) c.requires.added)
 
 pub place-requires : goal.place-requires
 place-requires c = low c.self.invariant c.self.view_is (c.args.slot.0 / 64) c.requires.added

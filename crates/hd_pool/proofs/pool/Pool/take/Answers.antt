@@ -1,7 +1,4 @@
-use Rattle.std.proofs.Common.{ap, ◌∙◌, arith}
-use Rattle.std.specs.FinSet.{remove}
-use Rattle.std.specs.Prelude.{is_some}
-use Rattle.std.proofs.lemmas.Bool.{true≢false}
+use Rattle.hd_pool.proofs.Basics.{ap, arith, is_some, remove, true≢false, ◌∙◌}
 use Rattle.hd_pool.proofs.PoolCalls.{take_none, take_room, take_some, take_least, take_more, take_last}
 use Rattle.hd_pool.proofs.pool.Pool.take.Goals as goal
 
@@ -20,8 +17,7 @@ least_between-requires-2 c =
 pub unwrap-slot-requires : goal.unwrap-slot-requires
 unwrap-slot-requires c =
     take_some c.self.invariant c.self.view_is c.args.kind c.number-first.ensures.value
-    c.in_ok-at.ensures.found c.place.ensures
-    c.least_between-2.result c.least_between-2.ensures.none
+    c.in_ok-at.ensures.found c.place.ensures c.least_between-2.result c.least_between-2.ensures.none
 
 pub invariant_of-self : goal.invariant_of-self
 invariant_of-self c =
@@ -30,9 +26,7 @@ invariant_of-self c =
     c.least_between-2.result c.unwrap-slot.ensures c.least_between-2.ensures.found
     (c.remove.ensures ∙ ap
     (λ n. record c.self.inside.free { members = remove c.self.inside.free.members n }) (omega arith))
-    c.least_between-3.result c.least_between-3.ensures.none
-    c.if-is_none.ensures
-    c.remove-then-is_none.ensures
+    c.least_between-3.result c.least_between-3.ensures.none c.if-is_none.ensures c.remove-then-is_none.ensures
 
 pub invariant_of-self-else-is_none : goal.invariant_of-self-else-is_none
 invariant_of-self-else-is_none c =
@@ -41,8 +35,7 @@ invariant_of-self-else-is_none c =
     c.least_between-2.result c.unwrap-slot.ensures c.least_between-2.ensures.found
     (c.remove.ensures ∙ ap
     (λ n. record c.self.inside.free { members = remove c.self.inside.free.members n }) (omega arith))
-    c.least_between-3.result c.least_between-3.ensures.found
-    c.if-is_none.ensures
+    c.least_between-3.result c.least_between-3.ensures.found c.if-is_none.ensures
 
 pub returns-then-is_none-clause-least : goal.returns-then-is_none-clause-least
 returns-then-is_none-clause-least c =

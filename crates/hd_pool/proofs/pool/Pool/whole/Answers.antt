@@ -1,9 +1,7 @@
-use Rattle.std.proofs.Common.{◌≡◌, Some, arith, refl, rules, below_more}
-use Rattle.std.proofs.lemmas.Bool.{true≢false, both_ways}
-use Rattle.hd_pool.specs.Inside.{kind_at}
+use Rattle.hd_pool.proofs.Basics.{Some, arith, below_more, both_ways, kind_at, refl, rules, true≢false, ◌≡◌}
 use Rattle.hd_pool.proofs.PoolCalls.{is_whole, whole_kind, whole_all, whole_within, least_whole}
-use Rattle.hd_pool.proofs.pool.Pool.whole.Goals as goal
 use Rattle.hd_pool.proofs.pool.Pool.whole.Goals.{else-eq-via-then-eq+else-is_full, else-eq-via-else-eq}
+use Rattle.hd_pool.proofs.pool.Pool.whole.Goals as goal
 
 pub returns-then-is_full-clause-least : goal.returns-then-is_full-clause-least
 returns-then-is_full-clause-least c =
@@ -24,8 +22,7 @@ loop-block-preserved c =
           whole))
       | else-eq-via-else-eq w ↦
           let is : kind_at c.self.inside.kinds.items c.loop-block.block ≡ Some c.args.kind = whole_kind
-          c.self.invariant c.self.view_is c.args.kind
-          c.loop-block.block whole in
+          c.self.invariant c.self.view_is c.args.kind c.loop-block.block whole in
           let isnt : kind_at c.self.inside.kinds.items c.loop-block.block ≡ Some c.args.kind → ⊥ = search
           rules in isnt is
     ])
@@ -33,13 +30,8 @@ loop-block-preserved c =
 pub returns-clause-none : goal.returns-clause-none
 returns-clause-none c = (
   λ _ block whole. c.loop-block.invariant block
-      (omega (
-        arith,
-        c.loop-block-test.false,
-        c.deref-given-items.ensures.len,
-        c.self.inside.kinds.ok.0,
-        whole_within c.self.invariant c.self.view_is c.args.kind
-            block whole,
-      )) whole,
+      (let known = c.deref-given-items.ensures.len in
+      let also = whole_within c.self.invariant c.self.view_is c.args.kind block whole in
+      omega (arith, c.loop-block-test.false, known, c.self.inside.kinds.ok.0, also)) whole,
   λ _. refl,
 )

@@ -1,5 +1,4 @@
-use Rattle.std.proofs.Common.{ℕ, ◌<◌}
-use Rattle.hd_pool.specs.Pool.{IsWholeOf}
+use Rattle.hd_pool.proofs.Basics.{IsWholeOf, ℕ, ◌<◌}
 use Rattle.hd_pool.proofs.pool.Pool.whole.Given as goal
 
 abbrev pub invariant-loop-block : goal.invariant-loop-block

@@ -1,13 +1,8 @@
-use Rattle.std.proofs.Common.{◌≡◌, ℕ, ◌<◌, ◌++◌, [], ◌∷◌, List, length, map, get_or, set, sym, ap, ◌∙◌, subst, arith, Vec, Global, None, IsSome}
-use Rattle.std.specs.FinMap.{get, len}
-use Rattle.hd_model.specs.Kinds.{kind_number}
-use Rattle.hd_seg.specs.declared.block.Block.{Block}
-use Rattle.hd_seg.specs.Blocks.{Uses, HasUnused, use_at}
-use Rattle.hd_seg.specs.Mapped.{mapped}
+use Rattle.hd_seg.proofs.Basics.{Block, Global, HasUnused, IsSome, List, None, Uses, Vec, [], ap, arith, get, get_or, kind_number, len, length, map, mapped, set, subst, sym, use_at, ℕ, ◌++◌, ◌<◌, ◌∙◌, ◌∷◌, ◌≡◌}
 use Rattle.hd_seg.proofs.ChainLinks.{is_table, few_of, one_left, chain_read, chain_written, chain_short, room_read, rooms_written, extras_is}
 use Rattle.hd_seg.proofs.BlockAdd.{blocks-add, view-add, least_is}
-use Rattle.hd_seg.proofs.blocks.Blocks.add.Goals as goal
 use Rattle.hd_seg.proofs.blocks.Blocks.add.Goals.{After-len-place, After-push_reserved, After-self-3-1}
+use Rattle.hd_seg.proofs.blocks.Blocks.add.Goals as goal
 
 pub least_unused-block-requires : goal.least_unused-block-requires
 least_unused-block-requires c =
@@ -21,14 +16,10 @@ few c = few_of _ c.self.view_is c.requires
 
 short : (c : After-len-place) → length c.index_mut-chain.result.now.items < c.self.inside.number
 short c =
-    omega (
-      arith,
-      ap length (chain_read _ c.self.invariant.0 c.args.kind c.number.ensures.value
-          c.index_mut-chain.ensures.value),
-      chain_short c.self.invariant.0 c.args.kind,
-      few c,
-      c.self.invariant.0.counted,
-    )
+    let known =
+    ap length (chain_read _ c.self.invariant.0 c.args.kind c.number.ensures.value
+    c.index_mut-chain.ensures.value) in
+    omega (arith, known, chain_short c.self.invariant.0 c.args.kind, few c, c.self.invariant.0.counted)
 
 pub overflow_cast-place : goal.overflow_cast-place
 overflow_cast-place c =
@@ -36,13 +27,10 @@ overflow_cast-place c =
 
 pub push_reserved-requires : goal.push_reserved-requires
 push_reserved-requires c =
-    omega (
-      arith,
-      short c,
-      c.index_mut-chain.result.now.ok.0,
-      room_read _ c.self.invariant.0 c.args.kind c.number.ensures.value c.index_mut-chain.ensures.value
-          c.self.invariant.1,
-    )
+    let known =
+    room_read _ c.self.invariant.0 c.args.kind c.number.ensures.value c.index_mut-chain.ensures.value
+    c.self.invariant.1 in
+    omega (arith, short c, c.index_mut-chain.result.now.ok.0, known)
 
 -- the block that was found
 inside : (c : After-self-3-1) → c.least_unused-block.result < length c.self.inside.table.items
@@ -91,8 +79,7 @@ returns-clause-least c =
 pub returns-clause-plain : goal.returns-clause-plain
 returns-clause-plain c =
     sym (ap (λ (u : Uses). get u.extras c.least_unused-block.result) c.self.view_is)
-    ∙ extras_is c.self.invariant.0
-    c.least_unused-block.result c.least_unused-block.ensures.low
+    ∙ extras_is c.self.invariant.0 c.least_unused-block.result c.least_unused-block.ensures.low
     (omega (arith, inside c, c.self.invariant.0.size))
     ∙ c.self.invariant.0.plain c.least_unused-block.result (unused c)
 

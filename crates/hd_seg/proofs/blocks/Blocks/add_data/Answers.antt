@@ -1,14 +1,8 @@
-use Rattle.std.proofs.Common.{◌≡◌, ℕ, ◌+◌, ◌<◌, ◌≤◌, List, length, set, sym, ap, ◌∙◌, subst, arith, Some, None, IsSome, inl, inr}
-use Rattle.std.specs.Prelude.{is_some}
-use Rattle.std.specs.FinMap.{get}
-use Rattle.std.proofs.lemmas.Bool.{cases_lt}
-use Rattle.std.proofs.lemmas.List.{get_or_read, length-set}
-use Rattle.hd_seg.specs.declared.block.Block.{Block}
-use Rattle.hd_seg.specs.Blocks.{Uses, HasUnused, use_at, block_at}
+use Rattle.hd_seg.proofs.Basics.{Block, HasUnused, IsSome, List, None, Some, Uses, ap, arith, block_at, cases_lt, get, get_or_read, inl, inr, is_some, length, length-set, set, subst, sym, use_at, ℕ, ◌+◌, ◌<◌, ◌∙◌, ◌≡◌, ◌≤◌}
 use Rattle.hd_seg.proofs.ChainLinks.{is_table, few_of, one_left, none_is_some, use_is}
 use Rattle.hd_seg.proofs.BlockAdd.{blocks-with_data, view-with_data, least_is}
-use Rattle.hd_seg.proofs.blocks.Blocks.add_data.Goals as goal
 use Rattle.hd_seg.proofs.blocks.Blocks.add_data.Goals.{After-deref, After-self-3-1}
+use Rattle.hd_seg.proofs.blocks.Blocks.add_data.Goals as goal
 
 -- each block up to this one is in use
 used : (c : After-deref) → (b : ℕ) → 1 ≤ b → b ≤ c.args.block → IsSome (use_at c.self.inside.table.items b)
@@ -46,35 +40,17 @@ of_is : (c : After-self-3-1) → c.index_mut-of.result.now ≡ block_at c.self.i
 of_is c = get_or_read c.self.inside.table.items c.args.block c.index_mut-of.result.now
     (omega (arith, inside c, c.least_unused-data.ensures.low)) c.index_mut-of.ensures.value _
 
+-- the block of handles with its data block
+abbrev with_data_block : After-self-3-1 → Block
+with_data_block c = record c.index_mut-of.result.now { extras = Some c.least_unused-data.result }
+
 at_is : (c : After-self-3-1) → c.index_mut-extras.result.now
-    ≡ block_at (set c.self.inside.table.items c.args.block
-    (record {
-      kind = c.index_mut-of.result.now.kind;
-      place = c.index_mut-of.result.now.place;
-      extras =
-          Some c.least_unused-data.result;
-    })) c.least_unused-data.result
+    ≡ block_at (set c.self.inside.table.items c.args.block (with_data_block c)) c.least_unused-data.result
 at_is c =
-    let first : List Block =
-    set c.self.inside.table.items c.args.block
-    (record {
-      kind = c.index_mut-of.result.now.kind;
-      place = c.index_mut-of.result.now.place;
-      extras =
-          Some c.least_unused-data.result;
-    }) in
+    let first : List Block = set c.self.inside.table.items c.args.block (with_data_block c) in
     let lt : c.least_unused-data.result < length first =
-    omega (
-      arith,
-      inside c,
-      length-set c.self.inside.table.items c.args.block
-          (record {
-            kind = c.index_mut-of.result.now.kind;
-            place = c.index_mut-of.result.now.place;
-            extras =
-                Some c.least_unused-data.result;
-          }),
-    ) in
+    (let known = length-set c.self.inside.table.items c.args.block (with_data_block c) in
+    omega (arith, inside c, known)) in
     get_or_read first c.least_unused-data.result c.index_mut-extras.result.now lt
     c.index_mut-extras.ensures.value _
 

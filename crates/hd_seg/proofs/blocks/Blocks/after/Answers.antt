@@ -1,8 +1,4 @@
-use Rattle.std.proofs.Common.{◌≡◌, ℕ, suc, ◌+◌, ◌++◌, [], ◌∷◌, length, get_or, map, sym, ap, ◌∙◌, arith, Vec, Global}
-use Rattle.std.specs.Prelude.{slice_get}
-use Rattle.hd_model.specs.Kinds.{kind_number}
-use Rattle.hd_model.specs.Table.{chain_of}
-use Rattle.hd_seg.specs.Blocks.{Uses}
+use Rattle.hd_seg.proofs.Basics.{Global, Uses, Vec, [], ap, arith, chain_of, get_or, kind_number, length, map, slice_get, suc, sym, ℕ, ◌++◌, ◌+◌, ◌∙◌, ◌∷◌, ◌≡◌}
 use Rattle.hd_seg.proofs.ChainLinks.{follows, chain_read, got, slice_get-after}
 use Rattle.hd_seg.proofs.blocks.Blocks.after.Goals as goal
 

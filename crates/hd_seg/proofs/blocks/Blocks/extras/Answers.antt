@@ -1,12 +1,7 @@
-use Rattle.std.proofs.Common.{◌+◌, ◌<◌, ◌≤◌, ◌⊎◌, length, sym, ap, ◌∙◌, arith, inl, inr}
-use Rattle.std.specs.FinMap.{get}
-use Rattle.hd_seg.specs.declared.block.Block.{Block}
-use Rattle.hd_seg.specs.Blocks.{Uses, extras_at}
-use Rattle.hd_seg.proofs.FunctionMaps.{get-mapped_out}
-use Rattle.hd_seg.proofs.ChainLinks.{extras_is}
-use Rattle.std.proofs.lemmas.List.{get_or_read}
-use Rattle.hd_seg.proofs.blocks.Blocks.extras.Goals as goal
+use Rattle.hd_seg.proofs.Basics.{Block, Uses, ap, arith, extras_at, get, get_or_read, inl, inr, length, sym, ◌+◌, ◌<◌, ◌∙◌, ◌≤◌, ◌⊎◌}
+use Rattle.hd_seg.proofs.{FunctionMaps.get-mapped_out, ChainLinks.extras_is}
 use Rattle.hd_seg.proofs.blocks.Blocks.extras.Goals.{then-block-eq0-via-then-block-eq0, then-block-eq0-via-else-block-eq0+then-block-self, Joined-then-block-eq0}
+use Rattle.hd_seg.proofs.blocks.Blocks.extras.Goals as goal
 
 out : (c : Joined-then-block-eq0) → (c.args.block < 1) ⊎ (1 + c.self.inside.number ≤ c.args.block)
 out c =

@@ -1,18 +1,12 @@
-use Rattle.std.proofs.Common.{ap, ◌∙◌, arith, inl, inr}
-use Rattle.std.specs.Prelude.{slice_get}
-use Rattle.hd_model.specs.Table.{chain_of}
-use Rattle.hd_seg.specs.Blocks.{use_of}
+use Rattle.hd_seg.proofs.Basics.{ap, arith, chain_of, inl, inr, slice_get, use_of, ◌∙◌}
 use Rattle.hd_seg.proofs.ChainLinks.{some_of, none_is_some, one_kind, block_inside, read_use, read_place, read_small}
 use Rattle.hd_seg.proofs.BlockAdd.{extras_apart}
 use Rattle.hd_seg.proofs.blocks.Blocks.listing.Goals as goal
 
 pub index-at-requires : goal.index-at-requires
 index-at-requires c =
-    omega (
-      arith,
-      block_inside c.self.invariant.0 c.self.view_is c.args.block c.requires,
-      c.self.inside.table.ok.0,
-    )
+    let known = block_inside c.self.invariant.0 c.self.view_is c.args.block c.requires in
+    omega (arith, known, c.self.inside.table.ok.0)
 
 pub unreachable-requires : goal.unreachable-requires
 unreachable-requires c =

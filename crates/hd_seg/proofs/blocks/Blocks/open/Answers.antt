@@ -1,8 +1,6 @@
-use Rattle.std.proofs.Common.{ℕ, ◌+◌, map, replicate, sym, ap, ◌∙◌, subst, Vec, Global, None}
+use Rattle.hd_seg.proofs.Basics.{Global, IsBlocks, None, Vec, ap, map, replicate, subst, sym, uses_in, ℕ, ◌+◌, ◌∙◌}
+use Rattle.hd_seg.proofs.{ChainLinks.is_table, BlockAdd.blocks-none, BlockAdd.view-none}
 use Rattle.hd_seg.specs.declared.row.BlockKind.TheVariants as block
-use Rattle.hd_seg.specs.Blocks.{uses_in, IsBlocks}
-use Rattle.hd_seg.proofs.ChainLinks.{is_table}
-use Rattle.hd_seg.proofs.BlockAdd.{blocks-none, view-none}
 use Rattle.hd_seg.proofs.blocks.Blocks.open.Goals as goal
 
 -- no block is in use, and no chain has a block
@@ -22,8 +20,7 @@ returns-clause-none c =
     c.in_ok-table.ensures
     ∙ ap (uses_in c.args.number
     (replicate (c.args.number + 1) (record { kind = block.Unused; place = 0; extras = None })))
-    c.in-Ok.ensures.chains
-    ∙ view-none c.args.number
+    c.in-Ok.ensures.chains ∙ view-none c.args.number
 
 pub returns-clause-table : goal.returns-clause-table
 returns-clause-table c = is_table (invariant_of-result c).0

@@ -1,13 +1,10 @@
-use Rattle.std.proofs.Common.{◌≡◌, ℕ, List, ◌++◌, ◌∷◌, subst}
-use Rattle.std.specs.Prelude.{slice_get}
-use Rattle.hd_model.specs.Table.{Table, IsTable, chain_of, kind_at}
-use Rattle.hd_seg.proofs.RowCells.{is_table}
-use Rattle.hd_seg.proofs.ReadCalls.{after_kind, after_within}
-use Rattle.hd_seg.proofs.seg.Seg.after.Goals as goal
+use Rattle.hd_seg.proofs.Basics.{IsTable, List, Table, chain_of, kind_at, slice_get, subst, ℕ, ◌++◌, ◌∷◌, ◌≡◌}
+use Rattle.hd_seg.proofs.{RowCells.sound_table, ReadCalls.after_kind, ReadCalls.after_within}
 use Rattle.hd_seg.proofs.seg.Seg.after.Goals.{After-after}
+use Rattle.hd_seg.proofs.seg.Seg.after.Goals as goal
 
 sound : (c : After-after) → IsTable c.args.self.now
-sound c = subst (λ (t : Table). IsTable t) c.self.view_is (is_table c.self.invariant)
+sound c = sound_table c.self.invariant c.self.view_is
 
 pub returns-clause-table : goal.returns-clause-table
 returns-clause-table c = sound c

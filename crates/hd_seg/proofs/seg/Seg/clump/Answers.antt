@@ -1,12 +1,9 @@
-use Rattle.std.proofs.Common.{◌≡◌, ◌≤◌, get_or, ap, subst, arith}
-use Rattle.std.proofs.lemmas.List.{get_or_read}
-use Rattle.hd_model.specs.Table.{Table, IsTable}
-use Rattle.hd_seg.proofs.RowCells.{is_table}
-use Rattle.hd_seg.proofs.ReadCalls.{clump_bits}
+use Rattle.hd_seg.proofs.Basics.{Table, ap, arith, get_or, get_or_read, ◌≡◌, ◌≤◌}
+use Rattle.hd_seg.proofs.{RowCells.sound_table, ReadCalls.clump_bits}
 use Rattle.hd_seg.proofs.seg.Seg.clump.Goals as goal
 
 pub returns-clause-table : goal.returns-clause-table
-returns-clause-table c = subst (λ (t : Table). IsTable t) c.self.view_is (is_table c.self.invariant)
+returns-clause-table c = sound_table c.self.invariant c.self.view_is
 
 pub returns-clause-bits : goal.returns-clause-bits
 returns-clause-bits c i lt =

@@ -1,13 +1,10 @@
-use Rattle.std.proofs.Common.{ap, ◌∙◌, subst}
-use Rattle.std.specs.Prelude.{slice_get}
-use Rattle.hd_model.specs.Table.{Table, IsTable, chain_of}
-use Rattle.hd_seg.proofs.RowCells.{is_table}
-use Rattle.hd_seg.proofs.ReadCalls.{first_kind, first_within}
-use Rattle.hd_seg.proofs.seg.Seg.first.Goals as goal
+use Rattle.hd_seg.proofs.Basics.{IsTable, Table, ap, chain_of, slice_get, ◌∙◌}
+use Rattle.hd_seg.proofs.{RowCells.sound_table, ReadCalls.first_kind, ReadCalls.first_within}
 use Rattle.hd_seg.proofs.seg.Seg.first.Goals.{After-first}
+use Rattle.hd_seg.proofs.seg.Seg.first.Goals as goal
 
 sound : (c : After-first) → IsTable c.args.self.now
-sound c = subst (λ (t : Table). IsTable t) c.self.view_is (is_table c.self.invariant)
+sound c = sound_table c.self.invariant c.self.view_is
 
 pub returns-clause-table : goal.returns-clause-table
 returns-clause-table c = sound c

@@ -1,22 +1,12 @@
-use Rattle.std.proofs.Common.{◌≡◌, ◌+◌, ◌≤◌, sym, ap, ◌∙◌, subst, arith, cond, inl, inr}
-use Rattle.std.specs.Prelude.{is_some}
-use Rattle.std.specs.FinMap.{get, len, insert}
-use Rattle.std.proofs.lemmas.Bool.{cases_eq, true≢false}
-use Rattle.hd_model.specs.State.{handles_of}
-use Rattle.hd_model.specs.Table.{Table, IsTable, IsLeastWithout, with_block, with_data}
-use Rattle.hd_model.proofs.ReadAfterWrite.{get_beside}
-use Rattle.hd_seg.specs.Blocks.{Uses}
-use Rattle.hd_seg.specs.Cells.{table_in, IsSeg}
-use Rattle.hd_seg.proofs.FunctionMaps.{get-insert_same, len-insert_new}
-use Rattle.hd_seg.proofs.RowCells.{is_table}
+use Rattle.hd_seg.proofs.Basics.{IsLeastWithout, IsSeg, IsTable, Uses, ap, arith, cases_eq, cond, get, get_beside, handles_of, inl, inr, insert, is_some, len, subst, sym, table_in, true≢false, with_block, with_data, ◌+◌, ◌∙◌, ◌≡◌, ◌≤◌}
+use Rattle.hd_seg.proofs.{FunctionMaps.get-insert_same, FunctionMaps.len-insert_new, RowCells.is_table, RowCells.sound_table, ReadCalls.with_rows_least, ReadCalls.next_least}
 use Rattle.hd_seg.proofs.BlockChange.{one-seg, one-view, two-seg, two-view}
-use Rattle.hd_seg.proofs.ReadCalls.{with_rows_least, next_least}
-use Rattle.hd_seg.proofs.seg.Seg.give_block.Goals as goal
 use Rattle.hd_seg.proofs.seg.Seg.give_block.Goals.{then-paired, else-paired, After-add_data-arg-1, After-add_data-data}
+use Rattle.hd_seg.proofs.seg.Seg.give_block.Goals as goal
 
 pub returns-then-unused-needed-clause-table : goal.returns-then-unused-needed-clause-table
 returns-then-unused-needed-clause-table c =
-    subst (λ (t : Table). IsTable t) c.self.view_is (is_table c.self.invariant)
+    sound_table c.self.invariant c.self.view_is
 
 -- ---- one block
 
@@ -52,15 +42,12 @@ two_needed c =
 
 pub add_data-data-requires-clause-room : goal.add_data-data-requires-clause-room
 add_data-data-requires-clause-room c =
-    omega (
-      arith,
-      two_needed c,
-      c.unused.ensures.value,
-      ap (λ (u : Uses). len u.table.uses) c.add-block.ensures.after,
-      ap (λ (u : Uses). u.table.blocks) c.add-block.ensures.after,
-      len-insert_new c.self.inside.blocks.table.uses c.add-block.result (handles_of c.args.kind)
-          c.add-block.ensures.least.unused,
-    )
+    let known = ap (λ (u : Uses). len u.table.uses) c.add-block.ensures.after in
+    let also = ap (λ (u : Uses). u.table.blocks) c.add-block.ensures.after in
+    let more =
+    len-insert_new c.self.inside.blocks.table.uses c.add-block.result (handles_of c.args.kind)
+    c.add-block.ensures.least.unused in
+    omega (arith, two_needed c, c.unused.ensures.value, known, also, more)
 
 pub add_data-data-requires-clause-used : goal.add_data-data-requires-clause-used
 add_data-data-requires-clause-used c q low high =
@@ -86,16 +73,14 @@ both : (c : After-add_data-data) → c.add_data-data.new.self
     ≡ record {
       table = with_data (with_block c.self.inside.blocks.table c.args.kind c.add-block.result)
           c.add_data-data.result;
-      extras =
-          insert c.self.inside.blocks.extras c.add-block.result c.add_data-data.result;
+      extras = insert c.self.inside.blocks.extras c.add-block.result c.add_data-data.result;
     }
 both c =
     c.add_data-data.ensures.after
     ∙ ap (λ (u : Uses). let v : Uses =
     record {
       table = with_data u.table c.add_data-data.result;
-      extras =
-          insert u.extras c.add-block.result c.add_data-data.result;
+      extras = insert u.extras c.add-block.result c.add_data-data.result;
     } in v) c.add-block.ensures.after
 
 pub invariant_of-self-2 : goal.invariant_of-self-2

@@ -1,7 +1,5 @@
-use Rattle.std.proofs.Common.{subst}
-use Rattle.hd_model.specs.Table.{Table, IsTable}
-use Rattle.hd_seg.proofs.RowCells.{is_table}
+use Rattle.hd_seg.proofs.RowCells.{sound_table}
 use Rattle.hd_seg.proofs.seg.Seg.given.Goals as goal
 
 pub returns-clause-table : goal.returns-clause-table
-returns-clause-table c = subst (λ (t : Table). IsTable t) c.self.view_is (is_table c.self.invariant)
+returns-clause-table c = sound_table c.self.invariant c.self.view_is

@@ -1,10 +1,6 @@
-use Rattle.std.proofs.Common.{◌+◌, ◌*◌, replicate, sym, ap, ◌∙◌, subst}
-use Rattle.std.specs.FinMap.{empty}
-use Rattle.hd_model.specs.Table.{IsTable, empty_table}
-use Rattle.hd_seg.specs.declared.cells.Cell.TheVariants as cell
-use Rattle.hd_seg.specs.Blocks.{Uses}
-use Rattle.hd_seg.specs.Cells.{table_in, IsSeg}
+use Rattle.hd_seg.proofs.Basics.{IsSeg, IsTable, Uses, ap, empty, empty_table, replicate, subst, sym, table_in, ◌*◌, ◌+◌, ◌∙◌}
 use Rattle.hd_seg.proofs.ReadCalls.{seg-none, view-none}
+use Rattle.hd_seg.specs.declared.cells.Cell.TheVariants as cell
 use Rattle.hd_seg.proofs.seg.Seg.open.Goals as goal
 
 pub invariant_of-result : goal.invariant_of-result

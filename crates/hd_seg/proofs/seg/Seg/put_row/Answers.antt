@@ -1,34 +1,26 @@
-use Rattle.std.proofs.Common.{◌/◌, ap, ◌∙◌, arith}
-use Rattle.std.proofs.lemmas.List.{get_or_read}
-use Rattle.hd_seg.specs.declared.cells.Cell.TheVariants as cell
-use Rattle.hd_seg.specs.Cells.{table_in}
+use Rattle.hd_seg.proofs.Basics.{ap, arith, get_or_read, table_in, ◌/◌, ◌∙◌}
 use Rattle.hd_seg.proofs.RowCells.{row_back, seg_at}
 use Rattle.hd_seg.proofs.RowCalls.{put-seg, put-view, put_slot, put_mask, put_live}
+use Rattle.hd_seg.specs.declared.cells.Cell.TheVariants as cell
 use Rattle.hd_seg.proofs.seg.Seg.put_row.Goals as goal
 
 pub write_row-requires-clause-slot : goal.write_row-requires-clause-slot
 write_row-requires-clause-slot c =
-    omega (
-      arith,
-      put_slot c.self.invariant c.args.slot.0 c.self.view_is c.args.row c.requires.vacant c.requires.fitting,
-      c.self.inside.cells.ok.0,
-    )
+    let known =
+    put_slot c.self.invariant c.args.slot.0 c.self.view_is c.args.row c.requires.vacant c.requires.fitting in
+    omega (arith, known, c.self.inside.cells.ok.0)
 
 pub index_mut-requires : goal.index_mut-requires
 index_mut-requires c =
-    omega (
-      arith,
-      put_mask c.self.invariant c.args.slot.0 c.self.view_is c.args.row c.requires.vacant c.requires.fitting,
-      c.self.inside.masks.ok.0,
-    )
+    let known =
+    put_mask c.self.invariant c.args.slot.0 c.self.view_is c.args.row c.requires.vacant c.requires.fitting in
+    omega (arith, known, c.self.inside.masks.ok.0)
 
 pub overflow_add-self : goal.overflow_add-self
 overflow_add-self c =
-    omega (
-      arith,
-      put_live c.self.invariant c.args.slot.0 c.self.view_is c.args.row c.requires.vacant
-          c.requires.fitting,
-    )
+    let known =
+    put_live c.self.invariant c.args.slot.0 c.self.view_is c.args.row c.requires.vacant c.requires.fitting in
+    omega (arith, known)
 
 pub invariant_of-self : goal.invariant_of-self
 invariant_of-self c =

@@ -1,10 +1,8 @@
-use Rattle.std.proofs.Common.{◌≡◌, sym, ap, ◌∙◌, subst, inl, inr}
-use Rattle.hd_model.specs.Table.{Table, IsTable}
-use Rattle.hd_seg.specs.Cells.{cell_at, cell_in, extra_held}
-use Rattle.hd_seg.proofs.RowCells.{is_table}
+use Rattle.hd_seg.proofs.Basics.{ap, cell_at, cell_in, extra_held, inl, inr, sym, ◌∙◌, ◌≡◌}
+use Rattle.hd_seg.proofs.RowCells.{sound_table}
 use Rattle.hd_seg.proofs.ReadCalls.{empty_read, extra_read, row_read}
-use Rattle.hd_seg.proofs.seg.Seg.row.Goals as goal
 use Rattle.hd_seg.proofs.seg.Seg.row.Goals.{In-Empty}
+use Rattle.hd_seg.proofs.seg.Seg.row.Goals as goal
 
 -- the cell that is read
 cell_is : (c : In-Empty) → cell_at c.self.inside.cells.items c.args.slot.0 ≡ c.cell_of.result
@@ -14,10 +12,9 @@ pub returns-in-Empty : goal.returns-in-Empty
 returns-in-Empty c = record {
   value = elim c.in-Empty.is [
     | inl vacant ↦ empty_read c.self.invariant c.args.slot.0 c.self.view_is (cell_is c ∙ vacant)
-    | inr some ↦ extra_read c.self.invariant c.args.slot.0 c.self.view_is some.0
-        (cell_is c ∙ some.1)
+    | inr some ↦ extra_read c.self.invariant c.args.slot.0 c.self.view_is some.0 (cell_is c ∙ some.1)
   ];
-  table = subst (λ (t : Table). IsTable t) c.self.view_is (is_table c.self.invariant);
+  table = sound_table c.self.invariant c.self.view_is;
 }
 
 pub returns-in-Target-clause-value : goal.returns-in-Target-clause-value
@@ -30,4 +27,4 @@ returns-in-Target-clause-value c =
 
 pub returns-in-Target-clause-table : goal.returns-in-Target-clause-table
 returns-in-Target-clause-table c =
-    subst (λ (t : Table). IsTable t) c.self.view_is (is_table c.self.invariant)
+    sound_table c.self.invariant c.self.view_is

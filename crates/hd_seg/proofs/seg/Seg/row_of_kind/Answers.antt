@@ -1,8 +1,4 @@
-use Rattle.std.proofs.Common.{◌≡◌, false, sym, ap, ◌∙◌}
-use Rattle.hd_model.specs.declared.data.Addr.{Addr}
-use Rattle.hd_model.specs.Kinds.{is_paired}
-use Rattle.hd_model.specs.State.{Handle}
-use Rattle.hd_model.specs.Table.{live_at}
+use Rattle.hd_seg.proofs.Basics.{Addr, Handle, ap, false, is_paired, live_at, sym, ◌∙◌, ◌≡◌}
 use Rattle.hd_seg.proofs.RowRewrite.{live_row, plain_extra}
 use Rattle.hd_seg.proofs.seg.Seg.row_of_kind.Goals as goal
 

@@ -1,7 +1,5 @@
-use Rattle.std.proofs.Common.{ap, ◌∙◌}
-use Rattle.hd_seg.specs.Cells.{table_in}
-use Rattle.hd_seg.proofs.RowCells.{cells_back, seg_at}
-use Rattle.hd_seg.proofs.RowCalls.{eke-seg, eke-view}
+use Rattle.hd_seg.proofs.Basics.{ap, table_in, ◌∙◌}
+use Rattle.hd_seg.proofs.{RowCells.cells_back, RowCells.seg_at, RowCalls.eke-seg, RowCalls.eke-view}
 use Rattle.hd_seg.proofs.seg.Seg.set_extra.Goals as goal
 
 pub invariant_of-self : goal.invariant_of-self

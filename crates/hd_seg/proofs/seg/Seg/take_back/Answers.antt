@@ -1,13 +1,8 @@
-use Rattle.std.proofs.Common.{◌≡◌, ℕ, ◌/◌, sym, ap, ◌∙◌, subst, Some, None}
-use Rattle.std.specs.FinMap.{get}
-use Rattle.hd_model.specs.State.{handles_of}
-use Rattle.hd_model.specs.Table.{Table, IsTable, kind_at, is_single, without_block}
-use Rattle.hd_seg.specs.Blocks.{Uses}
-use Rattle.hd_seg.specs.Cells.{row_in, table_in, IsSeg}
+use Rattle.hd_seg.proofs.Basics.{IsSeg, IsTable, None, Some, Table, Uses, ap, get, handles_of, is_single, kind_at, row_in, subst, sym, table_in, without_block, ℕ, ◌/◌, ◌∙◌, ◌≡◌}
 use Rattle.hd_seg.proofs.RowCells.{row_is}
 use Rattle.hd_seg.proofs.BlockChange.{back-seg, back-view, single_in}
-use Rattle.hd_seg.proofs.seg.Seg.take_back.Goals as goal
 use Rattle.hd_seg.proofs.seg.Seg.take_back.Goals.{After-remove}
+use Rattle.hd_seg.proofs.seg.Seg.take_back.Goals as goal
 
 -- the block has handles of a kind, and no live row
 in_use : (c : After-remove) → get c.self.inside.blocks.table.uses c.args.block
@@ -32,6 +27,5 @@ pub returns : goal.returns
 returns c =
     ap (λ u. table_in u c.self.inside.cells.items) c.remove.ensures.after
     ∙ back-view c.self.invariant c.args.block (kind_at c.self.inside.blocks.table c.args.block) (in_use c)
-    (vacant c) c.self.view_is
-    ∙ ap (λ k. without_block c.args.self.now k c.args.block)
+    (vacant c) c.self.view_is ∙ ap (λ k. without_block c.args.self.now k c.args.block)
     (ap (λ (t : Table). kind_at t c.args.block) c.self.view_is)

@@ -1,26 +1,18 @@
-use Rattle.std.proofs.Common.{◌/◌, ap, ◌∙◌, arith}
-use Rattle.std.proofs.lemmas.List.{get_or_read}
-use Rattle.hd_seg.specs.declared.cells.Cell.TheVariants as cell
-use Rattle.hd_seg.specs.Cells.{table_in}
+use Rattle.hd_seg.proofs.Basics.{ap, arith, get_or_read, table_in, ◌/◌, ◌∙◌}
 use Rattle.hd_seg.proofs.RowCells.{row_back, seg_at}
 use Rattle.hd_seg.proofs.RowCalls.{take-seg, take-view, live_slot, live_mask, take_live}
+use Rattle.hd_seg.specs.declared.cells.Cell.TheVariants as cell
 use Rattle.hd_seg.proofs.seg.Seg.take_row.Goals as goal
 
 pub write_row-requires-clause-slot : goal.write_row-requires-clause-slot
 write_row-requires-clause-slot c =
-    omega (
-      arith,
-      live_slot c.self.invariant c.args.slot.0 c.self.view_is c.requires,
-      c.self.inside.cells.ok.0,
-    )
+    let known = live_slot c.self.invariant c.args.slot.0 c.self.view_is c.requires in
+    omega (arith, known, c.self.inside.cells.ok.0)
 
 pub index_mut-requires : goal.index_mut-requires
 index_mut-requires c =
-    omega (
-      arith,
-      live_mask c.self.invariant c.args.slot.0 c.self.view_is c.requires,
-      c.self.inside.masks.ok.0,
-    )
+    let known = live_mask c.self.invariant c.args.slot.0 c.self.view_is c.requires in
+    omega (arith, known, c.self.inside.masks.ok.0)
 
 pub overflow_sub-self : goal.overflow_sub-self
 overflow_sub-self c = omega (arith, take_live c.self.invariant c.args.slot.0 c.self.view_is c.requires)

@@ -1,0 +1,29 @@
+-- The names that most proofs of this crate cite, passed on from one place.
+pub use Rattle.std.proofs.Common.{All, Bool, List, None, Option, Some, [], ap, arith, bit_and, bit_or, cond, drop, false, filter, get_or, inl, inr, is_some, length, lit<, lit≤, map, min, not, refl, replicate, set, slice_get, subst, suc, sym, take, true, zero, ℕ, ⊎_elim, ◌%◌, ◌&&◌, ◌*◌, ◌++◌, ◌+◌, ◌-◌, ◌/◌, ◌<◌, ◌==◌, ◌^◌, ◌||◌, ◌∙◌, ◌∷◌, ◌≡◌, ◌≢◌, ◌≤◌, ◌⊎◌}
+pub use Rattle.std.proofs.lemmas.Bool.{and_parts, both_ways, cases_eq, cases_lt, cond_both, eq-eqb, eqb-true, le-leb, lt-leb, ltb-true, ne_eqb, not-true, or_cases}
+pub use Rattle.std.proofs.lemmas.List.{get_or-drop, get_or-take, get_or_read, length-set}
+pub use Rattle.std.proofs.lemmas.List.Elements.{All-set, Contains-append_cases, Contains-append_left, Contains-append_right, filter_agree}
+pub use Rattle.std.proofs.lemmas.Nat.Bits.{bit_at-lt, bit_at-zero, bit_at_above, bit_at_ones}
+pub use Rattle.std.specs.FinMap.{contains_key, get, len}
+pub use Rattle.std.specs.Int.{bit_at}
+pub use Rattle.std.specs.List.{range_with_len}
+pub use Rattle.std.specs.Option.{ForSome}
+pub use Rattle.std.specs.Prelude.{AllPairs, Contains, IfSome, IsSome, MatchOption, nat_le, option_map, slice_index}
+pub use Rattle.hd_ages.specs.Clumps.{IsSlotOf, ages_at, clump_at, with_ages}
+pub use Rattle.hd_ages.specs.Rows.{IsDueRow}
+pub use Rattle.hd_ages.specs.Walk.{Advances, Ends, Gives, IsHandleBlock, IsOn, IsOver, after_first, blocks_after, blocks_from, clumps_by, clumps_to_come, due_in, due_slots, slots_in, slots_of, slots_to_come}
+pub use Rattle.hd_ages.specs.Word.{IsWord, age_in, ages_in, ages_of, is_word}
+pub use Rattle.hd_ages.specs.declared.due_rows.DueRows.{DueRows}
+pub use Rattle.hd_mask.specs.Mask.{set_bits}
+pub use Rattle.hd_model.proofs.Basics.{length-append, length-map}
+pub use Rattle.hd_model.proofs.Members.{first_in, later_in, member_cases, member_same, not_in_none, pairs_append, pairs_cons, pairs_first, pairs_none, pairs_passing, pairs_rest, passing_from, passing_in}
+pub use Rattle.hd_model.proofs.PropertyCounts.{counts_join, counts_le, counts_like, counts_none, fewer}
+pub use Rattle.hd_model.specs.Ages.{clump_of, clumps_of, due_clumps, grown, lowered, raised}
+pub use Rattle.hd_model.specs.Counting.{Counts}
+pub use Rattle.hd_model.specs.State.{BlockUse, Handle, extra_data, handles_of}
+pub use Rattle.hd_model.specs.Table.{IsTable, Table, chain_of, has_handles, kind_at, kind_in, live_at, row_at}
+pub use Rattle.hd_model.specs.Visits.{IsSameTable, visits_of}
+pub use Rattle.hd_model.specs.declared.data.Addr.{Addr}
+pub use Rattle.hd_model.specs.declared.data.Kind.{Kind}
+pub use Rattle.hd_model.specs.declared.data.Slot.{Slot}
+pub use Rattle.hd_seg.specs.Rewriting.{Rewrites}
