@@ -1,20 +1,9 @@
 -- A step after which the seat's view has other slots held and another trace, and nothing else.
-use Rattle.std.proofs.Common.{◌≡◌, ◌≢◌, ◌⊎◌, ℕ, zero, suc, ◌≤◌, Bool, false, List, [], ◌∷◌, get_or, set, inl, inr, sym, ap, subst, refl, ◌∙◌, arith}
-use Rattle.std.proofs.lemmas.Bool.{cases_eq}
-use Rattle.std.proofs.lemmas.List.{get_or-set_other}
-use Rattle.std.proofs.Math.ListN.{length-set}
+use Rattle.hd_custody.proofs.Basics.{Bool, Custodied, Entry, FIRST_MASK, Fits, Gate, Ghosts, HasNumber, Holds, List, Numbers, Out, Seats, Slots, State, View, [], ap, arith, at_set, cases_eq, false, get_or, get_or-set_other, inl, inr, length-set, refl, room_of, set, set_else, subst, suc, sym, tally, zero, ℕ, ◌∙◌, ◌∷◌, ◌≡◌, ◌≢◌, ◌≤◌, ◌⊎◌}
 use mathlib.Core.Option.{some, none, some-injective}
-use mathlib.Core.Option as maybe
 use lib.ListN.{get_elem?}
-use Rattle.atomic_table.proofs.Lists.{at_set, set_else}
-use Rattle.atomic_table.specs.Table.{State}
-use Rattle.hd_model.specs.declared.held.Held.{Ghosts}
-use Rattle.hd_model.specs.declared.data.Entry.{Entry}
-use Rattle.hd_model.specs.State.{Numbers}
-use Rattle.hd_custody.specs.declared.words.TheConstants.{FIRST_MASK}
-use Rattle.hd_custody.specs.declared.view.View.{View}
-use Rattle.hd_custody.specs.Rule.{tally, room_of, Fits, HasNumber, Seats, Slots, Out, Holds, Gate, Custodied}
 use Rattle.hd_custody.proofs.Totals.{total_set}
+use mathlib.Core.Option as maybe
 
 -- the view with these slots held, this trace, number of the trace, and whether it began with nothing
 abbrev pub reshaped : {W : Type 0} → List (ℕ × ℕ) → List (ℕ × ℕ × ℕ) → ℕ → Bool → View W → View W
@@ -95,8 +84,7 @@ module _ {W : Type 0} (views : List (View W)) (id : ℕ) (v : View W) (there : g
   fits_at : (made : ℕ) (owner : ℕ → ℕ) (journal : List Entry) (spare : ℕ) (numbers : Numbers)
       → Seats made owner journal spare numbers views
       → (i : ℕ) (u : View W) → u.is_spent ≡ false → ((i ≡ id) × (w ≡ u))
-      ⊎ ((i ≢ id) × (get_elem? views i ≡ some u))
-      → Fits made owner journal numbers i u
+      ⊎ ((i ≢ id) × (get_elem? views i ≡ some u)) → Fits made owner journal numbers i u
   fits_at made owner journal spare numbers s i u alive (inl here) =
       let lives : v.is_spent ≡ false = ap (λ (z : View W). z.is_spent) here.1 ∙ alive in
       let f = s.each id v there lives in
@@ -113,8 +101,7 @@ module _ {W : Type 0} (views : List (View W)) (id : ℕ) (v : View W) (there : g
   fits_at made owner journal spare numbers s i u alive (inr other) = s.each i u other.1 alive
 
   pub seats_alike : (made : ℕ) (owner : ℕ → ℕ) (journal : List Entry) (spare : ℕ) (numbers : Numbers)
-      → Seats made owner journal spare numbers views
-      → Seats made owner journal spare numbers views'
+      → Seats made owner journal spare numbers views → Seats made owner journal spare numbers views'
   seats_alike made owner journal spare numbers s = record {
     each = λ i u at alive. fits_at made owner journal spare numbers s i u alive (at_set views id i w u at);
     begun = s.begun;
@@ -146,13 +133,11 @@ module _ {W : Type 0} (views : List (View W)) (id : ℕ) (v : View W) (there : g
         let h = g.holding id v there lives (ap (λ (z : View W). z.has_gate) here.1 ∙ has) in (
           word_is ∙ h.0,
           h.1 ∙ sym here.0,
-          ap (λ (z : View W). z.taken) (sym here.1)
-              ∙ h.2,
+          ap (λ (z : View W). z.taken) (sym here.1) ∙ h.2,
           ap (λ (z : View W). z.changes) (sym here.1) ∙ h.3,
         )
     holds_at j u alive (inr other) has = let h = g.holding j u other.1 alive has in (
-      word_is
-          ∙ h.0,
+      word_is ∙ h.0,
       h.1,
       h.2,
       h.3,
@@ -167,8 +152,8 @@ module _ {W : Type 0} (views : List (View W)) (id : ℕ) (v : View W) (there : g
       holding = λ j u at alive. holds_at j u alive (at_set views id j x u at);
     }
 
-module _ {W : Type 0} (m : Ghosts W) (numbers : Numbers) (s : State (Rattle.std.specs.Prelude.Option W)
-    (View W)) (c : Custodied m numbers s)
+module _ {W : Type 0} {m : Ghosts W} {numbers : Numbers}
+    {s : State (Rattle.std.specs.Prelude.Option W) (View W)} (c : Custodied m numbers s)
     (id : ℕ) (v : View W) (there : get_elem? s.views id ≡ some v)
     (h : List (ℕ × ℕ)) (t : List (ℕ × ℕ × ℕ)) (k : ℕ) (e : Bool) where
   -- a step on a mask or cell keeps the rule where it keeps what the rule says of slots
@@ -177,8 +162,7 @@ module _ {W : Type 0} (m : Ghosts W) (numbers : Numbers) (s : State (Rattle.std.
       → Custodied m numbers (record {
         words = set s.words i n;
         homes = s.homes;
-        views =
-            set s.views id (reshaped h t k e v);
+        views = set s.views id (reshaped h t k e v);
       })
   kept i n low slots = record {
     world = c.world;

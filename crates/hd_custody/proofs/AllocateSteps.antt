@@ -1,16 +1,5 @@
 -- The steps of an `allocate`.
-use Rattle.std.proofs.Common.{◌≡◌, ◌≢◌, ℕ, ◌+◌, ◌-◌, ◌*◌, ◌/◌, ◌^◌, ◌<◌, ◌≤◌, ◌==◌, cond, bit_or, bit_xor, List, [], ◌∷◌, ◌++◌, slice_get, Some, sym, ap, subst, refl, ◌∙◌, arith}
-use Rattle.std.specs.Int.{bit_at}
-use Rattle.std.proofs.lemmas.Nat.Bits.{bit_at-zero}
-use Rattle.hd_mask.specs.Mask.{set_bits}
-use Rattle.hd_model.specs.declared.held.Held.{Ghosts}
-use Rattle.hd_model.specs.declared.limits.TheConstants.{BLOCKS, ROWS}
-use Rattle.hd_custody.specs.declared.words.TheConstants.{BANK, CACHE, FIRST_QUICK}
-use Rattle.hd_custody.specs.declared.view.View.{View}
-use Rattle.hd_custody.specs.Counts.{held_times, cell_kind, changed, with_slot, put_out, naming, rows, without_rows, without}
-use Rattle.hd_custody.specs.Views.{swapped, banked, looked, drained, restored, Kinded, Fresh, KindIs, Acting}
-use Rattle.hd_custody.specs.Traces.{Phase, probe, look, again, back, bank, rest, found, is_step, next_phase, to_probe, to_look, to_bank, lowest, next_rows, probe_word}
-use Rattle.hd_custody.specs.CallSteps.{HasRowsAs, found_or, with_view, went, Made, Banked, Offers}
+use Rattle.hd_custody.proofs.Basics.{Acting, BANK, BLOCKS, Banked, CACHE, FIRST_QUICK, Fresh, Ghosts, HasRowsAs, KindIs, Kinded, List, Made, Offers, Phase, ROWS, Some, View, [], again, ap, arith, back, bank, banked, bit_at, bit_at-zero, bit_or, bit_xor, cell_kind, changed, cond, drained, found, found_or, held_times, is_step, look, looked, lowest, naming, next_phase, next_rows, probe, probe_word, put_out, refl, rest, restored, rows, set_bits, slice_get, subst, swapped, sym, to_bank, to_look, to_probe, went, with_slot, with_view, without, without_rows, ℕ, ◌*◌, ◌++◌, ◌+◌, ◌-◌, ◌/◌, ◌<◌, ◌==◌, ◌^◌, ◌∙◌, ◌∷◌, ◌≡◌, ◌≢◌, ◌≤◌}
 use Rattle.hd_custody.proofs.Canon.{Apart, rows_go, rows_none, naming_kinded, naming_rows, lowest_is, put_some, one_leaves, others_held, one_stays, with_slot_none}
 use Rattle.hd_custody.proofs.Phases.{due, zero_is, zero_not, same_is, same_not, less_is, found_or_none, found_or_some, found_or_cond, made_none, one_step, seen_as, held_is, and_then, then_as}
 
@@ -35,8 +24,7 @@ row_offers m {k} {blocks} {p} {q} {h} {a} block row y lt so fresh kind is ne =
     let there : block ≡ (ROWS * block + row) / ROWS = omega arith in
     let of_block = subst (λ (x : Acting _). KindIs m x.view block y) so.only kind in (
       fresh,
-      λ u has took. subst (λ d. changed a.view.changes (m.kind u) d ≡ k + 1) there
-          (of_block u has took ∙ is),
+      λ u has took. subst (λ d. changed a.view.changes (m.kind u) d ≡ k + 1) there (of_block u has took ∙ is),
     )
 
 module _ {W : Type 0} {k blocks : ℕ} where
@@ -45,8 +33,7 @@ module _ {W : Type 0} {k blocks : ℕ} where
   pub probe_step : (a b : Acting W) (n i y : ℕ) → n < CACHE → i ≡ probe_word k n → cell_kind i ≡ k
       → b ≡ with_view (swapped i y 0 a.view) a
       → Made k blocks (to_probe blocks n) (found_or (to_probe blocks (n + 1)) y)
-      (with_slot y (k + 1) a.view.held)
-      a b
+      (with_slot y (k + 1) a.view.held) a b
   probe_step a b n i y lt e kind step =
       one_step (i, y, 0) (step ∙ ap (λ q. went (with_slot y (q + 1) a.view.held) ((i, y, 0) ∷ []) a) kind)
       (ap (λ p. next_phase k blocks p (i, y, 0)) (less_is n CACHE (probe n) (to_look blocks 1) lt)
@@ -113,8 +100,7 @@ module _ {W : Type 0} {k blocks : ℕ} where
   pub look_again : (b c : Acting W) (block mask y : ℕ) (h : List (ℕ × ℕ)) {p : Phase} {a : Acting W}
       → Kinded h → mask ≢ 0
       → Made k blocks p (cond (mask == 0) (to_look blocks (block + 1)) (again block mask))
-      (rows block mask 0 ++ h) a b
-      → c ≡ with_view (looked block y b.view) b
+      (rows block mask 0 ++ h) a b → c ≡ with_view (looked block y b.view) b
       → Made k blocks p (cond (y == k + 1) (to_bank block (ROWS * block + lowest mask) 0 (next_rows mask))
       (back block mask)) (rows block mask y ++ h) a c
   look_again b c block mask y h kinded real so step =

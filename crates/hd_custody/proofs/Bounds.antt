@@ -1,10 +1,5 @@
 -- How many steps a call makes: each lowers the rank of the phase.
-use Rattle.std.proofs.Common.{◌≡◌, ◌≢◌, ◌⊎◌, ℕ, ◌+◌, ◌-◌, ◌*◌, ◌/◌, ◌%◌, ◌^◌, ◌≤◌, ◌==◌, Bool, true, false, cond, bit_or, List, [], ◌∷◌, length, inl, inr, sym, ap, refl, ◌∙◌, arith}
-use Rattle.std.specs.Prelude.{◌&&◌, nat_lt}
-use Rattle.std.proofs.lemmas.Bool.{ltb-true, ltb-false}
-use Rattle.hd_model.specs.declared.limits.TheConstants.{BLOCKS, ROWS}
-use Rattle.hd_custody.specs.declared.words.TheConstants.{BANK, CACHE, FIRST_QUICK}
-use Rattle.hd_custody.specs.Traces.{Did, Phase, probe, look, drain, again, back, bank, rest, sweep, settle, look_whole, drain_whole, again_whole, back_part, push, last, found, missed, wrong, is_step, next_phase, follow, to_probe, to_look, to_bank, to_sweep, to_look_whole, to_push, lowest, next_rows, every_row, probe_word, sweep_word, push_word}
+use Rattle.hd_custody.proofs.Basics.{BANK, BLOCKS, Bool, CACHE, Did, FIRST_QUICK, List, Phase, ROWS, [], again, again_whole, ap, arith, back, back_part, bank, bit_or, cond, drain, drain_whole, every_row, false, follow, found, inl, inr, is_step, last, length, look, look_whole, lowest, ltb-false, ltb-true, missed, nat_lt, next_phase, next_rows, probe, probe_word, push, push_word, refl, rest, settle, sweep, sweep_word, sym, to_bank, to_look, to_look_whole, to_probe, to_push, to_sweep, true, wrong, ℕ, ◌%◌, ◌&&◌, ◌*◌, ◌+◌, ◌-◌, ◌/◌, ◌==◌, ◌^◌, ◌∙◌, ◌∷◌, ◌≡◌, ◌≢◌, ◌≤◌, ◌⊎◌}
 
 -- how many steps a call may still make
 abbrev rank : Phase → ℕ

@@ -1,37 +1,13 @@
 -- The slots held, exactly: what steps on slots of one block leave of them.
-use Rattle.std.proofs.Common.{◌≡◌, ◌≢◌, ◌⊎◌, ℕ, zero, suc, ◌+◌, ◌-◌, ◌*◌, ◌/◌, ◌%◌, ◌^◌, ◌<◌, ◌≤◌, ◌==◌, Bool, true, false, cond, not, bit_xor, List, [], ◌∷◌, ◌++◌, filter, get_or, slice_get, Option, Some, inl, inr, sym, ap, subst, refl, ◌∙◌, eq-eqb, ne_eqb, arith}
-use Rattle.std.specs.Prelude.{nat_lt, ◌&&◌, ◌||◌}
-use Rattle.std.specs.Int.{bit_at, bit_not, w64}
-use Rattle.std.proofs.lemmas.Bool.{cases_eq, lt-ltb}
-use Rattle.std.proofs.lemmas.Nat.Bits.{bit_at-lt, bit_at-zero, bit_at-pow_same, bit_at-pow_other, bit_at_not, bit_at_above}
+use Rattle.hd_custody.proofs.Basics.{Acting, BLOCKS, Bool, EXTRA_DATA, Every, Has, HasAs, HasRows, HasRowsAs, KINDS, Kinded, List, Me, Option, ROWS, Some, View, [], and_right, ap, arith, bit_at, bit_at-lt, bit_at-pow_other, bit_at-pow_same, bit_at-zero, bit_at_above, bit_at_not, bit_not, bit_xor, cases_eq, cond, eq-eqb, every_row, false, filter, filter-append, get_or, granted, held_times, inl, inr, lowest, lt-ltb, named_by, naming, nat_lt, ne_eqb, not, opened, put_in, put_out, refl, rows, set_bits, slice_get, storing_data, subst, suc, sym, true, w64, whole, with_block, with_data, with_slot, with_view, without, without_rows, zero, ℕ, ◌%◌, ◌&&◌, ◌*◌, ◌++◌, ◌+◌, ◌-◌, ◌/◌, ◌<◌, ◌==◌, ◌^◌, ◌||◌, ◌∙◌, ◌∷◌, ◌≡◌, ◌≢◌, ◌≤◌, ◌⊎◌}
 use mathlib.Core.Option.{some, some-injective, some-ne-none}
 use lib.ListN.{get_elem?}
-use Rattle.hd_mask.specs.Mask.{set_bits}
 use Rattle.hd_mask.proofs.Bits.{flip_same, flip_other}
-use Rattle.hd_model.specs.declared.limits.TheConstants.{BLOCKS, KINDS, ROWS}
-use Rattle.hd_custody.specs.declared.words.TheConstants.{EXTRA_DATA}
-use Rattle.hd_custody.specs.Counts.{held_times, picks, rows, whole, without, without_rows, put_out, with_slot, named_by, naming, Every, Has, HasAs}
-use Rattle.atomic_table.specs.Table.{Me}
-use Rattle.hd_custody.specs.declared.view.View.{View}
-use Rattle.hd_custody.specs.CallSteps.{with_block, HasRows, HasRowsAs, with_view, storing_data}
-use Rattle.hd_custody.specs.Views.{Kinded, opened, put_in, granted, with_data, Acting}
-use Rattle.hd_custody.specs.Traces.{lowest, every_row}
-use Rattle.hd_custody.proofs.Totals.{hit}
+use Rattle.hd_custody.specs.Counts.{picks}
+use Rattle.hd_custody.proofs.{Totals.hit, Keeps.outside}
 use Rattle.hd_custody.proofs.HeldSlots.{held_times_append, held_times_picks, has_member}
-use Rattle.hd_custody.proofs.Keeps.{outside, and_off}
 
 -- ---- picks
-
-pub picks_same : (n : ℕ) (keep keep' : ℕ → Bool) (base : ℕ) (kind : ℕ → ℕ)
-    → ((r : ℕ) → r < n → keep r ≡ keep' r)
-    → picks n keep base kind ≡ picks n keep' base kind
-unfolding picks
-picks_same zero keep keep' base kind same = refl
-picks_same (suc n) keep keep' base kind same =
-    let rest = picks_same n keep keep' base kind (λ r lt. same r (omega arith)) in
-    ap (λ b. cond b ((base + n, kind n) ∷ picks n keep base kind) (picks n keep base kind))
-    (same n (omega arith))
-    ∙ ap (λ ps. cond (keep' n) ((base + n, kind n) ∷ ps) ps) rest
 
 pub picks_none : (n : ℕ) (keep : ℕ → Bool) (base : ℕ) (kind : ℕ → ℕ) → ((r : ℕ) → r < n → keep r ≡ false)
     → picks n keep base kind ≡ []
@@ -39,12 +15,10 @@ unfolding picks
 picks_none zero keep base kind none = refl
 picks_none (suc n) keep base kind none =
     ap (λ b. cond b ((base + n, kind n) ∷ picks n keep base kind) (picks n keep base kind))
-    (none n (omega arith))
-    ∙ picks_none n keep base kind (λ r lt. none r (omega arith))
+    (none n (omega arith)) ∙ picks_none n keep base kind (λ r lt. none r (omega arith))
 
 pub picks_one : (n a : ℕ) (keep : ℕ → Bool) (base : ℕ) (kind : ℕ → ℕ) → a < n
-    → ((r : ℕ) → r < n → keep r ≡ (r == a))
-    → picks n keep base kind ≡ (base + a, kind a) ∷ []
+    → ((r : ℕ) → r < n → keep r ≡ (r == a)) → picks n keep base kind ≡ (base + a, kind a) ∷ []
 unfolding picks
 picks_one zero a keep base kind lt only = absurd (omega arith)
 picks_one (suc n) a keep base kind lt only = elim (cases_eq n a) [
@@ -73,17 +47,6 @@ filter_picks g (suc n) keep base kind = at (keep n) (filter_picks g n keep base 
         ≡ cond (b && g (base + n)) ((base + n, kind n) ∷ picks n (λ r. keep r && g (base + r)) base kind)
         (picks n (λ r. keep r && g (base + r)) base kind)
     at true rest = ap (λ (ps : List (ℕ × ℕ)). cond (g (base + n)) ((base + n, kind n) ∷ ps) ps) rest
-    at false rest = rest
-
-pub filter_append : (keep : ℕ × ℕ → Bool) (xs ys : List (ℕ × ℕ))
-    → filter keep (xs ++ ys) ≡ filter keep xs ++ filter keep ys
-filter_append keep [] ys = refl
-filter_append keep (x ∷ xs) ys = at (keep x) (filter_append keep xs ys)
-  where
-    at : (b : Bool) → filter keep (xs ++ ys) ≡ filter keep xs ++ filter keep ys
-        → cond b (x ∷ filter keep (xs ++ ys)) (filter keep (xs ++ ys)) ≡ cond b (x ∷ filter keep xs)
-        (filter keep xs) ++ filter keep ys
-    at true rest = ap (λ ps. x ∷ ps) rest
     at false rest = rest
 
 pub filter_stays : (keep : ℕ × ℕ → Bool) (held : List (ℕ × ℕ)) → Every (λ p. keep p ≡ true) held
@@ -151,7 +114,7 @@ apart_stays b m held apart = filter_stays (λ p. outside b m p.0) held
         (apart (p.0 % ROWS) (omega arith) set) in
         let some_has : 1 ≤ held_times p.0 held = has in
         absurd (omega arith)
-    out p has (inl here) (inr clear) = ap not (and_off (p.0 / ROWS == b) _ (ne_eqb _ _ clear))
+    out p has (inl here) (inr clear) = ap not (and_right (p.0 / ROWS == b) _ (ne_eqb _ _ clear))
     out p has (inr far) _ = ap (λ t. not (t && (bit_at m (p.0 % ROWS) == 1))) (ne_eqb _ _ far)
 
 pub absent_stays : (x : ℕ) (held : List (ℕ × ℕ)) → held_times x held ≡ 0 → without x held ≡ held
@@ -173,7 +136,7 @@ outside_at b m r lt =
     ap (λ t. not (t && (bit_at m ((ROWS * b + r) % ROWS) == 1))) (eq-eqb _ _ block)
     ∙ ap (λ s. not (bit_at m s == 1)) row
 
-both_off : (t : Bool) → (t && not t) ≡ false
+pub both_off : (t : Bool) → (t && not t) ≡ false
 both_off true = refl
 both_off false = refl
 
@@ -181,8 +144,7 @@ both_off false = refl
 pub rows_go : (b m k : ℕ) (held : List (ℕ × ℕ)) → Apart b m held
     → without_rows b m (rows b m k ++ held) ≡ held
 rows_go b m k held apart =
-    filter_append (λ p. outside b m p.0) (rows b m k) held
-    ∙ ap (λ ps. ps ++ without_rows b m held)
+    filter-append (λ p. outside b m p.0) (rows b m k) held ∙ ap (λ ps. ps ++ without_rows b m held)
     (filter_picks (outside b m) ROWS (λ r. bit_at m r == 1) (ROWS * b) (λ _. k)
     ∙ picks_none ROWS (λ r. (bit_at m r == 1) && outside b m (ROWS * b + r)) (ROWS * b) (λ _. k)
     (λ r lt. ap (λ t. (bit_at m r == 1) && t) (outside_at b m r lt) ∙ both_off (bit_at m r == 1)))
@@ -210,7 +172,7 @@ naming_append b k (x ∷ xs) ys = ap (λ ps. named_by b k x ∷ ps) (naming_appe
 pub naming_kinded : (b k : ℕ) (held : List (ℕ × ℕ)) → Kinded held → naming b k held ≡ held
 naming_kinded b k [] kinded = refl
 naming_kinded b k (p ∷ ps) kinded =
-    ap (λ t. (p.0, cond t k p.1) ∷ naming b k ps) (and_off (p.0 / ROWS == b) (p.1 == 0)
+    ap (λ t. (p.0, cond t k p.1) ∷ naming b k ps) (and_right (p.0 / ROWS == b) (p.1 == 0)
     (ne_eqb _ _ (kinded zero p refl).1))
     ∙ ap (λ qs. p ∷ qs) (naming_kinded b k ps (λ n. kinded (suc n)))
 
@@ -227,8 +189,7 @@ naming_picks b k (suc n) keep le = at (keep n) (naming_picks b k n keep (omega a
     at true rest =
         let here : (ROWS * b + n) / ROWS ≡ b = omega arith in
         ap (λ u. (ROWS * b + n, cond (u && true) k 0) ∷ naming b k (picks n keep (ROWS * b) (λ _. 0)))
-        (eq-eqb _ _ here)
-        ∙ ap (λ qs. (ROWS * b + n, k) ∷ qs) rest
+        (eq-eqb _ _ here) ∙ ap (λ qs. (ROWS * b + n, k) ∷ qs) rest
     at false rest = rest
 
 pub naming_rows : (b m k : ℕ) (held : List (ℕ × ℕ)) → Kinded held
@@ -257,8 +218,7 @@ pub one_stays : (b m a k : ℕ) (held : List (ℕ × ℕ)) → a < ROWS → bit_
     → without_rows b (bit_xor m (2 ^ a)) (rows b m k ++ held) ≡ (ROWS * b + a, k) ∷ held
 one_stays b m a k held lt set apart =
     let m' : ℕ = bit_xor m (2 ^ a) in
-    filter_append (λ p. outside b m' p.0) (rows b m k) held
-    ∙ ap (λ ps. ps ++ without_rows b m' held)
+    filter-append (λ p. outside b m' p.0) (rows b m k) held ∙ ap (λ ps. ps ++ without_rows b m' held)
     (filter_picks (outside b m') ROWS (λ r. bit_at m r == 1) (ROWS * b) (λ _. k)
     ∙ picks_one ROWS a (λ r. (bit_at m r == 1) && outside b m' (ROWS * b + r)) (ROWS * b) (λ _. k) lt
     (λ r under. ap (λ t. (bit_at m r == 1) && t) (outside_at b m' r under) ∙ only r (cases_eq r a)))
@@ -378,7 +338,7 @@ slot_leaves x held = filter_same (outside (x / ROWS) (2 ^ (x % ROWS))) (λ y. no
         let other : y % ROWS ≢ x % ROWS = λ e. far (omega arith) in
         let clear : (bit_at (2 ^ (x % ROWS)) (y % ROWS) == 1) ≡ false =
         ne_eqb _ _ (λ e. let z = bit_at-pow_other (x % ROWS) (y % ROWS) other in omega arith) in
-        ap not (and_off (y / ROWS == x / ROWS) _ clear) ∙ sym (ap not (ne_eqb _ _ far))
+        ap not (and_right (y / ROWS == x / ROWS) _ clear) ∙ sym (ap not (ne_eqb _ _ far))
     at y (inr far) (inr other) =
         ap (λ t. not (t && (bit_at (2 ^ (x % ROWS)) (y % ROWS) == 1))) (ne_eqb _ _ other)
         ∙ sym (ap not (ne_eqb _ _ far))
@@ -420,12 +380,11 @@ all_but_first (suc r) lt =
 pub granted_held : (b k : ℕ) (held : List (ℕ × ℕ)) → ((r : ℕ) → r < ROWS → held_times (ROWS * b + r) held ≡ 0)
     → without_rows b 18446744073709551614 (whole b k ++ held) ≡ (ROWS * b, k) ∷ held
 granted_held b k held none =
-    filter_append (λ p. outside b 18446744073709551614 p.0) (whole b k) held
+    filter-append (λ p. outside b 18446744073709551614 p.0) (whole b k) held
     ∙ ap (λ ps. ps ++ without_rows b 18446744073709551614 held)
     (filter_picks (outside b 18446744073709551614) ROWS (λ _. true) (ROWS * b) (λ _. k)
     ∙ picks_one ROWS 0 (λ r. true && outside b 18446744073709551614 (ROWS * b + r)) (ROWS * b) (λ _. k)
-    (omega arith)
-    (λ r lt. outside_at b 18446744073709551614 r lt ∙ all_but_first r lt)
+    (omega arith) (λ r lt. outside_at b 18446744073709551614 r lt ∙ all_but_first r lt)
     ∙ ap (λ x. (x, k) ∷ []) (Rattle.std.proofs.Math.Nat.add-zero (ROWS * b)))
     ∙ ap (λ qs. (ROWS * b, k) ∷ qs) (apart_stays b 18446744073709551614 held (λ r lt _. none r lt))
 

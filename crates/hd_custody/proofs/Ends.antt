@@ -1,11 +1,5 @@
 -- What a whole call has done.
-use Rattle.std.proofs.Common.{◌≡◌, ◌≢◌, ℕ, zero, suc, ◌+◌, ◌≤◌, List, Option, Some, None, sym, ap, subst, refl, ◌∙◌}
-use Rattle.hd_model.specs.declared.limits.TheConstants.{BLOCKS}
-use Rattle.hd_custody.specs.Counts.{with_slot, without}
-use Rattle.hd_custody.specs.Views.{called, Acting}
-use Rattle.hd_custody.specs.Traces.{Phase, probe, sweep, push, found, missed, wrong, follow, ending}
-use Rattle.hd_custody.specs.Calls.{offered, gathered, Allocates, Releases, Gathers}
-use Rattle.hd_custody.specs.CallSteps.{found_or, with_block, calling, Made}
+use Rattle.hd_custody.proofs.Basics.{Acting, Allocates, BLOCKS, Gathers, List, Made, None, Option, Phase, Releases, Some, ap, called, calling, ending, follow, found, found_or, gathered, missed, offered, probe, push, refl, subst, suc, sweep, sym, with_block, with_slot, without, wrong, zero, ℕ, ◌+◌, ◌∙◌, ◌≡◌, ◌≢◌, ◌≤◌}
 use Rattle.hd_custody.proofs.Bounds.{allocate_bound, gather_bound, release_bound, found_real, missed_real}
 use Rattle.hd_custody.proofs.Shown.{shows_none}
 

@@ -1,34 +1,18 @@
 -- The gate given back, and the store of 0 into a kind word.
-use Rattle.std.proofs.Common.{◌≡◌, ◌≢◌, ◌⊎◌, ℕ, zero, suc, ◌+◌, ◌-◌, ◌*◌, ◌/◌, ◌%◌, ◌<◌, ◌≤◌, ◌==◌, Bool, true, false, cond, not, List, [], ◌∷◌, ◌++◌, length, get_or, set, filter, Option, Some, inl, inr, sym, ap, subst, refl, ◌∙◌, eq-eqb, ne_eqb, length-append, arith}
-use Rattle.std.specs.Prelude.{◌&&◌}
-use Rattle.std.proofs.lemmas.Bool.{cases_eq, cases_lt}
-use Rattle.std.proofs.lemmas.List.{get_or-set_other, get_or-set_same}
-use Rattle.std.proofs.Math.ListN.{length-set}
+use Rattle.hd_custody.proofs.Basics.{Allows, BLOCKS, Belongs, Bool, Continues, Custodied, Entry, Every, FIRST_MASK, FIRST_QUICK, Fits, Follows, Ghosts, Has, Holds, List, Me, Numbers, Option, ROWS, Seats, Some, Sorted, State, View, WORDS, [], and_parts, ap, arith, assigned, at_set, cases_eq, cases_lt, changed, cleared, closed, cond, entered, eq-eqb, false, filter, gave_back, get_or, get_or-set_same, gives, held_by, held_times, inl, inr, keeps, kind_word, left, length, length-append, length-set, named, ne_eqb, not, not-true, one_if, opened, part_of, picks, refl, room_of, same_Some, set, step, subst, suc, sym, takes, tally, took, total, true, weight, without_block, zero, ℕ, ◌%◌, ◌&&◌, ◌*◌, ◌++◌, ◌+◌, ◌-◌, ◌/◌, ◌<◌, ◌==◌, ◌∙◌, ◌∷◌, ◌≡◌, ◌≢◌, ◌≤◌, ◌⊎◌}
 use mathlib.Core.Option.{some, none, some-injective, some-ne-none}
 use lib.ListN.{get_elem?}
-use Rattle.atomic_table.proofs.Lists.{at_set, set_else}
-use Rattle.atomic_table.specs.Table.{State, Step, Me, step, Allows, keeps, takes, gives}
-use Rattle.hd_model.specs.declared.held.Held.{Ghosts}
-use Rattle.hd_model.specs.declared.data.Entry.{Entry}
-use Rattle.hd_model.specs.State.{Numbers}
-use Rattle.hd_model.specs.Run.{part_of}
-use Rattle.hd_model.specs.declared.limits.TheConstants.{BLOCKS, ROWS}
-use Rattle.hd_custody.specs.declared.words.TheConstants.{FIRST_MASK, FIRST_QUICK, WORDS}
-use Rattle.hd_custody.specs.declared.view.View.{View}
-use Rattle.hd_custody.specs.Counts.{total, one_if, weight, held_times, kind_word, named, changed, picks, slot_count, without_block, Every, Has}
-use Rattle.hd_custody.specs.Views.{took, opened, closed, gave_back, Follows, Sorted, Continues}
-use Rattle.hd_custody.specs.Rule.{tally, room_of, held_by, Belongs, Fits, HasNumber, Seats, Holds, Custodied, entered, left, assigned, cleared}
+use Rattle.hd_custody.specs.Counts.{slot_count}
 use Rattle.hd_custody.proofs.Totals.{hit, total_set, total_member, total_two}
 use Rattle.hd_custody.proofs.HeldSlots.{true_false, held_times_append, held_times_kept, held_times_dropped, held_times_out, held_times_picks, has_member, every_append, every_filter, every_picks, every_cons}
 use Rattle.hd_custody.proofs.Weights.{weight_low, weight_cell, kind_word_is, kind_word_out, kind_word_set, named_kind, named_none, named_most, named_block, off_of}
 use Rattle.hd_custody.proofs.Slots.{held_alive, has_named, has_once, placed}
 use Rattle.hd_custody.proofs.Alike.{fits_as, kept_set}
-use Rattle.hd_custody.proofs.Turns.{slots_low, some_inj, gate_kinds, cell_real, others_real, belongs_gate, kind_same, won, learned, mine, away, alone_holds, storing, word_here, word_other, old_belongs, held_none, opens}
+use Rattle.hd_custody.proofs.Turns.{slots_low, gate_kinds, cell_real, others_real, belongs_gate, kind_same, won, learned, mine, away, alone_holds, storing, word_here, word_other, old_belongs, held_none, opens}
 
 -- what holds of each that passes a test
 pub every_passed : (P Q : ℕ × ℕ → Type 0) (keep : ℕ × ℕ → Bool) (held : List (ℕ × ℕ))
-    → ((p : ℕ × ℕ) → keep p ≡ true → Q p → P p)
-    → Every Q held → Every P (filter keep held)
+    → ((p : ℕ × ℕ) → keep p ≡ true → Q p → P p) → Every Q held → Every P (filter keep held)
 every_passed P Q keep [] step h = λ n p e. absurd (some-ne-none p (sym e))
 every_passed P Q keep (p ∷ ps) step h = at (keep p) refl (every_passed P Q keep ps step (λ n. h (suc n)))
   where
@@ -36,14 +20,6 @@ every_passed P Q keep (p ∷ ps) step h = at (keep p) refl (every_passed P Q kee
         → Every P (cond b (p ∷ filter keep ps) (filter keep ps))
     at true e rest = every_cons P p _ (step p e (h zero p refl)) rest
     at false e rest = rest
-
-not_true : (b : Bool) → not b ≡ true → b ≡ false
-not_true true e = cc
-not_true false e = refl
-
-pub first_true : (a b : Bool) → (a && b) ≡ true → a ≡ true
-first_true true b e = refl
-first_true false b e = cc
 
 -- ---- the part of a caller
 
@@ -75,15 +51,14 @@ room_goes_on number room before spare journal spare' (inr more) all most =
     ∙ omega arith in
     let e = more.3 in let some_room = more.4 in omega arith
 
-module _ {W : Type 0} (m : Ghosts W) (numbers : Numbers) (s : State (Option W) (View W))
-    (c : Custodied m numbers s)
-    (id : ℕ) (v : View W) (there : get_elem? s.views id ≡ some v) (lives : v.is_spent ≡ false)
-    (has : v.has_gate ≡ true) where
+module _ {W : Type 0} {m : Ghosts W} {numbers : Numbers} {s : State (Option W) (View W)}
+    (c : Custodied m numbers s) (id : ℕ) (v : View W) (there : get_elem? s.views id ≡ some v)
+    (lives : v.is_spent ≡ false) (has : v.has_gate ≡ true) where
   abbrev before : W
   before = c.world
 
   know : (get_or s.words 0 0 ≡ 1) × (c.holder ≡ id) × (v.taken ≡ Some c.world) × (v.changes ≡ c.changes)
-  know = mine m numbers s c id v there lives has
+  know = mine c id v there lives has
 
   -- what the holder knows of a block's kind word
   kind_of_word : (b : ℕ) → 0 < b → b < FIRST_MASK → get_or s.words b 0 ≡ changed v.changes (m.kind before) b
@@ -109,8 +84,7 @@ module _ {W : Type 0} (m : Ghosts W) (numbers : Numbers) (s : State (Option W) (
     apart n j is other same = other (sym is ∙ ap c.owner same ∙ fits.owned)
 
     fits_at : (j : ℕ) (u : View W) → u.is_spent ≡ false → ((j ≡ id) × (given_back ≡ u))
-        ⊎ ((j ≢ id) × (get_elem? s.views j ≡ some u))
-        → Fits c.made c.owner (m.journal w) numbers j u
+        ⊎ ((j ≢ id) × (get_elem? s.views j ≡ some u)) → Fits c.made c.owner (m.journal w) numbers j u
     fits_at j u alive (inl here) =
         let own : Fits c.made c.owner (m.journal w) numbers id given_back = record {
           low = fits.low;
@@ -121,8 +95,7 @@ module _ {W : Type 0} (m : Ghosts W) (numbers : Numbers) (s : State (Option W) (
           ended_parts = λ k e at. (let h = fits.ended_parts k e at in (
             h.0,
             h.1,
-            h.2
-                ∙ sym (part_stays e.0 (apart e.0 0 h.1 (λ z. omega arith))),
+            h.2 ∙ sym (part_stays e.0 (apart e.0 0 h.1 (λ z. omega arith))),
           ));
           sized = fits.sized;
         } in
@@ -138,8 +111,7 @@ module _ {W : Type 0} (m : Ghosts W) (numbers : Numbers) (s : State (Option W) (
           ended_parts = λ k e at. (let g = h.ended_parts k e at in (
             g.0,
             g.1,
-            g.2
-                ∙ sym (part_stays e.0 (apart e.0 0 g.1 (λ z. omega arith))),
+            g.2 ∙ sym (part_stays e.0 (apart e.0 0 g.1 (λ z. omega arith))),
           ));
           sized = h.sized;
         }
@@ -211,8 +183,7 @@ module _ {W : Type 0} (m : Ghosts W) (numbers : Numbers) (s : State (Option W) (
 
         both : (a b : Bool) → m.live before x ≡ a → m.live w x ≡ b
             → held_times x (filter (λ p. not (m.live w p.0)) v.held) + one_if (a && not b) + one_if b
-            ≡ held_times x
-            v.held + one_if a
+            ≡ held_times x v.held + one_if a
         both true true was is =
             let out = held_times_dropped (λ y. not (m.live w y)) x v.held (ap not is) in
             let none = (live_low x real was).2 in omega arith
@@ -242,10 +213,10 @@ module _ {W : Type 0} (m : Ghosts W) (numbers : Numbers) (s : State (Option W) (
     ended_belongs : (r : ℕ) → r < slot_count → ends r ≡ true
         → Belongs words' (ROWS + r, m.kind w ((ROWS + r) / ROWS))
     ended_belongs r _ e =
-        let is : m.live before (ROWS + r) ≡ true = first_true (m.live before (ROWS + r)) _ e in
+        let is : m.live before (ROWS + r) ≡ true = (and_parts _ _ e).0 in
         let h = live_low (ROWS + r) (omega arith) is in
         let lt = named_block s.words ((ROWS + r) / ROWS) h.1 in
-        let same = gate_kinds m numbers s c id v there lives 0 (ROWS + r) (omega arith) in (
+        let same = gate_kinds c id v there lives 0 (ROWS + r) (omega arith) in (
           omega arith,
           ap named same ∙ h.1,
           λ _. same ∙ kind_word_is s.words ((ROWS + r) / ROWS) lt
@@ -253,17 +224,15 @@ module _ {W : Type 0} (m : Ghosts W) (numbers : Numbers) (s : State (Option W) (
         )
 
     back_holding : (j : ℕ) (u : View W) → u.is_spent ≡ false → ((j ≡ id) × (given_back ≡ u))
-        ⊎ ((j ≢ id) × (get_elem? s.views j ≡ some u))
-        → Holds (get_or words' 0 0) c.holder w [] j u
+        ⊎ ((j ≢ id) × (get_elem? s.views j ≡ some u)) → Holds (get_or words' 0 0) c.holder w [] j u
     back_holding j u alive (inl here) his = absurd
         (true_false u.has_gate his (ap (λ (z : View W). z.has_gate) (sym here.1)))
-    back_holding j u alive (inr other) his = absurd (alone_holds m numbers s c id v there lives has j u
+    back_holding j u alive (inr other) his = absurd (alone_holds c id v there lives has j u
         other.0 other.1 alive his)
 
     pub gives_back : Custodied m numbers (record {
       words = words';
-      homes =
-          set s.homes 0 (some (Some w));
+      homes = set s.homes 0 (some (Some w));
       views = set s.views id given_back;
     })
     gives_back = record {
@@ -277,23 +246,23 @@ module _ {W : Type 0} (m : Ghosts W) (numbers : Numbers) (s : State (Option W) (
       gate = record {
         free_or_held = inl (
           get_or-set_same s.words 0 0 0 (omega (arith, c.wide)),
-          ap (λ hs. set hs 0 (some (Some w))) (away m numbers s c id v there lives has),
+          ap (λ hs. set hs 0 (some (Some w))) (away c id v there lives has),
           refl,
         );
         holding = λ j u at alive. back_holding j u alive (at_set s.views id j given_back u at);
       };
       seats = seats';
-      kinds = λ b real lt. kind_same m numbers s c id v there lives 0 b real ∙ kind_back b real lt;
+      kinds = λ b real lt. kind_same c id v there lives 0 b real ∙ kind_back b real lt;
       slots = slots_low (m.live before) s.words s.views c.slots id v there lives c.wide 0 0 (omega arith)
           (m.live w) given_back lives
           (λ x real. (let n = count x real (m.live before x) (m.live w x) refl refl in let k =
-          ap named (gate_kinds m numbers s c id v there lives 0 x real) in omega arith))
-          (λ j le ne. gate_kinds m numbers s c id v there lives 0 (get_or s.words j 0)
-          (cell_real m numbers s c id v there lives j le ne))
-          (others_real m numbers s c id v there lives 0)
+          ap named (gate_kinds c id v there lives 0 x real) in omega arith))
+          (λ j le ne. gate_kinds c id v there lives 0 (get_or s.words j 0)
+          (cell_real c id v there lives j le ne))
+          (others_real c id v there lives 0)
           (every_append (Belongs words') _ ended
           (every_filter (Belongs words') (λ p. not (m.live w p.0)) v.held
-          (λ k p e. belongs_gate m numbers s c id v there lives 0 p
+          (λ k p e. belongs_gate c id v there lives 0 p
           (c.slots.held id v there lives k p e)))
           (every_picks (Belongs words') slot_count ends ROWS (λ r. m.kind w ((ROWS + r) / ROWS))
           ended_belongs));
@@ -320,22 +289,21 @@ module _ {W : Type 0} (m : Ghosts W) (numbers : Numbers) (s : State (Option W) (
 
     close_moves : (x : ℕ) → ROWS ≤ x → (x / ROWS ≡ b) ⊎ (x / ROWS ≢ b)
         → held_times x bare + one_if (m.live before x) + named (kind_word s.words (x / ROWS))
-        ≡ held_times x v.held +
-        one_if (m.live before x) + named (kind_word zeroed (x / ROWS))
+        ≡ held_times x v.held + one_if (m.live before x) + named (kind_word zeroed (x / ROWS))
     close_moves x low (inl here) =
         let out = held_times_dropped (λ y. not (y / ROWS == b)) x v.held (ap not (eq-eqb _ _ here)) in
-        let w = ap named (word_here m numbers s c id v there lives has b 0 real lt bare x here) in
+        let w = ap named (word_here c id v there lives has b 0 real lt bare x here) in
         let one = (has_named (m.live before) s.words s.views c.slots id v there lives x (got x here)).1 in
         let once = (once_here x 0 (omega arith) here).0 in
         omega arith
     close_moves x low (inr other) =
         let kept = held_times_kept (λ y. not (y / ROWS == b)) x v.held (ap not (ne_eqb _ _ other)) in
-        let w = ap named (word_other m numbers s c id v there lives has b 0 real lt bare x other) in
+        let w = ap named (word_other c id v there lives has b 0 real lt bare x other) in
         omega arith
 
     close_cells : (j : ℕ) → FIRST_QUICK ≤ j → get_or s.words j 0 ≢ 0
         → kind_word zeroed (get_or s.words j 0 / ROWS) ≡ kind_word s.words (get_or s.words j 0 / ROWS)
-    close_cells j le ne = word_other m numbers s c id v there lives has b 0 real lt bare (get_or s.words j 0)
+    close_cells j le ne = word_other c id v there lives has b 0 real lt bare (get_or s.words j 0)
         (λ here. elim (cases_lt j WORDS) [
           | inl under ↦ (
               let none = (once_here (get_or s.words j 0) j under here).1 in
@@ -346,7 +314,7 @@ module _ {W : Type 0} (m : Ghosts W) (numbers : Numbers) (s : State (Option W) (
 
     close_others : (j : ℕ) (u : View W) → j ≢ id → get_elem? s.views j ≡ some u → u.is_spent ≡ false
         → Every (λ p. kind_word zeroed (p.0 / ROWS) ≡ kind_word s.words (p.0 / ROWS)) u.held
-    close_others j u other at alive n p e = word_other m numbers s c id v there lives has b 0 real lt bare p.0
+    close_others j u other at alive n p e = word_other c id v there lives has b 0 real lt bare p.0
         (λ here.
         let his = has_member u.held n p e in
         let is = held_alive p.0 u alive in
@@ -359,18 +327,17 @@ module _ {W : Type 0} (m : Ghosts W) (numbers : Numbers) (s : State (Option W) (
 
     close_held : Every (Belongs zeroed) bare
     close_held = every_passed (Belongs zeroed) (Belongs s.words) (λ p. not (p.0 / ROWS == b)) v.held
-        (λ p keep h. old_belongs m numbers s c id v there lives has b 0 real lt bare p
-        (λ here. true_false (p.0 / ROWS == b) (eq-eqb _ _ here) (not_true _ keep)) h)
+        (λ p keep h. old_belongs c id v there lives has b 0 real lt bare p
+        (λ here. true_false (p.0 / ROWS == b) (eq-eqb _ _ here) (not-true _ keep)) h)
         (c.slots.held id v there lives)
 
     pub closes : Custodied m numbers (record {
       words = zeroed;
       homes = s.homes;
-      views =
-          set s.views id (closed b v);
+      views = set s.views id (closed b v);
     })
     closes =
-        storing m numbers s c id v there lives has b 0 real lt bare
+        storing c id v there lives has b 0 real lt bare
         (slots_low (m.live before) s.words s.views c.slots id v there lives c.wide b 0 lt (m.live before)
         (closed b v) lives
         (λ x low. close_moves x low (cases_eq (x / ROWS) b)) close_cells close_others close_held)
@@ -392,8 +359,8 @@ module _ {W : Type 0} (m : Ghosts W) (numbers : Numbers) (slots id : ℕ) (v : V
       took c.world v,
       takes 0 (Some c.world),
       ap (λ hs. get_elem? hs 0) free.1,
-      won m numbers s c id v at lives free.0,
-      (λ _. (c.world, refl, learned m numbers s c id v at lives free.0), λ ne. absurd (ne free.0)),
+      won c id v at lives free.0,
+      (λ _. (c.world, refl, learned c id v at lives free.0), λ ne. absurd (ne free.0)),
     )
     | inr taken ↦ (
       v,
@@ -409,8 +376,7 @@ module _ {W : Type 0} (m : Ghosts W) (numbers : Numbers) (slots id : ℕ) (v : V
           → Custodied m numbers (record {
             words = set s.words 0 1;
             homes = s.homes;
-            views =
-                set s.views id v;
+            views = set s.views id v;
           })
       same s c at one =
           let ws : set s.words 0 1 ≡ s.words = ap (set s.words 0) (sym one)
@@ -425,48 +391,46 @@ module _ {W : Type 0} (m : Ghosts W) (numbers : Numbers) (slots id : ℕ) (v : V
   slot_of w = (0, Some w) ∷ []
 
   same_slot : (w w' : W) → slot_of w ≡ slot_of w' → w ≡ w'
-  same_slot w w' e = some_inj w w' (ap (value_of (Some w)) e)
+  same_slot w w' e = same_Some w w' (ap (value_of (Some w)) e)
 
   pub leave_steps : (u w : W) → v.has_gate ≡ true → v.taken ≡ Some u → carried ≡ (0, Some w) ∷ []
-      → Follows m u w v
-      → Steps 0 (λ _. 0) (λ _. left m (step slots 0 0 0 none) (v, carried) 0)
+      → Follows m u w v → Steps 0 (λ _. 0) (λ _. left m (step slots 0 0 0 none) (v, carried) 0)
   leave_steps u w has is out f s c len at small =
-      let same : u ≡ c.world = some_inj u c.world (sym is ∙ (mine m numbers s c id v at lives has).2) in
+      let same : u ≡ c.world = same_Some u c.world (sym is ∙ (mine c id v at lives has).2) in
       let f' : Follows m c.world w v = subst (λ z. Follows m z w v) same f in
       let P : List (ℕ × Option W) → Type 0 = λ cs. (x : View W)
       × (a : Rattle.atomic_table.specs.Table.Act (Option W)) × Rattle.atomic_table.specs.Table.Valid
-      s.homes cs a
-      × Custodied m numbers (Rattle.atomic_table.specs.Table.stepped s 0 0 id cs x a)
+      s.homes cs a × Custodied m numbers (Rattle.atomic_table.specs.Table.stepped s 0 0 id cs x a)
       × left m (step slots 0 0 0 none) (v, cs) 0 (x, Rattle.atomic_table.specs.Table.carried_after cs a)
       in
       subst P (sym out) (
         gave_back m c.world w v,
         gives,
         tt,
-        gives_back m numbers s c id v at lives has w f',
+        gives_back c id v at lives has w f',
         λ w' u' out' is'.
             let ww : w ≡ w' = same_slot w w' out' in
-            let uu : c.world ≡ u' = sym same ∙ some_inj u u' (sym is ∙ is') in
+            let uu : c.world ≡ u' = sym same ∙ same_Some u u' (sym is ∙ is') in
             let back : W → W → Me (Option W) (View W) = λ a z. (gave_back m a z v, []) in
             subst (λ z. (back c.world w ≡ back u' z) × Sorted m u' z) ww
             (subst (λ z. (back c.world w ≡ back z w) × Sorted m z w) uu
-            (refl, sorts m numbers s c id v at lives has w f')),
+            (refl, sorts c id v at lives has w f')),
       )
 
   pub assign_steps : (b k : ℕ) (u : W) → 0 < b → b < FIRST_MASK → 0 < k → v.has_gate ≡ true → v.taken ≡ Some u
       → changed v.changes (m.kind u) b ≡ 0
       → Steps b (λ _. k) (λ _. assigned m (step slots b k 0 none) (v, carried) k)
   assign_steps b k u real lt some_kind has is empty s c len at small =
-      let same : u ≡ c.world = some_inj u c.world (sym is ∙ (mine m numbers s c id v at lives has).2) in
-      let bare : get_or s.words b 0 ≡ 0 = kind_of_word m numbers s c id v at lives has b real lt
+      let same : u ≡ c.world = same_Some u c.world (sym is ∙ (mine c id v at lives has).2) in
+      let bare : get_or s.words b 0 ≡ 0 = kind_of_word c id v at lives has b real lt
       ∙ ap (λ z. changed v.changes (m.kind z) b) (sym same) ∙ empty in (
         opened b k v,
         keeps,
         tt,
-        opens m numbers s c id v at lives has b k real lt some_kind bare,
+        opens c id v at lives has b k real lt some_kind bare,
         (
           refl,
-          λ r row. (held_none m numbers s c id v at lives has b k real lt v.held some_kind bare
+          λ r row. (held_none c id v at lives has b k real lt v.held some_kind bare
               (ROWS * b + r) (omega arith) (omega arith)).0,
         ),
       )
@@ -478,6 +442,6 @@ module _ {W : Type 0} (m : Ghosts W) (numbers : Numbers) (slots id : ℕ) (v : V
     closed b v,
     keeps,
     tt,
-    closes m numbers s c id v at lives has b real lt all,
+    closes c id v at lives has b real lt all,
     refl,
   )

@@ -1,9 +1,8 @@
 -- What a seat holds, and how often.
-use Rattle.std.proofs.Common.{◌≡◌, ◌≢◌, ℕ, zero, suc, ◌+◌, ◌<◌, ◌==◌, Bool, true, false, cond, List, [], ◌∷◌, ◌++◌, filter, inl, inr, sym, ap, subst, refl, ◌∙◌, arith}
-use Rattle.std.proofs.lemmas.Bool.{cases_eq}
+use Rattle.hd_custody.proofs.Basics.{Bool, Every, Has, List, [], ap, arith, cases_eq, cond, false, filter, held_times, inl, inr, named_by, naming, one_if, refl, subst, suc, sym, true, zero, ℕ, ◌++◌, ◌+◌, ◌<◌, ◌==◌, ◌∙◌, ◌∷◌, ◌≡◌, ◌≢◌}
 use mathlib.Core.Option.{some, some-injective, some-ne-none}
 use lib.ListN.{get_elem?}
-use Rattle.hd_custody.specs.Counts.{one_if, held_times, picks, named_by, naming, Every, Has}
+use Rattle.hd_custody.specs.Counts.{picks}
 use Rattle.hd_custody.proofs.Totals.{hit, miss, total_append}
 
 pub true_false : (b : Bool) → b ≡ true → b ≡ false → ⊥
@@ -21,8 +20,7 @@ held_times_naming x b k (p ∷ ps) = ap (λ n. one_if (p.0 == x) + n) (held_time
 
 module _ (g : ℕ → Bool) (x : ℕ) where
   kept_at : (p : ℕ × ℕ) (ps rest : List (ℕ × ℕ)) → g x ≡ true → held_times x rest ≡ held_times x ps
-      → (b : Bool) → g p.0 ≡ b
-      → held_times x (cond b (p ∷ rest) rest) ≡ one_if (p.0 == x) + held_times x ps
+      → (b : Bool) → g p.0 ≡ b → held_times x (cond b (p ∷ rest) rest) ≡ one_if (p.0 == x) + held_times x ps
   kept_at p ps rest on r true e = ap (λ n. one_if (p.0 == x) + n) r
   kept_at p ps rest on r false e =
       let none : one_if (p.0 == x) ≡ 0 = miss p.0 x (λ same. true_false (g x) on (ap g (sym same) ∙ e)) in
@@ -88,8 +86,7 @@ module _ (keep : ℕ → Bool) (base : ℕ) (kind : ℕ → ℕ) where
   above_at r s m rest apart e true = omega (
     arith,
     e,
-    miss (base + s) (base + r)
-        (λ same. apart (omega arith)),
+    miss (base + s) (base + r) (λ same. apart (omega arith)),
   )
   above_at r s m rest apart e false = e
 

@@ -1,29 +1,13 @@
 -- The steps on words from 257 on, and the load of a kind word, keep the rule and return what they should.
-use Rattle.std.proofs.Common.{◌^◌, ◌≡◌, ◌≢◌, ◌⊎◌, ℕ, zero, suc, ◌+◌, ◌-◌, ◌*◌, ◌/◌, ◌%◌, ◌<◌, ◌≤◌, ◌==◌, Bool, true, false, cond, not, bit_or, List, [], ◌∷◌, ◌++◌, get_or, set, Option, Some, inl, inr, sym, ap, subst, refl, ◌∙◌, eq-eqb, ne_eqb, arith}
-use Rattle.std.specs.Prelude.{◌&&◌}
-use Rattle.std.specs.Int.{bit_at}
-use Rattle.std.proofs.lemmas.Bool.{cases_eq, cases_lt}
-use Rattle.std.proofs.lemmas.List.{set-get_or}
+use Rattle.hd_custody.proofs.Basics.{Acting, Allows, BLOCKS, Belongs, Bool, Custodied, Every, FIRST_MASK, FIRST_QUICK, Fresh, Ghosts, Has, HasAs, HasRows, IsBlock, IsCell, KindIs, List, Me, Named, Numbers, Option, ROWS, Some, State, View, WORDS, [], and_right, ap, arith, banked, begun, bit_at, bit_at-lt, bit_at_or, bit_or, cases_eq, cell_kind, changed, cond, drained, drawn, eq-eqb, exchanged, false, get_or, held_times, inl, inr, keeps, kind_word, looked, named, named_by, naming, ne_eqb, not, one_if, put_in, put_out, refl, restored, returned, rows, seen, set, set-get_or, settled, step, stored, subst, suc, swapped, sym, true, weight, with_slot, without_rows, zero, ℕ, ◌%◌, ◌&&◌, ◌*◌, ◌++◌, ◌+◌, ◌-◌, ◌/◌, ◌<◌, ◌==◌, ◌^◌, ◌∙◌, ◌∷◌, ◌≡◌, ◌≢◌, ◌≤◌, ◌⊎◌}
 use Rattle.std.proofs.lemmas.Nat.{or_lt}
-use Rattle.std.proofs.lemmas.Nat.Bits.{bit_at-lt, bit_at_or}
 use mathlib.Core.Option.{some, some-injective, some-ne-none}
 use lib.ListN.{get_elem?}
 use prog.Atomic.{either}
-use Rattle.atomic_table.specs.Table.{State, Me, step, Allows, keeps}
-use Rattle.hd_model.specs.declared.held.Held.{Ghosts}
-use Rattle.hd_model.specs.State.{Numbers}
-use Rattle.hd_model.specs.declared.limits.TheConstants.{BLOCKS, ROWS}
-use Rattle.hd_custody.specs.declared.words.TheConstants.{FIRST_MASK, FIRST_QUICK, WORDS}
-use Rattle.hd_custody.specs.declared.view.View.{View}
-use Rattle.hd_custody.specs.Counts.{one_if, weight, held_times, kind_word, named, cell_kind, changed, picks, rows, without_rows, put_out, with_slot, named_by, naming, Every, Has, HasAs}
-use Rattle.hd_custody.specs.CallSteps.{HasRows}
-use Rattle.hd_custody.specs.Views.{Named, begun, swapped, banked, looked, drained, restored, put_in, Fresh, KindIs, Acting}
-use Rattle.hd_custody.specs.Rule.{Belongs, Custodied, exchanged, stored, seen, drawn, returned, settled}
-use Rattle.hd_custody.proofs.Totals.{hit, miss}
+use Rattle.hd_custody.proofs.{Totals.hit, Totals.miss, Alike.reshaped, Alike.kept}
 use Rattle.hd_custody.proofs.HeldSlots.{held_times_append, held_times_naming, held_times_kept, held_times_dropped, held_times_out, held_times_picks, has_member, every_append, every_filter, every_picks, every_naming}
 use Rattle.hd_custody.proofs.Weights.{weight_mask, weight_other, weight_cell, weight_zero, kind_word_is, named_kind, named_block, kind_small}
 use Rattle.hd_custody.proofs.Slots.{held_times_with_slot, held_times_put_other, held_times_put_same, every_put_out, every_with_slot, belongs, has_once, seen_once, slots_step}
-use Rattle.hd_custody.proofs.Alike.{reshaped, kept}
 
 -- a seat at a table, as its fields and as its value
 pub same_table : {W : Type 0} {a b : Acting W} {m n : Named} → a ≡ b → b.table ≡ n.table → m ≡ n
@@ -58,23 +42,19 @@ held_times_without x b m held here set =
     held_times_dropped (outside b m) x held (ap (λ t. not (t && (bit_at m (x % ROWS) == 1))) (eq-eqb _ _ here)
     ∙ ap (λ t. not t) (eq-eqb _ _ set))
 
-pub and_off : (a b : Bool) → b ≡ false → (a && b) ≡ false
-and_off true b e = e
-and_off false b e = refl
-
 pub held_times_without_clear : (x b m : ℕ) (held : List (ℕ × ℕ)) → bit_at m (x % ROWS) ≢ 1
     → held_times x (without_rows b m held) ≡ held_times x held
 held_times_without_clear x b m held clear =
-    held_times_kept (outside b m) x held (ap not (and_off (x / ROWS == b) _ (ne_eqb _ _ clear)))
+    held_times_kept (outside b m) x held (ap not (and_right (x / ROWS == b) _ (ne_eqb _ _ clear)))
 
 pub held_times_without_other : (x b m : ℕ) (held : List (ℕ × ℕ)) → x / ROWS ≢ b
     → held_times x (without_rows b m held) ≡ held_times x held
 held_times_without_other x b m held other =
     held_times_kept (outside b m) x held (ap (λ t. not (t && (bit_at m (x % ROWS) == 1))) (ne_eqb _ _ other))
 
-module _ {W : Type 0} (m : Ghosts W) (numbers : Numbers) (s : State (Option W) (View W))
-    (c : Custodied m numbers s)
-    (id : ℕ) (v : View W) (there : get_elem? s.views id ≡ some v) (lives : v.is_spent ≡ false) where
+module _ {W : Type 0} {m : Ghosts W} {numbers : Numbers} {s : State (Option W) (View W)}
+    (c : Custodied m numbers s) (id : ℕ) (v : View W) (there : get_elem? s.views id ≡ some v)
+    (lives : v.is_spent ≡ false) where
   abbrev word : ℕ → ℕ
   word i = get_or s.words i 0
 
@@ -110,8 +90,7 @@ module _ {W : Type 0} (m : Ghosts W) (numbers : Numbers) (s : State (Option W) (
     Kept i n h = Custodied m numbers (record {
       words = set s.words i n;
       homes = s.homes;
-      views =
-          set s.views id (shaped h);
+      views = set s.views id (shaped h);
     })
 
     moved : (i n : ℕ) (h : List (ℕ × ℕ)) → FIRST_MASK ≤ i → i < WORDS
@@ -119,7 +98,7 @@ module _ {W : Type 0} (m : Ghosts W) (numbers : Numbers) (s : State (Option W) (
         → (FIRST_QUICK ≤ i → n ≢ 0 → (ROWS ≤ n) × (kind_word s.words (n / ROWS) ≡ cell_kind i + 1))
         → (i < FIRST_QUICK → n < (2 ^ ROWS)) → Every (Belongs s.words) h → Kept i n h
     moved i n h low within moves cell mask held =
-        kept m numbers s c id v there h t k e i n low
+        kept c id v there h t k e i n low
         (slots_step (m.live c.world) s.words s.views c.slots id v there lives (shaped h) lives i n low
         (subst (λ n. i < n) (sym c.wide) within) moves cell mask held)
 
@@ -133,8 +112,7 @@ module _ {W : Type 0} (m : Ghosts W) (numbers : Numbers) (s : State (Option W) (
         let P : List ℕ → Type 0 = λ ws. Custodied m numbers (record {
           words = ws;
           homes = s.homes;
-          views =
-              set s.views id (shaped h);
+          views = set s.views id (shaped h);
         }) in
         subst P (sym (set-get_or s.words i 0)) (subst P (set-get_or s.words (WORDS - 1) 0) last)
 
@@ -227,7 +205,7 @@ module _ {W : Type 0} (m : Ghosts W) (numbers : Numbers) (s : State (Option W) (
             (h.0, h.1, λ _. ap (kind_word s.words) here ∙ kind_word_is s.words b lt ∙ sym is)
         named_in p h (inl here) (inr ne) =
             let is : (named_by b (word b) p).1 ≡ p.1 =
-            ap (λ t. cond t (word b) p.1) (and_off (p.0 / ROWS == b) _ (ne_eqb _ _ ne)) in
+            ap (λ t. cond t (word b) p.1) (and_right (p.0 / ROWS == b) _ (ne_eqb _ _ ne)) in
             (h.0, h.1, λ _. h.2 ne ∙ sym is)
         named_in p h (inr other) _ =
             let is : (named_by b (word b) p).1 ≡ p.1 = ap (λ t. cond (t && (p.1 == 0)) (word b) p.1)
@@ -321,54 +299,59 @@ module _ {W : Type 0} (m : Ghosts W) (numbers : Numbers) (s : State (Option W) (
 
 -- ---- each as a step of the table
 
+-- what is required of the slots held, by the value of the seat
+pub as_seen : {W : Type 0} (P : List (ℕ × ℕ) → Type 0) {a b : Acting W} → a ≡ b → P b.view.held
+    → P a.view.held
+as_seen P is = subst (λ (x : Acting _). P x.view.held) (sym is)
+
 module _ {W : Type 0} (m : Ghosts W) (numbers : Numbers) (slots id : ℕ) (v : View W)
     (carried : List (ℕ × Option W)) (lives : v.is_spent ≡ false) where
   abbrev Steps : ℕ → (ℕ → ℕ) → (ℕ → Me (Option W) (View W) → Type 0) → Type 0
   Steps = Allows (Custodied m numbers) slots id (v, carried)
 
-  pub exchange_steps : (i n : ℕ) → FIRST_QUICK ≤ i → i < WORDS → (n ≢ 0 → HasAs (n, cell_kind i + 1) v.held)
+  pub exchange_steps : (i n : ℕ) → IsCell i → (n ≢ 0 → HasAs (n, cell_kind i + 1) v.held)
       → Steps i (λ _. n) (exchanged m (λ u. u) (step slots i n 0 mathlib.Core.Option.none) (v, carried))
-  exchange_steps i n cell within has s c len at small = (
+  exchange_steps i n cell has s c len at small = (
     swapped i (get_or s.words i 0) n v,
     keeps,
     tt,
-    swaps m numbers s c id v at lives (v.trace ++ (i, get_or s.words i 0, n) ∷ []) v.trace_number
-        v.began_empty i n cell within has,
-    (refl, swap_shows m numbers s c id v at lives [] 0 true i n cell within has),
+    swaps c id v at lives (v.trace ++ (i, get_or s.words i 0, n) ∷ []) v.trace_number
+        v.began_empty i n cell.0 cell.1 has,
+    (refl, swap_shows c id v at lives [] 0 true i n cell.0 cell.1 has),
   )
 
-  pub begin_steps : (i n : ℕ) → FIRST_QUICK ≤ i → i < WORDS → (n ≢ 0 → HasAs (n, cell_kind i + 1) v.held)
+  pub begin_steps : (i n : ℕ) → IsCell i → (n ≢ 0 → HasAs (n, cell_kind i + 1) v.held)
       → Steps i (λ _. n) (exchanged m begun (step slots i n 0 mathlib.Core.Option.none) (v, carried))
-  begin_steps i n cell within has s c len at small = (
+  begin_steps i n cell has s c len at small = (
     swapped i (get_or s.words i 0) n (begun v),
     keeps,
     tt,
-    swaps m numbers s c id v at lives ((i, get_or s.words i 0, n) ∷ []) (v.trace_number + 1)
-        (Rattle.hd_custody.specs.Counts.is_nil v.held) i n cell within has,
-    (refl, swap_shows m numbers s c id v at lives [] 0 true i n cell within has),
+    swaps c id v at lives ((i, get_or s.words i 0, n) ∷ []) (v.trace_number + 1)
+        (Rattle.hd_custody.specs.Counts.is_nil v.held) i n cell.0 cell.1 has,
+    (refl, swap_shows c id v at lives [] 0 true i n cell.0 cell.1 has),
   )
 
-  pub bank_steps : (i n : ℕ) → FIRST_QUICK ≤ i → i < WORDS → (n ≢ 0 → HasAs (n, cell_kind i + 1) v.held)
+  pub bank_steps : (i n : ℕ) → IsCell i → (n ≢ 0 → HasAs (n, cell_kind i + 1) v.held)
       → Steps i (λ y. either (y == 0) n y) (stored m (step slots i 0 n mathlib.Core.Option.none) (v, carried))
-  bank_steps i n cell within has s c len at small =
+  bank_steps i n cell has s c len at small =
       let y = get_or s.words i 0 in (
         banked i y n v,
         keeps,
         tt,
-        banks m numbers s c id v at lives (v.trace ++ (i, y, cond (y == 0) n y) ∷ []) v.trace_number
-            v.began_empty i n cell within has (y == 0) refl,
+        banks c id v at lives (v.trace ++ (i, y, cond (y == 0) n y) ∷ []) v.trace_number
+            v.began_empty i n cell.0 cell.1 has (y == 0) refl,
         refl,
       )
 
-  pub look_steps : (b : ℕ) → 0 < b → b < FIRST_MASK → Steps b (λ y. y)
+  pub look_steps : (b : ℕ) → IsBlock b → Steps b (λ y. y)
       (seen m (step slots b 0 0 mathlib.Core.Option.none) (v, carried))
-  look_steps b low lt s c len at small =
+  look_steps b block s c len at small =
       let y = get_or s.words b 0 in (
         looked b y v,
         keeps,
         tt,
-        looks m numbers s c id v at lives (v.trace ++ (b, y, y) ∷ []) v.trace_number v.began_empty b low lt,
-        (refl, knows_kind m numbers s c id v at lives b low lt),
+        looks c id v at lives (v.trace ++ (b, y, y) ∷ []) v.trace_number v.began_empty b block.0 block.1,
+        (refl, knows_kind c id v at lives b block.0 block.1),
       )
 
   pub drain_steps : (i : ℕ) → FIRST_MASK ≤ i → i < FIRST_QUICK → Steps i (λ _. 0)
@@ -378,30 +361,32 @@ module _ {W : Type 0} (m : Ghosts W) (numbers : Numbers) (slots id : ℕ) (v : V
         drained i y v,
         keeps,
         tt,
-        drains m numbers s c id v at lives (v.trace ++ (i, y, 0) ∷ []) v.trace_number v.began_empty i low lt,
-        (refl, row_fresh m numbers s c id v at lives [] 0 true i low lt),
+        drains c id v at lives (v.trace ++ (i, y, 0) ∷ []) v.trace_number v.began_empty i low lt,
+        (refl, row_fresh c id v at lives [] 0 true i low lt),
       )
 
-  pub return_steps : (i mask : ℕ) → FIRST_MASK ≤ i → i < FIRST_QUICK → mask < (2 ^ ROWS)
-      → HasRows (i - BLOCKS) mask v.held
+  pub return_steps : (i block mask : ℕ) → i ≡ BLOCKS + block → IsBlock block → mask < (2 ^ ROWS)
+      → HasRows block mask v.held
       → Steps i (λ y. bit_or y mask) (returned m (step slots i mask 0 mathlib.Core.Option.none) (v, carried))
-  return_steps i mask low lt fits has s c len at small =
+  return_steps i block mask is real fits has s c len at small =
       let y = get_or s.words i 0 in (
         restored i mask y v,
         keeps,
         tt,
-        backs m numbers s c id v at lives (v.trace ++ (i, y, bit_or y mask) ∷ []) v.trace_number v.began_empty
-            i low lt mask fits has,
+        backs c id v at lives (v.trace ++ (i, y, bit_or y mask) ∷ []) v.trace_number v.began_empty
+            i (omega arith) (omega arith) mask fits
+            (subst (λ d. HasRows d mask v.held) (let e : block ≡ i - BLOCKS = omega arith in e) has),
         refl,
       )
 
-  pub put_in_steps : (i mask : ℕ) → FIRST_MASK ≤ i → i < FIRST_QUICK → mask < (2 ^ ROWS)
-      → HasRows (i - BLOCKS) mask v.held
+  pub put_in_steps : (i block mask : ℕ) → i ≡ BLOCKS + block → IsBlock block → mask < (2 ^ ROWS)
+      → HasRows block mask v.held
       → Steps i (λ y. bit_or y mask) (settled m (step slots i mask 0 mathlib.Core.Option.none) (v, carried))
-  put_in_steps i mask low lt fits has s c len at small = (
+  put_in_steps i block mask is real fits has s c len at small = (
     put_in i mask v,
     keeps,
     tt,
-    backs m numbers s c id v at lives v.trace v.trace_number v.began_empty i low lt mask fits has,
+    backs c id v at lives v.trace v.trace_number v.began_empty i (omega arith) (omega arith) mask fits
+        (subst (λ d. HasRows d mask v.held) (let e : block ≡ i - BLOCKS = omega arith in e) has),
     refl,
   )

@@ -1,21 +1,6 @@
 -- The slots that a seat holds once it gave the gate back.
-use Rattle.std.proofs.Common.{◌≡◌, ◌≢◌, ◌⊎◌, ℕ, ◌+◌, ◌/◌, ◌<◌, ◌≤◌, Bool, true, false, not, List, [], ◌∷◌, ◌++◌, filter, sym, ap, refl, ◌∙◌, arith}
-use Rattle.std.specs.Prelude.{◌&&◌}
-use Rattle.hd_model.specs.declared.held.Held.{Ghosts}
-use Rattle.hd_model.specs.declared.limits.TheConstants.{ROWS}
-use Rattle.hd_custody.specs.declared.view.View.{View}
-use Rattle.hd_custody.specs.Counts.{slot_count, Every}
-use Rattle.hd_custody.specs.Views.{gave_back, took, Follows}
-use Rattle.hd_custody.specs.Rule.{Entered}
-use Rattle.hd_custody.proofs.Canon.{filter_stays, picks_none}
-
-append_nil : (xs : List (ℕ × ℕ)) → xs ++ [] ≡ xs
-append_nil [] = refl
-append_nil (x ∷ xs) = ap (λ ys. x ∷ ys) (append_nil xs)
-
-both_off : (b : Bool) → (b && not b) ≡ false
-both_off true = refl
-both_off false = refl
+use Rattle.hd_custody.proofs.Basics.{Bool, Entered, Every, Follows, Ghosts, List, ROWS, View, [], ap, append-nil, arith, false, filter, gave_back, not, refl, slot_count, sym, took, true, ℕ, ◌&&◌, ◌++◌, ◌+◌, ◌/◌, ◌<◌, ◌∙◌, ◌∷◌, ◌≡◌, ◌≢◌, ◌≤◌, ◌⊎◌}
+use Rattle.hd_custody.proofs.Canon.{filter_stays, picks_none, both_off}
 
 module _ {W : Type 0} (m : Ghosts W) (u w : W) (v : View W) where
   -- where the same slots are live as were, what is held stays
@@ -27,7 +12,7 @@ module _ {W : Type 0} (m : Ghosts W) (u w : W) (v : View W) where
       (λ r. m.kind w ((ROWS + r) / ROWS))
       (λ r lt. ap (λ b. m.live u (ROWS + r) && not b) (same (ROWS + r) (omega arith))
       ∙ both_off (m.live u (ROWS + r))))
-      ∙ append_nil (filter (λ p. not (m.live w p.0)) v.held)
+      ∙ append-nil (filter (λ p. not (m.live w p.0)) v.held)
       ∙ filter_stays (λ p. not (m.live w p.0)) v.held (λ n p at. ap not (dead n p at))
 
 -- a world that was not changed goes back as it was taken

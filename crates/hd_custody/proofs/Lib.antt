@@ -1,3 +1,4 @@
+pub mod Basics
 pub mod Totals
 pub mod HeldSlots
 pub mod Weights

@@ -1,20 +1,13 @@
 -- The steps of a call that ends in `missed` are a whole Miss, a whole Miss is the steps of such a call, and
 -- it found nothing in any word of the kind.
-use Rattle.std.proofs.Common.{◌≡◌, ◌≢◌, ◌⊎◌, ℕ, zero, suc, ◌+◌, ◌-◌, ◌*◌, ◌<◌, ◌≤◌, ◌==◌, Bool, true, false, cond, bit_or, List, [], ◌∷◌, ◌++◌, length, inl, inr, sym, ap, subst, refl, ◌∙◌, eq-eqb, ne_eqb, arith, Option, Some, None}
-use Rattle.std.specs.Prelude.{◌&&◌, ◌↔◌, nat_lt, IsNone}
-use Rattle.std.proofs.lemmas.Bool.{cases_eq, ltb-true, ltb-false}
+use Rattle.hd_custody.proofs.Basics.{BANK, BLOCKS, Bool, CACHE, Did, FIRST_QUICK, IsNone, List, None, Option, Phase, ROWS, Some, [], again, again_whole, and_right, ap, arith, back, back_part, bank, bit_or, cases_eq, cond, cond-false, drain, drain_whole, ending, eq-eqb, false, follow, found, inl, inr, is_step, last, length, look, look_whole, lowest, ltb-false, ltb-true, missed, nat_lt, ne_eqb, next_phase, next_rows, probe, probe_word, push, refl, rest, settle, slot_number, subst, suc, sweep, sym, to_bank, to_look, to_probe, true, wrong, zero, ℕ, ◌&&◌, ◌*◌, ◌++◌, ◌+◌, ◌-◌, ◌<◌, ◌==◌, ◌↔◌, ◌∙◌, ◌∷◌, ◌≡◌, ◌≢◌, ◌≤◌, ◌⊎◌}
 use mathlib.Core.Option.{some, some-injective, some-ne-none}
 use lib.ListN.{get_elem?}
-use Rattle.hd_model.specs.declared.limits.TheConstants.{BLOCKS, ROWS}
-use Rattle.hd_custody.specs.declared.words.TheConstants.{BANK, CACHE, FIRST_QUICK}
-use Rattle.hd_custody.specs.Traces.{Did, Phase, probe, look, drain, again, back, bank, rest, sweep, settle, look_whole, drain_whole, again_whole, back_part, push, last, found, missed, wrong, is_step, next_phase, follow, ending, to_bank, to_look, to_probe, lowest, next_rows, probe_word}
 use Rattle.hd_custody.specs.Misses.{Gave, another, nothing, regiven, on_block, on_blocks, on_cache, IsGiven, WholeMiss, HasStep, FoundNone}
-use Rattle.hd_custody.specs.Calls.{slot_number}
 use Rattle.hd_model.specs.declared.data.Slot.{Slot}
-use Rattle.hd_custody.proofs.Keeps.{and_off}
 use Rattle.hd_custody.proofs.Numbered.{probe-quick, probe-reserve, probe-free}
 use Rattle.hd_custody.proofs.Shown.{stays_in, bank_in, next_in}
-use Rattle.hd_custody.proofs.Phases.{due, unless, follow_append, zero_is, zero_not, same_is, same_not, less_is, less_not}
+use Rattle.hd_custody.proofs.Phases.{due, follow_append, zero_is, zero_not, same_is, same_not, less_is, less_not}
 
 as_step : (t : Did) (i y z : ℕ) → t.0 ≡ i → t.1 ≡ y → t.2 ≡ z → t ≡ (i, y, z)
 as_step t i y z first second third =
@@ -40,11 +33,11 @@ module _ (k blocks : ℕ) where
       )
       | inr other ↦ absurd (never_missed wrong ts refl (
           ap (λ q. follow k blocks q ts)
-          (sym (unless _ p wrong (and_off (t.0 == i) (t.2 == z) (ne_eqb t.2 z other)))) ∙ ends))
+          (sym (cond-false _ p wrong (and_right (t.0 == i) (t.2 == z) (ne_eqb t.2 z other)))) ∙ ends))
     ]
     | inr far ↦ absurd (never_missed wrong ts refl (
         ap (λ q. follow k blocks q ts)
-        (sym (unless _ p wrong (ap (λ b. b && (t.2 == z)) (ne_eqb t.0 i far)))) ∙ ends))
+        (sym (cond-false _ p wrong (ap (λ b. b && (t.2 == z)) (ne_eqb t.0 i far)))) ∙ ends))
   ]
 
   missed_only : (ts : List Did) → follow k blocks missed ts ≡ missed → ts ≡ []
@@ -119,8 +112,7 @@ module _ (k blocks : ℕ) where
   from_look b (t ∷ ts) ends =
       let s = step_is t b t.1 (cond (t.1 == k + 1) (drain b) (to_look blocks (b + 1))) ts ends in
       elim (cases_eq t.1 (k + 1)) [
-        | inl same ↦ subst (λ e. Rest b (e ∷ ts))
-            (sym (as_step t b (k + 1) (k + 1) s.0 same (s.1 ∙ same)))
+        | inl same ↦ subst (λ e. Rest b (e ∷ ts)) (sym (as_step t b (k + 1) (k + 1) s.0 same (s.1 ∙ same)))
             (from_drain b ts (
             ap (λ q. follow k blocks q ts)
             (sym (same_is t.1 (k + 1) (drain b) (to_look blocks (b + 1)) same)) ∙ s.2))
@@ -175,8 +167,7 @@ module _ (k blocks : ℕ) where
         | inl none ↦ (
           ts,
           ap (λ e. e ∷ ts) (as_step t (probe_word k n) 0 0 s.0 none s.1),
-          ap (λ q. follow k blocks q ts)
-              (sym (zero_is t.1 (to_probe blocks (n + 1)) (found t.1) none)) ∙ s.2,
+          ap (λ q. follow k blocks q ts) (sym (zero_is t.1 (to_probe blocks (n + 1)) (found t.1) none)) ∙ s.2,
         )
         | inr some_x ↦ absurd (never_missed (found t.1) ts refl (
             ap (λ q. follow k blocks q ts)
@@ -219,8 +210,7 @@ module _ (k blocks : ℕ) where
       ap (λ p. follow k blocks (next_phase k blocks p (probe_word k n, 0, 0)) (on_cache k c (n + 1)))
       (less_is n CACHE (probe n) (to_look blocks 1) (omega arith))
       ∙ ap (λ p. follow k blocks p (on_cache k c (n + 1)))
-      (due (probe_word k n) 0 0 (to_probe blocks (n + 1)))
-      ∙ cache_leads c (n + 1) (omega arith)
+      (due (probe_word k n) 0 0 (to_probe blocks (n + 1))) ∙ cache_leads c (n + 1) (omega arith)
 
   look_leads : (b : ℕ) → next_phase k blocks (look b) (b, k + 1, k + 1) ≡ drain b
   look_leads b = due b (k + 1) (k + 1) (cond (k + 1 == k + 1) (drain b) (to_look blocks (b + 1)))
@@ -397,8 +387,7 @@ module _ (k : ℕ) where
         loaded = λ b real low. (
             let l = loads whole.gave 1 b (omega arith) (omega (arith, whole.each_block)) in
             (l.0, further (on_cache k CACHE 0) (on_blocks k 1 whole.gave) (b, l.0, l.0) l.1));
-        masks = λ n b real low at.
-            past_cache CACHE 0 (on_blocks k 1 whole.gave) b
+        masks = λ n b real low at. past_cache CACHE 0 (on_blocks k 1 whole.gave) b
             (λ j here. on_all whole.gave 1 j b (omega arith) low whole.given here) n at;
       })
 

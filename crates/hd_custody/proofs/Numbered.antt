@@ -1,7 +1,5 @@
 -- The numbers of the words, in each order.
-use Rattle.std.proofs.Common.{◌≡◌, ◌≢◌, ℕ, ◌+◌, ◌-◌, ◌*◌, ◌<◌, ◌≤◌, refl, ◌∙◌, arith}
-use Rattle.hd_model.specs.declared.limits.TheConstants.{ROWS}
-use Rattle.hd_custody.specs.declared.words.TheConstants.{BANK, CACHE, FIRST_QUICK}
+use Rattle.hd_custody.proofs.Basics.{BANK, CACHE, FIRST_QUICK, ROWS, arith, refl, ℕ, ◌*◌, ◌+◌, ◌-◌, ◌<◌, ◌∙◌, ◌≡◌, ◌≢◌, ◌≤◌}
 use Rattle.hd_custody.specs.Traces.{probe_word, sweep_word, push_word}
 use Rattle.hd_custody.proofs.Phases.{zero_is, zero_not, less_is, less_not}
 

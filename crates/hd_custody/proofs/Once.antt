@@ -1,22 +1,11 @@
 -- Each slot is in exactly one place.
-use Rattle.std.proofs.Common.{◌≡◌, ◌≢◌, ℕ, ◌+◌, ◌/◌, ◌%◌, ◌<◌, ◌≤◌, Bool, true, false, cond, length, get_or, Option, inl, inr, ap, refl, ◌∙◌, arith}
-use Rattle.std.specs.Int.{bit_at}
-use Rattle.std.proofs.lemmas.Bool.{cases_eq, cases_lt}
-use Rattle.std.proofs.lemmas.Nat.Bits.{bit_at-lt}
-use Rattle.atomic_table.specs.Table.{State}
-use Rattle.hd_model.specs.declared.held.Held.{Ghosts}
-use Rattle.hd_model.specs.State.{Numbers}
-use Rattle.hd_model.specs.declared.limits.TheConstants.{BLOCKS, ROWS}
-use Rattle.hd_custody.specs.declared.words.TheConstants.{FIRST_MASK, FIRST_QUICK, WORDS}
-use Rattle.hd_custody.specs.declared.view.View.{View}
-use Rattle.hd_custody.specs.Counts.{total, total_at, one_if, weight, held_times, kind_word, named, IsSlot}
-use Rattle.hd_custody.specs.Rule.{held_by, Custodied}
+use Rattle.hd_custody.proofs.Basics.{BLOCKS, Bool, Custodied, FIRST_MASK, FIRST_QUICK, Ghosts, IsSlot, Numbers, Option, ROWS, State, View, WORDS, ap, arith, bit_at, bit_at-lt, cases_eq, cases_lt, cond, false, get_or, held_by, held_times, inl, inr, kind_word, length, named, one_if, refl, total, total_at, true, weight, ℕ, ◌%◌, ◌+◌, ◌/◌, ◌<◌, ◌∙◌, ◌≡◌, ◌≢◌, ◌≤◌}
 use Rattle.hd_custody.specs.Laws.{Spot, mask, cell, seat, live, IsAt, HoldsIt, IsInOnePlace, EachSlotIsInOnePlace}
 use Rattle.hd_custody.proofs.Totals.{hit, miss, total_member, total_two, total_some, total_at_member, total_at_two, total_at_some}
 use Rattle.hd_custody.proofs.Slots.{held_alive}
 use Rattle.hd_custody.proofs.Weights.{weight_low, weight_mask, weight_other, weight_cell, on_of}
 
-module _ {W : Type 0} (m : Ghosts W) (numbers : Numbers) (s : State (Option W) (View W))
+module _ {W : Type 0} {m : Ghosts W} {numbers : Numbers} {s : State (Option W) (View W)}
     (rule : Custodied m numbers s) (x : ℕ) (real : IsSlot x) where
   abbrev word : ℕ → ℕ
   word i = get_or s.words i 0
@@ -185,4 +174,4 @@ module _ {W : Type 0} (m : Ghosts W) (numbers : Numbers) (s : State (Option W) (
 
 pub each_slot_is_in_one_place : {W : Type 0} (m : Ghosts W) → EachSlotIsInOnePlace m
 each_slot_is_in_one_place m numbers s rule x real =
-    (somewhere m numbers s rule x real, none m numbers s rule x real)
+    (somewhere rule x real, none rule x real)

@@ -1,25 +1,11 @@
 -- A call, step by step: the phase that each step leads to, and the slots held after it.
-use Rattle.std.proofs.Common.{◌≡◌, ◌≢◌, ℕ, zero, suc, ◌<◌, ◌≤◌, ◌==◌, Bool, true, false, cond, List, [], ◌∷◌, ◌++◌, sym, ap, refl, ◌∙◌, eq-eqb, ne_eqb, arith}
-use Rattle.std.specs.Prelude.{◌&&◌, nat_lt}
+use Rattle.hd_custody.proofs.Basics.{Acting, Bool, Did, List, Made, Phase, [], ap, append-nil, append_assoc, arith, cond, cond-false, cond-true, eq-eqb, false, follow, found, found_or, is_step, le-ltb, lt-ltb, nat_lt, ne_eqb, next_phase, refl, suc, sym, true, went, with_view, wrong, zero, ℕ, ◌&&◌, ◌++◌, ◌<◌, ◌==◌, ◌∙◌, ◌∷◌, ◌≡◌, ◌≢◌, ◌≤◌}
 use Rattle.std.specs.Bool.{OnTrue, OnFalse}
-use Rattle.std.proofs.lemmas.Bool.{lt-ltb, le-ltb}
-use Rattle.std.proofs.lemmas.List.{append_assoc, append-nil}
-use Rattle.hd_custody.specs.Traces.{Did, Phase, found, wrong, is_step, next_phase, follow}
-use Rattle.hd_custody.specs.Views.{Acting}
-use Rattle.hd_custody.specs.CallSteps.{found_or, with_view, went, Made}
 
 -- the step that is due
 pub due : (i y z : ℕ) (p : Phase) → is_step (i, y, z) i z p ≡ p
 due i y z p = ap (λ b. cond (b && (z == z)) p wrong) (eq-eqb i i refl)
     ∙ ap (λ b. cond b p wrong) (eq-eqb z z refl)
-
-pub when : {A : Type 0} (b : Bool) (x y : A) → b ≡ true → cond b x y ≡ x
-when true x y e = refl
-when false x y e = cc
-
-pub unless : {A : Type 0} (b : Bool) (x y : A) → b ≡ false → cond b x y ≡ y
-unless true x y e = cc
-unless false x y e = refl
 
 pub if_true : (b : Bool) (P : Type 0) → b ≡ true → OnTrue b P → P
 if_true true P e h = h
@@ -30,22 +16,22 @@ if_false true P e h = cc
 if_false false P e h = h
 
 pub zero_is : {A : Type 0} (n : ℕ) (x y : A) → n ≡ 0 → cond (n == 0) x y ≡ x
-zero_is n x y e = when (n == 0) x y (eq-eqb n 0 e)
+zero_is n x y e = cond-true (n == 0) x y (eq-eqb n 0 e)
 
 pub zero_not : {A : Type 0} (n : ℕ) (x y : A) → n ≢ 0 → cond (n == 0) x y ≡ y
-zero_not n x y e = unless (n == 0) x y (ne_eqb n 0 e)
+zero_not n x y e = cond-false (n == 0) x y (ne_eqb n 0 e)
 
 pub same_is : {A : Type 0} (m n : ℕ) (x y : A) → m ≡ n → cond (m == n) x y ≡ x
-same_is m n x y e = when (m == n) x y (eq-eqb m n e)
+same_is m n x y e = cond-true (m == n) x y (eq-eqb m n e)
 
 pub same_not : {A : Type 0} (m n : ℕ) (x y : A) → m ≢ n → cond (m == n) x y ≡ y
-same_not m n x y e = unless (m == n) x y (ne_eqb m n e)
+same_not m n x y e = cond-false (m == n) x y (ne_eqb m n e)
 
 pub less_is : {A : Type 0} (m n : ℕ) (x y : A) → m < n → cond (nat_lt m n) x y ≡ x
-less_is m n x y e = when (nat_lt m n) x y (lt-ltb m n e)
+less_is m n x y e = cond-true (nat_lt m n) x y (lt-ltb m n e)
 
 pub less_not : {A : Type 0} (m n : ℕ) (x y : A) → n ≤ m → cond (nat_lt m n) x y ≡ y
-less_not m n x y e = unless (nat_lt m n) x y (le-ltb m n e)
+less_not m n x y e = cond-false (nat_lt m n) x y (le-ltb m n e)
 
 pub found_or_none : (p : Phase) (x : ℕ) → x ≡ 0 → found_or p x ≡ p
 found_or_none p x e = ap (found_or p) e

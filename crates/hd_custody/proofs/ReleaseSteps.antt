@@ -1,14 +1,6 @@
 -- The steps of a `release` and of a `gather`.
-use Rattle.std.proofs.Common.{◌≡◌, ◌≢◌, ℕ, zero, suc, ◌+◌, ◌-◌, ◌*◌, ◌/◌, ◌%◌, ◌^◌, ◌<◌, ◌≤◌, ◌==◌, not, cond, bit_or, List, [], ◌∷◌, ◌++◌, inl, inr, sym, ap, refl, ◌∙◌, eq-eqb, ne_eqb, arith}
-use Rattle.std.proofs.lemmas.Bool.{cases_eq}
-use Rattle.hd_model.specs.declared.limits.TheConstants.{BLOCKS, ROWS}
-use Rattle.hd_custody.specs.declared.words.TheConstants.{CACHE}
-use Rattle.hd_custody.specs.Counts.{held_times, cell_kind, with_slot, put_out, without}
-use Rattle.hd_custody.specs.Views.{swapped, restored, Acting}
-use Rattle.hd_custody.specs.Traces.{Phase, sweep, settle, push, last, found, next_phase, to_sweep, to_look_whole, to_push, sweep_word, push_word}
-use Rattle.hd_custody.specs.CallSteps.{with_view, went, Made, pushed_to, swept_to, into_mask}
-use Rattle.hd_custody.proofs.Canon.{slot_leaves, put_some}
-use Rattle.hd_custody.proofs.HeldSlots.{held_times_kept, held_times_dropped}
+use Rattle.hd_custody.proofs.Basics.{Acting, BLOCKS, CACHE, List, Made, Phase, ROWS, [], ap, arith, bit_or, cases_eq, cell_kind, cond, eq-eqb, found, held_times, inl, inr, into_mask, last, ne_eqb, next_phase, not, push, push_word, pushed_to, put_out, refl, restored, settle, suc, swapped, sweep, sweep_word, swept_to, sym, to_look_whole, to_push, to_sweep, went, with_slot, with_view, without, zero, ℕ, ◌%◌, ◌*◌, ◌++◌, ◌+◌, ◌-◌, ◌/◌, ◌<◌, ◌==◌, ◌^◌, ◌∙◌, ◌∷◌, ◌≡◌, ◌≢◌, ◌≤◌}
+use Rattle.hd_custody.proofs.{Canon.slot_leaves, Canon.put_some, HeldSlots.held_times_kept, HeldSlots.held_times_dropped}
 use Rattle.hd_custody.proofs.Phases.{due, zero_is, zero_not, less_is, made_none, one_step, seen_as, held_is}
 
 -- what was not held is not held without a slot

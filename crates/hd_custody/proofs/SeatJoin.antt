@@ -1,21 +1,8 @@
 -- Seats that go: a join.
-use Rattle.std.proofs.Common.{◌≡◌, ◌≢◌, ◌⊎◌, ℕ, ◌+◌, ◌<◌, ◌==◌, Bool, true, false, cond, List, [], ◌∷◌, ◌++◌, length, set, Option, inl, inr, sym, ap, subst, refl, ◌∙◌, eq-eqb, ne_eqb, length-append, arith}
-use Rattle.std.proofs.lemmas.Bool.{cases_eq}
+use Rattle.hd_custody.proofs.Basics.{Bool, Custodied, Entry, Fits, Ghosts, HasNumber, List, Numbers, Option, Out, State, View, [], ap, arith, at_longer, at_set, cases_eq, cond, eq-eqb, false, held_by, held_times, inl, inr, joined, length, length-append, ne_eqb, part_of, refl, room_of, set, set_else, spent, subst, sym, tally, true, ℕ, ◌++◌, ◌+◌, ◌<◌, ◌==◌, ◌∙◌, ◌∷◌, ◌≡◌, ◌≢◌, ◌⊎◌}
 use mathlib.Core.Option.{some, some-injective, some-ne-none}
 use lib.ListN.{get_elem?}
-use Rattle.atomic_table.proofs.Lists.{at_set, set_else, at_longer}
-use Rattle.atomic_table.specs.Table.{State}
-use Rattle.hd_model.specs.declared.held.Held.{Ghosts}
-use Rattle.hd_model.specs.declared.data.Entry.{Entry}
-use Rattle.hd_model.specs.State.{Numbers}
-use Rattle.hd_model.specs.Run.{part_of}
-use Rattle.hd_custody.specs.declared.view.View.{View}
-use Rattle.hd_custody.specs.Counts.{held_times}
-use Rattle.hd_custody.specs.Views.{spent, joined}
-use Rattle.hd_custody.specs.Rule.{tally, room_of, held_by, Fits, HasNumber, Out, Custodied}
-use Rattle.hd_custody.proofs.Totals.{total_set}
-use Rattle.hd_custody.proofs.HeldSlots.{true_false}
-use Rattle.hd_custody.proofs.Slots.{held_alive}
+use Rattle.hd_custody.proofs.{Totals.total_set, HeldSlots.true_false, Slots.held_alive}
 use Rattle.hd_custody.proofs.Alike.{place_there, fits_as, out_set}
 use Rattle.hd_custody.proofs.SeatSplit.{at_end, at_last, Relates, Related, gate_related, slots_related}
 
@@ -112,8 +99,7 @@ module _ {W : Type 0} (m : Ghosts W) (numbers : Numbers) (id other : ℕ) (v w :
   there_both = set_else halfway other id spent (λ e. apart (sym e)) ∙ place_there s.views id v both there
 
   kept_at : (n i : ℕ) (u : View W) → get_elem? s.views i ≡ some u → HasNumber n u → (i ≡ other) ⊎ (i ≢ other)
-      → (i ≡ id) ⊎ (i ≢ id)
-      → (j : ℕ) × (z : View W) × (get_elem? fewer j ≡ some z) × HasNumber n z
+      → (i ≡ id) ⊎ (i ≢ id) → (j : ℕ) × (z : View W) × (get_elem? fewer j ≡ some z) × HasNumber n z
   kept_at n i u at has (inl gone) _ =
       let same : u ≡ w = some-injective u w (sym at ∙ ap (get_elem? s.views) gone ∙ old_there) in
       let mine : HasNumber n w = subst (λ z. HasNumber n z) same has in
@@ -150,8 +136,7 @@ module _ {W : Type 0} (m : Ghosts W) (numbers : Numbers) (id other : ℕ) (v w :
   kept_at n i u at has (inr stay) (inr far) = (
     i,
     u,
-    set_else halfway other i spent stay
-        ∙ set_else s.views id i both far ∙ at,
+    set_else halfway other i spent stay ∙ set_else s.views id i both far ∙ at,
     has,
   )
 

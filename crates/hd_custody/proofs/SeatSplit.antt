@@ -1,21 +1,10 @@
 -- Seats that come: the views that a split changes, and what is alike for a join.
-use Rattle.std.proofs.Common.{◌≡◌, ◌≢◌, ◌⊎◌, ℕ, zero, suc, ◌+◌, ◌-◌, ◌<◌, ◌≤◌, ◌==◌, Bool, false, cond, List, [], ◌∷◌, ◌++◌, length, set, Option, inl, inr, sym, ap, subst, refl, ◌∙◌, eq-eqb, ne_eqb, arith}
-use Rattle.std.proofs.lemmas.Bool.{cases_eq}
-use Rattle.std.proofs.Math.ListN.{length-set}
+use Rattle.hd_custody.proofs.Basics.{Bool, Custodied, Fits, Gate, Ghosts, HasNumber, List, Numbers, Option, Out, Slots, State, View, [], ap, arith, at_longer, at_set, cases_eq, cond, eq-eqb, false, given, held_by, inl, inr, length, length-set, ne_eqb, refl, room_of, set, set_else, shared_out, subst, suc, sym, tally, total, zero, ℕ, ◌++◌, ◌+◌, ◌-◌, ◌<◌, ◌==◌, ◌∙◌, ◌∷◌, ◌≡◌, ◌≢◌, ◌≤◌, ◌⊎◌}
 use mathlib.Core.Option.{some, none, some-injective, some-ne-none}
-use mathlib.Core.Option as maybe
 use lib.ListN.{get_elem?}
-use Rattle.atomic_table.proofs.Lists.{at_set, set_else, at_longer}
-use Rattle.atomic_table.specs.Table.{State}
-use Rattle.hd_model.specs.declared.held.Held.{Ghosts}
-use Rattle.hd_model.specs.State.{Numbers}
-use Rattle.hd_custody.specs.declared.view.View.{View}
-use Rattle.hd_custody.specs.Counts.{total}
-use Rattle.hd_custody.specs.Views.{shared_out, given}
-use Rattle.hd_custody.specs.Rule.{tally, room_of, held_by, Fits, HasNumber, Slots, Out, Gate, Custodied}
-use Rattle.hd_custody.proofs.Totals.{total_set, total_snoc}
-use Rattle.hd_custody.proofs.HeldSlots.{true_false}
+use Rattle.hd_custody.proofs.{Totals.total_set, Totals.total_snoc, HeldSlots.true_false}
 use Rattle.hd_custody.proofs.Alike.{fits_as, kept_set, out_set}
+use mathlib.Core.Option as maybe
 
 pub at_end : {A : Type 0} (l : List A) (a b : A) (j : ℕ) → get_elem? (l ++ a ∷ []) j ≡ some b
     → ((j < length l) × (get_elem? l j ≡ some b)) ⊎ ((j ≡ length l) × (a ≡ b))
@@ -45,8 +34,7 @@ module _ {W : Type 0} (views views' : List (View W)) where
 
   module _ (related : Related) where
     pub gate_related : (world : W) (holder : ℕ) (changes : List (ℕ × ℕ)) (words : List ℕ)
-        (homes : List (maybe.Option (Option W)))
-        → Gate world holder changes words homes views
+        (homes : List (maybe.Option (Option W))) → Gate world holder changes words homes views
         → (Out world holder homes views → Out world holder homes views')
         → Gate world holder changes words homes views'
     gate_related world holder changes words homes g out = record {
@@ -132,8 +120,7 @@ module _ {W : Type 0} (m : Ghosts W) (numbers : Numbers) (id share : ℕ) (v : V
         alone = own.alone;
         ended_parts = λ k e at. (let h = own.ended_parts k e at in (
           omega (arith, h.0),
-          old_owner e.0 h.0
-              ∙ h.1,
+          old_owner e.0 h.0 ∙ h.1,
           h.2,
         ));
         sized = own.sized;
@@ -149,8 +136,7 @@ module _ {W : Type 0} (m : Ghosts W) (numbers : Numbers) (id share : ℕ) (v : V
         alone = h.alone;
         ended_parts = λ k e at. (let g = h.ended_parts k e at in (
           omega (arith, g.0),
-          old_owner e.0 g.0
-              ∙ g.1,
+          old_owner e.0 g.0 ∙ g.1,
           g.2,
         ));
         sized = h.sized;
@@ -208,8 +194,7 @@ module _ {W : Type 0} (m : Ghosts W) (numbers : Numbers) (id share : ℕ) (v : V
     owner = owner';
     wide = c.wide;
     sized = c.sized;
-    gate = gate_related s.views more related c.world c.holder c.changes s.words s.homes c.gate
-        out_at;
+    gate = gate_related s.views more related c.world c.holder c.changes s.words s.homes c.gate out_at;
     seats = record {
       each = λ j u at alive. fits_at j u alive (case_of j u at);
       begun = omega arith;

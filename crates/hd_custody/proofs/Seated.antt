@@ -1,18 +1,7 @@
 -- What is so of a seat between two calls is so after each.
-use Rattle.std.proofs.Common.{◌≡◌, ◌≢◌, ℕ, zero, suc, ◌+◌, ◌*◌, ◌/◌, ◌<◌, ◌==◌, true, false, not, List, [], Option, sym, ap, refl, ◌∙◌, arith}
-use Rattle.std.specs.Prelude.{◌&&◌}
-use Rattle.atomic_table.specs.Table.{Me}
-use Rattle.hd_model.specs.declared.held.Held.{Ghosts}
-use Rattle.hd_model.specs.declared.limits.TheConstants.{ROWS}
-use Rattle.hd_custody.specs.declared.words.TheConstants.{FIRST_MASK}
-use Rattle.hd_custody.specs.declared.view.View.{View}
-use Rattle.std.specs.Int.{bit_at}
-use Rattle.hd_custody.specs.Counts.{named, picks, rows, slot_count, IsSlot, Every, Has}
-use Rattle.hd_custody.specs.Traces.{every_row}
-use Rattle.hd_custody.specs.CallSteps.{with_block}
-use Rattle.hd_custody.specs.Views.{Kinded, granted, gave_back, IsSeated, Sorted}
+use Rattle.hd_custody.proofs.Basics.{FIRST_MASK, Ghosts, Has, IsSeated, IsSlot, Kinded, List, Me, Option, ROWS, Sorted, View, [], and_parts, ap, arith, bit_at, every_row, false, gave_back, granted, named, not, refl, rows, suc, sym, true, with_block, zero, ℕ, ◌&&◌, ◌*◌, ◌+◌, ◌/◌, ◌<◌, ◌==◌, ◌∙◌, ◌≡◌, ◌≢◌}
+use Rattle.hd_custody.specs.Counts.{slot_count}
 use Rattle.hd_custody.proofs.HeldSlots.{member_at, every_cons, every_append, every_filter, every_picks}
-use Rattle.hd_custody.proofs.Gives.{first_true}
 
 module _ {W : Type 0} (m : Ghosts W) (u w : W) (v : View W) (lives : v.is_spent ≡ false)
     (kinded : Kinded v.held) (sorted : Sorted m u w) where
@@ -20,7 +9,7 @@ module _ {W : Type 0} (m : Ghosts W) (u w : W) (v : View W) (lives : v.is_spent 
       → IsSlot (ROWS + r) × (m.kind w ((ROWS + r) / ROWS) ≢ 0)
   unfolding slot_count
   ended_kind r low ends =
-      let is = sorted (ROWS + r) (omega arith) (first_true (m.live u (ROWS + r)) _ ends) in
+      let is = sorted (ROWS + r) (omega arith) (and_parts _ _ ends).0 in
       ((omega arith, omega (arith, low)), λ none. absurd (omega (arith, sym is ∙ ap named none)))
 
   pub left_seated : IsSeated (gave_back m u w v, [])

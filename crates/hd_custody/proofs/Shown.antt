@@ -1,17 +1,9 @@
 -- A `gather` that returns none shows no mask of all 64 rows with the kind loaded after it.
-use Rattle.std.proofs.Common.{◌≡◌, ◌≢◌, ◌⊎◌, ℕ, zero, suc, ◌+◌, ◌/◌, ◌%◌, ◌^◌, ◌<◌, ◌≤◌, ◌==◌, Bool, true, false, cond, not, bit_or, List, [], ◌∷◌, inl, inr, sym, ap, refl, ◌∙◌, ne_eqb, arith}
-use Rattle.std.specs.Prelude.{◌&&◌, nat_lt}
-use Rattle.std.specs.Int.{bit_at}
-use Rattle.std.proofs.lemmas.Bool.{cases_eq}
-use Rattle.std.proofs.lemmas.Nat.Bits.{bit_at-lt, bit_at_or, bit_at-zero}
+use Rattle.hd_custody.proofs.Basics.{BANK, BLOCKS, Bool, CACHE, Did, FIRST_MASK, List, Phase, ROWS, ShowsNone, [], again, again_whole, and_right, ap, arith, back, back_part, bank, bit_at, bit_at-lt, bit_at-zero, bit_at_or, bit_or, cases_eq, cond, cond-false, drain, drain_whole, every_row, false, follow, found, inl, inr, is_step, last, look, look_whole, missed, nat_lt, ne_eqb, next_phase, next_rows, not, probe, push, refl, rest, settle, suc, sweep, sym, to_bank, to_look_whole, to_sweep, true, wrong, zero, ℕ, ◌%◌, ◌&&◌, ◌+◌, ◌/◌, ◌<◌, ◌==◌, ◌^◌, ◌∙◌, ◌∷◌, ◌≡◌, ◌≢◌, ◌≤◌, ◌⊎◌}
 use mathlib.Core.Option.{some, some-injective, some-ne-none}
 use lib.ListN.{get_elem?}
-use Rattle.hd_model.specs.declared.limits.TheConstants.{BLOCKS, ROWS}
-use Rattle.hd_custody.specs.declared.words.TheConstants.{BANK, CACHE, FIRST_MASK}
-use Rattle.hd_custody.specs.Traces.{Did, Phase, probe, look, drain, again, back, bank, rest, sweep, settle, look_whole, drain_whole, again_whole, back_part, push, last, found, missed, wrong, is_step, next_phase, follow, to_bank, to_sweep, to_look_whole, next_rows, sweep_word, every_row}
-use Rattle.hd_custody.specs.Calls.{ShowsNone}
-use Rattle.hd_custody.proofs.Keeps.{and_off}
-use Rattle.hd_custody.proofs.Phases.{due, unless, same_is}
+use Rattle.hd_custody.specs.Traces.{sweep_word}
+use Rattle.hd_custody.proofs.Phases.{due, same_is}
 
 -- Two sets of phases that no step leaves: those of a `gather` and of each end (where g is true), and those
 -- from which no steps lead to a Miss (where it is false).
@@ -98,10 +90,10 @@ module _ (k blocks : ℕ) where
 
     not_step : (i z : ℕ) (p : Phase) → z ≢ 0 → is_step all i z p ≡ wrong
     not_step i z p real =
-        unless _ p wrong (and_off (BLOCKS + b == i) (0 == z) (ne_eqb 0 z (λ e. real (sym e))))
+        cond-false _ p wrong (and_right (BLOCKS + b == i) (0 == z) (ne_eqb 0 z (λ e. real (sym e))))
 
     other_word : (i z : ℕ) (p : Phase) → BLOCKS + b ≢ i → is_step all i z p ≡ wrong
-    other_word i z p other = unless _ p wrong (ap (λ t. t && (0 == z)) (ne_eqb (BLOCKS + b) i other))
+    other_word i z p other = cond-false _ p wrong (ap (λ t. t && (0 == z)) (ne_eqb (BLOCKS + b) i other))
 
     Shows : Phase → Type 0
     Shows p = (next_phase k blocks p all ≡ wrong) ⊎ (next_phase k blocks p all ≡ again_whole b)

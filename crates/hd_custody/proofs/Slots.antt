@@ -1,15 +1,7 @@
 -- Where slots are: a step on a word of masks or cells, and what the rule states of a slot that is seen.
-use Rattle.std.proofs.Common.{◌*◌, ◌^◌, ◌≡◌, ◌≢◌, ◌⊎◌, ℕ, zero, suc, ◌+◌, ◌/◌, ◌<◌, ◌≤◌, ◌==◌, Bool, false, cond, not, List, length, get_or, set, inl, inr, sym, ap, subst, refl, ◌∙◌, eq-eqb, ne_eqb, arith}
-use Rattle.std.proofs.lemmas.Bool.{cases_eq}
-use Rattle.std.proofs.lemmas.List.{get_or-set_other, get_or-set_same}
+use Rattle.hd_custody.proofs.Basics.{BLOCKS, Belongs, Bool, Every, FIRST_MASK, FIRST_QUICK, Has, HasAs, List, ROWS, Slots, View, ap, arith, at_set, cases_eq, cell_kind, cond, eq-eqb, false, get_or, get_or-set_other, get_or-set_same, held_by, held_times, inl, inr, kind_word, length, named, ne_eqb, not, one_if, put_out, refl, set, subst, suc, sym, total, total_at, weight, with_slot, zero, ℕ, ◌*◌, ◌+◌, ◌/◌, ◌<◌, ◌==◌, ◌^◌, ◌∙◌, ◌≡◌, ◌≢◌, ◌≤◌, ◌⊎◌}
 use mathlib.Core.Option.{some}
 use lib.ListN.{get_elem?}
-use Rattle.atomic_table.proofs.Lists.{at_set}
-use Rattle.hd_model.specs.declared.limits.TheConstants.{BLOCKS, ROWS}
-use Rattle.hd_custody.specs.declared.words.TheConstants.{FIRST_MASK, FIRST_QUICK}
-use Rattle.hd_custody.specs.declared.view.View.{View}
-use Rattle.hd_custody.specs.Counts.{total, total_at, one_if, weight, held_times, kind_word, named, cell_kind, put_out, with_slot, Every, Has, HasAs}
-use Rattle.hd_custody.specs.Rule.{held_by, Belongs, Slots}
 use Rattle.hd_custody.proofs.Totals.{miss, total_set, total_member, total_at_set, total_at_member}
 use Rattle.hd_custody.proofs.HeldSlots.{held_times_kept, held_times_dropped, member_at, every_cons, every_filter}
 use Rattle.hd_custody.proofs.Weights.{kind_word_high, named_most, named_block, off_of, mask_empty}
@@ -142,8 +134,7 @@ module _ {W : Type 0} (live : ℕ → Bool) (words : List ℕ) (views : List (Vi
         omega arith
 
     held_at : (j : ℕ) (u : View W) → u.is_spent ≡ false → ((j ≡ id) × (w ≡ u))
-        ⊎ ((j ≢ id) × (get_elem? views j ≡ some u))
-        → Every (Belongs (set words i n)) u.held
+        ⊎ ((j ≢ id) × (get_elem? views j ≡ some u)) → Every (Belongs (set words i n)) u.held
     held_at j u alive (inl here) c p e =
         belongs_same words (set words i n) (kind_word_high words i n low) p
         (held c p (ap (λ (z : View W). get_elem? z.held c) here.1 ∙ e))

@@ -1,23 +1,8 @@
 -- The table at its start and at its end.
-use Rattle.std.proofs.Common.{◌^◌, ◌≡◌, ◌≢◌, ◌⊎◌, ℕ, zero, suc, ◌+◌, ◌/◌, ◌<◌, ◌≤◌, ◌==◌, false, cond, List, [], ◌∷◌, length, get_or, replicate, Option, Some, inl, inr, sym, ap, subst, refl, ◌∙◌, arith}
-use Rattle.std.proofs.lemmas.Bool.{cases_eq, cases_lt}
-use Rattle.std.proofs.Math.ListN.{length-replicate}
+use Rattle.hd_custody.proofs.Basics.{BLOCKS, Custodied, Divided, Entry, FIRST_MASK, Final, Fits, Ghosts, HasNumber, IsUnused, List, Numbers, Option, ROWS, Seen, Some, State, View, WORDS, [], ap, arith, cases_eq, cases_lt, cond, false, get_or, inl, inr, kind_word, length, length-replicate, one_if, opening, part_of, refl, replicate, starting, subst, suc, sym, tally, weight, zero, ℕ, ◌+◌, ◌/◌, ◌<◌, ◌==◌, ◌^◌, ◌∙◌, ◌∷◌, ◌≡◌, ◌≢◌, ◌≤◌, ◌⊎◌}
 use mathlib.Core.Option.{some, some-injective, some-ne-none}
 use lib.ListN.{get_elem?}
-use Rattle.atomic_table.specs.Table.{State, Final, Seen, opening}
-use Rattle.hd_model.specs.declared.held.Held.{Ghosts}
-use Rattle.hd_model.specs.declared.data.Entry.{Entry}
-use Rattle.hd_model.specs.State.{Numbers}
-use Rattle.hd_model.specs.Run.{part_of}
-use Rattle.hd_model.specs.declared.limits.TheConstants.{BLOCKS, ROWS}
-use Rattle.hd_custody.specs.declared.words.TheConstants.{FIRST_MASK, WORDS}
-use Rattle.hd_custody.specs.declared.view.View.{View}
-use Rattle.hd_custody.specs.Counts.{one_if, weight, kind_word}
-use Rattle.hd_custody.specs.Views.{starting}
-use Rattle.hd_custody.specs.Rule.{tally, Fits, HasNumber, Custodied, Divided, IsUnused}
-use Rattle.hd_custody.proofs.Totals.{total_two, total_at_none}
-use Rattle.hd_custody.proofs.HeldSlots.{true_false}
-use Rattle.hd_custody.proofs.Alike.{fits_as}
+use Rattle.hd_custody.proofs.{Totals.total_two, Totals.total_at_none, HeldSlots.true_false, Alike.fits_as}
 use Rattle.hd_custody.proofs.Weights.{weight_zero, kind_word_is, kind_word_out, named_none}
 
 -- ---- the table at its start
@@ -89,8 +74,7 @@ module _ {W : Type 0} (m : Ghosts W) (world : W) (unused : IsUnused m world) whe
     kinds = λ b real lt. zeros b ∙ sym (unused.no_kinds b);
     slots = record {
       in_one_place = λ x real. nothing _ _ _ _ (total_at_none (weight x) WORDS 0 (λ i. weight_zero x i real))
-          refl
-          (ap one_if (unused.nothing_live x)) (named_none _ (no_kind (x / ROWS)));
+          refl (ap one_if (unused.nothing_live x)) (named_none _ (no_kind (x / ROWS)));
       cells = λ i le ne. absurd (ne (zeros i));
       held = λ j u at alive n p e. absurd (some-ne-none p
           (sym (ap (λ (z : View W). get_elem? z.held n) (only j u at).1 ∙ e)));

@@ -1,9 +1,7 @@
 -- Sums over lists and over numbered words.
-use Rattle.std.proofs.Common.{◌≡◌, ◌≢◌, ℕ, zero, suc, ◌+◌, ◌<◌, ◌≤◌, ◌==◌, List, [], ◌∷◌, ◌++◌, length, get_or, set, replicate, inl, inr, sym, ap, refl, eq-eqb, ne_eqb, arith}
-use Rattle.std.proofs.lemmas.Bool.{cases_lt}
+use Rattle.hd_custody.proofs.Basics.{List, [], ap, arith, cases_lt, eq-eqb, get_or, inl, inr, length, ne_eqb, one_if, refl, replicate, set, suc, sym, total, total_at, zero, ℕ, ◌++◌, ◌+◌, ◌<◌, ◌==◌, ◌∷◌, ◌≡◌, ◌≢◌, ◌≤◌}
 use mathlib.Core.Option.{some, some-injective, some-ne-none}
 use lib.ListN.{get_elem?}
-use Rattle.hd_custody.specs.Counts.{total, total_at, one_if}
 
 pub hit : (a b : ℕ) → a ≡ b → one_if (a == b) ≡ 1
 hit a b e = ap one_if (eq-eqb a b e)
@@ -24,8 +22,7 @@ module _ {A : Type 0} (f : A → ℕ) where
   total_member (x ∷ xs) (suc i) v e = let r = total_member xs i v e in omega arith
 
   pub total_two : (xs : List A) (i j : ℕ) (v w : A) → get_elem? xs i ≡ some v → get_elem? xs j ≡ some w
-      → i ≢ j
-      → f v + f w ≤ total f xs
+      → i ≢ j → f v + f w ≤ total f xs
   total_two [] i j v w e d n = absurd (some-ne-none v (sym e))
   total_two (x ∷ xs) zero zero v w e d n = absurd (n refl)
   total_two (x ∷ xs) zero (suc j) v w e d n =
@@ -39,8 +36,7 @@ module _ {A : Type 0} (f : A → ℕ) where
   total_two (x ∷ xs) (suc i) (suc j) v w e d n =
       let r = total_two xs i j v w e d (λ same. n (ap suc same)) in omega arith
 
-  pub total_some : (xs : List A) → 1 ≤ total f xs
-      → (i : ℕ) × (v : A) × (get_elem? xs i ≡ some v) × (1 ≤ f v)
+  pub total_some : (xs : List A) → 1 ≤ total f xs → (i : ℕ) × (v : A) × (get_elem? xs i ≡ some v) × (1 ≤ f v)
   total_some [] le = absurd (omega (arith, le))
   total_some (x ∷ xs) le = elim (cases_lt 0 (f x)) [
     | inl here ↦ (0, x, refl, here)

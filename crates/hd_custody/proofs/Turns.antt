@@ -1,26 +1,11 @@
 -- The gate's own steps, and the stores of kind words by its holder.
-use Rattle.std.proofs.Common.{◌^◌, ◌≡◌, ◌≢◌, ◌⊎◌, ℕ, ◌+◌, ◌*◌, ◌/◌, ◌%◌, ◌<◌, ◌≤◌, Bool, true, false, cond, List, [], ◌∷◌, ◌++◌, length, get_or, set, Option, Some, inl, inr, sym, ap, subst, refl, ◌∙◌, eq-eqb, ne_eqb, arith}
-use Rattle.std.specs.Prelude.{nat_lt, ◌&&◌}
-use Rattle.std.proofs.lemmas.Bool.{cases_eq, cases_lt, lt-ltb, le-ltb}
-use Rattle.std.proofs.lemmas.List.{get_or-set_other, get_or-set_same}
-use Rattle.std.proofs.Math.ListN.{length-set}
+use Rattle.hd_custody.proofs.Basics.{Belongs, Bool, Custodied, EXTRA_DATA, Entered, Every, FIRST_MASK, FIRST_QUICK, Ghosts, Has, Holds, List, Numbers, Option, ROWS, Slots, Some, State, View, WORDS, [], and_right, ap, arith, at_set, cases_eq, cell_kind, changed, cond, eq-eqb, false, false_from_ne_true, get_or, get_or-set_other, get_or-set_same, held_by, held_times, inl, inr, kind_word, length, length-set, named, nat_lt, ne_eqb, one_if, opened, refl, room_of, set, subst, sym, took, total, total_at, true, weight, whole, ℕ, ◌%◌, ◌&&◌, ◌*◌, ◌++◌, ◌+◌, ◌/◌, ◌<◌, ◌^◌, ◌∙◌, ◌∷◌, ◌≡◌, ◌≢◌, ◌≤◌, ◌⊎◌}
 use mathlib.Core.Option.{some, none}
 use lib.ListN.{get_elem?}
-use Rattle.atomic_table.proofs.Lists.{at_set}
-use Rattle.atomic_table.specs.Table.{State}
-use Rattle.hd_model.specs.declared.held.Held.{Ghosts}
-use Rattle.hd_model.specs.State.{Numbers}
-use Rattle.hd_model.specs.declared.limits.TheConstants.{ROWS}
-use Rattle.hd_custody.specs.declared.words.TheConstants.{EXTRA_DATA, FIRST_MASK, FIRST_QUICK, WORDS}
-use Rattle.hd_custody.specs.declared.view.View.{View}
-use Rattle.hd_custody.specs.Counts.{total, total_at, one_if, weight, held_times, kind_word, named, cell_kind, changed, whole, Every, Has}
-use Rattle.hd_custody.specs.Views.{took, opened}
-use Rattle.hd_custody.specs.Rule.{room_of, held_by, Belongs, Slots, Holds, Custodied, Entered}
 use Rattle.hd_custody.proofs.Totals.{total_set, total_member, total_at_set}
 use Rattle.hd_custody.proofs.HeldSlots.{held_times_append, held_times_out, held_times_picks, has_member, every_append, every_picks}
 use Rattle.hd_custody.proofs.Weights.{weight_low, kind_word_is, kind_word_set, named_kind, named_none, named_block, mask_empty}
-use Rattle.hd_custody.proofs.Slots.{held_alive, has_once}
-use Rattle.hd_custody.proofs.Alike.{place_there, seats_alike}
+use Rattle.hd_custody.proofs.{Slots.held_alive, Slots.has_once, Alike.place_there, Alike.seats_alike}
 
 -- ---- a step on a word below 257
 
@@ -86,16 +71,9 @@ module _ {W : Type 0} (live : ℕ → Bool) (words : List ℕ) (views : List (Vi
           (λ j le lt. subst (λ a. a < (2 ^ ROWS)) (sym (other_word j le)) (s.masks j le lt));
     }
 
-not_on : (b : Bool) → (b ≡ true → ⊥) → b ≡ false
-not_on true off = absurd (off refl)
-not_on false off = refl
-
-pub some_inj : {W : Type 0} (u w : W) → Some u ≡ Some w → u ≡ w
-some_inj u w e = cc
-
-module _ {W : Type 0} (m : Ghosts W) (numbers : Numbers) (s : State (Option W) (View W))
-    (c : Custodied m numbers s)
-    (id : ℕ) (v : View W) (there : get_elem? s.views id ≡ some v) (lives : v.is_spent ≡ false) where
+module _ {W : Type 0} {m : Ghosts W} {numbers : Numbers} {s : State (Option W) (View W)}
+    (c : Custodied m numbers s) (id : ℕ) (v : View W) (there : get_elem? s.views id ≡ some v)
+    (lives : v.is_spent ≡ false) where
   abbrev word : ℕ → ℕ
   word i = get_or s.words i 0
 
@@ -127,13 +105,11 @@ module _ {W : Type 0} (m : Ghosts W) (numbers : Numbers) (s : State (Option W) (
     ]
 
     won_holding : (j : ℕ) (u : View W) → u.is_spent ≡ false → ((j ≡ id) × (took c.world v ≡ u))
-        ⊎ ((j ≢ id) × (get_elem? s.views j ≡ some u))
-        → Holds (get_or (set s.words 0 1) 0 0) id c.world [] j u
+        ⊎ ((j ≢ id) × (get_elem? s.views j ≡ some u)) → Holds (get_or (set s.words 0 1) 0 0) id c.world [] j u
     won_holding j u alive (inl here) has = (
       get_or-set_same s.words 0 1 0 (omega (arith, c.wide)),
       sym here.0,
-      ap (λ (z : View W). z.taken)
-          (sym here.1),
+      ap (λ (z : View W). z.taken) (sym here.1),
       ap (λ (z : View W). z.changes) (sym here.1),
     )
     won_holding j u alive (inr other) has = let h = c.gate.holding j u other.1 alive has in absurd (let one =
@@ -142,8 +118,7 @@ module _ {W : Type 0} (m : Ghosts W) (numbers : Numbers) (s : State (Option W) (
     pub won : Custodied m numbers (record {
       words = set s.words 0 1;
       homes = set s.homes 0 none;
-      views =
-          set s.views id (took c.world v);
+      views = set s.views id (took c.world v);
     })
     won = record {
       world = c.world;
@@ -194,7 +169,7 @@ module _ {W : Type 0} (m : Ghosts W) (numbers : Numbers) (s : State (Option W) (
     pub learned : Entered m v c.world
     learned =
         let f = c.seats.each id v there lives in record {
-          had_not = not_on v.has_gate
+          had_not = false_from_ne_true v.has_gate
               (λ has. (let h = c.gate.holding id v there lives has in omega (arith, h.0, free)));
           part = sym f.own_part;
           room = (let r = total_member room_of s.views id v there in let is : room_of v ≡ v.room =
@@ -248,8 +223,7 @@ module _ {W : Type 0} (m : Ghosts W) (numbers : Numbers) (s : State (Option W) (
           → Custodied m numbers (record {
             words = set s.words b k;
             homes = s.homes;
-            views =
-                set s.views id stores;
+            views = set s.views id stores;
           })
       storing slots = record {
         world = c.world;
@@ -266,16 +240,14 @@ module _ {W : Type 0} (m : Ghosts W) (numbers : Numbers) (s : State (Option W) (
               view = stores;
               gone = away;
               there = place_there s.views id v stores there;
-              lives =
-                  lives;
+              lives = lives;
               has = has;
             },
           );
           holding = λ j u at alive. store_holding j u alive (at_set s.views id j stores u at);
         };
         seats = seats_alike s.views id v there held v.trace v.trace_number v.began_empty v.has_gate
-            v.gate_steps v.taken
-            ((b, k) ∷ v.changes) c.made c.owner _ _ numbers c.seats;
+            v.gate_steps v.taken ((b, k) ∷ v.changes) c.made c.owner _ _ numbers c.seats;
         kinds = λ d low under. store_kind d low under (cases_eq d b);
         slots = slots;
       }
@@ -293,8 +265,7 @@ module _ {W : Type 0} (m : Ghosts W) (numbers : Numbers) (s : State (Option W) (
       old_belongs p other h = let same = word_other p.0 other in (
         h.0,
         ap named same ∙ h.1,
-        λ ne. same
-            ∙ h.2 ne,
+        λ ne. same ∙ h.2 ne,
       )
 
       -- of a kind, where it had none
@@ -348,14 +319,12 @@ module _ {W : Type 0} (m : Ghosts W) (numbers : Numbers) (s : State (Option W) (
             let here : (ROWS * b + r) / ROWS ≡ b = omega arith in (
               omega arith,
               ap named (word_here (ROWS * b + r) here) ∙ named_kind k some_kind few,
-              λ _. word_here
-                  (ROWS * b + r) here,
+              λ _. word_here (ROWS * b + r) here,
             )
 
-module _ {W : Type 0} (m : Ghosts W) (numbers : Numbers) (s : State (Option W) (View W))
-    (c : Custodied m numbers s)
-    (id : ℕ) (v : View W) (there : get_elem? s.views id ≡ some v) (lives : v.is_spent ≡ false)
-    (has : v.has_gate ≡ true)
+module _ {W : Type 0} {m : Ghosts W} {numbers : Numbers} {s : State (Option W) (View W)}
+    (c : Custodied m numbers s) (id : ℕ) (v : View W) (there : get_elem? s.views id ≡ some v)
+    (lives : v.is_spent ≡ false) (has : v.has_gate ≡ true)
     (b k : ℕ) (real : 0 < b) (lt : b < FIRST_MASK) where
   module _ (some_kind : 0 < k) (empty : get_or s.words b 0 ≡ 0) where
     open_moves : (t : Bool) → (t ≡ true → k < EXTRA_DATA) → (t ≡ false → named k ≡ 0) → (x : ℕ) → ROWS ≤ x
@@ -364,24 +333,23 @@ module _ {W : Type 0} (m : Ghosts W) (numbers : Numbers) (s : State (Option W) (
         (kind_word s.words (x / ROWS))
         ≡ held_times x v.held + one_if (m.live c.world x) + named (kind_word (set s.words b k) (x / ROWS))
     open_moves true few extra x low (inl here) =
-        let w = ap named (word_here m numbers s c id v there lives has b k real lt v.held x here)
+        let w = ap named (word_here c id v there lives has b k real lt v.held x here)
         ∙ named_kind k some_kind (few refl) in
         let j = held_times_append x (whole b k) v.held in
-        let a = whole_here m numbers s c id v there lives has b k real lt v.held some_kind empty x here in
-        let z = none_here m numbers s c id v there lives has b k real lt v.held some_kind empty x here in
+        let a = whole_here c id v there lives has b k real lt v.held some_kind empty x here in
+        let z = none_here c id v there lives has b k real lt v.held some_kind empty x here in
         omega arith
     open_moves true few extra x low (inr other) =
-        let w = ap named (word_other m numbers s c id v there lives has b k real lt v.held x other) in
+        let w = ap named (word_other c id v there lives has b k real lt v.held x other) in
         let j = held_times_append x (whole b k) v.held in
-        let a = whole_other m numbers s c id v there lives has b k real lt v.held some_kind empty x other in
+        let a = whole_other c id v there lives has b k real lt v.held some_kind empty x other in
         omega arith
     open_moves false few extra x low (inl here) =
-        let w = ap named (word_here m numbers s c id v there lives has b k real lt v.held x here)
-        ∙ extra refl in
-        let z = none_here m numbers s c id v there lives has b k real lt v.held some_kind empty x here in
+        let w = ap named (word_here c id v there lives has b k real lt v.held x here) ∙ extra refl in
+        let z = none_here c id v there lives has b k real lt v.held some_kind empty x here in
         omega arith
     open_moves false few extra x low (inr other) =
-        let w = ap named (word_other m numbers s c id v there lives has b k real lt v.held x other) in
+        let w = ap named (word_other c id v there lives has b k real lt v.held x other) in
         omega arith
 
     open_held : (t : Bool) → (t ≡ true → k < EXTRA_DATA) → Every (Belongs (set s.words b k))
@@ -389,9 +357,9 @@ module _ {W : Type 0} (m : Ghosts W) (numbers : Numbers) (s : State (Option W) (
     open_held true few =
         every_append (Belongs (set s.words b k)) (whole b k) v.held
         (every_picks (Belongs (set s.words b k)) ROWS (λ _. true) (ROWS * b) (λ _. k)
-        (row_belongs m numbers s c id v there lives has b k real lt v.held some_kind empty (few refl)))
-        (own_stay m numbers s c id v there lives has b k real lt v.held some_kind empty)
-    open_held false few = own_stay m numbers s c id v there lives has b k real lt v.held some_kind empty
+        (row_belongs c id v there lives has b k real lt v.held some_kind empty (few refl)))
+        (own_stay c id v there lives has b k real lt v.held some_kind empty)
+    open_held false few = own_stay c id v there lives has b k real lt v.held some_kind empty
 
     opens_at : (t : Bool) → (t ≡ true → k < EXTRA_DATA) → (t ≡ false → named k ≡ 0)
         → Custodied m numbers (record {
@@ -400,27 +368,25 @@ module _ {W : Type 0} (m : Ghosts W) (numbers : Numbers) (s : State (Option W) (
           views =
               set s.views id (record v {
                 changes = (b, k) ∷ v.changes;
-                held =
-                    cond t (whole b k ++ v.held) v.held;
+                held = cond t (whole b k ++ v.held) v.held;
               });
         })
     opens_at t few extra =
         let held = cond t (whole b k ++ v.held) v.held in
-        storing m numbers s c id v there lives has b k real lt held
+        storing c id v there lives has b k real lt held
         (slots_low (m.live c.world) s.words s.views c.slots id v there lives c.wide b k lt (m.live c.world)
         (record v { changes = (b, k) ∷ v.changes; held = held }) lives
         (λ x low. open_moves t few extra x low (cases_eq (x / ROWS) b))
-        (cells_stay m numbers s c id v there lives has b k real lt v.held some_kind empty)
-        (others_stay m numbers s c id v there lives has b k real lt v.held some_kind empty)
+        (cells_stay c id v there lives has b k real lt v.held some_kind empty)
+        (others_stay c id v there lives has b k real lt v.held some_kind empty)
         (open_held t few))
 
     pub opens : Custodied m numbers (record {
       words = set s.words b k;
       homes = s.homes;
-      views =
-          set s.views id (opened b k v);
+      views = set s.views id (opened b k v);
     })
     opens =
         opens_at (nat_lt k EXTRA_DATA) (λ e. Rattle.std.proofs.lemmas.Bool.ltb-true k EXTRA_DATA e)
         (λ e. ap (λ t. cond (nat_lt 0 k && t) 1 0) e
-        ∙ ap (λ t. cond t 1 0) (Rattle.hd_custody.proofs.Keeps.and_off (nat_lt 0 k) false refl))
+        ∙ ap (λ t. cond t 1 0) (and_right (nat_lt 0 k) false refl))

@@ -1,13 +1,6 @@
 -- How often a slot is in a word, and what a kind word names.
-use Rattle.std.proofs.Common.{◌^◌, ◌≡◌, ◌≢◌, ℕ, zero, suc, ◌+◌, ◌*◌, ◌/◌, ◌%◌, ◌<◌, ◌≤◌, ◌==◌, Bool, true, false, cond, List, [], ◌∷◌, length, get_or, set, inl, inr, sym, ap, refl, ◌∙◌, eq-eqb, ne_eqb, arith}
-use Rattle.std.proofs.lemmas.Bool.{cases_eq, cases_lt, lt-ltb, le-ltb}
-use Rattle.std.proofs.lemmas.List.{get_or-set_other}
-use Rattle.std.specs.Prelude.{nat_lt, ◌&&◌}
-use Rattle.std.specs.Int.{bit_at}
-use Rattle.std.proofs.lemmas.Nat.Bits.{bit_at-lt, bit_at-zero, same_from_bits_below}
-use Rattle.hd_model.specs.declared.limits.TheConstants.{BLOCKS, KINDS, ROWS}
-use Rattle.hd_custody.specs.declared.words.TheConstants.{EXTRA_DATA, FIRST_MASK, FIRST_QUICK, WORDS}
-use Rattle.hd_custody.specs.Counts.{total_at, one_if, weight, kind_word, named, cell_kind}
+use Rattle.hd_custody.proofs.Basics.{BLOCKS, Bool, EXTRA_DATA, FIRST_MASK, FIRST_QUICK, KINDS, List, ROWS, WORDS, [], ap, arith, bit_at, bit_at-lt, bit_at-zero, cases_eq, cases_lt, cell_kind, cond, eq-eqb, false, get_or, get_or-set_other, inl, inr, le-ltb, length, lt-ltb, named, nat_lt, ne_eqb, one_if, refl, same_from_bits_below, set, suc, sym, total_at, true, zero, ℕ, ◌%◌, ◌&&◌, ◌*◌, ◌+◌, ◌/◌, ◌<◌, ◌==◌, ◌^◌, ◌∙◌, ◌∷◌, ◌≡◌, ◌≢◌, ◌≤◌}
+use Rattle.hd_custody.specs.Counts.{weight, kind_word}
 use Rattle.hd_custody.proofs.Totals.{total_at_member}
 
 -- ---- the weight of a slot in a word
@@ -94,9 +87,6 @@ named_kind k real lt =
 
 pub named_none : (k : ℕ) → k ≡ 0 → named k ≡ 0
 named_none k e = ap named e
-
-pub named_data : named EXTRA_DATA ≡ 0
-named_data = refl
 
 either_way : (b : Bool) → cond b 1 0 ≤ 1
 either_way true = omega arith

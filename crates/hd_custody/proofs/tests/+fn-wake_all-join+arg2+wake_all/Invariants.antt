@@ -1,4 +1,4 @@
-use Rattle.std.proofs.Common.{◌+◌, ◌*◌}
+use Rattle.hd_custody.proofs.Basics.{◌*◌, ◌+◌}
 use Rattle.hd_custody.proofs.tests.+fn-wake_all-join+arg2+wake_all.Given as goal
 
 abbrev pub decreases-join+arg2 : goal.decreases-join+arg2

@@ -1,8 +1,5 @@
-use Rattle.std.proofs.Common.{◌+◌, ◌∙◌, ap}
-use Rattle.hd_model.specs.Kinds.{kind_number}
-use Rattle.hd_custody.specs.declared.view.View.{View}
+use Rattle.hd_custody.proofs.Basics.{View, ap, kind_number, without, ◌+◌, ◌∙◌}
 use Rattle.hd_custody.specs.declared.tests.Blocks.{Blocks}
-use Rattle.hd_custody.specs.Counts.{without}
 use Rattle.hd_custody.proofs.Canon.{slot_goes}
 use Rattle.hd_custody.proofs.tests.+hold.Goals as goal
 

@@ -1,9 +1,5 @@
-use Rattle.std.proofs.Common.{ℕ, ◌+◌, ◌*◌, List, sym, ap, subst}
-use Rattle.std.proofs.lemmas.Nat.Bits.{bit_at_ones}
-use Rattle.hd_custody.specs.declared.view.View.{View}
+use Rattle.hd_custody.proofs.Basics.{Has, List, View, ap, bit_at_ones, every_row, subst, sym, ℕ, ◌*◌, ◌+◌}
 use Rattle.hd_custody.specs.declared.tests.Blocks.{Blocks}
-use Rattle.hd_custody.specs.Counts.{Has}
-use Rattle.hd_custody.specs.Traces.{every_row}
 use Rattle.hd_custody.proofs.Canon.{row_has}
 use Rattle.hd_custody.proofs.tests.a_gathered_block_gets_another_kind.Goals as goal
 

@@ -1,4 +1,4 @@
-use Rattle.std.proofs.Common.{◌≡◌}
+use Rattle.hd_custody.proofs.Basics.{◌≡◌}
 use Rattle.hd_custody.proofs.tests.drain.Given as goal
 
 abbrev pub invariant-loop-slot : goal.invariant-loop-slot

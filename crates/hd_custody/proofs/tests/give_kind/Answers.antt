@@ -1,8 +1,6 @@
-use Rattle.std.proofs.Common.{◌+◌, ◌*◌, ◌∷◌, refl, ◌∙◌, ap}
-use Rattle.hd_model.specs.Kinds.{kind_number}
-use Rattle.hd_custody.specs.declared.tests.Blocks.{Blocks}
 use Rattle.hd_custody.specs.contracts.tests.BlocksHeld.TheImpl.{ghosts}
-use Rattle.hd_custody.specs.Views.{Known}
+use Rattle.hd_custody.proofs.Basics.{Known, ap, kind_number, refl, ◌*◌, ◌+◌, ◌∙◌, ◌∷◌}
+use Rattle.hd_custody.specs.declared.tests.Blocks.{Blocks}
 use Rattle.hd_custody.proofs.Left.{none_ended}
 use Rattle.hd_custody.proofs.tests.give_kind.Goals as goal
 
@@ -22,8 +20,7 @@ returns-then-kind_word-ne0-clause-held g c =
     let left = c.leave.ensures.view c.enter-world.result (ap (λ (s : Known Blocks). s.view.taken) entered) in
     ap (λ (s : Known Blocks). s.view.held) left
     ∙ none_ended ghosts c.enter-world.result c.enter-world.result c.enter-world.new.seat.view (λ x le. refl)
-    (λ n p e. refl)
-    ∙ ap (λ (s : Known Blocks). s.view.held) entered
+    (λ n p e. refl) ∙ ap (λ (s : Known Blocks). s.view.held) entered
 
 pub returns-clause-seat : goal.returns-clause-seat
 returns-clause-seat g c =

@@ -1,6 +1,5 @@
-use Rattle.std.proofs.Common.{◌∙◌, ap}
+use Rattle.hd_custody.proofs.Basics.{Known, ap, ◌∙◌}
 use Rattle.hd_custody.specs.declared.tests.Blocks.{Blocks}
-use Rattle.hd_custody.specs.Views.{Known}
 use Rattle.hd_custody.proofs.tests.shrink.Goals as goal
 
 pub returns : goal.returns

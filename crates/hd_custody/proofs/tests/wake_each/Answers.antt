@@ -1,7 +1,6 @@
-use Rattle.std.proofs.Common.{refl, ◌∙◌, ap}
-use Rattle.hd_custody.specs.declared.tests.Blocks.{Blocks}
 use Rattle.hd_custody.specs.contracts.tests.BlocksHeld.TheImpl.{ghosts}
-use Rattle.hd_custody.specs.Views.{Known}
+use Rattle.hd_custody.proofs.Basics.{Known, ap, refl, ◌∙◌}
+use Rattle.hd_custody.specs.declared.tests.Blocks.{Blocks}
 use Rattle.hd_custody.proofs.Left.{none_ended}
 use Rattle.hd_custody.proofs.tests.wake_each.Goals as goal
 

@@ -1,4 +1,4 @@
-use Rattle.std.proofs.Common.{◌≡◌, false, []}
+use Rattle.hd_custody.proofs.Basics.{[], false, ◌≡◌}
 use Rattle.hd_custody.proofs.tests.wake_each.Given as goal
 
 abbrev pub invariant-loop-round : goal.invariant-loop-round

@@ -1,11 +1,8 @@
-use Rattle.std.proofs.Common.{◌≡◌, sym, ◌∙◌, ap, subst, arith}
-use Rattle.hd_custody.specs.declared.view.View.{View}
-use Rattle.hd_custody.specs.Views.{Named, Known}
-use Rattle.hd_custody.specs.Calls.{slot_number, Allocates}
+use Rattle.hd_custody.proofs.Basics.{Allocates, Known, Named, View, ap, arith, slot_number, subst, sym, ◌∙◌, ◌≡◌}
 use Rattle.hd_custody.proofs.Ends.{answer, answer_none, answer_some, allocates}
 use Rattle.hd_custody.proofs.Misses.{none_is_whole}
-use Rattle.hd_custody.proofs.types.Custody.allocate.Goals as goal
 use Rattle.hd_custody.proofs.types.Custody.allocate.Goals.{then-slot-eq0, else-slot-eq0}
+use Rattle.hd_custody.proofs.types.Custody.allocate.Goals as goal
 
 pub returns-clause-done : goal.returns-clause-done
 returns-clause-done g c =

@@ -1,8 +1,5 @@
-use Rattle.std.proofs.Common.{◌≡◌, true, Some, sym, ap, subst, arith}
-use Rattle.hd_custody.specs.Counts.{changed}
-use Rattle.hd_custody.specs.Views.{Acting}
-use Rattle.hd_custody.proofs.Gives.{assign_steps}
-use Rattle.hd_custody.proofs.Keeps.{same_table}
+use Rattle.hd_custody.proofs.Basics.{Acting, Some, arith, changed, subst, sym, true, ◌≡◌}
+use Rattle.hd_custody.proofs.{Gives.assign_steps, Keeps.same_table}
 use Rattle.hd_custody.proofs.types.Custody.assign.Goals as goal
 
 pub store-requires : goal.store-requires
@@ -15,7 +12,6 @@ store-requires g c =
     (c.requires.gate, c.requires.no_kind.1, c.requires.no_kind.2) in (
       same_table c.caller.view_is c.requires.seat c.self.view_is,
       omega (arith, c.self.invariant.0, block),
-      assign_steps g.W.Held _ _ place.id place.me.0 place.me.1 c.caller.invariant c.args.block
-          c.args.kind world
-          block.0.0 block.0.1 block.1 now.0 now.1 now.2,
+      assign_steps _ _ _ _ _ _ c.caller.invariant c.args.block
+          c.args.kind world block.0.0 block.0.1 block.1 now.0 now.1 now.2,
     )

@@ -1,17 +1,12 @@
-use Rattle.std.proofs.Common.{◌≢◌, ◌+◌, subst, sym, arith}
-use Rattle.hd_custody.specs.Counts.{cell_kind, HasAs}
-use Rattle.hd_custody.specs.Views.{Acting}
-use Rattle.hd_custody.proofs.Keeps.{bank_steps, same_table}
+use Rattle.hd_custody.proofs.Basics.{HasAs, List, arith, cell_kind, ℕ, ◌+◌, ◌≢◌}
+use Rattle.hd_custody.proofs.Keeps.{bank_steps, as_seen, same_table}
 use Rattle.hd_custody.proofs.types.Custody.bank.Goals as goal
 
 pub compare_exchange-requires : goal.compare_exchange-requires
 compare_exchange-requires g c =
-    let place = c.caller.inside.place in (
+    let P : List (ℕ × ℕ) → Type 0 = λ h. c.args.new ≢ 0 → HasAs (c.args.new, cell_kind c.args.word + 1) h in (
       same_table c.caller.view_is c.requires.seat c.self.view_is,
       omega (arith, c.self.invariant.0, c.requires.cell),
-      bank_steps g.W.Held _ _ _ place.me.0 place.me.1 c.caller.invariant c.args.word c.args.new
-          c.requires.cell.0 c.requires.cell.1
-          (subst (λ (a : Acting g.row.W.Denot).
-          c.args.new ≢ 0 → HasAs (c.args.new, cell_kind c.args.word + 1) a.view.held)
-          (sym c.caller.view_is) c.requires.slot),
+      bank_steps _ _ _ _ _ _ c.caller.invariant c.args.word c.args.new c.requires.cell
+          (as_seen P c.caller.view_is c.requires.slot),
     )

@@ -1,7 +1,4 @@
-use Rattle.std.proofs.Common.{◌≡◌, ◌≢◌, ◌+◌, ◌++◌, refl, sym, ◌∙◌, ap, subst, arith}
-use Rattle.hd_custody.specs.Views.{Named, Kinded}
-use Rattle.hd_custody.specs.Traces.{look_whole, missed, every_row}
-use Rattle.hd_custody.specs.Counts.{rows}
+use Rattle.hd_custody.proofs.Basics.{Kinded, Named, ap, arith, every_row, look_whole, missed, refl, rows, subst, sym, ◌++◌, ◌+◌, ◌∙◌, ◌≡◌, ◌≢◌}
 use Rattle.hd_custody.proofs.Canon.{with_block_some}
 use Rattle.hd_custody.proofs.Phases.{less_is, less_not, found_or_some, seen_as, from_phase, held_is, table_is, then_as}
 use Rattle.hd_custody.proofs.types.Custody.collect.Goals as goal

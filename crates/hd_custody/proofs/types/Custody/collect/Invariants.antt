@@ -1,5 +1,4 @@
-use Rattle.hd_custody.specs.Traces.{sweep, to_look_whole}
-use Rattle.hd_custody.specs.CallSteps.{calling, Made}
+use Rattle.hd_custody.proofs.Basics.{Made, calling, sweep, to_look_whole}
 use Rattle.hd_custody.proofs.types.Custody.collect.Given as goal
 
 abbrev pub invariant-loop-block : goal.invariant-loop-block

@@ -1,6 +1,4 @@
-use Rattle.std.proofs.Common.{◌≡◌, ◌≤◌, sym, ◌∙◌, ap, arith}
-use Rattle.hd_custody.specs.Views.{Named, Known, Acting}
-use Rattle.hd_custody.specs.declared.view.View.{View}
+use Rattle.hd_custody.proofs.Basics.{Acting, Known, Named, View, ap, arith, sym, ◌∙◌, ◌≡◌, ◌≤◌}
 use Rattle.hd_custody.proofs.SeatSplit.{splits}
 use Rattle.hd_custody.proofs.types.Custody.cut.Goals as goal
 
@@ -10,8 +8,7 @@ split_seat-place-requires g c =
     let W = g.row.W.Denot in
     let view : place.me.0 ≡ c.args.first.now.view = ap (λ (a : Acting W). a.view) c.caller.view_is
     ∙ ap (λ (k : Known W). k.view) c.first.view_is in
-    let room : place.me.0.room ≡ c.args.first.now.view.room =
-    ap (λ (v : View W). v.room) view in
+    let room : place.me.0.room ≡ c.args.first.now.view.room = ap (λ (v : View W). v.room) view in
     let enough : g.N.Share.share ≤ place.me.0.room = omega (arith, room, c.requires.share, c.requires.picked)
     in (
       ap (λ (a : Acting W). a.table) c.caller.view_is ∙ ap (λ (k : Known W). k.table) c.first.view_is
@@ -19,6 +16,5 @@ split_seat-place-requires g c =
           ∙ ap (λ (n : Named). n.table) (sym c.self.view_is),
       omega (arith, c.self.invariant.0),
       λ s rule at. splits g.W.Held _ place.id g.N.Share.share place.me.0 c.caller.invariant
-          (ap (λ (v : View W). v.number) view ∙ c.requires.first) enough s rule
-          at,
+          (ap (λ (v : View W). v.number) view ∙ c.requires.first) enough s rule at,
     )

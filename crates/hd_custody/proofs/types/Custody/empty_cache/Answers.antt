@@ -1,10 +1,6 @@
-use Rattle.std.proofs.Common.{◌≢◌, ◌+◌, refl, sym, ◌∙◌, subst, arith}
-use Rattle.hd_custody.specs.Counts.{with_slot, put_out, Has}
-use Rattle.hd_custody.specs.CallSteps.{calling}
-use Rattle.hd_custody.proofs.Canon.{put_goes, with_slot_has}
-use Rattle.hd_custody.proofs.HeldSlots.{has_member}
+use Rattle.hd_custody.proofs.Basics.{Has, arith, calling, put_out, refl, subst, sym, with_slot, ◌+◌, ◌∙◌, ◌≢◌}
+use Rattle.hd_custody.proofs.{Canon.put_goes, Canon.with_slot_has, HeldSlots.has_member, ReleaseSteps.sweep_step}
 use Rattle.hd_custody.proofs.Phases.{seen_as, held_is, table_is, then_as}
-use Rattle.hd_custody.proofs.ReleaseSteps.{sweep_step}
 use Rattle.hd_custody.proofs.types.Custody.empty_cache.Goals as goal
 
 pub settle-requires : goal.settle-requires

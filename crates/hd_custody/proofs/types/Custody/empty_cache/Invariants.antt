@@ -1,5 +1,4 @@
-use Rattle.hd_custody.specs.Traces.{sweep, to_sweep}
-use Rattle.hd_custody.specs.CallSteps.{calling, Made}
+use Rattle.hd_custody.proofs.Basics.{Made, calling, sweep, to_sweep}
 use Rattle.hd_custody.proofs.types.Custody.empty_cache.Given as goal
 
 abbrev pub invariant-loop-n : goal.invariant-loop-n

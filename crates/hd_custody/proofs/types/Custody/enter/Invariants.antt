@@ -1,4 +1,4 @@
-use Rattle.std.proofs.Common.{◌≡◌}
+use Rattle.hd_custody.proofs.Basics.{◌≡◌}
 use Rattle.hd_custody.proofs.types.Custody.enter.Given as goal
 
 abbrev pub invariant-loop-try : goal.invariant-loop-try

@@ -1,4 +1,4 @@
-use Rattle.hd_custody.specs.CallSteps.{Banked}
+use Rattle.hd_custody.proofs.Basics.{Banked}
 use Rattle.hd_custody.proofs.types.Custody.fill_cells.Given as goal
 
 abbrev pub invariant-loop-i : goal.invariant-loop-i

@@ -1,11 +1,8 @@
-use Rattle.std.proofs.Common.{◌≡◌, sym, ◌∙◌, ap, subst, arith}
-use Rattle.hd_custody.specs.declared.view.View.{View}
-use Rattle.hd_custody.specs.Views.{Named, Known, IsSeated, Acting}
-use Rattle.hd_custody.specs.Calls.{Gathers}
+use Rattle.hd_custody.proofs.Basics.{Acting, Gathers, IsSeated, Known, Named, View, ap, arith, subst, sym, ◌∙◌, ◌≡◌}
 use Rattle.hd_custody.proofs.Seated.{block_kinded}
 use Rattle.hd_custody.proofs.Ends.{answer, answer_none, answer_some, gathers_all}
-use Rattle.hd_custody.proofs.types.Custody.gather.Goals as goal
 use Rattle.hd_custody.proofs.types.Custody.gather.Goals.{then-block-eq0, else-block-eq0}
+use Rattle.hd_custody.proofs.types.Custody.gather.Goals as goal
 
 pub invariant_of-seat : goal.invariant_of-seat
 invariant_of-seat g c =
@@ -13,14 +10,9 @@ invariant_of-seat g c =
     subst (λ (a : Acting g.row.W.Denot). IsSeated (a.view, a.out)) (sym c.collect-block.ensures.made.only) (
       c.seat.invariant.0,
       c.seat.invariant.1,
-      block_kinded c.collect-block.result c.number.result
-          caller.view.held
-          (omega (
-            arith,
-            c.collect-block.ensures.block,
-            c.self.invariant,
-            ap (λ (n : Named). n.blocks) c.self.view_is,
-          ))
+      block_kinded c.collect-block.result c.number.result caller.view.held
+          (let known = ap (λ (n : Named). n.blocks) c.self.view_is in
+          omega (arith, c.collect-block.ensures.block, c.self.invariant, known))
           c.seat.invariant.2,
     )
 

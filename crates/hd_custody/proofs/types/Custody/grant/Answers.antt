@@ -1,5 +1,4 @@
-use Rattle.std.proofs.Common.{sym, ap, subst, arith}
-use Rattle.hd_custody.specs.Views.{Named, IsSeated, handle_block, Acting}
+use Rattle.hd_custody.proofs.Basics.{Acting, IsSeated, Named, ap, arith, handle_block, subst, sym}
 use Rattle.hd_custody.proofs.Seated.{granted_seated}
 use Rattle.hd_custody.proofs.types.Custody.grant.Goals as goal
 

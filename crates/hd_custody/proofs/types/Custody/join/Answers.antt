@@ -1,6 +1,4 @@
-use Rattle.std.proofs.Common.{◌≡◌, sym, ◌∙◌, ap, arith, false}
-use Rattle.hd_custody.specs.declared.view.View.{View}
-use Rattle.hd_custody.specs.Views.{Named, Known, carried_by, Acting}
+use Rattle.hd_custody.proofs.Basics.{Acting, Known, Named, View, ap, arith, carried_by, false, sym, ◌∙◌, ◌≡◌}
 use Rattle.hd_custody.proofs.SeatJoin.{joins}
 use Rattle.hd_custody.proofs.types.Custody.join.Goals as goal
 

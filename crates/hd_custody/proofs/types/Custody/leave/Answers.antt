@@ -1,10 +1,6 @@
-use Rattle.std.proofs.Common.{◌≡◌, ℕ, true, Option, Some, List, [], ◌∷◌, sym, ◌∙◌, ap, subst, arith}
-use Rattle.atomic_table.specs.Table.{rest, Me}
-use Rattle.atomic_table.specs.Seated.{TableId}
-use Rattle.hd_custody.specs.declared.view.View.{View}
-use Rattle.hd_custody.specs.Views.{Named, Known, Kinded, IsSeated, carried_by, Follows, Acting}
-use Rattle.hd_custody.proofs.Gives.{leave_steps}
-use Rattle.hd_custody.proofs.Seated.{left_seated}
+use Rattle.hd_custody.proofs.Basics.{Acting, Follows, IsSeated, Kinded, Known, List, Me, Named, Option, Some, View, [], ap, arith, carried_by, subst, sym, true, ℕ, ◌∙◌, ◌∷◌, ◌≡◌}
+use Rattle.atomic_table.specs.{Table.rest, Seated.TableId}
+use Rattle.hd_custody.proofs.{Gives.leave_steps, Seated.left_seated}
 use Rattle.hd_custody.proofs.types.Custody.leave.Goals as goal
 
 -- the seat once the world is in its slot, before the gate is free
@@ -34,8 +30,7 @@ store-requires g c =
           ∙ ap (λ (k : Known W). k.table) c.seat.view_is ∙ c.requires.seat
           ∙ ap (λ (n : Named). n.table) (sym c.self.view_is),
       omega (arith, c.self.invariant.0),
-      leave_steps g.W.Held _ _ seat.id seat.me.0 seat.me.1
-          (ap (λ (v : View W). v.is_spent) s.0 ∙ c.seat.invariant.0) u c.args.world
+      leave_steps _ _ _ _ _ _ (ap (λ (v : View W). v.is_spent) s.0 ∙ c.seat.invariant.0) u c.args.world
           (ap (λ (v : View W). v.has_gate) (sym s.1) ∙ c.requires.gate)
           (ap (λ (v : View W). v.taken) (sym s.1) ∙ c.requires.follows.1) s.2
           (subst (λ v. Follows g.W.Held u c.args.world v) s.1 c.requires.follows.2),

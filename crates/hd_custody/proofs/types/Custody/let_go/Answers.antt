@@ -1,6 +1,4 @@
-use Rattle.std.proofs.Common.{◌≡◌, ◌+◌, bit_or, ◌^◌, ◌/◌, ◌%◌, refl, sym, ◌∙◌, ap, subst, arith}
-use Rattle.hd_model.specs.declared.limits.TheConstants.{BLOCKS, ROWS}
-use Rattle.hd_custody.specs.Counts.{IsSlot, Has, without}
+use Rattle.hd_custody.proofs.Basics.{BLOCKS, Has, IsSlot, ROWS, ap, arith, bit_or, refl, subst, sym, without, ◌%◌, ◌+◌, ◌/◌, ◌^◌, ◌∙◌, ◌≡◌}
 use Rattle.hd_custody.proofs.HeldSlots.{has_member}
 use Rattle.hd_custody.proofs.Canon.{put_goes, put_some, with_slot_has, with_slot_none}
 use Rattle.hd_custody.proofs.Phases.{due, zero_is, zero_not, one_step, seen_as, held_is, table_is, then_as}

@@ -1,7 +1,4 @@
-use Rattle.std.proofs.Common.{◌+◌, ◌*◌, bit_xor, refl, sym, subst, rules}
-use Rattle.hd_model.specs.declared.limits.TheConstants.{ROWS}
-use Rattle.hd_custody.specs.Counts.{HasAs}
-use Rattle.hd_custody.specs.CallSteps.{Banked}
+use Rattle.hd_custody.proofs.Basics.{Banked, HasAs, ROWS, bit_xor, refl, rules, subst, sym, ◌*◌, ◌+◌}
 use Rattle.hd_custody.proofs.Phases.{if_true, if_false}
 use Rattle.hd_custody.proofs.AllocateSteps.{banked_all, offer_full, offer_put}
 use Rattle.hd_custody.proofs.types.Custody.offer.Goals as goal
@@ -25,8 +22,7 @@ returns-then-not-bank g c =
       banked = offer_full c.args.kind c.args.self.now.blocks c.args.caller.now c.bank.new.caller c.args.block
           c.args.i c.args.left c.in-Some.next
           c.reserved.result lost.0 c.requires.kind.1 c.requires.rows c.in-Some.ensures.set
-          c.in-Some.ensures.within
-          c.in-Some.ensures.first c.reserved.ensures.value lost.2 lost.1;
+          c.in-Some.ensures.within c.in-Some.ensures.first c.reserved.ensures.value lost.2 lost.1;
     }
 
 pub returns : goal.returns

@@ -1,7 +1,4 @@
-use Rattle.std.proofs.Common.{ℕ, List, [], ◌∷◌, Option, Some, sym, ◌∙◌, subst}
-use Rattle.atomic_table.specs.Table.{opening}
-use Rattle.hd_custody.specs.Views.{starting}
-use Rattle.hd_custody.specs.Rule.{Custodied}
+use Rattle.hd_custody.proofs.Basics.{Custodied, List, Option, Some, [], opening, starting, subst, sym, ℕ, ◌∙◌, ◌∷◌}
 use Rattle.hd_custody.proofs.TableOpen.{starts, zero_words}
 use Rattle.hd_custody.proofs.types.Custody.open.Goals as goal
 

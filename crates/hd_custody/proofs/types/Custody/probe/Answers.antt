@@ -1,7 +1,4 @@
-use Rattle.std.proofs.Common.{◌+◌, refl, ◌∙◌, arith}
-use Rattle.hd_custody.specs.Counts.{with_slot}
-use Rattle.hd_custody.specs.Traces.{to_probe, to_look}
-use Rattle.hd_custody.specs.CallSteps.{calling}
+use Rattle.hd_custody.proofs.Basics.{arith, calling, refl, to_look, to_probe, with_slot, ◌+◌, ◌∙◌}
 use Rattle.hd_custody.proofs.Phases.{table_is, then_as}
 use Rattle.hd_custody.proofs.AllocateSteps.{probe_step, came_none, came_some}
 use Rattle.hd_custody.proofs.types.Custody.probe.Goals as goal

@@ -1,5 +1,4 @@
-use Rattle.hd_custody.specs.Traces.{probe, to_probe}
-use Rattle.hd_custody.specs.CallSteps.{calling, Made}
+use Rattle.hd_custody.proofs.Basics.{Made, calling, probe, to_probe}
 use Rattle.hd_custody.proofs.types.Custody.probe.Given as goal
 
 abbrev pub invariant-loop-n : goal.invariant-loop-n

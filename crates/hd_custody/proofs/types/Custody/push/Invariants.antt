@@ -1,7 +1,4 @@
-use Rattle.std.proofs.Common.{◌≡◌, ◌≢◌, ◌+◌}
-use Rattle.hd_custody.specs.Counts.{held_times, with_slot, without, IsSlot}
-use Rattle.hd_custody.specs.Traces.{push}
-use Rattle.hd_custody.specs.CallSteps.{calling, Made, pushed_to}
+use Rattle.hd_custody.proofs.Basics.{IsSlot, Made, calling, held_times, push, pushed_to, with_slot, without, ◌+◌, ◌≡◌, ◌≢◌}
 use Rattle.hd_custody.proofs.types.Custody.push.Given as goal
 
 abbrev pub invariant-loop-n : goal.invariant-loop-n

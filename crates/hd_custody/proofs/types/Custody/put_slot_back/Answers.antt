@@ -1,8 +1,5 @@
-use Rattle.std.proofs.Common.{◌≡◌, ◌/◌, ◌%◌, ◌^◌, subst, sym, ap, ◌∙◌, arith}
-use Rattle.hd_model.specs.declared.limits.TheConstants.{ROWS}
-use Rattle.hd_custody.specs.CallSteps.{HasRows}
-use Rattle.hd_custody.proofs.Canon.{slot_held}
-use Rattle.hd_custody.proofs.ReleaseSteps.{slot_back}
+use Rattle.hd_custody.proofs.Basics.{HasRows, ROWS, ap, arith, subst, sym, ◌%◌, ◌/◌, ◌^◌, ◌∙◌, ◌≡◌}
+use Rattle.hd_custody.proofs.{Canon.slot_held, ReleaseSteps.slot_back}
 use Rattle.hd_custody.proofs.types.Custody.put_slot_back.Goals as goal
 
 pub put_back-requires : goal.put_back-requires

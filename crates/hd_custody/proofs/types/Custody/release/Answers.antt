@@ -1,10 +1,5 @@
-use Rattle.std.proofs.Common.{◌≡◌, ◌≢◌, ◌==◌, not, sym, ap, subst, arith}
-use Rattle.hd_custody.specs.declared.view.View.{View}
-use Rattle.hd_custody.specs.Counts.{IsSlot}
-use Rattle.hd_custody.specs.Views.{Named, Known, IsSeated, Acting}
-use Rattle.hd_custody.specs.Calls.{Releases}
-use Rattle.hd_custody.proofs.HeldSlots.{every_filter}
-use Rattle.hd_custody.proofs.Ends.{releases}
+use Rattle.hd_custody.proofs.Basics.{Acting, IsSeated, IsSlot, Known, Named, Releases, View, ap, arith, not, subst, sym, ◌==◌, ◌≡◌, ◌≢◌}
+use Rattle.hd_custody.proofs.{HeldSlots.every_filter, Ends.releases}
 use Rattle.hd_custody.proofs.types.Custody.release.Goals as goal
 
 pub invariant_of-seat : goal.invariant_of-seat

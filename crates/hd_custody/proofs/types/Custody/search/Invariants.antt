@@ -1,5 +1,4 @@
-use Rattle.hd_custody.specs.Traces.{to_look}
-use Rattle.hd_custody.specs.CallSteps.{Made}
+use Rattle.hd_custody.proofs.Basics.{Made, to_look}
 use Rattle.hd_custody.proofs.types.Custody.search.Given as goal
 
 abbrev pub invariant-loop-block : goal.invariant-loop-block

@@ -1,5 +1,4 @@
-use Rattle.std.proofs.Common.{◌+◌, ◌/◌, ◌%◌, ◌^◌, bit_or, sym, refl}
-use Rattle.hd_model.specs.declared.limits.TheConstants.{BLOCKS, ROWS}
+use Rattle.hd_custody.proofs.Basics.{BLOCKS, ROWS, bit_or, refl, sym, ◌%◌, ◌+◌, ◌/◌, ◌^◌}
 use Rattle.hd_custody.proofs.Canon.{put_some}
 use Rattle.hd_custody.proofs.Phases.{due, zero_is, zero_not, made_none, one_step, seen_as, from_phase}
 use Rattle.hd_custody.proofs.types.Custody.settle.Goals as goal

@@ -1,9 +1,6 @@
-use Rattle.std.proofs.Common.{◌+◌, bit_or, refl, sym, ◌∙◌}
-use Rattle.hd_model.specs.declared.limits.TheConstants.{BLOCKS}
-use Rattle.hd_custody.specs.Counts.{without_rows}
-use Rattle.hd_custody.proofs.Canon.{rows_held, none_leaves}
+use Rattle.hd_custody.proofs.Basics.{BLOCKS, bit_or, refl, sym, without_rows, ◌+◌, ◌∙◌}
+use Rattle.hd_custody.proofs.{Canon.rows_held, Canon.none_leaves, AllocateSteps.back_step}
 use Rattle.hd_custody.proofs.Phases.{due, zero_is, zero_not, seen_as, table_is, and_then}
-use Rattle.hd_custody.proofs.AllocateSteps.{back_step}
 use Rattle.hd_custody.proofs.types.Custody.share_out.Goals as goal
 
 pub put_back-requires : goal.put_back-requires

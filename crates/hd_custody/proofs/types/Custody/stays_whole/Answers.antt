@@ -1,7 +1,4 @@
-use Rattle.std.proofs.Common.{◌≡◌, ◌+◌, ◌++◌, refl, sym, ◌∙◌, ap}
-use Rattle.std.proofs.lemmas.Bool.{eqb-true, eqb-false}
-use Rattle.hd_custody.specs.Counts.{rows}
-use Rattle.hd_custody.specs.Traces.{every_row, back_part}
+use Rattle.hd_custody.proofs.Basics.{ap, back_part, eqb-false, eqb-true, every_row, refl, rows, sym, ◌++◌, ◌+◌, ◌∙◌, ◌≡◌}
 use Rattle.hd_custody.proofs.Phases.{due, same_is, same_not, made_none, seen_as, from_phase}
 use Rattle.hd_custody.proofs.AllocateSteps.{second_look}
 use Rattle.hd_custody.proofs.types.Custody.stays_whole.Goals as goal

@@ -1,13 +1,6 @@
-use Rattle.std.proofs.Common.{◌≡◌, ◌≢◌, ℕ, ◌+◌, ◌*◌, ◌<◌, ◌++◌, refl, sym, ◌∙◌, ap, subst, arith}
-use Rattle.std.specs.Int.{bit_at}
-use Rattle.std.proofs.lemmas.Nat.Bits.{bit_at-zero}
-use Rattle.hd_model.specs.declared.limits.TheConstants.{BLOCKS, ROWS}
-use Rattle.hd_custody.specs.Traces.{look, look_whole, drain, drain_whole}
-use Rattle.hd_custody.specs.Views.{Fresh, Acting}
-use Rattle.hd_custody.specs.CallSteps.{Made}
-use Rattle.hd_custody.proofs.Canon.{rows_none}
+use Rattle.hd_custody.proofs.Basics.{Acting, BLOCKS, Fresh, Made, ROWS, ap, arith, bit_at, bit_at-zero, drain, drain_whole, look, look_whole, refl, subst, sym, ℕ, ◌*◌, ◌++◌, ◌+◌, ◌<◌, ◌∙◌, ◌≡◌, ◌≢◌}
+use Rattle.hd_custody.proofs.{Canon.rows_none, AllocateSteps.first_look, AllocateSteps.drain_step}
 use Rattle.hd_custody.proofs.Phases.{due, same_is, same_not, seen_as, held_is, table_is, and_then}
-use Rattle.hd_custody.proofs.AllocateSteps.{first_look, drain_step}
 use Rattle.hd_custody.proofs.types.Custody.take_rows.Goals as goal
 
 pub returns-then-look-kind-clause-fresh : goal.returns-then-look-kind-clause-fresh

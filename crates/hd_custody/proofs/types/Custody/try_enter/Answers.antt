@@ -1,6 +1,5 @@
-use Rattle.std.proofs.Common.{ℕ, Option, Some, List, ◌∷◌, sym, ◌∙◌, ap, rules}
+use Rattle.hd_custody.proofs.Basics.{Acting, Known, List, Named, Option, Some, ap, rules, sym, ℕ, ◌∙◌, ◌∷◌}
 use Rattle.atomic_table.specs.Table.{rest}
-use Rattle.hd_custody.specs.Views.{Named, Known, Acting}
 use Rattle.hd_custody.proofs.Phases.{if_true}
 use Rattle.hd_custody.proofs.types.Custody.try_enter.Goals as goal
 

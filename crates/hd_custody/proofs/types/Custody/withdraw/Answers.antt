@@ -1,10 +1,5 @@
-use Rattle.std.proofs.Common.{◌≡◌, ℕ, ◌+◌, ◌*◌, ◌<◌, sym, ◌∙◌, ap, subst, arith}
-use Rattle.hd_model.specs.declared.limits.TheConstants.{ROWS}
-use Rattle.hd_custody.specs.declared.view.View.{View}
-use Rattle.hd_custody.specs.Counts.{Has}
-use Rattle.hd_custody.specs.Views.{Named, Known, Kinded, IsSeated, closed, Acting}
-use Rattle.hd_custody.proofs.Gives.{clear_steps}
-use Rattle.hd_custody.proofs.Seated.{closed_kinded, block_real}
+use Rattle.hd_custody.proofs.Basics.{Acting, Has, IsSeated, Kinded, Known, Named, ROWS, View, ap, arith, closed, subst, sym, ℕ, ◌*◌, ◌+◌, ◌<◌, ◌∙◌, ◌≡◌}
+use Rattle.hd_custody.proofs.{Gives.clear_steps, Seated.closed_kinded, Seated.block_real}
 use Rattle.hd_custody.proofs.types.Custody.withdraw.Goals as goal
 
 pub store-requires : goal.store-requires
@@ -21,7 +16,7 @@ store-requires g c =
           ∙ c.requires.seat
           ∙ ap (λ (n : Named). n.table) (sym c.self.view_is),
       omega (arith, c.self.invariant, real.1),
-      clear_steps g.W.Held _ _ place.id place.me.0 place.me.1 c.caller.invariant c.args.block
+      clear_steps _ _ _ _ _ _ c.caller.invariant c.args.block
           real.0 real.1 (ap (λ (v : View W). v.has_gate) (sym now) ∙ c.requires.gate) has,
     )
 
