@@ -1,25 +1,14 @@
 -- The line of a command is read as that command.
-use Rattle.std.proofs.Common.{◌≡◌, ℕ, ◌<◌, ◌^◌, ◌&&◌, true, false, ltb, List, [], ◌∷◌, ◌++◌, length, map, Option, Some, Ok, refl, ap, ◌∙◌, arith, option_map}
-use Rattle.std.specs.Prelude.{codes, decimal}
-use Rattle.std.specs.List.{join_with_byte, list_all}
+use Rattle.hd_print.proofs.Basics.{List, Ok, Option, Reading, Some, [], and_from, and_parts, ap, arith, codes, command, command_text, command_words, decimal, decimal_nonempty, extra_words, false, first_fault, handle_register_in, handle_word, join_with_byte, kind_name, length, list_all, ltb, ltb-true, map, object_register_in, object_word, one, option_map, refl, strength_word, three, true, two, unless_fault, words_of, ℕ, ◌&&◌, ◌++◌, ◌<◌, ◌^◌, ◌∙◌, ◌∷◌, ◌≡◌}
 use Rattle.std.specs.Option.{option_or}
-use Rattle.std.proofs.lemmas.Bool.{ltb-true, and_from, and_parts}
-use Rattle.std.proofs.lemmas.Fmt.{decimal_nonempty}
-use Rattle.hd_model.specs.declared.data.Kind.{Kind}
-use Rattle.hd_model.specs.declared.data.Kind.TheVariants as kind
-use Rattle.hd_model.specs.declared.data.Strength.{Strength}
-use Rattle.hd_model.specs.declared.data.Strength.TheVariants as strength
-use Rattle.hd_model.specs.declared.data.Make.{Make}
-use Rattle.hd_model.specs.declared.data.Make.TheVariants as make
-use Rattle.hd_model.specs.declared.command.Cmd.{Cmd}
-use Rattle.hd_model.specs.declared.command.Cmd.TheVariants as cmd
-use Rattle.hd_model.specs.Kinds.{kind_of, is_paired}
-use Rattle.hd_model.specs.Valid.{IsValid, IsValidMake}
-use Rattle.hd_model.specs.CommandText.{object_word, handle_word, strength_word, kind_name, extra_words, command_words, command_text}
-use Rattle.hd_model.specs.Grammar.{Reading, command, words_of, reading_of, readings_of, lists_of, first_fault, unless_fault, script_of, register_in, object_register_in, handle_register_in, strength_of, make_of, trimmed_kind_of, fin_of}
-use Rattle.hd_model.specs.Grammar.{one, two, three, two_words, three_words, three_on_objects, three_on_handles, four_words, five_words, hnew_of}
+use Rattle.hd_model.specs.{declared.data.Kind.Kind, declared.data.Strength.Strength, declared.data.Make.Make, declared.command.Cmd.Cmd, Kinds.kind_of, Kinds.is_paired, Valid.IsValid, Valid.IsValidMake}
+use Rattle.hd_model.specs.Grammar.{reading_of, readings_of, lists_of, script_of, register_in, strength_of, make_of, trimmed_kind_of, fin_of, two_words, three_words, three_on_objects, three_on_handles, four_words, five_words, hnew_of}
 use Rattle.hd_print.proofs.Numerals.{number_again, digit_bytes}
 use Rattle.hd_print.proofs.LineWords.{is_high, IsWord, AreWords, words_again, line_again}
+use Rattle.hd_model.specs.declared.data.Kind.TheVariants as kind
+use Rattle.hd_model.specs.declared.data.Strength.TheVariants as strength
+use Rattle.hd_model.specs.declared.data.Make.TheVariants as make
+use Rattle.hd_model.specs.declared.command.Cmd.TheVariants as cmd
 
 -- ---- words
 
@@ -59,8 +48,7 @@ two_said : {A B : Type 0} (f : A → B → Cmd) (o : Option A) (p : Option B) (a
 two_said f o p a b e g = ap (λ x. two f x p) e ∙ ap (λ y. one (f a) y) g
 
 three_said : {A B C : Type 0} (f : A → B → C → Cmd) (o : Option A) (p : Option B) (q : Option C) (a : A)
-    (b : B) (c : C) →
-    o ≡ Some a → p ≡ Some b → q ≡ Some c → three f o p q ≡ Some (f a b c)
+    (b : B) (c : C) → o ≡ Some a → p ≡ Some b → q ≡ Some c → three f o p q ≡ Some (f a b c)
 three_said f o p q a b c e g h = ap (λ x. three f x p q) e ∙ two_said (f a) p q b c g h
 
 -- in the table of objects, whatever the table of handles has
@@ -73,8 +61,7 @@ read_again said c e = ap (option_map command) e
 
 module _ (d t : ℕ) (small_d : d < 16) (small_t : t < 16) where
   -- a new handle
-  made_again : (make : Make)
-      → option_map command
+  made_again : (make : Make) → option_map command
       (three cmd.HNew (handle_register_in (handle_word d)) (Some make) (object_register_in (object_word t)))
       ≡ Some (command (cmd.HNew d make t))
   made_again make = read_again _ _
@@ -146,6 +133,11 @@ said_again (cmd.AddrOf h) v = one_said cmd.AddrOf _ h (handle_again h v)
 said_again (cmd.HUp h) v = one_said cmd.HUp _ h (handle_again h v)
 said_again (cmd.HDown h) v = one_said cmd.HDown _ h (handle_again h v)
 said_again (cmd.Trim k) v = one_said cmd.Trim _ k (trimmed_again k v)
+said_again (cmd.CAdd k r) v = on_objects _ _ _
+    (two_said cmd.CAdd _ _ k r (object_again k v.0) (object_again r v.1))
+said_again (cmd.CFind d k) v = on_objects _ _ _
+    (two_said cmd.CFind _ _ d k (object_again d v.0) (object_again k v.1))
+said_again (cmd.CRemove k) v = one_said cmd.CRemove _ k (object_again k v)
 
 -- ---- the words as words of a line
 
@@ -236,6 +228,9 @@ words_are (cmd.AddrOf h) v = (literal (codes "addr") refl, (handle_is h v, tt))
 words_are (cmd.HUp h) v = (literal (codes "hup") refl, (handle_is h v, tt))
 words_are (cmd.HDown h) v = (literal (codes "hdown") refl, (handle_is h v, tt))
 words_are (cmd.Trim k) v = (literal (codes "trim") refl, (kind_is k, tt))
+words_are (cmd.CAdd k r) v = (literal (codes "cadd") refl, (object_is k v.0, (object_is r v.1, tt)))
+words_are (cmd.CFind d k) v = (literal (codes "cfind") refl, (object_is d v.0, (object_is k v.1, tt)))
+words_are (cmd.CRemove k) v = (literal (codes "cremove") refl, (object_is k v, tt))
 
 -- ---- the line
 

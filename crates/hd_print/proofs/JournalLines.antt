@@ -1,13 +1,7 @@
 -- How the lines of a journal grow by those of one entry after another.
-use Rattle.std.proofs.Common.{◌≡◌, ℕ, ◌+◌, ◌<◌, ◌≤◌, ◌==◌, Some, List, [], ◌∷◌, ◌++◌, All, length, take, drop, get_or, set, slice_get, count_by, sym, ◌∙◌, ap, subst, append_assoc, append-nil, length-set, arith}
-use Rattle.std.proofs.lemmas.Grind.{common_steps}
-use Rattle.std.proofs.lemmas.List.{take_more, take-append-drop, length-take-le}
-use Rattle.std.proofs.lemmas.List.Sums.{count_by_more_yes, count_by_more_no, count_by-le-length}
-use Rattle.std.proofs.lemmas.Option.{get_or_from_slice_get}
-use Rattle.hd_io.specs.Sink.{SinkView, Took, WriteBrokeOff}
+use Rattle.hd_print.proofs.Basics.{All, Entry, List, SinkView, Some, Took, WriteBrokeOff, [], ap, append-nil, append_assoc, arith, count_by, count_by-le-length, count_by_more_no, count_by_more_yes, drop, entry_text, get_or, length, length-set, length-take-le, lines_after, lines_of, set, slice_get, subst, sym, take, take-append-drop, take_more, ℕ, ◌++◌, ◌+◌, ◌<◌, ◌==◌, ◌∙◌, ◌∷◌, ◌≡◌, ◌≤◌}
+use Rattle.std.proofs.{lemmas.Grind.common_steps, lemmas.Option.get_or_from_slice_get}
 use Rattle.hd_io.proofs.SinkPieces.{took_more, broke_after, broke_before}
-use Rattle.hd_model.specs.declared.data.Entry.{Entry}
-use Rattle.hd_model.specs.Text.{entry_text, lines_after, lines_of}
 
 -- the number of entries of a caller in a list
 abbrev pub count_of : ℕ → List Entry → ℕ
@@ -57,11 +51,8 @@ module _ (es : List Entry) (i : ℕ) (e : Entry) (in_range : i < length es) (is_
         pub count_le : get_or counts e.caller 0 ≤ i
         count_le =
             let its_count = counted e.caller caller_below in
-            omega (
-              arith,
-              count_by-le-length (λ (x : Entry). x.caller == e.caller) (take i es),
-              length-take-le i es (omega arith),
-            )
+            let known = count_by-le-length (λ (x : Entry). x.caller == e.caller) (take i es) in
+            omega (arith, known, length-take-le i es (omega arith))
 
         -- and that of the entry's caller is raised, to its number
         module _ (number : ℕ) (is_next : number ≡ get_or counts e.caller 0 + 1) where

@@ -1,3 +1,4 @@
+pub mod Basics
 pub mod JournalLines
 pub mod WordJoin
 pub mod LineWords

@@ -1,14 +1,8 @@
 -- The words of a line that has no comment.
-use Rattle.std.proofs.Common.{◌≡◌, ℕ, ◌-◌, ◌<◌, ◌≤◌, Bool, true, false, ltb, leb, eqb, ◌||◌, List, [], ◌∷◌, ◌++◌, length, length-append, take, get_or, refl, sym, ap, ◌∙◌, ⊎_elim, arith, filter}
-use Rattle.std.specs.List.{slice_split, join_with_byte, list_all, before_first, position_or_len, All}
+use Rattle.hd_print.proofs.Basics.{All, All-weaker, AllPass-from_list_all, Bool, List, [], and_from, ap, arith, before_first, cond-false, cond-true, eqb, eqb-true, false, filter, get_or, is_blank, is_hash, is_line_end, join_with_byte, leb, leb-true, length, length-append, list_all, list_all-from_AllPass, lt-ltb, ltb, ne_eqb, or_cases, or_right, position_or_len, position_or_len_is, refl, slice_split, sym, take, take_all, true, without_empty_last, ℕ, ⊎_elim, ◌++◌, ◌-◌, ◌<◌, ◌||◌, ◌∙◌, ◌∷◌, ◌≡◌, ◌≤◌}
 use Rattle.std.specs.Str.Lines.{strip_carriage_return}
-use Rattle.std.proofs.lemmas.Bool.{cond-true, cond-false, eqb-true, ne_eqb, lt-ltb, leb-true, and_from, or_cases, or_right}
-use Rattle.std.proofs.lemmas.List.{take_all}
-use Rattle.std.proofs.lemmas.List.Elements.{All-weaker}
-use Rattle.std.proofs.lemmas.List.Folds.{list_all-append}
-use Rattle.std.proofs.lemmas.List.Splits.{slice_split_at, slice_split_none}
-use Rattle.std.proofs.lemmas.List.Sums.{AllPass-from_list_all, list_all-from_AllPass, position_or_len_is}
-use Rattle.hd_model.specs.Grammar.{is_line_end, is_hash, is_blank, without_empty_last, lines_in, words_in, words_of}
+use Rattle.std.proofs.{lemmas.List.Folds.list_all-append, lemmas.List.Splits.slice_split_at, lemmas.List.Splits.slice_split_none}
+use Rattle.hd_model.specs.Grammar.{lines_in, words_in, words_of}
 
 -- a byte of a command's word: a digit or a letter, which is no blank, ends no line and begins no comment
 abbrev pub is_high : ℕ → Bool
@@ -91,8 +85,7 @@ whole_line bytes some plain =
     cond-false (eqb (get_or bytes (n - 1) 0) 13) (take (n - 1) bytes) bytes last in
     let no_hash = all_fail is_plain is_hash (plain_is_not 35 (omega arith) (λ e. omega arith)) bytes plain in
     let nowhere : position_or_len is_hash bytes ≡ n =
-    position_or_len_is is_hash bytes n 0 (omega arith) (λ k h. no_hash k 0 h)
-    (λ h. absurd (omega arith)) in
+    position_or_len_is is_hash bytes n 0 (omega arith) (λ k h. no_hash k 0 h) (λ h. absurd (omega arith)) in
     ap (before_first is_hash) stays ∙ take_all (position_or_len is_hash bytes) bytes (omega (arith, nowhere))
 
 some_bytes : (word : List ℕ) (words : List (List ℕ)) → IsWord word

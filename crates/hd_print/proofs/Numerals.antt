@@ -1,12 +1,6 @@
 -- Decimal numerals, read back.
-use Rattle.std.proofs.Common.{rules, ◌≡◌, ℕ, ◌+◌, ◌-◌, ◌*◌, ◌<◌, ◌≤◌, ◌^◌, true, ltb, leb, ◌&&◌, None, List, length, get_or, Some, ap, ◌∙◌, arith, fold}
-use Rattle.std.specs.Prelude.{decimal}
-use Rattle.std.specs.List.{list_all}
+use Rattle.hd_print.proofs.Basics.{All-from_get_or, List, None, Some, and_from, ap, arith, cond-true, decimal, decimal_nonempty, digits_decimal, digits_value-decimal, fold, get_or, le-leb, leb, length, list_all, list_all-from_AllPass, lt-ltb, ltb, rules, true, ℕ, ◌&&◌, ◌*◌, ◌+◌, ◌-◌, ◌<◌, ◌^◌, ◌∙◌, ◌≡◌, ◌≤◌}
 use Rattle.std.specs.Char.{is_ascii_digit}
-use Rattle.std.proofs.lemmas.Bool.{cond-true, and_from, lt-ltb, le-leb}
-use Rattle.std.proofs.lemmas.Fmt.{decimal_nonempty, digits_decimal, digits_value-decimal}
-use Rattle.std.proofs.lemmas.List.Elements.{All-from_get_or}
-use Rattle.std.proofs.lemmas.List.Sums.{list_all-from_AllPass}
 use Rattle.std.proofs.lemmas.Str.Parse.{IsNumeralModel, IsDigitsTest, FoldsDigits, numerals_by_fold, numerals_by_value, tells_by_index}
 use Rattle.hd_model.specs.Grammar.{value_of, number_of}
 

@@ -1,7 +1,5 @@
 -- Words that are joined by blanks, one after another.
-use Rattle.std.proofs.Common.{◌≡◌, ℕ, ◌+◌, ◌<◌, List, [], ◌∷◌, ◌++◌, length, map, take, get_or, refl, sym, ap, ◌∙◌, append_assoc}
-use Rattle.std.specs.List.{join_with_byte}
-use Rattle.std.proofs.lemmas.List.{take_more, map_push}
+use Rattle.hd_print.proofs.Basics.{List, [], ap, append_assoc, get_or, join_with_byte, length, map, map_push, refl, sym, take, take_more, ℕ, ◌++◌, ◌+◌, ◌<◌, ◌∙◌, ◌∷◌, ◌≡◌}
 
 -- one word more at the end
 joined_push : (c : ℕ) (first : List ℕ) (words : List (List ℕ)) (word : List ℕ) →
@@ -19,8 +17,7 @@ pub joined_more : {A : Type 0} (c : ℕ) (first : List ℕ) (f : A → List ℕ)
 joined_more c first f xs i d within =
     ap (λ ys. join_with_byte c (first ∷ map f ys)) (take_more xs i d within)
     ∙ ap (λ (words : List (List ℕ)). join_with_byte c (first ∷ words))
-    (map_push f (take i xs) (get_or xs i d))
-    ∙ joined_push c first (map f (take i xs)) (f (get_or xs i d))
+    (map_push f (take i xs) (get_or xs i d)) ∙ joined_push c first (map f (take i xs)) (f (get_or xs i d))
 
 -- a line of such words, and a blank and the next word after it
 pub joined_step : {A : Type 0} (c : ℕ) (first : List ℕ) (f : A → List ℕ) (xs : List A) (i : ℕ) (d : A)

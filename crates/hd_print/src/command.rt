@@ -80,6 +80,9 @@ fn push_command(line: &mut Line, cmd: Cmd)
         Cmd::HUp { s } => push_words(line, "hup", &[Handle(s)]),
         Cmd::HDown { s } => push_words(line, "hdown", &[Handle(s)]),
         Cmd::Trim { kind } => push_words(line, "trim", &[OfKind(kind)]),
+        Cmd::CAdd { k, v } => push_words(line, "cadd", &[Object(k), Object(v)]),
+        Cmd::CFind { d, k } => push_words(line, "cfind", &[Object(d), Object(k)]),
+        Cmd::CRemove { k } => push_words(line, "cremove", &[Object(k)]),
     }
 }
 

@@ -67,6 +67,7 @@ fn push_refusal(line: &mut Line, refusal: Refusal)
         Refusal::WrongKind => line.push_str("wrongkind"),
         Refusal::EmptyRegister => line.push_str("empty"),
         Refusal::CountZero => line.push_str("countzero"),
+        Refusal::Present => line.push_str("present"),
     }
 }
 
@@ -97,6 +98,7 @@ pub(crate) fn push_reply(line: &mut Line, reply: Reply)
         }
         Reply::Report(report) => push_report(line, report),
         Reply::NoneQueued => line.push_str("none"),
+        Reply::Absent => line.push_str("absent"),
         Reply::Refused(refusal) => push_refusal(line, refusal),
     }
 }

@@ -1,12 +1,8 @@
 -- Lines without words change no list.
-use Rattle.std.proofs.Common.{◌≡◌, ℕ, ◌+◌, max, Bool, true, false, cond, ltb, eqb, List, [], ◌∷◌, ◌++◌, map, Option, Some, None, Ok, refl, sym, ap, ◌∙◌, arith, filter, option_to_list}
-use Rattle.std.specs.Prelude.{is_none}
-use Rattle.hd_model.specs.declared.command.Cmd.{Cmd}
-use Rattle.hd_model.specs.Grammar.{Reading, blank, caller, command, reading_of, words_of, lines_in, readings_of, caller_after, command_in, commands_for, callers_of, lists_of, first_fault}
-use Rattle.hd_model.specs.declared.limits.TheConstants.{MOST_COMMANDS}
+use Rattle.hd_script.proofs.Basics.{Bool, Cmd, List, MOST_COMMANDS, None, Ok, Option, Reading, Some, WordsDecide, [], ap, arith, blank, caller, caller_after, callers_of, command, command_in, commands_for, cond, eqb, false, filter, first_fault, has_words, is_none, lines_in, ltb, map, max, option_to_list, refl, sym, true, words_of, ℕ, ◌++◌, ◌+◌, ◌∙◌, ◌∷◌, ◌≡◌}
+use Rattle.hd_model.specs.Grammar.{reading_of, readings_of, lists_of}
 use Rattle.hd_script.proofs.LineLists.{nothing_more, some_caller, same_lists_of, is_script}
 use Rattle.hd_script.proofs.CallerLines.{parts_of_script}
-use Rattle.hd_script.specs.Laws.{has_words, WordsDecide}
 
 abbrev said : List (List (List ℕ)) → List (Option Reading)
 said lines = map reading_of lines

@@ -1,13 +1,6 @@
 -- Each caller's list is the commands of its lines, in their order.
-use Rattle.std.proofs.Common.{◌≡◌, ℕ, ◌+◌, ◌<◌, Bool, true, false, cond, eqb, List, [], ◌∷◌, ◌++◌, length, take, get_or, Option, Some, None, Ok, refl, sym, ap, ◌∙◌, arith, option_to_list, append_assoc}
-use Rattle.std.specs.Prelude.{filter_map}
-use Rattle.std.specs.List.{enumerate_from, cons_option}
-use Rattle.std.proofs.lemmas.List.{take_at, length_push}
-use Rattle.std.proofs.lemmas.List.FromFn.{get_or-map-range_with_len, length-map-range_with_len}
-use Rattle.std.proofs.lemmas.List.Sums.{fold_push}
-use Rattle.hd_model.specs.declared.command.Cmd.{Cmd}
-use Rattle.hd_model.specs.Grammar.{Reading, readings_of, caller_after, command_in, commands_for, callers_of, lists_of, first_fault, unless_fault, script_of}
-use Rattle.hd_script.specs.Laws.{caller_after_lines, command_for, ListsFollowTheLines}
+use Rattle.hd_script.proofs.Basics.{Bool, Cmd, List, ListsFollowTheLines, None, Ok, Option, Reading, Some, [], ap, append_assoc, arith, caller_after, caller_after_lines, callers_of, command_for, command_in, commands_for, cond, cons_option, enumerate_from, eqb, false, filter_map, first_fault, fold_push, get_or, get_or-map-range_with_len, length, length-map-range_with_len, length_push, option_to_list, readings_of, refl, sym, take, take_at, true, unless_fault, ℕ, ◌++◌, ◌+◌, ◌<◌, ◌∙◌, ◌∷◌, ◌≡◌}
+use Rattle.hd_model.specs.Grammar.{lists_of, script_of}
 
 -- a script has no fault, and its lists
 parted : (fault : Option ℕ) (lists others : List (List Cmd)) → unless_fault fault others ≡ Ok lists

@@ -1,14 +1,5 @@
 -- The lists of callers with another command, and their counts.
-use Rattle.std.proofs.Common.{◌≡◌, ℕ, ◌+◌, ◌<◌, ◌≤◌, List, [], ◌∷◌, ◌++◌, length, take, get_or, set, All, sum_by, sym, ap, ◌∙◌, arith, Vec, length-set}
-use Rattle.std.specs.declared.alloc.Global.{Global}
-use Rattle.std.proofs.lemmas.List.{get_or-map, map-set, set-get_or, length_push, length-map}
-use Rattle.std.proofs.lemmas.List.Elements.{All-set, All-push, All-get_or}
-use Rattle.std.proofs.lemmas.List.Sums.{sum_by-set, get_or-le-sum_by, sum_by_more, sum_by-take-le}
-use Rattle.hd_model.specs.declared.command.Cmd.{Cmd}
-use Rattle.hd_model.specs.Valid.{IsValid}
-use Rattle.hd_model.specs.Grammar.{AreLists}
-use Rattle.hd_model.specs.declared.limits.TheConstants.{MOST_COMMANDS}
-use Rattle.hd_script.specs.Lists.{contents, AreCounted}
+use Rattle.hd_script.proofs.Basics.{All, All-get_or, All-push, All-set, AreCounted, AreLists, Cmd, Global, IsValid, List, MOST_COMMANDS, Vec, [], ap, arith, contents, get_or, get_or-le-sum_by, get_or-map, length, length-map, length-set, length_push, map-set, set, set-get_or, sum_by, sum_by-set, sum_by-take-le, sum_by_more, sym, take, ℕ, ◌++◌, ◌+◌, ◌<◌, ◌∙◌, ◌∷◌, ◌≡◌, ◌≤◌}
 
 -- the list of a caller, in memory and as it is seen
 pub listed : (lists : List (Vec Cmd Global)) (caller : ℕ) (list : Vec Cmd Global) → caller < length lists
@@ -56,8 +47,7 @@ module _ (lists : List (Vec Cmd Global)) (caller : ℕ) (old new : Vec Cmd Globa
       (omega (arith, length-map lists (λ (v : Vec Cmd Global). v.items), within)) place
 
   -- a caller's list in memory got a command
-  pub written : (cmd : Cmd) → new.items ≡ old.items ++ cmd ∷ []
-      → contents (set lists caller new)
+  pub written : (cmd : Cmd) → new.items ≡ old.items ++ cmd ∷ [] → contents (set lists caller new)
       ≡ set (contents lists) caller (get_or (contents lists) caller [] ++ cmd ∷ [])
   written cmd e = contents_set lists caller new
       ∙ ap (set (contents lists) caller) (e ∙ ap (λ (items : List Cmd). items ++ cmd ∷ []) item_of)
@@ -80,8 +70,7 @@ module _ (lists : List (Vec Cmd Global)) (caller : ℕ) (old new : Vec Cmd Globa
 
 -- one list more is counted
 pub counted_more : (lists : List (Vec Cmd Global)) (i : ℕ) (list : Vec Cmd Global) → i < length lists
-    → list ≡ get_or lists i list →
-    sum_by length (take (i + 1) (contents lists))
+    → list ≡ get_or lists i list → sum_by length (take (i + 1) (contents lists))
     ≡ sum_by length (take i (contents lists)) + length list.items
 counted_more lists i list within place =
     sum_by_more length (contents lists) i []

@@ -1,10 +1,6 @@
 -- The value of decimal digits, from left to right.
-use Rattle.std.proofs.Common.{◌≡◌, ℕ, ◌+◌, ◌-◌, ◌*◌, ◌<◌, ◌≤◌, true, false, ltb, leb, ◌&&◌, List, [], ◌∷◌, length, drop, get_or, Some, None, sym, ◌∙◌, arith, fold}
-use Rattle.std.specs.List.{list_all}
-use Rattle.std.specs.Char.{is_ascii_digit}
-use Rattle.std.proofs.lemmas.Bool.{cond-true, cond-false, and_right, and_from, lt-ltb, le-leb, lt-leb}
-use Rattle.std.proofs.lemmas.List.{at_drop_more}
-use Rattle.hd_model.specs.Grammar.{value_of, number_of}
+use Rattle.hd_script.proofs.Basics.{List, None, Some, [], and_from, and_right, arith, at_drop_more, cond-false, cond-true, drop, false, fold, get_or, is_ascii_digit, le-leb, leb, length, list_all, lt-leb, lt-ltb, ltb, sym, true, value_of, ℕ, ◌&&◌, ◌*◌, ◌+◌, ◌-◌, ◌<◌, ◌∙◌, ◌∷◌, ◌≡◌, ◌≤◌}
+use Rattle.hd_model.specs.Grammar.{number_of}
 
 -- one more digit after those of a number
 abbrev pub with_digit : ℕ → ℕ → ℕ
@@ -28,17 +24,6 @@ pub refused_high : (most : ℕ) (word : List ℕ) → most < value_of word → n
 refused_high most word h =
     refused most word (and_right (ltb 0 (length word) && list_all is_ascii_digit word)
     (leb (value_of word) most) (lt-leb (value_of word) most h))
-
-pub accepted : (most : ℕ) (word : List ℕ) → 0 < length word → list_all is_ascii_digit word ≡ true
-    → value_of word ≤ most → number_of most word ≡ Some (value_of word)
-unfolding number_of
-accepted most word some digits within =
-    let both = and_from (ltb 0 (length word)) (list_all is_ascii_digit word) (lt-ltb 0 (length word) some)
-    digits in
-    let all = and_from (ltb 0 (length word) && list_all is_ascii_digit word) (leb (value_of word) most) both
-    (le-leb (value_of word) most within) in
-    cond-true (ltb 0 (length word) && list_all is_ascii_digit word && leb (value_of word) most)
-    (Some (value_of word)) None all
 
 -- the next digit is part of the value of the word
 pub next_digit : (word : List ℕ) (i value : ℕ) → i < length word

@@ -1,13 +1,7 @@
 -- A script is refused for its first line at fault.
-use Rattle.std.proofs.Common.{◌≡◌, ℕ, ◌+◌, ◌<◌, ◌≤◌, true, false, cond, ltb, List, [], ◌∷◌, ◌++◌, length, take, get_or, Option, Some, None, Err, refl, sym, ap, subst, ◌∙◌, inl, inr, ◌⊎◌, ⊎_elim, arith, append_assoc, count_by, below_more, length-append}
-use Rattle.std.proofs.lemmas.Bool.{ltb-true, ltb-false, both_ways, cond_both}
-use Rattle.std.proofs.lemmas.List.{append-nil, take_at, length_push, get_or_at}
-use Rattle.std.proofs.lemmas.List.Sums.{sum_by_push}
-use Rattle.hd_model.specs.declared.command.Cmd.{Cmd}
-use Rattle.hd_model.specs.Grammar.{Reading, blank, caller, command, readings_of, lists_of, first_fault, unless_fault, script_of}
-use Rattle.hd_model.specs.declared.limits.TheConstants.{MOST_COMMANDS}
+use Rattle.hd_script.proofs.Basics.{Cmd, Err, FaultsComeFirst, IsAtFault, IsFirstAtFault, List, MOST_COMMANDS, None, Option, Reading, Some, [], ap, append-nil, append_assoc, arith, below_more, blank, both_ways, caller, command, cond, cond_both, count_by, false, first_fault, get_or, get_or_at, inl, inr, is_command, length, length-append, length_push, lists_of, ltb, ltb-false, ltb-true, readings_of, refl, subst, sum_by_push, sym, take, take_at, true, unless_fault, ℕ, ⊎_elim, ◌++◌, ◌+◌, ◌<◌, ◌∙◌, ◌∷◌, ◌≡◌, ◌≤◌, ◌⊎◌}
+use Rattle.hd_model.specs.Grammar.{script_of}
 use Rattle.hd_script.proofs.CallerLines.{parts_of_script}
-use Rattle.hd_script.specs.Laws.{is_command, IsAtFault, IsFirstAtFault, FaultsComeFirst}
 
 -- why a line is at fault, by its reading and the lines above it
 abbrev Why : Option Reading → List (Option Reading) → Type 0
@@ -29,18 +23,14 @@ module _ (above rest all : List (Option Reading)) (reading : Option Reading)
   fault_here : Why reading above → IsAtFault all (length above)
   fault_here why = record {
     within = within_here;
-    why = ⊎_elim
-        (λ none. inl (at_here (Some blank) ∙ none))
-        (λ many. inr (ap is_command (at_here None) ∙ many.0, rw above_here many.1))
-        why;
+    why = ⊎_elim (λ none. inl (at_here (Some blank) ∙ none))
+        (λ many. inr (ap is_command (at_here None) ∙ many.0, rw above_here many.1)) why;
   }
 
   why_here : IsAtFault all (length above) → Why reading above
   why_here fault =
-      ⊎_elim
-      (λ none. inl (sym (at_here (Some blank)) ∙ none))
-      (λ many. inr (sym (ap is_command (at_here None)) ∙ many.0, (rw above_here at many.1)))
-      fault.why
+      ⊎_elim (λ none. inl (sym (at_here (Some blank)) ∙ none))
+      (λ many. inr (sym (ap is_command (at_here None)) ∙ many.0, (rw above_here at many.1))) fault.why
 
 -- no line up to an index is at fault
 abbrev IsClean : List (Option Reading) → ℕ → Type 0
@@ -136,7 +126,6 @@ pub faults_come_first : FaultsComeFirst
 faults_come_first = record {
   refused = λ bytes line script.
       subst (Settles (readings_of bytes)) (refused_at bytes line script) (settles (readings_of bytes));
-  accepted = λ bytes lists script.
-      subst (Settles (readings_of bytes)) (parts_of_script bytes lists script).0
+  accepted = λ bytes lists script. subst (Settles (readings_of bytes)) (parts_of_script bytes lists script).0
       (settles (readings_of bytes));
 }

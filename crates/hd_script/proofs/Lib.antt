@@ -1,3 +1,4 @@
+pub mod Basics
 pub mod LineSplit
 pub mod Digits
 pub mod WordReadings

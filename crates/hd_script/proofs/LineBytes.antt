@@ -1,10 +1,6 @@
 -- The lines and their ends together are the bytes.
-use Rattle.std.proofs.Common.{◌≡◌, ◌≢◌, ℕ, Bool, true, false, cond, eqb, List, [], ◌∷◌, ◌++◌, length, All, refl, ap, ◌∙◌}
-use Rattle.std.specs.List.{slice_split, onto_first, flat_map}
-use Rattle.std.proofs.lemmas.Bool.{eqb-true, eqb-false}
-use Rattle.std.proofs.lemmas.List.Elements.{All-nil, All-cons, All-head, All-tail}
-use Rattle.hd_model.specs.Grammar.{is_line_end, without_empty_last, lines_in}
-use Rattle.hd_script.specs.Laws.{LinesMakeTheBytes}
+use Rattle.hd_script.proofs.Basics.{All, All-cons, All-head, All-nil, All-tail, Bool, LinesMakeTheBytes, List, [], ap, cond, eqb, eqb-false, eqb-true, false, flat_map, is_line_end, length, onto_first, refl, slice_split, true, without_empty_last, ℕ, ◌++◌, ◌∙◌, ◌∷◌, ◌≡◌, ◌≢◌}
+use Rattle.hd_model.specs.Grammar.{lines_in}
 
 abbrev IsOpen : List ℕ → Type 0
 IsOpen line = All (λ b. b ≢ 10) line

@@ -1,15 +1,7 @@
 -- What further lines add to the lists so far, and which of them is the first at fault.
-use Rattle.std.proofs.Common.{◌≡◌, ℕ, suc, zero, ◌+◌, ◌<◌, ◌≤◌, max, Bool, true, false, cond, eqb, ltb, List, [], ◌∷◌, ◌++◌, length, map, get_or, set, Option, Some, None, Ok, Err, refl, sym, ap, subst, ◌∙◌, ⊎_elim, arith, sum_by, append_assoc, get_or-set_same, get_or-set_other, length-set}
-use Rattle.std.specs.List.{range_with_len, before_first}
-use Rattle.std.proofs.lemmas.Bool.{cases_eq, cond-true, cond-false, eq-eqb, ne_eqb, lt-ltb, le-ltb}
-use Rattle.std.proofs.lemmas.List.{append-nil, length_push, nil_from_length}
-use Rattle.std.proofs.lemmas.List.Sums.{sum_by-set}
-use Rattle.std.proofs.lemmas.List.FromFn.{fill_by_all}
-use Rattle.hd_model.specs.declared.command.Cmd.{Cmd}
-use Rattle.hd_model.specs.Grammar.{Reading, blank, caller, command, reading_of, words_of, lines_in, is_line_end, readings_of, commands_for, callers_of, lists_of, first_fault, script_of, AreLists}
-use Rattle.hd_model.specs.declared.limits.TheConstants.{MOST_COMMANDS}
-use Rattle.hd_script.specs.Lists.{IsOpened}
-use Rattle.hd_script.specs.Words.{words_at, line_after}
+use Rattle.hd_script.proofs.Basics.{AreLists, Bool, Cmd, Err, IsOpened, List, MOST_COMMANDS, None, Ok, Option, Reading, Some, [], ap, append-nil, append_assoc, arith, before_first, blank, caller, callers_of, cases_eq, command, commands_for, cond, cond-false, cond-true, eq-eqb, eqb, false, fill_by_all, first_fault, get_or, get_or-set_other, get_or-set_same, is_line_end, le-ltb, length, length-set, length_push, line_after, lt-ltb, ltb, map, max, ne_eqb, nil_from_length, range_with_len, reading_of, refl, set, subst, suc, sum_by, sum_by-set, sym, true, words_of, zero, ℕ, ⊎_elim, ◌++◌, ◌+◌, ◌<◌, ◌∙◌, ◌∷◌, ◌≡◌, ◌≤◌}
+use Rattle.hd_model.specs.Grammar.{lines_in, readings_of, lists_of, script_of}
+use Rattle.hd_script.specs.Words.{words_at}
 use Rattle.hd_script.proofs.LineSplit.{first_line, shorter}
 
 -- the lists so far with what further lines add to them, where `now` is the caller whose commands come first
@@ -101,8 +93,7 @@ one_more now wanted lists cmd more within =
     (cases_eq now wanted)
 
 pub lists_after_command : (now : ℕ) (lists : List (List Cmd)) (cmd : Cmd) (rest : List (Option Reading))
-    → now < length lists →
-    lists_with now lists (Some (command cmd) ∷ rest)
+    → now < length lists → lists_with now lists (Some (command cmd) ∷ rest)
     ≡ lists_with now (set lists now (get_or lists now [] ++ cmd ∷ [])) rest
 unfolding lists_with
 lists_after_command now lists cmd rest within =
@@ -187,8 +178,7 @@ module _ {bytes : List ℕ} {lists : List (List Cmd)} {now number : ℕ} {rest :
   unfolding words_at
   said_first reading said =
       let line = before_first is_line_end rest in
-      first_reading rest line after
-      (first_line rest some ∙ ap (λ (r : List ℕ). line ∷ lines_in r) (sym e))
+      first_reading rest line after (first_line rest some ∙ ap (λ (r : List ℕ). line ∷ lines_in r) (sym e))
       ∙ ap (λ (r : Option Reading). r ∷ readings_of after) (sym said)
 
   pub fewer : length after < length rest
@@ -243,12 +233,8 @@ module _ {bytes : List ℕ} {lists : List (List Cmd)} {now number : ℕ} {rest :
       let first = said_first (Some (command cmd)) said in
       let longer = get_or lists now [] ++ cmd ∷ [] in
       let total : sum_by length added ≡ sum_by length lists + 1 =
-      omega (
-        arith,
-        ap (sum_by length) added_is,
-        sum_by-set length lists now longer [] follows.caller,
-        length_push (get_or lists now []) cmd,
-      ) in
+      (let known = sum_by-set length lists now longer [] follows.caller in
+      omega (arith, ap (sum_by length) added_is, known, length_push (get_or lists now []) cmd)) in
       record {
         right = right;
         faults = rw total (sym (fault_after (number + 1) (sum_by length lists) cmd (readings_of after) few)

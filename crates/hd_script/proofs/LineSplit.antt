@@ -1,17 +1,10 @@
 -- The first line and its words, split off.
-use Rattle.std.proofs.Common.{◌≡◌, ◌≢◌, ℕ, suc, ◌+◌, ◌-◌, ◌<◌, ◌≤◌, Bool, true, false, cond, not, ltb, eqb, List, [], ◌∷◌, ◌++◌, length, take, drop, get_or, Option, Some, None, refl, sym, ap, subst, ◌∙◌, ⊎_elim, arith, filter, position, inl, inr, ◌⊎◌, length-drop}
-use Rattle.std.specs.List.{slice_split, onto_first, position_or_len, before_first, All}
+use Rattle.hd_script.proofs.Basics.{All, All-head, All-tail, All-take, All-weaker, Bool, List, None, Option, Some, [], ap, append-nil, arith, before_first, cases_Bool, cases_lt, cond, cond-false, cond-true, cond_some, drop, drop_all, drop_more, eqb, fails_before_first, false, false_from_ne_true, filter, get_or, inl, inr, is_blank, is_hash, is_line_end, is_stop, length, length-drop, line_after, lt-ltb, ltb, ltb-false, ltb-true, nat_tests, ne_eqb, not, onto_first, passes_at_first, position, position_or_len, position_or_len_is, refl, slice_split, split_at_first, starts_blank, starts_end, subst, suc, sym, take, take_all, true, with_word, without_empty_last, ℕ, ⊎_elim, ◌++◌, ◌+◌, ◌-◌, ◌<◌, ◌∙◌, ◌∷◌, ◌≡◌, ◌≢◌, ◌≤◌, ◌⊎◌}
 use Rattle.std.specs.Str.Lines.{strip_carriage_return}
-use Rattle.std.proofs.lemmas.Bool.{ltb-true, ltb-false, lt-ltb, false_from_ne_true, cond-true, cond-false, ne_eqb, cases_lt, cases_Bool}
-use Rattle.std.proofs.lemmas.Bool.Decides.{nat_tests}
 use Rattle.std.proofs.lemmas.Grind.{common_steps}
-use Rattle.std.proofs.lemmas.Option.{cond_some}
-use Rattle.std.proofs.lemmas.List.Elements.{All-head, All-tail, All-weaker, All-take}
 use Rattle.std.proofs.lemmas.List.Splits.{slice_split_first, slice_split_none, slice_split_at}
-use Rattle.std.proofs.lemmas.List.Sums.{fails_before_first, passes_at_first, split_at_first, position_or_len_is}
-use Rattle.std.proofs.lemmas.List.{append-nil, drop_all, drop_more, take_all}
-use Rattle.hd_model.specs.Grammar.{is_line_end, is_blank, is_hash, without_empty_last, lines_in, words_in, words_of}
-use Rattle.hd_script.specs.Words.{is_stop, starts_blank, starts_end, words_at, line_after, with_word}
+use Rattle.hd_model.specs.Grammar.{lines_in, words_in, words_of}
+use Rattle.hd_script.specs.Words.{words_at}
 
 -- an index that is found is the first that passes
 found : (p : ℕ → Bool) (xs : List ℕ) (i : ℕ) → position p xs ≡ Some i
@@ -141,8 +134,7 @@ shorter (x ∷ xs) some =
 same_line : (w xs : List ℕ) → NonePasses is_line_end w → line_after (w ++ xs) ≡ line_after xs
 same_line [] xs h = refl
 same_line (x ∷ w) xs h =
-    cond-false (is_line_end x) (w ++ xs) (line_after (w ++ xs))
-    (All-head (λ y. is_line_end y ≡ false) x w h)
+    cond-false (is_line_end x) (w ++ xs) (line_after (w ++ xs)) (All-head (λ y. is_line_end y ≡ false) x w h)
     ∙ same_line w xs (All-tail (λ y. is_line_end y ≡ false) x w h)
 
 -- ---- a carriage return at the end
@@ -153,8 +145,7 @@ strip_is x xs =
     let last : length (x ∷ xs) - 1 ≡ length xs = omega arith in
     ap (λ (n : ℕ). cond (eqb (get_or (x ∷ xs) n 0) 13) (take n (x ∷ xs)) (x ∷ xs)) last
 
-strip_past : (x y : ℕ) (ys : List ℕ)
-    → strip_carriage_return (x ∷ y ∷ ys) ≡ x ∷ strip_carriage_return (y ∷ ys)
+strip_past : (x y : ℕ) (ys : List ℕ) → strip_carriage_return (x ∷ y ∷ ys) ≡ x ∷ strip_carriage_return (y ∷ ys)
 strip_past x y ys =
     strip_is x (y ∷ ys) ∙ elim (eqb (get_or (y ∷ ys) (length ys) 0) 13) as
     (λ t. cond t (x ∷ take (length ys) (y ∷ ys)) (x ∷ y ∷ ys)
@@ -189,8 +180,7 @@ no_stop w h = (
   All-weaker (λ x. is_stop x ≡ false) (λ x. is_hash x ≡ false) (λ x e. grind (arith, nat_tests)) w h,
 )
 
-which_stop : (s : ℕ) → is_stop s ≡ true → is_line_end s ≡ false
-    → (is_blank s ≡ true) ⊎ (is_hash s ≡ true)
+which_stop : (s : ℕ) → is_stop s ≡ true → is_line_end s ≡ false → (is_blank s ≡ true) ⊎ (is_hash s ≡ true)
 which_stop s stop no_end =
     ⊎_elim (λ blank. inl blank) (λ other. inr (grind (arith, nat_tests))) (cases_Bool (is_blank s))
 
@@ -383,7 +373,6 @@ pub no_word : (word : List ℕ) (words : List (List ℕ)) → length word ≡ 0 
 no_word [] words e = refl
 no_word (b ∷ bs) words e = absurd (omega (arith, e))
 
-pub one_word : (word : List ℕ) (words : List (List ℕ)) → length word ≢ 0
-    → with_word word words ≡ word ∷ words
+pub one_word : (word : List ℕ) (words : List (List ℕ)) → length word ≢ 0 → with_word word words ≡ word ∷ words
 one_word [] words e = absurd (e refl)
 one_word (b ∷ bs) words e = refl

@@ -1,21 +1,9 @@
 -- The counts of the lists of a load, and of a journal whose parts they are.
-use Rattle.std.proofs.Common.{[], ◌≡◌, ℕ, suc, zero, ◌+◌, ◌*◌, ◌/◌, ◌%◌, ◌<◌, Bool, true, false, cond, eqb, List, ◌∷◌, length, get_or, All, refl, ap, ◌∙◌, arith}
-use Rattle.std.specs.Prelude.{sum_by}
-use Rattle.std.proofs.lemmas.Bool.{cond_both}
-use Rattle.std.proofs.lemmas.List.Elements.{All-cons, All-nil, All-head, All-tail}
-use Rattle.std.proofs.lemmas.List.FromFn.{get_or-map-range_with_len}
-use Rattle.std.proofs.lemmas.List.Sums.{sum_by-cons, sum_by-append}
-use Rattle.hd_model.specs.declared.data.Entry.{Entry}
-use Rattle.hd_model.specs.declared.command.Cmd.{Cmd}
-use Rattle.hd_model.specs.declared.command.Cmd.TheVariants as cmd
-use Rattle.hd_model.specs.State.{State}
-use Rattle.hd_model.specs.Step.{Step}
-use Rattle.hd_model.specs.Run.{Chain, stay, link, part_of, commands_of}
-use Rattle.hd_model.specs.Text.{is_collect}
-use Rattle.hd_model.specs.Touched.{touched_by}
-use Rattle.hd_model.specs.Generated.{collection_after, make_of_round, round_of, generated_list, generated_lists, load_numbers}
+use Rattle.hd_script.proofs.Basics.{All, All-cons, All-head, All-nil, All-tail, Bool, Chain, Cmd, Entry, List, State, Step, [], ap, arith, collection_after, commands_of, cond, cond_both, eqb, false, get_or, get_or-map-range_with_len, is_collect, length, link, load_numbers, make_of_round, part_of, refl, round_of, stay, suc, sum_by, sum_by-append, sum_by-cons, touched_by, true, zero, ℕ, ◌%◌, ◌*◌, ◌+◌, ◌/◌, ◌<◌, ◌∙◌, ◌∷◌, ◌≡◌}
+use Rattle.hd_model.specs.Generated.{generated_list, generated_lists}
 use Rattle.hd_script.proofs.LoadStep.{bit, written}
 use Rattle.hd_script.proofs.LoadRounds.{rounds_of, round_more, by_rounds, collected}
+use Rattle.hd_model.specs.declared.command.Cmd.TheVariants as cmd
 
 -- ---- a sum over a journal is one over the parts of its callers
 
@@ -43,16 +31,12 @@ pub by_parts : (f : Cmd → ℕ) (es : List Entry) → All (λ (e : Entry). e.ca
     → sum_by (λ (e : Entry). f e.cmd) es ≡ of_part f es 0 + of_part f es 1 + of_part f es 2 + of_part f es 3
 by_parts f [] small = refl
 by_parts f (e ∷ es) small =
-    omega (
-      arith,
-      sum_by-cons (λ (x : Entry). f x.cmd) e es,
-      by_parts f es (All-tail (λ (x : Entry). x.caller < 4) e es small),
-      first_of_part f e es 0,
-      first_of_part f e es 1,
-      first_of_part f e es 2,
-      first_of_part f e es 3,
-      picked e.caller (f e.cmd) (All-head (λ (x : Entry). x.caller < 4) e es small),
-    )
+    let known = sum_by-cons (λ (x : Entry). f x.cmd) e es in
+    let also = by_parts f es (All-tail (λ (x : Entry). x.caller < 4) e es small) in
+    let more = first_of_part f e es 0 in
+    let last = first_of_part f e es 1 in
+    let finally = picked e.caller (f e.cmd) (All-head (λ (x : Entry). x.caller < 4) e es small) in
+    omega (arith, known, also, more, last, first_of_part f e es 2, first_of_part f e es 3, finally)
 
 pub callers_small : {s t : State} {es : List Entry} → Chain (Step load_numbers) s es t
     → All (λ (e : Entry). e.caller < 4) es
@@ -73,8 +57,7 @@ eight c j =
     cmd.New 0 ((c + j) % 8) false ∷ cmd.HNew 0 (make_of_round j) 0 ∷ cmd.Val 0 j ∷ cmd.HGet 1 0 ∷ cmd.Read 0
     ∷ cmd.Clear 0 ∷ cmd.Clear 1 ∷ cmd.HFree 0 ∷ []
 
-one_round : (f : Cmd → ℕ) (c done : ℕ)
-    → sum_by f (rounds_of c (done + 1))
+one_round : (f : Cmd → ℕ) (c done : ℕ) → sum_by f (rounds_of c (done + 1))
     ≡ sum_by f (rounds_of c done) + (sum_by f (eight c (done + 1)) + sum_by f
     (collection_after (done + 1)))
 one_round f c done =
@@ -93,24 +76,15 @@ pub collects_in : (c rounds : ℕ) → sum_by (λ x. bit (is_collect x)) (rounds
 collects_in c =
     by_rounds (λ rounds. sum_by (λ x. bit (is_collect x)) (rounds_of c rounds) ≡ rounds / 16) refl
     (λ done before.
-    omega (
-      arith,
-      one_round (λ x. bit (is_collect x)) c done,
-      before,
-      collected done,
-      collection_sum (λ x. bit (is_collect x)) 1 (done + 1) refl,
-    ))
+    (let known = collection_sum (λ x. bit (is_collect x)) 1 (done + 1) refl in
+    omega (arith, one_round (λ x. bit (is_collect x)) c done, before, collected done, known)))
 
 pub news_in : (c rounds : ℕ) → sum_by (λ x. bit (touched_by x).makes_object) (rounds_of c rounds) ≡ rounds
 news_in c =
     by_rounds (λ rounds. sum_by (λ x. bit (touched_by x).makes_object) (rounds_of c rounds) ≡ rounds) refl
     (λ done before.
-    omega (
-      arith,
-      one_round (λ x. bit (touched_by x).makes_object) c done,
-      before,
-      collection_sum (λ x. bit (touched_by x).makes_object) 0 (done + 1) refl,
-    ))
+    (let known = collection_sum (λ x. bit (touched_by x).makes_object) 0 (done + 1) refl in
+    omega (arith, one_round (λ x. bit (touched_by x).makes_object) c done, before, known)))
 
 next_product : (n : ℕ) → n * (n + 1) + 2 * (n + 1) ≡ (n + 1) * (n + 1 + 1)
 next_product n = grind arith

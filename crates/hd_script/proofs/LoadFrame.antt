@@ -1,12 +1,5 @@
 -- The callers that do not move are where they were.
-use Rattle.std.proofs.Common.{◌≡◌, ℕ, ◌+◌, ◌*◌, ◌<◌, ◌≤◌, ◌⊎◌, List, length, length-set, set, Some, None, is_some, IsSome, sym, ap, ◌∙◌, subst, ⊎_elim, arith}
-use Rattle.std.proofs.lemmas.Bool.{cases_eq, false≢true}
-use Rattle.std.proofs.lemmas.List.{get_or-set_same, get_or-set_other}
-use Rattle.std.proofs.lemmas.List.Sums.{sum_by-set}
-use Rattle.hd_model.specs.declared.data.Slot.{Slot}
-use Rattle.hd_model.specs.State.{State, handle_register_of, handle_at, total_size}
-use Rattle.hd_model.specs.WellFormed.{IsWellFormed}
-use Rattle.hd_model.specs.Generated.{load_numbers}
+use Rattle.hd_script.proofs.Basics.{IsSome, IsWellFormed, List, None, Slot, Some, State, ap, arith, cases_eq, false≢true, get_or-set_other, get_or-set_same, handle_at, handle_register_of, is_some, length, length-set, load_numbers, set, subst, sum_by-set, sym, total_size, ℕ, ⊎_elim, ◌*◌, ◌+◌, ◌<◌, ◌∙◌, ◌≡◌, ◌≤◌, ◌⊎◌}
 use Rattle.hd_script.proofs.LoadPosition.{Line, news, hnews, vals, hgets, reads, drops, others, frees, collects, Place, Owns, AnyValue, OwnsBy, IsAtPlace, Frame, nowhere, at, left_of, Fits}
 
 module _ (s t : State) (c d : ℕ) (frame : Frame s t c) (apart : d ≡ c → ⊥) where

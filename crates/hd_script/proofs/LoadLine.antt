@@ -1,28 +1,10 @@
 -- The line of a load.
-use Rattle.std.proofs.Common.{[], ◌≡◌, ℕ, ◌+◌, ◌*◌, ◌/◌, ◌<◌, ◌≤◌, List, length, map, get_or, replicate, Option, None, refl, sym, ap, ◌∙◌, arith, nat_cmp}
-use Rattle.std.specs.Prelude.{sum_by}
-use Rattle.std.specs.FinMap.{empty, entries, len, len-empty, len-entries}
-use Rattle.std.proofs.lemmas.Option.{none-some}
-use Rattle.std.proofs.lemmas.List.{get_or-replicate, length-replicate, nil_from_length}
+use Rattle.hd_script.proofs.Basics.{Cmd, Entry, Id, List, None, Object, Option, Slot, State, [], ap, arith, commands_of, count_entries, empty, entries, get_or, get_or-replicate, handle_register_of, handles_are_made_less_freed, is_collect, len, len-empty, len-entries, length, length-replicate, load_numbers, load_text, load_text_of, makes_object, map, nat_cmp, nil_from_length, none-some, part_of, refl, replicate, replicate_cases, size_of, start_is_well_formed, start_of, sum_by, sym, total_size, touched_by, value_returned, ℕ, ◌*◌, ◌+◌, ◌/◌, ◌<◌, ◌∙◌, ◌≡◌, ◌≤◌}
 use Rattle.std.proofs.lemmas.List.Folds.{sum_by-replicate}
-use Rattle.hd_model.specs.declared.data.Id.{Id}
-use Rattle.hd_model.specs.declared.data.Slot.{Slot}
-use Rattle.hd_model.specs.declared.data.Entry.{Entry}
-use Rattle.hd_model.specs.declared.command.Cmd.{Cmd}
-use Rattle.hd_model.specs.State.{Object, State, start_of, handle_register_of, total_size, size_of}
-use Rattle.hd_model.specs.Run.{part_of, commands_of}
-use Rattle.hd_model.specs.Text.{is_collect}
-use Rattle.hd_model.specs.Touched.{touched_by}
-use Rattle.hd_model.specs.Laws.{makes_object, count_entries}
-use Rattle.hd_model.specs.Generated.{load_numbers, load_text, load_text_of, value_returned}
-use Rattle.hd_model.proofs.WellFormedSteps.{start_is_well_formed}
-use Rattle.hd_model.proofs.ReadAfterWrite.{replicate_cases}
-use Rattle.hd_model.proofs.RunCounts.{handles_are_made_less_freed}
 use Rattle.hd_script.specs.Load.{IsLoadRun, collections_in, line_of_rounds, LoadsHaveTheirLine}
-use Rattle.hd_script.proofs.LoadRounds.{rounds_of, rounds_length}
+use Rattle.hd_script.proofs.{LoadRounds.rounds_of, LoadRounds.rounds_length, LoadRun.Totals, LoadRun.totals}
 use Rattle.hd_script.proofs.LoadPosition.{news, Place, left_at, pending, holding, IsAtPlace, nowhere, at, left_of, Fits}
 use Rattle.hd_script.proofs.LoadStep.{bit, written, place}
-use Rattle.hd_script.proofs.LoadRun.{Totals, totals}
 use Rattle.hd_model.proofs.MemberWeights.{sum_ones}
 use Rattle.hd_script.proofs.LoadCount.{by_parts, callers_small, list_of_caller, collects_in, news_in, written_in}
 
@@ -45,8 +27,7 @@ place_first c j m = record {
   owns = tt;
   held = nothing_held c;
   empty = refl;
-  live =
-      λ x h. absurd (none-some x h);
+  live = λ x h. absurd (none-some x h);
 }
 
 abbrev first : ℕ → Place
@@ -104,36 +85,19 @@ module _ (rounds : ℕ) (journal : List Entry) (s : State) (few : rounds ≤ 300
 
   collections : sum_by (λ (e : Entry). bit (is_collect e.cmd)) journal ≡ collections_in rounds
   collections =
-      omega (
-        arith,
-        over_lists (λ x. bit (is_collect x)),
-        collects_in 0 rounds,
-        collects_in 1 rounds,
-        collects_in 2 rounds,
-        collects_in 3 rounds,
-      )
+      let known = over_lists (λ x. bit (is_collect x)) in
+      let also = collects_in 0 rounds in
+      omega (arith, known, also, collects_in 1 rounds, collects_in 2 rounds, collects_in 3 rounds)
 
   news_in_all : sum_by (λ (e : Entry). bit (touched_by e.cmd).makes_object) journal ≡ 4 * rounds
   news_in_all =
-      omega (
-        arith,
-        over_lists (λ x. bit (touched_by x).makes_object),
-        news_in 0 rounds,
-        news_in 1 rounds,
-        news_in 2 rounds,
-        news_in 3 rounds,
-      )
+      let known = over_lists (λ x. bit (touched_by x).makes_object) in
+      omega (arith, known, news_in 0 rounds, news_in 1 rounds, news_in 2 rounds, news_in 3 rounds)
 
   written_in_all : sum_by (λ (e : Entry). written e.cmd) journal ≡ 2 * (rounds * (rounds + 1))
   written_in_all =
-      omega (
-        arith,
-        over_lists written,
-        written_in 0 rounds,
-        written_in 1 rounds,
-        written_in 2 rounds,
-        written_in 3 rounds,
-      )
+      let known = written_in 0 rounds in
+      omega (arith, over_lists written, known, written_in 1 rounds, written_in 2 rounds, written_in 3 rounds)
 
   all : Totals journal (all_first rounds)
   all = totals is.run (all_first rounds) (fits_first rounds few) follow
@@ -143,12 +107,8 @@ module _ (rounds : ℕ) (journal : List Entry) (s : State) (few : rounds ≤ 300
 
   live : len s.handles ≡ 0
   live =
-      omega (
-        arith,
-        handles_are_made_less_freed load_numbers journal s is.run,
-        all.handles,
-        sum_by-replicate holding 4 (first rounds),
-      )
+      let known = handles_are_made_less_freed load_numbers journal s is.run in
+      omega (arith, known, all.handles, sum_by-replicate holding 4 (first rounds))
 
   pub returned : sum_by (λ (e : Entry). value_returned e.reply) journal ≡ 2 * rounds * (rounds + 1)
   returned =
@@ -157,16 +117,11 @@ module _ (rounds : ℕ) (journal : List Entry) (s : State) (few : rounds ≤ 300
 
   sum : sum_by (λ (e : Entry). value_returned e.reply) journal ≡ 4 * (rounds * (rounds + 1) / 2)
   sum =
-      omega (
-        arith,
-        all.returned,
-        over_lists written,
-        written_in 0 rounds,
-        written_in 1 rounds,
-        written_in 2 rounds,
-        written_in 3 rounds,
-        sum_by-replicate pending 4 (first rounds),
-      )
+      let known = written_in 0 rounds in
+      let also = written_in 1 rounds in
+      let more = written_in 2 rounds in
+      let last = sum_by-replicate pending 4 (first rounds) in
+      omega (arith, all.returned, over_lists written, known, also, more, written_in 3 rounds, last)
 
   pub its_line : load_text_of journal s ≡ line_of_rounds rounds
   its_line = λ i. load_text (commands i) (made i) (live i) (collections i) (sum i)

@@ -1,14 +1,6 @@
 -- The position of a caller of a load in its list, and what the state has for the caller there.
-use Rattle.std.proofs.Common.{◌≡◌, ℕ, ◌+◌, ◌*◌, ◌/◌, ◌%◌, ◌^◌, ◌<◌, ◌≤◌, Bool, true, false, cond, List, [], ◌∷◌, ◌++◌, length, get_or, Option, Some, None, IsSome, refl}
-use Rattle.std.specs.Prelude.{flat_map, sum_by}
-use Rattle.std.specs.List.{range_with_len}
-use Rattle.hd_model.specs.declared.data.Id.{Id}
-use Rattle.hd_model.specs.declared.data.Slot.{Slot}
-use Rattle.hd_model.specs.declared.command.Cmd.{Cmd}
+use Rattle.hd_script.proofs.Basics.{Bool, Cmd, Id, IsSome, IsWellFormed, List, None, Option, Slot, Some, State, [], collection_after, cond, false, flat_map, get_or, handle_at, handle_register_of, length, load_numbers, make_of_round, object_by_id, range_with_len, refl, register_of, round_of, sum_by, total_size, true, ℕ, ◌%◌, ◌*◌, ◌++◌, ◌+◌, ◌/◌, ◌<◌, ◌^◌, ◌∷◌, ◌≡◌, ◌≤◌}
 use Rattle.hd_model.specs.declared.command.Cmd.TheVariants as cmd
-use Rattle.hd_model.specs.State.{State, register_of, handle_register_of, object_by_id, handle_at, total_size}
-use Rattle.hd_model.specs.WellFormed.{IsWellFormed}
-use Rattle.hd_model.specs.Generated.{collection_after, make_of_round, round_of, load_numbers}
 
 -- the next command of a caller: a `new`, which begins a round, one of the seven others of a round, or the
 -- collection after it
@@ -151,8 +143,7 @@ pub record IsAtPlace (s : State) (c : ℕ) (p : Place) : Type 0 where
 pub record Frame (s t : State) (c : ℕ) : Type 0 where
   pub registers : (d : ℕ) → (d ≡ c → ⊥) → register_of t d 0 ≡ register_of s d 0
   pub handle_registers : (d : ℕ) → (d ≡ c → ⊥) → handle_register_of t d 0 ≡ handle_register_of s d 0
-  pub values :
-      (d : ℕ) (id : Id) → (d ≡ c → ⊥) → register_of s d 0 ≡ Some id → id.0 / 2 ^ 32 ≡ d
+  pub values : (d : ℕ) (id : Id) → (d ≡ c → ⊥) → register_of s d 0 ≡ Some id → id.0 / 2 ^ 32 ≡ d
       → (object_by_id t id).value ≡ (object_by_id s id).value
   pub live : (x : Slot) → (handle_register_of s c 0 ≡ Some x → ⊥) → IsSome (handle_at s x)
       → IsSome (handle_at t x)
@@ -173,6 +164,5 @@ pub record Fits (s : State) (places : List Place) : Type 0 where
   pub well : IsWellFormed load_numbers s
   pub room : total_size s + 10 * sum_by left_of places ≤ 120000
   pub at_place : (c : ℕ) → c < 4 → IsAtPlace s c (at places c)
-  pub apart :
-      (b c : ℕ) → b < 4 → c < 4 → (b ≡ c → ⊥) → (x : Slot) → (at places b).held ≡ Some x
+  pub apart : (b c : ℕ) → b < 4 → c < 4 → (b ≡ c → ⊥) → (x : Slot) → (at places b).held ≡ Some x
       → (at places c).held ≡ Some x → ⊥

@@ -1,19 +1,8 @@
 -- The lists of a generated script, round by round.
-use Rattle.std.proofs.Common.{◌≡◌, ℕ, suc, zero, ◌+◌, ◌*◌, ◌/◌, ◌%◌, ◌<◌, ◌≤◌, false, eqb, List, [], ◌∷◌, ◌++◌, length, length-append, map, All, refl, sym, ap, subst, ◌∙◌, ◌^◌, arith, Vec}
-use Rattle.std.specs.Prelude.{flat_map}
-use Rattle.std.specs.List.{range_with_len}
-use Rattle.std.specs.declared.alloc.Global.{Global}
-use Rattle.std.proofs.lemmas.Bool.{cond_both, eqb-true, eqb-false}
-use Rattle.std.proofs.lemmas.List.{flat_map_more, map_push}
-use Rattle.std.proofs.lemmas.List.Elements.{All-append, All-cons, All-nil, All-from_recursion, recursion_from_All}
-use Rattle.std.proofs.lemmas.List.FromFn.{map-range_with_len_more}
-use Rattle.hd_model.specs.declared.command.Cmd.{Cmd}
+use Rattle.hd_script.proofs.Basics.{All, All-append, All-cons, All-from_recursion, All-nil, AreLists, Cmd, Global, IsValid, IsValidMake, List, Vec, [], ap, arith, collection_after, cond_both, contents, eqb, eqb-false, eqb-true, false, flat_map, flat_map_more, length, length-append, make_of_round, makes_in_turn, map, map-range_with_len_more, map_push, range_with_len, recursion_from_All, refl, round_of, subst, suc, sym, zero, ℕ, ◌%◌, ◌*◌, ◌++◌, ◌+◌, ◌/◌, ◌<◌, ◌^◌, ◌∙◌, ◌∷◌, ◌≡◌, ◌≤◌}
+use Rattle.hd_model.specs.Generated.{generated_list, generated_lists}
 use Rattle.hd_model.specs.declared.data.Make.TheVariants as make
 use Rattle.hd_model.specs.declared.command.Cmd.TheVariants as cmd
-use Rattle.hd_model.specs.Valid.{IsValid, IsValidMake}
-use Rattle.hd_model.specs.Grammar.{AreLists}
-use Rattle.hd_model.specs.Generated.{round_of, collection_after, makes_in_turn, make_of_round, generated_list, generated_lists}
-use Rattle.hd_script.specs.Lists.{contents}
 
 range_push : (a n : ℕ) → range_with_len a (suc n) ≡ range_with_len a n ++ (a + n) ∷ []
 range_push a zero = let same : a ≡ a + 0 = omega arith in ap (λ (m : ℕ). m ∷ []) same
@@ -60,14 +49,8 @@ rounds_length caller =
     by_rounds (λ rounds. length (rounds_of caller rounds) ≡ 8 * rounds + rounds / 16) refl (λ done before.
     let eight : length (round_of caller (done + 1)) ≡ 8 + length (collection_after (done + 1)) =
     omega arith in
-    omega (
-      arith,
-      ap length (round_more caller done),
-      length-append (rounds_of caller done) (round_of caller (done + 1)),
-      before,
-      collected done,
-      eight,
-    ))
+    (let known = length-append (rounds_of caller done) (round_of caller (done + 1)) in
+    omega (arith, ap length (round_more caller done), known, before, collected done, eight)))
 
 -- ---- they are valid
 
@@ -125,16 +108,8 @@ are_lists rounds few =
       most = omega arith;
       valid = All-from_recursion P (generated_lists rounds) (
         valid_rounds 0 rounds few,
-        (
-          valid_rounds 1 rounds few,
-          (valid_rounds 2 rounds few, (valid_rounds 3 rounds few, tt)),
-        ),
+        (valid_rounds 1 rounds few, (valid_rounds 2 rounds few, (valid_rounds 3 rounds few, tt))),
       );
-      total = omega (
-        arith,
-        rounds_length 0 rounds,
-        rounds_length 1 rounds,
-        rounds_length 2 rounds,
-        rounds_length 3 rounds,
-      );
+      total = (let known = rounds_length 0 rounds in
+          omega (arith, known, rounds_length 1 rounds, rounds_length 2 rounds, rounds_length 3 rounds));
     }

@@ -1,21 +1,5 @@
 -- The numbers at the end of a run of a load, from any state that it reaches.
-use Rattle.std.proofs.Common.{◌≡◌, ℕ, suc, zero, ◌+◌, ◌*◌, ◌<◌, ◌≤◌, eqb, List, [], ◌∷◌, length, set, Option, Some, None, refl, sym, ap, ◌∙◌, subst, ⊎_elim, arith}
-use Rattle.std.specs.Prelude.{sum_by}
-use Rattle.std.proofs.lemmas.Bool.{cases_eq, cond-true, cond-false, eq-eqb, ne_eqb}
-use Rattle.std.proofs.lemmas.List.{get_or-set_same, get_or-set_other}
-use Rattle.std.proofs.lemmas.Option.{none-some}
-use Rattle.std.proofs.lemmas.List.Sums.{sum_by-cons, sum_by-set, get_or-le-sum_by}
-use Rattle.hd_model.specs.declared.data.Slot.{Slot}
-use Rattle.hd_model.specs.declared.data.Entry.{Entry}
-use Rattle.hd_model.specs.declared.command.Cmd.{Cmd}
-use Rattle.hd_model.specs.State.{State, total_size}
-use Rattle.hd_model.specs.WellFormed.{IsWellFormed}
-use Rattle.hd_model.specs.Step.{StepOf, Step}
-use Rattle.hd_model.specs.Run.{Chain, stay, link, part_of, commands_of}
-use Rattle.hd_model.specs.Touched.{touched_by}
-use Rattle.hd_model.specs.Laws.{makes_object, makes_handle, frees_handle, count_entries}
-use Rattle.hd_model.specs.Generated.{value_returned, load_numbers}
-use Rattle.hd_model.proofs.WellFormedSteps.{step_keeps}
+use Rattle.hd_script.proofs.Basics.{Chain, Cmd, Entry, IsWellFormed, List, None, Option, Slot, Some, State, Step, StepOf, [], ap, arith, cases_eq, commands_of, cond-false, cond-true, count_entries, eq-eqb, eqb, frees_handle, get_or-le-sum_by, get_or-set_other, get_or-set_same, length, link, load_numbers, makes_handle, makes_object, ne_eqb, none-some, part_of, refl, set, stay, step_keeps, subst, suc, sum_by, sum_by-cons, sum_by-set, sym, total_size, touched_by, value_returned, zero, ℕ, ⊎_elim, ◌*◌, ◌+◌, ◌<◌, ◌∙◌, ◌∷◌, ◌≡◌, ◌≤◌}
 use Rattle.hd_script.proofs.LoadPosition.{Line, news, hnews, vals, hgets, reads, drops, others, frees, collects, Place, left_by, left_at, pending, one_if_some, holding, IsAtPlace, nowhere, at, left_of, Fits}
 use Rattle.hd_script.proofs.LoadFrame.{fits_moved}
 use Rattle.hd_script.proofs.LoadStep.{bit, written, place, Does, does_new, does_hnew, does_val, does_hget, does_read, does_drop, does_other, does_free, does_collect}
@@ -31,9 +15,9 @@ same_tail x y xs ys zs e g = cc
 module _ (s t : State) (e : Entry) (c : ℕ) (is : e.caller ≡ c) (small : c < 4)
     (well : IsWellFormed load_numbers s) (rest : List Cmd) (step : StepOf load_numbers s e t e.cmd) where
   -- where the next command is x
-  by_command : (p : Place) (x : Cmd) (xs : List Cmd) → x ∷ xs ≡ e.cmd ∷ rest
+  by_command : {p : Place} {x : Cmd} {xs : List Cmd} → x ∷ xs ≡ e.cmd ∷ rest
       → (StepOf load_numbers s e t x → Does s t c p x e.reply) → Does s t c p e.cmd e.reply
-  by_command p x xs next does =
+  by_command {p} {x} {xs} next does =
       let same : x ≡ e.cmd = same_head x e.cmd xs rest next in
       subst (λ (y : Cmd). Does s t c p y e.reply) same
       (does (subst (StepOf load_numbers s e t) (sym same) step))
@@ -43,32 +27,24 @@ module _ (s t : State) (e : Entry) (c : ℕ) (is : e.caller ≡ c) (small : c < 
       → Does s t c (place line j m h) e.cmd e.reply
   by_line news j zero h at_place room next = absurd cc
   by_line news j (suc m) None at_place room next =
-      by_command _ _ _ next (does_new s c small well j m t e is at_place room)
+      by_command next (does_new s c small well j m t e is at_place room)
   by_line news j (suc m) (Some slot) at_place room next = absurd (none-some slot (sym at_place.empty))
-  by_line hnews j m None at_place room next =
-      by_command _ _ _ next (does_hnew s c small well j m t e is at_place)
+  by_line hnews j m None at_place room next = by_command next (does_hnew s c small well j m t e is at_place)
   by_line hnews j m (Some slot) at_place room next = absurd (none-some slot (sym at_place.empty))
-  by_line vals j m h at_place room next =
-      by_command _ _ _ next (does_val s c small well j m t e h is at_place)
-  by_line hgets j m h at_place room next =
-      by_command _ _ _ next (does_hget s c small well j m t e h is at_place)
-  by_line reads j m h at_place room next =
-      by_command _ _ _ next (does_read s c small well j m t e h is at_place)
-  by_line drops j m h at_place room next =
-      by_command _ _ _ next (does_drop s c small well j m t e h is at_place)
-  by_line others j m h at_place room next =
-      by_command _ _ _ next (does_other s c small well j m t e h is at_place)
-  by_line frees j m h at_place room next =
-      by_command _ _ _ next (does_free s c small well j m t e h is at_place)
+  by_line vals j m h at_place room next = by_command next (does_val s c small well j m h t e is at_place)
+  by_line hgets j m h at_place room next = by_command next (does_hget s c small well j m h t e is at_place)
+  by_line reads j m h at_place room next = by_command next (does_read s c small well j m h t e is at_place)
+  by_line drops j m h at_place room next = by_command next (does_drop s c small well j m h t e is at_place)
+  by_line others j m h at_place room next = by_command next (does_other s c small well j m h t e is at_place)
+  by_line frees j m h at_place room next = by_command next (does_free s c small well j m h t e is at_place)
   by_line collects j m None at_place room next =
-      by_command _ _ _ next (does_collect s c small well j m t e is at_place)
+      by_command next (does_collect s c small well j m t e is at_place)
   by_line collects j m (Some slot) at_place room next = absurd (none-some slot (sym at_place.empty))
 
 -- ---- at the end
 
 ended : (s : State) (c : ℕ) (line : Line) (j m : ℕ) (h : Option Slot) → IsAtPlace s c (place line j m h)
-    → left_by c line j m ≡ []
-    → (pending (place line j m h) ≡ 0) × (holding (place line j m h) ≡ 0)
+    → left_by c line j m ≡ [] → (pending (place line j m h) ≡ 0) × (holding (place line j m h) ≡ 0)
 ended s c news j m h at_place none = (refl, ap one_if_some at_place.empty)
 ended s c hnews j m h at_place none = absurd cc
 ended s c vals j m h at_place none = absurd cc
@@ -83,12 +59,8 @@ sum_none : (f : Place → ℕ) (places : List Place) → ((i : ℕ) → i < leng
     → sum_by f places ≡ 0
 sum_none f [] zero_each = refl
 sum_none f (p ∷ places) zero_each =
-    omega (
-      arith,
-      sum_by-cons f p places,
-      zero_each 0 (omega arith),
-      sum_none f places (λ i h. zero_each (suc i) (omega arith)),
-    )
+    let known = sum_none f places (λ i h. zero_each (suc i) (omega arith)) in
+    omega (arith, sum_by-cons f p places, zero_each 0 (omega arith), known)
 
 -- ---- the whole way
 
@@ -115,8 +87,7 @@ other_first e es d apart =
     (ne_eqb e.caller d (λ same. apart (sym same))))
 
 module _ (s t : State) (e : Entry) (es : List Entry) (places : List Place) (fits : Fits s places)
-    (follow : Follow (e ∷ es) places)
-    (step : Step load_numbers s e t) where
+    (follow : Follow (e ∷ es) places) (step : Step load_numbers s e t) where
   within : e.caller < length places
   within = omega (arith, fits.four, step.caller)
 
@@ -125,8 +96,7 @@ module _ (s t : State) (e : Entry) (es : List Entry) (places : List Place) (fits
   goes =
       let p = at places e.caller in
       by_line s t e e.caller refl step.caller fits.well (commands_of (part_of es e.caller)) step.does p.line
-      p.round p.left p.held
-      (fits.at_place e.caller step.caller)
+      p.round p.left p.held (fits.at_place e.caller step.caller)
       (omega (arith, fits.room, get_or-le-sum_by left_of places e.caller nowhere within))
       (follow e.caller step.caller ∙ own_first e es)
 
@@ -137,8 +107,7 @@ module _ (s t : State) (e : Entry) (es : List Entry) (places : List Place) (fits
   unfolding after
   fits_after =
       fits_moved s t places e.caller goes.next fits step.caller goes.frame
-      (step_keeps load_numbers s t e fits.well step)
-      goes.at_place goes.room goes.fresh
+      (step_keeps load_numbers s t e fits.well step) goes.at_place goes.room goes.fresh
 
   follow_after : Follow es after
   unfolding after
@@ -158,29 +127,17 @@ module _ (s t : State) (e : Entry) (es : List Entry) (places : List Place) (fits
   more : Totals es after → Totals (e ∷ es) places
   unfolding after
   more rest = record {
-    returned = omega (
-      arith,
-      rest.returned,
-      goes.returned,
-      sum_by-cons (λ (x : Entry). value_returned x.reply) e es,
-      sum_by-cons (λ (x : Entry). written x.cmd) e es,
-      sum_by-set pending places e.caller goes.next nowhere within,
-    );
-    made = omega (
-      arith,
-      rest.made,
-      ap bit goes.made,
-      sum_by-cons (λ (x : Entry). bit (makes_object x.cmd x.reply)) e es,
-      sum_by-cons (λ (x : Entry). bit (touched_by x.cmd).makes_object) e es,
-    );
-    handles = omega (
-      arith,
-      rest.handles,
-      goes.handles,
-      sum_by-cons (λ (x : Entry). bit (makes_handle x.cmd x.reply)) e es,
-      sum_by-cons (λ (x : Entry). bit (frees_handle x.cmd x.reply)) e es,
-      sum_by-set holding places e.caller goes.next nowhere within,
-    );
+    returned = (let known = sum_by-cons (λ (x : Entry). value_returned x.reply) e es in
+        let also = sum_by-cons (λ (x : Entry). written x.cmd) e es in
+        let more = sum_by-set pending places e.caller goes.next nowhere within in
+        omega (arith, rest.returned, goes.returned, known, also, more));
+    made = (let known = sum_by-cons (λ (x : Entry). bit (makes_object x.cmd x.reply)) e es in
+        let also = sum_by-cons (λ (x : Entry). bit (touched_by x.cmd).makes_object) e es in
+        omega (arith, rest.made, ap bit goes.made, known, also));
+    handles = (let known = sum_by-cons (λ (x : Entry). bit (makes_handle x.cmd x.reply)) e es in
+        let also = sum_by-cons (λ (x : Entry). bit (frees_handle x.cmd x.reply)) e es in
+        let more = sum_by-set holding places e.caller goes.next nowhere within in
+        omega (arith, rest.handles, goes.handles, known, also, more));
   }
 
 -- from any positions of the callers, a run of the commands that are left ends with these numbers

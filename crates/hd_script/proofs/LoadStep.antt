@@ -1,40 +1,14 @@
 -- What the step of each command of a load does.
-use Rattle.std.proofs.Common.{◌≡◌, ℕ, suc, ◌+◌, ◌*◌, ◌/◌, ◌%◌, ◌^◌, ◌<◌, ◌≤◌, ◌⊎◌, Bool, true, false, cond, eqb, ltb, List, [], ◌∷◌, ◌++◌, length, get_or, set, Option, Some, None, is_some, IsSome, refl, sym, ap, ◌∙◌, subst, inl, inr, ⊎_elim, arith}
-use Rattle.std.specs.Prelude.{unwrap_or, option_map, Contains}
-use Rattle.std.specs.FinMap.{get, insert}
-use Rattle.std.proofs.lemmas.Bool.{ltb-true, false≢true}
-use Rattle.std.proofs.lemmas.List.{get_or-set_same, get_or-set_other, length-replicate}
-use Rattle.std.proofs.lemmas.Option.{none-some, same_Some}
-use Rattle.hd_model.specs.declared.data.Id.{Id}
-use Rattle.hd_model.specs.declared.data.Slot.{Slot}
-use Rattle.hd_model.specs.declared.data.Entry.{Entry}
-use Rattle.hd_model.specs.declared.data.Grown.{Grown}
-use Rattle.hd_model.specs.declared.data.Refusal.{Refusal}
-use Rattle.hd_model.specs.declared.data.Refusal.TheVariants as refusal
-use Rattle.hd_model.specs.declared.data.Reply.{Reply}
-use Rattle.hd_model.specs.declared.data.Reply.TheVariants as reply
-use Rattle.hd_model.specs.declared.command.Cmd.{Cmd}
-use Rattle.hd_model.specs.declared.command.Cmd.TheVariants as cmd
-use Rattle.hd_model.specs.Kinds.{kind_of}
-use Rattle.hd_model.specs.State.{Object, State, register_of, handle_register_of, last_serial, object_by_id, handle_at, total_size, size_of, identity_of, with_register, with_handle_register, with_object, with_handle, without_handle, with_serial}
-use Rattle.hd_model.specs.WellFormed.{IsWellFormed}
+use Rattle.hd_script.proofs.Basics.{Bool, Cmd, Contains, DoesCollect, Entry, FindsTableFull, Id, IsOutcome, IsSome, IsWellFormed, List, MakesHandle, None, Object, Option, Slot, Some, State, StepOf, [], ap, arith, cell_here, cond, eqb, false, false≢true, frees_handle, fresh, get, get_beside, get_inserted, get_left, get_or, get_or-set_other, get_or-set_same, given_vacant, handle_at, handle_register_of, has, identity_of, inl, inr, insert, is_some, last_serial, length, length-replicate, load_numbers, ltb, ltb-true, make_of_round, makes_handle, makes_object, none-some, object_by_id, option_map, refl, register_of, same_Some, set, size_of, some_at, still_some, subst, suc, sym, total_size, touched_by, true, unwrap_or, value_returned, with_growth, with_handle, with_handle_register, with_made, with_object, with_register, with_serial, without_handle, ℕ, ⊎_elim, ◌%◌, ◌*◌, ◌++◌, ◌+◌, ◌/◌, ◌<◌, ◌^◌, ◌∙◌, ◌∷◌, ◌≡◌, ◌≤◌, ◌⊎◌}
+use Rattle.hd_model.specs.{declared.data.Grown.Grown, declared.data.Refusal.Refusal, declared.data.Reply.Reply, Kinds.kind_of, Scene.scene_of, Reach.named, Collect.cleared, Collect.survivor}
 use Rattle.hd_model.specs.Command.{Outcome, loaded, fresh_object, new_object, set_value, read_value, clear_register, get_target, free_handle, made_handle}
-use Rattle.hd_model.specs.Step.{IsOutcome, with_growth, with_made, MakesHandle, FindsTableFull, DoesCollect, StepOf}
-use Rattle.hd_model.specs.Scene.{scene_of}
-use Rattle.hd_model.specs.Reach.{named}
-use Rattle.hd_model.specs.Collect.{cleared, survivor}
-use Rattle.hd_model.specs.Touched.{touched_by}
-use Rattle.hd_model.specs.Laws.{makes_object, makes_handle, frees_handle}
-use Rattle.hd_model.specs.Generated.{make_of_round, value_returned, load_numbers}
-use Rattle.hd_model.proofs.Effects.{growth_is}
-use Rattle.hd_model.proofs.WholeScenes.{register_named, whole_scene}
-use Rattle.hd_model.proofs.SceneCollection.{keeps_root, object_after}
+use Rattle.hd_model.proofs.{Effects.growth_is, WholeScenes.register_named, WholeScenes.whole_scene, SceneCollection.keeps_root, SceneCollection.object_after}
 use Rattle.hd_model.proofs.Outcomes.{test_cases, on_object_cases, on_handle_cases}
-use Rattle.hd_model.proofs.WellFormedSteps.{has}
-use Rattle.hd_model.proofs.RunCounts.{fresh, given_vacant}
 use Rattle.hd_model.proofs.Sums.{share, sum-insert, sum-le}
-use Rattle.hd_model.proofs.ReadAfterWrite.{cell_here, get_inserted, get_beside, get_left, still_some}
 use Rattle.hd_script.proofs.LoadPosition.{Line, news, hnews, vals, hgets, reads, drops, others, frees, collects, Place, rounds_from, left_at, after_round, left_after_round, pending, pending_by, one_if_some, holding, Owns, IsAtPlace, Frame}
+use Rattle.hd_model.specs.declared.data.Refusal.TheVariants as refusal
+use Rattle.hd_model.specs.declared.data.Reply.TheVariants as reply
+use Rattle.hd_model.specs.declared.command.Cmd.TheVariants as cmd
 
 -- 1 for a test that passes
 abbrev pub bit : Bool → ℕ
@@ -138,21 +112,16 @@ carry s t e c p x w does o =
     subst (λ (r : Reply). Does s t c p x r) (sym o.reply)
     (subst (λ (u : State). Does s u c p x w.reply) (sym o.after) does)
 
-some_object : (s : State) (id : Id) → IsSome (get s.objects id.0)
-    → get s.objects id.0 ≡ Some (object_by_id s id)
-some_object s id there = by (get s.objects id.0) there
-  where
-    by : (o : Option (Object Id)) → IsSome o
-        → o ≡ Some (unwrap_or o (record { fields = []; value = 0; generation = 0; registered = false }))
-    by None h = absurd (false≢true h)
-    by (Some object) h = refl
-
 module _ (s : State) (c : ℕ) (small : c < 4) (well : IsWellFormed load_numbers s) (j m : ℕ) where
+  -- from a line of the round, the command x leads its caller on
+  abbrev LeadsOn : Line → Option Slot → Cmd → Type 0
+  LeadsOn line h x = (t : State) (e : Entry) → e.caller ≡ c → IsAtPlace s c (place line j m h)
+      → StepOf load_numbers s e t x → Does s t c (place line j m h) x e.reply
+
   -- `new`: r0 references a new object
   made_new : IsAtPlace s c (place news j (suc m) None) → last_serial s c + 1 < 2 ^ 32 →
       (let id = identity_of c (last_serial s c + 1) in
-      let made = with_serial (with_object s id (fresh_object ((c + j) % 8) false)) c
-      (last_serial s c + 1) in
+      let made = with_serial (with_object s id (fresh_object ((c + j) % 8) false)) c (last_serial s c + 1) in
       Does s (with_register made c 0 (Some id)) c (place news j (suc m) None) (cmd.New 0 ((c + j) % 8) false)
       (reply.Object id))
   made_new at_place serial =
@@ -187,8 +156,7 @@ module _ (s : State) (c : ℕ) (small : c < 4) (well : IsWellFormed load_numbers
       length_replicate k = ap (λ (n : ℕ). n + 3) (length-replicate k None)
 
   pub does_new : (t : State) (e : Entry) → e.caller ≡ c → IsAtPlace s c (place news j (suc m) None)
-      → total_size s + 10 * suc m ≤ 120000 →
-      StepOf load_numbers s e t (cmd.New 0 ((c + j) % 8) false)
+      → total_size s + 10 * suc m ≤ 120000 → StepOf load_numbers s e t (cmd.New 0 ((c + j) % 8) false)
       → Does s t c (place news j (suc m) None) (cmd.New 0 ((c + j) % 8) false) e.reply
   does_new t e is at_place room step =
       let x = cmd.New 0 ((c + j) % 8) false in
@@ -253,8 +221,7 @@ module _ (s : State) (c : ℕ) (small : c < 4) (well : IsWellFormed load_numbers
           held = handle_register_here s c small well (Some slot);
           empty = tt;
           live = λ x h. subst (λ (y : Slot). IsSome (get (insert s.handles slot.0 handle) y.0))
-              (same_Some slot x h)
-              (ap is_some (get_inserted s.handles slot.0 handle));
+              (same_Some slot x h) (ap is_some (get_inserted s.handles slot.0 handle));
         };
         room = omega arith;
         fresh = λ y h. inr (subst (λ (x : Slot). handle_at s x ≡ None) (same_Some slot y h) vacant);
@@ -263,9 +230,7 @@ module _ (s : State) (c : ℕ) (small : c < 4) (well : IsWellFormed load_numbers
         handles = refl;
       }
 
-  pub does_hnew : (t : State) (e : Entry) → e.caller ≡ c → IsAtPlace s c (place hnews j m None) →
-      StepOf load_numbers s e t (cmd.HNew 0 (make_of_round j) 0)
-      → Does s t c (place hnews j m None) (cmd.HNew 0 (make_of_round j) 0) e.reply
+  pub does_hnew : LeadsOn hnews None (cmd.HNew 0 (make_of_round j) 0)
   does_hnew t e is at_place step =
       let x = cmd.HNew 0 (make_of_round j) 0 in
       let p = place hnews j m None in
@@ -293,7 +258,7 @@ module _ (s : State) (c : ℕ) (small : c < 4) (well : IsWellFormed load_numbers
       let object : Object Id = record (object_by_id s id) { value = j } in
       let cells = sum-insert size_of s.objects id.0 object in
       let before : share size_of (get s.objects id.0) ≡ size_of object =
-      ap (share size_of) (some_object s id there) in
+      ap (share size_of) (some_at s id there) in
       record {
         next = place hgets j m h;
         rest = refl;
@@ -324,9 +289,8 @@ module _ (s : State) (c : ℕ) (small : c < 4) (well : IsWellFormed load_numbers
         handles = omega arith;
       }
 
-  pub does_val : (t : State) (e : Entry) (h : Option Slot) → e.caller ≡ c → IsAtPlace s c (place vals j m h) →
-      StepOf load_numbers s e t (cmd.Val 0 j) → Does s t c (place vals j m h) (cmd.Val 0 j) e.reply
-  does_val t e h is at_place step =
+  pub does_val : (h : Option Slot) → LeadsOn vals h (cmd.Val 0 j)
+  does_val h t e is at_place step =
       let p = place vals j m h in
       let outcome : IsOutcome e (set_value s c 0 j) t =
       subst (λ (k : ℕ). IsOutcome e (set_value s k 0 j) t) is step in
@@ -340,18 +304,15 @@ module _ (s : State) (c : ℕ) (small : c < 4) (well : IsWellFormed load_numbers
       outcome
 
   -- `hget`: r1 gets the target, or nothing where h0 is empty; r0 stays
-  pub does_hget : (t : State) (e : Entry) (h : Option Slot) → e.caller ≡ c
-      → IsAtPlace s c (place hgets j m h) →
-      StepOf load_numbers s e t (cmd.HGet 1 0) → Does s t c (place hgets j m h) (cmd.HGet 1 0) e.reply
-  does_hget t e h is at_place step =
+  pub does_hget : (h : Option Slot) → LeadsOn hgets h (cmd.HGet 1 0)
+  does_hget h t e is at_place step =
       let p = place hgets j m h in
       let outcome : IsOutcome e (get_target s c 1 0) t =
       subst (λ (k : ℕ). IsOutcome e (get_target s k 1 0) t) is step in
       on_handle_cases (λ w. IsOutcome e w t → Does s t c p (cmd.HGet 1 0) e.reply) s c 0 _
       (λ empty. carry s t e c p (cmd.HGet 1 0) _ (stays refusal.EmptyRegister))
       (λ slot has gone. carry s t e c p (cmd.HGet 1 0) _ (stays refusal.NotLive))
-      (λ slot handle has live. carry s t e c p (cmd.HGet 1 0) _ (gets handle.target))
-      outcome
+      (λ slot handle has live. carry s t e c p (cmd.HGet 1 0) _ (gets handle.target)) outcome
     where
       stays : (why : Refusal) → Does s s c (place hgets j m h) (cmd.HGet 1 0) (reply.Refused why)
       stays why = goes_to hgets reads h refl (frame_same s c)
@@ -372,10 +333,8 @@ module _ (s : State) (c : ℕ) (small : c < 4) (well : IsWellFormed load_numbers
           }) refl (omega (arith, none_returned v)) refl refl
 
   -- `read`: the number of the round is read
-  pub does_read : (t : State) (e : Entry) (h : Option Slot) → e.caller ≡ c
-      → IsAtPlace s c (place reads j m h) →
-      StepOf load_numbers s e t (cmd.Read 0) → Does s t c (place reads j m h) (cmd.Read 0) e.reply
-  does_read t e h is at_place step =
+  pub does_read : (h : Option Slot) → LeadsOn reads h (cmd.Read 0)
+  does_read h t e is at_place step =
       let p = place reads j m h in
       let outcome : IsOutcome e (read_value s c 0) t =
       subst (λ (k : ℕ). IsOutcome e (read_value s k 0) t) is step in
@@ -395,19 +354,15 @@ module _ (s : State) (c : ℕ) (small : c < 4) (well : IsWellFormed load_numbers
           (omega (arith, value)) refl refl
 
   -- `drop r0` and `drop r1`
-  pub does_drop : (t : State) (e : Entry) (h : Option Slot) → e.caller ≡ c
-      → IsAtPlace s c (place drops j m h) →
-      StepOf load_numbers s e t (cmd.Clear 0) → Does s t c (place drops j m h) (cmd.Clear 0) e.reply
-  does_drop t e h is at_place step =
+  pub does_drop : (h : Option Slot) → LeadsOn drops h (cmd.Clear 0)
+  does_drop h t e is at_place step =
       carry s t e c (place drops j m h) (cmd.Clear 0) (clear_register s c 0)
       (goes_to drops others h refl (frame_register s c 0 None)
       (record { owns = tt; held = at_place.held; empty = tt; live = at_place.live }) refl refl refl refl)
       (subst (λ (k : ℕ). IsOutcome e (clear_register s k 0) t) is step)
 
-  pub does_other : (t : State) (e : Entry) (h : Option Slot) → e.caller ≡ c
-      → IsAtPlace s c (place others j m h) →
-      StepOf load_numbers s e t (cmd.Clear 1) → Does s t c (place others j m h) (cmd.Clear 1) e.reply
-  does_other t e h is at_place step =
+  pub does_other : (h : Option Slot) → LeadsOn others h (cmd.Clear 1)
+  does_other h t e is at_place step =
       carry s t e c (place others j m h) (cmd.Clear 1) (clear_register s c 1)
       (goes_to others frees h refl (frame_register s c 1 None)
       (record { owns = tt; held = at_place.held; empty = tt; live = at_place.live }) refl refl refl refl)
@@ -427,26 +382,15 @@ module _ (s : State) (c : ℕ) (small : c < 4) (well : IsWellFormed load_numbers
   after_pending false = refl
 
   place_after : (u : State) (b : Bool) → handle_register_of u c 0 ≡ None → IsAtPlace u c (after_round b j m)
-  place_after u true none = record {
-    owns = tt;
-    held = none;
-    empty = refl;
-    live =
-        λ x h. absurd (none-some x h);
-  }
-  place_after u false none = record {
-    owns = tt;
-    held = none;
-    empty = refl;
-    live =
-        λ x h. absurd (none-some x h);
-  }
+  place_after u true none =
+      record { owns = tt; held = none; empty = refl; live = λ x h. absurd (none-some x h) }
+  place_after u false none =
+      record { owns = tt; held = none; empty = refl; live = λ x h. absurd (none-some x h) }
 
   goes_on : (t : State) (h : Option Slot) (r : Reply) (b : Bool) → eqb (j % 16) 0 ≡ b → Frame s t c
       → handle_register_of t c 0 ≡ None → total_size t ≤ total_size s
       → value_returned r ≡ 0 → bit (makes_handle (cmd.HFree 0) r) + one_if_some h
-      ≡ bit (frees_handle (cmd.HFree 0) r)
-      → Does s t c (place frees j m h) (cmd.HFree 0) r
+      ≡ bit (frees_handle (cmd.HFree 0) r) → Does s t c (place frees j m h) (cmd.HFree 0) r
   goes_on t h r b is frame none room returned handles = record {
     next = after_round b j m;
     rest = ap (λ (rest : List Cmd). cmd.HFree 0 ∷ rest)
@@ -461,10 +405,8 @@ module _ (s : State) (c : ℕ) (small : c < 4) (well : IsWellFormed load_numbers
     handles = omega (arith, handles, ap one_if_some (after_held b));
   }
 
-  pub does_free : (t : State) (e : Entry) (h : Option Slot) → e.caller ≡ c
-      → IsAtPlace s c (place frees j m h) →
-      StepOf load_numbers s e t (cmd.HFree 0) → Does s t c (place frees j m h) (cmd.HFree 0) e.reply
-  does_free t e h is at_place step =
+  pub does_free : (h : Option Slot) → LeadsOn frees h (cmd.HFree 0)
+  does_free h t e is at_place step =
       let p = place frees j m h in
       let outcome : IsOutcome e (free_handle s c 0) t =
       subst (λ (k : ℕ). IsOutcome e (free_handle s k 0) t) is step in
@@ -474,8 +416,7 @@ module _ (s : State) (c : ℕ) (small : c < 4) (well : IsWellFormed load_numbers
       (omega (arith, ap one_if_some (sym at_place.held ∙ empty)))))
       (λ slot has gone. absurd (false≢true
       (sym (ap is_some gone) ∙ at_place.live slot (sym at_place.held ∙ has))))
-      (λ slot handle has live. carry s t e c p (cmd.HFree 0) _ (freed slot has))
-      outcome
+      (λ slot handle has live. carry s t e c p (cmd.HFree 0) _ (freed slot has)) outcome
     where
       freed : (slot : Slot) → handle_register_of s c 0 ≡ Some slot
           → Does s (with_handle_register (without_handle s slot) c 0 None) c (place frees j m h)
@@ -495,16 +436,14 @@ module _ (s : State) (c : ℕ) (small : c < 4) (well : IsWellFormed load_numbers
           (omega (arith, ap one_if_some (sym at_place.held ∙ has)))
 
   -- `collect`: what registers reference is kept with its value, no live slot is freed, and no object grows
-  pub does_collect : (t : State) (e : Entry) → e.caller ≡ c → IsAtPlace s c (place collects j m None) →
-      StepOf load_numbers s e t (cmd.Collect (j % 3))
-      → Does s t c (place collects j m None) (cmd.Collect (j % 3)) e.reply
+  pub does_collect : LeadsOn collects None (cmd.Collect (j % 3))
   does_collect t e is at_place did =
       let scene = did.collects.scene in
       let same_rows : (d : ℕ) → handle_register_of t d 0 ≡ handle_register_of s d 0 =
       λ d. ap (λ (rows : List (List (Option Slot))). get_or (get_or rows d []) 0 None)
       did.collects.handle_registers in
       let live : (x : Slot) → IsSome (handle_at s x) → IsSome (handle_at t x) =
-      λ x l. subst IsSome (sym (scene.handles x.0))
+      λ x l. subst IsSome (sym (did.collects.handles x.0))
       (mapped_some (cleared scene.reach scene.kept) (get s.handles x.0) l) in
       subst (λ (r : Reply). Does s t c (place collects j m None) (cmd.Collect (j % 3)) r) (sym did.reply)
       (record {
@@ -522,8 +461,7 @@ module _ (s : State) (c : ℕ) (small : c < 4) (well : IsWellFormed load_numbers
           owns = tt;
           held = same_rows c ∙ at_place.held;
           empty = refl;
-          live =
-              λ x h. absurd (none-some x h);
+          live = λ x h. absurd (none-some x h);
         };
         room = omega (arith, no_more did);
         fresh = λ y h. absurd (none-some y h);
@@ -537,15 +475,14 @@ module _ (s : State) (c : ℕ) (small : c < 4) (well : IsWellFormed load_numbers
       mapped_some f (Some x) h = refl
 
       kept_value : (does : DoesCollect s e t (j % 3)) (id : Id) → IsSome (get s.objects id.0)
-          → Contains (scene_of s).named (Some id)
-          → (object_by_id t id).value ≡ (object_by_id s id).value
+          → Contains (scene_of s).named (Some id) → (object_by_id t id).value ≡ (object_by_id s id).value
       kept_value does id there is_named =
           let scene = does.collects.scene in
           let whole = whole_scene load_numbers s well in
           let kept = keeps_root (λ (x : Id). x.0) (j % 3) (scene_of s) (scene_of t) does.report whole scene
           id (named is_named) in
           let after = object_after (λ (x : Id). x.0) (j % 3) (scene_of s) (scene_of t) does.report whole
-          scene id (object_by_id s id) kept (some_object s id there) in
+          scene id (object_by_id s id) kept (some_at s id there) in
           ap (λ (o : Option (Object Id)).
           (unwrap_or {T = Object Id} o (record
           { fields = []; value = 0; generation = 0; registered = false })).value) after

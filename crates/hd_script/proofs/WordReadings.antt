@@ -1,11 +1,7 @@
 -- The reading of bytes, by the number of their words.
-use Rattle.std.proofs.Common.{◌≡◌, ℕ, true, false, List, [], ◌∷◌, Option, Some, None, sym, ap, ◌∙◌, option_map, bytes_eq}
-use Rattle.std.specs.Prelude.{codes, is_some, MatchOption}
+use Rattle.hd_script.proofs.Basics.{Cmd, List, MatchOption, None, Option, Some, [], ap, blank, bytes_eq, caller, codes, command, cond-false, cond-true, false, five_words, four_words, is_some, number_of, option_map, sym, three_words, true, two_words, words_at, ℕ, ◌∙◌, ◌∷◌, ◌≡◌}
 use Rattle.std.specs.Borrow.{Bor}
-use Rattle.std.proofs.lemmas.Bool.{cond-true, cond-false}
-use Rattle.hd_model.specs.declared.command.Cmd.{Cmd}
-use Rattle.hd_script.specs.Words.{words_at}
-use Rattle.hd_model.specs.Grammar.{number_of, two_words, three_words, four_words, five_words, blank, caller, command, reading_of}
+use Rattle.hd_model.specs.Grammar.{reading_of}
 
 -- what the search for the next word found
 abbrev pub IsNext : Option (Bor (List ℕ) × Bor (List ℕ)) → List ℕ → Type 0

@@ -99,6 +99,8 @@ fn two_words(word: &[u8], a: &[u8]) -> Option<Cmd>
         Some(Cmd::Trim {
             kind: trimmed_kind(a)?,
         })
+    } else if spells(word, "cremove") {
+        Some(Cmd::CRemove { k: object(a)? })
     } else {
         None
     }
@@ -140,6 +142,12 @@ fn three_on_objects(word: &[u8], a: &[u8], b: &[u8]) -> Option<Cmd>
     } else if spells(word, "sget") {
         let (d, k) = (object(a)?, small(b, LAST_REGISTER)?);
         Some(Cmd::SGet { d, k })
+    } else if spells(word, "cadd") {
+        let (k, v) = (object(a)?, object(b)?);
+        Some(Cmd::CAdd { k, v })
+    } else if spells(word, "cfind") {
+        let (d, k) = (object(a)?, object(b)?);
+        Some(Cmd::CFind { d, k })
     } else {
         None
     }

@@ -1,6 +1,4 @@
-use Rattle.std.proofs.Common.{List, ℕ, [], ◌∷◌, ◌++◌, ap, ◌∙◌}
-use Rattle.hd_model.specs.CommandText.{command_text}
-use Rattle.hd_model.specs.Grammar.{script_of}
+use Rattle.hd_print.proofs.Basics.{List, [], ap, command_text, script_of, ℕ, ◌++◌, ◌∙◌, ◌∷◌}
 use Rattle.hd_print.proofs.CommandReadBack.{command_again}
 use Rattle.hd_print.proofs.command.command_line.Goals as goal
 

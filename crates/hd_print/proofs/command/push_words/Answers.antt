@@ -1,5 +1,4 @@
-use Rattle.std.proofs.Common.{arith}
-use Rattle.hd_print.specs.Operand.{operand_word}
+use Rattle.hd_print.proofs.Basics.{arith, operand_word}
 use Rattle.hd_print.proofs.WordJoin.{joined_step}
 use Rattle.hd_print.proofs.command.push_words.Goals as goal
 

@@ -1,6 +1,4 @@
-use Rattle.std.proofs.Common.{◌≡◌, ◌+◌, ◌*◌, ◌≤◌, ◌∷◌, ◌++◌, length, map, take}
-use Rattle.std.specs.List.{join_with_byte}
-use Rattle.hd_print.specs.Operand.{operand_word}
+use Rattle.hd_print.proofs.Basics.{join_with_byte, length, map, operand_word, take, ◌*◌, ◌++◌, ◌+◌, ◌∷◌, ◌≡◌, ◌≤◌}
 use Rattle.hd_print.proofs.command.push_words.Given as goal
 
 -- the line has the words so far

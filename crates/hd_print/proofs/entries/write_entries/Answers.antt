@@ -1,4 +1,4 @@
-use Rattle.std.proofs.Common.{◌∙◌, arith}
+use Rattle.hd_print.proofs.Basics.{arith, ◌∙◌}
 use Rattle.std.proofs.lemmas.Result.{err_from_is_err_and}
 use Rattle.hd_print.proofs.JournalLines.{caller_below, count_le, counts_more, took_line, broke_in_line}
 use Rattle.hd_print.proofs.entries.write_entries.Goals as goal

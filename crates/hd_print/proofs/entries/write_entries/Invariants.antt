@@ -1,7 +1,4 @@
-use Rattle.std.proofs.Common.{◌≡◌, ℕ, ◌<◌, ◌==◌, take, get_or, count_by}
-use Rattle.hd_io.specs.Sink.{Took}
-use Rattle.hd_model.specs.declared.data.Entry.{Entry}
-use Rattle.hd_model.specs.Text.{lines_of}
+use Rattle.hd_print.proofs.Basics.{Entry, Took, count_by, get_or, lines_of, take, ℕ, ◌<◌, ◌==◌, ◌≡◌}
 use Rattle.hd_print.proofs.entries.write_entries.Given as goal
 
 -- the lines so far are those of the entries so far, which are counted by caller

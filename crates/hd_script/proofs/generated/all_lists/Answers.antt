@@ -1,7 +1,4 @@
-use Rattle.std.proofs.Common.{◌≡◌, ℕ, map, ap, ◌∙◌, arith}
-use Rattle.std.specs.List.{range_with_len}
-use Rattle.hd_model.specs.Generated.{generated_list}
-use Rattle.hd_script.specs.Lists.{contents}
+use Rattle.hd_script.proofs.Basics.{ap, arith, contents, generated_list, map, range_with_len, ℕ, ◌∙◌, ◌≡◌}
 use Rattle.hd_script.proofs.LoadRounds.{caller_more, all_callers}
 use Rattle.hd_script.proofs.generated.all_lists.Goals as goal
 

@@ -1,7 +1,4 @@
-use Rattle.std.proofs.Common.{◌≡◌, map}
-use Rattle.std.specs.List.{range_with_len}
-use Rattle.hd_model.specs.Generated.{generated_list}
-use Rattle.hd_script.specs.Lists.{contents}
+use Rattle.hd_script.proofs.Basics.{contents, generated_list, map, range_with_len, ◌≡◌}
 use Rattle.hd_script.proofs.generated.all_lists.Given as goal
 
 -- the lists are those of the callers so far

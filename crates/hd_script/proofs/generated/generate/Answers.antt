@@ -1,5 +1,4 @@
-use Rattle.std.proofs.Common.{subst, sym}
-use Rattle.hd_model.specs.Grammar.{AreLists}
+use Rattle.hd_script.proofs.Basics.{AreLists, subst, sym}
 use Rattle.hd_script.proofs.LoadRounds.{are_lists}
 use Rattle.hd_script.proofs.generated.generate.Goals as goal
 

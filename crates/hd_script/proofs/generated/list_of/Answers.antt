@@ -1,6 +1,4 @@
-use Rattle.std.proofs.Common.{◌≡◌, ◌+◌, ◌++◌, List, sym, ap, ◌∙◌, arith}
-use Rattle.hd_model.specs.declared.command.Cmd.{Cmd}
-use Rattle.hd_model.specs.Generated.{round_of}
+use Rattle.hd_script.proofs.Basics.{Cmd, List, ap, arith, round_of, sym, ◌++◌, ◌+◌, ◌∙◌, ◌≡◌}
 use Rattle.hd_script.proofs.LoadRounds.{rounds_of, round_more, all_rounds}
 use Rattle.hd_script.proofs.generated.list_of.Goals as goal
 

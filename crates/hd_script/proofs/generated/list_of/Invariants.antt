@@ -1,4 +1,4 @@
-use Rattle.std.proofs.Common.{◌≡◌}
+use Rattle.hd_script.proofs.Basics.{◌≡◌}
 use Rattle.hd_script.proofs.LoadRounds.{rounds_of}
 use Rattle.hd_script.proofs.generated.list_of.Given as goal
 

@@ -1,16 +1,11 @@
-use Rattle.std.proofs.Common.{◌<◌, refl, sym, ◌∙◌, arith}
-use Rattle.std.proofs.lemmas.Bool.Decides.{nat_tests}
+use Rattle.hd_script.proofs.Basics.{arith, nat_tests, refl, sym, ◌<◌, ◌∙◌}
 use Rattle.hd_model.specs.Grammar.{value_of}
 use Rattle.hd_script.proofs.Digits.{next_digit, refused_high}
 use Rattle.hd_script.proofs.numbers.number.Goals as goal
 
 pub loop-b-init : goal.loop-b-init
 unfolding value_of
-loop-b-init c = record {
-  worth = refl;
-  digits = refl;
-  some = grind (arith, nat_tests);
-}
+loop-b-init c = record { worth = refl; digits = refl; some = grind (arith, nat_tests) }
 
 pub returns-in_err-checked_mul-clause-value : goal.returns-in_err-checked_mul-clause-value
 returns-in_err-checked_mul-clause-value c =

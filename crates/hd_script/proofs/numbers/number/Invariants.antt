@@ -1,7 +1,4 @@
-use Rattle.std.proofs.Common.{◌≡◌, ◌<◌, drop, length, fold}
-use Rattle.std.specs.List.{list_all}
-use Rattle.std.specs.Char.{is_ascii_digit}
-use Rattle.hd_model.specs.Grammar.{value_of}
+use Rattle.hd_script.proofs.Basics.{drop, fold, is_ascii_digit, length, list_all, value_of, ◌<◌, ◌≡◌}
 use Rattle.hd_script.proofs.Digits.{with_digit}
 use Rattle.hd_script.proofs.numbers.number.Given as goal
 

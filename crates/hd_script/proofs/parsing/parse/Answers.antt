@@ -1,8 +1,5 @@
-use Rattle.std.proofs.Common.{◌≡◌, ◌+◌, Some, Err, refl, subst, arith}
-use Rattle.std.proofs.lemmas.Bool.Decides.{nat_tests}
-use Rattle.hd_model.specs.Grammar.{reading_of, script_of}
+use Rattle.hd_script.proofs.Basics.{Err, Some, arith, line_after, nat_tests, reading_of, refl, script_of, subst, words_at, ◌+◌, ◌≡◌}
 use Rattle.hd_script.specs.Said.{seen}
-use Rattle.hd_script.specs.Words.{words_at, line_after}
 use Rattle.hd_script.proofs.LineLists.{Follows, begun, finished, unreadable, one_too_many, after_blank, after_caller, after_command, fewer}
 use Rattle.hd_script.proofs.parsing.parse.Goals as goal
 

@@ -1,4 +1,4 @@
-use Rattle.std.proofs.Common.{length}
+use Rattle.hd_script.proofs.Basics.{length}
 use Rattle.hd_script.proofs.LineLists.{Follows}
 use Rattle.hd_script.proofs.parsing.parse.Given as goal
 

@@ -1,4 +1,4 @@
-use Rattle.std.proofs.Common.{Some, None, sym, ◌∙◌}
+use Rattle.hd_script.proofs.Basics.{None, Some, sym, ◌∙◌}
 use Rattle.hd_script.proofs.WordReadings.{none, lone, names_caller, of_two, of_three, of_four, of_five, of_more, ends, goes_on}
 use Rattle.hd_script.proofs.reading.read_words.Goals as goal
 
@@ -30,8 +30,7 @@ pub returns-in_ok-small-clause-exact : goal.returns-in_ok-small-clause-exact
 returns-in_ok-small-clause-exact c =
     names_caller c.args.bytes.now c.in-Some.word.now c.in-Some.rest.now c.in_ok-a.a.now c.in_ok-a.rest.now
     c.in-Some.ensures.words c.in_ok-a.ensures.words (Some c.in_ok-small.field-0)
-    c.in_default-next_word.ensures.words
-    (sym c.spells.ensures ∙ c.if-spells.true) c.in_ok-small.ensures.value
+    c.in_default-next_word.ensures.words (sym c.spells.ensures ∙ c.if-spells.true) c.in_ok-small.ensures.value
 
 pub returns-in_ok-two_words-clause-exact : goal.returns-in_ok-two_words-clause-exact
 returns-in_ok-two_words-clause-exact c =
@@ -53,8 +52,7 @@ returns-in_default-next_word-2-clause-exact c =
     of_three c.args.bytes.now c.in-Some.word.now c.in-Some.rest.now c.in_ok-a.a.now c.in_ok-a.rest.now
     c.in-Some.ensures.words c.in_ok-a.ensures.words c.in-Some-next_word.b.now c.in-Some-next_word.rest_b.now
     c.in-Some-next_word.ensures.words (Some c.in_ok-three_words.field-0)
-    c.in_default-next_word-2.ensures.words
-    c.in_ok-three_words.ensures.exact
+    c.in_default-next_word-2.ensures.words c.in_ok-three_words.ensures.exact
 
 pub returns-in_err-four_words-clause-exact : goal.returns-in_err-four_words-clause-exact
 returns-in_err-four_words-clause-exact c =
@@ -102,5 +100,4 @@ returns-clause-exact c =
     c.in-Some.ensures.words c.in_ok-a.ensures.words c.in-Some-next_word.b.now c.in-Some-next_word.rest_b.now
     c.in-Some-next_word.ensures.words c.in-Some-next_word-2.c.now c.in-Some-next_word-2.rest_c.now
     c.in-Some-next_word-2.ensures.words c.in-Some-next_word-3.d.now c.in-Some-next_word-3.rest_d.now
-    c.in-Some-next_word-3.ensures.words (Some c.in_ok-five_words.field-0) end
-    c.in_ok-five_words.ensures.exact
+    c.in-Some-next_word-3.ensures.words (Some c.in_ok-five_words.field-0) end c.in_ok-five_words.ensures.exact

@@ -1,4 +1,4 @@
-use Rattle.std.proofs.Common.{◌≡◌, drop, bytes_eq}
+use Rattle.hd_script.proofs.Basics.{bytes_eq, drop, ◌≡◌}
 use Rattle.hd_script.proofs.reading.spells.Given as goal
 
 -- the bytes from here on are the same exactly where the whole is

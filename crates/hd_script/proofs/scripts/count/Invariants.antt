@@ -1,5 +1,4 @@
-use Rattle.std.proofs.Common.{◌≡◌, length, take, sum_by}
-use Rattle.hd_script.specs.Lists.{contents}
+use Rattle.hd_script.proofs.Basics.{contents, length, sum_by, take, ◌≡◌}
 use Rattle.hd_script.proofs.scripts.count.Given as goal
 
 -- the commands of the lists so far are counted

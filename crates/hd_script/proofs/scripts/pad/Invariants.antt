@@ -1,6 +1,4 @@
-use Rattle.std.proofs.Common.{◌≡◌, ℕ, ◌-◌, ◌≤◌, max, [], get_or, length, sum_by}
-use Rattle.hd_model.specs.Grammar.{AreLists}
-use Rattle.hd_script.specs.Lists.{contents}
+use Rattle.hd_script.proofs.Basics.{AreLists, [], contents, get_or, length, max, sum_by, ℕ, ◌-◌, ◌≡◌, ◌≤◌}
 use Rattle.hd_script.proofs.scripts.pad.Given as goal
 
 -- the lists so far are those at the start, with further callers that have no commands

@@ -1,5 +1,4 @@
-use Rattle.std.proofs.Common.{sym}
-use Rattle.std.proofs.lemmas.List.{take_rest}
+use Rattle.hd_script.proofs.Basics.{sym, take_rest}
 use Rattle.hd_script.proofs.LineSplit.{rest_at, rest_of_last}
 use Rattle.hd_script.proofs.text.after_line.Goals as goal
 

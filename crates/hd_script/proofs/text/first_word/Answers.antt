@@ -1,5 +1,4 @@
-use Rattle.std.proofs.Common.{arith}
-use Rattle.std.proofs.lemmas.List.{take_rest}
+use Rattle.hd_script.proofs.Basics.{arith, take_rest}
 use Rattle.hd_script.proofs.LineSplit.{word_to_end, ended_word, broken_word, line_goes_on, past_blank}
 use Rattle.hd_script.proofs.text.first_word.Goals as goal
 

@@ -1,5 +1,4 @@
-use Rattle.std.proofs.Common.{sym, ◌∙◌}
-use Rattle.std.proofs.lemmas.List.{take_rest}
+use Rattle.hd_script.proofs.Basics.{sym, take_rest, ◌∙◌}
 use Rattle.hd_script.proofs.LineSplit.{blank_first}
 use Rattle.hd_script.proofs.text.from_word.Goals as goal
 

@@ -1,5 +1,4 @@
-use Rattle.std.proofs.Common.{◌≡◌, length}
-use Rattle.hd_script.specs.Words.{words_at, line_after}
+use Rattle.hd_script.proofs.Basics.{length, line_after, words_at, ◌≡◌}
 use Rattle.hd_script.proofs.text.from_word.Given as goal
 
 -- the blanks so far change no words, and are in one line

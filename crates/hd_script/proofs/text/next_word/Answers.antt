@@ -1,6 +1,4 @@
-use Rattle.std.proofs.Common.{sym, ◌∙◌, arith}
-use Rattle.std.proofs.lemmas.Bool.Decides.{nat_tests}
-use Rattle.hd_script.specs.Words.{words_at}
+use Rattle.hd_script.proofs.Basics.{arith, nat_tests, sym, words_at, ◌∙◌}
 use Rattle.hd_script.proofs.LineSplit.{no_word, one_word, end_first}
 use Rattle.hd_script.proofs.text.next_word.Goals as goal
 

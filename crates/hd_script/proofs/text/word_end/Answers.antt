@@ -1,5 +1,4 @@
-use Rattle.std.proofs.Common.{◌≡◌, ℕ, false, get_or, sym, ◌∙◌, arith, below_more}
-use Rattle.hd_script.specs.Words.{is_stop}
+use Rattle.hd_script.proofs.Basics.{arith, below_more, false, get_or, is_stop, sym, ℕ, ◌∙◌, ◌≡◌}
 use Rattle.hd_script.proofs.LineSplit.{stop_at, no_stop_at}
 use Rattle.hd_script.proofs.text.word_end.Goals as goal
 

@@ -1,5 +1,4 @@
-use Rattle.std.proofs.Common.{◌≡◌, ℕ, ◌<◌, ◌≤◌, ◌-◌, false, length, get_or}
-use Rattle.hd_script.specs.Words.{is_stop}
+use Rattle.hd_script.proofs.Basics.{false, get_or, is_stop, length, ℕ, ◌-◌, ◌<◌, ◌≡◌, ◌≤◌}
 use Rattle.hd_script.proofs.text.word_end.Given as goal
 
 -- no byte so far is a stop

@@ -1,7 +1,4 @@
-use Rattle.std.proofs.Common.{◌≡◌, ◌<◌, List, [], ◌∷◌, ◌++◌, length, get_or, set, sum_by, ap, ◌∙◌}
-use Rattle.hd_model.specs.declared.command.Cmd.{Cmd}
-use Rattle.hd_model.specs.declared.limits.TheConstants.{MOST_COMMANDS}
-use Rattle.hd_script.specs.Lists.{contents}
+use Rattle.hd_script.proofs.Basics.{Cmd, List, MOST_COMMANDS, [], ap, contents, get_or, length, set, sum_by, ◌++◌, ◌<◌, ◌∙◌, ◌∷◌, ◌≡◌}
 use Rattle.hd_script.proofs.CallerLists.{written, written_counted, unwritten_counted}
 use Rattle.hd_script.proofs.scripts.Scripts.add.Goals as goal
 

@@ -1,7 +1,4 @@
-use Rattle.std.proofs.Common.{◌≡◌, ◌<◌, ◌≤◌, length, ap, arith}
-use Rattle.std.proofs.lemmas.List.{length-map}
-use Rattle.hd_model.specs.declared.limits.TheConstants.{MOST_COMMANDS}
-use Rattle.hd_script.specs.Lists.{contents}
+use Rattle.hd_script.proofs.Basics.{MOST_COMMANDS, ap, arith, contents, length, length-map, ◌<◌, ◌≡◌, ◌≤◌}
 use Rattle.hd_script.proofs.CallerLists.{listed, list_fits}
 use Rattle.hd_script.proofs.scripts.Scripts.len.Goals as goal
 
@@ -12,13 +9,9 @@ few c =
     let seen : contents lists ≡ c.args.self.now = c.self.view_is in
     let within : c.args.caller < length (contents lists) = rw seen c.requires in
     let placed : c.args.caller < length lists = omega (arith, length-map lists (λ v. v.items), within) in
-    omega (
-      arith,
-      c.len.ensures,
-      list.ok.0,
-      ap length (listed lists c.args.caller list placed c.index.ensures),
-      list_fits (contents lists) c.args.caller c.self.invariant.right within,
-    )
+    let known = ap length (listed lists c.args.caller list placed c.index.ensures) in
+    let also = list_fits (contents lists) c.args.caller c.self.invariant.right within in
+    omega (arith, c.len.ensures, list.ok.0, known, also)
 
 pub overflow_cast-result : goal.overflow_cast-result
 overflow_cast-result c = omega (arith, few c)
