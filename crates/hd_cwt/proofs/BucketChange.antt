@@ -1,0 +1,185 @@
+-- A slot gets a key, or loses it: each bucket's ring has the slots of its keys again.
+use Rattle.std.proofs.Common.{◌≡◌, ◌≢◌, ℕ, ◌+◌, ◌<◌, ◌==◌, not, List, ◌∷◌, length, set, Option, Some, None, Contains, ⊎_elim, inl, inr, refl, sym, ap, ◌∙◌, subst, arith, eq-eqb}
+use Rattle.std.proofs.lemmas.Bool.{cases_eq, false≢true}
+use Rattle.std.proofs.lemmas.Option.{none-some, same_Some}
+use Rattle.std.proofs.lemmas.List.{length-set, get_or-set_same, get_or-set_other}
+use Rattle.hd_model.specs.declared.data.Id.{Id}
+use Rattle.hd_model.proofs.Members.{first_in, later_in, member_cases, pairs_cons, pairs_passing, passing_from, passing_in}
+use Rattle.hd_cwt.specs.Rings.{node_at, exchanged, turned}
+use Rattle.hd_cwt.specs.WeakTable.{bucket_of}
+use Rattle.hd_cwt.specs.Inside.{entry_at, bucket_in, IsBucket, HasBucket, IsLinked}
+use Rattle.hd_cwt.proofs.RingExchange as ring
+use Rattle.hd_cwt.proofs.KeySearch.{in_held}
+use Rattle.hd_cwt.proofs.BucketWalks.{without, is_beside, walk_kept, walk_joined, walk_left}
+
+-- what is read after an entry is written
+module _ (held : List (Option (Option Id))) (s : ℕ) (v : Option (Option Id)) (ls : s < length held) where
+  pub written : entry_at (set held s v) s ≡ v
+  written = get_or-set_same held s v None ls
+
+  pub entry_cases : (P : Option (Option Id) → Type 0) (z : ℕ) → (z ≡ s → P v)
+      → (z ≢ s → P (entry_at held z)) → P (entry_at (set held s v) z)
+  entry_cases P z new old = elim (cases_eq z s) [
+    | inl e ↦ subst P (sym (ap (entry_at (set held s v)) e ∙ written)) (new e)
+    | inr n ↦ subst P (sym (get_or-set_other held s z v None n)) (old n)
+  ]
+
+module _ {held : List (Option (Option Id))} {next previous : List ℕ} (is : IsLinked held next previous)
+    (s : ℕ) (ls : s < length held) where
+  node : s < length next
+  node = omega (arith, ls, is.nodes)
+
+  -- a slot gets a key, in the bucket of the node `end`
+  module _ (key : Id) (free : bucket_in (entry_at held s) ≡ None) (end : ℕ)
+      (is_end : end ≡ length held + bucket_of key) where
+    end_low : end < length next
+    end_low = omega (arith, is.nodes, is_end)
+
+    beside : (z : ℕ) → z ≢ end → z ≢ s → node_at (exchanged next end s) z ≡ node_at next z
+    beside = ring.other next end (node_at next s) s (node_at next end) end_low node
+
+    -- a slot with a key is neither the slot nor a bucket's node
+    not_slot : (b z : ℕ) → bucket_in (entry_at held z) ≡ Some b → z ≢ s
+    not_slot b z e same = none-some b (sym free ∙ ap (λ x. bucket_in (entry_at held x)) (sym same) ∙ e)
+
+    member_kept : (b : ℕ) (l : List ℕ) (e : ℕ) → IsBucket held next e b l → (z : ℕ) → Contains l z
+        → node_at (exchanged next end s) z ≡ node_at next z
+    member_kept b l e bucket z h =
+        let low : z < length held = in_held held z b (bucket.from z h) in
+        beside z (λ same. omega (arith, low, is_end, same)) (not_slot b z (bucket.from z h))
+
+    still : (b : ℕ) (l : List ℕ) (e : ℕ) → IsBucket held next e b l → (z : ℕ) → Contains l z
+        → bucket_in (entry_at (set held s (Some (Some key))) z) ≡ Some b
+    still b l e bucket z h =
+        entry_cases held s (Some (Some key)) ls (λ v. bucket_in v ≡ Some b) z
+        (λ same. absurd (not_slot b z (bucket.from z h) same)) (λ _. bucket.from z h)
+
+    joined : HasBucket (set held s (Some (Some key))) (exchanged next end s) end (bucket_of key)
+    joined =
+        let old : HasBucket held next end (bucket_of key) =
+        subst (λ e. HasBucket held next e (bucket_of key)) (sym is_end)
+        (is.buckets (bucket_of key) (omega arith)) in record {
+          list = s ∷ old.list;
+          is = record {
+            walk = walk_joined next (exchanged next end s) end s old.list
+                (ring.first next end (node_at next s) s (node_at next end) end_low node
+                (λ same. omega (arith, ls, is_end, same))
+                ∙ is.alone s ls free)
+                (ring.second next end (node_at next s) s (node_at next end) end_low node)
+                (member_kept (bucket_of key) old.list end old.is) old.is.walk;
+            once = pairs_cons (λ x y. x ≢ y) s old.list
+                (λ y h same. not_slot (bucket_of key) y (old.is.from y h) (sym same)) old.is.once;
+            into = λ z h. elim (cases_eq z s) [
+              | inl e ↦ subst (Contains (s ∷ old.list)) (sym e) (first_in s old.list)
+              | inr n ↦ later_in s old.list z (old.is.into z
+                  (sym (ap bucket_in (get_or-set_other held s z (Some (Some key)) None n)) ∙ h))
+            ];
+            from = λ z h. ⊎_elim
+                (λ e. ap bucket_in (ap (entry_at (set held s (Some (Some key)))) (sym e)
+                ∙ written held s (Some (Some key)) ls))
+                (λ later. still (bucket_of key) old.list end old.is z later)
+                (member_cases s old.list z h);
+          };
+        }
+
+    apart : (b : ℕ) → b < 4096 → b ≢ bucket_of key
+        → HasBucket (set held s (Some (Some key))) (exchanged next end s) (length held + b) b
+    apart b low n =
+        let old : HasBucket held next (length held + b) b = is.buckets b low in record {
+          list = old.list;
+          is = record {
+            walk = walk_kept next (exchanged next end s) (length held + b) (length held + b) old.list
+                (λ z. ⊎_elim
+                (λ e. beside z (λ same. n (omega (arith, e, is_end, same)))
+                (λ same. omega (arith, e, ls, same)))
+                (member_kept b old.list (length held + b) old.is z))
+                old.is.walk;
+            once = old.is.once;
+            into = λ z. entry_cases held s (Some (Some key)) ls
+                (λ v. bucket_in v ≡ Some b → Contains old.list z) z
+                (λ _ e. absurd (n (sym (same_Some (bucket_of key) b e)))) (λ _. old.is.into z);
+            from = still b old.list (length held + b) old.is;
+          };
+        }
+
+    pub put_linked : IsLinked (set held s (Some (Some key))) (exchanged next end s)
+        (turned next previous end s)
+    put_linked =
+        let new = set held s (Some (Some key)) in
+        let after = exchanged next end s in
+        let long : length new ≡ length held = length-set held s (Some (Some key)) in record {
+          rings = ring.rings next previous is.rings end s end_low node;
+          nodes = ring.long next previous is.rings end s end_low node ∙ is.nodes
+              ∙ ap (λ n. n + 4096) (sym long);
+          buckets = λ b low. subst (λ n. HasBucket new after (n + b) b) (sym long)
+              (elim (cases_eq b (bucket_of key)) [
+                | inl e ↦ subst (λ c. HasBucket new after (length held + c) c) (sym e)
+                    (subst (λ x. HasBucket new after x (bucket_of key)) is_end joined)
+                | inr n ↦ apart b low n
+              ]);
+          alone = λ z low. entry_cases held s (Some (Some key)) ls
+              (λ v. bucket_in v ≡ None → node_at after z ≡ z) z
+              (λ _ e. absurd (none-some (bucket_of key) (sym e)))
+              (λ m e. let inside : z < length held = omega (arith, low, long) in
+              beside z (λ same. omega (arith, inside, is_end, same)) m ∙ is.alone z inside e);
+        }
+
+  -- a slot loses its key, or is alone: `back` is the node before it
+  module _ (back : ℕ) (is_back : back ≡ node_at previous s) where
+    back_low : back < length next
+    back_low = omega (arith, is_back, is.rings.back_within s node)
+
+    before_is : node_at next back ≡ s
+    before_is = ap (node_at next) is_back ∙ is.rings.behind s node
+
+    only : (z : ℕ) → z < length next → node_at next z ≡ s → z ≡ back
+    only z lz e = sym (is.rings.ahead z lz) ∙ ap (node_at previous) e ∙ sym is_back
+
+    unchanged : (z : ℕ) → z ≢ back → z ≢ s → node_at (exchanged next back s) z ≡ node_at next z
+    unchanged = ring.other next back (node_at next s) s (node_at next back) back_low node
+
+    parted : (b : ℕ) → b < 4096
+        → HasBucket (set held s (Some None)) (exchanged next back s) (length held + b) b
+    parted b low =
+        let old : HasBucket held next (length held + b) b = is.buckets b low in
+        let end_low : length held + b < length next = omega (arith, is.nodes) in record {
+          list = without s old.list;
+          is = record {
+            walk = walk_left next (exchanged next back s) (length next) (length held + b) s back node
+                (λ same. omega (arith, ls, same)) unchanged
+                (ring.first next back (node_at next s) s (node_at next back) back_low node)
+                before_is only old.list (length held + b) (length held + b) end_low
+                (λ z h. let inside : z < length held = in_held held z b (old.is.from z h) in
+                omega (arith, is.nodes, inside))
+                (λ same. omega (arith, ls, same)) (inl refl) old.is.walk;
+            once = pairs_passing (λ z. not (z == s)) (λ x y. x ≢ y) old.list old.is.once;
+            into = λ z. entry_cases held s (Some None) ls
+                (λ v. bucket_in v ≡ Some b → Contains (without s old.list) z) z
+                (λ _ e. absurd (none-some b e))
+                (λ m e. passing_in (λ x. not (x == s)) old.list z (old.is.into z e) (is_beside z s m));
+            from = λ z h. let (inside, passes) = passing_from (λ x. not (x == s)) old.list z h in
+                entry_cases held s (Some None) ls (λ v. bucket_in v ≡ Some b) z
+                (λ e. absurd (false≢true (sym (ap not (eq-eqb z s e)) ∙ passes)))
+                (λ _. old.is.from z inside);
+          };
+        }
+
+    pub clear_linked : IsLinked (set held s (Some None)) (exchanged next back s)
+        (turned next previous back s)
+    clear_linked =
+        let new = set held s (Some None) in
+        let after = exchanged next back s in
+        let long : length new ≡ length held = length-set held s (Some None) in record {
+          rings = ring.rings next previous is.rings back s back_low node;
+          nodes = ring.long next previous is.rings back s back_low node ∙ is.nodes
+              ∙ ap (λ n. n + 4096) (sym long);
+          buckets = λ b low. subst (λ n. HasBucket new after (n + b) b) (sym long) (parted b low);
+          alone = λ z low. entry_cases held s (Some None) ls
+              (λ v. bucket_in v ≡ None → node_at after z ≡ z) z
+              (λ e _. ap (node_at after) e
+              ∙ ring.second next back (node_at next s) s (node_at next back) back_low node
+              ∙ before_is ∙ sym e)
+              (λ m e. let inside : z < length held = omega (arith, low, long) in
+              let self : node_at next z ≡ z = is.alone z inside e in
+              unchanged z (λ same. m (sym self ∙ ap (node_at next) same ∙ before_is)) m ∙ self);
+        }

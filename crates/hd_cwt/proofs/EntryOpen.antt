@@ -1,0 +1,69 @@
+-- Entries of which no slot is held.
+use Rattle.std.proofs.Common.{◌≡◌, ◌≢◌, ℕ, ◌+◌, ◌*◌, ◌/◌, ◌%◌, ◌<◌, ◌≤◌, List, [], length, get_or, replicate, cond, Option, None, refl, sym, ap, ◌∙◌, arith}
+use Rattle.std.specs.Int.{bit_at}
+use Rattle.std.proofs.lemmas.Option.{none-some}
+use Rattle.std.proofs.lemmas.List.{length-replicate}
+use Rattle.std.proofs.lemmas.Nat.Bits.{bit_at-zero}
+use Rattle.hd_model.specs.declared.data.Id.{Id}
+use Rattle.hd_model.proofs.IndexedItems.{get_or-replicate_None}
+use Rattle.hd_model.proofs.Members.{not_in_none, pairs_none}
+use Rattle.hd_model.proofs.ReadAfterWrite.{replicate_cases}
+use Rattle.hd_cwt.specs.Rings.{node_at}
+use Rattle.hd_cwt.specs.Inside.{entry_at, bucket_in, idle_in, IsEntries}
+
+module _ {blocks : ℕ} (limit : blocks ≤ 256) (held : List (Option (Option Id))) (next previous masks : List ℕ)
+    (is_held : held ≡ replicate (64 * (blocks + 1)) None) (is_masks : masks ≡ replicate (blocks + 1) 0)
+    (next_long : length next ≡ 64 * (blocks + 1) + 4096)
+    (back_long : length previous ≡ 64 * (blocks + 1) + 4096)
+    (ahead : (x : ℕ) → x < 64 * (blocks + 1) + 4096 → node_at next x ≡ x)
+    (back : (x : ℕ) → x < 64 * (blocks + 1) + 4096 → node_at previous x ≡ x) where
+  pub none : (s : ℕ) → entry_at held s ≡ None
+  none s = ap (λ es. get_or es s None) is_held ∙ get_or-replicate_None (64 * (blocks + 1)) s
+
+  held_long : length held ≡ 64 * (blocks + 1)
+  held_long = ap length is_held ∙ length-replicate (64 * (blocks + 1)) None
+
+  masks_long : length masks ≡ blocks + 1
+  masks_long = ap length is_masks ∙ length-replicate (blocks + 1) 0
+
+  zero : (k : ℕ) → get_or masks k 0 ≡ 0
+  zero k = ap (λ ms. get_or ms k 0) is_masks ∙ replicate_cases (λ v. v ≡ 0) (blocks + 1) k 0 0 refl refl
+
+  next_low : (x : ℕ) → x < length next → node_at next x ≡ x
+  next_low x lx = ahead x (omega (arith, lx, next_long))
+
+  back_low : (x : ℕ) → x < length next → node_at previous x ≡ x
+  back_low x lx = back x (omega (arith, lx, next_long))
+
+  pub opened : IsEntries blocks held next previous masks (blocks + 1)
+  opened = record {
+    limit = limit;
+    size = masks_long;
+    linked = record {
+      rings = record {
+        size = back_long ∙ sym next_long;
+        within = λ x lx. omega (arith, lx, next_low x lx);
+        back_within = λ x lx. omega (arith, lx, back_low x lx);
+        ahead = λ x lx. ap (node_at previous) (next_low x lx) ∙ back_low x lx;
+        behind = λ x lx. ap (node_at next) (back_low x lx) ∙ next_low x lx;
+      };
+      nodes = omega (arith, next_long, held_long);
+      buckets = λ b low. record {
+        list = [];
+        is = record {
+          walk = next_low (length held + b) (omega (arith, low, next_long, held_long));
+          once = pairs_none (λ x y. x ≢ y);
+          into = λ s e. absurd (none-some b (sym (ap bucket_in (none s)) ∙ e));
+          from = λ s h. absurd (not_in_none s h);
+        };
+      };
+      alone = λ s low _. next_low s (omega (arith, low, next_long, held_long));
+    };
+    marked = record {
+      size = omega (arith, held_long, masks_long);
+      bits = λ s low. ap (λ m. bit_at m (s % 64)) (zero (s / 64)) ∙ bit_at-zero (s % 64)
+          ∙ sym (ap (λ v. cond (idle_in v) 1 0) (none s));
+      before = λ s low. ap idle_in (none s);
+      some = λ low _. omega (arith, low, masks_long);
+    };
+  }

@@ -1,0 +1,163 @@
+-- The masks of idle slots, where a slot gets a key or loses it; and the least idle slot.
+use Rattle.std.proofs.Common.{◌≡◌, ◌≢◌, ℕ, ◌+◌, ◌*◌, ◌/◌, ◌%◌, ◌^◌, ◌<◌, ◌≤◌, true, false, Bool, cond, List, length, get_or, set, Option, Some, None, inl, inr, refl, sym, ap, ◌∙◌, arith, bit_and, bit_or, min}
+use Rattle.std.specs.Int.{bit_at, bit_not, w64}
+use Rattle.std.proofs.lemmas.Bool.{cases_eq, cases_lt, false≢true}
+use Rattle.std.proofs.lemmas.Option.{none-some}
+use Rattle.std.proofs.lemmas.List.{length-set, get_or_past, get_or-set_same, get_or-set_other}
+use Rattle.std.proofs.lemmas.Nat.Bits.{bit_at-zero}
+use Rattle.hd_mask.proofs.Bits.{set_same, set_other, clear_same, clear_other}
+use Rattle.hd_model.specs.declared.data.Id.{Id}
+use Rattle.hd_cwt.specs.Inside.{entry_at, idle_in, IsMarked}
+use Rattle.hd_cwt.proofs.BucketChange.{entry_cases}
+
+idle_is : (v : Option (Option Id)) → idle_in v ≡ true → v ≡ Some None
+idle_is None e = absurd (false≢true e)
+idle_is (Some None) e = refl
+idle_is (Some (Some k)) e = absurd (false≢true e)
+
+zero_bit : (t : Bool) → ◌≡◌ {A = ℕ} (cond t 1 0) 0 → t ≡ false
+zero_bit true e = absurd (omega (arith, e))
+zero_bit false e = refl
+
+one_bit : (t : Bool) → ◌≡◌ {A = ℕ} (cond t 1 0) 1 → t ≡ true
+one_bit true e = refl
+one_bit false e = absurd (omega (arith, e))
+
+module _ {held : List (Option (Option Id))} {masks : List ℕ} {first : ℕ}
+    (is : IsMarked held masks first) where
+  -- an entry is written, and the bit of its slot
+  module _ (s : ℕ) (ls : s < length held) (v : Option (Option Id)) (w : ℕ)
+      (here : bit_at w (s % 64) ≡ cond (idle_in v) 1 0)
+      (others : (k : ℕ) → k ≢ s % 64 → bit_at w k ≡ bit_at (get_or masks (s / 64) 0) k) where
+    mask_low : s / 64 < length masks
+    mask_low = omega (arith, ls, is.size)
+
+    mask_here : get_or (set masks (s / 64) w) (s / 64) 0 ≡ w
+    mask_here = get_or-set_same masks (s / 64) w 0 mask_low
+
+    bits_written : (z : ℕ) → z < length (set held s v)
+        → bit_at (get_or (set masks (s / 64) w) (z / 64) 0) (z % 64)
+        ≡ cond (idle_in (entry_at (set held s v) z)) 1 0
+    bits_written z lz =
+        let low : z < length held = omega (arith, lz, length-set held s v) in
+        entry_cases held s v ls
+        (λ e. bit_at (get_or (set masks (s / 64) w) (z / 64) 0) (z % 64) ≡ cond (idle_in e) 1 0) z
+        (λ same. ap (λ x. bit_at (get_or (set masks (s / 64) w) (x / 64) 0) (x % 64)) same
+        ∙ ap (λ m. bit_at m (s % 64)) mask_here ∙ here)
+        (λ apart. elim (cases_eq (z / 64) (s / 64)) [
+          | inl e ↦ ap (λ j. bit_at (get_or (set masks (s / 64) w) j 0) (z % 64)) e
+              ∙ ap (λ m. bit_at m (z % 64)) mask_here
+              ∙ others (z % 64) (λ row. apart (omega arith))
+              ∙ ap (λ j. bit_at (get_or masks j 0) (z % 64)) (sym e) ∙ is.bits z low
+          | inr n ↦ ap (λ m. bit_at m (z % 64)) (get_or-set_other masks (s / 64) (z / 64) w 0 n)
+              ∙ is.bits z low
+        ])
+
+    sized : length (set held s v) ≡ 64 * length (set masks (s / 64) w)
+    sized = length-set held s v ∙ is.size ∙ ap (λ n. 64 * n) (sym (length-set masks (s / 64) w))
+
+  -- a slot gets a key
+  module _ (s : ℕ) (ls : s < length held) (key : Id) (mask w : ℕ) (read : mask ≡ get_or masks (s / 64) 0)
+      (fits : mask < 2 ^ 64) (is_w : w ≡ bit_and mask (bit_not w64 (2 ^ (s % 64)))) (after : ℕ)
+      (before : (k : ℕ) → first ≤ k → k < after → get_or (set masks (s / 64) w) k 0 ≡ 0)
+      (some : after < length (set masks (s / 64) w) → get_or (set masks (s / 64) w) after 0 ≢ 0) where
+    put_bits : (z : ℕ) → z < length (set held s (Some (Some key)))
+        → bit_at (get_or (set masks (s / 64) w) (z / 64) 0) (z % 64)
+        ≡ cond (idle_in (entry_at (set held s (Some (Some key))) z)) 1 0
+    put_bits = bits_written s ls (Some (Some key)) w
+        (ap (λ m. bit_at m (s % 64)) is_w ∙ clear_same mask (s % 64) fits (omega arith))
+        (λ k n. ap (λ m. bit_at m k) is_w ∙ clear_other mask (s % 64) fits (omega arith) k n
+        ∙ ap (λ m. bit_at m k) read)
+
+    pub put_marked : IsMarked (set held s (Some (Some key))) (set masks (s / 64) w) after
+    put_marked = record {
+      size = sized s ls (Some (Some key)) w
+          (ap (λ m. bit_at m (s % 64)) is_w ∙ clear_same mask (s % 64) fits (omega arith))
+          (λ k n. ap (λ m. bit_at m k) is_w ∙ clear_other mask (s % 64) fits (omega arith) k n
+          ∙ ap (λ m. bit_at m k) read);
+      bits = put_bits;
+      before = λ z low. elim (cases_lt z (64 * first)) [
+        | inl old ↦ entry_cases held s (Some (Some key)) ls (λ v. idle_in v ≡ false) z (λ _. refl)
+            (λ _. is.before z old)
+        | inr past ↦ elim (cases_lt z (length (set held s (Some (Some key))))) [
+          | inl inside ↦ zero_bit (idle_in (entry_at (set held s (Some (Some key))) z))
+              (sym (put_bits z inside)
+              ∙ ap (λ m. bit_at m (z % 64)) (before (z / 64) (omega arith) (omega arith))
+              ∙ bit_at-zero (z % 64))
+          | inr out ↦ ap idle_in (get_or_past (set held s (Some (Some key))) z None out)
+        ]
+      ];
+      some = some;
+    }
+
+  -- a slot loses its key, if it has one
+  module _ (s : ℕ) (ls : s < length held) (mask w : ℕ) (read : mask ≡ get_or masks (s / 64) 0)
+      (is_w : w ≡ bit_or mask (2 ^ (s % 64))) (after : ℕ) (least : after ≡ min first (s / 64)) where
+    bit_here : bit_at w (s % 64) ≡ 1
+    bit_here = ap (λ m. bit_at m (s % 64)) is_w ∙ set_same mask (s % 64)
+
+    bits_beside : (k : ℕ) → k ≢ s % 64 → bit_at w k ≡ bit_at (get_or masks (s / 64) 0) k
+    bits_beside k n = ap (λ m. bit_at m k) is_w ∙ set_other mask (s % 64) k n ∙ ap (λ m. bit_at m k) read
+
+    pub clear_marked : IsMarked (set held s (Some None)) (set masks (s / 64) w) after
+    clear_marked = record {
+      size = sized s ls (Some None) w bit_here bits_beside;
+      bits = bits_written s ls (Some None) w bit_here bits_beside;
+      before = λ z low. entry_cases held s (Some None) ls (λ v. idle_in v ≡ false) z
+          (λ same. absurd (omega (arith, low, least, same)))
+          (λ _. is.before z (omega (arith, low, least)));
+      some = λ low none. elim (cases_eq after (s / 64)) [
+        | inl e ↦
+            let zero : w ≡ 0 = sym (get_or-set_same masks (s / 64) w 0 (omega (arith, ls, is.size)))
+            ∙ ap (λ j. get_or (set masks (s / 64) w) j 0) (sym e) ∙ none in
+            let no_bit : bit_at w (s % 64) ≡ 0 = ap (λ m. bit_at m (s % 64)) zero ∙ bit_at-zero (s % 64) in
+            omega (arith, bit_here, no_bit)
+        | inr n ↦
+            let old : after ≡ first = omega (arith, least, n) in
+            is.some (omega (arith, low, old, length-set masks (s / 64) w))
+            (ap (λ j. get_or masks j 0) (sym old) ∙ sym (get_or-set_other masks (s / 64) after w 0 n) ∙ none)
+      ];
+    }
+
+  -- an idle slot has its bit
+  inside : (z : ℕ) → entry_at held z ≡ Some None → z < length held
+  inside z e = elim (cases_lt z (length held)) [
+    | inl low ↦ low
+    | inr past ↦ absurd (none-some None (sym (get_or_past held z None past) ∙ e))
+  ]
+
+  marked_here : (z : ℕ) → entry_at held z ≡ Some None → bit_at (get_or masks (z / 64) 0) (z % 64) ≡ 1
+  marked_here z e = is.bits z (inside z e) ∙ ap (λ v. cond (idle_in v) 1 0) e
+
+  from_first : (z : ℕ) → entry_at held z ≡ Some None → 64 * first ≤ z
+  from_first z e = elim (cases_lt z (64 * first)) [
+    | inl low ↦ absurd (false≢true (sym (is.before z low) ∙ ap idle_in e))
+    | inr high ↦ high
+  ]
+
+  pub none_idle : length masks ≤ first → (z : ℕ) → entry_at held z ≡ Some None → ⊥
+  none_idle past z e = omega (arith, past, is.size, inside z e, from_first z e)
+
+  module _ (row : ℕ) (low : row < 64) (mask : ℕ) (in_masks : first < length masks)
+      (read : mask ≡ get_or masks first 0) where
+    pub row_idle : bit_at mask row ≡ 1 → entry_at held (first * 64 + row) ≡ Some None
+    row_idle set_bit =
+        let block : (first * 64 + row) / 64 ≡ first = omega arith in
+        let at : (first * 64 + row) % 64 ≡ row = omega arith in
+        idle_is (entry_at held (first * 64 + row))
+        (one_bit (idle_in (entry_at held (first * 64 + row)))
+        (sym (is.bits (first * 64 + row) (omega (arith, low, in_masks, is.size)))
+        ∙ ap (λ j. bit_at (get_or masks j 0) ((first * 64 + row) % 64)) block
+        ∙ ap (λ j. bit_at (get_or masks first 0) j) at ∙ ap (λ m. bit_at m row) (sym read) ∙ set_bit))
+
+    pub row_least : ((k : ℕ) → k < row → bit_at mask k ≡ 0) → (z : ℕ) → entry_at held z ≡ Some None
+        → first * 64 + row ≤ z
+    row_least least z e = elim (cases_lt z (first * 64 + row)) [
+      | inl less ↦
+          let block : z / 64 ≡ first = omega (arith, less, low, from_first z e) in
+          let none : bit_at mask (z % 64) ≡ 0 = least (z % 64) (omega (arith, less, block)) in
+          let some : bit_at mask (z % 64) ≡ 1 = ap (λ m. bit_at m (z % 64)) read
+          ∙ ap (λ j. bit_at (get_or masks j 0) (z % 64)) (sym block) ∙ marked_here z e in
+          absurd (omega (arith, none, some))
+      | inr more ↦ more
+    ]

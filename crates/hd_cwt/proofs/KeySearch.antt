@@ -1,0 +1,141 @@
+-- The search for a key along the ring of its bucket.
+use Rattle.std.proofs.Common.{◌≡◌, ◌≢◌, ℕ, suc, ◌+◌, ◌<◌, ◌≤◌, List, [], ◌∷◌, length, map, filter, Option, Some, None, Contains, Bool, ⊎_elim, inl, inr, refl, sym, ap, ◌∙◌, subst, arith, eq-eqb}
+use Rattle.std.specs.FinMap.{entries}
+use Rattle.std.proofs.lemmas.Option.{none-some, same_Some}
+use Rattle.std.proofs.lemmas.Bool.{cases_lt}
+use Rattle.std.proofs.lemmas.List.{get_or_past, length-map}
+use Rattle.hd_model.specs.declared.data.Id.{Id}
+use Rattle.hd_model.specs.Indexed.{by_place}
+use Rattle.hd_model.proofs.Entries.{entry_of}
+use Rattle.hd_model.proofs.IndexedItems.{get-by_place}
+use Rattle.hd_model.proofs.Members.{not_in_none, first_in, later_in, member_cases, mapped_in, passing_in}
+use Rattle.hd_model.proofs.PropertyCounts.{fewer}
+use Rattle.hd_cwt.specs.Rings.{node_at, IsWalk}
+use Rattle.hd_cwt.specs.WeakTable.{bucket_of, is_in_bucket, entries_in}
+use Rattle.hd_cwt.specs.Inside.{entry_at, bucket_in, IsBucket, HasBucket}
+
+-- the key of a slot in a bucket
+pub key_of : (v : Option (Option Id)) (b : ℕ) → bucket_in v ≡ Some b
+    → (k : Id) × ((v ≡ Some (Some k)) × (bucket_of k ≡ b))
+key_of None b e = absurd (none-some b e)
+key_of (Some None) b e = absurd (none-some b e)
+key_of (Some (Some k)) b e = (k, (refl, same_Some (bucket_of k) b e))
+
+module _ (held : List (Option (Option Id))) (next : List ℕ) (end b : ℕ) (l : List ℕ)
+    (is : IsBucket held next end b l) where
+  -- a bucket's ring is not longer than the number of its entries
+  pub ring_short : length l ≤ entries_in (by_place held) b
+  ring_short =
+      let test : ℕ × Option Id → Bool = λ (e : ℕ × Option Id). is_in_bucket b e.1 in
+      let found : List (ℕ × Option Id) = filter test (entries (by_place held)) in
+      let few : length l ≤ length (map (λ (e : ℕ × Option Id). e.0) found) =
+      fewer l (map (λ (e : ℕ × Option Id). e.0) found) is.once (λ z h.
+      let (k, of_key) = key_of (entry_at held z) b (is.from z h) in
+      mapped_in (λ (e : ℕ × Option Id). e.0) found (z, Some k)
+      (passing_in test (entries (by_place held)) (z, Some k)
+      (entry_of (by_place held) z (Some k) (get-by_place held z ∙ of_key.0))
+      (eq-eqb (bucket_of k) b of_key.1))) in
+      let long : length (map (λ (e : ℕ × Option Id). e.0) found) ≡ length found =
+      length-map found (λ (e : ℕ × Option Id). e.0) in
+      omega arith
+
+-- the nodes from one on are those of a list, and then an end
+abbrev pub IsAhead : List ℕ → ℕ → List ℕ → ℕ → Type 0
+IsAhead next at [] end = at ≡ end
+IsAhead next at (s ∷ ss) end = (at ≡ s) × IsWalk next s ss end
+
+pub ahead_of : (next : List ℕ) (x : ℕ) (l : List ℕ) (end : ℕ) → IsWalk next x l end
+    → IsAhead next (node_at next x) l end
+ahead_of next x [] end w = w
+ahead_of next x (s ∷ ss) end w = w
+
+-- the slot with the key, if there is one, is ahead
+pub record IsSearching (held : List (Option (Option Id))) (next : List ℕ) (end : ℕ) (key : Id)
+    (at old now : ℕ) : Type 0 where
+  pub left : List ℕ
+  pub ahead : IsAhead next at left end
+  pub slots : (z : ℕ) → Contains left z → z < length held
+  pub has : (z : ℕ) → entry_at held z ≡ Some (Some key) → Contains left z
+  pub counted : old ≤ now
+  pub bound : now + length left ≤ old + entries_in (by_place held) (bucket_of key)
+
+-- a slot is the first node of a list that is ahead
+record IsNext (next : List ℕ) (at : ℕ) (l : List ℕ) (end : ℕ) : Type 0 where
+  slot : ℕ
+  rest : List ℕ
+  list_is : l ≡ slot ∷ rest
+  at_is : at ≡ slot
+  walk : IsWalk next slot rest end
+
+next_of : (next : List ℕ) (at : ℕ) (l : List ℕ) (end : ℕ) → IsAhead next at l end → at ≢ end
+    → IsNext next at l end
+next_of next at [] end ahead apart = absurd (apart ahead)
+next_of next at (s ∷ ss) end ahead apart = record {
+  slot = s;
+  rest = ss;
+  list_is = refl;
+  at_is = ahead.0;
+  walk = ahead.1;
+}
+
+pub in_held : (held : List (Option (Option Id))) (z b : ℕ) → bucket_in (entry_at held z) ≡ Some b
+    → z < length held
+in_held held z b e = elim (cases_lt z (length held)) [
+  | inl low ↦ low
+  | inr past ↦ absurd (none-some b (sym (ap bucket_in (get_or_past held z None past)) ∙ e))
+]
+
+module _ {held : List (Option (Option Id))} {next : List ℕ} {end : ℕ} {key : Id} where
+  pub start : HasBucket held next end (bucket_of key) → (at old : ℕ) → at ≡ node_at next end
+      → IsSearching held next end key at old old
+  start bucket at old e = record {
+    left = bucket.list;
+    ahead = subst (λ x. IsAhead next x bucket.list end) (sym e)
+        (ahead_of next end bucket.list end bucket.is.walk);
+    slots = λ z h. in_held held z (bucket_of key) (bucket.is.from z h);
+    has = λ z h. bucket.is.into z (ap bucket_in h);
+    counted = omega arith;
+    bound = omega (arith, ring_short held next end (bucket_of key) bucket.list bucket.is);
+  }
+
+  module _ {at old now : ℕ} (is : IsSearching held next end key at old now) where
+    -- the node that is looked at is a slot, and a step is left
+    pub low : at ≢ end → at < length held
+    low apart =
+        let first : IsNext next at is.left end = next_of next at is.left end is.ahead apart in
+        is.slots at (subst (λ l. Contains l at) (sym first.list_is)
+        (subst (Contains (first.slot ∷ first.rest)) (sym first.at_is) (first_in first.slot first.rest)))
+
+    pub more : at ≢ end → now < old + entries_in (by_place held) (bucket_of key)
+    more apart =
+        let first : IsNext next at is.left end = next_of next at is.left end is.ahead apart in
+        let long : length is.left ≡ suc (length first.rest) = ap length first.list_is in
+        omega (arith, is.bound, long)
+
+    pub onward : at ≢ end → entry_at held at ≢ Some (Some key) → (after count : ℕ) → after ≡ node_at next at
+        → count ≡ now + 1 → IsSearching held next end key after old count
+    onward apart missed after count e step =
+        let first : IsNext next at is.left end = next_of next at is.left end is.ahead apart in
+        let long : length is.left ≡ suc (length first.rest) = ap length first.list_is in record {
+          left = first.rest;
+          ahead = subst (λ x. IsAhead next x first.rest end) (sym (e ∙ ap (node_at next) first.at_is))
+              (ahead_of next first.slot first.rest end first.walk);
+          slots = λ z h. is.slots z (subst (λ l. Contains l z) (sym first.list_is)
+              (later_in first.slot first.rest z h));
+          has = λ z h. ⊎_elim
+              (λ same. absurd (missed (ap (entry_at held) (first.at_is ∙ same) ∙ h)))
+              (λ later. later)
+              (member_cases first.slot first.rest z (subst (λ l. Contains l z) first.list_is (is.has z h)));
+          counted = omega (arith, is.counted, step);
+          bound = omega (arith, is.bound, long, step);
+        }
+
+    pub nowhere : at ≡ end → length held ≤ end → (z : ℕ) → entry_at held z ≡ Some (Some key) → ⊥
+    nowhere over high z h = none is.left is.ahead is.slots (is.has z h)
+      where
+        none : (l : List ℕ) → IsAhead next at l end → ((y : ℕ) → Contains l y → y < length held)
+            → Contains l z → ⊥
+        none [] ahead slots c = not_in_none z c
+        none (s ∷ ss) ahead slots c =
+            let below : s < length held = slots s (first_in s ss) in
+            let same : s ≡ end = sym ahead.0 ∙ over in absurd (omega arith)

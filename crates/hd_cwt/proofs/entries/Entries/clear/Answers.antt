@@ -1,0 +1,59 @@
+use Rattle.std.proofs.Common.{◌<◌, length, arith, None}
+use Rattle.hd_cwt.proofs.EntryCalls.{held_low, node_low, back_low, before_low, mask_low, clear_entries, viewed}
+use Rattle.hd_cwt.proofs.entries.Entries.clear.Goals as goal
+
+pub index-before-requires : goal.index-before-requires
+index-before-requires c =
+    omega (
+      arith,
+      c.self.inside.rings.previous.ok.0,
+      back_low c.self.invariant c.self.view_is c.args.slot
+          (held_low c.self.invariant c.self.view_is c.args.slot c.requires),
+    )
+
+pub index_mut-requires : goal.index_mut-requires
+index_mut-requires c =
+    omega (arith, c.self.inside.held.ok.0, held_low c.self.invariant c.self.view_is c.args.slot c.requires)
+
+pub exchange-requires-clause-a : goal.exchange-requires-clause-a
+exchange-requires-clause-a c =
+    let low : c.args.slot < length c.self.inside.held.items =
+    held_low c.self.invariant c.self.view_is c.args.slot c.requires in
+    before_low c.self.invariant c.self.view_is c.args.slot low c.index-before.result.now
+    c.index-before.ensures
+
+pub exchange-requires-clause-b : goal.exchange-requires-clause-b
+exchange-requires-clause-b c =
+    node_low c.self.invariant c.self.view_is c.args.slot
+    (held_low c.self.invariant c.self.view_is c.args.slot c.requires)
+
+pub index-mask-requires : goal.index-mask-requires
+index-mask-requires c =
+    omega (
+      arith,
+      c.self.inside.idle.ok.0,
+      mask_low c.self.invariant c.self.view_is c.args.slot
+          (held_low c.self.invariant c.self.view_is c.args.slot c.requires),
+    )
+
+pub index_mut-requires-2 : goal.index_mut-requires-2
+index_mut-requires-2 c =
+    omega (
+      arith,
+      c.self.inside.idle.ok.0,
+      mask_low c.self.invariant c.self.view_is c.args.slot
+          (held_low c.self.invariant c.self.view_is c.args.slot c.requires),
+    )
+
+pub invariant_of-self : goal.invariant_of-self
+invariant_of-self c =
+    clear_entries c.self.invariant c.self.view_is c.args.slot c.index-mask.result.now c.bit.result
+    c.index-mask.ensures c.bit.ensures.value (held_low c.self.invariant c.self.view_is c.args.slot c.requires)
+    c.exchange.new.self.next.items c.exchange.new.self.previous.items c.index-before.result.now
+    c.index-before.ensures c.exchange.ensures.next c.exchange.ensures.previous c.min-self-inside.result
+    c.min-self-inside.ensures
+
+pub returns : goal.returns
+returns c =
+    viewed c.self.invariant c.self.view_is c.args.slot None
+    (held_low c.self.invariant c.self.view_is c.args.slot c.requires)

@@ -1,0 +1,11 @@
+use Rattle.std.proofs.Common.{◌+◌, ◌-◌}
+use Rattle.hd_model.specs.Indexed.{by_place}
+use Rattle.hd_cwt.specs.WeakTable.{bucket_of, entries_in}
+use Rattle.hd_cwt.proofs.KeySearch.{IsSearching}
+use Rattle.hd_cwt.proofs.entries.search.Given as goal
+
+abbrev pub invariant-loop-at : goal.invariant-loop-at
+invariant-loop-at g l = IsSearching l.held l.next l.end l.key l.at l.fn.steps l.steps
+
+abbrev pub decreases-loop-at : goal.decreases-loop-at
+decreases-loop-at g l = l.fn.steps + entries_in (by_place l.held) (bucket_of l.key) - l.steps

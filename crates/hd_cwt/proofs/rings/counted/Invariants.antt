@@ -1,0 +1,8 @@
+use Rattle.std.proofs.Common.{◌≡◌, ℕ, ◌<◌, ◌≤◌, length, vec_capacity}
+use Rattle.hd_cwt.specs.Rings.{node_at}
+use Rattle.hd_cwt.proofs.rings.counted.Given as goal
+
+abbrev pub invariant-loop-x : goal.invariant-loop-x
+invariant-loop-x l =
+    (length l.nodes.items ≡ l.x) × ((y : ℕ) → y < l.x → node_at l.nodes.items y ≡ y)
+    × (l.count ≤ vec_capacity l.nodes)

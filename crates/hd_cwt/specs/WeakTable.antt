@@ -1,0 +1,74 @@
+-- What contracts see of the weak table: which slots it holds, and the key in each, if it has one. Dividing
+-- keys into buckets is this project's own, after .NET's ConditionalWeakTable in outline.
+use Rattle.std.specs.Prelude.{◌≡◌, ℕ, ◌+◌, ◌*◌, ◌/◌, ◌%◌, ◌<◌, ◌≤◌, ◌==◌, ◌⊎◌, Bool, false, cond, length, filter, is_none, Option, Some, None, IsSome, refl}
+use Rattle.std.specs.Coded.{Coded, code_by, coded×, coded_ℕ, coded_option}
+use Rattle.std.specs.FinMap as map
+use Rattle.std.specs.FinMap.{FinMap, get, len, entries}
+use Rattle.std.specs.Ordering.{nat_cmp}
+use Rattle.hd_model.specs.declared.data.Id.{Id}
+use Rattle.hd_model.specs.declared.data.Slot.{Slot}
+use Rattle.hd_model.specs.declared.limits.TheConstants.{BLOCKS, ROWS}
+use Rattle.hd_model.specs.Code.{id_code}
+use Rattle.hd_model.specs.Table.{Table, live_at}
+use Rattle.hd_cwt.specs.declared.entries.TheConstants.{BUCKETS}
+
+-- the number of blocks that there may be, and for each held slot, by its number, its key or none
+pub record WeakTable : Type 0 where
+  pub blocks : ℕ
+  pub held : FinMap nat_cmp (Option Id)
+
+abbrev pub weak_table_code : Coded WeakTable
+weak_table_code =
+    code_by (ℕ × FinMap nat_cmp (Option Id)) (coded× coded_ℕ (map.code coded_ℕ (coded_option id_code)))
+    (λ t. (t.blocks, t.held)) (λ p. record { blocks = p.0; held = p.1 }) (λ _. refl)
+
+-- the slots that the blocks have, and how many of them may be held: those of one block of each pair
+abbrev pub slots_of : WeakTable → ℕ
+slots_of t = ROWS * (t.blocks + 1)
+
+abbrev pub room_of : WeakTable → ℕ
+room_of t = ROWS * (t.blocks / 2)
+
+-- a held slot without a key, and the least of them
+abbrev pub IsIdle : WeakTable → ℕ → Type 0
+IsIdle t slot = get t.held slot ≡ Some None
+
+pub record IsLeastIdle (t : WeakTable) (slot : Slot) : Type 0 where
+  pub idle : IsIdle t slot.0
+  pub least : (other : ℕ) → IsIdle t other → slot.0 ≤ other
+
+-- a slot with a key
+abbrev pub HasKey : WeakTable → Id → ℕ → Type 0
+HasKey t key slot = get t.held slot ≡ Some (Some key)
+
+-- the table has a key, in some slot
+pub record IsIn (t : WeakTable) (key : Id) : Type 0 where
+  pub slot : ℕ
+  pub has : HasKey t key slot
+
+-- a slot that can be given a key: an idle one, or one that is not held while there is room
+abbrev pub CanTake : WeakTable → ℕ → Type 0
+CanTake t slot = IsIdle t slot ⊎ ((get t.held slot ≡ None) × (len t.held < room_of t))
+
+-- no key is in two slots, each held slot is one of the blocks' and there are no more than there is room for
+pub record IsWeakTable (t : WeakTable) : Type 0 where
+  pub limit : t.blocks ≤ BLOCKS
+  pub apart : (key : Id) (a b : ℕ) → HasKey t key a → HasKey t key b → a ≡ b
+  pub within : (slot : ℕ) → IsSome (get t.held slot) → slot < slots_of t
+  pub fits : len t.held ≤ room_of t
+
+-- the bucket of a key, and whether an entry is in a bucket
+abbrev pub bucket_of : Id → ℕ
+bucket_of key = key.0 % BUCKETS
+
+abbrev pub is_in_bucket : ℕ → Option Id → Bool
+is_in_bucket bucket None = false
+is_in_bucket bucket (Some key) = bucket_of key == bucket
+
+-- the number of entries in a bucket
+abbrev pub entries_in : FinMap nat_cmp (Option Id) → ℕ → ℕ
+entries_in held bucket = length (filter (λ (e : ℕ × Option Id). is_in_bucket bucket e.1) (entries held))
+
+-- what a held slot has after a sweep: no key where its row has no target
+abbrev pub kept_key : Table → ℕ → Option Id → Option Id
+kept_key seg slot key = cond (is_none (live_at seg slot).target) None key

@@ -1,0 +1,159 @@
+ghost use Rattle.std.specs.Prelude.{◌≡◌, ℕ, ◌+◌, ◌<◌, ◌≤◌, ◌↔◌, Some, None, option_map};
+ghost use Rattle.std.specs.Prelude.{IfOk, IfSome, IsSome, IsNone};
+ghost use Rattle.std.specs.FinMap as map;
+ghost use Rattle.std.specs.FinMap.{get, len, contains_key};
+ghost use Rattle.hd_model.specs.Table.{live_at};
+ghost use Rattle.hd_cwt.specs.WeakTable.{CanTake, HasKey, IsIdle, IsIn, IsLeastIdle, IsWeakTable};
+ghost use Rattle.hd_cwt.specs.WeakTable.{bucket_of, entries_in, kept_key, slots_of};
+ghost use Rattle.hd_cwt.specs.Inside.{swept_at};
+
+use crate::entries::Entries;
+use hd_model::limits::{BLOCKS, ROWS};
+use hd_model::{Addr, Id, Memory, Slot, Steps};
+use hd_seg::Seg;
+use std::alloc::Global;
+use std::marker::{Brand, Model};
+use std::sync::ledger::{Blank, Ledger};
+
+/// The weak table: the slots that it holds, and the key in each, if it has one.
+///
+/// A held slot stays held. It may lose its key and get another. Values are not here: they are the
+/// secondaries of the slots' rows. All memory is taken by `open`.
+#[derive(Drop)]
+pub struct Cwt {
+    entries: Entries,
+    // The held slots, in the order in which they were first taken.
+    slots: Vec<u32>,
+}
+
+impl Model for Cwt {
+    ghost use Rattle.std.specs.Prelude.{vec_capacity};
+    ghost use Rattle.hd_cwt.specs.WeakTable.{WeakTable, weak_table_code};
+    ghost use Rattle.hd_cwt.specs.Inside.{IsListed};
+
+    ghost Value = { WeakTable };
+
+    ghost coded = { weak_table_code };
+
+    ghost view = { λ t. t.entries };
+
+    ghost invariant = { λ t. IsListed t.entries t.slots.items (vec_capacity t.slots) };
+}
+
+impl Cwt {
+    /// A table for the slots of `blocks` blocks, with room for 64 of each pair of blocks. No slot
+    /// is held.
+    pub fn open(alloc: Global, blocks: u32) -> Result<Cwt, Memory>
+        requires { blocks ≤ BLOCKS }
+        ensures { IfOk result (λ t. t ≡ record { blocks = blocks; held = map.empty }) }
+    {
+        let entries = Entries::open(alloc, blocks)?;
+        let room = ROWS * (blocks / 2);
+        match Vec::with_capacity(alloc, room as usize) {
+            Ok(slots) => Ok(Cwt { entries, slots }),
+            Err(_) => Err(Memory),
+        }
+    }
+
+    /// Whether a slot, which may be any number, is held.
+    pub fn held(&self, slot: Slot) -> bool
+        ensures value { result ≡ contains_key self.now.held slot.0 }
+        ensures table { IsWeakTable self.now }
+    {
+        self.entries.get(slot.0).is_some()
+    }
+
+    /// The number of held slots.
+    pub fn held_count(&self) -> u32
+        ensures value { result ≡ len self.now.held }
+        ensures table { IsWeakTable self.now }
+    {
+        self.slots.len() as u32
+    }
+
+    /// The least held slot without a key, in constant time.
+    pub fn idle(&self) -> Option<Slot>
+        ensures least { IfSome result (IsLeastIdle self.now) }
+        ensures none { IsNone result ↔ ((slot : ℕ) → ¬ (IsIdle self.now slot)) }
+        ensures table { IsWeakTable self.now }
+    {
+        let slot = self.entries.idle()?;
+        Some(Slot(slot))
+    }
+
+    /// The slot with a key. One step is one entry that is looked at, of those in the key's bucket.
+    pub fn find<L: Ledger>(&self, key: Id, steps: &mut Steps<L>) -> Option<Slot>
+        ensures found { IfSome result (λ slot. HasKey self.now key slot.0) }
+        ensures none { IsNone result ↔ ((slot : ℕ) → ¬ (HasKey self.now key slot)) }
+        ensures counted { steps.old ≤ steps.new }
+        ensures steps { steps.new ≤ steps.old + (entries_in self.now.held (bucket_of key) + 1) }
+        ensures table { IsWeakTable self.now }
+    {
+        let slot = self.entries.find(key, steps)?;
+        Some(Slot(slot))
+    }
+
+    /// Puts a key into a slot, which is held from now on.
+    pub fn add(&mut self, key: Id, slot: Slot)
+        requires new { (other : ℕ) → ¬ (HasKey self.old key other) }
+        requires within { slot.0 < slots_of self.old }
+        requires slot { CanTake self.old slot.0 }
+        ensures { self.new ≡ record self.old { held = map.insert self.old.held slot.0 (Some key) } }
+    {
+        let held = self.held(slot);
+        self.entries.put(slot.0, key);
+        if !held {
+            self.slots.push_reserved(slot.0);
+        }
+    }
+
+    /// Takes a key out. Its slot stays held, and is idle.
+    pub fn remove(&mut self, key: Id)
+        requires { IsIn self.old key }
+        ensures { (slot : ℕ) → HasKey self.old key slot →
+            self.new ≡ record self.old { held = map.insert self.old.held slot None } }
+    {
+        self.remove_on::<Brand>(key, Blank::new(1));
+    }
+
+    // The same, with a counter that nothing reads.
+    fn remove_on<L: Ledger>(&mut self, key: Id, blank: Blank)
+        requires blank { (L.name ≡ blank.name) × (L.parts ≡ blank.parts) × (0 < blank.parts) }
+        requires has { IsIn self.old key }
+        ensures { (slot : ℕ) → HasKey self.old key slot →
+            self.new ≡ record self.old { held = map.insert self.old.held slot None } }
+    {
+        let mut steps = Steps::<L>::open(blank);
+        let slot = self.entries.find(key, &mut steps).unwrap();
+        self.entries.clear(slot);
+    }
+
+    /// Takes out the keys in slots whose row has a null target. Their slots stay held. It looks at
+    /// each held slot once. A slot that is not live has no target.
+    pub fn sweep(&mut self, seg: &Seg)
+        ensures blocks { self.new.blocks ≡ self.old.blocks }
+        ensures each { (slot : ℕ) → get self.new.held slot ≡
+            option_map (kept_key seg.now slot) (get self.old.held slot) }
+    {
+        for i in 0..self.slots.len() {
+            sweep_slot(&mut self.entries, seg, self.slots[i]);
+        }
+    }
+}
+
+// Takes out the key in a slot whose row has a null target, if it has one.
+fn sweep_slot(entries: &mut Entries, seg: &Seg, slot: u32)
+    requires { IsSome (get entries.old.held slot) }
+    ensures { entries.new ≡ swept_at seg.now entries.old slot }
+{
+    if target_of(seg, slot).is_none() {
+        entries.clear(slot);
+    }
+}
+
+// The target of a slot's row. A slot that is not live has none.
+fn target_of(seg: &Seg, slot: u32) -> Option<Addr>
+    ensures { result ≡ (live_at seg.now slot).target }
+{
+    seg.row(Slot(slot))?.target
+}

@@ -1,0 +1,191 @@
+// The entries of the table: the key of each held slot, and how a key is found.
+ghost use Rattle.std.specs.Prelude.{◌≡◌, ◌≢◌, ℕ, ◌+◌, ◌*◌, ◌/◌, ◌%◌, ◌<◌, ◌≤◌, length, replicate};
+ghost use Rattle.std.specs.Prelude.{slice_index_or, Some, None, IfOk, IfSome, IfNone, IsSome};
+ghost use Rattle.std.specs.FinMap as map;
+ghost use Rattle.std.specs.FinMap.{get};
+ghost use Rattle.hd_model.specs.Indexed.{by_place};
+ghost use Rattle.hd_cwt.specs.WeakTable.{IsIdle, HasKey, bucket_of, entries_in, slots_of};
+ghost use Rattle.hd_cwt.specs.Inside.{HasBucket, entry_at};
+
+use crate::rings::Rings;
+use hd_mask::{bit, lowest};
+use hd_model::limits::{BLOCKS, ROWS};
+use hd_model::{Id, Memory, Steps};
+use std::alloc::Global;
+use std::marker::Model;
+use std::sync::ledger::Ledger;
+
+/// The buckets of keys.
+pub(crate) const BUCKETS: u32 = 4_096;
+
+/// For each slot whether it is held, and its key.
+#[derive(Drop)]
+pub(crate) struct Entries {
+    blocks: u32,
+    held: Vec<Option<Option<Id>>>,
+    // Each slot is a node, and after them each bucket.
+    rings: Rings,
+    // For each block a mask of its idle slots, and the first mask that is not 0.
+    idle: Vec<u64>,
+    first: u32,
+}
+
+impl Model for Entries {
+    ghost use Rattle.hd_model.specs.Indexed.{by_place};
+    ghost use Rattle.hd_cwt.specs.WeakTable.{WeakTable, weak_table_code};
+    ghost use Rattle.hd_cwt.specs.Inside.{IsEntries};
+
+    ghost Value = { WeakTable };
+
+    ghost coded = { weak_table_code };
+
+    ghost view = { λ e. record { blocks = e.blocks; held = by_place e.held.items } };
+
+    ghost invariant = { λ e. IsEntries e.blocks e.held.items e.rings.next.items
+        e.rings.previous.items e.idle.items e.first };
+}
+
+impl Entries {
+    /// No slot is held.
+    pub(crate) fn open(alloc: Global, blocks: u32) -> Result<Entries, Memory>
+        requires { blocks ≤ BLOCKS }
+        ensures { IfOk result (λ e. e ≡ record { blocks = blocks; held = map.empty }) }
+    {
+        let slots = ROWS * (blocks + 1);
+        let held = filled(alloc, None, slots)?;
+        let rings = Rings::open(alloc, slots + BUCKETS)?;
+        let idle = filled(alloc, 0, blocks + 1)?;
+        Ok(Entries {
+            blocks,
+            held,
+            rings,
+            idle,
+            first: blocks + 1,
+        })
+    }
+
+    /// Whether a slot, which may be any number, is held, and its key.
+    pub(crate) fn get(&self, slot: u32) -> Option<Option<Id>>
+        ensures { result ≡ get self.now.held slot }
+    {
+        entry(&self.held, slot)
+    }
+
+    /// The least idle slot.
+    pub(crate) fn idle(&self) -> Option<u32>
+        ensures idle { IfSome result (IsIdle self.now) }
+        ensures least { IfSome result (λ slot. (other : ℕ) → IsIdle self.now other → slot ≤ other) }
+        ensures none { IfNone result ((slot : ℕ) → IsIdle self.now slot → ⊥) }
+    {
+        if self.first > self.blocks {
+            return None;
+        }
+        let row = lowest(self.idle[self.first as usize])?;
+        Some(self.first * ROWS + row)
+    }
+
+    /// The slot with a key. Each entry that is looked at is a step.
+    pub(crate) fn find<L: Ledger>(&self, key: Id, steps: &mut Steps<L>) -> Option<u32>
+        ensures found { IfSome result (HasKey self.now key) }
+        ensures none { IfNone result ((slot : ℕ) → HasKey self.now key slot → ⊥) }
+        ensures counted { steps.old ≤ steps.new }
+        ensures steps { steps.new ≤ steps.old + entries_in self.now.held (bucket_of key) }
+    {
+        let end = self.bucket(key);
+        search(&self.held, &self.rings.next, end, key, steps)
+    }
+
+    /// Gives a slot a key. It is held from now on.
+    pub(crate) fn put(&mut self, slot: u32, key: Id)
+        requires within { slot < slots_of self.old }
+        requires free { (other : Id) → HasKey self.old other slot → ⊥ }
+        ensures { self.new ≡ record self.old { held = map.insert self.old.held slot (Some key) } }
+    {
+        let end = self.bucket(key);
+        self.held[slot as usize] = Some(Some(key));
+        self.rings.exchange(end, slot);
+        let block = (slot / ROWS) as usize;
+        let mask = self.idle[block];
+        self.idle[block] = mask & !bit(slot % ROWS);
+        self.first = first_marked(&self.idle, self.first);
+    }
+
+    /// Takes the key of a held slot, if it has one.
+    pub(crate) fn clear(&mut self, slot: u32)
+        requires { IsSome (get self.old.held slot) }
+        ensures { self.new ≡ record self.old { held = map.insert self.old.held slot None } }
+    {
+        let before = self.rings.previous[slot as usize];
+        self.held[slot as usize] = Some(None);
+        self.rings.exchange(before, slot);
+        let block = slot / ROWS;
+        let mask = self.idle[block as usize];
+        self.idle[block as usize] = mask | bit(slot % ROWS);
+        self.first = self.first.min(block);
+    }
+
+    // The node of the bucket of a key.
+    fn bucket(&self, key: Id) -> u32
+        ensures { result ≡ slots_of self.now + bucket_of key }
+    {
+        self.held.len() as u32 + (key.0 % u64::from(BUCKETS)) as u32
+    }
+}
+
+// Whether a slot, which may be any number, is held, and its key.
+fn entry(held: &[Option<Option<Id>>], slot: u32) -> Option<Option<Id>>
+    ensures { result ≡ entry_at held.now slot }
+{
+    held.get(slot as usize).copied().unwrap_or(None)
+}
+
+// The slot with a key, along the ring of its bucket.
+fn search<L: Ledger>(
+    held: &[Option<Option<Id>>],
+    next: &[u32],
+    end: u32,
+    key: Id,
+    steps: &mut Steps<L>,
+) -> Option<u32>
+    requires bucket { HasBucket held.now next.now end (bucket_of key) }
+    requires within { (length held.now ≤ end) × (end < length next.now) }
+    ensures found { IfSome result (λ slot. entry_at held.now slot ≡ Some (Some key)) }
+    ensures none { IfNone result ((slot : ℕ) → entry_at held.now slot ≡ Some (Some key) → ⊥) }
+    ensures counted { steps.old ≤ steps.new }
+    ensures steps { steps.new ≤ steps.old + entries_in (by_place held.now) (bucket_of key) }
+{
+    let mut at = next[end as usize];
+    while at != end {
+        steps.tick();
+        if held[at as usize] == Some(Some(key)) {
+            return Some(at);
+        }
+        at = next[at as usize];
+    }
+    None
+}
+
+// The first mask that is not 0, from `from` on, or the number of masks.
+fn first_marked(masks: &[u64], from: u32) -> u32
+    requires { length masks.now ≤ BLOCKS + 1 }
+    ensures before { (b : ℕ) → from ≤ b → b < result → slice_index_or masks.now b 0 ≡ 0 }
+    ensures some { result < length masks.now → slice_index_or masks.now result 0 ≢ 0 }
+{
+    for b in from..masks.len() as u32 {
+        if masks[b as usize] != 0 {
+            return b;
+        }
+    }
+    masks.len() as u32
+}
+
+// A list of `count` copies of a value.
+fn filled<T: Copy + Drop>(alloc: Global, value: T, count: u32) -> Result<Vec<T>, Memory>
+    ensures { IfOk result (λ v. v.items ≡ replicate count value) }
+{
+    let mut list = Vec::new(alloc);
+    match list.resize(count as usize, value) {
+        Ok(()) => Ok(list),
+        Err(_) => Err(Memory),
+    }
+}

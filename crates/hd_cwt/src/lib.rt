@@ -1,0 +1,9 @@
+//! The weak table that all callers share, after .NET's ConditionalWeakTable: which slots of
+//! dependent handles it holds, and which key is in which of them.
+#![tactic(auto)]
+
+mod cwt;
+mod entries;
+mod rings;
+
+pub use cwt::Cwt;
