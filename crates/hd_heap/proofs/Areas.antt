@@ -1,18 +1,7 @@
 -- Lemmas on one region of a heap.
-use Rattle.std.proofs.Common.{◌≡◌, ◌≢◌, ℕ, zero, suc, map as each, ◌+◌, ◌-◌, ◌/◌, ◌≤◌, inl, inr, Bool, true, false, cond, List, [], ◌∷◌, length, get_or, replicate, Option, Some, None, refl, sym, ap, ◌∙◌, subst, arith}
-use Rattle.std.specs.Prelude.{is_some, unwrap_or, sum_by}
-use Rattle.std.proofs.lemmas.Bool.{cases_eq, both_ways, false_from_ne_true}
-use Rattle.std.specs.Ordering.{nat_cmp}
-use Rattle.std.specs.Cmp.{nat_cmp_total}
+use Rattle.hd_heap.proofs.Basics.{Area, BeginsIn, Bool, Contents, IsArea, IsLaidOut, IsObject, IsPutInto, IsTaken, IsWritten, List, None, Object, Option, Some, [], ap, arith, both_ways, card_in, cases_eq, cond, contents, empty_region, false, false_from_ne_true, found_later, get_or, inl, inr, is_some, len_less, length, nat_cmp, nat_cmp_total, no_object, object_at, refl, replicate, share, size_of, still_some, subst, suc, sum-at, sum-insert, sum-many, sum-taken, sum_by, sym, true, unwrap_or, without_object, zero, ℕ, ◌+◌, ◌-◌, ◌/◌, ◌∙◌, ◌∷◌, ◌≡◌, ◌≢◌, ◌≤◌}
+use Rattle.std.proofs.Common.{map as each}
 use Rattle.std.specs.FinMap as map
-use Rattle.hd_cells.specs.Object.{Object, size_of, no_object}
-use Rattle.hd_cells.specs.Region.{Contents, IsObject, IsLaidOut, object_at, without_object, empty_region}
-use Rattle.hd_heap.specs.declared.area.Area.{Area}
-use Rattle.hd_heap.specs.Areas.{contents, card_in, BeginsIn, IsArea}
-use Rattle.hd_heap.specs.Steps.{IsPutInto, IsTaken, IsWritten}
-use Rattle.hd_model.proofs.ReadAfterWrite.{still_some, len_less}
-use Rattle.hd_model.proofs.Entries.{found_later}
-use Rattle.hd_model.proofs.Sums.{share, sum-insert, sum-taken, sum-at, sum-many}
 
 -- the object at an offset
 pub some_of : {A : Type 0} (o : Option A) → is_some o ≡ true → (x : A) × (o ≡ Some x)
@@ -131,11 +120,6 @@ area_empty b empty laid live count few card_count clear =
       cards = λ card set. absurd (both_ways _ (clear card) set);
       spare = λ _. empty;
     }
-
--- no card is set where there is no object
-pub no_cards : (a : Area) → IsArea a → ((k : ℕ) → ¬ (IsObject (contents a) k)) → (card : ℕ)
-    → card_in (Some a) card ≡ false
-no_cards a is none card = false_from_ne_true _ (λ set. let b = is.cards card set in none b.at b.object)
 
 -- no object takes cells where none are taken
 pub none_live : (a : Area) → IsArea a → a.live ≡ 0 → (k : ℕ) → ¬ (IsObject (contents a) k)

@@ -1,21 +1,9 @@
 -- Lemmas on the fields of an object, of which the first ones have their forwarding addresses.
-use Rattle.std.proofs.Common.{◌≡◌, ◌≢◌, ℕ, zero, suc, ◌+◌, ◌<◌, ◌≤◌, Bool, true, List, [], ◌∷◌, ◌++◌, map, length, take, drop, set, get_or, replicate, Option, Some, None, refl, sym, ap, ◌∙◌, subst, arith, length-set}
-use Rattle.std.specs.Prelude.{is_some, unwrap_or, option_map, Contains}
-use Rattle.std.proofs.lemmas.List.{length-replicate}
-use Rattle.std.proofs.lemmas.List.Elements.{Contains-get_or}
+use Rattle.hd_heap.proofs.Basics.{Addr, Bool, Contains, Contains-get_or, Contents, Heap, IsField, IsObject, List, MayForward, None, Object, Option, Some, [], address, ap, arith, drop, fields_at, first_in, forwarded, get_inserted, get_or, is_some, later_in, length, length-replicate, length-set, map, mapped_in, no_object, object_at, option_map, placed_of, refl, region_forwarded, replicate, set, size_of, stored_place, subst, suc, sym, take, true, unwrap_or, with_field, with_object, with_put, with_value, zero, ℕ, ◌++◌, ◌+◌, ◌<◌, ◌∙◌, ◌∷◌, ◌≡◌, ◌≢◌, ◌≤◌}
+use Rattle.hd_cells.specs.Object.{new_object}
+use Rattle.hd_model.specs.{Scene.fields_at as fields_at_heap, Heap.object_at as object_at_heap}
+use Rattle.hd_heap.proofs.{HeapValues.put_same, HeapValues.put_twice, RegionReads.address_is}
 use Rattle.std.specs.FinMap as fin
-use Rattle.hd_cells.specs.Object.{Object, size_of, no_object, with_field, with_value, new_object}
-use Rattle.hd_cells.specs.Region.{Contents, IsObject, object_at, fields_at, with_object, with_put}
-use Rattle.hd_model.specs.declared.data.Addr.{Addr}
-use Rattle.hd_model.specs.Scene.{fields_at as fields_at_heap, IsField}
-use Rattle.hd_model.specs.Heap.{Heap, object_at as object_at_heap}
-use Rattle.hd_heap.specs.Areas.{address, placed_of}
-use Rattle.hd_heap.specs.Calls.{forwarded}
-use Rattle.hd_heap.specs.Forwarding.{stored_place, region_forwarded, MayForward}
-use Rattle.hd_model.proofs.Members.{first_in, later_in, mapped_in}
-use Rattle.hd_model.proofs.ReadAfterWrite.{get_inserted}
-use Rattle.hd_heap.proofs.HeapValues.{put_same, put_twice}
-use Rattle.hd_heap.proofs.RegionReads.{address_is}
 
 -- the first i fields of one list through a function, and the rest of another list
 abbrev pub partly : (ℕ → ℕ) → ℕ → List ℕ → List ℕ → List ℕ

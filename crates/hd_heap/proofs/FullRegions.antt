@@ -1,20 +1,8 @@
 -- Which regions of generation 0 may have room for another object.
-use Rattle.std.proofs.Common.{◌≡◌, ◌≢◌, ℕ, ◌≤◌, inl, inr, true, cond, Option, refl, sym, ap, ◌∙◌, subst, arith}
-use Rattle.std.specs.Prelude.{is_some, unwrap_or, nat_eq}
-use Rattle.std.proofs.lemmas.Bool.{cases_eq, both_ways, eq-eqb, ne_eqb}
-use Rattle.std.specs.Ordering.{nat_cmp}
-use Rattle.std.specs.FinMap as fin
-use Rattle.hd_model.specs.Heap.{Heap, Placed, Region, is_in_use, region_at, region_generation}
-use Rattle.hd_heap.specs.Calls.{with_fresh, with_put, with_generation, without_region, AreFull}
-use Rattle.hd_heap.specs.Steps.{AreOthersFull}
-use Rattle.hd_model.proofs.ReadAfterWrite.{get_left, get_removed}
+use Rattle.hd_heap.proofs.Basics.{AreFull, AreOthersFull, Heap, Option, Placed, Region, ap, arith, both_ways, cases_eq, cond, eq-eqb, get_left, get_removed, inl, inr, is_in_use, is_some, nat_cmp, nat_eq, ne_eqb, refl, region_at, region_generation, subst, sym, true, unwrap_or, with_fresh, with_generation, without_region, ℕ, ◌∙◌, ◌≡◌, ◌≢◌, ◌≤◌}
+use Rattle.hd_heap.specs.Calls.{with_put}
 use Rattle.hd_heap.proofs.HeapValues.{get_same, get_other}
-
--- what holds of a heap's value holds of its regions, where one changes into the other
-pub others_by : (a old b new : Heap) (c d : ℕ) → a ≡ old → b ≡ new
-    → (AreOthersFull old c → AreOthersFull new d) → AreOthersFull a c → AreOthersFull b d
-others_by a old b new c d is_old is_new step full =
-    subst (λ h. AreOthersFull h d) (sym is_new) (step (subst (λ h. AreOthersFull h c) is_old full))
+use Rattle.std.specs.FinMap as fin
 
 -- nothing is said of a heap whose last region is not known
 pub others_unknown : (h : Heap) (c : ℕ) → c ≡ 0 → AreOthersFull h c

@@ -1,14 +1,6 @@
 -- Lemmas on references from the fields of an object to objects of younger generations.
-use Rattle.std.proofs.Common.{◌≡◌, ℕ, ◌<◌, ◌≤◌, true, false, length, Option, Some, None, get_or, refl, sym, ap, ◌∙◌, subst, arith}
-use Rattle.std.specs.Prelude.{IfSome, Contains}
-use Rattle.std.proofs.lemmas.Bool.{both_ways, ltb-true, lt-ltb}
-use Rattle.std.proofs.lemmas.List.Elements.{Contains-get_or}
-use Rattle.std.proofs.lemmas.List.{get_or_read}
-use Rattle.hd_model.specs.declared.data.Addr.{Addr}
-use Rattle.hd_model.specs.Scene.{fields_at, IsField}
-use Rattle.hd_model.specs.Heap.{Heap, has_object, object_at}
-use Rattle.hd_heap.specs.Calls.{NamesBelow}
-use Rattle.hd_heap.specs.Steps.{is_below}
+use Rattle.hd_heap.proofs.Basics.{Addr, Contains, Contains-get_or, Heap, IfSome, IsField, NamesBelow, None, Option, Some, ap, arith, both_ways, false, get_or, get_or_read, has_object, is_below, length, lt-ltb, ltb-true, refl, subst, sym, true, ℕ, ◌<◌, ◌∙◌, ◌≡◌, ◌≤◌}
+use Rattle.hd_model.specs.{Scene.fields_at, Heap.object_at}
 
 module _ (h : Heap) (at : Addr) where
   -- what a field references

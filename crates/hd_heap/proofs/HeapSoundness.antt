@@ -1,19 +1,9 @@
 -- What is kept of the fields of a heap is what its users see.
-use Rattle.std.proofs.Common.{◌≡◌, ◌≢◌, ◌<◌, ◌^◌, false, ℕ, suc, ◌+◌, ◌*◌, ◌/◌, ◌%◌, ◌≤◌, inl, inr, true, List, [], ◌∷◌, map, length, get_or, Option, Some, None, refl, sym, ap, ◌∙◌, subst, arith}
-use Rattle.std.specs.Prelude.{is_some, sum_by}
-use Rattle.std.proofs.lemmas.Bool.{cases_eq}
-use Rattle.std.proofs.lemmas.List.{length-map}
-use Rattle.std.proofs.lemmas.List.Sums.{sum_by-cons}
+use Rattle.hd_heap.proofs.Basics.{Addr, Area, Heap, IsObject, IsSound, List, None, Option, Placed, Region, Some, StartsIn, [], address, ap, area_at, arith, card_in, cases_eq, cells_of, contents, false, get_or, inl, inr, is_in_use, is_some, length, length-map, map, refl, subst, suc, sum-many, sum_by, sum_by-cons, sym, true, ℕ, ◌%◌, ◌*◌, ◌+◌, ◌/◌, ◌<◌, ◌^◌, ◌∙◌, ◌∷◌, ◌≡◌, ◌≢◌, ◌≤◌}
+use Rattle.hd_cells.specs.Region.{object_at as object_in_region}
+use Rattle.hd_model.specs.Heap.{region_of, card_of}
+use Rattle.hd_heap.proofs.{RegionReads.IsHeap, RegionReads.get-regions, RegionReads.found, RegionReads.held_found, RegionReads.has_there, RegionReads.set_at, RegionReads.used_is, RegionReads.count_is, RegionSums.cells_placed}
 use Rattle.std.specs.FinMap as fin
-use Rattle.hd_cells.specs.Region.{IsObject, object_at as object_in_region}
-use Rattle.hd_model.specs.declared.data.Addr.{Addr}
-use Rattle.hd_model.specs.Heap.{Placed, Region, Heap, region_of, card_of, cells_of, is_in_use}
-use Rattle.hd_heap.specs.declared.area.Area.{Area}
-use Rattle.hd_heap.specs.Areas.{contents, area_at, address, card_in}
-use Rattle.hd_heap.specs.Sound.{IsSound, StartsIn}
-use Rattle.hd_model.proofs.Sums.{sum-many}
-use Rattle.hd_heap.proofs.RegionReads.{IsHeap, get-regions, found, held_found, has_there, set_at, used_is, count_is}
-use Rattle.hd_heap.proofs.RegionSums.{cells_placed}
 
 -- the cells of all objects are at most those of all regions
 lives_small : (areas : List Area) → ((k : ℕ) (a : Area) → get_or (map Some areas) k None ≡ Some a

@@ -1,21 +1,9 @@
 -- Lemmas on the value of a heap alone: what one call leaves for the next.
-use Rattle.std.proofs.Common.{◌≡◌, ◌≢◌, ℕ, suc, ◌+◌, ◌*◌, ◌<◌, ◌≤◌, inl, inr, Bool, true, false, cond, List, [], ◌∷◌, length, set, get_or, take, drop, Option, Some, None, refl, sym, ap, ◌∙◌, subst, arith, length-set, get_or-set_same, get_or-set_other, ext_get_or}
-use Rattle.std.specs.Prelude.{is_some, unwrap_or, option_map, max}
-use Rattle.std.proofs.lemmas.Bool.{cases_eq, both_ways}
-use Rattle.std.proofs.lemmas.List.{length-replicate}
-use Rattle.std.specs.Ordering.{nat_cmp}
-use Rattle.std.specs.Cmp.{nat_cmp_total}
+use Rattle.hd_heap.proofs.Basics.{Addr, AreFull, Bool, HasRoom, Heap, IsMade, IsRoom, List, None, Option, Placed, Region, Some, [], ap, arith, both_ways, cases_eq, cells_of, cond, drop, ext_get_or, false, fields_in, found_first, found_later, get_inserted, get_or, get_or-set_other, get_or-set_same, has_object, inl, inr, is_in_use, is_some, length, length-replicate, length-set, max, nat_cmp, nat_cmp_total, new_object, object_in, option_map, placed_at, refl, region_at, region_generation, region_of, set, subst, suc, sym, take, true, unwrap_or, used_of, with_copy, with_fresh, ℕ, ◌*◌, ◌+◌, ◌<◌, ◌∙◌, ◌∷◌, ◌≡◌, ◌≢◌, ◌≤◌}
+use Rattle.hd_model.specs.{declared.data.Id.Id, Scene.fields_at, Heap.object_at}
+use Rattle.hd_heap.specs.Calls.{with_object, with_put, with_field}
+use Rattle.hd_heap.proofs.{Areas.some_of, RegionReads.has-get}
 use Rattle.std.specs.FinMap as fin
-use Rattle.hd_model.specs.declared.data.Id.{Id}
-use Rattle.hd_model.specs.declared.data.Addr.{Addr}
-use Rattle.hd_model.specs.Scene.{fields_at, fields_in}
-use Rattle.hd_model.specs.Heap.{Placed, Region, Heap, region_of, region_at, region_generation, is_in_use, has_object, object_at, object_in, placed_at, cells_of, used_of}
-use Rattle.hd_heap.specs.Calls.{with_object, with_put, with_fresh, with_field, with_copy, new_object, IsMade, AreFull}
-use Rattle.hd_heap.specs.Steps.{HasRoom, IsRoom}
-use Rattle.hd_model.proofs.ReadAfterWrite.{get_inserted}
-use Rattle.hd_model.proofs.Entries.{found_first, found_later}
-use Rattle.hd_heap.proofs.Areas.{some_of}
-use Rattle.hd_heap.proofs.RegionReads.{has-get}
 
 abbrev no_placed : Placed
 no_placed = record { id = record { 0 = 0 }; fields = []; value = 0; registered = false }
@@ -57,17 +45,6 @@ has_with_object h a x p is = has-get (with_object h a p) x ∙ elim (cases_eq x.
   | inl same ↦ ap is_some (get_same h.objects a.0 x.0 p same)
   | inr apart ↦ ap is_some (get_other h.objects a.0 x.0 p apart) ∙ sym (has-get h x) ∙ is
 ]
-
-pub placed_with_object : (h : Heap) (a : Addr) (p : Placed) → placed_at (with_object h a p) a ≡ p
-placed_with_object h a p = ap (λ o. unwrap_or o no_placed) (get_same h.objects a.0 a.0 p refl)
-
-pub placed_kept : (h : Heap) (a x : Addr) (p : Placed) → x.0 ≢ a.0
-    → placed_at (with_object h a p) x ≡ placed_at h x
-placed_kept h a x p apart = ap (λ o. unwrap_or o no_placed) (get_other h.objects a.0 x.0 p apart)
-
-pub write_twice : (h : Heap) (a : Addr) (p q : Placed)
-    → with_object (with_object h a p) a q ≡ with_object h a q
-write_twice h a p q = ap (λ m. record h { objects = m }) (put_twice h.objects a.0 p q)
 
 -- the fields of an object, read in two ways
 pub fields_placed : (h : Heap) (x : Addr) → has_object h x ≡ true
@@ -197,12 +174,6 @@ made old mid new r size at o fits room place region free put =
           first = room.first;
           made = put ∙ ap (λ g. with_put mid n g o) room.room.young ∙ p.put;
         }
-
-pub write_same : (h : Heap) (a : Addr) → has_object h a ≡ true → h ≡ with_object h a (placed_at h a)
-write_same h a is =
-    let some = some_of (fin.get h.objects a.0) (sym (has-get h a) ∙ is) in
-    ap (λ m. record h { objects = m }) (put_same h.objects a.0 (placed_at h a) (some.1
-    ∙ ap Some (sym (ap (λ o. unwrap_or o no_placed) some.1))))
 
 -- an object was put after all others of a region, at a free address, and another one is as it was
 pub record IsCopied (h now : Heap) (from copy : Addr) (o : Placed) : Type 0 where

@@ -1,12 +1,8 @@
 -- Lemmas on lists that are read as maps and sets by index.
-use Rattle.std.proofs.Common.{◌≡◌, ℕ, zero, suc, ◌+◌, ◌-◌, ◌*◌, ◌<◌, Bool, true, false, ◌||◌, cond, List, [], ◌∷◌, ◌++◌, length, get_or, Option, None, refl, sym, ap, ◌∙◌, arith}
+use Rattle.hd_heap.proofs.Basics.{Bool, List, None, Option, [], ap, arith, cond, eq-eqb, eq_by_cmp, false, flagged, get_or, get_or-append_right, get_or_append_left, length, nat_cmp, nat_cmp_total, ne_eqb, places_of, refl, suc, sym, true, unsigned_tied, zero, ℕ, ◌*◌, ◌++◌, ◌+◌, ◌-◌, ◌<◌, ◌||◌, ◌∙◌, ◌∷◌, ◌≡◌}
 use Rattle.std.specs.List.{list_any}
+use Rattle.hd_heap.specs.Places.{table, tables}
 use Rattle.std.specs.FinSet as set
-use Rattle.std.specs.Ordering.{nat_cmp, eq_by_cmp}
-use Rattle.std.specs.Cmp.{nat_cmp_total, unsigned_tied}
-use Rattle.std.proofs.lemmas.Bool.{eq-eqb, ne_eqb}
-use Rattle.std.proofs.lemmas.List.{get_or_append_left, get_or-append_right}
-use Rattle.hd_heap.specs.Places.{flagged, places_of, table, tables}
 
 -- the order's test at two numbers that are equal, and at two that are not
 pub tied : (q i : ℕ) → q ≡ i → eq_by_cmp nat_cmp q i ≡ true

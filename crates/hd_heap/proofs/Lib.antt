@@ -1,3 +1,4 @@
+pub mod Basics
 pub mod IndexedLists
 pub mod Areas
 pub mod WantedObjects

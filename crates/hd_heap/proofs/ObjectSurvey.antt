@@ -1,29 +1,9 @@
 -- Lemmas on a survey of the condemned objects, object by object and region by region.
-use Rattle.std.proofs.Common.{◌≡◌, ◌≢◌, ℕ, ◌+◌, ◌*◌, ◌^◌, ◌%◌, ◌<◌, ◌≤◌, ◌⊎◌, inl, inr, true, false, ◌&&◌, le-leb, List, [], ◌∷◌, ◌++◌, length, Some, refl, sym, ap, ◌∙◌, subst, arith, length-append}
-use Rattle.std.specs.Prelude.{nat_le, vec_capacity, Contains}
-use Rattle.std.proofs.lemmas.Bool.{cases_eq, cases_lt}
-use Rattle.std.proofs.lemmas.List.{get_or_append_left, get_or_push, length-map}
-use Rattle.std.proofs.lemmas.List.Sums.{sum_by-append, sum_by-cons}
-use Rattle.hd_model.specs.declared.data.Addr.{Addr}
-use Rattle.hd_model.specs.Counting.{Counts}
-use Rattle.hd_model.specs.Heap.{Heap, Placed, placed_at, region_of}
+use Rattle.hd_heap.proofs.Basics.{Addr, Area, Condemned, CondemnedObject, Contains, Contents, HasCondemned, HasCondemnedBelow, Heap, IsEnd, IsFirstAt, IsFirstFrom, IsHeader, IsLaidOut, IsListed, IsObject, IsSound, IsSurvey, IsSurveyedTo, IsSurveying, List, Placed, Some, Survey, [], address, ap, area_at, arith, cases_eq, cases_lt, cells_surveyed, contents, false, first_in, get_or_append_left, get_or_push, inl, inr, is_condemned, le-leb, length, length-append, length-map, member_cases, nat_le, not_in_none, object_at, placed_at, placed_of, refl, subst, sum_by-append, sum_by-cons, surveyed, sym, true, vec_capacity, wants, ℕ, ◌%◌, ◌&&◌, ◌*◌, ◌++◌, ◌+◌, ◌<◌, ◌^◌, ◌∙◌, ◌∷◌, ◌≡◌, ◌≢◌, ◌≤◌, ◌⊎◌}
+use Rattle.hd_model.specs.{Counting.Counts, Heap.region_of}
 use Rattle.hd_cells.specs.declared.region.Header.{Header}
-use Rattle.hd_cells.specs.Headers.{IsEnd, IsHeader}
-use Rattle.hd_cells.specs.Region.{Contents, IsFirstFrom, IsLaidOut, IsObject, object_at}
-use Rattle.hd_heap.specs.declared.area.Area.{Area}
-use Rattle.hd_heap.specs.Areas.{contents, area_at, address, placed_of}
-use Rattle.hd_heap.specs.declared.survey.CondemnedObject.{CondemnedObject}
-use Rattle.hd_heap.specs.declared.survey.Survey.{Survey}
-use Rattle.hd_heap.specs.Calls.{is_condemned, surveyed, cells_surveyed, HasCondemned, IsSurvey}
-use Rattle.hd_heap.specs.Sound.{IsSound}
-use Rattle.hd_heap.specs.Steps.{IsListed, IsSurveyedTo, IsSurveying, HasCondemnedBelow, IsFirstAt, wants}
-use Rattle.hd_heap.specs.declared.area.Wanted.TheVariants.{Condemned}
-use Rattle.hd_model.proofs.Members.{first_in, member_cases, not_in_none}
 use Rattle.hd_model.proofs.PropertyCounts.{counts_like, counts_join, counts_none}
-use Rattle.hd_heap.proofs.HeapValues.{same_address}
-use Rattle.hd_heap.proofs.RegionReads.{IsPlace, IsHeap, found_at}
-use Rattle.hd_heap.proofs.WantedObjects.{unwanted, object_below}
-use Rattle.hd_heap.proofs.RegionWalk.{wanted_has, wanted_high, given_some, given_none}
+use Rattle.hd_heap.proofs.{HeapValues.same_address, WantedObjects.unwanted, WantedObjects.object_below, RegionReads.IsPlace, RegionReads.IsHeap, RegionReads.found_at, RegionWalk.wanted_has, RegionWalk.wanted_high, RegionWalk.given_some, RegionWalk.given_none}
 
 -- one more is surveyed
 old_surveyed : (es : List CondemnedObject) (o : CondemnedObject) (k : ℕ) → k < length es

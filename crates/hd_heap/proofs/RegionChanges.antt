@@ -1,25 +1,11 @@
 -- Lemmas on a heap after one of its regions got or lost an object, a generation or a set card.
-use Rattle.std.proofs.Common.{◌≡◌, ◌≢◌, ℕ, zero, suc, ◌+◌, ◌-◌, ◌*◌, ◌/◌, ◌%◌, ◌<◌, ◌≤◌, inl, inr, Bool, true, false, ◌||◌, ◌&&◌, cond, List, ◌∷◌, map, set, get_or, Some, None, refl, sym, ap, ◌∙◌, subst, arith, length-set, get_or-set_same, get_or-set_other, replicate}
-use Rattle.std.specs.Prelude.{is_some, option_map, not, nat_eq}
-use Rattle.std.proofs.lemmas.Bool.{cases_eq}
-use Rattle.std.specs.Ordering.{nat_cmp}
-use Rattle.std.specs.Cmp.{nat_cmp_total}
+use Rattle.hd_heap.proofs.Basics.{Addr, AreOthersFull, Area, Bool, Contents, Heap, IsArea, IsPutInto, IsRemoved, IsTaken, List, None, Object, Placed, Region, Some, address, ap, area_at, arith, card_in, cards_in, cases_eq, cells_of, cond, contents, false, get_or, get_or-set_other, get_or-set_same, has_object, inl, inr, is_set, is_some, length-set, map, nat_cmp, nat_cmp_total, nat_eq, new_object, not, objects_in, option_map, placed_in, placed_of, refl, region_at, region_generation, replicate, set, size_of, subst, suc, sym, true, with_card, with_generation, zero, ℕ, ◌%◌, ◌&&◌, ◌*◌, ◌+◌, ◌-◌, ◌/◌, ◌<◌, ◌||◌, ◌∙◌, ◌∷◌, ◌≡◌, ◌≢◌, ◌≤◌}
+use Rattle.hd_cells.specs.Object.{new_object as new_region_object}
+use Rattle.hd_model.specs.Heap.{card_of}
+use Rattle.hd_heap.specs.Calls.{with_put}
+use Rattle.hd_heap.proofs.{IndexedLists.tied, IndexedLists.untied, Areas.absent, RegionSums.cells_placed, FullRegions.others_raised, FullRegions.others_placed, RegionReads.get-objects, RegionReads.seen, RegionReads.in_use, RegionReads.area_here, RegionReads.IsHeldAt, RegionReads.IsFound, RegionReads.IsHeap, RegionReads.has-get, RegionReads.found, RegionReads.address_is, RegionReads.has_there, RegionWrites.same_sets, RegionWrites.objects_put, RegionWrites.objects_gone, RegionWrites.objects_same, RegionWrites.regions_same, RegionWrites.regions_put, RegionWrites.cards_same, RegionWrites.card_here, RegionWrites.card_was, RegionWrites.card_other, RegionWrites.sum_set, RegionWrites.heap_set}
 use Rattle.std.specs.FinMap as fin
 use Rattle.std.specs.FinSet as set_of
-use Rattle.hd_cells.specs.Object.{Object, size_of, new_object as new_region_object}
-use Rattle.hd_cells.specs.Region.{Contents}
-use Rattle.hd_model.specs.declared.data.Addr.{Addr}
-use Rattle.hd_model.specs.Heap.{Placed, Region, Heap, card_of, region_at, region_generation, has_object, cells_of, is_set}
-use Rattle.hd_heap.specs.declared.area.Area.{Area}
-use Rattle.hd_heap.specs.Areas.{contents, area_at, address, placed_of, placed_in, card_in, objects_in, cards_in, IsArea}
-use Rattle.hd_heap.specs.Calls.{with_put, with_card, with_generation, new_object, IsRemoved}
-use Rattle.hd_heap.specs.Steps.{AreOthersFull, IsPutInto, IsTaken}
-use Rattle.hd_heap.proofs.IndexedLists.{tied, untied}
-use Rattle.hd_heap.proofs.Areas.{absent}
-use Rattle.hd_heap.proofs.RegionReads.{get-objects, seen, in_use, area_here, IsHeldAt, IsFound, IsHeap, has-get, found, address_is, has_there}
-use Rattle.hd_heap.proofs.RegionWrites.{same_sets, objects_put, objects_gone, objects_same, regions_same, regions_put, cards_same, card_here, card_was, card_other, sum_set, heap_set}
-use Rattle.hd_heap.proofs.RegionSums.{cells_placed}
-use Rattle.hd_heap.proofs.FullRegions.{others_raised, others_placed}
 
 -- whether a card is in a set after one was set or cleared: that one, and another
 marked_here : (s : set_of.FinSet nat_cmp) (x : ℕ) (on : Bool)

@@ -1,27 +1,18 @@
 -- Lemmas on a list of regions that is split, and on a copy from one part into the other.
-use Rattle.std.proofs.Common.{◌≡◌, ◌≢◌, ℕ, ◌+◌, ◌%◌, ◌<◌, ◌≤◌, Bool, true, List, ◌++◌, length, set, get_or, refl, sym, ap, ◌∙◌, subst, arith}
-use Rattle.std.proofs.lemmas.List.{get_or_append_left, get_or-append_right, get_or_read, length-map, set-append_left, set-append_right}
-use Rattle.hd_cells.specs.Object.{size_of}
-use Rattle.hd_cells.specs.Region.{Contents, IsObject, object_at as object_in_region}
-use Rattle.hd_model.specs.declared.data.Addr.{Addr}
-use Rattle.hd_model.specs.Scene.{IsField}
-use Rattle.hd_model.specs.Heap.{Region, Heap, region_at, object_at, placed_at, cells_of}
-use Rattle.hd_heap.specs.declared.area.Area.{Area}
-use Rattle.hd_heap.specs.Areas.{contents, IsArea}
-use Rattle.hd_heap.specs.Calls.{forwarded, with_moved}
-use Rattle.hd_heap.specs.Forwarding.{stored_place, region_forwarded, MayForward}
-use Rattle.hd_heap.specs.Steps.{IsPutInto, MayCopy, IsCopiedInto}
-use Rattle.hd_heap.proofs.RegionReads.{IsHeap, IsHeldAt, IsFound, object_of}
-use Rattle.hd_heap.proofs.RegionSums.{cells_placed}
-use Rattle.hd_heap.proofs.RegionChanges.{object_put}
-use Rattle.hd_heap.proofs.RegionUse.{heap_lists}
-use Rattle.hd_heap.proofs.FieldForward.{field_of, forwarded_placed}
+use Rattle.hd_heap.proofs.Basics.{Addr, Area, Bool, Contents, Heap, IsArea, IsCopiedInto, IsField, IsObject, IsPutInto, List, MayCopy, MayForward, Object, Region, ap, arith, cells_of, contents, forwarded, get_or, get_or-append_right, get_or_append_left, get_or_read, length, length-map, placed_at, refl, region_at, region_forwarded, set, set-append_left, set-append_right, size_of, stored_place, subst, sym, true, with_moved, ℕ, ◌%◌, ◌++◌, ◌+◌, ◌<◌, ◌∙◌, ◌≡◌, ◌≢◌, ◌≤◌}
+use Rattle.hd_cells.specs.Region.{object_at as object_in_region}
+use Rattle.hd_model.specs.Heap.{object_at}
+use Rattle.hd_heap.proofs.{RegionReads.IsHeap, RegionReads.IsHeldAt, RegionReads.IsFound, RegionReads.object_of, RegionSums.cells_placed, RegionChanges.object_put, RegionUse.heap_lists, FieldForward.field_of, FieldForward.forwarded_placed}
 
 -- a list in two parts, the first of this length
 pub record IsSplit (xs low high : List Area) (mid : ℕ) : Type 0 where
   pub whole : xs ≡ low ++ high
   pub front : length low ≡ mid
   pub within : mid < length xs
+
+pub split_of : {xs low high : List Area} {mid : ℕ} → xs ≡ low ++ high → length low ≡ mid → mid < length xs
+    → IsSplit xs low high mid
+split_of whole front within = record { whole = whole; front = front; within = within }
 
 module _ {xs low high : List Area} {mid : ℕ} (s : IsSplit xs low high mid) where
   -- what is read of the parts
@@ -69,30 +60,34 @@ ready {kept} {a} {c} {b} {d} {from} {s} may is_a is_b is =
       fields = may.fields;
     })
 
-pub copied : {place : Addr → Addr} {xs new : List Area} {a b d after : Area}
-    {s : Contents} {from target off cells : ℕ}
-    → contents a ≡ s → b ≡ d → IsArea after → new ≡ set xs target after
-    → IsPutInto d after (region_forwarded place (object_in_region s from)) → off ≡ (contents d).fill
-    → cells ≡ size_of (object_in_region s from) → IsCopiedInto place xs new a b from target off cells
-copied {place} {xs} {new} {a} {b} {d} {after} {s} {from} {target} {off} {cells} is_a is_b area list put off_is
-    cells_is =
-    subst (λ (x : Area). IsCopiedInto place xs new a x from target off cells) (sym is_b) record {
+-- the copy is that of the object in the region that was read
+pub same_copy : (place : Addr → Addr) (a : Area) (s : Contents) (from : ℕ) → contents a ≡ s
+    → region_forwarded place (object_in_region s from)
+    ≡ region_forwarded place (object_in_region (contents a) from)
+same_copy place a s from is = ap (λ (x : Contents). region_forwarded place (object_in_region x from)) (sym is)
+
+pub copied : {xs new : List Area} {b d after : Area} {o q : Object} {target off cells : ℕ}
+    → q ≡ o → b ≡ d → IsArea after → new ≡ set xs target after
+    → IsPutInto d after q → off ≡ (contents d).fill
+    → cells ≡ size_of q → IsCopiedInto xs new target b o off cells
+copied {xs} {new} {b} {d} {after} {o} {q} {target} {off} {cells} is_o is_b area list put off_is cells_is =
+    subst (λ (x : Area). IsCopiedInto xs new target x o off cells) (sym is_b)
+    (subst (λ (x : Object). IsCopiedInto xs new target d x off cells) is_o record {
       after = after;
       area = area;
       list = list;
-      put = subst (λ (x : Contents). IsPutInto d after (region_forwarded place (object_in_region x from)))
-          (sym is_a) put;
+      put = put;
       offset_is = off_is;
-      cells_is = cells_is ∙ ap (λ (x : Contents). size_of (object_in_region x from)) (sym is_a);
-    }
+      cells_is = cells_is;
+    })
 
-pub copied_there : {place : Addr → Addr} {old xs new : List Area} {a b : Area} {o from target m off cells : ℕ}
-    → IsCopiedInto place old new a b o target off cells → old ≡ xs → o ≡ from → target ≡ m
-    → IsCopiedInto place xs new a b from m off cells
-copied_there {place} {old} {xs} {new} {a} {b} {o} {from} {target} {m} {off} {cells} c list offset index =
-    subst (λ (ys : List Area). IsCopiedInto place ys new a b from m off cells) list
-    (subst (λ (n : ℕ). IsCopiedInto place old new a b n m off cells) offset
-    (subst (λ (n : ℕ). IsCopiedInto place old new a b o n off cells) index c))
+pub copied_there : {old xs new : List Area} {b : Area} {o q : Object} {target m off cells : ℕ}
+    → IsCopiedInto old new target b o off cells → old ≡ xs → o ≡ q → target ≡ m
+    → IsCopiedInto xs new m b q off cells
+copied_there {old} {xs} {new} {b} {o} {q} {target} {m} {off} {cells} c list object index =
+    subst (λ (ys : List Area). IsCopiedInto ys new m b q off cells) list
+    (subst (λ (x : Object). IsCopiedInto old new m b x off cells) object
+    (subst (λ (n : ℕ). IsCopiedInto old new n b o off cells) index c))
 
 -- a copy from one region of a heap into another one
 module _ {areas : List Area} {spares : List ℕ} {limit capacity cells objects holds current : ℕ} {h : Heap}
@@ -117,30 +112,36 @@ module _ {areas : List Area} {spares : List ℕ} {limit capacity cells objects h
         (object_of from f).fields each;
   }
 
-  -- where it is and what it takes
-  pub record IsSmall (start size : ℕ) : Type 0 where
+  -- the copy with forwarding addresses
+  abbrev pub copy_by : (Addr → Addr) → Object
+  copy_by place = region_forwarded place (object_in_region (contents a) (from.0 % 256))
+
+  copy_size : (place : Addr → Addr)
+      → size_of (copy_by place) ≡ size_of (object_in_region (contents a) (from.0 % 256))
+  copy_size place = ap (λ n. n + 3)
+      (length-map (object_in_region (contents a) (from.0 % 256)).fields (stored_place place))
+
+  -- where the copy is, what it takes, and the heap with it
+  pub record IsMoved (place : Addr → Addr) (new : List Area) (start size : ℕ) : Type 0 where
     pub start_is : start ≡ (region_at h r).fill
     pub low : (contents b).fill < 256
     pub few : size ≤ 64
-
-  pub moved_small : {place : Addr → Addr} {new : List Area} {start size : ℕ}
-      → IsCopiedInto place areas new a b (from.0 % 256) m start size → IsSmall start size
-  moved_small c = record {
-    start_is = c.offset_is ∙ sym fill_is;
-    low = omega (arith, room, size_is, fill_is);
-    few = omega (arith, c.cells_is, (f.located.area.laid_out.well_formed (from.0 % 256) f.object).few_fields);
-  }
+    pub lists : IsHeap new spares limit capacity (cells + size, objects + 1, holds) current
+        (with_moved h from r place)
 
   pub object_moved : (place : Addr → Addr) (new : List Area) (size : ℕ)
       → ((y : Addr) → IsField (object_at h) from y → (place y).0 ≢ 0) → (start : ℕ)
-      → IsCopiedInto place areas new a b (from.0 % 256) m start size
-      → IsHeap new spares limit capacity (cells + size, objects + 1, holds) current
-      (with_moved h from r place)
+      → IsCopiedInto areas new m b (copy_by place) start size → IsMoved place new start size
   object_moved place new size each start c =
       let o = object_in_region (contents a) (from.0 % 256) in
       let some = field_of (λ y. (place y).0 ≢ 0) h from o.fields (object_of from f).fields each in
-      heap_lists c.list refl
-      (object_put heap c.after (region_forwarded place o) (forwarded place (placed_at h from))
-      (forwarded_placed place o some ∙ ap (forwarded place) (sym f.placed)) size
-      (c.cells_is ∙ sym (ap (λ n. n + 3) (length-map o.fields (stored_place place)))) t c.area
-      (omega (arith, room, size_is, fill_is, c.cells_is)) c.put)
+      let small = f.located.area.laid_out.well_formed (from.0 % 256) f.object in
+      record {
+        start_is = c.offset_is ∙ sym fill_is;
+        low = omega (arith, room, size_is, fill_is);
+        few = omega (arith, c.cells_is, copy_size place, small.few_fields);
+        lists = heap_lists c.list refl
+            (object_put heap c.after (copy_by place) (forwarded place (placed_at h from))
+            (forwarded_placed place o some ∙ ap (forwarded place) (sym f.placed)) size c.cells_is t c.area
+            (omega (arith, room, size_is, fill_is, c.cells_is, copy_size place)) c.put);
+      }

@@ -1,16 +1,9 @@
 -- What a heap has after a region was given up with its objects.
-use Rattle.std.proofs.Common.{◌≡◌, ◌≢◌, ℕ, ◌/◌, ◌++◌, ◌∷◌, [], inl, inr, Bool, true, false, ◌&&◌, cond, None, refl, sym, ap, ◌∙◌, arith}
-use Rattle.std.specs.Prelude.{not, nat_eq}
-use Rattle.std.proofs.lemmas.Bool.{cases_eq, false_from_ne_true, eq-eqb, ne_eqb}
+use Rattle.hd_heap.proofs.Basics.{Addr, Bool, Heap, IsSound, None, [], ap, arith, cases_eq, cond, eq-eqb, false, false_from_ne_true, has_object, inl, inr, is_set, nat_eq, ne_eqb, not, refl, sym, true, without_region, ℕ, ◌&&◌, ◌++◌, ◌/◌, ◌∙◌, ◌∷◌, ◌≡◌, ◌≢◌}
+use Rattle.hd_model.specs.Heap.{region_of, card_of}
+use Rattle.hd_heap.proofs.{HeapValues.not_there, RegionReads.has-get, RegionWrites.same_maps, RegionWrites.same_sets}
 use Rattle.std.specs.FinMap as fin
 use Rattle.std.specs.FinSet as set_of
-use Rattle.hd_model.specs.declared.data.Addr.{Addr}
-use Rattle.hd_model.specs.Heap.{Heap, region_of, card_of, has_object, is_set}
-use Rattle.hd_heap.specs.Calls.{without_region}
-use Rattle.hd_heap.specs.Sound.{IsSound}
-use Rattle.hd_heap.proofs.HeapValues.{not_there}
-use Rattle.hd_heap.proofs.RegionReads.{has-get}
-use Rattle.hd_heap.proofs.RegionWrites.{same_maps, same_sets}
 
 kept_there : (n r : ℕ) → n ≡ r → not (nat_eq n r) ≡ false
 kept_there n r same = ap not (eq-eqb n r same)

@@ -1,24 +1,11 @@
 -- Lemmas on a heap that is read from its regions.
-use Rattle.std.proofs.Common.{◌≡◌, ◌≢◌, ℕ, zero, suc, ◌+◌, ◌-◌, ◌/◌, ◌%◌, ◌<◌, inl, inr, Bool, true, false, cond, List, [], ◌∷◌, map, length, set, get_or, Option, Some, None, refl, sym, ap, ◌∙◌, subst, arith, length-set, deque_capacity}
-use Rattle.std.specs.Prelude.{is_some, unwrap_or, option_map}
-use Rattle.std.proofs.lemmas.Bool.{both_ways, cases_lt}
-use Rattle.std.proofs.lemmas.List.{get_or-map, get_or-set_same, get_or-set_other, get_or_past, length-map, map-set}
+use Rattle.hd_heap.proofs.Basics.{Addr, AreOthersFull, Area, Bool, Heap, IsArea, IsKept, IsObject, IsObjectOf, List, None, Option, Placed, Region, Some, [], address, ap, area_at, arith, both_ways, card_in, cards_in, cases_lt, cond, contents, deque_capacity, false, fields_in, from_one, generation_in, get-by_place, get_or, get_or-map, get_or-set_other, get_or-set_same, get_or_past, has_object, heap_of, inl, inr, is_in_use, is_set, is_some, length, length-map, length-set, map, map-set, object_in, objects_in, option_map, placed_at, placed_in, placed_of, refl, region_at, region_generation, region_in, regions_in, set, subst, suc, sym, tables, true, unwrap_or, used_of, zero, ℕ, ◌%◌, ◌+◌, ◌-◌, ◌/◌, ◌<◌, ◌∙◌, ◌∷◌, ◌≡◌, ◌≢◌}
+use Rattle.hd_cells.specs.Region.{object_at as object_in_region}
+use Rattle.hd_model.specs.Heap.{region_of}
+use Rattle.hd_heap.specs.declared.heap.Heap.TheInside.{Inside}
+use Rattle.hd_heap.proofs.{IndexedLists.contains-places_of, IndexedLists.get_or-tables, Areas.object_there, Areas.held_by_object, RegionSums.cells_sum, RegionSums.count_sum}
 use Rattle.std.specs.FinMap as fin
 use Rattle.std.specs.FinSet as set_of
-use Rattle.hd_cells.specs.Region.{IsObject, object_at as object_in_region}
-use Rattle.hd_model.specs.declared.data.Addr.{Addr}
-use Rattle.hd_model.specs.Scene.{generation_in, fields_in}
-use Rattle.hd_model.specs.Heap.{Placed, Region, Heap, region_of, is_in_use, region_at, region_generation, has_object, object_in, placed_at, is_set, used_of}
-use Rattle.hd_heap.specs.declared.area.Area.{Area}
-use Rattle.hd_heap.specs.declared.heap.Heap.TheInside.{Inside}
-use Rattle.hd_heap.specs.Places.{from_one, tables}
-use Rattle.hd_heap.specs.Areas.{contents, area_at, address, placed_of, placed_in, region_in, card_in, objects_in, regions_in, cards_in, heap_of, IsArea}
-use Rattle.hd_heap.specs.Kept.{IsKept}
-use Rattle.hd_heap.specs.Steps.{AreOthersFull, IsObjectOf}
-use Rattle.hd_model.proofs.IndexedItems.{get-by_place}
-use Rattle.hd_heap.proofs.IndexedLists.{contains-places_of, get_or-tables}
-use Rattle.hd_heap.proofs.Areas.{object_there, held_by_object}
-use Rattle.hd_heap.proofs.RegionSums.{cells_sum, count_sum}
 
 -- a read of a list of options through a function
 get_or-option : {A B : Type 0} (f : Option A → Option B) (os : List (Option A)) (k : ℕ) → f None ≡ None
@@ -222,25 +209,24 @@ module _ {areas : List Area} {spares : List ℕ} {limit capacity cells objects h
       by (Some a) e = let p = place_of areas r a e in (p.0, a, held_at p.1 is)
 
   -- the index of an object's region, and of a region in use
-  pub index_of : (at : Addr) → has_object h at ≡ true → (k : ℕ) → k ≡ at.0 / 256 - 1 → k < length areas
-  index_of at is k e = let p = (found at is).2.located.place in omega (arith, e, p.number, p.within)
+  pub index_of : (at : Addr) {k : ℕ} → has_object h at ≡ true → k ≡ at.0 / 256 - 1 → k < length areas
+  index_of at is e = let p = (found at is).2.located.place in omega (arith, e, p.number, p.within)
 
-  pub held_index : (r : ℕ) → is_in_use h r ≡ true → (k : ℕ) → k ≡ r - 1 → (0 < r) × (k < length areas)
-  held_index r is k e = let p = (held_found r is).2.place in
+  pub held_index : {r k : ℕ} → is_in_use h r ≡ true → k ≡ r - 1 → (0 < r) × (k < length areas)
+  held_index {r} is e = let p = (held_found r is).2.place in
       (omega (arith, p.number), omega (arith, e, p.number, p.within))
 
   -- what a read of the list at such an index states
-  pub found_read : (at : Addr) → has_object h at ≡ true → (k : ℕ) → k ≡ at.0 / 256 - 1 → (x : Area)
+  pub found_read : (at : Addr) {k : ℕ} {x : Area} → has_object h at ≡ true → k ≡ at.0 / 256 - 1
       → x ≡ get_or areas k x → IsFound areas h at k x
-  found_read at is k e x read =
+  found_read at {k} {x} is e read =
       let p = (found at is).2.located.place in
-      found_at at (place_read areas (at.0 / 256) k x (omega (arith, e, p.number))
-      (index_of at is k e) read) is
+      found_at at (place_read areas (at.0 / 256) k x (omega (arith, e, p.number)) (index_of at is e) read) is
 
-  pub held_read : (r : ℕ) → is_in_use h r ≡ true → (k : ℕ) → k ≡ r - 1 → (x : Area) → x ≡ get_or areas k x
+  pub held_read : {r k : ℕ} {x : Area} → is_in_use h r ≡ true → k ≡ r - 1 → x ≡ get_or areas k x
       → IsHeldAt areas h r k x
-  held_read r is k e x read =
-      let index = held_index r is k e in
+  held_read {r} {k} {x} is e read =
+      let index = held_index is e in
       held_at (place_read areas r k x (omega (arith, e, index.0)) index.1 read) is
 
 -- an object is read alike in the heap and in its region

@@ -1,8 +1,5 @@
 -- Lemmas on the list of free regions as it grows.
-use Rattle.std.proofs.Common.{◌≡◌, ℕ, ◌+◌, ◌<◌, ◌≤◌, List, [], ◌∷◌, ◌++◌, length, take, refl, sym, ap, ◌∙◌, arith, length-append}
-use Rattle.std.specs.Prelude.{max}
-use Rattle.std.proofs.lemmas.List.{take-append-le}
-use Rattle.hd_model.specs.Heap.{Heap}
+use Rattle.hd_heap.proofs.Basics.{Heap, List, [], ap, arith, length, length-append, max, refl, sym, take, take-append-le, ℕ, ◌++◌, ◌+◌, ◌<◌, ◌∙◌, ◌∷◌, ◌≡◌, ◌≤◌}
 use Rattle.hd_heap.proofs.HeapValues.{take_whole}
 
 -- only the free regions have changed: they are the old ones and more, at most `count`, if those were fewer

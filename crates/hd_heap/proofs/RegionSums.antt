@@ -1,22 +1,9 @@
 -- Sums over the objects of a heap, region by region.
-use Rattle.std.proofs.Common.{◌≡◌, ℕ, zero, suc, ◌+◌, ◌≤◌, inl, inr, List, [], ◌∷◌, map, length, get_or, Option, Some, None, refl, sym, ap, ◌∙◌, arith}
-use Rattle.std.specs.Prelude.{sum_by, option_map}
-use Rattle.std.proofs.lemmas.Bool.{cases_lt}
-use Rattle.std.proofs.lemmas.List.{get_or_past, length-map}
-use Rattle.std.proofs.lemmas.List.Sums.{sum_by-append, sum_by-cons}
-use Rattle.std.specs.Ordering.{nat_cmp}
-use Rattle.std.specs.Cmp.{nat_cmp_total}
-use Rattle.std.specs.FinMap as fin
-use Rattle.hd_cells.specs.Object.{Object, size_of}
-use Rattle.hd_model.specs.Heap.{Placed, cells_of}
+use Rattle.hd_heap.proofs.Basics.{Area, IsArea, List, None, Object, Option, Placed, Some, [], address, ap, area_at, arith, cases_lt, cells_of, contents, find-numbered_below, get-by_place, get_or, get_or_past, inl, inr, length, length-map, map, nat_cmp, nat_cmp_total, objects_in, option_map, placed_in, placed_of, refl, share, size_of, suc, sum-insert, sum_by, sum_by-append, sum_by-cons, sym, zero, ℕ, ◌+◌, ◌∙◌, ◌∷◌, ◌≡◌, ◌≤◌}
 use Rattle.hd_model.specs.Indexed.{by_place, numbered}
-use Rattle.hd_heap.specs.declared.area.Area.{Area}
-use Rattle.hd_heap.specs.Areas.{contents, address, area_at, placed_of, placed_in, objects_in, IsArea}
 use Rattle.hd_heap.specs.Places.{table, tables}
-use Rattle.hd_model.proofs.IndexedItems.{find-numbered_below, get-by_place}
-use Rattle.hd_model.proofs.Sums.{share, sum-insert}
-use Rattle.hd_heap.proofs.Areas.{absent, sum_none}
-use Rattle.hd_heap.proofs.IndexedLists.{length-table, get_or-table}
+use Rattle.hd_heap.proofs.{Areas.absent, Areas.sum_none, IndexedLists.length-table, IndexedLists.get_or-table}
+use Rattle.std.specs.FinMap as fin
 
 -- the items of a list by their indices
 sum-numbered : {A : Type 0} (f : A → ℕ) (i : ℕ) (os : List (Option A))

@@ -1,25 +1,9 @@
 -- Lemmas on a heap after a region was taken into use, released, or added as a free one.
-use Rattle.std.proofs.Common.{◌≡◌, ◌≢◌, ℕ, zero, suc, ◌+◌, ◌-◌, ◌/◌, ◌%◌, ◌^◌, ◌<◌, ◌≤◌, inl, inr, true, false, cond, List, [], ◌∷◌, ◌++◌, map, length, set, get_or, drop, Option, Some, None, refl, sym, ap, ◌∙◌, subst, arith, length-set, length-append, length-drop, get_or-drop}
-use Rattle.std.specs.Prelude.{is_some, option_map, sum_by, nat_eq}
-use Rattle.std.proofs.lemmas.Bool.{cases_eq, cases_lt, both_ways, false_from_ne_true}
-use Rattle.std.proofs.lemmas.List.{length-map, map_push, get_or_push, get_or_append_left, get_or_past, get_or_read}
-use Rattle.std.proofs.lemmas.List.Sums.{sum_by-append, sum_by-cons}
-use Rattle.std.specs.Ordering.{nat_cmp}
+use Rattle.hd_heap.proofs.Basics.{AreOthersFull, Area, Contents, Heap, IsArea, IsFreed, IsKept, IsObject, IsSpare, List, None, Option, Region, Some, [], ap, area_at, arith, both_ways, card_in, cards_in, cases_eq, cases_lt, cond, contents, drop, empty_heap, false, false_from_ne_true, get_or, get_or-drop, get_or_append_left, get_or_past, get_or_push, get_or_read, heap_of, inl, inr, is_in_use, is_some, len_less, len_new, length, length-append, length-drop, length-map, length-set, map, map_push, nat_cmp, nat_eq, objects_in, option_map, placed_in, placed_of, refl, region_in, regions_in, set, subst, suc, sum_by, sum_by-append, sum_by-cons, sym, true, with_fresh, without_region, zero, ℕ, ◌%◌, ◌++◌, ◌+◌, ◌-◌, ◌/◌, ◌<◌, ◌^◌, ◌∙◌, ◌∷◌, ◌≡◌, ◌≢◌, ◌≤◌}
+use Rattle.hd_model.specs.Heap.{region_of}
+use Rattle.hd_heap.proofs.{Areas.absent, Areas.none_in_empty, RegionReads.get-objects, RegionReads.get-regions, RegionReads.contains-cards, RegionReads.in_use, RegionReads.not_in_use, RegionReads.IsPlace, RegionReads.place_read, RegionReads.area_here, RegionReads.IsHeldAt, RegionReads.IsHeap, RegionReads.heap_by, RegionReads.regions_at, RegionWrites.same_maps, RegionWrites.same_sets, RegionWrites.objects_same, RegionWrites.objects_here, RegionWrites.objects_other, RegionWrites.regions_put, RegionWrites.regions_gone, RegionWrites.cards_same, RegionWrites.card_here, RegionWrites.card_other, RegionWrites.sum_set, RegionWrites.each_set, RegionWrites.spare_set, RegionGiveUp.object_gone, RegionGiveUp.object_left, RegionGiveUp.card_gone, RegionGiveUp.card_left, FullRegions.others_fresh, FullRegions.others_left, FullRegions.others_unknown}
 use Rattle.std.specs.FinMap as fin
 use Rattle.std.specs.FinSet as set_of
-use Rattle.hd_cells.specs.Region.{Contents, IsObject}
-use Rattle.hd_model.specs.Heap.{Region, Heap, region_of, is_in_use}
-use Rattle.hd_heap.specs.declared.area.Area.{Area}
-use Rattle.hd_heap.specs.Areas.{contents, area_at, placed_of, placed_in, region_in, card_in, objects_in, regions_in, cards_in, heap_of, IsArea}
-use Rattle.hd_heap.specs.Calls.{with_fresh, without_region, empty_heap}
-use Rattle.hd_heap.specs.Kept.{IsKept, IsSpare}
-use Rattle.hd_heap.specs.Steps.{AreOthersFull, IsFreed}
-use Rattle.hd_model.proofs.ReadAfterWrite.{len_new, len_less}
-use Rattle.hd_heap.proofs.Areas.{absent, none_in_empty}
-use Rattle.hd_heap.proofs.RegionReads.{get-objects, get-regions, contains-cards, in_use, not_in_use, IsPlace, place_read, area_here, IsHeldAt, IsHeap, heap_by, regions_at}
-use Rattle.hd_heap.proofs.RegionWrites.{same_maps, same_sets, objects_same, objects_here, objects_other, regions_put, regions_gone, cards_same, card_here, card_other, sum_set, each_set, spare_set}
-use Rattle.hd_heap.proofs.RegionGiveUp.{object_gone, object_left, card_gone, card_left}
-use Rattle.hd_heap.proofs.FullRegions.{others_fresh, others_left, others_unknown}
 
 -- what holds of each number of a list, and of one more
 pushed : (P : ℕ → Type 0) (ns : List ℕ) (n : ℕ) → ((i : ℕ) → i < length ns → P (get_or ns i 0)) → P n
@@ -159,9 +143,9 @@ module _ {areas : List Area} {spares : List ℕ} {limit capacity cells objects h
     pub free : a.held ≡ false
     pub was_free : is_in_use h n ≡ false
 
-  pub spare_read : 0 < length h.spare → (n : ℕ) → n ≡ get_or spares 0 n → (k : ℕ) → k ≡ n - 1 → (x : Area)
+  pub spare_read : {n k : ℕ} {x : Area} → 0 < length h.spare → n ≡ get_or spares 0 n → k ≡ n - 1
       → x ≡ get_or areas k x → IsFirstSpare n k x
-  spare_read lengths n is k e x read =
+  spare_read {n} {k} {x} lengths is e read =
       let some : 0 < length spares = omega (arith, lengths, ap (λ (y : Heap). length y.spare) heap.view) in
       let first : n ≡ get_or spares 0 0 = get_or_read spares 0 n some is 0 in
       let s = heap.kept.spare 0 some in

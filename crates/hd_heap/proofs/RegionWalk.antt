@@ -1,20 +1,7 @@
 -- Lemmas on the walk through the regions of a heap.
-use Rattle.std.proofs.Common.{◌≡◌, ℕ, suc, ◌+◌, ◌*◌, ◌/◌, ◌%◌, ◌<◌, ◌≤◌, inl, inr, Bool, true, false, ◌&&◌, List, length, Option, Some, None, refl, sym, ap, ◌∙◌, arith}
-use Rattle.std.specs.Prelude.{nat_lt, nat_le, is_some}
-use Rattle.std.specs.FinMap.{get}
-use Rattle.std.proofs.lemmas.Bool.{cases_eq, cases_lt, both_ways}
-use Rattle.hd_model.specs.declared.data.Addr.{Addr}
-use Rattle.hd_model.specs.Scene.{generation_at}
-use Rattle.hd_model.specs.Heap.{Heap, region_of, card_of, has_object, object_at, is_set}
-use Rattle.hd_heap.specs.declared.area.Area.{Area}
-use Rattle.hd_heap.specs.declared.area.Wanted.{Wanted}
-use Rattle.hd_heap.specs.declared.area.Wanted.TheVariants.{Any, Carded, Condemned}
-use Rattle.hd_heap.specs.Areas.{contents, area_at, card_in, IsArea}
-use Rattle.hd_heap.specs.Calls.{IsWalk}
-use Rattle.hd_heap.specs.Sound.{IsSound}
-use Rattle.hd_heap.specs.Steps.{is_wanted, wants, IsFirstAt, IsLeastBetween, IsLeastFrom}
-use Rattle.hd_heap.proofs.RegionReads.{IsPlace, IsHeap, found, found_at, has_there, set_at, object_of}
-use Rattle.hd_heap.proofs.WantedObjects.{unwanted}
+use Rattle.hd_heap.proofs.Basics.{Addr, Any, Area, Bool, Carded, Condemned, Heap, IsArea, IsFirstAt, IsLeastBetween, IsLeastFrom, IsSound, IsWalk, List, None, Option, Some, Wanted, ap, area_at, arith, both_ways, card_in, cases_eq, cases_lt, contents, false, generation_at, get, has_object, inl, inr, is_set, is_some, is_wanted, length, nat_le, nat_lt, refl, suc, sym, true, wants, ℕ, ◌%◌, ◌&&◌, ◌*◌, ◌+◌, ◌/◌, ◌<◌, ◌∙◌, ◌≡◌, ◌≤◌}
+use Rattle.hd_model.specs.Heap.{region_of, card_of, object_at}
+use Rattle.hd_heap.proofs.{RegionReads.IsPlace, RegionReads.IsHeap, RegionReads.found, RegionReads.found_at, RegionReads.has_there, RegionReads.set_at, RegionReads.object_of, WantedObjects.unwanted}
 
 -- what is asked second is asked only where the first holds
 and_first : (b c : Bool) → (b && c) ≡ true → b ≡ true

@@ -1,28 +1,10 @@
 -- Lemmas on a heap after one of its regions has changed.
-use Rattle.std.proofs.Common.{◌≡◌, ◌≢◌, ℕ, ◌+◌, ◌*◌, ◌/◌, ◌%◌, ◌<◌, inl, inr, true, false, cond, List, set, get_or, Option, Some, None, refl, sym, ap, ◌∙◌, subst, arith, length-set}
-use Rattle.std.specs.Prelude.{is_some, option_map, sum_by}
-use Rattle.std.proofs.lemmas.Bool.{cases_eq, both_ways}
-use Rattle.std.proofs.lemmas.List.{length-map, map-set}
-use Rattle.std.proofs.lemmas.List.Sums.{sum_by-set}
-use Rattle.std.specs.Ordering.{nat_cmp, eq_by_cmp}
-use Rattle.std.specs.Cmp.{nat_cmp_total}
+use Rattle.hd_heap.proofs.Basics.{Addr, AreOthersFull, Area, Contents, HasPart, Heap, IsArea, IsKept, IsSpare, IsWritten, List, None, Object, Option, Placed, Region, Some, address, ap, area_at, arith, both_ways, card_in, cards_in, cases_eq, cond, contents, eq_by_cmp, false, found_later, get_or, inl, inr, is_some, len_again, length-map, length-set, map-set, nat_cmp, nat_cmp_total, objects_in, option_map, placed_in, placed_of, refl, region_in, region_with_part, regions_in, set, size_of, subst, sum_by, sum_by-set, sym, true, with_part, ℕ, ◌%◌, ◌*◌, ◌+◌, ◌/◌, ◌<◌, ◌∙◌, ◌≡◌, ◌≢◌}
+use Rattle.hd_heap.specs.{declared.area.Part.Part, Calls.with_object}
+use Rattle.hd_heap.specs.declared.area.Part.TheVariants.{Value, Registered, Field}
+use Rattle.hd_heap.proofs.{IndexedLists.found_here, RegionReads.get-objects, RegionReads.get-regions, RegionReads.contains-cards, RegionReads.seen, RegionReads.in_use, RegionReads.IsPlace, RegionReads.place_reads, RegionReads.area_here, RegionReads.area_other, RegionReads.IsFound, RegionReads.IsHeap, RegionReads.heap_by}
 use Rattle.std.specs.FinMap as fin
 use Rattle.std.specs.FinSet as set_of
-use Rattle.hd_cells.specs.Object.{Object, size_of}
-use Rattle.hd_cells.specs.Region.{Contents}
-use Rattle.hd_model.specs.declared.data.Addr.{Addr}
-use Rattle.hd_model.specs.Heap.{Placed, Region, Heap}
-use Rattle.hd_heap.specs.declared.area.Area.{Area}
-use Rattle.hd_heap.specs.declared.area.Part.{Part}
-use Rattle.hd_heap.specs.declared.area.Part.TheVariants.{Value, Registered, Field}
-use Rattle.hd_heap.specs.Areas.{contents, area_at, address, placed_of, placed_in, region_in, card_in, objects_in, regions_in, cards_in, IsArea}
-use Rattle.hd_heap.specs.Calls.{with_object}
-use Rattle.hd_heap.specs.Kept.{IsKept, IsSpare}
-use Rattle.hd_heap.specs.Steps.{AreOthersFull, HasPart, IsWritten, with_part, region_with_part}
-use Rattle.hd_model.proofs.Entries.{found_later}
-use Rattle.hd_heap.proofs.IndexedLists.{found_here}
-use Rattle.hd_model.proofs.ReadAfterWrite.{len_again}
-use Rattle.hd_heap.proofs.RegionReads.{get-objects, get-regions, contains-cards, seen, in_use, IsPlace, place_reads, area_here, area_other, IsFound, IsHeap, heap_by}
 
 pub same_maps : {A : Type 0} {m k : fin.FinMap nat_cmp A} → ((q : ℕ) → fin.get m q ≡ fin.get k q) → m ≡ k
 same_maps each = fin.same_map nat_cmp_total fin.nat_cmp-IsAntisymmetric _ _ each

@@ -1,10 +1,5 @@
 -- A survey that is gone over by index: each object is the next one after the one before it.
-use Rattle.std.proofs.Common.{◌≡◌, ℕ, zero, suc, ◌<◌, ◌≤◌, true, false, List, length, Option, Some, None, inl, inr, refl, sym, ap, subst, arith}
-use Rattle.std.proofs.lemmas.Bool.{cases_lt, cases_order, lt-ltb, le-ltb, ltb-true}
-use Rattle.hd_model.specs.declared.data.Addr.{Addr}
-use Rattle.hd_model.specs.Heap.{Heap}
-use Rattle.hd_heap.specs.declared.survey.CondemnedObject.{CondemnedObject}
-use Rattle.hd_heap.specs.Calls.{is_after, is_condemned, IsNext, surveyed, AreSurveyed}
+use Rattle.hd_heap.proofs.Basics.{Addr, AreSurveyed, CondemnedObject, Heap, IsNext, List, None, Option, Some, ap, arith, cases_lt, cases_order, false, inl, inr, is_after, is_condemned, le-ltb, length, lt-ltb, ltb-true, refl, subst, suc, surveyed, sym, true, zero, ℕ, ◌<◌, ◌≡◌, ◌≤◌}
 
 -- the address of the object before the k-th
 abbrev pub before : List CondemnedObject → ℕ → Option Addr

@@ -1,14 +1,6 @@
 -- Lemmas on the objects of a region that a walk returns.
-use Rattle.std.proofs.Common.{◌≡◌, ℕ, ◌+◌, ◌-◌, ◌/◌, ◌<◌, ◌≤◌, inl, inr, true, false, ◌&&◌, Option, Some, None, refl, sym, ap, subst, arith}
-use Rattle.std.specs.Prelude.{MatchOption, IfSome, nat_lt, nat_le}
-use Rattle.std.proofs.lemmas.Bool.{cases_eq, cases_lt, false_from_ne_true}
+use Rattle.hd_heap.proofs.Basics.{Any, Area, Carded, Condemned, Contents, IfSome, IsArea, IsFirstFrom, IsFirstSince, IsObject, MatchOption, None, Option, Some, Wanted, ap, arith, card_in, cases_eq, cases_lt, contents, false, false_from_ne_true, inl, inr, nat_le, nat_lt, refl, subst, sym, true, wants, ℕ, ◌&&◌, ◌+◌, ◌-◌, ◌/◌, ◌<◌, ◌≡◌, ◌≤◌}
 use Rattle.std.specs.FinMap as map
-use Rattle.hd_cells.specs.Region.{Contents, IsObject, IsFirstFrom}
-use Rattle.hd_heap.specs.declared.area.Area.{Area}
-use Rattle.hd_heap.specs.declared.area.Wanted.{Wanted}
-use Rattle.hd_heap.specs.declared.area.Wanted.TheVariants.{Any, Carded, Condemned}
-use Rattle.hd_heap.specs.Areas.{contents, card_in, IsArea}
-use Rattle.hd_heap.specs.Steps.{wants, IsFirstSince}
 
 -- what is not there is not wanted
 pub unwanted : (w : Wanted) (a : Area) (k : ℕ) → ¬ (IsObject (contents a) k) → wants w a k ≡ false

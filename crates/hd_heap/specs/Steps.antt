@@ -155,15 +155,15 @@ pub record MayCopy (kept : Addr → Bool) (a b : Area) (from : ℕ) : Type 0 whe
   pub room : (contents b).fill + size_of (object_in_region (contents a) from) ≤ REGION
   pub fields : MayForward kept (object_in_region (contents a) from).fields
 
--- it is copied, with forwarding addresses in its fields
-pub record IsCopiedInto (place : Addr → Addr) (old new : List Area) (a b : Area)
-    (from target offset cells : ℕ) : Type 0 where
+-- the object is put into a region of a list, which takes these cells from an offset on
+pub record IsCopiedInto (old new : List Area) (target : ℕ) (b : Area) (o : Object)
+    (offset cells : ℕ) : Type 0 where
   pub after : Area
   pub area : IsArea after
   pub list : new ≡ slice_set old target after
-  pub put : IsPutInto b after (region_forwarded place (object_in_region (contents a) from))
+  pub put : IsPutInto b after o
   pub offset_is : offset ≡ (contents b).fill
-  pub cells_is : cells ≡ size_of (object_in_region (contents a) from)
+  pub cells_is : cells ≡ size_of o
 
 -- a reference to an object of a generation below n
 abbrev pub is_below : Heap → Option Addr → ℕ → Bool

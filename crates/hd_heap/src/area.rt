@@ -158,7 +158,9 @@ impl Area {
         requires kept { MayForward (F.kept forward.now) (object_at source.now from).fields }
         ensures area { IsArea self.new }
         ensures offset { result.0 ≡ (contents self.old).fill }
-        ensures size { result.1 ≡ size_of (object_at source.now from) }
+        ensures size { let object =
+            region_forwarded (F.place forward.now) (object_at source.now from)
+            in result.1 ≡ size_of object }
         ensures put { let object =
             region_forwarded (F.place forward.now) (object_at source.now from)
             in IsPutInto self.old self.new object }

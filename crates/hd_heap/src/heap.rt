@@ -15,7 +15,9 @@ ghost use Rattle.hd_heap.specs.Calls.{IsMade, IsRefused, LacksSpare, AreFull};
 ghost use Rattle.hd_heap.specs.Calls.{stored, is_younger, with_card, IsWalk, is_old_carded, is_condemned};
 ghost use Rattle.hd_heap.specs.Calls.{with_fresh, with_copy, IsRemoved, with_generation};
 ghost use Rattle.hd_heap.specs.Calls.{with_moved, forwarded, without_region, NamesBelow, IsSurvey};
-ghost use Rattle.hd_heap.specs.Areas.{address};
+ghost use Rattle.hd_cells.specs.Region.{object_at as object_in_region};
+ghost use Rattle.hd_heap.specs.Areas.{address, contents};
+ghost use Rattle.hd_heap.specs.Forwarding.{region_forwarded};
 ghost use Rattle.hd_heap.specs.Steps.{HasPart, HasRoom, IsObjectOf, IsRoom, with_part};
 ghost use Rattle.hd_heap.specs.Steps.{is_wanted, IsLeastBetween, IsLeastFrom};
 ghost use Rattle.hd_heap.specs.Steps.{is_below, MayCopy, IsCopiedInto, IsSurveying};
@@ -122,8 +124,9 @@ fn copy_between<F: Forward>(
     requires may_copy { (a b : Area) → a ≡ slice_index_or areas.old source a
         → b ≡ slice_index_or areas.old target b → MayCopy (F.kept forward.now) a b from }
     ensures { (a b : Area) → a ≡ slice_index_or areas.old source a
-        → b ≡ slice_index_or areas.old target b → IsCopiedInto (F.place forward.now) areas.old
-        areas.new a b from target result.0 result.1 }
+        → b ≡ slice_index_or areas.old target b
+        → let o = region_forwarded (F.place forward.now) (object_in_region (contents a) from) in
+        IsCopiedInto areas.old areas.new target b o result.0 result.1 }
 {
     if source < target {
         let (low, high) = areas.split_at_mut(target);

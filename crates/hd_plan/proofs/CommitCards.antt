@@ -1,26 +1,10 @@
 -- Lemmas on cards that are set and cleared.
-use Rattle.std.proofs.Common.{◌≡◌, ◌≢◌, ℕ, ◌+◌, ◌*◌, ◌/◌, ◌^◌, ◌<◌, ◌≤◌, inl, inr, Bool, true, false, not, ◌&&◌, List, Option, Some, None, refl, sym, ap, ◌∙◌, subst, arith}
-use Rattle.std.specs.Prelude.{◌||◌, is_some, ◌-◌, ◌↔◌, nat_lt, Contains}
-use Rattle.std.proofs.lemmas.Bool.{cases_eq, cases_lt, both_ways, and_parts, and_from, and_left, or_left, lt-ltb, ltb-true, ltb-false, eq-eqb, eqb-true, false_from_ne_true}
-use Rattle.std.specs.Ordering.{nat_cmp, eq_by_cmp}
+use Rattle.hd_plan.proofs.Basics.{Addr, AreCarded, Bool, Contains, HasClosedFields, Heap, IsExactAt, IsField, IsNext, IsSound, IsWalk, List, MayCard, Move, NamesYounger, NeedsCard, None, Object, Option, Some, and_from, and_left, and_parts, ap, arith, both_ways, cases_eq, cases_lt, eq-eqb, eq_by_cmp, eqb-true, false, false_from_ne_true, fields_in, generation_at, has_object, inl, inr, is_after, is_kept_fate, is_old_carded, is_set, is_some, lt-ltb, ltb-false, ltb-true, move_at, nat_cmp, nat_lt, not, object_at, or_left, refl, same_address, starts_in, subst, sym, true, with_card, ℕ, ◌&&◌, ◌*◌, ◌+◌, ◌-◌, ◌/◌, ◌<◌, ◌^◌, ◌||◌, ◌↔◌, ◌∙◌, ◌≡◌, ◌≢◌, ◌≤◌}
 use Rattle.std.specs.Cmp.{nat_cmp_total}
-use Rattle.std.specs.FinSet as set_of
-use Rattle.hd_model.specs.declared.data.Addr.{Addr}
-use Rattle.hd_model.specs.Names.{HasClosedFields}
-use Rattle.hd_model.specs.State.{Object}
-use Rattle.hd_model.specs.Scene.{fields_in, generation_at, IsField}
-use Rattle.hd_model.specs.Heap.{Heap, card_of, has_object, object_at, is_set}
-use Rattle.hd_heap.specs.Calls.{with_card, is_after, is_old_carded, IsWalk, IsNext}
-use Rattle.hd_heap.specs.Sound.{IsSound}
+use Rattle.hd_model.specs.Heap.{card_of}
 use Rattle.hd_heap.proofs.IndexedLists.{tied, untied}
-use Rattle.hd_plan.specs.declared.moves.Move.{Move}
-use Rattle.hd_plan.specs.Layout.{move_at, is_kept_fate}
-use Rattle.hd_plan.specs.Commit.{NeedsCard}
-use Rattle.hd_plan.proofs.CondemnedAddresses.{some_is}
-use Rattle.hd_plan.specs.CommitSteps.{AreCarded, MayCard, IsExactAt, NamesYounger, starts_in}
-use Rattle.hd_plan.proofs.LayStep.{address_low, reach_of, reach_on}
-use Rattle.hd_plan.proofs.MoveEnds.{ends_cases}
-use Rattle.hd_heap.proofs.HeapValues.{same_address}
+use Rattle.hd_plan.proofs.{CondemnedAddresses.some_is, MoveEnds.ends_cases, LayStep.address_low, LayStep.reach_of, LayStep.reach_on}
+use Rattle.std.specs.FinSet as set_of
 
 module _ (old h new : Heap) (k : ℕ) (on : Bool) (same : h ≡ record old { cards = h.cards })
     (step : new ≡ with_card h k on) where

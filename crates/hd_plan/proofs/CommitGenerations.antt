@@ -1,21 +1,7 @@
 -- The regions and the cards after the moving: what its last steps leave.
-use Rattle.std.proofs.Common.{◌≡◌, ℕ, ◌+◌, ◌<◌, ◌≤◌, inl, inr, true, false, length, Option, Some, None, refl, sym, ap, ◌∙◌, subst, arith, min}
-use Rattle.std.specs.Prelude.{nat_lt, unwrap_or}
-use Rattle.std.proofs.lemmas.Bool.{both_ways, cases_lt, le-ltb, lt-ltb, cond-true, cond-false, false_from_ne_true}
+use Rattle.hd_plan.proofs.Basics.{Addr, AreCopied, AreRewritten, HasStay, Heap, IsCondemnedRegion, IsRoom, IsStayedAt, None, Option, PlanOf, Region, Some, ap, arith, both_ways, cases_lt, cond-false, cond-true, condemned_at, drop, false, false_from_ne_true, generation_at, inl, inr, is_in_use, is_moving, is_old_carded, is_staying, kept_in, le-ltb, length, lt-ltb, min, move_at, nat_lt, object_at, place_in, raised, refl, region_at, region_generation, region_of, room_at, subst, sym, true, unwrap_or, ℕ, ◌+◌, ◌<◌, ◌∙◌, ◌≡◌, ◌≤◌}
+use Rattle.hd_plan.proofs.{CondemnedAddresses.generation_is, KeptMoves.moving_or_staying, KeptMoves.all_put, CommitShape.AreRemoved, CommitShape.AreSettled, CommitShape.IsCommitting, CommitShape.moves_now, CommitShape.regions_now, CommitImage.kept_by, CommitImage.place_older, CommitImage.place_move, CommitImage.kept_object, CommitImage.from_condemned, CommitImage.stays_there, CommitImage.to_put}
 use Rattle.std.specs.FinMap as fin
-use Rattle.hd_model.specs.declared.data.Addr.{Addr}
-use Rattle.hd_model.specs.Ages.{raised}
-use Rattle.hd_model.specs.Scene.{generation_at}
-use Rattle.hd_model.specs.Heap.{Region, Heap, region_of, region_at, region_generation, is_in_use, object_at}
-use Rattle.hd_heap.specs.Calls.{is_old_carded}
-use Rattle.hd_plan.specs.Layout.{move_at, condemned_at, is_moving, is_staying, room_at, IsCondemnedRegion, HasStay}
-use Rattle.hd_plan.specs.LaySteps.{IsRoom}
-use Rattle.hd_plan.specs.Plan.{PlanOf, kept_in, place_in}
-use Rattle.hd_plan.specs.CommitSteps.{IsKeptAt, SameCards, AreCopied, AreRewritten}
-use Rattle.hd_plan.proofs.CondemnedAddresses.{generation_is}
-use Rattle.hd_plan.proofs.KeptMoves.{moving_or_staying, all_put}
-use Rattle.hd_plan.proofs.CommitShape.{AreRemoved, AreSettled, IsCommitting, moves_now, regions_now}
-use Rattle.hd_plan.proofs.CommitImage.{kept_by, place_older, place_move, kept_object, from_condemned, stays_there, to_put}
 
 -- the generation of what is not condemned stays, and no generation falls
 pub raised_older : (n g : ℕ) → n < g → raised n g ≡ g
@@ -42,31 +28,28 @@ raised_some n g = elim (cases_lt n g) [
 abbrev no_region : Region
 no_region = record { generation = 0; fill = 0 }
 
+-- the steps up to the removal: the moves are those of a plan, the new addresses those by another one
+pub record AreAtPlaces (p q : PlanOf) (old h1 h2 h3 : Heap) : Type 0 where
+  pub copied : AreCopied (place_in q) old h1 p.moves (length p.moves)
+  pub carded : AreRewritten (λ a. is_old_carded h1 p.basis.condemned a ≡ true) (place_in q) h1 h2
+  pub stayed : AreRewritten (IsStayedAt p.moves (length p.moves)) (place_in q) h2 h3
+
+-- what they leave as it was
+pub places_same : {p q : PlanOf} {old h1 h2 h3 : Heap} → AreAtPlaces p q old h1 h2 h3
+    → h3 ≡ record old {
+      objects = h3.objects;
+      regions = (room_at old p.moves (length p.moves)).regions;
+      spare = drop (room_at old p.moves (length p.moves)).cursors.opened old.spare;
+    }
+places_same {p} {q} {old} {h1} {h2} {h3} m =
+    m.stayed.same ∙ ap (λ (k : Heap). record k { objects = h3.objects }) m.carded.same
+    ∙ ap (λ (k : Heap). record k { objects = h3.objects }) m.copied.same
+
 -- the steps that move the objects of a heap, one after another
 pub record AreMoved (p : PlanOf) (old h1 h2 h3 h4 : Heap) : Type 0 where
   pub committing : IsCommitting p old
-  pub copied : AreCopied old h1 p.moves (length p.moves)
-  pub carded : AreRewritten (λ a. is_old_carded h1 p.basis.condemned a ≡ true) (place_in p) h1 h2
-  pub same : SameCards h1 h2
-  pub kept : AreRewritten (IsKeptAt p.moves (length p.moves)) (place_in p) h2 h3
+  pub places : AreAtPlaces p p old h1 h2 h3
   pub removed : AreRemoved h3 h4 p.moves (length p.moves)
-
--- they, for a plan that was read part by part
-pub are_moved : (p q : PlanOf) (old h1 h2 h3 h4 : Heap) → q ≡ p → IsCommitting q old
-    → AreCopied old h1 q.moves (length q.moves)
-    → AreRewritten (λ a. is_old_carded h1 q.basis.condemned a ≡ true) (place_in p) h1 h2 → SameCards h1 h2
-    → AreRewritten (IsKeptAt q.moves (length q.moves)) (place_in p) h2 h3
-    → AreRemoved h3 h4 q.moves (length q.moves) → AreMoved q old h1 h2 h3 h4
-are_moved p q old h1 h2 h3 h4 e base copied carded same kept removed = record {
-  committing = base;
-  copied = copied;
-  carded = subst (λ (x : PlanOf). AreRewritten (λ a. is_old_carded h1 q.basis.condemned a ≡ true)
-      (place_in x) h1 h2) (sym e) carded;
-  same = same;
-  kept = subst (λ (x : PlanOf). AreRewritten (IsKeptAt q.moves (length q.moves)) (place_in x) h2 h3)
-      (sym e) kept;
-  removed = removed;
-}
 
 -- the next generation of a region is one
 pub settled_generations : (p : PlanOf) (old : Heap) → IsCommitting p old → (k : ℕ) → k < length p.regions
@@ -88,9 +71,7 @@ module _ (p : PlanOf) (old h1 h2 h3 h4 : Heap) (m : AreMoved p old h1 h2 h3 h4) 
   -- the regions are those of the room
   pub regions_room : h4.regions ≡ (room_at old p.moves (length p.moves)).regions
   regions_room =
-      ap (λ (x : Heap). x.regions) m.removed.same ∙ ap (λ (x : Heap). x.regions) m.kept.same
-      ∙ ap (λ (x : Heap). x.regions) m.carded.same
-      ∙ ap (λ (x : Heap). x.regions) m.copied.same
+      ap (λ (x : Heap). x.regions) m.removed.same ∙ ap (λ (x : Heap). x.regions) (places_same m.places)
 
   pub region_kept : (r : ℕ) → is_in_use old r ≡ true → fin.get h4.regions r ≡ fin.get old.regions r
   region_kept r held = ap (λ rs. fin.get rs r) regions_room ∙ room.old r held
@@ -100,7 +81,7 @@ module _ (p : PlanOf) (old h1 h2 h3 h4 : Heap) (m : AreMoved p old h1 h2 h3 h4) 
     pub region_older : (r : ℕ) → (IsCondemnedRegion old p.basis.condemned r → ⊥)
         → fin.get h5.regions r ≡ fin.get h4.regions r
     region_older r other =
-        r5.others r (λ k within same.
+        r5.regions.others r (λ k within same.
         other (subst (IsCondemnedRegion old p.basis.condemned) same
         ((regions_now p old c).condemned k within)))
 
@@ -118,7 +99,7 @@ module _ (p : PlanOf) (old h1 h2 h3 h4 : Heap) (m : AreMoved p old h1 h2 h3 h4) 
         let was : region_at h4 n ≡ region_at old n =
         ap (λ (o : Option Region). unwrap_or o no_region)
         (region_kept n ((regions_now p old c).condemned k listed.0).held) in
-        ap (fin.get h5.regions) (sym listed.1) ∙ r5.raised k listed.0 pinned
+        ap (fin.get h5.regions) (sym listed.1) ∙ r5.regions.raised k listed.0 pinned
         ∙ ap (λ g. Some (record { generation = g; fill = (region_at h4 n).fill }))
         ((regions_now p old c).generations k listed.0)
         ∙ ap (λ (x : Region).
@@ -137,7 +118,7 @@ module _ (p : PlanOf) (old h1 h2 h3 h4 : Heap) (m : AreMoved p old h1 h2 h3 h4) 
         false_from_ne_true _
         (λ pinned. none (subst (HasStay p.moves) listed.1
         (((regions_now p old c).pinned k listed.0).0 pinned))) in
-        ap (fin.get h5.regions) (sym listed.1) ∙ r5.given_up k listed.0 unpinned
+        ap (fin.get h5.regions) (sym listed.1) ∙ r5.regions.given_up k listed.0 unpinned
 
     -- each kept object has its generation raised
     pub place_generation : (a : Addr) → kept_in p a ≡ true

@@ -1,25 +1,8 @@
 -- The kept objects at their new addresses: what each step leaves for the next.
-use Rattle.std.proofs.Common.{◌≡◌, ◌≢◌, ℕ, ◌<◌, ◌≤◌, inl, inr, ◌⊎◌, true, false, not, List, [], ◌∷◌, map, length, Option, Some, None, refl, sym, ap, ◌∙◌, subst, arith, true≢false}
-use Rattle.std.specs.Prelude.{is_some, unwrap_or, option_map, Contains}
-use Rattle.std.proofs.lemmas.Bool.{cases_Bool, cases_order, both_ways, and_parts, and_from, ltb-true, lt-ltb, cases_lt}
+use Rattle.hd_plan.proofs.Basics.{Addr, AreCopied, AreRewritten, Contains, HasStay, Heap, IsCondemned, IsCondemnedRegion, IsField, IsLeft, IsPut, IsStayedAt, List, None, Option, PlanOf, Region, Some, [], and_from, and_parts, ap, arith, both_ways, cases_Bool, cases_lt, cases_order, cells_of, false, fields_at, fields_placed, first_in, forwarded, generation_at, has-get, has_object, has_region, inl, inr, is_carded, is_in_use, is_kept_fate, is_moving, is_old_carded, is_set, is_some, is_staying, kept_in, later_in, length, lt-ltb, ltb-true, map, member_same, move_at, not, object_at, option_map, place_in, placed_at, refl, region_generation, room_at, same_address, subst, sym, true, true≢false, unwrap_or, ℕ, ◌<◌, ◌∙◌, ◌∷◌, ◌≡◌, ◌≢◌, ◌≤◌, ◌⊎◌}
+use Rattle.hd_model.specs.Heap.{region_of, card_of}
+use Rattle.hd_plan.proofs.{LayStep.address_low, RoomSteps.region_low, MoveEnds.ends_decided, CommitRewrites.rewritten_has, CondemnedAddresses.older_or_young, CondemnedAddresses.condemned_is, CondemnedAddresses.generation_is, KeptMoves.IsKeptBy, KeptMoves.moving_or_staying, KeptMoves.moving_kept, KeptMoves.fate_stays, KeptMoves.fate_rests, KeptMoves.unmoved, KeptMoves.kept_cases, KeptMoves.older_kept, KeptMoves.older_place, KeptMoves.move_kept, KeptMoves.move_place, KeptMoves.put_new, KeptMoves.all_put, KeptMoves.is_condemned_at, CommitCopies.get_placed, CommitCopies.has_alike, CommitCopies.fields_alike, CommitCopies.generation_alike, CommitShape.AreRemoved, CommitShape.IsCommitting, CommitShape.moves_now, CommitShape.kept_now, CommitShape.closed_now}
 use Rattle.std.specs.FinMap as fin
-use Rattle.hd_model.specs.declared.data.Addr.{Addr}
-use Rattle.hd_model.specs.Scene.{fields_at, generation_at, IsField, IsCondemned}
-use Rattle.hd_model.specs.Heap.{Region, Heap, region_of, card_of, region_generation, is_in_use, has_object, object_at, placed_at, cells_of, is_set, is_carded}
-use Rattle.hd_model.proofs.Members.{member_same, first_in, later_in}
-use Rattle.hd_heap.specs.Calls.{is_old_carded}
-use Rattle.hd_heap.proofs.RegionReads.{has-get}
-use Rattle.hd_heap.proofs.HeapValues.{fields_placed, same_address}
-use Rattle.hd_plan.specs.Layout.{move_at, is_kept_fate, is_moving, is_staying, room_at, IsCondemnedRegion, HasStay}
-use Rattle.hd_plan.specs.LaySteps.{IsPut}
-use Rattle.hd_plan.specs.Plan.{PlanOf, kept_in, place_in}
-use Rattle.hd_plan.specs.CommitSteps.{IsKeptAt, IsLeft, AreCopied, rewritten, AreRewritten}
-use Rattle.hd_plan.proofs.CondemnedAddresses.{older_or_young, condemned_is, generation_is}
-use Rattle.hd_plan.proofs.KeptMoves.{IsKeptBy, moving_or_staying, moving_kept, fate_stays, fate_rests, unmoved, kept_cases, older_kept, older_place, move_kept, move_place, put_new, all_put, is_condemned_at}
-use Rattle.hd_plan.proofs.MoveEnds.{ends_decided}
-use Rattle.hd_plan.proofs.CommitCopies.{get_placed, has_got, has_alike}
-use Rattle.hd_plan.proofs.CommitRewrites.{fields_alike, generation_alike, rewritten_has}
-use Rattle.hd_plan.proofs.CommitShape.{AreRemoved, IsCommitting, moves_now, kept_now, closed_now}
 
 -- fields that reference what stays in place are as they were
 unchanged : (place : Addr → Addr) (fs : List (Option Addr))
@@ -92,22 +75,45 @@ module _ (p : PlanOf) (old : Heap) (c : IsCommitting p old) where
   pub kept_object : (a : Addr) → kept_in p a ≡ true → has_object old a ≡ true
   kept_object a kept = c.same.objects a ∙ c.laid.keeping.objects a kept
 
-  -- no kept object is at the new address of an older one, and none where one was removed
-  pub older_apart : (a : Addr) → p.basis.condemned < generation_at (object_at old) a
-      → has_object old a ≡ true → IsKeptAt p.moves (length p.moves) a → ⊥
-  older_apart a older there e = elim (moving_or_staying (move_at p.moves e.at).fate e.goes) [
-    | inl moving ↦ both_ways _ (to_free e.at e.before moving)
-        (subst (λ (x : Addr). has_object old x ≡ true) (sym e.is) there)
-    | inr stays ↦
-        let from : (move_at p.moves e.at).from ≡ a = sym (stays_there e.at e.before (ap is_moving stays))
-        ∙ e.is in
-        let young : generation_at (object_at old) a ≤ p.basis.condemned =
-        subst (λ (x : Addr). generation_at (object_at old) x ≤ p.basis.condemned) from
-        (from_condemned e.at e.before).young in
-        (omega arith)
+  -- no address is 0
+  pub place_some : (a : Addr) → kept_in p a ≡ true → (place_in p a).0 ≢ 0
+  place_some a kept = elim (kept_by a kept) [
+    | inl older ↦ subst (λ (x : Addr). x.0 ≢ 0) (sym (place_older a older)) (some a (kept_object a kept))
+    | inr (k, by) ↦ subst (λ (x : Addr). (place_in p x).0 ≢ 0) by.from
+        (subst (λ (x : Addr). x.0 ≢ 0) (sym (place_move k by.within))
+        (elim (moving_or_staying (move_at p.moves k).fate by.kept) [
+          | inl moving ↦ put_low (move_at p.moves k).to (to_put k by.within moving).fresh.held
+          | inr stays ↦ subst (λ (x : Addr). x.0 ≢ 0) (sym (stays_there k by.within (ap is_moving stays)))
+              (some (move_at p.moves k).from (from_condemned k by.within).object)
+        ]))
   ]
+    where
+      some : (x : Addr) → has_object old x ≡ true → x.0 ≢ 0
+      some x there none = (let low = (address_low old c.sound x there).0 in omega arith)
 
-  module _ (h1 : Heap) (c1 : AreCopied old h1 p.moves (length p.moves)) where
+      -- a region that was in use or free is none of number 0
+      put_low : (x : Addr) → has_region (room_at old p.moves (length p.moves)).regions (region_of x) ≡ true
+          → x.0 ≢ 0
+      put_low x held none =
+          let room = (all_put old p.basis.condemned c.sound p.moves (moves_now p old c)).room in
+          elim (room.held (region_of x) held) [
+            | inl used ↦ let low = (c.sound.numbers (region_of x) used).0 in omega (arith, region_low x)
+            | inr free ↦ let low = (c.sound.spare_numbers free.at free.within).0 in
+                omega (arith, free.number, region_low x)
+          ]
+
+  -- what the objects of kept moves reference is kept
+  pub fields_kept : (k : ℕ) → k < length p.moves → is_kept_fate (move_at p.moves k).fate ≡ true
+      → (y : Addr) → IsField (object_at old) (move_at p.moves k).from y → kept_in p y ≡ true
+  fields_kept k within kept y field =
+      closed_now p old c (move_at p.moves k).from y (kept_move k within kept) field
+
+  -- an object that stays is condemned, and none is copied to it
+  stayed_young : (a : Addr) → IsStayedAt p.moves (length p.moves) a
+      → IsCondemned (object_at old) p.basis.condemned a
+  stayed_young a e = subst (IsCondemned (object_at old) p.basis.condemned) e.is (from_condemned e.at e.before)
+
+  module _ (h1 : Heap) (c1 : AreCopied (place_in p) old h1 p.moves (length p.moves)) where
     has_still : (a : Addr) → has_object old a ≡ true → has_object h1 a ≡ true
     has_still a there = has_alike old h1 a (c1.objects a there) ∙ there
 
@@ -160,27 +166,6 @@ module _ (p : PlanOf) (old : Heap) (c : IsCommitting p old) where
         let was = was_carded x carded in
         closed_now p old c x y (kept_older x was.1) (field_still x y was.0 field)
 
-    -- what is kept is at its new address
-    copied_there : (k : ℕ) → k < length p.moves → is_kept_fate (move_at p.moves k).fate ≡ true
-        → fin.get h1.objects (move_at p.moves k).to.0 ≡ fin.get old.objects (move_at p.moves k).from.0
-    copied_there k within kept = elim (moving_or_staying (move_at p.moves k).fate kept) [
-      | inl moving ↦ c1.copies k within moving
-      | inr stays ↦
-          ap (λ (x : Addr). fin.get h1.objects x.0) (stays_there k within (ap is_moving stays))
-          ∙ c1.objects (move_at p.moves k).from (from_condemned k within).object
-    ]
-
-    pub place_there : (y : Addr) → kept_in p y ≡ true → has_object h1 (place_in p y) ≡ true
-    place_there y kept = elim (kept_by y kept) [
-      | inl older ↦ ap (has_object h1) (place_older y older) ∙ has_still y (kept_object y kept)
-      | inr (k, by) ↦
-          ap (λ (x : Addr). has_object h1 (place_in p x)) (sym by.from)
-          ∙ ap (has_object h1) (place_move k by.within)
-          ∙ has_got h1 (move_at p.moves k).to (placed_at old (move_at p.moves k).from)
-          (copied_there k by.within by.kept
-          ∙ get_placed old (move_at p.moves k).from (from_condemned k by.within).object)
-    ]
-
     -- the older objects in set cards were rewritten
     module _ (h2 : Heap)
         (r2 : AreRewritten (λ a. is_old_carded h1 p.basis.condemned a ≡ true) (place_in p) h1 h2) where
@@ -196,61 +181,40 @@ module _ (p : PlanOf) (old : Heap) (c : IsCommitting p old) where
             | inr other ↦ inr (both_ways _ other)
           ]
 
-      pub second_there : (y : Addr) → kept_in p y ≡ true → has_object h2 (place_in p y) ≡ true
-      second_there y kept = has_second (place_in p y) ∙ place_there y kept
+      -- what is put or was condemned is not among them
+      uncarded : (a : Addr) →
+          (p.basis.condemned < generation_at (object_at old) a → has_object old a ≡ true → ⊥)
+          → is_old_carded h1 p.basis.condemned a ≡ true → ⊥
+      uncarded a none carded = (let was = was_carded a carded in none was.1 was.0)
 
-      -- a kept condemned object is not among them
-      kept_uncarded : (k : ℕ) → k < length p.moves → is_kept_fate (move_at p.moves k).fate ≡ true
-          → is_old_carded h1 p.basis.condemned (move_at p.moves k).to ≡ true → ⊥
-      kept_uncarded k within kept carded =
-          let was = was_carded (move_at p.moves k).to carded in
-          older_apart (move_at p.moves k).to was.1 was.0
-          (record { at = k; before = within; goes = kept; is = refl })
+      young_same : (a : Addr) → IsCondemned (object_at old) p.basis.condemned a
+          → fin.get h2.objects a.0 ≡ fin.get old.objects a.0
+      young_same a young =
+          r2.others a (uncarded a (λ older there. let low = young.young in omega arith))
+          ∙ c1.objects a young.object
 
-      second_at : (k : ℕ) → k < length p.moves → is_kept_fate (move_at p.moves k).fate ≡ true
-          → fin.get h2.objects (move_at p.moves k).to.0 ≡ fin.get old.objects (move_at p.moves k).from.0
-      second_at k within kept = r2.others (move_at p.moves k).to (kept_uncarded k within kept)
-          ∙ copied_there k within kept
+      pub from_second : (k : ℕ) → k < length p.moves → has_object h2 (move_at p.moves k).from ≡ true
+      from_second k within =
+          has_alike old h2 (move_at p.moves k).from
+          (young_same (move_at p.moves k).from (from_condemned k within))
+          ∙ (from_condemned k within).object
 
-      pub kept_there : (a : Addr) → IsKeptAt p.moves (length p.moves) a → has_object h2 a ≡ true
-      kept_there a e =
-          ap (has_object h2) (sym e.is)
-          ∙ has_got h2 (move_at p.moves e.at).to (placed_at old (move_at p.moves e.at).from)
-          (second_at e.at e.before e.goes
-          ∙ get_placed old (move_at p.moves e.at).from (from_condemned e.at e.before).object)
+      pub stayed_fields : (k : ℕ) → k < length p.moves → is_staying (move_at p.moves k).fate ≡ true
+          → (y : Addr) → IsField (object_at h2) (move_at p.moves k).from y → kept_in p y ≡ true
+      stayed_fields k within stays y field =
+          let from = (move_at p.moves k).from in
+          fields_kept k within (fate_stays _ stays) y
+          (member_same (fields_at (object_at h2) from) (fields_at (object_at old) from)
+          (fields_alike old h2 from from (young_same from (from_condemned k within))) (Some y) field)
 
-      pub kept_apart : (j k : ℕ) → j < k → k < length p.moves → is_kept_fate (move_at p.moves j).fate ≡ true
-          → is_kept_fate (move_at p.moves k).fate ≡ true → (move_at p.moves j).to.0 ≢ (move_at p.moves k).to.0
-      kept_apart j k less within kept_j kept_k same =
-          let low : j < length p.moves = omega arith in
-          let places : place_in p (move_at p.moves j).from ≡ place_in p (move_at p.moves k).from =
-          place_move j low ∙ same_address (move_at p.moves j).to (move_at p.moves k).to same
-          ∙ sym (place_move k within) in
-          let one : j ≡ k = same_move j k low within
-          (c.laid.keeping.apart (move_at p.moves j).from (move_at p.moves k).from
-          (kept_move j low kept_j) (kept_move k within kept_k) places) in
-          (omega arith)
-
-      pub kept_fields : (x y : Addr) → IsKeptAt p.moves (length p.moves) x → IsField (object_at h2) x y
-          → kept_in p y ≡ true
-      kept_fields x y e field =
-          let from = (move_at p.moves e.at).from in
-          let to = (move_at p.moves e.at).to in
-          let moved : IsField (object_at h2) to y =
-          subst (λ (a : Addr). IsField (object_at h2) a y) (sym e.is) field in
-          closed_now p old c from y (kept_move e.at e.before e.goes)
-          (member_same (fields_at (object_at h2) to) (fields_at (object_at old) from)
-          (fields_alike old h2 from to (second_at e.at e.before e.goes)) (Some y) moved)
-
-      -- and so were the kept ones
-      module _ (h3 : Heap) (r3 : AreRewritten (IsKeptAt p.moves (length p.moves)) (place_in p) h2 h3) where
+      -- and so were those that stay
+      module _ (h3 : Heap) (r3 : AreRewritten (IsStayedAt p.moves (length p.moves)) (place_in p) h2 h3) where
         has_third : (a : Addr) → has_object h3 a ≡ has_object h2 a
-        has_third a = rewritten_has (IsKeptAt p.moves (length p.moves)) (place_in p) h2 h3 r3 a
-            (ends_decided is_kept_fate (λ m. m.to) p.moves a (length p.moves))
+        has_third a = rewritten_has (IsStayedAt p.moves (length p.moves)) (place_in p) h2 h3 r3 a
+            (ends_decided is_staying (λ m. m.from) p.moves a (length p.moves))
 
         pub from_there : (k : ℕ) → k < length p.moves → has_object h3 (move_at p.moves k).from ≡ true
-        from_there k within = has_third (move_at p.moves k).from ∙ has_second (move_at p.moves k).from
-            ∙ has_still (move_at p.moves k).from (from_condemned k within).object
+        from_there k within = has_third (move_at p.moves k).from ∙ from_second k within
 
         -- all in a condemned region in which nothing stays is left
         pub left_there : (a : Addr) (r : ℕ) → has_object h3 a ≡ true
@@ -281,7 +245,7 @@ module _ (p : PlanOf) (old : Heap) (c : IsCommitting p old) where
         -- an older object whose card is clear references no object that moves
         older_same : (a : Addr) → has_object old a ≡ true
             → p.basis.condemned < generation_at (object_at old) a → is_carded old a ≡ false
-            → option_map (rewritten (place_in p)) (fin.get old.objects a.0) ≡ fin.get old.objects a.0
+            → option_map (forwarded (place_in p)) (fin.get old.objects a.0) ≡ fin.get old.objects a.0
         older_same a there older clear =
             let q = placed_at old a in
             let got = get_placed old a there in
@@ -293,32 +257,52 @@ module _ (p : PlanOf) (old : Heap) (c : IsCommitting p old) where
               | inl younger ↦ absurd (both_ways _ clear (c.cards a y named younger))
               | inr not_younger ↦ place_older y (omega arith)
             ] in
-            ap (option_map (rewritten (place_in p))) got
+            ap (option_map (forwarded (place_in p))) got
             ∙ ap (λ fs. Some (record q { fields = fs })) (unchanged (place_in p) q.fields still) ∙ sym got
 
+        -- what moves is copied, and neither older nor one that stays
+        third_moved : (k : ℕ) → k < length p.moves → is_moving (move_at p.moves k).fate ≡ true
+            → fin.get h3.objects (move_at p.moves k).to.0
+            ≡ option_map (forwarded (place_in p)) (fin.get old.objects (move_at p.moves k).from.0)
+        third_moved k within moving =
+            let to = (move_at p.moves k).to in
+            let free = to_free k within moving in
+            r3.others to (λ e. both_ways _ free (stayed_young to e).object)
+            ∙ r2.others to (uncarded to (λ older there. both_ways _ free there))
+            ∙ c1.copies k within moving
+
+        third_stayed : (k : ℕ) → k < length p.moves → is_staying (move_at p.moves k).fate ≡ true
+            → fin.get h3.objects (move_at p.moves k).to.0
+            ≡ option_map (forwarded (place_in p)) (fin.get old.objects (move_at p.moves k).from.0)
+        third_stayed k within stays =
+            let from = (move_at p.moves k).from in
+            ap (λ (x : Addr). fin.get h3.objects x.0) (stays_there k within (fate_rests _ stays))
+            ∙ r3.done from (record { at = k; before = within; goes = stays; is = refl })
+            ∙ ap (option_map (forwarded (place_in p))) (young_same from (from_condemned k within))
+
         pub third_at : (a : Addr) → kept_in p a ≡ true
-            → fin.get h3.objects (place_in p a).0 ≡ option_map (rewritten (place_in p))
+            → fin.get h3.objects (place_in p a).0 ≡ option_map (forwarded (place_in p))
             (fin.get old.objects a.0)
         third_at a kept = elim (kept_by a kept) [
           | inl older ↦
               let there = kept_object a kept in
               ap (λ (x : Addr). fin.get h3.objects x.0) (place_older a older)
-              ∙ r3.others a (older_apart a older there)
+              ∙ r3.others a (λ e. let low = (stayed_young a e).young in omega arith)
               ∙ elim (cases_Bool (is_carded old a)) [
                 | inl set ↦ r2.done a (carded_again a there older set)
-                    ∙ ap (option_map (rewritten (place_in p))) (c1.objects a there)
+                    ∙ ap (option_map (forwarded (place_in p))) (c1.objects a there)
                 | inr clear ↦
                     r2.others a (λ carded. both_ways _ clear (was_carded a carded).2)
                     ∙ c1.objects a there ∙ sym (older_same a there older clear)
               ]
           | inr (k, by) ↦
-              let to : place_in p a ≡ (move_at p.moves k).to =
-              ap (place_in p) (sym by.from) ∙ place_move k by.within in
-              ap (λ (x : Addr). fin.get h3.objects x.0) to
-              ∙ r3.done (move_at p.moves k).to
-              (record { at = k; before = by.within; goes = by.kept; is = refl })
-              ∙ ap (option_map (rewritten (place_in p))) (second_at k by.within by.kept
-              ∙ ap (λ (x : Addr). fin.get old.objects x.0) by.from)
+              ap (λ (x : Addr). fin.get h3.objects x.0)
+              (ap (place_in p) (sym by.from) ∙ place_move k by.within)
+              ∙ elim (moving_or_staying (move_at p.moves k).fate by.kept) [
+                | inl moving ↦ third_moved k by.within moving
+                | inr stays ↦ third_stayed k by.within (ap is_staying stays)
+              ]
+              ∙ ap (λ (x : Addr). option_map (forwarded (place_in p)) (fin.get old.objects x.0)) by.from
         ]
           where
             carded_again : (x : Addr) → has_object old x ≡ true
@@ -358,7 +342,7 @@ module _ (p : PlanOf) (old : Heap) (c : IsCommitting p old) where
           ]
 
           pub image_at : (a : Addr) → kept_in p a ≡ true
-              → fin.get h4.objects (place_in p a).0 ≡ option_map (rewritten (place_in p))
+              → fin.get h4.objects (place_in p a).0 ≡ option_map (forwarded (place_in p))
               (fin.get old.objects a.0)
           image_at a kept = r4.others (place_in p a) (λ e. absurd (place_left a kept e)) ∙ third_at a kept
 

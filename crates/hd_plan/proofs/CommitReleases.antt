@@ -1,22 +1,9 @@
 -- Lemmas on what is removed.
-use Rattle.std.proofs.Common.{◌≡◌, ◌≢◌, ℕ, ◌+◌, ◌/◌, ◌<◌, inl, inr, Bool, true, false, not, List, length, Option, Some, None, refl, sym, ap, ◌∙◌, subst, arith}
-use Rattle.std.specs.Prelude.{is_some, unwrap_or}
-use Rattle.std.proofs.lemmas.Bool.{cases_eq, cases_lt, cases_Bool, both_ways, false≢true}
-use Rattle.std.specs.Ordering.{nat_cmp}
-use Rattle.std.specs.FinMap as fin
-use Rattle.hd_model.specs.declared.data.Addr.{Addr}
-use Rattle.hd_model.specs.Heap.{Region, Heap, region_of, card_of, region_at, has_object, is_set}
-use Rattle.hd_model.proofs.ReadAfterWrite.{get_removed, get_left}
-use Rattle.hd_heap.specs.Calls.{IsRemoved, with_generation, without_region}
+use Rattle.hd_plan.proofs.Basics.{Addr, AreGivenUp, AreRemovedIn, Bool, Condemned, Heap, IsRemoved, List, Move, None, Option, Region, Some, ap, arith, both_ways, cases_Bool, cases_eq, cases_lt, condemned_at, false, false≢true, get_left, get_other, get_removed, get_same, has-get, has_object, inl, inr, is_set, is_some, is_staying, length, move_at, nat_cmp, not, refl, region_at, same_address, subst, sym, true, unwrap_or, with_generation, without_region, ℕ, ◌+◌, ◌/◌, ◌<◌, ◌∙◌, ◌≡◌, ◌≢◌}
+use Rattle.hd_model.specs.Heap.{region_of, card_of}
 use Rattle.hd_heap.proofs.RegionGiveUp.{object_gone, object_left, card_left}
-use Rattle.hd_heap.proofs.RegionReads.{has-get}
-use Rattle.hd_heap.proofs.HeapValues.{get_same, get_other, same_address}
-use Rattle.hd_plan.specs.declared.moves.Move.{Move}
-use Rattle.hd_plan.specs.declared.moves.Condemned.{Condemned}
-use Rattle.hd_plan.specs.Layout.{move_at, condemned_at, is_staying}
-use Rattle.hd_plan.specs.CommitSteps.{AreRemovedIn, AreGivenUp}
-use Rattle.hd_plan.proofs.MoveEnds.{ends_more, ends_here, ends_cases}
-use Rattle.hd_plan.proofs.CommitCopies.{has_alike}
+use Rattle.hd_plan.proofs.{MoveEnds.ends_more, MoveEnds.ends_here, MoveEnds.ends_cases, CommitCopies.has_alike}
+use Rattle.std.specs.FinMap as fin
 
 -- what a map has where something was removed
 get_gone : {A : Type 0} (m : fin.FinMap nat_cmp A) (k q : ℕ) → q ≡ k → fin.get (fin.remove m k) q ≡ None
@@ -131,28 +118,32 @@ module _ (old h : Heap) (cs : List Condemned) (i : ℕ) (low : i < length cs) (r
 
   settled_on : (new : Heap) (g : Option Region) → LeavesRegion new g → AreGivenUp old new cs (i + 1)
   settled_on new g is = record {
-    raised = λ k before pinned. elim (cases_lt k i) [
-      | inl below ↦ is.beside (condemned_at cs k).region (region_apart k below) ∙ r.raised k below pinned
-      | inr high ↦
-          let same : i ≡ k = omega arith in
-          subst (λ j. (condemned_at cs j).pinned ≡ true
-          → fin.get new.regions (condemned_at cs j).region ≡ Some
-          (record {
-            generation = (condemned_at cs j).generation;
-            fill = (region_at old (condemned_at cs j).region).fill;
-          })) same
-          (λ p. is.here (condemned_at cs i).region refl ∙ is.raised p) pinned
-    ];
-    given_up = λ k before unpinned. elim (cases_lt k i) [
-      | inl below ↦ is.beside (condemned_at cs k).region (region_apart k below) ∙ r.given_up k below unpinned
-      | inr high ↦
-          let same : i ≡ k = omega arith in
-          subst (λ j. (condemned_at cs j).pinned ≡ false
-          → fin.get new.regions (condemned_at cs j).region ≡ None) same
-          (λ p. is.here (condemned_at cs i).region refl ∙ is.given_up p) unpinned
-    ];
-    others = λ q none. is.beside q (λ same. none i (omega arith) (sym same))
-        ∙ r.others q (λ k below. none k (omega arith));
+    regions = record {
+      raised = λ k before pinned. elim (cases_lt k i) [
+        | inl below ↦ is.beside (condemned_at cs k).region (region_apart k below) ∙ r.regions.raised k below
+            pinned
+        | inr high ↦
+            let same : i ≡ k = omega arith in
+            subst (λ j. (condemned_at cs j).pinned ≡ true
+            → fin.get new.regions (condemned_at cs j).region ≡ Some
+            (record {
+              generation = (condemned_at cs j).generation;
+              fill = (region_at old (condemned_at cs j).region).fill;
+            })) same
+            (λ p. is.here (condemned_at cs i).region refl ∙ is.raised p) pinned
+      ];
+      given_up = λ k before unpinned. elim (cases_lt k i) [
+        | inl below ↦ is.beside (condemned_at cs k).region (region_apart k below) ∙ r.regions.given_up k below
+            unpinned
+        | inr high ↦
+            let same : i ≡ k = omega arith in
+            subst (λ j. (condemned_at cs j).pinned ≡ false
+            → fin.get new.regions (condemned_at cs j).region ≡ None) same
+            (λ p. is.here (condemned_at cs i).region refl ∙ is.given_up p) unpinned
+      ];
+      others = λ q none. is.beside q (λ same. none i (omega arith) (sym same))
+          ∙ r.regions.others q (λ k below. none k (omega arith));
+    };
     gone = λ k before unpinned a inside. elim (cases_lt k i) [
       | inl below ↦ is.left a (λ p same. region_apart k below (sym (same ∙ inside)))
           ∙ r.gone k below unpinned a inside
@@ -180,7 +171,7 @@ module _ (old h : Heap) (cs : List Condemned) (i : ℕ) (low : i < length cs) (r
   settled_raised new pinned step =
       let n = (condemned_at cs i).region in
       let g : Region = record { generation = (condemned_at cs i).generation; fill = (region_at h n).fill } in
-      let was : fin.get h.regions n ≡ fin.get old.regions n = r.others n region_apart in
+      let was : fin.get h.regions n ≡ fin.get old.regions n = r.regions.others n region_apart in
       let objects : new.objects ≡ h.objects = ap (λ (x : Heap). x.objects) step in
       settled_on new (Some g) (record {
         here = λ q same. ap (λ (x : Heap). fin.get x.regions q) step ∙ get_same h.regions n q g same;

@@ -1,32 +1,7 @@
 -- The heap after the moving.
-use Rattle.std.proofs.Common.{◌≡◌, ℕ, ◌+◌, ◌<◌, ◌≤◌, inl, inr, true, false, List, length, map, Option, Some, None, refl, sym, ap, ◌∙◌, subst, arith}
-use Rattle.std.specs.Prelude.{is_some, unwrap_or, option_map, Contains, ◌↔◌, ◌&&◌, [], nat_lt}
-use Rattle.std.proofs.lemmas.Bool.{cases_Bool, both_ways, cases_lt, and_parts, ltb-true, ltb-false, false_from_ne_true}
-use Rattle.std.proofs.lemmas.List.{length-map}
+use Rattle.hd_plan.proofs.Basics.{Addr, AreCarded, ArePut, ChangesRegions, Commits, Contains, HasClosedFields, HasNoEmptyRegion, HasSoundCards, HasStay, Heap, IsCondemnedRegion, IsField, IsKeptAt, IsPacked, List, NamesYounger, NeedsCard, None, Option, Placed, PlanOf, Region, Some, [], and_from, and_parts, ap, arith, both_ways, card_of, cases_Bool, cases_lt, cells_of, condemned_at, false, false_from_ne_true, fields_at, fields_in, fields_placed, forwarded, generation_at, has_object, has_region, id_in, inl, inr, is_carded, is_in_use, is_kept_fate, is_moving, is_older_region, is_set, is_some, kept_in, length, length-map, lt-ltb, ltb-false, ltb-true, map, mapped_from, may_card, member_same, move_at, moved_object, nat_lt, object_at, object_in, option_map, place_in, placed_at, raised, refl, region_at, region_generation, region_of, room_at, same_address, share, stays_in, subst, sym, true, unwrap_or, used_of, ℕ, ◌&&◌, ◌+◌, ◌<◌, ◌↔◌, ◌∙◌, ◌≡◌, ◌≤◌}
+use Rattle.hd_plan.proofs.{CondemnedAddresses.some_is, CondemnedAddresses.generation_is, CommitCards.has_from, CommitCards.names_back, CommitTotals.sum-coming, KeptMoves.all_put, KeptMoves.moving_kept, KeptMoves.fate_stays, KeptMoves.fate_rests, PackedRegions.IsTaken, PackedRegions.packed, PackedRegions.compact, CommitCopies.get_placed, CommitCopies.has_got, CommitCopies.has_alike, CommitShape.AreSettled, CommitShape.IsCommitting, CommitShape.moves_now, CommitShape.regions_now, CommitShape.closed_now, CommitImage.kept_by, CommitImage.kept_older, CommitImage.place_older, CommitImage.kept_move, CommitImage.place_move, CommitImage.kept_object, CommitImage.from_condemned, CommitImage.stays_there, CommitImage.image_at, CommitImage.image_only, CommitGenerations.AreMoved, CommitGenerations.places_same, CommitGenerations.raised_above, CommitGenerations.raised_some, CommitGenerations.raised_older, CommitGenerations.place_generation, CommitGenerations.regions_room, CommitGenerations.region_kept, CommitGenerations.region_older, CommitGenerations.region_raised, CommitGenerations.region_given_up}
 use Rattle.std.specs.FinMap as fin
-use Rattle.hd_model.specs.declared.data.Addr.{Addr}
-use Rattle.hd_model.specs.Ages.{raised, HasSoundCards}
-use Rattle.hd_model.specs.Names.{HasClosedFields}
-use Rattle.hd_model.specs.Scene.{fields_at, fields_in, generation_at, IsField}
-use Rattle.hd_model.specs.Heap.{Placed, Region, Heap, region_of, card_of, region_at, region_generation, is_in_use, has_object, object_at, object_in, placed_at, cells_of, id_in, is_set, is_carded, used_of}
-use Rattle.hd_model.proofs.Members.{member_same, mapped_from}
-use Rattle.hd_model.proofs.Sums.{share}
-use Rattle.hd_plan.specs.Layout.{move_at, condemned_at, is_moving, room_at, has_region, IsCondemnedRegion, HasStay}
-use Rattle.hd_plan.specs.LaySteps.{ArePut}
-use Rattle.hd_plan.specs.Plan.{PlanOf, kept_in, place_in, stays_in, HasNoEmptyRegion}
-use Rattle.hd_plan.specs.Commit.{moved_object, NeedsCard, ChangesRegions, Commits}
-use Rattle.hd_plan.specs.CommitSteps.{IsKeptAt, rewritten, AreCarded}
-use Rattle.hd_plan.proofs.CondemnedAddresses.{some_is, generation_is}
-use Rattle.hd_plan.proofs.KeptMoves.{all_put, moving_kept, fate_stays, fate_rests}
-use Rattle.hd_plan.specs.PackedRegions.{is_older_region, IsPacked}
-use Rattle.hd_plan.proofs.PackedRegions.{IsTaken, packed, compact}
-use Rattle.hd_plan.proofs.CommitCards.{has_from, names_back}
-use Rattle.hd_plan.proofs.CommitTotals.{sum-coming}
-use Rattle.hd_plan.proofs.CommitCopies.{get_placed, has_got, has_alike}
-use Rattle.hd_plan.proofs.CommitShape.{AreSettled, IsCommitting, moves_now, regions_now, closed_now}
-use Rattle.hd_plan.proofs.CommitImage.{kept_by, kept_older, place_older, kept_move, place_move, kept_object, from_condemned, stays_there, image_at, image_only}
-use Rattle.hd_plan.proofs.CommitGenerations.{AreMoved, raised_above, raised_some, raised_older, place_generation, regions_room, region_kept, region_older, region_raised, region_given_up}
-use Rattle.hd_heap.proofs.HeapValues.{same_address}
 
 -- a field that was rewritten
 pub record IsRenamed (place : Addr → Addr) (fs : List (Option Addr)) (y : Addr) : Type 0 where
@@ -43,13 +18,13 @@ renamed place fs y field = let f = mapped_from (option_map place) fs (Some y) fi
     by (Some z) f e = record { was = z; field = f; is = some_is (place z) y e }
 
 fields_of_rewritten : (place : Addr → Addr) (g f : ℕ) (o : Option Placed)
-    → fields_in (option_map (object_in g) (option_map (rewritten place) o)) ≡ map (option_map place)
+    → fields_in (option_map (object_in g) (option_map (forwarded place) o)) ≡ map (option_map place)
     (fields_in (option_map (object_in f) o))
 fields_of_rewritten place g f None = refl
 fields_of_rewritten place g f (Some q) = refl
 
 object_of_rewritten : (place : Addr → Addr) (n g f : ℕ) (o : Option Placed) → g ≡ raised n f
-    → option_map (object_in g) (option_map (rewritten place) o) ≡ option_map (moved_object place n)
+    → option_map (object_in g) (option_map (forwarded place) o) ≡ option_map (moved_object place n)
     (option_map (object_in f) o)
 object_of_rewritten place n g f None e = refl
 object_of_rewritten place n g f (Some q) e =
@@ -60,7 +35,7 @@ object_of_rewritten place n g f (Some q) e =
       registered = q.registered;
     })) e
 
-id_of_rewritten : (place : Addr → Addr) (o : Option Placed) → id_in (option_map (rewritten place) o) ≡ id_in o
+id_of_rewritten : (place : Addr → Addr) (o : Option Placed) → id_in (option_map (forwarded place) o) ≡ id_in o
 id_of_rewritten place None = refl
 id_of_rewritten place (Some q) = refl
 
@@ -73,14 +48,14 @@ module _ (p : PlanOf) (old h1 h2 h3 h4 : Heap) (m : AreMoved p old h1 h2 h3 h4) 
   object_same b = ap (λ (x : Heap). fin.get x.objects b.0) r5.same
 
   pub settled_at : (a : Addr) → kept_in p a ≡ true
-      → fin.get h5.objects (place_in p a).0 ≡ option_map (rewritten (place_in p)) (fin.get old.objects a.0)
+      → fin.get h5.objects (place_in p a).0 ≡ option_map (forwarded (place_in p)) (fin.get old.objects a.0)
   settled_at a kept = object_same (place_in p a)
-      ∙ image_at p old c h1 m.copied h2 m.carded h3 m.kept h4 m.removed a kept
+      ∙ image_at p old c h1 m.places.copied h2 m.places.carded h3 m.places.stayed h4 m.removed a kept
 
   settled_object : (a : Addr) → kept_in p a ≡ true → has_object h5 (place_in p a) ≡ true
   settled_object a kept =
-      has_got h5 (place_in p a) (rewritten (place_in p) (placed_at old a))
-      (settled_at a kept ∙ ap (option_map (rewritten (place_in p)))
+      has_got h5 (place_in p a) (forwarded (place_in p) (placed_at old a))
+      (settled_at a kept ∙ ap (option_map (forwarded (place_in p)))
       (get_placed old a (kept_object p old c a kept)))
 
   pub settled_there : (a : Addr) → IsKeptAt p.moves (length p.moves) a → has_object h5 a ≡ true
@@ -91,13 +66,13 @@ module _ (p : PlanOf) (old h1 h2 h3 h4 : Heap) (m : AreMoved p old h1 h2 h3 h4) 
   settled_only : (b : Addr) → has_object h5 b ≡ true
       → (a : Addr) × ((kept_in p a ≡ true) × (place_in p a ≡ b))
   settled_only b there =
-      image_only p old c h1 m.copied h2 m.carded h3 m.kept h4 m.removed b
+      image_only p old c h1 m.places.copied h2 m.places.carded h3 m.places.stayed h4 m.removed b
       (sym (has_alike h4 h5 b (object_same b)) ∙ there)
 
   -- heaps with other cards
   module _ (h6 : Heap) (same6 : h6 ≡ record h5 { cards = h6.cards }) where
     pub ending_at : (a : Addr) → kept_in p a ≡ true
-        → fin.get h6.objects (place_in p a).0 ≡ option_map (rewritten (place_in p)) (fin.get old.objects a.0)
+        → fin.get h6.objects (place_in p a).0 ≡ option_map (forwarded (place_in p)) (fin.get old.objects a.0)
     ending_at a kept = ap (λ (x : Heap). fin.get x.objects (place_in p a).0) same6 ∙ settled_at a kept
 
     pub ending_object : (a : Addr) → kept_in p a ≡ true → has_object h6 (place_in p a) ≡ true
@@ -147,6 +122,37 @@ module _ (p : PlanOf) (old h1 h2 h3 h4 : Heap) (m : AreMoved p old h1 h2 h3 h4) 
         subst (λ (z : Addr). has_object h6 z ≡ true) f.is
         (ending_object f.was (closed_now p old c a f.was is.0 f.field))
 
+    -- what may need no card references no younger object: its generation is the youngest, or it has no field
+    pub ending_spared : (k : ℕ) → k < length p.moves → may_card (move_at p.moves k) ≡ false
+        → is_kept_fate (move_at p.moves k).fate ≡ true
+        → NamesYounger h6 (move_at p.moves k).to → ⊥
+    ending_spared k within spared kept names =
+        let m = move_at p.moves k in
+        let from_kept = kept_move p old c k within kept in
+        let generation : generation_at (object_at h6) m.to ≡ m.generation =
+        ap (generation_at (object_at h6)) (sym (place_move p old c k within))
+        ∙ ending_generation m.from from_kept ∙ sym ((moves_now p old c).generations k within) in
+        let field = ending_field m.from names.target from_kept
+        (subst (λ (x : Addr). IsField (object_at h6) x names.target) (sym (place_move p old c k within))
+        names.field) in
+        elim (cases_lt 1 m.generation) [
+          | inl old_one ↦ elim (cases_lt 0 m.fields) [
+            | inl some ↦ both_ways _ spared (and_from _ _ (and_from _ _ kept (lt-ltb 1 m.generation old_one))
+                (lt-ltb 0 m.fields some))
+            | inr none ↦
+                let few = field.field.1 in
+                let fields = ap {B = ℕ} (λ fs. length fs)
+                (fields_placed old m.from (kept_object p old c m.from
+                from_kept)) in
+                let count = (moves_now p old c).fields k within in
+                absurd (omega arith)
+          ]
+          | inr young ↦
+              let grown = ending_grown names.target (ending_closed m.to names.target names.field) in
+              let younger = names.younger in
+              absurd (omega arith)
+        ]
+
   -- the cards of kept objects are set
   module _ (h6 : Heap) (r6 : AreCarded h5 h6 p.moves (length p.moves)) where
     pub ending_cards : HasSoundCards (object_at h6) (is_carded h6)
@@ -187,8 +193,8 @@ module _ (p : PlanOf) (old h1 h2 h3 h4 : Heap) (m : AreMoved p old h1 h2 h3 h4) 
         carded_still a there set =
             let fourth : has_object h4 a ≡ true = sym (has_alike h4 h5 a (object_same a))
             ∙ sym (ap (λ (x : Heap). has_object x a) r6.same) ∙ there in
-            let first : is_carded h1 a ≡ true = ap (λ (x : Heap). is_set x (card_of a)) m.copied.same ∙ set in
-            let third : is_carded h3 a ≡ true = m.kept.more (card_of a) (m.same (card_of a) ∙ first) in
+            let third : is_carded h3 a ≡ true =
+            ap (λ (x : Heap). is_set x (card_of a)) (places_same m.places) ∙ set in
             r6.more (card_of a) (ap (λ (x : Heap). is_set x (card_of a)) r5.same ∙ m.removed.cards a fourth
             ∙ third)
 
@@ -311,10 +317,10 @@ module _ (p : PlanOf) (old h1 h2 h3 h4 : Heap) (m : AreMoved p old h1 h2 h3 h4) 
         let b : Addr = record { 0 = q } in
         let (a, is) = ending_only h7 same7 b (has_got h7 b v got) in
         let there = get_placed old a (kept_object p old c a is.0) in
-        let now : Some (rewritten (place_in p) (placed_at old a)) ≡ Some v =
-        sym (ending_at h7 same7 a is.0 ∙ ap (option_map (rewritten (place_in p))) there)
+        let now : Some (forwarded (place_in p) (placed_at old a)) ≡ Some v =
+        sym (ending_at h7 same7 a is.0 ∙ ap (option_map (forwarded (place_in p))) there)
         ∙ ap (λ (x : Addr). fin.get h7.objects x.0) is.1 ∙ got in
-        let cells : cells_of (rewritten (place_in p) (placed_at old a)) ≡ cells_of v =
+        let cells : cells_of (forwarded (place_in p) (placed_at old a)) ≡ cells_of v =
         ap cells_of (some_is _ _ now) in
         let long = length-map (placed_at old a).fields (option_map (place_in p)) in
         let comes : ComesFrom q a.0 =
@@ -331,9 +337,9 @@ module _ (p : PlanOf) (old h1 h2 h3 h4 : Heap) (m : AreMoved p old h1 h2 h3 h4) 
         let o = move_at p.moves j in
         let kept = kept_move p old c j within (moving_kept o.fate moving) in
         let there = get_placed old o.from (from_condemned p old c j within).object in
-        let now : fin.get h7.objects o.to.0 ≡ Some (rewritten (place_in p) (placed_at old o.from)) =
+        let now : fin.get h7.objects o.to.0 ≡ Some (forwarded (place_in p) (placed_at old o.from)) =
         ap (λ (x : Addr). fin.get h7.objects x.0) (sym (place_move p old c j within))
-        ∙ ending_at h7 same7 o.from kept ∙ ap (option_map (rewritten (place_in p))) there in (
+        ∙ ending_at h7 same7 o.from kept ∙ ap (option_map (forwarded (place_in p))) there in (
           has_got h7 o.to _ now,
           placed_now o.to _ now
               ∙ ap (λ n. n + 3) (length-map (placed_at old o.from).fields (option_map (place_in p))),
@@ -369,8 +375,7 @@ module _ (p : PlanOf) (old h1 h2 h3 h4 : Heap) (m : AreMoved p old h1 h2 h3 h4) 
       cards = exact;
       limit =
           ap (λ (x : Heap). x.limit) same7 ∙ ap (λ (x : Heap). x.limit) r5.same
-          ∙ ap (λ (x : Heap). x.limit) m.removed.same ∙ ap (λ (x : Heap). x.limit) m.kept.same
-          ∙ ap (λ (x : Heap). x.limit) m.carded.same ∙ ap (λ (x : Heap). x.limit) m.copied.same;
+          ∙ ap (λ (x : Heap). x.limit) m.removed.same ∙ ap (λ (x : Heap). x.limit) (places_same m.places);
       used = used;
       full = full;
       packed = packed_now;

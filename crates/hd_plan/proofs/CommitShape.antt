@@ -1,43 +1,16 @@
 -- A plan is valid for each heap of the same shape as the one for which it was laid.
-use Rattle.std.proofs.Common.{◌≡◌, ◌≢◌, ℕ, zero, suc, ◌+◌, ◌<◌, ◌≤◌, true, false, None, ◌||◌, ◌&&◌, List, length, Some, sym, ap, ◌∙◌, subst}
-use Rattle.std.specs.Prelude.{nat_lt, nat_le}
+use Rattle.hd_plan.proofs.Basics.{Addr, AllocCursors, AreMoves, AreRegions, AreRemovedIn, AreSettledRegions, Basis, CanCopy, Condemned, Fits, HasSoundCards, Heap, IsField, IsLaid, IsSameShape, IsSound, List, Move, None, PlanOf, Room, Some, ap, cells_of, condemned_at, false, fields_at, fields_placed, find_move, generation_at, is_carded, is_condemned, is_in_use, is_kept_by, kept_in, length, member_same, move_at, nat_le, nat_lt, object_at, placed_at, put_fate, raised, region_at, region_generation, region_of, room_of, subst, suc, sym, true, zero, ℕ, ◌&&◌, ◌+◌, ◌<◌, ◌||◌, ◌∙◌, ◌≡◌, ◌≢◌, ◌≤◌}
+use Rattle.hd_plan.specs.Layout.{room_at}
+use Rattle.hd_plan.proofs.{CommitCopies.generation_alike, CommitCards.has_from, KeptMoves.generation_some, KeptMoves.are_put, CondemnedAddresses.condemned_of}
 use Rattle.std.specs.FinMap as fin
-use Rattle.hd_model.specs.declared.data.Addr.{Addr}
-use Rattle.hd_model.specs.Ages.{raised, HasSoundCards}
-use Rattle.hd_model.specs.Scene.{fields_at, generation_at, IsField}
-use Rattle.hd_model.specs.Heap.{Heap, Basis, region_of, region_at, region_generation, is_in_use, object_at, placed_at, cells_of, is_carded}
-use Rattle.hd_model.proofs.Members.{member_same}
-use Rattle.hd_heap.specs.Calls.{is_condemned}
-use Rattle.hd_heap.specs.Sound.{IsSound}
-use Rattle.hd_heap.proofs.HeapValues.{fields_placed}
-use Rattle.hd_plan.specs.declared.moves.Move.{Move}
-use Rattle.hd_plan.specs.declared.moves.Condemned.{Condemned}
-use Rattle.hd_plan.specs.declared.cursors.AllocCursors.{AllocCursors}
-use Rattle.hd_plan.specs.Layout.{Room, move_at, condemned_at, is_kept_by, find_move, room_of, room_at, put_fate, Fits, AreMoves, AreRegions}
-use Rattle.hd_plan.specs.Plan.{PlanOf, kept_in, IsLaid}
-use Rattle.hd_plan.specs.Commit.{IsSameShape}
-use Rattle.hd_plan.specs.CommitSteps.{CanCopy, AreRemovedIn}
-use Rattle.hd_plan.proofs.CommitRewrites.{generation_alike}
-use Rattle.hd_plan.proofs.CommitCards.{has_from}
-use Rattle.hd_plan.proofs.KeptMoves.{generation_some, are_put}
-use Rattle.hd_plan.proofs.CondemnedAddresses.{condemned_of}
 
 -- the first i objects that do not stay are gone from their old addresses
 abbrev pub AreRemoved : Heap → Heap → List Move → ℕ → Type 0
 AreRemoved = AreRemovedIn (λ r. true)
 
--- the first i condemned regions have their new generation, or are freed
+-- the first i condemned regions are settled, and nothing else is changed
 pub record AreSettled (old h : Heap) (cs : List Condemned) (i : ℕ) : Type 0 where
-  pub raised : (k : ℕ) → k < i → (condemned_at cs k).pinned ≡ true
-      → fin.get h.regions (condemned_at cs k).region
-      ≡ Some (record {
-        generation = (condemned_at cs k).generation;
-        fill = (region_at old (condemned_at cs k).region).fill;
-      })
-  pub given_up : (k : ℕ) → k < i → (condemned_at cs k).pinned ≡ false
-      → fin.get h.regions (condemned_at cs k).region ≡ None
-  pub others : (r : ℕ) → ((k : ℕ) → k < i → (condemned_at cs k).region ≢ r)
-      → fin.get h.regions r ≡ fin.get old.regions r
+  pub regions : AreSettledRegions old h cs i
   pub same : h ≡ record old { regions = h.regions; spare = h.spare }
 
 module _ (h k : Heap) (s : IsSameShape h k) where
@@ -68,6 +41,8 @@ module _ (h k : Heap) (s : IsSameShape h k) where
     all = λ a is. moves.all a (sym (shape_condemned n a) ∙ is);
     generations = λ j within. moves.generations j within
         ∙ ap (raised n) (sym (shape_generation (move_at ms j).from));
+    fields = λ j within. moves.fields j within
+        ∙ ap {B = ℕ} (λ fs. length fs) (sym (s.fields (move_at ms j).from));
     fits = λ j within.
         let m = move_at ms j in
         let P : List ℕ → AllocCursors → ℕ → Type 0 =

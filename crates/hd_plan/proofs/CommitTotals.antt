@@ -1,15 +1,7 @@
 -- A map whose values map one to one to values of another that are no smaller has no more in all.
-use Rattle.std.proofs.Common.{◌≡◌, ◌≢◌, ℕ, ◌<◌, ◌≤◌, Bool, true, false, ◌&&◌, T, List, [], ◌∷◌, map, Some, None, refl, sym, ap, ◌∙◌, subst, arith}
-use Rattle.std.specs.Prelude.{sum_by}
-use Rattle.std.specs.FinMap.{FinMap, get, remove, find, is_sorted, entries, values, entries_sorted, get-entries}
+use Rattle.hd_plan.proofs.Basics.{Bool, FinMap, List, None, Some, T, [], ap, arith, entries, entries_sorted, false, find, found_first, found_later, get, get-entries, get_left, is_lt, is_sorted, map, nat_cmp, refl, remove, share, subst, sum-remove, sum_by, sum_by-cons, sym, true, values, ℕ, ◌&&◌, ◌<◌, ◌∙◌, ◌∷◌, ◌≡◌, ◌≢◌, ◌≤◌}
 use Rattle.std.specs.FinMap.Entries.{below_all}
-use Rattle.std.specs.Ordering.{nat_cmp, is_lt}
-use Rattle.std.proofs.lemmas.Bool.Decides.{nat_tests}
-use Rattle.std.proofs.lemmas.List.Sums.{sum_by-cons}
-use Rattle.std.proofs.lemmas.Option.{none-some}
-use Rattle.hd_model.proofs.Entries.{found_first, found_later}
-use Rattle.hd_model.proofs.ReadAfterWrite.{get_left}
-use Rattle.hd_model.proofs.Sums.{share, sum-remove}
+use Rattle.std.proofs.{lemmas.Bool.Decides.nat_tests, lemmas.Option.none-some}
 
 both : (a b : Bool) → T (a && b) → T a × T b
 both true b p = (tt, p)

@@ -1,14 +1,5 @@
 -- Lemmas on walks over a heap, and on what keeps an object in each region in use: for tests.
-use Rattle.std.proofs.Common.{◌≡◌, ℕ, ◌<◌, ◌≤◌, inl, inr, Bool, true, false, List, length, get_or, Option, Some, None, sym, ◌∙◌, subst, arith}
-use Rattle.std.specs.Prelude.{Contains}
-use Rattle.std.proofs.lemmas.List.{get_or_default}
-use Rattle.hd_model.specs.declared.data.Addr.{Addr}
-use Rattle.hd_model.specs.Leads.{IsClosed}
-use Rattle.hd_model.specs.Scene.{IsField}
-use Rattle.hd_model.specs.Heap.{Heap, Basis, objects_of, has_object, object_at, placed_at}
-use Rattle.hd_heap.specs.Calls.{with_field, stored, is_after, IsNext}
-use Rattle.hd_heap.proofs.HeapValues.{has_with_object}
-use Rattle.hd_plan.specs.Plan.{HasNoEmptyRegion}
+use Rattle.hd_plan.proofs.Basics.{Addr, Basis, Bool, Contains, HasNoEmptyRegion, Heap, IsClosed, IsField, IsNext, List, None, Option, Some, arith, false, get_or, get_or_default, has_object, has_with_object, inl, inr, is_after, length, object_at, objects_of, placed_at, stored, subst, sym, true, with_field, ℕ, ◌<◌, ◌∙◌, ◌≡◌, ◌≤◌}
 use Rattle.hd_plan.proofs.LayStep.{reached_cases}
 
 -- a property of all objects that a walk has come to, and one more

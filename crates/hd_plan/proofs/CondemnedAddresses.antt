@@ -1,12 +1,5 @@
 -- Tests of addresses and of what is condemned.
-use Rattle.std.proofs.Common.{◌≡◌, ℕ, ◌+◌, ◌<◌, ◌≤◌, Bool, true, false, not, Option, Some, None, refl, sym, ap, inl, inr, ◌⊎◌, min, cond}
-use Rattle.std.specs.Prelude.{nat_le, is_some, option_map}
-use Rattle.std.proofs.lemmas.Bool.{le-ltb, leb-true, le-leb, cases_lt, and_parts, and_from}
-use Rattle.hd_model.specs.declared.data.Addr.{Addr}
-use Rattle.hd_model.specs.Ages.{raised}
-use Rattle.hd_model.specs.Scene.{generation_at, generation_in, IsCondemned}
-use Rattle.hd_model.specs.Heap.{Heap, Placed, region_of, region_generation, has_object, object_at, object_in}
-use Rattle.hd_heap.specs.Calls.{is_condemned}
+use Rattle.hd_plan.proofs.Basics.{Addr, Bool, Heap, IsCondemned, None, Option, Placed, Some, and_from, and_parts, ap, cases_lt, cond, false, generation_at, generation_in, has_object, inl, inr, is_condemned, is_some, le-leb, le-ltb, leb-true, min, nat_le, not, object_at, object_in, option_map, raised, refl, region_generation, region_of, sym, true, ℕ, ◌+◌, ◌<◌, ◌≡◌, ◌≤◌, ◌⊎◌}
 
 pub not_true : (a : Bool) → not a ≡ true → a ≡ false
 not_true true e = absurd (cc e)

@@ -1,15 +1,7 @@
 -- The table of new addresses, as it is filled and read.
-use Rattle.std.proofs.Common.{◌≡◌, ◌≢◌, ℕ, suc, ◌+◌, ◌*◌, ◌/◌, ◌%◌, ◌^◌, ◌<◌, ◌≤◌, false, List, [], ◌∷◌, ◌++◌, length, set, get_or, refl, sym, ap, ◌∙◌, subst, arith, inl, inr, ◌⊎◌, length-set, get_or-set_same, get_or-set_other}
-use Rattle.std.proofs.lemmas.Bool.{cases_eq, cases_lt}
-use Rattle.std.proofs.lemmas.List.{get_or_read_under}
-use Rattle.hd_model.specs.declared.data.Addr.{Addr}
+use Rattle.hd_plan.proofs.Basics.{Addr, AreListedTo, Condemned, HasMove, HasPlaces, HasRegionRoom, IsAdded, IsJoined, IsRising, List, Move, [], ap, arith, cases_eq, cases_lt, cell_at, condemned_at, false, first_at, get_or, get_or-set_other, get_or-set_same, get_or_read_under, inl, inr, is_last, is_staying, length, length-set, move_at, place_among, place_from, refl, same_address, set, spot_in, spot_of, subst, suc, sym, ℕ, ◌%◌, ◌*◌, ◌++◌, ◌+◌, ◌/◌, ◌<◌, ◌^◌, ◌∙◌, ◌∷◌, ◌≡◌, ◌≢◌, ◌≤◌, ◌⊎◌}
 use Rattle.hd_model.specs.Heap.{region_of}
-use Rattle.hd_plan.specs.declared.moves.Move.{Move}
-use Rattle.hd_plan.specs.declared.moves.Condemned.{Condemned}
-use Rattle.hd_plan.specs.Layout.{move_at, condemned_at, is_staying, IsRising}
-use Rattle.hd_plan.specs.LaySteps.{first_at, cell_at, is_last, HasMove, HasRegionRoom, HasPlaces, AreListedTo, IsJoined, IsAdded, spot_in, spot_of, place_from, place_among}
 use Rattle.hd_plan.proofs.RegionList.{region_once, below_region, joined_region, joined_length, added_length, added_before, added_last, listed_added, listed_fit, listed_next}
-use Rattle.hd_heap.proofs.HeapValues.{same_address}
 
 pub region_is_quotient : (a : Addr) → region_of a ≡ a.0 / 256
 unfolding region_of

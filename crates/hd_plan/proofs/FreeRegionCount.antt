@@ -1,19 +1,7 @@
 -- How many free regions a plan takes.
-use Rattle.std.proofs.Common.{ℕ, ◌+◌, ◌/◌, ◌≤◌, length, refl, sym, ◌∙◌, arith}
-use Rattle.std.specs.Prelude.{max, sum_by, IsSome}
-use Rattle.std.specs.FinMap.{get, len}
-use Rattle.hd_model.specs.declared.data.Addr.{Addr}
-use Rattle.hd_model.specs.Scene.{IsCondemned}
-use Rattle.hd_model.proofs.Entries.{counts_keys}
-use Rattle.hd_model.proofs.PropertyCounts.{counts_where}
-use Rattle.hd_heap.specs.Calls.{is_condemned}
-use Rattle.hd_heap.proofs.RegionReads.{has-get}
+use Rattle.hd_plan.proofs.Basics.{Addr, Heap, IsCondemned, IsExtent, IsSome, SparesAtMost, Survey, Takes, arith, cells_of, counts_keys, counts_where, get, has-get, is_condemned, len, length, max, object_at, placed_at, refl, sum_by, sym, ℕ, ◌+◌, ◌/◌, ◌∙◌, ◌≤◌}
 use Rattle.hd_model.specs.declared.limits.TheConstants.{LEFT, OPEN}
-use Rattle.hd_model.specs.Heap.{Heap, object_at, placed_at, cells_of}
-use Rattle.hd_heap.specs.declared.survey.Survey.{Survey}
-use Rattle.hd_plan.specs.Plan.{Takes, SparesAtMost}
 use Rattle.hd_plan.proofs.CondemnedAddresses.{condemned_of, condemned_is}
-use Rattle.hd_plan.specs.LaySteps.{IsExtent}
 
 pub spares_at_most : (old new : Heap) (n : ℕ) (s : Survey) → IsExtent old n s
     → length new.spare ≤ max (s.cells / LEFT + OPEN) (length old.spare) → SparesAtMost old new n

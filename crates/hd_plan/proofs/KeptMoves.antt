@@ -1,24 +1,8 @@
 -- What is kept by moves, and where it goes: objects alone, all that is older and in place, and no two to one
 -- address.
-use Rattle.std.proofs.Common.{◌≡◌, ◌≢◌, ℕ, zero, suc, ◌+◌, ◌<◌, ◌≤◌, Bool, true, false, ◌||◌, List, length, Option, Some, None, refl, sym, ap, ◌∙◌, subst, arith, inl, inr, ◌⊎◌, min, true≢false}
-use Rattle.std.specs.Prelude.{nat_lt, is_some}
-use Rattle.std.proofs.lemmas.Bool.{lt-ltb, le-ltb, ltb-true, cases_eq, cases_order, cases_Bool, or_cases, or_left}
-use Rattle.hd_model.specs.declared.data.Addr.{Addr}
-use Rattle.hd_model.specs.Ages.{raised}
-use Rattle.hd_model.specs.Marking.{IsKeeping}
-use Rattle.hd_model.specs.State.{Object}
-use Rattle.hd_model.specs.Scene.{generation_at, generation_in, IsCondemned}
-use Rattle.hd_model.specs.Heap.{Heap, has_object, object_at, placed_at, cells_of}
-use Rattle.hd_heap.specs.Sound.{IsSound}
-use Rattle.hd_plan.specs.declared.moves.Fate.{Fate}
-use Rattle.hd_plan.specs.declared.moves.Fate.TheVariants.{Dead, Pinned, MovesToNewRegion, Moves}
-use Rattle.hd_plan.specs.declared.moves.Move.{Move}
-use Rattle.hd_plan.specs.declared.cursors.AllocCursors.{AllocCursors}
-use Rattle.hd_plan.specs.Layout.{room_at, put_move, Fits, move_at, is_moving, is_staying, is_kept_fate, find_move, place_by, is_kept_by, AreMoves}
-use Rattle.hd_plan.specs.LaySteps.{IsRoom, IsPut, ArePut}
-use Rattle.hd_plan.proofs.CondemnedAddresses.{condemned_of, raised_young}
-use Rattle.hd_plan.proofs.MoveSearch.{find_at, find_none, find_some, IsFound}
-use Rattle.hd_plan.proofs.RoomSteps.{room_start, goes, Goes}
+use Rattle.hd_plan.proofs.Basics.{Addr, AllocCursors, AreMoves, ArePut, Bool, Dead, Fate, Fits, Heap, IsCondemned, IsKeeping, IsPut, IsRoom, IsSound, List, Move, Moves, MovesToNewRegion, None, Object, Option, Pinned, Some, ap, arith, cases_Bool, cases_eq, cases_order, cells_of, false, find_move, generation_at, generation_in, has_object, inl, inr, is_kept_by, is_kept_fate, is_moving, is_some, is_staying, le-ltb, length, lt-ltb, ltb-true, min, move_at, nat_lt, object_at, or_cases, or_left, place_by, placed_at, put_move, raised, refl, subst, suc, sym, true, true≢false, zero, ℕ, ◌+◌, ◌<◌, ◌||◌, ◌∙◌, ◌≡◌, ◌≢◌, ◌≤◌, ◌⊎◌}
+use Rattle.hd_plan.specs.Layout.{room_at}
+use Rattle.hd_plan.proofs.{CondemnedAddresses.condemned_of, CondemnedAddresses.raised_young, MoveSearch.find_at, MoveSearch.find_none, MoveSearch.find_some, MoveSearch.IsFound, RoomSteps.room_start, RoomSteps.goes, RoomSteps.Goes}
 
 no_generation : (o : Option (Object Addr)) → is_some o ≡ false → generation_in o ≡ 0
 no_generation None e = refl

@@ -1,29 +1,6 @@
 -- All that is condemned has a move, and all regions are listed: the plan is laid.
-use Rattle.std.proofs.Common.{◌≡◌, ℕ, zero, suc, ◌+◌, ◌-◌, ◌^◌, ◌<◌, ◌≤◌, Bool, true, false, not, cond, List, [], ◌∷◌, length, refl, sym, ap, ◌∙◌, subst, arith, inl, inr, true≢false}
-use Rattle.std.specs.Prelude.{count_by}
-use Rattle.hd_model.specs.declared.data.Addr.{Addr}
-use Rattle.hd_model.specs.Ages.{raised}
-use Rattle.hd_model.specs.Counting.{Counts}
-use Rattle.hd_model.specs.Leads.{IsClosed}
-use Rattle.hd_model.specs.Marking.{IsSettled}
-use Rattle.hd_model.specs.Scene.{IsCondemned, IsField}
-use Rattle.hd_model.specs.Heap.{Heap, region_of, region_generation, is_in_use, has_object, object_at, objects_of}
-use Rattle.hd_heap.specs.Sound.{IsSound}
-use Rattle.hd_plan.specs.declared.moves.Move.{Move}
-use Rattle.hd_plan.specs.declared.moves.Condemned.{Condemned}
-use Rattle.hd_plan.specs.Layout.{move_at, room_at, is_kept_fate, is_staying, stays_among, AreMoves, AreRegions}
-use Rattle.hd_heap.specs.declared.survey.CondemnedObject.{CondemnedObject}
-use Rattle.hd_heap.specs.Calls.{HasCondemned}
-use Rattle.hd_plan.specs.LaySteps.{AreChosen, AreListedTo, HasMove, HasRegionRoom, IsPlan, first_at, place_among}
-use Rattle.hd_plan.specs.Plan.{PlanOf, kept_in, place_in, stays_in, IsLaid, HasNoEmptyCondemned}
-use Rattle.hd_plan.proofs.CondemnedAddresses.{condemned_is, older_or_young, same_tests, not_true, generation_is}
-use Rattle.hd_plan.proofs.KeptMoves.{is_condemned_at, kept, place, older_kept, older_place, move_kept, move_place, kept_cases, keeping, unmoved, fate_rests}
-use Rattle.hd_plan.proofs.MoveWeights.{counts_moves, stays_counted}
-use Rattle.hd_plan.proofs.ForwardTable.{place_none, place_some}
-use Rattle.hd_model.proofs.PropertyCounts.{counts_like}
-use Rattle.hd_plan.proofs.LayStep.{address_low}
-use Rattle.std.proofs.lemmas.List.Sums.{sum_by-cons}
-use Rattle.std.proofs.lemmas.Bool.{cases_eq, and_parts, and_from}
+use Rattle.hd_plan.proofs.Basics.{Addr, AreChosen, AreListedTo, AreMoves, AreRegions, Bool, Condemned, CondemnedObject, Counts, HasCondemned, HasMove, HasNoEmptyCondemned, HasRegionRoom, Heap, IsClosed, IsCondemned, IsField, IsLaid, IsPlan, IsSettled, IsSound, List, Move, PlanOf, [], and_from, and_parts, ap, arith, cases_eq, cond, count_by, counts_like, false, first_at, has_object, inl, inr, is_in_use, is_kept_fate, is_staying, kept_in, length, move_at, not, object_at, objects_of, place_among, place_in, raised, refl, region_generation, region_of, room_at, stays_among, stays_in, subst, suc, sum_by-cons, sym, true, true≢false, zero, ℕ, ◌+◌, ◌-◌, ◌<◌, ◌^◌, ◌∙◌, ◌∷◌, ◌≡◌, ◌≤◌}
+use Rattle.hd_plan.proofs.{CondemnedAddresses.condemned_is, CondemnedAddresses.older_or_young, CondemnedAddresses.same_tests, CondemnedAddresses.not_true, CondemnedAddresses.generation_is, KeptMoves.is_condemned_at, KeptMoves.kept, KeptMoves.place, KeptMoves.older_kept, KeptMoves.older_place, KeptMoves.move_kept, KeptMoves.move_place, KeptMoves.kept_cases, KeptMoves.keeping, KeptMoves.unmoved, KeptMoves.fate_rests, MoveWeights.counts_moves, MoveWeights.stays_counted, ForwardTable.place_none, ForwardTable.place_some, LayStep.address_low}
 
 one_of : (b : Bool) → cond {A = ℕ} b 1 0 + cond {A = ℕ} (not b) 1 0 ≡ 1
 one_of true = refl
@@ -170,7 +147,7 @@ region_room h n room cells sound ms moves is = record {
 
 -- the new address of a kept object is found in the table
 pub place_found : (p : PlanOf) (objects : List CondemnedObject) (room_ms room_cs : ℕ) (firsts : List ℕ)
-    (cells : List Addr) → IsLaid p → IsPlan p.basis objects p.moves p.regions room_ms room_cs firsts cells
+    (cells : List Addr) → IsLaid p → IsPlan p objects room_ms room_cs firsts cells
     → (a : Addr) → kept_in p a ≡ true → place_among firsts cells a ≡ place_in p a
 place_found p objects room_ms room_cs firsts cells laid is a kept_is =
     let h : Heap = p.basis.heap in

@@ -1,24 +1,7 @@
 -- One object more is laid, and at the end all are.
-use Rattle.std.proofs.Common.{◌≡◌, ℕ, zero, suc, ◌+◌, ◌^◌, ◌<◌, ◌≤◌, Bool, true, false, ◌&&◌, List, [], ◌∷◌, ◌++◌, length, Option, Some, None, cond, refl, sym, ap, ◌∙◌, subst, arith, inl, inr, ◌⊎◌, true≢false, length-append}
-use Rattle.std.proofs.lemmas.Bool.{le-ltb, ltb-true, ltb-false, cases_eq, cases_Bool}
-use Rattle.std.proofs.lemmas.List.{get_or_append_left, get_or_at}
-use Rattle.std.proofs.lemmas.List.Sums.{sum_by_push}
-use Rattle.hd_model.specs.declared.data.Addr.{Addr}
-use Rattle.hd_model.specs.Scene.{generation_at, IsCondemned}
-use Rattle.hd_model.specs.Heap.{Heap, has_object, object_at, region_of, placed_at, cells_of}
-use Rattle.hd_model.specs.Ages.{raised}
-use Rattle.hd_heap.specs.Calls.{is_condemned, is_after, IsNext}
-use Rattle.hd_heap.specs.Sound.{IsSound}
-use Rattle.hd_plan.specs.declared.moves.Move.{Move}
-use Rattle.hd_plan.specs.declared.cursors.AllocCursors.{AllocCursors}
-use Rattle.hd_plan.specs.Layout.{Room, room_at, room_of, put_move, put_cursors, AreMoves, Fits, FitsMove, IsRising, move_at, is_kept_fate, is_moving, is_staying}
-use Rattle.hd_plan.specs.Plan.{HasFreeRegions}
-use Rattle.hd_plan.specs.LaySteps.{IsRoom, AreChosen, IsMoveOf, CanPut}
-use Rattle.hd_plan.proofs.CondemnedAddresses.{condemned_of}
-use Rattle.hd_plan.proofs.KeptMoves.{raised_some, cells_some}
-use Rattle.hd_plan.proofs.RoomSteps.{region_low, region_high, goes, can_put, room_start}
-use Rattle.hd_plan.proofs.MoveWeights.{cells_laid, cells_fit}
-use Rattle.hd_heap.proofs.HeapValues.{same_address}
+use Rattle.hd_plan.proofs.Basics.{Addr, AllocCursors, AreChosen, AreMoves, Bool, CanPut, Fits, FitsMove, HasFreeRegions, Heap, IsCondemned, IsMoveOf, IsNext, IsRising, IsRoom, IsSound, List, Move, None, Option, Room, Some, [], ap, arith, cases_Bool, cases_eq, cells_of, cond, false, generation_at, get_or_append_left, get_or_at, has_object, inl, inr, is_after, is_condemned, is_kept_fate, is_moving, is_staying, le-ltb, length, length-append, ltb-false, ltb-true, move_at, object_at, placed_at, put_cursors, put_move, raised, refl, region_of, room_of, same_address, subst, suc, sum_by_push, sym, true, true≢false, zero, ℕ, ◌&&◌, ◌++◌, ◌+◌, ◌<◌, ◌^◌, ◌∙◌, ◌∷◌, ◌≡◌, ◌≤◌, ◌⊎◌}
+use Rattle.hd_plan.specs.Layout.{room_at}
+use Rattle.hd_plan.proofs.{CondemnedAddresses.condemned_of, KeptMoves.raised_some, KeptMoves.cells_some, MoveWeights.cells_laid, MoveWeights.cells_fit, RoomSteps.region_low, RoomSteps.region_high, RoomSteps.goes, RoomSteps.can_put, RoomSteps.room_start}
 
 -- what is read among moves with one more
 pub push_before : (ms : List Move) (m : Move) (k : ℕ) → k < length ms
@@ -97,6 +80,8 @@ pub record AreMovesTo (h : Heap) (n : ℕ) (ms : List Move) (after : Option Addr
       → (k : ℕ) × ((k < length ms) × ((move_at ms k).from ≡ a))
   pub generations : (k : ℕ) → k < length ms
       → (move_at ms k).generation ≡ raised n (generation_at (object_at h) (move_at ms k).from)
+  pub fields : (k : ℕ) → k < length ms
+      → (move_at ms k).fields ≡ length (placed_at h (move_at ms k).from).fields
   pub fits : (k : ℕ) → k < length ms → FitsMove h (room_at h ms k) (move_at ms k)
 
 module _ (h : Heap) (n : ℕ) where
@@ -107,36 +92,36 @@ module _ (h : Heap) (n : ℕ) where
     rising = λ j k less low. absurd (omega arith);
     all = λ a is e. absurd (true≢false e);
     generations = λ k low. absurd (omega arith);
+    fields = λ k low. absurd (omega arith);
     fits = λ k low. absurd (omega arith);
   }
 
   -- the next object has a move too
-  pub to_next : (ms : List Move) (after : Option Addr) (at : Addr) (m : Move) → AreMovesTo h n ms after
-      → IsNext (is_condemned h n) after at
-      → m.from ≡ at → m.generation ≡ raised n (generation_at (object_at h) at)
-      → FitsMove h (room_at h ms (length ms)) m → AreMovesTo h n (ms ++ m ∷ []) (Some at)
-  to_next ms after at m to next from generation fits = record {
-    condemned = pushed (λ k x. is_condemned h n x.from ≡ true) ms m to.condemned
-        (ap (is_condemned h n) from ∙ next.member);
-    reached = pushed (λ k x. is_after (Some at) x.from ≡ false) ms m
-        (λ k low. reached_upto at (move_at ms k).from
-        (let l = after_past after at next.beyond (move_at ms k).from (to.reached k low) in omega arith))
-        (reached_upto at m.from (let e = ap {B = ℕ} (λ x. x.0) from in omega arith));
+  pub to_next : (ms : List Move) (after : Option Addr) (m : Move) → AreMovesTo h n ms after
+      → IsNext (is_condemned h n) after m.from
+      → m.generation ≡ raised n (generation_at (object_at h) m.from)
+      → m.fields ≡ length (placed_at h m.from).fields
+      → FitsMove h (room_at h ms (length ms)) m → AreMovesTo h n (ms ++ m ∷ []) (Some m.from)
+  to_next ms after m to next generation fields fits = record {
+    condemned = pushed (λ k x. is_condemned h n x.from ≡ true) ms m to.condemned next.member;
+    reached = pushed (λ k x. is_after (Some m.from) x.from ≡ false) ms m
+        (λ k low. reached_upto m.from (move_at ms k).from
+        (let l = after_past after m.from next.beyond (move_at ms k).from (to.reached k low) in omega arith))
+        (reached_upto m.from m.from (omega arith));
     rising = λ j k less low. pushed (λ x y. j < x → (move_at (ms ++ m ∷ []) j).from.0 < y.from.0) ms m
         (λ k low less. subst (λ (y : Move). y.from.0 < (move_at ms k).from.0)
         (sym (push_before ms m j (omega arith))) (to.rising j k less low))
         (λ less. subst (λ (y : Move). y.from.0 < m.from.0) (sym (push_before ms m j less))
-        (let l = after_past after at next.beyond (move_at ms j).from (to.reached j less) in
-        let e = ap {B = ℕ} (λ x. x.0) from in omega arith))
+        (after_past after m.from next.beyond (move_at ms j).from (to.reached j less)))
         k low less;
     all = λ a is reached. elim (cases_Bool (is_after after a)) [
       | inl later ↦ (
         length ms,
         (
           let e = push_length ms m in omega arith,
-          ap (λ x. x.from) (push_last ms m (length ms) refl) ∙ from
-              ∙ same_address at a (let l = next.least a is later in let r = ltb-false at.0 a.0 reached in
-              omega arith),
+          ap (λ x. x.from) (push_last ms m (length ms) refl)
+              ∙ same_address m.from a (let l = next.least a is later in
+              let r = ltb-false m.from.0 a.0 reached in omega arith),
         ),
       )
       | inr before ↦ let (k, rest) = to.all a is before in (
@@ -149,8 +134,8 @@ module _ (h : Heap) (n : ℕ) where
       )
     ];
     generations = pushed (λ k x. x.generation ≡ raised n (generation_at (object_at h) x.from)) ms m
-        to.generations
-        (generation ∙ ap (λ a. raised n (generation_at (object_at h) a)) (sym from));
+        to.generations generation;
+    fields = pushed (λ k x. x.fields ≡ length (placed_at h x.from).fields) ms m to.fields fields;
     fits = pushed (λ k x. FitsMove h (room_at h (ms ++ m ∷ []) k) x) ms m
         (λ k low. subst (λ (q : Room). FitsMove h q (move_at ms k)) (sym (push_room h ms m k (omega arith)))
         (to.fits k low))
@@ -165,6 +150,7 @@ module _ (h : Heap) (n : ℕ) where
     rising = to.rising;
     all = λ a is. to.all a is (none a is);
     generations = to.generations;
+    fields = to.fields;
     fits = to.fits;
   }
 
@@ -246,7 +232,7 @@ module _ (h : Heap) (n : ℕ) (sound : IsSound h) (promoted pinned : Addr → Bo
       Fits m.fate h.spare s m.from m.to m.generation cells) (sym laying.cursors_are) is.fits in
       let more = room_pushed h ms m in
       record {
-        to = to_next h n ms after m.from m laying.to next refl is.generation fits;
+        to = to_next h n ms after m laying.to next is.generation is.fields fits;
         chosen = chosen_next promoted pinned ms m laying.chosen is.kept is.stays;
         room = subst (IsRoom h) (sym more)
             (goes h sound q laying.room m.from m.to m.generation cells young small m.fate fits).room;

@@ -1,3 +1,4 @@
+pub mod Basics
 pub mod MoveEnds
 pub mod CommitCards
 pub mod CommitCopies

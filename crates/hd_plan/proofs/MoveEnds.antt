@@ -1,19 +1,5 @@
 -- Lemmas on the ends of the first moves.
-use Rattle.std.proofs.Common.{◌≡◌, ℕ, zero, suc, ◌+◌, ◌≤◌, inl, inr, ◌⊎◌, Bool, true, false, List, refl, sym, ap, subst, arith, add-one}
-use Rattle.std.proofs.lemmas.Bool.{cases_eq, cases_lt, both_ways}
-use Rattle.hd_model.specs.declared.data.Addr.{Addr}
-use Rattle.hd_plan.specs.declared.moves.Fate.{Fate}
-use Rattle.hd_plan.specs.declared.moves.Fate.TheVariants.{Pinned, MovesToNewRegion, Moves}
-use Rattle.hd_plan.specs.declared.moves.Move.{Move}
-use Rattle.hd_plan.specs.Layout.{move_at, is_kept_fate}
-use Rattle.hd_plan.specs.CommitSteps.{HasEnd}
-use Rattle.hd_heap.proofs.HeapValues.{same_address}
-
--- the fates of an object that is kept, and of one that is left
-pub kept_fate : (w : Fate) → (w ≡ Pinned) ⊎ ((w ≡ MovesToNewRegion) ⊎ (w ≡ Moves)) → is_kept_fate w ≡ true
-kept_fate w (inl is) = ap is_kept_fate is
-kept_fate w (inr (inl is)) = ap is_kept_fate is
-kept_fate w (inr (inr is)) = ap is_kept_fate is
+use Rattle.hd_plan.proofs.Basics.{Addr, Bool, Fate, HasEnd, List, Move, Moves, MovesToNewRegion, Pinned, add-one, ap, arith, both_ways, cases_eq, cases_lt, false, inl, inr, is_kept_fate, move_at, refl, same_address, subst, suc, sym, true, zero, ℕ, ◌+◌, ◌≡◌, ◌≤◌, ◌⊎◌}
 
 module _ (fate : Fate → Bool) (end : Move → Addr) (ms : List Move) (a : Addr) where
   pub ends_none : HasEnd fate end ms 0 a → ⊥

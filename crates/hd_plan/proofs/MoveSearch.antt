@@ -1,12 +1,7 @@
 -- What is found among moves of rising addresses.
-use Rattle.std.proofs.Common.{◌≡◌, ◌≢◌, ℕ, zero, suc, ◌<◌, cond, List, [], ◌∷◌, length, Option, Some, None, refl, sym, ap, ◌∙◌, arith, inl, inr}
-use Rattle.std.specs.Prelude.{nat_eq}
-use Rattle.std.proofs.lemmas.Bool.{eq-eqb, ne_eqb, cases_eq}
-use Rattle.hd_model.specs.declared.data.Addr.{Addr}
-use Rattle.hd_plan.specs.declared.moves.Move.{Move}
-use Rattle.hd_plan.specs.Layout.{move_at, find_move, IsRising}
+use Rattle.hd_plan.proofs.Basics.{Addr, IsRising, List, Move, None, Option, Some, [], ap, arith, cases_eq, cond, eq-eqb, inl, inr, length, move_at, nat_eq, ne_eqb, refl, same_address, suc, sym, zero, ℕ, ◌<◌, ◌∙◌, ◌∷◌, ◌≡◌, ◌≢◌}
+use Rattle.hd_plan.specs.Layout.{find_move}
 use Rattle.hd_plan.proofs.CondemnedAddresses.{some_is}
-use Rattle.hd_heap.proofs.HeapValues.{same_address}
 
 rising_rest : (m : Move) (ms : List Move) → IsRising (m ∷ ms) → IsRising ms
 rising_rest m ms rising j k less within = rising (suc j) (suc k) (omega arith) (omega arith)

@@ -1,19 +1,6 @@
 -- How many moves there are, and the words of their objects, against all that is condemned.
-use Rattle.std.proofs.Common.{◌≡◌, ◌≢◌, ℕ, ◌+◌, ◌<◌, ◌≤◌, Bool, true, cond, List, [], ◌∷◌, map, length, get_or, refl, sym, ap, ◌∙◌, subst, arith, inl, inr}
-use Rattle.std.specs.Prelude.{sum_by, count_by, filter, Contains, AllPairs}
-use Rattle.std.proofs.lemmas.Bool.{cases_order}
-use Rattle.std.proofs.lemmas.List.{get_or-map, length-map, get_or_default}
-use Rattle.std.proofs.lemmas.List.Sums.{sum_by-cons, length-filter}
-use Rattle.hd_model.specs.declared.data.Addr.{Addr}
-use Rattle.hd_model.specs.Counting.{Counts}
-use Rattle.hd_model.specs.Scene.{IsCondemned}
-use Rattle.hd_model.specs.Heap.{Heap, object_at, placed_at, cells_of}
-use Rattle.hd_model.proofs.Members.{mapped_from, passing_from, passing_in, pairs_passing}
-use Rattle.hd_model.proofs.PropertyCounts.{counts_named}
-use Rattle.hd_model.proofs.MemberWeights.{lighter}
-use Rattle.hd_plan.specs.declared.moves.Move.{Move}
-use Rattle.hd_plan.specs.Layout.{move_at, is_staying, stays_among, IsRising}
-use Rattle.hd_plan.specs.Plan.{Takes}
+use Rattle.hd_plan.proofs.Basics.{Addr, AllPairs, Bool, Contains, Counts, Heap, IsCondemned, IsRising, List, Move, Takes, [], ap, arith, cases_order, cells_of, cond, count_by, counts_named, filter, get_or, get_or-map, get_or_default, inl, inr, is_staying, length, length-filter, length-map, lighter, map, mapped_from, move_at, object_at, pairs_passing, passing_from, passing_in, placed_at, refl, subst, sum_by, sum_by-cons, sym, true, ℕ, ◌+◌, ◌<◌, ◌∙◌, ◌∷◌, ◌≡◌, ◌≢◌, ◌≤◌}
+use Rattle.hd_plan.specs.Layout.{stays_among}
 
 -- the words of the objects of these moves
 abbrev pub cells_laid : Heap → List Move → ℕ

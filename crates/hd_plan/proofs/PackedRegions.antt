@@ -1,31 +1,8 @@
 -- The regions that are not older after the moving: each has an object that stays, or was opened.
-use Rattle.std.proofs.Common.{◌≡◌, ◌≢◌, ℕ, zero, suc, ◌+◌, ◌/◌, ◌<◌, ◌≤◌, inl, inr, ◌⊎◌, ⊎_elim, Bool, true, false, ◌&&◌, cond, List, [], ◌∷◌, ◌++◌, map, take, length, refl, sym, ap, ◌∙◌, subst, arith, length-append}
-use Rattle.std.specs.Prelude.{sum_by, not, nat_lt, filter, Contains, AllPairs}
-use Rattle.std.specs.FinMap.{FinMap, get, remove, len, values}
-use Rattle.std.specs.Ordering.{nat_cmp}
-use Rattle.std.proofs.lemmas.Bool.{cases_Bool}
-use Rattle.std.proofs.lemmas.List.{length-map, length-take, get_or-take}
+use Rattle.hd_plan.proofs.Basics.{Addr, AllPairs, AreMoves, Bool, Contains, FinMap, HasStay, Heap, IsPacked, IsSound, IsYoungRegion, List, Move, WasFree, [], ap, arith, cases_Bool, cells_of, cond, counts_keys, counts_le, counts_where, false, fewer, filter, first_in, get, get_left, get_or-take, has-get, has_object, inl, inr, is_in_use, is_moving, is_older_region, is_staying, later_in, len, length, length-append, length-filter, length-map, length-take, lighter, map, mapped_in, member_at, member_cases, move_at, nat_cmp, nat_lt, not, not_in_none, pairs_cons, pairs_first, pairs_none, pairs_passing, pairs_rest, passing_from, passing_in, placed_at, refl, region_at, region_generation, region_of, remove, same_address, share, stays_among, subst, suc, sum-remove, sum_by, sum_by-cons, sym, take, true, used_of, values, zero, ℕ, ⊎_elim, ◌&&◌, ◌++◌, ◌+◌, ◌/◌, ◌<◌, ◌∙◌, ◌∷◌, ◌≡◌, ◌≢◌, ◌≤◌, ◌⊎◌}
 use Rattle.std.proofs.lemmas.List.Elements.{Contains-append_left, Contains-append_right}
-use Rattle.std.proofs.lemmas.List.Sums.{sum_by-cons, length-filter}
-use Rattle.hd_model.specs.declared.data.Addr.{Addr}
-use Rattle.hd_model.specs.Heap.{Heap, region_of, region_at, region_generation, is_in_use, has_object, placed_at, cells_of, used_of}
-use Rattle.hd_model.proofs.PropertyCounts.{fewer, counts_le, counts_where}
-use Rattle.hd_model.proofs.Entries.{counts_keys}
-use Rattle.hd_model.proofs.Members.{first_in, later_in, member_at, member_cases, not_in_none, mapped_in, pairs_first, pairs_rest, pairs_none, pairs_cons, passing_from, passing_in, pairs_passing}
-use Rattle.hd_model.proofs.MemberWeights.{lighter}
-use Rattle.hd_model.proofs.ReadAfterWrite.{get_left}
-use Rattle.hd_model.proofs.Sums.{share, sum-remove}
-use Rattle.hd_heap.specs.Sound.{IsSound}
-use Rattle.hd_heap.proofs.RegionReads.{has-get}
-use Rattle.hd_plan.specs.declared.moves.Move.{Move}
-use Rattle.hd_plan.specs.Layout.{move_at, is_moving, is_staying, room_at, stays_among, HasStay, AreMoves}
-use Rattle.hd_plan.specs.LaySteps.{WasFree}
-use Rattle.hd_plan.specs.PackedRegions.{is_older_region, IsYoungRegion, IsPacked}
-use Rattle.hd_plan.proofs.CommitCopies.{get_placed}
-use Rattle.hd_plan.proofs.KeptMoves.{all_put}
-use Rattle.hd_plan.proofs.MoveWeights.{stays_counted}
-use Rattle.hd_plan.proofs.RoomSteps.{begun_most}
-use Rattle.hd_heap.proofs.HeapValues.{same_address}
+use Rattle.hd_plan.specs.Layout.{room_at}
+use Rattle.hd_plan.proofs.{CommitCopies.get_placed, KeptMoves.all_put, MoveWeights.stays_counted, RoomSteps.begun_most}
 
 not_true : (b : Bool) → not b ≡ true → b ≡ false
 not_true true e = absurd (cc e)

@@ -1,17 +1,6 @@
 -- The regions of moves are listed one after another.
-use Rattle.std.proofs.Common.{◌≡◌, ◌≢◌, ℕ, suc, ◌+◌, ◌-◌, ◌<◌, ◌≤◌, Bool, true, false, ◌&&◌, ◌||◌, List, [], ◌∷◌, ◌++◌, map, length, set, refl, sym, ap, ◌∙◌, subst, arith, inl, inr, ◌⊎◌, true≢false, length-append, length-set, get_or-set_same, get_or-set_other}
-use Rattle.std.specs.Prelude.{Contains}
-use Rattle.std.proofs.lemmas.Bool.{lt-ltb, ltb-true, eqb-true, eq-eqb, cases_eq, cases_lt, cases_order, and_parts, or_right}
-use Rattle.std.proofs.lemmas.List.{get_or_append_left, get_or_at, get_or-map, length-map, get_or_default}
-use Rattle.hd_model.specs.declared.data.Addr.{Addr}
-use Rattle.hd_model.specs.Counting.{Counts}
+use Rattle.hd_plan.proofs.Basics.{Addr, AreListedTo, Bool, Condemned, Contains, Counts, HasMove, HasStay, IsAdded, IsJoined, IsRising, List, Move, [], and_parts, ap, arith, cases_eq, cases_lt, cases_order, condemned_at, counts_le, eq-eqb, eqb-true, false, get_or-map, get_or-set_other, get_or-set_same, get_or_append_left, get_or_at, get_or_default, inl, inr, is_last, is_staying, last_of, length, length-append, length-map, length-set, lt-ltb, ltb-true, map, mapped_from, move_at, or_right, refl, set, subst, suc, sym, true, true≢false, ℕ, ◌&&◌, ◌++◌, ◌+◌, ◌-◌, ◌<◌, ◌||◌, ◌∙◌, ◌∷◌, ◌≡◌, ◌≢◌, ◌≤◌, ◌⊎◌}
 use Rattle.hd_model.specs.Heap.{region_of}
-use Rattle.hd_model.proofs.PropertyCounts.{counts_le}
-use Rattle.hd_model.proofs.Members.{mapped_from}
-use Rattle.hd_plan.specs.declared.moves.Move.{Move}
-use Rattle.hd_plan.specs.declared.moves.Condemned.{Condemned}
-use Rattle.hd_plan.specs.Layout.{move_at, condemned_at, is_staying, HasStay, IsRising}
-use Rattle.hd_plan.specs.LaySteps.{HasMove, AreListedTo, last_of, is_last, IsJoined, IsAdded}
 
 pub region_rises : (a b : Addr) → a.0 ≤ b.0 → region_of a ≤ region_of b
 unfolding region_of

@@ -1,18 +1,6 @@
 -- Each region in use has an object: what keeps it so.
-use Rattle.std.proofs.Common.{◌≡◌, ℕ, ◌+◌, ◌*◌, true, false, Option, Some, None, true≢false, refl, sym, ap, ◌∙◌, subst, inl, inr}
-use Rattle.std.specs.Prelude.{is_some, Contains}
-use Rattle.hd_model.specs.State.{Object}
-use Rattle.hd_model.specs.Scene.{Objects, is_object, fields_in, IsField}
-use Rattle.hd_model.proofs.Members.{not_in_none}
+use Rattle.hd_plan.proofs.Basics.{Addr, Contains, HasNoEmptyRegion, Heap, IsField, IsMade, None, Object, Objects, Option, Placed, Region, Some, ap, cases_eq, empty_heap, false, fields_in, get_other, get_same, has-get, has_object, inl, inr, is_in_use, is_object, is_some, nat_cmp, not_in_none, refl, region_at, region_of, subst, sym, true, true≢false, with_generation, with_put, ℕ, ◌*◌, ◌+◌, ◌∙◌, ◌≡◌}
 use Rattle.std.specs.FinMap as map
-use Rattle.std.specs.Ordering.{nat_cmp}
-use Rattle.std.proofs.lemmas.Bool.{cases_eq}
-use Rattle.hd_model.specs.declared.data.Addr.{Addr}
-use Rattle.hd_model.specs.Heap.{Heap, Placed, Region, region_of, region_at, is_in_use, has_object}
-use Rattle.hd_heap.specs.Calls.{IsMade, with_put, with_generation, empty_heap}
-use Rattle.hd_heap.proofs.RegionReads.{has-get}
-use Rattle.hd_heap.proofs.HeapValues.{get_same, get_other}
-use Rattle.hd_plan.specs.Plan.{HasNoEmptyRegion}
 
 -- free regions do not count
 none_held : (r : ℕ) → map.contains_key (map.empty {X = Region} {R = nat_cmp}) r ≡ false

@@ -1,19 +1,7 @@
 -- The room while objects are laid: each fate of an object keeps what is true of it.
-use Rattle.std.proofs.Common.{◌≡◌, ◌≢◌, ℕ, ◌+◌, ◌*◌, ◌/◌, ◌^◌, ◌<◌, ◌≤◌, Bool, true, false, cond, length, Option, Some, refl, sym, ap, ◌∙◌, subst, arith, inl, inr, ◌⊎◌, ⊎_elim, true≢false}
-use Rattle.std.specs.Prelude.{is_some, unwrap_or, slice_index}
-use Rattle.std.proofs.lemmas.Bool.{eq-eqb, ne_eqb, cases_eq}
-use Rattle.std.specs.Ordering.{nat_cmp}
-use Rattle.std.specs.FinMap.{FinMap, get, insert}
-use Rattle.hd_model.specs.declared.data.Addr.{Addr}
-use Rattle.hd_model.specs.Heap.{Heap, Region, region_of, is_in_use}
-use Rattle.hd_heap.specs.Sound.{IsSound}
-use Rattle.hd_heap.proofs.HeapValues.{get_same, get_other}
-use Rattle.hd_plan.specs.declared.moves.Fate.{Fate}
-use Rattle.hd_plan.specs.declared.moves.Fate.TheVariants.{Dead, Pinned, MovesToNewRegion, Moves}
+use Rattle.hd_plan.proofs.Basics.{Addr, AllocCursors, Bool, CanPut, Dead, Fate, FinMap, Fits, Followed, HasSlack, Heap, IsCursor, IsFresh, IsPut, IsRoom, IsSound, Moves, MovesToNewRegion, Opened, Option, Pinned, Region, Room, Some, WasFree, ap, arith, begun, cases_eq, cond, cursor_of, eq-eqb, false, filled, followed_cursor, get, get_other, get_same, has_region, inl, inr, insert, is_in_use, is_moving, is_some, length, nat_cmp, ne_eqb, opened_cursor, put_fate, refl, region_in, room_of, slice_index, subst, sym, true, true≢false, unwrap_or, with_cursor, ℕ, ⊎_elim, ◌*◌, ◌+◌, ◌/◌, ◌<◌, ◌^◌, ◌∙◌, ◌≡◌, ◌≢◌, ◌≤◌, ◌⊎◌}
+use Rattle.hd_model.specs.Heap.{region_of}
 use Rattle.hd_plan.specs.declared.cursors.AllocCursor.{AllocCursor}
-use Rattle.hd_plan.specs.declared.cursors.AllocCursors.{AllocCursors}
-use Rattle.hd_plan.specs.Layout.{Room, room_of, cursor_of, with_cursor, opened_cursor, followed_cursor, has_region, region_in, filled, put_fate, Opened, Followed, Fits, is_moving}
-use Rattle.hd_plan.specs.LaySteps.{CanPut, WasFree, IsFresh, IsCursor, begun, HasSlack, IsRoom, IsPut}
 
 abbrev Regions : Type 0
 Regions = FinMap nat_cmp Region

@@ -1,19 +1,6 @@
 -- What a survey says of all that is condemned.
-use Rattle.std.proofs.Common.{◌≡◌, ◌≢◌, ℕ, ◌+◌, true, List, [], ◌∷◌, map, length, refl, sym, ap, ◌∙◌, subst, arith}
-use Rattle.std.specs.Prelude.{sum_by, Contains, AllPairs}
-use Rattle.std.proofs.lemmas.List.{get_or-map, length-map, get_or_default}
-use Rattle.std.proofs.lemmas.List.Sums.{sum_by-cons}
-use Rattle.hd_model.specs.declared.data.Addr.{Addr}
-use Rattle.hd_model.specs.Scene.{IsCondemned}
-use Rattle.hd_model.specs.Heap.{Heap, object_at, placed_at, cells_of}
-use Rattle.hd_model.proofs.Members.{first_in, later_in, mapped_from}
-use Rattle.hd_heap.specs.declared.survey.Survey.{Survey}
-use Rattle.hd_heap.specs.declared.survey.CondemnedObject.{CondemnedObject}
-use Rattle.hd_heap.specs.Calls.{surveyed, cells_surveyed, AreSurveyed, IsSurvey}
-use Rattle.hd_plan.specs.Plan.{Takes}
-use Rattle.hd_plan.specs.LaySteps.{IsExtent}
-use Rattle.hd_plan.proofs.CondemnedAddresses.{condemned_of, condemned_is}
-use Rattle.hd_plan.proofs.MoveWeights.{sum_map}
+use Rattle.hd_plan.proofs.Basics.{Addr, AllPairs, AreSurveyed, CondemnedObject, Contains, Heap, IsCondemned, IsExtent, IsSurvey, List, Survey, Takes, [], ap, arith, cells_of, cells_surveyed, first_in, get_or-map, get_or_default, later_in, length, length-map, map, mapped_from, object_at, placed_at, refl, subst, sum_by, sum_by-cons, surveyed, sym, true, ℕ, ◌+◌, ◌∙◌, ◌∷◌, ◌≡◌, ◌≢◌}
+use Rattle.hd_plan.proofs.{CondemnedAddresses.condemned_of, CondemnedAddresses.condemned_is, MoveWeights.sum_map}
 
 -- sums of what is the same at each member
 sum_alike : {A : Type 0} (f g : A → ℕ) (xs : List A) → ((x : A) → Contains xs x → f x ≡ g x)

@@ -1,12 +1,12 @@
 -- No public clause needs what is defined here: these are words of private functions, for what each step of
 -- the moving leaves of a heap.
-use Rattle.std.specs.Prelude.{◌≡◌, ◌≢◌, ℕ, ◌+◌, ◌*◌, ◌<◌, ◌≤◌, ◌⊎◌, ◌↔◌, ◌&&◌, Bool, true, false, not, ◌-◌, List, length, Some, None, option_map, map as list_map, drop, slice_index, nat_eq}
+use Rattle.std.specs.Prelude.{◌≡◌, ◌≢◌, ℕ, ◌+◌, ◌*◌, ◌<◌, ◌≤◌, ◌⊎◌, ◌↔◌, ◌&&◌, Bool, true, false, not, ◌-◌, List, length, Some, None, option_map, drop, slice_index, nat_eq}
 use Rattle.std.specs.FinMap as map
 use Rattle.hd_model.specs.declared.data.Addr.{Addr}
 use Rattle.hd_model.specs.declared.limits.TheConstants.{OLDEST, REGION}
-use Rattle.hd_model.specs.Scene.{generation_at}
-use Rattle.hd_model.specs.Heap.{Placed, Heap, region_of, card_of, region_at, is_in_use, has_object, object_at, placed_at, cells_of, is_set, is_carded}
-use Rattle.hd_heap.specs.Calls.{NamesBelow, with_object, with_fresh, with_copy, with_card}
+use Rattle.hd_model.specs.Scene.{generation_at, IsField}
+use Rattle.hd_model.specs.Heap.{Heap, region_of, card_of, region_at, is_in_use, has_object, object_at, placed_at, cells_of, is_set, is_carded}
+use Rattle.hd_heap.specs.Calls.{NamesBelow, forwarded, with_object, with_fresh, with_moved, with_card}
 use Rattle.hd_heap.specs.Sound.{IsSound}
 use Rattle.hd_plan.specs.declared.moves.Fate.{Fate}
 use Rattle.hd_plan.specs.declared.moves.Fate.TheVariants.{Dead, Pinned, MovesToNewRegion, Moves}
@@ -31,6 +31,10 @@ IsCopiedTo = HasEnd is_moving (λ m. m.to)
 abbrev pub IsKeptAt : List Move → ℕ → Addr → Type 0
 IsKeptAt = HasEnd is_kept_fate (λ m. m.to)
 
+-- the address of an object that stays
+abbrev pub IsStayedAt : List Move → ℕ → Addr → Type 0
+IsStayedAt = HasEnd is_staying (λ m. m.from)
+
 -- the old address of an object that does not stay
 abbrev pub IsLeft : List Move → ℕ → Addr → Type 0
 IsLeft = HasEnd (λ w. not (is_staying w)) (λ m. m.from)
@@ -38,10 +42,6 @@ IsLeft = HasEnd (λ w. not (is_staying w)) (λ m. m.from)
 -- a card that is set stays set
 abbrev pub MoreCards : Heap → Heap → Type 0
 MoreCards old h = (c : ℕ) → is_set old c ≡ true → is_set h c ≡ true
-
--- no card changes
-abbrev pub SameCards : Heap → Heap → Type 0
-SameCards old h = (c : ℕ) → is_set h c ≡ is_set old c
 
 -- the moves may be carried out: their objects are there, each has a new address, and no two have the same one
 pub record CanCopy (h : Heap) (ms : List Move) : Type 0 where
@@ -52,31 +52,38 @@ pub record CanCopy (h : Heap) (ms : List Move) : Type 0 where
   pub fits : (k : ℕ) → k < length ms → FitsMove h (room_at h ms k) (move_at ms k)
   pub put : (i : ℕ) → i ≤ length ms → ArePut h ms i
 
+-- what an object references is kept
+abbrev pub HasKeptFields : (Addr → Bool) → Heap → Addr → Type 0
+HasKeptFields kept h a = (y : Addr) → IsField (object_at h) a y → kept y ≡ true
+
 -- one object may be copied as its move states
-abbrev pub MayGo : Fate → Heap → Move → Type 0
-MayGo Dead h m = Unit {0}
-MayGo Pinned h m = Unit {0}
-MayGo MovesToNewRegion h m =
+abbrev pub MayGo : Fate → (Addr → Bool) → Heap → Move → Type 0
+MayGo Dead kept h m = Unit {0}
+MayGo Pinned kept h m = Unit {0}
+MayGo MovesToNewRegion kept h m =
     (has_object h m.from ≡ true) × (m.generation ≤ OLDEST) × (cells_of (placed_at h m.from) ≤ REGION)
-    × (0 < length h.spare)
-MayGo Moves h m =
+    × (0 < length h.spare) × (region_of m.from ≢ slice_index h.spare 0) × HasKeptFields kept h m.from
+MayGo Moves kept h m =
     (has_object h m.from ≡ true) × (is_in_use h (region_of m.to) ≡ true)
-    × (m.to.0 ≡ region_of m.to * REGION + (region_at h (region_of m.to)).fill)
     × ((region_at h (region_of m.to)).fill + cells_of (placed_at h m.from) ≤ REGION)
+    × (region_of m.from ≢ region_of m.to) × HasKeptFields kept h m.from
 
--- it is copied if it moves, into a fresh region where it opens one
-abbrev pub HasGone : Fate → Heap → Heap → Move → Type 0
-HasGone Dead old h m = h ≡ old
-HasGone Pinned old h m = h ≡ old
-HasGone MovesToNewRegion old h m =
-    h ≡ with_copy (with_fresh old (slice_index old.spare 0) m.generation) m.from (slice_index old.spare 0)
-HasGone Moves old h m = h ≡ with_copy old m.from (region_of m.to)
+-- it is copied if it moves, into a fresh region where it opens one; its fields hold the new addresses
+abbrev pub HasGone : Fate → (Addr → Addr) → Heap → Heap → Move → Type 0
+HasGone Dead place old h m = h ≡ old
+HasGone Pinned place old h m = h ≡ old
+HasGone MovesToNewRegion place old h m =
+    h ≡ with_moved (with_fresh old (slice_index old.spare 0) m.generation) m.from (slice_index old.spare 0)
+    place
+HasGone Moves place old h m = h ≡ with_moved old m.from (region_of m.to) place
 
--- the first i moves are copied, and their objects are at both addresses
-pub record AreCopied (old h : Heap) (ms : List Move) (i : ℕ) : Type 0 where
+-- the first i moves are carried out: their objects are at their old addresses as they were, and at the new
+-- ones with the new addresses in their fields
+pub record AreCopied (place : Addr → Addr) (old h : Heap) (ms : List Move) (i : ℕ) : Type 0 where
   pub objects : (a : Addr) → has_object old a ≡ true → map.get h.objects a.0 ≡ map.get old.objects a.0
   pub copies : (k : ℕ) → k < i → is_moving (move_at ms k).fate ≡ true
-      → map.get h.objects (move_at ms k).to.0 ≡ map.get old.objects (move_at ms k).from.0
+      → map.get h.objects (move_at ms k).to.0
+      ≡ option_map (forwarded place) (map.get old.objects (move_at ms k).from.0)
   pub only : (b : Addr) → has_object h b ≡ true → (has_object old b ≡ true) ⊎ IsCopiedTo ms i b
   pub same : h ≡ record old {
     objects = h.objects;
@@ -84,23 +91,12 @@ pub record AreCopied (old h : Heap) (ms : List Move) (i : ℕ) : Type 0 where
     spare = drop (room_at old ms i).cursors.opened old.spare;
   }
 
--- an object whose fields hold the new addresses
-abbrev pub rewritten : (Addr → Addr) → Placed → Placed
-rewritten place p = record p { fields = list_map (option_map place) p.fields }
-
--- one object is rewritten, and no card but its own is set
-pub record IsRewritten (old h : Heap) (place : Addr → Addr) (x : Addr) : Type 0 where
-  pub object : h ≡ record (with_object old x (rewritten place (placed_at old x))) { cards = h.cards }
-  pub more : MoreCards old h
-  pub others : (c : ℕ) → c ≢ card_of x → is_set h c ≡ is_set old c
-
--- these objects are rewritten and no others, and no card is cleared
+-- the fields of these objects hold the new addresses, and nothing else is changed
 pub record AreRewritten (Those : Addr → Type 0) (place : Addr → Addr) (old h : Heap) : Type 0 where
   pub done : (a : Addr) → Those a
-      → map.get h.objects a.0 ≡ option_map (rewritten place) (map.get old.objects a.0)
+      → map.get h.objects a.0 ≡ option_map (forwarded place) (map.get old.objects a.0)
   pub others : (a : Addr) → (Those a → ⊥) → map.get h.objects a.0 ≡ map.get old.objects a.0
-  pub same : h ≡ record old { objects = h.objects; cards = h.cards }
-  pub more : MoreCards old h
+  pub same : h ≡ record old { objects = h.objects }
 
 -- whether a listed region stays, by the number that is stored for it
 abbrev pub is_pinned : List Condemned → List ℕ → ℕ → Bool
@@ -115,8 +111,8 @@ pub record AreRemovedIn (here : ℕ → Bool) (old h : Heap) (ms : List Move) (i
   pub same : h ≡ record old { objects = h.objects; cards = h.cards }
   pub cards : (a : Addr) → has_object h a ≡ true → is_carded h a ≡ is_carded old a
 
--- the first i condemned regions have their new generation, or are given up with their objects
-pub record AreGivenUp (old h : Heap) (cs : List Condemned) (i : ℕ) : Type 0 where
+-- the first i condemned regions have their new generation, or are in use no more
+pub record AreSettledRegions (old h : Heap) (cs : List Condemned) (i : ℕ) : Type 0 where
   pub raised : (k : ℕ) → k < i → (condemned_at cs k).pinned ≡ true
       → map.get h.regions (condemned_at cs k).region
       ≡ Some (record {
@@ -127,6 +123,10 @@ pub record AreGivenUp (old h : Heap) (cs : List Condemned) (i : ℕ) : Type 0 wh
       → map.get h.regions (condemned_at cs k).region ≡ None
   pub others : (r : ℕ) → ((k : ℕ) → k < i → (condemned_at cs k).region ≢ r)
       → map.get h.regions r ≡ map.get old.regions r
+
+-- and those that are not have no objects
+pub record AreGivenUp (old h : Heap) (cs : List Condemned) (i : ℕ) : Type 0 where
+  pub regions : AreSettledRegions old h cs i
   pub gone : (k : ℕ) → k < i → (condemned_at cs k).pinned ≡ false → (a : Addr)
       → region_of a ≡ (condemned_at cs k).region → map.get h.objects a.0 ≡ None
   pub left : (a : Addr) → ((k : ℕ) → k < i → (condemned_at cs k).pinned ≡ false

@@ -17,7 +17,7 @@ use Rattle.hd_plan.specs.declared.moves.Condemned.{Condemned}
 use Rattle.hd_heap.specs.declared.survey.Survey.{Survey}
 use Rattle.hd_heap.specs.declared.survey.CondemnedObject.{CondemnedObject}
 use Rattle.hd_heap.specs.Calls.{HasCondemned, AreSurveyed, surveyed}
-use Rattle.hd_plan.specs.Plan.{Takes}
+use Rattle.hd_plan.specs.Plan.{PlanOf, Takes}
 
 -- ---- where objects are put
 
@@ -117,13 +117,13 @@ pub record HasPlaces (ms : List Move) (cs : List Condemned) (i : ℕ) (firsts : 
 
 -- what a plan's parts keep: the survey of its heap, room for all that is condemned, and the table of new
 -- addresses
-pub record IsPlan (b : Basis) (objects : List CondemnedObject) (ms : List Move) (cs : List Condemned)
-    (room_ms room_cs : ℕ) (firsts : List ℕ) (cells : List Addr) : Type 0 where
-  pub survey : AreSurveyed b.heap b.condemned objects
+pub record IsPlan (p : PlanOf) (objects : List CondemnedObject) (room_ms room_cs : ℕ) (firsts : List ℕ)
+    (cells : List Addr) : Type 0 where
+  pub survey : AreSurveyed p.basis.heap p.basis.condemned objects
   pub moves : length objects ≤ room_ms
-  pub regions : HasRegionRoom (HasCondemned b.heap b.condemned) room_cs (length cells)
+  pub regions : HasRegionRoom (HasCondemned p.basis.heap p.basis.condemned) room_cs (length cells)
   pub span : (k : ℕ) → k < length objects → region_of (surveyed objects k).at < length firsts
-  pub places : HasPlaces ms cs (length ms) firsts cells
+  pub places : HasPlaces p.moves p.regions (length p.moves) firsts cells
 
 -- what is promoted is kept, and stays where it is pinned
 pub record AreChosen (promoted pinned : Addr → Bool) (ms : List Move) : Type 0 where
@@ -135,6 +135,7 @@ pub record AreChosen (promoted pinned : Addr → Bool) (ms : List Move) : Type 0
 pub record IsMoveOf (h : Heap) (n : ℕ) (promoted pinned : Bool) (old new : AllocCursors)
     (m : Move) : Type 0 where
   pub generation : m.generation ≡ raised n (generation_at (object_at h) m.from)
+  pub fields : m.fields ≡ length (placed_at h m.from).fields
   pub kept : is_kept_fate m.fate ≡ promoted
   pub stays : is_staying m.fate ≡ (promoted && pinned)
   pub fits : Fits m.fate h.spare old m.from m.to m.generation (cells_of (placed_at h m.from))

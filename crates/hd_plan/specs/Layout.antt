@@ -3,7 +3,7 @@
 -- Kept objects are copied into fresh regions, one row of regions for each generation, but for those that
 -- stay because they are pinned.
 -- Regions are this project's own, after the plan and the compact phase of CoreCLR's collector in outline.
-use Rattle.std.specs.Prelude.{◌≡◌, ◌≢◌, ℕ, zero, suc, ◌+◌, ◌*◌, ◌<◌, ◌≤◌, ◌⊎◌, ◌↔◌, Bool, true, false, cond, List, [], ◌∷◌, length, Option, Some, None, unwrap_or, slice_index, slice_index_or, nat_eq}
+use Rattle.std.specs.Prelude.{◌&&◌, nat_lt, ◌≡◌, ◌≢◌, ℕ, zero, suc, ◌+◌, ◌*◌, ◌<◌, ◌≤◌, ◌⊎◌, ◌↔◌, Bool, true, false, cond, List, [], ◌∷◌, length, Option, Some, None, unwrap_or, slice_index, slice_index_or, nat_eq}
 use Rattle.std.specs.Ordering.{nat_cmp}
 use Rattle.std.specs.FinMap as map
 use Rattle.hd_model.specs.declared.data.Addr.{Addr}
@@ -22,7 +22,7 @@ use Rattle.hd_plan.specs.declared.cursors.AllocCursors.{AllocCursors}
 -- the k-th move, and the k-th condemned region
 abbrev pub move_at : List Move → ℕ → Move
 move_at ms k = slice_index_or ms k
-    (record { from = record { 0 = 0 }; to = record { 0 = 0 }; generation = 0; fate = Dead })
+    (record { from = record { 0 = 0 }; to = record { 0 = 0 }; generation = 0; fields = 0; fate = Dead })
 
 abbrev pub condemned_at : List Condemned → ℕ → Condemned
 condemned_at cs k = slice_index_or cs k (record { region = 0; generation = 0; pinned = false })
@@ -33,6 +33,10 @@ is_kept_fate Dead = false
 is_kept_fate Pinned = true
 is_kept_fate MovesToNewRegion = true
 is_kept_fate Moves = true
+
+-- a kept object that may have a field to one of a younger generation
+abbrev pub may_card : Move → Bool
+may_card m = is_kept_fate m.fate && nat_lt 1 m.generation && nat_lt 0 m.fields
 
 abbrev pub is_moving : Fate → Bool
 is_moving Dead = false
@@ -170,14 +174,16 @@ is_kept_by (Some m) = is_kept_fate m.fate
 abbrev pub IsRising : List Move → Type 0
 IsRising ms = (j k : ℕ) → j < k → k < length ms → (move_at ms j).from.0 < (move_at ms k).from.0
 
--- one move for each condemned object, in rising address, with the generation to which it is promoted; each
--- goes where the room allows it
+-- one move for each condemned object, in rising address, with the generation to which it is promoted and the
+-- number of its fields; each goes where the room allows it
 pub record AreMoves (h : Heap) (n : ℕ) (ms : List Move) : Type 0 where
   pub condemned : (k : ℕ) → k < length ms → is_condemned h n (move_at ms k).from ≡ true
   pub rising : IsRising ms
   pub all : (a : Addr) → is_condemned h n a ≡ true → (k : ℕ) × ((k < length ms) × ((move_at ms k).from ≡ a))
   pub generations : (k : ℕ) → k < length ms
       → (move_at ms k).generation ≡ raised n (generation_at (object_at h) (move_at ms k).from)
+  pub fields : (k : ℕ) → k < length ms
+      → (move_at ms k).fields ≡ length (placed_at h (move_at ms k).from).fields
   pub fits : (k : ℕ) → k < length ms → FitsMove h (room_at h ms k) (move_at ms k)
 
 -- an object of a region stays where it is

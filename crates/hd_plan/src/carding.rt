@@ -6,7 +6,7 @@ ghost use Rattle.hd_model.specs.Scene.{generation_at};
 ghost use Rattle.hd_model.specs.Heap.{has_object, object_at, card_of, is_set, is_carded};
 ghost use Rattle.hd_heap.specs.Calls.{IsWalk, with_card};
 ghost use Rattle.hd_heap.specs.Sound.{IsSound};
-ghost use Rattle.hd_plan.specs.Layout.{is_kept_fate};
+ghost use Rattle.hd_plan.specs.Layout.{is_kept_fate, may_card, move_at};
 ghost use Rattle.hd_plan.specs.Commit.{NeedsCard};
 ghost use Rattle.hd_plan.specs.CommitSteps.{AreCarded, IsKeptAt, MayCard};
 ghost use Rattle.hd_plan.specs.CommitSteps.{NamesYounger, IsExactAt, starts_in};
@@ -19,6 +19,10 @@ use hd_model::limits::CARD;
 /// Sets the card of each kept object of these moves that references a younger one, at its new
 /// address.
 pub(crate) fn card_kept(heap: &mut Heap, moves: &[Move])
+    requires spared { (k : ℕ) → k < length moves.now
+        → may_card (move_at moves.now k) ≡ false
+        → is_kept_fate (move_at moves.now k).fate ≡ true
+        → NamesYounger heap.old (move_at moves.now k).to → ⊥ }
     requires objects { (a : Addr) → IsKeptAt moves.now (length moves.now) a
         → has_object heap.old a ≡ true }
     requires fields { HasClosedFields (object_at heap.old) }
@@ -31,11 +35,13 @@ pub(crate) fn card_kept(heap: &mut Heap, moves: &[Move])
 
 // Sets the card of one object if it is kept and references a younger one.
 fn card_if_needed(heap: &mut Heap, object: Move)
+    requires spared { may_card object ≡ false → is_kept_fate object.fate ≡ true
+        → NamesYounger heap.old object.to → ⊥ }
     requires object { is_kept_fate object.fate ≡ true → has_object heap.old object.to ≡ true }
     requires fields { HasClosedFields (object_at heap.old) }
     ensures { MayCard heap.old heap.new object }
 {
-    if object.fate.is_kept() {
+    if object.may_card() {
         if names_younger(heap, object.to) {
             heap.set_card(object.to, true);
         }

@@ -10,7 +10,7 @@ use crate::moves::{Condemned, Move};
 use crate::places::Places;
 use crate::plan::Plan;
 use crate::releasing::{remove_left, settle_regions};
-use crate::rewriting::{rewrite_carded, rewrite_kept};
+use crate::rewriting::{rewrite_carded, rewrite_pinned};
 use hd_heap::Heap;
 
 /// Moves the objects that the plan keeps to their new addresses, rewrites the fields that reference
@@ -28,9 +28,9 @@ pub fn commit(heap: &mut Heap, plan: &mut Plan)
     let moves: &[Move] = &plan.moves;
     let regions: &[Condemned] = &plan.regions;
     let places: &Places = &plan.places;
-    copy_moves(heap, moves);
+    copy_moves(heap, &*plan, moves);
     rewrite_carded(heap, &*plan, plan.condemned);
-    rewrite_kept(heap, &*plan, moves);
+    rewrite_pinned(heap, &*plan, moves);
     remove_left(heap, moves, regions, places);
     settle_regions(heap, regions);
     card_kept(heap, moves);

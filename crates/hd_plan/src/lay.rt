@@ -100,6 +100,7 @@ fn lay_one<M: Marker>(
             from,
             to: at,
             generation,
+            fields: object.fields,
             fate: Fate::Dead,
         };
     }
@@ -108,6 +109,7 @@ fn lay_one<M: Marker>(
             from,
             to: at,
             generation,
+            fields: object.fields,
             fate: Fate::Pinned,
         };
     }
@@ -116,6 +118,7 @@ fn lay_one<M: Marker>(
         from,
         to,
         generation,
+        fields: object.fields,
         fate,
     }
 }

@@ -1,5 +1,5 @@
 ghost use Rattle.std.specs.Prelude.{◌≡◌};
-ghost use Rattle.hd_plan.specs.Layout.{is_kept_fate, is_staying};
+ghost use Rattle.hd_plan.specs.Layout.{is_kept_fate, is_staying, may_card};
 
 use hd_model::Addr;
 
@@ -39,13 +39,24 @@ impl Fate {
 }
 
 /// One condemned object: where it is and where it goes, the same address where it is not kept or
-/// stays, and the generation to which it is promoted if it is kept.
+/// stays, the number of its fields, and the generation to which it is promoted if it is kept.
 #[derive(Clone, Copy, Debug, PartialEq, Eq)]
 pub struct Move {
     pub from: Addr,
     pub to: Addr,
     pub generation: u8,
+    pub fields: u8,
     pub fate: Fate,
+}
+
+impl Move {
+    /// Whether the object may need a set card: it is kept, it has fields, and its new generation is
+    /// not the youngest that an object has after a collection.
+    pub(crate) fn may_card(self) -> bool
+        ensures { result ≡ may_card self }
+    {
+        self.fate.is_kept() && self.generation > 1 && self.fields != 0
+    }
 }
 
 /// One condemned region by its index, its next generation if it stays, and whether it does, since

@@ -48,9 +48,12 @@ impl Model for Plan {
       regions = p.regions.items;
     } };
 
-    ghost invariant = { λ p. IsPlan (record { heap = p.heap.value; condemned = p.condemned })
-        p.objects.items p.moves.items p.regions.items (vec_capacity p.moves)
-        (vec_capacity p.regions) p.places.firsts.items p.places.cells.items };
+    ghost invariant = { λ p. IsPlan (record {
+      basis = record { heap = p.heap.value; condemned = p.condemned };
+      moves = p.moves.items;
+      regions = p.regions.items;
+    }) p.objects.items (vec_capacity p.moves) (vec_capacity p.regions) p.places.firsts.items
+        p.places.cells.items };
 }
 
 impl Plan {

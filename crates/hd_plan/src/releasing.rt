@@ -26,9 +26,25 @@ pub(crate) fn remove_left(heap: &mut Heap, moves: &[Move], regions: &[Condemned]
     ensures { AreRemovedIn (is_pinned regions.now places.now.firsts.items) heap.old heap.new
         moves.now (length moves.now) }
 {
+    if !has_pinned(regions) {
+        return;
+    }
     for object in moves {
         remove_if_left(heap, *object, regions, places);
     }
+}
+
+// Whether an object of these regions stays.
+fn has_pinned(regions: &[Condemned]) -> bool
+    ensures { result ≡ false → (k : ℕ) → k < length regions.now
+        → (condemned_at regions.now k).pinned ≡ false }
+{
+    for region in regions {
+        if region.pinned {
+            return true;
+        }
+    }
+    false
 }
 
 // Removes one object from its old address, unless it stays or its region is given up.

@@ -1,7 +1,5 @@
-use Rattle.std.proofs.Common.{ap, ◌∙◌, arith}
+use Rattle.hd_heap.proofs.Basics.{ap, arith, fields_at, object_at, stored_place, ◌∙◌}
 use Rattle.hd_cells.specs.Object.{new_object}
-use Rattle.hd_cells.specs.Region.{object_at, fields_at}
-use Rattle.hd_heap.specs.Forwarding.{stored_place}
 use Rattle.hd_heap.proofs.FieldForward.{puts_object, placed_there, forwarding_copy, forwarding_there, forwarding_long, forwarding_next, forwarding_ends, field_kept}
 use Rattle.hd_heap.proofs.forwarding.copy_forwarded.Goals as goal
 

@@ -1,6 +1,4 @@
-use Rattle.std.proofs.Common.{replicate}
-use Rattle.hd_cells.specs.Region.{IsLaidOut, object_at, fields_at, with_put}
-use Rattle.hd_heap.specs.Forwarding.{stored_place}
+use Rattle.hd_heap.proofs.Basics.{IsLaidOut, fields_at, object_at, replicate, stored_place, with_put}
 use Rattle.hd_heap.proofs.FieldForward.{IsForwarding}
 use Rattle.hd_heap.proofs.forwarding.copy_forwarded.Given as goal
 

@@ -1,8 +1,5 @@
-use Rattle.std.proofs.Common.{refl, ap, ◌∙◌, arith}
-use Rattle.hd_cells.specs.Region.{object_at, fields_at, with_object}
-use Rattle.hd_heap.specs.Forwarding.{stored_place}
-use Rattle.hd_heap.proofs.Areas.{object_there}
-use Rattle.hd_heap.proofs.FieldForward.{writes_object, forwarding_starts, forwarding_there, forwarding_long, forwarding_read, forwarding_next, forwarding_ends, field_kept, object_same}
+use Rattle.hd_heap.proofs.Basics.{ap, arith, fields_at, object_at, refl, stored_place, with_object, ◌∙◌}
+use Rattle.hd_heap.proofs.{Areas.object_there, FieldForward.writes_object, FieldForward.forwarding_starts, FieldForward.forwarding_there, FieldForward.forwarding_long, FieldForward.forwarding_read, FieldForward.forwarding_next, FieldForward.forwarding_ends, FieldForward.field_kept, FieldForward.object_same}
 use Rattle.hd_heap.proofs.forwarding.forward_fields.Goals as goal
 
 pub loop-i-init : goal.loop-i-init

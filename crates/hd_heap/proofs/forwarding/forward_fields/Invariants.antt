@@ -1,5 +1,4 @@
-use Rattle.hd_cells.specs.Region.{IsLaidOut, object_at, fields_at, with_object}
-use Rattle.hd_heap.specs.Forwarding.{stored_place}
+use Rattle.hd_heap.proofs.Basics.{IsLaidOut, fields_at, object_at, stored_place, with_object}
 use Rattle.hd_heap.proofs.FieldForward.{IsForwarding}
 use Rattle.hd_heap.proofs.forwarding.forward_fields.Given as goal
 

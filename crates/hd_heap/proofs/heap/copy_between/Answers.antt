@@ -1,16 +1,11 @@
-use Rattle.std.proofs.Common.{◌<◌, sym, ap, ◌∙◌, arith}
-use Rattle.hd_heap.specs.Areas.{contents}
-use Rattle.hd_heap.proofs.RegionCopy.{IsSplit, read_low, read_high, written_low, written_high, one_area, ready, copied}
+use Rattle.hd_heap.proofs.Basics.{ap, arith, contents, sym, ◌<◌, ◌∙◌}
+use Rattle.hd_heap.proofs.RegionCopy.{split_of, read_low, read_high, written_low, written_high, one_area, ready, same_copy, copied}
 use Rattle.hd_heap.proofs.heap.copy_between.Goals as goal
 
 pub put_forwarded-requires : goal.put_forwarded-requires
 put_forwarded-requires g c =
-    let split : IsSplit c.args.areas.now c.split_at_mut-low.result.0.now c.split_at_mut-low.result.1.now
-    c.args.target = record {
-      whole = c.split_at_mut-low.ensures.value;
-      front = c.split_at_mut-low.ensures.front_len;
-      within = c.requires.target;
-    } in
+    let split = split_of c.split_at_mut-low.ensures.value c.split_at_mut-low.ensures.front_len
+    c.requires.target in
     let may = c.requires.may_copy c.index-low-source.result c.index-high-0.result
     (read_low split c.args.source c.index-low-source.result c.if-source-target.true c.index-low-source.is)
     (read_high split c.index-high-0.result c.index-high-0.is) in
@@ -26,28 +21,21 @@ put_forwarded-requires g c =
 
 pub returns-then-source-target : goal.returns-then-source-target
 returns-then-source-target g c = λ a b is_a is_b.
-    let split : IsSplit c.args.areas.now c.split_at_mut-low.result.0.now c.split_at_mut-low.result.1.now
-    c.args.target = record {
-      whole = c.split_at_mut-low.ensures.value;
-      front = c.split_at_mut-low.ensures.front_len;
-      within = c.requires.target;
-    } in
+    let split = split_of c.split_at_mut-low.ensures.value c.split_at_mut-low.ensures.front_len
+    c.requires.target in
     let source = one_area c.args.areas.now c.args.source a c.index-low-source.result c.requires.source is_a
     (read_low split c.args.source c.index-low-source.result c.if-source-target.true c.index-low-source.is) in
     let target = one_area c.args.areas.now c.args.target b c.index-high-0.result c.requires.target is_b
     (read_high split c.index-high-0.result c.index-high-0.is) in
     let put = c.put_forwarded.ensures in
-    copied (ap contents (source ∙ c.index-low-source.is) ∙ sym c.deref.ensures) (target ∙ c.index-high-0.is)
+    copied (same_copy (g.F.Forward.place c.args.forward.now) a _ c.args.from
+    (ap contents (source ∙ c.index-low-source.is) ∙ sym c.deref.ensures)) (target ∙ c.index-high-0.is)
     put.area (written_high split c.put_forwarded.new.self) put.put put.offset put.size
 
 pub put_forwarded-requires-else-source-target : goal.put_forwarded-requires-else-source-target
 put_forwarded-requires-else-source-target g c =
-    let split : IsSplit c.args.areas.now c.split_at_mut-low-else-source-target.result.0.now
-    c.split_at_mut-low-else-source-target.result.1.now c.args.source = record {
-      whole = c.split_at_mut-low-else-source-target.ensures.value;
-      front = c.split_at_mut-low-else-source-target.ensures.front_len;
-      within = c.requires.source;
-    } in
+    let split = split_of c.split_at_mut-low-else-source-target.ensures.value
+    c.split_at_mut-low-else-source-target.ensures.front_len c.requires.source in
     let below : c.args.target < c.args.source =
     omega (arith, c.if-source-target.false, c.requires.apart) in
     let may = c.requires.may_copy c.index-high-0-else-source-target.result c.index-low-target.result
@@ -66,12 +54,8 @@ put_forwarded-requires-else-source-target g c =
 
 pub returns-else-source-target : goal.returns-else-source-target
 returns-else-source-target g c = λ a b is_a is_b.
-    let split : IsSplit c.args.areas.now c.split_at_mut-low-else-source-target.result.0.now
-    c.split_at_mut-low-else-source-target.result.1.now c.args.source = record {
-      whole = c.split_at_mut-low-else-source-target.ensures.value;
-      front = c.split_at_mut-low-else-source-target.ensures.front_len;
-      within = c.requires.source;
-    } in
+    let split = split_of c.split_at_mut-low-else-source-target.ensures.value
+    c.split_at_mut-low-else-source-target.ensures.front_len c.requires.source in
     let below : c.args.target < c.args.source =
     omega (arith, c.if-source-target.false, c.requires.apart) in
     let source = one_area c.args.areas.now c.args.source a c.index-high-0-else-source-target.result
@@ -80,7 +64,8 @@ returns-else-source-target g c = λ a b is_a is_b.
     let target = one_area c.args.areas.now c.args.target b c.index-low-target.result c.requires.target is_b
     (read_low split c.args.target c.index-low-target.result below c.index-low-target.is) in
     let put = c.put_forwarded-else-source-target.ensures in
-    copied (ap contents (source ∙ c.index-high-0-else-source-target.is)
-    ∙ sym c.deref-else-source-target.ensures) (target ∙ c.index-low-target.is) put.area
+    copied (same_copy (g.F.Forward.place c.args.forward.now) a _ c.args.from
+    (ap contents (source ∙ c.index-high-0-else-source-target.is)
+    ∙ sym c.deref-else-source-target.ensures)) (target ∙ c.index-low-target.is) put.area
     (written_low split c.args.target c.put_forwarded-else-source-target.new.self below) put.put put.offset
     put.size

@@ -1,4 +1,4 @@
-use Rattle.hd_plan.specs.CommitSteps.{AreCarded}
+use Rattle.hd_plan.proofs.Basics.{AreCarded}
 use Rattle.hd_plan.proofs.carding.card_kept.Given as goal
 
 abbrev pub invariant-loop-object : goal.invariant-loop-object

@@ -1,6 +1,5 @@
-use Rattle.std.proofs.Common.{◌-◌, ◌^◌}
-use Rattle.hd_plan.proofs.LayStep.{reach_of}
-use Rattle.hd_plan.proofs.CommitCards.{IsExactBehind}
+use Rattle.hd_plan.proofs.Basics.{◌-◌, ◌^◌}
+use Rattle.hd_plan.proofs.{LayStep.reach_of, CommitCards.IsExactBehind}
 use Rattle.hd_plan.proofs.carding.clear_unneeded.Given as goal
 
 abbrev pub invariant-loop-at : goal.invariant-loop-at

@@ -1,6 +1,4 @@
-use Rattle.std.proofs.Common.{refl, subst}
-use Rattle.hd_model.specs.Heap.{card_of}
-use Rattle.std.proofs.lemmas.Bool.{both_ways}
+use Rattle.hd_plan.proofs.Basics.{both_ways, card_of, refl, subst}
 use Rattle.hd_plan.proofs.CommitCards.{AreUnneeding, unneeding_starts, unneeding_object, unneeding_found, unneeding_next, unneeding_less, unneeding_ends}
 use Rattle.hd_plan.proofs.carding.is_needed.Goals as goal
 

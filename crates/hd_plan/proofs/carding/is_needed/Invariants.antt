@@ -1,4 +1,4 @@
-use Rattle.hd_model.specs.Heap.{card_of}
+use Rattle.hd_plan.proofs.Basics.{card_of}
 use Rattle.hd_plan.proofs.CommitCards.{AreUnneeding, left_from}
 use Rattle.hd_plan.proofs.carding.is_needed.Given as goal
 

@@ -1,4 +1,4 @@
-use Rattle.std.proofs.Common.{arith}
+use Rattle.hd_plan.proofs.Basics.{arith}
 use Rattle.hd_plan.proofs.CommitCards.{card_is}
 use Rattle.hd_plan.proofs.carding.last_cell.Goals as goal
 

@@ -1,6 +1,4 @@
-use Rattle.std.proofs.Common.{◌≡◌, ℕ, true, subst}
-use Rattle.std.specs.Prelude.{◌↔◌}
-use Rattle.hd_heap.specs.Calls.{NamesBelow}
+use Rattle.hd_plan.proofs.Basics.{NamesBelow, subst, true, ℕ, ◌↔◌, ◌≡◌}
 use Rattle.hd_plan.proofs.carding.names_younger.Goals as goal
 
 pub returns : goal.returns

@@ -1,10 +1,7 @@
-use Rattle.std.proofs.Common.{◌≡◌, true}
-use Rattle.std.proofs.lemmas.Bool.{both_ways}
-use Rattle.hd_model.specs.Heap.{is_carded}
-use Rattle.hd_plan.specs.CommitSteps.{NamesYounger}
+use Rattle.hd_plan.proofs.Basics.{NamesYounger, both_ways, is_carded, true, ◌≡◌}
 use Rattle.hd_plan.proofs.CommitWalks.{walked_more}
-use Rattle.hd_plan.proofs.commit_tests.are_cards_sound.Goals as goal
 use Rattle.hd_plan.proofs.commit_tests.are_cards_sound.Goals.{else-names_younger-via-then-names_younger+else-not-has_card, else-names_younger-via-else-names_younger}
+use Rattle.hd_plan.proofs.commit_tests.are_cards_sound.Goals as goal
 
 pub loop-at-preserved : goal.loop-at-preserved
 loop-at-preserved c =

@@ -1,8 +1,4 @@
-use Rattle.std.proofs.Common.{◌≡◌, ◌-◌, ◌^◌, false, true}
-use Rattle.hd_model.specs.declared.data.Addr.{Addr}
-use Rattle.hd_model.specs.Heap.{has_object, is_carded}
-use Rattle.hd_heap.specs.Calls.{is_after}
-use Rattle.hd_plan.specs.CommitSteps.{NamesYounger}
+use Rattle.hd_plan.proofs.Basics.{Addr, NamesYounger, false, has_object, is_after, is_carded, true, ◌-◌, ◌^◌, ◌≡◌}
 use Rattle.hd_plan.proofs.LayStep.{reach_of}
 use Rattle.hd_plan.proofs.commit_tests.are_cards_sound.Given as goal
 

@@ -1,8 +1,4 @@
-use Rattle.std.proofs.Common.{◌≡◌, ◌-◌, ◌^◌, false, true}
-use Rattle.hd_model.specs.declared.data.Addr.{Addr}
-use Rattle.hd_model.specs.Heap.{has_object, object_at}
-use Rattle.hd_model.specs.Scene.{IsField}
-use Rattle.hd_heap.specs.Calls.{is_after}
+use Rattle.hd_plan.proofs.Basics.{Addr, IsField, false, has_object, is_after, object_at, true, ◌-◌, ◌^◌, ◌≡◌}
 use Rattle.hd_plan.proofs.LayStep.{reach_of}
 use Rattle.hd_plan.proofs.commit_tests.is_closed.Given as goal
 

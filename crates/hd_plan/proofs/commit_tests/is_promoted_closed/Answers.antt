@@ -1,12 +1,7 @@
-use Rattle.std.proofs.Common.{◌≡◌, true, ◌∙◌}
-use Rattle.std.proofs.lemmas.Bool.{both_ways}
-use Rattle.hd_model.specs.declared.data.Addr.{Addr}
-use Rattle.hd_model.specs.Heap.{object_at}
-use Rattle.hd_model.specs.Scene.{IsField}
-use Rattle.hd_mark.specs.Marks.{promoted_in}
+use Rattle.hd_plan.proofs.Basics.{Addr, IsField, both_ways, object_at, promoted_in, true, ◌∙◌, ◌≡◌}
 use Rattle.hd_plan.proofs.CommitWalks.{walked_more}
-use Rattle.hd_plan.proofs.commit_tests.is_promoted_closed.Goals as goal
 use Rattle.hd_plan.proofs.commit_tests.is_promoted_closed.Goals.{else-promoted-via-then-promoted+else-not-names_promoted, else-promoted-via-else-promoted}
+use Rattle.hd_plan.proofs.commit_tests.is_promoted_closed.Goals as goal
 
 pub loop-at-preserved : goal.loop-at-preserved
 loop-at-preserved c = λ x y is up promoted field.

@@ -1,6 +1,4 @@
-use Rattle.std.proofs.Common.{◌≡◌, true, rules, ap}
-use Rattle.hd_model.specs.Heap.{Basis}
-use Rattle.hd_mark.specs.Marks.{promoted_in}
+use Rattle.hd_plan.proofs.Basics.{Basis, ap, promoted_in, rules, true, ◌≡◌}
 use Rattle.hd_plan.proofs.CommitWalks.{closed_basis}
 use Rattle.hd_plan.proofs.commit_tests.lay.Goals as goal
 

@@ -1,4 +1,4 @@
-use Rattle.hd_plan.specs.Plan.{HasNoEmptyRegion}
+use Rattle.hd_plan.proofs.Basics.{HasNoEmptyRegion}
 use Rattle.hd_plan.proofs.commit_tests.linked_heap.Given as goal
 
 abbrev pub invariant-loop-from : goal.invariant-loop-from

@@ -1,8 +1,4 @@
-use Rattle.std.proofs.Common.{◌≡◌, ◌<◌, ℕ, true, Some, None}
-use Rattle.std.specs.Prelude.{slice_index_or}
-use Rattle.hd_model.specs.declared.data.Addr.{Addr}
-use Rattle.hd_model.specs.Heap.{has_object, object_at}
-use Rattle.hd_model.specs.Scene.{fields_at}
+use Rattle.hd_plan.proofs.Basics.{Addr, None, Some, fields_at, has_object, object_at, slice_index_or, true, ℕ, ◌<◌, ◌≡◌}
 use Rattle.hd_plan.proofs.commit_tests.names_objects.Given as goal
 
 abbrev pub invariant-loop-i : goal.invariant-loop-i

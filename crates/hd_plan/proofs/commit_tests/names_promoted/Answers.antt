@@ -1,8 +1,4 @@
-use Rattle.std.proofs.Common.{◌≡◌, true, Some, None, arith, sym, subst}
-use Rattle.hd_model.specs.Heap.{Heap, has_object, object_at}
-use Rattle.hd_model.specs.Scene.{fields_at}
-use Rattle.hd_mark.specs.Marks.{promoted_in}
-use Rattle.hd_model.proofs.Members.{member_at}
+use Rattle.hd_plan.proofs.Basics.{Heap, None, Some, arith, fields_at, has_object, member_at, object_at, promoted_in, subst, sym, true, ◌≡◌}
 use Rattle.hd_plan.proofs.CommitWalks.{each_field}
 use Rattle.hd_plan.proofs.commit_tests.names_promoted.Goals as goal
 

@@ -1,9 +1,4 @@
-use Rattle.std.proofs.Common.{◌≡◌, ◌<◌, ℕ, true, Some, None}
-use Rattle.std.specs.Prelude.{slice_index_or}
-use Rattle.hd_model.specs.declared.data.Addr.{Addr}
-use Rattle.hd_model.specs.Heap.{object_at}
-use Rattle.hd_model.specs.Scene.{fields_at}
-use Rattle.hd_mark.specs.Marks.{promoted_in}
+use Rattle.hd_plan.proofs.Basics.{Addr, None, Some, fields_at, object_at, promoted_in, slice_index_or, true, ℕ, ◌<◌, ◌≡◌}
 use Rattle.hd_plan.proofs.commit_tests.names_promoted.Given as goal
 
 abbrev pub invariant-loop-i : goal.invariant-loop-i

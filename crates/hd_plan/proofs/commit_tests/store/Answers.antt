@@ -1,5 +1,4 @@
-use Rattle.std.proofs.Common.{sym, subst}
-use Rattle.hd_plan.specs.Plan.{HasNoEmptyRegion}
+use Rattle.hd_plan.proofs.Basics.{HasNoEmptyRegion, subst, sym}
 use Rattle.hd_plan.proofs.CommitWalks.{filled_stored}
 use Rattle.hd_plan.proofs.commit_tests.store.Goals as goal
 

@@ -1,9 +1,4 @@
-use Rattle.std.proofs.Common.{◌≡◌, ◌∷◌, ◌++◌, [], true, false, List, length, ◌+◌, None, refl, sym, ap, ◌∙◌, subst, arith, add-one}
-use Rattle.hd_model.specs.declared.data.Addr.{Addr}
-use Rattle.hd_heap.specs.Calls.{is_after, is_condemned}
-use Rattle.hd_heap.proofs.SurveyWalk.{before, next_at, none_after}
-use Rattle.hd_plan.specs.declared.moves.Move.{Move}
-use Rattle.hd_plan.specs.declared.cursors.AllocCursors.{AllocCursors}
+use Rattle.hd_plan.proofs.Basics.{Addr, AllocCursors, List, Move, None, [], add-one, ap, arith, before, false, is_after, is_condemned, length, next_at, none_after, refl, subst, sym, true, ◌++◌, ◌+◌, ◌∙◌, ◌∷◌, ◌≡◌}
 use Rattle.hd_plan.proofs.LayStep.{IsLaying, laying_start, laying_next, may_put, push_length, to_end}
 use Rattle.hd_plan.proofs.lay.lay_moves.Goals as goal
 

@@ -1,5 +1,4 @@
-use Rattle.std.proofs.Common.{◌≡◌, length, vec_capacity}
-use Rattle.hd_heap.proofs.SurveyWalk.{before}
+use Rattle.hd_plan.proofs.Basics.{before, length, vec_capacity, ◌≡◌}
 use Rattle.hd_plan.proofs.LayStep.{IsLaying}
 use Rattle.hd_plan.proofs.lay.lay_moves.Given as goal
 

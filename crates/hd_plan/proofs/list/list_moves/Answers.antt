@@ -1,12 +1,7 @@
-use Rattle.std.proofs.Common.{◌≡◌, ◌⊎◌, ◌+◌, ◌*◌, ◌^◌, ◌<◌, ◌≤◌, ℕ, false, List, length, set, refl, sym, ap, ◌∙◌, subst, arith, length-set, vec_capacity}
-use Rattle.hd_model.specs.declared.data.Addr.{Addr}
-use Rattle.hd_model.specs.Heap.{region_of}
-use Rattle.hd_plan.specs.declared.moves.Move.{Move}
-use Rattle.hd_plan.specs.Layout.{move_at}
-use Rattle.hd_plan.specs.LaySteps.{is_last, first_at, HasMove, HasPlaces, IsJoined, IsAdded, spot_of}
+use Rattle.hd_plan.proofs.Basics.{Addr, HasMove, HasPlaces, IsAdded, IsJoined, List, Move, ap, arith, false, first_at, is_last, length, length-set, move_at, refl, region_of, set, spot_of, subst, sym, vec_capacity, ℕ, ◌*◌, ◌+◌, ◌<◌, ◌^◌, ◌∙◌, ◌≡◌, ◌≤◌, ◌⊎◌}
 use Rattle.hd_plan.proofs.ForwardTable.{IsNoted, room_along, room_next, noted, move_read, places_put}
-use Rattle.hd_plan.proofs.list.list_moves.Goals as goal
 use Rattle.hd_plan.proofs.list.list_moves.Goals.{After-index-object, After-list_region}
+use Rattle.hd_plan.proofs.list.list_moves.Goals as goal
 
 next : (c : After-list_region)
     → IsNoted c.args.moves.now.items c.requires.rising c.list_region.new.regions.items c.loop-k.k

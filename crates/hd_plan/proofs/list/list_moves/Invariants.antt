@@ -1,5 +1,4 @@
-use Rattle.std.proofs.Common.{◌≡◌, length, vec_capacity}
-use Rattle.hd_plan.specs.LaySteps.{AreListedTo, HasPlaces}
+use Rattle.hd_plan.proofs.Basics.{AreListedTo, HasPlaces, length, vec_capacity, ◌≡◌}
 use Rattle.hd_plan.proofs.list.list_moves.Given as goal
 
 abbrev pub invariant-loop-k : goal.invariant-loop-k

@@ -1,4 +1,4 @@
-use Rattle.std.proofs.Common.{sym}
+use Rattle.hd_plan.proofs.Basics.{sym}
 use Rattle.hd_plan.proofs.ForwardTable.{region_is_quotient}
 use Rattle.hd_plan.proofs.places.region_number.Goals as goal
 

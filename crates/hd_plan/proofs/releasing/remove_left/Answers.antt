@@ -1,4 +1,4 @@
-use Rattle.hd_plan.specs.CommitSteps.{is_pinned}
+use Rattle.hd_plan.proofs.Basics.{is_pinned}
 use Rattle.hd_plan.proofs.CommitReleases.{removed_step}
 use Rattle.hd_plan.proofs.releasing.remove_left.Goals as goal
 

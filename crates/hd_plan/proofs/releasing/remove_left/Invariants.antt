@@ -1,4 +1,4 @@
-use Rattle.hd_plan.specs.CommitSteps.{AreRemovedIn, is_pinned}
+use Rattle.hd_plan.proofs.Basics.{AreRemovedIn, is_pinned}
 use Rattle.hd_plan.proofs.releasing.remove_left.Given as goal
 
 abbrev pub invariant-loop-object : goal.invariant-loop-object

@@ -1,4 +1,4 @@
-use Rattle.hd_plan.specs.CommitSteps.{AreGivenUp}
+use Rattle.hd_plan.proofs.Basics.{AreGivenUp}
 use Rattle.hd_plan.proofs.releasing.settle_regions.Given as goal
 
 abbrev pub invariant-loop-condemned : goal.invariant-loop-condemned

@@ -1,6 +1,4 @@
-use Rattle.std.proofs.Common.{sym, ap, ◌∙◌, subst}
-use Rattle.hd_model.specs.Heap.{is_in_use}
-use Rattle.hd_plan.specs.Plan.{HasNoEmptyRegion}
+use Rattle.hd_plan.proofs.Basics.{HasNoEmptyRegion, ap, is_in_use, subst, sym, ◌∙◌}
 use Rattle.hd_plan.proofs.RegionsInUse.{filled_generation}
 use Rattle.hd_plan.proofs.tests.give.Goals as goal
 

@@ -1,5 +1,4 @@
-use Rattle.std.proofs.Common.{sym, subst}
-use Rattle.hd_plan.specs.Plan.{HasNoEmptyRegion}
+use Rattle.hd_plan.proofs.Basics.{HasNoEmptyRegion, subst, sym}
 use Rattle.hd_plan.proofs.RegionsInUse.{filled_empty}
 use Rattle.hd_plan.proofs.tests.heap_of.Goals as goal
 

@@ -1,4 +1,4 @@
-use Rattle.hd_plan.specs.Plan.{HasNoEmptyRegion}
+use Rattle.hd_plan.proofs.Basics.{HasNoEmptyRegion}
 use Rattle.hd_plan.proofs.tests.heap_of.Given as goal
 
 abbrev pub invariant-loop-cells : goal.invariant-loop-cells

@@ -1,9 +1,5 @@
-use Rattle.std.proofs.Common.{subst, ⊎_elim}
-use Rattle.hd_model.specs.declared.data.Addr.{Addr}
-use Rattle.hd_model.specs.Heap.{has_object, object_at}
-use Rattle.hd_model.specs.Scene.{IsField}
-use Rattle.hd_plan.proofs.RegionsInUse.{field_object}
-use Rattle.hd_plan.proofs.LayStep.{reached_cases}
+use Rattle.hd_plan.proofs.Basics.{Addr, IsField, has_object, object_at, subst, ⊎_elim}
+use Rattle.hd_plan.proofs.{RegionsInUse.field_object, LayStep.reached_cases}
 use Rattle.hd_plan.proofs.tests.is_bare.Goals as goal
 
 pub loop-at-preserved : goal.loop-at-preserved

@@ -1,8 +1,4 @@
-use Rattle.std.proofs.Common.{sym, subst}
-use Rattle.hd_model.specs.Heap.{Basis, objects_of}
-use Rattle.hd_model.specs.Leads.{IsClosed}
-use Rattle.hd_model.specs.Scene.{IsField}
-use Rattle.hd_mark.specs.Marks.{promoted_in}
+use Rattle.hd_plan.proofs.Basics.{Basis, IsClosed, IsField, objects_of, promoted_in, subst, sym}
 use Rattle.hd_plan.proofs.tests.lay.Goals as goal
 
 pub marks_of-requires : goal.marks_of-requires

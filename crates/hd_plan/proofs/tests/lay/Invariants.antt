@@ -1,5 +1,4 @@
-use Rattle.std.proofs.Common.{◌≡◌}
-use Rattle.hd_mark.specs.Marks.{IsSettledMarks}
+use Rattle.hd_plan.proofs.Basics.{IsSettledMarks, ◌≡◌}
 use Rattle.hd_plan.proofs.tests.lay.Given as goal
 
 abbrev pub invariant-loop-at : goal.invariant-loop-at

@@ -1,7 +1,4 @@
-use Rattle.std.proofs.Common.{◌≡◌, ◌<◌, ℕ, None}
-use Rattle.std.specs.Prelude.{slice_index_or}
-use Rattle.hd_model.specs.Heap.{object_at}
-use Rattle.hd_model.specs.Scene.{fields_at}
+use Rattle.hd_plan.proofs.Basics.{None, fields_at, object_at, slice_index_or, ℕ, ◌<◌, ◌≡◌}
 use Rattle.hd_plan.proofs.tests.names_nothing.Given as goal
 
 abbrev pub invariant-loop-i : goal.invariant-loop-i

@@ -1,8 +1,4 @@
-use Rattle.std.proofs.Common.{◌+◌, ap, ◌∙◌, refl}
-use Rattle.std.proofs.lemmas.List.{length-map}
-use Rattle.hd_cells.specs.Region.{Contents, object_at, with_object}
-use Rattle.hd_heap.specs.Areas.{contents}
-use Rattle.hd_heap.specs.Forwarding.{stored_place, region_forwarded}
+use Rattle.hd_heap.proofs.Basics.{Contents, ap, contents, length-map, object_at, refl, region_forwarded, stored_place, with_object, ◌+◌, ◌∙◌}
 use Rattle.hd_heap.proofs.Areas.{area_written}
 use Rattle.hd_heap.proofs.area.Area.forward_fields.Goals as goal
 

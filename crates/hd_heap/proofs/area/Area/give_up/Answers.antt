@@ -1,5 +1,4 @@
-use Rattle.std.proofs.Common.{false, refl}
-use Rattle.std.proofs.lemmas.List.{length-replicate}
+use Rattle.hd_heap.proofs.Basics.{false, length-replicate, refl}
 use Rattle.hd_heap.proofs.Areas.{area_empty, falses}
 use Rattle.hd_heap.proofs.area.Area.give_up.Goals as goal
 

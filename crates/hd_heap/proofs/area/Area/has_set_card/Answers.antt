@@ -1,6 +1,4 @@
-use Rattle.std.proofs.Common.{false, inl, inr, arith}
-use Rattle.std.proofs.lemmas.Bool.{cases_lt}
-use Rattle.std.proofs.lemmas.List.{get_or_past}
+use Rattle.hd_heap.proofs.Basics.{arith, cases_lt, false, get_or_past, inl, inr}
 use Rattle.hd_heap.proofs.area.Area.has_set_card.Goals as goal
 
 pub returns : goal.returns

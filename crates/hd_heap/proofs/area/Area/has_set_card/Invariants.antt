@@ -1,4 +1,4 @@
-use Rattle.std.proofs.Common.{◌≡◌, ℕ, ◌<◌, false, get_or}
+use Rattle.hd_heap.proofs.Basics.{false, get_or, ℕ, ◌<◌, ◌≡◌}
 use Rattle.hd_heap.proofs.area.Area.has_set_card.Given as goal
 
 abbrev pub invariant-loop-set : goal.invariant-loop-set

@@ -1,4 +1,4 @@
-use Rattle.std.proofs.Common.{arith}
+use Rattle.hd_heap.proofs.Basics.{arith}
 use Rattle.hd_heap.proofs.WantedObjects.{object_below}
 use Rattle.hd_heap.proofs.area.Area.is_wanted.Goals as goal
 

@@ -1,12 +1,5 @@
-use Rattle.std.proofs.Common.{◌≡◌, ℕ, refl, Bool, true, false}
-use Rattle.std.specs.Prelude.{not, nat_eq}
-use Rattle.std.proofs.lemmas.Bool.{eqb-true}
-use Rattle.hd_heap.specs.declared.area.Area.{Area}
-use Rattle.hd_heap.specs.declared.area.Wanted.{Wanted}
-use Rattle.hd_heap.specs.Areas.{IsArea}
-use Rattle.hd_heap.specs.Steps.{wants}
-use Rattle.hd_heap.proofs.WantedObjects.{unwanted}
-use Rattle.hd_heap.proofs.Areas.{none_live}
+use Rattle.hd_heap.proofs.Basics.{Area, Bool, IsArea, Wanted, eqb-true, false, nat_eq, not, refl, true, wants, ℕ, ◌≡◌}
+use Rattle.hd_heap.proofs.{WantedObjects.unwanted, Areas.none_live}
 use Rattle.hd_heap.proofs.area.Area.may_have.Goals as goal
 
 nothing : (a : Area) (w : Wanted) → IsArea a → not (nat_eq a.live 0) ≡ false → (k : ℕ) → wants w a k ≡ false

@@ -1,10 +1,5 @@
-use Rattle.std.proofs.Common.{◌≡◌, ◌+◌, ℕ, None, ap, sym, ◌∙◌, refl, subst, arith}
-use Rattle.std.proofs.lemmas.List.{length-replicate}
-use Rattle.std.specs.FinMap.{get}
+use Rattle.hd_heap.proofs.Basics.{Contents, IsPutInto, None, ap, arith, contents, get, length-replicate, refl, subst, sym, with_put, ℕ, ◌+◌, ◌∙◌, ◌≡◌}
 use Rattle.hd_cells.specs.Object.{new_object}
-use Rattle.hd_cells.specs.Region.{Contents, with_put}
-use Rattle.hd_heap.specs.Areas.{contents}
-use Rattle.hd_heap.specs.Steps.{IsPutInto}
 use Rattle.hd_heap.proofs.Areas.{area_put, count_small}
 use Rattle.hd_heap.proofs.area.Area.put.Goals as goal
 

@@ -1,14 +1,18 @@
-use Rattle.std.proofs.Common.{◌≡◌, ℕ, None, ap, ◌∙◌, refl, subst, arith}
-use Rattle.std.proofs.lemmas.List.{length-map}
-use Rattle.std.specs.FinMap.{get}
-use Rattle.hd_cells.specs.Region.{Contents, object_at, with_put}
-use Rattle.hd_heap.specs.Areas.{contents}
-use Rattle.hd_heap.specs.Forwarding.{stored_place, region_forwarded}
+use Rattle.hd_heap.proofs.Basics.{Contents, None, ap, arith, contents, get, length-map, object_at, refl, region_forwarded, stored_place, subst, with_put, ℕ, ◌∙◌, ◌≡◌}
 use Rattle.hd_heap.proofs.Areas.{area_put, count_small}
 use Rattle.hd_heap.proofs.area.Area.put_forwarded.Goals as goal
 
 pub overflow_add-self-2 : goal.overflow_add-self-2
 overflow_add-self-2 g c = omega (arith, count_small c.args.self.now c.requires.area)
+
+pub returns-clause-size : goal.returns-clause-size
+returns-clause-size g c =
+    let place = g.F.Forward.place c.args.forward.now in
+    omega (
+      arith,
+      c.fields-cells.ensures.count,
+      length-map (object_at c.args.source.now c.args.from).fields (stored_place place),
+    )
 
 pub returns-clause-area : goal.returns-clause-area
 returns-clause-area g c =

@@ -1,8 +1,4 @@
-use Rattle.std.proofs.Common.{◌≡◌, ◌≢◌, ℕ, ◌≤◌, ◌+◌, ◌-◌, ◌/◌, ◌∙◌, false, true, set, get_or, ap, sym, subst, refl, length, length-set, get_or-set_same, get_or-set_other, arith}
-use Rattle.std.proofs.lemmas.Bool.{both_ways}
-use Rattle.hd_cells.specs.Object.{size_of}
-use Rattle.hd_cells.specs.Region.{Contents, object_at, without_object}
-use Rattle.hd_heap.specs.Areas.{contents}
+use Rattle.hd_heap.proofs.Basics.{Contents, ap, arith, both_ways, contents, false, get_or, get_or-set_other, get_or-set_same, length, length-set, object_at, refl, set, size_of, subst, sym, true, without_object, ℕ, ◌+◌, ◌-◌, ◌/◌, ◌∙◌, ◌≡◌, ◌≢◌, ◌≤◌}
 use Rattle.hd_heap.proofs.Areas.{live_at, count_at, area_taken}
 use Rattle.hd_heap.proofs.area.Area.remove.Goals as goal
 

@@ -1,4 +1,4 @@
-use Rattle.std.proofs.Common.{refl, arith}
+use Rattle.hd_heap.proofs.Basics.{arith, refl}
 use Rattle.hd_heap.proofs.Areas.{area_empty, falses}
 use Rattle.hd_heap.proofs.area.Area.spare.Goals as goal
 

@@ -1,8 +1,4 @@
-use Rattle.std.proofs.Common.{◌+◌, ◌<◌, ℕ, Option, Some, sym, ◌∙◌, subst, arith}
-use Rattle.std.specs.Prelude.{IfSome}
-use Rattle.hd_cells.specs.Region.{IsObject, IsFirstFrom}
-use Rattle.hd_cells.specs.Region.{Contents}
-use Rattle.hd_heap.specs.Areas.{contents}
+use Rattle.hd_heap.proofs.Basics.{Contents, IfSome, IsFirstFrom, IsObject, Option, Some, arith, contents, subst, sym, ℕ, ◌+◌, ◌<◌, ◌∙◌}
 use Rattle.hd_heap.proofs.WantedObjects.{IsOn, left, on_start, on_next, on_found, on_end, left_falls, object_below, first_object}
 use Rattle.hd_heap.proofs.area.Area.wanted_from.Goals as goal
 

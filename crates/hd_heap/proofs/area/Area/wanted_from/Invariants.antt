@@ -1,6 +1,4 @@
-use Rattle.std.specs.Prelude.{IfSome}
-use Rattle.hd_cells.specs.Region.{IsObject}
-use Rattle.hd_heap.specs.Areas.{contents}
+use Rattle.hd_heap.proofs.Basics.{IfSome, IsObject, contents}
 use Rattle.hd_heap.proofs.WantedObjects.{IsOn, left}
 use Rattle.hd_heap.proofs.area.Area.wanted_from.Given as goal
 

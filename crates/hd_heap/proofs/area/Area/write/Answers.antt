@@ -1,9 +1,5 @@
-use Rattle.std.proofs.Common.{ap, ◌∙◌, refl}
-use Rattle.hd_cells.specs.Region.{Contents, object_at, with_object}
-use Rattle.hd_heap.specs.Areas.{contents}
-use Rattle.hd_heap.specs.Steps.{region_with_part, IsWritten}
-use Rattle.hd_heap.proofs.Areas.{area_written}
-use Rattle.hd_heap.proofs.RegionWrites.{part_size}
+use Rattle.hd_heap.proofs.Basics.{Contents, IsWritten, ap, contents, object_at, refl, region_with_part, with_object, ◌∙◌}
+use Rattle.hd_heap.proofs.{Areas.area_written, RegionWrites.part_size}
 use Rattle.hd_heap.proofs.area.Area.write.Goals as goal
 
 pub returns : goal.returns

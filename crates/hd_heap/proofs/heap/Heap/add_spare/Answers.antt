@@ -1,8 +1,5 @@
-use Rattle.std.proofs.Common.{◌≡◌, ◌+◌, false, sym, ap, ◌∙◌, List, [], ◌∷◌, ◌++◌, deque_capacity, arith}
-use Rattle.std.specs.Prelude.{Result, Ok, Err, OnOk, is_err}
-use Rattle.hd_heap.specs.declared.area.Area.{Area}
-use Rattle.hd_heap.proofs.RegionReads.{opened, IsHeap}
-use Rattle.hd_heap.proofs.RegionUse.{heap_lists, heap_roomy, region_added}
+use Rattle.hd_heap.proofs.Basics.{Area, Err, List, Ok, OnOk, Result, [], ap, arith, deque_capacity, false, is_err, sym, ◌++◌, ◌+◌, ◌∙◌, ◌∷◌, ◌≡◌}
+use Rattle.hd_heap.proofs.{RegionReads.opened, RegionReads.IsHeap, RegionUse.heap_lists, RegionUse.heap_roomy, RegionUse.region_added}
 use Rattle.hd_heap.proofs.heap.Heap.add_spare.Goals as goal
 
 pub invariant_of-self-then-is_err-2 : goal.invariant_of-self-then-is_err-2

@@ -1,19 +1,16 @@
-use Rattle.std.proofs.Common.{sym, subst, arith}
-use Rattle.hd_heap.specs.Steps.{IsObjectOf}
+use Rattle.hd_heap.proofs.Basics.{IsObjectOf, arith, subst, sym}
 use Rattle.hd_heap.proofs.RegionReads.{opened, index_of, found_read, object_of}
 use Rattle.hd_heap.proofs.heap.Heap.area_of.Goals as goal
 
 pub index-requires : goal.index-requires
 index-requires c =
-    omega (
-      arith,
-      index_of (opened c.self.inside c.self.view_is c.self.invariant) c.args.at c.requires
-          c.place_of.result c.place_of.ensures,
-    )
+    let i = index_of (opened c.self.inside c.self.view_is c.self.invariant) c.args.at c.requires
+    c.place_of.ensures in
+    omega (arith, i)
 
 pub returns : goal.returns
 returns c =
     subst (IsObjectOf c.args.self.now c.args.at c.index.result.now) (sym c.offset_of.ensures)
     (object_of c.args.at
-    (found_read (opened c.self.inside c.self.view_is c.self.invariant) c.args.at c.requires
-    c.place_of.result c.place_of.ensures c.index.result.now c.index.ensures))
+    (found_read (opened c.self.inside c.self.view_is c.self.invariant) c.args.at c.requires c.place_of.ensures
+    c.index.ensures))

@@ -1,6 +1,5 @@
-use Rattle.std.proofs.Common.{◌∙◌, None, get_or, ap, refl, length, arith}
-use Rattle.hd_model.specs.Heap.{Placed}
-use Rattle.hd_heap.specs.Calls.{with_object, new_object}
+use Rattle.hd_heap.proofs.Basics.{None, Placed, ap, arith, get_or, length, new_object, refl, ◌∙◌}
+use Rattle.hd_heap.specs.Calls.{with_object}
 use Rattle.hd_heap.proofs.HeapValues.{fields_placed, put_read, put_written, copying_starts, copying_next, copying_ends}
 use Rattle.hd_heap.proofs.heap.Heap.copy_into.Goals as goal
 

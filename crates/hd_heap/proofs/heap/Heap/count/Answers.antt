@@ -1,5 +1,4 @@
-use Rattle.hd_heap.proofs.RegionReads.{opened, count_is}
-use Rattle.hd_heap.proofs.HeapSoundness.{sound}
+use Rattle.hd_heap.proofs.{RegionReads.opened, RegionReads.count_is, HeapSoundness.sound}
 use Rattle.hd_heap.proofs.heap.Heap.count.Goals as goal
 
 pub returns : goal.returns

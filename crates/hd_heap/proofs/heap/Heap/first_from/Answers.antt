@@ -1,8 +1,5 @@
-use Rattle.std.proofs.Common.{◌+◌, ◌*◌, inl, inr, refl, arith}
-use Rattle.std.proofs.lemmas.Bool.{cases_lt}
-use Rattle.hd_heap.proofs.RegionReads.{opened, place_read}
-use Rattle.hd_heap.proofs.HeapSoundness.{sound}
-use Rattle.hd_heap.proofs.RegionWalk.{wanted_place, wants_low, given_some, given_none}
+use Rattle.hd_heap.proofs.Basics.{arith, cases_lt, inl, inr, refl, ◌*◌, ◌+◌}
+use Rattle.hd_heap.proofs.{RegionReads.opened, RegionReads.place_read, HeapSoundness.sound, RegionWalk.wanted_place, RegionWalk.wants_low, RegionWalk.given_some, RegionWalk.given_none}
 use Rattle.hd_heap.proofs.heap.Heap.first_from.Goals as goal
 
 pub first_wanted-requires : goal.first_wanted-requires

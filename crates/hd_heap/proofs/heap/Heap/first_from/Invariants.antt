@@ -1,6 +1,4 @@
-use Rattle.std.proofs.Common.{◌≡◌, ◌+◌, ◌*◌, ◌≤◌, true}
-use Rattle.hd_model.specs.declared.data.Addr.{Addr}
-use Rattle.hd_heap.specs.Steps.{is_wanted}
+use Rattle.hd_heap.proofs.Basics.{Addr, is_wanted, true, ◌*◌, ◌+◌, ◌≡◌, ◌≤◌}
 use Rattle.hd_heap.proofs.heap.Heap.first_from.Given as goal
 
 abbrev pub invariant-loop-place : goal.invariant-loop-place

@@ -1,5 +1,4 @@
-use Rattle.std.proofs.Common.{◌≡◌, ℕ, ◌≤◌, true}
-use Rattle.hd_model.specs.Heap.{is_in_use, region_at, region_generation}
+use Rattle.hd_heap.proofs.Basics.{is_in_use, region_at, region_generation, true, ℕ, ◌≡◌, ◌≤◌}
 use Rattle.hd_heap.proofs.heap.Heap.first_open.Given as goal
 
 abbrev pub invariant-loop-place : goal.invariant-loop-place

@@ -1,23 +1,19 @@
-use Rattle.std.proofs.Common.{◌-◌, set, arith, deque_capacity}
-use Rattle.hd_heap.specs.Calls.{without_region}
-use Rattle.hd_heap.proofs.RegionReads.{opened, held_index, held_read, IsHeap, IsHeldAt}
-use Rattle.hd_heap.proofs.RegionUse.{cells_counted, objects_counted, region_freed, held_counted}
-use Rattle.hd_heap.proofs.heap.Heap.give_up.Goals as goal
+use Rattle.hd_heap.proofs.Basics.{arith, deque_capacity, set, without_region, ◌-◌}
+use Rattle.hd_heap.proofs.{RegionReads.opened, RegionReads.held_index, RegionReads.held_read, RegionReads.IsHeap, RegionReads.IsHeldAt, RegionUse.cells_counted, RegionUse.objects_counted, RegionUse.region_freed, RegionUse.held_counted}
 use Rattle.hd_heap.proofs.heap.Heap.give_up.Goals.{After-index_mut, After-push_back_reserved}
+use Rattle.hd_heap.proofs.heap.Heap.give_up.Goals as goal
 
 pub index_mut-requires : goal.index_mut-requires
 index_mut-requires c =
-    omega (
-      arith,
-      (held_index (opened c.self.inside c.self.view_is c.self.invariant) c.args.region c.requires.held
-          c.place_of.result c.place_of.ensures).1,
-    )
+    let i = held_index (opened c.self.inside c.self.view_is c.self.invariant) c.requires.held
+    c.place_of.ensures in
+    omega (arith, i.1)
 
 located : (c : After-index_mut)
     → IsHeldAt c.self.inside.areas.items c.args.self.now c.args.region c.place_of.result
     c.index_mut.result.now
-located c = held_read (opened c.self.inside c.self.view_is c.self.invariant) c.args.region c.requires.held
-    c.place_of.result c.place_of.ensures c.index_mut.result.now c.index_mut.ensures.value
+located c = held_read (opened c.self.inside c.self.view_is c.self.invariant) c.requires.held
+    c.place_of.ensures c.index_mut.ensures.value
 
 pub give_up-cells-requires : goal.give_up-cells-requires
 give_up-cells-requires c = record { area = (located c).area }
@@ -57,8 +53,7 @@ freed : (c : After-push_back_reserved)
     c.self.inside.current (without_region c.args.self.now c.args.region)
 freed c =
     let heap = opened c.self.inside c.self.view_is c.self.invariant in
-    let located = held_read heap c.args.region c.requires.held c.place_of.result c.place_of.ensures
-    c.index_mut.result.now c.index_mut.ensures.value in
+    let located = held_read heap c.requires.held c.place_of.ensures c.index_mut.ensures.value in
     let now = c.give_up-cells.ensures in
     region_freed heap c.give_up-cells.new.self c.give_up-cells.result.0 c.give_up-cells.result.1 located
     now.area now.freed

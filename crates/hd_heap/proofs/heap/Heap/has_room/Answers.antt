@@ -1,18 +1,13 @@
-use Rattle.std.proofs.Common.{◌-◌, refl, sym, ap, ◌∙◌, arith}
-use Rattle.std.proofs.lemmas.Bool.{leb-true, le-leb, both_ways}
-use Rattle.hd_model.specs.Heap.{Region}
-use Rattle.hd_cells.specs.Region.{Contents}
-use Rattle.hd_heap.specs.Steps.{HasRoom}
+use Rattle.hd_heap.proofs.Basics.{Contents, HasRoom, Region, ap, arith, both_ways, le-leb, leb-true, refl, sym, ◌-◌, ◌∙◌}
 use Rattle.hd_heap.proofs.RegionReads.{opened, place_read, held_index, held_read, located_by}
-use Rattle.hd_heap.proofs.heap.Heap.has_room.Goals as goal
 use Rattle.hd_heap.proofs.heap.Heap.has_room.Goals.{then-region-eq0-via-then-region-eq0, then-region-eq0-via-else-region-eq0+then-region-len}
+use Rattle.hd_heap.proofs.heap.Heap.has_room.Goals as goal
 
 pub returns-then-region-eq0 : goal.returns-then-region-eq0
 returns-then-region-eq0 c = (
   λ e. absurd (cc e),
   λ (room : HasRoom c.args.self.now c.args.region c.args.size).
-      let index = held_index (opened c.self.inside c.self.view_is c.self.invariant) c.args.region room.held
-      (c.args.region - 1) refl in
+      let index = held_index (opened c.self.inside c.self.view_is c.self.invariant) room.held refl in
       elim c.then-region-eq0.branch [
         | then-region-eq0-via-then-region-eq0 w ↦ absurd (omega (arith, index.0, w.if-region-eq0.true))
         | then-region-eq0-via-else-region-eq0+then-region-len w ↦
@@ -24,8 +19,8 @@ pub returns-then-not-area : goal.returns-then-not-area
 returns-then-not-area c = (
   λ e. absurd (cc e),
   λ (room : HasRoom c.args.self.now c.args.region c.args.size).
-      let at = held_read (opened c.self.inside c.self.view_is c.self.invariant) c.args.region room.held
-      c.place_of.result c.place_of.ensures c.index-area.result.now c.index-area.ensures in
+      let at = held_read (opened c.self.inside c.self.view_is c.self.invariant) room.held c.place_of.ensures
+      c.index-area.ensures in
       absurd (both_ways _ c.if-not-area.true at.held),
 )
 
@@ -33,8 +28,8 @@ pub returns-then-area-ne0 : goal.returns-then-area-ne0
 returns-then-area-ne0 c = (
   λ e. absurd (cc e),
   λ (room : HasRoom c.args.self.now c.args.region c.args.size).
-      let at = held_read (opened c.self.inside c.self.view_is c.self.invariant) c.args.region room.held
-      c.place_of.result c.place_of.ensures c.index-area.result.now c.index-area.ensures in
+      let at = held_read (opened c.self.inside c.self.view_is c.self.invariant) room.held c.place_of.ensures
+      c.index-area.ensures in
       absurd (c.if-area-ne0.true (sym (ap (λ (x : Region). x.generation) at.region) ∙ room.young)),
 )
 

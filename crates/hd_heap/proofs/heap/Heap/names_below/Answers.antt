@@ -1,8 +1,5 @@
-use Rattle.std.proofs.Common.{◌≡◌, ℕ, inl, inr, false, None, get_or, sym, ap, ◌∙◌, refl, subst, arith}
-use Rattle.std.proofs.lemmas.Bool.{cases_eq}
-use Rattle.hd_model.specs.Scene.{fields_at}
-use Rattle.hd_model.specs.Heap.{object_at}
-use Rattle.hd_heap.specs.Steps.{is_below}
+use Rattle.hd_heap.proofs.Basics.{None, ap, arith, cases_eq, false, get_or, inl, inr, is_below, refl, subst, sym, ℕ, ◌∙◌, ◌≡◌}
+use Rattle.hd_model.specs.{Scene.fields_at, Heap.object_at}
 use Rattle.hd_heap.proofs.HeapReferences.{field_read, below_some, below_field}
 use Rattle.hd_heap.proofs.heap.Heap.names_below.Goals as goal
 

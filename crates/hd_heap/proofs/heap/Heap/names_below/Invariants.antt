@@ -1,7 +1,5 @@
-use Rattle.std.proofs.Common.{◌≡◌, ◌<◌, ℕ, false, None, get_or}
-use Rattle.hd_model.specs.Scene.{fields_at}
-use Rattle.hd_model.specs.Heap.{object_at}
-use Rattle.hd_heap.specs.Steps.{is_below}
+use Rattle.hd_heap.proofs.Basics.{None, false, get_or, is_below, ℕ, ◌<◌, ◌≡◌}
+use Rattle.hd_model.specs.{Scene.fields_at, Heap.object_at}
 use Rattle.hd_heap.proofs.heap.Heap.names_below.Given as goal
 
 abbrev pub invariant-loop-i : goal.invariant-loop-i

@@ -1,8 +1,4 @@
-use Rattle.std.proofs.Common.{◌+◌, ap, Option, None, arith}
-use Rattle.std.proofs.lemmas.List.{length-replicate}
-use Rattle.hd_model.specs.declared.data.Addr.{Addr}
-use Rattle.hd_model.specs.Heap.{Heap}
-use Rattle.hd_heap.specs.Calls.{new_object}
+use Rattle.hd_heap.proofs.Basics.{Addr, Heap, None, Option, ap, arith, length-replicate, new_object, ◌+◌}
 use Rattle.hd_heap.proofs.HeapValues.{made}
 use Rattle.hd_heap.proofs.heap.Heap.new_object.Goals as goal
 

@@ -1,7 +1,5 @@
-use Rattle.std.proofs.Common.{◌+◌, ◌/◌, refl, arith}
-use Rattle.hd_heap.proofs.RegionReads.{opened, place_read}
-use Rattle.hd_heap.proofs.HeapSoundness.{sound}
-use Rattle.hd_heap.proofs.RegionWalk.{wanted_place, wants_low, given_some, given_none}
+use Rattle.hd_heap.proofs.Basics.{arith, refl, ◌+◌, ◌/◌}
+use Rattle.hd_heap.proofs.{RegionReads.opened, RegionReads.place_read, HeapSoundness.sound, RegionWalk.wanted_place, RegionWalk.wants_low, RegionWalk.given_some, RegionWalk.given_none}
 use Rattle.hd_heap.proofs.heap.Heap.next_in_region.Goals as goal
 
 pub returns-then-at-lt-REGION : goal.returns-then-at-lt-REGION

@@ -1,26 +1,21 @@
-use Rattle.std.proofs.Common.{◌≡◌, ℕ, ◌+◌, ◌*◌, set, sym, ap, arith, deque_capacity}
-use Rattle.std.proofs.lemmas.List.{length-replicate}
-use Rattle.hd_cells.specs.Object.{size_of, new_object as new_region_object}
-use Rattle.hd_model.specs.Heap.{Region, region_of, region_at, region_generation}
-use Rattle.hd_heap.specs.Calls.{with_put, new_object}
-use Rattle.hd_heap.proofs.RegionReads.{opened, held_index, held_read, IsHeap}
-use Rattle.hd_heap.proofs.RegionChanges.{object_put, place_free, new_placed}
-use Rattle.hd_heap.proofs.HeapSoundness.{cells_small, objects_small}
-use Rattle.hd_heap.proofs.heap.Heap.put.Goals as goal
+use Rattle.hd_heap.proofs.Basics.{Region, ap, arith, deque_capacity, length-replicate, new_object, region_at, region_generation, set, size_of, sym, ℕ, ◌*◌, ◌+◌, ◌≡◌}
+use Rattle.hd_cells.specs.Object.{new_object as new_region_object}
+use Rattle.hd_model.specs.Heap.{region_of}
+use Rattle.hd_heap.specs.Calls.{with_put}
+use Rattle.hd_heap.proofs.{RegionReads.opened, RegionReads.held_index, RegionReads.held_read, RegionReads.IsHeap, RegionChanges.object_put, RegionChanges.place_free, RegionChanges.new_placed, HeapSoundness.cells_small, HeapSoundness.objects_small}
 use Rattle.hd_heap.proofs.heap.Heap.put.Goals.{After-put-offset}
+use Rattle.hd_heap.proofs.heap.Heap.put.Goals as goal
 
 pub index_mut-requires : goal.index_mut-requires
 index_mut-requires c =
-    omega (
-      arith,
-      (held_index (opened c.self.inside c.self.view_is c.self.invariant) c.args.region c.requires.held
-          c.place_of.result c.place_of.ensures).1,
-    )
+    let i = held_index (opened c.self.inside c.self.view_is c.self.invariant) c.requires.held
+    c.place_of.ensures in
+    omega (arith, i.1)
 
 pub put-offset-requires : goal.put-offset-requires
 put-offset-requires c =
-    let at = held_read (opened c.self.inside c.self.view_is c.self.invariant) c.args.region c.requires.held
-    c.place_of.result c.place_of.ensures c.index_mut.result.now c.index_mut.ensures.value in
+    let at = held_read (opened c.self.inside c.self.view_is c.self.invariant) c.requires.held
+    c.place_of.ensures c.index_mut.ensures.value in
     record {
       area = at.area;
       held = at.held;
@@ -42,9 +37,8 @@ overflow_add-self-3 c =
 pub address_in-requires : goal.address_in-requires
 address_in-requires c =
     let heap = opened c.self.inside c.self.view_is c.self.invariant in
-    let index = held_index heap c.args.region c.requires.held c.place_of.result c.place_of.ensures in
-    let at = held_read heap c.args.region c.requires.held c.place_of.result c.place_of.ensures
-    c.index_mut.result.now c.index_mut.ensures.value in
+    let index = held_index heap c.requires.held c.place_of.ensures in
+    let at = held_read heap c.requires.held c.place_of.ensures c.index_mut.ensures.value in
     let fill = ap (λ (x : Region). x.fill) at.region in
     record {
       region = omega (arith, c.place_of.ensures, index.0, index.1, heap.kept.few);
@@ -59,8 +53,7 @@ put : (c : After-put-offset) → IsHeap (set c.self.inside.areas.items c.place_o
     (new_object c.args.id c.args.fields c.args.registered))
 put c =
     let heap = opened c.self.inside c.self.view_is c.self.invariant in
-    let at = held_read heap c.args.region c.requires.held c.place_of.result c.place_of.ensures
-    c.index_mut.result.now c.index_mut.ensures.value in
+    let at = held_read heap c.requires.held c.place_of.ensures c.index_mut.ensures.value in
     let o = new_region_object c.args.id.0 c.args.fields c.args.registered in
     let size : c.args.fields + 3 ≡ size_of o =
     ap (λ n. n + 3) (sym (length-replicate c.args.fields (let z : ℕ = 0 in z))) in
@@ -76,8 +69,7 @@ pub returns : goal.returns
 unfolding region_of
 returns c =
     let heap = opened c.self.inside c.self.view_is c.self.invariant in
-    let at = held_read heap c.args.region c.requires.held c.place_of.result c.place_of.ensures
-    c.index_mut.result.now c.index_mut.ensures.value in
+    let at = held_read heap c.requires.held c.place_of.ensures c.index_mut.ensures.value in
     let fill = ap (λ (x : Region). x.fill) at.region in
     let offset = c.put-offset.ensures.offset in
     let place : c.address_in.result.0 ≡ c.args.region * 256 + (region_at c.args.self.now c.args.region).fill =

@@ -1,5 +1,4 @@
-use Rattle.hd_heap.proofs.RegionReads.{opened}
-use Rattle.hd_heap.proofs.HeapSoundness.{sound}
+use Rattle.hd_heap.proofs.{RegionReads.opened, HeapSoundness.sound}
 use Rattle.hd_heap.proofs.heap.Heap.regions.Goals as goal
 
 pub returns-clause-sound : goal.returns-clause-sound

@@ -1,4 +1,4 @@
-use Rattle.std.proofs.Common.{◌∙◌}
+use Rattle.hd_heap.proofs.Basics.{◌∙◌}
 use Rattle.hd_heap.proofs.RegionGiveUp.{released}
 use Rattle.hd_heap.proofs.heap.Heap.release.Goals as goal
 

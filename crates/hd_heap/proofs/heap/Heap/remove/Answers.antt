@@ -1,45 +1,37 @@
-use Rattle.std.proofs.Common.{sym, subst, refl, arith}
-use Rattle.hd_model.specs.Heap.{Heap}
-use Rattle.hd_heap.specs.Calls.{IsRemoved}
-use Rattle.hd_heap.proofs.RegionReads.{opened, index_of, found_read}
-use Rattle.hd_heap.proofs.RegionChanges.{object_removed, removed_cards, counted}
+use Rattle.hd_heap.proofs.Basics.{Heap, IsRemoved, arith, refl, subst, sym}
+use Rattle.hd_heap.proofs.{RegionReads.opened, RegionReads.index_of, RegionReads.found_read, RegionChanges.object_removed, RegionChanges.removed_cards, RegionChanges.counted}
 use Rattle.hd_heap.proofs.heap.Heap.remove.Goals as goal
 
 pub index_mut-requires : goal.index_mut-requires
 index_mut-requires c =
-    omega (
-      arith,
-      index_of (opened c.self.inside c.self.view_is c.self.invariant) c.args.at c.requires
-          c.place_of.result c.place_of.ensures,
-    )
+    let i = index_of (opened c.self.inside c.self.view_is c.self.invariant) c.args.at c.requires
+    c.place_of.ensures in
+    omega (arith, i)
 
 pub remove-cells-requires : goal.remove-cells-requires
 remove-cells-requires c =
     let f = found_read (opened c.self.inside c.self.view_is c.self.invariant) c.args.at c.requires
-    c.place_of.result c.place_of.ensures c.index_mut.result.now c.index_mut.ensures.value in
+    c.place_of.ensures c.index_mut.ensures.value in
     rw c.offset_of.ensures (record { area = f.located.area; object = f.object })
 
 pub overflow_sub-self : goal.overflow_sub-self
 overflow_sub-self c =
     let heap = opened c.self.inside c.self.view_is c.self.invariant in
-    let f = found_read heap c.args.at c.requires c.place_of.result c.place_of.ensures
-    c.index_mut.result.now c.index_mut.ensures.value in
+    let f = found_read heap c.args.at c.requires c.place_of.ensures c.index_mut.ensures.value in
     (counted heap c.args.at c.remove-cells.new.self c.remove-cells.result f
     (rw c.offset_of.ensures at c.remove-cells.ensures.taken)).0
 
 pub overflow_sub-self-2 : goal.overflow_sub-self-2
 overflow_sub-self-2 c =
     let heap = opened c.self.inside c.self.view_is c.self.invariant in
-    let f = found_read heap c.args.at c.requires c.place_of.result c.place_of.ensures
-    c.index_mut.result.now c.index_mut.ensures.value in
+    let f = found_read heap c.args.at c.requires c.place_of.ensures c.index_mut.ensures.value in
     (counted heap c.args.at c.remove-cells.new.self c.remove-cells.result f
     (rw c.offset_of.ensures at c.remove-cells.ensures.taken)).1
 
 pub invariant_of-self : goal.invariant_of-self
 invariant_of-self c =
     let heap = opened c.self.inside c.self.view_is c.self.invariant in
-    let f = found_read heap c.args.at c.requires c.place_of.result c.place_of.ensures
-    c.index_mut.result.now c.index_mut.ensures.value in
+    let f = found_read heap c.args.at c.requires c.place_of.ensures c.index_mut.ensures.value in
     let is = object_removed heap c.args.at c.remove-cells.new.self c.remove-cells.result f
     c.remove-cells.ensures.area (rw c.offset_of.ensures at c.remove-cells.ensures.taken) in
     (is.kept, is.full)
@@ -47,8 +39,7 @@ invariant_of-self c =
 pub returns : goal.returns
 returns c =
     let heap = opened c.self.inside c.self.view_is c.self.invariant in
-    let f = found_read heap c.args.at c.requires c.place_of.result c.place_of.ensures
-    c.index_mut.result.now c.index_mut.ensures.value in
+    let f = found_read heap c.args.at c.requires c.place_of.ensures c.index_mut.ensures.value in
     let taken = rw c.offset_of.ensures at c.remove-cells.ensures.taken in
     let is = object_removed heap c.args.at c.remove-cells.new.self c.remove-cells.result f
     c.remove-cells.ensures.area taken in

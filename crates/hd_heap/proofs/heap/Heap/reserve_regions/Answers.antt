@@ -1,5 +1,4 @@
-use Rattle.std.proofs.Common.{ap, length, ◌∙◌, length-append, [], ◌∷◌, arith}
-use Rattle.hd_model.specs.Heap.{Heap}
+use Rattle.hd_heap.proofs.Basics.{Heap, [], ap, arith, length, length-append, ◌∙◌, ◌∷◌}
 use Rattle.hd_heap.proofs.RegionReserve.{same_length, one_longer}
 use Rattle.hd_heap.proofs.heap.Heap.reserve_regions.Goals as goal
 

@@ -1,4 +1,4 @@
-use Rattle.std.proofs.Common.{◌-◌, length}
+use Rattle.hd_heap.proofs.Basics.{length, ◌-◌}
 use Rattle.hd_heap.proofs.RegionReserve.{IsLonger}
 use Rattle.hd_heap.proofs.heap.Heap.reserve_regions.Given as goal
 

@@ -1,28 +1,20 @@
-use Rattle.std.proofs.Common.{◌≡◌, ◌≢◌, ◌%◌, true, set, sym, ap, ◌∙◌, arith, deque_capacity}
-use Rattle.hd_cells.specs.Region.{object_at}
-use Rattle.hd_model.specs.Heap.{placed_at}
-use Rattle.hd_heap.specs.Areas.{contents}
-use Rattle.hd_heap.specs.Calls.{with_object, forwarded}
-use Rattle.hd_heap.specs.Forwarding.{region_forwarded}
-use Rattle.hd_heap.proofs.RegionReads.{opened, index_of, found_read, object_of, IsHeap}
-use Rattle.hd_heap.proofs.RegionWrites.{object_written}
-use Rattle.hd_heap.proofs.FieldForward.{field_of, forwarded_placed}
-use Rattle.hd_heap.proofs.heap.Heap.rewrite_fields.Goals as goal
+use Rattle.hd_heap.proofs.Basics.{ap, arith, contents, deque_capacity, forwarded, object_at, placed_at, region_forwarded, set, sym, true, ◌%◌, ◌∙◌, ◌≡◌, ◌≢◌}
+use Rattle.hd_heap.specs.Calls.{with_object}
+use Rattle.hd_heap.proofs.{RegionReads.opened, RegionReads.index_of, RegionReads.found_read, RegionReads.object_of, RegionReads.IsHeap, RegionWrites.object_written, FieldForward.field_of, FieldForward.forwarded_placed}
 use Rattle.hd_heap.proofs.heap.Heap.rewrite_fields.Given.{Over}
 use Rattle.hd_heap.proofs.heap.Heap.rewrite_fields.Goals.{After-forward_fields}
+use Rattle.hd_heap.proofs.heap.Heap.rewrite_fields.Goals as goal
 
 pub index_mut-requires : goal.index_mut-requires
-index_mut-requires g c = omega (
-  arith,
-  index_of (opened c.self.inside c.self.view_is c.self.invariant) c.args.at c.requires.object
-      c.place_of.result
-      c.place_of.ensures,
-)
+index_mut-requires g c =
+    let i = index_of (opened c.self.inside c.self.view_is c.self.invariant) c.args.at c.requires.object
+    c.place_of.ensures in
+    omega (arith, i)
 
 pub forward_fields-requires : goal.forward_fields-requires
 forward_fields-requires g c =
     let f = found_read (opened c.self.inside c.self.view_is c.self.invariant) c.args.at c.requires.object
-    c.place_of.result c.place_of.ensures c.index_mut.result.now c.index_mut.ensures.value in
+    c.place_of.ensures c.index_mut.ensures.value in
     rw c.offset_of.ensures (record {
       area = f.located.area;
       object = f.object;
@@ -42,8 +34,7 @@ written : (g : Over) → (c : After-forward_fields g)
 written g c =
     let heap = opened c.self.inside c.self.view_is c.self.invariant in
     let place = g.F.Forward.place c.args.forward.now in
-    let f = found_read heap c.args.at c.requires.object c.place_of.result c.place_of.ensures
-    c.index_mut.result.now c.index_mut.ensures.value in
+    let f = found_read heap c.args.at c.requires.object c.place_of.ensures c.index_mut.ensures.value in
     let old = object_at (contents c.index_mut.result.now) (c.args.at.0 % 256) in
     let some =
     field_of (λ y. (place y).0 ≢ 0) c.args.self.now c.args.at old.fields (object_of c.args.at f).fields

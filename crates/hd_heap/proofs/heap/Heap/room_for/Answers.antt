@@ -1,9 +1,5 @@
-use Rattle.std.proofs.Common.{◌∙◌, sym, subst}
-use Rattle.hd_model.specs.Heap.{Heap}
-use Rattle.hd_heap.specs.Calls.{AreFull}
-use Rattle.hd_heap.specs.Steps.{IsRoom, AreOthersFull}
-use Rattle.hd_heap.proofs.HeapValues.{room_was, room_made}
-use Rattle.hd_heap.proofs.FullRegions.{others_begun}
+use Rattle.hd_heap.proofs.Basics.{AreFull, AreOthersFull, Heap, IsRoom, subst, sym, ◌∙◌}
+use Rattle.hd_heap.proofs.{HeapValues.room_was, HeapValues.room_made, FullRegions.others_begun}
 use Rattle.hd_heap.proofs.heap.Heap.room_for.Goals as goal
 
 pub returns-in-Some-clause-ok : goal.returns-in-Some-clause-ok

@@ -1,27 +1,22 @@
-use Rattle.std.proofs.Common.{arith}
-use Rattle.hd_heap.proofs.RegionReads.{opened, index_of, found_read}
-use Rattle.hd_heap.proofs.RegionChanges.{card_changed}
+use Rattle.hd_heap.proofs.Basics.{arith}
+use Rattle.hd_heap.proofs.{RegionReads.opened, RegionReads.index_of, RegionReads.found_read, RegionChanges.card_changed}
 use Rattle.hd_heap.proofs.heap.Heap.set_card.Goals as goal
 
 pub index_mut-requires : goal.index_mut-requires
 index_mut-requires c =
-    omega (
-      arith,
-      index_of (opened c.self.inside c.self.view_is c.self.invariant) c.args.at c.requires
-          c.place_of.result c.place_of.ensures,
-    )
+    let i = index_of (opened c.self.inside c.self.view_is c.self.invariant) c.args.at c.requires
+    c.place_of.ensures in
+    omega (arith, i)
 
 pub invariant_of-self : goal.invariant_of-self
 invariant_of-self c =
     let heap = opened c.self.inside c.self.view_is c.self.invariant in
-    let f = found_read heap c.args.at c.requires c.place_of.result c.place_of.ensures
-    c.index_mut.result.now c.index_mut.ensures.value in
+    let f = found_read heap c.args.at c.requires c.place_of.ensures c.index_mut.ensures.value in
     let is = card_changed heap c.args.at c.args.on f in
     rw c.offset_of.ensures (is.kept, is.full)
 
 pub returns : goal.returns
 returns c =
     let heap = opened c.self.inside c.self.view_is c.self.invariant in
-    let f = found_read heap c.args.at c.requires c.place_of.result c.place_of.ensures
-    c.index_mut.result.now c.index_mut.ensures.value in
+    let f = found_read heap c.args.at c.requires c.place_of.ensures c.index_mut.ensures.value in
     rw c.offset_of.ensures (card_changed heap c.args.at c.args.on f).view

@@ -1,21 +1,17 @@
-use Rattle.std.proofs.Common.{arith}
-use Rattle.hd_heap.proofs.RegionReads.{opened, held_index, held_read}
-use Rattle.hd_heap.proofs.RegionChanges.{generation_changed}
+use Rattle.hd_heap.proofs.Basics.{arith}
+use Rattle.hd_heap.proofs.{RegionReads.opened, RegionReads.held_index, RegionReads.held_read, RegionChanges.generation_changed}
 use Rattle.hd_heap.proofs.heap.Heap.set_generation.Goals as goal
 
 pub index_mut-requires : goal.index_mut-requires
 index_mut-requires c =
-    omega (
-      arith,
-      (held_index (opened c.self.inside c.self.view_is c.self.invariant) c.args.region c.requires.held
-          c.place_of.result c.place_of.ensures).1,
-    )
+    let i = held_index (opened c.self.inside c.self.view_is c.self.invariant) c.requires.held
+    c.place_of.ensures in
+    omega (arith, i.1)
 
 pub invariant_of-self : goal.invariant_of-self
 invariant_of-self c =
     let heap = opened c.self.inside c.self.view_is c.self.invariant in
-    let at = held_read heap c.args.region c.requires.held c.place_of.result c.place_of.ensures
-    c.index_mut.result.now c.index_mut.ensures.value in
+    let at = held_read heap c.requires.held c.place_of.ensures c.index_mut.ensures.value in
     let is =
     generation_changed heap c.args.generation c.still_current-self-inside.result at c.requires.generation
     c.still_current-self-inside.ensures in
@@ -24,7 +20,6 @@ invariant_of-self c =
 pub returns : goal.returns
 returns c =
     let heap = opened c.self.inside c.self.view_is c.self.invariant in
-    let at = held_read heap c.args.region c.requires.held c.place_of.result c.place_of.ensures
-    c.index_mut.result.now c.index_mut.ensures.value in
+    let at = held_read heap c.requires.held c.place_of.ensures c.index_mut.ensures.value in
     (generation_changed heap c.args.generation c.still_current-self-inside.result at c.requires.generation
     c.still_current-self-inside.ensures).view

@@ -1,5 +1,4 @@
-use Rattle.std.proofs.Common.{◌≡◌, true, sym, subst}
-use Rattle.hd_model.specs.Heap.{Heap, has_object}
+use Rattle.hd_heap.proofs.Basics.{Heap, has_object, subst, sym, true, ◌≡◌}
 use Rattle.hd_heap.proofs.HeapValues.{has_with_object}
 use Rattle.hd_heap.proofs.heap.Heap.store.Goals as goal
 

@@ -1,9 +1,5 @@
-use Rattle.std.proofs.Common.{◌≡◌, ◌∙◌, true, sym, subst, Option}
-use Rattle.std.specs.Prelude.{IfSome}
-use Rattle.hd_model.specs.declared.data.Addr.{Addr}
-use Rattle.hd_model.specs.Heap.{has_object}
-use Rattle.hd_heap.proofs.RegionReads.{opened}
-use Rattle.hd_heap.proofs.RegionChanges.{address_stored}
+use Rattle.hd_heap.proofs.Basics.{Addr, IfSome, Option, has_object, subst, sym, true, ◌∙◌, ◌≡◌}
+use Rattle.hd_heap.proofs.{RegionReads.opened, RegionChanges.address_stored}
 use Rattle.hd_heap.proofs.heap.Heap.stored.Goals as goal
 
 pub returns-in-Some : goal.returns-in-Some

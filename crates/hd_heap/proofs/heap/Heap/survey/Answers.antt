@@ -1,14 +1,7 @@
-use Rattle.std.proofs.Common.{◌+◌, ◌*◌, refl, sym, ap, subst, arith}
-use Rattle.hd_model.specs.Heap.{Region}
-use Rattle.hd_heap.specs.declared.area.Wanted.TheVariants.{Condemned}
-use Rattle.hd_heap.specs.declared.survey.Survey.{Survey}
-use Rattle.hd_heap.specs.Steps.{IsSurveying}
-use Rattle.hd_heap.proofs.RegionReads.{opened, place_read, located_by, IsPlace}
-use Rattle.hd_heap.proofs.RegionWalk.{wanted_place}
-use Rattle.hd_heap.proofs.HeapSoundness.{sound}
-use Rattle.hd_heap.proofs.ObjectSurvey.{survey_starts, survey_skips, survey_ends, header_none}
-use Rattle.hd_heap.proofs.heap.Heap.survey.Goals as goal
+use Rattle.hd_heap.proofs.Basics.{Condemned, IsSurveying, Region, Survey, ap, arith, refl, subst, sym, ◌*◌, ◌+◌}
+use Rattle.hd_heap.proofs.{RegionReads.opened, RegionReads.place_read, RegionReads.located_by, RegionReads.IsPlace, RegionWalk.wanted_place, HeapSoundness.sound, ObjectSurvey.survey_starts, ObjectSurvey.survey_skips, ObjectSurvey.survey_ends, ObjectSurvey.header_none}
 use Rattle.hd_heap.proofs.heap.Heap.survey.Goals.{After-index, then-is_condemned+in_ok-survey_region, else-is_condemned}
+use Rattle.hd_heap.proofs.heap.Heap.survey.Goals as goal
 
 pub loop-place-init : goal.loop-place-init
 loop-place-init c = survey_starts _ (sound (opened c.self.inside c.self.view_is c.self.invariant))

@@ -1,5 +1,4 @@
-use Rattle.std.proofs.Common.{◌+◌, ◌*◌}
-use Rattle.hd_heap.specs.Steps.{IsSurveying}
+use Rattle.hd_heap.proofs.Basics.{IsSurveying, ◌*◌, ◌+◌}
 use Rattle.hd_heap.proofs.heap.Heap.survey.Given as goal
 
 abbrev pub invariant-loop-place : goal.invariant-loop-place

@@ -1,30 +1,18 @@
-use Rattle.std.proofs.Common.{◌≡◌, ℕ, ◌+◌, ◌≤◌, false, Some, None, inl, inr, refl, sym, ap, ◌∙◌, subst, arith}
-use Rattle.std.specs.Prelude.{Result, Ok, Err, OnOk, is_err}
-use Rattle.hd_cells.specs.Headers.{IsHeader}
-use Rattle.hd_cells.specs.Region.{Contents, IsFirstFrom}
-use Rattle.hd_model.specs.Heap.{Region}
-use Rattle.hd_heap.specs.declared.area.Wanted.TheVariants.{Condemned}
-use Rattle.hd_heap.specs.Areas.{contents}
-use Rattle.hd_heap.specs.Steps.{wants}
-use Rattle.hd_heap.proofs.RegionReads.{opened, held_index, held_read, IsHeldAt}
-use Rattle.hd_heap.proofs.HeapSoundness.{sound}
-use Rattle.hd_heap.proofs.ObjectSurvey.{header_next, header_none, walking_starts, walking_next, walking_ends}
-use Rattle.hd_heap.proofs.WantedObjects.{unwanted, object_below}
-use Rattle.hd_heap.proofs.heap.Heap.survey_region.Goals as goal
+use Rattle.hd_heap.proofs.Basics.{Condemned, Contents, Err, IsFirstFrom, IsHeader, None, Ok, OnOk, Region, Result, Some, ap, arith, contents, false, inl, inr, is_err, refl, subst, sym, wants, ℕ, ◌+◌, ◌∙◌, ◌≡◌, ◌≤◌}
+use Rattle.hd_heap.proofs.{RegionReads.opened, RegionReads.held_index, RegionReads.held_read, RegionReads.IsHeldAt, HeapSoundness.sound, WantedObjects.unwanted, WantedObjects.object_below, ObjectSurvey.header_next, ObjectSurvey.header_none, ObjectSurvey.walking_starts, ObjectSurvey.walking_next, ObjectSurvey.walking_ends}
 use Rattle.hd_heap.proofs.heap.Heap.survey_region.Goals.{After-index, In-Some, In_default}
+use Rattle.hd_heap.proofs.heap.Heap.survey_region.Goals as goal
 
 pub index-requires : goal.index-requires
-index-requires c = omega (
-  arith,
-  (held_index (opened c.self.inside c.self.view_is c.self.invariant) c.args.region c.requires.held
-      c.place_of.result
-      c.place_of.ensures).1,
-)
+index-requires c =
+    let i = held_index (opened c.self.inside c.self.view_is c.self.invariant) c.requires.held
+    c.place_of.ensures in
+    omega (arith, i.1)
 
 located : (c : After-index)
     → IsHeldAt c.self.inside.areas.items c.args.self.now c.args.region c.place_of.result c.index.result.now
-located c = held_read (opened c.self.inside c.self.view_is c.self.invariant) c.args.region c.requires.held
-    c.place_of.result c.place_of.ensures c.index.result.now c.index.ensures
+located c = held_read (opened c.self.inside c.self.view_is c.self.invariant) c.requires.held
+    c.place_of.ensures c.index.ensures
 
 pub loop-header-init : goal.loop-header-init
 loop-header-init c = walking_starts _ c.requires.so_far c.reserve.ensures.items refl

@@ -1,4 +1,4 @@
-use Rattle.std.proofs.Common.{◌-◌}
+use Rattle.hd_heap.proofs.Basics.{◌-◌}
 use Rattle.hd_heap.proofs.ObjectSurvey.{IsWalking}
 use Rattle.hd_heap.proofs.heap.Heap.survey_region.Given as goal
 

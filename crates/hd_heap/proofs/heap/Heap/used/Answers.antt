@@ -1,5 +1,4 @@
-use Rattle.hd_heap.proofs.RegionReads.{opened, used_is}
-use Rattle.hd_heap.proofs.HeapSoundness.{sound}
+use Rattle.hd_heap.proofs.{RegionReads.opened, RegionReads.used_is, HeapSoundness.sound}
 use Rattle.hd_heap.proofs.heap.Heap.used.Goals as goal
 
 pub returns : goal.returns

@@ -1,7 +1,4 @@
-use Rattle.std.proofs.Common.{Option, sym, subst}
-use Rattle.hd_model.specs.declared.data.Addr.{Addr}
-use Rattle.hd_heap.specs.Calls.{IsWalk}
-use Rattle.hd_heap.specs.Steps.{is_wanted}
+use Rattle.hd_heap.proofs.Basics.{Addr, IsWalk, Option, is_wanted, subst, sym}
 use Rattle.hd_heap.proofs.RegionWalk.{walk_from, wanted_high}
 use Rattle.hd_heap.proofs.heap.Heap.walk.Goals as goal
 

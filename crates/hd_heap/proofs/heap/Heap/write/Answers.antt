@@ -1,26 +1,19 @@
-use Rattle.std.proofs.Common.{◌%◌, set, sym, ap, ◌∙◌, subst, arith, deque_capacity}
-use Rattle.hd_model.specs.Heap.{Placed, placed_at}
-use Rattle.hd_cells.specs.Region.{object_at}
-use Rattle.hd_heap.specs.Areas.{contents}
+use Rattle.hd_heap.proofs.Basics.{HasPart, Placed, ap, arith, contents, deque_capacity, object_at, placed_at, region_with_part, set, subst, sym, with_part, ◌%◌, ◌∙◌}
 use Rattle.hd_heap.specs.Calls.{with_object}
-use Rattle.hd_heap.specs.Steps.{HasPart, with_part, region_with_part}
-use Rattle.hd_heap.proofs.RegionReads.{opened, index_of, found_read, IsHeap}
-use Rattle.hd_heap.proofs.RegionWrites.{object_written, part_placed, part_within}
-use Rattle.hd_heap.proofs.heap.Heap.write.Goals as goal
+use Rattle.hd_heap.proofs.{RegionReads.opened, RegionReads.index_of, RegionReads.found_read, RegionReads.IsHeap, RegionWrites.object_written, RegionWrites.part_placed, RegionWrites.part_within}
 use Rattle.hd_heap.proofs.heap.Heap.write.Goals.{After-write}
+use Rattle.hd_heap.proofs.heap.Heap.write.Goals as goal
 
 pub index_mut-requires : goal.index_mut-requires
 index_mut-requires c =
-    omega (
-      arith,
-      index_of (opened c.self.inside c.self.view_is c.self.invariant) c.args.at c.requires.object
-          c.place_of.result c.place_of.ensures,
-    )
+    let i = index_of (opened c.self.inside c.self.view_is c.self.invariant) c.args.at c.requires.object
+    c.place_of.ensures in
+    omega (arith, i)
 
 pub write-requires : goal.write-requires
 write-requires c =
     let f = found_read (opened c.self.inside c.self.view_is c.self.invariant) c.args.at c.requires.object
-    c.place_of.result c.place_of.ensures c.index_mut.result.now c.index_mut.ensures.value in
+    c.place_of.ensures c.index_mut.ensures.value in
     rw c.offset_of.ensures (record {
       area = f.located.area;
       object = f.object;
@@ -34,8 +27,7 @@ written : (c : After-write) → IsHeap (set c.self.inside.areas.items c.place_of
     (with_object c.args.self.now c.args.at (with_part (placed_at c.args.self.now c.args.at) c.args.part))
 written c =
     let heap = opened c.self.inside c.self.view_is c.self.invariant in
-    let f = found_read heap c.args.at c.requires.object c.place_of.result c.place_of.ensures
-    c.index_mut.result.now c.index_mut.ensures.value in
+    let f = found_read heap c.args.at c.requires.object c.place_of.ensures c.index_mut.ensures.value in
     let old = object_at (contents c.index_mut.result.now) (c.args.at.0 % 256) in
     object_written heap c.args.at c.write.new.self (region_with_part old c.args.part) _
     (part_placed old c.args.part ∙ ap (λ p. with_part p c.args.part) (sym f.placed)) f c.write.ensures.area

@@ -1,4 +1,4 @@
-use Rattle.std.proofs.Common.{ℕ, ap, arith}
+use Rattle.hd_plan.proofs.Basics.{ap, arith, ℕ}
 use Rattle.hd_plan.proofs.RoomSteps.{cursor_bounds}
 use Rattle.hd_plan.proofs.cursors.AllocCursors.put.Goals as goal
 

@@ -1,8 +1,4 @@
-use Rattle.std.proofs.Common.{◌≡◌, ℕ, true, sym, subst}
-use Rattle.hd_model.specs.Counting.{Counts}
-use Rattle.hd_model.specs.Scene.{IsCondemned}
-use Rattle.hd_model.specs.Heap.{objects_of}
-use Rattle.hd_plan.specs.Plan.{PlanOf, IsLaid, kept_in}
+use Rattle.hd_plan.proofs.Basics.{Counts, IsCondemned, IsLaid, PlanOf, kept_in, objects_of, subst, sym, true, ℕ, ◌≡◌}
 use Rattle.hd_plan.proofs.LaidPlan.{few_moves, kept_counted}
 use Rattle.hd_plan.proofs.plan.Plan.kept.Goals as goal
 

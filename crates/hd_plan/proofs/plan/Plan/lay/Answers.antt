@@ -1,19 +1,8 @@
-use Rattle.std.proofs.Common.{◌≡◌, ◌<◌, ◌≤◌, true, List, sym, ap, ◌∙◌, subst, length, vec_capacity, arith}
-use Rattle.hd_model.specs.declared.data.Addr.{Addr}
-use Rattle.hd_model.specs.Counting.{Counts}
-use Rattle.hd_model.specs.Leads.{IsClosed}
-use Rattle.hd_model.specs.Marking.{IsSettled}
-use Rattle.hd_model.specs.Scene.{IsField, IsCondemned}
-use Rattle.hd_model.specs.Heap.{Heap, Basis, objects_of, region_of}
-use Rattle.hd_heap.specs.declared.survey.CondemnedObject.{CondemnedObject}
-use Rattle.hd_heap.specs.Calls.{HasCondemned, AreSurveyed, is_condemned}
-use Rattle.hd_plan.specs.Layout.{move_at}
-use Rattle.hd_plan.specs.LaySteps.{HasRegionRoom}
-use Rattle.hd_plan.specs.Plan.{PlanOf, HasNoEmptyCondemned, stays_in}
+use Rattle.hd_plan.proofs.Basics.{Addr, AreSurveyed, Basis, CondemnedObject, Counts, HasCondemned, HasNoEmptyCondemned, HasRegionRoom, Heap, IsClosed, IsCondemned, IsField, IsSettled, List, PlanOf, ap, arith, is_condemned, length, move_at, objects_of, region_of, stays_in, subst, sym, true, vec_capacity, ◌<◌, ◌∙◌, ◌≡◌, ◌≤◌}
 use Rattle.hd_plan.proofs.LaidPlan.{IsLaidFrom, from_heap, laid_from, kept_from, pinned_from, stays_from, region_room}
-use Rattle.hd_plan.proofs.plan.Plan.lay.Goals as goal
 use Rattle.hd_plan.proofs.plan.Plan.lay.Goals.{After-list_moves}
 use Rattle.hd_plan.proofs.plan.Plan.lay.Given.{Over}
+use Rattle.hd_plan.proofs.plan.Plan.lay.Goals as goal
 
 pub lay_moves-requires-clause-survey : goal.lay_moves-requires-clause-survey
 lay_moves-requires-clause-survey g c =

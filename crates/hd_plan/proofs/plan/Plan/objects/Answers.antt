@@ -1,8 +1,4 @@
-use Rattle.std.proofs.Common.{List, sym, ap, subst}
-use Rattle.hd_model.specs.Heap.{Basis}
-use Rattle.hd_heap.specs.declared.survey.CondemnedObject.{CondemnedObject}
-use Rattle.hd_heap.specs.Calls.{AreSurveyed}
-use Rattle.hd_plan.specs.Plan.{PlanOf}
+use Rattle.hd_plan.proofs.Basics.{AreSurveyed, Basis, CondemnedObject, List, PlanOf, ap, subst, sym}
 use Rattle.hd_plan.proofs.plan.Plan.objects.Goals as goal
 
 pub returns : goal.returns

@@ -1,11 +1,7 @@
-use Rattle.std.proofs.Common.{◌≡◌, ◌-◌, ◌^◌, ◌<◌, true, false, sym, ap, ◌∙◌, subst, length, arith}
-use Rattle.hd_model.specs.Counting.{Counts}
-use Rattle.hd_model.specs.Scene.{is_object}
-use Rattle.hd_model.specs.Heap.{objects_of}
-use Rattle.hd_plan.specs.Plan.{PlanOf, IsLaid, kept_in}
+use Rattle.hd_plan.proofs.Basics.{Counts, IsLaid, PlanOf, ap, arith, false, is_object, kept_in, length, objects_of, subst, sym, true, ◌-◌, ◌<◌, ◌^◌, ◌∙◌, ◌≡◌}
 use Rattle.hd_plan.proofs.LaidPlan.{few_moves, removed_counted}
-use Rattle.hd_plan.proofs.plan.Plan.removed.Goals as goal
 use Rattle.hd_plan.proofs.plan.Plan.removed.Goals.{After-len}
+use Rattle.hd_plan.proofs.plan.Plan.removed.Goals as goal
 
 few : (c : After-len) → length c.self.inside.moves.items < 2 ^ 32
 few c =

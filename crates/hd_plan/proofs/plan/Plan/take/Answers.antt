@@ -1,9 +1,6 @@
-use Rattle.std.proofs.Common.{sym, subst, arith}
+use Rattle.hd_plan.proofs.Basics.{Heap, IsExtent, arith, subst, sym}
 use Rattle.std.proofs.lemmas.Result.{err_from_is_err_and}
-use Rattle.hd_model.specs.Heap.{Heap}
-use Rattle.hd_plan.specs.LaySteps.{IsExtent}
-use Rattle.hd_plan.proofs.SurveyCount.{extent_spare}
-use Rattle.hd_plan.proofs.FreeRegionCount.{spares_at_most, spares_as_before}
+use Rattle.hd_plan.proofs.{SurveyCount.extent_spare, FreeRegionCount.spares_at_most, FreeRegionCount.spares_as_before}
 use Rattle.hd_plan.proofs.plan.Plan.take.Goals as goal
 
 pub with_room-requires-clause-found : goal.with_room-requires-clause-found

@@ -1,5 +1,4 @@
-use Rattle.std.proofs.Common.{◌≡◌, true, sym, ap, ◌∙◌, subst, vec_capacity}
-use Rattle.hd_plan.specs.Plan.{PlanOf, IsLaid, kept_in, place_in}
+use Rattle.hd_plan.proofs.Basics.{IsLaid, PlanOf, ap, kept_in, place_in, subst, sym, true, vec_capacity, ◌∙◌, ◌≡◌}
 use Rattle.hd_plan.proofs.LaidPlan.{place_found}
 use Rattle.hd_plan.proofs.plan.PlanForward.moved.Goals as goal
 
