@@ -7,14 +7,13 @@ use Rattle.hd_model.specs.declared.data.Addr.{Addr}
 use Rattle.hd_model.specs.declared.data.Kind.{Kind}
 use Rattle.hd_model.specs.declared.data.Kind.TheVariants as kind
 use Rattle.hd_model.specs.State.{secondary, Handle}
-use Rattle.hd_model.specs.Role.{attaches, role_of, role}
+use Rattle.hd_model.specs.Role.{role_of, role}
 use Rattle.hd_model.specs.Scene.{Objects}
 use Rattle.hd_model.specs.Marking.{IsSettled}
 use Rattle.hd_model.specs.Ages.{is_due, HasSoundAges}
 use Rattle.hd_model.specs.Collect.{is_attaching, is_lost}
 use Rattle.hd_model.specs.Counting.{Counts}
 use Rattle.hd_model.specs.Table.{Table, row_at, fits}
-use Rattle.hd_model.proofs.KindExtras.{attaching_kind}
 use Rattle.hd_model.proofs.PropertyCounts.{counts_like}
 use Rattle.hd_model.proofs.IdleCollection.{kept_target}
 use Rattle.hd_model.proofs.MarkReach.{undue_target}
@@ -22,6 +21,7 @@ use Rattle.hd_ages.specs.declared.due_rows.DueRows.{DueRows}
 use Rattle.hd_ages.specs.Rows.{IsDueRow}
 use Rattle.hd_seg.specs.Rewriting.{Rewrites}
 use Rattle.hd_ages.proofs.WalkWrites.{IsChanging}
+use Rattle.hd_dep.proofs.DueHandles.{attaches_by, due_handle}
 use Rattle.hd_dep.specs.Clearing.{detached, IsDetached, IsAllDetached, IsDetachedAt, IsLostAt}
 
 module _ {N : Type 0} (p : N → Bool) (h : Handle N) where
@@ -56,9 +56,6 @@ detached_written p h slot old new dependent lost written =
 pub dependent_fits : (k : Kind) → k ≡ kind.Dependent → fits {N = Addr} k (secondary None) ≡ true
 dependent_fits k dependent = ap (λ (k : Kind). fits {N = Addr} k (secondary None)) dependent
 
-pub attaches_by : {N : Type 0} (h : Handle N) → h.kind ≡ kind.Dependent → role h ≡ attaches
-attaches_by h e = ap (λ k. role_of k h.extra) e
-
 module _ (t : Table) (ages : List ℕ) (n : ℕ) (p : Addr → Bool) where
   abbrev pub detach : ℕ → Handle Addr → Handle Addr
   detach slot = detached (is_due ages n slot) p
@@ -70,12 +67,7 @@ module _ (t : Table) (ages : List ℕ) (n : ℕ) (p : Addr → Bool) where
   -- it is to visit all that it clears, and what it is not to visit stays as it is
   pub detached_due : (slot : ℕ) → IsDetachedAt (row_at t) ages n p slot
       → IsDueRow t ages n kind.Dependent slot
-  detached_due slot r = record {
-    handle = r.handle;
-    is_stored = r.is_stored;
-    of_kind = attaching_kind r.handle.kind r.handle.extra (ap is_attaching r.attaches);
-    due = r.due;
-  }
+  detached_due slot r = due_handle r.is_stored (ap is_attaching r.attaches) r.due
 
   pub undue_kept : (slot : ℕ) (h : Handle Addr) → row_at t slot ≡ Some h
       → (IsDueRow t ages n kind.Dependent slot → ⊥) → detach slot h ≡ h
@@ -83,12 +75,7 @@ module _ (t : Table) (ages : List ℕ) (n : ℕ) (p : Addr → Bool) where
       detached_kept p h (is_due ages n slot)
       (⊎_elim
       (λ attaching. ⊎_elim
-      (λ due. absurd (undue (record {
-        handle = h;
-        is_stored = is_stored;
-        of_kind = attaching_kind h.kind h.extra attaching;
-        due = due;
-      })))
+      (λ due. absurd (undue (due_handle is_stored attaching due)))
       (λ not_due. and_right (is_attaching (role h)) (is_due ages n slot && is_lost p h.target)
       (and_left (is_due ages n slot) (is_lost p h.target) not_due))
       (cases_Bool (is_due ages n slot)))

@@ -1,11 +1,9 @@
 -- How many passes a rescan makes, and that what is promoted after the last is closed.
-use Rattle.std.proofs.Common.{◌≡◌, ◌≢◌, ◌&&◌, ℕ, ◌+◌, ◌*◌, ◌<◌, ◌≤◌, not, Bool, true, false, cond, List, [], ◌∷◌, length, Option, Some, None, is_some, refl, sym, ap, ◌∙◌, subst, arith, ⊎_elim}
-use Rattle.std.specs.Prelude.{Contains, filter, MatchBool, IsSome, option_map}
+use Rattle.std.proofs.Common.{◌≡◌, ◌≢◌, ℕ, ◌+◌, ◌*◌, ◌<◌, ◌≤◌, not, Bool, true, false, cond, List, ◌∷◌, length, Option, Some, None, is_some, refl, sym, ap, ◌∙◌, subst, arith, ⊎_elim}
+use Rattle.std.specs.Prelude.{AllPairs, Contains, filter, MatchBool, IsSome, option_map}
 use Rattle.std.specs.FinMap.{get, len}
-use Rattle.std.proofs.lemmas.Bool.{both_ways, cases_Bool, cases_lt, and_from, and_parts, not_from_true, not_from_false, not-true, true≢false}
+use Rattle.std.proofs.lemmas.Bool.{both_ways, cases_Bool, cases_lt, not_from_false, not-true, true≢false}
 use Rattle.hd_model.specs.declared.data.Addr.{Addr}
-use Rattle.hd_model.specs.State.{Handle}
-use Rattle.hd_model.specs.Role.{attaches, role}
 use Rattle.hd_model.specs.Counting.{Counts}
 use Rattle.hd_model.specs.Leads.{IsClosed, IsClosure}
 use Rattle.hd_model.specs.Marking.{IsSettled}
@@ -13,53 +11,12 @@ use Rattle.hd_model.specs.Heap.{Heap, Placed, object_at, object_in, region_of, r
 use Rattle.hd_model.specs.Reach.{IsAttached, IsEdge}
 use Rattle.hd_model.specs.Scene.{Objects, Rows, is_object, generation_at, IsField}
 use Rattle.hd_model.specs.Ages.{is_due, HasSoundAges}
-use Rattle.hd_model.proofs.Members.{not_in_none, member_cases, pairs_passing, passing_from, passing_in}
+use Rattle.std.proofs.lemmas.List.Filters.{length-filter_both}
+use Rattle.hd_model.proofs.Members.{member_cases, pairs_cons, pairs_passing, passing_from, passing_in}
+use Rattle.hd_model.proofs.PropertyCounts.{fewer}
 use Rattle.hd_model.proofs.Entries.{counts_keys}
 use Rattle.hd_model.proofs.MarkReach.{undue_secondary}
-use Rattle.hd_dep.specs.Rescan.{RescanSteps, Spreads, Gained, IsFollowed, IsSpread}
-
--- ---- lists by two tests
-
-module _ {A : Type 0} (f g : A → Bool) (within : (x : A) → f x ≡ true → g x ≡ true) where
-  -- one that passes the second test where it passes the first
-  both_tests : (x : A) (xs ys : List A) → length xs ≤ length ys → (a b : Bool) → (a ≡ true → b ≡ true)
-      → length (cond a (x ∷ xs) xs) ≤ length (cond b (x ∷ ys) ys)
-  both_tests x xs ys le true true h = omega arith
-  both_tests x xs ys le true false h = absurd (true≢false (sym (h refl)))
-  both_tests x xs ys le false true h = omega arith
-  both_tests x xs ys le false false h = le
-
-  pub no_fewer : (xs : List A) → length (filter f xs) ≤ length (filter g xs)
-  no_fewer [] = omega arith
-  no_fewer (x ∷ xs) = both_tests x (filter f xs) (filter g xs) (no_fewer xs) (f x) (g x) (within x)
-
-  -- the second test has more, where one passes it alone
-  here_more : (x : A) (xs ys : List A) → length xs ≤ length ys → (a b : Bool) → a ≡ false → b ≡ true
-      → length (cond a (x ∷ xs) xs) < length (cond b (x ∷ ys) ys)
-  here_more x xs ys le a b e d =
-      let l : length (cond a (x ∷ xs) xs) ≡ length xs = ap (λ t. length (cond t (x ∷ xs) xs)) e in
-      let r : length (cond b (x ∷ ys) ys) ≡ length ys + 1 =
-      ap (λ t. length (cond t (x ∷ ys) ys)) d
-      ∙ (let s : length (x ∷ ys) ≡ length ys + 1 = omega arith in s) in
-      omega (arith, l, r)
-
-  later_more : (x : A) (xs ys : List A) → length xs < length ys → (a b : Bool) → (a ≡ true → b ≡ true)
-      → length (cond a (x ∷ xs) xs) < length (cond b (x ∷ ys) ys)
-  later_more x xs ys lt true true h = omega arith
-  later_more x xs ys lt true false h = absurd (true≢false (sym (h refl)))
-  later_more x xs ys lt false true h = omega arith
-  later_more x xs ys lt false false h = lt
-
-  pub more_by_one : (xs : List A) (y : A) → Contains xs y → f y ≡ false → g y ≡ true
-      → length (filter f xs) < length (filter g xs)
-  more_by_one [] y inside fails passes = absurd (not_in_none y inside)
-  more_by_one (x ∷ xs) y inside fails passes =
-      ⊎_elim
-      (λ e. here_more x (filter f xs) (filter g xs) (no_fewer xs) (f x) (g x) (ap f e ∙ fails)
-      (ap g e ∙ passes))
-      (λ later. later_more x (filter f xs) (filter g xs) (more_by_one xs y later fails passes) (f x) (g x)
-      (within x))
-      (member_cases x xs y inside)
+use Rattle.hd_dep.specs.Rescan.{OfVisited, RescanSteps, Spreads, Gained, IsFollowed, IsSpread}
 
 -- ---- the objects of a heap, in a list
 
@@ -80,50 +37,41 @@ listed h x e = (keys_of h).all x (sym (some_object (region_generation h (region_
 
 -- ---- the passes
 
-abbrev pub is_new : (Addr → Bool) → (Addr → Bool) → Addr → Bool
-is_new p0 p x = p x && not (p0 x)
-
--- how many objects are promoted that were not, and how many are not promoted
-abbrev pub new_in : Heap → (p0 p : Addr → Bool) → ℕ
-new_in h p0 p = length (filter (is_new p0 p) (addresses h))
-
+-- how many objects are not promoted
 abbrev pub left_in : Heap → (Addr → Bool) → ℕ
 left_in h p = length (filter (λ x. not (p x)) (addresses h))
 
-module _ (h : Heap) (n : ℕ) (p0 p q : Addr → Bool) (settled : IsSettled (object_at h) n q)
-    (before : (x : Addr) → p0 x ≡ true → p x ≡ true)
-    (keeps : (x : Addr) → p x ≡ true → q x ≡ true) (gained : Gained p q) where
-  -- a pass that promoted something
-  gained_listed : Contains (addresses h) gained.member
-  gained_listed = listed h gained.member (settled.objects gained.member gained.new)
+not_promoted : (p q : Addr → Bool) (x : Addr) → (p x ≡ true → q x ≡ true) → not (q x) ≡ true
+    → not (p x) ≡ true
+not_promoted p q x keeps out =
+    not_from_false (p x)
+    (⊎_elim (λ is. absurd (both_ways (q x) (not-true (q x) out) (keeps is))) (λ isnt. isnt)
+    (cases_Bool (p x)))
 
-  pub more_new : new_in h p0 p < new_in h p0 q
-  more_new =
-      more_by_one (is_new p0 p) (is_new p0 q)
-      (λ x e. let parts = and_parts (p x) (not (p0 x)) e in and_from (q x) (not (p0 x))
-      (keeps x parts.0) parts.1)
-      (addresses h) gained.member gained_listed
-      (ap (λ b. b && not (p0 gained.member)) gained.old)
-      (and_from (q gained.member) (not (p0 gained.member)) gained.new
-      (not_from_false (p0 gained.member)
-      (⊎_elim (λ was. absurd (both_ways (p gained.member) gained.old (before gained.member was)))
-      (λ wasnt. wasnt)
-      (cases_Bool (p0 gained.member)))))
-
-  pub fewer_left : left_in h q < left_in h p
-  fewer_left =
-      more_by_one (λ x. not (q x)) (λ x. not (p x))
-      (λ x e. not_from_false (p x)
-      (⊎_elim (λ is. absurd (both_ways (q x) (not-true (q x) e) (keeps x is))) (λ isnt. isnt)
-      (cases_Bool (p x))))
-      (addresses h) gained.member gained_listed (not_from_true (q gained.member) gained.new)
-      (not_from_false (p gained.member) gained.old)
+-- a pass that promoted something leaves fewer
+fewer_left : (h : Heap) (n : ℕ) (p q : Addr → Bool) → IsSettled (object_at h) n q
+    → ((x : Addr) → p x ≡ true → q x ≡ true) → Gained p q → left_in h q < left_in h p
+fewer_left h n p q settled keeps gained =
+    let all : List Addr = addresses h in
+    let few = fewer (gained.member ∷ filter (λ x. not (q x)) all) (filter (λ x. not (p x)) all)
+    (pairs_cons (λ x y. x ≢ y) gained.member (filter (λ x. not (q x)) all)
+    (λ y inside same. both_ways (q y) (not-true (q y) (passing_from (λ x. not (q x)) all y inside).1)
+    (ap q (sym same) ∙ gained.new))
+    (pairs_passing (λ x. not (q x)) (λ x y. x ≢ y) all (keys_of h).apart))
+    (λ x inside. ⊎_elim
+    (λ same. passing_in (λ x. not (p x)) all x
+    (listed h x (settled.objects x (ap q (sym same) ∙ gained.new)))
+    (not_from_false (p x) (ap p (sym same) ∙ gained.old)))
+    (λ later. let (there, out) = passing_from (λ x. not (q x)) all x later in
+    passing_in (λ x. not (p x)) all x there (not_promoted p q x (keeps x) out))
+    (member_cases gained.member (filter (λ x. not (q x)) all) x inside)) in
+    omega (arith, few)
 
 -- some number of passes was made, and each went over `visits` clumps
 pub record HasPassed (h : Heap) (visits : ℕ) (p0 p : Addr → Bool) (old new : ℕ) (more : Bool) : Type 0 where
   pub passes : ℕ
   pub steps_are : new ≡ old + passes * visits
-  pub most : passes ≤ new_in h p0 p + cond more 0 1
+  pub most : passes + left_in h p ≤ left_in h p0 + cond more 0 1
   pub least : more ≡ false → 1 ≤ passes
 
 pub none_passed : (h : Heap) (visits : ℕ) (p0 : Addr → Bool) (old : ℕ) → HasPassed h visits p0 p0 old old true
@@ -134,72 +82,73 @@ none_passed h visits p0 old = record {
   least = λ e. absurd (true≢false e);
 }
 
-module _ (h : Heap) (n visits : ℕ) (p0 p q : Addr → Bool) (old mid new : ℕ)
-    (settled : IsSettled (object_at h) n q)
-    (before : (x : Addr) → p0 x ≡ true → p x ≡ true) (keeps : (x : Addr) → p x ≡ true → q x ≡ true) where
-  one_pass : (k : ℕ) → mid ≡ old + k * visits → new ≡ mid + visits → new ≡ old + (k + 1) * visits
-  one_pass k was is = grind arith
+-- each pass but the last leaves less
+pub passes_fall : (h : Heap) (n : ℕ) (p q : Addr → Bool) → IsSettled (object_at h) n q
+    → ((x : Addr) → p x ≡ true → q x ≡ true) → (more : Bool) → MatchBool more (Gained p q) (q ≡ p)
+    → left_in h q + cond more 1 0 < left_in h p + 1
+passes_fall h n p q settled keeps true gained =
+    let l = fewer_left h n p q settled keeps gained in omega arith
+passes_fall h n p q settled keeps false same = let l = ap (left_in h) same in omega arith
 
-  pub passed_more : (more : Bool) → HasPassed h visits p0 p old mid true → new ≡ mid + visits
-      → MatchBool more (Gained p q) (q ≡ p) → HasPassed h visits p0 q old new more
-  passed_more true was is gained = record {
-    passes = was.passes + 1;
-    steps_are = one_pass was.passes was.steps_are is;
-    most = let m = was.most in let l = more_new h n p0 p q settled before keeps gained in omega arith;
-    least = λ e. absurd (true≢false e);
-  }
-  passed_more false was is same = record {
-    passes = was.passes + 1;
-    steps_are = one_pass was.passes was.steps_are is;
-    most = let m = was.most in let l = ap (new_in h p0) same in omega arith;
-    least = λ e. omega arith;
-  }
+pub passed_more : (h : Heap) (visits : ℕ) (p0 p q : Addr → Bool) (old mid new : ℕ) (more : Bool)
+    → left_in h q + cond more 1 0 < left_in h p + 1 → HasPassed h visits p0 p old mid true
+    → new ≡ mid + visits → HasPassed h visits p0 q old new more
+passed_more h visits p0 p q old mid new more falls was is = record {
+  passes = was.passes + 1;
+  steps_are = one_pass was.passes was.steps_are;
+  most = by more was.most falls;
+  least = λ e. omega arith;
+}
+  where
+    one_pass : (k : ℕ) → mid ≡ old + k * visits → new ≡ old + (k + 1) * visits
+    one_pass k was = grind arith
 
-  -- each pass but the last leaves less
-  pub passes_fall : (more : Bool) → MatchBool more (Gained p q) (q ≡ p)
-      → left_in h q + cond more 1 0 < left_in h p + 1
-  passes_fall true gained = let l = fewer_left h n p0 p q settled before keeps gained in omega arith
-  passes_fall false same = let l = ap (left_in h) same in omega arith
+    by : (b : Bool) → was.passes + left_in h p ≤ left_in h p0 + 0
+        → left_in h q + cond b 1 0 < left_in h p + 1
+        → was.passes + 1 + left_in h q ≤ left_in h p0 + cond b 0 1
+    by true most falls = omega arith
+    by false most falls = omega arith
 
 -- the steps of all passes, once nothing more is to be promoted
 pub rescan_steps : (h : Heap) (n visits : ℕ) (p0 p : Addr → Bool) (old new : ℕ) → IsSettled (object_at h) n p
     → HasPassed h visits p0 p old new false → RescanSteps visits p0 p old new
-rescan_steps h n visits p0 p old new settled passed = record {
-  promoted = new_in h p0 p;
-  counts = record {
-    members = filter (is_new p0 p) (addresses h);
-    apart = pairs_passing (is_new p0 p) (λ x y. x ≢ y) (addresses h) (keys_of h).apart;
-    each = λ x e. let parts = and_parts (p x) (not (p0 x)) (passing_from (is_new p0 p) (addresses h) x e).1 in
-        (parts.0, not-true (p0 x) parts.1);
-    all = λ x e. passing_in (is_new p0 p) (addresses h) x (listed h x (settled.objects x e.0))
-        (and_from (p x) (not (p0 x)) e.0 (not_from_false (p0 x) e.1));
-    number = refl;
-  };
-  passes = passed.passes;
-  least = passed.least refl;
-  most = let m = passed.most in omega arith;
-  steps_are = passed.steps_are;
-}
-
--- one pass is a rescan's where nothing is left to be promoted
-pub one_pass_steps : (h : Heap) (n visits : ℕ) (p0 p : Addr → Bool) (old new : ℕ)
-    → IsSettled (object_at h) n p → new ≡ old + visits → RescanSteps visits p0 p old new
-one_pass_steps h n visits p0 p old new settled is =
-    rescan_steps h n visits p0 p old new settled
-    (record {
-      passes = 1;
-      steps_are = omega (arith, is);
-      most = omega arith;
-      least = λ e. omega arith;
-    })
+rescan_steps h n visits p0 p old new settled passed =
+    let out : List Addr = filter (λ x. not (p0 x)) (addresses h) in
+    let apart : AllPairs (λ x y. x ≢ y) out =
+    pairs_passing (λ x. not (p0 x)) (λ x y. x ≢ y) (addresses h) (keys_of h).apart in
+    record {
+      promoted = length (filter p out);
+      counts = record {
+        members = filter p out;
+        apart = pairs_passing p (λ x y. x ≢ y) out apart;
+        each = λ x e. let (there, is) = passing_from p out x e in
+            (is, not-true (p0 x) (passing_from (λ x. not (p0 x)) (addresses h) x there).1);
+        all = λ x e. passing_in p out x
+            (passing_in (λ x. not (p0 x)) (addresses h) x (listed h x (settled.objects x e.0))
+            (not_from_false (p0 x) e.1)) e.0;
+        number = refl;
+      };
+      passes = passed.passes;
+      least = passed.least refl;
+      most = omega (
+        arith,
+        passed.most,
+        length-filter_both p (λ x. not (p x)) (λ x. refl) out,
+        fewer (filter (λ x. not (p x)) out) (filter (λ x. not (p x)) (addresses h))
+            (pairs_passing (λ x. not (p x)) (λ x y. x ≢ y) out apart)
+            (λ x e. let (there, is) = passing_from (λ x. not (p x)) out x e in
+            passing_in (λ x. not (p x)) (addresses h) x
+            (passing_from (λ x. not (p0 x)) (addresses h) x there).0 is),
+      );
+      steps_are = passed.steps_are;
+    }
 
 -- ---- the closure
 
 module _ (o : Objects Addr) (n : ℕ) (rows : Rows Addr) (ages : List ℕ) (p0 p : Addr → Bool)
     (settled0 : IsSettled o n p0) (settled : IsSettled o n p) (fields : IsClosed (IsField o) p0)
     (sound : HasSoundAges o rows ages) (spreads : Spreads (IsEdge o rows) p0 p)
-    (followed : (slot : ℕ) (h : Handle Addr) → rows slot ≡ Some h → role h ≡ attaches
-    → is_due ages n slot ≡ true → IsFollowed h p) where
+    (followed : OfVisited rows ages n (λ h. IsFollowed h p)) where
   field_closed : (x y : Addr) → p x ≡ true → IsField o x y → p y ≡ true
   field_closed x y promoted field =
       ⊎_elim (λ old. spreads.keeps y (fields x y (settled0.older x old) field))
@@ -209,8 +158,8 @@ module _ (o : Objects Addr) (n : ℕ) (rows : Rows Addr) (ages : List ℕ) (p0 p
 
   attached_closed : (x y : Addr) → p x ≡ true → IsAttached rows x y → p y ≡ true
   attached_closed x y promoted a =
-      ⊎_elim (λ due. (followed a.slot a.handle a.is_stored a.attaches due).follows x y a.target a.secondary
-      promoted)
+      ⊎_elim (λ due. (followed a.slot a.handle a.is_stored a.attaches due).follows x y
+      (record { target = a.target; secondary = a.secondary }) promoted)
       (λ undue. settled.older y
       (undue_secondary o n rows ages sound a.slot a.handle a.is_stored undue y a.secondary))
       (cases_Bool (is_due ages n a.slot))
@@ -231,8 +180,7 @@ module _ (rows : Rows Addr) (ages : List ℕ) (n : ℕ) (p q : Addr → Bool) wh
   gained_or_same false found = found.same
 
   pub followed_after : (more : Bool) → MatchBool more (Gained p q) (IsSpread rows ages n p q) → more ≡ false
-      → (slot : ℕ) (h : Handle Addr) → rows slot ≡ Some h → role h ≡ attaches → is_due ages n slot ≡ true
-      → IsFollowed h q
-  followed_after true found e slot h is_stored role_is due = absurd (true≢false e)
-  followed_after false found e slot h is_stored role_is due =
-      subst (IsFollowed h) (sym found.same) (found.followed slot h is_stored role_is due)
+      → OfVisited rows ages n (λ h. IsFollowed h q)
+  followed_after true found e = absurd (true≢false e)
+  followed_after false found e =
+      subst (λ f. OfVisited rows ages n (λ h. IsFollowed h f)) (sym found.same) found.followed

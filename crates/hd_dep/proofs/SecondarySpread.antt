@@ -1,31 +1,27 @@
 -- One pass of a rescan: what it promotes, and when there is nothing to promote.
 use Rattle.std.proofs.Common.{◌≡◌, ◌&&◌, ◌||◌, ℕ, ◌+◌, not, Bool, true, false, List, length, Option, Some, refl, sym, ap, ◌∙◌, subst, ⊎_elim, inl, inr}
-use Rattle.std.specs.Prelude.{Contains, MatchBool, IsSome, option_map}
+use Rattle.std.specs.Prelude.{MatchBool, IsSome, option_map}
 use Rattle.std.specs.FinMap.{get}
-use Rattle.std.proofs.lemmas.Bool.{cases_eq, and_parts, not-true}
+use Rattle.std.proofs.lemmas.Bool.{and_parts, not-true}
 use Rattle.hd_model.specs.declared.data.Addr.{Addr}
 use Rattle.hd_model.specs.declared.data.Kind.TheVariants as kind
 use Rattle.hd_model.specs.declared.data.Slot.{Slot}
-use Rattle.hd_model.specs.State.{Handle, secondary_of}
-use Rattle.hd_model.specs.Role.{attaches, role}
+use Rattle.hd_model.specs.State.{secondary_of}
 use Rattle.hd_model.specs.Leads.{Leads, Grows}
 use Rattle.hd_model.specs.Reach.{IsEdge}
 use Rattle.hd_model.specs.Scene.{Objects, IsYoungField}
-use Rattle.hd_model.specs.Ages.{is_due, due_clumps}
+use Rattle.hd_model.specs.Ages.{due_clumps}
 use Rattle.hd_model.specs.Table.{Table, IsTable, chain_of, live_at, row_at}
-use Rattle.hd_model.specs.Collect.{is_attaching}
-use Rattle.hd_model.proofs.KindExtras.{attaching_kind}
 use Rattle.hd_model.proofs.EdgeChains.{one_edge, leads_on}
 use Rattle.hd_ages.specs.declared.due_rows.DueRows.{DueRows}
 use Rattle.hd_ages.specs.Walk.{IsOn, Ends, Gives, due_slots, clumps_to_come, slots_to_come}
-use Rattle.hd_ages.specs.Rows.{IsDueRow}
-use Rattle.hd_ages.proofs.WalkProgress.{IsUnderway, begins, all_to_come, row_due, row_same, past_else, goes_on, all_past}
+use Rattle.hd_ages.proofs.WalkProgress.{IsUnderway, begins, goes_on}
 use Rattle.std.proofs.lemmas.Option.{same_Some}
 use Rattle.hd_seg.specs.Row.{extra_of, row_of}
 use Rattle.hd_seg.specs.declared.row.Row.{Row}
 use Rattle.hd_seg.proofs.RowRewrite.{extra_again, live_row}
-use Rattle.hd_dep.specs.Rescan.{Spreads, Gained, IsFollowed, IsSpreadRow, IsSpread}
-use Rattle.hd_dep.proofs.DependentClear.{attaches_by}
+use Rattle.hd_dep.specs.Rescan.{HasParts, Spreads, Gained, IsFollowed, IsSpreadRow, IsSpread}
+use Rattle.hd_dep.proofs.DueHandles.{attaches_by, OfPast, none_past, past_more, past_all}
 
 module _ {N : Type 0} (E : N → N → Type 0) where
   pub spreads_none : (p : N → Bool) → Spreads E p p
@@ -39,9 +35,6 @@ module _ {N : Type 0} (E : N → N → Type 0) where
         let (z, first) = a.only y rest.0 in
         (z, (first.0, leads_on E first.1 rest.1));
   }
-
-  pub gained_on : (p q r : N → Bool) → Gained p q → Spreads E q r → Gained p r
-  gained_on p q r g s = record { member = g.member; new = s.keeps g.member g.new; old = g.old }
 
 -- chains of some edges are chains of others, and sets that spread along them spread along the others
 module _ {N : Type 0} (E F : N → N → Type 0) (turn : (x y : N) → E x y → F x y) where
@@ -82,101 +75,67 @@ row_parts t slot r row read live is =
           (sym (extra_again (live_at t slot).extra) ∙ ap (λ (a : Row). extra_of a.extra) was_stored),
     )
 
+-- what is promoted for its target was not before
+pub gained_by : (E : Addr → Addr → Type 0) (x y : Addr) (p q : Addr → Bool) → (p x && not (p y)) ≡ true
+    → Grows E (λ z. z ≡ y) p q → Gained p q
+gained_by E x y p q out grows =
+    record { member = y; new = grows.joins y refl; old = not-true (p y) (and_parts (p x) (not (p y)) out).1 }
+
 module _ (o : Objects Addr) (n : ℕ) (t : Table) where
   pub young_edge : (x y : Addr) → IsYoungField o n x y → IsEdge o (row_at t) x y
   young_edge x y e = inl e.field
 
-  -- the secondary of a handle is promoted, whose target is
-  pub promoted_next : (slot : ℕ) (h : Handle Addr) (x y : Addr) (p q : Addr → Bool) → row_at t slot ≡ Some h
-      → h.kind ≡ kind.Dependent → h.target ≡ Some x → secondary_of h.extra ≡ Some y
-      → p x ≡ true → Grows (IsYoungField o n) (λ z. z ≡ y) p q → Spreads (IsEdge o (row_at t)) p q
-  promoted_next slot h x y p q is_stored dependent target secondary promoted =
+  -- the secondary of a live handle is promoted, whose target is
+  pub promoted_next : (slot : ℕ) (x y : Addr) (p q : Addr → Bool) → IsSome (get t.rows slot)
+      → (live_at t slot).kind ≡ kind.Dependent → HasParts (live_at t slot) x y → p x ≡ true
+      → Grows (IsYoungField o n) (λ z. z ≡ y) p q → Spreads (IsEdge o (row_at t)) p q
+  promoted_next slot x y p q live dependent parts promoted =
       grows_spread (IsYoungField o n) (IsEdge o (row_at t)) young_edge (λ z. z ≡ y) p q x promoted
       (λ z e. inr (record {
         slot = slot;
-        handle = h;
-        is_stored = is_stored;
-        attaches = attaches_by h dependent;
-        target = target;
-        secondary = secondary ∙ ap (λ a. Some a) (sym e);
+        handle = live_at t slot;
+        is_stored = live_row t slot live;
+        attaches = attaches_by (live_at t slot) dependent;
+        target = parts.target;
+        secondary = parts.secondary ∙ ap (λ a. Some a) (sym e);
       }))
 
-  pub promoted_beyond : (slot : ℕ) (h : Handle Addr) (x y : Addr) (p q : Addr → Bool) → row_at t slot ≡ Some h
-      → h.kind ≡ kind.Dependent → h.target ≡ Some x → secondary_of h.extra ≡ Some y
-      → (p x && not (p y)) ≡ true → Grows (IsYoungField o n) (λ z. z ≡ y) p q
-      → Spreads (IsEdge o (row_at t)) p q × Gained p q
-  promoted_beyond slot h x y p q is_stored dependent target secondary beyond grows =
-      let parts = and_parts (p x) (not (p y)) beyond in (
-        promoted_next slot h x y p q is_stored dependent target secondary parts.0 grows,
-        record { member = y; new = grows.joins y refl; old = not-true (p y) parts.1 },
-      )
-
   module _ (ages : List ℕ) (p0 : Addr → Bool) where
-    abbrev A : Addr → Addr → Type 0
-    A = IsEdge o (row_at t)
-
     -- nothing was promoted, and the handles that were visited needed nothing
     pub record IsQuiet (w : DueRows) (p : Addr → Bool) : Type 0 where
       pub same : p ≡ p0
-      pub followed : (slot : ℕ) (h : Handle Addr) → row_at t slot ≡ Some h → role h ≡ attaches
-          → is_due ages n slot ≡ true → (Contains (slots_to_come t ages w) slot → ⊥) → IsFollowed h p0
+      pub followed : OfPast t ages n w (λ h. IsFollowed h p0)
 
     -- along a pass
     pub record IsSpreading (w : DueRows) (before steps : ℕ) (p : Addr → Bool) (more : Bool) : Type 0 where
       pub under : IsUnderway t ages n kind.Dependent t w (before, steps)
-      pub spreads : Spreads A p0 p
+      pub spreads : Spreads (IsEdge o (row_at t)) p0 p
       pub found : MatchBool more (Gained p0 p) (IsQuiet w p)
 
 module _ {o : Objects Addr} {n : ℕ} {t : Table} {ages : List ℕ} {p0 : Addr → Bool} where
-  module _ (is : IsTable t) {w : DueRows} {before : ℕ} (on : IsOn t w)
-      (slots : slots_to_come t ages w ≡ due_slots t ages n kind.Dependent)
-      (clumps : clumps_to_come t ages w ≡ due_clumps ages n (chain_of t kind.Dependent)) where
-    pub spread_start : IsSpreading o n t ages p0 w before before p0 false
-    spread_start = record {
-      under = begins t ages n kind.Dependent is w slots before on clumps;
-      spreads = spreads_none (IsEdge o (row_at t)) p0;
-      found = record {
-        same = refl;
-        followed = λ slot h is_stored role_is due past.
-            absurd (past (all_to_come t ages n kind.Dependent is w slots slot (record {
-              handle = h;
-              is_stored = is_stored;
-              of_kind = attaching_kind h.kind h.extra (ap is_attaching role_is);
-              due = due;
-            })));
-      };
-    }
+  pub spread_start : IsTable t → {w : DueRows} {before : ℕ} → IsOn t w
+      → slots_to_come t ages w ≡ due_slots t ages n kind.Dependent
+      → clumps_to_come t ages w ≡ due_clumps ages n (chain_of t kind.Dependent)
+      → IsSpreading o n t ages p0 w before before p0 false
+  spread_start is {w} {before} on slots clumps = record {
+    under = begins t ages n kind.Dependent is w slots before on clumps;
+    spreads = spreads_none (IsEdge o (row_at t)) p0;
+    found = record { same = refl; followed = none_past t ages n w (λ h. IsFollowed h p0) is slots };
+  }
 
   module _ {old new : DueRows} {slot : Slot} {before steps : ℕ} {p q : Addr → Bool} {more : Bool}
       (s : IsSpreading o n t ages p0 old before steps p more) (gives : Gives t ages old new slot)
       (spreads : Spreads (IsEdge o (row_at t)) p q) where
-    due : IsDueRow t ages n kind.Dependent slot.0
-    due = row_due s.under gives
-
-    same : live_at t slot.0 ≡ due.handle
-    unfolding due
-    same = row_same s.under gives
-
-    quiet : IsQuiet o n t ages p0 old p → IsSpreadRow (live_at t slot.0) p q → IsQuiet o n t ages p0 new q
-    quiet a b = record {
-      same = b.same ∙ a.same;
-      followed = λ k h is_stored role_is is_due past.
-          ⊎_elim
-          (λ e. let here : live_at t slot.0 ≡ h =
-          same_Some (live_at t slot.0) h
-          (ap (λ g. Some g) same ∙ sym due.is_stored ∙ ap (row_at t) (sym e) ∙ is_stored) in
-          subst (λ g. IsFollowed g p0) here (subst (IsFollowed (live_at t slot.0)) a.same b.followed))
-          (λ ne. a.followed k h is_stored role_is is_due
-          (past_else s.under gives k ne past))
-          (cases_eq k slot.0);
-    }
-
     found : (m r : Bool) → MatchBool m (Gained p0 p) (IsQuiet o n t ages p0 old p)
         → MatchBool r (Gained p q) (IsSpreadRow (live_at t slot.0) p q)
         → MatchBool (m || r) (Gained p0 q) (IsQuiet o n t ages p0 new q)
-    found true r a b = gained_on (IsEdge o (row_at t)) p0 p q a spreads
+    found true r a b = record { member = a.member; new = spreads.keeps a.member a.new; old = a.old }
     found false true a b = subst (λ f. Gained f q) a.same b
-    found false false a b = quiet a b
+    found false false a b = record {
+      same = b.same ∙ a.same;
+      followed = past_more s.under a.followed gives (λ h. IsFollowed h p0) (λ h f. f)
+          (subst (IsFollowed (live_at t slot.0)) a.same b.followed);
+    }
 
     pub spread_row : {after : ℕ} (row_more : Bool) → IsOn t new
         → after + length (clumps_to_come t ages new) ≡ steps + length (clumps_to_come t ages old)
@@ -188,17 +147,12 @@ module _ {o : Objects Addr} {n : ℕ} {t : Table} {ages : List ℕ} {p0 : Addr �
       found = found more row_more s.found row;
     }
 
-  module _ {old new : DueRows} {before steps : ℕ} {p : Addr → Bool} {more : Bool}
-      (s : IsSpreading o n t ages p0 old before steps p more) (ends : Ends t ages old new) where
-    at_end : (m : Bool) → MatchBool m (Gained p0 p) (IsQuiet o n t ages p0 old p)
-        → MatchBool m (Gained p0 p) (IsSpread (row_at t) ages n p0 p)
-    at_end true a = a
-    at_end false a = record {
-      same = a.same;
-      followed = λ slot h is_stored role_is due.
-          a.followed slot h is_stored role_is due
-          (all_past s.under ends slot);
-    }
-
-    pub spread_end : MatchBool more (Gained p0 p) (IsSpread (row_at t) ages n p0 p)
-    spread_end = at_end more s.found
+  pub spread_end : {old new : DueRows} {before steps : ℕ} {p : Addr → Bool} {more : Bool}
+      → IsSpreading o n t ages p0 old before steps p more → Ends t ages old new
+      → MatchBool more (Gained p0 p) (IsSpread (row_at t) ages n p0 p)
+  spread_end {old} {new} {before} {steps} {p} {more} s ends = by more s.found
+    where
+      by : (m : Bool) → MatchBool m (Gained p0 p) (IsQuiet o n t ages p0 old p)
+          → MatchBool m (Gained p0 p) (IsSpread (row_at t) ages n p0 p)
+      by true a = a
+      by false a = record { same = a.same; followed = past_all s.under a.followed ends }

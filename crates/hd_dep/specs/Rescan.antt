@@ -28,9 +28,19 @@ pub record Gained {N : Type 0} (p q : N → Bool) : Type 0 where
   pub new : q member ≡ true
   pub old : p member ≡ false
 
+-- a handle with a target and a secondary
+pub record HasParts {N : Type 0} (h : Handle N) (x y : N) : Type 0 where
+  pub target : h.target ≡ Some x
+  pub secondary : secondary_of h.extra ≡ Some y
+
 -- where the target of a handle is promoted, its secondary is too
 pub record IsFollowed {N : Type 0} (h : Handle N) (p : N → Bool) : Type 0 where
-  pub follows : (x y : N) → h.target ≡ Some x → secondary_of h.extra ≡ Some y → p x ≡ true → p y ≡ true
+  pub follows : (x y : N) → HasParts h x y → p x ≡ true → p y ≡ true
+
+-- each dependent handle in a visited slot has a property
+abbrev pub OfVisited : {N : Type 0} → Rows N → List ℕ → ℕ → (Handle N → Type 0) → Type 0
+OfVisited rows ages n P = (slot : ℕ) (h : Handle _) → rows slot ≡ Some h → role h ≡ attaches
+    → is_due ages n slot ≡ true → P h
 
 -- nothing was promoted, and nothing was to be: by one handle, and by the dependent ones in visited slots
 pub record IsSpreadRow {N : Type 0} (h : Handle N) (p q : N → Bool) : Type 0 where
@@ -39,5 +49,4 @@ pub record IsSpreadRow {N : Type 0} (h : Handle N) (p q : N → Bool) : Type 0 w
 
 pub record IsSpread {N : Type 0} (rows : Rows N) (ages : List ℕ) (n : ℕ) (p q : N → Bool) : Type 0 where
   pub same : q ≡ p
-  pub followed : (slot : ℕ) (h : Handle N) → rows slot ≡ Some h → role h ≡ attaches
-      → is_due ages n slot ≡ true → IsFollowed h p
+  pub followed : OfVisited rows ages n (λ h. IsFollowed h p)

@@ -1,22 +1,20 @@
-ghost use Rattle.std.specs.Prelude.{◌≡◌, ◌+◌, ◌*◌, ◌&&◌, not, true, Some};
+ghost use Rattle.std.specs.Prelude.{◌≡◌, ◌+◌, ◌*◌, ◌&&◌, not, true};
 ghost use Rattle.std.specs.Prelude.{IsSome, IfSome, IfNone, MatchBool};
 ghost use Rattle.std.specs.FinMap.{get};
 ghost use Rattle.hd_model.specs.declared.data.Addr.{Addr};
 ghost use Rattle.hd_model.specs.declared.data.Kind.TheVariants as kind;
 ghost use Rattle.hd_model.specs.Heap.{objects_of};
 ghost use Rattle.hd_model.specs.Leads.{IsClosed, IsClosure};
-ghost use Rattle.hd_model.specs.State.{secondary_of};
 ghost use Rattle.hd_model.specs.Scene.{IsField, is_object};
 ghost use Rattle.hd_model.specs.Reach.{IsEdge};
 ghost use Rattle.hd_model.specs.Table.{live_at, row_at};
 ghost use Rattle.hd_model.specs.Names.{NamesObjects};
 ghost use Rattle.hd_model.specs.Visits.{MayVisit, MayVisitDue, visits_of};
-ghost use Rattle.hd_seg.specs.Row.{extra_of};
-ghost use Rattle.hd_dep.specs.Rescan.{RescanSteps, Spreads, Gained, IsSpread, IsSpreadRow};
+ghost use Rattle.hd_dep.specs.Rescan.{HasParts, RescanSteps, Spreads, Gained, IsSpread, IsSpreadRow};
 
 use hd_ages::{AgeMap, DueRows};
 use hd_model::{Addr, Kind, Marker, Slot, Steps};
-use hd_seg::{Extra, Row, Seg};
+use hd_seg::{Extra, Seg};
 use std::sync::ledger::Ledger;
 
 /// Promotes the secondary of each dependent handle whose target is promoted, and all that it leads
@@ -77,6 +75,7 @@ fn spread<M: Marker, L: Ledger>(
 
 /// Promotes the secondary of a dependent handle, if its target is promoted and it is not. Returns
 /// whether it did.
+#[tactic(auto, using(crate::proofs::SecondarySpread::gained_by))]
 fn spread_row<M: Marker>(seg: &Seg, slot: Slot, marker: &mut M) -> bool
     requires live { IsSome (get seg.now.rows slot.0) }
     requires of_kind { (live_at seg.now slot.0).kind ≡ kind.Dependent }
@@ -90,10 +89,7 @@ fn spread_row<M: Marker>(seg: &Seg, slot: Slot, marker: &mut M) -> bool
     ensures more { MatchBool result (Gained (M.promoted marker.old) (M.promoted marker.new))
         (IsSpreadRow (live_at seg.now slot.0) (M.promoted marker.old) (M.promoted marker.new)) }
 {
-    let Some(row) = seg.row(slot) else {
-        return false;
-    };
-    let Some((target, secondary)) = parts(row) else {
+    let Some((target, secondary)) = parts(seg, slot) else {
         return false;
     };
     if !is_left_out(target, secondary, marker) {
@@ -103,13 +99,13 @@ fn spread_row<M: Marker>(seg: &Seg, slot: Slot, marker: &mut M) -> bool
     true
 }
 
-/// The target and the secondary of a row that has both.
-pub(crate) fn parts(row: Row) -> Option<(Addr, Addr)>
-    ensures both { IfSome result (λ parts. (row.target ≡ Some parts.0)
-        × (secondary_of (extra_of row.extra) ≡ Some parts.1)) }
-    ensures none { IfNone result ((x y : Addr) → row.target ≡ Some x →
-        secondary_of (extra_of row.extra) ≡ Some y → ⊥) }
+/// The target and the secondary of a live handle that has both.
+pub(crate) fn parts(seg: &Seg, slot: Slot) -> Option<(Addr, Addr)>
+    requires { IsSome (get seg.now.rows slot.0) }
+    ensures both { IfSome result (λ parts. HasParts (live_at seg.now slot.0) parts.0 parts.1) }
+    ensures none { IfNone result ((x y : Addr) → HasParts (live_at seg.now slot.0) x y → ⊥) }
 {
+    let row = seg.row(slot)?;
     let target = row.target?;
     match row.extra {
         Extra::Secondary(Some(secondary)) => Some((target, secondary)),

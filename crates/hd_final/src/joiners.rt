@@ -61,24 +61,12 @@ fn find_among<M: Marker>(
 {
     joiners.clear();
     for object in objects {
-        if !is_listed_out(heap, marker, *object) {
+        if !is_out(heap, marker, object.at, object.registered) {
             continue;
         }
         let id = heap.id(object.at);
         joiners.push_reserved(Joiner { id, at: object.at });
     }
-}
-
-// Whether an object of a survey is registered and not promoted.
-fn is_listed_out<M: Marker>(_heap: &Heap, marker: &M, object: CondemnedObject) -> bool
-    requires settled { M.settled marker.now }
-    requires object { has_object _heap.now object.at ≡ true }
-    requires basis { (M.basis marker.now).heap ≡ _heap.now }
-    requires registered { object.registered ≡ (placed_at _heap.now object.at).registered }
-    ensures { result ≡ ((placed_at _heap.now object.at).registered
-        && not (M.promoted marker.now object.at)) }
-{
-    object.registered && !marker.promoted(object.at)
 }
 
 // Collects them by a walk over the condemned objects.
@@ -92,7 +80,7 @@ fn find_in_heap<M: Marker>(joiners: &mut Vec<Joiner>, heap: &Heap, marker: &M, n
     joiners.clear();
     let mut after = None;
     while let Some(at) = heap.next_condemned(after, n) {
-        if is_out(heap, marker, at) {
+        if is_out(heap, marker, at, heap.registered(at)) {
             let id = heap.id(at);
             joiners.push_reserved(Joiner { id, at });
         }
@@ -100,14 +88,15 @@ fn find_in_heap<M: Marker>(joiners: &mut Vec<Joiner>, heap: &Heap, marker: &M, n
     }
 }
 
-/// Whether an object is registered and not promoted.
-fn is_out<M: Marker>(heap: &Heap, marker: &M, at: Addr) -> bool
+// Whether an object is registered, as its header says, and not promoted.
+fn is_out<M: Marker>(_heap: &Heap, marker: &M, at: Addr, registered: bool) -> bool
     requires settled { M.settled marker.now }
-    requires object { has_object heap.now at ≡ true }
-    requires basis { (M.basis marker.now).heap ≡ heap.now }
-    ensures { result ≡ ((placed_at heap.now at).registered && not (M.promoted marker.now at)) }
+    requires object { has_object _heap.now at ≡ true }
+    requires basis { (M.basis marker.now).heap ≡ _heap.now }
+    requires registered { registered ≡ (placed_at _heap.now at).registered }
+    ensures { result ≡ ((placed_at _heap.now at).registered && not (M.promoted marker.now at)) }
 {
-    heap.registered(at) && !marker.promoted(at)
+    registered && !marker.promoted(at)
 }
 
 /// Puts them in the order of their identities.

@@ -98,38 +98,11 @@ impl Final {
             (M.promoted marker.old) (M.promoted marker.new) self.old.waiting self.new.waiting }
         ensures count { Counts (IsOut (object_at heap.now) n (M.promoted marker.old)) result }
     {
-        self.revive_from(heap, marker, n, None)
+        self.revive_among(heap, marker, n, None)
     }
 
-    /// The same from a survey of the heap.
+    /// The same from a survey of the heap, where there is one.
     pub fn revive_among<M: Marker>(
-        &mut self,
-        heap: &Heap,
-        marker: &mut M,
-        n: u8,
-        objects: &[CondemnedObject],
-    ) -> u32
-        requires survey { AreSurveyed heap.now n objects.now }
-        requires settled { M.settled marker.old }
-        requires basis { M.basis marker.old ≡ record { heap = heap.now; condemned = n } }
-        requires room { map.len heap.now.objects ≤ self.old.room }
-        requires objects { (a : Addr) → Contains self.old.waiting a → has_object heap.now a ≡ true }
-        requires promoted { (a : Addr) → Contains self.old.waiting a →
-            M.promoted marker.old a ≡ true }
-        requires identities { HasIdentities heap.now }
-        ensures settled { M.settled marker.new }
-        ensures basis { M.basis marker.new ≡ M.basis marker.old }
-        ensures pinned { M.pinned marker.new ≡ M.pinned marker.old }
-        ensures room { self.new.room ≡ self.old.room }
-        ensures resurrects { Resurrects (λ a. (id_at heap.now a).0) (object_at heap.now) n
-            (M.promoted marker.old) (M.promoted marker.new) self.old.waiting self.new.waiting }
-        ensures count { Counts (IsOut (object_at heap.now) n (M.promoted marker.old)) result }
-    {
-        self.revive_from(heap, marker, n, Some(objects))
-    }
-
-    // The same from a survey, where there is one.
-    fn revive_from<M: Marker>(
         &mut self,
         heap: &Heap,
         marker: &mut M,

@@ -58,10 +58,3 @@ task_more t u ages n tasks i d l same =
     sum_by_more (λ (task : Task). visits_of t ages n (task_kind task)) tasks i d l
     ∙ ap (λ v. task_visits t ages n (take i tasks) + v)
     (sym (visits_same t u ages n (task_kind (get_or tasks i d)) same))
-
-pub equal_table : {t u : Table} → u ≡ t → IsSameTable t u
-equal_table e = record {
-  chains = ap (λ (v : Table). v.chains) e;
-  uses = ap (λ (v : Table). v.uses) e;
-  blocks = ap (λ (v : Table). v.blocks) e;
-}

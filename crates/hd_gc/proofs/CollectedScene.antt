@@ -1,5 +1,5 @@
 -- The scene that a collection leaves, by address: what was left, at its new addresses.
-use Rattle.std.proofs.Common.{◌<◌, ◌≡◌, ℕ, ◌+◌, ◌*◌, ◌/◌, ◌≤◌, Bool, true, false, cond, ◌&&◌, Option, Some, None, is_some, length, drop, map, refl, sym, ap, ◌∙◌, subst, arith, le_trans}
+use Rattle.std.proofs.Common.{◌≡◌, ℕ, ◌+◌, ◌*◌, ◌/◌, ◌≤◌, Bool, true, false, cond, ◌&&◌, Option, Some, None, is_some, length, drop, map, refl, sym, ap, ◌∙◌, subst, arith, le_trans}
 use Rattle.std.specs.Prelude.{option_map}
 use Rattle.std.specs.FinMap.{get, len}
 use Rattle.std.proofs.lemmas.Bool.{cond-true, true≢false}
@@ -13,7 +13,7 @@ use Rattle.hd_model.specs.declared.data.Report.{Report}
 use Rattle.hd_model.specs.State.{Object, Handle, rename_object, rename_handle}
 use Rattle.hd_model.specs.Role.{holds, role}
 use Rattle.hd_model.specs.Counting.{Counts}
-use Rattle.hd_model.specs.Scene.{Scene, is_object, IsWhole, IsReading, IsCondemned, generation_at}
+use Rattle.hd_model.specs.Scene.{Scene, is_object, IsWhole, IsReading, IsCondemned}
 use Rattle.hd_model.specs.Reach.{IsPinned, held}
 use Rattle.hd_model.specs.Collect.{is_lost, loses_by, loses, is_attaching, survivor, cleared, left_by, Collects}
 use Rattle.hd_model.specs.Ages.{is_due, raised, HasSoundAges}
@@ -36,7 +36,7 @@ use Rattle.hd_plan.specs.Commit.{moved_object}
 use Rattle.hd_plan.specs.PackedRegions.{IsPacked}
 use Rattle.hd_gc.specs.declared.mark_and_clear.Found.{Found}
 use Rattle.hd_gc.specs.Ready.{Parts, scene_of, IsReady}
-use Rattle.hd_gc.specs.Steps.{MarkAndClearSteps, CollectSteps}
+use Rattle.hd_gc.specs.Steps.{collected_steps}
 use Rattle.hd_gc.specs.MarkAndClear.{MarkedAndCleared, Reports}
 use Rattle.hd_gc.specs.RelocateAll.{RelocatedAll}
 use Rattle.hd_gc.specs.Collected.{Collected, LeavesPacked}
@@ -94,7 +94,7 @@ module _ {A Z : Parts} {t2 : Table} {q2 : Queue} {n : ℕ} {plan : PlanOf} {foun
   T = scene_of Z
 
   abbrev Left : Scene Addr
-  Left = left_by n sf.sets.reach sf.sets.resurrected sf.sets.kept sf.sets.joins S
+  Left = left_by n sf.sets.decision S
 
   abbrev Place : Addr → Addr
   Place = place_in plan
@@ -169,8 +169,7 @@ module _ {A Z : Parts} {t2 : Table} {q2 : Queue} {n : ℕ} {plan : PlanOf} {foun
           (sym (undue_in_place (object_at A.heap) n (row_at t2) A.ages ages_after slot g e at Place
           sf.keeping.in_place))
 
-  pub moved :
-      IsReading Place (left_by n sf.sets.reach sf.sets.resurrected sf.sets.kept sf.sets.joins S) T
+  pub moved : IsReading Place (left_by n sf.sets.decision S) T
   moved = record {
     objects = object_moved;
     only = λ b e.
@@ -191,15 +190,12 @@ module _ {A Z : Parts} {t2 : Table} {q2 : Queue} {n : ℕ} {plan : PlanOf} {foun
   pub collects : (u v : Scene Id) → IsReading (id_at A.heap) S u → IsReading (id_at Z.heap) T v
       → Collects (λ (x : Id). x.0) n u v report
   collects u v fs gt =
-      moved_by_identity (id_at A.heap) (id_at Z.heap) n S T u v sf.sets.reach sf.sets.resurrected sf.sets.kept
-      sf.sets.joins report Place (len A.heap.objects) (counts_objects A.heap) ready.whole fs gt
-      (goes_by ready sf rp) moved
+      moved_by_identity (id_at A.heap) (id_at Z.heap) n S T u v sf.sets.decision report Place
+      (len A.heap.objects) (counts_objects A.heap) ready.whole fs gt (goes_by ready sf rp) moved
       (λ x kept. same_id x (sf.plan_kept x ∙ kept))
 
   whole_after : IsWhole T
-  whole_after =
-      moved_whole Rank n S T sf.sets.reach sf.sets.resurrected sf.sets.kept sf.sets.joins report Place
-      ready.whole (goes_by ready sf rp) moved
+  whole_after = moved_whole ready.whole (goes_by ready sf rp) moved
 
   identities_after : HasIdentities Z.heap
   identities_after a b p r at_a at_b same =
@@ -262,9 +258,7 @@ module _ {A Z : Parts} {t2 : Table} {q2 : Queue} {n : ℕ} {plan : PlanOf} {foun
     identities = identities_after;
     ages_sound =
         subst (λ a. HasSoundAges (object_at Z.heap) (row_at Z.table) a) (sym sh.aged)
-        (moved_ages Rank n S T sf.sets.reach sf.sets.resurrected sf.sets.kept sf.sets.joins report Place
-        ready.whole (goes_by ready sf rp) moved A.ages
-        ready.ages_sound);
+        (moved_ages ready.whole (goes_by ready sf rp) moved A.ages ready.ages_sound);
     cards_sound = λ x y field younger.
         (sh.commits.cards (Rattle.hd_model.specs.Heap.card_of x)).1
         (record { from = x; to = y; in_card = refl; field = field; younger = younger });
@@ -281,25 +275,13 @@ module _ {A Z : Parts} {t2 : Table} {q2 : Queue} {n : ℕ} {plan : PlanOf} {foun
       ∙ (sf.sets.kept_is x).1
       (reached_kept n S x (root_reached n S x (held (pinned_held (row_at A.table) x p))))
 
-  pinned_stays : (x : Addr) → IsPinned (row_at A.table) x
+  stays : (x : Addr) → kept_in plan x ≡ true → Place x ≡ x
       → (has_object Z.heap x ≡ true) × (id_at Z.heap x ≡ id_at A.heap x)
-  pinned_stays x p =
-      let kept : kept_in plan x ≡ true = pinned_kept x p in
-      let here : Place x ≡ x = sf.pinned x p in (
-        subst (λ (y : Addr). has_object Z.heap y ≡ true) here
-            (is_object_read Place Left T moved x (in_left x kept)),
-        subst (λ (y : Addr). id_at Z.heap y ≡ id_at A.heap x) here (same_id x kept),
-      )
-
-  older_stays : (x : Addr) → n < generation_at (object_at A.heap) x
-      → (has_object Z.heap x ≡ true) × (id_at Z.heap x ≡ id_at A.heap x)
-  older_stays x old =
-      let kept : kept_in plan x ≡ true = sf.keeping.older x old in
-      let here : Place x ≡ x = sf.keeping.in_place x old in (
-        subst (λ (y : Addr). has_object Z.heap y ≡ true) here
-            (is_object_read Place Left T moved x (in_left x kept)),
-        subst (λ (y : Addr). id_at Z.heap y ≡ id_at A.heap x) here (same_id x kept),
-      )
+  stays x kept here = (
+    subst (λ (y : Addr). has_object Z.heap y ≡ true) here
+        (is_object_read Place Left T moved x (in_left x kept)),
+    subst (λ (y : Addr). id_at Z.heap y ≡ id_at A.heap x) here (same_id x kept),
+  )
 
   -- a handle that pins still pins the same object
   still_pinned : (x : Addr) → IsPinned (row_at A.table) x → IsPinned (row_at Z.table) x
@@ -363,23 +345,15 @@ module _ {A Z : Parts} {t2 : Table} {q2 : Queue} {n : ℕ} {plan : PlanOf} {foun
   moving_steps : s2 ≡ s1 + visits_over A.table A.ages n all_kinds
   moving_steps = sh.steps ∙ ap (λ v. s1 + v) (visits_alike A.table t2 A.ages n all_kinds sf.table)
 
-  steps_after : CollectSteps A.table A.ages n report.kept s0 s2
-  steps_after =
-      let first : MarkAndClearSteps A.table A.ages n report.kept s0 s1 =
-      sf.steps report.kept (goes_by ready sf rp).report_is.kept in
-      record {
-        passes = first.passes;
-        least = first.least;
-        most = first.most;
-        steps_are = omega (arith, first.steps_are, moving_steps);
-      }
+  steps_after : s2 ≡ collected_steps A.table A.ages n s0
+  steps_after = omega (arith, sf.steps, moving_steps)
 
   pub collected : Collected A Z n report s0 s2
   collected = record {
     collects = collects;
     ready = ready_after;
-    pinned = pinned_stays;
-    older = older_stays;
+    pinned = λ x p. stays x (pinned_kept x p) (sf.pinned x p);
+    older = λ x old. stays x (sf.keeping.older x old) (sf.keeping.in_place x old);
     aged = sh.aged;
     cards = sh.commits.cards;
     used = le_trans sh.commits.used (same_used sf.sets.joins A.heap sh.middle unregisters);

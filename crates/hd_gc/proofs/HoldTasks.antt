@@ -1,6 +1,5 @@
 -- The passes of the tasks that promote come to all handles that hold their target.
-use Rattle.std.proofs.Common.{◌≡◌, ◌||◌, ℕ, zero, suc, ◌+◌, ◌<◌, Bool, false, List, take, length, get_or, refl, sym, ◌∙◌, subst, ⊎_elim, inl, inr, arith}
-use Rattle.std.specs.Prelude.{MatchBool}
+use Rattle.std.proofs.Common.{◌≡◌, ℕ, ◌+◌, ◌<◌, Bool, false, List, take, length, get_or, refl, sym, ◌∙◌, subst, ⊎_elim, inl, inr}
 use Rattle.hd_model.specs.declared.data.Addr.{Addr}
 use Rattle.hd_model.specs.State.{Handle}
 use Rattle.hd_model.specs.Role.{holds, role}
@@ -8,15 +7,12 @@ use Rattle.hd_model.specs.Scene.{Rows, IsYoungField}
 use Rattle.hd_model.specs.Reach.{IsHeld, IsPinned}
 use Rattle.hd_model.specs.Heap.{Basis, objects_of}
 use Rattle.hd_model.specs.Table.{Table, row_at}
-use Rattle.hd_model.specs.Visits.{MayVisitDue}
-use Rattle.hd_model.proofs.EqualTables.{due_again}
 use Rattle.hd_model.proofs.EdgeChains.{grows_like}
 use Rattle.hd_model.proofs.KindExtras.{pins_hold}
 use Rattle.hd_mark.specs.Marks.{MarksOf, promoted_in, IsSettledMarks}
 use Rattle.hd_scan.specs.declared.task.Task.{Task}
-use Rattle.hd_scan.specs.Tasks.{is_clearing, root_tasks, takes, takes_any, has_role}
-use Rattle.hd_scan.specs.Passes.{Passed, ClearPass, RootPass}
-use Rattle.hd_scan.specs.Whole.{IsTargetOf, IsPinTargetOf, WholePass, WholeClear, WholeRoots}
+use Rattle.hd_scan.specs.Tasks.{root_tasks, takes, takes_any, has_role}
+use Rattle.hd_scan.specs.Whole.{IsTargetOf, IsPinTargetOf, WholeRoots}
 use Rattle.hd_scan.proofs.TaskRoles.{roots_cover}
 use Rattle.hd_scan.proofs.TestedPasses.{roots_none, roots_twice, taken_more}
 use Rattle.hd_gc.specs.Growing.{Holds}
@@ -24,72 +20,37 @@ use Rattle.hd_gc.specs.Clearing.{marked_table}
 use Rattle.hd_gc.proofs.HandleRoles.{same_role, is_same_role}
 
 -- passes have promoted the targets of what passes a test, from marks on
-pub record IsHolding (f : Handle Addr → Bool) (t now : Table) (m k : MarksOf) : Type 0 where
-  pub table : now ≡ t
+pub record IsHolding (f : Handle Addr → Bool) (t : Table) (m k : MarksOf) : Type 0 where
   pub settled : IsSettledMarks k
   pub basis : k.basis ≡ m.basis
   pub roots : WholeRoots (objects_of m.basis) m.basis.condemned f (marked_table t m) (marked_table t k)
 
-pub none_held : (t : Table) (m : MarksOf) → IsSettledMarks m → IsHolding (λ h. false) t t m m
+pub none_held : (t : Table) (m : MarksOf) → IsSettledMarks m → IsHolding (λ h. false) t m m
 none_held t m settled = record {
-  table = refl;
   settled = settled;
   basis = refl;
   roots = roots_none (objects_of m.basis) m.basis.condemned (marked_table t m);
 }
 
-module _ {f : Handle Addr → Bool} {t now : Table} {m k : MarksOf} (done : IsHolding f t now m k) where
-  pub next_due : {ages : List ℕ} {n : ℕ} → MayVisitDue m.basis t ages n → MayVisitDue k.basis now ages n
-  next_due w = due_again done.basis done.table w
-
-  -- one pass more
-  pub held_by : (task : Task) {next : Table} {j : MarksOf} (ages : List ℕ) (n b : ℕ)
-      → is_clearing task ≡ false → m.basis.condemned ≡ n → IsSettledMarks j → j.basis ≡ k.basis
-      → Passed (objects_of k.basis) ages n task (marked_table now k) (marked_table next j) b
-      → WholePass (objects_of k.basis) n task (marked_table now k) (marked_table next j) b
-      → IsHolding (λ h. f h || takes task h) t next m j
-  held_by task {next} {j} ages n b clearing generation settled basis passed whole =
-      let pass : RootPass (objects_of k.basis) ages n task (marked_table now k) (marked_table next j) b =
-      subst (λ c. MatchBool c (ClearPass ages n task (marked_table now k) (marked_table next j) b)
-      (RootPass (objects_of k.basis) ages n task (marked_table now k) (marked_table next j) b)) clearing
-      passed
-      in
-      let over : WholeRoots (objects_of k.basis) n (takes task) (marked_table now k) (marked_table next j) =
-      subst (λ c. MatchBool c (WholeClear (takes task) (marked_table now k) next b)
-      (WholeRoots (objects_of k.basis) n (takes task) (marked_table now k) (marked_table next j))) clearing
-      whole in
-      let here : WholeRoots (objects_of m.basis) m.basis.condemned (takes task) (marked_table t k)
-      (marked_table t j) =
-      subst (λ (u : Table). WholeRoots (objects_of m.basis) m.basis.condemned (takes task) (marked_table u k)
-      (marked_table u j)) done.table
-      (subst (λ (u : Table). WholeRoots (objects_of m.basis) m.basis.condemned (takes task)
-      (marked_table now k) (marked_table u j)) pass.table
-      (subst (λ (g : Basis). WholeRoots (objects_of g) m.basis.condemned (takes task) (marked_table now k)
-      (marked_table next j)) done.basis
-      (subst (λ c. WholeRoots (objects_of k.basis) c (takes task) (marked_table now k)
-      (marked_table next j)) (sym generation) over))) in
-      record {
-        table = pass.table ∙ done.table;
-        settled = settled;
-        basis = basis ∙ done.basis;
-        roots =
-            roots_twice (objects_of m.basis) m.basis.condemned f (takes task) (marked_table t m)
-            (marked_table t k) (marked_table t j) refl done.roots here;
-      }
-
-pub promoting : (i : ℕ) (d : Task) → i < 4 → is_clearing (get_or root_tasks i d) ≡ false
-promoting zero d l = refl
-promoting (suc zero) d l = refl
-promoting (suc (suc zero)) d l = refl
-promoting (suc (suc (suc zero))) d l = refl
-promoting (suc (suc (suc (suc i)))) d l = absurd (omega arith)
-
 -- the pass of the next task of a list
-pub held_more : (ts : List Task) (i : ℕ) (d : Task) {t now : Table} {m k : MarksOf} → i < length ts
-    → IsHolding (λ h. takes_any (take i ts) h || takes (get_or ts i d) h) t now m k
-    → IsHolding (takes_any (take (i + 1) ts)) t now m k
-held_more ts i d {t} {now} {m} {k} l w =
-    subst (λ f. IsHolding f t now m k) (sym (taken_more ts i d l)) w
+pub held_more : (ts : List Task) (i : ℕ) (d : Task) {t : Table} {m k j : MarksOf} {n : ℕ} → i < length ts
+    → m.basis.condemned ≡ n → IsHolding (takes_any (take i ts)) t m k → IsSettledMarks j → j.basis ≡ k.basis
+    → WholeRoots (objects_of k.basis) n (takes (get_or ts i d)) (marked_table t k) (marked_table t j)
+    → IsHolding (takes_any (take (i + 1) ts)) t m j
+held_more ts i d {t} {m} {k} {j} l generation done settled basis whole =
+    let task : Task = get_or ts i d in
+    let over : WholeRoots (objects_of k.basis) m.basis.condemned (takes task) (marked_table t k)
+    (marked_table t j) =
+    subst (λ c. WholeRoots (objects_of k.basis) c (takes task) (marked_table t k) (marked_table t j))
+    (sym generation) whole in
+    subst (λ f. IsHolding f t m j) (sym (taken_more ts i d l)) (record {
+      settled = settled;
+      basis = basis ∙ done.basis;
+      roots = roots_twice (objects_of m.basis) m.basis.condemned (takes_any (take i ts)) (takes task)
+          (marked_table t m) (marked_table t k) (marked_table t j) refl done.roots
+          (subst (λ (g : Basis). WholeRoots (objects_of g) m.basis.condemned (takes task) (marked_table t k)
+          (marked_table t j)) done.basis over);
+    })
 
 -- what holds its target is what these tasks take
 module _ (rows : Rows Addr) where
@@ -132,9 +93,8 @@ module _ (rows : Rows Addr) where
     pins = p.pins;
   }
 
-pub all_held : {t now : Table} {m k : MarksOf} → IsHolding (takes_any root_tasks) t now m k
-    → Holds (row_at t) m k
-all_held {t} {now} {m} {k} w =
+pub all_held : {t : Table} {m k : MarksOf} → IsHolding (takes_any root_tasks) t m k → Holds (row_at t) m k
+all_held {t} {m} {k} w =
     let o = objects_of m.basis in
     let roots : WholeRoots o m.basis.condemned (has_role holds) (marked_table t m) (marked_table t k) =
     subst (λ f. WholeRoots o m.basis.condemned f (marked_table t m) (marked_table t k)) roots_cover w.roots in

@@ -17,6 +17,19 @@ use Rattle.hd_final.specs.Resurrection.{IsOut}
 use Rattle.hd_gc.specs.Marking.{Resurrection}
 use Rattle.hd_gc.proofs.HandleRoles.{other_stays}
 
+-- dependent handles whose rows stay
+attached_like : {N : Type 0} (before after : Rows N)
+    → ((slot : ℕ) (h : Handle N) → before slot ≡ Some h → role h ≡ attaches → after slot ≡ Some h) → (x y : N)
+    → IsAttached before x y → IsAttached after x y
+attached_like before after stays x y a = record {
+  slot = a.slot;
+  handle = a.handle;
+  is_stored = stays a.slot a.handle a.is_stored a.attaches;
+  attaches = a.attaches;
+  target = a.target;
+  secondary = a.secondary;
+}
+
 -- the rows of another role stay where those of a role lose targets
 module _ {N : Type 0} (r : Role) (p : N → Bool) (before after : Rows N)
     (rows : (slot : ℕ) → after slot ≡ option_map (swept true (has_role r) p) (before slot)) where
@@ -34,32 +47,18 @@ module _ {N : Type 0} (r : Role) (p : N → Bool) (before after : Rows N)
       both.0 ∙ ap (λ k. Some k) (sym stays ∙ both.1)
 
   -- so edges stay, where the role is not that of dependent handles
-  module _ (apart : is_role r attaches ≡ false) where
-    pub attached_after : (x y : N) → IsAttached before x y → IsAttached after x y
-    attached_after x y a = record {
-      slot = a.slot;
-      handle = a.handle;
-      is_stored = row_after a.slot a.handle a.is_stored (ap (is_role r) a.attaches ∙ apart);
-      attaches = a.attaches;
-      target = a.target;
-      secondary = a.secondary;
-    }
+  module _ (apart : is_role r attaches ≡ false) (o : Objects N) (x y : N) where
+    pub edge_after : IsEdge o before x y → IsEdge o after x y
+    edge_after =
+        ⊎_elim (λ f. inl f)
+        (λ a. inr (attached_like before after
+        (λ slot h e is. row_after slot h e (ap (is_role r) is ∙ apart)) x y a))
 
-    pub attached_before : (x y : N) → IsAttached after x y → IsAttached before x y
-    attached_before x y a = record {
-      slot = a.slot;
-      handle = a.handle;
-      is_stored = row_before a.slot a.handle a.is_stored (ap (is_role r) a.attaches ∙ apart);
-      attaches = a.attaches;
-      target = a.target;
-      secondary = a.secondary;
-    }
-
-    pub edge_after : (o : Objects N) (x y : N) → IsEdge o before x y → IsEdge o after x y
-    edge_after o x y = ⊎_elim (λ f. inl f) (λ a. inr (attached_after x y a))
-
-    pub edge_before : (o : Objects N) (x y : N) → IsEdge o after x y → IsEdge o before x y
-    edge_before o x y = ⊎_elim (λ f. inl f) (λ a. inr (attached_before x y a))
+    pub edge_before : IsEdge o after x y → IsEdge o before x y
+    edge_before =
+        ⊎_elim (λ f. inl f)
+        (λ a. inr (attached_like after before
+        (λ slot h e is. row_before slot h e (ap (is_role r) is ∙ apart)) x y a))
 
 -- a test for a registered condemned object outside a set
 abbrev pub is_registered : {N : Type 0} → Option (Object N) → Bool

@@ -27,7 +27,7 @@ module _ {A : Parts} {t2 : Table} {q2 : Queue} {n : ℕ} {plan : PlanOf} {found 
   S = scene_of A
 
   abbrev Left : Scene Addr
-  Left = left_by n sf.sets.reach sf.sets.resurrected sf.sets.kept sf.sets.joins S
+  Left = left_by n sf.sets.decision S
 
   abbrev Rank : Addr → ℕ
   Rank x = (id_at A.heap x).0
@@ -50,7 +50,7 @@ module _ {A : Parts} {t2 : Table} {q2 : Queue} {n : ℕ} {plan : PlanOf} {found 
       (subst (λ (g : Basis). Counts (λ a. (is_object (objects_of g) a ≡ true) × (kept_in plan a ≡ false))
       report.removed) sf.basis rp.removed)
 
-  pub goes_by : GoesBy Rank n S sf.sets.reach sf.sets.resurrected sf.sets.kept sf.sets.joins report
+  pub goes_by : GoesBy Rank n S sf.sets.decision report
   goes_by = record {
     reach_is = sf.sets.reach_is;
     resurrected_is = sf.sets.resurrected_is;
@@ -72,9 +72,7 @@ module _ {A : Parts} {t2 : Table} {q2 : Queue} {n : ℕ} {plan : PlanOf} {found 
   }
 
   pub whole_left : IsWhole Left
-  whole_left =
-      whole_in_place Rank n S sf.sets.reach sf.sets.resurrected sf.sets.kept sf.sets.joins report ready.whole
-      goes_by
+  whole_left = whole_in_place ready.whole goes_by
 
   -- what is in that scene is kept
   pub left_kept : (x : Addr) → is_object Left.object x ≡ true → kept_in plan x ≡ true

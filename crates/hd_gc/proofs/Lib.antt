@@ -1,4 +1,3 @@
-pub mod ListPrefixes
 pub mod HandleRoles
 pub mod ClearedRows
 pub mod MarkParts

@@ -1,7 +1,9 @@
 -- Marks that promote from one set after another, and from the members of a list one by one.
-use Rattle.std.proofs.Common.{◌≡◌, ℕ, ◌+◌, ◌<◌, List, length, get_or, take, refl, ap, ◌∙◌, subst, ◌⊎◌}
+use Rattle.std.proofs.Common.{◌≡◌, ℕ, ◌+◌, ◌<◌, List, [], ◌∷◌, ◌++◌, Option, Some, length, get_or, take, refl, sym, ap, ◌∙◌, subst, ⊎_elim, ◌⊎◌}
 use Rattle.std.specs.Prelude.{Contains}
 use Rattle.std.proofs.Math.Seq.{take-length}
+use Rattle.std.proofs.lemmas.List.{take_more}
+use Rattle.std.proofs.lemmas.List.Elements.{Contains-append_left, Contains-push, Contains-push_cases}
 use Rattle.hd_model.specs.declared.data.Addr.{Addr}
 use Rattle.hd_model.specs.Leads.{Grows}
 use Rattle.hd_model.specs.Scene.{IsYoungField}
@@ -10,7 +12,6 @@ use Rattle.hd_model.proofs.EdgeChains.{grows_on, grows_none, grows_like}
 use Rattle.hd_model.proofs.Members.{not_in_none}
 use Rattle.hd_mark.specs.Marks.{MarksOf, promoted_in, IsSettledMarks}
 use Rattle.hd_gc.specs.Growing.{Promotes}
-use Rattle.hd_gc.proofs.ListPrefixes.{taken_more, taken_from}
 
 pub promotes_none : (S : Addr → Type 0) (m : MarksOf) → IsSettledMarks m → ((x : Addr) → S x → ⊥)
     → Promotes S m m
@@ -52,8 +53,13 @@ pub promoted_next : {A : Type 0} (name : Addr → A) (xs : List A) (i : ℕ) (d 
     → Promotes (λ x. get_or xs i d ≡ name x) k o → Promotes (λ x. Contains (take (i + 1) xs) (name x)) m o
 promoted_next name xs i d l {m} {k} {o} done step =
     promotes_like (λ x. Contains (take i xs) (name x) ⊎ (get_or xs i d ≡ name x))
-    (λ x. Contains (take (i + 1) xs) (name x)) m o (λ x. taken_more xs i d l (name x))
-    (λ x. taken_from xs i d l (name x))
+    (λ x. Contains (take (i + 1) xs) (name x)) m o
+    (λ x h. subst (λ ys. Contains ys (name x)) (sym (take_more xs i d l))
+    (⊎_elim (λ early. Contains-append_left (take i xs) (get_or xs i d ∷ []) (name x) early)
+    (λ here. subst (Contains (take i xs ++ get_or xs i d ∷ [])) here
+    (Contains-push (take i xs) (get_or xs i d))) h))
+    (λ x h. Contains-push_cases (take i xs) (get_or xs i d) (name x)
+    (subst (λ ys. Contains ys (name x)) (take_more xs i d l) h))
     (promotes_on (λ x. Contains (take i xs) (name x)) (λ x. get_or xs i d ≡ name x) m k o done step)
 
 pub promoted_all : {A : Type 0} (name : Addr → A) (xs : List A) (i : ℕ) (m k : MarksOf) → i ≡ length xs
@@ -63,3 +69,9 @@ promoted_all name xs i m k e a =
 
 pub none_taken : {A : Type 0} (xs : List A) (x : A) → Contains (take 0 xs) x → ⊥
 none_taken xs x h = not_in_none x h
+
+-- before the first member of a list of references
+pub named_first : (xs : List (Option Addr)) (m : MarksOf) → IsSettledMarks m
+    → Promotes (λ x. Contains (take 0 xs) (Some x)) m m
+named_first xs m settled =
+    promotes_none (λ x. Contains (take 0 xs) (Some x)) m settled (λ x h. not_in_none (Some x) h)

@@ -18,7 +18,6 @@ use Rattle.hd_model.specs.Visits.{visits_of}
 use Rattle.hd_model.proofs.MarkReach.{settled_closed}
 use Rattle.hd_model.proofs.SceneCollection.{root_object}
 use Rattle.hd_mark.specs.Marks.{MarksOf, promoted_in, pinned_in, IsSettledMarks, first_marks}
-use Rattle.hd_dep.specs.Rescan.{RescanSteps}
 use Rattle.hd_scan.specs.Tasks.{root_tasks}
 use Rattle.hd_gc.specs.Ready.{Parts, scene_of, IsReady}
 use Rattle.hd_gc.specs.Steps.{task_visits}
@@ -116,10 +115,8 @@ module _ {A : Parts} {n : ℕ} {m0 m1 m2 m3 m4 : MarksOf} (first : m0 ≡ first_
       → m5.basis ≡ m4.basis → pinned_in m5 ≡ pinned_in m4
       → IsClosure (IsEdge (object_at A.heap) (row_at A.table)) (promoted_in m4) (promoted_in m5)
       → between ≡ before + task_visits A.table A.ages n root_tasks
-      → RescanSteps (visits_of A.table A.ages n kind.Dependent) (promoted_in m4)
-      (promoted_in m5) between after
-      → Traced A n m5 before after
-  traced_marks {before} {between} {after} {m5} settled basis pinned closure held rescan = record {
+      → after ≡ between + visits_of A.table A.ages n kind.Dependent → Traced A n m5 before after
+  traced_marks {before} {between} {after} {m5} settled basis pinned closure held followed = record {
     settled = settled;
     basis = basis ∙ basis4;
     reach_is =
@@ -135,15 +132,7 @@ module _ {A : Parts} {n : ℕ} {m0 m1 m2 m3 m4 : MarksOf} (first : m0 ≡ first_
           ((pins_over x young).0 (ap (λ p. p x) (sym d.pinned) ∙ ap (λ p. p x) (sym pinned) ∙ e)),
       λ p. ap (λ q. q x) pinned ∙ ap (λ q. q x) d.pinned ∙ (pins_over x young).1 (inr p),
     );
-    steps = record {
-      set = promoted_in m4;
-      older = settled4.older;
-      rescan =
-          subst (λ k. RescanSteps (visits_of A.table A.ages n kind.Dependent) (promoted_in m4)
-          (promoted_in m5) k
-          after)
-          held rescan;
-    };
+    steps = followed ∙ ap (λ k. k + visits_of A.table A.ages n kind.Dependent) held;
   }
 
 -- what is promoted stays closed under all fields, as more is promoted

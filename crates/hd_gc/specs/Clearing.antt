@@ -1,23 +1,16 @@
 -- The clearing of weak handles.
-use Rattle.std.specs.Prelude.{◌≡◌, ℕ, Bool}
+use Rattle.std.specs.Prelude.{ℕ, Bool}
 use Rattle.hd_model.specs.declared.data.Addr.{Addr}
 use Rattle.hd_model.specs.State.{Handle}
 use Rattle.hd_model.specs.Table.{Table}
 use Rattle.hd_model.specs.Visits.{IsSameTable}
-use Rattle.hd_mark.specs.Marks.{MarksOf, promoted_in, pinned_in, IsSettledMarks}
+use Rattle.hd_mark.specs.Marks.{MarksOf, promoted_in, pinned_in}
 use Rattle.hd_scan.specs.Passes.{PassView, view_at}
 use Rattle.hd_scan.specs.Whole.{WholeClear}
 
 -- a table and marks, as a pass has them
 abbrev pub marked_table : Table → MarksOf → PassView
 marked_table t m = view_at t (promoted_in m) (pinned_in m)
-
--- marks of the same heap that promote and pin the same
-pub record SameMarks (old new : MarksOf) : Type 0 where
-  pub settled : IsSettledMarks new
-  pub basis : new.basis ≡ old.basis
-  pub promoted : promoted_in new ≡ promoted_in old
-  pub pinned : pinned_in new ≡ pinned_in old
 
 -- all handles that pass a test lose a target that is not promoted, and `count` do
 pub record Clears (f : Handle Addr → Bool) (old new : Table) (m : MarksOf) (count : ℕ) : Type 0 where

@@ -16,7 +16,7 @@ use Rattle.hd_model.specs.Visits.{IsSameTable}
 use Rattle.hd_plan.specs.Commit.{NeedsCard}
 use Rattle.hd_plan.specs.PackedRegions.{IsPacked}
 use Rattle.hd_gc.specs.Ready.{Parts, scene_of, IsReady}
-use Rattle.hd_gc.specs.Steps.{CollectSteps}
+use Rattle.hd_gc.specs.Steps.{collected_steps}
 
 -- after a collection of n the regions that were no older ones before are few: for each condemned object that
 -- a handle pins, one may stay; the others are packed
@@ -46,6 +46,6 @@ pub record Collected (p q : Parts) (n : ℕ) (report : Report) (before after : �
   pub limit : q.heap.limit ≡ p.heap.limit
   pub table : IsSameTable p.table q.table
   pub room : q.queue.room ≡ p.queue.room
-  pub steps : CollectSteps p.table p.ages n report.kept before after
+  pub steps : after ≡ collected_steps p.table p.ages n before
   pub packed : LeavesPacked p.heap q.heap p.table n
   pub compact : n ≡ OLDEST → IsCompact q.heap (row_at q.table)

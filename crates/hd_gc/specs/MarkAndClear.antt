@@ -1,5 +1,5 @@
 -- What is true between the marking and the moving.
-use Rattle.std.specs.Prelude.{◌≡◌, ℕ, ◌<◌, Bool, true, false, List, ◌++◌, option_map, Contains, AllPairs}
+use Rattle.std.specs.Prelude.{◌≡◌, ℕ, ◌<◌, true, false, ◌++◌, option_map, Contains, AllPairs}
 use Rattle.std.specs.Bool.{Decides}
 use Rattle.hd_model.specs.declared.data.Addr.{Addr}
 use Rattle.hd_model.specs.declared.data.Report.{Report}
@@ -7,7 +7,7 @@ use Rattle.hd_model.specs.Role.{short, long, attaches}
 use Rattle.hd_model.specs.Counting.{Counts}
 use Rattle.hd_model.specs.Scene.{is_object, IsCondemned}
 use Rattle.hd_model.specs.Reach.{IsReached, IsToBeFinalized, IsKept, IsPinned}
-use Rattle.hd_model.specs.Collect.{cleared, LosesAs, IsSurviving}
+use Rattle.hd_model.specs.Collect.{cleared, LosesAs, Decision}
 use Rattle.hd_model.specs.Marking.{IsKeeping}
 use Rattle.hd_model.specs.Heap.{object_at, objects_of, id_at}
 use Rattle.hd_model.specs.Table.{row_at}
@@ -15,15 +15,13 @@ use Rattle.hd_model.specs.Visits.{IsSameTable}
 use Rattle.hd_plan.specs.Plan.{PlanOf, IsLaid, kept_in, place_in, stays_in}
 use Rattle.hd_gc.specs.declared.mark_and_clear.Found.{Found}
 use Rattle.hd_gc.specs.Ready.{Parts, scene_of, basis_of}
-use Rattle.hd_gc.specs.Steps.{MarkAndClearSteps}
+use Rattle.hd_gc.specs.Steps.{marked_steps}
 
 -- what is reached, resurrected and kept by address, the resurrected in rising identity, and the numbers of
 -- those that lose their target or are resurrected
 pub record FoundSets (p : Parts) (n : ℕ) (found : Found) : Type 0 where
-  pub reach : Addr → Bool
-  pub resurrected : Addr → Bool
-  pub kept : Addr → Bool
-  pub joins : List Addr
+  pub decision : Decision Addr
+  pub open decision use *
   pub reach_is : (x : Addr) → Decides (reach x) (IsReached (scene_of p) n x)
   pub resurrected_is : (x : Addr) → Decides (resurrected x) (IsToBeFinalized (scene_of p) n x)
   pub kept_is : (x : Addr) → Decides (kept x) (IsKept (scene_of p) n x)
@@ -49,8 +47,7 @@ pub record MarkedAndCleared (p q : Parts) (n : ℕ) (plan : PlanOf) (found : Fou
   pub plan_kept : (x : Addr) → kept_in plan x ≡ sets.kept x
   pub pinned : (x : Addr) → IsPinned (row_at p.table) x → place_in plan x ≡ x
   pub stays : Counts (λ x. IsCondemned (object_at p.heap) n x × IsPinned (row_at p.table) x) (stays_in plan)
-  pub steps : (kept : ℕ) → Counts (IsSurviving n (scene_of p) sets.kept) kept
-      → MarkAndClearSteps p.table p.ages n kept before after
+  pub steps : after ≡ marked_steps p.table p.ages n before
 
 -- the numbers of a report: what the plan keeps and what it does not, and what was found
 pub record Reports (plan : PlanOf) (found : Found) (report : Report) : Type 0 where

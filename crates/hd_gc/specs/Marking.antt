@@ -4,23 +4,16 @@ use Rattle.std.specs.Bool.{Decides}
 use Rattle.hd_model.specs.declared.data.Addr.{Addr}
 use Rattle.hd_model.specs.declared.data.Kind.TheVariants as kind
 use Rattle.hd_model.specs.Leads.{Leads, IsClosed}
-use Rattle.hd_model.specs.Scene.{Scene, generation_at, IsCondemned}
+use Rattle.hd_model.specs.Scene.{Scene, IsCondemned}
 use Rattle.hd_model.specs.Reach.{IsEdge, IsReached, IsPinned}
-use Rattle.hd_model.specs.Heap.{Heap, object_at, id_at}
+use Rattle.hd_model.specs.Heap.{object_at, id_at}
 use Rattle.hd_model.specs.Table.{row_at}
 use Rattle.hd_model.specs.Visits.{visits_of}
 use Rattle.hd_mark.specs.Marks.{MarksOf, promoted_in, pinned_in, IsSettledMarks}
-use Rattle.hd_dep.specs.Rescan.{RescanSteps}
 use Rattle.hd_final.specs.Resurrection.{IsOut}
 use Rattle.hd_scan.specs.Tasks.{root_tasks}
 use Rattle.hd_gc.specs.Ready.{Parts, scene_of, basis_of}
 use Rattle.hd_gc.specs.Steps.{task_visits}
-
--- a rescan that promoted from a set on, which had all older objects
-pub record Rescans (h : Heap) (n visits : ℕ) (q : Addr → Bool) (before after : ℕ) : Type 0 where
-  pub set : Addr → Bool
-  pub older : (x : Addr) → n < generation_at (object_at h) x → set x ≡ true
-  pub rescan : RescanSteps visits set q before after
 
 -- exactly what is reached is promoted; of condemned objects, exactly what a handle pins is pinned
 pub record Traced (p : Parts) (n : ℕ) (new : MarksOf) (before after : ℕ) : Type 0 where
@@ -29,8 +22,8 @@ pub record Traced (p : Parts) (n : ℕ) (new : MarksOf) (before after : ℕ) : T
   pub reach_is : (x : Addr) → Decides (promoted_in new x) (IsReached (scene_of p) n x)
   pub pins :
       (x : Addr) → IsCondemned (object_at p.heap) n x → (pinned_in new x ≡ true) ↔ IsPinned (row_at p.table) x
-  pub steps : Rescans p.heap n (visits_of p.table p.ages n kind.Dependent) (promoted_in new)
-      (before + task_visits p.table p.ages n root_tasks) after
+  pub steps :
+      after ≡ before + task_visits p.table p.ages n root_tasks + visits_of p.table p.ages n kind.Dependent
 
 -- q is p with what is registered, condemned and outside p, and with what chains of edges lead to; those
 -- outside join the queue in rising rank
@@ -46,7 +39,7 @@ pub record Resurrection {N : Type 0} (rank : N → ℕ) (s : Scene N) (n : ℕ) 
   pub joins_are : (x : N) → Contains joins x ↔ IsOut s.object n p x
   pub rising : AllPairs (λ x y. rank x < rank y) joins
 
--- marks and a queue that the resurrection left; what was promoted before the rescan has what was before
+-- marks and a queue that the resurrection left
 pub record Resurrected (p : Parts) (n : ℕ) (old new : MarksOf) (after : List Addr)
     (steps_before steps_after : ℕ)
     : Type 0 where
@@ -55,6 +48,4 @@ pub record Resurrected (p : Parts) (n : ℕ) (old new : MarksOf) (after : List A
   pub pinned : pinned_in new ≡ pinned_in old
   pub resurrection :
       Resurrection (λ x. (id_at p.heap x).0) (scene_of p) n (promoted_in old) (promoted_in new) after
-  pub steps : (set : Addr → Bool) × (((x : Addr) → promoted_in old x ≡ true → set x ≡ true)
-      × RescanSteps (visits_of p.table p.ages n kind.Dependent) set (promoted_in new) steps_before
-      steps_after)
+  pub steps : steps_after ≡ steps_before + visits_of p.table p.ages n kind.Dependent

@@ -1,5 +1,5 @@
 -- The steps of a collection: one for each clump that a pass visits.
-use Rattle.std.specs.Prelude.{◌≡◌, ℕ, ◌+◌, ◌*◌, ◌≤◌, List, sum_by}
+use Rattle.std.specs.Prelude.{ℕ, ◌+◌, ◌*◌, List, sum_by}
 use Rattle.hd_model.specs.declared.data.Kind.TheVariants as kind
 use Rattle.hd_model.specs.Kinds.{all_kinds}
 use Rattle.hd_model.specs.Table.{Table}
@@ -15,20 +15,13 @@ abbrev pub all_task_visits : Table → List ℕ → ℕ → ℕ
 all_task_visits t ages n =
     task_visits t ages n root_tasks + task_visits t ages n short_tasks + task_visits t ages n long_tasks
 
--- the steps up to the plan, of a collection that kept this number of condemned objects: each task makes a
--- pass, and so does the clearing of dependent handles; the two rescans make at least one each, and at most
--- one more each than the objects that they promoted, which are kept
-pub record MarkAndClearSteps (t : Table) (ages : List ℕ) (n kept before after : ℕ) : Type 0 where
-  pub passes : ℕ
-  pub least : 3 ≤ passes
-  pub most : passes ≤ 3 + kept
-  pub steps_are : after ≡ before + all_task_visits t ages n + passes * visits_of t ages n kind.Dependent
+-- the steps up to the plan: each task makes a pass, and dependent handles have three: two that follow them,
+-- and the clearing
+abbrev pub marked_steps : Table → List ℕ → ℕ → ℕ → ℕ
+marked_steps t ages n before = before + all_task_visits t ages n + 3 * visits_of t ages n kind.Dependent
 
 -- the steps of the whole collection: the relocation goes over the handles of every kind once more
-pub record CollectSteps (t : Table) (ages : List ℕ) (n kept before after : ℕ) : Type 0 where
-  pub passes : ℕ
-  pub least : 3 ≤ passes
-  pub most : passes ≤ 3 + kept
-  pub steps_are :
-      after ≡ before + all_task_visits t ages n + visits_over t ages n all_kinds
-      + passes * visits_of t ages n kind.Dependent
+abbrev pub collected_steps : Table → List ℕ → ℕ → ℕ → ℕ
+collected_steps t ages n before =
+    before + all_task_visits t ages n + visits_over t ages n all_kinds
+    + 3 * visits_of t ages n kind.Dependent

@@ -1,17 +1,16 @@
 // The clearing of weak handles, by what is promoted.
 ghost use Rattle.std.specs.Prelude.{◌≡◌, ◌+◌, ◌≤◌, length};
-ghost use Rattle.std.specs.List.{AllPass};
 ghost use Rattle.hd_model.specs.Role.{short, long};
 ghost use Rattle.hd_model.specs.Visits.{MayVisitDue};
 ghost use Rattle.hd_mark.specs.Marks.{IsSettledMarks};
-ghost use Rattle.hd_scan.specs.Tasks.{is_clearing, takes_any, has_role, short_tasks, long_tasks};
-ghost use Rattle.hd_gc.specs.Clearing.{Clears, SameMarks};
+ghost use Rattle.hd_scan.specs.Tasks.{takes_any, has_role, short_tasks, long_tasks};
+ghost use Rattle.hd_gc.specs.Clearing.{Clears};
 ghost use Rattle.hd_gc.specs.Steps.{task_visits};
 
 use hd_ages::AgeMap;
 use hd_mark::Marks;
 use hd_model::Steps;
-use hd_scan::{Task, pass};
+use hd_scan::{Task, clear};
 use hd_seg::Seg;
 use std::sync::ledger::Ledger;
 
@@ -19,14 +18,13 @@ use std::sync::ledger::Ledger;
 pub(crate) fn clear_short<L: Ledger>(
     seg: &mut Seg,
     ages: &AgeMap,
-    marks: &mut Marks,
+    marks: &Marks,
     n: u8,
     steps: &mut Steps<L>,
 ) -> u32
-    requires settled { IsSettledMarks marks.old }
-    requires due { MayVisitDue marks.old.basis seg.old ages.now n }
-    ensures marks { SameMarks marks.old marks.new }
-    ensures clears { Clears (has_role short) seg.old seg.new marks.old result }
+    requires settled { IsSettledMarks marks.now }
+    requires due { MayVisitDue marks.now.basis seg.old ages.now n }
+    ensures clears { Clears (has_role short) seg.old seg.new marks.now result }
     ensures steps { steps.new ≡ steps.old + task_visits seg.old ages.now n short_tasks }
 {
     clear_by(seg, ages, &Task::CLEARS_SHORT, marks, n, steps)
@@ -37,14 +35,13 @@ pub(crate) fn clear_short<L: Ledger>(
 pub(crate) fn clear_long<L: Ledger>(
     seg: &mut Seg,
     ages: &AgeMap,
-    marks: &mut Marks,
+    marks: &Marks,
     n: u8,
     steps: &mut Steps<L>,
 ) -> u32
-    requires settled { IsSettledMarks marks.old }
-    requires due { MayVisitDue marks.old.basis seg.old ages.now n }
-    ensures marks { SameMarks marks.old marks.new }
-    ensures clears { Clears (has_role long) seg.old seg.new marks.old result }
+    requires settled { IsSettledMarks marks.now }
+    requires due { MayVisitDue marks.now.basis seg.old ages.now n }
+    ensures clears { Clears (has_role long) seg.old seg.new marks.now result }
     ensures steps { steps.new ≡ steps.old + task_visits seg.old ages.now n long_tasks }
 {
     clear_by(seg, ages, &Task::CLEARS_LONG, marks, n, steps)
@@ -55,21 +52,19 @@ fn clear_by<L: Ledger>(
     seg: &mut Seg,
     ages: &AgeMap,
     tasks: &[Task],
-    marks: &mut Marks,
+    marks: &Marks,
     n: u8,
     steps: &mut Steps<L>,
 ) -> u32
-    requires settled { IsSettledMarks marks.old }
-    requires due { MayVisitDue marks.old.basis seg.old ages.now n }
-    requires clearing { AllPass is_clearing tasks.now }
+    requires settled { IsSettledMarks marks.now }
+    requires due { MayVisitDue marks.now.basis seg.old ages.now n }
     requires few { length tasks.now ≤ 9 }
-    ensures marks { SameMarks marks.old marks.new }
-    ensures clears { Clears (takes_any tasks.now) seg.old seg.new marks.old result }
+    ensures clears { Clears (takes_any tasks.now) seg.old seg.new marks.now result }
     ensures steps { steps.new ≡ steps.old + task_visits seg.old ages.now n tasks.now }
 {
     let mut cleared = 0;
     for task in tasks {
-        cleared += pass(seg, ages, *task, marks, n, steps);
+        cleared += clear(seg, ages, *task, marks, n, steps);
     }
     cleared
 }

@@ -1,12 +1,13 @@
 // What is kept: it is marked, and the handles of all else are cleared.
-ghost use Rattle.std.specs.Prelude.{◌≡◌, ◌≤◌, true, [], Contains, IfOk, OnErr};
+ghost use Rattle.std.specs.Prelude.{◌≡◌, ◌*◌, ◌≤◌, true, [], Contains, IfOk, OnErr};
 ghost use Rattle.std.specs.FinMap.{len};
+ghost use Rattle.hd_model.specs.declared.data.Kind.TheVariants as kind;
 ghost use Rattle.hd_model.specs.Counting.{Counts};
 ghost use Rattle.hd_final.specs.Resurrection.{IsOut};
 ghost use Rattle.hd_model.specs.Scene.{IsField};
 ghost use Rattle.hd_model.specs.Leads.{IsClosed};
 ghost use Rattle.hd_model.specs.Heap.{HasIdentities, is_carded, object_at};
-ghost use Rattle.hd_model.specs.Visits.{MayVisitDue};
+ghost use Rattle.hd_model.specs.Visits.{MayVisitDue, visits_of};
 ghost use Rattle.hd_model.specs.Ages.{HasSoundCards};
 ghost use Rattle.hd_heap.specs.Calls.{AreSurveyed};
 ghost use Rattle.hd_mark.specs.Marks.{IsSettledMarks, promoted_in};
@@ -18,10 +19,11 @@ ghost use Rattle.hd_gc.specs.MarkAndClear.{MarkedAndCleared};
 use crate::clearing::{clear_long, clear_short};
 use crate::marking::trace;
 use hd_ages::AgeMap;
-use hd_dep::{clear, rescan};
+use hd_dep::{DependentIndex, clear, follow};
 use hd_final::Final;
 use hd_heap::{CondemnedObject, Heap};
 use hd_mark::Marks;
+use hd_model::limits::CLUMP;
 use hd_model::{Addr, Memory, Steps};
 use hd_plan::Plan;
 use hd_seg::Seg;
@@ -47,6 +49,7 @@ fn revive<L: Ledger>(
     fin: &mut Final,
     objects: &[CondemnedObject],
     marks: &mut Marks,
+    index: &mut DependentIndex,
     n: u8,
     steps: &mut Steps<L>,
 ) -> u32
@@ -59,13 +62,14 @@ fn revive<L: Ledger>(
     requires waiting { (x : Addr) → Contains fin.old.waiting x → promoted_in marks.old x ≡ true }
     requires identities { HasIdentities heap.now }
     requires room { len heap.now.objects ≤ fin.old.room }
+    requires handles { CLUMP * visits_of seg.now ages.now n kind.Dependent ≤ index.old }
     ensures room { fin.new.room ≡ fin.old.room }
     ensures resurrected { Resurrected (parts heap.now seg.now ages.now fin.old []) n marks.old
         marks.new fin.new.waiting steps.old steps.new }
     ensures count { Counts (IsOut (object_at heap.now) n (promoted_in marks.old)) result }
 {
-    let revived = fin.revive_among(heap, marks, n, objects);
-    rescan(seg, ages, marks, n, steps);
+    let revived = fin.revive_among(heap, marks, n, Some(objects));
+    follow(seg, ages, index, marks, n, steps);
     revived
 }
 
@@ -93,10 +97,15 @@ pub(crate) fn mark_and_clear<L: Ledger>(
 {
     let objects = plan.objects();
     let mut marks = Marks::over(alloc, heap, n, objects)?;
-    trace(heap, seg, ages, fin, roots, &mut marks, n, steps);
-    let short = clear_short(seg, ages, &mut marks, n, steps);
-    let revived = revive(heap, seg, ages, fin, objects, &mut marks, n, steps);
-    let long = clear_long(seg, ages, &mut marks, n, steps);
+    let mut index = DependentIndex::open(alloc, seg, ages, n)?;
+    trace(
+        heap, seg, ages, fin, roots, &mut marks, &mut index, n, steps,
+    );
+    let short = clear_short(seg, ages, &marks, n, steps);
+    let revived = revive(
+        heap, seg, ages, fin, objects, &mut marks, &mut index, n, steps,
+    );
+    let long = clear_long(seg, ages, &marks, n, steps);
     let dep = clear(seg, ages, &marks, n, steps);
     plan.lay(heap, &marks);
     Ok(Found {

@@ -1,10 +1,11 @@
 // What is promoted and pinned: all that is reached.
-ghost use Rattle.std.specs.Prelude.{◌≡◌, ◌+◌, true, Some, Contains};
+ghost use Rattle.std.specs.Prelude.{◌≡◌, ◌+◌, ◌*◌, ◌≤◌, true, Some, Contains};
 ghost use Rattle.std.specs.Option.{ForSome};
+ghost use Rattle.hd_model.specs.declared.data.Kind.TheVariants as kind;
 ghost use Rattle.hd_model.specs.Scene.{is_object, fields_at, IsField};
 ghost use Rattle.hd_model.specs.Heap.{has_object, object_at, objects_of};
 ghost use Rattle.hd_model.specs.Table.{row_at};
-ghost use Rattle.hd_model.specs.Visits.{MayVisitDue};
+ghost use Rattle.hd_model.specs.Visits.{MayVisitDue, visits_of};
 ghost use Rattle.hd_mark.specs.Marks.{IsSettledMarks, first_marks};
 ghost use Rattle.hd_scan.specs.Tasks.{root_tasks};
 ghost use Rattle.hd_gc.specs.Ready.{IsReady, parts};
@@ -13,12 +14,13 @@ ghost use Rattle.hd_gc.specs.Marking.{Traced};
 ghost use Rattle.hd_gc.specs.Steps.{task_visits};
 
 use hd_ages::AgeMap;
-use hd_dep::rescan;
+use hd_dep::{DependentIndex, follow};
 use hd_final::Final;
 use hd_heap::Heap;
 use hd_mark::Marks;
+use hd_model::limits::CLUMP;
 use hd_model::{Addr, Marker, Steps};
-use hd_scan::{Task, pass};
+use hd_scan::{Task, promote};
 use hd_seg::Seg;
 use std::sync::ledger::Ledger;
 
@@ -58,21 +60,14 @@ fn promote_queue(fin: &Final, marks: &mut Marks)
 }
 
 // Promotes the targets of the handles that hold them, and pins those of the handles that pin.
-fn promote_held<L: Ledger>(
-    seg: &mut Seg,
-    ages: &AgeMap,
-    marks: &mut Marks,
-    n: u8,
-    steps: &mut Steps<L>,
-)
+fn promote_held<L: Ledger>(seg: &Seg, ages: &AgeMap, marks: &mut Marks, n: u8, steps: &mut Steps<L>)
     requires settled { IsSettledMarks marks.old }
-    requires due { MayVisitDue marks.old.basis seg.old ages.now n }
-    ensures table { seg.new ≡ seg.old }
-    ensures holds { Holds (row_at seg.old) marks.old marks.new }
-    ensures steps { steps.new ≡ steps.old + task_visits seg.old ages.now n root_tasks }
+    requires due { MayVisitDue marks.old.basis seg.now ages.now n }
+    ensures holds { Holds (row_at seg.now) marks.old marks.new }
+    ensures steps { steps.new ≡ steps.old + task_visits seg.now ages.now n root_tasks }
 {
     for task in Task::ROOTS {
-        let _ = pass(seg, ages, task, marks, n, steps);
+        let _ = promote(seg, ages, task, marks, n, steps);
     }
 }
 
@@ -108,24 +103,26 @@ fn promote_carded(heap: &Heap, marks: &mut Marks, n: u8)
 /// Promotes all that is reached, from marks that have nothing yet.
 pub(crate) fn trace<L: Ledger>(
     heap: &Heap,
-    seg: &mut Seg,
+    seg: &Seg,
     ages: &AgeMap,
     fin: &Final,
     roots: &[Option<Addr>],
     marks: &mut Marks,
+    index: &mut DependentIndex,
     n: u8,
     steps: &mut Steps<L>,
 )
     requires first { marks.old ≡ first_marks heap.now n }
     requires settled { IsSettledMarks marks.old }
-    requires ready { IsReady (parts heap.now seg.old ages.now fin.now roots.now) }
-    ensures table { seg.new ≡ seg.old }
-    ensures traced { Traced (parts heap.now seg.old ages.now fin.now roots.now) n marks.new
+    requires ready { IsReady (parts heap.now seg.now ages.now fin.now roots.now) }
+    requires handles { CLUMP * visits_of seg.now ages.now n kind.Dependent ≤ index.old }
+    ensures handles { index.new ≡ index.old }
+    ensures traced { Traced (parts heap.now seg.now ages.now fin.now roots.now) n marks.new
         steps.old steps.new }
 {
     promote_roots(roots, marks);
     promote_queue(fin, marks);
     promote_held(seg, ages, marks, n, steps);
     promote_carded(heap, marks, n);
-    rescan(seg, ages, marks, n, steps);
+    follow(seg, ages, index, marks, n, steps);
 }

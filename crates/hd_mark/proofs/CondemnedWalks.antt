@@ -1,12 +1,12 @@
 -- The walk that gives condemned regions their indices.
-use Rattle.std.proofs.Common.{Bool, ◌≡◌, ℕ, ◌-◌, ◌^◌, ◌+◌, ◌/◌, ◌%◌, ◌<◌, ◌≤◌, true, false, List, length, Option, Some, None, ap, ◌∙◌, arith}
-use Rattle.std.specs.Prelude.{Contains, is_some, map, ⊤}
+use Rattle.std.proofs.Common.{Bool, ◌≡◌, ◌≢◌, ℕ, ◌-◌, ◌^◌, ◌+◌, ◌/◌, ◌%◌, ◌<◌, ◌≤◌, true, false, List, length, get_or, Option, Some, None, ap, ◌∙◌, arith}
+use Rattle.std.specs.Prelude.{AllPairs, Contains, is_some, map, ⊤}
 use Rattle.std.proofs.lemmas.Bool.{ltb-true}
 use Rattle.std.proofs.lemmas.List.{get_or-map, length-map}
 use Rattle.hd_model.specs.declared.data.Addr.{Addr}
 use Rattle.hd_model.specs.Heap.{Heap, region_of, region_generation, has_object}
 use Rattle.hd_heap.specs.declared.survey.CondemnedObject.{CondemnedObject}
-use Rattle.hd_heap.specs.Calls.{is_after, is_condemned, IsNext, AreSurveyed}
+use Rattle.hd_heap.specs.Calls.{is_after, is_condemned, surveyed, IsNext, AreSurveyed}
 use Rattle.hd_heap.specs.Sound.{IsSound}
 use Rattle.hd_mark.specs.Inside.{place_at, IsTable}
 
@@ -46,6 +46,16 @@ all_surveyed h n s is a condemned =
       (omega arith),
       get_or-map (λ (o : CondemnedObject). o.at.0) s k _ a.0 rest.0 ∙ ap (λ (x : Addr). x.0) rest.1,
     )
+
+pub addresses_apart : (h : Heap) (n : ℕ) (s : List CondemnedObject) → AreSurveyed h n s
+    → AllPairs (λ x y. x ≢ y) (addresses s)
+addresses_apart h n s is i j d low high same =
+    let within : j < length s = omega (arith, high, length-map s (λ (o : CondemnedObject). o.at.0)) in
+    let first : get_or (addresses s) i d ≡ (surveyed s i).at.0 =
+    get_or-map (λ (o : CondemnedObject). o.at.0) s i _ d (omega (arith, low, within)) in
+    let second : get_or (addresses s) j d ≡ (surveyed s j).at.0 =
+    get_or-map (λ (o : CondemnedObject). o.at.0) s j _ d within in
+    omega (arith, is.rising i j low within, first, second, same)
 
 -- the number of an address, 0 for none
 abbrev pub last_of : Option Addr → ℕ

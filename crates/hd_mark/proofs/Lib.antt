@@ -1,6 +1,6 @@
 pub mod MarkBits
 pub mod UnmarkedCount
-pub mod TraceInvariant
+pub mod MarksInvariant
 pub mod MarkPush
 pub mod MarkDrain
 pub mod CondemnedWalks

@@ -1,9 +1,12 @@
 -- What is true while a stack is drained, and what it comes to.
-use Rattle.std.proofs.Common.{◌≡◌, ℕ, ◌+◌, ◌<◌, ◌≤◌, Bool, true, false, ◌||◌, ◌⊎◌, List, [], ◌∷◌, length, Option, Some, None, inl, inr, refl, sym, ap, ◌∙◌, subst, ⊎_elim, arith}
+use Rattle.std.proofs.Common.{◌≡◌, ◌≢◌, ℕ, ◌<◌, ◌≤◌, Bool, true, false, ◌||◌, ◌⊎◌, List, [], ◌∷◌, ◌++◌, length, take, drop, Option, Some, None, inl, inr, refl, sym, ap, ◌∙◌, subst, ⊎_elim, arith}
 use Rattle.std.specs.Prelude.{Contains, is_some, if◌then◌else◌}
 use Rattle.std.specs.FinSet.{FinSet, contains, insert, empty, contains-empty}
 use Rattle.std.specs.Ordering.{nat_cmp}
 use Rattle.std.proofs.lemmas.Bool.{cases_eq, cases_lt, both_ways, lt-ltb, le-ltb, le-leb, and_from, or_cases, or_left, or_right}
+use Rattle.std.proofs.Math.Seq.{take-append_seam}
+use Rattle.std.proofs.lemmas.List.{append-nil, append_assoc, take-append-drop}
+use Rattle.std.proofs.lemmas.List.Elements.{Contains-append_cases, Contains-append_left, Contains-append_right, Contains-push_cases}
 use Rattle.hd_model.specs.declared.data.Addr.{Addr}
 use Rattle.hd_model.specs.State.{Object}
 use Rattle.hd_model.specs.Heap.{Heap, Basis, object_at, objects_of}
@@ -11,12 +14,12 @@ use Rattle.hd_model.specs.Scene.{is_object, generation_at, generation_in, fields
 use Rattle.hd_model.specs.Leads.{Leads, Grows}
 use Rattle.hd_model.specs.Marking.{Gains}
 use Rattle.hd_model.specs.Names.{HasClosedFields}
-use Rattle.hd_model.proofs.Members.{not_in_none, first_in, later_in, member_cases}
+use Rattle.hd_model.proofs.Members.{not_in_none, first_in, later_in, member_cases, pairs_none}
 use Rattle.hd_heap.specs.Calls.{is_condemned}
-use Rattle.hd_mark.specs.Marks.{MarksOf, is_older, promoted_in, pinned_in, pushed, pinned_also, first_marks, HasNoneYet, IsSettledMarks}
-use Rattle.hd_mark.specs.Steps.{scanned, IsTraced}
+use Rattle.hd_mark.specs.Marks.{MarksOf, is_older, log_of, GoesOn, promoted_in, pinned_in, pushed, pinned_also, first_marks, HasNoneYet, IsSettledMarks}
+use Rattle.hd_mark.specs.Steps.{scanned, advanced, IsLog, IsTraced, IsNextDone}
 use Rattle.hd_mark.proofs.MarkBits.{insert_here, insert_elsewhere, insert_keeps}
-use Rattle.hd_mark.proofs.MarkPush.{Pushes, work, pushes_one, scan_pushes, stays_promoted, promoted_how, push_cases}
+use Rattle.hd_mark.proofs.MarkPush.{Pushes, work, marked_also, pushes_one, scan_pushes, stays, stays_promoted, promoted_how, push_cases}
 use Rattle.hd_heap.proofs.HeapValues.{same_address}
 
 -- ---- older objects
@@ -69,58 +72,54 @@ marked_young m x h condemned =
 
 -- ---- pushes
 
--- pushes keep what is true between calls, where what was marked and is not stacked was scanned
-module _ (S : Addr → Type 0) (m n : MarksOf) (p : Pushes S m n)
-    (object : (x : Addr) → S x → is_object (objects_of m.basis) x ≡ true)
-    (fields : HasClosedFields (objects_of m.basis))
-    (marked : (x : Addr) → contains m.marks x.0 ≡ true → IsCondemned (objects_of m.basis) m.basis.condemned x)
-    (stacked : (x : Addr) → Contains m.stacked x → contains m.marks x.0 ≡ true)
-    (scanned_before : (x : Addr) → contains m.marks x.0 ≡ true → Contains m.stacked x
-    ⊎ ((y : Addr) → IsField (objects_of m.basis) x y → promoted_in n y ≡ true)) where
-  marked_after : (x : Addr) → contains n.marks x.0 ≡ true
-      → IsCondemned (objects_of n.basis) n.basis.condemned x
-  marked_after x h =
+-- pushes of objects keep what is true between calls
+pub traced_on : (S : Addr → Type 0) (m n : MarksOf) → Pushes S m n
+    → ((x : Addr) → S x → is_object (objects_of m.basis) x ≡ true) → IsTraced m → IsTraced n
+traced_on S m n p object t = record {
+  fields = subst (λ (b : Basis). HasClosedFields (objects_of b)) (sym p.basis) t.fields;
+  marked = λ x h.
       subst (λ (b : Basis). IsCondemned (objects_of b) b.condemned x) (sym p.basis)
-      (⊎_elim (λ old. marked x old)
-      (λ (new : S x × (Contains n.stacked x × (is_older m.basis x ≡ false))).
-      record { object = object x new.0; young = is_young m.basis x new.1.1 }) (p.only x h))
-
-  stacked_after : (x : Addr) → Contains n.stacked x → contains n.marks x.0 ≡ true
-  stacked_after x h =
-      ⊎_elim (λ old. p.keeps x (stacked x old)) (λ (new : S x × (contains n.marks x.0 ≡ true)). new.1)
-      (p.stacks x h)
-
-  scanned_after : (x : Addr) → contains n.marks x.0 ≡ true → Contains n.stacked x
-      ⊎ ((y : Addr) → IsField (objects_of n.basis) x y → promoted_in n y ≡ true)
-  scanned_after x h =
+      (⊎_elim (t.marked x)
+      (λ (new : S x × (Contains n.unscanned x × (is_older m.basis x ≡ false))).
+      record { object = object x new.0; young = is_young m.basis x new.1.1 }) (p.only x h));
+  log = p.log t.log;
+  scanned = λ x h.
       ⊎_elim
-      (λ old. ⊎_elim (λ on. inl (p.stays x on))
-      (λ (done : (y : Addr) → IsField (objects_of m.basis) x y → promoted_in n y ≡ true).
-      inr (λ y f. done y (subst (λ (b : Basis). IsField (objects_of b) x y) p.basis f)))
-      (scanned_before x old))
-      (λ (new : S x × (Contains n.stacked x × (is_older m.basis x ≡ false))). inl new.1.0) (p.only x h)
-
-  pub traced_on : IsTraced n
-  traced_on = record {
-    fields = subst (λ (b : Basis). HasClosedFields (objects_of b)) (sym p.basis) fields;
-    marked = marked_after;
-    stacked = stacked_after;
-    scanned = scanned_after;
-  }
-
--- what the fields of an object reference is promoted afterwards, or the object is stacked
-still : (S : Addr → Type 0) (m n : MarksOf) → Pushes S m n → (x : Addr) → Contains m.stacked x
-    ⊎ ((y : Addr) → IsField (objects_of m.basis) x y → promoted_in m y ≡ true)
-    → Contains m.stacked x ⊎ ((y : Addr) → IsField (objects_of m.basis) x y → promoted_in n y ≡ true)
-still S m n p x (inl on) = inl on
-still S m n p x (inr done) = inr (λ y f. stays_promoted S m n p y (done y f))
+      (λ old. ⊎_elim (λ on. inl (stays S m n p x on))
+      (λ (done : (y : Addr) → IsField (objects_of m.basis) x y → promoted_in m y ≡ true).
+      inr (λ y f. stays_promoted S m n p y
+      (done y (subst (λ (b : Basis). IsField (objects_of b) x y) p.basis f))))
+      (t.scanned x old))
+      (λ (new : S x × (Contains n.unscanned x × (is_older m.basis x ≡ false))). inl new.1.0) (p.only x h);
+}
 
 pub push_traced : (m : MarksOf) (a : Addr) → IsTraced m → is_object (objects_of m.basis) a ≡ true
     → IsTraced (pushed m a)
 push_traced m a t object =
-    let p : Pushes (λ x. x ≡ a) m (pushed m a) = pushes_one (λ x. x ≡ a) m a refl object in
-    traced_on (λ x. x ≡ a) m (pushed m a) p (λ x e. ap (is_object (objects_of m.basis)) e ∙ object) t.fields
-    t.marked t.stacked (λ x h. still (λ z. z ≡ a) m (pushed m a) p x (t.scanned x h))
+    traced_on (λ x. x ≡ a) m (pushed m a) (pushes_one (λ x. x ≡ a) m a refl object)
+    (λ x e. ap (is_object (objects_of m.basis)) e ∙ object) t
+
+-- the next object counts as scanned, since its fields are done
+same_log : (m : MarksOf) → log_of (advanced m) ≡ log_of m
+same_log m =
+    append_assoc m.scanned (take 1 m.unscanned) (drop 1 m.unscanned)
+    ∙ ap (λ xs. m.scanned ++ xs) (take-append-drop 1 m.unscanned)
+
+pub advance_traced : (m : MarksOf) → IsNextDone m → IsTraced m → IsTraced (advanced m)
+advance_traced m next t = record {
+  fields = t.fields;
+  marked = t.marked;
+  log = subst (IsLog m.marks) (sym (same_log m)) t.log;
+  scanned = λ x h.
+      ⊎_elim
+      (λ on. ⊎_elim
+      (λ (e : next.next ≡ x). inr (λ y f. next.done y (subst (λ z. IsField (objects_of m.basis) z y) (sym e)
+      f)))
+      (λ later. inl (subst (λ xs. Contains xs x) (ap (drop 1) (sym next.unscanned_is)) later))
+      (member_cases next.next next.rest x (subst (λ xs. Contains xs x) next.unscanned_is on)))
+      (λ (done : (y : Addr) → IsField (objects_of m.basis) x y → promoted_in m y ≡ true). inr done)
+      (t.scanned x h);
+}
 
 -- ---- a drain
 
@@ -128,112 +127,128 @@ push_traced m a t object =
 abbrev YoungEdge : MarksOf → Addr → Addr → Type 0
 YoungEdge m = IsYoungField (objects_of m.basis) m.basis.condemned
 
--- edges lead to x from what is stacked
+-- edges lead to x from what is to be scanned
 abbrev IsLed : MarksOf → Addr → Type 0
-IsLed m x = (r : Addr) × (Contains m.stacked r × Leads (YoungEdge m) r x)
+IsLed m x = (r : Addr) × (Contains m.unscanned r × Leads (YoungEdge m) r x)
 
 -- how far a drain has come from m
 pub record IsDraining (m n : MarksOf) : Type 0 where
   pub basis : n.basis ≡ m.basis
   pub pins : n.pins ≡ m.pins
-  pub traced : IsTraced n
   pub keeps : (x : Addr) → promoted_in m x ≡ true → promoted_in n x ≡ true
-  pub only : (x : Addr) → promoted_in n x ≡ true → (promoted_in m x ≡ true)
-      ⊎ IsLed m x
-  pub led : (x : Addr) → Contains n.stacked x
-      → IsLed m x
+  pub only : (x : Addr) → promoted_in n x ≡ true → (promoted_in m x ≡ true) ⊎ IsLed m x
+  pub led : (x : Addr) → Contains n.unscanned x → IsLed m x
+  pub goes_on : GoesOn m n
 
-pub draining_start : (m : MarksOf) → IsTraced m → IsDraining m m
-draining_start m t = record {
+pub draining_start : (m : MarksOf) → IsDraining m m
+draining_start m = record {
   basis = refl;
   pins = refl;
-  traced = t;
   keeps = λ x h. h;
   only = λ x h. inl h;
   led = λ x h. (x, (h, Leads.here));
+  goes_on = ([], sym (append-nil (log_of m)));
 }
 
--- one object is taken from the stack and scanned
-module _ (m n : MarksOf) (d : IsDraining m n) (x : Addr) (rest : List Addr) (top : n.stacked ≡ x ∷ rest) where
-  abbrev popped : MarksOf
-  popped = record n { stacked = rest }
+-- what is to be scanned is marked, and so are objects
+pub unscanned_marked : (m : MarksOf) → IsTraced m → (x : Addr) → Contains m.unscanned x
+    → contains m.marks x.0 ≡ true
+unscanned_marked m t x h = t.log.each x (Contains-append_right m.scanned m.unscanned x h)
 
+-- the next object is scanned
+module _ (m n : MarksOf) (d : IsDraining m n) (t : IsTraced n) (x : Addr) (rest : List Addr)
+    (top : n.unscanned ≡ x ∷ rest) where
   abbrev after : MarksOf
-  after = scanned (record n { stacked = rest }) (fields_at (objects_of n.basis) x)
+  after = scanned n (fields_at (objects_of n.basis) x)
 
-  on_top : Contains n.stacked x
+  on_top : Contains n.unscanned x
   on_top = subst (λ (xs : List Addr). Contains xs x) (sym top) (first_in x rest)
 
-  below : (z : Addr) → Contains rest z → Contains n.stacked z
-  below z h = subst (λ (xs : List Addr). Contains xs z) (sym top) (later_in x rest z h)
+  pub next_condemned : IsCondemned (objects_of n.basis) n.basis.condemned x
+  next_condemned = t.marked x (unscanned_marked n t x on_top)
 
   abbrev Start : Addr → Type 0
   Start y = IsField (objects_of n.basis) x y
 
-  scan : Pushes Start popped after
+  scan : Pushes Start n after
       × ((y : Addr) → IsField (objects_of n.basis) x y → promoted_in after y ≡ true)
-  scan = scan_pushes Start (fields_at (objects_of n.basis) x) popped (λ y h. (h, d.traced.fields x y h))
+  scan = scan_pushes Start (fields_at (objects_of n.basis) x) n (λ y h. (h, t.fields x y h))
 
-  x_marked : contains n.marks x.0 ≡ true
-  x_marked = d.traced.stacked x on_top
+  after_top : after.unscanned ≡ x ∷ (rest ++ scan.0.more)
+  after_top = scan.0.unscanned ∙ ap (λ xs. xs ++ scan.0.more) top
+
+  pub next_done : IsNextDone after
+  next_done = record {
+    next = x;
+    rest = rest ++ scan.0.more;
+    unscanned_is = after_top;
+    done = λ y f. scan.1 y (subst (λ (b : Basis). IsField (objects_of b) x y) scan.0.basis f);
+  }
 
   -- what the object references is reached
-  named : (y : Addr) → IsField (objects_of n.basis) x y
-      → IsLed m y
+  named : (y : Addr) → IsField (objects_of n.basis) x y → IsLed m y
   named y f =
       let (r, chain) = d.led x on_top in
       let edge : YoungEdge m x y =
       subst (λ (b : Basis). IsYoungField (objects_of b) b.condemned x y) d.basis
-      (record { condemned = d.traced.marked x x_marked; field = f }) in
+      (record { condemned = next_condemned; field = f }) in
       (r, (chain.0, Leads.more chain.1 edge))
 
-  -- it was scanned now
-  scanned_now : (z : Addr) → contains n.marks z.0 ≡ true → Contains rest z
-      ⊎ ((y : Addr) → IsField (objects_of n.basis) z y → promoted_in after y ≡ true)
-  scanned_now z h = by (d.traced.scanned z h)
-    where
-      by : Contains n.stacked z ⊎ ((y : Addr) → IsField (objects_of n.basis) z y → promoted_in n y ≡ true)
-          → Contains rest z ⊎ ((y : Addr) → IsField (objects_of n.basis) z y → promoted_in after y ≡ true)
-      by (inl on) =
-          ⊎_elim (λ (e : x ≡ z). inr (λ y f. scan.1 y (subst (λ w. IsField (objects_of n.basis) w y) (sym e)
-          f)))
-          (λ later. inl later) (member_cases x rest z (subst (λ (xs : List Addr). Contains xs z) top on))
-      by (inr done) = inr (λ y f. stays_promoted Start popped after scan.0 y (done y f))
-
-  after_only : (z : Addr) → promoted_in after z ≡ true → (promoted_in m z ≡ true)
-      ⊎ IsLed m z
+  after_only : (z : Addr) → promoted_in after z ≡ true → (promoted_in m z ≡ true) ⊎ IsLed m z
   after_only z h =
       ⊎_elim
       (λ older. d.only z (or_left _ _ (ap (λ (b : Basis). is_older b z) (sym scan.0.basis) ∙ older)))
       (λ marked. ⊎_elim (λ old. d.only z (or_right (is_older n.basis z) _ old))
-      (λ (new : Start z × (Contains after.stacked z × (is_older n.basis z ≡ false))). inr (named z new.0))
+      (λ (new : Start z × (Contains after.unscanned z × (is_older n.basis z ≡ false))). inr (named z new.0))
       (scan.0.only z marked)) (promoted_how after z h)
 
-  pub draining_on : IsDraining m after
+  pub draining_on : IsDraining m (advanced after)
   draining_on = record {
     basis = scan.0.basis ∙ d.basis;
     pins = scan.0.pins ∙ d.pins;
-    traced = traced_on Start popped after scan.0 (d.traced.fields x) d.traced.fields d.traced.marked
-        (λ z h. d.traced.stacked z (below z h)) scanned_now;
-    keeps = λ z h. stays_promoted Start popped after scan.0 z (d.keeps z h);
+    keeps = λ z h. stays_promoted Start n after scan.0 z (d.keeps z h);
     only = after_only;
-    led = λ z h. ⊎_elim (λ old. d.led z (below z old))
-        (λ (new : Start z × (contains after.marks z.0 ≡ true)). named z new.0) (scan.0.stacks z h);
+    led = λ z h.
+        ⊎_elim (λ old. d.led z (subst (λ xs. Contains xs z) (sym top) (later_in x rest z old)))
+        (λ new. named z (scan.0.each z new))
+        (Contains-append_cases rest scan.0.more z
+        (subst (λ xs. Contains xs z) (ap (drop 1) after_top) h));
+    goes_on = (
+      d.goes_on.0 ++ scan.0.more,
+      same_log after ∙ (λ i. scan.0.scanned i ++ scan.0.unscanned i)
+          ∙ sym (append_assoc n.scanned n.unscanned scan.0.more)
+          ∙ ap (λ (xs : List Addr). xs ++ scan.0.more) d.goes_on.1
+          ∙ append_assoc (log_of m) d.goes_on.0 scan.0.more,
+    );
   }
 
   -- and less is left to do
-  pub work_falls : work after.basis.heap after.marks after.stacked < work n.basis.heap n.marks n.stacked
+  pub work_falls : work after.basis.heap after.marks (drop 1 after.unscanned)
+      < work n.basis.heap n.marks n.unscanned
   unfolding work
   work_falls =
       let less = scan.0.work in
-      let long : length n.stacked ≡ length rest + 1 = ap length top ∙ omega arith in
-      let same : work after.basis.heap after.marks after.stacked ≡ work n.basis.heap after.marks
-      after.stacked =
-      ap (λ (b : Basis). work b.heap after.marks after.stacked) scan.0.basis in
+      let long : length after.unscanned ≡ length (x ∷ (rest ++ scan.0.more)) = ap length after_top in
+      let left : length (drop 1 after.unscanned) ≡ length (rest ++ scan.0.more) =
+      ap (λ xs. length (drop 1 xs)) after_top in
+      let same : work after.basis.heap after.marks (drop 1 after.unscanned)
+      ≡ work n.basis.heap after.marks (drop 1 after.unscanned) =
+      ap (λ (b : Basis). work b.heap after.marks (drop 1 after.unscanned)) scan.0.basis in
       omega arith
 
--- with nothing stacked, what is promoted is settled
-pub settled_empty : (m : MarksOf) → IsTraced m → m.stacked ≡ [] → IsSettledMarks m
+-- what was to be scanned at first is promoted at last, since it is in the log
+pub drain_grows : (m n : MarksOf) → IsDraining m n → IsTraced n
+    → Grows (YoungEdge m) (λ x. Contains m.unscanned x) (promoted_in m) (promoted_in n)
+drain_grows m n d t = record {
+  keeps = d.keeps;
+  joins = λ x h. or_right (is_older n.basis x) _ (t.log.each x
+      (subst (λ xs. Contains xs x) (sym d.goes_on.1)
+      (Contains-append_left (log_of m) d.goes_on.0 x (Contains-append_right m.scanned m.unscanned x h))));
+  only = d.only;
+}
+
+-- with nothing left to scan, what is promoted is settled
+pub settled_empty : (m : MarksOf) → IsTraced m → m.unscanned ≡ [] → IsSettledMarks m
 settled_empty m t empty = record {
   empty = empty;
   settled = record {
@@ -245,6 +260,11 @@ settled_empty m t empty = record {
         (λ (done : (z : Addr) → IsField (objects_of m.basis) x z → promoted_in m z ≡ true). done y f.field)
         (t.scanned x (marked_young m x h f.condemned));
   };
+  log = record {
+    apart = t.log.apart;
+    each = λ x h. (t.marked x (t.log.each x h), or_right (is_older m.basis x) _ (t.log.each x h));
+    all = λ x condemned h. t.log.all x (marked_young m x h condemned);
+  };
 }
 
 -- ---- the calls of a marker
@@ -254,7 +274,11 @@ pub first_traced : (h : Heap) (n : ℕ) → HasClosedFields (object_at h) → Is
 first_traced h n closed = record {
   fields = closed;
   marked = λ x h. absurd (both_ways _ (contains-empty nat_cmp x.0) h);
-  stacked = λ x h. absurd (not_in_none x h);
+  log = record {
+    apart = pairs_none (λ x y. x ≢ y);
+    each = λ x h. absurd (not_in_none x h);
+    all = λ x h. absurd (both_ways _ (contains-empty nat_cmp x.0) h);
+  };
   scanned = λ x h. absurd (both_ways _ (contains-empty nat_cmp x.0) h);
 }
 
@@ -277,14 +301,14 @@ pin_cases P m a old new = by (is_older m.basis a) refl
     by true e = old e
     by false e = new e
 
-pin_traced : (m : MarksOf) (a : Addr) → IsTraced m → IsTraced (pinned_also m a)
+pub pin_traced : (m : MarksOf) (a : Addr) → IsTraced m → IsTraced (pinned_also m a)
 pin_traced m a t =
     pin_cases IsTraced m a (λ e. t)
-    (λ e. record { fields = t.fields; marked = t.marked; stacked = t.stacked; scanned = t.scanned })
+    (λ e. record { fields = t.fields; marked = t.marked; log = t.log; scanned = t.scanned })
 
 pub pin_settled : (m : MarksOf) (a : Addr) → IsSettledMarks m → IsSettledMarks (pinned_also m a)
 pin_settled m a s = pin_cases IsSettledMarks m a (λ e. s)
-    (λ e. record { empty = s.empty; settled = s.settled })
+    (λ e. record { empty = s.empty; settled = s.settled; log = s.log })
 
 -- what a set of an address more has
 joined_only : (b : Bool) (s : FinSet nat_cmp) (a x : Addr) → (b || contains (insert s a.0) x.0) ≡ true
@@ -315,19 +339,19 @@ pin_gains m a =
 -- a push and a drain of settled marks
 promote_grows : (m : MarksOf) (q : Addr → Bool) (a : Addr) → IsSettledMarks m
     → Grows (IsYoungField (objects_of (pushed m a).basis) (pushed m a).basis.condemned)
-    (λ x. Contains (pushed m a).stacked x) (promoted_in (pushed m a)) q
+    (λ x. Contains (pushed m a).unscanned x) (promoted_in (pushed m a)) q
     → Grows (YoungEdge m) (λ x. x ≡ a) (promoted_in m) q
 promote_grows m q a s = push_cases Follows m a old new
   where
     Follows : MarksOf → Type 0
     Follows n =
-        Grows (IsYoungField (objects_of n.basis) n.basis.condemned) (λ x. Contains n.stacked x)
+        Grows (IsYoungField (objects_of n.basis) n.basis.condemned) (λ x. Contains n.unscanned x)
         (promoted_in n)
         q
         → Grows (YoungEdge m) (λ x. x ≡ a) (promoted_in m)
         q
 
-    none : (r : Addr) → Contains m.stacked r → ⊥
+    none : (r : Addr) → Contains m.unscanned r → ⊥
     none r h = not_in_none r (subst (λ (xs : List Addr). Contains xs r) s.empty h)
 
     old : promoted_in m a ≡ true → Follows m
@@ -339,7 +363,7 @@ promote_grows m q a s = push_cases Follows m a old new
           absurd (none w.0 w.1.0)) (g.only x h);
     }
 
-    new : promoted_in m a ≡ false → Follows (record m { marks = insert m.marks a.0; stacked = a ∷ m.stacked })
+    new : promoted_in m a ≡ false → Follows (marked_also m a)
     new e g = record {
       keeps = λ x h. g.keeps x (joined_keeps (is_older m.basis x) m.marks a x h);
       joins = λ x same. g.keeps x
@@ -347,21 +371,34 @@ promote_grows m q a s = push_cases Follows m a old new
       only = λ x h. ⊎_elim
           (λ before. ⊎_elim (λ was. inl was) (λ (same : x ≡ a). inr (x, (same, Leads.here)))
           (joined_only (is_older m.basis x) m.marks a x before))
-          (λ (w : (r : Addr) × (Contains (a ∷ m.stacked) r × Leads (YoungEdge m) r x)).
-          ⊎_elim (λ (same : a ≡ w.0). inr (w.0, (sym same, w.1.1))) (λ later. absurd (none w.0 later))
-          (member_cases a m.stacked w.0 w.1.0)) (g.only x h);
+          (λ (w : (r : Addr) × (Contains (m.unscanned ++ a ∷ []) r × Leads (YoungEdge m) r x)).
+          ⊎_elim (λ before. absurd (none w.0 before)) (λ (same : a ≡ w.0). inr (w.0, (sym same, w.1.1)))
+          (Contains-push_cases m.unscanned a w.0 w.1.0)) (g.only x h);
     }
+
+-- the log that a push and a drain leave begins with the one before
+pub log_kept : (m j k : MarksOf) (a : Addr) → j ≡ pushed m a → GoesOn j k
+    → take (length (log_of m)) (log_of k) ≡ log_of m
+log_kept m j k a is on =
+    let (more, all) = one in ap (take (length (log_of m))) all ∙ take-append_seam (log_of m) more
+  where
+    first : GoesOn m j
+    first = subst (GoesOn m) (sym is) (push_cases (GoesOn m) m a (λ e. ([], sym (append-nil (log_of m))))
+        (λ e. (a ∷ [], sym (append_assoc m.scanned m.unscanned (a ∷ [])))))
+
+    one : GoesOn m k
+    one = (
+      first.0 ++ on.0,
+      on.1 ∙ ap (λ (xs : List Addr). xs ++ on.0) first.1 ∙ append_assoc (log_of m) first.0 on.0,
+    )
 
 -- ---- for the answers
 
-pub pinned_traced : (m k : MarksOf) (a : Addr) → k ≡ pinned_also m a → IsTraced m → IsTraced k
-pinned_traced m k a is t = subst IsTraced (sym is) (pin_traced m a t)
-
 pub promoted_grows : (m j : MarksOf) (q : Addr → Bool) (a : Addr) → j ≡ pushed m a → IsSettledMarks m
-    → Grows (YoungEdge j) (λ x. Contains j.stacked x) (promoted_in j) q
+    → Grows (YoungEdge j) (λ x. Contains j.unscanned x) (promoted_in j) q
     → Grows (YoungEdge m) (λ x. x ≡ a) (promoted_in m) q
 promoted_grows m j q a is s =
-    subst (λ (i : MarksOf). Grows (YoungEdge i) (λ x. Contains i.stacked x) (promoted_in i) q
+    subst (λ (i : MarksOf). Grows (YoungEdge i) (λ x. Contains i.unscanned x) (promoted_in i) q
     → Grows (YoungEdge m) (λ x. x ≡ a) (promoted_in m) q) (sym is) (promote_grows m q a s)
 
 -- for `grind`: what a pin does to settled marks

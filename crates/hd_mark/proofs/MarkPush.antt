@@ -1,20 +1,22 @@
 -- What pushes do to marks.
-use Rattle.std.proofs.Common.{◌≡◌, ℕ, ◌+◌, ◌≤◌, Bool, true, false, ◌⊎◌, List, [], ◌∷◌, length, Option, Some, None, inl, inr, refl, sym, ap, ◌∙◌, subst, ⊎_elim, arith}
-use Rattle.std.specs.Prelude.{Contains, if◌then◌else◌}
+use Rattle.std.proofs.Common.{◌≡◌, ◌≢◌, ℕ, ◌+◌, ◌≤◌, Bool, true, false, ◌⊎◌, List, [], ◌∷◌, ◌++◌, length, Option, Some, None, inl, inr, refl, sym, ap, ◌∙◌, subst, ⊎_elim, arith, length-append}
+use Rattle.std.specs.Prelude.{Contains, IsSome, if◌then◌else◌}
 use Rattle.std.specs.FinMap as map
 use Rattle.std.specs.FinSet.{FinSet, contains, insert}
 use Rattle.std.specs.Ordering.{nat_cmp}
-use Rattle.std.specs.Cmp.{unsigned_tied}
-use Rattle.std.proofs.lemmas.Bool.{cases_eq, eqb-true, or_cases, or_left, or_right, or_parts}
-use Rattle.std.proofs.lemmas.Map.Views.{Contains-from_any}
+use Rattle.std.proofs.lemmas.Bool.{both_ways, cases_eq, or_cases, or_left, or_right, or_parts}
+use Rattle.std.proofs.lemmas.List.{append-nil, append_assoc}
+use Rattle.std.proofs.lemmas.List.Elements.{Contains-append_cases, Contains-append_left, Contains-push, Contains-push_cases}
 use Rattle.hd_model.specs.declared.data.Addr.{Addr}
-use Rattle.hd_model.specs.Heap.{Heap, Basis, has_object, objects_of}
+use Rattle.hd_model.specs.Heap.{Heap, Basis, objects_of}
 use Rattle.hd_model.specs.Scene.{is_object}
-use Rattle.hd_model.proofs.Members.{not_in_none, first_in, later_in, member_cases}
+use Rattle.hd_model.specs.Counting.{Counts}
+use Rattle.hd_model.proofs.Entries.{counts_keys}
+use Rattle.hd_model.proofs.Members.{not_in_none, first_in, later_in, member_cases, pairs_append, pairs_cons, pairs_none}
 use Rattle.hd_heap.proofs.RegionReads.{has-get}
 use Rattle.hd_mark.specs.Inside.{left}
-use Rattle.hd_mark.specs.Marks.{MarksOf, is_older, promoted_in, pushed}
-use Rattle.hd_mark.specs.Steps.{scanned}
+use Rattle.hd_mark.specs.Marks.{MarksOf, is_older, log_of, promoted_in, pushed}
+use Rattle.hd_mark.specs.Steps.{IsLog, scanned}
 use Rattle.hd_mark.proofs.MarkBits.{insert_here, insert_elsewhere, insert_keeps}
 use Rattle.hd_mark.proofs.UnmarkedCount.{left_falls}
 use Rattle.hd_heap.proofs.HeapValues.{same_address}
@@ -26,20 +28,40 @@ promoted_how m x e = or_cases _ _ e
 
 -- ---- what is left to promote or to scan
 
--- an object is among the addresses of all objects
-pub key_of : (h : Heap) (a : Addr) → has_object h a ≡ true → Contains (map.keys h.objects) a.0
-key_of h a there =
-    Contains-from_any (λ x y e. eqb-true x y (sym (unsigned_tied x y) ∙ e)) a.0 (map.keys h.objects)
-    (sym (map.contains_key-keys h.objects a.0) ∙ sym (has-get h a) ∙ there)
+-- the addresses of all objects, each once
+pub keys_of : (h : Heap) → Counts (λ (k : ℕ). IsSome (map.get h.objects k)) (map.len h.objects)
+keys_of h = counts_keys h.objects (λ (k : ℕ). k) (λ k. k) (λ k. refl) (λ k. refl)
 
--- the objects that are not marked, and those that are stacked
+-- the objects that are not marked, and those that are to be scanned
 unfoldable pub work : Heap → FinSet nat_cmp → List Addr → ℕ
-work h marks stacked = left marks (map.keys h.objects) + length stacked
+work h marks unscanned = left marks (keys_of h).members + length unscanned
 
 -- ---- one push
 
-abbrev marked_also : MarksOf → Addr → MarksOf
-marked_also m a = record m { marks = insert m.marks a.0; stacked = a ∷ m.stacked }
+abbrev pub marked_also : MarksOf → Addr → MarksOf
+marked_also m a = record m { marks = insert m.marks a.0; unscanned = m.unscanned ++ a ∷ [] }
+
+-- the log has one address more, which was not marked
+log_more : (marks : FinSet nat_cmp) (log : List Addr) (a : Addr) → contains marks a.0 ≡ false
+    → IsLog marks log → IsLog (insert marks a.0) (log ++ a ∷ [])
+log_more marks log a unmarked l = record {
+  apart = pairs_append (λ x y. x ≢ y) log (a ∷ []) l.apart
+      (pairs_cons (λ x y. x ≢ y) a [] (λ y h. absurd (not_in_none y h)) (pairs_none (λ x y. x ≢ y)))
+      (λ x y before last same.
+      ⊎_elim
+      (λ (e : a ≡ y).
+      both_ways _ unmarked
+      (ap (λ (z : Addr). contains marks z.0) (e ∙ sym same) ∙ l.each x before))
+      (λ none. absurd (not_in_none y none)) (member_cases a [] y last));
+  each = λ x h. ⊎_elim (λ before. insert_keeps marks a.0 x.0 (l.each x before))
+      (λ (e : a ≡ x). insert_here marks a.0 x.0 (ap (λ (y : Addr). y.0) (sym e)))
+      (Contains-push_cases log a x h);
+  all = λ x h. elim (cases_eq x.0 a.0) [
+    | inl e ↦ subst (Contains (log ++ a ∷ [])) (same_address a x (sym e)) (Contains-push log a)
+    | inr apart ↦ Contains-append_left log (a ∷ []) x
+        (l.all x (sym (insert_elsewhere marks a.0 x.0 apart) ∙ h))
+  ];
+}
 
 -- a push is one of two things
 pub push_cases : (P : MarksOf → Type 0) (m : MarksOf) (a : Addr) → (promoted_in m a ≡ true → P m)
@@ -54,23 +76,28 @@ push_cases P m a old new = by (promoted_in m a) refl
 pub record Pushes (S : Addr → Type 0) (m n : MarksOf) : Type 0 where
   pub basis : n.basis ≡ m.basis
   pub pins : n.pins ≡ m.pins
+  pub scanned : n.scanned ≡ m.scanned
   pub keeps : (x : Addr) → contains m.marks x.0 ≡ true → contains n.marks x.0 ≡ true
   pub only : (x : Addr) → contains n.marks x.0 ≡ true
-      → (contains m.marks x.0 ≡ true) ⊎ (S x × (Contains n.stacked x × (is_older m.basis x ≡ false)))
-  pub stays : (x : Addr) → Contains m.stacked x → Contains n.stacked x
-  pub stacks : (x : Addr) → Contains n.stacked x
-      → Contains m.stacked x ⊎ (S x × (contains n.marks x.0 ≡ true))
-  pub work : work m.basis.heap n.marks n.stacked ≤ work m.basis.heap m.marks m.stacked
+      → (contains m.marks x.0 ≡ true) ⊎ (S x × (Contains n.unscanned x × (is_older m.basis x ≡ false)))
+  pub more : List Addr
+  pub unscanned : n.unscanned ≡ m.unscanned ++ more
+  pub each : (x : Addr) → Contains more x → S x
+  pub log : IsLog m.marks (log_of m) → IsLog n.marks (log_of n)
+  pub work : work m.basis.heap n.marks n.unscanned ≤ work m.basis.heap m.marks m.unscanned
 
 module _ (S : Addr → Type 0) where
   pub pushes_none : (m : MarksOf) → Pushes S m m
   pushes_none m = record {
     basis = refl;
     pins = refl;
+    scanned = refl;
     keeps = λ x h. h;
     only = λ x h. inl h;
-    stays = λ x h. h;
-    stacks = λ x h. inl h;
+    more = [];
+    unscanned = sym (append-nil m.unscanned);
+    each = λ x h. absurd (not_in_none x h);
+    log = λ l. l;
     work = omega arith;
   }
 
@@ -80,11 +107,14 @@ module _ (S : Addr → Type 0) where
   unfolding work
   pushes_new m a start object not_yet =
       let (young, unmarked) = or_parts _ _ not_yet in
-      let falls = left_falls m.marks a.0 (map.keys m.basis.heap.objects) unmarked
-      (key_of m.basis.heap a object) in
+      let keys = keys_of m.basis.heap in
+      let falls = left_falls m.marks a.0 keys.members keys.apart unmarked
+      (keys.all a.0 (sym (has-get m.basis.heap a) ∙ object)) in
+      let long = length-append m.unscanned (a ∷ []) in
       record {
         basis = refl;
         pins = refl;
+        scanned = refl;
         keeps = λ x h. insert_keeps m.marks a.0 x.0 h;
         only = λ x h. elim (cases_eq x.0 a.0) [
           | inl e ↦
@@ -92,17 +122,18 @@ module _ (S : Addr → Type 0) where
               inr (
                 subst S same start,
                 (
-                  subst (Contains (a ∷ m.stacked)) same (first_in a m.stacked),
+                  subst (Contains (m.unscanned ++ a ∷ [])) same (Contains-push m.unscanned a),
                   ap (is_older m.basis) (sym same) ∙ young,
                 ),
               )
           | inr apart ↦ inl (sym (insert_elsewhere m.marks a.0 x.0 apart) ∙ h)
         ];
-        stays = λ x h. later_in a m.stacked x h;
-        stacks = λ x h. ⊎_elim
-            (λ (e : a ≡ x).
-            inr (subst S e start, insert_here m.marks a.0 x.0 (ap (λ (y : Addr). y.0) (sym e))))
-            (λ (later : Contains m.stacked x). inl later) (member_cases a m.stacked x h);
+        more = a ∷ [];
+        unscanned = refl;
+        each = λ x h. ⊎_elim (λ e. subst S e start) (λ later. absurd (not_in_none x later))
+            (member_cases a [] x h);
+        log = λ l. subst (IsLog (insert m.marks a.0)) (append_assoc m.scanned m.unscanned (a ∷ []))
+            (log_more m.marks (log_of m) a unmarked l);
         work = omega arith;
       }
 
@@ -111,29 +142,34 @@ module _ (S : Addr → Type 0) where
   pushes_one m a start object =
       push_cases (Pushes S m) m a (λ e. pushes_none m) (λ e. pushes_new m a start object e)
 
+  pub stays : (m n : MarksOf) → Pushes S m n → (x : Addr) → Contains m.unscanned x → Contains n.unscanned x
+  stays m n p x h =
+      subst (λ xs. Contains xs x) (sym p.unscanned) (Contains-append_left m.unscanned p.more x h)
+
   -- one after another
   pub pushes_on : (m n o : MarksOf) → Pushes S m n → Pushes S n o → Pushes S m o
   pushes_on m n o p q =
       let basis : n.basis ≡ m.basis = p.basis in
-      let more = subst (λ (b : Basis). work b.heap o.marks o.stacked ≤ work b.heap n.marks n.stacked) basis
-      q.work in
+      let more = subst (λ (b : Basis). work b.heap o.marks o.unscanned ≤ work b.heap n.marks n.unscanned)
+      basis q.work in
       let less = p.work in
       record {
         basis = q.basis ∙ p.basis;
         pins = q.pins ∙ p.pins;
+        scanned = q.scanned ∙ p.scanned;
         keeps = λ x h. q.keeps x (p.keeps x h);
         only = λ x h. ⊎_elim
             (λ in_n. ⊎_elim (λ in_m. inl in_m)
-            (λ (new : S x × (Contains n.stacked x × (is_older m.basis x ≡ false))).
-            inr (new.0, (q.stays x new.1.0, new.1.1))) (p.only x in_n))
-            (λ (new : S x × (Contains o.stacked x × (is_older n.basis x ≡ false))).
+            (λ (new : S x × (Contains n.unscanned x × (is_older m.basis x ≡ false))).
+            inr (new.0, (stays n o q x new.1.0, new.1.1))) (p.only x in_n))
+            (λ (new : S x × (Contains o.unscanned x × (is_older n.basis x ≡ false))).
             inr (new.0, (new.1.0, ap (λ (b : Basis). is_older b x) (sym basis) ∙ new.1.1)))
             (q.only x h);
-        stays = λ x h. q.stays x (p.stays x h);
-        stacks = λ x h. ⊎_elim
-            (λ in_n. ⊎_elim (λ in_m. inl in_m)
-            (λ (new : S x × (contains n.marks x.0 ≡ true)). inr (new.0, q.keeps x new.1)) (p.stacks x in_n))
-            (λ new. inr new) (q.stacks x h);
+        more = p.more ++ q.more;
+        unscanned = q.unscanned ∙ ap (λ (xs : List Addr). xs ++ q.more) p.unscanned
+            ∙ append_assoc m.unscanned p.more q.more;
+        each = λ x h. ⊎_elim (p.each x) (q.each x) (Contains-append_cases p.more q.more x h);
+        log = λ l. q.log (p.log l);
         work = omega arith;
       }
 

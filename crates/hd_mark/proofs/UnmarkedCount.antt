@@ -1,64 +1,33 @@
 -- How many addresses are left that are not in a set, as it grows.
-use Rattle.std.proofs.Common.{◌≡◌, ℕ, ◌+◌, ◌≤◌, Bool, true, false, not, cond, List, [], ◌∷◌, length, filter, inl, inr, refl, sym, ap, ◌∙◌, arith}
-use Rattle.std.specs.Prelude.{Contains}
+use Rattle.std.proofs.Common.{◌≡◌, ◌≢◌, ℕ, ◌+◌, ◌≤◌, Bool, true, false, not, cond, List, [], ◌∷◌, length, filter, sym, subst, ⊎_elim, arith}
+use Rattle.std.specs.Prelude.{AllPairs, Contains}
 use Rattle.std.specs.FinSet.{FinSet, contains, insert}
 use Rattle.std.specs.Ordering.{nat_cmp}
-use Rattle.std.proofs.lemmas.Bool.{cases_eq}
-use Rattle.hd_model.proofs.Members.{not_in_none, member_cases}
+use Rattle.std.proofs.lemmas.Bool.{both_ways, cases_Bool, not-true, not_from_false}
+use Rattle.hd_model.proofs.Members.{member_cases, pairs_cons, pairs_passing, passing_from, passing_in}
+use Rattle.hd_model.proofs.PropertyCounts.{fewer}
 use Rattle.hd_mark.specs.Inside.{left}
-use Rattle.hd_mark.proofs.MarkBits.{insert_here, insert_elsewhere}
-
--- of two tests, the second passes less
-module _ (f g : ℕ → Bool) (less : (k : ℕ) → g k ≡ true → f k ≡ true) where
-  no_more_at : (b c : Bool) → (c ≡ true → b ≡ true) → (x : ℕ) (xs ys : List ℕ) → length ys ≤ length xs
-      → length (cond c (x ∷ ys) ys) ≤ length (cond b (x ∷ xs) xs)
-  no_more_at true true implies x xs ys e = omega arith
-  no_more_at true false implies x xs ys e = omega arith
-  no_more_at false true implies x xs ys e = absurd (cc (implies refl))
-  no_more_at false false implies x xs ys e = e
-
-  pub no_more : (ms : List ℕ) → length (filter g ms) ≤ length (filter f ms)
-  no_more [] = omega arith
-  no_more (x ∷ ms) = no_more_at (f x) (g x) (less x) x (filter f ms) (filter g ms) (no_more ms)
-
-  fewer_at : (b c : Bool) → (c ≡ true → b ≡ true) → (x : ℕ) (xs ys : List ℕ) → length ys + 1 ≤ length xs
-      → length (cond c (x ∷ ys) ys) + 1 ≤ length (cond b (x ∷ xs) xs)
-  fewer_at true true implies x xs ys e = omega arith
-  fewer_at true false implies x xs ys e = omega arith
-  fewer_at false true implies x xs ys e = absurd (cc (implies refl))
-  fewer_at false false implies x xs ys e = e
-
-  fewer_here : (b c : Bool) → b ≡ true → c ≡ false → (x : ℕ) (xs ys : List ℕ) → length ys ≤ length xs
-      → length (cond c (x ∷ ys) ys) + 1 ≤ length (cond b (x ∷ xs) xs)
-  fewer_here true false p q x xs ys e = omega arith
-  fewer_here true true p q x xs ys e = absurd (cc q)
-  fewer_here false c p q x xs ys e = absurd (cc p)
-
-  -- and where it fails at a member that the first passes, it passes fewer
-  pub fewer : (a : ℕ) → f a ≡ true → g a ≡ false → (ms : List ℕ) → Contains ms a
-      → length (filter g ms) + 1 ≤ length (filter f ms)
-  fewer a passes fails [] h = absurd (not_in_none a h)
-  fewer a passes fails (x ∷ ms) h =
-      elim (member_cases x ms a h) [
-        | inl e ↦ fewer_here (f x) (g x) (ap f e ∙ passes) (ap g e ∙ fails) x (filter f ms) (filter g ms)
-            (no_more ms)
-        | inr later ↦ fewer_at (f x) (g x) (less x) x (filter f ms) (filter g ms)
-            (fewer a passes fails ms later)
-      ]
+use Rattle.hd_mark.proofs.MarkBits.{insert_here, insert_keeps}
 
 -- an address joins that was left
-pub left_falls : (s : FinSet nat_cmp) (a : ℕ) (ms : List ℕ) → contains s a ≡ false → Contains ms a
-    → left (insert s a) ms + 1 ≤ left s ms
-left_falls s a ms out member =
-    fewer (λ k. not (contains s k)) (λ k. not (contains (insert s a) k)) less a (ap not out)
-    (ap not (insert_here s a a refl)) ms member
-  where
-    less : (k : ℕ) → not (contains (insert s a) k) ≡ true → not (contains s k) ≡ true
-    less k passes =
-        elim (cases_eq k a) [
-          | inl e ↦ ap (λ q. not (contains s q)) e ∙ ap not out
-          | inr apart ↦ ap not (sym (insert_elsewhere s a k apart)) ∙ passes
-        ]
+pub left_falls : (s : FinSet nat_cmp) (a : ℕ) (ms : List ℕ) → AllPairs (λ x y. x ≢ y) ms
+    → contains s a ≡ false → Contains ms a → left (insert s a) ms + 1 ≤ left s ms
+left_falls s a ms apart out member =
+    let was : ℕ → Bool = λ k. not (contains s k) in
+    let is : ℕ → Bool = λ k. not (contains (insert s a) k) in
+    let few = fewer (a ∷ filter is ms) (filter was ms)
+    (pairs_cons (λ x y. x ≢ y) a (filter is ms)
+    (λ y inside same. both_ways (contains (insert s a) y) (not-true _ (passing_from is ms y inside).1)
+    (insert_here s a y (sym same)))
+    (pairs_passing is (λ x y. x ≢ y) ms apart))
+    (λ x inside. ⊎_elim
+    (λ e. subst (Contains (filter was ms)) e (passing_in was ms a member (not_from_false _ out)))
+    (λ later. let (there, passes) = passing_from is ms x later in
+    passing_in was ms x there (not_from_false (contains s x)
+    (⊎_elim (λ before. absurd (both_ways _ (not-true _ passes) (insert_keeps s a x before))) (λ no. no)
+    (cases_Bool (contains s x)))))
+    (member_cases a (filter is ms) x inside)) in
+    omega (arith, few)
 
 -- at most all are left
 pub left_most : (s : FinSet nat_cmp) (ms : List ℕ) → left s ms ≤ length ms

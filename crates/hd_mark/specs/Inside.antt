@@ -1,6 +1,6 @@
 -- No public clause needs what is defined here: how marks and pins are stored in bits, and what is always true
--- of the fields of a trace.
-use Rattle.std.specs.Prelude.{◌≡◌, ℕ, ◌+◌, ◌*◌, ◌/◌, ◌%◌, ◌<◌, ◌≤◌, ◌==◌, not, Bool, true, false, List, length, filter, slice_index, slice_index_or, Contains, Option, Some, None, is_some, option_map}
+-- of the fields of marks.
+use Rattle.std.specs.Prelude.{◌≡◌, ◌≢◌, ℕ, ◌+◌, ◌*◌, ◌/◌, ◌%◌, ◌<◌, ◌≤◌, ◌==◌, not, Bool, true, false, List, length, filter, take, drop, slice_index, slice_index_or, AllPairs, Contains, Option, Some, None, is_some, option_map}
 use Rattle.std.specs.Int.{bit_at}
 use Rattle.std.specs.FinSet.{FinSet, contains}
 use Rattle.std.specs.Ordering.{nat_cmp}
@@ -10,6 +10,9 @@ use Rattle.hd_model.specs.Heap.{Heap, Basis, region_of, offset_of, has_object}
 use Rattle.hd_heap.specs.Calls.{is_condemned}
 use Rattle.hd_heap.specs.Places.{places_of, tables}
 use Rattle.hd_mark.specs.declared.bits.TheConstants.{BITS, WORDS}
+use Rattle.hd_mark.specs.declared.places.Places.{Places}
+use Rattle.hd_mark.specs.Marks.{MarksOf}
+use Rattle.hd_mark.specs.Steps.{IsTraced}
 
 -- whether the bit of a number is set: number i has bit i % BITS of word i / BITS
 abbrev pub is_set : List ℕ → ℕ → Bool
@@ -47,14 +50,28 @@ Covers h n places =
 abbrev pub left : FinSet nat_cmp → List ℕ → ℕ
 left s members = length (filter (λ k. not (contains s k)) members)
 
--- each condemned object has a mark bit and a pin bit, and the stack has room for those that are not marked
-pub record IsTrace (b : Basis) (places : List (Option ℕ)) (regions : ℕ) (marks pins : List ℕ)
-    (stack : List Addr) (room : ℕ) : Type 0 where
-  pub table : IsTable places regions
-  pub few : regions ≤ REGIONS
-  pub covers : Covers b.heap b.condemned places
-  pub marks_long : length marks ≡ WORDS * regions
-  pub pins_long : length pins ≡ WORDS * regions
-  pub members : List ℕ
-  pub all : (a : Addr) → is_condemned b.heap b.condemned a ≡ true → Contains members a.0
-  pub room_left : length stack + left (set_of places marks) members ≤ room
+-- what is seen of the fields of marks
+abbrev pub seen : Basis → List (Option ℕ) → (marks pins : List ℕ) → List Addr → ℕ → MarksOf
+seen b places marks pins log next = record {
+  basis = b;
+  marks = set_of places marks;
+  pins = set_of places pins;
+  scanned = take next log;
+  unscanned = drop next log;
+}
+
+-- each condemned object has a mark bit and a pin bit, the log has room for those that are not marked, and
+-- what was scanned names promoted objects alone
+pub record AreMarks (b : Basis) (p : Places) (marks pins : List ℕ) (log : List Addr) (next room : ℕ) : Type 0
+  where
+    pub table : IsTable p.places.items p.regions
+    pub few : p.regions ≤ REGIONS
+    pub covers : Covers b.heap b.condemned p.places.items
+    pub marks_long : length marks ≡ WORDS * p.regions
+    pub pins_long : length pins ≡ WORDS * p.regions
+    pub members : List ℕ
+    pub apart : AllPairs (λ x y. x ≢ y) members
+    pub all : (a : Addr) → is_condemned b.heap b.condemned a ≡ true → Contains members a.0
+    pub room_left : length log + left (set_of p.places.items marks) members ≤ room
+    pub within : next ≤ length log
+    pub traced : IsTraced (seen b p.places.items marks pins log next)

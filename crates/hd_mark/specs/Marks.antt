@@ -1,29 +1,46 @@
 -- The value of marks: what a collection has promoted and pinned, and what is still to be scanned. They are
--- this project's own, after the mark bits and the mark stack of CoreCLR's collector in outline.
-use Rattle.std.specs.Prelude.{◌≡◌, ℕ, ◌||◌, Bool, false, nat_lt, if◌then◌else◌, List, [], ◌∷◌, refl}
+-- this project's own, after the mark bits and the mark list of CoreCLR's collector in outline.
+use Rattle.std.specs.Prelude.{◌≡◌, ℕ, ◌||◌, Bool, false, nat_lt, if◌then◌else◌, List, [], ◌∷◌, ◌++◌, refl}
 use Rattle.std.specs.Coded.{Coded, code_by, coded×, coded_ℕ, coded_list}
 use Rattle.std.specs.FinSet as set
 use Rattle.std.specs.Ordering.{nat_cmp}
 use Rattle.hd_model.specs.declared.data.Addr.{Addr}
 use Rattle.hd_model.specs.Scene.{generation_at, IsCondemned}
 use Rattle.hd_model.specs.Heap.{Heap, Basis, objects_of}
-use Rattle.hd_model.specs.Marking.{IsSettled}
+use Rattle.hd_model.specs.Marking.{IsSettled, IsPromotionLog}
 use Rattle.hd_model.specs.Code.{addr_code, basis_code}
 
--- the heap and the condemned generation, the addresses that are marked and pinned, and what is marked but
--- not scanned yet, the last first
+-- the heap and the condemned generation, the addresses that are marked and pinned, and what is marked, in the
+-- order of the marking: what was scanned, and then what was not
 pub record MarksOf : Type 0 where
   pub basis : Basis
   pub marks : set.FinSet nat_cmp
   pub pins : set.FinSet nat_cmp
-  pub stacked : List Addr
+  pub scanned : List Addr
+  pub unscanned : List Addr
 
 abbrev pub marks_code : Coded MarksOf
 marks_code =
-    code_by (Basis × (set.FinSet nat_cmp × (set.FinSet nat_cmp × List Addr)))
-    (coded× basis_code (coded× (set.code coded_ℕ) (coded× (set.code coded_ℕ) (coded_list addr_code))))
-    (λ m. (m.basis, (m.marks, (m.pins, m.stacked))))
-    (λ p. record { basis = p.0; marks = p.1.0; pins = p.1.1.0; stacked = p.1.1.1 }) (λ _. refl)
+    code_by (Basis × (set.FinSet nat_cmp × (set.FinSet nat_cmp × (List Addr × List Addr))))
+    (coded× basis_code
+    (coded× (set.code coded_ℕ)
+    (coded× (set.code coded_ℕ) (coded× (coded_list addr_code) (coded_list addr_code)))))
+    (λ m. (m.basis, (m.marks, (m.pins, (m.scanned, m.unscanned)))))
+    (λ p. record {
+      basis = p.0;
+      marks = p.1.0;
+      pins = p.1.1.0;
+      scanned = p.1.1.1.0;
+      unscanned = p.1.1.1.1;
+    }) (λ _. refl)
+
+-- what is marked, the first first
+abbrev pub log_of : MarksOf → List Addr
+log_of m = m.scanned ++ m.unscanned
+
+-- the log of the first ends where that of the second goes on
+abbrev pub GoesOn : MarksOf → MarksOf → Type 0
+GoesOn old new = (more : List Addr) × (log_of new ≡ log_of old ++ more)
 
 -- an object of a generation above the condemned one
 abbrev pub is_older : Basis → Addr → Bool
@@ -37,10 +54,12 @@ promoted_in m a = is_older m.basis a || set.contains m.marks a.0
 abbrev pub pinned_in : MarksOf → Addr → Bool
 pinned_in m a = is_older m.basis a || set.contains m.pins a.0
 
--- nothing is left to scan: what is promoted is closed under the fields of condemned objects
+-- nothing is left to scan: what is promoted is closed under the fields of condemned objects, and the log has
+-- what of it is condemned
 pub record IsSettledMarks (m : MarksOf) : Type 0 where
-  pub empty : m.stacked ≡ []
+  pub empty : m.unscanned ≡ []
   pub settled : IsSettled (objects_of m.basis) m.basis.condemned (promoted_in m)
+  pub log : IsPromotionLog (objects_of m.basis) m.basis.condemned (promoted_in m) (log_of m)
 
 -- no condemned object is promoted or pinned yet
 abbrev pub HasNoneYet : MarksOf → Type 0
@@ -54,13 +73,15 @@ first_marks h n = record {
   basis = record { heap = h; condemned = n };
   marks = set.empty;
   pins = set.empty;
-  stacked = [];
+  scanned = [];
+  unscanned = [];
 }
 
--- an object is marked and stacked, unless it is promoted
+-- an object is marked and to be scanned, unless it is promoted
 abbrev pub pushed : MarksOf → Addr → MarksOf
 pushed m a =
-    if promoted_in m a then m else (record m { marks = set.insert m.marks a.0; stacked = a ∷ m.stacked })
+    if promoted_in m a then m
+    else (record m { marks = set.insert m.marks a.0; unscanned = m.unscanned ++ a ∷ [] })
 
 -- an object is pinned, unless it is older
 abbrev pub pinned_also : MarksOf → Addr → MarksOf

@@ -1,11 +1,12 @@
--- No public clause needs what is defined here: how marks grow by the steps of a trace.
-use Rattle.std.specs.Prelude.{◌≡◌, ◌⊎◌, true, List, fold, Contains, Option, Some, None}
-use Rattle.std.specs.FinSet.{contains}
+-- No public clause needs what is defined here: how marks grow by the steps of a drain.
+use Rattle.std.specs.Prelude.{◌≡◌, ◌≢◌, ◌⊎◌, true, List, ◌∷◌, ◌++◌, fold, take, drop, Contains, AllPairs, Option, Some, None}
+use Rattle.std.specs.FinSet.{FinSet, contains}
+use Rattle.std.specs.Ordering.{nat_cmp}
 use Rattle.hd_model.specs.declared.data.Addr.{Addr}
 use Rattle.hd_model.specs.Scene.{IsField, IsCondemned}
 use Rattle.hd_model.specs.Heap.{objects_of}
 use Rattle.hd_model.specs.Names.{HasClosedFields}
-use Rattle.hd_mark.specs.Marks.{MarksOf, promoted_in, pushed}
+use Rattle.hd_mark.specs.Marks.{MarksOf, log_of, promoted_in, pushed}
 
 -- what a field references is pushed
 abbrev pub pushed_field : MarksOf → Option Addr → MarksOf
@@ -16,11 +17,29 @@ pushed_field m (Some y) = pushed m y
 abbrev pub scanned : MarksOf → List (Option Addr) → MarksOf
 scanned m fields = fold pushed_field m fields
 
--- what is marked is condemned, what is stacked is marked, and what is marked is stacked or was scanned: its
--- fields reference promoted objects alone
+-- a list has what is marked, each once
+pub record IsLog (marks : FinSet nat_cmp) (log : List Addr) : Type 0 where
+  pub apart : AllPairs (λ x y. x ≢ y) log
+  pub each : (x : Addr) → Contains log x → contains marks x.0 ≡ true
+  pub all : (x : Addr) → contains marks x.0 ≡ true → Contains log x
+
+-- what is marked is condemned and in the log, and is to be scanned or was: its fields reference promoted
+-- objects alone
 pub record IsTraced (m : MarksOf) : Type 0 where
   pub fields : HasClosedFields (objects_of m.basis)
   pub marked : (x : Addr) → contains m.marks x.0 ≡ true → IsCondemned (objects_of m.basis) m.basis.condemned x
-  pub stacked : (x : Addr) → Contains m.stacked x → contains m.marks x.0 ≡ true
+  pub log : IsLog m.marks (log_of m)
   pub scanned : (x : Addr) → contains m.marks x.0 ≡ true
-      → Contains m.stacked x ⊎ ((y : Addr) → IsField (objects_of m.basis) x y → promoted_in m y ≡ true)
+      → Contains m.unscanned x ⊎ ((y : Addr) → IsField (objects_of m.basis) x y → promoted_in m y ≡ true)
+
+-- the fields of the next object to scan reference promoted objects alone
+pub record IsNextDone (m : MarksOf) : Type 0 where
+  pub next : Addr
+  pub rest : List Addr
+  pub unscanned_is : m.unscanned ≡ next ∷ rest
+  pub done : (y : Addr) → IsField (objects_of m.basis) next y → promoted_in m y ≡ true
+
+-- it counts as scanned
+abbrev pub advanced : MarksOf → MarksOf
+advanced m =
+    record m { scanned = m.scanned ++ take 1 m.unscanned; unscanned = drop 1 m.unscanned }

@@ -5,7 +5,6 @@
 mod bits;
 mod marks;
 mod places;
-mod trace;
 
 pub use marks::Marks;
 pub use places::end_of;

@@ -1,41 +1,54 @@
 // The marks of one collection, as its phases see them.
-ghost use Rattle.std.specs.Prelude.{◌≡◌, ℕ, Bool, true, IfOk, Contains};
+ghost use Rattle.std.specs.Prelude.{◌≡◌, ◌∷◌, [], ℕ, Bool, true, IfOk, MatchOption, Contains, length, take, drop};
 ghost use Rattle.hd_model.specs.Leads.{Grows};
-ghost use Rattle.hd_model.specs.Scene.{is_object, IsYoungField};
+ghost use Rattle.hd_model.specs.Scene.{fields_at, is_object, IsYoungField};
 ghost use Rattle.hd_model.specs.Heap.{object_at, objects_of};
 ghost use Rattle.hd_model.specs.Names.{HasClosedFields};
 ghost use Rattle.hd_heap.specs.Calls.{AreSurveyed};
-ghost use Rattle.hd_mark.specs.Marks.{first_marks, pushed, promoted_in};
+ghost use Rattle.hd_mark.specs.Marks.{first_marks, pushed, pinned_also, promoted_in, pinned_in, log_of, GoesOn};
 ghost use Rattle.hd_mark.specs.Marks.{HasNoneYet, IsSettledMarks};
+ghost use Rattle.hd_mark.specs.Steps.{scanned, advanced, IsTraced, IsNextDone};
 
-use crate::trace::Trace;
+use crate::bits::Bits;
+use crate::places::{Places, end_of};
 use hd_heap::{CondemnedObject, Heap};
-use hd_model::{Addr, Marker, Memory};
+use hd_model::{Addr, Marker, Memory, PromotionLog};
 use std::alloc::Global;
 use std::marker::Model;
 
-/// What a collection of a heap has promoted and pinned, and a stack of what is promoted and still
-/// to be scanned. It has bits for condemned regions alone: an older object is promoted and pinned
-/// from the start, since no collection of younger generations takes or moves it.
+/// What a collection of a heap has promoted and pinned, and a log of what it promoted, which it
+/// scans from first to last. It has bits for condemned regions alone: an older object is promoted
+/// and pinned from the start, since no collection of younger generations takes or moves it.
 ///
 /// `promote` and `drain` take time by what they promote and the fields of what they scan, the other
 /// calls but `start` constant time.
 #[derive(Drop)]
 pub struct Marks<'h> {
-    trace: Trace<'h>,
+    heap: &'h Heap,
+    condemned: u8,
+    places: Places,
+    marks: Bits,
+    pins: Bits,
+    // What was marked, with room for each condemned object, and how many of these were scanned.
+    log: Vec<Addr>,
+    next: usize,
 }
 
 impl<'h> Model for Marks<'h> {
+    ghost use Rattle.std.specs.Prelude.{vec_capacity};
     ghost use Rattle.hd_mark.specs.Marks.{MarksOf, marks_code};
-    ghost use Rattle.hd_mark.specs.Steps.{IsTraced};
+    ghost use Rattle.hd_mark.specs.Inside.{seen, AreMarks};
 
     ghost Value = { MarksOf };
 
     ghost coded = { marks_code };
 
-    ghost view = { λ m. m.trace };
+    ghost view = { λ m. seen (record { heap = m.heap.now; condemned = m.condemned })
+        m.places.places.items m.marks.words.items m.pins.words.items m.log.items m.next };
 
-    ghost invariant = { λ m. IsTraced m.trace };
+    ghost invariant = { λ m. AreMarks (record { heap = m.heap.now; condemned = m.condemned })
+        m.places m.marks.words.items m.pins.words.items m.log.items m.next
+        (vec_capacity m.log) };
 }
 
 impl<'h> Marks<'h> {
@@ -64,8 +77,21 @@ impl<'h> Marks<'h> {
         ensures settled { IfOk result IsSettledMarks }
         ensures none { IfOk result HasNoneYet }
     {
-        let trace = Trace::over(alloc, heap, n, objects)?;
-        Ok(Marks { trace })
+        let places = Places::of(alloc, heap, n, end_of(objects))?;
+        let marks = Bits::open(alloc, places.regions)?;
+        let pins = Bits::open(alloc, places.regions)?;
+        let Ok(log) = Vec::with_capacity(alloc, objects.len()) else {
+            return Err(Memory);
+        };
+        Ok(Marks {
+            heap,
+            condemned: n,
+            places,
+            marks,
+            pins,
+            log,
+            next: 0,
+        })
     }
 
     /// Promotes an object, which is then to be scanned, unless it is promoted already.
@@ -73,19 +99,85 @@ impl<'h> Marks<'h> {
         requires { is_object (objects_of self.old.basis) at ≡ true }
         ensures { self.new ≡ pushed self.old at }
     {
-        self.trace.push(at);
+        if let Some(bit) = self.places.bit(at) {
+            if !self.marks.has(bit) {
+                self.marks.insert(bit);
+                self.log.push_reserved(at);
+            }
+        }
     }
 
-    /// Scans until nothing is stacked.
+    /// Scans until nothing is left to scan.
     pub fn drain(&mut self)
         ensures settled { IsSettledMarks self.new }
         ensures basis { self.new.basis ≡ self.old.basis }
         ensures pins { self.new.pins ≡ self.old.pins }
         ensures grows { Grows (IsYoungField (objects_of self.old.basis) self.old.basis.condemned)
-            (λ x. Contains self.old.stacked x) (promoted_in self.old) (promoted_in self.new) }
+            (λ x. Contains self.old.unscanned x) (promoted_in self.old) (promoted_in self.new) }
+        ensures log { GoesOn self.old self.new }
     {
-        while let Some(at) = self.trace.pop() {
-            self.trace.scan(at);
+        while let Some(at) = self.next_unscanned() {
+            self.scan(at);
+            self.advance();
+        }
+    }
+
+    // The next object to scan.
+    fn next_unscanned(&self) -> Option<Addr>
+        ensures next { MatchOption result (self.now.unscanned ≡ [])
+            (λ at. self.now.unscanned ≡ at ∷ drop 1 self.now.unscanned) }
+        ensures traced { IsTraced self.now }
+    {
+        if self.next >= self.log.len() {
+            return None;
+        }
+        Some(self.log[self.next])
+    }
+
+    // Promotes the objects that an object references in its fields.
+    fn scan(&mut self, at: Addr)
+        requires object { is_object (objects_of self.old.basis) at ≡ true }
+        requires fields { HasClosedFields (objects_of self.old.basis) }
+        ensures { self.new ≡ scanned self.old (fields_at (objects_of self.old.basis) at) }
+    {
+        let heap = self.heap;
+        for i in 0..heap.fields(at) {
+            if let Some(y) = heap.load(at, i) {
+                self.push(y);
+            }
+        }
+    }
+
+    // The next object to scan counts as scanned.
+    fn advance(&mut self)
+        requires { IsNextDone self.old }
+        ensures { self.new ≡ advanced self.old }
+    {
+        self.next += 1;
+    }
+
+    // Promotes an object and what is reached from it, where nothing is left to scan.
+    fn mark(&mut self, at: Addr)
+        requires settled { IsSettledMarks self.old }
+        requires object { is_object (objects_of self.old.basis) at ≡ true }
+        ensures settled { IsSettledMarks self.new }
+        ensures basis { self.new.basis ≡ self.old.basis }
+        ensures grows { Grows (IsYoungField (objects_of self.old.basis) self.old.basis.condemned)
+            (λ x. x ≡ at) (promoted_in self.old) (promoted_in self.new) }
+        ensures pinned { pinned_in self.new ≡ pinned_in self.old }
+        ensures log { take (length (log_of self.old)) (log_of self.new) ≡ log_of self.old }
+    {
+        self.push(at);
+        self.drain();
+    }
+
+    // Pins an object.
+    fn pin_also(&mut self, at: Addr)
+        requires { is_object (objects_of self.old.basis) at ≡ true }
+        ensures { self.new ≡ pinned_also self.old at }
+    {
+        if let Some(bit) = self.places.bit(at) {
+            self.pins.insert(bit);
         }
     }
 }
@@ -101,23 +193,50 @@ impl<'h> Marker for Marks<'h> {
 
     ghost settled = { IsSettledMarks };
 
+    // All that has no bit is older.
     fn promoted(&self, at: Addr) -> bool {
-        self.trace.promoted(at)
+        match self.places.bit(at) {
+            Some(bit) => self.marks.has(bit),
+            None => true,
+        }
     }
 
     fn promote(&mut self, at: Addr) {
-        self.push(at);
-        self.drain();
+        self.mark(at);
     }
 
     fn pinned(&self, at: Addr) -> bool {
-        self.trace.pinned(at)
+        if let Some(bit) = self.places.bit(at) {
+            self.pins.has(bit)
+        } else {
+            true
+        }
     }
 
     #[tactic(auto, using(crate::proofs::MarkDrain::pins_settled))]
     fn pin(&mut self, at: Addr) {
-        self.trace.pin(at);
+        self.pin_also(at);
     }
 
     ghost settles = { λ m s. s.settled };
+}
+
+impl<'h> PromotionLog for Marks<'h> {
+    ghost use Rattle.hd_mark.specs.Marks.{log_of};
+
+    ghost log = { log_of };
+
+    fn logged(&self) -> usize {
+        self.log.len()
+    }
+
+    fn logged_at(&self, i: usize) -> Addr {
+        self.log[i]
+    }
+
+    fn promote_logged(&mut self, at: Addr) {
+        self.mark(at);
+    }
+
+    ghost logs = { λ m s. s.log };
 }

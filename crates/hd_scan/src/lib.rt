@@ -13,7 +13,9 @@ mod relocation;
 mod roots;
 mod task;
 
+pub use clearing::clear;
 pub use gathering::{Root, gather};
 pub use passes::pass;
 pub use relocation::relocate;
+pub use roots::promote;
 pub use task::{Task, pins};

@@ -1,34 +1,52 @@
-use Rattle.std.proofs.Common.{◌≡◌, ◌≤◌, ℕ, Bool, List, length, sym, ◌∙◌, subst}
+use Rattle.std.proofs.Common.{◌≡◌, ◌≤◌, ℕ, Bool, List, length, sym, ◌∙◌, subst, arith}
 use Rattle.hd_model.specs.declared.data.Addr.{Addr}
 use Rattle.hd_model.specs.Heap.{Basis, objects_of}
 use Rattle.hd_model.specs.Marking.{IsSettled, IsPromotionLog}
+use Rattle.hd_model.specs.Reach.{IsEdge}
 use Rattle.hd_model.specs.Table.{Table, row_at}
 use Rattle.hd_dep.specs.Waiting.{AreObjects, IsWaitingEdge}
 use Rattle.hd_dep.specs.Rescan.{Spreads}
 use Rattle.hd_dep.proofs.RescanPasses.{rescan_closure}
-use Rattle.hd_dep.proofs.SecondaryFollow.{both_spread, followed_at_last, queued_objects, kept_on, kept_long}
+use Rattle.hd_dep.proofs.SecondaryFollow.{both_spread, followed_at_last, gathered_sorted, queued_objects, kept_on}
+use Rattle.hd_dep.proofs.SecondarySpread.{spreads_none}
+use Rattle.hd_dep.proofs.DueHandles.{none_visited}
 use Rattle.hd_dep.proofs.following.follow.Goals as goal
+
+pub returns-then-is_bare-clause-closure : goal.returns-then-is_bare-clause-closure
+returns-then-is_bare-clause-closure g c =
+    let b : Basis = g.M.Marker.basis c.args.marker.now in
+    let t : Table = c.args.seg.now in
+    let p : Addr → Bool = g.M.Marker.promoted c.args.marker.now in
+    let settled : IsSettled (objects_of b) c.args.n p =
+    subst (λ n. IsSettled (objects_of b) n p) c.requires.due.visit.generation
+    (g.met.M.Marker.settles c.args.marker.now c.requires.settled) in
+    rescan_closure (objects_of b) c.args.n (row_at t) c.args.ages.now p p settled settled c.requires.fields
+    c.requires.due.sound (spreads_none (IsEdge (objects_of b) (row_at t)) p)
+    (none_visited t c.args.ages.now c.args.n _ c.live-live.ensures.table
+    (let none = c.is_bare.ensures c.if-is_bare.true in let fits = c.requires.room in omega arith))
 
 pub promote_since-requires-clause-objects : goal.promote_since-requires-clause-objects
 promote_since-requires-clause-objects g c =
     let b : Basis = g.M.Marker.basis c.args.marker.now in
     let t : Table = c.args.seg.now in
-    subst (λ (a : Basis). AreObjects (objects_of a) c.gather.new.waiting.rows.items)
-    (sym c.gather.ensures.basis)
+    subst (λ (a : Basis). AreObjects (objects_of a) c.deref.result.now) (sym c.gather.ensures.basis)
     (queued_objects (objects_of b) c.args.n t c.args.ages.now (g.M.Marker.promoted c.args.marker.now)
-    (g.M.Marker.promoted c.gather.new.marker) c.gather.new.waiting.rows.items c.gather.ensures.gathered
+    (g.M.Marker.promoted c.gather.new.marker) c.deref.result.now
+    (gathered_sorted t c.args.ages.now c.args.n _ _ _ _ c.sort.ensures.permutation c.deref.ensures.value
+    c.gather.ensures.gathered)
     c.requires.due.visit.names)
 
 pub returns-clause-closure : goal.returns-clause-closure
 returns-clause-closure g c =
     let b : Basis = g.M.Marker.basis c.args.marker.now in
     let t : Table = c.args.seg.now in
-    let rows = c.gather.new.waiting.rows.items in
+    let rows = c.deref.result.now in
+    let gathered = gathered_sorted t c.args.ages.now c.args.n _ _ _ _ c.sort.ensures.permutation
+    c.deref.ensures.value c.gather.ensures.gathered in
     let p0 : Addr → Bool = g.M.Marker.promoted c.args.marker.now in
     let p1 : Addr → Bool = g.M.Marker.promoted c.gather.new.marker in
     let p2 : Addr → Bool = g.M.Marker.promoted c.promote_since.new.marker in
     let log0 : List Addr = g.M.PromotionLog.log c.args.marker.now in
-    let log1 : List Addr = g.M.PromotionLog.log c.gather.new.marker in
     let log2 : List Addr = g.M.PromotionLog.log c.promote_since.new.marker in
     let basis = c.promote_since.ensures.basis ∙ c.gather.ensures.basis in
     let first : IsSettled (objects_of b) c.args.n p0 =
@@ -52,11 +70,9 @@ returns-clause-closure g c =
     let start : c.logged-start.result ≡ length log0 = c.logged-start.ensures in
     rescan_closure (objects_of b) c.args.n (row_at t) c.args.ages.now p0 p2 first last
     c.requires.fields c.requires.due.sound
-    (both_spread (objects_of b) c.args.n t c.args.ages.now p0 p1 rows c.gather.ensures.gathered
+    (both_spread (objects_of b) c.args.n t c.args.ages.now p0 p1 rows gathered
     c.requires.due.visit.names p2 c.gather.ensures.spreads second)
-    (followed_at_last (objects_of b) c.args.n t c.args.ages.now p0 p1 rows c.gather.ensures.gathered
+    (followed_at_last (objects_of b) c.args.n t c.args.ages.now p0 p1 rows gathered
     c.requires.due.visit.names p2 log0 log2 first log_first log_last
-    (kept_on log0 log1 log2 c.gather.ensures.log c.promote_since.ensures.log
-    (kept_long log0 log1 c.gather.ensures.log))
-    second.keeps
+    (kept_on log2 c.gather.ensures.log c.promote_since.ensures.log) second.keeps
     (λ k x y low. c.promote_since.ensures.followed k x y (subst (λ (s : ℕ). s ≤ k) (sym start) low)))

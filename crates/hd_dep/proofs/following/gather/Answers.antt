@@ -6,7 +6,7 @@ use Rattle.hd_model.specs.Reach.{IsEdge}
 use Rattle.hd_model.specs.Table.{Table, row_at}
 use Rattle.hd_ages.proofs.WalkProgress.{row_live, row_of_kind}
 use Rattle.hd_dep.specs.Rescan.{Spreads}
-use Rattle.hd_dep.proofs.SecondaryFollow.{gather_start, gather_room, gather_row, gather_end, kept_on, kept_long}
+use Rattle.hd_dep.proofs.SecondaryFollow.{gather_start, gather_room, gather_row, gather_end, kept_on}
 use Rattle.hd_dep.proofs.following.gather.Goals as goal
 
 pub start-rows-requires : goal.start-rows-requires
@@ -19,11 +19,9 @@ loop-slot-init g c = record {
   pinned = refl;
   log = take_all (length (g.M.PromotionLog.log c.args.marker.now)) (g.M.PromotionLog.log c.args.marker.now)
       (omega arith);
-  chained = c.requires.chained;
-  heads = refl;
   room = refl;
   gathering = gather_start c.start-rows.ensures.table c.start-rows.ensures.on c.start-rows.ensures.slots
-      c.start-rows.ensures.clumps c.requires.room c.args.waiting.now.rows.items c.requires.none;
+      c.start-rows.ensures.clumps c.requires.room c.args.waiting.now.items c.requires.none;
 }
 
 pub visit_row-requires-clause-live : goal.visit_row-requires-clause-live
@@ -48,16 +46,11 @@ loop-slot-preserved g c =
     let spreads : Spreads (IsEdge (objects_of b) (row_at t)) p q =
     subst (λ (a : Basis). Spreads (IsEdge (objects_of a) (row_at t)) p q)
     c.loop-slot.invariant.basis c.visit_row.ensures.spreads in
-    let log0 = g.M.PromotionLog.log c.args.marker.now in
-    let log = g.M.PromotionLog.log c.loop-slot.marker in
     record {
       settled = c.visit_row.ensures.settled;
       basis = c.visit_row.ensures.basis ∙ c.loop-slot.invariant.basis;
       pinned = c.visit_row.ensures.pinned ∙ c.loop-slot.invariant.pinned;
-      log = kept_on log0 log (g.M.PromotionLog.log c.visit_row.new.marker) c.loop-slot.invariant.log
-          c.visit_row.ensures.log (kept_long log0 log c.loop-slot.invariant.log);
-      chained = c.visit_row.ensures.chained;
-      heads = c.visit_row.ensures.heads ∙ c.loop-slot.invariant.heads;
+      log = kept_on _ c.loop-slot.invariant.log c.visit_row.ensures.log;
       room = c.visit_row.ensures.room ∙ c.loop-slot.invariant.room;
       gathering = gather_row c.loop-slot.invariant.gathering c.in-Some.ensures.row spreads
           c.visit_row.ensures.rows c.next.ensures.on c.next.ensures.steps c.visit_row.ensures.visited;

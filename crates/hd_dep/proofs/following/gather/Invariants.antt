@@ -1,7 +1,6 @@
 use Rattle.std.proofs.Common.{◌≡◌, length, take, vec_capacity}
 use Rattle.hd_model.specs.Heap.{objects_of}
 use Rattle.hd_ages.specs.Walk.{slots_to_come}
-use Rattle.hd_dep.specs.Waiting.{IsChained}
 use Rattle.hd_dep.proofs.SecondaryFollow.{IsGathering}
 use Rattle.hd_dep.proofs.following.gather.Given as goal
 
@@ -12,13 +11,11 @@ invariant-loop-slot g l = record {
   pinned : g.M.Marker.pinned l.marker ≡ g.M.Marker.pinned l.initial.marker;
   log : take (length (g.M.PromotionLog.log l.initial.marker)) (g.M.PromotionLog.log l.marker)
       ≡ g.M.PromotionLog.log l.initial.marker;
-  chained : IsChained l.waiting.heads.items l.waiting.rows.items;
-  heads : length l.waiting.heads.items ≡ length l.initial.waiting.heads.items;
-  room : vec_capacity l.waiting.rows ≡ vec_capacity l.initial.waiting.rows;
+  room : vec_capacity l.waiting ≡ vec_capacity l.initial.waiting;
   gathering :
       IsGathering (objects_of (g.M.Marker.basis l.initial.marker)) l.n l.seg l.ages
-      (g.M.Marker.promoted l.initial.marker) (vec_capacity l.initial.waiting.rows) l.rows l.initial.steps
-      l.steps l.waiting.rows.items (g.M.Marker.promoted l.marker);
+      (g.M.Marker.promoted l.initial.marker) (vec_capacity l.initial.waiting) l.rows l.initial.steps
+      l.steps l.waiting.items (g.M.Marker.promoted l.marker);
 }
 
 abbrev pub decreases-loop-slot : goal.decreases-loop-slot

@@ -16,13 +16,13 @@ loop-next-init g c =
       settled = c.requires.settled;
       basis = refl;
       pinned = refl;
-      following = follow_start (objects_of b) b.condemned c.args.start c.args.waiting.now.rows.items
+      following = follow_start (objects_of b) b.condemned c.args.start c.args.rows.now
           (g.M.PromotionLog.log c.args.marker.now) (g.M.Marker.promoted c.args.marker.now) c.requires.start;
     }
 
 pub promote_for-requires-clause-objects : goal.promote_for-requires-clause-objects
 promote_for-requires-clause-objects g c =
-    subst (λ (b : Basis). AreObjects (objects_of b) c.args.waiting.now.rows.items)
+    subst (λ (b : Basis). AreObjects (objects_of b) c.args.rows.now)
     (sym c.loop-next.invariant.basis) c.requires.objects
 
 pub loop-next-smaller : goal.loop-next-smaller
@@ -38,7 +38,7 @@ loop-next-smaller g c =
 pub loop-next-preserved : goal.loop-next-preserved
 loop-next-preserved g c =
     let b : Basis = g.M.Marker.basis c.args.marker.now in
-    let rows = c.args.waiting.now.rows.items in
+    let rows = c.args.rows.now in
     let p : Addr → Bool = g.M.Marker.promoted c.loop-next.marker in
     let q : Addr → Bool = g.M.Marker.promoted c.promote_for.new.marker in
     let log : List Addr = g.M.PromotionLog.log c.loop-next.marker in
@@ -66,7 +66,7 @@ loop-next-preserved g c =
 pub returns-clause-followed : goal.returns-clause-followed
 returns-clause-followed g c =
     let b : Basis = g.M.Marker.basis c.args.marker.now in
-    follow_end (objects_of b) b.condemned c.args.start c.args.waiting.now.rows.items
+    follow_end (objects_of b) b.condemned c.args.start c.args.rows.now
     (g.M.PromotionLog.log c.args.marker.now) (g.M.Marker.promoted c.args.marker.now) c.loop-next.next
     (g.M.PromotionLog.log c.loop-next.marker) (g.M.Marker.promoted c.loop-next.marker)
     c.loop-next.invariant.following (omega (arith, c.loop-next-test.false, c.logged.ensures))

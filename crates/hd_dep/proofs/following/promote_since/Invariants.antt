@@ -11,7 +11,7 @@ invariant-loop-next g l = record {
   pinned : g.M.Marker.pinned l.marker ≡ g.M.Marker.pinned l.initial.marker;
   following :
       IsFollowing (objects_of (g.M.Marker.basis l.initial.marker))
-      (g.M.Marker.basis l.initial.marker).condemned l.fn.start l.waiting.rows.items
+      (g.M.Marker.basis l.initial.marker).condemned l.fn.start l.rows
       (g.M.PromotionLog.log l.initial.marker) (g.M.Marker.promoted l.initial.marker) l.next
       (g.M.PromotionLog.log l.marker) (g.M.Marker.promoted l.marker);
 }

@@ -50,8 +50,7 @@ loop-more-preserved g c =
     c.spread-more.ensures.spreads in
     let passed : HasPassed b.heap visits p0 p c.args.steps.now c.loop-more.steps true =
     subst (λ (m : Bool). HasPassed b.heap visits p0 p c.args.steps.now c.loop-more.steps m)
-    c.loop-more-test.true
-    c.loop-more.invariant.passed in
+    c.loop-more-test.true c.loop-more.invariant.passed in
     record {
       settled = c.spread-more.ensures.settled;
       basis = basis;
@@ -59,12 +58,12 @@ loop-more-preserved g c =
       spreads = spreads_on (IsEdge (objects_of b) (row_at c.args.seg.now)) p0 p q
           c.loop-more.invariant.spreads
           spreads;
-      passed = passed_more b.heap b.condemned visits p0 p q c.args.steps.now c.loop-more.steps
-          c.spread-more.new.steps settled c.loop-more.invariant.spreads.keeps spreads.keeps
+      passed = passed_more b.heap visits p0 p q c.args.steps.now c.loop-more.steps c.spread-more.new.steps
           c.spread-more.result
-          passed c.spread-more.ensures.steps
+          (passes_fall b.heap b.condemned p q settled spreads.keeps c.spread-more.result
           (gained_or_same (row_at c.args.seg.now) c.args.ages.now c.args.n p q c.spread-more.result
-          c.spread-more.ensures.more);
+          c.spread-more.ensures.more))
+          passed c.spread-more.ensures.steps;
       followed = λ last. followed_after (row_at c.args.seg.now) c.args.ages.now c.args.n p q
           c.spread-more.result c.spread-more.ensures.more (grind (arith, common_steps));
     }
@@ -72,7 +71,6 @@ loop-more-preserved g c =
 pub loop-more-smaller : goal.loop-more-smaller
 loop-more-smaller g c =
     let b : Basis = g.M.Marker.basis c.args.marker.now in
-    let p0 : Addr → Bool = g.M.Marker.promoted c.args.marker.now in
     let p : Addr → Bool = g.M.Marker.promoted c.loop-more.marker in
     let q : Addr → Bool = g.M.Marker.promoted c.spread-more.new.marker in
     let settled : IsSettled (objects_of b) b.condemned q =
@@ -82,8 +80,7 @@ loop-more-smaller g c =
     subst
     (λ (m : Bool). left_in b.heap q + cond c.spread-more.result 1 0 < left_in b.heap p + cond m 1 0)
     (sym c.loop-more-test.true)
-    (passes_fall b.heap b.condemned 0 p0 p q 0 0 0 settled c.loop-more.invariant.spreads.keeps
-    c.spread-more.ensures.spreads.keeps c.spread-more.result
+    (passes_fall b.heap b.condemned p q settled c.spread-more.ensures.spreads.keeps c.spread-more.result
     (gained_or_same (row_at c.args.seg.now) c.args.ages.now c.args.n p q c.spread-more.result
     c.spread-more.ensures.more))
 

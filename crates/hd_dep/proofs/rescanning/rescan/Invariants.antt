@@ -1,14 +1,10 @@
-use Rattle.std.proofs.Common.{◌≡◌, ◌+◌, cond, true, false, ℕ, Some}
-use Rattle.hd_model.specs.declared.data.Addr.{Addr}
+use Rattle.std.proofs.Common.{◌≡◌, ◌+◌, cond, false}
 use Rattle.hd_model.specs.declared.data.Kind.TheVariants as kind
-use Rattle.hd_model.specs.State.{Handle}
-use Rattle.hd_model.specs.Role.{attaches, role}
-use Rattle.hd_model.specs.Ages.{is_due}
 use Rattle.hd_model.specs.Heap.{objects_of}
 use Rattle.hd_model.specs.Reach.{IsEdge}
 use Rattle.hd_model.specs.Table.{row_at}
 use Rattle.hd_model.specs.Visits.{visits_of}
-use Rattle.hd_dep.specs.Rescan.{IsFollowed, Spreads}
+use Rattle.hd_dep.specs.Rescan.{IsFollowed, OfVisited, Spreads}
 use Rattle.hd_dep.proofs.RescanPasses.{HasPassed, left_in}
 use Rattle.hd_dep.proofs.rescanning.rescan.Given as goal
 
@@ -23,8 +19,8 @@ invariant-loop-more g l = record {
   passed :
       HasPassed (g.M.Marker.basis l.initial.marker).heap (visits_of l.seg l.ages l.n kind.Dependent)
       (g.M.Marker.promoted l.initial.marker) (g.M.Marker.promoted l.marker) l.initial.steps l.steps l.more;
-  followed : l.more ≡ false → (slot : ℕ) (h : Handle Addr) → row_at l.seg slot ≡ Some h → role h ≡ attaches
-      → is_due l.ages l.n slot ≡ true → IsFollowed h (g.M.Marker.promoted l.marker);
+  followed : l.more ≡ false → OfVisited (row_at l.seg) l.ages l.n (λ h. IsFollowed h
+      (g.M.Marker.promoted l.marker));
 }
 
 abbrev pub decreases-loop-more : goal.decreases-loop-more

@@ -8,12 +8,12 @@ use Rattle.hd_final.proofs.ObjectLookup.{id_there}
 use Rattle.hd_final.proofs.JoinerFind.{IsFoundUpTo, found_room, found_more, found_past, found_all}
 use Rattle.hd_final.proofs.joiners.find_among.Goals as goal
 
-pub is_listed_out-requires-clause-registered : goal.is_listed_out-requires-clause-registered
-is_listed_out-requires-clause-registered g c =
+pub is_out-requires-clause-registered : goal.is_out-requires-clause-registered
+is_out-requires-clause-registered g c =
     c.requires.survey.registered c.loop-object.object-index c.loop-object-test.true
 
-pub is_listed_out-requires-clause-object : goal.is_listed_out-requires-clause-object
-is_listed_out-requires-clause-object g c =
+pub is_out-requires-clause-object : goal.is_out-requires-clause-object
+is_out-requires-clause-object g c =
     (and_parts _ _ (c.requires.survey.condemned c.loop-object.object-index c.loop-object-test.true)).0
 
 pub id-id-requires : goal.id-id-requires
@@ -53,12 +53,12 @@ loop-object-preserved g c =
           (found_more h c.args.n p (before s k)
           c.loop-object.joiners.items at c.loop-object.invariant.0 next c.id-id.result
           identity
-          (sym c.is_listed_out.ensures ∙ c.if-not-is_listed_out.false))),
+          (sym c.is_out.ensures ∙ c.if-not-is_out.false))),
       c.push_reserved.ensures.capacity ∙ c.loop-object.invariant.1,
     )
 
-pub loop-object-preserved-then-not-is_listed_out : goal.loop-object-preserved-then-not-is_listed_out
-loop-object-preserved-then-not-is_listed_out g c =
+pub loop-object-preserved-then-not-is_out : goal.loop-object-preserved-then-not-is_out
+loop-object-preserved-then-not-is_out g c =
     let k = c.loop-object.object-index in
     let s = c.args.objects.now in (
       subst (λ j. IsFoundUpTo c.args.heap.now c.args.n (g.M.Marker.promoted c.args.marker.now) (before s j)
@@ -66,7 +66,7 @@ loop-object-preserved-then-not-is_listed_out g c =
           (found_past c.args.heap.now c.args.n (g.M.Marker.promoted c.args.marker.now) (before s k)
           c.loop-object.joiners.items (surveyed s k).at c.loop-object.invariant.0
           (next_at c.requires.survey k c.loop-object-test.true)
-          (sym c.is_listed_out.ensures ∙ c.if-not-is_listed_out.true)),
+          (sym c.is_out.ensures ∙ c.if-not-is_out.true)),
       c.loop-object.invariant.1,
     )
 

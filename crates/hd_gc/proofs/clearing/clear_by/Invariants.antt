@@ -1,12 +1,12 @@
 use Rattle.std.specs.Prelude.{◌≡◌, ◌≤◌, ◌+◌, ◌*◌, take}
 use Rattle.hd_scan.specs.Tasks.{takes_any}
 use Rattle.hd_gc.specs.Steps.{task_visits}
-use Rattle.hd_gc.proofs.ClearTasks.{IsClearing}
+use Rattle.hd_gc.specs.Clearing.{Clears}
 use Rattle.hd_gc.proofs.clearing.clear_by.Given as goal
 
 abbrev pub invariant-loop-task : goal.invariant-loop-task
 invariant-loop-task g l = record {
-  clears : IsClearing (takes_any (take l.task-index l.tasks)) l.fn.seg l.seg l.fn.marks l.marks l.cleared;
+  clears : Clears (takes_any (take l.task-index l.tasks)) l.fn.seg l.seg l.marks l.cleared;
   few : l.cleared ≤ 16384 * l.task-index;
   steps : l.steps ≡ l.fn.steps + task_visits l.fn.seg l.ages l.n (take l.task-index l.tasks);
 }

@@ -5,13 +5,18 @@ use Rattle.hd_model.specs.Scene.{IsField}
 use Rattle.hd_heap.specs.Calls.{AreSurveyed}
 use Rattle.hd_mark.specs.Marks.{promoted_in}
 use Rattle.hd_model.proofs.EqualTables.{due_again}
-use Rattle.hd_gc.proofs.MarkAndClearPhases.{due2, fields2, waiting2, due4, closed4, mark_and_clear_steps, marked_and_cleared}
+use Rattle.hd_gc.proofs.ClearedRows.{ready_due}
+use Rattle.hd_gc.proofs.MarkAndClearPhases.{due2, room2, fields2, waiting2, due4, closed4, marked_and_cleared}
 use Rattle.hd_gc.proofs.mark_and_clear.mark_and_clear.Goals as goal
 
 pub over-requires-clause-survey : goal.over-requires-clause-survey
 over-requires-clause-survey g c =
     subst (λ (b : Basis). AreSurveyed b.heap b.condemned c.objects-objects.result.now) c.requires.basis
     c.objects-objects.ensures
+
+pub clear_short-short-requires-clause-due : goal.clear_short-short-requires-clause-due
+clear_short-short-requires-clause-due g c =
+    due_again c.trace.ensures.traced.basis refl (ready_due c.requires.ready c.args.n)
 
 pub revive-revived-requires-clause-survey : goal.revive-revived-requires-clause-survey
 revive-revived-requires-clause-survey g c =
@@ -20,53 +25,43 @@ revive-revived-requires-clause-survey g c =
 
 pub revive-revived-requires-clause-due : goal.revive-revived-requires-clause-due
 revive-revived-requires-clause-due g c =
-    due2 c.requires.ready c.trace.ensures.traced c.trace.ensures.table c.clear_short-short.ensures.marks
-    c.clear_short-short.ensures.clears
+    due2 c.requires.ready c.trace.ensures.traced c.clear_short-short.ensures.clears
+
+pub revive-revived-requires-clause-handles : goal.revive-revived-requires-clause-handles
+revive-revived-requires-clause-handles g c =
+    room2 c.requires.ready c.trace.ensures.traced c.clear_short-short.ensures.clears
+    c.in_ok-index.ensures c.trace.ensures.handles
 
 pub revive-revived-requires-clause-fields : goal.revive-revived-requires-clause-fields
 revive-revived-requires-clause-fields g c =
-    fields2 c.requires.ready c.trace.ensures.traced c.trace.ensures.table c.clear_short-short.ensures.marks
-    c.clear_short-short.ensures.clears
+    fields2 c.requires.ready c.trace.ensures.traced c.clear_short-short.ensures.clears
 
 pub revive-revived-requires-clause-waiting : goal.revive-revived-requires-clause-waiting
 revive-revived-requires-clause-waiting g c =
-    waiting2 c.requires.ready c.trace.ensures.traced c.trace.ensures.table c.clear_short-short.ensures.marks
-    c.clear_short-short.ensures.clears
+    waiting2 c.requires.ready c.trace.ensures.traced c.clear_short-short.ensures.clears
 
 pub clear_long-long-requires-clause-due : goal.clear_long-long-requires-clause-due
 clear_long-long-requires-clause-due g c =
     due_again c.revive-revived.ensures.resurrected.basis refl
-    (due2 c.requires.ready c.trace.ensures.traced c.trace.ensures.table c.clear_short-short.ensures.marks
-    c.clear_short-short.ensures.clears)
+    (due2 c.requires.ready c.trace.ensures.traced c.clear_short-short.ensures.clears)
 
 pub clear-dep-requires-clause-due : goal.clear-dep-requires-clause-due
 clear-dep-requires-clause-due g c =
-    due4 c.requires.ready c.trace.ensures.traced c.trace.ensures.table c.clear_short-short.ensures.marks
-    c.clear_short-short.ensures.clears c.revive-revived.ensures.resurrected c.clear_long-long.ensures.marks
-    c.clear_long-long.ensures.clears
+    due4 c.requires.ready c.trace.ensures.traced c.clear_short-short.ensures.clears
+    c.revive-revived.ensures.resurrected c.clear_long-long.ensures.clears
 
 pub lay-requires-clause-closed : goal.lay-requires-clause-closed
 lay-requires-clause-closed g c =
-    subst (λ (b : Basis). IsClosed (IsField (objects_of b)) (promoted_in c.clear_long-long.new.marks))
+    subst (λ (b : Basis). IsClosed (IsField (objects_of b)) (promoted_in c.revive-revived.new.marks))
     (sym c.requires.basis)
-    (closed4 c.requires.ready c.trace.ensures.traced c.trace.ensures.table c.clear_short-short.ensures.marks
-    c.clear_short-short.ensures.clears c.revive-revived.ensures.resurrected c.clear_long-long.ensures.marks
-    c.clear_long-long.ensures.clears)
+    (closed4 c.requires.ready c.trace.ensures.traced c.clear_short-short.ensures.clears
+    c.revive-revived.ensures.resurrected c.clear_long-long.ensures.clears)
 
 pub returns-clause-found : goal.returns-clause-found
 returns-clause-found g c =
-    marked_and_cleared c.requires.ready c.trace.ensures.traced c.trace.ensures.table
-    c.clear_short-short.ensures.marks
-    c.clear_short-short.ensures.clears c.revive-revived.ensures.resurrected c.clear_long-long.ensures.marks
-    c.clear_long-long.ensures.clears c.clear-dep.ensures.whole c.clear-dep.ensures.table
-    c.clear-dep.ensures.whole_count
-    c.revive-revived.ensures.count
+    marked_and_cleared c.requires.ready c.trace.ensures.traced c.clear_short-short.ensures.clears
+    c.revive-revived.ensures.resurrected c.clear_long-long.ensures.clears c.clear-dep.ensures.whole
+    c.clear-dep.ensures.table c.clear-dep.ensures.whole_count c.revive-revived.ensures.count
     c.lay.ensures.laid c.requires.basis c.lay.ensures.basis c.lay.ensures.kept c.lay.ensures.pinned
     c.lay.ensures.stays (λ i. c.revive-revived.new.fin.waiting) c.revive-revived.ensures.room
-    (mark_and_clear_steps c.requires.ready c.trace.ensures.traced c.trace.ensures.table
-    c.clear_short-short.ensures.marks
-    c.clear_short-short.ensures.clears c.revive-revived.ensures.resurrected c.clear_long-long.ensures.marks
-    c.clear_long-long.ensures.clears c.clear-dep.ensures.whole c.clear-dep.ensures.table
-    c.clear-dep.ensures.whole_count
-    c.revive-revived.ensures.count
-    c.clear_short-short.ensures.steps c.clear_long-long.ensures.steps c.clear-dep.ensures.steps)
+    c.clear_short-short.ensures.steps c.clear_long-long.ensures.steps c.clear-dep.ensures.steps

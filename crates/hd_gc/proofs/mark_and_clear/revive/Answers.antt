@@ -9,8 +9,8 @@ use Rattle.hd_gc.proofs.TraceMarks.{still_closed}
 use Rattle.hd_gc.proofs.MarkParts.{resurrection}
 use Rattle.hd_gc.proofs.mark_and_clear.revive.Goals as goal
 
-pub rescan-requires-clause-fields : goal.rescan-requires-clause-fields
-rescan-requires-clause-fields g c =
+pub follow-requires-clause-fields : goal.follow-requires-clause-fields
+follow-requires-clause-fields g c =
     still_closed c.args.heap.now c.args.n c.args.marks.now c.revive_among-revived.new.marker
     c.requires.basis
     (c.revive_among-revived.ensures.basis ∙ c.requires.basis) c.requires.settled
@@ -20,19 +20,16 @@ rescan-requires-clause-fields g c =
 pub returns-clause-resurrected : goal.returns-clause-resurrected
 returns-clause-resurrected g c =
     let m1 : MarksOf = c.revive_among-revived.new.marker in
-    let m2 : MarksOf = c.rescan.new.marker in
+    let m2 : MarksOf = c.follow.new.marker in
     record {
-      settled = c.rescan.ensures.settled;
-      basis = c.rescan.ensures.basis ∙ c.revive_among-revived.ensures.basis;
-      pinned = c.rescan.ensures.pinned ∙ c.revive_among-revived.ensures.pinned;
+      settled = c.follow.ensures.settled;
+      basis = c.follow.ensures.basis ∙ c.revive_among-revived.ensures.basis;
+      pinned = c.follow.ensures.pinned ∙ c.revive_among-revived.ensures.pinned;
       resurrection =
           resurrection (scene_of (parts c.args.heap.now c.args.seg.now c.args.ages.now c.args.fin.now []))
           c.revive_among-revived.ensures.resurrects
           (subst (λ (b : Basis). IsClosure (IsEdge (objects_of b) (row_at c.args.seg.now)) (promoted_in m1)
           (promoted_in m2)) (c.revive_among-revived.ensures.basis ∙ c.requires.basis)
-          c.rescan.ensures.closure);
-      steps = (
-        promoted_in m1,
-        (c.revive_among-revived.ensures.resurrects.grows.keeps, c.rescan.ensures.steps),
-      );
+          c.follow.ensures.closure);
+      steps = c.follow.ensures.steps;
     }

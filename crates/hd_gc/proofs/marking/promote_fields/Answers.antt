@@ -1,17 +1,11 @@
-use Rattle.std.proofs.Common.{◌≡◌, true, Some, None, ◌∙◌, sym, subst, ap, take, arith}
+use Rattle.std.proofs.Common.{◌≡◌, true, Some, None, ◌∙◌, sym, subst, ap, arith}
 use Rattle.std.specs.Prelude.{Contains}
 use Rattle.std.proofs.lemmas.List.Elements.{Contains-get_or}
 use Rattle.hd_model.specs.Heap.{Heap, Basis, object_at, has_object}
 use Rattle.hd_model.specs.Scene.{fields_at}
 use Rattle.hd_gc.specs.Growing.{Promotes}
-use Rattle.hd_gc.proofs.PromoteSteps.{promotes_none, promoted_next, promoted_all, none_taken}
+use Rattle.hd_gc.proofs.PromoteSteps.{promoted_next, promoted_all}
 use Rattle.hd_gc.proofs.marking.promote_fields.Goals as goal
-
-pub loop-i-init : goal.loop-i-init
-loop-i-init c =
-    promotes_none (λ y. Contains (take 0 (fields_at (object_at c.args.heap.now) c.args.at)) (Some y))
-    c.args.marks.now c.requires.settled
-    (λ y. none_taken (fields_at (object_at c.args.heap.now) c.args.at) (Some y))
 
 pub load-requires-clause-within : goal.load-requires-clause-within
 load-requires-clause-within c = omega (arith, c.fields-i-end.ensures.count)

@@ -6,6 +6,6 @@ use Rattle.hd_gc.proofs.marking.promote_held.Given as goal
 
 abbrev pub invariant-loop-task : goal.invariant-loop-task
 invariant-loop-task g l = record {
-  held : IsHolding (takes_any (take l.task-index root_tasks)) l.fn.seg l.seg l.fn.marks l.marks;
-  steps : l.steps ≡ l.fn.steps + task_visits l.fn.seg l.ages l.n (take l.task-index root_tasks);
+  held : IsHolding (takes_any (take l.task-index root_tasks)) l.seg l.fn.marks l.marks;
+  steps : l.steps ≡ l.fn.steps + task_visits l.seg l.ages l.n (take l.task-index root_tasks);
 }

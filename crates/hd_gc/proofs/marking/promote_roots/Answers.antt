@@ -1,15 +1,10 @@
-use Rattle.std.proofs.Common.{◌≡◌, true, Some, None, sym, subst, take, arith}
+use Rattle.std.proofs.Common.{◌≡◌, true, Some, None, sym, subst, arith}
 use Rattle.std.specs.Prelude.{Contains}
 use Rattle.std.proofs.lemmas.List.Elements.{Contains-get_or}
 use Rattle.hd_model.specs.Heap.{Basis, objects_of}
 use Rattle.hd_model.specs.Scene.{is_object}
-use Rattle.hd_gc.proofs.PromoteSteps.{promotes_none, promoted_next, promoted_all, none_taken}
+use Rattle.hd_gc.proofs.PromoteSteps.{promoted_next, promoted_all}
 use Rattle.hd_gc.proofs.marking.promote_roots.Goals as goal
-
-pub loop-root-init : goal.loop-root-init
-loop-root-init c =
-    promotes_none (λ x. Contains (take 0 c.args.roots.now) (Some x)) c.args.marks.now c.requires.settled
-    (λ x. none_taken c.args.roots.now (Some x))
 
 pub promote_named-requires-clause-object : goal.promote_named-requires-clause-object
 promote_named-requires-clause-object c = λ x is.

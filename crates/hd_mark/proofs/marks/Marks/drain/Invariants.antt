@@ -3,8 +3,7 @@ use Rattle.hd_mark.proofs.MarkPush.{work}
 use Rattle.hd_mark.proofs.marks.Marks.drain.Given as goal
 
 abbrev pub invariant-loop-at : goal.invariant-loop-at
-invariant-loop-at l = IsDraining l.fn.self l.self-inside.trace
+invariant-loop-at l = IsDraining l.fn.self l.self
 
 abbrev pub decreases-loop-at : goal.decreases-loop-at
-decreases-loop-at l = work l.self-inside.trace.basis.heap l.self-inside.trace.marks
-    l.self-inside.trace.stacked
+decreases-loop-at l = work l.self.basis.heap l.self.marks l.self.unscanned

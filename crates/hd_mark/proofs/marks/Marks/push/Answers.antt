@@ -1,14 +1,38 @@
-use Rattle.std.proofs.Common.{◌≡◌, true, sym, subst}
-use Rattle.hd_model.specs.Heap.{objects_of}
-use Rattle.hd_model.specs.Scene.{is_object}
-use Rattle.hd_mark.specs.Marks.{MarksOf}
-use Rattle.hd_mark.specs.Steps.{IsTraced}
-use Rattle.hd_mark.proofs.MarkDrain.{push_traced}
+use Rattle.std.proofs.Common.{sym, ◌∙◌, ◌≡◌, false, arith}
+use Rattle.hd_mark.specs.Marks.{promoted_in}
+use Rattle.hd_mark.proofs.MarksInvariant.{promoted_read, push_room, push_kept, push_seen, push_none}
 use Rattle.hd_mark.proofs.marks.Marks.push.Goals as goal
+use Rattle.hd_mark.proofs.marks.Marks.push.Goals.{After-insert}
+
+unmarked : (c : After-insert) → promoted_in c.args.self.now c.args.at ≡ false
+unmarked c =
+    sym (promoted_read c.self.invariant c.args.self.now c.self.view_is c.args.at c.requires c.in-Some.bit
+    (sym c.bit.ensures ∙ c.in-Some.is)) ∙ sym c.has.ensures ∙ c.if-not-has.true
+
+pub push_reserved-requires : goal.push_reserved-requires
+push_reserved-requires c =
+    let room = push_room c.self.invariant c.args.self.now c.self.view_is c.args.at c.requires
+    c.in-Some.bit (sym c.bit.ensures ∙ c.in-Some.is) c.insert.new.self.words.items c.insert.ensures.joins
+    c.insert.ensures.others (unmarked (goal.at.push_reserved-requires c).After-insert) in
+    let long = c.self.inside.log.ok.0 in
+    omega arith
 
 pub invariant_of-self : goal.invariant_of-self
 invariant_of-self c =
-    subst IsTraced (sym c.push.ensures)
-    (push_traced c.self.inside.trace c.args.at c.self.invariant
-    (subst (λ (m : MarksOf). is_object (objects_of m.basis) c.args.at ≡ true) (sym c.self.view_is)
-    c.requires))
+    rw c.push_reserved.ensures.capacity
+    (push_kept c.self.invariant c.args.self.now c.self.view_is
+    c.args.at c.requires c.in-Some.bit (sym c.bit.ensures ∙ c.in-Some.is) c.insert.new.self.words.items
+    c.insert.ensures.joins c.insert.ensures.others (unmarked (goal.at.invariant_of-self c).After-insert)
+    c.push_reserved.new.self.items c.push_reserved.ensures.items c.insert.ensures.long)
+
+pub returns-then-not-has : goal.returns-then-not-has
+returns-then-not-has c =
+    push_seen c.self.invariant c.args.self.now c.self.view_is c.args.at c.requires
+    c.in-Some.bit (sym c.bit.ensures ∙ c.in-Some.is) c.insert.new.self.words.items c.insert.ensures.joins
+    c.insert.ensures.others (unmarked (goal.at.returns-then-not-has c).After-insert)
+    c.push_reserved.new.self.items c.push_reserved.ensures.items
+
+pub returns-else-not-has : goal.returns-else-not-has
+returns-else-not-has c =
+    push_none c.self.invariant c.args.self.now c.self.view_is c.args.at c.requires
+    c.in-Some.bit (sym c.bit.ensures ∙ c.in-Some.is) (sym c.has.ensures ∙ c.if-not-has.false)

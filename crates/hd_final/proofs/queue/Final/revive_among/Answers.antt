@@ -9,7 +9,7 @@ use Rattle.hd_final.specs.declared.joiners.Joiner.{Joiner}
 use Rattle.hd_final.specs.Joiners.{places}
 use Rattle.hd_final.specs.Resurrection.{IsOut}
 use Rattle.hd_final.proofs.QueueRevive.{joins_object, joins_count, resurrected, queue_once, queue_fits, joiners_fit}
-use Rattle.hd_final.proofs.queue.Final.revive_from.Goals as goal
+use Rattle.hd_final.proofs.queue.Final.revive_among.Goals as goal
 
 pub join-requires-clause-objects : goal.join-requires-clause-objects
 join-requires-clause-objects g c = λ a k.

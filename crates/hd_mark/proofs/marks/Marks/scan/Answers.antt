@@ -7,7 +7,7 @@ use Rattle.hd_model.specs.Scene.{fields_at, is_object}
 use Rattle.hd_model.proofs.Members.{member_at}
 use Rattle.hd_mark.specs.Marks.{MarksOf}
 use Rattle.hd_mark.proofs.MarkPush.{scanned_basis}
-use Rattle.hd_mark.proofs.trace.Trace.scan.Goals as goal
+use Rattle.hd_mark.proofs.marks.Marks.scan.Goals as goal
 
 pub push-requires : goal.push-requires
 push-requires c =

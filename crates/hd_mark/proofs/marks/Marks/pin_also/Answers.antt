@@ -1,0 +1,15 @@
+use Rattle.std.proofs.Common.{sym, ◌∙◌}
+use Rattle.hd_mark.proofs.MarksInvariant.{pin_seen, pin_kept}
+use Rattle.hd_mark.proofs.marks.Marks.pin_also.Goals as goal
+
+pub invariant_of-self : goal.invariant_of-self
+invariant_of-self c =
+    pin_kept c.self.invariant c.args.self.now c.self.view_is c.args.at c.requires c.in-Some.bit
+    (sym c.bit.ensures ∙ c.in-Some.is) c.insert.new.self.words.items c.insert.ensures.joins
+    c.insert.ensures.others c.insert.ensures.long
+
+pub returns-in-Some : goal.returns-in-Some
+returns-in-Some c =
+    pin_seen c.self.invariant c.args.self.now c.self.view_is c.args.at c.requires c.in-Some.bit
+    (sym c.bit.ensures ∙ c.in-Some.is) c.insert.new.self.words.items c.insert.ensures.joins
+    c.insert.ensures.others

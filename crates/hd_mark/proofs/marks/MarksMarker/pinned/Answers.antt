@@ -1,0 +1,8 @@
+use Rattle.std.proofs.Common.{sym, ◌∙◌}
+use Rattle.hd_mark.proofs.MarksInvariant.{pinned_read}
+use Rattle.hd_mark.proofs.marks.MarksMarker.pinned.Goals as goal
+
+pub returns-in-Some : goal.returns-in-Some
+returns-in-Some c =
+    c.has.ensures ∙ pinned_read c.self.invariant c.args.self.now c.self.view_is c.args.at c.requires.object
+    c.in-Some.bit (sym c.bit.ensures ∙ c.in-Some.is)

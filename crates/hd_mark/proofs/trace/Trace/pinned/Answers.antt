@@ -1,8 +1,0 @@
-use Rattle.std.proofs.Common.{sym, ◌∙◌}
-use Rattle.hd_mark.proofs.TraceInvariant.{pinned_read}
-use Rattle.hd_mark.proofs.trace.Trace.pinned.Goals as goal
-
-pub returns-in-Some : goal.returns-in-Some
-returns-in-Some c =
-    c.has.ensures ∙ pinned_read _ _ _ _ _ _ _ c.self.invariant c.args.self.now
-    c.self.view_is c.args.at c.requires c.in-Some.bit (sym c.bit.ensures ∙ c.in-Some.is)
