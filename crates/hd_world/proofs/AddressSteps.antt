@@ -1,5 +1,5 @@
 -- What each command does with the pinned addresses.
-use Rattle.hd_world.proofs.StoreWords.{◌≡◌, ℕ, ◌<◌, ◌≤◌, cond, Bool, true, false, Option, Some, None, refl, sym, ap, ◌∙◌, subst, Result, Ok, Err, MatchResult, if◌then◌else◌, option_and_then, option_map_or, FinMap, get, insert, empty, nat_cmp, Id, Addr, Slot, Refusal, Entry, Report, Reply, Cmd, State, Handle, handle_register_of, handle_at, with_place, pins, Outcome, answers, refuses, answer_place, with_places, MayAnswer, touched_by, IsValid, StepOf, Step, IsOutcome, AnswersPlace, pinned_by, pinned_target, aged_by, is_collect, Machine, KeepsNames, HasNames, Moves, KeepsPlaces, kept_places, HasCollected, HasPlace, LeavesHeap, name_in, pinned_in, entry_of, done_of, MayRun, HasRun, IsPlainStep, RanOut, asks_of, no_room, IsOffer, MayOffer, GrowsFor, CollectedSteps, TakesSteps, true≢false, get_inserted, same_Some}
+use Rattle.hd_world.proofs.StoreWords.{◌≡◌, ℕ, ◌<◌, ◌≤◌, cond, Bool, true, false, Option, Some, None, refl, sym, ap, ◌∙◌, subst, Result, Ok, Err, MatchResult, if◌then◌else◌, option_and_then, option_map_or, FinMap, get, insert, empty, nat_cmp, Id, Addr, Slot, Refusal, Entry, Report, Reply, Cmd, State, Handle, handle_register_of, handle_at, with_place, pins, Outcome, answers, refuses, answer_place, with_places, MayAnswer, touched_by, IsValid, StepOf, Step, IsOutcome, AnswersPlace, pinned_by, pinned_target, aged_by, is_collect, Machine, KeepsNames, HasNames, Moves, KeepsPlaces, kept_places, HasCollected, HasPlace, LeavesHeap, name_in, pinned_in, entry_of, done_of, MayRun, HasRun, IsPlainStep, RanOut, asks_of, no_room, IsOffer, MayOffer, GrowsFor, CollectedSteps, key_register, class_of, register_of, TakesSteps, true≢false, get_inserted, same_Some}
 use Rattle.hd_world.proofs.IdentityReadings.{no_some}
 use Rattle.hd_model.specs.declared.data.Grown.TheVariants.{Zero}
 use Rattle.hd_model.specs.declared.data.Memory.{Memory}
@@ -28,9 +28,14 @@ module _ (e : Entry) (f : Cmd → Bool) (is : f e.cmd ≡ false) (each : (n : �
     compact = λ report same answer. absurd (none 2 same);
   }
 
-  pub others-steps : (m : Machine) (steps : ℕ) → TakesSteps m.state m.ages e steps steps
-  others-steps m steps =
-      record { others = λ _. refl; collects = λ n report same answer. absurd (none n same) }
+  pub others-steps : (m : Machine) (steps : ℕ) → key_register (class_of e.cmd) ≡ None
+      → TakesSteps m.state m.ages e steps steps
+  others-steps m steps no_key = record {
+    others = λ _ _. refl;
+    searches = λ key is. absurd
+        (no_some key (sym is ∙ ap (option_and_then (register_of m.state e.caller)) no_key));
+    collects = λ n report same answer. absurd (none n same);
+  }
 
 abbrev uses_places : Cmd → Bool
 uses_places c = (touched_by c).places
@@ -192,45 +197,47 @@ module _ (m : Machine) (caller h : ℕ) (known : caller < m.numbers.callers) (lo
 
 -- the steps of a collection
 pub collect-steps : (m : Machine) (n : ℕ) (report : Report) (caller before after : ℕ)
-    → CollectedSteps m.state m.ages n report.kept before after
+    → CollectedSteps m.state m.ages n before after
     → TakesSteps m.state m.ages (entry_with caller (cmd.Collect n) (reply.Report report)) before after
 collect-steps m n report caller before after steps = record {
-  others = λ not. absurd (true≢false not);
+  others = λ not _. absurd (true≢false not);
+  searches = λ key is. absurd (no_some key (sym is));
   collects = λ k other same_n same_report.
-      subst (λ j. CollectedSteps m.state m.ages j other.kept before after) (ap (number_in n) same_n)
-      (subst (λ (r : Report). CollectedSteps m.state m.ages n r.kept before after)
-      (ap (report_in report) same_report) steps);
+      subst (λ j. CollectedSteps m.state m.ages j before after) (ap (number_in n) same_n) steps;
 }
-  where
-    report_in : Report → Reply → Report
-    report_in d (reply.Report r) = r
-    report_in d r = d
 
 -- what was done without a use of pinned addresses was done with any
+pub plain-kept : (m k : Machine) (asked : CallerCommand) (offer : Option Slot) → MayRun m asked offer
+    → (e : Entry) → HasRun m asked offer e (IsPlainStep m asked.cmd k e)
+    → HasRun m asked offer e (KeepsPlaces m e k)
+plain-kept m k asked offer may e did =
+    let step = did.effect in
+    let still : uses_places e.cmd ≡ false = ap uses_places did.command ∙ step.plain in
+    record {
+      caller = did.caller;
+      command = did.command;
+      effect = plain-moves m k e still (record {
+        caller = subst (λ x. x < m.numbers.callers) (sym did.caller) may.caller;
+        valid = subst IsValid (sym did.command) may.valid;
+        does = subst (StepOf m.numbers m.state e k.state) (sym did.command) step.step;
+      }) (names-kept (touched_by asked.cmd).makes_object m.names k.names step.names) step.ages step.numbers;
+      offer = did.offer;
+      growth = did.growth;
+    }
+
 pub plain-runs : (m k : Machine) (asked : CallerCommand) (offer : Option Slot) → MayRun m asked offer
-    → (steps : ℕ) (r : Result Entry Memory)
+    → key_register (class_of asked.cmd) ≡ None → (steps : ℕ) (r : Result Entry Memory)
     → MatchResult r (λ e. HasRun m asked offer e (IsPlainStep m asked.cmd k e))
     (λ _. RanOut m.numbers m.state asked.cmd m k)
     → MatchResult r (λ e. HasRun m asked offer e
     (KeepsPlaces m e k) × TakesSteps m.state m.ages e steps steps)
     (λ _. RanOut m.numbers m.state asked.cmd m k × (steps ≡ steps))
-plain-runs m k asked offer may steps (Ok e) did =
-    let step = did.effect in
-    let still : uses_places e.cmd ≡ false = ap uses_places did.command ∙ step.plain in (
-      record {
-        caller = did.caller;
-        command = did.command;
-        effect = plain-moves m k e still (record {
-          caller = subst (λ x. x < m.numbers.callers) (sym did.caller) may.caller;
-          valid = subst IsValid (sym did.command) may.valid;
-          does = subst (StepOf m.numbers m.state e k.state) (sym did.command) step.step;
-        }) (names-kept (touched_by asked.cmd).makes_object m.names k.names step.names) step.ages step.numbers;
-        offer = did.offer;
-        growth = did.growth;
-      },
-      others-steps e uses_places still (λ n. refl) m steps,
-    )
-plain-runs m k asked offer may steps (Err e) out = (out, refl)
+plain-runs m k asked offer may no_key steps (Ok e) did = (
+  plain-kept m k asked offer may e did,
+  others-steps e uses_places (ap uses_places did.command ∙ did.effect.plain) (λ n. refl) m steps
+      (ap (λ c. key_register (class_of c)) did.command ∙ no_key),
+)
+plain-runs m k asked offer may no_key steps (Err e) out = (out, refl)
 
 -- `addr` returns the address of what the handle pins
 module _ (m k : Machine) (e : Entry) (keeps : KeepsPlaces m e k) (h place : ℕ) (x : Id)
@@ -263,7 +270,8 @@ module _ (m k : Machine) (e : Entry) (keeps : KeepsPlaces m e k) (h place : ℕ)
 
 -- and so was what takes no slot and gives none back
 pub others-run : (m k : Machine) (asked : CallerCommand) (offered : Option Slot) (c : Cmd) → asked.cmd ≡ c
-    → asks_of c ≡ no_room → (r : Result Done Refusal) (before after : ℕ) → MayRun m asked offered
+    → asks_of m.state asked.caller c ≡ no_room → (r : Result Done Refusal) (before after : ℕ)
+    → MayRun m asked offered
     → KeepsPlaces m (entry_of (record { caller = asked.caller; cmd = c }) (done_of r)) k
     → TakesSteps m.state m.ages (entry_of (record { caller = asked.caller; cmd = c }) (done_of r))
     before after
@@ -271,14 +279,55 @@ pub others-run : (m k : Machine) (asked : CallerCommand) (offered : Option Slot)
     → HasRun m asked offered e (KeepsPlaces m e k) × TakesSteps m.state m.ages e before after
 others-run m k asked offered c is none r before after may keeps steps e entry =
     let same = entry ∙ (λ i. entry_of (record { caller = asked.caller; cmd = is i }) (done_of r)) in
-    let nothing = ap asks_of is ∙ none in (
+    let nothing = ap (asks_of m.state asked.caller) is ∙ none in (
       record {
         caller = ap (λ (x : Entry). x.caller) entry;
         command = ap (λ (x : Entry). x.cmd) entry;
         effect = subst (λ x. KeepsPlaces m x k) (sym same) keeps;
         offer = λ slot given. absurd (subst (λ a. MayOffer m.state a slot) nothing
-            (subst (IsOffer m.state asked.cmd) given may.offer));
+            (subst (IsOffer m.state asked.caller asked.cmd) given may.offer));
         growth = subst (λ a. GrowsFor m.numbers m.state a offered e) (sym nothing) tt;
       },
       subst (λ x. TakesSteps m.state m.ages x before after) (sym same) steps,
+    )
+
+-- so was a search of the weak table
+pub looked-run : (m k : Machine) (asked : CallerCommand) (offered : Option Slot) (c : Cmd) → asked.cmd ≡ c
+    → asks_of m.state asked.caller c ≡ no_room → (r : Result Done Refusal) (before after : ℕ)
+    → MayRun m asked offered
+    → IsPlainStep m c k (entry_of (record { caller = asked.caller; cmd = c }) (done_of r))
+    → TakesSteps m.state m.ages (entry_of (record { caller = asked.caller; cmd = c }) (done_of r))
+    before after
+    → (e : Entry) → e ≡ entry_of asked (done_of r)
+    → HasRun m asked offered e (KeepsPlaces m e k) × TakesSteps m.state m.ages e before after
+looked-run m k asked offered c is none r before after may did steps e entry =
+    others-run m k asked offered c is none r before after may
+    (plain-moves m k (entry_of (record { caller = asked.caller; cmd = c }) (done_of r)) did.plain (record {
+      caller = may.caller;
+      valid = subst IsValid is may.valid;
+      does = did.step;
+    }) (names-kept (touched_by c).makes_object m.names k.names did.names) did.ages did.numbers) steps e entry
+
+-- and a `cadd`
+pub added-run : (m k : Machine) (asked : CallerCommand) (offered : Option Slot) (c : Cmd) → asked.cmd ≡ c
+    → (r : Result Done Refusal) (before after : ℕ) → MayRun m asked offered
+    → HasRun m (record { caller = asked.caller; cmd = c }) offered
+    (entry_of (record { caller = asked.caller; cmd = c }) (done_of r))
+    (IsPlainStep m c k (entry_of (record { caller = asked.caller; cmd = c }) (done_of r)))
+    → TakesSteps m.state m.ages (entry_of (record { caller = asked.caller; cmd = c }) (done_of r))
+    before after
+    → (e : Entry) → e ≡ entry_of asked (done_of r)
+    → HasRun m asked offered e (KeepsPlaces m e k) × TakesSteps m.state m.ages e before after
+added-run m k asked offered c is r before after may did steps e entry =
+    let same : record { caller = asked.caller; cmd = c } ≡ asked =
+    λ i. record { caller = asked.caller; cmd = sym is i } in
+    let ran : HasRun m asked offered (entry_of asked (done_of r))
+    (IsPlainStep m asked.cmd k (entry_of asked (done_of r))) =
+    subst (λ (a : CallerCommand). HasRun m a offered (entry_of a (done_of r))
+    (IsPlainStep m a.cmd k (entry_of a (done_of r)))) same did in
+    subst (λ x. HasRun m asked offered x (KeepsPlaces m x k) × TakesSteps m.state m.ages x before after)
+    (sym entry) (
+      plain-kept m k asked offered may (entry_of asked (done_of r)) ran,
+      subst (λ (a : CallerCommand). TakesSteps m.state m.ages (entry_of a (done_of r)) before after) same
+          steps,
     )

@@ -15,7 +15,7 @@ use Rattle.hd_model.proofs.Members.{mapped_in, passing_from, passing_in, pairs_p
 use Rattle.hd_model.proofs.Entries.{entry_of, keys_apart}
 use Rattle.hd_model.proofs.KindTests.{same_kind}
 use Rattle.hd_model.proofs.MemberWeights.{lighter}
-use Rattle.hd_gc.specs.Steps.{CollectSteps}
+use Rattle.hd_gc.specs.Steps.{collected_steps}
 use Rattle.hd_world.specs.Visited.{has_kind, blocks_of, due_in, steps_by, CollectedSteps}
 
 -- the due clumps of a block
@@ -70,12 +70,6 @@ module _ (s : State) (t : Table) (uses : t.uses ≡ s.blocks) (table : IsTable t
       let in_it = passing_from (λ block. has_kind k (get s.blocks block)) (keys s.blocks) b c in
       (table.chained k b).1 (ap (λ m. get m b) uses ∙ kind_from k (get s.blocks b) in_it.1))
 
-  pub steps-collected : (kept before after : ℕ) → CollectSteps t ages n kept before after
-      → CollectedSteps s ages n kept before after
-  steps-collected kept before after steps = record {
-    passes = steps.passes;
-    least = steps.least;
-    most = steps.most;
-    steps_are = steps.steps_are
-        ∙ (λ i. steps_by (λ k. visits_same k i) before steps.passes);
-  }
+  pub steps-collected : (before after : ℕ) → after ≡ collected_steps t ages n before
+      → CollectedSteps s ages n before after
+  steps-collected before after steps = steps ∙ (λ i. steps_by (λ k. visits_same k i) before)

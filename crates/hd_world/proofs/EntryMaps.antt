@@ -1,11 +1,27 @@
 -- Maps by number that are made from the entries of another: with the same keys, and with new ones.
-use Rattle.hd_world.proofs.StoreWords.{[], ◌≡◌, ℕ, T, List, ◌∷◌, map, Some, refl, sym, ap, ◌∙◌, subst, inl, inr, ⊎_elim, option_map, is_some, Contains, FinMap, get, find, entries, from_entries, get-entries, get-from_entries, same_map, nat_cmp-IsAntisymmetric, nat_cmp, nat_cmp_total, cases_eq, same_Some}
+use Rattle.hd_world.proofs.StoreWords.{[], ◌≡◌, ℕ, T, List, ◌∷◌, map, Some, refl, sym, ap, ◌∙◌, subst, inl, inr, ⊎_elim, option_map, is_some, Contains, FinMap, get, find, entries, from_entries, get-entries, get-from_entries, same_map, nat_cmp-IsAntisymmetric, nat_cmp, nat_cmp_total, cases_eq, same_Some, Bool, None, cond, get-retain_keys, entries_sorted, from_sorted, entries-from_sorted, get-from_sorted}
+use Rattle.std.specs.FinMap.{retain_keys}
+use Rattle.std.specs.declared.cmp.Ordering.TheVariants.{Equal}
+use Rattle.std.specs.FinMap.Entries.{where_key, is_sorted-where_key, find-where_key}
 use Rattle.hd_model.proofs.Entries.{found_first, found_later, get_entry, entry_of}
 use Rattle.hd_model.proofs.Members.{not_in_none, first_in, later_in, member_cases}
 
 -- two maps with the same items are equal
 pub same_numbers : {A : Type 0} (m n : FinMap nat_cmp A) → ((q : ℕ) → get m q ≡ get n q) → m ≡ n
 same_numbers m n is = same_map nat_cmp_total nat_cmp-IsAntisymmetric m n is
+
+-- the entries whose key passes a test
+pub entries-retained : {X : Type 0} (m : FinMap nat_cmp X) (p : ℕ → Bool)
+    → entries (retain_keys m p) ≡ where_key nat_cmp p (entries m)
+entries-retained m p =
+    let es = where_key nat_cmp p (entries m) in
+    let sorted = is_sorted-where_key nat_cmp p (entries m) (entries_sorted m) in
+    ap entries (same_numbers (retain_keys m p) (from_sorted {R = nat_cmp} es) (λ q.
+    let alike : (x : ℕ) → nat_cmp q x ≡ Equal → p x ≡ p q =
+    λ x same. ap p (sym (nat_cmp-IsAntisymmetric q x same)) in
+    get-retain_keys m p q alike ∙ ap (λ o. cond (p q) o None) (get-entries m q)
+    ∙ sym (find-where_key nat_cmp p q alike (entries m)) ∙ sym (get-from_sorted nat_cmp es q sorted)))
+    ∙ entries-from_sorted nat_cmp es sorted
 
 -- the entries with other values
 pub find-mapped : {X Y : Type 0} (f : ℕ → X → Y) (k : ℕ) (es : List (ℕ × X))

@@ -1,5 +1,5 @@
 -- How a heap, its rows and its roots read by identity, and how that changes with the heap.
-use Rattle.hd_world.proofs.StoreWords.{◌≡◌, ℕ, Option, Some, None, refl, sym, ap, ◌∙◌, subst, inl, inr, option_map, unwrap_or, is_some, T, FinMap, get, insert, nat_cmp, cases_eq, Id, Addr, Object, Handle, rename_object, rename_handle, Placed, Heap, region_of, object_in, id_in, id_at, HasIdentities, names_of, read_object, objects_by_id, rows_by_id, name_in, named_in, get_beside, get_inserted, same_Some}
+use Rattle.hd_world.proofs.StoreWords.{◌≡◌, ℕ, Option, Some, None, refl, sym, ap, ◌∙◌, subst, inl, inr, option_map, unwrap_or, is_some, T, FinMap, get, insert, nat_cmp, cases_eq, Id, Addr, Object, Handle, rename_object, rename_handle, Placed, Heap, region_of, object_in, id_in, id_at, HasIdentities, names_of, read_object, objects_by_id, rows_by_id, weak_by_id, entry_named, from_entries, entries, map, name_in, named_in, get_beside, get_inserted, same_Some}
 use Rattle.hd_world.proofs.EntryMaps.{same_numbers, get-mapped, Under, AreApart, under, get-rekeyed}
 
 pub no_some : {A : Type 0} (x : A) → Some x ≡ None → ⊥
@@ -211,6 +211,12 @@ module _ (h k : Heap) (a : ℕ) (old new : Placed) (r : Replaces h k a old new) 
       same_numbers (rows_by_id k rows) (rows_by_id h rows) (λ slot.
       rows-get k rows slot ∙ ap (λ f. option_map (rename_handle f) (get rows slot)) ids-replace
       ∙ sym (rows-get h rows slot))
+
+  pub weak-replace : (rows : FinMap nat_cmp (Handle Addr)) (held : FinMap nat_cmp (Option Id))
+      → weak_by_id k rows held ≡ weak_by_id h rows held
+  unfolding weak_by_id
+  weak-replace rows held = λ i. from_entries {R = nat_cmp} (map (λ (e : ℕ × Option Id).
+      (e.0, entry_named (ids-replace i) (get rows e.0) e.1)) (entries held))
 
   puts : HasIdentities h → Puts h k a new
   puts identities = record {

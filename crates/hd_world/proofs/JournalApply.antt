@@ -1,6 +1,6 @@
 -- What a world's journal states before a command, and that it is a run after it. Only the state of the
 -- machine has pinned addresses.
-use Rattle.hd_world.proofs.StoreWords.{◌≡◌, ℕ, ◌<◌, ◌+◌, ◌*◌, ◌^◌, List, ◌++◌, ◌∷◌, [], length, replicate, Option, None, Some, sym, ap, subst, arith, FinMap, get, empty, nat_cmp, Entry, Slot, Cmd, Numbers, State, start_of, last_serial, identity_of, with_places, Step, Run, stay, AgedRun, aged_by, IsWellFormed, HasHandles, Machine, KeepsPlaces, Moves, TakesSteps, HasLimits, Asks, object_room, handle_slot, block_back, no_room, asks_of, MayOffer, IsOffer, GrowsFor, GrowsUnoffered}
+use Rattle.hd_world.proofs.StoreWords.{◌≡◌, ℕ, ◌<◌, ◌+◌, ◌*◌, ◌^◌, List, ◌++◌, ◌∷◌, [], length, replicate, Option, None, Some, sym, ap, subst, arith, FinMap, get, empty, nat_cmp, Entry, Slot, Cmd, Numbers, State, start_of, last_serial, identity_of, with_places, Step, Run, stay, AgedRun, aged_by, IsWellFormed, HasHandles, HasWeakTable, Machine, KeepsPlaces, Moves, TakesSteps, HasLimits, Asks, object_room, handle_slot, block_back, no_room, asks_of, MayOffer, IsOffer, GrowsFor, GrowsUnoffered}
 use Rattle.hd_model.proofs.AgedRuns.{nothing_at}
 use Rattle.hd_model.proofs.StepChains.{aged_run_is_run, push}
 use Rattle.hd_model.proofs.RunCounts.{fresh}
@@ -14,26 +14,33 @@ pub steps_placed : (s : State) (p : FinMap nat_cmp ℕ) (ages : List ℕ) (e : E
     → TakesSteps s ages e before after → TakesSteps (with_places s p) ages e before after
 steps_placed s p ages e before after is = record {
   others = is.others;
-  collects = λ n report c answer.
-      let did = is.collects n report c answer in
-      record { passes = did.passes; least = did.least; most = did.most; steps_are = did.steps_are };
+  searches = λ key found.
+      let did = is.searches key found in record { counted = did.counted; most = did.most };
+  collects = is.collects;
 }
 
 -- nor does what is offered, and whether the table grows
 module _ (n : Numbers) (s : State) (p : FinMap nat_cmp ℕ) where
-  pub offer_placed : (c : Cmd) (o : Option Slot) → IsOffer (with_places s p) c o → IsOffer s c o
-  offer_placed c None is = tt
-  offer_placed c (Some slot) is = by (asks_of c) is
+  pub offer_placed : (caller : ℕ) (c : Cmd) (o : Option Slot) → IsOffer (with_places s p) caller c o
+      → IsOffer s caller c o
+  offer_placed caller c None is = tt
+  offer_placed caller c (Some slot) is = by (asks_of s caller c) is
     where
       by : (a : Asks) → MayOffer (with_places s p) a slot → MayOffer s a slot
       by (object_room fields) is = is
-      by (handle_slot kind) is = is
-      by (block_back kind) is = is
+      by (handle_slot kind) is =
+          record { no_handle = is.no_handle; not_weak = is.not_weak; of_kind = is.of_kind }
+      by (block_back kind) is = (
+        is.0,
+        λ other same.
+            let free = is.1 other same in
+            record { no_handle = free.no_handle; not_weak = free.not_weak; of_kind = free.of_kind },
+      )
       by no_room is = is
 
-  pub growth_placed : (c : Cmd) (o : Option Slot) (e : Entry) → GrowsUnoffered n s c o e
-      → GrowsUnoffered n (with_places s p) c o e
-  growth_placed c o e = by (asks_of c) o
+  pub growth_placed : (caller : ℕ) (c : Cmd) (o : Option Slot) (e : Entry) → GrowsUnoffered n s caller c o e
+      → GrowsUnoffered n (with_places s p) caller c o e
+  growth_placed caller c o e = by (asks_of s caller c) o
     where
       by : (a : Asks) (o : Option Slot) → GrowsFor n s a o e → GrowsFor n (with_places s p) a o e
       by (object_room fields) o is = is
@@ -59,6 +66,9 @@ module _ (m : Machine) (journal : List Entry) (p : FinMap nat_cmp ℕ) (is : IsT
   handles_of =
       let h = well_of.handles in
       record { kinds = h.kinds; extras = h.extras; dependents = h.dependents; blocks = h.blocks }
+
+  pub weak_of : HasWeakTable m.state
+  weak_of = let w = well_of.weak in record { kinds = w.kinds; apart = w.apart; once = w.once }
 
   -- where the journal has room for one more entry
   module _ (room : length journal + 1 < 2 ^ 32) where

@@ -2,6 +2,8 @@ mod StoreWords
 mod EntryMaps
 mod IdentityReadings
 mod NameAgreement
+mod EntryReadings
+mod EntrySweep
 mod StoreAdd
 mod RootRows
 mod NamedAddresses
@@ -11,6 +13,7 @@ mod RootAccess
 mod EntrySums
 mod StateCounts
 mod StoreRows
+mod EntryWrites
 mod SlotHandle
 mod StoreNew
 mod FoundHandle
@@ -26,3 +29,5 @@ mod PinnedAddress
 mod AddressSteps
 mod StateHeap
 mod RootIdentities
+mod EntrySearch
+mod HeldRoom

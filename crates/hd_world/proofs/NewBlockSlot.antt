@@ -1,7 +1,8 @@
 -- A new handle's slot in a block that has just come into use.
-use Rattle.hd_world.proofs.StoreWords.{◌≡◌, ℕ, ◌+◌, ◌*◌, ◌/◌, ◌≤◌, true, false, Option, Some, None, refl, sym, ap, ◌∙◌, subst, arith, get, insert, Id, Slot, Kind, Grown, Handle, handles_of, extra_data, given_of, block_of, first_slot, handle_at, use_of, IsFree, is_paired, blocks_needed, IsLeastUnused, HasHandles, with_growth, Machine, get_beside, get_inserted}
+use Rattle.hd_world.proofs.StoreWords.{◌≡◌, ℕ, ◌+◌, ◌*◌, ◌/◌, ◌≤◌, true, false, Option, Some, None, refl, sym, ap, ◌∙◌, subst, arith, get, insert, Id, Slot, Kind, Grown, Handle, handles_of, extra_data, given_of, block_of, first_slot, handle_at, use_of, IsFree, is_paired, blocks_needed, IsLeastUnused, HasHandles, HasWeakTable, WeakEntry, is_some, with_growth, Machine, get_beside, get_inserted}
 use Rattle.hd_world.proofs.IdentityReadings.{no_some}
 use Rattle.hd_model.specs.declared.data.Grown.TheVariants.{Zero, One, Two, Back}
+use Rattle.hd_model.specs.declared.data.Kind.TheVariants.{Dependent}
 use Rattle.hd_world.specs.Making.{IsPlace}
 
 abbrev is_growth : Grown → Type 0
@@ -25,13 +26,29 @@ vacant_first m block handles unused = by (handle_at m.state (first_slot block)) 
         absurd (no_some (handles_of h.kind)
         (sym (handles.kinds (block * 64) h is) ∙ ap (use_of m.state) (first_block block) ∙ unused))
 
+-- nor does the weak table hold a slot there
+not_weak_first : (m : Machine) (block : ℕ) → HasWeakTable m.state → use_of m.state block ≡ None
+    → get m.state.weak (block * 64) ≡ None
+not_weak_first m block weak unused = by (get m.state.weak (block * 64)) refl
+  where
+    by : (o : Option (Option (WeakEntry Id))) → get m.state.weak (block * 64) ≡ o
+        → get m.state.weak (block * 64) ≡ None
+    by None is = is
+    by (Some e) is =
+        absurd (no_some (handles_of Dependent)
+        (sym (weak.kinds (block * 64) (ap is_some is)) ∙ ap (use_of m.state) (first_block block) ∙ unused))
+
 module _ (old new : Machine) (kind : Kind) (slot : Slot) (handles : HasHandles old.numbers old.state)
-    (block : ℕ) (at : slot ≡ first_slot block) (least : IsLeastUnused old.numbers old.state 1 block) where
+    (weak : HasWeakTable old.state) (block : ℕ) (at : slot ≡ first_slot block)
+    (least : IsLeastUnused old.numbers old.state 1 block) where
   block_is : block_of slot ≡ block
   block_is = ap block_of at ∙ first_block block
 
   vacant : handle_at old.state slot ≡ None
   vacant = ap (handle_at old.state) at ∙ vacant_first old block handles least.unused
+
+  not_weak : get old.state.weak slot.0 ≡ None
+  not_weak = ap (λ (s : Slot). get old.state.weak s.0) at ∙ not_weak_first old block weak least.unused
 
   use_is : get (insert old.state.blocks block (handles_of kind)) (block_of slot) ≡ Some (handles_of kind)
   use_is = ap (get (insert old.state.blocks block (handles_of kind))) block_is
@@ -44,7 +61,8 @@ module _ (old new : Machine) (kind : Kind) (slot : Slot) (handles : HasHandles o
   placed_one single store room = record {
     may = (single, least, at);
     store = store;
-    free = subst (λ (m : Machine). IsFree m.state kind slot) (sym store) (vacant, use_is);
+    free = subst (λ (m : Machine). IsFree m.state kind slot) (sym store)
+        (record { no_handle = vacant; not_weak = not_weak; of_kind = use_is });
     low = subst (λ b. 1 ≤ b) (sym block_is) least.low;
     high = subst (λ b. b ≤ old.numbers.blocks) (sym block_is) least.high;
     offered = tt;
@@ -58,11 +76,12 @@ module _ (old new : Machine) (kind : Kind) (slot : Slot) (handles : HasHandles o
   placed_two other double next store room = record {
     may = (double, least, next, at);
     store = store;
-    free = subst (λ (m : Machine). IsFree m.state kind slot) (sym store) (
-      vacant,
-      get_beside (insert old.state.blocks block (handles_of kind)) other extra_data
-          (block_of slot) (λ same. let low = next.low in let is = block_is in absurd (omega arith)) ∙ use_is,
-    );
+    free = subst (λ (m : Machine). IsFree m.state kind slot) (sym store) (record {
+      no_handle = vacant;
+      not_weak = not_weak;
+      of_kind = get_beside (insert old.state.blocks block (handles_of kind)) other extra_data
+          (block_of slot) (λ same. let low = next.low in let is = block_is in absurd (omega arith)) ∙ use_is;
+    });
     low = subst (λ b. 1 ≤ b) (sym block_is) least.low;
     high = subst (λ b. b ≤ old.numbers.blocks) (sym block_is) least.high;
     offered = tt;

@@ -3,6 +3,7 @@ use Rattle.hd_world.proofs.StoreWords.{◌≡◌, ℕ, ◌+◌, ◌*◌, ◌<◌
 use Rattle.hd_world.proofs.RootRows.{rows-get, rest-get, rows-set, rest-set_row, rest-set, rows-set_rest}
 use Rattle.hd_world.proofs.IdentityReadings.{named-is}
 use Rattle.hd_world.proofs.NamedAddresses.{named_objects, objects_named, field-read}
+use Rattle.hd_world.proofs.EntryReadings.{tied-agrees}
 use Rattle.hd_world.proofs.Barrier.{contains_set}
 
 -- the parts with another root at an index
@@ -36,6 +37,10 @@ stored-named f roots q stored long named queue room = record {
   roots = stored.roots ∙ long;
   blocks = stored.blocks;
   uses = stored.uses;
+  tied = λ slot key is. tied-agrees f (record f { roots = roots; queue = q }) slot key
+      (stored.tied slot key is)
+      refl (λ x e. refl);
+  same_blocks = stored.same_blocks;
 }
 
 module _ (f : Parts) (m : Machine) (view : machine_of f ≡ m) (stored : IsStored f) where

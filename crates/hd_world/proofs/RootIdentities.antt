@@ -1,5 +1,5 @@
 -- The roots of a store by identity are those of its table, each with the identity of its object.
-use Rattle.hd_world.proofs.StoreWords.{[], ◌≡◌, ℕ, ◌≤◌, ◌<◌, ◌^◌, length, Result, Ok, Err, IfOk, Vec, Global, arith, true, ◌&&◌, T, List, ◌∷◌, ◌++◌, All, Contains, map, Option, Some, None, refl, sym, ap, ◌∙◌, subst, option_map, option_to_list, FinMap, is_sorted, entries, from_entries, from_sorted, entries_sorted, entries-from_sorted, len, len-entries, get-from_sorted, get-from_entries, nat_cmp, is_lt, nat_cmp_total, map-append, length-append, Id, Addr, Kind, RootId, Slot, Handle, State, rename_handle, Role, holds, short, long, attaches, role, Heap, id_at, has_object, rows_by_id, Parts, IsStored}
+use Rattle.hd_world.proofs.StoreWords.{[], ◌≡◌, ℕ, ◌≤◌, ◌<◌, ◌^◌, length, Result, Ok, Err, IfOk, Vec, Global, arith, true, ◌&&◌, T, List, ◌∷◌, ◌++◌, All, Contains, map, Option, Some, None, refl, sym, ap, ◌∙◌, subst, option_map, option_to_list, FinMap, is_sorted, entries, from_entries, from_sorted, entries_sorted, entries-from_sorted, len, len-entries, get-from_sorted, get-from_entries, nat_cmp, is_lt, nat_cmp_total, map-append, length-append, Id, Addr, Kind, RootId, Slot, Handle, State, rename_handle, Role, holds, short, long, attaches, role, Heap, id_at, has_object, rows_by_id, Parts, IsStored, Bool, false, cond, filter, get, is_none, unheld, true≢false, same_Some}
 use Rattle.std.specs.FinMap.Entries.{below_all}
 use Rattle.std.proofs.lemmas.List.Elements.{All-nil, All-cons, All-append}
 use Rattle.hd_model.specs.RootText.{held_by, held_of, root_in, roots_in, root_id}
@@ -9,7 +9,7 @@ use Rattle.hd_scan.specs.Gathering.{root_by, roots_of}
 use Rattle.hd_world.specs.Listing.{root_named}
 use Rattle.hd_model.proofs.Entries.{get_entry}
 use Rattle.hd_model.proofs.Members.{first_in, later_in}
-use Rattle.hd_world.proofs.EntryMaps.{same_numbers}
+use Rattle.hd_world.proofs.EntryMaps.{same_numbers, entries-retained}
 
 -- ---- entries of a map with other values
 
@@ -72,6 +72,43 @@ module _ (h : Heap) where
   roots-are rows =
       sym (all_named (entries rows))
       ∙ ap (roots_in root_id) (sym (entries-mapped (λ slot row. rename_handle (id_at h) row) rows))
+
+-- ---- the slots that the weak table holds are no roots
+
+none_held : (e : ℕ × Handle Addr) → role e.1 ≡ attaches → root_in root_by e ≡ []
+none_held e is = ap (λ r. option_to_list (option_map (root_by (record { 0 = e.0 }) e.1.kind)
+    (held_by r e.1.target))) is
+
+unheld_in : (p : ℕ → Bool) (es : List (ℕ × Handle Addr))
+    → ((k : ℕ) (v : Handle Addr) → Contains es (k, v) → p k ≡ false → role v ≡ attaches)
+    → roots_in root_by (filter (λ e. p e.0) es) ≡ roots_in root_by es
+unheld_in p [] none = refl
+unheld_in p (e ∷ es) none =
+    let rest = unheld_in p es (λ k v among. none k v (later_in e es (k, v) among)) in
+    by (p e.0) refl rest
+  where
+    by : (b : Bool) → p e.0 ≡ b → roots_in root_by (filter (λ e. p e.0) es) ≡ roots_in root_by es
+        → roots_in root_by (filter (λ e. p e.0) (e ∷ es)) ≡ roots_in root_by (e ∷ es)
+    by true is rest =
+        (λ i. roots_in root_by (cond (is i) (e ∷ filter (λ e. p e.0) es) (filter (λ e. p e.0) es)))
+        ∙ ap (λ rs. root_in root_by e ++ rs) rest
+    by false is rest =
+        (λ i. roots_in root_by (cond (is i) (e ∷ filter (λ e. p e.0) es) (filter (λ e. p e.0) es)))
+        ∙ rest ∙ (λ i. sym (none_held e (none e.0 e.1 (first_in e es) is)) i ++ roots_in root_by es)
+
+pub unheld-roots : (f : Parts) → IsStored f
+    → roots_in root_by (entries (unheld f.table.rows f.weak.held)) ≡ roots_in root_by (entries f.table.rows)
+unheld-roots f stored =
+    ap (λ es. roots_in root_by es) (entries-retained f.table.rows (λ slot. is_none (get f.weak.held slot)))
+    ∙ unheld_in (λ slot. is_none (get f.weak.held slot)) (entries f.table.rows) (λ k v among held.
+    by k v (get_entry f.table.rows k v among) (get f.weak.held k) refl held)
+  where
+    by : (k : ℕ) (v : Handle Addr) → get f.table.rows k ≡ Some v → (o : Option (Option Id))
+        → get f.weak.held k ≡ o → is_none (get f.weak.held k) ≡ false → role v ≡ attaches
+    by k v is None e held = absurd (true≢false (sym (ap is_none e) ∙ held))
+    by k v is (Some key) e held =
+        let t = stored.tied k key e in
+        ap role (same_Some v _ (sym is ∙ t.row))
 
 -- ---- what roots reference are objects
 

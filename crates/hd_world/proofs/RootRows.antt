@@ -94,8 +94,3 @@ module _ {A : Type 0} where
   rest-first zero m i x at = ap (λ j. replicate j x) (omega arith)
   rest-first (suc n) m i x at =
       ap (rest_of n) (drop-same 16 (i - 16) i x (omega arith)) ∙ rest-first n m (i - 16) x (omega arith)
-
-  pub length-rows : (n : ℕ) (xs : List A) → length (rows_of n xs) ≡ n
-  unfolding rows_of
-  length-rows zero xs = refl
-  length-rows (suc n) xs = ap suc (length-rows n (drop 16 xs))

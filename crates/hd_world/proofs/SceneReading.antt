@@ -1,7 +1,9 @@
 -- The state of a store is a reading of what its collection reads.
-use Rattle.hd_world.proofs.StoreWords.{◌≡◌, ℕ, zero, suc, ◌++◌, true, List, map, take, drop, Some, refl, sym, ap, ◌∙◌, option_map, is_some, get, take-append-drop, append_assoc, Id, Addr, rename_object, scene_of, joined, is_object, IsReading, Placed, region_of, region_generation, object_in, object_at, has_object, placed_at, id_in, id_at, HasIdentities, rows_of, rest_of, objects_by_id, Parts, callers_of, state_of, scene_of_parts}
+use Rattle.hd_world.proofs.StoreWords.{◌≡◌, ℕ, zero, suc, ◌++◌, true, List, map, take, drop, Some, refl, sym, ap, ◌∙◌, subst, option_map, is_some, get, take-append-drop, append_assoc, Id, Addr, rename_object, rename_handle, IsStored, scene_of, joined, is_object, IsReading, Placed, region_of, region_generation, object_in, object_at, has_object, placed_at, id_in, id_at, HasIdentities, rows_of, rest_of, objects_by_id, Parts, callers_of, state_of, scene_of_parts}
+use Rattle.hd_model.specs.Scene.{Scene}
 use Rattle.hd_model.proofs.Entries.{some_value}
-use Rattle.hd_world.proofs.IdentityReadings.{same_id, rows-get, objects-get, objects-under}
+use Rattle.hd_world.proofs.IdentityReadings.{same_id, objects-get, objects-under}
+use Rattle.hd_world.proofs.EntryReadings.{row-reads}
 use Rattle.hd_world.proofs.NamedAddresses.{placed_is, object_is}
 
 -- all registers and then the statics are the roots
@@ -46,12 +48,24 @@ module _ (f : Parts) (identities : HasIdentities f.heap) where
       (sym (id_here x here) ∙ same ∙ id_here y there) in
       λ i. record { 0 = e i }
 
-  pub state-reads : IsReading (id_at f.heap) (scene_of_parts f) (scene_of (state_of f))
-  state-reads = record {
+  -- what a collection reads, by identity: the rows of the weak table are among the handles
+  abbrev pub scene_by_id : Scene Id
+  scene_by_id = record (scene_of (state_of f)) {
+    handle = λ slot. option_map (rename_handle (id_at f.heap)) (get f.table.rows slot);
+  }
+
+  pub parts-read : IsReading (id_at f.heap) (scene_of_parts f) scene_by_id
+  parts-read = record {
     objects = read_here;
     only = address_of;
     apart = apart_here;
-    handles = λ slot. rows-get f.heap f.table.rows slot;
+    handles = λ slot. refl;
     named = rows-all (callers_of f) (map (option_map (id_at f.heap)) f.roots);
     queue = refl;
   }
+
+-- where the rows of the weak table are those of its entries, that is the scene of the machine's state
+pub scene-read : (f : Parts) (stored : IsStored f) → scene_by_id f stored.identities ≡ scene_of (state_of f)
+scene-read f stored = λ i. record (scene_of (state_of f)) {
+  handle = λ slot. sym (row-reads f stored.whole.paired stored.tied slot) i;
+}

@@ -40,7 +40,8 @@ found f slot row is = by (get f.table.rows slot.0) refl
         }
 
 module _ (f : Parts) (m : Machine) (view : machine_of f ≡ m) (stored : IsStored f) (table : IsTable f.table)
-    (slot : Slot) (row : Row) (is : Some row ≡ option_map row_of (get f.table.rows slot.0)) where
+    (slot : Slot) (free : get f.weak.held slot.0 ≡ None) (row : Row)
+    (is : Some row ≡ option_map row_of (get f.table.rows slot.0)) where
   at : Found f slot row
   at = found f slot row is
 
@@ -62,7 +63,7 @@ module _ (f : Parts) (m : Machine) (view : machine_of f ≡ m) (stored : IsStore
 
     pub handle-is : handle_at m.state slot ≡ Some (handle_named m kind row)
     handle-is =
-        row-read f m view slot ∙ ap (option_map (rename_handle (id_at f.heap))) at.is_stored
+        row-read f m view slot free ∙ ap (option_map (rename_handle (id_at f.heap))) at.is_stored
         ∙ ap (λ h. Some (rename_handle (id_at f.heap) h)) (sym whole)
         ∙ ap (λ g. Some (rename_handle g (handle_of kind row))) (sym (names-are f.heap))
         ∙ ap (λ (n : Machine). Some (handle_named n kind row)) view

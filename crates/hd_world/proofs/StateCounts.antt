@@ -1,7 +1,8 @@
 -- Objects, rows and words are as many by identity as by address.
-use Rattle.hd_world.proofs.StoreWords.{◌≡◌, ℕ, ◌+◌, ◌*◌, ◌≤◌, List, [], ◌∷◌, map, length, refl, ap, ◌∙◌, arith, sum_by, option_map, FinMap, len, len-entries, entries, values, nat_cmp, length-map, Addr, Handle, size_of, rename_handle, Placed, Heap, id_at, cells_of, used_of, HasIdentities, read_object, objects_by_id, rows_by_id}
+use Rattle.hd_world.proofs.StoreWords.{◌≡◌, ℕ, ◌+◌, ◌*◌, ◌≤◌, List, [], ◌∷◌, map, length, refl, ap, ◌∙◌, arith, sum_by, option_map, FinMap, len, len-entries, entries, values, nat_cmp, length-map, Addr, Handle, size_of, rename_handle, Placed, Heap, id_at, cells_of, used_of, HasIdentities, read_object, objects_by_id, rows_by_id, Bool, true, false, not, cond, filter, suc, Option, None, Some, Id, IsSome, T, sym, subst, get, is_none, get-retain_keys, nat_cmp-IsAntisymmetric, from_entries, unheld}
+use Rattle.std.specs.FinMap.{retain_keys}
 use Rattle.std.proofs.lemmas.List.Sums.{sum_by-cons}
-use Rattle.hd_world.proofs.EntryMaps.{rekeyed}
+use Rattle.hd_world.proofs.EntryMaps.{rekeyed, same_numbers, get-mapped, entries-retained}
 use Rattle.hd_world.proofs.EntrySums.{sum-fresh, fresh-rekeyed, len-rekeyed, len-mapped}
 use Rattle.hd_world.proofs.IdentityReadings.{apart_by_number}
 
@@ -44,3 +45,53 @@ cells_least (e ∷ es) = let sum = sum_by-cons cells_of e.1 (map (λ w. w.1) es)
 
 pub few_objects : (h : Heap) → 3 * len h.objects ≤ used_of h
 few_objects h = let long = len-entries h.objects in omega (arith, long, cells_least (entries h.objects))
+
+-- a list is split by a test of its keys
+one-more : {A : Type 0} (b : Bool) (e : A) (xs ys es : List A) → length xs + length ys ≡ length es
+    → length (cond b (e ∷ xs) xs) + length (cond (not b) (e ∷ ys) ys) ≡ suc (length es)
+one-more true e xs ys es is = omega (arith, is)
+one-more false e xs ys es is = omega (arith, is)
+
+len-split : {X : Type 0} (p : ℕ → Bool) (es : List (ℕ × X))
+    → length (filter (λ e. p e.0) es) + length (filter (λ e. not (p e.0)) es) ≡ length es
+len-split p [] = refl
+len-split p (e ∷ es) = one-more (p e.0) e (filter (λ e. p e.0) es) (filter (λ e. not (p e.0)) es) es
+    (len-split p es)
+
+module _ (rows : FinMap nat_cmp (Handle Addr)) (held : FinMap nat_cmp (Option Id))
+    (live : (slot : ℕ) → IsSome (get held slot) → IsSome (get rows slot)) where
+  abbrev keys_only : {X : Type 0} → FinMap nat_cmp X → FinMap nat_cmp Bool
+  keys_only m = from_entries {R = nat_cmp} (map (λ e. (e.0, true)) (entries m))
+
+  abbrev held_rows : FinMap nat_cmp (Handle Addr)
+  held_rows = retain_keys rows (λ slot. not (is_none (get held slot)))
+
+  same_keys : keys_only held_rows ≡ keys_only held
+  same_keys = same_numbers (keys_only held_rows) (keys_only held) (λ slot.
+      get-mapped (λ s x. true) held_rows slot
+      ∙ ap (option_map (λ x. true)) (get-retain_keys rows (λ s. not (is_none (get held s))) slot
+      (λ x same. ap (λ s. not (is_none (get held s))) (sym (nat_cmp-IsAntisymmetric slot x same))))
+      ∙ by slot (get held slot) (get rows slot) (live slot) ∙ sym (get-mapped (λ s x. true) held slot))
+    where
+      by : (slot : ℕ) (o : Option (Option Id)) (r : Option (Handle Addr)) → (IsSome o → IsSome r)
+          → option_map (λ x. true) (cond (not (is_none o)) r None) ≡ option_map (λ x. true) o
+      by slot None r is = refl
+      by slot (Some key) (Some row) is = refl
+      by slot (Some key) None is = absurd (subst T (sym (is refl)) tt)
+
+  len-held : len held_rows ≡ len held
+  len-held = sym (len-mapped (λ s x. true) held_rows) ∙ ap len same_keys ∙ len-mapped (λ s x. true) held
+
+  split : len (unheld rows held) + len held_rows ≡ len rows
+  split =
+      let here = ap length (entries-retained rows (λ slot. is_none (get held slot))) in
+      let there = ap length (entries-retained rows (λ slot. not (is_none (get held slot)))) in
+      let kept = len-entries (unheld rows held) in
+      let taken = len-entries held_rows in
+      let all = len-entries rows in
+      let halves = len-split (λ slot. is_none (get held slot)) (entries rows) in
+      omega (arith, here, there, kept, taken, all, halves)
+
+  -- the live rows are the handles and the slots that the weak table holds
+  pub len-unheld : len (unheld rows held) + len held ≡ len rows
+  len-unheld = ap (λ n. len (unheld rows held) + n) (sym len-held) ∙ split

@@ -1,5 +1,5 @@
 -- The state of a store is that of its heap, and what keeps its pinned address is kept at it.
-use Rattle.hd_world.proofs.StoreWords.{◌≡◌, ℕ, ◌⊎◌, cond, true, false, Some, None, refl, sym, ap, ◌∙◌, subst, inl, inr, MatchOption, FinMap, get, insert, empty, nat_cmp, cases_eq, true≢false, Id, Entry, Cmd, Numbers, State, is_pinned, with_places, IsFreePlace, IsPinned, is_collect, pinned_target, names_of, objects_by_id, rows_by_id, Parts, IsStored, Machine, machine_of, IsOverHeap, IsStoredAt, IsOfHeap, AreAddresses, KeepsPlaces, get_beside, get_inserted, same_Some}
+use Rattle.hd_world.proofs.StoreWords.{◌≡◌, ℕ, ◌⊎◌, cond, true, false, Some, None, refl, sym, ap, ◌∙◌, subst, inl, inr, MatchOption, FinMap, get, insert, empty, nat_cmp, cases_eq, true≢false, Id, Entry, Cmd, Numbers, State, is_pinned, with_places, IsFreePlace, IsPinned, is_collect, pinned_target, names_of, objects_by_id, rows_by_id, weak_by_id, Parts, IsStored, Machine, machine_of, IsOverHeap, IsStoredAt, IsOfHeap, AreAddresses, KeepsPlaces, get_beside, get_inserted, same_Some}
 use Rattle.hd_model.proofs.AgedRuns.{nothing_at}
 use Rattle.hd_model.proofs.Effects.{Effect, answers_place, collects, effect}
 use Rattle.hd_model.proofs.PinTest.{pinned_decides}
@@ -10,7 +10,7 @@ use Rattle.hd_model.specs.declared.command.Cmd.TheVariants as cmd
 
 module _ (f : Parts) (stored : IsStored f) where
   over : IsOverHeap (machine_of f)
-  unfolding names_of objects_by_id rows_by_id
+  unfolding names_of objects_by_id rows_by_id weak_by_id
   over = record {
     names = refl;
     heap = record {

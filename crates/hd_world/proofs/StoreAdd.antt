@@ -1,8 +1,9 @@
 -- One more object in a heap: the readings of all else stay.
-use Rattle.hd_world.proofs.StoreWords.{◌≡◌, ℕ, true, List, map, Option, Some, None, refl, sym, ap, ◌∙◌, subst, inl, inr, option_map, is_some, IsSome, Contains, T, FinMap, get, insert, nat_cmp, cases_eq, Addr, Handle, secondary_of, rename_object, rename_handle, is_object, fields_in, IsField, Placed, Heap, region_generation, region_of, object_in, object_at, id_in, id_at, HasIdentities, names_of, read_object, objects_by_id, rows_by_id, get_beside, get_inserted}
+use Rattle.hd_world.proofs.StoreWords.{◌≡◌, ℕ, true, List, map, Option, Some, None, refl, sym, ap, ◌∙◌, subst, inl, inr, option_map, is_some, IsSome, Contains, T, FinMap, get, insert, nat_cmp, cases_eq, Addr, Handle, secondary_of, rename_object, rename_handle, is_object, fields_in, IsField, Placed, Heap, region_generation, region_of, object_in, object_at, id_in, id_at, HasIdentities, names_of, read_object, objects_by_id, rows_by_id, weak_by_id, entry_named, Id, get_beside, get_inserted}
 use Rattle.hd_world.proofs.EntryMaps.{same_numbers}
 use Rattle.hd_world.proofs.NamedAddresses.{has-placed}
 use Rattle.hd_world.proofs.NameAgreement.{map_agrees, names_agree, object_agrees, handle_agrees}
+use Rattle.hd_world.proofs.EntryReadings.{same_named, weak-get}
 use Rattle.hd_world.proofs.IdentityReadings.{no_some, names-get, rows-get, put-here, put-beside, Puts, identities-put, objects-put}
 
 -- the heap k is h with one more object, whose identity none has
@@ -83,6 +84,27 @@ module _ (h k : Heap) (a : ℕ) (new : Placed) (r : Adds h k a new) where
       same_numbers (rows_by_id k rows) (rows_by_id h rows) (λ slot.
       rows-get k rows slot ∙ row_same (get rows slot) (targets slot) (seconds slot)
       ∙ sym (rows-get h rows slot))
+
+  value_same : (o : Option (Handle Addr))
+      → ((row : Handle Addr) (x : Addr) → o ≡ Some row → secondary_of row.extra ≡ Some x
+      → is_object (object_at h) x ≡ true) → (key : Option Id)
+      → entry_named (id_at k) o key ≡ entry_named (id_at h) o key
+  value_same o seconds None = refl
+  value_same None seconds (Some key) = refl
+  value_same (Some row) seconds (Some key) =
+      ap (λ v. Some (record { key = key; value = v }))
+      (same_named (id_at k) (id_at h) (secondary_of row.extra)
+      (λ x is. id-add x (placed h x (seconds row x refl is))))
+
+  pub weak-add : (rows : FinMap nat_cmp (Handle Addr)) (held : FinMap nat_cmp (Option Id))
+      → ((slot : ℕ) (row : Handle Addr) (x : Addr) → get rows slot ≡ Some row
+      → secondary_of row.extra ≡ Some x → is_object (object_at h) x ≡ true)
+      → weak_by_id k rows held ≡ weak_by_id h rows held
+  weak-add rows held seconds =
+      same_numbers (weak_by_id k rows held) (weak_by_id h rows held) (λ slot.
+      weak-get k rows held slot
+      ∙ (λ i. option_map (λ key. value_same (get rows slot) (seconds slot) key i) (get held slot))
+      ∙ sym (weak-get h rows held slot))
 
   -- what is stored at an address of h is read as it was
   read-add : ((x y : Addr) → IsField (object_at h) x y → is_object (object_at h) y ≡ true)

@@ -1,43 +1,37 @@
 -- A collection of a store's parts is one of its state, and leaves a store.
-use Rattle.hd_world.proofs.StoreWords.{same_Some}
-use Rattle.std.proofs.Common.{[], ◌≡◌, ℕ, ◌++◌, ◌∷◌, true, false, Bool, cond, List, map, take, drop, length, Option, Some, None, refl, sym, ap, ◌∙◌, subst, arith}
-use Rattle.std.specs.Prelude.{option_map, is_some, IsSome, Result, Ok, Err, MatchResult}
-use Rattle.std.specs.FinMap.{FinMap, get, get-retain_keys, nat_cmp-IsAntisymmetric}
-use Rattle.std.specs.Ordering.{nat_cmp}
-use Rattle.std.proofs.lemmas.List.{length-map}
-use Rattle.hd_model.specs.declared.data.Id.{Id}
-use Rattle.hd_model.specs.declared.data.Addr.{Addr}
-use Rattle.hd_model.specs.declared.data.Report.{Report}
-use Rattle.hd_model.specs.declared.data.Memory.{Memory}
-use Rattle.hd_model.specs.State.{Handle, BlockUse, rename_handle}
-use Rattle.hd_model.specs.Role.{pins}
-use Rattle.hd_model.specs.Reach.{IsPinned}
+use Rattle.hd_world.proofs.StoreWords.{[], ◌≡◌, ◌≤◌, ℕ, ◌++◌, ◌∷◌, true, false, Bool, cond, List, map, take, drop, length, sum_by, Option, Some, None, option_map, is_none, is_some, IsSome, refl, sym, ap, ◌∙◌, subst, arith, same_Some, true≢false, FinMap, get, values, get-retain_keys, nat_cmp-IsAntisymmetric, nat_cmp, length-map, Id, Addr, Report, Handle, BlockUse, rename_handle, pins, IsPinned, is_pinned, with_places, scene_of, Heap, Placed, id_at, id_in, has_object, row_at, IsTied, WeakTable, Parts, callers_of, state_of, IsStored, entry_named, names_of, objects_by_id, rows_by_id, weak_by_id, rows_of, rest_of, Machine, machine_of, AreAddresses, kept_places, HasCollected, IsCompactStore}
+use Rattle.hd_model.specs.Scene.{Scene}
+use Rattle.hd_model.specs.Collect.{Collects, CollectsState, cleared, swept}
 use Rattle.hd_model.specs.Compact.{IsCompact}
 use Rattle.hd_model.proofs.PropertyCounts.{counts_named}
-use Rattle.hd_model.specs.Places.{is_pinned, with_places}
-use Rattle.hd_model.specs.Collect.{Collects, CollectsState}
-use Rattle.hd_model.specs.Scene.{scene_of}
-use Rattle.hd_model.specs.Heap.{Heap, Placed, id_at, id_in, has_object}
-use Rattle.hd_model.specs.Table.{Table, IsTable, Queue, row_at}
 use Rattle.hd_model.proofs.PinTest.{pinned_decides}
 use Rattle.hd_model.proofs.RenamedPins.{pins_renamed}
+use Rattle.hd_cwt.specs.WeakTable.{kept_key}
 use Rattle.hd_gc.specs.Ready.{parts, Parts as Lent}
 use Rattle.hd_gc.specs.Collected.{Collected}
-use Rattle.hd_world.specs.Rows.{rows_of, rest_of}
-use Rattle.hd_world.specs.Reading.{names_of, objects_by_id, rows_by_id}
-use Rattle.hd_world.specs.Stored.{Parts, callers_of, state_of, IsStored}
-use Rattle.hd_world.specs.Store.{Machine, machine_of}
-use Rattle.hd_world.specs.Places.{AreAddresses, kept_places, HasCollected}
-use Rattle.hd_world.specs.StateHeap.{IsCompactStore}
-use Rattle.hd_world.specs.Visited.{CollectedSteps}
-use Rattle.hd_world.proofs.DueClumps.{steps-collected}
-use Rattle.hd_world.proofs.IdentityReadings.{no_some, names-get, rows-get}
+use Rattle.hd_world.specs.Stored.{one_dependent, one_extra}
+use Rattle.hd_world.proofs.EntryReadings.{handles-get, handle-get, handle-row, weak-get, tied-agrees}
+use Rattle.hd_world.proofs.EntrySweep.{attaching, IsLeft, left-row, swept-key, swept-entry, row-known}
+use Rattle.hd_world.proofs.IdentityReadings.{no_some, names-get}
 use Rattle.hd_world.proofs.NamedAddresses.{placed_is}
-use Rattle.hd_world.proofs.SceneReading.{rows-all, apart_here, state-reads}
+use Rattle.hd_world.proofs.SceneReading.{rows-all, apart_here, scene_by_id, parts-read, scene-read}
 
 -- the parts after a collection
-abbrev pub left_parts : Parts → Heap → Table → List ℕ → Queue → List (Option Addr) → Parts
-left_parts f h t ages q roots = record f { heap = h; table = t; ages = ages; queue = q; roots = roots }
+abbrev pub left_parts : Parts → Lent → WeakTable → Parts
+left_parts f l w =
+    record f { heap = l.heap; table = l.table; ages = l.ages; weak = w; queue = l.queue; roots = l.roots }
+
+-- what a store lends a collection
+abbrev pub lent_of : Parts → Lent
+lent_of f = parts f.heap f.table f.ages f.queue f.roots
+
+-- a store was collected, and its weak table swept by the rows that were left
+pub record IsSwept (f : Parts) (l : Lent) (w : WeakTable) (n : ℕ) (report : Report) (before after : ℕ)
+    : Type 0 where
+  pub stored : IsStored f
+  pub done : Collected (lent_of f) l n report before after
+  pub blocks : w.blocks ≡ f.weak.blocks
+  pub each : (slot : ℕ) → get w.held slot ≡ option_map (kept_key l.table slot) (get f.weak.held slot)
 
 -- the handles by identity and by address
 unnamed : (g : Addr → Id) (o : Option Addr) (x : Id) → option_map g o ≡ Some x → (y : Addr)
@@ -74,12 +68,24 @@ module _ (f : Parts) (stored : IsStored f) where
   pinned_object : (x : Addr) → IsPinned (row_at f.table) x → has_object f.heap x ≡ true
   pinned_object x p = stored.whole.targets p.slot p.handle x p.is_stored p.target
 
+  -- what pins is no entry of the weak table
+  pinned_unheld : (slot : ℕ) (row : Handle Addr) → get f.table.rows slot ≡ Some row → pins row ≡ true
+      → get f.weak.held slot ≡ None
+  pinned_unheld slot row is pinned = by (get f.weak.held slot) refl
+    where
+      by : (o : Option (Option Id)) → get f.weak.held slot ≡ o → get f.weak.held slot ≡ None
+      by None e = e
+      by (Some key) e =
+          let t = stored.tied slot key e in
+          absurd (true≢false (sym pinned ∙ ap pins (same_Some row _ (sym is ∙ t.row))))
+
   pub pinned-to : (x : Addr) → IsPinned (row_at f.table) x
       → IsPinned (λ slot. get (state_of f).handles slot) (id_at f.heap x)
   pinned-to x p = record {
     slot = p.slot;
     handle = rename_handle (id_at f.heap) p.handle;
-    is_stored = rows-get f.heap f.table.rows p.slot
+    is_stored = handle-get f.heap f.table.rows f.weak.held p.slot
+        (pinned_unheld p.slot p.handle p.is_stored p.pins)
         ∙ ap (option_map (rename_handle (id_at f.heap))) p.is_stored;
     pins = pins_renamed (id_at f.heap) p.handle ∙ p.pins;
     target = ap (option_map (id_at f.heap)) p.target;
@@ -89,7 +95,7 @@ module _ (f : Parts) (stored : IsStored f) where
       × (IsPinned (row_at f.table) x × (id_at f.heap x ≡ b))
   pinned-from b p =
       let (row, was) = unread (id_at f.heap) (get f.table.rows p.slot) p.handle
-      (sym (rows-get f.heap f.table.rows p.slot) ∙ p.is_stored) in
+      (handle-row f.heap f.table.rows f.weak.held p.slot p.handle p.is_stored) in
       let target = ap (λ (k : Handle Id). k.target) was.1 ∙ p.target in
       let (y, to) = unnamed (id_at f.heap) row.target b target in (
         y,
@@ -119,46 +125,148 @@ module _ (f : Parts) (stored : IsStored f) where
     regions = compact.regions;
   }
 
-module _ (f : Parts) (stored : IsStored f) (h : Heap) (t : Table) (ages : List ℕ) (q : Queue)
-    (roots : List (Option Addr))
-    (n : ℕ) (report : Report) (before after : ℕ)
-    (done : Collected (parts f.heap f.table f.ages f.queue f.roots) (parts h t ages q roots) n report before
-    after) where
-  by_state : Collects (λ (x : Id). x.0) n (scene_of (state_of f))
-      (scene_of (state_of (left_parts f h t ages q roots))) report
-  by_state =
-      done.collects (scene_of (state_of f)) (scene_of (state_of (left_parts f h t ages q roots)))
-      (state-reads f stored.identities)
-      (state-reads (left_parts f h t ages q roots) done.ready.identities)
+module _ {f : Parts} {l : Lent} {w : WeakTable} {n : ℕ} {report : Report} {before after : ℕ}
+    (s : IsSwept f l w n report before after) where
+  -- the collection by identity, with the rows of the weak table among the handles
+  by_rows : Collects (λ (x : Id). x.0) n (scene_by_id f s.stored.identities)
+      (scene_by_id (left_parts f l w) s.done.ready.identities) report
+  by_rows =
+      s.done.collects (scene_by_id f s.stored.identities)
+      (scene_by_id (left_parts f l w) s.done.ready.identities)
+      (parts-read f s.stored.identities) (parts-read (left_parts f l w) s.done.ready.identities)
 
-  named_same : map (option_map (id_at h)) roots ≡ map (option_map (id_at f.heap)) f.roots
+  -- the row of an entry after it
+  left_row : (slot : ℕ) (key : Option Id) (was : IsTied f.heap f.table.rows slot key) → (row : Handle Addr)
+      × ((get l.table.rows slot ≡ Some row)
+      × IsLeft (id_at l.heap) by_rows.reach by_rows.kept row key (option_map (id_at f.heap) was.value))
+  left_row slot key was =
+      let read : option_map (rename_handle (id_at l.heap)) (get l.table.rows slot)
+      ≡ Some (cleared by_rows.reach by_rows.kept (attaching key (option_map (id_at f.heap) was.value))) =
+      by_rows.handles slot
+      ∙ ap (λ o. option_map (cleared by_rows.reach by_rows.kept)
+      (option_map (rename_handle (id_at f.heap)) o)) was.row
+      ∙ ap (λ k. Some (cleared by_rows.reach by_rows.kept
+      (attaching k (option_map (id_at f.heap) was.value)))) was.key_is in
+      let (row, there) = unread (id_at l.heap) (get l.table.rows slot) _ read in
+      (row, (there.0, left-row (id_at l.heap) by_rows.reach by_rows.kept row key _ there.1))
+
+  key_left : (slot : ℕ) (row : Handle Addr) (key : Option Id) → get l.table.rows slot ≡ Some row
+      → kept_key l.table slot key ≡ cond (is_none row.target) None key
+  key_left slot row key is =
+      ap (λ (r : Handle Addr). cond (is_none r.target) None key) (row-known l.table slot row is)
+
+  left_tied : (slot : ℕ) (key : Option Id) → get w.held slot ≡ Some key
+      → IsTied l.heap l.table.rows slot key
+  left_tied slot key is = by (get f.weak.held slot) refl
+    where
+      by : (o : Option (Option Id)) → get f.weak.held slot ≡ o
+          → IsTied l.heap l.table.rows slot key
+      by None e = absurd (no_some key (sym is ∙ s.each slot ∙ ap (option_map (kept_key l.table slot)) e))
+      by (Some old) e =
+          let (row, at) = left_row slot old (s.stored.tied slot old e) in
+          let kept : kept_key l.table slot old ≡ key = same_Some (kept_key l.table slot old) key
+          (sym (ap (option_map (kept_key l.table slot)) e) ∙ sym (s.each slot) ∙ is) in
+          record {
+            target = at.1.target;
+            value = at.1.second;
+            row = at.0 ∙ ap Some at.1.row_is;
+            key_is = sym (swept-key (id_at l.heap) by_rows.reach by_rows.kept at.1.target old at.1.key_is)
+                ∙ ap (λ (r : Handle Addr). cond (is_none r.target) None old) (sym at.1.row_is)
+                ∙ sym (key_left slot row old at.0) ∙ kept;
+          }
+
+  weak_left : (slot : ℕ) → get (state_of (left_parts f l w)).weak slot
+      ≡ option_map (swept by_rows.kept) (get (state_of f).weak slot)
+  weak_left slot =
+      weak-get l.heap l.table.rows w.held slot
+      ∙ ap (option_map (entry_named (id_at l.heap) (get l.table.rows slot))) (s.each slot)
+      ∙ by (get f.weak.held slot) refl
+      ∙ ap (option_map (swept by_rows.kept)) (sym (weak-get f.heap f.table.rows f.weak.held slot))
+    where
+      by : (o : Option (Option Id)) → get f.weak.held slot ≡ o
+          → option_map (entry_named (id_at l.heap) (get l.table.rows slot))
+          (option_map (kept_key l.table slot) (get f.weak.held slot))
+          ≡ option_map (swept by_rows.kept)
+          (option_map (entry_named (id_at f.heap) (get f.table.rows slot)) (get f.weak.held slot))
+      by None e =
+          (λ i. option_map (entry_named (id_at l.heap) (get l.table.rows slot))
+          (option_map (kept_key l.table slot) (e i)))
+          ∙ (λ i. option_map (swept by_rows.kept)
+          (option_map (entry_named (id_at f.heap) (get f.table.rows slot)) (sym e i)))
+      by (Some key) e =
+          let was = s.stored.tied slot key e in
+          let (row, at) = left_row slot key was in
+          (λ i. option_map (entry_named (id_at l.heap) (at.0 i)) (option_map (kept_key l.table slot) (e i)))
+          ∙ ap (λ k. Some (entry_named (id_at l.heap) (Some row) k)) (key_left slot row key at.0)
+          ∙ ap Some (swept-entry (id_at l.heap) by_rows.reach by_rows.kept row key _ at.1)
+          ∙ ap (λ o. Some (swept by_rows.kept (entry_named (id_at f.heap) o key))) (sym was.row)
+          ∙ (λ i. option_map (swept by_rows.kept)
+          (option_map (entry_named (id_at f.heap) (get f.table.rows slot)) (sym e i)))
+
+  named_same : map (option_map (id_at l.heap)) l.roots ≡ map (option_map (id_at f.heap)) f.roots
   named_same =
-      sym (rows-all (callers_of f) (map (option_map (id_at h)) roots)) ∙ by_state.named
+      sym (rows-all (callers_of f) (map (option_map (id_at l.heap)) l.roots)) ∙ by_rows.named
       ∙ rows-all (callers_of f) (map (option_map (id_at f.heap)) f.roots)
 
-  pub as_long : length roots ≡ length f.roots
-  as_long = sym (length-map roots (option_map (id_at h))) ∙ ap length named_same
+  pub as_long : length l.roots ≡ length f.roots
+  as_long = sym (length-map l.roots (option_map (id_at l.heap))) ∙ ap length named_same
       ∙ length-map f.roots (option_map (id_at f.heap))
 
-  pub stored-left : IsStored (left_parts f h t ages q roots)
+  pub stored-left : IsStored (left_parts f l w)
   stored-left = record {
-    whole = done.ready.whole;
-    identities = done.ready.identities;
-    ages = done.ready.ages_sound;
-    cards = done.ready.cards_sound;
-    full = done.ready.full;
-    room = done.ready.room;
-    within = omega (arith, done.used, done.limit, stored.within);
-    limit = omega (arith, done.limit, stored.limit);
-    roots = stored.roots ∙ sym as_long;
-    serials = stored.serials;
-    clumps = sym done.ready.clumps;
-    blocks = omega (arith, done.table.blocks, stored.blocks);
-    uses = λ block is.
-        let was = stored.uses block (subst (λ (m : FinMap nat_cmp BlockUse). IsSome (get m block))
-        done.table.uses is) in
-        (was.0, omega (arith, was.1, done.table.blocks));
+    whole = s.done.ready.whole;
+    identities = s.done.ready.identities;
+    ages = s.done.ready.ages_sound;
+    cards = s.done.ready.cards_sound;
+    full = s.done.ready.full;
+    room = s.done.ready.room;
+    within = omega (arith, s.done.used, s.done.limit, s.stored.within);
+    limit = omega (arith, s.done.limit, s.stored.limit);
+    roots = s.stored.roots ∙ sym as_long;
+    serials = s.stored.serials;
+    clumps = sym s.done.ready.clumps;
+    blocks = omega (arith, s.done.table.blocks, s.stored.blocks);
+    uses = record {
+      within = λ block is.
+          let was = s.stored.uses.within block (subst (λ (m : FinMap nat_cmp BlockUse). IsSome (get m block))
+          s.done.table.uses is) in
+          (was.0, omega (arith, was.1, s.done.table.blocks));
+      extras = subst
+          (λ (m : FinMap nat_cmp BlockUse). sum_by one_dependent (values m) ≤ sum_by one_extra (values m))
+          (sym s.done.table.uses) s.stored.uses.extras;
+    };
+    tied = left_tied;
+    same_blocks = s.blocks ∙ s.stored.same_blocks ∙ sym s.done.table.blocks;
   }
+
+  handles_left : (slot : ℕ) → get (state_of (left_parts f l w)).handles slot
+      ≡ option_map (cleared by_rows.reach by_rows.kept) (get (state_of f).handles slot)
+  handles_left slot =
+      handles-get l.heap l.table.rows w.held slot
+      ∙ (λ i. cond (is_none (s.each slot i)) (by_rows.handles slot i) None)
+      ∙ by (get f.weak.held slot)
+      ∙ ap (option_map (cleared by_rows.reach by_rows.kept))
+      (sym (handles-get f.heap f.table.rows f.weak.held slot))
+    where
+      by : (o : Option (Option Id))
+          → cond (is_none (option_map (kept_key l.table slot) o))
+          (option_map (cleared by_rows.reach by_rows.kept)
+          (option_map (rename_handle (id_at f.heap)) (get f.table.rows slot))) None
+          ≡ option_map (cleared by_rows.reach by_rows.kept) (cond (is_none o)
+          (option_map (rename_handle (id_at f.heap)) (get f.table.rows slot)) None)
+      by None = refl
+      by (Some key) = refl
+
+  -- the same between the scenes of the machine's states
+  abbrev between : Scene Id → Scene Id → Type 0
+  between u v = (by : Collects (λ (x : Id). x.0) n u v report)
+      × ((by.reach ≡ by_rows.reach) × (by.kept ≡ by_rows.kept))
+
+  by_state : between (scene_of (state_of f)) (scene_of (state_of (left_parts f l w)))
+  by_state =
+      subst (λ u. between u (scene_of (state_of (left_parts f l w)))) (scene-read f s.stored)
+      (subst (between (scene_by_id f s.stored.identities))
+      (scene-read (left_parts f l w) stored-left) (by_rows, (refl, refl)))
 
   -- a pinned address that is kept
   pub place-kept : (p : FinMap nat_cmp ℕ) (x : ℕ)
@@ -169,27 +277,31 @@ module _ (f : Parts) (stored : IsStored f) (h : Heap) (t : Table) (ages : List �
 
   collects_state : (p : FinMap nat_cmp ℕ)
       → CollectsState n (with_places (state_of f) p)
-      (with_places (state_of (left_parts f h t ages q roots)) (kept_places (state_of f) p)) report
+      (with_places (state_of (left_parts f l w)) (kept_places (state_of f) p)) report
   collects_state p = record {
-    scene = by_state;
+    scene = by_state.0;
+    handles = λ slot. handles_left slot ∙ (λ i. option_map (cleared (sym by_state.1.0 i) (sym by_state.1.1 i))
+        (get (state_of f).handles slot));
+    weak = λ slot. weak_left slot
+        ∙ (λ i. option_map (swept (sym by_state.1.1 i)) (get (state_of f).weak slot));
     places = place-kept p;
     registers = ap (rows_of (callers_of f)) named_same;
     statics = ap (rest_of (callers_of f)) named_same;
     handle_registers = refl;
     board = refl;
-    blocks = done.table.uses;
+    blocks = s.done.table.uses;
     serials = refl;
   }
 
   -- a pinned object stays at its address
   pinned_there : (a x : ℕ) → is_pinned (state_of f).handles x ≡ true
-      → get (names_of f.heap) a ≡ Some (record { 0 = x }) → get (names_of h) a ≡ Some (record { 0 = x })
+      → get (names_of f.heap) a ≡ Some (record { 0 = x }) → get (names_of l.heap) a ≡ Some (record { 0 = x })
   pinned_there a x pinned named =
       let at : Addr = record { 0 = a } in
       let id : Id = record { 0 = x } in
       let by_id = (pinned_decides (state_of f).handles id).0 pinned in
       let (row, was) = unread (id_at f.heap) (get f.table.rows by_id.slot) by_id.handle
-      (sym (rows-get f.heap f.table.rows by_id.slot) ∙ by_id.is_stored) in
+      (handle-row f.heap f.table.rows f.weak.held by_id.slot by_id.handle by_id.is_stored) in
       let (y, to) = unnamed (id_at f.heap) row.target id
       (ap (λ (k : Handle Id). k.target) was.1 ∙ by_id.target) in
       let (p, mine) = named_at f.heap a id named in
@@ -197,8 +309,8 @@ module _ (f : Parts) (stored : IsStored f) (h : Heap) (t : Table) (ages : List �
       ap (λ o. is_some (option_map (Rattle.hd_model.specs.Heap.object_in
       (Rattle.hd_model.specs.Heap.region_generation f.heap (Rattle.hd_model.specs.Heap.region_of at))) o))
       mine.0 in
-      let same : y ≡ at = apart_here f stored.identities y at
-      (stored.whole.targets by_id.slot row y was.0 to.0) here (to.1 ∙ sym (ap id_in mine.0 ∙ mine.1)) in
+      let same : y ≡ at = apart_here f s.stored.identities y at
+      (s.stored.whole.targets by_id.slot row y was.0 to.0) here (to.1 ∙ sym (ap id_in mine.0 ∙ mine.1)) in
       let pinning : IsPinned (row_at f.table) at = record {
         slot = by_id.slot;
         handle = row;
@@ -206,27 +318,27 @@ module _ (f : Parts) (stored : IsStored f) (h : Heap) (t : Table) (ages : List �
         pins = sym (pins_renamed (id_at f.heap) row) ∙ ap pins was.1 ∙ by_id.pins;
         target = to.0 ∙ ap Some same;
       } in
-      let left = done.pinned at pinning in
-      names-get h a ∙ ap (option_map (λ (w : Placed). w.id)) (placed_is h at left.0)
-      ∙ ap Some (sym (ap id_in (placed_is h at left.0)) ∙ left.1 ∙ ap id_in mine.0 ∙ mine.1)
+      let left = s.done.pinned at pinning in
+      names-get l.heap a ∙ ap (option_map (λ (w : Placed). w.id)) (placed_is l.heap at left.0)
+      ∙ ap Some (sym (ap id_in (placed_is l.heap at left.0)) ∙ left.1 ∙ ap id_in mine.0 ∙ mine.1)
 
   addresses_left : (p : FinMap nat_cmp ℕ) → AreAddresses (names_of f.heap) p
-      → AreAddresses (names_of h) (kept_places (state_of f) p)
+      → AreAddresses (names_of l.heap) (kept_places (state_of f) p)
   addresses_left p are x a is =
       let (pinned, was) = kept_if (is_pinned (state_of f).handles x) (get p x) a
       (sym (place-kept p x) ∙ is) in
       pinned_there a x pinned (are x a was)
 
-  left_for : HasCollected (machine_of f) (machine_of (left_parts f h t ages q roots)) n report
+  left_for : HasCollected (machine_of f) (machine_of (left_parts f l w)) n report
   left_for = record {
-    numbers = λ i. record { heap = done.limit i; blocks = done.table.blocks i; callers = callers_of f };
-    ages = done.aged;
+    numbers = λ i. record { heap = s.done.limit i; blocks = s.done.table.blocks i; callers = callers_of f };
+    ages = s.done.aged;
     collects = collects_state;
     addresses = addresses_left;
     cards = λ card. (
-      λ set. let k = (done.cards card).0 set in
+      λ set. let k = (s.done.cards card).0 set in
           record { from = k.from; to = k.to; in_card = k.in_card; field = k.field; younger = k.younger },
-      λ k. (done.cards card).1 (record {
+      λ k. (s.done.cards card).1 (record {
         from = k.from;
         to = k.to;
         in_card = k.in_card;
@@ -234,20 +346,17 @@ module _ (f : Parts) (stored : IsStored f) (h : Heap) (t : Table) (ages : List �
         younger = k.younger;
       }),
     );
-    compact = λ two. compact-store (left_parts f h t ages q roots) stored-left (done.compact two);
+    compact = λ two. compact-store (left_parts f l w) stored-left (s.done.compact two);
   }
 
   -- in the words of the machine
   pub has-collected : (m : Machine) → machine_of f ≡ m
-      → HasCollected m (machine_of (left_parts f h t ages q roots)) n report
-  has-collected m view = subst (λ (w : Machine). HasCollected w (machine_of (left_parts f h t ages q roots)) n
+      → HasCollected m (machine_of (left_parts f l w)) n report
+  has-collected m view = subst (λ (v : Machine). HasCollected v (machine_of (left_parts f l w)) n
       report) view left_for
 
 -- a collection that ran out of memory may have taken free regions
 module _ (f : Parts) (spare : List ℕ) where
-  abbrev spared : Parts
-  spared = record f { heap = record f.heap { spare = spare } }
-
   stored-spare : IsStored f → IsStored (record f { heap = record f.heap { spare = spare } })
   stored-spare stored = record {
     whole = stored.whole;
@@ -263,14 +372,17 @@ module _ (f : Parts) (spare : List ℕ) where
     clumps = stored.clumps;
     blocks = stored.blocks;
     uses = stored.uses;
+    tied = λ slot key is. tied-agrees f (record f { heap = record f.heap { spare = spare } }) slot key
+        (stored.tied slot key is) refl (λ x e. refl);
+    same_blocks = stored.same_blocks;
   }
 
   machine-spare : machine_of (record f { heap = record f.heap { spare = spare } }) ≡ machine_of f
-  unfolding names_of objects_by_id rows_by_id
+  unfolding names_of objects_by_id rows_by_id weak_by_id
   machine-spare = refl
 
 -- a slice of all items that was lent comes back whole
-lent : {A : Type 0} (xs ys : List A) (n : ℕ) → n ≡ length ys → length xs ≡ length ys
+pub lent : {A : Type 0} (xs ys : List A) (n : ℕ) → n ≡ length ys → length xs ≡ length ys
     → take n (xs ++ drop (length xs) ys) ≡ xs
 lent [] [] n e same = ap (λ k. take k []) e
 lent [] (y ∷ ys) n e same = absurd (omega (arith, same))
@@ -279,42 +391,24 @@ lent (x ∷ xs) (y ∷ ys) n e same =
     ap (λ k. take k ((x ∷ xs) ++ drop (length (x ∷ xs)) (y ∷ ys))) e
     ∙ ap (λ zs. x ∷ zs) (lent xs ys (length ys) refl (omega (arith, same)))
 
--- what a collection returns and leaves of a store's parts
-abbrev pub IsAnswer : Parts → Lent → ℕ → ℕ → ℕ → Result Report Memory → Type 0
-IsAnswer f left n before after r =
-    MatchResult r
-    (λ report. Collected (parts f.heap f.table f.ages f.queue f.roots) left n report before after)
-    (λ _. (left.heap ≡ record f.heap { spare = left.heap.spare }) × (left.table ≡ f.table)
-    × (left.ages ≡ f.ages) × (left.queue ≡ f.queue) × (left.roots ≡ f.roots) × (after ≡ before))
+-- a collection that ran out of memory leaves all as it was, but that it may have taken free regions
+abbrev pub IsUncollected : Parts → Lent → ℕ → ℕ → Type 0
+IsUncollected f l before after =
+    (l.heap ≡ record f.heap { spare = l.heap.spare }) × (l.table ≡ f.table) × (l.ages ≡ f.ages)
+    × (l.queue ≡ f.queue) × (l.roots ≡ f.roots) × (after ≡ before)
 
-module _ (f : Parts) (stored : IsStored f) (h : Heap) (t : Table) (ages : List ℕ) (q : Queue)
-    (roots : List (Option Addr)) (n before after : ℕ) where
-  parts_same : (h ≡ record f.heap { spare = h.spare }) × (t ≡ f.table) × (ages ≡ f.ages) × (q ≡ f.queue)
-      × (roots ≡ f.roots) × (after ≡ before)
-      → left_parts f h t ages q roots ≡ record f { heap = record f.heap { spare = h.spare } }
-  parts_same e = λ i. record f { heap = e.0 i; table = e.1 i; ages = e.2 i; queue = e.3 i; roots = e.4 i }
+module _ (f : Parts) (l : Lent) (before after : ℕ) (out : IsUncollected f l before after) where
+  parts_same : left_parts f l f.weak ≡ record f { heap = record f.heap { spare = l.heap.spare } }
+  parts_same = λ i. record f {
+    heap = out.0 i;
+    table = out.1 i;
+    ages = out.2 i;
+    queue = out.3 i;
+    roots = out.4 i;
+  }
 
-  pub lent-roots : (r : Result Report Memory) (len : ℕ) → len ≡ length f.roots
-      → IsAnswer f (parts h t ages q roots) n before after r
-      → take len (roots ++ drop (length roots) f.roots) ≡ roots
-  lent-roots (Ok report) len is done = lent roots f.roots len is
-      (as_long f stored h t ages q roots n report before after done)
-  lent-roots (Err e) len is done = lent roots f.roots len is (ap length done.4)
+  pub stored-out : IsStored f → IsStored (left_parts f l f.weak)
+  stored-out stored = subst IsStored (sym parts_same) (stored-spare f l.heap.spare stored)
 
-  pub stored-after : (r : Result Report Memory) → IsAnswer f (parts h t ages q roots) n before after r
-      → IsStored (left_parts f h t ages q roots)
-  stored-after (Ok report) done = stored-left f stored h t ages q roots n report before after done
-  stored-after (Err e) done = subst IsStored (sym (parts_same done)) (stored-spare f h.spare stored)
-
-  pub machine-after : (m : Machine) → machine_of f ≡ m → IsTable f.table → (r : Result Report Memory)
-      → IsAnswer f (parts h t ages q roots) n before after r
-      → MatchResult r (λ report. HasCollected m (machine_of (left_parts f h t ages q roots)) n report
-      × CollectedSteps m.state m.ages n report.kept before after)
-      (λ _. (machine_of (left_parts f h t ages q roots) ≡ m) × (after ≡ before))
-  machine-after m view table (Ok report) done = (
-    has-collected f stored h t ages q roots n report before after done m view,
-    subst (λ (w : Machine). CollectedSteps w.state w.ages n report.kept before after) view
-        (steps-collected (state_of f) f.table refl table f.ages n report.kept before after done.steps),
-  )
-  machine-after m view table (Err e) done =
-      (ap machine_of (parts_same done) ∙ machine-spare f h.spare ∙ view, done.5)
+  pub machine-out : machine_of (left_parts f l f.weak) ≡ machine_of f
+  machine-out = ap machine_of parts_same ∙ machine-spare f l.heap.spare

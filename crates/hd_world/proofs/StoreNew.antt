@@ -1,5 +1,5 @@
 -- A new object of a store: what the machine sees, and that the store keeps what it keeps.
-use Rattle.hd_world.proofs.StoreWords.{◌≡◌, ℕ, zero, suc, ◌+◌, ◌<◌, ◌≤◌, Bool, true, false, cond, List, ◌∷◌, map, length, get_or, replicate, set, Option, Some, None, refl, sym, ap, ◌∙◌, subst, inl, inr, arith, option_map, unwrap_or, is_some, Contains, T, sum_by, max, ◌⊎◌, get, insert, values, len, len-insert, nat_cmp_total, cases_eq, length-set, length-replicate, Id, Addr, Object, last_serial, identity_of, with_object, with_serial, total_size, is_object, fields_in, generation_in, generation_at, IsField, Placed, Region, Heap, region_of, region_at, region_generation, is_in_use, object_in, object_at, is_carded, cells_of, used_of, id_at, age_of, Queue, rows_of, rest_of, names_of, read_object, objects_by_id, Parts, callers_of, state_of, IsStored, Machine, machine_of, without_spare, fresh_object, IsObjectRefused, KeepsNames, get_beside, get_inserted}
+use Rattle.hd_world.proofs.StoreWords.{◌≡◌, ℕ, zero, suc, ◌+◌, ◌<◌, ◌≤◌, Bool, true, false, cond, List, ◌∷◌, map, length, get_or, replicate, set, Option, Some, None, refl, sym, ap, ◌∙◌, subst, inl, inr, arith, option_map, unwrap_or, is_some, Contains, T, sum_by, max, ◌⊎◌, get, insert, values, len, len-insert, nat_cmp_total, cases_eq, length-set, length-replicate, Id, Addr, Object, last_serial, identity_of, with_object, with_serial, total_size, is_object, fields_in, generation_in, generation_at, IsField, Placed, Region, Heap, region_of, region_at, region_generation, is_in_use, object_in, object_at, is_carded, cells_of, used_of, id_at, age_of, Queue, rows_of, rest_of, names_of, read_object, objects_by_id, unheld, Parts, callers_of, state_of, IsStored, Machine, machine_of, without_spare, fresh_object, IsObjectRefused, KeepsNames, get_beside, get_inserted}
 use Rattle.hd_heap.specs.Calls.{new_object, IsMade, IsRefused as IsRefusedBy}
 use Rattle.hd_heap.specs.declared.fault.NewFault.{NewFault}
 use Rattle.hd_heap.specs.declared.fault.NewFault.TheVariants.{Full, Memory}
@@ -10,7 +10,8 @@ use Rattle.hd_model.proofs.Sums.{share, sum-insert}
 use Rattle.hd_world.proofs.IdentityReadings.{no_some, names-get, objects-get}
 use Rattle.hd_world.proofs.NamedAddresses.{has-placed}
 use Rattle.hd_world.proofs.QueueTake.{stored-waiting}
-use Rattle.hd_world.proofs.StoreAdd.{Adds, placed, names-add, identities-add, roots-add, queue-add, rows-add, objects-add}
+use Rattle.hd_world.proofs.StoreAdd.{Adds, placed, id-add, names-add, identities-add, roots-add, queue-add, rows-add, weak-add, objects-add}
+use Rattle.hd_world.proofs.EntryReadings.{unheld-some, tied-agrees}
 use Rattle.hd_heap.proofs.HeapValues.{same_address}
 
 none_at : {A : Type 0} (n k : ℕ) (x : A) → k < n → get_or (replicate n None) k (Some x) ≡ Some x → ⊥
@@ -203,6 +204,12 @@ module _ (f : Parts) (k : Heap) (at : Addr) (id : Id) (count : ℕ) (fin : Bool)
     clumps = stored.clumps;
     blocks = stored.blocks;
     uses = stored.uses;
+    tied = λ slot key is.
+        let t = stored.tied slot key is in
+        tied-agrees f (made_parts serials q) slot key t refl (λ x e.
+        id-add f.heap k at.0 (new_object id count fin) adds x
+        (placed f.heap x (stored.whole.targets slot _ x t.row e)));
+    same_blocks = stored.same_blocks;
   }
 
   read_new : read_object k at.0 (new_object id count fin) ≡ fresh_object count fin
@@ -227,7 +234,12 @@ module _ (f : Parts) (k : Heap) (at : Addr) (id : Id) (count : ℕ) (fin : Bool)
       objects =
           (objects-add f.heap k at.0 (new_object id count fin) adds stored.identities stored.whole.fields
           ∙ ap (insert (objects_by_id f.heap) id.0) read_new) i;
-      handles = rows-add f.heap k at.0 (new_object id count fin) adds f.table.rows stored.whole.targets
+      handles = rows-add f.heap k at.0 (new_object id count fin) adds (unheld f.table.rows f.weak.held)
+          (λ slot row x is. stored.whole.targets slot row x
+          (unheld-some f.table.rows f.weak.held slot row is))
+          (λ slot row x is. stored.whole.secondaries slot row x
+          (unheld-some f.table.rows f.weak.held slot row is)) i;
+      weak = weak-add f.heap k at.0 (new_object id count fin) adds f.table.rows f.weak.held
           stored.whole.secondaries i;
       registers = rows_of (callers_of f)
           (roots-add f.heap k at.0 (new_object id count fin) adds f.roots stored.whole.named i);

@@ -1,5 +1,7 @@
 -- A store at first: nothing is made, and each register, static and entry of the board is null or empty.
-use Rattle.hd_world.proofs.StoreWords.{◌≡◌, ℕ, ◌+◌, ◌*◌, ◌≤◌, List, [], ◌∷◌, map, length, replicate, Option, Some, None, refl, sym, ap, ◌∙◌, subst, arith, option_map, IsSome, Contains, T, sum_by, is_some, true, get, empty, entries, values, from_entries, get-empty, len-empty, len-entries, nat_cmp, length-replicate, Addr, Object, Handle, rename_handle, start_of, fields_in, Placed, Region, is_in_use, region_of, region_generation, object_in, object_at, cells_of, id_at, empty_table, rows_of, rest_of, names_of, read_object, objects_by_id, rows_by_id, Parts, callers_of, state_of, numbers_of, IsStored}
+use Rattle.hd_world.proofs.StoreWords.{◌≡◌, ℕ, ◌+◌, ◌*◌, ◌≤◌, List, [], ◌∷◌, map, length, replicate, Option, Some, None, refl, sym, ap, ◌∙◌, subst, arith, option_map, IsSome, Contains, T, sum_by, is_some, true, get, empty, entries, values, from_entries, get-empty, len-empty, len-entries, nat_cmp, length-replicate, Addr, Object, Handle, rename_handle, start_of, fields_in, Placed, Region, is_in_use, region_of, region_generation, object_in, object_at, cells_of, id_at, empty_table, rows_of, rest_of, names_of, read_object, objects_by_id, rows_by_id, weak_by_id, unheld, entry_named, Id, is_none, Parts, callers_of, state_of, numbers_of, IsStored, one_dependent}
+use Rattle.hd_world.proofs.EntryMaps.{same_numbers}
+use Rattle.hd_world.proofs.EntryReadings.{none_kept, unheld-get}
 use Rattle.hd_world.proofs.IdentityReadings.{no_some}
 use Rattle.hd_model.proofs.Members.{not_in_none}
 use Rattle.hd_heap.specs.Calls.{empty_heap}
@@ -17,12 +19,16 @@ no_entries {A} = by (entries (empty {X = A} {R = nat_cmp}))
     by [] none = refl
     by (e ∷ es) none = absurd (omega (arith, none))
 
+no_sum : {A : Type 0} (f : A → ℕ) → sum_by f (values (empty {X = A} {R = nat_cmp})) ≡ 0
+no_sum {A} f = ap (λ (es : List (ℕ × A)). sum_by f (map (λ e. e.1) es)) no_entries
+
 module _ (limit blocks callers : ℕ) where
   abbrev pub opened : Parts
   opened = record {
     heap = empty_heap limit;
     table = empty_table blocks;
     ages = replicate (4 * blocks) 2;
+    weak = record { blocks = blocks; held = empty };
     queue = record { waiting = []; room = 0 };
     roots = replicate (16 * callers + 16) None;
     handle_registers = replicate callers (replicate 16 None);
@@ -43,14 +49,15 @@ module _ (limit blocks callers : ℕ) where
   -- parts are those of an opened store where each is as it was made
   pub are_opened :
       (f : Parts) → f.heap ≡ empty_heap limit → f.table ≡ empty_table blocks
-      → f.ages ≡ replicate (4 * blocks) 2
+      → f.ages ≡ replicate (4 * blocks) 2 → f.weak ≡ record { blocks = blocks; held = empty }
       → f.queue ≡ record { waiting = []; room = 0 } → f.roots ≡ replicate (16 * callers + 16) None
       → f.handle_registers ≡ replicate callers (replicate 16 None)
       → f.board ≡ replicate 16 None → f.serials ≡ replicate callers 0 → opened ≡ f
-  are_opened f heap table ages queue roots handle_registers board serials = λ i. record {
+  are_opened f heap table ages weak queue roots handle_registers board serials = λ i. record {
     heap = sym heap i;
     table = sym table i;
     ages = sym ages i;
+    weak = sym weak i;
     queue = sym queue i;
     roots = sym roots i;
     handle_registers = sym handle_registers i;
@@ -77,16 +84,19 @@ module _ (limit blocks callers : ℕ) where
     cards = λ x y field younger. absurd (no_field x y field);
     full = λ r held. absurd (no_region r held);
     room = let none = len-empty nat_cmp Placed in omega (arith, none);
-    within = let none : sum_by cells_of (values (empty {X = Placed} {R = nat_cmp})) ≡ 0 =
-        ap (λ (es : List (ℕ × Placed)). sum_by cells_of (map (λ e. e.1) es)) no_entries in
-        omega (arith, none);
+    within = omega (arith, no_sum cells_of);
     limit = small;
     roots = ap (λ n. 16 * n + 16) (length-replicate callers (replicate 16 None))
         ∙ sym (length-replicate (16 * callers + 16) None);
     serials = length-replicate callers 0 ∙ sym (length-replicate callers (replicate 16 None));
     clumps = sym (length-replicate (4 * blocks) 2);
     blocks = few;
-    uses = λ block is. absurd (subst T (sym (subst IsSome (get-empty nat_cmp block) is)) tt);
+    uses = record {
+      within = λ block is. absurd (subst T (sym (subst IsSome (get-empty nat_cmp block) is)) tt);
+      extras = omega (arith, no_sum one_dependent);
+    };
+    tied = λ slot key is. absurd (nothing_at slot key is);
+    same_blocks = refl;
   }
 
   pub names-opened : names_of (empty_heap limit) ≡ empty
@@ -99,10 +109,29 @@ module _ (limit blocks callers : ℕ) where
   objects-opened = ap (λ (es : List (ℕ × Placed)). from_entries {R = nat_cmp}
       (map (λ e. (e.1.id.0, read_object (empty_heap limit) e.0 e.1)) es)) no_entries
 
-  rows-opened : rows_by_id (empty_heap limit) empty ≡ empty
+  unheld-opened : unheld empty empty ≡ empty
+  unheld-opened =
+      same_numbers (unheld empty empty) empty (λ s.
+      unheld-get empty empty s
+      ∙ none_kept (is_none (get (empty {X = Option Id} {R = nat_cmp}) s)) (get empty s) (get-empty nat_cmp s)
+      ∙ sym (get-empty nat_cmp s))
+
+  weak-opened : weak_by_id (empty_heap limit) empty empty ≡ empty
+  unfolding weak_by_id
+  weak-opened = ap (λ (es : List (ℕ × Option Id)). from_entries {R = nat_cmp}
+      (map (λ e. (
+        e.0,
+        entry_named (id_at (empty_heap limit))
+            (get (empty {X = Handle Addr} {R = nat_cmp}) e.0) e.1,
+      )) es)) no_entries
+
+  rows-empty : rows_by_id (empty_heap limit) empty ≡ empty
   unfolding rows_by_id
-  rows-opened = ap (λ (es : List (ℕ × Handle Addr)). from_entries {R = nat_cmp}
+  rows-empty = ap (λ (es : List (ℕ × Handle Addr)). from_entries {R = nat_cmp}
       (map (λ e. (e.0, rename_handle (id_at (empty_heap limit)) e.1)) es)) no_entries
+
+  rows-opened : rows_by_id (empty_heap limit) (unheld empty empty) ≡ empty
+  rows-opened = ap (rows_by_id (empty_heap limit)) unheld-opened ∙ rows-empty
 
   none_named : map (option_map (id_at (empty_heap limit))) opened.roots ≡ replicate (16 * callers + 16) None
   none_named = nothing_mapped (id_at (empty_heap limit)) (16 * callers + 16)
@@ -126,6 +155,7 @@ module _ (limit blocks callers : ℕ) where
   state-opened = λ i. record {
     objects = objects-opened i;
     handles = rows-opened i;
+    weak = weak-opened i;
     registers = registers-opened i;
     handle_registers = ap (λ n. replicate n (replicate 16 None)) (sym size) i;
     statics = statics-opened i;

@@ -1,15 +1,20 @@
 -- Rows of a store that change: what the machine sees, and that the store keeps what it keeps.
-use Rattle.hd_world.proofs.StoreWords.{◌≡◌, ℕ, ◌*◌, ◌/◌, ◌≤◌, Bool, true, false, not, cond, List, length, length-set, Option, Some, None, refl, sym, ap, ◌∙◌, subst, inl, inr, arith, option_map, unwrap_or, IsSome, IfSome, is_some, T, Result, Ok, Err, IfOk, OnErr, FinMap, get, insert, remove, get-remove, nat_cmp, eq_by_cmp, nat_cmp_total, cases_eq, Id, Addr, Slot, Kind, Grown, Extra, nothing, strength, secondary, count, Handle, BlockUse, handles_of, extra_data, handle_at, use_of, block_of, secondary_of, rename_handle, with_handle, without_handle, role, attaches, is_object, generation_at, age_of, clump_of, lowered, Heap, object_at, id_at, Table, fits, kind_in, kind_at, live_at, is_single, grown_by, IsGrowth, without_block, with_row, without_row, rows_by_id, IsNamed, Parts, state_of, IsStored, Machine, machine_of, object_named, kind_in_use, is_paired, handle_named, MayBeStored, get_beside, get_inserted, same_Some}
+use Rattle.hd_world.proofs.StoreWords.{◌≡◌, ℕ, ◌+◌, ◌*◌, true≢false, ◌/◌, ◌≤◌, sum_by, values, Bool, true, false, not, cond, List, length, length-set, Option, Some, None, refl, sym, ap, ◌∙◌, subst, inl, inr, arith, option_map, unwrap_or, IsSome, IfSome, is_some, T, Result, Ok, Err, IfOk, OnErr, FinMap, get, insert, remove, get-remove, nat_cmp, eq_by_cmp, nat_cmp_total, cases_eq, Id, Addr, Slot, Kind, Grown, Extra, nothing, strength, secondary, count, Handle, BlockUse, handles_of, extra_data, handle_at, use_of, block_of, secondary_of, rename_handle, with_handle, without_handle, role, attaches, is_object, generation_at, age_of, clump_of, lowered, Heap, object_at, id_at, Table, fits, kind_in, kind_at, live_at, is_single, grown_by, IsGrowth, without_block, with_row, without_row, rows_by_id, unheld, entry_named, is_none, WeakTable, IsNamed, Parts, state_of, IsTied, IsStored, HasUses, one_dependent, one_extra, Machine, machine_of, object_named, kind_in_use, is_paired, handle_named, MayBeStored, get_beside, get_inserted, same_Some}
 use Rattle.hd_model.specs.declared.data.Grown.TheVariants.{Zero, One, Two, Back}
 use Rattle.hd_seg.specs.declared.row.Full.{Full}
 use Rattle.hd_seg.specs.declared.row.Row.{Row}
 use Rattle.hd_seg.specs.Row.{handle_of, extra_of}
 use Rattle.hd_model.specs.Role.{role_of}
+use Rattle.hd_model.specs.Kinds.{is_kind}
+use Rattle.hd_model.specs.Step.{blocks_needed}
+use Rattle.hd_model.proofs.Sums.{share, sum-insert, sum-remove}
 use Rattle.hd_model.proofs.Ages.{lowered_below}
 use Rattle.hd_model.proofs.KindExtras.{fits_dependent}
 use Rattle.hd_world.proofs.EntryMaps.{same_numbers}
 use Rattle.hd_world.proofs.IdentityReadings.{no_some, is_some-map, rows-get, names-are}
 use Rattle.hd_world.proofs.NamedAddresses.{known_object, some_or, generation-is}
+use Rattle.hd_world.proofs.EntryReadings.{handles-get, weak-get, unheld-put, unheld-end, weak-put, weak-end, tied-agrees}
+use Rattle.hd_model.proofs.ReadAfterWrite.{get_left}
 use Rattle.hd_model.specs.declared.data.Kind.TheVariants as kind
 
 -- the parts with another table
@@ -38,18 +43,28 @@ storable f stored slot row is = record {
   second_age = λ x e. stored.ages.secondaries slot row x is e;
 }
 
--- the blocks with a use are those of the table
-abbrev pub IsWithin : Table → Type 0
-IsWithin t = (block : ℕ) → IsSome (get t.uses block) → (1 ≤ block) × (block ≤ t.blocks)
+-- the rows of the slots that the weak table holds
+abbrev pub AreTied : Parts → Type 0
+AreTied f = (slot : ℕ) (key : Option Id) → get f.weak.held slot ≡ Some key
+    → IsTied f.heap f.table.rows slot key
 
--- another table, and as many ages, under which its rows may be stored
-pub stored-rows : (f : Parts) (t : Table) (ages : List ℕ) → IsStored f → t.blocks ≡ f.table.blocks
-    → IsWithin t
-    → length f.ages ≡ length ages
+-- a slot that the weak table holds has a row
+pub held-live : (f : Parts) → IsStored f → (slot : ℕ) → IsSome (get f.weak.held slot)
+    → IsSome (get f.table.rows slot)
+held-live f stored slot held = by (get f.weak.held slot) refl
+  where
+    by : (o : Option (Option Id)) → get f.weak.held slot ≡ o → IsSome (get f.table.rows slot)
+    by None is = absurd (subst T (sym (sym (ap is_some is) ∙ held)) tt)
+    by (Some key) is = ap is_some (stored.tied slot key is).row
+
+-- another table, as many ages, under which its rows may be stored, and another weak table
+pub stored-entries : (f : Parts) (t : Table) (ages : List ℕ) (w : WeakTable) → IsStored f
+    → t.blocks ≡ f.table.blocks → HasUses t.uses t.blocks → length f.ages ≡ length ages
     → ((slot : ℕ) (row : Handle Addr) → get t.rows slot ≡ Some row → IsStorable
     (record f { ages = ages }) slot row)
-    → IsStored (record f { table = t; ages = ages })
-stored-rows f t ages stored blocks uses long each = record {
+    → w.blocks ≡ f.weak.blocks → AreTied (record f { table = t; ages = ages; weak = w })
+    → IsStored (record f { table = t; ages = ages; weak = w })
+stored-entries f t ages w stored blocks uses long each same tied = record {
   whole = record {
     fields = stored.whole.fields;
     named = stored.whole.named;
@@ -74,12 +89,30 @@ stored-rows f t ages stored blocks uses long each = record {
   clumps = ap (λ n. 4 * n) blocks ∙ stored.clumps ∙ long;
   blocks = omega (arith, blocks, stored.blocks);
   uses = uses;
+  tied = tied;
+  same_blocks = same ∙ stored.same_blocks ∙ sym blocks;
 }
 
-stored-table : (f : Parts) (t : Table) → IsStored f → t.blocks ≡ f.table.blocks → IsWithin t
+-- the rows in the slots that the weak table holds are as they were
+abbrev pub KeepsHeld : Parts → Table → Type 0
+KeepsHeld f t = (slot : ℕ) (key : Option Id) → get f.weak.held slot ≡ Some key
+    → get t.rows slot ≡ get f.table.rows slot
+
+pub stored-rows : (f : Parts) (t : Table) (ages : List ℕ) → IsStored f → t.blocks ≡ f.table.blocks
+    → HasUses t.uses t.blocks
+    → length f.ages ≡ length ages
+    → ((slot : ℕ) (row : Handle Addr) → get t.rows slot ≡ Some row → IsStorable
+    (record f { ages = ages }) slot row)
+    → KeepsHeld f t → IsStored (record f { table = t; ages = ages })
+stored-rows f t ages stored blocks uses long each keeps =
+    stored-entries f t ages f.weak stored blocks uses long each refl
+    (λ slot key is. tied-agrees f (record f { table = t; ages = ages }) slot key (stored.tied slot key is)
+    (keeps slot key is) (λ x e. refl))
+
+stored-table : (f : Parts) (t : Table) → IsStored f → t.blocks ≡ f.table.blocks → HasUses t.uses t.blocks
     → ((slot : ℕ) (row : Handle Addr) → get t.rows slot ≡ Some row → IsStorable f slot row)
-    → IsStored (with_table f t)
-stored-table f t stored blocks uses each = stored-rows f t f.ages stored blocks uses refl each
+    → KeepsHeld f t → IsStored (with_table f t)
+stored-table f t stored blocks uses each keeps = stored-rows f t f.ages stored blocks uses refl each keeps
 
 -- an age is lowered
 pub stored-lowered : (f : Parts) (slot g : ℕ) → IsStored f
@@ -96,12 +129,12 @@ stored-lowered f slot g stored =
       attaching = was.attaching;
       target_age = λ x e. let old = was.target_age x e in omega arith;
       second_age = λ x e. let old = was.second_age x e in omega arith;
-    })
+    }) (λ s key is. refl)
 
-stored-put : (f : Parts) (slot : ℕ) (row : Handle Addr) → IsStored f → IsStorable f slot row
-    → IsStored (with_table f (with_row f.table slot row))
-stored-put f slot row stored may =
-    stored-table f (with_row f.table slot row) stored refl stored.uses (λ s r is.
+-- with a row that may be stored in a slot, all may be stored where they are
+pub storable-put : (f : Parts) (slot : ℕ) (row : Handle Addr) → IsStored f → IsStorable f slot row
+    → (s : ℕ) (r : Handle Addr) → get (insert f.table.rows slot row) s ≡ Some r → IsStorable f s r
+storable-put f slot row stored may s r is =
     elim (cases_eq s slot) [
       | inl same ↦
           let it : row ≡ r = same_Some row r
@@ -109,17 +142,27 @@ stored-put f slot row stored may =
           ∙ is) in
           subst (IsStorable f s) it (subst (λ k. IsStorable f k row) (sym same) may)
       | inr apart ↦ storable f stored s r (sym (get_beside f.table.rows slot row s apart) ∙ is)
-    ])
+    ]
+
+stored-put : (f : Parts) (slot : ℕ) (row : Handle Addr) → IsStored f → IsStorable f slot row
+    → get f.weak.held slot ≡ None → IsStored (with_table f (with_row f.table slot row))
+stored-put f slot row stored may free =
+    stored-table f (with_row f.table slot row) stored refl stored.uses (storable-put f slot row stored may)
+    (λ s key is. get_beside f.table.rows slot row s
+    (λ same. no_some key (sym is ∙ ap (get f.weak.held) same ∙ free)))
 
 without_other : (b : Bool) (o : Option (Handle Addr)) (r : Handle Addr) → cond b None o ≡ Some r → o ≡ Some r
 without_other true o r is = absurd (no_some r (sym is))
 without_other false o r is = is
 
-pub stored-end : (f : Parts) (slot : ℕ) → IsStored f → IsStored (with_table f (without_row f.table slot))
-stored-end f slot stored =
+pub stored-end : (f : Parts) (slot : ℕ) → IsStored f → get f.weak.held slot ≡ None
+    → IsStored (with_table f (without_row f.table slot))
+stored-end f slot stored free =
     stored-table f (without_row f.table slot) stored refl stored.uses (λ s r is.
     storable f stored s r (without_other (eq_by_cmp nat_cmp s slot) (get f.table.rows s) r
     (sym (get-remove nat_cmp_total f.table.rows slot s) ∙ is)))
+    (λ s key is. get_left f.table.rows slot s
+    (λ same. no_some key (sym is ∙ ap (get f.weak.held) same ∙ free)))
 
 -- the rows by identity
 pub rows-put : (h : Heap) (rows : FinMap nat_cmp (Handle Addr)) (slot : ℕ) (row : Handle Addr)
@@ -154,25 +197,32 @@ rows-end h rows slot =
     ∙ sym (get-remove nat_cmp_total (rows_by_id h rows) slot s))
 
 module _ (f : Parts) (m : Machine) (view : machine_of f ≡ m) where
-  machine-put : (slot : Slot) (kind : Kind) (row : Row)
+  machine-put : (slot : Slot) (kind : Kind) (row : Row) → get f.weak.held slot.0 ≡ None
       → machine_of (with_table f (with_row f.table slot.0 (handle_of kind row)))
       ≡ record m { state = with_handle m.state slot (handle_named m kind row) }
-  machine-put slot kind row =
+  machine-put slot kind row free =
       (λ i. record (machine_of f) {
         state = record (state_of f) {
-          handles = (rows-put f.heap f.table.rows slot.0 (handle_of kind row)
-              ∙ ap (λ g. insert (rows_by_id f.heap f.table.rows) slot.0
+          handles = (ap (rows_by_id f.heap)
+              (unheld-put f.table.rows f.weak.held slot.0 (handle_of kind row) free)
+              ∙ rows-put f.heap (unheld f.table.rows f.weak.held) slot.0 (handle_of kind row)
+              ∙ ap (λ g. insert (rows_by_id f.heap (unheld f.table.rows f.weak.held)) slot.0
               (rename_handle g (handle_of kind row))) (sym (names-are f.heap))) i;
+          weak = weak-put f.heap f.table.rows f.weak.held slot.0 (handle_of kind row) free i;
         };
       })
       ∙ ap (λ (n : Machine). record n { state = with_handle n.state slot (handle_named n kind row) }) view
 
-  pub machine-end : (slot : Slot) → machine_of
+  pub machine-end : (slot : Slot) → get f.weak.held slot.0 ≡ None → machine_of
       (with_table f (without_row f.table slot.0)) ≡ record m { state = without_handle m.state slot }
-  machine-end slot =
+  machine-end slot free =
       (λ i.
       record (machine_of f) {
-        state = record (state_of f) { handles = rows-end f.heap f.table.rows slot.0 i };
+        state = record (state_of f) {
+          handles = (ap (rows_by_id f.heap) (unheld-end f.table.rows f.weak.held slot.0)
+              ∙ rows-end f.heap (unheld f.table.rows f.weak.held) slot.0) i;
+          weak = weak-end f.heap f.table.rows f.weak.held slot.0 free i;
+        };
       })
       ∙ ap (λ (n : Machine). record n { state = without_handle n.state slot }) view
 
@@ -200,7 +250,7 @@ module _ (f : Parts) (m : Machine) (view : machine_of f ≡ m) (stored : IsStore
       (subst (λ ages. age_of ages slot ≤ (object_named m x).generation)
       (sym (ap (λ (n : Machine). n.ages) view)) here)
 
-  object : (o : Option Addr) (x : Addr) → IsNamed m.names o → o ≡ Some x
+  pub object : (o : Option Addr) (x : Addr) → IsNamed m.names o → o ≡ Some x
       → is_object (object_at f.heap) x ≡ true
   object o x named is = known_object f.heap x
       (subst (λ (n : Machine). IsSome (get n.names x.0)) (sym view) (is_there o x named is))
@@ -219,33 +269,69 @@ module _ (f : Parts) (m : Machine) (view : machine_of f ≡ m) (stored : IsStore
 -- a table with that row
 pub row-put : (f : Parts) (m : Machine) → machine_of f ≡ m → IsStored f
     → (slot : Slot) (kind : Kind) (row : Row)
-    → MayBeStored m slot kind row → (t : Table) → t ≡ with_row f.table slot.0 (handle_of kind row)
+    → get f.weak.held slot.0 ≡ None → MayBeStored m slot kind row → (t : Table)
+    → t ≡ with_row f.table slot.0 (handle_of kind row)
     → IsStored (with_table f t) × (machine_of (with_table f t)
     ≡ record m { state = with_handle m.state slot (handle_named m kind row) })
-row-put f m view stored slot kind row may t is =
+row-put f m view stored slot kind row free may t is =
     subst (λ u. IsStored (with_table f u) × (machine_of (with_table f u)
     ≡ record m { state = with_handle m.state slot (handle_named m kind row) })) (sym is) (
-      stored-put f slot.0 (handle_of kind row) stored (may-store f m view stored slot kind row may),
-      machine-put f m view slot kind row,
+      stored-put f slot.0 (handle_of kind row) stored (may-store f m view stored slot kind row may) free,
+      machine-put f m view slot kind row free,
     )
 
 -- a live slot has a row
 module _ (f : Parts) (m : Machine) (view : machine_of f ≡ m) where
-  pub row-read : (slot : Slot) → handle_at m.state slot ≡ option_map (rename_handle (id_at f.heap))
-      (get f.table.rows slot.0)
-  row-read slot = ap (λ (n : Machine). handle_at n.state slot) (sym view)
-      ∙ rows-get f.heap f.table.rows slot.0
+  handle-read : (slot : Slot) → handle_at m.state slot ≡ cond (is_none (get f.weak.held slot.0))
+      (option_map (rename_handle (id_at f.heap)) (get f.table.rows slot.0)) None
+  handle-read slot = ap (λ (n : Machine). handle_at n.state slot) (sym view)
+      ∙ handles-get f.heap f.table.rows f.weak.held slot.0
+
+  -- a slot that the weak table does not hold has the handle of its row, and one that it holds has none
+  pub row-read : (slot : Slot) → get f.weak.held slot.0 ≡ None
+      → handle_at m.state slot ≡ option_map (rename_handle (id_at f.heap)) (get f.table.rows slot.0)
+  row-read slot free = handle-read slot ∙ ap (λ o. cond (is_none o)
+      (option_map (rename_handle (id_at f.heap)) (get f.table.rows slot.0)) None) free
+
+  pub held-read : (slot : Slot) → IsSome (get f.weak.held slot.0) → handle_at m.state slot ≡ None
+  held-read slot held = handle-read slot ∙ by (get f.weak.held slot.0) held
+    where
+      by : (o : Option (Option Id)) → IsSome o
+          → cond (is_none o) (option_map (rename_handle (id_at f.heap)) (get f.table.rows slot.0)) None ≡ None
+      by None is = absurd (subst T (sym is) tt)
+      by (Some key) is = refl
+
+  -- and the weak table does not hold the slot of a handle, nor one that is none of its in the machine
+  pub live-free : (slot : Slot) → IsSome (handle_at m.state slot) → get f.weak.held slot.0 ≡ None
+  live-free slot live = by (get f.weak.held slot.0) refl
+    where
+      by : (o : Option (Option Id)) → get f.weak.held slot.0 ≡ o → get f.weak.held slot.0 ≡ None
+      by None is = is
+      by (Some key) is = absurd
+          (subst T (sym (sym (ap is_some (held-read slot (ap is_some is))) ∙ live)) tt)
+
+  pub not-held : (slot : Slot) → get m.state.weak slot.0 ≡ None → get f.weak.held slot.0 ≡ None
+  not-held slot none = by (get f.weak.held slot.0) refl
+    where
+      by : (o : Option (Option Id)) → get f.weak.held slot.0 ≡ o → get f.weak.held slot.0 ≡ None
+      by None is = is
+      by (Some key) is = absurd (no_some (entry_named (id_at f.heap) (get f.table.rows slot.0) key)
+          (sym (ap (option_map (entry_named (id_at f.heap) (get f.table.rows slot.0))) is)
+          ∙ sym (weak-get f.heap f.table.rows f.weak.held slot.0)
+          ∙ ap (λ (n : Machine). get n.state.weak slot.0) view ∙ none))
 
   pub live-row : (slot : Slot) → IsSome (handle_at m.state slot) → IsSome (get f.table.rows slot.0)
   live-row slot live = sym (is_some-map (rename_handle (id_at f.heap)) (get f.table.rows slot.0))
-      ∙ sym (ap is_some (row-read slot)) ∙ live
+      ∙ sym (ap is_some (row-read slot (live-free slot live))) ∙ live
 
   none_from : (o : Option (Handle Addr)) → option_map (rename_handle (id_at f.heap)) o ≡ None → o ≡ None
   none_from None is = refl
   none_from (Some row) is = absurd (no_some (rename_handle (id_at f.heap) row) is)
 
-  pub vacant-row : (slot : Slot) → handle_at m.state slot ≡ None → get f.table.rows slot.0 ≡ None
-  vacant-row slot none = none_from (get f.table.rows slot.0) (sym (row-read slot) ∙ none)
+  pub vacant-row : (slot : Slot) → handle_at m.state slot ≡ None → get m.state.weak slot.0 ≡ None
+      → get f.table.rows slot.0 ≡ None
+  vacant-row slot none free =
+      none_from (get f.table.rows slot.0) (sym (row-read slot (not-held slot free)) ∙ none)
 
   -- the use of a block
   pub use-read : (block : ℕ) (u : Option BlockUse) → use_of m.state block ≡ u → get f.table.uses block ≡ u
@@ -269,9 +355,10 @@ grown_blocks t k (Two b d) = refl
 grown_blocks t k (Back b) = refl
 
 pub stored-same : (f : Parts) (t : Table) → IsStored f → t.rows ≡ f.table.rows → t.blocks ≡ f.table.blocks
-    → IsWithin t → IsStored (with_table f t)
+    → HasUses t.uses t.blocks → IsStored (with_table f t)
 stored-same f t stored rows blocks uses = stored-table f t stored blocks uses
     (λ slot row is. storable f stored slot row (sym (ap (λ m. get m slot) rows) ∙ is))
+    (λ slot key is. ap (λ m. get m slot) rows)
 
 within_insert : {A : Type 0} (m : FinMap nat_cmp A) (k most : ℕ) (v : A) → (1 ≤ k) × (k ≤ most)
     → ((b : ℕ) → IsSome (get m b) → (1 ≤ b) × (b ≤ most)) → (b : ℕ) → IsSome (get (insert m k v) b)
@@ -282,15 +369,59 @@ within_insert m k most v new old b is =
       | inr apart ↦ old b (sym (ap is_some (get_beside m k v b apart)) ∙ is)
     ]
 
-grown_within : (t : Table) (k : Kind) (g : Grown) → IsGrowth t k g → IsWithin t → IsWithin (grown_by t k g)
-grown_within t k Zero grows uses = elim grows [ ]
-grown_within t k (One b) grows uses =
-    within_insert t.uses b t.blocks (handles_of k) (grows.1.low, grows.1.high) uses
-grown_within t k (Two b d) grows uses =
-    within_insert (insert t.uses b (handles_of k)) d t.blocks extra_data
-    (omega (arith, grows.2.low), grows.2.high)
-    (within_insert t.uses b t.blocks (handles_of k) (grows.1.low, grows.1.high) uses)
-grown_within t k (Back b) grows uses = elim grows [ ]
+-- a block without a use gets one
+use_added : (w : BlockUse → ℕ) (m : FinMap nat_cmp BlockUse) (b : ℕ) (u : BlockUse) → get m b ≡ None
+    → sum_by w (values (insert m b u)) ≡ sum_by w (values m) + w u
+use_added w m b u none =
+    omega (arith, sum-insert w m b u, ap (share w) none)
+
+at_most_one : (b : Bool) → cond b 1 0 ≤ 1
+at_most_one true = omega arith
+at_most_one false = omega arith
+
+none_dependent : (k : Kind) → blocks_needed k ≡ 1 → one_dependent (handles_of k) ≡ 0
+none_dependent kind.Short one = refl
+none_dependent kind.Long one = refl
+none_dependent kind.Strong one = refl
+none_dependent kind.Pinned one = refl
+none_dependent kind.Variable one = refl
+none_dependent kind.Counted one = refl
+none_dependent kind.Dependent one = absurd (omega arith)
+
+abbrev HasGoodUses : Table → Type 0
+HasGoodUses t = HasUses t.uses t.blocks
+
+grown_uses : (t : Table) (k : Kind) (g : Grown) → IsGrowth t k g → HasGoodUses t
+    → HasGoodUses (grown_by t k g)
+grown_uses t k Zero grows uses = elim grows [ ]
+grown_uses t k (One b) grows uses = record {
+  within = within_insert t.uses b t.blocks (handles_of k) (grows.1.low, grows.1.high) uses.within;
+  extras = omega (
+    arith,
+    none_dependent k grows.0,
+    uses.extras,
+    use_added one_dependent t.uses b (handles_of k) grows.1.unused,
+    use_added one_extra t.uses b (handles_of k) grows.1.unused,
+  );
+}
+grown_uses t k (Two b d) grows uses =
+    let more = insert t.uses b (handles_of k) in
+    let unused : get more d ≡ None =
+    get_beside t.uses b (handles_of k) d (λ same. let low = grows.2.low in omega arith) ∙ grows.2.unused in
+    record {
+      within = within_insert more d t.blocks extra_data (omega (arith, grows.2.low), grows.2.high)
+          (within_insert t.uses b t.blocks (handles_of k) (grows.1.low, grows.1.high) uses.within);
+      extras = omega (
+        arith,
+        at_most_one (is_kind k kind.Dependent),
+        uses.extras,
+        use_added one_dependent t.uses b (handles_of k) grows.1.unused,
+        use_added one_extra t.uses b (handles_of k) grows.1.unused,
+        use_added one_dependent more d extra_data unused,
+        use_added one_extra more d extra_data unused,
+      );
+    }
+grown_uses t k (Back b) grows uses = elim grows [ ]
 
 pub stored-grown : (f : Parts) (t : Table) (k : Kind) → IsStored f → (r : Result Grown Full)
     → IfOk r (IsGrowth f.table k) → IfOk r (λ g. t ≡ grown_by f.table k g) → OnErr r (t ≡ f.table)
@@ -298,10 +429,10 @@ pub stored-grown : (f : Parts) (t : Table) (k : Kind) → IsStored f → (r : Re
 stored-grown f t k stored (Ok g) grows after kept =
     stored-same f t stored (ap (λ (s : Table). s.rows) after ∙ grown_rows f.table k g)
     (ap (λ (s : Table). s.blocks) after ∙ grown_blocks f.table k g)
-    (subst IsWithin (sym after) (grown_within f.table k g grows stored.uses))
+    (subst HasGoodUses (sym after) (grown_uses f.table k g grows stored.uses))
 stored-grown f t k stored (Err e) grows after kept =
     stored-same f t stored (ap (λ (s : Table). s.rows) kept) (ap (λ (s : Table). s.blocks) kept)
-    (subst IsWithin (sym kept) stored.uses)
+    (subst HasGoodUses (sym kept) stored.uses)
 
 -- a block that has lost its kind
 back_within : (m : FinMap nat_cmp BlockUse) (k most : ℕ) → ((b : ℕ) → IsSome (get m b) → (1 ≤ b) × (b ≤ most))
@@ -313,12 +444,26 @@ back_within m k most old b is =
     left true o e = absurd (subst T (sym e) tt)
     left false o e = e
 
+no_extra : (o : Option BlockUse) → is_single o ≡ true → share one_extra o ≡ 0
+no_extra None single = refl
+no_extra (Some (handles_of k)) single = refl
+no_extra (Some extra_data) single = absurd (true≢false (sym single))
+
 pub stored-back : (f : Parts) (t : Table) (k : Kind) (block : ℕ) → IsStored f
-    → t ≡ without_block f.table k block → IsStored (with_table f t)
-stored-back f t k block stored is =
+    → is_single (get f.table.uses block) ≡ true → t ≡ without_block f.table k block
+    → IsStored (with_table f t)
+stored-back f t k block stored single is =
     subst (λ u. IsStored (with_table f u)) (sym is)
-    (stored-same f (without_block f.table k block) stored refl refl
-    (back_within f.table.uses block f.table.blocks stored.uses))
+    (stored-same f (without_block f.table k block) stored refl refl (record {
+      within = back_within f.table.uses block f.table.blocks stored.uses.within;
+      extras = omega (
+        arith,
+        stored.uses.extras,
+        no_extra (get f.table.uses block) single,
+        sum-remove one_dependent f.table.uses block,
+        sum-remove one_extra f.table.uses block,
+      );
+    }))
 
 -- what a use is of: a block that is none of the table's has none
 no_use : (o : Option BlockUse) → (IsSome o → ⊥) → o ≡ None
@@ -328,7 +473,7 @@ no_use (Some u) out = absurd (out refl)
 pub kind-outside : (f : Parts) (m : Machine) → machine_of f ≡ m → IsStored f → (block : ℕ)
     → ((1 ≤ block) × (block ≤ f.table.blocks) → ⊥) → None ≡ kind_in_use (use_of m.state block)
 kind-outside f m view stored block out =
-    sym (ap kind_in_use (no_use (get f.table.uses block) (λ is. out (stored.uses block is))))
+    sym (ap kind_in_use (no_use (get f.table.uses block) (λ is. out (stored.uses.within block is))))
     ∙ ap (λ (n : Machine). kind_in_use (use_of n.state block)) view
 
 single_kind : (k : Kind) → is_paired k ≡ false → is_single (Some (handles_of k)) ≡ true
@@ -362,6 +507,27 @@ pub live-put : (t : Table) (slot : ℕ) (row : Handle Addr) → live_at (with_ro
 live-put t slot row = ap (λ o. unwrap_or o (record { kind = kind.Short; target = None; extra = nothing }))
     (get_inserted t.rows slot row)
 
+-- the row of a live slot with another target, and then with another extra
+module _ (t : Table) (slot : ℕ) {k : Kind} (kind : (live_at t slot).kind ≡ k) {u : Table}
+    (target : Option Addr) (first : u ≡ with_row t slot (record (live_at t slot) { target = target })) where
+  between : live_at u slot ≡ record (live_at t slot) { target = target }
+  between = ap (λ x. live_at x slot) first ∙ live-put t slot (record (live_at t slot) { target = target })
+
+  pub still-live : IsSome (get u.rows slot)
+  still-live = ap (λ (x : Table). is_some (get x.rows slot)) first
+      ∙ ap is_some (get_inserted t.rows slot (record (live_at t slot) { target = target }))
+
+  pub still-fits : (e : Extra Addr) → fits k e ≡ true → fits (live_at u slot).kind e ≡ true
+  still-fits e fit = ap (λ j. fits j e) (ap (λ (h : Handle Addr). h.kind) between ∙ kind) ∙ fit
+
+  pub rewritten : (v : Table) (e : Extra Addr) → v ≡ with_row u slot (record (live_at u slot) { extra = e })
+      → v ≡ with_row t slot (record { kind = k; target = target; extra = e })
+  rewritten v e second =
+      second ∙ (λ i. with_row (first i) slot (record (between i) { extra = e }))
+      ∙ put_again t slot (record (live_at t slot) { target = target })
+      (record (live_at t slot) { target = target; extra = e })
+      ∙ ap (λ j. with_row t slot (record { kind = j; target = target; extra = e })) kind
+
 kind_mapped : (g : Addr → Id) (o : Option (Handle Addr)) → option_map (λ (h : Handle Id). h.kind)
     (option_map (rename_handle g) o) ≡ option_map (λ (h : Handle Addr). h.kind) o
 kind_mapped g None = refl
@@ -369,10 +535,14 @@ kind_mapped g (Some row) = refl
 
 module _ (f : Parts) (m : Machine) (view : machine_of f ≡ m) (slot : Slot) (k : Kind)
     (live : option_map (λ (h : Handle Id). h.kind) (handle_at m.state slot) ≡ Some k) where
+  pub live-unheld : get f.weak.held slot.0 ≡ None
+  live-unheld = live-free f m view slot
+      (sym (is_some-map (λ (h : Handle Id). h.kind) (handle_at m.state slot)) ∙ ap is_some live)
+
   kinds : option_map (λ (h : Handle Addr). h.kind) (get f.table.rows slot.0) ≡ Some k
   kinds =
       sym (kind_mapped (id_at f.heap) (get f.table.rows slot.0))
-      ∙ ap (option_map (λ (h : Handle Id). h.kind)) (sym (row-read f m view slot)) ∙ live
+      ∙ ap (option_map (λ (h : Handle Id). h.kind)) (sym (row-read f m view slot live-unheld)) ∙ live
 
   pub live-kinded : IsSome (get f.table.rows slot.0)
   live-kinded = sym (is_some-map (λ (h : Handle Addr). h.kind) (get f.table.rows slot.0)) ∙ ap is_some kinds

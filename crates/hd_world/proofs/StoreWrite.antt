@@ -1,11 +1,12 @@
 -- Another object with the same identity at an address of a store: what the machine sees, and that the store
 -- keeps what it keeps.
-use Rattle.hd_world.proofs.StoreWords.{◌≡◌, ℕ, ◌+◌, ◌<◌, ◌≤◌, true, cond, map, length, Some, refl, sym, ap, ◌∙◌, ◌⊎◌, subst, inl, inr, arith, option_map, is_some, IsSome, Contains, sum_by, get, insert, values, len, len-insert, nat_cmp_total, cases_eq, Id, Addr, Object, with_object, is_object, fields_in, generation_in, generation_at, IsField, Placed, Heap, region_generation, region_of, is_in_use, object_in, object_at, has_object, placed_at, cells_of, is_carded, used_of, HasSoundCards, age_of, rows_of, rest_of, read_object, name_in, Parts, callers_of, state_of, IsStored, Machine, machine_of, without_spare, object_named, get_beside, get_inserted}
+use Rattle.hd_world.proofs.StoreWords.{◌≡◌, ℕ, ◌+◌, ◌<◌, ◌≤◌, true, cond, map, length, Some, refl, sym, ap, ◌∙◌, ◌⊎◌, subst, inl, inr, arith, option_map, is_some, IsSome, Contains, sum_by, get, insert, values, len, len-insert, nat_cmp_total, cases_eq, Id, Addr, Object, with_object, is_object, fields_in, generation_in, generation_at, IsField, Placed, Heap, region_generation, region_of, is_in_use, object_in, object_at, has_object, placed_at, cells_of, is_carded, used_of, HasSoundCards, age_of, rows_of, rest_of, read_object, name_in, Parts, callers_of, state_of, IsStored, Machine, machine_of, without_spare, object_named, get_beside, get_inserted, unheld}
 use Rattle.hd_plan.specs.Plan.{HasNoEmptyRegion}
 use Rattle.hd_heap.specs.Calls.{with_object as with_placed}
 use Rattle.hd_world.proofs.NamedAddresses.{in_heap, placed_is, object_is, identity-is, named_object}
 use Rattle.hd_model.proofs.Sums.{share, sum-insert}
-use Rattle.hd_world.proofs.IdentityReadings.{Replaces, ids-replace, names-replace, rows-replace, identities-replace, objects-replace}
+use Rattle.hd_world.proofs.IdentityReadings.{Replaces, ids-replace, names-replace, rows-replace, weak-replace, identities-replace, objects-replace}
+use Rattle.hd_world.proofs.EntryReadings.{tied-agrees}
 use Rattle.hd_heap.proofs.HeapValues.{same_address}
 
 -- the heap k is h with another object of the same size at an address, which references objects, and with the
@@ -155,6 +156,9 @@ module _ (f : Parts) (k : Heap) (at : Addr) (old new : Placed) (w : Writes f.hea
         clumps = stored.clumps;
         blocks = stored.blocks;
         uses = stored.uses;
+        tied = λ slot key is. tied-agrees f (with_heap f k) slot key (stored.tied slot key is) refl
+            (λ x e. ap (λ g. g x) (ids-replace h k at.0 old new w.replaces));
+        same_blocks = stored.same_blocks;
       }
 
   -- the machine sees another object with that identity, and nothing else
@@ -169,7 +173,8 @@ module _ (f : Parts) (k : Heap) (at : Addr) (old new : Placed) (w : Writes f.hea
         numbers = record { heap = w.limit i; blocks = f.table.blocks; callers = callers_of f };
         state = record {
           objects = objects-replace h k at.0 old new w.replaces stored.identities i;
-          handles = rows-replace h k at.0 old new w.replaces f.table.rows i;
+          handles = rows-replace h k at.0 old new w.replaces (unheld f.table.rows f.weak.held) i;
+          weak = weak-replace h k at.0 old new w.replaces f.table.rows f.weak.held i;
           registers =
               rows_of (callers_of f) (map (option_map (ids-replace h k at.0 old new w.replaces i)) f.roots);
           handle_registers = f.handle_registers;

@@ -15,10 +15,9 @@ use Rattle.hd_model.specs.declared.data.Grown.TheVariants.{Zero}
 use Rattle.hd_model.specs.Touched.{touched_by}
 use Rattle.hd_model.specs.State.{State, Handle, handle_register_of, handle_at, last_serial, identity_of}
 use Rattle.hd_model.specs.Step.{StepOf}
-use Rattle.hd_model.specs.declared.command.Cmd.TheVariants as cmd
 use Rattle.hd_model.specs.Aging.{aged_by}
 use Rattle.hd_model.specs.Valid.{IsValid}
-use Rattle.hd_model.specs.WellFormed.{HasHandles}
+use Rattle.hd_model.specs.WellFormed.{HasHandles, HasWeakTable}
 use Rattle.hd_model.specs.Command.{Outcome}
 use Rattle.hd_model.specs.Role.{pins}
 use Rattle.hd_world.specs.declared.handles.Live.{Live}
@@ -62,9 +61,10 @@ ComesTo wanted old new result = ComesToAged wanted old.ages old new result
 -- what a command of a caller asks of a store
 pub record MayRun (m : Machine) (asked : CallerCommand) (offered : Option Slot) : Type 0 where
   pub handles : HasHandles m.numbers m.state
+  pub weak : HasWeakTable m.state
   pub caller : asked.caller < m.numbers.callers
   pub valid : IsValid asked.cmd
-  pub offer : IsOffer m.state asked.cmd offered
+  pub offer : IsOffer m.state asked.caller asked.cmd offered
   pub serial : last_serial m.state asked.caller + 1 < 2 ^ 32
   pub fresh : get m.state.objects (identity_of asked.caller (last_serial m.state asked.caller + 1)).0 ≡ None
   pub counts : HasSmallCounts m.state
@@ -76,8 +76,8 @@ pub record HasRun (old : Machine) (asked : CallerCommand) (offered : Option Slot
   pub caller : e.caller ≡ asked.caller
   pub command : e.cmd ≡ asked.cmd
   pub effect : effect_is
-  pub offer : ForSome offered (Takes e asked.cmd)
-  pub growth : GrowsUnoffered old.numbers old.state asked.cmd offered e
+  pub offer : ForSome offered (Takes old.state asked.caller e asked.cmd)
+  pub growth : GrowsUnoffered old.numbers old.state asked.caller asked.cmd offered e
 
 -- the effect of a command that neither reads nor changes a pinned address; of any, it is `KeepsPlaces`
 pub record IsPlainStep (old : Machine) (c : Cmd) (new : Machine) (e : Entry) : Type 0 where

@@ -14,6 +14,7 @@ pub mod Places
 pub mod Placed
 pub mod Objects
 pub mod Handles
+pub mod Entries
 pub mod Commands
 pub mod Counts
 pub mod Making

@@ -1,11 +1,11 @@
--- What is stored at addresses, read by identity: the objects of a heap and the rows of a table as the machine
--- has them.
-use Rattle.std.specs.Prelude.{ℕ, Option, unwrap_or, option_map, map, IsSome, IfSome}
-use Rattle.std.specs.FinMap.{FinMap, get, entries, from_entries}
+-- What is stored at addresses, read by identity: the objects of a heap, the rows of a table and the entries
+-- of the weak table as the machine has them.
+use Rattle.std.specs.Prelude.{ℕ, Option, unwrap_or, option_map, option_and_then, is_none, map, IsSome, IfSome}
+use Rattle.std.specs.FinMap.{FinMap, get, entries, from_entries, retain_keys}
 use Rattle.std.specs.Ordering.{nat_cmp}
 use Rattle.hd_model.specs.declared.data.Id.{Id}
 use Rattle.hd_model.specs.declared.data.Addr.{Addr}
-use Rattle.hd_model.specs.State.{Object, Handle, rename_object, rename_handle}
+use Rattle.hd_model.specs.State.{Object, Handle, WeakEntry, secondary_of, rename_object, rename_handle}
 use Rattle.hd_model.specs.Heap.{Placed, Heap, region_generation, region_of, object_in, id_at}
 
 -- the identity of each address that has an object
@@ -23,6 +23,22 @@ objects_by_id h = from_entries (map (λ e. (e.1.id.0, read_object h e.0 e.1)) (e
 -- the rows of a table, with each address read as the identity there
 unfoldable pub rows_by_id : Heap → FinMap nat_cmp (Handle Addr) → FinMap nat_cmp (Handle Id)
 rows_by_id h rows = from_entries (map (λ e. (e.0, rename_handle (id_at h) e.1)) (entries rows))
+
+-- the rows of slots that the weak table does not hold
+abbrev pub unheld : FinMap nat_cmp (Handle Addr) → FinMap nat_cmp (Option Id) → FinMap nat_cmp (Handle Addr)
+unheld rows held = retain_keys rows (λ slot. is_none (get held slot))
+
+-- the entry with a key whose value is the secondary of a row, by identity
+abbrev pub entry_named : (Addr → Id) → Option (Handle Addr) → Option Id → Option (WeakEntry Id)
+entry_named name row key =
+    let value = option_and_then (λ (r : Handle Addr). secondary_of r.extra) row in
+    option_map (λ k. record { key = k; value = option_map name value }) key
+
+-- the slots that the weak table holds, each with its entry or idle
+unfoldable pub weak_by_id : Heap → FinMap nat_cmp (Handle Addr) → FinMap nat_cmp (Option Id)
+    → FinMap nat_cmp (Option (WeakEntry Id))
+weak_by_id h rows held =
+    from_entries (map (λ e. (e.0, entry_named (id_at h) (get rows e.0) e.1)) (entries held))
 
 -- the identity at an address, by the identities of all addresses
 abbrev pub name_in : FinMap nat_cmp Id → Addr → Id

@@ -7,6 +7,7 @@ parts i = record {
   heap = i.heap;
   table = i.table;
   ages = i.ages;
+  weak = i.weak;
   queue = i.queue;
   roots = i.roots.items;
   handle_registers = i.handle_registers.items;

@@ -1,6 +1,7 @@
--- What a collection of a store costs, in the words of the machine.
-use Rattle.std.specs.Prelude.{◌≡◌, ℕ, ◌+◌, ◌*◌, ◌≤◌, Bool, false, List, filter, sum_by, Option, Some, None}
-use Rattle.std.specs.FinMap.{get, keys}
+-- What a collection of a store costs, and a search of the weak table, in the words of the machine.
+use Rattle.std.specs.Prelude.{◌≡◌, ℕ, ◌+◌, ◌*◌, ◌≤◌, Bool, false, List, length, filter, sum_by, Option, Some, None, option_map, option_and_then}
+use Rattle.std.specs.FinMap.{get, keys, entries}
+use Rattle.hd_model.specs.declared.data.Id.{Id}
 use Rattle.hd_model.specs.declared.data.Entry.{Entry}
 use Rattle.hd_model.specs.declared.data.Report.{Report}
 use Rattle.hd_model.specs.declared.data.Kind.{Kind}
@@ -9,8 +10,13 @@ use Rattle.hd_model.specs.declared.command.Cmd.TheVariants as cmd
 use Rattle.hd_model.specs.declared.data.Kind.TheVariants as kind
 use Rattle.hd_model.specs.Kinds.{all_kinds, is_kind}
 use Rattle.hd_model.specs.Ages.{visits}
-use Rattle.hd_model.specs.State.{State, BlockUse, handles_of, extra_data}
+use Rattle.hd_model.specs.declared.class.Class.{Class}
+use Rattle.hd_model.specs.declared.command.Cmd.{Cmd}
+use Rattle.hd_model.specs.declared.class.Class.TheVariants as class
+use Rattle.hd_model.specs.Class.{class_of}
+use Rattle.hd_model.specs.State.{State, WeakEntry, BlockUse, handles_of, extra_data, register_of}
 use Rattle.hd_model.specs.Text.{is_collect}
+use Rattle.hd_cwt.specs.WeakTable.{bucket_of, is_in_bucket}
 use Rattle.hd_scan.specs.Tasks.{task_kind, root_tasks, short_tasks, long_tasks}
 
 -- whether a block has handles of a kind
@@ -27,27 +33,54 @@ blocks_of s k = filter (λ block. has_kind k (get s.blocks block)) (keys s.block
 abbrev pub due_in : State → List ℕ → ℕ → Kind → ℕ
 due_in s ages n k = visits ages n (blocks_of s k)
 
--- the steps after a collection that makes some passes over the dependent handles, by the due clumps of each
--- kind: each task goes over the handles of its kind, and the relocation of references over those of each kind
-abbrev pub steps_by : (Kind → ℕ) → ℕ → ℕ → ℕ
-steps_by due before passes =
+-- the steps after a collection, by the due clumps of each kind: each task goes over the handles of its kind,
+-- the relocation of references over those of each kind, and three passes over dependent handles: two follow
+-- them, and one clears them
+abbrev pub steps_by : (Kind → ℕ) → ℕ → ℕ
+steps_by due before =
     before
     + (sum_by (λ t. due (task_kind t)) root_tasks + sum_by (λ t. due (task_kind t)) short_tasks
     + sum_by (λ t. due (task_kind t)) long_tasks)
-    + sum_by due all_kinds + passes * due kind.Dependent
+    + sum_by due all_kinds + 3 * due kind.Dependent
 
--- the steps of a collection that keeps `kept` condemned objects: the clearing of dependent handles and both
--- rescans make a pass each, and the rescans at most one more for each kept object
-pub record CollectedSteps (s : State) (ages : List ℕ) (n kept before after : ℕ) : Type 0 where
-  pub passes : ℕ
-  pub least : 3 ≤ passes
-  pub most : passes ≤ 3 + kept
-  pub steps_are : after ≡ steps_by (due_in s ages n) before passes
+-- the steps of a collection of n
+abbrev pub CollectedSteps : State → List ℕ → (n before after : ℕ) → Type 0
+CollectedSteps s ages n before after = after ≡ steps_by (due_in s ages n) before
 
--- the steps of an entry, from the state and the ages before it: a collection takes those that follow from its
--- report, and no other command takes any
+-- the register of the key that a command looks up in the weak table
+abbrev pub key_register : Class → Option ℕ
+key_register (class.MakesObject fields) = None
+key_register (class.TakesSlot make t) = None
+key_register (class.StoresTarget h t) = None
+key_register (class.StoresSecondary h) = None
+key_register class.Frees = None
+key_register (class.GivesBack kind) = None
+key_register (class.Collects n) = None
+key_register (class.AnswersPlace h) = None
+key_register (class.AddsEntry k v) = Some k
+key_register (class.LooksUp k) = Some k
+key_register class.Plain = None
+
+-- the key that a command looks up, if its register is not null
+abbrev pub looked_up : State → ℕ → Cmd → Option Id
+looked_up s caller c = option_and_then (register_of s caller) (key_register (class_of c))
+
+-- the number of entries in the bucket of a key
+abbrev pub entries_beside : State → Id → ℕ
+entries_beside s key =
+    length (filter (λ (e : ℕ × Option (WeakEntry Id)).
+    is_in_bucket (bucket_of key) (option_map (λ (x : WeakEntry Id). x.key) e.1)) (entries s.weak))
+
+-- the steps of a search for a key: each is an entry of its bucket, and there is at most one more
+pub record SearchSteps (s : State) (key : Id) (before after : ℕ) : Type 0 where
+  pub counted : before ≤ after
+  pub most : after ≤ before + (entries_beside s key + 1)
+
+-- the steps of an entry, from the state and the ages before it: a collection takes those of its
+-- generation, a command that looks a key up those of one search, and no other command takes any
 pub record TakesSteps (s : State) (ages : List ℕ) (e : Entry) (before after : ℕ) : Type 0 where
-  pub others : is_collect e.cmd ≡ false → after ≡ before
+  pub others : is_collect e.cmd ≡ false → looked_up s e.caller e.cmd ≡ None → after ≡ before
+  pub searches : (key : Id) → looked_up s e.caller e.cmd ≡ Some key → SearchSteps s key before after
   pub collects :
       (n : ℕ) (report : Report) → e.cmd ≡ cmd.Collect n → e.reply ≡ reply.Report report
-      → CollectedSteps s ages n report.kept before after
+      → CollectedSteps s ages n before after

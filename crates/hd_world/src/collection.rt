@@ -14,8 +14,8 @@ use hd_model::{Memory, Reply, Report, Steps};
 use std::sync::ledger::Ledger;
 
 impl Store {
-    /// Collects generation `n` and all younger ones. Where there is too little memory, nothing is
-    /// changed.
+    /// Collects generation `n` and all younger ones. The entries of the weak table whose key is
+    /// not kept leave it. Where there is too little memory, nothing is changed.
     pub(crate) fn collect<L: Ledger>(
         &mut self,
         n: u8,
@@ -24,12 +24,12 @@ impl Store {
         requires { n ≤ OLDEST }
         ensures { MatchResult result
             (λ report. HasCollected self.old self.new n report ×
-            CollectedSteps self.old.state self.old.ages n report.kept steps.old steps.new)
+            CollectedSteps self.old.state self.old.ages n steps.old steps.new)
             (λ _. (self.new ≡ self.old) × (steps.new ≡ steps.old)) }
     {
         // Read for the proof alone: each chain has the blocks of its kind, each once.
         let _live = self.table.live();
-        collect(
+        let report = collect(
             self.alloc,
             &mut self.heap,
             &mut self.table,
@@ -38,7 +38,9 @@ impl Store {
             &mut self.roots,
             n,
             steps,
-        )
+        )?;
+        self.weak.sweep(&self.table);
+        Ok(report)
     }
 }
 

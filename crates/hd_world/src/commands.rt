@@ -1,26 +1,30 @@
 // One command of a caller, as a step of the machine.
-ghost use Rattle.std.specs.Prelude.{◌≡◌, false, MatchResult};
+ghost use Rattle.std.specs.Prelude.{◌≡◌, false, None, MatchResult};
+ghost use Rattle.hd_model.specs.Class.{class_of};
 ghost use Rattle.hd_model.specs.Touched.{touched_by};
 ghost use Rattle.hd_world.specs.Commands.{MayRun, HasRun, IsPlainStep};
 ghost use Rattle.hd_world.specs.Places.{KeepsPlaces};
-ghost use Rattle.hd_world.specs.Visited.{TakesSteps};
+ghost use Rattle.hd_world.specs.Visited.{key_register, TakesSteps};
 ghost use Rattle.hd_world.specs.World.{RanOut};
 
 use crate::done::CallerCommand;
 use crate::store::Store;
-use crate::{collection, making, on_handles, on_objects, places};
+use crate::{collection, making, on_entries, on_handles, on_objects, places};
 use hd_model::{Cmd, Entry, Memory, Slot, Steps};
 use std::sync::ledger::Ledger;
 
-// Does a command of a caller that neither reads nor changes a pinned address. Its entry and the
-// state after it are a step of the machine. An offered slot or block is taken. Without one a new
-// handle makes the table grow, or finds it full.
+// Does a command of a caller that neither reads nor changes a pinned address, nor looks at the weak
+// table. Its entry and the state after it are a step of the machine. An offered slot or block is
+// taken. Without one a new handle makes the table grow, or finds it full.
 fn carry_out(store: &mut Store, asked: CallerCommand, offer: Option<Slot>) -> Result<Entry, Memory>
     requires may { MayRun store.old asked offer }
     requires plain { (touched_by asked.cmd).places ≡ false }
-    ensures { let m = store.old in let k = store.new in
+    requires no_key { key_register (class_of asked.cmd) ≡ None }
+    ensures done { let m = store.old in let k = store.new in
         MatchResult result (λ e. HasRun m asked offer e (IsPlainStep m asked.cmd k e))
         (λ _. RanOut m.numbers m.state asked.cmd m k) }
+    // What was required, for the proof of the call.
+    ensures no_key { key_register (class_of asked.cmd) ≡ None }
 {
     let caller = asked.caller;
     match asked.cmd {
@@ -58,8 +62,12 @@ fn carry_out(store: &mut Store, asked: CallerCommand, offer: Option<Slot>) -> Re
         Cmd::HDown { s } => Ok(asked.entry(on_handles::lower_count(store, caller, s))),
         Cmd::Trim { kind } => Ok(asked.entry(Ok(making::trim(store, caller, kind, offer)))),
         Cmd::Final { d } => Ok(asked.entry(Ok(on_objects::take_queued(store, caller, d)))),
-        // These use the pinned addresses.
-        Cmd::Collect { .. } | Cmd::AddrOf { .. } => unreachable!(),
+        // These use the pinned addresses, or the weak table.
+        Cmd::Collect { .. }
+        | Cmd::AddrOf { .. }
+        | Cmd::CAdd { .. }
+        | Cmd::CFind { .. }
+        | Cmd::CRemove { .. } => unreachable!(),
     }
 }
 
@@ -83,6 +91,16 @@ pub(crate) fn run<L: Ledger>(
     }
     if let Cmd::AddrOf { s } = asked.cmd {
         return Ok(asked.entry(places::answer_place(store, asked.caller, s)));
+    }
+    if let Cmd::CAdd { k, v } = asked.cmd {
+        let done = on_entries::add_entry(store, asked.caller, k, v, offer, steps);
+        return Ok(asked.entry(done));
+    }
+    if let Cmd::CFind { d, k } = asked.cmd {
+        return Ok(asked.entry(on_entries::find_entry(store, asked.caller, d, k, steps)));
+    }
+    if let Cmd::CRemove { k } = asked.cmd {
+        return Ok(asked.entry(on_entries::remove_entry(store, asked.caller, k, steps)));
     }
     carry_out(store, asked, offer)
 }

@@ -34,7 +34,7 @@ impl Store {
         }
     }
 
-    /// The handle in a slot, if the slot is live.
+    /// The handle in a slot, if the slot is live and not one that the weak table holds.
     pub(crate) fn handle(&self, slot: Slot) -> Option<Live>
         ensures value { let named =
             option_map (λ live. handle_named self.now live.kind live.row) result in
@@ -43,6 +43,9 @@ impl Store {
         ensures within { OnSome result
             ((1 ≤ block_of slot) × (block_of slot ≤ self.now.numbers.blocks)) }
     {
+        if self.weak.held(slot) {
+            return None;
+        }
         let row = self.table.row(slot)?;
         let kind = self.kind_of(slot)?;
         Some(Live { kind, row })

@@ -5,10 +5,12 @@
 mod collection;
 mod commands;
 mod done;
+mod entries;
 mod handles;
 mod listing;
 mod making;
 mod objects;
+mod on_entries;
 mod on_handles;
 mod on_objects;
 mod places;

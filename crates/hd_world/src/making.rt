@@ -5,7 +5,7 @@ ghost use Rattle.hd_model.specs.Kinds.{kind_of, is_paired};
 ghost use Rattle.hd_model.specs.State.{given_of, block_of, first_slot, IsFree, IsAllFree};
 ghost use Rattle.hd_model.specs.Step.{blocks_needed};
 ghost use Rattle.hd_model.specs.Valid.{IsValidMake};
-ghost use Rattle.hd_model.specs.WellFormed.{HasHandles};
+ghost use Rattle.hd_model.specs.WellFormed.{HasHandles, HasWeakTable};
 ghost use Rattle.hd_model.specs.Aging.{lowered_by_new};
 ghost use Rattle.hd_world.specs.Reading.{named_in, IsNamed};
 ghost use Rattle.hd_world.specs.Making.{IsPlace, IsMadeRow};
@@ -31,6 +31,7 @@ fn first_slot(block: u32) -> Slot
 // The first slot of a new block. Where there is no block left, nothing is changed.
 fn new_place(store: &mut Store, kind: Kind) -> Result<(Slot, Grown), Full>
     requires handles { HasHandles store.old.numbers store.old.state }
+    requires weak { HasWeakTable store.old.state }
     ensures place { IfOk result (λ place. IsPlace store.old store.new kind None place.0 place.1) }
     ensures given { IfErr result (λ full. full.given ≡ given_of store.old.state) }
     ensures full { OnErr result
@@ -45,9 +46,14 @@ fn new_place(store: &mut Store, kind: Kind) -> Result<(Slot, Grown), Full>
     }
 }
 
-// The slot of a new handle: the offered one or, without one, the first of a new block.
-fn place(store: &mut Store, kind: Kind, offer: Option<Slot>) -> Result<(Slot, Grown), Full>
+/// The slot of a new handle: the offered one or, without one, the first of a new block.
+pub(crate) fn place(
+    store: &mut Store,
+    kind: Kind,
+    offer: Option<Slot>,
+) -> Result<(Slot, Grown), Full>
     requires handles { HasHandles store.old.numbers store.old.state }
+    requires weak { HasWeakTable store.old.state }
     requires offer { IfSome offer (IsFree store.old.state kind) }
     ensures place { IfOk result (λ place.
         IsPlace store.old store.new kind offer place.0 place.1) }
@@ -110,6 +116,7 @@ pub(crate) fn new_handle(
     offer: Option<Slot>,
 ) -> Result<Done, Refusal>
     requires handles { HasHandles store.old.numbers store.old.state }
+    requires weak { HasWeakTable store.old.state }
     requires caller { caller < store.old.numbers.callers }
     requires registers { (d < REGISTERS) × (t < REGISTERS) }
     requires make { IsValidMake make }
@@ -136,7 +143,7 @@ pub(crate) fn new_handle(
 /// `trim KIND`: gives back the block of the offered slot or, without one, none.
 pub(crate) fn trim(store: &mut Store, caller: u32, kind: Kind, offer: Option<Slot>) -> Done
     requires single { is_paired kind ≡ false }
-    requires offer { IsOffer store.old.state (cmds.Trim kind) offer }
+    requires offer { IsOffer store.old.state caller (cmds.Trim kind) offer }
     ensures { let asked : CallerCommand = record { caller = caller; cmd = cmds.Trim kind } in
         let e = entry_of asked result in
         HasRun store.old asked offer e (IsPlainStep store.old asked.cmd store.new e) }

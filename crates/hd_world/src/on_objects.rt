@@ -41,8 +41,8 @@ pub(crate) fn load(store: &mut Store, caller: u32, d: u8, v: Option<Addr>) -> Do
     Done::of(reply)
 }
 
-// The object in an object register, which is refused where it is null.
-fn object_in(store: &Store, caller: u32, o: u8) -> Result<Addr, Refusal>
+/// The object in an object register, which is refused where it is null.
+pub(crate) fn object_in(store: &Store, caller: u32, o: u8) -> Result<Addr, Refusal>
     requires caller { caller < store.now.numbers.callers }
     requires register { o < REGISTERS }
     ensures value { MatchResult result

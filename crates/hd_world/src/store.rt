@@ -5,6 +5,7 @@ ghost use Rattle.hd_world.specs.Reading.{named_in, IsNamed};
 ghost use Rattle.hd_world.specs.Store.{IsOverHeap};
 
 use hd_ages::AgeMap;
+use hd_cwt::Cwt;
 use hd_final::Final;
 use hd_heap::Heap;
 use hd_model::limits::{BLOCKS, CALLERS, CLUMPS, HEAP, OLDEST, REGISTERS};
@@ -23,6 +24,7 @@ pub(crate) struct Store {
     pub(crate) heap: Heap,
     pub(crate) table: Seg,
     pub(crate) ages: AgeMap,
+    pub(crate) weak: Cwt,
     pub(crate) queue: Final,
     // What the object registers of each caller in turn reference, and then the statics.
     pub(crate) roots: Vec<Option<Addr>>,
@@ -74,6 +76,7 @@ impl Store {
             heap: Heap::open(alloc, heap)?,
             table: Seg::open(alloc, blocks)?,
             ages: AgeMap::open(alloc, blocks)?,
+            weak: Cwt::open(alloc, blocks)?,
             queue: Final::open(alloc)?,
             roots: filled(alloc, None, REGISTERS * callers + REGISTERS)?,
             handle_registers: filled(alloc, [None; PLACES], callers)?,
@@ -168,10 +171,10 @@ impl Store {
         self.heap.count()
     }
 
-    /// The number of live slots.
+    /// The number of live handles, without the slots that the weak table holds.
     pub(crate) fn live(&self) -> u32
         ensures { result ≡ len self.now.state.handles }
     {
-        self.table.live()
+        self.table.live() - self.weak.held_count()
     }
 }

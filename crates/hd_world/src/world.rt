@@ -9,13 +9,13 @@ ghost use Rattle.hd_model.specs.Text.{collections_of, is_collect};
 ghost use Rattle.hd_world.specs.Growth.{kind_in_use};
 ghost use Rattle.hd_world.specs.Placed.{Placed, Placed-prop};
 ghost use Rattle.hd_world.specs.Applied.{Applied};
-ghost use Rattle.hd_world.specs.World.{HasLimits, IsOffer, FitsHeap, MayApply, RanOut};
+ghost use Rattle.hd_world.specs.World.{HasLimits, IsOffer, needs_slot, FitsHeap, MayApply, RanOut};
 ghost use Rattle.hd_world.specs.StateHeap.{IsOfHeap};
 ghost use Rattle.hd_world.specs.Visited.{TakesSteps};
 
-use crate::commands;
 use crate::done::CallerCommand;
 use crate::store::Store;
+use crate::{commands, on_entries};
 use hd_model::limits::{BLOCKS, CALLERS, HEAP};
 use hd_model::{Class, Cmd, Entry, Held, Journal, Kind, Memory, RootId, Slot, Steps};
 use std::alloc::Global;
@@ -57,7 +57,7 @@ impl Model for World {
 }
 
 impl Held for World {
-    ghost use Rattle.std.specs.Prelude.{is_some};
+    ghost use Rattle.std.specs.Prelude.{is_some, ◌||◌};
     ghost use Rattle.std.specs.FinMap.{get};
     ghost use Rattle.hd_model.specs.State.{use_of};
     ghost use Rattle.hd_model.specs.Table.{kind_word};
@@ -68,7 +68,8 @@ impl Held for World {
 
     ghost spare = { λ w. w.spare };
 
-    ghost live = { λ w slot. is_some (get w.state.handles slot) };
+    ghost live = { λ w slot.
+        is_some (get w.state.handles slot) || is_some (get w.state.weak slot) };
 
     ghost kind = { λ w block. kind_word (use_of w.state block) };
 }
@@ -100,8 +101,9 @@ impl World {
     }
 
     /// Does a command of a caller and appends its entry to the journal. To `hnew` a free slot of
-    /// its kind may be offered, to `trim` the first slot of a block of its kind whose slots are all
-    /// free, and to no other command anything. Out of memory changes nothing.
+    /// its kind may be offered, to a `cadd` for which `needs_slot` is true a free slot of kind
+    /// dependent, to `trim` the first slot of a block of its kind whose slots are all free, and to
+    /// no other command anything. Out of memory changes nothing.
     pub fn apply<L: Ledger>(
         &mut self,
         caller: u32,
@@ -112,13 +114,14 @@ impl World {
         requires room { 1 ≤ self.old.spare }
         requires caller { caller < self.old.numbers.callers }
         requires valid { IsValid cmd }
-        requires offer { IsOffer self.old.state cmd offer }
+        requires offer { IsOffer self.old.state caller cmd offer }
         ensures done { IfOk result (Applied self.old caller cmd offer self.new) }
         // Only commands that may take memory run out of it. A full heap is reported first.
         ensures memory { OnErr result (IsTrue (takes_memory cmd)) }
         ensures fits { OnErr result (FitsHeap self.old.numbers self.old.state cmd) }
         ensures unchanged { OnErr result (self.new ≡ self.old) }
-        // A collection takes a step for each visit of a due clump; no other command takes one.
+        // A collection takes a step for each visit of a due clump, a search of the weak table one
+        // for each entry that it looks at; no other command takes one.
         ensures steps { let s = self.old.state in let ages = self.old.ages in
             IfOk result (λ e. TakesSteps s ages e steps.old steps.new) }
         ensures unstepped { OnErr result (steps.new ≡ steps.old) }
@@ -191,6 +194,27 @@ impl World {
         self.journal.spare()
     }
 
+    /// Whether a command needs a slot that the weak table has yet to get: so does a `cadd` that
+    /// meets neither Null nor Present while no slot of the table is idle, and no other command.
+    pub fn needs_slot(&self, caller: u32, cmd: Cmd) -> bool
+        requires caller { caller < self.now.numbers.callers }
+        requires valid { IsValid cmd }
+        ensures { result ≡ needs_slot self.now.state caller cmd }
+    {
+        self.needs_slot_on::<Brand>(caller, cmd, Blank::new(1))
+    }
+
+    // The same, with a counter that nothing reads.
+    fn needs_slot_on<L: Ledger>(&self, caller: u32, cmd: Cmd, blank: Blank) -> bool
+        requires caller { caller < self.now.numbers.callers }
+        requires valid { IsValid cmd }
+        requires blank { (L.name ≡ blank.name) × (L.parts ≡ blank.parts) × (0 < blank.parts) }
+        ensures { result ≡ needs_slot self.now.state caller cmd }
+    {
+        let mut steps = Steps::<L>::open(blank);
+        on_entries::needs_slot(&self.store, caller, cmd, &mut steps)
+    }
+
     /// The kind of the block of a slot, if it has handles. The slot may be any number.
     pub fn kind_of(&self, slot: Slot) -> Option<Kind>
         ensures { result ≡ kind_in_use (use_of self.now.state (block_of slot)) }
@@ -198,7 +222,7 @@ impl World {
         self.store.kind_of(slot)
     }
 
-    /// The number of live handles.
+    /// The number of live handles, without the slots that the weak table holds.
     pub fn live(&self) -> u32
         ensures { result ≡ len self.now.state.handles }
     {

@@ -1,5 +1,5 @@
 use Rattle.hd_world.proofs.StoreWords.{subst, arith, refl, Ok, TakesSteps, is_collect, entry_of, done_of}
-use Rattle.hd_world.proofs.AddressSteps.{plain-runs, others-run, others-steps}
+use Rattle.hd_world.proofs.AddressSteps.{plain-runs, others-run, others-steps, looked-run, added-run}
 use Rattle.hd_model.specs.declared.command.Cmd.TheVariants as cmd
 use Rattle.hd_world.proofs.commands.run.Goals as goal
 
@@ -22,10 +22,32 @@ returns-in-AddrOf g c =
     c.answer_place.result steps steps c.requires c.answer_place.ensures
     (others-steps
     (entry_of (record { caller = c.args.asked.caller; cmd = cmd.AddrOf c.in-AddrOf.s })
-    (done_of c.answer_place.result)) is_collect refl (λ n. refl) m steps)
+    (done_of c.answer_place.result)) is_collect refl (λ n. refl) m steps refl)
     c.entry-in-AddrOf.result c.entry-in-AddrOf.ensures
 
 pub returns : goal.returns
 returns g c =
-    plain-runs c.args.store.now c.carry_out.new.store c.args.asked c.args.offer c.requires c.args.steps.now
-    c.carry_out.result c.carry_out.ensures
+    plain-runs c.args.store.now c.carry_out.new.store c.args.asked c.args.offer c.requires
+    c.carry_out.ensures.no_key c.args.steps.now
+    c.carry_out.result c.carry_out.ensures.done
+
+pub returns-in-CAdd : goal.returns-in-CAdd
+returns-in-CAdd g c =
+    added-run c.args.store.now c.add_entry-done.new.store c.args.asked c.args.offer
+    (cmd.CAdd c.in-CAdd.k c.in-CAdd.v) c.in-CAdd.is c.add_entry-done.result c.args.steps.now
+    c.add_entry-done.new.steps c.requires c.add_entry-done.ensures.done c.add_entry-done.ensures.steps
+    c.entry-in-CAdd.result c.entry-in-CAdd.ensures
+
+pub returns-in-CFind : goal.returns-in-CFind
+returns-in-CFind g c =
+    looked-run c.args.store.now c.find_entry.new.store c.args.asked c.args.offer
+    (cmd.CFind c.in-CFind.d c.in-CFind.k) c.in-CFind.is refl c.find_entry.result c.args.steps.now
+    c.find_entry.new.steps c.requires c.find_entry.ensures.done c.find_entry.ensures.steps
+    c.entry-in-CFind.result c.entry-in-CFind.ensures
+
+pub returns-in-CRemove : goal.returns-in-CRemove
+returns-in-CRemove g c =
+    looked-run c.args.store.now c.remove_entry.new.store c.args.asked c.args.offer
+    (cmd.CRemove c.in-CRemove.k) c.in-CRemove.is refl c.remove_entry.result c.args.steps.now
+    c.remove_entry.new.steps c.requires c.remove_entry.ensures.done c.remove_entry.ensures.steps
+    c.entry-in-CRemove.result c.entry-in-CRemove.ensures

@@ -1,8 +1,19 @@
-use Rattle.hd_world.proofs.StoreWords.{sym, ap, ◌∙◌, len, Machine}
-use Rattle.hd_world.proofs.StateCounts.{len-rows}
+use Rattle.hd_world.proofs.StoreWords.{parts, ◌≡◌, ◌∙◌, ap, sym, arith, len, unheld, Machine}
+use Rattle.hd_world.proofs.StoreRows.{held-live}
+use Rattle.hd_world.proofs.StateCounts.{len-rows, len-unheld}
 use Rattle.hd_world.proofs.store.Store.live.Goals as goal
 
 pub returns : goal.returns
 returns c =
-    c.live.ensures.value ∙ sym (len-rows c.self.inside.heap c.self.inside.table.rows)
-    ∙ ap (λ (m : Machine). len m.state.handles) c.self.view_is
+    let f = parts c.self.inside in
+    let split = len-unheld f.table.rows f.weak.held (held-live f c.self.invariant) in
+    let handles : len (unheld f.table.rows f.weak.held) ≡ len c.args.self.now.state.handles =
+    sym (len-rows f.heap (unheld f.table.rows f.weak.held))
+    ∙ ap (λ (m : Machine). len m.state.handles) c.self.view_is in
+    omega (arith, split, handles, c.live.ensures.value, c.held_count.ensures.value)
+
+pub overflow_sub-result : goal.overflow_sub-result
+overflow_sub-result c =
+    let f = parts c.self.inside in
+    let split = len-unheld f.table.rows f.weak.held (held-live f c.self.invariant) in
+    omega (arith, split, c.live.ensures.value, c.held_count.ensures.value)

@@ -7,7 +7,8 @@ made : (c : goal.In_ok-filled-3) → opened c.args.heap c.args.blocks c.args.cal
   heap = c.in_ok-open.field-0;
   table = c.in_ok-open-2.field-0;
   ages = c.in_ok-open-3.field-0;
-  queue = c.in_ok-open-4.field-0;
+  weak = c.in_ok-open-4.field-0;
+  queue = c.in_ok-open-5.field-0;
   roots = c.in_ok-filled.field-0.items;
   handle_registers = c.in_ok-filled-2.field-0.items;
   board = replicate 16 None;
@@ -15,7 +16,7 @@ made : (c : goal.In_ok-filled-3) → opened c.args.heap c.args.blocks c.args.cal
 })
 made c =
     are_opened c.args.heap c.args.blocks c.args.callers _ c.in_ok-open.ensures c.in_ok-open-2.ensures
-    c.in_ok-open-3.ensures c.in_ok-open-4.ensures
+    c.in_ok-open-3.ensures c.in_ok-open-4.ensures c.in_ok-open-5.ensures
     c.in_ok-filled.ensures c.in_ok-filled-2.ensures refl c.in_ok-filled-3.ensures
 
 pub invariant_of-result : goal.invariant_of-result

@@ -1,32 +1,36 @@
 use Rattle.hd_world.proofs.StoreWords.{parts, ◌≡◌, ◌/◌, true, Some, sym, ap, ◌∙◌, subst, handles_of, with_row, fits_in}
 use Rattle.hd_seg.specs.Row.{handle_of, extra_of}
-use Rattle.hd_world.proofs.StoreRows.{vacant-row, use-read, kind-read, row-put}
+use Rattle.hd_world.proofs.StoreRows.{vacant-row, not-held, use-read, kind-read, row-put}
 use Rattle.hd_world.proofs.store.Store.put_row.Goals.{After-put_row}
 use Rattle.hd_world.proofs.store.Store.put_row.Goals as goal
 
 pub put_row-requires-clause-vacant : goal.put_row-requires-clause-vacant
 put_row-requires-clause-vacant c =
-    vacant-row (parts c.self.inside) c.args.self.now c.self.view_is c.args.slot c.requires.free.0
+    vacant-row (parts c.self.inside) c.args.self.now c.self.view_is c.args.slot c.requires.free.no_handle
+    c.requires.free.not_weak
 
 pub put_row-requires-clause-fitting : goal.put_row-requires-clause-fitting
 put_row-requires-clause-fitting c =
     subst (λ u. fits_in u (extra_of c.args.row.extra) ≡ true)
     (sym (use-read (parts c.self.inside) c.args.self.now c.self.view_is (c.args.slot.0 / 64)
-    (Some (handles_of c.args.kind)) c.requires.free.1)) c.requires.may.fits
+    (Some (handles_of c.args.kind)) c.requires.free.of_kind)) c.requires.may.fits
 
 after : (c : After-put_row) → c.put_row.new.self ≡ with_row c.self.inside.table c.args.slot.0
     (handle_of c.args.kind c.args.row)
 after c =
     c.put_row.ensures
     ∙ ap (λ k. with_row c.self.inside.table c.args.slot.0 (handle_of k c.args.row))
-    (kind-read (parts c.self.inside) c.args.self.now c.self.view_is c.args.slot c.args.kind c.requires.free.1)
+    (kind-read (parts c.self.inside) c.args.self.now c.self.view_is c.args.slot c.args.kind
+    c.requires.free.of_kind)
 
 pub invariant_of-self : goal.invariant_of-self
 invariant_of-self c =
     (row-put (parts c.self.inside) c.args.self.now c.self.view_is c.self.invariant c.args.slot c.args.kind
-    c.args.row c.requires.may c.put_row.new.self (after c)).0
+    c.args.row (not-held (parts c.self.inside) c.args.self.now c.self.view_is c.args.slot
+    c.requires.free.not_weak) c.requires.may c.put_row.new.self (after c)).0
 
 pub returns : goal.returns
 returns c =
     (row-put (parts c.self.inside) c.args.self.now c.self.view_is c.self.invariant c.args.slot c.args.kind
-    c.args.row c.requires.may c.put_row.new.self (after c)).1
+    c.args.row (not-held (parts c.self.inside) c.args.self.now c.self.view_is c.args.slot
+    c.requires.free.not_weak) c.requires.may c.put_row.new.self (after c)).1

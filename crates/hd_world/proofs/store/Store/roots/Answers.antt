@@ -1,8 +1,8 @@
-use Rattle.hd_world.proofs.StoreWords.{parts, ◌≡◌, ◌∙◌, All, true, map, List, sym, ap, subst, has_object, Machine}
+use Rattle.hd_world.proofs.StoreWords.{parts, ◌≡◌, ◌∙◌, All, true, map, List, sym, ap, subst, has_object, unheld, Machine}
 use Rattle.hd_model.specs.RootText.{roots_of}
 use Rattle.hd_scan.specs.declared.gathering.Root.{Root}
 use Rattle.hd_world.specs.Listing.{root_named}
-use Rattle.hd_world.proofs.RootIdentities.{roots-are, roots-hold}
+use Rattle.hd_world.proofs.RootIdentities.{roots-are, roots-hold, unheld-roots}
 use Rattle.hd_world.proofs.store.Store.roots.Goals as goal
 
 pub named_roots-requires : goal.named_roots-requires
@@ -13,5 +13,6 @@ named_roots-requires g c =
 pub returns-in-Ok : goal.returns-in-Ok
 returns-in-Ok g c =
     c.in-Ok.ensures ∙ ap (map (root_named c.self.inside.heap)) (c.deref.ensures.value ∙ c.in_ok-roots.ensures)
-    ∙ roots-are c.self.inside.heap c.self.inside.table.rows
+    ∙ ap (map (root_named c.self.inside.heap)) (sym (unheld-roots (parts c.self.inside) c.self.invariant))
+    ∙ roots-are c.self.inside.heap (unheld c.self.inside.table.rows c.self.inside.weak.held)
     ∙ ap (λ (m : Machine). roots_of m.state) c.self.view_is

@@ -7,15 +7,17 @@ take_back-requires-clause-single c =
     block-single (parts c.self.inside) c.args.self.now c.self.view_is c.args.kind c.args.block
     c.requires.single
     (subst (λ b. use_of c.args.self.now.state b ≡ Some (handles_of c.args.kind)) (omega arith)
-    (c.requires.free (record { 0 = c.args.block * 64 }) (omega arith)).1)
+    (c.requires.free (record { 0 = c.args.block * 64 }) (omega arith)).of_kind)
 
 pub take_back-requires-clause-vacant : goal.take_back-requires-clause-vacant
 take_back-requires-clause-vacant c = λ slot is. vacant-row (parts c.self.inside) c.args.self.now
-    c.self.view_is (record { 0 = slot }) (c.requires.free (record { 0 = slot }) is).0
+    c.self.view_is (record { 0 = slot }) (c.requires.free (record { 0 = slot }) is).no_handle
+    (c.requires.free (record { 0 = slot }) is).not_weak
 
 pub invariant_of-self : goal.invariant_of-self
 invariant_of-self c = stored-back (parts c.self.inside) c.take_back.new.self
-    (kind_at c.self.inside.table c.args.block) c.args.block c.self.invariant c.take_back.ensures
+    (kind_at c.self.inside.table c.args.block) c.args.block c.self.invariant
+    (take_back-requires-clause-single c.before) c.take_back.ensures
 
 pub returns : goal.returns
 returns c =

@@ -1,5 +1,5 @@
 use Rattle.hd_world.proofs.StoreWords.{parts, sym, ap, ◌∙◌, subst, IsStored, machine_of}
-use Rattle.hd_world.proofs.StoreRows.{with_table, stored-end, machine-end, live-row}
+use Rattle.hd_world.proofs.StoreRows.{with_table, stored-end, machine-end, live-row, live-free}
 use Rattle.hd_world.proofs.store.Store.take_row.Goals as goal
 
 pub take_row-requires : goal.take_row-requires
@@ -7,9 +7,11 @@ take_row-requires c = live-row (parts c.self.inside) c.args.self.now c.self.view
 
 pub invariant_of-self : goal.invariant_of-self
 invariant_of-self c = subst (λ t. IsStored (with_table (parts c.self.inside) t)) (sym c.take_row.ensures)
-    (stored-end (parts c.self.inside) c.args.slot.0 c.self.invariant)
+    (stored-end (parts c.self.inside) c.args.slot.0 c.self.invariant
+    (live-free (parts c.self.inside) c.args.self.now c.self.view_is c.args.slot c.requires))
 
 pub returns : goal.returns
 returns c =
     ap (λ t. machine_of (with_table (parts c.self.inside) t)) c.take_row.ensures
     ∙ machine-end (parts c.self.inside) c.args.self.now c.self.view_is c.args.slot
+    (live-free (parts c.self.inside) c.args.self.now c.self.view_is c.args.slot c.requires)

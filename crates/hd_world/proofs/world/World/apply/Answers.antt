@@ -2,7 +2,7 @@ use Rattle.hd_world.proofs.StoreWords.{◌≡◌, ℕ, ◌<◌, ◌+◌, ◌^◌
 use Rattle.hd_world.specs.Placed.{IsTrueRun, Placed}
 use Rattle.hd_world.specs.Applied.{Applied}
 use Rattle.hd_world.proofs.StateHeap.{returns-stored, keeps-pinned, keeps-address}
-use Rattle.hd_world.proofs.JournalApply.{handles_of, small_of, fresh_of, counts_of, steps_placed, offer_placed, growth_placed, at_places, placed_on, run_on, step_on, ages_on}
+use Rattle.hd_world.proofs.JournalApply.{handles_of, weak_of, small_of, fresh_of, counts_of, steps_placed, offer_placed, growth_placed, at_places, placed_on, run_on, step_on, ages_on}
 use Rattle.hd_model.specs.Journal.{Recorded}
 use Rattle.hd_world.proofs.world.World.apply.Goals as goal
 
@@ -21,12 +21,13 @@ pub run-requires : goal.run-requires
 run-requires g c =
     let w = c.self.inside in record {
       handles = handles_of w.store w.journal.entries w.placed.0 c.self.invariant;
+      weak = weak_of w.store w.journal.entries w.placed.0 c.self.invariant;
       caller =
           subst (λ (v : WorldView). c.args.caller < v.numbers.callers) (sym c.self.view_is) c.requires.caller;
       valid = c.requires.valid;
-      offer = offer_placed w.store.numbers w.store.state w.placed.0 c.args.cmd c.args.offer
-          (subst (λ (v : WorldView). IsOffer v.state c.args.cmd c.args.offer) (sym c.self.view_is)
-          c.requires.offer);
+      offer = offer_placed w.store.numbers w.store.state w.placed.0 c.args.caller c.args.cmd c.args.offer
+          (subst (λ (v : WorldView). IsOffer v.state c.args.caller c.args.cmd c.args.offer)
+          (sym c.self.view_is) c.requires.offer);
       serial = small_of w.store w.journal.entries w.placed.0 c.self.invariant (has_room g c) c.args.caller;
       fresh = fresh_of w.store w.journal.entries w.placed.0 c.self.invariant (has_room g c) c.args.caller;
       counts = counts_of w.store w.journal.entries w.placed.0 c.self.invariant (has_room g c);
@@ -113,7 +114,8 @@ returns-clause-done g c =
           c.push.ensures.entries;
       numbers = (ran.effect w.placed.0 c.self.invariant.addresses).numbers;
       offer = ran.offer;
-      growth = growth_placed w.store.numbers w.store.state w.placed.0 c.args.cmd c.args.offer e ran.growth;
+      growth = growth_placed w.store.numbers w.store.state w.placed.0 c.args.caller c.args.cmd c.args.offer e
+          ran.growth;
       heap = (ran.effect w.placed.0 c.self.invariant.addresses).heap;
       addresses = record {
         returned = λ h place x. returns-stored w.store next e ran.effect c.objects-before.ensures.heap

@@ -1,0 +1,23 @@
+use Rattle.hd_world.proofs.StoreWords.{parts, ◌≡◌}
+use Rattle.hd_model.specs.Command.{idle_slot}
+use Rattle.hd_world.proofs.EntrySearch.{idle-is}
+use Rattle.hd_world.proofs.HeldRoom.{idle-held, idle-within}
+use Rattle.hd_world.proofs.store.Store.idle_slot.Goals.{After-idle}
+use Rattle.hd_world.proofs.store.Store.idle_slot.Goals as goal
+
+least : (c : After-idle) → c.idle.result ≡ idle_slot c.args.self.now.state
+least c =
+    idle-is (parts c.self.inside) c.args.self.now c.self.view_is c.idle.result c.idle.ensures.least
+    c.idle.ensures.none
+
+pub returns-clause-value : goal.returns-clause-value
+returns-clause-value c = least c
+
+pub returns-clause-idle : goal.returns-clause-idle
+returns-clause-idle c = idle-held c.args.self.now.state c.idle.result (least c)
+
+pub returns-clause-within : goal.returns-clause-within
+returns-clause-within c =
+    idle-within (parts c.self.inside) c.self.invariant c.given-given.ensures.table c.args.self.now
+    c.self.view_is
+    c.idle.result (least c)

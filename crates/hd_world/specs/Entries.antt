@@ -1,0 +1,26 @@
+-- Entries of the weak table of a store, by address.
+use Rattle.std.specs.Prelude.{◌≡◌, Option, None, IsSome}
+use Rattle.std.specs.FinMap.{FinMap, get}
+use Rattle.std.specs.Ordering.{nat_cmp}
+use Rattle.hd_model.specs.declared.data.Id.{Id}
+use Rattle.hd_model.specs.declared.data.Addr.{Addr}
+use Rattle.hd_model.specs.declared.data.Slot.{Slot}
+use Rattle.hd_model.specs.State.{WeakEntry}
+use Rattle.hd_model.specs.Ages.{age_of}
+use Rattle.hd_model.specs.Command.{slot_of_key}
+use Rattle.hd_world.specs.Store.{Machine}
+use Rattle.hd_world.specs.Reading.{name_in, named_in, IsNamed}
+
+-- the entry with the object at an address as its key, and another or null as its value
+abbrev pub entry_at : FinMap nat_cmp Id → Addr → Option Addr → WeakEntry Id
+entry_at names key value = record { key = name_in names key; value = named_in names value }
+
+-- the weak table has no entry of the object at an address
+abbrev pub HasNoEntry : Machine → Addr → Type 0
+HasNoEntry m key = slot_of_key m.state (name_in m.names key) ≡ None
+
+-- an entry may be put into a slot: its key and its value are objects, and the slot's clump has age 0
+pub record MayHaveEntry (m : Machine) (slot : Slot) (key : Addr) (value : Option Addr) : Type 0 where
+  pub known : IsSome (get m.names key.0)
+  pub named : IsNamed m.names value
+  pub young : age_of m.ages slot.0 ≡ 0
