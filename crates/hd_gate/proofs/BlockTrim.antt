@@ -1,6 +1,6 @@
 -- `trim`: what its caller has under the gate, and once it left.
 use Rattle.std.proofs.Common.{◌≡◌, ℕ, ◌+◌, ◌*◌, ◌/◌, ◌%◌, ◌<◌, ◌≤◌, ◌==◌, ◌&&◌, Bool, true, false, not, cond, List, [], ◌++◌, Option, Some, None, inl, inr, refl, sym, ap, ◌∙◌, subst, eq-eqb, ne_eqb, arith}
-use Rattle.std.specs.Prelude.{is_some, IfSome, option_map}
+use Rattle.std.specs.Prelude.{IfSome, option_map}
 use Rattle.std.specs.Int.{bit_at}
 use Rattle.std.specs.FinMap as map
 use Rattle.std.specs.FinMap.{get}
@@ -25,30 +25,24 @@ use Rattle.hd_model.proofs.ReadAfterWrite.{get_removed, get_left}
 use Rattle.hd_custody.specs.declared.view.View.{View}
 use Rattle.hd_custody.specs.Counts.{Has, Every, rows, is_nil, without_block}
 use Rattle.hd_custody.specs.Views.{called, closed, numbers_of, took}
-use Rattle.hd_custody.specs.Calls.{gathered, Gathers, ShowsNone}
+use Rattle.hd_custody.specs.Calls.{gathered, Gathers}
 use Rattle.hd_custody.specs.Traces.{every_row, follow, sweep, missed, ending}
 use Rattle.hd_custody.specs.Rule.{Entered}
-use Rattle.hd_custody.proofs.Canon.{row_has, filter_append, filter_picks, picks_none}
+use Rattle.hd_custody.proofs.Canon.{row_has, filter_picks, picks_none}
+use Rattle.std.proofs.lemmas.List.Elements.{filter-append}
 use Rattle.hd_custody.proofs.HeldSlots.{member_at, every_append, every_picks}
 use Rattle.hd_world.specs.World.{WorldView, IsOffer, GrowsUnoffered, Takes as TakesOffer, asks_of}
 use Rattle.hd_world.specs.contracts.world.WorldHeld.TheImpl.{ghosts}
 use Rattle.hd_gate.specs.declared.change.Change.TheVariants.{GivesBack as Gives}
-use Rattle.hd_gate.specs.Change.{change_of}
+use Rattle.hd_gate.specs.Change.{change_of, change_in}
 use Rattle.hd_gate.specs.Shared.{OwnSteps, LookedFor, SlotCalls}
 use Rattle.hd_gate.specs.declared.change.Change.{Change}
 use Rattle.hd_gate.specs.Idle.{IsIdle}
+use Rattle.hd_gate.specs.Tied.{is_live}
 use Rattle.hd_gate.specs.Turns.{search_of, Stepped, without_gathered}
 use Rattle.hd_gate.proofs.HandleMake.{free_among_held}
-use Rattle.hd_gate.proofs.StepLiveSlots.{zero_is_not_one}
+use Rattle.hd_gate.proofs.StepLiveSlots.{in_state, zero_is_not_one, is_trim}
 use Rattle.hd_gate.proofs.GateLeave.{SameSeat, same_seat, Leaves, leaves, every_nil, held_stays}
-
-Gives-injective : (j k : Kind) → Gives j ≡ Gives k → j ≡ k
-Gives-injective j k e = cc
-
--- a command that gives a block back is `trim`
-is_trim : (kind : Kind) (c : Cmd) → change_of c ≡ Gives kind → c ≡ cmd.Trim kind
-is_trim kind (cmd.Trim j) gives = ap cmd.Trim (Gives-injective j kind gives)
-is_trim kind c gives = cc
 
 -- ---- the 64 slots of a block
 
@@ -74,7 +68,7 @@ module _ (k block : ℕ) where
 
   pub all_go : without_block block all ≡ []
   all_go =
-      filter_append (λ p. not (p.0 / 64 == block)) (rows block every_row (k + 1)) []
+      filter-append (λ p. not (p.0 / 64 == block)) (rows block every_row (k + 1)) []
       ∙ ap (λ ps. ps ++ [])
       (filter_picks (λ x. not (x / 64 == block)) 64 (λ r. bit_at every_row r == 1) (64 * block) (λ _. k + 1)
       ∙ picks_none 64 (λ r. (bit_at every_row r == 1) && not ((64 * block + r) / 64 == block)) (64 * block)
@@ -87,12 +81,14 @@ module _ (k block : ℕ) where
 
 -- what was gathered may be offered
 module _ (u : WorldView) (v : View WorldView) (kind : Kind) (entered : Entered ghosts v u) where
-  pub may_offer : (c : Cmd) → change_of c ≡ Gives kind → (o : Option ℕ) → v.held
+  pub may_offer : (number : ℕ) (c : Cmd) → change_of c ≡ Gives kind → (o : Option ℕ) → v.held
       ≡ gathered (kind_number kind) o []
-      → IsOffer u.state c (option_map first_slot o)
-  may_offer c gives None held = tt
-  may_offer c gives (Some block) held =
-      subst (λ (x : Cmd). IsOffer u.state x (Some (first_slot block))) (sym (is_trim kind c gives)) (
+      → IsOffer u.state number c (option_map first_slot o)
+  may_offer number c gives None held = tt
+  may_offer number c gives (Some block) held =
+      subst (λ (x : Cmd). IsOffer u.state number x (Some (first_slot block)))
+      (sym (is_trim u.state number kind c
+      (in_state u.state number c (Gives kind) (λ e. cc) gives))) (
         ap first_slot (sym (first_block block)),
         (λ slot of. let at = there (kind_number kind) block slot.0 (of ∙ first_block block) in
             free_among_held u v kind entered at.0 slot (ap (λ h. get_elem? h at.0) held ∙ at.1)),
@@ -112,14 +108,18 @@ closed_kind s t block is c = ap (λ m. kind_word (get m c)) is ∙ elim (cases_e
 Back-injective : (a b : ℕ) → Back a ≡ Back b → a ≡ b
 Back-injective a b e = cc
 
-module _ (number : ℕ) (command : Cmd) (kind : Kind) (gives : change_of command ≡ Gives kind) (u w : WorldView)
-    (v v' : View WorldView) (idle : IsIdle v number) (some_room : 1 ≤ v.room) (o : Option ℕ)
+module _ (number : ℕ) (command : Cmd) (kind : Kind) (is_gives : change_of command ≡ Gives kind)
+    (u w : WorldView) (v v' : View WorldView)
+    (idle : IsIdle v number) (some_room : 1 ≤ v.room) (o : Option ℕ)
     (blocks : ℕ) (are : blocks ≡ v.limits.blocks)
     (found : Gathers (kind_number kind) blocks o v v')
     (entered : Entered ghosts v' u) (e : Entry)
     (stepped : Stepped u w number command (option_map first_slot o) e) where
   abbrev K : ℕ
   K = kind_number kind
+
+  gives : change_in u.state number command ≡ Gives kind
+  gives = in_state u.state number command (Gives kind) (λ e. cc) is_gives
 
   same : SameSeat v v'
   same = same_seat v' (called (gathered K o v.held) v'.trace v) found.view
@@ -134,7 +134,8 @@ module _ (number : ℕ) (command : Cmd) (kind : Kind) (gives : change_of command
   held = ap (λ (x : View WorldView). x.held) found.view ∙ ap (gathered K o) idle.held
 
   does : StepOf u.numbers u.state e w.state (cmd.Trim kind)
-  does = subst (StepOf u.numbers u.state e w.state) (stepped.applied.command.1 ∙ is_trim kind command gives)
+  does = subst (StepOf u.numbers u.state e w.state)
+      (stepped.applied.command.1 ∙ is_trim u.state number kind command gives)
       stepped.applied.step.does
 
   own_steps : OwnSteps (search_of v) (search_of v')
@@ -143,16 +144,17 @@ module _ (number : ℕ) (command : Cmd) (kind : Kind) (gives : change_of command
     began_empty = ap (λ (x : View WorldView). x.began_empty) found.view ∙ ap is_nil idle.held;
   }
 
-  slot_calls : SlotCalls (change_of command) u.state v.limits.blocks (search_of v) (search_of v') e
+  slot_calls : SlotCalls (change_in u.state number command) u.state v.limits.blocks (search_of v)
+      (search_of v') e
   slot_calls =
       subst (λ (c : Change). SlotCalls c u.state v.limits.blocks (search_of v) (search_of v') e) (sym gives)
       own_steps
 
   looked_for : (e.reply ≡ reply.Value 0 → o ≡ None)
-      → LookedFor (asks_of command) v.limits.blocks (search_of v) (search_of v') e
+      → LookedFor (asks_of u.state number command) v.limits.blocks (search_of v) (search_of v') e
   looked_for only =
-      subst (λ (c : Cmd). LookedFor (asks_of c) v.limits.blocks (search_of v) (search_of v') e)
-      (sym (is_trim kind command gives))
+      subst (λ (c : Cmd). LookedFor (asks_of u.state number c) v.limits.blocks (search_of v) (search_of v') e)
+      (sym (is_trim u.state number kind command gives))
       (λ says. record {
         own = own_steps;
         ended = subst (λ b. follow K b (sweep 0) v'.trace ≡ missed) are (found.steps ∙ ap ending (only says));
@@ -162,17 +164,19 @@ module _ (number : ℕ) (command : Cmd) (kind : Kind) (gives : change_of command
   -- nothing was gathered, and nothing is given back
   kept : o ≡ None → Leaves number command u w e v (took u v')
   kept none =
-      let grows : e.reply ≡ reply.Value 0 = subst (λ (c : Cmd). GrowsUnoffered u.numbers u.state c None e)
-      (is_trim kind command gives)
-      (subst (λ (p : Option ℕ). GrowsUnoffered u.numbers u.state command (option_map first_slot p) e) none
+      let grows : e.reply ≡ reply.Value 0 =
+      subst (λ (c : Cmd). GrowsUnoffered u.numbers u.state number c None e)
+      (is_trim u.state number kind command gives)
+      (subst (λ (p : Option ℕ).
+      GrowsUnoffered u.numbers u.state number command (option_map first_slot p) e) none
       stepped.applied.growth) in
       elim does [
         | inl m ↦ absurd (zero_is_not_one (sym grows ∙ m.reply))
         | inr out ↦ leaves number command (option_map first_slot o) u w e stepped v
             (took u v') idle some_room own sized
             same refl slot_calls (λ b _ _. ap (λ (s : State). kind_word (use_of s b)) out.after)
-            (λ x _ on. inl (sym (ap (λ (s : State). is_some (get s.handles x)) out.after) ∙ on))
-            (held_stays u w (took u v') (λ x. ap (λ (s : State). is_some (get s.handles x)) out.after)
+            (λ x _ on. inl (sym (ap (λ (s : State). is_live s x) out.after) ∙ on))
+            (held_stays u w (took u v') (λ x. ap (λ (s : State). is_live s x) out.after)
             (held ∙ ap (λ p. gathered K p []) none))
             (looked_for (λ _. none))
       ]
@@ -181,8 +185,9 @@ module _ (number : ℕ) (command : Cmd) (kind : Kind) (gives : change_of command
   given : (block : ℕ) → o ≡ Some block → Leaves number command u w e v (closed block (took u v'))
   given block is =
       let busy = closed block (took u v') in
-      let takes : TakesOffer e (cmd.Trim kind) (first_slot block) = subst
-      (λ (c : Cmd). TakesOffer e c (first_slot block)) (is_trim kind command gives)
+      let takes : TakesOffer u.state number e (cmd.Trim kind) (first_slot block) = subst
+      (λ (c : Cmd). TakesOffer u.state number e c (first_slot block))
+      (is_trim u.state number kind command gives)
       (stepped.applied.offer (first_slot block) (ap (option_map first_slot) is)) in
       elim does [
         | inl m ↦ (
@@ -194,8 +199,8 @@ module _ (number : ℕ) (command : Cmd) (kind : Kind) (gives : change_of command
             slot_calls
             (λ b _ _. closed_kind u.state.blocks w.state.blocks block
             (ap (λ (s : State). s.blocks) after) b)
-            (λ x _ on. inl (sym (ap (λ (s : State). is_some (get s.handles x)) after) ∙ on))
-            (held_stays u w busy (λ x. ap (λ (s : State). is_some (get s.handles x)) after)
+            (λ x _ on. inl (sym (ap (λ (s : State). is_live s x) after) ∙ on))
+            (held_stays u w busy (λ x. ap (λ (s : State). is_live s x) after)
             (ap (without_block block) (held ∙ ap (λ p. gathered K p []) is) ∙ all_go K block))
             (looked_for (λ says. absurd (zero_is_not_one (sym says ∙ m.reply)))))
         | inr out ↦ absurd (zero_is_not_one (sym out.reply ∙ takes.0))

@@ -22,7 +22,7 @@ use Rattle.hd_model.specs.Valid.{IsValid}
 use Rattle.hd_custody.specs.Rule.{Entered}
 use Rattle.hd_world.specs.World.{WorldView, IsOffer, asks_of}
 use Rattle.hd_world.specs.contracts.world.WorldHeld.TheImpl.{ghosts}
-use Rattle.hd_gate.specs.Change.{change_of}
+use Rattle.hd_gate.specs.Change.{change_in}
 use Rattle.hd_gate.specs.Shared.{LookedFor, SlotCalls, HasDone}
 use Rattle.hd_gate.specs.Idle.{IsIdle}
 use Rattle.hd_gate.specs.Turns.{caller_view_of, search_of, Stepped, Turned}
@@ -31,7 +31,7 @@ use Rattle.hd_world.specs.World.{MayApply}
 -- a caller that entered may take a step
 pub may_step : (u : WorldView) (v : View WorldView) (number : ℕ) (command : Cmd) (offer : Option Slot)
     → Entered ghosts v u → 1 ≤ v.room → number < v.limits.callers → IsValid command
-    → IsOffer u.state command offer
+    → IsOffer u.state number command offer
     → MayApply u number command offer
 may_step u v number command offer entered room known valid offered =
     let spare : v.room ≤ u.spare = entered.room in
@@ -137,8 +137,8 @@ module _ (number : ℕ) (command : Cmd) (offer : Option Slot) (u w : WorldView) 
 
   -- and the command was done, where what it looked for is stated
   pub done_after : (t : TableId) (n : View WorldView) → n.part ≡ after.part → n.room ≡ after.room
-      → LookedFor (asks_of command) v.limits.blocks (search_of v) (search_of n) e
-      → SlotCalls (change_of command) u.state v.limits.blocks (search_of v) (search_of n) e
+      → LookedFor (asks_of u.state number command) v.limits.blocks (search_of v) (search_of n) e
+      → SlotCalls (change_in u.state number command) u.state v.limits.blocks (search_of v) (search_of n) e
       → HasDone (caller_view_of (record { table = t; view = v }) number v.room)
       (caller_view_of (record { table = t; view = n }) number n.room) command e.reply
   done_after t n part room looked_for slot_calls = record {
@@ -162,10 +162,11 @@ module _ (number : ℕ) (command : Cmd) (offer : Option Slot) (u w : WorldView) 
 
   -- so the gate may be left, and the call is then done
   pub leaves : busy.taken ≡ Some u
-      → SlotCalls (change_of command) u.state v.limits.blocks (search_of v) (search_of busy) e
+      → SlotCalls (change_in u.state number command) u.state v.limits.blocks (search_of v) (search_of busy) e
       → ((b : ℕ) → 0 < b → b < 257 → ghosts.kind w b ≡ changed busy.changes (ghosts.kind u) b)
       → ((x : ℕ) → 64 ≤ x → ghosts.live w x ≡ true → (ghosts.live u x ≡ true) ⊎ Has x busy.held)
-      → after.held ≡ [] → LookedFor (asks_of command) v.limits.blocks (search_of v) (search_of busy) e
+      → after.held ≡ []
+      → LookedFor (asks_of u.state number command) v.limits.blocks (search_of v) (search_of busy) e
       → Leaves number command u w e v busy
   leaves taken slot_calls kinds lives held looked_for = record {
     taken = taken;

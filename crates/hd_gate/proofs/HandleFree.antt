@@ -1,7 +1,6 @@
 -- `hfree`: what its caller has once it left the gate, and once it let the slot go.
-use Rattle.std.proofs.Common.{◌≡◌, ◌≢◌, ℕ, ◌+◌, ◌-◌, ◌/◌, ◌≤◌, true, false, not, cond, [], ◌∷◌, Option, Some, None, inl, inr, refl, sym, ap, ◌∙◌, subst, eq-eqb, arith}
+use Rattle.std.proofs.Common.{◌||◌, ◌≡◌, ◌≢◌, ℕ, ◌+◌, ◌-◌, ◌/◌, ◌≤◌, true, not, cond, [], ◌∷◌, Option, Some, None, inl, inr, refl, sym, ap, ◌∙◌, subst, eq-eqb, arith}
 use Rattle.std.specs.Prelude.{is_some, IfSome, option_map}
-use Rattle.std.specs.FinMap as map
 use Rattle.std.specs.FinMap.{get}
 use Rattle.std.proofs.lemmas.Bool.{cases_eq}
 use lib.ListN.{get_elem?}
@@ -12,12 +11,10 @@ use Rattle.hd_model.specs.declared.data.Kind.{Kind}
 use Rattle.hd_model.specs.declared.data.Reply.TheVariants as reply
 use Rattle.hd_model.specs.declared.data.Slot.{Slot}
 use Rattle.hd_model.specs.declared.command.Cmd.{Cmd}
-use Rattle.hd_model.specs.declared.command.Cmd.TheVariants as cmd
 use Rattle.hd_model.specs.State.{Numbers, Handle, handles_of, use_of, block_of}
 use Rattle.hd_model.specs.Kinds.{kind_number}
 use Rattle.hd_model.specs.Step.{StepOf}
 use Rattle.hd_model.specs.Table.{kind_word}
-use Rattle.hd_model.proofs.ReadAfterWrite.{get_removed, get_left}
 use Rattle.hd_custody.specs.declared.view.View.{View}
 use Rattle.hd_custody.specs.Counts.{HasAs, without}
 use Rattle.hd_custody.specs.Views.{Known, Follows, gave_back, took}
@@ -26,32 +23,31 @@ use Rattle.hd_world.specs.World.{WorldView, asks_of}
 use Rattle.hd_world.specs.Growth.{kind_in_use}
 use Rattle.hd_world.specs.contracts.world.WorldHeld.TheImpl.{ghosts}
 use Rattle.hd_gate.specs.declared.change.Change.TheVariants.{Frees}
-use Rattle.hd_gate.specs.Change.{change_of}
+use Rattle.hd_gate.specs.Change.{change_of, change_in}
 use Rattle.hd_gate.specs.declared.change.Change.{Change}
 use Rattle.hd_gate.specs.Shared.{SearchView, LookedFor, ReleasesOne, SlotCalls, HasDone}
 use Rattle.hd_gate.specs.Idle.{IsIdle}
 use Rattle.hd_gate.specs.Turns.{caller_view_of, search_of, Stepped, Turned, freed_in, ReleasesFreed}
-use Rattle.hd_gate.proofs.StepLiveSlots.{FreesAt, frees_at}
+use Rattle.hd_gate.proofs.StepLiveSlots.{in_state, is_free, LeavesSlots, IsFreed, FreesAt, frees_at}
 use Rattle.hd_gate.proofs.GateLeave.{well_formed, idle_of, goes_on, done_after, held_stays, held_ends}
 
--- a command that frees a slot is `hfree`
-is_free : (c : Cmd) → change_of c ≡ Frees → (h : ℕ) × (c ≡ cmd.HFree h)
-is_free (cmd.HFree h) frees = (h, refl)
-is_free c frees = cc
-
-module _ (number : ℕ) (command : Cmd) (frees : change_of command ≡ Frees) (u w : WorldView)
+module _ (number : ℕ) (command : Cmd) (is_frees : change_of command ≡ Frees) (u w : WorldView)
     (v : View WorldView) (idle : IsIdle v number) (some_room : 1 ≤ v.room) (few : v.limits.blocks ≤ 256)
     (entered : Entered ghosts v u) (e : Entry) (stepped : Stepped u w number command None e) where
+  frees : change_in u.state number command ≡ Frees
+  frees = in_state u.state number command Frees (λ e. cc) is_frees
+
   abbrev busy : View WorldView
   busy = took u v
 
   abbrev left : View WorldView
   left = gave_back ghosts u w busy
 
-  looks_for_none : (old new : SearchView) → LookedFor (asks_of command) v.limits.blocks old new e
+  looks_for_none : (old new : SearchView)
+      → LookedFor (asks_of u.state number command) v.limits.blocks old new e
   looks_for_none old new =
-      let is = is_free command frees in
-      subst (λ (c : Cmd). LookedFor (asks_of c) v.limits.blocks old new e) (sym is.1) tt
+      let is = is_free u.state number command frees in
+      subst (λ (c : Cmd). LookedFor (asks_of u.state number c) v.limits.blocks old new e) (sym is.1) tt
 
   abbrev seat : TableId → View WorldView → Known WorldView
   seat t view = record { table = t; view = view }
@@ -84,13 +80,12 @@ module _ (number : ℕ) (command : Cmd) (frees : change_of command ≡ Frees) (u
       (sym frees) releases)
 
   -- nothing was freed
-  kept : w.state.handles ≡ u.state.handles → w.state.blocks ≡ u.state.blocks → e.reply ≢ reply.Done
-      → Freed None
-  kept handles blocks refused =
-      let same : (x : ℕ) → ghosts.live w x ≡ ghosts.live u x = λ x. ap (λ m. is_some (get m x)) handles in
-      let held = held_stays u w busy same idle.held in
+  kept : LeavesSlots u.numbers u.state (well_formed stepped) e w.state stepped.applied.step
+      → e.reply ≢ reply.Done → Freed None
+  kept same refused =
+      let held = held_stays u w busy same.live idle.held in
       record {
-        follows = follows_from (λ x on. sym (same x) ∙ on) blocks;
+        follows = follows_from (λ x on. sym (same.live x) ∙ on) same.blocks;
         has = tt;
         turned = λ t n is.
             subst (λ (x : View WorldView). Turned (seat t v) (seat t x) number command e.reply) (sym is)
@@ -104,22 +99,20 @@ module _ (number : ℕ) (command : Cmd) (frees : change_of command ≡ Frees) (u
       }
 
   -- a slot was freed
-  module _ (slot : Slot) (handle : Handle Id) (live : get u.state.handles slot.0 ≡ Some handle)
-      (handles : w.state.handles ≡ map.remove u.state.handles slot.0)
-      (blocks : w.state.blocks ≡ u.state.blocks) (says_done : e.reply ≡ reply.Done)
+  module _ (slot : Slot)
+      (at : IsFreed u.numbers u.state (well_formed stepped) e w.state stepped.applied.step slot)
       (is_slot : e.slot ≡ Some slot) where
+    abbrev handle : Handle Id
+    handle = at.handle
+
+    live : ghosts.live u slot.0 ≡ true
+    live = ap (λ o. is_some o || is_some (get u.state.weak slot.0)) at.was
+
     used : use_of u.state (block_of slot) ≡ Some (handles_of handle.kind)
-    used = (well_formed stepped).handles.kinds slot.0 handle live
+    used = (well_formed stepped).handles.kinds slot.0 handle at.was
 
     used' : use_of w.state (block_of slot) ≡ Some (handles_of handle.kind)
-    used' = ap (λ m. get m (block_of slot)) blocks ∙ used
-
-    off : ghosts.live w slot.0 ≡ false
-    off = ap (λ m. is_some (get m slot.0)) handles ∙ ap is_some (get_removed u.state.handles slot.0)
-
-    others : (y : ℕ) → y ≢ slot.0 → ghosts.live w y ≡ ghosts.live u y
-    others y apart = ap (λ m. is_some (get m y)) handles
-        ∙ ap is_some (get_left u.state.handles slot.0 y apart)
+    used' = ap (λ m. get m (block_of slot)) at.blocks ∙ used
 
     inside : (1 ≤ block_of slot) × (block_of slot ≤ u.numbers.blocks)
     inside = (well_formed stepped).handles.blocks (block_of slot) (ap is_some used)
@@ -133,8 +126,8 @@ module _ (number : ℕ) (command : Cmd) (frees : change_of command ≡ Frees) (u
     held : left.held ≡ (slot.0, kind_number handle.kind + 1) ∷ []
     held =
         held_ends u w busy (slot.0 - 64) (omega (arith, inside.0, inside.1, limit)) idle.held
-        (ap (ghosts.live u) place ∙ ap is_some live) (ap (ghosts.live w) place ∙ off)
-        (λ y apart. others y (λ is. apart (is ∙ sym place)))
+        (ap (ghosts.live u) place ∙ live) (ap (ghosts.live w) place ∙ at.here)
+        (λ y apart. at.others y (λ is. apart (is ∙ sym place)))
         ∙ ap (λ x. (x, ghosts.kind w (x / 64)) ∷ []) place
         ∙ ap (λ o. (slot.0, kind_word o) ∷ []) used'
 
@@ -145,9 +138,9 @@ module _ (number : ℕ) (command : Cmd) (frees : change_of command ≡ Frees) (u
     freed : Freed (Some (slot, handle.kind))
     freed = record {
       follows = follows_from (λ x on. elim (cases_eq x slot.0) [
-        | inl here ↦ (ap (ghosts.live u) here ∙ ap is_some live)
-        | inr apart ↦ (sym (others x apart) ∙ on)
-      ]) blocks;
+        | inl here ↦ (ap (ghosts.live u) here ∙ live)
+        | inr apart ↦ (sym (at.others x apart) ∙ on)
+      ]) at.blocks;
       has = (0, ap (λ h. get_elem? h 0) held);
       turned = λ t n is. record {
         table = refl;
@@ -167,7 +160,7 @@ module _ (number : ℕ) (command : Cmd) (frees : change_of command ≡ Frees) (u
                 one = ap (λ (x : View WorldView). x.trace_number) is.view;
                 steps = is.steps;
               };
-              refused = λ apart. absurd (apart says_done);
+              refused = λ apart. absurd (apart at.done);
             });
       };
     }
@@ -178,13 +171,12 @@ module _ (number : ℕ) (command : Cmd) (frees : change_of command ≡ Frees) (u
   freed_at : (o : Option Slot) → e.slot ≡ o
       → FreesAt u.numbers u.state (well_formed stepped) e w.state stepped.applied.step o → Freed
       (freed_in w.state o)
-  freed_at None is at = kept at.0 at.1 at.2
-  freed_at (Some slot) is at = subst Freed (sym (found slot at.0 at.1 at.2 at.3 at.4 is))
-      (freed slot at.0 at.1 at.2 at.3 at.4 is)
+  freed_at None is at = kept at.0 at.1
+  freed_at (Some slot) is at = subst Freed (sym (found slot at is)) (freed slot at is)
 
   pub frees_slot : Freed (freed_in w.state e.slot)
   frees_slot =
-      let is = is_free command frees in
+      let is = is_free u.state number command frees in
       freed_at e.slot refl (frees_at u.numbers u.state
       (well_formed stepped) e w.state stepped.applied.step is.0
       (subst (StepOf u.numbers u.state e w.state)

@@ -4,6 +4,7 @@ pub mod Beginnings
 pub mod StepLiveSlots
 pub mod Plain
 pub mod HandleMake
+pub mod GateSearch
 pub mod HandleFree
 pub mod BlockTrim
 pub mod GateLeave

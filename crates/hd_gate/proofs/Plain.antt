@@ -1,5 +1,5 @@
 -- A command that leaves the slots as they are.
-use Rattle.std.proofs.Common.{◌≡◌, ℕ, ◌-◌, length, ◌≤◌, None, Result, Ok, Err, inl, refl, sym, ap, ◌∙◌, subst, arith}
+use Rattle.std.proofs.Common.{◌≡◌, ℕ, ◌-◌, length, ◌≤◌, Bool, true, false, cond, None, Result, Ok, Err, inl, refl, sym, ap, ◌∙◌, subst, arith}
 use Rattle.std.specs.Prelude.{MatchResult}
 use Rattle.std.specs.FinMap.{get}
 use Rattle.atomic_table.specs.Seated.{TableId}
@@ -9,47 +9,60 @@ use Rattle.hd_model.specs.declared.command.Cmd.{Cmd}
 use Rattle.hd_model.specs.declared.command.Cmd.TheVariants as cmd
 use Rattle.hd_model.specs.Table.{kind_word}
 use Rattle.hd_model.specs.Run.{Run, part_of}
-use Rattle.hd_model.specs.State.{Numbers}
+use Rattle.hd_model.specs.declared.data.Kind.TheVariants.{Dependent}
+use Rattle.hd_model.specs.Command.{adding_of}
+use Rattle.hd_model.specs.State.{Numbers, State}
 use Rattle.hd_custody.specs.declared.view.View.{View}
 use Rattle.hd_custody.specs.Views.{Known, Follows, gave_back, took}
 use Rattle.hd_custody.specs.Rule.{Entered}
 use Rattle.hd_custody.proofs.Left.{unchanged}
-use Rattle.hd_world.specs.World.{WorldView, FitsHeap, asks_of}
+use Rattle.hd_world.specs.World.{WorldView, FitsHeap, handle_slot, no_room, needs_new, asks_of}
 use Rattle.hd_world.specs.contracts.world.WorldHeld.TheImpl.{ghosts}
-use Rattle.hd_gate.specs.declared.change.Change.TheVariants.{Keeps}
-use Rattle.hd_gate.specs.Change.{change_of}
+use Rattle.hd_gate.specs.declared.change.Change.TheVariants.{Takes, Adds, Frees, GivesBack, Keeps}
+use Rattle.hd_gate.specs.Change.{change_in}
 use Rattle.hd_gate.specs.declared.change.Change.{Change}
 use Rattle.hd_gate.specs.Shared.{SearchView, LookedFor, SlotCalls}
 use Rattle.hd_gate.specs.Idle.{IsIdle}
 use Rattle.hd_gate.specs.Turns.{caller_view_of, search_of, Stayed, Stepped, WantsMemory}
-use Rattle.hd_gate.proofs.StepLiveSlots.{keeps_live, keeps_blocks}
+use Rattle.hd_gate.proofs.StepLiveSlots.{LeavesThem, LeavesSlots, leaves_slots}
 use Rattle.hd_gate.proofs.GateLeave.{well_formed, Leaves, leaves, held_stays}
 
 -- it looks for nothing
-looks_for_none : (c : Cmd) → change_of c ≡ Keeps → (blocks : ℕ) (old new : SearchView) (e : Entry)
-    → LookedFor (asks_of c) blocks old new e
-looks_for_none (cmd.HNew d make r) keeps blocks old new e = cc
-looks_for_none (cmd.Trim kind) keeps blocks old new e = cc
-looks_for_none c keeps blocks old new e = tt
+asks_nothing : (s : State) (caller : ℕ) (c : Cmd) → LeavesThem (change_in s caller c) → (blocks : ℕ)
+    (old new : SearchView) (e : Entry) → LookedFor (asks_of s caller c) blocks old new e
+asks_nothing s caller (cmd.HNew d make r) keeps blocks old new e = absurd keeps
+asks_nothing s caller (cmd.Trim kind) keeps blocks old new e = absurd keeps
+asks_nothing s caller (cmd.CAdd k v) keeps blocks old new e = by (needs_new (adding_of s caller k)) keeps
+  where
+    by : (b : Bool) → LeavesThem (cond b (Takes Dependent) Adds)
+        → LookedFor (cond b (handle_slot Dependent) no_room) blocks old new e
+    by true keeps = absurd keeps
+    by false keeps = tt
+asks_nothing s caller c keeps blocks old new e = tt
 
-module _ (number : ℕ) (command : Cmd) (keeps : change_of command ≡ Keeps) (u w : WorldView)
-    (v : View WorldView)
-    (idle : IsIdle v number) (some : 1 ≤ v.room) (entered : Entered ghosts v u) where
+no_call : (change : Change) → LeavesThem change → (s : State) (blocks : ℕ) (v : SearchView) (e : Entry)
+    → SlotCalls change s blocks v v e
+no_call Keeps keeps s blocks v e = refl
+no_call Adds keeps s blocks v e = refl
+no_call (Takes kind) keeps s blocks v e = absurd keeps
+no_call Frees keeps s blocks v e = absurd keeps
+no_call (GivesBack kind) keeps s blocks v e = absurd keeps
+
+module _ (number : ℕ) (command : Cmd) (u w : WorldView)
+    (keeps : LeavesThem (change_in u.state number command)) (v : View WorldView) (idle : IsIdle v number)
+    (some : 1 ≤ v.room) (entered : Entered ghosts v u) where
   module _ (e : Entry) (stepped : Stepped u w number command None e) where
-    keeps' : change_of e.cmd ≡ Keeps
-    keeps' = ap change_of stepped.applied.command.1 ∙ keeps
-
-    same_live : (x : ℕ) → ghosts.live w x ≡ ghosts.live u x
-    same_live = keeps_live u.numbers u.state (well_formed stepped) e w.state stepped.applied.step keeps'
+    same : LeavesSlots u.numbers u.state (well_formed stepped) e w.state stepped.applied.step
+    same = leaves_slots u.numbers u.state (well_formed stepped) e w.state stepped.applied.step
+        (subst (λ n. LeavesThem (change_in u.state n e.cmd)) (sym stepped.applied.command.0)
+        (subst (λ (c : Cmd). LeavesThem (change_in u.state number c)) (sym stepped.applied.command.1) keeps))
 
     pub plain_leaves : Leaves number command u w e v (took u v)
     plain_leaves = leaves number command None u w e stepped v (took u v) idle some entered.part entered.sized
-        (refl, refl, refl, refl, refl, refl) refl
-        (subst (λ (c : Change). SlotCalls c u.state v.limits.blocks (search_of v) (search_of v) e)
-        (sym keeps) refl) (λ b _ _. ap (λ m. kind_word (get m b))
-        (keeps_blocks u.numbers u.state (well_formed stepped) e w.state stepped.applied.step keeps'))
-        (λ x _ on. inl (sym (same_live x) ∙ on)) (held_stays u w (took u v) same_live idle.held)
-        (looks_for_none command keeps v.limits.blocks (search_of v) (search_of v) e)
+        (refl, refl, refl, refl, refl, refl) refl (no_call _ keeps u.state v.limits.blocks (search_of v) e)
+        (λ b _ _. ap (λ m. kind_word (get m b)) same.blocks)
+        (λ x _ on. inl (sym (same.live x) ∙ on)) (held_stays u w (took u v) same.live idle.held)
+        (asks_nothing u.state number command keeps v.limits.blocks (search_of v) (search_of v) e)
 
   -- it may be left after it, whether it found memory or not
   pub plain_follows : (r : Result Entry Memory)

@@ -1,16 +1,17 @@
 -- What a step does to the slots that are live and to the uses of blocks, by what its command does to the free
 -- slots.
-use Rattle.std.proofs.Common.{◌≡◌, ◌≢◌, ℕ, ◌+◌, ◌*◌, ◌<◌, true, false, Option, Some, None, inl, inr, refl, sym, ap, ◌∙◌, subst, arith}
-use Rattle.std.specs.Prelude.{is_some}
+use Rattle.std.proofs.Common.{◌≡◌, ◌≢◌, ◌⊎◌, ℕ, ◌+◌, ◌*◌, ◌<◌, Bool, true, false, ◌||◌, cond, Option, Some, None, inl, inr, refl, sym, ap, ◌∙◌, subst, arith}
+use Rattle.std.specs.Prelude.{is_some, option_map}
 use Rattle.std.specs.FinMap as map
 use Rattle.std.specs.FinMap.{get}
 use Rattle.std.specs.Ordering.{nat_cmp}
-use Rattle.std.proofs.lemmas.Bool.{cases_lt}
+use Rattle.std.proofs.lemmas.Bool.{or_right, cases_lt}
 use Rattle.hd_model.specs.declared.data.Id.{Id}
 use Rattle.hd_model.specs.declared.data.Entry.{Entry}
 use Rattle.hd_model.specs.declared.data.Grown.{Grown}
 use Rattle.hd_model.specs.declared.data.Grown.TheVariants.{Zero, One, Two, Back}
 use Rattle.hd_model.specs.declared.data.Kind.{Kind}
+use Rattle.hd_model.specs.declared.data.Kind.TheVariants.{Dependent}
 use Rattle.hd_model.specs.declared.data.Make.{Make}
 use Rattle.hd_model.specs.declared.data.Slot.{Slot}
 use Rattle.hd_model.specs.declared.data.Refusal.{Refusal}
@@ -18,21 +19,25 @@ use Rattle.hd_model.specs.declared.data.Refusal.TheVariants as refusal
 use Rattle.hd_model.specs.declared.data.Reply.TheVariants as reply
 use Rattle.hd_model.specs.declared.command.Cmd.{Cmd}
 use Rattle.hd_model.specs.declared.command.Cmd.TheVariants as cmd
-use Rattle.hd_model.specs.State.{Numbers, State, Handle, BlockUse, handles_of, extra_data, handle_at, given_of}
+use Rattle.hd_model.specs.State.{Numbers, State, Handle, WeakEntry, BlockUse, handles_of, extra_data, handle_at, given_of, register_of, with_handle, with_handle_register}
 use Rattle.hd_model.specs.Kinds.{kind_of, kind_number, is_paired}
-use Rattle.hd_model.specs.Command.{refuses, made_handle, free_handle}
-use Rattle.hd_model.specs.Step.{IsOutcome, IsLeastUnused, MayGive, MakesHandle, blocks_needed, with_made, StepOf, Step}
+use Rattle.hd_model.specs.Command.{refuses, made_handle, with_entry, free_handle, Adding, is_refused, in_idle, in_new, adding_key, adding_of, slot_of_key, idle_slot}
+use Rattle.hd_model.specs.Step.{IsOutcome, IsLeastUnused, MayGive, MakesHandle, AddsEntry, FindsTableFull, blocks_needed, with_growth, way_of_adding, TakesWay, StepOf, Step}
 use Rattle.hd_model.specs.Table.{kind_word}
 use Rattle.hd_model.specs.Touched.{touched_by}
 use Rattle.hd_model.specs.WellFormed.{IsWellFormed}
-use Rattle.hd_model.proofs.Effects.{effect}
+use Rattle.hd_model.proofs.Effects.{Effect, with_made_parts, collects, adds_entry, removes_entry, growth_is, effect}
 use Rattle.hd_model.proofs.KindTests.{same_number, few_kinds}
+use Rattle.hd_model.proofs.Outcomes.{option_cases, on_handle_cases}
+use Rattle.hd_model.proofs.ReadAfterWrite.{get_inserted, get_beside, get_removed, get_left, write_cases}
 use Rattle.hd_model.proofs.StepFrames.{untouched_stays}
 use Rattle.hd_model.proofs.StepWrites.{HandleChange, handle_stays, is_made, target_is_set, extra_is_set, is_freed, is_collected, handle_change}
-use Rattle.hd_model.proofs.Outcomes.{on_handle_cases}
-use Rattle.hd_world.specs.World.{GrowsUnoffered, Takes as TakesOffer}
-use Rattle.hd_gate.specs.declared.change.Change.TheVariants.{Keeps}
-use Rattle.hd_gate.specs.Change.{change_of}
+use Rattle.hd_model.proofs.WeakSlots.{idle_found}
+use Rattle.hd_world.specs.World.{handle_slot, no_room, needs_new, asks_of, TakesSlot, GrowsOrIsFull}
+use Rattle.hd_gate.specs.declared.change.Change.{Change}
+use Rattle.hd_gate.specs.declared.change.Change.TheVariants.{Takes, Adds, Frees, GivesBack, Keeps}
+use Rattle.hd_gate.specs.Change.{change_of, change_in}
+use Rattle.hd_gate.specs.Tied.{is_live}
 
 -- a block whose kind word is that of a kind has handles of the kind
 pub use_by_word : (u : Option BlockUse) (k : Kind) → kind_word u ≡ kind_number k + 1 → u ≡ Some (handles_of k)
@@ -47,9 +52,101 @@ Some-injective a b e = cc
 pub zero_is_not_one : reply.Value 0 ≡ reply.Value 1 → ⊥
 zero_is_not_one e = let numbers : ◌≡◌ {A = ℕ} 0 1 = cc in absurd (omega (arith, numbers))
 
+-- ---- what a command does to the free slots, in a state
+
+pub Takes-injective : (j k : Kind) → Takes j ≡ Takes k → j ≡ k
+Takes-injective j k e = cc
+
+-- but for `cadd` the state has no part in it
+pub in_state : (s : State) (caller : ℕ) (c : Cmd) (x : Change) → x ≢ Adds → change_of c ≡ x
+    → change_in s caller c ≡ x
+in_state s caller (cmd.CAdd k v) x apart is = absurd (apart (sym is))
+in_state s caller c x apart is = is
+
+-- and that of a `cadd` is by whether it needs a slot
+add_cases : (P : Change → Type 0) (needs : Bool) → (needs ≡ true → P (Takes Dependent))
+    → (needs ≡ false → P Adds) → P (cond needs (Takes Dependent) Adds)
+add_cases P true new idle = new refl
+add_cases P false new idle = idle refl
+
+by_needs : (b : Bool) (kind : Kind) → cond b (Takes Dependent) Adds ≡ Takes kind
+    → (b ≡ true) × (Dependent ≡ kind)
+by_needs true kind e = (refl, Takes-injective Dependent kind e)
+by_needs false kind e = cc
+
+-- a change that leaves the free slots as they are
+abbrev pub LeavesThem : Change → Type 0
+LeavesThem (Takes kind) = ⊥
+LeavesThem Adds = Unit {0}
+LeavesThem Frees = ⊥
+LeavesThem (GivesBack kind) = ⊥
+LeavesThem Keeps = Unit {0}
+
+-- what takes a slot asks for one of its kind, and what asks for one takes it
+pub asks_for : (s : State) (caller : ℕ) (c : Cmd) (kind : Kind) → change_in s caller c ≡ Takes kind
+    → asks_of s caller c ≡ handle_slot kind
+asks_for s caller (cmd.HNew d make r) kind takes = ap handle_slot (Takes-injective (kind_of make) kind takes)
+asks_for s caller (cmd.CAdd k v) kind takes =
+    let is = by_needs (needs_new (adding_of s caller k)) kind takes in
+    ap (λ b. cond b (handle_slot Dependent) no_room) is.0 ∙ ap handle_slot is.1
+asks_for s caller c kind takes = cc
+
+pub taken_for : (s : State) (caller : ℕ) (c : Cmd) (kind : Kind) → asks_of s caller c ≡ handle_slot kind
+    → change_in s caller c ≡ Takes kind
+taken_for s caller (cmd.HNew d make r) kind asks = let same : kind_of make ≡ kind = cc in ap Takes same
+taken_for s caller (cmd.CAdd k v) kind asks = by (needs_new (adding_of s caller k)) asks
+  where
+    by : (b : Bool) → cond b (handle_slot Dependent) no_room ≡ handle_slot kind
+        → cond b (Takes Dependent) Adds ≡ Takes kind
+    by true e = let same : Dependent ≡ kind = cc in ap Takes same
+    by false e = cc
+taken_for s caller c kind asks = cc
+
+-- a command that frees a slot is `hfree`, and one that gives a block back is `trim`
+pub is_free : (s : State) (caller : ℕ) (c : Cmd) → change_in s caller c ≡ Frees → (h : ℕ) × (c ≡ cmd.HFree h)
+is_free s caller (cmd.HFree h) frees = (h, refl)
+is_free s caller (cmd.CAdd k v) frees =
+    absurd (add_cases (λ x. x ≡ Frees → ⊥) (needs_new (adding_of s caller k)) (λ _ e. cc) (λ _ e. cc) frees)
+is_free s caller c frees = cc
+
+pub is_trim : (s : State) (caller : ℕ) (kind : Kind) (c : Cmd) → change_in s caller c ≡ GivesBack kind
+    → c ≡ cmd.Trim kind
+is_trim s caller kind (cmd.Trim j) gives = let same : j ≡ kind = cc in ap cmd.Trim same
+is_trim s caller kind (cmd.CAdd k v) gives =
+    absurd (add_cases (λ x. x ≡ GivesBack kind → ⊥) (needs_new (adding_of s caller k)) (λ _ e. cc)
+    (λ _ e. cc) gives)
+is_trim s caller kind c gives = cc
+
+-- ---- whether a slot is live
+
+mapped : {A B : Type 0} (f : A → B) (o : Option A) → is_some (option_map f o) ≡ is_some o
+mapped f None = refl
+mapped f (Some x) = refl
+
+pub same_live : (s t : State) (x : ℕ) → is_some (get t.handles x) ≡ is_some (get s.handles x)
+    → is_some (get t.weak x) ≡ is_some (get s.weak x) → is_live t x ≡ is_live s x
+same_live s t x handles weak = λ i. handles i || weak i
+
+pub neither : {A B : Type 0} (a : Option A) (b : Option B) → (is_some a || is_some b) ≡ false
+    → (a ≡ None) × (b ≡ None)
+neither None None e = (refl, refl)
+neither None (Some c) e = cc
+neither (Some h) b e = cc
+
 module _ (n : Numbers) (s : State) (well : IsWellFormed n s) (e : Entry) (t : State)
     (step : Step n s e t) where
   -- ---- a command that leaves the slots as they are
+
+  -- the same slots are live, and the blocks have the same uses
+  pub record LeavesSlots : Type 0 where
+    pub live : (x : ℕ) → is_live t x ≡ is_live s x
+    pub blocks : t.blocks ≡ s.blocks
+
+  unchanged : t ≡ s → LeavesSlots
+  unchanged same = record {
+    live = λ x. ap (λ (u : State). is_live u x) same;
+    blocks = ap (λ (u : State). u.blocks) same;
+  }
 
   live_stays : (slot : Slot) (c : Cmd) (o : Option (Handle Id)) → HandleChange s e slot c o → change_of c
       ≡ Keeps
@@ -61,30 +158,168 @@ module _ (n : Numbers) (s : State) (well : IsWellFormed n s) (e : Entry) (t : St
   live_stays slot c o (is_freed handle finds replies) keeps = cc
   live_stays slot c o (is_collected reach kept handle live) keeps = sym (ap is_some live)
 
+  weak_stays : (x : ℕ) (c : Cmd) (u : State) → Effect n s e c u → change_of c ≡ Keeps
+      → is_some (get u.weak x) ≡ is_some (get s.weak x)
+  weak_stays x c u (collects did) keeps = ap is_some (did.collects.weak x) ∙ mapped _ (get s.weak x)
+  weak_stays x c u (adds_entry key slot f none may p q) keeps = cc
+  weak_stays x c u (removes_entry key slot has f p) keeps =
+      write_cases s.weak slot.0 (λ o. is_some o ≡ is_some (get s.weak x)) None x
+      (λ same. sym (ap (λ y. is_some (get s.weak y)) same ∙ ap is_some has.held)) refl
+  weak_stays x c u _ keeps = refl
+
   blocks_stay : (c : Cmd) → change_of c ≡ Keeps → (touched_by c).blocks ≡ false
   blocks_stay (cmd.HNew d make r) keeps = cc
   blocks_stay (cmd.Trim kind) keeps = cc
+  blocks_stay (cmd.CAdd k v) keeps = cc
   blocks_stay c keeps = refl
 
-  pub keeps_live : change_of e.cmd ≡ Keeps → (x : ℕ) → is_some (get t.handles x) ≡ is_some (get s.handles x)
-  keeps_live keeps x =
-      let slot : Slot = record { 0 = x } in
-      live_stays slot e.cmd (get t.handles x) (handle_change n s well e slot e.cmd t
-      (effect n s e t step)) keeps
+  kept : change_of e.cmd ≡ Keeps → LeavesSlots
+  kept keeps = record {
+    live = λ x. (
+        let does = effect n s e t step in
+        same_live s t x
+        (live_stays (record { 0 = x }) e.cmd (get t.handles x)
+        (handle_change n s well e (record { 0 = x }) e.cmd t does) keeps)
+        (weak_stays x e.cmd t does keeps));
+    blocks = (untouched_stays n s t e step).blocks (blocks_stay e.cmd keeps);
+  }
 
-  pub keeps_blocks : change_of e.cmd ≡ Keeps → t.blocks ≡ s.blocks
-  keeps_blocks keeps = (untouched_stays n s t e step).blocks (blocks_stay e.cmd keeps)
+  -- so does a `cadd` that needs no slot
+  abbrev Leaving : ℕ → Adding → Type 0
+  Leaving v a =
+      needs_new a ≡ false → TakesWay n s e t (way_of_adding s e.caller v a) → LeavesSlots × (e.grown ≡ Zero)
 
-  -- ---- `hnew`
+  needs_none : (k v : ℕ) → Leaving v (adding_of s e.caller k)
+  needs_none k v =
+      option_cases (Leaving v) (adding_key s) (register_of s e.caller k) _
+      (λ _ _ o. (unchanged o.after, o.grown))
+      (λ key _. option_cases (Leaving v) (λ _. is_refused refusal.Present) (slot_of_key s key) _
+      (λ _. option_cases (Leaving v) (λ slot. in_idle slot key) (idle_slot s) (in_new key) (λ _ needs. cc)
+      (λ slot idle _ o. (
+        record {
+          live = λ x. ap (λ (u : State). is_live u x) o.after
+              ∙ same_live s (with_entry s s e.caller v slot key) x refl
+              (write_cases s.weak slot.0 (λ c. is_some c ≡ is_some (get s.weak x)) _ x
+              (λ same. sym (ap (λ y. is_some (get s.weak y)) same ∙ ap is_some (idle_found s slot idle)))
+              refl);
+          blocks = ap (λ (u : State). u.blocks) o.after;
+        },
+        o.grown,
+      )))
+      (λ _ _ _ o. (unchanged o.after, o.grown)))
 
-  -- a new handle is stored in a slot, and the blocks are these
-  abbrev pub HasNewHandle : ℕ → map.FinMap nat_cmp BlockUse → Type 0
-  HasNewHandle x blocks = (handle : Handle Id) × (t.handles ≡ map.insert s.handles x handle)
-      × (t.blocks ≡ blocks)
+  pub adds_none : (c : Cmd) → change_in s e.caller c ≡ Adds → StepOf n s e t c
+      → LeavesSlots × (e.grown ≡ Zero)
+  adds_none (cmd.CAdd k v) adds does =
+      let needs = needs_new (adding_of s e.caller k) in
+      needs_none k v (add_cases (λ x. x ≡ Adds → needs ≡ false) needs (λ _ e. cc) (λ no _. no) adds) does
+  adds_none c adds does = cc
+
+  pub leaves_slots : LeavesThem (change_in s e.caller e.cmd) → LeavesSlots
+  leaves_slots = at e.cmd kept step.does
+    where
+      at : (c : Cmd) → (change_of c ≡ Keeps → LeavesSlots) → StepOf n s e t c
+          → LeavesThem (change_in s e.caller c) → LeavesSlots
+      at (cmd.HNew d make r) as_kept does leaves = absurd leaves
+      at (cmd.HFree h) as_kept does leaves = absurd leaves
+      at (cmd.Trim kind) as_kept does leaves = absurd leaves
+      at (cmd.CAdd k v) as_kept does leaves =
+          let needs = needs_new (adding_of s e.caller k) in
+          (needs_none k v (add_cases (λ x. LeavesThem x → needs ≡ false) needs (λ _ bad. absurd bad)
+          (λ no _. no) leaves) does).0
+      at c as_kept does leaves = as_kept refl
+
+  -- ---- a command that takes a slot
+
+  -- a slot is live now, no other has changed, and the blocks are these
+  pub record IsNowLive (x : ℕ) (blocks : map.FinMap nat_cmp BlockUse) : Type 0 where
+    pub here : is_live t x ≡ true
+    pub others : (y : ℕ) → y ≢ x → is_live t y ≡ is_live s y
+    pub blocks_are : t.blocks ≡ blocks
+
+  -- a slot of a kind that it may get was taken
+  pub record TakesOne (kind : Kind) : Type 0 where
+    pub slot : Slot
+    pub given : e.slot ≡ Some slot
+    pub may : MayGive n s kind e.grown slot
+    pub done : e.reply ≡ reply.Done
+    pub live : IsNowLive slot.0 (with_growth s kind e.grown).blocks
+
+  with_handle_in : (slot : Slot) (handle : Handle Id) → t.handles ≡ map.insert s.handles slot.0 handle
+      → t.weak ≡ s.weak → IsNowLive slot.0 t.blocks
+  with_handle_in slot handle handles weak = record {
+    here = ap (λ o. is_some o || is_some (get t.weak slot.0))
+        (ap (λ m. get m slot.0) handles ∙ get_inserted s.handles slot.0 handle);
+    others = λ y apart. same_live s t y
+        (ap (λ m. is_some (get m y)) handles ∙ ap is_some (get_beside s.handles slot.0 handle y apart))
+        (ap (λ m. is_some (get m y)) weak);
+    blocks_are = refl;
+  }
+
+  with_entry_in : (slot : Slot) (content : Option (WeakEntry Id)) → t.handles ≡ s.handles
+      → t.weak ≡ map.insert s.weak slot.0 content → IsNowLive slot.0 t.blocks
+  with_entry_in slot content handles weak = record {
+    here = or_right (is_some (get t.handles slot.0)) (is_some (get t.weak slot.0))
+        (ap (λ m. is_some (get m slot.0)) weak ∙ ap is_some (get_inserted s.weak slot.0 content));
+    others = λ y apart. same_live s t y (ap (λ m. is_some (get m y)) handles)
+        (ap (λ m. is_some (get m y)) weak ∙ ap is_some (get_beside s.weak slot.0 content y apart));
+    blocks_are = refl;
+  }
+
+  by_make : (d : ℕ) (make : Make) (r : ℕ) → MakesHandle n s e t d make r → TakesOne (kind_of make)
+  by_make d make r m =
+      let is : t ≡ with_made_parts s e.caller e.grown d make r m.slot =
+      m.after ∙ ap (λ (x : State). with_handle_register
+      (with_handle x m.slot (made_handle s e.caller make r)) e.caller d (Some m.slot))
+      (growth_is s (kind_of make) e.grown) in
+      record {
+        slot = m.slot;
+        given = m.given;
+        may = m.may;
+        done = m.reply;
+        live = subst (IsNowLive m.slot.0) (ap (λ (x : State). x.blocks) is)
+            (with_handle_in m.slot (made_handle s e.caller make r) (ap (λ (x : State). x.handles) is)
+            (ap (λ (x : State). x.weak) is));
+      }
+
+  by_add : (v : ℕ) (key : Id) → AddsEntry n s e t v key → TakesOne Dependent
+  by_add v key a =
+      let is : t ≡ with_entry (record s { blocks = (with_growth s Dependent e.grown).blocks }) s e.caller v
+      a.slot key =
+      a.after ∙ ap (λ x. with_entry x s e.caller v a.slot key) (growth_is s Dependent e.grown) in
+      record {
+        slot = a.slot;
+        given = a.given;
+        may = a.may;
+        done = a.reply;
+        live = subst (IsNowLive a.slot.0) (ap (λ (x : State). x.blocks) is)
+            (with_entry_in a.slot _ (ap (λ (x : State). x.handles) is) (ap (λ (x : State). x.weak) is));
+      }
+
+  abbrev pub TakesOrIsFull : Kind → Type 0
+  TakesOrIsFull kind = TakesOne kind ⊎ FindsTableFull n s e t kind
+
+  in_a_new_slot : (v : ℕ) (a : Adding) → needs_new a ≡ true → TakesWay n s e t (way_of_adding s e.caller v a)
+      → TakesOrIsFull Dependent
+  in_a_new_slot v (is_refused r) needs o = cc
+  in_a_new_slot v (in_idle slot key) needs o = cc
+  in_a_new_slot v (in_new key) needs (inl a) = inl (by_add v key a)
+  in_a_new_slot v (in_new key) needs (inr full) = inr full
+
+  pub takes_or_full : (kind : Kind) (c : Cmd) → change_in s e.caller c ≡ Takes kind → StepOf n s e t c
+      → TakesOrIsFull kind
+  takes_or_full kind (cmd.HNew d make r) takes (inl m) =
+      subst TakesOrIsFull (Takes-injective (kind_of make) kind takes) (inl (by_make d make r m))
+  takes_or_full kind (cmd.HNew d make r) takes (inr full) =
+      subst TakesOrIsFull (Takes-injective (kind_of make) kind takes) (inr full)
+  takes_or_full kind (cmd.CAdd k v) takes does =
+      let is = by_needs (needs_new (adding_of s e.caller k)) kind takes in
+      subst TakesOrIsFull is.1 (in_a_new_slot v (adding_of s e.caller k) is.0 does)
+  takes_or_full kind c takes does = cc
 
   -- an offered slot was taken
   pub record TakesIt (slot : Slot) : Type 0 where
-    pub is_stored : HasNewHandle slot.0 s.blocks
+    pub is_stored : IsNowLive slot.0 s.blocks
     pub grown : e.grown ≡ Zero
     pub reply : e.reply ≡ reply.Done
 
@@ -95,94 +330,93 @@ module _ (n : Numbers) (s : State) (well : IsWellFormed n s) (e : Entry) (t : St
       × (n.blocks < given_of s + blocks_needed kind)
   GrowsBy kind (One block) =
       (is_paired kind ≡ false) × IsLeastUnused n s 1 block
-      × HasNewHandle (block * 64) (map.insert s.blocks block (handles_of kind)) × (e.reply ≡ reply.Done)
+      × IsNowLive (block * 64) (map.insert s.blocks block (handles_of kind)) × (e.reply ≡ reply.Done)
   GrowsBy kind (Two block other) =
       (is_paired kind ≡ true) × IsLeastUnused n s 1 block × IsLeastUnused n s (block + 1) other
-      × HasNewHandle (block * 64) (map.insert (map.insert s.blocks block (handles_of kind)) other extra_data)
+      × IsNowLive (block * 64) (map.insert (map.insert s.blocks block (handles_of kind)) other extra_data)
       × (e.reply ≡ reply.Done)
   GrowsBy kind (Back block) = ⊥
 
-  module _ (d : ℕ) (make : Make) (r : ℕ) where
-    new_handle_in : (slot : Slot) (u : State)
-        → u.handles ≡ map.insert s.handles slot.0 (made_handle s e.caller make r)
-        → t ≡ u → (x : ℕ) → slot.0 ≡ x → HasNewHandle x u.blocks
-    new_handle_in slot u made after x same = (
-      made_handle s e.caller make r,
-      ap (λ (v : State). v.handles) after ∙ made
-          ∙ ap (λ y. map.insert s.handles y (made_handle s e.caller make r)) same,
-      ap (λ (v : State). v.blocks) after,
-    )
-
-    pub takes_it : (slot : Slot) → TakesOffer e (cmd.HNew d make r) slot → StepOf n s e t (cmd.HNew d make r)
-        → TakesIt slot
-    takes_it slot takes (inl m) =
-        let same : m.slot ≡ slot = Some-injective m.slot slot (sym m.given ∙ takes.0) in
-        let is : t ≡ with_made s e.caller Zero d make r m.slot = m.after ∙
-        ap (λ g. with_made s e.caller g d make r m.slot) takes.1 in
-        record {
-          is_stored = new_handle_in m.slot (with_made s e.caller Zero d make r m.slot) refl is slot.0
-              (ap (λ (x : Slot). x.0) same);
-          grown = takes.1;
-          reply = takes.2;
-        }
+  module _ (kind : Kind) where
+    pub takes_it : (slot : Slot) → TakesSlot e slot → TakesOrIsFull kind → TakesIt slot
+    takes_it slot takes (inl m) = record {
+      is_stored = subst (λ x. IsNowLive x s.blocks)
+          (ap (λ (x : Slot). x.0) (Some-injective m.slot slot (sym m.given ∙ takes.0)))
+          (subst (λ g. IsNowLive m.slot.0 (with_growth s kind g).blocks) takes.1 m.live);
+      grown = takes.1;
+      reply = takes.2;
+    }
     takes_it slot takes (inr full) = let clash = sym takes.2 ∙ full.refused.reply in cc
 
-    by_growth : (m : MakesHandle n s e t d make r) (grown : Grown) → e.grown ≡ grown → grown ≢ Zero
-        → MayGive n s (kind_of make) grown m.slot
-        → t ≡ with_made s e.caller grown d make r m.slot
-        → GrowsBy (kind_of make) grown
-    by_growth m Zero is apart may after = absurd (apart refl)
-    by_growth m (One block) is apart may after = (
+    by_growth : (slot : Slot) (grown : Grown) → grown ≢ Zero → MayGive n s kind grown slot
+        → IsNowLive slot.0 (with_growth s kind grown).blocks → e.reply ≡ reply.Done → GrowsBy kind grown
+    by_growth slot Zero apart may live done = absurd (apart refl)
+    by_growth slot (One block) apart may live done = (
       may.0,
       may.1,
-      new_handle_in m.slot (with_made s e.caller (One block) d make r m.slot) refl after (block * 64)
-          (ap (λ (x : Slot). x.0) may.2),
-      m.reply,
+      subst (λ (x : Slot). IsNowLive x.0 (map.insert s.blocks block (handles_of kind))) may.2 live,
+      done,
     )
-    by_growth m (Two block other) is apart may after = (
+    by_growth slot (Two block other) apart may live done = (
       may.0,
       may.1,
       may.2,
-      new_handle_in m.slot (with_made s e.caller (Two block other) d make r m.slot) refl after (block * 64)
-          (ap (λ (x : Slot). x.0) may.3),
-      m.reply,
+      subst (λ (x : Slot). IsNowLive x.0
+          (map.insert (map.insert s.blocks block (handles_of kind)) other extra_data)) may.3 live,
+      done,
     )
-    by_growth m (Back block) is apart may after = may
+    by_growth slot (Back block) apart may live done = may
 
-    pub grows_by : GrowsUnoffered n s (cmd.HNew d make r) None e → StepOf n s e t (cmd.HNew d make r)
-        → GrowsBy (kind_of make) e.grown
-    grows_by grows (inl m) = elim (cases_lt n.blocks (given_of s + blocks_needed (kind_of make))) [
-      | inl few ↦ (let clash = sym m.reply ∙ grows.full few in absurd (cc))
-      | inr enough ↦ by_growth m e.grown refl (grows.grows enough).1 m.may m.after
+    pub grows_by : GrowsOrIsFull n s (blocks_needed kind) e → TakesOrIsFull kind → GrowsBy kind e.grown
+    grows_by grows (inl m) = elim (cases_lt n.blocks (given_of s + blocks_needed kind)) [
+      | inl few ↦ (let clash = sym m.done ∙ grows.full few in absurd (cc))
+      | inr enough ↦ by_growth m.slot e.grown (grows.grows enough).1 m.may m.live m.done
     ]
     grows_by grows (inr full) =
-        subst (GrowsBy (kind_of make)) (sym full.refused.grown)
+        subst (GrowsBy kind) (sym full.refused.grown)
         (full.refused.after, full.refused.reply, full.few)
 
   -- ---- `hfree`
 
+  -- a slot that had a handle is free now
+  pub record IsFreed (slot : Slot) : Type 0 where
+    pub handle : Handle Id
+    pub was : handle_at s slot ≡ Some handle
+    pub here : is_live t slot.0 ≡ false
+    pub others : (y : ℕ) → y ≢ slot.0 → is_live t y ≡ is_live s y
+    pub blocks : t.blocks ≡ s.blocks
+    pub done : e.reply ≡ reply.Done
+
   -- the slot that was freed, if one was
   abbrev pub FreesAt : Option Slot → Type 0
-  FreesAt None = (t.handles ≡ s.handles) × (t.blocks ≡ s.blocks) × (e.reply ≢ reply.Done)
-  FreesAt (Some slot) =
-      (handle : Handle Id) × (handle_at s slot ≡ Some handle)
-      × (t.handles ≡ map.remove s.handles slot.0) × (t.blocks ≡ s.blocks) × (e.reply ≡ reply.Done)
+  FreesAt None = LeavesSlots × (e.reply ≢ reply.Done)
+  FreesAt (Some slot) = IsFreed slot
+
+  not_weak : (x : ℕ) (handle : Handle Id) → get s.handles x ≡ Some handle
+      → (o : Option (Option (WeakEntry Id))) → get s.weak x ≡ o → o ≡ None
+  not_weak x handle live None is = refl
+  not_weak x handle live (Some c) is = let clash = sym live ∙ well.weak.apart x (ap is_some is) in cc
 
   pub frees_at : (h : ℕ) → IsOutcome e (free_handle s e.caller h) t → FreesAt e.slot
   frees_at h o =
       on_handle_cases (λ r. IsOutcome e r t → FreesAt e.slot) s e.caller h _
       (λ _. nothing) (λ _ _ _. nothing)
-      (λ slot handle _ live o. subst FreesAt (sym o.slot) (
-        handle,
-        live,
-        ap (λ (x : State). x.handles) o.after,
-        ap (λ (x : State). x.blocks) o.after,
-        o.reply,
-      )) o
+      (λ slot handle _ live o.
+      let handles = ap (λ (x : State). x.handles) o.after in
+      let weak = ap (λ (x : State). x.weak) o.after in
+      subst FreesAt (sym o.slot) (record {
+        handle = handle;
+        was = live;
+        here = λ i. is_some ((ap (λ m. get m slot.0) handles ∙ get_removed s.handles slot.0) i)
+            || is_some ((ap (λ m. get m slot.0) weak
+            ∙ not_weak slot.0 handle live (get s.weak slot.0) refl) i);
+        others = λ y apart. same_live s t y
+            (ap (λ m. is_some (get m y)) handles ∙ ap is_some (get_left s.handles slot.0 y apart))
+            (ap (λ m. is_some (get m y)) weak);
+        blocks = ap (λ (x : State). x.blocks) o.after;
+        done = o.reply;
+      })) o
     where
       nothing : {r : Refusal} → IsOutcome e (refuses r s) t → FreesAt e.slot
-      nothing o = subst FreesAt (sym o.slot) (
-        ap (λ (x : State). x.handles) o.after,
-        ap (λ (x : State). x.blocks) o.after,
-        (λ says. (let clash = sym o.reply ∙ says in cc)),
-      )
+      nothing o = subst FreesAt (sym o.slot)
+          (unchanged o.after, (λ says. (let clash = sym o.reply ∙ says in cc)))

@@ -1,6 +1,6 @@
 -- A pool that is tied to a state states which slots and blocks are free there.
-use Rattle.std.proofs.Common.{◌≡◌, ℕ, true, false, ◌&&◌, Option, Some, None, refl, sym, ap, ◌∙◌, subst, arith}
-use Rattle.std.specs.Prelude.{is_some, is_none}
+use Rattle.std.proofs.Common.{◌≡◌, ℕ, Bool, true, false, not, ◌&&◌, ◌||◌, Option, Some, None, refl, sym, ap, ◌∙◌, subst, arith}
+use Rattle.std.specs.Prelude.{is_some}
 use Rattle.std.specs.FinMap as map
 use Rattle.std.specs.FinMap.{get, get-empty}
 use Rattle.std.specs.FinSet as set
@@ -9,13 +9,15 @@ use Rattle.std.specs.Ordering.{nat_cmp}
 use Rattle.std.proofs.lemmas.Bool.{and_parts, and_right}
 use Rattle.hd_model.specs.declared.data.Id.{Id}
 use Rattle.hd_model.specs.declared.data.Kind.{Kind}
+use Rattle.hd_model.specs.declared.data.Kind.TheVariants.{Dependent}
 use Rattle.hd_model.specs.declared.data.Slot.{Slot}
 use Rattle.hd_model.specs.State.{Numbers, State, Handle, BlockUse, handles_of, extra_data, use_of, handle_at, block_of, first_slot, start_of, IsFree, IsAllFree}
 use Rattle.hd_model.specs.Run.{IsLeastFree, NoneFree, IsLeastAllFree, NoneAllFree}
 use Rattle.hd_model.proofs.WellFormedSteps.{start_is_well_formed}
 use Rattle.hd_pool.specs.Pool.{FreeSlots, IsFreeFor, IsLeastFreeFor, HasNoneFor, IsWholeOf, IsLeastWholeOf, HasNoWholeOf}
 use Rattle.hd_world.specs.Growth.{kind_in_use}
-use Rattle.hd_gate.specs.Tied.{kind_of_block, IsTied}
+use Rattle.hd_gate.specs.Tied.{kind_of_block, is_live, IsTied}
+use Rattle.hd_gate.proofs.StepLiveSlots.{neither}
 
 -- a use with a kind is that of handles of the kind
 pub use_of_kind : (u : Option BlockUse) (kind : Kind) → kind_in_use u ≡ Some kind → u ≡ Some (handles_of kind)
@@ -23,9 +25,9 @@ use_of_kind None kind e = cc
 use_of_kind (Some extra_data) kind e = cc
 use_of_kind (Some (handles_of k)) kind e = cc
 
-none_there : {A : Type 0} (o : Option A) → is_none o ≡ true → o ≡ None
-none_there None e = refl
-none_there (Some x) e = cc
+not_true : (b : Bool) → not b ≡ true → b ≡ false
+not_true true e = cc
+not_true false e = refl
 
 -- an empty pool is tied to the first state
 pub tied_at_start : (n : Numbers) (s : State) (p : FreeSlots) → s ≡ start_of n → p ≡ record
@@ -36,7 +38,7 @@ tied_at_start n s p begins is = subst (λ (x : State). IsTied n x p) (sym begins
   kinds = λ block. ap (λ (q : FreeSlots). get q.kinds block) is ∙ get-empty nat_cmp block ∙ ap kind_in_use
       (sym (get-empty nat_cmp block));
   free = λ slot. ap (λ (q : FreeSlots). contains q.free slot.0) is ∙ contains-empty nat_cmp slot.0
-      ∙ sym (and_right (is_none (handle_at (start_of n) slot))
+      ∙ sym (and_right (not (is_live (start_of n) slot.0))
       (is_some (kind_of_block (start_of n) (block_of slot)))
       (ap (λ u. is_some (kind_in_use u)) (get-empty nat_cmp (block_of slot))));
   well_formed = start_is_well_formed n;
@@ -46,18 +48,21 @@ module _ (n : Numbers) (s : State) (p : FreeSlots) (tied : IsTied n s p) where
   -- a slot is free in the pool exactly where it is free in the state
   pub in_pool : (kind : Kind) (slot : Slot) → IsFree s kind slot → IsFreeFor p kind slot
   in_pool kind slot free =
-      let of_kind : kind_of_block s (block_of slot) ≡ Some kind = ap kind_in_use free.1 in (
-        tied.free slot ∙ ap (λ o. is_none o && is_some (kind_of_block s (block_of slot))) free.0 ∙ ap is_some
-            of_kind,
+      let of_kind : kind_of_block s (block_of slot) ≡ Some kind = ap kind_in_use free.of_kind in (
+        tied.free slot ∙ (λ i. not (is_some (free.no_handle i) || is_some (free.not_weak i))
+            && is_some (of_kind i)),
         tied.kinds (block_of slot) ∙ of_kind,
       )
 
   pub in_state : (kind : Kind) (slot : Slot) → IsFreeFor p kind slot → IsFree s kind slot
   in_state kind slot free =
-      let parts = and_parts _ _ (sym (tied.free slot) ∙ free.0) in (
-        none_there (handle_at s slot) parts.0,
-        use_of_kind (use_of s (block_of slot)) kind (sym (tied.kinds (block_of slot)) ∙ free.1),
-      )
+      let parts = and_parts _ _ (sym (tied.free slot) ∙ free.0) in
+      let none = neither (get s.handles slot.0) (get s.weak slot.0) (not_true (is_live s slot.0) parts.0) in
+      record {
+        no_handle = none.0;
+        not_weak = none.1;
+        of_kind = use_of_kind (use_of s (block_of slot)) kind (sym (tied.kinds (block_of slot)) ∙ free.1);
+      }
 
   pub least_in_state : (kind : Kind) (slot : Slot) → IsLeastFreeFor p kind slot → IsLeastFree s kind slot
   least_in_state kind slot h = record {
@@ -101,7 +106,7 @@ module _ (n : Numbers) (s : State) (p : FreeSlots) (tied : IsTied n s p) where
   pub live_not_free : (slot : Slot) (handle : Handle Id) → handle_at s slot ≡ Some handle → contains p.free
       slot.0 ≡ false
   live_not_free slot handle live = tied.free slot ∙ ap
-      (λ o. is_none o && is_some (kind_of_block s (block_of slot))) live
+      (λ o. not (is_some o || is_some (get s.weak slot.0)) && is_some (kind_of_block s (block_of slot))) live
 
   pub live_added : (slot : Slot) (handle : Handle Id) → handle_at s slot ≡ Some handle → get p.kinds
       (block_of slot) ≡ Some handle.kind
@@ -109,13 +114,19 @@ module _ (n : Numbers) (s : State) (p : FreeSlots) (tied : IsTied n s p) where
       (tied.well_formed.handles.kinds slot.0 handle live)
 
   -- no slot of a block without a use is live
-  pub unused_not_live : (block : ℕ) → use_of s block ≡ None → (slot : Slot) → block_of slot ≡ block →
-      handle_at s slot ≡ None
-  unused_not_live block unused slot of_block = at (handle_at s slot) refl
+  unused_apart : (block : ℕ) (kind : Kind) (slot : Slot) → use_of s block ≡ None → block_of slot ≡ block
+      → use_of s (block_of slot) ≡ Some (handles_of kind) → ⊥
+  unused_apart block kind slot unused of_block used =
+      let clash : None ≡ Some (handles_of kind) = sym unused ∙ ap (use_of s) (sym of_block) ∙ used in cc
+
+  pub unused_not_live : (block : ℕ) → use_of s block ≡ None → (slot : Slot) → block_of slot ≡ block
+      → is_live s slot.0 ≡ false
+  unused_not_live block unused slot of_block =
+      λ i. none (get s.handles slot.0) (λ handle is. unused_apart block handle.kind slot unused of_block
+      (tied.well_formed.handles.kinds slot.0 handle is)) i
+      || none (get s.weak slot.0) (λ content is. unused_apart block Dependent slot unused of_block
+      (tied.well_formed.weak.kinds slot.0 (ap is_some is))) i
     where
-      at : (o : Option (Handle Id)) → handle_at s slot ≡ o → o ≡ None
-      at None is = refl
-      at (Some handle) is =
-          let used : None ≡ Some (handles_of handle.kind) = sym unused ∙ ap (use_of s) (sym of_block) ∙
-          tied.well_formed.handles.kinds slot.0 handle is in
-          cc
+      none : {A : Type 0} (o : Option A) → ((x : A) → o ≡ Some x → ⊥) → is_some o ≡ false
+      none None apart = refl
+      none (Some x) apart = absurd (apart x refl)

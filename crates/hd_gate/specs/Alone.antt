@@ -2,17 +2,15 @@
 use Rattle.std.specs.Prelude.{◌≡◌, ◌↔◌, ℕ, ◌+◌, ◌<◌, [], ◌∷◌, ◌++◌}
 use Rattle.hd_model.specs.declared.data.Entry.{Entry}
 use Rattle.hd_model.specs.declared.data.Kind.{Kind}
-use Rattle.hd_model.specs.declared.data.Make.{Make}
 use Rattle.hd_model.specs.declared.data.Reply.{Reply}
 use Rattle.hd_model.specs.declared.data.Refusal.TheVariants as refusal
 use Rattle.hd_model.specs.declared.data.Reply.TheVariants as reply
 use Rattle.hd_model.specs.declared.command.Cmd.{Cmd}
 use Rattle.hd_model.specs.declared.command.Cmd.TheVariants as cmd
 use Rattle.hd_model.specs.State.{given_of}
-use Rattle.hd_model.specs.Kinds.{kind_of}
 use Rattle.hd_model.specs.Step.{blocks_needed}
 use Rattle.hd_model.specs.Run.{SoloStep, NoneFree, NoneAllFree}
-use Rattle.hd_world.specs.World.{WorldView}
+use Rattle.hd_world.specs.World.{WorldView, handle_slot, asks_of}
 
 -- a call that was done: its entry is the one more in the journal, and a step of one thread
 pub record HasCalled (old new : WorldView) (caller : ℕ) (command : Cmd) (answer : Reply) : Type 0 where
@@ -25,13 +23,13 @@ pub record HasCalled (old new : WorldView) (caller : ℕ) (command : Cmd) (answe
   pub numbers : new.numbers ≡ old.numbers
   pub spare : new.spare + 1 ≡ old.spare
 
--- `hnew` finds the table full exactly where no slot of its kind is free and fewer blocks are without a use
--- than the kind needs
-abbrev pub FindsFullExactly : WorldView → Cmd → Reply → Type 0
-FindsFullExactly w command answer =
-    (d : ℕ) (make : Make) (t : ℕ) → command ≡ cmd.HNew d make t
+-- a command that needs a slot finds the table full exactly where no slot of its kind is free and fewer blocks
+-- are without a use than the kind needs
+abbrev pub FindsFullExactly : WorldView → ℕ → Cmd → Reply → Type 0
+FindsFullExactly w caller command answer =
+    (kind : Kind) → asks_of w.state caller command ≡ handle_slot kind
     → (answer ≡ reply.Refused (refusal.TableFull (given_of w.state)))
-    ↔ (NoneFree w.state (kind_of make) × (w.numbers.blocks < given_of w.state + blocks_needed (kind_of make)))
+    ↔ (NoneFree w.state kind × (w.numbers.blocks < given_of w.state + blocks_needed kind))
 
 -- `trim` returns 0 exactly where no block of its kind has all its slots free, and else 1
 pub record TrimsExactly (w : WorldView) (command : Cmd) (answer : Reply) : Type 0 where

@@ -1,10 +1,11 @@
 -- What the gate of one thread does to its pool of free slots, command by command.
-use Rattle.std.specs.Prelude.{◌≡◌, ℕ, ◌≤◌, false, Option, Some, None, IsSome}
+use Rattle.std.specs.Prelude.{◌≡◌, ℕ, ◌≤◌, false, cond, Option, Some, None, IsSome}
 use Rattle.std.specs.FinMap.{get}
 use Rattle.std.specs.FinMap as map
 use Rattle.std.specs.FinSet.{contains}
 use Rattle.std.specs.FinSet as set
 use Rattle.hd_model.specs.declared.data.Kind.{Kind}
+use Rattle.hd_model.specs.declared.data.Kind.TheVariants as kinds
 use Rattle.hd_model.specs.declared.data.Slot.{Slot}
 use Rattle.hd_model.specs.declared.data.Grown.{Grown}
 use Rattle.hd_model.specs.declared.data.Grown.TheVariants.{Zero, One, Two, Back}
@@ -12,14 +13,15 @@ use Rattle.hd_model.specs.declared.command.Cmd.{Cmd}
 use Rattle.hd_model.specs.declared.class.Class.{Class}
 use Rattle.hd_model.specs.declared.class.Class.TheVariants as class
 use Rattle.hd_model.specs.Class.{class_of}
-use Rattle.hd_model.specs.State.{block_of, first_slot}
+use Rattle.hd_model.specs.State.{State, block_of, first_slot}
 use Rattle.hd_model.specs.Kinds.{kind_of}
 use Rattle.hd_pool.specs.Pool.{FreeSlots, slots_of, IsLeastFreeFor, HasNoneFor, IsWhole, IsLeastWholeOf, HasNoWholeOf}
 use Rattle.hd_gate.specs.declared.change.Change.{Change}
-use Rattle.hd_gate.specs.declared.change.Change.TheVariants.{Takes, Frees, GivesBack, Keeps}
+use Rattle.hd_world.specs.World.{needs_slot}
+use Rattle.hd_gate.specs.declared.change.Change.TheVariants.{Takes, Adds, Frees, GivesBack, Keeps}
 
--- what a command of a class does to the free slots: `hnew` takes one of its kind, `hfree` frees one, and
--- `trim` gives a whole block of its kind back
+-- what a command of a class does to the free slots: `hnew` takes one of its kind, `cadd` may take one,
+-- `hfree` frees one, and `trim` gives a whole block of its kind back
 abbrev pub change_by : Class → Change
 change_by (class.MakesObject fields) = Keeps
 change_by (class.TakesSlot make t) = Takes (kind_of make)
@@ -29,10 +31,16 @@ change_by class.Frees = Frees
 change_by (class.GivesBack kind) = GivesBack kind
 change_by (class.Collects n) = Keeps
 change_by (class.AnswersPlace h) = Keeps
+change_by (class.AddsEntry k v) = Adds
+change_by (class.LooksUp k) = Keeps
 change_by class.Plain = Keeps
 
 abbrev pub change_of : Cmd → Change
 change_of c = change_by (class_of c)
+
+-- what it does in a state: a `cadd` that needs a slot takes one of kind dependent, and any other takes none
+abbrev pub change_in : State → ℕ → Cmd → Change
+change_in s caller c = cond (needs_slot s caller c) (Takes kinds.Dependent) (change_of c)
 
 -- what is offered from a pool p, which is q then: the least free slot of the kind, or the first slot of the
 -- least block of the kind whose slots are all free
@@ -40,6 +48,7 @@ abbrev pub Offers : FreeSlots → FreeSlots → Change → Option Slot → Type 
 Offers p q (Takes kind) None = HasNoneFor p kind × (q ≡ p)
 Offers p q (Takes kind) (Some slot) = IsLeastFreeFor p kind slot ×
     (q ≡ record p { free = set.remove p.free slot.0 })
+Offers p q Adds o = (o ≡ None) × (q ≡ p)
 Offers p q Frees o = (o ≡ None) × (q ≡ p)
 Offers p q (GivesBack kind) None = HasNoWholeOf p kind × (q ≡ p)
 Offers p q (GivesBack kind) (Some slot) = (slot ≡ first_slot (block_of slot)) × IsLeastWholeOf p kind
@@ -68,6 +77,7 @@ noted q (Takes kind) slot Zero = q
 noted q (Takes kind) slot (One block) = grown_by q kind block
 noted q (Takes kind) slot (Two block other) = grown_by q kind block
 noted q (Takes kind) slot (Back block) = q
+noted q Adds slot grown = q
 noted q Frees None grown = q
 noted q Frees (Some slot) grown = record q { free = set.insert q.free slot.0 }
 noted q (GivesBack kind) slot Zero = q
@@ -99,6 +109,7 @@ MayNote q (Takes kind) slot Zero = Unit {0}
 MayNote q (Takes kind) slot (One block) = MayGrow q kind block
 MayNote q (Takes kind) slot (Two block other) = MayGrow q kind block
 MayNote q (Takes kind) slot (Back block) = Unit {0}
+MayNote q Adds slot grown = Unit {0}
 MayNote q Frees None grown = Unit {0}
 MayNote q Frees (Some slot) grown = MayPut q slot
 MayNote q (GivesBack kind) slot Zero = Unit {0}

@@ -19,8 +19,8 @@ use Rattle.hd_custody.specs.Misses.{WholeMiss}
 use Rattle.hd_custody.specs.Views.{Named}
 use Rattle.hd_world.specs.World.{Asks, object_room, handle_slot, block_back, no_room, asks_of, FitsHeap}
 use Rattle.hd_gate.specs.declared.change.Change.{Change}
-use Rattle.hd_gate.specs.declared.change.Change.TheVariants.{Takes, Frees, GivesBack, Keeps}
-use Rattle.hd_gate.specs.Change.{change_of}
+use Rattle.hd_gate.specs.declared.change.Change.TheVariants.{Takes, Adds, Frees, GivesBack, Keeps}
+use Rattle.hd_gate.specs.Change.{change_in}
 
 -- of the last call that looked for slots or released one: the steps on the shared words, how many such calls
 -- there were, and whether the caller held no slot as that one began
@@ -87,8 +87,8 @@ pub record OwnSweep (kind : Kind) (blocks : ℕ) (old new : SearchView) : Type 0
   pub ended : follow (kind_number kind) blocks (sweep 0) new.trace ≡ missed
   pub none : ShowsNone (kind_number kind) new.trace
 
--- `hnew` grows the table, or finds it full, only on a miss of its own; and it finds it full only where fewer
--- blocks are without a use than the kind needs
+-- a command that needs a slot grows the table, or finds it full, only on a miss of its own; and it finds it
+-- full only where fewer blocks are without a use than the kind needs
 pub record GrowsOnMiss (kind : Kind) (blocks : ℕ) (old new : SearchView) (e : Entry) : Type 0 where
   pub grows : e.grown ≢ Zero → OwnMiss kind blocks old new
   pub full : (given : ℕ) → e.reply ≡ reply.Refused (refusal.TableFull given) → OwnMiss kind blocks old new
@@ -118,10 +118,11 @@ pub record ReleasesOne (before : State) (blocks : ℕ) (old new : SearchView) (e
   pub done : e.reply ≡ reply.Done → OwnRelease before blocks old new e
   pub refused : e.reply ≢ reply.Done → new ≡ old
 
--- how often it looked for slots or released one, at a step from the state `before`: `hnew` and `trim` look
--- once, and other commands than these and `hfree` do neither
+-- how often it looked for slots or released one, at a step from the state `before`: `hnew`, a `cadd` that
+-- needs a slot and `trim` look once, and other commands than these and `hfree` do neither
 abbrev pub SlotCalls : Change → State → ℕ → SearchView → SearchView → Entry → Type 0
 SlotCalls (Takes kind) before blocks old new e = OwnSteps old new
+SlotCalls Adds before blocks old new e = new ≡ old
 SlotCalls Frees before blocks old new e = ReleasesOne before blocks old new e
 SlotCalls (GivesBack kind) before blocks old new e = OwnSteps old new
 SlotCalls Keeps before blocks old new e = new ≡ old
@@ -151,5 +152,7 @@ pub record HasDone (old new : CallerView) (command : Cmd) (answer : Reply) : Typ
   pub answer_is : entry.reply ≡ answer
   pub part : new.part ≡ old.part ++ entry ∷ []
   pub room : new.room + 1 ≡ old.room
-  pub looked_for : LookedFor (asks_of command) old.numbers.blocks old.search new.search entry
-  pub slot_calls : SlotCalls (change_of command) found.state old.numbers.blocks old.search new.search entry
+  pub looked_for : LookedFor (asks_of found.state old.number command) old.numbers.blocks
+      old.search new.search entry
+  pub slot_calls : SlotCalls (change_in found.state old.number command) found.state old.numbers.blocks
+      old.search new.search entry

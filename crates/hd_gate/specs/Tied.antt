@@ -1,10 +1,10 @@
 -- How a pool is tied to the state of a world.
-use Rattle.std.specs.Prelude.{◌≡◌, ℕ, ◌&&◌, Bool, Option, is_some, is_none}
+use Rattle.std.specs.Prelude.{◌≡◌, ℕ, ◌&&◌, ◌||◌, Bool, not, Option, is_some}
 use Rattle.std.specs.FinMap.{get}
 use Rattle.std.specs.FinSet.{contains}
 use Rattle.hd_model.specs.declared.data.Kind.{Kind}
 use Rattle.hd_model.specs.declared.data.Slot.{Slot}
-use Rattle.hd_model.specs.State.{Numbers, State, use_of, handle_at, block_of}
+use Rattle.hd_model.specs.State.{Numbers, State, use_of, block_of}
 use Rattle.hd_model.specs.WellFormed.{IsWellFormed}
 use Rattle.hd_pool.specs.Pool.{FreeSlots}
 use Rattle.hd_world.specs.Growth.{kind_in_use}
@@ -13,9 +13,13 @@ use Rattle.hd_world.specs.Growth.{kind_in_use}
 abbrev pub kind_of_block : State → ℕ → Option Kind
 kind_of_block s block = kind_in_use (use_of s block)
 
--- whether a slot is free: it holds no handle, and its block has handles of some kind
+-- whether a slot is live: it has a handle, or the weak table holds it
+abbrev pub is_live : State → ℕ → Bool
+is_live s x = is_some (get s.handles x) || is_some (get s.weak x)
+
+-- whether a slot is free: it is not live, and its block has handles of some kind
 abbrev pub is_free : State → Slot → Bool
-is_free s slot = is_none (handle_at s slot) && is_some (kind_of_block s (block_of slot))
+is_free s slot = not (is_live s slot.0) && is_some (kind_of_block s (block_of slot))
 
 -- the pool has the blocks of handles with their kinds, and the slots that are free in the state
 pub record IsTied (n : Numbers) (s : State) (p : FreeSlots) : Type 0 where

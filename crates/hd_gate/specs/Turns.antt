@@ -1,9 +1,11 @@
 -- What a turn does: what the world under the gate is after it, and what its seat is.
-use Rattle.std.specs.Prelude.{◌≡◌, ℕ, ◌≤◌, Option, Some, None, option_map, IsTrue}
+use Rattle.std.specs.Prelude.{◌≡◌, ◌↔◌, ℕ, ◌+◌, ◌≤◌, Bool, true, false, Option, Some, None, option_map, IsTrue, IsNone, IfSome}
 use Rattle.hd_model.specs.declared.data.Entry.{Entry}
 use Rattle.hd_model.specs.declared.data.Grown.{Grown}
 use Rattle.hd_model.specs.declared.data.Grown.TheVariants.{Zero, One, Two, Back}
 use Rattle.hd_model.specs.declared.data.Kind.{Kind}
+use Rattle.hd_model.specs.declared.data.Kind.TheVariants.{Dependent}
+use Rattle.hd_model.specs.declared.held.Held.{Ghosts}
 use Rattle.hd_model.specs.declared.data.Reply.{Reply}
 use Rattle.hd_model.specs.declared.data.Slot.{Slot}
 use Rattle.hd_model.specs.declared.limits.TheConstants.{BLOCKS}
@@ -15,8 +17,9 @@ use Rattle.hd_model.specs.Valid.{IsValid, takes_memory}
 use Rattle.hd_world.specs.Applied.{Applied}
 use Rattle.hd_world.specs.World.{WorldView, RanOut}
 use Rattle.hd_custody.specs.declared.view.View.{View}
-use Rattle.hd_custody.specs.Views.{Named, Known, numbers_of, granted, closed}
-use Rattle.hd_custody.specs.Calls.{Releases}
+use Rattle.hd_custody.specs.Views.{Named, Known, numbers_of, granted, closed, Fresh, KindIs}
+use Rattle.hd_custody.specs.Calls.{slot_number, Allocates, Releases}
+use Rattle.hd_custody.specs.Misses.{WholeMiss}
 use Rattle.hd_world.specs.Growth.{kind_in_use}
 use Rattle.hd_gate.specs.Shared.{SearchView, CallerView, HadRoom, HasDone}
 use Rattle.hd_gate.specs.Idle.{IsIdle}
@@ -70,6 +73,19 @@ pub record Stepped (u w : WorldView) (caller : ℕ) (command : Cmd) (offer : Opt
 pub record WantsMemory (u w : WorldView) (command : Cmd) : Type 0 where
   pub out : RanOut u.numbers u.state command u w
   pub run : Run u.numbers u.journal u.state
+
+-- a slot of kind dependent was looked for: the one found is free in the world under the gate, and none was
+-- found only after a whole miss
+pub record Looked {W : Type 0} (m : Ghosts W) (blocks : ℕ) (o : Option Slot) (v w : View W) : Type 0 where
+  pub done : Allocates (kind_number Dependent) blocks (slot_number o) v w
+  pub none : IsNone o ↔ WholeMiss (kind_number Dependent) blocks w.trace
+  pub fresh : IfSome o (λ slot. Fresh m v slot.0)
+  pub of_kind : IfSome o (λ slot. KindIs m v (block_of slot) (kind_number Dependent + 1))
+
+-- it was looked for where it is needed
+abbrev pub LooksWhere : {W : Type 0} → Ghosts W → Bool → ℕ → Option Slot → View W → View W → Type 0
+LooksWhere m true blocks o v w = Looked m blocks o v w
+LooksWhere m false blocks o v w = (o ≡ None) × (w ≡ v)
 
 -- the seat once the words know by which blocks the table grew for the kind with number k
 abbrev pub with_grown : {W : Type 0} → ℕ → Grown → View W → View W

@@ -4,7 +4,7 @@ ghost use Rattle.hd_model.specs.Valid.{IsValid, takes_memory};
 ghost use Rattle.hd_world.specs.World.{FitsHeap};
 ghost use Rattle.hd_gate.specs.Alone.{HasCalled, FindsFullExactly, TrimsExactly};
 
-use crate::change::{note, offer};
+use crate::change::{change_in, note, offer};
 use crate::step::step;
 use hd_model::{Cmd, Memory, Reply};
 use hd_pool::Pool;
@@ -47,23 +47,24 @@ impl Alone {
     }
 
     /// Does a command of a caller, and returns its reply. A new handle takes the least free slot of
-    /// its kind, and the table grows only where there is none; `trim` gives back the least block
-    /// of its kind whose slots are all free.
+    /// its kind, and so does a `cadd` that needs a slot, as of kind dependent; the table grows only
+    /// where there is none. `trim` gives back the least block of its kind whose slots are all free.
     pub fn call(&mut self, caller: u32, cmd: Cmd) -> Result<Reply, Memory>
         requires room { 1 ≤ self.old.spare }
         requires caller { caller < self.old.numbers.callers }
         requires valid { IsValid cmd }
         ensures done { IfOk result (HasCalled self.old self.new caller cmd) }
-        ensures full { IfOk result (FindsFullExactly self.old cmd) }
+        ensures full { IfOk result (FindsFullExactly self.old caller cmd) }
         ensures trims { IfOk result (TrimsExactly self.old cmd) }
         // Out of memory comes for commands that may take it. A full heap is reported first.
         ensures memory { OnErr result (IsTrue (takes_memory cmd)) }
         ensures fits { OnErr result (FitsHeap self.old.numbers self.old.state cmd) }
         ensures unchanged { OnErr result (self.new ≡ self.old) }
     {
-        let offered = offer(&mut self.pool, cmd);
+        let change = change_in(&self.world, caller, cmd);
+        let offered = offer(&mut self.pool, change);
         let entry = step(&mut self.world, caller, cmd, offered)?;
-        note(&mut self.pool, &entry);
+        note(&mut self.pool, change, &entry);
         Ok(entry.reply)
     }
 

@@ -1,6 +1,7 @@
-ghost use Rattle.std.specs.Prelude.{◌≡◌, IfOk, MatchResult};
+ghost use Rattle.std.specs.Prelude.{◌≡◌, ◌<◌, IfOk, MatchResult};
+ghost use Rattle.hd_model.specs.Valid.{IsValid};
 ghost use Rattle.hd_gate.specs.Turns.{Stepped, WantsMemory};
-ghost use Rattle.hd_world.specs.World.{MayApply};
+ghost use Rattle.hd_world.specs.World.{MayApply, needs_slot};
 
 use crate::step::step;
 use hd_model::{Cmd, Entry, Held, Memory, Slot};
@@ -59,6 +60,14 @@ impl Boxed {
             (λ _. WantsMemory self.old self.new cmd) }
     {
         step(&mut self.inside, caller, cmd, offer)
+    }
+
+    pub(crate) fn needs_slot(&self, caller: u32, cmd: Cmd) -> bool
+        requires caller { caller < self.now.numbers.callers }
+        requires valid { IsValid cmd }
+        ensures { result ≡ needs_slot self.now.state caller cmd }
+    {
+        self.inside.needs_slot(caller, cmd)
     }
 
     pub(crate) fn into_inner(self) -> World

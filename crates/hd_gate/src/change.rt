@@ -1,15 +1,19 @@
-ghost use Rattle.std.specs.Prelude.{◌≡◌};
-ghost use Rattle.hd_gate.specs.Change.{change_of, Offers, noted, MayNote, grown_by, MayGrow};
+ghost use Rattle.std.specs.Prelude.{◌≡◌, ◌<◌};
+ghost use Rattle.hd_model.specs.Valid.{IsValid};
+ghost use Rattle.hd_gate.specs.Change.{change_of, change_in, Offers, noted, MayNote, grown_by, MayGrow};
 
 use hd_model::limits::ROWS;
 use hd_model::{Class, Cmd, Entry, Grown, Kind, Slot};
 use hd_pool::Pool;
+use hd_world::World;
 
 // What a command does to the free slots.
 #[derive(Clone, Copy)]
 pub(crate) enum Change {
     // It takes one of a kind.
     Takes(Kind),
+    // It takes one for the weak table, where no slot of that is idle.
+    Adds,
     // It frees one.
     Frees,
     // It gives a block of a kind back, all of whose slots are free.
@@ -24,6 +28,7 @@ pub(crate) fn change_of(cmd: Cmd) -> Change
 {
     match cmd.class() {
         Class::TakesSlot { make, .. } => Change::Takes(make.kind()),
+        Class::AddsEntry { .. } => Change::Adds,
         Class::Frees => Change::Frees,
         Class::GivesBack(kind) => Change::GivesBack(kind),
         Class::MakesObject(_)
@@ -31,29 +36,44 @@ pub(crate) fn change_of(cmd: Cmd) -> Change
         | Class::StoresSecondary { .. }
         | Class::Collects(_)
         | Class::AnswersPlace { .. }
+        | Class::LooksUp { .. }
         | Class::Plain => Change::Keeps,
     }
 }
 
-/// What is offered to a command: to `hnew` the least free slot of its kind, which the pool has no
-/// more, and to `trim` the first slot of the least block of its kind whose slots are all free.
-pub(crate) fn offer(pool: &mut Pool, cmd: Cmd) -> Option<Slot>
-    ensures { Offers pool.old pool.new (change_of cmd) result }
+/// What it does in a world, where a `cadd` takes a slot or needs none.
+pub(crate) fn change_in(world: &World, caller: u32, cmd: Cmd) -> Change
+    requires caller { caller < world.now.numbers.callers }
+    requires valid { IsValid cmd }
+    ensures { result ≡ change_in world.now.state caller cmd }
 {
-    match change_of(cmd) {
+    if world.needs_slot(caller, cmd) {
+        Change::Takes(Kind::Dependent)
+    } else {
+        change_of(cmd)
+    }
+}
+
+/// What is offered to a command: to one that takes a slot the least free one of its kind, which the
+/// pool has no more, and to `trim` the first slot of the least block of its kind whose slots are
+/// all free.
+pub(crate) fn offer(pool: &mut Pool, change: Change) -> Option<Slot>
+    ensures { Offers pool.old pool.new change result }
+{
+    match change {
         Change::Takes(kind) => pool.take(kind),
         Change::GivesBack(kind) => pool.whole(kind).map(|block| Slot(block * ROWS)),
-        Change::Frees | Change::Keeps => None,
+        Change::Adds | Change::Frees | Change::Keeps => None,
     }
 }
 
 /// Takes note of an entry that took what was offered: a block by which the table grew is added, and
 /// its first slot taken; a freed slot is put back; a block that was given back is dropped.
-pub(crate) fn note(pool: &mut Pool, entry: &Entry)
-    requires { MayNote pool.old (change_of entry.now.cmd) entry.now.slot entry.now.grown }
-    ensures { pool.new ≡ noted pool.old (change_of entry.now.cmd) entry.now.slot entry.now.grown }
+pub(crate) fn note(pool: &mut Pool, change: Change, entry: &Entry)
+    requires { MayNote pool.old change entry.now.slot entry.now.grown }
+    ensures { pool.new ≡ noted pool.old change entry.now.slot entry.now.grown }
 {
-    match (change_of(entry.cmd), entry.grown, entry.slot) {
+    match (change, entry.grown, entry.slot) {
         (Change::Takes(kind), Grown::One(block) | Grown::Two(block, _), _) => {
             grow(pool, kind, block);
         }
@@ -62,7 +82,7 @@ pub(crate) fn note(pool: &mut Pool, entry: &Entry)
         (Change::Takes(_), Grown::Zero | Grown::Back(_), _)
         | (Change::Frees, _, None)
         | (Change::GivesBack(_), Grown::Zero | Grown::One(_) | Grown::Two(..), _)
-        | (Change::Keeps, _, _) => {}
+        | (Change::Adds | Change::Keeps, _, _) => {}
     }
 }
 

@@ -91,9 +91,9 @@ impl Shared {
 
     /// Does a command of a caller, and returns its reply: that of a step of the machine from the
     /// state that the caller found under the gate. `hnew` looks once for a slot, before it waits
-    /// for the gate, and the table grows, or is found full, only where it found none; `hfree`
-    /// releases the slot once it has left the gate; `trim` first looks once for a block whose slots
-    /// are all free.
+    /// for the gate, and the table grows, or is found full, only where it found none; so does a
+    /// `cadd` that needs a slot, but with the gate; `hfree` releases the slot once it has left the
+    /// gate; `trim` first looks once for a block whose slots are all free.
     pub fn call<R: Wait>(&self, rt: &R, caller: &mut Caller, cmd: Cmd) -> Result<Reply, Memory>
         requires caller { IsCallerOf self.now caller.old }
         requires room { 1 ≤ caller.old.room }

@@ -6,8 +6,8 @@ ghost use Rattle.hd_model.specs.Valid.{takes_memory};
 ghost use Rattle.hd_custody.specs.Counts.{Has, HasAs};
 ghost use Rattle.hd_custody.specs.Views.{GrowsByBlocks, MayGrant, handle_block, extra_block};
 ghost use Rattle.hd_gate.specs.Change.{change_of};
-ghost use Rattle.hd_gate.specs.declared.change.Change.TheVariants.{Takes, Frees, GivesBack, Keeps};
-ghost use Rattle.hd_gate.specs.Turns.{MayTurn, Turned, Stayed, Stepped, with_grown, without_gathered, freed_in, ReleasesFreed};
+ghost use Rattle.hd_gate.specs.declared.change.Change.TheVariants.{Takes, Adds, Frees, GivesBack, Keeps};
+ghost use Rattle.hd_gate.specs.Turns.{MayTurn, Turned, Stayed, Stepped, LooksWhere, with_grown, without_gathered, freed_in, ReleasesFreed};
 ghost use Rattle.hd_world.specs.World.{MayApply};
 
 use crate::boxed::Boxed;
@@ -31,6 +31,7 @@ pub(crate) fn turn<R: Wait>(
 {
     match change_of(cmd) {
         Change::Takes(kind) => Ok(make(custody, rt, seat, number, cmd, kind)),
+        Change::Adds => Ok(add(custody, rt, seat, number, cmd)),
         Change::Frees => Ok(free(custody, rt, seat, number, cmd)),
         Change::GivesBack(kind) => Ok(trim(custody, rt, seat, number, cmd, kind)),
         Change::Keeps => plainly(custody, rt, seat, number, cmd),
@@ -78,6 +79,42 @@ fn make<R: Wait>(
     grow(custody, seat, kind, entry.grown);
     custody.leave(seat, world);
     entry.reply
+}
+
+// `cadd`: whether it needs a slot is asked with the gate. Where it does, one is looked for then;
+// where none was found, the table may grow.
+fn add<R: Wait>(
+    custody: &Custody<Boxed>,
+    rt: &R,
+    seat: &mut Seat<Boxed>,
+    number: u32,
+    cmd: Cmd,
+) -> Reply
+    requires turn { MayTurn custody.now seat.old number cmd }
+    requires adds { change_of cmd ≡ Adds }
+    ensures { Turned seat.old seat.new number cmd result }
+{
+    let mut world = custody.enter(rt, seat);
+    let needs = world.needs_slot(number, cmd);
+    let offer = look(custody, seat, needs);
+    let entry = step_surely(&mut world, number, cmd, offer);
+    grow(custody, seat, Kind::Dependent, entry.grown);
+    custody.leave(seat, world);
+    entry.reply
+}
+
+// Looks for a slot of kind dependent, where one is needed.
+fn look(custody: &Custody<Boxed>, seat: &mut Seat<Boxed>, needs: bool) -> Option<Slot>
+    requires seat { seat.old.table ≡ custody.now.table }
+    ensures table { seat.new.table ≡ seat.old.table }
+    ensures looked { let held = ⟦<Boxed as Held>⟧ in let blocks = custody.now.blocks in
+        LooksWhere held needs blocks result seat.old.view seat.new.view }
+{
+    if needs {
+        custody.allocate(seat, Kind::Dependent)
+    } else {
+        None
+    }
 }
 
 // `hfree`: the slot is released after the gate.

@@ -71,6 +71,7 @@ fn value_returned(reply: Reply) -> u64
         | Reply::Place(_)
         | Reply::Report(_)
         | Reply::NoneQueued
+        | Reply::Absent
         | Reply::Refused(_) => 0,
     }
 }

@@ -8,7 +8,9 @@ use Rattle.hd_custody.specs.Calls.{offered, slot_number}
 use Rattle.hd_world.specs.World.{WorldView}
 use Rattle.hd_world.specs.contracts.world.WorldHeld.TheImpl.{ghosts}
 use Rattle.hd_gate.specs.Turns.{with_grown}
-use Rattle.hd_gate.proofs.HandleMake.{is_new, may_offer, made_leaves, made_grants}
+use Rattle.hd_gate.specs.declared.change.Change.TheVariants.{Takes}
+use Rattle.hd_gate.proofs.StepLiveSlots.{in_state, asks_for}
+use Rattle.hd_gate.proofs.HandleMake.{may_offer, made}
 use Rattle.hd_gate.proofs.GateLeave.{may_step, Leaves, may_leave, turned}
 use Rattle.hd_gate.proofs.turns.make.Given.{Over}
 use Rattle.hd_gate.proofs.turns.make.Goals as goal
@@ -23,33 +25,42 @@ step_surely-entry-requires-clause-step g c =
     (subst (λ (x : View WorldView). 1 ≤ x.room) (sym view) c.requires.turn.room)
     (subst (λ (x : View WorldView). c.args.number < x.limits.callers) (sym view) c.requires.turn.idle.known)
     c.requires.turn.valid
-    (may_offer c.enter-world.result v c.args.kind c.enter-world.ensures.entered c.args.cmd
-    (is_new c.args.kind c.args.cmd c.requires.takes) c.allocate-offer.result
+    (may_offer c.enter-world.result v c.args.kind c.enter-world.ensures.entered c.args.number c.args.cmd
+    (asks_for c.enter-world.result.state c.args.number c.args.cmd c.args.kind
+    (in_state c.enter-world.result.state c.args.number c.args.cmd (Takes c.args.kind) (λ e. cc)
+    c.requires.takes))
+    c.allocate-offer.result
     (ap (λ (x : View WorldView). x.held) view
     ∙ ap (offered (kind_number c.args.kind) (slot_number c.allocate-offer.result)) c.requires.turn.idle.held))
 
--- what a growth may give to the words
-grants : (g : Over) (c : After-step_surely-entry g) → c.step_surely-entry.result.grown ≢ Zero
+-- what the table grew by may be granted, and the gate then left
+goes : (g : Over) (c : After-step_surely-entry g) → Leaves c.args.number c.args.cmd c.enter-world.result
+    c.step_surely-entry.new.world c.step_surely-entry.result c.args.seat.now.view
+    (with_grown (kind_number c.args.kind) c.step_surely-entry.result.grown
+    (took c.enter-world.result c.allocate-offer.new.seat.view))
+    × (c.step_surely-entry.result.grown ≢ Zero
     → GrowsByBlocks (is_paired c.args.kind) c.step_surely-entry.result.grown
     × MayGrant ghosts c.args.custody.now.blocks (handle_block c.step_surely-entry.result.grown)
-    (extra_block c.step_surely-entry.result.grown) (took c.enter-world.result c.allocate-offer.new.seat.view)
-grants g c apart =
-    made_grants c.args.number c.args.cmd c.args.kind c.requires.takes c.enter-world.result
-    c.step_surely-entry.new.world c.args.seat.now.view c.allocate-offer.new.seat.view c.requires.turn.idle
+    (extra_block c.step_surely-entry.result.grown) (took c.enter-world.result c.allocate-offer.new.seat.view))
+goes g c =
+    made c.args.number c.args.cmd c.args.kind c.enter-world.result c.step_surely-entry.new.world
+    (in_state c.enter-world.result.state c.args.number c.args.cmd (Takes c.args.kind) (λ e. cc)
+    c.requires.takes)
+    c.args.seat.now.view c.allocate-offer.new.seat.view c.requires.turn.idle
     c.requires.turn.room c.allocate-offer.result c.args.custody.now.blocks c.requires.turn.blocks
     c.allocate-offer.ensures.done c.allocate-offer.ensures.none c.enter-world.ensures.entered
-    c.step_surely-entry.result c.step_surely-entry.ensures apart
+    c.step_surely-entry.result c.step_surely-entry.ensures
 
 pub grow-requires-clause-grows : goal.grow-requires-clause-grows
 grow-requires-clause-grows g c apart =
-    (grants g (goal.at.grow-requires-clause-grows g c).After-step_surely-entry apart).0
+    ((goes g (goal.at.grow-requires-clause-grows g c).After-step_surely-entry).1 apart).0
 
 pub grow-requires-clause-blocks : goal.grow-requires-clause-blocks
 grow-requires-clause-blocks g c apart =
     let e = c.step_surely-entry.result in
     subst (λ (x : View WorldView). MayGrant ghosts c.args.custody.now.blocks (handle_block e.grown)
     (extra_block e.grown) x) (sym (ap (λ (s : Known WorldView). s.view) c.enter-world.ensures.view))
-    (grants g (goal.at.grow-requires-clause-blocks g c).After-step_surely-entry apart).1
+    ((goes g (goal.at.grow-requires-clause-blocks g c).After-step_surely-entry).1 apart).1
 
 -- the seat under the gate, and what it may leave with
 busy : (g : Over) (c : After-grow g) → c.grow.new.seat ≡ record {
@@ -67,26 +78,16 @@ busy g c =
       view = with_grown k grown (took c.enter-world.result c.allocate-offer.new.seat.view);
     }) c.allocate-offer.ensures.table
 
-all : (g : Over) (c : After-grow g) → Leaves c.args.number c.args.cmd c.enter-world.result
-    c.step_surely-entry.new.world c.step_surely-entry.result c.args.seat.now.view
-    (with_grown (kind_number c.args.kind) c.step_surely-entry.result.grown
-    (took c.enter-world.result c.allocate-offer.new.seat.view))
-all g c =
-    made_leaves c.args.number c.args.cmd c.args.kind c.requires.takes c.enter-world.result
-    c.step_surely-entry.new.world c.args.seat.now.view c.allocate-offer.new.seat.view c.requires.turn.idle
-    c.requires.turn.room c.allocate-offer.result c.args.custody.now.blocks c.requires.turn.blocks
-    c.allocate-offer.ensures.done c.allocate-offer.ensures.none c.enter-world.ensures.entered
-    c.step_surely-entry.result c.step_surely-entry.ensures
-
 pub leave-requires-clause-follows : goal.leave-requires-clause-follows
 leave-requires-clause-follows g c =
-    let at = (goal.at.leave-requires-clause-follows g c).After-grow in
+    let at = goal.at.leave-requires-clause-follows g c in
     may_leave c.args.seat.now c.grow.new.seat c.args.number c.args.cmd c.enter-world.result
-    c.step_surely-entry.new.world c.step_surely-entry.result _ (busy g at) (all g at)
+    c.step_surely-entry.new.world c.step_surely-entry.result _ (busy g at.After-grow)
+    (goes g at.After-step_surely-entry).0
 
 pub returns : goal.returns
 returns g c =
-    let at = (goal.at.returns g c).After-grow in
+    let at = goal.at.returns g c in
     turned c.args.seat.now c.grow.new.seat c.args.number c.args.cmd c.enter-world.result
-    c.step_surely-entry.new.world c.step_surely-entry.result _ (busy g at) (all g at) c.leave.new.seat
-    c.leave.ensures.view
+    c.step_surely-entry.new.world c.step_surely-entry.result _ (busy g at.After-grow)
+    (goes g at.After-step_surely-entry).0 c.leave.new.seat c.leave.ensures.view

@@ -1,11 +1,19 @@
-use Rattle.std.proofs.Common.{None, refl, sym, ap, ◌∙◌, subst}
+use Rattle.std.proofs.Common.{◌≡◌, ℕ, None, refl, sym, ap, ◌∙◌, subst}
+use Rattle.hd_model.specs.declared.command.Cmd.{Cmd}
 use Rattle.hd_custody.specs.Views.{Known, gave_back, took}
 use Rattle.hd_world.specs.World.{WorldView}
 use Rattle.hd_world.specs.contracts.world.WorldHeld.TheImpl.{ghosts}
+use Rattle.hd_gate.specs.declared.change.Change.TheVariants.{Keeps}
+use Rattle.hd_gate.specs.Change.{change_of, change_in}
 use Rattle.hd_gate.specs.Turns.{Stayed}
+use Rattle.hd_gate.proofs.StepLiveSlots.{LeavesThem, in_state}
 use Rattle.hd_gate.proofs.GateLeave.{may_step, may_leave_with, turned}
 use Rattle.hd_gate.proofs.Plain.{plain_follows, plain_leaves, stays}
 use Rattle.hd_gate.proofs.turns.plainly.Goals as goal
+
+kept : (u : WorldView) (number : ℕ) (c : Cmd) → change_of c ≡ Keeps
+    → LeavesThem (change_in u.state number c)
+kept u number c keeps = subst LeavesThem (sym (in_state u.state number c Keeps (λ e. cc) keeps)) tt
 
 pub step-done-requires : goal.step-done-requires
 step-done-requires g c =
@@ -19,7 +27,9 @@ leave-requires-clause-follows g c =
     let v = c.args.seat.now.view in
     may_leave_with c.args.seat.now.table c.enter-world.new.seat u c.step-done.new.self (took u v)
     c.enter-world.ensures.view refl
-    (plain_follows c.args.number c.args.cmd c.requires.keeps u c.step-done.new.self v c.requires.turn.idle
+    (plain_follows c.args.number c.args.cmd u c.step-done.new.self
+    (kept u c.args.number c.args.cmd c.requires.keeps) v
+    c.requires.turn.idle
     c.requires.turn.room c.enter-world.ensures.entered c.step-done.result c.step-done.ensures)
 
 pub returns-in-Err : goal.returns-in-Err
@@ -31,7 +41,8 @@ returns-in-Err g c =
     let left = c.leave.ensures.view u (ap (λ (s : Known WorldView). s.view.taken) busy)
     ∙ ap (λ (s : Known WorldView). record s { view = gave_back ghosts u w s.view }) busy in
     subst (λ (s : Known WorldView). Stayed seat s c.args.number c.args.cmd) (sym left)
-    (stays c.args.number c.args.cmd c.requires.keeps u w seat.view c.requires.turn.idle c.requires.turn.room
+    (stays c.args.number c.args.cmd u w (kept u c.args.number c.args.cmd c.requires.keeps) seat.view
+    c.requires.turn.idle c.requires.turn.room
     c.enter-world.ensures.entered seat.table c.in-Err.ensures)
 
 pub returns-in-Ok : goal.returns-in-Ok
@@ -39,7 +50,8 @@ returns-in-Ok g c =
     let u = c.enter-world.result in
     let w = c.step-done.new.self in
     let seat = c.args.seat.now in
-    let all = plain_leaves c.args.number c.args.cmd c.requires.keeps u w seat.view c.requires.turn.idle
+    let all = plain_leaves c.args.number c.args.cmd u w (kept u c.args.number c.args.cmd c.requires.keeps)
+    seat.view c.requires.turn.idle
     c.requires.turn.room c.enter-world.ensures.entered c.in-Ok.entry c.in-Ok.ensures in
     turned seat c.enter-world.new.seat c.args.number c.args.cmd u w c.in-Ok.entry
     _ c.enter-world.ensures.view all

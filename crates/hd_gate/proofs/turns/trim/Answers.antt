@@ -23,9 +23,9 @@ step_surely-entry-requires-clause-step g c =
     (subst (λ (x : View WorldView). 1 ≤ x.room) (sym view) c.requires.turn.room)
     (subst (λ (x : View WorldView). c.args.number < x.limits.callers) (sym view) c.requires.turn.idle.known)
     c.requires.turn.valid
-    (subst (λ (p : Option Slot). IsOffer c.enter-world.result.state c.args.cmd p)
+    (subst (λ (p : Option Slot). IsOffer c.enter-world.result.state c.args.number c.args.cmd p)
     (sym c.first_slot-first.ensures)
-    (may_offer c.enter-world.result v c.args.kind c.enter-world.ensures.entered c.args.cmd
+    (may_offer c.enter-world.result v c.args.kind c.enter-world.ensures.entered c.args.number c.args.cmd
     c.requires.gives_back o (ap (λ (x : View WorldView). x.held) view
     ∙ ap (gathered (kind_number c.args.kind) o) c.requires.turn.idle.held)))
 

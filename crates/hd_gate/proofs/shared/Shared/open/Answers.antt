@@ -1,17 +1,20 @@
-use Rattle.std.proofs.Common.{ap, ◌∙◌}
+use Rattle.std.proofs.Common.{◌||◌, Option, ap, ◌∙◌}
 use Rattle.std.specs.Prelude.{is_some}
 use Rattle.std.specs.FinMap.{get, get-empty}
 use Rattle.std.specs.Ordering.{nat_cmp}
-use Rattle.hd_model.specs.State.{State, use_of}
+use Rattle.hd_model.specs.declared.data.Id.{Id}
+use Rattle.hd_model.specs.State.{State, Handle, start_of, use_of}
 use Rattle.hd_model.specs.Table.{kind_word}
 use Rattle.hd_world.specs.World.{WorldView}
+use Rattle.hd_gate.specs.Tied.{is_live}
 use Rattle.hd_gate.proofs.shared.Shared.open.Goals as goal
 
 pub open-requires-clause-unused : goal.open-requires-clause-unused
 open-requires-clause-unused c =
     let state = ap (λ (w : WorldView). w.state) c.in_ok-boxed.ensures ∙ c.requires.start.0 in record {
-      nothing_live =
-          λ x. ap (λ (s : State). is_some (get s.handles x)) state ∙ ap is_some (get-empty nat_cmp x);
+      nothing_live = λ x. ap (λ (s : State). is_live s x) state
+          ∙ ap (λ (o : Option (Handle Id)). is_some o || is_some (get (start_of c.args.world.numbers).weak x))
+          (get-empty nat_cmp x) ∙ ap is_some (get-empty nat_cmp x);
       no_kinds = λ b. ap (λ (s : State). kind_word (use_of s b)) state ∙ ap kind_word (get-empty nat_cmp b);
       no_entries = ap (λ (w : WorldView). w.journal) c.in_ok-boxed.ensures ∙ c.requires.start.1;
     }
