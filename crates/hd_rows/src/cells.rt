@@ -104,36 +104,32 @@ fn a_removed_object_is_a_gap_that_is_passed(rt: HostRuntime) {
 #[test]
 fn a_region_that_is_reset_is_as_a_new_one(rt: HostRuntime) {
     let mut region = Region::empty();
-    let old = region.put_object(1, 2, true);
-    assert!(rt; region.is_object(old));
-    region.set_value(old, 7);
+    put(&rt, &mut region, &[(1, 2, true, 0)]);
+    set_header(&rt, &mut region, 0, 7, true);
     region.reset();
     assert_eq!(rt; (region.fill(), region.walk(0)), (0, None));
     assert!(rt; !region.is_object(0));
-    let new = region.put_object(2, 3, false);
-    assert!(rt; region.is_object(new));
-    assert_eq!(rt; (new, region.id(new), region.value(new)), (0, 2, 0));
-    for i in 0..region.fields(new) {
-        assert_eq!(rt; region.field(new, i), 0);
-    }
+    put(&rt, &mut region, &[(2, 3, false, 0)]);
+    shows(&rt, &region, 0, (2, &[0, 0, 0], 0, false));
+}
+
+// The first header, without what it promises.
+fn first_header(region: &Region) -> Option<Header> {
+    region.object_from(0)
 }
 
 #[test]
 fn the_first_header_is_that_of_the_first_object(rt: HostRuntime) {
     let mut region = Region::empty();
-    assert_eq!(rt; region.object_from(0), None);
+    assert_eq!(rt; first_header(&region), None);
     for (id, at, fields, registered) in [(1, 0, 0, true), (2, 3, 61, false), (3, 67, 3, true)] {
-        let room = region.fill() <= 67;
-        assert!(rt; room);
-        let put = region.put_object(id, fields, registered);
-        assert_eq!(rt; put, at);
+        put(&rt, &mut region, &[(id, u32::from(fields), registered, at)]);
         let header = Header {
             at,
-            fields: fields as u8,
+            fields,
             registered,
         };
-        assert_eq!(rt; region.object_from(0), Some(header));
-        assert!(rt; region.is_object(put));
-        region.remove(put);
+        assert_eq!(rt; first_header(&region), Some(header));
+        remove(&rt, &mut region, at);
     }
 }

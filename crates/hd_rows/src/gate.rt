@@ -4,9 +4,9 @@ ghost use Rattle.hd_model.specs.Valid.{IsValid, IsValidMake};
 ghost use Rattle.hd_gate.specs.Shared.{IsCallerOf, AreAll, IsSameCaller};
 ghost use Rattle.std.specs.Thread.{IsSync};
 
-use hd_gate::{Alone, Caller, Callers, Shared};
+use hd_gate::{Alone, Caller, Callers, Closed, Shared};
 use hd_model::limits::{BLOCKS, CALLERS, HEAP};
-use hd_model::{Cmd, Id, Kind, Make, Memory, Refusal, Reply, Report};
+use hd_model::{Cmd, Entry, Id, Kind, Make, Memory, Refusal, Reply, Report};
 use hd_world::World;
 use std::alloc::Global;
 use std::process::Abort;
@@ -74,6 +74,11 @@ fn is_valid(cmd: Cmd) -> bool
         Cmd::HPut { k, s } => k < 16 && s < 16,
         Cmd::HPick { d, k } => d < 16 && k < 16,
         Cmd::Trim { kind } => !kind.paired(),
+        Cmd::SPut { k, s } => k < 16 && s < 16,
+        Cmd::SGet { d, k } => d < 16 && k < 16,
+        Cmd::CAdd { k, v } => k < 16 && v < 16,
+        Cmd::CFind { d, k } => d < 16 && k < 16,
+        Cmd::CRemove { k } => k < 16,
         _ => false,
     }
 }
@@ -242,33 +247,52 @@ fn attempt<R: Wait>(rt: &R, shared: &Shared, caller: &mut Caller, cmd: Cmd)
     }
 }
 
-// A handle is made, freed, and its block given back, many times over.
-fn churn<R: Wait>(rt: &R, shared: &Shared, caller: &mut Caller)
+// Commands of a caller, as far as there is room for them.
+fn follow<R: Wait>(rt: &R, shared: &Shared, caller: &mut Caller, cmds: &[Cmd])
     requires { IsCallerOf shared.now caller.old }
     ensures { IsSameCaller caller.old caller.new }
 {
-    for _round in 0..500 {
-        attempt(rt, shared, caller, STRONG.0);
-        attempt(rt, shared, caller, hfree(0));
-        attempt(rt, shared, caller, TRIM_STRONG);
+    for cmd in cmds {
+        attempt(rt, shared, caller, *cmd);
+    }
+}
+
+// A caller puts an object into its own static, and then does commands so many times over.
+fn work<R: Wait>(
+    rt: &R,
+    shared: &Shared,
+    caller: &mut Caller,
+    place: usize,
+    times: u32,
+    cmds: &[Cmd],
+)
+    requires { IsCallerOf shared.now caller.old }
+    ensures { IsSameCaller caller.old caller.new }
+{
+    let k = (place % 16) as u8;
+    follow(rt, shared, caller, &[new(1), Cmd::SPut { k, s: 1 }]);
+    for _time in 0..times {
+        follow(rt, shared, caller, cmds);
     }
 }
 
 // All callers do so, each in a thread of its own.
-fn churn_all<R: Threads + Wait + Sync>(
+fn work_all<R: Threads + Wait + Sync>(
     rt: &R,
     shared: &Shared,
     callers: &mut Callers,
     threads: usize,
+    times: u32,
+    cmds: &[Cmd],
 )
     requires all { AreAll shared.now callers.old }
     requires threads { 0 < threads }
     ensures { AreAll shared.now callers.new }
 {
-    let each = |_place: usize, caller: &mut Caller|
+    let each = |place: usize, caller: &mut Caller|
         requires { IsSync R.row × IsCallerOf shared.now caller.old }
         ensures { IsSameCaller caller.old caller.new }
-    { churn(rt, shared, caller) };
+    { work(rt, shared, caller, place, times, cmds) };
     for_each_mut(rt, callers.all(), threads, &each);
 }
 
@@ -342,16 +366,109 @@ fn a_caller_frees_a_slot_and_gives_its_block_back(rt: HostRuntime) -> Result<(),
     plays_shared(&rt, rt.alloc(), 1, &[11], &lines, 2)
 }
 
-#[test]
-fn two_callers_in_threads_leave_an_empty_table(rt: HostRuntime) -> Result<(), Fail> {
-    let (shared, mut callers) = share(rt.alloc(), 2, &[1_500, 1_500])?;
-    churn_all(&rt, &shared, &mut callers, 2);
+// A new world that callers in threads share, after all did commands so many times over. The live
+// handles, the objects and the collections are then so many.
+fn worked<R: AllocGlobal + Threads + Wait + Abort + Sync>(
+    rt: &R,
+    rooms: &[u32],
+    times: u32,
+    cmds: &[Cmd],
+    end: (u32, u32, u32),
+) -> Result<Closed, Memory>
+    requires rooms { (1 ≤ length rooms.now) × (length rooms.now ≤ CALLERS) }
+    requires room { sum rooms.now ≤ 100000 }
+{
+    let (shared, mut callers) = share(rt.alloc(), 2, rooms)?;
+    work_all(rt, &shared, &mut callers, rooms.len(), times, cmds);
     let closed = shared.close(callers);
     let world = closed.world();
-    assert_eq!(rt; world.journal().len(), 3_000);
-    assert_eq!(rt;
-        (world.live(), world.objects(), world.collections()),
-        (0, 0, 0)
-    );
+    assert_eq!(rt; (world.live(), world.objects(), world.collections()), end);
+    Ok(closed)
+}
+
+#[test]
+fn two_callers_in_threads_leave_an_empty_table(rt: HostRuntime) -> Result<(), Fail> {
+    let cmds = [STRONG.0, hfree(0), TRIM_STRONG];
+    let closed = worked(&rt, &[1_502; 2], 500, &cmds, (0, 2, 0))?;
+    assert_eq!(rt; closed.world().journal().len(), 3_004);
+    Ok(())
+}
+
+// What is known of the weak table from entries: for each caller the maker of the key in its
+// register 0, if it has one, and for each maker the caller whose object is its object's value.
+#[derive(Drop)]
+struct Seen {
+    keys: [Option<usize>; 16],
+    values: [Option<usize>; 16],
+}
+
+impl Seen {
+    // Whether a reply is the one that had to come after the entries before.
+    fn takes(&mut self, entry: Entry) -> bool {
+        let caller = entry.caller as usize % 16;
+        match (entry.cmd, self.keys[caller]) {
+            (Cmd::New { .. } | Cmd::SPut { .. } | Cmd::Collect { .. }, _) => true,
+            (Cmd::SGet { k, .. }, _) => {
+                self.keys[caller] = match entry.reply {
+                    Reply::Object(_) => Some(usize::from(k)),
+                    _ => None,
+                };
+                true
+            }
+            (_, None) => entry.reply == Reply::Refused(Refusal::Null),
+            (cmd, Some(key)) => {
+                let value = self.values[key % 16];
+                self.values[key % 16] = value_left(cmd, caller, value);
+                entry.reply == reply_to(cmd, value)
+            }
+        }
+    }
+}
+
+// What a caller's command about a key leaves as the key's value.
+fn value_left(cmd: Cmd, caller: usize, value: Option<usize>) -> Option<usize> {
+    match cmd {
+        Cmd::CAdd { .. } => value.or(Some(caller)),
+        Cmd::CRemove { .. } => None,
+        _ => value,
+    }
+}
+
+// The reply to a command about a key that has this value.
+fn reply_to(cmd: Cmd, value: Option<usize>) -> Reply {
+    match (cmd, value) {
+        (Cmd::CAdd { .. }, Some(_)) => Reply::Refused(Refusal::Present),
+        (Cmd::CFind { .. }, Some(caller)) => Reply::Object(Id(((caller as u64) << 32) + 1)),
+        (Cmd::CAdd { .. }, None) | (Cmd::CRemove { .. }, Some(_)) => Reply::Done,
+        _ => Reply::Absent,
+    }
+}
+
+// For each static: its object as a key with the caller's own object as value, looked up and taken
+// out. Then a collection.
+fn attached() -> [Cmd; 65] {
+    let mut cmds = [Cmd::Collect { n: 0 }; 65];
+    for k in 0..16u8 {
+        let at = 4 * usize::from(k);
+        cmds[at] = Cmd::SGet { d: 0, k };
+        cmds[at + 1] = Cmd::CAdd { k: 0, v: 1 };
+        cmds[at + 2] = Cmd::CFind { d: 2, k: 0 };
+        cmds[at + 3] = Cmd::CRemove { k: 0 };
+    }
+    cmds
+}
+
+#[test]
+fn sixteen_callers_share_the_keys_of_one_weak_table(rt: HostRuntime) -> Result<(), Fail> {
+    let closed = worked(&rt, &[262; 16], 4, &attached(), (0, 16, 64))?;
+    let journal = closed.world().journal();
+    assert_eq!(rt; journal.len(), 4_192);
+    let mut seen = Seen {
+        keys: [None; 16],
+        values: [None; 16],
+    };
+    for i in 0..journal.len() {
+        assert!(rt; seen.takes(journal.entry(i)), "entry {i}");
+    }
     Ok(())
 }

@@ -11,6 +11,8 @@ mod checks;
 #[cfg(test)]
 mod collecting;
 #[cfg(test)]
+mod cwt;
+#[cfg(test)]
 mod faults;
 #[cfg(test)]
 mod gate;
@@ -54,5 +56,7 @@ mod state;
 mod table;
 #[cfg(test)]
 mod toy;
+#[cfg(test)]
+mod weak;
 #[cfg(test)]
 mod world;

@@ -8,7 +8,7 @@ use crate::checks::{is_closed, is_object_at};
 use hd_heap::Heap;
 use hd_mark::Marks;
 use hd_model::limits::{OLDEST, REGION};
-use hd_model::{Addr, Id, Marker, Memory};
+use hd_model::{Addr, Id, Marker, Memory, PromotionLog};
 use std::alloc::Global;
 use std::process::Abort;
 use std::test::Fail;
@@ -182,5 +182,27 @@ fn what_is_pushed_is_scanned_by_a_drain(rt: HostRuntime) -> Result<(), Fail> {
     shows(&rt, &heap, &marks, &[0, 1, 4, 5, 6, 7, 8], &[4, 5, 6, 7]);
     marks.drain();
     shows(&rt, &heap, &marks, &[0, 1, 4, 5, 6, 7, 8], &[4, 5, 6, 7]);
+    Ok(())
+}
+
+// The objects that a marker lists, by number, are these.
+fn lists<M: PromotionLog>(rt: &impl Abort, heap: &Heap, marker: &M, objects: &[u32]) {
+    assert!(rt; marker.logged() == objects.len());
+    for i in 0..objects.len() {
+        assert!(rt;
+            marker.logged_at(i) == object(rt, heap, objects[i]),
+            "listed {i}"
+        );
+    }
+}
+
+#[test]
+fn condemned_objects_are_listed_once_as_they_are_promoted(rt: HostRuntime) -> Result<(), Fail> {
+    let edges = [(0, 0, 9), (0, 1, 8), (9, 0, 10), (8, 0, 4), (10, 0, 0)];
+    let heap = graph(&rt, rt.alloc(), &edges)?;
+    let mut marks = Marks::start(rt.alloc(), &heap, 0)?;
+    lists(&rt, &heap, &marks, &[]);
+    mark(&rt, &heap, &mut marks, &[2, 0, 9, 4, 1], false);
+    lists(&rt, &heap, &marks, &[2, 0, 9, 8, 10, 1]);
     Ok(())
 }

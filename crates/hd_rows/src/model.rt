@@ -55,7 +55,7 @@ fn kinds_with_extra_data_come_last(rt: HostRuntime) {
 }
 
 // Each command, and whether it may take memory.
-const COMMANDS: [(Cmd, bool); 34] = [
+const COMMANDS: [(Cmd, bool); 37] = [
     (
         Cmd::New {
             d: 0,
@@ -159,6 +159,9 @@ const COMMANDS: [(Cmd, bool); 34] = [
     (Cmd::HUp { s: 0 }, false),
     (Cmd::HDown { s: 0 }, false),
     (Cmd::Trim { kind: Kind::Short }, false),
+    (Cmd::CAdd { k: 0, v: 1 }, false),
+    (Cmd::CFind { d: 0, k: 1 }, false),
+    (Cmd::CRemove { k: 0 }, false),
 ];
 
 #[test]

@@ -57,6 +57,7 @@ fn each_reply_has_its_text(rt: HostRuntime) {
             "7 12 kept 1 removed 20 short 3 long 4 dep 50 revived 6\n",
         ),
         (Reply::NoneQueued, "7 12 none\n"),
+        (Reply::Absent, "7 12 absent\n"),
         (Reply::Refused(Refusal::Null), "7 12 nullref\n"),
         (Reply::Refused(Refusal::BadField), "7 12 badfield\n"),
         (
@@ -71,6 +72,7 @@ fn each_reply_has_its_text(rt: HostRuntime) {
         (Reply::Refused(Refusal::WrongKind), "7 12 wrongkind\n"),
         (Reply::Refused(Refusal::EmptyRegister), "7 12 empty\n"),
         (Reply::Refused(Refusal::CountZero), "7 12 countzero\n"),
+        (Reply::Refused(Refusal::Present), "7 12 present\n"),
     ];
     for (reply, want) in table {
         is(&rt, &twelfth_line(reply), want);

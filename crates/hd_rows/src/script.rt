@@ -85,6 +85,9 @@ fn each_command_on_objects_has_its_line(rt: HostRuntime) -> Result<(), Fail> {
         ("reregister r13", Cmd::Reregister { s: 13 }),
         ("final r14", Cmd::Final { d: 14 }),
         ("collect 2", Cmd::Collect { n: 2 }),
+        ("cadd r0 r15", Cmd::CAdd { k: 0, v: 15 }),
+        ("cfind r15 r0", Cmd::CFind { d: 15, k: 0 }),
+        ("cremove r1", Cmd::CRemove { k: 1 }),
     ];
     have_lines(&rt, rt.alloc(), &table)
 }
@@ -165,6 +168,9 @@ fn other_lines_have_no_reading(rt: HostRuntime) {
         "Read r1",
         "read",
         "read r1 r2",
+        "cadd r0",
+        "cfind r0 h1",
+        "cremove r16",
         "new r0",
         "new r0 1 Fin",
         "new r0 1 fin fin",

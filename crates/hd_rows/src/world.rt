@@ -1,15 +1,12 @@
 // Worlds of two callers, command by command, without an offer.
-ghost use Rattle.std.specs.Prelude.{◌≡◌, ◌<◌, ◌≤◌, false};
+ghost use Rattle.std.specs.Prelude.{◌≡◌, ◌<◌, ◌≤◌};
 ghost use Rattle.hd_model.specs.declared.limits.TheConstants.{HEAP, BLOCKS};
-ghost use Rattle.hd_model.specs.Text.{is_collect};
 ghost use Rattle.hd_model.specs.Valid.{IsValid};
 
-use hd_model::{Cmd, Entry, Id, Memory, Refusal, Reply, Report, Steps};
+use hd_model::{Cmd, Entry, Id, Memory, Refusal, Reply, Report};
 use hd_script::parse;
 use hd_world::World;
-use std::marker::Brand;
 use std::process::Abort;
-use std::sync::ledger::{Blank, Ledger};
 use std::test::Fail;
 
 // A caller, a command of it as a script has it, and the reply that it must get.
@@ -58,54 +55,29 @@ fn command<R: Abort + AllocGlobal>(rt: &R, line: &str) -> Cmd
     script.cmd(0, 0)
 }
 
-// Does a command without an offer. One that is no collection counts nothing.
-fn apply<L: Ledger>(
-    world: &mut World,
-    caller: u32,
-    cmd: Cmd,
-    steps: &mut Steps<L>,
-) -> Result<Entry, Memory>
+// Does a command without an offer.
+fn apply(world: &mut World, caller: u32, cmd: Cmd) -> Result<Entry, Memory>
     requires room { 1 ≤ world.old.spare }
     requires caller { caller < world.old.numbers.callers }
     requires valid { IsValid cmd }
-    ensures numbers { world.new.numbers ≡ world.old.numbers }
-    ensures steps { is_collect cmd ≡ false → steps.new ≡ steps.old }
+    ensures { world.new.numbers ≡ world.old.numbers }
 {
-    world.apply(caller, cmd, None, steps)
+    world.apply_uncounted(caller, cmd, None)
 }
 
 // Does commands of two callers, each of which must get its reply.
-fn play_counted<L: Ledger, R: Abort + AllocGlobal>(
-    rt: &R,
-    world: &mut World,
-    lines: &[Line],
-    blank: Blank,
-) -> Result<(), Memory>
-    requires blank { (L.name ≡ blank.name) × (L.parts ≡ blank.parts) × (0 < blank.parts) }
+fn play<R: Abort + AllocGlobal>(rt: &R, world: &mut World, lines: &[Line]) -> Result<(), Memory>
     requires callers { world.old.numbers.callers ≡ 2 }
     ensures callers { world.new.numbers.callers ≡ 2 }
 {
-    let mut steps = Steps::<L>::open(blank);
     for line in lines {
         let (caller, text, reply) = *line;
         let cmd = command(rt, text);
         assert!(rt; caller < 2);
         assert!(rt; world.spare() >= 1);
-        assert_eq!(rt;
-            apply(world, caller, cmd, &mut steps)?.reply,
-            reply,
-            "{text}"
-        );
+        assert_eq!(rt; apply(world, caller, cmd)?.reply, reply, "{text}");
     }
     Ok(())
-}
-
-// The same, with a counter that nothing reads.
-fn play<R: Abort + AllocGlobal>(rt: &R, world: &mut World, lines: &[Line]) -> Result<(), Memory>
-    requires callers { world.old.numbers.callers ≡ 2 }
-    ensures callers { world.new.numbers.callers ≡ 2 }
-{
-    play_counted::<Brand, R>(rt, world, lines, Blank::new(1))
 }
 
 // What a world counts: objects, live handles, collections, and the commands that it has room for.
@@ -197,6 +169,26 @@ fn handles_with_extra_data() -> [Line; 16] {
         (0, "hdown h1", Reply::Value(0)),
         (0, "hdown h1", refused(Refusal::CountZero)),
         (0, "hvar h1 pinned", wrong),
+    ]
+}
+
+// Entries of two callers: one in blocks of its own, one in the slot that it left idle, and then
+// none without an offer.
+fn entries() -> [Line; 12] {
+    let full = refused(Refusal::TableFull { given: 2 });
+    [
+        (0, "new r0 0", object(1)),
+        (1, "new r0 0", other(1)),
+        (0, "sput 0 r0", DONE),
+        (1, "sget r1 0", object(1)),
+        (0, "cadd r0 r0", DONE),
+        (1, "cadd r1 r0", refused(Refusal::Present)),
+        (1, "cremove r1", DONE),
+        (0, "cfind r1 r0", Reply::Absent),
+        (1, "cadd r0 r1", DONE),
+        (1, "cadd r1 r0", full),
+        (0, "hnew h0 strong r0", full),
+        (1, "cfind r2 r0", object(1)),
     ]
 }
 
@@ -325,6 +317,12 @@ fn handles_have_extra_data(rt: HostRuntime) -> Result<(), Fail> {
         &[&handles_with_extra_data()],
         (2, 2, 0, 0),
     )?;
+    Ok(())
+}
+
+#[test]
+fn a_world_has_one_weak_table(rt: HostRuntime) -> Result<(), Fail> {
+    assert_world(&rt, 1_000, 2, 12, &[&entries()], (2, 0, 0, 0))?;
     Ok(())
 }
 

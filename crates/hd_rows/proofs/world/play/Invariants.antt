@@ -1,4 +1,5 @@
+use Rattle.std.proofs.Common.{◌≡◌}
 use Rattle.hd_rows.proofs.world.play.Given as goal
 
-abbrev pub ghosts-play_counted : goal.ghosts-play_counted
-ghosts-play_counted g a = record { name = a.blank.name; parts = a.blank.parts }
+abbrev pub invariant-loop-line : goal.invariant-loop-line
+invariant-loop-line g l = l.world.numbers.callers ≡ 2

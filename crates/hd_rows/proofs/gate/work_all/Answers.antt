@@ -2,7 +2,7 @@ use Rattle.std.proofs.Common.{◌<◌, length, sym, ap, ◌∙◌, subst, List}
 use Rattle.std.specs.Prelude.{slice_index_or}
 use Rattle.hd_gate.specs.Shared.{CallerView, IsSameCaller}
 use Rattle.hd_rows.proofs.SameCaller.{still_all_lent}
-use Rattle.hd_rows.proofs.gate.churn_all.Goals as goal
+use Rattle.hd_rows.proofs.gate.work_all.Goals as goal
 
 pub returns : goal.returns
 returns g c =
