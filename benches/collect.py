@@ -1,5 +1,5 @@
 #!/usr/bin/env python3
-"""collect.py PROGRAM [OTHER]: what collections cost, in instructions (callgrind) and in time of the processor.
+"""collect.py PROGRAM [OTHER]: what collections and lookups cost, in instructions (callgrind) and in time of the processor.
 
 It is what a script takes more than another without them. Times are medians of some runs, of both programs in turn."""
 import os

@@ -117,10 +117,12 @@ def cases():
     examples = TOP / "examples"
     text = lambda script: Path(f"{script}.stdout").read_bytes()
     host, finals, callers = examples / "host.hdt", examples / "resurrection.hdt", HERE / "four_callers.hdt"
+    weak = examples / "weak_table.hdt"
     load = b"load callers 4 commands 516 made 64 live 0 collections 4 sum 544\n"
     return [
         Case(["solo"], host, text(host)),
         Case(["solo"], finals, text(finals)),
+        Case(["solo"], weak, text(weak)),
         Case(["solo"], callers, text(callers)),
         Case(["roots"], host, text(host) + Path(f"{host}.roots").read_bytes()),
         Case(["run"], callers, text(callers)),
