@@ -3,6 +3,7 @@ use Rattle.hd_model.proofs.Basics.{Aged, AgedStep, AgesOfRunsAreSound, Chain, Cm
 use Rattle.hd_model.proofs.{ReadAfterWrite.insert_cases, ReadAfterWrite.remove_cases, WeakSlots.handle_row, WeakSlots.row_cases, WellFormedWrites.live_not_weak, KindTests.made_secondary, WholeScenes.whole_scene, RunCounts.fresh, WellFormedSteps.step_keeps, WellFormedSteps.start_is_well_formed}
 use Rattle.hd_model.proofs.Effects.{Effect, next_identity, effect, refused, makes_object, sets_field, gets_field, sets_value, reads_value, copies, clears, puts_static, gets_static, reads_generation, suppresses, reregisters, finds_none, takes_first, collects, makes_handle, gets_target, sets_target, sets_secondary, gets_secondary, sets_strength, raises_count, lowers_count, frees_handle, puts_board, picks_board, answers_place, gives_back, gives_none, adds_entry, finds_value, finds_no_entry, removes_entry, removes_none}
 use Rattle.hd_model.proofs.Ages.{lowered_below, lowered_here, grown_sound}
+use Rattle.hd_model.proofs.Effects.{answers_root}
 
 -- the ages of a state's clumps are sound
 abbrev pub IsSound : State → List ℕ → Type 0
@@ -257,6 +258,8 @@ module _ (n : Numbers) (s : State) (e : Entry) (ages : List ℕ) (w : IsWellForm
   by_effect c t (finds_no_entry key f none p) = does c t _ p refl sound
   by_effect c t (removes_entry key slot x f p) = does c t _ p refl (emptied s ages sound slot)
   by_effect c t (removes_none key f none p) = does c t _ p refl sound
+  by_effect c t (answers_root goal f tells) =
+      ⊎_elim (λ x. does c t _ x.reply_is refl sound) (λ x. does c t _ x.1 refl sound) tells
 
 pub nothing_at : {A : Type 0} (q : ℕ) (x : A) → get (empty {X = A} {R = nat_cmp}) q ≡ Some x → ⊥
 nothing_at q x e = none-some x (sym (get-empty nat_cmp q) ∙ e)

@@ -1,6 +1,6 @@
 -- Ages stay sound where they are lowered, and where a collection raises them with the generations.
 use Rattle.hd_model.proofs.Basics.{Collects, Handle, HasSoundAges, IsWhole, List, Objects, Report, Rows, Scene, Some, [], age_of, ap, arith, clump_of, generation_at, generation_in, get_or, grown, le_trans, lowered, map, min, nat_tests, raised, secondary_of, set, subst, suc, sym, true, zero, ℕ, ⊎_elim, ◌∙◌, ◌∷◌, ◌≡◌, ◌≤◌, ◌⊎◌}
-use Rattle.hd_model.proofs.Entries.{some_value}
+use Rattle.hd_model.proofs.MapEntries.{some_value}
 use Rattle.hd_model.proofs.SceneCollection.{cleared_target, cleared_secondary, handle_before, target_kept, secondary_kept, object_after, kept_object}
 
 -- raising keeps the order of generations

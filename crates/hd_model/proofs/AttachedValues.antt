@@ -1,30 +1,15 @@
 -- What the weak table has for a key is what the run attached to it.
-use Rattle.hd_model.proofs.Basics.{◌≡◌, ◌≢◌, ℕ, ◌/◌, ◌^◌, ◌==◌, ◌&&◌, Bool, true, false, if◌then◌else◌, List, Option, Some, None, IsSome, IsSomeAnd, refl, sym, ap, ◌∙◌, subst, ⊎_elim, inl, inr, ◌⊎◌, le_trans, nat_cmp, FinMap, get, get-empty, insert, option_map, option_map_or, cases_Bool, cases_eq, cond-true, eq-eqb, ne_eqb, and_from, true≢false, none-some, same_Some}
-use Rattle.hd_model.specs.Data.{Id, Slot, Entry, Reply, Cmd}
-use Rattle.hd_model.specs.declared.data.Refusal.TheVariants as refusal
-use Rattle.hd_model.specs.declared.data.Reply.TheVariants as reply
-use Rattle.hd_model.specs.declared.command.Cmd.TheVariants as cmd
-use Rattle.hd_model.specs.State.{Numbers, State, WeakEntry, start_of, register_of, with_register, with_weak}
-use Rattle.hd_model.specs.Places.{is_target}
-use Rattle.hd_model.specs.Command.{Outcome, answers, refuses, loaded, on_object, is_refused, in_idle, in_new, adding_key, slot_of_key, idle_slot, value_at}
-use Rattle.hd_model.specs.Collect.{swept}
-use Rattle.hd_model.specs.Touched.{touched_by}
-use Rattle.hd_model.specs.Scene.{scene_of}
-use Rattle.hd_model.specs.Step.{DoesCollect, way_of_adding, TakesWay, StepOf, Step}
-use Rattle.hd_model.specs.Run.{Chain, stay, link}
-use Rattle.hd_model.specs.WellFormed.{IsWellFormed}
-use Rattle.hd_model.specs.Laws.{is_done}
-use Rattle.hd_model.specs.WeakLaws.{attached_by, attached, FindReturnsWhatIsAttached, AddIsRefusedWhereAttached, RemoveReturnsWhetherAttached, IsOnKey, adds, finds, removes, NullKeysAreRefused}
+use Rattle.hd_model.proofs.Basics.{AddIsRefusedWhereAttached, Bool, Chain, Cmd, DoesCollect, Entry, FinMap, FindReturnsWhatIsAttached, Id, IsOnKey, IsSome, IsSomeAnd, IsWellFormed, List, None, NullKeysAreRefused, Numbers, Option, Outcome, RemoveReturnsWhetherAttached, Reply, Slot, Some, State, Step, StepOf, TakesWay, WeakEntry, adding_key, adds, and_from, answers, ap, attached, attached_by, cases_Bool, cases_eq, cond-true, eq-eqb, false, finds, get, get-empty, idle_slot, if◌then◌else◌, in_idle, in_new, inl, inr, insert, is_done, is_target, le_trans, link, loaded, nat_cmp, ne_eqb, none-some, on_object, option_map, option_map_or, refl, refuses, register_of, removes, same_Some, scene_of, slot_of_key, start_of, stay, subst, swept, sym, touched_by, true, true≢false, value_at, way_of_adding, with_register, with_weak, ℕ, ⊎_elim, ◌&&◌, ◌/◌, ◌==◌, ◌^◌, ◌∙◌, ◌≡◌, ◌≢◌, ◌⊎◌}
+use Rattle.hd_model.specs.Command.{is_refused}
 use Rattle.hd_model.proofs.ReadAfterWrite.{get_inserted, get_beside, inserted_from}
-use Rattle.hd_model.proofs.WholeScenes.{whole_scene}
+use Rattle.hd_model.proofs.{WholeScenes.whole_scene, Reports.gone, WellFormedCollection.was_entry, Outcomes.option_cases, StateReadBack.step_of, StateReadBack.on_object_is}
 use Rattle.hd_model.proofs.WeakSlots.{HasNoKey, HasKey, key_found, key_none, value_is}
-use Rattle.hd_model.proofs.Reports.{gone}
-use Rattle.hd_model.proofs.WellFormedCollection.{was_entry}
 use Rattle.hd_model.proofs.Effects.{Effect, MayHold, refused, collects, adds_entry, removes_entry, removes_none, effect}
 use Rattle.hd_model.proofs.WellFormedSteps.{has, given_not_weak, step_keeps, start_is_well_formed}
 use Rattle.hd_model.proofs.StepWrites.{IsGone, gone_some, object_kept, serials_rise}
-use Rattle.hd_model.proofs.Outcomes.{option_cases}
-use Rattle.hd_model.proofs.StateReadBack.{step_of, on_object_is}
+use Rattle.hd_model.specs.declared.data.Refusal.TheVariants as refusal
+use Rattle.hd_model.specs.declared.data.Reply.TheVariants as reply
+use Rattle.hd_model.specs.declared.command.Cmd.TheVariants as cmd
 
 abbrev Entries : Type 0
 Entries = FinMap nat_cmp (Option (WeakEntry Id))
@@ -149,8 +134,7 @@ module _ (n : Numbers) (s : State) (w : IsWellFormed n s) (e : Entry) (key : Id)
 
   removes_holds : (k : ℕ) (other : Id) (slot : Slot) → HasKey s other slot.0
       → register_of s e.caller k ≡ Some other → e.reply ≡ reply.Done → (o : Option (Option Id))
-      → Holds s.weak key o
-      → Holds (insert s.weak slot.0 None) key
+      → Holds s.weak key o → Holds (insert s.weak slot.0 None) key
       (if is_target key.0 (register_of s e.caller k) && is_done e.reply then None else o)
   removes_holds k other slot x f p o had =
       ⊎_elim
@@ -255,8 +239,7 @@ module _ (n : Numbers) (s : State) (w : IsWellFormed n s) (key : Id) where
   must_be is v h = absurd (key_none s key is h.slot h.entry h.held h.keyed)
 
   find_replies : (d : ℕ) (caller : ℕ) (found : Option Slot) → slot_of_key s key ≡ found
-      → (o : Option (Option Id))
-      → Holds s.weak key o
+      → (o : Option (Option Id)) → Holds s.weak key o
       → (option_map_or (λ slot. answers (loaded (value_at s slot)) (with_register s caller d
       (value_at s slot)))
       found (answers reply.Absent (with_register s caller d None))).reply

@@ -1,18 +1,7 @@
 -- A state with other handles and another weak table, where the rows that are gone attach to one object alone,
 -- and those that are new attach to none: the object is in use, and kept, there exactly where it is here.
-use Rattle.hd_model.proofs.Basics.{◌≡◌, ℕ, Bool, true, Option, Some, None, IsSome, nat_cmp, FinMap, sym, ap, ◌∙◌, subst, ⊎_elim, inl, inr, ◌⊎◌, get, cases_Bool, false≢true, true≢false, none-some, same_Some}
-use Rattle.hd_model.specs.Data.{Id, Report}
-use Rattle.hd_model.specs.State.{Handle, WeakEntry, State, row_of}
-use Rattle.hd_model.specs.Role.{attaches, role}
-use Rattle.hd_model.specs.Leads.{Leads}
-use Rattle.hd_model.specs.Scene.{scene_of, IsWhole}
-use Rattle.hd_model.specs.Reach.{IsAttached, IsHeld, IsRoot, named, queued, held, older, IsReached, IsToBeFinalized, IsKept}
-use Rattle.hd_model.specs.Collect.{is_attaching, Collects}
-use Rattle.hd_model.specs.InUse.{IsInUse}
-use Rattle.hd_model.proofs.EdgeChains.{leads_on}
-use Rattle.hd_model.proofs.EdgeInvariants.{leads_like}
-use Rattle.hd_model.proofs.SceneCollection.{still_object}
-use Rattle.hd_model.proofs.Reports.{kept_since}
+use Rattle.hd_model.proofs.Basics.{Bool, Collects, FinMap, Handle, Id, IsAttached, IsHeld, IsInUse, IsKept, IsReached, IsRoot, IsSome, IsToBeFinalized, IsWhole, Leads, None, Option, Report, Some, State, WeakEntry, ap, attaches, cases_Bool, false≢true, get, held, inl, inr, is_attaching, named, nat_cmp, none-some, older, queued, role, row_of, same_Some, scene_of, subst, sym, true, true≢false, ℕ, ⊎_elim, ◌∙◌, ◌≡◌, ◌⊎◌}
+use Rattle.hd_model.proofs.{EdgeChains.leads_on, EdgeInvariants.leads_like, SceneCollection.still_object, Reports.kept_since}
 use Rattle.hd_model.proofs.UseChains.{Edge, use_reached, reached_use}
 
 module _ (s : State) (handles : FinMap nat_cmp (Handle Id)) (weak : FinMap nat_cmp (Option (WeakEntry Id)))

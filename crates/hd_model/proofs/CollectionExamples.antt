@@ -1,15 +1,9 @@
 -- Examples of what decides a collection, each proved by computing.
-use Rattle.std.proofs.Common.{lit<, ◌≡◌, ℕ, Bool, true, false, List, [], ◌∷◌, map, Option, Some, None, refl}
+use Rattle.hd_model.proofs.Basics.{Addr, Bool, Extra, Handle, Kind, List, Meet, None, Object, Option, Range, Some, [], attaches, cleared, count, due_clumps, false, grown, holds, is_due, lit<, long, loses, lowered, map, nothing, pins, raised, refl, role, role_of, secondary, short, strength, survivor, true, visits, ℕ, ◌∷◌, ◌≡◌}
 use Rattle.std.proofs.Math.Nat.{lt_irrefl}
-use Rattle.hd_model.specs.Data.{Addr, Kind}
+use Rattle.hd_model.specs.RootText.{held_of}
 use Rattle.hd_model.specs.declared.data.Kind.TheVariants as kind
 use Rattle.hd_model.specs.declared.data.Strength.TheVariants as strength_of
-use Rattle.hd_model.specs.State.{Extra, nothing, strength, secondary, count, Object, Handle}
-use Rattle.hd_model.specs.Role.{holds, short, long, attaches, role_of, role, pins}
-use Rattle.hd_model.specs.Collect.{loses, cleared, survivor}
-use Rattle.hd_model.specs.RootText.{held_of}
-use Rattle.hd_model.specs.Ages.{raised, is_due, lowered, grown, due_clumps, visits}
-use Rattle.hd_model.specs.Places.{Range, Meet}
 
 -- a handle of each kind, with each extra that decides something
 abbrev somewhere : Option Addr
@@ -66,8 +60,7 @@ attached = handle_of kind.Dependent (secondary somewhere)
 pub dependent_is_left : cleared (λ _. false) (λ _. true) attached ≡ attached
 dependent_is_left = refl
 
-pub dependent_is_cleared :
-    cleared (λ _. false) (λ _. false) attached
+pub dependent_is_cleared : cleared (λ _. false) (λ _. false) attached
     ≡ record { kind = kind.Dependent; target = None; extra = secondary None }
 dependent_is_cleared = refl
 

@@ -1,19 +1,10 @@
 -- The laws of collections, from what is proved of scenes.
-use Rattle.hd_model.proofs.Basics.{◌≡◌, get, ℕ, ◌<◌, Bool, true, false, not, ◌&&◌, Some, refl, sym, ap, ◌∙◌, subst, ⊎_elim, inl, inr, nat_cmp_total, same_map, nat_cmp-IsAntisymmetric, cases_Bool}
-use Rattle.hd_model.specs.Data.{Id}
-use Rattle.hd_model.specs.State.{Object, State}
-use Rattle.hd_model.specs.Scene.{scene_of, generation_in}
-use Rattle.hd_model.specs.Reach.{IsRoot, named, queued, held, older}
-use Rattle.hd_model.specs.Collect.{survivor}
-use Rattle.hd_model.specs.InUse.{IsUsed, in_register, in_static, in_queue, by_handle}
-use Rattle.hd_model.specs.CollectionLaws.{CollectionsKeepWellFormed, UsedObjectsStay, NoneDanglesAfter, OlderObjectsStay, SecondCollectionIsIdle, ReadingsKeepWhatIsKept, LoweredAgesAreSound, GrownAgesAreSound}
-use Rattle.hd_model.proofs.WeakSlots.{handle_left, weak_left}
-use Rattle.hd_model.proofs.WellFormedCollection.{collection_keeps_well_formed}
+use Rattle.hd_model.proofs.Basics.{Bool, CollectionsKeepWellFormed, GrownAgesAreSound, Id, IsRoot, IsUsed, LoweredAgesAreSound, NoneDanglesAfter, Object, OlderObjectsStay, ReadingsKeepWhatIsKept, SecondCollectionIsIdle, Some, State, UsedObjectsStay, ap, by_handle, cases_Bool, false, generation_in, get, held, in_queue, in_register, in_static, inl, inr, named, nat_cmp-IsAntisymmetric, nat_cmp_total, not, older, queued, refl, same_map, scene_of, subst, survivor, sym, true, ℕ, ⊎_elim, ◌&&◌, ◌<◌, ◌∙◌, ◌≡◌}
+use Rattle.hd_model.proofs.{WeakSlots.handle_left, WeakSlots.weak_left, WellFormedCollection.collection_keeps_well_formed, Ages.lowered_sound, Ages.grown_sound}
 use Rattle.hd_model.proofs.SceneCollection.{keeps_root, still_object, object_after, root_reached}
 use Rattle.hd_model.proofs.WholeScenes.{whole_scene, register_named, static_named}
 use Rattle.hd_model.proofs.IdleCollection.{raised_older, idle_removed, idle_short, idle_long, idle_dep, idle_resurrected, idle_row, idle_queue}
 use Rattle.hd_model.proofs.RenamedReach.{reached_read, reached_same, resurrected_read, resurrected_same, kept_read, kept_same}
-use Rattle.hd_model.proofs.Ages.{lowered_sound, grown_sound}
 
 pub collections_keep_well_formed : CollectionsKeepWellFormed
 collections_keep_well_formed m n s t r h = collection_keeps_well_formed m n s t r h.well_formed h.collects

@@ -1,17 +1,8 @@
 -- A collection is one under other names of its objects: one by address is one by identity.
-use Rattle.hd_model.proofs.Basics.{◌≡◌, ℕ, ◌<◌, ◌≤◌, Bool, true, false, cond, not, ◌&&◌, ◌++◌, map, Option, Some, None, is_some, refl, sym, ap, ◌∙◌, subst, Contains, option_map, Decides, false≢true, true≢false, cond-true, cond-false, map-append, none-some}
-use Rattle.hd_model.specs.Data.{Report}
-use Rattle.hd_model.specs.State.{Object, Extra, secondary, Handle, rename_extra, rename_handle}
-use Rattle.hd_model.specs.Role.{Role, holds, short, long, attaches, role}
-use Rattle.hd_model.specs.Counting.{Counts}
-use Rattle.hd_model.specs.Scene.{Scene, is_object, IsCondemned, IsWhole, IsReading}
-use Rattle.hd_model.specs.Reach.{IsReached, IsToBeFinalized, IsKept}
-use Rattle.hd_model.specs.Collect.{is_lost, loses_by, loses, is_attaching, cleared, survivor, LosesAs, IsSurviving, IsRemoved, Decision, Collects}
+use Rattle.hd_model.proofs.Basics.{Bool, Collects, Contains, Counts, Decides, Decision, Extra, Handle, IsCondemned, IsKept, IsReached, IsReading, IsRemoved, IsSurviving, IsToBeFinalized, IsWhole, LosesAs, None, Object, Option, Report, Role, Scene, Some, ap, attaches, cleared, cond, cond-false, cond-true, false, false≢true, holds, is_attaching, is_lost, is_object, is_some, long, loses, loses_by, map, map-append, none-some, not, option_map, refl, rename_extra, rename_handle, role, secondary, short, subst, survivor, sym, true, true≢false, ℕ, ◌&&◌, ◌++◌, ◌<◌, ◌∙◌, ◌≡◌, ◌≤◌}
 use Rattle.hd_model.proofs.Members.{mapped_in, mapped_from, pairs_mapped}
-use Rattle.hd_model.proofs.PropertyCounts.{counts_like, counts_named}
-use Rattle.hd_model.proofs.Entries.{some_value}
+use Rattle.hd_model.proofs.{PropertyCounts.counts_like, PropertyCounts.counts_named, MapEntries.some_value, RenamedPins.role_renamed}
 use Rattle.hd_model.proofs.SceneCollection.{object_before, object_after, kept_object}
-use Rattle.hd_model.proofs.RenamedPins.{role_renamed}
 use Rattle.hd_model.proofs.RenamedReach.{object_read, is_object_read, generation_read, handle_read, handle_unread, reached_read, reached_unread, resurrected_read, resurrected_unread, kept_read, kept_unread}
 
 -- a set under other names: false where no object has the name
@@ -81,16 +72,13 @@ module _ {N M : Type 0} (f : N → M) (back : M → Option N) (rank : M → ℕ)
   }
 
   cleared_asked : (slot : ℕ) (h : Handle N) → s.handle slot ≡ Some h
-      → rename_handle f (cleared c.reach c.kept h) ≡ cleared Under.reach
-      Under.kept (rename_handle f h)
+      → rename_handle f (cleared c.reach c.kept h) ≡ cleared Under.reach Under.kept (rename_handle f h)
   cleared_asked slot h e =
       let objects : (x : N) → h.target ≡ Some x
       → is_object s.object x ≡ true = λ x at. w.targets slot h x e at in
       let same_role : role (rename_handle f h) ≡ role h = role_renamed f h.kind h.extra in
-      let target : loses Under.reach Under.kept
-      (rename_handle f h) ≡ loses c.reach c.kept h =
-      ap (λ q. loses_by q Under.reach Under.kept (option_map f h.target))
-      same_role
+      let target : loses Under.reach Under.kept (rename_handle f h) ≡ loses c.reach c.kept h =
+      ap (λ q. loses_by q Under.reach Under.kept (option_map f h.target)) same_role
       ∙ loses_asked f back s b (role h) c.reach c.kept h.target objects in
       let detached : (is_attaching (role (rename_handle f h)) && is_lost Under.kept
       (option_map f h.target))
@@ -149,8 +137,7 @@ module _ {N M : Type 0} (f : N → M) (back : M → Option N) (rank : M → ℕ)
           ∙ sym (cond-false (c.kept x) (option_map (survivor n (c.resurrected x)) (u.object y)) None lost)
 
   row_by : (slot : ℕ) (o : Option (Handle N)) → s.handle slot ≡ o
-      → v.handle slot ≡ option_map (cleared Under.reach Under.kept)
-      (u.handle slot)
+      → v.handle slot ≡ option_map (cleared Under.reach Under.kept) (u.handle slot)
   row_by slot None e =
       ft.handles slot ∙ ap (option_map (rename_handle f))
       (c.handles slot ∙ ap (option_map (cleared c.reach c.kept)) e)
@@ -190,15 +177,13 @@ module _ {N M : Type 0} (f : N → M) (back : M → Option N) (rank : M → ℕ)
       (λ x y h k. fs.apart x y h.condemned.object k.condemned.object)
       (λ x h. record {
         condemned = condemned_read x h.condemned;
-        stays =
-            asked_at f back s b c.kept x h.condemned.object ∙ h.stays;
+        stays = asked_at f back s b c.kept x h.condemned.object ∙ h.stays;
       })
       (λ y h. let (x, rest) = asked_from c.kept y h.stays in (
         x,
         (
           record {
-            condemned = condemned_unread x rest.0
-                (subst (IsCondemned u.object n) (sym rest.1.1) h.condemned);
+            condemned = condemned_unread x rest.0 (subst (IsCondemned u.object n) (sym rest.1.1) h.condemned);
             stays = rest.1.0;
           },
           rest.1.1,
@@ -212,16 +197,14 @@ module _ {N M : Type 0} (f : N → M) (back : M → Option N) (rank : M → ℕ)
       (λ x y h k. fs.apart x y h.object k.object)
       (λ x h. record {
         object = is_object_read f s u fs x h.object;
-        lost =
-            asked_at f back s b c.kept x h.object ∙ h.lost;
+        lost = asked_at f back s b c.kept x h.object ∙ h.lost;
       })
       (λ y h. let (x, rest) = fs.only y h.object in (
         x,
         (
           record {
             object = rest.0;
-            lost = sym (asked_at f back s b c.kept x rest.0)
-                ∙ ap Under.kept rest.1 ∙ h.lost;
+            lost = sym (asked_at f back s b c.kept x rest.0) ∙ ap Under.kept rest.1 ∙ h.lost;
           },
           rest.1,
         ),
@@ -238,19 +221,16 @@ module _ {N M : Type 0} (f : N → M) (back : M → Option N) (rank : M → ℕ)
       (λ x h. asked_at f back s b c.resurrected x (resurrected_object x h) ∙ h)
       (λ y h. let (x, rest) = asked_from c.resurrected y h in (x, rest.1)) c.report_is.resurrected
 
-  same_loss : (slot : ℕ) (h : Handle N) → s.handle slot ≡ Some h
-      → loses Under.reach Under.kept
+  same_loss : (slot : ℕ) (h : Handle N) → s.handle slot ≡ Some h → loses Under.reach Under.kept
       (rename_handle f h) ≡ loses c.reach c.kept h
   same_loss slot h e =
-      ap (λ q. loses_by q Under.reach Under.kept (option_map f h.target))
-      (role_renamed f h.kind h.extra)
+      ap (λ q. loses_by q Under.reach Under.kept (option_map f h.target)) (role_renamed f h.kind h.extra)
       ∙ loses_asked f back s b (role h) c.reach c.kept h.target (λ x at. w.targets slot h x e at)
 
   losses_named : (wanted : Role) (k : ℕ) → Counts (LosesAs s c.reach c.kept wanted) k
       → Counts (LosesAs u Under.reach Under.kept wanted) k
   losses_named wanted k =
-      counts_like (LosesAs s c.reach c.kept wanted)
-      (LosesAs u Under.reach Under.kept wanted) k
+      counts_like (LosesAs s c.reach c.kept wanted) (LosesAs u Under.reach Under.kept wanted) k
       (λ slot l. record {
         handle = rename_handle f l.handle;
         is_stored = handle_read f s u fs slot l.handle l.is_stored;
@@ -276,8 +256,7 @@ module _ {N M : Type 0} (f : N → M) (back : M → Option N) (rank : M → ℕ)
           (reached_unread f n s u w fs);
       resurrected_is =
           decided f back s b c.resurrected (IsToBeFinalized s n) (IsToBeFinalized u n) c.resurrected_is
-          (resurrected_read f n s u w fs)
-          (resurrected_unread f n s u w fs);
+          (resurrected_read f n s u w fs) (resurrected_unread f n s u w fs);
       kept_is =
           decided f back s b c.kept (IsKept s n) (IsKept u n) c.kept_is (kept_read f n s u w fs)
           (kept_unread f n s u w fs);

@@ -1,26 +1,10 @@
 -- The sample states meet what the laws of collections ask for.
-use Rattle.hd_model.proofs.Basics.{◌≡◌, ◌≢◌, ℕ, zero, suc, ◌<◌, ◌≤◌, true, false, [], ◌∷◌, get_or, replicate, Some, None, IsSome, is_some, nat_cmp, refl, sym, ap, ◌∙◌, subst, ⊎_elim, inl, inr, ◌⊎◌, arith, get, empty, get-empty, false≢true, none-some, same_Some}
-use Rattle.hd_model.specs.Data.{Id, Report}
-use Rattle.hd_model.specs.declared.data.Kind.TheVariants as kind
-use Rattle.hd_model.specs.State.{Object, Handle, handles_of, State, start_of, row_of, secondary_of, field_of, with_object, with_handle, with_use, with_serial, without_handle, WeakEntry, with_weak}
-use Rattle.hd_model.specs.Kinds.{is_paired}
-use Rattle.hd_model.specs.Role.{holds, role}
-use Rattle.hd_model.specs.Scene.{scene_of, generation_in, generation_at}
-use Rattle.hd_model.specs.Collect.{CollectsState}
-use Rattle.hd_model.specs.Ages.{age_of, HasSoundAges}
-use Rattle.hd_model.specs.WellFormed.{Names, IsWellFormed}
-use Rattle.hd_model.specs.InUse.{IsUsed, in_register, in_static, in_queue, by_handle, IsOlder, IsLedTo, from_start, by_field, by_dependent, IsInUse, IsResurrected}
+use Rattle.hd_model.proofs.Basics.{CollectsState, Handle, HasSoundAges, Id, IsInUse, IsLedTo, IsOlder, IsResurrected, IsSome, IsUsed, IsWellFormed, Names, None, Object, Report, Some, State, WeakEntry, [], age_of, ap, arith, by_dependent, by_field, by_handle, empty, false, false≢true, field_of, from_start, generation_at, generation_in, get, get-empty, get_or, handles_of, holds, in_queue, in_register, in_static, inl, inr, is_paired, is_some, nat_cmp, none-some, refl, replicate, role, row_of, same_Some, scene_of, secondary_of, start_of, subst, suc, sym, true, with_handle, with_object, with_serial, with_use, with_weak, without_handle, zero, ℕ, ⊎_elim, ◌<◌, ◌∙◌, ◌∷◌, ◌≡◌, ◌≢◌, ◌≤◌, ◌⊎◌}
 use Rattle.hd_model.specs.CollectionSamples.{few, id_of, slot_of, object_with, weak_to, made_one, with_blocks, calm, with_objects, attaching, busy, entry_of_one, entered, ages_of_busy, PremisesAreMet}
-use Rattle.hd_model.proofs.Members.{not_in_none}
+use Rattle.hd_model.proofs.{Members.not_in_none, PropertyCounts.counts_zero, WeakSlots.handle_row, WeakSlots.row_cases, WellFormedSteps.start_is_well_formed, MapEntries.none_from, MapEntries.some_value, EntryKeys.taken_out, ReachTests.is_holding, NextState.collections_exist}
 use Rattle.hd_model.proofs.ReadAfterWrite.{cell_cases, replicate_cases, get_inserted, get_beside, insert_all}
-use Rattle.hd_model.proofs.PropertyCounts.{counts_zero}
-use Rattle.hd_model.proofs.WeakSlots.{handle_row, row_cases}
 use Rattle.hd_model.proofs.WellFormedWrites.{register_keeps, object_keeps, handle_keeps, removal_keeps, use_keeps, serial_keeps, weak_keeps}
-use Rattle.hd_model.proofs.WellFormedSteps.{start_is_well_formed}
-use Rattle.hd_model.proofs.Entries.{none_from, some_value}
-use Rattle.hd_model.proofs.EntryKeys.{taken_out}
-use Rattle.hd_model.proofs.ReachTests.{is_holding}
-use Rattle.hd_model.proofs.NextState.{collections_exist}
+use Rattle.hd_model.specs.declared.data.Kind.TheVariants as kind
 
 -- a chain from what has a property that edges keep leads to what has it
 led_within : (s : State) (S P : Id → Type 0) → ((x : Id) → S x → P x)
@@ -104,13 +88,11 @@ with_short = with_handle with_blocks (slot_of 65) (weak_to kind.Short 1)
 
 with_short_is : IsWellFormed few with_short
 with_short_is = handle_keeps few with_blocks with_blocks_is (slot_of 65) (weak_to kind.Short 1)
-    (get-empty nat_cmp 65) one_there tt
-    block_one refl (λ e. refl)
+    (get-empty nat_cmp 65) one_there tt block_one refl (λ e. refl)
 
 calm_is : IsWellFormed few calm
 calm_is = handle_keeps few with_short with_short_is (slot_of 129) (weak_to kind.Long 1)
-    (get-empty nat_cmp 129) one_there tt block_two
-    refl (λ e. refl)
+    (get-empty nat_cmp 129) one_there tt block_two refl (λ e. refl)
 
 -- four more objects
 abbrev with_two : State
@@ -200,23 +182,19 @@ with_80 = with_handle with_128 (slot_of 80) (weak_to kind.Short 1)
 
 with_64_is : IsWellFormed few with_64
 with_64_is = handle_keeps few with_objects with_objects_is (slot_of 64) (weak_to kind.Short 4)
-    (get-empty nat_cmp 64)
-    (ap is_some at_four) tt block_one refl (λ e. refl)
+    (get-empty nat_cmp 64) (ap is_some at_four) tt block_one refl (λ e. refl)
 
 with_128_is : IsWellFormed few with_128
 with_128_is = handle_keeps few with_64 with_64_is (slot_of 128) (weak_to kind.Long 4)
-    (get-empty nat_cmp 128) (ap is_some at_four) tt
-    block_two refl (λ e. refl)
+    (get-empty nat_cmp 128) (ap is_some at_four) tt block_two refl (λ e. refl)
 
 with_80_is : IsWellFormed few with_80
 with_80_is = handle_keeps few with_128 with_128_is (slot_of 80) (weak_to kind.Short 1)
-    (get-empty nat_cmp 80) (ap is_some at_one) tt
-    block_one refl (λ e. refl)
+    (get-empty nat_cmp 80) (ap is_some at_one) tt block_one refl (λ e. refl)
 
 busy_is : IsWellFormed few busy
 busy_is = handle_keeps few with_80 with_80_is (slot_of 192) attaching (get-empty nat_cmp 192)
-    (ap is_some at_one) (ap is_some at_five)
-    block_three refl (λ e. absurd (none-some (id_of 1) (sym e)))
+    (ap is_some at_one) (ap is_some at_five) block_three refl (λ e. absurd (none-some (id_of 1) (sym e)))
 
 all_handles : (P : ℕ → Handle Id → Type 0) → P 65 (weak_to kind.Short 1) → P 129 (weak_to kind.Long 1)
     → P 64 (weak_to kind.Short 4) → P 128 (weak_to kind.Long 4) → P 80 (weak_to kind.Short 1)
@@ -380,8 +358,7 @@ busy_ages = record {
       all_handles (λ k g. g.target ≡ Some x → age_of ages_of_busy k ≤ generation_at (scene_of busy).object x)
       (λ _. low _ _ refl) (λ _. low _ _ refl) (λ _. low _ _ refl) (λ _. low _ _ refl) (one_old x)
       (λ _. low _ _ refl) slot h (row_is slot h e) target;
-  secondaries = λ slot h x e second.
-      all_handles
+  secondaries = λ slot h x e second. all_handles
       (λ k g. secondary_of g.extra ≡ Some x → age_of ages_of_busy k ≤ generation_at (scene_of busy).object x)
       (λ f. absurd (none-some x f)) (λ f. absurd (none-some x f)) (λ f. absurd (none-some x f))
       (λ f. absurd (none-some x f)) (λ f. absurd (none-some x f))

@@ -1,12 +1,6 @@
 -- A collection leads to one state with one report, and from a well formed state to a well formed one.
-use Rattle.hd_model.proofs.Basics.{◌≡◌, ℕ, true, ◌++◌, sym, ◌∙◌, subst, option_map, get, nat_cmp_total, same_map, nat_cmp-IsAntisymmetric, same_from_decides}
-use Rattle.hd_model.specs.Data.{Id, Report}
-use Rattle.hd_model.specs.Role.{short, long, attaches}
-use Rattle.hd_model.specs.Scene.{Scene, scene_of}
-use Rattle.hd_model.specs.State.{State}
-use Rattle.hd_model.specs.Collect.{cleared, swept, LosesAs, IsSurviving, IsRemoved, Decision, IsReport, left_by, Collects, CollectsState}
-use Rattle.hd_model.proofs.PropertyCounts.{counts_once}
-use Rattle.hd_model.proofs.Members.{rising_once}
+use Rattle.hd_model.proofs.Basics.{Collects, CollectsState, Decision, Id, IsRemoved, IsReport, IsSurviving, LosesAs, Report, Scene, State, attaches, cleared, get, left_by, long, nat_cmp-IsAntisymmetric, nat_cmp_total, option_map, same_from_decides, same_map, scene_of, short, subst, swept, sym, true, ℕ, ◌++◌, ◌∙◌, ◌≡◌}
+use Rattle.hd_model.proofs.{PropertyCounts.counts_once, Members.rising_once}
 
 module _ {N : Type 0} (rank : N → ℕ) (n : ℕ) (s t u : Scene N) (r q : Report) (a : Collects rank n s t r)
     (b : Collects rank n s u q) where

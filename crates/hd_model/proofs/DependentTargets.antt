@@ -1,23 +1,8 @@
 -- A dependent handle over a collection, and a state without it.
-use Rattle.hd_model.proofs.Basics.{◌≡◌, ◌≢◌, ℕ, true, false, not, ◌&&◌, Some, None, IsSome, sym, ap, ◌∙◌, subst, ⊎_elim, inl, inr, ◌⊎◌, option_map, none-some, remove, get, cases_Bool, cases_eq, cond-true, same_Some}
-use Rattle.std.specs.Option.{option_or}
-use Rattle.hd_model.specs.Data.{Id, Slot, Report}
-use Rattle.hd_model.specs.declared.data.Kind.TheVariants as kind
-use Rattle.hd_model.specs.State.{Handle, State, secondary, secondary_of, weak_handle, row_of, without_handle}
-use Rattle.hd_model.specs.Role.{attaches, role}
-use Rattle.hd_model.specs.Scene.{scene_of, IsWhole}
-use Rattle.hd_model.specs.Collect.{is_lost, loses_by, loses, is_attaching, Collects, CollectsState}
-use Rattle.hd_model.specs.CollectionLaws.{IsDependent, Follows, SecondariesFollowTargets, DependentsUseNoTarget, DependentsKeepNoTarget}
-use Rattle.hd_model.proofs.ReadAfterWrite.{get_left, get_removed}
-use Rattle.hd_model.proofs.WellFormedWrites.{removal_keeps, live_not_weak}
-use Rattle.hd_model.proofs.WeakSlots.{handle_row}
-use Rattle.hd_model.proofs.WholeScenes.{whole_scene}
-use Rattle.hd_model.proofs.SceneCollection.{keeps_edge, still_object}
-use Rattle.hd_model.proofs.IdleCollection.{cleared_same, attaching_lost}
-use Rattle.hd_model.proofs.Reports.{kept_since, lost_since}
-use Rattle.hd_model.proofs.UseChains.{dependent_role}
+use Rattle.hd_model.proofs.Basics.{Collects, CollectsState, DependentsKeepNoTarget, DependentsUseNoTarget, Follows, Handle, Id, IsDependent, IsSome, IsWhole, None, Report, SecondariesFollowTargets, Slot, Some, State, ap, attaches, cases_Bool, cases_eq, cond-true, false, get, inl, inr, is_attaching, is_lost, loses, loses_by, none-some, not, option_map, option_or, remove, role, row_of, same_Some, scene_of, secondary, secondary_of, subst, sym, true, weak_handle, without_handle, ℕ, ⊎_elim, ◌&&◌, ◌∙◌, ◌≡◌, ◌≢◌, ◌⊎◌}
+use Rattle.hd_model.proofs.{ReadAfterWrite.get_left, ReadAfterWrite.get_removed, WellFormedWrites.removal_keeps, WellFormedWrites.live_not_weak, WeakSlots.handle_row, WholeScenes.whole_scene, SceneCollection.keeps_edge, SceneCollection.still_object, IdleCollection.cleared_same, IdleCollection.attaching_lost, Reports.kept_since, Reports.lost_since, UseChains.dependent_role, Fates.handle_after}
 use Rattle.hd_model.proofs.AttachingRows.{use_less, use_was, stays_alike}
-use Rattle.hd_model.proofs.Fates.{handle_after}
+use Rattle.hd_model.specs.declared.data.Kind.TheVariants as kind
 
 module _ (s : State) (slot : Slot) (x : Id) (d : IsDependent s slot x) where
   pub dependent_attaches : role d.handle ≡ attaches
@@ -53,8 +38,7 @@ module _ (s : State) (slot : Slot) (x : Id) (d : IsDependent s slot x) where
         (ap (λ q. loses_by q c.reach c.kept d.handle.target) dependent_attaches ∙ lost)
         (attaching_lost (role d.handle) (is_lost c.kept d.handle.target) lost))
 
-    goes_with : c.kept x ≡ false
-        → get t.handles slot.0
+    goes_with : c.kept x ≡ false → get t.handles slot.0
         ≡ Some (record { kind = kind.Dependent; target = None; extra = secondary None })
     goes_with lost =
         let loses_it : is_lost c.kept d.handle.target ≡ true = ap (is_lost c.kept) d.target ∙ ap not lost in
@@ -124,7 +108,6 @@ pub dependents_keep_no_target : DependentsKeepNoTarget
 dependents_keep_no_target m n s t u r q slot x h without d =
     let free = live_not_weak s h.well_formed.weak slot.0 d.handle d.is_stored in
     stays_alike s (remove s.handles slot.0) s.weak x (none_new s slot x d free)
-    (own_or_left s slot x d free) n
-    t u r q (whole_scene m s h.well_formed)
+    (own_or_left s slot x d free) n t u r q (whole_scene m s h.well_formed)
     (whole_scene m (without_handle s slot)
     (removal_keeps m s h.well_formed slot)) h.collects.scene without.scene

@@ -1,20 +1,10 @@
 -- What is marked over due clumps and condemned objects alone is what chains of edges lead to.
-use Rattle.hd_model.proofs.Basics.{◌≡◌, ℕ, ◌<◌, ◌≤◌, true, false, List, Option, Some, None, IsSome, refl, sym, ap, ◌∙◌, subst, ⊎_elim, inl, inr, ◌⊎◌, arith, is_some, get, cases_Bool, cases_lt}
-use Rattle.hd_model.specs.Data.{Id, Report}
-use Rattle.hd_model.specs.declared.data.Kind.TheVariants as kind
-use Rattle.hd_model.specs.State.{Object, Handle, State, row_of, secondary_of, field_of}
-use Rattle.hd_model.specs.Scene.{scene_of, is_object, generation_in, generation_at, IsCondemned, IsWhole}
-use Rattle.hd_model.specs.Ages.{is_due, HasSoundAges}
-use Rattle.hd_model.specs.Reach.{older}
-use Rattle.hd_model.specs.Collect.{cleared, Collects, CollectsState}
-use Rattle.hd_model.specs.InUse.{IsUsed, in_register, in_static, in_queue, by_handle, IsOlder, IsLedTo, from_start, by_field, by_dependent, IsInUse, IsResurrected}
+use Rattle.hd_model.proofs.Basics.{AgesHideNothing, Collects, CollectsState, Handle, HasSoundAges, Id, IsCondemned, IsInUse, IsLedTo, IsOlder, IsResurrected, IsSome, IsUsed, IsWhole, List, None, Object, Option, Report, Some, State, ap, arith, by_dependent, by_field, by_handle, cases_Bool, cases_lt, cleared, false, field_of, from_start, generation_at, generation_in, get, in_queue, in_register, in_static, inl, inr, is_due, is_object, is_some, older, refl, row_of, scene_of, secondary_of, subst, sym, true, ℕ, ⊎_elim, ◌<◌, ◌∙◌, ◌≡◌, ◌≤◌, ◌⊎◌}
 use Rattle.hd_model.specs.DueClumps.{IsDueRoot, due_register, due_static, due_queue, due_holder, older_field, older_target, IsMarked, mark_start, mark_field, mark_secondary, HidesNothing}
-use Rattle.hd_model.specs.CollectionLaws.{AgesHideNothing}
-use Rattle.hd_model.proofs.WeakSlots.{handle_left, weak_left}
+use Rattle.hd_model.proofs.{WeakSlots.handle_left, WeakSlots.weak_left, SceneCollection.keeps_root, SceneCollection.root_reached, UseChains.led_chain, UseChains.chain_led}
 use Rattle.hd_model.proofs.WholeScenes.{whole_scene, register_named, static_named, field_in}
-use Rattle.hd_model.proofs.SceneCollection.{keeps_root, root_reached}
 use Rattle.hd_model.proofs.MarkReach.{undue_target, undue_secondary, undue_stays}
-use Rattle.hd_model.proofs.UseChains.{led_chain, chain_led}
+use Rattle.hd_model.specs.declared.data.Kind.TheVariants as kind
 
 module _ (s : State) where
   -- chains from more starts
@@ -22,8 +12,7 @@ module _ (s : State) where
   led_like A B turn h = let (r, rest) = led_chain s A h in chain_led s B (turn r rest.0) rest.1
 
   -- a chain from either begins at one
-  pub led_either : (A B : Id → Type 0) {y : Id} → IsLedTo s (λ x. A x ⊎ B x) y
-      → IsLedTo s A y ⊎ IsLedTo s B y
+  pub led_either : (A B : Id → Type 0) {y : Id} → IsLedTo s (λ x. A x ⊎ B x) y → IsLedTo s A y ⊎ IsLedTo s B y
   led_either A B h =
       let (r, rest) = led_chain s (λ x. A x ⊎ B x) h in
       ⊎_elim (λ a. inl (chain_led s A a rest.1)) (λ b. inr (chain_led s B b rest.1)) rest.0

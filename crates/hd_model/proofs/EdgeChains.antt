@@ -1,7 +1,8 @@
 -- Chains of edges: that they join, map to chains of other edges, and stay within closed sets; and sets that
 -- grow along them.
-use Rattle.hd_model.proofs.Basics.{◌≡◌, Bool, true, sym, subst, ⊎_elim, inl, inr, ◌⊎◌}
-use Rattle.hd_model.specs.Leads.{Leads, IsClosed, Grows}
+use Rattle.hd_model.proofs.Basics.{Bool, Grows, IsClosed, Leads, inl, inr, subst, sym, true, ⊎_elim, ◌≡◌, ◌⊎◌, ℕ}
+use Rattle.hd_model.specs.Anchors.{LeadsIn}
+use Rattle.hd_model.proofs.AnchorChains.{some_edges, leads}
 
 module _ {N : Type 0} (E : N → N → Type 0) where
   -- one edge, and one chain after another
@@ -44,21 +45,32 @@ module _ {N : Type 0} (E : N → N → Type 0) where
 
 module _ {N M : Type 0} (E : N → N → Type 0) (F : M → M → Type 0) (f : N → M) (P : N → Type 0) where
   -- where edges keep a property and map to edges, chains of what has it map to chains
+  pub edges_turn : ((x y : N) → P x → E x y → P y) → ((x y : N) → P x → E x y → F (f x) (f y)) → {k : ℕ}
+      → {x y : N} → P x → LeadsIn E k x y → P y × LeadsIn F k (f x) (f y)
+  edges_turn stays turn h LeadsIn.start = (h, LeadsIn.start)
+  edges_turn stays turn h (LeadsIn.step {y = y} {z = z} chain e) =
+      let (there, image) = edges_turn stays turn h chain in
+      (stays y z there e, LeadsIn.step image (turn y z there e))
+
   pub leads_turn : ((x y : N) → P x → E x y → P y) → ((x y : N) → P x → E x y → F (f x) (f y)) → {x y : N}
       → P x → Leads E x y → P y × Leads F (f x) (f y)
-  leads_turn stays turn h Leads.here = (h, Leads.here)
-  leads_turn stays turn h (Leads.more {y = y} {z = z} chain e) =
-      let (there, image) = leads_turn stays turn h chain in
-      (stays y z there e, Leads.more image (turn y z there e))
+  leads_turn stays turn h chain =
+      let (there, image) = edges_turn stays turn h (some_edges chain).1 in (there, leads image)
 
   -- where each edge of F from an image is that of an edge of E, so is each chain
-  abbrev pub Lifted : N → M → Type 0
-  Lifted x b = (y : N) × (P y × (Leads E x y × (f y ≡ b)))
+  abbrev pub Lifted : (N → N → Type 0) → N → M → Type 0
+  Lifted L x b = (y : N) × (P y × (L x y × (f y ≡ b)))
 
-  pub leads_lift : ((x : N) (b : M) → P x → F (f x) b → (y : N) × (P y × (E x y × (f y ≡ b)))) → (x : N) → P x
-      → {a b : M} → f x ≡ a → Leads F a b → Lifted x b
-  leads_lift lift x h same Leads.here = (x, (h, (Leads.here, same)))
-  leads_lift lift x h same (Leads.more {y = b} {z = c} chain e) =
-      let (y, rest) = leads_lift lift x h same chain in
+  pub edges_lift : ((x : N) (b : M) → P x → F (f x) b → Lifted E x b) → (x : N) → P x → {k : ℕ} → {a b : M}
+      → f x ≡ a → LeadsIn F k a b → Lifted (LeadsIn E k) x b
+  edges_lift lift x h same LeadsIn.start = (x, (h, (LeadsIn.start, same)))
+  edges_lift lift x h same (LeadsIn.step {y = b} {z = c} chain e) =
+      let (y, rest) = edges_lift lift x h same chain in
       let (z, last) = lift y c rest.0 (subst (λ m. F m c) (sym rest.1.1) e) in
-      (z, (last.0, (Leads.more rest.1.0 last.1.0, last.1.1)))
+      (z, (last.0, (LeadsIn.step rest.1.0 last.1.0, last.1.1)))
+
+  pub leads_lift : ((x : N) (b : M) → P x → F (f x) b → Lifted E x b) → (x : N) → P x → {a b : M} → f x ≡ a
+      → Leads F a b → Lifted (Leads E) x b
+  leads_lift lift x h same chain =
+      let (y, rest) = edges_lift lift x h same (some_edges chain).1 in
+      (y, (rest.0, (leads rest.1.0, rest.1.1)))

@@ -1,6 +1,5 @@
 -- Chains and growths by other edges, and within a property that edges keep.
-use Rattle.hd_model.proofs.Basics.{◌≡◌, Bool, true, ⊎_elim}
-use Rattle.hd_model.specs.Leads.{Leads, Grows}
+use Rattle.hd_model.proofs.Basics.{Bool, Grows, Leads, true, ⊎_elim, ◌≡◌}
 
 -- where each edge is one of another relation, so is each chain
 pub leads_like : {N : Type 0} (E F : N → N → Type 0) → ((x y : N) → E x y → F x y) → {x y : N} → Leads E x y

@@ -1,21 +1,14 @@
 -- What each command does where it is not refused, one case for each way.
-use Rattle.hd_model.proofs.Basics.{◌≡◌, ℕ, ◌<◌, ◌+◌, ◌-◌, ◌^◌, ◌==◌, ◌&&◌, Bool, true, false, length, set, Option, Some, None, is_some, IsSome, cond, List, [], ◌∷◌, refl, sym, ap, ◌∙◌, subst, ⊎_elim, ◌⊎◌, inl, inr, option_and_then, get}
-use Rattle.hd_model.specs.Data.{Id, Slot, Entry, Kind, Make, Strength, Grown, Refusal, Cmd}
-use Rattle.hd_model.specs.declared.data.Kind.TheVariants as kind
-use Rattle.hd_model.specs.declared.data.Grown.TheVariants.{Zero, One, Two, Back}
-use Rattle.hd_model.specs.declared.data.Refusal.TheVariants as refusal
-use Rattle.hd_model.specs.declared.data.Reply.TheVariants as reply
-use Rattle.hd_model.specs.declared.command.Cmd.TheVariants as cmd
-use Rattle.hd_model.specs.Kinds.{kind_of, is_kind}
-use Rattle.hd_model.specs.State.{Numbers, Object, Extra, strength, secondary, count, Handle, State, secondary_of, count_of, without_secondary, register_of, handle_register_of, static_of, board_of, last_serial, object_by_id, field_of, handle_at, identity_of, IsAllFree, with_weak, with_register, with_handle_register, with_static, with_board, with_object, with_handle, without_handle, without_use, with_queue, with_place, with_serial}
-use Rattle.hd_model.specs.Role.{pins}
-use Rattle.hd_model.specs.Places.{MayAnswer}
-use Rattle.hd_model.specs.Command.{Outcome, refuses, loaded, on_handle, on_handle_of, fresh_object, take_first, set_registered, made_handle, answers, Adding, is_refused, in_idle, in_new, adding_key, adding_of, with_entry, slot_of_key, idle_slot, value_at}
-use Rattle.hd_model.specs.Step.{IsOutcome, MayGive, with_growth, MakesHandle, AddsEntry, pinned_by, AnswersPlace, DoesCollect, GivesBack, way_of_adding, TakesWay, StepOf, Step}
-use Rattle.hd_model.specs.WellFormed.{FitsKind}
+use Rattle.hd_model.proofs.Basics.{Adding, AddsEntry, AnswersPlace, Back, Bool, Cmd, DoesCollect, Entry, Extra, FitsKind, GivesBack, Grown, Handle, Id, IsAllFree, IsOutcome, IsSome, Kind, List, Make, MakesHandle, MayAnswer, MayGive, None, Numbers, Object, One, Option, Outcome, Refusal, Slot, Some, State, Step, StepOf, Strength, TakesWay, Two, Zero, [], adding_key, adding_of, answers, ap, board_of, cond, count, count_of, false, field_of, fresh_object, get, handle_at, handle_register_of, identity_of, idle_slot, in_idle, in_new, inl, inr, is_kind, is_some, kind_of, last_serial, length, loaded, made_handle, object_by_id, on_handle, on_handle_of, option_and_then, pinned_by, pins, refl, refuses, register_of, secondary, secondary_of, set, set_registered, slot_of_key, static_of, strength, subst, sym, take_first, true, value_at, way_of_adding, with_board, with_entry, with_growth, with_handle, with_handle_register, with_object, with_place, with_queue, with_register, with_serial, with_static, with_weak, without_handle, without_secondary, without_use, ℕ, ⊎_elim, ◌&&◌, ◌+◌, ◌-◌, ◌<◌, ◌==◌, ◌^◌, ◌∙◌, ◌∷◌, ◌≡◌, ◌⊎◌}
+use Rattle.hd_model.specs.Command.{is_refused}
+use Rattle.hd_model.specs.Anchors.{TellsRoot}
 use Rattle.hd_model.proofs.KindTests.{same_kind}
 use Rattle.hd_model.proofs.WeakSlots.{HasNoKey, HasKey, key_found, key_none, idle_found, value_is}
 use Rattle.hd_model.proofs.Outcomes.{option_cases, test_cases, on_object_cases, on_field_cases, on_handle_cases, on_handle_of_cases}
+use Rattle.hd_model.specs.declared.data.Kind.TheVariants as kind
+use Rattle.hd_model.specs.declared.data.Refusal.TheVariants as refusal
+use Rattle.hd_model.specs.declared.data.Reply.TheVariants as reply
+use Rattle.hd_model.specs.declared.command.Cmd.TheVariants as cmd
 
 -- the identity that a `new` gives
 abbrev pub next_identity : State → ℕ → Id
@@ -94,8 +87,7 @@ pub data Effect (n : Numbers) (s : State) (e : Entry) : Cmd → State → Type 0
       → e.reply ≡ reply.Done → Effect n s e (cmd.HSet h t)
       (with_handle s slot (record handle {
         target = register_of s e.caller t;
-        extra =
-            without_secondary handle.extra;
+        extra = without_secondary handle.extra;
       }))
   sets_secondary : {h r : ℕ} (slot : Slot) (handle : Handle Id) → Finds s e.caller h slot handle
       → FitsKind {N = Id} handle.kind (secondary (register_of s e.caller r)) → IsSome handle.target
@@ -128,8 +120,7 @@ pub data Effect (n : Numbers) (s : State) (e : Entry) : Cmd → State → Type 0
   gives_back : {given : Kind} (block : ℕ) → IsAllFree s given block → e.reply ≡ reply.Value 1
       → Effect n s e (cmd.Trim given) (without_use s block)
   adds_entry : {k v : ℕ} (key : Id) (slot : Slot) → register_of s e.caller k ≡ Some key → HasNoKey s key
-      → MayHold n s e.grown slot → e.reply ≡ reply.Done → e.slot ≡ Some slot
-      → Effect n s e (cmd.CAdd k v)
+      → MayHold n s e.grown slot → e.reply ≡ reply.Done → e.slot ≡ Some slot → Effect n s e (cmd.CAdd k v)
       (with_entry (record s { blocks = (with_growth s kind.Dependent e.grown).blocks }) s e.caller v slot key)
   finds_value : {d k : ℕ} (key : Id) (slot : Slot) (has : HasKey s key slot.0)
       → register_of s e.caller k ≡ Some key → e.reply ≡ loaded has.entry.value
@@ -140,6 +131,8 @@ pub data Effect (n : Numbers) (s : State) (e : Entry) : Cmd → State → Type 0
       → e.reply ≡ reply.Done → Effect n s e (cmd.CRemove k) (with_weak s slot None)
   removes_none : {k : ℕ} (key : Id) → register_of s e.caller k ≡ Some key → HasNoKey s key
       → e.reply ≡ reply.Absent → Effect n s e (cmd.CRemove k) s
+  answers_root : {r : ℕ} (goal : Id) → register_of s e.caller r ≡ Some goal → TellsRoot s goal e.reply
+      → Effect n s e (cmd.GcRoot r) s
   gives_none : {given : Kind} → e.reply ≡ reply.Value 0 → Effect n s e (cmd.Trim given) s
 
 -- growth changes the use of blocks and nothing else
@@ -239,8 +232,7 @@ module _ (n : Numbers) (s : State) (e : Entry) (t : State) where
 
   adds_it : (k v : ℕ) → Adds k v (adding_of s e.caller k)
   adds_it k v =
-      option_cases (Adds k v) (adding_key s) (register_of s e.caller k) _
-      (λ _. refuses_it _ _)
+      option_cases (Adds k v) (adding_key s) (register_of s e.caller k) _ (λ _. refuses_it _ _)
       (λ key f. option_cases (Adds k v) (λ _. is_refused refusal.Present) (slot_of_key s key) _
       (λ none. option_cases (Adds k v) (λ slot. in_idle slot key) (idle_slot s) (in_new key)
       (λ _. ⊎_elim (adds_new k v key f (key_none s key none)) (λ full. refuses_it _ _ full.refused))
@@ -322,6 +314,10 @@ module _ (n : Numbers) (s : State) (e : Entry) (t : State) where
       (λ key f. option_cases (Comes (cmd.CRemove k)) _ (slot_of_key s key) _
       (λ none. comes _ _ (λ p _. removes_none key f (key_none s key none) p))
       (λ slot is. comes _ _ (λ p _. removes_entry key slot (key_found s key slot is) f p))) h
+  command_effect (cmd.GcRoot r) h =
+      on_object_cases (Comes (cmd.GcRoot r)) s e.caller r _ (λ _. refuses_it _ _)
+      (λ goal f. comes _ _ (λ p _. answers_root goal f (subst (TellsRoot s goal) (sym p) (h.tells goal f))))
+      h.outcome
 
   pub effect : Step n s e t → Effect n s e e.cmd t
   effect step = command_effect e.cmd step.does

@@ -1,19 +1,7 @@
 -- An entry of the weak table over a collection, and a state with the entry taken out.
-use Rattle.hd_model.proofs.Basics.{◌≡◌, ◌≢◌, ℕ, true, Option, Some, None, is_some, IsSome, refl, sym, ap, ◌∙◌, subst, ⊎_elim, inl, inr, ◌⊎◌, get, insert, option_map, cases_Bool, cases_eq, cond-true, cond-false, none-some, same_Some}
-use Rattle.std.specs.Option.{option_or}
-use Rattle.hd_model.specs.Data.{Id, Slot}
-use Rattle.hd_model.specs.State.{Numbers, Handle, WeakEntry, weak_handle, State, row_of, with_weak}
-use Rattle.hd_model.specs.Role.{attaches, role}
-use Rattle.hd_model.specs.Scene.{scene_of}
-use Rattle.hd_model.specs.Collect.{swept}
-use Rattle.hd_model.specs.WellFormed.{IsWellFormed}
-use Rattle.hd_model.specs.WeakLaws.{EntriesFollowKeys, EntriesUseNoKey, EntriesKeepNoKey}
-use Rattle.hd_model.proofs.ReadAfterWrite.{get_inserted, get_beside}
-use Rattle.hd_model.proofs.WellFormedWrites.{weak_keeps}
+use Rattle.hd_model.proofs.Basics.{EntriesFollowKeys, EntriesKeepNoKey, EntriesUseNoKey, Handle, Id, IsSome, IsWellFormed, None, Numbers, Option, Slot, Some, State, WeakEntry, ap, attaches, cases_Bool, cases_eq, cond-false, cond-true, get, inl, inr, insert, is_some, none-some, option_map, option_or, refl, role, row_of, same_Some, scene_of, subst, swept, sym, true, weak_handle, with_weak, ℕ, ⊎_elim, ◌∙◌, ◌≡◌, ◌≢◌, ◌⊎◌}
+use Rattle.hd_model.proofs.{ReadAfterWrite.get_inserted, ReadAfterWrite.get_beside, WellFormedWrites.weak_keeps, WholeScenes.whole_scene, SceneCollection.keeps_edge, SceneCollection.still_object, Reports.kept_since, Reports.lost_since}
 use Rattle.hd_model.proofs.WeakSlots.{handle_row, weak_row, row_cases, weak_attaches}
-use Rattle.hd_model.proofs.WholeScenes.{whole_scene}
-use Rattle.hd_model.proofs.SceneCollection.{keeps_edge, still_object}
-use Rattle.hd_model.proofs.Reports.{kept_since, lost_since}
 use Rattle.hd_model.proofs.AttachingRows.{use_less, use_was, stays_alike}
 
 pub entries_follow_keys : EntriesFollowKeys
@@ -51,8 +39,7 @@ module _ (s : State) (slot : Slot) (x : WeakEntry Id) (held : get s.weak slot.0 
 
   none_new : (q : ℕ) (h : Handle Id) → row_of less q ≡ Some h → (row_of s q ≡ Some h) ⊎ (h.target ≡ None)
   none_new q h e =
-      ⊎_elim
-      (λ live. inl (handle_row s q h live))
+      ⊎_elim (λ live. inl (handle_row s q h live))
       (λ weak. ⊎_elim
       (λ same. let idle : None ≡ weak.1.0 = same_Some None weak.1.0
       (sym (get_inserted s.weak slot.0 None) ∙ ap (get less.weak) (sym same) ∙ weak.1.1.0) in
@@ -65,8 +52,7 @@ module _ (s : State) (slot : Slot) (x : WeakEntry Id) (held : get s.weak slot.0 
   own_or_left : (q : ℕ) (h : Handle Id) → row_of s q ≡ Some h
       → ((role h ≡ attaches) × (h.target ≡ Some x.key)) ⊎ (row_of less q ≡ Some h)
   own_or_left q h e =
-      ⊎_elim
-      (λ live. inr (handle_row less q h live))
+      ⊎_elim (λ live. inr (handle_row less q h live))
       (λ weak. ⊎_elim
       (λ same. let is : Some x ≡ weak.1.0 = same_Some (Some x) weak.1.0
       (sym held ∙ ap (get s.weak) (sym same) ∙ weak.1.1.0) in
@@ -92,8 +78,7 @@ taken_out m s w slot held =
 pub entries_keep_no_key : EntriesKeepNoKey
 entries_keep_no_key m n s t u r q slot x h without held =
     stays_alike s s.handles (insert s.weak slot.0 None) x.key (none_new s slot x held)
-    (own_or_left s slot x held) n
-    t u r q (whole_scene m s h.well_formed)
+    (own_or_left s slot x held) n t u r q (whole_scene m s h.well_formed)
     (whole_scene m (with_weak s slot None) (taken_out m s h.well_formed slot
     (ap is_some held))) h.collects.scene
     without.scene

@@ -1,22 +1,8 @@
 -- What becomes of objects, handles, the queue and generations in a collection.
-use Rattle.hd_model.proofs.Basics.{◌≡◌, ℕ, ◌+◌, ◌≤◌, min, Bool, true, false, not, ◌&&◌, Option, Some, None, refl, sym, ap, ◌∙◌, subst, ⊎_elim, inl, inr, arith, Contains, option_map, get, cases_Bool, cond-true, true≢false, nat_tests, same_Some, Contains-append_cases, Contains-append_right}
-use Rattle.hd_model.specs.Data.{Id, Report}
-use Rattle.hd_model.specs.State.{Object, Handle, State}
-use Rattle.hd_model.specs.Role.{Role, holds, short, long, attaches, role}
-use Rattle.hd_model.specs.Scene.{scene_of, IsWhole}
-use Rattle.hd_model.specs.Ages.{raised}
-use Rattle.hd_model.specs.Reach.{held, IsToBeFinalized, IsReached}
-use Rattle.hd_model.specs.Collect.{is_lost, loses_by, loses, cleared, survivor, Collects, CollectsState}
-use Rattle.hd_model.specs.InUse.{in_queue, from_start, IsInUse, IsResurrected, IsRescued, IsGarbage}
-use Rattle.hd_model.specs.CollectionLaws.{KeepsContents, RescuedObjectsStay, IsLeftAlone, InUseIsLeftAlone, InUseIsReached, HasTarget, IsGone, GarbageGoes, Joins, IsUnregistered, ResurrectsOnce, ObjectsAreResurrectedOnce, QueueGrowsInTurn, RisesOnce, GenerationsRiseOnce}
-use Rattle.hd_model.proofs.EdgeChains.{leads_on}
-use Rattle.hd_model.proofs.Entries.{some_value}
-use Rattle.hd_model.proofs.WeakSlots.{handle_row}
-use Rattle.hd_model.proofs.WholeScenes.{whole_scene}
+use Rattle.hd_model.proofs.Basics.{Bool, Collects, CollectsState, Contains, Contains-append_cases, Contains-append_right, GarbageGoes, GenerationsRiseOnce, Handle, HasTarget, Id, InUseIsLeftAlone, InUseIsReached, IsGarbage, IsGone, IsInUse, IsLeftAlone, IsReached, IsRescued, IsResurrected, IsToBeFinalized, IsUnregistered, IsWhole, Joins, KeepsContents, None, Object, ObjectsAreResurrectedOnce, Option, QueueGrowsInTurn, Report, RescuedObjectsStay, ResurrectsOnce, RisesOnce, Role, Some, State, ap, arith, attaches, cases_Bool, cleared, cond-true, false, from_start, get, held, holds, in_queue, inl, inr, is_lost, long, loses, loses_by, min, nat_tests, not, option_map, raised, refl, role, same_Some, scene_of, short, subst, survivor, sym, true, true≢false, ℕ, ⊎_elim, ◌&&◌, ◌+◌, ◌∙◌, ◌≡◌, ◌≤◌}
+use Rattle.hd_model.proofs.{EdgeChains.leads_on, MapEntries.some_value, WeakSlots.handle_row, WholeScenes.whole_scene, Reports.gone, CollectionLaws.unregistered}
 use Rattle.hd_model.proofs.SceneCollection.{kept_object, object_before, object_after, keeps_root, keeps_reached, keeps_resurrected}
 use Rattle.hd_model.proofs.IdleCollection.{raised_older, kept_target, loses_none, attaching_lost, cleared_same}
-use Rattle.hd_model.proofs.Reports.{gone}
-use Rattle.hd_model.proofs.CollectionLaws.{unregistered}
 use Rattle.hd_model.proofs.UseChains.{Edge, led_chain, chain_led, use_reached, reached_use, resurrected_to_be_finalized, to_be_finalized_resurrected}
 
 pub young_raised : (n g : ℕ) → g ≤ n → raised n g ≡ min (g + 1) 2

@@ -1,6 +1,6 @@
 -- In every state of a run there is a free place for each object, so no caller is ever stuck.
 use Rattle.hd_model.proofs.Basics.{Bool, FinMap, Id, IsFreePlace, IsSome, IsWellFormed, List, None, Numbers, Object, Option, RunsAreNeverStuck, Some, State, [], ap, arith, cases_eq, cond, contains_key, empty, entries, false, find, get, get-entries, inl, inr, insert, is_some, len, len-empty, len-entries, len-insert, length, nat_cmp, nat_cmp_total, object_by_id, refl, size_of, subst, suc, sym, total_size, true, true≢false, unwrap_or, zero, ℕ, ⊎_elim, ◌*◌, ◌+◌, ◌/◌, ◌<◌, ◌∙◌, ◌∷◌, ◌≡◌, ◌≤◌, ◌⊎◌}
-use Rattle.hd_model.proofs.{Entries.found_later, HeapLimit.heap_is_within_its_limit, StepExistence.filled, StepExistence.every_command_has_a_step, Sums.sum-many, WellFormedSteps.run_is_well_formed, ReadAfterWrite.get_inserted, ReadAfterWrite.still_some}
+use Rattle.hd_model.proofs.{MapEntries.found_later, HeapLimit.heap_is_within_its_limit, StepExistence.filled, StepExistence.every_command_has_a_step, Sums.sum-many, WellFormedSteps.run_is_well_formed, ReadAfterWrite.get_inserted, ReadAfterWrite.still_some}
 
 -- a key that a map lacks, among some from a number on
 data Lacks {X : Type 0} (m : FinMap nat_cmp X) (from fuel : ℕ) : Type 0 where

@@ -1,17 +1,6 @@
 -- After a collection of n every object is reached by the next one of n, which so finds nothing to do.
-use Rattle.hd_model.proofs.Basics.{◌≡◌, ℕ, ◌<◌, Bool, true, false, ◌&&◌, List, [], ◌∷◌, ◌++◌, Option, Some, None, is_some, refl, sym, ap, ◌∙◌, subst, ⊎_elim, inl, inr, arith, Contains, option_map, false≢true, true≢false, cond-false, not_from_true, nat_tests, Contains-append_left, Contains-append_right, append-nil}
-use Rattle.hd_model.specs.Data.{Report}
-use Rattle.hd_model.specs.State.{Object, secondary, Handle}
-use Rattle.hd_model.specs.Role.{Role, holds, short, long, attaches, role}
-use Rattle.hd_model.specs.Leads.{Leads}
-use Rattle.hd_model.specs.Scene.{Scene, is_object, fields_in, generation_in, generation_at, IsField, IsWhole}
-use Rattle.hd_model.specs.Ages.{raised}
-use Rattle.hd_model.specs.Reach.{IsAttached, IsEdge, IsHeld, IsRoot, named, queued, held, older, IsReached, IsToBeFinalized}
-use Rattle.hd_model.specs.Collect.{is_lost, loses_by, loses, is_attaching, cleared, LosesAs, IsRemoved, Collects}
-use Rattle.hd_model.proofs.EdgeChains.{leads_on, leads_turn}
-use Rattle.hd_model.proofs.Members.{not_in_none, first_in}
-use Rattle.hd_model.proofs.Entries.{some_value}
-use Rattle.hd_model.proofs.PropertyCounts.{counts_zero}
+use Rattle.hd_model.proofs.Basics.{Bool, Collects, Contains, Contains-append_left, Contains-append_right, Handle, IsAttached, IsEdge, IsField, IsHeld, IsReached, IsRemoved, IsRoot, IsToBeFinalized, IsWhole, Leads, List, LosesAs, None, Object, Option, Report, Role, Scene, Some, [], ap, append-nil, arith, attaches, cleared, cond-false, false, false≢true, fields_in, generation_at, generation_in, held, holds, inl, inr, is_attaching, is_lost, is_object, is_some, long, loses, loses_by, named, nat_tests, not_from_true, older, option_map, queued, raised, refl, role, secondary, short, subst, sym, true, true≢false, ℕ, ⊎_elim, ◌&&◌, ◌++◌, ◌<◌, ◌∙◌, ◌∷◌, ◌≡◌}
+use Rattle.hd_model.proofs.{EdgeChains.leads_on, EdgeChains.leads_turn, Members.not_in_none, Members.first_in, MapEntries.some_value, PropertyCounts.counts_zero}
 use Rattle.hd_model.proofs.SceneCollection.{keeps_root, keeps_edge, object_before, object_after, whole_after, reached_kept}
 
 -- a generation above n is not raised
@@ -109,8 +98,7 @@ module _ {N : Type 0} (rank : N → ℕ) (n : ℕ) (s t : Scene N) (r : Report) 
         secondary = a.secondary;
       }
 
-  pub edge_stays : (x y : N) → c.kept x ≡ true → IsEdge s.object s.handle x y
-      → IsEdge t.object t.handle x y
+  pub edge_stays : (x y : N) → c.kept x ≡ true → IsEdge s.object s.handle x y → IsEdge t.object t.handle x y
   edge_stays x y kept a = ⊎_elim (λ f. inl (field_stays x y kept (s.object x) refl f))
       (λ d. inr (attached_stays x y kept d)) a
 
@@ -185,8 +173,7 @@ module _ {N : Type 0} (rank : N → ℕ) (n : ℕ) (s t u : Scene N) (r q : Repo
   pub idle_queue : u.queue ≡ t.queue
   idle_queue =
       d.queue ∙ ap (λ xs. t.queue ++ xs)
-      (empty_joins d.joins (λ x h. none_resurrected x ((d.joins_are x).1 h)))
-      ∙ append-nil t.queue
+      (empty_joins d.joins (λ x h. none_resurrected x ((d.joins_are x).1 h))) ∙ append-nil t.queue
 
   pub idle_removed : q.removed ≡ 0
   idle_removed = counts_zero (IsRemoved t d.kept) q.removed none_removed d.report_is.removed

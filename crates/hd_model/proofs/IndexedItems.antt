@@ -1,6 +1,6 @@
 -- A list of items, some of which are present, read as a map by index.
 use Rattle.hd_model.proofs.Basics.{List, None, Option, Some, [], arith, empty, find, get, get-empty, get-from_entries, get_or, get_or-set_other, get_or-set_same, insert, length, nat_cmp, nat_cmp-IsAntisymmetric, nat_cmp_total, refl, remove, replicate, same_map, set, suc, sym, zero, ℕ, ◌+◌, ◌<◌, ◌∙◌, ◌∷◌, ◌≡◌}
-use Rattle.hd_model.proofs.{Entries.found_first, Entries.found_later, ReadAfterWrite.insert_cases, ReadAfterWrite.remove_cases}
+use Rattle.hd_model.proofs.{MapEntries.found_first, MapEntries.found_later, ReadAfterWrite.insert_cases, ReadAfterWrite.remove_cases}
 use Rattle.hd_model.specs.Indexed.{numbered, by_place}
 
 pub find-numbered_below : {A : Type 0} (i q : ℕ) (xs : List (Option A)) → q < i → find nat_cmp q

@@ -54,6 +54,7 @@ module _ (s : State) (p : FinMap nat_cmp ℕ) (caller : ℕ) (slot : Option Slot
   class_placed (class.AnswersPlace h) = refl
   class_placed (class.AddsEntry k v) = refl
   class_placed (class.LooksUp k) = refl
+  class_placed (class.Searches r) = refl
   class_placed class.Plain = refl
 
 -- an entry leaves the same ages whatever the pinned addresses

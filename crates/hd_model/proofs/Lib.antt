@@ -2,7 +2,8 @@ pub mod Basics
 pub mod Members
 pub mod PropertyCounts
 pub mod MemberWeights
-pub mod Entries
+pub mod MapEntries
+pub mod AnchorChains
 pub mod EdgeChains
 pub mod EdgeInvariants
 pub mod KindExtras
@@ -18,6 +19,7 @@ pub mod Collections
 pub mod WellFormedCollection
 pub mod IdleCollection
 pub mod RenamedReach
+pub mod AnchorReadings
 pub mod SceneReadings
 pub mod CollectionReadings
 pub mod MovedScenes
@@ -34,6 +36,7 @@ pub mod EntryKeys
 pub mod DueMarks
 pub mod Reachability
 pub mod ReachTests
+pub mod AnchorSearch
 pub mod MapBuild
 pub mod NextState
 pub mod CollectionSamples
@@ -57,7 +60,7 @@ pub mod StateReadBack
 pub mod HandleParts
 pub mod AttachedValues
 pub mod WeakSlotUse
-pub mod Growth
+pub mod LeastGrowth
 pub mod Serials
 pub mod SoloRuns
 pub mod ObjectParts
@@ -67,6 +70,7 @@ pub mod QueueTurns
 pub mod ObjectReadBack
 pub mod HeapLimit
 pub mod StepExistence
+pub mod AnchorLaws
 pub mod FreePlaces
 pub mod RunExamples
 pub mod CollectionExamples

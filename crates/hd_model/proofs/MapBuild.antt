@@ -1,8 +1,7 @@
 -- A map of the values that a function has at keys of a list.
-use Rattle.hd_model.proofs.Basics.{◌≡◌, ◌≢◌, ℕ, Bool, true, false, cond, List, [], ◌∷◌, Option, Some, None, IsSome, is_some, nat_cmp, refl, sym, ap, ◌∙◌, subst, ⊎_elim, inl, inr, ◌⊎◌, Contains, option_map, FinMap, get, insert, empty, keys, get-empty, cases_eq, false≢true}
+use Rattle.hd_model.proofs.Basics.{Bool, Contains, FinMap, IsSome, List, None, Option, Some, [], ap, cases_eq, cond, empty, false, false≢true, get, get-empty, inl, inr, insert, is_some, keys, nat_cmp, option_map, refl, subst, sym, true, ℕ, ⊎_elim, ◌∙◌, ◌∷◌, ◌≡◌, ◌≢◌, ◌⊎◌}
 use Rattle.hd_model.proofs.Members.{not_in_none, member_cases, mapped_in}
-use Rattle.hd_model.proofs.Entries.{some_value, entry_of}
-use Rattle.hd_model.proofs.ReadAfterWrite.{get_inserted, get_beside}
+use Rattle.hd_model.proofs.{MapEntries.some_value, MapEntries.entry_of, ReadAfterWrite.get_inserted, ReadAfterWrite.get_beside}
 
 pub in_keys : {X : Type 0} (m : FinMap nat_cmp X) (k : ℕ) → IsSome (get m k) → Contains (keys m) k
 in_keys {X} m k h =
@@ -58,8 +57,7 @@ module _ {X : Type 0} (f : ℕ → Option X) where
       (cases_eq q k)
 
   -- where the list has each key of the function, the map is the function
-  pub built_is : (ks : List ℕ) → ((k : ℕ) → IsSome (f k) → Contains ks k) → (q : ℕ)
-      → get (built ks) q ≡ f q
+  pub built_is : (ks : List ℕ) → ((k : ℕ) → IsSome (f k) → Contains ks k) → (q : ℕ) → get (built ks) q ≡ f q
   built_is ks all q =
       ⊎_elim (λ e. e)
       (λ (e : (get (built ks) q ≡ None) × (Contains ks q → ⊥)). none_at (f q) refl e) (built_or ks q)

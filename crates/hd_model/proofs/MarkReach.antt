@@ -1,11 +1,5 @@
 -- Marking by condemned objects, set cards and due clumps alone finds all that is reached.
-use Rattle.hd_model.proofs.Basics.{◌≡◌, ℕ, ◌<◌, ◌≤◌, Bool, true, false, List, Option, Some, None, refl, ap, ⊎_elim, arith, option_map, Decides, cases_lt, leb-false}
-use Rattle.hd_model.specs.State.{Extra, nothing, strength, secondary, count, Handle, secondary_of, rename_extra, rename_handle}
-use Rattle.hd_model.specs.Leads.{IsClosed}
-use Rattle.hd_model.specs.Scene.{Scene, Objects, Rows, generation_at, IsField}
-use Rattle.hd_model.specs.Ages.{age_of, is_due, HasSoundAges, HasSoundCards}
-use Rattle.hd_model.specs.Reach.{IsEdge, IsRoot, IsReached, IsToBeFinalized, IsKept}
-use Rattle.hd_model.specs.Collect.{cleared}
+use Rattle.hd_model.proofs.Basics.{Bool, Decides, Extra, Handle, HasSoundAges, HasSoundCards, IsClosed, IsEdge, IsField, IsKept, IsReached, IsRoot, IsToBeFinalized, List, None, Objects, Option, Rows, Scene, Some, age_of, ap, arith, cases_lt, cleared, count, false, generation_at, is_due, leb-false, nothing, option_map, refl, rename_extra, rename_handle, secondary, secondary_of, strength, true, ℕ, ⊎_elim, ◌<◌, ◌≡◌, ◌≤◌}
 use Rattle.hd_model.specs.Marking.{IsSettled}
 use Rattle.hd_model.proofs.EdgeChains.{leads_inside}
 use Rattle.hd_model.proofs.IdleCollection.{cleared_same, kept_target, loses_none, attaching_lost}

@@ -1,5 +1,5 @@
 -- Members of a list that are apart weigh at most as much as the list.
-use Rattle.hd_model.proofs.Basics.{◌≡◌, ◌≢◌, ℕ, ◌≤◌, List, [], ◌∷◌, ◌++◌, length, refl, ap, arith, ⊎_elim, sum_by, Contains, AllPairs, Contains-append_left, Contains-append_right, Contains-append_cases, sum_by-cons, sum_by-append}
+use Rattle.hd_model.proofs.Basics.{AllPairs, Contains, Contains-append_cases, Contains-append_left, Contains-append_right, List, [], ap, arith, length, refl, sum_by, sum_by-append, sum_by-cons, ℕ, ⊎_elim, ◌++◌, ◌∷◌, ◌≡◌, ◌≢◌, ◌≤◌}
 use Rattle.hd_model.proofs.Members.{first_in, later_in, member_cases, member_same, split_at, pairs_first, pairs_rest}
 
 -- members that are apart and are in another list weigh at most as much as all of that
@@ -19,13 +19,8 @@ lighter {A} w (x ∷ xs) ys apart within =
     let short : sum_by w xs ≤ sum_by w (before ++ after) =
     lighter w xs (before ++ after) (pairs_rest (λ a b. a ≢ b) x xs apart) others in
     let whole : sum_by w ys ≡ sum_by w (before ++ x ∷ after) = ap (sum_by w) rest.1 in
-    omega (
-      arith,
-      sum_by-cons w x xs,
-      sum_by-append w before after,
-      sum_by-append w before (x ∷ after),
-      sum_by-cons w x after,
-    )
+    let known = sum_by-append w before (x ∷ after) in
+    omega (arith, sum_by-cons w x xs, sum_by-append w before after, known, sum_by-cons w x after)
 
 -- where each weighs 1, a list weighs its length
 pub sum_ones : {A : Type 0} (xs : List A) → sum_by (λ _. 1) xs ≡ length xs

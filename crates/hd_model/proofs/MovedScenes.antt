@@ -1,16 +1,8 @@
 -- A collection whose objects move is one by identity, and leaves whole scenes and sound ages by address.
-use Rattle.hd_model.proofs.Basics.{◌≡◌, ℕ, Bool, true, false, cond, List, [], ◌∷◌, Option, Some, None, refl, sym, ap, ◌∙◌, subst, ⊎_elim, ◌==◌, Contains, eqb-true, eq-eqb, true≢false, none-some, same_Some}
-use Rattle.hd_model.specs.Data.{Id, Report}
-use Rattle.hd_model.specs.Scene.{Scene, is_object, IsWhole, IsReading}
-use Rattle.hd_model.specs.Ages.{grown, HasSoundAges}
-use Rattle.hd_model.specs.Collect.{survivor, Decision, GoesBy, left_by, Collects}
-use Rattle.hd_model.specs.Counting.{Counts}
+use Rattle.hd_model.proofs.Basics.{Bool, Collects, Contains, Counts, Decision, GoesBy, HasSoundAges, Id, IsReading, IsWhole, List, None, Option, Report, Scene, Some, [], ap, cond, eq-eqb, eqb-true, false, grown, is_object, left_by, none-some, refl, same_Some, subst, survivor, sym, true, true≢false, ℕ, ⊎_elim, ◌==◌, ◌∙◌, ◌∷◌, ◌≡◌}
 use Rattle.hd_model.proofs.Members.{not_in_none, first_in, later_in, member_cases}
-use Rattle.hd_model.proofs.Entries.{some_value}
-use Rattle.hd_model.proofs.SceneCollection.{left_from, whole_after}
-use Rattle.hd_model.proofs.Ages.{grown_sound}
+use Rattle.hd_model.proofs.{MapEntries.some_value, SceneCollection.left_from, SceneCollection.whole_after, Ages.grown_sound, CollectionReadings.IsBack, CollectionReadings.collects_read}
 use Rattle.hd_model.proofs.SceneReadings.{reading_on, reading_like, whole_read, ages_read}
-use Rattle.hd_model.proofs.CollectionReadings.{IsBack, collects_read}
 
 module _ {N : Type 0} {rank : N → ℕ} {n : ℕ} {s : Scene N} {d : Decision N} {r : Report} (w : IsWhole s)
     (g : GoesBy rank n s d r) where
@@ -73,14 +65,12 @@ module _ {N : Type 0} (f : N → Id) where
           let same : z ≡ x = same_Some z x h in
           let tied : (f z).0 ≡ y.0 = eqb-true (f z).0 y.0 at in (
             subst (λ v. Contains (z ∷ xs) v) same (first_in z xs),
-            ap f (sym same)
-                ∙ (λ i. record { 0 = tied i }),
+            ap f (sym same) ∙ (λ i. record { 0 = tied i }),
           )
       step false at h rest = let (inside, named) = rest h in (later_in z xs x inside, named)
 
   finds_named : (xs : List N) (x : N) → ((y z : N) → Contains xs y → Contains xs z → f y ≡ f z → y ≡ z)
-      → Contains xs x
-      → find_named f xs (f x) ≡ Some x
+      → Contains xs x → find_named f xs (f x) ≡ Some x
   unfolding find_named
   finds_named [] x apart h = absurd (not_in_none x h)
   finds_named (z ∷ xs) x apart h =

@@ -1,19 +1,10 @@
 -- The state and the report that a collection leaves.
-use Rattle.hd_model.proofs.Basics.{◌≡◌, ℕ, ◌+◌, ◌<◌, nat_le, sym, ⊎_elim, inl, inr, true≢false, Bool, true, false, cond, not, ◌&&◌, ◌++◌, Option, Some, None, IsSome, is_some, refl, ap, ◌∙◌, AllPairs, filter, option_map, Decides, get, len, keys, entries, entries_sorted, and_parts, and_from, false≢true, leb-true, le-leb, not_from_false}
-use Rattle.hd_model.specs.Data.{Id, Report}
-use Rattle.hd_model.specs.State.{Object, Handle, WeakEntry, State, row_of}
-use Rattle.hd_model.specs.Role.{Role, holds, short, long, attaches, role}
-use Rattle.hd_model.specs.Counting.{Counts}
-use Rattle.hd_model.specs.Scene.{scene_of, generation_at, IsWhole}
-use Rattle.hd_model.specs.Places.{is_pinned}
-use Rattle.hd_model.specs.Collect.{loses, is_attaching, cleared, swept, survivor, LosesAs, IsSurviving, IsRemoved, Decision, IsReport, CollectsState}
-use Rattle.hd_model.specs.CollectionLaws.{CollectionsExist}
+use Rattle.hd_model.proofs.Basics.{AllPairs, Bool, CollectionsExist, CollectsState, Counts, Decides, Decision, Handle, Id, IsRemoved, IsReport, IsSome, IsSurviving, IsWhole, LosesAs, None, Object, Option, Report, Role, Some, State, WeakEntry, and_from, and_parts, ap, attaches, cleared, cond, entries, entries_sorted, false, false≢true, filter, generation_at, get, holds, inl, inr, is_attaching, is_pinned, is_some, keys, le-leb, leb-true, len, long, loses, nat_le, not, not_from_false, option_map, refl, role, row_of, scene_of, short, survivor, swept, sym, true, true≢false, ℕ, ⊎_elim, ◌&&◌, ◌++◌, ◌+◌, ◌<◌, ◌∙◌, ◌≡◌}
 use Rattle.hd_model.proofs.Members.{passing_from, passing_in, pairs_mapped, pairs_passing}
 use Rattle.hd_model.proofs.PropertyCounts.{counts_where, counts_like, counts_join}
-use Rattle.hd_model.proofs.Entries.{keys_rise, counts_keys, some_value}
+use Rattle.hd_model.proofs.MapEntries.{keys_rise, counts_keys, some_value}
 use Rattle.hd_model.proofs.WeakSlots.{handle_row, weak_row, row_cases, rows_cleared}
-use Rattle.hd_model.proofs.WholeScenes.{whole_scene}
-use Rattle.hd_model.proofs.Reports.{counts_state}
+use Rattle.hd_model.proofs.{WholeScenes.whole_scene, Reports.counts_state}
 use Rattle.hd_model.proofs.MapBuild.{in_keys, had_value, had_source, built, built_is}
 use Rattle.hd_model.proofs.ReachTests.{ids, in_ids, attaching_is, is_reach, is_resurrected, is_kept, reach_is, resurrected_is, kept_is}
 
@@ -138,8 +129,7 @@ module _ (n : ℕ) (s : State) (d : Decision Id) where
         let some = counts_where (λ slot. IsSome (row_of s slot))
         (λ slot. losing (row_of s slot)) rows.0 rows.1 in (
           some.0,
-          counts_like _ (LosesAs (scene_of s) d.reach d.kept wanted) some.0
-              (λ slot h. losing_as slot h.1)
+          counts_like _ (LosesAs (scene_of s) d.reach d.kept wanted) some.0 (λ slot h. losing_as slot h.1)
               (λ slot l. (ap is_some l.is_stored, as_losing slot l)) some.1,
         )
 

@@ -5,6 +5,10 @@ use Rattle.hd_model.proofs.Collections.{one_collection}
 use Rattle.hd_model.specs.declared.command.Cmd.TheVariants as cmd
 use Rattle.hd_model.specs.declared.data.Kind.TheVariants as kind
 use Rattle.hd_model.specs.declared.data.Reply.TheVariants as reply
+use Rattle.hd_model.specs.State.{register_of}
+use Rattle.hd_model.specs.Command.{refuses}
+use Rattle.hd_model.specs.Step.{answers_root}
+use Rattle.hd_model.specs.declared.data.Refusal.TheVariants as refusal
 
 -- the command of a way that the state alone does not decide
 abbrev pub CommandOf : Cmd → Way → Type 0
@@ -15,6 +19,7 @@ CommandOf c (collects n) = c ≡ cmd.Collect n
 CommandOf c (answers_place h) = c ≡ cmd.AddrOf h
 CommandOf c (gives_back kind) = c ≡ cmd.Trim kind
 CommandOf c (adds_entry v key) = (k : ℕ) × (c ≡ cmd.CAdd k v)
+CommandOf c (answers_root r) = c ≡ cmd.GcRoot r
 
 pub way_command : (s : State) (caller : ℕ) (c : Cmd) → CommandOf c (way_of s caller c)
 way_command s caller (cmd.New d fields fin) = refl
@@ -22,6 +27,7 @@ way_command s caller (cmd.HNew d make t) = refl
 way_command s caller (cmd.Collect n) = refl
 way_command s caller (cmd.AddrOf h) = refl
 way_command s caller (cmd.Trim kind) = refl
+way_command s caller (cmd.GcRoot r) = refl
 way_command s caller (cmd.CAdd k v) = by (adding_of s caller k)
   where
     by : (a : Adding) → CommandOf (cmd.CAdd k v) (way_of_adding s caller v a)
@@ -58,6 +64,12 @@ places_same s caller h p q r =
     (λ handle. agree_test r _ _ _ (pins handle)
     (agree_option r _ _ handle.target _ (λ id a b. ap (λ z. answers (reply.Place z) (with_place s id z))
     (same_place a b)))))
+
+-- `gcroot` changes nothing, whatever it replies
+pub root_after : (s : State) (o : Option Id) (r : Reply)
+    → (option_map_or (λ _. answers r s) o (refuses refusal.Null s)).after ≡ s
+root_after s None r = refl
+root_after s (Some goal) r = refl
 
 module _ (n : Numbers) (s : State) (e : Entry) (t u : State) where
   one_outcome : (r : Outcome) → IsOutcome e r t → IsOutcome e r u → t ≡ u
@@ -103,6 +115,9 @@ module _ (n : Numbers) (s : State) (e : Entry) (t u : State) where
       (λ y. one_outcome _ x.refused y.refused) b) a
   one_of (collects k) a b = one_collected k a b
   one_of (answers_place h) a b = one_place h a b
+  one_of (answers_root r) a b =
+      a.outcome.after ∙ root_after s (register_of s e.caller r) a.found
+      ∙ sym (b.outcome.after ∙ root_after s (register_of s e.caller r) b.found)
   one_of (gives_back wanted) a b =
       ⊎_elim (λ x. ⊎_elim (λ y. x.after ∙ ap (without_use s) (same_blocks (sym x.grown ∙ y.grown))
       ∙ sym y.after) (λ y. absurd (back_or_not x.grown y.grown)) b)

@@ -1,16 +1,10 @@
 -- What a command does depends on no pinned address, but for `addr` and `collect`.
-use Rattle.hd_model.proofs.Basics.{◌≡◌, ℕ, inl, inr, ⊎_elim, Bool, true, false, true≢false, if◌then◌else◌, nat_lt, length, is_some, ◌+◌, ◌&&◌, List, [], ◌∷◌, Option, Some, None, refl, sym, ap, ◌∙◌, ◌==◌, nat_cmp, option_map_or, FinMap, get}
-use Rattle.hd_model.specs.Data.{Kind, Make, Grown, Slot, Entry, Id, Cmd}
-use Rattle.hd_model.specs.declared.data.Grown.TheVariants.{Zero, One, Two, Back}
+use Rattle.hd_model.proofs.Basics.{Adding, AddsEntry, Back, Bool, Cmd, Entry, FinMap, FindsTableFull, GivesBack, Grown, Handle, Id, IsFree, IsLeastUnused, IsOutcome, Kind, List, Make, MakesHandle, MayGive, None, Numbers, One, Option, Outcome, Slot, Some, State, Step, StepOf, TakesWay, Two, Zero, [], adding_of, ap, count_of, false, get, handle_register_of, if◌then◌else◌, in_idle, in_new, inl, inr, is_kind, is_some, kind_of, length, nat_cmp, nat_lt, object_by_id, on_field, on_handle, on_handle_of, on_object, option_map_or, refl, refuses, register_of, slot_of_key, sym, take_first, total_size, touched_by, true, true≢false, way_of_adding, with_entry, with_growth, with_made, with_places, ℕ, ⊎_elim, ◌&&◌, ◌+◌, ◌==◌, ◌∙◌, ◌∷◌, ◌≡◌, Reply}
+use Rattle.hd_model.specs.Command.{is_refused}
 use Rattle.hd_model.specs.declared.command.Cmd.TheVariants as cmd
-use Rattle.hd_model.specs.State.{Numbers, Handle, State, IsFree, register_of, handle_register_of, object_by_id, total_size, count_of}
-use Rattle.hd_model.specs.Places.{with_places}
-use Rattle.hd_model.specs.Touched.{touched_by}
-use Rattle.hd_model.specs.Kinds.{kind_of, is_kind}
+use Rattle.hd_model.specs.Anchors.{TellsRoot}
 use Rattle.hd_model.specs.declared.data.Refusal.TheVariants as refusal
 use Rattle.hd_model.specs.declared.data.Kind.TheVariants as kind
-use Rattle.hd_model.specs.Command.{Outcome, refuses, on_object, on_field, on_handle, on_handle_of, take_first, Adding, is_refused, in_idle, in_new, adding_of, slot_of_key, with_entry}
-use Rattle.hd_model.specs.Step.{with_growth, IsLeastUnused, IsOutcome, MayGive, MakesHandle, AddsEntry, FindsTableFull, GivesBack, with_made, way_of_adding, TakesWay, StepOf, Step}
 
 module _ (p : FinMap nat_cmp ℕ) where
   -- an outcome with these pinned addresses in its state
@@ -131,6 +125,12 @@ module _ (p : FinMap nat_cmp ℕ) where
           refused = alike _ _ x.refused (λ P leaf. leaf _);
         })) is
 
+    -- where an object is pinned, and at which address, no chain depends on
+    root_placed : (goal : Id) (r : Reply) → TellsRoot s goal r → TellsRoot before goal r
+    root_placed goal r (inl c) =
+        inl (record { from = c.from; edges = c.edges; shortest = c.shortest; reply_is = c.reply_is })
+    root_placed goal r (inr none) = inr none
+
     does_placed : (c : Cmd) → (touched_by c).places ≡ false → StepOf n s e t c → StepOf n before e after c
     does_placed (cmd.New d f fin) h is = (
       is.0,
@@ -200,6 +200,11 @@ module _ (p : FinMap nat_cmp ℕ) where
         by_option P leaf _ _ _ _ (slot_of_key s key) (λ slot. leaf _) (leaf _)))
     does_placed (cmd.CRemove k) h is = alike _ _ is (λ P leaf. object_placed P leaf s e.caller k _ _ (λ key.
         by_option P leaf _ _ _ _ (slot_of_key s key) (λ slot. leaf _) (leaf _)))
+    does_placed (cmd.GcRoot r) h is = record {
+      found = is.found;
+      tells = λ goal f. root_placed goal is.found (is.tells goal f);
+      outcome = alike _ _ is.outcome (λ P leaf. object_placed P leaf s e.caller r _ _ (λ goal. leaf _));
+    }
     does_placed _ h is = alike _ _ is (λ P leaf. leaf _)
 
     -- a step of a command that touches no pinned address is one with any such addresses

@@ -1,6 +1,6 @@
 -- The test for what is pinned, against its definition.
 use Rattle.hd_model.proofs.Basics.{Bool, Decides, FinMap, Handle, Id, IsHeld, IsPinned, None, Option, Some, and_from, and_parts, ap, eq-eqb, eqb-true, false≢true, get, is_pinned, is_target, nat_cmp, pins, refl, true, values, ℕ, ◌&&◌, ◌∙◌, ◌≡◌}
-use Rattle.hd_model.proofs.Entries.{value_of, value_found, any_from, any_of}
+use Rattle.hd_model.proofs.MapEntries.{value_of, value_found, any_from, any_of}
 use Rattle.hd_model.proofs.KindExtras.{pins_hold}
 
 pub target_is : (x : Id) (o : Option Id) → is_target x.0 o ≡ true → o ≡ Some x

@@ -1,14 +1,8 @@
 -- The targets of pinning handles have a number.
-use Rattle.hd_model.proofs.Basics.{◌≡◌, ℕ, Bool, true, false, ◌&&◌, ◌==◌, Option, Some, None, is_some, refl, sym, ap, ◌∙◌, option_map, Decides, list_any, get, values, len, and_parts, and_from, eqb-true, eq-eqb, false≢true}
-use Rattle.hd_model.specs.Data.{Addr}
-use Rattle.hd_model.specs.State.{Handle}
-use Rattle.hd_model.specs.Role.{pins}
-use Rattle.hd_model.specs.Counting.{Counts}
-use Rattle.hd_model.specs.Scene.{is_object}
-use Rattle.hd_model.specs.Reach.{IsPinned}
+use Rattle.hd_model.proofs.Basics.{Addr, Bool, Counts, Decides, Handle, IsPinned, None, Option, Some, and_from, and_parts, ap, eq-eqb, eqb-true, false, false≢true, get, is_object, is_some, len, list_any, option_map, pins, refl, sym, true, values, ℕ, ◌&&◌, ◌==◌, ◌∙◌, ◌≡◌}
 use Rattle.hd_model.specs.Heap.{Heap, Placed, object_at, object_in, region_generation, region_of}
 use Rattle.hd_model.specs.Table.{Table, row_at}
-use Rattle.hd_model.proofs.Entries.{value_of, value_found, any_from, any_of, counts_keys}
+use Rattle.hd_model.proofs.MapEntries.{value_of, value_found, any_from, any_of, counts_keys}
 use Rattle.hd_model.proofs.PropertyCounts.{counts_like, counts_where}
 
 -- whether a target is at an address
@@ -35,8 +29,7 @@ pinned_decides t x = (
       let (slot, found) = value_found t.rows g rest.0 in
       let (pinning, target) = and_parts (pins g) (is_at x g.target) rest.1 in
       record { slot = slot; handle = g; is_stored = found; pins = pinning; target = at_is x g.target target },
-  λ p.
-      any_of (λ (g : Handle Addr). pins g && is_at x g.target) (values t.rows) p.handle
+  λ p. any_of (λ (g : Handle Addr). pins g && is_at x g.target) (values t.rows) p.handle
       (value_of t.rows p.slot p.handle p.is_stored)
       (and_from (pins p.handle) (is_at x p.handle.target) p.pins (is_the_target x p.handle.target p.target)),
 )

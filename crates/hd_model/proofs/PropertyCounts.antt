@@ -1,7 +1,6 @@
 -- A property has one number of things, and such numbers add up.
-use Rattle.hd_model.proofs.Basics.{◌≡◌, ◌≢◌, Bool, true, ℕ, ◌+◌, ◌≤◌, List, [], ◌++◌, map, length, refl, ◌∙◌, subst, arith, ⊎_elim, inl, inr, ◌⊎◌, length-append, Contains, AllPairs, filter, Contains-append_left, Contains-append_right, Contains-append_cases, length-map}
+use Rattle.hd_model.proofs.Basics.{AllPairs, Bool, Contains, Contains-append_cases, Contains-append_left, Contains-append_right, Counts, List, [], arith, filter, inl, inr, length, length-append, length-map, map, refl, subst, true, ℕ, ⊎_elim, ◌++◌, ◌+◌, ◌∙◌, ◌≡◌, ◌≢◌, ◌≤◌, ◌⊎◌}
 use Rattle.hd_model.proofs.MemberWeights.{lighter, sum_ones}
-use Rattle.hd_model.specs.Counting.{Counts}
 use Rattle.hd_model.proofs.Members.{not_in_none, pairs_none, pairs_append, passing_from, passing_in, pairs_passing, pairs_mapped, pairs_among, mapped_in, mapped_from}
 
 module _ {A : Type 0} where

@@ -1,21 +1,10 @@
 -- Tests for what a collection of a state reaches, resurrects and keeps.
-use Rattle.hd_model.proofs.Basics.{◌≡◌, ℕ, ◌<◌, ◌≤◌, nat_lt, nat_le, ◌==◌, Bool, true, false, not, ◌||◌, ◌&&◌, List, map, Option, Some, None, IsSome, is_some, refl, sym, ap, ◌∙◌, subst, ⊎_elim, inl, inr, ◌⊎◌, Contains, Decides, list_any, ◌++◌, get, keys, option_map_or, Contains-append_left, Contains-append_right, none-some, cases_Bool, false≢true, true≢false, eqb-true, eq-eqb, ltb-true, lt-ltb, leb-true, le-leb, not_from_false, same_Some}
-use Rattle.hd_model.specs.Data.{Id}
-use Rattle.hd_model.specs.State.{Object, Handle, State, row_of, secondary_of}
-use Rattle.hd_model.specs.Role.{Role, holds, short, long, attaches, role}
-use Rattle.hd_model.specs.Leads.{Leads}
-use Rattle.hd_model.specs.Scene.{scene_of, is_object, fields_in, generation_at, IsWhole}
-use Rattle.hd_model.specs.Reach.{IsAttached, IsHeld, IsRoot, named, queued, held, older, IsReached, IsToBeFinalized, IsKept}
-use Rattle.hd_model.specs.Collect.{is_attaching}
-use Rattle.hd_model.specs.Places.{is_target}
-use Rattle.hd_model.proofs.Members.{mapped_in}
-use Rattle.hd_model.proofs.Entries.{some_value, entry_of}
-use Rattle.hd_model.proofs.MapBuild.{in_keys}
-use Rattle.hd_model.proofs.WeakSlots.{row_cases}
-use Rattle.hd_model.proofs.PinTest.{target_is, is_the_target}
+use Rattle.hd_model.proofs.Basics.{Bool, Contains, Contains-append_left, Contains-append_right, Decides, Decides-and, Decides-like, Decides-or, Handle, Id, IsAttached, IsHeld, IsKept, IsReached, IsRoot, IsSome, IsToBeFinalized, IsWhole, Leads, List, None, Object, Option, Role, Some, State, ap, attaches, cases_Bool, eq-eqb, eqb-true, false, false≢true, fields_in, generation_at, get, held, holds, inl, inr, is_attaching, is_object, is_some, is_target, keys, le-leb, leb-true, list_any, long, lt-ltb, ltb-true, map, named, nat_le, nat_lt, none-some, not, not_from_false, older, option_map_or, queued, refl, role, row_of, same_Some, scene_of, secondary_of, short, subst, sym, true, true≢false, ℕ, ⊎_elim, ◌&&◌, ◌++◌, ◌<◌, ◌==◌, ◌||◌, ◌∙◌, ◌≡◌, ◌≤◌, ◌⊎◌}
+use Rattle.hd_model.proofs.{Members.mapped_in, MapEntries.some_value, MapEntries.entry_of, MapBuild.in_keys, WeakSlots.row_cases, PinTest.target_is, PinTest.is_the_target, UseChains.Edge}
+use Rattle.hd_model.specs.Anchors.{IsAnchor, in_static, in_queue, by_handle}
+use Rattle.hd_model.proofs.AnchorChains.{anchor_root, root_anchor}
 use Rattle.hd_model.proofs.SceneCollection.{root_object, edge_object, reached_object}
-use Rattle.hd_model.proofs.Reachability.{decides_or, decides_and, decides_like, decides_any, through, decides_led}
-use Rattle.hd_model.proofs.UseChains.{Edge}
+use Rattle.hd_model.proofs.Reachability.{decides_any, through, decides_led}
 
 -- tests of roles
 abbrev pub is_holding : Role → Bool
@@ -36,10 +25,10 @@ attaching_is short = (λ h. absurd (false≢true h), λ e. ap is_attaching e)
 attaching_is long = (λ h. absurd (false≢true h), λ e. ap is_attaching e)
 attaching_is attaches = (λ _. refl, λ _. refl)
 
-same_id : Id → Id → Bool
+pub same_id : Id → Id → Bool
 same_id x y = x.0 == y.0
 
-same_is : (x y : Id) → Decides (same_id x y) (x ≡ y)
+pub same_is : (x y : Id) → Decides (same_id x y) (x ≡ y)
 unfolding same_id
 same_is x y = (
   λ h. let e = eqb-true x.0 y.0 h in λ i. record { 0 = e i },
@@ -53,9 +42,8 @@ target_decides x o = (target_is x o, is_the_target x o)
 named_decides : (x : Id) (xs : List (Option Id))
     → Decides (list_any (is_target x.0) xs) (Contains xs (Some x))
 named_decides x xs =
-    decides_like (list_any (is_target x.0) xs) (λ h. subst (λ o. Contains xs o) h.1.1 h.1.0)
-    (λ h. (Some x, (h, refl)))
-    (decides_any (λ o. o ≡ Some x) (is_target x.0) (target_decides x) xs)
+    Decides-like (list_any (is_target x.0) xs) (λ h. subst (λ o. Contains xs o) h.1.1 h.1.0)
+    (λ h. (Some x, (h, refl))) (decides_any (λ o. o ≡ Some x) (is_target x.0) (target_decides x) xs)
 
 module _ (s : State) where
   -- the identities of the objects, in rising order
@@ -89,8 +77,7 @@ module _ (s : State) where
       → Decides (list_any (tested test) slots) ((slot : ℕ) × ((h : Handle Id) ×
       ((row_of s slot ≡ Some h) × P h)))
   row_decides P test each =
-      decides_like (list_any (tested test) slots)
-      (λ h. (h.0, h.1.1))
+      Decides-like (list_any (tested test) slots) (λ h. (h.0, h.1.1))
       (λ h. (h.0, (in_slots h.0 h.1.0 h.1.1.0, h.1)))
       (decides_any (λ slot. (h : Handle Id) × ((row_of s slot ≡ Some h) × P h)) (tested test)
       (λ slot. of_row slot (row_of s slot) refl) slots)
@@ -113,10 +100,9 @@ module _ (s : State) where
   pub edge_is : (x y : Id) → Decides (is_edge x y) (Edge s x y)
   unfolding is_edge attaching
   edge_is x y =
-      decides_or (list_any (is_target y.0) (fields_in (get s.objects x.0)))
-      (list_any (tested (attaching x y)) slots)
-      (named_decides y (fields_in (get s.objects x.0)))
-      (decides_like (list_any (tested (attaching x y)) slots)
+      Decides-or (list_any (is_target y.0) (fields_in (get s.objects x.0)))
+      (list_any (tested (attaching x y)) slots) (named_decides y (fields_in (get s.objects x.0)))
+      (Decides-like (list_any (tested (attaching x y)) slots)
       (λ h. record {
         slot = h.0;
         handle = h.1.0;
@@ -129,9 +115,9 @@ module _ (s : State) where
       (a.slot, (a.handle, (a.is_stored, (a.attaches, (a.target, a.secondary))))))
       (row_decides
       (λ h. (role h ≡ attaches) × ((h.target ≡ Some x) × (secondary_of h.extra ≡ Some y))) (attaching x y)
-      (λ h. decides_and (is_attaching (role h))
+      (λ h. Decides-and (is_attaching (role h))
       (is_target x.0 h.target && is_target y.0 (secondary_of h.extra)) (attaching_is (role h))
-      (decides_and (is_target x.0 h.target) (is_target y.0 (secondary_of h.extra))
+      (Decides-and (is_target x.0 h.target) (is_target y.0 (secondary_of h.extra))
       (target_decides x h.target) (target_decides y (secondary_of h.extra))))))
 
   holding : Id → Handle Id → Bool
@@ -140,24 +126,37 @@ module _ (s : State) where
   held_decides : (x : Id) → Decides (list_any (tested (holding x)) slots) (IsHeld (scene_of s).handle x)
   unfolding holding
   held_decides x =
-      decides_like (list_any (tested (holding x)) slots)
-      (λ h. record {
-        slot = h.0;
-        handle = h.1.0;
-        is_stored = h.1.1.0;
-        holds = h.1.1.1.0;
-        target = h.1.1.1.1;
-      })
+      Decides-like (list_any (tested (holding x)) slots)
+      (λ h. record { slot = h.0; handle = h.1.0; is_stored = h.1.1.0; holds = h.1.1.1.0; target = h.1.1.1.1 })
       (λ (h : IsHeld (scene_of s).handle x). (h.slot, (h.handle, (h.is_stored, (h.holds, h.target)))))
       (row_decides (λ h. (role h ≡ holds) × (h.target ≡ Some x)) (holding x)
-      (λ h. decides_and (is_holding (role h)) (is_target x.0 h.target) (holding_is (role h))
+      (λ h. Decides-and (is_holding (role h)) (is_target x.0 h.target) (holding_is (role h))
       (target_decides x h.target)))
 
   queue_decides : (x : Id) → Decides (list_any (λ y. same_id y x) s.queue) (Contains s.queue x)
   queue_decides x =
-      decides_like (list_any (λ y. same_id y x) s.queue) (λ h. subst (λ z. Contains s.queue z) h.1.1 h.1.0)
-      (λ h. (x, (h, refl)))
-      (decides_any (λ y. y ≡ x) (λ y. same_id y x) (λ y. same_is y x) s.queue)
+      Decides-like (list_any (λ y. same_id y x) s.queue) (λ h. subst (λ z. Contains s.queue z) h.1.1 h.1.0)
+      (λ h. (x, (h, refl))) (decides_any (λ y. y ≡ x) (λ y. same_id y x) (λ y. same_is y x) s.queue)
+
+  -- whether an object is an anchor
+  pub is_anchor : List (Option Id) → Id → Bool
+  is_anchor xs x =
+      list_any (is_target x.0) xs
+      || (list_any (λ y. same_id y x) s.queue || list_any (tested (holding x)) slots)
+
+  pub anchor_is : (xs : List (Option Id)) (x : Id) → Decides (is_anchor xs x) (IsAnchor xs (scene_of s) x)
+  unfolding is_anchor
+  anchor_is xs x =
+      Decides-like (is_anchor xs x)
+      (⊎_elim in_static (⊎_elim in_queue by_handle)) back
+      (Decides-or (list_any (is_target x.0) xs) _ (named_decides x xs)
+      (Decides-or (list_any (λ y. same_id y x) s.queue) _ (queue_decides x) (held_decides x)))
+    where
+      back : IsAnchor xs (scene_of s) x
+          → Contains xs (Some x) ⊎ (Contains s.queue x ⊎ IsHeld (scene_of s).handle x)
+      back (in_static a) = inl a
+      back (in_queue b) = inr (inl b)
+      back (by_handle c) = inr (inr c)
 
   module _ (n : ℕ) where
     older_decides : (x : Id)
@@ -168,32 +167,13 @@ module _ (s : State) where
     )
 
     pub is_root : Id → Bool
-    is_root x =
-        list_any (is_target x.0) (scene_of s).named
-        || (list_any (λ y. same_id y x) s.queue
-        || (list_any (tested (holding x)) slots || nat_lt n (generation_at (scene_of s).object x)))
+    is_root x = is_anchor (scene_of s).named x || nat_lt n (generation_at (scene_of s).object x)
 
     pub root_is : (x : Id) → Decides (is_root x) (IsRoot (scene_of s) n x)
     unfolding is_root
     root_is x =
-        decides_like (is_root x)
-        (λ h. ⊎_elim (λ a. named a)
-        (λ h. ⊎_elim (λ b. queued b) (λ h. ⊎_elim (λ c. held c) (λ d. older d) h) h) h)
-        back
-        (decides_or (list_any (is_target x.0) (scene_of s).named) _
-        (named_decides x (scene_of s).named)
-        (decides_or (list_any (λ y. same_id y x) s.queue) _ (queue_decides x)
-        (decides_or (list_any (tested (holding x)) slots) (nat_lt n (generation_at (scene_of s).object x))
-        (held_decides x) (older_decides x))))
-      where
-        back : IsRoot (scene_of s) n x
-            → Contains (scene_of s).named (Some x)
-            ⊎ (Contains s.queue x
-            ⊎ (IsHeld (scene_of s).handle x ⊎ (n < generation_at (scene_of s).object x)))
-        back (named a) = inl a
-        back (queued b) = inr (inl b)
-        back (held c) = inr (inr (inl c))
-        back (older d) = inr (inr (inr d))
+        Decides-like (is_root x) (⊎_elim (anchor_root n (λ y h. h)) older) (root_anchor n)
+        (Decides-or (is_anchor (scene_of s).named x) _ (anchor_is (scene_of s).named x) (older_decides x))
 
     -- whether a chain leads from a start to an object
     pub is_led : (Id → Bool) → Id → Bool
@@ -213,7 +193,7 @@ module _ (s : State) where
     is_kept = is_led (λ x. is_reach x || is_resurrected x)
 
     module _ (w : IsWhole (scene_of s)) where
-      led_is : (Start : Id → Type 0) (start : Id → Bool) → ((x : Id) → Decides (start x) (Start x))
+      pub led_is : (Start : Id → Type 0) (start : Id → Bool) → ((x : Id) → Decides (start x) (Start x))
           → ((x : Id) → Start x → is_object (scene_of s).object x ≡ true) → (y : Id)
           → Decides (is_led start y) ((r : Id) × (Start r × Leads (Edge s) r y))
       unfolding is_led
@@ -234,21 +214,15 @@ module _ (s : State) where
         λ v. absurd (false≢true (sym (ap is_some e) ∙ ap is_some v.is_stored)),
       )
       resurrects_is x (Some o) e =
-          decides_like (o.registered && (nat_le o.generation n && not (is_reach x)))
-          (λ h. record {
-            object = o;
-            is_stored = e;
-            registered = h.0;
-            young = h.1.0;
-            lost = h.1.1;
-          })
+          Decides-like (o.registered && (nat_le o.generation n && not (is_reach x)))
+          (λ h. record { object = o; is_stored = e; registered = h.0; young = h.1.0; lost = h.1.1 })
           (λ (v : IsToBeFinalized (scene_of s) n x).
           let same : v.object ≡ o = same_Some v.object o (sym v.is_stored ∙ e) in (
             ap (λ (q : Object Id). q.registered) (sym same) ∙ v.registered,
             (subst (λ (q : Object Id). q.generation ≤ n) same v.young, v.lost),
           ))
-          (decides_and o.registered (nat_le o.generation n && not (is_reach x)) (λ h. h, λ h. h)
-          (decides_and (nat_le o.generation n) (not (is_reach x))
+          (Decides-and o.registered (nat_le o.generation n && not (is_reach x)) (λ h. h, λ h. h)
+          (Decides-and (nat_le o.generation n) (not (is_reach x))
           (leb-true o.generation n, le-leb o.generation n) (
             λ out reached. true≢false (sym ((reach_is x).1 reached) ∙ not_true (is_reach x) out),
             λ lost. ⊎_elim (λ yes. absurd (lost ((reach_is x).0 yes))) (not_from_false (is_reach x))
@@ -268,6 +242,6 @@ module _ (s : State) where
       kept_is x =
           led_is (λ r. IsReached (scene_of s) n r ⊎ IsToBeFinalized (scene_of s) n r)
           (λ r. is_reach r || is_resurrected r)
-          (λ r. decides_or (is_reach r) (is_resurrected r) (reach_is r) (resurrected_is r))
+          (λ r. Decides-or (is_reach r) (is_resurrected r) (reach_is r) (resurrected_is r))
           (λ r h. ⊎_elim (λ a. reached_object n (scene_of s) w r a)
           (λ (v : IsToBeFinalized (scene_of s) n r). ap is_some v.is_stored) h) x

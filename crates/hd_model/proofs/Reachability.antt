@@ -1,25 +1,7 @@
 -- A test for what chains lead to, where all that they pass is in a list.
-use Rattle.hd_model.proofs.Basics.{◌≡◌, Bool, true, ◌||◌, ◌&&◌, List, [], ◌∷◌, sym, subst, ⊎_elim, inl, inr, ◌⊎◌, Contains, Decides, list_any, and_parts, and_from, or_cases, or_left, or_right}
-use Rattle.hd_model.specs.Leads.{Leads}
-use Rattle.hd_model.proofs.Members.{not_in_none, member_cases}
-use Rattle.hd_model.proofs.Entries.{any_from, any_of}
-use Rattle.hd_model.proofs.EdgeChains.{one_edge, leads_on}
-
--- one test or another, and one with another
-pub decides_or : {P Q : Type 0} (a b : Bool) → Decides a P → Decides b Q → Decides (a || b) (P ⊎ Q)
-decides_or a b p q = (
-  λ h. ⊎_elim (λ x. inl (p.0 x)) (λ y. inr (q.0 y)) (or_cases a b h),
-  λ h. ⊎_elim (λ x. or_left a b (p.1 x)) (λ y. or_right a b (q.1 y)) h,
-)
-
-pub decides_and : {P Q : Type 0} (a b : Bool) → Decides a P → Decides b Q → Decides (a && b) (P × Q)
-decides_and a b p q = (
-  λ h. let both = and_parts a b h in (p.0 both.0, q.0 both.1),
-  λ h. and_from a b (p.1 h.0) (q.1 h.1),
-)
-
-pub decides_like : {P Q : Type 0} (a : Bool) → (P → Q) → (Q → P) → Decides a P → Decides a Q
-decides_like a to back p = (λ h. to (p.0 h), λ q. p.1 (back q))
+use Rattle.hd_model.proofs.Basics.{Bool, Contains, Decides, Leads, List, [], and_from, and_parts, inl, inr, list_any, or_cases, or_left, or_right, subst, sym, true, ⊎_elim, ◌&&◌, ◌||◌, ◌∷◌, ◌≡◌, ◌⊎◌, ℕ, zero, suc}
+use Rattle.hd_model.proofs.{Members.not_in_none, Members.member_cases, MapEntries.any_from, MapEntries.any_of, EdgeChains.one_edge, EdgeChains.leads_on}
+use Rattle.hd_model.specs.Anchors.{LeadsIn}
 
 -- whether a list has something that passes
 pub decides_any : {A : Type 0} (P : A → Type 0) (test : A → Bool) → ((x : A) → Decides (test x) (P x))
@@ -40,8 +22,7 @@ module _ {N : Type 0} (E : N → N → Type 0) (same step : N → N → Bool)
   through_from : (vs : List N) (x y : N) → through vs x y ≡ true → Leads E x y
   through_from [] x y h =
       ⊎_elim (λ e. subst (λ z. Leads E x z) ((same_is x y).0 e) Leads.here)
-      (λ e. one_edge E ((step_is x y).0 e))
-      (or_cases (same x y) (step x y) h)
+      (λ e. one_edge E ((step_is x y).0 e)) (or_cases (same x y) (step x y) h)
   through_from (v ∷ vs) x y h =
       ⊎_elim (λ e. through_from vs x y e)
       (λ e. let both = and_parts (through vs x v) (through vs v y) e in
@@ -102,4 +83,37 @@ module _ {N : Type 0} (E : N → N → Type 0) (same step : N → N → Bool)
           let there = in_p h.0 h.1.0 in
           any_of (λ r. start r && through vs r y) vs h.0 (inside h.0 there)
           (and_from (start h.0) (through vs h.0 y) ((start_is h.0).1 h.1.0) (through_all there h.1.1).1),
+    )
+
+    -- whether a chain of so many edges leads from one to another
+    pub in_edges : ℕ → N → N → Bool
+    in_edges zero x y = same x y
+    in_edges (suc k) x z = list_any (λ y. in_edges k x y && step y z) vs
+
+    edges_from : (k : ℕ) (x y : N) → in_edges k x y ≡ true → LeadsIn E k x y
+    unfolding in_edges
+    edges_from zero x y h = subst (λ z. LeadsIn E 0 x z) ((same_is x y).0 h) LeadsIn.start
+    edges_from (suc k) x z h =
+        let (y, rest) = any_from (λ y. in_edges k x y && step y z) vs h in
+        let both = and_parts (in_edges k x y) (step y z) rest.1 in
+        LeadsIn.step (edges_from k x y both.0) ((step_is y z).0 both.1)
+
+    edges_of : {k : ℕ} {x y : N} → P x → LeadsIn E k x y → P y × (in_edges k x y ≡ true)
+    unfolding in_edges
+    edges_of {x = x} h LeadsIn.start = (h, (same_is x x).1 (λ i. x))
+    edges_of {x = x} h (LeadsIn.step {k = k} {y = y} {z = z} chain e) =
+        let (there, leads) = edges_of h chain in (
+          stays y z there e,
+          any_of (λ v. in_edges k x v && step v z) vs y (inside y there)
+              (and_from (in_edges k x y) (step y z) leads ((step_is y z).1 e)),
+        )
+
+    -- whether one is a start, and a chain of so many edges leads from it
+    pub decides_edges : (Start : N → Type 0) (start : N → Bool) → ((x : N) → Decides (start x) (Start x))
+        → ((x : N) → Start x → P x) → (k : ℕ) (x y : N)
+        → Decides (start x && in_edges k x y) (Start x × LeadsIn E k x y)
+    decides_edges Start start start_is in_p k x y = (
+      λ h. let both = and_parts (start x) (in_edges k x y) h in
+          ((start_is x).0 both.0, edges_from k x y both.1),
+      λ h. and_from (start x) (in_edges k x y) ((start_is x).1 h.0) (edges_of (in_p x h.0) h.1).1,
     )

@@ -1,8 +1,5 @@
 -- Whether a handle pins, and its role, do not depend on names.
-use Rattle.hd_model.proofs.Basics.{◌≡◌, refl, ap}
-use Rattle.hd_model.specs.Data.{Kind}
-use Rattle.hd_model.specs.State.{Extra, nothing, strength, secondary, count, Handle, strength_in, count_of, rename_extra, rename_handle}
-use Rattle.hd_model.specs.Role.{role_by, role_of, pins_with, pins}
+use Rattle.hd_model.proofs.Basics.{Extra, Handle, Kind, ap, count, count_of, nothing, pins, pins_with, refl, rename_extra, rename_handle, role_by, role_of, secondary, strength, strength_in, ◌≡◌}
 
 module _ {N M : Type 0} (f : N → M) where
   strength_renamed : (e : Extra N) → strength_in (rename_extra f e) ≡ strength_in e

@@ -1,14 +1,8 @@
 -- A scene read under other names has the same reach, and keeps and resurrects the same objects.
-use Rattle.hd_model.proofs.Basics.{◌≡◌, ℕ, ◌<◌, ◌≤◌, true, Option, Some, None, is_some, refl, sym, ap, ◌∙◌, subst, ⊎_elim, inl, inr, ◌⊎◌, arith, Contains, option_map}
-use Rattle.hd_model.specs.State.{Object, Extra, nothing, strength, secondary, count, Handle, secondary_of, rename_extra, rename_object, rename_handle}
-use Rattle.hd_model.specs.Role.{holds, attaches, role}
-use Rattle.hd_model.specs.Leads.{Leads}
-use Rattle.hd_model.specs.Scene.{Scene, is_object, fields_in, generation_in, generation_at, IsField, IsWhole, IsReading}
-use Rattle.hd_model.specs.Reach.{IsAttached, IsEdge, IsRoot, named, queued, held, older, IsReached, IsToBeFinalized, IsKept}
-use Rattle.hd_model.proofs.RenamedPins.{role_renamed}
-use Rattle.hd_model.proofs.EdgeChains.{leads_turn, leads_lift}
-use Rattle.hd_model.proofs.Members.{mapped_in, mapped_from}
-use Rattle.hd_model.proofs.Entries.{some_value}
+use Rattle.hd_model.proofs.Basics.{Contains, Extra, Handle, IsAttached, IsEdge, IsField, IsKept, IsReached, IsReading, IsRoot, IsToBeFinalized, IsWhole, Leads, None, Object, Option, Scene, Some, ap, arith, attaches, count, fields_in, generation_at, generation_in, held, holds, inl, inr, is_object, is_some, named, nothing, older, option_map, queued, refl, rename_extra, rename_handle, rename_object, role, secondary, secondary_of, strength, subst, sym, true, ℕ, ⊎_elim, ◌<◌, ◌∙◌, ◌≡◌, ◌≤◌, ◌⊎◌, List, map}
+use Rattle.hd_model.proofs.{RenamedPins.role_renamed, EdgeChains.leads_turn, EdgeChains.leads_lift, Members.mapped_in, Members.mapped_from, MapEntries.some_value}
+use Rattle.hd_model.specs.Anchors.{IsAnchor, in_static, in_queue, by_handle}
+use Rattle.hd_model.proofs.AnchorChains.{anchor_root, root_anchor}
 use Rattle.hd_model.proofs.SceneCollection.{mapped_value, root_object, edge_object, reached_object}
 
 -- a secondary is renamed as a target is
@@ -47,20 +41,26 @@ module _ {N M : Type 0} (f : N → M) (s : Scene N) (t : Scene M) (g : IsReading
 
 module _ {N M : Type 0} (f : N → M) (n : ℕ) (s : Scene N) (t : Scene M) (w : IsWhole s)
     (g : IsReading f s t) where
-  -- roots and edges of s are those of t
-  root_read : (x : N) → IsRoot s n x → IsRoot t n (f x)
-  root_read x (named h) = named (subst (λ xs. Contains xs (Some (f x))) (sym g.named)
-      (mapped_in (option_map f) s.named (Some x) h))
-  root_read x (queued h) = queued (subst (λ xs. Contains xs (f x)) (sym g.queue) (mapped_in f s.queue x h))
-  root_read x (held h) = held (record {
+  -- anchors, roots and edges of s are those of t
+  pub anchor_read : (xs : List (Option N)) (x : N) → IsAnchor xs s x
+      → IsAnchor (map (option_map f) xs) t (f x)
+  anchor_read xs x (in_static h) = in_static (mapped_in (option_map f) xs (Some x) h)
+  anchor_read xs x (in_queue h) =
+      in_queue (subst (λ ys. Contains ys (f x)) (sym g.queue) (mapped_in f s.queue x h))
+  anchor_read xs x (by_handle h) = by_handle (record {
     slot = h.slot;
     handle = rename_handle f h.handle;
     is_stored = handle_read f s t g h.slot h.handle h.is_stored;
     holds = role_renamed f h.handle.kind h.handle.extra ∙ h.holds;
     target = ap (option_map f) h.target;
   })
-  root_read x (older l) =
-      older (subst (λ k. n < k) (sym (generation_read f s t g x (root_object n s w x (older l)))) l)
+
+  root_read : (x : N) → IsRoot s n x → IsRoot t n (f x)
+  root_read x h =
+      ⊎_elim
+      (λ a. anchor_root n (λ y. subst (λ xs. Contains xs (Some y)) (sym g.named)) (anchor_read s.named x a))
+      (λ l. older (subst (λ k. n < k) (sym (generation_read f s t g x (root_object n s w x h))) l))
+      (root_anchor n h)
 
   field_read : (x y : N) → is_object s.object x ≡ true → IsField s.object x y → IsField t.object (f x) (f y)
   field_read x y h c =
@@ -79,7 +79,7 @@ module _ {N M : Type 0} (f : N → M) (n : ℕ) (s : Scene N) (t : Scene M) (w :
     secondary = secondary_renamed f a.handle.extra ∙ ap (option_map f) a.secondary;
   }
 
-  edge_read : (x y : N) → is_object s.object x ≡ true → IsEdge s.object s.handle x y
+  pub edge_read : (x y : N) → is_object s.object x ≡ true → IsEdge s.object s.handle x y
       → IsEdge t.object t.handle (f x) (f y)
   edge_read x y h a = ⊎_elim (λ c. inl (field_read x y h c)) (λ d. inr (attached_read x y d)) a
 
@@ -93,17 +93,17 @@ module _ {N M : Type 0} (f : N → M) (n : ℕ) (s : Scene N) (t : Scene M) (w :
   abbrev pub Called : (N → Type 0) → M → Type 0
   Called P b = (x : N) × ((is_object s.object x ≡ true) × (P x × (f x ≡ b)))
 
-  root_unread : (b : M) → IsRoot t n b → Called (IsRoot s n) b
-  root_unread b (named h) =
-      let (o, rest) = mapped_from (option_map f) s.named (Some b)
-      (subst (λ xs. Contains xs (Some b)) g.named h) in
+  pub anchor_unread : (xs : List (Option N)) → ((x : N) → Contains xs (Some x) → is_object s.object x ≡ true)
+      → (b : M) → IsAnchor (map (option_map f) xs) t b → Called (IsAnchor xs s) b
+  anchor_unread xs objects b (in_static h) =
+      let (o, rest) = mapped_from (option_map f) xs (Some b) h in
       let (x, both) = mapped_value f o b rest.1 in
-      let c = subst (λ q. Contains s.named q) both.0 rest.0 in
-      (x, (w.named x c, (named c, both.1)))
-  root_unread b (queued h) =
-      let (x, rest) = mapped_from f s.queue b (subst (λ xs. Contains xs b) g.queue h) in
-      (x, (w.queue x rest.0, (queued rest.0, rest.1)))
-  root_unread b (held h) =
+      let c = subst (λ q. Contains xs q) both.0 rest.0 in
+      (x, (objects x c, (in_static c, both.1)))
+  anchor_unread xs objects b (in_queue h) =
+      let (x, rest) = mapped_from f s.queue b (subst (λ ys. Contains ys b) g.queue h) in
+      (x, (w.queue x rest.0, (in_queue rest.0, rest.1)))
+  anchor_unread xs objects b (by_handle h) =
       let (o, both) = handle_unread f s t g h.slot h.handle h.is_stored in
       let (x, at) = mapped_value f o.target b (ap (λ (q : Handle M). q.target) both.1 ∙ h.target) in
       let holding : role o ≡ holds = sym (role_renamed f o.kind o.extra)
@@ -112,13 +112,24 @@ module _ {N M : Type 0} (f : N → M) (n : ℕ) (s : Scene N) (t : Scene M) (w :
         (
           w.targets h.slot o x both.0 at.0,
           (
-            held (record { slot = h.slot; handle = o; is_stored = both.0; holds = holding; target = at.0 }),
+            by_handle (record {
+              slot = h.slot;
+              handle = o;
+              is_stored = both.0;
+              holds = holding;
+              target = at.0;
+            }),
             at.1,
           ),
         ),
       )
-  root_unread b (older l) =
-      let (x, rest) = g.only b (object_older (t.object b) l) in (
+
+  root_unread : (b : M) → IsRoot t n b → Called (IsRoot s n) b
+  root_unread b h =
+      ⊎_elim
+      (λ a. let (x, rest) = anchor_unread s.named w.named b (subst (λ xs. IsAnchor xs t b) g.named a) in
+      (x, (rest.0, (anchor_root n (λ y c. c) rest.1.0, rest.1.1))))
+      (λ l. let (x, rest) = g.only b (object_older (t.object b) l) in (
         x,
         (
           rest.0,
@@ -128,13 +139,14 @@ module _ {N M : Type 0} (f : N → M) (n : ℕ) (s : Scene N) (t : Scene M) (w :
             rest.1,
           ),
         ),
-      )
+      ))
+      (root_anchor n h)
     where
       object_older : (o : Option (Object M)) → n < generation_in o → is_some o ≡ true
       object_older None l = absurd (omega arith)
       object_older (Some o) l = refl
 
-  edge_unread : (x : N) (b : M) → is_object s.object x ≡ true → IsEdge t.object t.handle (f x) b
+  pub edge_unread : (x : N) (b : M) → is_object s.object x ≡ true → IsEdge t.object t.handle (f x) b
       → (y : N) × ((is_object s.object y ≡ true) × (IsEdge s.object s.handle x y × (f y ≡ b)))
   edge_unread x b h a = ⊎_elim by_field by_handle a
     where
@@ -187,8 +199,7 @@ module _ {N M : Type 0} (f : N → M) (n : ℕ) (s : Scene N) (t : Scene M) (w :
       let (r, rest) = root_unread h.0 h.1.0 in
       let (y, last) =
       leads_lift (IsEdge s.object s.handle) (IsEdge t.object t.handle) f
-      (λ x. is_object s.object x ≡ true) edge_unread
-      r rest.0 rest.1.1 h.1.1 in
+      (λ x. is_object s.object x ≡ true) edge_unread r rest.0 rest.1.1 h.1.1 in
       (y, (last.0, ((r, (rest.1.0, last.1.0)), last.1.1)))
 
   -- what holds of all with the name f x holds of x
@@ -237,8 +248,7 @@ module _ {N M : Type 0} (f : N → M) (n : ℕ) (s : Scene N) (t : Scene M) (w :
     f h.0,
     (
       ⊎_elim (λ r. inl (reached_read h.0 r)) (λ v. inr (resurrected_read h.0 v)) h.1.0,
-      chain_read
-          (start_object h.0 h.1.0) h.1.1,
+      chain_read (start_object h.0 h.1.0) h.1.1,
     ),
   )
 
@@ -247,8 +257,7 @@ module _ {N M : Type 0} (f : N → M) (n : ℕ) (s : Scene N) (t : Scene M) (w :
       let (r, rest) = start_unread h.0 h.1.0 in
       let (y, last) =
       leads_lift (IsEdge s.object s.handle) (IsEdge t.object t.handle) f
-      (λ x. is_object s.object x ≡ true) edge_unread
-      r rest.0 rest.1.1 h.1.1 in
+      (λ x. is_object s.object x ≡ true) edge_unread r rest.0 rest.1.1 h.1.1 in
       (y, (last.0, ((r, (rest.1.0, last.1.0)), last.1.1)))
 
   pub kept_same : (x : N) → is_object s.object x ≡ true → IsKept t n (f x) → IsKept s n x

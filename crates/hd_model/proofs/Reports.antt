@@ -1,7 +1,7 @@
 -- What the numbers of a report say of the states before and after.
 use Rattle.hd_model.proofs.Basics.{Bool, Collected, Collects, Goes, Handle, Id, IsCondemned, IsRemoved, IsSome, IsSurviving, IsWhole, LosesAs, LosesTarget, None, Numbers, Option, Report, ReportSays, Role, Scene, Some, State, Stays, ap, arith, attaches, cases_Bool, cases_lt, cleared, cond-false, cond-true, false, false≢true, generation_at, get, holds, inl, inr, is_lost, is_object, is_some, len, length, length-append, long, loses, loses_by, none-some, older, option_map, refl, role, row_of, same_Some, scene_of, short, survivor, sym, true, true≢false, ℕ, ⊎_elim, ◌+◌, ◌<◌, ◌∙◌, ◌≡◌, ◌≢◌, ◌≤◌, ◌⊎◌}
 use Rattle.hd_model.specs.Counting.{Counts}
-use Rattle.hd_model.proofs.{Members.pairs_like, Entries.some_value, Entries.counts_keys, WholeScenes.whole_scene}
+use Rattle.hd_model.proofs.{Members.pairs_like, MapEntries.some_value, MapEntries.counts_keys, WholeScenes.whole_scene}
 use Rattle.hd_model.proofs.PropertyCounts.{counts_once, counts_like, counts_join}
 use Rattle.hd_model.proofs.SceneCollection.{keeps_root, object_before, still_object}
 

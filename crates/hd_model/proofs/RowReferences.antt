@@ -1,16 +1,11 @@
 -- Rows that reference no more than before: they reference objects, and their ages are sound.
-use Rattle.hd_model.proofs.Basics.{◌≡◌, ℕ, Bool, Some, sym, ap, ◌∙◌, option_map, List}
-use Rattle.hd_model.specs.State.{Handle, secondary_of}
-use Rattle.hd_model.specs.Scene.{Objects, Rows}
-use Rattle.hd_model.specs.Ages.{HasSoundAges}
+use Rattle.hd_model.proofs.Basics.{Bool, Handle, HasSoundAges, List, Objects, Rows, Some, ap, cleared, option_map, secondary_of, sym, ℕ, ◌∙◌, ◌≡◌}
 use Rattle.hd_model.specs.Names.{NamesObjects}
-use Rattle.hd_model.specs.Collect.{cleared}
 use Rattle.hd_model.proofs.SceneCollection.{mapped_value, cleared_target, cleared_secondary}
 
 -- each reference in a row was in the row before
 pub record Fades {N : Type 0} (before after : Rows N) : Type 0 where
-  pub targets :
-      (slot : ℕ) (h : Handle N) (x : N) → after slot ≡ Some h → h.target ≡ Some x → (g : Handle N)
+  pub targets : (slot : ℕ) (h : Handle N) (x : N) → after slot ≡ Some h → h.target ≡ Some x → (g : Handle N)
       × ((before slot ≡ Some g) × (g.target ≡ Some x))
   pub secondaries :
       (slot : ℕ) (h : Handle N) (x : N) → after slot ≡ Some h → secondary_of h.extra ≡ Some x → (g : Handle N)

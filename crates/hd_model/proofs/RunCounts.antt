@@ -3,10 +3,12 @@ use Rattle.hd_model.proofs.Basics.{Bool, Chain, Cmd, DoesCollect, Entry, Handle,
 use Rattle.hd_model.specs.Laws.{makes_handle, makes_object}
 use Rattle.hd_model.proofs.ReadAfterWrite.{len_new, len_again, len_less}
 use Rattle.hd_model.proofs.{PropertyCounts.counts_like, PropertyCounts.counts_once, SceneCollection.mapped_value, Reports.report_says}
-use Rattle.hd_model.proofs.Entries.{counts_keys, some_value, none_from}
+use Rattle.hd_model.proofs.MapEntries.{counts_keys, some_value, none_from}
 use Rattle.hd_model.proofs.Effects.{Effect, refused, makes_object as does_make, sets_field, gets_field, sets_value, reads_value, copies, clears, puts_static, gets_static, reads_generation, suppresses, reregisters, finds_none, takes_first, collects, makes_handle as does_make_handle, gets_target, sets_target, sets_secondary, gets_secondary, sets_strength, raises_count, lowers_count, frees_handle as does_free, puts_board, picks_board, answers_place, gives_back, gives_none, adds_entry, finds_value, finds_no_entry, removes_entry, removes_none, effect, next_identity, with_field}
 use Rattle.hd_model.proofs.WellFormedSteps.{has, given_vacant, step_keeps, start_is_well_formed}
 use Rattle.hd_model.specs.declared.data.Reply.TheVariants as reply
+use Rattle.hd_model.proofs.Basics.{⊎_elim}
+use Rattle.hd_model.proofs.Effects.{answers_root}
 
 abbrev one_if : Bool → ℕ
 one_if b = cond b 1 0
@@ -184,6 +186,9 @@ module _ (n : Numbers) (s : State) (e : Entry) (w : IsWellFormed n s) where
   removes c t (finds_no_entry key f none p) = ap (λ x. len s.objects + removed_in x) p
   removes c t (removes_entry key slot x f p) = ap (λ x. len s.objects + removed_in x) p
   removes c t (removes_none key f none p) = ap (λ x. len s.objects + removed_in x) p
+  removes c t (answers_root goal f tells) =
+      ap (λ x. len s.objects + x)
+      (⊎_elim (λ x. ap removed_in x.reply_is) (λ x. ap removed_in x.1) tells)
 
 pub handles_are_made_less_freed : HandlesAreMadeLessFreed
 handles_are_made_less_freed n journal s run =

@@ -1,19 +1,10 @@
 -- What a collection leaves of a whole scene: what is kept, and what the handles that stay reference.
-use Rattle.hd_model.proofs.Basics.{◌≡◌, ℕ, ◌<◌, Bool, true, false, cond, ◌&&◌, Option, Some, None, is_some, refl, sym, ap, ◌∙◌, subst, arith, ⊎_elim, inl, inr, ◌⊎◌, Contains, option_map, not-false, cond-true, cond-false, none-some, same_Some, Contains-append_cases}
-use Rattle.hd_model.specs.Data.{Report}
-use Rattle.hd_model.specs.State.{Object, Extra, secondary, Handle, secondary_of}
-use Rattle.hd_model.specs.Role.{Role, holds, short, long, attaches, role_of, role}
-use Rattle.hd_model.specs.Leads.{Leads}
-use Rattle.hd_model.specs.Scene.{Scene, is_object, fields_in, generation_in, IsField, IsWhole}
-use Rattle.hd_model.specs.Reach.{IsAttached, IsEdge, IsRoot, named, queued, held, older, IsReached, IsToBeFinalized, IsKept}
-use Rattle.hd_model.specs.Collect.{is_lost, loses_by, loses, is_attaching, cleared, survivor, Collects}
-use Rattle.hd_model.proofs.Members.{not_in_none}
-use Rattle.hd_model.proofs.Entries.{some_value}
+use Rattle.hd_model.proofs.Basics.{Bool, Collects, Contains, Contains-append_cases, Extra, Handle, IsAttached, IsEdge, IsField, IsKept, IsReached, IsRoot, IsToBeFinalized, IsWhole, Leads, None, Object, Option, Report, Role, Scene, Some, ap, arith, attaches, cleared, cond, cond-false, cond-true, false, fields_in, generation_in, held, holds, inl, inr, is_attaching, is_lost, is_object, is_some, long, loses, loses_by, named, none-some, not-false, older, option_map, queued, refl, role, role_of, same_Some, secondary, secondary_of, short, subst, survivor, sym, true, ℕ, ⊎_elim, ◌&&◌, ◌<◌, ◌∙◌, ◌≡◌, ◌⊎◌}
+use Rattle.hd_model.proofs.{Members.not_in_none, MapEntries.some_value}
 
 -- a value that is left where a test passes was one that was there
 pub left_from : {A B : Type 0} (b : Bool) (f : A → B) (o : Option A) (y : B)
-    → cond b (option_map f o) None ≡ Some y
-    → (b ≡ true) × ((x : A) × ((o ≡ Some x) × (f x ≡ y)))
+    → cond b (option_map f o) None ≡ Some y → (b ≡ true) × ((x : A) × ((o ≡ Some x) × (f x ≡ y)))
 left_from true f None y e = absurd (none-some y e)
 left_from true f (Some x) y e = (refl, (x, (refl, same_Some _ _ e)))
 left_from false f o y e = absurd (none-some y e)
@@ -30,8 +21,7 @@ not_lost p o x kept e = not-false (p x) (sym (ap (is_lost p) e) ∙ kept)
 
 -- by its role, a handle that does not lose its target holds it, or its target is reached or kept
 role_cases : {N : Type 0} (r : Role) (reach kept : N → Bool) (o : Option N) (x : N)
-    → loses_by r reach kept o ≡ false → o ≡ Some x
-    → (r ≡ holds) ⊎ ((reach x ≡ true) ⊎ (kept x ≡ true))
+    → loses_by r reach kept o ≡ false → o ≡ Some x → (r ≡ holds) ⊎ ((reach x ≡ true) ⊎ (kept x ≡ true))
 role_cases holds reach kept o x h e = inl refl
 role_cases short reach kept o x h e = inr (inl (not_lost reach o x h e))
 role_cases long reach kept o x h e = inr (inr (not_lost kept o x h e))
@@ -39,8 +29,7 @@ role_cases attaches reach kept o x h e = inr (inr (not_lost kept o x h e))
 
 -- what a cleared handle references: only what was its target or its secondary
 pub cleared_target : {N : Type 0} (reach kept : N → Bool) (h : Handle N) (x : N)
-    → (cleared reach kept h).target ≡ Some x
-    → (loses reach kept h ≡ false) × (h.target ≡ Some x)
+    → (cleared reach kept h).target ≡ Some x → (loses reach kept h ≡ false) × (h.target ≡ Some x)
 cleared_target reach kept h x e = target_from (loses reach kept h) h.target e
   where
     target_from : (b : Bool) (o : Option _) → cond b None o ≡ Some x → (b ≡ false) × (o ≡ Some x)
@@ -48,8 +37,7 @@ cleared_target reach kept h x e = target_from (loses reach kept h) h.target e
     target_from false o e = (refl, e)
 
 secondary_from : {N : Type 0} (b : Bool) (e : Extra N) (y : N)
-    → secondary_of (cond b (secondary None) e) ≡ Some y
-    → (b ≡ false) × (secondary_of e ≡ Some y)
+    → secondary_of (cond b (secondary None) e) ≡ Some y → (b ≡ false) × (secondary_of e ≡ Some y)
 secondary_from true e y h = absurd (none-some y h)
 secondary_from false e y h = (refl, h)
 
@@ -148,16 +136,14 @@ module _ {N : Type 0} (rank : N → ℕ) (n : ℕ) (s t : Scene N) (r : Report) 
 
   -- what a handle that stays references is kept
   pub target_kept : (slot : ℕ) (g : Handle N) (x : N) → s.handle slot ≡ Some g
-      → loses c.reach c.kept g ≡ false → g.target ≡ Some x
-      → c.kept x ≡ true
+      → loses c.reach c.kept g ≡ false → g.target ≡ Some x → c.kept x ≡ true
   target_kept slot g x is_stored stays e =
       ⊎_elim (λ is_in_use. keeps_root x
       (held (record { slot = slot; handle = g; is_stored = is_stored; holds = is_in_use; target = e })))
       (λ set. ⊎_elim (keeps_reached x) (λ k. k) set) (role_cases (role g) c.reach c.kept g.target x stays e)
 
   secondary_by : (slot : ℕ) (g : Handle N) (y : N) → s.handle slot ≡ Some g → is_lost c.kept g.target ≡ false
-      → secondary_of g.extra ≡ Some y
-      → role g ≡ attaches → (o : Option N) → g.target ≡ o → c.kept y ≡ true
+      → secondary_of g.extra ≡ Some y → role g ≡ attaches → (o : Option N) → g.target ≡ o → c.kept y ≡ true
   secondary_by slot g y is_stored stays e attached None none =
       absurd (none-some y (sym (w.paired slot g is_stored none) ∙ e))
   secondary_by slot g y is_stored stays e attached (Some x) some =
@@ -168,8 +154,7 @@ module _ {N : Type 0} (rank : N → ℕ) (n : ℕ) (s t : Scene N) (r : Report) 
         is_stored = is_stored;
         attaches = attached;
         target = some;
-        secondary =
-            e;
+        secondary = e;
       }))
 
   pub secondary_kept : (slot : ℕ) (g : Handle N) (y : N) → s.handle slot ≡ Some g
@@ -216,8 +201,7 @@ module _ {N : Type 0} (rank : N → ℕ) (n : ℕ) (s t : Scene N) (r : Report) 
       ap (λ b. role_of g.kind (cond b (secondary None) g.extra)) stays ∙ w.fits slot g y is_stored e
 
   paired_after : (slot : ℕ) (h : Handle N) → t.handle slot ≡ Some h → h.target ≡ None → (o : Option N)
-      → secondary_of h.extra ≡ o
-      → secondary_of h.extra ≡ None
+      → secondary_of h.extra ≡ o → secondary_of h.extra ≡ None
   paired_after slot h is_stored none None e = e
   paired_after slot h is_stored none (Some y) e =
       let (g, both) = handle_before slot h is_stored in

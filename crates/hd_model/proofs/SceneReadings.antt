@@ -1,13 +1,7 @@
 -- Scenes under other names: readings one after another, and whole scenes and sound ages under them.
-use Rattle.hd_model.proofs.Basics.{◌≡◌, ℕ, ◌≤◌, true, List, [], ◌∷◌, map, Option, Some, None, is_some, refl, sym, ap, ◌∙◌, subst, Contains, option_map}
-use Rattle.hd_model.specs.State.{Object, Extra, nothing, strength, secondary, count, Handle, secondary_of, rename_extra, rename_object, rename_handle}
-use Rattle.hd_model.specs.Role.{role}
-use Rattle.hd_model.specs.Scene.{Scene, is_object, fields_in, generation_at, IsField, IsWhole, IsReading}
-use Rattle.hd_model.specs.Ages.{age_of, HasSoundAges}
+use Rattle.hd_model.proofs.Basics.{Contains, Extra, Handle, HasSoundAges, IsField, IsReading, IsWhole, List, None, Object, Option, Scene, Some, [], age_of, ap, count, fields_in, generation_at, is_object, is_some, map, nothing, option_map, refl, rename_extra, rename_handle, rename_object, role, secondary, secondary_of, strength, subst, sym, true, ℕ, ◌∙◌, ◌∷◌, ◌≡◌, ◌≤◌}
 use Rattle.hd_model.proofs.Members.{mapped_from, first_in, later_in, not_in_none}
-use Rattle.hd_model.proofs.Entries.{some_value}
-use Rattle.hd_model.proofs.SceneCollection.{mapped_value}
-use Rattle.hd_model.proofs.RenamedPins.{role_renamed}
+use Rattle.hd_model.proofs.{MapEntries.some_value, SceneCollection.mapped_value, RenamedPins.role_renamed}
 use Rattle.hd_model.proofs.RenamedReach.{secondary_renamed, object_read, object_unread, is_object_read, generation_read}
 
 -- renaming twice is renaming by the composition
@@ -45,17 +39,16 @@ pub handle_fused : {A B C : Type 0} (f : A → B) (g : B → C) (h : Handle A)
 handle_fused f g h = λ i. record {
   kind = h.kind;
   target = option_fused f g h.target i;
-  extra =
-      extra_fused f g h.extra i;
+  extra = extra_fused f g h.extra i;
 }
 
 -- two renamings that agree on what is referenced give the same
-option_agrees : {A B : Type 0} (f g : A → B) (o : Option A) → ((x : A) → o ≡ Some x → f x ≡ g x)
+pub option_agrees : {A B : Type 0} (f g : A → B) (o : Option A) → ((x : A) → o ≡ Some x → f x ≡ g x)
     → option_map f o ≡ option_map g o
 option_agrees f g None same = refl
 option_agrees f g (Some x) same = ap (λ y. Some y) (same x refl)
 
-list_agrees : {A B : Type 0} (f g : A → B) (xs : List A) → ((x : A) → Contains xs x → f x ≡ g x)
+pub list_agrees : {A B : Type 0} (f g : A → B) (xs : List A) → ((x : A) → Contains xs x → f x ≡ g x)
     → map f xs ≡ map g xs
 list_agrees f g [] same = refl
 list_agrees f g (x ∷ xs) same =
@@ -63,14 +56,13 @@ list_agrees f g (x ∷ xs) same =
     let rest : map f xs ≡ map g xs = list_agrees f g xs (λ y h. same y (later_in x xs y h)) in
     λ i. first i ∷ rest i
 
-names_agree : {A B : Type 0} (f g : A → B) (xs : List (Option A))
-    → ((x : A) → Contains xs (Some x) → f x ≡ g x)
-    → map (option_map f) xs ≡ map (option_map g) xs
+pub names_agree : {A B : Type 0} (f g : A → B) (xs : List (Option A))
+    → ((x : A) → Contains xs (Some x) → f x ≡ g x) → map (option_map f) xs ≡ map (option_map g) xs
 names_agree f g xs same =
     list_agrees (option_map f) (option_map g) xs
     (λ o h. option_agrees f g o (λ x e. same x (subst (λ q. Contains xs q) e h)))
 
-extra_agrees : {A B : Type 0} (f g : A → B) (e : Extra A) → ((x : A) → secondary_of e ≡ Some x → f x ≡ g x)
+pub extra_agrees : {A B : Type 0} (f g : A → B) (e : Extra A) → ((x : A) → secondary_of e ≡ Some x → f x ≡ g x)
     → rename_extra f e ≡ rename_extra g e
 extra_agrees f g nothing same = refl
 extra_agrees f g (strength given) same = refl
@@ -156,8 +148,7 @@ module _ {N M : Type 0} (f : N → M) (s : Scene N) (t : Scene M) (w : IsWhole s
   target_unread g h y same e = mapped_value f g.target y (ap (λ (q : Handle M). q.target) same ∙ e)
 
   secondary_unread : (g : Handle N) (h : Handle M) (y : M) → rename_handle f g ≡ h
-      → secondary_of h.extra ≡ Some y
-      → (x : N) × ((secondary_of g.extra ≡ Some x) × (f x ≡ y))
+      → secondary_of h.extra ≡ Some y → (x : N) × ((secondary_of g.extra ≡ Some x) × (f x ≡ y))
   secondary_unread g h y same e =
       mapped_value f (secondary_of g.extra) y
       (sym (secondary_renamed f g.extra) ∙ ap (λ (q : Handle M). secondary_of q.extra) same ∙ e)
@@ -213,8 +204,7 @@ module _ {N M : Type 0} (f : N → M) (s : Scene N) (t : Scene M) (w : IsWhole s
       none_before (Some x) e = cc
 
   aged : (slot : ℕ) (ages : List ℕ) (x : N) (y : M) → is_object s.object x ≡ true → f x ≡ y
-      → age_of ages slot ≤ generation_at s.object x
-      → age_of ages slot ≤ generation_at t.object y
+      → age_of ages slot ≤ generation_at s.object x → age_of ages slot ≤ generation_at t.object y
   aged slot ages x y h same l =
       subst (λ z. age_of ages slot ≤ generation_at t.object z) same
       (subst (λ k. age_of ages slot ≤ k) (sym (generation_read f s t a x h)) l)

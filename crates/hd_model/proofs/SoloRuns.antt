@@ -1,11 +1,19 @@
 -- Two runs of the same lists, each of one caller after another, are one.
 use Rattle.hd_model.proofs.Basics.{Adding, AddsEntry, AddsLeast, All, Back, Chain, Cmd, DoesCollect, Entry, FindsTableFull, GivesBack, GivesBackLeast, GivesLeast, Grown, Id, IsLeastFree, IsNonDecreasingBy, IsOutcome, IsWellFormed, Kind, List, Make, MakesHandle, MayGive, None, NoneAllFree, NoneFree, Numbers, Outcome, Slot, SoloRunsAreOne, SoloStep, SoloTextIsOne, Some, State, Step, TakesLeast, TakesWay, Way, Zero, [], adding_of, adds_entry, answers, answers_place, ap, cases_eq, collects, commands_of, cond, decided, eq-eqb, gives_back, in_idle, in_new, inl, inr, kind_of, le_antisymm, le_of_eq, le_trans, link, makes_handle, makes_object, ne_eqb, none-some, part_of, refl, stay, subst, suc, suc-le-suc, sym, text_of, way_of, way_of_adding, zero-le, ℕ, ⊎_elim, ◌∙◌, ◌∷◌, ◌≡◌, ◌≤◌, ◌⊎◌}
 use Rattle.hd_model.specs.Command.{is_refused}
-use Rattle.hd_model.proofs.{Collections.one_collection, StepWrites.same_slot, Growth.grown_or_full, Growth.same_growth, WellFormedSteps.step_keeps, WellFormedSteps.start_is_well_formed}
+use Rattle.hd_model.proofs.{Collections.one_collection, StepWrites.same_slot, LeastGrowth.grown_or_full, LeastGrowth.same_growth, WellFormedSteps.step_keeps, WellFormedSteps.start_is_well_formed}
 use Rattle.hd_model.proofs.OneState.{CommandOf, way_command, one_state_after}
 use Rattle.hd_model.specs.declared.data.Kind.TheVariants as kind
 use Rattle.hd_model.specs.declared.data.Reply.TheVariants as reply
 use Rattle.hd_model.specs.declared.command.Cmd.TheVariants as cmd
+use Rattle.hd_model.proofs.Basics.{Option, option_map_or}
+use Rattle.hd_model.specs.Data.{Reply}
+use Rattle.hd_model.specs.State.{register_of}
+use Rattle.hd_model.specs.Command.{refuses}
+use Rattle.hd_model.specs.Step.{answers_root}
+use Rattle.hd_model.specs.Anchors.{TellsRoot}
+use Rattle.hd_model.proofs.AnchorChains.{one_root}
+use Rattle.hd_model.specs.declared.data.Refusal.TheVariants as refusal
 
 -- what the state and the command decide of an entry in a run of one thread
 abbrev Same : Entry → Entry → Type 0
@@ -99,6 +107,18 @@ collected_same s e f t u k a b = (
   a.reply ∙ ap reply.Report (one_collection k s t u a.report b.report a.collects b.collects).1 ∙ sym b.reply,
 )
 
+-- `gcroot` has one reply
+roots_same : (s : State) (e f : Entry) (t u : State) (r : ℕ) (p q : Reply) (o : Option Id)
+    → ((goal : Id) → o ≡ Some goal → TellsRoot s goal p) → ((goal : Id) → o ≡ Some goal → TellsRoot s goal q)
+    → IsOutcome e (option_map_or (λ _. answers p s) o (refuses refusal.Null s)) t
+    → IsOutcome f (option_map_or (λ _. answers q s) o (refuses refusal.Null s)) u → Same e f
+roots_same s e f t u r p q None a b x y = outcomes_same e f _ t u x y
+roots_same s e f t u r p q (Some goal) a b x y = (
+  x.slot ∙ sym y.slot,
+  x.grown ∙ sym y.grown,
+  x.reply ∙ one_root s goal p q (a goal refl) (b goal refl) ∙ sym y.reply,
+)
+
 -- the entry with another slot, other blocks and another reply
 abbrev with_rest : Entry → Entry → Entry
 with_rest e f = record f { caller = e.caller; cmd = e.cmd }
@@ -132,6 +152,9 @@ way_same n s e f t u c (adds_entry v key) by is w other a b x y =
     (adds_least s (with_rest e f) e.caller v key adding same (subst (TakesLeast s (with_rest e f)) is.1 y))
 way_same n s e f t u c (collects k) by is w other a b x y = collected_same s e (with_rest e f) t u k a b
 way_same n s e f t u c (answers_place h) by is w other a b x y = absurd (other h is)
+way_same n s e f t u c (answers_root r) by is w other a b x y =
+    roots_same s e (with_rest e f) t u r a.found b.found (register_of s e.caller r) a.tells b.tells a.outcome
+    b.outcome
 way_same n s e f t u c (gives_back wanted) by is w other a b x y =
     trimmed_same s e (with_rest e f) t u wanted a b (subst (TakesLeast s e) is x)
     (subst (TakesLeast s (with_rest e f)) is y)

@@ -6,6 +6,13 @@ use Rattle.hd_model.specs.declared.data.Kind.TheVariants as kind
 use Rattle.hd_model.specs.declared.data.Refusal.TheVariants as refusal
 use Rattle.hd_model.specs.declared.data.Reply.TheVariants as reply
 use Rattle.hd_model.specs.declared.command.Cmd.TheVariants as cmd
+use Rattle.hd_model.specs.Data.{Reply}
+use Rattle.hd_model.specs.State.{register_of}
+use Rattle.hd_model.specs.Anchors.{TellsRoot}
+use Rattle.hd_model.specs.Command.{answer_root}
+use Rattle.hd_model.specs.Step.{answers_root}
+use Rattle.hd_model.proofs.AnchorSearch.{root_exists}
+use Rattle.hd_model.proofs.WholeScenes.{whole_scene}
 
 -- a map with each key from 1 to n has at least n
 pub filled : {X : Type 0} (n : ℕ) (m : FinMap nat_cmp X) → ((q : ℕ) → 1 ≤ q → q ≤ n → IsSome (get m q))
@@ -221,6 +228,14 @@ module _ (n : Numbers) (s : State) (w : IsWellFormed n s) (caller : ℕ) (known 
       by None none = (0, λ id is. absurd (none-some id (sym none ∙ is)))
       by (Some id) some = of_object id some (get s.places id.0) refl
 
+  -- a reply that `gcroot` may have
+  finds_root : (o : Option Id)
+      → (r : Reply) × ((goal : Id) → o ≡ Some goal → TellsRoot s goal r)
+  finds_root None = (reply.Unrooted, λ goal is. absurd (none-some goal is))
+  finds_root (Some goal) =
+      let (r, tells) = root_exists s (whole_scene n s w) goal in
+      (r, λ other is. subst (λ x. TellsRoot s x r) (same_Some goal other is) tells)
+
   by_way : (c : Cmd) (way : Way) → way_of s caller c ≡ way → CommandOf c way → IsValid c → HasWay n s caller c
       → Does n s caller c
   by_way c (decided r) is command valid has = comes c r valid (λ x. subst (TakesWay n s _ _) (sym is) x)
@@ -261,6 +276,10 @@ module _ (n : Numbers) (s : State) (w : IsWellFormed n s) (caller : ℕ) (known 
       let (p, may) = finds_place h (subst (HasWay n s caller) command has) in
       comes c (answer_place s caller h p) valid
       (λ x. subst (TakesWay n s _ _) (sym is) (record { place = p; may = may; outcome = x }))
+  by_way c (answers_root r) is command valid has =
+      let (found, tells) = finds_root (register_of s caller r) in
+      comes c (answer_root s caller r found) valid
+      (λ x. subst (TakesWay n s _ _) (sym is) (record { found = found; tells = tells; outcome = x }))
   by_way c (gives_back wanted) is command valid has =
       comes c (answers (reply.Value 0) s) valid (λ x. subst (TakesWay n s _ _) (sym is) (inr x))
 

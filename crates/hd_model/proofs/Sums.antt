@@ -1,6 +1,6 @@
 -- The sum over the values of a map whose keys are numbers.
 use Rattle.hd_model.proofs.Basics.{Equal, FinMap, Greater, Less, List, None, Option, Ordering, Some, T, [], ap, arith, below_all, by_order, cases_eq, cases_order, entries, entries-insert, entries_sorted, eq-eqb, find, get, get-entries, inl, inr, insert, is_sorted, le-ltb, len, len-entries, length, lt-ltb, map, nat_cmp, nat_cmp-IsAntisymmetric, nat_cmp_total, ne_eqb, put, refl, remove, same_map, subst, suc, sum_by, sum_by-cons, sym, values, ℕ, ⊎_elim, ◌*◌, ◌+◌, ◌<◌, ◌∙◌, ◌∷◌, ◌≡◌, ◌≢◌, ◌≤◌}
-use Rattle.hd_model.proofs.Entries.{both, less, found_first, found_later}
+use Rattle.hd_model.proofs.MapEntries.{both, less, found_first, found_later}
 use Rattle.hd_model.proofs.ReadAfterWrite.{get_inserted, get_beside, get_removed, get_left}
 
 -- what a value that may be there adds

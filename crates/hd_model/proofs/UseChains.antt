@@ -1,18 +1,7 @@
 -- Chains of edges as a user sees them are chains of the scene, and what is in use is what is reached.
-use Rattle.hd_model.proofs.Basics.{◌≡◌, ℕ, ◌<◌, List, [], get_or, Option, Some, None, refl, sym, ap, ◌∙◌, subst, ⊎_elim, inl, inr, ◌⊎◌, arith, Contains, get, get_or_default, Contains-append_cases}
-use Rattle.hd_model.specs.Data.{Id}
+use Rattle.hd_model.proofs.Basics.{Contains, Contains-append_cases, Handle, Id, IsAttached, IsEdge, IsInUse, IsLedTo, IsOlder, IsReached, IsResurrected, IsRoot, IsToBeFinalized, IsUsed, Leads, List, None, Object, Option, Some, State, [], ap, arith, attaches, by_dependent, by_field, by_handle, fields_in, from_start, generation_in, get, get_or, get_or_default, held, in_queue, in_register, in_static, inl, inr, is_attaching, joined, named, older, queued, refl, role, role_of, scene_of, subst, sym, ℕ, ⊎_elim, ◌<◌, ◌∙◌, ◌≡◌, ◌⊎◌}
+use Rattle.hd_model.proofs.{Members.not_in_none, Members.joined_from, KindExtras.attaching_kind, WholeScenes.at_named, WholeScenes.field_in, CollectionLaws.used_root}
 use Rattle.hd_model.specs.declared.data.Kind.TheVariants as kind
-use Rattle.hd_model.specs.State.{Object, Handle, State}
-use Rattle.hd_model.specs.Role.{attaches, role_of, role}
-use Rattle.hd_model.specs.Leads.{Leads}
-use Rattle.hd_model.specs.Scene.{scene_of, joined, fields_in, generation_in}
-use Rattle.hd_model.specs.Collect.{is_attaching}
-use Rattle.hd_model.specs.Reach.{IsAttached, IsEdge, IsRoot, named, queued, held, older, IsReached, IsToBeFinalized}
-use Rattle.hd_model.specs.InUse.{IsUsed, in_register, in_static, in_queue, by_handle, IsOlder, IsLedTo, from_start, by_field, by_dependent, IsInUse, IsResurrected}
-use Rattle.hd_model.proofs.Members.{not_in_none, joined_from}
-use Rattle.hd_model.proofs.KindExtras.{attaching_kind}
-use Rattle.hd_model.proofs.WholeScenes.{at_named, field_in}
-use Rattle.hd_model.proofs.CollectionLaws.{used_root}
 
 -- the edges of a state
 abbrev pub Edge : State → Id → Id → Type 0

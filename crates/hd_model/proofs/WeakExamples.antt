@@ -1,20 +1,13 @@
 -- A run that attaches a value to a key, and a state that has an entry: the premises of the laws of the weak
 -- table are met.
-use Rattle.hd_model.proofs.Basics.{◌≡◌, ℕ, [], ◌∷◌, Option, Some, None, refl, sym, ap, ◌∙◌, subst, lit<, arith, inl, nat_cmp, get, get-empty, option_map_or, none-some}
-use Rattle.hd_model.specs.Data.{Id, Entry}
-use Rattle.hd_model.specs.declared.data.Grown.TheVariants.{Two}
+use Rattle.hd_model.proofs.Basics.{Entry, Id, None, Option, Run, Some, State, Step, TakesWay, Two, WeakEntry, [], adds_entry, ap, arith, attached, first_slot, get, get-empty, idle_slot, in_idle, in_new, inl, link, lit<, nat_cmp, none-some, option_map_or, refl, slot_of_key, stay, subst, sym, way_of, way_of_adding, with_entry, with_growth, ℕ, ◌∙◌, ◌∷◌, ◌≡◌}
+use Rattle.hd_model.specs.Command.{is_refused}
+use Rattle.hd_model.proofs.{MapEntries.none_from, MapEntries.some_value, WeakSlots.key_found, WeakSlots.idle_found}
+use Rattle.hd_model.proofs.RunExamples.{numbers, first, e1, s1, step1}
 use Rattle.hd_model.specs.declared.data.Kind.TheVariants as kind
 use Rattle.hd_model.specs.declared.data.Refusal.TheVariants as refusal
 use Rattle.hd_model.specs.declared.data.Reply.TheVariants as reply
 use Rattle.hd_model.specs.declared.command.Cmd.TheVariants as cmd
-use Rattle.hd_model.specs.State.{State, WeakEntry, first_slot}
-use Rattle.hd_model.specs.Command.{is_refused, in_idle, in_new, slot_of_key, idle_slot, with_entry}
-use Rattle.hd_model.specs.Step.{adds_entry, way_of, way_of_adding, TakesWay, Step, with_growth}
-use Rattle.hd_model.specs.Run.{stay, link, Run}
-use Rattle.hd_model.specs.WeakLaws.{attached}
-use Rattle.hd_model.proofs.Entries.{none_from, some_value}
-use Rattle.hd_model.proofs.WeakSlots.{key_found, idle_found}
-use Rattle.hd_model.proofs.RunExamples.{numbers, first, e1, s1, step1}
 
 -- `cadd r0 r0` after `new r0 1 fin`: the table grows by blocks 1 and 2, and the entry is in row 0 of block 1
 abbrev e_add : Entry
@@ -23,8 +16,7 @@ e_add = record {
   cmd = cmd.CAdd 0 0;
   slot = Some (first_slot 1);
   grown = Two 1 2;
-  reply =
-      reply.Done;
+  reply = reply.Done;
 }
 
 abbrev s_add : State

@@ -1,16 +1,6 @@
 -- A weak short handle and a weak long one with one target, over a collection.
-use Rattle.hd_model.proofs.Basics.{◌≡◌, ℕ, ◌<◌, true, false, not, length, Some, None, sym, ap, ◌∙◌, ⊎_elim, arith, cases_Bool, cond-true, cond-false, true≢false}
-use Rattle.hd_model.specs.Data.{Id, Report}
-use Rattle.hd_model.specs.State.{State}
-use Rattle.hd_model.specs.Scene.{scene_of, IsWhole}
-use Rattle.hd_model.specs.Reach.{IsReached, IsToBeFinalized}
-use Rattle.hd_model.specs.Counting.{Counts}
-use Rattle.hd_model.specs.Collect.{is_lost, loses_by, loses, cleared, Collects, CollectsState}
-use Rattle.hd_model.specs.InUse.{IsRescued}
-use Rattle.hd_model.specs.CollectionLaws.{IsWeakPair, FareAlike, FareApart, WeakHandlesFareAlike, FinalizationPartsWeakHandles}
-use Rattle.hd_model.proofs.EdgeChains.{leads_on}
-use Rattle.hd_model.proofs.WholeScenes.{whole_scene}
-use Rattle.hd_model.proofs.UseChains.{Edge}
+use Rattle.hd_model.proofs.Basics.{Collects, CollectsState, Counts, FareAlike, FareApart, FinalizationPartsWeakHandles, Id, IsReached, IsRescued, IsToBeFinalized, IsWeakPair, IsWhole, None, Report, Some, State, WeakHandlesFareAlike, ap, arith, cases_Bool, cleared, cond-false, cond-true, false, is_lost, length, loses, loses_by, not, scene_of, sym, true, true≢false, ℕ, ⊎_elim, ◌<◌, ◌∙◌, ◌≡◌}
+use Rattle.hd_model.proofs.{EdgeChains.leads_on, WholeScenes.whole_scene, UseChains.Edge}
 use Rattle.hd_model.proofs.Fates.{rescued_kept, handle_after, handle_stays, handle_null, reach_in_kept, unused_out}
 
 -- no thing has a property that 0 things have

@@ -1,18 +1,10 @@
 -- A slot of the weak table stays its own, and no command on a handle works on it.
-use Rattle.hd_model.proofs.Basics.{◌≡◌, ℕ, Bool, true, Option, Some, None, is_some, IsSome, refl, sym, ap, ◌∙◌, subst, ⊎_elim, get, option_map, and_parts, true≢false, false≢true, none-some, same_Some}
-use Rattle.hd_model.specs.Data.{Id, Slot, Entry, Grown, Kind, Cmd}
-use Rattle.hd_model.specs.declared.data.Grown.TheVariants.{Zero, One, Two, Back}
-use Rattle.hd_model.specs.State.{Numbers, State, WeakEntry, block_of}
-use Rattle.hd_model.specs.Collect.{swept}
-use Rattle.hd_model.specs.Touched.{touched_by}
-use Rattle.hd_model.specs.Step.{MayGive, GivesBack, Way, decided, makes_object, makes_handle as makes_handle_way, collects as collects_way, answers_place, gives_back, adds_entry as adds_entry_way, way_of, TakesWay}
-use Rattle.hd_model.specs.WellFormed.{IsWellFormed}
-use Rattle.hd_model.specs.Laws.{is_done, makes_handle, frees_handle}
-use Rattle.hd_model.specs.WeakLaws.{WeakSlotsAreNotLive, WeakSlotsStayHeld, TextsLeaveTheWeakTableOut}
-use Rattle.hd_model.proofs.ReadAfterWrite.{still_some}
+use Rattle.hd_model.proofs.Basics.{Back, Bool, Cmd, Entry, GivesBack, Grown, Id, IsSome, IsWellFormed, Kind, MayGive, None, Numbers, One, Option, Slot, Some, State, TakesWay, TextsLeaveTheWeakTableOut, Two, Way, WeakEntry, WeakSlotsAreNotLive, WeakSlotsStayHeld, Zero, and_parts, answers_place, ap, block_of, decided, false≢true, frees_handle, get, gives_back, is_done, is_some, makes_object, none-some, option_map, refl, same_Some, subst, swept, sym, touched_by, true, true≢false, way_of, ℕ, ⊎_elim, ◌∙◌, ◌≡◌}
+use Rattle.hd_model.specs.Step.{makes_handle as makes_handle_way, collects as collects_way, adds_entry as adds_entry_way}
+use Rattle.hd_model.specs.Laws.{makes_handle}
+use Rattle.hd_model.proofs.{ReadAfterWrite.still_some, WellFormedSteps.given_not_weak, HandleParts.not_live}
+use Rattle.hd_model.specs.Step.{answers_root}
 use Rattle.hd_model.proofs.Effects.{Effect, refused, collects, makes_handle as does_make_handle, frees_handle as does_free, adds_entry, removes_entry, effect}
-use Rattle.hd_model.proofs.WellFormedSteps.{given_not_weak}
-use Rattle.hd_model.proofs.HandleParts.{not_live}
 
 pub weak_slots_are_not_live : WeakSlotsAreNotLive
 weak_slots_are_not_live n s t e h slot w step uses names held =
@@ -80,6 +72,7 @@ module _ (n : Numbers) (s : State) (w : IsWellFormed n s) (e : Entry) (slot : Sl
       (λ full. not_back e.grown _ full.refused.grown back) h
   way_keeps t (collects_way k) h back = not_back e.grown _ h.grown back
   way_keeps t (answers_place r) h back = not_back e.grown _ h.outcome.grown back
+  way_keeps t (answers_root r) h back = not_back e.grown _ h.outcome.grown back
   way_keeps t (adds_entry_way v key) h back =
       ⊎_elim (λ a. never_may _ a.slot e.grown a.may back)
       (λ full. not_back e.grown _ full.refused.grown back) h

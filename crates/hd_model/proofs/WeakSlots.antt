@@ -1,15 +1,8 @@
 -- The slots of the weak table: what a search in them finds, and their rows in the scene.
-use Rattle.hd_model.proofs.Basics.{◌≡◌, ℕ, ◌<◌, ◌≤◌, Bool, true, false, not, cond, T, List, [], ◌∷◌, Option, Some, None, is_some, IsSome, refl, sym, ap, ◌∙◌, subst, arith, ⊎_elim, inl, inr, ◌⊎◌, Contains, option_map, option_and_then, nat_cmp, get, is_sorted, entries, entries_sorted, below_all, eqb-true, eq-eqb, none-some, same_Some, true≢false, le_refl}
+use Rattle.hd_model.proofs.Basics.{Bool, Contains, Handle, Id, IsHeld, IsSome, List, None, Option, Slot, Some, State, T, WeakEntry, [], ap, arith, attaches, below_all, cleared, cond, entries, entries_sorted, entry_value, eq-eqb, eqb-true, false, get, has_key, idle_slot, inl, inr, is_idle, is_some, is_sorted, le_refl, nat_cmp, none-some, not, option_and_then, option_map, option_or, refl, role, row_of, same_Some, secondary, slot_of_key, subst, swept, sym, true, true≢false, value_at, weak_handle, weak_slot_where, ℕ, ⊎_elim, ◌<◌, ◌∙◌, ◌∷◌, ◌≡◌, ◌≤◌, ◌⊎◌}
 use Rattle.std.specs.List.{find}
-use Rattle.std.specs.Option.{option_or}
-use Rattle.hd_model.specs.Data.{Id, Slot}
-use Rattle.hd_model.specs.State.{secondary, Handle, WeakEntry, State, weak_handle, row_of}
-use Rattle.hd_model.specs.Role.{attaches, role}
-use Rattle.hd_model.specs.Reach.{IsHeld}
-use Rattle.hd_model.specs.Collect.{cleared, swept}
-use Rattle.hd_model.specs.Command.{has_key, is_idle, weak_slot_where, slot_of_key, idle_slot, value_at, entry_value}
 use Rattle.hd_model.proofs.Members.{not_in_none, first_in, later_in, member_cases}
-use Rattle.hd_model.proofs.Entries.{both, below, get_entry, entry_of}
+use Rattle.hd_model.proofs.MapEntries.{both, below, get_entry, entry_of}
 use Rattle.hd_model.proofs.SceneCollection.{mapped_value}
 
 -- what a search of a list finds
@@ -158,14 +151,12 @@ module _ (s : State) where
   weak_row slot c none e =
       ap (λ o. option_or o (option_map weak_handle (get s.weak slot))) none ∙ ap (option_map weak_handle) e
 
-  pub row_cases : (slot : ℕ) (h : Handle Id) → row_of s slot ≡ Some h
-      → (get s.handles slot ≡ Some h)
+  pub row_cases : (slot : ℕ) (h : Handle Id) → row_of s slot ≡ Some h → (get s.handles slot ≡ Some h)
       ⊎ ((get s.handles slot ≡ None) × ((c : Content) × ((get s.weak slot ≡ Some c) × (weak_handle c ≡ h))))
   row_cases slot h e = by (get s.handles slot) refl e
     where
       by : (o : Option (Handle Id)) → get s.handles slot ≡ o
-          → option_or o (option_map weak_handle (get s.weak slot)) ≡ Some h
-          → (get s.handles slot ≡ Some h)
+          → option_or o (option_map weak_handle (get s.weak slot)) ≡ Some h → (get s.handles slot ≡ Some h)
           ⊎ ((get s.handles slot ≡ None) × ((c : Content) × ((get s.weak slot ≡ Some c) ×
           (weak_handle c ≡ h))))
       by None is e = inr (is, mapped_value weak_handle (get s.weak slot) h e)

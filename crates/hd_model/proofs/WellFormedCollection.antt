@@ -1,20 +1,7 @@
 -- A collection keeps a state well formed.
-use Rattle.hd_model.proofs.Basics.{◌≡◌, ◌≢◌, ℕ, ◌/◌, ◌%◌, ◌^◌, ◌<◌, ◌≤◌, Bool, true, false, cond, List, [], length, get_or, Option, Some, None, is_some, IsSome, refl, sym, ap, ◌∙◌, subst, arith, Contains, AllPairs, true≢false, get, nat_tests, option_map, none-some}
-use Rattle.hd_model.specs.Data.{Id, Report, Slot}
-use Rattle.hd_model.specs.State.{Numbers, Object, Handle, WeakEntry, State, handles_of, use_of}
-use Rattle.hd_model.specs.Scene.{scene_of, IsWhole}
-use Rattle.hd_model.specs.Ages.{raised}
-use Rattle.hd_model.specs.Reach.{queued, held, IsReached, IsToBeFinalized}
-use Rattle.hd_model.specs.Places.{is_pinned}
-use Rattle.hd_model.specs.Collect.{survivor, cleared, swept, CollectsState}
-use Rattle.hd_model.specs.WellFormed.{HasShape, HasObjects, HasSerials, FitsKind, HasHandles, HasWeakTable, IsWellFormed}
-use Rattle.hd_model.proofs.Members.{pairs_append, pairs_like}
-use Rattle.hd_model.proofs.Entries.{some_value}
-use Rattle.hd_model.proofs.KindExtras.{cleared_fits}
-use Rattle.hd_model.proofs.PinTest.{pinned_decides, pinned_held}
+use Rattle.hd_model.proofs.Basics.{AllPairs, Bool, CollectsState, Contains, FitsKind, Handle, HasHandles, HasObjects, HasSerials, HasShape, HasWeakTable, Id, IsReached, IsSome, IsToBeFinalized, IsWellFormed, IsWhole, List, None, Numbers, Object, Option, Report, Slot, Some, State, WeakEntry, [], ap, arith, cleared, cond, false, get, get_or, handles_of, held, is_pinned, is_some, length, nat_tests, none-some, option_map, queued, raised, refl, scene_of, subst, survivor, swept, sym, true, true≢false, use_of, ℕ, ◌%◌, ◌/◌, ◌<◌, ◌^◌, ◌∙◌, ◌≡◌, ◌≢◌, ◌≤◌}
+use Rattle.hd_model.proofs.{Members.pairs_append, Members.pairs_like, MapEntries.some_value, KindExtras.cleared_fits, PinTest.pinned_decides, PinTest.pinned_held, WeakSlots.handle_row, WeakSlots.held_row, WholeScenes.whole_scene, WholeScenes.names_of_whole}
 use Rattle.hd_model.proofs.SceneCollection.{root_reached, mapped_value, keeps_root, object_before, still_object, whole_after}
-use Rattle.hd_model.proofs.WeakSlots.{handle_row, held_row}
-use Rattle.hd_model.proofs.WholeScenes.{whole_scene, names_of_whole}
 
 -- a raised generation is at most 2 where the one before was, and is not below it
 pub raised_small : (n g : ℕ) → g ≤ 2 → raised n g ≤ 2
@@ -30,8 +17,7 @@ module _ (n : Numbers) (k : ℕ) (s t : State) (r : Report) (w : IsWellFormed n 
   rank : Id → ℕ
   rank x = x.0
 
-  before : (id : ℕ) (o : Object Id) → get t.objects id ≡ Some o
-      → (c.scene.kept (record { 0 = id }) ≡ true)
+  before : (id : ℕ) (o : Object Id) → get t.objects id ≡ Some o → (c.scene.kept (record { 0 = id }) ≡ true)
       × ((p : Object Id) × ((get s.objects id ≡ Some p)
       × (survivor k (c.scene.resurrected (record { 0 = id })) p ≡ o)))
   before id o e = object_before (λ (x : Id). x.0) k (scene_of s) (scene_of t) r (whole_scene n s w) c.scene

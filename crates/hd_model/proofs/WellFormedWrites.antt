@@ -1,7 +1,7 @@
 -- A write to one part of a state keeps it well formed.
-use Rattle.hd_model.proofs.Basics.{AllPairs, BlockUse, Contains, FIELDS, FinMap, FitsKind, Handle, HasHandles, HasObjects, HasSerials, HasShape, HasSoundReferences, HasWeakTable, Id, IsSome, IsWellFormed, List, Names, None, Numbers, OLDEST, Object, Option, ROWS, Slot, Some, State, WeakEntry, [], ap, field_of, get, get_or, handles_of, is_some, last_serial, le_trans, length, length-set, nat_cmp, none-some, refl, secondary_of, subst, sym, true≢false, use_of, with_board, with_handle, with_handle_register, with_object, with_place, with_queue, with_register, with_serial, with_static, with_use, with_weak, without_handle, without_use, ℕ, ⊎_elim, ◌%◌, ◌/◌, ◌<◌, ◌^◌, ◌∙◌, ◌≡◌, ◌≢◌, ◌≤◌}
+use Rattle.hd_model.proofs.Basics.{AllPairs, BlockUse, Contains, FIELDS, FinMap, FitsKind, Handle, HasHandles, HasObjects, HasSerials, HasShape, HasSoundReferences, HasWeakTable, Id, IsSome, IsWellFormed, List, Names, None, Numbers, OLDEST, Object, Option, ROWS, Slot, Some, State, WeakEntry, [], ap, field_of, get, get_or, handles_of, is_some, last_serial, le_trans, length, length-set, nat_cmp, none-some, refl, register_of, secondary_of, static_of, subst, sym, true≢false, use_of, with_board, with_handle, with_handle_register, with_object, with_place, with_queue, with_register, with_serial, with_static, with_use, with_weak, without_handle, without_use, ℕ, ⊎_elim, ◌%◌, ◌/◌, ◌<◌, ◌^◌, ◌∙◌, ◌≡◌, ◌≢◌, ◌≤◌}
 use Rattle.hd_model.proofs.ReadAfterWrite.{set_cases, cell_cases, rows_keep, insert_all, remove_all, still_some, some_cases, insert_cases, remove_cases, get_beside, inserted_from}
-use Rattle.hd_model.proofs.Entries.{none_from}
+use Rattle.hd_model.proofs.MapEntries.{none_from}
 use Rattle.hd_model.specs.declared.data.Kind.TheVariants as kind
 
 -- what references an object in one state does in another that has its objects
@@ -27,6 +27,29 @@ shape_again n s t r rs h hs k b c w = record {
   serials = c ∙ w.serials;
 }
 
+-- what is so of each source of references
+references : {t : State}
+    → ((id : ℕ) (object : Object Id) → get t.objects id ≡ Some object → (i : ℕ) → Names t (field_of object i))
+    → ((c d : ℕ) → Names t (register_of t c d)) → ((k : ℕ) → Names t (static_of t k))
+    → ((slot : ℕ) (h : Handle Id) → get t.handles slot ≡ Some h → Names t h.target)
+    → ((slot : ℕ) (h : Handle Id) → get t.handles slot ≡ Some h → Names t (secondary_of h.extra))
+    → ((id : Id) → Contains t.queue id → Names t (Some id))
+    → ((id : ℕ) → IsSome (get t.places id) → IsSome (get t.objects id))
+    → ((slot : ℕ) (x : WeakEntry Id) → get t.weak slot ≡ Some (Some x) → Names t (Some x.key))
+    → ((slot : ℕ) (x : WeakEntry Id) → get t.weak slot ≡ Some (Some x) → Names t x.value)
+    → HasSoundReferences t
+references fields registers statics targets secondaries queue places keys values = record {
+  fields = fields;
+  registers = registers;
+  statics = statics;
+  targets = targets;
+  secondaries = secondaries;
+  queue = queue;
+  places = places;
+  keys = keys;
+  values = values;
+}
+
 -- each other part of a well formed state, where only other parts differ
 names_again : (s : State) (handle_registers : List (List (Option Slot))) (board : List (Option Slot))
     (blocks : FinMap nat_cmp BlockUse) (serials : List ℕ) → HasSoundReferences s
@@ -36,17 +59,8 @@ names_again : (s : State) (handle_registers : List (List (Option Slot))) (board 
       blocks = blocks;
       serials = serials;
     })
-names_again s handle_registers board blocks serials h = record {
-  fields = h.fields;
-  registers = h.registers;
-  statics = h.statics;
-  targets = h.targets;
-  secondaries = h.secondaries;
-  queue = h.queue;
-  places = h.places;
-  keys = h.keys;
-  values = h.values;
-}
+names_again s handle_registers board blocks serials h = references h.fields h.registers h.statics h.targets
+    h.secondaries h.queue h.places h.keys h.values
 
 objects_again : (s t : State) → t.objects ≡ s.objects → t.queue ≡ s.queue → HasObjects s → HasObjects t
 objects_again s t o q h = record {
@@ -120,17 +134,10 @@ module _ (n : Numbers) (s : State) (w : IsWellFormed n s) where
       others_again _ refl refl refl refl refl refl
       (shape_again n s _ (length-set s.registers c _) (λ i. rows_keep s.registers c d i v) refl (λ _. refl)
       refl refl refl w.shape)
-      (record {
-        fields = w.names.fields;
-        registers = λ i j. cell_cases (Names s) s.registers c d i j v None (λ _ _. h) (w.names.registers i j);
-        statics = w.names.statics;
-        targets = w.names.targets;
-        secondaries = w.names.secondaries;
-        queue = w.names.queue;
-        places = w.names.places;
-        keys = w.names.keys;
-        values = w.names.values;
-      })
+      (references w.names.fields
+      (λ i j. cell_cases (Names s) s.registers c d i j v None (λ _ _. h) (w.names.registers i j))
+      w.names.statics w.names.targets w.names.secondaries w.names.queue w.names.places w.names.keys
+      w.names.values)
 
   pub handle_register_keeps : (c d : ℕ) (v : Option Slot) → c < n.callers
       → IsWellFormed n (with_handle_register s c d v)
@@ -144,17 +151,9 @@ module _ (n : Numbers) (s : State) (w : IsWellFormed n s) where
   static_keeps k v h =
       others_again _ refl refl refl refl refl refl
       (shape_again n s _ refl (λ _. refl) refl (λ _. refl) (length-set s.statics k v) refl refl w.shape)
-      (record {
-        fields = w.names.fields;
-        registers = w.names.registers;
-        statics = λ j. set_cases (Names s) s.statics k j v None (λ _. h) (w.names.statics j);
-        targets = w.names.targets;
-        secondaries = w.names.secondaries;
-        queue = w.names.queue;
-        places = w.names.places;
-        keys = w.names.keys;
-        values = w.names.values;
-      })
+      (references w.names.fields w.names.registers
+      (λ j. set_cases (Names s) s.statics k j v None (λ _. h) (w.names.statics j)) w.names.targets
+      w.names.secondaries w.names.queue w.names.places w.names.keys w.names.values)
 
   pub board_keeps : (k : ℕ) (v : Option Slot) → IsWellFormed n (with_board s k v)
   board_keeps k v =
@@ -172,18 +171,16 @@ module _ (n : Numbers) (s : State) (w : IsWellFormed n s) where
       names_more s (with_object s id object) (still_some s.objects id.0 object) in
       record {
         shape = shape_again n s _ refl (λ _. refl) refl (λ _. refl) refl refl refl w.shape;
-        names = record {
-          fields = insert_all s.objects id.0 (λ q x. (i : ℕ) → Names (with_object s id object) (field_of x i))
-              object named (λ q x e i. more _ (w.names.fields q x e i));
-          registers = λ c d. more _ (w.names.registers c d);
-          statics = λ k. more _ (w.names.statics k);
-          targets = λ slot handle e. more _ (w.names.targets slot handle e);
-          secondaries = λ slot handle e. more _ (w.names.secondaries slot handle e);
-          queue = λ x h. more (Some x) (w.names.queue x h);
-          places = λ q h. still_some s.objects id.0 object q (w.names.places q h);
-          keys = λ slot x e. more (Some x.key) (w.names.keys slot x e);
-          values = λ slot x e. more x.value (w.names.values slot x e);
-        };
+        names = references
+            (insert_all s.objects id.0 (λ q x. (i : ℕ) → Names (with_object s id object) (field_of x i))
+            object named (λ q x e i. more _ (w.names.fields q x e i)))
+            (λ c d. more _ (w.names.registers c d)) (λ k. more _ (w.names.statics k))
+            (λ slot handle e. more _ (w.names.targets slot handle e))
+            (λ slot handle e. more _ (w.names.secondaries slot handle e))
+            (λ x h. more (Some x) (w.names.queue x h))
+            (λ q h. still_some s.objects id.0 object q (w.names.places q h))
+            (λ slot x e. more (Some x.key) (w.names.keys slot x e))
+            (λ slot x e. more x.value (w.names.values slot x e));
         objects = record {
           sizes = insert_all s.objects id.0 (λ q x. length x.fields ≤ FIELDS) object small w.objects.sizes;
           generations = insert_all s.objects id.0 (λ q x. x.generation ≤ OLDEST) object young
@@ -223,18 +220,11 @@ module _ (n : Numbers) (s : State) (w : IsWellFormed n s) where
       → IsWellFormed n (with_handle s slot handle)
   handle_keeps slot handle not_weak target second in_use fits paired = record {
     shape = shape_again n s _ refl (λ _. refl) refl (λ _. refl) refl refl refl w.shape;
-    names = record {
-      fields = w.names.fields;
-      registers = w.names.registers;
-      statics = w.names.statics;
-      targets = insert_all s.handles slot.0 (λ _ x. Names s x.target) handle target w.names.targets;
-      secondaries = insert_all s.handles slot.0 (λ _ x. Names s (secondary_of x.extra)) handle second
-          w.names.secondaries;
-      queue = w.names.queue;
-      places = w.names.places;
-      keys = w.names.keys;
-      values = w.names.values;
-    };
+    names = references w.names.fields w.names.registers w.names.statics
+        (insert_all s.handles slot.0 (λ _ x. Names s x.target) handle target w.names.targets)
+        (insert_all s.handles slot.0 (λ _ x. Names s (secondary_of x.extra)) handle second
+        w.names.secondaries)
+        w.names.queue w.names.places w.names.keys w.names.values;
     objects = objects_again s _ refl refl w.objects;
     serials = serials_again s _ refl refl w.serials;
     handles = record {
@@ -257,17 +247,10 @@ module _ (n : Numbers) (s : State) (w : IsWellFormed n s) where
   pub removal_keeps : (slot : Slot) → IsWellFormed n (without_handle s slot)
   removal_keeps slot = record {
     shape = shape_again n s _ refl (λ _. refl) refl (λ _. refl) refl refl refl w.shape;
-    names = record {
-      fields = w.names.fields;
-      registers = w.names.registers;
-      statics = w.names.statics;
-      targets = remove_all s.handles slot.0 (λ _ x. Names s x.target) w.names.targets;
-      secondaries = remove_all s.handles slot.0 (λ _ x. Names s (secondary_of x.extra)) w.names.secondaries;
-      queue = w.names.queue;
-      places = w.names.places;
-      keys = w.names.keys;
-      values = w.names.values;
-    };
+    names = references w.names.fields w.names.registers w.names.statics
+        (remove_all s.handles slot.0 (λ _ x. Names s x.target) w.names.targets)
+        (remove_all s.handles slot.0 (λ _ x. Names s (secondary_of x.extra)) w.names.secondaries)
+        w.names.queue w.names.places w.names.keys w.names.values;
     objects = objects_again s _ refl refl w.objects;
     serials = serials_again s _ refl refl w.serials;
     handles = record {
@@ -351,21 +334,14 @@ module _ (n : Numbers) (s : State) (w : IsWellFormed n s) where
       → IsWellFormed n (with_weak s slot content)
   weak_keeps slot content named alone in_use vacant = record {
     shape = shape_again n s _ refl (λ _. refl) refl (λ _. refl) refl refl refl w.shape;
-    names = record {
-      fields = w.names.fields;
-      registers = w.names.registers;
-      statics = w.names.statics;
-      targets = w.names.targets;
-      secondaries = w.names.secondaries;
-      queue = w.names.queue;
-      places = w.names.places;
-      keys = λ q x e. insert_all s.weak slot.0 (λ _ c. (y : WeakEntry Id) → c ≡ Some y → Names s (Some y.key))
-          content (λ y is. (named y is).0) (λ k c f y is. w.names.keys k y (f
-          ∙ ap Some is)) q (Some x) e x refl;
-      values = λ q x e. insert_all s.weak slot.0 (λ _ c. (y : WeakEntry Id) → c ≡ Some y → Names s y.value)
-          content (λ y is. (named y is).1) (λ k c f y is. w.names.values k y (f ∙ ap Some is)) q (Some x) e x
-          refl;
-    };
+    names = references w.names.fields w.names.registers w.names.statics w.names.targets w.names.secondaries
+        w.names.queue w.names.places
+        (λ q x e. insert_all s.weak slot.0 (λ _ c. (y : WeakEntry Id) → c ≡ Some y → Names s (Some y.key))
+        content (λ y is. (named y is).0) (λ k c f y is. w.names.keys k y (f ∙ ap Some is)) q (Some x) e
+        x refl)
+        (λ q x e. insert_all s.weak slot.0 (λ _ c. (y : WeakEntry Id) → c ≡ Some y → Names s y.value)
+        content (λ y is. (named y is).1) (λ k c f y is. w.names.values k y (f ∙ ap Some is)) q (Some x)
+        e x refl);
     objects = objects_again s _ refl refl w.objects;
     serials = serials_again s _ refl refl w.serials;
     handles = handles_again n s _ refl refl w.handles;
@@ -388,17 +364,8 @@ module _ (n : Numbers) (s : State) (w : IsWellFormed n s) where
       → AllPairs (λ x y. x ≢ y) queue → IsWellFormed n (with_queue s queue)
   queue_keeps queue named once = record {
     shape = shape_again n s _ refl (λ _. refl) refl (λ _. refl) refl refl refl w.shape;
-    names = record {
-      fields = w.names.fields;
-      registers = w.names.registers;
-      statics = w.names.statics;
-      targets = w.names.targets;
-      secondaries = w.names.secondaries;
-      queue = named;
-      places = w.names.places;
-      keys = w.names.keys;
-      values = w.names.values;
-    };
+    names = references w.names.fields w.names.registers w.names.statics w.names.targets w.names.secondaries
+        named w.names.places w.names.keys w.names.values;
     objects = record {
       sizes = w.objects.sizes;
       generations = w.objects.generations;
@@ -414,14 +381,6 @@ module _ (n : Numbers) (s : State) (w : IsWellFormed n s) where
   place_keeps id p there =
       others_again _ refl refl refl refl refl refl
       (shape_again n s _ refl (λ _. refl) refl (λ _. refl) refl refl refl w.shape)
-      (record {
-        fields = w.names.fields;
-        registers = w.names.registers;
-        statics = w.names.statics;
-        targets = w.names.targets;
-        secondaries = w.names.secondaries;
-        queue = w.names.queue;
-        places = some_cases s.places id.0 (λ q. IsSome (get s.objects q)) p there w.names.places;
-        keys = w.names.keys;
-        values = w.names.values;
-      })
+      (references w.names.fields w.names.registers w.names.statics w.names.targets w.names.secondaries
+      w.names.queue (some_cases s.places id.0 (λ q. IsSome (get s.objects q)) p there w.names.places)
+      w.names.keys w.names.values)

@@ -1,10 +1,5 @@
 -- A well formed state has a whole scene, and what a whole scene says of a state's references.
-use Rattle.hd_model.proofs.Basics.{◌≡◌, ℕ, List, [], length, get_or, Option, Some, None, is_some, IsSome, IfSome, refl, sym, ap, ◌∙◌, subst, ⊎_elim, Contains, get, get_or_default, get_or_past, Contains-append_left, Contains-append_right, Contains-append_cases, cases_lt, none-some}
-use Rattle.hd_model.specs.Data.{Id}
-use Rattle.hd_model.specs.State.{Numbers, Object, Handle, WeakEntry, weak_handle, State, row_of, secondary_of, register_of, static_of, field_of}
-use Rattle.hd_model.specs.Role.{attaches, role}
-use Rattle.hd_model.specs.Scene.{scene_of, joined, fields_in, IsField, IsWhole}
-use Rattle.hd_model.specs.WellFormed.{Names, HasSoundReferences, IsWellFormed}
+use Rattle.hd_model.proofs.Basics.{Contains, Contains-append_cases, Contains-append_left, Contains-append_right, Handle, HasSoundReferences, Id, IfSome, IsField, IsSome, IsWellFormed, IsWhole, List, Names, None, Numbers, Object, Option, Some, State, WeakEntry, [], ap, attaches, cases_lt, field_of, fields_in, get, get_or, get_or_default, get_or_past, is_some, joined, length, none-some, refl, register_of, role, row_of, scene_of, secondary_of, static_of, subst, sym, weak_handle, ℕ, ⊎_elim, ◌∙◌, ◌≡◌}
 use Rattle.hd_model.proofs.Members.{not_in_none, member_at, joined_in, joined_from}
 use Rattle.hd_model.proofs.KindExtras.{fits_secondary}
 use Rattle.hd_model.proofs.WeakSlots.{handle_row, weak_row, row_cases, weak_attaches}
@@ -22,8 +17,7 @@ pub named_at : {A : Type 0} (xs : List (Option A)) (i : ℕ) (x : A) → get_or 
     → Contains xs (Some x)
 named_at xs i x e =
     ⊎_elim (λ inside. member_at xs i None (Some x) inside e)
-    (λ past. absurd (none-some x (sym (get_or_past xs i None past) ∙ e)))
-    (cases_lt i (length xs))
+    (λ past. absurd (none-some x (sym (get_or_past xs i None past) ∙ e))) (cases_lt i (length xs))
 
 pub at_named : {A : Type 0} (xs : List (Option A)) (x : A) → Contains xs (Some x) → (i : ℕ)
     × (get_or xs i None ≡ Some x)
@@ -48,8 +42,7 @@ module _ (s : State) where
 
   -- a field by its number
   pub field_in : (id : ℕ) (object : Object Id) (i : ℕ) (y : Id) → get s.objects id ≡ Some object
-      → field_of object i ≡ Some y
-      → IsField (scene_of s).object (record { 0 = id }) y
+      → field_of object i ≡ Some y → IsField (scene_of s).object (record { 0 = id }) y
   field_in id object i y is_stored e =
       subst (λ (o : Option (Object Id)). Contains (fields_in o) (Some y)) (sym is_stored)
       (named_at object.fields i y e)
@@ -60,8 +53,7 @@ module _ (s : State) (w : HasSoundReferences s) where
   field_object x y None e h = absurd (not_in_none (Some y) h)
   field_object x y (Some object) e h =
       let (i, at) = at_named object.fields y h in
-      if_some_at (λ (id : Id). IsSome (get s.objects id.0)) (field_of object i) y
-      (w.fields x.0 object e i) at
+      if_some_at (λ (id : Id). IsSome (get s.objects id.0)) (field_of object i) y (w.fields x.0 object e i) at
 
   named_object : (x : Id) → Contains (scene_of s).named (Some x) → IsSome (get s.objects x.0)
   named_object x h =
@@ -129,11 +121,9 @@ pub names_of_whole : (s : State) → IsWhole (scene_of s)
     → ((slot : ℕ) → IsSome (get s.weak slot) → get s.handles slot ≡ None)
     → ((id : ℕ) → IsSome (get s.places id) → IsSome (get s.objects id)) → HasSoundReferences s
 names_of_whole s w apart places = record {
-  fields = λ id object is_stored i.
-      if_some_from (λ (x : Id). IsSome (get s.objects x.0)) (field_of object i)
+  fields = λ id object is_stored i. if_some_from (λ (x : Id). IsSome (get s.objects x.0)) (field_of object i)
       (λ y e. w.fields (record { 0 = id }) y (field_in s id object i y is_stored e));
-  registers = λ c d.
-      if_some_from (λ (x : Id). IsSome (get s.objects x.0)) (register_of s c d)
+  registers = λ c d. if_some_from (λ (x : Id). IsSome (get s.objects x.0)) (register_of s c d)
       (λ x e. w.named x (register_named s c d x e));
   statics = λ k. if_some_from (λ (x : Id). IsSome (get s.objects x.0)) (static_of s k)
       (λ x e. w.named x (static_named s k x e));

@@ -24,6 +24,8 @@ is_refused (reply.Place p) = false
 is_refused (reply.Report r) = false
 is_refused reply.NoneQueued = false
 is_refused reply.Absent = false
+is_refused (reply.Chain from edges) = false
+is_refused reply.Unrooted = false
 is_refused (reply.Refused r) = true
 
 -- the ages with that of a slot's clump lowered to g; nothing is lowered where there is no slot
@@ -57,6 +59,7 @@ aged_by_class s caller slot ages (class.Collects n) = grown n ages
 aged_by_class s caller slot ages (class.AnswersPlace h) = ages
 aged_by_class s caller slot ages (class.AddsEntry k v) = lowered_at ages slot 0
 aged_by_class s caller slot ages (class.LooksUp k) = ages
+aged_by_class s caller slot ages (class.Searches r) = ages
 aged_by_class s caller slot ages class.Plain = ages
 
 abbrev pub aged_by_command : State → ℕ → Option Slot → List ℕ → Cmd → List ℕ

@@ -37,8 +37,10 @@ class_of (cmd.Trim kind) = class.GivesBack kind
 class_of (cmd.CAdd k v) = class.AddsEntry k v
 class_of (cmd.CFind d k) = class.LooksUp k
 class_of (cmd.CRemove k) = class.LooksUp k
+class_of (cmd.GcRoot s) = class.Searches s
 
--- whether a command of the class may take memory: an object is made, or a collection moves objects
+-- whether a command of the class may take memory: an object is made, a collection moves objects, or a search
+-- keeps what it came by
 abbrev pub class_takes_memory : Class → Bool
 class_takes_memory (class.MakesObject fields) = true
 class_takes_memory (class.TakesSlot make t) = false
@@ -50,6 +52,7 @@ class_takes_memory (class.Collects n) = true
 class_takes_memory (class.AnswersPlace h) = false
 class_takes_memory (class.AddsEntry k v) = false
 class_takes_memory (class.LooksUp k) = false
+class_takes_memory (class.Searches s) = true
 class_takes_memory class.Plain = false
 
 -- whether a command of the class is a collection
@@ -64,4 +67,5 @@ class_collects (class.Collects n) = true
 class_collects (class.AnswersPlace h) = false
 class_collects (class.AddsEntry k v) = false
 class_collects (class.LooksUp k) = false
+class_collects (class.Searches s) = false
 class_collects class.Plain = false

@@ -213,6 +213,10 @@ answer_place s caller h p =
     option_map_or (λ id. answers (reply.Place p) (with_place s id p)) handle.target (refuses refusal.Null s))
     else refuses refusal.WrongKind s)
 
+-- `gcroot rS` with the reply that a search for rS has
+abbrev pub answer_root : State → ℕ → ℕ → Reply → Outcome
+answer_root s caller r reply = on_object s caller r (λ _. answers reply s)
+
 -- the extra of a made handle. Without a target a dependent handle has no secondary either.
 abbrev pub extra_by : (ℕ → Option Id) → Make → Option Id → Extra Id
 extra_by registers make.Short target = nothing

@@ -83,6 +83,7 @@ command_words (cmd.Trim kind) = codes "trim" ∷ kind_name kind ∷ []
 command_words (cmd.CAdd k v) = codes "cadd" ∷ object_word k ∷ object_word v ∷ []
 command_words (cmd.CFind d k) = codes "cfind" ∷ object_word d ∷ object_word k ∷ []
 command_words (cmd.CRemove k) = codes "cremove" ∷ object_word k ∷ []
+command_words (cmd.GcRoot s) = codes "gcroot" ∷ object_word s ∷ []
 
 -- the text of a command: its words with one blank, byte 32, between each two
 abbrev pub command_text : Cmd → List ℕ

@@ -5,7 +5,7 @@ use Rattle.std.specs.List.{range_with_len}
 use Rattle.std.specs.FinMap.{len}
 use Rattle.hd_model.specs.Data.{Entry, Make, Reply, Cmd}
 use Rattle.hd_model.specs.declared.data.Make.TheVariants as make
-use Rattle.hd_model.specs.declared.data.Reply.TheVariants.{Done, Object, Nothing, Value, Generation, Place, Report, NoneQueued, Absent, Refused}
+use Rattle.hd_model.specs.declared.data.Reply.TheVariants.{Done, Object, Nothing, Value, Generation, Place, Report, NoneQueued, Absent, Chain, Unrooted, Refused}
 use Rattle.hd_model.specs.declared.data.Strength.TheVariants as strength
 use Rattle.hd_model.specs.declared.command.Cmd.TheVariants as cmd
 use Rattle.hd_model.specs.declared.limits.TheConstants.{HEAP, BLOCKS, LOAD_CALLERS, ROUNDS_TO_COLLECTION}
@@ -71,6 +71,8 @@ value_returned (Place p) = 0
 value_returned (Report r) = 0
 value_returned NoneQueued = 0
 value_returned Absent = 0
+value_returned (Chain from edges) = 0
+value_returned Unrooted = 0
 value_returned (Refused r) = 0
 
 -- the line of a load whose journal replays to a state

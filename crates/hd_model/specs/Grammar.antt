@@ -132,6 +132,7 @@ two_words word a = look_up word (
     ∷ (codes "hdown", one cmd.HDown (handle_register_in a))
     ∷ (codes "trim", one cmd.Trim (trimmed_kind_of a))
     ∷ (codes "cremove", one cmd.CRemove (object_register_in a))
+    ∷ (codes "gcroot", one cmd.GcRoot (object_register_in a))
     ∷ [])
 
 -- a command of three words on objects

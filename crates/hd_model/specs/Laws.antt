@@ -56,6 +56,8 @@ is_done (reply.Place p) = false
 is_done (reply.Report r) = false
 is_done reply.NoneQueued = false
 is_done reply.Absent = false
+is_done (reply.Chain from edges) = false
+is_done reply.Unrooted = false
 is_done (reply.Refused r) = false
 
 -- the object that a reply references
@@ -69,6 +71,8 @@ object_answered (reply.Place p) = None
 object_answered (reply.Report r) = None
 object_answered reply.NoneQueued = None
 object_answered reply.Absent = None
+object_answered (reply.Chain from edges) = None
+object_answered reply.Unrooted = None
 object_answered (reply.Refused r) = None
 
 -- the number of objects that a collection removed, by its reply
@@ -82,6 +86,8 @@ removed_in (reply.Place p) = 0
 removed_in (reply.Report r) = r.removed
 removed_in reply.NoneQueued = 0
 removed_in reply.Absent = 0
+removed_in (reply.Chain from edges) = 0
+removed_in reply.Unrooted = 0
 removed_in (reply.Refused r) = 0
 
 -- whether a command with its reply made a handle: an `hnew` that was done

@@ -18,6 +18,7 @@ pub mod Aging
 pub mod Scene
 pub mod Leads
 pub mod Reach
+pub mod Anchors
 pub mod Counting
 pub mod Collect
 pub mod Ages
@@ -34,8 +35,11 @@ pub mod Code
 pub mod Grammar
 pub mod CommandText
 pub mod RootText
+pub mod FullText
+pub mod Judged
 pub mod Laws
 pub mod UserLaws
 pub mod WeakLaws
+pub mod AnchorLaws
 pub mod Constants
 pub mod Generated

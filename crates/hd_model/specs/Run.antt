@@ -68,6 +68,7 @@ ChoosesLeast s e (class.Collects n) = Unit {0}
 ChoosesLeast s e (class.AnswersPlace h) = Unit {0}
 ChoosesLeast s e (class.AddsEntry k v) = AddsLeast s e (adding_of s e.caller k)
 ChoosesLeast s e (class.LooksUp k) = Unit {0}
+ChoosesLeast s e (class.Searches r) = Unit {0}
 ChoosesLeast s e class.Plain = Unit {0}
 
 abbrev pub TakesLeast : State → Entry → Cmd → Type 0

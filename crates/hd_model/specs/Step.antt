@@ -2,7 +2,7 @@
 -- command decide it, but for the slot and the blocks of a new handle, the address that `addr` returns, and
 -- whether `trim` gives a block back.
 use Rattle.std.specs.Prelude.{◌≡◌, ℕ, ◌+◌, ◌<◌, ◌≤◌, ◌^◌, ◌⊎◌, Bool, true, false, cond, Option, Some, None, IsSome, option_and_then}
-use Rattle.hd_model.specs.Data.{Id, Entry, Report, Slot, Kind, Make, Grown, Cmd}
+use Rattle.hd_model.specs.Data.{Id, Entry, Report, Reply, Slot, Kind, Make, Grown, Cmd}
 use Rattle.hd_model.specs.declared.data.Grown.TheVariants.{Zero, One, Two, Back}
 use Rattle.hd_model.specs.declared.data.Refusal.TheVariants as refusal
 use Rattle.hd_model.specs.declared.data.Reply.TheVariants as reply
@@ -10,11 +10,12 @@ use Rattle.hd_model.specs.declared.command.Cmd.TheVariants as cmd
 use Rattle.hd_model.specs.declared.data.Kind.TheVariants as kind
 use Rattle.hd_model.specs.Kinds.{kind_of, is_paired}
 use Rattle.hd_model.specs.Valid.{IsValid}
-use Rattle.hd_model.specs.State.{Numbers, Handle, State, handles_of, extra_data, handle_register_of, last_serial, handle_at, use_of, given_of, first_slot, IsFree, IsAllFree, with_handle_register, with_handle, with_use, without_use}
+use Rattle.hd_model.specs.State.{Numbers, Handle, State, handles_of, extra_data, register_of, handle_register_of, last_serial, handle_at, use_of, given_of, first_slot, IsFree, IsAllFree, with_handle_register, with_handle, with_use, without_use}
 use Rattle.hd_model.specs.Role.{pins}
 use Rattle.hd_model.specs.Places.{MayAnswer}
+use Rattle.hd_model.specs.Anchors.{TellsRoot}
 use Rattle.hd_model.specs.Collect.{CollectsState}
-use Rattle.hd_model.specs.Command.{Outcome, answers, refuses, made_handle, new_object, set_field, get_field, set_value, read_value, copy_register, clear_register, put_static, get_static, read_generation, set_registered, take_queued, get_target, set_target, set_secondary, get_secondary, set_strength, raise_count, lower_count, free_handle, put_board, pick_board, answer_place, Adding, is_refused, in_idle, in_new, adding_of, with_entry, add_entry, find_entry, remove_entry}
+use Rattle.hd_model.specs.Command.{Outcome, answers, refuses, made_handle, new_object, set_field, get_field, set_value, read_value, copy_register, clear_register, put_static, get_static, read_generation, set_registered, take_queued, get_target, set_target, set_secondary, get_secondary, set_strength, raise_count, lower_count, free_handle, put_board, pick_board, answer_place, answer_root, Adding, is_refused, in_idle, in_new, adding_of, with_entry, add_entry, find_entry, remove_entry}
 
 -- an entry of a command that the state decides: its reply and slot are those of the outcome, and the blocks
 -- stay
@@ -115,7 +116,13 @@ pub record GivesBack (old : State) (e : Entry) (new : State) (kind : Kind) : Typ
   pub grown : e.grown ≡ Back block
   pub after : new ≡ without_use old block
 
--- how a command goes: the state alone decides its outcome, or it is one of six with a premise or a choice
+-- `gcroot` tells where a shortest chain to what rS references begins, or is refused where that is null
+pub record AnswersRoot (old : State) (e : Entry) (new : State) (r : ℕ) : Type 0 where
+  pub found : Reply
+  pub tells : (goal : Id) → register_of old e.caller r ≡ Some goal → TellsRoot old goal found
+  pub outcome : IsOutcome e (answer_root old e.caller r found) new
+
+-- how a command goes: the state alone decides its outcome, or it is one of seven with a premise or a choice
 pub data Way : Type 0 where
   decided : Outcome → Way
   makes_object : (d fields : ℕ) (fin : Bool) → Way
@@ -124,6 +131,7 @@ pub data Way : Type 0 where
   answers_place : (h : ℕ) → Way
   gives_back : (kind : Kind) → Way
   adds_entry : (v : ℕ) (key : Id) → Way
+  answers_root : (r : ℕ) → Way
 
 -- the way of a `cadd`, by what it meets
 abbrev pub way_of_adding : State → ℕ → ℕ → Adding → Way
@@ -163,6 +171,7 @@ way_of s caller (cmd.Trim kind) = gives_back kind
 way_of s caller (cmd.CAdd k v) = way_of_adding s caller v (adding_of s caller k)
 way_of s caller (cmd.CFind d k) = decided (find_entry s caller d k)
 way_of s caller (cmd.CRemove k) = decided (remove_entry s caller k)
+way_of s caller (cmd.GcRoot r) = answers_root r
 
 -- what a step does by its way. A caller makes at most 2^32 - 1 objects, so a `new` beyond them is no step.
 abbrev pub TakesWay : Numbers → State → Entry → State → Way → Type 0
@@ -177,6 +186,7 @@ TakesWay n old e new (gives_back kind) =
     GivesBack old e new kind ⊎ IsOutcome e (answers (reply.Value 0) old) new
 TakesWay n old e new (adds_entry v key) =
     AddsEntry n old e new v key ⊎ FindsTableFull n old e new kind.Dependent
+TakesWay n old e new (answers_root r) = AnswersRoot old e new r
 
 -- what the step of each command does
 abbrev pub StepOf : Numbers → State → Entry → State → Cmd → Type 0

@@ -1,9 +1,10 @@
 -- The texts of replies, entries and whole journals, as bytes. They are this project's own format.
 use Rattle.std.specs.Prelude.{ℕ, ◌+◌, ◌/◌, ◌%◌, ◌^◌, ◌==◌, List, [], ◌∷◌, ◌++◌, codes, decimal, count_by, Bool}
+use Rattle.std.specs.List.{concat}
 use Rattle.std.specs.FinMap.{len}
 use Rattle.hd_model.specs.Data.{Id, Report as CollectionReport, Entry, Refusal, Reply, Cmd}
 use Rattle.hd_model.specs.declared.data.Refusal.TheVariants.{Null, BadField, HeapFull, TableFull, NotLive, WrongKind, EmptyRegister, CountZero, Present}
-use Rattle.hd_model.specs.declared.data.Reply.TheVariants.{Done, Object, Nothing, Value, Generation, Place, Report, NoneQueued, Absent, Refused}
+use Rattle.hd_model.specs.declared.data.Reply.TheVariants.{Done, Object, Nothing, Value, Generation, Place, Report, NoneQueued, Absent, Chain, Unrooted, Refused}
 use Rattle.hd_model.specs.Class.{class_of, class_collects}
 use Rattle.hd_model.specs.State.{State}
 
@@ -41,6 +42,8 @@ reply_text (Place p) = codes "addr " ++ decimal p
 reply_text (Report r) = report_text r
 reply_text NoneQueued = codes "none"
 reply_text Absent = codes "absent"
+reply_text (Chain from edges) = codes "root " ++ identity_text from ++ codes " " ++ decimal edges
+reply_text Unrooted = codes "unrooted"
 reply_text (Refused refusal) = refusal_text refusal
 
 -- the end of a line
@@ -52,16 +55,17 @@ abbrev pub entry_text : Entry → ℕ → List ℕ
 entry_text e number =
     decimal e.caller ++ codes " " ++ decimal number ++ codes " " ++ reply_text e.reply ++ newline
 
--- the lines of entries that come after others. A caller's entries are numbered from 1.
-abbrev pub lines_after : List Entry → List Entry → List ℕ
-lines_after before [] = []
-lines_after before (e ∷ es) =
-    entry_text e (count_by (λ (other : Entry). other.caller == e.caller) before + 1)
-    ++ lines_after (before ++ e ∷ []) es
+-- what is made of each entry that comes after others, and of its number. A caller's entries are numbered from
+-- 1.
+abbrev pub numbered_after : {A : Type 0} → (Entry → ℕ → A) → List Entry → List Entry → List A
+numbered_after make before [] = []
+numbered_after make before (e ∷ es) =
+    make e (count_by (λ (other : Entry). other.caller == e.caller) before + 1)
+    ∷ numbered_after make (before ++ e ∷ []) es
 
--- the lines of a journal
+-- the lines of a journal, one after another
 abbrev pub lines_of : List Entry → List ℕ
-lines_of journal = lines_after [] journal
+lines_of journal = concat (numbered_after entry_text [] journal)
 
 -- the last line: the live handles, the objects, reachable or not, and the collections
 abbrev pub end_text : ℕ → ℕ → ℕ → List ℕ

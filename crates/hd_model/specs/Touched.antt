@@ -94,6 +94,7 @@ touched_by (cmd.Trim kind) = record none_touched { blocks = true }
 touched_by (cmd.CAdd k v) = record none_touched { adds = Some (k, v); weak = true; blocks = true }
 touched_by (cmd.CFind d k) = record none_touched { register = Some d }
 touched_by (cmd.CRemove k) = record none_touched { takes_out = Some k; weak = true }
+touched_by (cmd.GcRoot r) = none_touched
 
 -- what is not touched stays
 pub record Untouched (by : Touched) (old new : State) : Type 0 where

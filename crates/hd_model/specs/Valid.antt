@@ -43,7 +43,9 @@ IsValid (cmd.Trim kind) = is_paired kind ≡ false
 IsValid (cmd.CAdd k v) = (k < REGISTERS) × (v < REGISTERS)
 IsValid (cmd.CFind d k) = (d < REGISTERS) × (k < REGISTERS)
 IsValid (cmd.CRemove k) = k < REGISTERS
+IsValid (cmd.GcRoot s) = s < REGISTERS
 
--- the commands that may take memory: an object is made, or a collection moves objects
+-- the commands that may take memory: an object is made, a collection moves objects, or a search keeps what it
+-- came by
 abbrev pub takes_memory : Cmd → Bool
 takes_memory c = class_takes_memory (class_of c)

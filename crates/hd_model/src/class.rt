@@ -24,6 +24,8 @@ pub enum Class {
     AddsEntry { k: u8, v: u8 },
     /// It looks the key in object register `k` up in the weak table.
     LooksUp { k: u8 },
+    /// It searches for a chain from an anchor to the object in object register `s`.
+    Searches { s: u8 },
     /// It does none of these.
     Plain,
 }

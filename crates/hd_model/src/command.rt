@@ -72,6 +72,8 @@ pub enum Cmd {
     CFind { d: u8, k: u8 },
     /// `cremove rK`: takes the entry of key rK out of the weak table, as `Remove`.
     CRemove { k: u8 },
+    /// `gcroot rS`: returns where a shortest chain to rS begins, after the debugger's command.
+    GcRoot { s: u8 },
 }
 
 impl Cmd {
@@ -91,6 +93,7 @@ impl Cmd {
             Cmd::AddrOf { s } => Class::AnswersPlace { h: s },
             Cmd::CAdd { k, v } => Class::AddsEntry { k, v },
             Cmd::CFind { k, .. } | Cmd::CRemove { k } => Class::LooksUp { k },
+            Cmd::GcRoot { s } => Class::Searches { s },
             Cmd::Set { .. }
             | Cmd::Get { .. }
             | Cmd::Val { .. }
@@ -113,10 +116,13 @@ impl Cmd {
         }
     }
 
-    /// Whether the command may take memory: to make an object, or to collect.
+    /// Whether the command may take memory: to make an object, to collect, or to search.
     pub fn takes_memory(&self) -> bool
         ensures { result ≡ takes_memory self.now }
     {
-        matches!(self.class(), Class::MakesObject(_) | Class::Collects(_))
+        matches!(
+            self.class(),
+            Class::MakesObject(_) | Class::Collects(_) | Class::Searches { .. }
+        )
     }
 }

@@ -214,6 +214,10 @@ pub enum Reply {
     NoneQueued,
     /// The weak table has no entry with this key.
     Absent,
+    /// Where a shortest chain from an anchor to the object begins, and its number of edges.
+    Chain { from: Id, arrows: u32 },
+    /// No chain leads from an anchor to the object.
+    Unrooted,
     Refused(Refusal),
 }
 

@@ -1,6 +1,7 @@
 //! The plain data of the handle table, and the definitions that the crates above cite.
 #![tactic(auto)]
 
+mod anchor_laws;
 mod class;
 mod collection_laws;
 mod command;
@@ -14,6 +15,9 @@ mod marker;
 mod steps;
 mod weak_laws;
 
+pub use anchor_laws::{
+    gcroot_tells_the_root, root_is_one, rooted_objects_stay, unrooted_objects_go,
+};
 pub use class::Class;
 pub use collection_laws::{
     ages_hide_nothing, ages_of_runs_are_sound, collections_exist, collections_keep_well_formed,

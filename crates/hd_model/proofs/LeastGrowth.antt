@@ -1,7 +1,7 @@
 -- The table grows in one way: by its least unused blocks, and it is full only where there are too few.
 use Rattle.hd_model.proofs.Basics.{Back, Bool, FinMap, Grown, IsLeastUnused, IsSome, IsWellFormed, Kind, MayGive, None, NoneFree, Numbers, One, Option, Slot, State, Two, Zero, ap, arith, blocks_needed, cases_order, cond, empty, extra_data, false, first_slot, get, get-empty, given_of, insert, is_some, le_of_eq, len, len-empty, len-remove, nat_cmp, nat_cmp-IsAntisymmetric, nat_cmp_total, remove, same_map, subst, suc, sym, true, true≢false, use_of, with_use, zero, ℕ, ⊎_elim, ◌+◌, ◌-◌, ◌<◌, ◌∙◌, ◌≡◌, ◌≢◌, ◌≤◌}
 use Rattle.hd_model.proofs.ReadAfterWrite.{some_cases, remove_cases, len_new, get_beside}
-use Rattle.hd_model.proofs.{WellFormedWrites.use_keeps, Entries.none_from}
+use Rattle.hd_model.proofs.{WellFormedWrites.use_keeps, MapEntries.none_from}
 
 nothing_some : {X : Type 0} (o : Option X) → o ≡ None → IsSome o → ⊥
 nothing_some o e h = true≢false (sym h ∙ ap is_some e)
