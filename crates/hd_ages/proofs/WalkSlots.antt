@@ -1,7 +1,7 @@
 -- The slots of a walk are the live slots of its kind in due clumps, each once.
 use Rattle.hd_ages.proofs.Basics.{AllPairs, Bool, Contains, Contains-append_cases, Contains-append_left, Contains-append_right, IsDueRow, IsSome, IsTable, Kind, List, Some, Table, [], ap, arith, cases_eq, chain_of, clump_of, clumps_of, contains_key, counts_le, due_clumps, due_slots, fewer, filter, first_in, get, handles_of, is_some, later_in, len, length, length-append, member_cases, nat_le, not_in_none, pairs_append, pairs_cons, pairs_first, pairs_none, pairs_passing, pairs_rest, passing_from, passing_in, range_with_len, refl, slice_index, slots_of, subst, suc, sym, true, zero, ℕ, ⊎_elim, ◌*◌, ◌+◌, ◌-◌, ◌/◌, ◌<◌, ◌∙◌, ◌∷◌, ◌≡◌, ◌≢◌, ◌≤◌}
 use Rattle.std.proofs.lemmas.List.FromFn.{length-range_with_len}
-use Rattle.hd_model.proofs.Entries.{some_value, counts_keys}
+use Rattle.hd_model.proofs.MapEntries.{some_value, counts_keys}
 use Rattle.hd_ages.specs.Walk.{slots_in}
 
 -- a list has exactly the things of a property, each once

@@ -8,7 +8,7 @@ use Rattle.hd_custody.proofs.HeldSlots.{true_false, held_times_append, held_time
 use Rattle.hd_custody.proofs.Weights.{weight_low, weight_cell, kind_word_is, kind_word_out, kind_word_set, named_kind, named_none, named_most, named_block, off_of}
 use Rattle.hd_custody.proofs.Slots.{held_alive, has_named, has_once, placed}
 use Rattle.hd_custody.proofs.Alike.{fits_as, kept_set}
-use Rattle.hd_custody.proofs.Turns.{slots_low, gate_kinds, cell_real, others_real, belongs_gate, kind_same, won, learned, mine, away, alone_holds, storing, word_here, word_other, old_belongs, held_none, opens}
+use Rattle.hd_custody.proofs.GateSteps.{slots_low, gate_kinds, cell_real, others_real, belongs_gate, kind_same, won, learned, mine, away, alone_holds, storing, word_here, word_other, old_belongs, held_none, opens}
 
 -- what holds of each that passes a test
 pub every_passed : (P Q : ℕ × ℕ → Type 0) (keep : ℕ × ℕ → Bool) (held : List (ℕ × ℕ))

@@ -5,7 +5,7 @@ pub mod Weights
 pub mod Slots
 pub mod Alike
 pub mod Keeps
-pub mod Turns
+pub mod GateSteps
 pub mod Gives
 pub mod SeatSplit
 pub mod SeatJoin
@@ -18,7 +18,7 @@ pub mod Shown
 pub mod Misses
 pub mod AllocateSteps
 pub mod ReleaseSteps
-pub mod Bounds
+pub mod CallRanks
 pub mod Ends
 pub mod Left
 pub mod Once

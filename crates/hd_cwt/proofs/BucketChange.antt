@@ -1,16 +1,8 @@
 -- A slot gets a key, or loses it: each bucket's ring has the slots of its keys again.
-use Rattle.std.proofs.Common.{◌≡◌, ◌≢◌, ℕ, ◌+◌, ◌<◌, ◌==◌, not, List, ◌∷◌, length, set, Option, Some, None, Contains, ⊎_elim, inl, inr, refl, sym, ap, ◌∙◌, subst, arith, eq-eqb}
-use Rattle.std.proofs.lemmas.Bool.{cases_eq, false≢true}
-use Rattle.std.proofs.lemmas.Option.{none-some, same_Some}
-use Rattle.std.proofs.lemmas.List.{length-set, get_or-set_same, get_or-set_other}
-use Rattle.hd_model.specs.declared.data.Id.{Id}
-use Rattle.hd_model.proofs.Members.{first_in, later_in, member_cases, pairs_cons, pairs_passing, passing_from, passing_in}
-use Rattle.hd_cwt.specs.Rings.{node_at, exchanged, turned}
-use Rattle.hd_cwt.specs.WeakTable.{bucket_of}
-use Rattle.hd_cwt.specs.Inside.{entry_at, bucket_in, IsBucket, HasBucket, IsLinked}
-use Rattle.hd_cwt.proofs.RingExchange as ring
+use Rattle.hd_cwt.proofs.Basics.{Contains, HasBucket, Id, IsBucket, IsLinked, List, None, Option, Some, ap, arith, bucket_in, bucket_of, cases_eq, entry_at, eq-eqb, exchanged, false≢true, first_in, get_or-set_other, get_or-set_same, inl, inr, later_in, length, length-set, member_cases, node_at, none-some, not, pairs_cons, pairs_passing, passing_from, passing_in, refl, same_Some, set, subst, sym, turned, ℕ, ⊎_elim, ◌+◌, ◌<◌, ◌==◌, ◌∙◌, ◌∷◌, ◌≡◌, ◌≢◌}
 use Rattle.hd_cwt.proofs.KeySearch.{in_held}
 use Rattle.hd_cwt.proofs.BucketWalks.{without, is_beside, walk_kept, walk_joined, walk_left}
+use Rattle.hd_cwt.proofs.RingExchange as ring
 
 -- what is read after an entry is written
 module _ (held : List (Option (Option Id))) (s : ℕ) (v : Option (Option Id)) (ls : s < length held) where
@@ -77,8 +69,7 @@ module _ {held : List (Option (Option Id))} {next previous : List ℕ} (is : IsL
             from = λ z h. ⊎_elim
                 (λ e. ap bucket_in (ap (entry_at (set held s (Some (Some key)))) (sym e)
                 ∙ written held s (Some (Some key)) ls))
-                (λ later. still (bucket_of key) old.list end old.is z later)
-                (member_cases s old.list z h);
+                (λ later. still (bucket_of key) old.list end old.is z later) (member_cases s old.list z h);
           };
         }
 
@@ -159,13 +150,11 @@ module _ {held : List (Option (Option Id))} {next previous : List ℕ} (is : IsL
                 (λ m e. passing_in (λ x. not (x == s)) old.list z (old.is.into z e) (is_beside z s m));
             from = λ z h. let (inside, passes) = passing_from (λ x. not (x == s)) old.list z h in
                 entry_cases held s (Some None) ls (λ v. bucket_in v ≡ Some b) z
-                (λ e. absurd (false≢true (sym (ap not (eq-eqb z s e)) ∙ passes)))
-                (λ _. old.is.from z inside);
+                (λ e. absurd (false≢true (sym (ap not (eq-eqb z s e)) ∙ passes))) (λ _. old.is.from z inside);
           };
         }
 
-    pub clear_linked : IsLinked (set held s (Some None)) (exchanged next back s)
-        (turned next previous back s)
+    pub clear_linked : IsLinked (set held s (Some None)) (exchanged next back s) (turned next previous back s)
     clear_linked =
         let new = set held s (Some None) in
         let after = exchanged next back s in
@@ -174,8 +163,7 @@ module _ {held : List (Option (Option Id))} {next previous : List ℕ} (is : IsL
           nodes = ring.long next previous is.rings back s back_low node ∙ is.nodes
               ∙ ap (λ n. n + 4096) (sym long);
           buckets = λ b low. subst (λ n. HasBucket new after (n + b) b) (sym long) (parted b low);
-          alone = λ z low. entry_cases held s (Some None) ls
-              (λ v. bucket_in v ≡ None → node_at after z ≡ z) z
+          alone = λ z low. entry_cases held s (Some None) ls (λ v. bucket_in v ≡ None → node_at after z ≡ z) z
               (λ e _. ap (node_at after) e
               ∙ ring.second next back (node_at next s) s (node_at next back) back_low node
               ∙ before_is ∙ sym e)

@@ -1,8 +1,5 @@
 -- The ring of a bucket, where a slot joins it or leaves it.
-use Rattle.std.proofs.Common.{◌≡◌, ◌≢◌, ◌⊎◌, ℕ, ◌<◌, ◌==◌, true, not, cond, List, [], ◌∷◌, filter, Contains, ⊎_elim, inl, inr, refl, sym, ap, ◌∙◌, subst, eq-eqb, ne_eqb}
-use Rattle.std.proofs.lemmas.Bool.{cases_eq}
-use Rattle.hd_model.proofs.Members.{first_in, later_in}
-use Rattle.hd_cwt.specs.Rings.{node_at, IsWalk}
+use Rattle.hd_cwt.proofs.Basics.{Contains, IsWalk, List, [], ap, cases_eq, cond, eq-eqb, filter, first_in, inl, inr, later_in, ne_eqb, node_at, not, refl, subst, sym, true, ℕ, ⊎_elim, ◌<◌, ◌==◌, ◌∙◌, ◌∷◌, ◌≡◌, ◌≢◌, ◌⊎◌}
 
 -- all but one
 abbrev pub without : ℕ → List ℕ → List ℕ
@@ -72,8 +69,7 @@ module _ (next new : List ℕ) (n e s p : ℕ) (low : s < n) (not_end : e ≢ s)
         )
       ]
   walk_left (y ∷ ys) x q lx within m (inr at) w =
-      let apart : y ≢ s =
-      λ y_s. m (at.1 ∙ sym (only s low (ap (node_at next) (sym at.0) ∙ w.0 ∙ y_s))) in
+      let apart : y ≢ s = λ y_s. m (at.1 ∙ sym (only s low (ap (node_at next) (sym at.0) ∙ w.0 ∙ y_s))) in
       subst (λ l. IsWalk new x l e) (sym (kept y s ys apart)) (
         ap (node_at new) at.1 ∙ at_previous (λ p_s. m (at.1 ∙ p_s)) ∙ ap (node_at next) (sym at.0) ∙ w.0,
         walk_left ys y y (within y (first_in y ys)) (λ z h. within z (later_in y ys z h)) apart

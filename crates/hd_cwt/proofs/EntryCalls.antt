@@ -1,19 +1,6 @@
 -- What each call does to the entries, by their fields and their value.
-use Rattle.std.proofs.Common.{◌≡◌, ◌≢◌, ℕ, ◌+◌, ◌/◌, ◌%◌, ◌^◌, ◌<◌, ◌≤◌, List, length, get_or, set, Option, Some, None, IsSome, IfSome, IfNone, inl, inr, refl, sym, ap, ◌∙◌, subst, arith, bit_and, bit_or, min}
-use Rattle.std.specs.Prelude.{is_some}
-use Rattle.std.specs.FinMap.{get, insert}
-use Rattle.std.specs.Int.{bit_not, w64}
-use Rattle.std.proofs.lemmas.Bool.{cases_lt, false≢true}
-use Rattle.std.proofs.lemmas.Grind.{get_or_default_zero}
-use Rattle.std.proofs.lemmas.List.{length-set, get_or_past}
-use Rattle.hd_model.specs.declared.data.Id.{Id}
-use Rattle.hd_model.specs.Indexed.{by_place}
-use Rattle.hd_model.proofs.IndexedItems.{get-by_place, by_place-put}
-use Rattle.hd_cwt.specs.Rings.{node_at, exchanged, turned}
-use Rattle.hd_cwt.specs.WeakTable.{WeakTable, HasKey, bucket_of, slots_of}
-use Rattle.hd_cwt.specs.Inside.{entry_at, bucket_in, IsLinked, IsEntries}
-use Rattle.hd_cwt.proofs.BucketChange.{put_linked, clear_linked}
-use Rattle.hd_cwt.proofs.IdleMasks.{put_marked, clear_marked}
+use Rattle.hd_cwt.proofs.Basics.{HasKey, Id, IfNone, IfSome, IsEntries, IsLinked, IsSome, List, None, Option, Some, WeakTable, ap, arith, bit_and, bit_not, bit_or, bucket_in, bucket_of, by_place, by_place-put, cases_lt, entry_at, exchanged, false≢true, get, get-by_place, get_or, get_or_default_zero, get_or_past, inl, inr, insert, is_some, length, length-set, min, node_at, refl, set, slots_of, subst, sym, turned, w64, ℕ, ◌%◌, ◌+◌, ◌/◌, ◌<◌, ◌^◌, ◌∙◌, ◌≡◌, ◌≢◌, ◌≤◌}
+use Rattle.hd_cwt.proofs.{BucketChange.put_linked, BucketChange.clear_linked, IdleMasks.put_marked, IdleMasks.clear_marked}
 
 no_bucket : (v : Option (Option Id)) → ((k : Id) → v ≡ Some (Some k) → ⊥) → bucket_in v ≡ None
 no_bucket None free = refl

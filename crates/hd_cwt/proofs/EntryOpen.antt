@@ -1,15 +1,5 @@
 -- Entries of which no slot is held.
-use Rattle.std.proofs.Common.{◌≡◌, ◌≢◌, ℕ, ◌+◌, ◌*◌, ◌/◌, ◌%◌, ◌<◌, ◌≤◌, List, [], length, get_or, replicate, cond, Option, None, refl, sym, ap, ◌∙◌, arith}
-use Rattle.std.specs.Int.{bit_at}
-use Rattle.std.proofs.lemmas.Option.{none-some}
-use Rattle.std.proofs.lemmas.List.{length-replicate}
-use Rattle.std.proofs.lemmas.Nat.Bits.{bit_at-zero}
-use Rattle.hd_model.specs.declared.data.Id.{Id}
-use Rattle.hd_model.proofs.IndexedItems.{get_or-replicate_None}
-use Rattle.hd_model.proofs.Members.{not_in_none, pairs_none}
-use Rattle.hd_model.proofs.ReadAfterWrite.{replicate_cases}
-use Rattle.hd_cwt.specs.Rings.{node_at}
-use Rattle.hd_cwt.specs.Inside.{entry_at, bucket_in, idle_in, IsEntries}
+use Rattle.hd_cwt.proofs.Basics.{Id, IsEntries, List, None, Option, [], ap, arith, bit_at, bit_at-zero, bucket_in, cond, entry_at, get_or, get_or-replicate_None, idle_in, length, length-replicate, node_at, none-some, not_in_none, pairs_none, refl, replicate, replicate_cases, sym, ℕ, ◌%◌, ◌*◌, ◌+◌, ◌/◌, ◌<◌, ◌∙◌, ◌≡◌, ◌≢◌, ◌≤◌}
 
 module _ {blocks : ℕ} (limit : blocks ≤ 256) (held : List (Option (Option Id))) (next previous masks : List ℕ)
     (is_held : held ≡ replicate (64 * (blocks + 1)) None) (is_masks : masks ≡ replicate (blocks + 1) 0)

@@ -1,13 +1,6 @@
 -- The masks of idle slots, where a slot gets a key or loses it; and the least idle slot.
-use Rattle.std.proofs.Common.{◌≡◌, ◌≢◌, ℕ, ◌+◌, ◌*◌, ◌/◌, ◌%◌, ◌^◌, ◌<◌, ◌≤◌, true, false, Bool, cond, List, length, get_or, set, Option, Some, None, inl, inr, refl, sym, ap, ◌∙◌, arith, bit_and, bit_or, min}
-use Rattle.std.specs.Int.{bit_at, bit_not, w64}
-use Rattle.std.proofs.lemmas.Bool.{cases_eq, cases_lt, false≢true}
-use Rattle.std.proofs.lemmas.Option.{none-some}
-use Rattle.std.proofs.lemmas.List.{length-set, get_or_past, get_or-set_same, get_or-set_other}
-use Rattle.std.proofs.lemmas.Nat.Bits.{bit_at-zero}
+use Rattle.hd_cwt.proofs.Basics.{Bool, Id, IsMarked, List, None, Option, Some, ap, arith, bit_and, bit_at, bit_at-zero, bit_not, bit_or, cases_eq, cases_lt, cond, entry_at, false, false≢true, get_or, get_or-set_other, get_or-set_same, get_or_past, idle_in, inl, inr, length, length-set, min, none-some, refl, set, sym, true, w64, ℕ, ◌%◌, ◌*◌, ◌+◌, ◌/◌, ◌<◌, ◌^◌, ◌∙◌, ◌≡◌, ◌≢◌, ◌≤◌}
 use Rattle.hd_mask.proofs.Bits.{set_same, set_other, clear_same, clear_other}
-use Rattle.hd_model.specs.declared.data.Id.{Id}
-use Rattle.hd_cwt.specs.Inside.{entry_at, idle_in, IsMarked}
 use Rattle.hd_cwt.proofs.BucketChange.{entry_cases}
 
 idle_is : (v : Option (Option Id)) → idle_in v ≡ true → v ≡ Some None
@@ -104,8 +97,7 @@ module _ {held : List (Option (Option Id))} {masks : List ℕ} {first : ℕ}
       size = sized s ls (Some None) w bit_here bits_beside;
       bits = bits_written s ls (Some None) w bit_here bits_beside;
       before = λ z low. entry_cases held s (Some None) ls (λ v. idle_in v ≡ false) z
-          (λ same. absurd (omega (arith, low, least, same)))
-          (λ _. is.before z (omega (arith, low, least)));
+          (λ same. absurd (omega (arith, low, least, same))) (λ _. is.before z (omega (arith, low, least)));
       some = λ low none. elim (cases_eq after (s / 64)) [
         | inl e ↦
             let zero : w ≡ 0 = sym (get_or-set_same masks (s / 64) w 0 (omega (arith, ls, is.size)))

@@ -1,18 +1,6 @@
 -- The search for a key along the ring of its bucket.
-use Rattle.std.proofs.Common.{◌≡◌, ◌≢◌, ℕ, suc, ◌+◌, ◌<◌, ◌≤◌, List, [], ◌∷◌, length, map, filter, Option, Some, None, Contains, Bool, ⊎_elim, inl, inr, refl, sym, ap, ◌∙◌, subst, arith, eq-eqb}
-use Rattle.std.specs.FinMap.{entries}
-use Rattle.std.proofs.lemmas.Option.{none-some, same_Some}
-use Rattle.std.proofs.lemmas.Bool.{cases_lt}
-use Rattle.std.proofs.lemmas.List.{get_or_past, length-map}
-use Rattle.hd_model.specs.declared.data.Id.{Id}
-use Rattle.hd_model.specs.Indexed.{by_place}
-use Rattle.hd_model.proofs.Entries.{entry_of}
-use Rattle.hd_model.proofs.IndexedItems.{get-by_place}
-use Rattle.hd_model.proofs.Members.{not_in_none, first_in, later_in, member_cases, mapped_in, passing_in}
-use Rattle.hd_model.proofs.PropertyCounts.{fewer}
-use Rattle.hd_cwt.specs.Rings.{node_at, IsWalk}
-use Rattle.hd_cwt.specs.WeakTable.{bucket_of, is_in_bucket, entries_in}
-use Rattle.hd_cwt.specs.Inside.{entry_at, bucket_in, IsBucket, HasBucket}
+use Rattle.hd_cwt.proofs.Basics.{Bool, Contains, HasBucket, Id, IsBucket, IsWalk, List, None, Option, Some, [], ap, arith, bucket_in, bucket_of, by_place, cases_lt, entries, entries_in, entry_at, eq-eqb, filter, first_in, get-by_place, get_or_past, inl, inr, is_in_bucket, later_in, length, length-map, map, mapped_in, member_cases, node_at, none-some, not_in_none, passing_in, refl, same_Some, subst, suc, sym, ℕ, ⊎_elim, ◌+◌, ◌<◌, ◌∙◌, ◌∷◌, ◌≡◌, ◌≢◌, ◌≤◌}
+use Rattle.hd_model.proofs.{MapEntries.entry_of, PropertyCounts.fewer}
 
 -- the key of a slot in a bucket
 pub key_of : (v : Option (Option Id)) (b : ℕ) → bucket_in v ≡ Some b
@@ -122,8 +110,7 @@ module _ {held : List (Option (Option Id))} {next : List ℕ} {end : ℕ} {key :
               (ahead_of next first.slot first.rest end first.walk);
           slots = λ z h. is.slots z (subst (λ l. Contains l z) (sym first.list_is)
               (later_in first.slot first.rest z h));
-          has = λ z h. ⊎_elim
-              (λ same. absurd (missed (ap (entry_at held) (first.at_is ∙ same) ∙ h)))
+          has = λ z h. ⊎_elim (λ same. absurd (missed (ap (entry_at held) (first.at_is ∙ same) ∙ h)))
               (λ later. later)
               (member_cases first.slot first.rest z (subst (λ l. Contains l z) first.list_is (is.has z h)));
           counted = omega (arith, is.counted, step);

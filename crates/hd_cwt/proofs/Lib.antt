@@ -1,3 +1,4 @@
+pub mod Basics
 pub mod RingExchange
 pub mod BucketWalks
 pub mod BucketChange
@@ -5,4 +6,4 @@ pub mod IdleMasks
 pub mod KeySearch
 pub mod EntryCalls
 pub mod EntryOpen
-pub mod HeldSlots
+pub mod KeyChanges

@@ -1,8 +1,5 @@
 -- Two nodes exchange their next ones: the rings stay rings.
-use Rattle.std.proofs.Common.{◌≡◌, ◌≢◌, ℕ, ◌<◌, List, length, set, inl, inr, refl, sym, ap, ◌∙◌, subst, arith}
-use Rattle.std.proofs.lemmas.Bool.{cases_eq}
-use Rattle.std.proofs.lemmas.List.{length-set, get_or-set_same, get_or-set_other}
-use Rattle.hd_cwt.specs.Rings.{node_at, exchanged, turned, IsRings}
+use Rattle.hd_cwt.proofs.Basics.{IsRings, List, ap, arith, cases_eq, exchanged, get_or-set_other, get_or-set_same, inl, inr, length, length-set, node_at, refl, set, subst, sym, turned, ℕ, ◌<◌, ◌∙◌, ◌≡◌, ◌≢◌}
 
 -- what is read after two writes
 module _ (xs : List ℕ) (a u b v : ℕ) (la : a < length xs) (lb : b < length xs) where
@@ -74,8 +71,7 @@ module _ (next previous : List ℕ) (is : IsRings next previous) (a b : ℕ) (la
     ahead = λ z lz.
         undone next previous a b (node_at next a) (node_at next b) la lb lx ly refl refl (is.ahead a la)
         (is.ahead b lb) is.ahead z (omega (arith, lz, long));
-    behind = λ z lz.
-        undone previous next (node_at next b) (node_at next a) b a ly lx lb la (is.ahead b lb)
+    behind = λ z lz. undone previous next (node_at next b) (node_at next a) b a ly lx lb la (is.ahead b lb)
         (is.ahead a la) refl refl (λ w lw. is.behind w (omega (arith, lw, is.size))) z
         (omega (arith, lz, long, is.size));
   }

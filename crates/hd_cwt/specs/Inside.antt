@@ -2,9 +2,7 @@
 use Rattle.std.specs.Prelude.{◌≡◌, ◌≢◌, ℕ, ◌+◌, ◌*◌, ◌/◌, ◌%◌, ◌<◌, ◌≤◌, true, false, Bool, cond, List, length, slice_index_or, is_none, Option, Some, None, IsSome, Contains, AllPairs}
 use Rattle.std.specs.FinMap.{get, insert, len}
 use Rattle.std.specs.Int.{bit_at}
-use Rattle.hd_model.specs.declared.data.Id.{Id}
-use Rattle.hd_model.specs.declared.limits.TheConstants.{BLOCKS, ROWS}
-use Rattle.hd_model.specs.Table.{Table, live_at}
+use Rattle.hd_model.specs.{declared.data.Id.Id, declared.limits.TheConstants.BLOCKS, declared.limits.TheConstants.ROWS, Table.Table, Table.live_at}
 use Rattle.hd_cwt.specs.declared.entries.TheConstants.{BUCKETS}
 use Rattle.hd_cwt.specs.Rings.{node_at, IsWalk, IsRings}
 use Rattle.hd_cwt.specs.WeakTable.{WeakTable, bucket_of, room_of, IsWeakTable}

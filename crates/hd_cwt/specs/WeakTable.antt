@@ -5,11 +5,7 @@ use Rattle.std.specs.Coded.{Coded, code_by, coded×, coded_ℕ, coded_option}
 use Rattle.std.specs.FinMap as map
 use Rattle.std.specs.FinMap.{FinMap, get, len, entries}
 use Rattle.std.specs.Ordering.{nat_cmp}
-use Rattle.hd_model.specs.declared.data.Id.{Id}
-use Rattle.hd_model.specs.declared.data.Slot.{Slot}
-use Rattle.hd_model.specs.declared.limits.TheConstants.{BLOCKS, ROWS}
-use Rattle.hd_model.specs.Code.{id_code}
-use Rattle.hd_model.specs.Table.{Table, live_at}
+use Rattle.hd_model.specs.{declared.data.Id.Id, declared.data.Slot.Slot, declared.limits.TheConstants.BLOCKS, declared.limits.TheConstants.ROWS, Code.id_code, Table.Table, Table.live_at}
 use Rattle.hd_cwt.specs.declared.entries.TheConstants.{BUCKETS}
 
 -- the number of blocks that there may be, and for each held slot, by its number, its key or none

@@ -28,8 +28,7 @@ pub struct Cwt {
 
 impl Model for Cwt {
     ghost use Rattle.std.specs.Prelude.{vec_capacity};
-    ghost use Rattle.hd_cwt.specs.WeakTable.{WeakTable, weak_table_code};
-    ghost use Rattle.hd_cwt.specs.Inside.{IsListed};
+    ghost use Rattle.hd_cwt.specs.{WeakTable.WeakTable, WeakTable.weak_table_code, Inside.IsListed};
 
     ghost Value = { WeakTable };
 

@@ -32,8 +32,7 @@ pub(crate) struct Entries {
 
 impl Model for Entries {
     ghost use Rattle.hd_model.specs.Indexed.{by_place};
-    ghost use Rattle.hd_cwt.specs.WeakTable.{WeakTable, weak_table_code};
-    ghost use Rattle.hd_cwt.specs.Inside.{IsEntries};
+    ghost use Rattle.hd_cwt.specs.{WeakTable.WeakTable, WeakTable.weak_table_code, Inside.IsEntries};
 
     ghost Value = { WeakTable };
 

@@ -1,28 +1,11 @@
 -- What the clearing of dependent handles makes of one handle, and of all along a walk.
-use Rattle.std.proofs.Common.{◌≡◌, ◌&&◌, ℕ, Bool, true, false, cond, List, Option, Some, None, refl, sym, ap, ◌∙◌, subst, ⊎_elim}
-use Rattle.std.specs.Prelude.{option_map}
-use Rattle.std.proofs.lemmas.Bool.{both_ways, cases_Bool, and_left, and_right}
-use Rattle.std.proofs.lemmas.Option.{same_Some}
-use Rattle.hd_model.specs.declared.data.Addr.{Addr}
+use Rattle.hd_dep.proofs.Basics.{Addr, Bool, Counts, DueRows, Handle, HasSoundAges, IsChanging, IsDueRow, IsSettled, List, None, Objects, Option, Some, Table, and_left, and_right, ap, both_ways, cases_Bool, cond, counts_like, false, fits, is_attaching, is_due, is_lost, option_map, refl, role, role_of, row_at, same_Some, secondary, subst, sym, true, undue_target, ℕ, ⊎_elim, ◌&&◌, ◌∙◌, ◌≡◌}
 use Rattle.hd_model.specs.declared.data.Kind.{Kind}
-use Rattle.hd_model.specs.declared.data.Kind.TheVariants as kind
-use Rattle.hd_model.specs.State.{secondary, Handle}
-use Rattle.hd_model.specs.Role.{role_of, role}
-use Rattle.hd_model.specs.Scene.{Objects}
-use Rattle.hd_model.specs.Marking.{IsSettled}
-use Rattle.hd_model.specs.Ages.{is_due, HasSoundAges}
-use Rattle.hd_model.specs.Collect.{is_attaching, is_lost}
-use Rattle.hd_model.specs.Counting.{Counts}
-use Rattle.hd_model.specs.Table.{Table, row_at, fits}
-use Rattle.hd_model.proofs.PropertyCounts.{counts_like}
 use Rattle.hd_model.proofs.IdleCollection.{kept_target}
-use Rattle.hd_model.proofs.MarkReach.{undue_target}
-use Rattle.hd_ages.specs.declared.due_rows.DueRows.{DueRows}
-use Rattle.hd_ages.specs.Rows.{IsDueRow}
 use Rattle.hd_seg.specs.Rewriting.{Rewrites}
-use Rattle.hd_ages.proofs.WalkWrites.{IsChanging}
 use Rattle.hd_dep.proofs.DueHandles.{attaches_by, due_handle}
 use Rattle.hd_dep.specs.Clearing.{detached, IsDetached, IsAllDetached, IsDetachedAt, IsLostAt}
+use Rattle.hd_model.specs.declared.data.Kind.TheVariants as kind
 
 module _ {N : Type 0} (p : N → Bool) (h : Handle N) where
   -- one that loses its target and its secondary, and one that does not

@@ -1,24 +1,7 @@
 -- The dependent handles that a walk has visited, and what is true of each.
-use Rattle.std.proofs.Common.{◌≡◌, ℕ, true, List, Some, sym, ap, ◌∙◌, subst, arith, ⊎_elim}
-use Rattle.std.specs.Prelude.{Contains}
-use Rattle.std.proofs.lemmas.Bool.{cases_eq}
-use Rattle.std.proofs.lemmas.Option.{same_Some}
-use Rattle.hd_model.specs.declared.data.Addr.{Addr}
-use Rattle.hd_model.specs.declared.data.Kind.TheVariants as kind
-use Rattle.hd_model.specs.declared.data.Slot.{Slot}
-use Rattle.hd_model.specs.State.{Handle}
-use Rattle.hd_model.specs.Role.{attaches, role_of, role}
-use Rattle.hd_model.specs.Collect.{is_attaching}
-use Rattle.hd_model.specs.Ages.{is_due, due_clumps}
-use Rattle.hd_model.specs.Table.{Table, IsTable, chain_of, live_at, row_at}
-use Rattle.hd_model.specs.Visits.{visits_of}
+use Rattle.hd_dep.proofs.Basics.{Addr, Contains, DueRows, Ends, Gives, Handle, IsDueRow, IsTable, IsUnderway, List, OfVisited, Slot, Some, Table, all_past, all_to_come, ap, arith, attaches, cases_eq, chain_of, due_clumps, due_slots, due_slots_list, is_attaching, is_due, live_at, past_else, role, role_of, row_at, row_due, row_same, same_Some, slots_few, slots_to_come, subst, sym, true, visits_of, ℕ, ⊎_elim, ◌∙◌, ◌≡◌}
 use Rattle.hd_model.proofs.KindExtras.{attaching_kind}
-use Rattle.hd_ages.specs.declared.due_rows.DueRows.{DueRows}
-use Rattle.hd_ages.specs.Walk.{Ends, Gives, due_slots, slots_to_come}
-use Rattle.hd_ages.specs.Rows.{IsDueRow}
-use Rattle.hd_ages.proofs.WalkSlots.{slots_few, due_slots_list}
-use Rattle.hd_ages.proofs.WalkProgress.{IsUnderway, all_to_come, row_due, row_same, past_else, all_past}
-use Rattle.hd_dep.specs.Rescan.{OfVisited}
+use Rattle.hd_model.specs.declared.data.Kind.TheVariants as kind
 
 pub attaches_by : {N : Type 0} (h : Handle N) → h.kind ≡ kind.Dependent → role h ≡ attaches
 attaches_by h e = ap (λ k. role_of k h.extra) e
@@ -62,8 +45,7 @@ module _ {t : Table} {ages : List ℕ} {n : ℕ} {old new : DueRows} {before ste
       ⊎_elim
       (λ e. subst Q (same_Some (live_at t slot.0) h (ap (λ g. Some g) (row_same under gives)
       ∙ sym (row_due under gives).is_stored ∙ ap (row_at t) (sym e) ∙ is_stored)) here)
-      (λ ne. on h (done k h is_stored role_is due (past_else under gives k ne past)))
-      (cases_eq k slot.0)
+      (λ ne. on h (done k h is_stored role_is due (past_else under gives k ne past))) (cases_eq k slot.0)
 
   pub past_all : Ends t ages old new → OfVisited (row_at t) ages n P
   past_all ends slot h is_stored role_is due = done slot h is_stored role_is due (all_past under ends slot)

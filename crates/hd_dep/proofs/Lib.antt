@@ -1,3 +1,4 @@
+pub mod Basics
 pub mod DueHandles
 pub mod DependentClear
 pub mod SecondarySpread

@@ -1,22 +1,7 @@
 -- How many passes a rescan makes, and that what is promoted after the last is closed.
-use Rattle.std.proofs.Common.{◌≡◌, ◌≢◌, ℕ, ◌+◌, ◌*◌, ◌<◌, ◌≤◌, not, Bool, true, false, cond, List, ◌∷◌, length, Option, Some, None, is_some, refl, sym, ap, ◌∙◌, subst, arith, ⊎_elim}
-use Rattle.std.specs.Prelude.{AllPairs, Contains, filter, MatchBool, IsSome, option_map}
-use Rattle.std.specs.FinMap.{get, len}
-use Rattle.std.proofs.lemmas.Bool.{both_ways, cases_Bool, cases_lt, not_from_false, not-true, true≢false}
-use Rattle.hd_model.specs.declared.data.Addr.{Addr}
-use Rattle.hd_model.specs.Counting.{Counts}
-use Rattle.hd_model.specs.Leads.{IsClosed, IsClosure}
-use Rattle.hd_model.specs.Marking.{IsSettled}
-use Rattle.hd_model.specs.Heap.{Heap, Placed, object_at, object_in, region_of, region_generation}
-use Rattle.hd_model.specs.Reach.{IsAttached, IsEdge}
-use Rattle.hd_model.specs.Scene.{Objects, Rows, is_object, generation_at, IsField}
-use Rattle.hd_model.specs.Ages.{is_due, HasSoundAges}
+use Rattle.hd_dep.proofs.Basics.{Addr, AllPairs, Bool, Contains, Counts, Gained, HasSoundAges, Heap, IsAttached, IsClosed, IsClosure, IsEdge, IsField, IsFollowed, IsSettled, IsSome, IsSpread, List, MatchBool, None, Objects, OfVisited, Option, Placed, RescanSteps, Rows, Some, Spreads, ap, arith, both_ways, cases_Bool, cases_lt, cond, false, fewer, filter, generation_at, get, is_due, is_object, is_some, len, length, member_cases, not, not-true, not_from_false, object_at, object_in, option_map, pairs_cons, pairs_passing, passing_from, passing_in, refl, region_generation, region_of, subst, sym, true, true≢false, undue_secondary, ℕ, ⊎_elim, ◌*◌, ◌+◌, ◌<◌, ◌∙◌, ◌∷◌, ◌≡◌, ◌≢◌, ◌≤◌}
 use Rattle.std.proofs.lemmas.List.Filters.{length-filter_both}
-use Rattle.hd_model.proofs.Members.{member_cases, pairs_cons, pairs_passing, passing_from, passing_in}
-use Rattle.hd_model.proofs.PropertyCounts.{fewer}
-use Rattle.hd_model.proofs.Entries.{counts_keys}
-use Rattle.hd_model.proofs.MarkReach.{undue_secondary}
-use Rattle.hd_dep.specs.Rescan.{OfVisited, RescanSteps, Spreads, Gained, IsFollowed, IsSpread}
+use Rattle.hd_model.proofs.MapEntries.{counts_keys}
 
 -- ---- the objects of a heap, in a list
 
@@ -103,8 +88,7 @@ passed_more h visits p0 p q old mid new more falls was is = record {
     one_pass : (k : ℕ) → mid ≡ old + k * visits → new ≡ old + (k + 1) * visits
     one_pass k was = grind arith
 
-    by : (b : Bool) → was.passes + left_in h p ≤ left_in h p0 + 0
-        → left_in h q + cond b 1 0 < left_in h p + 1
+    by : (b : Bool) → was.passes + left_in h p ≤ left_in h p0 + 0 → left_in h q + cond b 1 0 < left_in h p + 1
         → was.passes + 1 + left_in h q ≤ left_in h p0 + cond b 0 1
     by true most falls = omega arith
     by false most falls = omega arith
@@ -130,16 +114,13 @@ rescan_steps h n visits p0 p old new settled passed =
       };
       passes = passed.passes;
       least = passed.least refl;
-      most = omega (
-        arith,
-        passed.most,
-        length-filter_both p (λ x. not (p x)) (λ x. refl) out,
-        fewer (filter (λ x. not (p x)) out) (filter (λ x. not (p x)) (addresses h))
-            (pairs_passing (λ x. not (p x)) (λ x y. x ≢ y) out apart)
-            (λ x e. let (there, is) = passing_from (λ x. not (p x)) out x e in
-            passing_in (λ x. not (p x)) (addresses h) x
-            (passing_from (λ x. not (p0 x)) (addresses h) x there).0 is),
-      );
+      most = (let known =
+          fewer (filter (λ x. not (p x)) out) (filter (λ x. not (p x)) (addresses h))
+          (pairs_passing (λ x. not (p x)) (λ x y. x ≢ y) out apart)
+          (λ x e. let (there, is) = passing_from (λ x. not (p x)) out x e in
+          passing_in (λ x. not (p x)) (addresses h) x
+          (passing_from (λ x. not (p0 x)) (addresses h) x there).0 is) in
+          omega (arith, passed.most, length-filter_both p (λ x. not (p x)) (λ x. refl) out, known));
       steps_are = passed.steps_are;
     }
 

@@ -1,38 +1,11 @@
 -- What follows a pass over the due rows: the handles that it left waiting, and the closure that comes of it.
-use Rattle.std.proofs.Common.{◌≡◌, ◌⊎◌, ◌+◌, ◌-◌, ◌*◌, ◌<◌, ◌≤◌, ℕ, Bool, true, false, List, [], ◌∷◌, length, get_or, take, Some, sym, ap, ◌∙◌, subst, arith, ⊎_elim, inl, inr}
-use Rattle.std.specs.Prelude.{slice_get}
-use Rattle.std.proofs.lemmas.Bool.{both_ways, cases_Bool, cases_eq, cases_lt}
-use Rattle.std.proofs.lemmas.List.{get_or-take, take-take, take_all, length-take}
-use Rattle.std.proofs.lemmas.List.Elements.{Contains-append_left, Contains-push_cases}
-use Rattle.std.proofs.lemmas.Option.{same_Some, slice_get_within, slice_get-get_or, get_or_from_slice_get}
-use Rattle.hd_model.specs.declared.data.Addr.{Addr}
-use Rattle.hd_model.specs.declared.data.Kind.TheVariants as kind
-use Rattle.hd_model.specs.declared.data.Slot.{Slot}
-use Rattle.hd_model.specs.State.{Handle}
-use Rattle.hd_model.specs.Leads.{Grows}
-use Rattle.hd_model.specs.Marking.{IsSettled, IsPromotionLog}
-use Rattle.hd_model.specs.Heap.{Heap, object_at}
-use Rattle.hd_model.specs.Reach.{IsEdge}
-use Rattle.hd_model.specs.Scene.{Objects, generation_at, IsYoungField}
+use Rattle.hd_dep.proofs.Basics.{Addr, AreObjects, AreWaiting, Bool, Contains-append_left, Contains-permutation, Contains-push_cases, DueRows, Ends, Gives, Grows, Handle, HasJoined, HasParts, Heap, IsEdge, IsFollowed, IsGathered, IsOn, IsPermutation, IsPermutation-sym, IsPromotionLog, IsSettled, IsTable, IsUnderway, IsVisited, IsWaitingEdge, IsYoungField, List, Objects, OfVisited, Slot, Some, Spreads, Table, Waiting, Waits, [], ap, arith, begins, both_ways, cases_Bool, cases_eq, cases_lt, chain_of, clumps_to_come, due_clumps, due_slots, false, fewer, fewer_left, generation_at, get_or, get_or-take, get_or_from_slice_get, goes_on, inl, inr, length, length-take, live_at, live_row, not_in_none, object_at, row_at, row_live, row_of_kind, same_Some, slice_get, slice_get-get_or, slice_get_within, slots_few, slots_to_come, subst, sym, take, take-take, take_all, true, waiting_row, ℕ, ⊎_elim, ◌*◌, ◌+◌, ◌-◌, ◌<◌, ◌∙◌, ◌∷◌, ◌≡◌, ◌≤◌, ◌⊎◌}
 use Rattle.hd_model.specs.Names.{NamesObjects}
-use Rattle.hd_model.specs.Ages.{due_clumps}
-use Rattle.hd_model.specs.Table.{Table, IsTable, chain_of, live_at, row_at}
 use Rattle.hd_model.proofs.Basics.{length-append}
-use Rattle.hd_model.proofs.Members.{not_in_none}
-use Rattle.std.specs.List.Sorted.{IsPermutation}
-use Rattle.std.proofs.lemmas.List.Sorted.{Contains-permutation, IsPermutation-sym}
-use Rattle.hd_model.proofs.PropertyCounts.{fewer}
-use Rattle.hd_ages.specs.declared.due_rows.DueRows.{DueRows}
-use Rattle.hd_ages.specs.Walk.{IsOn, Ends, Gives, due_slots, clumps_to_come, slots_to_come}
-use Rattle.hd_ages.proofs.WalkSlots.{slots_few}
-use Rattle.hd_ages.proofs.WalkProgress.{IsUnderway, begins, row_live, row_of_kind, fewer_left, goes_on}
-use Rattle.hd_seg.proofs.RowRewrite.{live_row}
-use Rattle.hd_dep.specs.declared.waiting.Waiting.{Waiting}
-use Rattle.hd_dep.specs.Rescan.{HasParts, OfVisited, Spreads, IsFollowed}
-use Rattle.hd_dep.specs.Waiting.{waiting_row, AreWaiting, AreObjects, HasJoined, IsGathered, IsVisited, IsWaitingEdge, Waits}
 use Rattle.hd_dep.proofs.DueHandles.{attaches_by, OfPast, none_past, past_more, past_all}
 use Rattle.hd_dep.proofs.RescanPasses.{addresses, listed}
 use Rattle.hd_dep.proofs.SecondarySpread.{spreads_none, spreads_on, spreads_like, grows_spread, young_edge}
+use Rattle.hd_model.specs.declared.data.Kind.TheVariants as kind
 
 -- ---- one pass
 
@@ -57,13 +30,8 @@ module _ {o : Objects Addr} {n : ℕ} {t : Table} {ages : List ℕ} {p0 : Addr �
     spreads = spreads_none (IsEdge o (row_at t)) p0;
     waiting = λ x y is_queued. absurd (not_in_none _ (subst (λ rs. Waits rs x y) none is_queued));
     visited = none_past t ages n w (λ h. IsVisited h rows p0) is slots;
-    few = omega (
-      arith,
-      fits,
-      ap length none,
-      ap length slots,
-      slots_few t (due_clumps ages n (chain_of t kind.Dependent)),
-    );
+    few = (let known = slots_few t (due_clumps ages n (chain_of t kind.Dependent)) in
+        omega (arith, fits, ap length none, ap length slots, known));
   }
 
   module _ {old new : DueRows} {slot : Slot} {before steps : ℕ} {rows : List Waiting} {p : Addr → Bool}
@@ -141,8 +109,7 @@ gathered_sorted t ages n p q rows sorted moves is s =
       waiting = λ x y is_queued.
           s.waiting x y (Contains-permutation sorted rows (waiting_row x y)
           (IsPermutation-sym rows sorted moves) is_queued);
-      visited = λ slot h is_stored role_is due x y parts.
-          ⊎_elim (λ promoted. inl promoted)
+      visited = λ slot h is_stored role_is due x y parts. ⊎_elim (λ promoted. inl promoted)
           (λ is_queued. inr (Contains-permutation rows sorted (waiting_row x y) moves is_queued))
           (s.visited slot h is_stored role_is due x y parts);
     })
@@ -205,8 +172,7 @@ module _ (o : Objects Addr) (n start : ℕ) (rows : List Waiting) (log0 : List A
         (λ y is_queued. inr is_queued) grows);
     kept = kept_on more s.kept kept;
     within = let l = kept_long log more kept in omega arith;
-    followed = λ k a y low high found is_queued.
-        ⊎_elim
+    followed = λ k a y low high found is_queued. ⊎_elim
         (λ e. let here : x ≡ a =
         same_Some x a (sym got ∙ got_before log more kept next a lt
         (subst (λ j. slice_get more j ≡ Some a) e found)) in
@@ -241,8 +207,7 @@ module _ (o : Objects Addr) (n : ℕ) (t : Table) (ages : List ℕ) (p0 p1 : Add
       names.secondaries a.slot a.handle y a.is_stored a.secondary
 
   pub both_spread : (p2 : Addr → Bool) → Spreads (IsEdge o (row_at t)) p0 p1
-      → Spreads (IsWaitingEdge o n rows) p1 p2
-      → Spreads (IsEdge o (row_at t)) p0 p2
+      → Spreads (IsWaitingEdge o n rows) p1 p2 → Spreads (IsEdge o (row_at t)) p0 p2
   both_spread p2 first second =
       spreads_on (IsEdge o (row_at t)) p0 p1 p2 first
       (spreads_like (IsWaitingEdge o n rows) (IsEdge o (row_at t))
@@ -255,8 +220,7 @@ module _ (o : Objects Addr) (n : ℕ) (t : Table) (ages : List ℕ) (p0 p1 : Add
       → ((k : ℕ) (x y : Addr) → length log0 ≤ k → slice_get log2 k ≡ Some x → Waits rows x y → p2 y ≡ true)
       → OfVisited (row_at t) ages n (λ h. IsFollowed h p2)
   followed_at_last p2 log0 log2 settled first last kept keeps since slot h is_stored role_is due = record {
-    follows = λ x y parts promoted.
-        ⊎_elim (λ done. keeps y done)
+    follows = λ x y parts promoted. ⊎_elim (λ done. keeps y done)
         (λ is_queued. let lost : p0 x ≡ false = (gathered.waiting x y is_queued).1 in
         let young : generation_at o x ≤ n =
         ⊎_elim (λ old. absurd (both_ways (p0 x) lost (settled.older x old))) (λ le. le)
@@ -270,8 +234,7 @@ module _ (o : Objects Addr) (n : ℕ) (t : Table) (ages : List ℕ) (p0 p1 : Add
         absurd (both_ways (p0 x) lost (first.each x (
           inside.0,
           early,
-          get_or_from_slice_get log0 inside.0 x x
-              before,
+          get_or_from_slice_get log0 inside.0 x x before,
         )).1))
         (λ late. since inside.0 x y late got is_queued)
         (cases_lt inside.0 (length log0)))

@@ -1,27 +1,9 @@
 -- One pass of a rescan: what it promotes, and when there is nothing to promote.
-use Rattle.std.proofs.Common.{◌≡◌, ◌&&◌, ◌||◌, ℕ, ◌+◌, not, Bool, true, false, List, length, Option, Some, refl, sym, ap, ◌∙◌, subst, ⊎_elim, inl, inr}
-use Rattle.std.specs.Prelude.{MatchBool, IsSome, option_map}
-use Rattle.std.specs.FinMap.{get}
-use Rattle.std.proofs.lemmas.Bool.{and_parts, not-true}
-use Rattle.hd_model.specs.declared.data.Addr.{Addr}
-use Rattle.hd_model.specs.declared.data.Kind.TheVariants as kind
-use Rattle.hd_model.specs.declared.data.Slot.{Slot}
-use Rattle.hd_model.specs.State.{secondary_of}
-use Rattle.hd_model.specs.Leads.{Leads, Grows}
-use Rattle.hd_model.specs.Reach.{IsEdge}
-use Rattle.hd_model.specs.Scene.{Objects, IsYoungField}
-use Rattle.hd_model.specs.Ages.{due_clumps}
-use Rattle.hd_model.specs.Table.{Table, IsTable, chain_of, live_at, row_at}
+use Rattle.hd_dep.proofs.Basics.{Addr, Bool, DueRows, Ends, Gained, Gives, Grows, HasParts, IsEdge, IsFollowed, IsOn, IsSome, IsSpread, IsSpreadRow, IsTable, IsUnderway, IsYoungField, Leads, List, MatchBool, Objects, Option, Slot, Some, Spreads, Table, and_parts, ap, begins, chain_of, clumps_to_come, due_clumps, due_slots, extra_again, false, get, goes_on, inl, inr, length, live_at, live_row, not, not-true, option_map, refl, row_at, same_Some, secondary_of, slots_to_come, subst, sym, true, ℕ, ⊎_elim, ◌&&◌, ◌+◌, ◌||◌, ◌∙◌, ◌≡◌}
 use Rattle.hd_model.proofs.EdgeChains.{one_edge, leads_on}
-use Rattle.hd_ages.specs.declared.due_rows.DueRows.{DueRows}
-use Rattle.hd_ages.specs.Walk.{IsOn, Ends, Gives, due_slots, clumps_to_come, slots_to_come}
-use Rattle.hd_ages.proofs.WalkProgress.{IsUnderway, begins, goes_on}
-use Rattle.std.proofs.lemmas.Option.{same_Some}
-use Rattle.hd_seg.specs.Row.{extra_of, row_of}
-use Rattle.hd_seg.specs.declared.row.Row.{Row}
-use Rattle.hd_seg.proofs.RowRewrite.{extra_again, live_row}
-use Rattle.hd_dep.specs.Rescan.{HasParts, Spreads, Gained, IsFollowed, IsSpreadRow, IsSpread}
+use Rattle.hd_seg.specs.{Row.extra_of, Row.row_of, declared.row.Row.Row}
 use Rattle.hd_dep.proofs.DueHandles.{attaches_by, OfPast, none_past, past_more, past_all}
+use Rattle.hd_model.specs.declared.data.Kind.TheVariants as kind
 
 module _ {N : Type 0} (E : N → N → Type 0) where
   pub spreads_none : (p : N → Bool) → Spreads E p p
@@ -53,27 +35,13 @@ module _ {N : Type 0} (E F : N → N → Type 0) (turn : (x y : N) → E x y →
       → ((y : N) → Start y → F from y) → Grows E Start p q → Spreads F p q
   grows_spread Start p q from h step grows = record {
     keeps = grows.keeps;
-    only = λ z k.
-        ⊎_elim (λ earlier. (z, (earlier, Leads.here)))
+    only = λ z k. ⊎_elim (λ earlier. (z, (earlier, Leads.here)))
         (λ (w : (r : N) × (Start r × Leads E r z)). (
           from,
           (h, leads_on F (one_edge F (step w.0 w.1.0)) (leads_like w.1.1)),
         ))
         (grows.only z k);
   }
-
--- the parts of a live handle are those of the row that is read
-pub row_parts : (t : Table) (slot : ℕ) (r : Option Row) (row : Row) → r ≡ option_map row_of (get t.rows slot)
-    → IsSome (get t.rows slot) → r ≡ Some row
-    → ((live_at t slot).target ≡ row.target)
-    × (secondary_of (live_at t slot).extra ≡ secondary_of (extra_of row.extra))
-row_parts t slot r row read live is =
-    let was_stored : row_of (live_at t slot) ≡ row =
-    same_Some _ _ (sym (ap (option_map row_of) (live_row t slot live)) ∙ sym read ∙ is) in (
-      ap (λ (a : Row). a.target) was_stored,
-      ap secondary_of
-          (sym (extra_again (live_at t slot).extra) ∙ ap (λ (a : Row). extra_of a.extra) was_stored),
-    )
 
 -- what is promoted for its target was not before
 pub gained_by : (E : Addr → Addr → Type 0) (x y : Addr) (p q : Addr → Bool) → (p x && not (p y)) ≡ true

@@ -1,13 +1,5 @@
 -- Where the handles that wait for a target stand among all in the order of their targets.
-use Rattle.std.proofs.Common.{◌≡◌, ◌⊎◌, ℕ, ◌-◌, ◌<◌, ◌≤◌, Bool, true, List, length, get_or, Some, sym, ap, ◌∙◌, subst, arith, ⊎_elim, inl, inr}
-use Rattle.std.specs.Prelude.{slice_get}
-use Rattle.std.specs.List.Sorted.{IsNonDecreasingBy}
-use Rattle.std.proofs.lemmas.Bool.{cases_eq, cases_lt}
-use Rattle.std.proofs.lemmas.Option.{slice_get_within, slice_get-get_or, get_or_from_slice_get}
-use Rattle.hd_model.specs.declared.data.Addr.{Addr}
-use Rattle.hd_model.specs.Leads.{Leads, Grows}
-use Rattle.hd_dep.specs.declared.waiting.Waiting.{Waiting}
-use Rattle.hd_dep.specs.Waiting.{waiting_row, target_of, Waits}
+use Rattle.hd_dep.proofs.Basics.{Addr, Bool, Grows, IsNonDecreasingBy, Leads, List, Some, Waiting, Waits, ap, arith, cases_eq, cases_lt, get_or, get_or_from_slice_get, inl, inr, length, slice_get, slice_get-get_or, slice_get_within, subst, sym, target_of, true, waiting_row, ℕ, ⊎_elim, ◌-◌, ◌<◌, ◌∙◌, ◌≡◌, ◌≤◌, ◌⊎◌}
 
 module _ (E : Addr → Addr → Type 0) (rows : List Waiting) (x : Addr) (p : Addr → Bool) where
   -- those of target x from `at` on were promoted, and no target before is higher
@@ -39,15 +31,12 @@ module _ (E : Addr → Addr → Type 0) (rows : List Waiting) (x : Addr) (p : Ad
     within = let w = pass.within in omega arith;
     low = λ k d lt. pass.low k d (omega arith);
     keeps = λ z h. grows.keeps z (pass.keeps z h);
-    joins = λ k d le lt target.
-        ⊎_elim
+    joins = λ k d le lt target. ⊎_elim
         (λ e. grows.joins (get_or rows k d).secondary
         (ap (λ j. (get_or rows j d).secondary) e
         ∙ ap (λ (w : Waiting). w.secondary) (get_or_from_slice_get rows (at - 1) (waiting_row x y) d is)))
-        (λ ne. grows.keeps _ (pass.joins k d (omega arith) lt target))
-        (cases_eq k (at - 1));
-    only = λ z h.
-        ⊎_elim (λ earlier. pass.only z earlier)
+        (λ ne. grows.keeps _ (pass.joins k d (omega arith) lt target)) (cases_eq k (at - 1));
+    only = λ z h. ⊎_elim (λ earlier. pass.only z earlier)
         (λ (w : (s : Addr) × ((s ≡ y) × Leads E s z)). inr (
           w.0,
           (

@@ -1,10 +1,6 @@
 -- What the clearing of dependent handles leaves.
 use Rattle.std.specs.Prelude.{◌≡◌, ℕ, ◌&&◌, Bool, true, cond, List, Some, None, option_map}
-use Rattle.hd_model.specs.State.{secondary, Handle}
-use Rattle.hd_model.specs.Role.{attaches, role}
-use Rattle.hd_model.specs.Scene.{Rows}
-use Rattle.hd_model.specs.Ages.{is_due}
-use Rattle.hd_model.specs.Collect.{is_attaching, is_lost}
+use Rattle.hd_model.specs.{State.secondary, State.Handle, Role.attaches, Role.role, Scene.Rows, Ages.is_due, Collect.is_attaching, Collect.is_lost}
 
 -- a handle after a clearing that visits its slot or does not: a dependent one whose target is not promoted
 -- loses its target and its secondary

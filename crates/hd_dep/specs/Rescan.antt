@@ -1,11 +1,6 @@
 -- The passes of a rescan (CoreCLR's dependent handle scan, which goes on while a pass promotes something).
 use Rattle.std.specs.Prelude.{◌≡◌, ℕ, ◌+◌, ◌*◌, ◌≤◌, Bool, true, false, List, Some}
-use Rattle.hd_model.specs.State.{Handle, secondary_of}
-use Rattle.hd_model.specs.Role.{attaches, role}
-use Rattle.hd_model.specs.Scene.{Rows}
-use Rattle.hd_model.specs.Ages.{is_due}
-use Rattle.hd_model.specs.Counting.{Counts}
-use Rattle.hd_model.specs.Leads.{Leads}
+use Rattle.hd_model.specs.{State.Handle, State.secondary_of, Role.attaches, Role.role, Scene.Rows, Ages.is_due, Counting.Counts, Leads.Leads}
 
 -- the steps of a rescan: whole passes over the visited clumps, at least one, and at most one more than the
 -- objects that it promoted

@@ -1,12 +1,8 @@
 -- The dependent handles that a pass leaves waiting for their targets.
 use Rattle.std.specs.Prelude.{◌≡◌, ◌⊎◌, ℕ, Bool, true, false, List, [], ◌∷◌, ◌++◌, Contains}
-use Rattle.hd_model.specs.declared.data.Addr.{Addr}
-use Rattle.hd_model.specs.State.{Handle}
-use Rattle.hd_model.specs.Table.{Table, row_at}
-use Rattle.hd_model.specs.Reach.{IsAttached}
+use Rattle.hd_model.specs.{declared.data.Addr.Addr, State.Handle, Table.Table, Table.row_at, Reach.IsAttached}
 use Rattle.hd_model.specs.Scene.{Objects, Rows, is_object, IsYoungField}
-use Rattle.hd_dep.specs.Rescan.{HasParts, OfVisited}
-use Rattle.hd_dep.specs.declared.waiting.Waiting.{Waiting}
+use Rattle.hd_dep.specs.{Rescan.HasParts, Rescan.OfVisited, declared.waiting.Waiting.Waiting}
 
 -- a waiting handle by its parts, and the number of its target
 abbrev pub waiting_row : (target secondary : Addr) → Waiting

@@ -1,13 +1,8 @@
 ghost use Rattle.std.specs.Prelude.{◌≡◌, ◌+◌, ◌*◌, ◌&&◌, ◌≤◌, IsSome, true};
-ghost use Rattle.std.specs.FinMap.{get};
-ghost use Rattle.std.specs.Option.{ForSome};
+ghost use Rattle.std.specs.{FinMap.get, Option.ForSome};
 ghost use Rattle.hd_model.specs.declared.data.Kind.TheVariants as kind;
-ghost use Rattle.hd_model.specs.Heap.{objects_of};
-ghost use Rattle.hd_model.specs.Scene.{is_object};
-ghost use Rattle.hd_model.specs.Table.{live_at, row_at};
+ghost use Rattle.hd_model.specs.{Heap.objects_of, Scene.is_object, Table.live_at, Table.row_at, Collect.is_lost, Counting.Counts};
 ghost use Rattle.hd_model.specs.Visits.{IsSameTable, MayVisitDue, visits_of};
-ghost use Rattle.hd_model.specs.Collect.{is_lost};
-ghost use Rattle.hd_model.specs.Counting.{Counts};
 ghost use Rattle.hd_seg.specs.Rewriting.{Rewrites};
 ghost use Rattle.hd_dep.specs.Clearing.{IsDetached, IsAllDetached, IsDetachedAt, IsLostAt, detached};
 

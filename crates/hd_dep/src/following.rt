@@ -1,20 +1,12 @@
 ghost use Rattle.std.specs.Prelude.{◌≡◌, ◌⊎◌, ◌+◌, ◌*◌, ◌^◌, ◌<◌, ◌≤◌, ℕ, [], true, length, take, Some};
 ghost use Rattle.std.specs.Prelude.{IsSome, IfOk, vec_capacity, slice_get};
-ghost use Rattle.std.specs.List.Sorted.{IsNonDecreasingBy};
-ghost use Rattle.std.specs.FinMap.{get};
-ghost use Rattle.hd_model.specs.declared.data.Addr.{Addr};
+ghost use Rattle.std.specs.{List.Sorted.IsNonDecreasingBy, FinMap.get};
+ghost use Rattle.hd_model.specs.{declared.data.Addr.Addr, Heap.objects_of, Leads.IsClosed, Leads.IsClosure, Scene.IsField, Reach.IsEdge, Table.live_at, Table.row_at, Names.NamesObjects};
 ghost use Rattle.hd_model.specs.declared.data.Kind.TheVariants as kind;
-ghost use Rattle.hd_model.specs.Heap.{objects_of};
-ghost use Rattle.hd_model.specs.Leads.{IsClosed, IsClosure};
-ghost use Rattle.hd_model.specs.Scene.{IsField};
-ghost use Rattle.hd_model.specs.Reach.{IsEdge};
-ghost use Rattle.hd_model.specs.Table.{live_at, row_at};
-ghost use Rattle.hd_model.specs.Names.{NamesObjects};
 ghost use Rattle.hd_model.specs.Visits.{MayVisit, MayVisitDue, visits_of};
 ghost use Rattle.hd_ages.specs.Clumps.{CoversTable};
-ghost use Rattle.hd_dep.specs.Rescan.{Spreads};
+ghost use Rattle.hd_dep.specs.{Rescan.Spreads, Waiting.IsWaitingEdge, Waiting.Waits};
 ghost use Rattle.hd_dep.specs.Waiting.{AreObjects, HasJoined, IsGathered, IsVisited, target_of};
-ghost use Rattle.hd_dep.specs.Waiting.{IsWaitingEdge, Waits};
 
 use crate::rescanning::parts;
 use crate::waiting::{Waiting, promote_for, sort};

@@ -1,14 +1,8 @@
 ghost use Rattle.std.specs.Prelude.{◌≡◌, ◌+◌, ◌*◌, ◌&&◌, not, true};
 ghost use Rattle.std.specs.Prelude.{IsSome, IfSome, IfNone, MatchBool};
 ghost use Rattle.std.specs.FinMap.{get};
-ghost use Rattle.hd_model.specs.declared.data.Addr.{Addr};
+ghost use Rattle.hd_model.specs.{declared.data.Addr.Addr, Heap.objects_of, Leads.IsClosed, Leads.IsClosure, Scene.IsField, Scene.is_object, Reach.IsEdge, Table.live_at, Table.row_at, Names.NamesObjects};
 ghost use Rattle.hd_model.specs.declared.data.Kind.TheVariants as kind;
-ghost use Rattle.hd_model.specs.Heap.{objects_of};
-ghost use Rattle.hd_model.specs.Leads.{IsClosed, IsClosure};
-ghost use Rattle.hd_model.specs.Scene.{IsField, is_object};
-ghost use Rattle.hd_model.specs.Reach.{IsEdge};
-ghost use Rattle.hd_model.specs.Table.{live_at, row_at};
-ghost use Rattle.hd_model.specs.Names.{NamesObjects};
 ghost use Rattle.hd_model.specs.Visits.{MayVisit, MayVisitDue, visits_of};
 ghost use Rattle.hd_dep.specs.Rescan.{HasParts, RescanSteps, Spreads, Gained, IsSpread, IsSpreadRow};
 

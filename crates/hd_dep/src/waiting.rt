@@ -1,10 +1,7 @@
 // The dependent handles that a pass leaves waiting, in the order of their targets.
 ghost use Rattle.std.specs.Prelude.{◌≡◌, ◌-◌, ◌<◌, ◌≤◌, ℕ, true, length, take, slice_get, slice_index_or, vec_capacity, Some, IfSome, IfNone};
 ghost use Rattle.std.specs.List.Sorted.{IsPermutation, IsNonDecreasingBy};
-ghost use Rattle.hd_model.specs.Heap.{objects_of};
-ghost use Rattle.hd_model.specs.Leads.{Grows};
-ghost use Rattle.hd_model.specs.Scene.{is_object, IsYoungField};
-ghost use Rattle.hd_model.specs.declared.data.Addr.{Addr as AddrValue};
+ghost use Rattle.hd_model.specs.{Heap.objects_of, Leads.Grows, Scene.is_object, Scene.IsYoungField, declared.data.Addr.Addr as AddrValue};
 ghost use Rattle.hd_dep.specs.declared.waiting.Waiting.{Waiting as WaitingValue};
 ghost use Rattle.hd_dep.specs.Waiting.{AreObjects, Waits, target_of, waiting_row};
 

@@ -1,23 +1,7 @@
 -- The walk that finds who joins, one condemned object after another.
-use Rattle.std.proofs.Common.{◌≡◌, ◌≢◌, Bool, true, false, true≢false, ℕ, ◌+◌, ◌-◌, ◌^◌, ◌<◌, ◌≤◌, ◌&&◌, not, List, [], ◌∷◌, ◌++◌, length, get_or, Option, Some, None, is_some, sym, ap, ◌∙◌, subst, arith, ⊎_elim, inl, inr, ◌⊎◌, Contains, AllPairs}
-use Rattle.std.specs.FinMap.{len}
-use Rattle.std.proofs.lemmas.Bool.{and_parts, and_from, not-true, not_from_false, both_ways, leb-true, le-leb, ltb-true, ltb-false, le-ltb, cases_Bool}
-use Rattle.std.proofs.lemmas.Option.{same_Some}
-use Rattle.std.proofs.lemmas.List.{map_push, length-map, length_push}
-use Rattle.std.proofs.lemmas.List.Elements.{Contains-append_left, Contains-push, Contains-push_cases, Contains-get_or}
-use Rattle.std.proofs.lemmas.List.Quantifiers.{all_pairs_push}
-use Rattle.hd_model.specs.declared.data.Addr.{Addr}
-use Rattle.hd_model.specs.declared.data.Id.{Id}
-use Rattle.hd_model.specs.State.{Object}
-use Rattle.hd_model.specs.Scene.{generation_in}
-use Rattle.hd_model.specs.Heap.{Heap, object_at, object_in, id_at, placed_at, has_object, region_generation, region_of}
-use Rattle.hd_model.proofs.Members.{mapped_from}
-use Rattle.hd_heap.specs.Calls.{is_after, is_condemned, IsNext}
-use Rattle.hd_final.specs.declared.joiners.Joiner.{Joiner}
-use Rattle.hd_final.specs.Resurrection.{IsOut}
-use Rattle.hd_final.specs.Joiners.{places, IsFound}
+use Rattle.hd_final.proofs.Basics.{Addr, AllPairs, Bool, Contains, Contains-append_left, Contains-get_or, Contains-push, Contains-push_cases, Heap, Id, IsFound, IsNext, IsOut, Joiner, List, None, Object, Option, Some, [], and_from, and_parts, ap, arith, both_ways, cases_Bool, false, generation_in, get_or, has_object, id_at, inl, inr, is_after, is_condemned, is_some, le-leb, le-ltb, leb-true, len, length, length-map, length_push, ltb-false, ltb-true, map_push, mapped_from, not, not-true, not_from_false, object_at, object_in, placed_at, places, region_generation, region_of, same_address, subst, sym, true, true≢false, ℕ, ⊎_elim, ◌&&◌, ◌++◌, ◌+◌, ◌-◌, ◌<◌, ◌^◌, ◌∙◌, ◌∷◌, ◌≡◌, ◌≢◌, ◌≤◌, ◌⊎◌}
+use Rattle.std.proofs.{lemmas.Option.same_Some, lemmas.List.Quantifiers.all_pairs_push}
 use Rattle.hd_final.proofs.ObjectLookup.{object_there, few_differ}
-use Rattle.hd_heap.proofs.HeapValues.{same_address}
 
 -- what was found up to an address of the walk: objects outside p with their identities, each once, and all
 -- that are not after the address
@@ -140,8 +124,7 @@ module _ (h : Heap) (n : ℕ) (p : Addr → Bool) where
           passed = λ j k. passed_now j.at (⊎_elim (λ early. let low = before j early in omega arith)
               (λ same. let e = ap (λ (i : Joiner). i.at.0) same in omega arith)
               (Contains-push_cases js new j k));
-          all = λ a is not_beyond.
-              subst (λ xs. Contains xs a) (sym joined)
+          all = λ a is not_beyond. subst (λ xs. Contains xs a) (sym joined)
               (⊎_elim (λ early. Contains-append_left (places js) (at ∷ []) a early)
               (λ same. subst (λ b. Contains (places js ++ at ∷ []) b) (sym same)
               (Contains-push (places js) at))
@@ -154,8 +137,7 @@ module _ (h : Heap) (n : ℕ) (p : Addr → Bool) where
       outside = found.outside;
       identified = found.identified;
       passed = λ j k. passed_now j.at (let low = before j k in omega arith);
-      all = λ a is not_beyond.
-          ⊎_elim (λ early. early)
+      all = λ a is not_beyond. ⊎_elim (λ early. early)
           (λ same. absurd (both_ways _ inside (out_is at (subst (λ b. IsOut (object_at h) n p b) same is))))
           (known a is not_beyond);
     }

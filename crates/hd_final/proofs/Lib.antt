@@ -1,3 +1,4 @@
+pub mod Basics
 pub mod ObjectLookup
 pub mod QueueRelocate
 pub mod QueueSettle

@@ -1,11 +1,7 @@
 -- Objects of a heap by their addresses: what is there, and how many they may be.
-use Rattle.std.proofs.Common.{◌≡◌, ◌≢◌, true, false, ◌≤◌, List, [], length, Some, IsSome, unwrap_or, option_map, refl, sym, ap, ◌∙◌, Contains, AllPairs}
-use Rattle.std.specs.FinMap.{get, len}
-use Rattle.hd_model.specs.declared.data.Addr.{Addr}
-use Rattle.hd_model.specs.Heap.{Heap, has_object, placed_at, id_at, id_in, object_at, object_in, region_generation, region_of}
+use Rattle.hd_final.proofs.Basics.{Addr, AllPairs, Contains, Heap, IsSome, List, Some, [], ap, false, get, has_object, id_at, id_in, len, length, object_at, object_in, option_map, placed_at, refl, region_generation, region_of, sym, true, unwrap_or, ◌∙◌, ◌≡◌, ◌≢◌, ◌≤◌}
 use Rattle.hd_heap.proofs.RegionReads.{has-get}
-use Rattle.hd_model.proofs.Entries.{some_value, counts_keys}
-use Rattle.hd_model.proofs.PropertyCounts.{counts_le}
+use Rattle.hd_model.proofs.{MapEntries.some_value, MapEntries.counts_keys, PropertyCounts.counts_le}
 
 -- what is at the address of an object
 pub placed_there : (h : Heap) (a : Addr) → has_object h a ≡ true → get h.objects a.0 ≡ Some (placed_at h a)

@@ -1,12 +1,5 @@
 -- What is promoted grows by one member of a list after another.
-use Rattle.std.proofs.Common.{◌≡◌, Bool, ℕ, ◌+◌, ◌<◌, List, [], ◌∷◌, ◌++◌, length, take, get_or, sym, ap, ◌∙◌, subst, ⊎_elim, inl, inr, ◌⊎◌, Contains}
-use Rattle.std.proofs.lemmas.List.{append_assoc, map_more}
-use Rattle.std.proofs.lemmas.List.Elements.{Contains-append_left, Contains-push, Contains-push_cases}
-use Rattle.hd_model.specs.declared.data.Addr.{Addr}
-use Rattle.hd_model.specs.Leads.{Grows}
-use Rattle.hd_model.proofs.EdgeChains.{grows_on, grows_like}
-use Rattle.hd_final.specs.declared.joiners.Joiner.{Joiner}
-use Rattle.hd_final.specs.Joiners.{places}
+use Rattle.hd_final.proofs.Basics.{Addr, Bool, Contains, Contains-append_left, Contains-push, Contains-push_cases, Grows, Joiner, List, [], ap, append_assoc, get_or, grows_like, grows_on, inl, inr, length, map_more, places, subst, sym, take, ℕ, ⊎_elim, ◌++◌, ◌+◌, ◌<◌, ◌∙◌, ◌∷◌, ◌≡◌, ◌⊎◌}
 
 pub places_more : (js : List Joiner) (i : ℕ) (d : Joiner) → i < length js
     → places (take (i + 1) js) ≡ places (take i js) ++ (get_or js i d).at ∷ []

@@ -1,8 +1,5 @@
 -- A list whose items are rewritten one after another.
-use Rattle.std.proofs.Common.{◌≡◌, ◌≢◌, ℕ, ◌+◌, ◌<◌, ◌≤◌, List, [], ◌∷◌, ◌++◌, map, length, take, drop, get_or, set, sym, ap, ◌∙◌, arith}
-use Rattle.std.specs.Prelude.{Contains, AllPairs}
-use Rattle.std.proofs.lemmas.List.{append_assoc, append-nil, length-map, length-take-le, drop_more, get_or_at, set_at, map_more, take_all, drop_all}
-use Rattle.hd_model.proofs.Members.{pairs_mapped, pairs_among}
+use Rattle.hd_final.proofs.Basics.{AllPairs, Contains, List, [], ap, append-nil, append_assoc, arith, drop, drop_all, drop_more, get_or, get_or_at, length, length-map, length-take-le, map, map_more, pairs_among, pairs_mapped, set, set_at, sym, take, take_all, ℕ, ◌++◌, ◌+◌, ◌<◌, ◌∙◌, ◌∷◌, ◌≡◌, ◌≢◌, ◌≤◌}
 
 module _ {A : Type 0} (place : A → A) (old : List A) where
   -- the first i are rewritten, the others are not

@@ -1,28 +1,8 @@
 -- Who joins the queue, once all are found and sorted by their identities.
-use Rattle.std.proofs.Common.{◌≡◌, ◌≢◌, ◌==◌, Bool, true, ℕ, ◌+◌, ◌<◌, ◌≤◌, List, ◌++◌, length, get_or, is_some, sym, ap, ◌∙◌, subst, arith, ⊎_elim, Contains, AllPairs, IsPermutation, Decides, length-append}
-use Rattle.std.specs.FinMap.{len}
-use Rattle.std.specs.List.Sorted.{IsNonDecreasingBy}
-use Rattle.std.proofs.lemmas.Bool.{both_ways}
+use Rattle.hd_final.proofs.Basics.{Addr, AllPairs, Bool, Contains, Contains-append_cases, Contains-get_or, Contains-permutation, Counts, Decides, Grows, HasIdentities, Heap, Id, IsFound, IsNonDecreasingBy, IsOut, IsPermutation, IsPermutation-map, IsPermutation-sym, IsYoungField, Joiner, List, Queue, Resurrects, ap, arith, both_ways, get_or, get_or-map, grows_like, has_object, id_at, is_some, len, length, length-append, length-map, mapped_from, object_at, pairs_append, pairs_mapped, placed_at, places, same_address, subst, sym, true, ℕ, ⊎_elim, ◌++◌, ◌+◌, ◌<◌, ◌==◌, ◌∙◌, ◌≡◌, ◌≢◌, ◌≤◌}
 use Rattle.std.proofs.lemmas.Bool.Decides.{Decides-eqb, Decides-like, same_from_decides}
-use Rattle.std.proofs.lemmas.List.{length-map, get_or-map}
-use Rattle.std.proofs.lemmas.List.Elements.{Contains-append_cases, Contains-get_or}
-use Rattle.std.proofs.lemmas.List.Sorted.{IsPermutation-map, IsPermutation-sym, Contains-permutation}
-use Rattle.std.proofs.lemmas.Map.Keys.{IsDistinct-IsPermutation}
-use Rattle.std.proofs.lemmas.Map.Made.{AllPairs-from_IsDistinct, IsDistinct-from_AllPairs}
-use Rattle.hd_model.specs.declared.data.Addr.{Addr}
-use Rattle.hd_model.specs.declared.data.Id.{Id}
-use Rattle.hd_model.specs.Counting.{Counts}
-use Rattle.hd_model.specs.Leads.{Grows}
-use Rattle.hd_model.specs.Scene.{IsYoungField}
-use Rattle.hd_model.specs.Table.{Queue}
-use Rattle.hd_model.specs.Heap.{Heap, object_at, id_at, placed_at, has_object, HasIdentities}
-use Rattle.hd_model.proofs.EdgeChains.{grows_like}
-use Rattle.hd_model.proofs.Members.{mapped_from, pairs_mapped, pairs_append}
-use Rattle.hd_final.specs.declared.joiners.Joiner.{Joiner}
-use Rattle.hd_final.specs.Resurrection.{IsOut, Resurrects}
-use Rattle.hd_final.specs.Joiners.{places, IsFound}
+use Rattle.std.proofs.{lemmas.Map.Keys.IsDistinct-IsPermutation, lemmas.Map.Made.AllPairs-from_IsDistinct, lemmas.Map.Made.IsDistinct-from_AllPairs}
 use Rattle.hd_final.proofs.ObjectLookup.{placed_there, id_there, few_differ}
-use Rattle.hd_heap.proofs.HeapValues.{same_address}
 
 -- a permutation of addresses that differ has addresses that differ
 abbrev is_address : Addr → Addr → Bool
@@ -129,8 +109,7 @@ module _ {h : Heap} {n : ℕ} {p : Addr → Bool} {js ls ks : List Joiner} (foun
       queue)
       (once : AllPairs (λ x y. x ≢ y) items)
       (objects : (a : Addr) → Contains queue.waiting a → has_object h a ≡ true)
-      (promoted : (a : Addr) → Contains queue.waiting a → p a ≡ true)
-      (fit : len h.objects ≤ queue.room) where
+      (promoted : (a : Addr) → Contains queue.waiting a → p a ≡ true) (fit : len h.objects ≤ queue.room) where
     in_queue : (a : Addr) → Contains items a → Contains queue.waiting a
     in_queue a k = subst (λ (q : Queue). Contains q.waiting a) seen k
 
@@ -144,14 +123,11 @@ module _ {h : Heap} {n : ℕ} {p : Addr → Bool} {js ls ks : List Joiner} (foun
     -- there is room for all
     pub queue_fits : length (items ++ places ks) ≤ room
     queue_fits =
-        omega (
-          arith,
-          few_differ h (items ++ places ks) queue_once
-              (λ a k. ⊎_elim (λ early. objects a (in_queue a early)) (joins_object a)
-              (Contains-append_cases items (places ks) a k)),
-          ap (λ (q : Queue). q.room) seen,
-          fit,
-        )
+        let known =
+        few_differ h (items ++ places ks) queue_once
+        (λ a k. ⊎_elim (λ early. objects a (in_queue a early)) (joins_object a)
+        (Contains-append_cases items (places ks) a k)) in
+        omega (arith, known, ap (λ (q : Queue). q.room) seen, fit)
 
     pub joiners_fit : length items + length ks ≤ room
     joiners_fit =

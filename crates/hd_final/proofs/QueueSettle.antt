@@ -1,18 +1,7 @@
 -- A heap that loses one registration after another.
-use Rattle.std.proofs.Common.{◌≡◌, ◌≢◌, true, false, ℕ, ◌+◌, ◌-◌, ◌<◌, ◌≤◌, List, [], ◌∷◌, ◌++◌, length, take, drop, get_or, Option, Some, None, option_map, refl, sym, ap, ◌∙◌, subst, arith, ⊎_elim, inl, inr, ◌⊎◌, Contains, is_some, length-drop}
-use Rattle.std.specs.FinMap.{get, insert}
-use Rattle.std.proofs.lemmas.Bool.{cases_eq}
-use Rattle.std.proofs.lemmas.List.{take_more, get_or-drop}
-use Rattle.std.proofs.lemmas.List.Elements.{Contains-append_left, Contains-push, Contains-push_cases}
-use Rattle.hd_model.specs.declared.data.Addr.{Addr}
-use Rattle.hd_model.specs.State.{Object}
-use Rattle.hd_model.specs.Heap.{Heap, object_at, object_in, id_at, id_in, placed_at, has_object, region_generation, region_of}
-use Rattle.hd_heap.specs.Calls.{with_object}
-use Rattle.hd_final.specs.Settling.{Unregisters, unregistered}
-use Rattle.hd_model.proofs.Members.{not_in_none, first_in, later_in, member_cases}
+use Rattle.hd_final.proofs.Basics.{Addr, Contains, Contains-append_left, Contains-push, Contains-push_cases, Heap, List, None, Object, Option, Some, Unregisters, [], ap, arith, cases_eq, drop, false, first_in, get, get_or, get_or-drop, has_object, id_at, id_in, inl, inr, insert, is_some, later_in, length, length-drop, member_cases, not_in_none, object_at, object_in, option_map, placed_at, refl, region_generation, region_of, same_address, subst, sym, take, take_more, true, unregistered, with_object, ℕ, ⊎_elim, ◌++◌, ◌+◌, ◌-◌, ◌<◌, ◌∙◌, ◌∷◌, ◌≡◌, ◌≢◌, ◌≤◌, ◌⊎◌}
 use Rattle.hd_final.proofs.ObjectLookup.{placed_there}
 use Rattle.hd_model.proofs.ReadAfterWrite.{get_inserted, get_beside}
-use Rattle.hd_heap.proofs.HeapValues.{same_address}
 
 -- an address is in a list or is not
 is_among : (xs : List Addr) (a : Addr) → Contains xs a ⊎ (Contains xs a → ⊥)
@@ -78,8 +67,7 @@ module _ (xs : List Addr) (h now new : Heap) (x : Addr) (u : Unregisters xs h no
 
   one_settled : Unregisters (xs ++ x ∷ []) h new
   one_settled = record {
-    among = λ a k.
-        ⊎_elim
+    among = λ a k. ⊎_elim
         (λ same. subst (λ b. object_at new b ≡ option_map unregistered (object_at h b))
         (same_address x a (sym same)) (hit ∙ gone x))
         (λ apart. miss a apart ∙ ⊎_elim (λ early. u.among a early)

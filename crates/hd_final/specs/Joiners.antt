@@ -2,8 +2,7 @@
 use Rattle.std.specs.Prelude.{◌≡◌, ◌≢◌, ℕ, Bool, List, map, Contains, AllPairs}
 use Rattle.hd_model.specs.declared.data.Addr.{Addr}
 use Rattle.hd_model.specs.Heap.{Heap, object_at, id_at}
-use Rattle.hd_final.specs.declared.joiners.Joiner.{Joiner}
-use Rattle.hd_final.specs.Resurrection.{IsOut}
+use Rattle.hd_final.specs.{declared.joiners.Joiner.Joiner, Resurrection.IsOut}
 
 -- their addresses
 abbrev pub places : List Joiner → List Addr

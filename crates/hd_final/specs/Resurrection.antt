@@ -1,9 +1,7 @@
 -- Who joins the finalisation queue in a collection (.NET: an object with a finalizer that is no longer
 -- reached is kept, with all that it leads to, until its finalizer has run).
 use Rattle.std.specs.Prelude.{◌≡◌, ℕ, ◌<◌, ◌≤◌, Bool, true, false, List, ◌++◌, Some, Contains, AllPairs}
-use Rattle.hd_model.specs.State.{Object}
-use Rattle.hd_model.specs.Leads.{Grows}
-use Rattle.hd_model.specs.Scene.{Objects, IsYoungField}
+use Rattle.hd_model.specs.{State.Object, Leads.Grows, Scene.Objects, Scene.IsYoungField}
 
 -- a registered condemned object that is not promoted
 pub record IsOut {N : Type 0} (o : Objects N) (n : ℕ) (p : N → Bool) (x : N) : Type 0 where

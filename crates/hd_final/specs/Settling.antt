@@ -1,8 +1,7 @@
 -- How a heap loses registrations: a finalizer runs once for each time that its object is registered (.NET's
 -- GC.ReRegisterForFinalize registers it again).
 use Rattle.std.specs.Prelude.{◌≡◌, false, List, option_map, Contains}
-use Rattle.hd_model.specs.declared.data.Addr.{Addr}
-use Rattle.hd_model.specs.State.{Object}
+use Rattle.hd_model.specs.{declared.data.Addr.Addr, State.Object}
 use Rattle.hd_model.specs.Heap.{Heap, object_at, id_at}
 
 -- the object without its registration

@@ -2,14 +2,11 @@
 // what one leads to joins too.
 ghost use Rattle.std.specs.Prelude.{◌≡◌, ◌+◌, ◌≤◌, ◌++◌, true, length, Contains, not, ◌&&◌, vec_len, vec_capacity, IfSome};
 ghost use Rattle.std.specs.FinMap as map;
-ghost use Rattle.std.specs.List.Sorted.{IsPermutation, IsNonDecreasingBy};
-ghost use Rattle.std.specs.VecDeque.{deque_len, deque_capacity};
+ghost use Rattle.std.specs.{List.Sorted.IsPermutation, List.Sorted.IsNonDecreasingBy, VecDeque.deque_len, VecDeque.deque_capacity};
 ghost use Rattle.hd_model.specs.Heap.{Basis, has_object, objects_of, placed_at};
-ghost use Rattle.hd_model.specs.Leads.{Grows};
-ghost use Rattle.hd_model.specs.Scene.{is_object, IsYoungField};
+ghost use Rattle.hd_model.specs.{Leads.Grows, Scene.is_object, Scene.IsYoungField};
 ghost use Rattle.hd_heap.specs.Calls.{AreSurveyed};
-ghost use Rattle.hd_final.specs.declared.joiners.Joiner.{Joiner as JoinerValue};
-ghost use Rattle.hd_final.specs.Joiners.{IsFound, places};
+ghost use Rattle.hd_final.specs.{declared.joiners.Joiner.Joiner as JoinerValue, Joiners.IsFound, Joiners.places};
 
 use hd_heap::{CondemnedObject, Heap};
 use hd_model::{Addr, Id, Marker};

@@ -2,13 +2,10 @@
 ghost use Rattle.std.specs.Prelude.{◌≡◌, ℕ, ◌<◌, ◌≤◌, true, [], ◌∷◌, length, drop, map, max, slice_index_or, Contains};
 ghost use Rattle.std.specs.Prelude.{IfOk, IfSome, MatchOption, MatchResult};
 ghost use Rattle.std.specs.FinMap as map;
-ghost use Rattle.hd_model.specs.Counting.{Counts};
+ghost use Rattle.hd_model.specs.{Counting.Counts, declared.data.Addr.Addr};
 ghost use Rattle.hd_model.specs.Heap.{HasIdentities, has_object, id_at, object_at};
-ghost use Rattle.hd_model.specs.declared.data.Addr.{Addr};
 ghost use Rattle.hd_heap.specs.Calls.{AreSurveyed};
-ghost use Rattle.hd_final.specs.Queue.{IsQueue};
-ghost use Rattle.hd_final.specs.Resurrection.{IsOut, Resurrects};
-ghost use Rattle.hd_final.specs.Settling.{Unregisters};
+ghost use Rattle.hd_final.specs.{Queue.IsQueue, Resurrection.IsOut, Resurrection.Resurrects, Settling.Unregisters};
 
 use crate::joiners;
 use crate::joiners::Joiner;
@@ -29,10 +26,8 @@ pub struct Final {
 }
 
 impl Model for Final {
-    ghost use Rattle.std.specs.Prelude.{vec_capacity};
-    ghost use Rattle.std.specs.VecDeque.{deque_capacity};
-    ghost use Rattle.hd_model.specs.Table.{Queue};
-    ghost use Rattle.hd_model.specs.Code.{queue_code};
+    ghost use Rattle.std.specs.{Prelude.vec_capacity, VecDeque.deque_capacity};
+    ghost use Rattle.hd_model.specs.{Table.Queue, Code.queue_code};
     ghost use Rattle.hd_final.specs.Inside.{IsKept};
 
     ghost Value = { Queue };

@@ -1,15 +1,8 @@
 -- The walk over the older objects in set cards.
-use Rattle.std.proofs.Common.{◌≡◌, ℕ, ◌/◌, ◌^◌, ◌<◌, ◌≤◌, true, false, Option, Some, None, refl, sym, ◌∙◌, subst, ⊎_elim, inl, inr, ◌⊎◌, arith}
-use Rattle.std.specs.Prelude.{nat_lt}
-use Rattle.std.proofs.lemmas.Bool.{and_parts, and_from, cases_Bool, lt-ltb, true≢false, ltb-true, ltb-false, le-ltb}
+use Rattle.hd_gc.proofs.Basics.{Addr, Heap, IsField, IsNext, IsOldField, IsOldFieldUpTo, IsSettledMarks, MarksOf, None, Option, Promotes, Some, and_from, and_parts, arith, cases_Bool, false, generation_at, has_object, inl, inr, is_after, is_carded, is_old_carded, le-ltb, left_to, lt-ltb, ltb-false, ltb-true, nat_lt, object_at, refl, subst, sym, true, true≢false, ℕ, ⊎_elim, ◌/◌, ◌<◌, ◌^◌, ◌∙◌, ◌≡◌, ◌≤◌, ◌⊎◌}
 use Rattle.std.proofs.lemmas.Bool.Decides.{nat_tests}
-use Rattle.hd_model.specs.declared.data.Addr.{Addr}
-use Rattle.hd_model.specs.Scene.{IsField, generation_at}
-use Rattle.hd_model.specs.Heap.{Heap, object_at, has_object, region_of, is_carded}
-use Rattle.hd_heap.specs.Calls.{is_old_carded, is_after, IsNext}
+use Rattle.hd_model.specs.Heap.{region_of}
 use Rattle.hd_heap.specs.Sound.{IsSound}
-use Rattle.hd_mark.specs.Marks.{MarksOf, IsSettledMarks}
-use Rattle.hd_gc.specs.Growing.{Promotes, IsOldField, IsOldFieldUpTo, left_to}
 use Rattle.hd_gc.proofs.PromoteSteps.{promotes_none, promotes_like, promotes_on}
 
 -- an address of an object is below 2 ^ 32
@@ -17,10 +10,6 @@ pub object_fits : (h : Heap) (a : Addr) → IsSound h → has_object h a ≡ tru
 unfolding region_of
 object_fits h a sound object =
     let low : a.0 / 256 < 2 ^ 24 = (sound.numbers (region_of a) (sound.held a object)).1 in omega arith
-
--- an older object in a set card is an object, of an older generation, in a set card
-pub carded_object : (h : Heap) (n : ℕ) (a : Addr) → is_old_carded h n a ≡ true → has_object h a ≡ true
-carded_object h n a e = (and_parts _ _ (and_parts _ _ e).0).0
 
 pub carded_older : (h : Heap) (n : ℕ) (a : Addr) → is_old_carded h n a ≡ true
     → n < generation_at (object_at h) a
@@ -36,19 +25,7 @@ beyond_on : (after : Option Addr) (a b : Addr) → is_after after a ≡ true →
 beyond_on None a b h l = refl
 beyond_on (Some c) a b h l = grind (arith, nat_tests)
 
--- an address that a walk reaches is nearer to the end
-pub left_less : (h : Heap) (n : ℕ) (after : Option Addr) (a : Addr) → IsSound h
-    → IsNext (is_old_carded h n) after a → left_to (Some a) < left_to after
-left_less h n None a sound next = omega arith
-left_less h n (Some b) a sound next =
-    let fits : a.0 < 2 ^ 32 = object_fits h a sound (carded_object h n a next.member) in
-    let above : nat_lt b.0 a.0 ≡ true = next.beyond in
-    grind (arith, nat_tests)
-
 module _ (h : Heap) (n : ℕ) (m : MarksOf) where
-  pub carded_none : IsSettledMarks m → Promotes (IsOldFieldUpTo h n None) m m
-  carded_none settled = promotes_none (IsOldFieldUpTo h n None) m settled (λ y u. true≢false u.done)
-
   module _ (after : Option Addr) (k : MarksOf) (done : Promotes (IsOldFieldUpTo h n after) m k) where
     to : (a y : Addr) → IsNext (is_old_carded h n) after a
         → IsOldFieldUpTo h n after y ⊎ IsField (object_at h) a y → IsOldFieldUpTo h n (Some a) y

@@ -1,23 +1,6 @@
 -- Tables of which clearings took targets away.
-use Rattle.std.proofs.Common.{◌≡◌, ◌∙◌, ℕ, ◌+◌, ◌<◌, Bool, true, false, cond, List, [], length, take, get_or, sym, ap, Option, Some, None}
-use Rattle.std.specs.Prelude.{sum_by, slice_index_or}
+use Rattle.hd_gc.proofs.Basics.{Addr, Basis, Bool, Clears, Handle, IsReady, IsSameTable, List, MarksOf, MayVisitDue, None, Option, Parts, Some, Table, Task, [], ap, basis_of, cond, due_faded, fades_by, false, get_or, kind_number, length, promoted_in, row_at, slice_index_or, sum_by, sum_by_more, swept, sym, take, task_kind, task_visits, true, visits, visits_of, visits_same, ℕ, ◌+◌, ◌<◌, ◌∙◌, ◌≡◌}
 use Rattle.std.proofs.lemmas.Option.{none-some}
-use Rattle.std.proofs.lemmas.List.Sums.{sum_by_more}
-use Rattle.hd_model.specs.declared.data.Addr.{Addr}
-use Rattle.hd_model.specs.State.{Handle}
-use Rattle.hd_model.specs.Ages.{visits}
-use Rattle.hd_model.specs.Kinds.{kind_number}
-use Rattle.hd_model.specs.Heap.{Basis}
-use Rattle.hd_model.specs.Table.{Table, row_at}
-use Rattle.hd_model.specs.Visits.{MayVisitDue, IsSameTable, visits_of}
-use Rattle.hd_model.proofs.EqualTables.{due_faded, visits_same}
-use Rattle.hd_model.proofs.RowReferences.{fades_by}
-use Rattle.hd_mark.specs.Marks.{MarksOf, promoted_in}
-use Rattle.hd_scan.specs.declared.task.Task.{Task}
-use Rattle.hd_scan.specs.Tasks.{task_kind, swept}
-use Rattle.hd_gc.specs.Ready.{Parts, IsReady, basis_of}
-use Rattle.hd_gc.specs.Clearing.{Clears}
-use Rattle.hd_gc.specs.Steps.{task_visits}
 
 still_target : {N : Type 0} (b : Bool) (o : Option N) (x : N) → cond b None o ≡ Some x → o ≡ Some x
 still_target true o x e = absurd (none-some x e)
@@ -35,8 +18,7 @@ ready_due r n = record {
 }
 
 pub cleared_due : {f : Handle Addr → Bool} {old new : Table} {m : MarksOf} {count : ℕ} {g : Basis}
-    {ages : List ℕ} {n : ℕ}
-    → Clears f old new m count → MayVisitDue g old ages n → MayVisitDue g new ages n
+    {ages : List ℕ} {n : ℕ} → Clears f old new m count → MayVisitDue g old ages n → MayVisitDue g new ages n
 cleared_due {f} {old} {new} {m} c =
     due_faded c.table
     (fades_by (row_at old) (row_at new) (swept true f (promoted_in m)) c.whole.swept
@@ -51,8 +33,7 @@ tasks_alike ages n tasks same =
 
 -- the steps of the first tasks of a list, and of the next
 pub task_more : (t u : Table) (ages : List ℕ) (n : ℕ) (tasks : List Task) (i : ℕ) (d : Task)
-    → i < length tasks → IsSameTable t u
-    → task_visits t ages n (take (i + 1) tasks)
+    → i < length tasks → IsSameTable t u → task_visits t ages n (take (i + 1) tasks)
     ≡ task_visits t ages n (take i tasks) + visits_of u ages n (task_kind (get_or tasks i d))
 task_more t u ages n tasks i d l same =
     sum_by_more (λ (task : Task). visits_of t ages n (task_kind task)) tasks i d l

@@ -1,50 +1,10 @@
 -- The scene that a collection leaves, by address: what was left, at its new addresses.
-use Rattle.std.proofs.Common.{◌≡◌, ℕ, ◌+◌, ◌*◌, ◌/◌, ◌≤◌, Bool, true, false, cond, ◌&&◌, Option, Some, None, is_some, length, drop, map, refl, sym, ap, ◌∙◌, subst, arith, le_trans}
-use Rattle.std.specs.Prelude.{option_map}
-use Rattle.std.specs.FinMap.{get, len}
-use Rattle.std.proofs.lemmas.Bool.{cond-true, true≢false}
+use Rattle.hd_gc.proofs.Basics.{Addr, Basis, Bool, Collected, Collects, Counts, Found, Handle, HasIdentities, HasSoundAges, Heap, IsCondemned, IsPinned, IsReading, IsReady, IsSameTable, IsWhole, LeavesPacked, MarkedAndCleared, None, Object, Option, Parts, Placed, PlanOf, Queue, RelocatedAll, Report, Reports, Scene, Some, Table, Unregisters, all_kinds, ap, arith, cleared, collected_steps, cond, cond-true, counts_le, counts_named, counts_once, counts_where, drop, drop-append_seam, faded_ages, fades_cleared, false, get, has_object, held, holds, id_at, is_attaching, is_due, is_lost, is_object, is_some, kept_in, le_trans, left_by, len, length, length-map, loses, loses_by, map, moved_ages, moved_by_identity, moved_object, moved_whole, object_at, object_in, option_map, pinned_held, pins_hold, place_in, raised, reached_kept, refl, region_generation, region_of, rename_handle, rename_object, role, root_reached, row_at, same_table_on, scene_of, stays_in, subst, survivor, sym, true, true≢false, undue_in_place, unregistered, used_of, visits_alike, visits_over, ℕ, ◌&&◌, ◌*◌, ◌+◌, ◌/◌, ◌∙◌, ◌≡◌, ◌≤◌}
 use Rattle.std.proofs.Math.Bool.{and-false, and-true}
-use Rattle.std.proofs.Math.Seq.{drop-append_seam}
-use Rattle.std.proofs.lemmas.List.{length-map}
-use Rattle.hd_model.specs.declared.data.Id.{Id}
-use Rattle.hd_model.specs.declared.data.Addr.{Addr}
-use Rattle.hd_model.specs.Kinds.{all_kinds}
-use Rattle.hd_model.specs.declared.data.Report.{Report}
-use Rattle.hd_model.specs.State.{Object, Handle, rename_object, rename_handle}
-use Rattle.hd_model.specs.Role.{holds, role}
-use Rattle.hd_model.specs.Counting.{Counts}
-use Rattle.hd_model.specs.Scene.{Scene, is_object, IsWhole, IsReading, IsCondemned}
-use Rattle.hd_model.specs.Reach.{IsPinned, held}
-use Rattle.hd_model.specs.Collect.{is_lost, loses_by, loses, is_attaching, survivor, cleared, left_by, Collects}
-use Rattle.hd_model.specs.Ages.{is_due, raised, HasSoundAges}
-use Rattle.hd_model.specs.Heap.{Heap, Basis, Placed, object_at, object_in, region_generation, region_of, has_object, id_at, used_of, HasIdentities}
-use Rattle.hd_model.specs.Compact.{IsCompact}
-use Rattle.hd_model.specs.Table.{Table, Queue, row_at}
-use Rattle.hd_model.specs.Visits.{visits_over, IsSameTable}
-use Rattle.hd_model.proofs.PropertyCounts.{counts_le, counts_once, counts_where, counts_named}
-use Rattle.hd_model.proofs.KindExtras.{pins_hold}
-use Rattle.hd_model.proofs.PinTest.{pinned_held}
-use Rattle.hd_model.proofs.RenamedPins.{pins_renamed}
-use Rattle.hd_model.proofs.SceneCollection.{root_reached, reached_kept}
-use Rattle.hd_model.proofs.IdleCollection.{cleared_same}
-use Rattle.hd_model.proofs.RenamedReach.{is_object_read}
-use Rattle.hd_model.proofs.MovedScenes.{moved_whole, moved_ages, moved_by_identity}
-use Rattle.hd_model.proofs.MarkReach.{undue_in_place}
-use Rattle.hd_final.specs.Settling.{unregistered, Unregisters}
-use Rattle.hd_plan.specs.Plan.{PlanOf, kept_in, place_in, stays_in}
-use Rattle.hd_plan.specs.Commit.{moved_object}
+use Rattle.hd_model.specs.{declared.data.Id.Id, Compact.IsCompact}
+use Rattle.hd_model.proofs.{RenamedPins.pins_renamed, IdleCollection.cleared_same, RenamedReach.is_object_read, PinnedTargets.counts_objects, PinnedTargets.pinned_count}
 use Rattle.hd_plan.specs.PackedRegions.{IsPacked}
-use Rattle.hd_gc.specs.declared.mark_and_clear.Found.{Found}
-use Rattle.hd_gc.specs.Ready.{Parts, scene_of, IsReady}
-use Rattle.hd_gc.specs.Steps.{collected_steps}
-use Rattle.hd_gc.specs.MarkAndClear.{MarkedAndCleared, Reports}
-use Rattle.hd_gc.specs.RelocateAll.{RelocatedAll}
-use Rattle.hd_gc.specs.Collected.{Collected, LeavesPacked}
-use Rattle.hd_model.proofs.EqualTables.{visits_alike, same_table_on}
-use Rattle.hd_model.proofs.RowReferences.{fades_cleared, faded_ages}
-use Rattle.hd_gc.proofs.LostRegistrations.{same_used, same_full}
-use Rattle.hd_model.proofs.PinnedTargets.{counts_objects, pinned_count}
-use Rattle.hd_gc.proofs.KeptScene.{goes_by, left_kept}
+use Rattle.hd_gc.proofs.{LostRegistrations.same_used, LostRegistrations.same_full, KeptScene.goes_by, KeptScene.left_kept}
 
 -- an object that was resurrected loses its registration before it moves
 registered_by : (resurrected : Bool) → Option (Object Addr) → Option (Object Addr)
@@ -174,11 +134,8 @@ module _ {A Z : Parts} {t2 : Table} {q2 : Queue} {n : ℕ} {plan : PlanOf} {foun
     objects = object_moved;
     only = λ b e.
         let (x, both) = sh.commits.only b e in (x, (in_left x both.0, both.1));
-    apart = λ x y a b same.
-        sf.keeping.apart x y (left_kept ready sf rp x a)
-        (left_kept ready sf rp y b) same;
-    handles = λ slot.
-        sh.rows slot ∙ row_renamed slot (row_at t2 slot) refl
+    apart = λ x y a b same. sf.keeping.apart x y (left_kept ready sf rp x a) (left_kept ready sf rp y b) same;
+    handles = λ slot. sh.rows slot ∙ row_renamed slot (row_at t2 slot) refl
         ∙ ap (option_map (rename_handle Place)) (sf.rows slot);
     named = sh.named;
     queue = ap (λ (p : Queue). p.waiting) sh.queue ∙ ap (λ (p : Queue). map Place p.waiting) sf.queue;
@@ -212,11 +169,9 @@ module _ {A Z : Parts} {t2 : Table} {q2 : Queue} {n : ℕ} {plan : PlanOf} {foun
       let (px, at_x) = placed A.heap x (sf.keeping.objects x left.1.0) in
       let (py, at_y) = placed A.heap y (sf.keeping.objects y right.1.0) in
       let id_a : id_at A.heap x ≡ p.id =
-      sym (same_id x left.1.0) ∙ ap (id_at Z.heap) left.1.1
-      ∙ ap Rattle.hd_model.specs.Heap.id_in at_a in
+      sym (same_id x left.1.0) ∙ ap (id_at Z.heap) left.1.1 ∙ ap Rattle.hd_model.specs.Heap.id_in at_a in
       let id_b : id_at A.heap y ≡ r.id =
-      sym (same_id y right.1.0) ∙ ap (id_at Z.heap) right.1.1
-      ∙ ap Rattle.hd_model.specs.Heap.id_in at_b in
+      sym (same_id y right.1.0) ∙ ap (id_at Z.heap) right.1.1 ∙ ap Rattle.hd_model.specs.Heap.id_in at_b in
       let ids : px.id ≡ py.id =
       sym (ap Rattle.hd_model.specs.Heap.id_in at_x) ∙ id_a ∙ same ∙ sym id_b
       ∙ ap Rattle.hd_model.specs.Heap.id_in at_y in
@@ -259,8 +214,7 @@ module _ {A Z : Parts} {t2 : Table} {q2 : Queue} {n : ℕ} {plan : PlanOf} {foun
     ages_sound =
         subst (λ a. HasSoundAges (object_at Z.heap) (row_at Z.table) a) (sym sh.aged)
         (moved_ages ready.whole (goes_by ready sf rp) moved A.ages ready.ages_sound);
-    cards_sound = λ x y field younger.
-        (sh.commits.cards (Rattle.hd_model.specs.Heap.card_of x)).1
+    cards_sound = λ x y field younger. (sh.commits.cards (Rattle.hd_model.specs.Heap.card_of x)).1
         (record { from = x; to = y; in_card = refl; field = field; younger = younger });
     full = sh.commits.full (same_full sf.sets.joins A.heap sh.middle unregisters ready.full);
     clumps =
@@ -271,8 +225,7 @@ module _ {A Z : Parts} {t2 : Table} {q2 : Queue} {n : ℕ} {plan : PlanOf} {foun
 
   pinned_kept : (x : Addr) → IsPinned (row_at A.table) x → kept_in plan x ≡ true
   pinned_kept x p =
-      sf.plan_kept x
-      ∙ (sf.sets.kept_is x).1
+      sf.plan_kept x ∙ (sf.sets.kept_is x).1
       (reached_kept n S x (root_reached n S x (held (pinned_held (row_at A.table) x p))))
 
   stays : (x : Addr) → kept_in plan x ≡ true → Place x ≡ x
@@ -299,8 +252,7 @@ module _ {A Z : Parts} {t2 : Table} {q2 : Queue} {n : ℕ} {plan : PlanOf} {foun
         is_stored =
             moved.handles p.slot
             ∙ ap (λ o. option_map (rename_handle Place) (option_map (cleared sf.sets.reach sf.sets.kept) o))
-            p.is_stored
-            ∙ ap (λ g. Some (rename_handle Place g)) same;
+            p.is_stored ∙ ap (λ g. Some (rename_handle Place g)) same;
         pins = pins_renamed Place p.handle ∙ p.pins;
         target = ap (option_map Place) p.target ∙ ap (λ y. Some y) (sf.pinned x p);
       }

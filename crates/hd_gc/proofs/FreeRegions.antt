@@ -1,9 +1,5 @@
 -- Free regions are nothing to a collection.
-use Rattle.std.proofs.Common.{◌≡◌, ℕ, List, sym, subst}
-use Rattle.hd_model.specs.declared.data.Report.{Report}
-use Rattle.hd_model.specs.Heap.{Heap}
-use Rattle.hd_gc.specs.Ready.{Parts, IsReady}
-use Rattle.hd_gc.specs.Collected.{Collected}
+use Rattle.hd_gc.proofs.Basics.{Collected, Heap, IsReady, List, Parts, Report, subst, sym, ℕ, ◌≡◌}
 
 ready_with : {p : Parts} (spare : List ℕ) → IsReady p
     → IsReady (record p { heap = record p.heap { spare = spare } })

@@ -1,11 +1,5 @@
 -- Handles by their role: what the clearings do to them.
-use Rattle.std.proofs.Common.{◌≡◌, ℕ, zero, suc, Bool, true, false, cond, ◌&&◌, Option, None, refl, sym, ap, ◌∙◌}
-use Rattle.std.proofs.lemmas.Bool.{eqb-true, eq-eqb, cond-false}
-use Rattle.hd_model.specs.State.{Extra, secondary, Handle}
-use Rattle.hd_model.specs.Role.{Role, holds, short, long, attaches, role}
-use Rattle.hd_model.specs.Collect.{is_lost, loses_by, is_attaching, cleared}
-use Rattle.hd_scan.specs.Tasks.{role_number, is_role, has_role, swept}
-use Rattle.hd_dep.specs.Clearing.{detached}
+use Rattle.hd_gc.proofs.Basics.{Bool, Extra, Handle, None, Option, Role, ap, attaches, cleared, cond, cond-false, detached, eq-eqb, eqb-true, false, has_role, holds, is_attaching, is_lost, is_role, long, loses_by, refl, role, role_number, secondary, short, suc, swept, sym, true, zero, ℕ, ◌&&◌, ◌∙◌, ◌≡◌}
 
 -- two roles that the test finds the same are
 role_from : ℕ → Role

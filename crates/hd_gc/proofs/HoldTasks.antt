@@ -1,22 +1,8 @@
 -- The passes of the tasks that promote come to all handles that hold their target.
-use Rattle.std.proofs.Common.{◌≡◌, ℕ, ◌+◌, ◌<◌, Bool, false, List, take, length, get_or, refl, sym, ◌∙◌, subst, ⊎_elim, inl, inr}
-use Rattle.hd_model.specs.declared.data.Addr.{Addr}
-use Rattle.hd_model.specs.State.{Handle}
-use Rattle.hd_model.specs.Role.{holds, role}
-use Rattle.hd_model.specs.Scene.{Rows, IsYoungField}
-use Rattle.hd_model.specs.Reach.{IsHeld, IsPinned}
-use Rattle.hd_model.specs.Heap.{Basis, objects_of}
-use Rattle.hd_model.specs.Table.{Table, row_at}
-use Rattle.hd_model.proofs.EdgeChains.{grows_like}
-use Rattle.hd_model.proofs.KindExtras.{pins_hold}
-use Rattle.hd_mark.specs.Marks.{MarksOf, promoted_in, IsSettledMarks}
-use Rattle.hd_scan.specs.declared.task.Task.{Task}
-use Rattle.hd_scan.specs.Tasks.{root_tasks, takes, takes_any, has_role}
+use Rattle.hd_gc.proofs.Basics.{Addr, Basis, Bool, Handle, Holds, IsHeld, IsPinned, IsSettledMarks, IsYoungField, List, MarksOf, Rows, Table, Task, false, get_or, grows_like, has_role, holds, inl, inr, length, marked_table, objects_of, pins_hold, promoted_in, refl, role, root_tasks, row_at, subst, sym, take, takes, takes_any, ℕ, ⊎_elim, ◌+◌, ◌<◌, ◌∙◌, ◌≡◌}
 use Rattle.hd_scan.specs.Whole.{IsTargetOf, IsPinTargetOf, WholeRoots}
 use Rattle.hd_scan.proofs.TaskRoles.{roots_cover}
-use Rattle.hd_scan.proofs.TestedPasses.{roots_none, roots_twice, taken_more}
-use Rattle.hd_gc.specs.Growing.{Holds}
-use Rattle.hd_gc.specs.Clearing.{marked_table}
+use Rattle.hd_scan.proofs.TestedPasses.{roots_twice, taken_more}
 use Rattle.hd_gc.proofs.HandleRoles.{same_role, is_same_role}
 
 -- passes have promoted the targets of what passes a test, from marks on
@@ -24,13 +10,6 @@ pub record IsHolding (f : Handle Addr → Bool) (t : Table) (m k : MarksOf) : Ty
   pub settled : IsSettledMarks k
   pub basis : k.basis ≡ m.basis
   pub roots : WholeRoots (objects_of m.basis) m.basis.condemned f (marked_table t m) (marked_table t k)
-
-pub none_held : (t : Table) (m : MarksOf) → IsSettledMarks m → IsHolding (λ h. false) t m m
-none_held t m settled = record {
-  settled = settled;
-  basis = refl;
-  roots = roots_none (objects_of m.basis) m.basis.condemned (marked_table t m);
-}
 
 -- the pass of the next task of a list
 pub held_more : (ts : List Task) (i : ℕ) (d : Task) {t : Table} {m k j : MarksOf} {n : ℕ} → i < length ts
@@ -104,8 +83,7 @@ all_held {t} {m} {k} w =
       grows =
           grows_like (IsYoungField o m.basis.condemned) (IsTargetOf (row_at t) (has_role holds))
           (IsHeld (row_at t)) (promoted_in m) (promoted_in k) (held_target (row_at t))
-          (target_held (row_at t))
-          roots.promotes;
+          (target_held (row_at t)) roots.promotes;
       pins = λ x young. (
         λ e. ⊎_elim (λ earlier. inl earlier) (λ p. inr (pinned_target (row_at t) x p))
             ((roots.pins x young).0 e),

@@ -1,20 +1,5 @@
 -- What is resurrected and kept, by what is reached and by the rows that the clearing of short handles left.
-use Rattle.std.proofs.Common.{◌≡◌, ℕ, ◌≤◌, Bool, true, false, not, ◌&&◌, Option, Some, None, refl, sym, ap, ◌∙◌, ⊎_elim, inl, inr}
-use Rattle.std.specs.Prelude.{option_map, List, [], nat_le, Contains}
-use Rattle.std.specs.Bool.{Decides}
-use Rattle.std.proofs.lemmas.Bool.{true≢false, false≢true, cases_Bool, and_parts, and_from, leb-true, le-leb, not-true, not_from_false}
-use Rattle.hd_model.specs.State.{Object, Handle}
-use Rattle.hd_model.specs.Role.{Role, short, attaches, role}
-use Rattle.hd_model.specs.Counting.{Counts}
-use Rattle.hd_model.specs.Scene.{Scene, Objects, Rows, generation_in, generation_at}
-use Rattle.hd_model.specs.Reach.{IsAttached, IsEdge, IsReached, IsToBeFinalized, IsKept}
-use Rattle.hd_model.proofs.SceneCollection.{mapped_value}
-use Rattle.hd_model.proofs.PropertyCounts.{counts_like}
-use Rattle.hd_model.proofs.MarkReach.{decides_kept}
-use Rattle.hd_model.proofs.EdgeInvariants.{leads_like}
-use Rattle.hd_scan.specs.Tasks.{is_role, has_role, swept}
-use Rattle.hd_final.specs.Resurrection.{IsOut}
-use Rattle.hd_gc.specs.Marking.{Resurrection}
+use Rattle.hd_gc.proofs.Basics.{Bool, Contains, Counts, Decides, Handle, IsAttached, IsEdge, IsKept, IsOut, IsReached, IsToBeFinalized, List, None, Object, Objects, Option, Resurrection, Role, Rows, Scene, Some, [], and_from, and_parts, ap, attaches, cases_Bool, counts_like, decides_kept, false, false≢true, generation_at, generation_in, has_role, inl, inr, is_role, le-leb, leads_like, leb-true, mapped_value, nat_le, not, not-true, not_from_false, option_map, refl, role, short, swept, sym, true, true≢false, ℕ, ⊎_elim, ◌&&◌, ◌∙◌, ◌≡◌, ◌≤◌}
 use Rattle.hd_gc.proofs.HandleRoles.{other_stays}
 
 -- dependent handles whose rows stay
@@ -86,8 +71,7 @@ module _ {N : Type 0} (o : Objects N) (n : ℕ) (p : N → Bool) where
         let (registered, rest) = and_parts (is_registered (o x)) _ e in
         let (young, out) = and_parts (nat_le (generation_at o x) n) (not (p x)) rest in
         out_from x (o x) refl registered (leb-true (generation_at o x) n young) (not-true (p x) out),
-    λ h.
-        and_from (is_registered (o x)) _ (ap is_registered h.is_stored ∙ h.registered)
+    λ h. and_from (is_registered (o x)) _ (ap is_registered h.is_stored ∙ h.registered)
         (and_from (nat_le (generation_at o x) n) (not (p x))
         (ap (λ v. nat_le (generation_in v) n) h.is_stored ∙ le-leb h.object.generation n h.young)
         (not_from_false (p x) h.out)),

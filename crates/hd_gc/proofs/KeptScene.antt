@@ -1,23 +1,6 @@
 -- The scene that a collection leaves in place, by what was found: what it references is kept.
-use Rattle.std.proofs.Common.{◌≡◌, ℕ, true, false, Some, sym, ◌∙◌, subst}
-use Rattle.std.specs.Prelude.{Contains}
-use Rattle.hd_model.specs.declared.data.Addr.{Addr}
-use Rattle.hd_model.specs.declared.data.Report.{Report}
-use Rattle.hd_model.specs.Role.{short, long, attaches}
-use Rattle.hd_model.specs.Counting.{Counts}
-use Rattle.hd_model.specs.Scene.{Scene, is_object, IsCondemned, IsWhole}
-use Rattle.hd_model.specs.Collect.{survivor, GoesBy, left_by, LosesAs, IsSurviving, IsRemoved}
-use Rattle.hd_model.specs.Heap.{Basis, object_at, objects_of, id_at}
-use Rattle.hd_model.specs.Table.{Table, Queue, row_at}
-use Rattle.hd_model.proofs.PropertyCounts.{counts_like}
-use Rattle.hd_model.proofs.Entries.{some_value}
-use Rattle.hd_model.proofs.SceneCollection.{left_from}
-use Rattle.hd_model.proofs.MovedScenes.{whole_in_place}
-use Rattle.hd_plan.specs.Plan.{PlanOf, kept_in}
-use Rattle.hd_gc.specs.declared.mark_and_clear.Found.{Found}
-use Rattle.hd_gc.specs.Ready.{Parts, scene_of, IsReady}
-use Rattle.hd_gc.specs.MarkAndClear.{MarkedAndCleared, Reports}
-use Rattle.hd_gc.specs.RelocateAll.{NamesKept}
+use Rattle.hd_gc.proofs.Basics.{Addr, Basis, Contains, Counts, Found, GoesBy, IsCondemned, IsReady, IsRemoved, IsSurviving, IsWhole, LosesAs, MarkedAndCleared, NamesKept, Parts, PlanOf, Queue, Report, Reports, Scene, Some, Table, attaches, counts_like, false, id_at, is_object, kept_in, left_by, left_from, long, object_at, objects_of, row_at, scene_of, short, subst, survivor, sym, true, whole_in_place, ℕ, ◌∙◌, ◌≡◌}
+use Rattle.hd_model.proofs.MapEntries.{some_value}
 
 module _ {A : Parts} {t2 : Table} {q2 : Queue} {n : ℕ} {plan : PlanOf} {found : Found} {report : Report}
     {s0 s1 : ℕ} (ready : IsReady A)
@@ -60,12 +43,9 @@ module _ {A : Parts} {t2 : Table} {q2 : Queue} {n : ℕ} {plan : PlanOf} {found 
     report_is = record {
       kept = kept_number;
       removed = removed_number;
-      short =
-          subst (λ k. Counts (LosesAs S sf.sets.reach sf.sets.kept short) k) (sym rp.short) sf.sets.short;
-      long =
-          subst (λ k. Counts (LosesAs S sf.sets.reach sf.sets.kept long) k) (sym rp.long) sf.sets.long;
-      dep =
-          subst (λ k. Counts (LosesAs S sf.sets.reach sf.sets.kept attaches) k) (sym rp.dep) sf.sets.dep;
+      short = subst (λ k. Counts (LosesAs S sf.sets.reach sf.sets.kept short) k) (sym rp.short) sf.sets.short;
+      long = subst (λ k. Counts (LosesAs S sf.sets.reach sf.sets.kept long) k) (sym rp.long) sf.sets.long;
+      dep = subst (λ k. Counts (LosesAs S sf.sets.reach sf.sets.kept attaches) k) (sym rp.dep) sf.sets.dep;
       resurrected = subst (λ k. Counts (λ x. sf.sets.resurrected x ≡ true) k)
           (sym rp.resurrected) sf.sets.resurrections;
     };

@@ -1,3 +1,4 @@
+pub mod Basics
 pub mod HandleRoles
 pub mod ClearedRows
 pub mod MarkParts

@@ -1,19 +1,8 @@
 -- A heap that lost registrations is the same to all but those who ask for them.
-use Rattle.std.proofs.Common.{◌≡◌, ℕ, ◌+◌, ◌≤◌, ◌<◌, true, false, List, [], ◌∷◌, length, Option, Some, None, is_some, refl, sym, ap, ◌∙◌, subst, ⊎_elim, inl, inr, ◌⊎◌, arith}
-use Rattle.std.specs.Prelude.{option_map, Contains}
-use Rattle.std.specs.FinMap.{get}
-use Rattle.std.specs.FinSet as set
-use Rattle.std.proofs.lemmas.Bool.{cases_eq}
-use Rattle.hd_model.specs.declared.data.Addr.{Addr}
-use Rattle.hd_model.specs.State.{Object}
-use Rattle.hd_model.specs.Scene.{fields_in, generation_in, fields_at, generation_at}
-use Rattle.hd_model.specs.Ages.{HasSoundCards}
-use Rattle.hd_model.specs.Heap.{Heap, Placed, object_at, object_in, placed_at, has_object, is_carded, is_in_use, region_of, region_generation, cells_of, used_of, card_of}
+use Rattle.hd_gc.proofs.Basics.{Addr, Contains, HasNoEmptyRegion, HasSoundCards, Heap, IsSameShape, List, None, Object, Option, Placed, Some, StartsInRegion, Unregisters, [], ap, arith, card_of, cases_eq, cells_of, false, fields_at, fields_in, generation_at, generation_in, get, has_object, inl, inr, is_carded, is_in_use, is_some, length, object_at, object_in, option_map, placed_at, refl, region_generation, region_of, subst, sym, true, unregistered, used_of, ℕ, ⊎_elim, ◌+◌, ◌<◌, ◌∙◌, ◌∷◌, ◌≡◌, ◌≤◌, ◌⊎◌}
 use Rattle.hd_model.proofs.Members.{not_in_none, first_in, later_in, member_cases}
 use Rattle.hd_model.proofs.Sums.{share, sum-le}
-use Rattle.hd_final.specs.Settling.{unregistered, Unregisters}
-use Rattle.hd_plan.specs.Plan.{HasNoEmptyRegion, StartsInRegion}
-use Rattle.hd_plan.specs.Commit.{IsSameShape}
+use Rattle.std.specs.FinSet as set
 
 -- an address is in a list or not
 pub in_or_out : (xs : List Addr) (a : Addr) → Contains xs a ⊎ (Contains xs a → ⊥)
@@ -118,6 +107,5 @@ module _ (xs : List Addr) (h k : Heap) (u : Unregisters xs h k) where
 
   pub same_full : HasNoEmptyRegion h → HasNoEmptyRegion k
   same_full full r held =
-      let start : StartsInRegion h r =
-      full r (sym (ap (λ (g : Heap). is_in_use g r) u.same) ∙ held) in
+      let start : StartsInRegion h r = full r (sym (ap (λ (g : Heap). is_in_use g r) u.same) ∙ held) in
       record { at = start.at; object = still_object start.at ∙ start.object; region = start.region }

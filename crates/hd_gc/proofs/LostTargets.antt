@@ -1,15 +1,6 @@
 -- The three parts of the clearing come to the whole, and what each clears is what loses its target.
-use Rattle.std.proofs.Common.{◌≡◌, ℕ, Bool, true, Option, Some, None, refl, sym, ap, ◌∙◌}
-use Rattle.std.specs.Prelude.{option_map}
-use Rattle.hd_model.specs.State.{Handle}
-use Rattle.hd_model.specs.Role.{Role, short, long, attaches, role}
-use Rattle.hd_model.specs.Counting.{Counts}
-use Rattle.hd_model.specs.Scene.{Scene, Rows}
-use Rattle.hd_model.specs.Collect.{is_lost, loses_by, cleared, LosesAs}
-use Rattle.hd_model.proofs.PropertyCounts.{counts_like}
-use Rattle.hd_scan.specs.Tasks.{is_role, has_role, swept}
+use Rattle.hd_gc.proofs.Basics.{Bool, Counts, Handle, IsLostAt, LosesAs, None, Option, Role, Rows, Scene, Some, ap, attaches, cleared, counts_like, detached, has_role, is_lost, is_role, long, loses_by, option_map, refl, role, short, swept, sym, true, ℕ, ◌∙◌, ◌≡◌}
 use Rattle.hd_scan.specs.Whole.{IsLostAt as IsUnder}
-use Rattle.hd_dep.specs.Clearing.{detached, IsLostAt}
 use Rattle.hd_gc.proofs.HandleRoles.{same_role, is_same_role, cleared_by_role}
 use Rattle.hd_gc.proofs.KeptObjects.{row_after, row_before}
 
@@ -21,8 +12,7 @@ module _ {N : Type 0} (s : Scene N) (reach kept : N → Bool) {r1 r2 r3 : Rows N
   cleared_rows slot =
       by_dependent slot ∙ ap (option_map (detached true kept)) (by_long slot)
       ∙ ap (λ o. option_map (detached true kept) (option_map (swept true (has_role long) kept) o))
-      (by_short slot)
-      ∙ by (s.handle slot)
+      (by_short slot) ∙ by (s.handle slot)
     where
       by : (o : Option (Handle N))
           → option_map (detached true kept) (option_map (swept true (has_role long) kept)

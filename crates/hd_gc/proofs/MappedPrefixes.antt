@@ -1,9 +1,5 @@
 -- A list whose first members are mapped, and the ages of whose first blocks are raised.
-use Rattle.std.proofs.Common.{◌≡◌, ℕ, zero, suc, ◌+◌, ◌-◌, ◌*◌, ◌<◌, ◌≤◌, List, [], ◌∷◌, ◌++◌, length, get_or, set, take, drop, map, refl, sym, ap, ◌∙◌, subst, arith, add-one, append-nil}
-use Rattle.std.proofs.Math.Seq.{take-length, drop-length, take-add, take-append_seam, drop-append_seam, drop-append-add}
-use Rattle.std.proofs.lemmas.List.{length-map, length-take, map-append, drop-drop}
-use Rattle.hd_model.specs.Ages.{raised, grown}
-use Rattle.hd_ages.specs.Clumps.{grown_at}
+use Rattle.hd_gc.proofs.Basics.{List, [], add-one, ap, append-nil, arith, drop, drop-append-add, drop-append_seam, drop-drop, drop-length, get_or, grown, grown_at, length, length-map, length-take, map, map-append, raised, refl, set, subst, suc, sym, take, take-add, take-append_seam, take-length, zero, ℕ, ◌*◌, ◌++◌, ◌+◌, ◌-◌, ◌<◌, ◌∙◌, ◌∷◌, ◌≡◌, ◌≤◌}
 
 -- the first i members are mapped
 abbrev pub mapped_to : {A : Type 0} → (A → A) → ℕ → List A → List A
@@ -64,12 +60,10 @@ module _ (n k : ℕ) (ages : List ℕ) (l : k + 4 ≤ length ages) where
       (drop-append-add First (drop k ages) 4) ∙ drop-drop 4 k ages
 
   one_more : take k (mapped_to (raised n) k ages) ++ grown n (take 4 (drop k (mapped_to (raised n) k ages)))
-      ++ drop (k + 4) (mapped_to (raised n) k ages)
-      ≡ mapped_to (raised n) (k + 4) ages
+      ++ drop (k + 4) (mapped_to (raised n) k ages) ≡ mapped_to (raised n) (k + 4) ages
   one_more =
       let parts : take k (mapped_to (raised n) k ages)
-      ++ grown n (take 4 (drop k (mapped_to (raised n) k ages)))
-      ++ drop (k + 4) (mapped_to (raised n) k ages)
+      ++ grown n (take 4 (drop k (mapped_to (raised n) k ages))) ++ drop (k + 4) (mapped_to (raised n) k ages)
       ≡ First ++ map (raised n) (take 4 (drop k ages)) ++ drop (k + 4) ages =
       λ i. taken i ++ grown n (take 4 (dropped i)) ++ rest i in
       parts ∙ ap (λ ys. ys ++ drop (k + 4) ages)

@@ -1,35 +1,9 @@
 -- The phases between the start of the marks and the plan, one after another.
-use Rattle.std.proofs.Common.{◌≡◌, ℕ, ◌+◌, ◌*◌, ◌≤◌, Bool, true, List, [], refl, sym, ap, ◌∙◌, subst, ⊎_elim, inl, arith}
-use Rattle.std.specs.Prelude.{Contains}
-use Rattle.std.proofs.lemmas.Bool.{cases_lt}
-use Rattle.hd_model.specs.declared.data.Addr.{Addr}
-use Rattle.hd_model.specs.declared.data.Kind.TheVariants as kind
-use Rattle.hd_model.specs.Role.{short, long}
-use Rattle.hd_model.specs.Leads.{IsClosed}
-use Rattle.hd_model.specs.Counting.{Counts}
-use Rattle.hd_model.specs.Scene.{Scene, Objects, is_object, generation_at, IsField, IsCondemned}
-use Rattle.hd_model.specs.Reach.{IsPinned, queued, held}
-use Rattle.hd_model.specs.Marking.{IsKeeping}
-use Rattle.hd_model.specs.Heap.{Basis, object_at, objects_of, id_at}
-use Rattle.hd_model.specs.Table.{Table, Queue, row_at}
-use Rattle.hd_model.specs.Visits.{visits_of, MayVisitDue, IsSameTable}
-use Rattle.hd_model.proofs.PropertyCounts.{counts_like}
-use Rattle.hd_model.proofs.PinTest.{pinned_held}
-use Rattle.hd_model.proofs.SceneCollection.{root_reached, reached_on}
-use Rattle.hd_mark.specs.Marks.{MarksOf, promoted_in, pinned_in}
-use Rattle.hd_dep.specs.Clearing.{IsAllDetached, IsLostAt}
-use Rattle.hd_final.specs.Resurrection.{IsOut}
-use Rattle.hd_plan.specs.Plan.{PlanOf, IsLaid, kept_in, place_in, stays_in}
-use Rattle.hd_scan.specs.Tasks.{has_role, short_tasks, long_tasks}
-use Rattle.hd_gc.specs.Ready.{Parts, IsReady, parts, scene_of, basis_of}
-use Rattle.hd_gc.specs.Clearing.{Clears}
-use Rattle.hd_gc.specs.Marking.{Traced, Resurrected, Resurrection}
-use Rattle.hd_gc.specs.Steps.{marked_steps, task_visits}
-use Rattle.hd_gc.specs.MarkAndClear.{FoundSets, MarkedAndCleared}
-use Rattle.hd_model.proofs.EqualTables.{visits_same, same_table_on, due_again}
+use Rattle.hd_gc.proofs.Basics.{Addr, Basis, Bool, Clears, Contains, Counts, FoundSets, IsAllDetached, IsClosed, IsCondemned, IsField, IsKeeping, IsLaid, IsLostAt, IsOut, IsPinned, IsReady, IsSameTable, List, MarkedAndCleared, MarksOf, MayVisitDue, Objects, Parts, PlanOf, Queue, Resurrected, Resurrection, Scene, Table, Traced, [], ap, arith, basis_of, cases_lt, counts_like, due_again, generation_at, has_role, held, id_at, inl, is_object, kept_in, long, long_tasks, marked_steps, object_at, objects_of, parts, pinned_held, pinned_in, place_in, promoted_in, queued, reached_on, refl, root_reached, row_at, same_table_on, scene_of, short, short_tasks, stays_in, subst, sym, task_visits, true, visits_of, visits_same, ℕ, ⊎_elim, ◌*◌, ◌+◌, ◌∙◌, ◌≡◌, ◌≤◌}
 use Rattle.hd_gc.proofs.ClearedRows.{ready_due, cleared_due, tasks_alike}
 use Rattle.hd_gc.proofs.KeptObjects.{is_out, resurrected_decides, kept_decides, joins_decide, resurrections_counted}
 use Rattle.hd_gc.proofs.LostTargets.{cleared_rows, short_losses, long_losses, dependent_losses}
+use Rattle.hd_model.specs.declared.data.Kind.TheVariants as kind
 
 -- up to the clearing of short handles
 module _ {A : Parts} {n s0 s1 : ℕ} {m1 : MarksOf} (ready : IsReady A) (tr : Traced A n m1 s0 s1)
@@ -100,11 +74,8 @@ module _ {A : Parts} {n s0 s1 : ℕ} {m1 : MarksOf} (ready : IsReady A) (tr : Tr
             short_losses S Reach Kept clear1.whole.swept clear2.whole.swept detaches short_n
             clear1.whole.count;
         long =
-            long_losses S Reach Kept clear1.whole.swept clear2.whole.swept detaches long_n
-            clear2.whole.count;
-        dep =
-            dependent_losses S Reach Kept clear1.whole.swept clear2.whole.swept detaches dep_n
-            lost;
+            long_losses S Reach Kept clear1.whole.swept clear2.whole.swept detaches long_n clear2.whole.count;
+        dep = dependent_losses S Reach Kept clear1.whole.swept clear2.whole.swept detaches dep_n lost;
         resurrections = resurrections_counted S n Reach tr.reach_is resurrected_n resurrections;
       }
 
@@ -115,17 +86,10 @@ module _ {A : Parts} {n s0 s1 : ℕ} {m1 : MarksOf} (ready : IsReady A) (tr : Tr
           → s4 ≡ s3 + task_visits t1 A.ages n long_tasks → s5 ≡ s4 + visits_of t2 A.ages n kind.Dependent
           → s5 ≡ marked_steps A.table A.ages n s0
       steps_marked e2 e4 e5 =
-          omega (
-            arith,
-            tr.steps,
-            rv.steps,
-            e2,
-            e4,
-            e5,
-            tasks_alike A.ages n long_tasks clear1.table,
-            visits_same A.table t1 A.ages n kind.Dependent clear1.table,
-            visits_same A.table t2 A.ages n kind.Dependent same12,
-          )
+          let known = tasks_alike A.ages n long_tasks clear1.table in
+          let also = visits_same A.table t1 A.ages n kind.Dependent clear1.table in
+          let more = visits_same A.table t2 A.ages n kind.Dependent same12 in
+          omega (arith, tr.steps, rv.steps, e2, e4, e5, known, also, more)
 
       module _ {plan : PlanOf} {g : Basis} (laid : IsLaid plan) (start : g ≡ basis_of A n)
           (same : plan.basis ≡ g) (plan_kept : (a : Addr) → kept_in plan a ≡ Kept a)
@@ -151,8 +115,7 @@ module _ {A : Parts} {n s0 s1 : ℕ} {m1 : MarksOf} (ready : IsReady A) (tr : Tr
 
         stays_are : Counts (λ a. IsCondemned O n a × IsPinned S.handle a) (stays_in plan)
         stays_are =
-            counts_like
-            (λ a. IsCondemned O n a × (Kept a ≡ true) × (pinned_in m3 a ≡ true))
+            counts_like (λ a. IsCondemned O n a × (Kept a ≡ true) × (pinned_in m3 a ≡ true))
             (λ a. IsCondemned O n a × IsPinned S.handle a) (stays_in plan)
             (λ a w. (w.0, (tr.pins a w.0).0 (ap (λ r. r a) (sym rv.pinned) ∙ w.2)))
             (λ a w. (w.0, held_kept a w.1, ap (λ r. r a) rv.pinned ∙ (tr.pins a w.0).1 w.1))
@@ -161,8 +124,7 @@ module _ {A : Parts} {n s0 s1 : ℕ} {m1 : MarksOf} (ready : IsReady A) (tr : Tr
 
         pub marked_and_cleared : {q2 : Queue} {s4 s5 : ℕ} → q2.waiting ≡ after → q2.room ≡ A.queue.room
             → s2 ≡ s1 + task_visits A.table A.ages n short_tasks
-            → s4 ≡ s3 + task_visits t1 A.ages n long_tasks
-            → s5 ≡ s4 + visits_of t2 A.ages n kind.Dependent
+            → s4 ≡ s3 + task_visits t1 A.ages n long_tasks → s5 ≡ s4 + visits_of t2 A.ages n kind.Dependent
             → MarkedAndCleared A (record A { table = t3; queue = q2 }) n plan
             (record { short = short_n; long = long_n; dep = dep_n; revived = resurrected_n }) s0 s5
         unfolding sets

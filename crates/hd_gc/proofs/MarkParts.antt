@@ -1,16 +1,5 @@
 -- What the marking comes to, part by part.
-use Rattle.std.proofs.Common.{◌≡◌, ℕ, ◌<◌, Bool, true, Some, ⊎_elim, inl, inr}
-use Rattle.std.specs.Prelude.{Contains, List}
-use Rattle.std.specs.Bool.{Decides}
-use Rattle.hd_model.specs.Leads.{Leads, Grows, IsClosure}
-use Rattle.hd_model.specs.Scene.{Scene, Objects, Rows, generation_at, IsField, IsYoungField}
-use Rattle.hd_model.specs.Reach.{IsEdge, IsHeld, IsRoot, named, queued, held, older, IsReached}
-use Rattle.hd_model.proofs.EdgeChains.{leads_on}
-use Rattle.hd_model.proofs.MarkReach.{decides_reached}
-use Rattle.hd_model.proofs.SceneCollection.{root_reached, reached_on}
-use Rattle.hd_final.specs.Resurrection.{IsOut, Resurrects}
-use Rattle.hd_gc.specs.Marking.{Resurrection}
-use Rattle.hd_model.proofs.EdgeInvariants.{leads_like, grown_within}
+use Rattle.hd_gc.proofs.Basics.{Bool, Contains, Decides, Grows, IsClosure, IsEdge, IsField, IsHeld, IsOut, IsReached, IsRoot, IsYoungField, Leads, List, Objects, Resurrection, Resurrects, Rows, Scene, Some, decides_reached, generation_at, grown_within, held, inl, inr, leads_like, leads_on, named, older, queued, reached_on, root_reached, true, ℕ, ⊎_elim, ◌<◌, ◌≡◌}
 
 -- a field of a condemned object is an edge
 pub young_edge : {N : Type 0} (o : Objects N) (rows : Rows N) (n : ℕ) (x y : N) → IsYoungField o n x y

@@ -1,19 +1,6 @@
 -- The relocations of one kind after another update every row in a visited slot.
-use Rattle.std.proofs.Common.{◌≡◌, ℕ, ◌+◌, ◌&&◌, ◌||◌, Bool, true, false, cond, List, Option, Some, None, refl, sym, ap, ◌∙◌, subst, ⊎_elim, arith}
-use Rattle.std.specs.Prelude.{option_map, nat_lt}
-use Rattle.std.proofs.lemmas.Bool.{and_parts, true≢false, lt-ltb, le-ltb, cases_lt, cases_Bool, or_left, or_right, eqb-true, eq-eqb}
-use Rattle.hd_model.specs.declared.data.Addr.{Addr}
-use Rattle.hd_model.specs.declared.data.Kind.{Kind}
-use Rattle.hd_model.specs.Kinds.{kind_number, is_kind}
-use Rattle.hd_model.specs.State.{Handle, rename_handle}
-use Rattle.hd_model.specs.Ages.{is_due}
-use Rattle.hd_model.specs.Table.{Table, row_at}
-use Rattle.hd_model.specs.Visits.{IsSameTable}
-use Rattle.hd_model.proofs.SceneCollection.{mapped_value}
-use Rattle.hd_model.proofs.KindTests.{few_kinds}
-use Rattle.hd_model.proofs.EqualTables.{same_table_on}
+use Rattle.hd_gc.proofs.Basics.{Addr, Bool, Handle, IsRenamed, IsSameTable, Kind, List, NamesKept, None, Option, Some, Table, and_parts, ap, arith, cases_Bool, cases_lt, cond, eq-eqb, eqb-true, false, few_kinds, is_due, is_kind, kind_number, le-ltb, lt-ltb, mapped_value, nat_lt, option_map, or_left, or_right, refl, rename_handle, row_at, same_table_on, subst, sym, true, true≢false, ℕ, ⊎_elim, ◌&&◌, ◌+◌, ◌||◌, ◌∙◌, ◌≡◌}
 use Rattle.hd_scan.specs.Relocation.{relocated, Relocates, CanRelocate, KeepsNames}
-use Rattle.hd_gc.specs.RelocateAll.{NamesKept, IsRenamed}
 
 module _ (place : Addr → Addr) (ages : List ℕ) (n : ℕ) where
   -- a handle after the kinds whose number is below i
@@ -24,18 +11,6 @@ module _ (place : Addr → Addr) (ages : List ℕ) (n : ℕ) where
   pub record IsRelocating (i : ℕ) (old now : Table) : Type 0 where
     pub rows : (slot : ℕ) → row_at now slot ≡ option_map (renamed_below i slot) (row_at old slot)
     pub table : IsSameTable old now
-
-  pub none_moved : (t : Table) → IsRelocating 0 t t
-  none_moved t = record {
-    rows = λ slot. same slot (row_at t slot);
-    table = record { chains = refl; uses = refl; blocks = refl };
-  }
-    where
-      same : (slot : ℕ) (o : Option (Handle Addr)) → o ≡ option_map (renamed_below 0 slot) o
-      same slot None = refl
-      same slot (Some h) =
-          ap (λ b. Some (cond (b && is_due ages n slot) (rename_handle place h) h))
-          (sym (le-ltb (kind_number h.kind) 0 (omega arith)))
 
   -- of three tests of numbers
   one_more : (a b c due : Bool) (h : Handle Addr) → (a ≡ true → b ≡ false) → c ≡ (a || b)
@@ -105,15 +80,13 @@ module _ (place : Addr → Addr) (ages : List ℕ) (n : ℕ) where
     moved_more {next} moves same = record {
       rows = λ slot.
           moves slot ∙ ap (option_map (λ h. relocated (is_kind k h.kind && is_due ages n slot) place h))
-          (done.rows slot)
-          ∙ by slot (row_at old slot);
+          (done.rows slot) ∙ by slot (row_at old slot);
       table = same_table_on old now next done.table same;
     }
       where
         by : (slot : ℕ) (o : Option (Handle Addr))
             → option_map (λ h. relocated (is_kind k h.kind && is_due ages n slot) place h)
-            (option_map (renamed_below i slot) o)
-            ≡ option_map (renamed_below (i + 1) slot) o
+            (option_map (renamed_below i slot) o) ≡ option_map (renamed_below (i + 1) slot) o
         by slot None = refl
         by slot (Some h) =
             let below : Bool = nat_lt (kind_number h.kind) i in
@@ -122,14 +95,3 @@ module _ (place : Addr → Addr) (ages : List ℕ) (n : ℕ) where
             (kind_kept (below && is_due ages n slot) h)
             ∙ one_more below (is_kind k h.kind) (nat_lt (kind_number h.kind) (i + 1)) (is_due ages n slot) h
             (apart h.kind) (below_more h.kind))
-
-  pub all_moved : {i : ℕ} {old now : Table} → i ≡ 7 → IsRelocating i old now
-      → IsRenamed ages n place (row_at old) (row_at now)
-  all_moved {i} {old} {now} e w slot = w.rows slot ∙ by (row_at old slot)
-    where
-      by : (o : Option (Handle Addr)) → option_map (renamed_below i slot) o
-          ≡ option_map (λ h. cond (is_due ages n slot) (rename_handle place h) h) o
-      by None = refl
-      by (Some h) =
-          ap (λ b. Some (cond (b && is_due ages n slot) (rename_handle place h) h))
-          (lt-ltb (kind_number h.kind) i (omega (arith, few_kinds h.kind, e)))

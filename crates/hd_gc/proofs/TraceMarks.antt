@@ -1,30 +1,9 @@
 -- The marking from first marks: what it promotes is what is reached.
-use Rattle.std.proofs.Common.{◌≡◌, ℕ, ◌+◌, ◌<◌, true, Some, sym, ap, ◌∙◌, subst, ⊎_elim, inr, ◌⊎◌, ◌≤◌, arith}
-use Rattle.std.specs.Prelude.{Contains, nat_lt, ◌↔◌}
+use Rattle.hd_gc.proofs.Basics.{Addr, Basis, Contains, Grows, HasSoundCards, Heap, Holds, IsClosed, IsClosure, IsCondemned, IsEdge, IsField, IsHeld, IsOldField, IsPinned, IsReady, IsSettled, IsSettledMarks, IsYoungField, MarksOf, Parts, Promotes, Some, Traced, ap, arith, first_marks, generation_at, inr, is_carded, is_object, lt-ltb, ltb-true, nat_lt, object_at, objects_of, older, or_cases, or_left, pinned_in, promoted_in, root_object, root_tasks, row_at, scene_of, settled_closed, subst, sym, task_visits, true, true≢false, visits_of, ℕ, ⊎_elim, ◌+◌, ◌<◌, ◌↔◌, ◌∙◌, ◌≡◌, ◌≤◌, ◌⊎◌}
+use Rattle.std.specs.{FinSet.contains-empty, Ordering.nat_cmp}
+use Rattle.hd_gc.proofs.{CardWalk.carded_older, CardWalk.carded_by, MarkParts.traced}
 use Rattle.std.specs.FinSet as set
-use Rattle.std.specs.FinSet.{contains-empty}
-use Rattle.std.specs.Ordering.{nat_cmp}
-use Rattle.std.proofs.lemmas.Bool.{ltb-true, lt-ltb, or_cases, or_left, true≢false}
-use Rattle.hd_model.specs.declared.data.Addr.{Addr}
 use Rattle.hd_model.specs.declared.data.Kind.TheVariants as kind
-use Rattle.hd_model.specs.Leads.{IsClosed, Grows, IsClosure}
-use Rattle.hd_model.specs.Scene.{is_object, generation_at, IsField, IsYoungField, IsCondemned}
-use Rattle.hd_model.specs.Reach.{IsEdge, IsHeld, IsPinned, older}
-use Rattle.hd_model.specs.Marking.{IsSettled}
-use Rattle.hd_model.specs.Ages.{HasSoundCards}
-use Rattle.hd_model.specs.Heap.{Heap, Basis, object_at, objects_of, is_carded}
-use Rattle.hd_model.specs.Table.{row_at}
-use Rattle.hd_model.specs.Visits.{visits_of}
-use Rattle.hd_model.proofs.MarkReach.{settled_closed}
-use Rattle.hd_model.proofs.SceneCollection.{root_object}
-use Rattle.hd_mark.specs.Marks.{MarksOf, promoted_in, pinned_in, IsSettledMarks, first_marks}
-use Rattle.hd_scan.specs.Tasks.{root_tasks}
-use Rattle.hd_gc.specs.Ready.{Parts, scene_of, IsReady}
-use Rattle.hd_gc.specs.Steps.{task_visits}
-use Rattle.hd_gc.specs.Growing.{Promotes, Holds, IsOldField}
-use Rattle.hd_gc.specs.Marking.{Traced}
-use Rattle.hd_gc.proofs.CardWalk.{carded_older, carded_by}
-use Rattle.hd_gc.proofs.MarkParts.{traced}
 
 -- settled marks over an equal basis
 pub settled_over : (g : Basis) (m : MarksOf) → m.basis ≡ g → IsSettledMarks m
@@ -127,8 +106,7 @@ module _ {A : Parts} {n : ℕ} {m0 m1 m2 m3 m4 : MarksOf} (first : m0 ≡ first_
         (subst (GrowsFrom (λ x. Contains A.queue.waiting x) m1 m2) basis1 b.grows)
         (subst (GrowsFrom (IsHeld (row_at A.table)) m2 m3) basis2 c.grows) by_fields closure;
     pins = λ x young. (
-      λ e.
-          ⊎_elim (λ none. absurd (no_pins x young none)) (λ p. p)
+      λ e. ⊎_elim (λ none. absurd (no_pins x young none)) (λ p. p)
           ((pins_over x young).0 (ap (λ p. p x) (sym d.pinned) ∙ ap (λ p. p x) (sym pinned) ∙ e)),
       λ p. ap (λ q. q x) pinned ∙ ap (λ q. q x) d.pinned ∙ (pins_over x young).1 (inr p),
     );

@@ -1,12 +1,8 @@
 -- The clearing of weak handles.
 use Rattle.std.specs.Prelude.{ℕ, Bool}
-use Rattle.hd_model.specs.declared.data.Addr.{Addr}
-use Rattle.hd_model.specs.State.{Handle}
-use Rattle.hd_model.specs.Table.{Table}
-use Rattle.hd_model.specs.Visits.{IsSameTable}
+use Rattle.hd_model.specs.{declared.data.Addr.Addr, State.Handle, Table.Table, Visits.IsSameTable}
 use Rattle.hd_mark.specs.Marks.{MarksOf, promoted_in, pinned_in}
-use Rattle.hd_scan.specs.Passes.{PassView, view_at}
-use Rattle.hd_scan.specs.Whole.{WholeClear}
+use Rattle.hd_scan.specs.{Passes.PassView, Passes.view_at, Whole.WholeClear}
 
 -- a table and marks, as a pass has them
 abbrev pub marked_table : Table → MarksOf → PassView

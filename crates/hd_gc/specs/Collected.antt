@@ -1,20 +1,9 @@
 -- What a collection leaves.
 use Rattle.std.specs.Prelude.{◌≡◌, ◌↔◌, ℕ, ◌<◌, ◌≤◌, true}
-use Rattle.hd_model.specs.declared.data.Id.{Id}
-use Rattle.hd_model.specs.declared.data.Addr.{Addr}
-use Rattle.hd_model.specs.declared.data.Report.{Report}
-use Rattle.hd_model.specs.declared.limits.TheConstants.{OLDEST}
+use Rattle.hd_model.specs.{declared.data.Id.Id, declared.data.Addr.Addr, declared.data.Report.Report, declared.limits.TheConstants.OLDEST, Reach.IsPinned, Collect.Collects, Counting.Counts, Ages.grown, Compact.IsCompact, Table.Table, Table.row_at, Visits.IsSameTable}
 use Rattle.hd_model.specs.Scene.{Scene, IsReading, IsCondemned, generation_at}
-use Rattle.hd_model.specs.Reach.{IsPinned}
-use Rattle.hd_model.specs.Collect.{Collects}
-use Rattle.hd_model.specs.Counting.{Counts}
-use Rattle.hd_model.specs.Ages.{grown}
 use Rattle.hd_model.specs.Heap.{Heap, has_object, object_at, id_at, is_set, used_of}
-use Rattle.hd_model.specs.Compact.{IsCompact}
-use Rattle.hd_model.specs.Table.{Table, row_at}
-use Rattle.hd_model.specs.Visits.{IsSameTable}
-use Rattle.hd_plan.specs.Commit.{NeedsCard}
-use Rattle.hd_plan.specs.PackedRegions.{IsPacked}
+use Rattle.hd_plan.specs.{Commit.NeedsCard, PackedRegions.IsPacked}
 use Rattle.hd_gc.specs.Ready.{Parts, scene_of, IsReady}
 use Rattle.hd_gc.specs.Steps.{collected_steps}
 

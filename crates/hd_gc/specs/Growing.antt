@@ -1,9 +1,7 @@
 -- What is promoted from where, before and after each part of the marking.
 use Rattle.std.specs.Prelude.{◌≡◌, ◌↔◌, ◌⊎◌, ℕ, ◌+◌, ◌-◌, ◌^◌, true, false, Option, Some, None}
-use Rattle.hd_model.specs.declared.data.Addr.{Addr}
-use Rattle.hd_model.specs.Leads.{Grows}
+use Rattle.hd_model.specs.{declared.data.Addr.Addr, Leads.Grows, Reach.IsHeld, Reach.IsPinned}
 use Rattle.hd_model.specs.Scene.{Rows, IsField, IsYoungField, IsCondemned}
-use Rattle.hd_model.specs.Reach.{IsHeld, IsPinned}
 use Rattle.hd_model.specs.Heap.{Heap, object_at, objects_of}
 use Rattle.hd_heap.specs.Calls.{is_old_carded, is_after}
 use Rattle.hd_mark.specs.Marks.{MarksOf, promoted_in, pinned_in, IsSettledMarks}

@@ -1,21 +1,14 @@
 -- What is true between the marking and the moving.
 use Rattle.std.specs.Prelude.{◌≡◌, ℕ, ◌<◌, true, false, ◌++◌, option_map, Contains, AllPairs}
 use Rattle.std.specs.Bool.{Decides}
-use Rattle.hd_model.specs.declared.data.Addr.{Addr}
-use Rattle.hd_model.specs.declared.data.Report.{Report}
+use Rattle.hd_model.specs.{declared.data.Addr.Addr, declared.data.Report.Report, Counting.Counts, Scene.is_object, Scene.IsCondemned, Marking.IsKeeping, Table.row_at, Visits.IsSameTable}
 use Rattle.hd_model.specs.Role.{short, long, attaches}
-use Rattle.hd_model.specs.Counting.{Counts}
-use Rattle.hd_model.specs.Scene.{is_object, IsCondemned}
 use Rattle.hd_model.specs.Reach.{IsReached, IsToBeFinalized, IsKept, IsPinned}
 use Rattle.hd_model.specs.Collect.{cleared, LosesAs, Decision}
-use Rattle.hd_model.specs.Marking.{IsKeeping}
 use Rattle.hd_model.specs.Heap.{object_at, objects_of, id_at}
-use Rattle.hd_model.specs.Table.{row_at}
-use Rattle.hd_model.specs.Visits.{IsSameTable}
 use Rattle.hd_plan.specs.Plan.{PlanOf, IsLaid, kept_in, place_in, stays_in}
-use Rattle.hd_gc.specs.declared.mark_and_clear.Found.{Found}
+use Rattle.hd_gc.specs.{declared.mark_and_clear.Found.Found, Steps.marked_steps}
 use Rattle.hd_gc.specs.Ready.{Parts, scene_of, basis_of}
-use Rattle.hd_gc.specs.Steps.{marked_steps}
 
 -- what is reached, resurrected and kept by address, the resurrected in rising identity, and the numbers of
 -- those that lose their target or are resurrected

@@ -1,14 +1,9 @@
 -- What is promoted and pinned after the marking, and after the resurrection.
 use Rattle.std.specs.Prelude.{◌≡◌, ◌↔◌, ◌⊎◌, ℕ, ◌+◌, ◌<◌, Bool, true, List, ◌++◌, Contains, AllPairs}
 use Rattle.std.specs.Bool.{Decides}
-use Rattle.hd_model.specs.declared.data.Addr.{Addr}
+use Rattle.hd_model.specs.{declared.data.Addr.Addr, Leads.Leads, Leads.IsClosed, Scene.Scene, Scene.IsCondemned, Heap.object_at, Heap.id_at, Table.row_at, Visits.visits_of}
 use Rattle.hd_model.specs.declared.data.Kind.TheVariants as kind
-use Rattle.hd_model.specs.Leads.{Leads, IsClosed}
-use Rattle.hd_model.specs.Scene.{Scene, IsCondemned}
 use Rattle.hd_model.specs.Reach.{IsEdge, IsReached, IsPinned}
-use Rattle.hd_model.specs.Heap.{object_at, id_at}
-use Rattle.hd_model.specs.Table.{row_at}
-use Rattle.hd_model.specs.Visits.{visits_of}
 use Rattle.hd_mark.specs.Marks.{MarksOf, promoted_in, pinned_in, IsSettledMarks}
 use Rattle.hd_final.specs.Resurrection.{IsOut}
 use Rattle.hd_scan.specs.Tasks.{root_tasks}

@@ -1,10 +1,7 @@
 -- What a collection looks at, and what must be true of it.
 use Rattle.std.specs.Prelude.{◌≡◌, ℕ, ◌*◌, ◌≤◌, List, Option, length}
 use Rattle.std.specs.FinMap.{len}
-use Rattle.hd_model.specs.declared.data.Addr.{Addr}
-use Rattle.hd_model.specs.declared.limits.TheConstants.{CLUMPS}
-use Rattle.hd_model.specs.Scene.{Scene, IsWhole}
-use Rattle.hd_model.specs.Ages.{HasSoundAges, HasSoundCards}
+use Rattle.hd_model.specs.{declared.data.Addr.Addr, declared.limits.TheConstants.CLUMPS, Scene.Scene, Scene.IsWhole, Ages.HasSoundAges, Ages.HasSoundCards}
 use Rattle.hd_model.specs.Heap.{Heap, Basis, object_at, is_carded, HasIdentities}
 use Rattle.hd_model.specs.Table.{Table, Queue, row_at}
 use Rattle.hd_plan.specs.Plan.{HasNoEmptyRegion}

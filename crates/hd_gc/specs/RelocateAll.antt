@@ -1,15 +1,9 @@
 -- What the moving leaves.
 use Rattle.std.specs.Prelude.{◌≡◌, ℕ, ◌+◌, Bool, true, cond, List, Some, option_map, map, drop}
-use Rattle.hd_model.specs.Kinds.{all_kinds}
+use Rattle.hd_model.specs.{Kinds.all_kinds, Scene.Rows, Ages.is_due, Ages.grown, Heap.Heap, Table.row_at, Visits.IsSameTable, Visits.visits_over}
 use Rattle.hd_model.specs.State.{Handle, secondary_of, rename_handle}
-use Rattle.hd_model.specs.Scene.{Rows}
-use Rattle.hd_model.specs.Ages.{is_due, grown}
-use Rattle.hd_model.specs.Heap.{Heap}
-use Rattle.hd_model.specs.Table.{row_at}
-use Rattle.hd_model.specs.Visits.{IsSameTable, visits_over}
 use Rattle.hd_final.specs.Settling.{Unregisters}
-use Rattle.hd_plan.specs.Plan.{PlanOf, place_in}
-use Rattle.hd_plan.specs.Commit.{Commits}
+use Rattle.hd_plan.specs.{Plan.PlanOf, Plan.place_in, Commit.Commits}
 use Rattle.hd_gc.specs.Ready.{Parts}
 
 -- each target and each secondary is in a set

@@ -1,9 +1,7 @@
 -- The steps of a collection: one for each clump that a pass visits.
 use Rattle.std.specs.Prelude.{ℕ, ◌+◌, ◌*◌, List, sum_by}
 use Rattle.hd_model.specs.declared.data.Kind.TheVariants as kind
-use Rattle.hd_model.specs.Kinds.{all_kinds}
-use Rattle.hd_model.specs.Table.{Table}
-use Rattle.hd_model.specs.Visits.{visits_of, visits_over}
+use Rattle.hd_model.specs.{Kinds.all_kinds, Table.Table, Visits.visits_of, Visits.visits_over}
 use Rattle.hd_scan.specs.declared.task.Task.{Task}
 use Rattle.hd_scan.specs.Tasks.{task_kind, root_tasks, short_tasks, long_tasks}
 

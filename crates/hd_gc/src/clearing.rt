@@ -1,11 +1,9 @@
 // The clearing of weak handles, by what is promoted.
 ghost use Rattle.std.specs.Prelude.{◌≡◌, ◌+◌, ◌≤◌, length};
-ghost use Rattle.hd_model.specs.Role.{short, long};
-ghost use Rattle.hd_model.specs.Visits.{MayVisitDue};
+ghost use Rattle.hd_model.specs.{Role.short, Role.long, Visits.MayVisitDue};
 ghost use Rattle.hd_mark.specs.Marks.{IsSettledMarks};
 ghost use Rattle.hd_scan.specs.Tasks.{takes_any, has_role, short_tasks, long_tasks};
-ghost use Rattle.hd_gc.specs.Clearing.{Clears};
-ghost use Rattle.hd_gc.specs.Steps.{task_visits};
+ghost use Rattle.hd_gc.specs.{Clearing.Clears, Steps.task_visits};
 
 use hd_ages::AgeMap;
 use hd_mark::Marks;

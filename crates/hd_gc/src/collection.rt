@@ -1,8 +1,6 @@
 // A whole collection.
 ghost use Rattle.std.specs.Prelude.{◌≡◌, ◌≤◌, MatchResult};
-ghost use Rattle.hd_gc.specs.Ready.{IsReady, parts};
-ghost use Rattle.hd_gc.specs.Collected.{Collected};
-ghost use Rattle.hd_gc.specs.MarkAndClear.{Reports};
+ghost use Rattle.hd_gc.specs.{Ready.IsReady, Ready.parts, Collected.Collected, MarkAndClear.Reports};
 ghost use Rattle.hd_plan.specs.Plan.{IsLaid};
 
 use crate::mark_and_clear::{Found, mark_and_clear};

@@ -2,19 +2,13 @@
 ghost use Rattle.std.specs.Prelude.{◌≡◌, ◌*◌, ◌≤◌, true, [], Contains, IfOk, OnErr};
 ghost use Rattle.std.specs.FinMap.{len};
 ghost use Rattle.hd_model.specs.declared.data.Kind.TheVariants as kind;
-ghost use Rattle.hd_model.specs.Counting.{Counts};
+ghost use Rattle.hd_model.specs.{Counting.Counts, Scene.IsField, Leads.IsClosed, Visits.MayVisitDue, Visits.visits_of, Ages.HasSoundCards};
 ghost use Rattle.hd_final.specs.Resurrection.{IsOut};
-ghost use Rattle.hd_model.specs.Scene.{IsField};
-ghost use Rattle.hd_model.specs.Leads.{IsClosed};
 ghost use Rattle.hd_model.specs.Heap.{HasIdentities, is_carded, object_at};
-ghost use Rattle.hd_model.specs.Visits.{MayVisitDue, visits_of};
-ghost use Rattle.hd_model.specs.Ages.{HasSoundCards};
 ghost use Rattle.hd_heap.specs.Calls.{AreSurveyed};
 ghost use Rattle.hd_mark.specs.Marks.{IsSettledMarks, promoted_in};
 ghost use Rattle.hd_plan.specs.Plan.{IsTakenPlan};
-ghost use Rattle.hd_gc.specs.Ready.{IsReady, parts};
-ghost use Rattle.hd_gc.specs.Marking.{Resurrected};
-ghost use Rattle.hd_gc.specs.MarkAndClear.{MarkedAndCleared};
+ghost use Rattle.hd_gc.specs.{Ready.IsReady, Ready.parts, Marking.Resurrected, MarkAndClear.MarkedAndCleared};
 
 use crate::clearing::{clear_long, clear_short};
 use crate::marking::trace;

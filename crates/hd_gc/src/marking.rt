@@ -4,14 +4,11 @@ ghost use Rattle.std.specs.Option.{ForSome};
 ghost use Rattle.hd_model.specs.declared.data.Kind.TheVariants as kind;
 ghost use Rattle.hd_model.specs.Scene.{is_object, fields_at, IsField};
 ghost use Rattle.hd_model.specs.Heap.{has_object, object_at, objects_of};
-ghost use Rattle.hd_model.specs.Table.{row_at};
-ghost use Rattle.hd_model.specs.Visits.{MayVisitDue, visits_of};
+ghost use Rattle.hd_model.specs.{Table.row_at, Visits.MayVisitDue, Visits.visits_of};
 ghost use Rattle.hd_mark.specs.Marks.{IsSettledMarks, first_marks};
 ghost use Rattle.hd_scan.specs.Tasks.{root_tasks};
-ghost use Rattle.hd_gc.specs.Ready.{IsReady, parts};
+ghost use Rattle.hd_gc.specs.{Ready.IsReady, Ready.parts, Marking.Traced, Steps.task_visits};
 ghost use Rattle.hd_gc.specs.Growing.{Promotes, IsOldField, Holds};
-ghost use Rattle.hd_gc.specs.Marking.{Traced};
-ghost use Rattle.hd_gc.specs.Steps.{task_visits};
 
 use hd_ages::AgeMap;
 use hd_dep::{DependentIndex, follow};

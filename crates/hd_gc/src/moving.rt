@@ -2,10 +2,7 @@
 ghost use Rattle.std.specs.Prelude.{◌≡◌, ◌+◌, ◌*◌, true, Some, length, map, option_map, Contains};
 ghost use Rattle.std.specs.Option.{ForSome};
 ghost use Rattle.hd_model.specs.Heap.{has_object, is_carded, object_at};
-ghost use Rattle.hd_model.specs.Table.{row_at};
-ghost use Rattle.hd_model.specs.Ages.{grown, HasSoundCards};
-ghost use Rattle.hd_model.specs.Kinds.{all_kinds};
-ghost use Rattle.hd_model.specs.Visits.{IsSameTable, visits_over};
+ghost use Rattle.hd_model.specs.{Table.row_at, Ages.grown, Ages.HasSoundCards, Kinds.all_kinds, Visits.IsSameTable, Visits.visits_over};
 ghost use Rattle.hd_plan.specs.Plan.{IsLaid, kept_in, place_in};
 ghost use Rattle.hd_gc.specs.RelocateAll.{NamesKept, IsRenamed, RelocatedAll};
 ghost use Rattle.hd_gc.specs.Ready.{parts};

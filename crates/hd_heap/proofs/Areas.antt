@@ -1,5 +1,5 @@
 -- Lemmas on one region of a heap.
-use Rattle.hd_heap.proofs.Basics.{Area, BeginsIn, Bool, Contents, IsArea, IsLaidOut, IsObject, IsPutInto, IsTaken, IsWritten, List, None, Object, Option, Some, [], ap, arith, both_ways, card_in, cases_eq, cond, contents, empty_region, false, false_from_ne_true, found_later, get_or, inl, inr, is_some, len_less, length, nat_cmp, nat_cmp_total, no_object, object_at, refl, replicate, share, size_of, still_some, subst, suc, sum-at, sum-insert, sum-many, sum-taken, sum_by, sym, true, unwrap_or, without_object, zero, ℕ, ◌+◌, ◌-◌, ◌/◌, ◌∙◌, ◌∷◌, ◌≡◌, ◌≢◌, ◌≤◌}
+use Rattle.hd_heap.proofs.Basics.{Area, BeginsIn, Bool, Contents, IsArea, IsLaidOut, IsObject, IsPutInto, IsTaken, IsWritten, List, None, Object, Option, Some, [], ap, arith, both_ways, card_in, cases_eq, cond, contents, empty_region, false, false_from_ne_true, found_later, get_or, inl, inr, is_some, len_less, length, nat_cmp, nat_cmp_total, no_object, object_at, refl, replicate, share, size_of, still_some, subst, suc, sum-at, sum-insert, sum-many, sum-taken, sum_by, sym, true, true_from_ne_false, unwrap_or, without_object, zero, ℕ, ◌+◌, ◌-◌, ◌/◌, ◌∙◌, ◌∷◌, ◌≡◌, ◌≢◌, ◌≤◌}
 use Rattle.std.proofs.Common.{map as each}
 use Rattle.std.specs.FinMap as map
 
@@ -17,13 +17,9 @@ object_there r k is =
 pub none_in_empty : (k : ℕ) → IsObject empty_region k → ⊥
 none_in_empty k is = both_ways _ (ap is_some (map.get-empty {X = Object} nat_cmp k)) is
 
-pub true_unless : (b : Bool) → (b ≡ false → ⊥) → b ≡ true
-true_unless true never = refl
-true_unless false never = absurd (never refl)
-
 -- a region with an object is in use
 pub held_by_object : (a : Area) → IsArea a → (k : ℕ) → IsObject (contents a) k → a.held ≡ true
-held_by_object a is k there = true_unless a.held (λ free.
+held_by_object a is k there = true_from_ne_false a.held (λ free.
     none_in_empty k (subst (λ (r : Contents). IsObject r k) (is.spare free) there))
 
 -- an object is put at an offset, where there was none or in place of another one
@@ -67,8 +63,7 @@ area_written a b at o is there laid same_size w =
     area_inserted a b at o is (held_by_object a is at there)
     (ap (λ (r : Contents). r.objects) w.contents_are) laid (omega (arith, size, same_size, w.live))
     (w.count ∙ sym (ap (λ t. cond t a.count (a.count + 1)) there)) (omega (arith, fill, w.live)) w.held
-    w.generation
-    w.cards
+    w.generation w.cards
 
 -- an object is put after all others
 pub area_put : (a b : Area) (o : Object) → IsArea a → a.held ≡ true
@@ -140,14 +135,9 @@ live_at a is k there =
 
 -- an object takes three cells or more
 pub count_small : (a : Area) → IsArea a → a.count ≤ 85
-count_small a is = omega (
-  arith,
-  is.count,
-  is.live,
-  is.within,
-  is.laid_out.within_region,
-  sum-many size_of 3 (λ o. omega arith) (contents a).objects,
-)
+count_small a is =
+    let known = sum-many size_of 3 (λ o. omega arith) (contents a).objects in
+    omega (arith, is.count, is.live, is.within, is.laid_out.within_region, known)
 
 -- an object is counted
 pub count_at : (a : Area) → IsArea a → (k : ℕ) → IsObject (contents a) k → 1 ≤ a.count
@@ -191,13 +181,8 @@ area_taken a b at cells is t =
       record {
         laid_out = t.laid_out;
         live = omega arith;
-        count = omega (
-          arith,
-          t.count,
-          is.count,
-          len_less (contents a).objects at there,
-          ap (λ (r : Contents). map.len r.objects) t.removed,
-        );
+        count = (let known = ap (λ (r : Contents). map.len r.objects) t.removed in
+            omega (arith, t.count, is.count, len_less (contents a).objects at there, known));
         within = omega arith;
         generation = t.generation;
         card_count = t.card_count;

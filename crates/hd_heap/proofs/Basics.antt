@@ -1,6 +1,6 @@
 -- The names that most proofs of this crate cite, passed on from one place.
 pub use Rattle.std.proofs.Common.{Bool, List, None, Option, Some, [], ap, arith, cond, deque_capacity, drop, ext_get_or, false, get_or, get_or-drop, get_or-set_other, get_or-set_same, inl, inr, le-leb, length, length-append, length-drop, length-set, map, refl, replicate, set, subst, suc, sym, take, true, zero, ℕ, ◌%◌, ◌&&◌, ◌*◌, ◌++◌, ◌+◌, ◌-◌, ◌/◌, ◌<◌, ◌^◌, ◌||◌, ◌∙◌, ◌∷◌, ◌≡◌, ◌≢◌, ◌≤◌, ◌⊎◌}
-pub use Rattle.std.proofs.lemmas.Bool.{both_ways, cases_eq, cases_lt, cases_order, eq-eqb, eqb-true, false_from_ne_true, le-ltb, leb-true, lt-ltb, ltb-true, ne_eqb}
+pub use Rattle.std.proofs.lemmas.Bool.{both_ways, cases_eq, cases_lt, cases_order, eq-eqb, eqb-true, false_from_ne_true, le-ltb, leb-true, lt-ltb, ltb-true, ne_eqb, true_from_ne_false}
 pub use Rattle.std.proofs.lemmas.List.{get_or-append_right, get_or-map, get_or_append_left, get_or_past, get_or_push, get_or_read, length-map, length-replicate, map-set, map_push, set-append_left, set-append_right, take-append-le}
 pub use Rattle.std.proofs.lemmas.List.Elements.{Contains-get_or}
 pub use Rattle.std.proofs.lemmas.List.Sums.{sum_by-append, sum_by-cons, sum_by-set}
@@ -23,7 +23,7 @@ pub use Rattle.hd_heap.specs.declared.area.Wanted.{Wanted}
 pub use Rattle.hd_heap.specs.declared.area.Wanted.TheVariants.{Any, Carded, Condemned}
 pub use Rattle.hd_heap.specs.declared.survey.CondemnedObject.{CondemnedObject}
 pub use Rattle.hd_heap.specs.declared.survey.Survey.{Survey}
-pub use Rattle.hd_model.proofs.Entries.{found_first, found_later}
+pub use Rattle.hd_model.proofs.MapEntries.{found_first, found_later}
 pub use Rattle.hd_model.proofs.IndexedItems.{find-numbered_below, get-by_place}
 pub use Rattle.hd_model.proofs.Members.{first_in, later_in, mapped_in, member_cases, not_in_none}
 pub use Rattle.hd_model.proofs.ReadAfterWrite.{get_inserted, get_left, get_removed, len_again, len_less, len_new, still_some}

@@ -149,8 +149,7 @@ forwarding_copy g r put new at id n v on o offset put_is written id_is n_is on_i
 
 -- a reference in a field that is read is kept
 pub field_kept : (kept : Addr → Bool) (fields : List ℕ) → MayForward kept fields → (i n : ℕ)
-    → i < length fields
-    → n ≡ get_or fields i 0 → n ≢ 0 → kept (record { 0 = n }) ≡ true
+    → i < length fields → n ≡ get_or fields i 0 → n ≢ 0 → kept (record { 0 = n }) ≡ true
 field_kept kept fields may i n below is some =
     may n (subst (λ (x : ℕ). Contains fields x) (sym is) (Contains-get_or fields i 0 below)) some
 

@@ -62,13 +62,9 @@ module _ {areas : List Area} {spares : List ℕ} {limit capacity cells objects h
     held = λ a is. (found heap a is).2.located.there;
     within = λ a is.
         let f = (found heap a is).2 in
-        omega (
-          arith,
-          f.located.area.laid_out.below_fill (a.0 % 256) f.object,
-          cells_placed (object_in_region (contents (found heap a is).1) (a.0 % 256)),
-          ap cells_of f.placed,
-          ap (λ (g : Region). g.fill) f.located.region,
-        );
+        (let known = f.located.area.laid_out.below_fill (a.0 % 256) f.object in
+        let also = cells_placed (object_in_region (contents (found heap a is).1) (a.0 % 256)) in
+        omega (arith, known, also, ap cells_of f.placed, ap (λ (g : Region). g.fill) f.located.region));
     apart = λ a b is_a is_b below.
         let f = (found heap a is_a).2 in
         let g = (found heap b is_b).2 in
@@ -89,12 +85,10 @@ module _ {areas : List Area} {spares : List ℕ} {limit capacity cells objects h
         (sym (ap (λ (p : Placed). p.id.0) f.placed) ∙ e);
     few_fields = λ a is.
         let f = (found heap a is).2 in
-        omega (
-          arith,
-          (f.located.area.laid_out.well_formed (a.0 % 256) f.object).few_fields,
-          length-map (object_in_region (contents (found heap a is).1) (a.0 % 256)).fields address,
-          ap (λ (p : Placed). length p.fields) f.placed,
-        );
+        (let known = (f.located.area.laid_out.well_formed (a.0 % 256) f.object).few_fields in
+        let also =
+        length-map (object_in_region (contents (found heap a is).1) (a.0 % 256)).fields address in
+        omega (arith, known, also, ap (λ (p : Placed). length p.fields) f.placed));
     fills = λ r is. let f = (held_found heap r is).2 in
         omega (arith, f.area.laid_out.within_region, ap (λ (g : Region). g.fill) f.region);
     generations = λ r is. let f = (held_found heap r is).2 in

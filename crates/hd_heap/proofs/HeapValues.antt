@@ -231,8 +231,7 @@ pub record IsCopying (h now : Heap) (from : Addr) (r i : ℕ) : Type 0 where
 pub copying_starts : (h now : Heap) (from : Addr) (r : ℕ) (id : Id) (count : ℕ) (on : Bool) (v : ℕ)
     → now ≡ with_put h r (region_generation h r) (record (new_object id count on) { value = v })
     → id ≡ (placed_at h from).id → count ≡ length (placed_at h from).fields
-    → on ≡ (placed_at h from).registered
-    → v ≡ (placed_at h from).value → IsCopying h now from r 0
+    → on ≡ (placed_at h from).registered → v ≡ (placed_at h from).value → IsCopying h now from r 0
 copying_starts h now from r id count on v is id_is count_is on_is v_is = record {
   object = record (new_object id count on) { value = v };
   is = is;

@@ -71,8 +71,7 @@ get_or-tables_at n f d none (o ∷ os) (suc i) j q at below =
     let less : length (table n (f o)) + (i * n + j) - n ≡ i * n + j = omega arith in
     ap (λ k. get_or (table n (f o) ++ tables n f os) k d) is
     ∙ get_or-append_right (table n (f o)) (tables n f os) n (length (table n (f o)) + (i * n + j)) d short
-    (omega arith)
-    ∙ ap (λ k. get_or (tables n f os) k d) less ∙ rest
+    (omega arith) ∙ ap (λ k. get_or (tables n f os) k d) less ∙ rest
 
 pub get_or-tables : {A B : Type 0} (n : ℕ) (f : Option A → ℕ → B) (d : B) → ((k : ℕ) → f None k ≡ d)
     → (os : List (Option A)) (q i j : ℕ) → q ≡ i * n + j → j < n → get_or (tables n f os) q d ≡ f

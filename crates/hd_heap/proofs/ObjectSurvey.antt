@@ -79,13 +79,9 @@ module _ {h : Heap} {n : ℕ} where
           | inr past ↦
               let here : k ≡ length s = omega (arith, past, below, longer s o) in
               let low_one = (is.each j (omega (arith, order, here))).below in
-              omega (
-                arith,
-                ap (λ (x : CondemnedObject). x.at.0) first,
-                ap (λ (x : CondemnedObject). x.at.0) (ap (surveyed (s ++ o ∷ [])) here ∙ new_surveyed s o),
-                low_one,
-                next.from,
-              )
+              let known =
+              ap (λ (x : CondemnedObject). x.at.0) (ap (surveyed (s ++ o ∷ [])) here ∙ new_surveyed s o) in
+              omega (arith, ap (λ (x : CondemnedObject). x.at.0) first, known, low_one, next.from)
         ]
 
     all_next : (a : Addr) → is_condemned h n a ≡ true → a.0 < o.at.0 + (o.fields + 3)
@@ -96,8 +92,7 @@ module _ {h : Heap} {n : ℕ} where
             k,
             (
               omega (arith, was.0, longer s o),
-              ap (λ (x : CondemnedObject). x.at) (old_surveyed s o k was.0)
-                  ∙ was.1,
+              ap (λ (x : CondemnedObject). x.at) (old_surveyed s o k was.0) ∙ was.1,
             ),
           )
       | inr past ↦ elim (cases_eq a.0 o.at.0) [
@@ -108,14 +103,10 @@ module _ {h : Heap} {n : ℕ} where
             ap (λ (x : CondemnedObject). x.at) (new_surveyed s o) ∙ same_address o.at a (sym same),
           ),
         )
-        | inr other ↦ absurd (omega (
-          arith,
-          sound.apart o.at a (wanted_has h (Condemned n) o.at next.condemned)
-              (wanted_has h (Condemned n) a is_a)
-              (omega (arith, next.least a is_a past, other)),
-          next.fields,
-          below,
-        ))
+        | inr other ↦ absurd (let known =
+            sound.apart o.at a (wanted_has h (Condemned n) o.at next.condemned)
+            (wanted_has h (Condemned n) a is_a) (omega (arith, next.least a is_a past, other)) in
+            omega (arith, known, next.fields, below))
       ]
     ]
 
@@ -230,8 +221,7 @@ module _ {h : Heap} {n r : ℕ} {region : Contents} {first : Survey} where
   pub walking_next : {now new : Survey} {end : ℕ} → IsSound h → IsLaidOut region
       → IsWalking h n r region first now end → (d : Header) (x : Addr) (size : ℕ) → x.0 ≡ r * 256 + d.at
       → IsNextListed h n (r * 256 + end) (record { at = x; fields = d.fields; registered = d.registered })
-      → IsObject region d.at → IsHeader region d.at d → size ≡ d.fields + 3
-      → new.objects.items
+      → IsObject region d.at → IsHeader region d.at d → size ≡ d.fields + 3 → new.objects.items
       ≡ now.objects.items ++ (record { at = x; fields = d.fields; registered = d.registered }) ∷ []
       → vec_capacity new.objects ≡ vec_capacity now.objects → new.cells ≡ now.cells + size
       → new.regions ≡ now.regions → IsWalking h n r region first new (d.at + size)

@@ -29,12 +29,7 @@ nulls_of (suc n) = ap (λ xs. None ∷ xs) (nulls_of n)
 -- a new object as the heap's users see it
 pub new_placed : (id n : ℕ) (on : Bool)
     → placed_of (new_region_object id n on) ≡ new_object (record { 0 = id }) n on
-new_placed id n on = λ i. record {
-  id = record { 0 = id };
-  fields = nulls_of n i;
-  value = 0;
-  registered = on;
-}
+new_placed id n on = λ i. record { id = record { 0 = id }; fields = nulls_of n i; value = 0; registered = on }
 
 module _ {areas : List Area} {spares : List ℕ} {limit capacity cells objects holds current : ℕ} {h : Heap}
     (heap : IsHeap areas spares limit capacity (cells, objects, holds) current h) where
@@ -142,8 +137,7 @@ module _ {areas : List Area} {spares : List ℕ} {limit capacity cells objects h
       ∙ (λ i. fin.insert (heap.view i).objects (r * 256 + fill i) (is i)) in
       let held : b.held ≡ true = w.held ∙ at.held in
       heap_set at.place b heap (cells + size) (objects + 1) current
-      (with_put h r (region_generation h r) p) new
-      at.held held added
+      (with_put h r (region_generation h r) p) new at.held held added
       (regions_put at.place b (seen b) (in_use b held) ∙ (λ i. fin.insert (heap.view i).regions r (record {
         generation = (w.generation ∙ ap (λ (x : Region). x.generation) (sym at.region)) i;
         fill = (ap (λ (c : Contents). c.fill) w.contents_are ∙ (λ j. fill j + sizes j)) i;
@@ -194,8 +188,7 @@ module _ {areas : List Area} {spares : List ℕ} {limit capacity cells objects h
 -- the cards after an object was removed
 module _ {areas : List Area} {spares : List ℕ} {limit capacity cells objects holds current : ℕ} {h : Heap}
     (heap : IsHeap areas spares limit capacity (cells, objects, holds) current h) (at : Addr) {k : ℕ}
-    {a : Area}
-    (b : Area) (size : ℕ) (f : IsFound areas h at k a) (new : IsArea b)
+    {a : Area} (b : Area) (size : ℕ) (f : IsFound areas h at k a) (new : IsArea b)
     (taken : IsTaken a b (at.0 % 256) size)
     {after : Heap}
     (now : IsHeap (set areas k b) spares limit capacity (cells - size, objects - 1, holds) current

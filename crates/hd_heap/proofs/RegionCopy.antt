@@ -67,8 +67,7 @@ pub same_copy : (place : Addr → Addr) (a : Area) (s : Contents) (from : ℕ) �
 same_copy place a s from is = ap (λ (x : Contents). region_forwarded place (object_in_region x from)) (sym is)
 
 pub copied : {xs new : List Area} {b d after : Area} {o q : Object} {target off cells : ℕ}
-    → q ≡ o → b ≡ d → IsArea after → new ≡ set xs target after
-    → IsPutInto d after q → off ≡ (contents d).fill
+    → q ≡ o → b ≡ d → IsArea after → new ≡ set xs target after → IsPutInto d after q → off ≡ (contents d).fill
     → cells ≡ size_of q → IsCopiedInto xs new target b o off cells
 copied {xs} {new} {b} {d} {after} {o} {q} {target} {off} {cells} is_o is_b area list put off_is cells_is =
     subst (λ (x : Area). IsCopiedInto xs new target x o off cells) (sym is_b)

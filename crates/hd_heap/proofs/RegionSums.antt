@@ -15,24 +15,16 @@ sum-numbered f i (Some x ∷ os) =
     let none : fin.get rest i ≡ None =
     fin.get-from_entries nat_cmp_total (numbered (i + 1) os) i
     ∙ find-numbered_below (i + 1) i os (omega arith) in
-    omega (
-      arith,
-      sum-numbered f (i + 1) os,
-      sum_by-cons (share f) (Some x) os,
-      sum-insert f rest i x,
-      ap (share f) none,
-    )
+    let known = sum_by-cons (share f) (Some x) os in
+    omega (arith, sum-numbered f (i + 1) os, known, sum-insert f rest i x, ap (share f) none)
 
 sum-tables : {A B : Type 0} (g : B → ℕ) (n : ℕ) (f : A → ℕ → B) (xs : List A)
     → sum_by g (tables n f xs) ≡ sum_by (λ x. sum_by g (table n (f x))) xs
 unfolding tables
 sum-tables g n f [] = refl
-sum-tables g n f (x ∷ xs) = omega (
-  arith,
-  sum_by-append g (table n (f x)) (tables n f xs),
-  sum-tables g n f xs,
-  sum_by-cons (λ y. sum_by g (table n (f y))) x xs,
-)
+sum-tables g n f (x ∷ xs) =
+    let known = sum_by-cons (λ y. sum_by g (table n (f y))) x xs in
+    omega (arith, sum_by-append g (table n (f x)) (tables n f xs), sum-tables g n f xs, known)
 
 sum-nothing : {A : Type 0} (f : A → ℕ) (n : ℕ) → sum_by (share f) (table n (λ k. None)) ≡ 0
 unfolding table
@@ -44,13 +36,10 @@ sum-mapped : {A B : Type 0} (f : B → ℕ) (p : A → B) (n : ℕ) (g : ℕ →
     → sum_by (share f) (table n (λ k. option_map p (g k))) ≡ sum_by (share (λ x. f (p x))) (table n g)
 unfolding table
 sum-mapped f p zero g = refl
-sum-mapped f p (suc n) g = omega (
-  arith,
-  sum-mapped f p n (λ k. g (suc k)),
-  same (g 0),
-  sum_by-cons (share f) (option_map p (g 0)) (table n (λ k. option_map p (g (suc k)))),
-  sum_by-cons (share (λ x. f (p x))) (g 0) (table n (λ k. g (suc k))),
-)
+sum-mapped f p (suc n) g =
+    let known = sum_by-cons (share f) (option_map p (g 0)) (table n (λ k. option_map p (g (suc k)))) in
+    let also = sum_by-cons (share (λ x. f (p x))) (g 0) (table n (λ k. g (suc k))) in
+    omega (arith, sum-mapped f p n (λ k. g (suc k)), same (g 0), known, also)
   where
     same : (o : Option _) → share f (option_map p o) ≡ share (λ x. f (p x)) o
     same None = refl
@@ -67,8 +56,7 @@ as_table n m none = fin.same_map nat_cmp_total fin.nat_cmp-IsAntisymmetric _ _ (
     ])
 
 -- the objects of one region
-sum-area : (f : Placed → ℕ) (a : Area) → IsArea a
-    → sum_by (share f) (table 256 (placed_in (Some a)))
+sum-area : (f : Placed → ℕ) (a : Area) → IsArea a → sum_by (share f) (table 256 (placed_in (Some a)))
     ≡ sum_by (λ o. f (placed_of o)) (fin.values (contents a).objects)
 sum-area f a is =
     let m = (contents a).objects in
@@ -91,27 +79,18 @@ module _ (f : Placed → ℕ) (g : Area → ℕ)
   sum-each [] each = refl
   sum-each (a ∷ areas) each =
       let is = each 0 a refl in
-      omega (
-        arith,
-        sum-each areas (λ k x e. each (suc k) x e),
-        counts a is,
-        sum-area f a is,
-        sum_by-cons g a areas,
-        sum_by-cons (λ o. sum_by (share f) (table 256 (placed_in o))) (Some a) (map Some areas),
-      )
+      let known = sum-each areas (λ k x e. each (suc k) x e) in
+      let also = sum_by-cons (λ o. sum_by (share f) (table 256 (placed_in o))) (Some a) (map Some areas) in
+      omega (arith, known, counts a is, sum-area f a is, sum_by-cons g a areas, also)
 
   pub sum-objects : (areas : List Area) → ((r : ℕ) (a : Area) → area_at areas r ≡ Some a → IsArea a)
       → sum_by g areas ≡ sum_by f (fin.values (objects_in areas))
   sum-objects areas each =
       let all = None ∷ map Some areas in
       sum-each areas (λ k a e. each (suc k) a e)
-      ∙ omega (
-        arith,
-        sum-nothing f 256,
-        sum_by-cons (λ o. sum_by (share f) (table 256 (placed_in o))) None (map Some areas),
-        sum-tables (share f) 256 placed_in all,
-        sum-numbered f 0 (tables 256 placed_in all),
-      )
+      ∙ (let known = sum_by-cons (λ o. sum_by (share f) (table 256 (placed_in o))) None (map Some areas) in
+      let also = sum-numbered f 0 (tables 256 placed_in all) in
+      omega (arith, sum-nothing f 256, known, sum-tables (share f) 256 placed_in all, also))
 
 pub cells_placed : (o : Object) → cells_of (placed_of o) ≡ size_of o
 cells_placed o = ap (λ n. n + 3) (length-map o.fields address)

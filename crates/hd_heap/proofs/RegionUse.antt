@@ -18,8 +18,7 @@ pushed_apart : (ns : List ℕ) (n : ℕ) → ((i j : ℕ) → i < j → j < leng
     → ((i : ℕ) → i < length ns → get_or ns i 0 ≢ n) → (i j : ℕ) → i < j → j < length (ns ++ n ∷ [])
     → get_or (ns ++ n ∷ []) i 0 ≢ get_or (ns ++ n ∷ []) j 0
 pushed_apart ns n apart new i j order below =
-    let first = get_or_append_left ns (n ∷ []) 0 i
-    (omega (arith, order, below, length-append ns (n ∷ []))) in
+    let first = get_or_append_left ns (n ∷ []) 0 i (omega (arith, order, below, length-append ns (n ∷ []))) in
     λ e. elim (cases_lt j (length ns)) [
       | inl inside ↦ apart i j order inside (sym first ∙ e ∙ get_or_append_left ns (n ∷ []) 0 j inside)
       | inr past ↦ new i (omega (arith, order, below, length-append ns (n ∷ []))) (sym first ∙ e
@@ -270,20 +269,10 @@ module _ {areas : List Area} {spares : List ℕ} {limit capacity cells objects h
       heap_lists areas_are spares_are
       (heap_moved (record h { spare = h.spare ++ n ∷ [] }) (each_push areas b new heap.kept.each)
       (omega (arith, lengths, n_is, small))
-      (omega (
-        arith,
-        heap.kept.lives,
-        sum_by-append (λ (x : Area). x.live) areas (b ∷ []),
-        sum_by-cons (λ (x : Area). x.live) b [],
-        free.live,
-      ))
-      (omega (
-        arith,
-        heap.kept.counts,
-        sum_by-append (λ (x : Area). x.count) areas (b ∷ []),
-        sum_by-cons (λ (x : Area). x.count) b [],
-        free.count,
-      ))
+      (let known = sum_by-append (λ (x : Area). x.live) areas (b ∷ []) in
+      omega (arith, heap.kept.lives, known, sum_by-cons (λ (x : Area). x.live) b [], free.live))
+      (let known = sum_by-append (λ (x : Area). x.count) areas (b ∷ []) in
+      omega (arith, heap.kept.counts, known, sum_by-cons (λ (x : Area). x.count) b [], free.count))
       (same_objects
       _ (same_maps (λ q. get-objects list q ∙ reads_push areas b (λ o. placed_in o (q % 256)) (q / 256)
       (ap (option_map placed_of) (absent (contents b) (q % 256) (bare (q % 256))))

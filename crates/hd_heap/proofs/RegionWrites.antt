@@ -178,8 +178,7 @@ module _ {areas : List Area} {r k : ℕ} {a : Area} (p : IsPlace areas r k a) (b
 
 -- an object of the heap is another one, of the same size
 pub object_written : {areas : List Area} {spares : List ℕ} {limit capacity cells objects holds current : ℕ}
-    {h : Heap}
-    → IsHeap areas spares limit capacity (cells, objects, holds) current h
+    {h : Heap} → IsHeap areas spares limit capacity (cells, objects, holds) current h
     → (at : Addr) {k : ℕ} {a : Area} (b : Area)
     (o : Object) (p : Placed) → placed_of o ≡ p → IsFound areas h at k a → IsArea b
     → IsWritten a b (at.0 % 256) o

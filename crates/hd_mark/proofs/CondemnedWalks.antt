@@ -1,14 +1,7 @@
 -- The walk that gives condemned regions their indices.
-use Rattle.std.proofs.Common.{Bool, ◌≡◌, ◌≢◌, ℕ, ◌-◌, ◌^◌, ◌+◌, ◌/◌, ◌%◌, ◌<◌, ◌≤◌, true, false, List, length, get_or, Option, Some, None, ap, ◌∙◌, arith}
-use Rattle.std.specs.Prelude.{AllPairs, Contains, is_some, map, ⊤}
-use Rattle.std.proofs.lemmas.Bool.{ltb-true}
-use Rattle.std.proofs.lemmas.List.{get_or-map, length-map}
-use Rattle.hd_model.specs.declared.data.Addr.{Addr}
-use Rattle.hd_model.specs.Heap.{Heap, region_of, region_generation, has_object}
-use Rattle.hd_heap.specs.declared.survey.CondemnedObject.{CondemnedObject}
-use Rattle.hd_heap.specs.Calls.{is_after, is_condemned, surveyed, IsNext, AreSurveyed}
+use Rattle.hd_mark.proofs.Basics.{Addr, AllPairs, AreSurveyed, Bool, CondemnedObject, Contains, Heap, IsNext, IsTable, List, None, Option, Some, ap, arith, false, get_or, get_or-map, has_object, is_after, is_condemned, is_some, length, length-map, ltb-true, map, place_at, region_generation, surveyed, true, ℕ, ⊤, ◌%◌, ◌+◌, ◌-◌, ◌/◌, ◌<◌, ◌^◌, ◌∙◌, ◌≡◌, ◌≢◌, ◌≤◌}
+use Rattle.hd_model.specs.Heap.{region_of}
 use Rattle.hd_heap.specs.Sound.{IsSound}
-use Rattle.hd_mark.specs.Inside.{place_at, IsTable}
 
 -- the number after that of the region of an address; 0 for none
 abbrev pub end_of : Option Addr → ℕ
@@ -65,15 +58,3 @@ last_of (Some a) = a.0
 rises : (after : Option Addr) (at : Addr) → is_after after at ≡ true → 256 ≤ at.0 → last_of after < at.0
 rises None at e high = omega arith
 rises (Some b) at e high = ltb-true b.0 at.0 e
-
--- a walk comes nearer to its end
-pub walk_falls : (h : Heap) → IsSound h → (p : Addr → Bool)
-    → ((a : Addr) → p a ≡ true → has_object h a ≡ true)
-    → (after : Option Addr) (at : Addr) → IsNext p after at → 2 ^ 32 - at.0 < 2 ^ 32 - last_of after
-unfolding region_of
-walk_falls h sound p there after at next =
-    let numbers = sound.numbers (at.0 / 256) (sound.held at (there at next.member)) in
-    let low = numbers.0 in
-    let high = numbers.1 in
-    let more = rises after at next.beyond (omega arith) in
-    omega arith

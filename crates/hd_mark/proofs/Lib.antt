@@ -1,3 +1,4 @@
+pub mod Basics
 pub mod MarkBits
 pub mod UnmarkedCount
 pub mod MarksInvariant

@@ -1,16 +1,9 @@
 -- Bits read as sets of addresses: what a bit more does to them.
-use Rattle.std.proofs.Common.{◌≡◌, ◌≢◌, ℕ, ◌+◌, ◌*◌, ◌/◌, ◌%◌, ◌^◌, ◌<◌, ◌==◌, true, false, ◌||◌, List, length, get_or, set, bit_or, Option, Some, None, inl, inr, refl, sym, ap, ◌∙◌, arith}
-use Rattle.std.specs.Prelude.{IfSome, is_some}
-use Rattle.std.specs.Int.{bit_at}
-use Rattle.std.specs.FinMap.{nat_cmp-IsAntisymmetric}
-use Rattle.std.specs.FinSet.{FinSet, contains, insert, empty, same_set, contains-insert, contains-empty}
-use Rattle.std.specs.Ordering.{nat_cmp}
-use Rattle.std.specs.Cmp.{nat_cmp_total}
-use Rattle.std.proofs.lemmas.Bool.{cases_eq}
-use Rattle.std.proofs.lemmas.List.{get_or-set_same, get_or-set_other}
+use Rattle.hd_mark.proofs.Basics.{FinSet, IfSome, IsTable, List, None, Option, Some, ap, arith, bit_or, cases_eq, contains, contains-empty, contains-insert, empty, false, get_or, get_or-set_other, get_or-set_same, inl, inr, insert, is_set, is_set_in, is_some, length, nat_cmp, place_at, refl, same_set, set, sym, true, ℕ, ◌%◌, ◌*◌, ◌+◌, ◌/◌, ◌<◌, ◌==◌, ◌^◌, ◌||◌, ◌∙◌, ◌≡◌, ◌≢◌}
+use Rattle.std.specs.{Int.bit_at, FinMap.nat_cmp-IsAntisymmetric, Cmp.nat_cmp_total}
 use Rattle.hd_mask.proofs.Bits.{set_same, set_other}
 use Rattle.hd_heap.proofs.IndexedLists.{tied, untied, contains-places_of, get_or-tables}
-use Rattle.hd_mark.specs.Inside.{is_set, is_set_in, place_at, set_of, IsTable}
+use Rattle.hd_mark.specs.Inside.{set_of}
 
 -- ---- one bit
 
@@ -18,8 +11,7 @@ module _ (words : List ℕ) (i word : ℕ) (within : i / 64 < length words)
     (read : word ≡ get_or words (i / 64) 0) where
   pub set_here : is_set (set words (i / 64) (bit_or word (2 ^ (i % 64)))) i ≡ true
   set_here =
-      ap (λ w. bit_at w (i % 64) == 1)
-      (get_or-set_same words (i / 64) (bit_or word (2 ^ (i % 64))) 0 within)
+      ap (λ w. bit_at w (i % 64) == 1) (get_or-set_same words (i / 64) (bit_or word (2 ^ (i % 64))) 0 within)
       ∙ ap (λ b. b == 1) (set_same word (i % 64))
 
   pub set_elsewhere : (k : ℕ) → k ≢ i
@@ -115,6 +107,5 @@ bit_joins places regions words after a bit table some is joins others =
     elsewhere q apart (Some p) here some_p bit_is None there = refl
     elsewhere q apart (Some p) here some_p bit_is (Some r) there = others (r * 256 + q % 256) (λ e.
         let one : r ≡ p = omega (arith, e, bit_is) in
-        let region : q / 256 ≡ a / 256 =
-        table.apart (q / 256) (a / 256) r there (here ∙ ap Some (sym one)) in
+        let region : q / 256 ≡ a / 256 = table.apart (q / 256) (a / 256) r there (here ∙ ap Some (sym one)) in
         apart (omega (arith, e, bit_is, one, region)))

@@ -1,26 +1,9 @@
 -- What is true while a stack is drained, and what it comes to.
-use Rattle.std.proofs.Common.{◌≡◌, ◌≢◌, ℕ, ◌<◌, ◌≤◌, Bool, true, false, ◌||◌, ◌⊎◌, List, [], ◌∷◌, ◌++◌, length, take, drop, Option, Some, None, inl, inr, refl, sym, ap, ◌∙◌, subst, ⊎_elim, arith}
-use Rattle.std.specs.Prelude.{Contains, is_some, if◌then◌else◌}
-use Rattle.std.specs.FinSet.{FinSet, contains, insert, empty, contains-empty}
-use Rattle.std.specs.Ordering.{nat_cmp}
-use Rattle.std.proofs.lemmas.Bool.{cases_eq, cases_lt, both_ways, lt-ltb, le-ltb, le-leb, and_from, or_cases, or_left, or_right}
+use Rattle.hd_mark.proofs.Basics.{Addr, Basis, Bool, Contains, Contains-append_cases, Contains-append_left, Contains-append_right, Contains-push_cases, FinSet, GoesOn, HasClosedFields, HasNoneYet, Heap, IsCondemned, IsField, IsLog, IsNextDone, IsSettledMarks, IsTraced, IsYoungField, List, MarksOf, None, Option, Some, [], advanced, and_from, ap, append-nil, append_assoc, arith, both_ways, cases_eq, cases_lt, contains, contains-empty, drop, empty, false, fields_at, first_in, first_marks, generation_at, generation_in, if◌then◌else◌, inl, inr, insert, is_condemned, is_object, is_older, is_some, later_in, le-leb, le-ltb, length, log_of, lt-ltb, member_cases, nat_cmp, not_in_none, object_at, objects_of, or_cases, or_left, or_right, pairs_none, pinned_also, pinned_in, promoted_in, pushed, refl, same_address, scanned, subst, sym, take, take-append-drop, true, ℕ, ⊎_elim, ◌++◌, ◌<◌, ◌||◌, ◌∙◌, ◌∷◌, ◌≡◌, ◌≢◌, ◌≤◌, ◌⊎◌}
 use Rattle.std.proofs.Math.Seq.{take-append_seam}
-use Rattle.std.proofs.lemmas.List.{append-nil, append_assoc, take-append-drop}
-use Rattle.std.proofs.lemmas.List.Elements.{Contains-append_cases, Contains-append_left, Contains-append_right, Contains-push_cases}
-use Rattle.hd_model.specs.declared.data.Addr.{Addr}
-use Rattle.hd_model.specs.State.{Object}
-use Rattle.hd_model.specs.Heap.{Heap, Basis, object_at, objects_of}
-use Rattle.hd_model.specs.Scene.{is_object, generation_at, generation_in, fields_at, IsField, IsCondemned, IsYoungField}
-use Rattle.hd_model.specs.Leads.{Leads, Grows}
-use Rattle.hd_model.specs.Marking.{Gains}
-use Rattle.hd_model.specs.Names.{HasClosedFields}
-use Rattle.hd_model.proofs.Members.{not_in_none, first_in, later_in, member_cases, pairs_none}
-use Rattle.hd_heap.specs.Calls.{is_condemned}
-use Rattle.hd_mark.specs.Marks.{MarksOf, is_older, log_of, GoesOn, promoted_in, pinned_in, pushed, pinned_also, first_marks, HasNoneYet, IsSettledMarks}
-use Rattle.hd_mark.specs.Steps.{scanned, advanced, IsLog, IsTraced, IsNextDone}
+use Rattle.hd_model.specs.{State.Object, Leads.Leads, Leads.Grows, Marking.Gains}
 use Rattle.hd_mark.proofs.MarkBits.{insert_here, insert_elsewhere, insert_keeps}
 use Rattle.hd_mark.proofs.MarkPush.{Pushes, work, marked_also, pushes_one, scan_pushes, stays, stays_promoted, promoted_how, push_cases}
-use Rattle.hd_heap.proofs.HeapValues.{same_address}
 
 -- ---- older objects
 
@@ -45,16 +28,6 @@ is_young b x e =
 pub young_test : (b : Basis) (x : Addr) → generation_at (objects_of b) x ≤ b.condemned → is_older b x ≡ false
 young_test b x le = le-ltb b.condemned (generation_at (objects_of b) x) le
 
--- an object that is not condemned is older
-pub not_young : (b : Basis) (x : Addr) → is_condemned b.heap b.condemned x ≡ false
-    → is_object (objects_of b) x ≡ true → is_older b x ≡ true
-not_young b x none object =
-    elim (cases_lt b.condemned (generation_at (objects_of b) x)) [
-      | inl less ↦ older_is b x less
-      | inr le ↦ absurd (both_ways _ none
-          (and_from _ _ object (le-leb (generation_at (objects_of b) x) b.condemned le)))
-    ]
-
 -- what has a generation above 0 is an object
 pub old_object : (b : Basis) (x : Addr) → is_older b x ≡ true → is_object (objects_of b) x ≡ true
 old_object b x e = by (objects_of b x) (is_old b x e)
@@ -77,14 +50,12 @@ pub traced_on : (S : Addr → Type 0) (m n : MarksOf) → Pushes S m n
     → ((x : Addr) → S x → is_object (objects_of m.basis) x ≡ true) → IsTraced m → IsTraced n
 traced_on S m n p object t = record {
   fields = subst (λ (b : Basis). HasClosedFields (objects_of b)) (sym p.basis) t.fields;
-  marked = λ x h.
-      subst (λ (b : Basis). IsCondemned (objects_of b) b.condemned x) (sym p.basis)
+  marked = λ x h. subst (λ (b : Basis). IsCondemned (objects_of b) b.condemned x) (sym p.basis)
       (⊎_elim (t.marked x)
       (λ (new : S x × (Contains n.unscanned x × (is_older m.basis x ≡ false))).
       record { object = object x new.0; young = is_young m.basis x new.1.1 }) (p.only x h));
   log = p.log t.log;
-  scanned = λ x h.
-      ⊎_elim
+  scanned = λ x h. ⊎_elim
       (λ old. ⊎_elim (λ on. inl (stays S m n p x on))
       (λ (done : (y : Addr) → IsField (objects_of m.basis) x y → promoted_in m y ≡ true).
       inr (λ y f. stays_promoted S m n p y
@@ -110,8 +81,7 @@ advance_traced m next t = record {
   fields = t.fields;
   marked = t.marked;
   log = subst (IsLog m.marks) (sym (same_log m)) t.log;
-  scanned = λ x h.
-      ⊎_elim
+  scanned = λ x h. ⊎_elim
       (λ on. ⊎_elim
       (λ (e : next.next ≡ x). inr (λ y f. next.done y (subst (λ z. IsField (objects_of m.basis) z y) (sym e)
       f)))
@@ -170,8 +140,7 @@ module _ (m n : MarksOf) (d : IsDraining m n) (t : IsTraced n) (x : Addr) (rest 
   abbrev Start : Addr → Type 0
   Start y = IsField (objects_of n.basis) x y
 
-  scan : Pushes Start n after
-      × ((y : Addr) → IsField (objects_of n.basis) x y → promoted_in after y ≡ true)
+  scan : Pushes Start n after × ((y : Addr) → IsField (objects_of n.basis) x y → promoted_in after y ≡ true)
   scan = scan_pushes Start (fields_at (objects_of n.basis) x) n (λ y h. (h, t.fields x y h))
 
   after_top : after.unscanned ≡ x ∷ (rest ++ scan.0.more)
@@ -196,8 +165,7 @@ module _ (m n : MarksOf) (d : IsDraining m n) (t : IsTraced n) (x : Addr) (rest 
 
   after_only : (z : Addr) → promoted_in after z ≡ true → (promoted_in m z ≡ true) ⊎ IsLed m z
   after_only z h =
-      ⊎_elim
-      (λ older. d.only z (or_left _ _ (ap (λ (b : Basis). is_older b z) (sym scan.0.basis) ∙ older)))
+      ⊎_elim (λ older. d.only z (or_left _ _ (ap (λ (b : Basis). is_older b z) (sym scan.0.basis) ∙ older)))
       (λ marked. ⊎_elim (λ old. d.only z (or_right (is_older n.basis z) _ old))
       (λ (new : Start z × (Contains after.unscanned z × (is_older n.basis z ≡ false))). inr (named z new.0))
       (scan.0.only z marked)) (promoted_how after z h)
@@ -208,8 +176,7 @@ module _ (m n : MarksOf) (d : IsDraining m n) (t : IsTraced n) (x : Addr) (rest 
     pins = scan.0.pins ∙ d.pins;
     keeps = λ z h. stays_promoted Start n after scan.0 z (d.keeps z h);
     only = after_only;
-    led = λ z h.
-        ⊎_elim (λ old. d.led z (subst (λ xs. Contains xs z) (sym top) (later_in x rest z old)))
+    led = λ z h. ⊎_elim (λ old. d.led z (subst (λ xs. Contains xs z) (sym top) (later_in x rest z old)))
         (λ new. named z (scan.0.each z new))
         (Contains-append_cases rest scan.0.more z
         (subst (λ xs. Contains xs z) (ap (drop 1) after_top) h));
@@ -346,10 +313,7 @@ promote_grows m q a s = push_cases Follows m a old new
     Follows : MarksOf → Type 0
     Follows n =
         Grows (IsYoungField (objects_of n.basis) n.basis.condemned) (λ x. Contains n.unscanned x)
-        (promoted_in n)
-        q
-        → Grows (YoungEdge m) (λ x. x ≡ a) (promoted_in m)
-        q
+        (promoted_in n) q → Grows (YoungEdge m) (λ x. x ≡ a) (promoted_in m) q
 
     none : (r : Addr) → Contains m.unscanned r → ⊥
     none r h = not_in_none r (subst (λ (xs : List Addr). Contains xs r) s.empty h)

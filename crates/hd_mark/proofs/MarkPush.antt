@@ -1,25 +1,11 @@
 -- What pushes do to marks.
-use Rattle.std.proofs.Common.{◌≡◌, ◌≢◌, ℕ, ◌+◌, ◌≤◌, Bool, true, false, ◌⊎◌, List, [], ◌∷◌, ◌++◌, length, Option, Some, None, inl, inr, refl, sym, ap, ◌∙◌, subst, ⊎_elim, arith, length-append}
-use Rattle.std.specs.Prelude.{Contains, IsSome, if◌then◌else◌}
-use Rattle.std.specs.FinMap as map
-use Rattle.std.specs.FinSet.{FinSet, contains, insert}
-use Rattle.std.specs.Ordering.{nat_cmp}
-use Rattle.std.proofs.lemmas.Bool.{both_ways, cases_eq, or_cases, or_left, or_right, or_parts}
-use Rattle.std.proofs.lemmas.List.{append-nil, append_assoc}
-use Rattle.std.proofs.lemmas.List.Elements.{Contains-append_cases, Contains-append_left, Contains-push, Contains-push_cases}
-use Rattle.hd_model.specs.declared.data.Addr.{Addr}
-use Rattle.hd_model.specs.Heap.{Heap, Basis, objects_of}
-use Rattle.hd_model.specs.Scene.{is_object}
+use Rattle.hd_mark.proofs.Basics.{Addr, Basis, Bool, Contains, Contains-append_cases, Contains-append_left, Contains-push, Contains-push_cases, FinSet, Heap, IsLog, IsSome, List, MarksOf, None, Option, Some, [], ap, append-nil, append_assoc, arith, both_ways, cases_eq, contains, false, first_in, if◌then◌else◌, inl, inr, insert, is_object, is_older, later_in, left, length, length-append, log_of, member_cases, nat_cmp, not_in_none, objects_of, or_cases, or_left, or_parts, or_right, pairs_append, pairs_cons, pairs_none, promoted_in, pushed, refl, same_address, scanned, subst, sym, true, ℕ, ⊎_elim, ◌++◌, ◌+◌, ◌∙◌, ◌∷◌, ◌≡◌, ◌≢◌, ◌≤◌, ◌⊎◌}
 use Rattle.hd_model.specs.Counting.{Counts}
-use Rattle.hd_model.proofs.Entries.{counts_keys}
-use Rattle.hd_model.proofs.Members.{not_in_none, first_in, later_in, member_cases, pairs_append, pairs_cons, pairs_none}
+use Rattle.hd_model.proofs.MapEntries.{counts_keys}
 use Rattle.hd_heap.proofs.RegionReads.{has-get}
-use Rattle.hd_mark.specs.Inside.{left}
-use Rattle.hd_mark.specs.Marks.{MarksOf, is_older, log_of, promoted_in, pushed}
-use Rattle.hd_mark.specs.Steps.{IsLog, scanned}
 use Rattle.hd_mark.proofs.MarkBits.{insert_here, insert_elsewhere, insert_keeps}
 use Rattle.hd_mark.proofs.UnmarkedCount.{left_falls}
-use Rattle.hd_heap.proofs.HeapValues.{same_address}
+use Rattle.std.specs.FinMap as map
 
 -- what is promoted is older or marked
 pub promoted_how : (m : MarksOf) (x : Addr) → promoted_in m x ≡ true

@@ -1,22 +1,10 @@
 -- What marks keep of their bits and their log.
-use Rattle.std.proofs.Common.{get_or, ◌≡◌, ◌≢◌, ℕ, ◌+◌, ◌*◌, ◌%◌, ◌<◌, ◌≤◌, true, false, ◌||◌, List, [], ◌∷◌, ◌++◌, length, take, drop, Option, Some, None, refl, sym, ap, ◌∙◌, subst, length-append, arith}
-use Rattle.std.specs.Prelude.{IfSome, is_some, option_map, if◌then◌else◌}
-use Rattle.std.specs.FinSet.{FinSet, contains, empty, insert}
-use Rattle.std.specs.Ordering.{nat_cmp}
-use Rattle.std.proofs.lemmas.Bool.{leb-true, and_parts, or_parts}
-use Rattle.std.proofs.lemmas.List.{drop-append-le, drop_more, length-drop, take-append-drop, take-append-le, take_more}
-use Rattle.hd_model.specs.declared.data.Addr.{Addr}
-use Rattle.hd_model.specs.Heap.{Heap, Basis, region_of, offset_of, objects_of}
-use Rattle.hd_model.specs.Scene.{is_object}
-use Rattle.hd_heap.specs.Calls.{is_condemned}
+use Rattle.hd_mark.proofs.Basics.{Addr, AreMarks, Basis, FinSet, Heap, IfSome, IsNextDone, IsTraced, List, MarksOf, None, Option, Some, [], advanced, and_parts, ap, arith, bit_of, contains, drop, drop-append-le, drop_more, empty, false, first_marks, get_or, if◌then◌else◌, insert, is_condemned, is_object, is_older, is_set, is_some, leb-true, left, length, length-append, length-drop, log_of, nat_cmp, objects_of, offset_of, option_map, or_parts, pinned_also, pinned_in, place_at, promoted_in, pushed, refl, seen, set_of, subst, sym, take, take-append-drop, take-append-le, take_more, true, ℕ, ◌%◌, ◌*◌, ◌++◌, ◌+◌, ◌<◌, ◌||◌, ◌∙◌, ◌∷◌, ◌≡◌, ◌≢◌, ◌≤◌}
+use Rattle.hd_model.specs.Heap.{region_of}
 use Rattle.hd_mark.specs.declared.places.Places.{Places}
-use Rattle.hd_mark.specs.Inside.{is_set, place_at, bit_of, set_of, left, seen, AreMarks}
-use Rattle.hd_mark.specs.Marks.{MarksOf, first_marks, is_older, log_of, promoted_in, pinned_in, pushed, pinned_also}
-use Rattle.hd_mark.specs.Steps.{advanced, IsNextDone, IsTraced}
 use Rattle.hd_mark.proofs.MarkBits.{bit_read, bit_joins, set_of_none}
-use Rattle.hd_mark.proofs.UnmarkedCount.{left_falls}
-use Rattle.hd_mark.proofs.MarkPush.{marked_also}
-use Rattle.hd_mark.proofs.MarkDrain.{young_test, not_young, advance_traced, push_traced, pin_traced}
+use Rattle.hd_mark.proofs.{UnmarkedCount.left_falls, MarkPush.marked_also}
+use Rattle.hd_mark.proofs.MarkDrain.{young_test, advance_traced, push_traced, pin_traced}
 
 -- no bit is set at first, and nothing is logged
 pub first_seen : (h : Heap) (n : ℕ) (places : List (Option ℕ)) (marks pins : List ℕ) (log : List Addr)
@@ -57,35 +45,12 @@ module _ {b : Basis} {p : Places} {marks pins : List ℕ} {log : List Addr} {nex
     traced = traced;
   }
 
-  -- the log, and the next object to scan, if one is left
-  pub log_seen : log_of m ≡ log
-  log_seen = sym (ap log_of view) ∙ take-append-drop next log
-
-  pub none_seen : length log ≤ next → m.unscanned ≡ []
-  none_seen le = sym (ap (λ (k : MarksOf). k.unscanned) view) ∙ nothing (drop next log) (omega (
-    arith,
-    le,
-    length-drop next log,
-  ))
-    where
-      nothing : (xs : List Addr) → length xs ≡ 0 → xs ≡ []
-      nothing [] e = refl
-      nothing (x ∷ xs) e = absurd (omega arith)
-
-  pub next_seen : (d : Addr) → next < length log → m.unscanned ≡ get_or log next d ∷ drop 1 m.unscanned
-  next_seen d more =
-      subst (λ (k : MarksOf). k.unscanned ≡ get_or log next d ∷ drop 1 k.unscanned) view
-      (drop_more log next d more
-      ∙ sym (ap (λ xs. get_or log next d ∷ drop 1 xs) (drop_more log next d more)))
-
   -- one more was scanned
   module _ (done : IsNextDone m) where
     pub next_within : next < length log
-    next_within = omega (
-      arith,
-      length-drop next log,
-      ap length (ap (λ (k : MarksOf). k.unscanned) view ∙ done.unscanned_is),
-    )
+    next_within =
+        let known = ap length (ap (λ (k : MarksOf). k.unscanned) view ∙ done.unscanned_is) in
+        omega (arith, length-drop next log, known)
 
     pub advance_seen : seen b places marks pins log (next + 1) ≡ advanced m
     advance_seen =
@@ -106,17 +71,6 @@ module _ {b : Basis} {p : Places} {marks pins : List ℕ} {log : List Addr} {nex
     covered : is_some (place_at places (region_of at)) ≡ is_condemned b.heap b.condemned at
     covered =
         t.covers at (subst (λ (k : MarksOf). is_object (objects_of k.basis) at ≡ true) (sym view) object)
-
-    -- what has no bit is older
-    pub older_read : bit_of places at ≡ None → is_older m.basis at ≡ true
-    older_read none =
-        subst (λ (k : MarksOf). is_older k.basis at ≡ true) view
-        (not_young b at (sym covered ∙ no_place (place_at places (region_of at)) none)
-        (subst (λ (k : MarksOf). is_object (objects_of k.basis) at ≡ true) (sym view) object))
-      where
-        no_place : (o : Option ℕ) → option_map (λ p. p * 256 + offset_of at) o ≡ None → is_some o ≡ false
-        no_place None e = refl
-        no_place (Some p) e = absurd (cc e)
 
     module _ (bit : ℕ) (is : bit_of places at ≡ Some bit) where
       has_place : is_some (place_at places (region_of at)) ≡ true

@@ -1,12 +1,6 @@
 -- How many addresses are left that are not in a set, as it grows.
-use Rattle.std.proofs.Common.{◌≡◌, ◌≢◌, ℕ, ◌+◌, ◌≤◌, Bool, true, false, not, cond, List, [], ◌∷◌, length, filter, sym, subst, ⊎_elim, arith}
-use Rattle.std.specs.Prelude.{AllPairs, Contains}
-use Rattle.std.specs.FinSet.{FinSet, contains, insert}
-use Rattle.std.specs.Ordering.{nat_cmp}
-use Rattle.std.proofs.lemmas.Bool.{both_ways, cases_Bool, not-true, not_from_false}
-use Rattle.hd_model.proofs.Members.{member_cases, pairs_cons, pairs_passing, passing_from, passing_in}
+use Rattle.hd_mark.proofs.Basics.{AllPairs, Bool, Contains, FinSet, List, [], arith, both_ways, cases_Bool, cond, contains, false, filter, insert, left, length, member_cases, nat_cmp, not, not-true, not_from_false, pairs_cons, pairs_passing, passing_from, passing_in, subst, sym, true, ℕ, ⊎_elim, ◌+◌, ◌∷◌, ◌≡◌, ◌≢◌, ◌≤◌}
 use Rattle.hd_model.proofs.PropertyCounts.{fewer}
-use Rattle.hd_mark.specs.Inside.{left}
 use Rattle.hd_mark.proofs.MarkBits.{insert_here, insert_keeps}
 
 -- an address joins that was left

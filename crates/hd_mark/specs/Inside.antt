@@ -1,18 +1,11 @@
 -- No public clause needs what is defined here: how marks and pins are stored in bits, and what is always true
 -- of the fields of marks.
 use Rattle.std.specs.Prelude.{◌≡◌, ◌≢◌, ℕ, ◌+◌, ◌*◌, ◌/◌, ◌%◌, ◌<◌, ◌≤◌, ◌==◌, not, Bool, true, false, List, length, filter, take, drop, slice_index, slice_index_or, AllPairs, Contains, Option, Some, None, is_some, option_map}
-use Rattle.std.specs.Int.{bit_at}
-use Rattle.std.specs.FinSet.{FinSet, contains}
-use Rattle.std.specs.Ordering.{nat_cmp}
-use Rattle.hd_model.specs.declared.limits.TheConstants.{REGION, REGIONS}
-use Rattle.hd_model.specs.declared.data.Addr.{Addr}
+use Rattle.std.specs.{Int.bit_at, FinSet.FinSet, FinSet.contains, Ordering.nat_cmp}
+use Rattle.hd_model.specs.{declared.limits.TheConstants.REGION, declared.limits.TheConstants.REGIONS, declared.data.Addr.Addr}
 use Rattle.hd_model.specs.Heap.{Heap, Basis, region_of, offset_of, has_object}
-use Rattle.hd_heap.specs.Calls.{is_condemned}
-use Rattle.hd_heap.specs.Places.{places_of, tables}
-use Rattle.hd_mark.specs.declared.bits.TheConstants.{BITS, WORDS}
-use Rattle.hd_mark.specs.declared.places.Places.{Places}
-use Rattle.hd_mark.specs.Marks.{MarksOf}
-use Rattle.hd_mark.specs.Steps.{IsTraced}
+use Rattle.hd_heap.specs.{Calls.is_condemned, Places.places_of, Places.tables}
+use Rattle.hd_mark.specs.{declared.bits.TheConstants.BITS, declared.bits.TheConstants.WORDS, declared.places.Places.Places, Marks.MarksOf, Steps.IsTraced}
 
 -- whether the bit of a number is set: number i has bit i % BITS of word i / BITS
 abbrev pub is_set : List ℕ → ℕ → Bool

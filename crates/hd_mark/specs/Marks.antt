@@ -4,11 +4,8 @@ use Rattle.std.specs.Prelude.{◌≡◌, ℕ, ◌||◌, Bool, false, nat_lt, if�
 use Rattle.std.specs.Coded.{Coded, code_by, coded×, coded_ℕ, coded_list}
 use Rattle.std.specs.FinSet as set
 use Rattle.std.specs.Ordering.{nat_cmp}
-use Rattle.hd_model.specs.declared.data.Addr.{Addr}
-use Rattle.hd_model.specs.Scene.{generation_at, IsCondemned}
+use Rattle.hd_model.specs.{declared.data.Addr.Addr, Scene.generation_at, Scene.IsCondemned, Marking.IsSettled, Marking.IsPromotionLog, Code.addr_code, Code.basis_code}
 use Rattle.hd_model.specs.Heap.{Heap, Basis, objects_of}
-use Rattle.hd_model.specs.Marking.{IsSettled, IsPromotionLog}
-use Rattle.hd_model.specs.Code.{addr_code, basis_code}
 
 -- the heap and the condemned generation, the addresses that are marked and pinned, and what is marked, in the
 -- order of the marking: what was scanned, and then what was not

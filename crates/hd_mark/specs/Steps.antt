@@ -1,11 +1,7 @@
 -- No public clause needs what is defined here: how marks grow by the steps of a drain.
 use Rattle.std.specs.Prelude.{◌≡◌, ◌≢◌, ◌⊎◌, true, List, ◌∷◌, ◌++◌, fold, take, drop, Contains, AllPairs, Option, Some, None}
-use Rattle.std.specs.FinSet.{FinSet, contains}
-use Rattle.std.specs.Ordering.{nat_cmp}
-use Rattle.hd_model.specs.declared.data.Addr.{Addr}
-use Rattle.hd_model.specs.Scene.{IsField, IsCondemned}
-use Rattle.hd_model.specs.Heap.{objects_of}
-use Rattle.hd_model.specs.Names.{HasClosedFields}
+use Rattle.std.specs.{FinSet.FinSet, FinSet.contains, Ordering.nat_cmp}
+use Rattle.hd_model.specs.{declared.data.Addr.Addr, Scene.IsField, Scene.IsCondemned, Heap.objects_of, Names.HasClosedFields}
 use Rattle.hd_mark.specs.Marks.{MarksOf, log_of, promoted_in, pushed}
 
 -- what a field references is pushed

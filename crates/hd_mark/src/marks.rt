@@ -1,9 +1,7 @@
 // The marks of one collection, as its phases see them.
 ghost use Rattle.std.specs.Prelude.{◌≡◌, ◌∷◌, [], ℕ, Bool, true, IfOk, MatchOption, Contains, length, take, drop};
-ghost use Rattle.hd_model.specs.Leads.{Grows};
+ghost use Rattle.hd_model.specs.{Leads.Grows, Heap.object_at, Heap.objects_of, Names.HasClosedFields};
 ghost use Rattle.hd_model.specs.Scene.{fields_at, is_object, IsYoungField};
-ghost use Rattle.hd_model.specs.Heap.{object_at, objects_of};
-ghost use Rattle.hd_model.specs.Names.{HasClosedFields};
 ghost use Rattle.hd_heap.specs.Calls.{AreSurveyed};
 ghost use Rattle.hd_mark.specs.Marks.{first_marks, pushed, pinned_also, promoted_in, pinned_in, log_of, GoesOn};
 ghost use Rattle.hd_mark.specs.Marks.{HasNoneYet, IsSettledMarks};
@@ -36,8 +34,7 @@ pub struct Marks<'h> {
 
 impl<'h> Model for Marks<'h> {
     ghost use Rattle.std.specs.Prelude.{vec_capacity};
-    ghost use Rattle.hd_mark.specs.Marks.{MarksOf, marks_code};
-    ghost use Rattle.hd_mark.specs.Inside.{seen, AreMarks};
+    ghost use Rattle.hd_mark.specs.{Marks.MarksOf, Marks.marks_code, Inside.seen, Inside.AreMarks};
 
     ghost Value = { MarksOf };
 

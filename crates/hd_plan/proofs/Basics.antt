@@ -1,6 +1,9 @@
 -- The names that most proofs of this crate cite, passed on from one place.
+pub use Rattle.hd_model.proofs.IdleCollection.{raised_older}
+pub use Rattle.hd_model.proofs.Fates.{young_raised}
+pub use Rattle.std.proofs.lemmas.Option.{same_Some}
 pub use Rattle.std.proofs.Common.{Bool, List, None, Option, Some, T, [], add-one, ap, arith, cond, drop, false, get_or, get_or-set_other, get_or-set_same, inl, inr, length, length-append, length-set, map, min, not, refl, rules, set, subst, suc, sym, take, true, true≢false, vec_capacity, zero, ℕ, ⊎_elim, ◌%◌, ◌&&◌, ◌*◌, ◌++◌, ◌+◌, ◌-◌, ◌/◌, ◌<◌, ◌^◌, ◌||◌, ◌∙◌, ◌∷◌, ◌≡◌, ◌≢◌, ◌≤◌, ◌⊎◌}
-pub use Rattle.std.proofs.lemmas.Bool.{and_from, and_left, and_parts, both_ways, cases_Bool, cases_eq, cases_lt, cases_order, cond-false, cond-true, eq-eqb, eqb-true, false_from_ne_true, false≢true, le-leb, le-ltb, leb-true, lt-ltb, ltb-false, ltb-true, ne_eqb, or_cases, or_left, or_right}
+pub use Rattle.std.proofs.lemmas.Bool.{and_from, and_left, and_parts, both_ways, cases_Bool, cases_eq, cases_lt, cases_order, cond-false, cond-true, eq-eqb, eqb-true, false_from_ne_true, false≢true, le-leb, le-ltb, leb-true, lt-ltb, ltb-false, ltb-true, ne_eqb, not-true, or_cases, or_left, or_right}
 pub use Rattle.std.proofs.lemmas.List.{drop-drop, get_or-drop, get_or-map, get_or-take, get_or_append_left, get_or_at, get_or_default, get_or_read_under, length-drop, length-map, length-take}
 pub use Rattle.std.proofs.lemmas.List.Sums.{length-filter, sum_by-cons, sum_by_push}
 pub use Rattle.std.specs.FinMap.{FinMap, entries, entries_sorted, find, get, get-entries, insert, is_sorted, len, remove, values}
@@ -14,12 +17,12 @@ pub use Rattle.hd_heap.specs.Sound.{IsSound}
 pub use Rattle.hd_heap.specs.declared.survey.CondemnedObject.{CondemnedObject}
 pub use Rattle.hd_heap.specs.declared.survey.Survey.{Survey}
 pub use Rattle.hd_mark.specs.Marks.{IsSettledMarks, promoted_in}
-pub use Rattle.hd_model.proofs.Entries.{counts_keys, found_first, found_later}
+pub use Rattle.hd_model.proofs.MapEntries.{both, counts_keys, found_first, found_later, less}
 pub use Rattle.hd_model.proofs.MemberWeights.{lighter}
 pub use Rattle.hd_model.proofs.Members.{first_in, later_in, mapped_from, mapped_in, member_at, member_cases, member_same, not_in_none, pairs_cons, pairs_first, pairs_none, pairs_passing, pairs_rest, passing_from, passing_in}
 pub use Rattle.hd_model.proofs.PropertyCounts.{counts_le, counts_like, counts_named, counts_where, fewer}
 pub use Rattle.hd_model.proofs.ReadAfterWrite.{get_left, get_removed}
-pub use Rattle.hd_model.proofs.Sums.{share, sum-remove}
+pub use Rattle.hd_model.proofs.Sums.{first_alone, share, sum-remove}
 pub use Rattle.hd_model.specs.Ages.{HasSoundCards, raised}
 pub use Rattle.hd_model.specs.Counting.{Counts}
 pub use Rattle.hd_model.specs.Heap.{Basis, Heap, Placed, Region, card_of, cells_of, has_object, id_in, is_carded, is_in_use, is_set, object_at, object_in, objects_of, placed_at, region_at, region_generation, region_of, used_of}

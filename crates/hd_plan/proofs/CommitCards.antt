@@ -1,9 +1,9 @@
 -- Lemmas on cards that are set and cleared.
-use Rattle.hd_plan.proofs.Basics.{Addr, AreCarded, Bool, Contains, HasClosedFields, Heap, IsExactAt, IsField, IsNext, IsSound, IsWalk, List, MayCard, Move, NamesYounger, NeedsCard, None, Object, Option, Some, and_from, and_left, and_parts, ap, arith, both_ways, cases_eq, cases_lt, eq-eqb, eq_by_cmp, eqb-true, false, false_from_ne_true, fields_in, generation_at, has_object, inl, inr, is_after, is_kept_fate, is_old_carded, is_set, is_some, lt-ltb, ltb-false, ltb-true, move_at, nat_cmp, nat_lt, not, object_at, or_left, refl, same_address, starts_in, subst, sym, true, with_card, ℕ, ◌&&◌, ◌*◌, ◌+◌, ◌-◌, ◌/◌, ◌<◌, ◌^◌, ◌||◌, ◌↔◌, ◌∙◌, ◌≡◌, ◌≢◌, ◌≤◌}
+use Rattle.hd_plan.proofs.Basics.{Addr, AreCarded, Bool, Contains, HasClosedFields, Heap, IsExactAt, IsField, IsNext, IsSound, IsWalk, List, MayCard, Move, NamesYounger, NeedsCard, None, Object, Option, Some, and_from, and_left, and_parts, ap, arith, both_ways, cases_eq, cases_lt, eq-eqb, eq_by_cmp, eqb-true, false, false_from_ne_true, fields_in, generation_at, has_object, inl, inr, is_after, is_kept_fate, is_old_carded, is_set, is_some, lt-ltb, ltb-false, ltb-true, move_at, nat_cmp, nat_lt, not, object_at, or_left, refl, same_Some, same_address, starts_in, subst, sym, true, with_card, ℕ, ◌&&◌, ◌*◌, ◌+◌, ◌-◌, ◌/◌, ◌<◌, ◌^◌, ◌||◌, ◌↔◌, ◌∙◌, ◌≡◌, ◌≢◌, ◌≤◌}
 use Rattle.std.specs.Cmp.{nat_cmp_total}
 use Rattle.hd_model.specs.Heap.{card_of}
 use Rattle.hd_heap.proofs.IndexedLists.{tied, untied}
-use Rattle.hd_plan.proofs.{CondemnedAddresses.some_is, MoveEnds.ends_cases, LayStep.address_low, LayStep.reach_of, LayStep.reach_on}
+use Rattle.hd_plan.proofs.{MoveEnds.ends_cases, LayStep.address_low, LayStep.reach_of, LayStep.reach_on}
 use Rattle.std.specs.FinSet as set_of
 
 module _ (old h new : Heap) (k : ℕ) (on : Bool) (same : h ≡ record old { cards = h.cards })
@@ -112,8 +112,7 @@ next_within h at next is here = record {
 }
 
 pub next_beyond : (h : Heap) (at next : Addr) → IsNext (has_object h) (Some at) next
-    → (next.0 / 32 ≡ at.0 / 32 → ⊥)
-    → (a : Addr) → starts_in h (card_of at) a ≡ true → nat_lt at.0 a.0 ≡ false
+    → (next.0 / 32 ≡ at.0 / 32 → ⊥) → (a : Addr) → starts_in h (card_of at) a ≡ true → nat_lt at.0 a.0 ≡ false
 next_beyond h at next is other a starts = false_from_ne_true (nat_lt at.0 a.0) (λ after.
     let parts = starts_parts h (card_of at) a starts in
     let low = is.least a parts.0 after in
@@ -140,7 +139,7 @@ pub unneeding_starts : (h : Heap) (first : Addr) → has_object h first ≡ true
     → ((b : Addr) → starts_in h (card_of first) b ≡ true → first.0 ≤ b.0)
     → AreUnneeding h (card_of first) (Some first)
 unneeding_starts h first is least = record {
-  here = λ a e. subst (λ (x : Addr). starts_in h (card_of first) x ≡ true) (some_is first a e)
+  here = λ a e. subst (λ (x : Addr). starts_in h (card_of first) x ≡ true) (same_Some first a e)
       (starts_from h (card_of first) first is refl);
   before = λ b starts low needs. (let high = least b starts in absurd (omega arith));
 }
@@ -178,7 +177,7 @@ module _ (h : Heap) (card : ℕ) (place : Option Addr) (at : Addr) (is : place �
         before = λ b starts low n. through b starts (ltb-false at.0 b.0 (w b starts)) n;
       }
       by (Some x) w = record {
-        here = λ a e. subst (λ (y : Addr). starts_in h card y ≡ true) (some_is x a e) w.member;
+        here = λ a e. subst (λ (y : Addr). starts_in h card y ≡ true) (same_Some x a e) w.member;
         before = λ b starts low n. elim (cases_lt at.0 b.0) [
           | inl after ↦ absurd (let high = w.least b starts (lt-ltb at.0 b.0 after) in omega arith)
           | inr up ↦ through b starts up n

@@ -120,8 +120,7 @@ module _ {p : PlanOf} {old h1 h2 h3 : Heap} (c : IsCommitting p old) (m : AreAtP
                       r5.gone k at.0 unpinned a (sym at.1)
                       ∙ sym (none_at h3 a (false_from_ne_true (has_object h3 a) (λ there.
                       none (left_there p old c h1 m.copied h2 m.carded h3 m.stayed a
-                      (condemned_at p.regions k).region there
-                      ((regions_now p old c).condemned k at.0)
+                      (condemned_at p.regions k).region there ((regions_now p old c).condemned k at.0)
                       (λ stay. both_ways _ unpinned (((regions_now p old c).pinned k at.0).1 stay))
                       (sym at.1)))))
                 ]

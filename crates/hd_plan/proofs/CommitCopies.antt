@@ -130,8 +130,7 @@ module _ (place : Addr → Addr) (old h : Heap) (ms : List Move) (i : ℕ) (can 
   region_at_cursor f = let fits = f.room in region_is (move_at ms i).to _ _ f.place (omega arith)
 
   place_now : Followed (room_at old ms i).cursors (move_at ms i).to (move_at ms i).generation
-      (cells_of (placed_at old (move_at ms i).from))
-      → (is_in_use h (region_of (move_at ms i).to) ≡ true)
+      (cells_of (placed_at old (move_at ms i).from)) → (is_in_use h (region_of (move_at ms i).to) ≡ true)
       × ((move_at ms i).to.0 ≡ region_of (move_at ms i).to * 256 +
       (region_at h (region_of (move_at ms i).to)).fill)
       × ((region_at h (region_of (move_at ms i).to)).fill + cells_of (placed_at h (move_at ms i).from) ≤ 256)
@@ -179,12 +178,8 @@ module _ (place : Addr → Addr) (old h : Heap) (ms : List Move) (i : ℕ) (can 
           from_has,
           (can.generations i low).1,
           omega arith,
-          omega (
-            arith,
-            f.free,
-            ap {B = ℕ} (λ (ns : List ℕ). length ns) spare_now,
-            length-drop (room_at old ms i).cursors.opened old.spare,
-          ),
+          (let known = length-drop (room_at old ms i).cursors.opened old.spare in
+              omega (arith, f.free, ap {B = ℕ} (λ (ns : List ℕ). length ns) spare_now, known)),
           apart_from (slice_index h.spare 0) (ap (is_in_use old) first_spare
               ∙ can.sound.spare_free (room_at old ms i).cursors.opened f.free),
           kept_now (each refl),

@@ -1,11 +1,7 @@
 -- The regions and the cards after the moving: what its last steps leave.
-use Rattle.hd_plan.proofs.Basics.{Addr, AreCopied, AreRewritten, HasStay, Heap, IsCondemnedRegion, IsRoom, IsStayedAt, None, Option, PlanOf, Region, Some, ap, arith, both_ways, cases_lt, cond-false, cond-true, condemned_at, drop, false, false_from_ne_true, generation_at, inl, inr, is_in_use, is_moving, is_old_carded, is_staying, kept_in, le-ltb, length, lt-ltb, min, move_at, nat_lt, object_at, place_in, raised, refl, region_at, region_generation, region_of, room_at, subst, sym, true, unwrap_or, ℕ, ◌+◌, ◌<◌, ◌∙◌, ◌≡◌, ◌≤◌}
+use Rattle.hd_plan.proofs.Basics.{Addr, AreCopied, AreRewritten, HasStay, Heap, IsCondemnedRegion, IsRoom, IsStayedAt, None, Option, PlanOf, Region, Some, ap, arith, both_ways, cases_lt, cond-false, condemned_at, drop, false, false_from_ne_true, generation_at, inl, inr, is_in_use, is_moving, is_old_carded, is_staying, kept_in, le-ltb, length, min, move_at, nat_lt, object_at, place_in, raised, raised_older, refl, region_at, region_generation, region_of, room_at, subst, sym, true, unwrap_or, ℕ, ◌+◌, ◌<◌, ◌∙◌, ◌≡◌, ◌≤◌}
 use Rattle.hd_plan.proofs.{CondemnedAddresses.generation_is, KeptMoves.moving_or_staying, KeptMoves.all_put, CommitShape.AreRemoved, CommitShape.AreSettled, CommitShape.IsCommitting, CommitShape.moves_now, CommitShape.regions_now, CommitImage.kept_by, CommitImage.place_older, CommitImage.place_move, CommitImage.kept_object, CommitImage.from_condemned, CommitImage.stays_there, CommitImage.to_put}
 use Rattle.std.specs.FinMap as fin
-
--- the generation of what is not condemned stays, and no generation falls
-pub raised_older : (n g : ℕ) → n < g → raised n g ≡ g
-raised_older n g older = cond-true (nat_lt n g) g (min (g + 1) 2) (lt-ltb n g older)
 
 pub raised_above : (n g : ℕ) → g ≤ 2 → g ≤ raised n g
 raised_above n g low = elim (cases_lt n g) [

@@ -196,8 +196,7 @@ module _ (p : PlanOf) (old : Heap) (c : IsCommitting p old) where
       pub from_second : (k : ℕ) → k < length p.moves → has_object h2 (move_at p.moves k).from ≡ true
       from_second k within =
           has_alike old h2 (move_at p.moves k).from
-          (young_same (move_at p.moves k).from (from_condemned k within))
-          ∙ (from_condemned k within).object
+          (young_same (move_at p.moves k).from (from_condemned k within)) ∙ (from_condemned k within).object
 
       pub stayed_fields : (k : ℕ) → k < length p.moves → is_staying (move_at p.moves k).fate ≡ true
           → (y : Addr) → IsField (object_at h2) (move_at p.moves k).from y → kept_in p y ≡ true
@@ -379,7 +378,6 @@ module _ (p : PlanOf) (old : Heap) (c : IsCommitting p old) where
                 (move_at p.moves k).from,
                 (
                   kept_move k within (fate_stays _ stays),
-                  place_move k within
-                      ∙ stays_there k within (fate_rests _ stays) ∙ from,
+                  place_move k within ∙ stays_there k within (fate_rests _ stays) ∙ from,
                 ),
               )

@@ -31,8 +31,7 @@ module _ (here : ℕ → Bool) (old h : Heap) (ms : List Move) (i : ℕ) (r : Ar
       let gone : (a : Addr) → a.0 ≡ at.0 → fin.get new.objects a.0 ≡ None =
       λ a e. ap (λ (x : Heap). fin.get x.objects a.0) step.removed ∙ get_gone h.objects at.0 a.0 e in
       let beside : (a : Addr) → a.0 ≢ at.0 → fin.get new.objects a.0 ≡ fin.get h.objects a.0 =
-      λ a apart. ap (λ (x : Heap). fin.get x.objects a.0) step.removed
-      ∙ get_left h.objects at.0 a.0 apart in
+      λ a apart. ap (λ (x : Heap). fin.get x.objects a.0) step.removed ∙ get_left h.objects at.0 a.0 apart in
       record {
         gone = λ a e o. elim (cases_eq a.0 at.0) [
           | inl same ↦ gone a same
@@ -112,8 +111,7 @@ module _ (old h : Heap) (cs : List Condemned) (i : ℕ) (low : i < length cs) (r
       objects = new.objects;
       regions = new.regions;
       spare = new.spare;
-      cards =
-          new.cards;
+      cards = new.cards;
     }
 
   settled_on : (new : Heap) (g : Option Region) → LeavesRegion new g → AreGivenUp old new cs (i + 1)

@@ -1,6 +1,6 @@
 -- The heap after the moving.
-use Rattle.hd_plan.proofs.Basics.{Addr, AreCarded, ArePut, ChangesRegions, Commits, Contains, HasClosedFields, HasNoEmptyRegion, HasSoundCards, HasStay, Heap, IsCondemnedRegion, IsField, IsKeptAt, IsPacked, List, NamesYounger, NeedsCard, None, Option, Placed, PlanOf, Region, Some, [], and_from, and_parts, ap, arith, both_ways, card_of, cases_Bool, cases_lt, cells_of, condemned_at, false, false_from_ne_true, fields_at, fields_in, fields_placed, forwarded, generation_at, has_object, has_region, id_in, inl, inr, is_carded, is_in_use, is_kept_fate, is_moving, is_older_region, is_set, is_some, kept_in, length, length-map, lt-ltb, ltb-false, ltb-true, map, mapped_from, may_card, member_same, move_at, moved_object, nat_lt, object_at, object_in, option_map, place_in, placed_at, raised, refl, region_at, region_generation, region_of, room_at, same_address, share, stays_in, subst, sym, true, unwrap_or, used_of, ℕ, ◌&&◌, ◌+◌, ◌<◌, ◌↔◌, ◌∙◌, ◌≡◌, ◌≤◌}
-use Rattle.hd_plan.proofs.{CondemnedAddresses.some_is, CondemnedAddresses.generation_is, CommitCards.has_from, CommitCards.names_back, CommitTotals.sum-coming, KeptMoves.all_put, KeptMoves.moving_kept, KeptMoves.fate_stays, KeptMoves.fate_rests, PackedRegions.IsTaken, PackedRegions.packed, PackedRegions.compact, CommitCopies.get_placed, CommitCopies.has_got, CommitCopies.has_alike, CommitShape.AreSettled, CommitShape.IsCommitting, CommitShape.moves_now, CommitShape.regions_now, CommitShape.closed_now, CommitImage.kept_by, CommitImage.kept_older, CommitImage.place_older, CommitImage.kept_move, CommitImage.place_move, CommitImage.kept_object, CommitImage.from_condemned, CommitImage.stays_there, CommitImage.image_at, CommitImage.image_only, CommitGenerations.AreMoved, CommitGenerations.places_same, CommitGenerations.raised_above, CommitGenerations.raised_some, CommitGenerations.raised_older, CommitGenerations.place_generation, CommitGenerations.regions_room, CommitGenerations.region_kept, CommitGenerations.region_older, CommitGenerations.region_raised, CommitGenerations.region_given_up}
+use Rattle.hd_plan.proofs.Basics.{Addr, AreCarded, ArePut, ChangesRegions, Commits, Contains, HasClosedFields, HasNoEmptyRegion, HasSoundCards, HasStay, Heap, IsCondemnedRegion, IsField, IsKeptAt, IsPacked, List, NamesYounger, NeedsCard, None, Option, Placed, PlanOf, Region, Some, [], and_from, and_parts, ap, arith, both_ways, card_of, cases_Bool, cases_lt, cells_of, condemned_at, false, false_from_ne_true, fields_at, fields_in, fields_placed, forwarded, generation_at, has_object, has_region, id_in, inl, inr, is_carded, is_in_use, is_kept_fate, is_moving, is_older_region, is_set, is_some, kept_in, length, length-map, lt-ltb, ltb-false, ltb-true, map, mapped_from, may_card, member_same, move_at, moved_object, nat_lt, object_at, object_in, option_map, place_in, placed_at, raised, raised_older, refl, region_at, region_generation, region_of, room_at, same_Some, same_address, share, stays_in, subst, sym, true, unwrap_or, used_of, ℕ, ◌&&◌, ◌+◌, ◌<◌, ◌↔◌, ◌∙◌, ◌≡◌, ◌≤◌}
+use Rattle.hd_plan.proofs.{CondemnedAddresses.generation_is, CommitCards.has_from, CommitCards.names_back, CommitTotals.sum-coming, KeptMoves.all_put, KeptMoves.moving_kept, KeptMoves.fate_stays, KeptMoves.fate_rests, PackedRegions.IsTaken, PackedRegions.packed, PackedRegions.compact, CommitCopies.get_placed, CommitCopies.has_got, CommitCopies.has_alike, CommitShape.AreSettled, CommitShape.IsCommitting, CommitShape.moves_now, CommitShape.regions_now, CommitShape.closed_now, CommitImage.kept_by, CommitImage.kept_older, CommitImage.place_older, CommitImage.kept_move, CommitImage.place_move, CommitImage.kept_object, CommitImage.from_condemned, CommitImage.stays_there, CommitImage.image_at, CommitImage.image_only, CommitGenerations.AreMoved, CommitGenerations.places_same, CommitGenerations.raised_above, CommitGenerations.raised_some, CommitGenerations.place_generation, CommitGenerations.regions_room, CommitGenerations.region_kept, CommitGenerations.region_older, CommitGenerations.region_raised, CommitGenerations.region_given_up}
 use Rattle.std.specs.FinMap as fin
 
 -- a field that was rewritten
@@ -15,7 +15,7 @@ renamed place fs y field = let f = mapped_from (option_map place) fs (Some y) fi
   where
     by : (o : Option Addr) → Contains fs o → option_map place o ≡ Some y → IsRenamed place fs y
     by None f e = absurd (cc e)
-    by (Some z) f e = record { was = z; field = f; is = some_is (place z) y e }
+    by (Some z) f e = record { was = z; field = f; is = same_Some (place z) y e }
 
 fields_of_rewritten : (place : Addr → Addr) (g f : ℕ) (o : Option Placed)
     → fields_in (option_map (object_in g) (option_map (forwarded place) o)) ≡ map (option_map place)
@@ -91,8 +91,7 @@ module _ (p : PlanOf) (old h1 h2 h3 h4 : Heap) (m : AreMoved p old h1 h2 h3 h4) 
     pub ending_generation : (a : Addr) → kept_in p a ≡ true
         → generation_at (object_at h6) (place_in p a) ≡ raised p.basis.condemned
         (generation_at (object_at old) a)
-    ending_generation a kept = generation_is h6 (place_in p a) (ending_object a kept)
-        ∙ ending_region a kept
+    ending_generation a kept = generation_is h6 (place_in p a) (ending_object a kept) ∙ ending_region a kept
 
     pub ending_grown : (b : Addr) → has_object h6 b ≡ true → 0 < generation_at (object_at h6) b
     ending_grown b there =
@@ -124,8 +123,7 @@ module _ (p : PlanOf) (old h1 h2 h3 h4 : Heap) (m : AreMoved p old h1 h2 h3 h4) 
 
     -- what may need no card references no younger object: its generation is the youngest, or it has no field
     pub ending_spared : (k : ℕ) → k < length p.moves → may_card (move_at p.moves k) ≡ false
-        → is_kept_fate (move_at p.moves k).fate ≡ true
-        → NamesYounger h6 (move_at p.moves k).to → ⊥
+        → is_kept_fate (move_at p.moves k).fate ≡ true → NamesYounger h6 (move_at p.moves k).to → ⊥
     ending_spared k within spared kept names =
         let m = move_at p.moves k in
         let from_kept = kept_move p old c k within kept in
@@ -179,8 +177,7 @@ module _ (p : PlanOf) (old h1 h2 h3 h4 : Heap) (m : AreMoved p old h1 h2 h3 h4) 
               let most = c.sound.generations (region_of f.was)
               (c.sound.held f.was (kept_object p old c f.was kept)) in omega arith) in
               let above = raised_above p.basis.condemned (generation_at (object_at old) f.was) fits in
-              ap (is_carded h6) here
-              ∙ carded_still a (sym (ap (has_object h6) here) ∙ there)
+              ap (is_carded h6) here ∙ carded_still a (sym (ap (has_object h6) here) ∙ there)
               (c.cards a f.was f.field (omega arith))
           | inr (k, by) ↦
               let to : (move_at p.moves k).to ≡ x =
@@ -321,7 +318,7 @@ module _ (p : PlanOf) (old h1 h2 h3 h4 : Heap) (m : AreMoved p old h1 h2 h3 h4) 
         sym (ending_at h7 same7 a is.0 ∙ ap (option_map (forwarded (place_in p))) there)
         ∙ ap (λ (x : Addr). fin.get h7.objects x.0) is.1 ∙ got in
         let cells : cells_of (forwarded (place_in p) (placed_at old a)) ≡ cells_of v =
-        ap cells_of (some_is _ _ now) in
+        ap cells_of (same_Some _ _ now) in
         let long = length-map (placed_at old a).fields (option_map (place_in p)) in
         let comes : ComesFrom q a.0 =
         record { was = a; number = refl; place = ap (λ (x : Addr). x.0) is.1 } in
@@ -355,15 +352,12 @@ module _ (p : PlanOf) (old h1 h2 h3 h4 : Heap) (m : AreMoved p old h1 h2 h3 h4) 
         packed old c.sound p.basis.condemned p.moves (moves_now p old c) h7
         (λ r is.
         let both = and_parts _ _ is in changes.older r both.0 (ltb-true _ _ both.1))
-        moved_there
-        held_taken
+        moved_there held_taken
 
     pub ended : ((card : ℕ) → (is_set h7 card ≡ true) ↔ NeedsCard h7 card) → Commits p old h7
     ended exact = record {
-      objects = λ a kept.
-          ap (option_map (object_in (region_generation h7 (region_of (place_in p a)))))
-          (ending_at h7 same7 a kept)
-          ∙ object_of_rewritten (place_in p) p.basis.condemned
+      objects = λ a kept. ap (option_map (object_in (region_generation h7 (region_of (place_in p a)))))
+          (ending_at h7 same7 a kept) ∙ object_of_rewritten (place_in p) p.basis.condemned
           (region_generation h7 (region_of (place_in p a))) (region_generation old (region_of a))
           (fin.get old.objects a.0)
           (ending_region h7 same7 a kept

@@ -51,8 +51,7 @@ module _ (Those : Addr → Type 0) (place : Addr
         ];
         others = λ a none. beside a (λ same. none (subst Next (sym (same_address a x same)) joins))
             ∙ r.others a (λ those. none (keeps a those));
-        same = step ∙ ap (λ (k : Heap). with_object k x p) r.same
-            ∙ ap (λ os. record old { objects = os })
+        same = step ∙ ap (λ (k : Heap). with_object k x p) r.same ∙ ap (λ os. record old { objects = os })
             (ap (λ os. map_of.insert os x.0 p) refl ∙ sym (ap (λ (k : Heap). k.objects) step));
       }
 
@@ -97,8 +96,7 @@ module _ (place : Addr
         → AreRewritten (IsCardedTo old n (Some at)) place old new
     carded_next new step =
         rewritten_more (IsCardedTo old n after) place old h r (IsCardedTo old n (Some at)) new at step
-        (sym (carded_has at) ∙ carded_there) fresh
-        (was_carded, le-ltb at.0 at.0 (omega arith))
+        (sym (carded_has at) ∙ carded_there) fresh (was_carded, le-ltb at.0 at.0 (omega arith))
         (λ a t. (t.0, le-ltb at.0 a.0 (let low = after_past after at found.beyond a t.1 in omega arith)))
         (λ a t. elim (reached_cases (is_old_carded h n) after at a found (carded_same a ∙ t.0) t.1) [
           | inl early ↦ inl (t.0, early)

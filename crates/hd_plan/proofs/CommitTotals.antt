@@ -1,22 +1,7 @@
 -- A map whose values map one to one to values of another that are no smaller has no more in all.
-use Rattle.hd_plan.proofs.Basics.{Bool, FinMap, List, None, Some, T, [], ap, arith, entries, entries_sorted, false, find, found_first, found_later, get, get-entries, get_left, is_lt, is_sorted, map, nat_cmp, refl, remove, share, subst, sum-remove, sum_by, sum_by-cons, sym, true, values, ℕ, ◌&&◌, ◌<◌, ◌∙◌, ◌∷◌, ◌≡◌, ◌≢◌, ◌≤◌}
+use Rattle.hd_plan.proofs.Basics.{FinMap, List, Some, T, [], ap, arith, both, entries, entries_sorted, find, first_alone, found_first, found_later, get, get-entries, get_left, is_sorted, map, nat_cmp, refl, remove, share, subst, sum-remove, sum_by, sum_by-cons, sym, values, ℕ, ◌∙◌, ◌∷◌, ◌≡◌, ◌≢◌, ◌≤◌}
 use Rattle.std.specs.FinMap.Entries.{below_all}
 use Rattle.std.proofs.{lemmas.Bool.Decides.nat_tests, lemmas.Option.none-some}
-
-both : (a b : Bool) → T (a && b) → T a × T b
-both true b p = (tt, p)
-both false b p = absurd p
-
-less : (x y : ℕ) → T (is_lt (nat_cmp x y)) → x < y
-less x y h = grind (arith, nat_tests)
-
--- no later entry has the key of the first one
-first_alone : {A : Type 0} (x : ℕ) (es : List (ℕ × A)) → T (below_all nat_cmp x es) → find nat_cmp x es ≡ None
-first_alone x [] h = refl
-first_alone x (e ∷ es) h =
-    let parts : T (is_lt (nat_cmp x e.0)) × T (below_all nat_cmp x es) = both _ _ h in
-    let above : x < e.0 = less x e.0 parts.0 in
-    found_later x e.0 (Some e.1) (find nat_cmp x es) (λ same. omega arith) ∙ first_alone x es parts.1
 
 module _ {A : Type 0} (f : A → ℕ) (ComesFrom : ℕ → ℕ → Type 0)
     (once : (q s r : ℕ) → ComesFrom q r → ComesFrom s r

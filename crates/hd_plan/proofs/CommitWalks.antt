@@ -4,8 +4,7 @@ use Rattle.hd_plan.proofs.LayStep.{reached_cases}
 
 -- a property of all objects that a walk has come to, and one more
 pub walked_more : (P : Addr → Type 0) (h : Heap) (after : Option Addr) (at : Addr) → IsNext (has_object h)
-    after at
-    → ((x : Addr) → has_object h x ≡ true → is_after after x ≡ false → P x) → P at
+    after at → ((x : Addr) → has_object h x ≡ true → is_after after x ≡ false → P x) → P at
     → (x : Addr) → has_object h x ≡ true → is_after (Some at) x ≡ false → P x
 walked_more P h after at next before here x is up =
     elim (reached_cases (has_object h) after at x next is up) [

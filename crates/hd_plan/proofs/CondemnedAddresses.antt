@@ -1,13 +1,6 @@
 -- Tests of addresses and of what is condemned.
 use Rattle.hd_plan.proofs.Basics.{Addr, Bool, Heap, IsCondemned, None, Option, Placed, Some, and_from, and_parts, ap, cases_lt, cond, false, generation_at, generation_in, has_object, inl, inr, is_condemned, is_some, le-leb, le-ltb, leb-true, min, nat_le, not, object_at, object_in, option_map, raised, refl, region_generation, region_of, sym, true, ℕ, ◌+◌, ◌<◌, ◌≡◌, ◌≤◌, ◌⊎◌}
 
-pub not_true : (a : Bool) → not a ≡ true → a ≡ false
-not_true true e = absurd (cc e)
-not_true false e = refl
-
-pub some_is : {A : Type 0} (x y : A) → Some x ≡ Some y → x ≡ y
-some_is x y e = cc
-
 -- two tests that pass alike are one
 pub same_tests : (a b : Bool) → (a ≡ true → b ≡ true) → (b ≡ true → a ≡ true) → a ≡ b
 same_tests true b to back = sym (to refl)
@@ -22,10 +15,6 @@ condemned_of h n a e =
 
 pub condemned_is : (h : Heap) (n : ℕ) (a : Addr) → IsCondemned (object_at h) n a → is_condemned h n a ≡ true
 condemned_is h n a c = and_from _ _ c.object (le-leb (generation_at (object_at h) a) n c.young)
-
--- the raised generation of what is condemned
-pub raised_young : (n g : ℕ) → g ≤ n → raised n g ≡ min (g + 1) 2
-raised_young n g low = ap (λ b. cond b g (min (g + 1) 2)) (le-ltb n g low)
 
 -- an object is condemned or older, and not both
 pub older_or_young : (h : Heap) (n : ℕ) (a : Addr) → has_object h a ≡ true

@@ -23,8 +23,7 @@ takes_some h n =
         members = some.members;
         apart = some.apart;
         each = λ a c. condemned_of h n a (some.each a c).1;
-        all = λ a condemned. some.all a
-            (sym (has-get h a) ∙ condemned.object, condemned_is h n a condemned);
+        all = λ a condemned. some.all a (sym (has-get h a) ∙ condemned.object, condemned_is h n a condemned);
         sum = refl;
       },
     )

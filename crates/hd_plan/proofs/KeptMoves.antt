@@ -1,8 +1,8 @@
 -- What is kept by moves, and where it goes: objects alone, all that is older and in place, and no two to one
 -- address.
-use Rattle.hd_plan.proofs.Basics.{Addr, AllocCursors, AreMoves, ArePut, Bool, Dead, Fate, Fits, Heap, IsCondemned, IsKeeping, IsPut, IsRoom, IsSound, List, Move, Moves, MovesToNewRegion, None, Object, Option, Pinned, Some, ap, arith, cases_Bool, cases_eq, cases_order, cells_of, false, find_move, generation_at, generation_in, has_object, inl, inr, is_kept_by, is_kept_fate, is_moving, is_some, is_staying, le-ltb, length, lt-ltb, ltb-true, min, move_at, nat_lt, object_at, or_cases, or_left, place_by, placed_at, put_move, raised, refl, subst, suc, sym, true, true≢false, zero, ℕ, ◌+◌, ◌<◌, ◌||◌, ◌∙◌, ◌≡◌, ◌≢◌, ◌≤◌, ◌⊎◌}
+use Rattle.hd_plan.proofs.Basics.{Addr, AllocCursors, AreMoves, ArePut, Bool, Dead, Fate, Fits, Heap, IsCondemned, IsKeeping, IsPut, IsRoom, IsSound, List, Move, Moves, MovesToNewRegion, None, Object, Option, Pinned, Some, ap, arith, cases_Bool, cases_eq, cases_order, cells_of, false, find_move, generation_at, generation_in, has_object, inl, inr, is_kept_by, is_kept_fate, is_moving, is_some, is_staying, le-ltb, length, lt-ltb, ltb-true, min, move_at, nat_lt, object_at, or_cases, or_left, place_by, placed_at, put_move, raised, refl, subst, suc, sym, true, true≢false, young_raised, zero, ℕ, ◌+◌, ◌<◌, ◌||◌, ◌∙◌, ◌≡◌, ◌≢◌, ◌≤◌, ◌⊎◌}
 use Rattle.hd_plan.specs.Layout.{room_at}
-use Rattle.hd_plan.proofs.{CondemnedAddresses.condemned_of, CondemnedAddresses.raised_young, MoveSearch.find_at, MoveSearch.find_none, MoveSearch.find_some, MoveSearch.IsFound, RoomSteps.room_start, RoomSteps.goes, RoomSteps.Goes}
+use Rattle.hd_plan.proofs.{CondemnedAddresses.condemned_of, MoveSearch.find_at, MoveSearch.find_none, MoveSearch.find_some, MoveSearch.IsFound, RoomSteps.room_start, RoomSteps.goes, RoomSteps.Goes}
 
 no_generation : (o : Option (Object Addr)) → is_some o ≡ false → generation_in o ≡ 0
 no_generation None e = refl
@@ -62,7 +62,7 @@ module _ (h : Heap) (n : ℕ) (sound : IsSound h) where
       → (0 < raised n (generation_at (object_at h) a)) × (raised n (generation_at (object_at h) a) ≤ 2)
   raised_some a c =
       let e : raised n (generation_at (object_at h) a) ≡ min (generation_at (object_at h) a + 1) 2 =
-      raised_young n (generation_at (object_at h) a) c.young in
+      young_raised n (generation_at (object_at h) a) c.young in
       (omega (arith, e), omega (arith, e))
 
   module _ (ms : List Move) (moves : AreMoves h n ms) where

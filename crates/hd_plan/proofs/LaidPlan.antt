@@ -1,6 +1,6 @@
 -- All that is condemned has a move, and all regions are listed: the plan is laid.
-use Rattle.hd_plan.proofs.Basics.{Addr, AreChosen, AreListedTo, AreMoves, AreRegions, Bool, Condemned, CondemnedObject, Counts, HasCondemned, HasMove, HasNoEmptyCondemned, HasRegionRoom, Heap, IsClosed, IsCondemned, IsField, IsLaid, IsPlan, IsSettled, IsSound, List, Move, PlanOf, [], and_from, and_parts, ap, arith, cases_eq, cond, count_by, counts_like, false, first_at, has_object, inl, inr, is_in_use, is_kept_fate, is_staying, kept_in, length, move_at, not, object_at, objects_of, place_among, place_in, raised, refl, region_generation, region_of, room_at, stays_among, stays_in, subst, suc, sum_by-cons, sym, true, true≢false, zero, ℕ, ◌+◌, ◌-◌, ◌<◌, ◌^◌, ◌∙◌, ◌∷◌, ◌≡◌, ◌≤◌}
-use Rattle.hd_plan.proofs.{CondemnedAddresses.condemned_is, CondemnedAddresses.older_or_young, CondemnedAddresses.same_tests, CondemnedAddresses.not_true, CondemnedAddresses.generation_is, KeptMoves.is_condemned_at, KeptMoves.kept, KeptMoves.place, KeptMoves.older_kept, KeptMoves.older_place, KeptMoves.move_kept, KeptMoves.move_place, KeptMoves.kept_cases, KeptMoves.keeping, KeptMoves.unmoved, KeptMoves.fate_rests, MoveWeights.counts_moves, MoveWeights.stays_counted, ForwardTable.place_none, ForwardTable.place_some, LayStep.address_low}
+use Rattle.hd_plan.proofs.Basics.{Addr, AreChosen, AreListedTo, AreMoves, AreRegions, Bool, Condemned, CondemnedObject, Counts, HasCondemned, HasMove, HasNoEmptyCondemned, HasRegionRoom, Heap, IsClosed, IsCondemned, IsField, IsLaid, IsPlan, IsSettled, IsSound, List, Move, PlanOf, [], and_from, and_parts, ap, arith, cases_eq, cond, count_by, counts_like, false, first_at, has_object, inl, inr, is_in_use, is_kept_fate, is_staying, kept_in, length, move_at, not, not-true, object_at, objects_of, place_among, place_in, raised, refl, region_generation, region_of, room_at, stays_among, stays_in, subst, suc, sum_by-cons, sym, true, true≢false, zero, ℕ, ◌+◌, ◌-◌, ◌<◌, ◌^◌, ◌∙◌, ◌∷◌, ◌≡◌, ◌≤◌}
+use Rattle.hd_plan.proofs.{CondemnedAddresses.condemned_is, CondemnedAddresses.older_or_young, CondemnedAddresses.same_tests, CondemnedAddresses.generation_is, KeptMoves.is_condemned_at, KeptMoves.kept, KeptMoves.place, KeptMoves.older_kept, KeptMoves.older_place, KeptMoves.move_kept, KeptMoves.move_place, KeptMoves.kept_cases, KeptMoves.keeping, KeptMoves.unmoved, KeptMoves.fate_rests, MoveWeights.counts_moves, MoveWeights.stays_counted, ForwardTable.place_none, ForwardTable.place_some, LayStep.address_low}
 
 one_of : (b : Bool) → cond {A = ℕ} b 1 0 + cond {A = ℕ} (not b) 1 0 ≡ 1
 one_of true = refl
@@ -11,13 +11,8 @@ passing_or_not : {A : Type 0} (p : A → Bool) (xs : List A)
     → count_by p xs + count_by (λ x. not (p x)) xs ≡ length xs
 passing_or_not p [] = refl
 passing_or_not p (x ∷ xs) =
-    omega (
-      arith,
-      sum_by-cons (λ y. cond (p y) 1 0) x xs,
-      sum_by-cons (λ y. cond (not (p y)) 1 0) x xs,
-      passing_or_not p xs,
-      one_of (p x),
-    )
+    let known = sum_by-cons (λ y. cond (not (p y)) 1 0) x xs in
+    omega (arith, sum_by-cons (λ y. cond (p y) 1 0) x xs, known, passing_or_not p xs, one_of (p x))
 
 module _ (h : Heap) (n : ℕ) (sound : IsSound h) (ms : List Move) (moves : AreMoves h n ms) where
   pub are_regions : (cs : List Condemned) → HasNoEmptyCondemned h n → AreListedTo ms cs (length ms)
@@ -107,19 +102,14 @@ module _ (h : Heap) (n : ℕ) (sound : IsSound h) (ms : List Move) (moves : AreM
           k,
           (
             at.0,
-            (
-              at.1,
-              chosen.stays k at.0
-                  ∙ and_from _ _ (ap promoted at.1 ∙ is.1) (ap pinned at.1 ∙ is.2),
-            ),
+            (at.1, chosen.stays k at.0 ∙ and_from _ _ (ap promoted at.1 ∙ is.1) (ap pinned at.1 ∙ is.2)),
           ),
         )))
 
 -- a plan of these parts is laid
 pub laid_plan : (p : PlanOf) → IsSound p.basis.heap → p.basis.condemned ≤ 2
     → AreMoves p.basis.heap p.basis.condemned p.moves → (promoted pinned : Addr → Bool)
-    → AreChosen promoted pinned p.moves
-    → IsSettled (objects_of p.basis) p.basis.condemned promoted
+    → AreChosen promoted pinned p.moves → IsSettled (objects_of p.basis) p.basis.condemned promoted
     → IsClosed (IsField (objects_of p.basis)) promoted → HasNoEmptyCondemned p.basis.heap p.basis.condemned
     → AreListedTo p.moves p.regions (length p.moves) → IsLaid p
 laid_plan p sound generation moves promoted pinned chosen settled closed full listed = record {
@@ -159,11 +149,8 @@ place_found p objects room_ms room_cs firsts cells laid is a kept_is =
             | inr some ↦
                 let (k, at) = is.places.others (region_of a) some in
                 let young = (laid.regions.condemned k at.0).young in
-                absurd (omega (
-                  arith,
-                  generation_is h a (laid.keeping.objects a kept_is),
-                  ap (region_generation h) at.1,
-                ))
+                absurd (let known = generation_is h a (laid.keeping.objects a kept_is) in
+                omega (arith, known, ap (region_generation h) at.1))
           ])
           ∙ sym (older_place h n laid.sound p.moves laid.moves a older)
       | inr (j, by) ↦
@@ -214,11 +201,7 @@ module _ (h : Heap) (n : ℕ) (sound : IsSound h) (ms : List Move) (moves : AreM
         k,
         (
           at.0,
-          (
-            at.1,
-            sym (move_kept h n sound ms moves k at.0) ∙ ap (kept h n sound ms moves) at.1
-                ∙ is.1,
-          ),
+          (at.1, sym (move_kept h n sound ms moves k at.0) ∙ ap (kept h n sound ms moves) at.1 ∙ is.1),
         ),
       ))
 
@@ -230,8 +213,7 @@ module _ (h : Heap) (n : ℕ) (sound : IsSound h) (ms : List Move) (moves : AreM
       (λ a. (has_object h a ≡ true) × (kept h n sound ms moves a ≡ false))
       (λ k low is. (
         (is_condemned_at h n sound ms moves k low).object,
-        move_kept h n sound ms moves k low
-            ∙ not_true (is_kept_fate (move_at ms k).fate) is,
+        move_kept h n sound ms moves k low ∙ not-true (is_kept_fate (move_at ms k).fate) is,
       ))
       (λ a is. elim (older_or_young h n a is.0) [
         | inl older ↦ absurd (true≢false (sym (older_kept h n sound ms moves a older) ∙ is.1))

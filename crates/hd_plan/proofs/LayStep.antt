@@ -98,8 +98,7 @@ module _ (h : Heap) (n : ℕ) where
 
   -- the next object has a move too
   pub to_next : (ms : List Move) (after : Option Addr) (m : Move) → AreMovesTo h n ms after
-      → IsNext (is_condemned h n) after m.from
-      → m.generation ≡ raised n (generation_at (object_at h) m.from)
+      → IsNext (is_condemned h n) after m.from → m.generation ≡ raised n (generation_at (object_at h) m.from)
       → m.fields ≡ length (placed_at h m.from).fields
       → FitsMove h (room_at h ms (length ms)) m → AreMovesTo h n (ms ++ m ∷ []) (Some m.from)
   to_next ms after m to next generation fields fits = record {
@@ -176,8 +175,7 @@ pub record IsLaying (h : Heap) (n : ℕ) (promoted pinned : Addr → Bool) (ms :
   pub cursors_are : (room_at h ms (length ms)).cursors ≡ cursors
   pub laid : (room_at h ms (length ms)).cells ≤ cells_laid h ms
 
-pub laying_start : (h : Heap) (n : ℕ) (promoted pinned : Addr → Bool)
-    → IsLaying h n promoted pinned []
+pub laying_start : (h : Heap) (n : ℕ) (promoted pinned : Addr → Bool) → IsLaying h n promoted pinned []
     (record { first = record { region = 0; fill = 0 }; second = record { region = 0; fill = 0 }; opened = 0 })
     None
 laying_start h n promoted pinned = record {
@@ -218,8 +216,7 @@ module _ (h : Heap) (n : ℕ) (sound : IsSound h) (promoted pinned : Addr → Bo
 
   laying_from : (ms : List Move) (old new : AllocCursors) (after : Option Addr) (m : Move)
       → IsLaying h n promoted pinned ms old after → HasFreeRegions h n
-      → IsNext (is_condemned h n) after m.from
-      → IsMoveOf h n (promoted m.from) (pinned m.from) old new m
+      → IsNext (is_condemned h n) after m.from → IsMoveOf h n (promoted m.from) (pinned m.from) old new m
       → IsLaying h n promoted pinned (ms ++ m ∷ []) new (Some m.from)
   laying_from ms old new after m laying spare next is =
       let q : Room = room_at h ms (length ms) in
@@ -239,13 +236,9 @@ module _ (h : Heap) (n : ℕ) (sound : IsSound h) (promoted pinned : Addr → Bo
         cursors_are = ap (λ (r : Room). r.cursors) more
             ∙ ap (λ (s : AllocCursors). put_cursors m.fate h.spare s m.generation cells) laying.cursors_are
             ∙ sym is.cursors;
-        laid = omega (
-          arith,
-          laying.laid,
-          ap (λ (r : Room). r.cells) more,
-          part (is_moving m.fate) cells,
-          sum_by_push (λ (x : Move). cells_of (placed_at h x.from)) ms m,
-        );
+        laid = (let known = ap (λ (r : Room). r.cells) more in
+            let also = sum_by_push (λ (x : Move). cells_of (placed_at h x.from)) ms m in
+            omega (arith, laying.laid, known, part (is_moving m.fate) cells, also));
       }
     where
       part : (b : Bool) (x : ℕ) → cond b x 0 ≤ x

@@ -1,7 +1,6 @@
 -- What is found among moves of rising addresses.
-use Rattle.hd_plan.proofs.Basics.{Addr, IsRising, List, Move, None, Option, Some, [], ap, arith, cases_eq, cond, eq-eqb, inl, inr, length, move_at, nat_eq, ne_eqb, refl, same_address, suc, sym, zero, ℕ, ◌<◌, ◌∙◌, ◌∷◌, ◌≡◌, ◌≢◌}
+use Rattle.hd_plan.proofs.Basics.{Addr, IsRising, List, Move, None, Option, Some, [], ap, arith, cases_eq, cond, eq-eqb, inl, inr, length, move_at, nat_eq, ne_eqb, refl, same_Some, same_address, suc, sym, zero, ℕ, ◌<◌, ◌∙◌, ◌∷◌, ◌≡◌, ◌≢◌}
 use Rattle.hd_plan.specs.Layout.{find_move}
-use Rattle.hd_plan.proofs.CondemnedAddresses.{some_is}
 
 rising_rest : (m : Move) (ms : List Move) → IsRising (m ∷ ms) → IsRising ms
 rising_rest m ms rising j k less within = rising (suc j) (suc k) (omega arith) (omega arith)
@@ -50,7 +49,7 @@ find_some (m ∷ ms) a x e = elim (cases_eq m.from.0 a.0) [
   | inl same ↦ record {
     at = 0;
     within = omega arith;
-    move = some_is m x (sym (found_first m (find_move ms a) m.from.0 a.0 same) ∙ e);
+    move = same_Some m x (sym (found_first m (find_move ms a) m.from.0 a.0 same) ∙ e);
     from = same_address m.from a same;
   }
   | inr apart ↦ found_more m x ms a

@@ -89,10 +89,7 @@ module _ (ms : List Move) (rising : IsRising ms) where
     -- moves of what is condemned take at most as many words as that
     pub cells_fit : (cells : ℕ) → Takes h (IsCondemned (object_at h) n) cells → cells_laid h ms ≤ cells
     cells_fit cells takes =
-        omega (
-          arith,
-          lighter (λ a. cells_of (placed_at h a)) froms takes.members froms_once
-              (λ a c. takes.all a (froms_in a c)),
-          takes.sum,
-          sum_map (λ (m : Move). m.from) (λ a. cells_of (placed_at h a)) ms,
-        )
+        let known =
+        lighter (λ a. cells_of (placed_at h a)) froms takes.members froms_once
+        (λ a c. takes.all a (froms_in a c)) in
+        omega (arith, known, takes.sum, sum_map (λ (m : Move). m.from) (λ a. cells_of (placed_at h a)) ms)

@@ -1,12 +1,8 @@
 -- The regions that are not older after the moving: each has an object that stays, or was opened.
-use Rattle.hd_plan.proofs.Basics.{Addr, AllPairs, AreMoves, Bool, Contains, FinMap, HasStay, Heap, IsPacked, IsSound, IsYoungRegion, List, Move, WasFree, [], ap, arith, cases_Bool, cells_of, cond, counts_keys, counts_le, counts_where, false, fewer, filter, first_in, get, get_left, get_or-take, has-get, has_object, inl, inr, is_in_use, is_moving, is_older_region, is_staying, later_in, len, length, length-append, length-filter, length-map, length-take, lighter, map, mapped_in, member_at, member_cases, move_at, nat_cmp, nat_lt, not, not_in_none, pairs_cons, pairs_first, pairs_none, pairs_passing, pairs_rest, passing_from, passing_in, placed_at, refl, region_at, region_generation, region_of, remove, same_address, share, stays_among, subst, suc, sum-remove, sum_by, sum_by-cons, sym, take, true, used_of, values, zero, ℕ, ⊎_elim, ◌&&◌, ◌++◌, ◌+◌, ◌/◌, ◌<◌, ◌∙◌, ◌∷◌, ◌≡◌, ◌≢◌, ◌≤◌, ◌⊎◌}
+use Rattle.hd_plan.proofs.Basics.{Addr, AllPairs, AreMoves, Bool, Contains, FinMap, HasStay, Heap, IsPacked, IsSound, IsYoungRegion, List, Move, WasFree, [], ap, arith, cases_Bool, cells_of, cond, counts_keys, counts_le, counts_where, false, fewer, filter, first_in, get, get_left, get_or-take, has-get, has_object, inl, inr, is_in_use, is_moving, is_older_region, is_staying, later_in, len, length, length-append, length-filter, length-map, length-take, lighter, map, mapped_in, member_at, member_cases, move_at, nat_cmp, nat_lt, not, not-true, not_in_none, pairs_cons, pairs_first, pairs_none, pairs_passing, pairs_rest, passing_from, passing_in, placed_at, refl, region_at, region_generation, region_of, remove, same_address, share, stays_among, subst, suc, sum-remove, sum_by, sum_by-cons, sym, take, true, used_of, values, zero, ℕ, ⊎_elim, ◌&&◌, ◌++◌, ◌+◌, ◌/◌, ◌<◌, ◌∙◌, ◌∷◌, ◌≡◌, ◌≢◌, ◌≤◌, ◌⊎◌}
 use Rattle.std.proofs.lemmas.List.Elements.{Contains-append_left, Contains-append_right}
 use Rattle.hd_plan.specs.Layout.{room_at}
 use Rattle.hd_plan.proofs.{CommitCopies.get_placed, KeptMoves.all_put, MoveWeights.stays_counted, RoomSteps.begun_most}
-
-not_true : (b : Bool) → not b ≡ true → b ≡ false
-not_true true e = absurd (cc e)
-not_true false e = refl
 
 -- the addresses to which the first k moves copy
 unfoldable tos : List Move → ℕ → List Addr
@@ -107,14 +103,10 @@ unfolding taken
 taken_many h ms =
     let opened = (room_at h ms (length ms)).cursors.opened in
     let stays = filter (λ (m : Move). is_staying m.fate) ms in
-    omega (
-      arith,
-      length-append (map (λ (m : Move). region_of m.from) stays) (take opened h.spare),
-      length-map stays (λ (m : Move). region_of m.from),
-      length-filter (λ (m : Move). is_staying m.fate) ms,
-      stays_counted ms,
-      length-take opened h.spare,
-    )
+    let known = length-append (map (λ (m : Move). region_of m.from) stays) (take opened h.spare) in
+    let also = length-map stays (λ (m : Move). region_of m.from) in
+    let more = length-filter (λ (m : Move). is_staying m.fate) ms in
+    omega (arith, known, also, more, stays_counted ms, length-take opened h.spare)
 
 -- a heap whose older regions are as they were, and whose others each have an object that stays or were
 -- opened, with what moves in them: packed
@@ -137,7 +129,7 @@ packed h sound n ms moves new older moved_there held =
     let inside = filter here addresses.members in
     let names : length some.members ≤ length (taken h ms) =
     fewer some.members (taken h ms) some.apart
-    (λ r is. let both = some.each r is in taken_in h ms r (held r both.0 (not_true _ both.1))) in
+    (λ r is. let both = some.each r is in taken_in h ms r (held r both.0 (not-true _ both.1))) in
     let moved : sum_by cells (tos ms (length ms)) ≤ sum_by cells inside =
     lighter cells (tos ms (length ms)) inside (apart_tos ms (length ms) put.apart)
     (λ a is.
@@ -161,7 +153,7 @@ packed h sound n ms moves new older moved_there held =
       regions_are = record {
         members = some.members;
         apart = some.apart;
-        each = λ r is. let both = some.each r is in (both.0, not_true _ both.1);
+        each = λ r is. let both = some.each r is in (both.0, not-true _ both.1);
         all = λ r is. some.all r (is.0, ap not is.1);
         number = some.number;
       };
@@ -171,7 +163,7 @@ packed h sound n ms moves new older moved_there held =
         apart = pairs_passing here (λ x y. x ≢ y) addresses.members addresses.apart;
         each = λ a is.
             let both = passing_from here addresses.members a is in
-            (has-get new a ∙ addresses.each a both.0, not_true _ both.1);
+            (has-get new a ∙ addresses.each a both.0, not-true _ both.1);
         all = λ a is. passing_in here addresses.members a (addresses.all a (sym (has-get new a) ∙ is.0))
             (ap not is.1);
         sum = refl;

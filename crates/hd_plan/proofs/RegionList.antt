@@ -91,8 +91,7 @@ module _ (ms : List Move) (rising : IsRising ms) where
       → is_last cs (region_of (move_at ms i).from) ≡ false
       → AreListedTo ms (cs ++ record {
         region = region_of (move_at ms i).from;
-        generation =
-            (move_at ms i).generation;
+        generation = (move_at ms i).generation;
         pinned = is_staying (move_at ms i).fate;
       } ∷ []) (i + 1)
   listed_added cs i listed within other =
@@ -111,10 +110,8 @@ module _ (ms : List Move) (rising : IsRising ms) where
                   let l = is.0 in
                       omega arith,
                   (
-                    is.1.0
-                        ∙ ap (λ (y : Condemned). y.region) (sym e),
-                    ap (λ (y : Condemned). y.generation) e
-                        ∙ is.1.1,
+                    is.1.0 ∙ ap (λ (y : Condemned). y.region) (sym e),
+                    ap (λ (y : Condemned). y.generation) e ∙ is.1.1,
                   ),
                 ),
               )
@@ -122,34 +119,24 @@ module _ (ms : List Move) (rising : IsRising ms) where
             i,
             (
               omega arith,
-              (
-                ap (λ (y : Condemned). y.region) (sym e),
-                ap (λ (y : Condemned). y.generation) e,
-              ),
+              (ap (λ (y : Condemned). y.region) (sym e), ap (λ (y : Condemned). y.generation) e),
             ),
           )
         ];
         rising = λ j k less low. elim (cases_lt k (length cs)) [
           | inl inside ↦ let r = listed.rising j k less inside in
-              omega (
-                arith,
-                ap {B = ℕ} (λ (y : Condemned). y.region) (added_before cs x j (omega arith)),
-                ap {B = ℕ} (λ (y : Condemned). y.region) (added_before cs x k inside),
-              )
+              let known = ap {B = ℕ} (λ (y : Condemned). y.region) (added_before cs x j (omega arith)) in
+              omega (arith, known, ap {B = ℕ} (λ (y : Condemned). y.region) (added_before cs x k inside))
           | inr last ↦ let r = below j (omega arith) in
-              omega (
-                arith,
-                ap {B = ℕ} (λ (y : Condemned). y.region) (added_before cs x j (omega arith)),
-                ap {B = ℕ} (λ (y : Condemned). y.region) (added_last cs x k (omega arith)),
-              )
+              let known = ap {B = ℕ} (λ (y : Condemned). y.region) (added_before cs x j (omega arith)) in
+              omega (arith, known, ap {B = ℕ} (λ (y : Condemned). y.region) (added_last cs x k (omega arith)))
         ];
         all = λ j low. elim (cases_lt j i) [
           | inl before ↦ let (k, is) = listed.all j before in (
             k,
             (
               let l = is.0 in omega arith,
-              ap (λ (y : Condemned). y.region) (added_before cs x k is.0)
-                  ∙ is.1,
+              ap (λ (y : Condemned). y.region) (added_before cs x k is.0) ∙ is.1,
             ),
           )
           | inr last ↦ (
@@ -180,12 +167,8 @@ module _ (ms : List Move) (rising : IsRising ms) where
                 | inl before ↦ listed.stays j k before inside is
                     (ap (λ (y : Condemned). y.region) (sym e) ∙ same)
                 | inr last ↦ absurd (let b = below k inside in
-                    omega (
-                      arith,
-                      ap {B = ℕ} (λ (y : Condemned). y.region) e,
-                      same,
-                      ap (λ y. region_of (move_at ms y).from) {x = j} {y = i} (omega arith),
-                    ))
+                    (let known = ap (λ y. region_of (move_at ms y).from) {x = j} {y = i} (omega arith) in
+                    omega (arith, ap {B = ℕ} (λ (y : Condemned). y.region) e, same, known)))
               ]
           | inr last ↦ let e = added_last cs x k (omega arith) in
               ap (λ (y : Condemned). y.pinned) e ∙ elim (cases_lt j i) [

@@ -45,8 +45,7 @@ put_filled h at o place full r held =
           let s = full r (sym (ap is_some (get_other h.regions (region_of at) r _ other)) ∙ held) in
           record {
             at = s.at;
-            object = has-get (with_put h (region_of at) 0 o) s.at
-                ∙ still_there h _ o s.at s.object;
+            object = has-get (with_put h (region_of at) 0 o) s.at ∙ still_there h _ o s.at s.object;
             region = s.region;
           }
     ]

@@ -188,17 +188,11 @@ module _ (h : Heap) where
           → 193 * q.cursors.opened + (a.fill + b.fill) ≤ q.cells + 193 * (begun a + begun b)
           → 193 * p.cursors.opened + (d.fill + e.fill) ≤ p.cells + 193 * (begun d + begun e)
       slack_two a b d e at own other slack =
-          omega (
-            arith,
-            slack,
-            puts.weighs,
-            ap {B = ℕ} (λ x. x.fill) at,
-            ap begun at,
-            ap {B = ℕ} (λ x. x.fill) own,
-            ap begun own ∙ begun_some c number,
-            ap {B = ℕ} (λ x. x.fill) other,
-            ap begun other,
-          )
+          let known = ap {B = ℕ} (λ x. x.fill) at in
+          let also = ap {B = ℕ} (λ x. x.fill) own in
+          let more = ap begun own ∙ begun_some c number in
+          let last = ap {B = ℕ} (λ x. x.fill) other in
+          omega (arith, slack, puts.weighs, known, ap begun at, also, more, last, ap begun other)
 
       put_room : IsRoom h p
       put_room = elim (cases_eq g 1) [
@@ -253,12 +247,8 @@ module _ (h : Heap) where
             record {
               fresh = subst (λ (r : ℕ). IsFresh h p.regions k r) (sym same)
                   (subst (λ (x : ℕ). IsFresh h p.regions x c.region) (sym own) here_fresh);
-              below = omega (
-                arith,
-                is.below,
-                ap (λ x. (region_in q.regions x).fill) same,
-                ap {B = ℕ} (λ x. x.fill) (ap (region_in p.regions) same ∙ here_region),
-              );
+              below = (let known = ap {B = ℕ} (λ x. x.fill) (ap (region_in p.regions) same ∙ here_region) in
+                  omega (arith, is.below, ap (λ x. (region_in q.regions x).fill) same, known));
             }
         | inr apart ↦ record {
           fresh = fresh_still k (region_of to) apart is.fresh;
@@ -274,11 +264,7 @@ module _ (h : Heap) where
         stays = stays_put;
         puts = λ e. record {
           fresh = subst (λ (r : ℕ). IsFresh h p.regions g r) (sym same) here_fresh;
-          below = omega (
-            arith,
-            same,
-            ap {B = ℕ} (λ x. x.fill) (ap (region_in p.regions) same ∙ here_region),
-          );
+          below = omega (arith, same, ap {B = ℕ} (λ x. x.fill) (ap (region_in p.regions) same ∙ here_region));
         };
         apart = λ e. apart;
         since = λ r has. elim (cases_eq r c.region) [
@@ -325,8 +311,7 @@ module _ (h : Heap) where
         second = refl;
         more = omega arith;
         was = record { at = q.cursors.opened; before = omega arith; within = is.free; number = refl };
-        weighs = ⊎_elim
-            (λ none. omega (arith, begun_none (cursor_of q.cursors g) none))
+        weighs = ⊎_elim (λ none. omega (arith, begun_none (cursor_of q.cursors g) none))
             (λ over. omega (arith, over, small.1, begun_most (cursor_of q.cursors g))) is.left;
       }
 
@@ -371,15 +356,8 @@ module _ (h : Heap) where
           (follows_puts fits) to cells r (let p = fits.place in omega arith)
           (λ x k c is some same.
           let region : region_of x ≡ s.region = ap region_of same ∙ r in
-          absurd (omega (
-            arith,
-            is.below,
-            fits.place,
-            region,
-            at.1,
-            ap (λ y. (region_in q.regions y).fill) region,
-            ap {B = ℕ} (λ (y : Addr). y.0) same,
-          )))
+          absurd (let known = ap (λ y. (region_in q.regions y).fill) region in
+          omega (arith, is.below, fits.place, region, at.1, known, ap {B = ℕ} (λ (y : Addr). y.0) same)))
 
     -- there is room for one object more
     pub can_put : (q : Room) → IsRoom h q → (cells : ℕ) → q.cells ≤ cells → cells < 2 ^ 38

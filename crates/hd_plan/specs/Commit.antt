@@ -1,15 +1,11 @@
 -- What the moving of all kept objects leaves.
 use Rattle.std.specs.Prelude.{◌≡◌, ℕ, ◌+◌, ◌/◌, ◌≤◌, ◌<◌, ◌↔◌, true, false, map, option_map}
 use Rattle.std.specs.FinMap.{len}
-use Rattle.hd_model.specs.declared.data.Addr.{Addr}
+use Rattle.hd_model.specs.{declared.data.Addr.Addr, Ages.raised, State.Object, Scene.generation_at, Scene.IsField}
 use Rattle.hd_model.specs.declared.limits.TheConstants.{OLDEST, LEFT, OPEN}
-use Rattle.hd_model.specs.Ages.{raised}
-use Rattle.hd_model.specs.State.{Object}
-use Rattle.hd_model.specs.Scene.{generation_at, IsField}
 use Rattle.hd_model.specs.Heap.{Heap, card_of, region_at, is_in_use, has_object, object_at, placed_at, id_at, is_set, used_of}
-use Rattle.hd_plan.specs.Layout.{HasStay, IsCondemnedRegion}
+use Rattle.hd_plan.specs.{Layout.HasStay, Layout.IsCondemnedRegion, PackedRegions.IsPacked}
 use Rattle.hd_plan.specs.Plan.{PlanOf, kept_in, place_in, stays_in, HasNoEmptyRegion}
-use Rattle.hd_plan.specs.PackedRegions.{IsPacked}
 
 -- k has the objects, identities, fields and regions of h; values, registrations and cards may differ
 pub record IsSameShape (h k : Heap) : Type 0 where

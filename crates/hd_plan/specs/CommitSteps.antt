@@ -2,19 +2,13 @@
 -- the moving leaves of a heap.
 use Rattle.std.specs.Prelude.{◌≡◌, ◌≢◌, ℕ, ◌+◌, ◌*◌, ◌<◌, ◌≤◌, ◌⊎◌, ◌↔◌, ◌&&◌, Bool, true, false, not, ◌-◌, List, length, Some, None, option_map, drop, slice_index, nat_eq}
 use Rattle.std.specs.FinMap as map
-use Rattle.hd_model.specs.declared.data.Addr.{Addr}
-use Rattle.hd_model.specs.declared.limits.TheConstants.{OLDEST, REGION}
-use Rattle.hd_model.specs.Scene.{generation_at, IsField}
+use Rattle.hd_model.specs.{declared.data.Addr.Addr, declared.limits.TheConstants.OLDEST, declared.limits.TheConstants.REGION, Scene.generation_at, Scene.IsField}
 use Rattle.hd_model.specs.Heap.{Heap, region_of, card_of, region_at, is_in_use, has_object, object_at, placed_at, cells_of, is_set, is_carded}
 use Rattle.hd_heap.specs.Calls.{NamesBelow, forwarded, with_object, with_fresh, with_moved, with_card}
 use Rattle.hd_heap.specs.Sound.{IsSound}
-use Rattle.hd_plan.specs.declared.moves.Fate.{Fate}
+use Rattle.hd_plan.specs.{declared.moves.Fate.Fate, declared.moves.Move.Move, declared.moves.Condemned.Condemned, LaySteps.ArePut, LaySteps.first_at, Commit.NeedsCard}
 use Rattle.hd_plan.specs.declared.moves.Fate.TheVariants.{Dead, Pinned, MovesToNewRegion, Moves}
-use Rattle.hd_plan.specs.declared.moves.Move.{Move}
-use Rattle.hd_plan.specs.declared.moves.Condemned.{Condemned}
 use Rattle.hd_plan.specs.Layout.{move_at, condemned_at, is_kept_fate, is_moving, is_staying, room_at, FitsMove}
-use Rattle.hd_plan.specs.LaySteps.{ArePut, first_at}
-use Rattle.hd_plan.specs.Commit.{NeedsCard}
 
 -- one of the first i moves has such a fate, and has this end
 pub record HasEnd (fate : Fate → Bool) (end : Move → Addr) (ms : List Move) (i : ℕ) (a : Addr) : Type 0 where

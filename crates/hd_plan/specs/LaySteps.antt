@@ -1,23 +1,14 @@
 -- No public clause needs what is defined here: these are words of private functions and fields, for the
 -- laying of a plan.
 use Rattle.std.specs.Prelude.{◌≡◌, ◌≢◌, ℕ, ◌+◌, ◌*◌, ◌<◌, ◌≤◌, ◌⊎◌, cond, nat_eq, true, false, List, length, slice_index, ◌^◌, ◌%◌, ◌-◌, ◌&&◌, ◌||◌, ◌++◌, Bool, nat_lt, slice_set, [], ◌∷◌, slice_index_or, suc, zero}
-use Rattle.std.specs.FinMap.{FinMap, get}
-use Rattle.std.specs.Ordering.{nat_cmp}
-use Rattle.hd_model.specs.declared.data.Addr.{Addr}
+use Rattle.std.specs.{FinMap.FinMap, FinMap.get, Ordering.nat_cmp}
+use Rattle.hd_model.specs.{declared.data.Addr.Addr, Ages.raised, Counting.Counts, Scene.generation_at, Scene.IsCondemned}
 use Rattle.hd_model.specs.declared.limits.TheConstants.{REGION, LEFT, REGIONS}
 use Rattle.hd_model.specs.Heap.{Heap, Region, region_of, is_in_use, placed_at, cells_of, Basis, object_at}
-use Rattle.hd_plan.specs.declared.moves.Move.{Move}
-use Rattle.hd_plan.specs.declared.cursors.AllocCursor.{AllocCursor}
-use Rattle.hd_plan.specs.declared.cursors.AllocCursors.{AllocCursors}
+use Rattle.hd_plan.specs.{declared.moves.Move.Move, declared.cursors.AllocCursor.AllocCursor, declared.cursors.AllocCursors.AllocCursors, declared.moves.Condemned.Condemned, Plan.PlanOf, Plan.Takes}
 use Rattle.hd_plan.specs.Layout.{Room, has_region, region_in, move_at, is_moving, room_at, put_cursors, condemned_at, is_kept_fate, is_staying, Fits, HasStay}
-use Rattle.hd_model.specs.Ages.{raised}
-use Rattle.hd_model.specs.Counting.{Counts}
-use Rattle.hd_model.specs.Scene.{generation_at, IsCondemned}
-use Rattle.hd_plan.specs.declared.moves.Condemned.{Condemned}
-use Rattle.hd_heap.specs.declared.survey.Survey.{Survey}
-use Rattle.hd_heap.specs.declared.survey.CondemnedObject.{CondemnedObject}
+use Rattle.hd_heap.specs.{declared.survey.Survey.Survey, declared.survey.CondemnedObject.CondemnedObject}
 use Rattle.hd_heap.specs.Calls.{HasCondemned, AreSurveyed, surveyed}
-use Rattle.hd_plan.specs.Plan.{PlanOf, Takes}
 
 -- ---- where objects are put
 

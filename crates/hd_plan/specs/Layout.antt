@@ -6,18 +6,11 @@
 use Rattle.std.specs.Prelude.{◌&&◌, nat_lt, ◌≡◌, ◌≢◌, ℕ, zero, suc, ◌+◌, ◌*◌, ◌<◌, ◌≤◌, ◌⊎◌, ◌↔◌, Bool, true, false, cond, List, [], ◌∷◌, length, Option, Some, None, unwrap_or, slice_index, slice_index_or, nat_eq}
 use Rattle.std.specs.Ordering.{nat_cmp}
 use Rattle.std.specs.FinMap as map
-use Rattle.hd_model.specs.declared.data.Addr.{Addr}
-use Rattle.hd_model.specs.declared.limits.TheConstants.{REGION}
-use Rattle.hd_model.specs.Ages.{raised}
-use Rattle.hd_model.specs.Scene.{generation_at}
+use Rattle.hd_model.specs.{declared.data.Addr.Addr, declared.limits.TheConstants.REGION, Ages.raised, Scene.generation_at}
 use Rattle.hd_model.specs.Heap.{Heap, Region, region_of, region_generation, is_in_use, object_at, placed_at, cells_of}
 use Rattle.hd_heap.specs.Calls.{is_condemned}
-use Rattle.hd_plan.specs.declared.moves.Fate.{Fate}
+use Rattle.hd_plan.specs.{declared.moves.Fate.Fate, declared.moves.Move.Move, declared.moves.Condemned.Condemned, declared.cursors.AllocCursor.AllocCursor, declared.cursors.AllocCursors.AllocCursors}
 use Rattle.hd_plan.specs.declared.moves.Fate.TheVariants.{Dead, Pinned, MovesToNewRegion, Moves}
-use Rattle.hd_plan.specs.declared.moves.Move.{Move}
-use Rattle.hd_plan.specs.declared.moves.Condemned.{Condemned}
-use Rattle.hd_plan.specs.declared.cursors.AllocCursor.{AllocCursor}
-use Rattle.hd_plan.specs.declared.cursors.AllocCursors.{AllocCursors}
 
 -- the k-th move, and the k-th condemned region
 abbrev pub move_at : List Move → ℕ → Move

@@ -1,9 +1,7 @@
 -- How many regions a collection leaves of those that it condemned. Regions are this project's own, after
 -- CoreCLR's in outline.
 use Rattle.std.specs.Prelude.{◌≡◌, ℕ, ◌+◌, ◌/◌, ◌≤◌, ◌&&◌, Bool, true, false, nat_lt}
-use Rattle.hd_model.specs.declared.data.Addr.{Addr}
-use Rattle.hd_model.specs.declared.limits.TheConstants.{LEFT}
-use Rattle.hd_model.specs.Counting.{Counts}
+use Rattle.hd_model.specs.{declared.data.Addr.Addr, declared.limits.TheConstants.LEFT, Counting.Counts}
 use Rattle.hd_model.specs.Heap.{Heap, region_of, region_at, region_generation, is_in_use, has_object}
 use Rattle.hd_plan.specs.Plan.{Takes}
 

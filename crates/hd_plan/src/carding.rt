@@ -1,11 +1,8 @@
 // Cards are set exactly where an object that starts in them has a field to a younger one.
 ghost use Rattle.std.specs.Prelude.{◌≡◌, ◌≢◌, ◌+◌, ◌*◌, ◌/◌, ◌<◌, ◌≤◌, ◌↔◌, ℕ, Bool, true, false, length};
-ghost use Rattle.hd_model.specs.Names.{HasClosedFields};
-ghost use Rattle.hd_model.specs.Ages.{HasSoundCards};
-ghost use Rattle.hd_model.specs.Scene.{generation_at};
+ghost use Rattle.hd_model.specs.{Names.HasClosedFields, Ages.HasSoundCards, Scene.generation_at};
 ghost use Rattle.hd_model.specs.Heap.{has_object, object_at, card_of, is_set, is_carded};
-ghost use Rattle.hd_heap.specs.Calls.{IsWalk, with_card};
-ghost use Rattle.hd_heap.specs.Sound.{IsSound};
+ghost use Rattle.hd_heap.specs.{Calls.IsWalk, Calls.with_card, Sound.IsSound};
 ghost use Rattle.hd_plan.specs.Layout.{is_kept_fate, may_card, move_at};
 ghost use Rattle.hd_plan.specs.Commit.{NeedsCard};
 ghost use Rattle.hd_plan.specs.CommitSteps.{AreCarded, IsKeptAt, MayCard};

@@ -1,8 +1,6 @@
 ghost use Rattle.std.specs.Prelude.{◌≡◌};
-ghost use Rattle.hd_model.specs.Ages.{HasSoundCards};
-ghost use Rattle.hd_model.specs.Heap.{object_at, is_carded};
-ghost use Rattle.hd_plan.specs.Plan.{IsLaid};
-ghost use Rattle.hd_plan.specs.Commit.{IsSameShape, Commits};
+ghost use Rattle.hd_model.specs.{Ages.HasSoundCards, Heap.object_at, Heap.is_carded};
+ghost use Rattle.hd_plan.specs.{Plan.IsLaid, Commit.IsSameShape, Commit.Commits};
 
 use crate::carding::{card_kept, clear_unneeded};
 use crate::copying::copy_moves;

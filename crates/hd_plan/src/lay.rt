@@ -1,10 +1,6 @@
 ghost use Rattle.std.specs.Prelude.{◌≡◌, ◌&&◌, ◌^◌, ◌<◌, ◌≤◌, [], true, length, vec_capacity};
-ghost use Rattle.hd_model.specs.Counting.{Counts};
-ghost use Rattle.hd_model.specs.Leads.{IsClosed};
-ghost use Rattle.hd_model.specs.Scene.{IsField, IsCondemned};
-ghost use Rattle.hd_model.specs.Heap.{objects_of, placed_at};
-ghost use Rattle.hd_heap.specs.Calls.{is_condemned, AreSurveyed};
-ghost use Rattle.hd_heap.specs.Sound.{IsSound};
+ghost use Rattle.hd_model.specs.{Counting.Counts, Leads.IsClosed, Scene.IsField, Scene.IsCondemned, Heap.objects_of, Heap.placed_at};
+ghost use Rattle.hd_heap.specs.{Calls.is_condemned, Calls.AreSurveyed, Sound.IsSound};
 ghost use Rattle.hd_plan.specs.Layout.{AreMoves};
 ghost use Rattle.hd_plan.specs.LaySteps.{AreChosen, CanPut, IsMoveOf};
 ghost use Rattle.hd_plan.specs.Plan.{IsTakenPlan, IsLaid, HasFreeRegions, HasNoEmptyCondemned};

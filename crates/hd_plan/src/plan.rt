@@ -1,12 +1,8 @@
 ghost use Rattle.std.specs.Prelude.{◌≡◌, ◌^◌, ◌<◌, ◌≤◌, true, false, length, take, count_by, IfOk, MatchResult};
-ghost use Rattle.hd_model.specs.Counting.{Counts};
-ghost use Rattle.hd_model.specs.Scene.{is_object, IsCondemned};
-ghost use Rattle.hd_model.specs.Heap.{objects_of};
-ghost use Rattle.hd_plan.specs.LaySteps.{IsExtent};
+ghost use Rattle.hd_model.specs.{Counting.Counts, Scene.is_object, Scene.IsCondemned, Heap.objects_of};
+ghost use Rattle.hd_plan.specs.{LaySteps.IsExtent, Layout.is_kept_fate, Plan.SparesNeeded, Plan.SparesAtMost};
 ghost use Rattle.hd_heap.specs.Calls.{AreSurveyed};
-ghost use Rattle.hd_plan.specs.Layout.{is_kept_fate};
 ghost use Rattle.hd_plan.specs.Plan.{IsTakenPlan, IsLaid, kept_in, place_in, HasFreeRegions};
-ghost use Rattle.hd_plan.specs.Plan.{SparesNeeded, SparesAtMost};
 
 use crate::moves::{Condemned, Move};
 use crate::places::Places;

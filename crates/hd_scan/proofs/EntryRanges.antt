@@ -1,11 +1,7 @@
 -- The entries of a map, number by number, and the roots among them.
-use Rattle.std.proofs.Common.{◌≡◌, ◌⊎◌, inl, inr, ℕ, zero, suc, ◌+◌, ◌<◌, ◌≤◌, Bool, true, false, ◌&&◌, T, List, [], ◌++◌, Option, Some, None, refl, sym, ap, ◌∙◌, arith}
-use Rattle.std.specs.FinMap.{FinMap, get, find, is_sorted, entries, from_sorted, entries-from_sorted, get-from_sorted, get-from_entries, same_map, nat_cmp-IsAntisymmetric}
-use Rattle.std.specs.FinMap.Entries.{below_all}
-use Rattle.std.specs.Ordering.{nat_cmp, is_lt}
-use Rattle.std.specs.Cmp.{nat_cmp_total}
-use Rattle.std.proofs.lemmas.Bool.{lt-ltb, cases_lt}
-use Rattle.hd_seg.specs.Mapped.{with_entry, entries_of, mapped}
+use Rattle.hd_scan.proofs.Basics.{Bool, FinMap, List, None, Option, Some, T, [], ap, arith, cases_lt, entries, entries-from_sorted, false, find, from_sorted, get, get-from_entries, get-from_sorted, inl, inr, is_sorted, lt-ltb, nat_cmp-IsAntisymmetric, refl, same_map, suc, sym, true, with_entry, zero, ℕ, ◌&&◌, ◌++◌, ◌+◌, ◌<◌, ◌∙◌, ◌≡◌, ◌≤◌, ◌⊎◌}
+use Rattle.std.specs.{FinMap.Entries.below_all, Ordering.nat_cmp, Ordering.is_lt, Cmp.nat_cmp_total}
+use Rattle.hd_seg.specs.Mapped.{entries_of, mapped}
 use Rattle.hd_seg.proofs.FunctionMaps.{get-mapped, get-mapped_out}
 
 module _ {X : Type 0} (f : ℕ → Option X) where
@@ -51,8 +47,7 @@ module _ {X : Type 0} (f : ℕ → Option X) where
       below-with x first (f first) (entries_of (first + 1) n f) less (below x (first + 1) n (omega arith))
 
   sorted-with : (k : ℕ) (o : Option X) (es : List (ℕ × X)) → T (below_all nat_cmp k es)
-      → T (is_sorted nat_cmp es)
-      → T (is_sorted nat_cmp (with_entry k o es))
+      → T (is_sorted nat_cmp es) → T (is_sorted nat_cmp (with_entry k o es))
   sorted-with k None es low rest = rest
   sorted-with k (Some y) es low rest = both (below_all nat_cmp k es) (is_sorted nat_cmp es) low rest
 

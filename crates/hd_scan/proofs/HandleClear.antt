@@ -1,29 +1,6 @@
 -- What a clearing task makes of one handle, and of all along a walk.
-use Rattle.std.proofs.Common.{◌≡◌, ◌&&◌, ℕ, Bool, true, false, cond, List, Option, Some, None, refl, sym, ap, ◌∙◌, subst, ⊎_elim}
-use Rattle.std.specs.Prelude.{option_map}
-use Rattle.std.proofs.lemmas.Option.{same_Some}
-use Rattle.std.proofs.lemmas.Bool.{both_ways, cases_Bool, and_parts, and_left, and_right, and_from}
-use Rattle.hd_model.specs.declared.data.Addr.{Addr}
-use Rattle.hd_model.specs.State.{Handle}
-use Rattle.hd_model.specs.Kinds.{is_kind}
-use Rattle.hd_model.specs.Role.{role}
-use Rattle.hd_model.specs.Scene.{Objects}
-use Rattle.hd_model.specs.Marking.{IsSettled}
-use Rattle.hd_model.specs.Ages.{is_due, HasSoundAges}
-use Rattle.hd_model.specs.Collect.{is_lost}
-use Rattle.hd_model.specs.Table.{Table, row_at}
-use Rattle.hd_model.proofs.KindTests.{same_kind}
-use Rattle.hd_model.proofs.PropertyCounts.{counts_like}
+use Rattle.hd_scan.proofs.Basics.{Addr, Bool, ClearPass, DueRows, Handle, HasSoundAges, IsChanging, IsDueRow, IsLostAt, IsSettled, IsSweptAt, List, None, Objects, Option, PassView, Rewrites, Some, Table, Task, WholeClear, and_from, and_left, and_parts, and_right, ap, both_ways, cases_Bool, cond, counts_like, false, is_due, is_kind, is_lost, is_role, option_map, refl, role, row_at, same_Some, same_kind, subst, swept, sym, takes, task_kind, task_role, true, undue_target, view_at, ℕ, ⊎_elim, ◌&&◌, ◌∙◌, ◌≡◌}
 use Rattle.hd_model.proofs.IdleCollection.{kept_target}
-use Rattle.hd_model.proofs.MarkReach.{undue_target}
-use Rattle.hd_ages.specs.declared.due_rows.DueRows.{DueRows}
-use Rattle.hd_ages.specs.Rows.{IsDueRow}
-use Rattle.hd_seg.specs.Rewriting.{Rewrites}
-use Rattle.hd_ages.proofs.WalkWrites.{IsChanging}
-use Rattle.hd_scan.specs.declared.task.Task.{Task}
-use Rattle.hd_scan.specs.Tasks.{task_kind, task_role, is_role, takes, swept}
-use Rattle.hd_scan.specs.Passes.{IsSweptAt, PassView, ClearPass, view_at}
-use Rattle.hd_scan.specs.Whole.{IsLostAt, WholeClear}
 
 module _ {N : Type 0} (task : Task) (p : N → Bool) (h : Handle N) where
   -- one that loses its target, and one that does not

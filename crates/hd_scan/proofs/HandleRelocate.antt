@@ -1,23 +1,7 @@
 -- What a relocation makes of one handle, and that rows which are not visited need none.
-use Rattle.std.proofs.Common.{◌≡◌, ◌&&◌, ℕ, Bool, true, false, List, Option, Some, None, refl, sym, ap, ◌∙◌, subst, ⊎_elim}
-use Rattle.std.specs.Prelude.{option_map}
-use Rattle.std.proofs.lemmas.Bool.{true≢false, cases_Bool, and_parts, and_right, and_from, eq-eqb}
-use Rattle.hd_model.specs.declared.data.Addr.{Addr}
-use Rattle.hd_model.specs.declared.data.Kind.{Kind}
-use Rattle.hd_model.specs.Kinds.{is_kind, kind_number}
-use Rattle.hd_model.specs.Scene.{Objects}
-use Rattle.hd_model.specs.Ages.{is_due, HasSoundAges}
-use Rattle.hd_model.specs.Marking.{IsKeeping}
-use Rattle.hd_model.specs.Table.{Table, row_at}
-use Rattle.hd_model.proofs.KindTests.{same_kind}
-use Rattle.hd_model.proofs.MarkReach.{undue_in_place}
-use Rattle.hd_model.specs.State as state
-use Rattle.hd_model.specs.State.{Handle, secondary, secondary_of, rename_extra}
-use Rattle.hd_ages.specs.declared.due_rows.DueRows.{DueRows}
-use Rattle.hd_ages.specs.Rows.{IsDueRow}
-use Rattle.hd_seg.specs.Rewriting.{Rewrites}
-use Rattle.hd_ages.proofs.WalkWrites.{IsChanging}
+use Rattle.hd_scan.proofs.Basics.{Addr, Bool, DueRows, Handle, HasSoundAges, IsChanging, IsDueRow, IsKeeping, Kind, List, None, Objects, Option, Rewrites, Some, Table, and_from, and_parts, and_right, ap, cases_Bool, eq-eqb, false, is_due, is_kind, kind_number, option_map, refl, rename_extra, row_at, same_kind, subst, sym, true, true≢false, undue_in_place, ℕ, ⊎_elim, ◌&&◌, ◌∙◌, ◌≡◌}
 use Rattle.hd_scan.specs.Relocation.{relocated, KeepsNames, CanRelocate, Relocates, RelocatesAll}
+use Rattle.hd_model.specs.State as state
 
 -- the parts of a row with their forwarding addresses make the relocated handle
 pub handle_moved : (place : Addr → Addr) (h : Handle Addr) (target : Option Addr) (extra : state.Extra Addr)

@@ -1,3 +1,4 @@
+pub mod Basics
 pub mod HandleClear
 pub mod HandleRelocate
 pub mod RootPromote

@@ -1,26 +1,9 @@
 -- The roots of a table, slot by slot, block by block, and all.
-use Rattle.std.proofs.Common.{◌≡◌, ◌≢◌, ℕ, zero, suc, ◌+◌, ◌*◌, ◌/◌, ◌<◌, ◌≤◌, List, [], ◌∷◌, ◌++◌, flat_map, map, Option, Some, None, Result, Ok, Err, IfOk, refl, sym, ap, ◌∙◌, subst, arith}
-use Rattle.std.specs.Prelude.{option_map, option_and_then, MatchResult, Contains}
-use Rattle.std.specs.Option.{option_to_list}
-use Rattle.std.specs.List.{AllZip, range_with_len}
-use Rattle.std.specs.FinMap.{get}
-use Rattle.std.specs.declared.alloc.Global.{Global}
-use Rattle.std.specs.declared.vec.Vec.{Vec}
-use Rattle.std.proofs.lemmas.List.{append-nil}
-use Rattle.std.proofs.lemmas.List.Concat.{flat_map-append}
-use Rattle.hd_model.specs.declared.data.Addr.{Addr}
-use Rattle.hd_model.specs.declared.data.Kind.{Kind}
-use Rattle.hd_model.specs.declared.limits.TheConstants.{ROWS}
-use Rattle.hd_model.specs.State.{Handle, BlockUse, handles_of, extra_data}
-use Rattle.hd_model.specs.RootText.{held_of, root_in, roots_in}
-use Rattle.hd_model.specs.Table.{Table, IsTable, row_at}
-use Rattle.hd_seg.specs.declared.row.BlockKind.{BlockKind}
-use Rattle.hd_seg.specs.declared.row.BlockKind.TheVariants as block
-use Rattle.hd_seg.specs.Mapped.{with_entry, entries_of}
-use Rattle.hd_seg.specs.Row.{block_kind_of}
-use Rattle.hd_scan.specs.declared.gathering.Root.{Root}
-use Rattle.hd_scan.specs.Gathering.{root_by, roots_of, roots_of_block, root_at}
+use Rattle.hd_scan.proofs.Basics.{Addr, AllZip, BlockUse, Contains, Err, Global, Handle, IfOk, IsTable, Kind, List, MatchResult, None, Ok, Option, ROWS, Result, Root, Some, Table, Vec, [], ap, arith, block_kind_of, extra_data, flat_map, get, handles_of, held_of, map, option_and_then, option_map, option_to_list, range_with_len, refl, root_at, root_by, root_in, roots_in, roots_of, roots_of_block, row_at, subst, suc, sym, with_entry, zero, ℕ, ◌*◌, ◌++◌, ◌+◌, ◌/◌, ◌<◌, ◌∙◌, ◌∷◌, ◌≡◌, ◌≢◌, ◌≤◌}
+use Rattle.std.proofs.{lemmas.List.append-nil, lemmas.List.Concat.flat_map-append}
+use Rattle.hd_seg.specs.{declared.row.BlockKind.BlockKind, Mapped.entries_of}
 use Rattle.hd_scan.proofs.EntryRanges.{entries-join, entries-none, entries-are}
+use Rattle.hd_seg.specs.declared.row.BlockKind.TheVariants as block
 
 -- the root in one slot, as a list
 one_root : (k : ℕ) (o : Option (Handle Addr)) → roots_in root_by (with_entry k o [])
@@ -48,8 +31,7 @@ module _ (t : Table) where
       ∙ flat_map-append (root_in root_by) (entries_of first n (row_at t))
       (entries_of (first + n) 1 (row_at t))
       ∙ ap (λ es. roots_in root_by (entries_of first n (row_at t)) ++ roots_in root_by es)
-      (one_entry (first + n))
-      ∙ ap (λ rs. roots_in root_by (entries_of first n (row_at t)) ++ rs)
+      (one_entry (first + n)) ∙ ap (λ rs. roots_in root_by (entries_of first n (row_at t)) ++ rs)
       (one_root (first + n) (row_at t (first + n)))
 
 same_use : (o : Option BlockUse) (j k : Kind) → block.Rows k ≡ block_kind_of o → o ≡ Some (handles_of j) → j
@@ -59,8 +41,7 @@ same_use (Some (handles_of i)) j k is use_is = cc
 same_use (Some extra_data) j k is use_is = cc
 
 no_use : (o : Option BlockUse) (j : Kind) (b : BlockKind) → b ≡ block_kind_of o
-    → ((k : Kind) → b ≢ block.Rows k)
-    → o ≢ Some (handles_of j)
+    → ((k : Kind) → b ≢ block.Rows k) → o ≢ Some (handles_of j)
 no_use o j b is other use_is = other j (is ∙ ap block_kind_of use_is)
 
 module _ (t : Table) (is : IsTable t) (b : ℕ) where
@@ -105,11 +86,26 @@ module _ (t : Table) where
       ∙ ap (roots_in root_by) (sym (entries-join (row_at t) (ROWS * b) ROWS (ROWS * n))
       ∙ ap (λ k. entries_of (ROWS * b) k (row_at t)) more)
 
-  pub all_blocks : IsTable t → flat_map (roots_of_block t) (range_with_len 1 t.blocks) ≡ roots_of t
-  all_blocks is =
-      blocks_join 1 t.blocks
-      ∙ ap (roots_in root_by) (sym (entries-are t.rows (ROWS * 1) (ROWS * t.blocks) (λ q h is_stored.
+  -- those of one block more
+  pub next_block : (n : ℕ) → roots_in root_by (entries_of ROWS (ROWS * (n + 1)) (row_at t))
+      ≡ roots_in root_by (entries_of ROWS (ROWS * n) (row_at t)) ++ roots_of_block t (n + 1)
+  next_block n =
+      let more : ROWS * (n + 1) ≡ ROWS * n + ROWS = omega arith in
+      let next : ROWS + ROWS * n ≡ ROWS * (n + 1) = omega arith in
+      let before = roots_in root_by (entries_of ROWS (ROWS * n) (row_at t)) in
+      ap (λ k. roots_in root_by (entries_of ROWS k (row_at t))) more
+      ∙ ap (roots_in root_by) (entries-join (row_at t) ROWS (ROWS * n) ROWS)
+      ∙ flat_map-append (root_in root_by) (entries_of ROWS (ROWS * n) (row_at t))
+      (entries_of (ROWS + ROWS * n) ROWS (row_at t))
+      ∙ ap (λ k. before ++ roots_in root_by (entries_of k ROWS (row_at t))) next
+
+  -- and those of all
+  pub all_rows : IsTable t → roots_in root_by (entries_of ROWS (ROWS * t.blocks) (row_at t)) ≡ roots_of t
+  all_rows is = ap (roots_in root_by) (sym (entries-are t.rows ROWS (ROWS * t.blocks) (λ q h is_stored.
       let row = is.rows q h is_stored in (omega (arith, row.low), omega (arith, row.high)))))
+
+  pub all_blocks : IsTable t → flat_map (roots_of_block t) (range_with_len 1 t.blocks) ≡ roots_of t
+  all_blocks is = blocks_join 1 t.blocks ∙ all_rows is
 
 -- the lists of all blocks, each as it was returned
 pub in_order : (E : Type 0) (g : ℕ → List Root) (bs : List ℕ) (vs : List (Vec Root Global))
@@ -137,8 +133,7 @@ pub gathered : (E : Type 0) (t : Table) (bs : List ℕ) (rs : List (Result (Vec 
     → flat_map (λ (v : Vec Root Global). v.items) parts.items ≡ roots_of t
 gathered E t bs rs made parts is range each of ok =
     let lists = subst (IsMadeOf rs) ok of in
-    ap (flat_map (λ (v : Vec Root Global). v.items)) lists.2
-    ∙ in_order E (roots_of_block t) bs lists.0
+    ap (flat_map (λ (v : Vec Root Global). v.items)) lists.2 ∙ in_order E (roots_of_block t) bs lists.0
     (subst (AllZip (λ b (r : Result (Vec Root Global) E). IfOk r (λ v. v.items ≡ roots_of_block t b)) bs)
     lists.1 each)
     ∙ ap (flat_map (roots_of_block t)) range ∙ all_blocks t is

@@ -1,31 +1,9 @@
 -- What a root task promotes and pins along a walk.
-use Rattle.std.proofs.Common.{◌≡◌, ◌≢◌, ◌&&◌, ◌⊎◌, ℕ, ◌+◌, ◌<◌, ◌≤◌, Bool, true, false, List, length, Some, is_some, refl, sym, ap, ◌∙◌, subst, arith, ⊎_elim, inl, inr}
-use Rattle.std.specs.Prelude.{Contains}
-use Rattle.std.proofs.lemmas.Bool.{both_ways, cases_Bool, cases_eq, and_parts, and_from}
-use Rattle.std.proofs.lemmas.Option.{same_Some}
+use Rattle.hd_scan.proofs.Basics.{Addr, Bool, Contains, Counts, DueRows, Ends, Gives, Grows, Handle, HasSoundAges, IsDueRow, IsOn, IsPinnedBy, IsRootAt, IsSettled, IsTable, IsTaken, IsTargetBy, IsTargetOf, IsUnderway, IsYoungField, Leads, List, Objects, PinsBy, RootPass, Some, Table, Task, WholeRoots, all_past, all_to_come, and_from, and_parts, ap, arith, begins, both_ways, cases_Bool, cases_eq, chain_of, clumps_to_come, due_clumps, due_slots, false, few_to_come, generation_at, goes_on, grows_like, grows_none, grows_on, inl, inr, is_due, is_some, length, live_at, pins, refl, row_at, row_due, row_past, row_same, same_Some, slots_to_come, subst, sym, takes, task_kind, true, undue_target, view_at, ℕ, ⊎_elim, ◌&&◌, ◌+◌, ◌<◌, ◌∙◌, ◌≡◌, ◌≢◌, ◌≤◌, ◌⊎◌}
 use mir.Val.{bool_byte}
-use Rattle.hd_model.specs.declared.data.Addr.{Addr}
 use Rattle.hd_model.specs.declared.data.Slot.{Slot}
-use Rattle.hd_model.specs.State.{Handle}
-use Rattle.hd_model.specs.Role.{pins}
-use Rattle.hd_model.specs.Scene.{Objects, IsYoungField, generation_at}
-use Rattle.hd_model.specs.Leads.{Leads, Grows}
-use Rattle.hd_model.specs.Marking.{IsSettled}
-use Rattle.hd_model.specs.Ages.{is_due, due_clumps, HasSoundAges}
-use Rattle.hd_model.specs.Counting.{Counts}
-use Rattle.hd_model.specs.Table.{Table, IsTable, chain_of, live_at, row_at}
-use Rattle.hd_model.proofs.Entries.{some_value}
-use Rattle.hd_model.proofs.EdgeChains.{grows_none, grows_on, grows_like}
-use Rattle.hd_model.proofs.MarkReach.{undue_target}
-use Rattle.hd_ages.specs.declared.due_rows.DueRows.{DueRows}
-use Rattle.hd_ages.specs.Walk.{IsOn, Ends, Gives, due_slots, clumps_to_come, slots_to_come}
-use Rattle.hd_ages.specs.Rows.{IsDueRow}
-use Rattle.hd_ages.proofs.WalkProgress.{IsUnderway, begins, all_to_come, few_to_come, row_due, row_same, row_past, goes_on, all_past}
+use Rattle.hd_model.proofs.MapEntries.{some_value}
 use Rattle.hd_ages.proofs.WalkCounts.{IsPastWith, counted_start, counted_end, counted_more, counted_else, still_past, past_before}
-use Rattle.hd_scan.specs.declared.task.Task.{Task}
-use Rattle.hd_scan.specs.Tasks.{task_kind, takes}
-use Rattle.hd_scan.specs.Passes.{IsTargetBy, PinsBy, IsTaken, IsRootAt, IsPinnedBy, RootPass, view_at}
-use Rattle.hd_scan.specs.Whole.{IsTargetOf, WholeRoots}
 use Rattle.hd_scan.proofs.HandleClear.{taken_kind}
 
 module _ (o : Objects Addr) (t : Table) (ages : List ℕ) (n : ℕ) (task : Task) (p0 pin0 : Addr → Bool) where
@@ -100,14 +78,12 @@ module _ {o : Objects Addr} {t : Table} {ages : List ℕ} {n : ℕ} {task : Task
         → Contains (slots_to_come t ages old) x → ⊥
     before_or x ne gone =
         past_before (IsRootAt (row_at t) ages n task) (slots_to_come t ages old) (slots_to_come t ages new)
-        slot.0
-        held gives.slots past x ne gone
+        slot.0 held gives.slots past x ne gone
 
     still : (x : ℕ) → (Contains (slots_to_come t ages old) x → ⊥) → Contains (slots_to_come t ages new) x → ⊥
     still x gone =
         still_past (IsRootAt (row_at t) ages n task) (slots_to_come t ages old) (slots_to_come t ages new)
-        slot.0
-        held gives.slots past x gone
+        slot.0 held gives.slots past x gone
 
     -- a handle in this slot is the one that was looked at
     it : (h : Handle Addr) (k : ℕ) → row_at t k ≡ Some h → k ≡ slot.0 → h ≡ live_at t slot.0
@@ -171,8 +147,7 @@ module _ {o : Objects Addr} {t : Table} {ages : List ℕ} {n : ℕ} {task : Task
         ∙ ap is_some r.target))
 
     number : (has : Bool) (one : ℕ)
-        → has ≡ (takes task (live_at t slot.0) && is_some (live_at t slot.0).target)
-        → one ≡ bool_byte has
+        → has ≡ (takes task (live_at t slot.0) && is_some (live_at t slot.0).target) → one ≡ bool_byte has
         → Counts (IsPastWith (IsRootAt (row_at t) ages n task) (slots_to_come t ages new)) (held + one)
     number true one is e =
         subst (λ c. Counts (IsPastWith (IsRootAt (row_at t) ages n task) (slots_to_come t ages new)) c)
@@ -223,8 +198,7 @@ module _ {o : Objects Addr} {t : Table} {ages : List ℕ} {n : ℕ} {task : Task
       table = refl;
       promotes =
           grows_like (IsYoungField o n) (IsPastTaken o t ages n task p0 pin0 (slots_to_come t ages old))
-          (IsTaken (row_at t) ages n task)
-          p0 p (λ x r. r.0) (λ x r. (r, none r.slot)) s.promotes;
+          (IsTaken (row_at t) ages n task) p0 p (λ x r. r.0) (λ x r. (r, none r.slot)) s.promotes;
       pins = record {
         keeps = s.pinned;
         joins = λ x r. s.pin_joins x (r, none r.taken.slot);
@@ -260,8 +234,7 @@ module _ {o : Objects Addr} {t : Table} {ages : List ℕ} {n : ℕ} {task : Task
           handle = r.handle;
           is_stored = r.is_stored;
           passes = r.takes;
-          target =
-              r.target;
+          target = r.target;
         }
 
     pub root_whole : WholeRoots o n (takes task) (view_at t p0 pin0) (view_at t p pin)

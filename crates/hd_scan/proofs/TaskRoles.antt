@@ -1,17 +1,7 @@
 -- The tasks of a role take exactly the handles that have it.
-use Rattle.std.proofs.Common.{◌≡◌, ◌&&◌, ◌||◌, zero, suc, Bool, true, false, Option, refl, sym, ap, ◌∙◌}
-use Rattle.hd_model.specs.declared.data.Addr.{Addr}
-use Rattle.hd_model.specs.declared.data.Kind.{Kind}
+use Rattle.hd_scan.proofs.Basics.{Addr, Bool, Extra, Handle, Kind, Option, Row, Task, ap, count, extra_again, extra_of, false, has_role, holds, is_kind, is_paired, is_role, long, long_tasks, nothing, refl, role_of, root_tasks, row_of, secondary, short, short_tasks, strength, suc, sym, takes, takes_any, task_kind, task_role, true, zero, ◌&&◌, ◌||◌, ◌∙◌, ◌≡◌}
 use Rattle.hd_model.specs.declared.data.Kind.TheVariants as kind
-use Rattle.hd_model.specs.State.{Extra, nothing, strength, secondary, count, Handle}
-use Rattle.hd_model.specs.Role.{holds, short, long, role_of}
-use Rattle.hd_model.specs.Kinds.{is_kind, is_paired}
-use Rattle.hd_seg.specs.Row.{extra_of, row_of}
-use Rattle.hd_seg.specs.declared.row.Row.{Row}
-use Rattle.hd_seg.proofs.RowRewrite.{extra_again}
-use Rattle.hd_scan.specs.declared.task.Task.{Task}
 use Rattle.hd_scan.specs.declared.task.Task.TheVariants as task
-use Rattle.hd_scan.specs.Tasks.{task_kind, task_role, takes, root_tasks, short_tasks, long_tasks, takes_any, is_role, has_role}
 
 or_none : (b : Bool) → (b || false) ≡ b
 or_none true = refl

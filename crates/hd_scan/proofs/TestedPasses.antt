@@ -1,22 +1,7 @@
 -- One pass after another, each over the handles that pass its test, is one over those that pass either.
-use Rattle.std.proofs.Common.{◌≡◌, ◌&&◌, ◌||◌, ◌⊎◌, ℕ, ◌+◌, ◌<◌, List, length, take, get_or, Bool, true, false, cond, Option, Some, None, refl, sym, ap, ◌∙◌, subst, ⊎_elim, inl, inr}
-use Rattle.std.specs.Prelude.{option_map}
-use Rattle.std.proofs.lemmas.Bool.{cases_Bool, true≢false, or_left, or_right, or_cases}
-use Rattle.std.proofs.lemmas.Option.{same_Some}
+use Rattle.hd_scan.proofs.Basics.{Addr, Bool, Counts, Handle, IsLostAt, IsPinTargetOf, IsTargetOf, IsYoungField, List, None, Objects, Option, PassView, Rows, Some, Table, Task, WholeClear, WholeRoots, ap, cases_Bool, cond, counts_join, counts_like, counts_none, false, get_or, grows_like, grows_on, inl, inr, is_lost, length, option_map, or_cases, or_left, or_right, refl, row_at, same_Some, subst, swept, sym, take, takes, takes_any, true, true≢false, ℕ, ⊎_elim, ◌&&◌, ◌+◌, ◌<◌, ◌||◌, ◌∙◌, ◌≡◌, ◌⊎◌}
 use Rattle.std.proofs.lemmas.List.Sums.{fold_more}
-use Rattle.hd_model.specs.declared.data.Addr.{Addr}
-use Rattle.hd_model.specs.State.{Handle}
-use Rattle.hd_model.specs.Collect.{is_lost}
-use Rattle.hd_model.specs.Counting.{Counts}
-use Rattle.hd_model.specs.Scene.{Objects, Rows, IsYoungField}
-use Rattle.hd_model.specs.Table.{Table, row_at}
 use Rattle.hd_model.proofs.SceneCollection.{mapped_value}
-use Rattle.hd_model.proofs.EdgeChains.{grows_none, grows_on, grows_like}
-use Rattle.hd_model.proofs.PropertyCounts.{counts_none, counts_like, counts_join}
-use Rattle.hd_scan.specs.Tasks.{takes, takes_any, swept}
-use Rattle.hd_scan.specs.declared.task.Task.{Task}
-use Rattle.hd_scan.specs.Passes.{PassView}
-use Rattle.hd_scan.specs.Whole.{IsTargetOf, IsPinTargetOf, IsLostAt, WholeRoots, WholeClear}
 
 same_either : {A : Type 0} (b : Bool) (x : A) → cond b x x ≡ x
 same_either true x = refl
@@ -111,11 +96,9 @@ module _ {N : Type 0} (p : N → Bool) where
           handle = swept true f p d.handle;
           is_stored = after_first slot d.handle d.is_stored;
           passes =
-              over d.handle
-              ∙ ⊎_elim (λ yes. absurd (true≢false (sym yes ∙ no))) (λ other. other)
+              over d.handle ∙ ⊎_elim (λ yes. absurd (true≢false (sym yes ∙ no))) (λ other. other)
               (or_cases (f d.handle) (g d.handle) d.passes);
-          lost =
-              ap (λ v. is_lost p (cond (v && is_lost p d.handle.target) None d.handle.target)) no ∙ d.lost;
+          lost = ap (λ v. is_lost p (cond (v && is_lost p d.handle.target) None d.handle.target)) no ∙ d.lost;
         }))
         (cases_Bool (f d.handle))
 
@@ -158,15 +141,6 @@ clears_twice f g u v w a b same over first then =
           first.count second.count;
     }
 
--- a pass that promotes nothing
-pub roots_none : (o : Objects Addr) (n : ℕ) (u : PassView) → WholeRoots o n (λ h. false) u u
-roots_none o n u = record {
-  promotes =
-      grows_none (IsYoungField o n) (IsTargetOf (row_at u.table) (λ h. false)) u.promoted
-      (λ x s. true≢false (sym s.passes));
-  pins = λ x young. (λ e. inl e, ⊎_elim (λ e. e) (λ p. absurd (true≢false (sym p.of.passes))));
-}
-
 -- the targets of handles that pass either of two tests
 module _ {N : Type 0} (f g : Handle N → Bool) (rows : Rows N) where
   -- the handle of a target passes another test
@@ -181,8 +155,7 @@ module _ {N : Type 0} (f g : Handle N → Bool) (rows : Rows N) where
   pub either_target : (x : N) → IsTargetOf rows f x ⊎ IsTargetOf rows g x
       → IsTargetOf rows (λ h. f h || g h) x
   either_target x =
-      ⊎_elim
-      (λ (a : IsTargetOf rows f x). with_test f Any x a (or_left (f a.handle) (g a.handle) a.passes))
+      ⊎_elim (λ (a : IsTargetOf rows f x). with_test f Any x a (or_left (f a.handle) (g a.handle) a.passes))
       (λ (b : IsTargetOf rows g x). with_test g Any x b (or_right (f b.handle) (g b.handle) b.passes))
 
   pub target_either : (x : N) → IsTargetOf rows (λ h. f h || g h) x
@@ -208,8 +181,7 @@ module _ {N : Type 0} (f g : Handle N → Bool) (rows : Rows N) where
 
 -- two passes that promote from one table
 pub roots_twice : (o : Objects Addr) (n : ℕ) (f g : Handle Addr → Bool) (u v w : PassView)
-    → v.table ≡ u.table → WholeRoots o n f u v → WholeRoots o n g v w
-    → WholeRoots o n (λ h. f h || g h) u w
+    → v.table ≡ u.table → WholeRoots o n f u v → WholeRoots o n g v w → WholeRoots o n (λ h. f h || g h) u w
 roots_twice o n f g u v w same a then =
     let rows : Rows Addr = row_at u.table in
     let b : WholeRoots o n g (record v { table = u.table }) w =
@@ -222,8 +194,7 @@ roots_twice o n f g u v w same a then =
           (grows_on (IsYoungField o n) (IsTargetOf rows f) (IsTargetOf rows g) u.promoted v.promoted
           w.promoted a.promotes b.promotes);
       pins = λ x young. (
-        λ e.
-            ⊎_elim
+        λ e. ⊎_elim
             (λ earlier. ⊎_elim (λ first. inl first) (λ p. inr (either_pin f g rows x (inl p)))
             ((a.pins x young).0 earlier))
             (λ p. inr (either_pin f g rows x (inr p))) ((b.pins x young).0 e),

@@ -1,13 +1,7 @@
 -- The list of roots of a table: all of it, of one block, and of one slot.
 use Rattle.std.specs.Prelude.{ℕ, ◌*◌, List, Option, option_map, option_and_then}
 use Rattle.std.specs.FinMap.{entries}
-use Rattle.hd_model.specs.declared.data.Addr.{Addr}
-use Rattle.hd_model.specs.declared.data.Kind.{Kind}
-use Rattle.hd_model.specs.declared.data.Slot.{Slot}
-use Rattle.hd_model.specs.declared.limits.TheConstants.{ROWS}
-use Rattle.hd_model.specs.State.{Handle}
-use Rattle.hd_model.specs.RootText.{held_of, roots_in}
-use Rattle.hd_model.specs.Table.{Table, row_at}
+use Rattle.hd_model.specs.{declared.data.Addr.Addr, declared.data.Kind.Kind, declared.data.Slot.Slot, declared.limits.TheConstants.ROWS, State.Handle, RootText.held_of, RootText.roots_in, Table.Table, Table.row_at}
 use Rattle.hd_seg.specs.Mapped.{entries_of}
 use Rattle.hd_scan.specs.declared.gathering.Root.{Root}
 

@@ -1,15 +1,7 @@
 -- What a pass does in the slots that it visits: those whose clump is due.
 use Rattle.std.specs.Prelude.{◌≡◌, ℕ, ◌⊎◌, Bool, true, List, Some, option_map, MatchBool}
-use Rattle.hd_model.specs.declared.data.Addr.{Addr}
-use Rattle.hd_model.specs.State.{Handle}
-use Rattle.hd_model.specs.Role.{pins}
+use Rattle.hd_model.specs.{declared.data.Addr.Addr, State.Handle, Role.pins, Leads.Grows, Ages.is_due, Collect.is_lost, Counting.Counts, Table.Table, Table.row_at, Visits.IsSameTable}
 use Rattle.hd_model.specs.Scene.{Objects, Rows, IsYoungField}
-use Rattle.hd_model.specs.Leads.{Grows}
-use Rattle.hd_model.specs.Ages.{is_due}
-use Rattle.hd_model.specs.Collect.{is_lost}
-use Rattle.hd_model.specs.Counting.{Counts}
-use Rattle.hd_model.specs.Table.{Table, row_at}
-use Rattle.hd_model.specs.Visits.{IsSameTable}
 use Rattle.hd_scan.specs.declared.task.Task.{Task}
 use Rattle.hd_scan.specs.Tasks.{is_clearing, takes, swept}
 

@@ -1,11 +1,7 @@
 -- The references in the rows of one kind after objects have moved.
 use Rattle.std.specs.Prelude.{◌≡◌, ℕ, ◌&&◌, Bool, true, cond, List, Some, option_map}
-use Rattle.hd_model.specs.declared.data.Addr.{Addr}
-use Rattle.hd_model.specs.declared.data.Kind.{Kind}
+use Rattle.hd_model.specs.{declared.data.Addr.Addr, declared.data.Kind.Kind, Kinds.is_kind, Ages.is_due, Table.Table, Table.row_at}
 use Rattle.hd_model.specs.State.{Handle, secondary_of, rename_extra}
-use Rattle.hd_model.specs.Kinds.{is_kind}
-use Rattle.hd_model.specs.Ages.{is_due}
-use Rattle.hd_model.specs.Table.{Table, row_at}
 
 -- a handle whose target and secondary have their forwarding addresses, where it is one of those to be written
 abbrev pub relocated : {N : Type 0} → Bool → (N → N) → Handle N → Handle N

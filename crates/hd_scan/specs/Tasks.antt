@@ -1,14 +1,10 @@
 -- The tasks of a pass: each takes the handles of one kind that have one role.
 use Rattle.std.specs.Prelude.{ℕ, ◌&&◌, ◌||◌, ◌==◌, Bool, true, false, cond, None, List, [], ◌∷◌, fold}
-use Rattle.hd_model.specs.declared.data.Kind.{Kind}
+use Rattle.hd_model.specs.{declared.data.Kind.Kind, State.Handle, Kinds.is_kind, Collect.is_lost}
 use Rattle.hd_model.specs.declared.data.Kind.TheVariants as kind
-use Rattle.hd_model.specs.State.{Handle}
-use Rattle.hd_model.specs.Kinds.{is_kind}
 use Rattle.hd_model.specs.Role.{Role, holds, short, long, attaches, role}
-use Rattle.hd_model.specs.Collect.{is_lost}
-use Rattle.hd_scan.specs.declared.task.Task.{Task}
+use Rattle.hd_scan.specs.{declared.task.Task.Task, declared.task.Role.Role as Named}
 use Rattle.hd_scan.specs.declared.task.Task.TheVariants as task
-use Rattle.hd_scan.specs.declared.task.Role.{Role as Named}
 use Rattle.hd_scan.specs.declared.task.Role.TheVariants as named
 
 -- the kind of handle that a task goes over

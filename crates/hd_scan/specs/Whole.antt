@@ -1,17 +1,10 @@
 -- What a pass comes to where ages are sound: the same as if it had looked at every row of its kind. Of the
 -- number that a root task returns, which is of due rows alone, nothing is said here.
 use Rattle.std.specs.Prelude.{◌≡◌, ◌↔◌, ℕ, ◌⊎◌, Bool, true, Some, option_map, MatchBool}
-use Rattle.hd_model.specs.declared.data.Addr.{Addr}
-use Rattle.hd_model.specs.State.{Handle}
-use Rattle.hd_model.specs.Role.{pins}
+use Rattle.hd_model.specs.{declared.data.Addr.Addr, State.Handle, Role.pins, Leads.Grows, Collect.is_lost, Counting.Counts, Table.Table, Table.row_at}
 use Rattle.hd_model.specs.Scene.{Objects, Rows, IsCondemned, IsYoungField}
-use Rattle.hd_model.specs.Leads.{Grows}
-use Rattle.hd_model.specs.Collect.{is_lost}
-use Rattle.hd_model.specs.Counting.{Counts}
-use Rattle.hd_model.specs.Table.{Table, row_at}
-use Rattle.hd_scan.specs.declared.task.Task.{Task}
+use Rattle.hd_scan.specs.{declared.task.Task.Task, Passes.PassView}
 use Rattle.hd_scan.specs.Tasks.{is_clearing, takes, swept}
-use Rattle.hd_scan.specs.Passes.{PassView}
 
 -- a handle that passes a test has the target x, in whatever slot it is
 pub record IsTargetOf {N : Type 0} (rows : Rows N) (f : Handle N → Bool) (x : N) : Type 0 where

@@ -1,16 +1,9 @@
 ghost use Rattle.std.specs.Prelude.{◌≡◌, ◌+◌, ◌*◌, ◌&&◌, ◌≤◌, IsSome, true};
-ghost use Rattle.std.specs.Option.{ForSome};
-ghost use Rattle.std.specs.FinMap.{get};
-ghost use Rattle.hd_model.specs.Heap.{objects_of};
-ghost use Rattle.hd_model.specs.Scene.{is_object};
-ghost use Rattle.hd_model.specs.Table.{live_at, row_at};
-ghost use Rattle.hd_model.specs.Visits.{MayVisit, visits_of};
-ghost use Rattle.hd_model.specs.Ages.{HasSoundAges};
-ghost use Rattle.hd_model.specs.Collect.{is_lost};
+ghost use Rattle.std.specs.{Option.ForSome, FinMap.get};
+ghost use Rattle.hd_model.specs.{Heap.objects_of, Scene.is_object, Table.live_at, Table.row_at, Visits.MayVisit, Visits.visits_of, Ages.HasSoundAges, Collect.is_lost};
 ghost use Rattle.hd_seg.specs.Rewriting.{Rewrites};
 ghost use Rattle.hd_scan.specs.Tasks.{task_kind, takes, swept};
-ghost use Rattle.hd_scan.specs.Passes.{ClearPass, view_at};
-ghost use Rattle.hd_scan.specs.Whole.{WholeClear};
+ghost use Rattle.hd_scan.specs.{Passes.ClearPass, Passes.view_at, Whole.WholeClear};
 
 use crate::task::Task;
 use hd_ages::{AgeMap, DueRows};

@@ -1,9 +1,7 @@
 // The list of roots, gathered block by block, in as many threads as there are processors.
 ghost use Rattle.std.specs.Prelude.{◌≡◌, ◌*◌, ◌≤◌, ◌++◌, flat_map, IfOk, OnOk, Some};
 ghost use Rattle.std.specs.Option.{option_to_list};
-ghost use Rattle.hd_model.specs.declared.data.Addr.{Addr};
-ghost use Rattle.hd_model.specs.State.{Handle, handles_of};
-ghost use Rattle.hd_model.specs.Table.{row_at};
+ghost use Rattle.hd_model.specs.{declared.data.Addr.Addr, State.Handle, State.handles_of, Table.row_at};
 ghost use Rattle.hd_scan.specs.Gathering.{roots_of, roots_of_block, root_at};
 
 use crate::task::{Role, role_by};
@@ -61,6 +59,32 @@ fn gather_blocks(
         )
         .collect::<Result<Vec<Vec<Root>>, AllocError>>(rt, alloc)??;
     joined(alloc, &parts)
+}
+
+/// The same in the calling thread.
+pub fn gather_alone(alloc: Global, seg: &Seg, blocks: u32) -> Result<Vec<Root>, Memory>
+    requires { blocks ≡ seg.now.blocks }
+    ensures { IfOk result (λ roots. roots.items ≡ roots_of seg.now) }
+{
+    match gather_in_turn(alloc, seg, blocks) {
+        Ok(roots) => Ok(roots),
+        Err(AllocError) => Err(Memory),
+    }
+}
+
+// Gathers the roots of one block after another.
+fn gather_in_turn(alloc: Global, seg: &Seg, blocks: u32) -> Result<Vec<Root>, AllocError>
+    requires { blocks ≡ seg.now.blocks }
+    ensures { IfOk result (λ roots. roots.items ≡ roots_of seg.now) }
+{
+    // The read brings the limit of the number of blocks.
+    let _given = seg.given();
+    let mut roots = Vec::new(alloc);
+    for i in 0..blocks {
+        let part = roots_of_block(alloc, seg, i + 1)?;
+        roots.extend_from_slice(&part)?;
+    }
+    Ok(roots)
 }
 
 // The lists one after another.

@@ -14,7 +14,7 @@ mod roots;
 mod task;
 
 pub use clearing::clear;
-pub use gathering::{Root, gather};
+pub use gathering::{Root, gather, gather_alone};
 pub use passes::pass;
 pub use relocation::relocate;
 pub use roots::promote;

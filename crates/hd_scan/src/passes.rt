@@ -1,11 +1,6 @@
 ghost use Rattle.std.specs.Prelude.{◌≡◌, ◌+◌, ◌*◌, ◌≤◌};
-ghost use Rattle.hd_model.specs.Heap.{objects_of};
-ghost use Rattle.hd_model.specs.Table.{row_at};
-ghost use Rattle.hd_model.specs.Visits.{MayVisit, visits_of};
-ghost use Rattle.hd_model.specs.Ages.{HasSoundAges};
-ghost use Rattle.hd_scan.specs.Tasks.{task_kind};
-ghost use Rattle.hd_scan.specs.Passes.{Passed, view_at};
-ghost use Rattle.hd_scan.specs.Whole.{WholePass};
+ghost use Rattle.hd_model.specs.{Heap.objects_of, Table.row_at, Visits.MayVisit, Visits.visits_of, Ages.HasSoundAges};
+ghost use Rattle.hd_scan.specs.{Tasks.task_kind, Passes.Passed, Passes.view_at, Whole.WholePass};
 
 use crate::clearing::clear;
 use crate::roots::promote;

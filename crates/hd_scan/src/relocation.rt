@@ -1,10 +1,6 @@
 ghost use Rattle.std.specs.Prelude.{◌≡◌, ◌+◌, ◌*◌, length, option_map, IsSome, true};
-ghost use Rattle.std.specs.Option.{ForSome};
-ghost use Rattle.std.specs.FinMap.{get};
-ghost use Rattle.hd_model.specs.Heap.{objects_of};
-ghost use Rattle.hd_model.specs.Table.{live_at, row_at};
-ghost use Rattle.hd_model.specs.Visits.{IsSameTable, visits_of};
-ghost use Rattle.hd_model.specs.Ages.{HasSoundAges};
+ghost use Rattle.std.specs.{Option.ForSome, FinMap.get};
+ghost use Rattle.hd_model.specs.{Heap.objects_of, Table.live_at, Table.row_at, Visits.IsSameTable, Visits.visits_of, Ages.HasSoundAges};
 ghost use Rattle.hd_seg.specs.Rewriting.{Rewrites};
 ghost use Rattle.hd_ages.specs.Clumps.{CoversTable};
 ghost use Rattle.hd_scan.specs.Relocation.{CanRelocate, KeepsNames, Relocates, RelocatesAll, relocated};

@@ -1,15 +1,8 @@
 ghost use Rattle.std.specs.Prelude.{◌≡◌, ◌+◌, ◌*◌, ◌&&◌, ◌≤◌, is_some, IsSome};
 ghost use Rattle.std.specs.FinMap.{get};
-ghost use Rattle.hd_model.specs.Heap.{objects_of};
-ghost use Rattle.hd_model.specs.Leads.{Grows};
-ghost use Rattle.hd_model.specs.Scene.{IsYoungField};
-ghost use Rattle.hd_model.specs.Table.{live_at, row_at};
-ghost use Rattle.hd_model.specs.Names.{NamesObjects};
-ghost use Rattle.hd_model.specs.Visits.{MayVisit, visits_of};
-ghost use Rattle.hd_model.specs.Ages.{HasSoundAges};
-ghost use Rattle.hd_scan.specs.Tasks.{task_kind, takes};
+ghost use Rattle.hd_model.specs.{Heap.objects_of, Leads.Grows, Scene.IsYoungField, Table.live_at, Table.row_at, Names.NamesObjects, Visits.MayVisit, Visits.visits_of, Ages.HasSoundAges};
+ghost use Rattle.hd_scan.specs.{Tasks.task_kind, Tasks.takes, Whole.WholeRoots};
 ghost use Rattle.hd_scan.specs.Passes.{IsTargetBy, PinsBy, RootPass, view_at};
-ghost use Rattle.hd_scan.specs.Whole.{WholeRoots};
 
 use crate::task::{Task, pins};
 use hd_ages::{AgeMap, DueRows};

@@ -1,6 +1,6 @@
 -- The map of a function's values: the value of a key, one entry more or fewer, and the number of entries.
 use Rattle.hd_seg.proofs.Basics.{Bool, FinMap, IsSome, List, None, Option, Some, ap, arith, cases_eq, cases_lt, cond, empty, false, find, from_entries, get, get-empty, get-from_entries, get_inserted, get_removed, inl, inr, insert, insert_cases, is_some, len, len-empty, len-insert, nat_cmp, nat_cmp-IsAntisymmetric, nat_cmp_total, refl, remove, remove_cases, same_map, suc, sym, true, true≢false, with_entry, zero, ℕ, ◌+◌, ◌<◌, ◌∙◌, ◌≡◌, ◌≢◌, ◌≤◌, ◌⊎◌}
-use Rattle.hd_model.proofs.Entries.{found_first, found_later}
+use Rattle.hd_model.proofs.MapEntries.{found_first, found_later}
 use Rattle.hd_seg.specs.Mapped.{entries_of, mapped}
 
 pub get-insert_same : {A : Type 0} (m : FinMap nat_cmp A) (k : ℕ) (x : A) (q : ℕ) → q ≡ k

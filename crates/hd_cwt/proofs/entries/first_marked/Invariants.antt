@@ -1,4 +1,4 @@
-use Rattle.std.proofs.Common.{◌≡◌, ℕ, ◌<◌, ◌≤◌, slice_index_or}
+use Rattle.hd_cwt.proofs.Basics.{slice_index_or, ℕ, ◌<◌, ◌≡◌, ◌≤◌}
 use Rattle.hd_cwt.proofs.entries.first_marked.Given as goal
 
 abbrev pub invariant-loop-b : goal.invariant-loop-b

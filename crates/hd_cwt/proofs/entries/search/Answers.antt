@@ -1,5 +1,4 @@
-use Rattle.std.proofs.Common.{◌≢◌, Some, refl, arith, rules}
-use Rattle.hd_cwt.specs.Inside.{entry_at}
+use Rattle.hd_cwt.proofs.Basics.{Some, arith, entry_at, refl, rules, ◌≢◌}
 use Rattle.hd_cwt.proofs.KeySearch.{low, nowhere, onward, start}
 use Rattle.hd_cwt.proofs.entries.search.Goals as goal
 
@@ -11,12 +10,7 @@ bounds-held-at g c = low c.loop-at.invariant c.loop-at-test.true
 
 pub bounds-next-at : goal.bounds-next-at
 bounds-next-at g c =
-    omega (
-      arith,
-      low c.loop-at.invariant c.loop-at-test.true,
-      c.requires.within.0,
-      c.requires.within.1,
-    )
+    omega (arith, low c.loop-at.invariant c.loop-at-test.true, c.requires.within.0, c.requires.within.1)
 
 pub loop-at-preserved : goal.loop-at-preserved
 loop-at-preserved g c =

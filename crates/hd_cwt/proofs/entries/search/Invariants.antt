@@ -1,6 +1,4 @@
-use Rattle.std.proofs.Common.{◌+◌, ◌-◌}
-use Rattle.hd_model.specs.Indexed.{by_place}
-use Rattle.hd_cwt.specs.WeakTable.{bucket_of, entries_in}
+use Rattle.hd_cwt.proofs.Basics.{bucket_of, by_place, entries_in, ◌+◌, ◌-◌}
 use Rattle.hd_cwt.proofs.KeySearch.{IsSearching}
 use Rattle.hd_cwt.proofs.entries.search.Given as goal
 

@@ -1,5 +1,4 @@
-use Rattle.std.proofs.Common.{◌≡◌, ℕ, ◌<◌, ◌≤◌, length, vec_capacity}
-use Rattle.hd_cwt.specs.Rings.{node_at}
+use Rattle.hd_cwt.proofs.Basics.{length, node_at, vec_capacity, ℕ, ◌<◌, ◌≡◌, ◌≤◌}
 use Rattle.hd_cwt.proofs.rings.counted.Given as goal
 
 abbrev pub invariant-loop-x : goal.invariant-loop-x

@@ -1,11 +1,6 @@
-use Rattle.std.proofs.Common.{Bool, sym, ◌∙◌, subst}
-use Rattle.hd_model.specs.declared.data.Kind.TheVariants as kind
-use Rattle.hd_model.specs.Heap.{objects_of}
-use Rattle.hd_model.specs.Marking.{IsSettled}
-use Rattle.hd_model.specs.declared.data.Addr.{Addr}
-use Rattle.hd_ages.proofs.WalkProgress.{row_due, row_live, row_same, row_of_kind, row_target}
-use Rattle.hd_ages.proofs.WalkWrites.{change_start, change_row, change_smaller, changed, changed_count, changed_steps}
+use Rattle.hd_dep.proofs.Basics.{Addr, Bool, IsSettled, change_row, change_smaller, change_start, changed, changed_count, changed_steps, objects_of, row_due, row_live, row_of_kind, row_same, row_target, subst, sym, ◌∙◌}
 use Rattle.hd_dep.proofs.DependentClear.{undue_kept, detached_due, detached_row, detached_has, detached_hasnt, detached_whole, detached_whole_count}
+use Rattle.hd_model.specs.declared.data.Kind.TheVariants as kind
 use Rattle.hd_dep.proofs.clearing.clear.Goals as goal
 
 pub start-rows-requires : goal.start-rows-requires

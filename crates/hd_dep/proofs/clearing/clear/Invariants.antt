@@ -1,5 +1,4 @@
-use Rattle.std.proofs.Common.{length}
-use Rattle.hd_ages.specs.Walk.{slots_to_come}
+use Rattle.hd_dep.proofs.Basics.{length, slots_to_come}
 use Rattle.hd_dep.proofs.DependentClear.{IsDetaching}
 use Rattle.hd_dep.proofs.clearing.clear.Given as goal
 

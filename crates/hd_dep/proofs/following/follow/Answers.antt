@@ -1,15 +1,6 @@
-use Rattle.std.proofs.Common.{◌≡◌, ◌≤◌, ℕ, Bool, List, length, sym, ◌∙◌, subst, arith}
-use Rattle.hd_model.specs.declared.data.Addr.{Addr}
-use Rattle.hd_model.specs.Heap.{Basis, objects_of}
-use Rattle.hd_model.specs.Marking.{IsSettled, IsPromotionLog}
-use Rattle.hd_model.specs.Reach.{IsEdge}
-use Rattle.hd_model.specs.Table.{Table, row_at}
-use Rattle.hd_dep.specs.Waiting.{AreObjects, IsWaitingEdge}
-use Rattle.hd_dep.specs.Rescan.{Spreads}
-use Rattle.hd_dep.proofs.RescanPasses.{rescan_closure}
+use Rattle.hd_dep.proofs.Basics.{Addr, AreObjects, Basis, Bool, IsEdge, IsPromotionLog, IsSettled, IsWaitingEdge, List, Spreads, Table, arith, length, objects_of, row_at, subst, sym, ℕ, ◌∙◌, ◌≡◌, ◌≤◌}
+use Rattle.hd_dep.proofs.{RescanPasses.rescan_closure, SecondarySpread.spreads_none, DueHandles.none_visited}
 use Rattle.hd_dep.proofs.SecondaryFollow.{both_spread, followed_at_last, gathered_sorted, queued_objects, kept_on}
-use Rattle.hd_dep.proofs.SecondarySpread.{spreads_none}
-use Rattle.hd_dep.proofs.DueHandles.{none_visited}
 use Rattle.hd_dep.proofs.following.follow.Goals as goal
 
 pub returns-then-is_bare-clause-closure : goal.returns-then-is_bare-clause-closure

@@ -1,11 +1,4 @@
-use Rattle.std.proofs.Common.{Bool, length, refl, ◌∙◌, subst, arith}
-use Rattle.std.proofs.lemmas.List.{take_all}
-use Rattle.hd_model.specs.declared.data.Addr.{Addr}
-use Rattle.hd_model.specs.Heap.{Basis, objects_of}
-use Rattle.hd_model.specs.Reach.{IsEdge}
-use Rattle.hd_model.specs.Table.{Table, row_at}
-use Rattle.hd_ages.proofs.WalkProgress.{row_live, row_of_kind}
-use Rattle.hd_dep.specs.Rescan.{Spreads}
+use Rattle.hd_dep.proofs.Basics.{Addr, Basis, Bool, IsEdge, Spreads, Table, arith, length, objects_of, refl, row_at, row_live, row_of_kind, subst, take_all, ◌∙◌}
 use Rattle.hd_dep.proofs.SecondaryFollow.{gather_start, gather_room, gather_row, gather_end, kept_on}
 use Rattle.hd_dep.proofs.following.gather.Goals as goal
 

@@ -1,6 +1,4 @@
-use Rattle.std.proofs.Common.{◌≡◌, length, take, vec_capacity}
-use Rattle.hd_model.specs.Heap.{objects_of}
-use Rattle.hd_ages.specs.Walk.{slots_to_come}
+use Rattle.hd_dep.proofs.Basics.{length, objects_of, slots_to_come, take, vec_capacity, ◌≡◌}
 use Rattle.hd_dep.proofs.SecondaryFollow.{IsGathering}
 use Rattle.hd_dep.proofs.following.gather.Given as goal
 
@@ -12,8 +10,7 @@ invariant-loop-slot g l = record {
   log : take (length (g.M.PromotionLog.log l.initial.marker)) (g.M.PromotionLog.log l.marker)
       ≡ g.M.PromotionLog.log l.initial.marker;
   room : vec_capacity l.waiting ≡ vec_capacity l.initial.waiting;
-  gathering :
-      IsGathering (objects_of (g.M.Marker.basis l.initial.marker)) l.n l.seg l.ages
+  gathering : IsGathering (objects_of (g.M.Marker.basis l.initial.marker)) l.n l.seg l.ages
       (g.M.Marker.promoted l.initial.marker) (vec_capacity l.initial.waiting) l.rows l.initial.steps
       l.steps l.waiting.items (g.M.Marker.promoted l.marker);
 }

@@ -1,11 +1,4 @@
-use Rattle.std.proofs.Common.{◌<◌, Bool, List, length, refl, sym, ◌∙◌, subst, arith}
-use Rattle.std.proofs.lemmas.Option.{get_or_from_slice_get}
-use Rattle.hd_model.specs.declared.data.Addr.{Addr}
-use Rattle.hd_model.specs.Heap.{Basis, objects_of}
-use Rattle.hd_model.specs.Leads.{Grows}
-use Rattle.hd_model.specs.Marking.{IsPromotionLog}
-use Rattle.hd_model.specs.Scene.{IsYoungField}
-use Rattle.hd_dep.specs.Waiting.{AreObjects, Waits}
+use Rattle.hd_dep.proofs.Basics.{Addr, AreObjects, Basis, Bool, Grows, IsPromotionLog, IsYoungField, List, Waits, arith, get_or_from_slice_get, length, objects_of, refl, subst, sym, ◌<◌, ◌∙◌}
 use Rattle.hd_dep.proofs.SecondaryFollow.{follow_start, follow_on, follow_end, fewer_to_follow}
 use Rattle.hd_dep.proofs.following.promote_since.Goals as goal
 

@@ -1,7 +1,5 @@
-use Rattle.std.proofs.Common.{◌≡◌, ◌-◌, length}
-use Rattle.hd_model.specs.Heap.{objects_of}
-use Rattle.hd_dep.proofs.RescanPasses.{addresses}
-use Rattle.hd_dep.proofs.SecondaryFollow.{IsFollowing}
+use Rattle.hd_dep.proofs.Basics.{length, objects_of, ◌-◌, ◌≡◌}
+use Rattle.hd_dep.proofs.{RescanPasses.addresses, SecondaryFollow.IsFollowing}
 use Rattle.hd_dep.proofs.following.promote_since.Given as goal
 
 abbrev pub invariant-loop-next : goal.invariant-loop-next
@@ -9,8 +7,7 @@ invariant-loop-next g l = record {
   settled : g.M.Marker.settled l.marker;
   basis : g.M.Marker.basis l.marker ≡ g.M.Marker.basis l.initial.marker;
   pinned : g.M.Marker.pinned l.marker ≡ g.M.Marker.pinned l.initial.marker;
-  following :
-      IsFollowing (objects_of (g.M.Marker.basis l.initial.marker))
+  following : IsFollowing (objects_of (g.M.Marker.basis l.initial.marker))
       (g.M.Marker.basis l.initial.marker).condemned l.fn.start l.rows
       (g.M.PromotionLog.log l.initial.marker) (g.M.Marker.promoted l.initial.marker) l.next
       (g.M.PromotionLog.log l.marker) (g.M.Marker.promoted l.marker);

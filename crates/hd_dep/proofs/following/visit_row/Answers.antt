@@ -1,12 +1,5 @@
-use Rattle.std.proofs.Common.{length, refl, sym, ◌∙◌, subst, arith, inl, inr}
-use Rattle.std.proofs.lemmas.List.{take_all}
-use Rattle.hd_model.specs.Heap.{objects_of}
-use Rattle.hd_model.specs.Reach.{IsEdge}
-use Rattle.hd_model.specs.Table.{live_at, row_at}
-use Rattle.hd_dep.specs.Waiting.{Waits, waiting_row}
-use Rattle.hd_dep.proofs.SecondarySpread.{spreads_none, promoted_next}
-use Rattle.hd_dep.proofs.SecondaryFollow.{visited_promoted, visited_waits}
-use Rattle.std.proofs.lemmas.List.Elements.{Contains-push}
+use Rattle.hd_dep.proofs.Basics.{Contains-push, IsEdge, Waits, arith, inl, inr, length, live_at, objects_of, refl, row_at, subst, sym, take_all, waiting_row, ◌∙◌}
+use Rattle.hd_dep.proofs.{SecondarySpread.spreads_none, SecondarySpread.promoted_next, SecondaryFollow.visited_promoted, SecondaryFollow.visited_waits}
 use Rattle.hd_dep.proofs.following.visit_row.Goals as goal
 
 pub returns-in_default-clause-log : goal.returns-in_default-clause-log

@@ -1,16 +1,8 @@
-use Rattle.std.proofs.Common.{◌≡◌, ℕ, ◌+◌, ◌<◌, Bool, true, cond, refl, sym, ◌∙◌, subst, arith}
-use Rattle.std.proofs.lemmas.Bool.{true≢false}
+use Rattle.hd_dep.proofs.Basics.{Addr, Basis, Bool, IsEdge, IsSettled, MayVisit, Spreads, arith, cond, objects_of, refl, row_at, subst, sym, true, true≢false, visits_of, ℕ, ◌+◌, ◌<◌, ◌∙◌, ◌≡◌}
 use Rattle.std.proofs.lemmas.Grind.{common_steps}
-use Rattle.hd_model.specs.declared.data.Addr.{Addr}
-use Rattle.hd_model.specs.declared.data.Kind.TheVariants as kind
-use Rattle.hd_model.specs.Heap.{Basis, objects_of}
-use Rattle.hd_model.specs.Marking.{IsSettled}
-use Rattle.hd_model.specs.Reach.{IsEdge}
-use Rattle.hd_model.specs.Table.{row_at}
-use Rattle.hd_model.specs.Visits.{visits_of, MayVisit}
-use Rattle.hd_dep.specs.Rescan.{Spreads}
 use Rattle.hd_dep.proofs.SecondarySpread.{spreads_none, spreads_on}
 use Rattle.hd_dep.proofs.RescanPasses.{HasPassed, none_passed, passed_more, passes_fall, rescan_steps, rescan_closure, gained_or_same, followed_after, left_in}
+use Rattle.hd_model.specs.declared.data.Kind.TheVariants as kind
 use Rattle.hd_dep.proofs.rescanning.rescan.Goals as goal
 
 pub loop-more-init : goal.loop-more-init
@@ -46,8 +38,7 @@ loop-more-preserved g c =
     (g.met.M.Marker.settles c.spread-more.new.marker c.spread-more.ensures.settled) in
     let spreads : Spreads (IsEdge (objects_of b) (row_at c.args.seg.now)) p q =
     subst (λ (a : Basis). Spreads (IsEdge (objects_of a) (row_at c.args.seg.now)) p q)
-    c.loop-more.invariant.basis
-    c.spread-more.ensures.spreads in
+    c.loop-more.invariant.basis c.spread-more.ensures.spreads in
     let passed : HasPassed b.heap visits p0 p c.args.steps.now c.loop-more.steps true =
     subst (λ (m : Bool). HasPassed b.heap visits p0 p c.args.steps.now c.loop-more.steps m)
     c.loop-more-test.true c.loop-more.invariant.passed in
@@ -56,8 +47,7 @@ loop-more-preserved g c =
       basis = basis;
       pinned = c.spread-more.ensures.pinned ∙ c.loop-more.invariant.pinned;
       spreads = spreads_on (IsEdge (objects_of b) (row_at c.args.seg.now)) p0 p q
-          c.loop-more.invariant.spreads
-          spreads;
+          c.loop-more.invariant.spreads spreads;
       passed = passed_more b.heap visits p0 p q c.args.steps.now c.loop-more.steps c.spread-more.new.steps
           c.spread-more.result
           (passes_fall b.heap b.condemned p q settled spreads.keeps c.spread-more.result
@@ -77,8 +67,7 @@ loop-more-smaller g c =
     subst (λ (a : Basis). IsSettled (objects_of a) a.condemned q)
     (c.spread-more.ensures.basis ∙ c.loop-more.invariant.basis)
     (g.met.M.Marker.settles c.spread-more.new.marker c.spread-more.ensures.settled) in
-    subst
-    (λ (m : Bool). left_in b.heap q + cond c.spread-more.result 1 0 < left_in b.heap p + cond m 1 0)
+    subst (λ (m : Bool). left_in b.heap q + cond c.spread-more.result 1 0 < left_in b.heap p + cond m 1 0)
     (sym c.loop-more-test.true)
     (passes_fall b.heap b.condemned p q settled c.spread-more.ensures.spreads.keeps c.spread-more.result
     (gained_or_same (row_at c.args.seg.now) c.args.ages.now c.args.n p q c.spread-more.result
@@ -97,8 +86,7 @@ returns-clause-closure g c =
     (subst (λ (a : Basis). IsSettled (objects_of a) a.condemned p) c.loop-more.invariant.basis
     (g.met.M.Marker.settles c.loop-more.marker c.loop-more.invariant.settled)) in
     rescan_closure (objects_of b) c.args.n (row_at c.args.seg.now) c.args.ages.now p0 p first last
-    c.requires.fields
-    c.requires.due.sound c.loop-more.invariant.spreads
+    c.requires.fields c.requires.due.sound c.loop-more.invariant.spreads
     (c.loop-more.invariant.followed c.loop-more-test.false)
 
 pub returns-clause-steps : goal.returns-clause-steps

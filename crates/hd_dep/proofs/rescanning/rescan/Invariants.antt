@@ -1,11 +1,6 @@
-use Rattle.std.proofs.Common.{◌≡◌, ◌+◌, cond, false}
-use Rattle.hd_model.specs.declared.data.Kind.TheVariants as kind
-use Rattle.hd_model.specs.Heap.{objects_of}
-use Rattle.hd_model.specs.Reach.{IsEdge}
-use Rattle.hd_model.specs.Table.{row_at}
-use Rattle.hd_model.specs.Visits.{visits_of}
-use Rattle.hd_dep.specs.Rescan.{IsFollowed, OfVisited, Spreads}
+use Rattle.hd_dep.proofs.Basics.{IsEdge, IsFollowed, OfVisited, Spreads, cond, false, objects_of, row_at, visits_of, ◌+◌, ◌≡◌}
 use Rattle.hd_dep.proofs.RescanPasses.{HasPassed, left_in}
+use Rattle.hd_model.specs.declared.data.Kind.TheVariants as kind
 use Rattle.hd_dep.proofs.rescanning.rescan.Given as goal
 
 abbrev pub invariant-loop-more : goal.invariant-loop-more
@@ -13,11 +8,9 @@ invariant-loop-more g l = record {
   settled : g.M.Marker.settled l.marker;
   basis : g.M.Marker.basis l.marker ≡ g.M.Marker.basis l.initial.marker;
   pinned : g.M.Marker.pinned l.marker ≡ g.M.Marker.pinned l.initial.marker;
-  spreads :
-      Spreads (IsEdge (objects_of (g.M.Marker.basis l.initial.marker)) (row_at l.seg))
+  spreads : Spreads (IsEdge (objects_of (g.M.Marker.basis l.initial.marker)) (row_at l.seg))
       (g.M.Marker.promoted l.initial.marker) (g.M.Marker.promoted l.marker);
-  passed :
-      HasPassed (g.M.Marker.basis l.initial.marker).heap (visits_of l.seg l.ages l.n kind.Dependent)
+  passed : HasPassed (g.M.Marker.basis l.initial.marker).heap (visits_of l.seg l.ages l.n kind.Dependent)
       (g.M.Marker.promoted l.initial.marker) (g.M.Marker.promoted l.marker) l.initial.steps l.steps l.more;
   followed : l.more ≡ false → OfVisited (row_at l.seg) l.ages l.n (λ h. IsFollowed h
       (g.M.Marker.promoted l.marker));

@@ -1,10 +1,4 @@
-use Rattle.std.proofs.Common.{Bool, refl, ◌∙◌, subst}
-use Rattle.hd_model.specs.declared.data.Addr.{Addr}
-use Rattle.hd_model.specs.Heap.{Basis, objects_of}
-use Rattle.hd_model.specs.Reach.{IsEdge}
-use Rattle.hd_model.specs.Table.{row_at}
-use Rattle.hd_ages.proofs.WalkProgress.{row_live, row_of_kind}
-use Rattle.hd_dep.specs.Rescan.{Spreads}
+use Rattle.hd_dep.proofs.Basics.{Addr, Basis, Bool, IsEdge, Spreads, objects_of, refl, row_at, row_live, row_of_kind, subst, ◌∙◌}
 use Rattle.hd_dep.proofs.SecondarySpread.{spread_start, spread_row, spread_end}
 use Rattle.hd_dep.proofs.rescanning.spread.Goals as goal
 
@@ -36,8 +30,7 @@ loop-slot-preserved g c =
     let q : Addr → Bool = g.M.Marker.promoted c.spread_row-more.new.marker in
     let spreads : Spreads (IsEdge (objects_of b) (row_at c.args.seg.now)) p q =
     subst (λ (a : Basis). Spreads (IsEdge (objects_of a) (row_at c.args.seg.now)) p q)
-    c.loop-slot.invariant.basis
-    c.spread_row-more.ensures.spreads in
+    c.loop-slot.invariant.basis c.spread_row-more.ensures.spreads in
     record {
       settled = c.spread_row-more.ensures.settled;
       basis = c.spread_row-more.ensures.basis ∙ c.loop-slot.invariant.basis;

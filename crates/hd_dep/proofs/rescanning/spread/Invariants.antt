@@ -1,6 +1,4 @@
-use Rattle.std.proofs.Common.{◌≡◌, length}
-use Rattle.hd_model.specs.Heap.{objects_of}
-use Rattle.hd_ages.specs.Walk.{slots_to_come}
+use Rattle.hd_dep.proofs.Basics.{length, objects_of, slots_to_come, ◌≡◌}
 use Rattle.hd_dep.proofs.SecondarySpread.{IsSpreading}
 use Rattle.hd_dep.proofs.rescanning.spread.Given as goal
 
@@ -9,8 +7,7 @@ invariant-loop-slot g l = record {
   settled : g.M.Marker.settled l.marker;
   basis : g.M.Marker.basis l.marker ≡ g.M.Marker.basis l.initial.marker;
   pinned : g.M.Marker.pinned l.marker ≡ g.M.Marker.pinned l.initial.marker;
-  spreading :
-      IsSpreading (objects_of (g.M.Marker.basis l.initial.marker)) l.n l.seg l.ages
+  spreading : IsSpreading (objects_of (g.M.Marker.basis l.initial.marker)) l.n l.seg l.ages
       (g.M.Marker.promoted l.initial.marker) l.rows l.initial.steps l.steps (g.M.Marker.promoted l.marker)
       l.more;
 }

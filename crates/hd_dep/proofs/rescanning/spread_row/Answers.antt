@@ -1,8 +1,4 @@
-use Rattle.std.proofs.Common.{sym, ◌∙◌}
-use Rattle.hd_model.specs.Heap.{objects_of}
-use Rattle.hd_model.specs.Reach.{IsEdge}
-use Rattle.hd_model.specs.Table.{row_at}
-use Rattle.std.proofs.lemmas.Bool.{and_parts}
+use Rattle.hd_dep.proofs.Basics.{IsEdge, and_parts, objects_of, row_at, sym, ◌∙◌}
 use Rattle.hd_dep.proofs.SecondarySpread.{spreads_none, promoted_next}
 use Rattle.hd_dep.proofs.rescanning.spread_row.Goals as goal
 

@@ -1,7 +1,4 @@
-use Rattle.std.proofs.Common.{leb, leb-true, arith, rules}
-use Rattle.std.proofs.lemmas.Bool.{leb-false}
-use Rattle.std.proofs.lemmas.List.Sorted.{IsPartitionPoint-from_clause, IsPartitionedBy-leb}
-use Rattle.hd_dep.specs.Waiting.{target_of}
+use Rattle.hd_dep.proofs.Basics.{IsPartitionPoint-from_clause, IsPartitionedBy-leb, arith, leb, leb-false, leb-true, rules, target_of}
 use Rattle.hd_dep.proofs.waiting.end_of.Goals as goal
 
 pub returns-clause-low : goal.returns-clause-low

@@ -1,11 +1,4 @@
-use Rattle.std.proofs.Common.{◌≡◌, ◌-◌, Bool, true, length, refl, sym, ◌∙◌, subst, arith}
-use Rattle.std.proofs.lemmas.List.{take_all}
-use Rattle.std.proofs.lemmas.Option.{slice_get_within, get_or_from_slice_get}
-use Rattle.hd_model.specs.declared.data.Addr.{Addr}
-use Rattle.hd_model.specs.Heap.{Basis, objects_of}
-use Rattle.hd_model.specs.Leads.{Grows}
-use Rattle.hd_model.specs.Scene.{is_object, IsYoungField}
-use Rattle.hd_dep.specs.Waiting.{waiting_row}
+use Rattle.hd_dep.proofs.Basics.{Addr, Basis, Bool, Grows, IsYoungField, arith, get_or_from_slice_get, is_object, length, objects_of, refl, slice_get_within, subst, sym, take_all, true, waiting_row, ◌-◌, ◌∙◌, ◌≡◌}
 use Rattle.hd_dep.proofs.SecondaryFollow.{kept_on}
 use Rattle.hd_dep.proofs.WaitingLists.{passing_start, passing_on, passed}
 use Rattle.hd_dep.proofs.waiting.promote_for.Goals as goal

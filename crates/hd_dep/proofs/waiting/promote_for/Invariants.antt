@@ -1,6 +1,4 @@
-use Rattle.std.proofs.Common.{◌≡◌, length, take}
-use Rattle.hd_model.specs.Heap.{objects_of}
-use Rattle.hd_model.specs.Scene.{IsYoungField}
+use Rattle.hd_dep.proofs.Basics.{IsYoungField, length, objects_of, take, ◌≡◌}
 use Rattle.hd_dep.proofs.WaitingLists.{IsPassing}
 use Rattle.hd_dep.proofs.waiting.promote_for.Given as goal
 

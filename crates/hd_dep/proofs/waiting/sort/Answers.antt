@@ -1,6 +1,4 @@
-use Rattle.std.proofs.Common.{rules}
-use Rattle.std.proofs.lemmas.List.Sorted.{IsNonDecreasingBy-from_sort, answers_always}
-use Rattle.hd_dep.specs.Waiting.{target_of}
+use Rattle.hd_dep.proofs.Basics.{IsNonDecreasingBy-from_sort, answers_always, rules, target_of}
 use Rattle.hd_dep.proofs.waiting.sort.Goals as goal
 
 pub returns-clause-rising : goal.returns-clause-rising

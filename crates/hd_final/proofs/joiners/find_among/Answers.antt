@@ -1,9 +1,4 @@
-use Rattle.std.proofs.Common.{◌≡◌, ◌+◌, ◌∙◌, ◌++◌, ◌∷◌, [], true, length, sym, subst, arith, add-one}
-use Rattle.std.proofs.lemmas.Bool.{and_parts}
-use Rattle.hd_model.specs.declared.data.Id.{Id}
-use Rattle.hd_model.specs.Heap.{id_at, placed_at, has_object}
-use Rattle.hd_heap.specs.Calls.{surveyed}
-use Rattle.hd_heap.proofs.SurveyWalk.{before, next_at, none_after}
+use Rattle.hd_final.proofs.Basics.{Id, [], add-one, and_parts, arith, before, has_object, id_at, length, next_at, none_after, placed_at, subst, surveyed, sym, true, ◌++◌, ◌+◌, ◌∙◌, ◌∷◌, ◌≡◌}
 use Rattle.hd_final.proofs.ObjectLookup.{id_there}
 use Rattle.hd_final.proofs.JoinerFind.{IsFoundUpTo, found_room, found_more, found_past, found_all}
 use Rattle.hd_final.proofs.joiners.find_among.Goals as goal
@@ -23,16 +18,11 @@ id-id-requires g c =
 pub push_reserved-requires : goal.push_reserved-requires
 push_reserved-requires g c =
     let k = c.loop-object.object-index in
-    omega (
-      arith,
-      found_room c.args.heap.now c.args.n (g.M.Marker.promoted c.args.marker.now)
-          (before c.args.objects.now k)
-          c.loop-object.joiners.items (surveyed c.args.objects.now k).at c.loop-object.invariant.0
-          (next_at c.requires.survey k c.loop-object-test.true),
-      c.loop-object.invariant.1,
-      c.loop-object.joiners.ok.0,
-      c.requires.room,
-    )
+    let known =
+    found_room c.args.heap.now c.args.n (g.M.Marker.promoted c.args.marker.now) (before c.args.objects.now k)
+    c.loop-object.joiners.items (surveyed c.args.objects.now k).at c.loop-object.invariant.0
+    (next_at c.requires.survey k c.loop-object-test.true) in
+    omega (arith, known, c.loop-object.invariant.1, c.loop-object.joiners.ok.0, c.requires.room)
 
 pub loop-object-preserved : goal.loop-object-preserved
 loop-object-preserved g c =
@@ -45,14 +35,11 @@ loop-object-preserved g c =
     let there : has_object h at ≡ true = (and_parts _ _ next.member).0 in
     let placed : id_at h at ≡ (placed_at h at).id = id_there h at there in
     let identity : c.id-id.result ≡ id_at h at = c.id-id.ensures.identity ∙ sym {A = Id} placed in (
-      subst
-          (λ js. IsFoundUpTo h c.args.n p (before s (k + 1)) js)
-          (sym c.push_reserved.ensures.items)
+      subst (λ js. IsFoundUpTo h c.args.n p (before s (k + 1)) js) (sym c.push_reserved.ensures.items)
           (subst (λ j. IsFoundUpTo h c.args.n p (before s j)
           (c.loop-object.joiners.items ++ record { id = c.id-id.result; at = at } ∷ [])) (sym (add-one k))
           (found_more h c.args.n p (before s k)
-          c.loop-object.joiners.items at c.loop-object.invariant.0 next c.id-id.result
-          identity
+          c.loop-object.joiners.items at c.loop-object.invariant.0 next c.id-id.result identity
           (sym c.is_out.ensures ∙ c.if-not-is_out.false))),
       c.push_reserved.ensures.capacity ∙ c.loop-object.invariant.1,
     )

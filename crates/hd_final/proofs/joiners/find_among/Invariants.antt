@@ -1,5 +1,4 @@
-use Rattle.std.proofs.Common.{◌≡◌, vec_capacity}
-use Rattle.hd_heap.proofs.SurveyWalk.{before}
+use Rattle.hd_final.proofs.Basics.{before, vec_capacity, ◌≡◌}
 use Rattle.hd_final.proofs.JoinerFind.{IsFoundUpTo}
 use Rattle.hd_final.proofs.joiners.find_among.Given as goal
 

@@ -1,4 +1,4 @@
-use Rattle.std.proofs.Common.{◌≡◌, vec_capacity}
+use Rattle.hd_final.proofs.Basics.{vec_capacity, ◌≡◌}
 use Rattle.hd_final.proofs.JoinerFind.{IsFoundUpTo, left_of}
 use Rattle.hd_final.proofs.joiners.find_in_heap.Given as goal
 

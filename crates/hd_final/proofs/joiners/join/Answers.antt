@@ -1,9 +1,4 @@
-use Rattle.std.proofs.Common.{◌≡◌, ◌∙◌, take, get_or, subst, sym, Contains}
-use Rattle.hd_model.specs.Heap.{Basis, objects_of}
-use Rattle.hd_model.specs.Leads.{Grows}
-use Rattle.hd_model.specs.Scene.{IsYoungField}
-use Rattle.hd_final.specs.declared.joiners.Joiner.{Joiner}
-use Rattle.hd_final.specs.Joiners.{places}
+use Rattle.hd_final.proofs.Basics.{Basis, Contains, Grows, IsYoungField, Joiner, get_or, objects_of, places, subst, sym, take, ◌∙◌, ◌≡◌}
 use Rattle.hd_final.proofs.QueueJoin.{places_more, beyond, grown_more}
 use Rattle.hd_final.proofs.joiners.join.Goals as goal
 

@@ -1,9 +1,4 @@
-use Rattle.std.proofs.Common.{◌≡◌, ◌++◌, take, Contains}
-use Rattle.std.specs.VecDeque.{deque_capacity}
-use Rattle.hd_model.specs.Heap.{objects_of}
-use Rattle.hd_model.specs.Leads.{Grows}
-use Rattle.hd_model.specs.Scene.{IsYoungField}
-use Rattle.hd_final.specs.Joiners.{places}
+use Rattle.hd_final.proofs.Basics.{Contains, Grows, IsYoungField, deque_capacity, objects_of, places, take, ◌++◌, ◌≡◌}
 use Rattle.hd_final.proofs.joiners.join.Given as goal
 
 abbrev pub invariant-loop-joiner : goal.invariant-loop-joiner
@@ -11,8 +6,7 @@ invariant-loop-joiner g l =
     let basis = g.M.Marker.basis in
     let promoted = g.M.Marker.promoted in
     let done = places (take l.joiner-index l.joiners) in
-    (g.M.Marker.settled l.marker)
-    × (basis l.marker ≡ basis l.initial.marker)
+    (g.M.Marker.settled l.marker) × (basis l.marker ≡ basis l.initial.marker)
     × (g.M.Marker.pinned l.marker ≡ g.M.Marker.pinned l.initial.marker)
     × (Grows (IsYoungField (objects_of (basis l.initial.marker)) (basis l.initial.marker).condemned)
     (λ a. Contains done a) (promoted l.initial.marker) (promoted l.marker))

@@ -1,6 +1,5 @@
-use Rattle.std.proofs.lemmas.List.Sorted.{IsNonDecreasingBy-from_sort, answers_always}
+use Rattle.hd_final.proofs.Basics.{IsNonDecreasingBy-from_sort, answers_always, rules}
 use Rattle.hd_final.specs.declared.joiners.Joiner.{Joiner as JoinerValue}
-use Rattle.std.proofs.Common.{rules}
 use Rattle.hd_final.proofs.joiners.sort.Goals as goal
 
 pub returns-clause-rising : goal.returns-clause-rising

@@ -1,10 +1,6 @@
-use Rattle.std.proofs.Common.{subst, arith}
-use Rattle.std.proofs.lemmas.List.{take_all}
+use Rattle.hd_gc.proofs.Basics.{Clears, arith, subst, take_all, takes_any}
+use Rattle.hd_gc.proofs.{ClearedRows.cleared_due, ClearedRows.task_more, ClearTasks.cleared_more}
 use Rattle.hd_scan.specs.declared.task.Task.TheVariants as task
-use Rattle.hd_scan.specs.Tasks.{takes_any}
-use Rattle.hd_gc.specs.Clearing.{Clears}
-use Rattle.hd_gc.proofs.ClearedRows.{cleared_due, task_more}
-use Rattle.hd_gc.proofs.ClearTasks.{cleared_more}
 use Rattle.hd_gc.proofs.clearing.clear_by.Goals as goal
 
 pub clear-cleared-requires-clause-visit : goal.clear-cleared-requires-clause-visit
@@ -22,13 +18,10 @@ loop-task-preserved g c =
           (c.clear-cleared.ensures.whole (cleared_due inv.clears c.requires.due).sound);
       few = omega (arith, inv.few, c.clear-cleared.ensures.few);
       steps =
-          omega (
-            arith,
-            inv.steps,
-            c.clear-cleared.ensures.steps,
-            task_more c.args.seg.now c.loop-task.seg c.args.ages.now c.args.n tasks i task.Strong
-                c.loop-task-test.true inv.clears.table,
-          );
+          (let known =
+          task_more c.args.seg.now c.loop-task.seg c.args.ages.now c.args.n tasks i task.Strong
+          c.loop-task-test.true inv.clears.table in
+          omega (arith, inv.steps, c.clear-cleared.ensures.steps, known));
     }
 
 pub returns-clause-clears : goal.returns-clause-clears

@@ -1,7 +1,4 @@
-use Rattle.std.specs.Prelude.{◌≡◌, ◌≤◌, ◌+◌, ◌*◌, take}
-use Rattle.hd_scan.specs.Tasks.{takes_any}
-use Rattle.hd_gc.specs.Steps.{task_visits}
-use Rattle.hd_gc.specs.Clearing.{Clears}
+use Rattle.hd_gc.proofs.Basics.{Clears, take, takes_any, task_visits, ◌*◌, ◌+◌, ◌≡◌, ◌≤◌}
 use Rattle.hd_gc.proofs.clearing.clear_by.Given as goal
 
 abbrev pub invariant-loop-task : goal.invariant-loop-task

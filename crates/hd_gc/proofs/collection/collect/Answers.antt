@@ -1,7 +1,6 @@
-use Rattle.std.proofs.Common.{arith}
-use Rattle.hd_gc.proofs.FreeRegions.{ready_spared, collected_spared}
+use Rattle.hd_gc.proofs.Basics.{arith}
+use Rattle.hd_gc.proofs.{FreeRegions.ready_spared, FreeRegions.collected_spared, CollectedScene.collected}
 use Rattle.hd_gc.proofs.KeptScene.{rows_kept, queued_kept, queued_objects, roots_kept}
-use Rattle.hd_gc.proofs.CollectedScene.{collected}
 use Rattle.hd_gc.proofs.collection.collect.Goals as goal
 
 pub mark_and_clear-requires-clause-ready : goal.mark_and_clear-requires-clause-ready

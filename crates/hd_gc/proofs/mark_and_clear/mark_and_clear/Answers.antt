@@ -1,10 +1,4 @@
-use Rattle.std.proofs.Common.{refl, sym, subst}
-use Rattle.hd_model.specs.Heap.{Basis, objects_of}
-use Rattle.hd_model.specs.Leads.{IsClosed}
-use Rattle.hd_model.specs.Scene.{IsField}
-use Rattle.hd_heap.specs.Calls.{AreSurveyed}
-use Rattle.hd_mark.specs.Marks.{promoted_in}
-use Rattle.hd_model.proofs.EqualTables.{due_again}
+use Rattle.hd_gc.proofs.Basics.{AreSurveyed, Basis, IsClosed, IsField, due_again, objects_of, promoted_in, refl, subst, sym}
 use Rattle.hd_gc.proofs.ClearedRows.{ready_due}
 use Rattle.hd_gc.proofs.MarkAndClearPhases.{due2, room2, fields2, waiting2, due4, closed4, marked_and_cleared}
 use Rattle.hd_gc.proofs.mark_and_clear.mark_and_clear.Goals as goal

@@ -1,18 +1,10 @@
-use Rattle.std.proofs.Common.{◌∙◌, [], subst}
-use Rattle.hd_model.specs.Heap.{Basis, objects_of}
-use Rattle.hd_model.specs.Table.{row_at}
-use Rattle.hd_model.specs.Leads.{IsClosure}
-use Rattle.hd_model.specs.Reach.{IsEdge}
-use Rattle.hd_mark.specs.Marks.{MarksOf, promoted_in}
-use Rattle.hd_gc.specs.Ready.{parts, scene_of}
-use Rattle.hd_gc.proofs.TraceMarks.{still_closed}
-use Rattle.hd_gc.proofs.MarkParts.{resurrection}
+use Rattle.hd_gc.proofs.Basics.{Basis, IsClosure, IsEdge, MarksOf, [], objects_of, parts, promoted_in, row_at, scene_of, subst, ◌∙◌}
+use Rattle.hd_gc.proofs.{TraceMarks.still_closed, MarkParts.resurrection}
 use Rattle.hd_gc.proofs.mark_and_clear.revive.Goals as goal
 
 pub follow-requires-clause-fields : goal.follow-requires-clause-fields
 follow-requires-clause-fields g c =
-    still_closed c.args.heap.now c.args.n c.args.marks.now c.revive_among-revived.new.marker
-    c.requires.basis
+    still_closed c.args.heap.now c.args.n c.args.marks.now c.revive_among-revived.new.marker c.requires.basis
     (c.revive_among-revived.ensures.basis ∙ c.requires.basis) c.requires.settled
     c.revive_among-revived.ensures.settled
     c.requires.cards c.requires.fields c.revive_among-revived.ensures.resurrects.grows.keeps

@@ -1,5 +1,4 @@
-use Rattle.std.proofs.Common.{subst}
-use Rattle.hd_heap.specs.Calls.{is_old_carded, IsWalk}
+use Rattle.hd_gc.proofs.Basics.{IsWalk, is_old_carded, subst}
 use Rattle.hd_gc.proofs.CardWalk.{carded_next, carded_all}
 use Rattle.hd_gc.proofs.marking.promote_carded.Goals as goal
 

@@ -1,11 +1,6 @@
-use Rattle.std.proofs.Common.{◌≡◌, take, refl, subst, arith}
-use Rattle.std.proofs.lemmas.List.Sums.{sum_by_more}
-use Rattle.hd_model.specs.Visits.{visits_of}
-use Rattle.hd_model.proofs.EqualTables.{due_again}
-use Rattle.hd_scan.specs.declared.task.Task.{Task}
-use Rattle.hd_scan.specs.declared.task.Task.TheVariants as task
-use Rattle.hd_scan.specs.Tasks.{root_tasks, takes_any, task_kind}
+use Rattle.hd_gc.proofs.Basics.{Task, arith, due_again, refl, root_tasks, subst, sum_by_more, take, takes_any, task_kind, visits_of, ◌≡◌}
 use Rattle.hd_gc.proofs.HoldTasks.{IsHolding, held_more, all_held}
+use Rattle.hd_scan.specs.declared.task.Task.TheVariants as task
 use Rattle.hd_gc.proofs.marking.promote_held.Goals as goal
 
 pub promote-requires-clause-visit : goal.promote-requires-clause-visit
@@ -21,13 +16,10 @@ loop-task-preserved g c =
           c.promote.ensures.settled c.promote.ensures.basis
           (c.promote.ensures.whole (due_again inv.held.basis refl c.requires.due).sound);
       steps =
-          omega (
-            arith,
-            inv.steps,
-            c.promote.ensures.steps,
-            sum_by_more (λ (t : Task). visits_of c.args.seg.now c.args.ages.now c.args.n (task_kind t))
-                root_tasks i task.Strong c.loop-task-test.true,
-          );
+          (let known =
+          sum_by_more (λ (t : Task). visits_of c.args.seg.now c.args.ages.now c.args.n (task_kind t))
+          root_tasks i task.Strong c.loop-task-test.true in
+          omega (arith, inv.steps, c.promote.ensures.steps, known));
     }
 
 pub returns-clause-holds : goal.returns-clause-holds

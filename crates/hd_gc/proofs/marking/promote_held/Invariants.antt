@@ -1,6 +1,4 @@
-use Rattle.std.specs.Prelude.{◌≡◌, ◌+◌, take}
-use Rattle.hd_scan.specs.Tasks.{root_tasks, takes_any}
-use Rattle.hd_gc.specs.Steps.{task_visits}
+use Rattle.hd_gc.proofs.Basics.{root_tasks, take, takes_any, task_visits, ◌+◌, ◌≡◌}
 use Rattle.hd_gc.proofs.HoldTasks.{IsHolding}
 use Rattle.hd_gc.proofs.marking.promote_held.Given as goal
 

@@ -1,9 +1,4 @@
-use Rattle.std.proofs.Common.{◌≡◌, ◌∙◌, true, sym, subst, take, get_or, arith}
-use Rattle.std.specs.Prelude.{Contains}
-use Rattle.std.proofs.lemmas.List.Elements.{Contains-get_or}
-use Rattle.hd_model.specs.declared.data.Addr.{Addr}
-use Rattle.hd_model.specs.Heap.{Basis, objects_of}
-use Rattle.hd_model.specs.Scene.{is_object}
+use Rattle.hd_gc.proofs.Basics.{Addr, Basis, Contains, Contains-get_or, arith, get_or, is_object, objects_of, subst, sym, take, true, ◌∙◌, ◌≡◌}
 use Rattle.hd_gc.proofs.PromoteSteps.{promotes_none, promotes_like, promoted_next, promoted_all, none_taken}
 use Rattle.hd_gc.proofs.marking.promote_queue.Goals as goal
 

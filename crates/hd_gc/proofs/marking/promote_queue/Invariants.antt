@@ -1,5 +1,4 @@
-use Rattle.std.specs.Prelude.{take, Contains}
-use Rattle.hd_gc.specs.Growing.{Promotes}
+use Rattle.hd_gc.proofs.Basics.{Contains, Promotes, take}
 use Rattle.hd_gc.proofs.marking.promote_queue.Given as goal
 
 abbrev pub invariant-loop-i : goal.invariant-loop-i

@@ -1,5 +1,4 @@
-use Rattle.std.specs.Prelude.{Some, take, Contains}
-use Rattle.hd_gc.specs.Growing.{Promotes}
+use Rattle.hd_gc.proofs.Basics.{Contains, Promotes, Some, take}
 use Rattle.hd_gc.proofs.marking.promote_roots.Given as goal
 
 abbrev pub invariant-loop-root : goal.invariant-loop-root

@@ -1,10 +1,4 @@
-use Rattle.std.proofs.Common.{◌≡◌, sym, subst}
-use Rattle.hd_model.specs.Heap.{Basis, objects_of}
-use Rattle.hd_model.specs.Table.{row_at}
-use Rattle.hd_model.specs.Leads.{IsClosed, IsClosure}
-use Rattle.hd_model.specs.Reach.{IsEdge}
-use Rattle.hd_model.specs.Scene.{IsField}
-use Rattle.hd_mark.specs.Marks.{MarksOf, promoted_in}
+use Rattle.hd_gc.proofs.Basics.{Basis, IsClosed, IsClosure, IsEdge, IsField, MarksOf, objects_of, promoted_in, row_at, subst, sym, ◌≡◌}
 use Rattle.hd_gc.proofs.TraceMarks.{basis4, fields_closed, traced_marks}
 use Rattle.hd_gc.proofs.marking.trace.Goals as goal
 

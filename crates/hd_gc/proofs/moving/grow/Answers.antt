@@ -1,6 +1,4 @@
-use Rattle.std.proofs.Common.{◌+◌, ◌*◌, length, sym, ap, ◌∙◌, arith}
-use Rattle.hd_model.specs.Ages.{raised}
-use Rattle.hd_ages.specs.Clumps.{grown_at}
+use Rattle.hd_gc.proofs.Basics.{ap, arith, grown_at, length, raised, sym, ◌*◌, ◌+◌, ◌∙◌}
 use Rattle.hd_gc.proofs.MappedPrefixes.{mapped_none, mapped_all, length-mapped_to, grown_next}
 use Rattle.hd_gc.proofs.moving.grow.Goals as goal
 
@@ -9,12 +7,8 @@ loop-block-init c = sym (mapped_none (raised c.args.n) c.args.ages.now)
 
 pub grow-requires-clause-high : goal.grow-requires-clause-high
 grow-requires-clause-high c =
-    omega (
-      arith,
-      c.blocks-block-end.ensures.value,
-      ap length c.loop-block.invariant,
-      length-mapped_to (raised c.args.n) c.args.ages.now (4 * c.loop-block.block),
-    )
+    let known = length-mapped_to (raised c.args.n) c.args.ages.now (4 * c.loop-block.block) in
+    omega (arith, c.blocks-block-end.ensures.value, ap length c.loop-block.invariant, known)
 
 pub loop-block-preserved : goal.loop-block-preserved
 loop-block-preserved c =
@@ -23,6 +17,5 @@ loop-block-preserved c =
 
 pub returns : goal.returns
 returns c =
-    c.loop-block.invariant
-    ∙ mapped_all (raised c.args.n) c.args.ages.now (4 * c.loop-block.block)
+    c.loop-block.invariant ∙ mapped_all (raised c.args.n) c.args.ages.now (4 * c.loop-block.block)
     (omega (arith, c.blocks-block-end.ensures.value))

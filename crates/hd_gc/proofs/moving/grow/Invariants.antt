@@ -1,5 +1,4 @@
-use Rattle.std.proofs.Common.{◌≡◌, ◌*◌}
-use Rattle.hd_model.specs.Ages.{raised}
+use Rattle.hd_gc.proofs.Basics.{raised, ◌*◌, ◌≡◌}
 use Rattle.hd_gc.proofs.MappedPrefixes.{mapped_to}
 use Rattle.hd_gc.proofs.moving.grow.Given as goal
 

@@ -1,6 +1,4 @@
-use Rattle.std.proofs.Common.{drop, sym, subst}
-use Rattle.hd_model.specs.Heap.{Heap}
-use Rattle.hd_plan.specs.Commit.{IsSameShape}
+use Rattle.hd_gc.proofs.Basics.{Heap, IsSameShape, drop, subst, sym}
 use Rattle.hd_gc.proofs.LostRegistrations.{same_shape, same_cards}
 use Rattle.hd_gc.proofs.moving.relocate_all.Goals as goal
 

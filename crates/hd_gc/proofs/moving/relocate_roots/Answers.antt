@@ -1,8 +1,4 @@
-use Rattle.std.proofs.Common.{◌≡◌, Option, None, get_or, set, sym, ap, ◌∙◌, subst, arith}
-use Rattle.std.specs.Prelude.{option_map, Contains}
-use Rattle.std.proofs.lemmas.List.Elements.{Contains-get_or}
-use Rattle.hd_model.specs.declared.data.Addr.{Addr}
-use Rattle.hd_plan.specs.Plan.{place_in}
+use Rattle.hd_gc.proofs.Basics.{Addr, Contains, Contains-get_or, None, Option, ap, arith, get_or, option_map, place_in, set, subst, sym, ◌∙◌, ◌≡◌}
 use Rattle.hd_gc.proofs.MappedPrefixes.{mapped_none, mapped_all, mapped_next, mapped_at}
 use Rattle.hd_gc.proofs.moving.relocate_roots.Goals as goal
 

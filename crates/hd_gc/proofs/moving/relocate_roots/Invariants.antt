@@ -1,6 +1,4 @@
-use Rattle.std.proofs.Common.{◌≡◌}
-use Rattle.std.specs.Prelude.{option_map}
-use Rattle.hd_plan.specs.Plan.{place_in}
+use Rattle.hd_gc.proofs.Basics.{option_map, place_in, ◌≡◌}
 use Rattle.hd_gc.proofs.MappedPrefixes.{mapped_to}
 use Rattle.hd_gc.proofs.moving.relocate_roots.Given as goal
 

@@ -1,7 +1,4 @@
-use Rattle.std.specs.Prelude.{◌≡◌, ◌+◌, take}
-use Rattle.hd_model.specs.Kinds.{all_kinds}
-use Rattle.hd_model.specs.Visits.{visits_over}
-use Rattle.hd_plan.specs.Plan.{place_in}
+use Rattle.hd_gc.proofs.Basics.{all_kinds, place_in, take, visits_over, ◌+◌, ◌≡◌}
 use Rattle.hd_gc.proofs.RowRelocation.{IsRelocating}
 use Rattle.hd_gc.proofs.moving.relocate_rows.Given as goal
 

@@ -16,8 +16,7 @@ loop-i-init g c = (
       c.set_value.new.self c.put_object-at.result c.id.result c.fields-fields.result c.value.result
       c.registered.result (object_at c.args.source.now c.args.from) c.put_object-at.ensures.offset
       c.put_object-at.ensures.put c.set_value.ensures.written c.id.ensures.identity
-      c.fields-fields.ensures.count
-      c.registered.ensures c.value.ensures,
+      c.fields-fields.ensures.count c.registered.ensures c.value.ensures,
   c.set_value.ensures.laid_out,
 )
 
@@ -42,13 +41,8 @@ set_field-requires g c =
     let f = c.loop-i.invariant.0 in
     record {
       object = forwarding_there placing f;
-      within = omega (
-        arith,
-        forwarding_long placing f,
-        f.long,
-        c.fields-fields.ensures.count,
-        c.loop-i-test.true,
-      );
+      within = (let known = c.fields-fields.ensures.count in
+          omega (arith, forwarding_long placing f, f.long, known, c.loop-i-test.true));
     }
 
 pub loop-i-preserved : goal.loop-i-preserved
@@ -66,8 +60,7 @@ pub returns : goal.returns
 returns g c = record {
   offset = c.put_object-at.ensures.offset;
   was_free = c.put_object-at.ensures.was_free;
-  put = forwarding_ends
-      (puts_object c.args.region.now c.put_object-at.result c.put_object-at.ensures.offset)
+  put = forwarding_ends (puts_object c.args.region.now c.put_object-at.result c.put_object-at.ensures.offset)
       c.loop-i.invariant.0 (omega (arith, c.fields-fields.ensures.count, c.loop-i-test.false));
   laid_out = c.loop-i.invariant.1;
 }

@@ -6,5 +6,4 @@ abbrev pub invariant-loop-i : goal.invariant-loop-i
 invariant-loop-i g l =
     IsForwarding (with_object l.initial.region l.at) (stored_place (g.F.Forward.place l.forward))
     (object_at l.initial.region l.at) (fields_at l.initial.region l.at) (fields_at l.initial.region l.at) l.i
-    l.region
-    × IsLaidOut l.region
+    l.region × IsLaidOut l.region

@@ -36,8 +36,7 @@ pub put_forwarded-requires-else-source-target : goal.put_forwarded-requires-else
 put_forwarded-requires-else-source-target g c =
     let split = split_of c.split_at_mut-low-else-source-target.ensures.value
     c.split_at_mut-low-else-source-target.ensures.front_len c.requires.source in
-    let below : c.args.target < c.args.source =
-    omega (arith, c.if-source-target.false, c.requires.apart) in
+    let below : c.args.target < c.args.source = omega (arith, c.if-source-target.false, c.requires.apart) in
     let may = c.requires.may_copy c.index-high-0-else-source-target.result c.index-low-target.result
     (read_high split c.index-high-0-else-source-target.result c.index-high-0-else-source-target.is)
     (read_low split c.args.target c.index-low-target.result below c.index-low-target.is) in
@@ -56,8 +55,7 @@ pub returns-else-source-target : goal.returns-else-source-target
 returns-else-source-target g c = λ a b is_a is_b.
     let split = split_of c.split_at_mut-low-else-source-target.ensures.value
     c.split_at_mut-low-else-source-target.ensures.front_len c.requires.source in
-    let below : c.args.target < c.args.source =
-    omega (arith, c.if-source-target.false, c.requires.apart) in
+    let below : c.args.target < c.args.source = omega (arith, c.if-source-target.false, c.requires.apart) in
     let source = one_area c.args.areas.now c.args.source a c.index-high-0-else-source-target.result
     c.requires.source is_a
     (read_high split c.index-high-0-else-source-target.result c.index-high-0-else-source-target.is) in

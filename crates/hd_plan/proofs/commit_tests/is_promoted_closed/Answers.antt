@@ -4,8 +4,7 @@ use Rattle.hd_plan.proofs.commit_tests.is_promoted_closed.Goals.{else-promoted-v
 use Rattle.hd_plan.proofs.commit_tests.is_promoted_closed.Goals as goal
 
 pub loop-at-preserved : goal.loop-at-preserved
-loop-at-preserved c = λ x y is up promoted field.
-    walked_more
+loop-at-preserved c = λ x y is up promoted field. walked_more
     (λ z. (t : Addr) → promoted_in c.args.marks.now z ≡ true → IsField (object_at c.args.heap.now) z t
     → promoted_in c.args.marks.now t ≡ true) c.args.heap.now c.loop-at.after c.in-Some.at
     c.in-Some.ensures.walk (λ z there before t p f. c.loop-at.invariant z t there before p f)

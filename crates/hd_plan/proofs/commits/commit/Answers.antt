@@ -19,8 +19,7 @@ base : (c : After-deref-regions)
 base c =
     committing c.args.plan.now (record {
       heap = c.plan.inside.heap.value;
-      condemned =
-          c.plan.inside.condemned;
+      condemned = c.plan.inside.condemned;
     })
     c.deref-moves.result.now c.plan.inside.moves.items c.deref-regions.result.now c.plan.inside.regions.items
     c.args.heap.now c.deref-moves.ensures.value c.deref-regions.ensures.value c.plan.view_is c.requires.laid
@@ -138,8 +137,7 @@ settle_regions-requires c =
     let b = base d in
     record {
       held = held_still b.1 (at_places d (steps (goal.at.settle_regions-requires c).After-rewrite_pinned))
-          (table d)
-          c.remove_left.ensures;
+          (table d) c.remove_left.ensures;
       rising = b.1.laid.regions.rising;
       generations = settled_generations _ c.args.heap.now b.1;
     }

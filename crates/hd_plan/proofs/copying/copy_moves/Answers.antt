@@ -8,8 +8,7 @@ pub copy_move-requires : goal.copy_move-requires
 copy_move-requires g c = record {
   may_go = copied_may (g.F.Forward.place c.args.forward.now) c.args.heap.now c.loop-object.heap
       c.args.moves.now c.loop-object.object-index c.requires.can_copy c.loop-object-test.true
-      c.loop-object.invariant
-      (g.F.Forward.kept c.args.forward.now)
+      c.loop-object.invariant (g.F.Forward.kept c.args.forward.now)
       (c.requires.kept c.loop-object.object-index c.loop-object-test.true);
   laid = c.requires.laid;
   places = c.requires.places;

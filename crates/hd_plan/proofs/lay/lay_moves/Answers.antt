@@ -33,14 +33,9 @@ lay_one-laid-requires-clause-fields g c =
 
 pub push_reserved-requires : goal.push_reserved-requires
 push_reserved-requires g c =
-    omega (
-      arith,
-      c.loop-object-test.true,
-      c.loop-object.invariant.count,
-      c.loop-object.invariant.capacity,
-      c.loop-object.moves.ok.0,
-      c.requires.room,
-    )
+    let known = c.loop-object.invariant.count in
+    let also = c.loop-object.invariant.capacity in
+    omega (arith, c.loop-object-test.true, known, also, c.loop-object.moves.ok.0, c.requires.room)
 
 pub loop-object-preserved : goal.loop-object-preserved
 loop-object-preserved g c =
@@ -59,10 +54,8 @@ loop-object-preserved g c =
           c.lay_one-laid.new.cursors (before c.args.objects.now j)) (sym (add-one k))
           (laying_next h c.args.n c.regions-regions.ensures.sound promoted pinned c.loop-object.moves.items
           c.loop-object.cursors c.lay_one-laid.new.cursors (before c.args.objects.now k) _
-          c.lay_one-laid.result
-          c.loop-object.invariant.laying c.requires.spare
-          (next_at c.requires.survey k c.loop-object-test.true)
-          c.lay_one-laid.ensures.from
+          c.lay_one-laid.result c.loop-object.invariant.laying c.requires.spare
+          (next_at c.requires.survey k c.loop-object-test.true) c.lay_one-laid.ensures.from
           c.lay_one-laid.ensures.laid));
       count = ap length c.push_reserved.ensures.items
           ∙ push_length c.loop-object.moves.items c.lay_one-laid.result
@@ -75,7 +68,6 @@ returns-clause-laid g c =
     let all : length c.args.objects.now ≡ c.loop-object.object-index =
     omega (arith, c.loop-object-test.false, c.loop-object.auto.object-index-end) in
     to_end c.args.heap.now c.args.n c.loop-object.moves.items
-    (before c.args.objects.now c.loop-object.object-index)
-    c.loop-object.invariant.laying.to
+    (before c.args.objects.now c.loop-object.object-index) c.loop-object.invariant.laying.to
     (subst (λ k. (a : Addr) → is_condemned c.args.heap.now c.args.n a ≡ true
     → is_after (before c.args.objects.now k) a ≡ false) all (none_after c.requires.survey))

@@ -1,14 +1,4 @@
-use Rattle.std.proofs.Common.{Bool, refl, sym, ap, ◌∙◌, subst}
-use Rattle.hd_model.specs.declared.data.Kind.{Kind}
-use Rattle.hd_model.specs.Ages.{due_clumps}
-use Rattle.hd_model.specs.Heap.{objects_of}
-use Rattle.hd_model.specs.Marking.{IsSettled}
-use Rattle.hd_model.specs.declared.data.Addr.{Addr}
-use Rattle.hd_model.specs.Table.{chain_of}
-use Rattle.hd_ages.specs.Walk.{due_slots}
-use Rattle.hd_scan.specs.Tasks.{task_kind}
-use Rattle.hd_ages.proofs.WalkProgress.{row_due, row_live, row_same, row_of_kind, row_target}
-use Rattle.hd_ages.proofs.WalkWrites.{change_start, change_row, change_smaller, changed, changed_count, changed_steps}
+use Rattle.hd_scan.proofs.Basics.{Addr, Bool, IsSettled, Kind, ap, chain_of, change_row, change_smaller, change_start, changed, changed_count, changed_steps, due_clumps, due_slots, objects_of, refl, row_due, row_live, row_of_kind, row_same, row_target, subst, sym, task_kind, ◌∙◌}
 use Rattle.hd_scan.proofs.HandleClear.{undue_kept, swept_due, swept_row, swept_has, swept_hasnt, sweep_whole}
 use Rattle.hd_scan.proofs.clearing.clear.Goals as goal
 
@@ -18,8 +8,7 @@ start-rows-requires g c = record { blocks = c.requires.visit.covers }
 pub loop-slot-init : goal.loop-slot-init
 loop-slot-init g c =
     change_start c.args.seg.now c.args.ages.now c.args.n (task_kind c.args.task) _ _
-    c.start-rows.ensures.table
-    c.start-rows.result c.args.steps.now c.start-rows.ensures.on
+    c.start-rows.ensures.table c.start-rows.result c.args.steps.now c.start-rows.ensures.on
     (c.start-rows.ensures.slots ∙ ap (λ (k : Kind). due_slots c.args.seg.now c.args.ages.now c.args.n k)
     c.kind.ensures)
     (c.start-rows.ensures.clumps

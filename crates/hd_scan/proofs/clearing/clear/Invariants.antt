@@ -1,5 +1,4 @@
-use Rattle.std.proofs.Common.{length}
-use Rattle.hd_ages.specs.Walk.{slots_to_come}
+use Rattle.hd_scan.proofs.Basics.{length, slots_to_come}
 use Rattle.hd_scan.proofs.HandleClear.{IsSweeping}
 use Rattle.hd_scan.proofs.clearing.clear.Given as goal
 

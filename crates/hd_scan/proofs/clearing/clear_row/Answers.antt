@@ -1,13 +1,7 @@
-use Rattle.std.proofs.Common.{◌≡◌, ◌&&◌, true, rules}
-use Rattle.hd_model.specs.declared.data.Addr.{Addr}
-use Rattle.hd_model.specs.State.{Handle}
-use Rattle.hd_model.specs.Collect.{is_lost}
-use Rattle.hd_model.specs.Table.{live_at}
-use Rattle.hd_seg.proofs.RowRewrite.{put_row}
-use Rattle.hd_scan.specs.Tasks.{takes}
+use Rattle.hd_scan.proofs.Basics.{Addr, Handle, is_lost, live_at, put_row, rules, takes, true, ◌&&◌, ◌≡◌}
 use Rattle.hd_scan.proofs.HandleClear.{swept_lost}
-use Rattle.hd_scan.proofs.clearing.clear_row.Goals as goal
 use Rattle.hd_scan.proofs.clearing.clear_row.Goals.{then-takes_at, else-takes_at}
+use Rattle.hd_scan.proofs.clearing.clear_row.Goals as goal
 
 pub returns-then-lost-clause-row : goal.returns-then-lost-clause-row
 returns-then-lost-clause-row g c =

@@ -1,10 +1,7 @@
-use Rattle.std.proofs.Common.{◌≡◌, ◌∙◌, ◌≤◌, ◌+◌, ◌-◌, ap, arith, flat_map, Vec, Global}
-use Rattle.std.specs.List.{range_with_len}
+use Rattle.hd_scan.proofs.Basics.{Global, Root, Vec, ap, arith, flat_map, range_with_len, ◌+◌, ◌-◌, ◌∙◌, ◌≡◌, ◌≤◌}
 use Rattle.std.specs.declared.alloc.AllocError.{AllocError}
 use Rattle.rayon.specs.Numbers.{nat_range}
-use Rattle.rayon.proofs.ListFacts.{IfOk-then}
-use Rattle.rayon.proofs.ToStd.{nat_range-All}
-use Rattle.hd_scan.specs.declared.gathering.Root.{Root}
+use Rattle.rayon.proofs.{ListFacts.IfOk-then, ToStd.nat_range-All}
 use Rattle.hd_scan.proofs.RootLists.{gathered}
 use Rattle.hd_scan.proofs.gathering.gather_blocks.Goals as goal
 

@@ -1,4 +1,4 @@
-use Rattle.std.proofs.Common.{◌≡◌, flat_map, take}
+use Rattle.hd_scan.proofs.Basics.{flat_map, take, ◌≡◌}
 use Rattle.hd_scan.proofs.gathering.joined.Given as goal
 
 -- the lists so far

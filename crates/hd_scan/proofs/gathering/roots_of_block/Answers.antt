@@ -1,7 +1,5 @@
-use Rattle.std.proofs.Common.{◌∙◌, sym, ◌*◌, ◌++◌}
-use Rattle.hd_model.specs.declared.limits.TheConstants.{ROWS}
+use Rattle.hd_scan.proofs.Basics.{ROWS, option_to_list, sym, ◌*◌, ◌++◌, ◌∙◌}
 use Rattle.hd_scan.proofs.RootLists.{none_yet, one_more, of_kind, no_roots}
-use Rattle.std.specs.Option.{option_to_list}
 use Rattle.hd_scan.proofs.gathering.roots_of_block.Goals as goal
 
 pub loop-row-init : goal.loop-row-init
@@ -10,8 +8,7 @@ loop-row-init c = c.new-roots.ensures.items ∙ none_yet c.args.seg.now (ROWS * 
 pub root_at-root-requires : goal.root_at-root-requires
 root_at-root-requires c =
     of_kind c.args.seg.now c.in-Rows.ensures.table c.args.block c.in-Rows.kind c.loop-row.row
-    c.loop-row-test.true
-    c.in-Rows.ensures.value
+    c.loop-row-test.true c.in-Rows.ensures.value
 
 pub loop-row-preserved : goal.loop-row-preserved
 loop-row-preserved c =
@@ -22,5 +19,4 @@ pub returns-in_default : goal.returns-in_default
 returns-in_default c =
     c.new-roots.ensures.items
     ∙ no_roots c.args.seg.now c.block_kind.ensures.table c.args.block c.block_kind.result
-    c.block_kind.ensures.value
-    c.in_default.not-Rows
+    c.block_kind.ensures.value c.in_default.not-Rows

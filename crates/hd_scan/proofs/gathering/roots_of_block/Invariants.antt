@@ -1,9 +1,4 @@
-use Rattle.std.proofs.Common.{◌≡◌, ◌*◌}
-use Rattle.hd_model.specs.declared.limits.TheConstants.{ROWS}
-use Rattle.hd_model.specs.RootText.{roots_in}
-use Rattle.hd_model.specs.Table.{row_at}
-use Rattle.hd_seg.specs.Mapped.{entries_of}
-use Rattle.hd_scan.specs.Gathering.{root_by}
+use Rattle.hd_scan.proofs.Basics.{ROWS, entries_of, root_by, roots_in, row_at, ◌*◌, ◌≡◌}
 use Rattle.hd_scan.proofs.gathering.roots_of_block.Given as goal
 
 -- the roots of the rows so far

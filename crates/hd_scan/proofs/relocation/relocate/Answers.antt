@@ -1,9 +1,4 @@
-use Rattle.std.proofs.Common.{false, refl, subst}
-use Rattle.std.proofs.lemmas.Bool.{false≢true}
-use Rattle.hd_model.specs.Heap.{objects_of}
-use Rattle.hd_model.specs.Marking.{IsKeeping}
-use Rattle.hd_ages.proofs.WalkProgress.{row_due, row_live, row_of_kind, row_same}
-use Rattle.hd_ages.proofs.WalkWrites.{change_start, change_row, change_smaller, changed, changed_steps}
+use Rattle.hd_scan.proofs.Basics.{IsKeeping, change_row, change_smaller, change_start, changed, changed_steps, false, false≢true, objects_of, refl, row_due, row_live, row_of_kind, row_same, subst}
 use Rattle.hd_scan.proofs.HandleRelocate.{undue_left, moved_row, kept_names, relocates_all}
 use Rattle.hd_scan.proofs.relocation.relocate.Goals as goal
 

@@ -1,16 +1,8 @@
-use Rattle.std.proofs.Common.{◌≡◌, ℕ, refl, sym, ap, ◌∙◌, subst, ⊎_elim}
-use Rattle.std.specs.Prelude.{option_map}
-use Rattle.hd_model.specs.declared.data.Addr.{Addr}
+use Rattle.hd_scan.proofs.Basics.{Addr, Handle, Rewrites, Row, Table, ap, extra_again, extra_of, fits_secondary, live_at, live_row, option_map, put_row, refl, rename_extra, row_of, subst, sym, ℕ, ⊎_elim, ◌∙◌, ◌≡◌}
 use Rattle.hd_model.specs.declared.data.Strength.{Strength}
-use Rattle.hd_model.specs.State as state
-use Rattle.hd_model.specs.State.{Handle, rename_extra}
-use Rattle.hd_model.specs.Table.{Table, live_at}
-use Rattle.hd_seg.specs.Row.{extra_of, row_of}
-use Rattle.hd_seg.specs.declared.row.Extra.TheVariants as extra
-use Rattle.hd_seg.specs.declared.row.Row.{Row}
-use Rattle.hd_seg.specs.Rewriting.{Rewrites}
-use Rattle.hd_seg.proofs.RowRewrite.{extra_again, fits_secondary, live_row, put_row}
 use Rattle.hd_scan.proofs.HandleRelocate.{handle_moved, extra_stays}
+use Rattle.hd_model.specs.State as state
+use Rattle.hd_seg.specs.declared.row.Extra.TheVariants as extra
 use Rattle.hd_scan.proofs.relocation.relocate_row.Goals as goal
 
 pub rewrite_row-requires-clause-fitting : goal.rewrite_row-requires-clause-fitting

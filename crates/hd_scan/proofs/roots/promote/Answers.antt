@@ -1,14 +1,4 @@
-use Rattle.std.proofs.Common.{refl, ap, ◌∙◌, subst}
-use Rattle.hd_model.specs.declared.data.Kind.{Kind}
-use Rattle.hd_model.specs.Ages.{due_clumps}
-use Rattle.hd_model.specs.Heap.{Basis, objects_of}
-use Rattle.hd_model.specs.Leads.{Grows}
-use Rattle.hd_model.specs.Marking.{IsSettled}
-use Rattle.hd_model.specs.Scene.{IsYoungField}
-use Rattle.hd_model.specs.Table.{chain_of, live_at}
-use Rattle.hd_ages.specs.Walk.{due_slots}
-use Rattle.hd_ages.proofs.WalkProgress.{row_live, row_of_kind}
-use Rattle.hd_scan.specs.Passes.{IsTargetBy}
+use Rattle.hd_scan.proofs.Basics.{Basis, Grows, IsSettled, IsTargetBy, IsYoungField, Kind, ap, chain_of, due_clumps, due_slots, live_at, objects_of, refl, row_live, row_of_kind, subst, ◌∙◌}
 use Rattle.hd_scan.proofs.RootPromote.{root_start, root_row, root_end, root_whole}
 use Rattle.hd_scan.proofs.roots.promote.Goals as goal
 

@@ -1,6 +1,4 @@
-use Rattle.std.proofs.Common.{◌≡◌, length}
-use Rattle.hd_model.specs.Heap.{objects_of}
-use Rattle.hd_ages.specs.Walk.{slots_to_come}
+use Rattle.hd_scan.proofs.Basics.{length, objects_of, slots_to_come, ◌≡◌}
 use Rattle.hd_scan.proofs.RootPromote.{IsRooting}
 use Rattle.hd_scan.proofs.roots.promote.Given as goal
 
@@ -8,11 +6,9 @@ abbrev pub invariant-loop-slot : goal.invariant-loop-slot
 invariant-loop-slot g l = record {
   settled : g.M.Marker.settled l.marker;
   basis : g.M.Marker.basis l.marker ≡ g.M.Marker.basis l.initial.marker;
-  rooting :
-      IsRooting (objects_of (g.M.Marker.basis l.initial.marker)) l.seg l.ages l.n l.task
+  rooting : IsRooting (objects_of (g.M.Marker.basis l.initial.marker)) l.seg l.ages l.n l.task
       (g.M.Marker.promoted l.initial.marker) (g.M.Marker.pinned l.initial.marker) l.rows l.initial.steps
-      l.steps
-      l.held (g.M.Marker.promoted l.marker) (g.M.Marker.pinned l.marker);
+      l.steps l.held (g.M.Marker.promoted l.marker) (g.M.Marker.pinned l.marker);
 }
 
 abbrev pub decreases-loop-slot : goal.decreases-loop-slot

@@ -1,9 +1,6 @@
-use Rattle.std.proofs.Common.{◌≡◌, ◌++◌, ◌∷◌, [], None, IsSome, sym, subst, vec_capacity, false, rules}
-use Rattle.std.specs.Prelude.{is_some}
-use Rattle.std.specs.FinMap.{get}
-use Rattle.hd_cwt.specs.WeakTable.{WeakTable}
-use Rattle.hd_cwt.specs.Inside.{IsListed}
-use Rattle.hd_cwt.proofs.HeldSlots.{none_of, put_idle, put_new}
+use Rattle.hd_cwt.proofs.Basics.{IsListed, IsSome, None, WeakTable, [], false, false≢true, get, is_some, rules, subst, sym, vec_capacity, ◌++◌, ◌∙◌, ◌∷◌, ◌≡◌}
+use Rattle.hd_model.proofs.MapEntries.{none_from}
+use Rattle.hd_cwt.proofs.KeyChanges.{put_idle, put_new}
 use Rattle.hd_cwt.proofs.cwt.Cwt.add.Goals as goal
 
 pub invariant_of-self : goal.invariant_of-self
@@ -12,7 +9,7 @@ invariant_of-self c =
     let slot = c.args.slot.0 in
     let unheld : is_some (get c.self.inside.entries.held slot) ≡ false = search rules in
     let none : get c.self.inside.entries.held slot ≡ None =
-    none_of (get c.self.inside.entries.held slot) unheld in
+    none_from (get c.self.inside.entries.held slot) (λ i. false≢true (sym unheld ∙ i)) in
     subst (IsListed c.put.new.self c.push_reserved.new.self.items) (sym c.push_reserved.ensures.capacity)
     (subst (λ xs. IsListed c.put.new.self xs (vec_capacity old)) (sym c.push_reserved.ensures.items)
     (subst (λ (t : WeakTable). IsListed t (old.items ++ slot ∷ []) (vec_capacity old)) (sym c.put.ensures)

@@ -1,7 +1,5 @@
-use Rattle.std.proofs.Common.{◌*◌, ◌/◌, ◌≤◌, sym, subst, arith, vec_capacity}
-use Rattle.hd_cwt.specs.WeakTable.{WeakTable}
-use Rattle.hd_cwt.specs.Inside.{IsListed}
-use Rattle.hd_cwt.proofs.HeldSlots.{none_listed}
+use Rattle.hd_cwt.proofs.Basics.{IsListed, WeakTable, arith, subst, sym, vec_capacity, ◌*◌, ◌/◌, ◌≤◌}
+use Rattle.hd_cwt.proofs.KeyChanges.{none_listed}
 use Rattle.hd_cwt.proofs.cwt.Cwt.open.Goals as goal
 
 pub invariant_of-result : goal.invariant_of-result

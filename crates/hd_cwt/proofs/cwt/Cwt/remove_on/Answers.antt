@@ -1,8 +1,5 @@
-use Rattle.std.proofs.Common.{sym, ap, subst, vec_capacity, rules}
-use Rattle.std.specs.Prelude.{is_some}
-use Rattle.hd_cwt.specs.WeakTable.{WeakTable, HasKey}
-use Rattle.hd_cwt.specs.Inside.{IsListed}
-use Rattle.hd_cwt.proofs.HeldSlots.{clear_listed}
+use Rattle.hd_cwt.proofs.Basics.{HasKey, IsListed, WeakTable, ap, is_some, rules, subst, sym, vec_capacity}
+use Rattle.hd_cwt.proofs.KeyChanges.{clear_listed}
 use Rattle.hd_cwt.proofs.cwt.Cwt.remove_on.Goals as goal
 
 pub invariant_of-self : goal.invariant_of-self

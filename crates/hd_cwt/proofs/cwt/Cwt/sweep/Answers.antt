@@ -1,9 +1,5 @@
-use Rattle.std.proofs.Common.{◌+◌, ◌<◌, ◌∙◌, length, IsSome, subst, sym, arith, vec_capacity}
-use Rattle.std.specs.FinMap.{get}
-use Rattle.std.proofs.lemmas.Grind.{get_or_default_zero}
-use Rattle.hd_cwt.specs.WeakTable.{WeakTable}
-use Rattle.hd_cwt.specs.Inside.{IsListed}
-use Rattle.hd_cwt.proofs.HeldSlots.{IsSwept, all_swept, sweep_more, swept_listed}
+use Rattle.hd_cwt.proofs.Basics.{IsListed, IsSome, WeakTable, arith, get, get_or_default_zero, length, subst, sym, vec_capacity, ◌+◌, ◌<◌, ◌∙◌}
+use Rattle.hd_cwt.proofs.KeyChanges.{IsSwept, all_swept, sweep_more, swept_listed}
 use Rattle.hd_cwt.proofs.cwt.Cwt.sweep.Goals as goal
 
 pub loop-i-preserved : goal.loop-i-preserved
@@ -17,12 +13,10 @@ loop-i-preserved c =
           (sweep_more c.loop-i.invariant.0 slot
           (c.index.ensures ∙ get_or_default_zero slots c.loop-i.i slot low) some),
       subst (λ (t : WeakTable). IsListed t slots (vec_capacity c.loop-i.self-inside.slots))
-          (sym c.sweep_slot.ensures)
-          (swept_listed c.loop-i.invariant.1 c.args.seg.now slot some),
+          (sym c.sweep_slot.ensures) (swept_listed c.loop-i.invariant.1 c.args.seg.now slot some),
       c.loop-i.invariant.2,
     )
 
 pub returns-clause-each : goal.returns-clause-each
-returns-clause-each c = λ s.
-    all_swept c.loop-i.invariant.0 c.loop-i.invariant.1
+returns-clause-each c = λ s. all_swept c.loop-i.invariant.0 c.loop-i.invariant.1
     (omega (arith, c.loop-i-test.false, c.loop-i.invariant.2)) s

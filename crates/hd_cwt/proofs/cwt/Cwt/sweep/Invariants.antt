@@ -1,6 +1,5 @@
-use Rattle.std.proofs.Common.{◌≡◌, length, vec_capacity}
-use Rattle.hd_cwt.specs.Inside.{IsListed}
-use Rattle.hd_cwt.proofs.HeldSlots.{IsSwept}
+use Rattle.hd_cwt.proofs.Basics.{IsListed, length, vec_capacity, ◌≡◌}
+use Rattle.hd_cwt.proofs.KeyChanges.{IsSwept}
 use Rattle.hd_cwt.proofs.cwt.Cwt.sweep.Given as goal
 
 abbrev pub invariant-loop-i : goal.invariant-loop-i

@@ -1,15 +1,13 @@
-use Rattle.std.proofs.Common.{◌<◌, length, arith, None}
+use Rattle.hd_cwt.proofs.Basics.{None, arith, length, ◌<◌}
 use Rattle.hd_cwt.proofs.EntryCalls.{held_low, node_low, back_low, before_low, mask_low, clear_entries, viewed}
 use Rattle.hd_cwt.proofs.entries.Entries.clear.Goals as goal
 
 pub index-before-requires : goal.index-before-requires
 index-before-requires c =
-    omega (
-      arith,
-      c.self.inside.rings.previous.ok.0,
-      back_low c.self.invariant c.self.view_is c.args.slot
-          (held_low c.self.invariant c.self.view_is c.args.slot c.requires),
-    )
+    let known =
+    back_low c.self.invariant c.self.view_is c.args.slot
+    (held_low c.self.invariant c.self.view_is c.args.slot c.requires) in
+    omega (arith, c.self.inside.rings.previous.ok.0, known)
 
 pub index_mut-requires : goal.index_mut-requires
 index_mut-requires c =
@@ -29,21 +27,17 @@ exchange-requires-clause-b c =
 
 pub index-mask-requires : goal.index-mask-requires
 index-mask-requires c =
-    omega (
-      arith,
-      c.self.inside.idle.ok.0,
-      mask_low c.self.invariant c.self.view_is c.args.slot
-          (held_low c.self.invariant c.self.view_is c.args.slot c.requires),
-    )
+    let known =
+    mask_low c.self.invariant c.self.view_is c.args.slot
+    (held_low c.self.invariant c.self.view_is c.args.slot c.requires) in
+    omega (arith, c.self.inside.idle.ok.0, known)
 
 pub index_mut-requires-2 : goal.index_mut-requires-2
 index_mut-requires-2 c =
-    omega (
-      arith,
-      c.self.inside.idle.ok.0,
-      mask_low c.self.invariant c.self.view_is c.args.slot
-          (held_low c.self.invariant c.self.view_is c.args.slot c.requires),
-    )
+    let known =
+    mask_low c.self.invariant c.self.view_is c.args.slot
+    (held_low c.self.invariant c.self.view_is c.args.slot c.requires) in
+    omega (arith, c.self.inside.idle.ok.0, known)
 
 pub invariant_of-self : goal.invariant_of-self
 invariant_of-self c =

@@ -1,5 +1,4 @@
-use Rattle.std.proofs.Common.{sym, ap, ◌∙◌}
-use Rattle.hd_cwt.specs.Inside.{entry_at}
+use Rattle.hd_cwt.proofs.Basics.{ap, entry_at, sym, ◌∙◌}
 use Rattle.hd_cwt.proofs.EntryCalls.{read}
 use Rattle.hd_cwt.proofs.entries.Entries.get.Goals as goal
 

@@ -1,5 +1,4 @@
-use Rattle.std.proofs.Common.{◌≡◌, ◌<◌, length, get_or, sym, ◌∙◌, arith}
-use Rattle.std.proofs.lemmas.Grind.{get_or_default_zero}
+use Rattle.hd_cwt.proofs.Basics.{arith, get_or, get_or_default_zero, length, sym, ◌<◌, ◌∙◌, ◌≡◌}
 use Rattle.hd_cwt.proofs.EntryCalls.{read}
 use Rattle.hd_cwt.proofs.IdleMasks.{none_idle, row_idle, row_least}
 use Rattle.hd_cwt.proofs.entries.Entries.idle.Goals as goal
@@ -17,8 +16,7 @@ returns-clause-idle c =
     c.index.ensures ∙ get_or_default_zero masks c.self.inside.first c.index.result.now within in
     read c.self.invariant c.self.view_is _
     ∙ row_idle c.self.invariant.marked c.in_ok-row.row c.in_ok-row.ensures.within c.index.result.now within
-    mask
-    c.in_ok-row.ensures.set
+    mask c.in_ok-row.ensures.set
 
 pub returns-clause-least : goal.returns-clause-least
 returns-clause-least c = λ s e.
@@ -27,5 +25,4 @@ returns-clause-least c = λ s e.
     let mask : c.index.result.now ≡ get_or masks c.self.inside.first 0 =
     c.index.ensures ∙ get_or_default_zero masks c.self.inside.first c.index.result.now within in
     row_least c.self.invariant.marked c.in_ok-row.row c.in_ok-row.ensures.within c.index.result.now within
-    mask
-    c.in_ok-row.ensures.least s (sym (read c.self.invariant c.self.view_is s) ∙ e)
+    mask c.in_ok-row.ensures.least s (sym (read c.self.invariant c.self.view_is s) ∙ e)

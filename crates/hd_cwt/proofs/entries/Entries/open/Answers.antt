@@ -1,4 +1,4 @@
-use Rattle.hd_model.proofs.IndexedItems.{by_place-empty}
+use Rattle.hd_cwt.proofs.Basics.{by_place-empty}
 use Rattle.hd_cwt.proofs.EntryOpen.{none, opened}
 use Rattle.hd_cwt.proofs.entries.Entries.open.Goals as goal
 

@@ -1,4 +1,4 @@
-use Rattle.std.proofs.Common.{◌^◌, ◌<◌, arith, Some}
+use Rattle.hd_cwt.proofs.Basics.{Some, arith, ◌<◌, ◌^◌}
 use Rattle.hd_cwt.proofs.EntryCalls.{long, put_entries, viewed}
 use Rattle.hd_cwt.proofs.entries.Entries.put.Goals as goal
 

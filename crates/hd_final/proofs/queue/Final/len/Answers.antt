@@ -1,5 +1,4 @@
-use Rattle.std.proofs.Common.{subst, arith}
-use Rattle.hd_model.specs.Table.{Queue}
+use Rattle.hd_final.proofs.Basics.{Queue, arith, subst}
 use Rattle.hd_final.specs.Queue.{IsQueue}
 use Rattle.hd_final.proofs.queue.Final.len.Goals as goal
 

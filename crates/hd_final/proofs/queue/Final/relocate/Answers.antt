@@ -1,7 +1,4 @@
-use Rattle.std.proofs.Common.{◌≡◌, ◌<◌, ◌≤◌, length, map, set, sym, ap, ◌∙◌, subst, arith, true, slice_index_or, ◌≢◌, Contains, AllPairs}
-use Rattle.std.proofs.lemmas.List.{length-map}
-use Rattle.hd_model.specs.declared.data.Addr.{Addr}
-use Rattle.hd_model.specs.Table.{Queue}
+use Rattle.hd_final.proofs.Basics.{Addr, AllPairs, Contains, Queue, ap, arith, length, length-map, map, set, slice_index_or, subst, sym, true, ◌<◌, ◌∙◌, ◌≡◌, ◌≢◌, ◌≤◌}
 use Rattle.hd_final.proofs.QueueRelocate.{part_read, part_more, part_all, apart_moved}
 use Rattle.hd_final.proofs.queue.Final.relocate.Goals as goal
 
@@ -9,8 +6,7 @@ pub invariant_of-self : goal.invariant_of-self
 invariant_of-self g c =
     let place = g.F.Forward.place c.args.forward.now in
     let old = c.self.inside.waiting.items in
-    let high : length old ≤ c.loop-i.i =
-    omega (arith, c.len-i-end.ensures, c.self.inside.waiting.ok.0) in
+    let high : length old ≤ c.loop-i.i = omega (arith, c.len-i-end.ensures, c.self.inside.waiting.ok.0) in
     let now : c.loop-i.self-inside.waiting.items ≡ map place old =
     part_all place old c.loop-i.i c.loop-i.self-inside.waiting.items high c.loop-i.invariant.0 in
     let keeps = g.met.F.Forward.keeps c.args.forward.now c.requires.laid in
@@ -30,8 +26,7 @@ pub loop-i-preserved : goal.loop-i-preserved
 loop-i-preserved g c =
     let place = g.F.Forward.place c.args.forward.now in
     let old = c.self.inside.waiting.items in
-    let low : c.loop-i.i < length old =
-    omega (arith, c.len-i-end.ensures, c.self.inside.waiting.ok.0) in
+    let low : c.loop-i.i < length old = omega (arith, c.len-i-end.ensures, c.self.inside.waiting.ok.0) in
     let moved : c.moved.result ≡ place (slice_index_or old c.loop-i.i c.index.result.now) =
     c.moved.ensures ∙ ap place (c.index.ensures ∙ part_read place old c.loop-i.i
     c.loop-i.self-inside.waiting.items c.index.result.now low c.loop-i.invariant.0) in (

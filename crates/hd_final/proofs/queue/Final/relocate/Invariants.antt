@@ -1,5 +1,4 @@
-use Rattle.std.proofs.Common.{◌≡◌, vec_capacity}
-use Rattle.std.specs.VecDeque.{deque_capacity}
+use Rattle.hd_final.proofs.Basics.{deque_capacity, vec_capacity, ◌≡◌}
 use Rattle.hd_final.proofs.QueueRelocate.{IsPartMoved}
 use Rattle.hd_final.proofs.queue.Final.relocate.Given as goal
 

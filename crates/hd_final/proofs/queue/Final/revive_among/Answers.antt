@@ -1,13 +1,4 @@
-use Rattle.std.proofs.Common.{◌≡◌, ◌≢◌, ◌++◌, true, length, sym, ap, ◌∙◌, subst, arith, Contains, AllPairs}
-use Rattle.std.specs.List.Sorted.{IsNonDecreasingBy}
-use Rattle.hd_model.specs.Counting.{Counts}
-use Rattle.hd_model.specs.Heap.{Basis, objects_of, object_at}
-use Rattle.hd_model.specs.Leads.{Grows}
-use Rattle.hd_model.specs.Scene.{is_object, IsYoungField}
-use Rattle.hd_model.specs.Table.{Queue}
-use Rattle.hd_final.specs.declared.joiners.Joiner.{Joiner}
-use Rattle.hd_final.specs.Joiners.{places}
-use Rattle.hd_final.specs.Resurrection.{IsOut}
+use Rattle.hd_final.proofs.Basics.{AllPairs, Basis, Contains, Counts, Grows, IsNonDecreasingBy, IsOut, IsYoungField, Joiner, Queue, ap, arith, is_object, length, object_at, objects_of, places, subst, sym, true, ◌++◌, ◌∙◌, ◌≡◌, ◌≢◌}
 use Rattle.hd_final.proofs.QueueRevive.{joins_object, joins_count, resurrected, queue_once, queue_fits, joiners_fit}
 use Rattle.hd_final.proofs.queue.Final.revive_among.Goals as goal
 
@@ -18,37 +9,28 @@ join-requires-clause-objects g c = λ a k.
 
 pub join-requires-clause-room : goal.join-requires-clause-room
 join-requires-clause-room g c =
-    omega (
-      arith,
-      joiners_fit c.find.ensures.found c.sort.ensures.permutation c.deref.ensures.value c.self.view_is
-          c.self.invariant.once c.requires.objects c.requires.promoted c.requires.room,
-      c.self.invariant.held,
-      c.self.inside.waiting.ok.0,
-    )
+    let known =
+    joiners_fit c.find.ensures.found c.sort.ensures.permutation c.deref.ensures.value c.self.view_is
+    c.self.invariant.once c.requires.objects c.requires.promoted c.requires.room in
+    omega (arith, known, c.self.invariant.held, c.self.inside.waiting.ok.0)
 
 pub overflow_cast-result : goal.overflow_cast-result
 overflow_cast-result g c =
-    omega (
-      arith,
-      joiners_fit c.find.ensures.found c.sort.ensures.permutation c.deref.ensures.value c.self.view_is
-          c.self.invariant.once c.requires.objects c.requires.promoted c.requires.room,
-      c.self.invariant.low,
-      c.len.ensures,
-      c.sort.new.joiners.ok.0,
-      ap length c.deref.ensures.value,
-    )
+    let known =
+    joiners_fit c.find.ensures.found c.sort.ensures.permutation c.deref.ensures.value c.self.view_is
+    c.self.invariant.once c.requires.objects c.requires.promoted c.requires.room in
+    let also = ap length c.deref.ensures.value in
+    omega (arith, known, c.self.invariant.low, c.len.ensures, c.sort.new.joiners.ok.0, also)
 
 pub invariant_of-self : goal.invariant_of-self
 invariant_of-self g c = record {
   once = subst (λ xs. AllPairs (λ x y. x ≢ y) xs) (sym c.join.ensures.waiting)
       (queue_once c.find.ensures.found c.sort.ensures.permutation c.deref.ensures.value c.self.view_is
       c.self.invariant.once c.requires.objects c.requires.promoted c.requires.room);
-  fits = omega (
-    arith,
-    queue_fits c.find.ensures.found c.sort.ensures.permutation c.deref.ensures.value c.self.view_is
-        c.self.invariant.once c.requires.objects c.requires.promoted c.requires.room,
-    ap length c.join.ensures.waiting,
-  );
+  fits = (let known =
+      queue_fits c.find.ensures.found c.sort.ensures.permutation c.deref.ensures.value c.self.view_is
+      c.self.invariant.once c.requires.objects c.requires.promoted c.requires.room in
+      omega (arith, known, ap length c.join.ensures.waiting));
   low = c.self.invariant.low;
   held = omega (arith, c.self.invariant.held, c.join.ensures.capacity);
   joiners = omega (arith, c.self.invariant.joiners, c.sort.ensures.capacity, c.find.ensures.capacity);

@@ -1,6 +1,4 @@
-use Rattle.std.proofs.Common.{◌≡◌, ◌<◌, length, get_or, ap, ◌∙◌, subst, arith, Contains, sym}
-use Rattle.std.proofs.lemmas.List.Elements.{Contains-get_or}
-use Rattle.hd_model.specs.Table.{Queue}
+use Rattle.hd_final.proofs.Basics.{Contains, Contains-get_or, Queue, ap, arith, get_or, length, subst, sym, ◌<◌, ◌∙◌, ◌≡◌}
 use Rattle.hd_final.proofs.QueueSettle.{settled_more, settled_has}
 use Rattle.hd_final.proofs.queue.Final.settle.Goals as goal
 

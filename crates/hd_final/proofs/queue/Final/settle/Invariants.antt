@@ -1,5 +1,4 @@
-use Rattle.std.proofs.Common.{◌-◌, take, drop}
-use Rattle.hd_final.specs.Settling.{Unregisters}
+use Rattle.hd_final.proofs.Basics.{Unregisters, drop, take, ◌-◌}
 use Rattle.hd_final.proofs.queue.Final.settle.Given as goal
 
 abbrev pub invariant-loop-i : goal.invariant-loop-i

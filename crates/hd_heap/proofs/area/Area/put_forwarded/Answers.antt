@@ -8,11 +8,8 @@ overflow_add-self-2 g c = omega (arith, count_small c.args.self.now c.requires.a
 pub returns-clause-size : goal.returns-clause-size
 returns-clause-size g c =
     let place = g.F.Forward.place c.args.forward.now in
-    omega (
-      arith,
-      c.fields-cells.ensures.count,
-      length-map (object_at c.args.source.now c.args.from).fields (stored_place place),
-    )
+    let known = length-map (object_at c.args.source.now c.args.from).fields (stored_place place) in
+    omega (arith, c.fields-cells.ensures.count, known)
 
 pub returns-clause-area : goal.returns-clause-area
 returns-clause-area g c =

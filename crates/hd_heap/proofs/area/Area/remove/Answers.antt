@@ -21,12 +21,8 @@ returns-then-self-card c =
     let card = c.args.at / 32 in
     let now : get_or (set a.cards card c.starts_in.result) card false ≡ c.starts_in.result =
     get_or-set_same a.cards card c.starts_in.result false
-    (omega (
-      arith,
-      c.requires.area.card_count,
-      c.requires.area.laid_out.within_region,
-      c.requires.area.laid_out.below_fill c.args.at c.requires.object,
-    )) in
+    (let known = c.requires.area.laid_out.below_fill c.args.at c.requires.object in
+    omega (arith, c.requires.area.card_count, c.requires.area.laid_out.within_region, known)) in
     let both = area_taken a _ c.args.at (c.fields-cells.result + 3) c.requires.area (record {
       there = c.requires.object;
       removed = c.remove.ensures.removed

@@ -10,7 +10,6 @@ returns c = record {
     contents_are = c.requires.empty;
     cards = falses 8;
     live = refl;
-    count =
-        refl;
+    count = refl;
   };
 }

@@ -22,8 +22,7 @@ from_ok (Err x) P e p = absurd (cc e)
 added : (c : goal.After-push_back_reserved)
     → IsHeap c.push_reserved.new.self.items c.push_back_reserved.new.self.items c.self.inside.limit
     (deque_capacity c.push_back_reserved.new.self)
-    (c.self.inside.used, c.self.inside.count, c.self.inside.held)
-    c.self.inside.current
+    (c.self.inside.used, c.self.inside.count, c.self.inside.held) c.self.inside.current
     (record c.args.self.now { spare = c.args.self.now.spare ++ (c.len-number.result + 1) ∷ [] })
 added c =
     let n = c.len-number.result + 1 in
@@ -31,20 +30,13 @@ added c =
     heap_roomy (opened c.self.inside c.self.view_is c.self.invariant) c.reserve-2.ensures.capacity in
     let room = from_ok c.reserve-2.result _ (sym c.is_err-2.ensures.value ∙ c.if-is_err-2.false)
     c.reserve-2.ensures.ok in
-    region_added heap c.spare.result n
-    c.spare.ensures.area c.spare.ensures.freed
+    region_added heap c.spare.result n c.spare.ensures.area c.spare.ensures.freed
     (c.push_reserved.ensures.items
     ∙ ap (λ (xs : List Area). xs ++ c.spare.result ∷ []) c.reserve.ensures.items)
     (omega (arith, c.len-number.ensures)) (omega (arith, c.if-number.false))
     (c.push_back_reserved.ensures.items ∙ ap (λ xs. xs ++ n ∷ []) c.reserve-2.ensures.items)
-    (omega (
-      arith,
-      room,
-      c.reserve-2.ensures.len,
-      c.push_back_reserved.ensures.capacity,
-      c.len-number.ensures,
-      c.len.ensures,
-    ))
+    (let known = c.push_back_reserved.ensures.capacity in
+    omega (arith, room, c.reserve-2.ensures.len, known, c.len-number.ensures, c.len.ensures))
 
 pub invariant_of-self-2 : goal.invariant_of-self-2
 invariant_of-self-2 c = ((added c).kept, (added c).full)

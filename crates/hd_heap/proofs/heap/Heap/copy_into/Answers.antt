@@ -24,8 +24,7 @@ loop-i-init c =
     let written = c.write.ensures ∙ ap
     (λ (x : Placed). with_object c.put-copy.new.self c.put-copy.result (record x { value = v })) p.copy_is in
     copying_starts c.args.self.now c.write.new.self c.args.from c.args.region c.id.result
-    c.fields-fields.result
-    c.registered.result v
+    c.fields-fields.result c.registered.result v
     (put_written c.args.self.now c.args.from c.put-copy.result c.args.region c.requires.object
     c.put-copy.ensures.was_free c.put-copy.ensures.place c.put-copy.new.self c.write.new.self start
     (record start { value = v }) c.put-copy.ensures.put written refl) c.id.ensures.identity
@@ -71,9 +70,5 @@ loop-i-preserved c =
 pub returns-clause-copied : goal.returns-clause-copied
 returns-clause-copied c =
     copying_ends c.args.self.now c.loop-i.self c.args.from c.args.region c.loop-i.i c.loop-i.invariant
-    (omega (
-      arith,
-      c.loop-i-test.false,
-      c.fields-fields.ensures.count,
-      ap length (fields_placed c.args.self.now c.args.from c.requires.object),
-    ))
+    (let known = ap length (fields_placed c.args.self.now c.args.from c.requires.object) in
+    omega (arith, c.loop-i-test.false, c.fields-fields.ensures.count, known))

@@ -12,22 +12,14 @@ unfolding region_of
 copy_between-offset-requires g c =
     let heap = opened c.self.inside c.self.view_is c.self.invariant in
     let long = ap length c.deref_mut.ensures.value in
-    let source =
-    index_of heap c.args.from c.requires.object c.place_of-source.ensures in
-    let target =
-    held_index heap c.requires.held c.place_of-target.ensures in
+    let source = index_of heap c.args.from c.requires.object c.place_of-source.ensures in
+    let target = held_index heap c.requires.held c.place_of-target.ensures in
     let located = (found heap c.args.from c.requires.object).2.located.place in
     record {
       source = omega (arith, source, long);
       target = omega (arith, target.1, long);
-      apart = λ same. c.requires.other (omega (
-        arith,
-        same,
-        located.number,
-        c.place_of-source.ensures,
-        c.place_of-target.ensures,
-        target.0,
-      ));
+      apart = λ same. c.requires.other (let known = c.place_of-source.ensures in
+          omega (arith, same, located.number, known, c.place_of-target.ensures, target.0));
       laid = c.requires.laid;
       may_copy = λ a b is_a is_b. may_copy heap
           (found_read heap c.args.from c.requires.object c.place_of-source.ensures
@@ -64,8 +56,7 @@ copy g c =
 moved : (g : Over) → (c : After-copy_between-offset g)
     → let heap = opened c.self.inside c.self.view_is c.self.invariant in
     IsMoved heap (found heap c.args.from c.requires.object).2
-    (held_found heap c.args.region c.requires.held).2
-    c.requires.room (g.F.Forward.place c.args.forward.now)
+    (held_found heap c.args.region c.requires.held).2 c.requires.room (g.F.Forward.place c.args.forward.now)
     (take c.self.inside.areas.len (c.copy_between-offset.new.areas
     ++ drop (length c.copy_between-offset.new.areas) c.self.inside.areas.items))
     c.copy_between-offset.result.0 c.copy_between-offset.result.1

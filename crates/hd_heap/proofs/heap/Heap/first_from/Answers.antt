@@ -50,14 +50,8 @@ returns c =
         | inl below ↦ below
         | inr past ↦
             let p = wanted_place heap c.args.wanted b want in
-            absurd (omega (
-              arith,
-              c.loop-place.invariant b want past,
-              p.1,
-              p.2,
-              c.loop-place-test.false,
-              c.len-place-end.ensures,
-            ))
+            absurd (let known = c.loop-place.invariant b want past in
+            omega (arith, known, p.1, p.2, c.loop-place-test.false, c.len-place-end.ensures))
       ];
       sound = sound heap;
     }

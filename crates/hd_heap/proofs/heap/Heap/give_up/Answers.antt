@@ -19,20 +19,18 @@ pub give_up-cells-requires : goal.give_up-cells-requires
 give_up-cells-requires c = record { area = (located c).area }
 
 pub overflow_sub-self : goal.overflow_sub-self
-overflow_sub-self c = omega (
-  arith,
-  cells_counted (opened c.self.inside c.self.view_is c.self.invariant)
-      (located ((goal.at.overflow_sub-self c).After-index_mut)).place,
-  c.give_up-cells.ensures.cells,
-)
+overflow_sub-self c =
+    let known =
+    cells_counted (opened c.self.inside c.self.view_is c.self.invariant)
+    (located ((goal.at.overflow_sub-self c).After-index_mut)).place in
+    omega (arith, known, c.give_up-cells.ensures.cells)
 
 pub overflow_sub-self-2 : goal.overflow_sub-self-2
-overflow_sub-self-2 c = omega (
-  arith,
-  objects_counted (opened c.self.inside c.self.view_is c.self.invariant)
-      (located ((goal.at.overflow_sub-self-2 c).After-index_mut)).place,
-  c.give_up-cells.ensures.count,
-)
+overflow_sub-self-2 c =
+    let known =
+    objects_counted (opened c.self.inside c.self.view_is c.self.invariant)
+    (located ((goal.at.overflow_sub-self-2 c).After-index_mut)).place in
+    omega (arith, known, c.give_up-cells.ensures.count)
 
 pub overflow_sub-self-3 : goal.overflow_sub-self-3
 overflow_sub-self-3 c =

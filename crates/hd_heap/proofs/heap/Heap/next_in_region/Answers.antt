@@ -17,15 +17,8 @@ returns-then-place-regions c =
     record {
       next = λ a want after.
           let p = wanted_place heap c.args.wanted a want in
-          absurd (omega (
-            arith,
-            p.1,
-            p.2,
-            after,
-            c.place_of-place.ensures,
-            c.if-place-regions.true,
-            c.len-regions.ensures,
-          ));
+          absurd (let known = c.place_of-place.ensures in
+          omega (arith, p.1, p.2, after, known, c.if-place-regions.true, c.len-regions.ensures));
       sound = sound heap;
     }
 

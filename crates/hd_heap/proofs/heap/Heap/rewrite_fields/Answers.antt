@@ -21,8 +21,7 @@ forward_fields-requires g c =
       laid = c.requires.laid;
       kept = field_of (λ y. g.F.Forward.kept c.args.forward.now y ≡ true) c.args.self.now c.args.at
           (object_at (contents c.index_mut.result.now) (c.args.at.0 % 256)).fields
-          (object_of c.args.at f).fields
-          c.requires.kept;
+          (object_of c.args.at f).fields c.requires.kept;
     })
 
 written : (g : Over) → (c : After-forward_fields g)

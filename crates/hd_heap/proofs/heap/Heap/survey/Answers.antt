@@ -24,11 +24,8 @@ survey_region-requires c =
     (c.is_condemned.ensures.held c.if-is_condemned.true) in
     record {
       held = t.there;
-      condemned = omega (
-        arith,
-        ap (λ (g : Region). g.generation) t.region,
-        c.is_condemned.ensures.young c.if-is_condemned.true,
-      );
+      condemned = (let known = c.is_condemned.ensures.young c.if-is_condemned.true in
+          omega (arith, ap (λ (g : Region). g.generation) t.region, known));
       so_far = c.loop-place.invariant;
     }
 

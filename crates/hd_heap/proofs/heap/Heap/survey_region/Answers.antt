@@ -47,16 +47,10 @@ push_reserved-requires c =
     let t = located ((goal.at.push_reserved-requires c).After-index) in
     let f = first ((goal.at.push_reserved-requires c).In-Some) in
     let w = c.loop-header.invariant in
-    omega (
-      arith,
-      w.few,
-      w.room,
-      f.0.0,
-      object_below c.index.result.now t.area c.in-Some.header.at f.0.1,
-      from_ok c.reserve.result _ (sym c.is_err.ensures.value ∙ c.if-is_err.false) c.reserve.ensures.ok,
-      c.loop-header.survey.objects.ok,
-      c.reserve.new.self.ok,
-    )
+    let known = object_below c.index.result.now t.area c.in-Some.header.at f.0.1 in
+    let also =
+    from_ok c.reserve.result _ (sym c.is_err.ensures.value ∙ c.if-is_err.false) c.reserve.ensures.ok in
+    omega (arith, w.few, w.room, f.0.0, known, also, c.loop-header.survey.objects.ok, c.reserve.new.self.ok)
 
 pub loop-header-preserved : goal.loop-header-preserved
 loop-header-preserved c =
@@ -82,35 +76,23 @@ fits : (c : In-Some) → IsHeldAt c.self.inside.areas.items c.args.self.now c.ar
     c.index.result.now → c.in-Some.header.at + (c.in-Some.header.fields + 3) ≤ 256
 fits c t =
     let f = first c in
-    omega (
-      arith,
-      t.area.laid_out.below_fill c.in-Some.header.at f.0.1,
-      t.area.laid_out.within_region,
-      f.1.fields,
-    )
+    let known = t.area.laid_out.below_fill c.in-Some.header.at f.0.1 in
+    omega (arith, known, t.area.laid_out.within_region, f.1.fields)
 
 pub overflow_add-survey : goal.overflow_add-survey
 overflow_add-survey c =
     let heap = opened c.self.inside c.self.view_is c.self.invariant in
     let t = located ((goal.at.overflow_add-survey c).After-index) in
     let f = first ((goal.at.overflow_add-survey c).In-Some) in
-    omega (
-      arith,
-      c.loop-header.invariant.surveyed.small,
-      f.0.0,
-      fits ((goal.at.overflow_add-survey c).In-Some) t,
-      c.from-cells.ensures,
-      t.place.number,
-      t.place.within,
-      heap.kept.few,
-    )
+    let known = c.loop-header.invariant.surveyed.small in
+    let also = fits ((goal.at.overflow_add-survey c).In-Some) t in
+    omega (arith, known, f.0.0, also, c.from-cells.ensures, t.place.number, t.place.within, heap.kept.few)
 
 pub overflow_add-end : goal.overflow_add-end
-overflow_add-end c = omega (
-  arith,
-  fits ((goal.at.overflow_add-end c).In-Some) (located ((goal.at.overflow_add-end c).After-index)),
-  c.from-cells.ensures,
-)
+overflow_add-end c =
+    let known =
+    fits ((goal.at.overflow_add-end c).In-Some) (located ((goal.at.overflow_add-end c).After-index)) in
+    omega (arith, known, c.from-cells.ensures)
 
 -- after the last object there is none
 none : (c : In_default) → (q : ℕ) → c.loop-header.end ≤ q

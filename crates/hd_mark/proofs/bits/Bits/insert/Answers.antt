@@ -1,6 +1,5 @@
-use Rattle.std.proofs.Common.{◌≡◌, ◌/◌, ◌<◌, length, get_or, bit_or, ap, ◌∙◌, arith}
+use Rattle.hd_mark.proofs.Basics.{ap, arith, bit_or, get_or, is_set, length, ◌/◌, ◌<◌, ◌∙◌, ◌≡◌}
 use Rattle.std.proofs.lemmas.Grind.{get_or_default_zero}
-use Rattle.hd_mark.specs.Inside.{is_set}
 use Rattle.hd_mark.proofs.MarkBits.{set_here, set_elsewhere}
 use Rattle.hd_mark.proofs.bits.Bits.insert.Goals as goal
 

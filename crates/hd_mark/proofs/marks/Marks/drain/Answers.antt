@@ -1,6 +1,4 @@
-use Rattle.std.proofs.Common.{◌<◌, sym, ap, ◌∙◌, subst}
-use Rattle.hd_mark.specs.Marks.{MarksOf}
-use Rattle.hd_mark.specs.Steps.{advanced, IsNextDone}
+use Rattle.hd_mark.proofs.Basics.{IsNextDone, MarksOf, advanced, ap, subst, sym, ◌<◌, ◌∙◌}
 use Rattle.hd_mark.proofs.MarkPush.{work}
 use Rattle.hd_mark.proofs.MarkDrain.{IsDraining, draining_start, draining_on, drain_grows, next_condemned, next_done, settled_empty, work_falls}
 use Rattle.hd_mark.proofs.marks.Marks.drain.Goals as goal

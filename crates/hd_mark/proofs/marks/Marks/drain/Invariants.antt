@@ -1,5 +1,4 @@
-use Rattle.hd_mark.proofs.MarkDrain.{IsDraining}
-use Rattle.hd_mark.proofs.MarkPush.{work}
+use Rattle.hd_mark.proofs.{MarkDrain.IsDraining, MarkPush.work}
 use Rattle.hd_mark.proofs.marks.Marks.drain.Given as goal
 
 abbrev pub invariant-loop-at : goal.invariant-loop-at

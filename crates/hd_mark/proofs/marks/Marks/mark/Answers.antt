@@ -1,4 +1,4 @@
-use Rattle.std.proofs.Common.{rules}
+use Rattle.hd_mark.proofs.Basics.{rules}
 use Rattle.hd_mark.proofs.MarkDrain.{promoted_grows, log_kept}
 use Rattle.hd_mark.proofs.marks.Marks.mark.Goals as goal
 

@@ -1,15 +1,7 @@
-use Rattle.std.proofs.Common.{◌<◌, length, sym, ap, subst, refl, arith}
-use Rattle.std.proofs.lemmas.List.{length-map}
-use Rattle.hd_model.specs.declared.data.Addr.{Addr}
-use Rattle.hd_model.specs.Heap.{region_of}
-use Rattle.hd_heap.specs.declared.survey.CondemnedObject.{CondemnedObject}
-use Rattle.hd_mark.specs.Inside.{set_of}
-use Rattle.hd_mark.specs.Marks.{first_marks, HasNoneYet, IsSettledMarks}
-use Rattle.hd_mark.specs.Steps.{IsTraced}
-use Rattle.hd_mark.proofs.UnmarkedCount.{left_most}
+use Rattle.hd_mark.proofs.Basics.{Addr, CondemnedObject, HasNoneYet, IsSettledMarks, IsTraced, ap, arith, first_marks, length, length-map, refl, region_of, set_of, subst, sym, ◌<◌}
+use Rattle.hd_mark.proofs.{UnmarkedCount.left_most, MarksInvariant.first_seen}
 use Rattle.hd_mark.proofs.CondemnedWalks.{addresses, addresses_apart, all_surveyed}
 use Rattle.hd_mark.proofs.MarkDrain.{first_traced, first_none, settled_empty}
-use Rattle.hd_mark.proofs.MarksInvariant.{first_seen}
 use Rattle.hd_mark.proofs.marks.Marks.over.Goals as goal
 
 pub of-requires-clause-end : goal.of-requires-clause-end

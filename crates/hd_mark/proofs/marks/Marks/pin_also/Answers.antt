@@ -1,4 +1,4 @@
-use Rattle.std.proofs.Common.{sym, ◌∙◌}
+use Rattle.hd_mark.proofs.Basics.{sym, ◌∙◌}
 use Rattle.hd_mark.proofs.MarksInvariant.{pin_seen, pin_kept}
 use Rattle.hd_mark.proofs.marks.Marks.pin_also.Goals as goal
 

@@ -1,8 +1,7 @@
-use Rattle.std.proofs.Common.{sym, ◌∙◌, ◌≡◌, false, arith}
-use Rattle.hd_mark.specs.Marks.{promoted_in}
+use Rattle.hd_mark.proofs.Basics.{arith, false, promoted_in, sym, ◌∙◌, ◌≡◌}
 use Rattle.hd_mark.proofs.MarksInvariant.{promoted_read, push_room, push_kept, push_seen, push_none}
-use Rattle.hd_mark.proofs.marks.Marks.push.Goals as goal
 use Rattle.hd_mark.proofs.marks.Marks.push.Goals.{After-insert}
+use Rattle.hd_mark.proofs.marks.Marks.push.Goals as goal
 
 unmarked : (c : After-insert) → promoted_in c.args.self.now c.args.at ≡ false
 unmarked c =

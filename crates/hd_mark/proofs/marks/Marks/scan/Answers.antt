@@ -1,11 +1,4 @@
-use Rattle.std.proofs.Common.{◌≡◌, ◌<◌, true, take, length, List, Option, Some, None, ap, sym, ◌∙◌, subst, arith}
-use Rattle.std.specs.Prelude.{Contains}
-use Rattle.hd_model.specs.declared.data.Addr.{Addr}
-use Rattle.hd_model.specs.Heap.{Basis, object_at, objects_of}
-use Rattle.hd_model.specs.Names.{HasClosedFields}
-use Rattle.hd_model.specs.Scene.{fields_at, is_object}
-use Rattle.hd_model.proofs.Members.{member_at}
-use Rattle.hd_mark.specs.Marks.{MarksOf}
+use Rattle.hd_mark.proofs.Basics.{Addr, Basis, Contains, HasClosedFields, List, MarksOf, None, Option, Some, ap, arith, fields_at, is_object, length, member_at, object_at, objects_of, subst, sym, take, true, ◌<◌, ◌∙◌, ◌≡◌}
 use Rattle.hd_mark.proofs.MarkPush.{scanned_basis}
 use Rattle.hd_mark.proofs.marks.Marks.scan.Goals as goal
 

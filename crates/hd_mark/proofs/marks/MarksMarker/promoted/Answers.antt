@@ -1,4 +1,4 @@
-use Rattle.std.proofs.Common.{sym, ◌∙◌}
+use Rattle.hd_mark.proofs.Basics.{sym, ◌∙◌}
 use Rattle.hd_mark.proofs.MarksInvariant.{promoted_read}
 use Rattle.hd_mark.proofs.marks.MarksMarker.promoted.Goals as goal
 

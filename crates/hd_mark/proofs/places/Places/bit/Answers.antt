@@ -1,7 +1,6 @@
-use Rattle.std.proofs.Common.{◌/◌, ◌<◌, length, None, sym, ◌∙◌, arith}
-use Rattle.std.proofs.lemmas.List.{get_or_default}
-use Rattle.hd_mark.proofs.places.Places.bit.Goals as goal
+use Rattle.hd_mark.proofs.Basics.{None, arith, get_or_default, length, sym, ◌/◌, ◌<◌, ◌∙◌}
 use Rattle.hd_mark.proofs.places.Places.bit.Goals.{In-Some}
+use Rattle.hd_mark.proofs.places.Places.bit.Goals as goal
 
 low : (c : In-Some) → c.in-Some.place < c.args.self.now.regions
 low c =

@@ -1,4 +1,4 @@
-use Rattle.std.proofs.Common.{◌≡◌, ◌-◌, length}
+use Rattle.hd_mark.proofs.Basics.{length, ◌-◌, ◌≡◌}
 use Rattle.hd_mark.proofs.CondemnedWalks.{IsPlaced, end_of}
 use Rattle.hd_mark.proofs.places.Places.of.Given as goal
 

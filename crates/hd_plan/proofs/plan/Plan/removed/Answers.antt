@@ -23,6 +23,5 @@ returns c =
     (c.len.result - c.count_kept.result))
     c.self.view_is
     (removed_counted c.self.inside.heap.value c.self.inside.condemned laid.sound c.self.inside.moves.items
-    laid.moves
-    c.count_kept.result (c.len.result - c.count_kept.result) c.count_kept.ensures
+    laid.moves c.count_kept.result (c.len.result - c.count_kept.result) c.count_kept.ensures
     (ap (λ n. n - c.count_kept.result) (c.len.ensures ∙ c.self.inside.moves.ok.0)))

@@ -5,8 +5,7 @@ use Rattle.hd_plan.proofs.plan.Plan.take.Goals as goal
 
 pub with_room-requires-clause-found : goal.with_room-requires-clause-found
 with_room-requires-clause-found c =
-    subst (λ (h : Heap). IsExtent h c.args.n c.in_ok-found.found)
-    (sym c.reserve_regions.ensures.same)
+    subst (λ (h : Heap). IsExtent h c.args.n c.in_ok-found.found) (sym c.reserve_regions.ensures.same)
     (extent_spare c.args.heap.now c.args.n c.reserve_regions.new.self.spare c.in_ok-found.found
     c.in_ok-found.ensures)
 
@@ -16,10 +15,7 @@ returns-in_err-reserve_regions-clause-needed c =
     err_from_is_err_and
     c.from_residual-in_err-reserve_regions.result c.from_residual-in_err-reserve_regions.ensures.1 in
     rw failed.1 (spares_at_most c.args.heap.now c.reserve_regions.new.self c.args.n
-    c.in_ok-found.found c.in_ok-found.ensures (omega (
-      arith,
-      c.in_err-reserve_regions.ensures.enough,
-    )))
+    c.in_ok-found.found c.in_ok-found.ensures (omega (arith, c.in_err-reserve_regions.ensures.enough)))
 
 pub returns-in_err-found-clause-needed : goal.returns-in_err-found-clause-needed
 returns-in_err-found-clause-needed c =

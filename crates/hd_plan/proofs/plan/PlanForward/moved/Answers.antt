@@ -9,10 +9,8 @@ returns c =
       moves = c.self.inside.moves.items;
       regions = c.self.inside.regions.items;
     } in
-    c.place.ensures
-    ∙ place_found p c.self.inside.objects.items (vec_capacity c.self.inside.moves)
-    (vec_capacity c.self.inside.regions)
-    c.self.inside.places.firsts.items c.self.inside.places.cells.items
+    c.place.ensures ∙ place_found p c.self.inside.objects.items (vec_capacity c.self.inside.moves)
+    (vec_capacity c.self.inside.regions) c.self.inside.places.firsts.items c.self.inside.places.cells.items
     (subst IsLaid (sym c.self.view_is) c.requires.laid) c.self.invariant c.args.at
     (subst (λ (q : PlanOf). kept_in q c.args.at ≡ true) (sym c.self.view_is) c.requires.kept)
     ∙ ap (λ (q : PlanOf). place_in q c.args.at) c.self.view_is

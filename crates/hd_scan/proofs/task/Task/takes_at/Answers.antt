@@ -1,7 +1,4 @@
-use Rattle.std.proofs.Common.{◌≡◌, false, sym, ap, ◌∙◌}
-use Rattle.hd_model.specs.Kinds.{is_paired}
-use Rattle.hd_model.specs.Table.{live_at}
-use Rattle.hd_scan.specs.Tasks.{task_kind}
+use Rattle.hd_scan.proofs.Basics.{ap, false, is_paired, live_at, sym, task_kind, ◌∙◌, ◌≡◌}
 use Rattle.hd_scan.proofs.TaskRoles.{takes_all, takes_read}
 use Rattle.hd_scan.proofs.task.Task.takes_at.Goals as goal
 

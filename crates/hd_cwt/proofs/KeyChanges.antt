@@ -1,22 +1,8 @@
 -- The held slots and their keys, where a slot gets a key or loses it, and in a sweep.
-use Rattle.std.proofs.Common.{◌≡◌, ◌⊎◌, ℕ, ◌+◌, ◌*◌, ◌/◌, ◌<◌, ◌≤◌, Bool, true, false, cond, List, [], ◌∷◌, ◌++◌, length, get_or, option_map, Option, Some, None, IsSome, Contains, ⊎_elim, inl, inr, refl, sym, ap, ◌∙◌, subst, arith, length-append}
-use Rattle.std.specs.Prelude.{is_some, is_none}
-use Rattle.std.specs.FinMap.{get, insert, len, empty, get-empty, len-empty}
+use Rattle.hd_cwt.proofs.Basics.{Bool, CanTake, Contains, HasKey, Id, IsListed, IsSome, IsWeakTable, List, None, Option, Some, WeakTable, [], ap, arith, cases_lt, cond, cond_both, empty, false, false≢true, first_in, get, get-empty, get_or, get_or_default, inl, inr, insert, insert_cases, is_none, is_some, kept_key, len, len-empty, len_again, len_new, length, length-append, member_cases, none-some, not_in_none, option_map, refl, room_of, same_Some, slots_of, some_cases, still_some, subst, swept_at, sym, true, ℕ, ⊎_elim, ◌*◌, ◌++◌, ◌+◌, ◌/◌, ◌<◌, ◌∙◌, ◌∷◌, ◌≡◌, ◌≤◌, ◌⊎◌}
 use Rattle.std.specs.Ordering.{nat_cmp}
-use Rattle.std.proofs.lemmas.Bool.{cases_lt, cond_both, false≢true}
-use Rattle.std.proofs.lemmas.Option.{none-some, same_Some}
-use Rattle.std.proofs.lemmas.List.{get_or_default}
 use Rattle.std.proofs.lemmas.List.Elements.{Contains-append_cases, Contains-append_left, Contains-append_right}
-use Rattle.hd_model.specs.declared.data.Id.{Id}
 use Rattle.hd_model.specs.Table.{Table, live_at}
-use Rattle.hd_model.proofs.Members.{first_in, member_cases, not_in_none}
-use Rattle.hd_model.proofs.ReadAfterWrite.{insert_cases, some_cases, still_some, len_new, len_again}
-use Rattle.hd_cwt.specs.WeakTable.{WeakTable, HasKey, CanTake, IsWeakTable, room_of, slots_of, kept_key}
-use Rattle.hd_cwt.specs.Inside.{IsListed, swept_at}
-
-pub none_of : (o : Option (Option Id)) → is_some o ≡ false → o ≡ None
-none_of None e = refl
-none_of (Some v) e = absurd (false≢true (sym e))
 
 -- a slot that is not held can be given a key where there is room
 can_room : (t : WeakTable) (s : ℕ) → CanTake t s → get t.held s ≡ None → len t.held < room_of t
@@ -58,8 +44,7 @@ module _ {t : WeakTable} {slots : List ℕ} {capacity : ℕ} (is : IsListed t sl
     within : s < slots_of t
     within = subst (λ u. s < slots_of u) (sym view) is_within
 
-    key_put : (k : Id) (a : ℕ) → HasKey (with_entry t s (Some key)) k a
-        → ((a ≡ s) × (key ≡ k)) ⊎ HasKey t k a
+    key_put : (k : Id) (a : ℕ) → HasKey (with_entry t s (Some key)) k a → ((a ≡ s) × (key ≡ k)) ⊎ HasKey t k a
     key_put k a =
         insert_cases t.held s (λ q o. o ≡ Some (Some k) → ((q ≡ s) × (key ≡ k)) ⊎ HasKey t k q) (Some key) a
         (λ e. inl (refl, same_Some key k (same_Some (Some key) (Some k) e))) (λ _ e. inr e)
@@ -133,8 +118,7 @@ pub record IsSwept (seg : Table) (slots : List ℕ) (i : ℕ) (old now : WeakTab
   pub blocks : now.blocks ≡ old.blocks
   pub each : (s : ℕ) → (get now.held s ≡ get old.held s)
       ⊎ (get now.held s ≡ option_map (kept_key seg s) (get old.held s))
-  pub done : (j : ℕ) → j < i
-      → get now.held (get_or slots j 0)
+  pub done : (j : ℕ) → j < i → get now.held (get_or slots j 0)
       ≡ option_map (kept_key seg (get_or slots j 0)) (get old.held (get_or slots j 0))
 
 mapped_some : (f : Option Id → Option Id) (o : Option (Option Id)) → is_some (option_map f o) ≡ is_some o
@@ -202,8 +186,7 @@ module _ {seg : Table} {slots : List ℕ} {i : ℕ} {old now : WeakTable} (is : 
       by : (b : Bool) → is_none (live_at seg s).target ≡ b
           → IsSwept seg slots (i + 1) old (swept_at seg now s)
       by true e =
-          subst (IsSwept seg slots (i + 1) old)
-          (ap (λ b. cond b (with_entry now s None) now) (sym e))
+          subst (IsSwept seg slots (i + 1) old) (ap (λ b. cond b (with_entry now s None) now) (sym e))
           (cleared (null_kept seg s (get old.held s) e (was_held s some)))
       by false e =
           subst (IsSwept seg slots (i + 1) old)
