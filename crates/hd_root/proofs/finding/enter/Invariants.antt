@@ -1,0 +1,5 @@
+use Rattle.hd_root.specs.Anchors.{IsEntering}
+use Rattle.hd_root.proofs.finding.enter.Given as goal
+
+abbrev pub invariant-loop-anchor : goal.invariant-loop-anchor
+invariant-loop-anchor l = IsEntering l.heap l.anchor-items l.anchor-index l.trail
