@@ -138,29 +138,30 @@ said_again (cmd.CAdd k r) v = on_objects _ _ _
 said_again (cmd.CFind d k) v = on_objects _ _ _
     (two_said cmd.CFind _ _ d k (object_again d v.0) (object_again k v.1))
 said_again (cmd.CRemove k) v = one_said cmd.CRemove _ k (object_again k v)
+said_again (cmd.GcRoot r) v = one_said cmd.GcRoot _ r (object_again r v)
 
 -- ---- the words as words of a line
 
-literal : (word : List ℕ) → (ltb 0 (length word) && list_all is_high word) ≡ true → IsWord word
+pub literal : (word : List ℕ) → (ltb 0 (length word) && list_all is_high word) ≡ true → IsWord word
 literal word is =
     let both = and_parts (ltb 0 (length word)) (list_all is_high word) is in
     record { some = ltb-true 0 (length word) both.0; high = both.1 }
 
-numeral : (n : ℕ) → n < 2 ^ 64 → IsWord (decimal n)
-numeral n h = record { some = decimal_nonempty n h; high = digit_bytes n h }
+pub numeral : (n : ℕ) → n < 2 ^ 64 → IsWord (decimal n)
+numeral n h = record { some = decimal_nonempty n h; high = digit_bytes 36 (omega arith) n h }
 
--- a letter and a number
-register : (letter d : ℕ) → is_high letter ≡ true → d < 16 → IsWord (letter ∷ decimal d)
-register letter d high h = record {
+-- a letter or mark and a number
+pub marked : (mark d : ℕ) → is_high mark ≡ true → d < 2 ^ 64 → IsWord (mark ∷ decimal d)
+marked mark d high h = record {
   some = omega arith;
-  high = and_from (is_high letter) (list_all is_high (decimal d)) high (digit_bytes d (omega arith));
+  high = and_from (is_high mark) (list_all is_high (decimal d)) high (digit_bytes 36 (omega arith) d h);
 }
 
 object_is : (d : ℕ) → d < 16 → IsWord (object_word d)
-object_is d h = register 114 d refl h
+object_is d h = marked 114 d refl (omega arith)
 
 handle_is : (d : ℕ) → d < 16 → IsWord (handle_word d)
-handle_is d h = register 104 d refl h
+handle_is d h = marked 104 d refl (omega arith)
 
 strength_is : (s : Strength) → IsWord (strength_word s)
 strength_is strength.Short = literal (codes "short") refl
@@ -231,6 +232,7 @@ words_are (cmd.Trim k) v = (literal (codes "trim") refl, (kind_is k, tt))
 words_are (cmd.CAdd k r) v = (literal (codes "cadd") refl, (object_is k v.0, (object_is r v.1, tt)))
 words_are (cmd.CFind d k) v = (literal (codes "cfind") refl, (object_is d v.0, (object_is k v.1, tt)))
 words_are (cmd.CRemove k) v = (literal (codes "cremove") refl, (object_is k v, tt))
+words_are (cmd.GcRoot r) v = (literal (codes "gcroot") refl, (object_is r v, tt))
 
 -- ---- the line
 

@@ -1,5 +1,5 @@
 -- How the lines of a journal grow by those of one entry after another.
-use Rattle.hd_print.proofs.Basics.{All, Entry, List, SinkView, Some, Took, WriteBrokeOff, [], ap, append-nil, append_assoc, arith, count_by, count_by-le-length, count_by_more_no, count_by_more_yes, drop, entry_text, get_or, length, length-set, length-take-le, lines_after, lines_of, set, slice_get, subst, sym, take, take-append-drop, take_more, ℕ, ◌++◌, ◌+◌, ◌<◌, ◌==◌, ◌∙◌, ◌∷◌, ◌≡◌, ◌≤◌}
+use Rattle.hd_print.proofs.Basics.{All, Entry, List, SinkView, Some, Took, WriteBrokeOff, [], ap, append-nil, append_assoc, arith, concat, count_by, count_by-le-length, count_by_more_no, count_by_more_yes, drop, get_or, length, length-set, length-take-le, numbered_after, set, slice_get, subst, sym, take, take-append-drop, take_more, ℕ, ◌++◌, ◌+◌, ◌<◌, ◌==◌, ◌∙◌, ◌∷◌, ◌≡◌, ◌≤◌}
 use Rattle.std.proofs.{lemmas.Grind.common_steps, lemmas.Option.get_or_from_slice_get}
 use Rattle.hd_io.proofs.SinkPieces.{took_more, broke_after, broke_before}
 
@@ -7,22 +7,32 @@ use Rattle.hd_io.proofs.SinkPieces.{took_more, broke_after, broke_before}
 abbrev pub count_of : ℕ → List Entry → ℕ
 count_of caller es = count_by (λ (e : Entry). e.caller == caller) es
 
--- the lines of a list are those of its prefix, and then those of the rest
-lines_after-append : (before xs ys : List Entry)
-    → lines_after before (xs ++ ys) ≡ lines_after before xs ++ lines_after (before ++ xs) ys
-lines_after-append before [] ys = ap (λ (b : List Entry). lines_after b ys) (sym (append-nil before))
-lines_after-append before (x ∷ xs) ys =
-    let line = entry_text x (count_of x.caller before + 1) in
-    let tail = lines_after (before ++ x ∷ []) xs in
-    ap (λ (t : List ℕ). line ++ t) (lines_after-append (before ++ x ∷ []) xs ys)
-    ∙ ap (λ (b : List Entry). line ++ (tail ++ lines_after b ys)) (append_assoc before (x ∷ []) xs)
-    ∙ sym (append_assoc line tail (lines_after (before ++ x ∷ xs) ys))
+-- the lines of entries after others
+abbrev lines_after : (Entry → ℕ → List ℕ) → List Entry → List Entry → List ℕ
+lines_after line before es = concat (numbered_after line before es)
 
--- the lines of the first entries are a prefix of all lines
-lines_of_prefix : (es : List Entry) (i : ℕ)
-    → lines_of es ≡ lines_of (take i es) ++ lines_after (take i es) (drop i es)
-lines_of_prefix es i = ap lines_of (sym (take-append-drop i es))
-    ∙ lines_after-append [] (take i es) (drop i es)
+-- the lines of a list are those of its prefix, and then those of the rest
+lines_after-append : (line : Entry → ℕ → List ℕ) (before xs ys : List Entry)
+    → lines_after line before (xs ++ ys)
+    ≡ lines_after line before xs ++ lines_after line (before ++ xs) ys
+lines_after-append line before [] ys =
+    ap (λ (b : List Entry). lines_after line b ys) (sym (append-nil before))
+lines_after-append line before (x ∷ xs) ys =
+    let first = line x (count_of x.caller before + 1) in
+    let tail = lines_after line (before ++ x ∷ []) xs in
+    ap (λ (t : List ℕ). first ++ t) (lines_after-append line (before ++ x ∷ []) xs ys)
+    ∙ ap (λ (b : List Entry). first ++ (tail ++ lines_after line b ys)) (append_assoc before (x ∷ []) xs)
+    ∙ sym (append_assoc first tail (lines_after line (before ++ x ∷ xs) ys))
+
+-- the lines of the first entries
+abbrev first_lines : (Entry → ℕ → List ℕ) → List Entry → ℕ → List ℕ
+first_lines line es i = lines_after line [] (take i es)
+
+-- they are a prefix of all lines
+lines_of_prefix : (line : Entry → ℕ → List ℕ) (es : List Entry) (i : ℕ)
+    → lines_after line [] es ≡ first_lines line es i ++ lines_after line (take i es) (drop i es)
+lines_of_prefix line es i = ap (lines_after line []) (sym (take-append-drop i es))
+    ∙ lines_after-append line [] (take i es) (drop i es)
 
 -- at the entry `e` of index `i`
 module _ (es : List Entry) (i : ℕ) (e : Entry) (in_range : i < length es) (is_e : slice_get es i ≡ Some e)
@@ -31,13 +41,13 @@ module _ (es : List Entry) (i : ℕ) (e : Entry) (in_range : i < length es) (is_
     at_place = get_or_from_slice_get es i e e is_e
 
     -- one entry more is one line more
-    lines_of_more : lines_of (take (i + 1) es) ≡ lines_of (take i es)
-        ++ entry_text e (count_of e.caller (take i es) + 1)
-    lines_of_more =
-        ap lines_of (take_more es i e in_range ∙ ap (λ (x : Entry). take i es ++ x ∷ []) at_place)
-        ∙ lines_after-append [] (take i es) (e ∷ [])
-        ∙ ap (λ (t : List ℕ). lines_of (take i es) ++ t)
-        (append-nil (entry_text e (count_of e.caller (take i es) + 1)))
+    lines_of_more : (line : Entry → ℕ → List ℕ) → first_lines line es (i + 1)
+        ≡ first_lines line es i ++ line e (count_of e.caller (take i es) + 1)
+    lines_of_more line =
+        let more = take_more es i e in_range ∙ ap (λ (x : Entry). take i es ++ x ∷ []) at_place in
+        ap (lines_after line []) more ∙ lines_after-append line [] (take i es) (e ∷ [])
+        ∙ ap (λ (t : List ℕ). first_lines line es i ++ t)
+        (append-nil (line e (count_of e.caller (take i es) + 1)))
 
     -- where all callers are below 16
     module _ (all : All (λ (x : Entry). x.caller < 16) es) where
@@ -67,23 +77,24 @@ module _ (es : List Entry) (i : ℕ) (e : Entry) (in_range : i < length es) (is_
               grind (arith, common_steps, yes, no, counted c small)
 
           -- after the lines before it, one write that is the line of the entry
-          module _ (a b c : SinkView) (piece : List ℕ) (done : Took a b (lines_of (take i es)))
-              (its_line : piece ≡ entry_text e number) where
-            lines_so_far : lines_of (take i es) ++ piece ≡ lines_of (take (i + 1) es)
+          module _ (line : Entry → ℕ → List ℕ) (a b c : SinkView) (piece : List ℕ)
+              (done : Took a b (first_lines line es i)) (its_line : piece ≡ line e number) where
+            lines_so_far : first_lines line es i ++ piece ≡ first_lines line es (i + 1)
             lines_so_far =
                 let its_number : number ≡ count_of e.caller (take i es) + 1 = is_next
                 ∙ ap (λ (n : ℕ). n + 1) (counted e.caller caller_below) in
-                ap (λ (t : List ℕ). lines_of (take i es) ++ t) (its_line ∙ ap (entry_text e) its_number)
-                ∙ sym lines_of_more
+                ap (λ (t : List ℕ). first_lines line es i ++ t) (its_line ∙ ap (line e) its_number)
+                ∙ sym (lines_of_more line)
 
-            pub took_line : Took b c piece → Took a c (lines_of (take (i + 1) es))
+            pub took_line : Took b c piece → Took a c (first_lines line es (i + 1))
             took_line then = subst (λ (t : List ℕ). Took a c t) lines_so_far
-                (took_more a b c (lines_of (take i es)) piece done then)
+                (took_more a b c (first_lines line es i) piece done then)
 
-            pub broke_in_line : WriteBrokeOff b c piece → WriteBrokeOff a c (lines_of es)
+            pub broke_in_line : WriteBrokeOff b c piece → WriteBrokeOff a c (lines_after line [] es)
             broke_in_line then =
-                let so_far = broke_after a b c (lines_of (take i es)) piece done then in
-                let rest = lines_after (take (i + 1) es) (drop (i + 1) es) in
-                let longer = broke_before a c c (lines_of (take i es) ++ piece) rest so_far in
-                let whole = ap (λ (t : List ℕ). t ++ rest) lines_so_far ∙ sym (lines_of_prefix es (i + 1)) in
+                let so_far = broke_after a b c (first_lines line es i) piece done then in
+                let rest = lines_after line (take (i + 1) es) (drop (i + 1) es) in
+                let longer = broke_before a c c (first_lines line es i ++ piece) rest so_far in
+                let whole = ap (λ (t : List ℕ). t ++ rest) lines_so_far
+                ∙ sym (lines_of_prefix line es (i + 1)) in
                 subst (λ (t : List ℕ). WriteBrokeOff a c t) whole longer

@@ -4,3 +4,8 @@ pub mod WordJoin
 pub mod LineWords
 pub mod Numerals
 pub mod CommandReadBack
+pub mod FullWords
+pub mod FullLineReadBack
+pub mod LineEndings
+pub mod StepLines
+pub mod JudgedRuns

@@ -4,9 +4,9 @@ use Rattle.std.specs.Str.Lines.{strip_carriage_return}
 use Rattle.std.proofs.{lemmas.List.Folds.list_all-append, lemmas.List.Splits.slice_split_at, lemmas.List.Splits.slice_split_none}
 use Rattle.hd_model.specs.Grammar.{lines_in, words_in, words_of}
 
--- a byte of a command's word: a digit or a letter, which is no blank, ends no line and begins no comment
+-- a byte of a word: it is above `#`, so it is no blank, ends no line and begins no comment
 abbrev pub is_high : ℕ → Bool
-is_high b = leb 48 b
+is_high b = leb 36 b
 
 pub record IsWord (word : List ℕ) : Type 0 where
   pub some : 0 < length word
@@ -21,22 +21,22 @@ abbrev is_plain : ℕ → Bool
 is_plain b = eqb b 32 || is_high b
 
 -- each element that passes one test fails another
-all_fail : (p q : ℕ → Bool) → ((b : ℕ) → p b ≡ true → q b ≡ false) → (bytes : List ℕ)
+pub all_fail : (p q : ℕ → Bool) → ((b : ℕ) → p b ≡ true → q b ≡ false) → (bytes : List ℕ)
     → list_all p bytes ≡ true → All (λ b. q b ≡ false) bytes
 all_fail p q differ bytes h = All-weaker (λ b. p b ≡ true)
     (λ b. q b ≡ false) differ bytes (AllPass-from_list_all p bytes h)
 
 -- no byte of such a line is this one
-plain_is_not : (c : ℕ) → c < 48 → (c ≡ 32 → ⊥) → (b : ℕ) → is_plain b ≡ true → eqb b c ≡ false
+plain_is_not : (c : ℕ) → c < 36 → (c ≡ 32 → ⊥) → (b : ℕ) → is_plain b ≡ true → eqb b c ≡ false
 plain_is_not c low differs b h =
     ne_eqb b c (λ (e : b ≡ c). ⊎_elim
     (λ (blank : eqb b 32 ≡ true). differs (sym e ∙ eqb-true b 32 blank))
-    (λ (high : is_high b ≡ true). let above : 48 ≤ b = leb-true 48 b high in absurd (omega arith))
+    (λ (high : is_high b ≡ true). let above : 36 ≤ b = leb-true 36 b high in absurd (omega arith))
     (or_cases (eqb b 32) (is_high b) h))
 
 high_is_not_blank : (b : ℕ) → is_high b ≡ true → is_blank b ≡ false
 high_is_not_blank b h =
-    let above : 48 ≤ b = leb-true 48 b h in
+    let above : 36 ≤ b = leb-true 36 b h in
     let space : eqb b 32 ≡ false = ne_eqb b 32 (λ e. omega arith) in
     let tab : eqb b 9 ≡ false = ne_eqb b 9 (λ e. omega arith) in
     rw space tab

@@ -33,10 +33,18 @@ number_again most n within small =
     cond-true (ltb 0 (length word) && list_all is_ascii_digit word && leb (worth 0 word) most)
     (Some (worth 0 word)) None all ∙ ap Some value
 
--- each byte of a numeral is a digit
-pub digit_bytes : (n : ℕ) → n < 2 ^ 64 → list_all (λ b. leb 48 b) (decimal n) ≡ true
-digit_bytes n fits =
+-- and its value is the number
+pub value_again : (n : ℕ) → n < 2 ^ 64 → value_of (decimal n) ≡ n
+unfolding value_of
+value_again n fits = digits_value-decimal model n fits
+
+pub digits_again : (n : ℕ) → n < 2 ^ 64 → list_all is_ascii_digit (decimal n) ≡ true
+digits_again n fits = digits_decimal model n fits
+
+-- each byte of a numeral is at least that of 0
+pub digit_bytes : (low : ℕ) → low ≤ 48 → (n : ℕ) → n < 2 ^ 64 → list_all (λ b. leb low b) (decimal n) ≡ true
+digit_bytes low under n fits =
     let digits = digits_decimal (numerals_by_value _ tells_by_index) n fits in
-    list_all-from_AllPass (λ b. leb 48 b) (decimal n)
-    (All-from_get_or (λ b. leb 48 b ≡ true) (decimal n) 0
-    (λ i h. le-leb 48 (get_or (decimal n) i 0) (digits i h).0))
+    list_all-from_AllPass (λ b. leb low b) (decimal n)
+    (All-from_get_or (λ b. leb low b ≡ true) (decimal n) 0
+    (λ i h. le-leb low (get_or (decimal n) i 0) (omega (arith, (digits i h).0))))

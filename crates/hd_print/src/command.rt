@@ -83,6 +83,7 @@ fn push_command(line: &mut Line, cmd: Cmd)
         Cmd::CAdd { k, v } => push_words(line, "cadd", &[Object(k), Object(v)]),
         Cmd::CFind { d, k } => push_words(line, "cfind", &[Object(d), Object(k)]),
         Cmd::CRemove { k } => push_words(line, "cremove", &[Object(k)]),
+        Cmd::GcRoot { s } => push_words(line, "gcroot", &[Object(s)]),
     }
 }
 

@@ -1,16 +1,25 @@
 // The lines of a journal.
-ghost use Rattle.std.specs.Prelude.{◌≡◌, ◌+◌, ◌^◌, ◌<◌, ◌≤◌, [], decimal, length, slice_index, slice_set, All, OnOk, OnErr};
+ghost use Rattle.std.specs.Prelude.{◌≡◌, ◌+◌, ◌^◌, ◌<◌, ◌≤◌, [], ◌++◌, decimal, length, slice_index, slice_set, All, OnOk, OnErr};
+ghost use Rattle.std.specs.List.{concat};
 ghost use Rattle.hd_io.specs.Sink.{Took, WriteBrokeOff};
 ghost use Rattle.hd_model.specs.Text.{entry_text, lines_of};
+ghost use Rattle.hd_model.specs.FullText.{slot_text, growth_text, full_line, full_lines};
+ghost use Rattle.hd_print.specs.EntryLines.{line_by, lines_by};
 
 use crate::line::Line;
 use crate::reply::push_reply;
 use hd_io::{Failed, Sink, write_all};
 use hd_model::limits::CALLERS;
-use hd_model::{Entry, Journal, Reply};
+use hd_model::{Entry, Grown, Journal, Reply, Slot};
 
 // A count for each caller.
 const COUNTS: usize = CALLERS as usize;
+
+// The bytes of the longest slot: a blank, its mark and a number of ten digits.
+const LONGEST_SLOT: usize = 12;
+
+// The bytes of the longest growth: a blank, its mark and two numbers of ten digits with a comma.
+const LONGEST_GROWTH: usize = 23;
 
 /// The line of an entry: its caller, its number among that caller's entries, and its reply.
 pub fn entry_line(entry: Entry, number: u32) -> Line
@@ -19,6 +28,26 @@ pub fn entry_line(entry: Entry, number: u32) -> Line
     let mut line = Line::new();
     set_entry(&mut line, entry, number);
     line
+}
+
+/// The full line of an entry: its slot and its blocks too, where it has any.
+pub fn full_line(entry: Entry, number: u32) -> Line
+    ensures { result ≡ full_line entry number }
+{
+    let mut line = Line::new();
+    set_full(&mut line, entry, number);
+    line
+}
+
+// Makes a line that of an entry, plain or full.
+fn set_line(line: &mut Line, entry: Entry, number: u32, full: bool)
+    ensures { line.new ≡ line_by full entry number }
+{
+    if full {
+        set_full(line, entry, number);
+    } else {
+        set_entry(line, entry, number);
+    }
 }
 
 // Makes a line that of an entry.
@@ -35,6 +64,58 @@ fn set_entry(line: &mut Line, entry: Entry, number: u32)
         line.push_str(" ");
         push_reply(line, entry.reply);
         line.push_str("\n");
+    }
+}
+
+// Makes a line the full one of an entry.
+fn set_full(full: &mut Line, entry: Entry, number: u32)
+    ensures { full.new ≡ full_line entry number }
+{
+    full.clear();
+    push_caller(full, entry.caller);
+    full.push_str(" ");
+    full.push_number(number);
+    full.push_str(" ");
+    push_reply(full, entry.reply);
+    push_slot(full, entry.slot);
+    push_growth(full, entry.grown);
+    full.push_str("\n");
+}
+
+// Appends the slot that an entry gives or frees.
+fn push_slot(line: &mut Line, slot: Option<Slot>)
+    requires { length line.old + LONGEST_SLOT ≤ Line.CAPACITY }
+    ensures text { line.new ≡ line.old ++ slot_text slot }
+    ensures short { length line.new ≤ length line.old + LONGEST_SLOT }
+{
+    if let Some(slot) = slot {
+        line.push_str(" @");
+        line.push_number(slot.0);
+    }
+}
+
+// Appends how the blocks in use changed.
+fn push_growth(line: &mut Line, grown: Grown)
+    requires { length line.old + LONGEST_GROWTH ≤ Line.CAPACITY }
+    ensures text { line.new ≡ line.old ++ growth_text grown }
+    ensures short { length line.new ≤ length line.old + LONGEST_GROWTH }
+{
+    match grown {
+        Grown::Zero => {}
+        Grown::One(block) => {
+            line.push_str(" +");
+            line.push_number(block);
+        }
+        Grown::Two(block, other) => {
+            line.push_str(" +");
+            line.push_number(block);
+            line.push_str(",");
+            line.push_number(other);
+        }
+        Grown::Back(block) => {
+            line.push_str(" -");
+            line.push_number(block);
+        }
     }
 }
 
@@ -73,12 +154,34 @@ pub fn write_entries<K: Sink>(journal: &Journal, sink: &mut K) -> Result<(), Fai
     ensures broke_off { OnErr result
         (WriteBrokeOff (K.seen sink.old) (K.seen sink.new) (lines_of journal.now.entries)) }
 {
+    write_lines(journal, false, sink)
+}
+
+/// Writes the full line of each entry, as `write_entries` writes the plain one.
+pub fn write_full<K: Sink>(journal: &Journal, sink: &mut K) -> Result<(), Failed>
+    requires { All (λ e. e.caller < CALLERS) journal.now.entries }
+    ensures all { OnOk result (Took (K.seen sink.old) (K.seen sink.new)
+        (concat (full_lines journal.now.entries))) }
+    ensures broke_off { OnErr result (WriteBrokeOff (K.seen sink.old) (K.seen sink.new)
+        (concat (full_lines journal.now.entries))) }
+{
+    write_lines(journal, true, sink)
+}
+
+// Writes the line of each entry, plain or full.
+fn write_lines<K: Sink>(journal: &Journal, full: bool, sink: &mut K) -> Result<(), Failed>
+    requires { All (λ e. e.caller < CALLERS) journal.now.entries }
+    ensures all { OnOk result
+        (Took (K.seen sink.old) (K.seen sink.new) (lines_by full journal.now.entries)) }
+    ensures broke_off { OnErr result
+        (WriteBrokeOff (K.seen sink.old) (K.seen sink.new) (lines_by full journal.now.entries)) }
+{
     let mut counts = [0; COUNTS];
     let mut line = Line::new();
     for i in 0..journal.len() {
         let entry = journal.entry(i);
         let number = count_entry(&mut counts, entry.caller);
-        set_entry(&mut line, entry, number);
+        set_line(&mut line, entry, number, full);
         write_all(sink, line.as_bytes())?;
     }
     Ok(())

@@ -5,12 +5,14 @@
 mod command;
 mod end;
 mod entries;
+mod laws;
 mod line;
 mod reply;
 mod roots;
 
 pub use command::command_line;
 pub use end::{end_line, load_line};
-pub use entries::{entry_line, write_entries};
+pub use entries::{entry_line, full_line, write_entries, write_full};
+pub use laws::full_lines_tell;
 pub use line::Line;
 pub use roots::{root_line, roots_line};

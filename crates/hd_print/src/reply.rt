@@ -99,6 +99,13 @@ pub(crate) fn push_reply(line: &mut Line, reply: Reply)
         Reply::Report(report) => push_report(line, report),
         Reply::NoneQueued => line.push_str("none"),
         Reply::Absent => line.push_str("absent"),
+        Reply::Chain { from, arrows } => {
+            line.push_str("root ");
+            push_identity(line, from);
+            line.push_str(" ");
+            line.push_number(arrows);
+        }
+        Reply::Unrooted => line.push_str("unrooted"),
         Reply::Refused(refusal) => push_refusal(line, refusal),
     }
 }

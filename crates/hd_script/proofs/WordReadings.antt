@@ -1,4 +1,4 @@
--- The reading of bytes, by the number of their words.
+-- The reading of a list of words, by their number.
 use Rattle.hd_script.proofs.Basics.{Cmd, List, MatchOption, None, Option, Some, [], ap, blank, bytes_eq, caller, codes, command, cond-false, cond-true, false, five_words, four_words, is_some, number_of, option_map, sym, three_words, true, two_words, words_at, ℕ, ◌∙◌, ◌∷◌, ◌≡◌}
 use Rattle.std.specs.Borrow.{Bor}
 use Rattle.hd_model.specs.Grammar.{reading_of}
@@ -18,62 +18,50 @@ pub goes_on : (next : Option (Bor (List ℕ) × Bor (List ℕ))) (rest : List �
 goes_on None rest is_next has = absurd cc
 goes_on (Some found) rest is_next has = (found.0.now, found.1.now, is_next)
 
-pub none : (bytes : List ℕ) → words_at bytes ≡ [] → Some blank ≡ reading_of (words_at bytes)
-unfolding reading_of
-none bytes e = sym (ap reading_of e)
+-- a list of words by its first word and what is known of the others
+pub then_word : {ws xs ys : List (List ℕ)} {w : List ℕ} → ws ≡ w ∷ xs → xs ≡ ys → ws ≡ w ∷ ys
+then_word {w = w} e f = e ∙ ap (λ zs. w ∷ zs) f
 
-pub lone : (bytes word rest : List ℕ) → words_at bytes ≡ word ∷ words_at rest → words_at rest ≡ []
-    → None ≡ reading_of (words_at bytes)
-unfolding reading_of
-lone bytes word rest e f = let all : words_at bytes ≡ word ∷ [] = cc in sym (ap reading_of all)
+module _ {ws : List (List ℕ)} where
+  pub none : ws ≡ [] → Some blank ≡ reading_of ws
+  unfolding reading_of
+  none e = sym (ap reading_of e)
 
-module _ (bytes word r a s : List ℕ) (e : words_at bytes ≡ word ∷ words_at r)
-    (f : words_at r ≡ a ∷ words_at s) where
+  pub lone : {w : List ℕ} → ws ≡ w ∷ [] → None ≡ reading_of ws
+  unfolding reading_of
+  lone e = sym (ap reading_of e)
+
   -- `caller` and a number
-  pub names_caller : (n : Option ℕ) → words_at s ≡ [] → bytes_eq word (codes "caller") ≡ true
-      → n ≡ number_of 15 a → option_map caller n ≡ reading_of (words_at bytes)
+  pub names_caller : {w a : List ℕ} (n : Option ℕ) → ws ≡ w ∷ a ∷ [] → bytes_eq w (codes "caller") ≡ true
+      → n ≡ number_of 15 a → option_map caller n ≡ reading_of ws
   unfolding reading_of
-  names_caller n g is number =
-      let all : words_at bytes ≡ word ∷ a ∷ [] = cc in
-      sym (ap reading_of all ∙ cond-true (bytes_eq word (codes "caller"))
-      (option_map caller (number_of 15 a)) (option_map command (two_words word a)) is
-      ∙ ap (option_map caller) (sym number))
+  names_caller {w} {a} n e is number =
+      sym (ap reading_of e ∙ cond-true (bytes_eq w (codes "caller")) (option_map caller (number_of 15 a))
+      (option_map command (two_words w a)) is ∙ ap (option_map caller) (sym number))
 
-  pub of_two : (c : Option Cmd) → words_at s ≡ [] → bytes_eq word (codes "caller") ≡ false
-      → c ≡ two_words word a → option_map command c ≡ reading_of (words_at bytes)
+  pub of_two : {w a : List ℕ} (c : Option Cmd) → ws ≡ w ∷ a ∷ [] → bytes_eq w (codes "caller") ≡ false
+      → c ≡ two_words w a → option_map command c ≡ reading_of ws
   unfolding reading_of
-  of_two c g is_not same =
-      let all : words_at bytes ≡ word ∷ a ∷ [] = cc in
-      sym (ap reading_of all ∙ cond-false (bytes_eq word (codes "caller"))
-      (option_map caller (number_of 15 a)) (option_map command (two_words word a)) is_not
-      ∙ ap (option_map command) (sym same))
+  of_two {w} {a} c e is_not same =
+      sym (ap reading_of e ∙ cond-false (bytes_eq w (codes "caller")) (option_map caller (number_of 15 a))
+      (option_map command (two_words w a)) is_not ∙ ap (option_map command) (sym same))
 
-  module _ (b t : List ℕ) (g : words_at s ≡ b ∷ words_at t) where
-    pub of_three : (c : Option Cmd) → words_at t ≡ [] → c ≡ three_words word a b
-        → option_map command c ≡ reading_of (words_at bytes)
-    unfolding reading_of
-    of_three c h same =
-        let all : words_at bytes ≡ word ∷ a ∷ b ∷ [] = cc in
-        sym (ap reading_of all ∙ ap (option_map command) (sym same))
+  pub of_three : {w a b : List ℕ} (c : Option Cmd) → ws ≡ w ∷ a ∷ b ∷ [] → c ≡ three_words w a b
+      → option_map command c ≡ reading_of ws
+  unfolding reading_of
+  of_three c e same = sym (ap reading_of e ∙ ap (option_map command) (sym same))
 
-    module _ (d u : List ℕ) (h : words_at t ≡ d ∷ words_at u) where
-      pub of_four : (c : Option Cmd) → words_at u ≡ [] → c ≡ four_words word a b d
-          → option_map command c ≡ reading_of (words_at bytes)
-      unfolding reading_of
-      of_four c i same =
-          let all : words_at bytes ≡ word ∷ a ∷ b ∷ d ∷ [] = cc in
-          sym (ap reading_of all ∙ ap (option_map command) (sym same))
+  pub of_four : {w a b d : List ℕ} (c : Option Cmd) → ws ≡ w ∷ a ∷ b ∷ d ∷ [] → c ≡ four_words w a b d
+      → option_map command c ≡ reading_of ws
+  unfolding reading_of
+  of_four c e same = sym (ap reading_of e ∙ ap (option_map command) (sym same))
 
-      module _ (x v : List ℕ) (i : words_at u ≡ x ∷ words_at v) where
-        pub of_five : (c : Option Cmd) → words_at v ≡ [] → c ≡ five_words word a b d x
-            → option_map command c ≡ reading_of (words_at bytes)
-        unfolding reading_of
-        of_five c j same =
-            let all : words_at bytes ≡ word ∷ a ∷ b ∷ d ∷ x ∷ [] = cc in
-            sym (ap reading_of all ∙ ap (option_map command) (sym same))
+  pub of_five : {w a b d x : List ℕ} (c : Option Cmd) → ws ≡ w ∷ a ∷ b ∷ d ∷ x ∷ []
+      → c ≡ five_words w a b d x → option_map command c ≡ reading_of ws
+  unfolding reading_of
+  of_five c e same = sym (ap reading_of e ∙ ap (option_map command) (sym same))
 
-        pub of_more : (y w : List ℕ) → words_at v ≡ y ∷ words_at w → None ≡ reading_of (words_at bytes)
-        unfolding reading_of
-        of_more y w j =
-            let all : words_at bytes ≡ word ∷ a ∷ b ∷ d ∷ x ∷ y ∷ words_at w = cc in
-            sym (ap reading_of all)
+  pub of_more : {w a b d x y : List ℕ} {zs : List (List ℕ)} → ws ≡ w ∷ a ∷ b ∷ d ∷ x ∷ y ∷ zs
+      → None ≡ reading_of ws
+  unfolding reading_of
+  of_more e = sym (ap reading_of e)

@@ -101,6 +101,8 @@ fn two_words(word: &[u8], a: &[u8]) -> Option<Cmd>
         })
     } else if spells(word, "cremove") {
         Some(Cmd::CRemove { k: object(a)? })
+    } else if spells(word, "gcroot") {
+        Some(Cmd::GcRoot { s: object(a)? })
     } else {
         None
     }
