@@ -1,13 +1,12 @@
 -- What each command does with the pinned addresses.
-use Rattle.hd_world.proofs.StoreWords.{◌≡◌, ℕ, ◌<◌, ◌≤◌, cond, Bool, true, false, Option, Some, None, refl, sym, ap, ◌∙◌, subst, Result, Ok, Err, MatchResult, if◌then◌else◌, option_and_then, option_map_or, FinMap, get, insert, empty, nat_cmp, Id, Addr, Slot, Refusal, Entry, Report, Reply, Cmd, State, Handle, handle_register_of, handle_at, with_place, pins, Outcome, answers, refuses, answer_place, with_places, MayAnswer, touched_by, IsValid, StepOf, Step, IsOutcome, AnswersPlace, pinned_by, pinned_target, aged_by, is_collect, Machine, KeepsNames, HasNames, Moves, KeepsPlaces, kept_places, HasCollected, HasPlace, LeavesHeap, name_in, pinned_in, entry_of, done_of, MayRun, HasRun, IsPlainStep, RanOut, asks_of, no_room, IsOffer, MayOffer, GrowsFor, CollectedSteps, key_register, class_of, register_of, TakesSteps, true≢false, get_inserted, same_Some}
-use Rattle.hd_world.proofs.IdentityReadings.{no_some}
-use Rattle.hd_model.specs.declared.data.Grown.TheVariants.{Zero}
+use Rattle.hd_world.proofs.StoreWords.{Addr, AnswersPlace, Bool, Cmd, CollectedSteps, Done, Entry, Err, FinMap, GrowsFor, Handle, HasCollected, HasNames, HasPlace, HasRun, Id, IsOffer, IsOutcome, IsPlainStep, IsValid, KeepsNames, KeepsPlaces, LeavesHeap, Machine, MatchResult, MayAnswer, MayOffer, MayRun, Moves, None, Ok, Option, Outcome, RanOut, Refusal, Reply, Report, Result, Slot, Some, State, Step, StepOf, TakesSteps, Zero, aged_by, answer_place, answers, ap, asks_of, class_of, cond, done_of, empty, entry_of, false, get, get_inserted, handle_at, handle_register_of, if◌then◌else◌, insert, is_collect, kept_places, key_register, name_in, nat_cmp, no_room, nothing_at, option_and_then, option_map_or, pinned_by, pinned_in, pinned_target, pins, refl, refuses, register_of, same_Some, subst, sym, touched_by, true, true≢false, with_place, with_places, ℕ, ◌<◌, ◌∙◌, ◌≡◌, ◌≤◌}
+use Rattle.hd_model.specs.Aging.{is_refused}
+use Rattle.hd_model.specs.Command.{answer_root}
+use Rattle.hd_model.specs.Anchors.{TellsRoot}
 use Rattle.hd_model.specs.declared.data.Memory.{Memory}
-use Rattle.hd_model.proofs.OutcomePlaces.{step_placed}
-use Rattle.hd_model.proofs.Journals.{ages_placed}
+use Rattle.hd_model.proofs.{OutcomePlaces.step_placed, Journals.ages_placed}
 use Rattle.hd_world.specs.declared.done.CallerCommand.{CallerCommand}
-use Rattle.hd_world.specs.declared.done.Done.{Done}
-use Rattle.hd_model.proofs.AgedRuns.{nothing_at}
+use Rattle.hd_world.proofs.IdentityReadings.{no_some}
 use Rattle.hd_model.specs.declared.data.Refusal.TheVariants as refusal
 use Rattle.hd_model.specs.declared.data.Reply.TheVariants as reply
 use Rattle.hd_model.specs.declared.command.Cmd.TheVariants as cmd
@@ -114,8 +113,7 @@ module _ (s : State) where
   agree_by None = (refl, λ place. refl)
   agree_by (Some handle) = agree_at (pins handle) handle.target
 
-  agree : (caller h : ℕ)
-      → Agree (pinned_in s caller h) (pinned_target s caller h) (answer_place s caller h)
+  agree : (caller h : ℕ) → Agree (pinned_in s caller h) (pinned_target s caller h) (answer_place s caller h)
   agree caller h = by (handle_register_of s caller h)
     where
       by : (o : Option Slot)
@@ -268,28 +266,83 @@ module _ (m k : Machine) (e : Entry) (keeps : KeepsPlaces m e k) (h place : ℕ)
       (does.outcome.after ∙ ap (λ (o : Outcome). o.after) outcome_is)
       ∙ get_inserted empty x.0 does.place ∙ ap Some place_is)
 
--- and so was what takes no slot and gives none back
+-- a command that takes no slot and gives none back has an effect
+without-room : (m : Machine) (asked : CallerCommand) (offered : Option Slot) → MayRun m asked offered
+    → asks_of m.state asked.caller asked.cmd ≡ no_room → (done : Done) (e : Entry) → e ≡ entry_of asked done
+    → {E : Type 0} → E → HasRun m asked offered e E
+without-room m asked offered may nothing done e entry effect = record {
+  caller = ap (λ (x : Entry). x.caller) entry;
+  command = ap (λ (x : Entry). x.cmd) entry;
+  effect = effect;
+  offer = λ slot given. absurd (subst (λ a. MayOffer m.state a slot) nothing
+      (subst (IsOffer m.state asked.caller asked.cmd) given may.offer));
+  growth = subst (λ a. GrowsFor m.numbers m.state a offered e) (sym nothing) tt;
+}
+
+-- so was what takes no slot and gives none back
 pub others-run : (m k : Machine) (asked : CallerCommand) (offered : Option Slot) (c : Cmd) → asked.cmd ≡ c
     → asks_of m.state asked.caller c ≡ no_room → (r : Result Done Refusal) (before after : ℕ)
     → MayRun m asked offered
     → KeepsPlaces m (entry_of (record { caller = asked.caller; cmd = c }) (done_of r)) k
     → TakesSteps m.state m.ages (entry_of (record { caller = asked.caller; cmd = c }) (done_of r))
-    before after
-    → (e : Entry) → e ≡ entry_of asked (done_of r)
+    before after → (e : Entry) → e ≡ entry_of asked (done_of r)
     → HasRun m asked offered e (KeepsPlaces m e k) × TakesSteps m.state m.ages e before after
 others-run m k asked offered c is none r before after may keeps steps e entry =
-    let same = entry ∙ (λ i. entry_of (record { caller = asked.caller; cmd = is i }) (done_of r)) in
-    let nothing = ap (asks_of m.state asked.caller) is ∙ none in (
-      record {
-        caller = ap (λ (x : Entry). x.caller) entry;
-        command = ap (λ (x : Entry). x.cmd) entry;
-        effect = subst (λ x. KeepsPlaces m x k) (sym same) keeps;
-        offer = λ slot given. absurd (subst (λ a. MayOffer m.state a slot) nothing
-            (subst (IsOffer m.state asked.caller asked.cmd) given may.offer));
-        growth = subst (λ a. GrowsFor m.numbers m.state a offered e) (sym nothing) tt;
-      },
+    let same = entry ∙ (λ i. entry_of (record { caller = asked.caller; cmd = is i }) (done_of r)) in (
+      without-room m asked offered may (ap (asks_of m.state asked.caller) is ∙ none) (done_of r) e entry
+          (subst (λ x. KeepsPlaces m x k) (sym same) keeps),
       subst (λ x. TakesSteps m.state m.ages x before after) (sym same) steps,
     )
+
+-- `gcroot`, which changes nothing
+module _ (m : Machine) (caller r : ℕ) where
+  abbrev asking : Done → Entry
+  asking done = entry_of (record { caller = caller; cmd = cmd.GcRoot r }) done
+
+  ages_stay : (b : Bool) → m.ages ≡ cond b m.ages m.ages
+  ages_stay true = refl
+  ages_stay false = refl
+
+  root_step : (found : Reply) (done : Done)
+      → ((goal : Id) → register_of m.state caller r ≡ Some goal → TellsRoot m.state goal found)
+      → IsOutcome (asking done) (answer_root m.state caller r found) m.state
+      → IsPlainStep m (cmd.GcRoot r) m (asking done)
+  root_step found done tells outcome = record {
+    plain = refl;
+    step = record { found = found; tells = tells; outcome = outcome };
+    numbers = refl;
+    names = refl;
+    ages = ages_stay (is_refused done.reply);
+  }
+
+  root_outcome : (found : Reply) (w : Outcome) → answer_root m.state caller r found ≡ w → w.after ≡ m.state
+      → (done : Done) → done ≡ record { reply = w.reply; slot = w.slot; grown = Zero }
+      → IsOutcome (asking done) (answer_root m.state caller r found) m.state
+  root_outcome found w is same done of = record {
+    reply = ap (λ (d : Done). d.reply) of ∙ ap (λ (o : Outcome). o.reply) (sym is);
+    slot = ap (λ (d : Done). d.slot) of ∙ ap (λ (o : Outcome). o.slot) (sym is);
+    grown = ap (λ (d : Done). d.grown) of;
+    after = sym same ∙ ap (λ (o : Outcome). o.after) (sym is);
+  }
+
+  abbrev answer_by : Reply → Option Id → Outcome
+  answer_by found o = option_map_or (λ _. answers found m.state) o (refuses refusal.Null m.state)
+
+  pub root-told : (goal : Id) → register_of m.state caller r ≡ Some goal → (found : Reply)
+      → TellsRoot m.state goal found → (done : Done)
+      → done ≡ record { reply = found; slot = None; grown = Zero }
+      → IsPlainStep m (cmd.GcRoot r) m (asking done)
+  root-told goal is found tells done of =
+      root_step found done
+      (λ x same. subst (λ y. TellsRoot m.state y found) (same_Some goal x (sym is ∙ same)) tells)
+      (root_outcome found (answers found m.state) (ap (answer_by found) is) refl done of)
+
+  pub root-refused : register_of m.state caller r ≡ None → (refused : Refusal) → refused ≡ refusal.Null
+      → IsPlainStep m (cmd.GcRoot r) m (asking (done_of (Err refused)))
+  root-refused none refused is =
+      root_step reply.Unrooted (done_of (Err refused)) (λ x same. absurd (no_some x (sym same ∙ none)))
+      (root_outcome reply.Unrooted (refuses refusal.Null m.state) (ap (answer_by reply.Unrooted) none) refl
+      (done_of (Err refused)) (ap (λ (q : Refusal). done_of (Err q)) is))
 
 -- so was a search of the weak table
 pub looked-run : (m k : Machine) (asked : CallerCommand) (offered : Option Slot) (c : Cmd) → asked.cmd ≡ c
@@ -297,8 +350,7 @@ pub looked-run : (m k : Machine) (asked : CallerCommand) (offered : Option Slot)
     → MayRun m asked offered
     → IsPlainStep m c k (entry_of (record { caller = asked.caller; cmd = c }) (done_of r))
     → TakesSteps m.state m.ages (entry_of (record { caller = asked.caller; cmd = c }) (done_of r))
-    before after
-    → (e : Entry) → e ≡ entry_of asked (done_of r)
+    before after → (e : Entry) → e ≡ entry_of asked (done_of r)
     → HasRun m asked offered e (KeepsPlaces m e k) × TakesSteps m.state m.ages e before after
 looked-run m k asked offered c is none r before after may did steps e entry =
     others-run m k asked offered c is none r before after may
@@ -315,8 +367,7 @@ pub added-run : (m k : Machine) (asked : CallerCommand) (offered : Option Slot) 
     (entry_of (record { caller = asked.caller; cmd = c }) (done_of r))
     (IsPlainStep m c k (entry_of (record { caller = asked.caller; cmd = c }) (done_of r)))
     → TakesSteps m.state m.ages (entry_of (record { caller = asked.caller; cmd = c }) (done_of r))
-    before after
-    → (e : Entry) → e ≡ entry_of asked (done_of r)
+    before after → (e : Entry) → e ≡ entry_of asked (done_of r)
     → HasRun m asked offered e (KeepsPlaces m e k) × TakesSteps m.state m.ages e before after
 added-run m k asked offered c is r before after may did steps e entry =
     let same : record { caller = asked.caller; cmd = c } ≡ asked =

@@ -1,9 +1,7 @@
 -- A field of an object of a store is written through the barrier.
-use Rattle.hd_world.proofs.StoreWords.{unsigned_tied, eq-eqb, ◌≡◌, ℕ, ◌<◌, Bool, true, false, ◌||◌, List, map, length, get_or, set, Option, Some, refl, sym, ap, ◌∙◌, ◌⊎◌, subst, inl, inr, arith, option_map, IfSome, Contains, T, if◌then◌else◌, nat_cmp, eq_by_cmp, nat_cmp_total, cases_eq, lt-ltb, map-set, length-set, get_or-set_same, get_or-set_other, Id, Addr, Object, fields_in, generation_at, IsField, Placed, Heap, card_of, object_at, has_object, placed_at, id_at, read_object, named_in, Parts, IsStored, Machine, machine_of}
-use Rattle.hd_heap.specs.Calls.{stored as with_stored, with_field, is_younger}
-use Rattle.hd_world.proofs.IdentityReadings.{named-is}
-use Rattle.hd_world.proofs.NamedAddresses.{placed_is, object_is}
-use Rattle.hd_world.proofs.StoreWrite.{Writes}
+use Rattle.hd_world.proofs.StoreWords.{Addr, Bool, Contains, Heap, Id, IfSome, IsField, IsStored, List, Machine, Object, Option, Parts, Placed, Some, T, ap, arith, card_of, cases_eq, eq-eqb, eq_by_cmp, false, fields_in, generation_at, get_or, get_or-set_other, get_or-set_same, has_object, id_at, if◌then◌else◌, inl, inr, is_younger, length, length-set, lt-ltb, machine_of, map, map-set, named_in, nat_cmp, nat_cmp_total, object_at, option_map, placed_at, read_object, refl, set, subst, sym, true, unsigned_tied, with_field, ℕ, ◌<◌, ◌||◌, ◌∙◌, ◌≡◌, ◌⊎◌}
+use Rattle.hd_heap.specs.Calls.{stored as with_stored}
+use Rattle.hd_world.proofs.{IdentityReadings.named-is, NamedAddresses.placed_is, NamedAddresses.object_is, StoreWrite.Writes}
 use Rattle.std.specs.FinSet as set
 
 -- what is in a list with one item written
@@ -69,14 +67,12 @@ module _ (f : Parts) (stored : IsStored f) (at : Addr) (known : has_object f.hea
   }
 
   -- the machine's object with the field written
-  pub reads_field : (m : Machine) → machine_of f ≡ m
-      → read_object f.heap at.0 field_new
+  pub reads_field : (m : Machine) → machine_of f ≡ m → read_object f.heap at.0 field_new
       ≡ (λ (o : Object Id). record o { fields = set o.fields i (named_in m.names v) })
       (read_object f.heap at.0 (placed_at f.heap at))
   reads_field m view =
       (λ k. record (read_object f.heap at.0 (placed_at f.heap at)) {
-        fields = map-set
-            (option_map (id_at f.heap)) (placed_at f.heap at).fields i v k;
+        fields = map-set (option_map (id_at f.heap)) (placed_at f.heap at).fields i v k;
       })
       ∙ (λ k. record (read_object f.heap at.0 (placed_at f.heap at)) {
         fields = set (map (option_map (id_at f.heap)) (placed_at f.heap at).fields) i

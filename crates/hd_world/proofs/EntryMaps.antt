@@ -1,10 +1,7 @@
 -- Maps by number that are made from the entries of another: with the same keys, and with new ones.
-use Rattle.hd_world.proofs.StoreWords.{[], ◌≡◌, ℕ, T, List, ◌∷◌, map, Some, refl, sym, ap, ◌∙◌, subst, inl, inr, ⊎_elim, option_map, is_some, Contains, FinMap, get, find, entries, from_entries, get-entries, get-from_entries, same_map, nat_cmp-IsAntisymmetric, nat_cmp, nat_cmp_total, cases_eq, same_Some, Bool, None, cond, get-retain_keys, entries_sorted, from_sorted, entries-from_sorted, get-from_sorted}
-use Rattle.std.specs.FinMap.{retain_keys}
+use Rattle.hd_world.proofs.StoreWords.{Bool, Contains, FinMap, List, None, Some, T, [], ap, cases_eq, cond, entries, entries-from_sorted, entries_sorted, find, find-where_key, first_in, found_first, found_later, from_entries, from_sorted, get, get-entries, get-from_entries, get-from_sorted, get-retain_keys, get_entry, inl, inr, is_some, is_sorted-where_key, later_in, map, member_cases, nat_cmp, nat_cmp-IsAntisymmetric, nat_cmp_total, not_in_none, option_map, refl, retain_keys, same_Some, same_map, subst, sym, where_key, ℕ, ⊎_elim, ◌∙◌, ◌∷◌, ◌≡◌}
 use Rattle.std.specs.declared.cmp.Ordering.TheVariants.{Equal}
-use Rattle.std.specs.FinMap.Entries.{where_key, is_sorted-where_key, find-where_key}
-use Rattle.hd_model.proofs.Entries.{found_first, found_later, get_entry, entry_of}
-use Rattle.hd_model.proofs.Members.{not_in_none, first_in, later_in, member_cases}
+use Rattle.hd_model.proofs.MapEntries.{entry_of}
 
 -- two maps with the same items are equal
 pub same_numbers : {A : Type 0} (m n : FinMap nat_cmp A) → ((q : ℕ) → get m q ≡ get n q) → m ≡ n
@@ -33,8 +30,7 @@ find-mapped f k (e ∷ es) =
           ∙ ap (λ j. Some (f j e.1)) (sym same) ∙ ap (option_map (f k))
           (sym (found_first k e.0 e.1 (find nat_cmp k es) same))
       | inr apart ↦ found_later k e.0 (Some (f e.0 e.1))
-          (find nat_cmp k (map (λ w. (w.0, f w.0 w.1)) es)) apart
-          ∙ find-mapped f k es ∙ ap (option_map (f k))
+          (find nat_cmp k (map (λ w. (w.0, f w.0 w.1)) es)) apart ∙ find-mapped f k es ∙ ap (option_map (f k))
           (sym (found_later k e.0 (Some e.1) (find nat_cmp k es) apart))
     ]
 
@@ -105,8 +101,7 @@ there {X} key f (d ∷ es) e m =
           (member_cases d es e m)) in (
             rest.0,
             found_later (key e.1) (key d.1) (Some (f d.0 d.1))
-                (find nat_cmp (key e.1) (rekeyed key f es)) apart
-                ∙ rest.1,
+                (find nat_cmp (key e.1) (rekeyed key f es)) apart ∙ rest.1,
           )
     ]
 

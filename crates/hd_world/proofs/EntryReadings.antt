@@ -1,9 +1,7 @@
 -- How the weak table of a store reads by identity, and the handles beside it.
-use Rattle.hd_world.proofs.StoreWords.{◌≡◌, ℕ, Bool, true, false, cond, Option, Some, None, refl, sym, ap, ◌∙◌, subst, inl, inr, option_map, option_or, is_none, is_some, T, FinMap, get, insert, remove, get-remove, get-retain_keys, nat_cmp-IsAntisymmetric, eq_by_cmp, nat_cmp, nat_cmp_total, cases_eq, Id, Addr, Handle, secondary, secondary_of, rename_handle, weak_handle, row_of, Heap, id_at, rows_by_id, weak_by_id, unheld, entry_named, Parts, IsTied, state_of, get_beside, get_inserted}
-use Rattle.hd_model.specs.declared.data.Kind.TheVariants.{Dependent}
-use Rattle.hd_model.proofs.ReadAfterWrite.{get_left}
-use Rattle.hd_world.proofs.EntryMaps.{same_numbers, get-mapped}
-use Rattle.hd_world.proofs.IdentityReadings.{no_some, rows-get}
+use Rattle.hd_world.proofs.StoreWords.{Addr, Bool, Dependent, FinMap, Handle, Heap, Id, IsTied, None, Option, Parts, Some, ap, cases_eq, cond, entry_named, eq_by_cmp, false, get, get-remove, get-retain_keys, get_beside, get_inserted, get_left, id_at, inl, inr, insert, is_none, nat_cmp, nat_cmp-IsAntisymmetric, nat_cmp_total, option_map, option_or, refl, remove, rename_handle, row_of, rows_by_id, secondary, secondary_of, state_of, sym, true, unheld, weak_by_id, weak_handle, ℕ, ◌∙◌, ◌≡◌}
+use Rattle.hd_world.proofs.{EntryMaps.same_numbers, EntryMaps.get-mapped, IdentityReadings.no_some, IdentityReadings.rows-get}
+use Rattle.hd_model.proofs.SceneReadings.{option_agrees}
 
 kept_mapped : {A B : Type 0} (g : A → B) (b : Bool) (o : Option A)
     → option_map g (cond b o None) ≡ cond b (option_map g o) None
@@ -19,15 +17,6 @@ swapped true true o = refl
 swapped true false o = refl
 swapped false true o = refl
 swapped false false o = refl
-
-pub none_is : {A : Type 0} (o : Option A) → is_some o ≡ false → o ≡ None
-none_is None e = refl
-none_is (Some x) e = absurd (subst T e tt)
-
-pub same_named : (g h : Addr → Id) (o : Option Addr) → ((x : Addr) → o ≡ Some x → g x ≡ h x)
-    → option_map g o ≡ option_map h o
-same_named g h None each = refl
-same_named g h (Some x) each = ap Some (each x refl)
 
 module _ (rows : FinMap nat_cmp (Handle Addr)) (held : FinMap nat_cmp (Option Id)) where
   -- a slot that the weak table holds has no handle
@@ -174,8 +163,7 @@ module _ (f : Parts)
       ∙ by (get f.weak.held slot) refl
     where
       by : (o : Option (Option Id)) → get f.weak.held slot ≡ o
-          → by_key slot (get f.weak.held slot) ≡ named_row
-          slot
+          → by_key slot (get f.weak.held slot) ≡ named_row slot
       by None is = ap (by_key slot) is ∙ or_none (named_row slot)
       by (Some key) is = ap (by_key slot) is ∙ tied_row slot key (tied slot key is)
 
@@ -187,5 +175,5 @@ tied-agrees f g slot key t row name = record {
   target = t.target;
   value = t.value;
   row = row ∙ t.row;
-  key_is = same_named (id_at g.heap) (id_at f.heap) t.target name ∙ t.key_is;
+  key_is = option_agrees (id_at g.heap) (id_at f.heap) t.target name ∙ t.key_is;
 }

@@ -1,16 +1,8 @@
 -- What a search of the weak table of a store finds is what the machine finds in its state.
-use Rattle.hd_world.proofs.StoreWords.{◌≡◌, ℕ, suc, ◌+◌, ◌≤◌, Bool, true, false, cond, List, [], ◌∷◌, map, length, filter, Option, Some, None, refl, sym, ap, ◌∙◌, subst, arith, option_map, IfSome, get, entries, nat_cmp, FinMap, Id, Addr, Slot, Handle, WeakEntry, Heap, id_at, weak_by_id, entry_named, Parts, Machine, machine_of, entries_beside, SearchSteps, same_Some, true≢false, IsStored, IsTied, IsSome, is_some, option_and_then, secondary_of, named_in, IsNamed}
-use Rattle.std.specs.Prelude.{IsNone, ◌↔◌}
-use Rattle.hd_model.specs.Command.{is_idle, slot_of_key, idle_slot, entry_value, value_at}
-use Rattle.hd_model.proofs.WeakSlots.{where_least, where_none, key_found, key_none, idle_found}
-use Rattle.hd_cwt.specs.WeakTable.{HasKey, IsIdle, IsLeastIdle, IsWeakTable, is_in_bucket, bucket_of, entries_in}
-use Rattle.hd_seg.specs.declared.row.Row.{Row}
-use Rattle.hd_seg.specs.declared.row.Extra.TheVariants.{Secondary}
-use Rattle.hd_seg.specs.Row.{row_of, extra_of}
+use Rattle.hd_world.proofs.StoreWords.{Addr, Bool, FinMap, Handle, HasKey, Heap, Id, IfSome, IsIdle, IsLeastIdle, IsNamed, IsNone, IsSome, IsStored, IsTied, IsWeakTable, List, Machine, None, Option, Parts, Row, SearchSteps, Slot, Some, WeakEntry, [], ap, arith, bucket_of, cond, entries, entries_beside, entries_in, entry_named, entry_value, extra_of, false, filter, get, id_at, idle_found, idle_slot, is_idle, is_in_bucket, is_some, key_found, key_none, length, machine_of, map, named_in, nat_cmp, option_and_then, option_map, refl, same_Some, secondary_of, slot_of_key, subst, suc, sym, true, true≢false, value_at, weak_by_id, where_least, where_none, ℕ, ◌+◌, ◌↔◌, ◌∙◌, ◌∷◌, ◌≡◌, ◌≤◌}
+use Rattle.hd_seg.specs.{declared.row.Extra.TheVariants.Secondary, Row.row_of}
 use Rattle.hd_world.proofs.IdentityReadings.{no_some, is_some-map, named-is}
-use Rattle.hd_world.proofs.NamedAddresses.{objects_named}
-use Rattle.hd_world.proofs.EntryReadings.{weak-get}
-use Rattle.hd_world.proofs.RootIdentities.{entries-mapped}
+use Rattle.hd_world.proofs.{NamedAddresses.objects_named, EntryReadings.weak-get, RootIdentities.entries-mapped}
 
 same_slot : (a b : Slot) → a.0 ≡ b.0 → a ≡ b
 same_slot a b e = λ i. record { 0 = e i }
@@ -43,8 +35,7 @@ module _ (f : Parts) (m : Machine) (view : machine_of f ≡ m) where
       by : (o : Option (Option Id)) → get f.weak.held slot ≡ o → IsIdle f.weak slot
       by None e = absurd (no_some None (sym is ∙ read_of slot None e))
       by (Some None) e = e
-      by (Some (Some k)) e = absurd
-          (no_some _ (same_Some _ None (sym (read_of slot (Some (Some k)) e) ∙ is)))
+      by (Some (Some k)) e = absurd (no_some _ (same_Some _ None (sym (read_of slot (Some (Some k)) e) ∙ is)))
 
   -- the slot with a key
   pub found-is : IsWeakTable f.weak → (key : Id) (r : Option Slot)
@@ -73,8 +64,7 @@ module _ (f : Parts) (m : Machine) (view : machine_of f ≡ m) where
   idle-is (Some slot) has none = by (idle_slot m.state) refl
     where
       by : (o : Option Slot) → idle_slot m.state ≡ o → Some slot ≡ idle_slot m.state
-      by None e = absurd
-          (where_none is_idle m.state e slot.0 None (read_of slot.0 (Some None) has.idle) refl)
+      by None e = absurd (where_none is_idle m.state e slot.0 None (read_of slot.0 (Some None) has.idle) refl)
       by (Some other) e =
           let low = where_least is_idle m.state other e slot.0 None (read_of slot.0 (Some None) has.idle)
           refl in
@@ -113,8 +103,7 @@ module _ (f : Parts) (m : Machine) (view : machine_of f ≡ m) (stored : IsStore
           ∙ sym (ap (option_and_then entry_value) (read_of f m view slot.0 (Some None) e))
       by (Some (Some k)) e =
           ap (λ o. option_map (id_at f.heap) (option_and_then (λ (r : Handle Addr). secondary_of r.extra) o))
-          (sym is)
-          ∙ sym (ap (option_and_then entry_value) (read_of f m view slot.0 (Some (Some k)) e))
+          (sym is) ∙ sym (ap (option_and_then entry_value) (read_of f m view slot.0 (Some (Some k)) e))
 
   -- the row of a slot of the weak table
   tied-of : (slot : ℕ) → IsSome (get m.state.weak slot)

@@ -1,10 +1,5 @@
 -- Lengths and sums of maps that are made from the entries of another.
-use Rattle.hd_world.proofs.StoreWords.{[], ◌≡◌, ℕ, ◌+◌, ◌<◌, T, cond, List, ◌∷◌, map, length, Option, Some, None, refl, sym, ap, ◌∙◌, arith, is_some, sum_by, option_map, Contains, FinMap, get, find, is_sorted, entries, values, len, from_entries, entries_sorted, get-from_entries, len-insert, len-empty, len-entries, nat_cmp, nat_cmp_total, length-map}
-use Rattle.std.specs.FinMap.Entries.{below_all}
-use Rattle.std.proofs.lemmas.List.Sums.{sum_by-cons}
-use Rattle.hd_model.proofs.Entries.{both, below, get_entry}
-use Rattle.hd_model.proofs.Members.{first_in, later_in}
-use Rattle.hd_model.proofs.Sums.{share, sum-insert, first_alone}
+use Rattle.hd_world.proofs.StoreWords.{Contains, FinMap, List, None, Option, Some, T, [], ap, arith, below, below_all, both, cond, entries, entries_sorted, find, first_alone, first_in, from_entries, get, get-from_entries, get_entry, is_some, is_sorted, later_in, len, len-empty, len-entries, len-insert, length, length-map, map, nat_cmp, nat_cmp_total, option_map, refl, share, sum-insert, sum_by, sum_by-cons, sym, values, ℕ, ◌+◌, ◌<◌, ◌∙◌, ◌∷◌, ◌≡◌}
 use Rattle.hd_world.proofs.EntryMaps.{find-mapped, source, AreApart, rekeyed}
 
 -- no key occurs twice

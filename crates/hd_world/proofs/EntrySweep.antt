@@ -1,9 +1,5 @@
 -- What a collection and the sweep after it leave of an entry of the weak table.
-use Rattle.hd_world.proofs.StoreWords.{◌≡◌, ℕ, Bool, true, false, not, cond, Option, Some, None, refl, sym, ap, ◌∙◌, option_map, is_none, Id, Addr, Handle, Extra, nothing, strength, secondary, count, secondary_of, rename_extra, rename_handle, WeakEntry, Table, live_at, get, entry_named, true≢false}
-use Rattle.std.specs.Prelude.{unwrap_or}
-use Rattle.hd_model.specs.declared.data.Kind.TheVariants.{Dependent, Short}
-use Rattle.hd_model.specs.Table.{is_secondary}
-use Rattle.hd_model.specs.Collect.{cleared, is_lost, swept}
+use Rattle.hd_world.proofs.StoreWords.{Addr, Bool, Dependent, Extra, Handle, Id, None, Option, Short, Some, Table, WeakEntry, ap, cleared, cond, count, entry_named, false, get, is_lost, is_none, is_secondary, live_at, not, nothing, option_map, refl, rename_extra, rename_handle, secondary, secondary_of, strength, swept, sym, true, true≢false, unwrap_or, ℕ, ◌∙◌, ◌≡◌}
 use Rattle.hd_world.proofs.IdentityReadings.{no_some}
 
 -- the row of an entry
@@ -65,8 +61,7 @@ module _ (name : Addr → Id) (reach kept : Id → Bool) where
 
   -- so the entry is as it was where its key is kept, and else the slot is idle
   pub swept-entry : (row : Handle Addr) (key value : Option Id) → IsLeft row key value
-      → entry_named name (Some row) (cond (is_none row.target) None key)
-      ≡ swept kept (valued value key)
+      → entry_named name (Some row) (cond (is_none row.target) None key) ≡ swept kept (valued value key)
   swept-entry row key value left =
       ap (entry_named name (Some row)) (ap (λ (h : Handle Addr). cond (is_none h.target) None key) left.row_is
       ∙ swept-key left.target key left.key_is ∙ left.key_is)

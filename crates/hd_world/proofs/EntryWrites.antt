@@ -1,14 +1,9 @@
 -- An entry of the weak table that is put, or taken: what the machine sees, and that the store keeps what it
 -- keeps.
-use Rattle.hd_world.proofs.StoreWords.{◌≡◌, ℕ, true, FinMap, nat_cmp, cond, Option, Some, None, refl, sym, ap, ◌∙◌, subst, inl, inr, arith, option_map, is_none, IsSome, get, insert, cases_eq, is_some, T, Id, Addr, Slot, Handle, WeakEntry, Table, live_at, fits, secondary, name_in, with_weak, with_row, is_object, object_at, id_at, age_of, rows_by_id, weak_by_id, unheld, entry_named, WeakTable, Parts, IsStored, state_of, Machine, machine_of, get_beside, get_inserted, same_Some}
-use Rattle.hd_world.proofs.EntryMaps.{same_numbers}
-use Rattle.hd_world.proofs.IdentityReadings.{no_some, names-are}
+use Rattle.hd_world.proofs.StoreWords.{Addr, Dependent, FinMap, Handle, Id, IsSome, IsStored, Machine, MayHaveEntry, None, Option, Parts, Slot, Some, T, Table, WeakEntry, WeakTable, age_of, ap, arith, cases_eq, cond, entry_at, entry_named, get, get_beside, get_inserted, id_at, inl, inr, insert, is_none, is_object, is_some, live_at, machine_of, name_in, nat_cmp, object_at, option_map, refl, rows_by_id, same_Some, state_of, subst, sym, true, unheld, weak_by_id, with_row, with_weak, ℕ, ◌∙◌, ◌≡◌}
+use Rattle.hd_world.proofs.{EntryMaps.same_numbers, IdentityReadings.no_some, IdentityReadings.names-are, EntrySweep.attaching, EntrySweep.row-known, EntrySearch.held-some}
 use Rattle.hd_world.proofs.EntryReadings.{none_kept, unheld-get, weak-get, tied-agrees}
-use Rattle.hd_world.proofs.EntrySweep.{attaching, row-known}
-use Rattle.hd_world.proofs.EntrySearch.{held-some}
-use Rattle.hd_world.proofs.StoreRows.{IsStorable, AreTied, storable-put, stored-entries, object, held-live, live-put, put_again}
-use Rattle.hd_world.specs.Entries.{MayHaveEntry, entry_at}
-use Rattle.hd_model.specs.declared.data.Kind.TheVariants.{Dependent}
+use Rattle.hd_world.proofs.StoreRows.{IsStorable, AreTied, storable-put, stored-entries, object, held-live}
 
 -- an entry row may be stored in a slot whose clump has age 0
 pub may-attach : (f : Parts) (slot : ℕ) (target value : Option Addr) → age_of f.ages slot ≡ 0
@@ -111,10 +106,7 @@ module _ (f : Parts) (m : Machine) (view : machine_of f ≡ m) (stored : IsStore
       ≡ record m { state = with_weak m.state slot (entry_named (id_at f.heap) (Some row) key) }
   machine-attached =
       (λ i. record (machine_of f) {
-        state = record (state_of f) {
-          handles = rows_by_id f.heap (handles_kept i);
-          weak = weak_attached i;
-        };
+        state = record (state_of f) { handles = rows_by_id f.heap (handles_kept i); weak = weak_attached i };
       })
       ∙ ap (λ (n : Machine).
       record n { state = with_weak n.state slot (entry_named (id_at f.heap) (Some row) key) })

@@ -1,5 +1,5 @@
 -- What is known of the live handle that a command found.
-use Rattle.hd_world.proofs.StoreWords.{◌≡◌, ℕ, Option, Some, None, refl, sym, ap, ◌∙◌, subst, Result, Ok, Err, option_map_or, Id, Slot, Refusal, State, Handle, handle_register_of, handle_at, live_in}
+use Rattle.hd_world.proofs.StoreWords.{Err, Handle, Id, None, Ok, Option, Refusal, Result, Slot, Some, State, ap, handle_at, handle_register_of, live_in, option_map_or, refl, subst, sym, ℕ, ◌∙◌, ◌≡◌}
 use Rattle.hd_model.specs.declared.data.Refusal.TheVariants as refusal
 
 abbrev ok_or : {A : Type 0} → A → Result A Refusal → A

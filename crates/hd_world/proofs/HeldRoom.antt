@@ -1,17 +1,7 @@
 -- The weak table has room for each free slot in a block of dependent handles.
-use Rattle.hd_world.proofs.StoreWords.{[], ◌≡◌, ℕ, Bool, true, false, T, ◌+◌, ◌*◌, ◌/◌, ◌<◌, ◌≤◌, List, ◌∷◌, ◌++◌, map, length, sum_by, Option, Some, None, refl, sym, ap, ◌∙◌, subst, inl, inr, ⊎_elim, cond, arith, length-append, IsSome, is_some, Contains, FinMap, get, insert, len, entries, len-entries, len-insert, nat_cmp, nat_cmp_total, cases_eq, Id, BlockUse, handles_of, extra_data, IsTable, get_beside, Parts, IsStored, one_dependent, one_extra, IfSome, State, Slot, Machine, machine_of, block_of}
-use Rattle.std.specs.Prelude.{◌%◌}
-use Rattle.std.specs.List.{range_with_len}
-use Rattle.std.proofs.lemmas.List.Elements.{Contains-get_or, Contains-append_left, Contains-append_right}
+use Rattle.hd_world.proofs.StoreWords.{BlockUse, Bool, Contains, Contains-append_left, Contains-append_right, Contains-get_or, Dependent, FinMap, Id, IfSome, IsSome, IsStored, IsTable, List, Machine, None, Option, Parts, Slot, Some, State, T, [], ap, arith, block_of, cases_eq, cond, counts_keys, entries, extra_data, false, fewer, get, get_beside, handles_of, idle_found, idle_slot, inl, inr, insert, is_kind, is_some, key_found, len, len-entries, len-insert, length, length-append, machine_of, map, member_cases, nat_cmp, nat_cmp_total, not_in_none, one_dependent, one_extra, range_with_len, refl, slot_of_key, subst, sum_by, sum_by-cons, sym, true, ℕ, ⊎_elim, ◌%◌, ◌*◌, ◌++◌, ◌+◌, ◌/◌, ◌<◌, ◌∙◌, ◌∷◌, ◌≡◌, ◌≤◌}
 use Rattle.std.proofs.lemmas.List.FromFn.{length-range_with_len, get_or-range_with_len}
-use Rattle.std.proofs.lemmas.List.Sums.{sum_by-cons}
-use Rattle.hd_model.specs.declared.data.Kind.TheVariants.{Dependent}
-use Rattle.hd_model.specs.Kinds.{is_kind}
-use Rattle.hd_model.proofs.Entries.{counts_keys, entry_of}
-use Rattle.hd_model.proofs.Members.{not_in_none, member_cases}
-use Rattle.hd_model.proofs.PropertyCounts.{fewer}
-use Rattle.hd_model.specs.Command.{slot_of_key, idle_slot}
-use Rattle.hd_model.proofs.WeakSlots.{key_found, idle_found}
+use Rattle.hd_model.proofs.MapEntries.{entry_of}
 use Rattle.hd_world.proofs.EntrySearch.{at-idle}
 
 -- the slots of the blocks of dependent handles, 64 for each
@@ -22,13 +12,10 @@ slots_of (e ∷ es) = range_with_len (64 * e.0) (64 * one_dependent e.1) ++ slot
 length_slots : (es : List (ℕ × BlockUse))
     → length (slots_of es) ≡ 64 * sum_by one_dependent (map (λ e. e.1) es)
 length_slots [] = refl
-length_slots (e ∷ es) = omega (
-  arith,
-  length-append (range_with_len (64 * e.0) (64 * one_dependent e.1)) (slots_of es),
-  length-range_with_len (64 * e.0) (64 * one_dependent e.1),
-  length_slots es,
-  sum_by-cons one_dependent e.1 (map (λ w. w.1) es),
-)
+length_slots (e ∷ es) =
+    let known = length-append (range_with_len (64 * e.0) (64 * one_dependent e.1)) (slots_of es) in
+    let also = length-range_with_len (64 * e.0) (64 * one_dependent e.1) in
+    omega (arith, known, also, length_slots es, sum_by-cons one_dependent e.1 (map (λ w. w.1) es))
 
 in_block : (b slot : ℕ) → slot / 64 ≡ b → Contains (range_with_len (64 * b) 64) slot
 in_block b slot is =
@@ -62,13 +49,9 @@ one_use extra_data = omega arith
 at_most_all : (es : List (ℕ × BlockUse)) → sum_by one_dependent (map (λ e. e.1) es)
     + sum_by one_extra (map (λ e. e.1) es) ≤ length es
 at_most_all [] = omega arith
-at_most_all (e ∷ es) = omega (
-  arith,
-  at_most_all es,
-  one_use e.1,
-  sum_by-cons one_dependent e.1 (map (λ w. w.1) es),
-  sum_by-cons one_extra e.1 (map (λ w. w.1) es),
-)
+at_most_all (e ∷ es) =
+    let known = sum_by-cons one_dependent e.1 (map (λ w. w.1) es) in
+    omega (arith, at_most_all es, one_use e.1, known, sum_by-cons one_extra e.1 (map (λ w. w.1) es))
 
 module _ (f : Parts) (stored : IsStored f) (table : IsTable f.table) where
   abbrev IsDependent : ℕ → Type 0
@@ -90,16 +73,9 @@ module _ (f : Parts) (stored : IsStored f) (table : IsTable f.table) where
       let most = fewer keys.members (slots_of (entries f.table.uses)) keys.apart
       (λ k h. in_slots (entries f.table.uses) k (entry_of f.table.uses (k / 64) (handles_of Dependent)
       (each k (keys.each k h)))) in
-      omega (
-        arith,
-        keys.number,
-        most,
-        length_slots (entries f.table.uses),
-        at_most_all (entries f.table.uses),
-        len-entries f.table.uses,
-        table.given,
-        stored.uses.extras,
-      )
+      let known = length_slots (entries f.table.uses) in
+      let also = at_most_all (entries f.table.uses) in
+      omega (arith, keys.number, most, known, also, len-entries f.table.uses, table.given, stored.uses.extras)
 
   pub room-held : (slot : ℕ) → get f.weak.held slot ≡ None → IsDependent slot
       → len f.weak.held < 64 * (f.weak.blocks / 2)

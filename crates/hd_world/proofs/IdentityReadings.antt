@@ -1,5 +1,5 @@
 -- How a heap, its rows and its roots read by identity, and how that changes with the heap.
-use Rattle.hd_world.proofs.StoreWords.{◌≡◌, ℕ, Option, Some, None, refl, sym, ap, ◌∙◌, subst, inl, inr, option_map, unwrap_or, is_some, T, FinMap, get, insert, nat_cmp, cases_eq, Id, Addr, Object, Handle, rename_object, rename_handle, Placed, Heap, region_of, object_in, id_in, id_at, HasIdentities, names_of, read_object, objects_by_id, rows_by_id, weak_by_id, entry_named, from_entries, entries, map, name_in, named_in, get_beside, get_inserted, same_Some}
+use Rattle.hd_world.proofs.StoreWords.{Addr, FinMap, Handle, HasIdentities, Heap, Id, None, Object, Option, Placed, Some, T, ap, cases_eq, entries, entry_named, from_entries, get, get_beside, get_inserted, id_at, id_in, inl, inr, insert, is_some, map, name_in, named_in, names_of, nat_cmp, object_in, objects_by_id, option_map, read_object, refl, region_of, rename_handle, rename_object, rows_by_id, same_Some, subst, sym, unwrap_or, weak_by_id, ℕ, ◌∙◌, ◌≡◌}
 use Rattle.hd_world.proofs.EntryMaps.{same_numbers, get-mapped, Under, AreApart, under, get-rekeyed}
 
 pub no_some : {A : Type 0} (x : A) → Some x ≡ None → ⊥

@@ -1,13 +1,8 @@
 -- What a world's journal states before a command, and that it is a run after it. Only the state of the
 -- machine has pinned addresses.
-use Rattle.hd_world.proofs.StoreWords.{◌≡◌, ℕ, ◌<◌, ◌+◌, ◌*◌, ◌^◌, List, ◌++◌, ◌∷◌, [], length, replicate, Option, None, Some, sym, ap, subst, arith, FinMap, get, empty, nat_cmp, Entry, Slot, Cmd, Numbers, State, start_of, last_serial, identity_of, with_places, Step, Run, stay, AgedRun, aged_by, IsWellFormed, HasHandles, HasWeakTable, Machine, KeepsPlaces, Moves, TakesSteps, HasLimits, Asks, object_room, handle_slot, block_back, no_room, asks_of, MayOffer, IsOffer, GrowsFor, GrowsUnoffered}
-use Rattle.hd_model.proofs.AgedRuns.{nothing_at}
-use Rattle.hd_model.proofs.StepChains.{aged_run_is_run, push}
-use Rattle.hd_model.proofs.RunCounts.{fresh}
-use Rattle.hd_model.proofs.Serials.{last_serial-le, count-le}
-use Rattle.hd_model.proofs.WellFormedSteps.{run_is_well_formed}
-use Rattle.hd_world.specs.Counts.{HasSmallCounts}
-use Rattle.hd_world.specs.Placed.{IsTrueRun, Placed, same_places}
+use Rattle.hd_world.proofs.StoreWords.{AgedRun, Asks, Cmd, Entry, FinMap, GrowsFor, GrowsUnoffered, HasHandles, HasLimits, HasWeakTable, IsOffer, IsTrueRun, IsWellFormed, KeepsPlaces, List, Machine, MayOffer, Moves, None, Numbers, Option, Run, Slot, Some, State, Step, TakesSteps, [], aged_by, ap, arith, asks_of, block_back, empty, get, handle_slot, identity_of, last_serial, length, nat_cmp, no_room, nothing_at, object_room, replicate, same_places, start_of, stay, subst, sym, with_places, ℕ, ◌*◌, ◌++◌, ◌+◌, ◌<◌, ◌^◌, ◌∷◌, ◌≡◌}
+use Rattle.hd_model.proofs.{StepChains.aged_run_is_run, StepChains.push, RunCounts.fresh, Serials.last_serial-le, Serials.count-le, WellFormedSteps.run_is_well_formed}
+use Rattle.hd_world.specs.{Counts.HasSmallCounts, Placed.Placed}
 
 -- what steps an entry takes does not depend on pinned addresses
 pub steps_placed : (s : State) (p : FinMap nat_cmp ℕ) (ages : List ℕ) (e : Entry) (before after : ℕ)
@@ -82,12 +77,9 @@ module _ (m : Machine) (journal : List Entry) (p : FinMap nat_cmp ℕ) (is : IsT
 
     pub counts_of : HasSmallCounts m.state
     counts_of = λ slot handle is_stored.
-        omega (
-          arith,
-          count-le m.numbers journal (with_places m.state p)
-              (record { 0 = slot }) handle run_of is_stored,
-          room,
-        )
+        let known =
+        count-le m.numbers journal (with_places m.state p) (record { 0 = slot }) handle run_of is_stored in
+        omega (arith, known, room)
 
   -- where a command keeps pinned addresses and the journal gets its entry
   module _ (next : Machine) (e : Entry) (entries : List Entry) (keeps : KeepsPlaces m e next)

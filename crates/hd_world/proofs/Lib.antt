@@ -23,8 +23,9 @@ mod JournalApply
 mod StoreOpen
 mod QueueTake
 mod SceneReading
-mod DueClumps
+mod ChainVisits
 mod StoreCollect
+mod AnchorLists
 mod PinnedAddress
 mod AddressSteps
 mod StateHeap

@@ -1,15 +1,9 @@
 -- The row of a new handle may be stored once the age of its clump is lowered for it.
-use Rattle.hd_world.proofs.StoreWords.{◌≡◌, ℕ, ◌≤◌, true≢false, false, List, [], Option, Some, None, refl, sym, ap, ◌∙◌, subst, arith, option_map, option_and_then, option_map_or, IfSome, IsSome, unwrap_or, FinMap, get, nat_cmp, Id, Addr, Slot, Kind, Make, Grown, Object, Handle, State, secondary_of, object_by_id, scene_of, generation_in, generation_at, age_of, lowered_to, lowered_by_new, lowered_at, kind_of, secondary_register, with_growth, name_in, named_in, Machine, MayBeStored}
-use Rattle.hd_world.proofs.IdentityReadings.{no_some}
-use Rattle.hd_model.proofs.Ages.{lowered_here}
-use Rattle.hd_model.proofs.KindTests.{made_secondary}
+use Rattle.hd_world.proofs.StoreWords.{Addr, FinMap, Grown, Handle, Id, IfSome, IsMadeRow, IsSome, Kind, List, Machine, Make, MayBeStored, None, Object, Option, Row, Slot, Some, State, [], age_of, ap, arith, extra_of, false, generation_at, generation_in, get, kind_of, lowered_at, lowered_by_new, lowered_here, lowered_to, made_secondary, name_in, named_in, nat_cmp, object_by_id, option_and_then, option_map, option_map_or, refl, scene_of, secondary_of, secondary_register, subst, sym, true≢false, unwrap_or, with_growth, ℕ, ◌∙◌, ◌≡◌, ◌≤◌}
 use Rattle.hd_model.proofs.RenamedReach.{secondary_renamed}
-use Rattle.hd_seg.specs.declared.row.Row.{Row}
-use Rattle.hd_seg.specs.Row.{extra_of}
-use Rattle.hd_world.specs.Making.{IsMadeRow}
+use Rattle.hd_world.proofs.IdentityReadings.{no_some}
 
-generation_read : (o : Option (Object Id))
-    → generation_in o
+generation_read : (o : Option (Object Id)) → generation_in o
     ≡ (unwrap_or o (record { fields = []; value = 0; generation = 0; registered = false })).generation
 generation_read None = refl
 generation_read (Some o) = refl
@@ -19,8 +13,7 @@ lowered_target : (s : State) (ages : List ℕ) (slot : Slot) (x : Id)
     → age_of (lowered_to s ages (Some slot) (Some x)) slot.0 ≤ (object_by_id s x).generation
 lowered_target s ages slot x =
     subst (λ g. age_of (lowered_to s ages (Some slot) (Some x)) slot.0 ≤ g)
-    (generation_read (get s.objects x.0))
-    (lowered_here ages slot.0 (generation_at (scene_of s).object x))
+    (generation_read (get s.objects x.0)) (lowered_here ages slot.0 (generation_at (scene_of s).object x))
 
 -- and 0 for a dependent handle
 module _ (s : State) (ages : List ℕ) (slot : Slot) (m : Make) where
@@ -63,8 +56,7 @@ there_before (Some x) f y is = refl
 pub made_may : (m0 m1 m2 : Machine) (k : Kind) (g : Grown) (slot : Slot) (caller t : ℕ) (given : Make)
     (row : Row) → m1 ≡ record m0 { state = with_growth m0.state k g }
     → m2 ≡ record m1 {
-      ages = lowered_by_new m1.state m1.ages (Some slot) given
-          (named_in m1.names row.target);
+      ages = lowered_by_new m1.state m1.ages (Some slot) given (named_in m1.names row.target);
     } → IsMadeRow m0 caller given t row → MayBeStored m2 slot (kind_of given) row
 made_may m0 m1 m2 k g slot caller t given row grows lowers made =
     let s = with_growth m0.state k g in

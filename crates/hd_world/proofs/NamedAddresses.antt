@@ -1,7 +1,5 @@
 -- What the calls of a heap return, in the words of the store.
-use Rattle.hd_world.proofs.StoreWords.{◌≡◌, ℕ, zero, suc, ◌<◌, true, false, List, [], ◌∷◌, map, length, get_or, Option, Some, None, refl, sym, ap, ◌∙◌, subst, option_map, unwrap_or, is_some, IsSome, IfSome, Contains, T, length-map, get, Id, Addr, Object, object_by_id, field_of, fields_in, generation_in, fields_at, generation_at, Placed, Heap, region_generation, region_of, object_in, object_at, has_object, placed_at, id_in, id_at, names_of, read_object, name_in, named_in, IsNamed, Parts, parts, state_of, IsStored, Machine, machine_of, object_named}
-use Rattle.std.proofs.lemmas.List.Elements.{Contains-get_or}
-use Rattle.hd_world.specs.declared.store.Store.TheInside.{Inside}
+use Rattle.hd_world.proofs.StoreWords.{Addr, Contains, Contains-get_or, Heap, Id, IfSome, Inside, IsNamed, IsSome, IsStored, List, Machine, None, Object, Option, Parts, Placed, Some, T, [], ap, false, field_of, fields_at, fields_in, generation_at, generation_in, get, get_or, has_object, id_at, id_in, is_some, length, length-map, machine_of, map, name_in, named_in, names_of, object_at, object_by_id, object_in, object_named, option_map, parts, placed_at, read_object, refl, region_generation, region_of, state_of, subst, suc, sym, true, unwrap_or, zero, ℕ, ◌<◌, ◌∙◌, ◌∷◌, ◌≡◌}
 use Rattle.hd_world.proofs.IdentityReadings.{is_some-map, names-get, name-is, named-is, objects-get}
 
 -- an address that has an identity has an object, and the other way round

@@ -1,9 +1,6 @@
 -- A new handle's slot in a block that has just come into use.
-use Rattle.hd_world.proofs.StoreWords.{◌≡◌, ℕ, ◌+◌, ◌*◌, ◌/◌, ◌≤◌, true, false, Option, Some, None, refl, sym, ap, ◌∙◌, subst, arith, get, insert, Id, Slot, Kind, Grown, Handle, handles_of, extra_data, given_of, block_of, first_slot, handle_at, use_of, IsFree, is_paired, blocks_needed, IsLeastUnused, HasHandles, HasWeakTable, WeakEntry, is_some, with_growth, Machine, get_beside, get_inserted}
+use Rattle.hd_world.proofs.StoreWords.{Back, Dependent, Grown, Handle, HasHandles, HasWeakTable, Id, IsFree, IsLeastUnused, IsPlace, Kind, Machine, None, One, Option, Slot, Some, Two, WeakEntry, Zero, ap, arith, block_of, blocks_needed, extra_data, false, first_slot, get, get_beside, get_inserted, given_of, handle_at, handles_of, insert, is_paired, is_some, refl, subst, sym, true, use_of, with_growth, ℕ, ◌*◌, ◌+◌, ◌/◌, ◌∙◌, ◌≡◌, ◌≤◌}
 use Rattle.hd_world.proofs.IdentityReadings.{no_some}
-use Rattle.hd_model.specs.declared.data.Grown.TheVariants.{Zero, One, Two, Back}
-use Rattle.hd_model.specs.declared.data.Kind.TheVariants.{Dependent}
-use Rattle.hd_world.specs.Making.{IsPlace}
 
 abbrev is_growth : Grown → Type 0
 is_growth Zero = ⊥

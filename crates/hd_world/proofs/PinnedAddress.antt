@@ -1,10 +1,8 @@
 -- The address of an object may be returned as its pinned address.
-use Rattle.hd_world.proofs.StoreWords.{is_some, ◌≡◌, ℕ, ◌<◌, ◌^◌, true, Option, Some, None, refl, sym, ap, ◌∙◌, subst, inl, inr, arith, IsSome, MatchOption, FinMap, get, insert, nat_cmp, cases_eq, Id, Addr, object_by_id, size_of, range_at, Meet, IsFreePlace, MayAnswer, with_places, Placed, region_of, has_object, placed_at, cells_of, names_of, name_in, Parts, state_of, IsStored, Machine, machine_of, object_named, AreAddresses, HasPlace, get_beside, get_inserted, same_Some}
+use Rattle.hd_world.proofs.StoreWords.{Addr, AreAddresses, FinMap, HasPlace, Id, IsFreePlace, IsSome, IsStored, Machine, MatchOption, MayAnswer, Meet, None, Option, Parts, Placed, Some, ap, arith, cases_eq, cells_of, get, get_beside, get_inserted, has_object, inl, inr, insert, is_some, machine_of, name_in, names_of, nat_cmp, object_by_id, object_named, placed_at, range_at, refl, region_of, same_Some, size_of, state_of, subst, sym, true, with_places, ℕ, ◌<◌, ◌^◌, ◌∙◌, ◌≡◌}
 use Rattle.hd_heap.specs.Sound.{IsSound}
 use Rattle.hd_model.proofs.SceneCollection.{mapped_value}
-use Rattle.hd_world.proofs.IdentityReadings.{no_some, names-get}
-use Rattle.hd_world.proofs.NamedAddresses.{object-named, known_object}
-use Rattle.hd_world.proofs.StateCounts.{read-size}
+use Rattle.hd_world.proofs.{IdentityReadings.no_some, IdentityReadings.names-get, NamedAddresses.object-named, NamedAddresses.known_object, StateCounts.read-size}
 
 module _ (f : Parts) (stored : IsStored f) (sound : IsSound f.heap) where
   abbrev m : Machine
@@ -74,8 +72,7 @@ module _ (f : Parts) (stored : IsStored f) (sound : IsSound f.heap) where
         apart = λ y other is meet.
             let there : Addr = record { 0 = other } in
             let name = are y.0 other is in
-            let object = known_object f.heap there
-            (ap is_some name) in
+            let object = known_object f.heap there (ap is_some name) in
             let mine = name_from other (record { 0 = y.0 }) name in
             meets_none at there here object
             (λ same. no_some other (sym is ∙ ap (λ (i : Id). get p i.0)

@@ -1,9 +1,6 @@
 -- The first object is taken out of a store's queue.
-use Rattle.hd_world.proofs.StoreWords.{refl, [], ◌≡◌, ◌≤◌, map, len, ◌∷◌, Option, Some, None, sym, ap, ◌∙◌, subst, arith, Contains, MatchOption, Addr, with_queue, id_at, Queue, names_of, name_in, IsNamed, Parts, IsStored, Machine, machine_of, same_Some}
-use Rattle.hd_model.proofs.Members.{first_in, later_in}
-use Rattle.hd_world.proofs.IdentityReadings.{name-is}
-use Rattle.hd_world.proofs.RootAccess.{stored-named}
-use Rattle.hd_world.proofs.NamedAddresses.{objects_named}
+use Rattle.hd_world.proofs.StoreWords.{Addr, Contains, IsNamed, IsStored, Machine, MatchOption, None, Option, Parts, Queue, Some, [], ap, arith, first_in, id_at, later_in, len, machine_of, map, name_in, names_of, refl, same_Some, subst, sym, with_queue, ◌∙◌, ◌∷◌, ◌≡◌, ◌≤◌}
+use Rattle.hd_world.proofs.{IdentityReadings.name-is, RootAccess.stored-named, NamedAddresses.objects_named}
 
 -- the parts with another queue
 abbrev pub with_new_queue : Parts → Queue → Parts

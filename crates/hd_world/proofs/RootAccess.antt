@@ -1,10 +1,8 @@
 -- What the roots of a store reference: registers and statics read and written.
-use Rattle.hd_world.proofs.StoreWords.{◌≡◌, ℕ, ◌+◌, ◌*◌, ◌<◌, ◌≤◌, true, List, map, len, length, get_or, set, Option, Some, None, refl, sym, ap, ◌∙◌, subst, inl, inr, arith, option_map, Contains, IfSome, map-set, length-set, get_or_default, Addr, register_of, static_of, with_register, with_static, has_object, id_at, rows_of, rest_of, named_in, IsNamed, Queue, Parts, callers_of, state_of, IsStored, Machine, machine_of}
+use Rattle.hd_world.proofs.StoreWords.{Addr, Contains, IfSome, IsNamed, IsStored, List, Machine, None, Option, Parts, Queue, Some, ap, arith, callers_of, get_or, get_or_default, has_object, id_at, inl, inr, len, length, length-set, machine_of, map, map-set, named_in, option_map, refl, register_of, rest_of, rows_of, set, state_of, static_of, subst, sym, true, with_register, with_static, ℕ, ◌*◌, ◌+◌, ◌<◌, ◌∙◌, ◌≡◌, ◌≤◌}
 use Rattle.hd_world.proofs.RootRows.{rows-get, rest-get, rows-set, rest-set_row, rest-set, rows-set_rest}
-use Rattle.hd_world.proofs.IdentityReadings.{named-is}
+use Rattle.hd_world.proofs.{IdentityReadings.named-is, EntryReadings.tied-agrees, Barrier.contains_set}
 use Rattle.hd_world.proofs.NamedAddresses.{named_objects, objects_named, field-read}
-use Rattle.hd_world.proofs.EntryReadings.{tied-agrees}
-use Rattle.hd_world.proofs.Barrier.{contains_set}
 
 -- the parts with another root at an index
 abbrev pub with_root : Parts → ℕ → Option Addr → Parts
@@ -38,8 +36,7 @@ stored-named f roots q stored long named queue room = record {
   blocks = stored.blocks;
   uses = stored.uses;
   tied = λ slot key is. tied-agrees f (record f { roots = roots; queue = q }) slot key
-      (stored.tied slot key is)
-      refl (λ x e. refl);
+      (stored.tied slot key is) refl (λ x e. refl);
   same_blocks = stored.same_blocks;
 }
 
@@ -80,8 +77,7 @@ module _ (f : Parts) (m : Machine) (view : machine_of f ≡ m) (stored : IsStore
   pub static-is : (k : ℕ) (x : Option Addr) → k < 16 → x ≡ get_or f.roots (16 * callers_of f + k) x
       → named_in m.names x ≡ static_of m.state k
   static-is k x within is =
-      read_at (16 * callers_of f + k) x (static-within k within) is
-      ∙ sym
+      read_at (16 * callers_of f + k) x (static-within k within) is ∙ sym
       (rest-get (callers_of f) k (16 * callers_of f + k) (map (option_map (id_at f.heap)) f.roots) None refl)
       ∙ ap (λ (n : Machine). static_of n.state k) view
 
@@ -117,8 +113,7 @@ module _ (f : Parts) (m : Machine) (view : machine_of f ≡ m) (stored : IsStore
       })
       ∙ (λ i. record (view i) { state = with_register (view i).state c d (named_in m.names v) })
 
-  pub machine-static : (k : ℕ) (v : Option Addr)
-      → machine_of (with_root f (16 * callers_of f + k) v)
+  pub machine-static : (k : ℕ) (v : Option Addr) → machine_of (with_root f (16 * callers_of f + k) v)
       ≡ record m { state = with_static m.state k (named_in m.names v) }
   machine-static k v =
       let at = 16 * callers_of f + k in

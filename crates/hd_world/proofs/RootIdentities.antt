@@ -1,14 +1,6 @@
 -- The roots of a store by identity are those of its table, each with the identity of its object.
-use Rattle.hd_world.proofs.StoreWords.{[], ◌≡◌, ℕ, ◌≤◌, ◌<◌, ◌^◌, length, Result, Ok, Err, IfOk, Vec, Global, arith, true, ◌&&◌, T, List, ◌∷◌, ◌++◌, All, Contains, map, Option, Some, None, refl, sym, ap, ◌∙◌, subst, option_map, option_to_list, FinMap, is_sorted, entries, from_entries, from_sorted, entries_sorted, entries-from_sorted, len, len-entries, get-from_sorted, get-from_entries, nat_cmp, is_lt, nat_cmp_total, map-append, length-append, Id, Addr, Kind, RootId, Slot, Handle, State, rename_handle, Role, holds, short, long, attaches, role, Heap, id_at, has_object, rows_by_id, Parts, IsStored, Bool, false, cond, filter, get, is_none, unheld, true≢false, same_Some}
-use Rattle.std.specs.FinMap.Entries.{below_all}
-use Rattle.std.proofs.lemmas.List.Elements.{All-nil, All-cons, All-append}
-use Rattle.hd_model.specs.RootText.{held_by, held_of, root_in, roots_in, root_id}
-use Rattle.hd_model.proofs.RenamedPins.{role_renamed}
-use Rattle.hd_scan.specs.declared.gathering.Root.{Root}
+use Rattle.hd_world.proofs.StoreWords.{Addr, All, All-append, All-cons, All-nil, Bool, Contains, Err, FinMap, Global, Handle, Heap, Id, IfOk, IsStored, Kind, List, None, Ok, Option, Parts, Result, Role, Root, RootId, Slot, Some, State, T, Vec, [], ap, arith, attaches, below_all, cond, entries, entries-from_sorted, entries_sorted, false, filter, first_in, from_entries, from_sorted, get, get-from_entries, get-from_sorted, get_entry, has_object, held_by, held_of, holds, id_at, is_lt, is_none, is_sorted, later_in, len, len-entries, length, length-append, long, map, map-append, nat_cmp, nat_cmp_total, option_map, option_to_list, refl, rename_handle, role, role_renamed, root_id, root_in, root_named, roots_in, rows_by_id, same_Some, short, subst, sym, true, true≢false, unheld, ℕ, ◌&&◌, ◌++◌, ◌<◌, ◌^◌, ◌∙◌, ◌∷◌, ◌≡◌, ◌≤◌}
 use Rattle.hd_scan.specs.Gathering.{root_by, roots_of}
-use Rattle.hd_world.specs.Listing.{root_named}
-use Rattle.hd_model.proofs.Entries.{get_entry}
-use Rattle.hd_model.proofs.Members.{first_in, later_in}
 use Rattle.hd_world.proofs.EntryMaps.{same_numbers, entries-retained}
 
 -- ---- entries of a map with other values
@@ -156,8 +148,7 @@ few-in (e ∷ es) =
     omega (arith, both, one, few-in es)
 
 pub few-roots : {E : Type 0} (s : State) (live : ℕ) (r : Result (Vec RootId Global) E) → live ≡ len s.handles
-    → live < 2 ^ 32
-    → IfOk r (λ roots. roots.items ≡ roots_in root_id (entries s.handles))
+    → live < 2 ^ 32 → IfOk r (λ roots. roots.items ≡ roots_in root_id (entries s.handles))
     → IfOk r (λ roots. length roots.items < 2 ^ 32)
 few-roots s live (Ok roots) is small listed =
     omega (arith, ap length listed, few-in (entries s.handles), len-entries s.handles, is, small)

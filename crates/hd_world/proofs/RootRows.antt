@@ -1,6 +1,7 @@
 -- One list of roots as rows of 16 registers and the statics after them.
-use Rattle.hd_world.proofs.StoreWords.{◌≡◌, ℕ, zero, suc, ◌+◌, ◌*◌, ◌-◌, ◌<◌, List, [], ◌∷◌, length, take, drop, get_or, set, replicate, refl, ap, ◌∙◌, arith, get_or-take, get_or-drop, take-set-le, drop-set-lt, drop-set-add, rows_of, rest_of}
+use Rattle.hd_world.proofs.StoreWords.{List, [], ap, arith, drop, drop-set-add, drop-set-lt, get_or, get_or-drop, get_or-take, refl, replicate, rest_of, rows_of, set, suc, take, take-set-le, zero, ℕ, ◌*◌, ◌+◌, ◌-◌, ◌<◌, ◌∙◌, ◌∷◌, ◌≡◌}
 use Rattle.std.proofs.Math.Seq.{take-set-lt}
+use Rattle.std.proofs.lemmas.List.{drop-drop}
 
 module _ {A : Type 0} where
   -- register d of caller c is at 16 * c + d, and static k at 16 * n + k
@@ -21,6 +22,14 @@ module _ {A : Type 0} where
   rest-get (suc n) k i xs e at =
       rest-get n k (i - 16) (drop 16 xs) e (omega arith) ∙ get_or-drop 16 xs (i - 16) e
       ∙ ap (λ j. get_or xs j e) (omega arith)
+
+  -- the statics are what is left without the registers
+  pub rest-drop : (n : ℕ) (xs : List A) → rest_of n xs ≡ drop (16 * n) xs
+  unfolding rest_of
+  rest-drop zero xs = refl
+  rest-drop (suc n) xs =
+      let more : 16 + 16 * n ≡ 16 * suc n = omega arith in
+      rest-drop n (drop 16 xs) ∙ drop-drop (16 * n) 16 xs ∙ ap (λ k. drop k xs) more
 
   -- a register is written
   pub rows-set : (n c d i : ℕ) (xs : List A) (v : A) → i ≡ 16 * c + d → c < n → d < 16

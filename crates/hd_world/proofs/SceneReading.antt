@@ -1,10 +1,7 @@
 -- The state of a store is a reading of what its collection reads.
-use Rattle.hd_world.proofs.StoreWords.{◌≡◌, ℕ, zero, suc, ◌++◌, true, List, map, take, drop, Some, refl, sym, ap, ◌∙◌, subst, option_map, is_some, get, take-append-drop, append_assoc, Id, Addr, rename_object, rename_handle, IsStored, scene_of, joined, is_object, IsReading, Placed, region_of, region_generation, object_in, object_at, has_object, placed_at, id_in, id_at, HasIdentities, rows_of, rest_of, objects_by_id, Parts, callers_of, state_of, scene_of_parts}
-use Rattle.hd_model.specs.Scene.{Scene}
-use Rattle.hd_model.proofs.Entries.{some_value}
+use Rattle.hd_world.proofs.StoreWords.{Addr, HasIdentities, Id, IsReading, IsStored, List, Parts, Placed, Scene, Some, ap, append_assoc, callers_of, drop, get, has_object, id_at, id_in, is_object, is_some, joined, map, object_at, object_in, objects_by_id, option_map, placed_at, refl, region_generation, region_of, rename_handle, rename_object, rest_of, rows_of, scene_of, scene_of_parts, some_value, state_of, suc, sym, take, take-append-drop, true, zero, ℕ, ◌++◌, ◌∙◌, ◌≡◌}
 use Rattle.hd_world.proofs.IdentityReadings.{same_id, objects-get, objects-under}
-use Rattle.hd_world.proofs.EntryReadings.{row-reads}
-use Rattle.hd_world.proofs.NamedAddresses.{placed_is, object_is}
+use Rattle.hd_world.proofs.{EntryReadings.row-reads, NamedAddresses.placed_is, NamedAddresses.object_is}
 
 -- all registers and then the statics are the roots
 pub rows-all : {A : Type 0} (n : ℕ) (xs : List A) → joined (rows_of n xs) ++ rest_of n xs ≡ xs
@@ -44,8 +41,7 @@ module _ (f : Parts) (identities : HasIdentities f.heap) where
       → id_at f.heap x ≡ id_at f.heap y → x ≡ y
   apart_here x y here there same =
       let e = identities x.0 y.0 (placed_at f.heap x) (placed_at f.heap y) (placed_is f.heap x here)
-      (placed_is f.heap y there)
-      (sym (id_here x here) ∙ same ∙ id_here y there) in
+      (placed_is f.heap y there) (sym (id_here x here) ∙ same ∙ id_here y there) in
       λ i. record { 0 = e i }
 
   -- what a collection reads, by identity: the rows of the weak table are among the handles

@@ -1,19 +1,11 @@
 -- The handle in a slot of a store, as commands find it.
-use Rattle.hd_world.proofs.StoreWords.{◌≡◌, ◌≤◌, true, Option, Some, None, refl, sym, ap, ◌∙◌, subst, option_map, IfSome, get, Addr, Slot, Kind, Extra, nothing, strength, secondary, count, Handle, secondary_of, handle_at, use_of, block_of, rename_handle, is_object, generation_at, age_of, object_at, id_at, IsTable, fits, IsNamed, kind_in_use, Parts, IsStored, Machine, machine_of, object_named, handle_named, MayBeStored, same_Some}
-use Rattle.hd_seg.specs.declared.row.Row.{Row}
-use Rattle.hd_seg.specs.Row.{extra_of, extra_from, handle_of, row_of}
-use Rattle.hd_world.proofs.IdentityReadings.{no_some, names-are}
-use Rattle.hd_world.proofs.NamedAddresses.{objects_named, generation-is}
-use Rattle.hd_world.proofs.StoreRows.{row-read}
-
-same_extra : (e : Extra Addr) → extra_of (extra_from e) ≡ e
-same_extra nothing = refl
-same_extra (strength s) = refl
-same_extra (secondary o) = refl
-same_extra (count c) = refl
+use Rattle.hd_world.proofs.StoreWords.{Addr, Handle, IfSome, IsNamed, IsStored, IsTable, Kind, Machine, MayBeStored, None, Option, Parts, Row, Slot, Some, age_of, ap, block_of, extra_of, fits, generation_at, get, handle_at, handle_named, handle_of, id_at, is_object, kind_in_use, machine_of, object_at, object_named, option_map, refl, rename_handle, same_Some, secondary_of, subst, sym, true, use_of, ◌∙◌, ◌≡◌, ◌≤◌}
+use Rattle.hd_seg.specs.Row.{row_of}
+use Rattle.hd_seg.proofs.RowRewrite.{extra_again}
+use Rattle.hd_world.proofs.{IdentityReadings.no_some, IdentityReadings.names-are, NamedAddresses.objects_named, NamedAddresses.generation-is, StoreRows.row-read}
 
 pub same_handle : (h : Handle Addr) → handle_of h.kind (row_of h) ≡ h
-same_handle h = λ i. record { kind = h.kind; target = h.target; extra = same_extra h.extra i }
+same_handle h = λ i. record { kind = h.kind; target = h.target; extra = extra_again h.extra i }
 
 pub no_row : (o : Option (Handle Addr)) → option_map row_of o ≡ None → o ≡ None
 no_row None is = refl
@@ -35,8 +27,7 @@ found f slot row is = by (get f.table.rows slot.0) refl
         record {
           handle = h;
           is_stored = e;
-          row_is =
-              same_Some row (row_of h) (is ∙ ap (option_map row_of) e);
+          row_is = same_Some row (row_of h) (is ∙ ap (option_map row_of) e);
         }
 
 module _ (f : Parts) (m : Machine) (view : machine_of f ≡ m) (stored : IsStored f) (table : IsTable f.table)

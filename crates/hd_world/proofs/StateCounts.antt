@@ -1,7 +1,5 @@
 -- Objects, rows and words are as many by identity as by address.
-use Rattle.hd_world.proofs.StoreWords.{◌≡◌, ℕ, ◌+◌, ◌*◌, ◌≤◌, List, [], ◌∷◌, map, length, refl, ap, ◌∙◌, arith, sum_by, option_map, FinMap, len, len-entries, entries, values, nat_cmp, length-map, Addr, Handle, size_of, rename_handle, Placed, Heap, id_at, cells_of, used_of, HasIdentities, read_object, objects_by_id, rows_by_id, Bool, true, false, not, cond, filter, suc, Option, None, Some, Id, IsSome, T, sym, subst, get, is_none, get-retain_keys, nat_cmp-IsAntisymmetric, from_entries, unheld}
-use Rattle.std.specs.FinMap.{retain_keys}
-use Rattle.std.proofs.lemmas.List.Sums.{sum_by-cons}
+use Rattle.hd_world.proofs.StoreWords.{Addr, Bool, FinMap, Handle, HasIdentities, Heap, Id, IsSome, List, None, Option, Placed, Some, T, [], ap, arith, cells_of, cond, entries, false, filter, from_entries, get, get-retain_keys, id_at, is_none, len, len-entries, length, length-map, map, nat_cmp, nat_cmp-IsAntisymmetric, not, objects_by_id, option_map, read_object, refl, rename_handle, retain_keys, rows_by_id, size_of, subst, suc, sum_by, sum_by-cons, sym, true, unheld, used_of, values, ℕ, ◌*◌, ◌+◌, ◌∙◌, ◌∷◌, ◌≡◌, ◌≤◌}
 use Rattle.hd_world.proofs.EntryMaps.{rekeyed, same_numbers, get-mapped, entries-retained}
 use Rattle.hd_world.proofs.EntrySums.{sum-fresh, fresh-rekeyed, len-rekeyed, len-mapped}
 use Rattle.hd_world.proofs.IdentityReadings.{apart_by_number}

@@ -1,10 +1,7 @@
 -- The state of a store is that of its heap, and what keeps its pinned address is kept at it.
-use Rattle.hd_world.proofs.StoreWords.{◌≡◌, ℕ, ◌⊎◌, cond, true, false, Some, None, refl, sym, ap, ◌∙◌, subst, inl, inr, MatchOption, FinMap, get, insert, empty, nat_cmp, cases_eq, true≢false, Id, Entry, Cmd, Numbers, State, is_pinned, with_places, IsFreePlace, IsPinned, is_collect, pinned_target, names_of, objects_by_id, rows_by_id, weak_by_id, Parts, IsStored, Machine, machine_of, IsOverHeap, IsStoredAt, IsOfHeap, AreAddresses, KeepsPlaces, get_beside, get_inserted, same_Some}
-use Rattle.hd_model.proofs.AgedRuns.{nothing_at}
+use Rattle.hd_world.proofs.StoreWords.{AreAddresses, Cmd, Entry, FinMap, Id, IsFreePlace, IsOfHeap, IsOverHeap, IsPinned, IsStored, IsStoredAt, KeepsPlaces, Machine, MatchOption, None, Numbers, Parts, Some, State, ap, cases_eq, cond, empty, false, get, get_beside, get_inserted, inl, inr, insert, is_collect, is_pinned, machine_of, names_of, nat_cmp, nothing_at, objects_by_id, pinned_decides, pinned_target, refl, rows_by_id, same_Some, subst, sym, true, true≢false, weak_by_id, with_places, ℕ, ◌∙◌, ◌≡◌, ◌⊎◌}
 use Rattle.hd_model.proofs.Effects.{Effect, answers_place, collects, effect}
-use Rattle.hd_model.proofs.PinTest.{pinned_decides}
-use Rattle.hd_world.proofs.IdentityReadings.{names-get}
-use Rattle.hd_world.proofs.AddressSteps.{returns-address}
+use Rattle.hd_world.proofs.{IdentityReadings.names-get, AddressSteps.returns-address}
 use Rattle.hd_model.specs.declared.data.Reply.TheVariants as reply
 use Rattle.hd_model.specs.declared.command.Cmd.TheVariants as cmd
 
@@ -65,8 +62,7 @@ one_address names x a named y b is =
     ]
 
 module _ (m k : Machine) (e : Entry) (keeps : KeepsPlaces m e k) (before : IsOverHeap m)
-    (after : IsOverHeap k)
-    (x : Id) (a : ℕ) where
+    (after : IsOverHeap k) (x : Id) (a : ℕ) where
   keeps_name : (is_collect e.cmd ≡ false) ⊎ (is_pinned m.state.handles x.0 ≡ true) → get m.names a ≡ Some x
       → get k.names a ≡ Some x
   keeps_name why named =

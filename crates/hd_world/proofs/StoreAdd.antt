@@ -1,9 +1,8 @@
 -- One more object in a heap: the readings of all else stay.
-use Rattle.hd_world.proofs.StoreWords.{◌≡◌, ℕ, true, List, map, Option, Some, None, refl, sym, ap, ◌∙◌, subst, inl, inr, option_map, is_some, IsSome, Contains, T, FinMap, get, insert, nat_cmp, cases_eq, Addr, Handle, secondary_of, rename_object, rename_handle, is_object, fields_in, IsField, Placed, Heap, region_generation, region_of, object_in, object_at, id_in, id_at, HasIdentities, names_of, read_object, objects_by_id, rows_by_id, weak_by_id, entry_named, Id, get_beside, get_inserted}
-use Rattle.hd_world.proofs.EntryMaps.{same_numbers}
-use Rattle.hd_world.proofs.NamedAddresses.{has-placed}
-use Rattle.hd_world.proofs.NameAgreement.{map_agrees, names_agree, object_agrees, handle_agrees}
-use Rattle.hd_world.proofs.EntryReadings.{same_named, weak-get}
+use Rattle.hd_world.proofs.StoreWords.{Addr, Contains, FinMap, Handle, HasIdentities, Heap, Id, IsField, IsSome, List, None, Option, Placed, Some, T, ap, cases_eq, entry_named, fields_in, get, get_beside, get_inserted, id_at, id_in, inl, inr, insert, is_object, is_some, map, names_of, nat_cmp, object_at, object_in, objects_by_id, option_map, read_object, refl, region_generation, region_of, rename_handle, rename_object, rows_by_id, secondary_of, subst, sym, true, weak_by_id, ℕ, ◌∙◌, ◌≡◌}
+use Rattle.hd_world.proofs.{EntryMaps.same_numbers, NamedAddresses.has-placed, EntryReadings.weak-get}
+use Rattle.hd_world.proofs.NameAgreement.{object_agrees, handle_agrees}
+use Rattle.hd_model.proofs.SceneReadings.{list_agrees, names_agree, option_agrees}
 use Rattle.hd_world.proofs.IdentityReadings.{no_some, names-get, rows-get, put-here, put-beside, Puts, identities-put, objects-put}
 
 -- the heap k is h with one more object, whose identity none has
@@ -61,7 +60,7 @@ module _ (h k : Heap) (a : ℕ) (new : Placed) (r : Adds h k a new) where
 
   pub queue-add : (names : List Addr) → ((x : Addr) → Contains names x → is_object (object_at h) x ≡ true)
       → map (id_at k) names ≡ map (id_at h) names
-  queue-add names whole = map_agrees (id_at k) (id_at h) names (λ x c. id-add x (placed h x (whole x c)))
+  queue-add names whole = list_agrees (id_at k) (id_at h) names (λ x c. id-add x (placed h x (whole x c)))
 
   row_same : (o : Option (Handle Addr))
       → ((row : Handle Addr) (x : Addr) → o ≡ Some row → row.target ≡ Some x
@@ -93,7 +92,7 @@ module _ (h k : Heap) (a : ℕ) (new : Placed) (r : Adds h k a new) where
   value_same None seconds (Some key) = refl
   value_same (Some row) seconds (Some key) =
       ap (λ v. Some (record { key = key; value = v }))
-      (same_named (id_at k) (id_at h) (secondary_of row.extra)
+      (option_agrees (id_at k) (id_at h) (secondary_of row.extra)
       (λ x is. id-add x (placed h x (seconds row x refl is))))
 
   pub weak-add : (rows : FinMap nat_cmp (Handle Addr)) (held : FinMap nat_cmp (Option Id))

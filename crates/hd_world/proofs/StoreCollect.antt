@@ -1,19 +1,10 @@
 -- A collection of a store's parts is one of its state, and leaves a store.
-use Rattle.hd_world.proofs.StoreWords.{[], ◌≡◌, ◌≤◌, ℕ, ◌++◌, ◌∷◌, true, false, Bool, cond, List, map, take, drop, length, sum_by, Option, Some, None, option_map, is_none, is_some, IsSome, refl, sym, ap, ◌∙◌, subst, arith, same_Some, true≢false, FinMap, get, values, get-retain_keys, nat_cmp-IsAntisymmetric, nat_cmp, length-map, Id, Addr, Report, Handle, BlockUse, rename_handle, pins, IsPinned, is_pinned, with_places, scene_of, Heap, Placed, id_at, id_in, has_object, row_at, IsTied, WeakTable, Parts, callers_of, state_of, IsStored, entry_named, names_of, objects_by_id, rows_by_id, weak_by_id, rows_of, rest_of, Machine, machine_of, AreAddresses, kept_places, HasCollected, IsCompactStore}
-use Rattle.hd_model.specs.Scene.{Scene}
-use Rattle.hd_model.specs.Collect.{Collects, CollectsState, cleared, swept}
+use Rattle.hd_world.proofs.StoreWords.{Addr, AreAddresses, BlockUse, Bool, Collected, Collects, CollectsState, FinMap, Handle, HasCollected, Heap, Id, IsCompactStore, IsPinned, IsSome, IsStored, IsTied, List, Machine, None, Option, Parts, Placed, Report, Scene, Some, WeakTable, [], ap, arith, callers_of, cleared, cond, counts_named, drop, entry_named, false, get, get-retain_keys, has_object, id_at, id_in, is_none, is_pinned, is_some, kept_key, kept_places, length, length-map, machine_of, map, names_of, nat_cmp, nat_cmp-IsAntisymmetric, objects_by_id, one_dependent, one_extra, option_map, pinned_decides, pins, pins_renamed, refl, rename_handle, rest_of, row_at, rows_by_id, rows_of, same_Some, scene_of, state_of, subst, sum_by, swept, sym, take, true, true≢false, values, weak_by_id, with_places, ℕ, ◌++◌, ◌∙◌, ◌∷◌, ◌≡◌, ◌≤◌}
 use Rattle.hd_model.specs.Compact.{IsCompact}
-use Rattle.hd_model.proofs.PropertyCounts.{counts_named}
-use Rattle.hd_model.proofs.PinTest.{pinned_decides}
-use Rattle.hd_model.proofs.RenamedPins.{pins_renamed}
-use Rattle.hd_cwt.specs.WeakTable.{kept_key}
 use Rattle.hd_gc.specs.Ready.{parts, Parts as Lent}
-use Rattle.hd_gc.specs.Collected.{Collected}
-use Rattle.hd_world.specs.Stored.{one_dependent, one_extra}
 use Rattle.hd_world.proofs.EntryReadings.{handles-get, handle-get, handle-row, weak-get, tied-agrees}
 use Rattle.hd_world.proofs.EntrySweep.{attaching, IsLeft, left-row, swept-key, swept-entry, row-known}
-use Rattle.hd_world.proofs.IdentityReadings.{no_some, names-get}
-use Rattle.hd_world.proofs.NamedAddresses.{placed_is}
+use Rattle.hd_world.proofs.{IdentityReadings.no_some, IdentityReadings.names-get, NamedAddresses.placed_is}
 use Rattle.hd_world.proofs.SceneReading.{rows-all, apart_here, scene_by_id, parts-read, scene-read}
 
 -- the parts after a collection
@@ -54,8 +45,7 @@ named_at h a x is = by (get h.objects a) refl
       p,
       (
         there,
-        same_Some p.id x
-            (sym (ap (option_map (λ (q : Placed). q.id)) there) ∙ sym (names-get h a) ∙ is),
+        same_Some p.id x (sym (ap (option_map (λ (q : Placed). q.id)) there) ∙ sym (names-get h a) ∙ is),
       ),
     )
 
@@ -104,8 +94,7 @@ module _ (f : Parts) (stored : IsStored f) where
             slot = p.slot;
             handle = row;
             is_stored = was.0;
-            pins = sym (pins_renamed (id_at f.heap) row)
-                ∙ ap pins was.1 ∙ p.pins;
+            pins = sym (pins_renamed (id_at f.heap) row) ∙ ap pins was.1 ∙ p.pins;
             target = to.0;
           },
           to.1,
@@ -155,12 +144,10 @@ module _ {f : Parts} {l : Lent} {w : WeakTable} {n : ℕ} {report : Report} {bef
   key_left slot row key is =
       ap (λ (r : Handle Addr). cond (is_none r.target) None key) (row-known l.table slot row is)
 
-  left_tied : (slot : ℕ) (key : Option Id) → get w.held slot ≡ Some key
-      → IsTied l.heap l.table.rows slot key
+  left_tied : (slot : ℕ) (key : Option Id) → get w.held slot ≡ Some key → IsTied l.heap l.table.rows slot key
   left_tied slot key is = by (get f.weak.held slot) refl
     where
-      by : (o : Option (Option Id)) → get f.weak.held slot ≡ o
-          → IsTied l.heap l.table.rows slot key
+      by : (o : Option (Option Id)) → get f.weak.held slot ≡ o → IsTied l.heap l.table.rows slot key
       by None e = absurd (no_some key (sym is ∙ s.each slot ∙ ap (option_map (kept_key l.table slot)) e))
       by (Some old) e =
           let (row, at) = left_row slot old (s.stored.tied slot old e) in
@@ -185,8 +172,7 @@ module _ {f : Parts} {l : Lent} {w : WeakTable} {n : ℕ} {report : Report} {bef
     where
       by : (o : Option (Option Id)) → get f.weak.held slot ≡ o
           → option_map (entry_named (id_at l.heap) (get l.table.rows slot))
-          (option_map (kept_key l.table slot) (get f.weak.held slot))
-          ≡ option_map (swept by_rows.kept)
+          (option_map (kept_key l.table slot) (get f.weak.held slot)) ≡ option_map (swept by_rows.kept)
           (option_map (entry_named (id_at f.heap) (get f.table.rows slot)) (get f.weak.held slot))
       by None e =
           (λ i. option_map (entry_named (id_at l.heap) (get l.table.rows slot))
@@ -248,8 +234,7 @@ module _ {f : Parts} {l : Lent} {w : WeakTable} {n : ℕ} {report : Report} {bef
       ∙ ap (option_map (cleared by_rows.reach by_rows.kept))
       (sym (handles-get f.heap f.table.rows f.weak.held slot))
     where
-      by : (o : Option (Option Id))
-          → cond (is_none (option_map (kept_key l.table slot) o))
+      by : (o : Option (Option Id)) → cond (is_none (option_map (kept_key l.table slot) o))
           (option_map (cleared by_rows.reach by_rows.kept)
           (option_map (rename_handle (id_at f.heap)) (get f.table.rows slot))) None
           ≡ option_map (cleared by_rows.reach by_rows.kept) (cond (is_none o)
@@ -275,8 +260,7 @@ module _ {f : Parts} {l : Lent} {w : WeakTable} {n : ℕ} {report : Report} {bef
       get-retain_keys p (is_pinned (state_of f).handles) x
       (λ y same. ap (is_pinned (state_of f).handles) (sym (nat_cmp-IsAntisymmetric x y same)))
 
-  collects_state : (p : FinMap nat_cmp ℕ)
-      → CollectsState n (with_places (state_of f) p)
+  collects_state : (p : FinMap nat_cmp ℕ) → CollectsState n (with_places (state_of f) p)
       (with_places (state_of (left_parts f l w)) (kept_places (state_of f) p)) report
   collects_state p = record {
     scene = by_state.0;

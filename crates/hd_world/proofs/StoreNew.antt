@@ -1,18 +1,10 @@
 -- A new object of a store: what the machine sees, and that the store keeps what it keeps.
-use Rattle.hd_world.proofs.StoreWords.{◌≡◌, ℕ, zero, suc, ◌+◌, ◌<◌, ◌≤◌, Bool, true, false, cond, List, ◌∷◌, map, length, get_or, replicate, set, Option, Some, None, refl, sym, ap, ◌∙◌, subst, inl, inr, arith, option_map, unwrap_or, is_some, Contains, T, sum_by, max, ◌⊎◌, get, insert, values, len, len-insert, nat_cmp_total, cases_eq, length-set, length-replicate, Id, Addr, Object, last_serial, identity_of, with_object, with_serial, total_size, is_object, fields_in, generation_in, generation_at, IsField, Placed, Region, Heap, region_of, region_at, region_generation, is_in_use, object_in, object_at, is_carded, cells_of, used_of, id_at, age_of, Queue, rows_of, rest_of, names_of, read_object, objects_by_id, unheld, Parts, callers_of, state_of, IsStored, Machine, machine_of, without_spare, fresh_object, IsObjectRefused, KeepsNames, get_beside, get_inserted}
-use Rattle.hd_heap.specs.Calls.{new_object, IsMade, IsRefused as IsRefusedBy}
-use Rattle.hd_heap.specs.declared.fault.NewFault.{NewFault}
-use Rattle.hd_heap.specs.declared.fault.NewFault.TheVariants.{Full, Memory}
-use Rattle.hd_plan.specs.Plan.{HasNoEmptyRegion}
+use Rattle.hd_world.proofs.StoreWords.{Addr, Bool, Contains, HasNoEmptyRegion, Heap, Id, IsField, IsMade, IsObjectRefused, IsStored, KeepsNames, List, Machine, None, not_there, Object, Option, Parts, Placed, Queue, Region, Some, T, age_of, ap, arith, callers_of, cases_eq, cells_of, cond, fields_in, fresh_object, generation_at, generation_in, get, get_beside, get_inserted, get_or, id_at, identity_of, inl, inr, insert, is_carded, is_in_use, is_object, is_some, last_serial, len, len-insert, length, length-replicate, length-set, machine_of, map, max, names_of, nat_cmp_total, new_object, object_at, object_in, objects_by_id, option_map, read_object, refl, region_at, region_generation, region_of, replicate, rest_of, rows_of, same_address, set, share, state_of, subst, suc, sum-insert, sum_by, sym, total_size, true, unheld, unwrap_or, used_of, values, with_object, with_serial, without_spare, zero, ℕ, ◌+◌, ◌<◌, ◌∙◌, ◌∷◌, ◌≡◌, ◌≤◌, ◌⊎◌}
+use Rattle.hd_heap.specs.{Calls.IsRefused as IsRefusedBy, declared.fault.NewFault.NewFault, declared.fault.NewFault.TheVariants.Full, declared.fault.NewFault.TheVariants.Memory}
 use Rattle.std.proofs.Math.Nat.{le-max_left, le-max_right}
-use Rattle.hd_world.proofs.StateCounts.{used-is}
-use Rattle.hd_model.proofs.Sums.{share, sum-insert}
+use Rattle.hd_world.proofs.{StateCounts.used-is, NamedAddresses.has-placed, QueueTake.stored-waiting, EntryReadings.unheld-some, EntryReadings.tied-agrees}
 use Rattle.hd_world.proofs.IdentityReadings.{no_some, names-get, objects-get}
-use Rattle.hd_world.proofs.NamedAddresses.{has-placed}
-use Rattle.hd_world.proofs.QueueTake.{stored-waiting}
 use Rattle.hd_world.proofs.StoreAdd.{Adds, placed, id-add, names-add, identities-add, roots-add, queue-add, rows-add, weak-add, objects-add}
-use Rattle.hd_world.proofs.EntryReadings.{unheld-some, tied-agrees}
-use Rattle.hd_heap.proofs.HeapValues.{same_address}
 
 none_at : {A : Type 0} (n k : ℕ) (x : A) → k < n → get_or (replicate n None) k (Some x) ≡ Some x → ⊥
 none_at zero k x within is = absurd (omega arith)
@@ -29,10 +21,6 @@ nothing_mapped f (suc n) = ap (λ xs. None ∷ xs) (nothing_mapped f n)
 
 abbrev region_of_option : Option Region → ℕ
 region_of_option o = (unwrap_or {T = Region} o (record { generation = 0; fill = 0 })).generation
-
-absent : (o : Option Placed) → is_some o ≡ false → o ≡ None
-absent None e = refl
-absent (Some p) e = absurd (subst T e tt)
 
 module _ (f : Parts) (k : Heap) (at : Addr) (id : Id) (count : ℕ) (fin : Bool) (stored : IsStored f)
     (made : IsMade f.heap k at (new_object id count fin))
@@ -67,7 +55,7 @@ module _ (f : Parts) (k : Heap) (at : Addr) (id : Id) (count : ℕ) (fin : Bool)
       }
 
   was_none : get f.heap.objects at.0 ≡ None
-  was_none = absent (get f.heap.objects at.0) (sym (has-placed f.heap at) ∙ made.was_free)
+  was_none = not_there (get f.heap.objects at.0) (sym (has-placed f.heap at) ∙ made.was_free)
 
   pub adds : Adds f.heap k at.0 (new_object id count fin)
   adds = record {
@@ -90,17 +78,17 @@ module _ (f : Parts) (k : Heap) (at : Addr) (id : Id) (count : ℕ) (fin : Bool)
       ap (option_map (object_in (region_generation k (region_of x)))) (elsewhere x apart)
       ∙ ap (λ g. option_map (object_in g) (get f.heap.objects x.0)) (kept_generation x)
 
-  not_there : (x : Addr) → is_object (object_at f.heap) x ≡ true → x.0 ≡ at.0 → ⊥
-  not_there x is same =
+  not_new : (x : Addr) → is_object (object_at f.heap) x ≡ true → x.0 ≡ at.0 → ⊥
+  not_new x is same =
       subst T (sym (placed f.heap x is) ∙ ap (λ b. is_some (get f.heap.objects b)) same ∙ ap is_some was_none)
       tt
 
   still : (x : Addr) → is_object (object_at f.heap) x ≡ true → is_object (object_at k) x ≡ true
-  still x is = ap is_some (object_same x (not_there x is)) ∙ is
+  still x is = ap is_some (object_same x (not_new x is)) ∙ is
 
   generation_same : (x : Addr) → is_object (object_at f.heap) x ≡ true
       → generation_at (object_at k) x ≡ generation_at (object_at f.heap) x
-  generation_same x is = ap generation_in (object_same x (not_there x is))
+  generation_same x is = ap generation_in (object_same x (not_new x is))
 
   -- a field of the heap after was one before
   field_was : (x y : Addr) → IsField (object_at k) x y → (x.0 ≡ at.0 → ⊥) × IsField (object_at f.heap) x y
@@ -224,8 +212,7 @@ module _ (f : Parts) (k : Heap) (at : Addr) (id : Id) (count : ℕ) (fin : Bool)
       → machine_of (made_parts serials q)
       ≡ record (machine_of f) {
         state = record (with_object (state_of f) id (fresh_object count fin)) { serials = serials };
-        names =
-            insert (names_of f.heap) at.0 id;
+        names = insert (names_of f.heap) at.0 id;
         heap = without_spare k;
       }
   machine-made serials q is_queued = λ i. record {
@@ -350,8 +337,7 @@ module _ (f : Parts) (m : Machine) (view : machine_of f ≡ m) (stored : IsStore
       → IsObjectRefused m (machine_of (record f { heap = k; queue = q })) cells fault
   refused-next cells (Full used size) refused = (
     machine-room f m view stored k refused.0 q more,
-    refused.1
-        ∙ cells_are,
+    refused.1 ∙ cells_are,
     refused.2,
     omega (arith, refused.3, cells_are, limit_is),
   )

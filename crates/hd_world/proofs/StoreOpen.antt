@@ -1,12 +1,6 @@
 -- A store at first: nothing is made, and each register, static and entry of the board is null or empty.
-use Rattle.hd_world.proofs.StoreWords.{◌≡◌, ℕ, ◌+◌, ◌*◌, ◌≤◌, List, [], ◌∷◌, map, length, replicate, Option, Some, None, refl, sym, ap, ◌∙◌, subst, arith, option_map, IsSome, Contains, T, sum_by, is_some, true, get, empty, entries, values, from_entries, get-empty, len-empty, len-entries, nat_cmp, length-replicate, Addr, Object, Handle, rename_handle, start_of, fields_in, Placed, Region, is_in_use, region_of, region_generation, object_in, object_at, cells_of, id_at, empty_table, rows_of, rest_of, names_of, read_object, objects_by_id, rows_by_id, weak_by_id, unheld, entry_named, Id, is_none, Parts, callers_of, state_of, numbers_of, IsStored, one_dependent}
-use Rattle.hd_world.proofs.EntryMaps.{same_numbers}
-use Rattle.hd_world.proofs.EntryReadings.{none_kept, unheld-get}
-use Rattle.hd_world.proofs.IdentityReadings.{no_some}
-use Rattle.hd_model.proofs.Members.{not_in_none}
-use Rattle.hd_heap.specs.Calls.{empty_heap}
-use Rattle.hd_world.proofs.StoreNew.{no_names, nothing_mapped}
-use Rattle.hd_world.proofs.RootRows.{rows-first, rest-first}
+use Rattle.hd_world.proofs.StoreWords.{Addr, Contains, Handle, Id, IsSome, IsStored, List, None, Object, Option, Parts, Placed, Region, Some, T, [], ap, arith, callers_of, cells_of, empty, empty_heap, empty_table, entries, entry_named, fields_in, from_entries, get, get-empty, id_at, is_in_use, is_none, is_some, len-empty, len-entries, length, length-replicate, map, names_of, nat_cmp, not_in_none, numbers_of, object_at, object_in, objects_by_id, one_dependent, option_map, read_object, refl, region_generation, region_of, rename_handle, replicate, rest_of, rows_by_id, rows_of, start_of, state_of, subst, sum_by, sym, true, unheld, values, weak_by_id, ℕ, ◌*◌, ◌+◌, ◌∙◌, ◌∷◌, ◌≡◌, ◌≤◌}
+use Rattle.hd_world.proofs.{EntryMaps.same_numbers, EntryReadings.none_kept, EntryReadings.unheld-get, IdentityReadings.no_some, StoreNew.no_names, StoreNew.nothing_mapped, RootRows.rows-first, RootRows.rest-first}
 
 nothing_at : {A : Type 0} (q : ℕ) (x : A) → get (empty {X = A} {R = nat_cmp}) q ≡ Some x → ⊥
 nothing_at q x e = no_some x (sym e ∙ get-empty nat_cmp q)
@@ -47,8 +41,7 @@ module _ (limit blocks callers : ℕ) where
   no_region r held = subst T (sym (sym (ap is_some (get-empty {X = Region} nat_cmp r)) ∙ held)) tt
 
   -- parts are those of an opened store where each is as it was made
-  pub are_opened :
-      (f : Parts) → f.heap ≡ empty_heap limit → f.table ≡ empty_table blocks
+  pub are_opened : (f : Parts) → f.heap ≡ empty_heap limit → f.table ≡ empty_table blocks
       → f.ages ≡ replicate (4 * blocks) 2 → f.weak ≡ record { blocks = blocks; held = empty }
       → f.queue ≡ record { waiting = []; room = 0 } → f.roots ≡ replicate (16 * callers + 16) None
       → f.handle_registers ≡ replicate callers (replicate 16 None)
@@ -121,8 +114,7 @@ module _ (limit blocks callers : ℕ) where
   weak-opened = ap (λ (es : List (ℕ × Option Id)). from_entries {R = nat_cmp}
       (map (λ e. (
         e.0,
-        entry_named (id_at (empty_heap limit))
-            (get (empty {X = Handle Addr} {R = nat_cmp}) e.0) e.1,
+        entry_named (id_at (empty_heap limit)) (get (empty {X = Handle Addr} {R = nat_cmp}) e.0) e.1,
       )) es)) no_entries
 
   rows-empty : rows_by_id (empty_heap limit) empty ≡ empty

@@ -1,20 +1,11 @@
 -- Rows of a store that change: what the machine sees, and that the store keeps what it keeps.
-use Rattle.hd_world.proofs.StoreWords.{◌≡◌, ℕ, ◌+◌, ◌*◌, true≢false, ◌/◌, ◌≤◌, sum_by, values, Bool, true, false, not, cond, List, length, length-set, Option, Some, None, refl, sym, ap, ◌∙◌, subst, inl, inr, arith, option_map, unwrap_or, IsSome, IfSome, is_some, T, Result, Ok, Err, IfOk, OnErr, FinMap, get, insert, remove, get-remove, nat_cmp, eq_by_cmp, nat_cmp_total, cases_eq, Id, Addr, Slot, Kind, Grown, Extra, nothing, strength, secondary, count, Handle, BlockUse, handles_of, extra_data, handle_at, use_of, block_of, secondary_of, rename_handle, with_handle, without_handle, role, attaches, is_object, generation_at, age_of, clump_of, lowered, Heap, object_at, id_at, Table, fits, kind_in, kind_at, live_at, is_single, grown_by, IsGrowth, without_block, with_row, without_row, rows_by_id, unheld, entry_named, is_none, WeakTable, IsNamed, Parts, state_of, IsTied, IsStored, HasUses, one_dependent, one_extra, Machine, machine_of, object_named, kind_in_use, is_paired, handle_named, MayBeStored, get_beside, get_inserted, same_Some}
-use Rattle.hd_model.specs.declared.data.Grown.TheVariants.{Zero, One, Two, Back}
+use Rattle.hd_world.proofs.StoreWords.{Addr, Back, BlockUse, Bool, Err, Extra, FinMap, Grown, Handle, HasUses, Heap, Id, IfOk, IfSome, IsGrowth, IsNamed, IsSome, IsStored, IsTied, Kind, List, Machine, MayBeStored, None, Ok, OnErr, One, Option, Parts, Result, Row, Slot, Some, T, Table, Two, WeakTable, Zero, age_of, ap, arith, attaches, block_of, blocks_needed, cases_eq, clump_of, cond, count, entry_named, eq_by_cmp, extra_data, extra_of, false, fits, generation_at, get, get-remove, get_beside, get_inserted, get_left, grown_by, handle_at, handle_named, handle_of, handles_of, id_at, inl, inr, insert, is_kind, is_none, is_object, is_paired, is_single, is_some, kind_at, kind_in, kind_in_use, length, length-set, live_at, lowered, lowered_below, machine_of, nat_cmp, nat_cmp_total, not, nothing, object_at, object_named, one_dependent, one_extra, option_map, refl, remove, rename_handle, role, role_of, rows_by_id, same_Some, secondary, secondary_of, share, state_of, strength, subst, sum-insert, sum-remove, sum_by, sym, true, true≢false, unheld, unwrap_or, use_of, values, with_handle, with_row, without_block, without_handle, without_row, ℕ, ◌*◌, ◌+◌, ◌/◌, ◌∙◌, ◌≡◌, ◌≤◌}
 use Rattle.hd_seg.specs.declared.row.Full.{Full}
-use Rattle.hd_seg.specs.declared.row.Row.{Row}
-use Rattle.hd_seg.specs.Row.{handle_of, extra_of}
-use Rattle.hd_model.specs.Role.{role_of}
-use Rattle.hd_model.specs.Kinds.{is_kind}
-use Rattle.hd_model.specs.Step.{blocks_needed}
-use Rattle.hd_model.proofs.Sums.{share, sum-insert, sum-remove}
-use Rattle.hd_model.proofs.Ages.{lowered_below}
 use Rattle.hd_model.proofs.KindExtras.{fits_dependent}
 use Rattle.hd_world.proofs.EntryMaps.{same_numbers}
 use Rattle.hd_world.proofs.IdentityReadings.{no_some, is_some-map, rows-get, names-are}
 use Rattle.hd_world.proofs.NamedAddresses.{known_object, some_or, generation-is}
 use Rattle.hd_world.proofs.EntryReadings.{handles-get, weak-get, unheld-put, unheld-end, weak-put, weak-end, tied-agrees}
-use Rattle.hd_model.proofs.ReadAfterWrite.{get_left}
 use Rattle.hd_model.specs.declared.data.Kind.TheVariants as kind
 
 -- the parts with another table
@@ -99,8 +90,7 @@ KeepsHeld f t = (slot : ℕ) (key : Option Id) → get f.weak.held slot ≡ Some
     → get t.rows slot ≡ get f.table.rows slot
 
 pub stored-rows : (f : Parts) (t : Table) (ages : List ℕ) → IsStored f → t.blocks ≡ f.table.blocks
-    → HasUses t.uses t.blocks
-    → length f.ages ≡ length ages
+    → HasUses t.uses t.blocks → length f.ages ≡ length ages
     → ((slot : ℕ) (row : Handle Addr) → get t.rows slot ≡ Some row → IsStorable
     (record f { ages = ages }) slot row)
     → KeepsHeld f t → IsStored (record f { table = t; ages = ages })
@@ -307,8 +297,7 @@ module _ (f : Parts) (m : Machine) (view : machine_of f ≡ m) where
     where
       by : (o : Option (Option Id)) → get f.weak.held slot.0 ≡ o → get f.weak.held slot.0 ≡ None
       by None is = is
-      by (Some key) is = absurd
-          (subst T (sym (sym (ap is_some (held-read slot (ap is_some is))) ∙ live)) tt)
+      by (Some key) is = absurd (subst T (sym (sym (ap is_some (held-read slot (ap is_some is))) ∙ live)) tt)
 
   pub not-held : (slot : Slot) → get m.state.weak slot.0 ≡ None → get f.weak.held slot.0 ≡ None
   not-held slot none = by (get f.weak.held slot.0) refl
@@ -396,13 +385,9 @@ grown_uses : (t : Table) (k : Kind) (g : Grown) → IsGrowth t k g → HasGoodUs
 grown_uses t k Zero grows uses = elim grows [ ]
 grown_uses t k (One b) grows uses = record {
   within = within_insert t.uses b t.blocks (handles_of k) (grows.1.low, grows.1.high) uses.within;
-  extras = omega (
-    arith,
-    none_dependent k grows.0,
-    uses.extras,
-    use_added one_dependent t.uses b (handles_of k) grows.1.unused,
-    use_added one_extra t.uses b (handles_of k) grows.1.unused,
-  );
+  extras = (let known = use_added one_dependent t.uses b (handles_of k) grows.1.unused in
+      let also = use_added one_extra t.uses b (handles_of k) grows.1.unused in
+      omega (arith, none_dependent k grows.0, uses.extras, known, also));
 }
 grown_uses t k (Two b d) grows uses =
     let more = insert t.uses b (handles_of k) in
@@ -456,13 +441,9 @@ stored-back f t k block stored single is =
     subst (λ u. IsStored (with_table f u)) (sym is)
     (stored-same f (without_block f.table k block) stored refl refl (record {
       within = back_within f.table.uses block f.table.blocks stored.uses.within;
-      extras = omega (
-        arith,
-        stored.uses.extras,
-        no_extra (get f.table.uses block) single,
-        sum-remove one_dependent f.table.uses block,
-        sum-remove one_extra f.table.uses block,
-      );
+      extras = (let known = no_extra (get f.table.uses block) single in
+          let also = sum-remove one_dependent f.table.uses block in
+          omega (arith, stored.uses.extras, known, also, sum-remove one_extra f.table.uses block));
     }))
 
 -- what a use is of: a block that is none of the table's has none

@@ -1,57 +1,88 @@
 -- What the proofs cite of std, of the machine and of the store, passed on from one place. Declares nothing.
-pub use Rattle.std.proofs.Common.{ℕ, List, sym, ◌∙◌, arith, ◌≡◌, ◌≤◌, true, Option, Some, None, refl, ap, subst, ◌+◌, ◌*◌, ◌<◌, map, length, get_or, set, inl, inr, ◌⊎◌, cond, false, ◌/◌, Bool, not, ◌||◌, ◌≢◌, ◌&&◌, T, [], ◌∷◌, ⊎_elim, length-append, nat_le, zero, suc, replicate, ◌-◌, take, drop, ◌^◌, ◌++◌, Result, Ok, Err, IfOk, Vec, Global, All, nat_lt, slice_set}
-pub use Rattle.std.specs.Prelude.{option_map, IfSome, Contains, unwrap_or, IsSome, is_some, OnErr, if◌then◌else◌, sum_by, filter, AllPairs, slice_index, max, MatchResult, option_and_then, MatchOption, is_none}
-pub use Rattle.std.specs.Option.{option_map_or, option_to_list, option_or}
-pub use Rattle.std.specs.FinMap.{get, FinMap, insert, empty, remove, get-remove, keys, entries, entries_sorted, is_sorted, len, len-entries, values, len-insert, get-retain_keys, nat_cmp-IsAntisymmetric, from_entries, get-empty, len-empty, from_sorted, entries-from_sorted, get-entries, get-from_sorted, get-from_entries, find, get-insert, same_map}
-pub use Rattle.std.specs.Ordering.{nat_cmp, eq_by_cmp, is_lt}
-pub use Rattle.std.specs.Cmp.{nat_cmp_total, unsigned_tied}
-pub use Rattle.std.proofs.lemmas.Bool.{cases_eq, true≢false, lt-ltb, eq-eqb, false≢true, le-ltb, ne_eqb, cases_order}
-pub use Rattle.std.proofs.lemmas.List.{length-set, map-set, get_or_default, get_or-set_same, get_or-set_other, length-map, length-replicate, get_or-take, get_or-drop, take-set-le, drop-set-lt, drop-set-add, take-append-drop, append_assoc, map-append}
-pub use Rattle.std.proofs.lemmas.Option.{same_Some}
-pub use Rattle.hd_model.proofs.ReadAfterWrite.{get_inserted, get_beside}
-pub use Rattle.hd_model.specs.declared.data.Addr.{Addr}
-pub use Rattle.hd_model.specs.declared.data.Slot.{Slot}
-pub use Rattle.hd_model.specs.declared.data.Kind.{Kind}
-pub use Rattle.hd_model.specs.declared.data.Id.{Id}
-pub use Rattle.hd_model.specs.declared.data.Entry.{Entry}
-pub use Rattle.hd_model.specs.declared.command.Cmd.{Cmd}
-pub use Rattle.hd_model.specs.declared.data.Grown.{Grown}
-pub use Rattle.hd_model.specs.declared.data.Make.{Make}
-pub use Rattle.hd_model.specs.declared.data.Refusal.{Refusal}
-pub use Rattle.hd_model.specs.declared.data.Report.{Report}
-pub use Rattle.hd_model.specs.declared.data.Reply.{Reply}
-pub use Rattle.hd_model.specs.declared.data.RootId.{RootId}
-pub use Rattle.hd_model.specs.State.{Extra, nothing, strength, secondary, count, Handle, secondary_of, handle_at, use_of, block_of, rename_handle, register_of, static_of, with_register, with_static, Numbers, State, BlockUse, handles_of, extra_data, with_handle, without_handle, Object, rename_object, given_of, first_slot, IsFree, object_by_id, field_of, last_serial, identity_of, with_object, with_serial, total_size, start_of, size_of, handle_register_of, with_place, with_queue, rename_extra, without_use, count_of, WeakEntry, weak_handle, row_of, with_weak}
-pub use Rattle.hd_model.specs.Scene.{is_object, generation_at, fields_in, IsField, generation_in, fields_at, scene_of, joined, IsReading}
-pub use Rattle.hd_model.specs.Heap.{object_at, id_at, has_object, Heap, Placed, card_of, placed_at, region_generation, object_in, id_in, HasIdentities, cells_of, used_of, Region, region_at, is_in_use, is_carded}
 unfoldable pub use Rattle.hd_model.specs.Heap.{region_of}
-pub use Rattle.hd_model.specs.Table.{IsTable, fits, Table, kind_in, kind_at, live_at, is_single, grown_by, IsGrowth, without_block, with_row, without_row, chain_of, Queue, row_at, empty_table, fits_in}
-pub use Rattle.hd_model.specs.Ages.{clump_of, lowered, age_of, clumps_of, visits, HasSoundCards}
-pub use Rattle.hd_model.specs.Aging.{lowered_to, lowered_at, lowered_by_new, AgedRun, aged_by}
-pub use Rattle.hd_model.specs.Role.{role, attaches, pins, Role, holds, short, long}
-pub use Rattle.hd_model.specs.Kinds.{is_paired, secondary_register, kind_number, kind_of}
-pub use Rattle.hd_model.specs.Reach.{IsPinned}
-pub use Rattle.hd_model.specs.Step.{pinned_target, blocks_needed, IsLeastUnused, with_growth, Step, StepOf, IsOutcome, AnswersPlace, pinned_by}
-pub use Rattle.hd_model.specs.Places.{is_pinned, with_places, IsFreePlace, range_at, Meet, MayAnswer}
-pub use Rattle.hd_model.specs.Command.{fresh_object, Outcome, answers, refuses, answer_place}
-pub use Rattle.hd_model.specs.WellFormed.{HasHandles, HasWeakTable, IsWellFormed}
-pub use Rattle.hd_model.specs.Text.{is_collect, collections_of}
-pub use Rattle.hd_model.specs.Valid.{IsValid}
-pub use Rattle.hd_model.specs.Touched.{touched_by}
-pub use Rattle.hd_model.specs.Class.{class_of}
-pub use Rattle.hd_model.specs.Run.{Run, stay}
-pub use Rattle.hd_world.specs.Stored.{Parts, IsTied, HasUses, one_dependent, one_extra, IsStored, callers_of, state_of, scene_of_parts, numbers_of}
-pub use Rattle.hd_cwt.specs.WeakTable.{WeakTable}
-pub use Rattle.hd_world.specs.StoreParts.{parts}
-pub use Rattle.hd_world.specs.Store.{Machine, machine_of, IsOverHeap, without_spare}
-pub use Rattle.hd_world.specs.Reading.{IsNamed, named_in, read_object, name_in, unheld, entry_named}
 unfoldable pub use Rattle.hd_world.specs.Reading.{names_of, objects_by_id, rows_by_id, weak_by_id}
 unfoldable pub use Rattle.hd_world.specs.Rows.{rows_of, rest_of}
-pub use Rattle.hd_world.specs.Objects.{object_named, IsObjectRefused}
-pub use Rattle.hd_world.specs.Handles.{handle_named, MayBeStored}
-pub use Rattle.hd_world.specs.Places.{AreAddresses, KeepsPlaces, KeepsNames, Moves, HasPlace, HasNames, kept_places, HasCollected}
-pub use Rattle.hd_world.specs.StateHeap.{IsStoredAt, IsOfHeap, LeavesHeap, IsCompactStore}
-pub use Rattle.hd_world.specs.World.{HasLimits, Asks, object_room, handle_slot, block_back, no_room, asks_of, MayOffer, IsOffer, GrowsFor, GrowsUnoffered, WorldView, RanOut}
-pub use Rattle.hd_world.specs.Growth.{kind_in_use, GrowsBy}
-pub use Rattle.hd_world.specs.Visited.{has_kind, blocks_of, due_in, CollectedSteps, key_register, looked_up, entries_beside, SearchSteps, TakesSteps}
-pub use Rattle.hd_world.specs.Commands.{pinned_in, entry_of, done_of, MayRun, HasRun, IsPlainStep, live_in}
+pub use Rattle.std.proofs.Common.{All, Bool, Err, Global, IfOk, List, None, Ok, Option, Result, Some, T, Vec, [], ap, arith, cond, drop, false, get_or, inl, inr, length, length-append, map, nat_le, nat_lt, not, refl, replicate, set, slice_set, subst, suc, sym, take, true, zero, ℕ, ⊎_elim, ◌&&◌, ◌*◌, ◌++◌, ◌+◌, ◌-◌, ◌/◌, ◌<◌, ◌^◌, ◌||◌, ◌∙◌, ◌∷◌, ◌≡◌, ◌≢◌, ◌≤◌, ◌⊎◌}
+pub use Rattle.std.proofs.lemmas.Bool.{cases_eq, cases_order, eq-eqb, false≢true, le-ltb, lt-ltb, ne_eqb, true≢false}
+pub use Rattle.std.proofs.lemmas.List.{append_assoc, drop-set-add, drop-set-lt, get_or-drop, get_or-set_other, get_or-set_same, get_or-take, get_or_default, length-map, length-replicate, length-set, map-append, map-set, take-append-drop, take-set-le}
+pub use Rattle.std.proofs.lemmas.List.Elements.{All-append, All-cons, All-nil, Contains-append_left, Contains-append_right, Contains-get_or}
+pub use Rattle.std.proofs.lemmas.List.Sums.{sum_by-cons, sum_by_more}
+pub use Rattle.std.proofs.lemmas.Option.{same_Some}
+pub use Rattle.std.specs.Cmp.{nat_cmp_total, unsigned_tied}
+pub use Rattle.std.specs.FinMap.{FinMap, empty, entries, entries-from_sorted, entries_sorted, find, from_entries, from_sorted, get, get-empty, get-entries, get-from_entries, get-from_sorted, get-insert, get-remove, get-retain_keys, insert, is_sorted, keys, len, len-empty, len-entries, len-insert, nat_cmp-IsAntisymmetric, remove, retain_keys, same_map, values}
+pub use Rattle.std.specs.FinMap.Entries.{below_all, find-where_key, is_sorted-where_key, where_key}
+pub use Rattle.std.specs.List.{range_with_len, slice_get}
+pub use Rattle.std.specs.Option.{option_map_or, option_or, option_to_list}
+pub use Rattle.std.specs.Ordering.{eq_by_cmp, is_lt, nat_cmp}
+pub use Rattle.std.specs.Prelude.{AllPairs, Contains, IfSome, IsNone, IsSome, MatchOption, MatchResult, OnErr, filter, if◌then◌else◌, is_none, is_some, max, option_and_then, option_map, slice_index, sum_by, unwrap_or, ◌%◌, ◌↔◌}
+pub use Rattle.hd_cwt.specs.WeakTable.{HasKey, IsIdle, IsLeastIdle, IsWeakTable, WeakTable, bucket_of, entries_in, is_in_bucket, kept_key}
+pub use Rattle.hd_gc.specs.Collected.{Collected}
+pub use Rattle.hd_heap.proofs.HeapValues.{not_there, same_address}
+pub use Rattle.hd_heap.specs.Calls.{IsMade, empty_heap, is_younger, new_object, with_field}
+pub use Rattle.hd_model.proofs.AgedRuns.{nothing_at}
+pub use Rattle.hd_model.proofs.Ages.{lowered_below, lowered_here}
+pub use Rattle.hd_model.proofs.MapEntries.{below, both, counts_keys, found_first, found_later, get_entry, keys_apart, some_value}
+pub use Rattle.hd_model.proofs.KindTests.{made_secondary, same_kind}
+pub use Rattle.hd_model.proofs.Members.{first_in, later_in, mapped_in, member_cases, not_in_none, pairs_passing, passing_from, passing_in}
+pub use Rattle.hd_model.proofs.PinTest.{pinned_decides}
+pub use Rattle.hd_model.proofs.PropertyCounts.{counts_named, fewer}
+pub use Rattle.hd_model.proofs.ReadAfterWrite.{get_beside, get_inserted, get_left}
+pub use Rattle.hd_model.proofs.RenamedPins.{pins_renamed, role_renamed}
+pub use Rattle.hd_model.proofs.Sums.{first_alone, share, sum-insert, sum-remove}
+pub use Rattle.hd_model.proofs.WeakSlots.{idle_found, key_found, key_none, where_least, where_none}
+pub use Rattle.hd_model.specs.Ages.{HasSoundCards, age_of, clump_of, clumps_of, lowered, visits}
+pub use Rattle.hd_model.specs.Aging.{AgedRun, aged_by, lowered_at, lowered_by_new, lowered_to}
+pub use Rattle.hd_model.specs.Class.{class_of}
+pub use Rattle.hd_model.specs.Collect.{Collects, CollectsState, cleared, is_lost, swept}
+pub use Rattle.hd_model.specs.Command.{Outcome, answer_place, answers, entry_value, fresh_object, idle_slot, is_idle, refuses, slot_of_key, value_at}
+pub use Rattle.hd_model.specs.Heap.{HasIdentities, Heap, Placed, Region, card_of, cells_of, has_object, id_at, id_in, is_carded, is_in_use, object_at, object_in, placed_at, region_at, region_generation, used_of}
+pub use Rattle.hd_model.specs.Kinds.{is_kind, is_paired, kind_number, kind_of, secondary_register}
+pub use Rattle.hd_model.specs.Places.{IsFreePlace, MayAnswer, Meet, is_pinned, range_at, with_places}
+pub use Rattle.hd_model.specs.Reach.{IsPinned}
+pub use Rattle.hd_model.specs.Role.{Role, attaches, holds, long, pins, role, role_of, short}
+pub use Rattle.hd_model.specs.RootText.{held_by, held_of, root_id, root_in, roots_in, roots_of}
+pub use Rattle.hd_model.specs.Run.{Run, stay}
+pub use Rattle.hd_model.specs.Scene.{IsField, IsReading, Scene, fields_at, fields_in, generation_at, generation_in, is_object, joined, scene_of}
+pub use Rattle.hd_model.specs.State.{BlockUse, Extra, Handle, IsFree, Numbers, Object, State, WeakEntry, block_of, count, count_of, extra_data, field_of, first_slot, given_of, handle_at, handle_register_of, handles_of, identity_of, last_serial, nothing, object_by_id, register_of, rename_extra, rename_handle, rename_object, row_of, secondary, secondary_of, size_of, start_of, static_of, strength, total_size, use_of, weak_handle, with_handle, with_object, with_place, with_queue, with_register, with_serial, with_static, with_weak, without_handle, without_use}
+pub use Rattle.hd_model.specs.Step.{AnswersPlace, IsLeastUnused, IsOutcome, Step, StepOf, blocks_needed, pinned_by, pinned_target, with_growth}
+pub use Rattle.hd_model.specs.Table.{IsGrowth, IsTable, Queue, Table, chain_of, empty_table, fits, fits_in, grown_by, is_secondary, is_single, kind_at, kind_in, live_at, row_at, with_row, without_block, without_row}
+pub use Rattle.hd_model.specs.Text.{collections_of, is_collect}
+pub use Rattle.hd_model.specs.Touched.{touched_by}
+pub use Rattle.hd_model.specs.Valid.{IsValid}
+pub use Rattle.hd_model.specs.WellFormed.{HasHandles, HasWeakTable, IsWellFormed}
+pub use Rattle.hd_model.specs.declared.command.Cmd.{Cmd}
+pub use Rattle.hd_model.specs.declared.data.Addr.{Addr}
+pub use Rattle.hd_model.specs.declared.data.Entry.{Entry}
+pub use Rattle.hd_model.specs.declared.data.Grown.{Grown}
+pub use Rattle.hd_model.specs.declared.data.Grown.TheVariants.{Back, One, Two, Zero}
+pub use Rattle.hd_model.specs.declared.data.Id.{Id}
+pub use Rattle.hd_model.specs.declared.data.Kind.{Kind}
+pub use Rattle.hd_model.specs.declared.data.Kind.TheVariants.{Dependent, Short}
+pub use Rattle.hd_model.specs.declared.data.Make.{Make}
+pub use Rattle.hd_model.specs.declared.data.Refusal.{Refusal}
+pub use Rattle.hd_model.specs.declared.data.Reply.{Reply}
+pub use Rattle.hd_model.specs.declared.data.Report.{Report}
+pub use Rattle.hd_model.specs.declared.data.RootId.{RootId}
+pub use Rattle.hd_model.specs.declared.data.Slot.{Slot}
+pub use Rattle.hd_plan.specs.Plan.{HasNoEmptyRegion}
+pub use Rattle.hd_scan.specs.declared.gathering.Root.{Root}
+pub use Rattle.hd_seg.specs.Row.{extra_from, extra_of, handle_of}
+pub use Rattle.hd_seg.specs.declared.row.Row.{Row}
+pub use Rattle.hd_world.specs.Commands.{HasRun, IsPlainStep, MayRun, done_of, entry_of, live_in, pinned_in}
+pub use Rattle.hd_world.specs.Entries.{MayHaveEntry, entry_at}
+pub use Rattle.hd_world.specs.Growth.{GrowsBy, kind_in_use}
+pub use Rattle.hd_world.specs.Handles.{MayBeStored, handle_named}
+pub use Rattle.hd_world.specs.Listing.{root_named}
+pub use Rattle.hd_world.specs.Making.{IsMadeRow, IsPlace}
+pub use Rattle.hd_world.specs.Objects.{IsObjectRefused, object_named}
+pub use Rattle.hd_world.specs.Placed.{IsTrueRun, same_places}
+pub use Rattle.hd_world.specs.Places.{AreAddresses, HasCollected, HasNames, HasPlace, KeepsNames, KeepsPlaces, Moves, kept_places}
+pub use Rattle.hd_world.specs.Reading.{IsNamed, entry_named, name_in, named_in, read_object, unheld}
+pub use Rattle.hd_world.specs.StateHeap.{IsCompactStore, IsOfHeap, IsStoredAt, LeavesHeap}
+pub use Rattle.hd_world.specs.Store.{IsOverHeap, Machine, machine_of, without_spare}
+pub use Rattle.hd_world.specs.StoreParts.{parts}
+pub use Rattle.hd_world.specs.Stored.{HasUses, IsStored, IsTied, Parts, callers_of, numbers_of, one_dependent, one_extra, scene_of_parts, state_of}
+pub use Rattle.hd_world.specs.Visited.{CollectedSteps, SearchSteps, TakesSteps, blocks_of, due_in, entries_beside, has_kind, key_register, looked_up, steps_by}
+pub use Rattle.hd_world.specs.World.{Asks, GrowsFor, GrowsUnoffered, HasLimits, IsOffer, MayOffer, RanOut, WorldView, asks_of, block_back, handle_slot, no_room, object_room}
+pub use Rattle.hd_world.specs.declared.done.Done.{Done}
+pub use Rattle.hd_world.specs.declared.store.Store.TheInside.{Inside}

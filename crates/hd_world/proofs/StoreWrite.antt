@@ -1,13 +1,10 @@
 -- Another object with the same identity at an address of a store: what the machine sees, and that the store
 -- keeps what it keeps.
-use Rattle.hd_world.proofs.StoreWords.{◌≡◌, ℕ, ◌+◌, ◌<◌, ◌≤◌, true, cond, map, length, Some, refl, sym, ap, ◌∙◌, ◌⊎◌, subst, inl, inr, arith, option_map, is_some, IsSome, Contains, sum_by, get, insert, values, len, len-insert, nat_cmp_total, cases_eq, Id, Addr, Object, with_object, is_object, fields_in, generation_in, generation_at, IsField, Placed, Heap, region_generation, region_of, is_in_use, object_in, object_at, has_object, placed_at, cells_of, is_carded, used_of, HasSoundCards, age_of, rows_of, rest_of, read_object, name_in, Parts, callers_of, state_of, IsStored, Machine, machine_of, without_spare, object_named, get_beside, get_inserted, unheld}
-use Rattle.hd_plan.specs.Plan.{HasNoEmptyRegion}
+use Rattle.hd_world.proofs.StoreWords.{Addr, Contains, HasNoEmptyRegion, HasSoundCards, Heap, Id, IsField, IsSome, IsStored, Machine, Object, Parts, Placed, Some, age_of, ap, arith, callers_of, cases_eq, cells_of, cond, fields_in, generation_at, generation_in, get, get_beside, get_inserted, has_object, inl, inr, insert, is_carded, is_in_use, is_object, is_some, len, len-insert, length, machine_of, map, name_in, nat_cmp_total, object_at, object_in, object_named, option_map, placed_at, read_object, refl, region_generation, region_of, rest_of, rows_of, same_address, share, state_of, subst, sum-insert, sum_by, sym, true, unheld, used_of, values, with_object, without_spare, ℕ, ◌+◌, ◌<◌, ◌∙◌, ◌≡◌, ◌≤◌, ◌⊎◌}
 use Rattle.hd_heap.specs.Calls.{with_object as with_placed}
 use Rattle.hd_world.proofs.NamedAddresses.{in_heap, placed_is, object_is, identity-is, named_object}
-use Rattle.hd_model.proofs.Sums.{share, sum-insert}
 use Rattle.hd_world.proofs.IdentityReadings.{Replaces, ids-replace, names-replace, rows-replace, weak-replace, identities-replace, objects-replace}
 use Rattle.hd_world.proofs.EntryReadings.{tied-agrees}
-use Rattle.hd_heap.proofs.HeapValues.{same_address}
 
 -- the heap k is h with another object of the same size at an address, which references objects, and with the
 -- cards that it needs

@@ -1,11 +1,7 @@
 -- What a command of a world does.
 use Rattle.std.specs.Prelude.{[], ◌≡◌, ℕ, ◌+◌, ◌∷◌, ◌++◌, Option}
 use Rattle.std.specs.Option.{ForSome}
-use Rattle.hd_model.specs.declared.data.Entry.{Entry}
-use Rattle.hd_model.specs.declared.data.Slot.{Slot}
-use Rattle.hd_model.specs.declared.command.Cmd.{Cmd}
-use Rattle.hd_model.specs.Step.{Step}
-use Rattle.hd_model.specs.Aging.{aged_by}
+use Rattle.hd_model.specs.{declared.data.Entry.Entry, declared.data.Slot.Slot, declared.command.Cmd.Cmd, Step.Step, Aging.aged_by}
 use Rattle.hd_world.specs.World.{WorldView, GrowsWithout, Takes}
 use Rattle.hd_world.specs.StateHeap.{KeepsAddresses, LeavesHeap}
 

@@ -1,33 +1,11 @@
 -- What a command returns, and how it leaves the store.
 use Rattle.std.specs.Prelude.{◌≡◌, ℕ, ◌+◌, ◌<◌, ◌^◌, false, Result, Ok, Err, Option, None, List, if◌then◌else◌}
-use Rattle.std.specs.Option.{option_map_or, ForSome}
-use Rattle.std.specs.FinMap.{get}
-use Rattle.hd_model.specs.declared.data.Id.{Id}
-use Rattle.hd_model.specs.declared.data.Addr.{Addr}
-use Rattle.hd_model.specs.declared.data.Slot.{Slot}
-use Rattle.hd_model.specs.declared.data.Refusal.{Refusal}
-use Rattle.hd_model.specs.declared.data.Reply.{Reply}
-use Rattle.hd_model.specs.declared.data.Entry.{Entry}
-use Rattle.hd_model.specs.declared.command.Cmd.{Cmd}
+use Rattle.std.specs.{Option.option_map_or, Option.ForSome, FinMap.get}
+use Rattle.hd_model.specs.{declared.data.Id.Id, declared.data.Addr.Addr, declared.data.Slot.Slot, declared.data.Refusal.Refusal, declared.data.Reply.Reply, declared.data.Entry.Entry, declared.command.Cmd.Cmd, declared.data.Grown.TheVariants.Zero, Touched.touched_by, Step.StepOf, Aging.aged_by, Valid.IsValid, WellFormed.HasHandles, WellFormed.HasWeakTable, Command.Outcome, Role.pins}
 use Rattle.hd_model.specs.declared.data.Refusal.TheVariants as refusal
 use Rattle.hd_model.specs.declared.data.Reply.TheVariants as reply
-use Rattle.hd_model.specs.declared.data.Grown.TheVariants.{Zero}
-use Rattle.hd_model.specs.Touched.{touched_by}
 use Rattle.hd_model.specs.State.{State, Handle, handle_register_of, handle_at, last_serial, identity_of}
-use Rattle.hd_model.specs.Step.{StepOf}
-use Rattle.hd_model.specs.Aging.{aged_by}
-use Rattle.hd_model.specs.Valid.{IsValid}
-use Rattle.hd_model.specs.WellFormed.{HasHandles, HasWeakTable}
-use Rattle.hd_model.specs.Command.{Outcome}
-use Rattle.hd_model.specs.Role.{pins}
-use Rattle.hd_world.specs.declared.handles.Live.{Live}
-use Rattle.hd_world.specs.declared.done.CallerCommand.{CallerCommand}
-use Rattle.hd_world.specs.declared.done.Done.{Done}
-use Rattle.hd_world.specs.Counts.{HasSmallCounts}
-use Rattle.hd_world.specs.Handles.{handle_named}
-use Rattle.hd_world.specs.Places.{HasNames}
-use Rattle.hd_world.specs.Reading.{name_in}
-use Rattle.hd_world.specs.Store.{Machine}
+use Rattle.hd_world.specs.{declared.handles.Live.Live, declared.done.CallerCommand.CallerCommand, declared.done.Done.Done, Counts.HasSmallCounts, Handles.handle_named, Places.HasNames, Reading.name_in, Store.Machine}
 use Rattle.hd_world.specs.World.{IsOffer, GrowsUnoffered, Takes}
 
 -- the entry of a command that came to something

@@ -1,13 +1,7 @@
 -- Entries of the weak table of a store, by address.
 use Rattle.std.specs.Prelude.{◌≡◌, Option, None, IsSome}
-use Rattle.std.specs.FinMap.{FinMap, get}
-use Rattle.std.specs.Ordering.{nat_cmp}
-use Rattle.hd_model.specs.declared.data.Id.{Id}
-use Rattle.hd_model.specs.declared.data.Addr.{Addr}
-use Rattle.hd_model.specs.declared.data.Slot.{Slot}
-use Rattle.hd_model.specs.State.{WeakEntry}
-use Rattle.hd_model.specs.Ages.{age_of}
-use Rattle.hd_model.specs.Command.{slot_of_key}
+use Rattle.std.specs.{FinMap.FinMap, FinMap.get, Ordering.nat_cmp}
+use Rattle.hd_model.specs.{declared.data.Id.Id, declared.data.Addr.Addr, declared.data.Slot.Slot, State.WeakEntry, Ages.age_of, Command.slot_of_key}
 use Rattle.hd_world.specs.Store.{Machine}
 use Rattle.hd_world.specs.Reading.{name_in, named_in, IsNamed}
 

@@ -1,11 +1,8 @@
 -- By which blocks a table grows, in the words of the machine.
 use Rattle.std.specs.Prelude.{◌≡◌, ◌+◌, true, false, Option, Some, None}
-use Rattle.hd_model.specs.declared.data.Kind.{Kind}
-use Rattle.hd_model.specs.declared.data.Grown.{Grown}
+use Rattle.hd_model.specs.{declared.data.Kind.Kind, declared.data.Grown.Grown, Kinds.is_paired, Step.IsLeastUnused}
 use Rattle.hd_model.specs.declared.data.Grown.TheVariants.{Zero, One, Two, Back}
 use Rattle.hd_model.specs.State.{Numbers, State, BlockUse, handles_of, extra_data}
-use Rattle.hd_model.specs.Kinds.{is_paired}
-use Rattle.hd_model.specs.Step.{IsLeastUnused}
 
 -- the least unused block, and for a kind with extra data the next one too
 abbrev pub GrowsBy : Numbers → State → Kind → Grown → Type 0

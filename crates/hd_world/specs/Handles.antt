@@ -1,16 +1,9 @@
 -- Rows of a store, in the words of the machine.
 use Rattle.std.specs.Prelude.{◌≡◌, ◌≤◌, true, None, IfSome}
-use Rattle.hd_model.specs.declared.data.Id.{Id}
-use Rattle.hd_model.specs.declared.data.Slot.{Slot}
-use Rattle.hd_model.specs.declared.data.Kind.{Kind}
+use Rattle.hd_model.specs.{declared.data.Id.Id, declared.data.Slot.Slot, declared.data.Kind.Kind, Ages.age_of, Table.fits}
 use Rattle.hd_model.specs.State.{Handle, secondary_of, rename_handle}
-use Rattle.hd_model.specs.Ages.{age_of}
-use Rattle.hd_model.specs.Table.{fits}
-use Rattle.hd_seg.specs.declared.row.Row.{Row}
-use Rattle.hd_seg.specs.Row.{handle_of, extra_of}
-use Rattle.hd_world.specs.Store.{Machine}
-use Rattle.hd_world.specs.Reading.{name_in, IsNamed}
-use Rattle.hd_world.specs.Objects.{object_named}
+use Rattle.hd_seg.specs.{declared.row.Row.Row, Row.handle_of, Row.extra_of}
+use Rattle.hd_world.specs.{Store.Machine, Reading.name_in, Reading.IsNamed, Objects.object_named}
 
 -- the handle of a kind that a row is, with its addresses read as identities
 abbrev pub handle_named : Machine → Kind → Row → Handle Id

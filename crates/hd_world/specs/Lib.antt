@@ -19,3 +19,4 @@ pub mod Commands
 pub mod Counts
 pub mod Making
 pub mod Listing
+pub mod Anchors

@@ -1,6 +1,5 @@
 -- The roots of a store, with the identities of their objects.
-use Rattle.hd_model.specs.declared.data.RootId.{RootId}
-use Rattle.hd_model.specs.Heap.{Heap, id_at}
+use Rattle.hd_model.specs.{declared.data.RootId.RootId, Heap.Heap, Heap.id_at}
 use Rattle.hd_scan.specs.declared.gathering.Root.{Root}
 
 -- a root with the identity of its object

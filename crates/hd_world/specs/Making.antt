@@ -1,20 +1,10 @@
 -- The slot and the row of a new handle.
 use Rattle.std.specs.Prelude.{◌≡◌, ◌≢◌, ℕ, ◌+◌, ◌≤◌, true, Option, None, IfSome}
-use Rattle.hd_model.specs.declared.data.Slot.{Slot}
-use Rattle.hd_model.specs.declared.data.Kind.{Kind}
-use Rattle.hd_model.specs.declared.data.Make.{Make}
-use Rattle.hd_model.specs.declared.data.Grown.{Grown}
-use Rattle.hd_model.specs.declared.data.Grown.TheVariants.{Zero}
+use Rattle.hd_model.specs.{declared.data.Slot.Slot, declared.data.Kind.Kind, declared.data.Make.Make, declared.data.Grown.Grown, declared.data.Grown.TheVariants.Zero, Kinds.kind_of, Command.made_handle, Table.fits}
 use Rattle.hd_model.specs.State.{given_of, block_of, secondary_of, IsFree, register_of}
-use Rattle.hd_model.specs.Kinds.{kind_of}
 use Rattle.hd_model.specs.Step.{blocks_needed, with_growth, MayGive}
-use Rattle.hd_model.specs.Command.{made_handle}
-use Rattle.hd_model.specs.Table.{fits}
-use Rattle.hd_seg.specs.declared.row.Row.{Row}
-use Rattle.hd_seg.specs.Row.{extra_of}
-use Rattle.hd_world.specs.Reading.{named_in, IsNamed}
-use Rattle.hd_world.specs.Store.{Machine}
-use Rattle.hd_world.specs.Handles.{handle_named}
+use Rattle.hd_seg.specs.{declared.row.Row.Row, Row.extra_of}
+use Rattle.hd_world.specs.{Reading.named_in, Reading.IsNamed, Store.Machine, Handles.handle_named}
 
 -- a slot that a new handle may get, which is free once the table has grown; an offered one is taken without
 -- growth

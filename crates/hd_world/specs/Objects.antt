@@ -1,12 +1,9 @@
 -- Objects of a store, by address.
 use Rattle.std.specs.Prelude.{◌≡◌, ℕ, ◌+◌, ◌<◌, ◌≤◌}
-use Rattle.hd_model.specs.declared.data.Id.{Id}
-use Rattle.hd_model.specs.declared.data.Addr.{Addr}
-use Rattle.hd_heap.specs.declared.fault.NewFault.{NewFault}
-use Rattle.hd_heap.specs.declared.fault.NewFault.TheVariants.{Full, Memory}
+use Rattle.hd_model.specs.{declared.data.Id.Id, declared.data.Addr.Addr}
+use Rattle.hd_heap.specs.{declared.fault.NewFault.NewFault, declared.fault.NewFault.TheVariants.Full, declared.fault.NewFault.TheVariants.Memory}
 use Rattle.hd_model.specs.State.{Object, object_by_id, total_size}
-use Rattle.hd_world.specs.Store.{Machine}
-use Rattle.hd_world.specs.Reading.{name_in}
+use Rattle.hd_world.specs.{Store.Machine, Reading.name_in}
 
 -- the object at an address
 abbrev pub object_named : Machine → Addr → Object Id

@@ -1,18 +1,12 @@
 -- The pinned addresses of a world: those that its journal returned, which are one map.
 use Rattle.std.specs.Prelude.{◌≡◌, ℕ, List}
-use Rattle.std.specs.Coded.{Coded-set, coded_ℕ}
-use Rattle.std.specs.FinMap.{FinMap}
+use Rattle.std.specs.{Coded.Coded-set, Coded.coded_ℕ, FinMap.FinMap, Ordering.nat_cmp}
 use Rattle.std.specs.FinMap as map
-use Rattle.std.specs.Ordering.{nat_cmp}
 use mathlib.Core.HLevel.{Σ_prop_path}
 use Rattle.std.proofs.Math.Logic.{∥∥₁_prop, ∥∥₁_elim}
-use Rattle.hd_model.specs.declared.data.Entry.{Entry}
-use Rattle.hd_model.specs.Places.{with_places}
-use Rattle.hd_model.specs.Aging.{AgedRun}
+use Rattle.hd_model.specs.{declared.data.Entry.Entry, Places.with_places, Aging.AgedRun}
 use Rattle.hd_model.proofs.Journals.{one_places}
-use Rattle.hd_world.specs.Store.{Machine}
-use Rattle.hd_world.specs.Places.{AreAddresses}
-use Rattle.hd_world.specs.World.{HasLimits}
+use Rattle.hd_world.specs.{Store.Machine, Places.AreAddresses, World.HasLimits}
 
 -- with these pinned addresses a journal leads to the state of a store and leaves its ages, and each is that
 -- of its object; the numbers are within the limits

@@ -2,21 +2,10 @@
 use Rattle.std.specs.Prelude.{◌≡◌, ◌↔◌, ℕ, Bool, true, false, Some}
 use Rattle.std.specs.FinMap.{FinMap, get, insert, retain_keys}
 use Rattle.std.specs.Ordering.{nat_cmp}
-use Rattle.hd_model.specs.declared.data.Id.{Id}
-use Rattle.hd_model.specs.declared.data.Addr.{Addr}
-use Rattle.hd_model.specs.declared.data.Entry.{Entry}
-use Rattle.hd_model.specs.declared.data.Report.{Report}
-use Rattle.hd_model.specs.State.{State}
+use Rattle.hd_model.specs.{declared.data.Id.Id, declared.data.Addr.Addr, declared.data.Entry.Entry, declared.data.Report.Report, State.State, Step.Step, Aging.aged_by, Ages.grown, Collect.CollectsState, Heap.is_set}
 use Rattle.hd_model.specs.Places.{is_pinned, with_places, MayAnswer}
-use Rattle.hd_model.specs.Step.{Step}
-use Rattle.hd_model.specs.Aging.{aged_by}
-use Rattle.hd_model.specs.Ages.{grown}
-use Rattle.hd_model.specs.Collect.{CollectsState}
-use Rattle.hd_model.specs.Heap.{is_set}
 use Rattle.hd_plan.specs.Commit.{NeedsCard}
-use Rattle.hd_world.specs.Reading.{name_in}
-use Rattle.hd_world.specs.Store.{Machine}
-use Rattle.hd_world.specs.StateHeap.{IsCompactStore, LeavesHeap}
+use Rattle.hd_world.specs.{Reading.name_in, Store.Machine, StateHeap.IsCompactStore, StateHeap.LeavesHeap}
 
 -- each pinned address is that of its object
 abbrev pub AreAddresses : FinMap nat_cmp Id → FinMap nat_cmp ℕ → Type 0

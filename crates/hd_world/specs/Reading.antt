@@ -3,8 +3,7 @@
 use Rattle.std.specs.Prelude.{ℕ, Option, unwrap_or, option_map, option_and_then, is_none, map, IsSome, IfSome}
 use Rattle.std.specs.FinMap.{FinMap, get, entries, from_entries, retain_keys}
 use Rattle.std.specs.Ordering.{nat_cmp}
-use Rattle.hd_model.specs.declared.data.Id.{Id}
-use Rattle.hd_model.specs.declared.data.Addr.{Addr}
+use Rattle.hd_model.specs.{declared.data.Id.Id, declared.data.Addr.Addr}
 use Rattle.hd_model.specs.State.{Object, Handle, WeakEntry, secondary_of, rename_object, rename_handle}
 use Rattle.hd_model.specs.Heap.{Placed, Heap, region_generation, region_of, object_in, id_at}
 

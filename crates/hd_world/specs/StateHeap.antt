@@ -3,22 +3,12 @@
 use Rattle.std.specs.Prelude.{◌≡◌, ◌↔◌, ℕ, ◌+◌, ◌/◌, ◌≤◌, true, false, Some, option_map}
 use Rattle.std.specs.FinMap.{FinMap, get, len}
 use Rattle.std.specs.Ordering.{nat_cmp}
-use Rattle.hd_model.specs.declared.data.Id.{Id}
-use Rattle.hd_model.specs.declared.data.Entry.{Entry}
-use Rattle.hd_model.specs.declared.data.Report.{Report}
-use Rattle.hd_model.specs.declared.limits.TheConstants.{LEFT, OPEN}
+use Rattle.hd_model.specs.{declared.data.Id.Id, declared.data.Entry.Entry, declared.data.Report.Report, declared.limits.TheConstants.LEFT, declared.limits.TheConstants.OPEN, State.Handle, State.State, Step.pinned_target, Reach.IsPinned, Ages.HasSoundCards, Text.is_collect, Counting.Counts}
 use Rattle.hd_model.specs.declared.data.Reply.TheVariants as reply
 use Rattle.hd_model.specs.declared.command.Cmd.TheVariants as cmd
-use Rattle.hd_model.specs.State.{Handle, State}
-use Rattle.hd_model.specs.Step.{pinned_target}
-use Rattle.hd_model.specs.Reach.{IsPinned}
-use Rattle.hd_model.specs.Ages.{HasSoundCards}
-use Rattle.hd_model.specs.Text.{is_collect}
-use Rattle.hd_model.specs.Counting.{Counts}
 use Rattle.hd_model.specs.Heap.{Placed, Heap, object_at, is_carded, is_set, used_of, HasIdentities}
 use Rattle.hd_plan.specs.Commit.{NeedsCard}
-use Rattle.hd_world.specs.Reading.{objects_by_id}
-use Rattle.hd_world.specs.World.{WorldView}
+use Rattle.hd_world.specs.{Reading.objects_by_id, World.WorldView}
 
 -- the object with an identity is at an address: the header there has the identity
 abbrev pub IsStoredAt : Heap → Id → ℕ → Type 0

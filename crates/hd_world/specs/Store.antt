@@ -1,16 +1,12 @@
 -- What contracts see of a store.
 use Rattle.std.specs.Prelude.{[], ◌≡◌, ℕ, List, refl}
 use Rattle.std.specs.Coded.{Coded, code_by, coded×, coded_ℕ, coded_list}
-use Rattle.std.specs.FinMap.{FinMap}
+use Rattle.std.specs.{FinMap.FinMap, Ordering.nat_cmp}
 use Rattle.std.specs.FinMap as map
-use Rattle.std.specs.Ordering.{nat_cmp}
-use Rattle.hd_model.specs.declared.data.Id.{Id}
-use Rattle.hd_model.specs.State.{Numbers, State}
-use Rattle.hd_model.specs.Heap.{Heap}
+use Rattle.hd_model.specs.{declared.data.Id.Id, State.Numbers, State.State, Heap.Heap}
 use Rattle.hd_model.specs.Code.{numbers_code, state_code, id_code, heap_code}
 use Rattle.hd_world.specs.Stored.{Parts, numbers_of, state_of}
-use Rattle.hd_world.specs.Reading.{names_of}
-use Rattle.hd_world.specs.StateHeap.{IsOfHeap}
+use Rattle.hd_world.specs.{Reading.names_of, StateHeap.IsOfHeap}
 
 -- a heap without its free regions, on which no result depends
 abbrev pub without_spare : Heap → Heap

@@ -1,6 +1,5 @@
 -- The fields of a store as the parts that its lemmas are about.
-use Rattle.hd_world.specs.Stored.{Parts}
-use Rattle.hd_world.specs.declared.store.Store.TheInside.{Inside}
+use Rattle.hd_world.specs.{Stored.Parts, declared.store.Store.TheInside.Inside}
 
 abbrev pub parts : Inside → Parts
 parts i = record {

@@ -3,15 +3,9 @@
 use Rattle.std.specs.Prelude.{◌≡◌, ℕ, ◌+◌, ◌*◌, ◌≤◌, List, length, map, sum_by, cond, Option, Some, option_map, IsSome}
 use Rattle.std.specs.FinMap.{FinMap, get, empty, len, values}
 use Rattle.std.specs.Ordering.{nat_cmp}
-use Rattle.hd_model.specs.declared.data.Addr.{Addr}
-use Rattle.hd_model.specs.declared.data.Id.{Id}
-use Rattle.hd_model.specs.declared.data.Slot.{Slot}
-use Rattle.hd_model.specs.declared.data.Kind.TheVariants.{Dependent}
+use Rattle.hd_model.specs.{declared.data.Addr.Addr, declared.data.Id.Id, declared.data.Slot.Slot, declared.data.Kind.TheVariants.Dependent, Kinds.is_kind, Scene.Scene, Scene.IsWhole, Ages.HasSoundAges, Ages.HasSoundCards}
 use Rattle.hd_model.specs.declared.limits.TheConstants.{HEAP, BLOCKS, CLUMPS, REGISTERS}
 use Rattle.hd_model.specs.State.{Numbers, State, Handle, secondary, BlockUse, handles_of, extra_data}
-use Rattle.hd_model.specs.Kinds.{is_kind}
-use Rattle.hd_model.specs.Scene.{Scene, IsWhole}
-use Rattle.hd_model.specs.Ages.{HasSoundAges, HasSoundCards}
 use Rattle.hd_model.specs.Heap.{Heap, object_at, id_at, is_carded, used_of, HasIdentities}
 use Rattle.hd_model.specs.Table.{Table, Queue, row_at}
 use Rattle.hd_cwt.specs.WeakTable.{WeakTable}

@@ -1,21 +1,12 @@
 -- What a collection of a store costs, and a search of the weak table, in the words of the machine.
 use Rattle.std.specs.Prelude.{◌≡◌, ℕ, ◌+◌, ◌*◌, ◌≤◌, Bool, false, List, length, filter, sum_by, Option, Some, None, option_map, option_and_then}
 use Rattle.std.specs.FinMap.{get, keys, entries}
-use Rattle.hd_model.specs.declared.data.Id.{Id}
-use Rattle.hd_model.specs.declared.data.Entry.{Entry}
-use Rattle.hd_model.specs.declared.data.Report.{Report}
-use Rattle.hd_model.specs.declared.data.Kind.{Kind}
+use Rattle.hd_model.specs.{declared.data.Id.Id, declared.data.Entry.Entry, declared.data.Report.Report, declared.data.Kind.Kind, Kinds.all_kinds, Kinds.is_kind, Ages.visits, declared.class.Class.Class, declared.command.Cmd.Cmd, Class.class_of, Text.is_collect}
 use Rattle.hd_model.specs.declared.data.Reply.TheVariants as reply
 use Rattle.hd_model.specs.declared.command.Cmd.TheVariants as cmd
 use Rattle.hd_model.specs.declared.data.Kind.TheVariants as kind
-use Rattle.hd_model.specs.Kinds.{all_kinds, is_kind}
-use Rattle.hd_model.specs.Ages.{visits}
-use Rattle.hd_model.specs.declared.class.Class.{Class}
-use Rattle.hd_model.specs.declared.command.Cmd.{Cmd}
 use Rattle.hd_model.specs.declared.class.Class.TheVariants as class
-use Rattle.hd_model.specs.Class.{class_of}
 use Rattle.hd_model.specs.State.{State, WeakEntry, BlockUse, handles_of, extra_data, register_of}
-use Rattle.hd_model.specs.Text.{is_collect}
 use Rattle.hd_cwt.specs.WeakTable.{bucket_of, is_in_bucket}
 use Rattle.hd_scan.specs.Tasks.{task_kind, root_tasks, short_tasks, long_tasks}
 
@@ -59,6 +50,7 @@ key_register (class.Collects n) = None
 key_register (class.AnswersPlace h) = None
 key_register (class.AddsEntry k v) = Some k
 key_register (class.LooksUp k) = Some k
+key_register (class.Searches r) = None
 key_register class.Plain = None
 
 -- the key that a command looks up, if its register is not null

@@ -3,25 +3,14 @@ use Rattle.std.specs.Prelude.{◌≡◌, ◌≢◌, ℕ, ◌+◌, ◌<◌, ◌�
 use Rattle.std.specs.Option.{option_map_or}
 use Rattle.std.specs.Coded.{Coded, code_by, coded×, coded_ℕ, coded_list}
 use Rattle.hd_model.specs.declared.limits.TheConstants.{HEAP, BLOCKS, CALLERS}
-use Rattle.hd_model.specs.declared.data.Entry.{Entry}
-use Rattle.hd_model.specs.declared.data.Slot.{Slot}
-use Rattle.hd_model.specs.declared.data.Kind.{Kind}
-use Rattle.hd_model.specs.declared.command.Cmd.{Cmd}
-use Rattle.hd_model.specs.declared.class.Class.{Class}
-use Rattle.hd_model.specs.declared.data.Grown.TheVariants.{Zero, Back}
+use Rattle.hd_model.specs.{declared.data.Entry.Entry, declared.data.Slot.Slot, declared.data.Kind.Kind, declared.command.Cmd.Cmd, declared.class.Class.Class, declared.data.Grown.TheVariants.Zero, declared.data.Grown.TheVariants.Back, Class.class_of, Kinds.kind_of, Touched.touched_by, Step.blocks_needed, Valid.IsValid, Valid.takes_memory, Heap.Heap}
 use Rattle.hd_model.specs.declared.data.Refusal.TheVariants as refusal
 use Rattle.hd_model.specs.declared.data.Reply.TheVariants as reply
 use Rattle.hd_model.specs.declared.class.Class.TheVariants as class
-use Rattle.hd_model.specs.Class.{class_of}
 use Rattle.hd_model.specs.State.{Numbers, State, given_of, total_size, block_of, first_slot, IsFree, IsAllFree}
-use Rattle.hd_model.specs.Kinds.{kind_of}
 use Rattle.hd_model.specs.declared.data.Kind.TheVariants as kinds
 use Rattle.hd_model.specs.Command.{Adding, is_refused, in_idle, in_new, adding_of}
-use Rattle.hd_model.specs.Touched.{touched_by}
-use Rattle.hd_model.specs.Step.{blocks_needed}
-use Rattle.hd_model.specs.Valid.{IsValid, takes_memory}
 use Rattle.hd_model.specs.Code.{numbers_code, state_code, entry_code, heap_code}
-use Rattle.hd_model.specs.Heap.{Heap}
 
 -- a world: its numbers, its state, the ages of the clumps, the heap by address without its free regions, the
 -- journal that led there, and for how many more entries there is room
@@ -86,6 +75,7 @@ class_asks adding (class.AnswersPlace h) = no_room
 class_asks adding (class.AddsEntry k v) =
     cond (needs_new (adding k)) (handle_slot kinds.Dependent) no_room
 class_asks adding (class.LooksUp k) = no_room
+class_asks adding (class.Searches r) = no_room
 class_asks adding class.Plain = no_room
 
 abbrev pub asks_of : State → ℕ → Cmd → Asks

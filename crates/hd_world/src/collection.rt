@@ -1,10 +1,7 @@
 // `collect`: a collection of a store, which leaves each pinned object at its address.
 ghost use Rattle.std.specs.Prelude.{◌≡◌, ◌<◌, ◌≤◌, MatchResult};
 ghost use Rattle.hd_model.specs.declared.command.Cmd.TheVariants as cmds;
-ghost use Rattle.hd_world.specs.declared.done.CallerCommand.{CallerCommand};
-ghost use Rattle.hd_world.specs.Commands.{entry_of};
-ghost use Rattle.hd_world.specs.Places.{HasCollected, KeepsPlaces};
-ghost use Rattle.hd_world.specs.Visited.{CollectedSteps, TakesSteps};
+ghost use Rattle.hd_world.specs.{declared.done.CallerCommand.CallerCommand, Commands.entry_of, Places.HasCollected, Places.KeepsPlaces, Visited.CollectedSteps, Visited.TakesSteps};
 
 use crate::done::Done;
 use crate::store::Store;

@@ -1,15 +1,12 @@
 // One command of a caller, as a step of the machine.
 ghost use Rattle.std.specs.Prelude.{◌≡◌, false, None, MatchResult};
-ghost use Rattle.hd_model.specs.Class.{class_of};
-ghost use Rattle.hd_model.specs.Touched.{touched_by};
+ghost use Rattle.hd_model.specs.{Class.class_of, Touched.touched_by};
 ghost use Rattle.hd_world.specs.Commands.{MayRun, HasRun, IsPlainStep};
-ghost use Rattle.hd_world.specs.Places.{KeepsPlaces};
-ghost use Rattle.hd_world.specs.Visited.{key_register, TakesSteps};
-ghost use Rattle.hd_world.specs.World.{RanOut};
+ghost use Rattle.hd_world.specs.{Places.KeepsPlaces, Visited.key_register, Visited.TakesSteps, World.RanOut};
 
 use crate::done::CallerCommand;
 use crate::store::Store;
-use crate::{collection, making, on_entries, on_handles, on_objects, places};
+use crate::{collection, making, on_entries, on_handles, on_objects, places, rooting};
 use hd_model::{Cmd, Entry, Memory, Slot, Steps};
 use std::sync::ledger::Ledger;
 
@@ -62,6 +59,10 @@ fn carry_out(store: &mut Store, asked: CallerCommand, offer: Option<Slot>) -> Re
         Cmd::HDown { s } => Ok(asked.entry(on_handles::lower_count(store, caller, s))),
         Cmd::Trim { kind } => Ok(asked.entry(Ok(making::trim(store, caller, kind, offer)))),
         Cmd::Final { d } => Ok(asked.entry(Ok(on_objects::take_queued(store, caller, d)))),
+        Cmd::GcRoot { s } => {
+            let done = rooting::tell_root(store, caller, s)?;
+            Ok(asked.entry(done))
+        }
         // These use the pinned addresses, or the weak table.
         Cmd::Collect { .. }
         | Cmd::AddrOf { .. }

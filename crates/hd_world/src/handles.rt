@@ -1,11 +1,8 @@
 // What a store does with rows, blocks and ages.
 ghost use Rattle.std.specs.Prelude.{◌≡◌, ℕ, ◌+◌, ◌*◌, ◌/◌, ◌<◌, ◌≤◌, false, Some, None, IsSome, IfOk, IfErr, OnOk, OnErr, OnSome, IfSome, option_map};
 ghost use Rattle.hd_model.specs.State.{handle_at, use_of, given_of, without_handle, without_use, with_handle, block_of, IsFree, IsAllFree};
-ghost use Rattle.hd_model.specs.Kinds.{is_paired};
-ghost use Rattle.hd_model.specs.Step.{blocks_needed, with_growth};
-ghost use Rattle.hd_model.specs.Ages.{lowered};
-ghost use Rattle.hd_world.specs.Handles.{handle_named, MayBeStored};
-ghost use Rattle.hd_world.specs.Growth.{GrowsBy, kind_in_use};
+ghost use Rattle.hd_model.specs.{Kinds.is_paired, Step.blocks_needed, Step.with_growth, Ages.lowered};
+ghost use Rattle.hd_world.specs.{Handles.handle_named, Handles.MayBeStored, Growth.GrowsBy, Growth.kind_in_use};
 
 use crate::store::Store;
 use hd_model::limits::{BLOCKS, CLUMP, CLUMPS, ROWS};

@@ -2,6 +2,7 @@
 //! the registers, with the journal of all that was done.
 #![tactic(auto)]
 
+mod anchors;
 mod collection;
 mod commands;
 mod done;
@@ -14,6 +15,7 @@ mod on_entries;
 mod on_handles;
 mod on_objects;
 mod places;
+mod rooting;
 mod store;
 mod world;
 

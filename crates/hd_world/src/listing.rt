@@ -1,7 +1,6 @@
 // The roots among the handles, with their objects by identity.
 ghost use Rattle.std.specs.Prelude.{◌≡◌, All, map, true, IfOk};
-ghost use Rattle.hd_model.specs.Heap.{has_object};
-ghost use Rattle.hd_model.specs.RootText.{roots_of};
+ghost use Rattle.hd_model.specs.{Heap.has_object, RootText.roots_of};
 ghost use Rattle.hd_world.specs.Listing.{root_named};
 
 use crate::store::Store;

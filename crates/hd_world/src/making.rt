@@ -1,17 +1,10 @@
 // `hnew` and `trim`: handles are made, and blocks come into use and go out of it.
 ghost use Rattle.std.specs.Prelude.{◌≡◌, ℕ, ◌+◌, ◌*◌, ◌<◌, ◌≤◌, Some, None, false, IfOk, IfErr, IfSome, OnErr, OnSome};
 ghost use Rattle.hd_model.specs.declared.command.Cmd.TheVariants as cmds;
-ghost use Rattle.hd_model.specs.Kinds.{kind_of, is_paired};
+ghost use Rattle.hd_model.specs.{Kinds.kind_of, Kinds.is_paired, Step.blocks_needed, Valid.IsValidMake, WellFormed.HasHandles, WellFormed.HasWeakTable, Aging.lowered_by_new};
 ghost use Rattle.hd_model.specs.State.{given_of, block_of, first_slot, IsFree, IsAllFree};
-ghost use Rattle.hd_model.specs.Step.{blocks_needed};
-ghost use Rattle.hd_model.specs.Valid.{IsValidMake};
-ghost use Rattle.hd_model.specs.WellFormed.{HasHandles, HasWeakTable};
-ghost use Rattle.hd_model.specs.Aging.{lowered_by_new};
-ghost use Rattle.hd_world.specs.Reading.{named_in, IsNamed};
-ghost use Rattle.hd_world.specs.Making.{IsPlace, IsMadeRow};
-ghost use Rattle.hd_world.specs.World.{IsOffer};
+ghost use Rattle.hd_world.specs.{Reading.named_in, Reading.IsNamed, Making.IsPlace, Making.IsMadeRow, World.IsOffer, declared.done.CallerCommand.CallerCommand};
 ghost use Rattle.hd_world.specs.Commands.{entry_of, done_of, HasRun, IsPlainStep};
-ghost use Rattle.hd_world.specs.declared.done.CallerCommand.{CallerCommand};
 
 use crate::done::{CallerCommand, Done};
 use crate::on_handles::lower_to;

@@ -5,8 +5,7 @@ ghost use Rattle.hd_heap.specs.Calls.{IsMade, new_object, IsRefused as IsRefused
 ghost use Rattle.hd_model.specs.State.{object_by_id, field_of, last_serial, identity_of, total_size, with_object, with_serial, with_queue};
 ghost use Rattle.hd_world.specs.Reading.{name_in, named_in, IsNamed};
 ghost use Rattle.hd_model.specs.Command.{fresh_object};
-ghost use Rattle.hd_world.specs.Objects.{object_named, IsObjectRefused};
-ghost use Rattle.hd_world.specs.Places.{KeepsNames};
+ghost use Rattle.hd_world.specs.{Objects.object_named, Objects.IsObjectRefused, Places.KeepsNames};
 
 use crate::store::Store;
 use hd_final::Final;

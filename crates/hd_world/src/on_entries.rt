@@ -1,12 +1,9 @@
 // The commands on the weak table.
 ghost use Rattle.std.specs.Prelude.{◌≡◌, ◌<◌};
 ghost use Rattle.hd_model.specs.declared.command.Cmd.TheVariants as cmds;
-ghost use Rattle.hd_model.specs.WellFormed.{HasHandles, HasWeakTable};
-ghost use Rattle.hd_model.specs.Valid.{IsValid};
+ghost use Rattle.hd_model.specs.{WellFormed.HasHandles, WellFormed.HasWeakTable, Valid.IsValid};
 ghost use Rattle.hd_world.specs.Commands.{HasRun, IsPlainStep, entry_of, done_of};
-ghost use Rattle.hd_world.specs.Visited.{TakesSteps};
-ghost use Rattle.hd_world.specs.World.{IsOffer, needs_slot};
-ghost use Rattle.hd_world.specs.declared.done.CallerCommand.{CallerCommand};
+ghost use Rattle.hd_world.specs.{Visited.TakesSteps, World.IsOffer, World.needs_slot, declared.done.CallerCommand.CallerCommand};
 
 use crate::done::Done;
 use crate::making::place;

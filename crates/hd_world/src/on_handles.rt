@@ -7,9 +7,7 @@ ghost use Rattle.hd_model.specs.Aging.{lowered_to, lowered_at, is_refused};
 ghost use Rattle.hd_model.specs.Table.{is_secondary};
 ghost use Rattle.hd_model.specs.Command.{get_target, set_target, set_secondary, get_secondary, set_strength, raise_count, lower_count, free_handle, with_count, put_board, pick_board};
 ghost use Rattle.hd_seg.specs.Row.{extra_of};
-ghost use Rattle.hd_world.specs.Reading.{named_in, IsNamed};
-ghost use Rattle.hd_world.specs.Counts.{HasSmallCounts};
-ghost use Rattle.hd_world.specs.Handles.{handle_named, MayBeStored};
+ghost use Rattle.hd_world.specs.{Reading.named_in, Reading.IsNamed, Counts.HasSmallCounts, Handles.handle_named, Handles.MayBeStored};
 ghost use Rattle.hd_world.specs.Commands.{ComesTo, ComesToAged, live_in, as_found};
 
 use crate::done::Done;

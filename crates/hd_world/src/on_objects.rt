@@ -5,9 +5,7 @@ ghost use Rattle.hd_model.specs.declared.data.Refusal.TheVariants as refusal;
 ghost use Rattle.hd_model.specs.State.{register_of, last_serial, identity_of, total_size, with_register};
 ghost use Rattle.hd_model.specs.Command.{loaded, new_object, set_field, get_field, set_value, read_value, copy_register, clear_register, put_static, get_static, read_generation, set_registered, take_queued};
 ghost use Rattle.hd_world.specs.Reading.{name_in, named_in, IsNamed};
-ghost use Rattle.hd_world.specs.Objects.{object_named};
-ghost use Rattle.hd_world.specs.Places.{KeepsNames};
-ghost use Rattle.hd_world.specs.Commands.{ComesTo, Replies};
+ghost use Rattle.hd_world.specs.{Objects.object_named, Places.KeepsNames, Commands.ComesTo, Commands.Replies};
 
 use crate::done::Done;
 use crate::store::Store;

@@ -1,11 +1,9 @@
 // `addr`: the address of a pinned object, which no collection changes.
 ghost use Rattle.std.specs.Prelude.{◌≡◌, ◌<◌, IsSome, IfOk};
-ghost use Rattle.std.specs.FinMap.{FinMap, get};
-ghost use Rattle.std.specs.Ordering.{nat_cmp};
+ghost use Rattle.std.specs.{FinMap.FinMap, FinMap.get, Ordering.nat_cmp};
 ghost use Rattle.hd_model.specs.declared.command.Cmd.TheVariants as cmds;
-ghost use Rattle.hd_world.specs.Places.{HasPlace, KeepsPlaces};
+ghost use Rattle.hd_world.specs.{Places.HasPlace, Places.KeepsPlaces, declared.done.CallerCommand.CallerCommand};
 ghost use Rattle.hd_world.specs.Commands.{pinned_in, as_pinned, entry_of, done_of};
-ghost use Rattle.hd_world.specs.declared.done.CallerCommand.{CallerCommand};
 
 use crate::done::Done;
 use crate::on_handles::live_in;

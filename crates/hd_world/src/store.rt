@@ -1,8 +1,7 @@
 ghost use Rattle.std.specs.Prelude.{◌≡◌, ℕ, ◌+◌, ◌*◌, ◌<◌, ◌≤◌, ◌^◌, replicate, None, IfOk};
 ghost use Rattle.std.specs.FinMap.{len, empty};
 ghost use Rattle.hd_model.specs.State.{Numbers, start_of, register_of, handle_register_of, static_of, board_of, total_size, with_register, with_handle_register, with_static, with_board};
-ghost use Rattle.hd_world.specs.Reading.{named_in, IsNamed};
-ghost use Rattle.hd_world.specs.Store.{IsOverHeap};
+ghost use Rattle.hd_world.specs.{Reading.named_in, Reading.IsNamed, Store.IsOverHeap};
 
 use hd_ages::AgeMap;
 use hd_cwt::Cwt;
@@ -28,15 +27,14 @@ pub(crate) struct Store {
     pub(crate) queue: Final,
     // What the object registers of each caller in turn reference, and then the statics.
     pub(crate) roots: Vec<Option<Addr>>,
-    handle_registers: Vec<[Option<Slot>; PLACES]>,
+    pub(crate) handle_registers: Vec<[Option<Slot>; PLACES]>,
     board: [Option<Slot>; PLACES],
     pub(crate) serials: Vec<u32>,
 }
 
 impl Model for Store {
     ghost use Rattle.hd_world.specs.Store.{Machine, machine_of, machine_code};
-    ghost use Rattle.hd_world.specs.Stored.{IsStored};
-    ghost use Rattle.hd_world.specs.StoreParts.{parts};
+    ghost use Rattle.hd_world.specs.{Stored.IsStored, StoreParts.parts};
 
     ghost Value = { Machine };
 

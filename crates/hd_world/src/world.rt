@@ -1,17 +1,9 @@
 ghost use Rattle.std.specs.Prelude.{◌≡◌, ◌+◌, ◌<◌, ◌≤◌, ◌^◌, [], length, IsTrue, IfOk, OnErr, MatchResult};
 ghost use Rattle.std.specs.FinMap.{len};
 ghost use Rattle.hd_model.specs.State.{Numbers, start_of, use_of, block_of};
-ghost use Rattle.hd_model.specs.Run.{Run};
-ghost use Rattle.hd_model.specs.Aging.{AgedRun};
-ghost use Rattle.hd_model.specs.Valid.{IsValid, takes_memory};
-ghost use Rattle.hd_model.specs.RootText.{roots_of};
-ghost use Rattle.hd_model.specs.Text.{collections_of, is_collect};
-ghost use Rattle.hd_world.specs.Growth.{kind_in_use};
-ghost use Rattle.hd_world.specs.Placed.{Placed, Placed-prop};
-ghost use Rattle.hd_world.specs.Applied.{Applied};
+ghost use Rattle.hd_model.specs.{Run.Run, Aging.AgedRun, Valid.IsValid, Valid.takes_memory, RootText.roots_of, Text.collections_of, Text.is_collect};
+ghost use Rattle.hd_world.specs.{Growth.kind_in_use, Placed.Placed, Placed.Placed-prop, Applied.Applied, StateHeap.IsOfHeap, Visited.TakesSteps};
 ghost use Rattle.hd_world.specs.World.{HasLimits, IsOffer, needs_slot, FitsHeap, MayApply, RanOut};
-ghost use Rattle.hd_world.specs.StateHeap.{IsOfHeap};
-ghost use Rattle.hd_world.specs.Visited.{TakesSteps};
 
 use crate::done::CallerCommand;
 use crate::store::Store;
@@ -37,8 +29,7 @@ pub struct World {
 
 impl Model for World {
     ghost use Rattle.hd_model.specs.Places.{with_places};
-    ghost use Rattle.hd_world.specs.Placed.{IsTrueRun};
-    ghost use Rattle.hd_world.specs.World.{WorldView, world_view_code};
+    ghost use Rattle.hd_world.specs.{Placed.IsTrueRun, World.WorldView, World.world_view_code};
 
     ghost Value = { WorldView };
 
@@ -59,8 +50,7 @@ impl Model for World {
 impl Held for World {
     ghost use Rattle.std.specs.Prelude.{is_some, ◌||◌};
     ghost use Rattle.std.specs.FinMap.{get};
-    ghost use Rattle.hd_model.specs.State.{use_of};
-    ghost use Rattle.hd_model.specs.Table.{kind_word};
+    ghost use Rattle.hd_model.specs.{State.use_of, Table.kind_word};
 
     ghost numbers = { λ w. w.numbers };
 

@@ -1,5 +1,4 @@
-use Rattle.hd_world.proofs.StoreWords.{sym, subst, entry_of, KeepsPlaces, TakesSteps}
-use Rattle.hd_world.specs.declared.done.Done.{Done}
+use Rattle.hd_world.proofs.StoreWords.{Done, KeepsPlaces, TakesSteps, entry_of, subst, sym}
 use Rattle.hd_world.proofs.AddressSteps.{collect-moves, collect-steps}
 use Rattle.hd_model.specs.declared.command.Cmd.TheVariants as cmd
 use Rattle.hd_world.proofs.collection.collect_up_to.Goals as goal

@@ -1,4 +1,4 @@
-use Rattle.hd_world.proofs.StoreWords.{subst, arith, refl, Ok, TakesSteps, is_collect, entry_of, done_of}
+use Rattle.hd_world.proofs.StoreWords.{Ok, TakesSteps, arith, done_of, entry_of, is_collect, refl, subst}
 use Rattle.hd_world.proofs.AddressSteps.{plain-runs, others-run, others-steps, looked-run, added-run}
 use Rattle.hd_model.specs.declared.command.Cmd.TheVariants as cmd
 use Rattle.hd_world.proofs.commands.run.Goals as goal
@@ -6,8 +6,7 @@ use Rattle.hd_world.proofs.commands.run.Goals as goal
 pub returns-in-Collect : goal.returns-in-Collect
 returns-in-Collect g c =
     others-run c.args.store.now c.collect_up_to.new.store c.args.asked c.args.offer
-    (cmd.Collect c.in-Collect.n)
-    c.in-Collect.is refl (Ok c.in_ok-done.done) c.args.steps.now _ c.requires
+    (cmd.Collect c.in-Collect.n) c.in-Collect.is refl (Ok c.in_ok-done.done) c.args.steps.now _ c.requires
     c.in_ok-done.ensures.0
     (subst (λ n. TakesSteps c.args.store.now.state c.args.store.now.ages
     (entry_of (record { caller = c.args.asked.caller; cmd = cmd.Collect c.in-Collect.n }) c.in_ok-done.done)
@@ -28,8 +27,7 @@ returns-in-AddrOf g c =
 pub returns : goal.returns
 returns g c =
     plain-runs c.args.store.now c.carry_out.new.store c.args.asked c.args.offer c.requires
-    c.carry_out.ensures.no_key c.args.steps.now
-    c.carry_out.result c.carry_out.ensures.done
+    c.carry_out.ensures.no_key c.args.steps.now c.carry_out.result c.carry_out.ensures.done
 
 pub returns-in-CAdd : goal.returns-in-CAdd
 returns-in-CAdd g c =

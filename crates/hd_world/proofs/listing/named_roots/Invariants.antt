@@ -1,5 +1,4 @@
-use Rattle.hd_world.proofs.StoreWords.{◌≡◌, map, take}
-use Rattle.hd_world.specs.Listing.{root_named}
+use Rattle.hd_world.proofs.StoreWords.{map, root_named, take, ◌≡◌}
 use Rattle.hd_world.proofs.listing.named_roots.Given as goal
 
 -- the roots so far

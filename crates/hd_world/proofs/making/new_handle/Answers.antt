@@ -1,4 +1,4 @@
-use Rattle.hd_world.proofs.StoreWords.{sym, subst, MayBeStored}
+use Rattle.hd_world.proofs.StoreWords.{MayBeStored, subst, sym}
 use Rattle.hd_world.proofs.MadeRowAge.{made_may}
 use Rattle.hd_world.proofs.making.new_handle.Goals as goal
 

@@ -1,4 +1,4 @@
-use Rattle.hd_world.proofs.StoreWords.{◌≡◌, subst, GrowsBy, with_growth}
+use Rattle.hd_world.proofs.StoreWords.{GrowsBy, subst, with_growth, ◌≡◌}
 use Rattle.hd_world.proofs.NewBlockSlot.{placed_one, placed_two}
 use Rattle.hd_world.proofs.making.new_place.Goals as goal
 
@@ -8,8 +8,7 @@ returns-in-Ok-One-clause-place c =
     let is = c.in-Ok-One.field-0-is in
     let grown = subst (GrowsBy m.numbers m.state c.args.kind) is c.in-Ok-One.ensures.grown in
     placed_one m c.grow.new.self c.args.kind c.first_slot.result c.requires.handles c.requires.weak
-    c.in-Ok-One.block
-    c.first_slot.ensures grown.1 grown.0
+    c.in-Ok-One.block c.first_slot.ensures grown.1 grown.0
     (subst (λ g. c.grow.new.self ≡ record m { state = with_growth m.state c.args.kind g }) is
     c.in-Ok-One.ensures.after) c.in-Ok-One.ensures.room
 

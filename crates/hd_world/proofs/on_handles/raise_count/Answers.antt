@@ -1,5 +1,4 @@
-use Rattle.hd_world.proofs.StoreWords.{◌≡◌, ◌+◌, ◌<◌, ◌^◌, ap, arith, count_of, rename_extra, name_in, handle_named}
-use Rattle.hd_seg.specs.Row.{extra_of}
+use Rattle.hd_world.proofs.StoreWords.{ap, arith, count_of, extra_of, handle_named, name_in, rename_extra, ◌+◌, ◌<◌, ◌^◌, ◌≡◌}
 use Rattle.hd_world.proofs.FoundHandle.{found_is_live}
 use Rattle.hd_world.proofs.on_handles.raise_count.Goals as goal
 

@@ -1,6 +1,4 @@
-use Rattle.hd_world.proofs.StoreWords.{◌≡◌, ◌+◌, false, nat_lt, Some, sym, ap, ◌∙◌, subst, if◌then◌else◌, unwrap_or, le-ltb, last_serial, identity_of, total_size, with_register, with_serial, with_object, Outcome, refuses, answers, fresh_object, Machine, KeepsNames, name_in, get_inserted}
-use Rattle.hd_world.specs.declared.done.Done.{Done}
-use Rattle.hd_model.specs.declared.data.Grown.TheVariants.{Zero}
+use Rattle.hd_world.proofs.StoreWords.{Done, KeepsNames, Machine, Outcome, Some, Zero, answers, ap, false, fresh_object, get_inserted, identity_of, if◌then◌else◌, last_serial, le-ltb, name_in, nat_lt, refuses, subst, sym, total_size, unwrap_or, with_object, with_register, with_serial, ◌+◌, ◌∙◌, ◌≡◌}
 use Rattle.hd_world.proofs.on_objects.new_object.Goals.{In-Ok}
 use Rattle.hd_model.specs.declared.data.Refusal.TheVariants as refusal
 use Rattle.hd_model.specs.declared.data.Reply.TheVariants as reply
@@ -43,8 +41,7 @@ unfolding made
 returns-in-Ok-clause-done c =
     let at = (goal.at.returns-in-Ok-clause-done c).In-Ok in
     let new = c.set_register.new.self in
-    let id : c.id.result ≡ identity_of c.args.caller
-    (last_serial c.args.store.now.state c.args.caller + 1) =
+    let id : c.id.result ≡ identity_of c.args.caller (last_serial c.args.store.now.state c.args.caller + 1) =
     c.id.ensures ∙ ap (λ (m : Machine). name_in m.names c.in-Ok.at) c.set_register.ensures ∙ name at in
     let state =
     ap (λ (m : Machine). m.state) c.set_register.ensures
@@ -57,13 +54,7 @@ returns-in-Ok-clause-done c =
       c.of.ensures
           ∙ ap (λ i. replied (answers (reply.Object i) c.args.store.now.state)) id
           ∙ ap (λ b. replied (if b then full at else made at)) (sym (has_room at)),
-      λ i. record {
-        numbers = numbers i;
-        state = state i;
-        names = new.names;
-        ages = ages i;
-        heap = new.heap;
-      },
+      λ i. record { numbers = numbers i; state = state i; names = new.names; ages = ages i; heap = new.heap },
     )
 
 pub returns-in-Ok-clause-names : goal.returns-in-Ok-clause-names

@@ -1,6 +1,4 @@
-use Rattle.hd_world.proofs.StoreWords.{◌∙◌, None, sym, subst, entry_of, KeepsPlaces}
-use Rattle.hd_model.specs.declared.data.Grown.TheVariants.{Zero}
-use Rattle.hd_world.specs.declared.done.Done.{Done}
+use Rattle.hd_world.proofs.StoreWords.{Done, KeepsPlaces, None, Zero, entry_of, subst, sym, ◌∙◌}
 use Rattle.hd_world.proofs.AddressSteps.{addr-answers, addr-refused}
 use Rattle.hd_model.specs.declared.command.Cmd.TheVariants as cmd
 use Rattle.hd_model.specs.declared.data.Reply.TheVariants as reply

@@ -1,6 +1,6 @@
-use Rattle.hd_world.proofs.StoreWords.{parts, ◌≡◌, ◌+◌, ◌<◌, None, length, sym, ap, ◌∙◌, subst, arith, Option, is_some, get, length-replicate, Addr, used_of, last_serial, identity_of, total_size, Machine, KeepsNames, get_inserted}
+use Rattle.hd_world.proofs.StoreWords.{Addr, IsMade, KeepsNames, Machine, None, Option, ap, arith, get, get_inserted, identity_of, is_some, last_serial, length, length-replicate, new_object, parts, subst, sym, total_size, used_of, ◌+◌, ◌<◌, ◌∙◌, ◌≡◌}
 use Rattle.std.proofs.lemmas.Grind.{get_or_default_zero}
-use Rattle.hd_heap.specs.Calls.{new_object, IsMade, IsRefused as IsRefusedBy}
+use Rattle.hd_heap.specs.Calls.{IsRefused as IsRefusedBy}
 use Rattle.hd_world.proofs.StateCounts.{used-is, few_objects}
 use Rattle.hd_world.proofs.StoreNew.{stored-next, machine-next, names-next, refused-next, stored-refused, roomier, room_enough, either_roomier}
 use Rattle.hd_world.proofs.store.Store.add_object.Goals.{After-from}

@@ -1,12 +1,9 @@
-use Rattle.hd_world.proofs.StoreWords.{parts, refl, secondary, ◌≡◌, None, Some, Addr, Slot, Machine, name_in, ap, ◌∙◌, sym}
-use Rattle.hd_model.specs.Command.{slot_of_key}
-use Rattle.hd_model.proofs.WeakSlots as machine
-use Rattle.hd_model.proofs.WeakSlots.{key_found}
-use Rattle.hd_cwt.specs.WeakTable.{HasKey}
+use Rattle.hd_world.proofs.StoreWords.{Addr, HasKey, Machine, None, Slot, Some, ap, key_found, name_in, parts, refl, secondary, slot_of_key, sym, ◌∙◌, ◌≡◌}
 use Rattle.hd_world.proofs.EntrySearch.{at-entry}
 use Rattle.hd_world.proofs.EntryWrites.{HasPut, weak-live, weak-kind, weak-vacant, end-entry}
 use Rattle.hd_world.proofs.StoreRows.{still-live, still-fits, rewritten}
 use Rattle.hd_world.proofs.store.Store.clear_entry.Goals.{After-set_extra, After-remove}
+use Rattle.hd_model.proofs.WeakSlots as machine
 use Rattle.hd_world.proofs.store.Store.clear_entry.Goals as goal
 
 -- the entry in the slot
@@ -44,8 +41,7 @@ pub remove-requires : goal.remove-requires
 remove-requires c = record { slot = c.args.slot.0; has = has c.before }
 
 after : (c : After-remove)
-    → HasPut (parts c.self.inside) c.args.self.now c.args.slot None c.set_extra.new.self
-    c.remove.new.self
+    → HasPut (parts c.self.inside) c.args.self.now c.args.slot None c.set_extra.new.self c.remove.new.self
 after c =
     let it = found c.args.self.now c.args.key c.args.slot c.requires.slot in
     end-entry (parts c.self.inside) c.args.self.now c.self.view_is c.self.invariant c.args.slot

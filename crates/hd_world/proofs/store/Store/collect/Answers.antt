@@ -1,9 +1,7 @@
-use Rattle.hd_world.proofs.StoreWords.{◌≡◌, Result, Ok, Err, MatchResult, length, refl, take, drop, ◌++◌, sym, ap, ◌∙◌, subst, true≢false, IsStored, WeakTable, Parts, Machine, machine_of, HasCollected, CollectedSteps, parts, state_of, List, Option, Addr}
+use Rattle.hd_world.proofs.StoreWords.{Addr, Collected, CollectedSteps, Err, HasCollected, Inside, IsStored, List, Machine, MatchResult, Ok, Option, Parts, Result, WeakTable, ap, drop, length, machine_of, parts, refl, state_of, subst, sym, take, true≢false, ◌++◌, ◌∙◌, ◌≡◌}
 use Rattle.std.specs.Result.{IsErr}
 use Rattle.hd_gc.specs.Ready.{Parts as Lent, parts as lent_parts}
-use Rattle.hd_gc.specs.Collected.{Collected}
-use Rattle.hd_world.specs.declared.store.Store.TheInside.{Inside}
-use Rattle.hd_world.proofs.DueClumps.{steps-collected}
+use Rattle.hd_world.proofs.ChainVisits.{steps-collected}
 use Rattle.hd_world.proofs.StoreCollect.{IsSwept, IsUncollected, left_parts, lent_of, lent, as_long, stored-left, has-collected, stored-out, machine-out}
 use Rattle.hd_world.proofs.store.Store.collect.Given.{Over}
 use Rattle.hd_world.proofs.store.Store.collect.Goals as goal

@@ -1,4 +1,4 @@
-use Rattle.hd_world.proofs.StoreWords.{parts, ap, sym, ◌∙◌, is_some, get}
+use Rattle.hd_world.proofs.StoreWords.{ap, get, is_some, parts, sym, ◌∙◌}
 use Rattle.hd_seg.specs.Row.{row_of}
 use Rattle.hd_world.proofs.IdentityReadings.{is_some-map}
 use Rattle.hd_world.proofs.EntrySearch.{weak-row-live, no-other-extra, value-read}

@@ -1,4 +1,4 @@
-use Rattle.hd_world.proofs.StoreWords.{parts, ◌<◌, length, sym, ap, ◌∙◌, subst, field_of, named_in, IsNamed, object_named}
+use Rattle.hd_world.proofs.StoreWords.{IsNamed, ap, field_of, length, named_in, object_named, parts, subst, sym, ◌<◌, ◌∙◌}
 use Rattle.hd_world.proofs.NamedAddresses.{in_heap, count-is, field-is, field-named}
 use Rattle.hd_world.proofs.store.Store.field.Goals as goal
 
@@ -18,8 +18,7 @@ pub returns-clause-value : goal.returns-clause-value
 returns-clause-value c =
     ap (named_in c.args.self.now.names) c.load.ensures
     ∙ field-is (parts c.self.inside) c.args.self.now c.self.view_is c.self.invariant c.args.at
-    c.requires.known c.from.result
-    ∙ ap (field_of (object_named c.args.self.now c.args.at)) c.from.ensures
+    c.requires.known c.from.result ∙ ap (field_of (object_named c.args.self.now c.args.at)) c.from.ensures
 
 pub returns-clause-named : goal.returns-clause-named
 returns-clause-named c =

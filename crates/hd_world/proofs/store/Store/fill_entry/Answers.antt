@@ -1,6 +1,4 @@
-use Rattle.hd_world.proofs.StoreWords.{parts, refl, secondary, None, Some, is_some, ap, ◌∙◌, inl}
-use Rattle.hd_world.specs.Entries.{entry_at}
-use Rattle.hd_model.specs.Command.{slot_of_key}
+use Rattle.hd_world.proofs.StoreWords.{None, Some, ap, entry_at, inl, is_some, parts, refl, secondary, slot_of_key, ◌∙◌}
 use Rattle.hd_world.proofs.EntrySearch.{at-idle, not-there}
 use Rattle.hd_world.proofs.EntryWrites.{HasPut, weak-live, weak-kind, weak-vacant, put-entry}
 use Rattle.hd_world.proofs.StoreRows.{still-live, still-fits, rewritten}

@@ -1,11 +1,6 @@
-use Rattle.hd_world.proofs.StoreWords.{parts, ◌≡◌, ◌/◌, true, Some, get, refl, sym, ap, ◌∙◌, subst, arith, is_some, inr, handles_of, secondary, fits_in, with_row}
-use Rattle.hd_model.specs.declared.data.Kind.TheVariants.{Dependent}
-use Rattle.hd_model.specs.Command.{slot_of_key}
-use Rattle.hd_world.specs.Entries.{entry_at}
+use Rattle.hd_world.proofs.StoreWords.{Dependent, Some, ap, arith, entry_at, fits_in, get, handles_of, inr, is_some, parts, refl, secondary, slot_of_key, subst, sym, true, with_row, ◌/◌, ◌∙◌, ◌≡◌}
 use Rattle.hd_world.proofs.StoreRows.{vacant-row, not-held, use-read, kind-read}
-use Rattle.hd_world.proofs.EntrySearch.{not-there}
-use Rattle.hd_world.proofs.EntrySweep.{attaching}
-use Rattle.hd_world.proofs.HeldRoom.{room-held}
+use Rattle.hd_world.proofs.{EntrySearch.not-there, EntrySweep.attaching, HeldRoom.room-held}
 use Rattle.hd_world.proofs.EntryWrites.{HasPut, row-vacant, put-entry}
 use Rattle.hd_world.proofs.store.Store.hold_entry.Goals.{After-given-given, After-add}
 use Rattle.hd_world.proofs.store.Store.hold_entry.Goals as goal

@@ -1,7 +1,5 @@
-use Rattle.hd_world.proofs.StoreWords.{parts, ◌≡◌}
-use Rattle.hd_model.specs.Command.{idle_slot}
-use Rattle.hd_world.proofs.EntrySearch.{idle-is}
-use Rattle.hd_world.proofs.HeldRoom.{idle-held, idle-within}
+use Rattle.hd_world.proofs.StoreWords.{idle_slot, parts, ◌≡◌}
+use Rattle.hd_world.proofs.{EntrySearch.idle-is, HeldRoom.idle-held, HeldRoom.idle-within}
 use Rattle.hd_world.proofs.store.Store.idle_slot.Goals.{After-idle}
 use Rattle.hd_world.proofs.store.Store.idle_slot.Goals as goal
 
@@ -19,5 +17,4 @@ returns-clause-idle c = idle-held c.args.self.now.state c.idle.result (least c)
 pub returns-clause-within : goal.returns-clause-within
 returns-clause-within c =
     idle-within (parts c.self.inside) c.self.invariant c.given-given.ensures.table c.args.self.now
-    c.self.view_is
-    c.idle.result (least c)
+    c.self.view_is c.idle.result (least c)

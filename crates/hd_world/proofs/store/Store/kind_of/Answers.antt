@@ -1,4 +1,4 @@
-use Rattle.hd_world.proofs.StoreWords.{parts, ◌/◌, arith}
+use Rattle.hd_world.proofs.StoreWords.{arith, parts, ◌/◌}
 use Rattle.hd_world.proofs.StoreRows.{kind-outside}
 use Rattle.hd_world.proofs.store.Store.kind_of.Goals.{then-block-eq0-via-then-block-eq0, then-block-eq0-via-else-block-eq0+then-block-blocks}
 use Rattle.hd_world.proofs.store.Store.kind_of.Goals as goal

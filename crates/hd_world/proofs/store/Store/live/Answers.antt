@@ -1,6 +1,5 @@
-use Rattle.hd_world.proofs.StoreWords.{parts, ◌≡◌, ◌∙◌, ap, sym, arith, len, unheld, Machine}
-use Rattle.hd_world.proofs.StoreRows.{held-live}
-use Rattle.hd_world.proofs.StateCounts.{len-rows, len-unheld}
+use Rattle.hd_world.proofs.StoreWords.{Machine, ap, arith, len, parts, sym, unheld, ◌∙◌, ◌≡◌}
+use Rattle.hd_world.proofs.{StoreRows.held-live, StateCounts.len-rows, StateCounts.len-unheld}
 use Rattle.hd_world.proofs.store.Store.live.Goals as goal
 
 pub returns : goal.returns

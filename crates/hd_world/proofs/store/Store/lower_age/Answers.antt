@@ -1,4 +1,4 @@
-use Rattle.hd_world.proofs.StoreWords.{parts, ◌≡◌, sym, ap, ◌∙◌, subst, refl, arith, lowered, IsStored, Machine, machine_of}
+use Rattle.hd_world.proofs.StoreWords.{IsStored, Machine, ap, arith, lowered, machine_of, parts, refl, subst, sym, ◌∙◌, ◌≡◌}
 use Rattle.hd_world.proofs.StoreRows.{stored-lowered}
 use Rattle.hd_world.proofs.store.Store.lower_age.Goals.{After-lower}
 use Rattle.hd_world.proofs.store.Store.lower_age.Goals as goal

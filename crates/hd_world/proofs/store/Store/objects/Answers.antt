@@ -1,6 +1,5 @@
-use Rattle.hd_world.proofs.StoreWords.{parts, sym, ap, ◌∙◌, len, Machine}
-use Rattle.hd_world.proofs.StateCounts.{len-objects}
-use Rattle.hd_world.proofs.StateHeap.{over-heap}
+use Rattle.hd_world.proofs.StoreWords.{Machine, ap, len, parts, sym, ◌∙◌}
+use Rattle.hd_world.proofs.{StateCounts.len-objects, StateHeap.over-heap}
 use Rattle.hd_world.proofs.store.Store.objects.Goals as goal
 
 pub returns-clause-value : goal.returns-clause-value

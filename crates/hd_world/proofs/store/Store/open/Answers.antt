@@ -1,4 +1,4 @@
-use Rattle.hd_world.proofs.StoreWords.{refl, ap, subst, ◌∙◌, ◌≡◌, replicate, None, start_of, names_of, IsStored, state_of, numbers_of}
+use Rattle.hd_world.proofs.StoreWords.{IsStored, None, ap, names_of, numbers_of, refl, replicate, start_of, state_of, subst, ◌∙◌, ◌≡◌}
 use Rattle.hd_world.proofs.StoreOpen.{opened, are_opened, stored-opened, names-opened, state-opened}
 use Rattle.hd_world.proofs.store.Store.open.Goals as goal
 

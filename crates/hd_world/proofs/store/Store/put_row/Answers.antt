@@ -1,5 +1,4 @@
-use Rattle.hd_world.proofs.StoreWords.{parts, ◌≡◌, ◌/◌, true, Some, sym, ap, ◌∙◌, subst, handles_of, with_row, fits_in}
-use Rattle.hd_seg.specs.Row.{handle_of, extra_of}
+use Rattle.hd_world.proofs.StoreWords.{Some, ap, extra_of, fits_in, handle_of, handles_of, parts, subst, sym, true, with_row, ◌/◌, ◌∙◌, ◌≡◌}
 use Rattle.hd_world.proofs.StoreRows.{vacant-row, not-held, use-read, kind-read, row-put}
 use Rattle.hd_world.proofs.store.Store.put_row.Goals.{After-put_row}
 use Rattle.hd_world.proofs.store.Store.put_row.Goals as goal
@@ -18,8 +17,7 @@ put_row-requires-clause-fitting c =
 after : (c : After-put_row) → c.put_row.new.self ≡ with_row c.self.inside.table c.args.slot.0
     (handle_of c.args.kind c.args.row)
 after c =
-    c.put_row.ensures
-    ∙ ap (λ k. with_row c.self.inside.table c.args.slot.0 (handle_of k c.args.row))
+    c.put_row.ensures ∙ ap (λ k. with_row c.self.inside.table c.args.slot.0 (handle_of k c.args.row))
     (kind-read (parts c.self.inside) c.args.self.now c.self.view_is c.args.slot c.args.kind
     c.requires.free.of_kind)
 

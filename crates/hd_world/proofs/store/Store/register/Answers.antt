@@ -1,4 +1,4 @@
-use Rattle.hd_world.proofs.StoreWords.{parts, ◌+◌, ◌*◌}
+use Rattle.hd_world.proofs.StoreWords.{parts, ◌*◌, ◌+◌}
 use Rattle.hd_world.proofs.RootAccess.{register-is, register-within, root-named}
 use Rattle.hd_world.proofs.store.Store.register.Goals as goal
 

@@ -1,7 +1,4 @@
-use Rattle.hd_world.proofs.StoreWords.{parts, ◌≡◌, ◌∙◌, All, true, map, List, sym, ap, subst, has_object, unheld, Machine}
-use Rattle.hd_model.specs.RootText.{roots_of}
-use Rattle.hd_scan.specs.declared.gathering.Root.{Root}
-use Rattle.hd_world.specs.Listing.{root_named}
+use Rattle.hd_world.proofs.StoreWords.{All, List, Machine, Root, ap, has_object, map, parts, root_named, roots_of, subst, sym, true, unheld, ◌∙◌, ◌≡◌}
 use Rattle.hd_world.proofs.RootIdentities.{roots-are, roots-hold, unheld-roots}
 use Rattle.hd_world.proofs.store.Store.roots.Goals as goal
 

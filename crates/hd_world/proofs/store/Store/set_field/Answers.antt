@@ -1,4 +1,4 @@
-use Rattle.hd_world.proofs.StoreWords.{parts, ◌≡◌, ◌<◌, length, slice_set, sym, ap, ◌∙◌, subst, IfSome, true, placed_at, has_object, with_object, name_in, named_in, IsNamed, Machine, object_named}
+use Rattle.hd_world.proofs.StoreWords.{IfSome, IsNamed, Machine, ap, has_object, length, name_in, named_in, object_named, parts, placed_at, slice_set, subst, sym, true, with_object, ◌<◌, ◌∙◌, ◌≡◌}
 use Rattle.hd_world.proofs.NamedAddresses.{in_heap, count-is, named_objects}
 use Rattle.hd_world.proofs.StoreWrite.{Writes, stored-write, written}
 use Rattle.hd_world.proofs.Barrier.{field_new, writes_field, reads_field}

@@ -1,4 +1,4 @@
-use Rattle.hd_world.proofs.StoreWords.{parts, ◌+◌, ◌*◌}
+use Rattle.hd_world.proofs.StoreWords.{parts, ◌*◌, ◌+◌}
 use Rattle.hd_world.proofs.RootAccess.{stored-root, machine-register}
 use Rattle.hd_world.proofs.store.Store.set_register.Goals as goal
 

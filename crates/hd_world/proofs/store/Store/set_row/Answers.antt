@@ -1,5 +1,4 @@
-use Rattle.hd_world.proofs.StoreWords.{parts, ◌≡◌, with_row}
-use Rattle.hd_seg.specs.Row.{handle_of, extra_of}
+use Rattle.hd_world.proofs.StoreWords.{extra_of, handle_of, parts, with_row, ◌≡◌}
 use Rattle.hd_world.proofs.StoreRows.{still-live, still-fits, rewritten, live-kinded, live-kind, live-unheld, row-put}
 use Rattle.hd_world.proofs.store.Store.set_row.Goals.{After-set_extra}
 use Rattle.hd_world.proofs.store.Store.set_row.Goals as goal

@@ -1,4 +1,4 @@
-use Rattle.hd_world.proofs.StoreWords.{parts, ◌≡◌, ◌+◌, ◌*◌, length, sym, subst, arith, machine_of, with_static, named_in}
+use Rattle.hd_world.proofs.StoreWords.{arith, length, machine_of, named_in, parts, subst, sym, with_static, ◌*◌, ◌+◌, ◌≡◌}
 use Rattle.hd_world.proofs.RootAccess.{with_root, stored-root, machine-static}
 use Rattle.hd_world.proofs.store.Store.set_static.Goals as goal
 
@@ -14,7 +14,6 @@ returns c =
     subst
     (λ n. machine_of (with_root f (16 * n + c.args.k) c.args.v)
     ≡ record c.args.self.now {
-      state = with_static c.args.self.now.state c.args.k
-          (named_in c.args.self.now.names c.args.v);
+      state = with_static c.args.self.now.state c.args.k (named_in c.args.self.now.names c.args.v);
     }) (sym callers)
     (machine-static f c.args.self.now c.self.view_is c.self.invariant c.args.k c.args.v)

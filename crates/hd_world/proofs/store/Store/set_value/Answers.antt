@@ -1,6 +1,5 @@
-use Rattle.hd_world.proofs.StoreWords.{parts, refl, placed_at}
-use Rattle.hd_world.proofs.NamedAddresses.{in_heap}
-use Rattle.hd_world.proofs.StoreWrite.{written-beside}
+use Rattle.hd_world.proofs.StoreWords.{parts, placed_at, refl}
+use Rattle.hd_world.proofs.{NamedAddresses.in_heap, StoreWrite.written-beside}
 use Rattle.hd_world.proofs.store.Store.set_value.Goals as goal
 
 pub set_value-requires : goal.set_value-requires

@@ -1,7 +1,5 @@
-use Rattle.hd_world.proofs.StoreWords.{parts, ap, ◌∙◌, subst, name_in, SearchSteps}
-use Rattle.hd_model.specs.Command.{slot_of_key}
-use Rattle.hd_world.proofs.EntrySearch.{found-is, search-steps}
-use Rattle.hd_world.proofs.HeldRoom.{found-held}
+use Rattle.hd_world.proofs.StoreWords.{SearchSteps, ap, name_in, parts, slot_of_key, subst, ◌∙◌}
+use Rattle.hd_world.proofs.{EntrySearch.found-is, EntrySearch.search-steps, HeldRoom.found-held}
 use Rattle.hd_world.proofs.store.Store.slot_of_key.Goals as goal
 
 pub returns-clause-value : goal.returns-clause-value

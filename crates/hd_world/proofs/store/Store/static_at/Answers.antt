@@ -1,4 +1,4 @@
-use Rattle.hd_world.proofs.StoreWords.{parts, ◌≡◌, ◌+◌, ◌*◌, get_or, length, subst, arith, callers_of}
+use Rattle.hd_world.proofs.StoreWords.{arith, callers_of, get_or, length, parts, subst, ◌*◌, ◌+◌, ◌≡◌}
 use Rattle.hd_world.proofs.RootAccess.{static-is, static-within, root-named}
 use Rattle.hd_world.proofs.store.Store.static_at.Goals as goal
 

@@ -1,4 +1,4 @@
-use Rattle.hd_world.proofs.StoreWords.{parts, ◌≡◌, ◌*◌, Some, ap, ◌∙◌, subst, arith, handles_of, use_of, without_use, kind_at, Machine, machine_of}
+use Rattle.hd_world.proofs.StoreWords.{Machine, Some, ap, arith, handles_of, kind_at, machine_of, parts, subst, use_of, without_use, ◌*◌, ◌∙◌, ◌≡◌}
 use Rattle.hd_world.proofs.StoreRows.{with_table, stored-back, block-single, vacant-row}
 use Rattle.hd_world.proofs.store.Store.take_back.Goals as goal
 

@@ -1,4 +1,4 @@
-use Rattle.hd_world.proofs.StoreWords.{parts, sym, ap, ◌∙◌, subst, IsStored, machine_of}
+use Rattle.hd_world.proofs.StoreWords.{IsStored, ap, machine_of, parts, subst, sym, ◌∙◌}
 use Rattle.hd_world.proofs.StoreRows.{with_table, stored-end, machine-end, live-row, live-free}
 use Rattle.hd_world.proofs.store.Store.take_row.Goals as goal
 

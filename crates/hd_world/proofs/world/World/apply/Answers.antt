@@ -1,6 +1,5 @@
-use Rattle.hd_world.proofs.StoreWords.{◌≡◌, ℕ, ◌<◌, ◌+◌, ◌^◌, [], ◌∷◌, ◌++◌, length, sym, ap, ◌∙◌, subst, inl, arith, Result, Ok, Err, OnErr, FinMap, nat_cmp, with_places, Machine, TakesSteps, WorldView, IsOffer}
-use Rattle.hd_world.specs.Placed.{IsTrueRun, Placed}
-use Rattle.hd_world.specs.Applied.{Applied}
+use Rattle.hd_world.proofs.StoreWords.{Err, FinMap, IsOffer, IsTrueRun, Machine, Ok, OnErr, Result, TakesSteps, WorldView, [], ap, arith, inl, length, nat_cmp, subst, sym, with_places, ℕ, ◌++◌, ◌+◌, ◌<◌, ◌^◌, ◌∙◌, ◌∷◌, ◌≡◌}
+use Rattle.hd_world.specs.{Placed.Placed, Applied.Applied}
 use Rattle.hd_world.proofs.StateHeap.{returns-stored, keeps-pinned, keeps-address}
 use Rattle.hd_world.proofs.JournalApply.{handles_of, weak_of, small_of, fresh_of, counts_of, steps_placed, offer_placed, growth_placed, at_places, placed_on, run_on, step_on, ages_on}
 use Rattle.hd_model.specs.Journal.{Recorded}
@@ -8,14 +7,9 @@ use Rattle.hd_world.proofs.world.World.apply.Goals as goal
 
 -- the journal has room for one more entry
 has_room : (g : _) (c : goal.After-run-arg-2-1 g) → length c.self.inside.journal.entries + 1 < 2 ^ 32
-has_room g c = omega (
-  arith,
-  c.spare-room.ensures.small,
-  c.spare-room.ensures.value,
-  ap
-      (λ (w : WorldView). w.spare) c.self.view_is,
-  c.requires.room,
-)
+has_room g c =
+    let known = ap (λ (w : WorldView). w.spare) c.self.view_is in
+    omega (arith, c.spare-room.ensures.small, c.spare-room.ensures.value, known, c.requires.room)
 
 pub run-requires : goal.run-requires
 run-requires g c =
@@ -131,8 +125,7 @@ returns-clause-done g c =
 pub returns-clause-steps : goal.returns-clause-steps
 returns-clause-steps g c =
     let w = c.self.inside in
-    subst
-    (λ (v : WorldView). TakesSteps v.state v.ages c.in_ok-entry.entry c.args.steps.now c.run.new.steps)
+    subst (λ (v : WorldView). TakesSteps v.state v.ages c.in_ok-entry.entry c.args.steps.now c.run.new.steps)
     c.self.view_is
     (steps_placed w.store.state w.placed.0 w.store.ages c.in_ok-entry.entry c.args.steps.now
     c.run.new.steps c.in_ok-entry.ensures.1)

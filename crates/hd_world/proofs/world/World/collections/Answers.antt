@@ -1,6 +1,4 @@
-use Rattle.hd_world.proofs.StoreWords.{◌≡◌, ℕ, zero, suc, ◌+◌, ◌<◌, cond, List, [], ◌∷◌, length, get_or, take, Some, refl, sym, ap, ◌∙◌, arith, Entry, collections_of, is_collect}
-use Rattle.std.specs.List.{slice_get}
-use Rattle.std.proofs.lemmas.List.Sums.{sum_by_more}
+use Rattle.hd_world.proofs.StoreWords.{Entry, List, Some, [], ap, arith, collections_of, cond, get_or, is_collect, length, refl, slice_get, suc, sum_by_more, sym, take, zero, ℕ, ◌+◌, ◌<◌, ◌∙◌, ◌∷◌, ◌≡◌}
 use Rattle.hd_world.proofs.world.World.collections.Goals.{Joined-is_collect, then-is_collect, else-is_collect}
 use Rattle.hd_world.proofs.world.World.collections.Goals as goal
 

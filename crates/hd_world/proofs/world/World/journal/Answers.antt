@@ -1,6 +1,5 @@
-use Rattle.hd_world.proofs.StoreWords.{subst, Run, AgedRun, WorldView, HasLimits, IsOfHeap}
-use Rattle.hd_world.proofs.JournalApply.{run_of}
-use Rattle.hd_world.proofs.StateHeap.{of-heap}
+use Rattle.hd_world.proofs.StoreWords.{AgedRun, HasLimits, IsOfHeap, Run, WorldView, subst}
+use Rattle.hd_world.proofs.{JournalApply.run_of, StateHeap.of-heap}
 use Rattle.hd_world.proofs.world.World.journal.Goals as goal
 
 pub returns-clause-run : goal.returns-clause-run

@@ -1,22 +1,8 @@
 -- The chain of a kind has as many due clumps as the blocks of the kind in any order.
-use Rattle.std.proofs.Common.{[], ◌≡◌, ◌≢◌, ℕ, true, List, ◌∷◌, length, Option, Some, None, refl, sym, ap, ◌∙◌, arith, length-append, nat_le}
-use Rattle.std.specs.Prelude.{sum_by, filter, Contains, AllPairs, slice_index}
-use Rattle.std.specs.FinMap.{FinMap, get, keys, entries, entries_sorted}
-use Rattle.std.specs.Ordering.{nat_cmp}
-use Rattle.std.proofs.lemmas.Bool.{eq-eqb, false≢true}
-use Rattle.std.proofs.lemmas.List.Sums.{sum_by-cons}
-use Rattle.hd_model.specs.declared.data.Kind.{Kind}
-use Rattle.hd_model.specs.Kinds.{kind_number}
-use Rattle.hd_model.specs.Ages.{clumps_of, visits}
-use Rattle.hd_model.specs.State.{State, BlockUse, handles_of, extra_data}
-use Rattle.hd_model.specs.Table.{Table, IsTable, chain_of}
+use Rattle.hd_world.proofs.StoreWords.{AllPairs, BlockUse, CollectedSteps, Contains, FinMap, IsTable, Kind, List, None, Option, Some, State, Table, [], ap, arith, blocks_of, chain_of, clumps_of, due_in, entries, entries_sorted, eq-eqb, extra_data, false≢true, filter, get, handles_of, has_kind, keys, keys_apart, kind_number, length, length-append, mapped_in, nat_cmp, nat_le, pairs_passing, passing_from, passing_in, refl, same_kind, slice_index, steps_by, sum_by, sum_by-cons, sym, true, visits, ℕ, ◌∙◌, ◌∷◌, ◌≡◌, ◌≢◌}
 use Rattle.hd_model.specs.Visits.{visits_of}
-use Rattle.hd_model.proofs.Members.{mapped_in, passing_from, passing_in, pairs_passing}
-use Rattle.hd_model.proofs.Entries.{entry_of, keys_apart}
-use Rattle.hd_model.proofs.KindTests.{same_kind}
-use Rattle.hd_model.proofs.MemberWeights.{lighter}
+use Rattle.hd_model.proofs.{MapEntries.entry_of, MemberWeights.lighter}
 use Rattle.hd_gc.specs.Steps.{collected_steps}
-use Rattle.hd_world.specs.Visited.{has_kind, blocks_of, due_in, steps_by, CollectedSteps}
 
 -- the due clumps of a block
 abbrev due_of : List ℕ → ℕ → ℕ → ℕ
@@ -37,14 +23,8 @@ visits_alike : (ages : List ℕ) (n : ℕ) (xs ys : List ℕ) → AllPairs (λ x
     → ((x : ℕ) → Contains xs x → Contains ys x) → ((x : ℕ) → Contains ys x → Contains xs x)
     → visits ages n xs ≡ visits ages n ys
 visits_alike ages n xs ys first second to back =
-    omega (
-      arith,
-      visits_sum ages n xs,
-      visits_sum ages n ys,
-      lighter (due_of ages n) xs ys first to,
-      lighter
-          (due_of ages n) ys xs second back,
-    )
+    let known = lighter (due_of ages n) ys xs second back in
+    omega (arith, visits_sum ages n xs, visits_sum ages n ys, lighter (due_of ages n) xs ys first to, known)
 
 kind_from : (k : Kind) (o : Option BlockUse) → has_kind k o ≡ true → o ≡ Some (handles_of k)
 kind_from k None h = absurd (false≢true h)
