@@ -1,15 +1,6 @@
 -- Callers as they are made.
-use Rattle.std.proofs.Common.{[], ◌≡◌, ℕ, ◌+◌, ◌-◌, ◌<◌, ◌≤◌, List, ◌∷◌, ◌++◌, length, get_or, drop, sum, slice_index, zero, suc, inl, inr, slice_index_or, length-append, sym, ap, ◌∙◌, subst, arith}
-use Rattle.std.proofs.Math.ListN.{get_or-append}
-use Rattle.std.proofs.Math.Seq.{get_or-append_seam}
-use Rattle.std.proofs.lemmas.List.Sums.{sum_by-drop_more}
-use Rattle.std.proofs.Math.Numerals.{add-one}
-use Rattle.std.proofs.lemmas.Bool.{cases_eq}
-use Rattle.hd_model.specs.State.{Numbers}
-use Rattle.hd_custody.specs.declared.view.View.{View}
-use Rattle.hd_custody.specs.Views.{Named, starting, shared_out, numbers_of}
-use Rattle.hd_gate.specs.Shared.{CallerView, AreAll, Begin}
-use Rattle.hd_gate.specs.Opening.{IsNew, AreNew, IsFirst}
+use Rattle.hd_gate.proofs.Basics.{AreAll, AreNew, Begin, CallerView, IsFirst, IsNew, List, Named, Numbers, View, [], ap, arith, cases_eq, drop, get_or, get_or-append, get_or-append_seam, inl, inr, length, length-append, numbers_of, shared_out, slice_index, slice_index_or, starting, subst, suc, sum, sym, zero, ℕ, ◌++◌, ◌+◌, ◌-◌, ◌<◌, ◌∙◌, ◌∷◌, ◌≡◌, ◌≤◌}
+use Rattle.std.proofs.{lemmas.List.Sums.sum_by-drop_more, Math.Numerals.add-one}
 
 -- what is still to be given: the next one's, and the rest
 pub sum_drop : (xs : List ℕ) (n : ℕ) → n < length xs → sum (drop n xs)
@@ -18,8 +9,7 @@ sum_drop xs n h = sum_by-drop_more (λ (x : ℕ). x) xs n 0 h
 
 -- seat 0 gives a share
 pub first_next : {W : Type 0} (begun v w : View W) (seats share rest : ℕ)
-    → IsFirst begun v seats (share + rest)
-    → w ≡ shared_out share v → IsFirst begun w (seats + 1) rest
+    → IsFirst begun v seats (share + rest) → w ≡ shared_out share v → IsFirst begun w (seats + 1) rest
 first_next {W = W} begun v w seats share rest first is =
     let split : w ≡ record begun { made = seats + 1; room = v.room - share } = is ∙ ap (shared_out share)
     first.view in

@@ -1,48 +1,18 @@
 -- `trim`: what its caller has under the gate, and once it left.
-use Rattle.std.proofs.Common.{◌≡◌, ℕ, ◌+◌, ◌*◌, ◌/◌, ◌%◌, ◌<◌, ◌≤◌, ◌==◌, ◌&&◌, Bool, true, false, not, cond, List, [], ◌++◌, Option, Some, None, inl, inr, refl, sym, ap, ◌∙◌, subst, eq-eqb, ne_eqb, arith}
-use Rattle.std.specs.Prelude.{IfSome, option_map}
+use Rattle.hd_gate.proofs.Basics.{Back, BlockUse, Bool, Change, Cmd, Entered, Entry, Every, Gathers, GrowsUnoffered, Has, IfSome, IsIdle, IsOffer, Kind, List, LookedFor, None, Option, OwnSteps, SlotCalls, Some, State, StepOf, Stepped, View, WorldView, [], ap, arith, asks_of, called, cases_eq, change_in, change_of, closed, cond, eq-eqb, every_append, every_picks, false, filter-append, filter_picks, first_block, first_slot, gathered, get, get_left, get_removed, ghosts, inl, inr, is_live, is_nil, kind_number, kind_word, member_at, nat_cmp, ne_eqb, not, numbers_of, option_map, part_of, picks_none, refl, row_has, rows, search_of, subst, sym, took, true, use_of, without_block, without_gathered, without_use, ℕ, ◌%◌, ◌&&◌, ◌*◌, ◌++◌, ◌+◌, ◌/◌, ◌<◌, ◌==◌, ◌∙◌, ◌≡◌, ◌≤◌}
 use Rattle.std.specs.Int.{bit_at}
-use Rattle.std.specs.FinMap as map
-use Rattle.std.specs.FinMap.{get}
-use Rattle.std.specs.Ordering.{nat_cmp}
-use Rattle.std.proofs.lemmas.Bool.{cases_eq}
 use Rattle.std.proofs.lemmas.Nat.Bits.{bit_at_ones}
 use mathlib.Core.Option.{some}
 use lib.ListN.{get_elem?}
-use Rattle.hd_model.specs.declared.data.Entry.{Entry}
-use Rattle.hd_model.specs.declared.data.Grown.TheVariants.{Back}
-use Rattle.hd_model.specs.declared.data.Kind.{Kind}
-use Rattle.hd_model.specs.declared.data.Reply.TheVariants as reply
-use Rattle.hd_model.specs.declared.command.Cmd.{Cmd}
-use Rattle.hd_model.specs.declared.command.Cmd.TheVariants as cmd
-use Rattle.hd_model.specs.Run.{part_of}
-use Rattle.hd_model.specs.State.{State, BlockUse, use_of, first_slot, without_use}
-use Rattle.hd_model.specs.Kinds.{kind_number}
-use Rattle.hd_model.specs.Step.{StepOf}
-use Rattle.hd_model.specs.Table.{kind_word}
-use Rattle.hd_model.proofs.WellFormedSteps.{first_block}
-use Rattle.hd_model.proofs.ReadAfterWrite.{get_removed, get_left}
-use Rattle.hd_custody.specs.declared.view.View.{View}
-use Rattle.hd_custody.specs.Counts.{Has, Every, rows, is_nil, without_block}
-use Rattle.hd_custody.specs.Views.{called, closed, numbers_of, took}
-use Rattle.hd_custody.specs.Calls.{gathered, Gathers}
 use Rattle.hd_custody.specs.Traces.{every_row, follow, sweep, missed, ending}
-use Rattle.hd_custody.specs.Rule.{Entered}
-use Rattle.hd_custody.proofs.Canon.{row_has, filter_picks, picks_none}
-use Rattle.std.proofs.lemmas.List.Elements.{filter-append}
-use Rattle.hd_custody.proofs.HeldSlots.{member_at, every_append, every_picks}
-use Rattle.hd_world.specs.World.{WorldView, IsOffer, GrowsUnoffered, Takes as TakesOffer, asks_of}
-use Rattle.hd_world.specs.contracts.world.WorldHeld.TheImpl.{ghosts}
+use Rattle.hd_world.specs.World.{Takes as TakesOffer}
 use Rattle.hd_gate.specs.declared.change.Change.TheVariants.{GivesBack as Gives}
-use Rattle.hd_gate.specs.Change.{change_of, change_in}
-use Rattle.hd_gate.specs.Shared.{OwnSteps, LookedFor, SlotCalls}
-use Rattle.hd_gate.specs.declared.change.Change.{Change}
-use Rattle.hd_gate.specs.Idle.{IsIdle}
-use Rattle.hd_gate.specs.Tied.{is_live}
-use Rattle.hd_gate.specs.Turns.{search_of, Stepped, without_gathered}
 use Rattle.hd_gate.proofs.HandleMake.{free_among_held}
 use Rattle.hd_gate.proofs.StepLiveSlots.{in_state, zero_is_not_one, is_trim}
 use Rattle.hd_gate.proofs.GateLeave.{SameSeat, same_seat, Leaves, leaves, every_nil, held_stays}
+use Rattle.std.specs.FinMap as map
+use Rattle.hd_model.specs.declared.data.Reply.TheVariants as reply
+use Rattle.hd_model.specs.declared.command.Cmd.TheVariants as cmd
 
 -- ---- the 64 slots of a block
 
@@ -68,8 +38,7 @@ module _ (k block : ℕ) where
 
   pub all_go : without_block block all ≡ []
   all_go =
-      filter-append (λ p. not (p.0 / 64 == block)) (rows block every_row (k + 1)) []
-      ∙ ap (λ ps. ps ++ [])
+      filter-append (λ p. not (p.0 / 64 == block)) (rows block every_row (k + 1)) [] ∙ ap (λ ps. ps ++ [])
       (filter_picks (λ x. not (x / 64 == block)) 64 (λ r. bit_at every_row r == 1) (64 * block) (λ _. k + 1)
       ∙ picks_none 64 (λ r. (bit_at every_row r == 1) && not ((64 * block + r) / 64 == block)) (64 * block)
       (λ _. k + 1) (λ r lt. ap (λ b. (bit_at every_row r == 1) && not b)
@@ -82,8 +51,7 @@ module _ (k block : ℕ) where
 -- what was gathered may be offered
 module _ (u : WorldView) (v : View WorldView) (kind : Kind) (entered : Entered ghosts v u) where
   pub may_offer : (number : ℕ) (c : Cmd) → change_of c ≡ Gives kind → (o : Option ℕ) → v.held
-      ≡ gathered (kind_number kind) o []
-      → IsOffer u.state number c (option_map first_slot o)
+      ≡ gathered (kind_number kind) o [] → IsOffer u.state number c (option_map first_slot o)
   may_offer number c gives None held = tt
   may_offer number c gives (Some block) held =
       subst (λ (x : Cmd). IsOffer u.state number x (Some (first_slot block)))
@@ -109,11 +77,9 @@ Back-injective : (a b : ℕ) → Back a ≡ Back b → a ≡ b
 Back-injective a b e = cc
 
 module _ (number : ℕ) (command : Cmd) (kind : Kind) (is_gives : change_of command ≡ Gives kind)
-    (u w : WorldView) (v v' : View WorldView)
-    (idle : IsIdle v number) (some_room : 1 ≤ v.room) (o : Option ℕ)
+    (u w : WorldView) (v v' : View WorldView) (idle : IsIdle v number) (some_room : 1 ≤ v.room) (o : Option ℕ)
     (blocks : ℕ) (are : blocks ≡ v.limits.blocks)
-    (found : Gathers (kind_number kind) blocks o v v')
-    (entered : Entered ghosts v' u) (e : Entry)
+    (found : Gathers (kind_number kind) blocks o v v') (entered : Entered ghosts v' u) (e : Entry)
     (stepped : Stepped u w number command (option_map first_slot o) e) where
   abbrev K : ℕ
   K = kind_number kind
@@ -135,8 +101,7 @@ module _ (number : ℕ) (command : Cmd) (kind : Kind) (is_gives : change_of comm
 
   does : StepOf u.numbers u.state e w.state (cmd.Trim kind)
   does = subst (StepOf u.numbers u.state e w.state)
-      (stepped.applied.command.1 ∙ is_trim u.state number kind command gives)
-      stepped.applied.step.does
+      (stepped.applied.command.1 ∙ is_trim u.state number kind command gives) stepped.applied.step.does
 
   own_steps : OwnSteps (search_of v) (search_of v')
   own_steps = record {
@@ -195,8 +160,7 @@ module _ (number : ℕ) (command : Cmd) (kind : Kind) (is_gives : change_of comm
             (sym m.grown ∙ takes.1 ∙ ap Back (first_block block)) in
             let after : w.state ≡ without_use u.state block = m.after ∙ ap (without_use u.state) which in
             leaves number command (option_map first_slot o) u w e stepped v busy idle some_room own sized
-            same refl
-            slot_calls
+            same refl slot_calls
             (λ b _ _. closed_kind u.state.blocks w.state.blocks block
             (ap (λ (s : State). s.blocks) after) b)
             (λ x _ on. inl (sym (ap (λ (s : State). is_live s x) after) ∙ on))

@@ -1,8 +1,6 @@
 -- A call that was done, read with the rooms of its caller.
-use Rattle.std.proofs.Common.{◌≡◌, ℕ, ◌+◌}
+use Rattle.hd_gate.proofs.Basics.{CallerView, Cmd, Found, HadRoom, HasDone, ℕ, ◌+◌, ◌≡◌}
 use Rattle.hd_model.specs.declared.data.Reply.{Reply}
-use Rattle.hd_model.specs.declared.command.Cmd.{Cmd}
-use Rattle.hd_gate.specs.Shared.{CallerView, Found, HadRoom, HasDone}
 
 module _ (old new : CallerView) (before after : ℕ) (command : Cmd) where
   abbrev found_with : Found old → Found (record old { room = before })

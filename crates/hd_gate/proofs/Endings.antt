@@ -1,19 +1,7 @@
 -- Callers as they end, one after another.
-use Rattle.std.proofs.Common.{◌≡◌, ℕ, zero, suc, drop, ◌+◌, ◌<◌, List, [], ◌∷◌, ◌++◌, length, length-append, inl, inr, sym, ap, ◌∙◌, subst, arith}
-use Rattle.std.specs.Prelude.{slice_index_or}
-use Rattle.std.proofs.Math.ListN.{get_or-append}
+use Rattle.hd_gate.proofs.Basics.{CallerView, Divided, Entry, HasEnded, HasParts, List, View, WorldView, [], ap, arith, drop, get_or-append, get_or-append_seam, ghosts, inl, inr, joined, length, length-append, part_of, slice_index_or, subst, suc, sym, zero, ℕ, ◌++◌, ◌+◌, ◌<◌, ◌∙◌, ◌∷◌, ◌≡◌}
 use Rattle.std.proofs.lemmas.List.{get_or-drop}
-use Rattle.std.proofs.Math.Seq.{get_or-append_seam}
-use Rattle.hd_model.specs.declared.data.Entry.{Entry}
-use Rattle.hd_custody.specs.declared.view.View.{View}
-use Rattle.hd_custody.specs.Views.{joined}
 use Rattle.hd_custody.proofs.SeatSplit.{at_end}
-use Rattle.hd_custody.specs.Rule.{Divided}
-use Rattle.hd_world.specs.World.{WorldView}
-use Rattle.hd_world.specs.contracts.world.WorldHeld.TheImpl.{ghosts}
-use Rattle.hd_model.specs.Run.{part_of}
-use Rattle.hd_gate.specs.Shared.{CallerView, HasParts}
-use Rattle.hd_gate.specs.Opening.{HasEnded}
 
 -- one more has ended
 pub one_more_ended : (others : List CallerView) (ended : List (ℕ × List Entry)) (e : ℕ × List Entry) (c : ℕ)
@@ -35,8 +23,7 @@ ends_in {W = W} begun v w n seat is = subst (λ (x : View W). x
     (sym is)
     (ap (λ (x : View W). record x {
       room = v.room + w.room;
-      ended = v.ended ++
-          (w.number, w.part) ∷ [];
+      ended = v.ended ++ (w.number, w.part) ∷ [];
     }) seat)
 
 -- the last of those who are left
@@ -76,7 +63,4 @@ module _ (callers : List CallerView) (first : View WorldView) (w : WorldView)
   ]
 
   pub has_parts : HasParts callers w.journal
-  has_parts = record {
-    each = part_at;
-    others = λ c above. divided.others c (omega (arith, made, above));
-  }
+  has_parts = record { each = part_at; others = λ c above. divided.others c (omega (arith, made, above)) }

@@ -1,38 +1,13 @@
 -- What a seat is once its caller took a step under the gate and left.
-use Rattle.std.proofs.Common.{[], ◌≡◌, ◌≢◌, ◌⊎◌, ℕ, ◌+◌, ◌/◌, ◌<◌, ◌≤◌, Bool, true, false, not, ◌&&◌, cond, List, ◌∷◌, ◌++◌, length, filter, Option, Some, inl, inr, refl, sym, ap, ◌∙◌, subst, eq-eqb, ne_eqb, length-append, arith}
-use Rattle.std.specs.Prelude.{◌==◌}
-use Rattle.std.proofs.lemmas.Bool.{cases_eq}
+use Rattle.hd_gate.proofs.Basics.{both_off, Bool, Cmd, Continues, Entered, Entry, Every, Follows, Has, HasDone, IsIdle, IsOffer, IsWellFormed, Known, List, LookedFor, MayApply, Numbers, Option, Run, Slot, SlotCalls, Some, Step, Stepped, TableId, Turned, View, WorldView, [], ap, arith, asks_of, caller_view_of, cases_eq, change_in, changed, cond, eq-eqb, false, filter, gave_back, ghosts, inl, inr, length, length-append, ne_eqb, none_ended, not, numbers_of, part_of, picks, picks_none, picks_one, refl, run_is_well_formed, search_of, subst, sym, true, ℕ, ◌&&◌, ◌++◌, ◌+◌, ◌/◌, ◌<◌, ◌==◌, ◌∙◌, ◌∷◌, ◌≡◌, ◌≢◌, ◌≤◌, ◌⊎◌}
 use mathlib.Core.Option.{some-ne-none}
-use Rattle.atomic_table.specs.Seated.{TableId}
-use Rattle.hd_model.specs.declared.data.Entry.{Entry}
-use Rattle.hd_model.specs.declared.data.Slot.{Slot}
-use Rattle.hd_model.specs.declared.command.Cmd.{Cmd}
-use Rattle.hd_model.specs.Run.{Run, part_of}
-use Rattle.hd_model.specs.State.{Numbers}
-use Rattle.hd_model.specs.Step.{Step}
-use Rattle.hd_model.specs.WellFormed.{IsWellFormed}
-use Rattle.hd_model.proofs.WellFormedSteps.{run_is_well_formed}
-use Rattle.hd_custody.specs.declared.view.View.{View}
-use Rattle.hd_custody.specs.declared.view.Limits.{Limits}
-use Rattle.hd_custody.specs.Counts.{Every, Has, changed, picks, slot_count}
-use Rattle.hd_custody.specs.Views.{Known, Continues, Follows, numbers_of, gave_back}
-use Rattle.hd_custody.proofs.Canon.{picks_none, picks_one}
-use Rattle.hd_custody.proofs.Left.{none_ended}
+use Rattle.hd_custody.specs.{declared.view.Limits.Limits, Counts.slot_count}
 use Rattle.hd_model.specs.Valid.{IsValid}
-use Rattle.hd_custody.specs.Rule.{Entered}
-use Rattle.hd_world.specs.World.{WorldView, IsOffer, asks_of}
-use Rattle.hd_world.specs.contracts.world.WorldHeld.TheImpl.{ghosts}
-use Rattle.hd_gate.specs.Change.{change_in}
-use Rattle.hd_gate.specs.Shared.{LookedFor, SlotCalls, HasDone}
-use Rattle.hd_gate.specs.Idle.{IsIdle}
-use Rattle.hd_gate.specs.Turns.{caller_view_of, search_of, Stepped, Turned}
-use Rattle.hd_world.specs.World.{MayApply}
 
 -- a caller that entered may take a step
 pub may_step : (u : WorldView) (v : View WorldView) (number : ℕ) (command : Cmd) (offer : Option Slot)
     → Entered ghosts v u → 1 ≤ v.room → number < v.limits.callers → IsValid command
-    → IsOffer u.state number command offer
-    → MayApply u number command offer
+    → IsOffer u.state number command offer → MayApply u number command offer
 may_step u v number command offer entered room known valid offered =
     let spare : v.room ≤ u.spare = entered.room in
     record {
@@ -218,10 +193,6 @@ module _ (seat mid : Known WorldView) (number : ℕ) (command : Cmd) (u w : Worl
 
 pub every_nil : (P : ℕ × ℕ → Type 0) → Every P []
 every_nil P n p e = absurd (some-ne-none p (sym e))
-
-both_off : (b : Bool) → (b && not b) ≡ false
-both_off true = refl
-both_off false = refl
 
 live_off : (a b : Bool) → b ≡ true → (a && not b) ≡ false
 live_off true b e = ap not e

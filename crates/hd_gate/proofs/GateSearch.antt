@@ -1,31 +1,8 @@
 -- A slot that was looked for with the gate: its caller is as if it had been looked for before.
-use Rattle.std.proofs.Common.{◌≡◌, ◌≢◌, ℕ, ◌+◌, ◌≤◌, Bool, true, false, cond, [], Option, Some, None, refl, sym, ap, ◌∙◌, subst}
-use Rattle.std.specs.Prelude.{IfSome}
-use Rattle.atomic_table.specs.Seated.{TableId}
-use Rattle.hd_model.specs.declared.data.Entry.{Entry}
-use Rattle.hd_model.specs.declared.data.Grown.TheVariants.{Zero}
-use Rattle.hd_model.specs.declared.data.Kind.TheVariants.{Dependent}
-use Rattle.hd_model.specs.declared.data.Slot.{Slot}
-use Rattle.hd_model.specs.declared.command.Cmd.{Cmd}
-use Rattle.hd_model.specs.Kinds.{kind_number}
-use Rattle.hd_model.specs.State.{block_of}
-use Rattle.hd_model.specs.Step.{StepOf}
-use Rattle.hd_custody.specs.declared.view.View.{View}
-use Rattle.hd_custody.specs.Counts.{Every, slot_block}
-use Rattle.hd_custody.specs.Views.{Known, called, took, Fresh, KindIs, GrowsByBlocks, MayGrant, handle_block, extra_block}
-use Rattle.hd_custody.specs.Calls.{offered, slot_number, Allocates}
-use Rattle.hd_custody.specs.Rule.{Entered}
-use Rattle.hd_custody.proofs.HeldSlots.{every_cons}
-use Rattle.hd_world.specs.World.{WorldView, IsOffer, needs_slot}
-use Rattle.hd_world.specs.contracts.world.WorldHeld.TheImpl.{ghosts}
-use Rattle.hd_gate.specs.declared.change.Change.TheVariants.{Takes, Adds}
-use Rattle.hd_gate.specs.Change.{change_of, change_in}
-use Rattle.hd_gate.specs.Idle.{IsIdle}
-use Rattle.hd_gate.specs.Turns.{Looked, LooksWhere, Stepped, with_grown}
+use Rattle.hd_gate.proofs.Basics.{Adds, Allocates, Bool, Cmd, Dependent, Entered, Entry, Every, Fresh, GrowsByBlocks, IfSome, IsIdle, IsOffer, KindIs, Known, Looked, LooksWhere, MayGrant, None, Option, Slot, Some, StepOf, Stepped, TableId, Takes, View, WorldView, Zero, [], ap, block_of, called, change_in, change_of, cond, every_cons, extra_block, false, ghosts, handle_block, kind_number, needs_slot, offered, refl, slot_block, slot_number, subst, sym, took, true, with_grown, ℕ, ◌+◌, ◌∙◌, ◌≡◌, ◌≢◌, ◌≤◌}
 use Rattle.hd_gate.proofs.StepLiveSlots.{LeavesThem, asks_for, adds_none}
 use Rattle.hd_gate.proofs.GateLeave.{well_formed, every_nil, Leaves}
-use Rattle.hd_gate.proofs.HandleMake.{may_offer, made}
-use Rattle.hd_gate.proofs.Plain.{plain_leaves}
+use Rattle.hd_gate.proofs.{HandleMake.may_offer, HandleMake.made, Plain.plain_leaves}
 
 abbrev K : ℕ
 K = kind_number Dependent

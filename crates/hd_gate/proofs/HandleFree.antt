@@ -1,35 +1,9 @@
 -- `hfree`: what its caller has once it left the gate, and once it let the slot go.
-use Rattle.std.proofs.Common.{◌||◌, ◌≡◌, ◌≢◌, ℕ, ◌+◌, ◌-◌, ◌/◌, ◌≤◌, true, not, cond, [], ◌∷◌, Option, Some, None, inl, inr, refl, sym, ap, ◌∙◌, subst, eq-eqb, arith}
-use Rattle.std.specs.Prelude.{is_some, IfSome, option_map}
-use Rattle.std.specs.FinMap.{get}
-use Rattle.std.proofs.lemmas.Bool.{cases_eq}
+use Rattle.hd_gate.proofs.Basics.{Change, Cmd, Entered, Entry, Follows, Frees, Handle, HasAs, HasDone, Id, IfSome, IsIdle, Kind, Known, LookedFor, None, Numbers, Option, ReleasesFreed, ReleasesOne, SearchView, Slot, SlotCalls, Some, StepOf, Stepped, TableId, Turned, View, WorldView, [], ap, arith, asks_of, block_of, caller_view_of, cases_eq, change_in, change_of, cond, eq-eqb, freed_in, gave_back, get, ghosts, handles_of, inl, inr, is_some, kind_in_use, kind_number, kind_word, not, option_map, refl, search_of, subst, sym, took, true, use_of, without, ℕ, ◌+◌, ◌-◌, ◌/◌, ◌||◌, ◌∙◌, ◌∷◌, ◌≡◌, ◌≢◌, ◌≤◌}
 use lib.ListN.{get_elem?}
-use Rattle.atomic_table.specs.Seated.{TableId}
-use Rattle.hd_model.specs.declared.data.Id.{Id}
-use Rattle.hd_model.specs.declared.data.Entry.{Entry}
-use Rattle.hd_model.specs.declared.data.Kind.{Kind}
-use Rattle.hd_model.specs.declared.data.Reply.TheVariants as reply
-use Rattle.hd_model.specs.declared.data.Slot.{Slot}
-use Rattle.hd_model.specs.declared.command.Cmd.{Cmd}
-use Rattle.hd_model.specs.State.{Numbers, Handle, handles_of, use_of, block_of}
-use Rattle.hd_model.specs.Kinds.{kind_number}
-use Rattle.hd_model.specs.Step.{StepOf}
-use Rattle.hd_model.specs.Table.{kind_word}
-use Rattle.hd_custody.specs.declared.view.View.{View}
-use Rattle.hd_custody.specs.Counts.{HasAs, without}
-use Rattle.hd_custody.specs.Views.{Known, Follows, gave_back, took}
-use Rattle.hd_custody.specs.Rule.{Entered}
-use Rattle.hd_world.specs.World.{WorldView, asks_of}
-use Rattle.hd_world.specs.Growth.{kind_in_use}
-use Rattle.hd_world.specs.contracts.world.WorldHeld.TheImpl.{ghosts}
-use Rattle.hd_gate.specs.declared.change.Change.TheVariants.{Frees}
-use Rattle.hd_gate.specs.Change.{change_of, change_in}
-use Rattle.hd_gate.specs.declared.change.Change.{Change}
-use Rattle.hd_gate.specs.Shared.{SearchView, LookedFor, ReleasesOne, SlotCalls, HasDone}
-use Rattle.hd_gate.specs.Idle.{IsIdle}
-use Rattle.hd_gate.specs.Turns.{caller_view_of, search_of, Stepped, Turned, freed_in, ReleasesFreed}
 use Rattle.hd_gate.proofs.StepLiveSlots.{in_state, is_free, LeavesSlots, IsFreed, FreesAt, frees_at}
 use Rattle.hd_gate.proofs.GateLeave.{well_formed, idle_of, goes_on, done_after, held_stays, held_ends}
+use Rattle.hd_model.specs.declared.data.Reply.TheVariants as reply
 
 module _ (number : ℕ) (command : Cmd) (is_frees : change_of command ≡ Frees) (u w : WorldView)
     (v : View WorldView) (idle : IsIdle v number) (some_room : 1 ≤ v.room) (few : v.limits.blocks ≤ 256)

@@ -1,45 +1,13 @@
 -- `hnew`, and a `cadd` that needs a slot: what its caller has under the gate, and once it left.
-use Rattle.std.proofs.Common.{◌≡◌, ◌≢◌, ◌⊎◌, ℕ, ◌+◌, ◌*◌, ◌<◌, ◌≤◌, ◌==◌, true, false, cond, [], ◌∷◌, Option, Some, None, inl, inr, refl, sym, ap, ◌∙◌, subst, eq-eqb, ne_eqb, arith}
-use Rattle.std.specs.Prelude.{IsNone, ◌↔◌}
-use Rattle.std.specs.FinMap as map
-use Rattle.std.specs.FinMap.{get}
-use Rattle.std.specs.Ordering.{nat_cmp}
-use Rattle.std.proofs.lemmas.Bool.{cases_eq}
+use Rattle.hd_gate.proofs.Basics.{Allocates, Back, BlockUse, Change, Cmd, Entered, Entry, Grown, GrowsFor, GrowsUnoffered, Has, IsFree, IsIdle, IsNone, IsOffer, Kind, LookedFor, MayGrant, MayOffer, None, Numbers, One, Option, OwnMiss, OwnSteps, SearchView, Slot, SlotCalls, Some, State, StepOf, Stepped, Takes, TakesFor, Two, View, WorldView, Zero, [], ap, arith, asks_of, block_of, blocks_needed, called, cases_eq, change_in, changed, cond, eq-eqb, extra_block, extra_data, false, get, get_beside, get_inserted, ghosts, granted, handle_block, handle_slot, handles_of, has_member, inl, inr, is_live, is_nil, is_paired, kind_number, kind_word, nat_cmp, ne_eqb, numbers_of, offered, part_of, refl, search_of, slot_number, subst, sym, took, true, use_of, with_data_some, with_grown, ℕ, ◌*◌, ◌+◌, ◌<◌, ◌==◌, ◌↔◌, ◌∙◌, ◌∷◌, ◌≡◌, ◌≢◌, ◌≤◌, ◌⊎◌}
 use mathlib.Core.Option.{some}
 use lib.ListN.{get_elem?}
-use Rattle.hd_model.specs.declared.data.Entry.{Entry}
-use Rattle.hd_model.specs.declared.data.Grown.{Grown}
-use Rattle.hd_model.specs.declared.data.Grown.TheVariants.{Zero, One, Two, Back}
-use Rattle.hd_model.specs.declared.data.Kind.{Kind}
-use Rattle.hd_model.specs.declared.data.Refusal.TheVariants as refusal
-use Rattle.hd_model.specs.declared.data.Reply.TheVariants as reply
-use Rattle.hd_model.specs.declared.data.Slot.{Slot}
-use Rattle.hd_model.specs.declared.command.Cmd.{Cmd}
-use Rattle.hd_model.specs.Run.{part_of}
-use Rattle.hd_model.specs.State.{Numbers, State, BlockUse, handles_of, extra_data, use_of, block_of, IsFree}
-use Rattle.hd_model.specs.Kinds.{kind_number, is_paired}
-use Rattle.hd_model.specs.Step.{StepOf, blocks_needed}
-use Rattle.hd_model.specs.Table.{kind_word}
-use Rattle.hd_model.proofs.ReadAfterWrite.{get_inserted, get_beside}
-use Rattle.hd_custody.specs.declared.view.View.{View}
-use Rattle.hd_custody.specs.Counts.{Has, changed, is_nil}
-use Rattle.hd_custody.specs.Views.{called, numbers_of, GrowsByBlocks as GrowsKind, MayGrant, handle_block, extra_block, took, granted}
-use Rattle.hd_custody.specs.Calls.{offered, slot_number, Allocates}
-use Rattle.hd_custody.specs.Misses.{WholeMiss}
-use Rattle.hd_custody.specs.Rule.{Entered}
-use Rattle.hd_custody.proofs.Canon.{with_data_some}
-use Rattle.hd_custody.proofs.HeldSlots.{has_member}
-use Rattle.hd_world.specs.World.{WorldView, handle_slot, MayOffer, IsOffer, GrowsFor, GrowsUnoffered, TakesFor, asks_of}
-use Rattle.hd_world.specs.contracts.world.WorldHeld.TheImpl.{ghosts}
-use Rattle.hd_gate.specs.declared.change.Change.TheVariants.{Takes}
-use Rattle.hd_gate.specs.declared.change.Change.{Change}
-use Rattle.hd_gate.specs.Change.{change_in}
-use Rattle.hd_gate.specs.Shared.{SearchView, OwnSteps, OwnMiss, LookedFor, SlotCalls}
-use Rattle.hd_gate.specs.Idle.{IsIdle}
-use Rattle.hd_gate.specs.Tied.{is_live}
-use Rattle.hd_gate.specs.Turns.{search_of, Stepped, with_grown}
+use Rattle.hd_custody.specs.{Views.GrowsByBlocks as GrowsKind, Misses.WholeMiss}
 use Rattle.hd_gate.proofs.StepLiveSlots.{use_by_word, neither, asks_for, IsNowLive, TakesOrIsFull, takes_or_full, TakesIt, GrowsBy, takes_it, grows_by}
 use Rattle.hd_gate.proofs.GateLeave.{well_formed, SameSeat, same_seat, Leaves, leaves, held_stays, held_lives}
+use Rattle.std.specs.FinMap as map
+use Rattle.hd_model.specs.declared.data.Refusal.TheVariants as refusal
+use Rattle.hd_model.specs.declared.data.Reply.TheVariants as reply
 
 -- ---- a slot held was free
 
@@ -53,18 +21,15 @@ module _ (u : WorldView) (v : View WorldView) (kind : Kind) (entered : Entered g
       record {
         no_handle = none.0;
         not_weak = none.1;
-        of_kind =
-            use_by_word (use_of u.state (block_of slot)) kind (has.1 (λ e. absurd (omega (arith, e))));
+        of_kind = use_by_word (use_of u.state (block_of slot)) kind (has.1 (λ e. absurd (omega (arith, e))));
       }
 
   -- what `allocate` found may be offered
   pub may_offer : (number : ℕ) (c : Cmd) → asks_of u.state number c ≡ handle_slot kind → (o : Option Slot)
-      → v.held ≡ offered (kind_number kind) (slot_number o) []
-      → IsOffer u.state number c o
+      → v.held ≡ offered (kind_number kind) (slot_number o) [] → IsOffer u.state number c o
   may_offer number c asks None held = tt
   may_offer number c asks (Some slot) held =
-      subst (λ a. MayOffer u.state a slot) (sym asks)
-      (free_among_held 0 slot (ap (λ h. get_elem? h 0) held))
+      subst (λ a. MayOffer u.state a slot) (sym asks) (free_among_held 0 slot (ap (λ h. get_elem? h 0) held))
 
 -- ---- the one slot held became live
 
@@ -183,8 +148,7 @@ module _ (number : ℕ) (command : Cmd) (kind : Kind) (u w : WorldView)
 
   -- an offered slot was taken
   took_it : (slot : Slot) → o ≡ Some slot
-      → TakesIt u.numbers u.state (well_formed stepped) e w.state stepped.applied.step slot
-      → LeavesBy Zero
+      → TakesIt u.numbers u.state (well_formed stepped) e w.state stepped.applied.step slot → LeavesBy Zero
   took_it slot is it =
       is_stored Zero slot.0 u.state.blocks (held ∙ ap (λ p. offered K (slot_number p) []) is) it.is_stored
       refl same refl (λ b _ _. ap (λ m. kind_word (get m b)) it.is_stored.blocks_are)
@@ -204,8 +168,7 @@ module _ (number : ℕ) (command : Cmd) (kind : Kind) (u w : WorldView)
         (well_formed stepped) e w.state stepped.applied.step x blocks_after) (omega arith) now
 
     none_offered : (g : Grown) → GrowsBy u.numbers u.state
-        (well_formed stepped) e w.state stepped.applied.step kind g
-        → LeavesBy g
+        (well_formed stepped) e w.state stepped.applied.step kind g → LeavesBy g
     none_offered Zero by =
         leaves number command o u w e stepped v (took u v') idle some_room own sized same refl slot_calls
         (λ b _ _. ap (λ (s : State). kind_word (use_of s b)) by.0)
@@ -228,8 +191,7 @@ module _ (number : ℕ) (command : Cmd) (kind : Kind) (u w : WorldView)
         is_stored (Two block other) (64 * block) _ (ap (λ h. (64 * block, K + 1) ∷ h) empty)
         (at_first block _ by.3) refl same refl
         (λ b _ _. word_after (map.insert u.state.blocks block (handles_of kind)) w.state.blocks
-        extra_data other by.3.blocks_are b
-        ∙ ap (cond (other == b) 8)
+        extra_data other by.3.blocks_are b ∙ ap (cond (other == b) 8)
         (word_after u.state.blocks (map.insert u.state.blocks block (handles_of kind))
         (handles_of kind) block refl b)
         ∙ sym (ap (λ cs. changed cs (ghosts.kind u) b) changes))

@@ -1,3 +1,4 @@
+pub mod Basics
 pub mod TiedPool
 pub mod PoolStep
 pub mod Beginnings

@@ -1,31 +1,9 @@
 -- A command that leaves the slots as they are.
-use Rattle.std.proofs.Common.{◌≡◌, ℕ, ◌-◌, length, ◌≤◌, Bool, true, false, cond, None, Result, Ok, Err, inl, refl, sym, ap, ◌∙◌, subst, arith}
-use Rattle.std.specs.Prelude.{MatchResult}
-use Rattle.std.specs.FinMap.{get}
-use Rattle.atomic_table.specs.Seated.{TableId}
-use Rattle.hd_model.specs.declared.data.Entry.{Entry}
+use Rattle.hd_gate.proofs.Basics.{Adds, Bool, Change, Cmd, Dependent, Entered, Entry, Err, FitsHeap, Follows, Frees, GivesBack, IsIdle, Keeps, Known, LookedFor, MatchResult, None, Numbers, Ok, Result, Run, SearchView, SlotCalls, State, Stayed, Stepped, TableId, Takes, View, WantsMemory, WorldView, adding_of, ap, arith, asks_of, caller_view_of, change_in, cond, false, gave_back, get, ghosts, handle_slot, inl, kind_word, length, needs_new, no_room, part_of, refl, search_of, subst, sym, took, true, unchanged, ℕ, ◌-◌, ◌∙◌, ◌≡◌, ◌≤◌}
 use Rattle.hd_model.specs.declared.data.Memory.{Memory}
-use Rattle.hd_model.specs.declared.command.Cmd.{Cmd}
-use Rattle.hd_model.specs.declared.command.Cmd.TheVariants as cmd
-use Rattle.hd_model.specs.Table.{kind_word}
-use Rattle.hd_model.specs.Run.{Run, part_of}
-use Rattle.hd_model.specs.declared.data.Kind.TheVariants.{Dependent}
-use Rattle.hd_model.specs.Command.{adding_of}
-use Rattle.hd_model.specs.State.{Numbers, State}
-use Rattle.hd_custody.specs.declared.view.View.{View}
-use Rattle.hd_custody.specs.Views.{Known, Follows, gave_back, took}
-use Rattle.hd_custody.specs.Rule.{Entered}
-use Rattle.hd_custody.proofs.Left.{unchanged}
-use Rattle.hd_world.specs.World.{WorldView, FitsHeap, handle_slot, no_room, needs_new, asks_of}
-use Rattle.hd_world.specs.contracts.world.WorldHeld.TheImpl.{ghosts}
-use Rattle.hd_gate.specs.declared.change.Change.TheVariants.{Takes, Adds, Frees, GivesBack, Keeps}
-use Rattle.hd_gate.specs.Change.{change_in}
-use Rattle.hd_gate.specs.declared.change.Change.{Change}
-use Rattle.hd_gate.specs.Shared.{SearchView, LookedFor, SlotCalls}
-use Rattle.hd_gate.specs.Idle.{IsIdle}
-use Rattle.hd_gate.specs.Turns.{caller_view_of, search_of, Stayed, Stepped, WantsMemory}
 use Rattle.hd_gate.proofs.StepLiveSlots.{LeavesThem, LeavesSlots, leaves_slots}
 use Rattle.hd_gate.proofs.GateLeave.{well_formed, Leaves, leaves, held_stays}
+use Rattle.hd_model.specs.declared.command.Cmd.TheVariants as cmd
 
 -- it looks for nothing
 asks_nothing : (s : State) (caller : ℕ) (c : Cmd) → LeavesThem (change_in s caller c) → (blocks : ℕ)
@@ -70,8 +48,7 @@ module _ (number : ℕ) (command : Cmd) (u w : WorldView)
       → Follows ghosts u w (took u v)
   plain_follows (Ok e) stepped = (plain_leaves e stepped).follows
   plain_follows (Err m) wants = subst (λ (x : WorldView). Follows ghosts u x (took u v))
-      (sym wants.out.unchanged)
-      (unchanged ghosts v u entered)
+      (sym wants.out.unchanged) (unchanged ghosts v u entered)
 
   -- and where it found none, the seat is as it was
   module _ (t : TableId) (wants : WantsMemory u w command) where

@@ -1,42 +1,16 @@
 -- Over every step the pool after it is tied to the state after it.
-use Rattle.std.proofs.Common.{◌≡◌, ◌≢◌, ◌⊎◌, ◌↔◌, ℕ, ◌+◌, ◌*◌, ◌<◌, Bool, true, false, not, cond, ◌&&◌, Option, Some, None, inl, inr, refl, sym, ap, ◌∙◌, subst, arith}
-use Rattle.std.specs.Prelude.{is_some, IfSome}
+use Rattle.hd_gate.proofs.Basics.{Adding, Adds, AddsLeast, Back, BlockUse, Bool, Change, Cmd, Dependent, Entry, FindsFullExactly, FreeSlots, Frees, GivesBackLeast, GivesLeast, Grown, GrowsFor, GrowsUnoffered, HasCalled, HasNoneFor, IfSome, IsFreeFor, IsLeastFreeFor, IsLeastUnused, IsLeastWholeOf, IsOffer, IsTied, Keeps, Kind, MayGrow, MayNote, MayOffer, None, NoneAllFree, NoneFree, Numbers, Offers, One, Option, Slot, Some, State, Step, StepOf, Stepped, Takes, TakesFor, TakesLeast, TakesSlot, TrimsExactly, Two, WorldView, Zero, adding_of, and_right, ap, arith, asks_of, block_of, blocks_needed, cases_eq, change_in, cond, contains, extra_data, false, first_slot, get, get_beside, get_inserted, get_left, get_removed, given_of, grown_by, handle_slot, handles_of, in_idle, in_new, inl, inr, is_free, is_live, is_refused, is_some, kind_in_use, kind_of, kind_of_block, nat_cmp, needs_new, not, noted, refl, slots_of, step_keeps, subst, sym, true, use_of, without_use, ℕ, ◌&&◌, ◌*◌, ◌+◌, ◌<◌, ◌↔◌, ◌∙◌, ◌≡◌, ◌≢◌, ◌⊎◌}
 use Rattle.std.specs.Option.{ForSome}
-use Rattle.std.specs.FinMap as map
-use Rattle.std.specs.FinMap.{get}
-use Rattle.std.specs.FinSet as set
-use Rattle.std.specs.FinSet.{contains}
-use Rattle.std.specs.Ordering.{nat_cmp}
-use Rattle.std.proofs.lemmas.Bool.{cases_eq, and_right}
-use Rattle.hd_model.specs.declared.data.Entry.{Entry}
-use Rattle.hd_model.specs.declared.data.Grown.{Grown}
-use Rattle.hd_model.specs.declared.data.Grown.TheVariants.{Zero, One, Two, Back}
-use Rattle.hd_model.specs.declared.data.Kind.{Kind}
-use Rattle.hd_model.specs.declared.data.Kind.TheVariants.{Dependent}
-use Rattle.hd_model.specs.declared.data.Slot.{Slot}
-use Rattle.hd_model.specs.declared.data.Refusal.TheVariants as refusal
-use Rattle.hd_model.specs.declared.data.Reply.TheVariants as reply
-use Rattle.hd_model.specs.declared.command.Cmd.{Cmd}
-use Rattle.hd_model.specs.declared.command.Cmd.TheVariants as cmd
-use Rattle.hd_model.specs.State.{Numbers, State, BlockUse, handles_of, extra_data, use_of, block_of, first_slot, given_of, without_use}
-use Rattle.hd_model.specs.Command.{Adding, is_refused, in_idle, in_new, adding_of}
-use Rattle.hd_model.specs.Kinds.{kind_of}
-use Rattle.hd_model.specs.Step.{IsLeastUnused, blocks_needed, StepOf, Step}
-use Rattle.hd_model.specs.Run.{NoneFree, NoneAllFree, GivesLeast, GivesBackLeast, AddsLeast, TakesLeast}
-use Rattle.hd_model.proofs.ReadAfterWrite.{get_inserted, get_beside, get_removed, get_left}
-use Rattle.hd_model.proofs.WellFormedSteps.{step_keeps}
-use Rattle.hd_pool.specs.Pool.{FreeSlots, slots_of, IsFreeFor, IsLeastFreeFor, HasNoneFor, IsLeastWholeOf}
 use Rattle.hd_pool.proofs.SetMembers.{insert_same, insert_other, remove_same, remove_other, union_same, union_other, difference_same, difference_other}
-use Rattle.hd_world.specs.World.{WorldView, handle_slot, needs_new, asks_of, MayOffer, IsOffer, GrowsFor, GrowsUnoffered, TakesSlot, TakesFor, Takes as TakesOffer}
-use Rattle.hd_gate.specs.declared.change.Change.{Change}
-use Rattle.hd_gate.specs.declared.change.Change.TheVariants.{Takes, Adds, Frees, GivesBack as Gives, Keeps}
-use Rattle.hd_gate.specs.Change.{change_in, Offers, grown_by, without_block, noted, MayGrow, MayNote}
-use Rattle.hd_world.specs.Growth.{kind_in_use}
-use Rattle.hd_gate.specs.Alone.{HasCalled, FindsFullExactly, TrimsExactly}
-use Rattle.hd_gate.specs.Turns.{Stepped}
-use Rattle.hd_gate.specs.Tied.{kind_of_block, is_live, is_free, IsTied}
+use Rattle.hd_world.specs.World.{Takes as TakesOffer}
+use Rattle.hd_gate.specs.{declared.change.Change.TheVariants.GivesBack as Gives, Change.without_block}
 use Rattle.hd_gate.proofs.StepLiveSlots.{zero_is_not_one, asks_for, taken_for, is_free as is_hfree, is_trim, LeavesThem, LeavesSlots, leaves_slots, IsNowLive, TakesOrIsFull, takes_or_full, GrowsBy, takes_it, grows_by, FreesAt, frees_at}
 use Rattle.hd_gate.proofs.TiedPool.{in_state, least_in_state, none_in_state, whole_in_state, least_whole_in_state, none_whole_in_state, live_not_free, live_added, unused_not_live}
+use Rattle.std.specs.FinMap as map
+use Rattle.std.specs.FinSet as set
+use Rattle.hd_model.specs.declared.data.Refusal.TheVariants as refusal
+use Rattle.hd_model.specs.declared.data.Reply.TheVariants as reply
+use Rattle.hd_model.specs.declared.command.Cmd.TheVariants as cmd
 
 same_slot : (a b : Slot) → a.0 ≡ b.0 → a ≡ b
 same_slot a b e i = record { 0 = e i }
@@ -96,8 +70,7 @@ module _ (n : Numbers) (s : State) (p : FreeSlots) (tied : IsTied n s p) (e : En
         | inl same ↦
             ap (get (map.insert p.kinds block kind)) same ∙ get_inserted p.kinds block kind
             ∙ sym (ap kind_in_use (ap (use_of t) same ∙ has))
-        | inr apart ↦ get_beside p.kinds block kind other apart ∙ tied.kinds other
-            ∙ sym (others other apart)
+        | inr apart ↦ get_beside p.kinds block kind other apart ∙ tied.kinds other ∙ sym (others other apart)
       ];
       free = λ other. at other (cases_eq other.0 (first_slot block).0) (cases_eq (block_of other) block);
       well_formed = well;
@@ -248,8 +221,7 @@ module _ (n : Numbers) (s : State) (p : FreeSlots) (tied : IsTied n s p) (e : En
       subst (λ x. Follows x (Gives kind) e.slot e.grown) (sym offers.2)
       (subst (Follows p (Gives kind) e.slot) (sym takes.1) (
         record { added = ap is_some whole.added; whole = whole.whole },
-        dropped kind (block_of slot) offers.1
-            (g.after ∙ ap (without_use s) same),
+        dropped kind (block_of slot) offers.1 (g.after ∙ ap (without_use s) same),
       ))
   by_trim kind q (Some slot) offers taken grows (inr none) = absurd
       (zero_is_not_one (sym none.reply ∙ (taken slot refl).0))
@@ -476,6 +448,5 @@ module _ (p : FreeSlots) (kind : Kind) (block : ℕ) (none : HasNoneFor p kind) 
       taken ∙ (λ i. record {
         blocks = (mid_is i).blocks;
         kinds = (mid_is i).kinds;
-        free = set.remove
-            (mid_is i).free (least_is_first slot least i);
+        free = set.remove (mid_is i).free (least_is_first slot least i);
       })

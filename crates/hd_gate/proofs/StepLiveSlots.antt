@@ -1,43 +1,14 @@
 -- What a step does to the slots that are live and to the uses of blocks, by what its command does to the free
 -- slots.
-use Rattle.std.proofs.Common.{◌≡◌, ◌≢◌, ◌⊎◌, ℕ, ◌+◌, ◌*◌, ◌<◌, Bool, true, false, ◌||◌, cond, Option, Some, None, inl, inr, refl, sym, ap, ◌∙◌, subst, arith}
-use Rattle.std.specs.Prelude.{is_some, option_map}
+use Rattle.hd_gate.proofs.Basics.{Adding, Adds, AddsEntry, Back, BlockUse, Bool, Change, Cmd, Dependent, Entry, FindsTableFull, Frees, GivesBack, Grown, GrowsOrIsFull, Handle, Id, IsLeastUnused, IsOutcome, IsWellFormed, Keeps, Kind, MakesHandle, MayGive, None, Numbers, One, Option, Slot, Some, State, Step, StepOf, Takes, TakesSlot, TakesWay, Two, WeakEntry, Zero, adding_key, adding_of, ap, arith, asks_of, blocks_needed, cases_lt, change_in, change_of, cond, extra_data, false, free_handle, get, get_beside, get_inserted, get_left, get_removed, given_of, handle_at, handle_slot, handles_of, idle_slot, in_idle, in_new, inl, inr, is_live, is_paired, is_refused, is_some, kind_number, kind_of, kind_word, made_handle, nat_cmp, needs_new, no_room, option_map, or_right, refl, refuses, register_of, same_Some, slot_of_key, subst, sym, true, way_of_adding, with_entry, with_growth, with_handle, with_handle_register, write_cases, ℕ, ◌*◌, ◌+◌, ◌<◌, ◌||◌, ◌∙◌, ◌≡◌, ◌≢◌, ◌⊎◌}
+use Rattle.hd_model.specs.{declared.data.Make.Make, declared.data.Refusal.Refusal, Touched.touched_by}
+use Rattle.hd_model.proofs.Effects.{Effect, with_made_parts, collects, adds_entry, removes_entry, growth_is, effect}
+use Rattle.hd_model.proofs.{KindTests.same_number, KindTests.few_kinds, Outcomes.option_cases, Outcomes.on_handle_cases, StepFrames.untouched_stays, WeakSlots.idle_found}
+use Rattle.hd_model.proofs.StepWrites.{HandleChange, handle_stays, is_made, target_is_set, extra_is_set, is_freed, is_collected, handle_change}
 use Rattle.std.specs.FinMap as map
-use Rattle.std.specs.FinMap.{get}
-use Rattle.std.specs.Ordering.{nat_cmp}
-use Rattle.std.proofs.lemmas.Bool.{or_right, cases_lt}
-use Rattle.hd_model.specs.declared.data.Id.{Id}
-use Rattle.hd_model.specs.declared.data.Entry.{Entry}
-use Rattle.hd_model.specs.declared.data.Grown.{Grown}
-use Rattle.hd_model.specs.declared.data.Grown.TheVariants.{Zero, One, Two, Back}
-use Rattle.hd_model.specs.declared.data.Kind.{Kind}
-use Rattle.hd_model.specs.declared.data.Kind.TheVariants.{Dependent}
-use Rattle.hd_model.specs.declared.data.Make.{Make}
-use Rattle.hd_model.specs.declared.data.Slot.{Slot}
-use Rattle.hd_model.specs.declared.data.Refusal.{Refusal}
 use Rattle.hd_model.specs.declared.data.Refusal.TheVariants as refusal
 use Rattle.hd_model.specs.declared.data.Reply.TheVariants as reply
-use Rattle.hd_model.specs.declared.command.Cmd.{Cmd}
 use Rattle.hd_model.specs.declared.command.Cmd.TheVariants as cmd
-use Rattle.hd_model.specs.State.{Numbers, State, Handle, WeakEntry, BlockUse, handles_of, extra_data, handle_at, given_of, register_of, with_handle, with_handle_register}
-use Rattle.hd_model.specs.Kinds.{kind_of, kind_number, is_paired}
-use Rattle.hd_model.specs.Command.{refuses, made_handle, with_entry, free_handle, Adding, is_refused, in_idle, in_new, adding_key, adding_of, slot_of_key, idle_slot}
-use Rattle.hd_model.specs.Step.{IsOutcome, IsLeastUnused, MayGive, MakesHandle, AddsEntry, FindsTableFull, blocks_needed, with_growth, way_of_adding, TakesWay, StepOf, Step}
-use Rattle.hd_model.specs.Table.{kind_word}
-use Rattle.hd_model.specs.Touched.{touched_by}
-use Rattle.hd_model.specs.WellFormed.{IsWellFormed}
-use Rattle.hd_model.proofs.Effects.{Effect, with_made_parts, collects, adds_entry, removes_entry, growth_is, effect}
-use Rattle.hd_model.proofs.KindTests.{same_number, few_kinds}
-use Rattle.hd_model.proofs.Outcomes.{option_cases, on_handle_cases}
-use Rattle.hd_model.proofs.ReadAfterWrite.{get_inserted, get_beside, get_removed, get_left, write_cases}
-use Rattle.hd_model.proofs.StepFrames.{untouched_stays}
-use Rattle.hd_model.proofs.StepWrites.{HandleChange, handle_stays, is_made, target_is_set, extra_is_set, is_freed, is_collected, handle_change}
-use Rattle.hd_model.proofs.WeakSlots.{idle_found}
-use Rattle.hd_world.specs.World.{handle_slot, no_room, needs_new, asks_of, TakesSlot, GrowsOrIsFull}
-use Rattle.hd_gate.specs.declared.change.Change.{Change}
-use Rattle.hd_gate.specs.declared.change.Change.TheVariants.{Takes, Adds, Frees, GivesBack, Keeps}
-use Rattle.hd_gate.specs.Change.{change_of, change_in}
-use Rattle.hd_gate.specs.Tied.{is_live}
 
 -- a block whose kind word is that of a kind has handles of the kind
 pub use_by_word : (u : Option BlockUse) (k : Kind) → kind_word u ≡ kind_number k + 1 → u ≡ Some (handles_of k)
@@ -45,9 +16,6 @@ use_by_word None k e = absurd (omega (arith, e))
 use_by_word (Some (handles_of j)) k e =
     ap (λ x. Some (handles_of x)) (same_number j k (omega (arith, e)))
 use_by_word (Some extra_data) k e = absurd (omega (arith, e, few_kinds k))
-
-pub Some-injective : {A : Type 0} (a b : A) → Some a ≡ Some b → a ≡ b
-Some-injective a b e = cc
 
 pub zero_is_not_one : reply.Value 0 ≡ reply.Value 1 → ⊥
 zero_is_not_one e = let numbers : ◌≡◌ {A = ℕ} 0 1 = cc in absurd (omega (arith, numbers))
@@ -149,8 +117,7 @@ module _ (n : Numbers) (s : State) (well : IsWellFormed n s) (e : Entry) (t : St
   }
 
   live_stays : (slot : Slot) (c : Cmd) (o : Option (Handle Id)) → HandleChange s e slot c o → change_of c
-      ≡ Keeps
-      → is_some o ≡ is_some (get s.handles slot.0)
+      ≡ Keeps → is_some o ≡ is_some (get s.handles slot.0)
   live_stays slot c o handle_stays keeps = refl
   live_stays slot c o (is_made given replies free) keeps = cc
   live_stays slot c o (target_is_set handle finds replies) keeps = sym (ap is_some finds.live)
@@ -341,7 +308,7 @@ module _ (n : Numbers) (s : State) (well : IsWellFormed n s) (e : Entry) (t : St
     pub takes_it : (slot : Slot) → TakesSlot e slot → TakesOrIsFull kind → TakesIt slot
     takes_it slot takes (inl m) = record {
       is_stored = subst (λ x. IsNowLive x s.blocks)
-          (ap (λ (x : Slot). x.0) (Some-injective m.slot slot (sym m.given ∙ takes.0)))
+          (ap (λ (x : Slot). x.0) (same_Some m.slot slot (sym m.given ∙ takes.0)))
           (subst (λ g. IsNowLive m.slot.0 (with_growth s kind g).blocks) takes.1 m.live);
       grown = takes.1;
       reply = takes.2;
@@ -373,8 +340,7 @@ module _ (n : Numbers) (s : State) (well : IsWellFormed n s) (e : Entry) (t : St
       | inr enough ↦ by_growth m.slot e.grown (grows.grows enough).1 m.may m.live m.done
     ]
     grows_by grows (inr full) =
-        subst (GrowsBy kind) (sym full.refused.grown)
-        (full.refused.after, full.refused.reply, full.few)
+        subst (GrowsBy kind) (sym full.refused.grown) (full.refused.after, full.refused.reply, full.few)
 
   -- ---- `hfree`
 
@@ -399,8 +365,7 @@ module _ (n : Numbers) (s : State) (well : IsWellFormed n s) (e : Entry) (t : St
 
   pub frees_at : (h : ℕ) → IsOutcome e (free_handle s e.caller h) t → FreesAt e.slot
   frees_at h o =
-      on_handle_cases (λ r. IsOutcome e r t → FreesAt e.slot) s e.caller h _
-      (λ _. nothing) (λ _ _ _. nothing)
+      on_handle_cases (λ r. IsOutcome e r t → FreesAt e.slot) s e.caller h _ (λ _. nothing) (λ _ _ _. nothing)
       (λ slot handle _ live o.
       let handles = ap (λ (x : State). x.handles) o.after in
       let weak = ap (λ (x : State). x.weak) o.after in

@@ -1,23 +1,8 @@
 -- A pool that is tied to a state states which slots and blocks are free there.
-use Rattle.std.proofs.Common.{◌≡◌, ℕ, Bool, true, false, not, ◌&&◌, ◌||◌, Option, Some, None, refl, sym, ap, ◌∙◌, subst, arith}
-use Rattle.std.specs.Prelude.{is_some}
-use Rattle.std.specs.FinMap as map
-use Rattle.std.specs.FinMap.{get, get-empty}
-use Rattle.std.specs.FinSet as set
-use Rattle.std.specs.FinSet.{contains, contains-empty}
-use Rattle.std.specs.Ordering.{nat_cmp}
-use Rattle.std.proofs.lemmas.Bool.{and_parts, and_right}
-use Rattle.hd_model.specs.declared.data.Id.{Id}
-use Rattle.hd_model.specs.declared.data.Kind.{Kind}
-use Rattle.hd_model.specs.declared.data.Kind.TheVariants.{Dependent}
-use Rattle.hd_model.specs.declared.data.Slot.{Slot}
-use Rattle.hd_model.specs.State.{Numbers, State, Handle, BlockUse, handles_of, extra_data, use_of, handle_at, block_of, first_slot, start_of, IsFree, IsAllFree}
-use Rattle.hd_model.specs.Run.{IsLeastFree, NoneFree, IsLeastAllFree, NoneAllFree}
-use Rattle.hd_model.proofs.WellFormedSteps.{start_is_well_formed}
-use Rattle.hd_pool.specs.Pool.{FreeSlots, IsFreeFor, IsLeastFreeFor, HasNoneFor, IsWholeOf, IsLeastWholeOf, HasNoWholeOf}
-use Rattle.hd_world.specs.Growth.{kind_in_use}
-use Rattle.hd_gate.specs.Tied.{kind_of_block, is_live, IsTied}
+use Rattle.hd_gate.proofs.Basics.{BlockUse, Bool, Dependent, FreeSlots, Handle, HasNoWholeOf, HasNoneFor, Id, IsAllFree, IsFree, IsFreeFor, IsLeastAllFree, IsLeastFree, IsLeastFreeFor, IsLeastWholeOf, IsTied, IsWholeOf, Kind, None, NoneAllFree, NoneFree, Numbers, Option, Slot, Some, State, and_parts, and_right, ap, arith, block_of, contains, contains-empty, extra_data, false, first_slot, get, get-empty, handle_at, handles_of, is_live, is_some, kind_in_use, kind_of_block, nat_cmp, not, refl, start_is_well_formed, start_of, subst, sym, true, use_of, ℕ, ◌&&◌, ◌||◌, ◌∙◌, ◌≡◌}
 use Rattle.hd_gate.proofs.StepLiveSlots.{neither}
+use Rattle.std.specs.FinMap as map
+use Rattle.std.specs.FinSet as set
 
 -- a use with a kind is that of handles of the kind
 pub use_of_kind : (u : Option BlockUse) (kind : Kind) → kind_in_use u ≡ Some kind → u ≡ Some (handles_of kind)
@@ -31,8 +16,7 @@ not_true false e = refl
 
 -- an empty pool is tied to the first state
 pub tied_at_start : (n : Numbers) (s : State) (p : FreeSlots) → s ≡ start_of n → p ≡ record
-    { blocks = n.blocks; kinds = map.empty; free = set.empty }
-    → IsTied n s p
+    { blocks = n.blocks; kinds = map.empty; free = set.empty } → IsTied n s p
 tied_at_start n s p begins is = subst (λ (x : State). IsTied n x p) (sym begins) (record {
   blocks = ap (λ (q : FreeSlots). q.blocks) is;
   kinds = λ block. ap (λ (q : FreeSlots). get q.kinds block) is ∙ get-empty nat_cmp block ∙ ap kind_in_use

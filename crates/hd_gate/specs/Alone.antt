@@ -1,14 +1,9 @@
 -- What a call of one thread over a world of its own does.
 use Rattle.std.specs.Prelude.{◌≡◌, ◌↔◌, ℕ, ◌+◌, ◌<◌, [], ◌∷◌, ◌++◌}
-use Rattle.hd_model.specs.declared.data.Entry.{Entry}
-use Rattle.hd_model.specs.declared.data.Kind.{Kind}
-use Rattle.hd_model.specs.declared.data.Reply.{Reply}
+use Rattle.hd_model.specs.{declared.data.Entry.Entry, declared.data.Kind.Kind, declared.data.Reply.Reply, declared.command.Cmd.Cmd, State.given_of, Step.blocks_needed}
 use Rattle.hd_model.specs.declared.data.Refusal.TheVariants as refusal
 use Rattle.hd_model.specs.declared.data.Reply.TheVariants as reply
-use Rattle.hd_model.specs.declared.command.Cmd.{Cmd}
 use Rattle.hd_model.specs.declared.command.Cmd.TheVariants as cmd
-use Rattle.hd_model.specs.State.{given_of}
-use Rattle.hd_model.specs.Step.{blocks_needed}
 use Rattle.hd_model.specs.Run.{SoloStep, NoneFree, NoneAllFree}
 use Rattle.hd_world.specs.World.{WorldView, handle_slot, asks_of}
 

@@ -1,20 +1,13 @@
 -- What the gate of one thread does to its pool of free slots, command by command.
 use Rattle.std.specs.Prelude.{◌≡◌, ℕ, ◌≤◌, false, cond, Option, Some, None, IsSome}
-use Rattle.std.specs.FinMap.{get}
+use Rattle.std.specs.{FinMap.get, FinSet.contains}
 use Rattle.std.specs.FinMap as map
-use Rattle.std.specs.FinSet.{contains}
 use Rattle.std.specs.FinSet as set
-use Rattle.hd_model.specs.declared.data.Kind.{Kind}
+use Rattle.hd_model.specs.{declared.data.Kind.Kind, declared.data.Slot.Slot, declared.data.Grown.Grown, declared.command.Cmd.Cmd, declared.class.Class.Class, Class.class_of, Kinds.kind_of}
 use Rattle.hd_model.specs.declared.data.Kind.TheVariants as kinds
-use Rattle.hd_model.specs.declared.data.Slot.{Slot}
-use Rattle.hd_model.specs.declared.data.Grown.{Grown}
 use Rattle.hd_model.specs.declared.data.Grown.TheVariants.{Zero, One, Two, Back}
-use Rattle.hd_model.specs.declared.command.Cmd.{Cmd}
-use Rattle.hd_model.specs.declared.class.Class.{Class}
 use Rattle.hd_model.specs.declared.class.Class.TheVariants as class
-use Rattle.hd_model.specs.Class.{class_of}
 use Rattle.hd_model.specs.State.{State, block_of, first_slot}
-use Rattle.hd_model.specs.Kinds.{kind_of}
 use Rattle.hd_pool.specs.Pool.{FreeSlots, slots_of, IsLeastFreeFor, HasNoneFor, IsWhole, IsLeastWholeOf, HasNoWholeOf}
 use Rattle.hd_gate.specs.declared.change.Change.{Change}
 use Rattle.hd_world.specs.World.{needs_slot}
@@ -33,6 +26,7 @@ change_by (class.Collects n) = Keeps
 change_by (class.AnswersPlace h) = Keeps
 change_by (class.AddsEntry k v) = Adds
 change_by (class.LooksUp k) = Keeps
+change_by (class.Searches r) = Keeps
 change_by class.Plain = Keeps
 
 abbrev pub change_of : Cmd → Change

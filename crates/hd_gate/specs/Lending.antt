@@ -1,9 +1,7 @@
 -- What the list of callers is once it was lent.
-use Rattle.std.specs.Prelude.{List, length}
-use Rattle.std.specs.List.{refill}
+use Rattle.std.specs.{Prelude.List, Prelude.length, List.refill}
 use Rattle.std.specs.Borrow.{Lends, MutBor, Fml, Array}
-use Rattle.hd_gate.specs.Shared.{CallerView}
-use Rattle.hd_gate.specs.contracts.callers.Callers.{the_row}
+use Rattle.hd_gate.specs.{Shared.CallerView, contracts.callers.Callers.the_row}
 use Rattle.hd_gate.specs.contracts.callers.Caller as caller
 
 -- the callers are those that the last write to the slice left; a slice keeps its length

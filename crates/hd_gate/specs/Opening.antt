@@ -2,8 +2,7 @@
 use Rattle.std.specs.Prelude.{◌≡◌, ℕ, ◌+◌, ◌<◌, ◌≤◌, List, [], length, slice_index, slice_index_or}
 use mathlib.Core.Option.{some}
 use lib.ListN.{get_elem?}
-use Rattle.hd_custody.specs.Views.{Named}
-use Rattle.hd_custody.specs.declared.view.View.{View}
+use Rattle.hd_custody.specs.{Views.Named, declared.view.View.View}
 use Rattle.hd_model.specs.declared.data.Entry.{Entry}
 use Rattle.hd_gate.specs.Shared.{CallerView, IsCallerOf}
 

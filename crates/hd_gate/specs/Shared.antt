@@ -1,26 +1,15 @@
 -- What contracts see of callers in threads, and what a call of one of them does.
 use Rattle.std.specs.Prelude.{◌≡◌, ◌≢◌, ℕ, ◌+◌, ◌<◌, ◌≤◌, Bool, true, Some, List, [], ◌∷◌, ◌++◌, length, slice_index, slice_index_or}
 use Rattle.atomic_table.specs.Seated.{TableId}
-use Rattle.hd_model.specs.declared.data.Entry.{Entry}
-use Rattle.hd_model.specs.declared.data.Kind.{Kind}
-use Rattle.hd_model.specs.declared.data.Grown.TheVariants.{Zero}
+use Rattle.hd_model.specs.{declared.data.Entry.Entry, declared.data.Kind.Kind, declared.data.Grown.TheVariants.Zero, declared.data.Reply.Reply, declared.data.Slot.Slot, declared.command.Cmd.Cmd, Kinds.kind_number, Step.Step, Step.blocks_needed, Run.Run, Run.part_of}
 use Rattle.hd_model.specs.declared.data.Refusal.TheVariants as refusal
-use Rattle.hd_model.specs.declared.data.Reply.{Reply}
 use Rattle.hd_model.specs.declared.data.Reply.TheVariants as reply
-use Rattle.hd_model.specs.declared.data.Slot.{Slot}
-use Rattle.hd_model.specs.declared.command.Cmd.{Cmd}
 use Rattle.hd_model.specs.State.{Numbers, State, handles_of, use_of, block_of}
-use Rattle.hd_model.specs.Kinds.{kind_number}
-use Rattle.hd_model.specs.Step.{Step, blocks_needed}
-use Rattle.hd_model.specs.Run.{Run, part_of}
 use Rattle.hd_custody.specs.Traces.{Did, follow, sweep, missed, push, found}
-use Rattle.hd_custody.specs.Calls.{ShowsNone}
-use Rattle.hd_custody.specs.Misses.{WholeMiss}
-use Rattle.hd_custody.specs.Views.{Named}
+use Rattle.hd_custody.specs.{Calls.ShowsNone, Misses.WholeMiss, Views.Named}
 use Rattle.hd_world.specs.World.{Asks, object_room, handle_slot, block_back, no_room, asks_of, FitsHeap}
-use Rattle.hd_gate.specs.declared.change.Change.{Change}
+use Rattle.hd_gate.specs.{declared.change.Change.Change, Change.change_in}
 use Rattle.hd_gate.specs.declared.change.Change.TheVariants.{Takes, Adds, Frees, GivesBack, Keeps}
-use Rattle.hd_gate.specs.Change.{change_in}
 
 -- of the last call that looked for slots or released one: the steps on the shared words, how many such calls
 -- there were, and whether the caller held no slot as that one began

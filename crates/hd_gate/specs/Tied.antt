@@ -1,11 +1,8 @@
 -- How a pool is tied to the state of a world.
 use Rattle.std.specs.Prelude.{◌≡◌, ℕ, ◌&&◌, ◌||◌, Bool, not, Option, is_some}
-use Rattle.std.specs.FinMap.{get}
-use Rattle.std.specs.FinSet.{contains}
-use Rattle.hd_model.specs.declared.data.Kind.{Kind}
-use Rattle.hd_model.specs.declared.data.Slot.{Slot}
+use Rattle.std.specs.{FinMap.get, FinSet.contains}
+use Rattle.hd_model.specs.{declared.data.Kind.Kind, declared.data.Slot.Slot, WellFormed.IsWellFormed}
 use Rattle.hd_model.specs.State.{Numbers, State, use_of, block_of}
-use Rattle.hd_model.specs.WellFormed.{IsWellFormed}
 use Rattle.hd_pool.specs.Pool.{FreeSlots}
 use Rattle.hd_world.specs.Growth.{kind_in_use}
 

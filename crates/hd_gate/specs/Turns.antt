@@ -1,26 +1,12 @@
 -- What a turn does: what the world under the gate is after it, and what its seat is.
 use Rattle.std.specs.Prelude.{◌≡◌, ◌↔◌, ℕ, ◌+◌, ◌≤◌, Bool, true, false, Option, Some, None, option_map, IsTrue, IsNone, IfSome}
-use Rattle.hd_model.specs.declared.data.Entry.{Entry}
-use Rattle.hd_model.specs.declared.data.Grown.{Grown}
+use Rattle.hd_model.specs.{declared.data.Entry.Entry, declared.data.Grown.Grown, declared.data.Kind.Kind, declared.data.Kind.TheVariants.Dependent, declared.held.Held.Ghosts, declared.data.Reply.Reply, declared.data.Slot.Slot, declared.limits.TheConstants.BLOCKS, declared.command.Cmd.Cmd, Kinds.kind_number, Run.Run, Valid.IsValid, Valid.takes_memory}
 use Rattle.hd_model.specs.declared.data.Grown.TheVariants.{Zero, One, Two, Back}
-use Rattle.hd_model.specs.declared.data.Kind.{Kind}
-use Rattle.hd_model.specs.declared.data.Kind.TheVariants.{Dependent}
-use Rattle.hd_model.specs.declared.held.Held.{Ghosts}
-use Rattle.hd_model.specs.declared.data.Reply.{Reply}
-use Rattle.hd_model.specs.declared.data.Slot.{Slot}
-use Rattle.hd_model.specs.declared.limits.TheConstants.{BLOCKS}
-use Rattle.hd_model.specs.declared.command.Cmd.{Cmd}
-use Rattle.hd_model.specs.Kinds.{kind_number}
 use Rattle.hd_model.specs.State.{State, use_of, block_of}
-use Rattle.hd_model.specs.Run.{Run}
-use Rattle.hd_model.specs.Valid.{IsValid, takes_memory}
-use Rattle.hd_world.specs.Applied.{Applied}
-use Rattle.hd_world.specs.World.{WorldView, RanOut}
-use Rattle.hd_custody.specs.declared.view.View.{View}
+use Rattle.hd_world.specs.{Applied.Applied, World.WorldView, World.RanOut, Growth.kind_in_use}
+use Rattle.hd_custody.specs.{declared.view.View.View, Misses.WholeMiss}
 use Rattle.hd_custody.specs.Views.{Named, Known, numbers_of, granted, closed, Fresh, KindIs}
 use Rattle.hd_custody.specs.Calls.{slot_number, Allocates, Releases}
-use Rattle.hd_custody.specs.Misses.{WholeMiss}
-use Rattle.hd_world.specs.Growth.{kind_in_use}
 use Rattle.hd_gate.specs.Shared.{SearchView, CallerView, HadRoom, HasDone}
 use Rattle.hd_gate.specs.Idle.{IsIdle}
 

@@ -1,6 +1,5 @@
 ghost use Rattle.std.specs.Prelude.{◌≡◌, ◌<◌, ◌≤◌, IsTrue, IfOk, OnErr};
-ghost use Rattle.hd_model.specs.State.{start_of};
-ghost use Rattle.hd_model.specs.Valid.{IsValid, takes_memory};
+ghost use Rattle.hd_model.specs.{State.start_of, Valid.IsValid, Valid.takes_memory};
 ghost use Rattle.hd_world.specs.World.{FitsHeap};
 ghost use Rattle.hd_gate.specs.Alone.{HasCalled, FindsFullExactly, TrimsExactly};
 

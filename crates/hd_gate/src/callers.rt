@@ -22,9 +22,7 @@ pub struct Caller {
 impl Model for Caller {
     ghost use Rattle.std.specs.Prelude.{◌≤◌};
     ghost use Rattle.crossbeam_utils.specs.Padded.{padded_value};
-    ghost use Rattle.hd_gate.specs.Shared.{CallerView};
-    ghost use Rattle.hd_gate.specs.Turns.{caller_view_of};
-    ghost use Rattle.hd_gate.specs.Idle.{IsIdle};
+    ghost use Rattle.hd_gate.specs.{Shared.CallerView, Turns.caller_view_of, Idle.IsIdle};
 
     ghost Value = { CallerView };
 

@@ -37,6 +37,7 @@ pub(crate) fn change_of(cmd: Cmd) -> Change
         | Class::Collects(_)
         | Class::AnswersPlace { .. }
         | Class::LooksUp { .. }
+        | Class::Searches { .. }
         | Class::Plain => Change::Keeps,
     }
 }

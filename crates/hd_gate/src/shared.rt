@@ -1,8 +1,6 @@
 //! A world behind a gate, for callers in threads.
 ghost use Rattle.std.specs.Prelude.{◌≡◌, ◌<◌, ◌≤◌, [], length, sum, IsTrue, IfOk, OnErr};
-ghost use Rattle.hd_model.specs.State.{start_of};
-ghost use Rattle.hd_model.specs.Run.{Run};
-ghost use Rattle.hd_model.specs.Valid.{IsValid, takes_memory};
+ghost use Rattle.hd_model.specs.{State.start_of, Run.Run, Valid.IsValid, Valid.takes_memory};
 ghost use Rattle.hd_gate.specs.Shared.{IsCallerOf, AreAll, Begin, HasParts, IsSameCaller, HasDone, HadRoom};
 
 use crate::boxed::Boxed;

@@ -1,8 +1,6 @@
 //! What a caller does at its turn, by what its command does to the free slots.
 ghost use Rattle.std.specs.Prelude.{◌≡◌, ◌≢◌, ◌<◌, ◌≤◌, ◌+◌, ◌*◌, true, false, ℕ, IfSome, MatchResult, option_map};
-ghost use Rattle.hd_model.specs.Kinds.{kind_number, is_paired};
-ghost use Rattle.hd_model.specs.State.{first_slot};
-ghost use Rattle.hd_model.specs.Valid.{takes_memory};
+ghost use Rattle.hd_model.specs.{Kinds.kind_number, Kinds.is_paired, State.first_slot, Valid.takes_memory};
 ghost use Rattle.hd_custody.specs.Counts.{Has, HasAs};
 ghost use Rattle.hd_custody.specs.Views.{GrowsByBlocks, MayGrant, handle_block, extra_block};
 ghost use Rattle.hd_gate.specs.Change.{change_of};

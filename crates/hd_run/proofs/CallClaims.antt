@@ -1,40 +1,11 @@
 -- What a call promises, from the cause of its ending and its report.
-use Rattle.std.proofs.Common.{◌≡◌, ◌≢◌, ℕ, ◌+◌, ◌≤◌, ◌++◌, Bool, true, false, List, [], ◌⊎◌, inl, inr, length, Option, None, Some, Ok, refl, sym, ◌∙◌, ap, subst, arith, lit<, append-nil}
-use Rattle.std.proofs.lemmas.List.{length-append}
-use Rattle.std.specs.Prelude.{IsErr, IfSome}
+use Rattle.hd_run.proofs.Basics.{Alone, Answers, AreBytesRefused, AsksForLoad, AsksToRead, BadLine, Bool, Cause, CauseBy, Cmd, Done, Ending, Entry, Fault, FaultCause, Form, GaveCount, HasLine, IfSome, IsErr, IsFaultOfWords, IsProgram, IsStatus, KeepsCount, KeepsRun, Kept, Lines, List, Load, MOST_BYTES, Mode, NoMemory, None, Nothing, Ok, Option, Outcome, OverSize, Promise, Ran, ReadProgram, ReadWhole, Refused, RefusedBy, RefusesScript, Reports, Request, RootId, Rose, RunsWhole, ScriptBy, Shared, SinkView, Some, SourceView, Stopped, StopsForMemory, Summary, Took, Unread, Usage, Worked, [], ap, append-nil, arith, false, fault_status, form_for, inl, inr, journal_in, kept_of, kept_that, length, length-append, lit<, memory_text, ran_text, refl, run_from_solo, status_of, stopped_text, subst, sym, text_for, traits_of, true, world_of, world_that, ℕ, ◌++◌, ◌+◌, ◌∙◌, ◌≡◌, ◌≢◌, ◌≤◌, ◌⊎◌}
 use Rattle.std.specs.Io.KnownBytes.{Consumes, IsAtEnd}
-use Rattle.hd_model.specs.declared.command.Cmd.{Cmd}
-use Rattle.hd_model.specs.declared.data.Entry.{Entry}
-use Rattle.hd_model.specs.declared.data.RootId.{RootId}
-use Rattle.hd_model.specs.declared.limits.TheConstants.{MOST_BYTES}
 use Rattle.hd_model.specs.Grammar.{script_of}
-use Rattle.hd_model.proofs.StepChains.{run_from_solo}
 use Rattle.hd_model.proofs.RunCounts.{handles_are_made_less_freed}
-use Rattle.hd_io.specs.Counts.{Rose}
-use Rattle.hd_io.specs.Source.{SourceView, GaveCount}
-use Rattle.hd_io.specs.Sink.{SinkView, Took}
-use Rattle.hd_run.specs.declared.ending.Fault.{Fault}
-use Rattle.hd_run.specs.declared.ending.Fault.TheVariants.{Usage, Unread, OverSize, BadLine, NoMemory}
-use Rattle.hd_run.specs.declared.ending.Ran.{Ran}
-use Rattle.hd_run.specs.declared.ending.Ran.TheVariants as ran
-use Rattle.hd_run.specs.declared.ending.Ending.{Ending}
-use Rattle.hd_run.specs.declared.ending.Ending.TheVariants.{Refused, Stopped, Done}
-use Rattle.hd_run.specs.declared.mode.Form.{Form}
-use Rattle.hd_run.specs.declared.mode.Form.TheVariants.{Lines, Summary}
-use Rattle.hd_run.specs.declared.mode.Mode.{Mode}
-use Rattle.hd_run.specs.declared.mode.Mode.TheVariants.{Load}
-use Rattle.hd_run.specs.declared.outcome.Kept.{Kept}
-use Rattle.hd_run.specs.declared.outcome.Kept.TheVariants.{Nothing, Alone, Shared}
-use Rattle.hd_run.specs.declared.outcome.Outcome.{Outcome}
-use Rattle.hd_run.specs.declared.request.Request.{Request}
-use Rattle.hd_run.specs.Modes.{traits_of}
-use Rattle.hd_run.specs.Words.{IsFaultOfWords}
-use Rattle.hd_run.specs.Ending.{world_of, world_that, journal_in, kept_of, kept_that, ReadWhole, ReadProgram, IsProgram, ScriptBy, RefusedBy, FaultCause, CauseBy, Cause}
-use Rattle.hd_run.specs.Work.{Worked}
-use Rattle.hd_run.specs.Report.{fault_status, status_of, text_for, ran_text, stopped_text, memory_text, form_for, Reports}
-use Rattle.hd_run.specs.Claims.{RunsWhole, StopsForMemory, RefusesScript, IsStatus, AsksToRead, AsksForLoad, AreBytesRefused, Answers, KeepsRun, KeepsCount, HasLine, Promise}
 use Rattle.hd_run.proofs.RunEndings.{no_whole, ending_status, journal_kept, nothing_reported, run_keeps, reported_as, write_rose, status_cases}
 use Rattle.hd_run.proofs.LoadClaims.{line_of, refused_line}
+use Rattle.hd_run.specs.declared.ending.Ran.TheVariants as ran
 
 -- the handles of what is kept are those that were made, less those that were freed
 pub kept_handles : (kept : Kept) → KeepsRun kept → KeepsCount kept
@@ -217,8 +188,7 @@ module _ (old new : SourceView) where
 
   module _ (before after : SinkView) where
     whole_of : (asked : Option Request) (e : Ending) → Cause asked old new e → status_of e ≡ 0 →
-        Took before after (text_for (form_for asked) e) →
-        RunsWhole asked old new before after (kept_of e)
+        Took before after (text_for (form_for asked) e) → RunsWhole asked old new before after (kept_of e)
     whole_of None e cause is took = absurd (none_is e 0 cause is (λ e. cc) (λ e. cc))
     whole_of (Some r) (Refused f) cause is took = absurd (no_whole f is)
     whole_of (Some r) (Stopped run) cause is took = cc

@@ -1,9 +1,6 @@
 -- The callers of a run are in rising order, since its turns are a prefix of all turns.
-use Rattle.std.proofs.Common.{◌≡◌, ℕ, zero, suc, ◌+◌, ◌<◌, ◌≤◌, List, [], ◌∷◌, ◌++◌, map, length, get_or, subst, arith}
+use Rattle.hd_run.proofs.Basics.{Cmd, Entry, List, [], arith, get_or, length, map, subst, suc, turn_of, turns_from, turns_of, zero, ℕ, ◌++◌, ◌+◌, ◌<◌, ◌∷◌, ◌≡◌, ◌≤◌}
 use Rattle.std.specs.List.Sorted.{IsNonDecreasingBy}
-use Rattle.hd_model.specs.declared.command.Cmd.{Cmd}
-use Rattle.hd_model.specs.declared.data.Entry.{Entry}
-use Rattle.hd_run.specs.Turns.{turns_of, turns_from, turn_of}
 
 -- the numbers do not fall along a list, from a least one on
 abbrev Rises : {X : Type 0} → (X → ℕ) → ℕ → List X → Type 0
@@ -36,8 +33,7 @@ least_at n low (x ∷ xs) h zero d lt = h.0
 least_at n low (x ∷ xs) h (suc j) d lt = let more = least_at n (n x) xs h.1 j d (omega arith) in
     omega (arith, h.0, more)
 
-non_decreasing : {X : Type 0} (n : X → ℕ) (low : ℕ) (xs : List X) → Rises n low xs →
-    IsNonDecreasingBy n xs
+non_decreasing : {X : Type 0} (n : X → ℕ) (low : ℕ) (xs : List X) → Rises n low xs → IsNonDecreasingBy n xs
 non_decreasing n low [] h i j d le lt = absurd (omega arith)
 non_decreasing n low (x ∷ xs) h zero zero d le lt = omega arith
 non_decreasing n low (x ∷ xs) h zero (suc j) d le lt = least_at n (n x) xs h.1 j d (omega arith)

@@ -1,13 +1,6 @@
 -- What each caller's part of a journal has, by the turns of the journal.
-use Rattle.std.proofs.Common.{◌≡◌, ◌≢◌, ℕ, zero, suc, ◌+◌, ◌<◌, ◌==◌, Bool, true, false, cond, List, [], ◌∷◌, ◌++◌, map, filter, refl, sym, ◌∙◌, ap, arith, append-nil, inl, inr}
-use Rattle.std.proofs.lemmas.Bool.{eq-eqb}
+use Rattle.hd_run.proofs.Basics.{Bool, Cmd, Entry, List, [], ap, append-nil, arith, commands_of, cond, eq-eqb, false, filter, filter-append, inl, inr, list_of, map, map-append, part_of, refl, suc, sym, taken_by, true, turn_of, turns_from, turns_of, zero, ℕ, ◌++◌, ◌+◌, ◌<◌, ◌==◌, ◌∙◌, ◌∷◌, ◌≡◌, ◌≢◌}
 use Rattle.std.proofs.lemmas.Bool.Decides.{eqb_tells}
-use Rattle.std.proofs.lemmas.List.{map-append}
-use Rattle.std.proofs.lemmas.List.Elements.{filter-append}
-use Rattle.hd_model.specs.declared.command.Cmd.{Cmd}
-use Rattle.hd_model.specs.declared.data.Entry.{Entry}
-use Rattle.hd_model.specs.Run.{part_of, commands_of}
-use Rattle.hd_run.specs.Turns.{list_of, turns_of, turns_from, turn_of, taken_by}
 use Rattle.hd_run.specs.Laws.{PartsFollowTheTurns}
 
 taken_by-append : (caller : ℕ) (p q : List (ℕ × Cmd)) →
@@ -31,8 +24,7 @@ part_taken (e ∷ es) caller = by (e.caller == caller) (part_taken es caller)
     by false same = same
 
 -- a caller takes all of its own turns, and none of another's
-taken_own : (caller : ℕ) (commands : List Cmd) →
-    taken_by caller (turns_of caller commands) ≡ commands
+taken_own : (caller : ℕ) (commands : List Cmd) → taken_by caller (turns_of caller commands) ≡ commands
 taken_own caller [] = refl
 taken_own caller (c ∷ cs) = by (caller == caller) (eq-eqb caller caller refl) (taken_own caller cs)
   where
@@ -63,8 +55,7 @@ taken_later caller k [] lt = refl
 taken_later caller k (x ∷ xs) lt =
     taken_by-append caller (turns_of k x) (turns_from (k + 1) xs)
     ∙ ap (λ v. v ++ taken_by caller (turns_from (k + 1) xs))
-    (taken_other caller k x (λ e. absurd (omega (arith, e))))
-    ∙ taken_later caller (k + 1) xs (omega arith)
+    (taken_other caller k x (λ e. absurd (omega (arith, e)))) ∙ taken_later caller (k + 1) xs (omega arith)
 
 -- of all turns a caller takes its list
 taken_list : (k caller : ℕ) (lists : List (List Cmd)) →

@@ -1,9 +1,5 @@
 -- Sums over a journal, entry by entry.
-use Rattle.std.proofs.Common.{◌≡◌, ℕ, ◌+◌, ◌<◌, ◌≤◌, List, length, take, Some, ◌∙◌, ap, arith}
-use Rattle.std.specs.Prelude.{sum_by, slice_get}
-use Rattle.std.proofs.lemmas.List.Sums.{sum_by_more, sum_by-take-le}
-use Rattle.std.proofs.lemmas.Option.{get_or_from_slice_get}
-use Rattle.hd_model.specs.declared.data.Entry.{Entry}
+use Rattle.hd_run.proofs.Basics.{Entry, List, Some, ap, arith, get_or_from_slice_get, length, slice_get, sum_by, sum_by-take-le, sum_by_more, take, ℕ, ◌+◌, ◌<◌, ◌∙◌, ◌≡◌, ◌≤◌}
 
 module _ (f : Entry → ℕ) (xs : List Entry) (i : ℕ) (e : Entry) (lt : i < length xs)
     (here : slice_get xs i ≡ Some e) where

@@ -1,3 +1,4 @@
+pub mod Basics
 pub mod CallerOrder
 pub mod TurnSteps
 pub mod CallerParts

@@ -1,30 +1,11 @@
 -- The run of a load: its numbers, the sum in its line, and the line.
-use Rattle.std.proofs.Common.{◌≡◌, ℕ, ◌+◌, ◌*◌, ◌^◌, ◌<◌, ◌≤◌, true, false, List, inl, inr, Option, refl, sym, ◌∙◌, ap, subst, arith, append-nil}
-use Rattle.std.specs.List.{range_with_len}
-use Rattle.std.proofs.lemmas.List.{length-map}
+use Rattle.hd_run.proofs.Basics.{BLOCKS, Cmd, Done, Ending, Fault, Form, HEAP, HasLine, HasSumOf, IsLoadScript, LOAD_CALLERS, List, Option, Outcome, RanAllTogether, Refused, Reports, RootId, RunCause, SinkView, Stopped, Summary, Took, WorldView, ap, append-nil, arith, commands_of, false, generated_list, inl, inr, length-map, load_numbers, numbers_for, part_of, ran_text, range_with_len, refl, status_of, subst, sym, text_for, true, ℕ, ◌*◌, ◌+◌, ◌<◌, ◌^◌, ◌∙◌, ◌≡◌, ◌≤◌}
 use Rattle.std.proofs.lemmas.Nat.{mul-le}
-use Rattle.hd_model.specs.declared.command.Cmd.{Cmd}
-use Rattle.hd_model.specs.declared.data.RootId.{RootId}
-use Rattle.hd_model.specs.declared.limits.TheConstants.{HEAP, BLOCKS, LOAD_CALLERS}
-use Rattle.hd_model.specs.Generated.{load_numbers, generated_list, generated_lists}
-use Rattle.hd_model.specs.Run.{part_of, commands_of}
+use Rattle.hd_model.specs.Generated.{generated_lists}
 use Rattle.hd_script.specs.Load.{IsLoadRun}
 use Rattle.hd_script.proofs.LoadLine.{returned, loads_have_their_line}
-use Rattle.hd_io.specs.Sink.{SinkView, Took}
-use Rattle.hd_world.specs.World.{WorldView}
-use Rattle.hd_run.specs.declared.ending.Fault.{Fault}
-use Rattle.hd_run.specs.declared.ending.Ran.TheVariants as ran
-use Rattle.hd_run.specs.declared.ending.Ending.{Ending}
-use Rattle.hd_run.specs.declared.ending.Ending.TheVariants.{Refused, Stopped, Done}
-use Rattle.hd_run.specs.declared.mode.Form.{Form}
-use Rattle.hd_run.specs.declared.mode.Form.TheVariants.{Summary}
-use Rattle.hd_run.specs.declared.outcome.Outcome.{Outcome}
-use Rattle.hd_run.specs.Bounds.{numbers_for}
-use Rattle.hd_run.specs.Together.{RanAllTogether}
-use Rattle.hd_run.specs.Ending.{IsLoadScript, RunCause}
-use Rattle.hd_run.specs.Report.{status_of, text_for, ran_text, HasSumOf, Reports}
-use Rattle.hd_run.specs.Claims.{HasLine}
 use Rattle.hd_run.proofs.RunEndings.{no_whole, reported_as as all_reported}
+use Rattle.hd_run.specs.declared.ending.Ran.TheVariants as ran
 
 -- its script has four callers, so its numbers are those of every load
 pub load_is : (rounds : ℕ)

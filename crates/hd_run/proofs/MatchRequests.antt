@@ -1,25 +1,8 @@
 -- What the command's matches ask for, and when the words are valid.
-use Rattle.std.proofs.Common.{◌≡◌, ◌≢◌, ◌⊎◌, ◌-◌, ℕ, ◌≤◌, ◌^◌, List, [], ◌∷◌, map, Option, Some, None, Result, Ok, Err, inl, inr, refl, sym, ◌∙◌, ap, arith, codes, String, string_bytes, option_map, unwrap_or}
-use Rattle.std.specs.Prelude.{option_and_then}
-use Rattle.std.specs.Option.{option_map_or}
-use Rattle.std.specs.declared.alloc.Global.{Global}
-use Rattle.std.specs.Str.Parse.{ParsesUnsigned}
-use Rattle.clap.specs.Kinds.{IsAmong, Kinds}
-use Rattle.clap.specs.Matches.{ReadsOne, first_value}
-use Rattle.clap.specs.Values.{IsUnsignedIn}
-use Rattle.clap.specs.Faults.{fault_of}
-use Rattle.clap.specs.Simple.{matches_of}
-use Rattle.clap.specs.Walk.{Row, Text, one_of, rows_of}
-use Rattle.clap.specs.declared.error.kind.ErrorKind.{ErrorKind}
+use Rattle.hd_run.proofs.Basics.{BLOCKS, Err, GivesNumber, GivesNumbers, Global, HEAP, IsAmong, IsInLimits, IsUnsignedIn, Kinds, LEAST_HEAP, List, MOST_ROUNDS, Mode, None, Ok, Option, ParsesUnsigned, ReadsOne, Result, Row, Some, String, Text, [], ap, arith, asked_by, codes, fault_of, first_value, first_value-rows, inl, inr, map, matches_of, mode_of, number_in, number_of, one_of, one_text-rows, option_and_then, option_map, option_map_or, program, refl, rows_of, string_bytes, sym, unless_faulty, unwrap_or, with_numbers, ℕ, ◌-◌, ◌^◌, ◌∙◌, ◌∷◌, ◌≡◌, ◌≢◌, ◌≤◌, ◌⊎◌}
+use Rattle.clap.specs.{declared.error.kind.ErrorKind.ErrorKind, declared.parser.matches.Found.Found}
+use Rattle.hd_run.specs.{declared.request.TheConstants.ROUNDS, Words.request_of}
 use Rattle.clap.specs.declared.error.kind.ErrorKind.TheVariants as kind
-use Rattle.clap.specs.declared.parser.matches.Found.{Found}
-use Rattle.clap.proofs.WalkLemmas.{first_value-rows, one_text-rows}
-use Rattle.hd_model.specs.declared.limits.TheConstants.{HEAP, BLOCKS, MOST_ROUNDS}
-use Rattle.hd_run.specs.declared.limits.TheConstants.{LEAST_HEAP}
-use Rattle.hd_run.specs.declared.request.TheConstants.{ROUNDS}
-use Rattle.hd_run.specs.declared.mode.Mode.{Mode}
-use Rattle.hd_run.specs.Modes.{mode_of}
-use Rattle.hd_run.specs.Words.{program, number_in, number_of, with_numbers, asked_by, unless_faulty, request_of, IsInLimits, GivesNumber, GivesNumbers}
 
 -- what an option's text reads as, where it is a number of 32 bits
 pub number_read : {E : Type 0} (G : Text → Result ℕ E → Type 0) (o : Option Text) (r : Option ℕ) (default : ℕ)

@@ -1,33 +1,11 @@
 -- What the command finds for its options: numbers within their limits.
-use Rattle.std.proofs.Common.{◌≡◌, ℕ, zero, suc, ◌<◌, Bool, true, false, eqb, List, [], ◌∷◌, map, length, Option, Some, None, inl, inr, refl, sym, ◌∙◌, ap, subst, arith, codes}
-use Rattle.std.specs.Prelude.{option_map, slice_get}
-use Rattle.std.specs.List.{All, slice_index_or}
-use Rattle.std.specs.Borrow.{Bor}
-use Rattle.std.specs.Str.{bytes_eq}
-use Rattle.std.proofs.lemmas.Bool.{eqb-true}
-use Rattle.std.proofs.lemmas.List.{length-map, get_or-map}
-use Rattle.std.proofs.lemmas.List.Elements.{All-get_or}
+use Rattle.hd_run.proofs.Basics.{Accepts, All, All-get_or, App, ArgMatches, BLOCKS, Bool, Command, GivesNumber, GivesNumbers, HEAP, IsAuto, IsParsedFrom, IsUnsignedIn, LEAST_HEAP, List, MOST_ROUNDS, None, Option, Rule, Some, Text, [], ap, app_of, arith, codes, eqb, eqb-true, false, get_or-map, inl, inr, length, length-map, map, matched_of, one_text, option_map, program, read_as, reading_of, refl, rule_of, shape_of, slice_get, slice_index_or, subst, suc, sym, true, zero, ℕ, ◌<◌, ◌∙◌, ◌∷◌, ◌≡◌}
+use Rattle.std.specs.{Borrow.Bor, Str.bytes_eq}
 use Rattle.std.proofs.lemmas.Slice.Eq.{bytes_eq-Decides}
 use Rattle.clap.specs.Facts.{Entry, EntryPasses, HasReading, PassesArg, args_of, groups_of, parser_of, parser_of_value}
-use Rattle.clap.specs.Built.{IsAuto, IsParsedFrom}
-use Rattle.clap.specs.Matches.{found_of, matched_of, one_text}
-use Rattle.clap.specs.Simple.{App, app_of, shape_of}
-use Rattle.clap.specs.Values.{Accepts, IsUnsignedIn, read_as, reading_of}
-use Rattle.clap.specs.Walk.{Rule, Text, rule_of}
-use Rattle.clap.specs.declared.builder.arg.Arg.{Arg}
-use Rattle.clap.specs.declared.builder.command.Command.{Command}
-use Rattle.clap.specs.declared.builder.command.Command.TheViews.{out-Command}
-use Rattle.clap.specs.declared.builder.value_parser.Reading.{Reading}
-use Rattle.clap.specs.declared.builder.value_parser.Reading.TheVariants.{AsWritten}
-use Rattle.clap.specs.declared.builder.value_parser.ValueParser.{ValueParser}
-use Rattle.clap.specs.declared.builder.value_parser.ValueParser.TheVariants.{Unsigned}
-use Rattle.clap.specs.declared.parser.matches.ArgMatches.{ArgMatches}
-use Rattle.clap.specs.declared.parser.matches.MatchedArg.{MatchedArg}
+use Rattle.clap.specs.{Matches.found_of, declared.builder.arg.Arg.Arg, declared.builder.command.Command.TheViews.out-Command, declared.builder.value_parser.Reading.Reading, declared.builder.value_parser.Reading.TheVariants.AsWritten, declared.builder.value_parser.ValueParser.ValueParser, declared.builder.value_parser.ValueParser.TheVariants.Unsigned, declared.parser.matches.MatchedArg.MatchedArg}
 use Rattle.clap.proofs.CallerLemmas.{entry_by_id, same_rules_by_id}
 use Rattle.clap.proofs.SimpleLemmas.{all_simple, plain_fields, simple_groups}
-use Rattle.hd_model.specs.declared.limits.TheConstants.{HEAP, BLOCKS, MOST_ROUNDS}
-use Rattle.hd_run.specs.declared.limits.TheConstants.{LEAST_HEAP}
-use Rattle.hd_run.specs.Words.{program, GivesNumber, GivesNumbers}
 
 -- the first value of an entry, each value of which has a fact, has it
 first_has : (P : Text → Type 0) (vs : List (Bor Text)) (t : Text) → All (λ v. P v.now) vs

@@ -1,13 +1,5 @@
 -- How a caller goes through its list.
-use Rattle.std.proofs.Common.{◌≡◌, ℕ, ◌+◌, ◌<◌, ◌≤◌, List, [], ◌∷◌, ◌++◌, length, take, drop, get_or, sym, ◌∙◌, ap, subst, arith, IsTrue}
-use Rattle.std.proofs.lemmas.List.{drop_more, drop_all, length-drop, map-append, take-append-drop, take_more}
-use Rattle.hd_model.specs.declared.command.Cmd.{Cmd}
-use Rattle.hd_model.specs.declared.data.Entry.{Entry}
-use Rattle.hd_model.specs.declared.data.Reply.{Reply}
-use Rattle.hd_model.specs.Run.{commands_of}
-use Rattle.hd_model.specs.Valid.{takes_memory}
-use Rattle.hd_gate.specs.Shared.{CallerView, IsSameCaller, HasDone}
-use Rattle.hd_run.specs.Together.{HasPlayed, MayWantMemory}
+use Rattle.hd_run.proofs.Basics.{CallerView, Cmd, Entry, HasDone, HasPlayed, IsSameCaller, IsTrue, List, MayWantMemory, Reply, [], ap, arith, commands_of, drop, drop_all, drop_more, get_or, length, length-drop, map-append, subst, sym, take, take-append-drop, take_more, takes_memory, ℕ, ◌++◌, ◌+◌, ◌<◌, ◌∙◌, ◌∷◌, ◌≡◌, ◌≤◌}
 
 -- a caller that began as this one has done this number of commands of its list
 pub record IsAt (list : List Cmd) (begun p : CallerView) (i : ℕ) : Type 0 where
@@ -43,8 +35,7 @@ module _ (list : List Cmd) (begun : CallerView) where
     left = drop i list;
     parts = sym (take-append-drop i list) ∙ ap (λ v. v ++ drop i list) (sym at.done);
     room = omega (arith, length-drop i list, at.room);
-    wants = subst MayWantMemory
-        (sym (drop_more list i cmd lt ∙ ap (λ c. c ∷ drop (i + 1) list) here)) wants;
+    wants = subst MayWantMemory (sym (drop_more list i cmd lt ∙ ap (λ c. c ∷ drop (i + 1) list) here)) wants;
   }
 
   -- it came to the end of its list

@@ -1,11 +1,7 @@
 -- The lines of a list of roots, one after another.
-use Rattle.std.proofs.Common.{◌≡◌, ℕ, ◌+◌, ◌<◌, List, [], ◌∷◌, ◌++◌, length, take, drop, get_or, flat_map, sym, ap, ◌∙◌, subst, append-nil}
-use Rattle.std.proofs.lemmas.List.{take_more, take-append-drop}
+use Rattle.hd_run.proofs.Basics.{List, RootId, SinkView, Took, WriteBrokeOff, [], ap, append-nil, drop, flat_map, get_or, length, root_text, subst, sym, take, take-append-drop, take_more, ℕ, ◌++◌, ◌+◌, ◌<◌, ◌∙◌, ◌∷◌, ◌≡◌}
 use Rattle.std.proofs.lemmas.List.Concat.{flat_map-append}
-use Rattle.hd_io.specs.Sink.{SinkView, Took, WriteBrokeOff}
 use Rattle.hd_io.proofs.SinkPieces.{took_more, broke_after, broke_before}
-use Rattle.hd_model.specs.declared.data.RootId.{RootId}
-use Rattle.hd_model.specs.RootText.{root_text}
 
 -- at the root at position `i`
 module _ (roots : List RootId) (i : ℕ) (d : RootId) (within : i < length roots) where

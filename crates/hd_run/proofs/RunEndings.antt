@@ -1,32 +1,8 @@
 -- The endings of a run: their statuses, what is kept, and that their text can be written.
-use Rattle.std.proofs.Common.{◌≡◌, ◌≢◌, ◌≤◌, ◌⊎◌, ℕ, Bool, true, false, List, [], inl, inr, length, Result, Ok, Err, OnOk, OnErr, refl, sym, ◌∙◌, ap, subst, arith, lit<}
-use Rattle.std.specs.Prelude.{is_ok}
-use Rattle.hd_model.specs.declared.command.Cmd.{Cmd}
+use Rattle.hd_run.proofs.Basics.{Alone, BadLine, Bool, CALLERS, Cmd, Done, Ending, Err, Fault, Form, HasFewCallers, HasSumOf, IsReadyFor, IsStatus, IsWritable, Keeps, KeepsRun, Kept, Lines, List, NoMemory, Nothing, Numbers, Ok, OnErr, OnOk, Outcome, OverSize, Ran, RanAllTogether, RanBy, RanWhole, Refused, Reports, Result, Rose, Run, RunBy, RunCause, Shared, SinkView, SoloRun, Stopped, StoppedAt, StoppedAtBy, StoppedTogether, Summary, Took, Unread, Usage, WorldView, [], ap, arith, false, fault_status, inl, inr, is_ok, journal_in, kept_of, kept_that, length, lit<, memory_text, refl, run_ending, run_from_solo, status_of, stopped_text, subst, sym, text_for, true, world_of, world_that, ℕ, ◌∙◌, ◌≡◌, ◌≢◌, ◌≤◌, ◌⊎◌}
 use Rattle.hd_model.specs.declared.data.Memory.{Memory}
-use Rattle.hd_model.specs.declared.limits.TheConstants.{CALLERS}
-use Rattle.hd_model.specs.Run.{Run, SoloRun}
-use Rattle.hd_model.specs.State.{Numbers}
-use Rattle.hd_model.proofs.StepChains.{run_from_solo}
-use Rattle.hd_io.specs.Counts.{Rose}
-use Rattle.hd_io.specs.Sink.{SinkView, Took}
-use Rattle.hd_world.specs.World.{WorldView}
-use Rattle.hd_run.specs.declared.ending.Fault.{Fault}
-use Rattle.hd_run.specs.declared.ending.Fault.TheVariants.{Usage, Unread, OverSize, BadLine, NoMemory}
-use Rattle.hd_run.specs.declared.ending.Ran.{Ran}
-use Rattle.hd_run.specs.declared.ending.Ran.TheVariants as ran
-use Rattle.hd_run.specs.declared.ending.Ending.{Ending}
-use Rattle.hd_run.specs.declared.ending.Ending.TheVariants.{Refused, Stopped, Done}
-use Rattle.hd_run.specs.declared.mode.Form.{Form}
-use Rattle.hd_run.specs.declared.mode.Form.TheVariants.{Lines, Summary}
-use Rattle.hd_run.specs.declared.outcome.Kept.{Kept}
-use Rattle.hd_run.specs.declared.outcome.Kept.TheVariants.{Nothing, Alone, Shared}
-use Rattle.hd_run.specs.declared.outcome.Outcome.{Outcome}
-use Rattle.hd_run.specs.Turns.{RanWhole, IsReadyFor, StoppedAt}
-use Rattle.hd_run.specs.Together.{RanAllTogether, StoppedTogether}
-use Rattle.hd_run.specs.Ending.{world_of, world_that, journal_in, kept_of, kept_that, run_ending, Keeps, RunBy, RanBy, StoppedAtBy, RunCause}
-use Rattle.hd_run.specs.Report.{fault_status, status_of, text_for, stopped_text, memory_text, HasFewCallers, HasSumOf, IsWritable, Reports}
-use Rattle.hd_run.specs.Claims.{IsStatus, KeepsRun}
 use Rattle.hd_run.proofs.SharedRun.{few_callers}
+use Rattle.hd_run.specs.declared.ending.Ran.TheVariants as ran
 
 pub ending_status : (e : Ending) → IsStatus (status_of e)
 ending_status (Refused Usage) = (1, lit< tt, refl)

@@ -1,23 +1,8 @@
 -- The callers of a shared world once each has gone through its list: what they did is one run.
-use Rattle.std.proofs.Common.{◌≡◌, ℕ, ◌<◌, ◌≤◌, List, [], ◌∷◌, ◌++◌, map, length, drop, refl, sym, ◌∙◌, ap, subst, arith, inl, inr}
-use Rattle.std.specs.Prelude.{slice_index_or, All, Any, Bool, true, false, MatchBool}
-use Rattle.std.proofs.lemmas.Bool.{cases_lt}
-use Rattle.std.proofs.lemmas.List.{get_or-map, get_or_past, length-map, nil_from_length, drop_all}
-use Rattle.std.proofs.lemmas.List.Elements.{All-nil, All-cons, All-weaker}
-use Rattle.hd_model.specs.declared.command.Cmd.{Cmd}
-use Rattle.hd_model.specs.declared.data.Entry.{Entry}
-use Rattle.hd_model.specs.declared.limits.TheConstants.{CALLERS}
-use Rattle.hd_model.specs.State.{Numbers, State}
+use Rattle.hd_run.proofs.Basics.{All, All-cons, All-nil, All-weaker, Any, AreAll, Begin, Bool, CALLERS, CallerView, Chain, Cmd, Entry, HasFewCallers, HasParts, HasPlayed, HavePlayed, IsReadyToPlay, List, MatchBool, MayWantMemory, Numbers, RanAllTogether, Run, RunCause, State, StoppedTogether, WorldView, [], ap, arith, cases_lt, commands_of, drop, drop_all, false, get_or-map, get_or_past, inl, inr, length, length-map, link, list_of, map, nil_from_length, part_of, refl, run_ending, slice_index_or, stay, subst, sym, true, ℕ, ◌++◌, ◌<◌, ◌∙◌, ◌∷◌, ◌≡◌, ◌≤◌}
 use Rattle.hd_model.specs.Step.{Step}
-use Rattle.hd_model.specs.Run.{Chain, stay, link, Run, part_of, commands_of}
 use Rattle.hd_custody.specs.Views.{Named}
-use Rattle.hd_gate.specs.Shared.{CallerView, AreAll, Begin, HasParts}
-use Rattle.hd_world.specs.World.{WorldView}
-use Rattle.hd_run.specs.Turns.{list_of}
-use Rattle.hd_run.specs.Together.{RanAllTogether, StoppedTogether, MayWantMemory, HasPlayed, HavePlayed, IsReadyToPlay}
-use Rattle.hd_run.specs.Report.{HasFewCallers}
 use Rattle.hd_run.specs.declared.ending.Ran.TheVariants as ran
-use Rattle.hd_run.specs.Ending.{RunCause, run_ending}
 
 -- an element of a list that has one
 some_of : {X : Type 0} (xs : List X) (c : ℕ) → c < length xs → X

@@ -1,6 +1,5 @@
 -- A count that is the constant 0 does not rise.
-use Rattle.std.proofs.Common.{arith}
-use Rattle.hd_io.specs.Counts.{Rose}
+use Rattle.hd_run.proofs.Basics.{Rose, arith}
 use Rattle.hd_run.specs.Still.{StillEndsNeverFail}
 
 none_rose : Rose 0 0 → ⊥

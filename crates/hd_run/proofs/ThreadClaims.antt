@@ -1,23 +1,8 @@
 -- What `run` and `load` promise, from the cause of their ending and its report.
-use Rattle.std.proofs.Common.{◌≡◌, ◌⊎◌, true, false, List, [], ◌∷◌, inl, inr, Option, Contains, refl, sym, ◌∙◌, ap, subst, arith, lit<}
-use Rattle.hd_model.specs.declared.command.Cmd.{Cmd}
-use Rattle.hd_model.specs.declared.data.RootId.{RootId}
-use Rattle.hd_model.specs.State.{Numbers}
-use Rattle.hd_io.specs.Sink.{SinkView, Took}
-use Rattle.hd_world.specs.World.{WorldView}
-use Rattle.hd_run.specs.declared.ending.Fault.{Fault}
-use Rattle.hd_run.specs.declared.ending.Ran.TheVariants as ran
-use Rattle.hd_run.specs.declared.ending.Ending.{Ending}
-use Rattle.hd_run.specs.declared.ending.Ending.TheVariants.{Refused, Stopped, Done}
-use Rattle.hd_run.specs.declared.mode.Form.{Form}
-use Rattle.hd_run.specs.declared.outcome.Kept.TheVariants.{Nothing, Shared}
-use Rattle.hd_run.specs.declared.outcome.Outcome.{Outcome}
-use Rattle.hd_run.specs.Together.{RanAllTogether, StoppedTogether}
-use Rattle.hd_run.specs.Ending.{world_of, journal_in, kept_of, RunCause}
-use Rattle.hd_run.specs.Report.{fault_status, status_of, text_for, ran_text, whole_text, stopped_text, Reports}
-use Rattle.hd_run.specs.Claims.{KeepsRun, Together}
+use Rattle.hd_run.proofs.Basics.{Cmd, Contains, Done, Ending, Fault, Form, KeepsRun, List, Nothing, Numbers, Option, Outcome, RanAllTogether, Refused, Reports, RootId, RunCause, Shared, SinkView, Stopped, StoppedTogether, Together, Took, WorldView, [], ap, arith, false, fault_status, inl, inr, journal_in, kept_of, lit<, ran_text, refl, status_of, stopped_text, subst, sym, text_for, true, whole_text, world_of, ◌∙◌, ◌∷◌, ◌≡◌, ◌⊎◌}
 use Rattle.hd_run.proofs.RunEndings.{no_whole, nothing_reported, run_keeps, reported_as, write_rose, status_cases}
 use Rattle.hd_run.proofs.CallClaims.{kept_handles}
+use Rattle.hd_run.specs.declared.ending.Ran.TheVariants as ran
 
 module _ (n : Numbers) (lists : List (List Cmd)) where
   run_status : (e : Ending) → RunCause true false n lists e → Contains (0 ∷ 5 ∷ 6 ∷ []) (status_of e)

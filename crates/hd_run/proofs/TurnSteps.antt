@@ -1,19 +1,7 @@
 -- How a run of callers one after another goes on, turn by turn.
-use Rattle.std.proofs.Common.{◌≡◌, ℕ, ◌+◌, ◌<◌, ◌≤◌, List, [], ◌∷◌, ◌++◌, map, length, drop, get_or, refl, sym, ◌∙◌, ap, subst, arith, append_assoc, IsTrue}
-use Rattle.std.specs.Prelude.{sum_by}
-use Rattle.std.proofs.lemmas.List.Sums.{sum_by-cons}
+use Rattle.hd_run.proofs.Basics.{Chain, Cmd, Entry, FitsHeap, IsReadyFor, IsTrue, List, Numbers, Reply, SoloStep, State, StoppedAt, WorldView, [], ap, append_assoc, arith, drop, drop_more, get_or, length, length-append, length-map, list_of, map, map-append, push, refl, start_of, stay, subst, sum_by, sum_by-cons, sym, takes_memory, turn_of, turns_from, turns_of, ℕ, ◌++◌, ◌+◌, ◌<◌, ◌∙◌, ◌∷◌, ◌≡◌, ◌≤◌}
 use Rattle.std.proofs.lemmas.List.Sorted.{IsNonDecreasingBy-short}
-use Rattle.std.proofs.lemmas.List.{drop_more, map-append, length-append, length-map}
-use Rattle.hd_model.specs.declared.command.Cmd.{Cmd}
-use Rattle.hd_model.specs.declared.data.Entry.{Entry}
-use Rattle.hd_model.specs.State.{Numbers, State, start_of}
-use Rattle.hd_model.specs.Run.{Chain, stay, SoloStep}
-use Rattle.hd_model.specs.Valid.{takes_memory}
-use Rattle.hd_model.proofs.StepChains.{push}
-use Rattle.hd_model.specs.declared.data.Reply.{Reply}
-use Rattle.hd_world.specs.World.{WorldView, FitsHeap}
 use Rattle.hd_gate.specs.Alone.{HasCalled}
-use Rattle.hd_run.specs.Turns.{list_of, turns_of, turns_from, turn_of, StoppedAt, IsReadyFor}
 use Rattle.hd_run.proofs.CallerOrder.{rising_of_prefix}
 
 -- the turns of a caller from one on are that one, and then those after it
@@ -31,22 +19,15 @@ pub ready_at : (n : Numbers) (lists : List (List Cmd)) (caller i : ℕ) (cmd : C
     IsReadyFor n lists ((caller, cmd) ∷ turns_of caller (drop (i + 1) (list_of lists caller))
     ++ after) w
 ready_at n lists caller i cmd after w h here ready =
-    subst (λ v. IsReadyFor n lists (v ++ after) w) (turn_at caller (list_of lists caller) i cmd h here)
-    ready
+    subst (λ v. IsReadyFor n lists (v ++ after) w) (turn_at caller (list_of lists caller) i cmd h here) ready
 
 -- there are as many turns as commands
-pub length-turns_from : (k : ℕ) (lists : List (List Cmd)) →
-    length (turns_from k lists) ≡ sum_by length lists
+pub length-turns_from : (k : ℕ) (lists : List (List Cmd)) → length (turns_from k lists) ≡ sum_by length lists
 length-turns_from k [] = refl
 length-turns_from k (x ∷ xs) =
     let one = length-map {B = ℕ × Cmd} x (λ (c : Cmd). (k, c)) in
-    omega (
-      arith,
-      length-turns_from (k + 1) xs,
-      one,
-      sum_by-cons length x xs,
-      length-append (turns_of k x) (turns_from (k + 1) xs),
-    )
+    let known = length-append (turns_of k x) (turns_from (k + 1) xs) in
+    omega (arith, length-turns_from (k + 1) xs, one, sum_by-cons length x xs, known)
 
 -- an empty world has all turns left
 pub starts : (lists : List (List Cmd)) (w : WorldView) → w.journal ≡ [] → w.state ≡ start_of w.numbers →
@@ -58,8 +39,7 @@ starts lists w empty start room = record {
       steps = subst (λ (es : List Entry). Chain (SoloStep w.numbers) (start_of w.numbers) es w.state)
           (sym empty) (subst (λ (s : State). Chain (SoloStep w.numbers) (start_of w.numbers) [] s)
           (sym start) stay);
-      rising = IsNonDecreasingBy-short (λ (e : Entry). e.caller) w.journal
-          (omega (arith, ap length empty));
+      rising = IsNonDecreasingBy-short (λ (e : Entry). e.caller) w.journal (omega (arith, ap length empty));
     };
     turns = ap (λ (es : List Entry). map turn_of es ++ turns_from 0 lists) (sym empty);
   };

@@ -1,20 +1,7 @@
 -- What words come to, by what the command made of them.
-use Rattle.std.proofs.Common.{◌≡◌, ◌∙◌, List, Result, Ok, Err, Option, None, Some, true, inl, inr, refl, sym, ap, subst, map, String, string_bytes}
-use Rattle.std.specs.Prelude.{IfOk, IfErr, IsErrAnd}
-use Rattle.std.specs.declared.alloc.Global.{Global}
-use Rattle.clap.specs.Built.{IsParsedFrom}
-use Rattle.clap.specs.Faults.{fault_of, is_simple_and_free}
-use Rattle.clap.specs.Kinds.{FailsBy, HasKind}
-use Rattle.clap.specs.Simple.{App, HasMatchesOf, app_of, is_simple, matches_of}
-use Rattle.clap.specs.Words.{found_of, kind_of, rows_of}
-use Rattle.clap.specs.declared.builder.command.Command.{Command}
-use Rattle.clap.specs.declared.error.Error.{Error}
-use Rattle.clap.specs.declared.parser.matches.ArgMatches.{ArgMatches}
-use Rattle.hd_run.specs.declared.ending.Fault.{Fault}
-use Rattle.hd_run.specs.declared.request.Request.{Request}
-use Rattle.hd_run.specs.Words.{program, request_of, asked_by, request_or_usage, GivesNumbers, IsFaultOfWords, IsRefusal}
-use Rattle.hd_run.proofs.MatchRequests.{valid_words, invalid_words}
-use Rattle.hd_run.proofs.OptionLimits.{gives_numbers}
+use Rattle.hd_run.proofs.Basics.{App, ArgMatches, Command, Err, FailsBy, Fault, GivesNumbers, Global, HasKind, HasMatchesOf, IfErr, IfOk, IsErrAnd, IsFaultOfWords, IsParsedFrom, IsRefusal, List, None, Ok, Option, Request, Result, Some, String, ap, app_of, asked_by, fault_of, found_of, inl, inr, is_simple, is_simple_and_free, kind_of, map, matches_of, program, refl, request_of, request_or_usage, string_bytes, subst, sym, true, ◌∙◌, ◌≡◌}
+use Rattle.clap.specs.{Words.rows_of, declared.error.Error.Error}
+use Rattle.hd_run.proofs.{MatchRequests.valid_words, MatchRequests.invalid_words, OptionLimits.gives_numbers}
 
 simple : is_simple program ≡ true
 simple = refl

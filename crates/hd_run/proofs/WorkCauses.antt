@@ -1,21 +1,5 @@
 -- What the work of a request comes to, and that its ending can be written.
-use Rattle.std.proofs.Common.{◌≡◌, ◌≤◌, Bool, true, false, not, ◌&&◌, List, inl, inr, refl, sym, subst, arith}
-use Rattle.hd_model.specs.declared.command.Cmd.{Cmd}
-use Rattle.hd_model.specs.declared.limits.TheConstants.{HEAP, BLOCKS, CALLERS}
-use Rattle.hd_model.specs.Generated.{generated_lists}
-use Rattle.hd_io.specs.Source.{SourceView}
-use Rattle.hd_run.specs.declared.ending.Ending.{Ending}
-use Rattle.hd_run.specs.declared.ending.Ending.TheVariants.{Refused, Stopped, Done}
-use Rattle.hd_run.specs.declared.mode.Mode.{Mode}
-use Rattle.hd_run.specs.declared.mode.Mode.TheVariants.{Load}
-use Rattle.hd_run.specs.declared.mode.Traits.{Traits}
-use Rattle.hd_run.specs.declared.request.Request.{Request}
-use Rattle.hd_run.specs.Bounds.{numbers_for}
-use Rattle.hd_run.specs.Modes.{traits_of, runs_alone}
-use Rattle.hd_run.specs.Words.{IsInLimits}
-use Rattle.hd_run.specs.Ending.{ScriptBy, numbers_by, CauseBy, Lists}
-use Rattle.hd_run.specs.Work.{IsJob, Worked}
-use Rattle.hd_run.specs.Report.{HasSumOf, IsWritable}
+use Rattle.hd_run.proofs.Basics.{BLOCKS, Bool, CALLERS, CauseBy, Cmd, Done, Ending, HEAP, HasSumOf, IsInLimits, IsJob, IsWritable, List, Lists, Load, Mode, Refused, Request, ScriptBy, SourceView, Stopped, Traits, Worked, arith, false, generated_lists, inl, inr, not, numbers_by, numbers_for, refl, runs_alone, subst, sym, traits_of, true, ◌&&◌, ◌≡◌, ◌≤◌}
 use Rattle.hd_run.proofs.RunEndings.{run_callers, lines_sum, fault_writable}
 use Rattle.hd_run.proofs.LoadClaims.{load_is, load_sum}
 

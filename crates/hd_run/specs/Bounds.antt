@@ -1,7 +1,6 @@
 -- The limits of a run.
 use Rattle.std.specs.Prelude.{ℕ, List, length}
-use Rattle.hd_model.specs.declared.command.Cmd.{Cmd}
-use Rattle.hd_model.specs.State.{Numbers}
+use Rattle.hd_model.specs.{declared.command.Cmd.Cmd, State.Numbers}
 
 -- the most cells of its heap, and the blocks of its table
 pub record Bounds : Type 0 where

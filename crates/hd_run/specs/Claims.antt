@@ -2,27 +2,13 @@
 -- its report. The statuses are this project's own.
 use Rattle.std.specs.Prelude.{◌≡◌, ◌≢◌, true, false, ℕ, ◌+◌, ◌<◌, ◌⊎◌, List, [], ◌∷◌, length, Contains, Option, None, Some, IfSome, IsSomeAnd, IsErr}
 use Rattle.std.specs.FinMap.{len}
-use Rattle.hd_model.specs.declared.command.Cmd.{Cmd}
-use Rattle.hd_model.specs.declared.limits.TheConstants.{MOST_BYTES}
-use Rattle.hd_model.specs.Grammar.{script_of}
-use Rattle.hd_model.specs.Run.{Run, SoloRun}
-use Rattle.hd_model.specs.State.{Numbers}
+use Rattle.hd_model.specs.{declared.command.Cmd.Cmd, declared.limits.TheConstants.MOST_BYTES, Grammar.script_of, Run.Run, Run.SoloRun, State.Numbers}
 use Rattle.hd_model.specs.Laws.{count_entries, makes_handle, frees_handle}
-use Rattle.hd_io.specs.Counts.{Rose}
-use Rattle.hd_io.specs.Source.{SourceView, GaveCount}
-use Rattle.hd_io.specs.Sink.{SinkView, Took}
+use Rattle.hd_io.specs.{Counts.Rose, Source.SourceView, Source.GaveCount, Sink.SinkView, Sink.Took}
 use Rattle.hd_script.specs.Load.{line_of_rounds}
 use Rattle.hd_world.specs.World.{WorldView}
-use Rattle.hd_run.specs.declared.ending.Ending.{Ending}
-use Rattle.hd_run.specs.declared.ending.Fault.TheVariants.{NoMemory}
-use Rattle.hd_run.specs.declared.ending.Ran.{Ran}
-use Rattle.hd_run.specs.declared.outcome.Kept.{Kept}
+use Rattle.hd_run.specs.{declared.ending.Ending.Ending, declared.ending.Fault.TheVariants.NoMemory, declared.ending.Ran.Ran, declared.outcome.Kept.Kept, declared.outcome.Outcome.Outcome, declared.mode.Form.Form, declared.request.Request.Request, Together.RanAllTogether, Together.StoppedTogether, Modes.traits_of}
 use Rattle.hd_run.specs.declared.outcome.Kept.TheVariants.{Nothing, Alone, Shared}
-use Rattle.hd_run.specs.declared.outcome.Outcome.{Outcome}
-use Rattle.hd_run.specs.declared.mode.Form.{Form}
-use Rattle.hd_run.specs.declared.request.Request.{Request}
-use Rattle.hd_run.specs.Together.{RanAllTogether, StoppedTogether}
-use Rattle.hd_run.specs.Modes.{traits_of}
 use Rattle.hd_run.specs.Ending.{world_of, world_that, kept_that, ReadWhole, ScriptBy, RanBy, StoppedBy, RefusedBy, RunCause, numbers_by, journal_in, Cause}
 use Rattle.hd_run.specs.Report.{whole_text, stopped_text, form_for, Reports, text_by}
 

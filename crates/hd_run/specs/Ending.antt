@@ -2,34 +2,18 @@
 -- goes in this order: the words, reading, the size, the grammar, running. All this is the project's
 -- own.
 use Rattle.std.specs.Prelude.{◌≡◌, ◌⊎◌, Bool, true, false, ℕ, ◌+◌, ◌≤◌, List, [], length, Option, None, Some, Result, Ok, Err}
-use Rattle.hd_model.specs.declared.command.Cmd.{Cmd}
-use Rattle.hd_model.specs.declared.data.Entry.{Entry}
-use Rattle.hd_model.specs.declared.data.Memory.{Memory}
-use Rattle.hd_model.specs.declared.data.RootId.{RootId}
-use Rattle.hd_model.specs.declared.limits.TheConstants.{MOST_BYTES, MOST_ROUNDS}
-use Rattle.hd_model.specs.Generated.{load_numbers, generated_lists}
-use Rattle.hd_model.specs.Grammar.{script_of, AreLists}
-use Rattle.hd_model.specs.RootText.{roots_of}
-use Rattle.hd_model.specs.State.{Numbers}
+use Rattle.hd_model.specs.{declared.command.Cmd.Cmd, declared.data.Entry.Entry, declared.data.Memory.Memory, declared.data.RootId.RootId, declared.limits.TheConstants.MOST_BYTES, declared.limits.TheConstants.MOST_ROUNDS, Generated.load_numbers, Generated.generated_lists, Grammar.script_of, Grammar.AreLists, RootText.roots_of, State.Numbers}
 use Rattle.hd_io.specs.declared.source.ReadFault.{ReadFault}
 use Rattle.hd_io.specs.declared.source.ReadFault.TheVariants as read_fault
 use Rattle.hd_io.specs.Source.{SourceView, GaveAll, GaveCount, ReadBrokeOff}
 use Rattle.hd_script.specs.declared.fault.ScriptFault.{ScriptFault}
 use Rattle.hd_script.specs.declared.fault.ScriptFault.TheVariants as script_fault
 use Rattle.hd_world.specs.World.{WorldView}
-use Rattle.hd_run.specs.declared.ending.Fault.{Fault}
+use Rattle.hd_run.specs.{declared.ending.Fault.Fault, declared.ending.Ran.Ran, declared.ending.Ending.Ending, declared.outcome.Kept.Kept, declared.request.Request.Request, Bounds.numbers_for, Modes.traits_of, Turns.RanWhole, Turns.StoppedAt, Together.RanAllTogether, Together.StoppedTogether}
 use Rattle.hd_run.specs.declared.ending.Fault.TheVariants.{Usage, Unread, OverSize, BadLine, NoMemory}
-use Rattle.hd_run.specs.declared.ending.Ran.{Ran}
 use Rattle.hd_run.specs.declared.ending.Ran.TheVariants as ran
-use Rattle.hd_run.specs.declared.ending.Ending.{Ending}
 use Rattle.hd_run.specs.declared.ending.Ending.TheVariants.{Refused, Stopped, Done}
-use Rattle.hd_run.specs.declared.outcome.Kept.{Kept}
 use Rattle.hd_run.specs.declared.outcome.Kept.TheVariants.{Nothing, Alone, Shared}
-use Rattle.hd_run.specs.declared.request.Request.{Request}
-use Rattle.hd_run.specs.Bounds.{numbers_for}
-use Rattle.hd_run.specs.Modes.{traits_of}
-use Rattle.hd_run.specs.Turns.{RanWhole, StoppedAt}
-use Rattle.hd_run.specs.Together.{RanAllTogether, StoppedTogether}
 
 -- the world of what is kept
 abbrev pub world_of : Kept → Option WorldView

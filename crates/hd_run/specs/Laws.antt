@@ -2,17 +2,11 @@
 -- cites the program's own constants, which another number would change with them.
 use Rattle.std.specs.Prelude.{◌≡◌, ℕ, List, [], ◌++◌, map, codes, Option}
 use Rattle.clap.specs.Words.{new_app, with_rule}
-use Rattle.hd_model.specs.declared.command.Cmd.{Cmd}
-use Rattle.hd_model.specs.declared.data.Entry.{Entry}
-use Rattle.hd_model.specs.declared.data.RootId.{RootId}
+use Rattle.hd_model.specs.{declared.command.Cmd.Cmd, declared.data.Entry.Entry, declared.data.RootId.RootId, Run.part_of, Run.commands_of}
 use Rattle.hd_model.specs.declared.limits.TheConstants.{HEAP, BLOCKS, MOST_ROUNDS, MOST_BYTES}
-use Rattle.hd_model.specs.Run.{part_of, commands_of}
 use Rattle.hd_run.specs.declared.ending.Fault.TheVariants.{Usage, Unread, OverSize, BadLine, NoMemory}
 use Rattle.hd_run.specs.declared.ending.Ending.TheVariants.{Refused, Stopped, Done}
-use Rattle.hd_run.specs.declared.ending.Ran.{Ran}
-use Rattle.hd_run.specs.declared.limits.TheConstants.{LEAST_HEAP}
-use Rattle.hd_run.specs.declared.mode.Mode.{Mode}
-use Rattle.hd_run.specs.Report.{status_of}
+use Rattle.hd_run.specs.{declared.ending.Ran.Ran, declared.limits.TheConstants.LEAST_HEAP, declared.mode.Mode.Mode, Report.status_of}
 use Rattle.hd_run.specs.Turns.{list_of, turns_from, turn_of, taken_by}
 use Rattle.hd_run.specs.Words.{program, mode_rule, number_rule, with_numbers}
 

@@ -2,10 +2,8 @@
 use Rattle.std.specs.Prelude.{Bool, true, false, not, ◌&&◌, Option, Some, None, codes, if◌then◌else◌}
 use Rattle.std.specs.Str.{bytes_eq}
 use Rattle.clap.specs.Words.{Text}
-use Rattle.hd_run.specs.declared.mode.Form.TheVariants.{Lines, Summary}
-use Rattle.hd_run.specs.declared.mode.Mode.{Mode}
+use Rattle.hd_run.specs.{declared.mode.Form.TheVariants.Lines, declared.mode.Form.TheVariants.Summary, declared.mode.Mode.Mode, declared.mode.Traits.Traits}
 use Rattle.hd_run.specs.declared.mode.Mode.TheVariants.{Solo, Run, Load, Roots}
-use Rattle.hd_run.specs.declared.mode.Traits.{Traits}
 
 -- the mode of a name
 abbrev pub mode_of : Text → Option Mode

@@ -1,23 +1,12 @@
 -- What a call writes and returns. The texts and the statuses are this project's own.
 use Rattle.std.specs.Prelude.{◌≡◌, ℕ, ◌^◌, ◌<◌, sum_by, List, ◌++◌, ◌⊎◌, codes, decimal, Option, None, Some, Result, MatchResult, All}
-use Rattle.hd_model.specs.declared.data.Entry.{Entry}
-use Rattle.hd_model.specs.declared.data.RootId.{RootId}
-use Rattle.hd_model.specs.declared.limits.TheConstants.{CALLERS}
-use Rattle.hd_model.specs.Generated.{load_text_of, value_returned}
-use Rattle.hd_model.specs.RootText.{list_text}
+use Rattle.hd_model.specs.{declared.data.Entry.Entry, declared.data.RootId.RootId, declared.limits.TheConstants.CALLERS, Generated.load_text_of, Generated.value_returned, RootText.list_text}
 use Rattle.hd_model.specs.Text.{newline, lines_of, text_of}
 use Rattle.hd_io.specs.Sink.{SinkView, Took, WriteBrokeOff}
 use Rattle.hd_world.specs.World.{WorldView}
-use Rattle.hd_run.specs.declared.ending.Fault.{Fault}
+use Rattle.hd_run.specs.{declared.ending.Fault.Fault, declared.ending.Ending.Ending, declared.outcome.Outcome.Outcome, declared.mode.Form.Form, declared.mode.Form.TheVariants.Lines, declared.mode.Form.TheVariants.Summary, declared.mode.Traits.Traits, declared.request.Request.Request, Modes.traits_of}
 use Rattle.hd_run.specs.declared.ending.Fault.TheVariants.{Usage, Unread, OverSize, BadLine, NoMemory}
-use Rattle.hd_run.specs.declared.ending.Ending.{Ending}
 use Rattle.hd_run.specs.declared.ending.Ending.TheVariants.{Refused, Stopped, Done}
-use Rattle.hd_run.specs.declared.outcome.Outcome.{Outcome}
-use Rattle.hd_run.specs.declared.mode.Form.{Form}
-use Rattle.hd_run.specs.declared.mode.Form.TheVariants.{Lines, Summary}
-use Rattle.hd_run.specs.declared.mode.Traits.{Traits}
-use Rattle.hd_run.specs.declared.request.Request.{Request}
-use Rattle.hd_run.specs.Modes.{traits_of}
 use Rattle.hd_run.specs.Ending.{world_that, kept_of, world_of, journal_in, roots_by}
 
 -- the status of each fault, and of each ending

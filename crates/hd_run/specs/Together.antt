@@ -1,11 +1,8 @@
 -- Runs of callers in threads: what each caller has done of its list. That a caller does its list in its order
 -- is this project's own.
 use Rattle.std.specs.Prelude.{◌≡◌, ◌≢◌, ℕ, ◌<◌, ◌≤◌, List, [], ◌∷◌, ◌++◌, map, length, slice_index_or, IsTrue}
-use Rattle.hd_model.specs.declared.command.Cmd.{Cmd}
-use Rattle.hd_model.specs.declared.limits.TheConstants.{CALLERS}
-use Rattle.hd_model.specs.State.{Numbers}
+use Rattle.hd_model.specs.{declared.command.Cmd.Cmd, declared.limits.TheConstants.CALLERS, State.Numbers, Valid.takes_memory}
 use Rattle.hd_model.specs.Run.{Run, part_of, commands_of}
-use Rattle.hd_model.specs.Valid.{takes_memory}
 use Rattle.hd_custody.specs.Views.{Named}
 use Rattle.hd_gate.specs.Shared.{CallerView, AreAll, Begin, IsCallerOf, IsSameCaller}
 use Rattle.hd_world.specs.World.{WorldView}

@@ -1,12 +1,7 @@
 -- Runs of callers one after another, as lists of turns: a caller and a command. That callers are
 -- taken so is this project's own.
 use Rattle.std.specs.Prelude.{◌≡◌, ℕ, ◌+◌, ◌≤◌, List, [], ◌∷◌, ◌++◌, map, filter, length, slice_index_or, ◌==◌, IsTrue, sum_by}
-use Rattle.hd_model.specs.declared.command.Cmd.{Cmd}
-use Rattle.hd_model.specs.declared.data.Entry.{Entry}
-use Rattle.hd_model.specs.declared.limits.TheConstants.{CALLERS}
-use Rattle.hd_model.specs.State.{Numbers, start_of}
-use Rattle.hd_model.specs.Run.{SoloRun}
-use Rattle.hd_model.specs.Valid.{takes_memory}
+use Rattle.hd_model.specs.{declared.command.Cmd.Cmd, declared.data.Entry.Entry, declared.limits.TheConstants.CALLERS, State.Numbers, State.start_of, Run.SoloRun, Valid.takes_memory}
 use Rattle.hd_world.specs.World.{WorldView, FitsHeap}
 
 -- the commands of a caller in a script

@@ -1,22 +1,12 @@
 -- What the words of a command line ask for. The modes, the options and their limits are this project's own;
 -- which words a command takes, and which values it finds in them, is as `clap` has it.
 use Rattle.std.specs.Prelude.{◌≡◌, ◌≢◌, ◌⊎◌, ℕ, ◌≤◌, Bool, true, false, List, [], ◌∷◌, map, codes, Option, None, Some, Result, Ok, Err, String, string_bytes, option_map, option_and_then, if◌then◌else◌}
-use Rattle.std.specs.Option.{option_map_or}
-use Rattle.std.specs.declared.alloc.Global.{Global}
-use Rattle.std.specs.Str.Parse.{digits_value, without_leading_plus}
+use Rattle.std.specs.{Option.option_map_or, declared.alloc.Global.Global, Str.Parse.digits_value, Str.Parse.without_leading_plus}
 use Rattle.clap.specs.Words.{App, IsUnsignedIn, Row, Rule, Text, first_of, one_of, fault_of, matches_of, new_app, new_rule, one_text, with_rule}
-use Rattle.clap.specs.declared.error.kind.ErrorKind.{ErrorKind}
-use Rattle.clap.specs.declared.error.kind.ErrorKind.TheVariants.{OutOfMemory}
-use Rattle.clap.specs.declared.builder.value_parser.ValueParser.TheVariants.{Unsigned}
-use Rattle.clap.specs.declared.parser.matches.Found.{Found}
+use Rattle.clap.specs.{declared.error.kind.ErrorKind.ErrorKind, declared.error.kind.ErrorKind.TheVariants.OutOfMemory, declared.builder.value_parser.ValueParser.TheVariants.Unsigned, declared.parser.matches.Found.Found}
 use Rattle.hd_model.specs.declared.limits.TheConstants.{HEAP, BLOCKS, MOST_ROUNDS}
-use Rattle.hd_run.specs.declared.limits.TheConstants.{LEAST_HEAP}
-use Rattle.hd_run.specs.declared.request.TheConstants.{ROUNDS}
-use Rattle.hd_run.specs.declared.ending.Fault.{Fault}
-use Rattle.hd_run.specs.declared.ending.Fault.TheVariants.{Usage, NoMemory}
-use Rattle.hd_run.specs.declared.mode.Mode.{Mode}
+use Rattle.hd_run.specs.{declared.limits.TheConstants.LEAST_HEAP, declared.request.TheConstants.ROUNDS, declared.ending.Fault.Fault, declared.ending.Fault.TheVariants.Usage, declared.ending.Fault.TheVariants.NoMemory, declared.mode.Mode.Mode, declared.request.Request.Request}
 use Rattle.hd_run.specs.Modes.{mode_of, traits_of, runs_alone}
-use Rattle.hd_run.specs.declared.request.Request.{Request}
 
 -- a positional word, which is required: the mode
 abbrev pub mode_rule : Rule

@@ -2,10 +2,7 @@
 use Rattle.std.specs.Prelude.{◌≡◌, Bool, false, List}
 use Rattle.hd_model.specs.declared.command.Cmd.{Cmd}
 use Rattle.hd_io.specs.Source.{SourceView}
-use Rattle.hd_run.specs.declared.ending.Ending.{Ending}
-use Rattle.hd_run.specs.declared.request.Request.{Request}
-use Rattle.hd_run.specs.Bounds.{Bounds, numbers_for}
-use Rattle.hd_run.specs.Modes.{traits_of}
+use Rattle.hd_run.specs.{declared.ending.Ending.Ending, declared.request.Request.Request, Bounds.Bounds, Bounds.numbers_for, Modes.traits_of}
 use Rattle.hd_run.specs.Ending.{ScriptBy, numbers_by, CauseBy}
 
 -- the script that was asked for, and limits that give its run the numbers of its mode

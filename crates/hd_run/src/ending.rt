@@ -1,7 +1,6 @@
 ghost use Rattle.std.specs.Prelude.{◌≡◌};
 ghost use Rattle.hd_run.specs.Ending.{kept_of, kept_that, world_that, unread_fault, unparsed_fault};
-ghost use Rattle.hd_run.specs.Ending.{run_ending, Lists};
-ghost use Rattle.hd_run.specs.Report.{fault_status, status_of};
+ghost use Rattle.hd_run.specs.{Ending.run_ending, Ending.Lists, Report.fault_status, Report.status_of};
 
 use crate::Kept;
 use crate::root_list::RootList;

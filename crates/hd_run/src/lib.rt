@@ -3,9 +3,7 @@
 
 ghost use Rattle.std.specs.Prelude.{◌≡◌, ◌≤◌};
 ghost use Rattle.hd_model.specs.Generated.{load_numbers, generated_lists};
-ghost use Rattle.hd_run.specs.declared.mode.Form.TheVariants.{Lines, Summary};
-ghost use Rattle.hd_run.specs.declared.limits.TheConstants.{LEAST_HEAP};
-ghost use Rattle.hd_run.specs.Bounds.{numbers_for};
+ghost use Rattle.hd_run.specs.{declared.mode.Form.TheVariants.Lines, declared.mode.Form.TheVariants.Summary, declared.limits.TheConstants.LEAST_HEAP, Bounds.numbers_for};
 ghost use Rattle.hd_run.specs.Words.{request_of, solo_of, listing_of};
 ghost use Rattle.hd_run.specs.Claims.{Promise, Together, HasLine};
 

@@ -1,8 +1,6 @@
 ghost use Rattle.std.specs.Prelude.{◌≡◌, ◌≤◌, [], IfOk, sum_by, length};
 ghost use Rattle.hd_model.specs.State.{start_of};
-ghost use Rattle.hd_run.specs.declared.limits.TheConstants.{LEAST_HEAP};
-ghost use Rattle.hd_run.specs.Bounds.{numbers_for};
-ghost use Rattle.hd_run.specs.Turns.{IsOpenFor};
+ghost use Rattle.hd_run.specs.{declared.limits.TheConstants.LEAST_HEAP, Bounds.numbers_for, Turns.IsOpenFor};
 
 use hd_model::Memory;
 use hd_model::limits::{BLOCKS, HEAP};
@@ -24,8 +22,7 @@ pub(crate) struct Limits {
 impl Model for Limits {
     ghost use Rattle.std.specs.Prelude.{◌≤◌};
     ghost use Rattle.hd_model.specs.declared.limits.TheConstants.{HEAP, BLOCKS};
-    ghost use Rattle.hd_run.specs.declared.limits.TheConstants.{LEAST_HEAP};
-    ghost use Rattle.hd_run.specs.Bounds.{Bounds};
+    ghost use Rattle.hd_run.specs.{declared.limits.TheConstants.LEAST_HEAP, Bounds.Bounds};
 
     ghost Value = { Bounds };
 

@@ -1,7 +1,6 @@
 // The line of a load.
 ghost use Rattle.std.specs.Prelude.{◌≡◌, ◌^◌, ◌<◌, sum_by};
-ghost use Rattle.hd_model.specs.Generated.{load_text_of, value_returned};
-ghost use Rattle.hd_model.specs.Laws.{makes_object, count_entries};
+ghost use Rattle.hd_model.specs.{Generated.load_text_of, Generated.value_returned, Laws.makes_object, Laws.count_entries};
 
 use hd_model::{Cmd, Entry, Journal, Reply};
 use hd_print::{Line, load_line};
@@ -72,6 +71,8 @@ fn value_returned(reply: Reply) -> u64
         | Reply::Report(_)
         | Reply::NoneQueued
         | Reply::Absent
+        | Reply::Chain { .. }
+        | Reply::Unrooted
         | Reply::Refused(_) => 0,
     }
 }

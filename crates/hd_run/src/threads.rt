@@ -1,9 +1,7 @@
 // The callers of a script in threads of their own.
 ghost use Rattle.std.specs.Prelude.{◌≡◌, ◌<◌, ◌≤◌, true, false, [], length, map, All, Any, IfOk, MatchBool};
-ghost use Rattle.hd_run.specs.Bounds.{numbers_for};
-ghost use Rattle.hd_run.specs.Ending.{RunCause, Keeps};
+ghost use Rattle.hd_run.specs.{Bounds.numbers_for, Ending.RunCause, Ending.Keeps, Turns.list_of};
 ghost use Rattle.hd_run.specs.Together.{IsReadyToPlay, AreReadyToPlay, HasPlayed, HavePlayed};
-ghost use Rattle.hd_run.specs.Turns.{list_of};
 
 use crate::ending::{Ending, Fault, Ran};
 use crate::limits::Limits;

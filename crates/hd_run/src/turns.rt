@@ -1,6 +1,5 @@
 ghost use Rattle.std.specs.Prelude.{◌≡◌, ◌+◌, ◌<◌, [], drop, length, false, IfOk, OnOk, OnErr};
-ghost use Rattle.hd_run.specs.Bounds.{numbers_for};
-ghost use Rattle.hd_run.specs.Ending.{RunCause, Keeps};
+ghost use Rattle.hd_run.specs.{Bounds.numbers_for, Ending.RunCause, Ending.Keeps};
 ghost use Rattle.hd_run.specs.Turns.{turns_from, IsReadyFor, IsReadyToRun, StoppedAt};
 
 use crate::ending::{Ending, Ran};

@@ -1,9 +1,6 @@
 ghost use Rattle.std.specs.Prelude.{◌≡◌, true, false, IfOk, IfErr};
-ghost use Rattle.hd_run.specs.Bounds.{numbers_for};
-ghost use Rattle.hd_run.specs.Modes.{traits_of};
+ghost use Rattle.hd_run.specs.{Bounds.numbers_for, Modes.traits_of, Words.IsInLimits, Work.IsJob, Work.Worked};
 ghost use Rattle.hd_run.specs.Ending.{FaultCause, ReadProgram, RefusedBy, RunCause, script_or_fault};
-ghost use Rattle.hd_run.specs.Words.{IsInLimits};
-ghost use Rattle.hd_run.specs.Work.{IsJob, Worked};
 
 use crate::ending::{Ending, Fault, unparsed, unread};
 use crate::limits::Limits;

@@ -1,17 +1,9 @@
-use Rattle.std.proofs.Common.{◌≤◌, true, false, subst, refl, List, arith}
-use Rattle.hd_model.specs.declared.command.Cmd.{Cmd}
-use Rattle.hd_model.specs.declared.limits.TheConstants.{HEAP, BLOCKS, CALLERS}
-use Rattle.hd_model.specs.Generated.{load_numbers, generated_lists}
-use Rattle.hd_model.specs.State.{Numbers}
-use Rattle.hd_run.specs.declared.mode.Form.TheVariants.{Summary}
-use Rattle.hd_run.specs.Bounds.{numbers_for}
-use Rattle.hd_run.specs.Ending.{RunCause, IsLoadScript}
-use Rattle.hd_run.proofs.RunEndings.{run_callers, fault_writable}
+use Rattle.hd_run.proofs.Basics.{BLOCKS, CALLERS, Cmd, HEAP, IsLoadScript, List, Numbers, RunCause, Summary, arith, false, generated_lists, load_numbers, numbers_for, refl, subst, true, ◌≤◌}
+use Rattle.hd_run.proofs.{RunEndings.run_callers, RunEndings.fault_writable, ThreadClaims.together}
 use Rattle.hd_run.proofs.LoadClaims.{load_is, load_sum, line_of, refused_line}
-use Rattle.hd_run.proofs.ThreadClaims.{together}
 use Rattle.hd_run.proofs.load.Given.{Over}
-use Rattle.hd_run.proofs.load.Goals as goal
 use Rattle.hd_run.proofs.load.Goals.{After-run_callers-ending}
+use Rattle.hd_run.proofs.load.Goals as goal
 
 -- the run has the cause of its ending, in the words of a load
 cause : (g : Over) (c : After-run_callers-ending g) →

@@ -1,15 +1,9 @@
-use Rattle.std.proofs.Common.{true, false, subst, Option}
-use Rattle.hd_run.specs.declared.request.Request.{Request}
-use Rattle.hd_run.specs.Claims.{Promise}
-use Rattle.hd_run.specs.Modes.{traits_of}
-use Rattle.hd_run.specs.Words.{request_of, listing_of}
-use Rattle.hd_run.specs.Work.{Worked}
-use Rattle.hd_run.proofs.CallClaims.{asked_promise, refused_promise}
+use Rattle.hd_run.proofs.Basics.{Option, Promise, Request, Worked, false, listing_of, request_of, subst, traits_of, true}
+use Rattle.hd_run.proofs.{CallClaims.asked_promise, CallClaims.refused_promise, RunEndings.fault_writable}
 use Rattle.hd_run.proofs.WorkCauses.{alone_worked, listed_worked, worked_writable}
-use Rattle.hd_run.proofs.RunEndings.{fault_writable}
 use Rattle.hd_run.proofs.roots.Given.{Over}
-use Rattle.hd_run.proofs.roots.Goals as goal
 use Rattle.hd_run.proofs.roots.Goals.{After-list_roots-ending}
+use Rattle.hd_run.proofs.roots.Goals as goal
 
 worked : (g : Over) (c : After-list_roots-ending g)
     → Worked g.S.Source.seen (traits_of c.in-Ok.request.mode).threads

@@ -1,9 +1,5 @@
-use Rattle.std.proofs.Common.{◌≤◌, true, false, length, arith}
-use Rattle.hd_model.specs.declared.limits.TheConstants.{CALLERS}
-use Rattle.hd_run.specs.declared.mode.Form.TheVariants.{Lines}
-use Rattle.hd_run.specs.Bounds.{numbers_for}
-use Rattle.hd_run.proofs.RunEndings.{lines_writable}
-use Rattle.hd_run.proofs.ThreadClaims.{together}
+use Rattle.hd_run.proofs.Basics.{CALLERS, Lines, arith, false, length, numbers_for, true, ◌≤◌}
+use Rattle.hd_run.proofs.{RunEndings.lines_writable, ThreadClaims.together}
 use Rattle.hd_run.proofs.run.Goals as goal
 
 pub report-requires : goal.report-requires

@@ -1,15 +1,8 @@
-use Rattle.std.proofs.Common.{false, subst, Option}
-use Rattle.hd_run.specs.declared.request.Request.{Request}
-use Rattle.hd_run.specs.Claims.{Promise}
-use Rattle.hd_run.specs.Modes.{traits_of}
-use Rattle.hd_run.specs.Words.{request_of, solo_of}
-use Rattle.hd_run.specs.Work.{Worked}
-use Rattle.hd_run.proofs.CallClaims.{asked_promise, refused_promise}
-use Rattle.hd_run.proofs.WorkCauses.{alone_worked, worked_writable}
-use Rattle.hd_run.proofs.RunEndings.{fault_writable}
+use Rattle.hd_run.proofs.Basics.{Option, Promise, Request, Worked, false, request_of, solo_of, subst, traits_of}
+use Rattle.hd_run.proofs.{CallClaims.asked_promise, CallClaims.refused_promise, WorkCauses.alone_worked, WorkCauses.worked_writable, RunEndings.fault_writable}
 use Rattle.hd_run.proofs.solo.Given.{Over}
-use Rattle.hd_run.proofs.solo.Goals as goal
 use Rattle.hd_run.proofs.solo.Goals.{After-work_alone-ending}
+use Rattle.hd_run.proofs.solo.Goals as goal
 
 worked : (g : Over) (c : After-work_alone-ending g)
     → Worked g.S.Source.seen (traits_of c.in-Ok.request.mode).threads

@@ -1,10 +1,5 @@
-use Rattle.std.proofs.Common.{subst, Option}
-use Rattle.hd_run.specs.declared.request.Request.{Request}
-use Rattle.hd_run.specs.Claims.{Promise}
-use Rattle.hd_run.specs.Words.{request_of}
-use Rattle.hd_run.proofs.CallClaims.{asked_promise, refused_promise}
-use Rattle.hd_run.proofs.WorkCauses.{worked_writable}
-use Rattle.hd_run.proofs.RunEndings.{fault_writable}
+use Rattle.hd_run.proofs.Basics.{Option, Promise, Request, request_of, subst}
+use Rattle.hd_run.proofs.{CallClaims.asked_promise, CallClaims.refused_promise, WorkCauses.worked_writable, RunEndings.fault_writable}
 use Rattle.hd_run.proofs.top.Goals as goal
 
 pub report-requires : goal.report-requires

@@ -1,7 +1,4 @@
-use Rattle.std.proofs.Common.{slice_index, refl, ◌∙◌}
-use Rattle.crossbeam_utils.specs.Padded.{padded_value}
-use Rattle.hd_gate.specs.Turns.{caller_view_of}
-use Rattle.hd_gate.specs.Opening.{IsNew}
+use Rattle.hd_gate.proofs.Basics.{IsNew, caller_view_of, padded_value, refl, slice_index, ◌∙◌}
 use Rattle.hd_gate.proofs.Beginnings.{are_all, begin, limits_are, first_part}
 use Rattle.hd_gate.proofs.opening.callers_of.Goals as goal
 

@@ -1,8 +1,4 @@
-use Rattle.std.proofs.Common.{◌≡◌, ◌+◌, ◌∷◌, [], length, length-append, sym, ap, ◌∙◌, subst, arith}
-use Rattle.std.specs.Prelude.{slice_index_or}
-use Rattle.hd_custody.specs.Views.{Known}
-use Rattle.hd_gate.specs.Shared.{CallerView}
-use Rattle.hd_gate.specs.Opening.{HasEnded}
+use Rattle.hd_gate.proofs.Basics.{CallerView, HasEnded, Known, [], ap, arith, length, length-append, slice_index_or, subst, sym, ◌+◌, ◌∙◌, ◌∷◌, ◌≡◌}
 use Rattle.hd_gate.proofs.Endings.{one_more_ended, ends_in, shorter, rest_less, is_last}
 use Rattle.hd_gate.proofs.opening.join_all.Goals as goal
 
@@ -33,8 +29,7 @@ loop-caller-preserved c =
         inv.count,
         count,
         ap length ended,
-        length-append v.ended
-            ((w.number, w.part) ∷ []),
+        length-append v.ended ((w.number, w.part) ∷ []),
       );
       rest = rest_less all xs ys x popped inv.rest;
       ended = subst (HasEnded all) (sym ended)

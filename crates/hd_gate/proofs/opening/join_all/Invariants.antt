@@ -1,7 +1,4 @@
-use Rattle.std.proofs.Common.{◌≡◌, ℕ, ◌+◌, ◌<◌, length}
-use Rattle.std.specs.Prelude.{slice_index_or}
-use Rattle.hd_gate.specs.Shared.{CallerView}
-use Rattle.hd_gate.specs.Opening.{HasEnded}
+use Rattle.hd_gate.proofs.Basics.{CallerView, HasEnded, length, slice_index_or, ℕ, ◌+◌, ◌<◌, ◌≡◌}
 use Rattle.hd_gate.proofs.opening.join_all.Given as goal
 
 abbrev pub invariant-loop-caller : goal.invariant-loop-caller

@@ -1,9 +1,4 @@
-use Rattle.std.proofs.Common.{◌≡◌, ◌+◌, slice_index, drop, sum, length, ◌∷◌, ◌++◌, [], List, length-append, refl, sym, ap, ◌∙◌, subst, arith}
-use Rattle.hd_custody.specs.Views.{Known}
-use Rattle.crossbeam_utils.specs.Padded.{padded_value}
-use Rattle.hd_gate.specs.Shared.{CallerView}
-use Rattle.hd_gate.specs.Turns.{caller_view_of}
-use Rattle.hd_gate.specs.Opening.{IsFirst, IsNew, AreNew}
+use Rattle.hd_gate.proofs.Basics.{AreNew, CallerView, IsFirst, IsNew, Known, List, [], ap, arith, caller_view_of, drop, length, length-append, padded_value, refl, slice_index, subst, sum, sym, ◌++◌, ◌+◌, ◌∙◌, ◌∷◌, ◌≡◌}
 use Rattle.hd_gate.proofs.Beginnings.{sum_drop, first_next, one_more, limits_are}
 use Rattle.hd_gate.proofs.opening.others.Goals as goal
 
@@ -44,8 +39,7 @@ loop-number-preserved c =
         arith,
         inv.count,
         ap length pushed,
-        length-append c.loop-number.list.items
-            (caller ∷ []),
+        length-append c.loop-number.list.items (caller ∷ []),
       );
       spare = omega (arith, inv.spare, c.push_reserved.ensures.capacity);
       others = subst (λ (ps : List CallerView). AreNew c.args.custody.now rooms ps) (sym pushed)

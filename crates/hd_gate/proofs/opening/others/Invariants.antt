@@ -1,5 +1,4 @@
-use Rattle.std.proofs.Common.{◌≡◌, ◌+◌, ◌≤◌, length, sum, drop, slice_index, vec_capacity}
-use Rattle.hd_gate.specs.Opening.{AreNew, IsFirst}
+use Rattle.hd_gate.proofs.Basics.{AreNew, IsFirst, drop, length, slice_index, sum, vec_capacity, ◌+◌, ◌≡◌, ◌≤◌}
 use Rattle.hd_gate.proofs.opening.others.Given as goal
 
 abbrev pub invariant-loop-number : goal.invariant-loop-number

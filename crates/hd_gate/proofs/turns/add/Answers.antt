@@ -1,16 +1,9 @@
-use Rattle.std.proofs.Common.{◌≡◌, ◌≢◌, true, ap, ◌∙◌}
-use Rattle.hd_model.specs.declared.data.Grown.TheVariants.{Zero}
-use Rattle.hd_model.specs.declared.data.Kind.TheVariants.{Dependent}
-use Rattle.hd_model.specs.Kinds.{kind_number}
-use Rattle.hd_custody.specs.Views.{Known, GrowsByBlocks, MayGrant, handle_block, extra_block}
-use Rattle.hd_world.specs.World.{WorldView}
-use Rattle.hd_world.specs.contracts.world.WorldHeld.TheImpl.{ghosts}
-use Rattle.hd_gate.specs.Turns.{with_grown}
+use Rattle.hd_gate.proofs.Basics.{Dependent, GrowsByBlocks, Known, MayGrant, WorldView, Zero, ap, extra_block, ghosts, handle_block, kind_number, true, with_grown, ◌∙◌, ◌≡◌, ◌≢◌}
 use Rattle.hd_gate.proofs.GateLeave.{may_step, Leaves, may_leave, turned}
 use Rattle.hd_gate.proofs.GateSearch.{adds_offer, added}
 use Rattle.hd_gate.proofs.turns.add.Given.{Over}
-use Rattle.hd_gate.proofs.turns.add.Goals as goal
 use Rattle.hd_gate.proofs.turns.add.Goals.{After-step_surely-entry, After-grow}
+use Rattle.hd_gate.proofs.turns.add.Goals as goal
 
 pub step_surely-entry-requires-clause-step : goal.step_surely-entry-requires-clause-step
 step_surely-entry-requires-clause-step g c =
@@ -54,8 +47,7 @@ busy g c =
     c.grow.ensures
     ∙ ap (λ t. record {
       table = t;
-      view = with_grown (kind_number Dependent) c.step_surely-entry.result.grown
-          c.look-offer.new.seat.view;
+      view = with_grown (kind_number Dependent) c.step_surely-entry.result.grown c.look-offer.new.seat.view;
     }) (c.look-offer.ensures.table ∙ ap (λ (s : Known WorldView). s.table) c.enter-world.ensures.view)
 
 pub leave-requires-clause-follows : goal.leave-requires-clause-follows

@@ -1,19 +1,8 @@
-use Rattle.std.proofs.Common.{◌≡◌, ◌+◌, ◌≤◌, Option, None, refl, sym, ap, ◌∙◌, subst}
-use Rattle.std.specs.Prelude.{IfSome}
-use Rattle.atomic_table.specs.Seated.{TableId}
-use Rattle.hd_model.specs.declared.data.Kind.{Kind}
-use Rattle.hd_model.specs.declared.data.Slot.{Slot}
-use Rattle.hd_model.specs.Kinds.{kind_number}
-use Rattle.hd_custody.specs.Counts.{HasAs}
-use Rattle.hd_custody.specs.Views.{Known, gave_back, took}
-use Rattle.hd_world.specs.World.{WorldView}
-use Rattle.hd_world.specs.contracts.world.WorldHeld.TheImpl.{ghosts}
-use Rattle.hd_gate.specs.Turns.{Turned, freed_in, ReleasesFreed}
-use Rattle.hd_gate.proofs.HandleFree.{Freed, frees_slot}
-use Rattle.hd_gate.proofs.GateLeave.{may_step, may_leave_with}
+use Rattle.hd_gate.proofs.Basics.{HasAs, IfSome, Kind, Known, None, Option, ReleasesFreed, Slot, TableId, Turned, WorldView, ap, freed_in, gave_back, ghosts, kind_number, refl, subst, sym, took, ◌+◌, ◌∙◌, ◌≡◌, ◌≤◌}
+use Rattle.hd_gate.proofs.{HandleFree.Freed, HandleFree.frees_slot, GateLeave.may_step, GateLeave.may_leave_with}
 use Rattle.hd_gate.proofs.turns.free.Given.{Over}
-use Rattle.hd_gate.proofs.turns.free.Goals as goal
 use Rattle.hd_gate.proofs.turns.free.Goals.{After-step_surely-entry, After-leave}
+use Rattle.hd_gate.proofs.turns.free.Goals as goal
 
 -- what its caller may leave the gate with, and what it is once it released what was freed
 all : (g : Over) (c : After-step_surely-entry g) → Freed c.args.number c.args.cmd c.requires.frees
@@ -42,8 +31,7 @@ left g c =
 pub step_surely-entry-requires-clause-step : goal.step_surely-entry-requires-clause-step
 step_surely-entry-requires-clause-step g c =
     may_step c.enter-world.result c.args.seat.now.view c.args.number c.args.cmd None
-    c.enter-world.ensures.entered
-    c.requires.turn.room c.requires.turn.idle.known c.requires.turn.valid tt
+    c.enter-world.ensures.entered c.requires.turn.room c.requires.turn.idle.known c.requires.turn.valid tt
 
 pub leave-requires-clause-follows : goal.leave-requires-clause-follows
 leave-requires-clause-follows g c =

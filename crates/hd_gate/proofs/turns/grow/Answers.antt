@@ -1,6 +1,4 @@
-use Rattle.std.proofs.Common.{◌≡◌, ◌≢◌, ◌⊎◌, ℕ, inl, inr}
-use Rattle.hd_model.specs.declared.data.Grown.{Grown}
-use Rattle.hd_model.specs.declared.data.Grown.TheVariants.{Zero, One, Two, Back}
+use Rattle.hd_gate.proofs.Basics.{Back, Grown, One, Two, Zero, inl, inr, ℕ, ◌≡◌, ◌≢◌, ◌⊎◌}
 use Rattle.hd_gate.proofs.turns.grow.Goals as goal
 
 has_grown : (g : Grown) → ((b : ℕ) × (g ≡ One b)) ⊎ (((b : ℕ) × (d : ℕ) × (g ≡ Two b d)) ⊎ ((b : ℕ) × (g

@@ -1,28 +1,16 @@
-use Rattle.std.proofs.Common.{◌≡◌, ◌≢◌, ◌<◌, ◌≤◌, sym, ap, ◌∙◌, subst}
-use Rattle.atomic_table.specs.Seated.{TableId}
-use Rattle.hd_model.specs.declared.data.Grown.TheVariants.{Zero}
-use Rattle.hd_model.specs.Kinds.{kind_number, is_paired}
-use Rattle.hd_custody.specs.declared.view.View.{View}
-use Rattle.hd_custody.specs.Views.{Known, GrowsByBlocks, MayGrant, took, handle_block, extra_block}
-use Rattle.hd_custody.specs.Calls.{offered, slot_number}
-use Rattle.hd_world.specs.World.{WorldView}
-use Rattle.hd_world.specs.contracts.world.WorldHeld.TheImpl.{ghosts}
-use Rattle.hd_gate.specs.Turns.{with_grown}
-use Rattle.hd_gate.specs.declared.change.Change.TheVariants.{Takes}
-use Rattle.hd_gate.proofs.StepLiveSlots.{in_state, asks_for}
-use Rattle.hd_gate.proofs.HandleMake.{may_offer, made}
+use Rattle.hd_gate.proofs.Basics.{GrowsByBlocks, Known, MayGrant, TableId, Takes, View, WorldView, Zero, ap, extra_block, ghosts, handle_block, is_paired, kind_number, offered, slot_number, subst, sym, took, with_grown, ◌<◌, ◌∙◌, ◌≡◌, ◌≢◌, ◌≤◌}
+use Rattle.hd_gate.proofs.{StepLiveSlots.in_state, StepLiveSlots.asks_for, HandleMake.may_offer, HandleMake.made}
 use Rattle.hd_gate.proofs.GateLeave.{may_step, Leaves, may_leave, turned}
 use Rattle.hd_gate.proofs.turns.make.Given.{Over}
-use Rattle.hd_gate.proofs.turns.make.Goals as goal
 use Rattle.hd_gate.proofs.turns.make.Goals.{After-step_surely-entry, After-grow}
+use Rattle.hd_gate.proofs.turns.make.Goals as goal
 
 pub step_surely-entry-requires-clause-step : goal.step_surely-entry-requires-clause-step
 step_surely-entry-requires-clause-step g c =
     let v = c.allocate-offer.new.seat.view in
     let view = c.allocate-offer.ensures.done.view in
     may_step c.enter-world.result v c.args.number c.args.cmd c.allocate-offer.result
-    c.enter-world.ensures.entered
-    (subst (λ (x : View WorldView). 1 ≤ x.room) (sym view) c.requires.turn.room)
+    c.enter-world.ensures.entered (subst (λ (x : View WorldView). 1 ≤ x.room) (sym view) c.requires.turn.room)
     (subst (λ (x : View WorldView). c.args.number < x.limits.callers) (sym view) c.requires.turn.idle.known)
     c.requires.turn.valid
     (may_offer c.enter-world.result v c.args.kind c.enter-world.ensures.entered c.args.number c.args.cmd

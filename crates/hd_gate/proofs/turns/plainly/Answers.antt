@@ -1,25 +1,16 @@
-use Rattle.std.proofs.Common.{◌≡◌, ℕ, None, refl, sym, ap, ◌∙◌, subst}
-use Rattle.hd_model.specs.declared.command.Cmd.{Cmd}
-use Rattle.hd_custody.specs.Views.{Known, gave_back, took}
-use Rattle.hd_world.specs.World.{WorldView}
-use Rattle.hd_world.specs.contracts.world.WorldHeld.TheImpl.{ghosts}
-use Rattle.hd_gate.specs.declared.change.Change.TheVariants.{Keeps}
-use Rattle.hd_gate.specs.Change.{change_of, change_in}
-use Rattle.hd_gate.specs.Turns.{Stayed}
+use Rattle.hd_gate.proofs.Basics.{Cmd, Keeps, Known, None, Stayed, WorldView, ap, change_in, change_of, gave_back, ghosts, refl, subst, sym, took, ℕ, ◌∙◌, ◌≡◌}
 use Rattle.hd_gate.proofs.StepLiveSlots.{LeavesThem, in_state}
 use Rattle.hd_gate.proofs.GateLeave.{may_step, may_leave_with, turned}
 use Rattle.hd_gate.proofs.Plain.{plain_follows, plain_leaves, stays}
 use Rattle.hd_gate.proofs.turns.plainly.Goals as goal
 
-kept : (u : WorldView) (number : ℕ) (c : Cmd) → change_of c ≡ Keeps
-    → LeavesThem (change_in u.state number c)
+kept : (u : WorldView) (number : ℕ) (c : Cmd) → change_of c ≡ Keeps → LeavesThem (change_in u.state number c)
 kept u number c keeps = subst LeavesThem (sym (in_state u.state number c Keeps (λ e. cc) keeps)) tt
 
 pub step-done-requires : goal.step-done-requires
 step-done-requires g c =
     may_step c.enter-world.result c.args.seat.now.view c.args.number c.args.cmd None
-    c.enter-world.ensures.entered
-    c.requires.turn.room c.requires.turn.idle.known c.requires.turn.valid tt
+    c.enter-world.ensures.entered c.requires.turn.room c.requires.turn.idle.known c.requires.turn.valid tt
 
 pub leave-requires-clause-follows : goal.leave-requires-clause-follows
 leave-requires-clause-follows g c =
@@ -28,8 +19,7 @@ leave-requires-clause-follows g c =
     may_leave_with c.args.seat.now.table c.enter-world.new.seat u c.step-done.new.self (took u v)
     c.enter-world.ensures.view refl
     (plain_follows c.args.number c.args.cmd u c.step-done.new.self
-    (kept u c.args.number c.args.cmd c.requires.keeps) v
-    c.requires.turn.idle
+    (kept u c.args.number c.args.cmd c.requires.keeps) v c.requires.turn.idle
     c.requires.turn.room c.enter-world.ensures.entered c.step-done.result c.step-done.ensures)
 
 pub returns-in-Err : goal.returns-in-Err
@@ -54,5 +44,4 @@ returns-in-Ok g c =
     seat.view c.requires.turn.idle
     c.requires.turn.room c.enter-world.ensures.entered c.in-Ok.entry c.in-Ok.ensures in
     turned seat c.enter-world.new.seat c.args.number c.args.cmd u w c.in-Ok.entry
-    _ c.enter-world.ensures.view all
-    c.leave.new.seat c.leave.ensures.view
+    _ c.enter-world.ensures.view all c.leave.new.seat c.leave.ensures.view

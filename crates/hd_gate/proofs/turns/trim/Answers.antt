@@ -1,17 +1,9 @@
-use Rattle.std.proofs.Common.{◌≡◌, ◌<◌, ◌≤◌, Option, sym, ap, ◌∙◌, subst}
-use Rattle.atomic_table.specs.Seated.{TableId}
-use Rattle.hd_model.specs.declared.data.Slot.{Slot}
-use Rattle.hd_model.specs.Kinds.{kind_number}
-use Rattle.hd_custody.specs.declared.view.View.{View}
-use Rattle.hd_custody.specs.Calls.{gathered}
-use Rattle.hd_custody.specs.Views.{Known, took}
-use Rattle.hd_world.specs.World.{WorldView, IsOffer}
-use Rattle.hd_gate.specs.Turns.{Stepped, without_gathered}
+use Rattle.hd_gate.proofs.Basics.{IsOffer, Known, Option, Slot, Stepped, TableId, View, WorldView, ap, gathered, kind_number, subst, sym, took, without_gathered, ◌<◌, ◌∙◌, ◌≡◌, ◌≤◌}
 use Rattle.hd_gate.proofs.GateLeave.{may_step, Leaves, may_leave, turned}
 use Rattle.hd_gate.proofs.BlockTrim.{may_offer, trim_leaves, may_withdraw}
 use Rattle.hd_gate.proofs.turns.trim.Given.{Over}
-use Rattle.hd_gate.proofs.turns.trim.Goals as goal
 use Rattle.hd_gate.proofs.turns.trim.Goals.{After-withdraw}
+use Rattle.hd_gate.proofs.turns.trim.Goals as goal
 
 pub step_surely-entry-requires-clause-step : goal.step_surely-entry-requires-clause-step
 step_surely-entry-requires-clause-step g c =
@@ -19,8 +11,7 @@ step_surely-entry-requires-clause-step g c =
     let view = c.gather-block.ensures.done.view in
     let o = c.gather-block.result in
     may_step c.enter-world.result v c.args.number c.args.cmd c.first_slot-first.result
-    c.enter-world.ensures.entered
-    (subst (λ (x : View WorldView). 1 ≤ x.room) (sym view) c.requires.turn.room)
+    c.enter-world.ensures.entered (subst (λ (x : View WorldView). 1 ≤ x.room) (sym view) c.requires.turn.room)
     (subst (λ (x : View WorldView). c.args.number < x.limits.callers) (sym view) c.requires.turn.idle.known)
     c.requires.turn.valid
     (subst (λ (p : Option Slot). IsOffer c.enter-world.result.state c.args.number c.args.cmd p)

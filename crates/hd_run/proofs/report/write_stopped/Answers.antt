@@ -1,7 +1,5 @@
-use Rattle.std.proofs.Common.{rules, ◌≡◌, ◌++◌, sym, subst, ℕ, List}
+use Rattle.hd_run.proofs.Basics.{Form, List, Writes, memory_text, rules, stopped_text, subst, sym, ℕ, ◌++◌, ◌≡◌}
 use Rattle.hd_model.specs.Text.{lines_of}
-use Rattle.hd_run.specs.declared.mode.Form.{Form}
-use Rattle.hd_run.specs.Report.{Writes, stopped_text, memory_text}
 use Rattle.hd_run.proofs.report.write_stopped.Goals as goal
 
 pub returns-in-Lines : goal.returns-in-Lines

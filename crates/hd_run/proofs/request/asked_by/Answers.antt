@@ -1,5 +1,4 @@
-use Rattle.std.proofs.Common.{rules, ◌∙◌, Some, None}
-use Rattle.clap.specs.Words.{found_of}
+use Rattle.hd_run.proofs.Basics.{None, Some, found_of, rules, ◌∙◌}
 use Rattle.hd_run.proofs.MatchRequests.{heap_in_limits, blocks_in_limits, asked_in_limits, asked_none, asked_mode}
 use Rattle.hd_run.proofs.request.asked_by.Goals as goal
 

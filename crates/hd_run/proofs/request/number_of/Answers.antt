@@ -1,11 +1,4 @@
-use Rattle.std.proofs.Common.{◌∙◌, ap, Option}
-use Rattle.std.specs.Str.Parse.{ParsesUnsigned, ExplainsUnsignedError, HasUnsignedDigitsIfOk}
-use Rattle.std.specs.Option.{option_map_or}
-use Rattle.clap.specs.Walk.{Text}
-use Rattle.clap.specs.Words.{found_of}
-use Rattle.clap.proofs.WalkLemmas.{one_text-rows}
-use Rattle.clap.specs.Matches.{one_text}
-use Rattle.hd_run.specs.Words.{number_in}
+use Rattle.hd_run.proofs.Basics.{ExplainsUnsignedError, HasUnsignedDigitsIfOk, Option, ParsesUnsigned, Text, ap, found_of, number_in, one_text, one_text-rows, option_map_or, ◌∙◌}
 use Rattle.hd_run.proofs.MatchRequests.{number_read}
 use Rattle.hd_run.proofs.request.number_of.Goals as goal
 

@@ -1,6 +1,4 @@
-use Rattle.std.proofs.Common.{◌∙◌, arith, subst}
-use Rattle.std.proofs.lemmas.Result.{err_from_is_err_and}
-use Rattle.hd_io.specs.Sink.{Took, WriteBrokeOff}
+use Rattle.hd_run.proofs.Basics.{Took, WriteBrokeOff, arith, err_from_is_err_and, subst, ◌∙◌}
 use Rattle.hd_run.proofs.RootLines.{took_root, broke_at_root}
 use Rattle.hd_run.proofs.root_list.write_roots.Goals as goal
 

@@ -1,6 +1,4 @@
-use Rattle.std.proofs.Common.{flat_map, take}
-use Rattle.hd_io.specs.Sink.{Took}
-use Rattle.hd_model.specs.RootText.{root_text}
+use Rattle.hd_run.proofs.Basics.{Took, flat_map, root_text, take}
 use Rattle.hd_run.proofs.root_list.write_roots.Given as goal
 
 -- the lines so far are written

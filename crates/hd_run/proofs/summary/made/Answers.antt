@@ -1,9 +1,7 @@
-use Rattle.std.proofs.Common.{◌≡◌, ◌∙◌, ◌<◌, ◌+◌, ℕ, length, take, cond, arith, ap, sym}
-use Rattle.hd_model.specs.declared.data.Entry.{Entry}
-use Rattle.hd_model.specs.Laws.{count_entries, makes_object}
+use Rattle.hd_run.proofs.Basics.{Entry, ap, arith, cond, count_entries, length, makes_object, sym, take, ℕ, ◌+◌, ◌<◌, ◌∙◌, ◌≡◌}
 use Rattle.hd_run.proofs.JournalSums.{sum_more}
-use Rattle.hd_run.proofs.summary.made.Goals as goal
 use Rattle.hd_run.proofs.summary.made.Goals.{Joined-makes_object, then-makes_object, else-makes_object}
+use Rattle.hd_run.proofs.summary.made.Goals as goal
 
 step : (c : Joined-makes_object) → count_entries makes_object
     (take (c.loop-i.i + 1) c.args.journal.now.entries)

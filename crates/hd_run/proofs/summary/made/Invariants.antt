@@ -1,5 +1,4 @@
-use Rattle.std.proofs.Common.{◌≡◌, ◌≤◌, take}
-use Rattle.hd_model.specs.Laws.{count_entries, makes_object}
+use Rattle.hd_run.proofs.Basics.{count_entries, makes_object, take, ◌≡◌, ◌≤◌}
 use Rattle.hd_run.proofs.summary.made.Given as goal
 
 abbrev pub invariant-loop-i : goal.invariant-loop-i

@@ -1,6 +1,4 @@
-use Rattle.std.proofs.Common.{◌<◌, length, arith}
-use Rattle.hd_model.specs.declared.data.Entry.{Entry}
-use Rattle.hd_model.specs.Generated.{value_returned}
+use Rattle.hd_run.proofs.Basics.{Entry, arith, length, value_returned, ◌<◌}
 use Rattle.hd_run.proofs.JournalSums.{sum_more, sum_fits}
 use Rattle.hd_run.proofs.summary.sum.Goals as goal
 
@@ -9,8 +7,7 @@ overflow_add-sum c =
     let within : c.loop-i.i < length c.args.journal.now.entries =
     omega (arith, c.loop-i-test.true, c.len-i-end.ensures.value) in
     let fits = sum_fits (λ (e : Entry). value_returned e.reply) c.args.journal.now.entries c.loop-i.i
-    c.entry.result
-    within c.entry.ensures in
+    c.entry.result within c.entry.ensures in
     omega (arith, fits, c.loop-i.invariant, c.value_returned-sum.ensures, c.requires)
 
 pub loop-i-preserved : goal.loop-i-preserved
@@ -18,6 +15,5 @@ loop-i-preserved c =
     let within : c.loop-i.i < length c.args.journal.now.entries =
     omega (arith, c.loop-i-test.true, c.len-i-end.ensures.value) in
     let more = sum_more (λ (e : Entry). value_returned e.reply) c.args.journal.now.entries c.loop-i.i
-    c.entry.result
-    within c.entry.ensures in
+    c.entry.result within c.entry.ensures in
     omega (arith, more, c.loop-i.invariant, c.value_returned-sum.ensures)

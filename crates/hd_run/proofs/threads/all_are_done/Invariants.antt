@@ -1,4 +1,4 @@
-use Rattle.std.proofs.Common.{◌≡◌, All, take}
+use Rattle.hd_run.proofs.Basics.{All, take, ◌≡◌}
 use Rattle.hd_run.proofs.threads.all_are_done.Given as goal
 
 -- the callers before this one are done

@@ -1,22 +1,15 @@
-use Rattle.std.proofs.Common.{◌≡◌, ◌<◌, ℕ, Some, ap, get_or, slice_get, length, arith, subst, sym, refl}
-use Rattle.std.proofs.lemmas.Option.{get_or_from_slice_get}
-use Rattle.hd_gate.specs.Shared.{CallerView}
-use Rattle.hd_run.specs.Turns.{list_of}
-use Rattle.hd_run.specs.Together.{HasPlayed}
+use Rattle.hd_run.proofs.Basics.{CallerView, HasPlayed, Some, ap, arith, get_or, get_or_from_slice_get, length, list_of, refl, slice_get, subst, sym, ℕ, ◌<◌, ◌≡◌}
 use Rattle.hd_run.proofs.PlaySteps.{goes_on, stops}
 use Rattle.hd_run.proofs.threads.play.Given.{Over}
-use Rattle.hd_run.proofs.threads.play.Goals as goal
 use Rattle.hd_run.proofs.threads.play.Goals.{After-call}
+use Rattle.hd_run.proofs.threads.play.Goals as goal
 
 -- the command is the one at its position in the caller's list
 within : (g : Over) (c : After-call g) → c.commands.i < length
     (list_of c.args.scripts.now c.args.caller.now.number)
-within g c = omega (
-  arith,
-  c.commands-test.true,
-  c.len-i-end.ensures.value,
-  ap (λ (k : ℕ). length (list_of c.args.scripts.now k)) c.number-number.ensures,
-)
+within g c =
+    let known = ap (λ (k : ℕ). length (list_of c.args.scripts.now k)) c.number-number.ensures in
+    omega (arith, c.commands-test.true, c.len-i-end.ensures.value, known)
 
 here : (g : Over) (c : After-call g)
     → get_or (list_of c.args.scripts.now c.args.caller.now.number) c.commands.i c.cmd.result ≡ c.cmd.result

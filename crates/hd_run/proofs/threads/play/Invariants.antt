@@ -1,5 +1,4 @@
-use Rattle.std.proofs.Common.{◌≡◌}
-use Rattle.hd_run.specs.Turns.{list_of}
+use Rattle.hd_run.proofs.Basics.{list_of, ◌≡◌}
 use Rattle.hd_run.proofs.PlaySteps.{IsAt}
 use Rattle.hd_run.proofs.threads.play.Given as goal
 

@@ -1,4 +1,4 @@
-use Rattle.std.proofs.Common.{◌≡◌, map, take, length}
+use Rattle.hd_run.proofs.Basics.{length, map, take, ◌≡◌}
 use Rattle.hd_run.proofs.threads.rooms.Given as goal
 
 -- the rooms of the callers below this one

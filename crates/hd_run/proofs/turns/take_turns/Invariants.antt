@@ -1,5 +1,4 @@
-use Rattle.std.proofs.Common.{◌≡◌, drop}
-use Rattle.hd_run.specs.Turns.{IsReadyFor, turns_from}
+use Rattle.hd_run.proofs.Basics.{IsReadyFor, drop, turns_from, ◌≡◌}
 use Rattle.hd_run.proofs.turns.take_turns.Given as goal
 
 -- the turns of this caller and of those after it are left

@@ -1,12 +1,7 @@
-use Rattle.std.proofs.Common.{ℕ, ◌+◌, List, ◌∷◌, ◌++◌, drop, arith, sym, ◌∙◌, subst}
-use Rattle.std.specs.Prelude.{⊤}
-use Rattle.std.proofs.lemmas.Option.{get_or_from_slice_get}
-use Rattle.std.proofs.lemmas.Result.{MatchResult-from_err}
-use Rattle.hd_model.specs.declared.command.Cmd.{Cmd}
-use Rattle.hd_run.specs.Turns.{list_of, turns_of, turns_from, IsReadyFor, StoppedAt}
+use Rattle.hd_run.proofs.Basics.{Cmd, IsReadyFor, List, MatchResult-from_err, StoppedAt, arith, drop, get_or_from_slice_get, list_of, subst, sym, turns_from, turns_of, ℕ, ⊤, ◌++◌, ◌+◌, ◌∙◌, ◌∷◌}
 use Rattle.hd_run.proofs.TurnSteps.{ready_at, takes_turn, stops_at}
-use Rattle.hd_run.proofs.turns.take_turns_of.Goals as goal
 use Rattle.hd_run.proofs.turns.take_turns_of.Goals.{After-call}
+use Rattle.hd_run.proofs.turns.take_turns_of.Goals as goal
 
 -- the turns that are left after the one with the command
 abbrev left : After-call → List (ℕ × Cmd)

@@ -1,5 +1,4 @@
-use Rattle.std.proofs.Common.{◌≡◌, ◌+◌, ◌++◌, drop}
-use Rattle.hd_run.specs.Turns.{IsReadyFor, list_of, turns_of, turns_from}
+use Rattle.hd_run.proofs.Basics.{IsReadyFor, drop, list_of, turns_from, turns_of, ◌++◌, ◌+◌, ◌≡◌}
 use Rattle.hd_run.proofs.turns.take_turns_of.Given as goal
 
 -- this caller's commands from this one on are left, and those of the callers after it

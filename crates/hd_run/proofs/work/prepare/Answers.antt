@@ -1,5 +1,4 @@
-use Rattle.std.proofs.Common.{refl, sym, ap, ◌∙◌}
-use Rattle.hd_run.specs.declared.mode.Traits.{Traits}
+use Rattle.hd_run.proofs.Basics.{Traits, ap, refl, sym, ◌∙◌}
 use Rattle.hd_run.proofs.WorkCauses.{made_job}
 use Rattle.hd_run.proofs.work.prepare.Goals as goal
 

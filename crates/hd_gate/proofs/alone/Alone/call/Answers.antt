@@ -1,10 +1,7 @@
-use Rattle.std.proofs.Common.{◌<◌, ◌≤◌, sym, ap, ◌∙◌, subst}
-use Rattle.hd_world.specs.World.{WorldView}
-use Rattle.hd_gate.specs.Change.{change_in, Offers, noted, MayNote}
-use Rattle.hd_gate.specs.Alone.{HasCalled, FindsFullExactly, TrimsExactly}
+use Rattle.hd_gate.proofs.Basics.{FindsFullExactly, HasCalled, MayNote, Offers, TrimsExactly, WorldView, ap, change_in, noted, subst, sym, ◌<◌, ◌∙◌, ◌≤◌}
 use Rattle.hd_gate.proofs.PoolStep.{may_offer, may_note, tied_after, has_called, full_exactly, trims_exactly}
-use Rattle.hd_gate.proofs.alone.Alone.call.Goals as goal
 use Rattle.hd_gate.proofs.alone.Alone.call.Goals.{After-offer-offered}
+use Rattle.hd_gate.proofs.alone.Alone.call.Goals as goal
 
 -- what is offered by the command and the state
 offers : (c : After-offer-offered) → Offers c.self.inside.pool c.offer-offered.new.pool

@@ -1,7 +1,7 @@
-use Rattle.std.proofs.Common.{ap, ◌∙◌}
+use Rattle.hd_gate.proofs.Basics.{ap, ◌∙◌}
+use Rattle.hd_gate.proofs.TiedPool.{tied_at_start}
 use Rattle.std.specs.FinMap as map
 use Rattle.std.specs.FinSet as set
-use Rattle.hd_gate.proofs.TiedPool.{tied_at_start}
 use Rattle.hd_gate.proofs.alone.Alone.open.Goals as goal
 
 pub invariant_of-result : goal.invariant_of-result

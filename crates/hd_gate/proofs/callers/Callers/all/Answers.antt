@@ -1,5 +1,4 @@
-use Rattle.std.proofs.Common.{◌++◌, length, take, drop, List, refl, ap, ◌∙◌}
-use Rattle.hd_gate.specs.Shared.{CallerView}
+use Rattle.hd_gate.proofs.Basics.{CallerView, List, ap, drop, length, refl, take, ◌++◌, ◌∙◌}
 use Rattle.hd_gate.proofs.callers.Callers.all.Goals as goal
 
 pub returns : goal.returns

@@ -1,7 +1,4 @@
-use Rattle.std.proofs.Common.{◌≡◌, ◌+◌, ◌≤◌, sym, subst, arith}
-use Rattle.crossbeam_utils.specs.Padded.{padded_value}
-use Rattle.hd_gate.specs.Shared.{CallerView, HadRoom, HasDone}
-use Rattle.hd_gate.specs.Turns.{caller_view_of}
+use Rattle.hd_gate.proofs.Basics.{CallerView, HadRoom, HasDone, arith, caller_view_of, padded_value, subst, sym, ◌+◌, ◌≡◌, ◌≤◌}
 use Rattle.hd_gate.proofs.CallDone.{done_with, room_with}
 use Rattle.hd_gate.proofs.shared.Shared.call.Goals as goal
 

@@ -1,8 +1,5 @@
-use Rattle.std.proofs.Common.{◌≡◌, sym, ap, ◌∙◌, subst, arith, List}
-use Rattle.hd_custody.specs.Views.{Named}
-use Rattle.hd_gate.specs.Shared.{CallerView, HasParts}
+use Rattle.hd_gate.proofs.Basics.{CallerView, HasParts, List, Named, WorldView, ap, arith, subst, sym, ◌∙◌, ◌≡◌}
 use Rattle.hd_gate.proofs.Endings.{has_parts}
-use Rattle.hd_world.specs.World.{WorldView}
 use Rattle.hd_gate.proofs.shared.Shared.close.Goals as goal
 
 pub returns-clause-parts : goal.returns-clause-parts

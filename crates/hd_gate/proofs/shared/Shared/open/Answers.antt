@@ -1,12 +1,4 @@
-use Rattle.std.proofs.Common.{◌||◌, Option, ap, ◌∙◌}
-use Rattle.std.specs.Prelude.{is_some}
-use Rattle.std.specs.FinMap.{get, get-empty}
-use Rattle.std.specs.Ordering.{nat_cmp}
-use Rattle.hd_model.specs.declared.data.Id.{Id}
-use Rattle.hd_model.specs.State.{State, Handle, start_of, use_of}
-use Rattle.hd_model.specs.Table.{kind_word}
-use Rattle.hd_world.specs.World.{WorldView}
-use Rattle.hd_gate.specs.Tied.{is_live}
+use Rattle.hd_gate.proofs.Basics.{Handle, Id, Option, State, WorldView, ap, get, get-empty, is_live, is_some, kind_word, nat_cmp, start_of, use_of, ◌||◌, ◌∙◌}
 use Rattle.hd_gate.proofs.shared.Shared.open.Goals as goal
 
 pub open-requires-clause-unused : goal.open-requires-clause-unused

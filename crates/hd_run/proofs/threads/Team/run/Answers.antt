@@ -1,6 +1,6 @@
-use Rattle.hd_run.specs.declared.ending.Ran.TheVariants as ran
 use Rattle.hd_run.proofs.RunEndings.{ending_keeps}
 use Rattle.hd_run.proofs.SharedRun.{ready, still, together_cause}
+use Rattle.hd_run.specs.declared.ending.Ran.TheVariants as ran
 use Rattle.hd_run.proofs.threads.Team.run.Goals as goal
 
 pub play_all-done-requires-clause-ready : goal.play_all-done-requires-clause-ready

@@ -1,6 +1,4 @@
-use Rattle.std.proofs.Common.{◌∙◌, ap, arith, subst, sym}
-use Rattle.hd_model.specs.State.{Numbers}
-use Rattle.hd_run.specs.Turns.{IsReadyToRun}
+use Rattle.hd_run.proofs.Basics.{IsReadyToRun, Numbers, ap, arith, subst, sym, ◌∙◌}
 use Rattle.hd_run.proofs.TurnSteps.{starts}
 use Rattle.hd_run.proofs.turns.Opened.open.Goals as goal
 

@@ -1,5 +1,5 @@
-use Rattle.hd_run.specs.declared.ending.Ran.TheVariants as ran
 use Rattle.hd_run.proofs.RunEndings.{ending_keeps, turns_cause}
+use Rattle.hd_run.specs.declared.ending.Ran.TheVariants as ran
 use Rattle.hd_run.proofs.turns.Opened.run.Goals as goal
 
 pub returns-clause-kept : goal.returns-clause-kept

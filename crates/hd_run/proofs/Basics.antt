@@ -1,0 +1,65 @@
+-- The names that most proofs of this crate cite, passed on from one place.
+pub use Rattle.std.proofs.Common.{All, Bool, Contains, Err, IsTrue, List, None, Ok, OnErr, OnOk, Option, Result, Some, String, [], ap, append-nil, append_assoc, arith, codes, cond, drop, eqb, false, filter, flat_map, get_or, inl, inr, length, lit<, map, not, option_map, refl, rules, string_bytes, subst, suc, sym, take, true, unwrap_or, zero, ℕ, ◌&&◌, ◌*◌, ◌++◌, ◌+◌, ◌-◌, ◌<◌, ◌==◌, ◌^◌, ◌∙◌, ◌∷◌, ◌≡◌, ◌≢◌, ◌≤◌, ◌⊎◌}
+pub use Rattle.std.proofs.lemmas.Bool.{cases_lt, eq-eqb, eqb-true}
+pub use Rattle.std.proofs.lemmas.List.{drop_all, drop_more, get_or-map, get_or_past, length-append, length-drop, length-map, map-append, nil_from_length, take-append-drop, take_more}
+pub use Rattle.std.proofs.lemmas.List.Elements.{All-cons, All-get_or, All-nil, All-weaker, filter-append}
+pub use Rattle.std.proofs.lemmas.List.Sums.{sum_by-cons, sum_by-take-le, sum_by_more}
+pub use Rattle.std.proofs.lemmas.Option.{get_or_from_slice_get}
+pub use Rattle.std.proofs.lemmas.Result.{MatchResult-from_err, err_from_is_err_and}
+pub use Rattle.std.specs.List.{range_with_len, slice_index_or}
+pub use Rattle.std.specs.Option.{option_map_or}
+pub use Rattle.std.specs.Prelude.{Any, IfErr, IfOk, IfSome, IsErr, IsErrAnd, MatchBool, is_ok, option_and_then, slice_get, sum_by, ⊤}
+pub use Rattle.std.specs.Str.Parse.{ExplainsUnsignedError, HasUnsignedDigitsIfOk, ParsesUnsigned}
+pub use Rattle.std.specs.declared.alloc.Global.{Global}
+pub use Rattle.clap.proofs.WalkLemmas.{first_value-rows, one_text-rows}
+pub use Rattle.clap.specs.Built.{IsAuto, IsParsedFrom}
+pub use Rattle.clap.specs.Faults.{fault_of, is_simple_and_free}
+pub use Rattle.clap.specs.Kinds.{FailsBy, HasKind, IsAmong, Kinds}
+pub use Rattle.clap.specs.Matches.{ReadsOne, first_value, matched_of, one_text}
+pub use Rattle.clap.specs.Simple.{App, HasMatchesOf, app_of, is_simple, matches_of, shape_of}
+pub use Rattle.clap.specs.Values.{Accepts, IsUnsignedIn, read_as, reading_of}
+pub use Rattle.clap.specs.Walk.{Row, Rule, Text, one_of, rows_of, rule_of}
+pub use Rattle.clap.specs.Words.{found_of, kind_of}
+pub use Rattle.clap.specs.declared.builder.command.Command.{Command}
+pub use Rattle.clap.specs.declared.parser.matches.ArgMatches.{ArgMatches}
+pub use Rattle.hd_gate.specs.Shared.{AreAll, Begin, CallerView, HasDone, HasParts, IsSameCaller}
+pub use Rattle.hd_io.specs.Counts.{Rose}
+pub use Rattle.hd_io.specs.Sink.{SinkView, Took, WriteBrokeOff}
+pub use Rattle.hd_io.specs.Source.{GaveCount, SourceView}
+pub use Rattle.hd_model.proofs.StepChains.{push, run_from_solo}
+pub use Rattle.hd_model.specs.Generated.{generated_list, generated_lists, load_numbers, value_returned}
+pub use Rattle.hd_model.specs.Laws.{count_entries, makes_object}
+pub use Rattle.hd_model.specs.RootText.{root_text}
+pub use Rattle.hd_model.specs.Run.{Chain, Run, SoloRun, SoloStep, commands_of, link, part_of, stay}
+pub use Rattle.hd_model.specs.State.{Numbers, State, start_of}
+pub use Rattle.hd_model.specs.Valid.{takes_memory}
+pub use Rattle.hd_model.specs.declared.command.Cmd.{Cmd}
+pub use Rattle.hd_model.specs.declared.data.Entry.{Entry}
+pub use Rattle.hd_model.specs.declared.data.Reply.{Reply}
+pub use Rattle.hd_model.specs.declared.data.RootId.{RootId}
+pub use Rattle.hd_model.specs.declared.limits.TheConstants.{BLOCKS, CALLERS, HEAP, LOAD_CALLERS, MOST_BYTES, MOST_ROUNDS}
+pub use Rattle.hd_run.specs.Bounds.{numbers_for}
+pub use Rattle.hd_run.specs.Claims.{Answers, AreBytesRefused, AsksForLoad, AsksToRead, HasLine, IsStatus, KeepsCount, KeepsRun, Promise, RefusesScript, RunsWhole, StopsForMemory, Together}
+pub use Rattle.hd_run.specs.Ending.{Cause, CauseBy, FaultCause, IsLoadScript, IsProgram, Keeps, Lists, RanBy, ReadProgram, ReadWhole, RefusedBy, RunBy, RunCause, ScriptBy, StoppedAtBy, journal_in, kept_of, kept_that, numbers_by, run_ending, world_of, world_that}
+pub use Rattle.hd_run.specs.Modes.{mode_of, runs_alone, traits_of}
+pub use Rattle.hd_run.specs.Report.{HasFewCallers, HasSumOf, IsWritable, Reports, Writes, fault_status, form_for, memory_text, ran_text, status_of, stopped_text, text_for, whole_text}
+pub use Rattle.hd_run.specs.Together.{HasPlayed, HavePlayed, IsReadyToPlay, MayWantMemory, RanAllTogether, StoppedTogether}
+pub use Rattle.hd_run.specs.Turns.{IsReadyFor, IsReadyToRun, RanWhole, StoppedAt, list_of, taken_by, turn_of, turns_from, turns_of}
+pub use Rattle.hd_run.specs.Words.{GivesNumber, GivesNumbers, IsFaultOfWords, IsInLimits, IsRefusal, asked_by, listing_of, number_in, number_of, program, request_of, request_or_usage, solo_of, unless_faulty, with_numbers}
+pub use Rattle.hd_run.specs.Work.{IsJob, Worked}
+pub use Rattle.hd_run.specs.declared.ending.Ending.{Ending}
+pub use Rattle.hd_run.specs.declared.ending.Ending.TheVariants.{Done, Refused, Stopped}
+pub use Rattle.hd_run.specs.declared.ending.Fault.{Fault}
+pub use Rattle.hd_run.specs.declared.ending.Fault.TheVariants.{BadLine, NoMemory, OverSize, Unread, Usage}
+pub use Rattle.hd_run.specs.declared.ending.Ran.{Ran}
+pub use Rattle.hd_run.specs.declared.limits.TheConstants.{LEAST_HEAP}
+pub use Rattle.hd_run.specs.declared.mode.Form.{Form}
+pub use Rattle.hd_run.specs.declared.mode.Form.TheVariants.{Lines, Summary}
+pub use Rattle.hd_run.specs.declared.mode.Mode.{Mode}
+pub use Rattle.hd_run.specs.declared.mode.Mode.TheVariants.{Load}
+pub use Rattle.hd_run.specs.declared.mode.Traits.{Traits}
+pub use Rattle.hd_run.specs.declared.outcome.Kept.{Kept}
+pub use Rattle.hd_run.specs.declared.outcome.Kept.TheVariants.{Alone, Nothing, Shared}
+pub use Rattle.hd_run.specs.declared.outcome.Outcome.{Outcome}
+pub use Rattle.hd_run.specs.declared.request.Request.{Request}
+pub use Rattle.hd_world.specs.World.{FitsHeap, WorldView}
