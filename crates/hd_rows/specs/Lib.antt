@@ -1,3 +1,4 @@
 pub mod Toy
 pub mod Checks
 pub mod Mirror
+pub mod Roots

@@ -54,8 +54,8 @@ fn a_removed_object_leaves_a_gap_that_a_walk_passes(rt: HostRuntime) -> Result<(
     Ok(())
 }
 
-// Stores a reference to an object in a field of another one.
-fn store(rt: &impl Abort, heap: &mut Heap, at: Addr, i: u32, v: Addr) {
+/// Stores a reference to an object in a field of another one.
+pub(crate) fn store(rt: &impl Abort, heap: &mut Heap, at: Addr, i: u32, v: Addr) {
     assert!(rt; is_object_at(heap, at) && is_object_at(heap, v));
     assert!(rt; i < heap.fields(at));
     heap.store(at, i, Some(v));

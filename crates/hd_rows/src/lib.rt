@@ -21,6 +21,8 @@ mod heap;
 #[cfg(test)]
 mod io;
 #[cfg(test)]
+mod leaks;
+#[cfg(test)]
 mod mark;
 #[cfg(test)]
 mod mask;
@@ -38,6 +40,8 @@ mod queue;
 mod relocations;
 #[cfg(test)]
 mod resurrections;
+#[cfg(test)]
+mod root;
 #[cfg(test)]
 mod rounds;
 #[cfg(test)]

@@ -55,7 +55,7 @@ fn kinds_with_extra_data_come_last(rt: HostRuntime) {
 }
 
 // Each command, and whether it may take memory.
-const COMMANDS: [(Cmd, bool); 37] = [
+const COMMANDS: [(Cmd, bool); 38] = [
     (
         Cmd::New {
             d: 0,
@@ -162,10 +162,11 @@ const COMMANDS: [(Cmd, bool); 37] = [
     (Cmd::CAdd { k: 0, v: 1 }, false),
     (Cmd::CFind { d: 0, k: 1 }, false),
     (Cmd::CRemove { k: 0 }, false),
+    (Cmd::GcRoot { s: 0 }, true),
 ];
 
 #[test]
-fn only_new_and_collect_take_memory(rt: HostRuntime) {
+fn only_new_collect_and_gcroot_take_memory(rt: HostRuntime) {
     for (cmd, takes_memory) in COMMANDS {
         assert_eq!(rt; cmd.takes_memory(), takes_memory);
     }

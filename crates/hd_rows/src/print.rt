@@ -58,6 +58,14 @@ fn each_reply_has_its_text(rt: HostRuntime) {
         ),
         (Reply::NoneQueued, "7 12 none\n"),
         (Reply::Absent, "7 12 absent\n"),
+        (
+            Reply::Chain {
+                from: Id(0x0000_0003_0000_002d),
+                arrows: 4_294_967_295,
+            },
+            "7 12 root 3.45 4294967295\n",
+        ),
+        (Reply::Unrooted, "7 12 unrooted\n"),
         (Reply::Refused(Refusal::Null), "7 12 nullref\n"),
         (Reply::Refused(Refusal::BadField), "7 12 badfield\n"),
         (

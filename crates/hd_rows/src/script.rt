@@ -88,6 +88,7 @@ fn each_command_on_objects_has_its_line(rt: HostRuntime) -> Result<(), Fail> {
         ("cadd r0 r15", Cmd::CAdd { k: 0, v: 15 }),
         ("cfind r15 r0", Cmd::CFind { d: 15, k: 0 }),
         ("cremove r1", Cmd::CRemove { k: 1 }),
+        ("gcroot r15", Cmd::GcRoot { s: 15 }),
     ];
     have_lines(&rt, rt.alloc(), &table)
 }

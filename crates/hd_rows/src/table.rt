@@ -68,8 +68,8 @@ fn is_below(name: Option<Addr>, size: usize) -> bool
     }
 }
 
-// The secondary of an extra.
-fn secondary_in(extra: Extra) -> Option<Addr>
+/// The secondary of an extra.
+pub(crate) fn secondary_in(extra: Extra) -> Option<Addr>
     ensures { result ≡ secondary_of (extra_of extra) }
 {
     match extra {
