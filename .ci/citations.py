@@ -11,7 +11,7 @@ HEADLINE = [("hd_run", "top"), ("hd_run", "run"), ("hd_run", "load"),
             ("hd_gate", "Shared::open"), ("hd_gate", "Shared::call"), ("hd_gate", "Shared::close"),
             ("hd_world", "World::open"), ("hd_world", "World::apply"), ("hd_world", "World::journal")]
 WORD = re.compile(r"[^\W\d][\w'-]*(?<!-)")
-IMPORT = re.compile(r"^[ \t]*(?:ghost )?(?:pub )?use Rattle\.(\w+)\.(specs|proofs)\.([\w.]+?)(?:\.\{([^}]*)\}| as (\w+))[;]?[ \t]*$", re.M)
+IMPORT = re.compile(r"^[ \t]*(?:ghost )?(?:pub )?use Rattle\.(\w+)\.(specs|proofs)(?:\.([\w.]+?))?(?:\.\{([^}]*)\}| as (\w+))[;]?[ \t]*$", re.M)
 ANTT_HEAD = re.compile(r"^(?:unfoldable |opaque )*(?:abbrev|def|record|data|pub record|pub data|pub abbrev|lemma|syntax)\b(.*)$")
 RUST_HEAD = re.compile(
     r"^(?P<indent>[ ]*)(?:pub(?:\([a-z]+\))? )?(?:unsafe )?(?P<what>fn|struct|enum|trait|impl|type)\b(?P<rest>.*)$")
@@ -33,8 +33,10 @@ def imports_of(text):
         if alias:
             found[alias] = (crate, part, path, None)
         for name in re.split(r"\s*,\s*", names.strip()) if names else []:
+            # In braces a name may stand with the path to its module, or the rest of it.
             there, _, here = name.partition(" as ")
-            found[(here or there).strip()] = (crate, part, path, there.strip())
+            *way, there = [it for it in (path or "").split(".") + there.strip().split(".") if it]
+            found[here.strip() or there] = (crate, part, ".".join(way), there)
     return found
 
 

@@ -90,8 +90,45 @@ def lookups():
         yield Row(f"`cfind` among {keys:,} entries", found, without, 10000)
 
 
+def searched(name, before, often):
+    """Searches for what keeps the object in r15: a `drop` stands in the place of each in the other script."""
+    return Row(f"`gcroot`, {name}", before + ["gcroot r15"] * often, before + ["drop r14"] * often, often)
+
+
+def linked(objects):
+    """A chain by fields, with its first object in a static and its last in r15."""
+    return ["new r0 1", "copy r15 r0"] + ["new r1 1", "set r1 0 r0", "copy r0 r1"] * (objects - 1) + ["sput 0 r0"]
+
+
+def tree(objects):
+    """Each object has ten fields: object k references 10 k + 1 to 10 k + 10. The first is in a static, the last in r15."""
+    lines, left = ["new r0 10", "sput 0 r0"], [(child, 1) for child in range(1, 11)]
+    while left:
+        number, level = left.pop()
+        lines += [f"new r{level} 10", f"set r{level - 1} {(number - 1) % 10} r{level}"]
+        lines += [f"copy r15 r{level}"] if number == objects - 1 else []
+        left += [(child, level + 1) for child in range(10 * number + 1, min(10 * number + 11, objects))]
+    return lines
+
+
+def searches():
+    """What keeps the last object that a search comes to, one that nothing leads to, and an anchor beside handles of others."""
+    first, pair, anchor = ["new r0 0", "sput 0 r0"], ["new r1 0", "hnew h1 dep r0 r1"], ["new r15 0", "sput 0 r15"]
+    for objects, often in ((1000, 20), (10000, 5)):
+        yield searched(f"chain of {objects:,} by fields", linked(objects), often)
+        yield searched(f"tree of {objects:,}", tree(objects), often)
+        yield searched(f"{objects:,} anchors", ["new r0 0", "hnew h0 strong r0"] * objects + ["new r15 0"], often)
+    for handles, often in ((800, 20), (8000, 5)):
+        attached = first + (pair + ["copy r0 r1"]) * handles + ["copy r15 r0"]
+        yield searched(f"chain of {handles:,} dependent handles", attached, often)
+        yield searched(f"{handles:,} dependent handles of one", first + pair + ["copy r15 r1"] + pair * (handles - 1), often)
+        yield searched(f"an anchor beside {handles:,} dependent handles", ["new r0 0"] + pair * handles + anchor, often)
+        idle = ["new r0 0", "cadd r0 r1"] * handles + ["drop r0", "collect 2"]
+        yield searched(f"an anchor beside {handles:,} idle slots", idle + anchor, often)
+
+
 def rows():
-    return [*of_fields(), *without_fields(), *churn(), *lookups()]
+    return [*of_fields(), *without_fields(), *churn(), *lookups(), *searches()]
 
 
 def write_all(folder):

@@ -103,7 +103,7 @@ class Case:
         if not left:
             return self.mode == "roots"
         next_ones = left if self.mode == "run" else left[:1]
-        return not lines or all(command in (b"new", b"collect") for command in next_ones)
+        return not lines or all(command in (b"new", b"collect", b"gcroot") for command in next_ones)
 
 
 def plain(line):
@@ -117,12 +117,13 @@ def cases():
     examples = TOP / "examples"
     text = lambda script: Path(f"{script}.stdout").read_bytes()
     host, finals, callers = examples / "host.hdt", examples / "resurrection.hdt", HERE / "four_callers.hdt"
-    weak = examples / "weak_table.hdt"
+    weak, leak = examples / "weak_table.hdt", examples / "leak.hdt"
     load = b"load callers 4 commands 516 made 64 live 0 collections 4 sum 544\n"
     return [
         Case(["solo"], host, text(host)),
         Case(["solo"], finals, text(finals)),
         Case(["solo"], weak, text(weak)),
+        Case(["solo"], leak, text(leak)),
         Case(["solo"], callers, text(callers)),
         Case(["roots"], host, text(host) + Path(f"{host}.roots").read_bytes()),
         Case(["run"], callers, text(callers)),

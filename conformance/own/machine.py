@@ -289,20 +289,40 @@ class Machine:
         self.entries[slot] = (None, None)
         return "ok"
 
-    # Collections.
+    # Edges, and why an object lives.
 
-    def reached(self, start):
-        """All that chains of fields, dependent handles and entries lead to."""
+    def edges(self):
+        """A function to all that fields, dependent handles and entries lead to from an object, nulls too."""
         led = {}
         pairs = [(handle.target, handle.extra) for handle in self.handles.values() if handle.kind == "dep"]
         for target, second in pairs + list(self.entries.values()):
             led.setdefault(target, []).append(second)
-        found, left = set(), list(start)
+        return lambda thing: thing.fields + led.get(thing, [])
+
+    def gcroot(self, register):
+        goal, led = self.some(register), self.edges()
+        anchors = self.statics + self.queue + [handle.target for handle in self.handles.values() if handle.holds()]
+        layer, met, length = {thing: thing.identity for thing in anchors if thing}, set(), 0
+        while layer and goal not in layer:
+            met.update(layer)
+            further = {}
+            for thing, start in layer.items():
+                for other in led(thing):
+                    if other and other not in met:
+                        further[other] = min(start, further.get(other, start))
+            layer, length = further, length + 1
+        return "root {}.{} {}".format(*layer[goal], length) if layer else "unrooted"
+
+    # Collections.
+
+    def reached(self, start):
+        """All that chains of edges lead to."""
+        led, found, left = self.edges(), set(), list(start)
         while left:
             thing = left.pop()
             if thing is not None and thing not in found:
                 found.add(thing)
-                left += thing.fields + led.get(thing, [])
+                left += led(thing)
         return found
 
     def collect(self, n):
@@ -344,7 +364,7 @@ def commands(chance):
             f"hget {r[0]} {h[0]}", f"hset {h[0]} {r[0]}", f"hsec {h[0]} {r[0]}", f"hdep {r[0]} {h[0]}", f"hvar {h[0]} {strength}",
             f"hup {h[0]}", f"hdown {h[0]}", f"hfree {h[0]}", f"hfree {h[0]}", f"hput {place} {h[0]}", f"hpick {h[0]} {place}",
             f"addr {h[0]}", f"trim {strength}", f"final {r[0]}", f"gen {r[0]}", f"val {r[0]} {place}", f"read {r[0]}",
-            f"suppress {r[0]}", f"reregister {r[0]}", f"collect {chance.randrange(3)}", f"collect {chance.randrange(3)}"]
+            f"suppress {r[0]}", f"reregister {r[0]}", f"gcroot {r[0]}", f"gcroot {r[1]}", f"collect {chance.randrange(3)}", f"collect {chance.randrange(3)}"]
 
 
 def weak_commands(chance):
